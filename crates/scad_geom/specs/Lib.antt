@@ -1,0 +1,4 @@
+pub mod Point
+pub mod Loop
+pub mod Area
+pub mod Winding

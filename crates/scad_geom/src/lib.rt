@@ -1,0 +1,13 @@
+//! Points, edges and outlines of a layer, whole micrometres throughout, and exact arithmetic on them.
+//!
+//! The contracts promise the winding number of an edge list by its definition, and the exact value of
+//! each operation of signed arithmetic.
+#![tactic(auto)]
+
+mod half;
+mod loops;
+mod point;
+
+pub use half::Half;
+pub use loops::Loop;
+pub use point::{COORDINATE_LIMIT, Edge, Pt};
