@@ -1,0 +1,69 @@
+ghost use Rattle.std.specs.Prelude.{◌≡◌, ◌++◌, IfOk, OnOk};
+ghost use Rattle.scad_fault.specs.Line.{set_number, set_name, settings_line, setting_text};
+
+use crate::line;
+use crate::text::Text;
+use std::alloc::{AllocError, Global};
+
+/// Why settings are refused.
+#[derive(Clone, Copy, Debug, PartialEq, Eq)]
+pub enum SetKind {
+    NotToml = 1,
+    UnknownKey = 2,
+    NotWhole = 3,
+    OutOfRange = 4,
+}
+
+impl SetKind {
+    fn number(self) -> u8
+        ensures { result ≡ set_number self }
+    {
+        self as u8
+    }
+
+    fn name(self) -> &'static str
+        ensures { result.now ≡ set_name self }
+    {
+        match self {
+            SetKind::NotToml => "NotToml",
+            SetKind::UnknownKey => "UnknownKey",
+            SetKind::NotWhole => "NotWhole",
+            SetKind::OutOfRange => "OutOfRange",
+        }
+    }
+}
+
+/// A fault of the settings: the key, empty for `NotToml`, and the value for `OutOfRange`, else 0.
+#[derive(Debug, Drop)]
+pub struct SetFault {
+    pub kind: SetKind,
+    pub key: Text,
+    pub value: i64,
+}
+
+impl SetFault {
+    /// The report's line on the fault.
+    #[tactic(auto, unfolding(crate::specs::Line::settings_line))]
+    pub(crate) fn line(&self, alloc: Global) -> Result<Text, AllocError>
+        ensures { IfOk result (λ t. t ≡ settings_line self.now) }
+    {
+        let mut text = Vec::from_slice(alloc, b"settings")?;
+        line::push_kind(&mut text, self.kind.number(), self.kind.name())?;
+        self.push_setting(&mut text)?;
+        text.push(b'\n')?;
+        Ok(Text::from_vec(text))
+    }
+
+    fn push_setting(&self, text: &mut Vec<u8>) -> Result<(), AllocError>
+        ensures { OnOk result (text.new.items ≡ text.old.items ++ setting_text self.now) }
+    {
+        match self.kind {
+            SetKind::NotToml => Ok(()),
+            SetKind::UnknownKey | SetKind::NotWhole => line::push_word(text, self.key.as_slice()),
+            SetKind::OutOfRange => {
+                line::push_word(text, self.key.as_slice())?;
+                line::push_value(text, self.value)
+            }
+        }
+    }
+}
