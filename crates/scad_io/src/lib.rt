@@ -4,6 +4,8 @@
 
 mod desk;
 mod gate;
+mod writing;
 
 pub use desk::{Desk, Failed, Out};
 pub use gate::{Gate, Open};
+pub use writing::write_all;
