@@ -1,5 +1,5 @@
 -- What is known of a desk, and what each of its calls does to it.
-use Rattle.std.specs.Prelude.{◌≡◌, ◌<◌, ◌≤◌, ◌==◌, ℕ, Bool, true, false, List, [], ◌++◌, length, take, drop, Option, IsSome, IfSome, option_map, Result, Ok, Err, is_ok, is_err, IfOk, OnOk, OnErr}
+use Rattle.std.specs.Prelude.{None, if◌then◌else◌, ◌+◌, ◌≡◌, ◌<◌, ◌≤◌, ◌==◌, ℕ, Bool, true, false, List, [], ◌++◌, length, take, drop, Option, IsSome, IfSome, option_map, Result, Ok, Err, is_ok, is_err, IfOk, OnOk, OnErr}
 use Rattle.scad_io.specs.declared.desk.Out.{Out}
 use Rattle.scad_io.specs.declared.desk.Out.TheVariants.{Report, Cli, Gcode}
 use Rattle.scad_io.specs.declared.desk.Failed.{Failed}
@@ -46,6 +46,11 @@ abbrev pub after_write : Out → List ℕ → Result ℕ Failed → View → Vie
 after_write out piece (Ok n) v = sent out (take n piece) (n == 0) v
 after_write out piece (Err e) v = sent out [] true v
 
+-- whether a write failed: it did too where nothing went out
+abbrev pub write_failed : {E : Type 0} → Result ℕ E → Bool
+write_failed (Ok n) = n == 0
+write_failed (Err e) = true
+
 -- v after so many bytes of the input were read, with this mark of failure
 abbrev pub taken : ℕ → Bool → View → View
 taken n failed v = record v { input = record v.input { bytes = option_map (drop n) v.input.bytes; failed = failed } }
@@ -84,3 +89,20 @@ pub record WriteHasCause (before now : ℕ) (r : Result ℕ Failed) : Type 0 whe
   pub later : before ≤ now
   pub failed : OnErr r (before < now)
   pub nothing : IfOk r (λ n. n ≡ 0 → before < now)
+
+-- an object of which only the marks are told
+abbrev pub untold : Bool → Bool → Side
+untold created failed = record { name = None; bytes = None; created = created; failed = failed }
+
+-- a desk on which nothing was done, and of whose bytes this is told
+abbrev pub unused : Option (List ℕ) → View
+unused bytes =
+    let s : Side = record { name = None; bytes = bytes; created = false; failed = false } in
+    record { input = s; report = s; cli = s; gcode = s }
+
+-- how many objects have failed
+abbrev pub failed_count : View → ℕ
+failed_count v = mark v.input + mark v.report + mark v.cli + mark v.gcode
+  where
+    mark : Side → ℕ
+    mark s = if s.failed then 1 else 0

@@ -4,8 +4,11 @@
 
 mod desk;
 mod gate;
+mod handle;
+mod real;
 mod writing;
 
 pub use desk::{Desk, Failed, Out};
 pub use gate::{Gate, Open};
+pub use real::RealDesk;
 pub use writing::write_all;
