@@ -1,1 +1,5 @@
 mod Examples
+pub mod Bits
+pub mod Casts
+pub mod Crossings
+pub mod Square
