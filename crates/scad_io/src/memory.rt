@@ -148,7 +148,19 @@ impl Desk for MemoryDesk {
         }
     }
 
-    fn read(&mut self, into: &mut [u8]) -> Result<usize, Failed> {
+    fn read(&mut self, into: &mut [u8]) -> Result<usize, Failed>
+        requires sound { self.old.view.input.failed ≡ false }
+        requires piece { 0 < length into.old }
+        ensures bound { IfOk result (λ n. n ≤ length into.new) }
+        ensures bytes { IfOk result (λ n. IfSome self.old.view.input.bytes (λ rest. Gives rest n into.new)) }
+        ensures view { self.new.view ≡ after_read result self.old.view }
+        ensures files { contents self.new ≡ contents self.old }
+        ensures cause { HasCause (failed_count self.old.view) (failed_count self.new.view) result }
+
+        ensures exact { result ≡ read_answer (length into.old) self.old }
+        ensures into { let n = result_unwrap_or result 0 in into.new ≡ take n (rest_of self.old) ++ drop n into.old }
+        ensures steps { Steps result self.old self.new }
+    {
         if self.calls.count() {
             self.input.failed = true;
             return Err(Failed);
@@ -159,7 +171,18 @@ impl Desk for MemoryDesk {
         }
     }
 
-    fn create(&mut self, out: Out, name: &str) -> Result<(), Failed> {
+    fn create(&mut self, out: Out, name: &str) -> Result<(), Failed>
+        requires named { out ≢ Out.Report }
+        requires sound { (side out self.old.view).failed ≡ false }
+        requires absent { (side out self.old.view).created ≡ false }
+        ensures view { Creates out name.now result self.old.view self.new.view }
+        ensures files { contents self.new ≡ contents self.old }
+        ensures cause { HasCause (failed_count self.old.view) (failed_count self.new.view) result }
+
+        ensures exact { result ≡ create_answer name.now self.old }
+        ensures name { (side out self.new.view).name ≡ told_name name.now }
+        ensures steps { Steps result self.old self.new }
+    {
         let due = self.calls.count();
         match out {
             Out::Report => unreachable!(),
@@ -168,7 +191,18 @@ impl Desk for MemoryDesk {
         }
     }
 
-    fn write(&mut self, out: Out, bytes: &[u8]) -> Result<usize, Failed> {
+    fn write(&mut self, out: Out, bytes: &[u8]) -> Result<usize, Failed>
+        requires sound { (side out self.old.view).failed ≡ false }
+        requires made { out ≢ Out.Report → (side out self.old.view).created ≡ true }
+        requires piece { 0 < length bytes.now }
+        ensures bound { IfOk result (λ n. n ≤ length bytes.now) }
+        ensures view { self.new.view ≡ after_write out bytes.now result self.old.view }
+        ensures files { contents self.new ≡ contents self.old }
+        ensures cause { WriteHasCause (failed_count self.old.view) (failed_count self.new.view) result }
+
+        ensures exact { result ≡ write_answer out (length bytes.now) self.old }
+        ensures steps { Steps result self.old self.new }
+    {
         let due = self.calls.count();
         match out {
             Out::Report => self.report.write(due, bytes),
