@@ -1,2 +1,3 @@
+mod Files
 mod Pieces
 pub mod Sent

@@ -36,10 +36,13 @@ put Report s v = record v { report = s }
 put Cli s v = record v { cli = s }
 put Gcode s v = record v { gcode = s }
 
--- v after these bytes went out, with this mark of failure
+-- an output with these bytes added, and with this mark of failure
+abbrev pub added : List ℕ → Bool → Side → Side
+added bytes failed s = record s { bytes = option_map (λ before. before ++ bytes) s.bytes; failed = failed }
+
+-- v after these bytes went out
 abbrev pub sent : Out → List ℕ → Bool → View → View
-sent out bytes failed v =
-    put out (record (side out v) { bytes = option_map (λ before. before ++ bytes) (side out v).bytes; failed = failed }) v
+sent out bytes failed v = put out (added bytes failed (side out v)) v
 
 -- v after a write of a piece: a front of it went out. An answer of 0 is a fault too.
 abbrev pub after_write : Out → List ℕ → Result ℕ Failed → View → View
@@ -94,11 +97,13 @@ pub record WriteHasCause (before now : ℕ) (r : Result ℕ Failed) : Type 0 whe
 abbrev pub untold : Bool → Bool → Side
 untold created failed = record { name = None; bytes = None; created = created; failed = failed }
 
--- a desk on which nothing was done, and of whose bytes this is told
+-- an object on which nothing was done, and of whose bytes this is told
+abbrev pub fresh : Option (List ℕ) → Side
+fresh bytes = record { name = None; bytes = bytes; created = false; failed = false }
+
+-- a desk on which nothing was done
 abbrev pub unused : Option (List ℕ) → View
-unused bytes =
-    let s : Side = record { name = None; bytes = bytes; created = false; failed = false } in
-    record { input = s; report = s; cli = s; gcode = s }
+unused bytes = record { input = fresh bytes; report = fresh bytes; cli = fresh bytes; gcode = fresh bytes }
 
 -- how many objects have failed
 abbrev pub failed_count : View → ℕ

@@ -1,2 +1,4 @@
 pub mod Desk
+pub mod Memory
 pub mod Sent
+pub mod Shelf

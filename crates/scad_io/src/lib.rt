@@ -5,6 +5,7 @@
 mod desk;
 mod gate;
 mod handle;
+mod memory;
 mod real;
 mod writing;
 
