@@ -1,0 +1,5 @@
+pub mod Capped
+pub mod Digits
+pub mod Exponent
+pub mod Number
+pub mod Scaled
