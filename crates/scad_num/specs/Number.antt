@@ -55,3 +55,7 @@ ceil_of z = neg_ℤ (floor_of (neg_ℤ z))
 -- the whole number nearest to z, a half away from zero
 unfoldable pub round_of : ℤ → ℤ
 round_of z = half_away z one *ℤ pos one
+
+-- a length in millimetres as whole micrometres, rounded half away from zero
+unfoldable pub micrometres_of : ℤ → ℤ
+micrometres_of z = half_away z 1000

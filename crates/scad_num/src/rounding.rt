@@ -14,7 +14,7 @@ pub(crate) fn half_up(n: u128, d: u128) -> u128
 
 /// The whole number nearest to `n / d`, a half away from zero.
 #[tactic(auto, unfolding(crate::specs::Rounding::half_away))]
-pub(crate) fn half_away(n: i128, d: u64) -> i128
+pub fn half_away(n: i128, d: u64) -> i128
     requires divisor { 0 < d }
     requires room { unsigned_abs n < 2 ^ 120 }
     ensures value { result ≡ half_away n d }
