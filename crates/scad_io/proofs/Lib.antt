@@ -1,4 +1,4 @@
 mod Files
 mod Pieces
 pub mod Sent
-pub mod Taken
+mod Taken
