@@ -1,7 +1,7 @@
 -- The first file of a name is the one at the first place that has it.
-use Rattle.std.proofs.Common.{◌≡◌, ◌<◌, ◌≤◌, ℕ, Bool, true, false, cond, List, [], length, Option, Some, None, refl, sym, ap, ◌∙◌, arith, inl, inr}
-use Rattle.std.specs.Prelude.{nat_lt, option_map, slice_get}
-use Rattle.std.specs.List.{find, position, position_or_len}
+use Rattle.std.proofs.Common.{◌≡◌, ◌≤◌, ℕ, Bool, List, [], length, Some, None, refl, ap, ◌∙◌, arith, inl, inr}
+use Rattle.std.specs.Prelude.{option_map, slice_get}
+use Rattle.std.specs.List.{position, position_or_len}
 use Rattle.std.proofs.lemmas.Bool.Decides.{nat_tests}
 use Rattle.std.proofs.lemmas.List.Folds.{find_at}
 use Rattle.std.proofs.lemmas.List.Quantifiers.{position-Some}

@@ -1,5 +1,5 @@
 -- A desk in memory as one value, and the exact answer of each of its calls.
-use Rattle.std.specs.Prelude.{◌≡◌, ◌+◌, ◌-◌, ◌^◌, ◌==◌, ◌||◌, ℕ, Bool, true, List, [], ◌∷◌, length, min, nat_lt, nat_le, if◌then◌else◌, Option, Some, None, is_none, unwrap_or, option_map, slice_get, Result, Ok, Err, is_err}
+use Rattle.std.specs.Prelude.{◌≡◌, ◌+◌, ◌-◌, ◌^◌, ◌==◌, ◌||◌, ℕ, Bool, List, [], length, min, nat_lt, nat_le, if◌then◌else◌, Option, Some, None, is_none, unwrap_or, Result, Ok, Err, is_err}
 use Rattle.std.specs.List.{list_any}
 use Rattle.scad_io.specs.Desk.{Files, Side, View, side, unused, failed_count}
 use Rattle.scad_io.specs.Shelf.{contents_of}

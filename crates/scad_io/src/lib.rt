@@ -6,10 +6,13 @@ mod desk;
 mod gate;
 mod handle;
 mod memory;
+mod reading;
 mod real;
 mod writing;
 
 pub use desk::{Desk, Failed, Out};
 pub use gate::{Gate, Open};
+pub use memory::MemoryDesk;
+pub use reading::{ReadEnd, read_all};
 pub use real::RealDesk;
 pub use writing::write_all;
