@@ -1,2 +1,2 @@
 pub mod Ascending
-mod Look_up
+mod LookUp

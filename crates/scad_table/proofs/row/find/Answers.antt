@@ -4,7 +4,7 @@ use Rattle.std.specs.Cmp.Lexicographic.{slice_cmp}
 use Rattle.std.proofs.lemmas.Fn.{always_returns_same}
 use Rattle.scad_table.specs.declared.row.Row.{Row}
 use Rattle.scad_table.proofs.Ascending.{Ascends-from_test}
-use Rattle.scad_table.proofs.Look_up.{searched, listed, missing}
+use Rattle.scad_table.proofs.LookUp.{searched, listed, missing}
 use Rattle.scad_table.proofs.row.find.Goals as goal
 
 -- what an index past the end reads
