@@ -10,6 +10,9 @@ mod reading;
 mod real;
 mod writing;
 
+#[cfg(test)]
+mod tests;
+
 pub use desk::{Desk, Failed, Out};
 pub use gate::{Gate, Open};
 pub use memory::MemoryDesk;
