@@ -1,4 +1,4 @@
-ghost use Rattle.std.specs.Prelude.{◌≡◌, ◌≤◌, pos, ◌<ℤ◌, ◌≤ℤ◌, unsigned_abs};
+ghost use Rattle.std.specs.Prelude.{◌≡◌, ◌<◌, ◌≤◌, pos, ◌<ℤ◌, ◌≤ℤ◌, unsigned_abs};
 ghost use Rattle.scad_cos.specs.Circle.{least_step, fragments_by_steps, fragments_of, vertex_angle_of};
 
 use scad_num::{Num, half_up};
@@ -25,6 +25,7 @@ fn fragments_by_steps(r: u128, angle: u128, size: u128) -> u128
     requires size_step { 10000 ≤ size }
     requires size_small { size ≤ 1000000000000000 }
     ensures value { result ≡ fragments_by_steps r angle size }
+    ensures at_least_five { 5 ≤ result }
     ensures small { result ≤ 1000000000000 }
 {
     let by_angle = half_up(360 * ONE * ONE, angle);
@@ -49,8 +50,18 @@ pub fn fragments(r: Num, fn_: Num, fa: Num, fs: Num) -> i64
     fragments_by_steps(r.millionths() as u128, least_step(fa), least_step(fs)) as i64
 }
 
-/// The angle of vertex `i` of `n`, in thousandths of a degree.
+/// The angle of vertex `i` of `n`, rounded to the nearest thousandth of a degree.
 #[tactic(auto, unfolding(crate::specs::Circle::vertex_angle_of))]
+fn rounded_share(i: u64, n: u64) -> u64
+    requires below { i < n }
+    requires few { n ≤ 1000000000 }
+    ensures value { result ≡ vertex_angle_of i n }
+    ensures within { result ≤ 360000 }
+{
+    (360_000 * i + n / 2) / n
+}
+
+/// The angle of vertex `i` of `n`, in thousandths of a degree.
 pub fn vertex_angle(i: i64, n: i64) -> i64
     requires not_negative { pos 0 ≤ℤ i }
     requires below { i <ℤ n }
@@ -58,5 +69,8 @@ pub fn vertex_angle(i: i64, n: i64) -> i64
     ensures value { result ≡ pos (vertex_angle_of (unsigned_abs i) (unsigned_abs n)) }
     ensures within { unsigned_abs result ≤ 360000 }
 {
-    (360_000 * i + n / 2) / n
+    rounded_share(i as u64, n as u64) as i64
 }
+
+#[cfg(test)]
+mod tests;
