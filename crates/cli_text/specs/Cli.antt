@@ -1,5 +1,5 @@
--- The text of a list of layers in the ASCII form of the Common Layer Interface 2.0, in units of a micrometre.
--- One command a line, each ended by LF. Numbers are decimal, `-` before negative ones.
+-- The text of a list of layers in the ASCII form of the Common Layer Interface 2.0, in units of a
+-- micrometre. One command a line, each ended by LF. Numbers are decimal, `-` before negative ones.
 use Rattle.std.specs.Prelude.{ℕ, ◌+◌, List, [], ◌∷◌, ◌++◌, length, if◌then◌else◌, pos, int_lt, codes}
 use Rattle.std.specs.List.{flat_map}
 use Rattle.std.specs.Fmt.{decimal, signed_decimal}
@@ -45,7 +45,8 @@ closed (p ∷ ps) = (p ∷ ps) ++ p ∷ []
 unfoldable pub polyline_start : List ℕ
 polyline_start = codes "$$POLYLINE/1,"
 
--- the line of an outline: part 1, its direction, the number of its points with the first repeated, and these points
+-- the line of an outline: part 1, its direction, the number of its points with the first repeated,
+-- and these points
 abbrev pub polyline_text : List Pt → List ℕ
 polyline_text points =
     polyline_start ++ decimal (direction points) ++ codes "," ++ decimal (length points + 1)
@@ -57,7 +58,9 @@ layer_start = codes "$$LAYER/"
 
 -- the lines of a layer: its height, then its outlines
 abbrev pub layer_text : Layer → List ℕ
-layer_text layer = layer_start ++ decimal layer.z ++ codes "\n" ++ flat_map polyline_text layer.loops
+layer_text layer =
+    layer_start ++ decimal layer.z ++ codes "\n"
+    ++ flat_map polyline_text layer.loops
 
 unfoldable pub geometry_end : List ℕ
 geometry_end = codes "$$GEOMETRYEND\n"

@@ -23,7 +23,8 @@ pub fn write_head(out: &mut Vec<u8>, layers: u32) -> Result<(), AllocError>
 /// Appends the lines of a layer: `z` is the height of its upper surface in micrometres, and `loops`
 /// are its outlines. Where memory runs out, `out` is as it was.
 pub fn write_layer(out: &mut Vec<u8>, z: u32, loops: &[Loop]) -> Result<(), AllocError>
-    ensures ok { OnOk result (out.new.items ≡ out.old.items ++ layer_text (record { z = z; loops = loops.now })) }
+    ensures ok { OnOk result
+        (out.new.items ≡ out.old.items ++ layer_text (record { z = z; loops = loops.now })) }
     ensures err { OnErr result (out.new.items ≡ out.old.items) }
 {
     let kept = out.len();
@@ -82,7 +83,8 @@ fn push_head_end(out: &mut Vec<u8>) -> Result<(), AllocError>
 }
 
 fn push_layer(out: &mut Vec<u8>, z: u32, loops: &[Loop]) -> Result<(), AllocError>
-    ensures ok { OnOk result (out.new.items ≡ out.old.items ++ layer_text (record { z = z; loops = loops.now })) }
+    ensures ok { OnOk result
+        (out.new.items ≡ out.old.items ++ layer_text (record { z = z; loops = loops.now })) }
     ensures err { OnErr result (BeginsWith out.old.items out.new.items) }
 {
     push_layer_start(out)?;

@@ -2,4 +2,5 @@ mod Examples
 pub mod Bits
 pub mod Casts
 pub mod Crossings
+pub mod Signs
 pub mod Square
