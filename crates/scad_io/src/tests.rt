@@ -149,7 +149,12 @@ fn opened(rt: &impl Abort, alloc: Global, fails: &[u64], name: &str) -> MemoryDe
 
 #[test]
 fn an_input_is_read_to_its_end_or_past_a_limit(rt: HostRuntime) {
-    for (limit, fits) in [(None, true), (Some(8), true), (Some(7), false), (Some(0), false)] {
+    for (limit, fits) in [
+        (None, true),
+        (Some(8), true),
+        (Some(7), false),
+        (Some(0), false),
+    ] {
         let mut desk = opened(&rt, rt.alloc(), &[], "a.scad");
         match read_all(rt.alloc(), &mut desk, limit) {
             Ok(text) => assert!(rt; fits && text.as_slice() == b"cube(1);".as_slice()),
@@ -172,7 +177,10 @@ fn a_fault_in_mid_stream_is_no_end(rt: HostRuntime) {
 #[test]
 fn a_piece_is_written_whole_or_in_part(rt: HostRuntime) {
     let mut desk = desk(&rt, rt.alloc(), &[0], 5);
-    assert!(rt; write_all(&mut desk, Out::Report, b"").is_ok(), "no call is made");
+    assert!(rt;
+        write_all(&mut desk, Out::Report, b"").is_ok(),
+        "no call is made"
+    );
     assert!(rt; write_all(&mut desk, Out::Report, b"a").is_err());
     let mut desk = self::desk(&rt, rt.alloc(), &[], 5);
     assert!(rt; write_all(&mut desk, Out::Report, b"abc").is_ok());
