@@ -35,7 +35,6 @@ stops {text = text} {failed = failed} {old = old} so_far part =
       there = from_both (length text) _ _ _ old.input.bytes (inside text part.count) so_far.front (left_now _ so_far part.there);
       view = part.view ∙ ap (taken part.count failed) so_far.view ∙ taken-twice (length text) part.count failed old;
     }
-    where
+  where
     inside : (text : List ℕ) (n : ℕ) (r : List ℕ) → text ++ drop (length text) r ≡ r → n ≤ length (drop (length text) r) → length text + n ≤ length r
     inside text n r front fits = let parts = sym (length-append text (drop (length text) r)) ∙ ap length front in omega (arith, parts)
-

@@ -8,10 +8,9 @@ mod handle;
 mod memory;
 mod reading;
 mod real;
-mod writing;
-
 #[cfg(test)]
 mod tests;
+mod writing;
 
 pub use desk::{Desk, Failed, Out};
 pub use gate::{Gate, Open};

@@ -52,7 +52,8 @@ fn pull<D: Desk>(desk: &mut D, piece: &mut [u8], text: &mut Vec<u8>) -> Result<u
     ensures later { D.faults desk.old ≤ D.faults desk.new }
 {
     let n = desk.read(piece).map_err(|_| ReadEnd::Fault)?;
-    text.extend_from_slice(&piece[..n]).map_err(|_| ReadEnd::Memory)?;
+    text.extend_from_slice(&piece[..n])
+        .map_err(|_| ReadEnd::Memory)?;
     Ok(n)
 }
 
