@@ -5,6 +5,9 @@ use super::*;
 use scad_fault::Text;
 use std::alloc::{AllocError, Global};
 use std::process::Abort;
+use std::rt::Files;
+use std::test::Fail;
+use std::{env, fs, process};
 
 // More than two pieces of a read.
 const LONG: usize = 10_000;
@@ -124,19 +127,16 @@ fn a_write_takes_what_there_is_room_for(rt: HostRuntime) {
 }
 
 #[test]
-fn a_long_name_fails_at_create_alone(rt: HostRuntime) {
-    let alloc = rt.alloc();
-    let long = long_name(alloc, 5_000).expect(&rt, "a name");
-    let longest = long_name(alloc, 4_096).expect(&rt, "a name");
-    let longer = long_name(alloc, 4_097).expect(&rt, "a name");
-    let mut desk = desk(&rt, alloc, &[], 0);
-    create(&rt, &mut desk, Out::Cli, longest.as_str());
-    open(&rt, &mut desk, long.as_str());
-    read(&rt, &mut desk, b"cube(");
-    assert_eq!(rt; desk.faults(), 0);
-    let mut desk = self::desk(&rt, alloc, &[], 0);
-    assert!(rt; desk.create(Out::Gcode, longer.as_str()).is_err());
-    assert_eq!(rt; desk.faults(), 1);
+fn a_name_past_its_room_fails_at_create(rt: HostRuntime) {
+    for (len, fits) in [(4_096, true), (4_097, false)] {
+        let name = long_name(rt.alloc(), len).expect(&rt, "a name");
+        let mut desk = desk(&rt, rt.alloc(), &[], 0);
+        assert_eq!(rt;
+            desk.create(Out::Cli, name.as_str()).is_ok(),
+            fits,
+            "{len} bytes"
+        );
+    }
 }
 
 fn opened(rt: &impl Abort, alloc: Global, fails: &[u64], name: &str) -> MemoryDesk
@@ -145,6 +145,14 @@ fn opened(rt: &impl Abort, alloc: Global, fails: &[u64], name: &str) -> MemoryDe
     let mut desk = desk(rt, alloc, fails, 0);
     open(rt, &mut desk, name);
     desk
+}
+
+#[test]
+fn a_name_past_its_room_opens_all_the_same(rt: HostRuntime) {
+    let name = long_name(rt.alloc(), 5_000).expect(&rt, "a name");
+    let mut desk = opened(&rt, rt.alloc(), &[], name.as_str());
+    let text = read_all(rt.alloc(), &mut desk, None).expect(&rt, "a text");
+    assert_eq!(rt; text.as_slice(), b"cube(3);".as_slice());
 }
 
 #[test]
@@ -187,4 +195,31 @@ fn a_piece_is_written_whole_or_in_part(rt: HostRuntime) {
     assert!(rt; write_all(&mut desk, Out::Report, b"def").is_err());
     assert_eq!(rt; desk.written(Out::Report), b"abcde".as_slice());
     assert_eq!(rt; desk.faults(), 1);
+}
+
+fn write_file<R: Files + Print + Abort>(rt: &R, name: &str) {
+    let mut desk = RealDesk::new(rt);
+    desk.create(Out::Cli, name).expect(rt, "a new file");
+    write_all(&mut desk, Out::Cli, b"$$HEADERSTART\n").expect(rt, "a whole write");
+}
+
+fn read_file<R: Files + Print + Abort>(rt: &R, alloc: Global, name: &str) -> Option<Text> {
+    let mut desk = RealDesk::new(rt);
+    if desk.open(name).is_err() {
+        return None;
+    }
+    Some(read_all(alloc, &mut desk, None).expect(rt, "a text"))
+}
+
+#[test]
+fn a_real_file_is_written_and_read_again(rt: HostRuntime) -> Result<(), Fail> {
+    let alloc = rt.alloc();
+    let folder = env::temp_dir(&rt)?.into_string();
+    let name = format!(in alloc; "{folder}/scad_io_{}", process::id(rt.process()))?;
+    write_file(&rt, name.as_str());
+    let text = read_file(&rt, alloc, name.as_str()).expect(&rt, "the file");
+    fs::remove_file(&rt, name.as_str())?;
+    assert_eq!(rt; text.as_slice(), b"$$HEADERSTART\n".as_slice());
+    assert!(rt; read_file(&rt, alloc, name.as_str()).is_none());
+    Ok(())
 }
