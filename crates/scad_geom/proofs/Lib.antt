@@ -1,1 +1,6 @@
 mod Examples
+pub mod Whole
+pub mod Ring
+pub mod Signs
+pub mod Lines
+pub mod Heights

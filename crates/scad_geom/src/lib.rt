@@ -5,9 +5,13 @@
 #![tactic(auto)]
 
 mod half;
+mod level;
 mod loops;
 mod point;
+mod shape;
 
 pub use half::Half;
+pub use level::{LeafEdge, Level};
 pub use loops::Loop;
 pub use point::{COORDINATE_LIMIT, Edge, Pt};
+pub use shape::Shape;
