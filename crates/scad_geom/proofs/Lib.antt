@@ -4,3 +4,4 @@ pub mod Ring
 pub mod Signs
 pub mod Lines
 pub mod Heights
+pub mod Order

@@ -1,6 +1,6 @@
 -- Signs of products of whole numbers.
 use Rattle.std.proofs.Common.{◌≡◌, ℕ, zero, suc, ◌+◌, ◌*◌, ◌<◌, ◌≤◌, Bool, true, false, refl, sym, ap, ◌∙◌, arith, subst}
-use lib.IntN.{ℤ, pos, negsuc, ◌+ℤ◌, ◌-ℤ◌, ◌*ℤ◌, neg_ℤ}
+use lib.IntN.{ℤ, pos, negsuc, ◌+ℤ◌, ◌-ℤ◌, ◌*ℤ◌, neg_ℤ, zero-*ℤ}
 use lib.Signed.{◌<ℤ◌, ◌≤ℤ◌, lt_z, le_z}
 use Rattle.std.proofs.lemmas.Int.{ints, by_lt_z}
 use borrow.Author.Differences.{up, down, same_in, sum_is_lem, product_is, neg_is, lt_out, le_out, below_in, at_most_in}
@@ -36,3 +36,9 @@ at_least_left (negsuc m) r p q = let d : negsuc m <ℤ pos 0 = omega (arith, int
 
 pub neg_mul_pos : (a r : ℤ) → pos 0 <ℤ r → a <ℤ pos 0 → (a *ℤ r) <ℤ pos 0
 neg_mul_pos = neg_down
+
+pub at_most_mul : (a r : ℤ) → a ≤ℤ pos 0 → pos 0 ≤ℤ r → (a *ℤ r) ≤ℤ pos 0
+at_most_mul (pos zero) r p q = rw (zero-*ℤ r) (omega (arith, ints))
+at_most_mul (pos (suc m)) r p q = absurd (omega (arith, ints))
+at_most_mul (negsuc m) (pos n) p q = omega (arith, ints)
+at_most_mul (negsuc m) (negsuc n) p q = absurd (omega (arith, ints))

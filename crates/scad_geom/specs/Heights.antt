@@ -4,7 +4,7 @@ use Rattle.scad_geom.specs.declared.point.Pt.{Pt}
 use Rattle.scad_geom.specs.declared.point.Edge.{Edge}
 use Rattle.scad_geom.specs.declared.level.Level.{Level}
 use Rattle.scad_geom.specs.declared.level.LeafEdge.{LeafEdge}
-use Rattle.scad_geom.specs.Line.{low, high, left_of, lean, apart}
+use Rattle.scad_geom.specs.Line.{low, high, rise, run, x_at, left_of, lean, apart}
 use Rattle.scad_geom.specs.Shape.{is_zero}
 
 -- the height of a whole coordinate
@@ -47,3 +47,18 @@ meetings e (f ∷ fs) = if meets e f.edge then meeting e f.edge ∷ meetings e f
 abbrev pub heights : List LeafEdge → List Level
 heights [] = []
 heights (e ∷ es) = level_of e.edge.a.y ∷ level_of e.edge.b.y ∷ (meetings e.edge es ++ heights es)
+
+-- two heights, the first below the second, with no height of the edges between them
+pub record AreNeighbours (edges : List LeafEdge) (lower upper : Level) : Type 0 where
+  pub lower_divisor : pos 0 <ℤ lower.d
+  pub upper_divisor : pos 0 <ℤ upper.d
+  pub in_order : IsLower lower upper
+  pub between : All (λ h. IsAtMost h lower ⊎ IsAtMost upper h) (heights edges)
+
+-- at a height, e lies to the left of f, or at the same place and on the way up more to the left
+abbrev pub IsBefore : Level → Edge → Edge → Type 0
+IsBefore at e f = ((x_at e at.n at.d *ℤ rise f) <ℤ (x_at f at.n at.d *ℤ rise e)) ⊎ ((x_at e at.n at.d *ℤ rise f ≡ x_at f at.n at.d *ℤ rise e) × ((run e *ℤ rise f) <ℤ (run f *ℤ rise e)))
+
+-- at a height, e and f lie at the same place, and they are parallel
+abbrev pub AreAligned : Level → Edge → Edge → Type 0
+AreAligned at e f = (x_at e at.n at.d *ℤ rise f ≡ x_at f at.n at.d *ℤ rise e) × (run e *ℤ rise f ≡ run f *ℤ rise e)
