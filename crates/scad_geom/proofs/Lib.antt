@@ -5,3 +5,4 @@ pub mod Signs
 pub mod Lines
 pub mod Heights
 pub mod Order
+pub mod Turns

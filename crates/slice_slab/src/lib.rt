@@ -1,0 +1,9 @@
+//! The edges between two neighbouring heights, from left to right.
+//!
+//! The contracts promise the edges that reach both heights in the order that they keep from the lower to the upper
+//! one, with those that coincide in one bundle.
+#![tactic(auto)]
+
+mod bundle;
+
+pub use bundle::Bundle;
