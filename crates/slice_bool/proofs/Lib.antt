@@ -1,2 +1,4 @@
 pub mod Sums
 pub mod Reaching
+pub mod Passing
+pub mod Values
