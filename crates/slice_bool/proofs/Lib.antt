@@ -2,3 +2,4 @@ pub mod Sums
 pub mod Reaching
 pub mod Passing
 pub mod Values
+pub mod Middle
