@@ -6,3 +6,4 @@ pub mod Lines
 pub mod Heights
 pub mod Order
 pub mod Turns
+pub mod Shapes

@@ -3,3 +3,4 @@ pub mod Reaching
 pub mod Passing
 pub mod Values
 pub mod Middle
+pub mod Slabs
