@@ -178,3 +178,44 @@ unfolding meeting
 meeting_turned e f a =
     let p : int_lt (pos 0) (neg_ℤ (lean e f)) ≡ false = sym (omega (arith, ints)) in
     rw (lean_turned e f, apart_turned e f, p, neg_ℤ-neg_ℤ (lean e f))
+
+-- ---- the divisors of heights are positive
+meeting_divisor : (a : ℤ) → (is_zero a ≡ false) → pos 0 <ℤ (cond (int_lt (pos 0) a) a (neg_ℤ a))
+meeting_divisor (pos zero) h = absurd (differ h)
+  where
+  differ : true ≡ false → ⊥
+  differ h = cc
+meeting_divisor (pos (suc n)) h = let p : int_lt (pos 0) (pos (suc n)) ≡ true = sym (omega (arith, ints)) in rw p (omega (arith, ints))
+meeting_divisor (negsuc n) h = omega (arith, ints)
+
+cond_d : (t : Bool) (p q : Level) → (if t then p else q).d ≡ cond t p.d q.d
+cond_d true p q = refl
+cond_d false p q = refl
+
+meets_not_zero : (a b : Bool) → (not a && b) ≡ true → a ≡ false
+meets_not_zero true b h = cc
+meets_not_zero false b h = refl
+
+pub meeting_positive : (e f : Edge) → meets e f ≡ true → pos 0 <ℤ (meeting e f).d
+unfolding meets meeting
+meeting_positive e f h =
+    let z : is_zero (lean e f) ≡ false = meets_not_zero (is_zero (lean e f)) (straddles e f && straddles f e) h in
+    subst (λ (z : ℤ). pos 0 <ℤ z) (sym (cond_d (int_lt (pos 0) (lean e f)) (record { n = neg_ℤ (apart e f); d = lean e f }) (record { n = apart e f; d = neg_ℤ (lean e f) }))) (meeting_divisor (lean e f) z)
+
+both_parts : {A : Type 0} (P : A → Type 0) (xs ys : List A) → AllByRecursion P xs → AllByRecursion P ys → AllByRecursion P (xs ++ ys)
+both_parts P [] ys h k = k
+both_parts P (x ∷ xs) ys h k = (h.0, both_parts P xs ys h.1 k)
+
+meetings_positive : (e : Edge) (fs : List LeafEdge) → AllByRecursion (λ (h : Level). pos 0 <ℤ h.d) (meetings e fs)
+meetings_positive e [] = tt
+meetings_positive e (f ∷ fs) = by_test (meets e f.edge) refl (meetings_positive e fs)
+  where
+  by_test : (t : Bool) → meets e f.edge ≡ t → AllByRecursion (λ (h : Level). pos 0 <ℤ h.d) (meetings e fs) → AllByRecursion (λ (h : Level). pos 0 <ℤ h.d) (if t then meeting e f.edge ∷ meetings e fs else meetings e fs)
+  by_test true q r = (meeting_positive e f.edge q, r)
+  by_test false q r = r
+
+pub heights_positive : (es : List LeafEdge) → AllByRecursion (λ (h : Level). pos 0 <ℤ h.d) (heights es)
+heights_positive [] = tt
+heights_positive (e ∷ es) =
+    let one : pos 0 <ℤ pos 1 = omega (arith, ints) in
+    (one, (one, both_parts (λ (h : Level). pos 0 <ℤ h.d) (meetings e.edge es) (heights es) (meetings_positive e.edge es) (heights_positive es)))

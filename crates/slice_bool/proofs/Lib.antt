@@ -4,3 +4,4 @@ pub mod Passing
 pub mod Values
 pub mod Middle
 pub mod Slabs
+pub mod Winding
