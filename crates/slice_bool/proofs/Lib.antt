@@ -5,3 +5,4 @@ pub mod Values
 pub mod Middle
 pub mod Slabs
 pub mod Winding
+pub mod Walk

@@ -76,7 +76,7 @@ between_still above right p true false s t name h = rw (flat_turn above right p 
 between_still above right p false true s t name h = rw (flat_turn above right p (point_of t) (point_of s) (sym h)) refl
 between_still above right p false false s t name h = refl
 
-either_over : (above : Bool) (p l : Level) → Over above p l ⊎ NotOver above p l
+pub either_over : (above : Bool) (p l : Level) → Over above p l ⊎ NotOver above p l
 either_over true p l = by_lt_z (p.n *ℤ l.d) (l.n *ℤ p.d) (λ h. inl h) (λ h. inr h)
 either_over false p l = by_lt_z (l.n *ℤ p.d) (p.n *ℤ l.d) (λ h. inr h) (λ h. inl h)
 
@@ -120,7 +120,7 @@ stretch_still : (es : List LeafEdge) (shape : Shape) (above right : Bool) (p : P
 stretch_still es shape above right p s t None h = refl
 stretch_still es shape above right p s t (Some name) h = between_still above right p (is_in_by true true es shape (point_of s)) (is_in_by false true es shape (point_of s)) s t name h
 
-two_zeros : (y z : ℤ) → y ≡ pos 0 → z ≡ pos 0 → y +ℤ z ≡ pos 0
+pub two_zeros : (y z : ℤ) → y ≡ pos 0 → z ≡ pos 0 → y +ℤ z ≡ pos 0
 two_zeros y z h k = rw (h, k) refl
 
 flat_still : (es : List LeafEdge) (shape : Shape) (above right : Bool) (p : Point) (l : Level) (stops : List Spot) → AllByRecursion (IsSpotAt l) stops → wind_pieces above right p (flat_pieces es shape stops) ≡ pos 0
@@ -154,12 +154,12 @@ bundles_still es shape above right p l u ((k ∷ ks) ∷ bs) r ls h =
           (h (spot_on (edge_at es k) l) (spot_on (edge_at es k) u) refl refl pr pr))
         (bundles_still es shape above right p l u bs r.2 (back (IsLive es l u) (k ∷ ks) (concat bs) ls) h)
 
-slab_over : (es : List LeafEdge) (shape : Shape) (above right : Bool) (p : Point) (l u : Level) (bs : List (List ℕ)) → AreBundles es l u bs → Over above (level_at p) l → Over above (level_at p) u
+pub slab_over : (es : List LeafEdge) (shape : Shape) (above right : Bool) (p : Point) (l u : Level) (bs : List (List ℕ)) → AreBundles es l u bs → Over above (level_at p) l → Over above (level_at p) u
     → wind_pieces above right p (slab_pieces es shape l u bs) ≡ pos 0
 slab_over es shape above right p l u bs b ol ou = bundles_still es shape above right p l u bs b.ranked (live_bundles es l u bs b)
     (λ s t es' et ps pt. spot_over above p s ps (subst (Over above (level_at p)) (sym es') ol) ∙ sym (spot_over above p t pt (subst (Over above (level_at p)) (sym et) ou)))
 
-slab_under : (es : List LeafEdge) (shape : Shape) (above right : Bool) (p : Point) (l u : Level) (bs : List (List ℕ)) → AreBundles es l u bs → NotOver above (level_at p) l → NotOver above (level_at p) u
+pub slab_under : (es : List LeafEdge) (shape : Shape) (above right : Bool) (p : Point) (l u : Level) (bs : List (List ℕ)) → AreBundles es l u bs → NotOver above (level_at p) l → NotOver above (level_at p) u
     → wind_pieces above right p (slab_pieces es shape l u bs) ≡ pos 0
 slab_under es shape above right p l u bs b ol ou = bundles_still es shape above right p l u bs b.ranked (live_bundles es l u bs b)
     (λ s t es' et ps pt. spot_not_over above p s ps (subst (NotOver above (level_at p)) (sym es') ol) ∙ sym (spot_not_over above p t pt (subst (NotOver above (level_at p)) (sym et) ou)))
