@@ -7,3 +7,7 @@ pub mod Heights
 pub mod Order
 pub mod Turns
 pub mod Shapes
+pub mod Bits
+pub mod Casts
+pub mod Crossings
+pub mod Square

@@ -6,3 +6,4 @@ pub mod Line
 pub mod Around
 pub mod Shape
 pub mod Heights
+pub mod Square

@@ -2,16 +2,23 @@
 //!
 //! The contracts promise the winding number of an edge list by its definition, and the exact value of
 //! each operation of signed arithmetic.
-#![tactic(auto)]
+#![tactic(auto, using(crate::proofs::Casts::casts))]
 
+mod area;
 mod half;
+pub mod laws;
 mod level;
 mod loops;
 mod point;
 mod shape;
+pub mod whole;
+pub mod wide;
+mod winding_number;
 
+pub use area::twice_area;
 pub use half::Half;
 pub use level::{LeafEdge, Level};
 pub use loops::Loop;
 pub use point::{COORDINATE_LIMIT, Edge, Pt};
 pub use shape::Shape;
+pub use winding_number::winding;
