@@ -15,7 +15,7 @@ use Rattle.scad_geom.specs.Heights.{level_of, IsLower, IsAtMost, IsSameHeight, s
 use Rattle.scad_geom.proofs.Ring.{ring, Term, num, ◌⊕◌, ◌⊖◌, ◌⊗◌, v0, v1, v2, v3, v4, v5, v6, v7, v8, v9, v10, v11}
 use Rattle.scad_geom.proofs.Signs.{pos_mul, at_least_mul, pos_left, at_least_left, neg_mul_pos}
 use Rattle.scad_geom.proofs.Lines.{low_by, high_by}
-use Rattle.scad_geom.proofs.Whole.{neg_mul, mul_add}
+use Rattle.scad_geom.proofs.Integers.{neg_mul, mul_add}
 
 chain : (a p b q c r : ℤ) → (c *ℤ p -ℤ a *ℤ r) *ℤ q ≡ (c *ℤ q -ℤ b *ℤ r) *ℤ p +ℤ (b *ℤ p -ℤ a *ℤ q) *ℤ r
 chain a p b q c r = ring (a ∷ p ∷ b ∷ q ∷ c ∷ r ∷ []) ((v4 ⊗ v1 ⊖ v0 ⊗ v5) ⊗ v3) ((v4 ⊗ v3 ⊖ v2 ⊗ v5) ⊗ v1 ⊕ (v2 ⊗ v1 ⊖ v0 ⊗ v3) ⊗ v5) refl

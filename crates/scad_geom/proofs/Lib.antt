@@ -1,5 +1,5 @@
 mod Examples
-pub mod Whole
+pub mod Integers
 pub mod Ring
 pub mod Signs
 pub mod Lines

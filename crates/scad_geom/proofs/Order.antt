@@ -14,7 +14,7 @@ use Rattle.scad_geom.specs.Line.{low, high, rise, run, offset, x_at, left_of, le
 use Rattle.scad_geom.specs.Heights.{level_of, IsLower, IsAtMost, IsSameHeight, meets, meeting, meetings, heights, AreNeighbours, IsBefore, AreAligned}
 use Rattle.scad_geom.proofs.Ring.{ring, Term, num, ◌⊕◌, ◌⊖◌, ◌⊗◌, v0, v1, v2, v3, v4, v5, v6, v7, v8, v9, v10, v11}
 use Rattle.scad_geom.proofs.Signs.{pos_mul, at_least_mul, pos_left, at_least_left, neg_mul_pos, at_most_mul}
-use Rattle.scad_geom.proofs.Whole.{neg_mul, mul_add}
+use Rattle.scad_geom.proofs.Integers.{neg_mul, mul_add}
 use Rattle.scad_geom.proofs.Lines.{gap_is}
 use Rattle.scad_geom.proofs.Heights.{Reaches, meeting_up, meets_between, meets_turned, meeting_is, meeting_turned, lower_then_at_most, at_most_then_lower, lean_turned}
 

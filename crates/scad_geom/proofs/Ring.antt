@@ -3,7 +3,7 @@
 use Rattle.std.proofs.Common.{◌≡◌, ℕ, zero, suc, Bool, true, false, cond, List, [], ◌∷◌, refl, sym, ap, ap₂, ◌∙◌, eqb, ltb, subst, arith}
 use lib.Dec.{T, eqb→eq}
 use lib.IntN.{ℤ, pos, negsuc, ◌+ℤ◌, ◌-ℤ◌, ◌*ℤ◌, neg_ℤ, *ℤ_comm, *ℤ-one, *ℤ-zero, pos-*ℤ-pos, +ℤ_assoc, +ℤ_comm, +ℤ_idl, +ℤ_idr, zero-*ℤ}
-use Rattle.scad_geom.proofs.Whole.{mul_assoc, mul_add, add_mul, neg_mul}
+use Rattle.scad_geom.proofs.Integers.{mul_assoc, mul_add, add_mul, neg_mul}
 
 infixl 65 ◌⊕◌
 infixl 65 ◌⊖◌

@@ -4,7 +4,7 @@ use lib.IntN.{ℤ, pos, negsuc, ◌+ℤ◌, ◌-ℤ◌, ◌*ℤ◌, neg_ℤ, zer
 use lib.Signed.{◌<ℤ◌, ◌≤ℤ◌, lt_z, le_z}
 use Rattle.std.proofs.lemmas.Int.{ints, by_lt_z}
 use borrow.Author.Differences.{up, down, same_in, sum_is_lem, product_is, neg_is, lt_out, le_out, below_in, at_most_in}
-use Rattle.scad_geom.proofs.Whole.{up_mul, down_mul}
+use Rattle.scad_geom.proofs.Integers.{up_mul, down_mul}
 
 mul_ge : (a b : ℕ) → 1 ≤ a → 1 ≤ b → 1 ≤ a * b
 mul_ge a b p q = grind arith

@@ -1,5 +1,5 @@
 -- The heights at which the order of edges may change: those of their ends and of the points where two meet.
-use Rattle.std.specs.Prelude.{Bool, cond, not, ◌&&◌, ◌||◌, if◌then◌else◌, List, [], ◌∷◌, ◌++◌, ℕ, ◌+◌, ◌⊎◌, ◌≡◌, ℤ, pos, neg_ℤ, ◌+ℤ◌, ◌-ℤ◌, ◌*ℤ◌, int_lt, int_le, ◌<ℤ◌, ◌≤ℤ◌, All, Contains}
+use Rattle.std.specs.Prelude.{Bool, cond, not, ◌&&◌, ◌||◌, if◌then◌else◌, List, [], ◌∷◌, ◌++◌, ℕ, zero, suc, ◌+◌, ◌⊎◌, ◌≡◌, ℤ, pos, negsuc, neg_ℤ, ◌+ℤ◌, ◌-ℤ◌, ◌*ℤ◌, int_lt, int_le, ◌<ℤ◌, ◌≤ℤ◌, All, ◌≤◌, ◌*◌, ◌^◌, unsigned_abs}
 use Rattle.scad_geom.specs.declared.point.Pt.{Pt}
 use Rattle.scad_geom.specs.declared.point.Edge.{Edge}
 use Rattle.scad_geom.specs.declared.level.Level.{Level}
@@ -62,3 +62,15 @@ IsBefore at e f = ((x_at e at.n at.d *ℤ rise f) <ℤ (x_at f at.n at.d *ℤ ri
 -- at a height, e and f lie at the same place, and they are parallel
 abbrev pub AreAligned : Level → Edge → Edge → Type 0
 AreAligned at e f = (x_at e at.n at.d *ℤ rise f ≡ x_at f at.n at.d *ℤ rise e) × (run e *ℤ rise f ≡ run f *ℤ rise e)
+
+-- a height whose divisor is positive and at most 10^13, within the limit of the coordinates
+pub record IsLevelWithin (limit : ℕ) (h : Level) : Type 0 where
+  pub positive : pos 0 <ℤ h.d
+  pub divisor : unsigned_abs h.d ≤ 10 ^ 13
+  pub size : unsigned_abs h.n ≤ limit * unsigned_abs h.d
+
+-- 1 above 0, -1 below it, 0 at it
+abbrev pub sign_of : ℤ → ℤ
+sign_of (pos zero) = pos 0
+sign_of (pos (suc n)) = pos 1
+sign_of (negsuc n) = negsuc 0

@@ -5,9 +5,11 @@
 #![tactic(auto, using(crate::proofs::Casts::casts))]
 
 mod area;
+mod compare;
 mod half;
 pub mod laws;
 mod level;
+pub mod line;
 mod loops;
 mod point;
 mod shape;
@@ -16,6 +18,7 @@ pub mod wide;
 mod winding_number;
 
 pub use area::twice_area;
+pub use compare::{cmp_level, cmp_slope, cmp_x_at, side};
 pub use half::Half;
 pub use level::{LeafEdge, Level};
 pub use loops::Loop;
