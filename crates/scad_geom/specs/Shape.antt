@@ -1,5 +1,5 @@
 -- Membership in a tree of set operations over leaves.
-use Rattle.std.specs.Prelude.{Bool, true, false, not, ◌&&◌, ◌||◌, List, ℕ, ℤ, pos, negsuc, zero, suc}
+use Rattle.std.specs.Prelude.{Bool, true, false, not, ◌&&◌, ◌||◌, List, [], ◌∷◌, ℕ, ℤ, pos, negsuc, zero, suc}
 use Rattle.scad_geom.specs.declared.level.LeafEdge.{LeafEdge}
 use Rattle.scad_geom.specs.declared.shape.Shape.{Shape, Empty, Leaf, Union', Inter', Diff', Row_of-Shape, end_of-Shape, more_of-Shape}
 use Rattle.scad_geom.specs.Around.{Point, wind_by}
@@ -39,3 +39,16 @@ is_in_by above right edges shape p = shape_holds (λ leaf. not (is_zero (wind_by
 -- whether a shape holds a point: the nonzero winding rule for each leaf
 unfoldable pub is_in : List LeafEdge → Shape → Point → Bool
 is_in edges shape p = is_in_by true true edges shape p
+
+-- the same of a list of members
+abbrev pub any_holds : (ℕ → Bool) → List Shape → Bool
+any_holds inside [] = false
+any_holds inside (member ∷ rest) = shape_holds inside member || any_holds inside rest
+
+abbrev pub all_holds : (ℕ → Bool) → List Shape → Bool
+all_holds inside [] = true
+all_holds inside (member ∷ rest) = shape_holds inside member && all_holds inside rest
+
+abbrev pub has_items : List Shape → Bool
+has_items [] = false
+has_items (member ∷ rest) = true

@@ -7,6 +7,7 @@
 mod area;
 mod compare;
 mod half;
+mod holding;
 pub mod laws;
 mod level;
 pub mod line;
@@ -20,6 +21,7 @@ mod winding_number;
 pub use area::twice_area;
 pub use compare::{cmp_level, cmp_slope, cmp_x_at, side};
 pub use half::Half;
+pub use holding::holds;
 pub use level::{LeafEdge, Level};
 pub use loops::Loop;
 pub use point::{COORDINATE_LIMIT, Edge, Pt};
