@@ -7,6 +7,7 @@ pub mod Heights
 pub mod Order
 pub mod Turns
 pub mod Shapes
+pub mod Bounds
 pub mod Bits
 pub mod Casts
 pub mod Crossings

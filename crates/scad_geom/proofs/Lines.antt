@@ -40,3 +40,8 @@ pub high_by : (e f : Edge) → left_of e (high f).x (high f).y (pos 1) *ℤ rise
 unfolding left_of x_at lean apart offset run rise
 high_by e f = top_identity (run e) (offset e) (rise e) (low f).x (low f).y (high f).x (high f).y
 
+
+-- the line of e at a whole point
+pub left_of_whole : (e : Edge) (x y : ℤ) → left_of e x y (pos 1) ≡ run e *ℤ y +ℤ offset e -ℤ rise e *ℤ x
+unfolding left_of x_at
+left_of_whole e x y = let h : offset e *ℤ pos 1 ≡ offset e = omega (arith, ints) in rw h refl

@@ -1,2 +1,8 @@
-//! To be written.
-#![tactic(auto)]
+//! The heights at which the order of edges may change.
+//!
+//! The contracts promise the distinct heights of all ends and meetings, ascending, and the exact count of crossings
+//! where it is refused.
+#![tactic(auto, using(scad_geom::proofs::Casts::casts))]
+
+mod meeting;
+
