@@ -4,5 +4,6 @@
 //! where it is refused.
 #![tactic(auto, using(scad_geom::proofs::Casts::casts))]
 
+mod collect;
+mod height;
 mod meeting;
-

@@ -66,7 +66,7 @@ fn are_apart(s: i128, t: i128) -> bool
 }
 
 // Above 0 where the point lies to the left of the edge's line.
-#[tactic(auto, using(scad_geom::proofs::Casts::casts), unfolding(scad_geom::specs::Line::left_of, scad_geom::specs::Line::x_at))]
+#[tactic(auto, using(scad_geom::proofs::Casts::casts, scad_geom::proofs::Lines::left_of_whole))]
 fn left_of(e: &Edge, p: Pt) -> i128
     requires e { IsEdgeWithin COORDINATE_LIMIT e.now }
     requires p { IsWithin COORDINATE_LIMIT p }
@@ -108,11 +108,22 @@ fn apart(e: &Edge, f: &Edge) -> i128
 }
 
 /// The height of the common point of two edges that meet.
-#[tactic(auto, using(scad_geom::proofs::Casts::casts), unfolding(scad_geom::specs::Heights::meeting))]
 pub(crate) fn meeting(e: &Edge, f: &Edge) -> Level
     requires e { IsEdgeWithin COORDINATE_LIMIT e.now }
     requires f { IsEdgeWithin COORDINATE_LIMIT f.now }
-    ensures { result ≡ meeting e.now f.now }
+    requires meets { meets e.now f.now ≡ true }
+    ensures value { result ≡ meeting e.now f.now }
+    ensures within { IsLevelWithin COORDINATE_LIMIT result }
+{
+    level_of_lines(e, f)
+}
+
+#[tactic(auto, using(scad_geom::proofs::Casts::casts), unfolding(scad_geom::specs::Heights::meeting))]
+fn level_of_lines(e: &Edge, f: &Edge) -> Level
+    requires e { IsEdgeWithin COORDINATE_LIMIT e.now }
+    requires f { IsEdgeWithin COORDINATE_LIMIT f.now }
+    ensures value { result ≡ meeting e.now f.now }
+    ensures divisor { unsigned_abs (lean e.now f.now) ≤ 10 ^ 13 }
 {
     let (lean, apart) = (lean(e, f), apart(e, f));
     if lean > 0 {
