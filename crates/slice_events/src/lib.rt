@@ -5,5 +5,10 @@
 #![tactic(auto, using(scad_geom::proofs::Casts::casts))]
 
 mod collect;
+mod count;
+mod distinct;
+mod events;
 mod height;
 mod meeting;
+
+pub use events::{CROSSING_LIMIT, EventFault, levels};
