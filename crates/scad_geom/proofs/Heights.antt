@@ -183,8 +183,8 @@ meeting_turned e f a =
 meeting_divisor : (a : ℤ) → (is_zero a ≡ false) → pos 0 <ℤ (cond (int_lt (pos 0) a) a (neg_ℤ a))
 meeting_divisor (pos zero) h = absurd (differ h)
   where
-  differ : true ≡ false → ⊥
-  differ h = cc
+    differ : true ≡ false → ⊥
+    differ h = cc
 meeting_divisor (pos (suc n)) h = let p : int_lt (pos 0) (pos (suc n)) ≡ true = sym (omega (arith, ints)) in rw p (omega (arith, ints))
 meeting_divisor (negsuc n) h = omega (arith, ints)
 
@@ -210,9 +210,9 @@ meetings_positive : (e : Edge) (fs : List LeafEdge) → AllByRecursion (λ (h : 
 meetings_positive e [] = tt
 meetings_positive e (f ∷ fs) = by_test (meets e f.edge) refl (meetings_positive e fs)
   where
-  by_test : (t : Bool) → meets e f.edge ≡ t → AllByRecursion (λ (h : Level). pos 0 <ℤ h.d) (meetings e fs) → AllByRecursion (λ (h : Level). pos 0 <ℤ h.d) (if t then meeting e f.edge ∷ meetings e fs else meetings e fs)
-  by_test true q r = (meeting_positive e f.edge q, r)
-  by_test false q r = r
+    by_test : (t : Bool) → meets e f.edge ≡ t → AllByRecursion (λ (h : Level). pos 0 <ℤ h.d) (meetings e fs) → AllByRecursion (λ (h : Level). pos 0 <ℤ h.d) (if t then meeting e f.edge ∷ meetings e fs else meetings e fs)
+    by_test true q r = (meeting_positive e f.edge q, r)
+    by_test false q r = r
 
 pub heights_positive : (es : List LeafEdge) → AllByRecursion (λ (h : Level). pos 0 <ℤ h.d) (heights es)
 heights_positive [] = tt

@@ -27,6 +27,7 @@ left_of_by e f x y d = passes_identity (run e) (offset e) (rise e) (run f) (offs
 
 end_identity : (u c r v s x y : ℤ) → (u *ℤ y +ℤ c *ℤ pos 1 -ℤ r *ℤ x) *ℤ s ≡ (u *ℤ s -ℤ v *ℤ r) *ℤ y +ℤ (c *ℤ s -ℤ (s *ℤ x -ℤ v *ℤ y) *ℤ r) *ℤ pos 1
 end_identity u c r v s x y = ring (u ∷ c ∷ r ∷ v ∷ s ∷ x ∷ y ∷ []) ((v0 ⊗ v6 ⊕ v1 ⊗ num (pos 1) ⊖ v2 ⊗ v5) ⊗ v4) ((v0 ⊗ v4 ⊖ v3 ⊗ v2) ⊗ v6 ⊕ (v1 ⊗ v4 ⊖ (v4 ⊗ v5 ⊖ v3 ⊗ v6) ⊗ v2) ⊗ num (pos 1)) refl
+
 top_identity : (u c r x y g h : ℤ) → (u *ℤ h +ℤ c *ℤ pos 1 -ℤ r *ℤ g) *ℤ (h -ℤ y) ≡ (u *ℤ (h -ℤ y) -ℤ (g -ℤ x) *ℤ r) *ℤ h +ℤ (c *ℤ (h -ℤ y) -ℤ ((h -ℤ y) *ℤ x -ℤ (g -ℤ x) *ℤ y) *ℤ r) *ℤ pos 1
 top_identity u c r x y g h = ring (u ∷ c ∷ r ∷ x ∷ y ∷ g ∷ h ∷ []) ((v0 ⊗ v6 ⊕ v1 ⊗ num (pos 1) ⊖ v2 ⊗ v5) ⊗ (v6 ⊖ v4)) ((v0 ⊗ (v6 ⊖ v4) ⊖ (v5 ⊖ v3) ⊗ v2) ⊗ v6 ⊕ (v1 ⊗ (v6 ⊖ v4) ⊖ ((v6 ⊖ v4) ⊗ v3 ⊖ (v5 ⊖ v3) ⊗ v4) ⊗ v2) ⊗ num (pos 1)) refl
 
@@ -39,7 +40,6 @@ low_by e f = end_identity (run e) (rise e *ℤ (low e).x -ℤ run e *ℤ (low e)
 pub high_by : (e f : Edge) → left_of e (high f).x (high f).y (pos 1) *ℤ rise f ≡ lean e f *ℤ (high f).y +ℤ apart e f *ℤ pos 1
 unfolding left_of x_at lean apart offset run rise
 high_by e f = top_identity (run e) (offset e) (rise e) (low f).x (low f).y (high f).x (high f).y
-
 
 -- the line of e at a whole point
 pub left_of_whole : (e : Edge) (x y : ℤ) → left_of e x y (pos 1) ≡ run e *ℤ y +ℤ offset e -ℤ rise e *ℤ x

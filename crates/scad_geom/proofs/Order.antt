@@ -33,9 +33,9 @@ met P e f fs h m = (rw m at h).0
 unmet : (P : Level → Type 0) (e : Edge) (f : LeafEdge) (fs : List LeafEdge) → AllByRecursion P (meetings e (f ∷ fs)) → AllByRecursion P (meetings e fs)
 unmet P e f fs = by_test (meets e f.edge)
   where
-  by_test : (b : Bool) → AllByRecursion P (if b then meeting e f.edge ∷ meetings e fs else meetings e fs) → AllByRecursion P (meetings e fs)
-  by_test true h = h.1
-  by_test false h = h
+    by_test : (b : Bool) → AllByRecursion P (if b then meeting e f.edge ∷ meetings e fs else meetings e fs) → AllByRecursion P (meetings e fs)
+    by_test true h = h.1
+    by_test false h = h
 
 met_at : (P : Level → Type 0) (e : Edge) (fs : List LeafEdge) (j : ℕ) (d : LeafEdge) → AllByRecursion P (meetings e fs) → j < length fs → meets e (get_or fs j d).edge ≡ true → P (meeting e (get_or fs j d).edge)
 met_at P e [] j d h l m = absurd (omega arith)
@@ -75,11 +75,11 @@ no_meeting es l u n i j d li lj ri rj a h k =
     let same : i ≡ j → P (meeting_up e f) = λ o. absurd (lean_self e (subst (λ (k : ℕ). pos 0 <ℤ lean e (get_or es k d).edge) (sym o) a)) in
     elim (three i j one other same) [ inl c ↦ apart_levels l (meeting_up e f) h c | inr c ↦ apart_levels (meeting_up e f) u k c ]
   where
-  three : {A : Type 0} (i j : ℕ) → (i < j → A) → (j < i → A) → (i ≡ j → A) → A
-  three zero zero p q r = r refl
-  three zero (suc j) p q r = p (omega arith)
-  three (suc i) zero p q r = q (omega arith)
-  three (suc i) (suc j) p q r = three i j (λ o. p (omega arith)) (λ o. q (omega arith)) (λ o. r (ap suc o))
+    three : {A : Type 0} (i j : ℕ) → (i < j → A) → (j < i → A) → (i ≡ j → A) → A
+    three zero zero p q r = r refl
+    three zero (suc j) p q r = p (omega arith)
+    three (suc i) zero p q r = q (omega arith)
+    three (suc i) (suc j) p q r = three i j (λ o. p (omega arith)) (λ o. q (omega arith)) (λ o. r (ap suc o))
 
 climb : (a b n d m c : ℤ) → (a *ℤ n +ℤ b *ℤ d) *ℤ c ≡ (a *ℤ m +ℤ b *ℤ c) *ℤ d +ℤ a *ℤ (n *ℤ c -ℤ m *ℤ d)
 climb a b n d m c = ring (a ∷ b ∷ n ∷ d ∷ m ∷ c ∷ []) ((v0 ⊗ v2 ⊕ v1 ⊗ v3) ⊗ v5) ((v0 ⊗ v4 ⊕ v1 ⊗ v5) ⊗ v3 ⊕ v0 ⊗ (v2 ⊗ v5 ⊖ v4 ⊗ v3)) refl
@@ -128,7 +128,6 @@ falls_later a b p q dp dq h k o =
     let v : ((a *ℤ q.n +ℤ b *ℤ q.d) *ℤ p.d) <ℤ pos 0 = omega (arith, ints) in
     below_zero (a *ℤ q.n +ℤ b *ℤ q.d) p.d dp v
 
-
 -- ---- the order of two edges that reach two neighbouring heights
 lower_meeting : (e f : Edge) (l : Level) → (lean e f *ℤ l.n +ℤ apart e f *ℤ l.d) <ℤ pos 0 → IsLower l (meeting_up e f)
 lower_meeting e f l h = let k = neg_mul (apart e f) l.d in rw k (omega (arith, ints))
@@ -154,16 +153,18 @@ before_inside es l u n i j d li lj ri rj o y dy a b =
     let gy = gap_is e f y.n y.d in
     let gl = gap_is e f l.n l.d in
     by_lt_z (lean e f *ℤ y.n +ℤ apart e f *ℤ y.d) (pos 0) (λ h. omega (arith, ints)) (λ h.
-      elim o [ inl c ↦
+    elim o [
+      | inl c ↦
           let k : (lean e f *ℤ l.n +ℤ apart e f *ℤ l.d) <ℤ pos 0 = omega (arith, ints) in
           let p : pos 0 <ℤ lean e f = rises_later (lean e f) (apart e f) l y n.lower_divisor dy k h (omega (arith, ints)) in
           let m : IsLower (meeting_up e f) u = at_most_then_lower (meeting_up e f) y u p dy n.upper_divisor (meeting_at_most e f y h) b in
           absurd (no_meeting es l u n i j d li lj ri rj p (lower_meeting e f l k) m)
-        | inr c ↦
+      | inr c ↦
           let c0 = c.0 in
           let k : lean e f *ℤ l.n +ℤ apart e f *ℤ l.d ≡ pos 0 = omega (arith, ints) in
           let v = falls_later (lean e f) (apart e f) l y n.lower_divisor dy k (lean_below e f c.1) a in
-          absurd (omega (arith, ints)) ])
+          absurd (omega (arith, ints))
+    ])
 
 -- at the two heights and between them the first doesn't lie to the right
 pub before_between : (es : List LeafEdge) (l u : Level) → AreNeighbours es l u → (i j : ℕ) (d : LeafEdge) → i < length es → j < length es
@@ -176,17 +177,19 @@ before_between es l u n i j d li lj ri rj o y dy a b =
     let gy = gap_is e f y.n y.d in
     let gl = gap_is e f l.n l.d in
     by_lt_z (pos 0) (lean e f *ℤ y.n +ℤ apart e f *ℤ y.d) (λ h.
-      elim o [ inl c ↦
+    elim o [
+      | inl c ↦
           let k : (lean e f *ℤ l.n +ℤ apart e f *ℤ l.d) <ℤ pos 0 = omega (arith, ints) in
           let p : pos 0 <ℤ lean e f = rises_between (lean e f) (apart e f) l y n.lower_divisor dy (omega (arith, ints)) h a in
           let m : IsLower (meeting_up e f) u = lower_then_at_most (meeting_up e f) y u p dy n.upper_divisor (meeting_below e f y h) b in
           absurd (no_meeting es l u n i j d li lj ri rj p (lower_meeting e f l k) m)
-        | inr c ↦
+      | inr c ↦
           let c0 = c.0 in
           let k : lean e f *ℤ l.n +ℤ apart e f *ℤ l.d ≡ pos 0 = omega (arith, ints) in
           let v = rises_between (lean e f) (apart e f) l y n.lower_divisor dy (omega (arith, ints)) h a in
           let w = lean_below e f c.1 in
-          absurd (omega (arith, ints)) ]) (λ h. omega (arith, ints))
+          absurd (omega (arith, ints))
+    ]) (λ h. omega (arith, ints))
 
 -- two aligned lines lie at the same place at every height
 pub aligned_all : (l : Level) → pos 0 <ℤ l.d → (e f : Edge) → AreAligned l e f → (n d : ℤ) → x_at e n d *ℤ rise f ≡ x_at f n d *ℤ rise e
@@ -202,13 +205,15 @@ aligned_all l dl e f a n d =
     let t : lean e f *ℤ n +ℤ apart e f *ℤ d ≡ pos 0 = both_zero (lean e f) (apart e f) n d z v in
     omega (arith, ints)
   where
-  zero_then : (a n b : ℤ) → a ≡ pos 0 → a *ℤ n +ℤ b ≡ pos 0 → b ≡ pos 0
-  zero_then a n b h k = let t : a *ℤ n ≡ pos 0 = rw h (zero-*ℤ n) in omega (arith, ints)
-  both_zero : (a b n d : ℤ) → a ≡ pos 0 → b ≡ pos 0 → a *ℤ n +ℤ b *ℤ d ≡ pos 0
-  both_zero a b n d h k = rw (h, k, zero-*ℤ n, zero-*ℤ d)
-  cancel : (a r : ℤ) → pos 0 <ℤ r → a *ℤ r ≡ pos 0 → a ≡ pos 0
-  cancel a r p h =
-      let x = at_least_left a r p (omega (arith, ints)) in
-      let y : pos 0 ≤ℤ (neg_ℤ a *ℤ r) = rw neg_mul (omega (arith, ints)) in
-      let z = at_least_left (neg_ℤ a) r p y in
-      omega (arith, ints)
+    zero_then : (a n b : ℤ) → a ≡ pos 0 → a *ℤ n +ℤ b ≡ pos 0 → b ≡ pos 0
+    zero_then a n b h k = let t : a *ℤ n ≡ pos 0 = rw h (zero-*ℤ n) in omega (arith, ints)
+
+    both_zero : (a b n d : ℤ) → a ≡ pos 0 → b ≡ pos 0 → a *ℤ n +ℤ b *ℤ d ≡ pos 0
+    both_zero a b n d h k = rw (h, k, zero-*ℤ n, zero-*ℤ d)
+
+    cancel : (a r : ℤ) → pos 0 <ℤ r → a *ℤ r ≡ pos 0 → a ≡ pos 0
+    cancel a r p h =
+        let x = at_least_left a r p (omega (arith, ints)) in
+        let y : pos 0 ≤ℤ (neg_ℤ a *ℤ r) = rw neg_mul (omega (arith, ints)) in
+        let z = at_least_left (neg_ℤ a) r p y in
+        omega (arith, ints)

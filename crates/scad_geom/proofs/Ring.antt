@@ -8,7 +8,6 @@ use Rattle.scad_geom.proofs.Integers.{mul_assoc, mul_add, add_mul, neg_mul}
 infixl 65 ◌⊕◌
 infixl 65 ◌⊖◌
 infixl 70 ◌⊗◌
-
 pub data Term : Type 0 where
   var : ℕ → Term
   num : ℤ → Term
@@ -95,9 +94,10 @@ form (s ⊖ t) = sum_of (form s) (scaled (negsuc 0) [] (form t))
 -- ---- what the forms are worth
 product-put : (xs : List ℤ) (v : ℕ) (us : List ℕ) → product xs (put v us) ≡ at xs v *ℤ product xs us
 product-put xs v [] = refl
-product-put xs v (u ∷ us) = elim (ltb u v) as (λ b. product xs (cond b (u ∷ put v us) (v ∷ (u ∷ us))) ≡ at xs v *ℤ (at xs u *ℤ product xs us))
-    [ true ↦ ap (λ (z : ℤ). at xs u *ℤ z) (product-put xs v us) ∙ sym (mul_assoc (at xs u) (at xs v) (product xs us)) ∙ ap (λ (z : ℤ). z *ℤ product xs us) (*ℤ_comm (at xs u) (at xs v)) ∙ mul_assoc (at xs v) (at xs u) (product xs us)
-    | false ↦ refl ]
+product-put xs v (u ∷ us) = elim (ltb u v) as (λ b. product xs (cond b (u ∷ put v us) (v ∷ (u ∷ us))) ≡ at xs v *ℤ (at xs u *ℤ product xs us)) [
+  | true ↦ ap (λ (z : ℤ). at xs u *ℤ z) (product-put xs v us) ∙ sym (mul_assoc (at xs u) (at xs v) (product xs us)) ∙ ap (λ (z : ℤ). z *ℤ product xs us) (*ℤ_comm (at xs u) (at xs v)) ∙ mul_assoc (at xs v) (at xs u) (product xs us)
+  | false ↦ refl
+]
 
 mul_one : (a : ℤ) → a *ℤ pos 1 ≡ a
 unfolding lib.IntN.one
@@ -113,9 +113,9 @@ product-merged xs (v ∷ vs) us = product-put xs v (merged vs us) ∙ ap (λ (z 
 same_head : (v u : ℕ) (b : Bool) → cond (eqb v u) b false ≡ true → (v ≡ u) × (b ≡ true)
 same_head v u b h = split (eqb v u) refl h
   where
-  split : (t : Bool) → eqb v u ≡ t → cond t b false ≡ true → (v ≡ u) × (b ≡ true)
-  split true e k = (eqb→eq v u (subst T (sym e) tt), k)
-  split false e k = cc
+    split : (t : Bool) → eqb v u ≡ t → cond t b false ≡ true → (v ≡ u) × (b ≡ true)
+    split true e k = (eqb→eq v u (subst T (sym e) tt), k)
+    split false e k = cc
 
 same_is : (vs us : List ℕ) → same vs us ≡ true → vs ≡ us
 same_is [] [] h = refl
@@ -192,33 +192,48 @@ ring xs s t h = sym (total-form xs s) ∙ sym (total-kept xs (form s)) ∙ ap (t
 -- the first variables
 abbrev pub v0 : Term
 v0 = var 0
+
 abbrev pub v1 : Term
 v1 = var 1
+
 abbrev pub v2 : Term
 v2 = var 2
+
 abbrev pub v3 : Term
 v3 = var 3
+
 abbrev pub v4 : Term
 v4 = var 4
+
 abbrev pub v5 : Term
 v5 = var 5
+
 abbrev pub v6 : Term
 v6 = var 6
+
 abbrev pub v7 : Term
 v7 = var 7
+
 abbrev pub v8 : Term
 v8 = var 8
+
 abbrev pub v9 : Term
 v9 = var 9
+
 abbrev pub v10 : Term
 v10 = var 10
+
 abbrev pub v11 : Term
 v11 = var 11
+
 abbrev pub v12 : Term
 v12 = var 12
+
 abbrev pub v13 : Term
 v13 = var 13
+
 abbrev pub v14 : Term
 v14 = var 14
+
 abbrev pub v15 : Term
 v15 = var 15

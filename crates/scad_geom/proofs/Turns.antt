@@ -55,11 +55,11 @@ pub flat_turn : (above right : Bool) (p a b : Point) → is_over above p a ≡ i
 unfolding turn passage_by
 flat_turn above right p a b e = rw e (by_both (is_over above p b) (is_beyond right ((counted (is_over above p b) -ℤ counted (is_over above p b)) *ℤ side_by p a b)))
   where
-  by_both : (t s : Bool) → (if s then counted t -ℤ counted t else pos 0) ≡ pos 0
-  by_both true true = refl
-  by_both true false = refl
-  by_both false true = refl
-  by_both false false = refl
+    by_both : (t s : Bool) → (if s then counted t -ℤ counted t else pos 0) ≡ pos 0
+    by_both true true = refl
+    by_both true false = refl
+    by_both false true = refl
+    by_both false false = refl
 
 one_mul : (z : ℤ) → pos 1 *ℤ z ≡ z
 one_mul z = omega (arith, ints)
@@ -82,14 +82,14 @@ beyond_mul true k z h = by_lt_z (pos 0) z
     (λ q. let a : int_lt (pos 0) z ≡ true = sym (omega (arith, ints)) in let b : int_lt (pos 0) (z *ℤ k) ≡ true = let m = pos_mul z k q h in sym (omega (arith, ints)) in b ∙ sym a)
     (λ q. let a : int_lt (pos 0) z ≡ false = sym (omega (arith, ints)) in let b : int_lt (pos 0) (z *ℤ k) ≡ false = let m = at_most_mul z k q (weak k h) in sym (omega (arith, ints)) in b ∙ sym a)
   where
-  weak : (z : ℤ) → pos 0 <ℤ z → pos 0 ≤ℤ z
-  weak z h = omega (arith, ints)
+    weak : (z : ℤ) → pos 0 <ℤ z → pos 0 ≤ℤ z
+    weak z h = omega (arith, ints)
 beyond_mul false k z h = by_lt_z z (pos 0)
     (λ q. let a : int_le (pos 0) z ≡ false = sym (omega (arith, ints)) in let b : int_le (pos 0) (z *ℤ k) ≡ false = let m = neg_mul_pos z k h q in sym (omega (arith, ints)) in b ∙ sym a)
     (λ q. let a : int_le (pos 0) z ≡ true = sym (omega (arith, ints)) in let b : int_le (pos 0) (z *ℤ k) ≡ true = let m = at_least_mul z k q (weak k h) in sym (omega (arith, ints)) in b ∙ sym a)
   where
-  weak : (z : ℤ) → pos 0 <ℤ z → pos 0 ≤ℤ z
-  weak z h = omega (arith, ints)
+    weak : (z : ℤ) → pos 0 <ℤ z → pos 0 ≤ℤ z
+    weak z h = omega (arith, ints)
 
 -- ---- turns of edges
 -- 1 for an edge that runs upwards, -1 for one that runs downwards
@@ -98,6 +98,7 @@ heading e = if int_lt e.b.y e.a.y then negsuc 0 else pos 1
 
 rising_side : (ax ay bx by x y d : ℤ) → (bx *ℤ pos 1 -ℤ ax *ℤ pos 1) *ℤ (y *ℤ pos 1 -ℤ ay *ℤ d) -ℤ (by *ℤ pos 1 -ℤ ay *ℤ pos 1) *ℤ (x *ℤ pos 1 -ℤ ax *ℤ d) ≡ (bx -ℤ ax) *ℤ y +ℤ ((by -ℤ ay) *ℤ ax -ℤ (bx -ℤ ax) *ℤ ay) *ℤ d -ℤ (by -ℤ ay) *ℤ x
 rising_side ax ay bx by x y d = ring (ax ∷ ay ∷ bx ∷ by ∷ x ∷ y ∷ d ∷ []) ((v2 ⊗ num (pos 1) ⊖ v0 ⊗ num (pos 1)) ⊗ (v5 ⊗ num (pos 1) ⊖ v1 ⊗ v6) ⊖ (v3 ⊗ num (pos 1) ⊖ v1 ⊗ num (pos 1)) ⊗ (v4 ⊗ num (pos 1) ⊖ v0 ⊗ v6)) ((v2 ⊖ v0) ⊗ v5 ⊕ ((v3 ⊖ v1) ⊗ v0 ⊖ (v2 ⊖ v0) ⊗ v1) ⊗ v6 ⊖ (v3 ⊖ v1) ⊗ v4) refl
+
 falling_side : (ax ay bx by x y d : ℤ) → pos 0 -ℤ ((bx *ℤ pos 1 -ℤ ax *ℤ pos 1) *ℤ (y *ℤ pos 1 -ℤ ay *ℤ d) -ℤ (by *ℤ pos 1 -ℤ ay *ℤ pos 1) *ℤ (x *ℤ pos 1 -ℤ ax *ℤ d)) ≡ (ax -ℤ bx) *ℤ y +ℤ ((ay -ℤ by) *ℤ bx -ℤ (ax -ℤ bx) *ℤ by) *ℤ d -ℤ (ay -ℤ by) *ℤ x
 falling_side ax ay bx by x y d = ring (ax ∷ ay ∷ bx ∷ by ∷ x ∷ y ∷ d ∷ []) (num (pos 0) ⊖ ((v2 ⊗ num (pos 1) ⊖ v0 ⊗ num (pos 1)) ⊗ (v5 ⊗ num (pos 1) ⊖ v1 ⊗ v6) ⊖ (v3 ⊗ num (pos 1) ⊖ v1 ⊗ num (pos 1)) ⊗ (v4 ⊗ num (pos 1) ⊖ v0 ⊗ v6))) ((v0 ⊖ v2) ⊗ v5 ⊕ ((v1 ⊖ v3) ⊗ v2 ⊖ (v0 ⊖ v2) ⊗ v3) ⊗ v6 ⊖ (v1 ⊖ v3) ⊗ v4) refl
 
@@ -132,8 +133,8 @@ unfolding heading
 reaching_turn above right p e l u dp dl du r s =
     let one : pos 0 <ℤ pos 1 = omega (arith, ints) in
     turn_by_test above right p e (int_lt e.b.y e.a.y) refl
-      (not_over_down above (level_at p) l (level_of (low e).y) dp dl one s.0 r.from)
-      (over_up above (level_at p) u (level_of (high e).y) dp du one s.1 r.to)
+    (not_over_down above (level_at p) l (level_of (low e).y) dp dl one s.0 r.from)
+    (over_up above (level_at p) u (level_of (high e).y) dp du one s.1 r.to)
 
 -- an edge with both ends below a point's height or both above it doesn't turn round it
 pub under_turn : (above right : Bool) (p : Point) (e : Edge) → NotOver above (level_at p) (level_of e.a.y) → NotOver above (level_at p) (level_of e.b.y) → turn above right p (whole e.a) (whole e.b) ≡ pos 0

@@ -6,12 +6,11 @@ ghost use Rattle.scad_geom.specs.Winding.{side_of};
 ghost use Rattle.scad_geom.specs.Line.{rise, run, x_at};
 ghost use Rattle.scad_geom.specs.Heights.{IsLevelWithin, sign_of};
 
-use std::cmp::Ordering;
-
 use crate::level::Level;
 use crate::line::{rise, run, x_at};
 use crate::point::{COORDINATE_LIMIT, Edge, Pt};
 use crate::wide::{minus, span, times};
+use std::cmp::Ordering;
 
 /// The order of two heights.
 pub fn cmp_level(p: &Level, q: &Level) -> Ordering
@@ -25,13 +24,11 @@ pub fn cmp_level(p: &Level, q: &Level) -> Ordering
     left.cmp(&right)
 }
 
-/// The order of two edges, which aren't flat, by their x at a height.
+/// The order of two edges by their x at a height that both reach; neither is flat.
 pub fn cmp_x_at(e: &Edge, f: &Edge, at: &Level) -> Ordering
     requires e { IsEdgeWithin COORDINATE_LIMIT e.now }
     requires f { IsEdgeWithin COORDINATE_LIMIT f.now }
     requires level { IsLevelWithin COORDINATE_LIMIT at.now }
-    requires e_rises { pos 0 <ℤ rise e.now }
-    requires f_rises { pos 0 <ℤ rise f.now }
     ensures { result ≡ int_cmp (x_at e.now at.now.n at.now.d *ℤ rise f.now) (x_at f.now at.now.n at.now.d *ℤ rise e.now) }
 {
     // The numbers over the rises are at most 2^89 in size, the rises 2^22.
@@ -40,12 +37,10 @@ pub fn cmp_x_at(e: &Edge, f: &Edge, at: &Level) -> Ordering
     left.cmp(&right)
 }
 
-/// The order of two edges, which aren't flat, by how far they run to the right for each step upwards.
+/// The order of two edges by how far they run to the right for each step upwards; neither is flat.
 pub fn cmp_slope(e: &Edge, f: &Edge) -> Ordering
     requires e { IsEdgeWithin COORDINATE_LIMIT e.now }
     requires f { IsEdgeWithin COORDINATE_LIMIT f.now }
-    requires e_rises { pos 0 <ℤ rise e.now }
-    requires f_rises { pos 0 <ℤ rise f.now }
     ensures { result ≡ int_cmp (run e.now *ℤ rise f.now) (run f.now *ℤ rise e.now) }
 {
     let left = times::<22, 22>(run(e), rise(f));
@@ -73,5 +68,53 @@ fn sign(z: i128) -> i8
         -1
     } else {
         0
+    }
+}
+
+#[cfg(test)]
+mod tests {
+    use super::*;
+
+    // At the height 1 the first lies at 1/3, the second and the third at 1/2.
+    const E: Edge = Edge {
+        a: Pt { x: 0, y: 0 },
+        b: Pt { x: 1, y: 3 },
+    };
+    const F: Edge = Edge {
+        a: Pt { x: 0, y: 0 },
+        b: Pt { x: 1, y: 2 },
+    };
+    const G: Edge = Edge {
+        a: Pt { x: 2, y: 2 },
+        b: Pt { x: -1, y: 0 },
+    };
+    const ONE: Level = Level { n: 1, d: 1 };
+
+    #[test]
+    fn heights_compare_over_any_divisors(rt: HostRuntime) {
+        let half = Level { n: 2001, d: 2 };
+        let same = Level {
+            n: 4_002_000_000_000,
+            d: 4_000_000_000,
+        };
+        assert_eq!(rt; cmp_level(&half, &same), Ordering::Equal);
+        assert_eq!(rt; cmp_level(&half, &Level { n: 10_006, d: 10 }), Ordering::Less);
+        assert_eq!(rt; cmp_level(&half, &Level { n: 3001, d: 3 }), Ordering::Greater);
+    }
+
+    #[test]
+    fn thirds_of_a_micrometre_are_told_apart(rt: HostRuntime) {
+        assert_eq!(rt; cmp_x_at(&E, &F, &ONE), Ordering::Less);
+        assert_eq!(rt; cmp_x_at(&F, &E, &ONE), Ordering::Greater);
+        assert_eq!(rt; cmp_x_at(&F, &G, &ONE), Ordering::Equal);
+        assert_eq!(rt; cmp_slope(&F, &G), Ordering::Less);
+        assert_eq!(rt; cmp_slope(&E, &E), Ordering::Equal);
+    }
+
+    #[test]
+    fn sides_are_left_right_and_on(rt: HostRuntime) {
+        assert_eq!(rt; side(&E, Pt { x: 0, y: 1 }), 1);
+        assert_eq!(rt; side(&E, Pt { x: 1, y: 0 }), -1);
+        assert_eq!(rt; side(&E, Pt { x: 2, y: 6 }), 0);
     }
 }

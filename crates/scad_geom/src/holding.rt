@@ -57,3 +57,40 @@ fn all_hold(members: &[Shape], inside: &[bool]) -> bool
     }
     true
 }
+
+#[cfg(test)]
+mod tests {
+    use super::*;
+    use std::alloc::{AllocError, Global};
+
+    fn two_leaves(alloc: Global) -> Result<Vec<Shape>, AllocError> {
+        let mut members = Vec::new(alloc);
+        members.push(Shape::Leaf(1))?;
+        members.push(Shape::Leaf(2))?;
+        Ok(members)
+    }
+
+    #[test]
+    fn operations_hold_by_their_members(rt: HostRuntime) -> Result<(), AllocError> {
+        let union = Shape::Union(two_leaves(rt.alloc())?);
+        let inter = Shape::Inter(two_leaves(rt.alloc())?);
+        let first = Box::new(rt.alloc(), Shape::Leaf(0))?;
+        let diff = Shape::Diff(first, two_leaves(rt.alloc())?);
+        let cases = [
+            ([false, false, false], false, false, false),
+            ([true, false, false], false, false, true),
+            ([true, true, false], true, false, false),
+            ([true, false, true], true, false, false),
+            ([false, true, true], true, true, false),
+        ];
+        for (inside, in_union, in_inter, in_diff) in cases {
+            assert_eq!(rt; holds(&union, &inside), in_union);
+            assert_eq!(rt; holds(&inter, &inside), in_inter);
+            assert_eq!(rt; holds(&diff, &inside), in_diff);
+        }
+        assert_eq!(rt; holds(&Shape::Empty, &[true]), false);
+        assert_eq!(rt; holds(&Shape::Inter(Vec::new(rt.alloc())), &[true]), false);
+        assert_eq!(rt; holds(&Shape::Leaf(7), &[true]), false);
+        Ok(())
+    }
+}

@@ -2,8 +2,10 @@
 //!
 //! The contracts promise the edges that reach both heights in the order that they keep from the lower to the upper
 //! one, with those that coincide in one bundle.
-#![tactic(auto)]
+#![tactic(auto, using(scad_geom::proofs::Casts::casts))]
 
 mod bundle;
+mod order;
+mod place;
 
 pub use bundle::Bundle;
