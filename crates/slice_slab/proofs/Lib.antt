@@ -1,1 +1,3 @@
 pub mod Ranking
+pub mod Steps
+pub mod Bundling

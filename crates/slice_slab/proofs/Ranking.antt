@@ -23,7 +23,8 @@ lexicographic lt mt a b = record {
   }
   where
   one : (s t u v : Bool) → (s ≡ true → t ≡ false) → (u ≡ true → v ≡ false) → (s || (not t && u)) ≡ true → (t || (not s && v)) ≡ false
-  one true t u v p q h = let e = p refl in ?
+  one true true u v p q h = let e = p refl in cc
+  one true false u v p q h = refl
   one false true u v p q h = cc
   one false false u v p q h = q h
   two : (s t u : Bool) (s' t' u' : Bool) (s'' t'' u'' : Bool) → (s ≡ false → s' ≡ false → s'' ≡ false) → (t'' ≡ false → s ≡ false → t' ≡ false) → (s' ≡ false → t'' ≡ false → t ≡ false) → (u ≡ false → u' ≡ false → u'' ≡ false)

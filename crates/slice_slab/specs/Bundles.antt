@@ -1,5 +1,5 @@
 -- The edges between two neighbouring heights, from left to right, with those that coincide in one bundle.
-use Rattle.std.specs.Prelude.{Bool, ◌&&◌, if◌then◌else◌, List, [], ◌∷◌, ℕ, ◌+◌, ◌<◌, ⊤, ℤ, pos, ◌*ℤ◌, int_lt, int_le, slice_index_or}
+use Rattle.std.specs.Prelude.{Bool, ◌&&◌, if◌then◌else◌, List, [], ◌∷◌, ℕ, ◌+◌, ◌≤◌, ⊤, ℤ, pos, ◌*ℤ◌, int_lt, int_le, slice_index_or}
 use Rattle.std.specs.List.{AllByRecursion, concat}
 use Rattle.std.specs.List.Sorted.{IsPermutation}
 use Rattle.scad_geom.specs.declared.point.Edge.{Edge}
@@ -25,10 +25,10 @@ abbrev pub reaching : ℕ → List LeafEdge → Level → Level → List ℕ
 reaching k [] lower upper = []
 reaching k (e ∷ es) lower upper = if reaches e.edge lower upper then k ∷ reaching (k + 1) es lower upper else reaching (k + 1) es lower upper
 
--- numbers that ascend
+-- numbers none of which is greater than a later one
 abbrev pub Ascends : List ℕ → Type 0
 Ascends [] = ⊤
-Ascends (k ∷ ks) = AllByRecursion (λ j. k < j) ks × Ascends ks
+Ascends (k ∷ ks) = AllByRecursion (λ j. k ≤ j) ks × Ascends ks
 
 -- the numbers, ascending, of edges that coincide above a height
 abbrev pub IsBundle : List LeafEdge → Level → List ℕ → Type 0

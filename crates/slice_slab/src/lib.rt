@@ -5,6 +5,8 @@
 #![tactic(auto, using(scad_geom::proofs::Casts::casts))]
 
 mod bundle;
+mod collect;
+mod group;
 mod order;
 mod place;
 
