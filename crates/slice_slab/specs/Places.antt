@@ -1,5 +1,5 @@
 -- The order of places: by x, then by slope, then by number.
-use Rattle.std.specs.Prelude.{Bool, not, List, [], ◌∷◌, ◌++◌, map, length, ℕ, zero, suc, true, ◌<◌, ◌≡◌, if◌then◌else◌, pos, ◌&&◌, ◌||◌, ◌*ℤ◌, int_lt, nat_lt}
+use Rattle.std.specs.Prelude.{Bool, not, List, [], ◌∷◌, ◌++◌, map, length, ℕ, zero, suc, true, false, ◌<◌, ◌≡◌, if◌then◌else◌, pos, ◌&&◌, ◌||◌, ◌*ℤ◌, int_lt, nat_lt}
 use Rattle.std.specs.Ordering.{int_eq}
 use Rattle.scad_geom.specs.declared.level.Level.{Level}
 use Rattle.scad_geom.specs.declared.level.LeafEdge.{LeafEdge}
@@ -55,3 +55,9 @@ ends_bundle [] i = true
 ends_bundle (p ∷ []) i = true
 ends_bundle (p ∷ (q ∷ ps)) zero = not (is_aligned p q)
 ends_bundle (p ∷ (q ∷ ps)) (suc i) = ends_bundle (q ∷ ps) i
+
+-- places from left to right
+abbrev pub AreSorted : List Place → Type 0
+AreSorted [] = Unit {0}
+AreSorted (p ∷ []) = Unit {0}
+AreSorted (p ∷ (q ∷ ps)) = (comes_first q p ≡ false) × AreSorted (q ∷ ps)

@@ -4,10 +4,13 @@
 //! one, with those that coincide in one bundle.
 #![tactic(auto, using(scad_geom::proofs::Casts::casts))]
 
+mod between;
 mod bundle;
 mod collect;
 mod group;
 mod order;
 mod place;
 
+
 pub use bundle::Bundle;
+pub use between::slab;
