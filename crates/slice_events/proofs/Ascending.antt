@@ -23,13 +23,13 @@ is_lower p q = int_lt (p.level.n *ℤ q.level.d) (q.level.n *ℤ p.level.d)
 
 pub lower_order : IsStrictWeakOrder is_lower
 lower_order = record {
-    one_way = λ x y h. sym (omega (arith, ints));
-    chain = λ x y z h k.
+  one_way = λ x y h. sym (omega (arith, ints));
+  chain = λ x y z h k.
       let a : IsAtMost y.level x.level = omega (arith, ints) in
       let b : IsAtMost z.level y.level = omega (arith, ints) in
       let c : IsAtMost z.level x.level = at_most_chain z.level y.level x.level z.within.positive y.within.positive x.within.positive b a in
-      sym (omega (arith, ints))
-  }
+      sym (omega (arith, ints));
+}
 
 climbing_by : (hs : List Height) → ((k : ℕ) (d : Height) → suc k < length hs → is_lower (get_or hs (suc k) d) (get_or hs k d) ≡ false) → IsClimbing (levels_in hs)
 climbing_by [] h = tt
@@ -49,28 +49,28 @@ first_lower : (p q : Level) (hs : List Level) → IsLower p q → AllByRecursion
 first_lower p q [] o d c r = (o, tt)
 first_lower p q (x ∷ hs) o d c r = by_test (int_lt (q.n *ℤ x.d) (x.n *ℤ q.d)) r (λ r'. first_lower p x hs (lower_then_at_most p q x d.0 d.1.0 d.1.1.0 o c.0) (d.0, d.1.1) c.1 r')
   where
-  by_test : (t : Bool) → IsRising (if t then q ∷ distinct_of (x ∷ hs) else distinct_of (x ∷ hs)) → (IsRising (distinct_of (x ∷ hs)) → IsRising (p ∷ distinct_of (x ∷ hs)))
-      → IsRising (p ∷ (if t then q ∷ distinct_of (x ∷ hs) else distinct_of (x ∷ hs)))
-  by_test true r f = (o, r)
-  by_test false r f = f r
+    by_test : (t : Bool) → IsRising (if t then q ∷ distinct_of (x ∷ hs) else distinct_of (x ∷ hs)) → (IsRising (distinct_of (x ∷ hs)) → IsRising (p ∷ distinct_of (x ∷ hs)))
+        → IsRising (p ∷ (if t then q ∷ distinct_of (x ∷ hs) else distinct_of (x ∷ hs)))
+    by_test true r f = (o, r)
+    by_test false r f = f r
 
 pub distinct_rises : (hs : List Level) → AllByRecursion (λ (l : Level). pos 0 <ℤ l.d) hs → IsClimbing hs → IsRising (distinct_of hs)
 distinct_rises [] d c = tt
 distinct_rises (p ∷ []) d c = tt
 distinct_rises (p ∷ (q ∷ hs)) d c = by_test (int_lt (p.n *ℤ q.d) (q.n *ℤ p.d)) refl (distinct_rises (q ∷ hs) d.1 c.1)
   where
-  by_test : (t : Bool) → int_lt (p.n *ℤ q.d) (q.n *ℤ p.d) ≡ t → IsRising (distinct_of (q ∷ hs)) → IsRising (if t then p ∷ distinct_of (q ∷ hs) else distinct_of (q ∷ hs))
-  by_test true e r = first_lower p q hs (omega (arith, ints)) d c.1 r
-  by_test false e r = r
+    by_test : (t : Bool) → int_lt (p.n *ℤ q.d) (q.n *ℤ p.d) ≡ t → IsRising (distinct_of (q ∷ hs)) → IsRising (if t then p ∷ distinct_of (q ∷ hs) else distinct_of (q ∷ hs))
+    by_test true e r = first_lower p q hs (omega (arith, ints)) d c.1 r
+    by_test false e r = r
 
 pub distinct_divisors : (hs : List Level) → AllByRecursion (λ (l : Level). pos 0 <ℤ l.d) hs → AllByRecursion (λ (l : Level). pos 0 <ℤ l.d) (distinct_of hs)
 distinct_divisors [] d = tt
 distinct_divisors (p ∷ []) d = d
 distinct_divisors (p ∷ (q ∷ hs)) d = by_test (int_lt (p.n *ℤ q.d) (q.n *ℤ p.d)) (distinct_divisors (q ∷ hs) d.1)
   where
-  by_test : (t : Bool) → AllByRecursion (λ (l : Level). pos 0 <ℤ l.d) (distinct_of (q ∷ hs)) → AllByRecursion (λ (l : Level). pos 0 <ℤ l.d) (if t then p ∷ distinct_of (q ∷ hs) else distinct_of (q ∷ hs))
-  by_test true r = (d.0, r)
-  by_test false r = r
+    by_test : (t : Bool) → AllByRecursion (λ (l : Level). pos 0 <ℤ l.d) (distinct_of (q ∷ hs)) → AllByRecursion (λ (l : Level). pos 0 <ℤ l.d) (if t then p ∷ distinct_of (q ∷ hs) else distinct_of (q ∷ hs))
+    by_test true r = (d.0, r)
+    by_test false r = r
 
 same_then : (ls : List Level) (g h : Level) → pos 0 <ℤ h.d → pos 0 <ℤ g.d → AllByRecursion (λ (l : Level). pos 0 <ℤ l.d) ls → IsSameHeight g h → HasHeight ls g → HasHeight ls h
 same_then [] g h dh dg d e r = absurd r
@@ -86,13 +86,14 @@ distinct_complete [] d c = tt
 distinct_complete (p ∷ []) d c = (inl refl, tt)
 distinct_complete (p ∷ (q ∷ hs)) d c = by_test (int_lt (p.n *ℤ q.d) (q.n *ℤ p.d)) refl (distinct_complete (q ∷ hs) d.1 c.1)
   where
-  later : (xs ls : List Level) → AllByRecursion (HasHeight ls) xs → AllByRecursion (HasHeight (p ∷ ls)) xs
-  later [] ls h = tt
-  later (x ∷ xs) ls h = (inr h.0, later xs ls h.1)
-  by_test : (t : Bool) → int_lt (p.n *ℤ q.d) (q.n *ℤ p.d) ≡ t → AllByRecursion (HasHeight (distinct_of (q ∷ hs))) (q ∷ hs)
-      → AllByRecursion (HasHeight (if t then p ∷ distinct_of (q ∷ hs) else distinct_of (q ∷ hs))) (p ∷ (q ∷ hs))
-  by_test true e r = (inl refl, later (q ∷ hs) (distinct_of (q ∷ hs)) r)
-  by_test false e r = let c0 = c.0 in (same_then (distinct_of (q ∷ hs)) q p d.0 d.1.0 (distinct_divisors (q ∷ hs) d.1) (omega (arith, ints)) r.0, r)
+    later : (xs ls : List Level) → AllByRecursion (HasHeight ls) xs → AllByRecursion (HasHeight (p ∷ ls)) xs
+    later [] ls h = tt
+    later (x ∷ xs) ls h = (inr h.0, later xs ls h.1)
+
+    by_test : (t : Bool) → int_lt (p.n *ℤ q.d) (q.n *ℤ p.d) ≡ t → AllByRecursion (HasHeight (distinct_of (q ∷ hs))) (q ∷ hs)
+        → AllByRecursion (HasHeight (if t then p ∷ distinct_of (q ∷ hs) else distinct_of (q ∷ hs))) (p ∷ (q ∷ hs))
+    by_test true e r = (inl refl, later (q ∷ hs) (distinct_of (q ∷ hs)) r)
+    by_test false e r = let c0 = c.0 in (same_then (distinct_of (q ∷ hs)) q p d.0 d.1.0 (distinct_divisors (q ∷ hs) d.1) (omega (arith, ints)) r.0, r)
 
 -- and nothing else
 pub distinct_sound : (hs : List Level) → AllByRecursion (HasHeight hs) (distinct_of hs)
@@ -100,12 +101,13 @@ distinct_sound [] = tt
 distinct_sound (p ∷ []) = (inl refl, tt)
 distinct_sound (p ∷ (q ∷ hs)) = by_test (int_lt (p.n *ℤ q.d) (q.n *ℤ p.d)) (distinct_sound (q ∷ hs))
   where
-  more : (ls : List Level) → AllByRecursion (HasHeight (q ∷ hs)) ls → AllByRecursion (HasHeight (p ∷ (q ∷ hs))) ls
-  more [] h = tt
-  more (l ∷ ls) h = (inr h.0, more ls h.1)
-  by_test : (t : Bool) → AllByRecursion (HasHeight (q ∷ hs)) (distinct_of (q ∷ hs)) → AllByRecursion (HasHeight (p ∷ (q ∷ hs))) (if t then p ∷ distinct_of (q ∷ hs) else distinct_of (q ∷ hs))
-  by_test true r = (inl refl, more (distinct_of (q ∷ hs)) r)
-  by_test false r = more (distinct_of (q ∷ hs)) r
+    more : (ls : List Level) → AllByRecursion (HasHeight (q ∷ hs)) ls → AllByRecursion (HasHeight (p ∷ (q ∷ hs))) ls
+    more [] h = tt
+    more (l ∷ ls) h = (inr h.0, more ls h.1)
+
+    by_test : (t : Bool) → AllByRecursion (HasHeight (q ∷ hs)) (distinct_of (q ∷ hs)) → AllByRecursion (HasHeight (p ∷ (q ∷ hs))) (if t then p ∷ distinct_of (q ∷ hs) else distinct_of (q ∷ hs))
+    by_test true r = (inl refl, more (distinct_of (q ∷ hs)) r)
+    by_test false r = more (distinct_of (q ∷ hs)) r
 
 -- ---- which heights a list has doesn't depend on its order
 has_where : (xs : List Level) (h : Level) → HasHeight xs h → (k : ℕ) × (k < length xs) × ((d : Level) → IsSameHeight (get_or xs k d) h)

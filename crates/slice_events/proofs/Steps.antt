@@ -31,10 +31,10 @@ stays_next (x ∷ (y ∷ hs)) (suc i) d e h = stays_next (y ∷ hs) i d e (omega
 pub is_lt-int_cmp : (x y : ℤ) → is_lt (int_cmp x y) ≡ int_lt x y
 is_lt-int_cmp x y = by_tests (int_lt x y) (int_lt y x)
   where
-  by_tests : (s t : Bool) → is_lt (cond s Less (cond t Greater Equal)) ≡ s
-  by_tests true t = refl
-  by_tests false true = refl
-  by_tests false false = refl
+    by_tests : (s t : Bool) → is_lt (cond s Less (cond t Greater Equal)) ≡ s
+    by_tests true t = refl
+    by_tests false true = refl
+    by_tests false false = refl
 
 pub distinct_more : (hs : List Height) (i : ℕ) (d : Height) → i < length hs
     → distinct_of (drop i (levels_in hs)) ≡ (if stays_at (levels_in hs) i then (get_or hs i d).level ∷ distinct_of (drop (suc i) (levels_in hs)) else distinct_of (drop (suc i) (levels_in hs)))

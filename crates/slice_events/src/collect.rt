@@ -4,11 +4,10 @@ ghost use Rattle.scad_geom.specs.Point.{IsEdgeWithin};
 ghost use Rattle.scad_geom.specs.Heights.{level_of, meetings, heights, IsLevelWithin};
 ghost use Rattle.slice_events.specs.Collected.{levels_in};
 
-use std::alloc::{AllocError, Global};
-
 use crate::height::Height;
 use crate::meeting::{meeting, meets};
 use scad_geom::{COORDINATE_LIMIT, Edge, LeafEdge, Level};
+use std::alloc::{AllocError, Global};
 
 pub(crate) fn all_heights(alloc: Global, edges: &[LeafEdge]) -> Result<Vec<Height>, AllocError>
     requires { All (λ e. IsEdgeWithin COORDINATE_LIMIT e.edge) edges.now }

@@ -4,10 +4,9 @@ ghost use Rattle.std.specs.List.Sorted.{IsPermutation};
 ghost use Rattle.scad_geom.specs.Heights.{IsLevelWithin};
 ghost use Rattle.slice_events.specs.Collected.{levels_in, IsClimbing, distinct_of, stays_at};
 
-use std::alloc::{AllocError, Global};
-
 use crate::height::Height;
 use scad_geom::{COORDINATE_LIMIT, Level, cmp_level};
+use std::alloc::{AllocError, Global};
 
 pub(crate) fn sort(heights: &mut Vec<Height>) -> Result<(), AllocError>
     ensures permutation { IsPermutation heights.old.items heights.new.items }

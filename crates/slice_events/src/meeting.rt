@@ -104,7 +104,10 @@ fn apart(e: &Edge, f: &Edge) -> i128
     ensures value { result ≡ apart e.now f.now }
     ensures size { unsigned_abs result ≤ 2 ^ 67 }
 {
-    minus(times::<44, 22>(offset(e), rise(f)), times::<44, 22>(offset(f), rise(e)))
+    minus(
+        times::<44, 22>(offset(e), rise(f)),
+        times::<44, 22>(offset(f), rise(e)),
+    )
 }
 
 /// The height of the common point of two edges that meet.

@@ -10,5 +10,5 @@ use Rattle.slice_events.proofs.events.ascending.Goals as goal
 pub returns-clause-levels : goal.returns-clause-levels
 returns-clause-levels c = IfOk-weaker c.distinct.result _ _
     (λ v e. subst (AreLevels c.args.edges.now) (sym (e ∙ ap (λ hs. distinct_of (levels_in hs)) c.deref.ensures.value))
-      (sorted_levels c.args.edges.now c.in_ok-heights.heights.items c.sort.new.heights.items c.in_ok-heights.ensures c.in_ok-sort.ensures.permutation c.in_ok-sort.ensures.sorted))
+    (sorted_levels c.args.edges.now c.in_ok-heights.heights.items c.sort.new.heights.items c.in_ok-heights.ensures c.in_ok-sort.ensures.permutation c.in_ok-sort.ensures.sorted))
     c.distinct.ensures.value
