@@ -8,6 +8,7 @@ pub mod Order
 pub mod Turns
 pub mod Shapes
 pub mod Bounds
+pub mod Doubled
 pub mod Bits
 pub mod Casts
 pub mod Crossings

@@ -42,7 +42,6 @@ lean_of : Edge → Level
 lean_of e = record { n = run e; d = rise e }
 
 module _ (at : Level) (e f g : Edge) (de : pos 0 <ℤ rise e) (df : pos 0 <ℤ rise f) (dg : pos 0 <ℤ rise g) where
-
   pub aligned_chain : AreAligned at e f → AreAligned at f g → AreAligned at e g
   unfolding x_of lean_of
   aligned_chain h k = (same_chain (x_of at e) (x_of at f) (x_of at g) de df dg h.0 k.0, same_chain (lean_of e) (lean_of f) (lean_of g) de df dg h.1 k.1)
@@ -63,10 +62,10 @@ module _ (at : Level) (e f g : Edge) (de : pos 0 <ℤ rise e) (df : pos 0 <ℤ r
 eq_from : (a b : ℤ) → int_eq a b ≡ true → a ≡ b
 eq_from a b h = by_tests (int_lt a b) refl (int_lt b a) refl h
   where
-  by_tests : (s : Bool) → int_lt a b ≡ s → (t : Bool) → int_lt b a ≡ t → is_eq (cond s Less (cond t Greater Equal)) ≡ true → a ≡ b
-  by_tests true e t f k = cc
-  by_tests false e true f k = cc
-  by_tests false e false f k = omega (arith, ints)
+    by_tests : (s : Bool) → int_lt a b ≡ s → (t : Bool) → int_lt b a ≡ t → is_eq (cond s Less (cond t Greater Equal)) ≡ true → a ≡ b
+    by_tests true e t f k = cc
+    by_tests false e true f k = cc
+    by_tests false e false f k = omega (arith, ints)
 
 eq_to : (a b : ℤ) → a ≡ b → int_eq a b ≡ true
 eq_to a b h =
@@ -102,21 +101,23 @@ apart_parts false false false false false h = (refl, inr (refl, refl, inr (refl,
 
 neighbours : (p q : Place) → comes_first q p ≡ false
     → (((p.x *ℤ q.rise) <ℤ (q.x *ℤ p.rise)) ⊎ ((p.x *ℤ q.rise ≡ q.x *ℤ p.rise) × ((p.run *ℤ q.rise) <ℤ (q.run *ℤ p.rise))))
-      ⊎ ((p.x *ℤ q.rise ≡ q.x *ℤ p.rise) × (p.run *ℤ q.rise ≡ q.run *ℤ p.rise) × (p.number ≤ q.number))
+    ⊎ ((p.x *ℤ q.rise ≡ q.x *ℤ p.rise) × (p.run *ℤ q.rise ≡ q.run *ℤ p.rise) × (p.number ≤ q.number))
 neighbours p q h =
     let t = apart_parts (is_left q p) (is_left p q) (leans_left q p) (leans_left p q) (nat_lt q.number p.number) h in
     let a = t.0 in
     elim t.1 [
-      inl b ↦ inl (inl (omega (arith, ints)))
-    | inr b ↦
-        let b0 = b.0 in let b1 = b.1 in
-        let x : p.x *ℤ q.rise ≡ q.x *ℤ p.rise = omega (arith, ints) in
-        elim b.2 [
-          inl d ↦ inl (inr (x, omega (arith, ints)))
-        | inr d ↦ let d0 = d.0 in let d1 = d.1 in inr (x, omega (arith, ints), not_less q.number p.number d1) ] ]
+      | inl b ↦ inl (inl (omega (arith, ints)))
+      | inr b ↦
+          let b0 = b.0 in let b1 = b.1 in
+          let x : p.x *ℤ q.rise ≡ q.x *ℤ p.rise = omega (arith, ints) in
+          elim b.2 [
+            | inl d ↦ inl (inr (x, omega (arith, ints)))
+            | inr d ↦ let d0 = d.0 in let d1 = d.1 in inr (x, omega (arith, ints), not_less q.number p.number d1)
+          ]
+    ]
   where
-  not_less : (m n : ℕ) → nat_lt m n ≡ false → n ≤ m
-  not_less m n h = nltb→le m n (subst (λ (t : Bool). T (not t)) (sym h) tt)
+    not_less : (m n : ℕ) → nat_lt m n ≡ false → n ≤ m
+    not_less m n h = nltb→le m n (subst (λ (t : Bool). T (not t)) (sym h) tt)
 
 sorted_by : (ps : List Place) → ((k : ℕ) (d : Place) → suc k < length ps → comes_first (get_or ps (suc k) d) (get_or ps k d) ≡ false) → AreSorted ps
 sorted_by [] h = tt
@@ -146,7 +147,6 @@ rises_of : (es : List LeafEdge) (at : Level) (p : Place) → IsPlaceOf es at p �
 rises_of es at p h = subst (λ (z : ℤ). pos 0 <ℤ z) h.rise p.rises
 
 module _ (es : List LeafEdge) (at : Level) (p q : Place) (hp : Rises es p.number) (hq : Rises es q.number) where
-
   all_aligned : AreAligned at (edge_at es p.number) (edge_at es q.number) → (ks : List ℕ) → AllByRecursion (Rises es) ks → AllByRecursion (λ j. AreAligned at (edge_at es q.number) (edge_at es j)) ks
       → AllByRecursion (λ j. AreAligned at (edge_at es p.number) (edge_at es j)) ks
   all_aligned a [] r h = tt
@@ -171,8 +171,8 @@ module _ (es : List LeafEdge) (at : Level) (p q : Place) (hp : Rises es p.number
 not_aligned : (p q : Place) → p.x *ℤ q.rise ≡ q.x *ℤ p.rise → p.run *ℤ q.rise ≡ q.run *ℤ p.rise → is_aligned p q ≡ false → ⊥
 not_aligned p q h k e = let a = eq_to (p.x *ℤ q.rise) (q.x *ℤ p.rise) h in let b = eq_to (p.run *ℤ q.rise) (q.run *ℤ p.rise) k in differ (sym (rw (a, b) refl) ∙ e)
   where
-  differ : true ≡ false → ⊥
-  differ h = cc
+    differ : true ≡ false → ⊥
+    differ h = cc
 
 bundled : (es : List LeafEdge) (at : Level) (p : Place) (ps : List Place) → AllByRecursion (IsPlaceOf es at) (p ∷ ps) → AreSorted (p ∷ ps) → Bundled es at p ps
 bundled es at p [] h s = record { ks = []; bs = []; are = refl; ranked = (((tt, tt), tt), tt, tt); rise_ks = tt; rise_bs = tt }
@@ -182,33 +182,33 @@ bundled es at p (q ∷ ps) h s =
     let hq = rises_of es at q h.1.0 in
     by_test (is_aligned p q) refl r (neighbours p q s.0) hp hq
   where
-  by_test : (t : Bool) → is_aligned p q ≡ t → (r : Bundled es at q ps)
-      → (((p.x *ℤ q.rise) <ℤ (q.x *ℤ p.rise)) ⊎ ((p.x *ℤ q.rise ≡ q.x *ℤ p.rise) × ((p.run *ℤ q.rise) <ℤ (q.run *ℤ p.rise))))
+    by_test : (t : Bool) → is_aligned p q ≡ t → (r : Bundled es at q ps)
+        → (((p.x *ℤ q.rise) <ℤ (q.x *ℤ p.rise)) ⊎ ((p.x *ℤ q.rise ≡ q.x *ℤ p.rise) × ((p.run *ℤ q.rise) <ℤ (q.run *ℤ p.rise))))
         ⊎ ((p.x *ℤ q.rise ≡ q.x *ℤ p.rise) × (p.run *ℤ q.rise ≡ q.run *ℤ p.rise) × (p.number ≤ q.number))
-      → Rises es p.number → Rises es q.number → Bundled es at p (q ∷ ps)
-  by_test true e r (inr n) hp hq =
-      let a = same_edge es at p q h.0 h.1.0 n.0 n.1 in
-      record {
-        ks = q.number ∷ r.ks;
-        bs = r.bs;
-        are = rw (e, r.are) refl;
-        ranked = ((((n.2, all_later es at p q hp hq n.2 r.ks r.ranked.0.0.0), r.ranked.0.0), (a, all_aligned es at p q hp hq a r.ks r.rise_ks r.ranked.0.1)), precede_aligned es at p q hp hq a r.ks r.bs r.rise_bs r.ranked.1, r.ranked.2);
-        rise_ks = (hq, r.rise_ks);
-        rise_bs = r.rise_bs;
-      }
-  by_test false e r (inl n) hp hq =
-      let a = before_edge es at p q h.0 h.1.0 n in
-      record {
-        ks = [];
-        bs = (q.number ∷ r.ks) ∷ r.bs;
-        are = rw (e, r.are) refl;
-        ranked = (((tt, tt), tt), (a, precede_before es at p q hp hq a r.ks r.bs r.rise_bs r.ranked.1), r.ranked);
-        rise_ks = tt;
-        rise_bs = (hq, r.rise_bs);
-      }
-  by_test false e r (inr n) hp hq = absurd (not_aligned p q n.0 n.1 e)
-  by_test true e r (inl (inl n)) hp hq = let x = eq_from (p.x *ℤ q.rise) (q.x *ℤ p.rise) (both_true (int_eq (p.x *ℤ q.rise) (q.x *ℤ p.rise)) (int_eq (p.run *ℤ q.rise) (q.run *ℤ p.rise)) e).0 in absurd (omega (arith, ints))
-  by_test true e r (inl (inr n)) hp hq = let n1 = n.1 in let x = eq_from (p.run *ℤ q.rise) (q.run *ℤ p.rise) (both_true (int_eq (p.x *ℤ q.rise) (q.x *ℤ p.rise)) (int_eq (p.run *ℤ q.rise) (q.run *ℤ p.rise)) e).1 in absurd (omega (arith, ints))
+        → Rises es p.number → Rises es q.number → Bundled es at p (q ∷ ps)
+    by_test true e r (inr n) hp hq =
+        let a = same_edge es at p q h.0 h.1.0 n.0 n.1 in
+        record {
+          ks = q.number ∷ r.ks;
+          bs = r.bs;
+          are = rw (e, r.are) refl;
+          ranked = ((((n.2, all_later es at p q hp hq n.2 r.ks r.ranked.0.0.0), r.ranked.0.0), (a, all_aligned es at p q hp hq a r.ks r.rise_ks r.ranked.0.1)), precede_aligned es at p q hp hq a r.ks r.bs r.rise_bs r.ranked.1, r.ranked.2);
+          rise_ks = (hq, r.rise_ks);
+          rise_bs = r.rise_bs;
+        }
+    by_test false e r (inl n) hp hq =
+        let a = before_edge es at p q h.0 h.1.0 n in
+        record {
+          ks = [];
+          bs = (q.number ∷ r.ks) ∷ r.bs;
+          are = rw (e, r.are) refl;
+          ranked = (((tt, tt), tt), (a, precede_before es at p q hp hq a r.ks r.bs r.rise_bs r.ranked.1), r.ranked);
+          rise_ks = tt;
+          rise_bs = (hq, r.rise_bs);
+        }
+    by_test false e r (inr n) hp hq = absurd (not_aligned p q n.0 n.1 e)
+    by_test true e r (inl (inl n)) hp hq = let x = eq_from (p.x *ℤ q.rise) (q.x *ℤ p.rise) (both_true (int_eq (p.x *ℤ q.rise) (q.x *ℤ p.rise)) (int_eq (p.run *ℤ q.rise) (q.run *ℤ p.rise)) e).0 in absurd (omega (arith, ints))
+    by_test true e r (inl (inr n)) hp hq = let n1 = n.1 in let x = eq_from (p.run *ℤ q.rise) (q.run *ℤ p.rise) (both_true (int_eq (p.x *ℤ q.rise) (q.x *ℤ p.rise)) (int_eq (p.run *ℤ q.rise) (q.run *ℤ p.rise)) e).1 in absurd (omega (arith, ints))
 
 pub ranked_bundles : (es : List LeafEdge) (at : Level) (ps : List Place) → AllByRecursion (IsPlaceOf es at) ps → AreSorted ps → AreRanked es at (bundles_of ps)
 ranked_bundles es at [] h s = tt
@@ -219,9 +219,10 @@ concat-bundles [] = refl
 concat-bundles (p ∷ []) = refl
 concat-bundles (p ∷ (q ∷ ps)) = by_test (is_aligned p q) (concat-bundles (q ∷ ps))
   where
-  concat-joined : (k : ℕ) (bs : List (List ℕ)) → concat (joined k bs) ≡ k ∷ concat bs
-  concat-joined k [] = refl
-  concat-joined k (b ∷ bs) = refl
-  by_test : (t : Bool) → concat (bundles_of (q ∷ ps)) ≡ numbers_of (q ∷ ps) → concat (if t then joined p.number (bundles_of (q ∷ ps)) else (p.number ∷ []) ∷ bundles_of (q ∷ ps)) ≡ p.number ∷ numbers_of (q ∷ ps)
-  by_test true r = concat-joined p.number (bundles_of (q ∷ ps)) ∙ ap (λ (xs : List ℕ). p.number ∷ xs) r
-  by_test false r = ap (λ (xs : List ℕ). p.number ∷ xs) r
+    concat-joined : (k : ℕ) (bs : List (List ℕ)) → concat (joined k bs) ≡ k ∷ concat bs
+    concat-joined k [] = refl
+    concat-joined k (b ∷ bs) = refl
+
+    by_test : (t : Bool) → concat (bundles_of (q ∷ ps)) ≡ numbers_of (q ∷ ps) → concat (if t then joined p.number (bundles_of (q ∷ ps)) else (p.number ∷ []) ∷ bundles_of (q ∷ ps)) ≡ p.number ∷ numbers_of (q ∷ ps)
+    by_test true r = concat-joined p.number (bundles_of (q ∷ ps)) ∙ ap (λ (xs : List ℕ). p.number ∷ xs) r
+    by_test false r = ap (λ (xs : List ℕ). p.number ∷ xs) r

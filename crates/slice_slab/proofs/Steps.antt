@@ -42,9 +42,9 @@ has_first : (p : Place) (ps : List Place) → (b : List ℕ) × (bs : List (List
 has_first p [] = (p.number ∷ [], [], refl)
 has_first p (q ∷ ps) = by_test (is_aligned p q) (has_first q ps)
   where
-  by_test : (t : Bool) → ((b : List ℕ) × (bs : List (List ℕ)) × (bundles_of (q ∷ ps) ≡ b ∷ bs)) → (b : List ℕ) × (bs : List (List ℕ)) × ((if t then joined p.number (bundles_of (q ∷ ps)) else (p.number ∷ []) ∷ bundles_of (q ∷ ps)) ≡ b ∷ bs)
-  by_test true r = (p.number ∷ r.0, r.1, ap (joined p.number) r.2)
-  by_test false r = (p.number ∷ [], bundles_of (q ∷ ps), refl)
+    by_test : (t : Bool) → ((b : List ℕ) × (bs : List (List ℕ)) × (bundles_of (q ∷ ps) ≡ b ∷ bs)) → (b : List ℕ) × (bs : List (List ℕ)) × ((if t then joined p.number (bundles_of (q ∷ ps)) else (p.number ∷ []) ∷ bundles_of (q ∷ ps)) ≡ b ∷ bs)
+    by_test true r = (p.number ∷ r.0, r.1, ap (joined p.number) r.2)
+    by_test false r = (p.number ∷ [], bundles_of (q ∷ ps), refl)
 
 -- a place that ends its bundle
 pub ended : (ks : List ℕ) (ps : List Place) (i : ℕ) (d : Place) → i < length ps → ends_bundle ps i ≡ true → prefixed ks (bundles_of (drop i ps)) ≡ (ks ++ ((get_or ps i d).number ∷ [])) ∷ bundles_of (drop (suc i) ps)
@@ -53,9 +53,9 @@ ended ks (p ∷ []) zero d h e = refl
 ended ks (p ∷ []) (suc i) d h e = absurd (omega arith)
 ended ks (p ∷ (q ∷ ps)) zero d h e = by_test (is_aligned p q) e
   where
-  by_test : (t : Bool) → not t ≡ true → prefixed ks (if t then joined p.number (bundles_of (q ∷ ps)) else (p.number ∷ []) ∷ bundles_of (q ∷ ps)) ≡ (ks ++ (p.number ∷ [])) ∷ bundles_of (q ∷ ps)
-  by_test true e = cc
-  by_test false e = refl
+    by_test : (t : Bool) → not t ≡ true → prefixed ks (if t then joined p.number (bundles_of (q ∷ ps)) else (p.number ∷ []) ∷ bundles_of (q ∷ ps)) ≡ (ks ++ (p.number ∷ [])) ∷ bundles_of (q ∷ ps)
+    by_test true e = cc
+    by_test false e = refl
 ended ks (p ∷ (q ∷ ps)) (suc i) d h e = ended ks (q ∷ ps) i d (omega arith) e
 
 -- one that doesn't
@@ -64,10 +64,10 @@ continued ks [] i d h e = absurd (omega arith)
 continued ks (p ∷ []) i d h e = cc
 continued ks (p ∷ (q ∷ ps)) zero d h e = by_test (is_aligned p q) e (has_first q ps)
   where
-  by_test : (t : Bool) → not t ≡ false → ((b : List ℕ) × (bs : List (List ℕ)) × (bundles_of (q ∷ ps) ≡ b ∷ bs))
-      → prefixed ks (if t then joined p.number (bundles_of (q ∷ ps)) else (p.number ∷ []) ∷ bundles_of (q ∷ ps)) ≡ prefixed (ks ++ (p.number ∷ [])) (bundles_of (q ∷ ps))
-  by_test true e r = rw r.2 (prefixed-joined ks p.number r.0 r.1)
-  by_test false e r = cc
+    by_test : (t : Bool) → not t ≡ false → ((b : List ℕ) × (bs : List (List ℕ)) × (bundles_of (q ∷ ps) ≡ b ∷ bs))
+        → prefixed ks (if t then joined p.number (bundles_of (q ∷ ps)) else (p.number ∷ []) ∷ bundles_of (q ∷ ps)) ≡ prefixed (ks ++ (p.number ∷ [])) (bundles_of (q ∷ ps))
+    by_test true e r = rw r.2 (prefixed-joined ks p.number r.0 r.1)
+    by_test false e r = cc
 continued ks (p ∷ (q ∷ ps)) (suc i) d h e = continued ks (q ∷ ps) i d (omega arith) e
 
 -- the loop's steps

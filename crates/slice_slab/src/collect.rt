@@ -6,12 +6,11 @@ ghost use Rattle.scad_geom.specs.Heights.{IsLevelWithin};
 ghost use Rattle.slice_slab.specs.Bundles.{reaches, reaching, edge_at};
 ghost use Rattle.slice_slab.specs.Places.{numbers_of, IsPlaceOf};
 
-use std::alloc::{AllocError, Global};
-
 use crate::place::Place;
 use scad_geom::line::{high, low, rise, run, x_at};
 use scad_geom::wide::times;
 use scad_geom::{COORDINATE_LIMIT, Edge, LeafEdge, Level};
+use std::alloc::{AllocError, Global};
 
 pub(crate) fn places(
     alloc: Global,
@@ -56,7 +55,12 @@ fn place(edges: &[LeafEdge], i: usize, at: &Level) -> Place
     ensures place { IsPlaceOf edges.now at.now result }
 {
     let e = &edges[i].edge;
-    Place { number: i as u32, x: x_at(e, at), rise: rise(e), run: run(e) }
+    Place {
+        number: i as u32,
+        x: x_at(e, at),
+        rise: rise(e),
+        run: run(e),
+    }
 }
 
 /// Whether an edge isn't flat and reaches both heights.

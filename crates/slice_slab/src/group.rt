@@ -2,13 +2,12 @@
 ghost use Rattle.std.specs.Prelude.{◌≡◌, ◌<◌, ◌∷◌, [], ◌++◌, length, IfOk, OnOk};
 ghost use Rattle.slice_slab.specs.Places.{bundles_of, is_aligned, ends_bundle};
 
-use std::alloc::{AllocError, Global};
-use std::cmp::Ordering;
-use std::mem;
-
 use crate::bundle::Bundle;
 use crate::order::{by_slope, by_x};
 use crate::place::Place;
+use std::alloc::{AllocError, Global};
+use std::cmp::Ordering;
+use std::mem;
 
 pub(crate) fn group(alloc: Global, places: &[Place]) -> Result<Vec<Bundle>, AllocError>
     ensures { IfOk result (λ v. v.items ≡ bundles_of places.now) }

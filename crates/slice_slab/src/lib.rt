@@ -11,6 +11,5 @@ mod group;
 mod order;
 mod place;
 
-
-pub use bundle::Bundle;
 pub use between::slab;
+pub use bundle::Bundle;

@@ -3,10 +3,9 @@ ghost use Rattle.std.specs.Prelude.{◌≡◌, ◌*ℤ◌};
 ghost use Rattle.std.specs.Ordering.{is_lt, is_eq, int_cmp};
 ghost use Rattle.slice_slab.specs.Places.{is_left, leans_left, comes_first};
 
-use std::cmp::Ordering;
-
 use crate::place::Place;
 use scad_geom::wide::times;
+use std::cmp::Ordering;
 
 /// By x, then by slope, then by number.
 #[tactic(auto, using(scad_geom::proofs::Casts::casts, crate::proofs::Ranking::cmp_tests))]

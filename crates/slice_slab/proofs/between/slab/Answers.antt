@@ -22,5 +22,5 @@ returns c =
     let numbers : IsPermutation (numbers_of old) (numbers_of new) = IsPermutation-map (λ (p : Place). p.number) old new permuted in
     let members = subst (λ (xs : List ℕ). IsPermutation xs (concat (bundles_of new))) c.in_ok-places.ensures.numbers (subst (IsPermutation (numbers_of old)) (sym (concat-bundles new)) numbers) in
     IfOk-weaker c.group.result _ _
-      (λ v e. subst (AreBundles c.args.edges.now c.args.lower.now c.args.upper.now) (sym (e ∙ ap bundles_of c.deref.ensures.value)) (record { members = members; ranked = ranked }))
-      c.group.ensures
+    (λ v e. subst (AreBundles c.args.edges.now c.args.lower.now c.args.upper.now) (sym (e ∙ ap bundles_of c.deref.ensures.value)) (record { members = members; ranked = ranked }))
+    c.group.ensures

@@ -11,14 +11,14 @@ use Rattle.slice_slab.proofs.collect.places.Goals.{then-reaches_at+in_ok-push, e
 
 pub edges-preserved : goal.edges-preserved
 edges-preserved c = elim c.if-reaches_at.branch [
-    then-reaches_at+in_ok-push w ↦
+  | then-reaches_at+in_ok-push w ↦
       let items : c.if-reaches_at.out.items ≡ c.edges.out.items ++ (w.place.result ∷ []) = ap (λ v. v.items) w.out-is ∙ w.in_ok-push.ensures.items in
       let rest : List ℕ = reaching (c.edges.i + 1) (drop (c.edges.i + 1) c.args.edges.now) c.args.lower.now c.args.upper.now in
       let whole : List ℕ = reaching 0 c.args.edges.now c.args.lower.now c.args.upper.now in
       let step = reaching_yes c.args.edges.now c.edges.i c.args.lower.now c.args.upper.now c.edges-test.true (sym c.reaches_at.ensures.value ∙ w.if-reaches_at.true) in
       record {
         numbers = ap (λ (xs : List Place). numbers_of xs ++ rest) items
-          ∙ place_step c.edges.out.items w.place.result rest whole c.edges.i w.place.ensures.number (ap (λ (xs : List ℕ). numbers_of c.edges.out.items ++ xs) (sym step) ∙ c.edges.invariant.numbers);
+            ∙ place_step c.edges.out.items w.place.result rest whole c.edges.i w.place.ensures.number (ap (λ (xs : List ℕ). numbers_of c.edges.out.items ++ xs) (sym step) ∙ c.edges.invariant.numbers);
         places = subst (All (IsPlaceOf c.args.edges.now c.args.lower.now)) (sym items) (All-push (IsPlaceOf c.args.edges.now c.args.lower.now) c.edges.out.items w.place.result c.edges.invariant.places w.place.ensures.place);
       }
   | else-reaches_at w ↦
@@ -28,4 +28,5 @@ edges-preserved c = elim c.if-reaches_at.branch [
       record {
         numbers = ap (λ (xs : List Place). numbers_of xs ++ rest) items ∙ ap (λ (xs : List ℕ). numbers_of c.edges.out.items ++ xs) (sym step) ∙ c.edges.invariant.numbers;
         places = subst (All (IsPlaceOf c.args.edges.now c.args.lower.now)) (sym items) c.edges.invariant.places;
-      } ]
+      }
+]
