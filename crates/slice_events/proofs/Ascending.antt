@@ -1,18 +1,18 @@
 -- Sorted heights without repeats are the levels.
-use Rattle.std.proofs.Common.{◌≡◌, ℕ, zero, suc, ◌+◌, ◌<◌, ◌≤◌, ◌⊎◌, inl, inr, Bool, true, false, not, cond, List, [], ◌∷◌, ◌++◌, length, get_or, drop, map, refl, sym, ap, ap₂, ◌∙◌, arith, subst, add-one}
-use lib.IntN.{ℤ, pos, ◌*ℤ◌}
-use lib.Signed.{◌<ℤ◌, ◌≤ℤ◌}
+use Rattle.std.proofs.Common.{◌≡◌, ℕ, zero, suc, ◌+◌, ◌<◌, inl, inr, Bool, true, false, List, [], ◌∷◌, length, get_or, refl, sym, arith, subst, add-one}
+use lib.IntN.{pos, ◌*ℤ◌}
+use lib.Signed.{◌<ℤ◌}
 use Rattle.std.specs.Prelude.{int_lt, if◌then◌else◌}
 use Rattle.std.specs.List.{AllByRecursion, All}
 use Rattle.std.specs.List.Sorted.{IsPermutation, IsSortedBy}
 use Rattle.std.specs.Cmp.{IsStrictWeakOrder}
-use Rattle.std.proofs.lemmas.Int.{ints, by_lt_z}
+use Rattle.std.proofs.lemmas.Int.{ints}
 use Rattle.std.proofs.lemmas.List.Elements.{recursion_from_All, All-from_recursion}
 use Rattle.std.proofs.lemmas.List.Sorted.{All-permutation, IsPermutation-map, IsPermutation-sym}
 use Rattle.scad_geom.specs.declared.level.Level.{Level}
 use Rattle.scad_geom.specs.declared.level.LeafEdge.{LeafEdge}
-use Rattle.scad_geom.specs.Heights.{IsLower, IsAtMost, IsSameHeight, heights, IsLevelWithin}
-use Rattle.scad_geom.proofs.Heights.{at_most_chain, at_most_then_lower, lower_then_at_most, lower_weak}
+use Rattle.scad_geom.specs.Heights.{IsLower, IsAtMost, IsSameHeight, heights}
+use Rattle.scad_geom.proofs.Heights.{at_most_chain, lower_then_at_most}
 use Rattle.slice_events.specs.declared.height.Height.{Height}
 use Rattle.slice_events.specs.Levels.{IsRising, HasHeight, AreLevels}
 use Rattle.slice_events.specs.Collected.{levels_in, IsClimbing, distinct_of}

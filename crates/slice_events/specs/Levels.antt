@@ -1,5 +1,5 @@
 -- The levels of a list of edges: the distinct heights of their ends and meetings, ascending. And how many pairs cross.
-use Rattle.std.specs.Prelude.{Bool, not, ◌&&◌, ◌||◌, List, [], ◌∷◌, ℕ, ◌+◌, ◌⊎◌, ⊤, ℤ, pos, ◌<ℤ◌, count_by}
+use Rattle.std.specs.Prelude.{Bool, not, ◌&&◌, ◌||◌, List, [], ◌∷◌, ℕ, ◌+◌, ◌⊎◌, ⊤, pos, ◌<ℤ◌, count_by}
 use Rattle.std.specs.List.{AllByRecursion}
 use Rattle.std.specs.Ordering.{int_eq}
 use Rattle.scad_geom.specs.declared.point.Pt.{Pt}

@@ -1,14 +1,14 @@
 -- Sorted places give the bundles.
-use Rattle.std.proofs.Common.{◌≡◌, ℕ, zero, suc, ◌+◌, ◌<◌, ◌≤◌, ◌⊎◌, inl, inr, Bool, true, false, not, ◌&&◌, ◌||◌, cond, List, [], ◌∷◌, ◌++◌, length, get_or, map, refl, sym, ap, ap₂, ◌∙◌, arith, subst, add-one}
+use Rattle.std.proofs.Common.{◌≡◌, ℕ, zero, suc, ◌+◌, ◌<◌, ◌≤◌, ◌⊎◌, inl, inr, Bool, true, false, not, ◌&&◌, ◌||◌, cond, List, [], ◌∷◌, length, get_or, refl, sym, ap, ◌∙◌, arith, subst, add-one}
 use lib.IntN.{ℤ, pos, ◌*ℤ◌}
-use lib.Signed.{◌<ℤ◌, ◌≤ℤ◌}
+use lib.Signed.{◌<ℤ◌}
 use Rattle.std.specs.Prelude.{int_lt, nat_lt, if◌then◌else◌}
 use lib.Dec.{T, nltb→le}
 use Rattle.std.specs.Ordering.{int_eq, is_eq}
 use Rattle.std.specs.declared.cmp.Ordering.TheVariants.{Less, Equal, Greater}
-use Rattle.std.specs.List.{AllByRecursion, All, concat}
-use Rattle.std.specs.List.Sorted.{IsPermutation, IsSortedBy}
-use Rattle.std.proofs.lemmas.Int.{ints, by_lt_z}
+use Rattle.std.specs.List.{AllByRecursion, concat}
+use Rattle.std.specs.List.Sorted.{IsSortedBy}
+use Rattle.std.proofs.lemmas.Int.{ints}
 use Rattle.scad_geom.specs.declared.level.Level.{Level}
 use Rattle.scad_geom.specs.declared.level.LeafEdge.{LeafEdge}
 use Rattle.scad_geom.specs.declared.point.Edge.{Edge}
@@ -16,8 +16,8 @@ use Rattle.scad_geom.specs.Line.{rise, run, x_at}
 use Rattle.scad_geom.specs.Heights.{IsLower, IsAtMost, IsSameHeight, IsBefore, AreAligned}
 use Rattle.scad_geom.proofs.Heights.{at_most_chain, at_most_then_lower, lower_then_at_most}
 use Rattle.slice_slab.specs.declared.place.Place.{Place}
-use Rattle.slice_slab.specs.Bundles.{no_edge, edge_at, Ascends, IsBundle, Precedes, AreRanked, AreBundles, reaching}
-use Rattle.slice_slab.specs.Places.{is_left, leans_left, first_by, comes_first, IsPlaceOf, numbers_of, is_aligned, joined, bundles_of, AreSorted}
+use Rattle.slice_slab.specs.Bundles.{edge_at, Precedes, AreRanked}
+use Rattle.slice_slab.specs.Places.{is_left, leans_left, comes_first, IsPlaceOf, numbers_of, is_aligned, joined, bundles_of, AreSorted}
 
 -- ---- fractions that are the same, or one below the other
 same_chain : (p q r : Level) → pos 0 <ℤ p.d → pos 0 <ℤ q.d → pos 0 <ℤ r.d → IsSameHeight p q → IsSameHeight q r → IsSameHeight p r

@@ -1,10 +1,10 @@
 -- The steps of the loops over edges and places.
-use Rattle.std.proofs.Common.{◌≡◌, ℕ, zero, suc, ◌+◌, ◌<◌, ◌≤◌, Bool, true, false, not, cond, List, [], ◌∷◌, ◌++◌, length, get_or, drop, map, refl, sym, ap, ap₂, ◌∙◌, arith, subst, add-one, append_assoc}
+use Rattle.std.proofs.Common.{◌≡◌, ℕ, zero, suc, ◌+◌, ◌<◌, Bool, true, false, not, List, [], ◌∷◌, ◌++◌, length, get_or, drop, refl, sym, ap, ◌∙◌, arith, add-one, append_assoc}
 use Rattle.std.specs.Prelude.{if◌then◌else◌}
 use Rattle.scad_geom.specs.declared.level.Level.{Level}
 use Rattle.scad_geom.specs.declared.level.LeafEdge.{LeafEdge}
 use Rattle.slice_slab.specs.declared.place.Place.{Place}
-use Rattle.slice_slab.specs.Bundles.{no_edge, edge_at, reaches, reaching}
+use Rattle.slice_slab.specs.Bundles.{edge_at, reaches, reaching}
 use Rattle.slice_slab.specs.Places.{is_aligned, joined, bundles_of, prefixed, ends_bundle, numbers_of}
 
 reaching_at : (k : ℕ) (es : List LeafEdge) (i : ℕ) (l u : Level) → i < length es

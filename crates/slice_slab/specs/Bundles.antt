@@ -1,5 +1,5 @@
 -- The edges between two neighbouring heights, from left to right, with those that coincide in one bundle.
-use Rattle.std.specs.Prelude.{Bool, ◌&&◌, if◌then◌else◌, List, [], ◌∷◌, ℕ, ◌+◌, ◌≤◌, ⊤, ℤ, pos, ◌*ℤ◌, int_lt, int_le, slice_index_or}
+use Rattle.std.specs.Prelude.{Bool, ◌&&◌, if◌then◌else◌, List, [], ◌∷◌, ℕ, ◌+◌, ◌≤◌, ⊤, pos, ◌*ℤ◌, int_lt, int_le, slice_index_or}
 use Rattle.std.specs.List.{AllByRecursion, concat}
 use Rattle.std.specs.List.Sorted.{IsPermutation}
 use Rattle.scad_geom.specs.declared.point.Edge.{Edge}

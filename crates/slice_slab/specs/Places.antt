@@ -1,5 +1,5 @@
 -- The order of places: by x, then by slope, then by number.
-use Rattle.std.specs.Prelude.{Bool, not, List, [], ◌∷◌, ◌++◌, map, length, ℕ, zero, suc, true, false, ◌<◌, ◌≡◌, if◌then◌else◌, pos, ◌&&◌, ◌||◌, ◌*ℤ◌, int_lt, nat_lt}
+use Rattle.std.specs.Prelude.{Bool, not, List, [], ◌∷◌, ◌++◌, map, length, ℕ, zero, suc, true, false, ◌<◌, ◌≡◌, if◌then◌else◌, ◌&&◌, ◌||◌, ◌*ℤ◌, int_lt, nat_lt}
 use Rattle.std.specs.Ordering.{int_eq}
 use Rattle.scad_geom.specs.declared.level.Level.{Level}
 use Rattle.scad_geom.specs.declared.level.LeafEdge.{LeafEdge}

@@ -1,5 +1,5 @@
 -- The rest of the list, without its first.
-use Rattle.std.proofs.Common.{◌≡◌, ◌+◌, drop, arith, add-one}
+use Rattle.std.proofs.Common.{arith, add-one}
 use Rattle.slice_events.proofs.Steps.{rest_is, drop_one}
 use Rattle.slice_events.proofs.count.crossings.Goals as goal
 

@@ -1,5 +1,5 @@
 -- A height that stays is kept.
-use Rattle.std.proofs.Common.{◌≡◌, ◌∷◌, [], ◌++◌, ◌+◌, drop, get_or, arith, sym, ap, ◌∙◌, subst, List}
+use Rattle.std.proofs.Common.{◌++◌, ◌+◌, drop, get_or, sym, ap, ◌∙◌, subst, List}
 use Rattle.std.specs.List.{All}
 use Rattle.std.proofs.lemmas.List.Elements.{All-push}
 use Rattle.scad_geom.specs.declared.level.Level.{Level}

@@ -1,8 +1,7 @@
 -- The closure compares as the strict order does.
-use Rattle.std.proofs.Common.{◌≡◌, rules, ◌∙◌, ap}
+use Rattle.std.proofs.Common.{rules}
 use Rattle.std.proofs.lemmas.Result.{on_ok_weaker}
 use Rattle.std.proofs.lemmas.List.Sorted.{answers_always}
-use Rattle.std.specs.Ordering.{is_lt}
 use Rattle.slice_events.proofs.Ascending.{is_lower, lower_order, climbing_from}
 use Rattle.slice_events.proofs.Steps.{is_lt-int_cmp}
 use Rattle.slice_events.proofs.distinct.sort.Goals as goal

@@ -1,6 +1,6 @@
 -- The last height stays, and one that lies below the next.
-use Rattle.std.proofs.Common.{◌≡◌, ◌+◌, ◌<◌, suc, length, get_or, sym, ap, ◌∙◌, arith, refl, add-one, eq-eqb}
-use Rattle.std.specs.Ordering.{is_lt, int_cmp}
+use Rattle.std.proofs.Common.{◌+◌, ◌<◌, suc, length, get_or, sym, ap, ◌∙◌, arith, add-one, eq-eqb}
+use Rattle.std.specs.Ordering.{is_lt}
 use Rattle.std.specs.Prelude.{◌*ℤ◌}
 use Rattle.slice_events.specs.declared.height.Height.{Height}
 use Rattle.slice_events.proofs.Steps.{stays_last, stays_next, is_lt-int_cmp}

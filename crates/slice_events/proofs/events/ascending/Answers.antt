@@ -1,7 +1,6 @@
 -- Sorting and dropping repeats leaves the levels.
-use Rattle.std.proofs.Common.{◌≡◌, sym, ap, ◌∙◌, subst, List}
+use Rattle.std.proofs.Common.{sym, ap, ◌∙◌, subst}
 use Rattle.std.proofs.lemmas.Result.{IfOk-weaker}
-use Rattle.scad_geom.specs.declared.level.Level.{Level}
 use Rattle.slice_events.specs.Levels.{AreLevels}
 use Rattle.slice_events.specs.Collected.{levels_in, distinct_of}
 use Rattle.slice_events.proofs.Ascending.{sorted_levels}

@@ -1,5 +1,5 @@
 -- The bounds hold of the height itself.
-use Rattle.std.proofs.Common.{◌≡◌, subst, sym}
+use Rattle.std.proofs.Common.{subst, sym}
 use Rattle.scad_geom.specs.declared.level.Level.{Level}
 use Rattle.scad_geom.specs.Heights.{IsLevelWithin}
 use Rattle.scad_geom.proofs.Bounds.{meeting_within}

@@ -1,13 +1,13 @@
 -- Sorted places, those that coincide together, are the bundles.
-use Rattle.std.proofs.Common.{◌≡◌, sym, ap, ◌∙◌, subst, List, ℕ}
+use Rattle.std.proofs.Common.{sym, ap, ◌∙◌, subst, List, ℕ}
 use Rattle.std.specs.List.Sorted.{IsPermutation}
 use Rattle.std.specs.List.{AllByRecursion, concat}
 use Rattle.std.proofs.lemmas.Result.{IfOk-weaker}
 use Rattle.std.proofs.lemmas.List.Elements.{recursion_from_All}
 use Rattle.std.proofs.lemmas.List.Sorted.{All-permutation, IsPermutation-map}
 use Rattle.slice_slab.specs.declared.place.Place.{Place}
-use Rattle.slice_slab.specs.Bundles.{AreBundles, AreRanked, reaching}
-use Rattle.slice_slab.specs.Places.{IsPlaceOf, numbers_of, bundles_of, AreSorted}
+use Rattle.slice_slab.specs.Bundles.{AreBundles, AreRanked}
+use Rattle.slice_slab.specs.Places.{IsPlaceOf, numbers_of, bundles_of}
 use Rattle.slice_slab.proofs.Bundling.{ranked_bundles, concat-bundles}
 use Rattle.slice_slab.proofs.between.slab.Goals as goal
 

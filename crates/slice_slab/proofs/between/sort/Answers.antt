@@ -1,5 +1,5 @@
 -- The comparison is that of the strict order.
-use Rattle.std.proofs.Common.{◌≡◌, rules}
+use Rattle.std.proofs.Common.{rules}
 use Rattle.std.proofs.lemmas.Result.{on_ok_weaker}
 use Rattle.std.proofs.lemmas.List.Sorted.{answers_always}
 use Rattle.slice_slab.specs.Places.{comes_first}

@@ -1,5 +1,5 @@
 -- A place goes to the numbers so far, which become a bundle where it ends one.
-use Rattle.std.proofs.Common.{◌≡◌, ◌∷◌, [], ◌++◌, ◌+◌, drop, get_or, sym, ap, ap₂, ◌∙◌, subst, List, ℕ}
+use Rattle.std.proofs.Common.{◌≡◌, ◌∷◌, [], ◌++◌, ◌+◌, drop, get_or, sym, ap, ap₂, ◌∙◌, List, ℕ}
 use Rattle.slice_slab.specs.declared.place.Place.{Place}
 use Rattle.slice_slab.specs.Places.{bundles_of, prefixed}
 use Rattle.slice_slab.proofs.Steps.{close_step, open_step}

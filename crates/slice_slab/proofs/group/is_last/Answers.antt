@@ -1,5 +1,5 @@
 -- The last place ends its bundle, and one that doesn't coincide with the next.
-use Rattle.std.proofs.Common.{◌≡◌, ◌+◌, ◌<◌, suc, length, get_or, sym, ap, ap₂, ◌∙◌, arith, add-one, eq-eqb, not}
+use Rattle.std.proofs.Common.{◌+◌, ◌<◌, suc, length, sym, ap, ap₂, ◌∙◌, arith, add-one, eq-eqb, not}
 use Rattle.slice_slab.specs.Places.{is_aligned}
 use Rattle.slice_slab.proofs.Steps.{last_ends, next_ends}
 use Rattle.slice_slab.proofs.group.is_last.Goals as goal
