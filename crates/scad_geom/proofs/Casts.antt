@@ -1,4 +1,4 @@
--- What a signed value is once it was cast to its bits and back, as a call's answer and arguments are.
+-- A signed value that was cast to its bits and back, as the answer and the arguments of a call are.
 use Rattle.std.proofs.lemmas.Int.{to_z-of_z}
 
 -- for `using(..)` on functions that chain calls over signed numbers

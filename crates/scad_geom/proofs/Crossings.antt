@@ -7,6 +7,8 @@ use Rattle.scad_geom.specs.Winding.{wind, crossing, doubled_edge}
 
 -- one more crossing goes from what is left to the sum
 pub wind_more : (es : List Edge) (i : ℕ) (d : Edge) (x y sum : ℤ) → i < length es →
-    sum +ℤ wind (drop i es) x y ≡ (sum +ℤ crossing (doubled_edge (get_or es i d)) x y) +ℤ wind (drop (i + 1) es) x y
+    sum +ℤ wind (drop i es) x y
+    ≡ (sum +ℤ crossing (doubled_edge (get_or es i d)) x y) +ℤ wind (drop (i + 1) es) x y
 wind_more es i d x y sum here =
-    ap (λ rest. sum +ℤ rest) (at_drop_more (λ left. wind left x y) es i d here) ∙ sym (+ℤ_assoc sum _ _)
+    ap (λ rest. sum +ℤ rest) (at_drop_more (λ left. wind left x y) es i d here)
+    ∙ sym (+ℤ_assoc sum _ _)

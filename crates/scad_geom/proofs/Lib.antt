@@ -12,4 +12,5 @@ pub mod Doubled
 pub mod Bits
 pub mod Casts
 pub mod Crossings
+pub mod Signs
 pub mod Square

@@ -1,10 +1,31 @@
--- Signs of products of whole numbers.
-use Rattle.std.proofs.Common.{◌≡◌, ℕ, zero, suc, ◌+◌, ◌*◌, ◌<◌, ◌≤◌, Bool, true, false, refl, sym, ap, ◌∙◌, arith, subst}
-use lib.IntN.{ℤ, pos, negsuc, ◌+ℤ◌, ◌-ℤ◌, ◌*ℤ◌, neg_ℤ, zero-*ℤ}
-use lib.Signed.{◌<ℤ◌, ◌≤ℤ◌, lt_z, le_z}
-use Rattle.std.proofs.lemmas.Int.{ints, by_lt_z}
-use borrow.Author.Differences.{up, down, same_in, sum_is_lem, product_is, neg_is, lt_out, le_out, below_in, at_most_in}
-use Rattle.scad_geom.proofs.Integers.{up_mul, down_mul}
+-- Sums and products of whole numbers, and their signs.
+use Rattle.std.proofs.Common.{◌≡◌, ℕ, zero, suc, ◌*◌, ◌≤◌, refl, sym, arith}
+use Rattle.std.proofs.Common.{ℤ, pos, negsuc, ◌-ℤ◌, ◌*ℤ◌, neg_ℤ, int_lt, ◌<ℤ◌}
+use lib.Signed.{◌≤ℤ◌}
+use Rattle.std.proofs.lemmas.Int.{ints}
+use Rattle.std.proofs.Math.IntN.{zero-*ℤ}
+
+pub sub-self : (z : ℤ) → z -ℤ z ≡ pos 0
+sub-self z = omega (arith, ints)
+
+pub sub-zero : (z : ℤ) → z -ℤ pos 0 ≡ z
+sub-zero z = omega (arith, ints)
+
+pub zero-sub : (z : ℤ) → pos 0 -ℤ z ≡ neg_ℤ z
+zero-sub z = omega (arith, ints)
+
+pub one-mul : (z : ℤ) → pos 1 *ℤ z ≡ z
+one-mul z = omega (arith, ints)
+
+pub minus_one-mul : (z : ℤ) → negsuc 0 *ℤ z ≡ neg_ℤ z
+minus_one-mul z = omega (arith, ints)
+
+-- a product with a factor above 0 is below 0 where the other factor is
+pub product_is_negative : (k d : ℤ) → pos 0 <ℤ k → int_lt (pos 0) (neg_ℤ (k *ℤ d)) ≡ int_lt d (pos 0)
+product_is_negative (pos zero) d positive = absurd (omega (arith, ints))
+product_is_negative (pos (suc k)) (pos n) positive = grind (arith, ints)
+product_is_negative (pos (suc k)) (negsuc n) positive = grind (arith, ints)
+product_is_negative (negsuc k) d positive = absurd (omega (arith, ints))
 
 mul_ge : (a b : ℕ) → 1 ≤ a → 1 ≤ b → 1 ≤ a * b
 mul_ge a b p q = grind arith

@@ -1,145 +1,150 @@
--- The winding number of a square's outline.
-use Rattle.std.proofs.Common.{◌≡◌, ◌≢◌, ℕ, zero, suc, ◌*◌, Bool, true, false, not, ◌&&◌, if◌then◌else◌, ℤ, pos, negsuc, ◌+ℤ◌, ◌-ℤ◌, ◌*ℤ◌, neg_ℤ, int_lt, ◌<ℤ◌, refl, sym, ◌∙◌, arith}
+-- The winding number of a square's outline, by the tests on which it depends.
+use Rattle.std.proofs.Common.{◌≡◌, ◌≢◌, ℕ, ◌*◌, Bool, true, false, not, ◌&&◌, if◌then◌else◌}
+use Rattle.std.proofs.Common.{ℤ, pos, negsuc, ◌+ℤ◌, ◌-ℤ◌, ◌*ℤ◌, neg_ℤ, int_lt, ◌<ℤ◌, refl, ◌∙◌, arith}
 use Rattle.std.proofs.lemmas.Int.{ints}
 use Rattle.std.proofs.Math.IntN.{zero-*ℤ, neg_ℤ-neg_ℤ, ℤ_discrete}
+use Rattle.scad_geom.specs.declared.point.Edge.{Edge}
 use Rattle.scad_geom.specs.declared.half.Half.TheVariants.{Cell}
-use Rattle.scad_geom.specs.Winding.{wind, counted, doubled}
+use Rattle.scad_geom.specs.Winding.{wind, counted, doubled, side_of}
 use Rattle.scad_geom.specs.Loop.{sides}
-use Rattle.scad_geom.specs.Square.{square, square_wind, IsStrictlyWithin, IsInsideSquare, SquareWindsOnce}
+use Rattle.scad_geom.specs.Square.{square, square_wind, IsStrictlyWithin, IsCentreInside, SquareWindsOnce}
+use Rattle.scad_geom.proofs.Signs.{sub-self, sub-zero, zero-sub, one-mul, minus_one-mul}
+use Rattle.scad_geom.proofs.Integers.{neg_mul}
+use Rattle.scad_geom.proofs.Signs.{product_is_negative}
 
-neg-mul : (a b : ℤ) → neg_ℤ a *ℤ b ≡ neg_ℤ (a *ℤ b)
-neg-mul (pos zero) b = rw (zero-*ℤ b)
-neg-mul (pos (suc n)) (pos m) = refl
-neg-mul (pos (suc n)) (negsuc m) = sym (neg_ℤ-neg_ℤ (pos (suc n * suc m)))
-neg-mul (negsuc n) (pos m) = sym (neg_ℤ-neg_ℤ (pos (suc n * m)))
-neg-mul (negsuc n) (negsuc m) = refl
+-- the upright sides of a square with the side k
+abbrev right_side : ℤ → Edge
+right_side k = record { a = record { x = k; y = pos 0 }; b = record { x = k; y = k } }
 
--- the sign of a product with a factor above 0
-below_zero : (k d : ℤ) → pos 0 <ℤ k → int_lt (pos 0) (neg_ℤ (k *ℤ d)) ≡ int_lt d (pos 0)
-below_zero (pos zero) d h = absurd (omega (arith, ints))
-below_zero (pos (suc k)) (pos n) h = grind (arith, ints)
-below_zero (pos (suc k)) (negsuc n) h = grind (arith, ints)
-below_zero (negsuc k) d h = absurd (omega (arith, ints))
+abbrev left_side : ℤ → Edge
+left_side k = record { a = record { x = pos 0; y = k }; b = record { x = pos 0; y = pos 0 } }
 
-sub-self : (z : ℤ) → z -ℤ z ≡ pos 0
-sub-self z = omega (arith, ints)
+right_area : (k x y : ℤ) → pos 1 *ℤ side_of (right_side k) x y ≡ neg_ℤ (k *ℤ (x -ℤ k))
+right_area k x y = rw (one-mul, sub-self k, sub-zero k, zero-*ℤ, zero-sub)
 
-sub-zero : (z : ℤ) → z -ℤ pos 0 ≡ z
-sub-zero z = omega (arith, ints)
+left_area : (k x y : ℤ) → negsuc 0 *ℤ side_of (left_side k) x y ≡ neg_ℤ (k *ℤ x)
+left_area k x y =
+    rw (zero-*ℤ, zero-sub, minus_one-mul, zero-sub k, sub-zero x, neg_ℤ-neg_ℤ (neg_ℤ k *ℤ x), neg_mul k x)
 
-zero-sub : (z : ℤ) → pos 0 -ℤ z ≡ neg_ℤ z
-zero-sub z = omega (arith, ints)
+-- each lies right of the point exactly where the point's x is less than its own
+right_is_right : (k x y : ℤ) → pos 0 <ℤ k →
+    int_lt (pos 0) (pos 1 *ℤ side_of (right_side k) x y) ≡ int_lt x k
+right_is_right k x y positive =
+    rw (right_area k x y) (product_is_negative k (x -ℤ k) positive ∙ grind (arith, ints))
 
-one-mul : (z : ℤ) → pos 1 *ℤ z ≡ z
-one-mul z = omega (arith, ints)
+left_is_right : (k x y : ℤ) → pos 0 <ℤ k →
+    int_lt (pos 0) (negsuc 0 *ℤ side_of (left_side k) x y) ≡ int_lt x (pos 0)
+left_is_right k x y positive = rw (left_area k x y) (product_is_negative k x positive)
 
-minus_one-mul : (z : ℤ) → negsuc 0 *ℤ z ≡ neg_ℤ z
-minus_one-mul z = omega (arith, ints)
-
--- on which side of the square's right side and left side a point lies
-right_side : (k x y : ℤ) → pos 1 *ℤ ((k -ℤ k) *ℤ (y -ℤ pos 0) -ℤ (k -ℤ pos 0) *ℤ (x -ℤ k)) ≡ neg_ℤ (k *ℤ (x -ℤ k))
-right_side k x y = rw (one-mul, sub-self k, sub-zero k, zero-*ℤ, zero-sub)
-
-left_side : (k x y : ℤ) → negsuc 0 *ℤ ((pos 0 -ℤ pos 0) *ℤ (y -ℤ k) -ℤ (pos 0 -ℤ k) *ℤ (x -ℤ pos 0)) ≡ neg_ℤ (k *ℤ x)
-left_side k x y =
-    rw (zero-*ℤ, zero-sub, minus_one-mul, zero-sub k, sub-zero x, neg_ℤ-neg_ℤ, neg-mul k x)
-
-right_of : (k x y : ℤ) → pos 0 <ℤ k → int_lt (pos 0) (pos 1 *ℤ ((k -ℤ k) *ℤ (y -ℤ pos 0) -ℤ (k -ℤ pos 0) *ℤ (x -ℤ k))) ≡ int_lt x k
-right_of k x y h = rw (right_side k x y) (below_zero k (x -ℤ k) h ∙ grind (arith, ints))
-
-left_of : (k x y : ℤ) → pos 0 <ℤ k → int_lt (pos 0) (negsuc 0 *ℤ ((pos 0 -ℤ pos 0) *ℤ (y -ℤ k) -ℤ (pos 0 -ℤ k) *ℤ (x -ℤ pos 0))) ≡ int_lt x (pos 0)
-left_of k x y h = rw (left_side k x y) (below_zero k x h)
-
--- a crossing by the edge's passage and its side
+-- a crossing by an edge's passage and the side on which the point lies
 abbrev crossed : ℤ → ℤ → ℤ
 crossed passage side = if int_lt (pos 0) (passage *ℤ side) then passage else pos 0
 
-same : (b : Bool) → (if b then pos 0 else pos 0) ≡ pos 0
-same true = refl
-same false = refl
+both_zero : (b : Bool) → (if b then pos 0 else pos 0) ≡ pos 0
+both_zero true = refl
+both_zero false = refl
 
 -- an edge that does not pass the height crosses nothing
-no_passage : (side : ℤ) → crossed (pos 0) side ≡ pos 0
-no_passage side = same (int_lt (pos 0) (pos 0 *ℤ side))
+crossed-zero : (side : ℤ) → crossed (pos 0) side ≡ pos 0
+crossed-zero side = both_zero (int_lt (pos 0) (pos 0 *ℤ side))
 
--- the crossings of the four sides, where `below` and `under` say whether the height is below the square's lower and
--- upper side, and `right` and `left` whether the point is left of its right and left side
+-- the crossings of the lower, right, upper and left side, where the tests say whether the height is
+-- below the lower and below the upper side
 abbrev four : Bool → Bool → ℤ → ℤ → ℤ → ℤ → ℤ
-four below under bottom right top left =
-    crossed (counted below -ℤ counted below) bottom
-    +ℤ (crossed (counted under -ℤ counted below) right
-    +ℤ (crossed (counted under -ℤ counted under) top +ℤ (crossed (counted below -ℤ counted under) left +ℤ pos 0)))
+four lower upper a b c d =
+    crossed (counted lower -ℤ counted lower) a
+    +ℤ (crossed (counted upper -ℤ counted lower) b
+    +ℤ (crossed (counted upper -ℤ counted upper) c
+    +ℤ (crossed (counted lower -ℤ counted upper) d +ℤ pos 0)))
 
-abbrev told : Bool → Bool → Bool → Bool → ℤ
-told below under right left = if under && not below then counted right -ℤ counted left else pos 0
+-- their sum, where two more tests say whether the point is left of the right and of the left side
+abbrev turns_by : Bool → Bool → Bool → Bool → ℤ
+turns_by lower upper right left =
+    if upper && not lower then counted right -ℤ counted left else pos 0
 
-told_right : (r l : Bool) → pos 0 +ℤ ((if r then pos 1 else pos 0) +ℤ (pos 0 +ℤ ((if l then negsuc 0 else pos 0) +ℤ pos 0))) ≡ counted r -ℤ counted l
-told_right true true = refl
-told_right true false = refl
-told_right false true = refl
-told_right false false = refl
+upright_sum : (r l : Bool) →
+    pos 0 +ℤ ((if r then pos 1 else pos 0) +ℤ (pos 0 +ℤ ((if l then negsuc 0 else pos 0) +ℤ pos 0)))
+    ≡ counted r -ℤ counted l
+upright_sum true true = refl
+upright_sum true false = refl
+upright_sum false true = refl
+upright_sum false false = refl
 
-four_told : (below under : Bool) (bottom right top left : ℤ) (r l : Bool) → (below ≡ true → under ≡ true) →
-    (below ≡ false → under ≡ true → (int_lt (pos 0) (pos 1 *ℤ right) ≡ r) × (int_lt (pos 0) (negsuc 0 *ℤ left) ≡ l)) →
-    four below under bottom right top left ≡ told below under r l
-four_told true true bottom right top left r l ordered signs = simp no_passage
-four_told true false bottom right top left r l ordered signs = let never : false ≡ true = ordered refl in cc
-four_told false false bottom right top left r l ordered signs = simp no_passage
-four_told false true bottom right top left r l ordered signs =
+four_by : (lower upper : Bool) (a b c d : ℤ) (right left : Bool) → (lower ≡ true → upper ≡ true) →
+    (lower ≡ false → upper ≡ true →
+    (int_lt (pos 0) (pos 1 *ℤ b) ≡ right) × (int_lt (pos 0) (negsuc 0 *ℤ d) ≡ left)) →
+    four lower upper a b c d ≡ turns_by lower upper right left
+four_by true true a b c d right left ordered signs = simp crossed-zero
+four_by true false a b c d right left ordered signs = let never : false ≡ true = ordered refl in cc
+four_by false false a b c d right left ordered signs = simp crossed-zero
+four_by false true a b c d right left ordered signs =
     let told = signs refl refl in
-    rw (told.0, told.1) (simp no_passage (told_right r l))
+    rw (told.0, told.1) (simp crossed-zero (upright_sum right left))
 
--- the winding number of the outline of a square with the side k, numbers doubled
-square_told : (side : ℕ) (x y : ℤ) → wind (sides (square side)) x y ≡ told (int_lt y (pos 0)) (int_lt y (pos (2 * side))) (int_lt x (pos (2 * side))) (int_lt x (pos 0))
-square_told side x y =
+-- the winding number round a point whose coordinates are doubled
+wind-square : (side : ℕ) (x y : ℤ) →
+    wind (sides (square side)) x y
+    ≡ turns_by (int_lt y (pos 0)) (int_lt y (pos (2 * side))) (int_lt x (pos (2 * side))) (int_lt x (pos 0))
+wind-square side x y =
     let k = pos (2 * side) in
-    four_told _ _ _ _ _ _ _ _
+    four_by _ _ _ _ _ _ _ _
     (λ below. grind (arith, ints))
     (λ not_below under.
     let positive : pos 0 <ℤ k = grind (arith, ints) in
-    (right_of k x y positive, left_of k x y positive))
+    (right_is_right k x y positive, left_is_right k x y positive))
 
--- where the four tests leave a winding number that isn't 0, they are those of a point inside
-told_only : (below under r l : Bool) → (l ≡ true → r ≡ true) → told below under r l ≢ pos 0 →
-    (below ≡ false) × (under ≡ true) × (r ≡ true) × (l ≡ false)
-told_only true true r l ordered turns = absurd (turns refl)
-told_only true false r l ordered turns = absurd (turns refl)
-told_only false false r l ordered turns = absurd (turns refl)
-told_only false true true true ordered turns = absurd (turns refl)
-told_only false true true false ordered turns = (refl, refl, refl, refl)
-told_only false true false true ordered turns = let never : false ≡ true = ordered refl in cc
-told_only false true false false ordered turns = absurd (turns refl)
+-- where that isn't 0, the tests are those of a point inside
+turns_only : (lower upper right left : Bool) → (left ≡ true → right ≡ true) →
+    turns_by lower upper right left ≢ pos 0 →
+    (lower ≡ false) × (upper ≡ true) × (right ≡ true) × (left ≡ false)
+turns_only true true right left ordered turns = absurd (turns refl)
+turns_only true false right left ordered turns = absurd (turns refl)
+turns_only false false right left ordered turns = absurd (turns refl)
+turns_only false true true true ordered turns = absurd (turns refl)
+turns_only false true true false ordered turns = (refl, refl, refl, refl)
+turns_only false true false true ordered turns = let never : false ≡ true = ordered refl in cc
+turns_only false true false false ordered turns = absurd (turns refl)
 
-pub inside_wind : (side : ℕ) (i j : ℤ) → IsInsideSquare side (doubled Cell i) (doubled Cell j) → square_wind side i j ≡ pos 1
-inside_wind side i j within =
-    let below : int_lt (doubled Cell j) (pos 0) ≡ false = grind (arith, ints) in
-    let under : int_lt (doubled Cell j) (pos (2 * side)) ≡ true = grind (arith, ints) in
-    let right : int_lt (doubled Cell i) (pos (2 * side)) ≡ true = grind (arith, ints) in
-    let left : int_lt (doubled Cell i) (pos 0) ≡ false = grind (arith, ints) in
-    square_told side (doubled Cell i) (doubled Cell j) ∙ rw (below, under, right, left)
-
--- a doubled cell centre is odd, so it is above 0 where it isn't below it
+-- a doubled centre is odd, so it is above 0 where it isn't below
 centre_above : (i : ℤ) → int_lt (doubled Cell i) (pos 0) ≡ false → pos 0 <ℤ doubled Cell i
-centre_above (pos n) h = omega (arith, ints)
-centre_above (negsuc n) h = grind (arith, ints)
+centre_above (pos n) test = omega (arith, ints)
+centre_above (negsuc n) test = grind (arith, ints)
 
 centre_within : (side : ℕ) (i : ℤ) → int_lt (doubled Cell i) (pos 0) ≡ false →
     int_lt (doubled Cell i) (pos (2 * side)) ≡ true → IsStrictlyWithin side (doubled Cell i)
-centre_within side i left right = record { above = centre_above i left; below = grind (arith, ints) }
+centre_within side i left right = record {
+  above = centre_above i left;
+  below = grind (arith, ints);
+}
 
-pub wind_inside : (side : ℕ) (i j : ℤ) → square_wind side i j ≢ pos 0 → IsInsideSquare side (doubled Cell i) (doubled Cell j)
+pub inside_wind : (side : ℕ) (i j : ℤ) → IsCentreInside side i j → square_wind side i j ≡ pos 1
+inside_wind side i j within =
+    let lower : int_lt (doubled Cell j) (pos 0) ≡ false = grind (arith, ints) in
+    let upper : int_lt (doubled Cell j) (pos (2 * side)) ≡ true = grind (arith, ints) in
+    let right : int_lt (doubled Cell i) (pos (2 * side)) ≡ true = grind (arith, ints) in
+    let left : int_lt (doubled Cell i) (pos 0) ≡ false = grind (arith, ints) in
+    wind-square side (doubled Cell i) (doubled Cell j) ∙ rw (lower, upper, right, left)
+
+pub wind_inside : (side : ℕ) (i j : ℤ) → square_wind side i j ≢ pos 0 → IsCentreInside side i j
 wind_inside side i j turns =
-    let tests = told_only (int_lt (doubled Cell j) (pos 0)) (int_lt (doubled Cell j) (pos (2 * side))) (int_lt (doubled Cell i) (pos (2 * side))) (int_lt (doubled Cell i) (pos 0))
+    let tests = turns_only
+    (int_lt (doubled Cell j) (pos 0))
+    (int_lt (doubled Cell j) (pos (2 * side)))
+    (int_lt (doubled Cell i) (pos (2 * side)))
+    (int_lt (doubled Cell i) (pos 0))
     (λ left. grind (arith, ints))
-    (λ none. turns (square_told side (doubled Cell i) (doubled Cell j) ∙ none)) in
+    (λ none. turns (wind-square side (doubled Cell i) (doubled Cell j) ∙ none)) in
     record {
       across = centre_within side i tests.3 tests.2;
       along = centre_within side j tests.0 tests.1;
     }
 
-pub outside_wind : (side : ℕ) (i j : ℤ) → ¬ IsInsideSquare side (doubled Cell i) (doubled Cell j) → square_wind side i j ≡ pos 0
+pub outside_wind : (side : ℕ) (i j : ℤ) → ¬ IsCentreInside side i j → square_wind side i j ≡ pos 0
 outside_wind side i j without =
-    elim (ℤ_discrete (square_wind side i j) (pos 0)) [ yes none ↦ none | no turns ↦ absurd (without (wind_inside side i j turns)) ]
+    elim (ℤ_discrete (square_wind side i j) (pos 0)) [
+      | yes none ↦ none
+      | no turns ↦ absurd (without (wind_inside side i j turns))
+    ]
 
 pub square_winds_once : SquareWindsOnce
 square_winds_once = record { inside = inside_wind; outside = outside_wind; only = wind_inside }

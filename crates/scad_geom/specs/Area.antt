@@ -4,7 +4,8 @@ use Rattle.scad_geom.specs.declared.point.Pt.{Pt}
 use Rattle.scad_geom.specs.declared.point.Edge.{Edge}
 use Rattle.scad_geom.specs.Loop.{sides}
 
--- the cross product of an edge's ends: twice the signed area of the triangle that they make with the origin
+-- the cross product of an edge's ends: twice the signed area of the triangle that they make with
+-- the origin
 abbrev pub cross : Edge → ℤ
 cross e = e.a.x *ℤ e.b.y -ℤ e.b.x *ℤ e.a.y
 

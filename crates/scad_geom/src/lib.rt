@@ -1,7 +1,7 @@
-//! Points, edges and outlines of a layer, whole micrometres throughout, and exact arithmetic on them.
+//! Points, edges and outlines of a layer in whole micrometres, and exact arithmetic on them.
 //!
-//! The contracts promise the winding number of an edge list by its definition, and the exact value of
-//! each operation of signed arithmetic.
+//! The contracts promise the winding number of an edge list and the area of an outline by their
+//! definitions, and the exact value of each operation of signed arithmetic.
 #![tactic(auto, using(crate::proofs::Casts::casts))]
 
 mod area;

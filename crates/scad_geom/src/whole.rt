@@ -37,8 +37,8 @@ pub fn product(a: i64, b: i64) -> i64
     a * b
 }
 
-/// The product of a number of at most `M` bits and one of at most `N` bits. The bounds are powers, so
-/// that a chain of products needs linear arithmetic alone.
+/// The product of a number of at most `M` bits and one of at most `N` bits. The bounds are powers,
+/// so that a chain of products needs linear arithmetic alone.
 pub fn times<const M: u32, const N: u32>(a: i64, b: i64) -> i64
     requires left { unsigned_abs a ≤ 2 ^ M }
     requires right { unsigned_abs b ≤ 2 ^ N }

@@ -8,9 +8,9 @@ use crate::point::{COORDINATE_LIMIT, Edge, Pt};
 use crate::whole::{minus, plus, times};
 
 /// How often the edges turn round the point, counter-clockwise turns counted up and clockwise ones
-/// down: the edges that cross the ray from the point to the right, an edge that goes upwards there as
-/// 1 and one that goes downwards as -1. A point on an edge counts with the side above it, then with
-/// the side to its right.
+/// down: each edge that crosses the ray from the point to the right counts, as 1 where it goes
+/// upwards and as -1 where it goes downwards. A point on an edge counts with the side above it, then
+/// with the side to its right.
 pub fn winding(edges: &[Edge], p: Pt, half: Half) -> i64
     requires edges { All (IsEdgeWithin COORDINATE_LIMIT) edges.now }
     requires point { IsWithin COORDINATE_LIMIT p }
@@ -20,8 +20,8 @@ pub fn winding(edges: &[Edge], p: Pt, half: Half) -> i64
     sum_of_crossings(edges, half.doubled(p.x), half.doubled(p.y))
 }
 
-#[tactic(auto, using(crate::proofs::Casts::casts, crate::proofs::Crossings::wind_more))]
 // The winding number round a point whose coordinates are doubled.
+#[tactic(auto, using(crate::proofs::Casts::casts, crate::proofs::Crossings::wind_more))]
 fn sum_of_crossings(edges: &[Edge], x: i64, y: i64) -> i64
     requires edges { All (IsEdgeWithin COORDINATE_LIMIT) edges.now }
     requires x { unsigned_abs x ≤ 2 ^ 22 }

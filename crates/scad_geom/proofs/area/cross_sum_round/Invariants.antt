@@ -7,5 +7,6 @@ use Rattle.scad_geom.proofs.area.cross_sum_round.Given as goal
 abbrev pub invariant-points : goal.invariant-points
 invariant-points l = record {
   small : unsigned_abs l.sum ≤ l.to-index * 2 ^ 63;
-  sum : cross_sum (path l.first l.rest l.first) ≡ l.sum +ℤ cross_sum (path l.from (drop l.to-index l.rest) l.first);
+  sum : cross_sum (path l.first l.rest l.first)
+      ≡ l.sum +ℤ cross_sum (path l.from (drop l.to-index l.rest) l.first);
 }
