@@ -1,1 +1,4 @@
 mod Examples
+pub mod Ring
+pub mod Nearest
+mod RoundingExamples

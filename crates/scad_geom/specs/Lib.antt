@@ -2,3 +2,4 @@ pub mod Point
 pub mod Loop
 pub mod Area
 pub mod Winding
+pub mod Rounding

@@ -7,7 +7,11 @@
 mod half;
 mod loops;
 mod point;
+mod point3;
+mod round;
 
 pub use half::Half;
 pub use loops::Loop;
 pub use point::{COORDINATE_LIMIT, Edge, Pt};
+pub use point3::Pt3;
+pub use round::round_half_down;
