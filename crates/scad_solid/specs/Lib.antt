@@ -1,0 +1,5 @@
+pub mod Side
+pub mod Surface
+pub mod Range
+pub mod Height
+pub mod Solid
