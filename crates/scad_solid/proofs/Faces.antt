@@ -1,6 +1,6 @@
 -- How the first bad number of faces is found, and what follows where there is none.
-use Rattle.std.proofs.Common.{◌≡◌, ℕ, zero, suc, ◌+◌, ◌<◌, Bool, true, false, cond, ◌&&◌, List, [], ◌∷◌, ◌++◌, length, get_or, drop, map, Some, None, Option, arith, refl, ap, ap₂, sym, ◌∙◌, subst, nat_le, nat_lt, append_assoc}
-use Rattle.std.specs.List.{find, flat_map, list_all}
+use Rattle.std.proofs.Common.{◌≡◌, ℕ, ◌+◌, ◌<◌, true, false, cond, ◌&&◌, List, [], ◌∷◌, ◌++◌, length, get_or, drop, map, Some, None, arith, refl, ap, ap₂, sym, ◌∙◌, nat_le, nat_lt, append_assoc}
+use Rattle.std.specs.List.{find, flat_map}
 use Rattle.std.specs.Option.{option_or}
 use Rattle.std.proofs.lemmas.List.Folds.{find-append}
 use Rattle.std.proofs.lemmas.Bool.Decides.{nat_tests}

@@ -1,6 +1,6 @@
 -- Fans over points in range are in range.
-use Rattle.std.proofs.Common.{◌≡◌, ℕ, zero, suc, Bool, true, false, ◌&&◌, List, [], ◌∷◌, ◌++◌, map, pos, refl, ap₂, sym, ◌∙◌, get_or}
-use Rattle.std.specs.List.{list_all, flat_map, slice_index_or}
+use Rattle.std.proofs.Common.{◌≡◌, ℕ, zero, suc, Bool, true, false, ◌&&◌, List, [], ◌∷◌, map, pos, refl, ap₂, ◌∙◌}
+use Rattle.std.specs.List.{list_all, slice_index_or}
 use Rattle.std.proofs.lemmas.List.Folds.{list_all-append}
 use Rattle.scad_geom.specs.declared.point3.Pt3.{Pt3}
 use Rattle.scad_solid.specs.Range.{is_in_range, is_triangle_in_range}

@@ -1,7 +1,7 @@
 -- The order of sides that `derive(Ord)` gives, and that it tells differing sides apart.
-use Rattle.std.proofs.Common.{◌≡◌, Bool, true, false, ◌&&◌, ap, ap₂, sym, ◌∙◌, refl, ℤ}
+use Rattle.std.proofs.Common.{◌≡◌, Bool, true, false, ◌&&◌, ap, ap₂, sym, ◌∙◌, refl}
 use Rattle.std.specs.Bool.{Decides}
-use Rattle.std.specs.Ordering.{int_cmp, int_eq, ordering_then, on, then_cmp}
+use Rattle.std.specs.Ordering.{int_cmp, int_eq, ordering_then}
 use Rattle.std.specs.declared.cmp.Ordering.{Ordering}
 use Rattle.std.specs.declared.cmp.Ordering.TheVariants.{Less, Equal, Greater}
 use Rattle.std.specs.Cmp.{IsTotalOrder, signed_Decides}

@@ -1,8 +1,3 @@
-use Rattle.std.proofs.Common.{◌≡◌, Bool}
-use Rattle.std.specs.List.Sorted.{IsSorted}
-use Rattle.std.specs.Cmp.Lexicographic.{pointwise}
-use Rattle.scad_solid.specs.Side.{reversed, same_side}
-use Rattle.scad_solid.proofs.SideOrder.{side_cmp}
 use Rattle.scad_solid.proofs.ClosedSides.{sorted_tells}
 use Rattle.scad_solid.proofs.closed.is_closed.Goals as goal
 

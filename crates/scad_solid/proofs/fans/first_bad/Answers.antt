@@ -1,4 +1,4 @@
-use Rattle.std.proofs.Common.{◌≡◌, sym, ◌∙◌, drop, ◌+◌}
+use Rattle.std.proofs.Common.{sym, ◌∙◌, drop, ◌+◌}
 use Rattle.std.proofs.lemmas.List.{at_drop_more}
 use Rattle.scad_solid.specs.Solid.{first_bad}
 use Rattle.scad_solid.proofs.Faces.{first_bad-here, first_bad-later}
