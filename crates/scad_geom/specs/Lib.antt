@@ -3,3 +3,5 @@ pub mod Loop
 pub mod Area
 pub mod Winding
 pub mod Rounding
+pub mod Square
+pub mod Balance

@@ -1,7 +1,6 @@
 -- The winding number of a list of edges round a point: the signed crossings of the ray from the point to the right.
 -- Numbers for which no unit is said are over one common divisor.
 use Rattle.std.specs.Prelude.{List, [], ◌∷◌, Bool, if◌then◌else◌, ℤ, pos, ◌+ℤ◌, ◌-ℤ◌, ◌*ℤ◌, int_lt}
-use Rattle.scad_geom.specs.declared.point.Pt.{Pt}
 use Rattle.scad_geom.specs.declared.point.Edge.{Edge}
 use Rattle.scad_geom.specs.declared.half.Half.{Half}
 use Rattle.scad_geom.specs.declared.half.Half.TheVariants.{Whole, Cell}

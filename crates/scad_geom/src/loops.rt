@@ -36,3 +36,18 @@ impl Loop {
         self.points.as_slice()
     }
 }
+
+#[cfg(test)]
+mod tests {
+    use super::*;
+    use std::test::Fail;
+
+    #[test]
+    fn points_come_back(rt: HostRuntime) -> Result<(), Fail> {
+        let points = [Pt { x: 0, y: 0 }, Pt { x: 5, y: 0 }, Pt { x: 0, y: -5 }];
+        let outline = Loop::from_vec(Vec::from_slice(rt.alloc(), &points)?);
+        assert_eq!(rt; outline.as_slice(), points.as_slice());
+        assert_eq!(rt; outline.into_vec().as_slice(), points.as_slice());
+        Ok(())
+    }
+}

@@ -4,3 +4,4 @@ pub mod ClosedSides
 pub mod Faces
 pub mod Heights
 pub mod InRange
+pub mod Flow

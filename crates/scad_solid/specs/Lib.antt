@@ -3,3 +3,5 @@ pub mod Surface
 pub mod Range
 pub mod Height
 pub mod Solid
+pub mod Stack
+pub mod Cut

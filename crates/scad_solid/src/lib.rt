@@ -9,7 +9,9 @@ mod face;
 mod fans;
 mod fault;
 mod range;
+mod ring;
 mod side;
+mod stacking;
 #[cfg(test)]
 mod tests;
 mod triangle;
@@ -18,6 +20,8 @@ mod triangles;
 pub use face::Face;
 pub use fault::SolidFault;
 pub use range::{POINT_LIMIT, is_in_range};
+pub use ring::Ring;
 pub use side::Side;
+pub use stacking::stack;
 pub use triangle::Triangle;
 pub use triangles::Triangles;

@@ -1,0 +1,95 @@
+-- The line that a run's report ends with. Every line ends with LF; numbers are decimal.
+use Rattle.std.specs.Prelude.{ℕ, ℤ, List, [], ◌∷◌, ◌++◌, codes, decimal}
+use Rattle.std.specs.Fmt.{signed_decimal}
+use Rattle.scad_fault.specs.declared.place.Place.{Place}
+use Rattle.scad_fault.specs.declared.fault.Fault.{Fault}
+use Rattle.scad_fault.specs.declared.budget.Budget.{Budget}
+use Rattle.scad_fault.specs.declared.settings.SetFault.{SetFault}
+use Rattle.scad_fault.specs.declared.status.Status.{Status}
+use Rattle.scad_fault.specs.declared.status.Status.TheVariants.{Done, Source, Usage, Settings, Read, Write, Over, Memory}
+use Rattle.scad_fault.specs.declared.fault.FaultKind.{FaultKind}
+use Rattle.scad_fault.specs.declared.fault.FaultKind.TheVariants.{LeftOut, UnknownModule, UnknownFunction, BadArgument, NotBuilt}
+use Rattle.scad_fault.specs.declared.budget.BudgetKind.{BudgetKind}
+use Rattle.scad_fault.specs.declared.budget.BudgetKind.TheVariants.{SourceLong, Steps, Depth, Leaves, Triangles, Layers, LayerEdges, LayerCrossings, LayerMoves}
+use Rattle.scad_fault.specs.declared.settings.SetKind.{SetKind}
+use Rattle.scad_fault.specs.declared.settings.SetKind.TheVariants.{NotToml, UnknownKey, NotWhole, OutOfRange}
+use Rattle.scad_fault.specs.Kinds.{fault_number, fault_name, budget_number, budget_name, set_number, set_name}
+
+-- ` N Name`: a kind's number and name
+abbrev pub kind_text : ℕ → List ℕ → List ℕ
+kind_text number name = codes " " ++ decimal number ++ codes " " ++ name
+
+-- ` at L:C`: a place
+abbrev pub place_text : Place → List ℕ
+place_text at = codes " at " ++ decimal at.line ++ codes ":" ++ decimal at.col
+
+-- ` layer n`
+abbrev pub layer_text : ℕ → List ℕ
+layer_text layer = codes " layer " ++ decimal layer
+
+-- ` count C`
+abbrev pub count_text : ℕ → List ℕ
+count_text count = codes " count " ++ decimal count
+
+-- a word after a space
+abbrev pub word_text : List ℕ → List ℕ
+word_text word = codes " " ++ word
+
+-- the name of what was left out, is unknown or got a bad argument; a form that is not built yet
+-- is named where it has a name; the other kinds of fault name nothing
+abbrev pub name_text : FaultKind → List ℕ → List ℕ
+name_text LeftOut name = word_text name
+name_text UnknownModule name = word_text name
+name_text UnknownFunction name = word_text name
+name_text BadArgument name = word_text name
+name_text NotBuilt [] = []
+name_text NotBuilt (b ∷ bs) = word_text (b ∷ bs)
+name_text kind name = []
+
+-- `fault N Name at L:C`, then the name where the kind has one
+unfoldable pub fault_line : Fault → List ℕ
+fault_line f =
+    codes "fault" ++ kind_text (fault_number f.kind) (fault_name f.kind) ++ place_text f.at
+    ++ name_text f.kind f.name ++ codes "\n"
+
+-- the key of the setting, but where the text is no TOML, and the value that is out of range
+abbrev pub setting_text : SetKind → List ℕ → ℤ → List ℕ
+setting_text NotToml key value = []
+setting_text UnknownKey key value = word_text key
+setting_text NotWhole key value = word_text key
+setting_text OutOfRange key value = word_text key ++ word_text (signed_decimal value)
+
+-- `settings N Name`, then the key and the value where the kind has them
+unfoldable pub settings_line : SetFault → List ℕ
+settings_line f =
+    codes "settings" ++ kind_text (set_number f.kind) (set_name f.kind)
+    ++ setting_text f.kind f.key f.value ++ codes "\n"
+
+-- where a budget was passed and by what count: a place, a count alone, or a layer with its count
+abbrev pub passed_text : BudgetKind → Place → ℕ → ℕ → List ℕ
+passed_text SourceLong at layer count = []
+passed_text Steps at layer count = place_text at
+passed_text Depth at layer count = place_text at
+passed_text Leaves at layer count = place_text at
+passed_text Triangles at layer count = place_text at
+passed_text Layers at layer count = count_text count
+passed_text LayerEdges at layer count = layer_text layer ++ count_text count
+passed_text LayerCrossings at layer count = layer_text layer ++ count_text count
+passed_text LayerMoves at layer count = layer_text layer ++ count_text count
+
+-- `budget N Name`, then where it was passed and by what count
+unfoldable pub budget_line : Budget → List ℕ
+budget_line b =
+    codes "budget" ++ kind_text (budget_number b.kind) (budget_name b.kind)
+    ++ passed_text b.kind b.at b.layer b.count ++ codes "\n"
+
+-- the report's last line for each status but Done, whose line is the command's own
+abbrev pub line_of : Status → List ℕ
+line_of Done = []
+line_of (Source f) = fault_line f
+line_of Usage = codes "usage: scadslice COMMAND\n"
+line_of (Settings f) = settings_line f
+line_of Read = codes "read fault\n"
+line_of Write = codes "write fault\n"
+line_of (Over b) = budget_line b
+line_of Memory = codes "out of memory\n"

@@ -1,0 +1,62 @@
+ghost use Rattle.std.specs.Prelude.{◌≡◌, ℕ, List, IfOk, string_bytes};
+
+use std::alloc::{AllocError, Global};
+use std::marker::Model;
+
+/// The name of a file, seen by contracts as the list of its bytes.
+#[derive(Debug, Drop)]
+pub struct FileName {
+    name: String,
+}
+
+impl Model for FileName {
+    ghost Value = { List ℕ };
+
+    ghost view = { λ f. string_bytes f.name };
+}
+
+impl FileName {
+    /// A copy of the name.
+    pub fn of(alloc: Global, name: &str) -> Result<FileName, AllocError>
+        ensures { IfOk result (λ f. f ≡ name.now) }
+    {
+        Ok(FileName {
+            name: String::from_str(alloc, name)?,
+        })
+    }
+
+    /// The file name of this text. It takes no memory.
+    pub fn from_string(name: String) -> FileName
+        ensures { result ≡ string_bytes name }
+    {
+        FileName { name }
+    }
+
+    /// The name. It takes no memory.
+    pub fn into_string(self) -> String
+        ensures { string_bytes result ≡ self }
+    {
+        self.name
+    }
+
+    pub fn as_str(&self) -> &str
+        ensures { result.now ≡ self.now }
+    {
+        self.name.as_str()
+    }
+}
+
+#[cfg(test)]
+mod tests {
+    use super::*;
+    use std::test::Fail;
+
+    #[test]
+    fn a_file_name_is_lent_and_given_back(rt: HostRuntime) -> Result<(), Fail> {
+        let name = FileName::of(rt.alloc(), "é.scad")?;
+        assert_eq!(rt; name.as_str(), "é.scad");
+        let same = FileName::from_string(name.into_string());
+        assert_eq!(rt; same.as_str(), "é.scad");
+        Ok(())
+    }
+}

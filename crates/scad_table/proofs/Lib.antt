@@ -1,0 +1,2 @@
+pub mod Ascending
+mod Look_up
