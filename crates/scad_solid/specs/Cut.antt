@@ -35,11 +35,16 @@ pub record ExactPoint : Type 0 where
   pub y : ℤ
   pub d : ℤ
 
+-- the mean of a coordinate at a lower and one at an upper height, weighted so that it is the coordinate at the plane
+-- once it is divided by twice the difference of the heights
+abbrev pub weighted : ℤ → ℤ → ℤ → ℤ → ℤ → ℤ
+weighted lower upper low high plane = lower *ℤ (pos 2 *ℤ high -ℤ plane) +ℤ upper *ℤ (plane -ℤ pos 2 *ℤ low)
+
 -- where the segment from a lower to an upper point meets a plane
 abbrev pub point_between : Pt3 → Pt3 → ℤ → ExactPoint
 point_between lower upper plane = record {
-  x = lower.x *ℤ (pos 2 *ℤ upper.z -ℤ plane) +ℤ upper.x *ℤ (plane -ℤ pos 2 *ℤ lower.z);
-  y = lower.y *ℤ (pos 2 *ℤ upper.z -ℤ plane) +ℤ upper.y *ℤ (plane -ℤ pos 2 *ℤ lower.z);
+  x = weighted lower.x upper.x lower.z upper.z plane;
+  y = weighted lower.y upper.y lower.z upper.z plane;
   d = pos 2 *ℤ upper.z -ℤ pos 2 *ℤ lower.z;
 }
 
