@@ -5,3 +5,4 @@ pub mod Winding
 pub mod Rounding
 pub mod Square
 pub mod Balance
+pub mod PointRange

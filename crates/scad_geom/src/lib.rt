@@ -19,6 +19,6 @@ pub use area::twice_area;
 pub use half::Half;
 pub use loops::Loop;
 pub use point::{COORDINATE_LIMIT, Edge, Pt};
-pub use point3::Pt3;
+pub use point3::{POINT_LIMIT, Pt3, is_in_range};
 pub use round::round_half_down;
 pub use winding_number::winding;

@@ -4,7 +4,8 @@ use Rattle.std.specs.List.{zip, list_all, slice_index_or}
 use Rattle.std.proofs.lemmas.List.Folds.{list_all-append}
 use Rattle.std.proofs.lemmas.Grind.{reverse_onto}
 use Rattle.scad_geom.specs.declared.point3.Pt3.{Pt3}
-use Rattle.scad_solid.specs.Range.{is_in_range, is_triangle_in_range}
+use Rattle.scad_geom.specs.PointRange.{is_in_range}
+use Rattle.scad_solid.specs.Range.{is_triangle_in_range}
 use Rattle.scad_solid.specs.declared.side.Side.{Side}
 use Rattle.scad_solid.specs.Solid.{corners, fan, fan_around, fans}
 use Rattle.scad_solid.specs.Stack.{path, ring_sides, quad, band, faces_below, stack_faces, stacked, rings_in_range}

@@ -1,13 +1,8 @@
--- The range of a solid's coordinates.
-use Rattle.std.specs.Prelude.{Bool, ◌&&◌, nat_le, unsigned_abs}
-use Rattle.scad_geom.specs.declared.point3.Pt3.{Pt3}
-use Rattle.scad_solid.specs.declared.range.TheConstants.{POINT_LIMIT}
+-- Triangles in range.
+use Rattle.std.specs.Prelude.{Bool, ◌&&◌}
+use Rattle.scad_geom.specs.PointRange.{is_in_range}
 use Rattle.scad_solid.specs.declared.triangle.Triangle.{Triangle}
 
--- no coordinate of the point is greater in size than the limit
-abbrev pub is_in_range : Pt3 → Bool
-is_in_range p = nat_le (unsigned_abs p.x) POINT_LIMIT && (nat_le (unsigned_abs p.y) POINT_LIMIT && nat_le (unsigned_abs p.z) POINT_LIMIT)
-
--- so are all corners of the triangle
+-- all corners of the triangle are in range
 abbrev pub is_triangle_in_range : Triangle → Bool
 is_triangle_in_range t = is_in_range t.a && (is_in_range t.b && is_in_range t.c)

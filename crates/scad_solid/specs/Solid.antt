@@ -5,7 +5,8 @@ use Rattle.scad_geom.specs.declared.point3.Pt3.{Pt3}
 use Rattle.scad_solid.specs.declared.triangle.Triangle.{Triangle}
 use Rattle.scad_solid.specs.declared.fault.SolidFault.{SolidFault}
 use Rattle.scad_solid.specs.declared.fault.SolidFault.TheVariants.{NotClosed, BadIndex, CoordinateRange, Memory}
-use Rattle.scad_solid.specs.Range.{is_in_range, is_triangle_in_range}
+use Rattle.scad_geom.specs.PointRange.{is_in_range}
+use Rattle.scad_solid.specs.Range.{is_triangle_in_range}
 use Rattle.scad_solid.specs.Surface.{is_closed}
 
 -- what each solid keeps: its surface is closed, and every corner is in range

@@ -4,7 +4,7 @@ use Rattle.std.specs.List.{zip, list_all}
 use Rattle.scad_geom.specs.declared.point3.Pt3.{Pt3}
 use Rattle.scad_solid.specs.declared.side.Side.{Side}
 use Rattle.scad_solid.specs.declared.triangle.Triangle.{Triangle}
-use Rattle.scad_solid.specs.Range.{is_in_range}
+use Rattle.scad_geom.specs.PointRange.{is_in_range}
 use Rattle.scad_solid.specs.Solid.{fans}
 
 -- the sides from a point through the next points to a last one

@@ -7,7 +7,7 @@ pub enum SolidFault {
     NotClosed,
     /// No point has this number.
     BadIndex(u32),
-    /// A coordinate passes `POINT_LIMIT` in size.
+    /// A coordinate passes `scad_geom::POINT_LIMIT` in size.
     CoordinateRange,
     /// Memory ran out.
     Memory,

@@ -19,7 +19,6 @@ mod triangles;
 
 pub use face::Face;
 pub use fault::SolidFault;
-pub use range::{POINT_LIMIT, is_in_range};
 pub use ring::Ring;
 pub use side::Side;
 pub use stacking::stack;

@@ -7,10 +7,11 @@ use Rattle.std.proofs.lemmas.Int.{ints}
 use Rattle.std.proofs.lemmas.Bool.Decides.{nat_tests}
 use Rattle.scad_geom.specs.declared.point3.Pt3.{Pt3}
 use Rattle.scad_geom.specs.declared.point.Edge.{Edge}
-use Rattle.scad_solid.specs.declared.range.TheConstants.{POINT_LIMIT}
+use Rattle.scad_geom.specs.declared.point3.TheConstants.{POINT_LIMIT}
 use Rattle.scad_solid.specs.declared.side.Side.{Side}
 use Rattle.scad_solid.specs.declared.triangle.Triangle.{Triangle}
-use Rattle.scad_solid.specs.Range.{is_in_range, is_triangle_in_range}
+use Rattle.scad_geom.specs.PointRange.{is_in_range}
+use Rattle.scad_solid.specs.Range.{is_triangle_in_range}
 use Rattle.scad_solid.specs.Surface.{sides_of}
 use Rattle.scad_solid.specs.Cut.{falls, rises, is_above, is_below, cut_of, cut_between, point_between}
 use Rattle.slice_section.specs.Section.{nearest_point, rounded}

@@ -1,7 +1,7 @@
 -- A plane between two heights, and between two points.
 use Rattle.std.specs.Prelude.{◌≤◌, ℤ, pos, ◌*ℤ◌, ◌<ℤ◌, unsigned_abs}
 use Rattle.scad_geom.specs.declared.point3.Pt3.{Pt3}
-use Rattle.scad_solid.specs.declared.range.TheConstants.{POINT_LIMIT}
+use Rattle.scad_geom.specs.declared.point3.TheConstants.{POINT_LIMIT}
 
 -- the plane, whose height is doubled, lies strictly between two heights in range
 pub record IsBetween (plane low high : ℤ) : Type 0 where

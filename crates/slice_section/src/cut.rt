@@ -2,7 +2,7 @@
 ghost use Rattle.std.specs.Prelude.{◌≡◌, ◌^◌, ◌≤◌, ◌*ℤ◌, ◌-ℤ◌, pos, unsigned_abs, IsTrue, IfSome, find};
 ghost use Rattle.std.specs.Option.{option_map};
 ghost use Rattle.scad_geom.specs.Rounding.{half_down};
-ghost use Rattle.scad_solid.specs.declared.range.TheConstants.{POINT_LIMIT};
+ghost use Rattle.scad_geom.specs.declared.point3.TheConstants.{POINT_LIMIT};
 ghost use Rattle.scad_solid.specs.Range.{is_triangle_in_range};
 ghost use Rattle.scad_solid.specs.Surface.{sides_of};
 ghost use Rattle.scad_solid.specs.Cut.{falls, rises, cut_of, weighted, point_between};
