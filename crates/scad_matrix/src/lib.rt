@@ -5,18 +5,10 @@
 //! one of these is out of range.
 #![tactic(auto, using(scad_geom::proofs::Casts::casts))]
 
-mod axis;
-mod fault;
 mod makers;
 mod matrix;
-mod mirroring;
 mod placing;
-mod product;
-mod row;
+mod products;
 
-pub use axis::Axis;
-pub use fault::MatrixFault;
-pub use makers::{of_rows, scale, translate, turn};
-pub use matrix::Matrix;
-pub use mirroring::mirror;
-pub use row::Row;
+pub use makers::{Axis, of_rows, scale, translate, turn};
+pub use matrix::{Matrix, MatrixFault, Row};

@@ -1,0 +1,58 @@
+-- The matrices of the transformations (OpenSCAD User Manual, "translate", "scale", "rotate", "mirror", "multmatrix").
+use Rattle.std.specs.Prelude.{ℕ, List, ℤ, pos, neg_ℤ}
+use Rattle.std.specs.List.{slice_index_or}
+use Rattle.scad_num.specs.Number.{one}
+use Rattle.scad_cos.specs.Cosine.{cosine, sine}
+use Rattle.scad_matrix.specs.declared.makers.Axis.{Axis}
+use Rattle.scad_matrix.specs.declared.makers.Axis.TheVariants.{X, Y, Z}
+use Rattle.scad_matrix.specs.declared.matrix.Row.{Row}
+use Rattle.scad_matrix.specs.declared.matrix.Matrix.{Matrix}
+
+abbrev pub row : ℤ → ℤ → ℤ → ℤ → Row
+row x y z shift = record { x = x; y = y; z = z; shift = shift }
+
+-- the shift by (x, y, z)
+abbrev pub translation : ℤ → ℤ → ℤ → Matrix
+translation x y z = record {
+  x = row (pos one) (pos 0) (pos 0) x;
+  y = row (pos 0) (pos one) (pos 0) y;
+  z = row (pos 0) (pos 0) (pos one) z;
+}
+
+-- the scaling by x, y and z along the axes
+abbrev pub scaling : ℤ → ℤ → ℤ → Matrix
+scaling x y z = record {
+  x = row x (pos 0) (pos 0) (pos 0);
+  y = row (pos 0) y (pos 0) (pos 0);
+  z = row (pos 0) (pos 0) z (pos 0);
+}
+
+-- the number of a list at a place
+abbrev pub at : List ℤ → ℕ → ℤ
+at ns i = slice_index_or ns i (pos 0)
+
+-- three rows of four numbers, one after another
+abbrev pub rows_of : List ℤ → Matrix
+rows_of ns = record {
+  x = row (at ns 0) (at ns 1) (at ns 2) (at ns 3);
+  y = row (at ns 4) (at ns 5) (at ns 6) (at ns 7);
+  z = row (at ns 8) (at ns 9) (at ns 10) (at ns 11);
+}
+
+-- the rotation about an axis by an angle in thousandths of a degree
+abbrev pub rotation : Axis → ℤ → Matrix
+rotation X angle = record {
+  x = row (pos one) (pos 0) (pos 0) (pos 0);
+  y = row (pos 0) (cosine angle) (neg_ℤ (sine angle)) (pos 0);
+  z = row (pos 0) (sine angle) (cosine angle) (pos 0);
+}
+rotation Y angle = record {
+  x = row (cosine angle) (pos 0) (sine angle) (pos 0);
+  y = row (pos 0) (pos one) (pos 0) (pos 0);
+  z = row (neg_ℤ (sine angle)) (pos 0) (cosine angle) (pos 0);
+}
+rotation Z angle = record {
+  x = row (cosine angle) (neg_ℤ (sine angle)) (pos 0) (pos 0);
+  y = row (sine angle) (cosine angle) (pos 0) (pos 0);
+  z = row (pos 0) (pos 0) (pos one) (pos 0);
+}

@@ -1,9 +1,0 @@
-//! Axes.
-
-/// A coordinate axis.
-#[derive(Clone, Copy, Debug, PartialEq, Eq)]
-pub enum Axis {
-    X,
-    Y,
-    Z,
-}
