@@ -1,7 +1,9 @@
 -- The matrices of the transformations (OpenSCAD User Manual, "translate", "scale", "rotate", "mirror", "multmatrix").
-use Rattle.std.specs.Prelude.{ℕ, List, ℤ, pos, neg_ℤ}
+use Rattle.std.specs.Prelude.{ℕ, List, if◌then◌else◌, ℤ, pos, negsuc, neg_ℤ, ◌+ℤ◌, ◌-ℤ◌, ◌*ℤ◌, unsigned_abs}
 use Rattle.std.specs.List.{slice_index_or}
 use Rattle.scad_num.specs.Number.{one}
+use Rattle.std.specs.Ordering.{int_eq}
+use Rattle.scad_num.specs.Rounding.{half_away}
 use Rattle.scad_cos.specs.Cosine.{cosine, sine}
 use Rattle.scad_matrix.specs.declared.makers.Axis.{Axis}
 use Rattle.scad_matrix.specs.declared.makers.Axis.TheVariants.{X, Y, Z}
@@ -56,3 +58,25 @@ rotation Z angle = record {
   y = row (sine angle) (cosine angle) (pos 0) (pos 0);
   z = row (pos 0) (pos 0) (pos one) (pos 0);
 }
+
+-- the square of a normal's length
+abbrev pub square_of : ℤ → ℤ → ℤ → ℤ
+square_of x y z = x *ℤ x +ℤ y *ℤ y +ℤ z *ℤ z
+
+-- the entry on the diagonal for a coordinate of a normal: 1 - 2 v v / square, rounded to millionths
+abbrev pub along : ℤ → ℤ → ℤ
+along v square = half_away (pos one *ℤ square -ℤ pos 2000000 *ℤ (v *ℤ v)) (unsigned_abs square)
+
+-- the entry for two coordinates of a normal: - 2 v w / square, rounded to millionths
+abbrev pub across : ℤ → ℤ → ℤ → ℤ
+across v w square = half_away (negsuc 1999999 *ℤ (v *ℤ w)) (unsigned_abs square)
+
+-- the reflection in the plane through the origin with that normal; the identity where all three are 0
+unfoldable pub reflection : ℤ → ℤ → ℤ → Matrix
+reflection x y z =
+    let square = square_of x y z in
+    if int_eq square (pos 0) then translation (pos 0) (pos 0) (pos 0) else record {
+      x = row (along x square) (across x y square) (across z x square) (pos 0);
+      y = row (across x y square) (along y square) (across y z square) (pos 0);
+      z = row (across z x square) (across y z square) (along z square) (pos 0);
+    }

@@ -7,8 +7,12 @@
 
 mod makers;
 mod matrix;
+mod mirroring;
 mod placing;
 mod products;
+#[cfg(test)]
+mod tests;
 
 pub use makers::{Axis, of_rows, scale, translate, turn};
 pub use matrix::{Matrix, MatrixFault, Row};
+pub use mirroring::mirror;

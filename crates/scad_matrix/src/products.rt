@@ -19,7 +19,10 @@ pub(crate) fn dot(row: &Row, x: Num, y: Num, z: Num, last: i64) -> i128
 {
     let xy = plus(product(row.x, x), product(row.y, y));
     let xyz = plus(xy, product(row.z, z));
-    plus(xyz, times::<50, 20>(row.shift.millionths() as i128, last as i128))
+    plus(
+        xyz,
+        times::<50, 20>(row.shift.millionths() as i128, last as i128),
+    )
 }
 
 fn product(a: Num, b: Num) -> i128

@@ -1,9 +1,9 @@
 -- The section of a closed surface is balanced.
-use Rattle.std.proofs.Common.{◌≡◌, ℕ, ◌+◌, ◌*◌, ◌/◌, Bool, true, false, cond, ◌&&◌, not, List, [], ◌∷◌, ◌++◌, map, Some, None, Option, ℤ, pos, ◌*ℤ◌, refl, ap, ap₂, sym, ◌∙◌, subst, arith}
-use Rattle.std.specs.Prelude.{filter, count_by, int_lt}
+use Rattle.std.proofs.Common.{◌≡◌, ℕ, ◌+◌, ◌*◌, ◌/◌, Bool, true, false, cond, ◌&&◌, not, List, [], ◌∷◌, map, Some, None, Option, ℤ, pos, ◌*ℤ◌, refl, ap, ap₂, sym, ◌∙◌, subst, arith}
+use Rattle.std.specs.Prelude.{filter, int_lt}
 use Rattle.std.specs.Ordering.{int_eq}
 use Rattle.std.specs.Cmp.{signed_Decides}
-use Rattle.std.specs.List.{filter_map, cons_option, sum_by}
+use Rattle.std.specs.List.{cons_option, sum_by}
 use Rattle.std.proofs.lemmas.Int.{ints}
 use Rattle.std.proofs.lemmas.List.Sums.{sum_by-cons, sum_by-append}
 use Rattle.scad_geom.specs.declared.point.Pt.{Pt}
@@ -15,7 +15,7 @@ use Rattle.scad_solid.specs.Side.{reversed}
 use Rattle.scad_solid.specs.Surface.{sides_of, sides, is_closed}
 use Rattle.scad_solid.specs.Cut.{Cut, is_above, is_below, cut_between, cut_of, cuts_of, plane_of, point_between}
 use Rattle.scad_solid.proofs.ClosedSides.{sum_by-reversed}
-use Rattle.slice_section.specs.Section.{nearest_point, rounded, has_length, edges_of, section_of}
+use Rattle.slice_section.specs.Section.{nearest_point, rounded, has_length, section_of}
 
 -- once, where a test holds
 abbrev once : Bool → ℕ

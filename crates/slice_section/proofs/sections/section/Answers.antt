@@ -1,10 +1,9 @@
-use Rattle.std.proofs.Common.{FitsSigned, to_z, of_z, ◌++◌, ap₂, ap, sym, subst, ◌∙◌, ◌≡◌, true}
+use Rattle.std.proofs.Common.{FitsSigned, to_z, of_z, ◌++◌, ap₂, ap, sym, subst, ◌∙◌, ◌≡◌}
 use Rattle.std.specs.List.{list_all}
 use Rattle.std.proofs.lemmas.Int.{to_z-of_z}
 use Rattle.std.proofs.lemmas.List.{append-nil, at_drop_all}
 use Rattle.scad_geom.specs.Balance.{IsBalanced}
 use Rattle.scad_solid.specs.Range.{is_triangle_in_range}
-use Rattle.scad_solid.specs.Cut.{plane_of}
 use Rattle.slice_section.specs.Section.{edges_of, section_of}
 use Rattle.slice_section.proofs.Edges.{edges_of-more, in_range-here, in_range-later}
 use Rattle.slice_section.proofs.Balanced.{IsBalanced-section_of}
