@@ -1,5 +1,5 @@
 -- Rounded products as numbers and as points.
-use Rattle.std.proofs.Common.{◌≡◌, ℕ, ◌≤◌, Bool, true, false, ◌&&◌, Ok, Err, Result, ℤ, refl, ap, ap₂, sym, ◌∙◌, subst, unsigned_abs}
+use Rattle.std.proofs.Common.{◌≡◌, Bool, true, false, Ok, Err, Result, ℤ, refl, ap, sym, ◌∙◌, unsigned_abs}
 use Rattle.std.specs.Prelude.{nat_le, if◌then◌else◌}
 use Rattle.scad_num.specs.Number.{number_of, most}
 use Rattle.scad_num.specs.declared.fault.NumFault.{NumFault}

@@ -1,5 +1,5 @@
 -- Products of matrices and placed points (OpenSCAD User Manual, "Transformations").
-use Rattle.std.specs.Prelude.{ℕ, Bool, nat_le, if◌then◌else◌, Option, Some, None, Result, Ok, Err, ℤ, pos, ◌+ℤ◌, ◌*ℤ◌, unsigned_abs}
+use Rattle.std.specs.Prelude.{ℕ, nat_le, if◌then◌else◌, Option, Some, None, Result, Ok, Err, ℤ, pos, ◌+ℤ◌, ◌*ℤ◌, unsigned_abs}
 use Rattle.scad_num.specs.Number.{one, most}
 use Rattle.scad_num.specs.Rounding.{half_away}
 use Rattle.scad_geom.specs.declared.point3.Pt3.{Pt3}

@@ -105,16 +105,16 @@ module _ (T : Side → ℤ) (turns : (s : Side) → T (reversed s) ≡ neg_ℤ (
   pub reverse-flow : (ps : List Pt3) → flow (ring_sides (reverse ps)) ≡ neg_ℤ (flow (ring_sides ps))
   reverse-flow [] = refl
   reverse-flow (p ∷ ps) =
-    let back_ring : flow (ring_sides (reverse ps ++ p ∷ [])) ≡ along (reverse ps ++ p ∷ []) +ℤ T (to (last_of p (reverse ps ++ p ∷ [])) (head_of p (reverse ps ++ p ∷ []))) = ring-flow p (reverse ps ++ p ∷ []) in
-    let ends : T (to (last_of p (reverse ps ++ p ∷ [])) (head_of p (reverse ps ++ p ∷ []))) ≡ T (to p (last_of p ps)) = ap₂ (λ a b. T (to a b)) (last_of-append p (reverse ps) p []) (head_of-reverse p ps p []) in
-    ap (λ rs. flow (ring_sides rs)) (reverse_onto ps p []) ∙ omega (arith, ints, back_ring, ends, along-reverse ps p [], ring-flow p (p ∷ ps), back (last_of p ps) p)
+      let back_ring : flow (ring_sides (reverse ps ++ p ∷ [])) ≡ along (reverse ps ++ p ∷ []) +ℤ T (to (last_of p (reverse ps ++ p ∷ [])) (head_of p (reverse ps ++ p ∷ []))) = ring-flow p (reverse ps ++ p ∷ []) in
+      let ends : T (to (last_of p (reverse ps ++ p ∷ [])) (head_of p (reverse ps ++ p ∷ []))) ≡ T (to p (last_of p ps)) = ap₂ (λ a b. T (to a b)) (last_of-append p (reverse ps) p []) (head_of-reverse p ps p []) in
+      ap (λ rs. flow (ring_sides rs)) (reverse_onto ps p []) ∙ omega (arith, ints, back_ring, ends, along-reverse ps p [], ring-flow p (p ∷ ps), back (last_of p ps) p)
 
   -- round the quads between two paths it flows along the upper one and back along the lower one
   paths-flow : (p : Pt3) (ps : List Pt3) (p' q : Pt3) (qs : List Pt3) (q' : Pt3) → length ps ≡ length qs → flow_round (fans (map quad (zip (path p ps p') (path q qs q')))) +ℤ T (to p q) ≡ flow (path p ps p') -ℤ flow (path q qs q') +ℤ T (to p' q')
   paths-flow p [] p' q [] q' same = omega (arith, ints, fan-flow (p ∷ p' ∷ q' ∷ q ∷ []), flow_round-append (fan (p ∷ p' ∷ q' ∷ q ∷ [])) [], back q q', back p q)
   paths-flow p (r ∷ rs) p' q (t ∷ ts) q' same =
-    let rest = fans (map quad (zip (path r rs p') (path t ts q'))) in
-    omega (arith, ints, flow_round-append (fan (p ∷ r ∷ t ∷ q ∷ [])) rest, fan-flow (p ∷ r ∷ t ∷ q ∷ []), paths-flow r rs p' t ts q' (omega arith), back q t, back p q)
+      let rest = fans (map quad (zip (path r rs p') (path t ts q'))) in
+      omega (arith, ints, flow_round-append (fan (p ∷ r ∷ t ∷ q ∷ [])) rest, fan-flow (p ∷ r ∷ t ∷ q ∷ []), paths-flow r rs p' t ts q' (omega arith), back q t, back p q)
   paths-flow p [] p' q (t ∷ ts) q' same = absurd (omega arith)
   paths-flow p (r ∷ rs) p' q [] q' same = absurd (omega arith)
 
@@ -127,18 +127,18 @@ module _ (T : Side → ℤ) (turns : (s : Side) → T (reversed s) ≡ neg_ℤ (
   faces_below-flow : (m : ℕ) (ring : List Pt3) (rings : List (List Pt3)) → length ring ≡ m → list_all (λ r. length r == m) rings ≡ true → flow_round (fans (faces_below ring rings)) ≡ flow (ring_sides ring)
   faces_below-flow m ring [] long all = omega (arith, ints, flow_round-append (fan ring) [], fan-flow ring)
   faces_below-flow m ring (next ∷ rings) long all =
-    let one = both (length next == m) (list_all (λ r. length r == m) rings) all in
-    let next_long = eqb-true (length next) m one.0 in
-    ap flow_round (flat_map-append fan (band ring next) (faces_below next rings))
-    ∙ omega (arith, ints, flow_round-append (fans (band ring next)) (fans (faces_below next rings)), band-flow ring next (long ∙ sym next_long), faces_below-flow m next rings next_long one.1)
+      let one = both (length next == m) (list_all (λ r. length r == m) rings) all in
+      let next_long = eqb-true (length next) m one.0 in
+      ap flow_round (flat_map-append fan (band ring next) (faces_below next rings))
+      ∙ omega (arith, ints, flow_round-append (fans (band ring next)) (fans (faces_below next rings)), band-flow ring next (long ∙ sym next_long), faces_below-flow m next rings next_long one.1)
 
   -- round all triangles of a stack together, nothing flows
   pub stacked-flow : (m : ℕ) (rings : List (List Pt3)) → list_all (λ r. length r == m) rings ≡ true → flow_round (stacked rings) ≡ pos 0
   unfolding stacked
   stacked-flow m [] all = refl
   stacked-flow m (top ∷ rings) all =
-    let one = both (length top == m) (list_all (λ r. length r == m) rings) all in
-    omega (arith, ints, flow_round-append (fan (reverse top)) (fans (faces_below top rings)), fan-flow (reverse top), reverse-flow top, faces_below-flow m top rings (eqb-true (length top) m one.0) one.1)
+      let one = both (length top == m) (list_all (λ r. length r == m) rings) all in
+      omega (arith, ints, flow_round-append (fan (reverse top)) (fans (faces_below top rings)), fan-flow (reverse top), reverse-flow top, faces_below-flow m top rings (eqb-true (length top) m one.0) one.1)
 
 -- a side counts once where it is s, and once less where it is the reverse of s
 abbrev once : Bool → ℤ

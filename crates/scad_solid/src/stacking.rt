@@ -87,7 +87,11 @@ fn push_face(out: &mut Vec<Triangle>, face: &[Pt3]) -> Result<(), AllocError>
     };
     let mut b = *second;
     for c in rest {
-        out.push(Triangle { a: *first, b, c: *c })?;
+        out.push(Triangle {
+            a: *first,
+            b,
+            c: *c,
+        })?;
         b = *c;
     }
     Ok(())

@@ -1,9 +1,9 @@
-use Rattle.std.proofs.Common.{◌≡◌, pos, neg_ℤ, ◌-ℤ◌, unsigned_abs, FitsSigned, arith, ap, sym, ◌∙◌}
+use Rattle.std.proofs.Common.{pos, neg_ℤ, ◌-ℤ◌, FitsSigned, arith, ap, sym, ◌∙◌}
 use Rattle.std.proofs.lemmas.Int.{ints, to_z-of_z}
 use Rattle.scad_num.specs.Rounding.{half_up}
 use Rattle.scad_matrix.proofs.Reflected.{half_away-below, half_away-above, minus_as_neg}
 use Rattle.scad_matrix.proofs.mirroring.rounded.Goals as goal
-use mir.Syntax.{w64, w128}
+use mir.Syntax.{w64}
 
 pub returns-then-n-lt0 : goal.returns-then-n-lt0
 returns-then-n-lt0 c =

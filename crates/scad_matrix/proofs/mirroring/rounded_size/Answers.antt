@@ -1,4 +1,4 @@
-use Rattle.std.proofs.Common.{◌≡◌, ◌≤◌, pos, subst, sym, arith, ap, ◌∙◌, to_z}
+use Rattle.std.proofs.Common.{◌≤◌, pos, subst, sym, arith, ap, ◌∙◌}
 use Rattle.std.proofs.lemmas.Int.{ints}
 use Rattle.scad_matrix.proofs.Reflected.{half_up-small}
 use Rattle.scad_matrix.proofs.mirroring.rounded_size.Goals as goal
