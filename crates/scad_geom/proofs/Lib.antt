@@ -9,8 +9,9 @@ pub mod Turns
 pub mod Shapes
 pub mod Bounds
 pub mod Doubled
+pub mod Nearest
+mod RoundingExamples
 pub mod Bits
 pub mod Casts
 pub mod Crossings
-pub mod Signs
 pub mod Square

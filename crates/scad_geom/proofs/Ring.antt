@@ -1,195 +1,229 @@
--- Identities of whole numbers by normal forms: both sides are written as terms over a list of values,
--- and `ring` proves them equal where their sums of monomials are the same.
-use Rattle.std.proofs.Common.{◌≡◌, ℕ, zero, suc, Bool, true, false, cond, List, [], ◌∷◌, refl, sym, ap, ap₂, ◌∙◌, eqb, ltb, subst, arith}
-use lib.Dec.{T, eqb→eq}
-use lib.IntN.{ℤ, pos, negsuc, ◌+ℤ◌, ◌-ℤ◌, ◌*ℤ◌, neg_ℤ, *ℤ_comm, *ℤ-one, *ℤ-zero, pos-*ℤ-pos, +ℤ_assoc, +ℤ_comm, +ℤ_idl, +ℤ_idr, zero-*ℤ}
-use Rattle.scad_geom.proofs.Integers.{mul_assoc, mul_add, add_mul, neg_mul}
+-- Identities of polynomials over whole numbers, by a normal form that computes.
+use Rattle.std.proofs.Common.{◌≡◌, ℕ, zero, suc, ◌+◌, ◌*◌, Bool, true, false, List, [], ◌∷◌, ℤ, pos, negsuc, neg_ℤ, ◌+ℤ◌, ◌-ℤ◌, ◌*ℤ◌, arith, refl, ap, sym, ◌∙◌, ap₂, nat_lt, ◌==◌, cond}
+use Rattle.std.proofs.lemmas.Int.{ints}
+use Rattle.std.proofs.Math.IntN.{+ℤ_assoc, *ℤ_comm}
+use borrow.Author.Differences.{up, down}
+use borrow.Author.Tests.{eqb-true}
 
+-- a sum and a product, told by differences of natural numbers
+sum_rel : (a b : ℤ) → up (a +ℤ b) + (down a + down b) ≡ down (a +ℤ b) + (up a + up b)
+sum_rel a b = omega (arith, ints)
+
+product_rel : (a b : ℤ) → up (a *ℤ b) + (up a * down b + down a * up b) ≡ down (a *ℤ b) + (up a * up b + down a * down b)
+product_rel a b = omega (arith, ints)
+
+pub *ℤ-+ℤ : (a b c : ℤ) → (a +ℤ b) *ℤ c ≡ a *ℤ c +ℤ b *ℤ c
+*ℤ-+ℤ a b c = omega (arith, ints, ap (λ n. n * up c) (sum_rel a b), ap (λ n. n * down c) (sum_rel a b))
+
+pub *ℤ_assoc : (a b c : ℤ) → (a *ℤ b) *ℤ c ≡ a *ℤ (b *ℤ c)
+*ℤ_assoc a b c = omega (arith, ints, ap (λ n. n * up c) (product_rel a b), ap (λ n. n * down c) (product_rel a b), ap (λ n. up a * n) (product_rel b c), ap (λ n. down a * n) (product_rel b c))
+
+pub neg-*ℤ : (a b : ℤ) → neg_ℤ a *ℤ b ≡ neg_ℤ (a *ℤ b)
+neg-*ℤ (pos zero) b = omega (arith, ints)
+neg-*ℤ (pos (suc a)) (pos b) = omega (arith, ints)
+neg-*ℤ (pos (suc a)) (negsuc b) = omega (arith, ints)
+neg-*ℤ (negsuc a) (pos b) = omega (arith, ints)
+neg-*ℤ (negsuc a) (negsuc b) = omega (arith, ints)
+
+-- an expression over numbered variables
+pub data Term : Type 0 where
+  num : ℤ → Term
+  var : ℕ → Term
+  plus : Term → Term → Term
+  less : Term → Term → Term
+  times : Term → Term → Term
+
+abbrev pub value_at : List ℤ → ℕ → ℤ
+value_at [] k = pos 0
+value_at (x ∷ xs) zero = x
+value_at (x ∷ xs) (suc k) = value_at xs k
+
+-- what an expression is worth where the variables have these values
+abbrev pub worth : List ℤ → Term → ℤ
+worth xs (num z) = z
+worth xs (var k) = value_at xs k
+worth xs (plus a b) = worth xs a +ℤ worth xs b
+worth xs (less a b) = worth xs a -ℤ worth xs b
+worth xs (times a b) = worth xs a *ℤ worth xs b
+
+-- a product of variables in ascending order, and a sum of such products with their factors, also in order
+abbrev pub factors_worth : List ℤ → List ℕ → ℤ
+factors_worth xs [] = pos 1
+factors_worth xs (k ∷ ks) = value_at xs k *ℤ factors_worth xs ks
+
+pub data Sum : Type 0 where
+  none : Sum
+  more : ℤ → List ℕ → Sum → Sum
+
+abbrev pub sum_worth : List ℤ → Sum → ℤ
+sum_worth xs none = pos 0
+sum_worth xs (more c ks s) = c *ℤ factors_worth xs ks +ℤ sum_worth xs s
+
+abbrev pub with_factor : ℕ → List ℕ → List ℕ
+with_factor j [] = j ∷ []
+with_factor j (k ∷ ks) = cond (nat_lt k j) (k ∷ with_factor j ks) (j ∷ k ∷ ks)
+
+abbrev pub with_factors : List ℕ → List ℕ → List ℕ
+with_factors [] ks = ks
+with_factors (j ∷ js) ks = with_factor j (with_factors js ks)
+
+-- which of two products stands first, and whether they are the same
+abbrev pub is_same : List ℕ → List ℕ → Bool
+is_same [] [] = true
+is_same [] (k ∷ ks) = false
+is_same (j ∷ js) [] = false
+is_same (j ∷ js) (k ∷ ks) = cond (j == k) (is_same js ks) false
+
+abbrev pub is_before : List ℕ → List ℕ → Bool
+is_before [] ks = true
+is_before (j ∷ js) [] = false
+is_before (j ∷ js) (k ∷ ks) = cond (nat_lt j k) true (cond (nat_lt k j) false (is_before js ks))
+
+abbrev pub is_zero : ℤ → Bool
+is_zero (pos zero) = true
+is_zero (pos (suc n)) = false
+is_zero (negsuc n) = false
+
+abbrev pub kept : ℤ → List ℕ → Sum → Sum
+kept c ks s = cond (is_zero c) s (more c ks s)
+
+abbrev pub with_product : ℤ → List ℕ → Sum → Sum
+with_product c js none = more c js none
+with_product c js (more d ks s) = cond (is_same js ks) (kept (c +ℤ d) ks s) (cond (is_before js ks) (more c js (more d ks s)) (more d ks (with_product c js s)))
+
+abbrev pub sum_of : Sum → Sum → Sum
+sum_of none t = t
+sum_of (more c ks s) t = with_product c ks (sum_of s t)
+
+abbrev pub scaled : ℤ → List ℕ → Sum → Sum
+scaled c js none = none
+scaled c js (more d ks s) = with_product (c *ℤ d) (with_factors js ks) (scaled c js s)
+
+abbrev pub product_of : Sum → Sum → Sum
+product_of none t = none
+product_of (more c js s) t = sum_of (scaled c js t) (product_of s t)
+
+-- an expression multiplied out
+abbrev pub normal : Term → Sum
+normal (num z) = kept z [] none
+normal (var k) = more (pos 1) (k ∷ []) none
+normal (plus a b) = sum_of (normal a) (normal b)
+normal (less a b) = sum_of (normal a) (scaled (negsuc 0) [] (normal b))
+normal (times a b) = product_of (normal a) (normal b)
+
+swap_terms : (a b c : ℤ) → a +ℤ (b +ℤ c) ≡ b +ℤ (a +ℤ c)
+swap_terms a b c = omega (arith, ints)
+
+minus_once : (a b : ℤ) → a +ℤ (negsuc 0 *ℤ pos 1) *ℤ b ≡ a -ℤ b
+minus_once a b = omega (arith, ints)
+
+spread : (c x d y s : ℤ) → (c *ℤ d) *ℤ (x *ℤ y) +ℤ (c *ℤ x) *ℤ s ≡ (c *ℤ x) *ℤ (d *ℤ y +ℤ s)
+spread c x d y s =
+    ap (λ z. z +ℤ (c *ℤ x) *ℤ s) (crossed c d x y)
+    ∙ sym (ap₂ (λ u v. u +ℤ v) (*ℤ_comm (d *ℤ y) (c *ℤ x)) (*ℤ_comm s (c *ℤ x)))
+    ∙ sym (*ℤ-+ℤ (d *ℤ y) s (c *ℤ x))
+    ∙ *ℤ_comm (d *ℤ y +ℤ s) (c *ℤ x)
+  where
+    crossed : (a b d' e : ℤ) → (a *ℤ b) *ℤ (d' *ℤ e) ≡ (a *ℤ d') *ℤ (b *ℤ e)
+    crossed a b d' e = *ℤ_assoc a b (d' *ℤ e) ∙ ap (λ z. a *ℤ z) (sym (*ℤ_assoc b d' e) ∙ ap (λ z. z *ℤ e) (*ℤ_comm b d') ∙ *ℤ_assoc d' b e) ∙ sym (*ℤ_assoc a d' (b *ℤ e))
+
+module _ (xs : List ℤ) where
+  swap_factors : (a b c : ℤ) → a *ℤ (b *ℤ c) ≡ b *ℤ (a *ℤ c)
+  swap_factors a b c = sym (*ℤ_assoc a b c) ∙ ap (λ z. z *ℤ c) (*ℤ_comm a b) ∙ *ℤ_assoc b a c
+
+  with_factor-worth : (j : ℕ) (ks : List ℕ) → factors_worth xs (with_factor j ks) ≡ value_at xs j *ℤ factors_worth xs ks
+  with_factor-worth j [] = refl
+  with_factor-worth j (k ∷ ks) =
+      elim (nat_lt k j) as (λ b. factors_worth xs (cond b (k ∷ with_factor j ks) (j ∷ k ∷ ks)) ≡ value_at xs j *ℤ (value_at xs k *ℤ factors_worth xs ks)) [
+        | true ↦ ap (λ z. value_at xs k *ℤ z) (with_factor-worth j ks) ∙ swap_factors (value_at xs k) (value_at xs j) (factors_worth xs ks)
+        | false ↦ refl
+      ]
+
+  with_factors-worth : (js ks : List ℕ) → factors_worth xs (with_factors js ks) ≡ factors_worth xs js *ℤ factors_worth xs ks
+  with_factors-worth [] ks = omega (arith, ints)
+  with_factors-worth (j ∷ js) ks =
+      with_factor-worth j (with_factors js ks)
+      ∙ ap (λ z. value_at xs j *ℤ z) (with_factors-worth js ks)
+      ∙ sym (*ℤ_assoc (value_at xs j) (factors_worth xs js) (factors_worth xs ks))
+
+  same_factors : (js ks : List ℕ) → is_same js ks ≡ true → factors_worth xs js ≡ factors_worth xs ks
+  same_factors [] [] h = refl
+  same_factors [] (k ∷ ks) h = cc
+  same_factors (j ∷ js) [] h = cc
+  same_factors (j ∷ js) (k ∷ ks) h =
+      elim (j == k) as (λ b. (j == k ≡ b) → cond b (is_same js ks) false ≡ true → value_at xs j *ℤ factors_worth xs js ≡ value_at xs k *ℤ factors_worth xs ks) [
+        | true ↦ (λ e g. let f = same_factors js ks g in ap₂ (λ i z. value_at xs i *ℤ z) (eqb-true j k e) f)
+        | false ↦ (λ e g. cc)
+      ] refl h
+
+  kept-worth : (c : ℤ) (ks : List ℕ) (s : Sum) → sum_worth xs (kept c ks s) ≡ c *ℤ factors_worth xs ks +ℤ sum_worth xs s
+  kept-worth (pos zero) ks s = omega (arith, ints)
+  kept-worth (pos (suc n)) ks s = refl
+  kept-worth (negsuc n) ks s = refl
+
+  with_product-worth : (c : ℤ) (js : List ℕ) (s : Sum) → sum_worth xs (with_product c js s) ≡ c *ℤ factors_worth xs js +ℤ sum_worth xs s
+  with_product-worth c js none = refl
+  with_product-worth c js (more d ks s) =
+      let tail = with_product-worth c js s in
+      elim (is_same js ks) as (λ b. (is_same js ks ≡ b) → sum_worth xs (cond b (kept (c +ℤ d) ks s) (cond (is_before js ks) (more c js (more d ks s)) (more d ks (with_product c js s)))) ≡ c *ℤ factors_worth xs js +ℤ (d *ℤ factors_worth xs ks +ℤ sum_worth xs s)) [
+        | true ↦ (λ e. kept-worth (c +ℤ d) ks s ∙ ap (λ z. z +ℤ sum_worth xs s) (*ℤ-+ℤ c d (factors_worth xs ks)) ∙ +ℤ_assoc (c *ℤ factors_worth xs ks) (d *ℤ factors_worth xs ks) (sum_worth xs s) ∙ ap (λ z. c *ℤ z +ℤ (d *ℤ factors_worth xs ks +ℤ sum_worth xs s)) (sym (same_factors js ks e)))
+        | false ↦ (λ e. elim (is_before js ks) as (λ b. sum_worth xs (cond b (more c js (more d ks s)) (more d ks (with_product c js s))) ≡ c *ℤ factors_worth xs js +ℤ (d *ℤ factors_worth xs ks +ℤ sum_worth xs s)) [
+          | true ↦ refl
+          | false ↦ ap (λ z. d *ℤ factors_worth xs ks +ℤ z) tail ∙ swap_terms (d *ℤ factors_worth xs ks) (c *ℤ factors_worth xs js) (sum_worth xs s)
+        ])
+      ] refl
+
+  sum_of-worth : (s t : Sum) → sum_worth xs (sum_of s t) ≡ sum_worth xs s +ℤ sum_worth xs t
+  sum_of-worth none t = omega (arith, ints)
+  sum_of-worth (more c ks s) t =
+      with_product-worth c ks (sum_of s t)
+      ∙ ap (λ z. c *ℤ factors_worth xs ks +ℤ z) (sum_of-worth s t)
+      ∙ sym (+ℤ_assoc (c *ℤ factors_worth xs ks) (sum_worth xs s) (sum_worth xs t))
+
+  scaled-worth : (c : ℤ) (js : List ℕ) (s : Sum) → sum_worth xs (scaled c js s) ≡ (c *ℤ factors_worth xs js) *ℤ sum_worth xs s
+  scaled-worth c js none = omega (arith, ints)
+  scaled-worth c js (more d ks s) =
+      with_product-worth (c *ℤ d) (with_factors js ks) (scaled c js s)
+      ∙ ap₂ (λ y z. (c *ℤ d) *ℤ y +ℤ z) (with_factors-worth js ks) (scaled-worth c js s)
+      ∙ spread c (factors_worth xs js) d (factors_worth xs ks) (sum_worth xs s)
+
+  product_of-worth : (s t : Sum) → sum_worth xs (product_of s t) ≡ sum_worth xs s *ℤ sum_worth xs t
+  product_of-worth none t = omega (arith, ints)
+  product_of-worth (more c js s) t =
+      sum_of-worth (scaled c js t) (product_of s t)
+      ∙ ap₂ (λ y z. y +ℤ z) (scaled-worth c js t) (product_of-worth s t)
+      ∙ sym (*ℤ-+ℤ (c *ℤ factors_worth xs js) (sum_worth xs s) (sum_worth xs t))
+
+  normal-worth : (a : Term) → sum_worth xs (normal a) ≡ worth xs a
+  normal-worth (num z) = kept-worth z [] none ∙ (omega (arith, ints))
+  normal-worth (var k) = omega (arith, ints)
+  normal-worth (plus a b) = sum_of-worth (normal a) (normal b) ∙ ap₂ (λ y z. y +ℤ z) (normal-worth a) (normal-worth b)
+  normal-worth (less a b) =
+      sum_of-worth (normal a) (scaled (negsuc 0) [] (normal b))
+      ∙ ap₂ (λ y z. y +ℤ z) (normal-worth a) (scaled-worth (negsuc 0) [] (normal b) ∙ ap (λ z. (negsuc 0 *ℤ pos 1) *ℤ z) (normal-worth b))
+      ∙ minus_once (worth xs a) (worth xs b)
+  normal-worth (times a b) = product_of-worth (normal a) (normal b) ∙ ap₂ (λ y z. y *ℤ z) (normal-worth a) (normal-worth b)
+
+  -- expressions that are the same when multiplied out are worth the same
+  pub solve : (a b : Term) → normal a ≡ normal b → worth xs a ≡ worth xs b
+  solve a b e = sym (normal-worth a) ∙ ap (sum_worth xs) e ∙ normal-worth b
+
+-- the same in symbols, for identities over many variables
 infixl 65 ◌⊕◌
 infixl 65 ◌⊖◌
 infixl 70 ◌⊗◌
-pub data Term : Type 0 where
-  var : ℕ → Term
-  num : ℤ → Term
-  ◌⊕◌ : Term → Term → Term
-  ◌⊗◌ : Term → Term → Term
-  ◌⊖◌ : Term → Term → Term
+abbrev pub ◌⊕◌ : Term → Term → Term
+a ⊕ b = plus a b
 
-pub data Monomial : Type 0 where
-  mono : ℤ → List ℕ → Monomial
+abbrev pub ◌⊖◌ : Term → Term → Term
+a ⊖ b = less a b
 
--- the value at a place, 0 past the end
-abbrev pub at : List ℤ → ℕ → ℤ
-at [] k = pos 0
-at (x ∷ xs) zero = x
-at (x ∷ xs) (suc k) = at xs k
+abbrev pub ◌⊗◌ : Term → Term → Term
+a ⊗ b = times a b
 
-abbrev pub value_of : List ℤ → Term → ℤ
-value_of xs (var k) = at xs k
-value_of xs (num z) = z
-value_of xs (s ⊕ t) = value_of xs s +ℤ value_of xs t
-value_of xs (s ⊗ t) = value_of xs s *ℤ value_of xs t
-value_of xs (s ⊖ t) = value_of xs s -ℤ value_of xs t
+pub ring : (xs : List ℤ) (a b : Term) → normal a ≡ normal b → worth xs a ≡ worth xs b
+ring = solve
 
--- a product of variables
-abbrev pub product : List ℤ → List ℕ → ℤ
-product xs [] = pos 1
-product xs (v ∷ vs) = at xs v *ℤ product xs vs
-
-abbrev pub total : List ℤ → List Monomial → ℤ
-total xs [] = pos 0
-total xs (mono c vs ∷ ms) = c *ℤ product xs vs +ℤ total xs ms
-
-abbrev pub put : ℕ → List ℕ → List ℕ
-put v [] = v ∷ []
-put v (u ∷ us) = cond (ltb u v) (u ∷ put v us) (v ∷ (u ∷ us))
-
-abbrev pub merged : List ℕ → List ℕ → List ℕ
-merged [] us = us
-merged (v ∷ vs) us = put v (merged vs us)
-
-abbrev pub same : List ℕ → List ℕ → Bool
-same [] [] = true
-same [] (u ∷ us) = false
-same (v ∷ vs) [] = false
-same (v ∷ vs) (u ∷ us) = cond (eqb v u) (same vs us) false
-
-abbrev pub below : List ℕ → List ℕ → Bool
-below [] us = true
-below (v ∷ vs) [] = false
-below (v ∷ vs) (u ∷ us) = cond (eqb v u) (below vs us) (ltb v u)
-
-abbrev pub insert : ℤ → List ℕ → List Monomial → List Monomial
-insert c vs [] = mono c vs ∷ []
-insert c vs (mono d us ∷ ms) = cond (same vs us) (mono (c +ℤ d) us ∷ ms) (cond (below vs us) (mono c vs ∷ (mono d us ∷ ms)) (mono d us ∷ insert c vs ms))
-
-abbrev pub sum_of : List Monomial → List Monomial → List Monomial
-sum_of [] q = q
-sum_of (mono c vs ∷ p) q = insert c vs (sum_of p q)
-
-abbrev pub scaled : ℤ → List ℕ → List Monomial → List Monomial
-scaled c vs [] = []
-scaled c vs (mono d us ∷ q) = insert (c *ℤ d) (merged vs us) (scaled c vs q)
-
-abbrev pub product_of : List Monomial → List Monomial → List Monomial
-product_of [] q = []
-product_of (mono c vs ∷ p) q = sum_of (scaled c vs q) (product_of p q)
-
-abbrev pub is_nothing : ℤ → Bool
-is_nothing (pos zero) = true
-is_nothing (pos (suc n)) = false
-is_nothing (negsuc n) = false
-
-abbrev pub kept : List Monomial → List Monomial
-kept [] = []
-kept (mono c vs ∷ ms) = cond (is_nothing c) (kept ms) (mono c vs ∷ kept ms)
-
-abbrev pub form : Term → List Monomial
-form (var k) = mono (pos 1) (k ∷ []) ∷ []
-form (num z) = mono z [] ∷ []
-form (s ⊕ t) = sum_of (form s) (form t)
-form (s ⊗ t) = product_of (form s) (form t)
-form (s ⊖ t) = sum_of (form s) (scaled (negsuc 0) [] (form t))
-
--- ---- what the forms are worth
-product-put : (xs : List ℤ) (v : ℕ) (us : List ℕ) → product xs (put v us) ≡ at xs v *ℤ product xs us
-product-put xs v [] = refl
-product-put xs v (u ∷ us) = elim (ltb u v) as (λ b. product xs (cond b (u ∷ put v us) (v ∷ (u ∷ us))) ≡ at xs v *ℤ (at xs u *ℤ product xs us)) [
-  | true ↦ ap (λ (z : ℤ). at xs u *ℤ z) (product-put xs v us) ∙ sym (mul_assoc (at xs u) (at xs v) (product xs us)) ∙ ap (λ (z : ℤ). z *ℤ product xs us) (*ℤ_comm (at xs u) (at xs v)) ∙ mul_assoc (at xs v) (at xs u) (product xs us)
-  | false ↦ refl
-]
-
-mul_one : (a : ℤ) → a *ℤ pos 1 ≡ a
-unfolding lib.IntN.one
-mul_one a = *ℤ-one a
-
-one_mul : (a : ℤ) → pos 1 *ℤ a ≡ a
-one_mul a = *ℤ_comm (pos 1) a ∙ mul_one a
-
-product-merged : (xs : List ℤ) (vs us : List ℕ) → product xs (merged vs us) ≡ product xs vs *ℤ product xs us
-product-merged xs [] us = sym (one_mul (product xs us))
-product-merged xs (v ∷ vs) us = product-put xs v (merged vs us) ∙ ap (λ (z : ℤ). at xs v *ℤ z) (product-merged xs vs us) ∙ sym (mul_assoc (at xs v) (product xs vs) (product xs us))
-
-same_head : (v u : ℕ) (b : Bool) → cond (eqb v u) b false ≡ true → (v ≡ u) × (b ≡ true)
-same_head v u b h = split (eqb v u) refl h
-  where
-    split : (t : Bool) → eqb v u ≡ t → cond t b false ≡ true → (v ≡ u) × (b ≡ true)
-    split true e k = (eqb→eq v u (subst T (sym e) tt), k)
-    split false e k = cc
-
-same_is : (vs us : List ℕ) → same vs us ≡ true → vs ≡ us
-same_is [] [] h = refl
-same_is [] (u ∷ us) h = cc
-same_is (v ∷ vs) [] h = cc
-same_is (v ∷ vs) (u ∷ us) h = let e = same_head v u (same vs us) h in ap₂ (λ (x : ℕ) (xs : List ℕ). x ∷ xs) e.0 (same_is vs us e.1)
-
-joined : (xs : List ℤ) (c d : ℤ) (vs us : List ℕ) (z : ℤ) → vs ≡ us → (c +ℤ d) *ℤ product xs us +ℤ z ≡ c *ℤ product xs vs +ℤ (d *ℤ product xs us +ℤ z)
-joined xs c d vs us z e = rw e (rw (add_mul c d (product xs us)) (+ℤ_assoc (c *ℤ product xs us) (d *ℤ product xs us) z))
-
-swapped : (a b c : ℤ) → a +ℤ (b +ℤ c) ≡ b +ℤ (a +ℤ c)
-swapped a b c = sym (+ℤ_assoc a b c) ∙ ap (λ (z : ℤ). z +ℤ c) (+ℤ_comm a b) ∙ +ℤ_assoc b a c
-
-chosen : (R : Bool → Bool → Type 0) (a b : Bool) → (a ≡ true → (b : Bool) → R true b) → R false true → R false false → R a b
-chosen R true b p q r = p refl b
-chosen R false true p q r = q
-chosen R false false p q r = r
-
-total-insert : (xs : List ℤ) (c : ℤ) (vs : List ℕ) (ms : List Monomial) → total xs (insert c vs ms) ≡ c *ℤ product xs vs +ℤ total xs ms
-total-insert xs c vs [] = refl
-total-insert xs c vs (mono d us ∷ ms) =
-    let R : Bool → Bool → Type 0 = λ a b. total xs (cond a (mono (c +ℤ d) us ∷ ms) (cond b (mono c vs ∷ (mono d us ∷ ms)) (mono d us ∷ insert c vs ms))) ≡ c *ℤ product xs vs +ℤ (d *ℤ product xs us +ℤ total xs ms) in
-    let equal : same vs us ≡ true → (b : Bool) → R true b = λ e b. joined xs c d vs us (total xs ms) (same_is vs us e) in
-    let later : R false false = ap (λ (z : ℤ). d *ℤ product xs us +ℤ z) (total-insert xs c vs ms) ∙ swapped (d *ℤ product xs us) (c *ℤ product xs vs) (total xs ms) in
-    chosen R (same vs us) (below vs us) equal refl later
-
-total-sum_of : (xs : List ℤ) (p q : List Monomial) → total xs (sum_of p q) ≡ total xs p +ℤ total xs q
-total-sum_of xs [] q = sym (+ℤ_idl (total xs q))
-total-sum_of xs (mono c vs ∷ p) q = total-insert xs c vs (sum_of p q) ∙ ap (λ (z : ℤ). c *ℤ product xs vs +ℤ z) (total-sum_of xs p q) ∙ sym (+ℤ_assoc (c *ℤ product xs vs) (total xs p) (total xs q))
-
-crossed : (a b c d : ℤ) → (a *ℤ b) *ℤ (c *ℤ d) ≡ (a *ℤ c) *ℤ (b *ℤ d)
-crossed a b c d = mul_assoc a b (c *ℤ d) ∙ ap (λ (z : ℤ). a *ℤ z) (sym (mul_assoc b c d) ∙ ap (λ (z : ℤ). z *ℤ d) (*ℤ_comm b c) ∙ mul_assoc c b d) ∙ sym (mul_assoc a c (b *ℤ d))
-
-total-scaled : (xs : List ℤ) (c : ℤ) (vs : List ℕ) (q : List Monomial) → total xs (scaled c vs q) ≡ (c *ℤ product xs vs) *ℤ total xs q
-total-scaled xs c vs [] = sym (*ℤ-zero (c *ℤ product xs vs))
-total-scaled xs c vs (mono d us ∷ q) =
-    total-insert xs (c *ℤ d) (merged vs us) (scaled c vs q)
-    ∙ ap₂ (λ (y z : ℤ). (c *ℤ d) *ℤ y +ℤ z) (product-merged xs vs us) (total-scaled xs c vs q)
-    ∙ ap (λ (y : ℤ). y +ℤ (c *ℤ product xs vs) *ℤ total xs q) (crossed c d (product xs vs) (product xs us))
-    ∙ sym (mul_add (c *ℤ product xs vs) (d *ℤ product xs us) (total xs q))
-
-total-product_of : (xs : List ℤ) (p q : List Monomial) → total xs (product_of p q) ≡ total xs p *ℤ total xs q
-total-product_of xs [] q = sym (zero-*ℤ (total xs q))
-total-product_of xs (mono c vs ∷ p) q = total-sum_of xs (scaled c vs q) (product_of p q) ∙ ap₂ (λ (y z : ℤ). y +ℤ z) (total-scaled xs c vs q) (total-product_of xs p q) ∙ sym (add_mul (c *ℤ product xs vs) (total xs p) (total xs q))
-
-is_nothing_is : (c : ℤ) → is_nothing c ≡ true → c ≡ pos 0
-is_nothing_is (pos zero) h = refl
-is_nothing_is (pos (suc n)) h = cc
-is_nothing_is (negsuc n) h = cc
-
-kept_or_not : (xs : List ℤ) (c : ℤ) (vs : List ℕ) (ms : List Monomial) (b : Bool) → is_nothing c ≡ b → total xs (kept ms) ≡ total xs ms
-    → total xs (cond b (kept ms) (mono c vs ∷ kept ms)) ≡ c *ℤ product xs vs +ℤ total xs ms
-kept_or_not xs c vs ms true e h = h ∙ sym (rw (is_nothing_is c e) (rw (zero-*ℤ (product xs vs)) (+ℤ_idl (total xs ms))))
-kept_or_not xs c vs ms false e h = ap (λ (z : ℤ). c *ℤ product xs vs +ℤ z) h
-
-total-kept : (xs : List ℤ) (ms : List Monomial) → total xs (kept ms) ≡ total xs ms
-total-kept xs [] = refl
-total-kept xs (mono c vs ∷ ms) = kept_or_not xs c vs ms (is_nothing c) refl (total-kept xs ms)
-
-negated : (a : ℤ) → (negsuc 0 *ℤ pos 1) *ℤ a ≡ neg_ℤ a
-negated a = neg_mul (pos 1) a ∙ ap neg_ℤ (one_mul a)
-
-total-form : (xs : List ℤ) (t : Term) → total xs (form t) ≡ value_of xs t
-total-form xs (var k) = +ℤ_idr (pos 1 *ℤ (at xs k *ℤ pos 1)) ∙ one_mul (at xs k *ℤ pos 1) ∙ mul_one (at xs k)
-total-form xs (num z) = +ℤ_idr (z *ℤ pos 1) ∙ mul_one z
-total-form xs (s ⊕ t) = total-sum_of xs (form s) (form t) ∙ ap₂ (λ (y z : ℤ). y +ℤ z) (total-form xs s) (total-form xs t)
-total-form xs (s ⊗ t) = total-product_of xs (form s) (form t) ∙ ap₂ (λ (y z : ℤ). y *ℤ z) (total-form xs s) (total-form xs t)
-total-form xs (s ⊖ t) = total-sum_of xs (form s) (scaled (negsuc 0) [] (form t))
-    ∙ ap₂ (λ (y z : ℤ). y +ℤ z) (total-form xs s) (total-scaled xs (negsuc 0) [] (form t) ∙ negated (total xs (form t)) ∙ ap neg_ℤ (total-form xs t))
-
-pub ring : (xs : List ℤ) (s t : Term) → kept (form s) ≡ kept (form t) → value_of xs s ≡ value_of xs t
-ring xs s t h = sym (total-form xs s) ∙ sym (total-kept xs (form s)) ∙ ap (total xs) h ∙ total-kept xs (form t) ∙ total-form xs t
-
--- the first variables
 abbrev pub v0 : Term
 v0 = var 0
 

@@ -6,4 +6,7 @@ pub mod Line
 pub mod Around
 pub mod Shape
 pub mod Heights
+pub mod Rounding
 pub mod Square
+pub mod Balance
+pub mod PointRange
