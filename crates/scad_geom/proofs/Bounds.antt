@@ -1,21 +1,19 @@
 -- The height at which two edges meet lies within the limit of their coordinates.
-use Rattle.std.proofs.Common.{◌≡◌, ℕ, zero, suc, ◌+◌, ◌*◌, ◌<◌, ◌≤◌, ◌^◌, ◌⊎◌, inl, inr, Bool, true, false, not, cond, ◌&&◌, ◌||◌, refl, sym, ap, ap₂, ◌∙◌, arith, subst}
-use lib.IntN.{ℤ, pos, negsuc, ◌+ℤ◌, ◌-ℤ◌, ◌*ℤ◌, neg_ℤ, neg_ℤ-neg_ℤ}
+use Rattle.std.proofs.Common.{◌≡◌, ℕ, ◌*◌, ◌≤◌, ◌^◌, ◌⊎◌, inl, inr, Bool, true, false, not, cond, ◌&&◌, ◌||◌, refl, arith}
+use lib.IntN.{ℤ, pos, ◌+ℤ◌, ◌-ℤ◌, ◌*ℤ◌, neg_ℤ}
 use lib.Signed.{◌<ℤ◌, ◌≤ℤ◌}
 use Rattle.std.specs.Prelude.{int_lt, int_le, if◌then◌else◌, unsigned_abs}
-use Rattle.std.proofs.lemmas.Int.{ints, by_lt_z, unsigned_abs-mul}
+use Rattle.std.proofs.lemmas.Int.{ints, unsigned_abs-mul}
 use Rattle.std.proofs.lemmas.Nat.{mul-le}
-use Rattle.scad_geom.specs.declared.point.Pt.{Pt}
 use Rattle.scad_geom.specs.declared.point.Edge.{Edge}
 use Rattle.scad_geom.specs.declared.level.Level.{Level}
 use Rattle.scad_geom.specs.Point.{IsWithin, IsEdgeWithin}
-use Rattle.scad_geom.specs.Line.{low, high, rise, run, offset, x_at, left_of, lean, apart}
+use Rattle.scad_geom.specs.Line.{low, high, rise, left_of, lean, apart}
 use Rattle.scad_geom.specs.Shape.{is_zero}
 use Rattle.scad_geom.specs.Heights.{straddles, meets, meeting, IsLevelWithin}
 use Rattle.scad_geom.proofs.Signs.{at_least_mul, at_most_mul}
 use Rattle.scad_geom.proofs.Lines.{low_by, high_by}
 use Rattle.scad_geom.proofs.Heights.{meeting_positive}
-use Rattle.scad_geom.proofs.Integers.{mul_add}
 
 both_are : (a b : Bool) → (a && b) ≡ true → (a ≡ true) × (b ≡ true)
 both_are true true h = (refl, refl)

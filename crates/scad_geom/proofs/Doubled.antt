@@ -1,14 +1,14 @@
 -- The winding number over doubled coordinates is that of the leaf's edges hard by the point, above and to the right.
 use Rattle.std.proofs.Common.{◌≡◌, ℕ, Bool, true, false, List, [], ◌∷◌, refl, sym, ap, ap₂, ◌∙◌, arith}
-use lib.IntN.{ℤ, pos, negsuc, ◌+ℤ◌, ◌-ℤ◌, ◌*ℤ◌, neg_ℤ, +ℤ_idl}
-use lib.Signed.{◌<ℤ◌, ◌≤ℤ◌}
+use lib.IntN.{ℤ, pos, ◌+ℤ◌, ◌-ℤ◌, ◌*ℤ◌, +ℤ_idl}
+use lib.Signed.{◌<ℤ◌}
 use Rattle.std.specs.Prelude.{int_lt, if◌then◌else◌, ◌==◌}
 use Rattle.std.proofs.lemmas.Int.{ints}
 use Rattle.scad_geom.specs.declared.point.Edge.{Edge}
 use Rattle.scad_geom.specs.declared.level.LeafEdge.{LeafEdge}
-use Rattle.scad_geom.specs.Winding.{counted, passage, side_of, crossing, doubled_edge, wind}
+use Rattle.scad_geom.specs.Winding.{passage, side_of, crossing, doubled_edge, wind}
 use Rattle.scad_geom.specs.Around.{Point, whole, is_over, passage_by, side_by, is_beyond, turn, wind_by}
-use Rattle.scad_geom.proofs.Ring.{ring, Term, num, ◌⊕◌, ◌⊖◌, ◌⊗◌, v0, v1, v2, v3, v4, v5, v6}
+use Rattle.scad_geom.proofs.Ring.{ring, num, ◌⊖◌, ◌⊗◌, v0, v1, v2, v3, v4, v5}
 use Rattle.scad_geom.proofs.Integers.{mul_assoc}
 use Rattle.scad_geom.proofs.Turns.{beyond_mul}
 
@@ -51,7 +51,7 @@ same_turn e x y =
     let S : ℤ = side_by (half_of x y) (whole e.a) (whole e.b) in
     let two : pos 0 <ℤ pos 2 = omega (arith, ints) in
     let b : is_beyond true (P *ℤ S) ≡ int_lt (pos 0) (P *ℤ side_of (doubled_edge e) x y) =
-        sym (beyond_mul true (pos 2) (P *ℤ S) two) ∙ beyond_is ((P *ℤ S) *ℤ pos 2) ∙ ap (int_lt (pos 0)) (mul_assoc P S (pos 2) ∙ ap (λ (z : ℤ). P *ℤ z) (sym s)) in
+    sym (beyond_mul true (pos 2) (P *ℤ S) two) ∙ beyond_is ((P *ℤ S) *ℤ pos 2) ∙ ap (int_lt (pos 0)) (mul_assoc P S (pos 2) ∙ ap (λ (z : ℤ). P *ℤ z) (sym s)) in
     ap (λ (q : ℤ). if is_beyond true (q *ℤ S) then q else pos 0) p ∙ ap (λ (t : Bool). if t then P else pos 0) b
 
 -- the winding number of a leaf, over doubled coordinates
@@ -59,7 +59,7 @@ pub wind-half : (es : List LeafEdge) (leaf : ℕ) (x y : ℤ) → wind_by true t
 wind-half [] leaf x y = refl
 wind-half (e ∷ es) leaf x y = by_test (e.leaf == leaf) (wind-half es leaf x y)
   where
-  by_test : (t : Bool) → wind_by true true (half_of x y) leaf es ≡ wind (edges_of leaf es) x y
-      → (if t then turn true true (half_of x y) (whole e.edge.a) (whole e.edge.b) else pos 0) +ℤ wind_by true true (half_of x y) leaf es ≡ wind (if t then e.edge ∷ edges_of leaf es else edges_of leaf es) x y
-  by_test true r = ap₂ (λ (y z : ℤ). y +ℤ z) (same_turn e.edge x y) r
-  by_test false r = +ℤ_idl (wind_by true true (half_of x y) leaf es) ∙ r
+    by_test : (t : Bool) → wind_by true true (half_of x y) leaf es ≡ wind (edges_of leaf es) x y
+        → (if t then turn true true (half_of x y) (whole e.edge.a) (whole e.edge.b) else pos 0) +ℤ wind_by true true (half_of x y) leaf es ≡ wind (if t then e.edge ∷ edges_of leaf es else edges_of leaf es) x y
+    by_test true r = ap₂ (λ (y z : ℤ). y +ℤ z) (same_turn e.edge x y) r
+    by_test false r = +ℤ_idl (wind_by true true (half_of x y) leaf es) ∙ r

@@ -1,21 +1,20 @@
 -- Comparing heights over different divisors, and the heights at which two edges meet.
-use Rattle.std.proofs.Common.{◌≡◌, ◌≢◌, ℕ, zero, suc, ◌+◌, ◌<◌, ◌⊎◌, inl, inr, Bool, true, false, not, cond, ◌&&◌, ◌||◌, List, [], ◌∷◌, ◌++◌, length, get_or, refl, sym, ap, ap₂, ◌∙◌, arith, subst}
+use Rattle.std.proofs.Common.{◌≡◌, zero, suc, Bool, true, false, not, cond, ◌&&◌, ◌||◌, List, [], ◌∷◌, ◌++◌, refl, sym, ◌∙◌, arith, subst}
 use lib.IntN.{ℤ, pos, negsuc, ◌+ℤ◌, ◌-ℤ◌, ◌*ℤ◌, neg_ℤ, neg_ℤ-neg_ℤ}
 use lib.Signed.{◌<ℤ◌, ◌≤ℤ◌, lt_z, le_z}
 use Rattle.std.specs.Prelude.{int_lt, int_le, if◌then◌else◌}
 use Rattle.std.specs.List.{AllByRecursion}
-use Rattle.std.proofs.lemmas.Int.{ints, by_lt_z}
-use Rattle.scad_geom.specs.declared.point.Pt.{Pt}
+use Rattle.std.proofs.lemmas.Int.{ints}
 use Rattle.scad_geom.specs.declared.point.Edge.{Edge}
 use Rattle.scad_geom.specs.declared.level.Level.{Level}
 use Rattle.scad_geom.specs.declared.level.LeafEdge.{LeafEdge}
-use Rattle.scad_geom.specs.Line.{low, high, rise, run, offset, x_at, left_of, lean, apart}
+use Rattle.scad_geom.specs.Line.{low, high, rise, run, offset, left_of, lean, apart}
 use Rattle.scad_geom.specs.Shape.{is_zero}
-use Rattle.scad_geom.specs.Heights.{level_of, IsLower, IsAtMost, IsSameHeight, straddles, meets, meeting, meetings, heights}
-use Rattle.scad_geom.proofs.Ring.{ring, Term, num, ◌⊕◌, ◌⊖◌, ◌⊗◌, v0, v1, v2, v3, v4, v5, v6, v7, v8, v9, v10, v11}
-use Rattle.scad_geom.proofs.Signs.{pos_mul, at_least_mul, pos_left, at_least_left, neg_mul_pos}
+use Rattle.scad_geom.specs.Heights.{level_of, IsLower, IsAtMost, straddles, meets, meeting, meetings, heights}
+use Rattle.scad_geom.proofs.Ring.{ring, num, ◌⊕◌, ◌⊖◌, ◌⊗◌, v0, v1, v2, v3, v4, v5}
+use Rattle.scad_geom.proofs.Signs.{pos_mul, at_least_mul, pos_left, at_least_left}
 use Rattle.scad_geom.proofs.Lines.{low_by, high_by}
-use Rattle.scad_geom.proofs.Integers.{neg_mul, mul_add}
+use Rattle.scad_geom.proofs.Integers.{neg_mul}
 
 chain : (a p b q c r : ℤ) → (c *ℤ p -ℤ a *ℤ r) *ℤ q ≡ (c *ℤ q -ℤ b *ℤ r) *ℤ p +ℤ (b *ℤ p -ℤ a *ℤ q) *ℤ r
 chain a p b q c r = ring (a ∷ p ∷ b ∷ q ∷ c ∷ r ∷ []) ((v4 ⊗ v1 ⊖ v0 ⊗ v5) ⊗ v3) ((v4 ⊗ v3 ⊖ v2 ⊗ v5) ⊗ v1 ⊕ (v2 ⊗ v1 ⊖ v0 ⊗ v3) ⊗ v5) refl

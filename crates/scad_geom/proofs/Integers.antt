@@ -1,6 +1,6 @@
 -- The laws of a ring for whole numbers.
-use Rattle.std.proofs.Common.{◌≡◌, ℕ, suc, ◌+◌, ◌*◌, refl, sym, ap, ap₂, ◌∙◌, arith}
-use lib.IntN.{ℤ, pos, negsuc, ◌+ℤ◌, ◌-ℤ◌, ◌*ℤ◌, neg_ℤ, *ℤ_comm}
+use Rattle.std.proofs.Common.{◌≡◌, ℕ, ◌+◌, ◌*◌, ap, ap₂, ◌∙◌, arith}
+use lib.IntN.{ℤ, ◌+ℤ◌, ◌*ℤ◌, neg_ℤ, *ℤ_comm}
 use borrow.Author.Differences.{up, down, same_in, sum_is_lem, product_is, neg_is}
 
 pub up_mul : (a b : ℤ) → up (a *ℤ b) ≡ up a * up b + down a * down b

@@ -1,13 +1,10 @@
 -- The lines of edges: how two of them lie to each other at a height.
-use Rattle.std.proofs.Common.{◌≡◌, ℕ, ◌⊎◌, inl, inr, Bool, true, false, cond, List, [], ◌∷◌, refl, sym, ap, ap₂, ◌∙◌, arith, subst}
-use lib.IntN.{ℤ, pos, negsuc, ◌+ℤ◌, ◌-ℤ◌, ◌*ℤ◌, neg_ℤ}
-use lib.Signed.{◌<ℤ◌, ◌≤ℤ◌}
-use Rattle.std.proofs.lemmas.Int.{ints, by_lt_z}
-use Rattle.scad_geom.specs.declared.point.Pt.{Pt}
+use Rattle.std.proofs.Common.{◌≡◌, [], ◌∷◌, refl, arith}
+use lib.IntN.{ℤ, pos, ◌+ℤ◌, ◌-ℤ◌, ◌*ℤ◌}
+use Rattle.std.proofs.lemmas.Int.{ints}
 use Rattle.scad_geom.specs.declared.point.Edge.{Edge}
 use Rattle.scad_geom.specs.Line.{low, high, rise, run, offset, x_at, left_of, lean, apart}
-use Rattle.scad_geom.proofs.Ring.{ring, Term, num, ◌⊕◌, ◌⊖◌, ◌⊗◌, v0, v1, v2, v3, v4, v5, v6, v7, v8, v9, v10, v11}
-use Rattle.scad_geom.proofs.Signs.{pos_mul, at_least_mul, pos_left, at_least_left, neg_mul_pos}
+use Rattle.scad_geom.proofs.Ring.{ring, num, ◌⊕◌, ◌⊖◌, ◌⊗◌, v0, v1, v2, v3, v4, v5, v6, v7, v8}
 
 gap_identity : (u c r v b s n d : ℤ) → (u *ℤ n +ℤ c *ℤ d) *ℤ s -ℤ (v *ℤ n +ℤ b *ℤ d) *ℤ r ≡ (u *ℤ s -ℤ v *ℤ r) *ℤ n +ℤ (c *ℤ s -ℤ b *ℤ r) *ℤ d
 gap_identity u c r v b s n d = ring (u ∷ c ∷ r ∷ v ∷ b ∷ s ∷ n ∷ d ∷ []) ((v0 ⊗ v6 ⊕ v1 ⊗ v7) ⊗ v5 ⊖ (v3 ⊗ v6 ⊕ v4 ⊗ v7) ⊗ v2) ((v0 ⊗ v5 ⊖ v3 ⊗ v2) ⊗ v6 ⊕ (v1 ⊗ v5 ⊖ v4 ⊗ v2) ⊗ v7) refl

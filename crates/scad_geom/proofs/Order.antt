@@ -1,22 +1,21 @@
 -- Between two neighbouring heights the order of edges stays as it is.
-use Rattle.std.proofs.Common.{◌≡◌, ◌≢◌, ℕ, zero, suc, ◌+◌, ◌<◌, ◌≤◌, ◌⊎◌, inl, inr, Bool, true, false, not, cond, List, [], ◌∷◌, ◌++◌, length, get_or, refl, sym, ap, ap₂, ◌∙◌, arith, subst}
-use lib.IntN.{ℤ, pos, negsuc, ◌+ℤ◌, ◌-ℤ◌, ◌*ℤ◌, neg_ℤ, neg_ℤ-neg_ℤ, zero-*ℤ}
-use lib.Signed.{◌<ℤ◌, ◌≤ℤ◌, lt_z, le_z}
-use Rattle.std.specs.Prelude.{int_lt, int_le, if◌then◌else◌}
-use Rattle.std.specs.List.{AllByRecursion, All}
+use Rattle.std.proofs.Common.{◌≡◌, ℕ, zero, suc, ◌<◌, ◌⊎◌, inl, inr, Bool, true, false, List, [], ◌∷◌, ◌++◌, length, get_or, refl, sym, ap, ◌∙◌, arith, subst}
+use lib.IntN.{ℤ, pos, negsuc, ◌+ℤ◌, ◌-ℤ◌, ◌*ℤ◌, neg_ℤ, zero-*ℤ}
+use lib.Signed.{◌<ℤ◌, ◌≤ℤ◌}
+use Rattle.std.specs.Prelude.{if◌then◌else◌}
+use Rattle.std.specs.List.{AllByRecursion}
 use Rattle.std.proofs.lemmas.Int.{ints, by_lt_z}
 use Rattle.std.proofs.lemmas.List.Elements.{recursion_from_All}
-use Rattle.scad_geom.specs.declared.point.Pt.{Pt}
 use Rattle.scad_geom.specs.declared.point.Edge.{Edge}
 use Rattle.scad_geom.specs.declared.level.Level.{Level}
 use Rattle.scad_geom.specs.declared.level.LeafEdge.{LeafEdge}
-use Rattle.scad_geom.specs.Line.{low, high, rise, run, offset, x_at, left_of, lean, apart}
-use Rattle.scad_geom.specs.Heights.{level_of, IsLower, IsAtMost, IsSameHeight, meets, meeting, meetings, heights, AreNeighbours, IsBefore, AreAligned}
-use Rattle.scad_geom.proofs.Ring.{ring, Term, num, ◌⊕◌, ◌⊖◌, ◌⊗◌, v0, v1, v2, v3, v4, v5, v6, v7, v8, v9, v10, v11}
+use Rattle.scad_geom.specs.Line.{rise, run, x_at, lean, apart}
+use Rattle.scad_geom.specs.Heights.{level_of, IsLower, IsAtMost, meets, meeting, meetings, heights, AreNeighbours, IsBefore, AreAligned}
+use Rattle.scad_geom.proofs.Ring.{ring, ◌⊕◌, ◌⊖◌, ◌⊗◌, v0, v1, v2, v3, v4, v5}
 use Rattle.scad_geom.proofs.Signs.{pos_mul, at_least_mul, pos_left, at_least_left, neg_mul_pos, at_most_mul}
-use Rattle.scad_geom.proofs.Integers.{neg_mul, mul_add}
+use Rattle.scad_geom.proofs.Integers.{neg_mul}
 use Rattle.scad_geom.proofs.Lines.{gap_is}
-use Rattle.scad_geom.proofs.Heights.{Reaches, meeting_up, meets_between, meets_turned, meeting_is, meeting_turned, lower_then_at_most, at_most_then_lower, lean_turned}
+use Rattle.scad_geom.proofs.Heights.{Reaches, meeting_up, meets_between, meets_turned, meeting_is, meeting_turned, lower_then_at_most, at_most_then_lower}
 
 -- ---- what holds of every height holds of each end and each meeting
 pub front : {A : Type 0} (P : A → Type 0) (xs ys : List A) → AllByRecursion P (xs ++ ys) → AllByRecursion P xs

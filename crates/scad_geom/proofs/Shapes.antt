@@ -1,5 +1,5 @@
 -- A shape holds nothing where no leaf holds anything.
-use Rattle.std.proofs.Common.{◌≡◌, ℕ, Bool, true, false, not, ◌&&◌, ◌||◌, refl, sym, ap, ◌∙◌, rules}
+use Rattle.std.proofs.Common.{◌≡◌, ℕ, Bool, false, not, ◌&&◌, ◌||◌, refl, ap, rules}
 use Rattle.scad_geom.specs.declared.shape.Shape.{Shape, Empty, Leaf, Union, Inter, Diff, items-the_row-Shape, Union', Inter', Diff', Row_of-Shape, end_of-Shape, more_of-Shape}
 use Rattle.scad_geom.specs.declared.shape.Shape.{the_lemmas}
 use Rattle.std.specs.Prelude.{Vec}

@@ -2,7 +2,7 @@
 -- point's height to the right of it. A point on an edge or at the height of an end has four neighbours, hard by it above
 -- or below and right or left: `above` counts an end at the point's height as lying below, else as lying above it, and
 -- `right` leaves out an edge through the point, else it is counted. Above and right is the winding number itself.
-use Rattle.std.specs.Prelude.{◌≡◌, Bool, true, if◌then◌else◌, not, List, [], ◌∷◌, ℕ, ◌==◌, ℤ, pos, ◌+ℤ◌, ◌-ℤ◌, ◌*ℤ◌, int_lt, int_le}
+use Rattle.std.specs.Prelude.{Bool, if◌then◌else◌, List, [], ◌∷◌, ℕ, ◌==◌, ℤ, pos, ◌+ℤ◌, ◌-ℤ◌, ◌*ℤ◌, int_lt, int_le}
 use Rattle.scad_geom.specs.declared.point.Pt.{Pt}
 use Rattle.scad_geom.specs.declared.level.LeafEdge.{LeafEdge}
 use Rattle.scad_geom.specs.Winding.{counted}

@@ -1,6 +1,5 @@
 -- The heights at which the order of edges may change: those of their ends and of the points where two meet.
-use Rattle.std.specs.Prelude.{Bool, cond, not, ◌&&◌, ◌||◌, if◌then◌else◌, List, [], ◌∷◌, ◌++◌, ℕ, zero, suc, ◌+◌, ◌⊎◌, ◌≡◌, ℤ, pos, negsuc, neg_ℤ, ◌+ℤ◌, ◌-ℤ◌, ◌*ℤ◌, int_lt, int_le, ◌<ℤ◌, ◌≤ℤ◌, All, ◌≤◌, ◌*◌, ◌^◌, unsigned_abs}
-use Rattle.scad_geom.specs.declared.point.Pt.{Pt}
+use Rattle.std.specs.Prelude.{Bool, not, ◌&&◌, ◌||◌, if◌then◌else◌, List, [], ◌∷◌, ◌++◌, ℕ, zero, suc, ◌⊎◌, ◌≡◌, ℤ, pos, negsuc, neg_ℤ, ◌*ℤ◌, int_lt, int_le, ◌<ℤ◌, ◌≤ℤ◌, All, ◌≤◌, ◌*◌, ◌^◌, unsigned_abs}
 use Rattle.scad_geom.specs.declared.point.Edge.{Edge}
 use Rattle.scad_geom.specs.declared.level.Level.{Level}
 use Rattle.scad_geom.specs.declared.level.LeafEdge.{LeafEdge}

@@ -80,14 +80,17 @@ mod tests {
         a: Pt { x: 0, y: 0 },
         b: Pt { x: 1, y: 3 },
     };
+
     const F: Edge = Edge {
         a: Pt { x: 0, y: 0 },
         b: Pt { x: 1, y: 2 },
     };
+
     const G: Edge = Edge {
         a: Pt { x: 2, y: 2 },
         b: Pt { x: -1, y: 0 },
     };
+
     const ONE: Level = Level { n: 1, d: 1 };
 
     #[test]
@@ -98,8 +101,14 @@ mod tests {
             d: 4_000_000_000,
         };
         assert_eq!(rt; cmp_level(&half, &same), Ordering::Equal);
-        assert_eq!(rt; cmp_level(&half, &Level { n: 10_006, d: 10 }), Ordering::Less);
-        assert_eq!(rt; cmp_level(&half, &Level { n: 3001, d: 3 }), Ordering::Greater);
+        assert_eq!(rt;
+            cmp_level(&half, &Level { n: 10_006, d: 10 }),
+            Ordering::Less
+        );
+        assert_eq!(rt;
+            cmp_level(&half, &Level { n: 3001, d: 3 }),
+            Ordering::Greater
+        );
     }
 
     #[test]

@@ -1,5 +1,5 @@
 -- A node's value from that of its members, which code sees as a slice.
-use Rattle.std.proofs.Common.{◌≡◌, ℕ, slice_index_or, false, true, Bool, not, ◌&&◌, sym, ap, ap₂, ◌∙◌, refl}
+use Rattle.std.proofs.Common.{◌≡◌, ℕ, slice_index_or, false, true, Bool, not, ◌&&◌, sym, ap, ◌∙◌}
 use Rattle.scad_geom.specs.Shape.{shape_holds, any_holds, all_holds, has_items}
 use Rattle.scad_geom.proofs.Shapes.{holds_union, holds_inter, holds_diff}
 use Rattle.scad_geom.proofs.holding.+holds.Goals as goal
