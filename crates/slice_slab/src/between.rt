@@ -95,15 +95,14 @@ mod tests {
     ];
 
     #[test]
+    #[tactic(auto, using(scad_geom::proofs::Casts::casts, crate::proofs::Examples::neighbours))]
     fn bundles_go_by_x_and_then_by_slope(rt: HostRuntime) -> Result<(), Fail> {
-        let mut places = places(
+        let bundles = slab(
             rt.alloc(),
             &EDGES,
             &Level { n: 0, d: 1 },
             &Level { n: 2, d: 1 },
         )?;
-        sort(&mut places)?;
-        let bundles = group(rt.alloc(), &places)?;
         assert_eq!(rt; bundles.len(), 3);
         assert_eq!(rt; bundles[0].as_slice(), [2].as_slice());
         assert_eq!(rt; bundles[1].as_slice(), [1, 3].as_slice());
