@@ -1,6 +1,17 @@
 mod Examples
+pub mod Integers
+pub mod Ring
+pub mod Signs
+pub mod Lines
+pub mod Heights
+pub mod Order
+pub mod Turns
+pub mod Shapes
+pub mod Bounds
+pub mod Doubled
+pub mod Nearest
+mod RoundingExamples
 pub mod Bits
 pub mod Casts
 pub mod Crossings
-pub mod Signs
 pub mod Square

@@ -1,8 +1,9 @@
--- Sums, products and their signs over whole numbers.
-use Rattle.std.proofs.Common.{◌≡◌, zero, suc, ◌*◌, ℤ, pos, negsuc, ◌-ℤ◌, ◌*ℤ◌, neg_ℤ, int_lt, ◌<ℤ◌}
-use Rattle.std.proofs.Common.{refl, sym, arith}
+-- Sums and products of whole numbers, and their signs.
+use Rattle.std.proofs.Common.{◌≡◌, ℕ, zero, suc, ◌*◌, ◌≤◌, arith}
+use Rattle.std.proofs.Common.{ℤ, pos, negsuc, ◌-ℤ◌, ◌*ℤ◌, neg_ℤ, int_lt, ◌<ℤ◌}
+use lib.Signed.{◌≤ℤ◌}
 use Rattle.std.proofs.lemmas.Int.{ints}
-use Rattle.std.proofs.Math.IntN.{zero-*ℤ, neg_ℤ-neg_ℤ}
+use Rattle.std.proofs.Math.IntN.{zero-*ℤ}
 
 pub sub-self : (z : ℤ) → z -ℤ z ≡ pos 0
 sub-self z = omega (arith, ints)
@@ -19,16 +20,46 @@ one-mul z = omega (arith, ints)
 pub minus_one-mul : (z : ℤ) → negsuc 0 *ℤ z ≡ neg_ℤ z
 minus_one-mul z = omega (arith, ints)
 
-pub neg-mul : (a b : ℤ) → neg_ℤ a *ℤ b ≡ neg_ℤ (a *ℤ b)
-neg-mul (pos zero) b = rw (zero-*ℤ b)
-neg-mul (pos (suc n)) (pos m) = refl
-neg-mul (pos (suc n)) (negsuc m) = sym (neg_ℤ-neg_ℤ (pos (suc n * suc m)))
-neg-mul (negsuc n) (pos m) = sym (neg_ℤ-neg_ℤ (pos (suc n * m)))
-neg-mul (negsuc n) (negsuc m) = refl
-
 -- a product with a factor above 0 is below 0 where the other factor is
 pub product_is_negative : (k d : ℤ) → pos 0 <ℤ k → int_lt (pos 0) (neg_ℤ (k *ℤ d)) ≡ int_lt d (pos 0)
 product_is_negative (pos zero) d positive = absurd (omega (arith, ints))
 product_is_negative (pos (suc k)) (pos n) positive = grind (arith, ints)
 product_is_negative (pos (suc k)) (negsuc n) positive = grind (arith, ints)
 product_is_negative (negsuc k) d positive = absurd (omega (arith, ints))
+
+mul_ge : (a b : ℕ) → 1 ≤ a → 1 ≤ b → 1 ≤ a * b
+mul_ge a b p q = grind arith
+
+pub pos_mul : (a b : ℤ) → pos 0 <ℤ a → pos 0 <ℤ b → pos 0 <ℤ (a *ℤ b)
+pos_mul (pos m) (pos n) p q = let r : 1 ≤ m = omega (arith, ints) in let s : 1 ≤ n = omega (arith, ints) in omega (arith, ints, mul_ge m n r s)
+pos_mul (pos m) (negsuc n) p q = absurd (omega (arith, ints))
+pos_mul (negsuc m) b p q = absurd (omega (arith, ints))
+
+pub at_least_mul : (a b : ℤ) → pos 0 ≤ℤ a → pos 0 ≤ℤ b → pos 0 ≤ℤ (a *ℤ b)
+at_least_mul (pos m) (pos n) p q = omega (arith, ints)
+at_least_mul (pos m) (negsuc n) p q = absurd (omega (arith, ints))
+at_least_mul (negsuc m) b p q = absurd (omega (arith, ints))
+
+-- a product with a positive factor has the sign of the other
+neg_down : (a r : ℤ) → pos 0 <ℤ r → a <ℤ pos 0 → (a *ℤ r) <ℤ pos 0
+neg_down (negsuc m) (pos n) p q = let s : 1 ≤ n = omega (arith, ints) in let r : 1 ≤ suc m = omega arith in omega (arith, ints, mul_ge (suc m) n r s)
+neg_down (negsuc m) (negsuc n) p q = absurd (omega (arith, ints))
+neg_down (pos m) r p q = absurd (omega (arith, ints))
+
+pub pos_left : (a r : ℤ) → pos 0 <ℤ r → pos 0 <ℤ (a *ℤ r) → pos 0 <ℤ a
+pos_left (pos zero) r p q = absurd (omega (arith, ints))
+pos_left (pos (suc m)) r p q = omega (arith, ints)
+pos_left (negsuc m) r p q = let d : negsuc m <ℤ pos 0 = omega (arith, ints) in absurd (omega (arith, ints, neg_down (negsuc m) r p d))
+
+pub at_least_left : (a r : ℤ) → pos 0 <ℤ r → pos 0 ≤ℤ (a *ℤ r) → pos 0 ≤ℤ a
+at_least_left (pos m) r p q = omega (arith, ints)
+at_least_left (negsuc m) r p q = let d : negsuc m <ℤ pos 0 = omega (arith, ints) in absurd (omega (arith, ints, neg_down (negsuc m) r p d))
+
+pub neg_mul_pos : (a r : ℤ) → pos 0 <ℤ r → a <ℤ pos 0 → (a *ℤ r) <ℤ pos 0
+neg_mul_pos = neg_down
+
+pub at_most_mul : (a r : ℤ) → a ≤ℤ pos 0 → pos 0 ≤ℤ r → (a *ℤ r) ≤ℤ pos 0
+at_most_mul (pos zero) r p q = rw (zero-*ℤ r) (omega (arith, ints))
+at_most_mul (pos (suc m)) r p q = absurd (omega (arith, ints))
+at_most_mul (negsuc m) (pos n) p q = omega (arith, ints)
+at_most_mul (negsuc m) (negsuc n) p q = absurd (omega (arith, ints))

@@ -8,7 +8,8 @@ use Rattle.scad_geom.specs.declared.half.Half.TheVariants.{Cell}
 use Rattle.scad_geom.specs.Winding.{wind, counted, doubled, side_of}
 use Rattle.scad_geom.specs.Loop.{sides}
 use Rattle.scad_geom.specs.Square.{square, square_wind, IsStrictlyWithin, IsCentreInside, SquareWindsOnce}
-use Rattle.scad_geom.proofs.Signs.{sub-self, sub-zero, zero-sub, one-mul, minus_one-mul, neg-mul}
+use Rattle.scad_geom.proofs.Signs.{sub-self, sub-zero, zero-sub, one-mul, minus_one-mul}
+use Rattle.scad_geom.proofs.Integers.{neg_mul}
 use Rattle.scad_geom.proofs.Signs.{product_is_negative}
 
 -- the upright sides of a square with the side k
@@ -23,7 +24,7 @@ right_area k x y = rw (one-mul, sub-self k, sub-zero k, zero-*ℤ, zero-sub)
 
 left_area : (k x y : ℤ) → negsuc 0 *ℤ side_of (left_side k) x y ≡ neg_ℤ (k *ℤ x)
 left_area k x y =
-    rw (zero-*ℤ, zero-sub, minus_one-mul, zero-sub k, sub-zero x, neg_ℤ-neg_ℤ (neg_ℤ k *ℤ x), neg-mul k x)
+    rw (zero-*ℤ, zero-sub, minus_one-mul, zero-sub k, sub-zero x, neg_ℤ-neg_ℤ (neg_ℤ k *ℤ x), neg_mul k x)
 
 -- each lies right of the point exactly where the point's x is less than its own
 right_is_right : (k x y : ℤ) → pos 0 <ℤ k →

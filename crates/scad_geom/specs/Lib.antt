@@ -2,4 +2,11 @@ pub mod Point
 pub mod Loop
 pub mod Area
 pub mod Winding
+pub mod Line
+pub mod Around
+pub mod Shape
+pub mod Heights
+pub mod Rounding
 pub mod Square
+pub mod Balance
+pub mod PointRange

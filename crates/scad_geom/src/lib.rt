@@ -1,20 +1,33 @@
-//! Points, edges and outlines of a layer in whole micrometres, and exact arithmetic on them.
+//! Points, edges and outlines of a layer and points of a solid in whole micrometres, and exact arithmetic on them.
 //!
-//! The contracts promise the winding number of an edge list and the area of an outline by their
-//! definitions, and the exact value of each operation of signed arithmetic.
+//! The contracts promise winding numbers, areas, set membership and roundings by their definitions, and the
+//! exact result of each comparison of heights and edges and of each operation of signed arithmetic.
 #![tactic(auto, using(crate::proofs::Casts::casts))]
 
 mod area;
+mod compare;
 mod half;
+mod holding;
 pub mod laws;
+mod level;
+pub mod line;
 mod loops;
 mod point;
+mod point3;
+mod round;
+mod shape;
 pub mod whole;
 pub mod wide;
 mod winding_number;
 
 pub use area::twice_area;
+pub use compare::{cmp_level, cmp_slope, cmp_x_at, side};
 pub use half::Half;
+pub use holding::holds;
+pub use level::{LeafEdge, Level};
 pub use loops::Loop;
 pub use point::{COORDINATE_LIMIT, Edge, Pt};
+pub use point3::{POINT_LIMIT, Pt3, is_in_range};
+pub use round::round_half_down;
+pub use shape::Shape;
 pub use winding_number::winding;

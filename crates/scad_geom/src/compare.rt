@@ -1,0 +1,129 @@
+//! Exact comparisons of heights, and of edges at a height: by products, each within 127 bits.
+ghost use Rattle.std.specs.Prelude.{◌≡◌, ◌+◌, ◌*◌, ◌^◌, ◌<◌, ◌≤◌, ◌+ℤ◌, ◌-ℤ◌, ◌*ℤ◌, pos, ◌<ℤ◌, int_lt, unsigned_abs};
+ghost use Rattle.std.specs.Ordering.{int_cmp};
+ghost use Rattle.scad_geom.specs.Point.{IsWithin, IsEdgeWithin};
+ghost use Rattle.scad_geom.specs.Winding.{side_of};
+ghost use Rattle.scad_geom.specs.Line.{rise, run, x_at};
+ghost use Rattle.scad_geom.specs.Heights.{IsLevelWithin, sign_of};
+
+use crate::level::Level;
+use crate::line::{rise, run, x_at};
+use crate::point::{COORDINATE_LIMIT, Edge, Pt};
+use crate::wide::{minus, span, times};
+use std::cmp::Ordering;
+
+/// The order of two heights.
+pub fn cmp_level(p: &Level, q: &Level) -> Ordering
+    requires p { IsLevelWithin COORDINATE_LIMIT p.now }
+    requires q { IsLevelWithin COORDINATE_LIMIT q.now }
+    ensures { result ≡ int_cmp (p.now.n *ℤ q.now.d) (q.now.n *ℤ p.now.d) }
+{
+    // n is at most 2^64 in size and d at most 2^44.
+    let left = times::<64, 44>(p.n, q.d);
+    let right = times::<64, 44>(q.n, p.d);
+    left.cmp(&right)
+}
+
+/// The order of two edges by their x at a height that both reach; neither is flat.
+pub fn cmp_x_at(e: &Edge, f: &Edge, at: &Level) -> Ordering
+    requires e { IsEdgeWithin COORDINATE_LIMIT e.now }
+    requires f { IsEdgeWithin COORDINATE_LIMIT f.now }
+    requires level { IsLevelWithin COORDINATE_LIMIT at.now }
+    ensures { result ≡ int_cmp (x_at e.now at.now.n at.now.d *ℤ rise f.now) (x_at f.now at.now.n at.now.d *ℤ rise e.now) }
+{
+    // The numbers over the rises are at most 2^89 in size, the rises 2^22.
+    let left = times::<89, 22>(x_at(e, at), rise(f));
+    let right = times::<89, 22>(x_at(f, at), rise(e));
+    left.cmp(&right)
+}
+
+/// The order of two edges by how far they run to the right for each step upwards; neither is flat.
+pub fn cmp_slope(e: &Edge, f: &Edge) -> Ordering
+    requires e { IsEdgeWithin COORDINATE_LIMIT e.now }
+    requires f { IsEdgeWithin COORDINATE_LIMIT f.now }
+    ensures { result ≡ int_cmp (run e.now *ℤ rise f.now) (run f.now *ℤ rise e.now) }
+{
+    let left = times::<22, 22>(run(e), rise(f));
+    let right = times::<22, 22>(run(f), rise(e));
+    left.cmp(&right)
+}
+
+/// On which side of an edge a point lies: 1 to its left, -1 to its right, 0 on its line.
+pub fn side(e: &Edge, p: Pt) -> i8
+    requires edge { IsEdgeWithin COORDINATE_LIMIT e.now }
+    requires point { IsWithin COORDINATE_LIMIT p }
+    ensures { result ≡ sign_of (side_of e.now p.x p.y) }
+{
+    let left = times::<22, 22>(span(e.a.x, e.b.x), span(e.a.y, p.y));
+    let right = times::<22, 22>(span(e.a.y, e.b.y), span(e.a.x, p.x));
+    sign(minus(left, right))
+}
+
+fn sign(z: i128) -> i8
+    ensures { result ≡ sign_of z }
+{
+    if z > 0 {
+        1
+    } else if z < 0 {
+        -1
+    } else {
+        0
+    }
+}
+
+#[cfg(test)]
+mod tests {
+    use super::*;
+
+    // At the height 1 the first lies at 1/3, the second and the third at 1/2.
+    const E: Edge = Edge {
+        a: Pt { x: 0, y: 0 },
+        b: Pt { x: 1, y: 3 },
+    };
+
+    const F: Edge = Edge {
+        a: Pt { x: 0, y: 0 },
+        b: Pt { x: 1, y: 2 },
+    };
+
+    const G: Edge = Edge {
+        a: Pt { x: 2, y: 2 },
+        b: Pt { x: -1, y: 0 },
+    };
+
+    const ONE: Level = Level { n: 1, d: 1 };
+
+    #[test]
+    fn heights_compare_over_any_divisors(rt: HostRuntime) {
+        let half = Level { n: 2001, d: 2 };
+        let same = Level {
+            n: 4_002_000_000_000,
+            d: 4_000_000_000,
+        };
+        assert_eq!(rt; cmp_level(&half, &same), Ordering::Equal);
+        assert_eq!(rt;
+            cmp_level(&half, &Level { n: 10_006, d: 10 }),
+            Ordering::Less
+        );
+        assert_eq!(rt;
+            cmp_level(&half, &Level { n: 3001, d: 3 }),
+            Ordering::Greater
+        );
+    }
+
+    #[test]
+    fn thirds_of_a_micrometre_are_told_apart(rt: HostRuntime) {
+        assert_eq!(rt; cmp_x_at(&E, &F, &ONE), Ordering::Less);
+        assert_eq!(rt; cmp_x_at(&F, &E, &ONE), Ordering::Greater);
+        assert_eq!(rt; cmp_x_at(&F, &G, &ONE), Ordering::Equal);
+        assert_eq!(rt; cmp_slope(&F, &G), Ordering::Less);
+        assert_eq!(rt; cmp_slope(&E, &E), Ordering::Equal);
+    }
+
+    #[test]
+    fn sides_are_left_right_and_on(rt: HostRuntime) {
+        assert_eq!(rt; side(&E, Pt { x: 0, y: 1 }), 1);
+        assert_eq!(rt; side(&E, Pt { x: 1, y: 0 }), -1);
+        assert_eq!(rt; side(&E, Pt { x: 2, y: 6 }), 0);
+    }
+}

@@ -1,0 +1,36 @@
+//! Faces of a polyhedron.
+ghost use Rattle.std.specs.Prelude.{◌≡◌, ℕ, List};
+
+use std::marker::Model;
+
+/// A face: the numbers of its points in order, clockwise as seen from outside.
+#[derive(Debug, Drop)]
+pub struct Face {
+    indices: Vec<u32>,
+}
+
+impl Model for Face {
+    ghost Value = { List ℕ };
+
+    ghost view = { λ f. f.indices.items };
+}
+
+impl Face {
+    pub fn from_vec(indices: Vec<u32>) -> Self
+        ensures { result ≡ indices.items }
+    {
+        Face { indices }
+    }
+
+    pub fn into_vec(self) -> Vec<u32>
+        ensures { result.items ≡ self }
+    {
+        self.indices
+    }
+
+    pub fn as_slice(&self) -> &[u32]
+        ensures { result.now ≡ self.now }
+    {
+        self.indices.as_slice()
+    }
+}

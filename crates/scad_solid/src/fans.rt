@@ -1,0 +1,60 @@
+//! The triangles of faces.
+ghost use Rattle.std.specs.Prelude.{◌≡◌, ◌<◌, ◌++◌, length, map, None, OnOk, IfOk, IsTrue, find, nat_le};
+ghost use Rattle.std.specs.List.{list_all};
+ghost use Rattle.scad_solid.specs.Solid.{corners, fan, fans, first_bad, names_points};
+
+use crate::face::Face;
+use crate::triangle::Triangle;
+use scad_geom::Pt3;
+use std::alloc::{AllocError, Global};
+
+/// The first number of a face that names none of so many points.
+pub(crate) fn first_bad(count: usize, faces: &[Face]) -> Option<u32>
+    ensures { result ≡ first_bad count faces.now }
+{
+    for face in faces {
+        if let Some(i) = first_bad_of(count, face.as_slice()) {
+            return Some(i);
+        }
+    }
+    None
+}
+
+fn first_bad_of(count: usize, face: &[u32]) -> Option<u32>
+    ensures { result ≡ find (λ i. nat_le count i) face.now }
+{
+    face.iter().copied().find(|i| *i as usize >= count)
+}
+
+/// The fans of all faces, each of whose numbers names a point.
+pub(crate) fn fans(
+    alloc: Global,
+    points: &[Pt3],
+    faces: &[Face],
+) -> Result<Vec<Triangle>, AllocError>
+    requires { first_bad (length points.now) faces.now ≡ None }
+    ensures { IfOk result (λ v. v.items ≡ fans (map (corners points.now) faces.now)) }
+{
+    let mut triangles = Vec::new(alloc);
+    for face in faces {
+        push_fan(&mut triangles, points, face.as_slice())?;
+    }
+    Ok(triangles)
+}
+
+fn push_fan(out: &mut Vec<Triangle>, points: &[Pt3], face: &[u32]) -> Result<(), AllocError>
+    requires { IsTrue (names_points (length points.now) face.now) }
+    ensures { OnOk result (out.new.items ≡ out.old.items ++ fan (corners points.now face.now)) }
+{
+    let [first, second, rest @ ..] = face else {
+        return Ok(());
+    };
+    let a = points[*first as usize];
+    let mut b = points[*second as usize];
+    for i in rest {
+        let c = points[*i as usize];
+        out.push(Triangle { a, b, c })?;
+        b = c;
+    }
+    Ok(())
+}

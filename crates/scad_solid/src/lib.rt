@@ -1,0 +1,26 @@
+//! Closed surfaces of triangles, in whole micrometres.
+//!
+//! The contracts promise that a `Triangles` is closed and in range, that it holds the fans of the faces in
+//! their order, and each refusal of faces exactly.
+#![tactic(auto)]
+
+mod closed;
+mod face;
+mod fans;
+mod fault;
+mod range;
+mod ring;
+mod side;
+mod stacking;
+#[cfg(test)]
+mod tests;
+mod triangle;
+mod triangles;
+
+pub use face::Face;
+pub use fault::SolidFault;
+pub use ring::Ring;
+pub use side::Side;
+pub use stacking::stack;
+pub use triangle::Triangle;
+pub use triangles::Triangles;

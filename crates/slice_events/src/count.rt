@@ -1,0 +1,48 @@
+//! How many pairs of edges cross.
+ghost use Rattle.std.specs.Prelude.{◌≡◌, ◌+◌, ◌^◌, ◌<◌, ◌≤◌, length, drop, count_by, All};
+ghost use Rattle.scad_geom.specs.Point.{IsEdgeWithin};
+ghost use Rattle.slice_events.specs.Levels.{crosses, crossings};
+
+use crate::meeting::crosses;
+use scad_geom::{COORDINATE_LIMIT, LeafEdge};
+
+pub(crate) fn crossings(edges: &[LeafEdge]) -> u64
+    requires within { All (λ e. IsEdgeWithin COORDINATE_LIMIT e.edge) edges.now }
+    requires few { length edges.now < 2 ^ 32 }
+    ensures { result ≡ crossings edges.now }
+{
+    let mut count = 0;
+    'edges: for i in 0..edges.len() {
+        count += first_crossings(&edges[i..]);
+    }
+    count
+}
+
+// How many edges of the list cross its first.
+fn first_crossings(edges: &[LeafEdge]) -> u64
+    requires within { All (λ e. IsEdgeWithin COORDINATE_LIMIT e.edge) edges.now }
+    requires few { length edges.now < 2 ^ 32 }
+    ensures value { crossings edges.now ≡ result + crossings (drop 1 edges.now) }
+    ensures few { result ≤ 2 ^ 32 }
+{
+    match edges {
+        [] => 0,
+        [e, later @ ..] => crossings_with(e, later),
+    }
+}
+
+fn crossings_with(e: &LeafEdge, later: &[LeafEdge]) -> u64
+    requires edge { IsEdgeWithin COORDINATE_LIMIT e.now.edge }
+    requires later { All (λ e. IsEdgeWithin COORDINATE_LIMIT e.edge) later.now }
+    requires few { length later.now < 2 ^ 32 }
+    ensures value { result ≡ count_by (λ f. crosses e.now.edge f.edge) later.now }
+    ensures few { result ≤ length later.now }
+{
+    let mut count = 0;
+    'later: for f in later {
+        if crosses(&e.edge, &f.edge) {
+            count += 1;
+        }
+    }
+    count
+}

@@ -1,0 +1,11 @@
+//! Levels within the bounds of the comparisons.
+ghost use Rattle.scad_geom.specs.Heights.{IsLevelWithin};
+
+use scad_geom::Level;
+
+/// A level whose comparisons cannot overflow.
+#[derive(Clone, Copy, Debug)]
+pub(crate) struct Height {
+    pub(crate) level: Level,
+    ghost within: { IsLevelWithin 1100000 level },
+}

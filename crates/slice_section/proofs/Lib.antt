@@ -1,0 +1,4 @@
+pub mod Weighted
+pub mod Found
+pub mod Edges
+pub mod Balanced

@@ -1,0 +1,113 @@
+//! The cut of a triangle.
+ghost use Rattle.std.specs.Prelude.{◌≡◌, ◌^◌, ◌≤◌, ◌*ℤ◌, ◌-ℤ◌, pos, unsigned_abs, IsTrue, IfSome, find};
+ghost use Rattle.std.specs.Option.{option_map};
+ghost use Rattle.scad_geom.specs.Rounding.{half_down};
+ghost use Rattle.scad_geom.specs.declared.point3.TheConstants.{POINT_LIMIT};
+ghost use Rattle.scad_solid.specs.Range.{is_triangle_in_range};
+ghost use Rattle.scad_solid.specs.Surface.{sides_of};
+ghost use Rattle.scad_solid.specs.Cut.{falls, rises, cut_of, weighted, point_between};
+ghost use Rattle.slice_section.specs.Section.{nearest_point, rounded};
+ghost use Rattle.slice_section.specs.Through.{IsBetween, IsThrough};
+
+use crate::plane::{falls, rises};
+use scad_geom::wide::{minus, plus, times};
+use scad_geom::{Edge, Pt, Pt3, round_half_down};
+use scad_solid::{Side, Triangle};
+
+/// The triangle's cut at a plane, with both ends rounded, where the plane divides it.
+pub(crate) fn edge_of(triangle: &Triangle, plane: i128) -> Option<Edge>
+    requires { IsTrue (is_triangle_in_range triangle.now) }
+    ensures { result ≡ option_map rounded (cut_of plane triangle.now) }
+{
+    let falling = falling(triangle, plane)?;
+    let rising = rising(triangle, plane)?;
+    Some(Edge {
+        a: point_between(falling.to, falling.from, plane),
+        b: point_between(rising.from, rising.to, plane),
+    })
+}
+
+fn falling(triangle: &Triangle, plane: i128) -> Option<Side>
+    requires { IsTrue (is_triangle_in_range triangle.now) }
+    ensures first { result ≡ find (falls plane) (sides_of triangle.now) }
+    ensures through { IfSome result (λ s. IsThrough plane s.to s.from) }
+{
+    let sides = triangle.sides();
+    first_falling(&sides, plane)
+}
+
+fn rising(triangle: &Triangle, plane: i128) -> Option<Side>
+    requires { IsTrue (is_triangle_in_range triangle.now) }
+    ensures first { result ≡ find (rises plane) (sides_of triangle.now) }
+    ensures through { IfSome result (λ s. IsThrough plane s.from s.to) }
+{
+    let sides = triangle.sides();
+    first_rising(&sides, plane)
+}
+
+fn first_falling(sides: &[Side], plane: i128) -> Option<Side>
+    ensures { result ≡ find (falls plane) sides.now }
+{
+    sides.iter().copied().find(|side| falls(side, plane))
+}
+
+fn first_rising(sides: &[Side], plane: i128) -> Option<Side>
+    ensures { result ≡ find (rises plane) sides.now }
+{
+    sides.iter().copied().find(|side| rises(side, plane))
+}
+
+// Where the side between a point below the plane and one above meets it, rounded.
+fn point_between(lower: Pt3, upper: Pt3, plane: i128) -> Pt
+    requires { IsThrough plane lower upper }
+    ensures { result ≡ nearest_point (point_between lower upper plane) }
+{
+    Pt {
+        x: coordinate_at(lower.x, upper.x, lower.z, upper.z, plane),
+        y: coordinate_at(lower.y, upper.y, lower.z, upper.z, plane),
+    }
+}
+
+// One coordinate where the side from `lower` at the height `low` to `upper` at the height `high` meets the
+// plane between them, rounded.
+fn coordinate_at(lower: i32, upper: i32, low: i32, high: i32, plane: i128) -> i32
+    requires lower { unsigned_abs lower ≤ POINT_LIMIT }
+    requires upper { unsigned_abs upper ≤ POINT_LIMIT }
+    requires heights { IsBetween plane low high }
+    ensures { result ≡ half_down (weighted lower upper low high plane) (pos 2 *ℤ high -ℤ pos 2 *ℤ low) }
+{
+    let down = up_to(high, plane);
+    let up = down_to(low, plane);
+    let n = plus(
+        times::<20, 22>(lower as i128, down),
+        times::<20, 22>(upper as i128, up),
+    );
+    round_half_down(n, apart(low, high))
+}
+
+// Twice the height from the plane up to `high`.
+fn up_to(high: i32, plane: i128) -> i128
+    requires small { unsigned_abs high ≤ POINT_LIMIT }
+    requires narrow { unsigned_abs plane ≤ 2 ^ 21 }
+    ensures value { result ≡ pos 2 *ℤ high -ℤ plane }
+    ensures size { unsigned_abs result ≤ 2 ^ 22 }
+{
+    minus(2 * high as i128, plane)
+}
+
+// Twice the height from the plane down to `low`.
+fn down_to(low: i32, plane: i128) -> i128
+    requires small { unsigned_abs low ≤ POINT_LIMIT }
+    requires narrow { unsigned_abs plane ≤ 2 ^ 21 }
+    ensures value { result ≡ plane -ℤ pos 2 *ℤ low }
+    ensures size { unsigned_abs result ≤ 2 ^ 22 }
+{
+    minus(plane, 2 * low as i128)
+}
+
+// Twice the height between the two.
+fn apart(low: i32, high: i32) -> i128
+    ensures value { result ≡ pos 2 *ℤ high -ℤ pos 2 *ℤ low }
+{
+    minus(2 * high as i128, 2 * low as i128)
+}

@@ -1,0 +1,228 @@
+-- Sorted places give the bundles.
+use Rattle.std.proofs.Common.{◌≡◌, ℕ, zero, suc, ◌+◌, ◌<◌, ◌≤◌, ◌⊎◌, inl, inr, Bool, true, false, not, ◌&&◌, ◌||◌, cond, List, [], ◌∷◌, length, get_or, refl, sym, ap, ◌∙◌, arith, subst, add-one}
+use lib.IntN.{ℤ, pos, ◌*ℤ◌}
+use lib.Signed.{◌<ℤ◌}
+use Rattle.std.specs.Prelude.{int_lt, nat_lt, if◌then◌else◌}
+use lib.Dec.{T, nltb→le}
+use Rattle.std.specs.Ordering.{int_eq, is_eq}
+use Rattle.std.specs.declared.cmp.Ordering.TheVariants.{Less, Equal, Greater}
+use Rattle.std.specs.List.{AllByRecursion, concat}
+use Rattle.std.specs.List.Sorted.{IsSortedBy}
+use Rattle.std.proofs.lemmas.Int.{ints}
+use Rattle.scad_geom.specs.declared.level.Level.{Level}
+use Rattle.scad_geom.specs.declared.level.LeafEdge.{LeafEdge}
+use Rattle.scad_geom.specs.declared.point.Edge.{Edge}
+use Rattle.scad_geom.specs.Line.{rise, run, x_at}
+use Rattle.scad_geom.specs.Heights.{IsLower, IsAtMost, IsSameHeight, IsBefore, AreAligned}
+use Rattle.scad_geom.proofs.Heights.{at_most_chain, at_most_then_lower, lower_then_at_most}
+use Rattle.slice_slab.specs.declared.place.Place.{Place}
+use Rattle.slice_slab.specs.Bundles.{edge_at, Precedes, AreRanked}
+use Rattle.slice_slab.specs.Places.{is_left, leans_left, comes_first, IsPlaceOf, numbers_of, is_aligned, joined, bundles_of, AreSorted}
+
+-- ---- fractions that are the same, or one below the other
+same_chain : (p q r : Level) → pos 0 <ℤ p.d → pos 0 <ℤ q.d → pos 0 <ℤ r.d → IsSameHeight p q → IsSameHeight q r → IsSameHeight p r
+same_chain p q r dp dq dr h k =
+    let a : IsAtMost p r = at_most_chain p q r dp dq dr (omega (arith, ints)) (omega (arith, ints)) in
+    let b : IsAtMost r p = at_most_chain r q p dr dq dp (omega (arith, ints)) (omega (arith, ints)) in
+    omega (arith, ints)
+
+same_lower : (p q r : Level) → pos 0 <ℤ p.d → pos 0 <ℤ q.d → pos 0 <ℤ r.d → IsSameHeight p q → IsLower q r → IsLower p r
+same_lower p q r dp dq dr h k = at_most_then_lower p q r dp dq dr (omega (arith, ints)) k
+
+lower_same : (p q r : Level) → pos 0 <ℤ p.d → pos 0 <ℤ q.d → pos 0 <ℤ r.d → IsLower p q → IsSameHeight q r → IsLower p r
+lower_same p q r dp dq dr h k = lower_then_at_most p q r dp dq dr h (omega (arith, ints))
+
+lower_chain : (p q r : Level) → pos 0 <ℤ p.d → pos 0 <ℤ q.d → pos 0 <ℤ r.d → IsLower p q → IsLower q r → IsLower p r
+lower_chain p q r dp dq dr h k = lower_then_at_most p q r dp dq dr h (omega (arith, ints))
+
+x_of : Level → Edge → Level
+x_of at e = record { n = x_at e at.n at.d; d = rise e }
+
+lean_of : Edge → Level
+lean_of e = record { n = run e; d = rise e }
+
+module _ (at : Level) (e f g : Edge) (de : pos 0 <ℤ rise e) (df : pos 0 <ℤ rise f) (dg : pos 0 <ℤ rise g) where
+  pub aligned_chain : AreAligned at e f → AreAligned at f g → AreAligned at e g
+  unfolding x_of lean_of
+  aligned_chain h k = (same_chain (x_of at e) (x_of at f) (x_of at g) de df dg h.0 k.0, same_chain (lean_of e) (lean_of f) (lean_of g) de df dg h.1 k.1)
+
+  pub aligned_before : AreAligned at e f → IsBefore at f g → IsBefore at e g
+  unfolding x_of lean_of
+  aligned_before h (inl k) = inl (same_lower (x_of at e) (x_of at f) (x_of at g) de df dg h.0 k)
+  aligned_before h (inr k) = inr (same_chain (x_of at e) (x_of at f) (x_of at g) de df dg h.0 k.0, same_lower (lean_of e) (lean_of f) (lean_of g) de df dg h.1 k.1)
+
+  pub before_chain : IsBefore at e f → IsBefore at f g → IsBefore at e g
+  unfolding x_of lean_of
+  before_chain (inl h) (inl k) = inl (lower_chain (x_of at e) (x_of at f) (x_of at g) de df dg h k)
+  before_chain (inl h) (inr k) = inl (lower_same (x_of at e) (x_of at f) (x_of at g) de df dg h k.0)
+  before_chain (inr h) (inl k) = inl (same_lower (x_of at e) (x_of at f) (x_of at g) de df dg h.0 k)
+  before_chain (inr h) (inr k) = inr (same_chain (x_of at e) (x_of at f) (x_of at g) de df dg h.0 k.0, lower_chain (lean_of e) (lean_of f) (lean_of g) de df dg h.1 k.1)
+
+-- ---- neighbours of a sorted list of places
+eq_from : (a b : ℤ) → int_eq a b ≡ true → a ≡ b
+eq_from a b h = by_tests (int_lt a b) refl (int_lt b a) refl h
+  where
+    by_tests : (s : Bool) → int_lt a b ≡ s → (t : Bool) → int_lt b a ≡ t → is_eq (cond s Less (cond t Greater Equal)) ≡ true → a ≡ b
+    by_tests true e t f k = cc
+    by_tests false e true f k = cc
+    by_tests false e false f k = omega (arith, ints)
+
+eq_to : (a b : ℤ) → a ≡ b → int_eq a b ≡ true
+eq_to a b h =
+    let p : int_lt a b ≡ false = sym (omega (arith, ints)) in
+    let q : int_lt b a ≡ false = sym (omega (arith, ints)) in
+    rw (p, q) refl
+
+both_true : (a b : Bool) → (a && b) ≡ true → (a ≡ true) × (b ≡ true)
+both_true true true h = (refl, refl)
+both_true true false h = cc
+both_true false b h = cc
+
+-- what a place says of its edge
+same_edge : (es : List LeafEdge) (at : Level) (p q : Place) → IsPlaceOf es at p → IsPlaceOf es at q → p.x *ℤ q.rise ≡ q.x *ℤ p.rise → p.run *ℤ q.rise ≡ q.run *ℤ p.rise → AreAligned at (edge_at es p.number) (edge_at es q.number)
+same_edge es at p q hp hq h k =
+    let a = rw (hp.x, hq.x, hp.rise, hq.rise) at h in
+    let b = rw (hp.run, hq.run, hp.rise, hq.rise) at k in
+    (a, b)
+
+before_edge : (es : List LeafEdge) (at : Level) (p q : Place) → IsPlaceOf es at p → IsPlaceOf es at q → ((p.x *ℤ q.rise) <ℤ (q.x *ℤ p.rise)) ⊎ ((p.x *ℤ q.rise ≡ q.x *ℤ p.rise) × ((p.run *ℤ q.rise) <ℤ (q.run *ℤ p.rise)))
+    → IsBefore at (edge_at es p.number) (edge_at es q.number)
+before_edge es at p q hp hq (inl h) = inl (rw (hp.x, hq.x, hp.rise, hq.rise) at h)
+before_edge es at p q hp hq (inr h) = let h0 = h.0 in let h1 = h.1 in inr (rw (hp.x, hq.x, hp.rise, hq.rise) at h0, rw (hp.run, hq.run, hp.rise, hq.rise) at h1)
+
+-- one of two neighbours doesn't come after the other
+apart_parts : (a b c d e : Bool) → (a || (not b && (c || (not d && e)))) ≡ false → (a ≡ false) × ((b ≡ true) ⊎ ((b ≡ false) × (c ≡ false) × ((d ≡ true) ⊎ ((d ≡ false) × (e ≡ false)))))
+apart_parts true b c d e h = cc
+apart_parts false true c d e h = (refl, inl refl)
+apart_parts false false true d e h = cc
+apart_parts false false false true e h = (refl, inr (refl, refl, inl refl))
+apart_parts false false false false true h = cc
+apart_parts false false false false false h = (refl, inr (refl, refl, inr (refl, refl)))
+
+neighbours : (p q : Place) → comes_first q p ≡ false
+    → (((p.x *ℤ q.rise) <ℤ (q.x *ℤ p.rise)) ⊎ ((p.x *ℤ q.rise ≡ q.x *ℤ p.rise) × ((p.run *ℤ q.rise) <ℤ (q.run *ℤ p.rise))))
+    ⊎ ((p.x *ℤ q.rise ≡ q.x *ℤ p.rise) × (p.run *ℤ q.rise ≡ q.run *ℤ p.rise) × (p.number ≤ q.number))
+neighbours p q h =
+    let t = apart_parts (is_left q p) (is_left p q) (leans_left q p) (leans_left p q) (nat_lt q.number p.number) h in
+    let a = t.0 in
+    elim t.1 [
+      | inl b ↦ inl (inl (omega (arith, ints)))
+      | inr b ↦
+          let b0 = b.0 in let b1 = b.1 in
+          let x : p.x *ℤ q.rise ≡ q.x *ℤ p.rise = omega (arith, ints) in
+          elim b.2 [
+            | inl d ↦ inl (inr (x, omega (arith, ints)))
+            | inr d ↦ let d0 = d.0 in let d1 = d.1 in inr (x, omega (arith, ints), not_less q.number p.number d1)
+          ]
+    ]
+  where
+    not_less : (m n : ℕ) → nat_lt m n ≡ false → n ≤ m
+    not_less m n h = nltb→le m n (subst (λ (t : Bool). T (not t)) (sym h) tt)
+
+sorted_by : (ps : List Place) → ((k : ℕ) (d : Place) → suc k < length ps → comes_first (get_or ps (suc k) d) (get_or ps k d) ≡ false) → AreSorted ps
+sorted_by [] h = tt
+sorted_by (p ∷ []) h = tt
+sorted_by (p ∷ (q ∷ ps)) h = (h zero p (omega arith), sorted_by (q ∷ ps) (λ k d b. h (suc k) d (omega arith)))
+
+pub sorted_from : (ps : List Place) → IsSortedBy comes_first ps → AreSorted ps
+sorted_from ps h = sorted_by ps (λ k d b. let t : comes_first (get_or ps (k + 1) d) (get_or ps k d) ≡ false = h k d (omega arith) (omega arith) in rw add-one at t)
+
+-- ---- bundles of sorted places
+abbrev pub Rises : List LeafEdge → ℕ → Type 0
+Rises es k = pos 0 <ℤ rise (edge_at es k)
+
+abbrev pub HeadRises : List LeafEdge → List ℕ → Type 0
+HeadRises es [] = ⊥
+HeadRises es (k ∷ ks) = Rises es k
+
+record Bundled (es : List LeafEdge) (at : Level) (p : Place) (ps : List Place) : Type 0 where
+  ks : List ℕ
+  bs : List (List ℕ)
+  are : bundles_of (p ∷ ps) ≡ (p.number ∷ ks) ∷ bs
+  ranked : AreRanked es at ((p.number ∷ ks) ∷ bs)
+  rise_ks : AllByRecursion (Rises es) ks
+  rise_bs : AllByRecursion (HeadRises es) bs
+
+rises_of : (es : List LeafEdge) (at : Level) (p : Place) → IsPlaceOf es at p → Rises es p.number
+rises_of es at p h = subst (λ (z : ℤ). pos 0 <ℤ z) h.rise p.rises
+
+module _ (es : List LeafEdge) (at : Level) (p q : Place) (hp : Rises es p.number) (hq : Rises es q.number) where
+  all_aligned : AreAligned at (edge_at es p.number) (edge_at es q.number) → (ks : List ℕ) → AllByRecursion (Rises es) ks → AllByRecursion (λ j. AreAligned at (edge_at es q.number) (edge_at es j)) ks
+      → AllByRecursion (λ j. AreAligned at (edge_at es p.number) (edge_at es j)) ks
+  all_aligned a [] r h = tt
+  all_aligned a (j ∷ ks) r h = (aligned_chain at (edge_at es p.number) (edge_at es q.number) (edge_at es j) hp hq r.0 a h.0, all_aligned a ks r.1 h.1)
+
+  all_later : p.number ≤ q.number → (ks : List ℕ) → AllByRecursion (λ j. q.number ≤ j) ks → AllByRecursion (λ j. p.number ≤ j) ks
+  all_later o [] h = tt
+  all_later o (j ∷ ks) h = let h0 = h.0 in (omega arith, all_later o ks h.1)
+
+  precede_aligned : AreAligned at (edge_at es p.number) (edge_at es q.number) → (ks : List ℕ) (bs : List (List ℕ)) → AllByRecursion (HeadRises es) bs → AllByRecursion (Precedes es at (q.number ∷ ks)) bs
+      → AllByRecursion (Precedes es at (p.number ∷ (q.number ∷ ks))) bs
+  precede_aligned a ks [] r h = tt
+  precede_aligned a ks ([] ∷ bs) r h = absurd r.0
+  precede_aligned a ks ((j ∷ js) ∷ bs) r h = (aligned_before at (edge_at es p.number) (edge_at es q.number) (edge_at es j) hp hq r.0 a h.0, precede_aligned a ks bs r.1 h.1)
+
+  precede_before : IsBefore at (edge_at es p.number) (edge_at es q.number) → (ks : List ℕ) (bs : List (List ℕ)) → AllByRecursion (HeadRises es) bs → AllByRecursion (Precedes es at (q.number ∷ ks)) bs
+      → AllByRecursion (Precedes es at (p.number ∷ [])) bs
+  precede_before a ks [] r h = tt
+  precede_before a ks ([] ∷ bs) r h = absurd r.0
+  precede_before a ks ((j ∷ js) ∷ bs) r h = (before_chain at (edge_at es p.number) (edge_at es q.number) (edge_at es j) hp hq r.0 a h.0, precede_before a ks bs r.1 h.1)
+
+not_aligned : (p q : Place) → p.x *ℤ q.rise ≡ q.x *ℤ p.rise → p.run *ℤ q.rise ≡ q.run *ℤ p.rise → is_aligned p q ≡ false → ⊥
+not_aligned p q h k e = let a = eq_to (p.x *ℤ q.rise) (q.x *ℤ p.rise) h in let b = eq_to (p.run *ℤ q.rise) (q.run *ℤ p.rise) k in differ (sym (rw (a, b) refl) ∙ e)
+  where
+    differ : true ≡ false → ⊥
+    differ h = cc
+
+bundled : (es : List LeafEdge) (at : Level) (p : Place) (ps : List Place) → AllByRecursion (IsPlaceOf es at) (p ∷ ps) → AreSorted (p ∷ ps) → Bundled es at p ps
+bundled es at p [] h s = record { ks = []; bs = []; are = refl; ranked = (((tt, tt), tt), tt, tt); rise_ks = tt; rise_bs = tt }
+bundled es at p (q ∷ ps) h s =
+    let r = bundled es at q ps h.1 s.1 in
+    let hp = rises_of es at p h.0 in
+    let hq = rises_of es at q h.1.0 in
+    by_test (is_aligned p q) refl r (neighbours p q s.0) hp hq
+  where
+    by_test : (t : Bool) → is_aligned p q ≡ t → (r : Bundled es at q ps)
+        → (((p.x *ℤ q.rise) <ℤ (q.x *ℤ p.rise)) ⊎ ((p.x *ℤ q.rise ≡ q.x *ℤ p.rise) × ((p.run *ℤ q.rise) <ℤ (q.run *ℤ p.rise))))
+        ⊎ ((p.x *ℤ q.rise ≡ q.x *ℤ p.rise) × (p.run *ℤ q.rise ≡ q.run *ℤ p.rise) × (p.number ≤ q.number))
+        → Rises es p.number → Rises es q.number → Bundled es at p (q ∷ ps)
+    by_test true e r (inr n) hp hq =
+        let a = same_edge es at p q h.0 h.1.0 n.0 n.1 in
+        record {
+          ks = q.number ∷ r.ks;
+          bs = r.bs;
+          are = rw (e, r.are) refl;
+          ranked = ((((n.2, all_later es at p q hp hq n.2 r.ks r.ranked.0.0.0), r.ranked.0.0), (a, all_aligned es at p q hp hq a r.ks r.rise_ks r.ranked.0.1)), precede_aligned es at p q hp hq a r.ks r.bs r.rise_bs r.ranked.1, r.ranked.2);
+          rise_ks = (hq, r.rise_ks);
+          rise_bs = r.rise_bs;
+        }
+    by_test false e r (inl n) hp hq =
+        let a = before_edge es at p q h.0 h.1.0 n in
+        record {
+          ks = [];
+          bs = (q.number ∷ r.ks) ∷ r.bs;
+          are = rw (e, r.are) refl;
+          ranked = (((tt, tt), tt), (a, precede_before es at p q hp hq a r.ks r.bs r.rise_bs r.ranked.1), r.ranked);
+          rise_ks = tt;
+          rise_bs = (hq, r.rise_bs);
+        }
+    by_test false e r (inr n) hp hq = absurd (not_aligned p q n.0 n.1 e)
+    by_test true e r (inl (inl n)) hp hq = let x = eq_from (p.x *ℤ q.rise) (q.x *ℤ p.rise) (both_true (int_eq (p.x *ℤ q.rise) (q.x *ℤ p.rise)) (int_eq (p.run *ℤ q.rise) (q.run *ℤ p.rise)) e).0 in absurd (omega (arith, ints))
+    by_test true e r (inl (inr n)) hp hq = let n1 = n.1 in let x = eq_from (p.run *ℤ q.rise) (q.run *ℤ p.rise) (both_true (int_eq (p.x *ℤ q.rise) (q.x *ℤ p.rise)) (int_eq (p.run *ℤ q.rise) (q.run *ℤ p.rise)) e).1 in absurd (omega (arith, ints))
+
+pub ranked_bundles : (es : List LeafEdge) (at : Level) (ps : List Place) → AllByRecursion (IsPlaceOf es at) ps → AreSorted ps → AreRanked es at (bundles_of ps)
+ranked_bundles es at [] h s = tt
+ranked_bundles es at (p ∷ ps) h s = let b = bundled es at p ps h s in subst (AreRanked es at) (sym b.are) b.ranked
+
+pub concat-bundles : (ps : List Place) → concat (bundles_of ps) ≡ numbers_of ps
+concat-bundles [] = refl
+concat-bundles (p ∷ []) = refl
+concat-bundles (p ∷ (q ∷ ps)) = by_test (is_aligned p q) (concat-bundles (q ∷ ps))
+  where
+    concat-joined : (k : ℕ) (bs : List (List ℕ)) → concat (joined k bs) ≡ k ∷ concat bs
+    concat-joined k [] = refl
+    concat-joined k (b ∷ bs) = refl
+
+    by_test : (t : Bool) → concat (bundles_of (q ∷ ps)) ≡ numbers_of (q ∷ ps) → concat (if t then joined p.number (bundles_of (q ∷ ps)) else (p.number ∷ []) ∷ bundles_of (q ∷ ps)) ≡ p.number ∷ numbers_of (q ∷ ps)
+    by_test true r = concat-joined p.number (bundles_of (q ∷ ps)) ∙ ap (λ (xs : List ℕ). p.number ∷ xs) r
+    by_test false r = ap (λ (xs : List ℕ). p.number ∷ xs) r

@@ -1,0 +1,4 @@
+pub mod Ranking
+pub mod Steps
+pub mod Bundling
+pub mod Examples

@@ -1,0 +1,92 @@
+//! The places of the edges that reach two heights.
+ghost use Rattle.std.specs.Prelude.{◌≡◌, ◌<◌, ◌^◌, ◌*ℤ◌, ◌<ℤ◌, pos, int_le, true, length, IfOk, All};
+ghost use Rattle.scad_geom.specs.Line.{low, high, rise};
+ghost use Rattle.scad_geom.specs.Point.{IsEdgeWithin};
+ghost use Rattle.scad_geom.specs.Heights.{IsLevelWithin};
+ghost use Rattle.slice_slab.specs.Bundles.{reaches, reaching, edge_at};
+ghost use Rattle.slice_slab.specs.Places.{numbers_of, IsPlaceOf};
+
+use crate::place::Place;
+use scad_geom::line::{high, low, rise, run, x_at};
+use scad_geom::wide::times;
+use scad_geom::{COORDINATE_LIMIT, Edge, LeafEdge, Level};
+use std::alloc::{AllocError, Global};
+
+pub(crate) fn places(
+    alloc: Global,
+    edges: &[LeafEdge],
+    lower: &Level,
+    upper: &Level,
+) -> Result<Vec<Place>, AllocError>
+    requires within { All (λ e. IsEdgeWithin COORDINATE_LIMIT e.edge) edges.now }
+    requires few { length edges.now < 2 ^ 32 }
+    requires lower { IsLevelWithin COORDINATE_LIMIT lower.now }
+    requires upper { IsLevelWithin COORDINATE_LIMIT upper.now }
+    ensures numbers { IfOk result (λ v. numbers_of v.items ≡ reaching 0 edges.now lower.now upper.now) }
+    ensures places { IfOk result (λ v. All (IsPlaceOf edges.now lower.now) v.items) }
+{
+    let mut out = Vec::new(alloc);
+    'edges: for i in 0..edges.len() {
+        if reaches_at(edges, i, lower, upper) {
+            out.push(place(edges, i, lower))?;
+        }
+    }
+    Ok(out)
+}
+
+fn reaches_at(edges: &[LeafEdge], i: usize, lower: &Level, upper: &Level) -> bool
+    requires within { All (λ e. IsEdgeWithin COORDINATE_LIMIT e.edge) edges.now }
+    requires lower { IsLevelWithin COORDINATE_LIMIT lower.now }
+    requires upper { IsLevelWithin COORDINATE_LIMIT upper.now }
+    requires there { i < length edges.now }
+    ensures value { result ≡ reaches (edge_at edges.now i) lower.now upper.now }
+    ensures rises { result ≡ true → pos 0 <ℤ rise (edge_at edges.now i) }
+{
+    reaches(&edges[i].edge, lower, upper)
+}
+
+fn place(edges: &[LeafEdge], i: usize, at: &Level) -> Place
+    requires within { All (λ e. IsEdgeWithin COORDINATE_LIMIT e.edge) edges.now }
+    requires few { length edges.now < 2 ^ 32 }
+    requires at { IsLevelWithin COORDINATE_LIMIT at.now }
+    requires there { i < length edges.now }
+    requires rises { pos 0 <ℤ rise (edge_at edges.now i) }
+    ensures number { result.number ≡ i }
+    ensures place { IsPlaceOf edges.now at.now result }
+{
+    let e = &edges[i].edge;
+    Place {
+        number: i as u32,
+        x: x_at(e, at),
+        rise: rise(e),
+        run: run(e),
+    }
+}
+
+/// Whether an edge isn't flat and reaches both heights.
+#[tactic(auto, using(scad_geom::proofs::Casts::casts), unfolding(crate::specs::Bundles::reaches))]
+fn reaches(e: &Edge, lower: &Level, upper: &Level) -> bool
+    requires edge { IsEdgeWithin COORDINATE_LIMIT e.now }
+    requires lower { IsLevelWithin COORDINATE_LIMIT lower.now }
+    requires upper { IsLevelWithin COORDINATE_LIMIT upper.now }
+    ensures value { result ≡ reaches e.now lower.now upper.now }
+    ensures rises { result ≡ true → pos 0 <ℤ rise e.now }
+{
+    rise(e) > 0 && (starts_by(e, lower) && ends_from(e, upper))
+}
+
+fn starts_by(e: &Edge, lower: &Level) -> bool
+    requires edge { IsEdgeWithin COORDINATE_LIMIT e.now }
+    requires lower { IsLevelWithin COORDINATE_LIMIT lower.now }
+    ensures { result ≡ int_le ((low e.now).y *ℤ lower.now.d) lower.now.n }
+{
+    times::<21, 44>(low(e).y as i128, lower.d) <= lower.n
+}
+
+fn ends_from(e: &Edge, upper: &Level) -> bool
+    requires edge { IsEdgeWithin COORDINATE_LIMIT e.now }
+    requires upper { IsLevelWithin COORDINATE_LIMIT upper.now }
+    ensures { result ≡ int_le upper.now.n ((high e.now).y *ℤ upper.now.d) }
+{
+    upper.n <= times::<21, 44>(high(e).y as i128, upper.d)
+}

@@ -1,0 +1,15 @@
+//! The edges between two neighbouring heights, from left to right.
+//!
+//! The contracts promise the edges that reach both heights in the order that they keep from the lower to the upper
+//! one, with those that coincide in one bundle.
+#![tactic(auto, using(scad_geom::proofs::Casts::casts))]
+
+mod between;
+mod bundle;
+mod collect;
+mod group;
+mod order;
+mod place;
+
+pub use between::slab;
+pub use bundle::Bundle;
