@@ -1,0 +1,17 @@
+//! The tokens of OpenSCAD source.
+//! The contract gives exactly the tokens of every text with their places, or its first refused place.
+#![tactic(auto)]
+
+mod bytes;
+mod character;
+mod escape;
+mod gap;
+mod quoted;
+
+
+
+mod sign;
+mod token;
+mod word;
+
+pub use token::{Key, Sign, Token, TokenKind, Tokens};
