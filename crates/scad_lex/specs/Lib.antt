@@ -1,7 +1,9 @@
 pub mod Character
 pub mod Classes
 pub mod Escape
+pub mod Front
 pub mod Gap
+pub mod Keys
 pub mod Quoted
 pub mod Signs
 pub mod Words

@@ -19,3 +19,10 @@ pub(crate) fn behind(bytes: &[u8], n: usize) -> &[u8]
 {
     &bytes[n..]
 }
+
+/// The first `n` bytes, or all where there are fewer.
+pub(crate) fn first(bytes: &[u8], n: usize) -> &[u8]
+    ensures { result.now ≡ take n bytes.now }
+{
+    if n <= bytes.len() { &bytes[..n] } else { bytes }
+}

@@ -5,7 +5,9 @@
 mod bytes;
 mod character;
 mod escape;
+mod front;
 mod gap;
+mod key;
 mod quoted;
 
 
