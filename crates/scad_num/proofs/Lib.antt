@@ -1,0 +1,8 @@
+pub mod Capped
+pub mod Digits
+mod Examples
+pub mod Exponent
+pub mod Nearest
+pub mod Number
+pub mod SquareRoot
+pub mod Scaled

@@ -1,0 +1,4 @@
+pub mod Literal
+pub mod Number
+pub mod Root
+pub mod Rounding

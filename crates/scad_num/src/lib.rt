@@ -1,0 +1,22 @@
+//! Fixed-point numbers: whole millionths of at most 10^15 in size, in place of floating-point ones.
+//! Every result is the exact value rounded once to the nearest millionth, a half away from zero, or
+//! the fault that stands for it, each exactly where `specs/Number.antt` says.
+#![tactic(auto)]
+
+mod arithmetic;
+mod decimal;
+mod fault;
+mod fixed_point;
+mod literal;
+mod mantissa;
+mod power;
+mod root;
+mod rounding;
+mod whole;
+mod wide;
+
+pub use fault::NumFault;
+pub use fixed_point::Num;
+pub use rounding::half_away;
+pub use wide::{half_away_over, number_of, times};
+pub use literal::{is_literal, literal_len, parse_decimal};

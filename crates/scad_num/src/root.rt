@@ -1,0 +1,25 @@
+ghost use Rattle.std.specs.Prelude.{◌≡◌, ◌≤◌, pos, ◌≤ℤ◌};
+ghost use Rattle.scad_num.specs.Root.{root, sqrt_of};
+
+use crate::fixed_point::{Num, ONE};
+
+/// The whole square root of a number of at most 10^21.
+fn root(n: u128) -> u64
+    requires { n ≤ 1000000000000000000000 }
+    ensures value { result ≡ root n }
+    ensures small { result ≤ 1000000000000000 }
+{
+    n.isqrt() as u64
+}
+
+impl Num {
+    /// The square root, cut to whole millionths.
+    #[tactic(auto, unfolding(crate::specs::Root::sqrt_of))]
+    pub fn sqrt(self) -> Num
+        requires { pos 0 ≤ℤ self }
+        ensures { result ≡ sqrt_of self }
+    {
+        let millionths = self.millionths().unsigned_abs();
+        Num::within(root(u128::from(millionths) * ONE as u128) as i64)
+    }
+}
