@@ -1,22 +1,32 @@
 ghost use Rattle.std.specs.Prelude.{◌≡◌, ◌++◌, IfOk, OnOk};
-ghost use Rattle.scad_fault.specs.Line.{budget_number, budget_name, budget_line, passed_text};
+ghost use Rattle.scad_fault.specs.Kinds.{budget_number, budget_name};
+ghost use Rattle.scad_fault.specs.Line.{budget_line, passed_text};
 
 use crate::line;
 use crate::place::Place;
 use crate::text::Text;
 use std::alloc::{AllocError, Global};
 
-/// A limit that a run keeps.
+/// What a run keeps within a limit.
 #[derive(Clone, Copy, Debug, PartialEq, Eq)]
 pub enum BudgetKind {
+    /// The bytes of the source.
     SourceLong = 1,
+    /// The steps of evaluation.
     Steps = 2,
+    /// The depth of evaluation, or the nesting of a value or of a tree of solids.
     Depth = 3,
+    /// The leaves of the tree of solids.
     Leaves = 4,
+    /// The triangles of all leaves.
     Triangles = 5,
+    /// The layers.
     Layers = 6,
+    /// The edges that one boolean of a layer works on.
     LayerEdges = 7,
+    /// The crossings of edges in one boolean of a layer.
     LayerCrossings = 8,
+    /// The extruding moves of a layer.
     LayerMoves = 9,
 }
 
@@ -44,8 +54,9 @@ impl BudgetKind {
     }
 }
 
-/// A budget that was passed: the place in the source for `Steps` to `Triangles`, the layer for `LayerEdges` to
-/// `LayerMoves`, what was counted for `Layers` to `LayerMoves`. The fields that a kind does not use are 0.
+/// A budget that was passed: the place in the source for `Steps` to `Triangles`, the count for
+/// `Layers` to `LayerMoves`, the layer for `LayerEdges` to `LayerMoves`. The fields that a kind does
+/// not use are 0.
 #[derive(Clone, Copy, Debug, PartialEq, Eq)]
 pub struct Budget {
     pub kind: BudgetKind,
@@ -55,6 +66,56 @@ pub struct Budget {
 }
 
 impl Budget {
+    /// A source with more bytes than the limit.
+    pub fn source_long() -> Budget
+        ensures { result ≡
+            record { kind = BudgetKind.SourceLong; at = Place.NONE; layer = 0; count = 0 } }
+    {
+        Budget {
+            kind: BudgetKind::SourceLong,
+            at: Place::NONE,
+            layer: 0,
+            count: 0,
+        }
+    }
+
+    /// A budget of evaluation, passed at a place in the source.
+    pub fn placed(kind: BudgetKind, at: Place) -> Budget
+        ensures { result ≡ record { kind = kind; at = at; layer = 0; count = 0 } }
+    {
+        Budget {
+            kind,
+            at,
+            layer: 0,
+            count: 0,
+        }
+    }
+
+    /// More layers than the limit.
+    pub fn layers(count: u64) -> Budget
+        ensures { result ≡
+            record { kind = BudgetKind.Layers; at = Place.NONE; layer = 0; count = count } }
+    {
+        Budget {
+            kind: BudgetKind::Layers,
+            at: Place::NONE,
+            layer: 0,
+            count,
+        }
+    }
+
+    /// A budget of one layer.
+    pub fn of_layer(kind: BudgetKind, layer: u32, count: u64) -> Budget
+        ensures { result ≡ record { kind = kind; at = Place.NONE; layer = layer; count = count } }
+    {
+        Budget {
+            kind,
+            at: Place::NONE,
+            layer,
+            count,
+        }
+    }
+
     /// The report's line on the budget.
     #[tactic(auto, unfolding(crate::specs::Line::budget_line))]
     pub(crate) fn line(&self, alloc: Global) -> Result<Text, AllocError>
@@ -68,7 +129,8 @@ impl Budget {
     }
 
     fn push_passed(&self, text: &mut Vec<u8>) -> Result<(), AllocError>
-        ensures { OnOk result (text.new.items ≡ text.old.items ++ passed_text self.now.kind self.now) }
+        ensures { OnOk result (text.new.items ≡ text.old.items
+            ++ passed_text self.now.kind self.now.at self.now.layer self.now.count) }
     {
         match self.kind {
             BudgetKind::SourceLong => Ok(()),

@@ -1,29 +1,44 @@
 ghost use Rattle.std.specs.Prelude.{◌≡◌, [], IfOk, OnOk, ◌++◌};
-ghost use Rattle.scad_fault.specs.Line.{fault_number, fault_name, fault_line, name_text};
+ghost use Rattle.scad_fault.specs.Kinds.{fault_number, fault_name};
+ghost use Rattle.scad_fault.specs.Line.{fault_line, name_text};
 
 use crate::line;
 use crate::place::Place;
 use crate::text::Text;
 use std::alloc::{AllocError, Global};
 
-/// Why a source is refused.
+/// Why a source is refused: its text, its names, or what its evaluation gave.
 #[derive(Clone, Copy, Debug, PartialEq, Eq)]
 pub enum FaultKind {
+    /// Bytes that begin no token.
     BadText = 1,
+    /// A token where the grammar takes none of its kind.
     Syntax = 2,
+    /// More constructs open at one token than the limit.
     Nesting = 3,
+    /// A form of the language that the profile leaves out, by its name.
     LeftOut = 4,
+    /// A call of a module that is not defined, by its name.
     UnknownModule = 5,
+    /// A call of a function that is not defined, by its name.
     UnknownFunction = 6,
+    /// An argument that is missing or that the called name does not take.
     BadArgument = 7,
+    /// A quotient or remainder by zero.
     ZeroDivisor = 8,
+    /// A number past the greatest size.
     NumberRange = 9,
+    /// An assertion that is false.
     AssertFailed = 10,
+    /// A flat shape outside every extrusion, or a solid inside one.
     MixedDimensions = 11,
+    /// Faces of a polyhedron that do not close.
     NotClosed = 12,
+    /// A placed coordinate past the greatest size.
     CoordinateRange = 13,
+    /// A range that steps by zero.
     ZeroStep = 14,
-    /// A form of source that is not built yet.
+    /// A form of source that is not built yet, by its name where it has one.
     NotBuilt = 15,
 }
 
@@ -57,7 +72,8 @@ impl FaultKind {
     }
 }
 
-/// A fault of the source: its kind, where it stands, and the name that it is about, empty where it is about none.
+/// A fault of the source: its kind, its place, and the name that it is about, which is empty where
+/// the kind has none.
 #[derive(Debug, Drop)]
 pub struct Fault {
     pub kind: FaultKind,

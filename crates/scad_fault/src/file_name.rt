@@ -45,3 +45,18 @@ impl FileName {
         self.name.as_str()
     }
 }
+
+#[cfg(test)]
+mod tests {
+    use super::*;
+    use std::test::Fail;
+
+    #[test]
+    fn a_file_name_is_lent_and_given_back(rt: HostRuntime) -> Result<(), Fail> {
+        let name = FileName::of(rt.alloc(), "é.scad")?;
+        assert_eq!(rt; name.as_str(), "é.scad");
+        let same = FileName::from_string(name.into_string());
+        assert_eq!(rt; same.as_str(), "é.scad");
+        Ok(())
+    }
+}

@@ -1,5 +1,5 @@
-//! Places, faults, budgets and the statuses that a run of the slicer ends with, and the texts that they carry.
-//! The contract gives each status its number and the exact line that the report ends with.
+//! How a run of the slicer ends: statuses with the faults, places, budgets and texts that they carry.
+//! Its contract gives each status its number and the exact line that the report ends with.
 #![tactic(auto)]
 
 mod budget;
@@ -18,5 +18,5 @@ pub use fault::{Fault, FaultKind};
 pub use file_name::FileName;
 pub use place::Place;
 pub use settings::{SetFault, SetKind};
-pub use status::{OUT_OF_MEMORY, READ_FAULT, Status, WRITE_FAULT};
+pub use status::{OUT_OF_MEMORY, READ_FAULT, Status, WRITE_FAULT, constant_lines};
 pub use text::Text;

@@ -7,27 +7,27 @@ use crate::place::Place;
 use itoa::{Buffer, Integer};
 use std::alloc::AllocError;
 
-pub fn push_number<I: Integer>(text: &mut Vec<u8>, n: I) -> Result<(), AllocError>
+pub(crate) fn push_number<I: Integer>(text: &mut Vec<u8>, n: I) -> Result<(), AllocError>
     ensures { OnOk result (text.new.items ≡ text.old.items ++ I.text n) }
 {
     text.extend_from_slice(Buffer::new().format(n).as_bytes())
 }
 
-pub fn push_word(text: &mut Vec<u8>, word: &[u8]) -> Result<(), AllocError>
+pub(crate) fn push_word(text: &mut Vec<u8>, word: &[u8]) -> Result<(), AllocError>
     ensures { OnOk result (text.new.items ≡ text.old.items ++ word_text word.now) }
 {
     text.push(b' ')?;
     text.extend_from_slice(word)
 }
 
-pub fn push_value(text: &mut Vec<u8>, value: i64) -> Result<(), AllocError>
+pub(crate) fn push_value(text: &mut Vec<u8>, value: i64) -> Result<(), AllocError>
     ensures { OnOk result (text.new.items ≡ text.old.items ++ word_text (signed_decimal value)) }
 {
     text.push(b' ')?;
     push_number(text, value)
 }
 
-pub fn push_kind(text: &mut Vec<u8>, number: u8, name: &str) -> Result<(), AllocError>
+pub(crate) fn push_kind(text: &mut Vec<u8>, number: u8, name: &str) -> Result<(), AllocError>
     ensures { OnOk result (text.new.items ≡ text.old.items ++ kind_text number name.now) }
 {
     text.push(b' ')?;
@@ -36,7 +36,7 @@ pub fn push_kind(text: &mut Vec<u8>, number: u8, name: &str) -> Result<(), Alloc
     text.extend_from_slice(name.as_bytes())
 }
 
-pub fn push_place(text: &mut Vec<u8>, at: Place) -> Result<(), AllocError>
+pub(crate) fn push_place(text: &mut Vec<u8>, at: Place) -> Result<(), AllocError>
     ensures { OnOk result (text.new.items ≡ text.old.items ++ place_text at) }
 {
     text.extend_from_slice(b" at ")?;
@@ -45,14 +45,14 @@ pub fn push_place(text: &mut Vec<u8>, at: Place) -> Result<(), AllocError>
     push_number(text, at.col)
 }
 
-pub fn push_count(text: &mut Vec<u8>, count: u64) -> Result<(), AllocError>
+pub(crate) fn push_count(text: &mut Vec<u8>, count: u64) -> Result<(), AllocError>
     ensures { OnOk result (text.new.items ≡ text.old.items ++ count_text count) }
 {
     text.extend_from_slice(b" count ")?;
     push_number(text, count)
 }
 
-pub fn push_layer(text: &mut Vec<u8>, layer: u32) -> Result<(), AllocError>
+pub(crate) fn push_layer(text: &mut Vec<u8>, layer: u32) -> Result<(), AllocError>
     ensures { OnOk result (text.new.items ≡ text.old.items ++ layer_text layer) }
 {
     text.extend_from_slice(b" layer ")?;

@@ -1,6 +1,15 @@
-/// A place in a source: a line from 1, counted by line feeds, and a column from 1, counted in bytes.
+/// A place in a source: a line from 1, counted by line feeds, and a column from 1, counted in
+/// bytes. Both are 0 where there is no place.
 #[derive(Clone, Copy, Debug, PartialEq, Eq)]
 pub struct Place {
     pub line: u32,
     pub col: u32,
+}
+
+impl Place {
+    /// The first byte of a source.
+    pub const START: Place = Place { line: 1, col: 1 };
+
+    /// No place.
+    pub const NONE: Place = Place { line: 0, col: 0 };
 }

@@ -1,5 +1,6 @@
 ghost use Rattle.std.specs.Prelude.{◌≡◌, ◌++◌, IfOk, OnOk};
-ghost use Rattle.scad_fault.specs.Line.{set_number, set_name, settings_line, setting_text};
+ghost use Rattle.scad_fault.specs.Kinds.{set_number, set_name};
+ghost use Rattle.scad_fault.specs.Line.{settings_line, setting_text};
 
 use crate::line;
 use crate::text::Text;
@@ -8,9 +9,13 @@ use std::alloc::{AllocError, Global};
 /// Why settings are refused.
 #[derive(Clone, Copy, Debug, PartialEq, Eq)]
 pub enum SetKind {
+    /// The text is no TOML document.
     NotToml = 1,
+    /// A key that no setting has.
     UnknownKey = 2,
+    /// A value that is no whole number.
     NotWhole = 3,
+    /// A whole number outside the setting's range.
     OutOfRange = 4,
 }
 
@@ -33,7 +38,8 @@ impl SetKind {
     }
 }
 
-/// A fault of the settings: the key, empty for `NotToml`, and the value for `OutOfRange`, else 0.
+/// A fault of the settings: its kind, the key, which is empty for `NotToml`, and the value, which is
+/// 0 for all but `OutOfRange`.
 #[derive(Debug, Drop)]
 pub struct SetFault {
     pub kind: SetKind,
@@ -55,7 +61,8 @@ impl SetFault {
     }
 
     fn push_setting(&self, text: &mut Vec<u8>) -> Result<(), AllocError>
-        ensures { OnOk result (text.new.items ≡ text.old.items ++ setting_text self.now) }
+        ensures { OnOk result (text.new.items ≡ text.old.items
+            ++ setting_text self.now.kind self.now.key self.now.value) }
     {
         match self.kind {
             SetKind::NotToml => Ok(()),

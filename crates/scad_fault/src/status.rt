@@ -1,5 +1,6 @@
 ghost use Rattle.std.specs.Prelude.{◌≡◌, ◌≢◌, IfOk};
-ghost use Rattle.scad_fault.specs.Line.{code_of, line_of};
+ghost use Rattle.scad_fault.specs.Line.{line_of};
+ghost use Rattle.scad_fault.specs.Status.{code_of};
 
 use crate::budget::Budget;
 use crate::fault::Fault;
@@ -7,18 +8,19 @@ use crate::settings::SetFault;
 use crate::text::Text;
 use std::alloc::{AllocError, Global};
 
-/// The report's last line after a fault of reading.
+/// The report's last line after `Status::Read`. Like the next two it takes no memory.
 pub const READ_FAULT: &[u8] = b"read fault\n";
 
-/// The report's last line after a fault of writing.
+/// The report's last line after `Status::Write`.
 pub const WRITE_FAULT: &[u8] = b"write fault\n";
 
-/// The report's last line where there was too little memory.
+/// The report's last line after `Status::Memory`.
 pub const OUT_OF_MEMORY: &[u8] = b"out of memory\n";
 
 /// How a run ended.
 #[derive(Debug, Drop)]
 pub enum Status {
+    /// What was asked for is written.
     Done,
     /// The source is refused.
     Source(Fault),
@@ -26,7 +28,9 @@ pub enum Status {
     Usage,
     /// The settings are refused.
     Settings(SetFault),
+    /// A file could not be read.
     Read,
+    /// An output could not be written.
     Write,
     /// A budget was passed.
     Over(Budget),
@@ -68,3 +72,13 @@ impl Status {
         }
     }
 }
+
+/// The three constants are the last lines of their statuses. It does nothing.
+pub fn constant_lines()
+    ensures read { READ_FAULT.now ≡ line_of Status.Read }
+    ensures write { WRITE_FAULT.now ≡ line_of Status.Write }
+    ensures memory { OUT_OF_MEMORY.now ≡ line_of Status.Memory }
+{}
+
+#[cfg(test)]
+mod tests;

@@ -54,3 +54,19 @@ impl Text {
         self.bytes.as_slice()
     }
 }
+
+#[cfg(test)]
+mod tests {
+    use super::*;
+    use std::test::Fail;
+
+    #[test]
+    fn a_text_lends_and_gives_back_its_bytes(rt: HostRuntime) -> Result<(), Fail> {
+        let text = Text::of(rt.alloc(), b"a\xff")?;
+        assert_eq!(rt; text.as_slice(), b"a\xff".as_slice());
+        let same = Text::from_vec(text.into_vec());
+        assert_eq!(rt; same.as_slice(), b"a\xff".as_slice());
+        assert!(rt; Text::empty(rt.alloc()).as_slice().is_empty());
+        Ok(())
+    }
+}

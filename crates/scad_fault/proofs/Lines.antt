@@ -1,0 +1,68 @@
+-- Lines in full: those that do not depend on what the run was given, and an example of each other form.
+use Rattle.std.proofs.Common.{◌≡◌, [], codes, refl, pos, negsuc}
+use Rattle.std.specs.Fmt.{digits}
+use Rattle.scad_fault.specs.declared.place.Place.{Place}
+use Rattle.scad_fault.specs.declared.fault.FaultKind.TheVariants.{LeftOut, NotClosed, NotBuilt}
+use Rattle.scad_fault.specs.declared.budget.BudgetKind.TheVariants.{SourceLong, Depth, Layers, LayerEdges}
+use Rattle.scad_fault.specs.declared.settings.SetKind.TheVariants.{NotToml, OutOfRange}
+use Rattle.scad_fault.specs.Line.{fault_line, settings_line, budget_line}
+
+-- the first place of a source
+abbrev pub start : Place
+start = record { line = 1; col = 1 }
+
+-- no place
+abbrev pub nowhere : Place
+nowhere = record { line = 0; col = 0 }
+
+pub not_built_line : fault_line (record { kind = NotBuilt; at = start; name = [] }) ≡ codes "fault 15 NotBuilt at 1:1\n"
+unfolding fault_line digits
+not_built_line = refl
+
+pub source_long_line :
+    budget_line (record { kind = SourceLong; at = nowhere; layer = 0; count = 0 }) ≡ codes "budget 1 SourceLong\n"
+unfolding budget_line digits
+source_long_line = refl
+
+pub not_toml_line :
+    settings_line (record { kind = NotToml; key = []; value = pos 0 }) ≡ codes "settings 1 NotToml\n"
+unfolding settings_line digits
+not_toml_line = refl
+
+left_out_line :
+    fault_line (record { kind = LeftOut; at = record { line = 1; col = 5 }; name = codes "function" })
+    ≡ codes "fault 4 LeftOut at 1:5 function\n"
+unfolding fault_line digits
+left_out_line = refl
+
+not_closed_line : fault_line (record { kind = NotClosed; at = start; name = [] }) ≡ codes "fault 12 NotClosed at 1:1\n"
+unfolding fault_line digits
+not_closed_line = refl
+
+out_of_range_line :
+    settings_line (record { kind = OutOfRange; key = codes "layer_height"; value = pos 5 })
+    ≡ codes "settings 4 OutOfRange layer_height 5\n"
+unfolding settings_line digits
+out_of_range_line = refl
+
+below_range_line :
+    settings_line (record { kind = OutOfRange; key = codes "bed"; value = negsuc 9 }) ≡ codes "settings 4 OutOfRange bed -10\n"
+unfolding settings_line digits
+below_range_line = refl
+
+depth_line :
+    budget_line (record { kind = Depth; at = record { line = 1; col = 27 }; layer = 0; count = 0 })
+    ≡ codes "budget 3 Depth at 1:27\n"
+unfolding budget_line digits
+depth_line = refl
+
+layers_line :
+    budget_line (record { kind = Layers; at = nowhere; layer = 0; count = 50000 }) ≡ codes "budget 6 Layers count 50000\n"
+unfolding budget_line digits
+layers_line = refl
+
+layer_edges_line :
+    budget_line (record { kind = LayerEdges; at = nowhere; layer = 4; count = 20010 })
+    ≡ codes "budget 7 LayerEdges layer 4 count 20010\n"
+unfolding budget_line digits
+layer_edges_line = refl
