@@ -1,1 +1,2 @@
+mod Literals
 mod Quotes

@@ -30,10 +30,10 @@ string_of (Closed chars n) = Cut (Str chars) (n + 1)
 string_of Unclosed = Bad 0
 string_of (Broken n) = Bad (n + 1)
 
--- a number of so many bytes
-unfoldable pub numeral_of : ℕ → Result ℤ NumFault → Front
-numeral_of n (Ok z) = Cut (Number z) n
-numeral_of n (Err fault) = TooLarge
+-- a number that these bytes write
+unfoldable pub numeral_of : List ℕ → Result ℤ NumFault → Front
+numeral_of literal (Ok z) = Cut (Number z) (length literal)
+numeral_of literal (Err fault) = TooLarge
 
 -- a keyword, or any other name
 unfoldable pub word_of : List ℕ → Option KeyName → Front
@@ -54,6 +54,6 @@ front_of bytes =
     else (if a == 47 && b == 47 then Gap (prefix_len (is_of WithinLine) bytes)
     else (if a == 47 && b == 42 then comment_of (closed_len (drop 2 bytes))
     else (if a == 34 then string_of (quoted (drop 1 bytes))
-    else (if nat_lt 0 (literal_len bytes) then numeral_of (literal_len bytes) (literal_number (take (literal_len bytes) bytes))
+    else (if nat_lt 0 (literal_len bytes) then numeral_of (take (literal_len bytes) bytes) (literal_number (take (literal_len bytes) bytes))
     else (if nat_lt 0 (word_len bytes) then word_of (take (word_len bytes) bytes) (key_of (take (word_len bytes) bytes))
     else sign_of (two_byte_sign a b) (one_byte_sign a))))))

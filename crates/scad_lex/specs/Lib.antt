@@ -6,4 +6,5 @@ pub mod Gap
 pub mod Keys
 pub mod Quoted
 pub mod Signs
+pub mod Tokens
 pub mod Words

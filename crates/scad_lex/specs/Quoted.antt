@@ -37,3 +37,9 @@ quoted_from (suc n) (b ∷ bytes) = behind [] 1 (quoted_from n bytes)
 -- what stands behind an opening quote
 abbrev pub quoted : List ℕ → Quoted
 quoted bytes = quoted_from 0 bytes
+
+-- how many bytes a string takes behind its opening quote, as far as it was read
+abbrev pub len_of : Quoted → ℕ
+len_of (Closed chars n) = n
+len_of Unclosed = 0
+len_of (Broken n) = n

@@ -1,12 +1,12 @@
 //! What stands at the front of a text.
 
-ghost use Rattle.std.specs.Prelude.{◌≡◌, ◌<◌, ◌≤◌, ◌+◌, length, IfOk, slice_index, take, drop};
+ghost use Rattle.std.specs.Prelude.{◌≡◌, ◌<◌, ◌≤◌, ◌+◌, ◌^◌, length, IfOk, slice_index, take, drop, true};
 ghost use Rattle.scad_lex.specs.Front.{front_of, comment_of, string_of, numeral_of, word_of, sign_of};
 ghost use Rattle.scad_lex.specs.Gap.{closed_len};
 ghost use Rattle.scad_lex.specs.Quoted.{quoted};
 ghost use Rattle.scad_lex.specs.Keys.{key_of};
 ghost use Rattle.scad_lex.specs.Signs.{two_byte_sign, one_byte_sign};
-ghost use Rattle.scad_num.specs.Literal.{literal_len, literal_number};
+ghost use Rattle.scad_num.specs.Literal.{literal_len, literal_number, is_literal};
 
 use crate::bytes::{behind, byte_at, first};
 use crate::gap::{Class, closed_len, run_len};
@@ -45,6 +45,7 @@ fn comment(bytes: &[u8]) -> Front
 /// A string, whose `"` stands before these bytes.
 #[tactic(auto, unfolding(crate::specs::Front::string_of))]
 fn string(alloc: Global, bytes: &[u8]) -> Result<Front, AllocError>
+    requires { length bytes.now < 2 ^ 63 }
     ensures { IfOk result (λ f. f ≡ string_of (quoted bytes.now)) }
 {
     match read_quoted(alloc, bytes)? {
@@ -57,7 +58,8 @@ fn string(alloc: Global, bytes: &[u8]) -> Result<Front, AllocError>
 /// The bytes are a number.
 #[tactic(auto, unfolding(crate::specs::Front::numeral_of))]
 fn numeral(bytes: &[u8]) -> Front
-    ensures { result ≡ numeral_of (length bytes.now) (literal_number bytes.now) }
+    requires { is_literal bytes.now ≡ true }
+    ensures { result ≡ numeral_of bytes.now (literal_number bytes.now) }
 {
     match parse_decimal(bytes) {
         Ok(number) => Front::Cut(TokenKind::Number(number), bytes.len()),
@@ -90,4 +92,35 @@ fn sign(a: u8, b: u8) -> Front
             None => Front::Bad(0),
         },
     }
+}
+
+/// What stands at the front of bytes.
+#[tactic(auto, unfolding(crate::specs::Front::front_of))]
+pub(crate) fn front_of(alloc: Global, bytes: &[u8]) -> Result<Front, AllocError>
+    requires { 0 < length bytes.now }
+    ensures { IfOk result (λ f. f ≡ front_of bytes.now) }
+{
+    let a = byte_at(bytes, 0);
+    let b = byte_at(bytes, 1);
+    if a == b' ' || a == b'\t' || a == b'\r' || a == b'\n' {
+        return Ok(Front::Gap(run_len(Class::Blank, bytes)));
+    }
+    if a == b'/' && b == b'/' {
+        return Ok(Front::Gap(run_len(Class::WithinLine, bytes)));
+    }
+    if a == b'/' && b == b'*' {
+        return Ok(comment(behind(bytes, 2)));
+    }
+    if a == b'"' {
+        return string(alloc, behind(bytes, 1));
+    }
+    let number_len = literal_len(bytes);
+    if number_len > 0 {
+        return Ok(numeral(first(bytes, number_len)));
+    }
+    let word_len = word_len(bytes);
+    if word_len > 0 {
+        return word(alloc, first(bytes, word_len));
+    }
+    Ok(sign(a, b))
 }

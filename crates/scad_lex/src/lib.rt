@@ -5,6 +5,7 @@
 mod bytes;
 mod character;
 mod escape;
+mod fault;
 mod front;
 mod gap;
 mod key;
@@ -16,4 +17,5 @@ mod sign;
 mod token;
 mod word;
 
+pub use fault::LexFault;
 pub use token::{Key, Sign, Token, TokenKind, Tokens};

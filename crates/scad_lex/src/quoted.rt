@@ -1,7 +1,7 @@
 //! What stands behind the opening quote of a string.
 
-ghost use Rattle.std.specs.Prelude.{◌≡◌, ◌≤◌, ◌<◌, IfSome, IfOk};
-ghost use Rattle.scad_lex.specs.Quoted.{element_at, quoted};
+ghost use Rattle.std.specs.Prelude.{◌≡◌, ◌+◌, ◌≤◌, ◌<◌, length, IfSome, IfOk};
+ghost use Rattle.scad_lex.specs.Quoted.{element_at, quoted, len_of};
 
 use crate::bytes::{behind, byte_at};
 use crate::character::character_at;
@@ -34,7 +34,8 @@ fn element_at(bytes: &[u8]) -> Option<(char, usize)>
 
 /// What stands behind an opening quote. Each byte is gone over once.
 pub(crate) fn read_quoted(alloc: Global, bytes: &[u8]) -> Result<Quoted, AllocError>
-    ensures { IfOk result (λ q. q ≡ quoted bytes.now) }
+    ensures value { IfOk result (λ q. q ≡ quoted bytes.now) }
+    ensures bound { IfOk result (λ q. len_of q ≤ length bytes.now + 8) }
 {
     let mut chars = Vec::new(alloc);
     let mut done = 0usize;
