@@ -1,5 +1,5 @@
 -- What stands at the front of a text: blanks or a comment, a token, or neither.
-use Rattle.std.specs.Prelude.{ℕ, ◌+◌, ◌&&◌, List, Option, Some, None, Result, Ok, Err, ℤ, ◌==◌, nat_lt, if◌then◌else◌, slice_index, take, drop, length}
+use Rattle.std.specs.Prelude.{ℕ, ◌+◌, ◌<◌, ◌≤◌, ◌&&◌, List, Option, Some, None, Result, Ok, Err, ℤ, ◌==◌, nat_lt, if◌then◌else◌, slice_index, take, drop, length}
 use Rattle.std.specs.List.{prefix_len}
 use Rattle.scad_num.specs.declared.fault.NumFault.{NumFault}
 use Rattle.scad_num.specs.Literal.{literal_len, literal_number}
@@ -57,3 +57,10 @@ front_of bytes =
     else (if nat_lt 0 (literal_len bytes) then numeral_of (take (literal_len bytes) bytes) (literal_number (take (literal_len bytes) bytes))
     else (if nat_lt 0 (word_len bytes) then word_of (take (word_len bytes) bytes) (key_of (take (word_len bytes) bytes))
     else sign_of (two_byte_sign a b) (one_byte_sign a))))))
+
+-- a piece has at least a byte, and few bytes beyond a text of this length
+abbrev pub IsWithin : Front → ℕ → Type 0
+IsWithin (Gap n) long = (0 < n) × (n ≤ long + 16)
+IsWithin (Cut kind n) long = (0 < n) × (n ≤ long + 16)
+IsWithin (Bad n) long = n ≤ long + 16
+IsWithin TooLarge long = Unit {0}

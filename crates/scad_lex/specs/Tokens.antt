@@ -1,9 +1,9 @@
 -- The tokens of a text: it is cut into tokens, blanks and comments, each the longest that begins at its place.
-use Rattle.std.specs.Prelude.{ℕ, zero, suc, pred, ◌+◌, ◌++◌, List, [], ◌∷◌, Result, Ok, Err, nat_eq, ◌==◌, if◌then◌else◌, take, drop}
+use Rattle.std.specs.Prelude.{◌≡◌, ℕ, zero, suc, pred, ◌+◌, ◌++◌, List, [], ◌∷◌, Result, Ok, Err, nat_eq, ◌==◌, if◌then◌else◌, take, drop}
 use Rattle.std.specs.List.{starts_with}
 use Rattle.scad_fault.specs.declared.place.Place.{Place}
 use Rattle.scad_lex.specs.declared.fault.LexFault.{LexFault}
-use Rattle.scad_lex.specs.declared.fault.LexFault.TheVariants.{BadText, Range}
+use Rattle.scad_lex.specs.declared.fault.LexFault.TheVariants.{BadText, Range, Memory}
 use Rattle.scad_lex.specs.declared.token.Token.{Token}
 use Rattle.scad_lex.specs.declared.front.Front.{Front}
 use Rattle.scad_lex.specs.declared.front.Front.TheVariants.{Gap, Cut, Bad, TooLarge}
@@ -59,3 +59,9 @@ tokens_from (suc n) at (b ∷ bytes) = tokens_from n (next at b) bytes
 
 unfoldable pub tokens : List ℕ → Answer
 tokens bytes = tokens_from 0 start (without_mark bytes)
+
+-- the text is refused so, or there was no memory
+abbrev pub Refuses : Answer → LexFault → Type 0
+Refuses answer Memory = Unit {0}
+Refuses answer (BadText place) = answer ≡ Err (BadText place)
+Refuses answer (Range place) = answer ≡ Err (Range place)

@@ -1,7 +1,7 @@
 //! What stands at the front of a text.
 
 ghost use Rattle.std.specs.Prelude.{◌≡◌, ◌<◌, ◌≤◌, ◌+◌, ◌^◌, length, IfOk, slice_index, take, drop, true};
-ghost use Rattle.scad_lex.specs.Front.{front_of, comment_of, string_of, numeral_of, word_of, sign_of};
+ghost use Rattle.scad_lex.specs.Front.{front_of, comment_of, string_of, numeral_of, word_of, sign_of, IsWithin};
 ghost use Rattle.scad_lex.specs.Gap.{closed_len};
 ghost use Rattle.scad_lex.specs.Quoted.{quoted};
 ghost use Rattle.scad_lex.specs.Keys.{key_of};
@@ -34,7 +34,8 @@ pub(crate) enum Front {
 /// A comment, whose `/*` stands before these bytes.
 #[tactic(auto, unfolding(crate::specs::Front::comment_of))]
 fn comment(bytes: &[u8]) -> Front
-    ensures { result ≡ comment_of (closed_len bytes.now) }
+    ensures value { result ≡ comment_of (closed_len bytes.now) }
+    ensures bound { IsWithin result (length bytes.now + 2) }
 {
     match closed_len(bytes) {
         Some(n) => Front::Gap(n + 2),
@@ -46,7 +47,8 @@ fn comment(bytes: &[u8]) -> Front
 #[tactic(auto, unfolding(crate::specs::Front::string_of))]
 fn string(alloc: Global, bytes: &[u8]) -> Result<Front, AllocError>
     requires { length bytes.now < 2 ^ 63 }
-    ensures { IfOk result (λ f. f ≡ string_of (quoted bytes.now)) }
+    ensures value { IfOk result (λ f. f ≡ string_of (quoted bytes.now)) }
+    ensures bound { IfOk result (λ f. IsWithin f (length bytes.now + 1)) }
 {
     match read_quoted(alloc, bytes)? {
         Quoted::Closed(chars, n) => Ok(Front::Cut(TokenKind::Str(chars), n + 1)),
@@ -58,8 +60,10 @@ fn string(alloc: Global, bytes: &[u8]) -> Result<Front, AllocError>
 /// The bytes are a number.
 #[tactic(auto, unfolding(crate::specs::Front::numeral_of))]
 fn numeral(bytes: &[u8]) -> Front
-    requires { is_literal bytes.now ≡ true }
-    ensures { result ≡ numeral_of bytes.now (literal_number bytes.now) }
+    requires literal { is_literal bytes.now ≡ true }
+    requires some { 0 < length bytes.now }
+    ensures value { result ≡ numeral_of bytes.now (literal_number bytes.now) }
+    ensures bound { IsWithin result (length bytes.now) }
 {
     match parse_decimal(bytes) {
         Ok(number) => Front::Cut(TokenKind::Number(number), bytes.len()),
@@ -70,7 +74,9 @@ fn numeral(bytes: &[u8]) -> Front
 /// The bytes are a name.
 #[tactic(auto, unfolding(crate::specs::Front::word_of))]
 fn word(alloc: Global, bytes: &[u8]) -> Result<Front, AllocError>
-    ensures { IfOk result (λ f. f ≡ word_of bytes.now (key_of bytes.now)) }
+    requires { 0 < length bytes.now }
+    ensures value { IfOk result (λ f. f ≡ word_of bytes.now (key_of bytes.now)) }
+    ensures bound { IfOk result (λ f. IsWithin f (length bytes.now)) }
 {
     match key_of(bytes) {
         Some(key) => Ok(Front::Cut(TokenKind::Key(key), bytes.len())),
@@ -83,7 +89,8 @@ fn word(alloc: Global, bytes: &[u8]) -> Result<Front, AllocError>
 
 #[tactic(auto, unfolding(crate::specs::Front::sign_of))]
 fn sign(a: u8, b: u8) -> Front
-    ensures { result ≡ sign_of (two_byte_sign a b) (one_byte_sign a) }
+    ensures value { result ≡ sign_of (two_byte_sign a b) (one_byte_sign a) }
+    ensures bound { IsWithin result 0 }
 {
     match two_byte_sign(a, b) {
         Some(sign) => Front::Cut(TokenKind::Sign(sign), 2),
@@ -98,7 +105,8 @@ fn sign(a: u8, b: u8) -> Front
 #[tactic(auto, unfolding(crate::specs::Front::front_of))]
 pub(crate) fn front_of(alloc: Global, bytes: &[u8]) -> Result<Front, AllocError>
     requires { 0 < length bytes.now }
-    ensures { IfOk result (λ f. f ≡ front_of bytes.now) }
+    ensures value { IfOk result (λ f. f ≡ front_of bytes.now) }
+    ensures bound { IfOk result (λ f. IsWithin f (length bytes.now)) }
 {
     let a = byte_at(bytes, 0);
     let b = byte_at(bytes, 1);

@@ -1,6 +1,6 @@
 //! Runs of one class of bytes, and comments.
 
-ghost use Rattle.std.specs.Prelude.{◌≡◌, ◌+◌, ◌<◌, ◌≤◌, length, IfSome};
+ghost use Rattle.std.specs.Prelude.{◌≡◌, ◌+◌, ◌<◌, ◌≤◌, length, IfSome, slice_index, true};
 ghost use Rattle.std.specs.List.{prefix_len};
 ghost use Rattle.scad_lex.specs.Classes.{is_of};
 ghost use Rattle.scad_lex.specs.Gap.{closed_len, closes_at};
@@ -29,6 +29,7 @@ fn is_of(class: Class, b: u8) -> bool
 pub(crate) fn run_len(class: Class, bytes: &[u8]) -> usize
     ensures value { result ≡ prefix_len (is_of class) bytes.now }
     ensures bound { result ≤ length bytes.now }
+    ensures some { 0 < length bytes.now → is_of class (slice_index bytes.now 0) ≡ true → 0 < result }
 {
     let mut n = 0usize;
     'run: while n < bytes.len() {

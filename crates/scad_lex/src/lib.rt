@@ -13,9 +13,11 @@ mod quoted;
 
 
 
+mod scanner;
 mod sign;
 mod token;
 mod word;
 
 pub use fault::LexFault;
+pub use scanner::lex;
 pub use token::{Key, Sign, Token, TokenKind, Tokens};
