@@ -1,2 +1,3 @@
 mod Literals
+mod Pieces
 mod Quotes

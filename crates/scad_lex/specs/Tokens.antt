@@ -9,9 +9,15 @@ use Rattle.scad_lex.specs.declared.front.Front.{Front}
 use Rattle.scad_lex.specs.declared.front.Front.TheVariants.{Gap, Cut, Bad, TooLarge}
 use Rattle.scad_lex.specs.Front.{front_of}
 
+abbrev pub next_line : Place → Place
+next_line at = record { line = at.line + 1; col = 1 }
+
+abbrev pub next_col : Place → Place
+next_col at = record { line = at.line; col = at.col + 1 }
+
 -- the place behind a byte: a line feed begins a line, each other byte takes a column
 abbrev pub next : Place → ℕ → Place
-next at b = if b == 10 then record { line = at.line + 1; col = 1 } else record { line = at.line; col = at.col + 1 }
+next at b = if b == 10 then next_line at else next_col at
 
 -- the place behind bytes
 abbrev pub after : Place → List ℕ → Place
@@ -57,7 +63,7 @@ tokens_from zero at (b ∷ bytes) =
     led_by piece at (b ∷ bytes) (tokens_from (others piece) (next at b) bytes)
 tokens_from (suc n) at (b ∷ bytes) = tokens_from n (next at b) bytes
 
-unfoldable pub tokens : List ℕ → Answer
+abbrev pub tokens : List ℕ → Answer
 tokens bytes = tokens_from 0 start (without_mark bytes)
 
 -- the text is refused so, or there was no memory
