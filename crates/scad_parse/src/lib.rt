@@ -1,0 +1,4 @@
+//! The parser.
+#![tactic(auto)]
+
+fn nothing() {}
