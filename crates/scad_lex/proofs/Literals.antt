@@ -5,7 +5,6 @@ use Rattle.std.specs.Char.{is_ascii_digit}
 use Rattle.std.specs.List.{prefix_len}
 use Rattle.std.proofs.lemmas.List.{drop-take, get_or-take, take-take}
 use Rattle.std.proofs.lemmas.Bool.{ltb-true, lt-ltb, ne_eqb, true≢false}
-
 use Rattle.std.proofs.lemmas.List.Folds.{length-prefix_len}
 use Rattle.std.proofs.lemmas.List.Sums.{prefix_len-le-length}
 use native.Mathlib.Decide.{dec_le}
@@ -70,30 +69,30 @@ mantissa-take bytes n some within = by_point (has_point bytes) refl
     by_point : (p : Bool) → has_point bytes ≡ p → mantissa_len (take n bytes) ≡ mantissa_len bytes
     by_point true is =
         let e : mantissa_len bytes ≡ digits_len bytes + 1 + length (decimal_digits bytes) =
-            let s = mantissa_len-is bytes ∙ ap (shape (digits_len bytes) (length (decimal_digits bytes))) is in
-            s ∙ shape-point _ _ (subst (λ x. 0 < x) s some) in
+        let s = mantissa_len-is bytes ∙ ap (shape (digits_len bytes) (length (decimal_digits bytes))) is in
+        s ∙ shape-point _ _ (subst (λ x. 0 < x) s some) in
         let w : digits_len (take n bytes) ≡ digits_len bytes = prefix_len-take is_ascii_digit bytes n (omega arith) in
         let p : has_point (take n bytes) ≡ has_point bytes =
-            ap (λ k. slice_index (take n bytes) k == 46) w ∙ ap (λ b. b == 46) (get_or-take n bytes (digits_len bytes) 0 (omega arith)) in
+        ap (λ k. slice_index (take n bytes) k == 46) w ∙ ap (λ b. b == 46) (get_or-take n bytes (digits_len bytes) 0 (omega arith)) in
         let k : length (take_while is_ascii_digit (drop (digits_len bytes + 1) bytes)) ≤ n - (digits_len bytes + 1) =
-            let same : decimal_digits bytes ≡ take_while is_ascii_digit (drop (digits_len bytes + 1) bytes) = rw is refl in
-            omega (arith, ap length same) in
+        let same : decimal_digits bytes ≡ take_while is_ascii_digit (drop (digits_len bytes + 1) bytes) = rw is refl in
+        omega (arith, ap length same) in
         let ds : decimal_digits (take n bytes) ≡ decimal_digits bytes =
-            ap (λ q. if q then take_while is_ascii_digit (drop (digits_len (take n bytes) + 1) (take n bytes)) else []) (p ∙ is)
-            ∙ ap (λ m. take_while is_ascii_digit (drop (m + 1) (take n bytes))) w
-            ∙ ap (take_while is_ascii_digit) (drop-take_to (digits_len bytes + 1) n bytes (omega arith))
-            ∙ take_while-take is_ascii_digit (drop (digits_len bytes + 1) bytes) (n - (digits_len bytes + 1)) k
-            ∙ sym (ap (λ q. if q then take_while is_ascii_digit (drop (digits_len bytes + 1) bytes) else []) is) in
+        ap (λ q. if q then take_while is_ascii_digit (drop (digits_len (take n bytes) + 1) (take n bytes)) else []) (p ∙ is)
+        ∙ ap (λ m. take_while is_ascii_digit (drop (m + 1) (take n bytes))) w
+        ∙ ap (take_while is_ascii_digit) (drop-take_to (digits_len bytes + 1) n bytes (omega arith))
+        ∙ take_while-take is_ascii_digit (drop (digits_len bytes + 1) bytes) (n - (digits_len bytes + 1)) k
+        ∙ sym (ap (λ q. if q then take_while is_ascii_digit (drop (digits_len bytes + 1) bytes) else []) is) in
         same_shape (take n bytes) bytes w p ds
     by_point false is =
         let e : mantissa_len bytes ≡ digits_len bytes =
-            let s = mantissa_len-is bytes ∙ ap (shape (digits_len bytes) (length (decimal_digits bytes))) is in
-            s ∙ shape-plain _ _ (subst (λ x. 0 < x) s some) in
+        let s = mantissa_len-is bytes ∙ ap (shape (digits_len bytes) (length (decimal_digits bytes))) is in
+        s ∙ shape-plain _ _ (subst (λ x. 0 < x) s some) in
         let w : digits_len (take n bytes) ≡ digits_len bytes = prefix_len-take is_ascii_digit bytes n (omega arith) in
         let p : has_point (take n bytes) ≡ false = ap (λ k. slice_index (take n bytes) k == 46) w ∙ at_end (dec_le n (digits_len bytes)) in
         let ds : decimal_digits (take n bytes) ≡ decimal_digits bytes =
-            ap (λ q. if q then take_while is_ascii_digit (drop (digits_len (take n bytes) + 1) (take n bytes)) else []) p
-            ∙ sym (ap (λ q. if q then take_while is_ascii_digit (drop (digits_len bytes + 1) bytes) else []) is) in
+        ap (λ q. if q then take_while is_ascii_digit (drop (digits_len (take n bytes) + 1) (take n bytes)) else []) p
+        ∙ sym (ap (λ q. if q then take_while is_ascii_digit (drop (digits_len bytes + 1) bytes) else []) is) in
         same_shape (take n bytes) bytes w (p ∙ sym is) ds
       where
         at_end : Dec (n ≤ digits_len bytes) → (slice_index (take n bytes) (digits_len bytes) == 46) ≡ false
@@ -111,12 +110,12 @@ length-power_digits-take bytes is =
     let some : 0 < length (power_digits bytes) = ltb-true 0 _ (second_of _ _ is) in
     let sign : sign_len (take n bytes) ≡ sign_len bytes = ap (λ b. if b == 43 || b == 45 then 1 else 0) (get_or-take n bytes 1 0 (omega arith)) in
     let digits : power_digits (take n bytes) ≡ power_digits bytes =
-        ap (λ k. take_while is_ascii_digit (drop (1 + k) (take n bytes))) sign
-        ∙ ap (take_while is_ascii_digit) (drop-take (1 + sign_len bytes) (length (power_digits bytes)) bytes)
-        ∙ take_while-take is_ascii_digit (drop (1 + sign_len bytes) bytes) (length (power_digits bytes)) (omega arith) in
+    ap (λ k. take_while is_ascii_digit (drop (1 + k) (take n bytes))) sign
+    ∙ ap (take_while is_ascii_digit) (drop-take (1 + sign_len bytes) (length (power_digits bytes)) bytes)
+    ∙ take_while-take is_ascii_digit (drop (1 + sign_len bytes) bytes) (length (power_digits bytes)) (omega arith) in
     let mark : has_power (take n bytes) ≡ has_power bytes =
-        ap (λ b. (b == 101 || b == 69) && nat_lt 0 (length (power_digits (take n bytes)))) (get_or-take n bytes 0 0 (omega arith))
-        ∙ ap (λ ds. (slice_index bytes 0 == 101 || slice_index bytes 0 == 69) && nat_lt 0 (length ds)) digits in
+    ap (λ b. (b == 101 || b == 69) && nat_lt 0 (length (power_digits (take n bytes)))) (get_or-take n bytes 0 0 (omega arith))
+    ∙ ap (λ ds. (slice_index bytes 0 == 101 || slice_index bytes 0 == 69) && nat_lt 0 (length ds)) digits in
     ap (λ q. if q then 1 + sign_len (take n bytes) + length (power_digits (take n bytes)) else 0) (mark ∙ is)
     ∙ ap (λ k. 1 + k + length (power_digits (take n bytes))) sign
     ∙ ap (λ ds. 1 + sign_len bytes + length ds) digits
@@ -191,10 +190,10 @@ is_literal-take bytes some =
     let t : List ℕ = take (literal_len bytes) bytes in
     let mantissa : mantissa_len t ≡ m = mantissa-take bytes (literal_len bytes) begun (omega arith) in
     let whole : literal_len t ≡ m + e =
-        literal_len-is t (omega arith)
-        ∙ ap (λ k. k + exponent_len (drop k t)) mantissa
-        ∙ ap (λ k. m + exponent_len (drop m (take k bytes))) n
-        ∙ ap (λ r. m + exponent_len r) (drop-take m e bytes)
-        ∙ ap (λ k. m + k) (exponent-take (drop m bytes)) in
+    literal_len-is t (omega arith)
+    ∙ ap (λ k. k + exponent_len (drop k t)) mantissa
+    ∙ ap (λ k. m + exponent_len (drop m (take k bytes))) n
+    ∙ ap (λ r. m + exponent_len r) (drop-take m e bytes)
+    ∙ ap (λ k. m + k) (exponent-take (drop m bytes)) in
     let long : length t ≡ m + e = omega (arith, length-take (literal_len bytes) bytes, mantissa_within bytes begun, power_within (drop m bytes), length-drop m bytes) in
     ap₂ (λ a b. nat_lt 0 a && a == b) whole long ∙ ap₂ (λ a b. a && b) (lt-ltb 0 (m + e) (omega arith)) (eq-eqb (m + e) (m + e) refl)

@@ -47,7 +47,6 @@ quoted_from-closed bytes = closed (element_at (34 ∷ bytes)) (quoted_from (othe
     closed None later = refl
     closed (Some (c, n)) later = refl
 
-
 -- the element at the front of what is left
 at_element : (rest : List ℕ) (c n : ℕ) → 0 < length rest → get_or rest 0 0 ≢ 34 → element_at rest ≡ Some (c, n) → 0 < n → quoted_from 0 rest ≡ behind (c ∷ []) n (quoted_from 0 (drop n rest))
 at_element [] c n some_byte other is some = absurd (omega arith)

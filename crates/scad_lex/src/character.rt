@@ -11,7 +11,11 @@ fn tail_at(bytes: &[u8], k: usize) -> Option<u32>
     ensures bound { IfSome result (λ t. t < 64) }
 {
     let b = byte_at(bytes, k);
-    if b >= 0x80 && b <= 0xBF { Some(u32::from(b - 0x80)) } else { None }
+    if b >= 0x80 && b <= 0xBF {
+        Some(u32::from(b - 0x80))
+    } else {
+        None
+    }
 }
 
 #[tactic(auto, unfolding(crate::specs::Character::two_tails_at))]

@@ -11,7 +11,11 @@ fn digit_at(bytes: &[u8], k: usize) -> Option<u32>
     ensures bound { IfSome result (λ d. d < 16) }
 {
     let b = byte_at(bytes, k);
-    if b.is_ascii_hexdigit() { char::from(b).to_digit(16) } else { None }
+    if b.is_ascii_hexdigit() {
+        char::from(b).to_digit(16)
+    } else {
+        None
+    }
 }
 
 #[tactic(auto, unfolding(crate::specs::Escape::two_digits))]

@@ -8,20 +8,53 @@ use crate::token::Key;
 use scad_table::{Row, find};
 
 const KEYS: [Row; 14] = [
-    Row { name: "assert", id: 0 },
-    Row { name: "each", id: 1 },
-    Row { name: "echo", id: 2 },
-    Row { name: "else", id: 3 },
-    Row { name: "false", id: 4 },
+    Row {
+        name: "assert",
+        id: 0,
+    },
+    Row {
+        name: "each",
+        id: 1,
+    },
+    Row {
+        name: "echo",
+        id: 2,
+    },
+    Row {
+        name: "else",
+        id: 3,
+    },
+    Row {
+        name: "false",
+        id: 4,
+    },
     Row { name: "for", id: 5 },
-    Row { name: "function", id: 6 },
+    Row {
+        name: "function",
+        id: 6,
+    },
     Row { name: "if", id: 7 },
-    Row { name: "include", id: 8 },
+    Row {
+        name: "include",
+        id: 8,
+    },
     Row { name: "let", id: 9 },
-    Row { name: "module", id: 10 },
-    Row { name: "true", id: 11 },
-    Row { name: "undef", id: 12 },
-    Row { name: "use", id: 13 },
+    Row {
+        name: "module",
+        id: 10,
+    },
+    Row {
+        name: "true",
+        id: 11,
+    },
+    Row {
+        name: "undef",
+        id: 12,
+    },
+    Row {
+        name: "use",
+        id: 13,
+    },
 ];
 
 /// The keywords in byte order.

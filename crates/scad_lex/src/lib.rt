@@ -10,9 +10,6 @@ mod front;
 mod gap;
 mod key;
 mod quoted;
-
-
-
 mod scanner;
 mod sign;
 mod token;

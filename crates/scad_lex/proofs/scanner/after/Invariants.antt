@@ -6,5 +6,5 @@ abbrev pub invariant-bytes : goal.invariant-bytes
 invariant-bytes l = record {
   so_far : after l.place (drop l.b-index l.bytes) ≡ after l.fn.at l.bytes;
   line : l.place.line ≤ l.fn.at.line + l.b-index;
-  col : l.place.col ≤ l.fn.at.col + l.b-index
+  col : l.place.col ≤ l.fn.at.col + l.b-index;
 }

@@ -17,7 +17,7 @@ pieces-preserved c =
       so_far = ap (λ p. onto c.read_piece.new.list.items (tokens_from 0 p (drop (c.pieces.done + c.in-Ok.len) c.without_mark-text.result.now))) moved
           ∙ piece_read _ _ c.pieces.done c.in-Ok.len c.pieces.at _ _ _ c.behind-rest.ensures c.pieces.invariant.so_far c.in-Ok.ensures.read;
       line = room_left _ _ c.pieces.done c.in-Ok.len c.pieces.at.line _ c.behind-rest.ensures (subst (λ p. p.line ≤ c.pieces.at.line + length (take c.in-Ok.len c.behind-rest.result.now)) (sym moved) (after-line c.pieces.at (take c.in-Ok.len c.behind-rest.result.now))) c.pieces.invariant.line;
-      col = room_left _ _ c.pieces.done c.in-Ok.len c.pieces.at.col _ c.behind-rest.ensures (subst (λ p. p.col ≤ c.pieces.at.col + length (take c.in-Ok.len c.behind-rest.result.now)) (sym moved) (after-col c.pieces.at (take c.in-Ok.len c.behind-rest.result.now))) c.pieces.invariant.col
+      col = room_left _ _ c.pieces.done c.in-Ok.len c.pieces.at.col _ c.behind-rest.ensures (subst (λ p. p.col ≤ c.pieces.at.col + length (take c.in-Ok.len c.behind-rest.result.now)) (sym moved) (after-col c.pieces.at (take c.in-Ok.len c.behind-rest.result.now))) c.pieces.invariant.col;
     }
 
 pub returns-clause-found : goal.returns-clause-found

@@ -7,7 +7,7 @@ abbrev pub invariant-pieces : goal.invariant-pieces
 invariant-pieces l = record {
   so_far : onto l.list.items (tokens_from 0 l.at (drop l.done l.text)) ≡ tokens_from 0 start l.text;
   line : l.at.line + length (drop l.done l.text) ≤ 1 + length l.text;
-  col : l.at.col + length (drop l.done l.text) ≤ 1 + length l.text
+  col : l.at.col + length (drop l.done l.text) ≤ 1 + length l.text;
 }
 
 abbrev pub decreases-pieces : goal.decreases-pieces
