@@ -7,6 +7,8 @@ use Rattle.scad_ast.specs.declared.operator.UnOp.TheVariants.{Not, Plus as PlusS
 use Rattle.scad_ast.specs.declared.operator.BinOp.{BinOp}
 use Rattle.scad_ast.specs.declared.operator.BinOp.TheVariants.{Or as OrOp, And as AndOp, Eq, Ne, Lt, Le, Gt, Ge, Add, Sub, Mul, Div, Rem}
 use Rattle.scad_ast.specs.Tree.{Expression, undef, boolean, number, string, name, vector, range, stepped, unary, binary, choose, index, member, call, let_in, assert_in, echo_in, Arguments, no_arguments, argument, Elements, no_elements, element, Element, item, each, for_each, for_loop, let_element, if_element, if_else, Parameter, Items, no_items, entry, Item, assignment, module_of, function_of, call_of, choice}
+use Rattle.scad_parse.specs.declared.level.Level.{Level}
+use Rattle.scad_parse.specs.declared.level.Level.TheVariants.{Or as or_level, And as and_level, Equality as equality, Relation as relation, Sum as sum_level, Product as product}
 use Rattle.scad_lex.specs.declared.token.Token.{Token}
 use Rattle.scad_lex.specs.declared.token.TokenKind.{TokenKind}
 use Rattle.scad_lex.specs.declared.token.TokenKind.TheVariants.{Number, Str, Word, Sign, Key}
@@ -24,15 +26,6 @@ key k at = record { kind = Key k; at = at }
 
 abbrev pub word : List ℕ → Place → Token
 word w at = record { kind = Word w; at = at }
-
--- the lines of binary operators, from the loosest on
-pub data Level : Type 0 where
-  or_level : Level
-  and_level : Level
-  equality : Level
-  relation : Level
-  sum_level : Level
-  product : Level
 
 -- the operators of each line
 pub data Operator : Level → SignName → BinOp → Type 0 where

@@ -1,1 +1,4 @@
+pub mod Expected
 pub mod Grammar
+pub mod Refusal
+pub mod Statements
