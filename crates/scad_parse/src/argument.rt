@@ -1,0 +1,66 @@
+//! Arguments.
+
+use crate::expression::expr;
+use crate::fault::Stop;
+use crate::next::{behind, sign_next, word_next};
+use scad_ast::{Arg, Args};
+use scad_fault::Text;
+use scad_lex::{Sign, Token};
+use std::alloc::Global;
+
+/// Whether a list of arguments ends here.
+fn ends_args(ts: &[Token]) -> bool {
+    match sign_next(ts) {
+        Some((sign, _, _)) => match sign {
+            Sign::CloseRound => true,
+            Sign::Semicolon => true,
+            _ => false,
+        },
+        None => false,
+    }
+}
+
+// args = list of [WORD "="] expr
+#[cycle(expression)]
+pub(crate) fn args(alloc: Global, ts: &[Token], left: u32) -> Result<(Args, &[Token]), Stop> {
+    let mut all = Vec::new(alloc);
+    let mut rest = ts;
+    'members: while !ends_args(rest) {
+        let (arg, after) = arg(alloc, rest, left)?;
+        all.push(arg)?;
+        match behind(Sign::Comma, after) {
+            Some((_, after)) => rest = after,
+            None => return Ok((all, after)),
+        }
+    }
+    Ok((all, rest))
+}
+
+/// The name, where a name and `=` stand next, and the tokens behind them.
+fn name_next(ts: &[Token]) -> Option<(&Text, &[Token])> {
+    let (name, _, after) = word_next(ts)?;
+    let (_, after) = behind(Sign::Assign, after)?;
+    Some((name, after))
+}
+
+// [WORD "="] expr
+#[cycle(expression)]
+fn arg(alloc: Global, ts: &[Token], left: u32) -> Result<(Arg, &[Token]), Stop> {
+    match name_next(ts) {
+        Some((name, after)) => {
+            let name = Text::of(alloc, name.as_slice())?;
+            let (value, ts) = expr(alloc, after, left)?;
+            Ok((
+                Arg {
+                    name: Some(name),
+                    value,
+                },
+                ts,
+            ))
+        }
+        None => {
+            let (value, ts) = expr(alloc, ts, left)?;
+            Ok((Arg { name: None, value }, ts))
+        }
+    }
+}
