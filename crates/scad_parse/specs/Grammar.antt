@@ -27,27 +27,29 @@ key k at = record { kind = Key k; at = at }
 abbrev pub word : List ℕ → Place → Token
 word w at = record { kind = Word w; at = at }
 
--- the operators of each line
-pub data Operator : Level → SignName → BinOp → Type 0 where
-  or_sign : Operator or_level OrOr OrOp
-  and_sign : Operator and_level AndAnd AndOp
-  equal : Operator equality Equal Eq
-  not_equal : Operator equality NotEqual Ne
-  less : Operator relation Less Lt
-  less_equal : Operator relation LessEqual Le
-  greater : Operator relation Greater Gt
-  greater_equal : Operator relation GreaterEqual Ge
-  plus : Operator sum_level Plus Add
-  minus : Operator sum_level Minus Sub
-  star : Operator product Star Mul
-  slash : Operator product Slash Div
-  percent : Operator product Percent Rem
+-- the operator of a line that a sign is
+abbrev pub operator_of : Level → SignName → Option BinOp
+operator_of or_level OrOr = Some OrOp
+operator_of and_level AndAnd = Some AndOp
+operator_of equality Equal = Some Eq
+operator_of equality NotEqual = Some Ne
+operator_of relation Less = Some Lt
+operator_of relation LessEqual = Some Le
+operator_of relation Greater = Some Gt
+operator_of relation GreaterEqual = Some Ge
+operator_of sum_level Plus = Some Add
+operator_of sum_level Minus = Some Sub
+operator_of product Star = Some Mul
+operator_of product Slash = Some Div
+operator_of product Percent = Some Rem
+operator_of l s = None
 
--- the prefix operators
-pub data Prefix : SignName → UnOp → Type 0 where
-  bang : Prefix Bang Not
-  plus_prefix : Prefix Plus PlusSign
-  minus_prefix : Prefix Minus MinusSign
+-- the prefix operator that a sign is
+abbrev pub prefix_of : SignName → Option UnOp
+prefix_of Bang = Some Not
+prefix_of Plus = Some PlusSign
+prefix_of Minus = Some MinusSign
+prefix_of s = None
 
 -- the keys that name a call
 pub data CallKey : KeyName → List ℕ → Type 0 where
@@ -99,11 +101,11 @@ mutual
   -- any number of operators of a line with their operands, grouped to the left behind a
   pub data Rest : Level → Expression → List Token → List Token → Expression → Type 0 where
     no_more : {l : Level} {a : Expression} {ts : List Token} → Rest l a ts ts a
-    more : {l : Level} {s : SignName} {op : BinOp} {p : Place} {ts us vs : List Token} {a b e : Expression} → Operator l s op → Operand l ts us b → Rest l (binary p op a b) us vs e → Rest l a (sign s p ∷ ts) vs e
+    more : {l : Level} {s : SignName} {op : BinOp} {p : Place} {ts us vs : List Token} {a b e : Expression} → operator_of l s ≡ Some op → Operand l ts us b → Rest l (binary p op a b) us vs e → Rest l a (sign s p ∷ ts) vs e
 
   -- unary = ("!"|"+"|"-") unary | post
   pub data Unary : List Token → List Token → Expression → Type 0 where
-    prefixed : {s : SignName} {op : UnOp} {p : Place} {ts us : List Token} {e : Expression} → Prefix s op → Unary ts us e → Unary (sign s p ∷ ts) us (unary p op e)
+    prefixed : {s : SignName} {op : UnOp} {p : Place} {ts us : List Token} {e : Expression} → prefix_of s ≡ Some op → Unary ts us e → Unary (sign s p ∷ ts) us (unary p op e)
     post : {ts us vs : List Token} {a e : Expression} → Primary ts us a → Postfix a us vs e → Unary ts vs e
 
   -- post = prim ("[" expr "]" | "." WORD)*

@@ -1,4 +1,5 @@
 pub mod Expected
 pub mod Grammar
+pub mod Leads
 pub mod Refusal
 pub mod Statements

@@ -1,5 +1,11 @@
 //! Arguments.
 
+ghost use Rattle.std.specs.Prelude.{◌≡◌, ◌<◌, ◌≤◌, ◌∷◌, length, IfOk, IfSome};
+ghost use Rattle.scad_fault.specs.declared.place.Place.{Place};
+ghost use Rattle.scad_ast.specs.View.{expression_of, arguments};
+ghost use Rattle.scad_lex.specs.declared.token.Sign.TheVariants.{Assign as AssignSign};
+ghost use Rattle.scad_parse.specs.Grammar.{sign, word, Args as IsArgs, Arg as IsArg};
+
 use crate::expression::expr;
 use crate::fault::Stop;
 use crate::next::{behind, sign_next, word_next};
@@ -22,7 +28,10 @@ fn ends_args(ts: &[Token]) -> bool {
 
 // args = list of [WORD "="] expr
 #[cycle(expression)]
-pub(crate) fn args(alloc: Global, ts: &[Token], left: u32) -> Result<(Args, &[Token]), Stop> {
+pub(crate) fn args(alloc: Global, ts: &[Token], left: u32) -> Result<(Args, &[Token]), Stop>
+    ensures derives { IfOk result (λ r. IsArgs ts.entry.now r.1.now (arguments r.0.items)) }
+    ensures shorter { IfOk result (λ r. length r.1.now ≤ length ts.entry.now) }
+{
     let mut all = Vec::new(alloc);
     let mut rest = ts;
     'members: while !ends_args(rest) {
@@ -37,7 +46,10 @@ pub(crate) fn args(alloc: Global, ts: &[Token], left: u32) -> Result<(Args, &[To
 }
 
 /// The name, where a name and `=` stand next, and the tokens behind them.
-fn name_next(ts: &[Token]) -> Option<(&Text, &[Token])> {
+fn name_next(ts: &[Token]) -> Option<(&Text, &[Token])>
+    ensures derives { IfSome result (λ r. (p : Place) × (q : Place) × (ts.entry.now ≡ word r.0.now p ∷ sign AssignSign q ∷ r.1.now)) }
+    ensures shorter { IfSome result (λ r. length r.1.now < length ts.entry.now) }
+{
     let (name, _, after) = word_next(ts)?;
     let (_, after) = behind(Sign::Assign, after)?;
     Some((name, after))
@@ -45,7 +57,10 @@ fn name_next(ts: &[Token]) -> Option<(&Text, &[Token])> {
 
 // [WORD "="] expr
 #[cycle(expression)]
-fn arg(alloc: Global, ts: &[Token], left: u32) -> Result<(Arg, &[Token]), Stop> {
+fn arg(alloc: Global, ts: &[Token], left: u32) -> Result<(Arg, &[Token]), Stop>
+    ensures derives { IfOk result (λ r. IsArg ts.entry.now r.1.now r.0.name (expression_of r.0.value)) }
+    ensures shorter { IfOk result (λ r. length r.1.now < length ts.entry.now) }
+{
     match name_next(ts) {
         Some((name, after)) => {
             let name = Text::of(alloc, name.as_slice())?;

@@ -1,11 +1,21 @@
 //! Vectors, ranges and list comprehensions.
 
+ghost use Rattle.std.specs.Prelude.{◌≡◌, ◌<◌, ◌≤◌, ◌∷◌, List, length, IfOk, IfSome, IfNone, false};
+ghost use Rattle.scad_fault.specs.declared.place.Place.{Place};
+ghost use Rattle.scad_ast.specs.View.{expression_of, element_of};
+ghost use Rattle.scad_lex.specs.declared.token.Token.{Token};
+ghost use Rattle.scad_lex.specs.declared.token.Sign.TheVariants.{OpenSquare, Colon as ColonSign};
+ghost use Rattle.scad_lex.specs.declared.token.Key.TheVariants.{For as KeyFor, Each as KeyEach, Let as KeyLet, If as KeyIf, Else as KeyElse};
+ghost use Rattle.scad_parse.specs.Grammar.{sign, key, begins_else, Expr as IsExpr, Elem as IsElem, Primary};
+ghost use Rattle.scad_parse.specs.Leads.{Leads};
+
 use crate::argument::args;
+use crate::comprehension::{each, for_each, for_loop, if_element, if_else, let_element};
 use crate::expression::{expr, in_round, test};
 use crate::fault::Stop;
 use crate::next::{behind, key_next, opened, sign_next, take};
-use crate::node::{range, stepped};
-use scad_ast::{Elem, Elems, Expr, Node};
+use crate::node::{let_in, list, range, stepped};
+use scad_ast::{Elem, Elems, Expr};
 use scad_fault::Place;
 use scad_lex::{Key, Sign, Token};
 use std::alloc::Global;
@@ -18,7 +28,10 @@ pub(crate) fn bracketed(
     at: Place,
     ts: &[Token],
     left: u32,
-) -> Result<(Expr, &[Token]), Stop> {
+) -> Result<(Expr, &[Token]), Stop>
+    ensures derives { IfOk result (λ r. Primary (sign OpenSquare at ∷ ts.entry.now) r.1.now (expression_of r.0)) }
+    ensures shorter { IfOk result (λ r. length r.1.now < length ts.entry.now) }
+{
     if ends_elems(ts) {
         return vector(alloc, at, Vec::new(alloc), ts, left);
     }
@@ -40,7 +53,10 @@ fn range_behind(
     start: Expr,
     ts: &[Token],
     left: u32,
-) -> Result<(Expr, &[Token]), Stop> {
+) -> Result<(Expr, &[Token]), Stop>
+    ensures derives { IfOk result (λ r. (front : List Token) (p : Place) → IsExpr front (sign ColonSign p ∷ ts.entry.now) (expression_of start) → Primary (sign OpenSquare at ∷ front) r.1.now (expression_of r.0)) }
+    ensures shorter { IfOk result (λ r. length r.1.now < length ts.entry.now) }
+{
     let (second, ts) = expr(alloc, ts, left)?;
     match behind(Sign::Colon, ts) {
         Some((_, after)) => {
@@ -65,15 +81,17 @@ fn vector_behind(
     first: Elem,
     ts: &[Token],
     left: u32,
-) -> Result<(Expr, &[Token]), Stop> {
+) -> Result<(Expr, &[Token]), Stop>
+    ensures derives { IfOk result (λ r. (front : List Token) → IsElem front ts.entry.now (element_of first) → Primary (sign OpenSquare at ∷ front) r.1.now (expression_of r.0)) }
+    ensures shorter { IfOk result (λ r. length r.1.now < length ts.entry.now) }
+{
     let mut all = Vec::new(alloc);
     all.push(first)?;
     match behind(Sign::Comma, ts) {
         Some((_, after)) => vector(alloc, at, all, after, left),
         None => {
             let (_, ts) = take(Sign::CloseSquare, ts)?;
-            let node = Node::List(all);
-            Ok((Expr { at, node }, ts))
+            Ok((list(at, all), ts))
         }
     }
 }
@@ -97,7 +115,10 @@ fn vector(
     first: Elems,
     ts: &[Token],
     left: u32,
-) -> Result<(Expr, &[Token]), Stop> {
+) -> Result<(Expr, &[Token]), Stop>
+    ensures derives { IfOk result (λ r. (front : List Token) → Leads front first.items ts.entry.now → Primary (sign OpenSquare at ∷ front) r.1.now (expression_of r.0)) }
+    ensures shorter { IfOk result (λ r. length r.1.now < length ts.entry.now) }
+{
     let mut all = first;
     let mut rest = ts;
     'members: while !ends_elems(rest) {
@@ -112,13 +133,15 @@ fn vector(
         }
     }
     let (_, ts) = take(Sign::CloseSquare, rest)?;
-    let node = Node::List(all);
-    Ok((Expr { at, node }, ts))
+    Ok((list(at, all), ts))
 }
 
 // elem = comp | expr
 #[cycle(expression)]
-fn elem(alloc: Global, ts: &[Token], left: u32) -> Result<(Elem, &[Token]), Stop> {
+fn elem(alloc: Global, ts: &[Token], left: u32) -> Result<(Elem, &[Token]), Stop>
+    ensures derives { IfOk result (λ r. IsElem ts.entry.now r.1.now (element_of r.0)) }
+    ensures shorter { IfOk result (λ r. length r.1.now < length ts.entry.now) }
+{
     match key_next(ts) {
         Some((key, at, after)) => match key {
             Key::For => for_elem(alloc, at, after, opened(left, 1, ts)?),
@@ -133,7 +156,10 @@ fn elem(alloc: Global, ts: &[Token], left: u32) -> Result<(Elem, &[Token]), Stop
 
 // expr
 #[cycle(expression)]
-fn item(alloc: Global, ts: &[Token], left: u32) -> Result<(Elem, &[Token]), Stop> {
+fn item(alloc: Global, ts: &[Token], left: u32) -> Result<(Elem, &[Token]), Stop>
+    ensures derives { IfOk result (λ r. IsElem ts.entry.now r.1.now (element_of r.0)) }
+    ensures shorter { IfOk result (λ r. length r.1.now < length ts.entry.now) }
+{
     let (e, ts) = expr(alloc, ts, left)?;
     Ok((Elem::Item(e), ts))
 }
@@ -145,7 +171,10 @@ fn for_elem(
     at: Place,
     ts: &[Token],
     left: u32,
-) -> Result<(Elem, &[Token]), Stop> {
+) -> Result<(Elem, &[Token]), Stop>
+    ensures derives { IfOk result (λ r. IsElem (key KeyFor at ∷ ts.entry.now) r.1.now (element_of r.0)) }
+    ensures shorter { IfOk result (λ r. length r.1.now < length ts.entry.now) }
+{
     let (_, after) = take(Sign::OpenRound, ts)?;
     let inside = opened(left, 1, ts)?;
     let (first, ts) = args(alloc, after, inside)?;
@@ -156,14 +185,14 @@ fn for_elem(
             let (step, ts) = args(alloc, ts, inside)?;
             let (_, ts) = take(Sign::CloseRound, ts)?;
             let (body, ts) = elem(alloc, ts, left)?;
-            let body = Box::new(alloc, body)?;
-            Ok((Elem::Loop(first, test, step, body, at), ts))
+            let e = for_loop(alloc, at, first, test, step, body)?;
+            Ok((e, ts))
         }
         None => {
             let (_, ts) = take(Sign::CloseRound, ts)?;
             let (body, ts) = elem(alloc, ts, left)?;
-            let body = Box::new(alloc, body)?;
-            Ok((Elem::For(first, body, at), ts))
+            let e = for_each(alloc, at, first, body)?;
+            Ok((e, ts))
         }
     }
 }
@@ -175,10 +204,13 @@ fn each_elem(
     at: Place,
     ts: &[Token],
     left: u32,
-) -> Result<(Elem, &[Token]), Stop> {
+) -> Result<(Elem, &[Token]), Stop>
+    ensures derives { IfOk result (λ r. IsElem (key KeyEach at ∷ ts.entry.now) r.1.now (element_of r.0)) }
+    ensures shorter { IfOk result (λ r. length r.1.now < length ts.entry.now) }
+{
     let (body, ts) = elem(alloc, ts, left)?;
-    let body = Box::new(alloc, body)?;
-    Ok((Elem::Each(body, at), ts))
+    let e = each(alloc, at, body)?;
+    Ok((e, ts))
 }
 
 // "(" args ")" and a comprehension or an expression, behind `let`
@@ -188,18 +220,20 @@ fn let_elem(
     at: Place,
     ts: &[Token],
     left: u32,
-) -> Result<(Elem, &[Token]), Stop> {
+) -> Result<(Elem, &[Token]), Stop>
+    ensures derives { IfOk result (λ r. IsElem (key KeyLet at ∷ ts.entry.now) r.1.now (element_of r.0)) }
+    ensures shorter { IfOk result (λ r. length r.1.now < length ts.entry.now) }
+{
     let (args, ts) = in_round(alloc, ts, left)?;
     let (body, ts) = elem(alloc, ts, left)?;
     match body {
         Elem::Item(e) => {
-            let e = Box::new(alloc, e)?;
-            let node = Node::Let(args, e);
-            Ok((Elem::Item(Expr { at, node }), ts))
+            let e = let_in(alloc, at, args, e)?;
+            Ok((Elem::Item(e), ts))
         }
         body => {
-            let body = Box::new(alloc, body)?;
-            Ok((Elem::Let(args, body, at), ts))
+            let e = let_element(alloc, at, args, body)?;
+            Ok((e, ts))
         }
     }
 }
@@ -211,22 +245,31 @@ fn if_elem(
     at: Place,
     ts: &[Token],
     left: u32,
-) -> Result<(Elem, &[Token]), Stop> {
+) -> Result<(Elem, &[Token]), Stop>
+    ensures derives { IfOk result (λ r. IsElem (key KeyIf at ∷ ts.entry.now) r.1.now (element_of r.0)) }
+    ensures shorter { IfOk result (λ r. length r.1.now < length ts.entry.now) }
+{
     let (test, ts) = test(alloc, ts, left)?;
     let (body, ts) = elem(alloc, ts, left)?;
-    let body = Box::new(alloc, body)?;
     match else_next(ts) {
         Some(after) => {
             let (other, ts) = elem(alloc, after, opened(left, 1, ts)?)?;
-            let other = Box::new(alloc, other)?;
-            Ok((Elem::If(test, body, Some(other), at), ts))
+            let e = if_else(alloc, at, test, body, other)?;
+            Ok((e, ts))
         }
-        None => Ok((Elem::If(test, body, None, at), ts)),
+        None => {
+            let e = if_element(alloc, at, test, body)?;
+            Ok((e, ts))
+        }
     }
 }
 
 /// The tokens behind `else`, where it stands next.
-pub(crate) fn else_next(ts: &[Token]) -> Option<&[Token]> {
+pub(crate) fn else_next(ts: &[Token]) -> Option<&[Token]>
+    ensures derives { IfSome result (λ r. (p : Place) × (ts.entry.now ≡ key KeyElse p ∷ r.now)) }
+    ensures other { IfNone result (begins_else ts.entry.now ≡ false) }
+    ensures shorter { IfSome result (λ r. length r.now < length ts.entry.now) }
+{
     match key_next(ts) {
         Some((key, _, after)) => match key {
             Key::Else => Some(after),

@@ -1,16 +1,18 @@
 //! Expressions.
 
-ghost use Rattle.std.specs.Prelude.{◌<◌, ◌≤◌, length, IfOk};
-ghost use Rattle.scad_ast.specs.View.{expression_of, arguments, expression_at};
-ghost use Rattle.scad_parse.specs.Grammar.{Expr as IsExpr, InRound, Chain, Operand, Rest, Unary, Test};
+ghost use Rattle.std.specs.Prelude.{◌≡◌, ◌<◌, ◌≤◌, ◌∷◌, length, IfOk, IfSome};
+ghost use Rattle.scad_ast.specs.View.{expression_of, arguments};
+ghost use Rattle.scad_lex.specs.declared.token.Sign.{Sign as SignName};
+ghost use Rattle.scad_lex.specs.declared.token.Key.TheVariants.{Let as KeyLet, Assert as KeyAssert, Echo as KeyEcho};
+ghost use Rattle.scad_parse.specs.Grammar.{sign, key, Expr as IsExpr, InRound, Chain, Operand, Rest, Unary, Test, operator_of, prefix_of};
 
 use crate::argument::args;
 use crate::fault::Stop;
 use crate::level::{Level, operator, prefix};
 use crate::next::{behind, key_next, opened, sign_next, take};
-use crate::node::{binary, choose, unary};
+use crate::node::{assert_in, binary, choose, echo_in, let_in, unary};
 use crate::primary::post;
-use scad_ast::{Args, BinOp, Expr, Node, UnOp};
+use scad_ast::{Args, BinOp, Expr, UnOp};
 use scad_fault::Place;
 use scad_lex::{Key, Sign, Token};
 use std::alloc::Global;
@@ -40,12 +42,14 @@ fn let_expr(
     at: Place,
     ts: &[Token],
     left: u32,
-) -> Result<(Expr, &[Token]), Stop> {
+) -> Result<(Expr, &[Token]), Stop>
+    ensures derives { IfOk result (λ r. IsExpr (key KeyLet at ∷ ts.entry.now) r.1.now (expression_of r.0)) }
+    ensures shorter { IfOk result (λ r. length r.1.now < length ts.entry.now) }
+{
     let (args, ts) = in_round(alloc, ts, left)?;
     let (body, ts) = expr(alloc, ts, left)?;
-    let body = Box::new(alloc, body)?;
-    let node = Node::Let(args, body);
-    Ok((Expr { at, node }, ts))
+    let e = let_in(alloc, at, args, body)?;
+    Ok((e, ts))
 }
 
 // "assert" "(" args ")" expr, behind `assert`
@@ -55,12 +59,14 @@ fn assert_expr(
     at: Place,
     ts: &[Token],
     left: u32,
-) -> Result<(Expr, &[Token]), Stop> {
+) -> Result<(Expr, &[Token]), Stop>
+    ensures derives { IfOk result (λ r. IsExpr (key KeyAssert at ∷ ts.entry.now) r.1.now (expression_of r.0)) }
+    ensures shorter { IfOk result (λ r. length r.1.now < length ts.entry.now) }
+{
     let (args, ts) = in_round(alloc, ts, left)?;
     let (body, ts) = expr(alloc, ts, left)?;
-    let body = Box::new(alloc, body)?;
-    let node = Node::Assert(args, body);
-    Ok((Expr { at, node }, ts))
+    let e = assert_in(alloc, at, args, body)?;
+    Ok((e, ts))
 }
 
 // "echo" "(" args ")" expr, behind `echo`
@@ -70,17 +76,22 @@ fn echo_expr(
     at: Place,
     ts: &[Token],
     left: u32,
-) -> Result<(Expr, &[Token]), Stop> {
+) -> Result<(Expr, &[Token]), Stop>
+    ensures derives { IfOk result (λ r. IsExpr (key KeyEcho at ∷ ts.entry.now) r.1.now (expression_of r.0)) }
+    ensures shorter { IfOk result (λ r. length r.1.now < length ts.entry.now) }
+{
     let (args, ts) = in_round(alloc, ts, left)?;
     let (body, ts) = expr(alloc, ts, left)?;
-    let body = Box::new(alloc, body)?;
-    let node = Node::Echo(args, body);
-    Ok((Expr { at, node }, ts))
+    let e = echo_in(alloc, at, args, body)?;
+    Ok((e, ts))
 }
 
 // or ["?" expr ":" expr]
 #[cycle(expression)]
-fn conditional(alloc: Global, ts: &[Token], left: u32) -> Result<(Expr, &[Token]), Stop> {
+fn conditional(alloc: Global, ts: &[Token], left: u32) -> Result<(Expr, &[Token]), Stop>
+    ensures derives { IfOk result (λ r. IsExpr ts.entry.now r.1.now (expression_of r.0)) }
+    ensures shorter { IfOk result (λ r. length r.1.now < length ts.entry.now) }
+{
     let (test, ts) = chain(alloc, Level::Or, ts, left)?;
     match behind(Sign::Question, ts) {
         Some((at, after)) => {
@@ -97,7 +108,10 @@ fn conditional(alloc: Global, ts: &[Token], left: u32) -> Result<(Expr, &[Token]
 
 // "(" args ")"
 #[cycle(expression)]
-pub(crate) fn in_round(alloc: Global, ts: &[Token], left: u32) -> Result<(Args, &[Token]), Stop> {
+pub(crate) fn in_round(alloc: Global, ts: &[Token], left: u32) -> Result<(Args, &[Token]), Stop>
+    ensures derives { IfOk result (λ r. InRound ts.entry.now r.1.now (arguments r.0.items)) }
+    ensures shorter { IfOk result (λ r. length r.1.now < length ts.entry.now) }
+{
     let (_, after) = take(Sign::OpenRound, ts)?;
     let left = opened(left, 1, ts)?;
     let (args, ts) = args(alloc, after, left)?;
@@ -107,7 +121,10 @@ pub(crate) fn in_round(alloc: Global, ts: &[Token], left: u32) -> Result<(Args, 
 
 // "(" expr ")"
 #[cycle(expression)]
-pub(crate) fn test(alloc: Global, ts: &[Token], left: u32) -> Result<(Expr, &[Token]), Stop> {
+pub(crate) fn test(alloc: Global, ts: &[Token], left: u32) -> Result<(Expr, &[Token]), Stop>
+    ensures derives { IfOk result (λ r. Test ts.entry.now r.1.now (expression_of r.0)) }
+    ensures shorter { IfOk result (λ r. length r.1.now < length ts.entry.now) }
+{
     let (_, after) = take(Sign::OpenRound, ts)?;
     let left = opened(left, 1, ts)?;
     let (e, ts) = expr(alloc, after, left)?;
@@ -124,7 +141,10 @@ fn chain(
     level: Level,
     ts: &[Token],
     left: u32,
-) -> Result<(Expr, &[Token]), Stop> {
+) -> Result<(Expr, &[Token]), Stop>
+    ensures derives { IfOk result (λ r. Chain level ts.entry.now r.1.now (expression_of r.0)) }
+    ensures shorter { IfOk result (λ r. length r.1.now < length ts.entry.now) }
+{
     let (a, ts) = operand(alloc, level, ts, left)?;
     rest(alloc, level, a, ts, left)
 }
@@ -136,7 +156,10 @@ fn operand(
     level: Level,
     ts: &[Token],
     left: u32,
-) -> Result<(Expr, &[Token]), Stop> {
+) -> Result<(Expr, &[Token]), Stop>
+    ensures derives { IfOk result (λ r. Operand level ts.entry.now r.1.now (expression_of r.0)) }
+    ensures shorter { IfOk result (λ r. length r.1.now < length ts.entry.now) }
+{
     match level {
         Level::Or => chain(alloc, Level::And, ts, left),
         Level::And => chain(alloc, Level::Equality, ts, left),
@@ -148,7 +171,10 @@ fn operand(
 }
 
 /// The operator of the line that stands next, its place, and the tokens behind it.
-fn operator_next(level: Level, ts: &[Token]) -> Option<(BinOp, Place, &[Token])> {
+fn operator_next(level: Level, ts: &[Token]) -> Option<(BinOp, Place, &[Token])>
+    ensures derives { IfSome result (λ r. (s : SignName) × (ts.entry.now ≡ sign s r.1 ∷ r.2.now) × (operator_of level s ≡ Some r.0)) }
+    ensures shorter { IfSome result (λ r. length r.2.now < length ts.entry.now) }
+{
     let (sign, at, after) = sign_next(ts)?;
     let op = operator(level, sign)?;
     Some((op, at, after))
@@ -162,7 +188,10 @@ fn rest(
     a: Expr,
     ts: &[Token],
     left: u32,
-) -> Result<(Expr, &[Token]), Stop> {
+) -> Result<(Expr, &[Token]), Stop>
+    ensures derives { IfOk result (λ r. Rest level (expression_of a) ts.entry.now r.1.now (expression_of r.0)) }
+    ensures shorter { IfOk result (λ r. length r.1.now ≤ length ts.entry.now) }
+{
     match operator_next(level, ts) {
         Some((op, at, after)) => {
             let left = opened(left, 1, ts)?;
@@ -175,7 +204,10 @@ fn rest(
 }
 
 /// The prefix operator that stands next, its place, and the tokens behind it.
-fn prefix_next(ts: &[Token]) -> Option<(UnOp, Place, &[Token])> {
+fn prefix_next(ts: &[Token]) -> Option<(UnOp, Place, &[Token])>
+    ensures derives { IfSome result (λ r. (s : SignName) × (ts.entry.now ≡ sign s r.1 ∷ r.2.now) × (prefix_of s ≡ Some r.0)) }
+    ensures shorter { IfSome result (λ r. length r.2.now < length ts.entry.now) }
+{
     let (sign, at, after) = sign_next(ts)?;
     let op = prefix(sign)?;
     Some((op, at, after))
@@ -183,7 +215,10 @@ fn prefix_next(ts: &[Token]) -> Option<(UnOp, Place, &[Token])> {
 
 // unary = ("!"|"+"|"-") unary | post
 #[cycle(expression)]
-fn prefixed(alloc: Global, ts: &[Token], left: u32) -> Result<(Expr, &[Token]), Stop> {
+fn prefixed(alloc: Global, ts: &[Token], left: u32) -> Result<(Expr, &[Token]), Stop>
+    ensures derives { IfOk result (λ r. Unary ts.entry.now r.1.now (expression_of r.0)) }
+    ensures shorter { IfOk result (λ r. length r.1.now < length ts.entry.now) }
+{
     match prefix_next(ts) {
         Some((op, at, after)) => {
             let left = opened(left, 1, ts)?;

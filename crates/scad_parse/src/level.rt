@@ -1,5 +1,8 @@
 //! The operators of expressions, from the loosest on (OpenSCAD User Manual, "Mathematical Operators").
 
+ghost use Rattle.std.specs.Prelude.{◌≡◌};
+ghost use Rattle.scad_parse.specs.Grammar.{operator_of, prefix_of};
+
 use scad_ast::{BinOp, UnOp};
 use scad_lex::Sign;
 
@@ -15,7 +18,9 @@ pub(crate) enum Level {
 }
 
 /// The operator of the line that the sign is.
-pub(crate) fn operator(level: Level, sign: Sign) -> Option<BinOp> {
+pub(crate) fn operator(level: Level, sign: Sign) -> Option<BinOp>
+    ensures { result ≡ operator_of level sign }
+{
     match level {
         Level::Or => match sign {
             Sign::OrOr => Some(BinOp::Or),
@@ -52,7 +57,9 @@ pub(crate) fn operator(level: Level, sign: Sign) -> Option<BinOp> {
 }
 
 /// The prefix operator that the sign is.
-pub(crate) fn prefix(sign: Sign) -> Option<UnOp> {
+pub(crate) fn prefix(sign: Sign) -> Option<UnOp>
+    ensures { result ≡ prefix_of sign }
+{
     match sign {
         Sign::Bang => Some(UnOp::Not),
         Sign::Plus => Some(UnOp::Plus),

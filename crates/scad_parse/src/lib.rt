@@ -1,8 +1,9 @@
 //! The parser of OpenSCAD programs: tokens to a syntax tree, by recursive descent.
-//! The contract gives a tree that the tokens derive.
+//! The contract is being written: only the helpers are proved, and nothing is promised of `parse` yet.
 #![tactic(auto)]
 
 mod argument;
+mod comprehension;
 mod element;
 mod expression;
 mod fault;

@@ -10,7 +10,8 @@ use std::alloc::Global;
 
 /// The next token, and those behind it.
 pub(crate) fn next(ts: &[Token]) -> Option<(&Token, &[Token])>
-    ensures { IfSome result (λ r. ts.entry.now ≡ r.0.now ∷ r.1.now) }
+    ensures is { IfSome result (λ r. ts.entry.now ≡ r.0.now ∷ r.1.now) }
+    ensures shorter { IfSome result (λ r. length r.1.now + 1 ≡ length ts.entry.now) }
 {
     match ts {
         [] => None,
@@ -20,7 +21,8 @@ pub(crate) fn next(ts: &[Token]) -> Option<(&Token, &[Token])>
 
 /// The sign that stands next, its place, and the tokens behind it.
 pub(crate) fn sign_next(ts: &[Token]) -> Option<(Sign, Place, &[Token])>
-    ensures { IfSome result (λ r. ts.entry.now ≡ sign r.0 r.1 ∷ r.2.now) }
+    ensures is { IfSome result (λ r. ts.entry.now ≡ sign r.0 r.1 ∷ r.2.now) }
+    ensures shorter { IfSome result (λ r. length r.2.now + 1 ≡ length ts.entry.now) }
 {
     let (token, rest) = next(ts)?;
     match token.kind {
@@ -31,7 +33,8 @@ pub(crate) fn sign_next(ts: &[Token]) -> Option<(Sign, Place, &[Token])>
 
 /// The keyword that stands next, its place, and the tokens behind it.
 pub(crate) fn key_next(ts: &[Token]) -> Option<(Key, Place, &[Token])>
-    ensures { IfSome result (λ r. ts.entry.now ≡ key r.0 r.1 ∷ r.2.now) }
+    ensures is { IfSome result (λ r. ts.entry.now ≡ key r.0 r.1 ∷ r.2.now) }
+    ensures shorter { IfSome result (λ r. length r.2.now + 1 ≡ length ts.entry.now) }
 {
     let (token, rest) = next(ts)?;
     match token.kind {
@@ -42,7 +45,8 @@ pub(crate) fn key_next(ts: &[Token]) -> Option<(Key, Place, &[Token])>
 
 /// The name that stands next, its place, and the tokens behind it.
 pub(crate) fn word_next(ts: &[Token]) -> Option<(&Text, Place, &[Token])>
-    ensures { IfSome result (λ r. ts.entry.now ≡ word r.0.now r.1 ∷ r.2.now) }
+    ensures is { IfSome result (λ r. ts.entry.now ≡ word r.0.now r.1 ∷ r.2.now) }
+    ensures shorter { IfSome result (λ r. length r.2.now + 1 ≡ length ts.entry.now) }
 {
     let (token, rest) = next(ts)?;
     match &token.kind {
@@ -53,7 +57,8 @@ pub(crate) fn word_next(ts: &[Token]) -> Option<(&Text, Place, &[Token])>
 
 /// The tokens behind the sign, where it stands next.
 pub(crate) fn behind(wanted: Sign, ts: &[Token]) -> Option<(Place, &[Token])>
-    ensures { IfSome result (λ r. ts.entry.now ≡ sign wanted r.0 ∷ r.1.now) }
+    ensures is { IfSome result (λ r. ts.entry.now ≡ sign wanted r.0 ∷ r.1.now) }
+    ensures shorter { IfSome result (λ r. length r.1.now + 1 ≡ length ts.entry.now) }
 {
     let (found, at, rest) = sign_next(ts)?;
     if found == wanted { Some((at, rest)) } else { None }
@@ -61,7 +66,8 @@ pub(crate) fn behind(wanted: Sign, ts: &[Token]) -> Option<(Place, &[Token])>
 
 /// The tokens behind the sign, which must stand next.
 pub(crate) fn take(wanted: Sign, ts: &[Token]) -> Result<(Place, &[Token]), Stop>
-    ensures { IfOk result (λ r. ts.entry.now ≡ sign wanted r.0 ∷ r.1.now) }
+    ensures is { IfOk result (λ r. ts.entry.now ≡ sign wanted r.0 ∷ r.1.now) }
+    ensures shorter { IfOk result (λ r. length r.1.now + 1 ≡ length ts.entry.now) }
 {
     match behind(wanted, ts) {
         Some(found) => Ok(found),
@@ -71,7 +77,8 @@ pub(crate) fn take(wanted: Sign, ts: &[Token]) -> Result<(Place, &[Token]), Stop
 
 /// The name that must stand next, its place, and the tokens behind it.
 pub(crate) fn take_word(alloc: Global, ts: &[Token]) -> Result<(Text, Place, &[Token]), Stop>
-    ensures { IfOk result (λ r. ts.entry.now ≡ word r.0 r.1 ∷ r.2.now) }
+    ensures is { IfOk result (λ r. ts.entry.now ≡ word r.0 r.1 ∷ r.2.now) }
+    ensures shorter { IfOk result (λ r. length r.2.now + 1 ≡ length ts.entry.now) }
 {
     match word_next(ts) {
         Some((name, at, rest)) => {

@@ -1,11 +1,11 @@
 //! Nodes of the tree, boxed.
 
 ghost use Rattle.std.specs.Prelude.{◌≡◌, IfOk};
-ghost use Rattle.scad_ast.specs.Tree.{binary, unary, index, member, choose, range, stepped};
-ghost use Rattle.scad_ast.specs.View.{expression_of};
+ghost use Rattle.scad_ast.specs.Tree.{binary, unary, index, member, choose, range, stepped, call, vector, let_in, assert_in, echo_in};
+ghost use Rattle.scad_ast.specs.View.{expression_of, arguments, elements};
 
 use crate::fault::Stop;
-use scad_ast::{BinOp, Expr, Node, UnOp};
+use scad_ast::{Args, BinOp, Elems, Expr, Node, UnOp};
 use scad_fault::{Place, Text};
 use std::alloc::Global;
 
@@ -95,5 +95,53 @@ pub(crate) fn stepped(
     Ok(Expr {
         at,
         node: Node::Range(start, Some(step), end),
+    })
+}
+
+pub(crate) fn call(at: Place, name: Text, args: Args) -> Expr
+    ensures { expression_of result ≡ call at name (arguments args.items) }
+{
+    Expr {
+        at,
+        node: Node::Call(name, args),
+    }
+}
+
+pub(crate) fn list(at: Place, all: Elems) -> Expr
+    ensures { expression_of result ≡ vector at (elements all.items) }
+{
+    Expr {
+        at,
+        node: Node::List(all),
+    }
+}
+
+pub(crate) fn let_in(alloc: Global, at: Place, args: Args, body: Expr) -> Result<Expr, Stop>
+    ensures { IfOk result (λ e. expression_of e ≡ let_in at (arguments args.items) (expression_of body)) }
+{
+    let body = Box::new(alloc, body)?;
+    Ok(Expr {
+        at,
+        node: Node::Let(args, body),
+    })
+}
+
+pub(crate) fn assert_in(alloc: Global, at: Place, args: Args, body: Expr) -> Result<Expr, Stop>
+    ensures { IfOk result (λ e. expression_of e ≡ assert_in at (arguments args.items) (expression_of body)) }
+{
+    let body = Box::new(alloc, body)?;
+    Ok(Expr {
+        at,
+        node: Node::Assert(args, body),
+    })
+}
+
+pub(crate) fn echo_in(alloc: Global, at: Place, args: Args, body: Expr) -> Result<Expr, Stop>
+    ensures { IfOk result (λ e. expression_of e ≡ echo_in at (arguments args.items) (expression_of body)) }
+{
+    let body = Box::new(alloc, body)?;
+    Ok(Expr {
+        at,
+        node: Node::Echo(args, body),
     })
 }

@@ -1,10 +1,14 @@
 //! Operands of expressions.
 
+ghost use Rattle.std.specs.Prelude.{◌<◌, ◌≤◌, ◌∷◌, length, IfOk};
+ghost use Rattle.scad_ast.specs.View.{expression_of};
+ghost use Rattle.scad_parse.specs.Grammar.{word, Unary, Postfix, Primary};
+
 use crate::element::bracketed;
 use crate::expression::{expr, in_round};
 use crate::fault::Stop;
 use crate::next::{next, opened, sign_next, take, take_word};
-use crate::node::{index, member};
+use crate::node::{call, index, member};
 use scad_ast::{Expr, Node};
 use scad_fault::{Chars, Place, Text};
 use scad_lex::{Key, Sign, Token, TokenKind};
@@ -12,7 +16,10 @@ use std::alloc::Global;
 
 // post = prim ("[" expr "]" | "." WORD)*
 #[cycle(expression)]
-pub(crate) fn post(alloc: Global, ts: &[Token], left: u32) -> Result<(Expr, &[Token]), Stop> {
+pub(crate) fn post(alloc: Global, ts: &[Token], left: u32) -> Result<(Expr, &[Token]), Stop>
+    ensures derives { IfOk result (λ r. Unary ts.entry.now r.1.now (expression_of r.0)) }
+    ensures shorter { IfOk result (λ r. length r.1.now < length ts.entry.now) }
+{
     let (a, ts) = primary(alloc, ts, left)?;
     postfix(alloc, a, ts, left)
 }
@@ -24,7 +31,10 @@ fn postfix(
     a: Expr,
     ts: &[Token],
     left: u32,
-) -> Result<(Expr, &[Token]), Stop> {
+) -> Result<(Expr, &[Token]), Stop>
+    ensures derives { IfOk result (λ r. Postfix (expression_of a) ts.entry.now r.1.now (expression_of r.0)) }
+    ensures shorter { IfOk result (λ r. length r.1.now ≤ length ts.entry.now) }
+{
     match sign_next(ts) {
         Some((sign, at, after)) => match sign {
             Sign::OpenSquare => {
@@ -49,7 +59,10 @@ fn postfix(
 
 // prim = NUMBER | STRING | "true" | "false" | "undef" | WORD | WORD "(" args ")" | "(" expr ")" | range | vector
 #[cycle(expression)]
-fn primary(alloc: Global, ts: &[Token], left: u32) -> Result<(Expr, &[Token]), Stop> {
+fn primary(alloc: Global, ts: &[Token], left: u32) -> Result<(Expr, &[Token]), Stop>
+    ensures derives { IfOk result (λ r. Primary ts.entry.now r.1.now (expression_of r.0)) }
+    ensures shorter { IfOk result (λ r. length r.1.now < length ts.entry.now) }
+{
     match next(ts) {
         Some((token, after)) => {
             let at = token.at;
@@ -104,13 +117,15 @@ fn named(
     name: Text,
     ts: &[Token],
     left: u32,
-) -> Result<(Expr, &[Token]), Stop> {
+) -> Result<(Expr, &[Token]), Stop>
+    ensures derives { IfOk result (λ r. Primary (word name at ∷ ts.entry.now) r.1.now (expression_of r.0)) }
+    ensures shorter { IfOk result (λ r. length r.1.now ≤ length ts.entry.now) }
+{
     match sign_next(ts) {
         Some((sign, _, _)) => match sign {
             Sign::OpenRound => {
                 let (args, ts) = in_round(alloc, ts, left)?;
-                let node = Node::Call(name, args);
-                Ok((Expr { at, node }, ts))
+                Ok((call(at, name, args), ts))
             }
             _ => {
                 let node = Node::Name(name);
