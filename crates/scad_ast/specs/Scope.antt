@@ -1,9 +1,8 @@
 -- The tree that statements in memory are.
-use Rattle.std.specs.Prelude.{ℕ, Bool, List, [], ◌∷◌, option_map, map}
+use Rattle.std.specs.Prelude.{Bool, List, [], ◌∷◌, option_map, map}
 use Rattle.scad_fault.specs.declared.place.Place.{Place}
 use Rattle.scad_ast.specs.declared.statement.Item.{Item, Assign, Module', Function, Run', Row_of-Item, end_of-Item, more_of-Item}
 use Rattle.scad_ast.specs.declared.statement.StmtBody.{StmtBody, Call', If'}
-use Rattle.scad_ast.specs.declared.statement.Stmt.{Stmt}
 use Rattle.scad_ast.specs.declared.statement.Param.{Param}
 use Rattle.scad_ast.specs.declared.statement.Program.{Program}
 use Rattle.scad_ast.specs.View.{expression_of, arguments}

@@ -1,5 +1,5 @@
 -- The tree that a value in memory is.
-use Rattle.std.specs.Prelude.{ℕ, List, [], ◌∷◌, Option, Some, None, option_map, map}
+use Rattle.std.specs.Prelude.{List, [], ◌∷◌}
 use Rattle.scad_fault.specs.declared.place.Place.{Place}
 use Rattle.scad_ast.specs.declared.expression.Node.{Node, Undef, Bool, Number, Str, Name, List', Range', Unary', Binary', Choose', Index', Member', Call', Let', Assert', Echo', Row_of-Arg, end_of-Arg, more_of-Arg, Row_of-Elem, end_of-Elem, more_of-Elem, Held-Node-Range-1, Node-Range-1-None', Node-Range-1-Some'}
 use Rattle.scad_ast.specs.declared.expression.Elem.{Elem, Item', Each', For', Loop', If', Held-Elem-If-2, Elem-If-2-None', Elem-If-2-Some'}
