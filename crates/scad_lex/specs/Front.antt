@@ -3,7 +3,6 @@ use Rattle.std.specs.Prelude.{ℕ, ◌+◌, ◌<◌, ◌≤◌, ◌&&◌, List, 
 use Rattle.std.specs.List.{prefix_len}
 use Rattle.scad_num.specs.declared.fault.NumFault.{NumFault}
 use Rattle.scad_num.specs.Literal.{literal_len, literal_number}
-use Rattle.scad_lex.specs.declared.token.TokenKind.{TokenKind}
 use Rattle.scad_lex.specs.declared.token.TokenKind.TheVariants.{Number, Str, Word, Sign, Key}
 use Rattle.scad_lex.specs.declared.token.Sign.{Sign as SignName}
 use Rattle.scad_lex.specs.declared.token.Key.{Key as KeyName}
@@ -11,7 +10,7 @@ use Rattle.scad_lex.specs.declared.quoted.Quoted.{Quoted}
 use Rattle.scad_lex.specs.declared.quoted.Quoted.TheVariants.{Closed, Unclosed, Broken}
 use Rattle.scad_lex.specs.declared.front.Front.{Front}
 use Rattle.scad_lex.specs.declared.front.Front.TheVariants.{Gap, Cut, Bad, TooLarge}
-use Rattle.scad_lex.specs.Gap.{is_blank, is_within_line, closed_len}
+use Rattle.scad_lex.specs.Gap.{is_blank, closed_len}
 use Rattle.scad_lex.specs.Classes.{is_of}
 use Rattle.scad_lex.specs.declared.gap.Class.TheVariants.{Blank, WithinLine}
 use Rattle.scad_lex.specs.Quoted.{quoted}

@@ -1,5 +1,5 @@
 -- Signs, the longer ones first.
-use Rattle.std.specs.Prelude.{ℕ, ◌&&◌, List, Option, Some, None, option_map, ◌==◌, if◌then◌else◌, slice_index}
+use Rattle.std.specs.Prelude.{ℕ, ◌&&◌, Option, Some, None, ◌==◌, if◌then◌else◌}
 use Rattle.scad_lex.specs.declared.token.Sign.{Sign}
 use Rattle.scad_lex.specs.declared.token.Sign.TheVariants.{OpenRound, CloseRound, OpenSquare, CloseSquare, OpenCurly, CloseCurly, Semicolon, Comma, Colon, Question, Assign, Equal, NotEqual, Less, LessEqual, Greater, GreaterEqual, Plus, Minus, Star, Slash, Percent, Caret, Bang, AndAnd, OrOr, Hash, Dot}
 

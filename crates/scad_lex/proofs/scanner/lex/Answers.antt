@@ -1,5 +1,5 @@
-use Rattle.std.proofs.Common.{◌≡◌, ap, sym, ◌∙◌, arith, ◌≤◌, ◌+◌, drop, take, length, length-drop, length-take, subst, Ok}
-use Rattle.scad_lex.specs.Tokens.{after, onto, tokens_from, start, Refuses, without_mark}
+use Rattle.std.proofs.Common.{◌≡◌, ap, sym, ◌∙◌, ◌≤◌, ◌+◌, drop, take, length, subst}
+use Rattle.scad_lex.specs.Tokens.{after, onto, tokens_from, start, Refuses}
 use Rattle.scad_lex.proofs.Pieces.{room_left, piece_read, refused_later, end_read, after-line, after-col}
 use Rattle.scad_lex.proofs.scanner.lex.Goals as goal
 
