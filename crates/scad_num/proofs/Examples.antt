@@ -1,8 +1,8 @@
 -- Worked examples of the definitions.
-use Rattle.std.proofs.Common.{◌≡◌, true, ℤ, pos, negsuc, codes, Ok, Err, refl}
+use Rattle.std.proofs.Common.{◌≡◌, pos, negsuc, codes, Ok, Err, refl}
 use Rattle.scad_num.specs.declared.fault.NumFault.TheVariants.{Range, ZeroDivisor}
-use Rattle.scad_num.specs.Literal.{mantissa_len, exponent_len, literal_len, is_literal, tens_up, tens_down, literal_millionths, literal_number}
-use Rattle.scad_num.specs.Number.{number_of, half_away_over, quotient_of, remainder_of, product_of, floor_of, ceil_of, round_of, micrometres_of}
+use Rattle.scad_num.specs.Literal.{mantissa_len, exponent_len, literal_len, tens_up, tens_down, literal_millionths}
+use Rattle.scad_num.specs.Number.{number_of, half_away_over, quotient_of, remainder_of, product_of, floor_of, ceil_of, round_of}
 use Rattle.scad_num.specs.Root.{root, root_in_steps, root_after, sqrt_of}
 use Rattle.scad_num.specs.Rounding.{half_up, half_away}
 

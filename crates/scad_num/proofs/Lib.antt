@@ -2,6 +2,7 @@ pub mod Capped
 pub mod Digits
 mod Examples
 pub mod Exponent
+pub mod LongestLiteral
 pub mod Nearest
 pub mod Number
 pub mod SquareRoot

@@ -1,8 +1,8 @@
 -- What the roundings mean: a whole number at most one half away, a half away from zero.
-use Rattle.std.proofs.Common.{◌≡◌, ℕ, zero, suc, ◌+◌, ◌*◌, ◌/◌, ◌<◌, ◌≤◌, ℤ, pos, negsuc, neg_ℤ, ◌+ℤ◌, ◌*ℤ◌, ◌<ℤ◌, ◌≤ℤ◌, unsigned_abs, refl, sym, ap, ◌∙◌, arith}
-use Rattle.std.proofs.Math.Nat.{mul-div-le, lt-mul-div-succ, zero-div, div-eq_of_lt}
+use Rattle.std.proofs.Common.{◌≡◌, ℕ, zero, suc, ◌+◌, ◌*◌, ◌/◌, ◌<◌, ◌≤◌, ℤ, pos, negsuc, neg_ℤ, ◌+ℤ◌, ◌<ℤ◌, ◌≤ℤ◌, unsigned_abs, refl, arith}
+use Rattle.std.proofs.Math.Nat.{mul-div-le, lt-mul-div-succ, div-eq_of_lt}
 use Rattle.std.proofs.lemmas.Int.{ints}
-use Rattle.scad_num.specs.Number.{one, floor_of, ceil_of, round_of}
+use Rattle.scad_num.specs.Number.{one, floor_of}
 use Rattle.scad_num.specs.Rounding.{half_up, half_away}
 
 -- half_up n d - 1/2 ≤ n / d < half_up n d + 1/2
@@ -23,9 +23,9 @@ unfolding half_away
 unsigned_abs-half_away (pos n) d = refl
 unsigned_abs-half_away (negsuc n) d = abs-neg (half_up (suc n) d)
   where
-  abs-neg : (n : ℕ) → unsigned_abs (neg_ℤ (pos n)) ≡ n
-  abs-neg zero = refl
-  abs-neg (suc n) = refl
+    abs-neg : (n : ℕ) → unsigned_abs (neg_ℤ (pos n)) ≡ n
+    abs-neg zero = refl
+    abs-neg (suc n) = refl
 
 -- and below 0 it mirrors what it is above
 pub half_away-neg : (z : ℤ) (d : ℕ) → 0 < d → half_away (neg_ℤ z) d ≡ neg_ℤ (half_away z d)
@@ -34,9 +34,9 @@ half_away-neg (pos zero) d h = let none : (2 * 0 + d) / (2 * d) ≡ 0 = div-eq_o
 half_away-neg (pos (suc n)) d h = refl
 half_away-neg (negsuc n) d h = neg-neg ((2 * suc n + d) / (2 * d))
   where
-  neg-neg : (n : ℕ) → pos n ≡ neg_ℤ (neg_ℤ (pos n))
-  neg-neg zero = refl
-  neg-neg (suc n) = refl
+    neg-neg : (n : ℕ) → pos n ≡ neg_ℤ (neg_ℤ (pos n))
+    neg-neg zero = refl
+    neg-neg (suc n) = refl
 
 -- floor_of z ≤ z < floor_of z + 1
 pub floor_of-le : (z : ℤ) → floor_of z ≤ℤ z

@@ -1,5 +1,5 @@
 -- What a whole square root is, and that there is one such number.
-use Rattle.std.proofs.Common.{◌≡◌, ℕ, zero, suc, ◌+◌, ◌*◌, ◌/◌, ◌^◌, ◌<◌, ◌≤◌, Bool, true, false, cond, nat_le, refl, sym, ◌∙◌, ap, arith, ◌⊎◌, inl, inr}
+use Rattle.std.proofs.Common.{◌≡◌, ℕ, zero, suc, ◌+◌, ◌*◌, ◌/◌, ◌^◌, ◌<◌, ◌≤◌, Bool, true, false, cond, nat_le, refl, arith, ◌⊎◌, inl, inr}
 use Rattle.std.proofs.lemmas.Bool.{cases_lt}
 use Rattle.std.proofs.lemmas.Bool.Decides.{nat_tests}
 use Rattle.std.proofs.lemmas.Nat.{mul-le}
@@ -15,9 +15,9 @@ pub record IsRoot (n r : ℕ) : Type 0 where
 IsRoot-le : (n a b : ℕ) → IsRoot n a → IsRoot n b → a ≤ b
 IsRoot-le n a b p q = by_order (cases_lt b a)
   where
-  by_order : (b < a) ⊎ (a ≤ b) → a ≤ b
-  by_order (inl h) = let above = mul-le (b + 1) (b + 1) a a (omega arith) (omega arith) in absurd (omega (arith, p.square_le, q.next_square_gt))
-  by_order (inr h) = h
+    by_order : (b < a) ⊎ (a ≤ b) → a ≤ b
+    by_order (inl h) = let above = mul-le (b + 1) (b + 1) a a (omega arith) (omega arith) in absurd (omega (arith, p.square_le, q.next_square_gt))
+    by_order (inr h) = h
 
 -- there is one square root
 pub IsRoot-unique : (n a b : ℕ) → IsRoot n a → IsRoot n b → a ≡ b
@@ -28,9 +28,9 @@ IsRoot-root_after : (n r : ℕ) → IsRoot (n / 4) r → IsRoot n (root_after n 
 unfolding root_after
 IsRoot-root_after n r p = by_test (nat_le ((2 * r + 1) * (2 * r + 1)) n) refl
   where
-  by_test : (b : Bool) → nat_le ((2 * r + 1) * (2 * r + 1)) n ≡ b → IsRoot n (cond b (2 * r + 1) (2 * r))
-  by_test true e = let odd : (2 * r + 1) * (2 * r + 1) ≤ n = grind (arith, nat_tests) in record { square_le = odd; next_square_gt = omega (arith, p.next_square_gt) }
-  by_test false e = let even : n < (2 * r + 1) * (2 * r + 1) = grind (arith, nat_tests) in record { square_le = omega (arith, p.square_le); next_square_gt = even }
+    by_test : (b : Bool) → nat_le ((2 * r + 1) * (2 * r + 1)) n ≡ b → IsRoot n (cond b (2 * r + 1) (2 * r))
+    by_test true e = let odd : (2 * r + 1) * (2 * r + 1) ≤ n = grind (arith, nat_tests) in record { square_le = odd; next_square_gt = omega (arith, p.next_square_gt) }
+    by_test false e = let even : n < (2 * r + 1) * (2 * r + 1) = grind (arith, nat_tests) in record { square_le = omega (arith, p.square_le); next_square_gt = even }
 
 IsRoot-in_steps : (steps n : ℕ) → n < 4 ^ steps → IsRoot n (root_in_steps steps n)
 unfolding root_in_steps
@@ -46,6 +46,6 @@ IsRoot-root n h = IsRoot-in_steps 64 n h
 pub root_small : (n r : ℕ) → r * r ≤ n → n ≤ 1000000000000000000000 → r ≤ 1000000000000000
 root_small n r p h = by_size (cases_lt 1000000000000000 r)
   where
-  by_size : (1000000000000000 < r) ⊎ (r ≤ 1000000000000000) → r ≤ 1000000000000000
-  by_size (inl g) = let above = mul-le 1000000000000001 1000000000000001 r r (omega arith) (omega arith) in absurd (omega arith)
-  by_size (inr g) = g
+    by_size : (1000000000000000 < r) ⊎ (r ≤ 1000000000000000) → r ≤ 1000000000000000
+    by_size (inl g) = let above = mul-le 1000000000000001 1000000000000001 r r (omega arith) (omega arith) in absurd (omega arith)
+    by_size (inr g) = g

@@ -8,13 +8,29 @@ use Rattle.scad_num.specs.declared.fault.NumFault.{NumFault}
 use Rattle.scad_num.specs.Number.{number_of}
 use Rattle.scad_num.specs.Rounding.{half_up}
 
+-- the bytes of `+`, `-`, `.`, `E` and `e`
+abbrev pub plus : ℕ
+plus = 43
+
+abbrev pub minus : ℕ
+minus = 45
+
+abbrev pub point : ℕ
+point = 46
+
+abbrev pub upper_e : ℕ
+upper_e = 69
+
+abbrev pub lower_e : ℕ
+lower_e = 101
+
 -- how many digits the bytes begin with
 abbrev pub digits_len : List ℕ → ℕ
 digits_len bytes = prefix_len is_ascii_digit bytes
 
 -- a point stands behind these digits
 abbrev pub has_point : List ℕ → Bool
-has_point bytes = slice_index bytes (digits_len bytes) == 46
+has_point bytes = slice_index bytes (digits_len bytes) == point
 
 -- the digits before the point
 abbrev pub whole_digits : List ℕ → List ℕ
@@ -33,7 +49,7 @@ mantissa_len bytes =
 
 -- how many bytes the sign takes that may stand behind an exponent's mark
 abbrev pub sign_len : List ℕ → ℕ
-sign_len bytes = if slice_index bytes 1 == 43 || slice_index bytes 1 == 45 then 1 else 0
+sign_len bytes = if slice_index bytes 1 == plus || slice_index bytes 1 == minus then 1 else 0
 
 -- the digits behind the mark and its sign
 abbrev pub power_digits : List ℕ → List ℕ
@@ -41,7 +57,7 @@ power_digits bytes = take_while is_ascii_digit (drop (1 + sign_len bytes) bytes)
 
 -- the bytes begin with an exponent: `e` or `E`, perhaps a sign, and digits
 abbrev pub has_power : List ℕ → Bool
-has_power bytes = (slice_index bytes 0 == 101 || slice_index bytes 0 == 69) && nat_lt 0 (length (power_digits bytes))
+has_power bytes = (slice_index bytes 0 == lower_e || slice_index bytes 0 == upper_e) && nat_lt 0 (length (power_digits bytes))
 
 -- how many bytes the exponent takes that the bytes begin with, or 0 where they begin with none
 unfoldable pub exponent_len : List ℕ → ℕ
@@ -49,11 +65,11 @@ exponent_len bytes = if has_power bytes then 1 + sign_len bytes + length (power_
 
 -- by how many places the exponent moves the point to the right, where the bytes begin with one
 unfoldable pub tens_up : List ℕ → ℕ
-tens_up bytes = if has_power bytes then (if slice_index bytes 1 == 45 then 0 else digits_value 10 (power_digits bytes)) else 0
+tens_up bytes = if has_power bytes then (if slice_index bytes 1 == minus then 0 else digits_value 10 (power_digits bytes)) else 0
 
 -- and to the left
 unfoldable pub tens_down : List ℕ → ℕ
-tens_down bytes = if has_power bytes then (if slice_index bytes 1 == 45 then digits_value 10 (power_digits bytes) else 0) else 0
+tens_down bytes = if has_power bytes then (if slice_index bytes 1 == minus then digits_value 10 (power_digits bytes) else 0) else 0
 
 -- how long the longest literal is that the bytes begin with, or 0 where they begin with none
 unfoldable pub literal_len : List ℕ → ℕ

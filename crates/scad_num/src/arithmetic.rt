@@ -4,7 +4,7 @@ ghost use Rattle.scad_num.specs.Number.{sum_of, difference_of, product_of, quoti
 use crate::fault::NumFault;
 use crate::fixed_point::{Num, ONE};
 use crate::rounding::half_away;
-use crate::wide::{half_away_over, number_of, times};
+use crate::wide::{half_away_over, times};
 
 impl Num {
     /// `self + b`.
@@ -25,7 +25,7 @@ impl Num {
     pub fn mul(self, b: Num) -> Result<Num, NumFault>
         ensures { result ≡ product_of self b }
     {
-        number_of(half_away(times(self.millionths(), b.millionths()), ONE as u64))
+        Num::of_wide(half_away(times(self.millionths(), b.millionths()), ONE as u64))
     }
 
     /// `self / b`, rounded half away from zero.
@@ -37,7 +37,7 @@ impl Num {
         if divisor == 0 {
             return Err(NumFault::ZeroDivisor);
         }
-        number_of(half_away_over(times(self.millionths(), ONE), divisor))
+        Num::of_wide(half_away_over(times(self.millionths(), ONE), divisor))
     }
 
     /// What `self / b` leaves, with the sign of `self`.
@@ -59,3 +59,6 @@ impl Num {
         Num::within(-self.millionths())
     }
 }
+
+#[cfg(test)]
+mod tests;

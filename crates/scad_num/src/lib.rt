@@ -17,6 +17,6 @@ mod wide;
 
 pub use fault::NumFault;
 pub use fixed_point::Num;
-pub use rounding::half_away;
-pub use wide::{half_away_over, number_of, times};
 pub use literal::{is_literal, literal_len, parse_decimal};
+pub use rounding::{half_away, half_up};
+pub use wide::{half_away_over, times};

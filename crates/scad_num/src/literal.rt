@@ -1,4 +1,4 @@
-ghost use Rattle.std.specs.Prelude.{◌≡◌, ◌+◌, ◌*◌, ◌^◌, ◌<◌, ◌≤◌, ◌++◌, length, drop, min, true, pos};
+ghost use Rattle.std.specs.Prelude.{◌≡◌, ◌+◌, ◌*◌, ◌^◌, ◌<◌, ◌≤◌, ◌++◌, length, take, drop, min, true, pos};
 ghost use Rattle.std.specs.Str.Parse.{AllDigits, digits_value};
 ghost use Rattle.scad_num.specs.Literal.{mantissa_len, exponent_len, literal_len, is_literal, literal_number, whole_digits, decimal_digits, tens_up, tens_down};
 ghost use Rattle.scad_num.specs.Rounding.{half_up};
@@ -23,7 +23,9 @@ fn behind(bytes: &[u8], at: usize) -> &[u8]
 /// How long the longest literal is that the bytes begin with, or 0 where they begin with none.
 #[tactic(auto, unfolding(crate::specs::Literal::literal_len))]
 pub fn literal_len(bytes: &[u8]) -> usize
-    ensures { result ≡ literal_len bytes.now }
+    ensures value { result ≡ literal_len bytes.now }
+    ensures within { result ≤ length bytes.now }
+    ensures literal { 0 < result → is_literal (take result bytes.now) ≡ true }
 {
     let mantissa = mantissa_at(bytes).len;
     if mantissa == 0 {

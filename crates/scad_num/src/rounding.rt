@@ -3,7 +3,7 @@ ghost use Rattle.scad_num.specs.Rounding.{half_up, half_away};
 
 /// The whole number nearest to `n / d`, a half upwards.
 #[tactic(auto, unfolding(crate::specs::Rounding::half_up))]
-pub(crate) fn half_up(n: u128, d: u128) -> u128
+pub fn half_up(n: u128, d: u128) -> u128
     requires divisor { 0 < d }
     requires room { 2 * n + 2 * d < 2 ^ 128 }
     ensures value { result ≡ half_up n d }

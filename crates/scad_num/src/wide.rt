@@ -29,14 +29,16 @@ pub fn half_away_over(n: i128, d: i64) -> i128
     }
 }
 
-/// The number of so many millionths.
-#[tactic(auto, unfolding(crate::specs::Number::number_of))]
-pub fn number_of(millionths: i128) -> Result<Num, NumFault>
-    ensures { result ≡ number_of millionths }
-{
-    if millionths.unsigned_abs() <= u128::from(MOST) {
-        Ok(Num::within(millionths as i64))
-    } else {
-        Err(NumFault::Range)
+impl Num {
+    /// The number of so many millionths.
+    #[tactic(auto, unfolding(crate::specs::Number::number_of))]
+    pub fn of_wide(millionths: i128) -> Result<Num, NumFault>
+        ensures { result ≡ number_of millionths }
+    {
+        if millionths.unsigned_abs() <= u128::from(MOST) {
+            Ok(Num::within(millionths as i64))
+        } else {
+            Err(NumFault::Range)
+        }
     }
 }

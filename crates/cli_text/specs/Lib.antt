@@ -1,0 +1,2 @@
+pub mod Cli
+pub mod Appends

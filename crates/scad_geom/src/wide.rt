@@ -1,0 +1,76 @@
+//! Exact signed arithmetic over 128 bits: one operation a function, which cannot overflow.
+ghost use Rattle.std.specs.Prelude.{◌≡◌, ◌+◌, ◌*◌, ◌^◌, ◌<◌, ◌≤◌, ◌+ℤ◌, ◌-ℤ◌, ◌*ℤ◌, unsigned_abs};
+
+/// How far `to` is above `from`.
+pub fn span(from: i32, to: i32) -> i128
+    ensures difference { result ≡ to -ℤ from }
+    ensures size { unsigned_abs result ≤ unsigned_abs to + unsigned_abs from }
+    ensures bits { unsigned_abs result < 2 ^ 32 }
+{
+    to as i128 - from as i128
+}
+
+/// The sum.
+pub fn plus(a: i128, b: i128) -> i128
+    requires fits { unsigned_abs a + unsigned_abs b < 2 ^ 127 }
+    ensures sum { result ≡ a +ℤ b }
+    ensures size { unsigned_abs result ≤ unsigned_abs a + unsigned_abs b }
+{
+    a + b
+}
+
+/// The difference.
+pub fn minus(a: i128, b: i128) -> i128
+    requires fits { unsigned_abs a + unsigned_abs b < 2 ^ 127 }
+    ensures difference { result ≡ a -ℤ b }
+    ensures size { unsigned_abs result ≤ unsigned_abs a + unsigned_abs b }
+{
+    a - b
+}
+
+/// The product.
+pub fn product(a: i128, b: i128) -> i128
+    requires fits { unsigned_abs a * unsigned_abs b < 2 ^ 127 }
+    ensures product { result ≡ a *ℤ b }
+    ensures size { unsigned_abs result ≡ unsigned_abs a * unsigned_abs b }
+{
+    a * b
+}
+
+/// The product of a number of at most `M` bits and one of at most `N` bits. The bounds are powers,
+/// so that a chain of products needs linear arithmetic alone.
+pub fn times<const M: u32, const N: u32>(a: i128, b: i128) -> i128
+    requires left { unsigned_abs a ≤ 2 ^ M }
+    requires right { unsigned_abs b ≤ 2 ^ N }
+    requires fits { M + N < 127 }
+    ensures product { result ≡ a *ℤ b }
+    ensures size { unsigned_abs result ≤ 2 ^ (M + N) }
+{
+    product(a, b)
+}
+
+#[cfg(test)]
+mod tests {
+    use super::*;
+
+    #[test]
+    fn values_past_64_bits_are_exact(rt: HostRuntime) {
+        assert_eq!(rt; span(i32::MAX, i32::MIN), -4_294_967_295);
+        assert_eq!(rt;
+            plus(1 << 100, 1),
+            1_267_650_600_228_229_401_496_703_205_377
+        );
+        assert_eq!(rt;
+            minus(1, 1 << 100),
+            -1_267_650_600_228_229_401_496_703_205_375
+        );
+        assert_eq!(rt;
+            product(-1_000_000_007, 10_000_000_000),
+            -10_000_000_070_000_000_000
+        );
+        assert_eq!(rt;
+            times::<64, 44>(-11_000_000_000_000_000_000, 10_000_000_000_000),
+            -110_000_000_000_000_000_000_000_000_000_000
+        );
+    }
+}

@@ -1,0 +1,4 @@
+mod Files
+mod Pieces
+pub mod Sent
+mod Taken

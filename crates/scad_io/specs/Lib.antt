@@ -1,0 +1,5 @@
+pub mod Desk
+pub mod Memory
+pub mod Reading
+pub mod Sent
+pub mod Shelf

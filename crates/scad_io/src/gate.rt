@@ -1,0 +1,17 @@
+/// What stands before and after the work on each layer, in the worker that does it.
+/// Its calls change nothing that a contract speaks of.
+pub trait Gate: Sync {
+    fn before(&self, layer: u32);
+
+    fn after(&self, layer: u32);
+}
+
+/// A gate that does nothing.
+#[derive(Clone, Copy, Debug, PartialEq, Eq)]
+pub struct Open;
+
+impl Gate for Open {
+    fn before(&self, _layer: u32) {}
+
+    fn after(&self, _layer: u32) {}
+}

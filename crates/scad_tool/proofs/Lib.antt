@@ -1,0 +1,10 @@
+mod Layers
+mod Loading
+mod Drawing
+mod Views
+mod Judged
+mod Promised
+mod Refusals
+mod Fronts
+mod Membership
+mod Cubes

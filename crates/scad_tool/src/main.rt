@@ -1,0 +1,42 @@
+//! The program: reads a part, and writes its layers' outlines. `run` has the promise; `main` hands it the real files.
+#![tactic(auto)]
+
+mod cube;
+mod input;
+mod report;
+mod run;
+mod source;
+mod stop;
+#[cfg(test)]
+mod tests;
+mod words;
+mod work;
+
+use run::run;
+use scad_io::{Open, RealDesk};
+use std::env::{self, Env};
+use std::io;
+use std::process::ExitCode;
+
+/// The status of a program that finds no memory for its words.
+const OUT_OF_MEMORY: u8 = 7;
+
+fn main(rt: HostRuntime) -> ExitCode {
+    let words = match words_behind_name(&rt) {
+        Ok(words) => words,
+        Err(e) if e.kind() == io::ErrorKind::OutOfMemory => return ExitCode::from(OUT_OF_MEMORY),
+        Err(_) => Vec::new(rt.alloc()),
+    };
+    let mut desk = RealDesk::new(&rt);
+    let status = run(&rt, rt.alloc(), &words, &mut desk, &Open);
+    ExitCode::from(status.code())
+}
+
+/// The words behind the program's name.
+fn words_behind_name<R: Env + AllocGlobal>(rt: &R) -> io::Result<Vec<String>> {
+    let mut words = Vec::new(rt.alloc());
+    for word in env::args(rt)?.skip(1) {
+        words.push(word)?;
+    }
+    Ok(words)
+}
