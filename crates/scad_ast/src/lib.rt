@@ -9,3 +9,6 @@ mod statement;
 pub use expression::{Arg, Args, Elem, Elems, Expr, Node};
 pub use operator::{BinOp, UnOp};
 pub use statement::{Item, Param, Params, Program, Scope, Stmt, StmtBody};
+
+#[cfg(test)]
+mod tests;
