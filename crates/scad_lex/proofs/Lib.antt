@@ -1,3 +1,2 @@
-mod Literals
 mod Pieces
 mod Quotes
