@@ -1,0 +1,10 @@
+pub mod Character
+pub mod Classes
+pub mod Escape
+pub mod Front
+pub mod Gap
+pub mod Keys
+pub mod Quoted
+pub mod Signs
+pub mod Tokens
+pub mod Words

@@ -1,0 +1,20 @@
+//! The tokens of OpenSCAD source.
+//! The contract gives exactly the tokens of every text with their places, or its first refused place.
+#![tactic(auto)]
+
+mod bytes;
+mod character;
+mod escape;
+mod fault;
+mod front;
+mod gap;
+mod key;
+mod quoted;
+mod scanner;
+mod sign;
+mod token;
+mod word;
+
+pub use fault::LexFault;
+pub use scanner::lex;
+pub use token::{Key, Sign, Token, TokenKind, Tokens};
