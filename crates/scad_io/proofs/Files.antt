@@ -8,19 +8,30 @@ use Rattle.std.proofs.lemmas.List.Quantifiers.{position-Some}
 use Rattle.std.proofs.lemmas.Option.{slice_get_cases, slice_get_past}
 use Rattle.scad_io.specs.Shelf.{has_name, contents_of, text_at}
 
-is_at : {X : Type 0} (p : X → Bool) (xs : List X) (i : ℕ) → position p xs ≡ Some i → position_or_len p xs ≡ i
+is_at : {X : Type 0} (p : X → Bool) (xs : List X) (i : ℕ)
+    → position p xs ≡ Some i → position_or_len p xs ≡ i
 is_at p xs i found = grind (arith, nat_tests)
 
-is_past : {X : Type 0} (p : X → Bool) (xs : List X) → position p xs ≡ None → length xs ≤ position_or_len p xs
+is_past : {X : Type 0} (p : X → Bool) (xs : List X)
+    → position p xs ≡ None → length xs ≤ position_or_len p xs
 is_past p xs none = grind (arith, nat_tests)
 
-pub file_found : (files : List (List ℕ × List ℕ)) (name : List ℕ) (i : ℕ) → position (has_name name) files ≡ Some i → contents_of files name ≡ Some (text_at files i)
+pub file_found : (files : List (List ℕ × List ℕ)) (name : List ℕ) (i : ℕ)
+    → position (has_name name) files ≡ Some i
+    → contents_of files name ≡ Some (text_at files i)
 file_found files name i found =
-    let there = position-Some (has_name name) files i ([], []) found in
-    let is = find_at (has_name name) files ∙ ap (slice_get files) (is_at (has_name name) files i found) in
-    elim (slice_get_cases files i).1 [ inl w ↦ rw (is, w.2) refl | inr w ↦ absurd (omega (arith, w.0, there.0)) ]
+    let p = has_name name in
+    let there = position-Some p files i ([], []) found in
+    let is = find_at p files ∙ ap (slice_get files) (is_at p files i found) in
+    elim (slice_get_cases files i).1 [
+      | inl w ↦ rw (is, w.2) refl
+      | inr w ↦ absurd (omega (arith, w.0, there.0))
+    ]
 
-pub file_missing : (files : List (List ℕ × List ℕ)) (name : List ℕ) → position (has_name name) files ≡ None → contents_of files name ≡ None
+pub file_missing : (files : List (List ℕ × List ℕ)) (name : List ℕ)
+    → position (has_name name) files ≡ None
+    → contents_of files name ≡ None
 file_missing files name none =
-    let past = slice_get_past files _ (is_past (has_name name) files none) in
-    ap (option_map (λ file. file.1)) (find_at (has_name name) files ∙ past)
+    let p = has_name name in
+    let past = slice_get_past files _ (is_past p files none) in
+    ap (option_map (λ file. file.1)) (find_at p files ∙ past)

@@ -38,7 +38,8 @@ put Gcode s v = record v { gcode = s }
 
 -- an output with these bytes added, and with this mark of failure
 abbrev pub added : List ℕ → Bool → Side → Side
-added bytes failed s = record s { bytes = option_map (λ before. before ++ bytes) s.bytes; failed = failed }
+added bytes failed s =
+    record s { bytes = option_map (λ before. before ++ bytes) s.bytes; failed = failed }
 
 -- v after these bytes went out
 abbrev pub sent : Out → List ℕ → Bool → View → View
@@ -56,7 +57,9 @@ write_failed (Err e) = true
 
 -- v after so many bytes of the input were read, with this mark of failure
 abbrev pub taken : ℕ → Bool → View → View
-taken n failed v = record v { input = record v.input { bytes = option_map (drop n) v.input.bytes; failed = failed } }
+taken n failed v =
+    let left = option_map (drop n) v.input.bytes in
+    record v { input = record v.input { bytes = left; failed = failed } }
 
 -- v after a read
 abbrev pub after_read : Result ℕ Failed → View → View
@@ -69,17 +72,28 @@ pub record Gives (rest : List ℕ) (n : ℕ) (into : List ℕ) : Type 0 where
   pub next : take n into ≡ take n rest
   pub ends : n ≡ 0 → rest ≡ []
 
+-- what a call answers that gives no value
+abbrev pub Answer : Type 0
+Answer = Result (Unit {0}) Failed
+
 -- An input was opened by this name, or wasn't. Opened, its rest is what the name contains.
-pub record Opens (files : Files) (name : List ℕ) (r : Result (Unit {0}) Failed) (old new : View) : Type 0 where
-  pub only : new ≡ record old { input = record old.input { name = new.input.name; bytes = new.input.bytes; failed = is_err r } }
+pub record Opens (files : Files) (name : List ℕ) (r : Answer) (old new : View) : Type 0 where
+  pub only : new ≡ record old {
+    input = record old.input { name = new.input.name; bytes = new.input.bytes; failed = is_err r };
+  }
   pub named : IfSome new.input.name (λ told. told ≡ name)
-  pub rest : OnOk r (IfSome files (λ contents. IsSome (contents name) × (new.input.bytes ≡ contents name)))
+  pub rest : OnOk r (IfSome files (λ contents.
+      IsSome (contents name) × (new.input.bytes ≡ contents name)))
   pub kept : OnErr r (new.input.bytes ≡ old.input.bytes)
   pub told : IsSome old.input.bytes → IsSome new.input.bytes
 
 -- An output was created by this name, or wasn't. Its bytes stand.
-pub record Creates (out : Out) (name : List ℕ) (r : Result (Unit {0}) Failed) (old new : View) : Type 0 where
-  pub only : new ≡ put out (record (side out old) { name = (side out new).name; created = is_ok r; failed = is_err r }) old
+pub record Creates (out : Out) (name : List ℕ) (r : Answer) (old new : View) : Type 0 where
+  pub only : new ≡ put out (record (side out old) {
+    name = (side out new).name;
+    created = is_ok r;
+    failed = is_err r;
+  }) old
   pub named : IfSome (side out new).name (λ told. told ≡ name)
 
 -- the count of faults doesn't fall, and rose where the call failed
@@ -103,7 +117,8 @@ fresh bytes = record { name = None; bytes = bytes; created = false; failed = fal
 
 -- a desk on which nothing was done
 abbrev pub unused : Option (List ℕ) → View
-unused bytes = record { input = fresh bytes; report = fresh bytes; cli = fresh bytes; gcode = fresh bytes }
+unused bytes =
+    record { input = fresh bytes; report = fresh bytes; cli = fresh bytes; gcode = fresh bytes }
 
 -- how many objects have failed
 abbrev pub failed_count : View → ℕ

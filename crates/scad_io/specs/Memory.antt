@@ -7,18 +7,21 @@ use Rattle.scad_io.specs.declared.desk.Out.{Out}
 use Rattle.scad_io.specs.declared.desk.Failed.{Failed}
 use Rattle.scad_io.specs.declared.memory.last_name.TheConstants.{NAME_ROOM}
 
--- The files by name, the numbers of the calls that are to fail, the number of the next call, the room for the bytes of
--- each output, and what is known of the objects.
 pub record Memory : Type 0 where
+  -- names and what they contain
   pub files : List (List ℕ × List ℕ)
+  -- the numbers of the calls that are to fail
   pub fails : List ℕ
+  -- the number of the next call
   pub calls : ℕ
+  -- how many bytes each output has room for
   pub room : ℕ
   pub view : View
 
 -- a desk that was just made
 abbrev pub made_of : List (List ℕ × List ℕ) → List ℕ → ℕ → Memory
-made_of files fails room = record { files = files; fails = fails; calls = 0; room = room; view = unused (Some []) }
+made_of files fails room =
+    record { files = files; fails = fails; calls = 0; room = room; view = unused (Some []) }
 
 -- an output in memory, with the room for its bytes
 pub record Output : Type 0 where
@@ -53,7 +56,7 @@ room_left out m = m.room - length (written_to out m)
 abbrev pub contents : Memory → Files
 contents m = Some (contents_of m.files)
 
--- A call of a desk: it counts one call, and of all else it changes at most what is known of the objects. The faults
+-- A call counts as one, and of all else it changes at most what is known of the objects. The faults
 -- rise by one exactly where it failed.
 pub record Steps {T : Type 0} (r : Result T Failed) (old new : Memory) : Type 0 where
   pub only : new ≡ record old { calls = next_number old.calls; view = new.view }

@@ -11,7 +11,8 @@ pub record SentPartly (out : Out) (piece : List ℕ) (old new : View) : Type 0 w
 
 -- the piece went out whole, or in part where the answer is an error
 abbrev pub Writes : {E : Type 0} → Out → List ℕ → Result (Unit {0}) E → View → View → Type 0
-Writes out piece r old new = MatchResult r (λ _. new ≡ sent out piece false old) (λ _. SentPartly out piece old new)
+Writes out piece r old new =
+    MatchResult r (λ _. new ≡ sent out piece false old) (λ _. SentPartly out piece old new)
 
 -- of a text that goes out piece by piece, all but this rest went out
 pub record SentBut (out : Out) (text rest : List ℕ) (old now : View) : Type 0 where

@@ -33,12 +33,14 @@ pub trait Desk {
         ensures files { files self.new ≡ files self.old }
         ensures cause { HasCause (faults self.old) (faults self.new) result };
 
-    /// Reads the next bytes of the input, at most as many as fit, and says how many: 0 at the end alone.
+    /// Reads the next bytes of the input, as many as fit or fewer, and says how many. 0 comes at
+    /// its end alone.
     fn read(&mut self, into: &mut [u8]) -> Result<usize, Failed>
         requires sound { (view self.old).input.failed ≡ false }
         requires piece { 0 < length into.old }
         ensures bound { IfOk result (λ n. n ≤ length into.new) }
-        ensures bytes { IfOk result (λ n. IfSome (view self.old).input.bytes (λ rest. Gives rest n into.new)) }
+        ensures bytes { IfOk result (λ n.
+            IfSome (view self.old).input.bytes (λ rest. Gives rest n into.new)) }
         ensures view { view self.new ≡ after_read result (view self.old) }
         ensures files { files self.new ≡ files self.old }
         ensures cause { HasCause (faults self.old) (faults self.new) result };
@@ -52,7 +54,7 @@ pub trait Desk {
         ensures files { files self.new ≡ files self.old }
         ensures cause { HasCause (faults self.old) (faults self.new) result };
 
-    /// Writes a front of the piece and says how long it is. An answer of 0 is a fault of the output.
+    /// Writes a front of the piece and says how long it is. An answer of 0 is a fault.
     fn write(&mut self, out: Out, bytes: &[u8]) -> Result<usize, Failed>
         requires sound { (side out (view self.old)).failed ≡ false }
         requires made { out ≢ Out.Report → (side out (view self.old)).created ≡ true }

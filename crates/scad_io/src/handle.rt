@@ -1,4 +1,6 @@
-ghost use Rattle.std.specs.Prelude.{◌≡◌, ◌≤◌, true, false, length, is_some, is_err, IfOk, OnOk, OnErr};
+ghost use Rattle.std.specs.Prelude.{◌≡◌, ◌≤◌, true, false, length, Some, is_some, is_ok, is_err, IfOk, MatchOption, MatchResult};
+ghost use Rattle.std.specs.Option.{option_and_then};
+ghost use Rattle.std.specs.Io.KnownBytes.{ReadConsumes, WriteAppends};
 ghost use Rattle.scad_io.specs.Desk.{write_failed};
 
 use crate::Failed;
@@ -14,7 +16,7 @@ pub struct Handle<F> {
 
 /// Takes the answer of a write, and marks where it failed, as it did too where nothing went out.
 pub fn note_write(written: io::Result<usize>, failed: &mut bool) -> Result<usize, Failed>
-    ensures same { IfOk result (λ n. written ≡ Ok n) }
+    ensures same { MatchResult written (λ n. result ≡ Ok n) (λ _. is_err result ≡ true) }
     ensures mark { failed.new ≡ write_failed result }
 {
     match written {
@@ -46,8 +48,9 @@ impl<F: Drop> Handle<F> {
     /// Keeps a file that was opened, or the mark that it wasn't.
     pub fn keep(&mut self, opened: io::Result<F>) -> Result<(), Failed>
         ensures mark { self.new.failed ≡ is_err result }
-        ensures opened { OnOk result (is_some self.new.file ≡ true) }
-        ensures refused { OnErr result (is_some self.new.file ≡ is_some self.old.file) }
+        ensures opened { MatchResult opened
+            (λ file. self.new.file ≡ Some file) (λ _. self.new.file ≡ self.old.file) }
+        ensures answer { is_ok result ≡ is_ok opened }
     {
         self.failed = opened.is_err();
         self.file = Some(opened.map_err(|_| Failed)?);
@@ -61,6 +64,9 @@ impl<F: Read> Handle<F> {
         requires { self.old.failed ≡ false }
         ensures bound { IfOk result (λ n. n ≤ length into.new) }
         ensures mark { self.new.failed ≡ is_err result }
+        ensures bytes { let left = option_and_then F.remaining self.new.file in
+            MatchOption self.old.file (result ≡ Ok 0) (λ file.
+            ReadConsumes (F.remaining file) left result into.new) }
     {
         let Some(file) = &mut self.file else {
             return Ok(0);
@@ -78,6 +84,8 @@ impl<F: Write> Handle<F> {
         ensures bound { IfOk result (λ n. n ≤ length bytes.now) }
         ensures mark { self.new.failed ≡ write_failed result }
         ensures open { is_some self.new.file ≡ true }
+        ensures bytes { let before = option_and_then F.contents self.old.file in
+            WriteAppends before (option_and_then F.contents self.new.file) result bytes.now }
     {
         let Some(file) = &mut self.file else {
             unreachable!()

@@ -1,5 +1,5 @@
-//! The outside of the slicer as one value: an input that is read, three outputs that are written, and a gate.
-//! A desk's contract says which bytes each call moves, and that a call fails only where the desk counts a fault.
+//! The outside of the slicer as one value: an input, three outputs, and a gate for the workers.
+//! A desk's contract says which bytes each call moves, and that a fault is counted where one fails.
 #![tactic(auto)]
 
 mod desk;

@@ -1,9 +1,8 @@
-ghost use Rattle.std.specs.Prelude.{◌≡◌, ◌≢◌, ◌++◌, ◌<◌, ◌≤◌, Some, true, false, length, take, drop, IfOk, IfSome};
-ghost use Rattle.std.specs.Result.{result_unwrap_or};
-ghost use Rattle.scad_io.specs.Desk.{side, Gives, Opens, Creates, after_read, after_write, HasCause, WriteHasCause, failed_count};
-ghost use Rattle.scad_io.specs.Memory.{made_of, contents, rest_of, told_name, open_answer, read_answer, create_answer, write_answer, Steps};
+ghost use Rattle.std.specs.Prelude.{◌≡◌, Some, IfOk};
+ghost use Rattle.scad_io.specs.Desk.{side, failed_count};
+ghost use Rattle.scad_io.specs.Memory.{made_of};
 
-use crate::{Desk, Failed, Out};
+use crate::Out;
 use calls::Calls;
 use last_name::LastName;
 use scad_fault::Text;
@@ -13,6 +12,7 @@ use std::alloc::{AllocError, Global};
 use std::marker::Model;
 
 mod calls;
+mod desk;
 mod last_name;
 mod shelf;
 mod sink;
@@ -24,9 +24,10 @@ struct Input {
     failed: bool,
 }
 
-/// A desk in memory, for tests: files by name, a list of calls that are to fail, and a room for each output.
+/// A desk in memory, for tests: files by name, the numbers of the calls that are to fail, and a
+/// room for each output.
 ///
-/// It is seen as a `Memory`. Its four calls take no memory.
+/// Contracts see it as a `Memory`. Its calls take no memory.
 #[derive(Drop)]
 pub struct MemoryDesk {
     files: Vec<(Text, Text)>,
@@ -63,12 +64,13 @@ impl Model for MemoryDesk {
       };
     } };
 
-    ghost invariant = { λ d. (d.report.room ≡ d.room) × (d.cli.room ≡ d.room) × (d.gcode.room ≡ d.room) };
+    ghost invariant = { λ d.
+        (d.report.room ≡ d.room) × (d.cli.room ≡ d.room) × (d.gcode.room ≡ d.room) };
 }
 
 impl MemoryDesk {
-    /// A desk with these named contents, of which the first of a name counts, whose calls of these numbers fail, and with
-    /// room for so many bytes in each output.
+    /// A desk with files by name, of which the first of a name counts. Its calls of the numbers in
+    /// `fails` fail, counted from 0 over all of them. Each output has room for so many bytes.
     pub fn new(
         alloc: Global,
         files: Vec<(Text, Text)>,
@@ -111,103 +113,5 @@ impl MemoryDesk {
             + u64::from(self.report.has_failed())
             + u64::from(self.cli.has_failed())
             + u64::from(self.gcode.has_failed())
-    }
-}
-
-impl Desk for MemoryDesk {
-    ghost use Rattle.scad_io.specs.Desk.{failed_count};
-    ghost use Rattle.scad_io.specs.Memory.{contents};
-
-    ghost files = { contents };
-
-    ghost view = { λ d. d.view };
-
-    ghost faults = { λ d. failed_count d.view };
-
-    fn open(&mut self, name: &str) -> Result<(), Failed>
-        requires sound { self.old.view.input.failed ≡ false }
-        ensures view { Opens (contents self.old) name.now result self.old.view self.new.view }
-        ensures files { contents self.new ≡ contents self.old }
-        ensures cause { HasCause (failed_count self.old.view) (failed_count self.new.view) result }
-
-        ensures exact { result ≡ open_answer name.now self.old }
-        ensures name { self.new.view.input.name ≡ told_name name.now }
-        ensures steps { Steps result self.old self.new }
-    {
-        let due = self.calls.count();
-        self.input.name.keep(name);
-        match shelf::open(&self.files, name.as_bytes()) {
-            Some(cursor) if !due => {
-                self.input.cursor = Some(cursor);
-                Ok(())
-            }
-            _ => {
-                self.input.failed = true;
-                Err(Failed)
-            }
-        }
-    }
-
-    fn read(&mut self, into: &mut [u8]) -> Result<usize, Failed>
-        requires sound { self.old.view.input.failed ≡ false }
-        requires piece { 0 < length into.old }
-        ensures bound { IfOk result (λ n. n ≤ length into.new) }
-        ensures bytes { IfOk result (λ n. IfSome self.old.view.input.bytes (λ rest. Gives rest n into.new)) }
-        ensures view { self.new.view ≡ after_read result self.old.view }
-        ensures files { contents self.new ≡ contents self.old }
-        ensures cause { HasCause (failed_count self.old.view) (failed_count self.new.view) result }
-
-        ensures exact { result ≡ read_answer (length into.old) self.old }
-        ensures into { let n = result_unwrap_or result 0 in into.new ≡ take n (rest_of self.old) ++ drop n into.old }
-        ensures steps { Steps result self.old self.new }
-    {
-        if self.calls.count() {
-            self.input.failed = true;
-            return Err(Failed);
-        }
-        match &mut self.input.cursor {
-            Some(cursor) => Ok(shelf::read(&self.files, cursor, into)),
-            None => Ok(0),
-        }
-    }
-
-    fn create(&mut self, out: Out, name: &str) -> Result<(), Failed>
-        requires named { out ≢ Out.Report }
-        requires sound { (side out self.old.view).failed ≡ false }
-        requires absent { (side out self.old.view).created ≡ false }
-        ensures view { Creates out name.now result self.old.view self.new.view }
-        ensures files { contents self.new ≡ contents self.old }
-        ensures cause { HasCause (failed_count self.old.view) (failed_count self.new.view) result }
-
-        ensures exact { result ≡ create_answer name.now self.old }
-        ensures name { (side out self.new.view).name ≡ told_name name.now }
-        ensures steps { Steps result self.old self.new }
-    {
-        let due = self.calls.count();
-        match out {
-            Out::Report => unreachable!(),
-            Out::Cli => self.cli.create(due, name),
-            Out::Gcode => self.gcode.create(due, name),
-        }
-    }
-
-    fn write(&mut self, out: Out, bytes: &[u8]) -> Result<usize, Failed>
-        requires sound { (side out self.old.view).failed ≡ false }
-        requires made { out ≢ Out.Report → (side out self.old.view).created ≡ true }
-        requires piece { 0 < length bytes.now }
-        ensures bound { IfOk result (λ n. n ≤ length bytes.now) }
-        ensures view { self.new.view ≡ after_write out bytes.now result self.old.view }
-        ensures files { contents self.new ≡ contents self.old }
-        ensures cause { WriteHasCause (failed_count self.old.view) (failed_count self.new.view) result }
-
-        ensures exact { result ≡ write_answer out (length bytes.now) self.old }
-        ensures steps { Steps result self.old self.new }
-    {
-        let due = self.calls.count();
-        match out {
-            Out::Report => self.report.write(due, bytes),
-            Out::Cli => self.cli.write(due, bytes),
-            Out::Gcode => self.gcode.write(due, bytes),
-        }
     }
 }

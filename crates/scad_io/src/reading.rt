@@ -20,8 +20,8 @@ pub enum ReadEnd {
     Memory,
 }
 
-/// How many bytes to ask for after so many were read: one more than the limit leaves, in pieces. None where more than the
-/// limit was read.
+/// How many bytes to ask for after so many were read: in pieces, to one byte past the limit.
+/// None where more than the limit was read.
 fn next_piece(limit: Option<usize>, len: usize) -> Option<usize>
     ensures past { IfNone result (IsSomeAnd limit (λ most. most < len)) }
     ensures piece { IfSome result (λ n. (0 < n) × (n ≤ PIECE)) }
@@ -42,14 +42,18 @@ fn pull<D: Desk>(desk: &mut D, piece: &mut [u8], text: &mut Vec<u8>) -> Result<u
     requires piece { 0 < length piece.old }
 
     ensures bound { IfOk result (λ n. n ≤ length piece.new) }
-    ensures bytes { IfOk result (λ n. IfSome (D.view desk.old).input.bytes (λ rest. Gives rest n piece.new)) }
+    ensures bytes { IfOk result (λ n.
+        IfSome (D.view desk.old).input.bytes (λ rest. Gives rest n piece.new)) }
     ensures text { IfOk result (λ n. text.new.items ≡ text.old.items ++ take n piece.new) }
     ensures view { IfOk result (λ n. D.view desk.new ≡ taken n false (D.view desk.old)) }
-    ensures fault { IsErrOf result ReadEnd.Fault → ReadsPart true (D.view desk.old) (D.view desk.new) × (D.faults desk.old < D.faults desk.new) }
-    ensures memory { IsErrOf result ReadEnd.Memory → ReadsPart false (D.view desk.old) (D.view desk.new) }
+    ensures fault { IsErrOf result ReadEnd.Fault
+        → ReadsPart true (D.view desk.old) (D.view desk.new) }
+    ensures memory { IsErrOf result ReadEnd.Memory
+        → ReadsPart false (D.view desk.old) (D.view desk.new) }
     ensures short { result ≢ Err ReadEnd.Long }
     ensures files { D.files desk.new ≡ D.files desk.old }
     ensures later { D.faults desk.old ≤ D.faults desk.new }
+    ensures cause { IsErrOf result ReadEnd.Fault → D.faults desk.old < D.faults desk.new }
 {
     let n = desk.read(piece).map_err(|_| ReadEnd::Fault)?;
     text.extend_from_slice(&piece[..n])
@@ -59,17 +63,21 @@ fn pull<D: Desk>(desk: &mut D, piece: &mut [u8], text: &mut Vec<u8>) -> Result<u
 
 /// Reads the input to its end, or to one byte past the limit.
 ///
-/// `Fault` comes only where the desk counted a fault of the input, `Long` exactly where a limit was given and more bytes
-/// than it were left.
+/// `Fault` comes only where the desk counted a fault of the input, and `Long` exactly where a limit
+/// was given and more bytes than it were left.
 pub fn read_all<D: Desk>(alloc: Global, desk: &mut D, limit: Option<usize>) -> Result<Text, ReadEnd>
     requires sound { (D.view desk.old).input.failed ≡ false }
 
     ensures text { IfOk result (λ text. ReadsAll limit text (D.view desk.old) (D.view desk.new)) }
-    ensures long { IsErrOf result ReadEnd.Long → IsSomeAnd limit (λ most. ReadsPast most (D.view desk.old) (D.view desk.new)) }
-    ensures fault { IsErrOf result ReadEnd.Fault → ReadsPart true (D.view desk.old) (D.view desk.new) × (D.faults desk.old < D.faults desk.new) }
-    ensures memory { IsErrOf result ReadEnd.Memory → ReadsPart false (D.view desk.old) (D.view desk.new) }
+    ensures long { IsErrOf result ReadEnd.Long
+        → IsSomeAnd limit (λ most. ReadsPast most (D.view desk.old) (D.view desk.new)) }
+    ensures fault { IsErrOf result ReadEnd.Fault
+        → ReadsPart true (D.view desk.old) (D.view desk.new) }
+    ensures memory { IsErrOf result ReadEnd.Memory
+        → ReadsPart false (D.view desk.old) (D.view desk.new) }
     ensures files { D.files desk.new ≡ D.files desk.old }
     ensures later { D.faults desk.old ≤ D.faults desk.new }
+    ensures cause { IsErrOf result ReadEnd.Fault → D.faults desk.old < D.faults desk.new }
 {
     let mut text = Vec::new(alloc);
     let mut piece = [0; PIECE];

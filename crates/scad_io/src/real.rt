@@ -9,7 +9,8 @@ use std::rt::Files;
 
 /// Real files, and the standard output as the report.
 ///
-/// It keeps which outputs were created and which objects have failed. It tells no contents, names or bytes.
+/// It keeps which outputs were created and which objects have failed. It tells no contents, names
+/// or bytes.
 #[derive(Drop)]
 pub struct RealDesk<'a, R: Files + Print> {
     rt: &'a R,

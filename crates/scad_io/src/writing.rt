@@ -6,7 +6,8 @@ use crate::{Desk, Failed, Out};
 
 /// Writes all of a piece, in as many writes as the desk wants. An empty piece makes no call.
 ///
-/// `Failed` comes only where the desk counted a fault; then a front of the piece went out, and not all of it.
+/// `Failed` comes only where the desk counted a fault. Then a front of the piece went out, and not
+/// all of it.
 pub fn write_all<D: Desk>(desk: &mut D, out: Out, bytes: &[u8]) -> Result<(), Failed>
     requires sound { (side out (D.view desk.old)).failed ≡ false }
     requires made { out ≢ Out.Report → (side out (D.view desk.old)).created ≡ true }

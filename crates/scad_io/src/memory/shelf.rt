@@ -20,7 +20,8 @@ fn find(files: &[(Text, Text)], name: &[u8]) -> Option<usize>
 /// Opens the first file of this name.
 #[tactic(auto, using(crate::proofs::Files::file_found, crate::proofs::Files::file_missing))]
 pub fn open(files: &[(Text, Text)], name: &[u8]) -> Option<Cursor>
-    ensures found { IfSome result (λ _. contents_of files.now name.now ≡ Some (rest_at files.now result)) }
+    ensures found { IfSome result (λ _.
+        contents_of files.now name.now ≡ Some (rest_at files.now result)) }
     ensures missing { IfNone result (contents_of files.now name.now ≡ None) }
 {
     let file = find(files, name)?;
@@ -39,8 +40,10 @@ fn text_of(files: &[(Text, Text)], file: usize) -> &[u8]
 /// Reads the next bytes, as many as fit.
 pub fn read(files: &[(Text, Text)], cursor: &mut Cursor, into: &mut [u8]) -> usize
     ensures count { result ≡ min (length into.old) (length (rest_at files.now (Some cursor.old))) }
-    ensures bytes { into.new ≡ take result (rest_at files.now (Some cursor.old)) ++ drop result into.old }
-    ensures rest { rest_at files.now (Some cursor.new) ≡ drop result (rest_at files.now (Some cursor.old)) }
+    ensures bytes { let rest = rest_at files.now (Some cursor.old) in
+        into.new ≡ take result rest ++ drop result into.old }
+    ensures rest { let rest = rest_at files.now (Some cursor.old) in
+        rest_at files.now (Some cursor.new) ≡ drop result rest }
 {
     let text = text_of(files, cursor.file);
     let rest = &text[cursor.at.min(text.len())..];

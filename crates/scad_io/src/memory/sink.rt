@@ -24,7 +24,12 @@ impl Model for Sink {
     ghost Value = { Output };
 
     ghost view = { λ s. record {
-      side = record { name = s.name; bytes = Some s.bytes.items; created = s.created; failed = s.failed };
+      side = record {
+        name = s.name;
+        bytes = Some s.bytes.items;
+        created = s.created;
+        failed = s.failed;
+      };
       room = s.room;
     } };
 
@@ -62,7 +67,11 @@ impl Sink {
     /// Creates the output by this name, where the call isn't to fail and the name fits its room.
     pub fn create(&mut self, due: bool, name: &str) -> Result<(), Failed>
         ensures answer { result ≡ fails_if (due || nat_lt NAME_ROOM (length name.now)) tt }
-        ensures side { self.new.side ≡ record self.old.side { name = told_name name.now; created = is_ok result; failed = is_err result } }
+        ensures side { self.new.side ≡ record self.old.side {
+          name = told_name name.now;
+          created = is_ok result;
+          failed = is_err result;
+        } }
         ensures room { self.new.room ≡ self.old.room }
     {
         self.name.keep(name);
@@ -71,12 +80,13 @@ impl Sink {
         if self.failed { Err(Failed) } else { Ok(()) }
     }
 
-    /// Takes as much of the piece as there is room for, where the call isn't to fail and there is any.
+    /// Takes as much of the piece as there is room for. It fails where there is none, or is to.
     pub fn write(&mut self, due: bool, piece: &[u8]) -> Result<usize, Failed>
         requires { 0 < length piece.now }
         ensures answer { let left = self.old.room - length (unwrap_or self.old.side.bytes []) in
             result ≡ fails_if (due || (left == 0)) (min (length piece.now) left) }
-        ensures side { self.new.side ≡ added (take (result_unwrap_or result 0) piece.now) (write_failed result) self.old.side }
+        ensures side { let front = take (result_unwrap_or result 0) piece.now in
+            self.new.side ≡ added front (write_failed result) self.old.side }
         ensures room { self.new.room ≡ self.old.room }
     {
         let left = self.room - self.bytes.len();

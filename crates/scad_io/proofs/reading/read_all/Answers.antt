@@ -1,4 +1,3 @@
-use Rattle.std.proofs.Common.{arith}
 use Rattle.std.proofs.lemmas.Result.{err_from_is_err_and}
 use Rattle.scad_io.proofs.Taken.{stops}
 use Rattle.scad_io.proofs.reading.read_all.Goals as goal
@@ -6,7 +5,7 @@ use Rattle.scad_io.proofs.reading.read_all.Goals as goal
 pub returns-in_err-n-clause-fault : goal.returns-in_err-n-clause-fault
 returns-in_err-n-clause-fault g c =
     let end = err_from_is_err_and c.from_residual.result c.from_residual.ensures.1 in
-    rw (end.1, end.2) (λ is. let part = c.in_err-n.ensures.fault (cc) in (stops c.pieces.invariant.0 part.0, omega (arith, part.1)))
+    rw (end.1, end.2) (λ is. stops c.pieces.invariant.0 (c.in_err-n.ensures.fault (cc)))
 
 pub returns-in_err-n-clause-memory : goal.returns-in_err-n-clause-memory
 returns-in_err-n-clause-memory g c =

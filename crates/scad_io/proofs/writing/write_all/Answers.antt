@@ -5,11 +5,14 @@ use Rattle.scad_io.proofs.writing.write_all.Goals as goal
 
 pub returns-in_err-n-clause-err : goal.returns-in_err-n-clause-err
 returns-in_err-n-clause-err g c =
-    let partly = stops_here c.pieces.invariant.0 (search rules) c.in_err-n.ensures.view in search rules
+    let more : 0 < length c.pieces.rest.now = search rules in
+    let partly = stops_here c.pieces.invariant.0 more c.in_err-n.ensures.view in
+    search rules
 
 pub returns-then-n-eq0-clause-err : goal.returns-then-n-eq0-clause-err
 returns-then-n-eq0-clause-err g c =
-    stops_at_zero c.in_ok-n.n c.pieces.invariant.0 (search rules) c.if-n-eq0.true c.in_ok-n.ensures.view
+    let more : 0 < length c.pieces.rest.now = search rules in
+    stops_at_zero c.in_ok-n.n c.pieces.invariant.0 more c.if-n-eq0.true c.in_ok-n.ensures.view
 
 pub pieces-preserved : goal.pieces-preserved
 pieces-preserved g c =
