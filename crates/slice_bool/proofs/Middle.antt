@@ -1,0 +1,215 @@
+-- A shape's values hard by a bundle at half height, on its left and on its right.
+use Rattle.std.proofs.Common.{◌≡◌, ◌≢◌, ℕ, zero, suc, ◌+◌, ◌<◌, ◌≤◌, ◌⊎◌, inl, inr, Bool, true, false, not, cond, List, [], ◌∷◌, ◌++◌, length, get_or, refl, sym, ap, ap₂, ◌∙◌, arith, subst}
+use mathlib.Core.Path.{fun_ext}
+use lib.IntN.{ℤ, pos, negsuc, ◌+ℤ◌, ◌-ℤ◌, ◌*ℤ◌, neg_ℤ, zero-*ℤ, +ℤ_idl}
+use lib.Signed.{◌<ℤ◌, ◌≤ℤ◌, lt_z, le_z}
+use Rattle.std.specs.Prelude.{int_lt, int_le, if◌then◌else◌, ◌==◌, ◌&&◌}
+use Rattle.std.specs.List.{AllByRecursion, All, concat}
+use Rattle.std.specs.List.Sorted.{IsPermutation}
+use Rattle.std.proofs.lemmas.Int.{ints, by_lt_z}
+use Rattle.std.proofs.lemmas.List.Elements.{recursion_from_All, All-from_recursion}
+use Rattle.std.proofs.lemmas.List.Sorted.{All-permutation}
+use Rattle.scad_geom.specs.declared.point.Edge.{Edge}
+use Rattle.scad_geom.specs.declared.level.Level.{Level}
+use Rattle.scad_geom.specs.declared.level.LeafEdge.{LeafEdge}
+use Rattle.scad_geom.specs.declared.shape.Shape.{Shape}
+use Rattle.scad_geom.specs.Line.{rise, x_at, left_of}
+use Rattle.scad_geom.specs.Around.{Point, is_beyond, wind_by}
+use Rattle.scad_geom.specs.Shape.{shape_holds, is_zero, is_in_by}
+use Rattle.scad_geom.specs.Heights.{IsLower, IsAtMost, AreNeighbours, IsBefore, AreAligned}
+use Rattle.slice_slab.specs.Bundles.{no_edge, edge_at, reaches, reaching, IsBundle, Precedes, AreRanked, AreBundles}
+use Rattle.scad_geom.proofs.Signs.{pos_mul, at_least_mul, pos_left, at_least_left}
+use Rattle.scad_geom.proofs.Lines.{left_of_by}
+use Rattle.scad_geom.proofs.Heights.{Reaches, lower_weak}
+use Rattle.scad_geom.proofs.Order.{before_between, aligned_all}
+use Rattle.scad_geom.proofs.Turns.{level_at, Spans, beyond_mul}
+use Rattle.slice_bool.proofs.Sums.{sum_z, sum_z-append, sum_z-permutation, sum_z-same, sum_z-zero}
+use Rattle.slice_bool.proofs.Reaching.{reaches_is, heading_for, lies_left, wind_reaching}
+use Rattle.scad_geom.specs.Line.{run, offset, left_of}
+use Rattle.scad_geom.proofs.Ring.{ring, Term, num, ◌⊕◌, ◌⊖◌, ◌⊗◌, v0, v1, v2, v3, v4, v5, v6, v7, v8, v9, v10, v11}
+use Rattle.scad_geom.proofs.Signs.{neg_mul_pos, at_most_mul}
+use Rattle.scad_geom.proofs.Order.{front, back, before_inside}
+use Rattle.slice_snap.specs.declared.piece.Spot.{Spot}
+use Rattle.slice_bool.specs.Pieces.{spot_on, point_of, middle}
+use Rattle.std.specs.Prelude.{unsigned_abs}
+use Rattle.slice_bool.proofs.Passing.{IsLive, live_bundles, passing, HeadPasses, Around, spans_from, spans_to}
+use Rattle.slice_bool.proofs.Values.{all_pass, value_of, is_in_passing}
+
+low_middle : (ln ld un ud : ℤ) → (ln *ℤ ud +ℤ un *ℤ ld) *ℤ ld -ℤ ln *ℤ (pos 2 *ℤ (ld *ℤ ud)) ≡ (un *ℤ ld -ℤ ln *ℤ ud) *ℤ ld
+low_middle ln ld un ud = ring (ln ∷ ld ∷ un ∷ ud ∷ []) ((v0 ⊗ v3 ⊕ v2 ⊗ v1) ⊗ v1 ⊖ v0 ⊗ (num (pos 2) ⊗ (v1 ⊗ v3))) ((v2 ⊗ v1 ⊖ v0 ⊗ v3) ⊗ v1) refl
+
+high_middle : (ln ld un ud : ℤ) → un *ℤ (pos 2 *ℤ (ld *ℤ ud)) -ℤ (ln *ℤ ud +ℤ un *ℤ ld) *ℤ ud ≡ (un *ℤ ld -ℤ ln *ℤ ud) *ℤ ud
+high_middle ln ld un ud = ring (ln ∷ ld ∷ un ∷ ud ∷ []) (v2 ⊗ (num (pos 2) ⊗ (v1 ⊗ v3)) ⊖ (v0 ⊗ v3 ⊕ v2 ⊗ v1) ⊗ v3) ((v2 ⊗ v1 ⊖ v0 ⊗ v3) ⊗ v3) refl
+
+scaled_lower : (pn pd n d r : ℤ) → n *ℤ r *ℤ pd -ℤ pn *ℤ (d *ℤ r) ≡ (n *ℤ pd -ℤ pn *ℤ d) *ℤ r
+scaled_lower pn pd n d r = ring (pn ∷ pd ∷ n ∷ d ∷ r ∷ []) (v2 ⊗ v4 ⊗ v1 ⊖ v0 ⊗ (v3 ⊗ v4)) ((v2 ⊗ v1 ⊖ v0 ⊗ v3) ⊗ v4) refl
+
+scaled_upper : (pn pd n d r : ℤ) → pn *ℤ (d *ℤ r) -ℤ n *ℤ r *ℤ pd ≡ (pn *ℤ d -ℤ n *ℤ pd) *ℤ r
+scaled_upper pn pd n d r = ring (pn ∷ pd ∷ n ∷ d ∷ r ∷ []) (v0 ⊗ (v3 ⊗ v4) ⊖ v2 ⊗ v4 ⊗ v1) ((v0 ⊗ v3 ⊖ v2 ⊗ v1) ⊗ v4) refl
+
+from_gap : (a b : ℤ) → pos 0 <ℤ (b -ℤ a) → a <ℤ b
+from_gap a b h = omega (arith, ints)
+
+gap_of : (a b : ℤ) → a <ℤ b → pos 0 <ℤ (b -ℤ a)
+gap_of a b h = omega (arith, ints)
+
+from_at_least : (a b : ℤ) → pos 0 ≤ℤ (b -ℤ a) → a ≤ℤ b
+from_at_least a b h = omega (arith, ints)
+
+at_least_of : (a b : ℤ) → a ≤ℤ b → pos 0 ≤ℤ (b -ℤ a)
+at_least_of a b h = omega (arith, ints)
+
+weak : (z : ℤ) → pos 0 <ℤ z → pos 0 ≤ℤ z
+weak z h = omega (arith, ints)
+
+-- the height of a spot's point is the spot's
+abbrev pub scaled : Level → ℤ → Level
+scaled h r = record { n = h.n *ℤ r; d = h.d *ℤ r }
+
+pub lower_scaled : (p h : Level) (r : ℤ) → pos 0 <ℤ r → IsLower p h → IsLower p (scaled h r)
+lower_scaled p h r pr o = let m = pos_mul (h.n *ℤ p.d -ℤ p.n *ℤ h.d) r (gap_of (p.n *ℤ h.d) (h.n *ℤ p.d) o) pr in from_gap (p.n *ℤ (h.d *ℤ r)) ((h.n *ℤ r) *ℤ p.d) (rw (scaled_lower p.n p.d h.n h.d r) m)
+
+pub at_most_scaled : (p h : Level) (r : ℤ) → pos 0 <ℤ r → IsAtMost p h → IsAtMost p (scaled h r)
+at_most_scaled p h r pr o = let m = at_least_mul (h.n *ℤ p.d -ℤ p.n *ℤ h.d) r (at_least_of (p.n *ℤ h.d) (h.n *ℤ p.d) o) (weak r pr) in from_at_least (p.n *ℤ (h.d *ℤ r)) ((h.n *ℤ r) *ℤ p.d) (rw (scaled_lower p.n p.d h.n h.d r) m)
+
+pub scaled_below : (p h : Level) (r : ℤ) → pos 0 <ℤ r → IsLower h p → IsLower (scaled h r) p
+scaled_below p h r pr o = let m = pos_mul (p.n *ℤ h.d -ℤ h.n *ℤ p.d) r (gap_of (h.n *ℤ p.d) (p.n *ℤ h.d) o) pr in from_gap ((h.n *ℤ r) *ℤ p.d) (p.n *ℤ (h.d *ℤ r)) (rw (scaled_upper p.n p.d h.n h.d r) m)
+
+pub scaled_at_most : (p h : Level) (r : ℤ) → pos 0 <ℤ r → IsAtMost h p → IsAtMost (scaled h r) p
+scaled_at_most p h r pr o = let m = at_least_mul (p.n *ℤ h.d -ℤ h.n *ℤ p.d) r (at_least_of (h.n *ℤ p.d) (p.n *ℤ h.d) o) (weak r pr) in from_at_least ((h.n *ℤ r) *ℤ p.d) (p.n *ℤ (h.d *ℤ r)) (rw (scaled_upper p.n p.d h.n h.d r) m)
+
+middle_positive : (l u : Level) → pos 0 <ℤ l.d → pos 0 <ℤ u.d → pos 0 <ℤ (middle l u).d
+middle_positive l u dl du = pos_mul (pos 2) (l.d *ℤ u.d) (omega (arith, ints)) (pos_mul l.d u.d dl du)
+
+above_low : (l u : Level) → pos 0 <ℤ l.d → IsLower l u → IsLower l (middle l u)
+above_low l u dl o = let m = pos_mul (u.n *ℤ l.d -ℤ l.n *ℤ u.d) l.d (gap_of (l.n *ℤ u.d) (u.n *ℤ l.d) o) dl in from_gap (l.n *ℤ (middle l u).d) ((middle l u).n *ℤ l.d) (rw (low_middle l.n l.d u.n u.d) m)
+
+below_high : (l u : Level) → pos 0 <ℤ u.d → IsLower l u → IsLower (middle l u) u
+below_high l u du o = let m = pos_mul (u.n *ℤ l.d -ℤ l.n *ℤ u.d) u.d (gap_of (l.n *ℤ u.d) (u.n *ℤ l.d) o) du in from_gap ((middle l u).n *ℤ u.d) (u.n *ℤ (middle l u).d) (rw (high_middle l.n l.d u.n u.d) m)
+
+-- the rise of an edge that rises is its size
+pub size_of : (z : ℤ) → pos 0 <ℤ z → pos (unsigned_abs z) ≡ z
+size_of (pos n) h = refl
+size_of (negsuc n) h = absurd (omega (arith, ints))
+
+-- the point of an edge at half height
+abbrev pub half_point : List LeafEdge → Level → Level → ℕ → Point
+half_point es l u k = point_of (spot_on (edge_at es k) (middle l u))
+
+on_line : (u c r n d : ℤ) → u *ℤ (n *ℤ r) +ℤ c *ℤ (d *ℤ r) -ℤ r *ℤ (u *ℤ n +ℤ c *ℤ d) ≡ pos 0
+on_line u c r n d = ring (u ∷ c ∷ r ∷ n ∷ d ∷ []) (v0 ⊗ (v3 ⊗ v2) ⊕ v1 ⊗ (v4 ⊗ v2) ⊖ v2 ⊗ (v0 ⊗ v3 ⊕ v1 ⊗ v4)) (num (pos 0)) refl
+
+-- a spot's point lies on the edge's line
+pub on_own : (e : Edge) (h : Level) (r : ℤ) → r ≡ rise e → left_of e (x_at e h.n h.d) (h.n *ℤ r) (h.d *ℤ r) ≡ pos 0
+unfolding left_of x_at
+on_own e h r q = rw q (on_line (run e) (offset e) (rise e) h.n h.d)
+
+pub below_zero : (a r : ℤ) → pos 0 <ℤ r → (a *ℤ r) <ℤ pos 0 → a <ℤ pos 0
+below_zero a r p h = by_lt_z a (pos 0) (λ q. q) (λ q. let m = at_least_mul a r q (weak r p) in absurd (omega (arith, ints)))
+
+module _ (es : List LeafEdge) (l u : Level) (n : AreNeighbours es l u) (k : ℕ) (lk : IsLive es l u k) where
+  half_lower : IsLower l (level_at (half_point es l u k))
+  half_lower = lower_scaled l (middle l u) (pos (unsigned_abs (rise (edge_at es k)))) (subst (λ (z : ℤ). pos 0 <ℤ z) (sym (size_of (rise (edge_at es k)) lk.reaches.rises)) lk.reaches.rises) (above_low l u n.lower_divisor n.in_order)
+
+  half_upper : IsLower (level_at (half_point es l u k)) u
+  half_upper = scaled_below u (middle l u) (pos (unsigned_abs (rise (edge_at es k)))) (subst (λ (z : ℤ). pos 0 <ℤ z) (sym (size_of (rise (edge_at es k)) lk.reaches.rises)) lk.reaches.rises) (below_high l u n.upper_divisor n.in_order)
+
+  half_divisor : pos 0 <ℤ (half_point es l u k).d
+  half_divisor = pos_mul (middle l u).d (pos (unsigned_abs (rise (edge_at es k)))) (middle_positive l u n.lower_divisor n.upper_divisor) (subst (λ (z : ℤ). pos 0 <ℤ z) (sym (size_of (rise (edge_at es k)) lk.reaches.rises)) lk.reaches.rises)
+
+  pub half_around : (right : Bool) → Around es true right (half_point es l u k) l u
+  half_around right = record { neighbours = n; divisor = half_divisor; spans = (lower_weak l (level_at (half_point es l u k)) half_lower, half_upper) }
+
+  half_on : left_of (edge_at es k) (half_point es l u k).x (half_point es l u k).y (half_point es l u k).d ≡ pos 0
+  half_on = on_own (edge_at es k) (middle l u) (pos (unsigned_abs (rise (edge_at es k)))) (size_of (rise (edge_at es k)) lk.reaches.rises)
+
+  -- an edge before it lies to the left, one after it to the right
+  left_before : (j : ℕ) → IsLive es l u j → IsBefore l (edge_at es j) (edge_at es k) → left_of (edge_at es j) (half_point es l u k).x (half_point es l u k).y (half_point es l u k).d <ℤ pos 0
+  left_before j lj o =
+      let g = before_inside es l u n j k no_edge lj.there lk.there lj.reaches lk.reaches o (level_at (half_point es l u k)) half_divisor half_lower half_upper in
+      let t = left_of_by (edge_at es k) (edge_at es j) (half_point es l u k).x (half_point es l u k).y (half_point es l u k).d in
+      let z = half_on in
+      below_from _ (rise (edge_at es k)) _ (rise (edge_at es j)) _ _ lk.reaches.rises t z g
+    where
+      below_from : (a r b s x y : ℤ) → pos 0 <ℤ r → a *ℤ r ≡ b *ℤ s -ℤ (x -ℤ y) → b ≡ pos 0 → y <ℤ x → a <ℤ pos 0
+      below_from a r b s x y pr e z g =
+          let w : b *ℤ s ≡ pos 0 = rw z (zero-*ℤ s) in
+          let m : (a *ℤ r) <ℤ pos 0 = omega (arith, ints) in
+          below_zero a r pr m
+
+  right_after : (j : ℕ) → IsLive es l u j → IsBefore l (edge_at es k) (edge_at es j) → pos 0 <ℤ left_of (edge_at es j) (half_point es l u k).x (half_point es l u k).y (half_point es l u k).d
+  right_after j lj o =
+      let g = before_inside es l u n k j no_edge lk.there lj.there lk.reaches lj.reaches o (level_at (half_point es l u k)) half_divisor half_lower half_upper in
+      let t = left_of_by (edge_at es k) (edge_at es j) (half_point es l u k).x (half_point es l u k).y (half_point es l u k).d in
+      let z = half_on in
+      above_from _ (rise (edge_at es k)) _ (rise (edge_at es j)) _ _ lk.reaches.rises t z g
+    where
+      above_from : (a r b s x y : ℤ) → pos 0 <ℤ r → a *ℤ r ≡ b *ℤ s -ℤ (x -ℤ y) → b ≡ pos 0 → x <ℤ y → pos 0 <ℤ a
+      above_from a r b s x y pr e z g =
+          let w : b *ℤ s ≡ pos 0 = rw z (zero-*ℤ s) in
+          pos_left a r pr (omega (arith, ints))
+
+  is_false_at : (right : Bool) (z : ℤ) → z <ℤ pos 0 → is_beyond right z ≡ false
+  unfolding is_beyond
+  is_false_at true z h = sym (omega (arith, ints))
+  is_false_at false z h = sym (omega (arith, ints))
+
+  is_true_at : (right : Bool) (z : ℤ) → pos 0 <ℤ z → is_beyond right z ≡ true
+  unfolding is_beyond
+  is_true_at true z h = sym (omega (arith, ints))
+  is_true_at false z h = sym (omega (arith, ints))
+
+  itself : (right : Bool) (z : ℤ) → z ≡ pos 0 → is_beyond right z ≡ not right
+  unfolding is_beyond
+  itself true z h = rw h refl
+  itself false z h = rw h refl
+
+  -- the bundles before it don't lie to the right of its point
+  skipped : (right : Bool) (ks : List ℕ) (before rest : List (List ℕ)) → AreRanked es l (before ++ ((k ∷ ks) ∷ rest)) → AllByRecursion (IsLive es l u) (concat (before ++ ((k ∷ ks) ∷ rest)))
+      → passing es right (half_point es l u k) (before ++ ((k ∷ ks) ∷ rest)) ≡ passing es right (half_point es l u k) ((k ∷ ks) ∷ rest)
+  skipped right ks [] rest r ls = refl
+  skipped right ks ([] ∷ before) rest r ls = absurd r.0
+  skipped right ks ((j ∷ js) ∷ before) rest r ls =
+      let o : IsBefore l (edge_at es j) (edge_at es k) = (back (Precedes es l (j ∷ js)) before ((k ∷ ks) ∷ rest) r.1).0 in
+      let f : lies_left es right (half_point es l u k) j ≡ false = is_false_at right (left_of (edge_at es j) (half_point es l u k).x (half_point es l u k).y (half_point es l u k).d) (left_before j ls.0 o) in
+      rw f (skipped right ks before rest r.2 (back (IsLive es l u) (j ∷ js) (concat (before ++ ((k ∷ ks) ∷ rest))) ls))
+
+  -- those after it do
+  after_pass : (right : Bool) (ks : List ℕ) (rest : List (List ℕ)) → AllByRecursion (Precedes es l (k ∷ ks)) rest → AllByRecursion (IsLive es l u) (concat rest) → passing es right (half_point es l u k) rest ≡ rest
+  after_pass right ks [] r ls = refl
+  after_pass right ks ([] ∷ rest) r ls = absurd r.0
+  after_pass right ks ((j ∷ js) ∷ rest) r ls =
+      let t : lies_left es right (half_point es l u k) j ≡ true = is_true_at right (left_of (edge_at es j) (half_point es l u k).x (half_point es l u k).y (half_point es l u k).d) (right_after j ls.0 r.0) in
+      rw t refl
+
+  from_here : (ks : List ℕ) (before rest : List (List ℕ)) → AreRanked es l (before ++ ((k ∷ ks) ∷ rest)) → AreRanked es l ((k ∷ ks) ∷ rest)
+  from_here ks [] rest r = r
+  from_here ks (b ∷ before) rest r = from_here ks before rest r.2
+
+  live_here : (ks : List ℕ) (before rest : List (List ℕ)) → AllByRecursion (IsLive es l u) (concat (before ++ ((k ∷ ks) ∷ rest))) → AllByRecursion (IsLive es l u) (concat ((k ∷ ks) ∷ rest))
+  live_here ks [] rest ls = ls
+  live_here ks (b ∷ before) rest ls = live_here ks before rest (back (IsLive es l u) b (concat (before ++ ((k ∷ ks) ∷ rest))) ls)
+
+  passing_right : (ks : List ℕ) (before rest : List (List ℕ)) → AreRanked es l (before ++ ((k ∷ ks) ∷ rest)) → AllByRecursion (IsLive es l u) (concat (before ++ ((k ∷ ks) ∷ rest)))
+      → passing es true (half_point es l u k) (before ++ ((k ∷ ks) ∷ rest)) ≡ rest
+  passing_right ks before rest r ls =
+      let f : lies_left es true (half_point es l u k) k ≡ false = itself true (left_of (edge_at es k) (half_point es l u k).x (half_point es l u k).y (half_point es l u k).d) half_on in
+      skipped true ks before rest r ls ∙ rw f (after_pass true ks rest (from_here ks before rest r).1 (back (IsLive es l u) (k ∷ ks) (concat rest) (live_here ks before rest ls)))
+
+  passing_left : (ks : List ℕ) (before rest : List (List ℕ)) → AreRanked es l (before ++ ((k ∷ ks) ∷ rest)) → AllByRecursion (IsLive es l u) (concat (before ++ ((k ∷ ks) ∷ rest)))
+      → passing es false (half_point es l u k) (before ++ ((k ∷ ks) ∷ rest)) ≡ (k ∷ ks) ∷ rest
+  passing_left ks before rest r ls =
+      let t : lies_left es false (half_point es l u k) k ≡ true = itself false (left_of (edge_at es k) (half_point es l u k).x (half_point es l u k).y (half_point es l u k).d) half_on in
+      skipped false ks before rest r ls ∙ rw t refl
+
+  pub value_right : (shape : Shape) (ks : List ℕ) (before rest : List (List ℕ)) → AreBundles es l u (before ++ ((k ∷ ks) ∷ rest))
+      → is_in_by true true es shape (half_point es l u k) ≡ value_of es shape rest
+  value_right shape ks before rest b =
+      is_in_passing es shape true true (half_point es l u k) l u (half_around true) (before ++ ((k ∷ ks) ∷ rest)) b
+      ∙ ap (value_of es shape) (passing_right ks before rest b.ranked (live_bundles es l u (before ++ ((k ∷ ks) ∷ rest)) b))
+
+  pub value_left : (shape : Shape) (ks : List ℕ) (before rest : List (List ℕ)) → AreBundles es l u (before ++ ((k ∷ ks) ∷ rest))
+      → is_in_by true false es shape (half_point es l u k) ≡ value_of es shape ((k ∷ ks) ∷ rest)
+  value_left shape ks before rest b =
+      is_in_passing es shape true false (half_point es l u k) l u (half_around false) (before ++ ((k ∷ ks) ∷ rest)) b
+      ∙ ap (value_of es shape) (passing_left ks before rest b.ranked (live_bundles es l u (before ++ ((k ∷ ks) ∷ rest)) b))

@@ -1,0 +1,104 @@
+-- Between two neighbouring heights: the bundles that lie to the right of a point are the last ones, and a leaf's winding
+-- number round the point is the sum of the headings of its edges in them.
+use Rattle.std.proofs.Common.{◌≡◌, ◌≢◌, ℕ, zero, suc, ◌+◌, ◌<◌, ◌≤◌, ◌⊎◌, inl, inr, Bool, true, false, not, cond, List, [], ◌∷◌, ◌++◌, length, get_or, refl, sym, ap, ap₂, ◌∙◌, arith, subst}
+use mathlib.Core.Path.{fun_ext}
+use lib.IntN.{ℤ, pos, negsuc, ◌+ℤ◌, ◌-ℤ◌, ◌*ℤ◌, neg_ℤ, zero-*ℤ, +ℤ_idl}
+use lib.Signed.{◌<ℤ◌, ◌≤ℤ◌, lt_z, le_z}
+use Rattle.std.specs.Prelude.{int_lt, int_le, if◌then◌else◌, ◌==◌, ◌&&◌}
+use Rattle.std.specs.List.{AllByRecursion, All, concat}
+use Rattle.std.specs.List.Sorted.{IsPermutation}
+use Rattle.std.proofs.lemmas.Int.{ints, by_lt_z}
+use Rattle.std.proofs.lemmas.List.Elements.{recursion_from_All, All-from_recursion}
+use Rattle.std.proofs.lemmas.List.Sorted.{All-permutation}
+use Rattle.scad_geom.specs.declared.point.Edge.{Edge}
+use Rattle.scad_geom.specs.declared.level.Level.{Level}
+use Rattle.scad_geom.specs.declared.level.LeafEdge.{LeafEdge}
+use Rattle.scad_geom.specs.declared.shape.Shape.{Shape}
+use Rattle.scad_geom.specs.Line.{rise, x_at, left_of}
+use Rattle.scad_geom.specs.Around.{Point, is_beyond, wind_by}
+use Rattle.scad_geom.specs.Shape.{shape_holds, is_zero, is_in_by}
+use Rattle.scad_geom.specs.Heights.{IsLower, IsAtMost, AreNeighbours, IsBefore, AreAligned}
+use Rattle.slice_slab.specs.Bundles.{no_edge, edge_at, reaches, reaching, IsBundle, Precedes, AreRanked, AreBundles}
+use Rattle.scad_geom.proofs.Signs.{pos_mul, at_least_mul, pos_left, at_least_left}
+use Rattle.scad_geom.proofs.Lines.{left_of_by}
+use Rattle.scad_geom.proofs.Heights.{Reaches, lower_weak}
+use Rattle.scad_geom.proofs.Order.{before_between, aligned_all}
+use Rattle.scad_geom.proofs.Turns.{level_at, Spans, beyond_mul}
+use Rattle.slice_bool.proofs.Sums.{sum_z, sum_z-append, sum_z-permutation, sum_z-same, sum_z-zero}
+use Rattle.slice_bool.proofs.Reaching.{reaches_is, heading_for, lies_left, wind_reaching}
+
+-- an edge's number, where the edge reaches the two heights
+pub record IsLive (es : List LeafEdge) (l u : Level) (k : ℕ) : Type 0 where
+  pub there : k < length es
+  pub reaches : Reaches (edge_at es k) l u
+
+live_from : (es all : List LeafEdge) (l u : Level) (k : ℕ) → ((i : ℕ) → i < length es → (k + i < length all) × (get_or all (k + i) no_edge ≡ get_or es i no_edge)) → AllByRecursion (IsLive all l u) (reaching k es l u)
+live_from [] all l u k h = tt
+live_from (e ∷ es) all l u k h =
+    let r : AllByRecursion (IsLive all l u) (reaching (k + 1) es l u) = live_from es all l u (k + 1)
+    (λ i o. let t = h (suc i) (omega arith) in let e : k + suc i ≡ k + 1 + i = omega arith in rw e at t) in
+    by_test (reaches e.edge l u) refl r
+  where
+    by_test : (t : Bool) → reaches e.edge l u ≡ t → AllByRecursion (IsLive all l u) (reaching (k + 1) es l u)
+        → AllByRecursion (IsLive all l u) (if t then k ∷ reaching (k + 1) es l u else reaching (k + 1) es l u)
+    by_test true q r =
+        let t = h zero (omega arith) in
+        let z : k + zero ≡ k = omega arith in
+        let t' = rw z at t in
+        (record { there = t'.0; reaches = subst (λ (e : LeafEdge). Reaches e.edge l u) (sym t'.1) (reaches_is e.edge l u q) }, r)
+    by_test false q r = r
+
+pub live_reaching : (es : List LeafEdge) (l u : Level) → AllByRecursion (IsLive es l u) (reaching 0 es l u)
+live_reaching es l u = live_from es es l u 0 (λ i o. let z : 0 + i ≡ i = omega arith in rw z (o, refl))
+
+pub live_bundles : (es : List LeafEdge) (l u : Level) (bs : List (List ℕ)) → AreBundles es l u bs → AllByRecursion (IsLive es l u) (concat bs)
+live_bundles es l u bs b =
+    let P : ℕ → Type 0 = IsLive es l u in
+    recursion_from_All P (concat bs) (All-permutation P (reaching 0 es l u) (concat bs) b.members (All-from_recursion P (reaching 0 es l u) (live_reaching es l u)))
+
+-- ---- edges of one bundle lie on one side of a point; a later one lies to the right where an earlier one does
+pub same_side : (l : Level) → pos 0 <ℤ l.d → (right : Bool) (p : Point) (e f : Edge) → pos 0 <ℤ rise e → pos 0 <ℤ rise f → AreAligned l e f
+    → is_beyond right (left_of f p.x p.y p.d) ≡ is_beyond right (left_of e p.x p.y p.d)
+same_side l dl right p e f re rf a =
+    let g = aligned_all l dl e f a p.y p.d in
+    let t = left_of_by e f p.x p.y p.d in
+    let s : left_of f p.x p.y p.d *ℤ rise e ≡ left_of e p.x p.y p.d *ℤ rise f = t ∙ omega (arith, ints) in
+    sym (beyond_mul right (rise e) (left_of f p.x p.y p.d) re) ∙ ap (is_beyond right) s ∙ beyond_mul right (rise f) (left_of e p.x p.y p.d) rf
+
+beyond_more : (right : Bool) (y z : ℤ) → y ≤ℤ z → is_beyond right y ≡ true → is_beyond right z ≡ true
+unfolding is_beyond
+beyond_more true y z h k = sym (omega (arith, ints))
+beyond_more false y z h k = sym (omega (arith, ints))
+
+pub later_side : (right : Bool) (p : Point) (e f : Edge) → pos 0 <ℤ rise e → pos 0 <ℤ rise f
+    → (x_at e p.y p.d *ℤ rise f) ≤ℤ (x_at f p.y p.d *ℤ rise e) → is_beyond right (left_of e p.x p.y p.d) ≡ true → is_beyond right (left_of f p.x p.y p.d) ≡ true
+later_side right p e f re rf g h =
+    let t = left_of_by e f p.x p.y p.d in
+    let s : (left_of e p.x p.y p.d *ℤ rise f) ≤ℤ (left_of f p.x p.y p.d *ℤ rise e) = omega (arith, ints) in
+    sym (beyond_mul right (rise e) (left_of f p.x p.y p.d) re)
+    ∙ beyond_more right (left_of e p.x p.y p.d *ℤ rise f) (left_of f p.x p.y p.d *ℤ rise e) s (beyond_mul right (rise f) (left_of e p.x p.y p.d) rf ∙ h)
+
+-- ---- lists of bundles
+-- the first of a bundle that lies to the right of a point, and those after it
+abbrev pub passing : List LeafEdge → Bool → Point → List (List ℕ) → List (List ℕ)
+passing es right p [] = []
+passing es right p ([] ∷ bs) = passing es right p bs
+passing es right p ((k ∷ ks) ∷ bs) = if lies_left es right p k then (k ∷ ks) ∷ bs else passing es right p bs
+
+abbrev pub HeadPasses : List LeafEdge → Bool → Point → List ℕ → Type 0
+HeadPasses es right p [] = ⊥
+HeadPasses es right p (k ∷ ks) = lies_left es right p k ≡ true
+
+-- what a slab's bundles are for a point that lies between its heights
+pub record Around (es : List LeafEdge) (above right : Bool) (p : Point) (l u : Level) : Type 0 where
+  pub neighbours : AreNeighbours es l u
+  pub divisor : pos 0 <ℤ p.d
+  pub spans : Spans above (level_at p) l u
+
+pub spans_from : (above : Bool) (y l u : Level) → Spans above y l u → IsAtMost l y
+spans_from true y l u s = s.0
+spans_from false y l u s = let t = s.0 in omega (arith, ints)
+
+pub spans_to : (above : Bool) (y l u : Level) → Spans above y l u → IsAtMost y u
+spans_to true y l u s = let t = s.1 in omega (arith, ints)
+spans_to false y l u s = s.1

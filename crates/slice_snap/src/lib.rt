@@ -1,0 +1,8 @@
+//! Pieces of the border of a shape, with exact ends.
+//!
+//! The types state how an end is written: a height, and an x over the height's divisor and a rise.
+#![tactic(auto)]
+
+mod piece;
+
+pub use piece::{Piece, Spot};
