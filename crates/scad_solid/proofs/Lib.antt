@@ -5,3 +5,6 @@ pub mod Faces
 pub mod Heights
 pub mod InRange
 pub mod Flow
+pub mod Parts
+pub mod Prism
+pub mod Rectangle
