@@ -6,6 +6,8 @@
 use Rattle.std.specs.Prelude.{◌≡◌, ℕ, zero, suc, ℤ, Bool, true, false, List, [], ◌∷◌, Option, Some, None, if◌then◌else◌}
 use Rattle.scad_fault.specs.declared.place.Place.{Place}
 use Rattle.scad_lex.specs.declared.token.Token.{Token}
+use Rattle.scad_lex.specs.declared.token.TokenKind.{TokenKind}
+use Rattle.scad_lex.specs.declared.token.TokenKind.TheVariants.{Sign}
 use Rattle.scad_lex.specs.declared.token.Sign.TheVariants.{OpenRound, CloseRound, OpenSquare, CloseSquare, Semicolon, Comma, Colon, Question, Assign, Plus, Minus, Caret, Bang, Dot}
 use Rattle.scad_lex.specs.declared.token.Key.TheVariants.{If, Else as KeyElse, For, Let, Assert, Echo, Each, True, False, Undef}
 use Rattle.scad_ast.specs.declared.operator.UnOp.TheVariants.{Not, Plus as UnaryPlus, Minus as UnaryMinus}
@@ -15,8 +17,13 @@ use Rattle.scad_parse.specs.Tokens.{sign, key, word, numeral, quoted, is_sign, w
 use Rattle.scad_parse.specs.Lists.{with_argument, with_element, with_parameter}
 
 -- `)` or `;`, which ends arguments
+abbrev pub ends_arguments_kind : TokenKind → Bool
+ends_arguments_kind (Sign CloseRound) = true
+ends_arguments_kind (Sign Semicolon) = true
+ends_arguments_kind _ = false
+
 abbrev pub ends_arguments : Token → Bool
-ends_arguments t = if is_sign CloseRound t then true else is_sign Semicolon t
+ends_arguments t = ends_arguments_kind t.kind
 
 abbrev pub at_end_of_arguments : List Token → Bool
 at_end_of_arguments [] = false
