@@ -1,3 +1,5 @@
+mod Expressions
 mod Openings
 mod Rows
 mod Runs
+mod Statements
