@@ -1,5 +1,9 @@
+mod Asked
 mod Expressions
+mod Goes
 mod Openings
 mod Rows
 mod Runs
 mod Statements
+mod Tests
+pub mod Unique

@@ -3,6 +3,7 @@ pub mod Grammar
 pub mod Lists
 pub mod Machine
 pub mod Move
+pub mod Promises
 pub mod State
 pub mod StatementSteps
 pub mod Statements
