@@ -1,4 +1,5 @@
 mod Asked
+mod Ends
 mod Expressions
 mod Goes
 mod Openings
