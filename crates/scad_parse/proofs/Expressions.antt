@@ -32,7 +32,7 @@ more_elements (comma_elem {p = p} {ts = ts} d) so_far el h at k =
     ap (λ x. run (after_one at x k) (sign Comma p ∷ ts)) (sym h)
 
 -- a `let` whose body is a comprehension is an element
-comp_let : {ts us : List Token} {el : Element} → Comp ts us el → (at : Place) (all : Arguments) → let_of at all el ≡ let_element at all el
+pub comp_let : {ts us : List Token} {el : Element} → Comp ts us el → (at : Place) (all : Arguments) → let_of at all el ≡ let_element at all el
 comp_let (a_for d b) at all = refl
 comp_let (a_loop d e s b) at all = refl
 comp_let (an_each d) at all = refl

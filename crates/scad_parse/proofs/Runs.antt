@@ -21,12 +21,12 @@ use Rattle.scad_parse.specs.Steps.{link_step, name_step, word_argument, post_ste
 use Rattle.scad_parse.specs.Machine.{step, finish, run}
 
 -- what a run gives behind a move
-abbrev follow : Move → List Token → Option Items
+abbrev pub follow : Move → List Token → Option Items
 follow (go next) ts = run next ts
 follow (left_out w) ts = None
 follow stuck ts = None
 
-by_move : (s : State) (t : Token) (ts : List Token) → run s (t ∷ ts) ≡ follow (step s t) ts
+pub by_move : (s : State) (t : Token) (ts : List Token) → run s (t ∷ ts) ≡ follow (step s t) ts
 unfolding run
 by_move s t ts = go_by (step s t)
   where
