@@ -2,8 +2,10 @@ mod Asked
 mod Backward
 mod Ends
 mod Expressions
+mod Faults
 mod Goes
 mod Openings
+mod Prefix
 mod Rows
 mod Runs
 mod Sound
@@ -11,3 +13,4 @@ mod Starts
 mod Statements
 mod Tests
 pub mod Unique
+mod Viable

@@ -148,7 +148,7 @@ finishes a (held_child at m e outer k) p h =
 finishes a (other_child at m e held outer k) p h =
     goes_other (finishes (with_statement m outer (choice at m.percent m.hash e held a)) k p h)
 
-sound_finish : (s : State) (p : Items) → finish s ≡ Some p → Goes s [] p
+pub sound_finish : (s : State) (p : Items) → finish s ≡ Some p → Goes s [] p
 unfolding finish
 sound_finish (have_items a k) p h = has_items (finishes a k p h)
 sound_finish _ p h = absurd (none_is_no_some h)
@@ -164,7 +164,7 @@ unfolding run
 sound_run [] s p h = sound_finish s p h
 sound_run (t ∷ ts) s p h = sound s t ts p (sound_follow (step s t) ts p (sound_run ts) (sym (by_move s t ts) ∙ h))
 
-into_program : {ts : List Token} {p : Items} → Goes start ts p → Derives ts p
+pub into_program : {ts : List Token} {p : Items} → Goes start ts p → Derives ts p
 into_program (has_items (goes_program s)) = program s
 
 -- what the reader accepts is derived

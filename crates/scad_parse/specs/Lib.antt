@@ -1,5 +1,6 @@
 pub mod Behind
 pub mod Grammar
+pub mod Judged
 pub mod Lists
 pub mod Machine
 pub mod Move
