@@ -289,5 +289,5 @@ by_operand e (first_of n k) t ts p m =
     into_first (by_links n 0 e k t ts p (after_operand e k t) (by_operand e k t ts p) (operator n t) refl m)
 by_operand e (right_of n count a op at k) t ts p m =
     into_right (by_links n count (binary at op a e) k t ts p (after_operand (binary at op a e) k t)
-        (by_operand (binary at op a e) k t ts p) (operator n t) refl m)
+    (by_operand (binary at op a e) k t ts p) (operator n t) refl m)
 by_operand e (tested k) t ts p m = by_tested e k t ts p m

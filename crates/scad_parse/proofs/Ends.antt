@@ -174,7 +174,7 @@ by_items a (child_of at n w all outer k) t ts p m =
 by_items a (held_child at n e outer k) t ts p m =
     by_key Else t _ _ ts p (λ (u : Token). ItemsGoes a (held_child at n e outer k) (u ∷ ts) p) from_else
     (λ h x. goes_held (no_otherwise h)
-        (by_items (with_statement n outer (choice at n.percent n.hash e a no_items)) k t ts p x)) m
+    (by_items (with_statement n outer (choice at n.percent n.hash e a no_items)) k t ts p x)) m
 by_items a (other_child at n e held outer k) t ts p m =
     goes_other (by_items (with_statement n outer (choice at n.percent n.hash e held a)) k t ts p m)
 

@@ -52,6 +52,7 @@ settle_item e k ts = settle (have_expression e (plain_item k)) (have_element (it
 
 mutual
   unfolding run step finish prim_step unary_step expression_step element_step end_arguments after_argument_step arguments_step after_one_step member_step after_element after_expression tested_step after_operand post_step name_step word_argument
+
   pub runs_expr : {ts us : List Token} {e : Expression} → Expr ts us e → (k : BehindExpression) →
       run (want_expression k) ts ≡ run (have_expression e k) us
   runs_expr (let_expr {at = at} {vs = vs} {all = all} {e = e} d b) k =

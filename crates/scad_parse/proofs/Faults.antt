@@ -71,8 +71,9 @@ not_left before t s m h e quiet w l = false≢true (sym quiet ∙ (ap leaves (sy
 may_stand : (before : List Token) (t : Token) (s next : State) → reach start before ≡ Some s → step s t ≡ go next → MayStand before t
 unfolding leaves
 may_stand before t s next h e = record {
-    begins = reached_begins (before ++ (t ∷ [])) next (goes_next before t s next h e);
-    not_left_out = not_left before t s (go next) h e refl }
+  begins = reached_begins (before ++ (t ∷ [])) next (goes_next before t s next h e);
+  not_left_out = not_left before t s (go next) h e refl;
+}
 
 -- what the answer is behind one judged token
 outcome_by : Result State Refusal → List Token → Place → Result Items Refusal

@@ -188,4 +188,3 @@ row_33 = refl
 row_34 : outcome_of (word (codes "x") (at 1 1) ∷ sign Signs.Assign (at 1 2) ∷ sign Signs.OpenRound (at 1 3) ∷ numeral (pos 1000000) (at 1 4) ∷ sign Signs.Semicolon (at 1 5) ∷ []) (at 1 6) ≡ Err (syntax_at (at 1 5))
 unfolding outcome step finish judge_move judge_end prim_step unary_step expression_step element_step end_arguments after_argument_step arguments_step end_parameters after_parameter_step after_one_step member_step after_element after_expression tested_step after_operand post_step name_step word_argument marked_step first_step definition_step statement_step word_statement child_step after_items finish_items parameters_step
 row_34 = refl
-

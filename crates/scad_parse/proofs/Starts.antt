@@ -225,7 +225,7 @@ unfolding word_argument
 by_word_argument at w a k t ts p =
     by_sign Assign t _ _ ts p (λ (u : Token). Goes (have_word at w a k) (u ∷ ts) p) from_assign
     (λ h m. has_word (into_unnamed h (into_expression (opened_from 6 (tested (argument_of None a k))
-        (from_name (by_name at w (opened 6 (tested (argument_of None a k))) t ts p m))))))
+    (from_name (by_name at w (opened 6 (tested (argument_of None a k))) t ts p m))))))
 
 from_word : {at : Place} {w : List ℕ} {a : Arguments} {k : BehindArguments} {ts : List Token} {p : Items} →
     Goes (have_word at w a k) ts p → Goes (in_arguments a k) (word w at ∷ ts) p

@@ -28,6 +28,7 @@ runs_default (default {e = e} {us = us} d) w all k =
 
 mutual
   unfolding run step finish after_parameter_step parameters_step
+
   runs_params : {a all : List Parameter} {ts us : List Token} → Params a ts us all → (k : BehindParameters) →
       run (in_parameters a k) ts ≡ run (have_parameters all k) us
   runs_params no_params k = refl
@@ -119,6 +120,7 @@ runs_no_otherwise at m e a outer k (t ∷ ts) h =
 
 mutual
   unfolding run step finish end_arguments after_expression end_parameters marked_step first_step definition_step statement_step word_statement child_step after_items finish_items
+
   pub runs_statement : {d : Bool} {a all : Items} {ts us : List Token} → Statement d a ts us all → (k : BehindItems) →
       run (want_statement d a k) ts ≡ run (have_items all k) us
   runs_statement nothing k = refl
@@ -148,7 +150,7 @@ mutual
       ∙ (runs_args d (of_statement t.at m w a k)
       ∙ (runs_child c (child_of t.at m w all a k)
       ∙ settle (have_items cs (child_of t.at m w all a k))
-        (have_items (with_statement m a (call_of t.at m.percent m.hash w all cs)) k) (λ t. refl) refl vs))
+      (have_items (with_statement m a (call_of t.at m.percent m.hash w all cs)) k) (λ t. refl) refl vs))
   runs_inst (a_choice {m = m} {a = a} {held = held} {at = at} {e = e} d c o) k =
       runs_expr d (statement_test at m a k)
       ∙ (runs_child c (held_child at m e a k) ∙ runs_otherwise o at m e held a k)
@@ -161,7 +163,7 @@ mutual
   runs_otherwise (otherwise {other = other} {us = us} c) at m e held outer k =
       runs_child c (other_child at m e held outer k)
       ∙ settle (have_items other (other_child at m e held outer k))
-        (have_items (with_statement m outer (choice at m.percent m.hash e held other)) k) (λ t. refl) refl us
+      (have_items (with_statement m outer (choice at m.percent m.hash e held other)) k) (λ t. refl) refl us
 
   pub runs_child : {all : Items} {ts us : List Token} → Child ts us all → (k : BehindItems) →
       run (want_child k) ts ≡ run (have_items all k) us

@@ -2,7 +2,8 @@
 -- also has its members so far. Each alternative of the grammar is a constructor.
 --
 -- A chain of operands, a name, an optional part and an unnamed argument are as long as they can be: where they
--- end, no token follows that goes on with them. No derivation of a whole program is excluded by that.
+-- end, no token follows that goes on with them. That excludes no program: the grammar without it stands in Plain, and
+-- the law `ends_exclude_nothing` says that both derive the same.
 use Rattle.std.specs.Prelude.{◌≡◌, ℕ, zero, suc, ℤ, Bool, true, false, List, [], ◌∷◌, Option, Some, None, if◌then◌else◌}
 use Rattle.scad_fault.specs.declared.place.Place.{Place}
 use Rattle.scad_lex.specs.declared.token.Token.{Token}
@@ -89,6 +90,7 @@ mutual
 
   -- ("[" expr "]" | "." WORD)* behind an operand
   pub data Posts : Expression → List Token → List Token → Expression → Type 0 where
+    -- `^` stands here since it is left out wherever an operand has ended: no program has it
     no_post : {a : Expression} {ts : List Token} →
         begins_with OpenSquare ts ≡ false → begins_with Dot ts ≡ false → begins_with Caret ts ≡ false →
         Posts a ts ts a

@@ -63,7 +63,7 @@ mutual
     a_choice : {m : Marks} {a held other : Items} {at p q : Place} {e : Expression} {ts us vs ws : List Token} →
         Expr ts (sign CloseRound q ∷ us) e → Child us vs held → Otherwise vs ws other →
         Inst m a (key If at ∷ sign OpenRound p ∷ ts) ws
-            (with_statement m a (choice at m.percent m.hash e held other))
+        (with_statement m a (choice at m.percent m.hash e held other))
 
   -- ["else" child]: it belongs to the nearest `if`
   pub data Otherwise : List Token → List Token → Items → Type 0 where
