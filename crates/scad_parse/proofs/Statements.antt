@@ -1,16 +1,16 @@
 -- Each derivation of the grammar of statements runs; a program's run gives the program.
-use Rattle.std.proofs.Common.{◌≡◌, ℕ, zero, suc, Bool, true, false, List, [], ◌∷◌, Option, Some, None, refl, ap, sym, ◌∙◌}
+use Rattle.std.proofs.Common.{◌≡◌, ℕ, Bool, true, false, List, [], ◌∷◌, Option, Some, refl, ◌∙◌}
 use Rattle.scad_fault.specs.declared.place.Place.{Place}
 use Rattle.scad_lex.specs.declared.token.Token.{Token}
 use Rattle.scad_lex.specs.declared.token.Sign.TheVariants.{OpenRound}
 use Rattle.scad_lex.specs.declared.token.Key.TheVariants.{Else}
-use Rattle.scad_ast.specs.Tree.{Expression, no_arguments, Parameter, Items, no_items, module_of, call_of, choice}
+use Rattle.scad_ast.specs.Tree.{Expression, Parameter, Items, no_items, module_of, call_of, choice}
 use Rattle.scad_parse.specs.Tokens.{sign, begins_with_key}
-use Rattle.scad_parse.specs.Lists.{with_parameter, with_item, with_statement, Marks, no_marks, starred, percented, hashed}
+use Rattle.scad_parse.specs.Lists.{with_parameter, with_item, with_statement, Marks, no_marks}
 use Rattle.scad_parse.specs.Grammar.{Default, no_default, default, Params, no_params, params, MoreParams, last_param, comma_param}
 use Rattle.scad_parse.specs.Statements.{Callee, call_word, call_for, call_let, call_echo, call_assert, Statement, nothing, a_group, assign, a_module, a_function, inst, Statements, no_statement, statement, Inst, star_mark, percent_mark, hash_mark, a_call, a_choice, Otherwise, no_otherwise, otherwise, Child, no_child, children, one_child, Derives, program}
 use Rattle.scad_parse.specs.Behind.{a_module as the_module, a_function as the_function, BehindItems, in_program, in_group, module_body, child_of, held_child, other_child, BehindParameters, defined, default_of, assigned_to, function_body, statement_test, of_statement}
-use Rattle.scad_parse.specs.State.{State, want_arguments, want_statement, have_items, want_marked, want_child, in_parameters, have_parameter, after_parameter, have_parameters, have_expression}
+use Rattle.scad_parse.specs.State.{want_arguments, want_statement, have_items, want_marked, want_child, in_parameters, have_parameter, after_parameter, have_parameters, have_expression}
 use Rattle.scad_parse.specs.Steps.{end_arguments, after_expression, end_parameters, after_parameter_step}
 use Rattle.scad_parse.specs.StatementSteps.{marked_step, first_step, definition_step, statement_step, word_statement, child_step, after_items, finish_items, parameters_step}
 use Rattle.scad_parse.specs.Machine.{step, finish, run, start}

@@ -1,10 +1,6 @@
 -- The laws.
-use Rattle.std.proofs.Common.{◌≡◌, List, [], Option, Some, sym, ◌∙◌, refl, subst}
-use Rattle.scad_fault.specs.declared.place.Place.{Place}
-use Rattle.scad_lex.specs.declared.token.Token.{Token}
-use Rattle.scad_ast.specs.Tree.{Items}
-use Rattle.scad_parse.specs.Statements.{Derives}
-use Rattle.scad_parse.specs.Machine.{start, reach, outcome_of}
+use Rattle.std.proofs.Common.{[], sym, ◌∙◌, refl, subst}
+use Rattle.scad_parse.specs.Machine.{start, reach}
 use Rattle.scad_parse.specs.Judged.{Judged}
 use Rattle.scad_parse.specs.Promises.{OneProgram, ReadsWhatIsDerived, StandsWhereAProgramBegins, JudgesAsTheGrammar, EndsExcludeNothing}
 use Rattle.scad_parse.proofs.Asked.{same_some}

@@ -1,15 +1,15 @@
 -- Wherever a reader stands, some tokens go on to a whole program: the shortest text of each thing that is open.
-use Rattle.std.proofs.Common.{◌≡◌, ℕ, zero, suc, ℤ, pos, Bool, true, false, List, [], ◌∷◌, Option, Some, None, refl}
+use Rattle.std.proofs.Common.{◌≡◌, ℕ, zero, suc, pos, false, List, [], ◌∷◌, Some, None, refl}
 use Rattle.scad_fault.specs.declared.place.Place.{Place}
 use Rattle.scad_lex.specs.declared.token.Token.{Token}
-use Rattle.scad_lex.specs.declared.token.Sign.TheVariants.{OpenRound, CloseRound, OpenSquare, CloseSquare, OpenCurly, CloseCurly, Semicolon, Comma, Colon, Question, Assign, Caret, Dot}
+use Rattle.scad_lex.specs.declared.token.Sign.TheVariants.{OpenRound, CloseRound, CloseSquare, CloseCurly, Semicolon, Colon, Question, Assign}
 use Rattle.scad_lex.specs.declared.token.Key.TheVariants.{Else}
-use Rattle.scad_ast.specs.Tree.{Expression, number, name, vector, range, stepped, unary, binary, choose, index, member, call, Arguments, no_arguments, Elements, Element, item, each, for_each, for_loop, if_else, Parameter, Items, no_items, assignment, module_of, function_of, call_of, choice}
-use Rattle.scad_parse.specs.Tokens.{sign, key, word, numeral, begins_with, first_operator}
-use Rattle.scad_parse.specs.Lists.{with_argument, with_element, with_parameter, with_item, let_of, Marks, no_marks, with_statement}
-use Rattle.scad_parse.specs.Grammar.{Expr, test, no_choice, Operand, tightest, line, Links, no_link, Unary, post, Posts, no_post, a_number, a_name, two_parts, no_args, named, MoreArgs, last_arg, no_elems, MoreElems, last_elem, plain, an_else, no_default, no_params, MoreParams, last_param, params}
-use Rattle.scad_parse.specs.Statements.{nothing, no_statement, assign, inst, a_call, call_word, otherwise, no_child}
-use Rattle.scad_parse.specs.Behind.{keyed_tree, Defined, a_module, a_function, BehindItems, in_program, in_group, module_body, child_of, held_child, other_child, BehindParameters, defined, BehindOperand, prefixed, first_of, right_of, tested, BehindExpression, in_round, in_index, chosen, other, body_of, argument_of, plain_item, range_second, range_third, loop_test, element_test, default_of, assigned_to, function_body, statement_test, BehindElement, in_vector, each_of, for_of, loop_of, let_body, held_element, other_element, BehindArguments, of_call, of_keyed, of_for, of_steps, of_let, of_statement}
+use Rattle.scad_ast.specs.Tree.{Expression, number, name, vector, range, stepped, unary, binary, choose, index, member, call, Arguments, no_arguments, Element, item, each, for_each, for_loop, if_else, Parameter, Items, no_items, assignment, module_of, function_of, call_of, choice}
+use Rattle.scad_parse.specs.Tokens.{sign, key, word, numeral, begins_with}
+use Rattle.scad_parse.specs.Lists.{with_argument, with_element, with_parameter, with_item, let_of, with_statement}
+use Rattle.scad_parse.specs.Grammar.{Expr, test, no_choice, Operand, tightest, line, Links, no_link, post, Posts, no_post, a_number, a_name, two_parts, no_args, named, MoreArgs, last_arg, no_elems, last_elem, plain, an_else, no_default, MoreParams, last_param, params}
+use Rattle.scad_parse.specs.Statements.{nothing, no_statement, assign, a_call, call_word, otherwise, no_child}
+use Rattle.scad_parse.specs.Behind.{keyed_tree, a_module, a_function, BehindItems, in_program, in_group, module_body, child_of, held_child, other_child, BehindParameters, defined, BehindOperand, prefixed, first_of, right_of, tested, BehindExpression, in_round, in_index, chosen, other, body_of, argument_of, plain_item, range_second, range_third, loop_test, element_test, default_of, assigned_to, function_body, statement_test, BehindElement, in_vector, each_of, for_of, loop_of, let_body, held_element, other_element, BehindArguments, of_call, of_keyed, of_for, of_steps, of_let, of_statement}
 use Rattle.scad_parse.specs.State.{State, want_expression, have_expression, want_unary, have_operand, have_name, have_post, want_member, have_links, want_arguments, in_arguments, have_word, after_argument, have_arguments, want_element, have_element, want_test, in_elements, after_one, have_elements, want_statement, have_items, have_start, want_marked, want_choice, want_child, want_defined, want_parameters, in_parameters, have_parameter, after_parameter, have_parameters, want_assign}
 use Rattle.scad_parse.proofs.Goes
 

@@ -1,5 +1,5 @@
 -- What the grammar and the reader of tokens keep.
-use Rattle.std.specs.Prelude.{◌≡◌, ◌↔◌, List, [], Option, Some, Result}
+use Rattle.std.specs.Prelude.{◌≡◌, ◌↔◌, List, [], Some, Result}
 use Rattle.scad_fault.specs.declared.place.Place.{Place}
 use Rattle.scad_lex.specs.declared.token.Token.{Token}
 use Rattle.scad_ast.specs.Tree.{Items}
