@@ -4,13 +4,16 @@ mod Ends
 mod Expressions
 mod Faults
 mod Follow
+mod Forms
 mod Goes
+mod Leaves
 mod Loose
 mod Openings
 mod Prefix
 mod Rows
 mod Runs
 mod Sound
+mod Standins
 mod Starts
 mod Statements
 mod Tests
