@@ -16,7 +16,7 @@ use Rattle.scad_parse.proofs.Runs.{follow, by_move}
 use Rattle.scad_parse.proofs.Asked.{same_some, none_is_no_some}
 use Rattle.scad_parse.proofs.Statements.{runs_program}
 use Rattle.scad_parse.proofs.Sound.{sound_finish, into_program}
-use Rattle.scad_parse.proofs.Prefix.{reach_by, by_reach, reached_goes, reached_begins, begins_reached, reach_one, reached_next, goes_next, stuck_begins_nothing}
+use Rattle.scad_parse.proofs.Prefix.{reach_by, by_reach, reached_goes, reached_begins, goes_next, stuck_begins_nothing}
 use Rattle.scad_parse.proofs.Leaves.{leaves}
 use Rattle.scad_parse.proofs.Forms.{left_is, left_step}
 

@@ -1,8 +1,8 @@
 -- A form is left out by the reader exactly where the grammar leaves it out.
-use Rattle.std.proofs.Common.{◌≡◌, ℕ, List, [], ◌∷◌, ◌++◌, Option, Some, None, refl, ap, sym, ◌∙◌, codes}
+use Rattle.std.proofs.Common.{◌≡◌, ℕ, List, [], ◌∷◌, ◌++◌, Some, refl, ap, sym, ◌∙◌, codes}
 use Rattle.scad_fault.specs.declared.place.Place.{Place}
 use Rattle.scad_lex.specs.declared.token.Token.{Token}
-use Rattle.scad_lex.specs.declared.token.Sign.TheVariants.{OpenCurly, Hash, Dot}
+use Rattle.scad_lex.specs.declared.token.Sign.TheVariants.{Hash}
 use Rattle.scad_lex.specs.declared.token.Key.TheVariants.{Function, Echo}
 use Rattle.scad_parse.specs.Tokens.{sign, key}
 use Rattle.scad_parse.specs.Statements.{Begins}
@@ -12,7 +12,7 @@ use Rattle.scad_parse.specs.Move.{Move, go, left_out, stuck}
 use Rattle.scad_parse.specs.Machine.{step, start, reach}
 use Rattle.scad_parse.proofs.Asked.{none_is_no_some}
 use Rattle.scad_parse.proofs.Prefix.{reach_by, reached_begins, begins_reached, reached_next, goes_next, stuck_begins_nothing}
-use Rattle.scad_parse.proofs.Leaves.{Form, form_include, form_use, form_mark, form_operator, form_function, no_go, no_stuck, left_form}
+use Rattle.scad_parse.proofs.Leaves.{Form, form_include, form_use, form_mark, form_operator, form_function, no_stuck, left_form}
 use Rattle.scad_parse.proofs.Standins.{Pair, pair_include, pair_use, pair_mark, pair_operator, left_part, told, told_only, paired, paired_function}
 
 record Goes (m : Move) : Type 0 where

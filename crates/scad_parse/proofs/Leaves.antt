@@ -1,5 +1,5 @@
 -- A move that leaves a form out has one of the tokens of these forms.
-use Rattle.std.proofs.Common.{◌≡◌, ℕ, zero, suc, Bool, true, false, if◌then◌else◌, List, [], ◌∷◌, Option, Some, None, refl, ap, sym, ◌∙◌, subst, codes}
+use Rattle.std.proofs.Common.{◌≡◌, ℕ, Bool, true, false, if◌then◌else◌, List, [], Option, Some, None, refl, ap, sym, subst, codes}
 use Rattle.std.proofs.lemmas.Bool.{false≢true}
 use Rattle.scad_fault.specs.declared.place.Place.{Place}
 use Rattle.scad_lex.specs.declared.token.Token.{Token}
@@ -8,7 +8,7 @@ use Rattle.scad_lex.specs.declared.token.Key.{Key as KeyName}
 use Rattle.scad_lex.specs.declared.token.Sign.TheVariants.{OpenRound, CloseRound, OpenSquare, CloseSquare, OpenCurly, CloseCurly, Semicolon, Comma, Colon, Question, Assign, Plus, Minus, Star, Percent, Hash, Dot, Bang, Caret}
 use Rattle.scad_lex.specs.declared.token.Key.TheVariants.{Module, Function, If, Else, For, Let, Assert, Echo, Each, Include, Use}
 use Rattle.scad_ast.specs.declared.operator.BinOp.{BinOp}
-use Rattle.scad_ast.specs.Tree.{Expression, name, vector, unary, binary, choose, Arguments, Elements, Element, item, each, for_each, for_loop, if_element, if_else, Parameter, Items, no_items, module_of, call_of, choice}
+use Rattle.scad_ast.specs.Tree.{Expression, name, unary, binary, choose, Arguments, Elements, Element, item, each, for_each, for_loop, if_element, if_else, Parameter, Items, no_items, module_of, call_of, choice}
 use Rattle.scad_parse.specs.Tokens.{sign, key, is_sign, is_key, word_of, operator}
 use Rattle.scad_parse.specs.Lists.{with_argument, with_element, with_parameter, with_item, with_statement, let_of, Marks, no_marks}
 use Rattle.scad_parse.specs.Grammar.{ends_arguments}

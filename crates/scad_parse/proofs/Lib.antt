@@ -4,6 +4,7 @@ mod Ends
 mod Expressions
 mod Faults
 mod Follow
+mod Foreign
 mod Forms
 mod Goes
 mod Leaves
@@ -12,6 +13,7 @@ mod Openings
 mod Prefix
 mod Rows
 mod Runs
+mod Shortest
 mod Sound
 mod Standins
 mod Starts
