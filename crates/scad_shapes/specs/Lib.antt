@@ -1,0 +1,4 @@
+pub mod Outline
+pub mod Rings
+pub mod Polyhedron
+pub mod Count
