@@ -6,6 +6,7 @@
 
 mod count;
 mod fault;
+pub mod laws;
 
 pub use count::{Form, triangles_of};
 pub use fault::ShapeFault;

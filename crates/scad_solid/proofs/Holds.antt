@@ -11,7 +11,7 @@ use Rattle.scad_geom.specs.declared.half.Half.TheVariants.{Cell}
 use Rattle.scad_geom.specs.Loop.{sides}
 use Rattle.scad_geom.specs.Winding.{doubled, wind}
 use Rattle.scad_solid.specs.Cut.{plane_of, contains, is_above, is_below}
-use Rattle.scad_solid.specs.Laws.{prism, rectangle, box, IsBetween, IsCentreBetween, PrismsHold, BoxesHold}
+use Rattle.scad_solid.specs.Laws.{prism, rectangle, box, IsBetween, IsCentreBetween, HoldBetween, HoldInside, PrismsHold, BoxesHold}
 use Rattle.scad_solid.proofs.Prism.{winds, prism_wind}
 use Rattle.scad_solid.proofs.Rectangle.{boxed, rectangle_wind}
 
@@ -120,7 +120,7 @@ module _ (layer h : ℕ) where
       ap (λ w. not (int_eq w (pos 0))) (prism_wind (plane_of layer h) upper lower (apart upper) (apart lower) ring x y)
       ∙ winds_some (is_above (plane_of layer h) upper) (is_above (plane_of layer h) lower) (wind (sides ring) x y)
 
-  pub prism_Decides : (upper lower : ℤ) (ring : List Pt) (x y : ℤ) → Decides (contains (plane_of layer h) (prism upper lower ring) x y) (IsBetween (plane_of layer h) upper lower × (wind (sides ring) x y ≢ pos 0))
+  prism_Decides : (upper lower : ℤ) (ring : List Pt) (x y : ℤ) → Decides (contains (plane_of layer h) (prism upper lower ring) x y) (IsBetween (plane_of layer h) upper lower × (wind (sides ring) x y ≢ pos 0))
   prism_Decides upper lower ring x y =
       Decides-at _ _ (prism_contains upper lower ring x y)
       (both_Decides _ _ (plane_between upper lower) (Decides-not (int_eq (wind (sides ring) x y) (pos 0)) (Decides-int_eq (wind (sides ring) x y) (pos 0))))
@@ -132,7 +132,7 @@ module _ (layer h : ℕ) where
       ∙ boxed_some (int_lt (doubled Cell j) (pos 2 *ℤ y0)) (int_lt (doubled Cell j) (pos 2 *ℤ y1)) (int_lt (doubled Cell i) (pos 2 *ℤ x0)) (int_lt (doubled Cell i) (pos 2 *ℤ x1)))
       (both_Decides _ _ (between_told i x0 x1) (between_told j y0 y1))
 
-  pub box_Decides : (p q : Pt3) (i j : ℤ) → Decides (contains (plane_of layer h) (box p q) (doubled Cell i) (doubled Cell j)) (IsCentreBetween p q layer h i j)
+  box_Decides : (p q : Pt3) (i j : ℤ) → Decides (contains (plane_of layer h) (box p q) (doubled Cell i) (doubled Cell j)) (IsCentreBetween p q layer h i j)
   box_Decides p q i j =
       let whole = Decides-at _ _ (prism_contains q.z p.z (rectangle p.x p.y q.x q.y) (doubled Cell i) (doubled Cell j))
       (both_Decides _ _ (plane_between q.z p.z) (rectangle_Decides p.x p.y q.x q.y i j)) in (
@@ -144,8 +144,14 @@ module _ (layer h : ℕ) where
       turned t a b (inl l) = inr l
       turned t a b (inr l) = inl l
 
+pub prism_holds : (ring : List Pt) (upper lower : ℤ) → HoldInside ring upper lower (prism upper lower ring)
+prism_holds ring upper lower = record { each = λ layer h x y. prism_Decides layer h upper lower ring x y }
+
+pub box_holds : (p q : Pt3) → HoldBetween p q (box p q)
+box_holds p q = record { each = λ layer h i j. box_Decides layer h p q i j }
+
 pub prisms_hold : PrismsHold
-prisms_hold = record { each = prism_Decides }
+prisms_hold = record { each = prism_holds }
 
 pub boxes_hold : BoxesHold
-boxes_hold = record { each = box_Decides }
+boxes_hold = record { each = box_holds }

@@ -35,15 +35,22 @@ pub record IsCentreBetween (p q : Pt3) (layer h : ℕ) (i j : ℤ) : Type 0 wher
   pub along : IsBetween (doubled Cell j) p.y q.y
   pub upwards : IsBetween (plane_of layer h) p.z q.z
 
--- a prism over any ring contains (x / 2, y / 2) at a layer exactly where the plane lies strictly between its two ends
--- and the ring winds round the point
-pub record PrismsHold : Type 0 where
-  pub each : (layer h : ℕ) (upper lower : ℤ) (ring : List Pt) (x y : ℤ) →
-      IsTrue (contains (plane_of layer h) (prism upper lower ring) x y)
-      ↔ (IsBetween (plane_of layer h) upper lower × (wind (sides ring) x y ≢ pos 0))
+-- triangles contain exactly the cell centres that lie strictly between two corners along each axis, at any layer
+pub record HoldBetween (p q : Pt3) (ts : List Triangle) : Type 0 where
+  pub each : (layer h : ℕ) (i j : ℤ) →
+      IsTrue (contains (plane_of layer h) ts (doubled Cell i) (doubled Cell j)) ↔ IsCentreBetween p q layer h i j
 
--- a box contains a cell centre at a layer exactly where that lies strictly between its corners along each axis; which
--- way its outline runs, and which of the corners is the lower, doesn't matter
+-- triangles contain (x / 2, y / 2) at exactly those layers whose plane lies strictly between two heights, and there
+-- exactly where a ring winds round the point
+pub record HoldInside (ring : List Pt) (upper lower : ℤ) (ts : List Triangle) : Type 0 where
+  pub each : (layer h : ℕ) (x y : ℤ) →
+      IsTrue (contains (plane_of layer h) ts x y) ↔ (IsBetween (plane_of layer h) upper lower × (wind (sides ring) x y ≢ pos 0))
+
+-- a prism over any ring holds what lies between its ends and inside the ring
+pub record PrismsHold : Type 0 where
+  pub each : (ring : List Pt) (upper lower : ℤ) → HoldInside ring upper lower (prism upper lower ring)
+
+-- a box holds what lies between its corners; which way its outline runs, and which of the corners is the lower, doesn't
+-- matter
 pub record BoxesHold : Type 0 where
-  pub each : (layer h : ℕ) (p q : Pt3) (i j : ℤ) →
-      IsTrue (contains (plane_of layer h) (box p q) (doubled Cell i) (doubled Cell j)) ↔ IsCentreBetween p q layer h i j
+  pub each : (p q : Pt3) → HoldBetween p q (box p q)
