@@ -1,2 +1,3 @@
 mod Examples
 pub mod Holds
+pub mod Counts

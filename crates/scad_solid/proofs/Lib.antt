@@ -9,3 +9,4 @@ pub mod Parts
 pub mod Prism
 pub mod Rectangle
 pub mod Holds
+pub mod Counts
