@@ -1,3 +1,4 @@
 mod Examples
+mod HoldsExamples
 pub mod Holds
 pub mod Counts
