@@ -2,3 +2,4 @@ pub mod Outline
 pub mod Rings
 pub mod Polyhedron
 pub mod Count
+pub mod Pushed

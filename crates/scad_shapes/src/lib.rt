@@ -5,7 +5,16 @@
 #![tactic(auto)]
 
 mod count;
+mod extent;
 mod fault;
+mod outline;
+mod placing;
+mod polyhedra;
+mod prisms;
+mod spheres;
 
 pub use count::{Form, triangles_of};
 pub use fault::ShapeFault;
+pub use polyhedra::polyhedron;
+pub use prisms::{cube, cylinder};
+pub use spheres::sphere;
