@@ -1,5 +1,5 @@
 -- Polyhedra of given points and faces (OpenSCAD User Manual, "polyhedron").
-use Rattle.std.specs.Prelude.{ℕ, List, Bool, length, map, if◌then◌else◌, Result, Ok, Err, ℤ}
+use Rattle.std.specs.Prelude.{ℕ, List, Bool, map, if◌then◌else◌, Result, Ok, Err, ℤ}
 use Rattle.std.specs.List.{list_all}
 use Rattle.scad_geom.specs.declared.point3.Pt3.{Pt3}
 use Rattle.scad_geom.specs.PointRange.{is_in_range}

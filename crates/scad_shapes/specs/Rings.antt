@@ -34,9 +34,13 @@ cylinder_rings h r1 r2 n center m = two_rings m (circle r1 n) (circle r2 n) (sta
 abbrev pub sphere_ring : ℤ → ℕ → Matrix → ℤ → List Pt3
 sphere_ring r n m angle = placed_ring m (part_of r (cosine angle)) (circle (part_of r (sine angle)) n)
 
+-- ring i of a sphere from the top
+abbrev pub sphere_ring_at : ℤ → ℕ → Matrix → ℕ → List Pt3
+sphere_ring_at r n m i = sphere_ring r n m (pos (polar_angle (sphere_rings n) i))
+
 -- the rings of a sphere, from the top downwards
 abbrev pub sphere_rings_of : ℤ → ℕ → Matrix → List (List Pt3)
-sphere_rings_of r n m = map (λ i. sphere_ring r n m (pos (polar_angle (sphere_rings n) i))) (range_with_len 0 (sphere_rings n))
+sphere_rings_of r n m = map (sphere_ring_at r n m) (range_with_len 0 (sphere_rings n))
 
 -- the points of a ring, or CoordinateRange where one is out of range
 abbrev pub ring_if_in_range : List Pt3 → Result (List Pt3) ShapeFault

@@ -18,6 +18,7 @@ pub(crate) fn extent(size: Num, center: bool) -> (Num, Num)
     }
 }
 
+#[tactic(auto, using(crate::proofs::Roundings::rest_is_small))]
 fn centred(size: Num) -> (Num, Num)
     ensures begins { result.0 ≡ neg_ℤ (half_away size 2) }
     ensures ends { result.1 ≡ neg_ℤ (half_away size 2) +ℤ size }
@@ -28,8 +29,7 @@ fn centred(size: Num) -> (Num, Num)
 
 fn half(size: Num) -> i64
     ensures value { result ≡ half_away size 2 }
-    ensures first { unsigned_abs result ≤ most }
-    ensures second { unsigned_abs (neg_ℤ result +ℤ size) ≤ most }
+    ensures small { unsigned_abs result ≤ most }
 {
     half_away(i128::from(size.millionths()), 2) as i64
 }

@@ -2,7 +2,7 @@
 //!
 //! The contracts promise exactly the triangles of each definition, each coordinate rounded once to whole
 //! micrometres, each refusal exactly, and how many triangles there are.
-#![tactic(auto)]
+#![tactic(auto, using(scad_geom::proofs::Casts::casts))]
 
 mod count;
 mod extent;

@@ -44,7 +44,7 @@ pub(crate) fn part_of(r: Num, c: i64) -> Num
     requires { unsigned_abs c ≤ one }
     ensures { result ≡ part_of r c }
 {
-    rounded(product(r, c))
+    number(rounded(product(r, c)))
 }
 
 fn product(r: Num, c: i64) -> i128
@@ -55,17 +55,18 @@ fn product(r: Num, c: i64) -> i128
     times(r.millionths(), c)
 }
 
-fn rounded(n: i128) -> Num
-    requires { unsigned_abs n ≤ most * one }
-    ensures { result ≡ half_away n one }
-{
-    Num::within(whole(n))
-}
-
-fn whole(n: i128) -> i64
+#[tactic(auto, using(crate::proofs::Roundings::part_is_small))]
+fn rounded(n: i128) -> i128
     requires { unsigned_abs n ≤ most * one }
     ensures value { result ≡ half_away n one }
     ensures small { unsigned_abs result ≤ most }
 {
-    half_away(n, 1_000_000) as i64
+    half_away(n, 1_000_000)
+}
+
+fn number(millionths: i128) -> Num
+    requires { unsigned_abs millionths ≤ most }
+    ensures { result ≡ millionths }
+{
+    Num::within(millionths as i64)
 }

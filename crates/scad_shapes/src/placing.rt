@@ -1,6 +1,7 @@
 //! Placed rings, and their solids.
 ghost use Rattle.std.specs.Prelude.{◌≡◌, Ok, IsTrue};
 ghost use Rattle.scad_solid.specs.Stack.{stacked, are_alike, rings_in_range};
+ghost use Rattle.scad_geom.specs.PointRange.{is_in_range};
 ghost use Rattle.scad_matrix.specs.Matrix.{placed_point};
 ghost use Rattle.scad_shapes.specs.Pushed.{Pushes};
 ghost use Rattle.scad_shapes.specs.Rings.{placed_ring, ring_if_in_range, UnlessMemory};
@@ -37,7 +38,7 @@ pub(crate) fn push_placed(
     y: Num,
     z: Num,
 ) -> Result<(), ShapeFault>
-    ensures { Pushes out.old.items (placed_point m.now x y z) out.new.items result }
+    ensures { Pushes is_in_range out.old.items (placed_point m.now x y z) out.new.items result }
 {
     let Ok(point) = m.place(x, y, z) else {
         return Err(ShapeFault::CoordinateRange);

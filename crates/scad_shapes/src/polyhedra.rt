@@ -1,8 +1,11 @@
 //! Polyhedra.
-ghost use Rattle.std.specs.Prelude.{◌≡◌, length, IsTrue};
+ghost use Rattle.std.specs.Prelude.{◌≡◌, true, length, map, IsTrue};
+ghost use Rattle.std.specs.List.{list_all};
+ghost use Rattle.scad_geom.specs.PointRange.{is_in_range};
+ghost use Rattle.scad_solid.specs.Solid.{fans, corners};
 ghost use Rattle.scad_shapes.specs.Rings.{UnlessMemory};
 ghost use Rattle.scad_shapes.specs.Pushed.{Collects};
-ghost use Rattle.scad_shapes.specs.Polyhedron.{placed_points, name_points, polyhedron_of};
+ghost use Rattle.scad_shapes.specs.Polyhedron.{placed_points, name_points, if_closed, polyhedron_of};
 
 use crate::fault::ShapeFault;
 use crate::placing::push_placed;
@@ -24,7 +27,16 @@ pub fn polyhedron(
     ensures { UnlessMemory result (result ≡ polyhedron_of points.now faces.now m.now) }
 {
     let placed = place(alloc, points, m)?;
-    match Triangles::from_faces(alloc, placed.as_slice(), faces) {
+    bounded(alloc, placed.as_slice(), faces)
+}
+
+// The solid that faces over points in range bound.
+fn bounded(alloc: Global, points: &[Pt3], faces: &[Face]) -> Result<Triangles, ShapeFault>
+    requires in_range { list_all is_in_range points.now ≡ true }
+    requires named { IsTrue (name_points (length points.now) faces.now) }
+    ensures { UnlessMemory result (result ≡ if_closed (fans (map (corners points.now) faces.now))) }
+{
+    match Triangles::from_faces(alloc, points, faces) {
         Ok(solid) => Ok(solid),
         Err(SolidFault::NotClosed) => Err(ShapeFault::NotClosed),
         Err(SolidFault::CoordinateRange) => Err(ShapeFault::CoordinateRange),
@@ -33,7 +45,7 @@ pub fn polyhedron(
 }
 
 fn place(alloc: Global, points: &[(Num, Num, Num)], m: &Matrix) -> Result<Vec<Pt3>, ShapeFault>
-    ensures { Collects result (λ v. v.items) (placed_points m.now points.now) }
+    ensures { Collects is_in_range result (λ v. v.items) (placed_points m.now points.now) }
 {
     let mut placed = Vec::new(alloc);
     'points: for point in points {

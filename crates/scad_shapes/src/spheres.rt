@@ -1,8 +1,8 @@
 //! Spheres.
 ghost use Rattle.std.specs.Prelude.{◌≡◌, ◌<◌, ◌≤◌, ◌++◌, ◌∷◌, [], pos, unsigned_abs, OnOk};
 ghost use Rattle.scad_shapes.specs.Outline.{sphere_rings, polar_angle};
-ghost use Rattle.scad_shapes.specs.Rings.{sphere_ring, sphere_rings_of, ring_if_in_range, solid_of_rings, UnlessMemory};
-ghost use Rattle.scad_shapes.specs.Pushed.{PushesRing};
+ghost use Rattle.scad_shapes.specs.Rings.{sphere_ring, sphere_ring_at, sphere_rings_of, ring_if_in_range, solid_of_rings, UnlessMemory};
+ghost use Rattle.scad_shapes.specs.Pushed.{Pushes, Collects, ring_in_range};
 
 use crate::fault::ShapeFault;
 use crate::outline::{circle, part_of};
@@ -19,19 +19,39 @@ pub fn sphere(alloc: Global, r: Num, n: u32, m: &Matrix) -> Result<Triangles, Sh
     requires few { n ≤ 200000 }
     ensures { UnlessMemory result (result ≡ solid_of_rings (sphere_rings_of r n m.now)) }
 {
-    let count = (n + 1) / 2;
-    let mut rings = Vec::new(alloc);
-    'rings: for i in 0..count {
-        let ring = ring(alloc, r, n, m, polar_angle(count, i))?;
-        push(&mut rings, ring)?;
-    }
+    let rings = rings(alloc, r, n, m)?;
     solid(alloc, rings.as_slice())
 }
 
-fn push(rings: &mut Vec<Ring>, ring: Ring) -> Result<(), ShapeFault>
-    ensures { PushesRing rings.old.items ring rings.new.items result }
+fn rings(alloc: Global, r: Num, n: u32, m: &Matrix) -> Result<Vec<Ring>, ShapeFault>
+    requires { n ≤ 200000 }
+    ensures { Collects ring_in_range result (λ v. v.items) (sphere_rings_of r n m.now) }
 {
-    match rings.push(ring) {
+    let count = (n + 1) / 2;
+    let mut rings = Vec::new(alloc);
+    'rings: for i in 0..count {
+        match push_ring(alloc, &mut rings, r, n, m, i) {
+            Ok(()) => {}
+            Err(end) => return Err(end),
+        }
+    }
+    Ok(rings)
+}
+
+fn push_ring(
+    alloc: Global,
+    out: &mut Vec<Ring>,
+    r: Num,
+    n: u32,
+    m: &Matrix,
+    i: u32,
+) -> Result<(), ShapeFault>
+    requires below { i < sphere_rings n }
+    requires few { n ≤ 200000 }
+    ensures { Pushes ring_in_range out.old.items (sphere_ring_at r n m.now i) out.new.items result }
+{
+    let ring = ring(alloc, r, n, m, polar_angle((n + 1) / 2, i))?;
+    match out.push(ring) {
         Ok(()) => Ok(()),
         Err(_) => Err(ShapeFault::Memory),
     }
@@ -40,10 +60,19 @@ fn push(rings: &mut Vec<Ring>, ring: Ring) -> Result<(), ShapeFault>
 fn polar_angle(rings: u32, i: u32) -> i64
     requires below { i < rings }
     requires few { rings ≤ 100000 }
-    ensures { result ≡ pos (polar_angle rings i) }
+    ensures value { result ≡ pos (polar_angle rings i) }
+    ensures small { unsigned_abs result ≤ 360000 }
 {
-    let (rings, i) = (u64::from(rings), u64::from(i));
-    ((90_000 * (2 * i + 1) + rings / 2) / rings) as i64
+    rounded_angle(u64::from(rings), u64::from(i)) as i64
+}
+
+fn rounded_angle(rings: u64, i: u64) -> u64
+    requires below { i < rings }
+    requires few { rings ≤ 100000 }
+    ensures value { result ≡ polar_angle rings i }
+    ensures small { result ≤ 360000 }
+{
+    (90_000 * (2 * i + 1) + rings / 2) / rings
 }
 
 // The placed ring at a polar angle.
