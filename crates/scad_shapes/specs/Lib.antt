@@ -3,3 +3,4 @@ pub mod Rings
 pub mod Polyhedron
 pub mod Count
 pub mod Laws
+pub mod Pushed

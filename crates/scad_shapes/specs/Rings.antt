@@ -2,8 +2,9 @@
 -- its first, quads a_j a_k b_k b_j from each ring a to the next one b below it, the bottom ring from its first point
 -- to its last.
 use Rattle.std.specs.Prelude.{ℕ, List, [], ◌∷◌, Bool, map, if◌then◌else◌, Result, Ok, Err, ℤ, pos, ◌+ℤ◌}
-use Rattle.std.specs.List.{range_with_len}
+use Rattle.std.specs.List.{list_all, range_with_len}
 use Rattle.scad_geom.specs.declared.point3.Pt3.{Pt3}
+use Rattle.scad_geom.specs.PointRange.{is_in_range}
 use Rattle.scad_solid.specs.declared.triangle.Triangle.{Triangle}
 use Rattle.scad_solid.specs.Stack.{stacked, rings_in_range}
 use Rattle.scad_cos.specs.Cosine.{cosine, sine}
@@ -33,9 +34,17 @@ cylinder_rings h r1 r2 n center m = two_rings m (circle r1 n) (circle r2 n) (sta
 abbrev pub sphere_ring : ℤ → ℕ → Matrix → ℤ → List Pt3
 sphere_ring r n m angle = placed_ring m (part_of r (cosine angle)) (circle (part_of r (sine angle)) n)
 
+-- ring i of a sphere from the top
+abbrev pub sphere_ring_at : ℤ → ℕ → Matrix → ℕ → List Pt3
+sphere_ring_at r n m i = sphere_ring r n m (pos (polar_angle (sphere_rings n) i))
+
 -- the rings of a sphere, from the top downwards
 abbrev pub sphere_rings_of : ℤ → ℕ → Matrix → List (List Pt3)
-sphere_rings_of r n m = map (λ i. sphere_ring r n m (pos (polar_angle (sphere_rings n) i))) (range_with_len 0 (sphere_rings n))
+sphere_rings_of r n m = map (sphere_ring_at r n m) (range_with_len 0 (sphere_rings n))
+
+-- the points of a ring, or CoordinateRange where one is out of range
+abbrev pub ring_if_in_range : List Pt3 → Result (List Pt3) ShapeFault
+ring_if_in_range ring = if list_all is_in_range ring then Ok ring else Err CoordinateRange
 
 -- the solid of placed rings, or CoordinateRange where a coordinate is out of range
 abbrev pub solid_of_rings : List (List Pt3) → Result (List Triangle) ShapeFault

@@ -1,0 +1,19 @@
+use Rattle.std.proofs.Common.{◌≡◌, Err, map, ap, subst, ◌∙◌}
+use Rattle.scad_solid.specs.Solid.{fans, corners, solid_of, UnlessMemory}
+use Rattle.scad_shapes.proofs.Solids.{solid_of-named, closed_as, open_as, never_far}
+use Rattle.scad_shapes.proofs.polyhedra.bounded.Goals as goal
+
+pub returns-in-Ok : goal.returns-in-Ok
+returns-in-Ok c =
+    closed_as c.in-Ok.solid (fans (map (corners c.args.points.now) c.args.faces.now))
+    (c.in-Ok.ensures ∙ solid_of-named c.args.points.now c.args.faces.now c.requires.in_range c.requires.named)
+
+pub returns-in-Err-NotClosed : goal.returns-in-Err-NotClosed
+returns-in-Err-NotClosed c =
+    let told = subst (λ r. UnlessMemory r (r ≡ solid_of c.args.points.now c.args.faces.now)) (c.in-Err-NotClosed.is ∙ ap (λ e. Err e) c.in-Err-NotClosed.field-0-is) c.from_faces.ensures in
+    open_as (fans (map (corners c.args.points.now) c.args.faces.now)) (told ∙ solid_of-named c.args.points.now c.args.faces.now c.requires.in_range c.requires.named)
+
+pub returns-in-Err-CoordinateRange : goal.returns-in-Err-CoordinateRange
+returns-in-Err-CoordinateRange c =
+    let told = subst (λ r. UnlessMemory r (r ≡ solid_of c.args.points.now c.args.faces.now)) (c.in-Err-CoordinateRange.is ∙ ap (λ e. Err e) c.in-Err-CoordinateRange.field-0-is) c.from_faces.ensures in
+    absurd (never_far (fans (map (corners c.args.points.now) c.args.faces.now)) (told ∙ solid_of-named c.args.points.now c.args.faces.now c.requires.in_range c.requires.named))
