@@ -1,10 +1,14 @@
 -- What the primitives contain: a matrix that keeps heights places a prism's rings one over the other.
-use Rattle.std.proofs.Common.{◌≡◌, List, [], ◌∷◌, map, ℤ, pos, ◌+ℤ◌, ◌*ℤ◌, refl, ap, ap₂, sym, ◌∙◌, subst}
+use Rattle.std.proofs.Common.{◌≡◌, Bool, true, false, Ok, Err, Result, IfOk, List, [], ◌∷◌, map, ℤ, pos, ◌+ℤ◌, ◌*ℤ◌, refl, ap, ap₂, sym, ◌∙◌, subst}
 use Rattle.std.proofs.Math.IntN.{zero-*ℤ}
 use Rattle.scad_geom.specs.declared.point.Pt.{Pt}
 use Rattle.scad_geom.specs.declared.point3.Pt3.{Pt3}
 use Rattle.scad_num.specs.Rounding.{half_away}
-use Rattle.scad_solid.specs.Stack.{stacked}
+use Rattle.std.specs.Prelude.{if◌then◌else◌}
+use Rattle.scad_solid.specs.declared.triangle.Triangle.{Triangle}
+use Rattle.scad_solid.specs.Stack.{stacked, rings_in_range}
+use Rattle.scad_shapes.specs.declared.fault.ShapeFault.{ShapeFault}
+use Rattle.scad_shapes.specs.declared.fault.ShapeFault.TheVariants.{CoordinateRange}
 use Rattle.scad_solid.specs.Laws.{at, prism, box, rectangle, HoldBetween, HoldInside}
 use Rattle.scad_solid.proofs.Holds.{prism_holds, box_holds}
 use Rattle.scad_matrix.specs.declared.matrix.Row.{Row}
@@ -12,7 +16,7 @@ use Rattle.scad_matrix.specs.declared.matrix.Matrix.{Matrix}
 use Rattle.scad_matrix.specs.Matrix.{micrometre, placed_coordinate, placed_point}
 use Rattle.scad_shapes.specs.Outline.{start_of, circle}
 use Rattle.scad_shapes.specs.Outline as outline
-use Rattle.scad_shapes.specs.Rings.{placed_ring, two_rings}
+use Rattle.scad_shapes.specs.Rings.{placed_ring, two_rings, solid_of_rings, UnlessMemory}
 use Rattle.scad_shapes.specs.Laws.{IsUpright, IsDiagonal, placed_outline, placed_height, CubesHold, PrismsHold, CylindersHold}
 
 -- a row doesn't read a coordinate whose entry is 0
@@ -89,3 +93,12 @@ prisms_hold = record { each = λ points low high m upright. placed_prism_holds m
 
 pub cylinders_hold : CylindersHold
 cylinders_hold = record { each = λ h r n center m upright. placed_prism_holds m upright (circle r n) (start_of h center) (start_of h center +ℤ h) }
+
+-- so do the solids that the calls give
+solid_by : (b : Bool) (ts us : List Triangle) → Ok us ≡ (if b then Ok ts else Err CoordinateRange) → us ≡ ts
+solid_by true ts us e = cc
+solid_by false ts us e = absurd (cc)
+
+pub of_solid : (P : List Triangle → Type 0) (rings : List (List Pt3)) → P (stacked rings) → (r : Result (List Triangle) ShapeFault) → UnlessMemory r (r ≡ solid_of_rings rings) → IfOk r P
+of_solid P rings all (Ok ts) is = subst P (sym (solid_by (rings_in_range rings) (stacked rings) ts is)) all
+of_solid P rings all (Err e) is = tt

@@ -1,6 +1,9 @@
 //! Cubes and cylinders.
-ghost use Rattle.std.specs.Prelude.{◌≡◌, ◌≤◌, length};
+ghost use Rattle.std.specs.Prelude.{◌≡◌, ◌≤◌, ◌+ℤ◌, length, IfOk};
+ghost use Rattle.scad_solid.specs.Laws.{HoldBetween, HoldInside};
 ghost use Rattle.scad_shapes.specs.Rings.{two_rings, cube_rings, cylinder_rings, solid_of_rings, UnlessMemory};
+ghost use Rattle.scad_shapes.specs.Outline.{start_of, circle};
+ghost use Rattle.scad_shapes.specs.Laws.{IsDiagonal, IsUpright, first_corner, last_corner, placed_outline, placed_height};
 
 use crate::extent::extent;
 use crate::fault::ShapeFault;
@@ -20,7 +23,8 @@ pub fn cube(
     center: bool,
     m: &Matrix,
 ) -> Result<Triangles, ShapeFault>
-    ensures { UnlessMemory result (result ≡ solid_of_rings (cube_rings x y z center m.now)) }
+    ensures triangles { UnlessMemory result (result ≡ solid_of_rings (cube_rings x y z center m.now)) }
+    ensures holds { IsDiagonal m.now → IfOk result (λ t. HoldBetween (first_corner x y z center m.now) (last_corner x y z center m.now) t) }
 {
     let ring = rectangle(x, y, center);
     let (low, high) = extent(z, center);
@@ -40,7 +44,8 @@ pub fn cylinder(
 ) -> Result<Triangles, ShapeFault>
     requires some { 3 ≤ n }
     requires few { n ≤ 200000 }
-    ensures { UnlessMemory result (result ≡ solid_of_rings (cylinder_rings h r1 r2 n center m.now)) }
+    ensures triangles { UnlessMemory result (result ≡ solid_of_rings (cylinder_rings h r1 r2 n center m.now)) }
+    ensures holds { IsUpright m.now → r1 ≡ r2 → IfOk result (λ t. HoldInside (placed_outline m.now (circle r1 n)) (placed_height m.now (start_of h center +ℤ h)) (placed_height m.now (start_of h center)) t) }
 {
     let Ok(bottom) = circle(alloc, r1, n) else {
         return Err(ShapeFault::Memory);
