@@ -8,3 +8,4 @@ pub mod Flow
 pub mod Parts
 pub mod Prism
 pub mod Rectangle
+pub mod Counts

@@ -1,13 +1,13 @@
 -- The outline of an upright rectangle winds round exactly the points strictly inside it, whichever way it runs.
-use Rattle.std.proofs.Common.{◌≡◌, Bool, true, false, not, List, [], ◌∷◌, ℤ, pos, zero, suc, negsuc, neg_ℤ, ◌+ℤ◌, ◌-ℤ◌, ◌*ℤ◌, ◌<ℤ◌, ◌≤ℤ◌, arith, refl, ap, ap₂, sym, ◌∙◌}
+use Rattle.std.proofs.Common.{◌≡◌, Bool, true, false, List, [], ◌∷◌, ℤ, pos, zero, suc, negsuc, neg_ℤ, ◌+ℤ◌, ◌-ℤ◌, ◌*ℤ◌, ◌<ℤ◌, arith, refl, ap, sym, ◌∙◌}
 use Rattle.std.specs.Prelude.{int_lt}
 use Rattle.std.proofs.lemmas.Int.{ints}
 use Rattle.scad_geom.specs.declared.point.Pt.{Pt}
 use Rattle.scad_geom.specs.declared.point.Edge.{Edge}
 use Rattle.scad_geom.specs.Winding.{side_of, crossing, counted, doubled_edge, wind}
 use Rattle.scad_geom.specs.Loop.{sides}
-use Rattle.scad_geom.proofs.Ring.{Term, solve, var, num, plus, less, times}
-use Rattle.scad_solid.proofs.Parts.{told, crossing-told, sign_up_by, sign_down_by, gap_sign}
+use Rattle.scad_geom.proofs.Ring.{Term, solve, var, num, less, times}
+use Rattle.scad_solid.proofs.Parts.{told, crossing-told, sign_up_by, gap_sign}
 
 abbrev point : ℤ → ℤ → Pt
 point x y = record { x = x; y = y }
