@@ -1,3 +1,4 @@
 mod Examples
 pub mod Roundings
 pub mod Solids
+pub mod Counted

@@ -1,5 +1,7 @@
 //! Cubes and cylinders.
-ghost use Rattle.std.specs.Prelude.{◌≡◌, ◌≤◌, length};
+ghost use Rattle.std.specs.Prelude.{◌≡◌, ◌≤◌, length, IfOk};
+ghost use Rattle.scad_shapes.specs.declared.count.Form.TheVariants.{Cube, Cylinder};
+ghost use Rattle.scad_shapes.specs.Count.{triangles_of, prism_triangles};
 ghost use Rattle.scad_shapes.specs.Rings.{two_rings, cube_rings, cylinder_rings, solid_of_rings, UnlessMemory};
 
 use crate::extent::extent;
@@ -20,7 +22,8 @@ pub fn cube(
     center: bool,
     m: &Matrix,
 ) -> Result<Triangles, ShapeFault>
-    ensures { UnlessMemory result (result ≡ solid_of_rings (cube_rings x y z center m.now)) }
+    ensures solid { UnlessMemory result (result ≡ solid_of_rings (cube_rings x y z center m.now)) }
+    ensures count { IfOk result (λ t. length t ≡ triangles_of Cube) }
 {
     let ring = rectangle(x, y, center);
     let (low, high) = extent(z, center);
@@ -40,7 +43,8 @@ pub fn cylinder(
 ) -> Result<Triangles, ShapeFault>
     requires some { 3 ≤ n }
     requires few { n ≤ 200000 }
-    ensures { UnlessMemory result (result ≡ solid_of_rings (cylinder_rings h r1 r2 n center m.now)) }
+    ensures solid { UnlessMemory result (result ≡ solid_of_rings (cylinder_rings h r1 r2 n center m.now)) }
+    ensures count { IfOk result (λ t. length t ≡ triangles_of (Cylinder n)) }
 {
     let Ok(bottom) = circle(alloc, r1, n) else {
         return Err(ShapeFault::Memory);
@@ -53,6 +57,7 @@ pub fn cylinder(
 }
 
 // The solid between an outline at a lower and one at an upper height.
+#[tactic(auto, using(crate::proofs::Counted::prism_count, scad_geom::proofs::Casts::casts))]
 fn prism(
     alloc: Global,
     m: &Matrix,
@@ -61,8 +66,10 @@ fn prism(
     low: Num,
     high: Num,
 ) -> Result<Triangles, ShapeFault>
-    requires { length bottom.now ≡ length top.now }
-    ensures { UnlessMemory result (result ≡ solid_of_rings (two_rings m.now bottom.now top.now low high)) }
+    requires alike { length bottom.now ≡ length top.now }
+    requires some { 3 ≤ length top.now }
+    ensures solid { UnlessMemory result (result ≡ solid_of_rings (two_rings m.now bottom.now top.now low high)) }
+    ensures count { IfOk result (λ t. length t ≡ prism_triangles (length top.now)) }
 {
     let upper = place_ring(alloc, m, high, top)?;
     let lower = place_ring(alloc, m, low, bottom)?;
