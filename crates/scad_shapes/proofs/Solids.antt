@@ -79,6 +79,13 @@ never_by false us e = absurd (cc)
 pub closed_as : (ts us : List Triangle) → Ok ts ≡ closed_or_not None us → Ok ts ≡ if_closed us
 closed_as ts us e = closed_by (is_closed us) ts us e
 
+only_by : (b : Bool) (ts us : List Triangle) → Ok ts ≡ as_solid b us → ts ≡ us
+only_by true ts us e = cc
+only_by false ts us e = absurd (cc)
+
+pub closed_only : (ts us : List Triangle) → Ok ts ≡ closed_or_not None us → ts ≡ us
+closed_only ts us e = only_by (is_closed us) ts us e
+
 pub open_as : (us : List Triangle) → Err solid.NotClosed ≡ closed_or_not None us → Err NotClosed ≡ if_closed us
 open_as us e = open_by (is_closed us) us e
 

@@ -1,17 +1,13 @@
 -- What the primitives contain.
-use Rattle.std.specs.Prelude.{◌≡◌, ℕ, ◌≤◌, List, Bool, length, map, ℤ, pos, ◌+ℤ◌}
+use Rattle.std.specs.Prelude.{◌≡◌, ℕ, List, Bool, map, ℤ, pos, ◌+ℤ◌}
 use Rattle.scad_geom.specs.declared.point.Pt.{Pt}
 use Rattle.scad_geom.specs.declared.point3.Pt3.{Pt3}
-use Rattle.scad_solid.specs.Solid.{corners, fans}
 use Rattle.scad_solid.specs.Stack.{stacked}
 use Rattle.scad_solid.specs.Laws.{HoldBetween, HoldInside}
 use Rattle.scad_matrix.specs.declared.matrix.Matrix.{Matrix}
 use Rattle.scad_matrix.specs.Matrix.{placed_coordinate, placed_point}
 use Rattle.scad_shapes.specs.Outline.{start_of, circle}
-use Rattle.scad_shapes.specs.Rings.{two_rings, cube_rings, cylinder_rings, sphere_rings_of}
-use Rattle.scad_shapes.specs.Polyhedron.{placed_points}
-use Rattle.scad_shapes.specs.declared.count.Form.TheVariants.{Cube, Sphere, Cylinder, Polyhedron}
-use Rattle.scad_shapes.specs.Count.{triangles_of, face_triangles}
+use Rattle.scad_shapes.specs.Rings.{two_rings, cube_rings, cylinder_rings}
 
 -- the rows of x and y don't read z, and that of z reads z alone
 pub record IsUpright (m : Matrix) : Type 0 where
@@ -57,12 +53,3 @@ pub record PrismsHold : Type 0 where
 pub record CylindersHold : Type 0 where
   pub each : (h r : ℤ) (n : ℕ) (center : Bool) (m : Matrix) → IsUpright m →
       HoldInside (placed_outline m (circle r n)) (placed_height m (start_of h center +ℤ h)) (placed_height m (start_of h center)) (stacked (cylinder_rings h r r n center m))
-
--- a form tells how many triangles its primitive has
-pub record AreCounted : Type 0 where
-  pub cube : (x y z : ℤ) (center : Bool) (m : Matrix) → length (stacked (cube_rings x y z center m)) ≡ triangles_of Cube
-  pub sphere : (r : ℤ) (n : ℕ) (m : Matrix) → 3 ≤ n → length (stacked (sphere_rings_of r n m)) ≡ triangles_of (Sphere n)
-  pub cylinder : (h r1 r2 : ℤ) (n : ℕ) (center : Bool) (m : Matrix) → 3 ≤ n →
-      length (stacked (cylinder_rings h r1 r2 n center m)) ≡ triangles_of (Cylinder n)
-  pub polyhedron : (points : List (ℤ × ℤ × ℤ)) (faces : List (List ℕ)) (m : Matrix) →
-      length (fans (map (corners (placed_points m points)) faces)) ≡ triangles_of (Polyhedron (face_triangles faces))

@@ -1,5 +1,5 @@
 //! Laws of the definitions, each carried by the contract of a function that does nothing.
-ghost use Rattle.scad_shapes.specs.Laws.{CubesHold, PrismsHold, CylindersHold, AreCounted};
+ghost use Rattle.scad_shapes.specs.Laws.{CubesHold, PrismsHold, CylindersHold};
 
 /// Under a diagonal matrix a cube contains a cell centre at a layer exactly where each of its three
 /// coordinates lies strictly between those of two opposite placed corners.
@@ -21,12 +21,6 @@ pub fn cylinders_hold()
     ensures { CylindersHold }
 {}
 
-/// Each primitive has as many triangles as its form tells.
-#[tactic(auto, using(crate::proofs::Counts::are_counted))]
-pub fn triangles_are_counted()
-    ensures { AreCounted }
-{}
-
 #[cfg(test)]
 mod tests {
     use super::*;
@@ -36,6 +30,5 @@ mod tests {
         cubes_hold();
         prisms_hold();
         cylinders_hold();
-        triangles_are_counted();
     }
 }

@@ -21,7 +21,8 @@ pub(crate) fn rectangle(x: Num, y: Num, center: bool) -> [(Num, Num); 4]
 /// The vertices of a circle.
 pub(crate) fn circle(alloc: Global, r: Num, n: u32) -> Result<Vec<(Num, Num)>, AllocError>
     requires { n ≤ 1000000000 }
-    ensures { IfOk result (λ v. v.items ≡ circle r n) }
+    ensures vertices { IfOk result (λ v. v.items ≡ circle r n) }
+    ensures count { IfOk result (λ v. length v.items ≡ n) }
 {
     let mut outline = Vec::new(alloc);
     for i in 0..n {

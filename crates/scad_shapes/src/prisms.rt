@@ -1,6 +1,8 @@
 //! Cubes and cylinders.
 ghost use Rattle.std.specs.Prelude.{◌≡◌, ◌≤◌, ◌+ℤ◌, length, IfOk};
 ghost use Rattle.scad_solid.specs.Laws.{HoldBetween, HoldInside};
+ghost use Rattle.scad_shapes.specs.declared.count.Form.TheVariants.{Cube, Cylinder};
+ghost use Rattle.scad_shapes.specs.Count.{triangles_of, prism_triangles};
 ghost use Rattle.scad_shapes.specs.Rings.{two_rings, cube_rings, cylinder_rings, solid_of_rings, UnlessMemory};
 ghost use Rattle.scad_shapes.specs.Outline.{start_of, circle};
 ghost use Rattle.scad_shapes.specs.Laws.{IsDiagonal, IsUpright, first_corner, last_corner, placed_outline, placed_height};
@@ -23,7 +25,8 @@ pub fn cube(
     center: bool,
     m: &Matrix,
 ) -> Result<Triangles, ShapeFault>
-    ensures triangles { UnlessMemory result (result ≡ solid_of_rings (cube_rings x y z center m.now)) }
+    ensures solid { UnlessMemory result (result ≡ solid_of_rings (cube_rings x y z center m.now)) }
+    ensures count { IfOk result (λ t. length t ≡ triangles_of Cube) }
     ensures holds { IsDiagonal m.now → IfOk result (λ t. HoldBetween (first_corner x y z center m.now) (last_corner x y z center m.now) t) }
 {
     let ring = rectangle(x, y, center);
@@ -44,7 +47,8 @@ pub fn cylinder(
 ) -> Result<Triangles, ShapeFault>
     requires some { 3 ≤ n }
     requires few { n ≤ 200000 }
-    ensures triangles { UnlessMemory result (result ≡ solid_of_rings (cylinder_rings h r1 r2 n center m.now)) }
+    ensures solid { UnlessMemory result (result ≡ solid_of_rings (cylinder_rings h r1 r2 n center m.now)) }
+    ensures count { IfOk result (λ t. length t ≡ triangles_of (Cylinder n)) }
     ensures holds { IsUpright m.now → r1 ≡ r2 → IfOk result (λ t. HoldInside (placed_outline m.now (circle r1 n)) (placed_height m.now (start_of h center +ℤ h)) (placed_height m.now (start_of h center)) t) }
 {
     let Ok(bottom) = circle(alloc, r1, n) else {
@@ -58,6 +62,7 @@ pub fn cylinder(
 }
 
 // The solid between an outline at a lower and one at an upper height.
+#[tactic(auto, using(crate::proofs::Counted::prism_count, scad_geom::proofs::Casts::casts))]
 fn prism(
     alloc: Global,
     m: &Matrix,
@@ -66,8 +71,10 @@ fn prism(
     low: Num,
     high: Num,
 ) -> Result<Triangles, ShapeFault>
-    requires { length bottom.now ≡ length top.now }
-    ensures { UnlessMemory result (result ≡ solid_of_rings (two_rings m.now bottom.now top.now low high)) }
+    requires alike { length bottom.now ≡ length top.now }
+    requires some { 3 ≤ length top.now }
+    ensures solid { UnlessMemory result (result ≡ solid_of_rings (two_rings m.now bottom.now top.now low high)) }
+    ensures count { IfOk result (λ t. length t ≡ prism_triangles (length top.now)) }
 {
     let upper = place_ring(alloc, m, high, top)?;
     let lower = place_ring(alloc, m, low, bottom)?;

@@ -1,5 +1,7 @@
 //! Spheres.
-ghost use Rattle.std.specs.Prelude.{◌≡◌, ◌<◌, ◌≤◌, ◌++◌, ◌∷◌, [], pos, unsigned_abs, OnOk};
+ghost use Rattle.std.specs.Prelude.{◌≡◌, ◌<◌, ◌≤◌, ◌++◌, ◌∷◌, [], pos, unsigned_abs, length, IfOk};
+ghost use Rattle.scad_shapes.specs.declared.count.Form.TheVariants.{Sphere};
+ghost use Rattle.scad_shapes.specs.Count.{triangles_of};
 ghost use Rattle.scad_shapes.specs.Outline.{sphere_rings, polar_angle};
 ghost use Rattle.scad_shapes.specs.Rings.{sphere_ring, sphere_ring_at, sphere_rings_of, ring_if_in_range, solid_of_rings, UnlessMemory};
 ghost use Rattle.scad_shapes.specs.Pushed.{Pushes, Collects, ring_in_range};
@@ -14,10 +16,12 @@ use scad_solid::{Ring, Triangles};
 use std::alloc::Global;
 
 /// A sphere round the origin: rings of `n` vertices, `(n + 1) / 2` of them from the top downwards.
+#[tactic(auto, using(crate::proofs::Counted::sphere_count, scad_geom::proofs::Casts::casts))]
 pub fn sphere(alloc: Global, r: Num, n: u32, m: &Matrix) -> Result<Triangles, ShapeFault>
     requires some { 3 ≤ n }
     requires few { n ≤ 200000 }
-    ensures { UnlessMemory result (result ≡ solid_of_rings (sphere_rings_of r n m.now)) }
+    ensures solid { UnlessMemory result (result ≡ solid_of_rings (sphere_rings_of r n m.now)) }
+    ensures count { IfOk result (λ t. length t ≡ triangles_of (Sphere n)) }
 {
     let rings = rings(alloc, r, n, m)?;
     solid(alloc, rings.as_slice())

@@ -1,64 +1,72 @@
--- How many triangles faces and stacks of rings have.
-use Rattle.std.proofs.Common.{◌≡◌, ℕ, suc, ◌+◌, ◌-◌, ◌*◌, Bool, ◌&&◌, true, false, List, [], ◌∷◌, length, map, reverse, ◌==◌, arith, refl, ap, sym, ◌∙◌, length-append}
-use Rattle.std.specs.List.{list_all, sum_by, zip}
-use Rattle.std.proofs.lemmas.List.{length-reverse}
-use Rattle.std.proofs.lemmas.List.Concat.{length-flat_map}
+-- How many triangles faces and stacked rings have.
+use Rattle.std.proofs.Common.{◌≡◌, ℕ, suc, ◌+◌, ◌-◌, ◌*◌, ◌&&◌, ◌==◌, Bool, true, false, List, [], ◌∷◌, ◌++◌, length, map, reverse, arith, refl, ap, ap₂, sym, ◌∙◌, length-append}
+use Rattle.std.specs.List.{zip, list_all, sum_by}
 use Rattle.std.proofs.lemmas.Grind.{flat_map-append}
+use Rattle.std.proofs.lemmas.Bool.Decides.{nat_tests}
+use Rattle.std.proofs.lemmas.List.{length-reverse}
+use Rattle.std.proofs.lemmas.List.Sums.{sum_by-cons}
 use Rattle.scad_geom.specs.declared.point3.Pt3.{Pt3}
+use Rattle.scad_solid.specs.declared.side.Side.{Side}
 use Rattle.scad_solid.specs.Solid.{fan, fan_around, fans}
-use Rattle.scad_solid.specs.Stack.{path, quad, band, faces_below, stacked}
-use Rattle.scad_solid.specs.Laws.{AreCounted}
-use borrow.Author.Tests.{eqb-true}
+use Rattle.scad_solid.specs.Stack.{path, ring_sides, quad, band, faces_below, stacked}
 
-fan_around-count : (p q : Pt3) (rs : List Pt3) → length (fan_around p q rs) ≡ length rs
-fan_around-count p q [] = refl
-fan_around-count p q (r ∷ rs) = ap suc (fan_around-count p r rs)
+length-fan_around : (p q : Pt3) (rs : List Pt3) → length (fan_around p q rs) ≡ length rs
+length-fan_around p q [] = refl
+length-fan_around p q (r ∷ rs) = ap suc (length-fan_around p r rs)
 
 -- a face has two triangles less than points
-pub fan-count : (ps : List Pt3) → length (fan ps) ≡ length ps - 2
-fan-count [] = refl
-fan-count (p ∷ []) = refl
-fan-count (p ∷ q ∷ rs) = omega (arith, fan_around-count p q rs)
+pub length-fan : (ps : List Pt3) → length (fan ps) ≡ length ps - 2
+length-fan [] = refl
+length-fan (p ∷ []) = refl
+length-fan (p ∷ q ∷ rs) = length-fan_around p q rs ∙ omega arith
 
--- all faces have as many as their points less two each
-pub fans-count : (faces : List (List Pt3)) → length (fans faces) ≡ sum_by (λ face. length face - 2) faces
-fans-count faces = length-flat_map fan faces ∙ ap (λ f. sum_by f faces) (λ i face. fan-count face i)
+pub length-fans-more : (us vs : List (List Pt3)) → length (fans (us ++ vs)) ≡ length (fans us) + length (fans vs)
+length-fans-more us vs = ap length (flat_map-append fan us vs) ∙ length-append (fans us) (fans vs)
 
--- two triangles for each quad between two paths of one length
-paths-count : (p : Pt3) (ps : List Pt3) (p' q : Pt3) (qs : List Pt3) (q' : Pt3) → length ps ≡ length qs → length (fans (map quad (zip (path p ps p') (path q qs q')))) ≡ 2 * (length ps + 1)
-paths-count p [] p' q [] q' same = refl
-paths-count p (r ∷ rs) p' q (t ∷ ts) q' same = omega (arith, paths-count r rs p' t ts q' (omega arith))
-paths-count p [] p' q (t ∷ ts) q' same = absurd (omega arith)
-paths-count p (r ∷ rs) p' q [] q' same = absurd (omega arith)
+length-path : (p : Pt3) (qs : List Pt3) (last : Pt3) → length (path p qs last) ≡ suc (length qs)
+length-path p [] last = refl
+length-path p (q ∷ qs) last = ap suc (length-path q qs last)
 
-band-count : (ps qs : List Pt3) → length ps ≡ length qs → length (fans (band ps qs)) ≡ 2 * length ps
-band-count [] [] same = refl
-band-count (p ∷ ps) (q ∷ qs) same = omega (arith, paths-count p ps p q qs q (omega arith))
-band-count [] (q ∷ qs) same = absurd (omega arith)
-band-count (p ∷ ps) [] same = absurd (omega arith)
+length-ring_sides : (ring : List Pt3) → length (ring_sides ring) ≡ length ring
+length-ring_sides [] = refl
+length-ring_sides (p ∷ ps) = length-path p ps p
 
-both : (a b : Bool) → (a && b) ≡ true → (a ≡ true) × (b ≡ true)
+-- two triangles for each pair of sides
+length-quads : (us vs : List Side) → length us ≡ length vs → length (fans (map quad (zip us vs))) ≡ 2 * length us
+length-quads [] vs e = refl
+length-quads (a ∷ us) [] e = absurd (omega arith)
+length-quads (a ∷ us) (b ∷ vs) e = let more = length-quads us vs (omega arith) in omega arith
+
+pub length-band : (upper lower : List Pt3) → length upper ≡ length lower → length (fans (band upper lower)) ≡ 2 * length upper
+length-band upper lower e =
+    length-quads (ring_sides upper) (ring_sides lower) (length-ring_sides upper ∙ e ∙ sym (length-ring_sides lower)) ∙ ap (λ n. 2 * n) (length-ring_sides upper)
+
+both : (a b : Bool) → a && b ≡ true → (a ≡ true) × (b ≡ true)
 both true b e = (refl, e)
 both false b e = absurd (cc)
 
-faces_below-count : (m : ℕ) (ring : List Pt3) (rings : List (List Pt3)) → length ring ≡ m → list_all (λ r. length r == m) rings ≡ true → length (fans (faces_below ring rings)) ≡ 2 * m * length rings + (m - 2)
-faces_below-count m ring [] long all = omega (arith, length-append (fan ring) [], fan-count ring)
-faces_below-count m ring (next ∷ rings) long all =
-    let one = both (length next == m) (list_all (λ r. length r == m) rings) all in
-    let next_long = eqb-true (length next) m one.0 in
-    let rest = faces_below-count m next rings next_long one.1 in
-    let here = band-count ring next (long ∙ sym next_long) in
-    ap length (flat_map-append fan (band ring next) (faces_below next rings))
-    ∙ omega (arith, length-append (fans (band ring next)) (fans (faces_below next rings)))
+equal : (a m : ℕ) → (a == m) ≡ true → a ≡ m
+equal a m e = grind (arith, nat_tests)
 
--- a stack of rings of one length has the triangles of its top and bottom, and two for each side of each ring but the last
-pub stacked-count : (m : ℕ) (top : List Pt3) (rings : List (List Pt3)) → length top ≡ m → list_all (λ r. length r == m) rings ≡ true → length (stacked (top ∷ rings)) ≡ 2 * (m - 2) + 2 * m * length rings
+length-below : (m : ℕ) (ring : List Pt3) (rings : List (List Pt3)) → length ring ≡ m → list_all (λ r. length r == m) rings ≡ true → length (fans (faces_below ring rings)) ≡ 2 * m * length rings + (m - 2)
+length-below m ring [] e all = length-append (fan ring) [] ∙ omega (arith, length-fan ring)
+length-below m ring (next ∷ rings) e all =
+    let parts = both (length next == m) (list_all (λ r. length r == m) rings) all in
+    let same = equal (length next) m parts.0 in
+    let here = length-band ring next (e ∙ sym same) in
+    let below = length-below m next rings same parts.1 in
+    length-fans-more (band ring next) (faces_below next rings) ∙ ap₂ (λ a b. a + b) (here ∙ ap (λ n. 2 * n) e) below ∙ omega arith
+
+-- the triangles of rings of m points each: top and bottom, and 2 m between each two
+pub length-stacked : (m : ℕ) (top : List Pt3) (rings : List (List Pt3)) → length top ≡ m → list_all (λ r. length r == m) rings ≡ true → length (stacked (top ∷ rings)) ≡ 2 * (m - 2) + 2 * m * length rings
 unfolding stacked
-stacked-count m top rings long all =
-    omega (arith, length-append (fan (reverse top)) (fans (faces_below top rings)), fan-count (reverse top), length-reverse top, faces_below-count m top rings long all)
+length-stacked m top rings e all =
+    let turned = length-fan (reverse top) ∙ ap (λ n. n - 2) (length-reverse top ∙ e) in
+    let below = length-below m top rings e all in
+    length-append (fan (reverse top)) (fans (faces_below top rings)) ∙ ap₂ (λ a b. a + b) turned below ∙ omega arith
 
-pub are_counted : AreCounted
-are_counted = record {
-  faces = fans-count;
-  stacks = λ top rings alike. stacked-count (length top) top rings refl alike;
-}
+-- and those of given faces
+pub length-fans : (faces : List (List Pt3)) → length (fans faces) ≡ sum_by (λ face. length face - 2) faces
+length-fans [] = refl
+length-fans (face ∷ faces) =
+    length-append (fan face) (fans faces) ∙ ap₂ (λ a b. a + b) (length-fan face) (length-fans faces) ∙ sym (sum_by-cons (λ f. length f - 2) face faces)

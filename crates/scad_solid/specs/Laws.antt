@@ -1,14 +1,12 @@
 -- What the solids of a ring over itself contain: prisms over any ring, and upright boxes.
-use Rattle.std.specs.Prelude.{◌≡◌, ◌≢◌, ◌⊎◌, ◌↔◌, ℕ, ◌+◌, ◌-◌, ◌*◌, List, [], ◌∷◌, length, map, IsTrue, ℤ, pos, ◌*ℤ◌, ◌<ℤ◌}
-use Rattle.std.specs.List.{sum_by}
+use Rattle.std.specs.Prelude.{◌≢◌, ◌⊎◌, ◌↔◌, ℕ, List, [], ◌∷◌, map, IsTrue, ℤ, pos, ◌*ℤ◌, ◌<ℤ◌}
 use Rattle.scad_geom.specs.declared.point.Pt.{Pt}
 use Rattle.scad_geom.specs.declared.point3.Pt3.{Pt3}
 use Rattle.scad_geom.specs.declared.half.Half.TheVariants.{Cell}
 use Rattle.scad_geom.specs.Loop.{sides}
 use Rattle.scad_geom.specs.Winding.{doubled, wind}
 use Rattle.scad_solid.specs.declared.triangle.Triangle.{Triangle}
-use Rattle.scad_solid.specs.Solid.{fans}
-use Rattle.scad_solid.specs.Stack.{stacked, are_alike}
+use Rattle.scad_solid.specs.Stack.{stacked}
 use Rattle.scad_solid.specs.Cut.{plane_of, contains}
 
 -- a point of the plane at a height
@@ -56,10 +54,3 @@ pub record PrismsHold : Type 0 where
 -- matter
 pub record BoxesHold : Type 0 where
   pub each : (p q : Pt3) → HoldBetween p q (box p q)
-
--- faces have as many triangles as points less two each; rings of one length have those of a top and a bottom, and two
--- for each side of a ring that stands over another
-pub record AreCounted : Type 0 where
-  pub faces : (all : List (List Pt3)) → length (fans all) ≡ sum_by (λ face. length face - 2) all
-  pub stacks : (top : List Pt3) (rings : List (List Pt3)) → IsTrue (are_alike (top ∷ rings)) →
-      length (stacked (top ∷ rings)) ≡ 2 * (length top - 2) + 2 * length top * length rings

@@ -1,5 +1,5 @@
 //! Laws of the definitions, each carried by the contract of a function that does nothing.
-ghost use Rattle.scad_solid.specs.Laws.{PrismsHold, BoxesHold, AreCounted};
+ghost use Rattle.scad_solid.specs.Laws.{PrismsHold, BoxesHold};
 
 /// A prism over any ring contains a point at a layer exactly where the plane lies strictly between its
 /// two ends and the ring winds round the point.
@@ -15,12 +15,6 @@ pub fn boxes_hold()
     ensures { BoxesHold }
 {}
 
-/// Faces have as many triangles as points less two each, and a stack of rings as many as its faces.
-#[tactic(auto, using(crate::proofs::Counts::are_counted))]
-pub fn triangles_are_counted()
-    ensures { AreCounted }
-{}
-
 #[cfg(test)]
 mod tests {
     use super::*;
@@ -29,6 +23,5 @@ mod tests {
     fn laws_are_called() {
         prisms_hold();
         boxes_hold();
-        triangles_are_counted();
     }
 }

@@ -12,4 +12,4 @@ returns-clause-holds c diagonal =
     (λ i. two_rings a.m.now (c.rectangle-ring.ensures i) (c.rectangle-ring.ensures i) (c.extent-low.ensures.begins i) (c.extent-low.ensures.ends i)) in
     of_solid (HoldBetween (first_corner a.x a.y a.z a.center a.m.now) (last_corner a.x a.y a.z a.center a.m.now))
     (cube_rings a.x a.y a.z a.center a.m.now) (cubes_hold.each a.x a.y a.z a.center a.m.now diagonal) c.prism.result
-    (subst (λ rings. UnlessMemory c.prism.result (c.prism.result ≡ solid_of_rings rings)) rings c.prism.ensures)
+    (subst (λ rings. UnlessMemory c.prism.result (c.prism.result ≡ solid_of_rings rings)) rings c.prism.ensures.solid)
