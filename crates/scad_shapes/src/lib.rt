@@ -13,6 +13,8 @@ mod placing;
 mod polyhedra;
 mod prisms;
 mod spheres;
+#[cfg(test)]
+mod tests;
 
 pub use count::{Form, triangles_of};
 pub use fault::ShapeFault;
