@@ -3,5 +3,9 @@
 //! as `specs/Builtin.antt` says, line by line beside the table of functions in docs/language.md.
 #![tactic(auto)]
 
+mod fault;
 mod function;
 mod name;
+mod number;
+
+pub use fault::BuiltinFault;
