@@ -19,3 +19,6 @@ mod string;
 
 pub use dispatch::call;
 pub use fault::BuiltinFault;
+
+#[cfg(test)]
+mod tests;
