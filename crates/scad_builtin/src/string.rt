@@ -21,7 +21,7 @@ fn push_bare(value: &Value, onto: &mut Vec<char>) -> Result<(), BuiltinFault>
 {
     match value {
         Value::Str(chars) => Ok(onto.extend_from_slice(chars.as_slice())?),
-        _ => Ok(push_text(value, onto)?),
+        _ => Ok(push_text(onto, value)?),
     }
 }
 
