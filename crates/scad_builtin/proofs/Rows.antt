@@ -1,6 +1,6 @@
 -- The elements that lists of values are.
-use Rattle.std.proofs.Common.{◌≡◌, ℕ, ◌+◌, ◌<◌, List, [], ◌∷◌, ◌++◌, length, map, drop, get_or, pos, refl, ap, sym, ◌∙◌, add-one}
-use Rattle.std.proofs.lemmas.List.{at_drop_more, get_or-map, length-map}
+use Rattle.std.proofs.Common.{◌≡◌, ℕ, ◌+◌, ◌<◌, List, [], ◌∷◌, ◌++◌, length, map, get_or, pos, refl, ap, sym, ◌∙◌, add-one}
+use Rattle.std.proofs.lemmas.List.{get_or-map, length-map}
 use Rattle.scad_value.specs.declared.value.Value.{Value}
 use Rattle.scad_value.specs.Datum.{Elements, no_elements, element}
 use Rattle.scad_value.specs.View.{datum_of, elements}
@@ -10,10 +10,6 @@ use Rattle.scad_builtin.specs.Vectors.{appended}
 pub count_elements : (xs : List Value) → count (elements xs) ≡ length xs
 count_elements [] = refl
 count_elements (x ∷ xs) = ap (λ n. n + 1) (count_elements xs) ∙ add-one (length xs)
-
--- one element on in what is left of a list
-pub elements_drop : (xs : List Value) (i : ℕ) (x : Value) → i < length xs → x ≡ get_or xs i x → elements (drop i xs) ≡ element (datum_of x) (elements (drop (i + 1) xs))
-elements_drop xs i x within is = at_drop_more elements xs i x within ∙ ap (λ y. element (datum_of y) (elements (drop (i + 1) xs))) (sym is)
 
 pub numbers_elements : (xs : List Value) → numbers (elements xs) ≡ map (λ v. number_or_zero (datum_of v)) xs
 numbers_elements [] = refl
