@@ -1,0 +1,9 @@
+pub mod Answer
+pub mod Arguments
+pub mod Builtin
+pub mod Fault
+pub mod Kinds
+pub mod Names
+pub mod Numbers
+pub mod Strings
+pub mod Vectors
