@@ -6,3 +6,5 @@ pub mod Middle
 pub mod Slabs
 pub mod Winding
 pub mod Walk
+pub mod Ends
+pub mod Centre

@@ -41,10 +41,10 @@ use Rattle.slice_bool.proofs.Winding.{outside_below, outside_above, either_over,
 Positive : Level → Type 0
 Positive h = pos 0 <ℤ h.d
 
-same_at_most : (p q : Level) → IsSameHeight p q → IsAtMost q p
+pub same_at_most : (p q : Level) → IsSameHeight p q → IsAtMost q p
 same_at_most p q h = omega (arith, ints)
 
-same_at_least : (p q : Level) → IsSameHeight p q → IsAtMost p q
+pub same_at_least : (p q : Level) → IsSameHeight p q → IsAtMost p q
 same_at_least p q h = omega (arith, ints)
 
 -- what a rising list has lies at its first level or above it

@@ -80,9 +80,9 @@ pub either_over : (above : Bool) (p l : Level) → Over above p l ⊎ NotOver ab
 either_over true p l = by_lt_z (p.n *ℤ l.d) (l.n *ℤ p.d) (λ h. inl h) (λ h. inr h)
 either_over false p l = by_lt_z (l.n *ℤ p.d) (p.n *ℤ l.d) (λ h. inr h) (λ h. inl h)
 
-record IsSpotAt (l : Level) (s : Spot) : Type 0 where
-  at : s.at ≡ l
-  runs : pos 0 <ℤ pos s.run
+pub record IsSpotAt (l : Level) (s : Spot) : Type 0 where
+  pub at : s.at ≡ l
+  pub runs : pos 0 <ℤ pos s.run
 
 still_at : (above : Bool) (p : Point) (l : Level) (s t : Spot) → IsSpotAt l s → IsSpotAt l t → IsStill above p s t
 still_at above p l s t hs ht = elim (either_over above (level_at p) l) [
@@ -90,25 +90,25 @@ still_at above p l s t hs ht = elim (either_over above (level_at p) l) [
   | inr o ↦ spot_not_over above p s hs.runs (subst (NotOver above (level_at p)) (sym hs.at) o) ∙ sym (spot_not_over above p t ht.runs (subst (NotOver above (level_at p)) (sym ht.at) o))
 ]
 
-one_of : (l : Level) (ts : List Spot) (s : Spot) → AllByRecursion (IsSpotAt l) ts → IsOneOf ts s → IsSpotAt l s
+pub one_of : (l : Level) (ts : List Spot) (s : Spot) → AllByRecursion (IsSpotAt l) ts → IsOneOf ts s → IsSpotAt l s
 one_of l [] s h o = absurd o
 one_of l (t ∷ ts) s h o = elim o [ inl e ↦ subst (IsSpotAt l) e h.0 | inr r ↦ one_of l ts s h.1 r ]
 
-both_lists : {A : Type 0} (P : A → Type 0) (xs ys : List A) → AllByRecursion P xs → AllByRecursion P ys → AllByRecursion P (xs ++ ys)
+pub both_lists : {A : Type 0} (P : A → Type 0) (xs ys : List A) → AllByRecursion P xs → AllByRecursion P ys → AllByRecursion P (xs ++ ys)
 both_lists P [] ys h k = k
 both_lists P (x ∷ xs) ys h k = (h.0, both_lists P xs ys h.1 k)
 
-is_true_first : (a b : Bool) → (a && b) ≡ true → a ≡ true
+pub is_true_first : (a b : Bool) → (a && b) ≡ true → a ≡ true
 is_true_first true b h = refl
 is_true_first false b h = cc
 
-passes_rises : (e : Edge) (l : Level) → passes_at e l ≡ true → pos 0 <ℤ pos (unsigned_abs (rise e))
+pub passes_rises : (e : Edge) (l : Level) → passes_at e l ≡ true → pos 0 <ℤ pos (unsigned_abs (rise e))
 passes_rises e l h =
     let q : int_lt (pos 0) (rise e) ≡ true = is_true_first (int_lt (pos 0) (rise e)) _ h in
     let r : pos 0 <ℤ rise e = omega (arith, ints) in
     subst (λ (z : ℤ). pos 0 <ℤ z) (sym (size_of (rise e) r)) r
 
-spots_are_at : (es : List LeafEdge) (l : Level) → AllByRecursion (IsSpotAt l) (spots_at es l)
+pub spots_are_at : (es : List LeafEdge) (l : Level) → AllByRecursion (IsSpotAt l) (spots_at es l)
 spots_are_at [] l = tt
 spots_are_at (e ∷ es) l = both_lists (IsSpotAt l) _ (spots_at es l) (by_tests (is_flat_at e.edge l) (passes_at e.edge l) refl) (spots_are_at es l)
   where
@@ -131,7 +131,7 @@ flat_still es shape above right p l (s ∷ (t ∷ ss)) h =
     wind_pieces-append above right p (stretch_piece es shape s t (position (covers s t) es)) (flat_pieces es shape (t ∷ ss))
     ∙ two_zeros _ _ (stretch_still es shape above right p s t (position (covers s t) es) (still_at above p l s t h.0 h.1.0)) (flat_still es shape above right p l (t ∷ ss) h.1)
 
-stops_at : (es : List LeafEdge) (l : Level) (stops : List Spot) → AreStops es l stops → AllByRecursion (IsSpotAt l) stops
+pub stops_at : (es : List LeafEdge) (l : Level) (stops : List Spot) → AreStops es l stops → AllByRecursion (IsSpotAt l) stops
 stops_at es l stops h = over stops h.sound
   where
     over : (ss : List Spot) → AllByRecursion (IsOneOf (spots_at es l)) ss → AllByRecursion (IsSpotAt l) ss
