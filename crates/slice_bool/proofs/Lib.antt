@@ -8,3 +8,5 @@ pub mod Winding
 pub mod Walk
 pub mod Ends
 pub mod Centre
+pub mod BalanceTurns
+pub mod BalanceEdges
