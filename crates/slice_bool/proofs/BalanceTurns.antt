@@ -66,7 +66,7 @@ from_end ax ay ad bx by bd x y d = ring (ax ∷ ay ∷ ad ∷ bx ∷ by ∷ bd �
 turned_over : (ax ay ad bx by bd x y d : ℤ) → ((ax *ℤ bd -ℤ bx *ℤ ad) *ℤ (y *ℤ bd -ℤ by *ℤ d) -ℤ (ay *ℤ bd -ℤ by *ℤ ad) *ℤ (x *ℤ bd -ℤ bx *ℤ d)) *ℤ ad ≡ pos 0 -ℤ ((bx *ℤ ad -ℤ ax *ℤ bd) *ℤ (y *ℤ ad -ℤ ay *ℤ d) -ℤ (by *ℤ ad -ℤ ay *ℤ bd) *ℤ (x *ℤ ad -ℤ ax *ℤ d)) *ℤ bd
 turned_over ax ay ad bx by bd x y d = ring (ax ∷ ay ∷ ad ∷ bx ∷ by ∷ bd ∷ x ∷ y ∷ d ∷ []) (((v0 ⊗ v5 ⊖ v3 ⊗ v2) ⊗ (v7 ⊗ v5 ⊖ v4 ⊗ v8) ⊖ (v1 ⊗ v5 ⊖ v4 ⊗ v2) ⊗ (v6 ⊗ v5 ⊖ v3 ⊗ v8)) ⊗ v2) (num (pos 0) ⊖ ((v3 ⊗ v2 ⊖ v0 ⊗ v5) ⊗ (v7 ⊗ v2 ⊖ v1 ⊗ v8) ⊖ (v4 ⊗ v2 ⊖ v1 ⊗ v5) ⊗ (v6 ⊗ v2 ⊖ v0 ⊗ v8)) ⊗ v5) refl
 
-no_gap : (a b : ℤ) → a ≡ b → a -ℤ b ≡ pos 0
+pub no_gap : (a b : ℤ) → a ≡ b → a -ℤ b ≡ pos 0
 no_gap a b h = omega (arith, ints)
 
 gap_of : (a b : ℤ) → a <ℤ b → pos 0 <ℤ (b -ℤ a)

@@ -10,3 +10,4 @@ pub mod Ends
 pub mod Centre
 pub mod BalanceTurns
 pub mod BalanceEdges
+pub mod BalanceSpots
