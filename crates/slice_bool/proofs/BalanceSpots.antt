@@ -149,7 +149,7 @@ module _ (above : Bool) (e : Edge) (l : Level) (dl : pos 0 <ℤ l.d) where
   ]
 
 -- ---- the spots of a height and the edges that they come from
-abbrev own_spots : LeafEdge → Level → List Spot
+abbrev pub own_spots : LeafEdge → Level → List Spot
 own_spots e l = if is_flat_at e.edge l then whole_spot e.edge.a.x l ∷ (whole_spot e.edge.b.x l ∷ []) else if passes_at e.edge l then spot_on e.edge l ∷ [] else []
 
 not_zero : (z : ℤ) → int_lt (pos 0) z ≡ true → is_zero z ≡ false

@@ -11,3 +11,6 @@ pub mod Centre
 pub mod BalanceTurns
 pub mod BalanceEdges
 pub mod BalanceSpots
+pub mod BalanceStops
+pub mod BalanceFlat
+pub mod BalanceLevels

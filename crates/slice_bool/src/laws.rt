@@ -1,6 +1,7 @@
 //! Laws of the definitions, each carried by the contract of a function that does nothing.
 ghost use Rattle.slice_bool.specs.Pieces.{PiecesWindOnce};
 ghost use Rattle.slice_bool.specs.Ends.{HeightsHaveOneLevel};
+ghost use Rattle.slice_bool.specs.Balance.{BordersAreBalanced};
 ghost use Rattle.slice_bool.specs.Centre.{CentresAreWoundOnce, CentresAreHeld};
 
 /// The pieces of a border wind once round each point that the shape holds, hard by the point on each
@@ -21,6 +22,11 @@ pub fn centres_are_wound_once()
     ensures held { CentresAreHeld }
 {}
 
+/// Where the edges of each leaf are balanced, as many pieces of a border start at each point as end there.
+pub fn borders_are_balanced()
+    ensures { BordersAreBalanced }
+{}
+
 #[cfg(test)]
 mod tests {
     use super::*;
@@ -30,5 +36,6 @@ mod tests {
         pieces_wind_once();
         heights_have_one_level();
         centres_are_wound_once();
+        borders_are_balanced();
     }
 }
