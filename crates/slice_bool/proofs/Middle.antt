@@ -24,7 +24,7 @@ use Rattle.scad_geom.proofs.Heights.{Reaches, lower_weak}
 use Rattle.scad_geom.proofs.Order.{before_between, aligned_all}
 use Rattle.scad_geom.proofs.Turns.{level_at, Spans, beyond_mul}
 use Rattle.slice_bool.proofs.Sums.{sum_z, sum_z-append, sum_z-permutation, sum_z-same, sum_z-zero}
-use Rattle.slice_bool.proofs.Reaching.{reaches_is, heading_for, lies_left, wind_reaching}
+use Rattle.slice_bool.proofs.Reaching.{heading_for, lies_left, wind_reaching}
 use Rattle.scad_geom.specs.Line.{run, offset, left_of}
 use Rattle.scad_geom.proofs.Ring.{ring, Term, num, ◌⊕◌, ◌⊖◌, ◌⊗◌, v0, v1, v2, v3, v4, v5, v6, v7, v8, v9, v10, v11}
 use Rattle.scad_geom.proofs.Signs.{neg_mul_pos, at_most_mul}
