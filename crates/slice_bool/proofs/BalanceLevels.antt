@@ -1,8 +1,8 @@
 -- Upwards through the levels: as many pieces start at a point as end there.
 use Rattle.std.proofs.Common.{◌≡◌, ℕ, ◌+◌, ◌⊎◌, inl, inr, Bool, true, false, cond, List, [], ◌∷◌, ◌++◌, refl, sym, ap, ap₂, ◌∙◌, arith, subst}
 use lib.IntN.{ℤ, pos, ◌+ℤ◌, ◌-ℤ◌, ◌*ℤ◌}
-use lib.Signed.{◌<ℤ◌, ◌≤ℤ◌}
-use Rattle.std.specs.Prelude.{if◌then◌else◌, count_by, unsigned_abs}
+use lib.Signed.{◌<ℤ◌}
+use Rattle.std.specs.Prelude.{unsigned_abs}
 use Rattle.std.specs.List.{AllByRecursion, concat}
 use Rattle.std.proofs.lemmas.Int.{ints, by_lt_z}
 use Rattle.std.proofs.lemmas.List.Sums.{sum_by-cons}
@@ -13,13 +13,12 @@ use Rattle.scad_geom.specs.Line.{rise}
 use Rattle.scad_geom.specs.Winding.{counted}
 use Rattle.scad_geom.specs.Around.{Point, whole, turn}
 use Rattle.scad_geom.specs.Shape.{is_in_by}
-use Rattle.scad_geom.specs.Heights.{level_of, IsLower, IsSameHeight, heights, meetings}
-use Rattle.scad_geom.proofs.Ring.{ring, ◌⊖◌, ◌⊗◌, v0, v1, v2, v3, v4}
+use Rattle.scad_geom.specs.Heights.{level_of, IsLower, heights, meetings}
 use Rattle.scad_geom.proofs.Signs.{pos_mul}
 use Rattle.scad_geom.proofs.Heights.{lower_then_at_most, at_most_then_lower, lower_weak}
 use Rattle.scad_geom.proofs.Order.{back}
 use Rattle.scad_geom.proofs.Turns.{level_at}
-use Rattle.slice_events.specs.Levels.{IsRising, HasHeight, AreLevels}
+use Rattle.slice_events.specs.Levels.{IsRising, HasHeight}
 use Rattle.slice_slab.specs.Bundles.{edge_at, AreRanked, AreBundles}
 use Rattle.slice_snap.specs.declared.piece.Spot.{Spot}
 use Rattle.slice_snap.specs.declared.piece.Piece.{Piece}
@@ -32,7 +31,7 @@ use Rattle.slice_bool.proofs.Winding.{stops_still}
 use Rattle.slice_bool.proofs.Walk.{pieces_wind}
 use Rattle.slice_bool.proofs.BalanceTurns.{ahead, ahead_over, ahead_under, ahead_both, step_up, step_down}
 use Rattle.slice_bool.proofs.BalanceEdges.{IsAside, level_values}
-use Rattle.slice_bool.proofs.BalanceSpots.{IsAt, up_to, down_to}
+use Rattle.slice_bool.proofs.BalanceSpots.{up_to, down_to}
 use Rattle.slice_bool.proofs.BalanceStops.{aheads, aheads-append}
 use Rattle.slice_bool.proofs.BalanceFlat.{flat_change, flat_over, flat_under}
 

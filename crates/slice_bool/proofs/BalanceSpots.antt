@@ -1,11 +1,10 @@
 -- What lies hard by a point at a height depends only on which of the height's spots lie to its right.
-use Rattle.std.proofs.Common.{◌≡◌, ℕ, zero, suc, ◌⊎◌, inl, inr, Bool, true, false, not, cond, List, [], ◌∷◌, ◌++◌, refl, sym, ap, ap₂, ◌∙◌, arith, subst}
+use Rattle.std.proofs.Common.{◌≡◌, ℕ, zero, suc, ◌⊎◌, inl, inr, Bool, true, false, not, cond, List, [], ◌∷◌, refl, sym, ap, ap₂, ◌∙◌, arith, subst}
 use mathlib.Core.Path.{fun_ext}
 use lib.IntN.{ℤ, pos, negsuc, ◌+ℤ◌, ◌-ℤ◌, ◌*ℤ◌}
-use lib.Signed.{◌<ℤ◌, ◌≤ℤ◌}
+use lib.Signed.{◌<ℤ◌}
 use Rattle.std.specs.Prelude.{int_lt, int_le, if◌then◌else◌, ◌==◌, ◌&&◌, unsigned_abs}
 use Rattle.std.specs.Ordering.{int_eq}
-use Rattle.std.specs.Cmp.{signed_Decides}
 use Rattle.std.specs.List.{AllByRecursion}
 use Rattle.std.proofs.lemmas.Int.{ints, by_lt_z}
 use Rattle.scad_geom.specs.declared.point.Pt.{Pt}
@@ -19,16 +18,14 @@ use Rattle.scad_geom.specs.Around.{Point, whole, is_beyond, turn, wind_by}
 use Rattle.scad_geom.specs.Shape.{shape_holds, is_zero, is_in_by}
 use Rattle.scad_geom.specs.Heights.{level_of, IsLower, IsAtMost, IsSameHeight}
 use Rattle.scad_geom.proofs.Ring.{ring, ◌⊕◌, ◌⊖◌, ◌⊗◌, v0, v1, v2, v3, v4, v5, v6, v7}
-use Rattle.scad_geom.proofs.Integers.{mul_assoc}
-use Rattle.scad_geom.proofs.Signs.{at_least_mul}
-use Rattle.scad_geom.proofs.Heights.{Reaches, lower_then_at_most, at_most_then_lower, at_most_chain, lower_weak}
+use Rattle.scad_geom.proofs.Heights.{lower_then_at_most, at_most_then_lower, at_most_chain, lower_weak}
 use Rattle.scad_geom.proofs.Order.{front, back}
 use Rattle.scad_geom.proofs.Turns.{level_at, Over, NotOver, under_turn, over_turn, heading, reaching_turn, beyond_mul}
 use Rattle.slice_snap.specs.declared.piece.Spot.{Spot}
 use Rattle.slice_bool.specs.Pieces.{spot_on, whole_spot, point_of, is_flat_at, passes_at, spots_at}
 use Rattle.slice_bool.proofs.Middle.{size_of}
 use Rattle.slice_bool.proofs.Winding.{either_over, is_true_first}
-use Rattle.slice_bool.proofs.BalanceTurns.{gap, is_right, ahead, ahead_level, ahead_over, ahead_under, drop_zero, no_gap, int_eq-true}
+use Rattle.slice_bool.proofs.BalanceTurns.{gap, is_right, ahead_level, ahead_over, ahead_under, drop_zero, no_gap, int_eq-true}
 use Rattle.slice_bool.proofs.BalanceEdges.{IsAside}
 
 -- a point at a height

@@ -1,31 +1,27 @@
 -- The flat pieces of a height make up for what changes there: walked over its stops from left to right.
-use Rattle.std.proofs.Common.{◌≡◌, ℕ, ◌⊎◌, inl, inr, Bool, true, false, cond, List, [], ◌∷◌, ◌++◌, length, refl, sym, ap, ap₂, ◌∙◌, arith, subst}
-use lib.IntN.{ℤ, pos, negsuc, ◌+ℤ◌, ◌-ℤ◌, ◌*ℤ◌, +ℤ_idl}
+use Rattle.std.proofs.Common.{◌≡◌, ℕ, ◌⊎◌, inl, inr, Bool, true, false, List, [], ◌∷◌, ◌++◌, refl, sym, ap, ◌∙◌, arith}
+use lib.IntN.{ℤ, pos, ◌+ℤ◌, ◌-ℤ◌, ◌*ℤ◌, +ℤ_idl}
 use lib.Signed.{◌<ℤ◌, ◌≤ℤ◌}
-use Rattle.std.specs.Prelude.{Option, Some, None, int_lt, int_le, if◌then◌else◌, ◌&&◌, ◌||◌, nat_lt}
-use Rattle.std.specs.List.{AllByRecursion, position, position_or_len}
-use Rattle.std.proofs.lemmas.Int.{ints, by_lt_z}
+use Rattle.std.specs.Prelude.{Option, Some, None}
+use Rattle.std.specs.List.{AllByRecursion, position}
+use Rattle.std.proofs.lemmas.Int.{ints}
 use Rattle.scad_geom.specs.declared.level.Level.{Level}
 use Rattle.scad_geom.specs.declared.level.LeafEdge.{LeafEdge}
 use Rattle.scad_geom.specs.declared.shape.Shape.{Shape}
 use Rattle.scad_geom.specs.Winding.{counted}
 use Rattle.scad_geom.specs.Around.{Point, is_beyond}
 use Rattle.scad_geom.specs.Shape.{is_in_by}
-use Rattle.scad_geom.specs.Heights.{IsLower, IsAtMost, IsSameHeight}
+use Rattle.scad_geom.specs.Heights.{IsAtMost}
 use Rattle.scad_geom.proofs.Ring.{ring, ◌⊕◌, ◌⊖◌, ◌⊗◌, v0, v1, v2, v3, v4, v5, v6}
-use Rattle.scad_geom.proofs.Integers.{mul_assoc}
-use Rattle.scad_geom.proofs.Signs.{pos_mul, at_least_mul}
-use Rattle.scad_geom.proofs.Heights.{at_most_chain, lower_then_at_most, lower_weak}
-use Rattle.scad_geom.proofs.Order.{front, back}
-use Rattle.scad_geom.proofs.Turns.{level_at, beyond_mul}
+use Rattle.scad_geom.proofs.Signs.{at_least_mul}
+use Rattle.scad_geom.proofs.Heights.{at_most_chain, lower_weak}
+use Rattle.scad_geom.proofs.Turns.{beyond_mul}
 use Rattle.slice_snap.specs.declared.piece.Spot.{Spot}
 use Rattle.slice_snap.specs.declared.piece.Piece.{Piece}
-use Rattle.slice_bool.specs.Pieces.{whole_spot, point_of, piece_between, is_flat_at, spots_at, IsLeft, IsSameSpot, GoRight, HasSpot, AreStops, covers, stretch_piece, flat_pieces}
-use Rattle.slice_bool.specs.Balance.{AreLeavesBalanced}
-use Rattle.slice_bool.proofs.Winding.{IsSpotAt, stops_at, spots_are_at}
-use Rattle.slice_bool.proofs.BalanceTurns.{gap, is_right, ahead, ahead_level, ahead_over, ahead_under}
-use Rattle.slice_bool.proofs.BalanceEdges.{IsAside, level_values}
-use Rattle.slice_bool.proofs.BalanceSpots.{IsAt, up_to, down_to, own_spots, flat_spots, IsAlike, values_alike, IsOneSided, asides, all_one_sided}
+use Rattle.slice_bool.specs.Pieces.{point_of, piece_between, IsLeft, GoRight, HasSpot, covers, stretch_piece, flat_pieces}
+use Rattle.slice_bool.proofs.Winding.{IsSpotAt}
+use Rattle.slice_bool.proofs.BalanceTurns.{gap, is_right, ahead}
+use Rattle.slice_bool.proofs.BalanceSpots.{up_to, down_to}
 
 -- ---- what lies ahead of a point, of the ends of pieces: starts less ends
 abbrev pub aheads : Bool → Point → List Piece → ℤ

@@ -1,9 +1,9 @@
 -- A segment that isn't flat turns hard above a point's height and hard below it alike, but for an end at that height.
-use Rattle.std.proofs.Common.{◌≡◌, ◌⊎◌, inl, inr, Bool, true, false, [], ◌∷◌, refl, sym, ap, ap₂, ◌∙◌, arith, subst}
-use lib.IntN.{ℤ, pos, negsuc, ◌+ℤ◌, ◌-ℤ◌, ◌*ℤ◌, neg_ℤ, neg_ℤ-neg_ℤ, *ℤ_comm}
-use lib.Signed.{◌<ℤ◌, ◌≤ℤ◌, lt_z, le_z}
+use Rattle.std.proofs.Common.{◌≡◌, Bool, true, false, [], ◌∷◌, refl, sym, ap, ap₂, ◌∙◌, arith}
+use lib.IntN.{ℤ, pos, ◌+ℤ◌, ◌-ℤ◌, ◌*ℤ◌, neg_ℤ, neg_ℤ-neg_ℤ, *ℤ_comm}
+use lib.Signed.{◌<ℤ◌, lt_z, le_z}
 use Rattle.std.specs.Prelude.{int_lt, int_le, if◌then◌else◌, ◌&&◌}
-use Rattle.std.specs.Ordering.{int_eq, is_eq, int_cmp}
+use Rattle.std.specs.Ordering.{int_eq}
 use Rattle.std.proofs.lemmas.Int.{ints, by_lt_z}
 use Rattle.scad_geom.specs.Winding.{counted}
 use Rattle.scad_geom.specs.Around.{Point, is_over, passage_by, side_by, is_beyond, turn}
@@ -12,7 +12,7 @@ use Rattle.scad_geom.proofs.Ring.{ring, num, ◌⊕◌, ◌⊖◌, ◌⊗◌, v0
 use Rattle.scad_geom.proofs.Signs.{pos_mul}
 use Rattle.scad_geom.proofs.Integers.{mul_assoc, neg_mul}
 use Rattle.scad_geom.proofs.Heights.{lower_then_at_most, at_most_then_lower, lower_weak}
-use Rattle.scad_geom.proofs.Turns.{level_at, Over, NotOver, over_true, over_false, flat_turn, rising_turn, beyond_mul}
+use Rattle.scad_geom.proofs.Turns.{level_at, over_true, over_false, flat_turn, rising_turn, beyond_mul}
 
 -- how far b lies to the right of p, over the product of their divisors
 abbrev pub gap : Point → Point → ℤ

@@ -1,5 +1,5 @@
 -- At the centres of cells, by plain winding numbers.
-use Rattle.std.proofs.Common.{◌≡◌, ℕ, Bool, true, false, not, List, [], ◌∷◌, refl, sym, ap, ◌∙◌, arith}
+use Rattle.std.proofs.Common.{◌≡◌, ℕ, Bool, true, not, List, [], ◌∷◌, refl, ap, ◌∙◌, arith}
 use mathlib.Core.Path.{fun_ext}
 use lib.IntN.{ℤ, pos}
 use lib.Signed.{◌<ℤ◌}
@@ -16,7 +16,7 @@ use Rattle.scad_geom.proofs.Doubled as halves
 use Rattle.slice_snap.specs.declared.piece.Piece.{Piece}
 use Rattle.slice_bool.specs.Pieces.{wind_pieces, ArePieces}
 use Rattle.slice_bool.specs.Balance.{edges_of}
-use Rattle.slice_bool.specs.Centre.{centre, leaf_holds, holds_centre}
+use Rattle.slice_bool.specs.Centre.{centre, holds_centre}
 use Rattle.slice_bool.proofs.Walk.{pieces_wind}
 
 same_edges : (leaf : ℕ) (es : List LeafEdge) → halves.edges_of leaf es ≡ edges_of leaf es

@@ -1,6 +1,6 @@
 -- The ends of pieces lie on the levels, and no two levels are equal in height.
 use Rattle.std.proofs.Common.{◌≡◌, ℕ, ◌⊎◌, inl, inr, Bool, true, false, List, [], ◌∷◌, ◌++◌, refl, sym, ap, ◌∙◌, arith, subst}
-use lib.IntN.{ℤ, pos, ◌*ℤ◌}
+use lib.IntN.{pos}
 use lib.Signed.{◌<ℤ◌}
 use Rattle.std.specs.Prelude.{Option, Some, None}
 use Rattle.std.specs.List.{AllByRecursion, All, position}
@@ -12,7 +12,7 @@ use Rattle.scad_geom.specs.declared.shape.Shape.{Shape}
 use Rattle.scad_geom.specs.Shape.{is_in_by}
 use Rattle.scad_geom.specs.Heights.{IsLower, IsSameHeight}
 use Rattle.scad_geom.proofs.Heights.{lower_then_at_most, lower_weak}
-use Rattle.slice_events.specs.Levels.{IsRising, AreLevels}
+use Rattle.slice_events.specs.Levels.{IsRising}
 use Rattle.slice_slab.specs.Bundles.{edge_at}
 use Rattle.slice_snap.specs.declared.piece.Spot.{Spot}
 use Rattle.slice_snap.specs.declared.piece.Piece.{Piece}

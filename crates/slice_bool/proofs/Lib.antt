@@ -14,3 +14,4 @@ pub mod BalanceSpots
 pub mod BalanceStops
 pub mod BalanceFlat
 pub mod BalanceLevels
+mod Examples

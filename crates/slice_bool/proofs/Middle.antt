@@ -1,39 +1,30 @@
 -- A shape's values hard by a bundle at half height, on its left and on its right.
-use Rattle.std.proofs.Common.{◌≡◌, ◌≢◌, ℕ, zero, suc, ◌+◌, ◌<◌, ◌≤◌, ◌⊎◌, inl, inr, Bool, true, false, not, cond, List, [], ◌∷◌, ◌++◌, length, get_or, refl, sym, ap, ap₂, ◌∙◌, arith, subst}
-use mathlib.Core.Path.{fun_ext}
-use lib.IntN.{ℤ, pos, negsuc, ◌+ℤ◌, ◌-ℤ◌, ◌*ℤ◌, neg_ℤ, zero-*ℤ, +ℤ_idl}
-use lib.Signed.{◌<ℤ◌, ◌≤ℤ◌, lt_z, le_z}
-use Rattle.std.specs.Prelude.{int_lt, int_le, if◌then◌else◌, ◌==◌, ◌&&◌}
-use Rattle.std.specs.List.{AllByRecursion, All, concat}
-use Rattle.std.specs.List.Sorted.{IsPermutation}
+use Rattle.std.proofs.Common.{◌≡◌, ℕ, Bool, true, false, not, List, [], ◌∷◌, ◌++◌, refl, sym, ap, ◌∙◌, arith, subst}
+use lib.IntN.{ℤ, pos, negsuc, ◌+ℤ◌, ◌-ℤ◌, ◌*ℤ◌, zero-*ℤ}
+use lib.Signed.{◌<ℤ◌, ◌≤ℤ◌}
+use Rattle.std.specs.List.{AllByRecursion, concat}
 use Rattle.std.proofs.lemmas.Int.{ints, by_lt_z}
-use Rattle.std.proofs.lemmas.List.Elements.{recursion_from_All, All-from_recursion}
-use Rattle.std.proofs.lemmas.List.Sorted.{All-permutation}
 use Rattle.scad_geom.specs.declared.point.Edge.{Edge}
 use Rattle.scad_geom.specs.declared.level.Level.{Level}
 use Rattle.scad_geom.specs.declared.level.LeafEdge.{LeafEdge}
 use Rattle.scad_geom.specs.declared.shape.Shape.{Shape}
 use Rattle.scad_geom.specs.Line.{rise, x_at, left_of}
-use Rattle.scad_geom.specs.Around.{Point, is_beyond, wind_by}
-use Rattle.scad_geom.specs.Shape.{shape_holds, is_zero, is_in_by}
-use Rattle.scad_geom.specs.Heights.{IsLower, IsAtMost, AreNeighbours, IsBefore, AreAligned}
-use Rattle.slice_slab.specs.Bundles.{no_edge, edge_at, reaches, reaching, IsBundle, Precedes, AreRanked, AreBundles}
-use Rattle.scad_geom.proofs.Signs.{pos_mul, at_least_mul, pos_left, at_least_left}
+use Rattle.scad_geom.specs.Around.{Point, is_beyond}
+use Rattle.scad_geom.specs.Shape.{is_in_by}
+use Rattle.scad_geom.specs.Heights.{IsLower, IsAtMost, AreNeighbours, IsBefore}
+use Rattle.slice_slab.specs.Bundles.{no_edge, edge_at, Precedes, AreRanked, AreBundles}
+use Rattle.scad_geom.proofs.Signs.{pos_mul, at_least_mul, pos_left}
 use Rattle.scad_geom.proofs.Lines.{left_of_by}
-use Rattle.scad_geom.proofs.Heights.{Reaches, lower_weak}
-use Rattle.scad_geom.proofs.Order.{before_between, aligned_all}
-use Rattle.scad_geom.proofs.Turns.{level_at, Spans, beyond_mul}
-use Rattle.slice_bool.proofs.Sums.{sum_z, sum_z-append, sum_z-permutation, sum_z-same, sum_z-zero}
-use Rattle.slice_bool.proofs.Reaching.{heading_for, lies_left, wind_reaching}
+use Rattle.scad_geom.proofs.Heights.{lower_weak}
+use Rattle.scad_geom.proofs.Turns.{level_at}
+use Rattle.slice_bool.proofs.Reaching.{lies_left}
 use Rattle.scad_geom.specs.Line.{run, offset, left_of}
-use Rattle.scad_geom.proofs.Ring.{ring, Term, num, ◌⊕◌, ◌⊖◌, ◌⊗◌, v0, v1, v2, v3, v4, v5, v6, v7, v8, v9, v10, v11}
-use Rattle.scad_geom.proofs.Signs.{neg_mul_pos, at_most_mul}
-use Rattle.scad_geom.proofs.Order.{front, back, before_inside}
-use Rattle.slice_snap.specs.declared.piece.Spot.{Spot}
+use Rattle.scad_geom.proofs.Ring.{ring, num, ◌⊕◌, ◌⊖◌, ◌⊗◌, v0, v1, v2, v3, v4}
+use Rattle.scad_geom.proofs.Order.{back, before_inside}
 use Rattle.slice_bool.specs.Pieces.{spot_on, point_of, middle}
 use Rattle.std.specs.Prelude.{unsigned_abs}
-use Rattle.slice_bool.proofs.Passing.{IsLive, live_bundles, passing, HeadPasses, Around, spans_from, spans_to}
-use Rattle.slice_bool.proofs.Values.{all_pass, value_of, is_in_passing}
+use Rattle.slice_bool.proofs.Passing.{IsLive, live_bundles, passing, Around}
+use Rattle.slice_bool.proofs.Values.{value_of, is_in_passing}
 
 low_middle : (ln ld un ud : ℤ) → (ln *ℤ ud +ℤ un *ℤ ld) *ℤ ld -ℤ ln *ℤ (pos 2 *ℤ (ld *ℤ ud)) ≡ (un *ℤ ld -ℤ ln *ℤ ud) *ℤ ld
 low_middle ln ld un ud = ring (ln ∷ ld ∷ un ∷ ud ∷ []) ((v0 ⊗ v3 ⊕ v2 ⊗ v1) ⊗ v1 ⊖ v0 ⊗ (num (pos 2) ⊗ (v1 ⊗ v3))) ((v2 ⊗ v1 ⊖ v0 ⊗ v3) ⊗ v1) refl

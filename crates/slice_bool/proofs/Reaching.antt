@@ -1,20 +1,18 @@
 -- The winding number of a leaf round a point between two neighbouring heights, by the edges that reach them.
-use Rattle.std.proofs.Common.{◌≡◌, ◌≢◌, ℕ, zero, suc, ◌+◌, ◌<◌, ◌≤◌, ◌⊎◌, inl, inr, Bool, true, false, not, cond, List, [], ◌∷◌, ◌++◌, length, get_or, refl, sym, ap, ap₂, ◌∙◌, arith, subst}
-use lib.IntN.{ℤ, pos, negsuc, ◌+ℤ◌, ◌-ℤ◌, ◌*ℤ◌, neg_ℤ, zero-*ℤ, +ℤ_idl}
-use lib.Signed.{◌<ℤ◌, ◌≤ℤ◌, lt_z, le_z}
-use Rattle.std.specs.Prelude.{int_lt, int_le, if◌then◌else◌, ◌==◌, ◌&&◌}
-use Rattle.std.specs.List.{AllByRecursion, All, concat}
-use Rattle.std.proofs.lemmas.Int.{ints, by_lt_z}
+use Rattle.std.proofs.Common.{◌≡◌, ℕ, zero, suc, ◌+◌, ◌<◌, ◌⊎◌, inl, inr, Bool, true, false, List, [], ◌∷◌, length, get_or, refl, sym, ap, ap₂, ◌∙◌, arith}
+use lib.IntN.{ℤ, pos, ◌+ℤ◌, ◌-ℤ◌, ◌*ℤ◌, +ℤ_idl}
+use lib.Signed.{◌<ℤ◌, lt_z, le_z}
+use Rattle.std.specs.Prelude.{int_lt, int_le, if◌then◌else◌, ◌==◌}
+use Rattle.std.proofs.lemmas.Int.{ints}
 use Rattle.std.proofs.lemmas.List.Elements.{recursion_from_All}
-use Rattle.scad_geom.specs.declared.point.Pt.{Pt}
 use Rattle.scad_geom.specs.declared.point.Edge.{Edge}
 use Rattle.scad_geom.specs.declared.level.Level.{Level}
 use Rattle.scad_geom.specs.declared.level.LeafEdge.{LeafEdge}
-use Rattle.scad_geom.specs.Line.{low, high, rise, run, offset, x_at, left_of}
+use Rattle.scad_geom.specs.Line.{low, high, rise, left_of}
 use Rattle.scad_geom.specs.Around.{Point, whole, is_beyond, turn, wind_by}
 use Rattle.scad_geom.specs.Heights.{level_of, IsLower, IsAtMost, heights, AreNeighbours}
-use Rattle.slice_slab.specs.Bundles.{no_edge, edge_at, reaches, reaching}
-use Rattle.scad_geom.proofs.Heights.{Reaches, lower_then_at_most, at_most_then_lower, at_most_chain}
+use Rattle.slice_slab.specs.Bundles.{no_edge, reaches, reaching}
+use Rattle.scad_geom.proofs.Heights.{Reaches, lower_then_at_most, at_most_then_lower}
 use Rattle.scad_geom.proofs.Order.{all_ends}
 use Rattle.scad_geom.proofs.Turns.{level_at, Over, NotOver, Spans, over_up, not_over_down, heading, reaching_turn, under_turn, over_turn}
 use Rattle.slice_slab.proofs.Live.{reaches_is}

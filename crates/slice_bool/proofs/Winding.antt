@@ -1,47 +1,32 @@
 -- The pieces of a shape's border wind once round the points inside, and not round the others.
-use Rattle.std.proofs.Common.{◌≡◌, ◌≢◌, ℕ, zero, suc, ◌+◌, ◌<◌, ◌≤◌, ◌⊎◌, inl, inr, Bool, true, false, not, cond, List, [], ◌∷◌, ◌++◌, length, get_or, refl, sym, ap, ap₂, ◌∙◌, arith, subst}
+use Rattle.std.proofs.Common.{◌≡◌, ℕ, zero, suc, ◌<◌, ◌⊎◌, inl, inr, Bool, true, false, not, List, [], ◌∷◌, ◌++◌, length, get_or, refl, sym, ap, ap₂, ◌∙◌, arith, subst}
 use mathlib.Core.Path.{fun_ext}
-use lib.IntN.{ℤ, pos, negsuc, ◌+ℤ◌, ◌-ℤ◌, ◌*ℤ◌, neg_ℤ, zero-*ℤ, +ℤ_idl}
-use lib.Signed.{◌<ℤ◌, ◌≤ℤ◌, lt_z, le_z}
-use Rattle.std.specs.Prelude.{int_lt, int_le, if◌then◌else◌, ◌==◌, ◌&&◌}
-use Rattle.std.specs.List.{AllByRecursion, All, concat}
-use Rattle.std.specs.List.Sorted.{IsPermutation}
+use lib.IntN.{ℤ, pos, ◌+ℤ◌, ◌*ℤ◌}
+use lib.Signed.{◌<ℤ◌, lt_z}
+use Rattle.std.specs.Prelude.{int_lt, if◌then◌else◌, ◌==◌, ◌&&◌}
+use Rattle.std.specs.List.{AllByRecursion, concat}
 use Rattle.std.proofs.lemmas.Int.{ints, by_lt_z}
-use Rattle.std.proofs.lemmas.List.Elements.{recursion_from_All, All-from_recursion}
-use Rattle.std.proofs.lemmas.List.Sorted.{All-permutation}
 use Rattle.scad_geom.specs.declared.point.Edge.{Edge}
 use Rattle.scad_geom.specs.declared.level.Level.{Level}
 use Rattle.scad_geom.specs.declared.level.LeafEdge.{LeafEdge}
 use Rattle.scad_geom.specs.declared.shape.Shape.{Shape}
-use Rattle.scad_geom.specs.Line.{rise, x_at, left_of}
-use Rattle.scad_geom.specs.Around.{Point, is_beyond, wind_by}
+use Rattle.scad_geom.specs.Line.{rise}
+use Rattle.scad_geom.specs.Around.{Point, wind_by}
 use Rattle.scad_geom.specs.Shape.{shape_holds, is_zero, is_in_by}
-use Rattle.scad_geom.specs.Heights.{IsLower, IsAtMost, AreNeighbours, IsBefore, AreAligned}
-use Rattle.slice_slab.specs.Bundles.{no_edge, edge_at, reaches, reaching, IsBundle, Precedes, AreRanked, AreBundles}
-use Rattle.scad_geom.proofs.Signs.{pos_mul, at_least_mul, pos_left, at_least_left}
-use Rattle.scad_geom.proofs.Lines.{left_of_by}
-use Rattle.scad_geom.proofs.Heights.{Reaches, lower_weak}
-use Rattle.scad_geom.proofs.Order.{before_between, aligned_all}
-use Rattle.scad_geom.proofs.Turns.{level_at, Spans, beyond_mul}
-use Rattle.slice_bool.proofs.Sums.{sum_z, sum_z-append, sum_z-permutation, sum_z-same, sum_z-zero}
-use Rattle.slice_bool.proofs.Reaching.{heading_for, lies_left, wind_reaching}
-use Rattle.scad_geom.specs.Winding.{counted}
+use Rattle.slice_slab.specs.Bundles.{no_edge, edge_at, AreRanked, AreBundles}
+use Rattle.scad_geom.proofs.Turns.{level_at}
 use Rattle.scad_geom.specs.Around.{whole, is_over, turn}
-use Rattle.scad_geom.specs.Heights.{level_of, IsSameHeight, heights}
-use Rattle.scad_geom.proofs.Heights.{lower_then_at_most, at_most_then_lower, at_most_chain, heights_positive}
-use Rattle.scad_geom.proofs.Turns.{Over, NotOver, over_true, over_false, flat_turn, over_up, not_over_down, under_turn, over_turn}
+use Rattle.scad_geom.specs.Heights.{heights}
+use Rattle.scad_geom.proofs.Turns.{Over, NotOver, flat_turn, under_turn, over_turn}
 use Rattle.scad_geom.proofs.Shapes.{nothing_held}
-use Rattle.scad_geom.proofs.Order.{front, back, all_ends}
-use Rattle.slice_events.specs.Levels.{IsRising, HasHeight, AreLevels}
+use Rattle.scad_geom.proofs.Order.{back, all_ends}
 use Rattle.slice_snap.specs.declared.piece.Spot.{Spot}
-use Rattle.slice_snap.specs.declared.piece.Piece.{Piece}
-use Rattle.slice_bool.specs.Pieces.{spot_on, whole_spot, point_of, middle, wind_pieces, piece_between, bundle_piece, slab_pieces, is_flat_at, passes_at, spots_at, IsOneOf, AreStops, covers, stretch_piece, flat_pieces, AreLevelPieces, ArePieces}
+use Rattle.slice_bool.specs.Pieces.{spot_on, whole_spot, point_of, wind_pieces, piece_between, bundle_piece, slab_pieces, is_flat_at, passes_at, spots_at, IsOneOf, AreStops, covers, stretch_piece, flat_pieces}
 use Rattle.std.specs.Prelude.{unsigned_abs, Option, Some, None}
 use Rattle.std.specs.List.{position}
-use Rattle.slice_bool.proofs.Reaching.{share}
-use Rattle.slice_bool.proofs.Passing.{IsLive, live_bundles, Around}
+use Rattle.slice_bool.proofs.Passing.{IsLive, live_bundles}
 use Rattle.slice_bool.proofs.Middle.{size_of, half_point}
-use Rattle.slice_bool.proofs.Slabs.{spot_over, spot_not_over, wind_pieces-append, slab_winding}
+use Rattle.slice_bool.proofs.Slabs.{spot_over, spot_not_over, wind_pieces-append}
 
 -- ---- where no edge passes a point's height, nothing is inside
 nothing_around : (above right : Bool) (p : Point) (leaf : ℕ) (es : List LeafEdge)

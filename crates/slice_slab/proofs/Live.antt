@@ -1,6 +1,6 @@
 -- The numbers in the bundles between two heights are those of edges that reach both.
 use Rattle.std.proofs.Common.{◌≡◌, ℕ, zero, suc, ◌+◌, ◌<◌, Bool, true, false, List, [], ◌∷◌, length, get_or, refl, sym, arith, subst}
-use lib.IntN.{ℤ, pos, ◌*ℤ◌}
+use lib.IntN.{pos, ◌*ℤ◌}
 use Rattle.std.specs.Prelude.{int_lt, int_le, if◌then◌else◌, ◌&&◌}
 use Rattle.std.specs.List.{AllByRecursion, concat}
 use Rattle.std.proofs.lemmas.Int.{ints}
