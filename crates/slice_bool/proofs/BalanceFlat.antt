@@ -91,10 +91,10 @@ on_height l x = record { at = refl; runs = omega (arith, ints) }
 spot_point : (n d r : ℤ) → (n *ℤ r) *ℤ d ≡ n *ℤ (d *ℤ r)
 spot_point n d r = ring (n ∷ d ∷ r ∷ []) ((v0 ⊗ v2) ⊗ v1) (v0 ⊗ (v1 ⊗ v2)) refl
 
-spot_is_at : (l : Level) (s : Spot) → IsSpotAt l s → IsAt l (point_of s)
+pub spot_is_at : (l : Level) (s : Spot) → IsSpotAt l s → IsAt l (point_of s)
 spot_is_at l s h = subst (λ (m : Level). (m.n *ℤ pos s.run) *ℤ l.d ≡ l.n *ℤ (m.d *ℤ pos s.run)) (sym h.at) (spot_point l.n l.d (pos s.run))
 
-spot_divisor : (l : Level) (s : Spot) → pos 0 <ℤ l.d → IsSpotAt l s → pos 0 <ℤ (point_of s).d
+pub spot_divisor : (l : Level) (s : Spot) → pos 0 <ℤ l.d → IsSpotAt l s → pos 0 <ℤ (point_of s).d
 spot_divisor l s dl h = pos_mul s.at.d (pos s.run) (subst (λ (m : Level). pos 0 <ℤ m.d) (sym h.at) dl) h.runs
 
 spots_gap : (sx sr wx wr k : ℤ) → wx *ℤ (k *ℤ sr) -ℤ sx *ℤ (k *ℤ wr) ≡ (wx *ℤ sr -ℤ sx *ℤ wr) *ℤ k
@@ -118,7 +118,7 @@ is_after l s w dl hs hw h =
 -- a point hard by which, on one side, lies the stretch between two neighbouring stops
 module _ (l : Level) (dl : pos 0 <ℤ l.d) (right : Bool) (p : Point) (dp : pos 0 <ℤ p.d) (s t : Spot) (hs : IsSpotAt l s) (ht : IsSpotAt l t) (o : IsLeft s t)
     (left : is_right right p (point_of s) ≡ false) (beyond : is_right right p (point_of t) ≡ true) where
-  alike_beside : (ws : List Spot) → AllByRecursion (IsSpotAt l) ws → AllByRecursion (IsBeside s t) ws → AllByRecursion (IsAlike true (point_of s) right p) ws
+  pub alike_beside : (ws : List Spot) → AllByRecursion (IsSpotAt l) ws → AllByRecursion (IsBeside s t) ws → AllByRecursion (IsAlike true (point_of s) right p) ws
   alike_beside [] hw h = tt
   alike_beside (w ∷ ws) hw h = (one w hw.0 h.0, alike_beside ws hw.1 h.1)
     where

@@ -156,7 +156,7 @@ passage_turned above p a b = swapped (counted (is_over above p a)) (counted (is_
     swapped : (y z : ℤ) → y -ℤ z ≡ neg_ℤ (z -ℤ y)
     swapped y z = omega (arith, ints)
 
-side_turned : (p a b : Point) → side_by p b a *ℤ a.d ≡ neg_ℤ (side_by p a b) *ℤ b.d
+pub side_turned : (p a b : Point) → side_by p b a *ℤ a.d ≡ neg_ℤ (side_by p a b) *ℤ b.d
 unfolding side_by
 side_turned p a b = turned_over a.x a.y a.d b.x b.y b.d p.x p.y p.d ∙ moved (side_by p a b) b.d
   where

@@ -15,3 +15,4 @@ pub mod BalanceStops
 pub mod BalanceFlat
 pub mod BalanceLevels
 mod Examples
+pub mod BorderPoints

@@ -54,7 +54,7 @@ spot_over above p s pr o = over_true above p (point_of s) (over_scaled above (le
 pub spot_not_over : (above : Bool) (p : Point) (s : Spot) → pos 0 <ℤ pos s.run → NotOver above (level_at p) s.at → is_over above p (point_of s) ≡ false
 spot_not_over above p s pr o = over_false above p (point_of s) (not_over_scaled above (level_at p) s.at (pos s.run) pr o)
 
-side_up_is : (p : Point) (e : Edge) (l u : Level) (r : ℤ) → r ≡ rise e
+pub side_up_is : (p : Point) (e : Edge) (l u : Level) (r : ℤ) → r ≡ rise e
     → side_by p (record { x = x_at e l.n l.d; y = l.n *ℤ r; d = l.d *ℤ r }) (record { x = x_at e u.n u.d; y = u.n *ℤ r; d = u.d *ℤ r })
     ≡ left_of e p.x p.y p.d *ℤ ((rise e *ℤ rise e) *ℤ (l.d *ℤ (u.n *ℤ l.d -ℤ l.n *ℤ u.d)))
 unfolding side_by left_of x_at

@@ -44,7 +44,7 @@ from_first l (u ∷ ls) h dl dh r (inr e) = at_most_chain l u h dl.0 dl.1.0 dh (
 abbrev pub UpTo : Level → List Level → Level → Type 0
 UpTo l ls h = IsAtMost h l ⊎ HasHeight ls h
 
-at_first : (l : Level) (ls hs : List Level) → AllByRecursion (HasHeight (l ∷ ls)) hs → AllByRecursion (UpTo l ls) hs
+pub at_first : (l : Level) (ls hs : List Level) → AllByRecursion (HasHeight (l ∷ ls)) hs → AllByRecursion (UpTo l ls) hs
 at_first l ls [] h = tt
 at_first l ls (g ∷ hs) h = (first g h.0, at_first l ls hs h.1)
   where
@@ -52,7 +52,7 @@ at_first l ls (g ∷ hs) h = (first g h.0, at_first l ls hs h.1)
     first g (inl e) = inl (same_at_most l g e)
     first g (inr r) = inr r
 
-at_next : (l u : Level) (ls hs : List Level) → pos 0 <ℤ l.d → pos 0 <ℤ u.d → AllByRecursion (λ (h : Level). pos 0 <ℤ h.d) hs → IsLower l u → AllByRecursion (UpTo l (u ∷ ls)) hs → AllByRecursion (UpTo u ls) hs
+pub at_next : (l u : Level) (ls hs : List Level) → pos 0 <ℤ l.d → pos 0 <ℤ u.d → AllByRecursion (λ (h : Level). pos 0 <ℤ h.d) hs → IsLower l u → AllByRecursion (UpTo l (u ∷ ls)) hs → AllByRecursion (UpTo u ls) hs
 at_next l u ls [] dl du dh o h = tt
 at_next l u ls (g ∷ hs) dl du dh o h = (next g dh.0 h.0, at_next l u ls hs dl du dh.1 o h.1)
   where

@@ -2,6 +2,7 @@
 ghost use Rattle.slice_bool.specs.Pieces.{PiecesWindOnce};
 ghost use Rattle.slice_bool.specs.Ends.{HeightsHaveOneLevel};
 ghost use Rattle.slice_bool.specs.Balance.{BordersAreBalanced};
+ghost use Rattle.slice_bool.specs.BorderPoints.{PiecesAreBorder};
 ghost use Rattle.slice_bool.specs.Centre.{CentresAreWoundOnce, CentresAreHeld};
 
 /// The pieces of a border wind once round each point that the shape holds, hard by the point on each
@@ -27,6 +28,12 @@ pub fn borders_are_balanced()
     ensures { BordersAreBalanced }
 {}
 
+/// Each point of a piece of a border but its ends is a border point: hard by it the shape holds on one side and not on
+/// another.
+pub fn pieces_are_border()
+    ensures { PiecesAreBorder }
+{}
+
 #[cfg(test)]
 mod tests {
     use super::*;
@@ -37,5 +44,6 @@ mod tests {
         heights_have_one_level();
         centres_are_wound_once();
         borders_are_balanced();
+        pieces_are_border();
     }
 }
