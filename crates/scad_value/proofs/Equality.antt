@@ -1,8 +1,7 @@
 -- When vectors are equal.
-use Rattle.std.proofs.Common.{◌≡◌, ◌≢◌, List, [], ◌∷◌, Bool, true, false, refl, ap, ap₂, sym, ◌∙◌, length, arith, Vec, Global}
+use Rattle.std.proofs.Common.{◌≡◌, ◌≢◌, List, [], ◌∷◌, Bool, true, false, refl, ap, ap₂, ◌∙◌, length, arith, Vec, Global}
 use Rattle.std.specs.Prelude.{◌&&◌}
 use Rattle.scad_value.specs.declared.value.Value.{Value, List as ListValue}
-use Rattle.scad_value.specs.Datum.{Datum}
 use Rattle.scad_value.specs.Comparison.{equal, equal_all}
 use Rattle.scad_value.specs.View.{datum_of, elements}
 use Rattle.scad_value.proofs.Rows.{at_vector}

@@ -1,3 +1,7 @@
+pub mod Access
+pub mod Decimals
 pub mod Equality
+pub mod Quotients
 pub mod Rows
+pub mod Shapes
 pub mod Steps

@@ -1,7 +1,7 @@
 -- Indices (OpenSCAD User Manual, "Vectors", "Strings").
 use Rattle.std.specs.Prelude.{ℕ, zero, suc, ℤ, pos, negsuc, int_div, List, [], ◌∷◌}
 use Rattle.scad_num.specs.Number.{one}
-use Rattle.scad_value.specs.Datum.{Datum, undef, number, string, vector, range, Elements, no_elements, element}
+use Rattle.scad_value.specs.Datum.{Datum, undef, number, string, vector, range}
 use Rattle.scad_value.specs.Products.{nth}
 
 -- the character at a place, as a string, or `undef` where there is none

@@ -4,6 +4,7 @@ pub mod Datum
 pub mod Elementwise
 pub mod Faults
 pub mod Index
+pub mod Kinds
 pub mod Measures
 pub mod Negative
 pub mod Operators

@@ -1,5 +1,5 @@
 -- How large a value is, and how deep its vectors lie in one another.
-use Rattle.std.specs.Prelude.{ℕ, ◌+◌, List, [], ◌∷◌, length, max}
+use Rattle.std.specs.Prelude.{ℕ, ◌+◌, length, max}
 use Rattle.scad_value.specs.Datum.{Datum, vector, string, Elements, no_elements, element}
 
 abbrev mutual

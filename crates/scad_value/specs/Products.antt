@@ -5,6 +5,7 @@ use Rattle.scad_num.specs.Number.{sum_of, product_of}
 use Rattle.scad_value.specs.declared.product.Shape.{Shape}
 use Rattle.scad_value.specs.declared.product.Shape.TheVariants.{Numbers, Matrix, Other}
 use Rattle.scad_value.specs.Datum.{Datum, undef, number, vector, Elements, no_elements, element}
+use Rattle.scad_value.specs.Kinds.{is_number}
 use Rattle.scad_value.specs.Elementwise.{Answer, AllAnswers, as_number, as_vector, first_then}
 
 -- the element at a place, or `undef` where there is none
@@ -16,10 +17,6 @@ nth (element d all) (suc n) = nth all n
 abbrev pub count : Elements → ℕ
 count no_elements = 0
 count (element d all) = 1 + count all
-
-abbrev pub is_number : Datum → Bool
-is_number (number z) = true
-is_number _ = false
 
 abbrev pub all_numbers : Elements → Bool
 all_numbers no_elements = true

@@ -28,6 +28,11 @@ abbrev pub range_text : ℤ → ℤ → ℤ → List ℕ
 range_text start step end =
     91 ∷ number_text start ++ codes " : " ++ number_text step ++ codes " : " ++ number_text end ++ 93 ∷ []
 
+-- what stands before an element, the first or another
+abbrev pub comma : Bool → List ℕ
+comma true = []
+comma false = codes ", "
+
 abbrev mutual
   -- a string stands between quotes, a vector's elements between brackets
   pub text : Datum → List ℕ
@@ -35,14 +40,10 @@ abbrev mutual
   text (boolean b) = boolean_text b
   text (number z) = number_text z
   text (string chars) = quoted_text chars
-  text (vector all) = vector_text all
+  text (vector all) = 91 ∷ elements_text true all
   text (range start step end) = range_text start step end
 
-  pub vector_text : Elements → List ℕ
-  vector_text no_elements = codes "[]"
-  vector_text (element d all) = 91 ∷ text d ++ rest_text all
-
-  -- the elements behind the first, each after a comma and a blank, and the closing bracket
-  pub rest_text : Elements → List ℕ
-  rest_text no_elements = 93 ∷ []
-  rest_text (element d all) = codes ", " ++ text d ++ rest_text all
+  -- elements, the first of them the first of all or not, and the closing bracket
+  pub elements_text : Bool → Elements → List ℕ
+  elements_text first no_elements = 93 ∷ []
+  elements_text first (element d all) = comma first ++ text d ++ elements_text false all

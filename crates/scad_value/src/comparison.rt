@@ -4,6 +4,7 @@ ghost use Rattle.std.specs.Prelude.{◌≡◌};
 ghost use Rattle.scad_value.specs.Comparison.{equal, equal_all, order};
 ghost use Rattle.scad_value.specs.View.{datum_of, elements};
 
+use crate::kind::elements_of;
 use crate::value::Value;
 use std::cmp::Ordering;
 
@@ -29,9 +30,9 @@ pub fn equal(a: &Value, b: &Value) -> bool
             Value::Str(y) => x.as_slice() == y.as_slice(),
             _ => false,
         },
-        Value::List(xs) => match b {
-            Value::List(ys) => equal_all(xs, ys),
-            _ => false,
+        Value::List(xs) => match elements_of(b) {
+            Some(ys) => equal_all(xs, ys),
+            None => false,
         },
         Value::Range(start, step, end) => match b {
             Value::Range(s, t, e) => *start == *s && *step == *t && *end == *e,

@@ -6,6 +6,7 @@ mod comparison;
 mod duplicate;
 mod elementwise;
 mod fault;
+mod kind;
 mod matrix_product;
 mod measures;
 mod negative;
@@ -19,8 +20,12 @@ mod value;
 pub use comparison::equal;
 pub use duplicate::copy;
 pub use fault::ValueFault;
+pub use kind::{elements_of, number_of};
 pub use measures::{made, nesting, truth};
 pub use operator::{binary, unary};
 pub use place::index;
 pub use text::{push_text, text_of};
 pub use value::{Value, Values};
+
+#[cfg(test)]
+mod tests;

@@ -9,6 +9,7 @@ ghost use Rattle.scad_value.specs.View.{datum_of, elements};
 
 use crate::elementwise::as_number;
 use crate::fault::ValueFault;
+use crate::kind::elements_of;
 use crate::product::{Shape, dot, dot_column, shape_of};
 use crate::value::{Value, Values};
 use std::alloc::Global;
@@ -17,9 +18,9 @@ use std::alloc::Global;
 fn elements_in(row: &Value) -> &[Value]
     ensures { elements result.now ≡ elements_in (datum_of row.now) }
 {
-    match row {
-        Value::List(all) => all.as_slice(),
-        _ => &[],
+    match elements_of(row) {
+        Some(all) => all,
+        None => &[],
     }
 }
 

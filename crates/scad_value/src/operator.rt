@@ -12,6 +12,7 @@ use crate::comparison::{equal, order};
 use crate::duplicate::copy;
 use crate::elementwise::{Action, as_number, each};
 use crate::fault::ValueFault;
+use crate::kind::{elements_of, number_of};
 use crate::matrix_product::product_of_vectors;
 use crate::measures::truth;
 use crate::negative::negative;
@@ -27,10 +28,12 @@ fn product(alloc: Global, a: &Value, b: &Value) -> Result<Value, ValueFault>
 {
     match a {
         Value::Number(x) => each(alloc, &Action::TimesLeft(*x), b),
-        Value::List(xs) => match b {
-            Value::Number(y) => each(alloc, &Action::TimesRight(*y), a),
-            Value::List(ys) => product_of_vectors(alloc, xs, ys),
-            _ => Ok(Value::Undef),
+        Value::List(xs) => match number_of(b) {
+            Some(y) => each(alloc, &Action::TimesRight(y), a),
+            None => match elements_of(b) {
+                Some(ys) => product_of_vectors(alloc, xs, ys),
+                None => Ok(Value::Undef),
+            },
         },
         _ => Ok(Value::Undef),
     }
@@ -43,9 +46,9 @@ fn quotient(alloc: Global, a: &Value, b: &Value) -> Result<Value, ValueFault>
 {
     match a {
         Value::Number(x) => each(alloc, &Action::Under(*x), b),
-        Value::List(_) => match b {
-            Value::Number(y) => each(alloc, &Action::Over(*y), a),
-            _ => Ok(Value::Undef),
+        Value::List(_) => match number_of(b) {
+            Some(y) => each(alloc, &Action::Over(y), a),
+            None => Ok(Value::Undef),
         },
         _ => Ok(Value::Undef),
     }

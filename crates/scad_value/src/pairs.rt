@@ -8,6 +8,7 @@ ghost use Rattle.scad_value.specs.View.{datum_of, elements};
 
 use crate::elementwise::as_number;
 use crate::fault::ValueFault;
+use crate::kind::elements_of;
 use crate::value::{Value, Values};
 use scad_num::{Num, NumFault};
 use std::alloc::Global;
@@ -48,12 +49,12 @@ pub(crate) fn by_pairs(
             Value::Number(y) => as_number(operation.at(*x, *y)),
             _ => Ok(Value::Undef),
         },
-        Value::List(xs) => match b {
-            Value::List(ys) => match by_pairs_of(alloc, operation, xs, ys) {
+        Value::List(xs) => match elements_of(b) {
+            Some(ys) => match by_pairs_of(alloc, operation, xs, ys) {
                 Ok(made) => Ok(Value::List(made)),
                 Err(fault) => Err(fault),
             },
-            _ => Ok(Value::Undef),
+            None => Ok(Value::Undef),
         },
         _ => Ok(Value::Undef),
     }

@@ -1,8 +1,9 @@
 //! Elements, characters and parts by their index.
 
-ghost use Rattle.std.specs.Prelude.{◌≡◌, ℤ, IfOk};
+ghost use Rattle.std.specs.Prelude.{◌≡◌, IfOk};
 ghost use Rattle.scad_value.specs.Index.{character, part, at_place, at_whole, indexed};
-ghost use Rattle.scad_value.specs.View.{datum_of};
+ghost use Rattle.scad_value.specs.Products.{nth};
+ghost use Rattle.scad_value.specs.View.{datum_of, elements};
 
 use crate::duplicate::copy;
 use crate::value::Value;
@@ -11,13 +12,14 @@ use scad_num::Num;
 use std::alloc::{AllocError, Global};
 
 /// The character at a place, as a string.
+#[tactic(auto, using(crate::proofs::Access::places))]
 fn character(alloc: Global, chars: &[char], n: usize) -> Result<Value, AllocError>
     ensures { IfOk result (λ v. datum_of v ≡ character chars.now n) }
 {
-    match chars.get(n) {
-        Some(c) => Ok(Value::Str(Chars::of(alloc, &[*c])?)),
-        None => Ok(Value::Undef),
+    if n >= chars.len() {
+        return Ok(Value::Undef);
     }
+    Ok(Value::Str(Chars::of(alloc, &[chars[n]])?))
 }
 
 /// Start, step or end.
@@ -32,14 +34,23 @@ fn part(start: Num, step: Num, end: Num, n: usize) -> Value
     }
 }
 
+/// A copy of the element at a place.
+#[tactic(auto, using(crate::proofs::Access::places))]
+fn element(alloc: Global, all: &[Value], n: usize) -> Result<Value, AllocError>
+    ensures { IfOk result (λ v. datum_of v ≡ nth (elements all.now) n) }
+{
+    if n >= all.len() {
+        return Ok(Value::Undef);
+    }
+    copy(alloc, &all[n])
+}
+
+#[tactic(auto, using(crate::proofs::Rows::at_vector))]
 fn at_place(alloc: Global, a: &Value, n: usize) -> Result<Value, AllocError>
     ensures { IfOk result (λ v. datum_of v ≡ at_place (datum_of a.now) n) }
 {
     match a {
-        Value::List(all) => match all.get(n) {
-            Some(v) => copy(alloc, v),
-            None => Ok(Value::Undef),
-        },
+        Value::List(all) => element(alloc, all, n),
         Value::Str(chars) => character(alloc, chars.as_slice(), n),
         Value::Range(start, step, end) => Ok(part(*start, *step, *end, n)),
         _ => Ok(Value::Undef),

@@ -1,16 +1,12 @@
 //! Products of vectors and matrices.
 
-ghost use Rattle.std.specs.Prelude.{◌≡◌, Ok, IfOk, IfErr};
-ghost use Rattle.scad_value.specs.Elementwise.{as_number, as_vector};
-ghost use Rattle.scad_value.specs.Faults.{Refuses};
-ghost use Rattle.scad_value.specs.Products.{amount, is_number, numbers_in, width, columns_in, shape, nth, elements_in, plus_product, dot, column, by_columns, by_rows, by_rows_and_columns, product_of_vectors};
+ghost use Rattle.std.specs.Prelude.{◌≡◌};
+ghost use Rattle.scad_value.specs.Products.{amount, numbers_in, width, columns_in, shape, nth, elements_in, plus_product, dot, column};
 ghost use Rattle.scad_value.specs.View.{datum_of, elements};
 
-use crate::elementwise::as_number;
-use crate::fault::ValueFault;
-use crate::value::{Value, Values};
+use crate::kind::{elements_of, number_of};
+use crate::value::Value;
 use scad_num::{Num, NumFault};
-use std::alloc::Global;
 
 /// What the elements of a vector are to a product.
 #[derive(Clone, Copy, Debug, PartialEq, Eq)]
@@ -22,21 +18,13 @@ pub(crate) enum Shape {
     Other,
 }
 
-fn is_number(v: &Value) -> bool
-    ensures { result ≡ is_number (datum_of v.now) }
-{
-    match v {
-        Value::Number(_) => true,
-        _ => false,
-    }
-}
-
 /// How many elements there are, if all are numbers, else 0.
+#[tactic(auto, using(crate::proofs::Rows::counted))]
 fn numbers_in(all: &[Value]) -> usize
     ensures { result ≡ numbers_in (elements all.now) }
 {
     'elements: for v in all {
-        if !is_number(v) {
+        if number_of(v).is_none() {
             return 0;
         }
     }
@@ -47,22 +35,21 @@ fn numbers_in(all: &[Value]) -> usize
 fn width(v: &Value) -> usize
     ensures { result ≡ width (datum_of v.now) }
 {
-    match v {
-        Value::List(all) => numbers_in(all),
-        _ => 0,
-    }
-}
-
-fn first_width(all: &[Value]) -> usize
-    ensures { result ≡ width (nth (elements all.now) 0) }
-{
-    match all.first() {
-        Some(v) => width(v),
+    match elements_of(v) {
+        Some(all) => numbers_in(all),
         None => 0,
     }
 }
 
+#[tactic(auto, using(crate::proofs::Access::places))]
+fn first_width(all: &[Value]) -> usize
+    ensures { result ≡ width (nth (elements all.now) 0) }
+{
+    if all.is_empty() { 0 } else { width(&all[0]) }
+}
+
 /// The length of the rows, if all are vectors of equally many numbers, else 0.
+#[tactic(auto, using(crate::proofs::Rows::counted))]
 fn columns_in(all: &[Value]) -> usize
     ensures { result ≡ columns_in (elements all.now) }
 {
@@ -75,6 +62,7 @@ fn columns_in(all: &[Value]) -> usize
     columns
 }
 
+#[tactic(auto, using(crate::proofs::Rows::counted))]
 pub(crate) fn shape_of(all: &[Value]) -> Shape
     ensures { result ≡ shape (elements all.now) }
 {
@@ -99,16 +87,24 @@ fn amount(v: &Value) -> Num
     }
 }
 
+#[tactic(auto, using(crate::proofs::Access::places))]
+fn amount_at(all: &[Value], j: usize) -> Num
+    ensures { result ≡ amount (nth (elements all.now) j) }
+{
+    if j < all.len() {
+        amount(&all[j])
+    } else {
+        Num::within(0)
+    }
+}
+
 /// The element at a place of a vector, as a number.
 fn entry(row: &Value, j: usize) -> Num
     ensures { result ≡ amount (nth (elements_in (datum_of row.now)) j) }
 {
-    match row {
-        Value::List(all) => match all.get(j) {
-            Some(v) => amount(v),
-            None => Num::within(0),
-        },
-        _ => Num::within(0),
+    match elements_of(row) {
+        Some(all) => amount_at(all, j),
+        None => Num::within(0),
     }
 }
 
@@ -123,6 +119,7 @@ fn plus_product(sum: Num, x: Num, y: Num) -> Result<Num, NumFault>
 }
 
 /// The products of each two numbers, summed from left to right.
+#[tactic(auto, using(crate::proofs::Rows::left))]
 pub(crate) fn dot(xs: &[Value], ys: &[Value]) -> Result<Num, NumFault>
     ensures { result ≡ dot (elements xs.now) (elements ys.now) }
 {
@@ -140,6 +137,7 @@ pub(crate) fn dot(xs: &[Value], ys: &[Value]) -> Result<Num, NumFault>
 }
 
 /// The same with a column of a matrix.
+#[tactic(auto, using(crate::proofs::Rows::left))]
 pub(crate) fn dot_column(xs: &[Value], rows: &[Value], j: usize) -> Result<Num, NumFault>
     ensures { result ≡ dot (elements xs.now) (column j (elements rows.now)) }
 {

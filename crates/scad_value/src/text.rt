@@ -1,7 +1,7 @@
 //! Values as texts.
 
-ghost use Rattle.std.specs.Prelude.{◌≡◌, ◌++◌, ◌<◌, decimal, IfOk, OnOk, encode_utf8_all};
-ghost use Rattle.scad_value.specs.Texts.{decimals, size_text, number_text, boolean_text, quoted_text, range_text, text, vector_text};
+ghost use Rattle.std.specs.Prelude.{◌≡◌, ◌+◌, ◌*◌, ◌/◌, ◌^◌, ◌<◌, true, ◌∷◌, ◌++◌, decimal, IfOk, OnOk, encode_utf8_all};
+ghost use Rattle.scad_value.specs.Texts.{decimals, size_text, number_text, boolean_text, quoted_text, range_text, comma, text, elements_text};
 ghost use Rattle.scad_value.specs.View.{datum_of, elements};
 
 use crate::value::Value;
@@ -27,22 +27,49 @@ fn push_decimal(out: &mut Vec<char>, n: u64) -> Result<(), AllocError>
     push_ascii(out, Buffer::new().format(n).as_bytes())
 }
 
-/// Appends decimals without zeros at the end: `place` is the worth of the first.
+/// 10 to the power of k.
+fn power(k: u32) -> u64
+    requires { k < 6 }
+    ensures value { result ≡ 10 ^ k }
+    ensures some { 0 < result }
+{
+    match k {
+        0 => 1,
+        1 => 10,
+        2 => 100,
+        3 => 1_000,
+        4 => 10_000,
+        _ => 100_000,
+    }
+}
+
+/// The digit of a rest at a place.
+fn digit(rest: u64, place: u64) -> char
+    requires place { 0 < place }
+    requires rest { rest < 10 * place }
+    ensures { result ≡ 48 + rest / place }
+{
+    (b'0' + (rest / place) as u8) as char
+}
+
+/// Appends decimals without zeros at the end.
 fn push_decimals(out: &mut Vec<char>, rest: u64) -> Result<(), AllocError>
     requires { rest < 1000000 }
     ensures { OnOk result (out.new.items ≡ out.old.items ++ decimals 6 rest) }
 {
     let mut left = rest;
-    let mut place = 100_000u64;
-    'decimals: while left > 0 {
-        out.push((b'0' + (left / place) as u8) as char)?;
+    let mut k = 6u32;
+    'places: while k > 0 && left > 0 {
+        k -= 1;
+        let place = power(k);
+        out.push(digit(left, place))?;
         left %= place;
-        place /= 10;
     }
     Ok(())
 }
 
 /// Appends a number of millionths that isn't negative.
+#[tactic(auto, unfolding(crate::specs::Texts::size_text))]
 fn push_size(out: &mut Vec<char>, millionths: u64) -> Result<(), AllocError>
     ensures { OnOk result (out.new.items ≡ out.old.items ++ size_text millionths) }
 {
@@ -97,6 +124,17 @@ fn push_range(out: &mut Vec<char>, start: Num, step: Num, end: Num) -> Result<()
     Ok(())
 }
 
+/// Appends what stands before an element.
+fn push_comma(out: &mut Vec<char>, first: bool) -> Result<(), AllocError>
+    ensures { OnOk result (out.new.items ≡ out.old.items ++ comma first) }
+{
+    if first {
+        Ok(())
+    } else {
+        push_ascii(out, b", ")
+    }
+}
+
 /// Appends the code points that are printed for the value, a string between quotes.
 #[cycle(text)]
 pub fn push_text(out: &mut Vec<char>, a: &Value) -> Result<(), AllocError>
@@ -114,14 +152,14 @@ pub fn push_text(out: &mut Vec<char>, a: &Value) -> Result<(), AllocError>
 
 #[cycle(text)]
 fn push_vector(out: &mut Vec<char>, all: &[Value]) -> Result<(), AllocError>
-    ensures { OnOk result (out.new.items ≡ out.old.items ++ vector_text (elements all.now)) }
+    ensures { OnOk result (out.new.items ≡ out.old.items ++ 91 ∷ elements_text true (elements all.now)) }
 {
     out.push('[')?;
-    'elements: for (i, v) in all.iter().enumerate() {
-        if i > 0 {
-            push_ascii(out, b", ")?;
-        }
+    let mut first = true;
+    'elements: for v in all {
+        push_comma(out, first)?;
         push_text(out, v)?;
+        first = false;
     }
     out.push(']')?;
     Ok(())

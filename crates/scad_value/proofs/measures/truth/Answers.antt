@@ -1,4 +1,4 @@
-use Rattle.std.proofs.Common.{◌≡◌, ◌∙◌, ap, length}
+use Rattle.std.proofs.Common.{◌∙◌, ap, length}
 use Rattle.scad_value.proofs.Rows.{truth-list}
 use Rattle.std.specs.Prelude.{◌==◌}
 use Rattle.scad_value.proofs.measures.truth.Goals as goal
