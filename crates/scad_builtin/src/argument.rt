@@ -2,8 +2,9 @@
 
 ghost use Rattle.std.specs.Prelude.{◌≡◌};
 ghost use Rattle.std.specs.Result.{result_map_both};
+ghost use Rattle.scad_value.specs.Products.{all_numbers, amount};
 ghost use Rattle.scad_value.specs.View.{datum_of, elements};
-ghost use Rattle.scad_builtin.specs.Arguments.{first_of, second_of, as_number, all_numbers, number_or_zero};
+ghost use Rattle.scad_builtin.specs.Arguments.{first_of, second_of, as_number};
 ghost use Rattle.scad_builtin.specs.Arguments.{numbers, as_numbers, as_number_vector, as_string};
 ghost use Rattle.scad_builtin.specs.Arguments.{first_number, first_string, first_numbers, second_numbers};
 
@@ -43,8 +44,8 @@ fn number(value: &Value) -> Result<Num, BuiltinFault>
 }
 
 /// The number that a value is, 0 for one of another kind.
-pub(crate) fn number_or_zero(value: &Value) -> Num
-    ensures { result ≡ number_or_zero (datum_of value.now) }
+pub(crate) fn amount(value: &Value) -> Num
+    ensures { result ≡ amount (datum_of value.now) }
 {
     match value {
         Value::Number(n) => *n,

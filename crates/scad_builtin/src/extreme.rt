@@ -7,7 +7,7 @@ ghost use Rattle.scad_builtin.specs.Arguments.{numbers};
 ghost use Rattle.scad_builtin.specs.Numbers.{chosen};
 ghost use Rattle.scad_builtin.specs.Vectors.{choices_from, choices};
 
-use crate::argument::number_or_zero;
+use crate::argument::amount;
 use crate::fault::BuiltinFault;
 use scad_num::Num;
 use scad_value::Value;
@@ -51,7 +51,7 @@ fn least_onto(first: Num, more: &[Value]) -> Num
 {
     let mut least = first;
     for value in more {
-        least = lesser(least, number_or_zero(value));
+        least = lesser(least, amount(value));
     }
     least
 }
@@ -62,7 +62,7 @@ fn greatest_onto(first: Num, more: &[Value]) -> Num
 {
     let mut greatest = first;
     for value in more {
-        greatest = greater(greatest, number_or_zero(value));
+        greatest = greater(greatest, amount(value));
     }
     greatest
 }
@@ -71,7 +71,7 @@ pub(crate) fn least(values: &[Value]) -> Result<Num, BuiltinFault>
     ensures { result ≡ chosen int_min (numbers (elements values.now)) }
 {
     match values {
-        [first, more @ ..] => Ok(least_onto(number_or_zero(first), more)),
+        [first, more @ ..] => Ok(least_onto(amount(first), more)),
         [] => Err(BuiltinFault::BadArgument),
     }
 }
@@ -80,7 +80,7 @@ pub(crate) fn greatest(values: &[Value]) -> Result<Num, BuiltinFault>
     ensures { result ≡ chosen int_max (numbers (elements values.now)) }
 {
     match values {
-        [first, more @ ..] => Ok(greatest_onto(number_or_zero(first), more)),
+        [first, more @ ..] => Ok(greatest_onto(amount(first), more)),
         [] => Err(BuiltinFault::BadArgument),
     }
 }

@@ -19,7 +19,7 @@ fn whole_number(n: usize) -> Result<Num, BuiltinFault>
 }
 
 /// How many elements or characters a value has.
-#[tactic(auto, using(scad_value::proofs::Rows::vector_view, crate::proofs::Rows::count_elements))]
+#[tactic(auto, using(scad_value::proofs::Rows::vector_view, scad_value::proofs::Rows::counted))]
 pub(crate) fn length_of(value: &Value) -> Result<Value, BuiltinFault>
     ensures { result_map_both datum_of (λ e. e) result ≡ length_of (datum_of value.now) }
 {

@@ -6,7 +6,7 @@ ghost use Rattle.scad_value.specs.View.{elements};
 ghost use Rattle.scad_builtin.specs.Arguments.{numbers};
 ghost use Rattle.scad_builtin.specs.Numbers.{squares_onto, norm_of};
 
-use crate::argument::number_or_zero;
+use crate::argument::amount;
 use crate::fault::BuiltinFault;
 use scad_num::{Num, NumFault};
 use scad_value::Value;
@@ -34,7 +34,7 @@ fn squares(values: &[Value]) -> Result<Num, NumFault>
 {
     let mut total = Num::within(0);
     for value in values {
-        let square = square(number_or_zero(value))?;
+        let square = square(amount(value))?;
         total = plus(total, square)?;
     }
     Ok(total)
