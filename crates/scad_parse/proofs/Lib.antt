@@ -3,7 +3,9 @@ mod Backward
 mod Ends
 mod Expressions
 mod Faults
+mod Follow
 mod Goes
+mod Loose
 mod Openings
 mod Prefix
 mod Rows
@@ -12,5 +14,6 @@ mod Sound
 mod Starts
 mod Statements
 mod Tests
+mod Tight
 pub mod Unique
 mod Viable

@@ -4,6 +4,7 @@ pub mod Judged
 pub mod Lists
 pub mod Machine
 pub mod Move
+pub mod Plain
 pub mod Promises
 pub mod State
 pub mod StatementSteps
