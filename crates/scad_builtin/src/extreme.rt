@@ -3,6 +3,7 @@
 ghost use Rattle.std.specs.Prelude.{◌≡◌, fold};
 ghost use Rattle.std.specs.Int.{int_min, int_max};
 ghost use Rattle.scad_value.specs.View.{datum_of, elements};
+ghost use Rattle.scad_builtin.specs.Memory.{TakesNone};
 ghost use Rattle.scad_builtin.specs.Arguments.{numbers};
 ghost use Rattle.scad_builtin.specs.Numbers.{chosen};
 ghost use Rattle.scad_builtin.specs.Vectors.{choices_from, choices};
@@ -68,7 +69,8 @@ fn greatest_onto(first: Num, more: &[Value]) -> Num
 }
 
 pub(crate) fn least(values: &[Value]) -> Result<Num, BuiltinFault>
-    ensures { result ≡ chosen int_min (numbers (elements values.now)) }
+    ensures value { result ≡ chosen int_min (numbers (elements values.now)) }
+    ensures memory { TakesNone result }
 {
     match values {
         [first, more @ ..] => Ok(least_onto(amount(first), more)),
@@ -77,7 +79,8 @@ pub(crate) fn least(values: &[Value]) -> Result<Num, BuiltinFault>
 }
 
 pub(crate) fn greatest(values: &[Value]) -> Result<Num, BuiltinFault>
-    ensures { result ≡ chosen int_max (numbers (elements values.now)) }
+    ensures value { result ≡ chosen int_max (numbers (elements values.now)) }
+    ensures memory { TakesNone result }
 {
     match values {
         [first, more @ ..] => Ok(greatest_onto(amount(first), more)),
