@@ -5,7 +5,9 @@
 #![tactic(auto, using(scad_geom::proofs::Casts::casts))]
 
 mod around;
+mod between;
 mod border;
+mod covering;
 mod fault;
 mod flat;
 pub mod laws;
@@ -18,6 +20,7 @@ mod slab;
 mod stop;
 mod stops;
 mod tally;
+mod turn;
 
 pub use border::pieces;
 pub use fault::BoolFault;

@@ -6,7 +6,7 @@ ghost use Rattle.slice_slab.specs.Bundles.{AreBundles};
 ghost use Rattle.slice_bool.specs.Pieces.{slab_pieces};
 ghost use Rattle.slice_bool.specs.Made.{AddsSlab, AreMembers, AreLeftValues, RisesFirst, piece_of};
 
-use crate::flat::push_between;
+use crate::between::push_between;
 use crate::stop::spot_on;
 use crate::tally::{add_bundle, is_held, no_turns};
 use scad_geom::{COORDINATE_LIMIT, LeafEdge, Level, Shape};
