@@ -1,0 +1,13 @@
+pub mod Actions
+pub mod Comparison
+pub mod Datum
+pub mod Elementwise
+pub mod Faults
+pub mod Index
+pub mod Kinds
+pub mod Measures
+pub mod Negative
+pub mod Operators
+pub mod Products
+pub mod Texts
+pub mod View

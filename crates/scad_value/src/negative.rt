@@ -1,0 +1,34 @@
+//! The negative of a value.
+
+ghost use Rattle.std.specs.Prelude.{◌≡◌, IfOk};
+ghost use Rattle.scad_value.specs.Negative.{negative, negatives};
+ghost use Rattle.scad_value.specs.View.{datum_of, elements};
+
+use crate::value::{Value, Values};
+use std::alloc::{AllocError, Global};
+
+/// Of a number, and of each element of a vector.
+#[cycle(negative)]
+pub(crate) fn negative(alloc: Global, a: &Value) -> Result<Value, AllocError>
+    ensures { IfOk result (λ v. datum_of v ≡ negative (datum_of a.now)) }
+{
+    match a {
+        Value::Number(n) => Ok(Value::Number(n.neg())),
+        Value::List(all) => match negatives(alloc, all) {
+            Ok(made) => Ok(Value::List(made)),
+            Err(e) => Err(e),
+        },
+        _ => Ok(Value::Undef),
+    }
+}
+
+#[cycle(negative)]
+fn negatives(alloc: Global, all: &[Value]) -> Result<Values, AllocError>
+    ensures { IfOk result (λ made. elements made.items ≡ negatives (elements all.now)) }
+{
+    let mut made = Vec::with_capacity(alloc, all.len())?;
+    'elements: for v in all {
+        made.push(negative(alloc, v)?)?;
+    }
+    Ok(made)
+}
