@@ -11,6 +11,8 @@ mod Leaves
 mod Loose
 mod Openings
 mod Prefix
+mod Printables
+mod Printing
 mod Rows
 mod Runs
 mod Shortest

@@ -6,6 +6,7 @@ pub mod Lists
 pub mod Machine
 pub mod Move
 pub mod Plain
+pub mod Printed
 pub mod Promises
 pub mod State
 pub mod StatementSteps
