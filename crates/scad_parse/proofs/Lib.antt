@@ -11,8 +11,10 @@ mod Leaves
 mod Loose
 mod Openings
 mod Prefix
+mod PrintableItems
 mod Printables
 mod Printing
+mod PrintingItems
 mod Rows
 mod Runs
 mod Shortest

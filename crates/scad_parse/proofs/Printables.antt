@@ -86,7 +86,7 @@ mutual
   printable_range Plain.two_parts h k = (h, k)
   printable_range (Plain.three_parts d) h k = (h, k, printable d)
 
-  printable_args : {a all : Arguments} {ts us : List Token} → Plain.Args a ts us all → ArePrintable a → ArePrintable all
+  pub printable_args : {a all : Arguments} {ts us : List Token} → Plain.Args a ts us all → ArePrintable a → ArePrintable all
   printable_args Plain.no_args h = h
   printable_args (Plain.unnamed {a = a} {e = e} d m) h = printable_more m (with_printable a _ e h (printable d))
   printable_args (Plain.named {a = a} {e = e} d m) h = printable_more m (with_printable a _ e h (printable d))

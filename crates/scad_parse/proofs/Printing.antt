@@ -75,8 +75,9 @@ printed_prim {e = e} f = printed_alone (λ us. record { mid = us; head = e; prim
 
 printed_group : {text : List Token → List Token} {e : Expression} → ((us : List Token) → Plain.Expr (text us) us e) → Printed false text e
 printed_group {e = e} f = record {
-    whole = f;
-    operand = λ us. record { mid = us; head = e; prim = Plain.a_group (f (sign CloseRound nowhere ∷ us)); posts = Plain.no_post } }
+  whole = f;
+  operand = λ us. record { mid = us; head = e; prim = Plain.a_group (f (sign CloseRound nowhere ∷ us)); posts = Plain.no_post };
+}
 
 indexed : {ts us vs : List Token} {a i : Expression} → Posted ts (sign OpenSquare nowhere ∷ us) a → Plain.Expr us (sign CloseSquare nowhere ∷ vs) i →
     Posted ts vs (index nowhere a i)
@@ -126,7 +127,7 @@ pub record PrintedElements (all : Elements) : Type 0 where
   pub next : (a : Elements) (us : List Token) → begins_with_key Else us ≡ false →
       Plain.MoreElems a (elements_onto false all us) us (join_elements a (unplaced_elements all))
 
-args_of : {all : Arguments} → PrintedArguments all → (us : List Token) →
+pub args_of : {all : Arguments} → PrintedArguments all → (us : List Token) →
     Plain.Args no_arguments (arguments_onto true all us) us (unplaced_arguments all)
 unfolding join_arguments
 args_of p us = p.first no_arguments us
@@ -188,13 +189,13 @@ mutual
   printed (range at a b) h =
       let p = printed a h.0 in let q = printed b h.1 in
       printed_prim (λ us. Plain.a_range (p.whole (sign Colon nowhere ∷ expression_onto b (sign CloseSquare nowhere ∷ us)))
-          (q.whole (sign CloseSquare nowhere ∷ us)) Plain.two_parts)
+      (q.whole (sign CloseSquare nowhere ∷ us)) Plain.two_parts)
   printed (stepped at a b c) h =
       let p = printed a h.0 in let q = printed b h.1 in let r = printed c h.2 in
       printed_prim (λ us. Plain.a_range
-          (p.whole (sign Colon nowhere ∷ expression_onto b (sign Colon nowhere ∷ expression_onto c (sign CloseSquare nowhere ∷ us))))
-          (q.whole (sign Colon nowhere ∷ expression_onto c (sign CloseSquare nowhere ∷ us)))
-          (Plain.three_parts (r.whole (sign CloseSquare nowhere ∷ us))))
+      (p.whole (sign Colon nowhere ∷ expression_onto b (sign Colon nowhere ∷ expression_onto c (sign CloseSquare nowhere ∷ us))))
+      (q.whole (sign Colon nowhere ∷ expression_onto c (sign CloseSquare nowhere ∷ us)))
+      (Plain.three_parts (r.whole (sign CloseSquare nowhere ∷ us))))
   printed (unary at Not a) h = let p = printed a h in printed_group (λ us. of_unary (Plain.not_unary (unary_of (p.operand us))))
   printed (unary at UnaryPlus a) h = let p = printed a h in printed_group (λ us. of_unary (Plain.plus_unary (unary_of (p.operand us))))
   printed (unary at UnaryMinus a) h = let p = printed a h in printed_group (λ us. of_unary (Plain.minus_unary (unary_of (p.operand us))))
@@ -204,11 +205,11 @@ mutual
   printed (choose at a b c) h =
       let p = printed a h.0 in let q = printed b h.1 in let r = printed c h.2 in
       printed_group (λ us. Plain.test (up 6 (unary_of (p.operand (sign Question nowhere ∷ expression_onto b (sign Colon nowhere ∷ expression_onto c us)))))
-          (Plain.choice (q.whole (sign Colon nowhere ∷ expression_onto c us)) (r.whole us)))
+      (Plain.choice (q.whole (sign Colon nowhere ∷ expression_onto c us)) (r.whole us)))
   printed (index at a i) h =
       let p = printed a h.0 in let q = printed i h.1 in
       printed_alone (λ us. indexed (p.operand (sign OpenSquare nowhere ∷ expression_onto i (sign CloseSquare nowhere ∷ us)))
-          (q.whole (sign CloseSquare nowhere ∷ us)))
+      (q.whole (sign CloseSquare nowhere ∷ us)))
   printed (member at a w) h =
       let p = printed a h in
       printed_alone (λ us. membered (p.operand (sign Dot nowhere ∷ word w nowhere ∷ us)))
@@ -226,16 +227,18 @@ mutual
 
   pub printed_arguments : (all : Arguments) → ArePrintable all → PrintedArguments all
   printed_arguments no_arguments h = record {
-      first = λ a us. subst (Plain.Args a us us) (join_none a) Plain.no_args;
-      next = λ a us. subst (Plain.MoreArgs a us us) (join_none a) Plain.last_arg }
+    first = λ a us. subst (Plain.Args a us us) (join_none a) Plain.no_args;
+    next = λ a us. subst (Plain.MoreArgs a us us) (join_none a) Plain.last_arg;
+  }
   printed_arguments (argument w e more) h =
       let p = printed e h.0 in let q = printed_arguments more h.1 in
       record { first = one_argument w e more p.whole q; next = λ a us. Plain.comma_arg (one_argument w e more p.whole q a us) }
 
   pub printed_elements : (all : Elements) → ArePrintableElements all → PrintedElements all
   printed_elements no_elements h = record {
-      first = λ a us _. subst (Plain.Elems a us us) (join_no_element a) Plain.no_elems;
-      next = λ a us _. subst (Plain.MoreElems a us us) (join_no_element a) Plain.last_elem }
+    first = λ a us _. subst (Plain.Elems a us us) (join_no_element a) Plain.no_elems;
+    next = λ a us _. subst (Plain.MoreElems a us us) (join_no_element a) Plain.last_elem;
+  }
   printed_elements (element e more) h =
       let p = printed_element e h.0 in let q = printed_elements more h.1 in
       record { first = one_element e more p q; next = λ a us n. Plain.comma_elem (one_element e more p q a us n) }
@@ -247,17 +250,17 @@ mutual
       Plain.comp (Plain.a_for (args_of (printed_arguments all h.0) (sign CloseRound nowhere ∷ element_onto e us)) (printed_element e h.1 us n))
   printed_element (for_loop at starts test steps e) h us n =
       Plain.comp (Plain.a_loop
-          (args_of (printed_arguments starts h.0) (sign Semicolon nowhere ∷ expression_onto test (sign Semicolon nowhere ∷ arguments_onto true steps (sign CloseRound nowhere ∷ element_onto e us))))
-          ((printed test h.1).whole (sign Semicolon nowhere ∷ arguments_onto true steps (sign CloseRound nowhere ∷ element_onto e us)))
-          (args_of (printed_arguments steps h.2) (sign CloseRound nowhere ∷ element_onto e us))
-          (printed_element e h.3 us n))
+      (args_of (printed_arguments starts h.0) (sign Semicolon nowhere ∷ expression_onto test (sign Semicolon nowhere ∷ arguments_onto true steps (sign CloseRound nowhere ∷ element_onto e us))))
+      ((printed test h.1).whole (sign Semicolon nowhere ∷ arguments_onto true steps (sign CloseRound nowhere ∷ element_onto e us)))
+      (args_of (printed_arguments steps h.2) (sign CloseRound nowhere ∷ element_onto e us))
+      (printed_element e h.3 us n))
   printed_element (let_element at all e) h us n =
       Plain.comp (Plain.let_comp (args_of (printed_arguments all h.0) (sign CloseRound nowhere ∷ element_onto e us))
-          (comp_of (item_kept e ∙ h.2) (printed_element e h.1 us n)))
+      (comp_of (item_kept e ∙ h.2) (printed_element e h.1 us n)))
   printed_element (if_element at test e) h us n =
       Plain.comp (Plain.an_if ((printed test h.0).whole (sign CloseRound nowhere ∷ element_onto e us)) (printed_element e h.1 us (λ _. n refl))
-          (Plain.no_else (n refl)))
+      (Plain.no_else (n refl)))
   printed_element (if_else at test e other) h us n =
       Plain.comp (Plain.an_if ((printed test h.0).whole (sign CloseRound nowhere ∷ element_onto e (key Else nowhere ∷ element_onto other us)))
-          (printed_element e h.1 (key Else nowhere ∷ element_onto other us) (λ t. absurd (false≢true (sym h.3 ∙ t))))
-          (Plain.an_else (printed_element other h.2 us n)))
+      (printed_element e h.1 (key Else nowhere ∷ element_onto other us) (λ t. absurd (false≢true (sym h.3 ∙ t))))
+      (Plain.an_else (printed_element other h.2 us n)))

@@ -2,13 +2,15 @@
 use Rattle.std.proofs.Common.{[], sym, ◌∙◌, refl, subst}
 use Rattle.scad_parse.specs.Machine.{start, reach}
 use Rattle.scad_parse.specs.Judged.{Judged}
-use Rattle.scad_parse.specs.Promises.{OneProgram, ReadsWhatIsDerived, StandsWhereAProgramBegins, JudgesAsTheGrammar, EndsExcludeNothing}
+use Rattle.scad_parse.specs.Promises.{OneProgram, ReadsWhatIsDerived, StandsWhereAProgramBegins, JudgesAsTheGrammar, EndsExcludeNothing, PrintedTokensDerive}
 use Rattle.scad_parse.proofs.Asked.{same_some}
 use Rattle.scad_parse.proofs.Statements.{runs_program}
 use Rattle.scad_parse.proofs.Sound.{sound_program}
 use Rattle.scad_parse.proofs.Prefix.{reached_begins, begins_reached}
 use Rattle.scad_parse.proofs.Loose.{loose_program}
 use Rattle.scad_parse.proofs.Tight.{tight_program}
+use Rattle.scad_parse.proofs.PrintingItems.{printed_program}
+use Rattle.scad_parse.proofs.PrintableItems.{printable_program}
 use Rattle.scad_parse.proofs.Faults.{standing, only_answer}
 
 pub one_program : OneProgram
@@ -27,3 +29,6 @@ judges_as_the_grammar ts end answer =
 
 pub ends_exclude_nothing : EndsExcludeNothing
 ends_exclude_nothing ts p = (tight_program, loose_program)
+
+pub printed_tokens_derive : PrintedTokensDerive
+printed_tokens_derive ts p d = tight_program (printed_program p (printable_program (loose_program d)))

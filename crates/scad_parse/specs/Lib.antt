@@ -7,6 +7,7 @@ pub mod Machine
 pub mod Move
 pub mod Plain
 pub mod Printed
+pub mod PrintedItems
 pub mod Promises
 pub mod State
 pub mod StatementSteps

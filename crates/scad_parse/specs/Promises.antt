@@ -5,6 +5,7 @@ use Rattle.scad_lex.specs.declared.token.Token.{Token}
 use Rattle.scad_ast.specs.Tree.{Items}
 use Rattle.scad_parse.specs.Statements.{Derives, Begins}
 use Rattle.scad_parse.specs.Plain
+use Rattle.scad_parse.specs.PrintedItems.{items_onto, unplaced_items}
 use Rattle.scad_parse.specs.State.{State}
 use Rattle.scad_parse.specs.Machine.{start, reach, run, outcome_of, Refusal}
 use Rattle.scad_parse.specs.Judged.{Judged}
@@ -29,3 +30,7 @@ JudgesAsTheGrammar = (ts : List Token) (end : Place) (answer : Result Items Refu
 -- that each part is as long as it can be excludes no program: the grammar as it stands on paper derives the same ones
 abbrev pub EndsExcludeNothing : Type 0
 EndsExcludeNothing = (ts : List Token) (p : Items) → Plain.Derives ts p ↔ Derives ts p
+
+-- the tokens of a program's printed text derive the program again, its places aside
+abbrev pub PrintedTokensDerive : Type 0
+PrintedTokensDerive = (ts : List Token) (p : Items) → Derives ts p → Derives (items_onto p []) (unplaced_items p)

@@ -1,5 +1,5 @@
 //! Laws of the definitions, each carried by the contract of a function that does nothing.
-ghost use Rattle.scad_parse.specs.Promises.{OneProgram, ReadsWhatIsDerived, StandsWhereAProgramBegins, JudgesAsTheGrammar, EndsExcludeNothing};
+ghost use Rattle.scad_parse.specs.Promises.{OneProgram, ReadsWhatIsDerived, StandsWhereAProgramBegins, JudgesAsTheGrammar, EndsExcludeNothing, PrintedTokensDerive};
 
 /// No tokens derive two programs.
 pub fn one_program()
@@ -27,6 +27,11 @@ pub fn ends_exclude_nothing()
     ensures { EndsExcludeNothing }
 {}
 
+/// The tokens of a program's printed text derive the program again, its places aside.
+pub fn printed_tokens_derive()
+    ensures { PrintedTokensDerive }
+{}
+
 #[cfg(test)]
 mod tests {
     use super::*;
@@ -38,5 +43,6 @@ mod tests {
         reads_what_is_derived();
         stands_where_a_program_begins();
         judges_as_the_grammar();
+        printed_tokens_derive();
     }
 }
