@@ -1,10 +1,9 @@
 -- Each program that tokens derive can be printed.
-use Rattle.std.proofs.Common.{◌≡◌, ℕ, Bool, true, false, if◌then◌else◌, List, [], ◌∷◌, Option, Some, None, refl}
+use Rattle.std.proofs.Common.{ℕ, Bool, true, false, if◌then◌else◌, List, [], ◌∷◌, Option, refl}
 use Rattle.scad_lex.specs.declared.token.Token.{Token}
 use Rattle.scad_ast.specs.Tree.{Expression, Parameter, Items, no_items, entry, Item}
-use Rattle.scad_parse.specs.Lists.{with_parameter, with_item, with_statement, Marks}
+use Rattle.scad_parse.specs.Lists.{with_parameter, with_item, Marks}
 use Rattle.scad_parse.specs.Plain
-use Rattle.scad_parse.specs.Printed.{IsPrintable, ArePrintable}
 use Rattle.scad_parse.specs.PrintedItems.{IsPrintableDefault, ArePrintableParameters, ArePrintableItems, IsPrintableItem}
 use Rattle.scad_parse.proofs.Printables.{printable, printable_args}
 

@@ -1,19 +1,18 @@
 -- The tokens of printed items derive them again, their places aside.
-use Rattle.std.proofs.Common.{◌≡◌, ℕ, Bool, true, false, if◌then◌else◌, List, [], ◌∷◌, ◌++◌, Option, Some, None, option_map, map, refl, ap, sym, ◌∙◌, subst, codes}
-use Rattle.std.proofs.lemmas.Bool.{false≢true}
+use Rattle.std.proofs.Common.{◌≡◌, ℕ, Bool, true, false, if◌then◌else◌, List, [], ◌∷◌, ◌++◌, Option, Some, None, option_map, map, refl, ap, sym, subst, codes}
 use Rattle.std.specs.Str.{bytes_eq}
 use Rattle.std.proofs.lemmas.Slice.Eq.{bytes_eq-Decides}
 use Rattle.std.proofs.lemmas.List.{append-nil}
 use Rattle.scad_fault.specs.declared.place.Place.{Place}
 use Rattle.scad_lex.specs.declared.token.Token.{Token}
-use Rattle.scad_lex.specs.declared.token.Sign.TheVariants.{OpenRound, CloseRound, OpenCurly, CloseCurly, Semicolon, Comma, Assign, Percent, Hash}
-use Rattle.scad_lex.specs.declared.token.Key.TheVariants.{Module, Function, If, Else, For, Let, Assert, Echo}
+use Rattle.scad_lex.specs.declared.token.Sign.TheVariants.{CloseRound, CloseCurly, Semicolon, Assign, Percent, Hash}
+use Rattle.scad_lex.specs.declared.token.Key.TheVariants.{Else, For, Let, Assert, Echo}
 use Rattle.scad_ast.specs.Tree.{Expression, Arguments, Parameter, Items, no_items, entry, Item, assignment, module_of, function_of, call_of, choice}
 use Rattle.scad_parse.specs.Tokens.{sign, key, word, begins_with_key}
-use Rattle.scad_parse.specs.Lists.{with_item, with_parameter, Marks, no_marks, percented, hashed, with_statement}
+use Rattle.scad_parse.specs.Lists.{with_item, with_parameter, Marks, no_marks}
 use Rattle.scad_parse.specs.Statements.{Callee, call_word, call_for, call_let, call_echo, call_assert}
 use Rattle.scad_parse.specs.Plain
-use Rattle.scad_parse.specs.Printed.{nowhere, expression_onto, arguments_onto, unplaced, unplaced_arguments, IsPrintable, ArePrintable}
+use Rattle.scad_parse.specs.Printed.{nowhere, expression_onto, unplaced, unplaced_arguments, IsPrintable, ArePrintable}
 use Rattle.scad_parse.specs.PrintedItems.{callee_token, mark_onto, default_onto, parameters_onto, body_onto, otherwise_onto, items_onto, item_onto, unplaced_parameter, unplaced_items, unplaced_item, IsPrintableDefault, ArePrintableParameters, ArePrintableItems, IsPrintableItem}
 use Rattle.scad_parse.proofs.Printing.{printed, printed_arguments, args_of}
 

@@ -3,9 +3,9 @@ use Rattle.std.specs.Prelude.{◌≡◌, ℕ, Bool, true, false, if◌then◌els
 use Rattle.std.specs.Str.{bytes_eq}
 use Rattle.scad_lex.specs.declared.token.Token.{Token}
 use Rattle.scad_lex.specs.declared.token.Sign.{Sign as SignName}
-use Rattle.scad_lex.specs.declared.token.Sign.TheVariants.{OpenRound, CloseRound, OpenCurly, CloseCurly, Semicolon, Comma, Assign, Percent, Hash}
+use Rattle.scad_lex.specs.declared.token.Sign.TheVariants.{OpenCurly, CloseCurly, Semicolon, Assign, Percent, Hash}
 use Rattle.scad_lex.specs.declared.token.Key.TheVariants.{Module, Function, If, Else, For, Let, Assert, Echo}
-use Rattle.scad_ast.specs.Tree.{Expression, Arguments, Parameter, Items, no_items, entry, Item, assignment, module_of, function_of, call_of, choice}
+use Rattle.scad_ast.specs.Tree.{Expression, Parameter, Items, no_items, entry, Item, assignment, module_of, function_of, call_of, choice}
 use Rattle.scad_parse.specs.Tokens.{sign, key, word}
 use Rattle.scad_parse.specs.Printed.{nowhere, in_round_onto, comma_onto, expression_onto, arguments_onto, unplaced, unplaced_arguments, IsPrintable, ArePrintable}
 
