@@ -10,12 +10,15 @@ use Rattle.scad_parse.specs.Statements.{Derives, Begins}
 use Rattle.scad_parse.specs.State.{State, open_count}
 use Rattle.scad_parse.specs.Move.{Move, go, left_out, stuck}
 use Rattle.scad_parse.specs.Machine.{step, finish, start, reach, run, Refusal, syntax_at, nesting_at, most_open, judge_move, judge_end, outcome}
-use Rattle.scad_parse.specs.Judged.{Opens, IsLeftOut, MayStand, Judged, is_program, ends_early, is_left_out, is_misplaced, is_nested, stands}
+use Rattle.scad_parse.specs.LeftOut.{IsLeftOut}
+use Rattle.scad_parse.specs.Judged.{Opens, MayStand, Judged, is_program, ends_early, is_left_out, is_misplaced, is_nested, stands}
 use Rattle.scad_parse.proofs.Runs.{follow, by_move}
 use Rattle.scad_parse.proofs.Asked.{same_some, none_is_no_some}
 use Rattle.scad_parse.proofs.Statements.{runs_program}
 use Rattle.scad_parse.proofs.Sound.{sound_finish, into_program}
-use Rattle.scad_parse.proofs.Prefix.{reach_by, by_reach, reached_goes, reached_begins, begins_reached, reach_one}
+use Rattle.scad_parse.proofs.Prefix.{reach_by, by_reach, reached_goes, reached_begins, goes_next, stuck_begins_nothing}
+use Rattle.scad_parse.proofs.Leaves.{leaves}
+use Rattle.scad_parse.proofs.Forms.{left_is, left_step}
 
 -- a run ends where the reader stands
 run_behind_move : (m : Move) (ts : List Token) (s : State) → ((s₀ : State) → reach s₀ ts ≡ Some s → run s₀ ts ≡ finish s) →
@@ -38,38 +41,11 @@ finish_derives before s p h e =
 derives_finish : (before : List Token) (s : State) (p : Items) → reach start before ≡ Some s → Derives before p → finish s ≡ Some p
 derives_finish before s p h d = sym (run_behind before s start h) ∙ runs_program d
 
--- one token more
-reached_next : (before : List Token) (t : Token) (s : State) (m : Move) → reach start before ≡ Some s → step s t ≡ m →
-    reach start (before ++ (t ∷ [])) ≡ reach_by m []
-reached_next before t s m h e = reach_one before t start s h ∙ ap (λ (x : Move). reach_by x []) e
-
-goes_next : (before : List Token) (t : Token) (s next : State) → reach start before ≡ Some s → step s t ≡ go next →
-    reach start (before ++ (t ∷ [])) ≡ Some next
-unfolding reach
-goes_next before t s next h e = reached_next before t s (go next) h e
-
-stuck_begins_nothing : (before : List Token) (t : Token) (s : State) (m : Move) → reach start before ≡ Some s → step s t ≡ m →
-    reach_by m [] ≡ None → Begins (before ++ (t ∷ [])) → ⊥
-stuck_begins_nothing before t s m h e none b =
-    none_is_no_some (sym none ∙ (sym (reached_next before t s m h e) ∙ (begins_reached (before ++ (t ∷ [])) b).1))
-
--- a move that is left out is no other
-leaves : Move → Bool
-leaves (go next) = false
-leaves (left_out w) = true
-leaves stuck = false
-
-left_step : (before : List Token) (t : Token) (s : State) (w : List ℕ) → reach start before ≡ Some s → IsLeftOut before t w →
-    step s t ≡ left_out w
-left_step before t s w h l = ap (λ (x : State). step x t) (same_some s l.0 (sym h ∙ l.1)) ∙ l.2
-
 not_left : (before : List Token) (t : Token) (s : State) (m : Move) → reach start before ≡ Some s → step s t ≡ m → leaves m ≡ false →
     (w : List ℕ) → IsLeftOut before t w → ⊥
-unfolding leaves
 not_left before t s m h e quiet w l = false≢true (sym quiet ∙ (ap leaves (sym e ∙ left_step before t s w h l)))
 
 may_stand : (before : List Token) (t : Token) (s next : State) → reach start before ≡ Some s → step s t ≡ go next → MayStand before t
-unfolding leaves
 may_stand before t s next h e = record {
   begins = reached_begins (before ++ (t ∷ [])) next (goes_next before t s next h e);
   not_left_out = not_left before t s (go next) h e refl;
@@ -111,10 +87,10 @@ at_count before ts t s next end h e j false c =
 at_token : (before ts : List Token) (t : Token) (s : State) (end : Place) → reach start before ≡ Some s →
     ((next : State) → reach start (before ++ (t ∷ [])) ≡ Some next → Judged (before ++ (t ∷ [])) ts end (outcome next ts end)) →
     (m : Move) → step s t ≡ m → Judged before (t ∷ ts) end (outcome_by (judge_move t.at m) ts end)
-unfolding judge_move outcome_by leaves
+unfolding judge_move outcome_by
 at_token before ts t s end h f (go next) e =
     at_count before ts t s next end h e (f next (goes_next before t s next h e)) (nat_lt most_open (open_count next)) refl
-at_token before ts t s end h f (left_out w) e = is_left_out (s, h, e)
+at_token before ts t s end h f (left_out w) e = is_left_out (left_is before t s w h e)
 at_token before ts t s end h f stuck e =
     is_misplaced (not_left before t s stuck h e refl) (stuck_begins_nothing before t s stuck h e refl)
 
@@ -139,9 +115,8 @@ record Next (s : State) (t : Token) : Type 0 where
 
 may_go : (before : List Token) (t : Token) (s : State) → reach start before ≡ Some s → MayStand before t →
     (m : Move) → step s t ≡ m → Next s t
-unfolding leaves
 may_go before t s h may (go next) e = record { next = next; is = e }
-may_go before t s h may (left_out w) e = absurd (may.not_left_out w (s, h, e))
+may_go before t s h may (left_out w) e = absurd (may.not_left_out w (left_is before t s w h e))
 may_go before t s h may stuck e = absurd (stuck_begins_nothing before t s stuck h e refl may.begins)
 
 count_is : (before : List Token) (t : Token) (next : State) (n : ℕ) → reach start (before ++ (t ∷ [])) ≡ Some next →
@@ -153,7 +128,7 @@ misplaced : (before ts : List Token) (t : Token) (s : State) (end : Place) → r
     outcome_by (judge_move t.at m) ts end ≡ Err (syntax_at t.at)
 unfolding outcome_by judge_move
 misplaced before ts t s end h l b (go next) e = absurd (b (reached_begins (before ++ (t ∷ [])) next (goes_next before t s next h e)))
-misplaced before ts t s end h l b (left_out w) e = absurd (l w (s, h, e))
+misplaced before ts t s end h l b (left_out w) e = absurd (l w (left_is before t s w h e))
 misplaced before ts t s end h l b stuck e = refl
 
 judged_by : (t : Token) (ts : List Token) (s : State) (end : Place) (m : Move) → step s t ≡ m →

@@ -84,3 +84,18 @@ unfolding reach
 reach_one [] t s s' h = by_reach s t [] ∙ ap (λ (x : State). reach_by (step x t) []) (same_some s s' h)
 reach_one (u ∷ ts) t s s' h =
     by_reach s u (ts ++ (t ∷ [])) ∙ reach_more (step s u) ts t s' (reach_one ts t) (sym (by_reach s u ts) ∙ h)
+
+-- what is reached by one token more
+pub reached_next : (before : List Token) (t : Token) (s : State) (m : Move) → reach start before ≡ Some s → step s t ≡ m →
+    reach start (before ++ (t ∷ [])) ≡ reach_by m []
+reached_next before t s m h e = reach_one before t start s h ∙ ap (λ (x : Move). reach_by x []) e
+
+pub goes_next : (before : List Token) (t : Token) (s next : State) → reach start before ≡ Some s → step s t ≡ go next →
+    reach start (before ++ (t ∷ [])) ≡ Some next
+unfolding reach
+goes_next before t s next h e = reached_next before t s (go next) h e
+
+pub stuck_begins_nothing : (before : List Token) (t : Token) (s : State) (m : Move) → reach start before ≡ Some s → step s t ≡ m →
+    reach_by m [] ≡ None → Begins (before ++ (t ∷ [])) → ⊥
+stuck_begins_nothing before t s m h e none b =
+    none_is_no_some (sym none ∙ (sym (reached_next before t s m h e) ∙ (begins_reached (before ++ (t ∷ [])) b).1))

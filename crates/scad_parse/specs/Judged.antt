@@ -4,18 +4,13 @@ use Rattle.scad_fault.specs.declared.place.Place.{Place}
 use Rattle.scad_lex.specs.declared.token.Token.{Token}
 use Rattle.scad_ast.specs.Tree.{Items}
 use Rattle.scad_parse.specs.Statements.{Derives, Begins}
+use Rattle.scad_parse.specs.LeftOut.{IsLeftOut}
 use Rattle.scad_parse.specs.State.{State, open_count}
-use Rattle.scad_parse.specs.Move.{left_out}
-use Rattle.scad_parse.specs.Machine.{step, start, reach, Refusal, syntax_at, nesting_at, left_out_at, most_open}
+use Rattle.scad_parse.specs.Machine.{start, reach, Refusal, syntax_at, nesting_at, left_out_at, most_open}
 
 -- behind tokens with which a program begins so many constructs stand open
 abbrev pub Opens : List Token → ℕ → Type 0
 Opens ts n = (s : State) × (reach start ts ≡ Some s) × (open_count s ≡ n)
-
--- behind these tokens this token is of a form that is left out: `include` or `use` where a statement may begin, `!` where
--- a mark may stand, `^` where an operator may stand, `function` where an expression may begin
-abbrev pub IsLeftOut : List Token → Token → List ℕ → Type 0
-IsLeftOut before t w = (s : State) × (reach start before ≡ Some s) × (step s t ≡ left_out w)
 
 -- some program begins with these tokens, and the last is of no form that is left out
 pub record MayStand (before : List Token) (t : Token) : Type 0 where

@@ -1,6 +1,7 @@
 pub mod Behind
 pub mod Grammar
 pub mod Judged
+pub mod LeftOut
 pub mod Lists
 pub mod Machine
 pub mod Move

@@ -26,3 +26,17 @@ pub fn judges_as_the_grammar()
 pub fn ends_exclude_nothing()
     ensures { EndsExcludeNothing }
 {}
+
+#[cfg(test)]
+mod tests {
+    use super::*;
+
+    #[test]
+    fn laws_are_called() {
+        ends_exclude_nothing();
+        one_program();
+        reads_what_is_derived();
+        stands_where_a_program_begins();
+        judges_as_the_grammar();
+    }
+}
