@@ -1,3 +1,4 @@
 pub mod Operands
 pub mod Rows
 pub mod ScopeRows
+pub mod Pieces

@@ -1,5 +1,5 @@
 -- The lists of a scope's items are those of the vectors that hold them.
-use Rattle.std.proofs.Common.{◌≡◌, ℕ, Bool, List, [], Vec, Global, refl, ap, ap₂, rules}
+use Rattle.std.proofs.Common.{◌≡◌, ℕ, Bool, List, [], Vec, Global, ◌∷◌, ◌≤◌, length, true, refl, ap, arith, rules}
 use Rattle.std.specs.Prelude.{map}
 use Rattle.scad_fault.specs.declared.place.Place.{Place}
 use Rattle.scad_ast.specs.declared.expression.Arg.{Arg}
@@ -10,6 +10,7 @@ use Rattle.scad_ast.specs.declared.statement.Item.TheViews.{the_lemmas}
 use Rattle.scad_ast.specs.declared.statement.StmtBody.{Call, If}
 use Rattle.scad_ast.specs.Tree.{Items, no_items, entry, module_of, call_of, choice}
 use Rattle.scad_ast.specs.Tree.{Item as TreeItem}
+use Rattle.scad_ast.specs.Text.{has_items}
 use Rattle.scad_ast.specs.View.{expression_of, arguments}
 use Rattle.scad_ast.specs.Scope.{item_of, items_of, body_of, items, parameter}
 
@@ -23,12 +24,10 @@ module_view name params scope at = search (rules, the_lemmas, items_rows)
 pub call_view : (at : Place) (percent hash : Bool) (name : List ℕ) (args : Vec Arg Global) (children : Vec Item Global) → body_of at percent hash (Call name args children) ≡ call_of at percent hash name (arguments args.items) (items children.items)
 call_view at percent hash name args children = search (rules, the_lemmas, items_rows)
 
--- the children of a call
-abbrev children_in : TreeItem → Items
-children_in (call_of at percent hash name args all) = all
-children_in other = no_items
+pub choice_view : (at : Place) (percent hash : Bool) (test : Expr) (held other : Vec Item Global) → body_of at percent hash (If test held other) ≡ choice at percent hash (expression_of test) (items held.items) (items other.items)
+choice_view at percent hash test held other = search (rules, the_lemmas, items_rows)
 
-pub choice_view : (at : Place) (percent hash : Bool) (args : Vec Arg Global) (test : Expr) (held other : Vec Item Global) → body_of at percent hash (If test held other) ≡ choice at percent hash (expression_of test) (items held.items) (items other.items)
-choice_view at percent hash args test held other =
-    ap₂ (λ a b. choice at percent hash (expression_of test) a b)
-    (ap children_in (call_view at percent hash [] args held)) (ap children_in (call_view at percent hash [] args other))
+-- a scope of one item or more has items
+pub some_items : (all : List Item) → 1 ≤ length all → has_items (items all) ≡ true
+some_items [] some = absurd (omega arith)
+some_items (i ∷ all) some = refl

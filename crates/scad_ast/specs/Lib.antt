@@ -1,3 +1,4 @@
 pub mod Scope
 pub mod Tree
 pub mod View
+pub mod Text

@@ -4,10 +4,12 @@
 
 mod expression;
 mod operator;
+mod printing;
 mod statement;
 
 pub use expression::{Arg, Args, Elem, Elems, Expr, Node};
 pub use operator::{BinOp, UnOp};
+pub use printing::print;
 pub use statement::{Item, Param, Params, Program, Scope, Stmt, StmtBody};
 
 #[cfg(test)]

@@ -77,3 +77,23 @@ fn a_call_has_its_marks_and_arguments(rt: HostRuntime) -> Result<(), Fail> {
     assert_eq!(rt; word_of(&argument.value), Some(b"x".as_slice()));
     Ok(())
 }
+
+#[test]
+fn a_program_is_printed(rt: HostRuntime) -> Result<(), Fail> {
+    let alloc = rt.alloc();
+    let mut scope = Scope::new(alloc);
+    let word = Text::of(alloc, b"x")?;
+    scope.push(Item::Assign(word, difference(alloc)?, at(1)))?;
+    scope.push(Item::Run(Stmt {
+        at: at(1),
+        percent: true,
+        hash: true,
+        body: call(alloc)?,
+    }))?;
+    let text = print(alloc, &Program { scope })?;
+    assert_eq!(rt;
+        text.as_slice(),
+        b"x = a - b ;\n% # cube ( x ) ;\n".as_slice()
+    );
+    Ok(())
+}

@@ -7,3 +7,4 @@ pub mod Nearest
 pub mod Number
 pub mod SquareRoot
 pub mod Scaled
+pub mod Decimals

@@ -2,3 +2,4 @@ pub mod Literal
 pub mod Number
 pub mod Root
 pub mod Rounding
+pub mod Text

@@ -10,6 +10,9 @@ pub(crate) const MOST: u64 = 1_000_000_000_000_000;
 /// The millionths of 1.
 pub(crate) const ONE: i64 = 1_000_000;
 
+/// The same, without a sign.
+pub(crate) const ONE_PART: u64 = 1_000_000;
+
 /// A number of the language, in whole millionths.
 #[derive(Clone, Copy, Debug, PartialEq, Eq, PartialOrd, Ord, Hash)]
 pub struct Num {

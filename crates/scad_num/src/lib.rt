@@ -12,6 +12,7 @@ mod mantissa;
 mod power;
 mod root;
 mod rounding;
+mod text;
 mod whole;
 mod wide;
 

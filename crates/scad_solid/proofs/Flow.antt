@@ -1,6 +1,6 @@
 -- What flows along directed sides, once one way and once the other: round each triangle of a stack of rings it comes to nothing.
-use Rattle.std.proofs.Common.{◌≡◌, ℕ, zero, suc, ◌+◌, Bool, true, false, cond, List, [], ◌∷◌, ◌++◌, length, map, reverse, ℤ, pos, neg_ℤ, ◌+ℤ◌, ◌-ℤ◌, arith, refl, ap, ap₂, sym, ◌∙◌, append_assoc, ◌&&◌, ◌==◌}
-use Rattle.std.specs.List.{flat_map, zip, list_all}
+use Rattle.std.proofs.Common.{◌≡◌, ℕ, Bool, true, false, cond, List, [], ◌∷◌, ◌++◌, length, map, reverse, ℤ, pos, neg_ℤ, ◌+ℤ◌, ◌-ℤ◌, arith, refl, ap, ap₂, sym, ◌∙◌, append_assoc, ◌&&◌, ◌==◌}
+use Rattle.std.specs.List.{zip, list_all}
 use Rattle.std.proofs.lemmas.Int.{ints}
 use Rattle.std.proofs.lemmas.Grind.{flat_map-append, reverse_onto}
 use Rattle.scad_geom.specs.declared.point3.Pt3.{Pt3}
@@ -9,7 +9,7 @@ use Rattle.scad_solid.specs.declared.triangle.Triangle.{Triangle}
 use Rattle.scad_solid.specs.Side.{reversed, same_point, same_side}
 use Rattle.scad_solid.specs.Surface.{sides_of, sides, occurrences, is_closed}
 use Rattle.scad_solid.specs.Solid.{fan, fan_around, fans}
-use Rattle.scad_solid.specs.Stack.{path, ring_sides, quad, band, faces_below, stack_faces, stacked, are_alike}
+use Rattle.scad_solid.specs.Stack.{path, ring_sides, quad, band, faces_below, stacked, are_alike}
 use Rattle.scad_solid.proofs.Multiset.{times_in-cons}
 use Rattle.scad_solid.proofs.SideOrder.{side_Decides}
 use Rattle.scad_solid.proofs.ClosedSides.{is_closed-IsClosed}

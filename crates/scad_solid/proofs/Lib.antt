@@ -8,3 +8,6 @@ pub mod Flow
 pub mod Parts
 pub mod Prism
 pub mod Rectangle
+pub mod Holds
+pub mod Counts
+pub mod Above

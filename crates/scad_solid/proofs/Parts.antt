@@ -1,11 +1,11 @@
 -- How an edge's crossing of a ray is told by signs, and that the parts of an edge cross it as the whole does.
-use Rattle.std.proofs.Common.{◌≡◌, ℕ, zero, suc, ◌+◌, ◌<◌, Bool, true, false, List, [], ◌∷◌, ℤ, pos, negsuc, neg_ℤ, ◌+ℤ◌, ◌-ℤ◌, ◌*ℤ◌, ◌<ℤ◌, ◌≤ℤ◌, arith, refl, ap, ap₂, sym, ◌∙◌, subst}
+use Rattle.std.proofs.Common.{◌≡◌, ℕ, zero, suc, Bool, true, false, [], ◌∷◌, ℤ, pos, negsuc, ◌+ℤ◌, ◌-ℤ◌, ◌*ℤ◌, ◌<ℤ◌, arith, refl, ap, ap₂, sym, ◌∙◌}
 use Rattle.std.specs.Prelude.{int_lt, if◌then◌else◌}
 use Rattle.std.proofs.lemmas.Int.{ints}
 use Rattle.scad_geom.specs.declared.point.Pt.{Pt}
 use Rattle.scad_geom.specs.declared.point.Edge.{Edge}
-use Rattle.scad_geom.specs.Winding.{counted, passage, side_of, crossing}
-use Rattle.scad_geom.proofs.Ring.{solve, var, num, plus, less, times}
+use Rattle.scad_geom.specs.Winding.{counted, side_of, crossing}
+use Rattle.scad_geom.proofs.Ring.{solve, var, plus, less, times}
 
 -- the crossing by whether each end lies above, and on which side the point lies
 abbrev pub told : Bool → Bool → Bool → Bool → ℤ

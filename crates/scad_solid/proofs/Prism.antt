@@ -1,5 +1,5 @@
 -- The cuts of a prism wind round a point as its ring does.
-use Rattle.std.proofs.Common.{◌≡◌, ℕ, zero, suc, ◌+◌, ◌<◌, Bool, true, false, cond, ◌&&◌, not, List, [], ◌∷◌, ◌++◌, map, reverse, Some, None, Option, ℤ, pos, negsuc, neg_ℤ, ◌+ℤ◌, ◌-ℤ◌, ◌*ℤ◌, ◌<ℤ◌, ◌≤ℤ◌, arith, refl, ap, ap₂, sym, ◌∙◌, subst}
+use Rattle.std.proofs.Common.{◌≡◌, zero, suc, Bool, true, false, cond, ◌&&◌, not, List, [], ◌∷◌, ◌++◌, map, reverse, Some, None, Option, ℤ, pos, negsuc, neg_ℤ, ◌+ℤ◌, ◌-ℤ◌, ◌*ℤ◌, ◌<ℤ◌, arith, refl, ap, ap₂, sym, ◌∙◌}
 use Rattle.std.specs.Prelude.{int_lt}
 use Rattle.std.specs.List.{cons_option, zip}
 use Rattle.std.proofs.lemmas.Int.{ints}
@@ -11,18 +11,14 @@ use Rattle.scad_geom.specs.declared.point.Edge.{Edge}
 use Rattle.scad_geom.specs.Winding.{side_of, crossing, doubled_edge, wind}
 use Rattle.scad_geom.proofs.Ring.{Term, solve, var, num, plus, less, times}
 use Rattle.scad_solid.specs.declared.triangle.Triangle.{Triangle}
-use Rattle.scad_solid.specs.Cut.{Cut, ExactPoint, is_above, is_below, point_between, weighted, common_edge, cut_crossing, cut_between, cut_wind, cut_of, cuts_of}
+use Rattle.scad_solid.specs.Cut.{Cut, ExactPoint, is_above, is_below, point_between, cut_crossing, cut_between, cut_wind, cut_of, cuts_of}
 use Rattle.scad_solid.specs.Solid.{fan, fan_around, fans}
 use Rattle.scad_solid.specs.Stack.{quad, band, stack_faces, stacked}
 use Rattle.scad_solid.specs.Stack as stack
+use Rattle.scad_solid.specs.Laws.{at, prism}
 use Rattle.scad_geom.specs.Loop.{path}
 use Rattle.scad_geom.specs.Loop as loops
-use Rattle.scad_solid.specs.declared.side.Side.{Side}
 use Rattle.scad_solid.proofs.Parts.{told, crossing-told, crossing-parts, crossing-scaled, mixed, times_point, scaled}
-
--- a point of the plane at a height
-abbrev pub at : ℤ → Pt → Pt3
-at z p = record { x = p.x; y = p.y; z = z }
 
 abbrev edge : Pt → Pt → Edge
 edge p q = record { a = p; b = q }
@@ -250,10 +246,6 @@ reverse-map f (p ∷ ps) = reverse_onto (map f ps) (f p) [] ∙ ap (λ qs. qs ++
     map-push : (f : Pt → Pt3) (qs : List Pt) (q : Pt) → map f (qs ++ q ∷ []) ≡ map f qs ++ f q ∷ []
     map-push f [] q = refl
     map-push f (r ∷ rs) q = ap (λ ts. f r ∷ ts) (map-push f rs q)
-
--- the triangles between a ring at an upper and the same ring at a lower height, in either order
-abbrev pub prism : ℤ → ℤ → List Pt → List Triangle
-prism upper lower ring = stacked (map (at upper) ring ∷ map (at lower) ring ∷ [])
 
 -- the cuts of a prism wind round each point as its ring does, one way or the other, where the plane lies between its two
 -- ends, and not at all elsewhere

@@ -1,23 +1,20 @@
 -- The outline of an upright rectangle winds round exactly the points strictly inside it, whichever way it runs.
-use Rattle.std.proofs.Common.{◌≡◌, Bool, true, false, not, List, [], ◌∷◌, ℤ, pos, zero, suc, negsuc, neg_ℤ, ◌+ℤ◌, ◌-ℤ◌, ◌*ℤ◌, ◌<ℤ◌, ◌≤ℤ◌, arith, refl, ap, ap₂, sym, ◌∙◌}
+use Rattle.std.proofs.Common.{◌≡◌, Bool, true, false, [], ◌∷◌, ℤ, pos, zero, suc, negsuc, neg_ℤ, ◌+ℤ◌, ◌-ℤ◌, ◌*ℤ◌, ◌<ℤ◌, arith, refl, ap, sym, ◌∙◌}
 use Rattle.std.specs.Prelude.{int_lt}
 use Rattle.std.proofs.lemmas.Int.{ints}
 use Rattle.scad_geom.specs.declared.point.Pt.{Pt}
 use Rattle.scad_geom.specs.declared.point.Edge.{Edge}
 use Rattle.scad_geom.specs.Winding.{side_of, crossing, counted, doubled_edge, wind}
 use Rattle.scad_geom.specs.Loop.{sides}
-use Rattle.scad_geom.proofs.Ring.{Term, solve, var, num, plus, less, times}
-use Rattle.scad_solid.proofs.Parts.{told, crossing-told, sign_up_by, sign_down_by, gap_sign}
+use Rattle.scad_geom.proofs.Ring.{Term, solve, var, num, less, times}
+use Rattle.scad_solid.specs.Laws.{rectangle}
+use Rattle.scad_solid.proofs.Parts.{told, crossing-told, sign_up_by, gap_sign}
 
 abbrev point : ℤ → ℤ → Pt
 point x y = record { x = x; y = y }
 
 abbrev edge : Pt → Pt → Edge
 edge p q = record { a = p; b = q }
-
--- the corners of a rectangle, from one over the side along x
-abbrev pub rectangle : ℤ → ℤ → ℤ → ℤ → List Pt
-rectangle x0 y0 x1 y1 = point x0 y0 ∷ point x1 y0 ∷ point x1 y1 ∷ point x0 y1 ∷ []
 
 -- how an upright edge crosses the ray, by which of its ends lie above, and whether it lies to the right
 abbrev up : Bool → Bool → Bool → ℤ

@@ -5,3 +5,4 @@ pub mod Height
 pub mod Solid
 pub mod Stack
 pub mod Cut
+pub mod Laws

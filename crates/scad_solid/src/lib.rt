@@ -8,6 +8,7 @@ mod closed;
 mod face;
 mod fans;
 mod fault;
+pub mod laws;
 mod range;
 mod ring;
 mod side;

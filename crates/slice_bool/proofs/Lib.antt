@@ -6,3 +6,18 @@ pub mod Middle
 pub mod Slabs
 pub mod Winding
 pub mod Walk
+pub mod Ends
+pub mod Centre
+pub mod BalanceTurns
+pub mod BalanceEdges
+pub mod BalanceSpots
+pub mod BalanceStops
+pub mod BalanceFlat
+pub mod BalanceLevels
+mod Examples
+pub mod BorderPoints
+pub mod Stopping
+pub mod Hardby
+pub mod Stretches
+pub mod Bundled
+pub mod Climbing

@@ -1,39 +1,30 @@
 -- A shape's values hard by a bundle at half height, on its left and on its right.
-use Rattle.std.proofs.Common.{◌≡◌, ◌≢◌, ℕ, zero, suc, ◌+◌, ◌<◌, ◌≤◌, ◌⊎◌, inl, inr, Bool, true, false, not, cond, List, [], ◌∷◌, ◌++◌, length, get_or, refl, sym, ap, ap₂, ◌∙◌, arith, subst}
-use mathlib.Core.Path.{fun_ext}
-use lib.IntN.{ℤ, pos, negsuc, ◌+ℤ◌, ◌-ℤ◌, ◌*ℤ◌, neg_ℤ, zero-*ℤ, +ℤ_idl}
-use lib.Signed.{◌<ℤ◌, ◌≤ℤ◌, lt_z, le_z}
-use Rattle.std.specs.Prelude.{int_lt, int_le, if◌then◌else◌, ◌==◌, ◌&&◌}
-use Rattle.std.specs.List.{AllByRecursion, All, concat}
-use Rattle.std.specs.List.Sorted.{IsPermutation}
+use Rattle.std.proofs.Common.{◌≡◌, ℕ, Bool, true, false, not, List, [], ◌∷◌, ◌++◌, refl, sym, ap, ◌∙◌, arith, subst}
+use lib.IntN.{ℤ, pos, negsuc, ◌+ℤ◌, ◌-ℤ◌, ◌*ℤ◌, zero-*ℤ}
+use lib.Signed.{◌<ℤ◌, ◌≤ℤ◌}
+use Rattle.std.specs.List.{AllByRecursion, concat}
 use Rattle.std.proofs.lemmas.Int.{ints, by_lt_z}
-use Rattle.std.proofs.lemmas.List.Elements.{recursion_from_All, All-from_recursion}
-use Rattle.std.proofs.lemmas.List.Sorted.{All-permutation}
 use Rattle.scad_geom.specs.declared.point.Edge.{Edge}
 use Rattle.scad_geom.specs.declared.level.Level.{Level}
 use Rattle.scad_geom.specs.declared.level.LeafEdge.{LeafEdge}
 use Rattle.scad_geom.specs.declared.shape.Shape.{Shape}
 use Rattle.scad_geom.specs.Line.{rise, x_at, left_of}
-use Rattle.scad_geom.specs.Around.{Point, is_beyond, wind_by}
-use Rattle.scad_geom.specs.Shape.{shape_holds, is_zero, is_in_by}
-use Rattle.scad_geom.specs.Heights.{IsLower, IsAtMost, AreNeighbours, IsBefore, AreAligned}
-use Rattle.slice_slab.specs.Bundles.{no_edge, edge_at, reaches, reaching, IsBundle, Precedes, AreRanked, AreBundles}
-use Rattle.scad_geom.proofs.Signs.{pos_mul, at_least_mul, pos_left, at_least_left}
+use Rattle.scad_geom.specs.Around.{Point, is_beyond}
+use Rattle.scad_geom.specs.Shape.{is_in_by}
+use Rattle.scad_geom.specs.Heights.{IsLower, IsAtMost, AreNeighbours, IsBefore}
+use Rattle.slice_slab.specs.Bundles.{no_edge, edge_at, Precedes, AreRanked, AreBundles}
+use Rattle.scad_geom.proofs.Signs.{pos_mul, at_least_mul, pos_left}
 use Rattle.scad_geom.proofs.Lines.{left_of_by}
-use Rattle.scad_geom.proofs.Heights.{Reaches, lower_weak}
-use Rattle.scad_geom.proofs.Order.{before_between, aligned_all}
-use Rattle.scad_geom.proofs.Turns.{level_at, Spans, beyond_mul}
-use Rattle.slice_bool.proofs.Sums.{sum_z, sum_z-append, sum_z-permutation, sum_z-same, sum_z-zero}
-use Rattle.slice_bool.proofs.Reaching.{reaches_is, heading_for, lies_left, wind_reaching}
+use Rattle.scad_geom.proofs.Heights.{lower_weak}
+use Rattle.scad_geom.proofs.Turns.{level_at}
+use Rattle.slice_bool.proofs.Reaching.{lies_left}
 use Rattle.scad_geom.specs.Line.{run, offset, left_of}
-use Rattle.scad_geom.proofs.Ring.{ring, Term, num, ◌⊕◌, ◌⊖◌, ◌⊗◌, v0, v1, v2, v3, v4, v5, v6, v7, v8, v9, v10, v11}
-use Rattle.scad_geom.proofs.Signs.{neg_mul_pos, at_most_mul}
-use Rattle.scad_geom.proofs.Order.{front, back, before_inside}
-use Rattle.slice_snap.specs.declared.piece.Spot.{Spot}
+use Rattle.scad_geom.proofs.Ring.{ring, num, ◌⊕◌, ◌⊖◌, ◌⊗◌, v0, v1, v2, v3, v4}
+use Rattle.scad_geom.proofs.Order.{back, before_inside}
 use Rattle.slice_bool.specs.Pieces.{spot_on, point_of, middle}
 use Rattle.std.specs.Prelude.{unsigned_abs}
-use Rattle.slice_bool.proofs.Passing.{IsLive, live_bundles, passing, HeadPasses, Around, spans_from, spans_to}
-use Rattle.slice_bool.proofs.Values.{all_pass, value_of, is_in_passing}
+use Rattle.slice_bool.proofs.Passing.{IsLive, live_bundles, passing, Around}
+use Rattle.slice_bool.proofs.Values.{value_of, is_in_passing}
 
 low_middle : (ln ld un ud : ℤ) → (ln *ℤ ud +ℤ un *ℤ ld) *ℤ ld -ℤ ln *ℤ (pos 2 *ℤ (ld *ℤ ud)) ≡ (un *ℤ ld -ℤ ln *ℤ ud) *ℤ ld
 low_middle ln ld un ud = ring (ln ∷ ld ∷ un ∷ ud ∷ []) ((v0 ⊗ v3 ⊕ v2 ⊗ v1) ⊗ v1 ⊖ v0 ⊗ (num (pos 2) ⊗ (v1 ⊗ v3))) ((v2 ⊗ v1 ⊖ v0 ⊗ v3) ⊗ v1) refl
@@ -107,28 +98,17 @@ on_own e h r q = rw q (on_line (run e) (offset e) (rise e) h.n h.d)
 pub below_zero : (a r : ℤ) → pos 0 <ℤ r → (a *ℤ r) <ℤ pos 0 → a <ℤ pos 0
 below_zero a r p h = by_lt_z a (pos 0) (λ q. q) (λ q. let m = at_least_mul a r q (weak r p) in absurd (omega (arith, ints)))
 
-module _ (es : List LeafEdge) (l u : Level) (n : AreNeighbours es l u) (k : ℕ) (lk : IsLive es l u k) where
-  half_lower : IsLower l (level_at (half_point es l u k))
-  half_lower = lower_scaled l (middle l u) (pos (unsigned_abs (rise (edge_at es k)))) (subst (λ (z : ℤ). pos 0 <ℤ z) (sym (size_of (rise (edge_at es k)) lk.reaches.rises)) lk.reaches.rises) (above_low l u n.lower_divisor n.in_order)
-
-  half_upper : IsLower (level_at (half_point es l u k)) u
-  half_upper = scaled_below u (middle l u) (pos (unsigned_abs (rise (edge_at es k)))) (subst (λ (z : ℤ). pos 0 <ℤ z) (sym (size_of (rise (edge_at es k)) lk.reaches.rises)) lk.reaches.rises) (below_high l u n.upper_divisor n.in_order)
-
-  half_divisor : pos 0 <ℤ (half_point es l u k).d
-  half_divisor = pos_mul (middle l u).d (pos (unsigned_abs (rise (edge_at es k)))) (middle_positive l u n.lower_divisor n.upper_divisor) (subst (λ (z : ℤ). pos 0 <ℤ z) (sym (size_of (rise (edge_at es k)) lk.reaches.rises)) lk.reaches.rises)
-
-  pub half_around : (right : Bool) → Around es true right (half_point es l u k) l u
-  half_around right = record { neighbours = n; divisor = half_divisor; spans = (lower_weak l (level_at (half_point es l u k)) half_lower, half_upper) }
-
-  half_on : left_of (edge_at es k) (half_point es l u k).x (half_point es l u k).y (half_point es l u k).d ≡ pos 0
-  half_on = on_own (edge_at es k) (middle l u) (pos (unsigned_abs (rise (edge_at es k)))) (size_of (rise (edge_at es k)) lk.reaches.rises)
+-- a point of an edge, between the two heights
+module _ (es : List LeafEdge) (l u : Level) (n : AreNeighbours es l u) (k : ℕ) (lk : IsLive es l u k) (p : Point) (dp : pos 0 <ℤ p.d) (from : IsLower l (level_at p)) (to : IsLower (level_at p) u) (on : left_of (edge_at es k) p.x p.y p.d ≡ pos 0) where
+  around : (right : Bool) → Around es true right p l u
+  around right = record { neighbours = n; divisor = dp; spans = (lower_weak l (level_at p) from, to) }
 
   -- an edge before it lies to the left, one after it to the right
-  left_before : (j : ℕ) → IsLive es l u j → IsBefore l (edge_at es j) (edge_at es k) → left_of (edge_at es j) (half_point es l u k).x (half_point es l u k).y (half_point es l u k).d <ℤ pos 0
+  left_before : (j : ℕ) → IsLive es l u j → IsBefore l (edge_at es j) (edge_at es k) → left_of (edge_at es j) p.x p.y p.d <ℤ pos 0
   left_before j lj o =
-      let g = before_inside es l u n j k no_edge lj.there lk.there lj.reaches lk.reaches o (level_at (half_point es l u k)) half_divisor half_lower half_upper in
-      let t = left_of_by (edge_at es k) (edge_at es j) (half_point es l u k).x (half_point es l u k).y (half_point es l u k).d in
-      let z = half_on in
+      let g = before_inside es l u n j k no_edge lj.there lk.there lj.reaches lk.reaches o (level_at p) dp from to in
+      let t = left_of_by (edge_at es k) (edge_at es j) p.x p.y p.d in
+      let z = on in
       below_from _ (rise (edge_at es k)) _ (rise (edge_at es j)) _ _ lk.reaches.rises t z g
     where
       below_from : (a r b s x y : ℤ) → pos 0 <ℤ r → a *ℤ r ≡ b *ℤ s -ℤ (x -ℤ y) → b ≡ pos 0 → y <ℤ x → a <ℤ pos 0
@@ -137,11 +117,11 @@ module _ (es : List LeafEdge) (l u : Level) (n : AreNeighbours es l u) (k : ℕ)
           let m : (a *ℤ r) <ℤ pos 0 = omega (arith, ints) in
           below_zero a r pr m
 
-  right_after : (j : ℕ) → IsLive es l u j → IsBefore l (edge_at es k) (edge_at es j) → pos 0 <ℤ left_of (edge_at es j) (half_point es l u k).x (half_point es l u k).y (half_point es l u k).d
+  right_after : (j : ℕ) → IsLive es l u j → IsBefore l (edge_at es k) (edge_at es j) → pos 0 <ℤ left_of (edge_at es j) p.x p.y p.d
   right_after j lj o =
-      let g = before_inside es l u n k j no_edge lk.there lj.there lk.reaches lj.reaches o (level_at (half_point es l u k)) half_divisor half_lower half_upper in
-      let t = left_of_by (edge_at es k) (edge_at es j) (half_point es l u k).x (half_point es l u k).y (half_point es l u k).d in
-      let z = half_on in
+      let g = before_inside es l u n k j no_edge lk.there lj.there lk.reaches lj.reaches o (level_at p) dp from to in
+      let t = left_of_by (edge_at es k) (edge_at es j) p.x p.y p.d in
+      let z = on in
       above_from _ (rise (edge_at es k)) _ (rise (edge_at es j)) _ _ lk.reaches.rises t z g
     where
       above_from : (a r b s x y : ℤ) → pos 0 <ℤ r → a *ℤ r ≡ b *ℤ s -ℤ (x -ℤ y) → b ≡ pos 0 → x <ℤ y → pos 0 <ℤ a
@@ -166,20 +146,20 @@ module _ (es : List LeafEdge) (l u : Level) (n : AreNeighbours es l u) (k : ℕ)
 
   -- the bundles before it don't lie to the right of its point
   skipped : (right : Bool) (ks : List ℕ) (before rest : List (List ℕ)) → AreRanked es l (before ++ ((k ∷ ks) ∷ rest)) → AllByRecursion (IsLive es l u) (concat (before ++ ((k ∷ ks) ∷ rest)))
-      → passing es right (half_point es l u k) (before ++ ((k ∷ ks) ∷ rest)) ≡ passing es right (half_point es l u k) ((k ∷ ks) ∷ rest)
+      → passing es right p (before ++ ((k ∷ ks) ∷ rest)) ≡ passing es right p ((k ∷ ks) ∷ rest)
   skipped right ks [] rest r ls = refl
   skipped right ks ([] ∷ before) rest r ls = absurd r.0
   skipped right ks ((j ∷ js) ∷ before) rest r ls =
       let o : IsBefore l (edge_at es j) (edge_at es k) = (back (Precedes es l (j ∷ js)) before ((k ∷ ks) ∷ rest) r.1).0 in
-      let f : lies_left es right (half_point es l u k) j ≡ false = is_false_at right (left_of (edge_at es j) (half_point es l u k).x (half_point es l u k).y (half_point es l u k).d) (left_before j ls.0 o) in
+      let f : lies_left es right p j ≡ false = is_false_at right (left_of (edge_at es j) p.x p.y p.d) (left_before j ls.0 o) in
       rw f (skipped right ks before rest r.2 (back (IsLive es l u) (j ∷ js) (concat (before ++ ((k ∷ ks) ∷ rest))) ls))
 
   -- those after it do
-  after_pass : (right : Bool) (ks : List ℕ) (rest : List (List ℕ)) → AllByRecursion (Precedes es l (k ∷ ks)) rest → AllByRecursion (IsLive es l u) (concat rest) → passing es right (half_point es l u k) rest ≡ rest
+  after_pass : (right : Bool) (ks : List ℕ) (rest : List (List ℕ)) → AllByRecursion (Precedes es l (k ∷ ks)) rest → AllByRecursion (IsLive es l u) (concat rest) → passing es right p rest ≡ rest
   after_pass right ks [] r ls = refl
   after_pass right ks ([] ∷ rest) r ls = absurd r.0
   after_pass right ks ((j ∷ js) ∷ rest) r ls =
-      let t : lies_left es right (half_point es l u k) j ≡ true = is_true_at right (left_of (edge_at es j) (half_point es l u k).x (half_point es l u k).y (half_point es l u k).d) (right_after j ls.0 r.0) in
+      let t : lies_left es right p j ≡ true = is_true_at right (left_of (edge_at es j) p.x p.y p.d) (right_after j ls.0 r.0) in
       rw t refl
 
   from_here : (ks : List ℕ) (before rest : List (List ℕ)) → AreRanked es l (before ++ ((k ∷ ks) ∷ rest)) → AreRanked es l ((k ∷ ks) ∷ rest)
@@ -191,25 +171,47 @@ module _ (es : List LeafEdge) (l u : Level) (n : AreNeighbours es l u) (k : ℕ)
   live_here ks (b ∷ before) rest ls = live_here ks before rest (back (IsLive es l u) b (concat (before ++ ((k ∷ ks) ∷ rest))) ls)
 
   passing_right : (ks : List ℕ) (before rest : List (List ℕ)) → AreRanked es l (before ++ ((k ∷ ks) ∷ rest)) → AllByRecursion (IsLive es l u) (concat (before ++ ((k ∷ ks) ∷ rest)))
-      → passing es true (half_point es l u k) (before ++ ((k ∷ ks) ∷ rest)) ≡ rest
+      → passing es true p (before ++ ((k ∷ ks) ∷ rest)) ≡ rest
   passing_right ks before rest r ls =
-      let f : lies_left es true (half_point es l u k) k ≡ false = itself true (left_of (edge_at es k) (half_point es l u k).x (half_point es l u k).y (half_point es l u k).d) half_on in
+      let f : lies_left es true p k ≡ false = itself true (left_of (edge_at es k) p.x p.y p.d) on in
       skipped true ks before rest r ls ∙ rw f (after_pass true ks rest (from_here ks before rest r).1 (back (IsLive es l u) (k ∷ ks) (concat rest) (live_here ks before rest ls)))
 
   passing_left : (ks : List ℕ) (before rest : List (List ℕ)) → AreRanked es l (before ++ ((k ∷ ks) ∷ rest)) → AllByRecursion (IsLive es l u) (concat (before ++ ((k ∷ ks) ∷ rest)))
-      → passing es false (half_point es l u k) (before ++ ((k ∷ ks) ∷ rest)) ≡ (k ∷ ks) ∷ rest
+      → passing es false p (before ++ ((k ∷ ks) ∷ rest)) ≡ (k ∷ ks) ∷ rest
   passing_left ks before rest r ls =
-      let t : lies_left es false (half_point es l u k) k ≡ true = itself false (left_of (edge_at es k) (half_point es l u k).x (half_point es l u k).y (half_point es l u k).d) half_on in
+      let t : lies_left es false p k ≡ true = itself false (left_of (edge_at es k) p.x p.y p.d) on in
       skipped false ks before rest r ls ∙ rw t refl
+
+  pub value_right_at : (shape : Shape) (ks : List ℕ) (before rest : List (List ℕ)) → AreBundles es l u (before ++ ((k ∷ ks) ∷ rest))
+      → is_in_by true true es shape p ≡ value_of es shape rest
+  value_right_at shape ks before rest b =
+      is_in_passing es shape true true p l u (around true) (before ++ ((k ∷ ks) ∷ rest)) b
+      ∙ ap (value_of es shape) (passing_right ks before rest b.ranked (live_bundles es l u (before ++ ((k ∷ ks) ∷ rest)) b))
+
+  pub value_left_at : (shape : Shape) (ks : List ℕ) (before rest : List (List ℕ)) → AreBundles es l u (before ++ ((k ∷ ks) ∷ rest))
+      → is_in_by true false es shape p ≡ value_of es shape ((k ∷ ks) ∷ rest)
+  value_left_at shape ks before rest b =
+      is_in_passing es shape true false p l u (around false) (before ++ ((k ∷ ks) ∷ rest)) b
+      ∙ ap (value_of es shape) (passing_left ks before rest b.ranked (live_bundles es l u (before ++ ((k ∷ ks) ∷ rest)) b))
+
+-- the point at half height
+module _ (es : List LeafEdge) (l u : Level) (n : AreNeighbours es l u) (k : ℕ) (lk : IsLive es l u k) where
+  half_lower : IsLower l (level_at (half_point es l u k))
+  half_lower = lower_scaled l (middle l u) (pos (unsigned_abs (rise (edge_at es k)))) (subst (λ (z : ℤ). pos 0 <ℤ z) (sym (size_of (rise (edge_at es k)) lk.reaches.rises)) lk.reaches.rises) (above_low l u n.lower_divisor n.in_order)
+
+  half_upper : IsLower (level_at (half_point es l u k)) u
+  half_upper = scaled_below u (middle l u) (pos (unsigned_abs (rise (edge_at es k)))) (subst (λ (z : ℤ). pos 0 <ℤ z) (sym (size_of (rise (edge_at es k)) lk.reaches.rises)) lk.reaches.rises) (below_high l u n.upper_divisor n.in_order)
+
+  half_divisor : pos 0 <ℤ (half_point es l u k).d
+  half_divisor = pos_mul (middle l u).d (pos (unsigned_abs (rise (edge_at es k)))) (middle_positive l u n.lower_divisor n.upper_divisor) (subst (λ (z : ℤ). pos 0 <ℤ z) (sym (size_of (rise (edge_at es k)) lk.reaches.rises)) lk.reaches.rises)
+
+  half_on : left_of (edge_at es k) (half_point es l u k).x (half_point es l u k).y (half_point es l u k).d ≡ pos 0
+  half_on = on_own (edge_at es k) (middle l u) (pos (unsigned_abs (rise (edge_at es k)))) (size_of (rise (edge_at es k)) lk.reaches.rises)
 
   pub value_right : (shape : Shape) (ks : List ℕ) (before rest : List (List ℕ)) → AreBundles es l u (before ++ ((k ∷ ks) ∷ rest))
       → is_in_by true true es shape (half_point es l u k) ≡ value_of es shape rest
-  value_right shape ks before rest b =
-      is_in_passing es shape true true (half_point es l u k) l u (half_around true) (before ++ ((k ∷ ks) ∷ rest)) b
-      ∙ ap (value_of es shape) (passing_right ks before rest b.ranked (live_bundles es l u (before ++ ((k ∷ ks) ∷ rest)) b))
+  value_right = value_right_at es l u n k lk (half_point es l u k) half_divisor half_lower half_upper half_on
 
   pub value_left : (shape : Shape) (ks : List ℕ) (before rest : List (List ℕ)) → AreBundles es l u (before ++ ((k ∷ ks) ∷ rest))
       → is_in_by true false es shape (half_point es l u k) ≡ value_of es shape ((k ∷ ks) ∷ rest)
-  value_left shape ks before rest b =
-      is_in_passing es shape true false (half_point es l u k) l u (half_around false) (before ++ ((k ∷ ks) ∷ rest)) b
-      ∙ ap (value_of es shape) (passing_left ks before rest b.ranked (live_bundles es l u (before ++ ((k ∷ ks) ∷ rest)) b))
+  value_left = value_left_at es l u n k lk (half_point es l u k) half_divisor half_lower half_upper half_on

@@ -1,60 +1,21 @@
 -- Between two neighbouring heights: the bundles that lie to the right of a point are the last ones, and a leaf's winding
 -- number round the point is the sum of the headings of its edges in them.
-use Rattle.std.proofs.Common.{◌≡◌, ◌≢◌, ℕ, zero, suc, ◌+◌, ◌<◌, ◌≤◌, ◌⊎◌, inl, inr, Bool, true, false, not, cond, List, [], ◌∷◌, ◌++◌, length, get_or, refl, sym, ap, ap₂, ◌∙◌, arith, subst}
-use mathlib.Core.Path.{fun_ext}
-use lib.IntN.{ℤ, pos, negsuc, ◌+ℤ◌, ◌-ℤ◌, ◌*ℤ◌, neg_ℤ, zero-*ℤ, +ℤ_idl}
-use lib.Signed.{◌<ℤ◌, ◌≤ℤ◌, lt_z, le_z}
-use Rattle.std.specs.Prelude.{int_lt, int_le, if◌then◌else◌, ◌==◌, ◌&&◌}
-use Rattle.std.specs.List.{AllByRecursion, All, concat}
-use Rattle.std.specs.List.Sorted.{IsPermutation}
-use Rattle.std.proofs.lemmas.Int.{ints, by_lt_z}
-use Rattle.std.proofs.lemmas.List.Elements.{recursion_from_All, All-from_recursion}
-use Rattle.std.proofs.lemmas.List.Sorted.{All-permutation}
+use Rattle.std.proofs.Common.{◌≡◌, ℕ, Bool, true, false, List, [], ◌∷◌, sym, ap, ◌∙◌, arith}
+use lib.IntN.{ℤ, pos, ◌*ℤ◌}
+use lib.Signed.{◌<ℤ◌, ◌≤ℤ◌}
+use Rattle.std.specs.Prelude.{if◌then◌else◌}
+use Rattle.std.proofs.lemmas.Int.{ints}
 use Rattle.scad_geom.specs.declared.point.Edge.{Edge}
 use Rattle.scad_geom.specs.declared.level.Level.{Level}
 use Rattle.scad_geom.specs.declared.level.LeafEdge.{LeafEdge}
-use Rattle.scad_geom.specs.declared.shape.Shape.{Shape}
 use Rattle.scad_geom.specs.Line.{rise, x_at, left_of}
-use Rattle.scad_geom.specs.Around.{Point, is_beyond, wind_by}
-use Rattle.scad_geom.specs.Shape.{shape_holds, is_zero, is_in_by}
-use Rattle.scad_geom.specs.Heights.{IsLower, IsAtMost, AreNeighbours, IsBefore, AreAligned}
-use Rattle.slice_slab.specs.Bundles.{no_edge, edge_at, reaches, reaching, IsBundle, Precedes, AreRanked, AreBundles}
-use Rattle.scad_geom.proofs.Signs.{pos_mul, at_least_mul, pos_left, at_least_left}
+use Rattle.scad_geom.specs.Around.{Point, is_beyond}
+use Rattle.scad_geom.specs.Heights.{IsAtMost, AreNeighbours, AreAligned}
 use Rattle.scad_geom.proofs.Lines.{left_of_by}
-use Rattle.scad_geom.proofs.Heights.{Reaches, lower_weak}
-use Rattle.scad_geom.proofs.Order.{before_between, aligned_all}
+use Rattle.scad_geom.proofs.Order.{aligned_all}
 use Rattle.scad_geom.proofs.Turns.{level_at, Spans, beyond_mul}
-use Rattle.slice_bool.proofs.Sums.{sum_z, sum_z-append, sum_z-permutation, sum_z-same, sum_z-zero}
-use Rattle.slice_bool.proofs.Reaching.{reaches_is, heading_for, lies_left, wind_reaching}
-
--- an edge's number, where the edge reaches the two heights
-pub record IsLive (es : List LeafEdge) (l u : Level) (k : ℕ) : Type 0 where
-  pub there : k < length es
-  pub reaches : Reaches (edge_at es k) l u
-
-live_from : (es all : List LeafEdge) (l u : Level) (k : ℕ) → ((i : ℕ) → i < length es → (k + i < length all) × (get_or all (k + i) no_edge ≡ get_or es i no_edge)) → AllByRecursion (IsLive all l u) (reaching k es l u)
-live_from [] all l u k h = tt
-live_from (e ∷ es) all l u k h =
-    let r : AllByRecursion (IsLive all l u) (reaching (k + 1) es l u) = live_from es all l u (k + 1)
-    (λ i o. let t = h (suc i) (omega arith) in let e : k + suc i ≡ k + 1 + i = omega arith in rw e at t) in
-    by_test (reaches e.edge l u) refl r
-  where
-    by_test : (t : Bool) → reaches e.edge l u ≡ t → AllByRecursion (IsLive all l u) (reaching (k + 1) es l u)
-        → AllByRecursion (IsLive all l u) (if t then k ∷ reaching (k + 1) es l u else reaching (k + 1) es l u)
-    by_test true q r =
-        let t = h zero (omega arith) in
-        let z : k + zero ≡ k = omega arith in
-        let t' = rw z at t in
-        (record { there = t'.0; reaches = subst (λ (e : LeafEdge). Reaches e.edge l u) (sym t'.1) (reaches_is e.edge l u q) }, r)
-    by_test false q r = r
-
-pub live_reaching : (es : List LeafEdge) (l u : Level) → AllByRecursion (IsLive es l u) (reaching 0 es l u)
-live_reaching es l u = live_from es es l u 0 (λ i o. let z : 0 + i ≡ i = omega arith in rw z (o, refl))
-
-pub live_bundles : (es : List LeafEdge) (l u : Level) (bs : List (List ℕ)) → AreBundles es l u bs → AllByRecursion (IsLive es l u) (concat bs)
-live_bundles es l u bs b =
-    let P : ℕ → Type 0 = IsLive es l u in
-    recursion_from_All P (concat bs) (All-permutation P (reaching 0 es l u) (concat bs) b.members (All-from_recursion P (reaching 0 es l u) (live_reaching es l u)))
+pub use Rattle.slice_slab.proofs.Live.{IsLive, live_bundles}
+use Rattle.slice_bool.proofs.Reaching.{lies_left}
 
 -- ---- edges of one bundle lie on one side of a point; a later one lies to the right where an earlier one does
 pub same_side : (l : Level) → pos 0 <ℤ l.d → (right : Bool) (p : Point) (e f : Edge) → pos 0 <ℤ rise e → pos 0 <ℤ rise f → AreAligned l e f

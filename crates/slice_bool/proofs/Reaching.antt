@@ -1,36 +1,22 @@
 -- The winding number of a leaf round a point between two neighbouring heights, by the edges that reach them.
-use Rattle.std.proofs.Common.{◌≡◌, ◌≢◌, ℕ, zero, suc, ◌+◌, ◌<◌, ◌≤◌, ◌⊎◌, inl, inr, Bool, true, false, not, cond, List, [], ◌∷◌, ◌++◌, length, get_or, refl, sym, ap, ap₂, ◌∙◌, arith, subst}
-use lib.IntN.{ℤ, pos, negsuc, ◌+ℤ◌, ◌-ℤ◌, ◌*ℤ◌, neg_ℤ, zero-*ℤ, +ℤ_idl}
-use lib.Signed.{◌<ℤ◌, ◌≤ℤ◌, lt_z, le_z}
-use Rattle.std.specs.Prelude.{int_lt, int_le, if◌then◌else◌, ◌==◌, ◌&&◌}
-use Rattle.std.specs.List.{AllByRecursion, All, concat}
-use Rattle.std.proofs.lemmas.Int.{ints, by_lt_z}
+use Rattle.std.proofs.Common.{◌≡◌, ℕ, zero, suc, ◌+◌, ◌<◌, ◌⊎◌, inl, inr, Bool, true, false, List, [], ◌∷◌, length, get_or, refl, sym, ap, ap₂, ◌∙◌, arith}
+use lib.IntN.{ℤ, pos, ◌+ℤ◌, ◌-ℤ◌, ◌*ℤ◌, +ℤ_idl}
+use lib.Signed.{◌<ℤ◌, lt_z, le_z}
+use Rattle.std.specs.Prelude.{int_lt, int_le, if◌then◌else◌, ◌==◌}
+use Rattle.std.proofs.lemmas.Int.{ints}
 use Rattle.std.proofs.lemmas.List.Elements.{recursion_from_All}
-use Rattle.scad_geom.specs.declared.point.Pt.{Pt}
 use Rattle.scad_geom.specs.declared.point.Edge.{Edge}
 use Rattle.scad_geom.specs.declared.level.Level.{Level}
 use Rattle.scad_geom.specs.declared.level.LeafEdge.{LeafEdge}
-use Rattle.scad_geom.specs.Line.{low, high, rise, run, offset, x_at, left_of}
+use Rattle.scad_geom.specs.Line.{low, high, rise, left_of}
 use Rattle.scad_geom.specs.Around.{Point, whole, is_beyond, turn, wind_by}
 use Rattle.scad_geom.specs.Heights.{level_of, IsLower, IsAtMost, heights, AreNeighbours}
-use Rattle.slice_slab.specs.Bundles.{no_edge, edge_at, reaches, reaching}
-use Rattle.scad_geom.proofs.Heights.{Reaches, lower_then_at_most, at_most_then_lower, at_most_chain}
+use Rattle.slice_slab.specs.Bundles.{no_edge, reaches, reaching}
+use Rattle.scad_geom.proofs.Heights.{Reaches, lower_then_at_most, at_most_then_lower}
 use Rattle.scad_geom.proofs.Order.{all_ends}
 use Rattle.scad_geom.proofs.Turns.{level_at, Over, NotOver, Spans, over_up, not_over_down, heading, reaching_turn, under_turn, over_turn}
+use Rattle.slice_slab.proofs.Live.{reaches_is}
 use Rattle.slice_bool.proofs.Sums.{sum_z}
-
-both_are : (a b : Bool) → (a && b) ≡ true → (a ≡ true) × (b ≡ true)
-both_are true true h = (refl, refl)
-both_are true false h = cc
-both_are false b h = cc
-
-pub reaches_is : (e : Edge) (l u : Level) → reaches e l u ≡ true → Reaches e l u
-unfolding reaches
-reaches_is e l u h =
-    let p = both_are (int_lt (pos 0) (rise e)) (int_le ((low e).y *ℤ l.d) l.n && int_le u.n ((high e).y *ℤ u.d)) h in
-    let q = both_are (int_le ((low e).y *ℤ l.d) l.n) (int_le u.n ((high e).y *ℤ u.d)) p.1 in
-    let p0 = p.0 in let q0 = q.0 in let q1 = q.1 in
-    record { rises = omega (arith, ints); from = omega (arith, ints); to = omega (arith, ints) }
 
 reaches_up : (e : Edge) (l u : Level) → pos 0 <ℤ l.d → pos 0 <ℤ u.d → IsLower l u → IsAtMost (level_of e.a.y) l → IsAtMost u (level_of e.b.y) → reaches e l u ≡ true
 unfolding reaches low high rise

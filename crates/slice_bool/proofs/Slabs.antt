@@ -1,43 +1,35 @@
 -- The pieces between two neighbouring heights wind once round the points inside the shape, and not round the others.
-use Rattle.std.proofs.Common.{◌≡◌, ◌≢◌, ℕ, zero, suc, ◌+◌, ◌<◌, ◌≤◌, ◌⊎◌, inl, inr, Bool, true, false, not, cond, List, [], ◌∷◌, ◌++◌, length, get_or, refl, sym, ap, ap₂, ◌∙◌, arith, subst}
-use mathlib.Core.Path.{fun_ext}
-use lib.IntN.{ℤ, pos, negsuc, ◌+ℤ◌, ◌-ℤ◌, ◌*ℤ◌, neg_ℤ, zero-*ℤ, +ℤ_idl, +ℤ_assoc}
-use lib.Signed.{◌<ℤ◌, ◌≤ℤ◌, lt_z, le_z}
-use Rattle.std.specs.Prelude.{int_lt, int_le, if◌then◌else◌, ◌==◌, ◌&&◌}
-use Rattle.std.specs.List.{AllByRecursion, All, concat}
-use Rattle.std.specs.List.Sorted.{IsPermutation}
-use Rattle.std.proofs.lemmas.Int.{ints, by_lt_z}
-use Rattle.std.proofs.lemmas.List.Elements.{recursion_from_All, All-from_recursion}
-use Rattle.std.proofs.lemmas.List.Sorted.{All-permutation}
+use Rattle.std.proofs.Common.{◌≡◌, ℕ, Bool, true, false, List, [], ◌∷◌, ◌++◌, refl, sym, ap, ap₂, ◌∙◌, arith, subst}
+use lib.IntN.{ℤ, pos, negsuc, ◌+ℤ◌, ◌-ℤ◌, ◌*ℤ◌, neg_ℤ, +ℤ_idl, +ℤ_assoc}
+use lib.Signed.{◌<ℤ◌}
+use Rattle.std.specs.Prelude.{if◌then◌else◌}
+use Rattle.std.specs.List.{AllByRecursion, concat}
+use Rattle.std.proofs.lemmas.Int.{ints}
 use Rattle.scad_geom.specs.declared.point.Edge.{Edge}
 use Rattle.scad_geom.specs.declared.level.Level.{Level}
 use Rattle.scad_geom.specs.declared.level.LeafEdge.{LeafEdge}
 use Rattle.scad_geom.specs.declared.shape.Shape.{Shape}
 use Rattle.scad_geom.specs.Line.{rise, x_at, left_of}
-use Rattle.scad_geom.specs.Around.{Point, is_beyond, wind_by}
-use Rattle.scad_geom.specs.Shape.{shape_holds, is_zero, is_in_by}
-use Rattle.scad_geom.specs.Heights.{IsLower, IsAtMost, AreNeighbours, IsBefore, AreAligned}
-use Rattle.slice_slab.specs.Bundles.{no_edge, edge_at, reaches, reaching, IsBundle, Precedes, AreRanked, AreBundles}
-use Rattle.scad_geom.proofs.Signs.{pos_mul, at_least_mul, pos_left, at_least_left}
-use Rattle.scad_geom.proofs.Lines.{left_of_by}
-use Rattle.scad_geom.proofs.Heights.{Reaches, lower_weak}
-use Rattle.scad_geom.proofs.Order.{before_between, aligned_all}
+use Rattle.scad_geom.specs.Around.{Point, is_beyond}
+use Rattle.scad_geom.specs.Shape.{is_in_by}
+use Rattle.scad_geom.specs.Heights.{IsLower}
+use Rattle.slice_slab.specs.Bundles.{edge_at, AreRanked, AreBundles}
+use Rattle.scad_geom.proofs.Signs.{pos_mul}
 use Rattle.scad_geom.proofs.Turns.{level_at, Spans, beyond_mul}
-use Rattle.slice_bool.proofs.Sums.{sum_z, sum_z-append, sum_z-permutation, sum_z-same, sum_z-zero}
-use Rattle.slice_bool.proofs.Reaching.{reaches_is, heading_for, lies_left, wind_reaching}
+use Rattle.slice_bool.proofs.Reaching.{lies_left}
 use Rattle.std.proofs.Common.{append_assoc}
 use Rattle.scad_geom.specs.Line.{run, offset, left_of}
 use Rattle.scad_geom.specs.Winding.{counted}
-use Rattle.scad_geom.specs.Around.{is_over, passage_by, side_by, turn}
-use Rattle.scad_geom.proofs.Ring.{ring, Term, num, ◌⊕◌, ◌⊖◌, ◌⊗◌, v0, v1, v2, v3, v4, v5, v6, v7, v8, v9, v10, v11}
-use Rattle.scad_geom.proofs.Turns.{Over, NotOver, over_true, over_false, rising_turn, falling_turn, flat_turn}
+use Rattle.scad_geom.specs.Around.{is_over, side_by, turn}
+use Rattle.scad_geom.proofs.Ring.{ring, num, ◌⊕◌, ◌⊖◌, ◌⊗◌, v0, v1, v2, v3, v4, v5, v6, v7, v8, v9}
+use Rattle.scad_geom.proofs.Turns.{Over, NotOver, over_true, over_false, rising_turn, falling_turn}
 use Rattle.scad_geom.proofs.Shapes.{nothing_held}
-use Rattle.scad_geom.proofs.Order.{front, back}
+use Rattle.scad_geom.proofs.Order.{back}
 use Rattle.slice_snap.specs.declared.piece.Spot.{Spot}
 use Rattle.slice_snap.specs.declared.piece.Piece.{Piece}
-use Rattle.slice_bool.specs.Pieces.{spot_on, point_of, middle, wind_pieces, piece_between, bundle_piece, slab_pieces}
+use Rattle.slice_bool.specs.Pieces.{spot_on, point_of, wind_pieces, piece_between, bundle_piece, slab_pieces}
 use Rattle.std.specs.Prelude.{unsigned_abs}
-use Rattle.slice_bool.proofs.Passing.{IsLive, live_bundles, passing, HeadPasses, Around, spans_from, spans_to}
+use Rattle.slice_bool.proofs.Passing.{IsLive, live_bundles, passing, HeadPasses, Around}
 use Rattle.slice_bool.proofs.Values.{all_pass, value_of, is_in_passing}
 use Rattle.slice_bool.proofs.Middle.{scaled, lower_scaled, at_most_scaled, scaled_below, scaled_at_most, size_of, half_point, value_right, value_left}
 
@@ -62,7 +54,7 @@ spot_over above p s pr o = over_true above p (point_of s) (over_scaled above (le
 pub spot_not_over : (above : Bool) (p : Point) (s : Spot) → pos 0 <ℤ pos s.run → NotOver above (level_at p) s.at → is_over above p (point_of s) ≡ false
 spot_not_over above p s pr o = over_false above p (point_of s) (not_over_scaled above (level_at p) s.at (pos s.run) pr o)
 
-side_up_is : (p : Point) (e : Edge) (l u : Level) (r : ℤ) → r ≡ rise e
+pub side_up_is : (p : Point) (e : Edge) (l u : Level) (r : ℤ) → r ≡ rise e
     → side_by p (record { x = x_at e l.n l.d; y = l.n *ℤ r; d = l.d *ℤ r }) (record { x = x_at e u.n u.d; y = u.n *ℤ r; d = u.d *ℤ r })
     ≡ left_of e p.x p.y p.d *ℤ ((rise e *ℤ rise e) *ℤ (l.d *ℤ (u.n *ℤ l.d -ℤ l.n *ℤ u.d)))
 unfolding side_by left_of x_at

@@ -1,39 +1,25 @@
 -- Upwards through the levels: the winding theorem.
-use Rattle.std.proofs.Common.{◌≡◌, ◌≢◌, ℕ, zero, suc, ◌+◌, ◌<◌, ◌≤◌, ◌⊎◌, inl, inr, Bool, true, false, not, cond, List, [], ◌∷◌, ◌++◌, length, get_or, refl, sym, ap, ap₂, ◌∙◌, arith, subst}
-use mathlib.Core.Path.{fun_ext}
-use lib.IntN.{ℤ, pos, negsuc, ◌+ℤ◌, ◌-ℤ◌, ◌*ℤ◌, neg_ℤ, zero-*ℤ, +ℤ_idl, +ℤ_idr}
-use lib.Signed.{◌<ℤ◌, ◌≤ℤ◌, lt_z, le_z}
-use Rattle.std.specs.Prelude.{int_lt, int_le, if◌then◌else◌, ◌==◌, ◌&&◌}
-use Rattle.std.specs.List.{AllByRecursion, All, concat}
-use Rattle.std.specs.List.Sorted.{IsPermutation}
-use Rattle.std.proofs.lemmas.Int.{ints, by_lt_z}
-use Rattle.std.proofs.lemmas.List.Elements.{recursion_from_All, All-from_recursion}
-use Rattle.std.proofs.lemmas.List.Sorted.{All-permutation}
-use Rattle.scad_geom.specs.declared.point.Edge.{Edge}
+use Rattle.std.proofs.Common.{◌≡◌, ◌⊎◌, inl, inr, Bool, List, [], ◌∷◌, ◌++◌, sym, ap, ap₂, ◌∙◌, arith}
+use lib.IntN.{ℤ, pos, ◌+ℤ◌, +ℤ_idl, +ℤ_idr}
+use lib.Signed.{◌<ℤ◌}
+use Rattle.std.specs.List.{AllByRecursion}
+use Rattle.std.proofs.lemmas.Int.{ints}
+use Rattle.std.proofs.lemmas.List.Elements.{All-from_recursion}
 use Rattle.scad_geom.specs.declared.level.Level.{Level}
 use Rattle.scad_geom.specs.declared.level.LeafEdge.{LeafEdge}
 use Rattle.scad_geom.specs.declared.shape.Shape.{Shape}
-use Rattle.scad_geom.specs.Line.{rise, x_at, left_of}
-use Rattle.scad_geom.specs.Around.{Point, is_beyond, wind_by}
-use Rattle.scad_geom.specs.Shape.{shape_holds, is_zero, is_in_by}
-use Rattle.scad_geom.specs.Heights.{IsLower, IsAtMost, AreNeighbours, IsBefore, AreAligned}
-use Rattle.slice_slab.specs.Bundles.{no_edge, edge_at, reaches, reaching, IsBundle, Precedes, AreRanked, AreBundles}
-use Rattle.scad_geom.proofs.Signs.{pos_mul, at_least_mul, pos_left, at_least_left}
-use Rattle.scad_geom.proofs.Lines.{left_of_by}
-use Rattle.scad_geom.proofs.Heights.{Reaches, lower_weak}
-use Rattle.scad_geom.proofs.Order.{before_between, aligned_all}
-use Rattle.scad_geom.proofs.Turns.{level_at, Spans, beyond_mul}
-use Rattle.slice_bool.proofs.Sums.{sum_z, sum_z-append, sum_z-permutation, sum_z-same, sum_z-zero}
-use Rattle.slice_bool.proofs.Reaching.{reaches_is, heading_for, lies_left, wind_reaching}
+use Rattle.scad_geom.specs.Around.{Point}
+use Rattle.scad_geom.specs.Shape.{is_in_by}
+use Rattle.scad_geom.specs.Heights.{IsLower, IsAtMost, AreNeighbours}
+use Rattle.scad_geom.proofs.Heights.{lower_weak}
+use Rattle.scad_geom.proofs.Turns.{level_at}
 use Rattle.scad_geom.specs.Winding.{counted}
-use Rattle.scad_geom.specs.Heights.{level_of, IsSameHeight, heights}
-use Rattle.scad_geom.proofs.Heights.{lower_then_at_most, at_most_then_lower, at_most_chain, heights_positive}
+use Rattle.scad_geom.specs.Heights.{IsSameHeight, heights}
+use Rattle.scad_geom.proofs.Heights.{at_most_chain, heights_positive}
 use Rattle.scad_geom.proofs.Turns.{Over, NotOver, over_up, not_over_down}
 use Rattle.slice_events.specs.Levels.{IsRising, HasHeight, AreLevels}
-use Rattle.slice_snap.specs.declared.piece.Spot.{Spot}
 use Rattle.slice_snap.specs.declared.piece.Piece.{Piece}
-use Rattle.slice_bool.specs.Pieces.{point_of, wind_pieces, slab_pieces, AreStops, flat_pieces, AreLevelPieces, ArePieces}
-use Rattle.slice_bool.proofs.Passing.{Around}
+use Rattle.slice_bool.specs.Pieces.{wind_pieces, slab_pieces, flat_pieces, AreLevelPieces, ArePieces}
 use Rattle.slice_bool.proofs.Slabs.{wind_pieces-append, slab_winding}
 use Rattle.slice_bool.proofs.Winding.{outside_below, outside_above, either_over, stops_still, slab_over, slab_under, two_zeros}
 
@@ -41,10 +27,10 @@ use Rattle.slice_bool.proofs.Winding.{outside_below, outside_above, either_over,
 Positive : Level → Type 0
 Positive h = pos 0 <ℤ h.d
 
-same_at_most : (p q : Level) → IsSameHeight p q → IsAtMost q p
+pub same_at_most : (p q : Level) → IsSameHeight p q → IsAtMost q p
 same_at_most p q h = omega (arith, ints)
 
-same_at_least : (p q : Level) → IsSameHeight p q → IsAtMost p q
+pub same_at_least : (p q : Level) → IsSameHeight p q → IsAtMost p q
 same_at_least p q h = omega (arith, ints)
 
 -- what a rising list has lies at its first level or above it
@@ -58,7 +44,7 @@ from_first l (u ∷ ls) h dl dh r (inr e) = at_most_chain l u h dl.0 dl.1.0 dh (
 abbrev pub UpTo : Level → List Level → Level → Type 0
 UpTo l ls h = IsAtMost h l ⊎ HasHeight ls h
 
-at_first : (l : Level) (ls hs : List Level) → AllByRecursion (HasHeight (l ∷ ls)) hs → AllByRecursion (UpTo l ls) hs
+pub at_first : (l : Level) (ls hs : List Level) → AllByRecursion (HasHeight (l ∷ ls)) hs → AllByRecursion (UpTo l ls) hs
 at_first l ls [] h = tt
 at_first l ls (g ∷ hs) h = (first g h.0, at_first l ls hs h.1)
   where
@@ -66,7 +52,7 @@ at_first l ls (g ∷ hs) h = (first g h.0, at_first l ls hs h.1)
     first g (inl e) = inl (same_at_most l g e)
     first g (inr r) = inr r
 
-at_next : (l u : Level) (ls hs : List Level) → pos 0 <ℤ l.d → pos 0 <ℤ u.d → AllByRecursion (λ (h : Level). pos 0 <ℤ h.d) hs → IsLower l u → AllByRecursion (UpTo l (u ∷ ls)) hs → AllByRecursion (UpTo u ls) hs
+pub at_next : (l u : Level) (ls hs : List Level) → pos 0 <ℤ l.d → pos 0 <ℤ u.d → AllByRecursion (λ (h : Level). pos 0 <ℤ h.d) hs → IsLower l u → AllByRecursion (UpTo l (u ∷ ls)) hs → AllByRecursion (UpTo u ls) hs
 at_next l u ls [] dl du dh o h = tt
 at_next l u ls (g ∷ hs) dl du dh o h = (next g dh.0 h.0, at_next l u ls hs dl du dh.1 o h.1)
   where

@@ -1,47 +1,32 @@
 -- The pieces of a shape's border wind once round the points inside, and not round the others.
-use Rattle.std.proofs.Common.{◌≡◌, ◌≢◌, ℕ, zero, suc, ◌+◌, ◌<◌, ◌≤◌, ◌⊎◌, inl, inr, Bool, true, false, not, cond, List, [], ◌∷◌, ◌++◌, length, get_or, refl, sym, ap, ap₂, ◌∙◌, arith, subst}
+use Rattle.std.proofs.Common.{◌≡◌, ℕ, zero, suc, ◌<◌, ◌⊎◌, inl, inr, Bool, true, false, not, List, [], ◌∷◌, ◌++◌, length, get_or, refl, sym, ap, ap₂, ◌∙◌, arith, subst}
 use mathlib.Core.Path.{fun_ext}
-use lib.IntN.{ℤ, pos, negsuc, ◌+ℤ◌, ◌-ℤ◌, ◌*ℤ◌, neg_ℤ, zero-*ℤ, +ℤ_idl}
-use lib.Signed.{◌<ℤ◌, ◌≤ℤ◌, lt_z, le_z}
-use Rattle.std.specs.Prelude.{int_lt, int_le, if◌then◌else◌, ◌==◌, ◌&&◌}
-use Rattle.std.specs.List.{AllByRecursion, All, concat}
-use Rattle.std.specs.List.Sorted.{IsPermutation}
+use lib.IntN.{ℤ, pos, ◌+ℤ◌, ◌*ℤ◌}
+use lib.Signed.{◌<ℤ◌, lt_z}
+use Rattle.std.specs.Prelude.{int_lt, if◌then◌else◌, ◌==◌, ◌&&◌}
+use Rattle.std.specs.List.{AllByRecursion, concat}
 use Rattle.std.proofs.lemmas.Int.{ints, by_lt_z}
-use Rattle.std.proofs.lemmas.List.Elements.{recursion_from_All, All-from_recursion}
-use Rattle.std.proofs.lemmas.List.Sorted.{All-permutation}
 use Rattle.scad_geom.specs.declared.point.Edge.{Edge}
 use Rattle.scad_geom.specs.declared.level.Level.{Level}
 use Rattle.scad_geom.specs.declared.level.LeafEdge.{LeafEdge}
 use Rattle.scad_geom.specs.declared.shape.Shape.{Shape}
-use Rattle.scad_geom.specs.Line.{rise, x_at, left_of}
-use Rattle.scad_geom.specs.Around.{Point, is_beyond, wind_by}
+use Rattle.scad_geom.specs.Line.{rise}
+use Rattle.scad_geom.specs.Around.{Point, wind_by}
 use Rattle.scad_geom.specs.Shape.{shape_holds, is_zero, is_in_by}
-use Rattle.scad_geom.specs.Heights.{IsLower, IsAtMost, AreNeighbours, IsBefore, AreAligned}
-use Rattle.slice_slab.specs.Bundles.{no_edge, edge_at, reaches, reaching, IsBundle, Precedes, AreRanked, AreBundles}
-use Rattle.scad_geom.proofs.Signs.{pos_mul, at_least_mul, pos_left, at_least_left}
-use Rattle.scad_geom.proofs.Lines.{left_of_by}
-use Rattle.scad_geom.proofs.Heights.{Reaches, lower_weak}
-use Rattle.scad_geom.proofs.Order.{before_between, aligned_all}
-use Rattle.scad_geom.proofs.Turns.{level_at, Spans, beyond_mul}
-use Rattle.slice_bool.proofs.Sums.{sum_z, sum_z-append, sum_z-permutation, sum_z-same, sum_z-zero}
-use Rattle.slice_bool.proofs.Reaching.{reaches_is, heading_for, lies_left, wind_reaching}
-use Rattle.scad_geom.specs.Winding.{counted}
+use Rattle.slice_slab.specs.Bundles.{no_edge, edge_at, AreRanked, AreBundles}
+use Rattle.scad_geom.proofs.Turns.{level_at}
 use Rattle.scad_geom.specs.Around.{whole, is_over, turn}
-use Rattle.scad_geom.specs.Heights.{level_of, IsSameHeight, heights}
-use Rattle.scad_geom.proofs.Heights.{lower_then_at_most, at_most_then_lower, at_most_chain, heights_positive}
-use Rattle.scad_geom.proofs.Turns.{Over, NotOver, over_true, over_false, flat_turn, over_up, not_over_down, under_turn, over_turn}
+use Rattle.scad_geom.specs.Heights.{heights}
+use Rattle.scad_geom.proofs.Turns.{Over, NotOver, flat_turn, under_turn, over_turn}
 use Rattle.scad_geom.proofs.Shapes.{nothing_held}
-use Rattle.scad_geom.proofs.Order.{front, back, all_ends}
-use Rattle.slice_events.specs.Levels.{IsRising, HasHeight, AreLevels}
+use Rattle.scad_geom.proofs.Order.{back, all_ends}
 use Rattle.slice_snap.specs.declared.piece.Spot.{Spot}
-use Rattle.slice_snap.specs.declared.piece.Piece.{Piece}
-use Rattle.slice_bool.specs.Pieces.{spot_on, whole_spot, point_of, middle, wind_pieces, piece_between, bundle_piece, slab_pieces, is_flat_at, passes_at, spots_at, IsOneOf, AreStops, covers, stretch_piece, flat_pieces, AreLevelPieces, ArePieces}
+use Rattle.slice_bool.specs.Pieces.{spot_on, whole_spot, point_of, wind_pieces, piece_between, bundle_piece, slab_pieces, is_flat_at, passes_at, spots_at, IsOneOf, AreStops, covers, stretch_piece, flat_pieces}
 use Rattle.std.specs.Prelude.{unsigned_abs, Option, Some, None}
 use Rattle.std.specs.List.{position}
-use Rattle.slice_bool.proofs.Reaching.{share}
-use Rattle.slice_bool.proofs.Passing.{IsLive, live_bundles, Around}
+use Rattle.slice_bool.proofs.Passing.{IsLive, live_bundles}
 use Rattle.slice_bool.proofs.Middle.{size_of, half_point}
-use Rattle.slice_bool.proofs.Slabs.{spot_over, spot_not_over, wind_pieces-append, slab_winding}
+use Rattle.slice_bool.proofs.Slabs.{spot_over, spot_not_over, wind_pieces-append}
 
 -- ---- where no edge passes a point's height, nothing is inside
 nothing_around : (above right : Bool) (p : Point) (leaf : ℕ) (es : List LeafEdge)
@@ -80,9 +65,9 @@ pub either_over : (above : Bool) (p l : Level) → Over above p l ⊎ NotOver ab
 either_over true p l = by_lt_z (p.n *ℤ l.d) (l.n *ℤ p.d) (λ h. inl h) (λ h. inr h)
 either_over false p l = by_lt_z (l.n *ℤ p.d) (p.n *ℤ l.d) (λ h. inr h) (λ h. inl h)
 
-record IsSpotAt (l : Level) (s : Spot) : Type 0 where
-  at : s.at ≡ l
-  runs : pos 0 <ℤ pos s.run
+pub record IsSpotAt (l : Level) (s : Spot) : Type 0 where
+  pub at : s.at ≡ l
+  pub runs : pos 0 <ℤ pos s.run
 
 still_at : (above : Bool) (p : Point) (l : Level) (s t : Spot) → IsSpotAt l s → IsSpotAt l t → IsStill above p s t
 still_at above p l s t hs ht = elim (either_over above (level_at p) l) [
@@ -90,25 +75,25 @@ still_at above p l s t hs ht = elim (either_over above (level_at p) l) [
   | inr o ↦ spot_not_over above p s hs.runs (subst (NotOver above (level_at p)) (sym hs.at) o) ∙ sym (spot_not_over above p t ht.runs (subst (NotOver above (level_at p)) (sym ht.at) o))
 ]
 
-one_of : (l : Level) (ts : List Spot) (s : Spot) → AllByRecursion (IsSpotAt l) ts → IsOneOf ts s → IsSpotAt l s
+pub one_of : (l : Level) (ts : List Spot) (s : Spot) → AllByRecursion (IsSpotAt l) ts → IsOneOf ts s → IsSpotAt l s
 one_of l [] s h o = absurd o
 one_of l (t ∷ ts) s h o = elim o [ inl e ↦ subst (IsSpotAt l) e h.0 | inr r ↦ one_of l ts s h.1 r ]
 
-both_lists : {A : Type 0} (P : A → Type 0) (xs ys : List A) → AllByRecursion P xs → AllByRecursion P ys → AllByRecursion P (xs ++ ys)
+pub both_lists : {A : Type 0} (P : A → Type 0) (xs ys : List A) → AllByRecursion P xs → AllByRecursion P ys → AllByRecursion P (xs ++ ys)
 both_lists P [] ys h k = k
 both_lists P (x ∷ xs) ys h k = (h.0, both_lists P xs ys h.1 k)
 
-is_true_first : (a b : Bool) → (a && b) ≡ true → a ≡ true
+pub is_true_first : (a b : Bool) → (a && b) ≡ true → a ≡ true
 is_true_first true b h = refl
 is_true_first false b h = cc
 
-passes_rises : (e : Edge) (l : Level) → passes_at e l ≡ true → pos 0 <ℤ pos (unsigned_abs (rise e))
+pub passes_rises : (e : Edge) (l : Level) → passes_at e l ≡ true → pos 0 <ℤ pos (unsigned_abs (rise e))
 passes_rises e l h =
     let q : int_lt (pos 0) (rise e) ≡ true = is_true_first (int_lt (pos 0) (rise e)) _ h in
     let r : pos 0 <ℤ rise e = omega (arith, ints) in
     subst (λ (z : ℤ). pos 0 <ℤ z) (sym (size_of (rise e) r)) r
 
-spots_are_at : (es : List LeafEdge) (l : Level) → AllByRecursion (IsSpotAt l) (spots_at es l)
+pub spots_are_at : (es : List LeafEdge) (l : Level) → AllByRecursion (IsSpotAt l) (spots_at es l)
 spots_are_at [] l = tt
 spots_are_at (e ∷ es) l = both_lists (IsSpotAt l) _ (spots_at es l) (by_tests (is_flat_at e.edge l) (passes_at e.edge l) refl) (spots_are_at es l)
   where
@@ -131,7 +116,7 @@ flat_still es shape above right p l (s ∷ (t ∷ ss)) h =
     wind_pieces-append above right p (stretch_piece es shape s t (position (covers s t) es)) (flat_pieces es shape (t ∷ ss))
     ∙ two_zeros _ _ (stretch_still es shape above right p s t (position (covers s t) es) (still_at above p l s t h.0 h.1.0)) (flat_still es shape above right p l (t ∷ ss) h.1)
 
-stops_at : (es : List LeafEdge) (l : Level) (stops : List Spot) → AreStops es l stops → AllByRecursion (IsSpotAt l) stops
+pub stops_at : (es : List LeafEdge) (l : Level) (stops : List Spot) → AreStops es l stops → AllByRecursion (IsSpotAt l) stops
 stops_at es l stops h = over stops h.sound
   where
     over : (ss : List Spot) → AllByRecursion (IsOneOf (spots_at es l)) ss → AllByRecursion (IsSpotAt l) ss

@@ -1,8 +1,7 @@
 -- The border between inside and outside of a shape over the leaves of an edge list, cut into directed pieces.
-use Rattle.std.specs.Prelude.{Bool, true, false, ◌&&◌, ◌||◌, if◌then◌else◌, List, [], ◌∷◌, ◌++◌, ℕ, ◌+◌, ◌<◌, Option, None, Some, ◌≡◌, ◌⊎◌, ⊤, ℤ, pos, ◌+ℤ◌, ◌*ℤ◌, int_lt, int_le, ◌<ℤ◌, unsigned_abs}
+use Rattle.std.specs.Prelude.{Bool, true, false, ◌&&◌, ◌||◌, if◌then◌else◌, List, [], ◌∷◌, ◌++◌, ℕ, Option, None, Some, ◌≡◌, ◌⊎◌, ⊤, ℤ, pos, ◌+ℤ◌, ◌*ℤ◌, int_lt, int_le, ◌<ℤ◌, unsigned_abs}
 use Rattle.std.specs.List.{AllByRecursion, position}
 use Rattle.std.specs.Ordering.{int_eq}
-use Rattle.scad_geom.specs.declared.point.Pt.{Pt}
 use Rattle.scad_geom.specs.declared.point.Edge.{Edge}
 use Rattle.scad_geom.specs.declared.level.Level.{Level}
 use Rattle.scad_geom.specs.declared.level.LeafEdge.{LeafEdge}

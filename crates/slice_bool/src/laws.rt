@@ -1,10 +1,37 @@
 //! Laws of the definitions, each carried by the contract of a function that does nothing.
 ghost use Rattle.slice_bool.specs.Pieces.{PiecesWindOnce};
+ghost use Rattle.slice_bool.specs.Ends.{HeightsHaveOneLevel};
+ghost use Rattle.slice_bool.specs.Balance.{BordersAreBalanced};
+ghost use Rattle.slice_bool.specs.BorderPoints.{PiecesAreBorder};
+ghost use Rattle.slice_bool.specs.Centre.{CentresAreWoundOnce, CentresAreHeld};
 
 /// The pieces of a border wind once round each point that the shape holds, hard by the point on each
 /// side, and round no other point.
 pub fn pieces_wind_once()
     ensures { PiecesWindOnce }
+{}
+
+/// Ends of the pieces of a border that are equal in height have the same level, over the same divisor.
+pub fn heights_have_one_level()
+    ensures { HeightsHaveOneLevel }
+{}
+
+/// Round each cell centre that a shape holds the pieces of its border wind once, and round no other, in
+/// plain winding numbers of the leaves' edges.
+pub fn centres_are_wound_once()
+    ensures wound { CentresAreWoundOnce }
+    ensures held { CentresAreHeld }
+{}
+
+/// Where the edges of each leaf are balanced, as many pieces of a border start at each point as end there.
+pub fn borders_are_balanced()
+    ensures { BordersAreBalanced }
+{}
+
+/// Each point of a piece of a border but its ends is a border point: hard by it the shape holds on one side and not on
+/// another.
+pub fn pieces_are_border()
+    ensures { PiecesAreBorder }
 {}
 
 #[cfg(test)]
@@ -14,5 +41,9 @@ mod tests {
     #[test]
     fn laws_are_called() {
         pieces_wind_once();
+        heights_have_one_level();
+        centres_are_wound_once();
+        borders_are_balanced();
+        pieces_are_border();
     }
 }

@@ -8,6 +8,7 @@ mod between;
 mod bundle;
 mod collect;
 mod group;
+pub mod laws;
 mod order;
 mod place;
 

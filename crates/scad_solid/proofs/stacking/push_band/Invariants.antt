@@ -1,4 +1,4 @@
-use Rattle.std.proofs.Common.{◌≡◌, ◌++◌, drop, map, get_or, length}
+use Rattle.std.proofs.Common.{◌≡◌, ◌++◌, drop, map, get_or}
 use Rattle.std.specs.List.{zip}
 use Rattle.scad_solid.specs.Solid.{fans}
 use Rattle.scad_solid.specs.Stack.{path, quad, band}

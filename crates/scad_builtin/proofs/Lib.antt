@@ -1,0 +1,3 @@
+mod Examples
+pub mod Rows
+pub mod Signs

@@ -1,0 +1,10 @@
+pub mod Answer
+pub mod Arguments
+pub mod Builtin
+pub mod Fault
+pub mod Kinds
+pub mod Memory
+pub mod Names
+pub mod Numbers
+pub mod Strings
+pub mod Vectors

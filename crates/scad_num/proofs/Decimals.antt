@@ -1,0 +1,19 @@
+-- Decimals of a number, one by one.
+use Rattle.std.proofs.Common.{◌≡◌, ◌≢◌, ℕ, zero, suc, ◌+◌, ◌-◌, ◌*◌, ◌/◌, ◌%◌, List, [], ◌∷◌, refl, ap, sym, ◌∙◌, arith, false}
+use Rattle.std.proofs.lemmas.Bool.Decides.{nat_tests}
+use Rattle.std.specs.Prelude.{◌==◌, if◌then◌else◌}
+use Rattle.scad_num.specs.Number.{one}
+use Rattle.scad_num.specs.Text.{decimals_of}
+
+pub no_decimals : (places : ℕ) → decimals_of places 0 ≡ []
+no_decimals zero = refl
+no_decimals (suc n) = refl
+
+pub next_decimal : (places parts : ℕ) → places ≢ 0 → parts ≢ 0
+    → decimals_of places parts ≡ (48 + parts * 10 / one) ∷ decimals_of (places - 1) (parts * 10 % one)
+next_decimal zero parts some more = absurd (some refl)
+next_decimal (suc n) parts some more =
+    let e : suc n - 1 ≡ n = omega arith in
+    let no : (parts == 0) ≡ false = grind (arith, nat_tests) in
+    let rest : List ℕ = (48 + parts * 10 / one) ∷ decimals_of n (parts * 10 % one) in
+    ap (λ b. if b then [] else rest) no ∙ ap (λ k. (48 + parts * 10 / one) ∷ decimals_of k (parts * 10 % one)) (sym e)

@@ -1,0 +1,13 @@
+pub mod Behind
+pub mod Grammar
+pub mod Judged
+pub mod Lists
+pub mod Machine
+pub mod Move
+pub mod Plain
+pub mod Promises
+pub mod State
+pub mod StatementSteps
+pub mod Statements
+pub mod Steps
+pub mod Tokens

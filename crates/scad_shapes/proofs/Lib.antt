@@ -1,0 +1,6 @@
+mod Examples
+mod HoldsExamples
+pub mod Holds
+pub mod Roundings
+pub mod Solids
+pub mod Counted

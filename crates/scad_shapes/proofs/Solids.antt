@@ -1,0 +1,148 @@
+-- The solids of faces whose numbers all name points, and rings that are made one by one.
+use Rattle.std.proofs.Common.{◌≡◌, ℕ, zero, suc, ◌+◌, ◌<◌, Bool, true, false, cond, ◌&&◌, ◌==◌, Some, List, [], ◌∷◌, ◌++◌, append_assoc, length, map, None, Result, Ok, Err, arith, refl, ap, ap₂, sym, ◌∙◌, nat_le, nat_lt, ◌-◌, ℤ}
+use Rattle.std.specs.Prelude.{if◌then◌else◌}
+use Rattle.std.specs.List.{find, flat_map, list_all, range_with_len}
+use Rattle.std.specs.Option.{option_or}
+use Rattle.std.proofs.lemmas.Bool.Decides.{nat_tests}
+use Rattle.std.proofs.lemmas.List.Folds.{find-append}
+use Rattle.scad_geom.specs.declared.point3.Pt3.{Pt3}
+use Rattle.scad_geom.specs.PointRange.{is_in_range}
+use Rattle.scad_solid.specs.declared.triangle.Triangle.{Triangle}
+use Rattle.scad_solid.specs.declared.fault.SolidFault.{SolidFault}
+use Rattle.scad_solid.specs.declared.fault.SolidFault.TheVariants as solid
+use Rattle.scad_solid.specs.Solid.{first_bad, names_points, closed_or_not, solid_of, fans, corners}
+use Rattle.scad_solid.specs.Surface.{is_closed}
+use Rattle.scad_shapes.specs.declared.fault.ShapeFault.{ShapeFault}
+use Rattle.scad_shapes.specs.declared.fault.ShapeFault.TheVariants.{CoordinateRange, NotClosed, Memory}
+use Rattle.scad_shapes.specs.Pushed.{Pushes, Collects}
+use Rattle.std.proofs.lemmas.List.FromFn.{length-range_with_len}
+use Rattle.std.proofs.lemmas.List.{length-map}
+use Rattle.scad_matrix.specs.declared.matrix.Matrix.{Matrix}
+use Rattle.scad_solid.specs.Stack.{are_alike}
+use Rattle.scad_shapes.specs.Outline.{sphere_rings}
+use Rattle.scad_shapes.specs.Rings.{sphere_ring_at, sphere_rings_of}
+use Rattle.scad_shapes.specs.Polyhedron.{name_points, if_closed}
+
+module _ (count : ℕ) where
+  names_none : (face : List ℕ) → names_points count face ≡ true → find (λ k. nat_le count k) face ≡ None
+  names_none [] e = refl
+  names_none (k ∷ face) e =
+      let parts = both (nat_lt k count) (names_points count face) e in
+      ap (λ b. cond b (Some k) (find (λ i. nat_le count i) face)) (not_above k parts.0) ∙ names_none face parts.1
+    where
+      both : (a b : Bool) → a && b ≡ true → (a ≡ true) × (b ≡ true)
+      both true b e = (refl, e)
+      both false b e = absurd (cc)
+
+      not_above : (k : ℕ) → nat_lt k count ≡ true → nat_le count k ≡ false
+      not_above k t = grind (arith, nat_tests)
+
+  both : (a b : Bool) → a && b ≡ true → (a ≡ true) × (b ≡ true)
+  both true b e = (refl, e)
+  both false b e = absurd (cc)
+
+  -- faces that name points alone have no bad number
+  pub name_points-none : (faces : List (List ℕ)) → name_points count faces ≡ true → first_bad count faces ≡ None
+  name_points-none [] e = refl
+  name_points-none (face ∷ faces) e =
+      let parts = both (names_points count face) (name_points count faces) e in
+      find-append (λ k. nat_le count k) face (flat_map (λ f. f) faces)
+      ∙ ap (λ o. option_or o (first_bad count faces)) (names_none face parts.0)
+      ∙ name_points-none faces parts.1
+
+-- the solid of such faces over points in range
+pub solid_of-named : (points : List Pt3) (faces : List (List ℕ)) → list_all is_in_range points ≡ true → name_points (length points) faces ≡ true → solid_of points faces ≡ closed_or_not None (fans (map (corners points) faces))
+unfolding solid_of
+solid_of-named points faces ranged named =
+    ap (λ b. cond b (closed_or_not (first_bad (length points) faces) (fans (map (corners points) faces))) (Err solid.CoordinateRange)) ranged
+    ∙ ap (λ o. closed_or_not o (fans (map (corners points) faces))) (name_points-none (length points) faces named)
+
+-- the two crates' answers by the test of the surface
+abbrev as_solid : Bool → List Triangle → Result (List Triangle) SolidFault
+as_solid b ts = if b then Ok ts else Err solid.NotClosed
+
+abbrev as_shape : Bool → List Triangle → Result (List Triangle) ShapeFault
+as_shape b ts = if b then Ok ts else Err NotClosed
+
+closed_by : (b : Bool) (ts us : List Triangle) → Ok ts ≡ as_solid b us → Ok ts ≡ as_shape b us
+closed_by true ts us e = let same : ts ≡ us = cc in ap (λ v. Ok v) same
+closed_by false ts us e = absurd (cc)
+
+open_by : (b : Bool) (us : List Triangle) → Err solid.NotClosed ≡ as_solid b us → Err NotClosed ≡ as_shape b us
+open_by true us e = absurd (cc)
+open_by false us e = refl
+
+never_by : (b : Bool) (us : List Triangle) → Err solid.CoordinateRange ≡ as_solid b us → ⊥
+never_by true us e = absurd (cc)
+never_by false us e = absurd (cc)
+
+never_bad_by : (b : Bool) (us : List Triangle) (i : ℕ) → Err (solid.BadIndex i) ≡ as_solid b us → ⊥
+never_bad_by true us i e = absurd (cc)
+never_bad_by false us i e = absurd (cc)
+
+pub closed_as : (ts us : List Triangle) → Ok ts ≡ closed_or_not None us → Ok ts ≡ if_closed us
+closed_as ts us e = closed_by (is_closed us) ts us e
+
+only_by : (b : Bool) (ts us : List Triangle) → Ok ts ≡ as_solid b us → ts ≡ us
+only_by true ts us e = cc
+only_by false ts us e = absurd (cc)
+
+pub closed_only : (ts us : List Triangle) → Ok ts ≡ closed_or_not None us → ts ≡ us
+closed_only ts us e = only_by (is_closed us) ts us e
+
+pub open_as : (us : List Triangle) → Err solid.NotClosed ≡ closed_or_not None us → Err NotClosed ≡ if_closed us
+open_as us e = open_by (is_closed us) us e
+
+-- points in range aren't refused for their range
+pub never_far : (us : List Triangle) → Err solid.CoordinateRange ≡ closed_or_not None us → ⊥
+never_far us e = never_by (is_closed us) us e
+
+pub never_bad : (us : List Triangle) (i : ℕ) → Err (solid.BadIndex i) ≡ closed_or_not None us → ⊥
+never_bad us i e = never_bad_by (is_closed us) us i e
+
+range-front : (i n : ℕ) → i < n → range_with_len i (n - i) ≡ i ∷ range_with_len (i + 1) (n - (i + 1))
+range-front i n inside = let left : n - i ≡ suc (n - (i + 1)) = omega arith in ap (range_with_len i) left
+
+-- a list of the values of f at the numbers below n, where those below i were made
+module _ {X : Type 0} (p : X → Bool) (f : ℕ → X) (i n : ℕ) (inside : i < n) where
+  abbrev left : List X
+  left = map f (range_with_len i (n - i))
+
+  abbrev rest : List X
+  rest = map f (range_with_len (i + 1) (n - (i + 1)))
+
+  front : left ≡ f i ∷ rest
+  front = ap (map f) (range-front i n inside)
+
+  pub made-more : (old new all : List X) → old ++ left ≡ all → new ≡ old ++ f i ∷ [] → new ++ rest ≡ all
+  made-more old new all so_far more = ap (λ xs. xs ++ rest) more ∙ append_assoc old (f i ∷ []) rest ∙ ap (λ xs. old ++ xs) (sym front) ∙ so_far
+
+  pub ranged-more : (all : Bool) → all ≡ list_all p left → p (f i) ≡ true → all ≡ list_all p rest
+  ranged-more all so_far here = so_far ∙ ap (list_all p) front ∙ ap (λ b. b && list_all p rest) here
+
+  pub ranged-fails : (all : Bool) → all ≡ list_all p left → p (f i) ≡ false → all ≡ false
+  ranged-fails all so_far here = so_far ∙ ap (list_all p) front ∙ ap (λ b. b && list_all p rest) here
+
+-- what isn't pushed isn't collected
+pub fails : (B : Type 0) → {X : Type 0} → (ranged : X → Bool) (old new all : List X) (x : X) (e : ShapeFault) (items : B → List X) → Pushes {A = Unit {0}} ranged old x new (Err e) → (ranged x ≡ false → list_all ranged all ≡ false) → Collects {A = B} ranged (Err e) items all
+fails B ranged old new all x CoordinateRange items why so = so why
+fails B ranged old new all x NotClosed items why so = absurd why
+fails B ranged old new all x Memory items why so = tt
+
+-- rings of equal length are alike
+pub alike-map : (f : ℕ → List Pt3) (m a n : ℕ) → ((i : ℕ) → length (f i) ≡ m) → list_all (λ ring. length ring == m) (map f (range_with_len a n)) ≡ true
+alike-map f m a zero long = refl
+alike-map f m a (suc n) long = ap₂ (λ k b. (k == m) && b) (long a) (alike-map f m (a + 1) n long) ∙ same m
+  where
+    same : (m : ℕ) → (m == m) && true ≡ true
+    same m = grind (arith, nat_tests)
+
+pub alike-sphere : (r : ℤ) (n : ℕ) (m : Matrix) → are_alike (sphere_rings_of r n m) ≡ true
+alike-sphere r n m = alike_of (sphere_rings n) (λ i. length-ring i)
+  where
+    length-ring : (i : ℕ) → length (sphere_ring_at r n m i) ≡ n
+    length-ring i = simp (length-map, length-range_with_len)
+
+    alike_of : (k : ℕ) → ((i : ℕ) → length (sphere_ring_at r n m i) ≡ n) → are_alike (map (sphere_ring_at r n m) (range_with_len 0 k)) ≡ true
+    alike_of zero long = refl
+    alike_of (suc k) long = ap (λ l. list_all (λ ring. length ring == l) (map (sphere_ring_at r n m) (range_with_len 1 k))) (long 0) ∙ alike-map (sphere_ring_at r n m) n 1 k long

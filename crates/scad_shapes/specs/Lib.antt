@@ -1,0 +1,6 @@
+pub mod Outline
+pub mod Rings
+pub mod Polyhedron
+pub mod Count
+pub mod Laws
+pub mod Pushed

@@ -1,0 +1,12 @@
+//! Refusals of shapes.
+
+/// Why there is no solid.
+#[derive(Clone, Copy, Debug, PartialEq, Eq)]
+pub enum ShapeFault {
+    /// A placed coordinate passes `scad_geom::POINT_LIMIT` in size.
+    CoordinateRange,
+    /// A directed side of differing points doesn't occur as often as its reverse.
+    NotClosed,
+    /// Memory ran out.
+    Memory,
+}

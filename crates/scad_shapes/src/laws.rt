@@ -1,0 +1,34 @@
+//! Laws of the definitions, each carried by the contract of a function that does nothing.
+ghost use Rattle.scad_shapes.specs.Laws.{CubesHold, PrismsHold, CylindersHold};
+
+/// Under a diagonal matrix a cube contains a cell centre at a layer exactly where each of its three
+/// coordinates lies strictly between those of two opposite placed corners.
+#[tactic(auto, using(crate::proofs::Holds::cubes_hold))]
+pub fn cubes_hold()
+    ensures { CubesHold }
+{}
+
+/// Under an upright matrix the prism over any outline contains a point at a layer exactly where the plane
+/// lies strictly between its placed ends and the placed outline winds round the point.
+#[tactic(auto, using(crate::proofs::Holds::prisms_hold))]
+pub fn prisms_hold()
+    ensures { PrismsHold }
+{}
+
+/// So does a cylinder of equal radii.
+#[tactic(auto, using(crate::proofs::Holds::cylinders_hold))]
+pub fn cylinders_hold()
+    ensures { CylindersHold }
+{}
+
+#[cfg(test)]
+mod tests {
+    use super::*;
+
+    #[test]
+    fn laws_are_called() {
+        cubes_hold();
+        prisms_hold();
+        cylinders_hold();
+    }
+}
