@@ -21,59 +21,87 @@ fn shown(alloc: Global, answer: Result<Value, ValueFault>) -> Result<Text, Fail>
     Ok(text)
 }
 
+fn operator(sign: &str) -> Result<BinOp, Fail> {
+    match sign {
+        "||" => Ok(BinOp::Or),
+        "&&" => Ok(BinOp::And),
+        "==" => Ok(BinOp::Eq),
+        "!=" => Ok(BinOp::Ne),
+        "<" => Ok(BinOp::Lt),
+        "<=" => Ok(BinOp::Le),
+        ">" => Ok(BinOp::Gt),
+        ">=" => Ok(BinOp::Ge),
+        "+" => Ok(BinOp::Add),
+        "-" => Ok(BinOp::Sub),
+        "*" => Ok(BinOp::Mul),
+        "/" => Ok(BinOp::Div),
+        "%" => Ok(BinOp::Rem),
+        _ => Err(Fail::new("no operator")),
+    }
+}
+
+fn count(digits: &str) -> Result<u64, Fail> {
+    digits.parse::<u64>().map_err(|_| Fail::new("not a count"))
+}
+
+/// What the operation of a row gives, and what is wanted.
+fn operated<'a>(alloc: Global, row: &'a str) -> Result<(Text, &'a str), Fail> {
+    let (sign, rest) = row.split_once(';').ok_or("no operator")?;
+    let (a, rest) = rest.split_once(';').ok_or("no first operand")?;
+    let (b, wanted) = rest.split_once(';').ok_or("no second operand")?;
+    let answer = binary(alloc, operator(sign)?, &value(alloc, a)?, &value(alloc, b)?);
+    Ok((shown(alloc, answer)?, wanted))
+}
+
 #[test]
 fn operators_give_what_the_reference_gives(rt: HostRuntime) -> Result<(), Fail> {
-    let alloc = rt.alloc();
-    let tables = [
-        (BinOp::Or, EITHER.as_slice()),
-        (BinOp::And, BOTH.as_slice()),
-        (BinOp::Eq, EQUAL.as_slice()),
-        (BinOp::Ne, DIFFERENT.as_slice()),
-        (BinOp::Lt, LESS.as_slice()),
-        (BinOp::Le, AT_MOST.as_slice()),
-        (BinOp::Gt, GREATER.as_slice()),
-        (BinOp::Ge, AT_LEAST.as_slice()),
-        (BinOp::Add, SUMS.as_slice()),
-        (BinOp::Sub, DIFFERENCES.as_slice()),
-        (BinOp::Mul, PRODUCTS.as_slice()),
-        (BinOp::Div, QUOTIENTS.as_slice()),
-        (BinOp::Rem, REMAINDERS.as_slice()),
-    ];
-    for (kind, rows) in tables {
-        for (a, b, wanted) in rows {
-            let answer = binary(alloc, kind, &value(alloc, a)?, &value(alloc, b)?);
-            let text = shown(alloc, answer)?;
-            assert_eq!(rt; text.as_slice(), wanted.as_bytes(), "{kind:?} {a} {b}");
-        }
+    for row in OPERATIONS.lines() {
+        let (text, wanted) = operated(rt.alloc(), row)?;
+        assert_eq!(rt; text.as_slice(), wanted.as_bytes(), "{row}");
     }
     Ok(())
 }
 
 #[test]
-fn values_have_parts_negatives_and_measures(rt: HostRuntime) -> Result<(), Fail> {
+fn values_have_parts(rt: HostRuntime) -> Result<(), Fail> {
     let alloc = rt.alloc();
-    for (a, i, wanted) in PARTS {
+    for row in PARTS.lines() {
+        let (a, rest) = row.split_once(';').ok_or("no value")?;
+        let (i, wanted) = rest.split_once(';').ok_or("no index")?;
         let part = index(alloc, &value(alloc, a)?, &value(alloc, i)?)?;
-        assert_eq!(rt;
-            text_of(alloc, &part)?.as_slice(),
-            wanted.as_bytes(),
-            "{a} {i}"
-        );
+        let text = text_of(alloc, &part)?;
+        assert_eq!(rt; text.as_slice(), wanted.as_bytes(), "{row}");
     }
-    for (a, wanted, negative, size, depth) in VALUES {
+    Ok(())
+}
+
+/// The text and the negative of a value are these.
+fn has_texts(alloc: Global, v: &Value, text: &str, negative: &str) -> Result<bool, Fail> {
+    let opposite = shown(alloc, unary(alloc, UnOp::Minus, v))?;
+    let text_is = text_of(alloc, v)?.as_slice() == text.as_bytes();
+    Ok(text_is && opposite.as_slice() == negative.as_bytes())
+}
+
+fn has_sizes(v: &Value, size: u64, depth: u64) -> bool {
+    let is_number = truth(v) && size == 0 && depth == 0;
+    made(v) == size
+        && u64::from(nesting(v)) == depth
+        && elements_of(v).is_some() == (depth > 0)
+        && number_of(v).is_some() == is_number
+}
+
+#[test]
+fn values_have_texts_negatives_and_sizes(rt: HostRuntime) -> Result<(), Fail> {
+    let alloc = rt.alloc();
+    for row in VALUES.lines() {
+        let (a, rest) = row.split_once(';').ok_or("no value")?;
+        let (text, rest) = rest.split_once(';').ok_or("no text")?;
+        let (negative, rest) = rest.split_once(';').ok_or("no negative")?;
+        let (size, depth) = rest.split_once(';').ok_or("no sizes")?;
         let v = copy(alloc, &value(alloc, a)?)?;
-        assert!(rt; equal(&v, &value(alloc, a)?), "{a}");
-        assert_eq!(rt; text_of(alloc, &v)?.as_slice(), wanted.as_bytes(), "{a}");
-        let opposite = shown(alloc, unary(alloc, UnOp::Minus, &v))?;
-        assert_eq!(rt; opposite.as_slice(), negative.as_bytes(), "{a}");
-        assert_eq!(rt; made(&v), size, "{a}");
-        assert_eq!(rt; nesting(&v), depth, "{a}");
-        assert_eq!(rt; elements_of(&v).is_some(), depth > 0, "{a}");
-        assert_eq!(rt;
-            number_of(&v).is_some(),
-            truth(&v) && size == 0 && depth == 0,
-            "{a}"
-        );
+        assert!(rt; equal(&v, &value(alloc, a)?), "{row}");
+        assert!(rt; has_texts(alloc, &v, text, negative)?, "{row}");
+        assert!(rt; has_sizes(&v, count(size)?, count(depth)?), "{row}");
     }
     Ok(())
 }
