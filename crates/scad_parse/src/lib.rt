@@ -1,0 +1,17 @@
+//! The grammar of OpenSCAD source: the syntax tree of a list of tokens.
+//! The contract gives exactly the program that the tokens derive, or the first token with a fault.
+#![tactic(auto)]
+
+mod definition;
+mod descent;
+mod expression;
+mod fault;
+mod front;
+mod nesting;
+mod node;
+mod operator;
+mod statement;
+mod vector;
+
+pub use descent::parse;
+pub use fault::ParseFault;
