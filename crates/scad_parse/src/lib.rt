@@ -2,16 +2,12 @@
 //! The contract gives exactly the program that the tokens derive, or the first token with a fault.
 #![tactic(auto)]
 
-mod definition;
-mod descent;
-mod expression;
 mod fault;
 mod front;
+mod laws;
 mod nesting;
 mod node;
 mod operator;
-mod statement;
-mod vector;
+mod reading;
 
-pub use descent::parse;
 pub use fault::ParseFault;

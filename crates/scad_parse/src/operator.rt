@@ -1,77 +1,102 @@
-//! Which tokens are operators, and what else is chosen by a token alone.
+//! Which tokens are operators, literals, and keywords before an expression.
 
-use crate::front::first_sign;
-use scad_ast::{BinOp, Node, UnOp};
-use scad_lex::{Key, Sign, Token};
+ghost use Rattle.std.specs.Prelude.{◌≡◌, Some, None, option_map, IfOk};
+ghost use Rattle.scad_ast.specs.View.{expression_of};
+ghost use Rattle.scad_parse.specs.Tokens.{operator_sign, on_line, line_of, operator_kind, first_operator};
+ghost use Rattle.scad_parse.specs.Steps.{literal_kind};
+ghost use Rattle.scad_parse.specs.Reading.{first_prefix, first_binder, first_literal};
+ghost use Rattle.scad_lex.specs.declared.token.TokenKind.TheVariants.{Key as KeyKind};
 
-/// The number of lines of binary operators in the grammar. The tightest is line 0.
-pub(crate) const LINES: u8 = 6;
+use crate::front::{is_key, is_sign};
+use crate::node;
+use scad_ast::{BinOp, Expr, Node, UnOp};
+use scad_fault::Place;
+use scad_lex::{Key, Sign, Token, TokenKind};
+use std::alloc::{AllocError, Global};
 
-/// The binary operator that a sign is, and its line.
-fn binary_operator(sign: Sign) -> Option<(u8, BinOp)> {
+/// The binary operator that a sign is.
+fn operator_sign(sign: Sign) -> Option<BinOp>
+    ensures { result ≡ operator_sign sign }
+{
     match sign {
-        Sign::OrOr => Some((5, BinOp::Or)),
-        Sign::AndAnd => Some((4, BinOp::And)),
-        Sign::Equal => Some((3, BinOp::Eq)),
-        Sign::NotEqual => Some((3, BinOp::Ne)),
-        Sign::Less => Some((2, BinOp::Lt)),
-        Sign::LessEqual => Some((2, BinOp::Le)),
-        Sign::Greater => Some((2, BinOp::Gt)),
-        Sign::GreaterEqual => Some((2, BinOp::Ge)),
-        Sign::Plus => Some((1, BinOp::Add)),
-        Sign::Minus => Some((1, BinOp::Sub)),
-        Sign::Star => Some((0, BinOp::Mul)),
-        Sign::Slash => Some((0, BinOp::Div)),
-        Sign::Percent => Some((0, BinOp::Rem)),
+        Sign::OrOr => Some(BinOp::Or),
+        Sign::AndAnd => Some(BinOp::And),
+        Sign::Equal => Some(BinOp::Eq),
+        Sign::NotEqual => Some(BinOp::Ne),
+        Sign::Less => Some(BinOp::Lt),
+        Sign::LessEqual => Some(BinOp::Le),
+        Sign::Greater => Some(BinOp::Gt),
+        Sign::GreaterEqual => Some(BinOp::Ge),
+        Sign::Plus => Some(BinOp::Add),
+        Sign::Minus => Some(BinOp::Sub),
+        Sign::Star => Some(BinOp::Mul),
+        Sign::Slash => Some(BinOp::Div),
+        Sign::Percent => Some(BinOp::Rem),
         _ => None,
     }
 }
 
-/// The operator of this line that a sign is.
-fn operator_of(line: u8, sign: Sign) -> Option<BinOp> {
-    match binary_operator(sign) {
-        Some((own, op)) => { if own == line { Some(op) } else { None } }
+/// The number of lines of binary operators in the grammar.
+pub(crate) const LINES: u8 = 6;
+
+/// The line of an operator in the grammar, from the tightest.
+fn line_of(op: BinOp) -> u8
+    ensures { result ≡ line_of op }
+{
+    match op {
+        BinOp::Or => 5,
+        BinOp::And => 4,
+        BinOp::Eq | BinOp::Ne => 3,
+        BinOp::Lt | BinOp::Le | BinOp::Gt | BinOp::Ge => 2,
+        BinOp::Add | BinOp::Sub => 1,
+        BinOp::Mul | BinOp::Div | BinOp::Rem => 0,
+    }
+}
+
+fn on_line(line: u8, op: Option<BinOp>) -> Option<BinOp>
+    ensures { result ≡ on_line line op }
+{
+    match op {
+        Some(op) => { if line_of(op) == line { Some(op) } else { None } }
         None => None,
+    }
+}
+
+fn operator_kind(line: u8, kind: &TokenKind) -> Option<BinOp>
+    ensures { result ≡ operator_kind line kind.now }
+{
+    match kind {
+        TokenKind::Sign(sign) => on_line(line, operator_sign(*sign)),
+        TokenKind::Number(_) | TokenKind::Str(_) | TokenKind::Word(_) | TokenKind::Key(_) => None,
     }
 }
 
 /// The operator of this line with which tokens begin.
-pub(crate) fn first_operator(line: u8, ts: &[Token]) -> Option<BinOp> {
-    match first_sign(ts) {
-        Some(sign) => operator_of(line, sign),
-        None => None,
-    }
-}
-
-/// The prefix operator that a sign is.
-fn prefix_of(sign: Sign) -> Option<UnOp> {
-    match sign {
-        Sign::Bang => Some(UnOp::Not),
-        Sign::Plus => Some(UnOp::Plus),
-        Sign::Minus => Some(UnOp::Minus),
-        _ => None,
+pub(crate) fn first_operator(line: u8, ts: &[Token]) -> Option<BinOp>
+    ensures { result ≡ first_operator line ts.now }
+{
+    match ts {
+        [] => None,
+        [token, ..] => operator_kind(line, &token.kind),
     }
 }
 
 /// The prefix operator with which tokens begin.
-pub(crate) fn first_prefix(ts: &[Token]) -> Option<UnOp> {
-    match first_sign(ts) {
-        Some(sign) => prefix_of(sign),
-        None => None,
+pub(crate) fn first_prefix(ts: &[Token]) -> Option<UnOp>
+    ensures { result ≡ first_prefix ts.now }
+{
+    if is_sign(Sign::Bang, ts) {
+        Some(UnOp::Not)
+    } else if is_sign(Sign::Plus, ts) {
+        Some(UnOp::Plus)
+    } else if is_sign(Sign::Minus, ts) {
+        Some(UnOp::Minus)
+    } else {
+        None
     }
 }
 
-/// The value that a keyword is.
-pub(crate) fn constant_of(key: Key) -> Option<Node> {
-    match key {
-        Key::True => Some(Node::Bool(true)),
-        Key::False => Some(Node::Bool(false)),
-        Key::Undef => Some(Node::Undef),
-        _ => None,
-    }
-}
-
-/// A keyword that begins an expression with arguments.
+/// A keyword that stands with arguments before an expression.
 #[derive(Clone, Copy, Debug, PartialEq, Eq)]
 pub(crate) enum Binder {
     Let,
@@ -79,22 +104,59 @@ pub(crate) enum Binder {
     Echo,
 }
 
-pub(crate) fn binder_of(key: Key) -> Option<Binder> {
+/// The keyword before an expression with which tokens begin.
+pub(crate) fn first_binder(ts: &[Token]) -> Option<Binder>
+    ensures { result ≡ first_binder ts.now }
+{
+    if is_key(Key::Let, ts) {
+        Some(Binder::Let)
+    } else if is_key(Key::Assert, ts) {
+        Some(Binder::Assert)
+    } else if is_key(Key::Echo, ts) {
+        Some(Binder::Echo)
+    } else {
+        None
+    }
+}
+
+/// The constant that a keyword is.
+fn constant(at: Place, key: Key) -> Option<Expr>
+    ensures { option_map expression_of result ≡ literal_kind at (KeyKind key) }
+{
     match key {
-        Key::Let => Some(Binder::Let),
-        Key::Assert => Some(Binder::Assert),
-        Key::Echo => Some(Binder::Echo),
+        Key::True => Some(Expr {
+            at,
+            node: Node::Bool(true),
+        }),
+        Key::False => Some(Expr {
+            at,
+            node: Node::Bool(false),
+        }),
+        Key::Undef => Some(Expr {
+            at,
+            node: Node::Undef,
+        }),
         _ => None,
     }
 }
 
-/// The name of a module that a keyword calls.
-pub(crate) fn called_of(key: Key) -> Option<&'static [u8]> {
-    match key {
-        Key::For => Some(b"for".as_slice()),
-        Key::Let => Some(b"let".as_slice()),
-        Key::Assert => Some(b"assert".as_slice()),
-        Key::Echo => Some(b"echo".as_slice()),
-        _ => None,
+fn literal_kind(alloc: Global, at: Place, kind: &TokenKind) -> Result<Option<Expr>, AllocError>
+    ensures { IfOk result (λ e. option_map expression_of e ≡ literal_kind at kind.now) }
+{
+    match kind {
+        TokenKind::Number(number) => Ok(Some(node::number(at, *number))),
+        TokenKind::Str(chars) => Ok(Some(node::string(alloc, at, chars)?)),
+        TokenKind::Key(key) => Ok(constant(at, *key)),
+        TokenKind::Word(_) | TokenKind::Sign(_) => Ok(None),
+    }
+}
+
+/// The number, string or constant with which tokens begin.
+pub(crate) fn first_literal(alloc: Global, ts: &[Token]) -> Result<Option<Expr>, AllocError>
+    ensures { IfOk result (λ e. option_map expression_of e ≡ first_literal ts.now) }
+{
+    match ts {
+        [] => Ok(None),
+        [token, ..] => literal_kind(alloc, token.at, &token.kind),
     }
 }
