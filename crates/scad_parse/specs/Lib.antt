@@ -1,8 +1,11 @@
 pub mod Behind
 pub mod Grammar
+pub mod Judged
 pub mod Lists
 pub mod Machine
 pub mod Move
+pub mod Plain
+pub mod Promises
 pub mod Reading
 pub mod State
 pub mod StatementSteps
