@@ -1,26 +1,21 @@
 -- Tokens go on behind a part of an expression as the move there does.
-use Rattle.std.proofs.Common.{◌≡◌, ℕ, zero, suc, Bool, true, false, List, [], ◌∷◌, Option, Some, None, refl, ap, sym, ◌∙◌, subst}
+use Rattle.std.proofs.Common.{◌≡◌, ℕ, zero, suc, Bool, true, false, List, ◌∷◌, Option, Some, None, refl, ap, sym, subst}
 use Rattle.scad_fault.specs.declared.place.Place.{Place}
 use Rattle.scad_lex.specs.declared.token.Token.{Token}
-use Rattle.scad_lex.specs.declared.token.TokenKind.{TokenKind}
-use Rattle.scad_lex.specs.declared.token.TokenKind.TheVariants.{Number, Str, Word, Sign, Key}
-use Rattle.scad_lex.specs.declared.token.Sign.TheVariants.{OpenRound, CloseRound, OpenSquare, CloseSquare, Semicolon, Comma, Colon, Question, Assign, Plus, Minus, Caret, Bang, Dot}
-use Rattle.scad_lex.specs.declared.token.Key.TheVariants.{Function, If, Else, For, Let, Assert, Echo, Each, True, False, Undef}
-use Rattle.scad_ast.specs.declared.operator.UnOp.TheVariants.{Not, Plus as UnaryPlus, Minus as UnaryMinus}
+use Rattle.scad_lex.specs.declared.token.Sign.TheVariants.{CloseRound, CloseSquare, Semicolon, Comma, Colon, Question}
+use Rattle.scad_lex.specs.declared.token.Key.TheVariants.{Else}
 use Rattle.scad_ast.specs.declared.operator.BinOp.{BinOp}
-use Rattle.scad_ast.specs.Tree.{Expression, undef, boolean, number, string, name, vector, range, stepped, unary, binary, choose, index, member, call, Arguments, no_arguments, Elements, no_elements, element, Element, item, each, for_each, for_loop, let_element, if_element, if_else, Parameter, Items, assignment, function_of}
-use Rattle.scad_parse.specs.Tokens.{sign, key, word, is_sign, is_key, word_of, operator}
+use Rattle.scad_ast.specs.Tree.{Expression, vector, range, stepped, unary, binary, choose, index, call, Arguments, no_arguments, Elements, no_elements, element, Element, item, each, for_each, for_loop, let_element, if_element, if_else, Parameter, Items, assignment, function_of}
+use Rattle.scad_parse.specs.Tokens.{sign, key, operator}
 use Rattle.scad_parse.specs.Lists.{with_argument, with_element, with_parameter, with_item, let_of, Marks}
-use Rattle.scad_parse.specs.Grammar.{Expr, let_expr, assert_expr, echo_expr, test, Choice, no_choice, choice, Operand, tightest, line, Links, no_link, link, Unary, not_unary, plus_unary, minus_unary, post, Posts, no_post, an_index, a_member, Prim, a_number, a_string, a_true, a_false, an_undef, a_name, a_call, a_group, a_range, a_vector, RangeEnd, two_parts, three_parts, Args, no_args, unnamed, named, MoreArgs, last_arg, comma_arg, Elems, no_elems, elems, MoreElems, last_elem, comma_elem, Elem, comp, plain, Comp, a_for, a_loop, an_each, let_comp, an_if, Else as ElseRest, no_else, an_else, named_by, at_end_of_arguments, ends_arguments}
-use Rattle.scad_parse.specs.Behind.{letting, asserting, echoing, Keyed, BehindItems, BehindParameters, BehindOperand, prefixed, first_of, right_of, tested, BehindExpression, in_round, in_index, chosen, other, body_of, argument_of, plain_item, range_second, range_third, loop_test, element_test, default_of, assigned_to, function_body, statement_test, held_child, child_of, BehindElement, in_vector, each_of, for_of, loop_of, let_body, held_element, other_element, BehindArguments, of_call, of_keyed, of_for, of_steps, of_let, of_statement, keyed_tree}
-use Rattle.scad_parse.specs.State.{State, want_expression, want_unary, want_operand, opened, have_name, have_post, want_member, have_links, want_arguments, in_arguments, have_word, after_argument, want_element, want_test, in_elements, after_one, have_items, want_child, after_parameter}
-use Rattle.scad_parse.specs.Move.{Move, go, left_out, stuck}
-use Rattle.scad_parse.specs.Steps.{only, literal, literal_kind, word_step, literal_step, prim_step, unary_step, expression_step, element_step, end_arguments, after_argument_step, argument_step, arguments_step, after_parameter_step, after_one_step, range_start, range_step, member_step, after_element, after_expression, tested_step, link_step, after_operand, post_step, name_step, word_argument, member_name}
-use Rattle.scad_parse.proofs.Goes.{Goes, wants_expression, wants_unary, has_name, has_post, wants_member, has_links, wants_arguments, is_in_arguments, has_word, is_after_argument, wants_element, wants_test, is_in_elements, is_in_range, is_after_one, is_after_none, has_items, wants_child, is_after_parameter, ItemsGoes, goes_child, goes_held, OperandFrom, operand_from, OperandGoes, goes_prefixed, goes_first, goes_right, goes_tested, ExpressionGoes, goes_round, goes_index, goes_chosen, goes_last, goes_body, goes_argument, goes_item, goes_second, goes_third, goes_loop, goes_test, goes_default, goes_assigned, goes_result, goes_choice, ElementGoes, goes_member, goes_range, goes_each, goes_for, goes_turns, goes_let, goes_if, goes_else, ArgumentsGoes, goes_call, goes_keyed, goes_for_each, goes_for_loop, goes_steps, goes_let_args, goes_statement}
-use Rattle.scad_parse.proofs.Asked.{same_some, none_is_no_some}
-use Rattle.scad_parse.proofs.Tests.{MoveGoes, by_test, by_sign, by_key, by_only, by_word}
+use Rattle.scad_parse.specs.Grammar.{no_choice, choice, tightest, line, no_link, link, Prim, two_parts, three_parts, last_arg, comma_arg, MoreElems, last_elem, comma_elem, no_else, an_else, at_end_of_arguments}
+use Rattle.scad_parse.specs.Behind.{Keyed, BehindItems, BehindParameters, BehindOperand, prefixed, first_of, right_of, tested, BehindExpression, in_round, in_index, chosen, other, body_of, argument_of, plain_item, range_second, range_third, loop_test, element_test, default_of, assigned_to, function_body, statement_test, held_child, child_of, BehindElement, in_vector, each_of, for_of, loop_of, let_body, held_element, other_element, BehindArguments, of_call, of_keyed, of_for, of_steps, of_let, of_statement, keyed_tree}
+use Rattle.scad_parse.specs.State.{want_expression, want_operand, have_post, have_links, in_arguments, after_argument, want_element, in_elements, after_one, have_items, want_child, after_parameter}
+use Rattle.scad_parse.specs.Move.{Move}
+use Rattle.scad_parse.specs.Steps.{end_arguments, after_argument_step, after_one_step, range_start, range_step, member_step, after_element, after_expression, tested_step, link_step, after_operand}
+use Rattle.scad_parse.proofs.Goes.{Goes, wants_expression, wants_unary, has_post, has_links, is_in_arguments, is_after_argument, wants_element, is_in_elements, is_in_range, is_after_one, is_after_none, has_items, wants_child, is_after_parameter, goes_child, goes_held, OperandFrom, operand_from, OperandGoes, goes_prefixed, goes_first, goes_right, goes_tested, ExpressionGoes, goes_round, goes_index, goes_chosen, goes_last, goes_body, goes_argument, goes_item, goes_second, goes_third, goes_loop, goes_test, goes_default, goes_assigned, goes_result, goes_choice, ElementGoes, goes_member, goes_range, goes_each, goes_for, goes_turns, goes_let, goes_if, goes_else, ArgumentsGoes, goes_call, goes_keyed, goes_for_each, goes_for_loop, goes_steps, goes_let_args, goes_statement}
+use Rattle.scad_parse.proofs.Tests.{MoveGoes, by_sign, by_key, by_only}
 use Rattle.scad_parse.proofs.Ends.{by_parameter}
-use Rattle.scad_parse.proofs.Expressions.{comp_let}
 use Rattle.std.proofs.lemmas.Bool.{false≢true}
 
 -- the end of arguments
@@ -289,5 +284,5 @@ by_operand e (first_of n k) t ts p m =
     into_first (by_links n 0 e k t ts p (after_operand e k t) (by_operand e k t ts p) (operator n t) refl m)
 by_operand e (right_of n count a op at k) t ts p m =
     into_right (by_links n count (binary at op a e) k t ts p (after_operand (binary at op a e) k t)
-        (by_operand (binary at op a e) k t ts p) (operator n t) refl m)
+    (by_operand (binary at op a e) k t ts p) (operator n t) refl m)
 by_operand e (tested k) t ts p m = by_tested e k t ts p m

@@ -1,5 +1,5 @@
 -- The reader's answer is the one that the grammar judges.
-use Rattle.std.proofs.Common.{◌≡◌, ◌↔◌, ℕ, ◌<◌, ◌≤◌, Bool, true, false, if◌then◌else◌, List, [], ◌∷◌, ◌++◌, Option, Some, None, Result, Ok, Err, refl, ap, sym, ◌∙◌, subst}
+use Rattle.std.proofs.Common.{◌≡◌, ℕ, ◌<◌, ◌≤◌, Bool, true, false, if◌then◌else◌, List, [], ◌∷◌, ◌++◌, Option, Some, None, Result, Ok, Err, refl, ap, sym, ◌∙◌, subst}
 use Rattle.std.specs.Prelude.{nat_lt}
 use Rattle.std.proofs.lemmas.List.{append-nil}
 use Rattle.std.proofs.lemmas.Bool.{lt-ltb, le-ltb, ltb-true, ltb-false, false≢true}
@@ -9,7 +9,7 @@ use Rattle.scad_ast.specs.Tree.{Items}
 use Rattle.scad_parse.specs.Statements.{Derives, Begins}
 use Rattle.scad_parse.specs.State.{State, open_count}
 use Rattle.scad_parse.specs.Move.{Move, go, left_out, stuck}
-use Rattle.scad_parse.specs.Machine.{step, finish, start, reach, run, Refusal, syntax_at, nesting_at, left_out_at, most_open, judge_move, judge_end, outcome, outcome_of}
+use Rattle.scad_parse.specs.Machine.{step, finish, start, reach, run, Refusal, syntax_at, nesting_at, most_open, judge_move, judge_end, outcome}
 use Rattle.scad_parse.specs.Judged.{Opens, IsLeftOut, MayStand, Judged, is_program, ends_early, is_left_out, is_misplaced, is_nested, stands}
 use Rattle.scad_parse.proofs.Runs.{follow, by_move}
 use Rattle.scad_parse.proofs.Asked.{same_some, none_is_no_some}
@@ -71,8 +71,9 @@ not_left before t s m h e quiet w l = false≢true (sym quiet ∙ (ap leaves (sy
 may_stand : (before : List Token) (t : Token) (s next : State) → reach start before ≡ Some s → step s t ≡ go next → MayStand before t
 unfolding leaves
 may_stand before t s next h e = record {
-    begins = reached_begins (before ++ (t ∷ [])) next (goes_next before t s next h e);
-    not_left_out = not_left before t s (go next) h e refl }
+  begins = reached_begins (before ++ (t ∷ [])) next (goes_next before t s next h e);
+  not_left_out = not_left before t s (go next) h e refl;
+}
 
 -- what the answer is behind one judged token
 outcome_by : Result State Refusal → List Token → Place → Result Items Refusal

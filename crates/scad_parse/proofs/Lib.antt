@@ -1,10 +1,16 @@
 mod Asked
 mod Backward
+mod DescentArguments
+mod DescentElements
+mod DescentOperands
 mod Ends
 mod Expressions
 mod Faults
+mod Follow
 mod Goes
+mod Loose
 mod Openings
+mod Outcomes
 mod Prefix
 mod Rows
 mod Runs
@@ -12,5 +18,6 @@ mod Sound
 mod Starts
 mod Statements
 mod Tests
+mod Tight
 pub mod Unique
 mod Viable

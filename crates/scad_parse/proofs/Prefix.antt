@@ -1,18 +1,18 @@
 -- Where some program begins with tokens, and only there, the reader stands somewhere behind them.
-use Rattle.std.proofs.Common.{◌≡◌, ℕ, Bool, true, false, List, [], ◌∷◌, ◌++◌, Option, Some, None, refl, ap, sym, ◌∙◌, subst}
+use Rattle.std.proofs.Common.{◌≡◌, List, [], ◌∷◌, ◌++◌, Option, Some, None, refl, ap, sym, ◌∙◌, subst}
 use Rattle.scad_lex.specs.declared.token.Token.{Token}
 use Rattle.scad_ast.specs.Tree.{Items}
-use Rattle.scad_parse.specs.Statements.{Derives, program, Begins}
+use Rattle.scad_parse.specs.Statements.{Begins}
 use Rattle.scad_parse.specs.State.{State}
 use Rattle.scad_parse.specs.Move.{Move, go, left_out, stuck}
 use Rattle.scad_parse.specs.Machine.{step, start, reach, run}
 use Rattle.scad_parse.proofs.Runs.{follow, by_move}
-use Rattle.scad_parse.proofs.Goes.{Goes, has_items, goes_program}
+use Rattle.scad_parse.proofs.Goes.{Goes}
 use Rattle.scad_parse.proofs.Asked.{same_some, none_is_no_some}
 use Rattle.scad_parse.proofs.Tests.{MoveGoes}
 use Rattle.scad_parse.proofs.Statements.{runs_program}
 use Rattle.scad_parse.proofs.Sound.{sound, into_program}
-use Rattle.scad_parse.proofs.Viable.{Ending, viable}
+use Rattle.scad_parse.proofs.Viable.{viable}
 
 -- where a reader stands behind a move and further tokens
 abbrev pub reach_by : Move → List Token → Option State

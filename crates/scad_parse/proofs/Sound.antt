@@ -1,19 +1,19 @@
 -- What a run gives is derived: each move keeps how tokens go on to a whole program.
-use Rattle.std.proofs.Common.{◌≡◌, ℕ, zero, suc, Bool, true, false, if◌then◌else◌, List, [], ◌∷◌, ◌++◌, Option, Some, None, refl, ap, sym, ◌∙◌, subst}
+use Rattle.std.proofs.Common.{◌≡◌, ℕ, Bool, false, List, [], ◌∷◌, Option, Some, None, refl, sym, ◌∙◌, subst}
 use Rattle.scad_fault.specs.declared.place.Place.{Place}
 use Rattle.scad_lex.specs.declared.token.Token.{Token}
 use Rattle.scad_lex.specs.declared.token.Sign.TheVariants.{OpenRound, CloseRound, CloseSquare, Assign}
-use Rattle.scad_ast.specs.Tree.{Expression, vector, no_arguments, Arguments, Elements, Element, Parameter, Items, no_items, module_of, call_of, choice}
-use Rattle.scad_parse.specs.Tokens.{sign, key, word, is_sign, word_of, operator}
+use Rattle.scad_ast.specs.Tree.{vector, no_arguments, Elements, Parameter, Items, no_items, module_of, call_of, choice}
+use Rattle.scad_parse.specs.Tokens.{sign, word, is_sign, word_of, operator}
 use Rattle.scad_parse.specs.Lists.{with_parameter, with_item, with_statement, Marks, no_marks}
 use Rattle.scad_parse.specs.Grammar.{no_default, default, params}
-use Rattle.scad_parse.specs.Statements.{call_word, assign, inst, a_call, no_statement, no_otherwise, Derives, program, Begins}
-use Rattle.scad_parse.specs.Behind.{Defined, BehindItems, in_program, in_group, module_body, child_of, held_child, other_child, BehindParameters, defined, BehindOperand, BehindArguments, BehindElement, in_vector, element_test, default_of, assigned_to, function_body, statement_test, of_statement}
+use Rattle.scad_parse.specs.Statements.{call_word, assign, inst, a_call, no_statement, no_otherwise, Derives, program}
+use Rattle.scad_parse.specs.Behind.{Defined, BehindItems, in_program, in_group, module_body, child_of, held_child, other_child, BehindParameters, BehindOperand, BehindArguments, BehindElement, element_test, default_of, assigned_to, function_body, statement_test, of_statement}
 use Rattle.scad_parse.specs.State.{State, want_expression, have_expression, want_unary, have_operand, have_name, have_post, want_member, have_links, want_arguments, in_arguments, have_word, after_argument, have_arguments, want_element, have_element, want_test, in_elements, after_one, have_elements, want_statement, have_items, have_start, want_marked, want_choice, want_child, want_defined, want_parameters, in_parameters, have_parameter, after_parameter, have_parameters, want_assign}
 use Rattle.scad_parse.specs.Move.{Move, go, left_out, stuck}
-use Rattle.scad_parse.specs.Steps.{only, element_step, after_parameter_step, after_operand}
+use Rattle.scad_parse.specs.Steps.{after_operand}
 use Rattle.scad_parse.specs.StatementSteps.{word_statement, defined_name, parameter_step, parameters_step, finish_items}
-use Rattle.scad_parse.specs.Machine.{step, finish, start, reach, run}
+use Rattle.scad_parse.specs.Machine.{step, finish, start, run}
 use Rattle.scad_parse.proofs.Runs.{follow, by_move}
 use Rattle.scad_parse.proofs.Goes.{Goes, wants_expression, has_expression, has_operand, has_post, wants_arguments, is_in_arguments, has_arguments, has_element, wants_test, has_elements, wants_statement, has_items, has_start, wants_choice, wants_defined, wants_parameters, is_in_parameters, has_parameter, is_after_parameter, has_parameters, wants_assign, ItemsGoes, goes_program, goes_module, goes_child, goes_held, goes_other, goes_default, goes_assigned, goes_result, goes_statement}
 use Rattle.scad_parse.proofs.Asked.{same_some, none_is_no_some}

@@ -1,5 +1,5 @@
 -- Tokens go on from where a part of an expression begins as the move there does.
-use Rattle.std.proofs.Common.{◌≡◌, ℕ, zero, suc, Bool, true, false, if◌then◌else◌, List, [], ◌∷◌, Option, Some, None, refl, ap, sym, ◌∙◌, subst}
+use Rattle.std.proofs.Common.{◌≡◌, ℕ, suc, false, if◌then◌else◌, List, ◌∷◌, Option, Some, None, refl, ap, subst}
 use Rattle.scad_fault.specs.declared.place.Place.{Place}
 use Rattle.scad_lex.specs.declared.token.Token.{Token}
 use Rattle.scad_lex.specs.declared.token.TokenKind.{TokenKind}
@@ -7,18 +7,18 @@ use Rattle.scad_lex.specs.declared.token.TokenKind.TheVariants.{Number, Str, Wor
 use Rattle.scad_lex.specs.declared.token.Sign.TheVariants.{OpenRound, CloseRound, OpenSquare, CloseSquare, Assign, Plus, Minus, Caret, Bang, Dot}
 use Rattle.scad_lex.specs.declared.token.Key.TheVariants.{Function, If, For, Let, Assert, Echo, Each, True, False, Undef}
 use Rattle.scad_ast.specs.declared.operator.UnOp.TheVariants.{Not, Plus as UnaryPlus, Minus as UnaryMinus}
-use Rattle.scad_ast.specs.Tree.{Expression, undef, boolean, number, string, name, vector, member, Arguments, no_arguments, Elements, no_elements, Element, item, for_loop, Items}
+use Rattle.scad_ast.specs.Tree.{Expression, name, vector, member, Arguments, no_arguments, Elements, no_elements, Element, item, Items}
 use Rattle.scad_parse.specs.Tokens.{sign, key, word, numeral, quoted, word_of, is_sign, begins_with}
-use Rattle.scad_parse.specs.Lists.{with_element, let_of}
-use Rattle.scad_parse.specs.Grammar.{Expr, let_expr, assert_expr, echo_expr, test, Unary, not_unary, plus_unary, minus_unary, post, no_post, an_index, a_member, Prim, a_number, a_string, a_true, a_false, an_undef, a_name, a_call, a_group, a_range, a_vector, Args, no_args, unnamed, named, no_elems, elems, Elem, comp, plain, Comp, a_for, a_loop, an_each, let_comp, an_if, Else as ElseRest, no_else, an_else, named_by, ends_arguments, begins_named}
-use Rattle.scad_parse.specs.Behind.{letting, asserting, echoing, BehindOperand, prefixed, tested, BehindExpression, in_round, in_index, argument_of, plain_item, element_test, BehindElement, in_vector, each_of, BehindArguments, of_call, of_keyed, of_for, of_let}
+use Rattle.scad_parse.specs.Lists.{let_of}
+use Rattle.scad_parse.specs.Grammar.{Expr, let_expr, assert_expr, echo_expr, test, not_unary, plus_unary, minus_unary, post, no_post, an_index, a_member, Prim, a_number, a_string, a_true, a_false, an_undef, a_name, a_call, a_group, a_range, a_vector, Args, no_args, unnamed, named, no_elems, elems, Elem, comp, plain, a_for, a_loop, an_each, let_comp, an_if, Else as ElseRest, named_by, ends_arguments, begins_named}
+use Rattle.scad_parse.specs.Behind.{letting, asserting, echoing, BehindOperand, prefixed, tested, BehindExpression, in_round, in_index, argument_of, plain_item, BehindElement, in_vector, each_of, BehindArguments, of_call, of_keyed, of_for, of_let}
 use Rattle.scad_parse.specs.State.{want_expression, want_unary, opened, have_name, have_post, want_member, want_arguments, in_arguments, have_word, want_element, want_test, in_elements}
-use Rattle.scad_parse.specs.Move.{Move, go, left_out, stuck}
-use Rattle.scad_parse.specs.Steps.{literal, literal_kind, word_step, literal_step, prim_step, unary_step, expression_step, element_step, end_arguments, argument_step, arguments_step, post_step, name_step, word_argument, member_name}
-use Rattle.scad_parse.proofs.Goes.{Goes, wants_expression, wants_unary, has_name, has_post, wants_member, wants_arguments, is_in_arguments, has_word, wants_element, wants_test, is_in_elements, is_in_range, OperandFrom, operand_from, OperandGoes, goes_prefixed, goes_tested, ExpressionGoes, goes_round, goes_index, goes_argument, goes_item, goes_test, ElementGoes, goes_member, goes_range, goes_each, ArgumentsGoes, goes_call, goes_keyed, goes_for_each, goes_for_loop, goes_let_args}
+use Rattle.scad_parse.specs.Move.{go}
+use Rattle.scad_parse.specs.Steps.{literal, literal_kind, word_step, literal_step, prim_step, unary_step, expression_step, element_step, argument_step, arguments_step, post_step, name_step, word_argument, member_name}
+use Rattle.scad_parse.proofs.Goes.{Goes, wants_expression, wants_unary, has_name, has_post, wants_member, wants_arguments, is_in_arguments, has_word, wants_element, wants_test, is_in_elements, is_in_range, OperandFrom, operand_from, goes_prefixed, goes_tested, goes_round, goes_index, goes_argument, goes_item, goes_test, ElementGoes, goes_member, goes_range, goes_each, goes_call, goes_keyed, goes_for_each, goes_for_loop, goes_let_args}
 use Rattle.scad_parse.proofs.Asked.{same_some, none_is_no_some}
-use Rattle.scad_parse.proofs.Tests.{MoveGoes, by_test, by_sign, by_key, by_only, by_word}
-use Rattle.scad_parse.proofs.Backward.{opened_from, by_operand, by_end_arguments, ends_of}
+use Rattle.scad_parse.proofs.Tests.{MoveGoes, by_test, by_sign, by_key, by_word}
+use Rattle.scad_parse.proofs.Backward.{opened_from, by_operand, by_end_arguments}
 use Rattle.scad_parse.proofs.Expressions.{comp_let}
 
 -- NUMBER, STRING, "true", "false", "undef"
@@ -225,7 +225,7 @@ unfolding word_argument
 by_word_argument at w a k t ts p =
     by_sign Assign t _ _ ts p (λ (u : Token). Goes (have_word at w a k) (u ∷ ts) p) from_assign
     (λ h m. has_word (into_unnamed h (into_expression (opened_from 6 (tested (argument_of None a k))
-        (from_name (by_name at w (opened 6 (tested (argument_of None a k))) t ts p m))))))
+    (from_name (by_name at w (opened 6 (tested (argument_of None a k))) t ts p m))))))
 
 from_word : {at : Place} {w : List ℕ} {a : Arguments} {k : BehindArguments} {ts : List Token} {p : Items} →
     Goes (have_word at w a k) ts p → Goes (in_arguments a k) (word w at ∷ ts) p

@@ -1,16 +1,14 @@
 -- The laws.
-use Rattle.std.proofs.Common.{◌≡◌, List, [], Option, Some, sym, ◌∙◌, refl, subst}
-use Rattle.scad_fault.specs.declared.place.Place.{Place}
-use Rattle.scad_lex.specs.declared.token.Token.{Token}
-use Rattle.scad_ast.specs.Tree.{Items}
-use Rattle.scad_parse.specs.Statements.{Derives}
-use Rattle.scad_parse.specs.Machine.{start, reach, outcome_of}
+use Rattle.std.proofs.Common.{[], sym, ◌∙◌, refl, subst}
+use Rattle.scad_parse.specs.Machine.{start, reach}
 use Rattle.scad_parse.specs.Judged.{Judged}
-use Rattle.scad_parse.specs.Promises.{OneProgram, ReadsWhatIsDerived, StandsWhereAProgramBegins, JudgesAsTheGrammar}
+use Rattle.scad_parse.specs.Promises.{OneProgram, ReadsWhatIsDerived, StandsWhereAProgramBegins, JudgesAsTheGrammar, EndsExcludeNothing}
 use Rattle.scad_parse.proofs.Asked.{same_some}
 use Rattle.scad_parse.proofs.Statements.{runs_program}
 use Rattle.scad_parse.proofs.Sound.{sound_program}
 use Rattle.scad_parse.proofs.Prefix.{reached_begins, begins_reached}
+use Rattle.scad_parse.proofs.Loose.{loose_program}
+use Rattle.scad_parse.proofs.Tight.{tight_program}
 use Rattle.scad_parse.proofs.Faults.{standing, only_answer}
 
 pub one_program : OneProgram
@@ -26,3 +24,6 @@ pub judges_as_the_grammar : JudgesAsTheGrammar
 unfolding reach
 judges_as_the_grammar ts end answer =
     (λ j. only_answer j start refl, λ e. subst (Judged [] ts end) e (standing ts [] start end refl))
+
+pub ends_exclude_nothing : EndsExcludeNothing
+ends_exclude_nothing ts p = (tight_program, loose_program)

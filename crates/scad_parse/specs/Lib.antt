@@ -4,7 +4,9 @@ pub mod Judged
 pub mod Lists
 pub mod Machine
 pub mod Move
+pub mod Plain
 pub mod Promises
+pub mod Reading
 pub mod State
 pub mod StatementSteps
 pub mod Statements

@@ -1,5 +1,13 @@
-//! The grammar of OpenSCAD, and tokens to a program.
-//! Its laws promise that the grammar derives no two programs from the same tokens.
+//! The grammar of OpenSCAD source: the syntax tree of a list of tokens.
+//! The contract gives exactly the program that the tokens derive, or the first token with a fault.
 #![tactic(auto)]
 
-pub mod laws;
+mod fault;
+mod front;
+mod laws;
+mod nesting;
+mod node;
+mod operator;
+mod reading;
+
+pub use fault::ParseFault;
