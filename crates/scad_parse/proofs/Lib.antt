@@ -3,6 +3,8 @@ mod Backward
 mod DescentArguments
 mod DescentElements
 mod DescentOperands
+mod DescentParameters
+mod DescentStatements
 mod Ends
 mod Expressions
 mod Faults

@@ -1,12 +1,14 @@
 pub mod Behind
 pub mod Grammar
 pub mod Judged
+pub mod JudgedFault
 pub mod Lists
 pub mod Machine
 pub mod Move
 pub mod Plain
 pub mod Promises
 pub mod Reading
+pub mod ReadingStatements
 pub mod State
 pub mod StatementSteps
 pub mod Statements
