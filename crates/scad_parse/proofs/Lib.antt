@@ -4,6 +4,7 @@ mod DescentArguments
 mod DescentElements
 mod DescentOperands
 mod DescentParameters
+mod DescentProgram
 mod DescentStatements
 mod Ends
 mod Expressions
