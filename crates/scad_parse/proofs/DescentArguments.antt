@@ -1,6 +1,8 @@
 -- What the reader of tokens does where the descent reads arguments.
 use Rattle.std.proofs.Common.{◌≡◌, ℕ, zero, suc, ◌+◌, ◌<◌, ◌≤◌, Bool, true, false, List, [], ◌∷◌, ◌++◌, Option, Some, None, refl, ap, ◌∙◌, sym, subst, arith, if◌then◌else◌}
-use Rattle.std.specs.Prelude.{Result, Ok, Err, is_some}
+use Rattle.std.specs.Prelude.{◌≢◌, Result, Ok, Err, is_some}
+use Rattle.scad_parse.specs.declared.fault.ParseFault.{ParseFault}
+use Rattle.scad_parse.specs.declared.fault.ParseFault.TheVariants.{Memory, Syntax, Nesting, LeftOut}
 use Rattle.scad_fault.specs.declared.place.Place.{Place}
 use Rattle.scad_lex.specs.declared.token.Token.{Token}
 use Rattle.scad_lex.specs.declared.token.TokenKind.{TokenKind}
@@ -17,7 +19,7 @@ use Rattle.scad_parse.specs.State.{State, want_expression, have_expression, want
 use Rattle.scad_parse.specs.Move.{Move, go, left_out, stuck}
 use Rattle.scad_parse.specs.Steps.{only, expression_step, unary_step, prim_step, argument_step, arguments_step, after_argument_step, end_arguments, after_expression, name_step, word_argument}
 use Rattle.scad_parse.specs.Machine.{Refusal, syntax_at, step, finish, outcome}
-use Rattle.scad_parse.specs.Reading.{place_of, behind, first_word, Entering, with_arg}
+use Rattle.scad_parse.specs.Reading.{place_of, behind, first_word, Refuses, Entering, with_arg}
 use Rattle.scad_parse.proofs.Outcomes.{onward, may, moves, sticks, unended, same_step, same_end, settle, passed, taken}
 
 pub arguments_enter : (k : BehindArguments) (t : Token) → step (want_arguments k) t ≡ (if is_sign OpenRound t then go (in_arguments no_arguments k) else stuck)
@@ -134,3 +136,10 @@ member_stuck all k (t ∷ ts) end c h = sticks (after_argument all k) t ts end (
 pub arguments_push : (xs : List Arg) (a : Arg) → arguments (xs ++ (a ∷ [])) ≡ with_arg (arguments xs) a
 arguments_push [] a = refl
 arguments_push (x ∷ xs) a = ap (argument x.name (expression_of x.value)) (arguments_push xs a)
+
+-- before `=` stands a word
+pub missing_named : (found : Result Items Refusal) (end : Place) (fault : ParseFault) (ts : List Token) → begins_named ts ≡ true → (fault ≢ Memory → (first_word ts ≡ None) × (fault ≡ Syntax (place_of end ts))) → Refuses found fault
+missing_named found end Memory ts n m = tt
+missing_named found end (Syntax at) ts n m = absurd (named_word ts n (m (λ x. absurd (cc))).0)
+missing_named found end (Nesting at) ts n m = absurd (named_word ts n (m (λ x. absurd (cc))).0)
+missing_named found end (LeftOut at name) ts n m = absurd (named_word ts n (m (λ x. absurd (cc))).0)

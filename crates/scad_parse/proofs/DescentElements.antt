@@ -218,3 +218,8 @@ elements_push (y ∷ xs) x = ap (element (element_of y)) (elements_push xs x)
 pub no_range : (all : Elements) (last el : Element) → range_start (with_element all last) el ≡ None
 no_range no_elements last el = refl
 no_range (element first rest) last el = refl
+
+-- an element with which a range may begin
+pub starts_range : (el : Element) (e : Expression) → Some e ≡ range_start no_elements el → el ≡ item e
+starts_range (item x) e h = cc
+starts_range _ e h = absurd (cc)

@@ -1,5 +1,5 @@
 -- What the reader of tokens does where the descent reads an expression's operands.
-use Rattle.std.proofs.Common.{◌≡◌, ℕ, zero, suc, ◌+◌, ◌<◌, ◌≤◌, Bool, true, false, List, [], ◌∷◌, Option, Some, None, refl, ap, ◌∙◌, sym, subst, arith, if◌then◌else◌}
+use Rattle.std.proofs.Common.{◌≡◌, ℕ, zero, suc, ◌+◌, ◌-◌, ◌<◌, ◌≤◌, Bool, true, false, List, [], ◌∷◌, Option, Some, None, refl, ap, ◌∙◌, sym, subst, arith, if◌then◌else◌}
 use Rattle.std.specs.Prelude.{Result, Ok, Err, codes}
 use Rattle.scad_fault.specs.declared.place.Place.{Place}
 use Rattle.scad_lex.specs.declared.token.Token.{Token}
@@ -245,3 +245,9 @@ unfolding step finish post_step
 posts_end count a k [] end s d h = same_end (have_post count a k) (have_operand a k) end refl
 posts_end count a k (t ∷ ts) end s d h = same_step (have_post count a k) (have_operand a k) t ts end (passed _ _ s ∙ (passed _ _ d ∙ passed _ _ h))
 
+-- the tightest line, below the others
+pub lines_some : (count : ℕ) (k : BehindOperand) (ts : List Token) (end : Place) → 0 < count → outcome (want_operand count k) ts end ≡ outcome (want_operand (count - 1) (first_of (count - 1) k)) ts end
+lines_some zero k ts end h = absurd (omega arith)
+lines_some (suc n) k ts end h =
+    let e : n ≡ suc n - 1 = omega arith in
+    ap (λ m. outcome (want_operand m (first_of m k)) ts end) e

@@ -1,6 +1,6 @@
 -- Outcomes from a state at tokens: what the first token does, and where two states do the same.
 use Rattle.std.proofs.Common.{◌≡◌, ℕ, suc, ◌+◌, ◌<◌, ◌≤◌, Bool, true, false, List, [], ◌∷◌, Option, Some, None, refl, ap, ◌∙◌, sym, subst, arith, if◌then◌else◌, nat_lt, length}
-use Rattle.std.specs.Prelude.{Result, Ok, Err}
+use Rattle.std.specs.Prelude.{◌≢◌, Result, Ok, Err}
 use Rattle.scad_fault.specs.declared.place.Place.{Place}
 use Rattle.scad_lex.specs.declared.token.Token.{Token}
 use Rattle.scad_lex.specs.declared.token.Sign.{Sign as SignName}
@@ -189,3 +189,24 @@ syntax_as {found = found} e f p = subst (λ x. Refuses found x) (sym f) (e ∙ a
 
 pub nesting_as : {found : Result Items Refusal} {at at' : Place} {fault : ParseFault} → found ≡ Err (nesting_at at) → fault ≡ Nesting at' → at' ≡ at → Refuses found fault
 nesting_as {found = found} e f p = subst (λ x. Refuses found x) (sym f) (e ∙ ap (λ q. Err (nesting_at q)) (sym p))
+
+-- the first token leads to this state, and more constructs may be open
+pub arrive : (from : State) (next : Place → State) (ts rest : List Token) (end at : Place) → outcome from ts end ≡ onward (next (place_of end ts)) (place_of end ts) (behind ts) end → at ≡ place_of end ts → rest ≡ behind ts → open_count (next at) ≤ 200 → outcome from ts end ≡ outcome (next at) rest end
+arrive from next ts rest end at e p r h =
+    e ∙ (may (next (place_of end ts)) (place_of end ts) (behind ts) end (subst (λ q. open_count (next q) ≤ 200) p h)
+    ∙ (ap (λ q. outcome (next q) (behind ts) end) (sym p) ∙ ap (λ x. outcome (next at) x end) (sym r)))
+
+-- the first token leads to this state, and no more constructs may be open
+pub deep : (from : State) (next : Place → State) (ts : List Token) (end at : Place) (fault : ParseFault) → outcome from ts end ≡ onward (next (place_of end ts)) (place_of end ts) (behind ts) end → 200 < open_count (next (place_of end ts)) → fault ≡ Nesting at → at ≡ place_of end ts → Refuses (outcome from ts end) fault
+deep from next ts end at fault e h f p = nesting_as (e ∙ nests (next (place_of end ts)) (place_of end ts) (behind ts) end h) f p
+
+-- a form that is left out, with the place that is found
+pub left_out_as : {found : Result Items Refusal} {at at' : Place} {name : List ℕ} (fault : ParseFault) → found ≡ Err (left_out_at at name) → LeavesOut at' name fault → at' ≡ at → Refuses found fault
+left_out_as {at = at} {name = name} fault e l p = left_out_by fault e (subst (λ q. LeavesOut q name fault) p l)
+
+-- a word is missing
+pub missing_word : {found : Result Items Refusal} (ts : List Token) (end : Place) (fault : ParseFault) → (first_word ts ≡ None → found ≡ Err (syntax_at (place_of end ts))) → (fault ≢ Memory → (first_word ts ≡ None) × (fault ≡ Syntax (place_of end ts))) → Refuses found fault
+missing_word ts end Memory e m = tt
+missing_word ts end (Syntax at) e m = let r = m (λ x. absurd (cc)) in syntax_as (e r.0) r.1 refl
+missing_word ts end (Nesting at) e m = let r = m (λ x. absurd (cc)) in absurd (cc (r.1))
+missing_word ts end (LeftOut at name) e m = let r = m (λ x. absurd (cc)) in absurd (cc (r.1))

@@ -1,6 +1,5 @@
 //! Where one sign may stand alone, and what stands between the members of a list.
 
-
 ghost use Rattle.std.specs.Prelude.{◌≡◌, ◌+◌, ◌<◌, ◌≤◌, length, MatchResult, None, true};
 ghost use Rattle.scad_parse.specs.Tokens.{begins_with};
 ghost use Rattle.scad_parse.specs.Behind.{in_vector};
@@ -24,7 +23,7 @@ pub(crate) fn entered<'a>(
 ) -> Result<(u32, &'a [Token]), ParseFault>
     ensures { MatchResult result
         (λ r. (r.0 ≡ depth + 1) × (r.0 ≤ 200) × (length r.1.now < length ts.now)
-            × Reads open_entering (λ q. q.from) (λ q. q.to) depth ts.now r.1.now «end»)
+        × Reads open_entering (λ q. q.from) (λ q. q.to) depth ts.now r.1.now «end»)
         (λ fault. Stops open_entering (λ q. q.from) depth ts.now «end» fault) }
 {
     let rest = match expect(Sign::OpenRound, ts, end) {
@@ -46,7 +45,7 @@ pub(crate) fn behind_argument<'a>(
     requires { depth ≤ 200 }
     ensures { MatchResult result
         (λ rest. (length rest.now ≤ length ts.now)
-            × Reads open_members (λ m. after_argument m.all m.behind) (λ m. in_arguments m.all m.behind) depth ts.now rest.now «end»)
+        × Reads open_members (λ m. after_argument m.all m.behind) (λ m. in_arguments m.all m.behind) depth ts.now rest.now «end»)
         (λ fault. Stops open_members (λ m. after_argument m.all m.behind) depth ts.now «end» fault) }
 {
     if is_sign(Sign::Comma, ts) {
@@ -67,10 +66,10 @@ pub(crate) fn behind_element<'a>(
     requires { depth ≤ 200 }
     ensures { MatchResult result
         (λ rest. (length rest.now ≤ length ts.now)
-            × Reads open_listed (λ m. have_element m.last (in_vector m.at m.all m.behind)) (λ m. in_elements m.at (with_element m.all m.last) m.behind) depth ts.now rest.now «end»)
+        × Reads open_listed (λ m. have_element m.last (in_vector m.at m.all m.behind)) (λ m. in_elements m.at (with_element m.all m.last) m.behind) depth ts.now rest.now «end»)
         (λ fault. (m : Listed) → open_listed m ≡ depth
-            → (begins_with Sign.Colon ts.now ≡ true → range_start m.all m.last ≡ None)
-            → Refuses (outcome (have_element m.last (in_vector m.at m.all m.behind)) ts.now «end») fault) }
+        → (begins_with Sign.Colon ts.now ≡ true → range_start m.all m.last ≡ None)
+        → Refuses (outcome (have_element m.last (in_vector m.at m.all m.behind)) ts.now «end») fault) }
 {
     if is_sign(Sign::Comma, ts) {
         Ok(behind(ts))

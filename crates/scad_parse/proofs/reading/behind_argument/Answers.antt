@@ -8,11 +8,13 @@ use Rattle.scad_parse.proofs.reading.behind_argument.Goals as goal
 
 pub returns-then-is_sign : goal.returns-then-is_sign
 returns-then-is_sign c =
-    let ts = c.args.ts.now in
-    (shorter ts c.behind.result.now c.behind.ensures.value, λ m h.
-        comma_here m.all m.behind ts c.args.end (sym c.is_sign.ensures ∙ c.if-is_sign.true)
-        ∙ (may (in_arguments m.all m.behind) _ _ _ (omega (arith, h, c.requires))
-        ∙ ap (λ r. outcome (in_arguments m.all m.behind) r c.args.end) (sym c.behind.ensures.value)))
+    let ts = c.args.ts.now in (
+      shorter ts c.behind.result.now c.behind.ensures.value,
+      λ m h.
+          comma_here m.all m.behind ts c.args.end (sym c.is_sign.ensures ∙ c.if-is_sign.true)
+          ∙ (may (in_arguments m.all m.behind) _ _ _ (omega (arith, h, c.requires))
+          ∙ ap (λ r. outcome (in_arguments m.all m.behind) r c.args.end) (sym c.behind.ensures.value)),
+    )
 
 pub returns-then-is_end_of_arguments : goal.returns-then-is_end_of_arguments
 returns-then-is_end_of_arguments c =

@@ -9,11 +9,13 @@ use Rattle.scad_parse.proofs.reading.behind_element.Goals as goal
 
 pub returns-then-is_sign : goal.returns-then-is_sign
 returns-then-is_sign c =
-    let ts = c.args.ts.now in
-    (shorter ts c.behind.result.now c.behind.ensures.value, λ m h.
-        listed_comma m.at m.all m.last m.behind ts c.args.end (sym c.is_sign.ensures ∙ c.if-is_sign.true)
-        ∙ (may (in_elements m.at (with_element m.all m.last) m.behind) _ _ _ (omega (arith, h, c.requires))
-        ∙ ap (λ r. outcome (in_elements m.at (with_element m.all m.last) m.behind) r c.args.end) (sym c.behind.ensures.value)))
+    let ts = c.args.ts.now in (
+      shorter ts c.behind.result.now c.behind.ensures.value,
+      λ m h.
+          listed_comma m.at m.all m.last m.behind ts c.args.end (sym c.is_sign.ensures ∙ c.if-is_sign.true)
+          ∙ (may (in_elements m.at (with_element m.all m.last) m.behind) _ _ _ (omega (arith, h, c.requires))
+          ∙ ap (λ r. outcome (in_elements m.at (with_element m.all m.last) m.behind) r c.args.end) (sym c.behind.ensures.value)),
+    )
 
 pub returns-then-is_sign-2 : goal.returns-then-is_sign-2
 returns-then-is_sign-2 c =

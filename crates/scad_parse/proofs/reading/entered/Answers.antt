@@ -10,6 +10,9 @@ returns-in-Err-opened c = λ q h.
     nesting_as (enters_deep q c.args.ts.now c.args.end (omega (arith, h, c.in-Err-opened.ensures.1)) c.in-Ok.ensures.found.0) c.in-Err-opened.ensures.0 c.place.ensures
 
 pub returns-in-Ok-opened : goal.returns-in-Ok-opened
-returns-in-Ok-opened c =
-    (c.in-Ok-opened.ensures.0, omega (arith, c.in-Ok-opened.ensures.0, c.in-Ok-opened.ensures.1), c.in-Ok.ensures.found.2,
-    λ q h. enters_here q c.args.ts.now c.in-Ok.rest.now c.args.end (omega (arith, h, c.in-Ok-opened.ensures.1)) c.in-Ok.ensures.found.0 c.in-Ok.ensures.found.1)
+returns-in-Ok-opened c = (
+  c.in-Ok-opened.ensures.0,
+  omega (arith, c.in-Ok-opened.ensures.0, c.in-Ok-opened.ensures.1),
+  c.in-Ok.ensures.found.2,
+  λ q h. enters_here q c.args.ts.now c.in-Ok.rest.now c.args.end (omega (arith, h, c.in-Ok-opened.ensures.1)) c.in-Ok.ensures.found.0 c.in-Ok.ensures.found.1,
+)
