@@ -2,14 +2,19 @@
 //! The contract gives exactly the program that the tokens derive, or the first token with a fault.
 #![tactic(auto)]
 
+mod definition;
+mod descent;
 mod expression;
 mod fault;
 mod front;
 pub mod laws;
+mod mark;
 mod nesting;
 mod node;
 mod operator;
 mod reading;
+mod statement;
 mod vector;
 
+pub use descent::parse;
 pub use fault::ParseFault;
