@@ -1,5 +1,11 @@
 mod Asked
 mod Backward
+mod DescentArguments
+mod DescentElements
+mod DescentOperands
+mod DescentParameters
+mod DescentProgram
+mod DescentStatements
 mod Ends
 mod Expressions
 mod Faults
@@ -10,6 +16,7 @@ mod Goes
 mod Leaves
 mod Loose
 mod Openings
+mod Outcomes
 mod Prefix
 mod PrintableItems
 mod Printables

@@ -2,6 +2,7 @@ pub mod Behind
 pub mod Grammar
 pub mod Judged
 pub mod LeftOut
+pub mod JudgedFault
 pub mod Lists
 pub mod Machine
 pub mod Move
@@ -9,6 +10,8 @@ pub mod Plain
 pub mod Printed
 pub mod PrintedItems
 pub mod Promises
+pub mod Reading
+pub mod ReadingStatements
 pub mod State
 pub mod StatementSteps
 pub mod Statements

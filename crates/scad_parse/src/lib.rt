@@ -1,5 +1,20 @@
-//! The grammar of OpenSCAD, and tokens to a program.
-//! Its laws promise that the grammar derives no two programs from the same tokens.
+//! The grammar of OpenSCAD source: the syntax tree of a list of tokens.
+//! The contract gives exactly the program that the tokens derive, or the first token with a fault.
 #![tactic(auto)]
 
+mod definition;
+mod descent;
+mod expression;
+mod fault;
+mod front;
 pub mod laws;
+mod mark;
+mod nesting;
+mod node;
+mod operator;
+mod reading;
+mod statement;
+mod vector;
+
+pub use descent::parse;
+pub use fault::ParseFault;

@@ -1,0 +1,164 @@
+//! The token that stands at the front of what is left.
+
+ghost use Rattle.std.specs.Prelude.{◌≡◌, ◌≢◌, ◌<◌, ◌≤◌, length, Some, None, true, false, is_some, IfOk, IfErr, MatchResult};
+ghost use Rattle.scad_parse.specs.Tokens.{sign_number, key_number, is_sign_kind, is_key_kind, word_kind, begins_with, begins_with_key};
+ghost use Rattle.scad_parse.specs.Grammar.{begins_named, at_end_of_arguments, ends_arguments_kind};
+ghost use Rattle.scad_parse.specs.Reading.{place_of, behind, first_word};
+
+use crate::fault::ParseFault;
+use scad_fault::{Place, Text};
+use scad_lex::{Key, Sign, Token, TokenKind};
+use std::alloc::{AllocError, Global};
+
+/// The place of the first token, or that behind the text.
+pub(crate) fn place(ts: &[Token], end: Place) -> Place
+    ensures { result ≡ place_of end ts.now }
+{
+    match ts {
+        [] => end,
+        [token, ..] => token.at,
+    }
+}
+
+/// What stands behind the first token.
+pub(crate) fn behind(ts: &[Token]) -> &[Token]
+    ensures value { result.now ≡ behind ts.now }
+    ensures shorter { 0 < length ts.now → length result.now < length ts.now }
+{
+    match ts {
+        [] => ts,
+        [_, rest @ ..] => rest,
+    }
+}
+
+fn sign_number(sign: Sign) -> u8
+    ensures { result ≡ sign_number sign }
+{
+    sign as u8
+}
+
+fn key_number(key: Key) -> u8
+    ensures { result ≡ key_number key }
+{
+    key as u8
+}
+
+fn is_sign_kind(sign: Sign, kind: &TokenKind) -> bool
+    ensures { result ≡ is_sign_kind sign kind.now }
+{
+    match kind {
+        TokenKind::Sign(found) => sign_number(*found) == sign_number(sign),
+        TokenKind::Number(_) | TokenKind::Str(_) | TokenKind::Word(_) | TokenKind::Key(_) => false,
+    }
+}
+
+fn is_key_kind(key: Key, kind: &TokenKind) -> bool
+    ensures { result ≡ is_key_kind key kind.now }
+{
+    match kind {
+        TokenKind::Key(found) => key_number(*found) == key_number(key),
+        TokenKind::Number(_) | TokenKind::Str(_) | TokenKind::Word(_) | TokenKind::Sign(_) => false,
+    }
+}
+
+/// The tokens begin with this sign.
+pub(crate) fn is_sign(sign: Sign, ts: &[Token]) -> bool
+    ensures { result ≡ begins_with sign ts.now }
+{
+    match ts {
+        [] => false,
+        [token, ..] => is_sign_kind(sign, &token.kind),
+    }
+}
+
+/// The tokens begin with this keyword.
+pub(crate) fn is_key(key: Key, ts: &[Token]) -> bool
+    ensures { result ≡ begins_with_key key ts.now }
+{
+    match ts {
+        [] => false,
+        [token, ..] => is_key_kind(key, &token.kind),
+    }
+}
+
+fn word_kind(alloc: Global, kind: &TokenKind) -> Result<Option<Text>, AllocError>
+    ensures { IfOk result (λ word. word ≡ word_kind kind.now) }
+{
+    match kind {
+        TokenKind::Word(word) => Ok(Some(Text::of(alloc, word.as_slice())?)),
+        TokenKind::Number(_) | TokenKind::Str(_) | TokenKind::Sign(_) | TokenKind::Key(_) => Ok(
+            None,
+        ),
+    }
+}
+
+/// The word with which the tokens begin.
+pub(crate) fn first_word(alloc: Global, ts: &[Token]) -> Result<Option<Text>, AllocError>
+    ensures { IfOk result (λ word. word ≡ first_word ts.now) }
+{
+    match ts {
+        [] => Ok(None),
+        [token, ..] => word_kind(alloc, &token.kind),
+    }
+}
+
+/// What stands behind the sign, which is to come.
+pub(crate) fn expect<'a>(sign: Sign, ts: &'a [Token], end: Place) -> Result<&'a [Token], ParseFault>
+    ensures found { IfOk result (λ rest. (begins_with sign ts.now ≡ true) × (rest.now ≡ behind ts.now) × (length rest.now < length ts.now)) }
+    ensures missing { IfErr result (λ fault. (begins_with sign ts.now ≡ false) × (fault ≡ ParseFault.Syntax (place_of «end» ts.now))) }
+{
+    if is_sign(sign, ts) {
+        Ok(behind(ts))
+    } else {
+        Err(ParseFault::Syntax(place(ts, end)))
+    }
+}
+
+/// The word that is to come.
+pub(crate) fn expect_word(alloc: Global, ts: &[Token], end: Place) -> Result<Text, ParseFault>
+    ensures found { IfOk result (λ word. first_word ts.now ≡ Some word) }
+    ensures missing { IfErr result (λ fault. fault ≢ ParseFault.Memory → (first_word ts.now ≡ None) × (fault ≡ ParseFault.Syntax (place_of «end» ts.now))) }
+{
+    match first_word(alloc, ts)? {
+        Some(word) => Ok(word),
+        None => Err(ParseFault::Syntax(place(ts, end))),
+    }
+}
+
+fn named_kind(kind: &TokenKind) -> bool
+    ensures { result ≡ is_some (word_kind kind.now) }
+{
+    match kind {
+        TokenKind::Word(_) => true,
+        TokenKind::Number(_) | TokenKind::Str(_) | TokenKind::Sign(_) | TokenKind::Key(_) => false,
+    }
+}
+
+/// The tokens begin with a word and `=`.
+pub(crate) fn is_named(ts: &[Token]) -> bool
+    ensures { result ≡ begins_named ts.now }
+{
+    match ts {
+        [] => false,
+        [token, rest @ ..] => named_kind(&token.kind) && is_sign(Sign::Assign, rest),
+    }
+}
+
+fn ends_arguments_kind(kind: &TokenKind) -> bool
+    ensures { result ≡ ends_arguments_kind kind.now }
+{
+    match kind {
+        TokenKind::Sign(Sign::CloseRound | Sign::Semicolon) => true,
+        _ => false,
+    }
+}
+
+/// The tokens begin with `)` or `;`, which ends arguments.
+pub(crate) fn is_end_of_arguments(ts: &[Token]) -> bool
+    ensures { result ≡ at_end_of_arguments ts.now }
+{
+    match ts {
+        [] => false,
+        [token, ..] => ends_arguments_kind(&token.kind),
+    }
+}

@@ -1,0 +1,103 @@
+//! The marks before a statement, and the name that a call begins with.
+
+ghost use Rattle.std.specs.Prelude.{◌≡◌, Bool, true, false, Some, None, IfOk};
+ghost use Rattle.scad_parse.specs.Lists.{no_marks};
+ghost use Rattle.scad_parse.specs.StatementSteps.{callee_kind};
+ghost use Rattle.scad_parse.specs.ReadingStatements.{marks_of, begins_with_mark, with_first_mark, first_callee};
+ghost use Rattle.scad_lex.specs.declared.token.TokenKind.TheVariants.{Key as KeyKind};
+
+use crate::front::is_sign;
+use scad_fault::Text;
+use scad_lex::{Key, Sign, Token, TokenKind};
+use std::alloc::{AllocError, Global};
+
+/// The marks before a statement: `*`, `%`, `#`.
+#[derive(Clone, Copy, Debug, PartialEq, Eq)]
+pub(crate) struct Marked {
+    pub(crate) star: bool,
+    pub(crate) percent: bool,
+    pub(crate) hash: bool,
+}
+
+pub(crate) fn unmarked() -> Marked
+    ensures { marks_of result ≡ no_marks }
+{
+    Marked {
+        star: false,
+        percent: false,
+        hash: false,
+    }
+}
+
+/// The tokens begin with a mark.
+// mark = "*" | "%" | "#"
+pub(crate) fn is_mark(ts: &[Token]) -> bool
+    ensures { result ≡ begins_with_mark ts.now }
+{
+    if is_sign(Sign::Star, ts) {
+        true
+    } else if is_sign(Sign::Percent, ts) {
+        true
+    } else {
+        is_sign(Sign::Hash, ts)
+    }
+}
+
+/// The marks with one more, where the tokens begin with it.
+pub(crate) fn with_mark(marks: Marked, ts: &[Token]) -> Marked
+    ensures { marks_of result ≡ with_first_mark (marks_of marks) ts.now }
+{
+    if is_sign(Sign::Star, ts) {
+        Marked {
+            star: true,
+            percent: marks.percent,
+            hash: marks.hash,
+        }
+    } else if is_sign(Sign::Percent, ts) {
+        Marked {
+            star: marks.star,
+            percent: true,
+            hash: marks.hash,
+        }
+    } else {
+        Marked {
+            star: marks.star,
+            percent: marks.percent,
+            hash: true,
+        }
+    }
+}
+
+/// The keywords that a statement may call.
+fn callee_key(alloc: Global, key: Key) -> Result<Option<Text>, AllocError>
+    ensures { IfOk result (λ name. name ≡ callee_kind (KeyKind key)) }
+{
+    match key {
+        Key::For => Ok(Some(Text::of(alloc, b"for")?)),
+        Key::Let => Ok(Some(Text::of(alloc, b"let")?)),
+        Key::Echo => Ok(Some(Text::of(alloc, b"echo")?)),
+        Key::Assert => Ok(Some(Text::of(alloc, b"assert")?)),
+        _ => Ok(None),
+    }
+}
+
+fn callee_kind(alloc: Global, kind: &TokenKind) -> Result<Option<Text>, AllocError>
+    ensures { IfOk result (λ name. name ≡ callee_kind kind.now) }
+{
+    match kind {
+        TokenKind::Word(word) => Ok(Some(Text::of(alloc, word.as_slice())?)),
+        TokenKind::Key(key) => Ok(callee_key(alloc, *key)?),
+        TokenKind::Number(_) | TokenKind::Str(_) | TokenKind::Sign(_) => Ok(None),
+    }
+}
+
+/// The name that a call with which the tokens begin calls.
+// WORD | "for" | "let" | "echo" | "assert"
+pub(crate) fn first_callee(alloc: Global, ts: &[Token]) -> Result<Option<Text>, AllocError>
+    ensures { IfOk result (λ name. name ≡ first_callee ts.now) }
+{
+    match ts {
+        [] => Ok(None),
+        [token, ..] => callee_kind(alloc, &token.kind),
+    }
+}

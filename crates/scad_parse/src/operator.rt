@@ -1,0 +1,162 @@
+//! Which tokens are operators, literals, and keywords before an expression.
+
+ghost use Rattle.std.specs.Prelude.{◌≡◌, Some, None, option_map, IfOk};
+ghost use Rattle.scad_ast.specs.View.{expression_of};
+ghost use Rattle.scad_parse.specs.Tokens.{operator_sign, on_line, line_of, operator_kind, first_operator};
+ghost use Rattle.scad_parse.specs.Steps.{literal_kind};
+ghost use Rattle.scad_parse.specs.Reading.{first_prefix, first_binder, first_literal};
+ghost use Rattle.scad_lex.specs.declared.token.TokenKind.TheVariants.{Key as KeyKind};
+
+use crate::front::{is_key, is_sign};
+use crate::node;
+use scad_ast::{BinOp, Expr, Node, UnOp};
+use scad_fault::Place;
+use scad_lex::{Key, Sign, Token, TokenKind};
+use std::alloc::{AllocError, Global};
+
+/// The binary operator that a sign is.
+fn operator_sign(sign: Sign) -> Option<BinOp>
+    ensures { result ≡ operator_sign sign }
+{
+    match sign {
+        Sign::OrOr => Some(BinOp::Or),
+        Sign::AndAnd => Some(BinOp::And),
+        Sign::Equal => Some(BinOp::Eq),
+        Sign::NotEqual => Some(BinOp::Ne),
+        Sign::Less => Some(BinOp::Lt),
+        Sign::LessEqual => Some(BinOp::Le),
+        Sign::Greater => Some(BinOp::Gt),
+        Sign::GreaterEqual => Some(BinOp::Ge),
+        Sign::Plus => Some(BinOp::Add),
+        Sign::Minus => Some(BinOp::Sub),
+        Sign::Star => Some(BinOp::Mul),
+        Sign::Slash => Some(BinOp::Div),
+        Sign::Percent => Some(BinOp::Rem),
+        _ => None,
+    }
+}
+
+/// The number of lines of binary operators in the grammar.
+pub(crate) const LINES: u8 = 6;
+
+/// The line of an operator in the grammar, from the tightest.
+fn line_of(op: BinOp) -> u8
+    ensures { result ≡ line_of op }
+{
+    match op {
+        BinOp::Or => 5,
+        BinOp::And => 4,
+        BinOp::Eq | BinOp::Ne => 3,
+        BinOp::Lt | BinOp::Le | BinOp::Gt | BinOp::Ge => 2,
+        BinOp::Add | BinOp::Sub => 1,
+        BinOp::Mul | BinOp::Div | BinOp::Rem => 0,
+    }
+}
+
+fn on_line(line: u8, op: Option<BinOp>) -> Option<BinOp>
+    ensures { result ≡ on_line line op }
+{
+    match op {
+        Some(op) => { if line_of(op) == line { Some(op) } else { None } }
+        None => None,
+    }
+}
+
+fn operator_kind(line: u8, kind: &TokenKind) -> Option<BinOp>
+    ensures { result ≡ operator_kind line kind.now }
+{
+    match kind {
+        TokenKind::Sign(sign) => on_line(line, operator_sign(*sign)),
+        TokenKind::Number(_) | TokenKind::Str(_) | TokenKind::Word(_) | TokenKind::Key(_) => None,
+    }
+}
+
+/// The operator of this line with which tokens begin.
+pub(crate) fn first_operator(line: u8, ts: &[Token]) -> Option<BinOp>
+    ensures { result ≡ first_operator line ts.now }
+{
+    match ts {
+        [] => None,
+        [token, ..] => operator_kind(line, &token.kind),
+    }
+}
+
+/// The prefix operator with which tokens begin.
+pub(crate) fn first_prefix(ts: &[Token]) -> Option<UnOp>
+    ensures { result ≡ first_prefix ts.now }
+{
+    if is_sign(Sign::Bang, ts) {
+        Some(UnOp::Not)
+    } else if is_sign(Sign::Plus, ts) {
+        Some(UnOp::Plus)
+    } else if is_sign(Sign::Minus, ts) {
+        Some(UnOp::Minus)
+    } else {
+        None
+    }
+}
+
+/// A keyword that stands with arguments before an expression.
+#[derive(Clone, Copy, Debug, PartialEq, Eq)]
+pub(crate) enum Binder {
+    Let,
+    Assert,
+    Echo,
+}
+
+/// The keyword before an expression with which tokens begin.
+pub(crate) fn first_binder(ts: &[Token]) -> Option<Binder>
+    ensures { result ≡ first_binder ts.now }
+{
+    if is_key(Key::Let, ts) {
+        Some(Binder::Let)
+    } else if is_key(Key::Assert, ts) {
+        Some(Binder::Assert)
+    } else if is_key(Key::Echo, ts) {
+        Some(Binder::Echo)
+    } else {
+        None
+    }
+}
+
+/// The constant that a keyword is.
+fn constant(at: Place, key: Key) -> Option<Expr>
+    ensures { option_map expression_of result ≡ literal_kind at (KeyKind key) }
+{
+    match key {
+        Key::True => Some(Expr {
+            at,
+            node: Node::Bool(true),
+        }),
+        Key::False => Some(Expr {
+            at,
+            node: Node::Bool(false),
+        }),
+        Key::Undef => Some(Expr {
+            at,
+            node: Node::Undef,
+        }),
+        _ => None,
+    }
+}
+
+fn literal_kind(alloc: Global, at: Place, kind: &TokenKind) -> Result<Option<Expr>, AllocError>
+    ensures { IfOk result (λ e. option_map expression_of e ≡ literal_kind at kind.now) }
+{
+    match kind {
+        TokenKind::Number(number) => Ok(Some(node::number(at, *number))),
+        TokenKind::Str(chars) => Ok(Some(node::string(alloc, at, chars)?)),
+        TokenKind::Key(key) => Ok(constant(at, *key)),
+        TokenKind::Word(_) | TokenKind::Sign(_) => Ok(None),
+    }
+}
+
+/// The number, string or constant with which tokens begin.
+pub(crate) fn first_literal(alloc: Global, ts: &[Token]) -> Result<Option<Expr>, AllocError>
+    ensures { IfOk result (λ e. option_map expression_of e ≡ first_literal ts.now) }
+{
+    match ts {
+        [] => Ok(None),
+        [token, ..] => literal_kind(alloc, token.at, &token.kind),
+    }
+}
