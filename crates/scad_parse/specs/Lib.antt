@@ -1,0 +1,11 @@
+pub mod Behind
+pub mod Grammar
+pub mod Lists
+pub mod Machine
+pub mod Move
+pub mod Promises
+pub mod State
+pub mod StatementSteps
+pub mod Statements
+pub mod Steps
+pub mod Tokens
