@@ -1,12 +1,12 @@
 -- Worked examples of the definitions.
-use Rattle.std.proofs.Common.{◌≡◌, ℤ, pos, negsuc, Bool, true, List, [], ◌∷◌, ◌++◌, codes, Ok, Err, refl}
+use Rattle.std.proofs.Common.{◌≡◌, ℤ, pos, negsuc, Bool, true, [], ◌∷◌, codes, Ok, Err, refl}
 use Rattle.scad_num.specs.Number.{number_of, quotient_of}
 use Rattle.scad_num.specs.Rounding.{half_up, half_away}
 use Rattle.scad_num.specs.Root.{root, root_in_steps, root_after, sqrt_of}
 use Rattle.scad_cos.specs.Cosine.{cosines, first_quarter, half_turn, full_turn, cosine, sine}
-use Rattle.scad_value.specs.Datum.{Datum, undef, boolean, number, string, vector, range, Elements, no_elements, element}
+use Rattle.scad_value.specs.Datum.{Datum, undef, boolean, number, string, vector, Elements, no_elements, element}
 use Rattle.scad_builtin.specs.declared.fault.BuiltinFault.TheVariants.{BadArgument, ZeroDivisor, NumberRange, UnknownFunction, LeftOut}
-use Rattle.scad_builtin.specs.declared.function.Function.TheVariants.{Cos, Tan, Sin, Min, Chr, Ord, Norm, Cross, Concat, Floor, IsList}
+use Rattle.scad_builtin.specs.declared.function.Function.TheVariants.{Cos, Tan, Min, Chr, Ord, Norm, Cross, Concat, Floor}
 use Rattle.scad_builtin.specs.Names.{numbered_name, meaning_of}
 use Rattle.scad_builtin.specs.Builtin.{of_number, of_test, value_of, builtin}
 

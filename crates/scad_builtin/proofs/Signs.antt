@@ -1,11 +1,11 @@
 -- Squares and their sums aren't negative.
-use Rattle.std.proofs.Common.{◌≡◌, ℕ, ◌*◌, Bool, true, false, List, Result, Ok, Err, IfOk, cond, ℤ, pos, negsuc, suc, ◌+ℤ◌, ◌*ℤ◌, ◌≤ℤ◌, unsigned_abs, refl, subst, sym, arith, rules}
+use Rattle.std.proofs.Common.{◌≡◌, ℕ, ◌*◌, Bool, true, false, Result, Ok, Err, IfOk, ℤ, pos, negsuc, suc, ◌+ℤ◌, ◌*ℤ◌, ◌≤ℤ◌, unsigned_abs, subst, sym, arith, rules}
 use Rattle.std.specs.Prelude.{nat_le, if◌then◌else◌}
 use Rattle.std.proofs.lemmas.Int.{ints}
 use Rattle.scad_num.specs.declared.fault.NumFault.{NumFault}
 use Rattle.scad_num.specs.declared.fault.NumFault.TheVariants.{Range}
 use Rattle.scad_num.specs.Number.{number_of, sum_of, product_of, one, most}
-use Rattle.scad_num.specs.Rounding.{half_away, half_up}
+use Rattle.scad_num.specs.Rounding.{half_away}
 
 chosen_sign : (b : Bool) (z : ℤ) → pos 0 ≤ℤ z → IfOk (if b then Ok z else Err Range) (λ s. pos 0 ≤ℤ s)
 chosen_sign true z h = h

@@ -1,10 +1,10 @@
 -- What the arguments of a function are, and the numbers and elements in them.
-use Rattle.std.specs.Prelude.{ℕ, suc, ◌+◌, Bool, true, false, ◌&&◌, List, [], ◌∷◌, ℤ, pos, Result, Ok, Err, if◌then◌else◌}
-use Rattle.scad_value.specs.Datum.{Datum, undef, boolean, number, string, vector, range, Elements, no_elements, element}
+use Rattle.std.specs.Prelude.{ℕ, List, [], ◌∷◌, ℤ, Result, Ok, Err, if◌then◌else◌}
+use Rattle.scad_value.specs.Datum.{Datum, number, string, vector, Elements, no_elements, element}
+use Rattle.scad_value.specs.Products.{all_numbers, amount}
 use Rattle.scad_builtin.specs.declared.fault.BuiltinFault.{BuiltinFault}
 use Rattle.scad_builtin.specs.declared.fault.BuiltinFault.TheVariants.{BadArgument}
 use Rattle.scad_builtin.specs.Fault.{and_then}
-use Rattle.scad_builtin.specs.Kinds.{is_number}
 
 -- the first argument
 abbrev pub first_of : Elements → Result Datum BuiltinFault
@@ -26,19 +26,10 @@ abbrev pub as_string : Datum → Result (List ℕ) BuiltinFault
 as_string (string chars) = Ok chars
 as_string _ = Err BadArgument
 
-abbrev pub all_numbers : Elements → Bool
-all_numbers no_elements = true
-all_numbers (element d more) = is_number d && all_numbers more
-
--- the number that a value is, 0 for one of another kind
-abbrev pub number_or_zero : Datum → ℤ
-number_or_zero (number z) = z
-number_or_zero _ = pos 0
-
--- the numbers of elements that all are numbers
+-- the numbers of elements that all are numbers (`amount` takes 0 for a value of another kind)
 abbrev pub numbers : Elements → List ℤ
 numbers no_elements = []
-numbers (element d more) = number_or_zero d ∷ numbers more
+numbers (element d more) = amount d ∷ numbers more
 
 -- the elements, where all are numbers
 abbrev pub as_numbers : Elements → Result (List ℤ) BuiltinFault
@@ -64,8 +55,3 @@ first_numbers args = and_then (first_of args) as_number_vector
 -- the same of the second one
 abbrev pub second_numbers : Elements → Result (List ℤ) BuiltinFault
 second_numbers args = and_then (second_of args) as_number_vector
-
--- the number of elements
-abbrev pub count : Elements → ℕ
-count no_elements = 0
-count (element d more) = count more + 1

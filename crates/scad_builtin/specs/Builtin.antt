@@ -4,6 +4,7 @@ use Rattle.std.specs.Prelude.{ℕ, ℤ, Bool, List, Result, Ok, Err}
 use Rattle.std.specs.Int.{int_min, int_max}
 use Rattle.scad_num.specs.Number.{floor_of, ceil_of, round_of}
 use Rattle.scad_value.specs.Datum.{Datum, boolean, number, string, vector, Elements}
+use Rattle.scad_value.specs.Kinds.{is_number, is_vector}
 use Rattle.scad_builtin.specs.declared.fault.BuiltinFault.{BuiltinFault}
 use Rattle.scad_builtin.specs.declared.fault.BuiltinFault.TheVariants.{UnknownFunction}
 use Rattle.scad_builtin.specs.declared.fault.BuiltinFault.TheVariants.{LeftOut as IsLeftOut}
@@ -15,7 +16,7 @@ use Rattle.scad_builtin.specs.Fault.{and_then}
 use Rattle.scad_builtin.specs.Names.{meaning_of}
 use Rattle.scad_builtin.specs.Numbers.{size_of, sign_of, root_of, sine_of, cosine_of, tangent_of, cut_of, chosen, norm_of}
 use Rattle.scad_builtin.specs.Arguments.{first_of, first_number, first_string, first_numbers, second_numbers, as_numbers}
-use Rattle.scad_builtin.specs.Kinds.{is_undef, is_boolean, is_number, is_string, is_vector}
+use Rattle.scad_builtin.specs.Kinds.{is_undef, is_boolean, is_string}
 use Rattle.scad_builtin.specs.Vectors.{choices, length_of, joined, cross_of}
 use Rattle.scad_builtin.specs.Strings.{joined_texts, character_of, first_code}
 

@@ -3,6 +3,7 @@ pub mod Arguments
 pub mod Builtin
 pub mod Fault
 pub mod Kinds
+pub mod Memory
 pub mod Names
 pub mod Numbers
 pub mod Strings

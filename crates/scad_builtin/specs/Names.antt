@@ -3,7 +3,6 @@
 use Rattle.std.specs.Prelude.{ℕ, List, [], ◌∷◌, ◌==◌, if◌then◌else◌, codes}
 use Rattle.std.specs.Option.{option_map_or}
 use Rattle.scad_table.specs.Table.{id_of}
-use Rattle.scad_builtin.specs.declared.function.Function.{Function}
 use Rattle.scad_builtin.specs.declared.function.Function.TheVariants.{Abs, Sign, Floor, Ceil, Round, Sqrt, Sin, Cos, Tan, Min, Max, Len, Concat, Str, Chr, Ord, Norm, Cross, IsUndef, IsBool, IsNum, IsString, IsList}
 use Rattle.scad_builtin.specs.declared.function.Name.{Name}
 use Rattle.scad_builtin.specs.declared.function.Name.TheVariants.{Known, LeftOut, Unknown}

@@ -1,11 +1,11 @@
 -- Functions of vectors (OpenSCAD User Manual, "Mathematical Functions", "List Concatenation").
 use Rattle.std.specs.Prelude.{ℕ, Bool, ◌&&◌, List, length, ◌==◌, slice_index_or, ℤ, pos, Result, Ok, Err, if◌then◌else◌}
 use Rattle.scad_value.specs.Datum.{Datum, undef, number, string, vector, Elements, no_elements, element}
+use Rattle.scad_value.specs.Products.{count}
 use Rattle.scad_builtin.specs.declared.fault.BuiltinFault.{BuiltinFault}
 use Rattle.scad_builtin.specs.declared.fault.BuiltinFault.TheVariants.{BadArgument}
 use Rattle.scad_builtin.specs.Fault.{judged, and_then}
 use Rattle.scad_builtin.specs.Numbers.{minor_of, whole_number}
-use Rattle.scad_builtin.specs.Arguments.{count}
 
 -- what `min` and `max` choose from: the elements of the first argument, where it is a vector, else the arguments
 abbrev pub choices_from : Datum → Elements → Elements

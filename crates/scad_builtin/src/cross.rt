@@ -6,7 +6,7 @@ ghost use Rattle.scad_builtin.specs.Answer.{Refuses};
 ghost use Rattle.scad_builtin.specs.Arguments.{numbers};
 ghost use Rattle.scad_builtin.specs.Vectors.{cross_entry, cross_of, triple};
 
-use crate::argument::number_or_zero;
+use crate::argument::amount;
 use crate::fault::BuiltinFault;
 use crate::number::minor;
 use scad_num::Num;
@@ -19,7 +19,7 @@ fn number_at(values: &[Value], k: usize) -> Num
     requires { k < length values.now }
     ensures { result ≡ slice_index_or (numbers (elements values.now)) k (pos 0) }
 {
-    number_or_zero(&values[k])
+    amount(&values[k])
 }
 
 /// `a[i] * b[j] - a[j] * b[i]`

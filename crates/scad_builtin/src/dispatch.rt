@@ -4,6 +4,8 @@ ghost use Rattle.std.specs.Prelude.{◌≡◌, Ok, IfOk, IfErr};
 ghost use Rattle.scad_value.specs.View.{datum_of, elements};
 ghost use Rattle.scad_builtin.specs.Answer.{Refuses};
 ghost use Rattle.scad_builtin.specs.Builtin.{value_of, builtin};
+ghost use Rattle.scad_builtin.specs.Memory.{makes_list, names_maker, TakesMemoryFor};
+ghost use Rattle.scad_builtin.specs.Names.{meaning_of};
 
 use crate::argument::{first, first_number, first_numbers, first_string, numbers, second_numbers};
 use crate::concat::concat;
@@ -24,6 +26,7 @@ use std::alloc::Global;
 fn value_of(alloc: Global, function: Function, args: &[Value]) -> Result<Value, BuiltinFault>
     ensures ok { IfOk result (λ v. value_of function (elements args.now) ≡ Ok (datum_of v)) }
     ensures err { IfErr result (Refuses (value_of function (elements args.now))) }
+    ensures memory { TakesMemoryFor (makes_list function) result }
 {
     match function {
         Function::Abs => Ok(Value::Number(size(first_number(args)?))),
@@ -56,6 +59,7 @@ fn value_of(alloc: Global, function: Function, args: &[Value]) -> Result<Value, 
 pub fn call(alloc: Global, name: &[u8], args: &[Value]) -> Result<Value, BuiltinFault>
     ensures ok { IfOk result (λ v. builtin name.now (elements args.now) ≡ Ok (datum_of v)) }
     ensures err { IfErr result (Refuses (builtin name.now (elements args.now))) }
+    ensures memory { TakesMemoryFor (names_maker (meaning_of name.now)) result }
 {
     match meaning_of(name) {
         Name::Known(function) => value_of(alloc, function, args),

@@ -3,11 +3,12 @@
 ghost use Rattle.std.specs.Prelude.{◌≡◌, fold};
 ghost use Rattle.std.specs.Int.{int_min, int_max};
 ghost use Rattle.scad_value.specs.View.{datum_of, elements};
+ghost use Rattle.scad_builtin.specs.Memory.{TakesNone};
 ghost use Rattle.scad_builtin.specs.Arguments.{numbers};
 ghost use Rattle.scad_builtin.specs.Numbers.{chosen};
 ghost use Rattle.scad_builtin.specs.Vectors.{choices_from, choices};
 
-use crate::argument::number_or_zero;
+use crate::argument::amount;
 use crate::fault::BuiltinFault;
 use scad_num::Num;
 use scad_value::Value;
@@ -51,7 +52,7 @@ fn least_onto(first: Num, more: &[Value]) -> Num
 {
     let mut least = first;
     for value in more {
-        least = lesser(least, number_or_zero(value));
+        least = lesser(least, amount(value));
     }
     least
 }
@@ -62,25 +63,27 @@ fn greatest_onto(first: Num, more: &[Value]) -> Num
 {
     let mut greatest = first;
     for value in more {
-        greatest = greater(greatest, number_or_zero(value));
+        greatest = greater(greatest, amount(value));
     }
     greatest
 }
 
 pub(crate) fn least(values: &[Value]) -> Result<Num, BuiltinFault>
-    ensures { result ≡ chosen int_min (numbers (elements values.now)) }
+    ensures value { result ≡ chosen int_min (numbers (elements values.now)) }
+    ensures memory { TakesNone result }
 {
     match values {
-        [first, more @ ..] => Ok(least_onto(number_or_zero(first), more)),
+        [first, more @ ..] => Ok(least_onto(amount(first), more)),
         [] => Err(BuiltinFault::BadArgument),
     }
 }
 
 pub(crate) fn greatest(values: &[Value]) -> Result<Num, BuiltinFault>
-    ensures { result ≡ chosen int_max (numbers (elements values.now)) }
+    ensures value { result ≡ chosen int_max (numbers (elements values.now)) }
+    ensures memory { TakesNone result }
 {
     match values {
-        [first, more @ ..] => Ok(greatest_onto(number_or_zero(first), more)),
+        [first, more @ ..] => Ok(greatest_onto(amount(first), more)),
         [] => Err(BuiltinFault::BadArgument),
     }
 }

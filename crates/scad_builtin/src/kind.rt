@@ -2,7 +2,8 @@
 
 ghost use Rattle.std.specs.Prelude.{◌≡◌};
 ghost use Rattle.scad_value.specs.View.{datum_of};
-ghost use Rattle.scad_builtin.specs.Kinds.{is_undef, is_boolean, is_number, is_string, is_vector};
+ghost use Rattle.scad_value.specs.Kinds.{is_number, is_vector};
+ghost use Rattle.scad_builtin.specs.Kinds.{is_undef, is_boolean, is_string};
 
 use scad_value::Value;
 

@@ -3,10 +3,11 @@
 ghost use Rattle.std.specs.Prelude.{◌≡◌, ◌≤ℤ◌, pos, IfOk};
 ghost use Rattle.scad_num.specs.Number.{sum_of, product_of};
 ghost use Rattle.scad_value.specs.View.{elements};
+ghost use Rattle.scad_builtin.specs.Memory.{TakesNone};
 ghost use Rattle.scad_builtin.specs.Arguments.{numbers};
 ghost use Rattle.scad_builtin.specs.Numbers.{squares_onto, norm_of};
 
-use crate::argument::number_or_zero;
+use crate::argument::amount;
 use crate::fault::BuiltinFault;
 use scad_num::{Num, NumFault};
 use scad_value::Value;
@@ -34,7 +35,7 @@ fn squares(values: &[Value]) -> Result<Num, NumFault>
 {
     let mut total = Num::within(0);
     for value in values {
-        let square = square(number_or_zero(value))?;
+        let square = square(amount(value))?;
         total = plus(total, square)?;
     }
     Ok(total)
@@ -42,7 +43,8 @@ fn squares(values: &[Value]) -> Result<Num, NumFault>
 
 /// The length of a vector of numbers.
 pub(crate) fn norm(values: &[Value]) -> Result<Num, BuiltinFault>
-    ensures { result ≡ norm_of (numbers (elements values.now)) }
+    ensures value { result ≡ norm_of (numbers (elements values.now)) }
+    ensures memory { TakesNone result }
 {
     Ok(squares(values)?.sqrt())
 }

@@ -2,6 +2,7 @@
 
 ghost use Rattle.std.specs.Prelude.{◌≡◌, ◌≤◌, unsigned_abs};
 ghost use Rattle.scad_num.specs.Number.{most};
+ghost use Rattle.scad_builtin.specs.Memory.{TakesNone};
 ghost use Rattle.scad_builtin.specs.Numbers.{size_of, sign_of, root_of, angle_of, sine_of, cosine_of, tangent_of, cut_of};
 ghost use Rattle.scad_builtin.specs.Numbers.{minor_of};
 
@@ -25,7 +26,8 @@ pub(crate) fn sign(a: Num) -> Num
 }
 
 pub(crate) fn root(a: Num) -> Result<Num, BuiltinFault>
-    ensures { result ≡ root_of a }
+    ensures value { result ≡ root_of a }
+    ensures memory { TakesNone result }
 {
     if a.millionths() < 0 {
         return Err(BuiltinFault::BadArgument);
@@ -54,7 +56,8 @@ pub(crate) fn cosine(degrees: Num) -> Num
 }
 
 pub(crate) fn tangent(degrees: Num) -> Result<Num, BuiltinFault>
-    ensures { result ≡ tangent_of degrees }
+    ensures value { result ≡ tangent_of degrees }
+    ensures memory { TakesNone result }
 {
     Ok(sine(degrees).div(cosine(degrees))?)
 }

@@ -1,24 +1,23 @@
 -- Tokens go on behind a statement, a parameter or an argument as the move there does.
-use Rattle.std.proofs.Common.{◌≡◌, ℕ, Bool, true, false, List, [], ◌∷◌, Option, Some, None, refl, ap, sym, ◌∙◌, subst}
+use Rattle.std.proofs.Common.{◌≡◌, ℕ, Bool, true, false, List, ◌∷◌, Option, Some, None, refl, subst}
 use Rattle.scad_fault.specs.declared.place.Place.{Place}
 use Rattle.scad_lex.specs.declared.token.Token.{Token}
 use Rattle.scad_lex.specs.declared.token.TokenKind.{TokenKind}
 use Rattle.scad_lex.specs.declared.token.TokenKind.TheVariants.{Number, Str, Word, Sign, Key}
-use Rattle.scad_lex.specs.declared.token.Sign.TheVariants.{OpenRound, CloseRound, OpenCurly, CloseCurly, Semicolon, Comma, Star, Percent, Hash, Bang}
+use Rattle.scad_lex.specs.declared.token.Sign.TheVariants.{CloseRound, OpenCurly, CloseCurly, Semicolon, Comma, Star, Percent, Hash, Bang}
 use Rattle.scad_lex.specs.declared.token.Key.TheVariants.{Module, Function, If, Else, For, Let, Echo, Assert, Include, Use}
 use Rattle.scad_ast.specs.Tree.{Expression, Items, no_items, Parameter, module_of, call_of, choice}
-use Rattle.scad_parse.specs.Tokens.{sign, key, word, word_of, is_key}
+use Rattle.scad_parse.specs.Tokens.{sign, key, word, word_of}
 use Rattle.scad_parse.specs.Lists.{with_item, with_statement, Marks, no_marks, starred, percented, hashed}
-use Rattle.scad_parse.specs.Grammar.{MoreParams, comma_param, last_param, Params, no_params}
+use Rattle.scad_parse.specs.Grammar.{comma_param, last_param, no_params}
 use Rattle.scad_parse.specs.Statements.{Callee, call_word, call_for, call_let, call_echo, call_assert, nothing, a_group, inst, a_module, a_function, no_statement, statement, star_mark, percent_mark, hash_mark, a_call, a_choice, no_otherwise, otherwise, no_child, children, one_child}
 use Rattle.scad_parse.specs.Behind.{a_module as the_module, a_function as the_function, BehindItems, in_program, in_group, module_body, child_of, held_child, other_child, BehindParameters, defined, of_statement}
-use Rattle.scad_parse.specs.State.{State, have_items, want_marked, want_choice, want_arguments, want_defined, want_statement, have_start, want_child, want_assign, in_parameters, after_parameter}
-use Rattle.scad_parse.specs.Move.{Move, go, left_out, stuck}
-use Rattle.scad_parse.specs.Steps.{only, end_parameters, after_parameter_step}
+use Rattle.scad_parse.specs.State.{have_items, want_marked, want_choice, want_arguments, want_defined, want_statement, have_start, want_child, want_assign, in_parameters, after_parameter}
+use Rattle.scad_parse.specs.Steps.{end_parameters, after_parameter_step}
 use Rattle.scad_parse.specs.StatementSteps.{callee, callee_kind, call_step, marked_step, first_step, definition_step, start_step, statement_step, child_step, after_items}
 use Rattle.scad_parse.proofs.Goes.{Goes, has_items, wants_marked, wants_choice, wants_arguments, wants_defined, wants_parameters, wants_statement, has_start, wants_child, wants_assign, is_in_parameters, is_after_parameter, ItemsGoes, goes_program, goes_group, goes_module, goes_child, goes_held, goes_other, ParametersGoes, goes_defined, goes_function, goes_choice, goes_statement}
 use Rattle.scad_parse.proofs.Asked.{same_some, none_is_no_some}
-use Rattle.scad_parse.proofs.Tests.{MoveGoes, by_test, by_sign, by_key, by_only, by_word}
+use Rattle.scad_parse.proofs.Tests.{MoveGoes, by_sign, by_key, by_only, by_word}
 
 -- a call begins
 callee_is : (kind : TokenKind) (at : Place) (w : List ℕ) → callee_kind kind ≡ Some w →
@@ -174,7 +173,7 @@ by_items a (child_of at n w all outer k) t ts p m =
 by_items a (held_child at n e outer k) t ts p m =
     by_key Else t _ _ ts p (λ (u : Token). ItemsGoes a (held_child at n e outer k) (u ∷ ts) p) from_else
     (λ h x. goes_held (no_otherwise h)
-        (by_items (with_statement n outer (choice at n.percent n.hash e a no_items)) k t ts p x)) m
+    (by_items (with_statement n outer (choice at n.percent n.hash e a no_items)) k t ts p x)) m
 by_items a (other_child at n e held outer k) t ts p m =
     goes_other (by_items (with_statement n outer (choice at n.percent n.hash e held a)) k t ts p m)
 

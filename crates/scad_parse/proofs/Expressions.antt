@@ -1,16 +1,16 @@
 -- Each derivation of the grammar of expressions runs: the reader wants the part before its tokens, and has its tree
 -- behind them.
-use Rattle.std.proofs.Common.{◌≡◌, ℕ, zero, suc, Bool, true, false, List, [], ◌∷◌, Option, Some, None, refl, ap, sym, ◌∙◌}
+use Rattle.std.proofs.Common.{◌≡◌, ℕ, suc, false, List, ◌∷◌, Some, None, refl, ap, sym, ◌∙◌}
 use Rattle.scad_fault.specs.declared.place.Place.{Place}
 use Rattle.scad_lex.specs.declared.token.Token.{Token}
 use Rattle.scad_ast.specs.declared.operator.UnOp.TheVariants.{Not, Plus as UnaryPlus, Minus as UnaryMinus}
-use Rattle.scad_ast.specs.Tree.{Expression, name, unary, binary, choose, let_in, assert_in, echo_in, Arguments, Elements, no_elements, Element, item, each, for_each, for_loop, let_element, if_element, if_else}
+use Rattle.scad_ast.specs.Tree.{Expression, unary, binary, choose, let_in, assert_in, echo_in, Arguments, Elements, no_elements, Element, item, each, for_each, for_loop, let_element, if_else}
 use Rattle.scad_lex.specs.declared.token.Sign.TheVariants.{CloseSquare, Comma}
 use Rattle.scad_parse.specs.Tokens.{sign}
 use Rattle.scad_parse.specs.Lists.{with_argument, with_element, let_of}
 use Rattle.scad_parse.specs.Grammar.{Expr, let_expr, assert_expr, echo_expr, test, Choice, no_choice, choice, Operand, tightest, line, Links, no_link, link, Unary, not_unary, plus_unary, minus_unary, post, Posts, no_post, an_index, a_member, Prim, a_number, a_string, a_true, a_false, an_undef, a_name, a_call, a_group, a_range, a_vector, RangeEnd, two_parts, three_parts, Args, no_args, unnamed, named, MoreArgs, last_arg, comma_arg, Elems, no_elems, elems, MoreElems, last_elem, comma_elem, Elem, comp, plain, Comp, a_for, a_loop, an_each, let_comp, an_if, Else, no_else, an_else, begins_named}
 use Rattle.scad_parse.specs.Behind.{letting, asserting, echoing, BehindOperand, prefixed, first_of, right_of, tested, BehindExpression, in_round, in_index, chosen, other, body_of, argument_of, plain_item, range_second, range_third, loop_test, element_test, BehindElement, in_vector, each_of, for_of, loop_of, let_body, held_element, other_element, BehindArguments, of_call, of_keyed, of_for, of_steps, of_let}
-use Rattle.scad_parse.specs.State.{State, want_expression, have_expression, want_unary, want_operand, opened, have_operand, have_name, have_post, have_links, in_arguments, after_argument, have_arguments, want_element, have_element, in_elements, after_one, have_elements}
+use Rattle.scad_parse.specs.State.{want_expression, have_expression, want_unary, want_operand, have_operand, have_post, have_links, in_arguments, after_argument, have_arguments, want_element, have_element, in_elements, after_one, have_elements}
 use Rattle.scad_parse.specs.Steps.{prim_step, unary_step, expression_step, element_step, end_arguments, after_argument_step, arguments_step, after_one_step, member_step, after_element, after_expression, tested_step, after_operand, post_step, name_step, word_argument}
 use Rattle.scad_parse.specs.Machine.{step, finish, run}
 use Rattle.scad_parse.proofs.Runs.{settle, ended_links, linked, ended_test, ended_posts, ended_name, ended_arguments, ended_argument, ended_if}
@@ -32,7 +32,7 @@ more_elements (comma_elem {p = p} {ts = ts} d) so_far el h at k =
     ap (λ x. run (after_one at x k) (sign Comma p ∷ ts)) (sym h)
 
 -- a `let` whose body is a comprehension is an element
-comp_let : {ts us : List Token} {el : Element} → Comp ts us el → (at : Place) (all : Arguments) → let_of at all el ≡ let_element at all el
+pub comp_let : {ts us : List Token} {el : Element} → Comp ts us el → (at : Place) (all : Arguments) → let_of at all el ≡ let_element at all el
 comp_let (a_for d b) at all = refl
 comp_let (a_loop d e s b) at all = refl
 comp_let (an_each d) at all = refl
@@ -52,6 +52,7 @@ settle_item e k ts = settle (have_expression e (plain_item k)) (have_element (it
 
 mutual
   unfolding run step finish prim_step unary_step expression_step element_step end_arguments after_argument_step arguments_step after_one_step member_step after_element after_expression tested_step after_operand post_step name_step word_argument
+
   pub runs_expr : {ts us : List Token} {e : Expression} → Expr ts us e → (k : BehindExpression) →
       run (want_expression k) ts ≡ run (have_expression e k) us
   runs_expr (let_expr {at = at} {vs = vs} {all = all} {e = e} d b) k =

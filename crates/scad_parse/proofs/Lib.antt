@@ -1,10 +1,19 @@
 mod Asked
+mod Backward
 mod Ends
 mod Expressions
+mod Faults
+mod Follow
 mod Goes
+mod Loose
 mod Openings
+mod Prefix
 mod Rows
 mod Runs
+mod Sound
+mod Starts
 mod Statements
 mod Tests
+mod Tight
 pub mod Unique
+mod Viable

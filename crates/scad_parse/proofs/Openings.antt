@@ -1,5 +1,5 @@
 -- The tokens with which an operand begins, and what they do where more than an operand may begin.
-use Rattle.std.proofs.Common.{◌≡◌, ℕ, ℤ, Bool, true, false, List, [], ◌∷◌, Option, Some, None, refl}
+use Rattle.std.proofs.Common.{◌≡◌, ℕ, ℤ, false, List, ◌∷◌, None, refl}
 use Rattle.scad_fault.specs.declared.place.Place.{Place}
 use Rattle.scad_lex.specs.declared.token.Token.{Token}
 use Rattle.scad_lex.specs.declared.token.Sign.TheVariants.{OpenRound, OpenSquare, Plus, Minus, Bang}
@@ -8,7 +8,7 @@ use Rattle.scad_ast.specs.Tree.{Expression, Arguments, Elements, Element}
 use Rattle.scad_parse.specs.Tokens.{sign, key, word, numeral, quoted}
 use Rattle.scad_parse.specs.Grammar.{begins_named, Expr, let_expr, assert_expr, echo_expr, test, Operand, tightest, line, Unary, not_unary, plus_unary, minus_unary, post, Prim, a_number, a_string, a_true, a_false, an_undef, a_name, a_call, a_group, a_range, a_vector, Elem, comp, plain, Comp, a_for, a_loop, an_each, let_comp, an_if}
 use Rattle.scad_parse.specs.Behind.{BehindOperand, tested, BehindExpression, argument_of, plain_item, in_vector, BehindArguments, BehindElement}
-use Rattle.scad_parse.specs.State.{State, want_expression, want_unary, opened, in_arguments, want_element, in_elements}
+use Rattle.scad_parse.specs.State.{want_expression, want_unary, opened, in_arguments, want_element, in_elements}
 use Rattle.scad_parse.specs.Steps.{prim_step, unary_step, expression_step, element_step, arguments_step}
 use Rattle.scad_parse.specs.Machine.{step, run}
 use Rattle.scad_parse.proofs.Runs.{ended_word}

@@ -1,13 +1,13 @@
 -- Worked rows: what tokens are, by computation.
-use Rattle.std.proofs.Common.{◌≡◌, ℕ, ℤ, pos, negsuc, Bool, true, false, List, [], ◌∷◌, Option, Some, None, Result, Ok, Err, refl, codes}
+use Rattle.std.proofs.Common.{◌≡◌, ℕ, pos, true, false, [], ◌∷◌, Some, None, Ok, Err, refl, codes}
 use Rattle.scad_fault.specs.declared.place.Place.{Place}
 use Rattle.scad_lex.specs.declared.token.Sign.TheVariants as Signs
 use Rattle.scad_lex.specs.declared.token.Key.TheVariants as Keys
-use Rattle.scad_ast.specs.declared.operator.UnOp.TheVariants.{Not, Plus as UnaryPlus, Minus as UnaryMinus}
+use Rattle.scad_ast.specs.declared.operator.UnOp.TheVariants.{Not, Minus as UnaryMinus}
 use Rattle.scad_ast.specs.declared.operator.BinOp.TheVariants as Ops
-use Rattle.scad_ast.specs.Tree.{Expression, undef, boolean, number, string, name, vector, range, stepped, unary, binary, choose, index, member, call, let_in, assert_in, echo_in, no_arguments, argument, no_elements, element, item, each, for_each, for_loop, let_element, if_element, if_else, no_items, entry, assignment, module_of, function_of, call_of, choice}
-use Rattle.scad_parse.specs.Tokens.{sign, key, word, numeral, quoted}
-use Rattle.scad_parse.specs.Machine.{outcome, outcome_of, step, finish, judge_move, judge_end, syntax_at, nesting_at, left_out_at}
+use Rattle.scad_ast.specs.Tree.{number, name, vector, range, stepped, unary, binary, choose, index, member, call, let_in, assert_in, echo_in, no_arguments, argument, no_elements, element, item, each, for_each, for_loop, let_element, if_else, no_items, entry, assignment, module_of, function_of, call_of, choice}
+use Rattle.scad_parse.specs.Tokens.{sign, key, word, numeral}
+use Rattle.scad_parse.specs.Machine.{outcome, outcome_of, step, finish, judge_move, judge_end, syntax_at, left_out_at}
 use Rattle.scad_parse.specs.Steps.{prim_step, unary_step, expression_step, element_step, end_arguments, after_argument_step, arguments_step, end_parameters, after_parameter_step, after_one_step, member_step, after_element, after_expression, tested_step, after_operand, post_step, name_step, word_argument}
 use Rattle.scad_parse.specs.StatementSteps.{marked_step, first_step, definition_step, statement_step, word_statement, child_step, after_items, finish_items, parameters_step}
 
@@ -188,4 +188,3 @@ row_33 = refl
 row_34 : outcome_of (word (codes "x") (at 1 1) ∷ sign Signs.Assign (at 1 2) ∷ sign Signs.OpenRound (at 1 3) ∷ numeral (pos 1000000) (at 1 4) ∷ sign Signs.Semicolon (at 1 5) ∷ []) (at 1 6) ≡ Err (syntax_at (at 1 5))
 unfolding outcome step finish judge_move judge_end prim_step unary_step expression_step element_step end_arguments after_argument_step arguments_step end_parameters after_parameter_step after_one_step member_step after_element after_expression tested_step after_operand post_step name_step word_argument marked_step first_step definition_step statement_step word_statement child_step after_items finish_items parameters_step
 row_34 = refl
-

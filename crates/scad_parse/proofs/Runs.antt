@@ -1,11 +1,11 @@
 -- Runs from states at which each token does the same, and where a part that could go on has ended.
-use Rattle.std.proofs.Common.{◌≡◌, ℕ, zero, suc, Bool, true, false, List, [], ◌∷◌, Option, Some, None, refl, ap, ◌∙◌, sym, if◌then◌else◌}
+use Rattle.std.proofs.Common.{◌≡◌, ℕ, suc, Bool, true, false, List, [], ◌∷◌, Option, Some, None, refl, ap, ◌∙◌, sym, if◌then◌else◌}
 use Rattle.scad_fault.specs.declared.place.Place.{Place}
 use Rattle.scad_lex.specs.declared.token.Token.{Token}
 use Rattle.scad_lex.specs.declared.token.Sign.TheVariants.{OpenRound, OpenSquare, Question, Assign, Caret, Dot}
 use Rattle.scad_lex.specs.declared.token.Key.TheVariants.{Else}
 use Rattle.scad_ast.specs.Tree.{Expression, name, Arguments, Element, if_element, Parameter}
-use Rattle.scad_parse.specs.Tokens.{is_sign, begins_with, begins_with_key, first_operator}
+use Rattle.scad_parse.specs.Tokens.{begins_with, begins_with_key, first_operator}
 use Rattle.scad_parse.specs.Lists.{with_parameter}
 use Rattle.scad_lex.specs.declared.token.TokenKind.{TokenKind}
 use Rattle.scad_lex.specs.declared.token.TokenKind.TheVariants.{Sign}
@@ -17,16 +17,16 @@ use Rattle.scad_parse.specs.Behind.{BehindOperand, right_of, tested, BehindExpre
 use Rattle.scad_ast.specs.Tree.{Items}
 use Rattle.scad_parse.specs.Move.{Move, go, left_out, stuck}
 use Rattle.scad_parse.specs.State.{State, want_operand, have_operand, have_expression, have_name, have_post, have_links, have_word, opened, in_arguments, have_arguments, after_argument, have_element, have_parameter, after_parameter}
-use Rattle.scad_parse.specs.Steps.{link_step, name_step, word_argument, post_step, after_operand, tested_step, arguments_step, after_argument_step, after_element, after_parameter_step, end_arguments}
+use Rattle.scad_parse.specs.Steps.{link_step, name_step, word_argument, post_step, after_operand, tested_step, arguments_step, after_argument_step, after_element}
 use Rattle.scad_parse.specs.Machine.{step, finish, run}
 
 -- what a run gives behind a move
-abbrev follow : Move → List Token → Option Items
+abbrev pub follow : Move → List Token → Option Items
 follow (go next) ts = run next ts
 follow (left_out w) ts = None
 follow stuck ts = None
 
-by_move : (s : State) (t : Token) (ts : List Token) → run s (t ∷ ts) ≡ follow (step s t) ts
+pub by_move : (s : State) (t : Token) (ts : List Token) → run s (t ∷ ts) ≡ follow (step s t) ts
 unfolding run
 by_move s t ts = go_by (step s t)
   where

@@ -1,16 +1,16 @@
 -- Each derivation of the grammar of statements runs; a program's run gives the program.
-use Rattle.std.proofs.Common.{◌≡◌, ℕ, zero, suc, Bool, true, false, List, [], ◌∷◌, Option, Some, None, refl, ap, sym, ◌∙◌}
+use Rattle.std.proofs.Common.{◌≡◌, ℕ, Bool, true, false, List, [], ◌∷◌, Option, Some, refl, ◌∙◌}
 use Rattle.scad_fault.specs.declared.place.Place.{Place}
 use Rattle.scad_lex.specs.declared.token.Token.{Token}
 use Rattle.scad_lex.specs.declared.token.Sign.TheVariants.{OpenRound}
 use Rattle.scad_lex.specs.declared.token.Key.TheVariants.{Else}
-use Rattle.scad_ast.specs.Tree.{Expression, no_arguments, Parameter, Items, no_items, module_of, call_of, choice}
+use Rattle.scad_ast.specs.Tree.{Expression, Parameter, Items, no_items, module_of, call_of, choice}
 use Rattle.scad_parse.specs.Tokens.{sign, begins_with_key}
-use Rattle.scad_parse.specs.Lists.{with_parameter, with_item, with_statement, Marks, no_marks, starred, percented, hashed}
+use Rattle.scad_parse.specs.Lists.{with_parameter, with_item, with_statement, Marks, no_marks}
 use Rattle.scad_parse.specs.Grammar.{Default, no_default, default, Params, no_params, params, MoreParams, last_param, comma_param}
 use Rattle.scad_parse.specs.Statements.{Callee, call_word, call_for, call_let, call_echo, call_assert, Statement, nothing, a_group, assign, a_module, a_function, inst, Statements, no_statement, statement, Inst, star_mark, percent_mark, hash_mark, a_call, a_choice, Otherwise, no_otherwise, otherwise, Child, no_child, children, one_child, Derives, program}
 use Rattle.scad_parse.specs.Behind.{a_module as the_module, a_function as the_function, BehindItems, in_program, in_group, module_body, child_of, held_child, other_child, BehindParameters, defined, default_of, assigned_to, function_body, statement_test, of_statement}
-use Rattle.scad_parse.specs.State.{State, want_arguments, want_statement, have_items, want_marked, want_child, in_parameters, have_parameter, after_parameter, have_parameters, have_expression}
+use Rattle.scad_parse.specs.State.{want_arguments, want_statement, have_items, want_marked, want_child, in_parameters, have_parameter, after_parameter, have_parameters, have_expression}
 use Rattle.scad_parse.specs.Steps.{end_arguments, after_expression, end_parameters, after_parameter_step}
 use Rattle.scad_parse.specs.StatementSteps.{marked_step, first_step, definition_step, statement_step, word_statement, child_step, after_items, finish_items, parameters_step}
 use Rattle.scad_parse.specs.Machine.{step, finish, run, start}
@@ -28,6 +28,7 @@ runs_default (default {e = e} {us = us} d) w all k =
 
 mutual
   unfolding run step finish after_parameter_step parameters_step
+
   runs_params : {a all : List Parameter} {ts us : List Token} → Params a ts us all → (k : BehindParameters) →
       run (in_parameters a k) ts ≡ run (have_parameters all k) us
   runs_params no_params k = refl
@@ -119,6 +120,7 @@ runs_no_otherwise at m e a outer k (t ∷ ts) h =
 
 mutual
   unfolding run step finish end_arguments after_expression end_parameters marked_step first_step definition_step statement_step word_statement child_step after_items finish_items
+
   pub runs_statement : {d : Bool} {a all : Items} {ts us : List Token} → Statement d a ts us all → (k : BehindItems) →
       run (want_statement d a k) ts ≡ run (have_items all k) us
   runs_statement nothing k = refl
@@ -148,7 +150,7 @@ mutual
       ∙ (runs_args d (of_statement t.at m w a k)
       ∙ (runs_child c (child_of t.at m w all a k)
       ∙ settle (have_items cs (child_of t.at m w all a k))
-        (have_items (with_statement m a (call_of t.at m.percent m.hash w all cs)) k) (λ t. refl) refl vs))
+      (have_items (with_statement m a (call_of t.at m.percent m.hash w all cs)) k) (λ t. refl) refl vs))
   runs_inst (a_choice {m = m} {a = a} {held = held} {at = at} {e = e} d c o) k =
       runs_expr d (statement_test at m a k)
       ∙ (runs_child c (held_child at m e a k) ∙ runs_otherwise o at m e held a k)
@@ -161,7 +163,7 @@ mutual
   runs_otherwise (otherwise {other = other} {us = us} c) at m e held outer k =
       runs_child c (other_child at m e held outer k)
       ∙ settle (have_items other (other_child at m e held outer k))
-        (have_items (with_statement m outer (choice at m.percent m.hash e held other)) k) (λ t. refl) refl us
+      (have_items (with_statement m outer (choice at m.percent m.hash e held other)) k) (λ t. refl) refl us
 
   pub runs_child : {all : Items} {ts us : List Token} → Child ts us all → (k : BehindItems) →
       run (want_child k) ts ≡ run (have_items all k) us

@@ -1,6 +1,6 @@
 -- What stands open behind a part of a program: the productions that hold it, each at the point where it goes on, with
 -- the trees that it has so far.
-use Rattle.std.specs.Prelude.{ℕ, zero, suc, Bool, List, Option, ◌+◌}
+use Rattle.std.specs.Prelude.{ℕ, Bool, List, Option, ◌+◌}
 use Rattle.scad_fault.specs.declared.place.Place.{Place}
 use Rattle.scad_ast.specs.declared.operator.UnOp.{UnOp}
 use Rattle.scad_ast.specs.declared.operator.BinOp.{BinOp}

@@ -2,8 +2,9 @@
 -- also has its members so far. Each alternative of the grammar is a constructor.
 --
 -- A chain of operands, a name, an optional part and an unnamed argument are as long as they can be: where they
--- end, no token follows that goes on with them. No derivation of a whole program is excluded by that.
-use Rattle.std.specs.Prelude.{◌≡◌, ℕ, zero, suc, ℤ, Bool, true, false, List, [], ◌∷◌, Option, Some, None, if◌then◌else◌}
+-- end, no token follows that goes on with them. That excludes no program: the grammar without it stands in Plain, and
+-- the law `ends_exclude_nothing` says that both derive the same.
+use Rattle.std.specs.Prelude.{◌≡◌, ℕ, zero, suc, ℤ, Bool, true, false, List, [], ◌∷◌, Option, Some, None}
 use Rattle.scad_fault.specs.declared.place.Place.{Place}
 use Rattle.scad_lex.specs.declared.token.Token.{Token}
 use Rattle.scad_lex.specs.declared.token.TokenKind.{TokenKind}
@@ -13,7 +14,7 @@ use Rattle.scad_lex.specs.declared.token.Key.TheVariants.{If, Else as KeyElse, F
 use Rattle.scad_ast.specs.declared.operator.UnOp.TheVariants.{Not, Plus as UnaryPlus, Minus as UnaryMinus}
 use Rattle.scad_ast.specs.declared.operator.BinOp.{BinOp}
 use Rattle.scad_ast.specs.Tree.{Expression, undef, boolean, number, string, name, vector, range, stepped, unary, binary, choose, index, member, call, let_in, assert_in, echo_in, Arguments, no_arguments, Elements, no_elements, Element, item, each, for_each, for_loop, let_element, if_element, if_else, Parameter}
-use Rattle.scad_parse.specs.Tokens.{sign, key, word, numeral, quoted, is_sign, word_of, begins_with, begins_with_key, operator, first_operator}
+use Rattle.scad_parse.specs.Tokens.{sign, key, word, numeral, quoted, word_of, begins_with, begins_with_key, operator, first_operator}
 use Rattle.scad_parse.specs.Lists.{with_argument, with_element, with_parameter}
 
 -- `)` or `;`, which ends arguments
@@ -89,6 +90,7 @@ mutual
 
   -- ("[" expr "]" | "." WORD)* behind an operand
   pub data Posts : Expression → List Token → List Token → Expression → Type 0 where
+    -- `^` stands here since it is left out wherever an operand has ended: no program has it
     no_post : {a : Expression} {ts : List Token} →
         begins_with OpenSquare ts ≡ false → begins_with Dot ts ≡ false → begins_with Caret ts ≡ false →
         Posts a ts ts a

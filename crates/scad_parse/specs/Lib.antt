@@ -1,8 +1,10 @@
 pub mod Behind
 pub mod Grammar
+pub mod Judged
 pub mod Lists
 pub mod Machine
 pub mod Move
+pub mod Plain
 pub mod Promises
 pub mod State
 pub mod StatementSteps

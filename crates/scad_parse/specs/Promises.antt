@@ -1,9 +1,31 @@
 -- What the grammar and the reader of tokens keep.
-use Rattle.std.specs.Prelude.{◌≡◌, List}
+use Rattle.std.specs.Prelude.{◌≡◌, ◌↔◌, List, [], Some, Result}
+use Rattle.scad_fault.specs.declared.place.Place.{Place}
 use Rattle.scad_lex.specs.declared.token.Token.{Token}
 use Rattle.scad_ast.specs.Tree.{Items}
-use Rattle.scad_parse.specs.Statements.{Derives}
+use Rattle.scad_parse.specs.Statements.{Derives, Begins}
+use Rattle.scad_parse.specs.Plain
+use Rattle.scad_parse.specs.State.{State}
+use Rattle.scad_parse.specs.Machine.{start, reach, run, outcome_of, Refusal}
+use Rattle.scad_parse.specs.Judged.{Judged}
 
 -- no tokens derive two programs
 abbrev pub OneProgram : Type 0
 OneProgram = (ts : List Token) (p q : Items) → Derives ts p → Derives ts q → p ≡ q
+
+-- the reader accepts the tokens that derive a program, with that program, and no others
+abbrev pub ReadsWhatIsDerived : Type 0
+ReadsWhatIsDerived = (ts : List Token) (p : Items) → (run start ts ≡ Some p) ↔ Derives ts p
+
+-- the reader stands behind the tokens with which some program begins, and behind no others
+abbrev pub StandsWhereAProgramBegins : Type 0
+StandsWhereAProgramBegins = (ts : List Token) → Begins ts ↔ ((s : State) × (reach start ts ≡ Some s))
+
+-- what tokens are is judged by the grammar: there is one answer, and the reader gives it
+abbrev pub JudgesAsTheGrammar : Type 0
+JudgesAsTheGrammar = (ts : List Token) (end : Place) (answer : Result Items Refusal) →
+    Judged [] ts end answer ↔ (outcome_of ts end ≡ answer)
+
+-- that each part is as long as it can be excludes no program: the grammar as it stands on paper derives the same ones
+abbrev pub EndsExcludeNothing : Type 0
+EndsExcludeNothing = (ts : List Token) (p : Items) → Plain.Derives ts p ↔ Derives ts p

@@ -5,7 +5,7 @@ use Rattle.scad_fault.specs.declared.place.Place.{Place}
 use Rattle.scad_lex.specs.declared.token.Token.{Token}
 use Rattle.scad_lex.specs.declared.token.Sign.TheVariants.{OpenRound, CloseRound, OpenCurly, CloseCurly, Semicolon, Assign, Star, Percent, Hash}
 use Rattle.scad_lex.specs.declared.token.Key.TheVariants.{Module, Function, If, Else, For, Let, Assert, Echo}
-use Rattle.scad_ast.specs.Tree.{Expression, Arguments, no_arguments, Parameter, Items, no_items, Item, assignment, module_of, function_of, call_of, choice}
+use Rattle.scad_ast.specs.Tree.{Expression, Arguments, no_arguments, Parameter, Items, no_items, assignment, module_of, function_of, call_of, choice}
 use Rattle.scad_parse.specs.Tokens.{sign, key, word, begins_with_key}
 use Rattle.scad_parse.specs.Lists.{with_item, with_statement, Marks, no_marks, starred, percented, hashed}
 use Rattle.scad_parse.specs.Grammar.{Expr, Args, Params}
@@ -63,7 +63,7 @@ mutual
     a_choice : {m : Marks} {a held other : Items} {at p q : Place} {e : Expression} {ts us vs ws : List Token} →
         Expr ts (sign CloseRound q ∷ us) e → Child us vs held → Otherwise vs ws other →
         Inst m a (key If at ∷ sign OpenRound p ∷ ts) ws
-            (with_statement m a (choice at m.percent m.hash e held other))
+        (with_statement m a (choice at m.percent m.hash e held other))
 
   -- ["else" child]: it belongs to the nearest `if`
   pub data Otherwise : List Token → List Token → Items → Type 0 where

@@ -76,6 +76,10 @@ never_by : (b : Bool) (us : List Triangle) → Err solid.CoordinateRange ≡ as_
 never_by true us e = absurd (cc)
 never_by false us e = absurd (cc)
 
+never_bad_by : (b : Bool) (us : List Triangle) (i : ℕ) → Err (solid.BadIndex i) ≡ as_solid b us → ⊥
+never_bad_by true us i e = absurd (cc)
+never_bad_by false us i e = absurd (cc)
+
 pub closed_as : (ts us : List Triangle) → Ok ts ≡ closed_or_not None us → Ok ts ≡ if_closed us
 closed_as ts us e = closed_by (is_closed us) ts us e
 
@@ -92,6 +96,9 @@ open_as us e = open_by (is_closed us) us e
 -- points in range aren't refused for their range
 pub never_far : (us : List Triangle) → Err solid.CoordinateRange ≡ closed_or_not None us → ⊥
 never_far us e = never_by (is_closed us) us e
+
+pub never_bad : (us : List Triangle) (i : ℕ) → Err (solid.BadIndex i) ≡ closed_or_not None us → ⊥
+never_bad us i e = never_bad_by (is_closed us) us i e
 
 range-front : (i n : ℕ) → i < n → range_with_len i (n - i) ≡ i ∷ range_with_len (i + 1) (n - (i + 1))
 range-front i n inside = let left : n - i ≡ suc (n - (i + 1)) = omega arith in ap (range_with_len i) left

@@ -43,8 +43,9 @@ fn bounded(alloc: Global, points: &[Pt3], faces: &[Face]) -> Result<Triangles, S
     match Triangles::from_faces(alloc, points, faces) {
         Ok(solid) => Ok(solid),
         Err(SolidFault::NotClosed) => Err(ShapeFault::NotClosed),
-        Err(SolidFault::CoordinateRange) => Err(ShapeFault::CoordinateRange),
-        Err(_) => Err(ShapeFault::Memory),
+        Err(SolidFault::Memory) => Err(ShapeFault::Memory),
+        Err(SolidFault::BadIndex(_)) => unreachable!(),
+        Err(SolidFault::CoordinateRange) => unreachable!(),
     }
 }
 

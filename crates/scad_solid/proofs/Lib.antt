@@ -10,3 +10,4 @@ pub mod Prism
 pub mod Rectangle
 pub mod Holds
 pub mod Counts
+pub mod Above

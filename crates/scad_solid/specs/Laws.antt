@@ -1,5 +1,5 @@
 -- What the solids of a ring over itself contain: prisms over any ring, and upright boxes.
-use Rattle.std.specs.Prelude.{◌≢◌, ◌⊎◌, ◌↔◌, ℕ, List, [], ◌∷◌, map, IsTrue, ℤ, pos, ◌*ℤ◌, ◌<ℤ◌}
+use Rattle.std.specs.Prelude.{◌≡◌, ◌≢◌, ◌⊎◌, ◌↔◌, ℕ, List, [], ◌∷◌, map, false, IfSome, IsTrue, ℤ, pos, ◌*ℤ◌, ◌<ℤ◌, ◌≤ℤ◌}
 use Rattle.scad_geom.specs.declared.point.Pt.{Pt}
 use Rattle.scad_geom.specs.declared.point3.Pt3.{Pt3}
 use Rattle.scad_geom.specs.declared.half.Half.TheVariants.{Cell}
@@ -7,6 +7,7 @@ use Rattle.scad_geom.specs.Loop.{sides}
 use Rattle.scad_geom.specs.Winding.{doubled, wind}
 use Rattle.scad_solid.specs.declared.triangle.Triangle.{Triangle}
 use Rattle.scad_solid.specs.Stack.{stacked}
+use Rattle.scad_solid.specs.Height.{highest_of}
 use Rattle.scad_solid.specs.Cut.{plane_of, contains}
 
 -- a point of the plane at a height
@@ -54,3 +55,7 @@ pub record PrismsHold : Type 0 where
 -- matter
 pub record BoxesHold : Type 0 where
   pub each : (p q : Pt3) → HoldBetween p q (box p q)
+
+-- triangles contain nothing at a plane that lies at or above all their corners
+pub record NothingAbove : Type 0 where
+  pub each : (plane : ℤ) (ts : List Triangle) (x y : ℤ) → IfSome (highest_of ts) (λ z. (pos 2 *ℤ z) ≤ℤ plane) → contains plane ts x y ≡ false

@@ -1,5 +1,5 @@
 //! Laws of the definitions, each carried by the contract of a function that does nothing.
-ghost use Rattle.scad_solid.specs.Laws.{PrismsHold, BoxesHold};
+ghost use Rattle.scad_solid.specs.Laws.{PrismsHold, BoxesHold, NothingAbove};
 
 /// A prism over any ring contains a point at a layer exactly where the plane lies strictly between its
 /// two ends and the ring winds round the point.
@@ -15,6 +15,12 @@ pub fn boxes_hold()
     ensures { BoxesHold }
 {}
 
+/// A surface contains nothing at a plane that lies at or above its highest corner.
+#[tactic(auto, using(crate::proofs::Above::nothing_above))]
+pub fn nothing_above()
+    ensures { NothingAbove }
+{}
+
 #[cfg(test)]
 mod tests {
     use super::*;
@@ -23,5 +29,6 @@ mod tests {
     fn laws_are_called() {
         prisms_hold();
         boxes_hold();
+        nothing_above();
     }
 }

@@ -1,6 +1,7 @@
 pub mod Access
 pub mod Decimals
 pub mod Equality
+mod Examples
 pub mod Quotients
 pub mod Rows
 pub mod Shapes

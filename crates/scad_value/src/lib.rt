@@ -24,6 +24,7 @@ pub use kind::{elements_of, number_of};
 pub use measures::{made, nesting, truth};
 pub use operator::{binary, unary};
 pub use place::index;
+pub use product::numbers_in;
 pub use text::{push_text, text_of};
 pub use value::{Value, Values};
 

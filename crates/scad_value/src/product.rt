@@ -20,7 +20,7 @@ pub(crate) enum Shape {
 
 /// How many elements there are, if all are numbers, else 0.
 #[tactic(auto, using(crate::proofs::Rows::counted))]
-fn numbers_in(all: &[Value]) -> usize
+pub fn numbers_in(all: &[Value]) -> usize
     ensures { result ≡ numbers_in (elements all.now) }
 {
     'elements: for v in all {

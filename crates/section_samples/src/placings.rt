@@ -8,7 +8,7 @@ pub(crate) fn number(thousandths: i32) -> Num {
     Num::within(i64::from(thousandths) * 1_000)
 }
 
-/// A reflection, a shear, a scaling that turns solids inside out, and a rotation about two axes.
+/// A reflection, a shear, a scaling that turns solids inside out, a rotation about two axes, and the identity.
 pub(crate) fn placing(i: u32) -> Option<Matrix> {
     let [o, i1] = [number(0), number(1_000)];
     match i {
@@ -19,7 +19,8 @@ pub(crate) fn placing(i: u32) -> Option<Matrix> {
         2 => translate(o, number(-1_750), number(1_234))
             .compose(&scale(number(1_500), number(-750), number(2_000)))
             .ok(),
-        _ => turn(Axis::X, 33_000).compose(&turn(Axis::Z, 17_500)).ok(),
+        3 => turn(Axis::X, 33_000).compose(&turn(Axis::Z, 17_500)).ok(),
+        _ => Some(translate(o, o, o)),
     }
 }
 

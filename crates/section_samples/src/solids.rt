@@ -7,7 +7,8 @@ use scad_shapes::{ShapeFault, cube, cylinder, polyhedron, sphere};
 use scad_solid::{Face, Triangles};
 use std::alloc::{AllocError, Global};
 
-/// A cube, a sphere, a cone with two radii, a cone on its point, and a pyramid.
+/// A cube, a sphere, a cone with two radii, a cone on its point, a pyramid, a cube without width, a cylinder without
+/// width, and flat cubes that end just below and just above the plane of layer 0.
 pub(crate) fn solid(alloc: Global, i: u32, m: &Matrix) -> Result<Triangles, ShapeFault> {
     match i {
         0 => cube(alloc, number(7_500), number(11_333), number(6_001), true, m),
@@ -22,7 +23,11 @@ pub(crate) fn solid(alloc: Global, i: u32, m: &Matrix) -> Result<Triangles, Shap
             m,
         ),
         3 => cylinder(alloc, number(3_000), number(0), number(6_000), 5, false, m),
-        _ => pyramid(alloc, m),
+        4 => pyramid(alloc, m),
+        5 => cube(alloc, number(0), number(5_000), number(3_000), false, m),
+        6 => cylinder(alloc, number(3_000), number(0), number(0), 4, false, m),
+        7 => cube(alloc, number(3_000), number(4_000), number(125), false, m),
+        _ => cube(alloc, number(3_000), number(4_000), number(126), false, m),
     }
 }
 

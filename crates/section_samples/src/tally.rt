@@ -3,7 +3,7 @@
 use crate::placings::{number, placing};
 use crate::solids::solid;
 use scad_geom::Edge;
-use scad_shapes::sphere;
+use scad_shapes::{cylinder, sphere};
 use scad_solid::Triangles;
 use slice_section::section;
 use std::alloc::Global;
@@ -29,6 +29,13 @@ pub(crate) fn sample(alloc: Global, i: u32, at: u32) -> Option<Tally> {
 pub(crate) fn sphere_sample(alloc: Global) -> Option<Tally> {
     let solid = sphere(alloc, number(30_000), 446, &placing(1)?).ok()?;
     sum_up(alloc, &solid, 40, 41)
+}
+
+/// The section of a cylinder of six fragments at layer 0 of 200 micrometres.
+pub(crate) fn hexagon(alloc: Global) -> Option<Vec<Edge>> {
+    let r = number(5_000);
+    let solid = cylinder(alloc, number(1_000), r, r, 6, false, &placing(4)?).ok()?;
+    section(alloc, &solid, 0, 200).ok()
 }
 
 fn sum_up(alloc: Global, solid: &Triangles, from: u32, to: u32) -> Option<Tally> {

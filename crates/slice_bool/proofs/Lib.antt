@@ -16,3 +16,8 @@ pub mod BalanceFlat
 pub mod BalanceLevels
 mod Examples
 pub mod BorderPoints
+pub mod Stopping
+pub mod Hardby
+pub mod Stretches
+pub mod Bundled
+pub mod Climbing

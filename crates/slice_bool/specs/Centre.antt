@@ -22,12 +22,14 @@ leaf_holds edges i j leaf = not (is_zero (wind (edges_of leaf edges) (doubled Ce
 abbrev pub holds_centre : List LeafEdge → Shape → ℤ → ℤ → Bool
 holds_centre edges shape i j = shape_holds (leaf_holds edges i j) shape
 
+-- round each cell centre that the shape holds the pieces wind once, and round no other
+abbrev pub AreCentresWound : List LeafEdge → Shape → List Piece → Type 0
+AreCentresWound edges shape pieces = (i j : ℤ) → wind_pieces true true (centre i j) pieces ≡ counted (holds_centre edges shape i j)
+
 -- ---- the laws
 -- Round each cell centre that the shape holds the pieces of its border wind once, and round no other.
 abbrev pub CentresAreWoundOnce : Type 0
-CentresAreWoundOnce =
-    (es : List LeafEdge) (shape : Shape) (pieces : List Piece) → ArePieces es shape pieces → (i j : ℤ)
-    → wind_pieces true true (centre i j) pieces ≡ counted (holds_centre es shape i j)
+CentresAreWoundOnce = (es : List LeafEdge) (shape : Shape) (pieces : List Piece) → ArePieces es shape pieces → AreCentresWound es shape pieces
 
 -- At a cell centre membership by directions is that by plain winding numbers.
 abbrev pub CentresAreHeld : Type 0

@@ -1,7 +1,22 @@
 //! The border between inside and outside of a shape over the leaves of an edge list, cut into directed pieces.
 //!
-//! Its law promises that the pieces, as they are defined, wind once round each point that the shape holds and round no
-//! other. The call that makes them is to come.
-#![tactic(auto)]
+//! The contracts promise exactly the pieces of the definition, which speaks of the shape's values on both sides of the
+//! border alone, and that they wind once round each point that the shape holds and round no other.
+#![tactic(auto, using(scad_geom::proofs::Casts::casts))]
 
+mod around;
+mod between;
+mod border;
+mod covering;
+mod fault;
+mod flat;
 pub mod laws;
+mod place;
+mod slab;
+mod stop;
+mod stops;
+mod tally;
+mod turn;
+
+pub use border::pieces;
+pub use fault::BoolFault;

@@ -1,5 +1,6 @@
 //! Values in a short form.
 
+use crate::kind::number_of;
 use crate::value::{Value, Values};
 use scad_fault::Chars;
 use scad_num::Num;
@@ -32,9 +33,12 @@ impl Reader {
     }
 
     fn pop_number(&mut self) -> Result<Num, Fail> {
-        match self.done.pop() {
-            Some(Value::Number(n)) => Ok(n),
-            _ => Err(Fail::new("no number")),
+        let Some(v) = self.done.pop() else {
+            return Err(Fail::new("no value"));
+        };
+        match number_of(&v) {
+            Some(n) => Ok(n),
+            None => Err(Fail::new("no number")),
         }
     }
 

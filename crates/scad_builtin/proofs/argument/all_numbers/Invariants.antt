@@ -1,6 +1,6 @@
 use Rattle.std.proofs.Common.{◌≡◌, drop}
 use Rattle.scad_value.specs.View.{elements}
-use Rattle.scad_builtin.specs.Arguments.{all_numbers}
+use Rattle.scad_value.specs.Products.{all_numbers}
 use Rattle.scad_builtin.proofs.argument.all_numbers.Given as goal
 
 abbrev pub invariant-loop-value : goal.invariant-loop-value

@@ -1,0 +1,43 @@
+-- What holds of all pieces that meet the definition.
+use Rattle.std.proofs.Common.{◌≡◌, List, subst}
+use Rattle.scad_geom.specs.declared.level.Level.{Level}
+use Rattle.scad_geom.specs.declared.level.LeafEdge.{LeafEdge}
+use Rattle.scad_geom.specs.declared.shape.Shape.{Shape}
+use Rattle.slice_events.specs.Levels.{AreLevels}
+use Rattle.slice_snap.specs.declared.piece.Piece.{Piece}
+use Rattle.slice_bool.specs.Pieces.{AreLevelPieces, ArePieces}
+use Rattle.slice_bool.proofs.Ends.{heights_have_one_level}
+use Rattle.slice_bool.proofs.BalanceLevels.{pieces_are_balanced}
+use Rattle.slice_bool.proofs.Centre.{centres_are_wound_once}
+use Rattle.slice_bool.proofs.border.pieces.Goals as goal
+
+all : (es : List LeafEdge) (shape : Shape) (ls ks : List Level) (pieces : List Piece) → AreLevels es ls → ks ≡ ls → AreLevelPieces es shape ks pieces → ArePieces es shape pieces
+all es shape ls ks pieces a e h = record {
+  levels = ls;
+  are_levels = a;
+  are_pieces = subst (λ (ls : List Level). AreLevelPieces es shape ls pieces) e h;
+}
+
+pub returns-in-Ok-all_pieces-clause-levels : goal.returns-in-Ok-all_pieces-clause-levels
+returns-in-Ok-all_pieces-clause-levels c =
+    let es = c.args.edges.now in
+    let shape = c.args.shape.now in
+    let pieces = c.in-Ok-all_pieces.pieces.items in
+    heights_have_one_level es shape pieces
+    (all es shape c.in-Ok.levels.items c.deref.result.now pieces c.in-Ok.ensures.levels c.deref.ensures.value c.in-Ok-all_pieces.ensures)
+
+pub returns-in-Ok-all_pieces-clause-balanced : goal.returns-in-Ok-all_pieces-clause-balanced
+returns-in-Ok-all_pieces-clause-balanced c =
+    let es = c.args.edges.now in
+    let shape = c.args.shape.now in
+    let pieces = c.in-Ok-all_pieces.pieces.items in
+    λ b. pieces_are_balanced es shape pieces b
+    (all es shape c.in-Ok.levels.items c.deref.result.now pieces c.in-Ok.ensures.levels c.deref.ensures.value c.in-Ok-all_pieces.ensures)
+
+pub returns-in-Ok-all_pieces-clause-centres : goal.returns-in-Ok-all_pieces-clause-centres
+returns-in-Ok-all_pieces-clause-centres c =
+    let es = c.args.edges.now in
+    let shape = c.args.shape.now in
+    let pieces = c.in-Ok-all_pieces.pieces.items in
+    centres_are_wound_once es shape pieces
+    (all es shape c.in-Ok.levels.items c.deref.result.now pieces c.in-Ok.ensures.levels c.deref.ensures.value c.in-Ok-all_pieces.ensures)

@@ -1,0 +1,96 @@
+//! All pieces of a border.
+ghost use Rattle.std.specs.Prelude.{◌≡◌, ◌<◌, ◌≤◌, ◌+◌, ◌^◌, length, drop, OnOk, IfOk, IfErr, All};
+ghost use Rattle.scad_geom.specs.Point.{IsEdgeWithin};
+ghost use Rattle.scad_geom.specs.Heights.{IsLevelWithin};
+ghost use Rattle.slice_events.specs.Levels.{crossings, AreLevels};
+ghost use Rattle.slice_bool.specs.Pieces.{AreLevelPieces, ArePieces};
+ghost use Rattle.slice_bool.specs.Ends.{HaveOneLevel};
+ghost use Rattle.slice_bool.specs.Balance.{AreLeavesBalanced, ArePiecesBalanced};
+ghost use Rattle.slice_bool.specs.Centre.{AreCentresWound};
+ghost use Rattle.slice_bool.specs.Fault.{IsRefusal};
+ghost use Rattle.slice_bool.specs.Made.{AddsLevel};
+
+use crate::fault::BoolFault;
+use crate::flat::push_flat_pieces;
+use crate::slab::push_slab_pieces;
+use scad_geom::{COORDINATE_LIMIT, LeafEdge, Level, Shape};
+use slice_events::{CROSSING_LIMIT, EventFault, levels};
+use slice_snap::Piece;
+use std::alloc::{AllocError, Global};
+
+/// The pieces of the border of a shape over the leaves of an edge list, each with the inside on its left: level by
+/// level upwards, the flat pieces on a level before those between it and the next, each group from left to right.
+///
+/// They wind once round each cell centre that the shape holds and round no other, and where the edges of each leaf are
+/// closed, as many start at each point as end there. It is refused exactly where there are more edges than the limit,
+/// and then where more pairs cross than `CROSSING_LIMIT`.
+pub fn pieces(
+    alloc: Global,
+    edges: &[LeafEdge],
+    shape: &Shape,
+    limit: u32,
+) -> Result<Vec<Piece>, BoolFault>
+    requires { All (λ e. IsEdgeWithin COORDINATE_LIMIT e.edge) edges.now }
+    ensures pieces { IfOk result (λ v. ArePieces edges.now shape.now v.items) }
+    ensures levels { IfOk result (λ v. HaveOneLevel v.items) }
+    ensures balanced { IfOk result (λ v. AreLeavesBalanced edges.now → ArePiecesBalanced v.items) }
+    ensures centres { IfOk result (λ v. AreCentresWound edges.now shape.now v.items) }
+    ensures few { IfOk result (λ v. length edges.now ≤ limit) }
+    ensures accepted { IfOk result (λ v. crossings edges.now ≤ CROSSING_LIMIT) }
+    ensures refused { IfErr result (IsRefusal (length edges.now) limit (crossings edges.now)) }
+{
+    let count = edges.len() as u64;
+    if count > limit as u64 {
+        return Err(BoolFault::Edges(count));
+    }
+    match levels(alloc, edges) {
+        Ok(levels) => match all_pieces(alloc, edges, shape, &levels) {
+            Ok(pieces) => Ok(pieces),
+            Err(_) => Err(BoolFault::Memory),
+        },
+        Err(EventFault::Memory) => Err(BoolFault::Memory),
+        Err(EventFault::Crossings(count)) => Err(BoolFault::Crossings(count)),
+    }
+}
+
+fn all_pieces(
+    alloc: Global,
+    edges: &[LeafEdge],
+    shape: &Shape,
+    levels: &[Level],
+) -> Result<Vec<Piece>, AllocError>
+    requires edges { All (λ e. IsEdgeWithin COORDINATE_LIMIT e.edge) edges.now }
+    requires few { length edges.now < 2 ^ 32 }
+    requires within { All (IsLevelWithin COORDINATE_LIMIT) levels.now }
+    requires levels { AreLevels edges.now levels.now }
+    ensures { IfOk result (λ v. AreLevelPieces edges.now shape.now levels.now v.items) }
+{
+    let mut out = Vec::new(alloc);
+    'levels: for i in 0..levels.len() {
+        push_level(alloc, &mut out, edges, shape, levels, i)?;
+    }
+    Ok(out)
+}
+
+// The pieces on a level and between it and the next.
+fn push_level(
+    alloc: Global,
+    out: &mut Vec<Piece>,
+    edges: &[LeafEdge],
+    shape: &Shape,
+    levels: &[Level],
+    i: usize,
+) -> Result<(), AllocError>
+    requires edges { All (λ e. IsEdgeWithin COORDINATE_LIMIT e.edge) edges.now }
+    requires few { length edges.now < 2 ^ 32 }
+    requires within { All (IsLevelWithin COORDINATE_LIMIT) levels.now }
+    requires levels { AreLevels edges.now levels.now }
+    requires there { i < length levels.now }
+    ensures { OnOk result (AddsLevel edges.now shape.now (drop i levels.now) out.old.items out.new.items) }
+{
+    push_flat_pieces(alloc, out, edges, shape, &levels[i])?;
+    if i + 1 < levels.len() {
+        push_slab_pieces(alloc, out, edges, shape, &levels[i], &levels[i + 1])?;
+    }
+    Ok(())
+}

@@ -1,0 +1,57 @@
+//! Flat edges that cover a stretch of a level.
+ghost use Rattle.std.specs.Prelude.{◌≡◌, ◌<◌, ◌≤◌, ◌^◌, ◌&&◌, ◌*ℤ◌, pos, int_le, length, All, unsigned_abs};
+ghost use Rattle.std.specs.List.{position};
+ghost use Rattle.scad_geom.specs.Point.{IsWithin, IsEdgeWithin};
+ghost use Rattle.slice_bool.specs.Pieces.{covers};
+
+use crate::stop::Stop;
+use crate::stops::is_flat_at;
+use scad_geom::wide::times;
+use scad_geom::{COORDINATE_LIMIT, LeafEdge, Pt};
+
+/// The least number of a flat edge that covers the stretch between two stops.
+pub(crate) fn covering_edge(edges: &[LeafEdge], s: &Stop, t: &Stop) -> Option<u32>
+    requires within { All (λ e. IsEdgeWithin COORDINATE_LIMIT e.edge) edges.now }
+    requires few { length edges.now < 2 ^ 32 }
+    ensures { result ≡ position (covers s.now.spot t.now.spot) edges.now }
+{
+    'edges: for i in 0..edges.len() {
+        if covers(&edges[i], s, t) {
+            return Some(i as u32);
+        }
+    }
+    None
+}
+
+fn covers(e: &LeafEdge, s: &Stop, t: &Stop) -> bool
+    requires { IsEdgeWithin COORDINATE_LIMIT e.now.edge }
+    ensures { result ≡ covers s.now.spot t.now.spot e.now }
+{
+    is_flat_at(&e.edge, &s.spot.at)
+        && (spans(e.edge.a, e.edge.b, s, t) || spans(e.edge.b, e.edge.a, s, t))
+}
+
+// Whether the stretch between two stops lies from the x of one point to that of another.
+fn spans(from: Pt, to: Pt, s: &Stop, t: &Stop) -> bool
+    requires from { IsWithin COORDINATE_LIMIT from }
+    requires to { IsWithin COORDINATE_LIMIT to }
+    ensures { result ≡ (int_le (from.x *ℤ (s.now.spot.at.d *ℤ pos s.now.spot.run)) s.now.spot.x
+        && int_le t.now.spot.x (to.x *ℤ (t.now.spot.at.d *ℤ pos t.now.spot.run))) }
+{
+    scaled(from, s) <= s.spot.x && t.spot.x <= scaled(to, t)
+}
+
+// The x of a point over the divisor of a stop's.
+fn scaled(p: Pt, s: &Stop) -> i128
+    requires { IsWithin COORDINATE_LIMIT p }
+    ensures { result ≡ p.x *ℤ (s.now.spot.at.d *ℤ pos s.now.spot.run) }
+{
+    times::<21, 66>(p.x as i128, divisor(s))
+}
+
+fn divisor(s: &Stop) -> i128
+    ensures value { result ≡ s.now.spot.at.d *ℤ pos s.now.spot.run }
+    ensures size { unsigned_abs result ≤ 2 ^ 66 }
+{
+    times::<44, 22>(s.spot.at.d, s.spot.run as i128)
+}
