@@ -7,7 +7,8 @@ ghost use Rattle.scad_value.specs.View.{datum_of, elements};
 ghost use Rattle.scad_builtin.specs.Memory.{TakesNone};
 ghost use Rattle.scad_builtin.specs.Arguments.{first_of, second_of, as_number};
 ghost use Rattle.scad_builtin.specs.Arguments.{numbers, as_numbers, as_number_vector, as_string};
-ghost use Rattle.scad_builtin.specs.Arguments.{first_number, first_string, first_numbers, second_numbers};
+ghost use Rattle.scad_builtin.specs.Arguments.{first_number, first_string};
+ghost use Rattle.scad_builtin.specs.Arguments.{first_numbers, second_numbers};
 
 use crate::fault::BuiltinFault;
 use crate::kind::is_number;
@@ -16,7 +17,8 @@ use scad_value::Value;
 
 /// The first argument.
 pub(crate) fn first(args: &[Value]) -> Result<&Value, BuiltinFault>
-    ensures value { result_map_both (λ v. datum_of v.now) (λ e. e) result ≡ first_of (elements args.now) }
+    ensures value { result_map_both (λ v. datum_of v.now) (λ e. e) result
+        ≡ first_of (elements args.now) }
     ensures memory { TakesNone result }
 {
     match args {
@@ -27,7 +29,8 @@ pub(crate) fn first(args: &[Value]) -> Result<&Value, BuiltinFault>
 
 /// The second argument.
 fn second(args: &[Value]) -> Result<&Value, BuiltinFault>
-    ensures value { result_map_both (λ v. datum_of v.now) (λ e. e) result ≡ second_of (elements args.now) }
+    ensures value { result_map_both (λ v. datum_of v.now) (λ e. e) result
+        ≡ second_of (elements args.now) }
     ensures memory { TakesNone result }
 {
     match args {
@@ -71,7 +74,8 @@ fn all_numbers(values: &[Value]) -> bool
 
 /// The values, where all are numbers.
 pub(crate) fn numbers(values: &[Value]) -> Result<&[Value], BuiltinFault>
-    ensures value { result_map_both (λ all. numbers (elements all.now)) (λ e. e) result ≡ as_numbers (elements values.now) }
+    ensures value { result_map_both (λ all. numbers (elements all.now)) (λ e. e) result
+        ≡ as_numbers (elements values.now) }
     ensures memory { TakesNone result }
 {
     if all_numbers(values) {
@@ -84,7 +88,8 @@ pub(crate) fn numbers(values: &[Value]) -> Result<&[Value], BuiltinFault>
 /// The elements of a vector of numbers.
 #[tactic(auto, using(scad_value::proofs::Rows::vector_view))]
 fn number_vector(value: &Value) -> Result<&[Value], BuiltinFault>
-    ensures value { result_map_both (λ all. numbers (elements all.now)) (λ e. e) result ≡ as_number_vector (datum_of value.now) }
+    ensures value { result_map_both (λ all. numbers (elements all.now)) (λ e. e) result
+        ≡ as_number_vector (datum_of value.now) }
     ensures memory { TakesNone result }
 {
     match value {
@@ -95,7 +100,8 @@ fn number_vector(value: &Value) -> Result<&[Value], BuiltinFault>
 
 /// The characters of a string.
 fn string(value: &Value) -> Result<&[char], BuiltinFault>
-    ensures value { result_map_both (λ chars. chars.now) (λ e. e) result ≡ as_string (datum_of value.now) }
+    ensures value { result_map_both (λ chars. chars.now) (λ e. e) result
+        ≡ as_string (datum_of value.now) }
     ensures memory { TakesNone result }
 {
     match value {
@@ -114,7 +120,8 @@ pub(crate) fn first_number(args: &[Value]) -> Result<Num, BuiltinFault>
 
 /// The characters of the first argument, a string.
 pub(crate) fn first_string(args: &[Value]) -> Result<&[char], BuiltinFault>
-    ensures value { result_map_both (λ chars. chars.now) (λ e. e) result ≡ first_string (elements args.now) }
+    ensures value { result_map_both (λ chars. chars.now) (λ e. e) result
+        ≡ first_string (elements args.now) }
     ensures memory { TakesNone result }
 {
     string(first(args)?)
@@ -122,7 +129,8 @@ pub(crate) fn first_string(args: &[Value]) -> Result<&[char], BuiltinFault>
 
 /// The elements of the first argument, a vector of numbers.
 pub(crate) fn first_numbers(args: &[Value]) -> Result<&[Value], BuiltinFault>
-    ensures value { result_map_both (λ all. numbers (elements all.now)) (λ e. e) result ≡ first_numbers (elements args.now) }
+    ensures value { result_map_both (λ all. numbers (elements all.now)) (λ e. e) result
+        ≡ first_numbers (elements args.now) }
     ensures memory { TakesNone result }
 {
     number_vector(first(args)?)
@@ -130,7 +138,8 @@ pub(crate) fn first_numbers(args: &[Value]) -> Result<&[Value], BuiltinFault>
 
 /// The elements of the second argument, a vector of numbers.
 pub(crate) fn second_numbers(args: &[Value]) -> Result<&[Value], BuiltinFault>
-    ensures value { result_map_both (λ all. numbers (elements all.now)) (λ e. e) result ≡ second_numbers (elements args.now) }
+    ensures value { result_map_both (λ all. numbers (elements all.now)) (λ e. e) result
+        ≡ second_numbers (elements args.now) }
     ensures memory { TakesNone result }
 {
     number_vector(second(args)?)

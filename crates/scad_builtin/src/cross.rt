@@ -55,8 +55,10 @@ fn triple(alloc: Global, x: Num, y: Num, z: Num) -> Result<Value, BuiltinFault>
 /// The cross product of two vectors of numbers.
 #[tactic(auto, using(crate::proofs::Rows::length_numbers))]
 pub(crate) fn cross(alloc: Global, a: &[Value], b: &[Value]) -> Result<Value, BuiltinFault>
-    ensures ok { IfOk result (λ v. cross_of (numbers (elements a.now)) (numbers (elements b.now)) ≡ Ok (datum_of v)) }
-    ensures err { IfErr result (Refuses (cross_of (numbers (elements a.now)) (numbers (elements b.now)))) }
+    ensures ok { IfOk result (λ v.
+        cross_of (numbers (elements a.now)) (numbers (elements b.now)) ≡ Ok (datum_of v)) }
+    ensures err { IfErr result
+        (Refuses (cross_of (numbers (elements a.now)) (numbers (elements b.now)))) }
 {
     if a.len() == 2 && b.len() == 2 {
         return Ok(Value::Number(cross_entry(a, b, 0, 1)?));

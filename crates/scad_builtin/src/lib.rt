@@ -1,6 +1,6 @@
 //! The functions of the language, over values.
 //! `call` gives the value of a function of these arguments, or the fault that stands for it, exactly
-//! as `specs/Builtin.antt` says, line by line beside the table of functions in docs/language.md.
+//! as `specs/Builtin.antt` says: one line a function, beside the table in docs/language.md.
 #![tactic(auto)]
 
 mod argument;

@@ -3,7 +3,8 @@
 ghost use Rattle.std.specs.Prelude.{◌≡◌, ◌≤◌, unsigned_abs};
 ghost use Rattle.scad_num.specs.Number.{most};
 ghost use Rattle.scad_builtin.specs.Memory.{TakesNone};
-ghost use Rattle.scad_builtin.specs.Numbers.{size_of, sign_of, root_of, angle_of, sine_of, cosine_of, tangent_of, cut_of};
+ghost use Rattle.scad_builtin.specs.Numbers.{size_of, sign_of, root_of, angle_of};
+ghost use Rattle.scad_builtin.specs.Numbers.{sine_of, cosine_of, tangent_of, cut_of};
 ghost use Rattle.scad_builtin.specs.Numbers.{minor_of};
 
 use crate::fault::BuiltinFault;

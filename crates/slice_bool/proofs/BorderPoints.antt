@@ -1,19 +1,19 @@
 -- Each point of a piece but its ends is a border point.
-use Rattle.std.proofs.Common.{◌≡◌, ◌≢◌, ℕ, ◌⊎◌, inl, inr, Bool, true, false, List, [], ◌∷◌, ◌++◌, refl, sym, ap, ◌∙◌, arith, subst, append_assoc}
-use lib.IntN.{ℤ, pos, ◌+ℤ◌, ◌-ℤ◌, ◌*ℤ◌, neg_ℤ}
-use lib.Signed.{◌<ℤ◌, ◌≤ℤ◌}
-use Rattle.std.specs.Prelude.{Option, Some, None, unsigned_abs, int_lt}
+use Rattle.std.proofs.Common.{◌≡◌, ◌≢◌, ℕ, inl, inr, Bool, true, false, List, [], ◌∷◌, ◌++◌, refl, sym, ◌∙◌, arith, subst, append_assoc}
+use lib.IntN.{ℤ, pos, ◌-ℤ◌, ◌*ℤ◌, neg_ℤ}
+use lib.Signed.{◌<ℤ◌}
+use Rattle.std.specs.Prelude.{Option, Some, None, unsigned_abs}
 use Rattle.std.specs.List.{AllByRecursion, All, concat, position}
 use Rattle.std.proofs.lemmas.Int.{ints, by_lt_z}
 use Rattle.std.proofs.lemmas.List.Elements.{All-from_recursion}
 use Rattle.scad_geom.specs.declared.level.Level.{Level}
 use Rattle.scad_geom.specs.declared.level.LeafEdge.{LeafEdge}
 use Rattle.scad_geom.specs.declared.shape.Shape.{Shape}
-use Rattle.scad_geom.specs.Line.{rise, x_at, left_of}
+use Rattle.scad_geom.specs.Line.{rise, left_of}
 use Rattle.scad_geom.specs.Around.{Point, side_by, is_beyond}
 use Rattle.scad_geom.specs.Shape.{is_in_by}
 use Rattle.scad_geom.specs.Heights.{IsLower, IsAtMost, IsSameHeight, AreNeighbours, heights}
-use Rattle.scad_geom.proofs.Signs.{pos_mul, neg_mul_pos, at_least_left}
+use Rattle.scad_geom.proofs.Signs.{pos_mul, neg_mul_pos}
 use Rattle.scad_geom.proofs.Integers.{neg_mul}
 use Rattle.scad_geom.proofs.Heights.{lower_then_at_most, at_most_then_lower, at_most_chain, lower_weak, heights_positive}
 use Rattle.scad_geom.proofs.Order.{back}
@@ -29,7 +29,7 @@ use Rattle.slice_bool.proofs.Middle.{size_of, half_point, lower_scaled, scaled_b
 use Rattle.slice_bool.proofs.Slabs.{side_up_is}
 use Rattle.slice_bool.proofs.Winding.{IsSpotAt, both_lists, stops_at, spots_are_at}
 use Rattle.slice_bool.proofs.Walk.{UpTo, at_first, at_next, neighbours_next}
-use Rattle.slice_bool.proofs.BalanceTurns.{gap, is_right, side_turned}
+use Rattle.slice_bool.proofs.BalanceTurns.{is_right, side_turned}
 use Rattle.slice_bool.proofs.BalanceSpots.{IsAt, up_to, down_to, values_alike}
 use Rattle.slice_bool.proofs.BalanceStops.{IsUpTo, first_up_to, next_up_to, IsBeside, beside, further, across}
 use Rattle.slice_bool.proofs.BalanceFlat.{spot_is_at, spot_divisor, alike_beside}

@@ -1,6 +1,6 @@
 -- The pieces between neighbouring stops, one after the other.
-use Rattle.std.proofs.Common.{◌≡◌, ℕ, zero, suc, ◌+◌, ◌-◌, ◌<◌, ◌≤◌, Bool, true, false, cond, List, [], ◌∷◌, ◌++◌, length, get_or, drop, map, refl, sym, ap, ◌∙◌, arith, append_assoc, length-drop}
-use Rattle.std.specs.Prelude.{Option, Some, None}
+use Rattle.std.proofs.Common.{◌≡◌, ℕ, zero, suc, ◌+◌, ◌-◌, ◌<◌, ◌≤◌, Bool, true, false, cond, List, [], ◌∷◌, ◌++◌, length, get_or, drop, refl, ap, ◌∙◌, arith, append_assoc, length-drop}
+use Rattle.std.specs.Prelude.{Some}
 use Rattle.std.specs.List.{position, position_from}
 use Rattle.std.proofs.lemmas.List.{at_drop_more}
 use Rattle.scad_geom.specs.declared.level.LeafEdge.{LeafEdge}

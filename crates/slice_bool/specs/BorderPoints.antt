@@ -1,5 +1,5 @@
 -- Border points, and the points inside a piece.
-use Rattle.std.specs.Prelude.{Bool, true, false, List, ℤ, pos, ◌≡◌, ◌⊎◌, ◌*ℤ◌, ◌<ℤ◌, All}
+use Rattle.std.specs.Prelude.{Bool, true, false, List, pos, ◌≡◌, ◌⊎◌, ◌*ℤ◌, ◌<ℤ◌, All}
 use Rattle.scad_geom.specs.declared.level.LeafEdge.{LeafEdge}
 use Rattle.scad_geom.specs.declared.shape.Shape.{Shape}
 use Rattle.scad_geom.specs.Around.{Point, side_by}

@@ -1,5 +1,5 @@
 //! All pieces of a border.
-ghost use Rattle.std.specs.Prelude.{◌≡◌, ◌<◌, ◌≤◌, ◌+◌, ◌^◌, length, drop, OnOk, IfOk, IfErr, All};
+ghost use Rattle.std.specs.Prelude.{◌<◌, ◌≤◌, ◌+◌, ◌^◌, length, drop, OnOk, IfOk, IfErr, All};
 ghost use Rattle.scad_geom.specs.Point.{IsEdgeWithin};
 ghost use Rattle.scad_geom.specs.Heights.{IsLevelWithin};
 ghost use Rattle.slice_events.specs.Levels.{crossings, AreLevels};

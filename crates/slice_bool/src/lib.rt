@@ -12,6 +12,10 @@ mod fault;
 mod flat;
 pub mod laws;
 mod place;
+#[cfg(test)]
+mod random;
+#[cfg(test)]
+mod rectangles;
 mod slab;
 mod stop;
 mod stops;

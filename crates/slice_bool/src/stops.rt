@@ -1,12 +1,12 @@
 //! The distinct places where edges meet a height, from left to right.
-ghost use Rattle.std.specs.Prelude.{◌≡◌, ◌<◌, ◌&&◌, ◌*ℤ◌, ◌<ℤ◌, pos, true, int_le, int_lt, [], ◌∷◌, ◌++◌, length, OnOk, IfOk, All};
+ghost use Rattle.std.specs.Prelude.{◌≡◌, ◌<◌, ◌&&◌, ◌*ℤ◌, ◌<ℤ◌, pos, true, int_le, [], ◌∷◌, ◌++◌, length, OnOk, IfOk, All};
 ghost use Rattle.std.specs.List.Sorted.{IsPermutation};
 ghost use Rattle.std.specs.Ordering.{is_lt, int_cmp};
 ghost use Rattle.scad_geom.specs.Line.{low, high, rise};
 ghost use Rattle.scad_geom.specs.Point.{IsEdgeWithin};
 ghost use Rattle.scad_geom.specs.Heights.{IsLevelWithin};
 ghost use Rattle.slice_bool.specs.Pieces.{is_flat_at, passes_at, spots_at, AreStops};
-ghost use Rattle.slice_bool.specs.Stops.{spots_in, edge_spots, is_left, AreSorted, distinct_of, stays_at};
+ghost use Rattle.slice_bool.specs.Stops.{spots_in, edge_spots, AreSorted, distinct_of, stays_at};
 
 use crate::stop::{Stop, spot_on, whole_spot};
 use scad_geom::line::{high, low, rise};

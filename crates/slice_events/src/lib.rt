@@ -8,6 +8,8 @@ mod collect;
 mod count;
 mod distinct;
 mod events;
+#[cfg(test)]
+mod grid;
 mod height;
 mod meeting;
 

@@ -1,8 +1,8 @@
 //! Calls with their answers, computed by an independent program.
 
-/// Each line has a name, its arguments, and behind `=` the value or the fault. Values stand in postfix
-/// form: a number in millionths, `'` and the characters of a string (`_` for a blank), `v2` for the
-/// vector of the last two values, `0:1:2` for a range by its start, step and end.
+/// Each line has a name, its arguments, and behind `=` the value or the fault. Values stand in
+/// postfix form: a number in millionths, `'` and the characters of a string (`_` for a blank), `v2`
+/// for the vector of the last two values, `0:1:2` for a range by its start, step and end.
 pub(super) const CALLS: &str = "abs 0 = 0
 abs 1500000 = 1500000
 abs -1500000 = 1500000

@@ -1,5 +1,5 @@
 -- The edge's turn goes to its leaf.
-use Rattle.std.proofs.Common.{◌≡◌, ◌+◌, true, drop, get_or, sym, ap, ◌∙◌}
+use Rattle.std.proofs.Common.{◌+◌, true, drop, get_or, sym, ap, ◌∙◌}
 use Rattle.std.specs.Prelude.{ℤ, pos, ◌+ℤ◌, ◌==◌, if◌then◌else◌}
 use Rattle.scad_geom.specs.Around.{wind_by}
 use Rattle.scad_geom.specs.declared.level.LeafEdge.{LeafEdge}

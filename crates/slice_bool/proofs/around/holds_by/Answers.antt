@@ -1,5 +1,5 @@
 -- The winding numbers say what the shape holds.
-use Rattle.std.proofs.Common.{◌≡◌, ◌∙◌, sym, ap, subst, true, Bool, ℕ, List, get_or}
+use Rattle.std.proofs.Common.{◌∙◌, ap, true, List, get_or}
 use Rattle.std.specs.Prelude.{ℤ, pos}
 use Rattle.std.proofs.lemmas.Result.{IfOk-weaker}
 use Rattle.scad_geom.specs.Around.{Point}

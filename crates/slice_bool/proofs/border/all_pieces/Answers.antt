@@ -1,4 +1,3 @@
-use Rattle.std.proofs.Common.{drop, subst, sym}
 use Rattle.slice_bool.proofs.Climbing.{goes_on, ends}
 use Rattle.slice_bool.proofs.border.all_pieces.Goals as goal
 

@@ -1,5 +1,5 @@
 -- A stop that stays is kept.
-use Rattle.std.proofs.Common.{◌++◌, ◌∷◌, ◌+◌, drop, get_or, sym, ap, ◌∙◌, List}
+use Rattle.std.proofs.Common.{◌++◌, ◌∷◌, ◌+◌, drop, sym, ap, ◌∙◌, List}
 use Rattle.slice_snap.specs.declared.piece.Spot.{Spot}
 use Rattle.slice_bool.specs.declared.stop.Stop.{Stop}
 use Rattle.slice_bool.specs.Stops.{spots_in, distinct_of}

@@ -1,9 +1,9 @@
 -- A flat edge gives both its ends.
-use Rattle.std.proofs.Common.{◌≡◌, ◌∷◌, [], ◌++◌, ◌∙◌, ap, ap₂, sym, List, append_assoc, true, false, Bool}
+use Rattle.std.proofs.Common.{◌≡◌, ◌∷◌, [], ◌++◌, ◌∙◌, ap, ap₂, sym, List, append_assoc, true, Bool}
 use Rattle.std.proofs.lemmas.Result.{on_ok_weaker}
 use Rattle.std.specs.Prelude.{if◌then◌else◌}
 use Rattle.slice_snap.specs.declared.piece.Spot.{Spot}
-use Rattle.slice_bool.specs.Stops.{spots_in, edge_spots}
+use Rattle.slice_bool.specs.Stops.{spots_in}
 use Rattle.slice_bool.specs.Pieces.{is_flat_at, passes_at, spot_on, whole_spot}
 use Rattle.slice_bool.proofs.stops.push_spots.Goals as goal
 

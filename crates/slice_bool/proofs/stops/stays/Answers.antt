@@ -1,5 +1,5 @@
 -- The last stop stays, and one that lies to the left of the next.
-use Rattle.std.proofs.Common.{◌+◌, ◌<◌, suc, length, get_or, sym, ap, ap₂, ◌∙◌, arith, add-one, eq-eqb}
+use Rattle.std.proofs.Common.{◌+◌, ◌<◌, suc, length, sym, ap, ap₂, ◌∙◌, arith, add-one, eq-eqb}
 use Rattle.std.specs.Ordering.{is_lt}
 use Rattle.std.specs.Prelude.{pos, ◌*ℤ◌}
 use Rattle.slice_events.proofs.Steps.{is_lt-int_cmp}
