@@ -1,10 +1,10 @@
 -- What stands at the front of a text by its first bytes.
-use Rattle.std.proofs.Common.{◌≡◌, ℕ, zero, suc, ◌+◌, ◌<◌, ◌≤◌, Bool, true, false, cond, ◌&&◌, ◌==◌, List, [], ◌∷◌, ◌++◌, length, take, drop, take_while, get_or, refl, ap, sym, ◌∙◌, arith}
-use Rattle.std.specs.Prelude.{slice_index, nat_lt, if◌then◌else◌}
+use Rattle.std.proofs.Common.{◌≡◌, ℕ, suc, ◌+◌, ◌≤◌, Bool, true, false, cond, ◌&&◌, ◌==◌, List, [], ◌∷◌, length, take, drop, take_while, ap, ◌∙◌, arith}
+use Rattle.std.specs.Prelude.{slice_index, nat_lt}
 use Rattle.std.specs.Char.{is_ascii_digit}
 use Rattle.std.specs.List.{prefix_len}
 use Rattle.std.proofs.lemmas.Bool.Decides.{nat_tests}
-use Rattle.scad_num.specs.Literal.{digits_len, mantissa_len, exponent_len, literal_len, literal_number}
+use Rattle.scad_num.specs.Literal.{mantissa_len, exponent_len, literal_len, literal_number}
 use Rattle.scad_lex.specs.declared.front.Front.{Front}
 use Rattle.scad_lex.specs.declared.front.Front.TheVariants.{Gap}
 use Rattle.scad_lex.specs.declared.gap.Class.TheVariants.{Blank, WithinLine}

@@ -1,10 +1,10 @@
 -- The text of tokens, each as it is spelled and a blank behind it, is cut into these tokens.
-use Rattle.std.proofs.Common.{◌≡◌, ◌≢◌, ℕ, zero, suc, pred, ◌+◌, ◌<◌, ◌≤◌, Bool, true, false, cond, List, [], ◌∷◌, ◌++◌, length, take, drop, Ok, refl, ap, sym, ◌∙◌, arith, length-append, ◌⊎◌, inl, inr, ◌==◌}
+use Rattle.std.proofs.Common.{◌≡◌, ◌≢◌, ℕ, suc, ◌+◌, ◌<◌, Bool, true, false, cond, List, [], ◌∷◌, ◌++◌, length, drop, Ok, refl, ap, sym, ◌∙◌, arith, length-append, ◌⊎◌, inl, inr}
 use Rattle.std.specs.List.{prefix_len}
 use Rattle.std.proofs.Math.Seq.{take-append_seam, drop-append_seam}
 use Rattle.std.proofs.lemmas.Bool.{cases_eq, ne_eqb}
 use Rattle.scad_fault.specs.declared.place.Place.{Place}
-use Rattle.scad_num.specs.Literal.{literal_len, mantissa_len, exponent_len}
+use Rattle.scad_num.specs.Literal.{literal_len, mantissa_len}
 use Rattle.scad_lex.specs.declared.token.Token.{Token}
 use Rattle.scad_lex.specs.declared.token.TokenKind.{TokenKind}
 use Rattle.scad_lex.specs.declared.token.TokenKind.TheVariants.{Number, Str, Word, Sign, Key}
@@ -16,7 +16,7 @@ use Rattle.scad_lex.specs.Gap.{is_blank}
 use Rattle.scad_lex.specs.Front.{front_of, sign_of}
 use Rattle.scad_lex.specs.Signs.{two_byte_sign, one_byte_sign, mark_sign, operator_sign}
 use Rattle.scad_lex.specs.Words.{word_len}
-use Rattle.scad_lex.specs.Tokens.{next, after, onto, others, led_by, tokens_from, tokens, start, without_mark}
+use Rattle.scad_lex.specs.Tokens.{next, after, onto, others, led_by, tokens_from, start, without_mark}
 use Rattle.scad_lex.specs.Spelling.{spelling, Spaced, blank_behind, spelled, placed, CanBeSpelled, CanAllBeSpelled, SpelledTokensAreRead}
 use Rattle.scad_lex.proofs.Fronts.{given}
 use Rattle.scad_lex.proofs.Pieces.{cut_at}

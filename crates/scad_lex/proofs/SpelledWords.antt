@@ -1,5 +1,5 @@
 -- A name before a blank is cut as it is spelled.
-use Rattle.std.proofs.Common.{◌≡◌, ℕ, zero, suc, ◌+◌, ◌<◌, ◌≤◌, Bool, true, false, cond, ◌==◌, ◌||◌, List, [], ◌∷◌, ◌++◌, length, take, drop, Option, None, refl, ap, sym, ◌∙◌, arith, ◌⊎◌, inl, inr}
+use Rattle.std.proofs.Common.{◌≡◌, ℕ, suc, ◌+◌, ◌<◌, Bool, true, false, cond, ◌==◌, ◌||◌, List, [], ◌∷◌, ◌++◌, length, drop, None, refl, ap, ◌∙◌, arith}
 use Rattle.std.specs.Prelude.{slice_index}
 use Rattle.std.specs.Char.{is_ascii_digit}
 use Rattle.std.specs.List.{prefix_len}
@@ -7,10 +7,9 @@ use Rattle.std.proofs.Math.Seq.{take-append_seam}
 use Rattle.std.proofs.lemmas.Bool.Decides.{nat_tests}
 use Rattle.scad_lex.specs.declared.token.TokenKind.TheVariants.{Word}
 use Rattle.scad_lex.specs.declared.front.Front.TheVariants.{Cut}
-use Rattle.scad_lex.specs.Gap.{is_blank}
 use Rattle.scad_lex.specs.Front.{front_of, word_of}
 use Rattle.scad_lex.specs.Keys.{key_of}
-use Rattle.scad_lex.specs.Words.{begins_word, goes_on_word, dollar_len, word_len}
+use Rattle.scad_lex.specs.Words.{begins_word, goes_on_word, word_len}
 use Rattle.scad_lex.specs.Spelling.{blank_behind}
 use Rattle.scad_lex.proofs.Fronts.{IsPlain, front_word}
 
