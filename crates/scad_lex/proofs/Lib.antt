@@ -1,2 +1,8 @@
+mod Fronts
 mod Pieces
 mod Quotes
+mod Spelled
+mod SpelledNumbers
+mod SpelledSigns
+mod SpelledStrings
+mod SpelledWords

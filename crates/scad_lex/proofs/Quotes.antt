@@ -25,7 +25,7 @@ quoted_from-skip (suc n) (b ∷ bytes) =
     ap (behind [] 1) (quoted_from-skip n bytes) ∙ behind-behind [] [] 1 n (quoted_from 0 (drop n bytes)) ∙ ap (λ k. behind [] k (quoted_from 0 (drop n bytes))) (omega arith)
 
 -- one element at the front
-quoted_from-element : (b : ℕ) (bytes : List ℕ) (c n : ℕ) → element_at (b ∷ bytes) ≡ Some (c, suc n) → (b == 34) ≡ false → quoted_from 0 (b ∷ bytes) ≡ behind (c ∷ []) (suc n) (quoted_from 0 (drop n bytes))
+pub quoted_from-element : (b : ℕ) (bytes : List ℕ) (c n : ℕ) → element_at (b ∷ bytes) ≡ Some (c, suc n) → (b == 34) ≡ false → quoted_from 0 (b ∷ bytes) ≡ behind (c ∷ []) (suc n) (quoted_from 0 (drop n bytes))
 quoted_from-element b bytes c n is other =
     ap (λ e. begun b e (quoted_from (others e) bytes)) is
     ∙ ap (λ t. cond t (Closed [] 1) (behind (c ∷ []) 1 (quoted_from n bytes))) other
@@ -40,7 +40,7 @@ quoted_from-broken b bytes is other =
     ∙ ap (λ t. cond t (Closed [] 1) (Broken 0)) other
 
 -- the closing quote at the front
-quoted_from-closed : (bytes : List ℕ) → quoted_from 0 (34 ∷ bytes) ≡ Closed [] 1
+pub quoted_from-closed : (bytes : List ℕ) → quoted_from 0 (34 ∷ bytes) ≡ Closed [] 1
 quoted_from-closed bytes = closed (element_at (34 ∷ bytes)) (quoted_from (others (element_at (34 ∷ bytes))) bytes)
   where
     closed : (e : Option (ℕ × ℕ)) (later : Quoted) → begun 34 e later ≡ Closed [] 1

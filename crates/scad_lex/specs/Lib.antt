@@ -6,5 +6,6 @@ pub mod Gap
 pub mod Keys
 pub mod Quoted
 pub mod Signs
+pub mod Spelling
 pub mod Tokens
 pub mod Words

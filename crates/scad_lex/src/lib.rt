@@ -9,6 +9,7 @@ mod fault;
 mod front;
 mod gap;
 mod key;
+pub mod laws;
 mod quoted;
 mod scanner;
 mod sign;
