@@ -1,9 +1,11 @@
-//! The grammar of OpenSCAD source: the syntax tree of a list of tokens.
-//! The contract gives exactly the program that the tokens derive, or the first token with a fault.
+//! The grammar of OpenSCAD, and tokens to a program.
+//! Its laws promise one program, or the first fault, for all tokens; the descent reads expressions as they say.
 #![tactic(auto)]
 
+mod argument;
 mod definition;
 mod descent;
+mod element;
 mod expression;
 mod fault;
 mod front;
@@ -11,7 +13,9 @@ pub mod laws;
 mod mark;
 mod nesting;
 mod node;
+mod operand;
 mod operator;
+mod primary;
 mod reading;
 mod statement;
 mod vector;

@@ -7,11 +7,11 @@ use Rattle.scad_parse.specs.Steps.{range_start}
 use Rattle.scad_parse.specs.Reading.{Reads, open_in_arguments, open_in_brackets}
 use Rattle.scad_parse.proofs.+expression.Given as goal
 
-abbrev pub decreases-expression::argument : goal.decreases-expression::argument
-decreases-expression::argument l = 16 * length l.ts.now + 12
+abbrev pub decreases-argument::argument : goal.decreases-argument::argument
+decreases-argument::argument l = 16 * length l.ts.now + 12
 
-abbrev pub decreases-expression::arguments : goal.decreases-expression::arguments
-decreases-expression::arguments l = 16 * length l.ts.now + 13
+abbrev pub decreases-argument::arguments : goal.decreases-argument::arguments
+decreases-argument::arguments l = 16 * length l.ts.now + 13
 
 abbrev pub decreases-expression::bound : goal.decreases-expression::bound
 decreases-expression::bound l = 16 * length l.ts.now + 0
@@ -25,44 +25,44 @@ decreases-expression::chosen l = 16 * length l.ts.now + 0
 abbrev pub decreases-expression::closed : goal.decreases-expression::closed
 decreases-expression::closed l = 16 * length l.ts.now + 12
 
-abbrev pub decreases-expression::closed_arguments : goal.decreases-expression::closed_arguments
-decreases-expression::closed_arguments l = 16 * length l.ts.now + 14
+abbrev pub decreases-argument::closed_arguments : goal.decreases-argument::closed_arguments
+decreases-argument::closed_arguments l = 16 * length l.ts.now + 14
 
 abbrev pub decreases-expression::expression : goal.decreases-expression::expression
 decreases-expression::expression l = 16 * length l.ts.now + 11
 
-abbrev pub decreases-expression::group : goal.decreases-expression::group
-decreases-expression::group l = 16 * length l.ts.now + 0
+abbrev pub decreases-primary::group : goal.decreases-primary::group
+decreases-primary::group l = 16 * length l.ts.now + 0
 
-abbrev pub decreases-expression::indexed : goal.decreases-expression::indexed
-decreases-expression::indexed l = 16 * length l.ts.now + 0
+abbrev pub decreases-operand::indexed : goal.decreases-operand::indexed
+decreases-operand::indexed l = 16 * length l.ts.now + 0
 
-abbrev pub decreases-expression::lines : goal.decreases-expression::lines
-decreases-expression::lines l = 16 * length l.ts.now + (3 + l.count)
+abbrev pub decreases-operand::lines : goal.decreases-operand::lines
+decreases-operand::lines l = 16 * length l.ts.now + (3 + l.count)
 
-abbrev pub decreases-expression::named : goal.decreases-expression::named
-decreases-expression::named l = 16 * length l.ts.now + 0
+abbrev pub decreases-primary::named : goal.decreases-primary::named
+decreases-primary::named l = 16 * length l.ts.now + 0
 
-abbrev pub decreases-expression::operands : goal.decreases-expression::operands
-decreases-expression::operands l = 16 * length l.ts.now + 0
+abbrev pub decreases-operand::operands : goal.decreases-operand::operands
+decreases-operand::operands l = 16 * length l.ts.now + 0
 
-abbrev pub decreases-expression::postfix : goal.decreases-expression::postfix
-decreases-expression::postfix l = 16 * length l.ts.now + 1
+abbrev pub decreases-operand::postfix : goal.decreases-operand::postfix
+decreases-operand::postfix l = 16 * length l.ts.now + 1
 
-abbrev pub decreases-expression::prefixed : goal.decreases-expression::prefixed
-decreases-expression::prefixed l = 16 * length l.ts.now + 0
+abbrev pub decreases-operand::prefixed : goal.decreases-operand::prefixed
+decreases-operand::prefixed l = 16 * length l.ts.now + 0
 
-abbrev pub decreases-expression::primary : goal.decreases-expression::primary
-decreases-expression::primary l = 16 * length l.ts.now + 1
+abbrev pub decreases-primary::primary : goal.decreases-primary::primary
+decreases-primary::primary l = 16 * length l.ts.now + 1
 
-abbrev pub decreases-expression::round_arguments : goal.decreases-expression::round_arguments
-decreases-expression::round_arguments l = 16 * length l.ts.now + 0
+abbrev pub decreases-argument::round_arguments : goal.decreases-argument::round_arguments
+decreases-argument::round_arguments l = 16 * length l.ts.now + 0
 
-abbrev pub decreases-expression::unary : goal.decreases-expression::unary
-decreases-expression::unary l = 16 * length l.ts.now + 2
+abbrev pub decreases-operand::unary : goal.decreases-operand::unary
+decreases-operand::unary l = 16 * length l.ts.now + 2
 
-abbrev pub decreases-expression::word : goal.decreases-expression::word
-decreases-expression::word l = 16 * length l.ts.now + 0
+abbrev pub decreases-primary::word : goal.decreases-primary::word
+decreases-primary::word l = 16 * length l.ts.now + 0
 
 abbrev pub decreases-vector::bracket : goal.decreases-vector::bracket
 decreases-vector::bracket l = 16 * length l.ts.now + 0
@@ -70,26 +70,26 @@ decreases-vector::bracket l = 16 * length l.ts.now + 0
 abbrev pub decreases-vector::bracketed : goal.decreases-vector::bracketed
 decreases-vector::bracketed l = 16 * length l.ts.now + 13
 
-abbrev pub decreases-vector::each : goal.decreases-vector::each
-decreases-vector::each l = 16 * length l.ts.now + 0
+abbrev pub decreases-element::each : goal.decreases-element::each
+decreases-element::each l = 16 * length l.ts.now + 0
 
-abbrev pub decreases-vector::element : goal.decreases-vector::element
-decreases-vector::element l = 16 * length l.ts.now + 12
+abbrev pub decreases-element::element : goal.decreases-element::element
+decreases-element::element l = 16 * length l.ts.now + 12
 
-abbrev pub decreases-vector::for_element : goal.decreases-vector::for_element
-decreases-vector::for_element l = 16 * length l.ts.now + 0
+abbrev pub decreases-element::for_element : goal.decreases-element::for_element
+decreases-element::for_element l = 16 * length l.ts.now + 0
 
-abbrev pub decreases-vector::for_loop : goal.decreases-vector::for_loop
-decreases-vector::for_loop l = 16 * length l.ts.now + 0
+abbrev pub decreases-element::for_loop : goal.decreases-element::for_loop
+decreases-element::for_loop l = 16 * length l.ts.now + 0
 
-abbrev pub decreases-vector::if_element : goal.decreases-vector::if_element
-decreases-vector::if_element l = 16 * length l.ts.now + 0
+abbrev pub decreases-element::if_element : goal.decreases-element::if_element
+decreases-element::if_element l = 16 * length l.ts.now + 0
 
-abbrev pub decreases-vector::let_element : goal.decreases-vector::let_element
-decreases-vector::let_element l = 16 * length l.ts.now + 0
+abbrev pub decreases-element::let_element : goal.decreases-element::let_element
+decreases-element::let_element l = 16 * length l.ts.now + 0
 
-abbrev pub decreases-vector::otherwise : goal.decreases-vector::otherwise
-decreases-vector::otherwise l = 16 * length l.ts.now + 0
+abbrev pub decreases-element::otherwise : goal.decreases-element::otherwise
+decreases-element::otherwise l = 16 * length l.ts.now + 0
 
 abbrev pub decreases-vector::range : goal.decreases-vector::range
 decreases-vector::range l = 16 * length l.ts.now + 0
@@ -97,13 +97,13 @@ decreases-vector::range l = 16 * length l.ts.now + 0
 abbrev pub decreases-vector::vector : goal.decreases-vector::vector
 decreases-vector::vector l = 16 * length l.ts.now + 13
 
-abbrev pub invariant-expression::arguments-members : goal.invariant-expression::arguments-members
-invariant-expression::arguments-members l =
+abbrev pub invariant-argument::arguments-members : goal.invariant-argument::arguments-members
+invariant-argument::arguments-members l =
     (length l.left ≤ length l.fn.ts)
     × Reads open_in_arguments (in_arguments no_arguments) (in_arguments (arguments l.args.items)) l.depth l.fn.ts l.left l.end
 
-abbrev pub decreases-expression::arguments-members : goal.decreases-expression::arguments-members
-decreases-expression::arguments-members l = length l.left
+abbrev pub decreases-argument::arguments-members : goal.decreases-argument::arguments-members
+decreases-argument::arguments-members l = length l.left
 
 abbrev pub invariant-vector::vector-members : goal.invariant-vector::vector-members
 invariant-vector::vector-members l =

@@ -7,7 +7,7 @@ use Rattle.scad_parse.specs.Reading.{place_of}
 use Rattle.scad_parse.proofs.Outcomes.{arrive, deep, refused_by, missing_word, behind_sign, shorter}
 use Rattle.scad_lex.specs.declared.token.Sign.TheVariants.{Dot}
 use Rattle.scad_parse.proofs.DescentOperands.{dot_here, member_here, no_member}
-use Rattle.scad_parse.proofs.expression.member.Goals as goal
+use Rattle.scad_parse.proofs.operand.member.Goals as goal
 
 pub returns-in-Err : goal.returns-in-Err
 returns-in-Err c = λ q h.
