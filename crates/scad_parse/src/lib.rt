@@ -22,3 +22,6 @@ mod vector;
 
 pub use descent::parse;
 pub use fault::ParseFault;
+
+#[cfg(test)]
+mod tests;

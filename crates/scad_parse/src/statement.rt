@@ -13,8 +13,8 @@ ghost use Rattle.scad_parse.specs.Machine.{outcome};
 ghost use Rattle.scad_parse.specs.Reading.{Reads, Stops, Refuses};
 ghost use Rattle.scad_parse.specs.ReadingStatements.{Held, marks_of, begins_with_mark, outcome_first, open_inside, open_held};
 
-use crate::definition::{assignment, function, heading, pushed};
 use crate::argument::round_arguments;
+use crate::definition::{assignment, function, heading, pushed};
 use crate::expression::closed;
 use crate::fault::ParseFault;
 use crate::front::{behind, is_key, is_named, is_sign, place};
