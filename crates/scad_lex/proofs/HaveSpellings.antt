@@ -1,6 +1,6 @@
 -- The tokens of a text can be spelled.
-use Rattle.std.proofs.Common.{◌≡◌, ℕ, zero, suc, ◌+◌, ◌*◌, ◌-◌, ◌<◌, ◌≤◌, Bool, true, false, cond, ◌==◌, ◌&&◌, ◌||◌, List, [], ◌∷◌, ◌++◌, length, take, drop, Option, Some, None, Result, Ok, Err, refl, ap, sym, subst, ◌∙◌, arith}
-use Rattle.std.specs.Prelude.{ℤ, pos, slice_index, option_and_then, nat_lt, nat_le}
+use Rattle.std.proofs.Common.{◌≡◌, ℕ, zero, suc, ◌+◌, ◌<◌, Bool, true, false, cond, ◌==◌, ◌&&◌, List, [], ◌∷◌, length, take, drop, Option, Some, None, Ok, Err, refl, ap, sym, subst, ◌∙◌, arith}
+use Rattle.std.specs.Prelude.{pos, slice_index, option_and_then, nat_lt, nat_le}
 use Rattle.std.specs.List.{prefix_len}
 use Rattle.std.proofs.lemmas.Bool.Decides.{nat_tests}
 use Rattle.std.proofs.lemmas.List.Folds.{length-prefix_len}
@@ -8,7 +8,6 @@ use Rattle.scad_fault.specs.declared.place.Place.{Place}
 use Rattle.scad_num.specs.declared.fault.NumFault.TheVariants.{Range}
 use Rattle.scad_num.specs.Literal.{literal_len, literal_number, literal_millionths}
 use Rattle.scad_num.specs.Number.{most, number_of}
-use Rattle.scad_lex.specs.declared.token.Token.{Token}
 use Rattle.scad_lex.specs.declared.token.Key.{Key as KeyName}
 use Rattle.scad_lex.specs.declared.token.Sign.{Sign as SignName}
 use Rattle.scad_lex.specs.declared.front.Front.{Front}
@@ -21,11 +20,11 @@ use Rattle.scad_lex.specs.Gap.{is_blank, closed_len}
 use Rattle.scad_lex.specs.Character.{is_scalar, tail_at, two_tails_at, form_of, two_bytes, three_bytes, four_bytes, character_at}
 use Rattle.scad_lex.specs.Escape.{coded, escape_at, two_digits, four_digits, six_digits}
 use Rattle.scad_lex.specs.Quoted.{element_at, behind, begun, quoted_from, others as others_of}
-use Rattle.scad_lex.specs.Words.{begins_word, goes_on_word, dollar_len, word_len}
+use Rattle.scad_lex.specs.Words.{begins_word, goes_on_word, word_len}
 use Rattle.scad_lex.specs.Keys.{key_of}
 use Rattle.scad_lex.specs.Signs.{two_byte_sign, one_byte_sign}
 use Rattle.scad_lex.specs.Front.{front_of, comment_of, string_of, numeral_of, word_of, sign_of}
-use Rattle.scad_lex.specs.Tokens.{Answer, next, onto, others, led_by, tokens_from, start, without_mark}
+use Rattle.scad_lex.specs.Tokens.{Answer, next, others, led_by, tokens_from, start, without_mark}
 use Rattle.scad_lex.specs.Spelling.{AreScalars, CanBeSpelled, HaveSpellings, TokensHaveSpellings}
 
 -- ---- characters
