@@ -1,4 +1,5 @@
 mod Fronts
+mod HaveSpellings
 mod Pieces
 mod Quotes
 mod Spelled

@@ -111,3 +111,12 @@ placed at (k ∷ more) = record { kind = k.0; at = at } ∷ placed (after at (sp
 -- the text of tokens that are spelled so has these tokens, and no others
 abbrev pub SpelledTokensAreRead : Type 0
 SpelledTokensAreRead = (all : List Spaced) → CanAllBeSpelled all → tokens (spelled all) ≡ Ok (placed start all, after start (spelled all))
+
+-- each of these tokens can be spelled
+abbrev pub HaveSpellings : List Token → Type 0
+HaveSpellings [] = Unit {0}
+HaveSpellings (t ∷ ts) = CanBeSpelled t.kind × HaveSpellings ts
+
+-- the tokens of a text can be spelled
+abbrev pub TokensHaveSpellings : Type 0
+TokensHaveSpellings = (bytes : List ℕ) (ts : List Token) (end : Place) → tokens bytes ≡ Ok (ts, end) → HaveSpellings ts

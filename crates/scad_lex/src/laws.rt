@@ -1,9 +1,15 @@
 //! Laws of the definitions, each carried by the contract of a function that does nothing.
-ghost use Rattle.scad_lex.specs.Spelling.{SpelledTokensAreRead};
+ghost use Rattle.scad_lex.specs.Spelling.{SpelledTokensAreRead, TokensHaveSpellings};
 
 /// The text of tokens, each as it is spelled and a blank or a line feed behind it, has these tokens
 /// at their places, and no others.
 #[tactic(auto, using(crate::proofs::Spelled::spelled_tokens_are_read))]
 pub fn spelled_tokens_are_read()
     ensures { SpelledTokensAreRead }
+{}
+
+/// The tokens of a text can be spelled.
+#[tactic(auto, using(crate::proofs::HaveSpellings::tokens_have_spellings))]
+pub fn tokens_have_spellings()
+    ensures { TokensHaveSpellings }
 {}
