@@ -43,5 +43,5 @@ returns-in-Ok-pushed c =
           ∙ (ap (λ r. outcome (want_expression (assigned_to at w a k)) r c.args.end) (sym (c.behind-2.ensures.value ∙ ap behind c.behind.ensures.value))
           ∙ (c.in-Ok-closed.ensures.1 (closing_assigned at w a k) (omega (arith, h, c.in-Ok.ensures))
           ∙ ap (λ x. outcome (have_items x k) c.in-Ok-closed.value.1.now c.args.end)
-              (ap (λ p. with_item a (assignment p w (expression_of c.in-Ok-closed.value.0))) (sym c.place-at.ensures) ∙ sym c.in-Ok-pushed.ensures))),
+          (ap (λ p. with_item a (assignment p w (expression_of c.in-Ok-closed.value.0))) (sym c.place-at.ensures) ∙ sym c.in-Ok-pushed.ensures))),
     )

@@ -80,5 +80,5 @@ returns-in-Ok-pushed c =
           ∙ (ap (λ r. outcome to r c.args.end) (sym c.in-Ok-expect.ensures.found.1)
           ∙ (c.in-Ok-closed.ensures.1 (closing_body at w all a k) (omega (arith, h, c.in-Ok.ensures))
           ∙ ap (λ x. outcome (have_items x k) c.in-Ok-closed.body.1.now c.args.end)
-              (ap (λ p. with_item a (function_of p w all (expression_of c.in-Ok-closed.body.0))) (sym c.place-at.ensures) ∙ sym c.in-Ok-pushed.ensures)))))))),
+          (ap (λ p. with_item a (function_of p w all (expression_of c.in-Ok-closed.body.0))) (sym c.place-at.ensures) ∙ sym c.in-Ok-pushed.ensures)))))))),
     )

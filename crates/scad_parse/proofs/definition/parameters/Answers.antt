@@ -29,7 +29,7 @@ members-preserved c =
           ∙ (c.in-Ok.ensures.1 (record { all = all; behind = k }) h
           ∙ (c.in-Ok-behind_parameter.ensures.1 (record { all = with_param all c.in-Ok.param.0; behind = k }) h
           ∙ ap (λ x. outcome (in_parameters x k) c.in-Ok-behind_parameter.left.now c.args.end)
-              (sym (ap (map parameter) c.in-Ok-push.ensures.items ∙ parameters_push c.members.params.items c.in-Ok.param.0)))),
+          (sym (ap (map parameter) c.in-Ok-push.ensures.items ∙ parameters_push c.members.params.items c.in-Ok.param.0)))),
     )
 
 pub returns : goal.returns

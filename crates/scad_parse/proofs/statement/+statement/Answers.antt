@@ -42,7 +42,7 @@ call-returns-in-Ok-kept t c =
           ∙ (c.in-Ok-child.ensures.1 (child_of c.args.at m c.args.name all a k) (omega (arith, h))
           ∙ (call_done c.args.at m c.args.name all inside a k rest c.args.end
           ∙ ap (λ x. outcome (have_items x k) rest c.args.end)
-              (ap (with_statement m a) (sym (call_view c.args.at m.percent m.hash c.args.name c.in-Ok.args.0 c.in-Ok-child.inside.0)) ∙ sym c.in-Ok-kept.ensures))),
+          (ap (with_statement m a) (sym (call_view c.args.at m.percent m.hash c.args.name c.in-Ok.args.0 c.in-Ok-child.inside.0)) ∙ sym c.in-Ok-kept.ensures))),
     )
 
 pub choice-returns-in-Err : goal.choice-returns-in-Err
@@ -91,7 +91,7 @@ choice-returns-in-Ok-kept t c =
           ∙ (c.in-Ok-child.ensures.1 (held_child c.args.at m e a k) (omega (arith, h))
           ∙ (c.in-Ok-otherwise.ensures.1 (record { at = c.args.at; marks = m; test = e; held = items c.in-Ok-child.held.0.items; all = a; behind = k }) h
           ∙ ap (λ x. outcome (have_items x k) rest c.args.end)
-              (ap (with_statement m a) (sym (choice_view c.args.at m.percent m.hash c.in-Ok-closed.test.0 c.in-Ok-child.held.0 c.in-Ok-otherwise.other.0)) ∙ sym c.in-Ok-kept.ensures)))),
+          (ap (with_statement m a) (sym (choice_view c.args.at m.percent m.hash c.in-Ok-closed.test.0 c.in-Ok-child.held.0 c.in-Ok-otherwise.other.0)) ∙ sym c.in-Ok-kept.ensures)))),
     )
 
 pub otherwise-returns-in-Err : goal.otherwise-returns-in-Err
@@ -371,8 +371,8 @@ pub statement-returns-in-Err-instance : goal.statement-returns-in-Err-instance
 statement-returns-in-Err-instance t c = λ k h.
     refused_by c.in-Err-instance.fault
     (instance_here c.args.definitions (items c.args.scope.items) k c.args.ts.now c.args.end
-        (sym c.is_sign.ensures ∙ c.if-is_sign.false) (sym c.is_sign-2.ensures ∙ c.if-is_sign-2.false) (sym c.is_named.ensures ∙ c.if-is_named.false)
-        (λ d. absurd (let f = c.if-definitions.false in cc)) (λ d. absurd (let f = c.if-definitions.false in cc)))
+    (sym c.is_sign.ensures ∙ c.if-is_sign.false) (sym c.is_sign-2.ensures ∙ c.if-is_sign-2.false) (sym c.is_named.ensures ∙ c.if-is_named.false)
+    (λ d. absurd (let f = c.if-definitions.false in cc)) (λ d. absurd (let f = c.if-definitions.false in cc)))
     (c.in-Err-instance.ensures k h)
 
 pub statement-returns : goal.statement-returns
@@ -380,8 +380,8 @@ statement-returns t c = (
   c.in-Ok-instance.ensures.0,
   λ k h.
       instance_here c.args.definitions (items c.args.scope.items) k c.args.ts.now c.args.end
-          (sym c.is_sign.ensures ∙ c.if-is_sign.false) (sym c.is_sign-2.ensures ∙ c.if-is_sign-2.false) (sym c.is_named.ensures ∙ c.if-is_named.false)
-          (λ d. absurd (let f = c.if-definitions.false in cc)) (λ d. absurd (let f = c.if-definitions.false in cc))
+      (sym c.is_sign.ensures ∙ c.if-is_sign.false) (sym c.is_sign-2.ensures ∙ c.if-is_sign-2.false) (sym c.is_named.ensures ∙ c.if-is_named.false)
+      (λ d. absurd (let f = c.if-definitions.false in cc)) (λ d. absurd (let f = c.if-definitions.false in cc))
       ∙ c.in-Ok-instance.ensures.1 k h,
 )
 
@@ -401,8 +401,8 @@ pub definition-returns-in-Err-instance : goal.definition-returns-in-Err-instance
 definition-returns-in-Err-instance t c = λ k h.
     refused_by c.in-Err-instance.fault
     (instance_here true (items c.args.scope.items) k c.args.ts.now c.args.end
-        c.requires.some c.requires.no_group c.requires.no_name
-        (λ d. sym c.is_key.ensures ∙ c.if-is_key.false) (λ d. sym c.is_key-2.ensures ∙ c.if-is_key-2.false))
+    c.requires.some c.requires.no_group c.requires.no_name
+    (λ d. sym c.is_key.ensures ∙ c.if-is_key.false) (λ d. sym c.is_key-2.ensures ∙ c.if-is_key-2.false))
     (c.in-Err-instance.ensures k h)
 
 pub definition-returns : goal.definition-returns
@@ -410,8 +410,8 @@ definition-returns t c = (
   c.in-Ok-instance.ensures.0,
   λ k h.
       instance_here true (items c.args.scope.items) k c.args.ts.now c.args.end
-          c.requires.some c.requires.no_group c.requires.no_name
-          (λ d. sym c.is_key.ensures ∙ c.if-is_key.false) (λ d. sym c.is_key-2.ensures ∙ c.if-is_key-2.false)
+      c.requires.some c.requires.no_group c.requires.no_name
+      (λ d. sym c.is_key.ensures ∙ c.if-is_key.false) (λ d. sym c.is_key-2.ensures ∙ c.if-is_key-2.false)
       ∙ c.in-Ok-instance.ensures.1 k h,
 )
 
@@ -495,6 +495,6 @@ module-returns-in-Ok-pushed t c =
           ∙ (c.in-Ok-statement.ensures.1 b (omega (arith, h, c.in-Ok.ensures))
           ∙ (module_done at w (map parameter params.items) inside a k rest c.args.end
           ∙ ap (λ x. outcome (have_items x k) rest c.args.end)
-              (ap (λ p. with_item a (module_of p w (map parameter params.items) inside)) (sym c.place-at.ensures)
-              ∙ (ap (with_item a) (sym (module_view w params c.in-Ok-statement.body.0 c.place-at.result)) ∙ sym c.in-Ok-pushed.ensures)))))))),
+          (ap (λ p. with_item a (module_of p w (map parameter params.items) inside)) (sym c.place-at.ensures)
+          ∙ (ap (with_item a) (sym (module_view w params c.in-Ok-statement.body.0 c.place-at.result)) ∙ sym c.in-Ok-pushed.ensures)))))))),
     )
