@@ -89,7 +89,7 @@ character_can bytes = by_ascii (nat_lt (slice_index bytes 0) 0x80) refl
   where
     by_ascii : (t : Bool) → nat_lt (slice_index bytes 0) 0x80 ≡ t
         → ElementCan (cond t (Some (slice_index bytes 0, 1)) (cond (nat_lt (slice_index bytes 0) 0xC0) None (cond (nat_lt (slice_index bytes 0) 0xE0) (two_bytes bytes)
-            (cond (nat_lt (slice_index bytes 0) 0xF0) (three_bytes bytes) (cond (nat_lt (slice_index bytes 0) 0xF8) (four_bytes bytes) None)))))
+        (cond (nat_lt (slice_index bytes 0) 0xF0) (three_bytes bytes) (cond (nat_lt (slice_index bytes 0) 0xF8) (four_bytes bytes) None)))))
     by_ascii true h = grind (arith, nat_tests)
     by_ascii false h =
         either_can (nat_lt (slice_index bytes 0) 0xC0) _ _ tt
@@ -158,15 +158,17 @@ IsName word = (0 < length word) × (word_len word ≡ length word)
 
 plain_name : (c : ℕ) (ys : List ℕ) → (c == 36) ≡ false → begins_word c ≡ true → prefix_len goes_on_word (c ∷ ys) ≡ length (c ∷ ys) → IsName (c ∷ ys)
 unfolding word_len
-plain_name c ys plain letter all =
-    (omega arith,
-     ap (λ t. len_from (cond t 1 0) (c ∷ ys)) plain ∙ ap (λ t. cond t (0 + prefix_len goes_on_word (c ∷ ys)) 0) letter ∙ omega (arith, all))
+plain_name c ys plain letter all = (
+  omega arith,
+  ap (λ t. len_from (cond t 1 0) (c ∷ ys)) plain ∙ ap (λ t. cond t (0 + prefix_len goes_on_word (c ∷ ys)) 0) letter ∙ omega (arith, all),
+)
 
 dollar_name : (c d : ℕ) (ys : List ℕ) → (c == 36) ≡ true → begins_word d ≡ true → prefix_len goes_on_word (d ∷ ys) ≡ length (d ∷ ys) → IsName (c ∷ d ∷ ys)
 unfolding word_len
-dollar_name c d ys dollar letter all =
-    (omega arith,
-     ap (λ t. len_from (cond t 1 0) (c ∷ d ∷ ys)) dollar ∙ ap (λ t. cond t (1 + prefix_len goes_on_word (d ∷ ys)) 0) letter ∙ omega (arith, all))
+dollar_name c d ys dollar letter all = (
+  omega arith,
+  ap (λ t. len_from (cond t 1 0) (c ∷ d ∷ ys)) dollar ∙ ap (λ t. cond t (1 + prefix_len goes_on_word (d ∷ ys)) 0) letter ∙ omega (arith, all),
+)
 
 run_len : (d : ℕ) (es : List ℕ) → goes_on_word d ≡ true → prefix_len goes_on_word (d ∷ es) ≡ suc (prefix_len goes_on_word es)
 run_len d es goes = ap (λ t. cond t (1 + prefix_len goes_on_word es) 0) goes ∙ omega arith
@@ -178,7 +180,7 @@ run_is : (d : ℕ) (es : List ℕ) → goes_on_word d ≡ true
     → prefix_len goes_on_word (d ∷ take (prefix_len goes_on_word es) es) ≡ length (d ∷ take (prefix_len goes_on_word es) es)
 run_is d es goes =
     subst (λ w. prefix_len goes_on_word w ≡ length w) (first_kept d es goes)
-        (prefix_len-whole goes_on_word (d ∷ es) ∙ sym (length-prefix_len goes_on_word (d ∷ es)))
+    (prefix_len-whole goes_on_word (d ∷ es) ∙ sym (length-prefix_len goes_on_word (d ∷ es)))
 
 name_from : (t : Bool) (c : ℕ) (cs : List ℕ) → (c == 36) ≡ t → 0 < len_from (cond t 1 0) (c ∷ cs) → IsName (take (len_from (cond t 1 0) (c ∷ cs)) (c ∷ cs))
 name_from false c cs plain some = by_letter (begins_word c) refl some
@@ -198,7 +200,7 @@ name_from true c (e ∷ es) dollar some = by_letter (begins_word e) refl some
         let goes : goes_on_word e ≡ true = begins_goes e letter in
         let long : len_from 1 (c ∷ e ∷ es) ≡ suc (prefix_len goes_on_word (e ∷ es)) = ap (λ t. cond t (1 + prefix_len goes_on_word (e ∷ es)) 0) letter ∙ omega arith in
         subst IsName (sym (ap (λ n. take n (c ∷ e ∷ es)) long ∙ ap (λ w. c ∷ w) (first_kept e es goes)))
-            (dollar_name c e (take (prefix_len goes_on_word es) es) dollar letter (run_is e es goes))
+        (dollar_name c e (take (prefix_len goes_on_word es) es) dollar letter (run_is e es goes))
 
 word_name : (bytes : List ℕ) → 0 < word_len bytes → IsName (take (word_len bytes) bytes)
 unfolding word_len
@@ -291,7 +293,7 @@ from_can zero at [] = tt
 from_can (suc n) at [] = tt
 from_can zero at (b ∷ bytes) =
     led_can (front_of (b ∷ bytes)) at (b ∷ bytes) (tokens_from (others (front_of (b ∷ bytes))) (next at b) bytes) (front_can (b ∷ bytes))
-        (from_can (others (front_of (b ∷ bytes))) (next at b) bytes)
+    (from_can (others (front_of (b ∷ bytes))) (next at b) bytes)
 from_can (suc n) at (b ∷ bytes) = from_can n (next at b) bytes
 
 pub tokens_have_spellings : TokensHaveSpellings

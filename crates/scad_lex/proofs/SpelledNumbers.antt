@@ -202,7 +202,7 @@ decimals_value (suc k) parts below end = by_end (cases_eq parts 0) (decimals_val
     by_end (inl e) later = subst (λ p. digits_value 10 (decimals_of (suc k) p) * one ≡ p * 10 ^ length (decimals_of (suc k) p)) (sym e) refl
     by_end (inr ne) later =
         subst (λ ds. digits_value 10 ds * one ≡ parts * 10 ^ length ds) (sym (ap (λ t. cond t [] ((48 + d) ∷ decimals_of k r)) (ne_eqb parts 0 ne)))
-            (next_value d r parts (decimals_of k r) (omega arith) (omega arith) later)
+        (next_value d r parts (decimals_of k r) (omega arith) (omega arith) later)
 
 -- ---- a number
 joined_value : (v whole part w p n P : ℕ) → v ≡ whole * P + part → whole ≡ w → part * one ≡ p * P → n ≡ w * one + p → v * 10 ^ 6 ≡ n * P
@@ -212,7 +212,7 @@ value_of : (whole ds : List ℕ) (w p n : ℕ) → digits_value 10 whole ≡ w �
     → half_up (digits_value 10 (whole ++ ds) * 10 ^ 6) (10 ^ length ds) ≡ n
 value_of whole ds w p n is_whole is_part is =
     ap (λ x. half_up x (10 ^ length ds))
-        (joined_value (digits_value 10 (whole ++ ds)) (digits_value 10 whole) (digits_value 10 ds) w p n (10 ^ length ds) (digits_value-append whole ds) is_whole is_part is)
+    (joined_value (digits_value 10 (whole ++ ds)) (digits_value 10 whole) (digits_value 10 ds) w p n (10 ^ length ds) (digits_value-append whole ds) is_whole is_part is)
     ∙ half_up-exact n (10 ^ length ds) (ten_pow (length ds))
 
 number_small : (n : ℕ) → n ≤ most → number_of (pos n) ≡ Ok (pos n)
@@ -239,12 +239,12 @@ whole_front : (whole more : List ℕ) (n : ℕ) → AreDigits whole → 0 < leng
 whole_front whole more n are some ends value small =
     let same : whole ≡ whole ++ [] = sym (append-nil whole) in
     cut_number whole more n some (subst (λ t. 48 ≤ slice_index t 0) (append-nil whole) (first_digit whole [] are some))
-        (literal_by whole more some (whole_mantissa whole more are some ends) ends.exponent)
-        (millionths-by whole whole [] (ap whole_digits same ∙ take_digits whole [] are refl)
-            (ap decimal_digits same ∙ whole_decimals whole [] are some ends_nothing)
-            (ap mantissa_len same ∙ whole_mantissa whole [] are some ends_nothing)
-         ∙ value_of whole [] (digits_value 10 whole) 0 n refl refl (omega (arith, value)))
-        small
+    (literal_by whole more some (whole_mantissa whole more are some ends) ends.exponent)
+    (millionths-by whole whole [] (ap whole_digits same ∙ take_digits whole [] are refl)
+    (ap decimal_digits same ∙ whole_decimals whole [] are some ends_nothing)
+    (ap mantissa_len same ∙ whole_mantissa whole [] are some ends_nothing)
+    ∙ value_of whole [] (digits_value 10 whole) 0 n refl refl (omega (arith, value)))
+    small
 
 split_front : (whole ds more : List ℕ) (w p n : ℕ) → AreDigits whole → 0 < length whole → AreDigits ds → Ends more
     → digits_value 10 whole ≡ w → digits_value 10 ds * one ≡ p * 10 ^ length ds → n ≡ w * one + p → n ≤ most
@@ -253,13 +253,13 @@ split_front whole ds more w p n are some also ends is_whole is_part is small =
     let same : whole ++ 46 ∷ ds ≡ whole ++ (46 ∷ ds ++ []) = ap (λ t. whole ++ 46 ∷ t) (sym (append-nil ds)) in
     let longer : 0 < length (whole ++ 46 ∷ ds) = omega (arith, length-append whole (46 ∷ ds)) in
     cut_number (whole ++ 46 ∷ ds) more n longer (first_digit whole (46 ∷ ds) are some)
-        (literal_by (whole ++ 46 ∷ ds) more longer
-            (ap mantissa_len (append_assoc whole (46 ∷ ds) more) ∙ split_mantissa whole ds more are some also ends) ends.exponent)
-        (millionths-by (whole ++ 46 ∷ ds) whole ds (take_digits whole (46 ∷ ds) are refl)
-            (ap decimal_digits same ∙ split_decimals whole ds [] are some also ends_nothing)
-            (ap mantissa_len same ∙ split_mantissa whole ds [] are some also ends_nothing)
-         ∙ value_of whole ds w p n is_whole is_part is)
-        small
+    (literal_by (whole ++ 46 ∷ ds) more longer
+    (ap mantissa_len (append_assoc whole (46 ∷ ds) more) ∙ split_mantissa whole ds more are some also ends) ends.exponent)
+    (millionths-by (whole ++ 46 ∷ ds) whole ds (take_digits whole (46 ∷ ds) are refl)
+    (ap decimal_digits same ∙ split_decimals whole ds [] are some also ends_nothing)
+    (ap mantissa_len same ∙ split_mantissa whole ds [] are some also ends_nothing)
+    ∙ value_of whole ds w p n is_whole is_part is)
+    small
 
 size_front : (n : ℕ) (more : List ℕ) → n ≤ most → Ends more → front_of (size_text n ++ more) ≡ Cut (Number (pos n)) (length (size_text n))
 size_front n more small ends = by_part (cases_eq p 0)
@@ -279,14 +279,14 @@ size_front n more small ends = by_part (cases_eq p 0)
     by_part : (p ≡ 0) ⊎ (p ≢ 0) → front_of (size_text n ++ more) ≡ Cut (Number (pos n)) (length (size_text n))
     by_part (inl e) =
         subst (λ t. front_of (t ++ more) ≡ Cut (Number (pos n)) (length t)) (sym (ap (λ q. decimal w ++ fraction_text q) e ∙ append-nil (decimal w)))
-            (whole_front (decimal w) more n are numeral.0.0 ends (ap (λ x. x * one) numeral.1 ∙ omega (arith, e)) small)
+        (whole_front (decimal w) more n are numeral.0.0 ends (ap (λ x. x * one) numeral.1 ∙ omega (arith, e)) small)
     by_part (inr ne) =
         subst (λ t. front_of (t ++ more) ≡ Cut (Number (pos n)) (length t)) (sym (ap (λ t. decimal w ++ cond t [] (46 ∷ decimals_of 6 p)) (ne_eqb p 0 ne)))
-            (split_front (decimal w) (decimals_of 6 p) more w p n are numeral.0.0 (decimals_are 6 p (omega arith)) ends
-                numeral.1 (decimals_value 6 p (omega arith) (end_in_six p)) (omega arith) small)
+        (split_front (decimal w) (decimals_of 6 p) more w p n are numeral.0.0 (decimals_are 6 p (omega arith)) ends
+        numeral.1 (decimals_value 6 p (omega arith) (end_in_six p)) (omega arith) small)
 
 pub number_front : (z : ℤ) (n : ℕ) (b : Bool) (rest : List ℕ) → z ≡ pos n → n ≤ most
     → front_of (number_text z ++ blank_behind b ∷ rest) ≡ Cut (Number z) (length (number_text z))
 number_front z n b rest is small =
     subst (λ z. front_of (number_text z ++ blank_behind b ∷ rest) ≡ Cut (Number z) (length (number_text z))) (sym is)
-        (size_front n (blank_behind b ∷ rest) small (ends_blank b rest))
+    (size_front n (blank_behind b ∷ rest) small (ends_blank b rest))

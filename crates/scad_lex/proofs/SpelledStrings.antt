@@ -139,7 +139,6 @@ is_four w x y z c rest w_small x_small y_small z_small same low scalar =
 
 -- ---- a character of a string
 
-
 read_one : (c : ℕ) → c < 128 → (rest : List ℕ) → character_at (c ∷ rest) ≡ Some (c, 1)
 unfolding character_at
 read_one c h rest =
@@ -165,35 +164,43 @@ bytes_of : (c : ℕ) → is_scalar c ≡ true → Bytes c
 bytes_of c scalar = by_one (cases_lt c 128)
   where
     by_three : (2048 ≤ c) → (c < 65536) ⊎ (65536 ≤ c) → Bytes c
-    by_three low (inl high) = record
-        { first = 224 + c / 4096; others = (128 + c / 64 % 64) ∷ (128 + c % 64) ∷ []
-        ; are = encode_three c low high
-        ; read = λ rest. is_three (c / 4096) (c / 64 % 64) (c % 64) c rest (omega arith) (omega arith) (omega arith) (omega arith) low scalar
-        ; quote = λ ne e. absurd (omega (arith, e))
-        ; backslash = λ ne e. absurd (omega (arith, e)) }
-    by_three low (inr past) = record
-        { first = 240 + c / 262144; others = (128 + c / 4096 % 64) ∷ (128 + c / 64 % 64) ∷ (128 + c % 64) ∷ []
-        ; are = encode_four c past
-        ; read = λ rest. is_four (c / 262144) (c / 4096 % 64) (c / 64 % 64) (c % 64) c rest (omega (arith, scalar_small c scalar)) (omega arith) (omega arith) (omega arith) (omega arith) past scalar
-        ; quote = λ ne e. absurd (omega (arith, e))
-        ; backslash = λ ne e. absurd (omega (arith, e)) }
+    by_three low (inl high) = record {
+      first = 224 + c / 4096;
+      others = (128 + c / 64 % 64) ∷ (128 + c % 64) ∷ [];
+      are = encode_three c low high;
+      read = λ rest. is_three (c / 4096) (c / 64 % 64) (c % 64) c rest (omega arith) (omega arith) (omega arith) (omega arith) low scalar;
+      quote = λ ne e. absurd (omega (arith, e));
+      backslash = λ ne e. absurd (omega (arith, e));
+    }
+    by_three low (inr past) = record {
+      first = 240 + c / 262144;
+      others = (128 + c / 4096 % 64) ∷ (128 + c / 64 % 64) ∷ (128 + c % 64) ∷ [];
+      are = encode_four c past;
+      read = λ rest. is_four (c / 262144) (c / 4096 % 64) (c / 64 % 64) (c % 64) c rest (omega (arith, scalar_small c scalar)) (omega arith) (omega arith) (omega arith) (omega arith) past scalar;
+      quote = λ ne e. absurd (omega (arith, e));
+      backslash = λ ne e. absurd (omega (arith, e));
+    }
 
     by_two : (128 ≤ c) → (c < 2048) ⊎ (2048 ≤ c) → Bytes c
-    by_two low (inl high) = record
-        { first = 192 + c / 64; others = (128 + c % 64) ∷ []
-        ; are = encode_two c low high
-        ; read = λ rest. is_two (c / 64) (c % 64) c rest (omega arith) (omega arith) (omega arith) low scalar
-        ; quote = λ ne e. absurd (omega (arith, e))
-        ; backslash = λ ne e. absurd (omega (arith, e)) }
+    by_two low (inl high) = record {
+      first = 192 + c / 64;
+      others = (128 + c % 64) ∷ [];
+      are = encode_two c low high;
+      read = λ rest. is_two (c / 64) (c % 64) c rest (omega arith) (omega arith) (omega arith) low scalar;
+      quote = λ ne e. absurd (omega (arith, e));
+      backslash = λ ne e. absurd (omega (arith, e));
+    }
     by_two low (inr past) = by_three past (cases_lt c 65536)
 
     by_one : (c < 128) ⊎ (128 ≤ c) → Bytes c
-    by_one (inl low) = record
-        { first = c; others = []
-        ; are = encode_ascii c low
-        ; read = read_one c low
-        ; quote = λ ne. ne
-        ; backslash = λ ne. ne }
+    by_one (inl low) = record {
+      first = c;
+      others = [];
+      are = encode_ascii c low;
+      read = read_one c low;
+      quote = λ ne. ne;
+      backslash = λ ne. ne;
+    }
     by_one (inr past) = by_two past (cases_lt c 2048)
 
 -- a character as it is spelled, before what goes on
@@ -216,8 +223,8 @@ unfolding element_at
 plain_read c no_quote no_backslash bytes rest =
     ap (λ w. quoted_from 0 (w ++ rest)) bytes.are
     ∙ quoted_from-element bytes.first (bytes.others ++ rest) c (length bytes.others)
-        (ap (λ t. cond t (escape_at (bytes.first ∷ bytes.others ++ rest)) (character_at (bytes.first ∷ bytes.others ++ rest))) (ne_eqb bytes.first 92 (bytes.backslash no_backslash)) ∙ bytes.read rest)
-        (ne_eqb bytes.first 34 (bytes.quote no_quote))
+    (ap (λ t. cond t (escape_at (bytes.first ∷ bytes.others ++ rest)) (character_at (bytes.first ∷ bytes.others ++ rest))) (ne_eqb bytes.first 92 (bytes.backslash no_backslash)) ∙ bytes.read rest)
+    (ne_eqb bytes.first 34 (bytes.quote no_quote))
     ∙ ap (λ t. behind (c ∷ []) (suc (length bytes.others)) (quoted_from 0 t)) (drop-append_seam bytes.others rest)
     ∙ ap (λ w. behind (c ∷ []) (length w) (quoted_from 0 rest)) (sym bytes.are)
 
@@ -229,8 +236,8 @@ element_read c scalar = by_quote (cases_eq c 34) (cases_eq c 92)
     by_quote (inr ne) (inl e) = subst (λ c. IsElement c (character_spelling c)) (sym e) backslash_read
     by_quote (inr no_quote) (inr no_backslash) =
         subst (IsElement c) (sym (ap (λ t. cond t (92 ∷ 34 ∷ []) (cond (c == 92) (92 ∷ 92 ∷ []) (encode_utf8 c))) (ne_eqb c 34 no_quote)
-            ∙ ap (λ t. cond t (92 ∷ 92 ∷ []) (encode_utf8 c)) (ne_eqb c 92 no_backslash)))
-            (plain_read c no_quote no_backslash (bytes_of c scalar))
+        ∙ ap (λ t. cond t (92 ∷ 92 ∷ []) (encode_utf8 c)) (ne_eqb c 92 no_backslash)))
+        (plain_read c no_quote no_backslash (bytes_of c scalar))
 
 -- ---- a string
 chars_read : (chars : List ℕ) (rest : List ℕ) → AreScalars chars

@@ -34,15 +34,15 @@ len_from-before : (dollar : Bool) (c : ℕ) (cs : List ℕ) (b : ℕ) (rest : Li
     → len_from (cond dollar 1 0) (c ∷ cs) ≡ suc (length cs) → len_from (cond dollar 1 0) (c ∷ cs ++ b ∷ rest) ≡ suc (length cs)
 len_from-before false c cs b rest ends whole =
     chosen (begins_word c) (0 + prefix_len goes_on_word (c ∷ cs)) (0 + prefix_len goes_on_word (c ∷ cs ++ b ∷ rest)) (length cs) whole
-        (λ e. let all : prefix_len goes_on_word (c ∷ cs) ≡ length (c ∷ cs) = omega (arith, e) in
-              let more : prefix_len goes_on_word (c ∷ cs ++ b ∷ rest) ≡ length (c ∷ cs) = prefix_len-before goes_on_word (c ∷ cs) b rest ends all in
-              omega (arith, more))
+    (λ e. let all : prefix_len goes_on_word (c ∷ cs) ≡ length (c ∷ cs) = omega (arith, e) in
+    let more : prefix_len goes_on_word (c ∷ cs ++ b ∷ rest) ≡ length (c ∷ cs) = prefix_len-before goes_on_word (c ∷ cs) b rest ends all in
+    omega (arith, more))
 len_from-before true c [] b rest ends whole = absurd (omega (arith, whole))
 len_from-before true c (d ∷ ds) b rest ends whole =
     chosen (begins_word d) (1 + prefix_len goes_on_word (d ∷ ds)) (1 + prefix_len goes_on_word (d ∷ ds ++ b ∷ rest)) (suc (length ds)) whole
-        (λ e. let all : prefix_len goes_on_word (d ∷ ds) ≡ length (d ∷ ds) = omega (arith, e) in
-              let more : prefix_len goes_on_word (d ∷ ds ++ b ∷ rest) ≡ length (d ∷ ds) = prefix_len-before goes_on_word (d ∷ ds) b rest ends all in
-              omega (arith, more))
+    (λ e. let all : prefix_len goes_on_word (d ∷ ds) ≡ length (d ∷ ds) = omega (arith, e) in
+    let more : prefix_len goes_on_word (d ∷ ds ++ b ∷ rest) ≡ length (d ∷ ds) = prefix_len-before goes_on_word (d ∷ ds) b rest ends all in
+    omega (arith, more))
 
 blank_ends : (b : Bool) → goes_on_word (blank_behind b) ≡ false
 blank_ends true = refl
@@ -66,9 +66,11 @@ first_of c rest n whole = by_dollar (c == 36) whole
     by_dollar false h = by_letter (begins_word c) (0 + prefix_len goes_on_word (c ∷ rest)) h
 
 first_plain : (c : ℕ) → (c == 36 || begins_word c) ≡ true → IsPlain c × (is_ascii_digit c ≡ false) × ((c == 46) ≡ false)
-first_plain c h =
-    (record { blank = grind (arith, nat_tests); slash = grind (arith, nat_tests); quote = grind (arith, nat_tests) },
-     grind (arith, nat_tests), grind (arith, nat_tests))
+first_plain c h = (
+  record { blank = grind (arith, nat_tests); slash = grind (arith, nat_tests); quote = grind (arith, nat_tests) },
+  grind (arith, nat_tests),
+  grind (arith, nat_tests),
+)
 
 pub word_front : (word : List ℕ) (b : Bool) (rest : List ℕ) → 0 < length word → word_len word ≡ length word → key_of word ≡ None
     → front_of (word ++ blank_behind b ∷ rest) ≡ Cut (Word word) (length word)

@@ -1,5 +1,5 @@
-//! The grammar of OpenSCAD, and tokens to a program.
-//! Its laws promise one program, or the first fault, for all tokens; the descent reads expressions as they say.
+//! The grammar of OpenSCAD source: the syntax tree of a list of tokens.
+//! The contract gives exactly the program that the tokens derive, or the first token with a fault.
 #![tactic(auto)]
 
 mod argument;
