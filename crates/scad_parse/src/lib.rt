@@ -24,4 +24,4 @@ pub use descent::parse;
 pub use fault::ParseFault;
 
 #[cfg(test)]
-mod tests;
+mod sources;
