@@ -1,3 +1,5 @@
+mod Alike
+mod AlikeItems
 mod Asked
 mod Backward
 mod DescentArguments
