@@ -20,6 +20,8 @@ mod Outcomes
 mod Prefix
 mod PrintableItems
 mod Printables
+mod PrintedItemTexts
+mod PrintedTexts
 mod Printing
 mod PrintingItems
 mod Rows
@@ -30,6 +32,7 @@ mod Standins
 mod Starts
 mod Statements
 mod Tests
+mod Texts
 mod Tight
 pub mod Unique
 mod Viable
