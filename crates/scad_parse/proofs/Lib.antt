@@ -28,6 +28,8 @@ mod Rows
 mod Runs
 mod Shortest
 mod Sound
+mod Spellable
+mod SpellableItems
 mod Standins
 mod Starts
 mod Statements
