@@ -24,6 +24,7 @@ mod PrintedItemTexts
 mod PrintedTexts
 mod Printing
 mod PrintingItems
+mod Reread
 mod Rows
 mod Runs
 mod Shortest
