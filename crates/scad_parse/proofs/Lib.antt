@@ -38,4 +38,5 @@ mod Tests
 mod Texts
 mod Tight
 pub mod Unique
+mod Unplaced
 mod Viable
