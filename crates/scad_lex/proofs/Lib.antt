@@ -2,7 +2,7 @@ mod Fronts
 mod HaveSpellings
 mod Pieces
 mod Quotes
-mod Spelled
+pub mod Spelled
 mod SpelledNumbers
 mod SpelledSigns
 mod SpelledStrings

@@ -22,16 +22,23 @@ mod Outcomes
 mod Prefix
 mod PrintableItems
 mod Printables
+mod PrintedItemTexts
+mod PrintedTexts
 mod Printing
 mod PrintingItems
+mod Reread
 mod Rows
 mod Runs
 mod Shortest
 mod Sound
+mod Spellable
+mod SpellableItems
 mod Standins
 mod Starts
 mod Statements
 mod Tests
+mod Texts
 mod Tight
 pub mod Unique
+mod Unplaced
 mod Viable

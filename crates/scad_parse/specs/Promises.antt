@@ -1,8 +1,11 @@
 -- What the grammar and the reader of tokens keep.
-use Rattle.std.specs.Prelude.{◌≡◌, ◌↔◌, List, [], Some, Result}
+use Rattle.std.specs.Prelude.{◌≡◌, ◌↔◌, List, [], Some, Result, Ok}
 use Rattle.scad_fault.specs.declared.place.Place.{Place}
 use Rattle.scad_lex.specs.declared.token.Token.{Token}
+use Rattle.scad_lex.specs.Spelling.{HaveSpellings}
+use Rattle.scad_lex.specs.Tokens.{tokens}
 use Rattle.scad_ast.specs.Tree.{Items}
+use Rattle.scad_ast.specs.Text.{items_text}
 use Rattle.scad_parse.specs.Statements.{Derives, Begins}
 use Rattle.scad_parse.specs.Plain
 use Rattle.scad_parse.specs.PrintedItems.{items_onto, unplaced_items}
@@ -34,3 +37,9 @@ EndsExcludeNothing = (ts : List Token) (p : Items) → Plain.Derives ts p ↔ De
 -- the tokens of a program's printed text derive the program again, its places aside
 abbrev pub PrintedTokensDerive : Type 0
 PrintedTokensDerive = (ts : List Token) (p : Items) → Derives ts p → Derives (items_onto p []) (unplaced_items p)
+
+-- the text of a printed program is cut into tokens that derive the program again, its places aside, where the tokens of the
+-- program can be spelled
+abbrev pub PrintedTextDerives : Type 0
+PrintedTextDerives = (ts : List Token) (p : Items) → HaveSpellings ts → Derives ts p →
+    (us : List Token) × (end : Place) × (q : Items) × (tokens (items_text p) ≡ Ok (us, end)) × Derives us q × (unplaced_items q ≡ unplaced_items p)
