@@ -1,5 +1,5 @@
 mod Fronts
-mod HaveSpellings
+pub mod HaveSpellings
 mod Pieces
 mod Quotes
 pub mod Spelled

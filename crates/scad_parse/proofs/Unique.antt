@@ -1,8 +1,10 @@
 -- The laws.
 use Rattle.std.proofs.Common.{[], sym, ◌∙◌, refl, subst}
+use Rattle.scad_lex.proofs.HaveSpellings.{tokens_have_spellings}
 use Rattle.scad_parse.specs.Machine.{start, reach}
 use Rattle.scad_parse.specs.Judged.{Judged}
-use Rattle.scad_parse.specs.Promises.{OneProgram, ReadsWhatIsDerived, StandsWhereAProgramBegins, JudgesAsTheGrammar, EndsExcludeNothing, PrintedTokensDerive}
+use Rattle.scad_parse.specs.PrintedItems.{items_onto}
+use Rattle.scad_parse.specs.Promises.{OneProgram, ReadsWhatIsDerived, StandsWhereAProgramBegins, JudgesAsTheGrammar, EndsExcludeNothing, PrintedTokensDerive, PrintedTextDerives, PrintedSourceDerives}
 use Rattle.scad_parse.proofs.Asked.{same_some}
 use Rattle.scad_parse.proofs.Statements.{runs_program}
 use Rattle.scad_parse.proofs.Sound.{sound_program}
@@ -12,6 +14,10 @@ use Rattle.scad_parse.proofs.Tight.{tight_program}
 use Rattle.scad_parse.proofs.PrintingItems.{printed_program}
 use Rattle.scad_parse.proofs.PrintableItems.{printable_program}
 use Rattle.scad_parse.proofs.Faults.{standing, only_answer}
+use Rattle.scad_parse.proofs.Alike.{alike_of_kinds}
+use Rattle.scad_parse.proofs.AlikeItems.{derives_alike}
+use Rattle.scad_parse.proofs.Reread.{printed_text_read}
+use Rattle.scad_parse.proofs.Unplaced.{unplaced_twice}
 
 pub one_program : OneProgram
 one_program ts p q d e = same_some p q (sym (runs_program d) ∙ runs_program e)
@@ -32,3 +38,12 @@ ends_exclude_nothing ts p = (tight_program, loose_program)
 
 pub printed_tokens_derive : PrintedTokensDerive
 printed_tokens_derive ts p d = tight_program (printed_program p (printable_program (loose_program d)))
+
+pub printed_text_derives : PrintedTextDerives
+printed_text_derives ts p h d =
+    let r = printed_text_read (loose_program d) h in
+    let again = derives_alike (alike_of_kinds (items_onto p []) r.us (sym r.kinds)) (loose_program (printed_tokens_derive ts p d)) in
+    (r.us, r.end, again.0, r.read, tight_program again.1, again.2 ∙ unplaced_twice p)
+
+pub printed_source_derives : PrintedSourceDerives
+printed_source_derives bytes ts end p t d = printed_text_derives ts p (tokens_have_spellings bytes ts end t) d

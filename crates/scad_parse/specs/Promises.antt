@@ -1,5 +1,5 @@
 -- What the grammar and the reader of tokens keep.
-use Rattle.std.specs.Prelude.{◌≡◌, ◌↔◌, List, [], Some, Result, Ok}
+use Rattle.std.specs.Prelude.{◌≡◌, ◌↔◌, ℕ, List, [], Some, Result, Ok}
 use Rattle.scad_fault.specs.declared.place.Place.{Place}
 use Rattle.scad_lex.specs.declared.token.Token.{Token}
 use Rattle.scad_lex.specs.Spelling.{HaveSpellings}
@@ -38,8 +38,17 @@ EndsExcludeNothing = (ts : List Token) (p : Items) → Plain.Derives ts p ↔ De
 abbrev pub PrintedTokensDerive : Type 0
 PrintedTokensDerive = (ts : List Token) (p : Items) → Derives ts p → Derives (items_onto p []) (unplaced_items p)
 
--- the text of a printed program is cut into tokens that derive the program again, its places aside, where the tokens of the
--- program can be spelled
+-- the text of the printed program is cut into tokens that derive it again, its places aside
+abbrev pub IsReadBack : Items → Type 0
+IsReadBack p =
+    (us : List Token) × (end : Place) × (q : Items)
+    × (tokens (items_text p) ≡ Ok (us, end)) × Derives us q × (unplaced_items q ≡ unplaced_items p)
+
+-- each program that tokens derive is read back, where a text can have these tokens
 abbrev pub PrintedTextDerives : Type 0
-PrintedTextDerives = (ts : List Token) (p : Items) → HaveSpellings ts → Derives ts p →
-    (us : List Token) × (end : Place) × (q : Items) × (tokens (items_text p) ≡ Ok (us, end)) × Derives us q × (unplaced_items q ≡ unplaced_items p)
+PrintedTextDerives = (ts : List Token) (p : Items) → HaveSpellings ts → Derives ts p → IsReadBack p
+
+-- so each program that a text has is read back
+abbrev pub PrintedSourceDerives : Type 0
+PrintedSourceDerives = (bytes : List ℕ) (ts : List Token) (end : Place) (p : Items) →
+    tokens bytes ≡ Ok (ts, end) → Derives ts p → IsReadBack p

@@ -1,5 +1,5 @@
 //! Laws of the definitions, each carried by the contract of a function that does nothing.
-ghost use Rattle.scad_parse.specs.Promises.{OneProgram, ReadsWhatIsDerived, StandsWhereAProgramBegins, JudgesAsTheGrammar, EndsExcludeNothing, PrintedTokensDerive};
+ghost use Rattle.scad_parse.specs.Promises.{OneProgram, ReadsWhatIsDerived, StandsWhereAProgramBegins, JudgesAsTheGrammar, EndsExcludeNothing, PrintedTokensDerive, PrintedTextDerives, PrintedSourceDerives};
 
 /// No tokens derive two programs.
 pub fn one_program()
@@ -32,6 +32,13 @@ pub fn printed_tokens_derive()
     ensures { PrintedTokensDerive }
 {}
 
+/// The text of a printed program is cut into tokens that derive the program again, its places aside:
+/// for all tokens that a text can have, and so for every text.
+pub fn printed_text_derives()
+    ensures tokens { PrintedTextDerives }
+    ensures source { PrintedSourceDerives }
+{}
+
 #[cfg(test)]
 mod tests {
     use super::*;
@@ -44,5 +51,6 @@ mod tests {
         stands_where_a_program_begins();
         judges_as_the_grammar();
         printed_tokens_derive();
+        printed_text_derives();
     }
 }
