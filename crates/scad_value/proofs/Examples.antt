@@ -2,11 +2,11 @@
 use Rattle.std.proofs.Common.{◌≡◌, pos, negsuc, Ok, Err, [], ◌∷◌, false, refl}
 use Rattle.std.specs.Prelude.{codes}
 use Rattle.std.specs.Fmt.{digits}
-use Rattle.scad_num.specs.Number.{number_of, quotient_of, remainder_of}
+use Rattle.scad_num.specs.Number.{number_of, quotient_of}
 use Rattle.scad_num.specs.Rounding.{half_up, half_away}
-use Rattle.scad_ast.specs.declared.operator.BinOp.TheVariants.{Eq, Lt, Add, Mul, Div}
+use Rattle.scad_ast.specs.declared.operator.BinOp.TheVariants.{Lt, Add, Mul, Div}
 use Rattle.scad_value.specs.declared.fault.ValueFault.TheVariants.{ZeroDivisor}
-use Rattle.scad_value.specs.Datum.{Datum, undef, boolean, number, string, vector, range, Elements, no_elements, element}
+use Rattle.scad_value.specs.Datum.{Datum, undef, boolean, number, string, vector, no_elements, element}
 use Rattle.scad_value.specs.Index.{indexed}
 use Rattle.scad_value.specs.Measures.{made, nesting}
 use Rattle.scad_value.specs.Operators.{op}

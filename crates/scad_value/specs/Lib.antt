@@ -6,6 +6,7 @@ pub mod Faults
 pub mod Index
 pub mod Kinds
 pub mod Measures
+pub mod Memory
 pub mod Negative
 pub mod Operators
 pub mod Products

@@ -1,6 +1,7 @@
 //! A second value like a given one.
 
-ghost use Rattle.std.specs.Prelude.{◌≡◌, IfOk};
+ghost use Rattle.std.specs.Prelude.{◌≡◌, IfOk, IfErr, IsTrue};
+ghost use Rattle.scad_value.specs.Memory.{is_list};
 ghost use Rattle.scad_value.specs.View.{datum_of, elements};
 
 use crate::value::{Value, Values};
@@ -9,8 +10,10 @@ use std::alloc::{AllocError, Global};
 
 /// The same value again.
 #[cycle(copy)]
+#[tactic(auto, using(crate::proofs::Rows::at_vector))]
 pub fn copy(alloc: Global, a: &Value) -> Result<Value, AllocError>
-    ensures { IfOk result (λ v. datum_of v ≡ datum_of a.now) }
+    ensures same { IfOk result (λ v. datum_of v ≡ datum_of a.now) }
+    ensures memory { IfErr result (λ _. IsTrue (is_list (datum_of a.now))) }
 {
     match a {
         Value::Undef => Ok(Value::Undef),

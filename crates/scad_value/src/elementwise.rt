@@ -4,6 +4,7 @@ ghost use Rattle.std.specs.Prelude.{◌≡◌, Ok, IfOk, IfErr};
 ghost use Rattle.scad_value.specs.Actions.{action};
 ghost use Rattle.scad_value.specs.Elementwise.{as_number, each, each_of};
 ghost use Rattle.scad_value.specs.Faults.{Refuses};
+ghost use Rattle.scad_value.specs.Memory.{begins_list, TakesMemoryFor, TakesNone};
 ghost use Rattle.scad_value.specs.View.{datum_of, elements};
 
 use crate::fault::ValueFault;
@@ -41,6 +42,7 @@ impl Action {
 pub(crate) fn as_number(answer: Result<Num, NumFault>) -> Result<Value, ValueFault>
     ensures found { IfOk result (λ v. as_number answer ≡ Ok (datum_of v)) }
     ensures refused { IfErr result (Refuses (as_number answer)) }
+    ensures memory { TakesNone result }
 {
     match answer {
         Ok(n) => Ok(Value::Number(n)),
@@ -51,9 +53,11 @@ pub(crate) fn as_number(answer: Result<Num, NumFault>) -> Result<Value, ValueFau
 
 /// The operation at a number and at each element of a vector.
 #[cycle(each)]
+#[tactic(auto, using(crate::proofs::Memory::takings))]
 pub(crate) fn each(alloc: Global, operation: &Action, a: &Value) -> Result<Value, ValueFault>
     ensures found { IfOk result (λ v. each (action operation.now) (datum_of a.now) ≡ Ok (datum_of v)) }
     ensures refused { IfErr result (Refuses (each (action operation.now) (datum_of a.now))) }
+    ensures memory { TakesMemoryFor (begins_list (each (action operation.now) (datum_of a.now))) result }
 {
     match a {
         Value::Number(x) => as_number(operation.at(*x)),

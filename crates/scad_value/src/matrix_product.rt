@@ -3,6 +3,7 @@
 ghost use Rattle.std.specs.Prelude.{◌≡◌, Ok, IfOk, IfErr};
 ghost use Rattle.scad_value.specs.Elementwise.{as_number};
 ghost use Rattle.scad_value.specs.Faults.{Refuses};
+ghost use Rattle.scad_value.specs.Memory.{begins_list, TakesMemoryFor};
 ghost use Rattle.scad_value.specs.Products.{elements_in, dot, by_columns, by_rows, by_rows_and_columns, product_by_shapes, product_of_vectors};
 ghost use Rattle.scad_value.specs.declared.product.Shape.TheVariants.{Numbers, Matrix};
 ghost use Rattle.scad_value.specs.View.{datum_of, elements};
@@ -86,6 +87,7 @@ fn by_rows_and_columns(
 }
 
 /// A vector or a matrix times a vector of so many numbers.
+#[tactic(auto, using(crate::proofs::Memory::takings))]
 fn times_vector(
     alloc: Global,
     left: Shape,
@@ -98,6 +100,8 @@ fn times_vector(
         ≡ Ok (datum_of v)) }
     ensures refused { IfErr result
         (Refuses (product_by_shapes left (Numbers length) (elements xs.now) (elements ys.now))) }
+    ensures memory { TakesMemoryFor
+        (begins_list (product_by_shapes left (Numbers length) (elements xs.now) (elements ys.now))) result }
 {
     match left {
         Shape::Numbers(n) => {
@@ -120,6 +124,7 @@ fn times_vector(
 }
 
 /// A vector or a matrix times a matrix of so many rows and columns.
+#[tactic(auto, using(crate::proofs::Memory::takings))]
 fn times_matrix(
     alloc: Global,
     left: Shape,
@@ -133,6 +138,8 @@ fn times_matrix(
         ≡ Ok (datum_of v)) }
     ensures refused { IfErr result
         (Refuses (product_by_shapes left (Matrix rows columns) (elements xs.now) (elements ys.now))) }
+    ensures memory { TakesMemoryFor
+        (begins_list (product_by_shapes left (Matrix rows columns) (elements xs.now) (elements ys.now))) result }
 {
     match left {
         Shape::Numbers(n) => {
@@ -167,6 +174,8 @@ pub(crate) fn product_of_vectors(
         (λ v. product_of_vectors (elements xs.now) (elements ys.now) ≡ Ok (datum_of v)) }
     ensures refused { IfErr result
         (Refuses (product_of_vectors (elements xs.now) (elements ys.now))) }
+    ensures memory { TakesMemoryFor
+        (begins_list (product_of_vectors (elements xs.now) (elements ys.now))) result }
 {
     let left = shape_of(xs);
     match shape_of(ys) {

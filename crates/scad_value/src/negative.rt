@@ -1,6 +1,7 @@
 //! The negative of a value.
 
-ghost use Rattle.std.specs.Prelude.{◌≡◌, IfOk};
+ghost use Rattle.std.specs.Prelude.{◌≡◌, IfOk, IfErr, IsTrue};
+ghost use Rattle.scad_value.specs.Memory.{is_list};
 ghost use Rattle.scad_value.specs.Negative.{negative, negatives};
 ghost use Rattle.scad_value.specs.View.{datum_of, elements};
 
@@ -9,8 +10,10 @@ use std::alloc::{AllocError, Global};
 
 /// Of a number, and of each element of a vector.
 #[cycle(negative)]
+#[tactic(auto, using(crate::proofs::Rows::at_vector))]
 pub(crate) fn negative(alloc: Global, a: &Value) -> Result<Value, AllocError>
-    ensures { IfOk result (λ v. datum_of v ≡ negative (datum_of a.now)) }
+    ensures value { IfOk result (λ v. datum_of v ≡ negative (datum_of a.now)) }
+    ensures memory { IfErr result (λ _. IsTrue (is_list (negative (datum_of a.now)))) }
 {
     match a {
         Value::Number(n) => Ok(Value::Number(n.neg())),

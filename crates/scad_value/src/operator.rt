@@ -1,9 +1,10 @@
 //! The operators between values and before one.
 
-ghost use Rattle.std.specs.Prelude.{◌≡◌, Ok, IfOk, IfErr};
+ghost use Rattle.std.specs.Prelude.{◌≡◌, Ok, IfOk, IfErr, IsTrue};
 ghost use Rattle.std.specs.Ordering.{is_lt, is_le, is_gt, is_ge};
 ghost use Rattle.scad_value.specs.Comparison.{order};
 ghost use Rattle.scad_value.specs.Faults.{Refuses};
+ghost use Rattle.scad_value.specs.Memory.{is_list, begins_list, TakesMemoryFor, TakesNone};
 ghost use Rattle.scad_value.specs.Operators.{ordered, product, quotient, remainder, op, plus, unary_op};
 ghost use Rattle.scad_value.specs.View.{datum_of};
 ghost use Rattle.scad_value.specs.declared.fault.ValueFault.TheVariants.{Memory};
@@ -22,9 +23,11 @@ use scad_ast::{BinOp, UnOp};
 use std::alloc::Global;
 
 /// `a * b`
+#[tactic(auto, using(crate::proofs::Memory::takings))]
 fn product(alloc: Global, a: &Value, b: &Value) -> Result<Value, ValueFault>
     ensures found { IfOk result (λ v. product (datum_of a.now) (datum_of b.now) ≡ Ok (datum_of v)) }
     ensures refused { IfErr result (Refuses (product (datum_of a.now) (datum_of b.now))) }
+    ensures memory { TakesMemoryFor (begins_list (product (datum_of a.now) (datum_of b.now))) result }
 {
     match a {
         Value::Number(x) => each(alloc, &Action::TimesLeft(*x), b),
@@ -40,9 +43,11 @@ fn product(alloc: Global, a: &Value, b: &Value) -> Result<Value, ValueFault>
 }
 
 /// `a / b`
+#[tactic(auto, using(crate::proofs::Memory::takings))]
 fn quotient(alloc: Global, a: &Value, b: &Value) -> Result<Value, ValueFault>
     ensures found { IfOk result (λ v. quotient (datum_of a.now) (datum_of b.now) ≡ Ok (datum_of v)) }
     ensures refused { IfErr result (Refuses (quotient (datum_of a.now) (datum_of b.now))) }
+    ensures memory { TakesMemoryFor (begins_list (quotient (datum_of a.now) (datum_of b.now))) result }
 {
     match a {
         Value::Number(x) => each(alloc, &Action::Under(*x), b),
@@ -58,6 +63,7 @@ fn quotient(alloc: Global, a: &Value, b: &Value) -> Result<Value, ValueFault>
 fn remainder(a: &Value, b: &Value) -> Result<Value, ValueFault>
     ensures found { IfOk result (λ v. remainder (datum_of a.now) (datum_of b.now) ≡ Ok (datum_of v)) }
     ensures refused { IfErr result (Refuses (remainder (datum_of a.now) (datum_of b.now))) }
+    ensures memory { TakesNone result }
 {
     match a {
         Value::Number(x) => match b {
@@ -110,9 +116,11 @@ fn greater_or_equal(a: &Value, b: &Value) -> Value
 
 /// What the operator gives between two values, or the first fault from left to right. `&&` and `||` give the boolean
 /// of the truths. It takes no memory for a number or a boolean.
+#[tactic(auto, using(crate::proofs::Memory::takings))]
 pub fn binary(alloc: Global, kind: BinOp, a: &Value, b: &Value) -> Result<Value, ValueFault>
     ensures found { IfOk result (λ v. op kind (datum_of a.now) (datum_of b.now) ≡ Ok (datum_of v)) }
     ensures refused { IfErr result (Refuses (op kind (datum_of a.now) (datum_of b.now))) }
+    ensures memory { TakesMemoryFor (begins_list (op kind (datum_of a.now) (datum_of b.now))) result }
 {
     match kind {
         BinOp::Or => Ok(Value::Bool(truth(a) || truth(b))),
@@ -132,9 +140,11 @@ pub fn binary(alloc: Global, kind: BinOp, a: &Value, b: &Value) -> Result<Value,
 }
 
 /// `+a`
+#[tactic(auto, using(crate::proofs::Rows::at_vector))]
 fn plus(alloc: Global, a: &Value) -> Result<Value, ValueFault>
     ensures found { IfOk result (λ v. datum_of v ≡ plus (datum_of a.now)) }
     ensures memory { IfErr result (λ e. e ≡ Memory) }
+    ensures list { IfErr result (λ _. IsTrue (is_list (plus (datum_of a.now)))) }
 {
     match a {
         Value::Number(n) => Ok(Value::Number(*n)),
@@ -147,6 +157,7 @@ fn plus(alloc: Global, a: &Value) -> Result<Value, ValueFault>
 pub fn unary(alloc: Global, kind: UnOp, a: &Value) -> Result<Value, ValueFault>
     ensures found { IfOk result (λ v. datum_of v ≡ unary_op kind (datum_of a.now)) }
     ensures memory { IfErr result (λ e. e ≡ Memory) }
+    ensures list { IfErr result (λ _. IsTrue (is_list (unary_op kind (datum_of a.now)))) }
 {
     match kind {
         UnOp::Not => Ok(Value::Bool(!truth(a))),

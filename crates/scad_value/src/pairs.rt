@@ -4,6 +4,7 @@ ghost use Rattle.std.specs.Prelude.{◌≡◌, Ok, IfOk, IfErr};
 ghost use Rattle.scad_value.specs.Actions.{pairing};
 ghost use Rattle.scad_value.specs.Elementwise.{by_pairs, by_pairs_of};
 ghost use Rattle.scad_value.specs.Faults.{Refuses};
+ghost use Rattle.scad_value.specs.Memory.{begins_list, TakesMemoryFor};
 ghost use Rattle.scad_value.specs.View.{datum_of, elements};
 
 use crate::elementwise::as_number;
@@ -33,6 +34,7 @@ impl Pairing {
 
 /// The operation at two numbers, and at each two elements of two vectors up to the shorter length.
 #[cycle(pairs)]
+#[tactic(auto, using(crate::proofs::Memory::takings))]
 pub(crate) fn by_pairs(
     alloc: Global,
     operation: Pairing,
@@ -43,6 +45,8 @@ pub(crate) fn by_pairs(
         (λ v. by_pairs (pairing operation) (datum_of a.now) (datum_of b.now) ≡ Ok (datum_of v)) }
     ensures refused { IfErr result
         (Refuses (by_pairs (pairing operation) (datum_of a.now) (datum_of b.now))) }
+    ensures memory { TakesMemoryFor
+        (begins_list (by_pairs (pairing operation) (datum_of a.now) (datum_of b.now))) result }
 {
     match a {
         Value::Number(x) => match b {

@@ -1,7 +1,8 @@
 //! Elements, characters and parts by their index.
 
-ghost use Rattle.std.specs.Prelude.{◌≡◌, IfOk};
+ghost use Rattle.std.specs.Prelude.{◌≡◌, IfOk, IfErr, IsTrue};
 ghost use Rattle.scad_value.specs.Index.{character, part, at_place, at_whole, indexed};
+ghost use Rattle.scad_value.specs.Memory.{is_list};
 ghost use Rattle.scad_value.specs.Products.{nth};
 ghost use Rattle.scad_value.specs.View.{datum_of, elements};
 
@@ -14,7 +15,8 @@ use std::alloc::{AllocError, Global};
 /// The character at a place, as a string.
 #[tactic(auto, using(crate::proofs::Access::places))]
 fn character(alloc: Global, chars: &[char], n: usize) -> Result<Value, AllocError>
-    ensures { IfOk result (λ v. datum_of v ≡ character chars.now n) }
+    ensures value { IfOk result (λ v. datum_of v ≡ character chars.now n) }
+    ensures memory { IfErr result (λ _. IsTrue (is_list (character chars.now n))) }
 {
     if n >= chars.len() {
         return Ok(Value::Undef);
@@ -37,7 +39,8 @@ fn part(start: Num, step: Num, end: Num, n: usize) -> Value
 /// A copy of the element at a place.
 #[tactic(auto, using(crate::proofs::Access::places))]
 fn element(alloc: Global, all: &[Value], n: usize) -> Result<Value, AllocError>
-    ensures { IfOk result (λ v. datum_of v ≡ nth (elements all.now) n) }
+    ensures value { IfOk result (λ v. datum_of v ≡ nth (elements all.now) n) }
+    ensures memory { IfErr result (λ _. IsTrue (is_list (nth (elements all.now) n))) }
 {
     if n >= all.len() {
         return Ok(Value::Undef);
@@ -47,7 +50,8 @@ fn element(alloc: Global, all: &[Value], n: usize) -> Result<Value, AllocError>
 
 #[tactic(auto, using(crate::proofs::Rows::at_vector))]
 fn at_place(alloc: Global, a: &Value, n: usize) -> Result<Value, AllocError>
-    ensures { IfOk result (λ v. datum_of v ≡ at_place (datum_of a.now) n) }
+    ensures value { IfOk result (λ v. datum_of v ≡ at_place (datum_of a.now) n) }
+    ensures memory { IfErr result (λ _. IsTrue (is_list (at_place (datum_of a.now) n))) }
 {
     match a {
         Value::List(all) => element(alloc, all, n),
@@ -58,7 +62,8 @@ fn at_place(alloc: Global, a: &Value, n: usize) -> Result<Value, AllocError>
 }
 
 fn at_whole(alloc: Global, a: &Value, n: i64) -> Result<Value, AllocError>
-    ensures { IfOk result (λ v. datum_of v ≡ at_whole (datum_of a.now) n) }
+    ensures value { IfOk result (λ v. datum_of v ≡ at_whole (datum_of a.now) n) }
+    ensures memory { IfErr result (λ _. IsTrue (is_list (at_whole (datum_of a.now) n))) }
 {
     if n < 0 {
         Ok(Value::Undef)
@@ -69,7 +74,8 @@ fn at_whole(alloc: Global, a: &Value, n: i64) -> Result<Value, AllocError>
 
 /// `a[i]`. It takes no memory for a number or a boolean.
 pub fn index(alloc: Global, a: &Value, i: &Value) -> Result<Value, AllocError>
-    ensures { IfOk result (λ v. datum_of v ≡ indexed (datum_of a.now) (datum_of i.now)) }
+    ensures value { IfOk result (λ v. datum_of v ≡ indexed (datum_of a.now) (datum_of i.now)) }
+    ensures memory { IfErr result (λ _. IsTrue (is_list (indexed (datum_of a.now) (datum_of i.now)))) }
 {
     match i {
         Value::Number(z) => at_whole(alloc, a, z.millionths() / 1_000_000),

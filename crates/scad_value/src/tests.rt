@@ -5,9 +5,11 @@ use std::alloc::Global;
 use std::test::Fail;
 
 mod cases;
+mod kinds;
 mod reader;
 
 use cases::*;
+use kinds::*;
 use reader::value;
 
 /// The text of the value, or the name of the fault.
@@ -62,6 +64,62 @@ fn operators_give_what_the_reference_gives(rt: HostRuntime) -> Result<(), Fail> 
     Ok(())
 }
 
+/// What the operator gives between the operands is wanted.
+fn is_between(alloc: Global, sign: &str, a: &Value, b: &Value, wanted: &str) -> Result<bool, Fail> {
+    let text = shown(alloc, binary(alloc, operator(sign)?, a, b))?;
+    Ok(text.as_slice() == wanted.as_bytes())
+}
+
+/// Each operator between the operands of a row gives what the row wants of it.
+fn are_between(alloc: Global, row: &str) -> Result<bool, Fail> {
+    let (a, rest) = row.split_once(';').ok_or("no first operand")?;
+    let (b, rest) = rest.split_once(';').ok_or("no second operand")?;
+    let a = value(alloc, a)?;
+    let b = value(alloc, b)?;
+    let mut count = 0usize;
+    for (sign, wanted) in SIGNS.split(' ').zip(rest.split(';')) {
+        if !is_between(alloc, sign, &a, &b, wanted)? {
+            return Ok(false);
+        }
+        count = count.saturating_add(1);
+    }
+    Ok(count == 8)
+}
+
+#[test]
+fn operators_judge_every_pair_of_kinds(rt: HostRuntime) -> Result<(), Fail> {
+    for row in KINDS.lines() {
+        assert!(rt; are_between(rt.alloc(), row)?, "{row}");
+    }
+    Ok(())
+}
+
+fn prefix(sign: &str) -> Result<UnOp, Fail> {
+    match sign {
+        "-" => Ok(UnOp::Minus),
+        "+" => Ok(UnOp::Plus),
+        "!" => Ok(UnOp::Not),
+        _ => Err(Fail::new("no operator")),
+    }
+}
+
+/// What the operator of a row gives before the operand, and what is wanted.
+fn prefixed<'a>(alloc: Global, row: &'a str) -> Result<(Text, &'a str), Fail> {
+    let (sign, rest) = row.split_once(';').ok_or("no operator")?;
+    let (a, wanted) = rest.split_once(';').ok_or("no operand")?;
+    let answer = unary(alloc, prefix(sign)?, &value(alloc, a)?);
+    Ok((shown(alloc, answer)?, wanted))
+}
+
+#[test]
+fn operators_stand_before_every_kind(rt: HostRuntime) -> Result<(), Fail> {
+    for row in PREFIXED.lines() {
+        let (text, wanted) = prefixed(rt.alloc(), row)?;
+        assert_eq!(rt; text.as_slice(), wanted.as_bytes(), "{row}");
+    }
+    Ok(())
+}
+
 #[test]
 fn values_have_parts(rt: HostRuntime) -> Result<(), Fail> {
     let alloc = rt.alloc();
@@ -83,11 +141,7 @@ fn has_texts(alloc: Global, v: &Value, text: &str, negative: &str) -> Result<boo
 }
 
 fn has_sizes(v: &Value, size: u64, depth: u64) -> bool {
-    let is_number = truth(v) && size == 0 && depth == 0;
-    made(v) == size
-        && u64::from(nesting(v)) == depth
-        && elements_of(v).is_some() == (depth > 0)
-        && number_of(v).is_some() == is_number
+    made(v) == size && u64::from(nesting(v)) == depth && elements_of(v).is_some() == (depth > 0)
 }
 
 #[test]
@@ -102,6 +156,8 @@ fn values_have_texts_negatives_and_sizes(rt: HostRuntime) -> Result<(), Fail> {
         assert!(rt; equal(&v, &value(alloc, a)?), "{row}");
         assert!(rt; has_texts(alloc, &v, text, negative)?, "{row}");
         assert!(rt; has_sizes(&v, count(size)?, count(depth)?), "{row}");
+        let is_number = negative != "undef" && depth == "0";
+        assert!(rt; number_of(&v).is_some() == is_number, "{row}");
     }
     Ok(())
 }

@@ -262,6 +262,7 @@ pub(super) const OPERATIONS: &str = "||;u;u;false
 *;[1000000n2000000n];3000000n;[3, 6]
 *;[1000000n2000000n];'ab';undef
 *;[1000000n2000000n];[1000000n2000000n];5
+*;[1000000n2000000n];[3000000n4000000n];11
 *;[1000000n2000000n];0n1000000n2000000nr;undef
 *;0n1000000n2000000nr;u;undef
 *;0n1000000n2000000nr;t;undef
@@ -443,7 +444,8 @@ t;0n;undef
 [1000000n];t;undef";
 
 /// A value, its text, the text of its negative, how many elements and characters it has, and how deep it nests.
-pub(super) const VALUES: &str = "1000000n;1;-1;0;0
+pub(super) const VALUES: &str = "0n;0;0;0;0
+1000000n;1;-1;0;0
 500000m;-0.5;0.5;0;0
 1000000000000000n;1000000000;-1000000000;0;0
 1000000000000000m;-1000000000;1000000000;0;0
@@ -459,4 +461,10 @@ pub(super) const VALUES: &str = "1000000n;1;-1;0;0
 [1000000n'a'['bc'[]]];[1, \"a\", [\"bc\", []]];[-1, undef, [undef, []]];8;3
 [utf1000000m500000n2000000nr];[undef, true, false, [-1 : 0.5 : 2]];[undef, undef, undef, undef];4;1
 [[[[]]]];[[[[]]]];[[[[]]]];3;4
-[''];[\"\"];[undef];1;1";
+[''];[\"\"];[undef];1;1
+'';\"\";undef;0;0
+u;undef;undef;0;0
+t;true;undef;0;0
+f;false;undef;0;0
+0n1000000n9500000nr;[0 : 1 : 9.5];undef;0;0
+['é'0n1m1000000000000000nr['b']];[\"é\", [0 : -0.000001 : 1000000000], [\"b\"]];[undef, undef, [undef]];6;2";
