@@ -19,5 +19,6 @@ pub mod BorderPoints
 pub mod Stopping
 pub mod Hardby
 pub mod Stretches
+pub mod NearLevel
 pub mod Bundled
 pub mod Climbing

@@ -3,21 +3,24 @@ ghost use Rattle.std.specs.Prelude.{◌≡◌, ◌<◌, ◌≤◌, ◌^◌, ◌&
 ghost use Rattle.std.specs.List.{position};
 ghost use Rattle.scad_geom.specs.Point.{IsWithin, IsEdgeWithin};
 ghost use Rattle.slice_bool.specs.Pieces.{covers};
+ghost use Rattle.slice_bool.specs.Near.{flats_from};
 
 use crate::stop::Stop;
 use crate::stops::is_flat_at;
 use scad_geom::wide::times;
 use scad_geom::{COORDINATE_LIMIT, LeafEdge, Pt};
 
-/// The least number of a flat edge that covers the stretch between two stops.
-pub(crate) fn covering_edge(edges: &[LeafEdge], s: &Stop, t: &Stop) -> Option<u32>
+/// The least number of a flat edge that covers the stretch between two stops, among those of the flat edges on their
+/// level.
+pub(crate) fn covering_edge(edges: &[LeafEdge], flats: &[u32], s: &Stop, t: &Stop) -> Option<u32>
     requires within { All (λ e. IsEdgeWithin COORDINATE_LIMIT e.edge) edges.now }
-    requires few { length edges.now < 2 ^ 32 }
+    requires there { All (λ k. k < length edges.now) flats.now }
+    requires flats { flats.now ≡ flats_from 0 edges.now s.now.spot.at }
     ensures { result ≡ position (covers s.now.spot t.now.spot) edges.now }
 {
-    'edges: for i in 0..edges.len() {
-        if covers(&edges[i], s, t) {
-            return Some(i as u32);
+    'flats: for k in flats {
+        if covers(&edges[*k as usize], s, t) {
+            return Some(*k);
         }
     }
     None

@@ -5,11 +5,13 @@ ghost use Rattle.scad_geom.specs.Point.{IsEdgeWithin};
 ghost use Rattle.scad_geom.specs.Heights.{IsLevelWithin};
 ghost use Rattle.slice_bool.specs.Pieces.{covers, stretch_piece, flat_pieces};
 ghost use Rattle.slice_bool.specs.Stops.{spots_in};
+ghost use Rattle.slice_bool.specs.Near.{IsNear};
 ghost use Rattle.slice_bool.specs.Made.{AddsFlat};
 
 use crate::around::holds_by;
 use crate::between::push_between;
 use crate::covering::covering_edge;
+use crate::near::{Near, edges_near};
 use crate::stop::Stop;
 use crate::stops::stops;
 use scad_geom::{COORDINATE_LIMIT, LeafEdge, Level, Shape};
@@ -29,22 +31,24 @@ pub(crate) fn push_flat_pieces(
     ensures { OnOk result (AddsFlat edges.now shape.now at.now out.old.items out.new.items) }
 {
     let stops = stops(alloc, edges, at)?;
-    push_stretches(alloc, out, edges, shape, &stops)
+    let near = edges_near(alloc, edges, at)?;
+    push_stretches(alloc, out, edges, &near, shape, &stops)
 }
 
 fn push_stretches(
     alloc: Global,
     out: &mut Vec<Piece>,
     edges: &[LeafEdge],
+    near: &Near,
     shape: &Shape,
     stops: &[Stop],
 ) -> Result<(), AllocError>
     requires within { All (λ e. IsEdgeWithin COORDINATE_LIMIT e.edge) edges.now }
-    requires few { length edges.now < 2 ^ 32 }
+    requires near { All (λ s. IsNear edges.now s.spot.at near.now) stops.now }
     ensures { OnOk result (out.new.items ≡ out.old.items ++ flat_pieces edges.now shape.now (spots_in stops.now)) }
 {
     'stops: for i in 1..stops.len() {
-        push_stretch(alloc, out, edges, shape, &stops[i - 1], &stops[i])?;
+        push_stretch(alloc, out, edges, near, shape, &stops[i - 1], &stops[i])?;
     }
     Ok(())
 }
@@ -54,20 +58,21 @@ fn push_stretch(
     alloc: Global,
     out: &mut Vec<Piece>,
     edges: &[LeafEdge],
+    near: &Near,
     shape: &Shape,
     s: &Stop,
     t: &Stop,
 ) -> Result<(), AllocError>
     requires within { All (λ e. IsEdgeWithin COORDINATE_LIMIT e.edge) edges.now }
-    requires few { length edges.now < 2 ^ 32 }
+    requires near { IsNear edges.now s.now.spot.at near.now }
     ensures { OnOk result (out.new.items
         ≡ out.old.items ++ stretch_piece edges.now shape.now s.now.spot t.now.spot (position (covers s.now.spot t.now.spot) edges.now)) }
 {
-    match covering_edge(edges, s, t) {
+    match covering_edge(edges, &near.flats, s, t) {
         None => Ok(()),
         Some(name) => {
-            let above = holds_by(alloc, edges, shape, true, s)?;
-            let below = holds_by(alloc, edges, shape, false, s)?;
+            let above = holds_by(alloc, &near.passing, shape, true, s)?;
+            let below = holds_by(alloc, &near.passing, shape, false, s)?;
             push_between(out, above, below, &s.spot, &t.spot, name)
         }
     }

@@ -11,6 +11,7 @@ mod covering;
 mod fault;
 mod flat;
 pub mod laws;
+mod near;
 mod place;
 #[cfg(test)]
 mod random;

@@ -64,55 +64,65 @@ fn push_outline(edges: &mut Vec<LeafEdge>, leaf: u32, dice: &mut Dice) -> Result
     push_edge(edges, leaf, last, first)
 }
 
-// One to four leaves of an outline each.
+// Three or four leaves of an outline each.
 fn roll_edges(alloc: Global, dice: &mut Dice) -> Result<Vec<LeafEdge>, AllocError>
     ensures { IfOk result (λ v. All (λ e. IsEdgeWithin COORDINATE_LIMIT e.edge) v.items) }
 {
     let mut edges = Vec::new(alloc);
-    let count = 1 + dice.roll(4);
+    let count = 3 + dice.roll(2);
     'leaves: for leaf in 0..count {
         push_outline(&mut edges, leaf, dice)?;
     }
     Ok(edges)
 }
 
-fn leaves(alloc: Global, numbers: &[u32]) -> Result<Vec<Shape>, AllocError> {
+fn roll_leaf(dice: &mut Dice) -> Shape {
+    Shape::Leaf(dice.roll(4))
+}
+
+// None to three leaves.
+fn roll_leaves(alloc: Global, dice: &mut Dice) -> Result<Vec<Shape>, AllocError> {
+    let mut leaves = Vec::new(alloc);
+    let count = dice.roll(4);
+    for _i in 0..count {
+        leaves.push(roll_leaf(dice))?;
+    }
+    Ok(leaves)
+}
+
+fn roll_member(alloc: Global, dice: &mut Dice) -> Result<Shape, AllocError> {
+    match dice.roll(8) {
+        0 => Ok(Shape::Union(roll_leaves(alloc, dice)?)),
+        1 => Ok(Shape::Inter(roll_leaves(alloc, dice)?)),
+        2 => {
+            let first = Box::new(alloc, roll_leaf(dice))?;
+            Ok(Shape::Diff(first, roll_leaves(alloc, dice)?))
+        }
+        _ => Ok(roll_leaf(dice)),
+    }
+}
+
+// One to three members.
+fn roll_members(alloc: Global, dice: &mut Dice) -> Result<Vec<Shape>, AllocError> {
     let mut members = Vec::new(alloc);
-    for leaf in numbers {
-        members.push(Shape::Leaf(*leaf))?;
+    let count = 1 + dice.roll(3);
+    for _i in 0..count {
+        members.push(roll_member(alloc, dice)?)?;
     }
     Ok(members)
 }
 
-fn union(alloc: Global, numbers: &[u32]) -> Result<Shape, AllocError> {
-    Ok(Shape::Union(leaves(alloc, numbers)?))
-}
-
-fn inter(alloc: Global, numbers: &[u32]) -> Result<Shape, AllocError> {
-    Ok(Shape::Inter(leaves(alloc, numbers)?))
-}
-
-fn diff(alloc: Global, first: Shape, rest: Vec<Shape>) -> Result<Shape, AllocError> {
-    Ok(Shape::Diff(Box::new(alloc, first)?, rest))
-}
-
+// An operation over operations over leaves.
 fn roll_shape(alloc: Global, dice: &mut Dice) -> Result<Shape, AllocError> {
-    match dice.roll(7) {
-        0 => union(alloc, &[0, 1, 2, 3]),
-        1 => inter(alloc, &[0, 1]),
-        2 => diff(alloc, Shape::Leaf(0), leaves(alloc, &[1, 2, 3])?),
-        3 => diff(alloc, union(alloc, &[0, 1])?, leaves(alloc, &[2])?),
-        4 => {
-            let mut members = Vec::new(alloc);
-            members.push(union(alloc, &[0, 1])?)?;
-            members.push(union(alloc, &[2, 3])?)?;
-            Ok(Shape::Inter(members))
+    match dice.roll(12) {
+        0 => Ok(Shape::Empty),
+        1..=5 => Ok(Shape::Union(roll_members(alloc, dice)?)),
+        6 => Ok(Shape::Inter(roll_members(alloc, dice)?)),
+        7..=10 => {
+            let first = Box::new(alloc, roll_member(alloc, dice)?)?;
+            Ok(Shape::Diff(first, roll_members(alloc, dice)?))
         }
-        5 => {
-            let inner = diff(alloc, Shape::Leaf(2), leaves(alloc, &[3])?)?;
-            diff(alloc, inter(alloc, &[0, 1])?, vec![in alloc; inner]?)
-        }
-        _ => Ok(Shape::Leaf(1)),
+        _ => roll_member(alloc, dice),
     }
 }
 
@@ -164,26 +174,26 @@ fn tell_border(alloc: Global, dice: &mut Dice, told: &mut Told) -> Result<(), Fa
 
 // Of ten lists each, from the seeds 1, 2, 3 .. on: what the other program told.
 const EXPECTED: [u64; 20] = [
-    7548349131883197969,
-    8759968673854615920,
-    8157363243466508531,
-    17061798498406635312,
-    5288997673234542501,
-    11379669726800541761,
-    880553006418421806,
-    15813850463918856282,
-    10323398804518897010,
-    1349921069907873752,
-    367104342737508206,
-    14781975300541143599,
-    12206688174286687090,
-    6724386069801353080,
-    13856354775335047299,
-    7417823132869163027,
-    10859676520267660367,
-    12094409741887213649,
-    12302476862235266206,
-    5125710768252490440,
+    2059283911120824109,
+    1891203322557342286,
+    2821244373779907600,
+    6023181555215359580,
+    11272789013690859010,
+    4896760914159930448,
+    15081221167484696898,
+    13803058794935321107,
+    7213506115070534426,
+    2865049473404924136,
+    11377717173049208436,
+    14300731563856936588,
+    2329052683907485011,
+    2747090979189382920,
+    6990621939759226692,
+    4703763151919309728,
+    1329208358414986317,
+    12103524857943906300,
+    9286932504918833122,
+    8830481381699679681,
 ];
 
 #[test]

@@ -132,6 +132,12 @@ fn borders_of_two_rectangles(rt: HostRuntime) -> Result<(), Fail> {
         [2, 0, 2, 2, 1],
         [2, 2, 0, 2, 2],
     ];
+    let other = [
+        [2, 0, 4, 0, 0],
+        [2, 2, 2, 0, 3],
+        [4, 0, 4, 2, 1],
+        [4, 2, 2, 2, 2],
+    ];
     let notched = [
         [0, 0, 4, 0, 0],
         [0, 1, 0, 0, 3],
@@ -166,6 +172,13 @@ fn borders_of_two_rectangles(rt: HostRuntime) -> Result<(), Fail> {
             [2, 0, 4, 2],
             Operation::Diff,
             alone.as_slice(),
+        ),
+        (
+            "side of the other",
+            [2, 0, 4, 2],
+            unit,
+            Operation::Diff,
+            other.as_slice(),
         ),
         (
             "one on the other",

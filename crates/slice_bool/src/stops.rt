@@ -68,7 +68,8 @@ pub(crate) fn is_flat_at(e: &Edge, at: &Level) -> bool
     rise(e) == 0 && times::<21, 44>(e.a.y as i128, at.d) == at.n
 }
 
-fn passes_at(e: &Edge, at: &Level) -> bool
+/// Whether an edge isn't flat and meets a height.
+pub(crate) fn passes_at(e: &Edge, at: &Level) -> bool
     requires edge { IsEdgeWithin COORDINATE_LIMIT e.now }
     requires at { IsLevelWithin COORDINATE_LIMIT at.now }
     ensures value { result ≡ passes_at e.now at.now }

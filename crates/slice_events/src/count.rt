@@ -46,3 +46,31 @@ fn crossings_with(e: &LeafEdge, later: &[LeafEdge]) -> u64
     }
     count
 }
+
+#[cfg(test)]
+mod tests {
+    use super::*;
+    use scad_geom::{Edge, Pt};
+
+    fn edge(from: [u8; 2], to: [u8; 2]) -> LeafEdge
+        ensures { IsEdgeWithin COORDINATE_LIMIT result.edge }
+    {
+        let [ax, ay] = from.map(i32::from);
+        let [bx, by] = to.map(i32::from);
+        let edge = Edge {
+            a: Pt { x: ax, y: ay },
+            b: Pt { x: bx, y: by },
+        };
+        LeafEdge { leaf: 0, edge }
+    }
+
+    #[test]
+    fn each_pair_through_one_point_counts_and_equal_edges_dont(rt: HostRuntime) {
+        let rising = edge([0, 0], [4, 4]);
+        let falling = edge([0, 4], [4, 0]);
+        let upright = edge([2, 0], [2, 4]);
+        assert_eq!(rt; crossings(&[rising, falling, upright]), 3);
+        assert_eq!(rt; crossings(&[rising, rising]), 0);
+        assert_eq!(rt; crossings(&[rising, rising, falling]), 2);
+    }
+}

@@ -1,7 +1,8 @@
-use Rattle.std.proofs.Common.{sym}
-use Rattle.std.proofs.lemmas.Iterator.Adapters.{position_from-zero}
-use Rattle.slice_bool.specs.Pieces.{covers}
+-- The first flat edge that covers the stretch is the first edge that does.
+use Rattle.std.proofs.Common.{ap, ◌∙◌}
+use Rattle.slice_bool.specs.Near.{first_cover}
+use Rattle.slice_bool.proofs.NearLevel.{flats_cover}
 use Rattle.slice_bool.proofs.covering.covering_edge.Goals as goal
 
-pub edges-init : goal.edges-init
-edges-init c = sym (position_from-zero (covers c.args.s.now.spot c.args.t.now.spot) c.args.edges.now)
+pub flats-init : goal.flats-init
+flats-init c = ap (first_cover c.args.edges.now c.args.s.now.spot c.args.t.now.spot) c.requires.flats ∙ flats_cover c.args.edges.now c.args.s.now.spot c.args.t.now.spot

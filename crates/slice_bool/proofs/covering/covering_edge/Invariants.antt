@@ -1,7 +1,8 @@
 use Rattle.std.proofs.Common.{◌≡◌, drop}
-use Rattle.std.specs.List.{position, position_from}
+use Rattle.std.specs.List.{position}
 use Rattle.slice_bool.specs.Pieces.{covers}
+use Rattle.slice_bool.specs.Near.{first_cover}
 use Rattle.slice_bool.proofs.covering.covering_edge.Given as goal
 
-abbrev pub invariant-edges : goal.invariant-edges
-invariant-edges l = position_from (covers l.s.spot l.t.spot) l.i (drop l.i l.edges) ≡ position (covers l.s.spot l.t.spot) l.edges
+abbrev pub invariant-flats : goal.invariant-flats
+invariant-flats l = first_cover l.edges l.s.spot l.t.spot (drop l.k-index l.flats) ≡ position (covers l.s.spot l.t.spot) l.edges

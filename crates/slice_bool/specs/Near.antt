@@ -1,0 +1,32 @@
+-- What of an edge list matters on a level: the edges that pass it, and the numbers of the flat ones that lie on it.
+use Rattle.std.specs.Prelude.{if◌then◌else◌, List, [], ◌∷◌, ℕ, ◌+◌, ◌<◌, ◌^◌, ◌≡◌, length, slice_index_or, Option, None, Some, All}
+use Rattle.scad_geom.specs.declared.level.Level.{Level}
+use Rattle.scad_geom.specs.declared.level.LeafEdge.{LeafEdge}
+use Rattle.scad_geom.specs.Point.{IsEdgeWithin}
+use Rattle.slice_slab.specs.Bundles.{no_edge}
+use Rattle.slice_snap.specs.declared.piece.Spot.{Spot}
+use Rattle.slice_bool.specs.declared.near.Near.{Near}
+use Rattle.slice_bool.specs.Pieces.{passes_at, is_flat_at, covers}
+
+-- the edges that aren't flat and meet a level
+abbrev pub passing_at : List LeafEdge → Level → List LeafEdge
+passing_at [] at = []
+passing_at (e ∷ es) at = if passes_at e.edge at then e ∷ passing_at es at else passing_at es at
+
+-- the numbers of the flat edges that lie on a level, counted from the first number on
+abbrev pub flats_from : ℕ → List LeafEdge → Level → List ℕ
+flats_from k [] at = []
+flats_from k (e ∷ es) at = if is_flat_at e.edge at then k ∷ flats_from (k + 1) es at else flats_from (k + 1) es at
+
+-- the first of these numbers whose edge covers the stretch between two spots
+abbrev pub first_cover : List LeafEdge → Spot → Spot → List ℕ → Option ℕ
+first_cover edges s t [] = None
+first_cover edges s t (k ∷ ks) = if covers s t (slice_index_or edges k no_edge) then Some k else first_cover edges s t ks
+
+-- what was found is that of the level
+pub record IsNear (edges : List LeafEdge) (at : Level) (near : Near) : Type 0 where
+  pub passing : near.passing.items ≡ passing_at edges at
+  pub within : All (λ e. IsEdgeWithin 1100000 e.edge) near.passing.items
+  pub few : length near.passing.items < 2 ^ 32
+  pub flats : near.flats.items ≡ flats_from 0 edges at
+  pub there : All (λ k. k < length edges) near.flats.items
