@@ -1,12 +1,17 @@
 ghost use Rattle.std.specs.Prelude.{◌<◌, length};
 
 use super::*;
+use nested::NESTED;
+use printed::{PRINTED, PRINTED_SMALL, PRINTED_STAND, SMALL};
 use rows::{FRONTS, ROWS, STAND};
-use scad_fault::Place;
+use scad_ast::print;
+use scad_fault::{Place, Text};
 use scad_lex::{Tokens, lex};
 use std::alloc::{AllocError, Global};
 use std::test::Fail;
 
+mod nested;
+mod printed;
 mod rows;
 
 /// What `parse` answers to tokens, as one text.
@@ -28,7 +33,7 @@ fn shown(alloc: Global, tokens: &Tokens) -> Result<String, AllocError> {
 
 /// What `lex` and `parse` answer to a source, as one text.
 fn answer(alloc: Global, source: &[u8]) -> Result<String, AllocError>
-    requires { length source.now < 1000 }
+    requires { length source.now < 10000 }
 {
     match lex(alloc, source) {
         Ok(tokens) => shown(alloc, &tokens),
@@ -41,34 +46,86 @@ fn sources_are_programs_or_have_their_first_fault(rt: HostRuntime) -> Result<(),
     for row in ROWS.lines() {
         let (source, wanted) = row.split_once(" ~ ").ok_or("no row")?;
         let source = source.as_bytes();
-        assert!(rt; source.len() < 1000);
+        assert!(rt; source.len() < 10000);
         let text = answer(rt.alloc(), source)?;
         assert_eq!(rt; text.as_str(), wanted, "{row}");
     }
     Ok(())
 }
 
-/// `x=`, so many `(`, `1`, so many `)`, `;`
-fn nested(alloc: Global, depth: usize) -> Result<Vec<u8>, AllocError> {
-    let mut source = Vec::from_slice(alloc, b"x=")?;
-    for _ in 0..depth {
-        source.push(b'(')?;
+fn push_times(source: &mut Vec<u8>, text: &str, times: usize) -> Result<(), AllocError> {
+    for _ in 0..times {
+        source.extend_from_slice(text.as_bytes())?;
     }
-    source.push(b'1')?;
-    for _ in 0..depth {
-        source.push(b')')?;
-    }
-    source.push(b';')?;
-    Ok(source)
+    Ok(())
 }
 
 #[test]
 fn two_hundred_constructs_may_stand_open(rt: HostRuntime) -> Result<(), Fail> {
-    for (depth, wanted) in [(199, "program"), (200, "Nesting 1:202")] {
-        let source = nested(rt.alloc(), depth)?;
-        assert!(rt; source.len() < 1000);
-        let text = answer(rt.alloc(), source.as_slice())?;
-        assert_eq!(rt; text.as_str(), wanted);
+    for (front, opening, middle, closing, back, most, fault) in NESTED {
+        for (times, wanted) in [(most, "program"), (most + 1, fault)] {
+            let mut source = Vec::from_slice(rt.alloc(), front.as_bytes())?;
+            push_times(&mut source, opening, times)?;
+            source.extend_from_slice(middle.as_bytes())?;
+            push_times(&mut source, closing, times)?;
+            source.extend_from_slice(back.as_bytes())?;
+            assert!(rt; source.len() < 10000);
+            let text = answer(rt.alloc(), source.as_slice())?;
+            assert_eq!(rt; text.as_str(), wanted, "{front}{opening}");
+        }
+    }
+    Ok(())
+}
+
+/// The printed text of the program that a source is.
+fn printed_text(alloc: Global, source: &[u8]) -> Result<Text, Fail>
+    requires { length source.now < 10000 }
+{
+    let Ok(tokens) = lex(alloc, source) else {
+        return Err(Fail::new("no tokens"));
+    };
+    match parse(alloc, &tokens) {
+        Ok(program) => Ok(print(alloc, &program)?),
+        Err(_) => Err(Fail::new("no program")),
+    }
+}
+
+/// The text without its line feeds.
+fn on_one_line(alloc: Global, text: &[u8]) -> Result<String, AllocError> {
+    let mut line = String::new(alloc);
+    for b in text {
+        if *b != b'\n' {
+            line.push(char::from(*b))?;
+        }
+    }
+    Ok(line)
+}
+
+#[test]
+fn printed_programs_show_what_belongs_together(rt: HostRuntime) -> Result<(), Fail> {
+    for row in PRINTED.lines() {
+        let (source, wanted) = row.split_once(" ~ ").ok_or("no row")?;
+        let source = source.as_bytes();
+        assert!(rt; source.len() < 10000);
+        let text = printed_text(rt.alloc(), source)?;
+        let line = on_one_line(rt.alloc(), text.as_slice())?;
+        assert_eq!(rt; line.as_str(), wanted, "{row}");
+    }
+    Ok(())
+}
+
+// What is printed tells the program, its places aside, so the same text again is the same program.
+#[test]
+fn printed_programs_are_the_same_programs(rt: HostRuntime) -> Result<(), Fail> {
+    for (source, wanted) in [(STAND, PRINTED_STAND), (SMALL, PRINTED_SMALL)] {
+        let source = source.as_bytes();
+        assert!(rt; source.len() < 10000);
+        let text = printed_text(rt.alloc(), source)?;
+        let text = text.as_slice();
+        assert_eq!(rt; text, wanted.as_bytes());
+        assert!(rt; text.len() < 10000);
+        let again = printed_text(rt.alloc(), text)?;
+        assert_eq!(rt; again.as_slice(), text);
     }
     Ok(())
 }
@@ -83,7 +140,7 @@ fn mark_of(end: Place, answer: &Result<scad_ast::Program, ParseFault>) -> char {
 
 /// `p` for a program, `s` for a syntax fault at the end, `n` where there are no tokens, `o` for another fault.
 fn mark(alloc: Global, source: &[u8]) -> char
-    requires { length source.now < 1000 }
+    requires { length source.now < 10000 }
 {
     match lex(alloc, source) {
         Ok(tokens) => mark_of(tokens.end, &parse(alloc, &tokens)),
@@ -98,7 +155,7 @@ fn each_front_of_a_program_ends_early_or_is_a_program(rt: HostRuntime) -> Result
     marks.push(mark(rt.alloc(), b""))?;
     for b in STAND.as_bytes() {
         source.push(*b)?;
-        assert!(rt; source.len() < 1000);
+        assert!(rt; source.len() < 10000);
         marks.push(mark(rt.alloc(), source.as_slice()))?;
     }
     assert_eq!(rt; marks.as_str(), FRONTS);

@@ -116,6 +116,55 @@ fn tokens_and_refusals_of_short_sources(rt: HostRuntime) -> Result<(), AllocErro
         (b"\"a\xffb".as_slice(), "BadText 1:3"),
         (b"a\\".as_slice(), "BadText 1:2"),
         (b"'".as_slice(), "BadText 1:1"),
+        (b"\"\\xg1\"".as_slice(), "BadText 1:2"),
+        (b"\"\\X41\"".as_slice(), "BadText 1:2"),
+        (b"\"\\U000000\"".as_slice(), "BadText 1:2"),
+        (b"\"\\U00d800\"".as_slice(), "BadText 1:2"),
+        (b"\"\\u12g4\"".as_slice(), "BadText 1:2"),
+        (b"\"\\'\"".as_slice(), "BadText 1:2"),
+        (b"\"\\\n\"".as_slice(), "BadText 1:2"),
+        (
+            b"\"a\x00\x01\x7fb\"".as_slice(),
+            "1:1 string 97.0.1.127.98; 1:8 end",
+        ),
+        (b"a\x00".as_slice(), "BadText 1:2"),
+        (b"\x0c".as_slice(), "BadText 1:1"),
+        (b"a\xef\xbb\xbf".as_slice(), "BadText 1:2"),
+        (b"\ta\rb".as_slice(), "1:2 word a; 1:4 word b; 1:5 end"),
+        (b"//a\rb\nc".as_slice(), "2:1 word c; 2:2 end"),
+        (b"a//".as_slice(), "1:1 word a; 1:4 end"),
+        (b"/**//* /* */a".as_slice(), "1:13 word a; 1:14 end"),
+        (b"/***/a".as_slice(), "1:6 word a; 1:7 end"),
+        (b"x=1000000001; @".as_slice(), "Range 1:3"),
+        (b"@ 1000000001".as_slice(), "BadText 1:1"),
+        (
+            b"$a$b_$_ _".as_slice(),
+            "1:1 word $a; 1:3 word $b_; 1:6 word $_; 1:9 word _; 1:10 end",
+        ),
+        (
+            b"0x1F 12abc 1.5.5 1e5e5 1E-2".as_slice(),
+            "1:1 number 0; 1:2 word x1F; 1:6 number 12000000; 1:8 word abc; 1:12 number 1500000; 1:15 number 500000; 1:18 number 100000000000; 1:21 word e5; 1:24 number 10000; 1:28 end",
+        ),
+        (
+            b"modulemodule truefalse $for".as_slice(),
+            "1:1 word modulemodule; 1:14 word truefalse; 1:24 word $for; 1:28 end",
+        ),
+        (b"\"\xe2(\xa1\"".as_slice(), "BadText 1:2"),
+        (b"\"\xf5\x80\x80\x80\"".as_slice(), "BadText 1:2"),
+        (b"\"\xc3\"".as_slice(), "BadText 1:2"),
+        (b"\"\\q".as_slice(), "BadText 1:2"),
+        (
+            b"\"a\" \"b\"//\"\n\"c\"".as_slice(),
+            "1:1 string 97; 1:5 string 98; 2:1 string 99; 2:4 end",
+        ),
+        (
+            b"a/ *b".as_slice(),
+            "1:1 word a; 1:2 Slash; 1:4 Star; 1:5 word b; 1:6 end",
+        ),
+        (
+            b"1.e 1.e+ .e1 .".as_slice(),
+            "1:1 number 1000000; 1:3 word e; 1:5 number 1000000; 1:7 word e; 1:8 Plus; 1:10 Dot; 1:11 word e1; 1:14 Dot; 1:15 end",
+        ),
     ] {
         assert!(rt; source.len() < 1000);
         let text = answer(rt.alloc(), source)?;

@@ -102,7 +102,64 @@ cube(1));  ~ Syntax 1:8
 x = 1.; ~ program
 x = a.1; ~ Syntax 1:6
 x = .5.x; ~ program
-f = 2; function f(x) = x + 1; module f() { cube(f(f)); } f(); ~ program";
+f = 2; function f(x) = x + 1; module f() { cube(f(f)); } f(); ~ program
+x = [\"a\", true, false, undef, []]; ~ program
+union() { ; } ~ program
+module m() a = 1; ~ program
+module m() { { a = 1; } } ~ program
+union() *cube(1); ~ program
+function f() = function(a) a; ~ LeftOut 1:16 function
+x = [function(a) a]; ~ LeftOut 1:6 function
+x = [1 : function(a) a]; ~ LeftOut 1:10 function
+x = f(a = function(b) b); ~ LeftOut 1:11 function
+function f(a = function(b) b) = a; ~ LeftOut 1:16 function
+union() !cube(1); ~ LeftOut 1:9 !
+if(a) use <b> ~ LeftOut 1:7 use
+if(a) b(); else include <c> ~ LeftOut 1:17 include
+module m() use <a> ~ LeftOut 1:12 use
+union() { use <a> } ~ LeftOut 1:11 use
+x = a.b ^ 2; ~ LeftOut 1:9 ^
+x = (a) ^ 2; ~ LeftOut 1:9 ^
+x = [a] ^ 2; ~ LeftOut 1:9 ^
+x = f(a) ^ 2; ~ LeftOut 1:10 ^
+x = -a ^ 2; ~ LeftOut 1:8 ^
+x = a * ^ 2; ~ Syntax 1:9
+f(x) ^ 2; ~ Syntax 1:6
+module m(a ^ 2) ; ~ Syntax 1:12
+x = [if(a) b else c else d]; ~ Syntax 1:21
+if(a) {} else {} else {} ~ Syntax 1:18
+x = let a; ~ Syntax 1:9
+x = [let(a=1)]; ~ Syntax 1:14
+echo; ~ Syntax 1:5
+;;{} ~ program
+= 1; ~ Syntax 1:1
+1; ~ Syntax 1:1
+module module() ; ~ Syntax 1:8
+x.y = 1; ~ Syntax 1:2
+a[0] = 1; ~ Syntax 1:2
+x = a ? b : ; ~ Syntax 1:13
+x = a + ; ~ Syntax 1:9
+x = [1 2]; ~ Syntax 1:8
+x = f(1 2); ~ Syntax 1:9
+x = f(a : 1); ~ Syntax 1:9
+x = f(1;); ~ Syntax 1:8
+x = [for(i=[1]) ]; ~ Syntax 1:17
+x = [each]; ~ Syntax 1:10
+x = [a : for(i=[1]) i]; ~ Syntax 1:10
+x = [for(i=[1]) i : 3]; ~ Syntax 1:19
+x = [1 : 2, 3]; ~ Syntax 1:11
+x = a.for; ~ Syntax 1:7
+x = (1, 2); ~ Syntax 1:7
+x = (); ~ Syntax 1:6
+module m() { ~ Syntax 1:13
+{ cube(1); ~ Syntax 1:11
+use ~ LeftOut 1:1 use
+function f() = 1; use <a> ~ LeftOut 1:19 use
+x = ! include; ~ Syntax 1:7
+for() let() echo() assert() ; ~ program
+%#%#cube(1); ~ program
+x = assert(false, \"t\") a; ~ program
+x = a < b == c > d; ~ program";
 
 pub(super) const STAND: &str = "// phone stand
 $fn = 48;
