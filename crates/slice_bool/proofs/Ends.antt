@@ -3,7 +3,7 @@ use Rattle.std.proofs.Common.{◌≡◌, ℕ, ◌⊎◌, inl, inr, Bool, true, f
 use lib.IntN.{pos}
 use lib.Signed.{◌<ℤ◌}
 use Rattle.std.specs.Prelude.{Option, Some, None}
-use Rattle.std.specs.List.{AllByRecursion, All, position}
+use Rattle.std.specs.List.{AllByRecursion, All, position, concat}
 use Rattle.std.proofs.lemmas.Int.{ints}
 use Rattle.std.proofs.lemmas.List.Elements.{All-from_recursion}
 use Rattle.scad_geom.specs.declared.level.Level.{Level}
@@ -12,12 +12,14 @@ use Rattle.scad_geom.specs.declared.shape.Shape.{Shape}
 use Rattle.scad_geom.specs.Shape.{is_in_by}
 use Rattle.scad_geom.specs.Heights.{IsLower, IsSameHeight}
 use Rattle.scad_geom.proofs.Heights.{lower_then_at_most, lower_weak}
+use Rattle.scad_geom.proofs.Order.{front, back}
 use Rattle.slice_events.specs.Levels.{IsRising}
 use Rattle.slice_slab.specs.Bundles.{edge_at}
 use Rattle.slice_snap.specs.declared.piece.Spot.{Spot}
 use Rattle.slice_snap.specs.declared.piece.Piece.{Piece}
 use Rattle.slice_bool.specs.Pieces.{spot_on, point_of, piece_between, bundle_piece, slab_pieces, covers, stretch_piece, flat_pieces, AreLevelPieces, ArePieces}
 use Rattle.slice_bool.specs.Ends.{ends_of, HaveOneLevel}
+use Rattle.slice_bool.proofs.Passing.{IsLive, live_bundles}
 use Rattle.slice_bool.proofs.Middle.{half_point}
 use Rattle.slice_bool.proofs.Winding.{IsSpotAt, both_lists, stops_at}
 
@@ -31,7 +33,7 @@ ends-append [] rs = refl
 ends-append (q ∷ qs) rs = ap (λ (ss : List Spot). q.from ∷ (q.to ∷ ss)) (ends-append qs rs)
 
 module _ (P : Spot → Type 0) where
-  joined : (qs rs : List Piece) → AllByRecursion P (ends_of qs) → AllByRecursion P (ends_of rs) → AllByRecursion P (ends_of (qs ++ rs))
+  pub joined : (qs rs : List Piece) → AllByRecursion P (ends_of qs) → AllByRecursion P (ends_of rs) → AllByRecursion P (ends_of (qs ++ rs))
   joined qs rs h k = subst (AllByRecursion P) (sym (ends-append qs rs)) (both_lists P (ends_of qs) (ends_of rs) h k)
 
   between_ends : (v w : Bool) (s t : Spot) (name : ℕ) → P s → P t → AllByRecursion P (ends_of (piece_between v w s t name))
@@ -51,17 +53,26 @@ module _ (P : Spot → Type 0) where
       joined (stretch_piece es shape s t (position (covers s t) es)) (flat_pieces es shape (t ∷ ss))
       (stretch_ends es shape s t (position (covers s t) es) h.0 h.1.0) (flat_ends es shape (t ∷ ss) h.1)
 
-  bundle_ends : (es : List LeafEdge) (shape : Shape) (l u : Level) (b : List ℕ) → ((s : Spot) → s.at ≡ l → P s) → ((s : Spot) → s.at ≡ u → P s)
-      → AllByRecursion P (ends_of (bundle_piece es shape l u b))
-  bundle_ends es shape l u [] h k = tt
-  bundle_ends es shape l u (i ∷ is) h k =
-      between_ends (is_in_by true false es shape (half_point es l u i)) (is_in_by true true es shape (half_point es l u i)) (spot_on (edge_at es i) l) (spot_on (edge_at es i) u) i
-      (h (spot_on (edge_at es i) l) refl) (k (spot_on (edge_at es i) u) refl)
+  -- what holds of both ends of an edge between two heights
+  abbrev pub AtBoth : List LeafEdge → Level → Level → ℕ → Type 0
+  AtBoth es l u k = P (spot_on (edge_at es k) l) × P (spot_on (edge_at es k) u)
 
-  slab_ends : (es : List LeafEdge) (shape : Shape) (l u : Level) (bs : List (List ℕ)) → ((s : Spot) → s.at ≡ l → P s) → ((s : Spot) → s.at ≡ u → P s)
+  bundle_ends : (es : List LeafEdge) (shape : Shape) (l u : Level) (b : List ℕ) → AllByRecursion (AtBoth es l u) b → AllByRecursion P (ends_of (bundle_piece es shape l u b))
+  bundle_ends es shape l u [] h = tt
+  bundle_ends es shape l u (k ∷ ks) h =
+      between_ends (is_in_by true false es shape (half_point es l u k)) (is_in_by true true es shape (half_point es l u k)) (spot_on (edge_at es k) l) (spot_on (edge_at es k) u) k
+      h.0.0 h.0.1
+
+  pub slab_ends : (es : List LeafEdge) (shape : Shape) (l u : Level) (bs : List (List ℕ)) → AllByRecursion (AtBoth es l u) (concat bs)
       → AllByRecursion P (ends_of (slab_pieces es shape l u bs))
-  slab_ends es shape l u [] h k = tt
-  slab_ends es shape l u (b ∷ bs) h k = joined (bundle_piece es shape l u b) (slab_pieces es shape l u bs) (bundle_ends es shape l u b h k) (slab_ends es shape l u bs h k)
+  slab_ends es shape l u [] h = tt
+  slab_ends es shape l u (b ∷ bs) h =
+      joined (bundle_piece es shape l u b) (slab_pieces es shape l u bs)
+      (bundle_ends es shape l u b (front (AtBoth es l u) b (concat bs) h)) (slab_ends es shape l u bs (back (AtBoth es l u) b (concat bs) h))
+
+pub each_of : (Q R : ℕ → Type 0) → ((k : ℕ) → Q k → R k) → (ks : List ℕ) → AllByRecursion Q ks → AllByRecursion R ks
+each_of Q R f [] h = tt
+each_of Q R f (k ∷ ks) h = (f k h.0, each_of Q R f ks h.1)
 
 -- a spot on one of the levels
 abbrev IsOn : List Level → Spot → Type 0
@@ -80,7 +91,7 @@ level_ends es shape all (l ∷ (u ∷ ls)) pieces a h =
     (joined (IsOn all) (flat_pieces es shape h.0 ++ slab_pieces es shape l u h.1) h.2
     (joined (IsOn all) (flat_pieces es shape h.0) (slab_pieces es shape l u h.1)
     (flat_ends (IsOn all) es shape h.0 (all_on all l h.0 a.0 (stops_at es l h.0 h.3)))
-    (slab_ends (IsOn all) es shape l u h.1 (λ s e. subst (IsAmong all) (sym e) a.0) (λ s e. subst (IsAmong all) (sym e) a.1.0)))
+    (slab_ends (IsOn all) es shape l u h.1 (each_of (IsLive es l u) (AtBoth (IsOn all) es l u) (λ k r. (a.0, a.1.0)) (concat h.1) (live_bundles es l u h.1 h.4))))
     (level_ends es shape all (u ∷ ls) h.2 a.1 h.5))
 
 more_among : (k : Level) (all ls : List Level) → AllByRecursion (IsAmong all) ls → AllByRecursion (IsAmong (k ∷ all)) ls

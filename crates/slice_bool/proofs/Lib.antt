@@ -7,6 +7,7 @@ pub mod Slabs
 pub mod Winding
 pub mod Walk
 pub mod Ends
+pub mod Within
 pub mod Centre
 pub mod BalanceTurns
 pub mod BalanceEdges

@@ -75,9 +75,14 @@ still_at above p l s t hs ht = elim (either_over above (level_at p) l) [
   | inr o ↦ spot_not_over above p s hs.runs (subst (NotOver above (level_at p)) (sym hs.at) o) ∙ sym (spot_not_over above p t ht.runs (subst (NotOver above (level_at p)) (sym ht.at) o))
 ]
 
-pub one_of : (l : Level) (ts : List Spot) (s : Spot) → AllByRecursion (IsSpotAt l) ts → IsOneOf ts s → IsSpotAt l s
-one_of l [] s h o = absurd o
-one_of l (t ∷ ts) s h o = elim o [ inl e ↦ subst (IsSpotAt l) e h.0 | inr r ↦ one_of l ts s h.1 r ]
+one_of : (P : Spot → Type 0) (ts : List Spot) (s : Spot) → AllByRecursion P ts → IsOneOf ts s → P s
+one_of P [] s h o = absurd o
+one_of P (t ∷ ts) s h o = elim o [ inl e ↦ subst P e h.0 | inr r ↦ one_of P ts s h.1 r ]
+
+-- what holds of all places where edges meet a height holds of its stops
+pub of_stops : (P : Spot → Type 0) (ts ss : List Spot) → AllByRecursion P ts → AllByRecursion (IsOneOf ts) ss → AllByRecursion P ss
+of_stops P ts [] h o = tt
+of_stops P ts (s ∷ ss) h o = (one_of P ts s h o.0, of_stops P ts ss h o.1)
 
 pub both_lists : {A : Type 0} (P : A → Type 0) (xs ys : List A) → AllByRecursion P xs → AllByRecursion P ys → AllByRecursion P (xs ++ ys)
 both_lists P [] ys h k = k
@@ -117,11 +122,7 @@ flat_still es shape above right p l (s ∷ (t ∷ ss)) h =
     ∙ two_zeros _ _ (stretch_still es shape above right p s t (position (covers s t) es) (still_at above p l s t h.0 h.1.0)) (flat_still es shape above right p l (t ∷ ss) h.1)
 
 pub stops_at : (es : List LeafEdge) (l : Level) (stops : List Spot) → AreStops es l stops → AllByRecursion (IsSpotAt l) stops
-stops_at es l stops h = over stops h.sound
-  where
-    over : (ss : List Spot) → AllByRecursion (IsOneOf (spots_at es l)) ss → AllByRecursion (IsSpotAt l) ss
-    over [] h = tt
-    over (s ∷ ss) h = (one_of l (spots_at es l) s (spots_are_at es l) h.0, over ss h.1)
+stops_at es l stops h = of_stops (IsSpotAt l) (spots_at es l) stops (spots_are_at es l) h.sound
 
 pub stops_still : (es : List LeafEdge) (shape : Shape) (above right : Bool) (p : Point) (l : Level) (stops : List Spot) → AreStops es l stops → wind_pieces above right p (flat_pieces es shape stops) ≡ pos 0
 stops_still es shape above right p l stops h = flat_still es shape above right p l stops (stops_at es l stops h)

@@ -5,6 +5,7 @@ ghost use Rattle.scad_geom.specs.Heights.{IsLevelWithin};
 ghost use Rattle.slice_events.specs.Levels.{crossings, AreLevels};
 ghost use Rattle.slice_bool.specs.Pieces.{AreLevelPieces, ArePieces};
 ghost use Rattle.slice_bool.specs.Ends.{HaveOneLevel};
+ghost use Rattle.slice_bool.specs.Within.{IsPieceWithin};
 ghost use Rattle.slice_bool.specs.Balance.{AreLeavesBalanced, ArePiecesBalanced};
 ghost use Rattle.slice_bool.specs.Centre.{AreCentresWound};
 ghost use Rattle.slice_bool.specs.Fault.{IsRefusal};
@@ -22,8 +23,8 @@ use std::alloc::{AllocError, Global};
 /// level upwards, the flat pieces on a level before those between it and the next, each group from left to right.
 ///
 /// They wind once round each cell centre that the shape holds and round no other, and where the edges of each leaf are
-/// closed, as many start at each point as end there. It is refused exactly where there are more edges than the limit,
-/// and then where more pairs cross than `CROSSING_LIMIT`.
+/// closed, as many start at each point as end there. Their ends are within the limit of the coordinates. It is refused
+/// exactly where there are more edges than the limit, and then where more pairs cross than `CROSSING_LIMIT`.
 pub fn pieces(
     alloc: Global,
     edges: &[LeafEdge],
@@ -33,6 +34,7 @@ pub fn pieces(
     requires { All (λ e. IsEdgeWithin COORDINATE_LIMIT e.edge) edges.now }
     ensures pieces { IfOk result (λ v. ArePieces edges.now shape.now v.items) }
     ensures levels { IfOk result (λ v. HaveOneLevel v.items) }
+    ensures within { IfOk result (λ v. All (IsPieceWithin COORDINATE_LIMIT) v.items) }
     ensures balanced { IfOk result (λ v. AreLeavesBalanced edges.now → ArePiecesBalanced v.items) }
     ensures centres { IfOk result (λ v. AreCentresWound edges.now shape.now v.items) }
     ensures few { IfOk result (λ v. length edges.now ≤ limit) }

@@ -1,6 +1,7 @@
 //! Laws of the definitions, each carried by the contract of a function that does nothing.
 ghost use Rattle.slice_bool.specs.Pieces.{PiecesWindOnce};
 ghost use Rattle.slice_bool.specs.Ends.{HeightsHaveOneLevel};
+ghost use Rattle.slice_bool.specs.Within.{SpotsAreWithin};
 ghost use Rattle.slice_bool.specs.Balance.{BordersAreBalanced};
 ghost use Rattle.slice_bool.specs.BorderPoints.{PiecesAreBorder};
 ghost use Rattle.slice_bool.specs.Centre.{CentresAreWoundOnce, CentresAreHeld};
@@ -14,6 +15,11 @@ pub fn pieces_wind_once()
 /// Ends of the pieces of a border that are equal in height have the same level, over the same divisor.
 pub fn heights_have_one_level()
     ensures { HeightsHaveOneLevel }
+{}
+
+/// Where the edges of a border and its levels are within a limit above 0, so are the ends of its pieces.
+pub fn spots_are_within()
+    ensures { SpotsAreWithin }
 {}
 
 /// Round each cell centre that a shape holds the pieces of its border wind once, and round no other, in
@@ -42,6 +48,7 @@ mod tests {
     fn laws_are_called() {
         pieces_wind_once();
         heights_have_one_level();
+        spots_are_within();
         centres_are_wound_once();
         borders_are_balanced();
         pieces_are_border();

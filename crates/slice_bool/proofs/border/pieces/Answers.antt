@@ -1,5 +1,6 @@
 -- What holds of all pieces that meet the definition.
-use Rattle.std.proofs.Common.{◌≡◌, List, subst}
+use Rattle.std.proofs.Common.{◌≡◌, List, subst, arith}
+use Rattle.scad_geom.specs.declared.point.TheConstants.{COORDINATE_LIMIT}
 use Rattle.scad_geom.specs.declared.level.Level.{Level}
 use Rattle.scad_geom.specs.declared.level.LeafEdge.{LeafEdge}
 use Rattle.scad_geom.specs.declared.shape.Shape.{Shape}
@@ -7,11 +8,12 @@ use Rattle.slice_events.specs.Levels.{AreLevels}
 use Rattle.slice_snap.specs.declared.piece.Piece.{Piece}
 use Rattle.slice_bool.specs.Pieces.{AreLevelPieces, ArePieces}
 use Rattle.slice_bool.proofs.Ends.{heights_have_one_level}
+use Rattle.slice_bool.proofs.Within.{spots_are_within}
 use Rattle.slice_bool.proofs.BalanceLevels.{pieces_are_balanced}
 use Rattle.slice_bool.proofs.Centre.{centres_are_wound_once}
 use Rattle.slice_bool.proofs.border.pieces.Goals as goal
 
-all : (es : List LeafEdge) (shape : Shape) (ls ks : List Level) (pieces : List Piece) → AreLevels es ls → ks ≡ ls → AreLevelPieces es shape ks pieces → ArePieces es shape pieces
+abbrev all : (es : List LeafEdge) (shape : Shape) (ls ks : List Level) (pieces : List Piece) → AreLevels es ls → ks ≡ ls → AreLevelPieces es shape ks pieces → ArePieces es shape pieces
 all es shape ls ks pieces a e h = record {
   levels = ls;
   are_levels = a;
@@ -25,6 +27,14 @@ returns-in-Ok-all_pieces-clause-levels c =
     let pieces = c.in-Ok-all_pieces.pieces.items in
     heights_have_one_level es shape pieces
     (all es shape c.in-Ok.levels.items c.deref.result.now pieces c.in-Ok.ensures.levels c.deref.ensures.value c.in-Ok-all_pieces.ensures)
+
+pub returns-in-Ok-all_pieces-clause-within : goal.returns-in-Ok-all_pieces-clause-within
+returns-in-Ok-all_pieces-clause-within c =
+    let es = c.args.edges.now in
+    let shape = c.args.shape.now in
+    let pieces = c.in-Ok-all_pieces.pieces.items in
+    spots_are_within COORDINATE_LIMIT (omega arith) es c.requires shape pieces
+    (all es shape c.in-Ok.levels.items c.deref.result.now pieces c.in-Ok.ensures.levels c.deref.ensures.value c.in-Ok-all_pieces.ensures) c.in-Ok.ensures.within
 
 pub returns-in-Ok-all_pieces-clause-balanced : goal.returns-in-Ok-all_pieces-clause-balanced
 returns-in-Ok-all_pieces-clause-balanced c =
