@@ -63,7 +63,7 @@ fn push_times(source: &mut Vec<u8>, text: &str, times: usize) -> Result<(), Allo
 #[test]
 fn two_hundred_constructs_may_stand_open(rt: HostRuntime) -> Result<(), Fail> {
     for (front, opening, middle, closing, back, most, fault) in NESTED {
-        for (times, wanted) in [(most, "program"), (most + 1, fault)] {
+        for (times, wanted) in [(most, "program"), (most.saturating_add(1), fault)] {
             let mut source = Vec::from_slice(rt.alloc(), front.as_bytes())?;
             push_times(&mut source, opening, times)?;
             source.extend_from_slice(middle.as_bytes())?;
