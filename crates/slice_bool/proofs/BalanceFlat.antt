@@ -74,7 +74,7 @@ none_passes p (e ∷ es) h = by_test (p e) refl h (none_passes p es)
         less : (m n : ℕ) → nat_lt (1 + m) (suc n) ≡ false → nat_lt m n ≡ false
         less m n h = grind (arith, nat_tests)
 
-none_covers : (p : LeafEdge → Bool) (es : List LeafEdge) → position p es ≡ None → AllByRecursion (λ e. p e ≡ false) es
+pub none_covers : (p : LeafEdge → Bool) (es : List LeafEdge) → position p es ≡ None → AllByRecursion (λ e. p e ≡ false) es
 none_covers p es h = none_passes p es (by_test (nat_lt (position_or_len p es) (length es)) (position_or_len p es) h)
   where
     by_test : (b : Bool) (n : ℕ) → cond b (Some n) None ≡ None → b ≡ false
@@ -105,12 +105,12 @@ spot_gap l s w hs hw =
     ap₂ (λ (m n : Level). w.x *ℤ (m.d *ℤ pos s.run) -ℤ s.x *ℤ (n.d *ℤ pos w.run)) hs.at hw.at
     ∙ spots_gap s.x (pos s.run) w.x (pos w.run) l.d
 
-not_after : (l : Level) (s w : Spot) → pos 0 <ℤ l.d → IsSpotAt l s → IsSpotAt l w → IsAtMost (across w) (across s) → is_right true (point_of s) (point_of w) ≡ false
+pub not_after : (l : Level) (s w : Spot) → pos 0 <ℤ l.d → IsSpotAt l s → IsSpotAt l w → IsAtMost (across w) (across s) → is_right true (point_of s) (point_of w) ≡ false
 unfolding is_beyond
 not_after l s w dl hs hw h =
     ap (is_beyond true) (spot_gap l s w hs hw) ∙ beyond_mul true l.d (w.x *ℤ pos s.run -ℤ s.x *ℤ pos w.run) dl ∙ sym (omega (arith, ints))
 
-is_after : (l : Level) (s w : Spot) → pos 0 <ℤ l.d → IsSpotAt l s → IsSpotAt l w → IsLower (across s) (across w) → is_right true (point_of s) (point_of w) ≡ true
+pub is_after : (l : Level) (s w : Spot) → pos 0 <ℤ l.d → IsSpotAt l s → IsSpotAt l w → IsLower (across s) (across w) → is_right true (point_of s) (point_of w) ≡ true
 unfolding is_beyond
 is_after l s w dl hs hw h =
     ap (is_beyond true) (spot_gap l s w hs hw) ∙ beyond_mul true l.d (w.x *ℤ pos s.run -ℤ s.x *ℤ pos w.run) dl ∙ sym (omega (arith, ints))
@@ -142,7 +142,7 @@ module _ (l : Level) (dl : pos 0 <ℤ l.d) (right : Bool) (p : Point) (dp : pos 
         ]
       ]
 
-  all_uncovered : (es : List LeafEdge) → AllByRecursion (IsBeside s t) (spots_at es l) → AllByRecursion (λ e. covers s t e ≡ false) es → AllByRecursion (IsOneSided l right p) es
+  pub all_uncovered : (es : List LeafEdge) → AllByRecursion (IsBeside s t) (spots_at es l) → AllByRecursion (λ e. covers s t e ≡ false) es → AllByRecursion (IsOneSided l right p) es
   all_uncovered [] h c = tt
   all_uncovered (e ∷ es) h c =
       (uncovered e (front (IsBeside s t) (own_spots e l) (spots_at es l) h) c.0, all_uncovered es (back (IsBeside s t) (own_spots e l) (spots_at es l) h) c.1)

@@ -14,6 +14,7 @@ pub mod BalanceEdges
 pub mod BalanceSpots
 pub mod BalanceStops
 pub mod BalanceFlat
+pub mod Covered
 pub mod BalanceLevels
 mod Examples
 pub mod BorderPoints

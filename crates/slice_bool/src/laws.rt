@@ -3,6 +3,7 @@ ghost use Rattle.slice_bool.specs.Pieces.{PiecesWindOnce};
 ghost use Rattle.slice_bool.specs.Ends.{HeightsHaveOneLevel};
 ghost use Rattle.slice_bool.specs.Within.{SpotsAreWithin};
 ghost use Rattle.slice_bool.specs.Balance.{BordersAreBalanced};
+ghost use Rattle.slice_bool.specs.Covered.{StretchesAreCovered};
 ghost use Rattle.slice_bool.specs.BorderPoints.{PiecesAreBorder};
 ghost use Rattle.slice_bool.specs.Centre.{CentresAreWoundOnce, CentresAreHeld};
 
@@ -34,6 +35,12 @@ pub fn borders_are_balanced()
     ensures { BordersAreBalanced }
 {}
 
+/// Where the edges of each leaf are balanced, the values just above and just below a stretch between neighbouring
+/// stops of a level differ only where a flat edge covers it.
+pub fn stretches_are_covered()
+    ensures { StretchesAreCovered }
+{}
+
 /// Each point of a piece of a border but its ends is a border point: hard by it the shape holds on one side and not on
 /// another.
 pub fn pieces_are_border()
@@ -51,6 +58,7 @@ mod tests {
         spots_are_within();
         centres_are_wound_once();
         borders_are_balanced();
+        stretches_are_covered();
         pieces_are_border();
     }
 }
