@@ -60,19 +60,35 @@ fn push_times(source: &mut Vec<u8>, text: &str, times: usize) -> Result<(), Allo
     Ok(())
 }
 
+/// What is answered where a construct stands in itself so many times: the front, what is opened so often, the middle, what
+/// closes it as often, the back.
+fn nested_answer(
+    alloc: Global,
+    front: &str,
+    (opening, middle, closing): (&str, &str, &str),
+    back: &str,
+    times: usize,
+) -> Result<String, Fail> {
+    let mut source = Vec::from_slice(alloc, front.as_bytes())?;
+    push_times(&mut source, opening, times)?;
+    source.extend_from_slice(middle.as_bytes())?;
+    push_times(&mut source, closing, times)?;
+    source.extend_from_slice(back.as_bytes())?;
+    if source.len() < 10000 {
+        Ok(answer(alloc, source.as_slice())?)
+    } else {
+        Err(Fail::new("a long source"))
+    }
+}
+
 #[test]
 fn two_hundred_constructs_may_stand_open(rt: HostRuntime) -> Result<(), Fail> {
     for (front, opening, middle, closing, back, most, fault) in NESTED {
-        for (times, wanted) in [(most, "program"), (most.saturating_add(1), fault)] {
-            let mut source = Vec::from_slice(rt.alloc(), front.as_bytes())?;
-            push_times(&mut source, opening, times)?;
-            source.extend_from_slice(middle.as_bytes())?;
-            push_times(&mut source, closing, times)?;
-            source.extend_from_slice(back.as_bytes())?;
-            assert!(rt; source.len() < 10000);
-            let text = answer(rt.alloc(), source.as_slice())?;
-            assert_eq!(rt; text.as_str(), wanted, "{front}{opening}");
-        }
+        let inner = (opening, middle, closing);
+        let text = nested_answer(rt.alloc(), front, inner, back, most)?;
+        assert_eq!(rt; text.as_str(), "program", "{front}{opening}");
+        let text = nested_answer(rt.alloc(), front, inner, back, most.saturating_add(1))?;
+        assert_eq!(rt; text.as_str(), fault, "{front}{opening}");
     }
     Ok(())
 }
