@@ -25,6 +25,7 @@ use Rattle.scad_parse.specs.Machine.{Refusal, syntax_at, nesting_at, step, finis
 use Rattle.scad_parse.specs.Reading.{place_of, behind, first_word, Entering, Closing, Refuses}
 use Rattle.scad_parse.specs.ReadingStatements.{with_param, headed}
 use Rattle.scad_parse.proofs.Outcomes.{onward, may, nests, moves, sticks, unended, same_step, same_end, settle, passed, taken, only_here, not_here}
+use Rattle.scad_parse.proofs.DescentStatements.{ended_within}
 
 -- `(` before parameters
 pub parameters_enter : (k : BehindParameters) (t : Token) → step (want_parameters k) t ≡ (if is_sign OpenRound t then go (in_parameters [] k) else stuck)
@@ -176,7 +177,7 @@ unfolding after_expression
 assigned_closes at w a k e t = refl
 
 abbrev pub closing_assigned : Place → List ℕ → Items → BehindItems → Closing Semicolon
-closing_assigned at w a k = record { behind = assigned_to at w a k; next = λ e. have_items (with_item a (assignment at w e)) k; closes = assigned_closes at w a k; less = λ e. omega arith }
+closing_assigned at w a k = record { behind = assigned_to at w a k; next = λ e. have_items (with_item a (assignment at w e)) k; closes = assigned_closes at w a k; less = λ e. let l = ended_within k in omega (arith, l) }
 
 -- a definition of a function
 function_at : (kind : TokenKind) (at : Place) (a : Items) (k : BehindItems) → is_key_kind Function kind ≡ true → step (want_statement true a k) (record { kind = kind; at = at }) ≡ go (want_defined a_function at a k)
@@ -209,7 +210,7 @@ unfolding after_expression
 body_closes at w all a k e t = refl
 
 abbrev pub closing_body : Place → List ℕ → List Parameter → Items → BehindItems → Closing Semicolon
-closing_body at w all a k = record { behind = function_body at w all a k; next = λ e. have_items (with_item a (function_of at w all e)) k; closes = body_closes at w all a k; less = λ e. omega arith }
+closing_body at w all a k = record { behind = function_body at w all a k; next = λ e. have_items (with_item a (function_of at w all e)) k; closes = body_closes at w all a k; less = λ e. let l = ended_within k in omega (arith, l) }
 
 -- a fault that is found where there was memory
 pub or_memory : (found : Result Items Refusal) (fault : ParseFault) → (fault ≢ Memory → Refuses found fault) → Refuses found fault

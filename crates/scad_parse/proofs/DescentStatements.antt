@@ -14,7 +14,7 @@ use Rattle.scad_ast.specs.declared.statement.Item.{Item}
 use Rattle.scad_parse.specs.Tokens.{is_sign, is_sign_kind, is_key, is_key_kind, begins_with, begins_with_key, word_of, word_kind}
 use Rattle.scad_parse.specs.Lists.{with_item, with_statement, Marks, no_marks, starred, percented, hashed}
 use Rattle.scad_parse.specs.Grammar.{begins_named, named_by}
-use Rattle.scad_parse.specs.Behind.{a_module, BehindItems, in_program, in_group, module_body, child_of, held_child, other_child, BehindArguments, of_statement, open_items, statement_test}
+use Rattle.scad_parse.specs.Behind.{a_module, BehindItems, in_program, in_group, module_body, child_of, held_child, other_child, BehindArguments, of_statement, open_items, open_ended, statement_test}
 use Rattle.scad_parse.specs.State.{State, want_expression, want_arguments, want_statement, have_items, have_start, want_marked, want_choice, want_child, want_defined, open_count}
 use Rattle.scad_parse.specs.Move.{Move, go, left_out, stuck}
 use Rattle.scad_parse.specs.Steps.{only, after_expression, end_arguments}
@@ -28,6 +28,18 @@ use Rattle.scad_parse.proofs.Outcomes.{onward, may, nests, moves, sticks, leaves
 pub items_push : (xs : List Item) (i : Item) → items (xs ++ (i ∷ [])) ≡ with_item (items xs) (item_of i)
 items_push [] i = refl
 items_push (x ∷ xs) i = ap (entry (item_of x)) (items_push xs i)
+
+-- what stands open behind a statement that has ended stood open in it
+pub ended_within : (k : BehindItems) → open_ended k ≤ open_items k
+ended_within in_program = omega arith
+ended_within (in_group d k) = omega arith
+ended_within (module_body at w all a k) = let l = ended_within k in omega (arith, l)
+ended_within (child_of at m w all a k) = let l = ended_within k in omega (arith, l)
+ended_within (held_child at m e a k) = omega arith
+ended_within (other_child at m e held a k) = let l = ended_within k in omega (arith, l)
+
+pub may_end : (a : Items) (k : BehindItems) (at : Place) (ts : List Token) (end : Place) → open_items k ≤ 200 → onward (have_items a k) at ts end ≡ outcome (have_items a k) ts end
+may_end a k at ts end h = may (have_items a k) at ts end (let l = ended_within k in omega (arith, l, h))
 
 -- `;` and `{`
 pub nothing_here : (d : Bool) (a : Items) (k : BehindItems) (ts : List Token) (end : Place) → begins_with Semicolon ts ≡ true → outcome (want_statement d a k) ts end ≡ onward (have_items a k) (place_of end ts) (behind ts) end

@@ -7,7 +7,8 @@ use Rattle.scad_ast.specs.declared.operator.UnOp.TheVariants.{Not, Minus as Unar
 use Rattle.scad_ast.specs.declared.operator.BinOp.TheVariants as Ops
 use Rattle.scad_ast.specs.Tree.{number, name, vector, range, stepped, unary, binary, choose, index, member, call, let_in, assert_in, echo_in, no_arguments, argument, no_elements, element, item, each, for_each, for_loop, let_element, if_else, no_items, entry, assignment, module_of, function_of, call_of, choice}
 use Rattle.scad_parse.specs.Tokens.{sign, key, word, numeral}
-use Rattle.scad_parse.specs.Machine.{outcome, outcome_of, step, finish, judge_move, judge_end, syntax_at, left_out_at}
+use Rattle.scad_parse.specs.Machine.{outcome, outcome_of, reach, step, finish, judge_move, judge_end, syntax_at, left_out_at}
+use Rattle.scad_parse.specs.Judged.{Opens}
 use Rattle.scad_parse.specs.Steps.{prim_step, unary_step, expression_step, element_step, end_arguments, after_argument_step, arguments_step, end_parameters, after_parameter_step, after_one_step, member_step, after_element, after_expression, tested_step, after_operand, post_step, name_step, word_argument}
 use Rattle.scad_parse.specs.StatementSteps.{marked_step, first_step, definition_step, statement_step, word_statement, child_step, after_items, finish_items, parameters_step}
 
@@ -188,3 +189,29 @@ row_33 = refl
 row_34 : outcome_of (word (codes "x") (at 1 1) ∷ sign Signs.Assign (at 1 2) ∷ sign Signs.OpenRound (at 1 3) ∷ numeral (pos 1000000) (at 1 4) ∷ sign Signs.Semicolon (at 1 5) ∷ []) (at 1 6) ≡ Err (syntax_at (at 1 5))
 unfolding outcome step finish judge_move judge_end prim_step unary_step expression_step element_step end_arguments after_argument_step arguments_step end_parameters after_parameter_step after_one_step member_step after_element after_expression tested_step after_operand post_step name_step word_argument marked_step first_step definition_step statement_step word_statement child_step after_items finish_items parameters_step
 row_34 = refl
+
+-- how many constructs stand open behind tokens
+-- union() a();
+row_35 : Opens (word (codes "union") (at 1 1) ∷ sign Signs.OpenRound (at 1 6) ∷ sign Signs.CloseRound (at 1 7) ∷ word (codes "a") (at 1 9) ∷ sign Signs.OpenRound (at 1 10) ∷ sign Signs.CloseRound (at 1 11) ∷ sign Signs.Semicolon (at 1 12) ∷ []) 0
+unfolding reach step prim_step unary_step expression_step element_step end_arguments after_argument_step arguments_step end_parameters after_parameter_step after_one_step member_step after_element after_expression tested_step after_operand post_step name_step word_argument marked_step first_step definition_step statement_step word_statement child_step after_items parameters_step
+row_35 = (_, refl, refl)
+
+-- if(a) b();
+row_36 : Opens (key Keys.If (at 1 1) ∷ sign Signs.OpenRound (at 1 3) ∷ word (codes "a") (at 1 4) ∷ sign Signs.CloseRound (at 1 5) ∷ word (codes "b") (at 1 7) ∷ sign Signs.OpenRound (at 1 8) ∷ sign Signs.CloseRound (at 1 9) ∷ sign Signs.Semicolon (at 1 10) ∷ []) 1
+unfolding reach step prim_step unary_step expression_step element_step end_arguments after_argument_step arguments_step end_parameters after_parameter_step after_one_step member_step after_element after_expression tested_step after_operand post_step name_step word_argument marked_step first_step definition_step statement_step word_statement child_step after_items parameters_step
+row_36 = (_, refl, refl)
+
+-- union() {a();
+row_37 : Opens (word (codes "union") (at 1 1) ∷ sign Signs.OpenRound (at 1 6) ∷ sign Signs.CloseRound (at 1 7) ∷ sign Signs.OpenCurly (at 1 9) ∷ word (codes "a") (at 1 10) ∷ sign Signs.OpenRound (at 1 11) ∷ sign Signs.CloseRound (at 1 12) ∷ sign Signs.Semicolon (at 1 13) ∷ []) 2
+unfolding reach step prim_step unary_step expression_step element_step end_arguments after_argument_step arguments_step end_parameters after_parameter_step after_one_step member_step after_element after_expression tested_step after_operand post_step name_step word_argument marked_step first_step definition_step statement_step word_statement child_step after_items parameters_step
+row_37 = (_, refl, refl)
+
+-- if(a) b(); else c();
+row_38 : Opens (key Keys.If (at 1 1) ∷ sign Signs.OpenRound (at 1 3) ∷ word (codes "a") (at 1 4) ∷ sign Signs.CloseRound (at 1 5) ∷ word (codes "b") (at 1 7) ∷ sign Signs.OpenRound (at 1 8) ∷ sign Signs.CloseRound (at 1 9) ∷ sign Signs.Semicolon (at 1 10) ∷ key Keys.Else (at 1 12) ∷ word (codes "c") (at 1 17) ∷ sign Signs.OpenRound (at 1 18) ∷ sign Signs.CloseRound (at 1 19) ∷ sign Signs.Semicolon (at 1 20) ∷ []) 0
+unfolding reach step prim_step unary_step expression_step element_step end_arguments after_argument_step arguments_step end_parameters after_parameter_step after_one_step member_step after_element after_expression tested_step after_operand post_step name_step word_argument marked_step first_step definition_step statement_step word_statement child_step after_items parameters_step
+row_38 = (_, refl, refl)
+
+-- module m() ;
+row_39 : Opens (key Keys.Module (at 1 1) ∷ word (codes "m") (at 1 8) ∷ sign Signs.OpenRound (at 1 9) ∷ sign Signs.CloseRound (at 1 10) ∷ sign Signs.Semicolon (at 1 12) ∷ []) 0
+unfolding reach step prim_step unary_step expression_step element_step end_arguments after_argument_step arguments_step end_parameters after_parameter_step after_one_step member_step after_element after_expression tested_step after_operand post_step name_step word_argument marked_step first_step definition_step statement_step word_statement child_step after_items parameters_step
+row_39 = (_, refl, refl)

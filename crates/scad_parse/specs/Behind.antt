@@ -96,6 +96,15 @@ open_items (child_of at m w all a k) = 1 + open_items k
 open_items (held_child at m e a k) = 1 + open_items k
 open_items (other_child at m e held a k) = 1 + open_items k
 
+-- Behind a statement that has ended: what it ends has ended too, but for an `if` that an `else` may follow.
+abbrev pub open_ended : BehindItems → ℕ
+open_ended in_program = 0
+open_ended (in_group d k) = 1 + open_items k
+open_ended (module_body at w all a k) = open_ended k
+open_ended (child_of at m w all a k) = open_ended k
+open_ended (held_child at m e a k) = 1 + open_items k
+open_ended (other_child at m e held a k) = open_ended k
+
 abbrev pub open_parameters : BehindParameters → ℕ
 open_parameters (defined what at w a k) = 1 + open_items k
 

@@ -3,7 +3,7 @@ use Rattle.std.specs.Prelude.{ℕ, zero, suc, ◌+◌, Bool, List}
 use Rattle.scad_fault.specs.declared.place.Place.{Place}
 use Rattle.scad_ast.specs.Tree.{Expression, Arguments, Elements, Element, Parameter, Items}
 use Rattle.scad_parse.specs.Lists.{Marks}
-use Rattle.scad_parse.specs.Behind.{Defined, BehindItems, BehindParameters, BehindOperand, first_of, BehindExpression, BehindElement, BehindArguments, open_items, open_parameters, open_operand, open_expression, open_element, open_arguments}
+use Rattle.scad_parse.specs.Behind.{Defined, BehindItems, BehindParameters, BehindOperand, first_of, BehindExpression, BehindElement, BehindArguments, open_items, open_ended, open_parameters, open_operand, open_expression, open_element, open_arguments}
 
 pub data State : Type 0 where
   want_expression : BehindExpression → State
@@ -91,7 +91,7 @@ open_count (in_elements at all k) = 1 + open_operand k
 open_count (after_one at all k) = 1 + open_operand k
 open_count (have_elements at all k) = 1 + open_operand k
 open_count (want_statement d a k) = open_items k
-open_count (have_items a k) = open_items k
+open_count (have_items a k) = open_ended k
 open_count (have_start d at w a k) = 1 + open_items k
 open_count (want_marked m a k) = 1 + open_items k
 open_count (want_choice at m a k) = 1 + open_items k

@@ -13,7 +13,7 @@ use Rattle.scad_parse.specs.Machine.{outcome, left_out_at, syntax_at}
 use Rattle.scad_parse.specs.Reading.{place_of, Refuses}
 use Rattle.scad_parse.specs.ReadingStatements.{marks_of, outcome_first}
 use Rattle.scad_parse.proofs.Outcomes.{may, nests, nesting_as, syntax_as, refused_by, left_out_by, behind_key, behind_sign, shorter}
-use Rattle.scad_parse.proofs.DescentStatements.{nothing_here, group_here, group_goes, group_ends, module_here, module_done, instance_here, child_here, no_child_here, children_here, include_left, use_left, marks_here, bang_left, choice_here, call_here, no_call, closing_statement, entering_choice, closing_test, call_done, else_here, no_else, other_done, behind_callee}
+use Rattle.scad_parse.proofs.DescentStatements.{may_end, nothing_here, group_here, group_goes, group_ends, module_here, module_done, instance_here, child_here, no_child_here, children_here, include_left, use_left, marks_here, bang_left, choice_here, call_here, no_call, closing_statement, entering_choice, closing_test, call_done, else_here, no_else, other_done, behind_callee}
 use Rattle.scad_parse.proofs.statement.+statement.Goals as goal
 
 pub call-returns-in-Err : goal.call-returns-in-Err
@@ -130,7 +130,7 @@ child-returns-then-is_sign t c =
       behind_sign Semicolon c.args.ts.now c.behind.result.now here c.behind.ensures.value,
       λ k h.
           no_child_here k c.args.ts.now c.args.end here
-          ∙ (may (have_items no_items k) _ _ _ (omega (arith, h, c.requires))
+          ∙ (may_end no_items k _ _ _ (omega (arith, h, c.requires))
           ∙ (ap (λ r. outcome (have_items no_items k) r c.args.end) (sym c.behind.ensures.value)
           ∙ ap (λ xs. outcome (have_items (items xs) k) c.behind.result.now c.args.end) (sym c.new-none.ensures.items))),
     )
@@ -313,7 +313,7 @@ statement-returns-then-is_sign t c =
       behind_sign Semicolon c.args.ts.now c.behind.result.now here c.behind.ensures.value,
       λ k h.
           nothing_here c.args.definitions a k c.args.ts.now c.args.end here
-          ∙ (may (have_items a k) _ _ _ (omega (arith, h, c.requires))
+          ∙ (may_end a k _ _ _ (omega (arith, h, c.requires))
           ∙ ap (λ r. outcome (have_items a k) r c.args.end) (sym c.behind.ensures.value)),
     )
 
@@ -440,7 +440,7 @@ group-returns t c =
       λ k h.
           c.statements.invariant.1 k h
           ∙ (group_ends c.args.definitions a k c.statements.left.now c.args.end (sym c.is_sign.ensures ∙ c.statements-test.false)
-          ∙ (may (have_items a k) _ _ _ (omega (arith, h, c.requires))
+          ∙ (may_end a k _ _ _ (omega (arith, h, c.requires))
           ∙ ap (λ r. outcome (have_items a k) r c.args.end) (sym c.behind.ensures.value))),
     )
 
