@@ -3,6 +3,8 @@
 Status 3, faulty settings, can't be brought about: no word names settings yet.
 """
 
+import shlex
+
 from check import Check, Exactly, FrontOf, compared, run
 
 CUBE = b"cube(1);"
@@ -14,6 +16,9 @@ WRITE_FAULT = b"write fault\n"
 SOURCE_LONG = b"budget 1 SourceLong\n"
 NOT_BUILT = b"fault 15 NotBuilt at 1:1\n"
 OUT_OF_MEMORY = b"out of memory\n"
+# The program starts once the pipe's other end is closed.
+UNREAD_PIPE = """{ until [ -e closed ]; do sleep 0.01; done; "$@"; echo $? >status; } | { exec <&-; >closed; }
+                 answer=$(cat status); rm closed status; exit "$answer" """
 SLICE = [b"slice", b"m.scad", b"o.cli"]
 KEPT = {"m.scad": CUBE, "o.cli": b"kept\n"}
 
@@ -112,7 +117,7 @@ def write():
     reports = {
         "on_a_full_device": 'exec "$@" >/dev/full',
         "for_reading_only": 'exec "$@" 1</dev/null',
-        "into_a_pipe_that_nobody_reads": '{ sleep 0.3; "$@"; echo $? >status; } | true; exit $(cat status; rm status)',
+        "into_a_pipe_that_nobody_reads": UNREAD_PIPE,
     }
     # (a limit on the size of files cuts the outlines, and the report goes into a pipe)
     limited = """trap '' XFSZ; ulimit -f 8; exec "$@" """
@@ -134,6 +139,18 @@ def long():
         sliced("a_source_at_its_limit", given=longest, left={"o.cli": outlines(1)}),
         sliced("a_source_past_its_limit", SOURCE_LONG, 6, given=longer),
         sliced("a_source_without_end", SOURCE_LONG, 6, [b"slice", b"/dev/zero", b"o.cli"], KEPT),
+    ]
+
+
+def launcher_checks(launcher):
+    """The launcher, whose program is built, hands on words, streams and status."""
+    by = lambda redirected: f'shift; exec {shlex.quote(launcher)} "$@" {redirected}'
+    return [
+        sliced("the_launcher_runs_the_program", left={"o.cli": outlines(1)}, shell=by("")),
+        sliced("the_launcher_hands_on_all_words", USAGE, 2, [*SLICE, b""], KEPT, shell=by("")),
+        sliced("the_launcher_hands_on_words_that_are_not_utf8", USAGE, 2, [*SLICE, b"\xff"], KEPT, shell=by("")),
+        sliced("the_launcher_with_a_full_device", b"", 5, left={"o.cli": outlines(1)}, shell=by(">/dev/full")),
+        sliced("the_launcher_opens_closed_streams", b"", 5, left={"o.cli": outlines(1)}, shell=by("<&- >&-")),
     ]
 
 
