@@ -191,8 +191,12 @@ class MemoryCheck:
 
 
 def launcher_checks(launcher):
-    """The launcher, whose program is built, hands on words, streams and status."""
-    by = lambda redirected="": f'shift; exec {shlex.quote(launcher)} "$@" {redirected}'
+    """The launcher hands on words, streams and status of a program that is newer than its sources.
+
+    It doesn't find `rt` on this path, and so never builds here.
+    """
+    start = f"shift; export PATH=/usr/bin:/bin; exec {shlex.quote(launcher)}"
+    by = lambda redirected="": f'{start} "$@" {redirected}'
     more = [b"slice", b"m.scad", b"o.cli"]
     return [
         sliced("the_launcher_runs_the_program", shell=by()),
