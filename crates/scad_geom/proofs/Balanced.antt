@@ -25,7 +25,7 @@ ends-cons p s ss = sum_by-cons (λ x. once (is_same_point p x.to)) s ss
 abbrev pub same_place : Pt → Pt → Bool
 same_place p q = int_eq p.x q.x && int_eq p.y q.y
 
-same_whole : (p q : Pt) → is_same_point (whole p) (whole q) ≡ same_place p q
+pub same_whole : (p q : Pt) → is_same_point (whole p) (whole q) ≡ same_place p q
 same_whole p q = rw (one p.x, one p.y, one q.x, one q.y) (swap (int_eq p.y q.y) (int_eq p.x q.x))
   where
     one : (z : ℤ) → z *ℤ pos 1 ≡ z

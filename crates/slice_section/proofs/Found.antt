@@ -6,7 +6,7 @@ use Rattle.std.specs.Option.{option_map}
 use Rattle.std.proofs.lemmas.Int.{ints}
 use Rattle.std.proofs.lemmas.Bool.Decides.{nat_tests}
 use Rattle.scad_geom.specs.declared.point3.Pt3.{Pt3}
-use Rattle.scad_geom.specs.declared.point3.TheConstants.{POINT_LIMIT}
+use Rattle.scad_geom.specs.Limits.{point_limit}
 use Rattle.scad_solid.specs.declared.side.Side.{Side}
 use Rattle.scad_solid.specs.declared.triangle.Triangle.{Triangle}
 use Rattle.scad_geom.specs.PointRange.{is_in_range}
@@ -39,7 +39,7 @@ sides_in_range t all =
     let bc = both (is_in_range t.b) (is_in_range t.c) a.1 in
     ap₂ (λ u v. u && v) (ap₂ (λ u v. u && v) a.0 bc.0) (ap₂ (λ u v. u && v) (ap₂ (λ u v. u && v) bc.0 bc.1) (ap₂ (λ u v. u && v) (ap₂ (λ u v. u && v) bc.1 a.0) refl))
 
-within : (z : ℤ) → nat_le (unsigned_abs z) POINT_LIMIT ≡ true → unsigned_abs z ≤ POINT_LIMIT
+within : (z : ℤ) → nat_le (unsigned_abs z) point_limit ≡ true → unsigned_abs z ≤ point_limit
 within z e = grind (arith, nat_tests)
 
 less : (a b : ℤ) → int_lt a b ≡ true → a <ℤ b
@@ -47,10 +47,10 @@ less a b e = grind (arith, ints)
 
 through : (plane : ℤ) (p q : Pt3) → is_in_range p ≡ true → is_in_range q ≡ true → is_below plane p.z ≡ true → is_above plane q.z ≡ true → IsThrough plane p q
 through plane p q at_p at_q below above =
-    let px = both (nat_le (unsigned_abs p.x) POINT_LIMIT) _ at_p in
-    let pyz = both (nat_le (unsigned_abs p.y) POINT_LIMIT) (nat_le (unsigned_abs p.z) POINT_LIMIT) px.1 in
-    let qx = both (nat_le (unsigned_abs q.x) POINT_LIMIT) _ at_q in
-    let qyz = both (nat_le (unsigned_abs q.y) POINT_LIMIT) (nat_le (unsigned_abs q.z) POINT_LIMIT) qx.1 in
+    let px = both (nat_le (unsigned_abs p.x) point_limit) _ at_p in
+    let pyz = both (nat_le (unsigned_abs p.y) point_limit) (nat_le (unsigned_abs p.z) point_limit) px.1 in
+    let qx = both (nat_le (unsigned_abs q.x) point_limit) _ at_q in
+    let qyz = both (nat_le (unsigned_abs q.y) point_limit) (nat_le (unsigned_abs q.z) point_limit) qx.1 in
     record {
       lower_x = within p.x px.0;
       lower_y = within p.y pyz.0;
