@@ -1,5 +1,6 @@
 -- What prisms and boxes contain, from how their cuts wind.
 use Rattle.std.proofs.Common.{◌≡◌, ◌≢◌, inl, inr, ℕ, zero, suc, ◌+◌, ◌*◌, ◌/◌, Bool, true, false, not, ◌&&◌, List, ℤ, pos, negsuc, neg_ℤ, ◌+ℤ◌, ◌*ℤ◌, ◌<ℤ◌, arith, refl, ap, ap₂, sym, ◌∙◌, subst}
+use Rattle.scad_base.proofs.Tests.{int_lt-true}
 use Rattle.std.specs.Prelude.{int_lt}
 use Rattle.std.specs.Bool.{Decides}
 use Rattle.std.specs.Ordering.{int_eq}
@@ -28,9 +29,6 @@ differ false b = b
 odd_apart : (k z : ℤ) → int_lt (pos 2 *ℤ z) (pos 2 *ℤ k +ℤ pos 1) ≡ not (int_lt (pos 2 *ℤ k +ℤ pos 1) (pos 2 *ℤ z))
 odd_apart k z = grind (arith, ints)
 
-less : (a b : ℤ) → int_lt a b ≡ true → a <ℤ b
-less a b e = grind (arith, ints)
-
 is_less : (a b : ℤ) → a <ℤ b → int_lt a b ≡ true
 is_less a b l = grind (arith, ints)
 
@@ -49,8 +47,8 @@ module _ (k a b : ℤ) where
   between : (below_a below_b : Bool) → int_lt odd (pos 2 *ℤ a) ≡ below_a → int_lt odd (pos 2 *ℤ b) ≡ below_b → differ below_a below_b ≡ true → IsBetween odd a b
   between true true ea eb e = never e
   between false false ea eb e = never e
-  between false true ea eb e = inl (less (pos 2 *ℤ a) odd (odd_apart k a ∙ ap not ea), less odd (pos 2 *ℤ b) eb)
-  between true false ea eb e = inr (less (pos 2 *ℤ b) odd (odd_apart k b ∙ ap not eb), less odd (pos 2 *ℤ a) ea)
+  between false true ea eb e = inl (int_lt-true (pos 2 *ℤ a) odd (odd_apart k a ∙ ap not ea), int_lt-true odd (pos 2 *ℤ b) eb)
+  between true false ea eb e = inr (int_lt-true (pos 2 *ℤ b) odd (odd_apart k b ∙ ap not eb), int_lt-true odd (pos 2 *ℤ a) ea)
 
   below_one : int_lt (pos 2 *ℤ a) odd ≡ true → int_lt odd (pos 2 *ℤ b) ≡ true → differ (int_lt odd (pos 2 *ℤ a)) (int_lt odd (pos 2 *ℤ b)) ≡ true
   below_one ea eb = ap₂ differ (below_not (int_lt odd (pos 2 *ℤ a)) (sym (odd_apart k a) ∙ ea)) eb

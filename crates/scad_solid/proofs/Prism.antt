@@ -1,5 +1,7 @@
 -- The cuts of a prism wind round a point as its ring does.
 use Rattle.std.proofs.Common.{◌≡◌, zero, suc, Bool, true, false, cond, ◌&&◌, not, List, [], ◌∷◌, ◌++◌, map, reverse, Some, None, Option, ℤ, pos, negsuc, neg_ℤ, ◌+ℤ◌, ◌-ℤ◌, ◌*ℤ◌, ◌<ℤ◌, arith, refl, ap, ap₂, sym, ◌∙◌}
+use Rattle.scad_base.proofs.Tests.{int_lt-true}
+use Rattle.scad_base.proofs.Integers.{zero_minus}
 use Rattle.std.specs.Prelude.{int_lt}
 use Rattle.std.specs.List.{cons_option, zip}
 use Rattle.std.proofs.lemmas.Int.{ints}
@@ -43,15 +45,12 @@ flip_up s = grind (arith, ints)
 flip_down : (s : ℤ) → int_lt (neg_ℤ s) (pos 0) ≡ int_lt (pos 0) s
 flip_down s = grind (arith, ints)
 
-minus_as_neg : (z : ℤ) → pos 0 -ℤ z ≡ neg_ℤ z
-minus_as_neg z = omega (arith, ints)
-
 pub crossing-turned : (p q : Pt) (x y : ℤ) → crossing (edge q p) x y ≡ neg_ℤ (crossing (edge p q) x y)
 crossing-turned p q x y =
     let side : side_of (edge q p) x y ≡ pos 0 -ℤ side_of (edge p q) x y = solve (p.x ∷ p.y ∷ q.x ∷ q.y ∷ x ∷ y ∷ [])
     (less (times (less (var 0) (var 2)) (less (var 5) (var 3))) (times (less (var 1) (var 3)) (less (var 4) (var 2))))
     (less (num (pos 0)) (less (times (less (var 2) (var 0)) (less (var 5) (var 1))) (times (less (var 3) (var 1)) (less (var 4) (var 0))))) refl in
-    let turned = side ∙ minus_as_neg (side_of (edge p q) x y) in
+    let turned = side ∙ zero_minus (side_of (edge p q) x y) in
     crossing-told (edge q p) x y
     ∙ (λ i. told (int_lt y q.y) (int_lt y p.y) ((ap (int_lt (pos 0)) turned ∙ flip_up (side_of (edge p q) x y)) i) ((ap (λ s. int_lt s (pos 0)) turned ∙ flip_down (side_of (edge p q) x y)) i))
     ∙ told-turned (int_lt y p.y) (int_lt y q.y) (int_lt (pos 0) (side_of (edge p q) x y)) (int_lt (side_of (edge p q) x y) (pos 0))
@@ -172,9 +171,6 @@ cuts_of-append : (plane : ℤ) (ts us : List Triangle) → cuts_of plane (ts ++ 
 cuts_of-append plane [] us = refl
 cuts_of-append plane (t ∷ ts) us = ap (cons_option (cut_of plane t)) (cuts_of-append plane ts us) ∙ cons_option-append (cut_of plane t) (cuts_of plane ts) (cuts_of plane us)
 
-less_by : (a b : ℤ) → int_lt a b ≡ true → a <ℤ b
-less_by a b e = grind (arith, ints)
-
 module _ (plane upper lower : ℤ) (upper_apart : is_below plane upper ≡ not (is_above plane upper)) (lower_apart : is_below plane lower ≡ not (is_above plane lower)) (o : Point) (some_o : pos 0 <ℤ o.d) where
   -- the cut of a triangle by which of its corners lie above and below the plane
   abbrev cut_by : Pt3 → Pt3 → Pt3 → Bool → Bool → Bool → Bool → Bool → Bool → Option Segment
@@ -191,11 +187,11 @@ module _ (plane upper lower : ℤ) (upper_apart : is_below plane upper ≡ not (
   quad_case p q true true a b c d = refl
   quad_case p q false false a b c d = refl
   quad_case p q true false a b c d =
-      let cuts = quad-turn lower upper plane (less_by (pos 2 *ℤ lower) plane d) (less_by plane (pos 2 *ℤ upper) a) q p o some_o in
+      let cuts = quad-turn lower upper plane (int_lt-true (pos 2 *ℤ lower) plane d) (int_lt-true plane (pos 2 *ℤ upper) a) q p o some_o in
       let turned = turn_back o p q some_o in
       omega (arith, ints, cuts, turned)
   quad_case p q false true a b c d =
-      let cuts = quad-turn upper lower plane (less_by (pos 2 *ℤ upper) plane c) (less_by plane (pos 2 *ℤ lower) b) p q o some_o in
+      let cuts = quad-turn upper lower plane (int_lt-true (pos 2 *ℤ upper) plane c) (int_lt-true plane (pos 2 *ℤ lower) b) p q o some_o in
       omega (arith, ints, cuts)
 
   quad_wind : (p q : Pt) → wind o (cuts_of plane (fan (at upper p ∷ at upper q ∷ at lower q ∷ at lower p ∷ []))) ≡ winds (is_above plane upper) (is_above plane lower) (turn true true o (whole p) (whole q))

@@ -1,5 +1,6 @@
 -- The section of a closed surface is balanced.
 use Rattle.std.proofs.Common.{◌≡◌, ℕ, ◌+◌, ◌*◌, ◌/◌, Bool, true, false, cond, ◌&&◌, not, List, [], ◌∷◌, map, Some, None, Option, ℤ, pos, ◌*ℤ◌, ◌<ℤ◌, refl, ap, ap₂, sym, ◌∙◌, subst, arith}
+use Rattle.std.proofs.lemmas.Bool.{and_parts}
 use Rattle.std.specs.Prelude.{filter, int_lt}
 use Rattle.std.specs.Ordering.{int_eq}
 use Rattle.std.specs.Cmp.{signed_Decides}
@@ -34,13 +35,9 @@ starts-cons p e es = balance.starts-cons p (segment_of e) (segments es)
 ends-cons : (p : Point) (e : Edge) (es : List Edge) → ends p (e ∷ es) ≡ once (is_same_point p (whole e.b)) + ends p es
 ends-cons p e es = balance.ends-cons p (segment_of e) (segments es)
 
-both : (a b : Bool) → (a && b) ≡ true → (a ≡ true) × (b ≡ true)
-both true b e = (refl, e)
-both false b e = absurd (cc)
-
 same_place-is : (p q : Pt) → same_place p q ≡ true → p ≡ q
 same_place-is p q e =
-    let parts = both (int_eq p.x q.x) (int_eq p.y q.y) e in
+    let parts = and_parts (int_eq p.x q.x) (int_eq p.y q.y) e in
     let ex = (signed_Decides p.x q.x).0 parts.0 in
     let ey = (signed_Decides p.y q.y).0 parts.1 in
     λ i. record { x = ex i; y = ey i }

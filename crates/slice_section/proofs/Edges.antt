@@ -1,5 +1,6 @@
 -- The edges of a section, triangle by triangle.
 use Rattle.std.proofs.Common.{◌≡◌, ℕ, ◌+◌, ◌<◌, Bool, true, false, cond, ◌&&◌, List, [], ◌∷◌, ◌++◌, length, get_or, drop, map, Some, None, Option, ℤ, pos, refl, ap, sym, ◌∙◌, append_assoc}
+use Rattle.std.proofs.lemmas.Bool.{and_parts}
 use Rattle.std.specs.Prelude.{filter}
 use Rattle.std.specs.List.{cons_option, list_all}
 use Rattle.std.specs.Option.{option_map}
@@ -59,16 +60,12 @@ edges_at-more plane ts i d made new all inside so_far more =
     ap (λ es. es ++ rest) more ∙ append_assoc made (edges_at plane (t ∷ [])) rest
     ∙ ap (λ es. made ++ es) (sym (edges_at-cons plane t (drop (i + 1) ts)) ∙ sym (at_drop_more (edges_at plane) ts i d inside)) ∙ so_far
 
-both : (a b : Bool) → (a && b) ≡ true → (a ≡ true) × (b ≡ true)
-both true b e = (refl, e)
-both false b e = absurd (cc)
-
 -- where all triangles from one on are in range, it is, and so are those behind it
 pub in_range-here : (ts : List Triangle) (i : ℕ) (d : Triangle) → i < length ts → list_all is_triangle_in_range (drop i ts) ≡ true → is_triangle_in_range (get_or ts i d) ≡ true
-in_range-here ts i d inside all = (both (is_triangle_in_range (get_or ts i d)) (list_all is_triangle_in_range (drop (i + 1) ts)) (sym (at_drop_more (list_all is_triangle_in_range) ts i d inside) ∙ all)).0
+in_range-here ts i d inside all = (and_parts (is_triangle_in_range (get_or ts i d)) (list_all is_triangle_in_range (drop (i + 1) ts)) (sym (at_drop_more (list_all is_triangle_in_range) ts i d inside) ∙ all)).0
 
 pub in_range-later : (ts : List Triangle) (i : ℕ) → i < length ts → list_all is_triangle_in_range (drop i ts) ≡ true → list_all is_triangle_in_range (drop (i + 1) ts) ≡ true
-in_range-later ts i inside all = (both (is_triangle_in_range (get_or ts i origin)) (list_all is_triangle_in_range (drop (i + 1) ts)) (sym (at_drop_more (list_all is_triangle_in_range) ts i origin inside) ∙ all)).1
+in_range-later ts i inside all = (and_parts (is_triangle_in_range (get_or ts i origin)) (list_all is_triangle_in_range (drop (i + 1) ts)) (sym (at_drop_more (list_all is_triangle_in_range) ts i origin inside) ∙ all)).1
   where
     nil : Pt3
     nil = record { x = pos 0; y = pos 0; z = pos 0 }
