@@ -1,6 +1,6 @@
 use Rattle.std.proofs.Common.{◌≡◌, ◌++◌, drop}
 use Rattle.scad_solid.specs.Solid.{fan, fan_around}
-use Rattle.scad_solid.proofs.stacking.push_face.Given as goal
+use Rattle.scad_solid.proofs.fan.push_fan.Given as goal
 
 -- the fan so far and what the points left add are the face's fan
 abbrev pub invariant-loop-c : goal.invariant-loop-c
