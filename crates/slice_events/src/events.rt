@@ -2,6 +2,7 @@
 ghost use Rattle.std.specs.Prelude.{◌≡◌, ◌^◌, ◌<◌, ◌≤◌, length, IfOk, IfErr, All};
 ghost use Rattle.scad_geom.specs.Point.{IsEdgeWithin};
 ghost use Rattle.scad_geom.specs.Heights.{IsLevelWithin};
+ghost use Rattle.slice_events.specs.Limits.{crossing_limit};
 ghost use Rattle.slice_events.specs.Levels.{crossings, AreLevels};
 ghost use Rattle.slice_events.specs.Refusal.{IsCrossings};
 
@@ -31,8 +32,9 @@ pub fn levels(alloc: Global, edges: &[LeafEdge]) -> Result<Vec<Level>, EventFaul
     requires few { length edges.now < 2 ^ 32 }
     ensures levels { IfOk result (λ v. AreLevels edges.now v.items) }
     ensures within { IfOk result (λ v. All (IsLevelWithin COORDINATE_LIMIT) v.items) }
-    ensures accepted { IfOk result (λ v. crossings edges.now ≤ CROSSING_LIMIT) }
+    ensures accepted { IfOk result (λ v. crossings edges.now ≤ crossing_limit) }
     ensures refused { IfErr result (IsCrossings (crossings edges.now)) }
+    ensures limit { CROSSING_LIMIT ≡ crossing_limit }
 {
     let count = crossings(edges);
     if count > CROSSING_LIMIT {

@@ -4,7 +4,8 @@ ghost use Rattle.scad_geom.specs.Point.{IsWithin, IsEdgeWithin};
 ghost use Rattle.scad_geom.specs.Line.{low, high, rise, run, offset, x_at, left_of, lean, apart};
 ghost use Rattle.scad_geom.specs.Shape.{is_zero};
 ghost use Rattle.scad_geom.specs.Heights.{straddles, meets, meeting, IsLevelWithin};
-ghost use Rattle.slice_events.specs.Levels.{same_point, share_end, crosses};
+ghost use Rattle.scad_geom.specs.Balance.{same_place};
+ghost use Rattle.slice_events.specs.Levels.{share_end, crosses};
 
 use scad_geom::line::{high, low, offset, rise, run};
 use scad_geom::wide::{minus, plus, product, times};
@@ -22,11 +23,11 @@ pub(crate) fn crosses(e: &Edge, f: &Edge) -> bool
 fn share_end(e: &Edge, f: &Edge) -> bool
     ensures { result ≡ share_end e.now f.now }
 {
-    (same_point(e.a, f.a) || same_point(e.a, f.b)) || (same_point(e.b, f.a) || same_point(e.b, f.b))
+    (same_place(e.a, f.a) || same_place(e.a, f.b)) || (same_place(e.b, f.a) || same_place(e.b, f.b))
 }
 
-fn same_point(p: Pt, q: Pt) -> bool
-    ensures { result ≡ same_point p q }
+fn same_place(p: Pt, q: Pt) -> bool
+    ensures { result ≡ same_place p q }
 {
     p.x == q.x && p.y == q.y
 }

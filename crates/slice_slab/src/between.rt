@@ -4,13 +4,13 @@ ghost use Rattle.std.specs.List.Sorted.{IsPermutation};
 ghost use Rattle.scad_geom.specs.Point.{IsEdgeWithin};
 ghost use Rattle.scad_geom.specs.Heights.{IsLevelWithin, AreNeighbours};
 ghost use Rattle.slice_slab.specs.Bundles.{AreBundles};
-ghost use Rattle.slice_slab.specs.Places.{AreSorted};
+ghost use Rattle.slice_slab.specs.Passages.{AreSorted};
 
 use crate::bundle::Bundle;
-use crate::collect::places;
+use crate::collect::passages;
 use crate::group::group;
 use crate::order::compare;
-use crate::place::Place;
+use crate::passage::Passage;
 use scad_geom::{COORDINATE_LIMIT, LeafEdge, Level};
 use std::alloc::{AllocError, Global};
 
@@ -29,16 +29,16 @@ pub fn slab(
     requires neighbours { AreNeighbours edges.now lower.now upper.now }
     ensures { IfOk result (λ v. AreBundles edges.now lower.now upper.now v.items) }
 {
-    let mut places = places(alloc, edges, lower, upper)?;
-    sort(&mut places)?;
-    group(alloc, &places)
+    let mut passages = passages(alloc, edges, lower, upper)?;
+    sort(&mut passages)?;
+    group(alloc, &passages)
 }
 
-fn sort(places: &mut Vec<Place>) -> Result<(), AllocError>
-    ensures permutation { IsPermutation places.old.items places.new.items }
-    ensures sorted { OnOk result (AreSorted places.new.items) }
+fn sort(passages: &mut Vec<Passage>) -> Result<(), AllocError>
+    ensures permutation { IsPermutation passages.old.items passages.new.items }
+    ensures sorted { OnOk result (AreSorted passages.new.items) }
 {
-    places.sort_by(compare)
+    passages.sort_by(compare)
 }
 
 #[cfg(test)]

@@ -1,34 +1,34 @@
-//! The places of the edges that reach two heights.
+//! The passages of the edges that reach two heights.
 ghost use Rattle.std.specs.Prelude.{◌≡◌, ◌<◌, ◌^◌, ◌*ℤ◌, ◌<ℤ◌, pos, int_le, true, length, IfOk, All};
 ghost use Rattle.scad_geom.specs.Line.{low, high, rise};
 ghost use Rattle.scad_geom.specs.Point.{IsEdgeWithin};
 ghost use Rattle.scad_geom.specs.Heights.{IsLevelWithin};
 ghost use Rattle.slice_slab.specs.Bundles.{reaches, reaching, edge_at};
-ghost use Rattle.slice_slab.specs.Places.{numbers_of, IsPlaceOf};
+ghost use Rattle.slice_slab.specs.Passages.{numbers_of, IsPassageOf};
 
-use crate::place::Place;
+use crate::passage::Passage;
 use scad_geom::line::{high, low, rise, run, x_at};
 use scad_geom::wide::times;
 use scad_geom::{COORDINATE_LIMIT, Edge, LeafEdge, Level};
 use std::alloc::{AllocError, Global};
 
-pub(crate) fn places(
+pub(crate) fn passages(
     alloc: Global,
     edges: &[LeafEdge],
     lower: &Level,
     upper: &Level,
-) -> Result<Vec<Place>, AllocError>
+) -> Result<Vec<Passage>, AllocError>
     requires within { All (λ e. IsEdgeWithin COORDINATE_LIMIT e.edge) edges.now }
     requires few { length edges.now < 2 ^ 32 }
     requires lower { IsLevelWithin COORDINATE_LIMIT lower.now }
     requires upper { IsLevelWithin COORDINATE_LIMIT upper.now }
     ensures numbers { IfOk result (λ v. numbers_of v.items ≡ reaching 0 edges.now lower.now upper.now) }
-    ensures places { IfOk result (λ v. All (IsPlaceOf edges.now lower.now) v.items) }
+    ensures passages { IfOk result (λ v. All (IsPassageOf edges.now lower.now) v.items) }
 {
     let mut out = Vec::new(alloc);
     'edges: for i in 0..edges.len() {
         if reaches_at(edges, i, lower, upper) {
-            out.push(place(edges, i, lower))?;
+            out.push(passage(edges, i, lower))?;
         }
     }
     Ok(out)
@@ -45,17 +45,17 @@ fn reaches_at(edges: &[LeafEdge], i: usize, lower: &Level, upper: &Level) -> boo
     reaches(&edges[i].edge, lower, upper)
 }
 
-fn place(edges: &[LeafEdge], i: usize, at: &Level) -> Place
+fn passage(edges: &[LeafEdge], i: usize, at: &Level) -> Passage
     requires within { All (λ e. IsEdgeWithin COORDINATE_LIMIT e.edge) edges.now }
     requires few { length edges.now < 2 ^ 32 }
     requires at { IsLevelWithin COORDINATE_LIMIT at.now }
     requires there { i < length edges.now }
     requires rises { pos 0 <ℤ rise (edge_at edges.now i) }
     ensures number { result.number ≡ i }
-    ensures place { IsPlaceOf edges.now at.now result }
+    ensures passage { IsPassageOf edges.now at.now result }
 {
     let e = &edges[i].edge;
-    Place {
+    Passage {
         number: i as u32,
         x: x_at(e, at),
         rise: rise(e),
