@@ -7,10 +7,11 @@ use Rattle.std.proofs.lemmas.Int.{ints, unsigned_abs-mul}
 use Rattle.std.proofs.lemmas.Nat.{mul-le}
 use Rattle.scad_geom.specs.declared.point.Edge.{Edge}
 use Rattle.scad_geom.specs.declared.level.Level.{Level}
-use Rattle.scad_geom.specs.Point.{IsWithin, IsEdgeWithin}
+use Rattle.scad_geom.specs.Within.{IsWithin, IsEdgeWithin}
 use Rattle.scad_geom.specs.Line.{low, high, rise, left_of, lean, apart}
-use Rattle.scad_geom.specs.Shape.{is_zero}
-use Rattle.scad_geom.specs.Heights.{straddles, meets, meeting, IsLevelWithin}
+use Rattle.scad_geom.specs.Sign.{is_zero}
+use Rattle.scad_geom.specs.Level.{IsLevelWithin}
+use Rattle.scad_geom.specs.Meeting.{straddles, meets, meeting}
 use Rattle.scad_geom.proofs.Signs.{at_least_mul, at_most_mul}
 use Rattle.scad_geom.proofs.Lines.{low_by, high_by}
 use Rattle.scad_geom.proofs.Heights.{meeting_positive}

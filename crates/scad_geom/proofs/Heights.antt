@@ -9,8 +9,10 @@ use Rattle.scad_geom.specs.declared.point.Edge.{Edge}
 use Rattle.scad_geom.specs.declared.level.Level.{Level}
 use Rattle.scad_geom.specs.declared.level.LeafEdge.{LeafEdge}
 use Rattle.scad_geom.specs.Line.{low, high, rise, run, offset, left_of, lean, apart}
-use Rattle.scad_geom.specs.Shape.{is_zero}
-use Rattle.scad_geom.specs.Heights.{level_of, IsLower, IsAtMost, straddles, meets, meeting, meetings, heights}
+use Rattle.scad_geom.specs.Sign.{is_zero}
+use Rattle.scad_geom.specs.Level.{level_of, IsLower, IsAtMost}
+use Rattle.scad_geom.specs.Meeting.{straddles, meets, meeting}
+use Rattle.scad_geom.specs.Heights.{meetings, heights}
 use Rattle.scad_geom.proofs.Ring.{ring, num, ◌⊕◌, ◌⊖◌, ◌⊗◌, v0, v1, v2, v3, v4, v5}
 use Rattle.scad_geom.proofs.Signs.{pos_mul, at_least_mul, pos_left, at_least_left}
 use Rattle.scad_geom.proofs.Lines.{low_by, high_by}

@@ -5,11 +5,16 @@ use Rattle.std.proofs.lemmas.Int.{ints}
 use Rattle.std.proofs.Math.IntN.{zero-*ℤ, neg_ℤ-neg_ℤ, ℤ_discrete}
 use Rattle.scad_geom.specs.declared.point.Edge.{Edge}
 use Rattle.scad_geom.specs.declared.half.Half.TheVariants.{Cell}
-use Rattle.scad_geom.specs.Winding.{wind, counted, doubled, side_of}
+use Rattle.scad_geom.specs.Point.{halves}
+use Rattle.scad_geom.specs.Segment.{segments}
+use Rattle.scad_geom.specs.Half.{doubled}
+use Rattle.scad_geom.specs.Winding.{wind, counted}
 use Rattle.scad_geom.specs.Loop.{sides}
 use Rattle.scad_geom.specs.Square.{square, square_wind, IsStrictlyWithin, IsCentreInside, SquareWindsOnce}
 use Rattle.scad_geom.proofs.Signs.{sub-self, sub-zero, zero-sub, one-mul, minus_one-mul}
 use Rattle.scad_geom.proofs.Integers.{neg_mul}
+use Rattle.scad_geom.proofs.Crossing.{side_of, crossings}
+use Rattle.scad_geom.proofs.Doubled.{wind_halves}
 use Rattle.scad_geom.proofs.Signs.{product_is_negative}
 
 -- the upright sides of a square with the side k
@@ -82,16 +87,21 @@ four_by false true a b c d right left ordered signs =
     rw (told.0, told.1) (simp crossed-zero (upright_sum right left))
 
 -- the winding number round a point whose coordinates are doubled
-wind-square : (side : ℕ) (x y : ℤ) →
-    wind (sides (square side)) x y
+crossings-square : (side : ℕ) (x y : ℤ) →
+    crossings (sides (square side)) x y
     ≡ turns_by (int_lt y (pos 0)) (int_lt y (pos (2 * side))) (int_lt x (pos (2 * side))) (int_lt x (pos 0))
-wind-square side x y =
+crossings-square side x y =
     let k = pos (2 * side) in
     four_by _ _ _ _ _ _ _ _
     (λ below. grind (arith, ints))
     (λ not_below under.
     let positive : pos 0 <ℤ k = grind (arith, ints) in
     (right_is_right k x y positive, left_is_right k x y positive))
+
+wind-square : (side : ℕ) (x y : ℤ) →
+    wind (halves x y) (segments (sides (square side)))
+    ≡ turns_by (int_lt y (pos 0)) (int_lt y (pos (2 * side))) (int_lt x (pos (2 * side))) (int_lt x (pos 0))
+wind-square side x y = wind_halves (sides (square side)) x y ∙ crossings-square side x y
 
 -- where that isn't 0, the tests are those of a point inside
 turns_only : (lower upper right left : Bool) → (left ≡ true → right ≡ true) →
