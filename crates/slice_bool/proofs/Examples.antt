@@ -1,11 +1,15 @@
 -- Worked examples of the definitions: a square of one leaf, a point over several divisors, ends that meet.
 use Rattle.std.proofs.Common.{◌≡◌, ℕ, true, false, List, [], ◌∷◌, ℤ, pos, negsuc, refl}
+use Rattle.slice_snap.specs.Pieces.{ways_of}
 use Rattle.scad_geom.specs.declared.level.Level.{Level}
 use Rattle.scad_geom.specs.declared.level.LeafEdge.{LeafEdge}
 use Rattle.scad_geom.specs.declared.shape.Shape.{Leaf}
+use Rattle.scad_geom.specs.Winding.{is_over, passage_by, side_by, is_beyond, turn}
 use Rattle.slice_snap.specs.declared.piece.Spot.{Spot}
 use Rattle.slice_snap.specs.declared.piece.Piece.{Piece}
-use Rattle.slice_bool.specs.Balance.{edges_of, is_same_point, starts_at, ends_at}
+use Rattle.scad_geom.specs.Leaves.{edges_of}
+use Rattle.scad_geom.specs.Point.{is_same_point}
+use Rattle.scad_geom.specs.Balance.{starts_at, ends_at}
 use Rattle.slice_bool.specs.Centre.{holds_centre}
 
 abbrev from_to : ℕ → ℤ → ℤ → ℤ → ℤ → LeafEdge
@@ -22,12 +26,15 @@ square =
     ∷ []
 
 holds_inside : holds_centre square (Leaf 0) (pos 1) (pos 1) ≡ true
+unfolding is_over passage_by side_by is_beyond turn
 holds_inside = refl
 
 holds_outside : holds_centre square (Leaf 0) (pos 2) (pos 1) ≡ false
+unfolding is_over passage_by side_by is_beyond turn
 holds_outside = refl
 
 holds_left : holds_centre square (Leaf 0) (negsuc 0) (pos 0) ≡ false
+unfolding is_over passage_by side_by is_beyond turn
 holds_left = refl
 
 one_edge : edges_of 1 square ≡ record { a = record { x = pos 5; y = pos 0 }; b = record { x = pos 5; y = pos 2 } } ∷ []
@@ -54,14 +61,14 @@ two_pieces =
     ∷ []
 
 -- the first ends at (2, 1), the second starts there, over other divisors
-ends_once : ends_at (record { x = pos 2; y = pos 1; d = pos 1 }) two_pieces ≡ 1
+ends_once : ends_at (record { x = pos 2; y = pos 1; d = pos 1 }) (ways_of two_pieces) ≡ 1
 ends_once = refl
 
-starts_once : starts_at (record { x = pos 2; y = pos 1; d = pos 1 }) two_pieces ≡ 1
+starts_once : starts_at (record { x = pos 2; y = pos 1; d = pos 1 }) (ways_of two_pieces) ≡ 1
 starts_once = refl
 
-starts_below : starts_at (record { x = pos 2; y = pos 0; d = pos 1 }) two_pieces ≡ 1
+starts_below : starts_at (record { x = pos 2; y = pos 0; d = pos 1 }) (ways_of two_pieces) ≡ 1
 starts_below = refl
 
-ends_nowhere_else : ends_at (record { x = pos 2; y = pos 0; d = pos 1 }) two_pieces ≡ 0
+ends_nowhere_else : ends_at (record { x = pos 2; y = pos 0; d = pos 1 }) (ways_of two_pieces) ≡ 0
 ends_nowhere_else = refl

@@ -5,15 +5,15 @@ use Rattle.scad_geom.specs.declared.level.Level.{Level}
 use Rattle.scad_geom.specs.declared.level.LeafEdge.{LeafEdge}
 use Rattle.scad_geom.specs.declared.shape.Shape.{Shape}
 use Rattle.scad_geom.specs.Line.{rise}
-use Rattle.scad_geom.specs.Around.{Point}
+use Rattle.scad_geom.specs.Point.{Point}
 use Rattle.slice_slab.specs.Bundles.{edge_at, AreBundles}
 use Rattle.slice_snap.specs.declared.piece.Spot.{Spot}
 use Rattle.slice_snap.specs.declared.piece.Piece.{Piece}
-use Rattle.slice_bool.specs.declared.place.Place.{Place}
+use Rattle.slice_bool.specs.declared.small_point.SmallPoint.{SmallPoint}
 use Rattle.slice_bool.specs.Pieces.{spot_on, piece_between, AreStops, flat_pieces, slab_pieces}
 use Rattle.slice_bool.specs.Tally.{left_value}
 
-abbrev pub point_at : Place → Point
+abbrev pub point_at : SmallPoint → Point
 point_at p = record { x = p.x; y = p.y; d = p.d }
 
 -- ---- on a level

@@ -4,7 +4,8 @@ use Rattle.std.specs.List.{concat}
 use Rattle.scad_geom.specs.declared.point.Edge.{Edge}
 use Rattle.scad_geom.specs.declared.level.LeafEdge.{LeafEdge}
 use Rattle.scad_geom.specs.declared.shape.Shape.{Shape}
-use Rattle.scad_geom.specs.Shape.{shape_holds, is_zero}
+use Rattle.scad_geom.specs.Shape.{shape_holds}
+use Rattle.scad_geom.specs.Sign.{is_zero}
 use Rattle.slice_slab.specs.Bundles.{no_edge}
 
 -- numbers by leaf; past the list's end they are 0

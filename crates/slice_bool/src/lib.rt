@@ -12,11 +12,11 @@ mod fault;
 mod flat;
 pub mod laws;
 mod near;
-mod place;
+mod small_point;
 #[cfg(test)]
-mod random;
+mod random_outlines;
 #[cfg(test)]
-mod rectangles;
+mod two_rectangles;
 mod slab;
 mod stop;
 mod stops;

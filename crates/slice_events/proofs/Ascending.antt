@@ -11,7 +11,8 @@ use Rattle.std.proofs.lemmas.List.Elements.{recursion_from_All, All-from_recursi
 use Rattle.std.proofs.lemmas.List.Sorted.{All-permutation, IsPermutation-map, IsPermutation-sym}
 use Rattle.scad_geom.specs.declared.level.Level.{Level}
 use Rattle.scad_geom.specs.declared.level.LeafEdge.{LeafEdge}
-use Rattle.scad_geom.specs.Heights.{IsLower, IsAtMost, IsSameHeight, heights}
+use Rattle.scad_geom.specs.Level.{IsLower, IsAtMost, IsSameHeight}
+use Rattle.scad_geom.specs.Heights.{heights}
 use Rattle.scad_geom.proofs.Heights.{at_most_chain, lower_then_at_most}
 use Rattle.slice_events.specs.declared.height.Height.{Height}
 use Rattle.slice_events.specs.Levels.{IsRising, HasHeight, AreLevels}

@@ -5,6 +5,12 @@ use Rattle.std.specs.declared.cmp.Ordering.TheVariants.{Less, Equal, Greater}
 use Rattle.std.specs.Prelude.{ℤ, int_lt}
 use Rattle.std.specs.List.{count_by}
 use Rattle.std.proofs.lemmas.Grind.{common_steps}
+use Rattle.std.specs.Ordering.{int_eq}
+use Rattle.std.specs.Prelude.{◌&&◌}
+use Rattle.std.proofs.lemmas.Int.{ints}
+use lib.IntN.{pos, ◌*ℤ◌}
+use Rattle.scad_geom.specs.declared.point.Pt.{Pt}
+use Rattle.scad_geom.specs.Point.{whole, is_same_point}
 use Rattle.scad_geom.specs.declared.level.Level.{Level}
 use Rattle.scad_geom.specs.declared.level.LeafEdge.{LeafEdge}
 use Rattle.slice_events.specs.Levels.{crosses, crossings}
@@ -36,3 +42,10 @@ drop_one [] zero = refl
 drop_one [] (suc i) = refl
 drop_one (x ∷ xs) zero = refl
 drop_one (x ∷ xs) (suc i) = drop_one xs i
+
+-- whole points are the same where both coordinates are
+pub same_whole : (p q : Pt) → is_same_point (whole p) (whole q) ≡ (int_eq p.y q.y && int_eq p.x q.x)
+same_whole p q = rw (one p.x, one p.y, one q.x, one q.y) refl
+  where
+    one : (z : ℤ) → z *ℤ pos 1 ≡ z
+    one z = omega (arith, ints)

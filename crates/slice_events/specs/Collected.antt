@@ -1,6 +1,6 @@
 -- The levels in a list of bounded ones.
 use Rattle.std.specs.Prelude.{List, [], ◌∷◌, map, ⊤, Bool, ◌*ℤ◌, int_lt}
-use Rattle.scad_geom.specs.Heights.{IsAtMost}
+use Rattle.scad_geom.specs.Level.{IsAtMost}
 use Rattle.scad_geom.specs.declared.level.Level.{Level}
 use Rattle.slice_events.specs.declared.height.Height.{Height}
 

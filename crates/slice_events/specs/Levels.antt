@@ -4,8 +4,10 @@ use Rattle.std.specs.List.{AllByRecursion}
 use Rattle.scad_geom.specs.declared.point.Edge.{Edge}
 use Rattle.scad_geom.specs.declared.level.Level.{Level}
 use Rattle.scad_geom.specs.declared.level.LeafEdge.{LeafEdge}
-use Rattle.scad_geom.specs.Balance.{same_place}
-use Rattle.scad_geom.specs.Heights.{IsLower, IsSameHeight, meets, heights}
+use Rattle.scad_geom.specs.Point.{whole, is_same_point}
+use Rattle.scad_geom.specs.Level.{IsLower, IsSameHeight}
+use Rattle.scad_geom.specs.Meeting.{meets}
+use Rattle.scad_geom.specs.Heights.{heights}
 
 -- each lies below the next
 abbrev pub IsRising : List Level → Type 0
@@ -27,7 +29,7 @@ pub record AreLevels (edges : List LeafEdge) (levels : List Level) : Type 0 wher
 
 -- whether an end of one edge is an end of the other
 abbrev pub share_end : Edge → Edge → Bool
-share_end e f = (same_place e.a f.a || same_place e.a f.b) || (same_place e.b f.a || same_place e.b f.b)
+share_end e f = (is_same_point (whole e.a) (whole f.a) || is_same_point (whole e.a) (whole f.b)) || (is_same_point (whole e.b) (whole f.a) || is_same_point (whole e.b) (whole f.b))
 
 -- whether two edges that aren't parallel have a common point that isn't an end of both
 abbrev pub crosses : Edge → Edge → Bool

@@ -1,18 +1,19 @@
 //! As many crossings as are taken, and one more.
 ghost use Rattle.std.specs.Prelude.{OnOk, IfOk, All};
-ghost use Rattle.scad_geom.specs.Point.{IsWithin, IsEdgeWithin};
+ghost use Rattle.scad_geom.specs.Limits.{coordinate_limit};
+ghost use Rattle.scad_geom.specs.Within.{IsWithin, IsEdgeWithin};
 
 use crate::{EventFault, levels};
-use scad_geom::{COORDINATE_LIMIT, Edge, LeafEdge, Pt};
+use scad_geom::{Edge, LeafEdge, Pt};
 use std::alloc::{AllocError, Global};
 use std::test::Fail;
 
 // One edge many times over: its copies don't cross each other.
 fn push_copies(edges: &mut Vec<LeafEdge>, count: u16, a: Pt, b: Pt) -> Result<(), AllocError>
-    requires edges { All (λ e. IsEdgeWithin COORDINATE_LIMIT e.edge) edges.old.items }
-    requires a { IsWithin COORDINATE_LIMIT a }
-    requires b { IsWithin COORDINATE_LIMIT b }
-    ensures { OnOk result (All (λ e. IsEdgeWithin COORDINATE_LIMIT e.edge) edges.new.items) }
+    requires edges { All (λ e. IsEdgeWithin coordinate_limit e.edge) edges.old.items }
+    requires a { IsWithin coordinate_limit a }
+    requires b { IsWithin coordinate_limit b }
+    ensures { OnOk result (All (λ e. IsEdgeWithin coordinate_limit e.edge) edges.new.items) }
 {
     'copies: for _i in 0..count {
         let edge = Edge { a, b };
@@ -23,7 +24,7 @@ fn push_copies(edges: &mut Vec<LeafEdge>, count: u16, a: Pt, b: Pt) -> Result<()
 
 // A thousand rising edges, each across each of two thousand falling ones.
 fn across(alloc: Global) -> Result<Vec<LeafEdge>, AllocError>
-    ensures { IfOk result (λ v. All (λ e. IsEdgeWithin COORDINATE_LIMIT e.edge) v.items) }
+    ensures { IfOk result (λ v. All (λ e. IsEdgeWithin coordinate_limit e.edge) v.items) }
 {
     let mut edges = Vec::new(alloc);
     push_copies(&mut edges, 1000, Pt { x: 0, y: 0 }, Pt { x: 9, y: 9 })?;
@@ -33,8 +34,8 @@ fn across(alloc: Global) -> Result<Vec<LeafEdge>, AllocError>
 
 // Two edges across each other, away from the others.
 fn push_pair(edges: &mut Vec<LeafEdge>) -> Result<(), AllocError>
-    requires { All (λ e. IsEdgeWithin COORDINATE_LIMIT e.edge) edges.old.items }
-    ensures { OnOk result (All (λ e. IsEdgeWithin COORDINATE_LIMIT e.edge) edges.new.items) }
+    requires { All (λ e. IsEdgeWithin coordinate_limit e.edge) edges.old.items }
+    ensures { OnOk result (All (λ e. IsEdgeWithin coordinate_limit e.edge) edges.new.items) }
 {
     push_copies(edges, 1, Pt { x: 20, y: 0 }, Pt { x: 29, y: 9 })?;
     push_copies(edges, 1, Pt { x: 20, y: 9 }, Pt { x: 29, y: 0 })

@@ -13,7 +13,8 @@ use Rattle.scad_geom.specs.declared.level.Level.{Level}
 use Rattle.scad_geom.specs.declared.level.LeafEdge.{LeafEdge}
 use Rattle.scad_geom.specs.declared.point.Edge.{Edge}
 use Rattle.scad_geom.specs.Line.{rise, run, x_at}
-use Rattle.scad_geom.specs.Heights.{IsLower, IsAtMost, IsSameHeight, IsBefore, AreAligned}
+use Rattle.scad_geom.specs.Level.{IsLower, IsAtMost, IsSameHeight}
+use Rattle.scad_geom.specs.EdgeOrder.{IsBefore, AreAligned}
 use Rattle.scad_geom.proofs.Heights.{at_most_chain, at_most_then_lower, lower_then_at_most}
 use Rattle.slice_slab.specs.declared.passage.Passage.{Passage}
 use Rattle.slice_slab.specs.Bundles.{edge_at, Precedes, AreRanked}

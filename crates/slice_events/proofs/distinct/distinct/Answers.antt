@@ -2,8 +2,9 @@
 use Rattle.std.proofs.Common.{◌++◌, ◌+◌, drop, get_or, sym, ap, ◌∙◌, subst, List}
 use Rattle.std.specs.List.{All}
 use Rattle.std.proofs.lemmas.List.Elements.{All-push}
+use Rattle.scad_geom.specs.Limits.{coordinate_limit}
 use Rattle.scad_geom.specs.declared.level.Level.{Level}
-use Rattle.scad_geom.specs.Heights.{IsLevelWithin}
+use Rattle.scad_geom.specs.Level.{IsLevelWithin}
 use Rattle.slice_events.specs.declared.height.Height.{Height}
 use Rattle.slice_events.specs.Collected.{levels_in, is_lower}
 use Rattle.slice_events.specs.Distinct.{distinct_by}
@@ -22,13 +23,13 @@ heights-preserved c = elim c.if-stays.branch [
       record {
         kept = ap (λ (xs : List Level). xs ++ distinct_by is_lower (drop (c.heights.i + 1) (levels_in c.args.heights.now))) items
             ∙ pushed c.heights.out.items (distinct_by is_lower (drop (c.heights.i + 1) (levels_in c.args.heights.now))) _ l (ap (λ (xs : List Level). c.heights.out.items ++ xs) (sym step) ∙ c.heights.invariant.kept);
-        within = subst (All (IsLevelWithin 1100000)) (sym items) (All-push (IsLevelWithin 1100000) c.heights.out.items l c.heights.invariant.within (get_or c.args.heights.now c.heights.i d).within);
+        within = subst (All (IsLevelWithin coordinate_limit)) (sym items) (All-push (IsLevelWithin coordinate_limit) c.heights.out.items l c.heights.invariant.within (get_or c.args.heights.now c.heights.i d).within);
       }
   | else-stays w ↦
       let items = ap (λ v. v.items) w.out-is in
       let step = distinct_left is_lower (λ (h : Height). h.level) c.args.heights.now c.heights.i c.heights-test.true (sym c.stays.ensures ∙ w.if-stays.false) in
       record {
         kept = ap (λ (xs : List Level). xs ++ distinct_by is_lower (drop (c.heights.i + 1) (levels_in c.args.heights.now))) items ∙ ap (λ (xs : List Level). c.heights.out.items ++ xs) (sym step) ∙ c.heights.invariant.kept;
-        within = subst (All (IsLevelWithin 1100000)) (sym items) c.heights.invariant.within;
+        within = subst (All (IsLevelWithin coordinate_limit)) (sym items) c.heights.invariant.within;
       }
 ]
