@@ -8,7 +8,7 @@ ghost use Rattle.slice_snap.specs.Spots.{point_of};
 ghost use Rattle.scad_geom.specs.Segment.{segments};
 ghost use Rattle.scad_geom.specs.Leaves.{edges_of};
 ghost use Rattle.slice_bool.specs.Tally.{IsTally};
-ghost use Rattle.slice_bool.specs.Made.{point_at};
+ghost use Rattle.slice_bool.specs.SmallPoints.{point_at};
 
 use crate::small_point::SmallPoint;
 use crate::stop::Stop;

@@ -12,7 +12,7 @@ ghost use Rattle.slice_snap.specs.Pieces.{HaveOneLevel, IsPieceWithin, ArePieces
 ghost use Rattle.slice_snap.specs.Naming.{AreNamed};
 ghost use Rattle.slice_bool.specs.Centre.{AreCentresWound};
 ghost use Rattle.slice_bool.specs.Fault.{IsRefusal};
-ghost use Rattle.slice_bool.specs.Made.{AddsLevel};
+ghost use Rattle.slice_bool.specs.Parts.{AreUpToNext, Extends};
 
 use crate::fault::BoolFault;
 use crate::flat::push_flat_pieces;
@@ -92,7 +92,7 @@ fn push_level(
     requires within { All (IsLevelWithin coordinate_limit) levels.now }
     requires levels { AreLevels edges.now levels.now }
     requires there { i < length levels.now }
-    ensures { OnOk result (AddsLevel edges.now shape.now (drop i levels.now) out.old.items out.new.items) }
+    ensures { OnOk result (Extends (AreUpToNext edges.now shape.now (drop i levels.now)) out.old.items out.new.items) }
 {
     push_flat_pieces(alloc, out, edges, shape, &levels[i])?;
     if i + 1 < levels.len() {

@@ -7,7 +7,7 @@ ghost use Rattle.scad_geom.specs.Level.{IsLevelWithin};
 ghost use Rattle.slice_bool.specs.Pieces.{covers, stretch_piece, flat_pieces};
 ghost use Rattle.slice_bool.specs.Stops.{spots_in};
 ghost use Rattle.slice_bool.specs.Near.{IsNear};
-ghost use Rattle.slice_bool.specs.Made.{AddsFlat};
+ghost use Rattle.slice_bool.specs.Parts.{AreOnLevel, Extends};
 
 use crate::around::holds_by;
 use crate::between::push_between;
@@ -29,7 +29,7 @@ pub(crate) fn push_flat_pieces(
     requires within { All (λ e. IsEdgeWithin coordinate_limit e.edge) edges.now }
     requires few { length edges.now < 2 ^ 32 }
     requires at { IsLevelWithin coordinate_limit at.now }
-    ensures { OnOk result (AddsFlat edges.now shape.now at.now out.old.items out.new.items) }
+    ensures { OnOk result (Extends (AreOnLevel edges.now shape.now at.now) out.old.items out.new.items) }
 {
     let stops = stops(alloc, edges, at)?;
     let near = edges_near(alloc, edges, at)?;

@@ -6,7 +6,8 @@ ghost use Rattle.scad_geom.specs.Level.{IsLevelWithin};
 ghost use Rattle.scad_geom.specs.Heights.{AreNeighbours};
 ghost use Rattle.slice_slab.specs.Bundles.{AreBundles};
 ghost use Rattle.slice_bool.specs.Pieces.{slab_pieces};
-ghost use Rattle.slice_bool.specs.Made.{AddsSlab, AreMembers, AreLeftValues, RisesFirst, piece_of};
+ghost use Rattle.slice_bool.specs.Parts.{AreBetweenLevels, Extends};
+ghost use Rattle.slice_bool.specs.Beside.{AreMembers, AreLeftValues, RisesFirst, piece_of};
 
 use crate::between::push_between;
 use crate::stop::spot_on;
@@ -29,7 +30,7 @@ pub(crate) fn push_slab_pieces(
     requires lower { IsLevelWithin coordinate_limit lower.now }
     requires upper { IsLevelWithin coordinate_limit upper.now }
     requires neighbours { AreNeighbours edges.now lower.now upper.now }
-    ensures { OnOk result (AddsSlab edges.now shape.now lower.now upper.now out.old.items out.new.items) }
+    ensures { OnOk result (Extends (AreBetweenLevels edges.now shape.now lower.now upper.now) out.old.items out.new.items) }
 {
     let bundles = slab(alloc, edges, lower, upper)?;
     push_bundles(alloc, out, edges, shape, lower, upper, &bundles)

@@ -4,7 +4,7 @@ ghost use Rattle.scad_geom.specs.Limits.{coordinate_limit};
 ghost use Rattle.scad_geom.specs.Within.{IsWithin, IsEdgeWithin};
 ghost use Rattle.scad_geom.specs.Point.{whole};
 ghost use Rattle.scad_geom.specs.Winding.{is_over, passage_by, side_by, turn};
-ghost use Rattle.slice_bool.specs.Made.{point_at};
+ghost use Rattle.slice_bool.specs.SmallPoints.{point_at};
 
 use crate::small_point::SmallPoint;
 use scad_geom::wide::{minus, span, times};

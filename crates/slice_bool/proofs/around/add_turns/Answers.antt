@@ -4,7 +4,7 @@ use Rattle.std.specs.Prelude.{ℤ, pos, ◌+ℤ◌, ◌==◌, if◌then◌else�
 use Rattle.scad_geom.proofs.Leaves.{wind_leaf}
 use Rattle.scad_geom.specs.declared.level.LeafEdge.{LeafEdge}
 use Rattle.slice_slab.specs.Bundles.{no_edge}
-use Rattle.slice_bool.specs.Made.{point_at}
+use Rattle.slice_bool.specs.SmallPoints.{point_at}
 use Rattle.slice_bool.proofs.Hardby.{wind_more, sum_step, size_step, all_turned}
 use Rattle.slice_bool.proofs.around.add_turns.Goals as goal
 

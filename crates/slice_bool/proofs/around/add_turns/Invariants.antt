@@ -1,7 +1,7 @@
 use Rattle.std.proofs.Common.{◌≡◌, ℕ, ◌≤◌, true, drop, get_or, vec_len}
 use Rattle.std.specs.Prelude.{pos, ◌+ℤ◌, unsigned_abs}
 use Rattle.scad_geom.proofs.Leaves.{wind_leaf}
-use Rattle.slice_bool.specs.Made.{point_at}
+use Rattle.slice_bool.specs.SmallPoints.{point_at}
 use Rattle.slice_bool.proofs.around.add_turns.Given as goal
 
 abbrev pub invariant-edges : goal.invariant-edges

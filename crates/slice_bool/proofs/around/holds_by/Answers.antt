@@ -4,7 +4,7 @@ use Rattle.std.specs.Prelude.{ℤ, pos}
 use Rattle.std.proofs.lemmas.Result.{IfOk-weaker}
 use Rattle.scad_geom.specs.Point.{Point}
 use Rattle.scad_geom.specs.Shape.{is_in_by}
-use Rattle.slice_bool.specs.Made.{point_at}
+use Rattle.slice_bool.specs.SmallPoints.{point_at}
 use Rattle.slice_bool.specs.Tally.{is_held}
 use Rattle.slice_bool.proofs.Hardby.{held_by}
 use Rattle.slice_bool.proofs.around.holds_by.Goals as goal
