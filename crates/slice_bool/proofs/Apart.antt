@@ -1,6 +1,6 @@
 -- No two pieces of one name overlap: pieces of different heights and of different stretches lie apart, and those between two
 -- heights have different names.
-use Rattle.std.proofs.Common.{◌≡◌, ℕ, ◌⊎◌, inl, inr, Bool, true, false, List, [], ◌∷◌, ◌++◌, refl, sym, ◌∙◌, arith, subst}
+use Rattle.std.proofs.Common.{◌≡◌, ℕ, inl, inr, Bool, true, false, List, [], ◌∷◌, ◌++◌, sym, arith, subst}
 use lib.IntN.{pos}
 use lib.Signed.{◌<ℤ◌}
 use Rattle.std.specs.Prelude.{Option, Some, None}
@@ -19,7 +19,7 @@ use Rattle.scad_geom.proofs.Heights.{at_most_chain, at_most_then_lower, lower_we
 use Rattle.scad_geom.proofs.Order.{back}
 use Rattle.scad_geom.proofs.Turns.{level_at}
 use Rattle.slice_events.specs.Levels.{IsRising, AreLevels}
-use Rattle.slice_slab.specs.Bundles.{edge_at, Precedes, AreRanked, AreBundles}
+use Rattle.slice_slab.specs.Bundles.{edge_at, Precedes, AreRanked}
 use Rattle.slice_snap.specs.declared.piece.Spot.{Spot}
 use Rattle.slice_snap.specs.declared.piece.Piece.{Piece}
 use Rattle.slice_snap.specs.Spots.{point_of}

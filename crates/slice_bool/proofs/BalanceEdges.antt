@@ -1,7 +1,6 @@
 -- Round a closed list of edges: where flat edges lie on one side of a point, a leaf's winding numbers hard above the point
 -- and hard below it are one.
-use Rattle.std.proofs.Common.{◌≡◌, ℕ, ◌+◌, ◌≤◌, Bool, true, false, not, cond, List, [], ◌∷◌, refl, sym, ap, ap₂, ◌∙◌, arith}
-use mathlib.Core.Path.{fun_ext}
+use Rattle.std.proofs.Common.{◌≡◌, ℕ, ◌+◌, ◌≤◌, Bool, true, false, cond, List, [], ◌∷◌, refl, sym, ap, ap₂, ◌∙◌, arith}
 use lib.IntN.{ℤ, pos, ◌+ℤ◌, ◌-ℤ◌}
 use lib.Signed.{◌<ℤ◌}
 use Rattle.std.specs.Prelude.{if◌then◌else◌, ◌==◌, ◌&&◌}
@@ -23,8 +22,7 @@ use Rattle.std.proofs.Common.{map}
 use Rattle.scad_geom.specs.Point.{Point, whole}
 use Rattle.scad_geom.specs.Winding.{turn}
 use Rattle.scad_geom.proofs.Leaves.{wind_leaf}
-use Rattle.scad_geom.specs.Shape.{shape_holds, is_in_by}
-use Rattle.scad_geom.specs.Sign.{is_zero}
+use Rattle.scad_geom.specs.Shape.{is_in_by}
 use Rattle.scad_geom.proofs.Turns.{level_turn}
 use Rattle.scad_geom.specs.Leaves.{edges_of, AreLeavesBalanced}
 use Rattle.slice_bool.proofs.Winding.{is_true_first}

@@ -1,6 +1,5 @@
 -- What lies hard by a point at a height depends only on which of the height's spots lie to its right.
-use Rattle.std.proofs.Common.{◌≡◌, ℕ, zero, suc, ◌⊎◌, inl, inr, Bool, true, false, not, cond, List, [], ◌∷◌, refl, sym, ap, ap₂, ◌∙◌, arith, subst}
-use mathlib.Core.Path.{fun_ext}
+use Rattle.std.proofs.Common.{◌≡◌, ℕ, zero, suc, ◌⊎◌, inl, inr, Bool, true, false, cond, List, [], ◌∷◌, refl, sym, ap, ap₂, ◌∙◌, arith, subst}
 use lib.IntN.{ℤ, pos, negsuc, ◌+ℤ◌, ◌-ℤ◌, ◌*ℤ◌}
 use lib.Signed.{◌<ℤ◌}
 use Rattle.std.specs.Prelude.{int_lt, int_le, if◌then◌else◌, ◌==◌, ◌&&◌, unsigned_abs}
@@ -18,7 +17,7 @@ use Rattle.scad_geom.specs.Winding.{counted}
 use Rattle.scad_geom.specs.Point.{Point, whole}
 use Rattle.scad_geom.specs.Winding.{is_beyond, turn}
 use Rattle.scad_geom.proofs.Leaves.{wind_leaf}
-use Rattle.scad_geom.specs.Shape.{shape_holds, is_in_by}
+use Rattle.scad_geom.specs.Shape.{is_in_by}
 use Rattle.scad_geom.specs.Sign.{is_zero}
 use Rattle.scad_geom.specs.Level.{level_of, IsLower, IsAtMost, IsSameHeight}
 use Rattle.scad_geom.proofs.Ring.{ring, ◌⊕◌, ◌⊖◌, ◌⊗◌, v0, v1, v2, v3, v4, v5, v6, v7}

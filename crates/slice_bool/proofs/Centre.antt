@@ -1,24 +1,15 @@
 -- At the centres of cells, by plain winding numbers.
-use Rattle.std.proofs.Common.{◌≡◌, ℕ, Bool, true, not, List, [], ◌∷◌, refl, ap, ◌∙◌, arith}
-use mathlib.Core.Path.{fun_ext}
+use Rattle.std.proofs.Common.{◌≡◌, true, List, refl, ap, ◌∙◌, arith}
 use lib.IntN.{ℤ, pos}
 use lib.Signed.{◌<ℤ◌}
-use Rattle.std.specs.Prelude.{if◌then◌else◌, ◌==◌}
 use Rattle.std.proofs.lemmas.Int.{ints}
-use Rattle.scad_geom.specs.declared.point.Edge.{Edge}
-use Rattle.scad_geom.specs.declared.half.Half.TheVariants.{Cell}
 use Rattle.scad_geom.specs.declared.level.LeafEdge.{LeafEdge}
 use Rattle.scad_geom.specs.declared.shape.Shape.{Shape}
-use Rattle.scad_geom.specs.Winding.{wind, counted}
-use Rattle.scad_geom.specs.Half.{doubled}
-use Rattle.scad_geom.proofs.Leaves.{wind_leaf}
-use Rattle.scad_geom.specs.Shape.{shape_holds, is_in_by, is_in}
-use Rattle.scad_geom.specs.Sign.{is_zero}
-use Rattle.scad_geom.proofs.Doubled as halves
+use Rattle.scad_geom.specs.Winding.{counted}
+use Rattle.scad_geom.specs.Shape.{is_in_by, is_in}
 use Rattle.slice_snap.specs.declared.piece.Piece.{Piece}
 use Rattle.slice_snap.specs.Pieces.{wind_pieces}
 use Rattle.slice_bool.specs.Pieces.{ArePieces}
-use Rattle.scad_geom.specs.Leaves.{edges_of}
 use Rattle.scad_geom.specs.Half.{centre}
 use Rattle.slice_bool.specs.Centre.{holds_centre}
 use Rattle.slice_bool.proofs.Walk.{pieces_wind}

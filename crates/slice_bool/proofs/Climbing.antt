@@ -11,7 +11,7 @@ use Rattle.scad_geom.specs.Heights.{AreNeighbours, heights}
 use Rattle.scad_geom.proofs.Heights.{heights_positive}
 use Rattle.slice_events.specs.Levels.{IsRising, AreLevels}
 use Rattle.slice_snap.specs.declared.piece.Piece.{Piece}
-use Rattle.slice_bool.specs.Pieces.{flat_pieces, slab_pieces, AreLevelPieces}
+use Rattle.slice_bool.specs.Pieces.{AreLevelPieces}
 use Rattle.slice_bool.specs.Parts.{AreOnLevel, Extends, AreBetweenLevels, AreUpToNext}
 use Rattle.slice_bool.proofs.Walk.{UpTo, at_first, at_next, neighbours_next}
 
@@ -68,8 +68,15 @@ one_level es shape l (u ∷ next) old new a rest r =
     let between : AreBetweenLevels es shape l u slabs = parts.3 in
     let is : a.0 ≡ flats ++ slabs = parts.4 in (
       a.0 ++ rest,
-      (on.0, between.0, rest, on.1, between.1, r,
-          ap (λ (qs : List Piece). qs ++ rest) (is ∙ ap₂ (λ (qs rs : List Piece). qs ++ rs) on.2 between.2)),
+      (
+        on.0,
+        between.0,
+        rest,
+        on.1,
+        between.1,
+        r,
+        ap (λ (qs : List Piece). qs ++ rest) (is ∙ ap₂ (λ (qs rs : List Piece). qs ++ rs) on.2 between.2),
+      ),
       ap (λ (qs : List Piece). qs ++ rest) a.2 ∙ append_assoc old a.0 rest,
     )
 

@@ -1,7 +1,7 @@
 -- Where the edges of each leaf are balanced, the values above and below a stretch that no flat edge covers are the same.
 use Rattle.std.proofs.Common.{◌≡◌, true, false, List, [], ◌∷◌, arith}
-use lib.IntN.{pos, ◌*ℤ◌}
-use lib.Signed.{◌<ℤ◌, ◌≤ℤ◌}
+use lib.IntN.{pos}
+use lib.Signed.{◌<ℤ◌}
 use Rattle.std.specs.Prelude.{None}
 use Rattle.std.specs.List.{AllByRecursion, position}
 use Rattle.std.proofs.lemmas.Int.{ints}

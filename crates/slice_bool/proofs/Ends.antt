@@ -1,12 +1,12 @@
 -- The ends of pieces lie on the levels, and no two levels are equal in height.
-use Rattle.std.proofs.Common.{◌≡◌, ℕ, ◌⊎◌, inl, inr, Bool, true, false, List, [], ◌∷◌, ◌++◌, refl, sym, ap, ◌∙◌, arith, subst}
+use Rattle.std.proofs.Common.{◌≡◌, ℕ, ◌⊎◌, inl, inr, Bool, true, false, List, [], ◌∷◌, ◌++◌, refl, sym, ◌∙◌, arith, subst}
 use lib.IntN.{pos}
 use lib.Signed.{◌<ℤ◌}
 use Rattle.std.specs.Prelude.{Option, Some, None}
 use Rattle.std.specs.List.{AllByRecursion, All, position, concat}
 use Rattle.std.proofs.lemmas.Int.{ints}
 use Rattle.std.proofs.lemmas.List.Elements.{All-from_recursion}
-use Rattle.slice_snap.proofs.Ends.{both_lists, joined}
+use Rattle.slice_snap.proofs.Ends.{joined}
 use Rattle.scad_geom.specs.declared.level.Level.{Level}
 use Rattle.scad_geom.specs.declared.level.LeafEdge.{LeafEdge}
 use Rattle.scad_geom.specs.declared.shape.Shape.{Shape}
@@ -24,7 +24,6 @@ use Rattle.slice_snap.specs.Pieces.{ends_of, HaveOneLevel}
 use Rattle.slice_bool.proofs.Passing.{IsLive, live_bundles}
 use Rattle.slice_bool.proofs.Middle.{half_point}
 use Rattle.slice_bool.proofs.Winding.{IsSpotAt, stops_at}
-use Rattle.slice_snap.proofs.Ends.{both_lists}
 
 -- one of the levels
 abbrev pub IsAmong : List Level → Level → Type 0

@@ -1,9 +1,9 @@
 -- Each piece has a length and lies along the edge of its name.
-use Rattle.std.proofs.Common.{◌≡◌, ℕ, zero, suc, ◌+◌, ◌<◌, Bool, true, false, not, cond, List, [], ◌∷◌, ◌++◌, length, get_or, refl, sym, ap, ◌∙◌, arith, subst}
+use Rattle.std.proofs.Common.{◌≡◌, ℕ, zero, suc, ◌+◌, ◌<◌, Bool, true, false, cond, List, [], ◌∷◌, ◌++◌, length, get_or, refl, sym, ◌∙◌, arith, subst}
 use lib.IntN.{ℤ, pos, negsuc, ◌+ℤ◌, ◌-ℤ◌, ◌*ℤ◌}
 use lib.Signed.{◌<ℤ◌, ◌≤ℤ◌}
 use Rattle.std.specs.Prelude.{Option, Some, None, ◌&&◌, ◌||◌, int_lt, int_le, unsigned_abs}
-use Rattle.std.specs.List.{AllByRecursion, All, concat, position, position_from}
+use Rattle.std.specs.List.{AllByRecursion, concat, position, position_from}
 use Rattle.std.specs.Ordering.{int_eq}
 use Rattle.std.specs.Cmp.{signed_Decides}
 use Rattle.std.proofs.lemmas.Int.{ints}
@@ -23,7 +23,7 @@ use Rattle.scad_geom.proofs.Signs.{pos_mul, at_least_mul}
 use Rattle.scad_geom.proofs.Heights.{heights_positive}
 use Rattle.scad_geom.proofs.Order.{back}
 use Rattle.slice_events.specs.Levels.{IsRising, AreLevels}
-use Rattle.slice_slab.specs.Bundles.{no_edge, edge_at, AreRanked, AreBundles}
+use Rattle.slice_slab.specs.Bundles.{no_edge, edge_at, AreRanked}
 use Rattle.slice_snap.specs.declared.piece.Spot.{Spot}
 use Rattle.slice_snap.specs.declared.piece.Piece.{Piece}
 use Rattle.slice_snap.specs.Spots.{point_of}
@@ -60,14 +60,16 @@ less_not_equal : (x y : ℤ) → x <ℤ y → x ≡ y → ⊥
 less_not_equal x y h k = omega (arith, ints)
 
 below_differ : (p q : Point) → IsBelow p q → (is_same_point p q ≡ false) × (is_same_point q p ≡ false)
-below_differ p q h =
-    (not_true (is_same_point p q) (λ e. less_not_equal (p.y *ℤ q.d) (q.y *ℤ p.d) h (same_height p q e)),
-    not_true (is_same_point q p) (λ e. less_not_equal (p.y *ℤ q.d) (q.y *ℤ p.d) h (sym (same_height q p e))))
+below_differ p q h = (
+  not_true (is_same_point p q) (λ e. less_not_equal (p.y *ℤ q.d) (q.y *ℤ p.d) h (same_height p q e)),
+  not_true (is_same_point q p) (λ e. less_not_equal (p.y *ℤ q.d) (q.y *ℤ p.d) h (sym (same_height q p e))),
+)
 
 left_differ : (p q : Point) → IsLeftOf p q → (is_same_point p q ≡ false) × (is_same_point q p ≡ false)
-left_differ p q h =
-    (not_true (is_same_point p q) (λ e. less_not_equal (p.x *ℤ q.d) (q.x *ℤ p.d) h (same_across p q e)),
-    not_true (is_same_point q p) (λ e. less_not_equal (p.x *ℤ q.d) (q.x *ℤ p.d) h (sym (same_across q p e))))
+left_differ p q h = (
+  not_true (is_same_point p q) (λ e. less_not_equal (p.x *ℤ q.d) (q.x *ℤ p.d) h (same_across p q e)),
+  not_true (is_same_point q p) (λ e. less_not_equal (p.x *ℤ q.d) (q.x *ℤ p.d) h (sym (same_across q p e))),
+)
 
 -- ---- one piece
 -- its name is there, it has a length and lies along the edge of its name

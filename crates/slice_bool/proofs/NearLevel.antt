@@ -1,6 +1,5 @@
 -- Edges that don't pass a level don't wind round what lies hard by its stops, and only flat edges on it cover a stretch.
-use Rattle.std.proofs.Common.{◌≡◌, ℕ, zero, suc, ◌+◌, ◌<◌, Bool, true, false, not, List, [], ◌∷◌, length, get_or, drop, refl, sym, ap, ◌∙◌, arith, subst}
-use mathlib.Core.Path.{fun_ext}
+use Rattle.std.proofs.Common.{◌≡◌, ℕ, zero, suc, ◌+◌, ◌<◌, Bool, true, false, List, [], ◌∷◌, length, get_or, drop, refl, sym, ap, ◌∙◌, arith, subst}
 use lib.IntN.{ℤ, pos, ◌+ℤ◌, ◌-ℤ◌, ◌*ℤ◌}
 use lib.Signed.{◌<ℤ◌}
 use Rattle.std.specs.Prelude.{int_lt, int_le, if◌then◌else◌, ◌==◌, ◌&&◌, Some}
@@ -19,8 +18,7 @@ use Rattle.scad_geom.specs.Point.{whole}
 use Rattle.scad_geom.specs.Winding.{turn}
 use Rattle.scad_geom.proofs.Leaves.{wind_leaf}
 use Rattle.scad_geom.specs.Level.{level_of, IsLower, IsAtMost}
-use Rattle.scad_geom.specs.Shape.{shape_holds, is_in_by}
-use Rattle.scad_geom.specs.Sign.{is_zero}
+use Rattle.scad_geom.specs.Shape.{is_in_by}
 use Rattle.scad_geom.proofs.Heights.{lower_then_at_most, at_most_then_lower, lower_weak}
 use Rattle.scad_geom.proofs.Turns.{level_at, Over, NotOver, under_turn, over_turn, level_turn}
 use Rattle.slice_slab.specs.Bundles.{no_edge}

@@ -1,6 +1,6 @@
 -- The pieces between two neighbouring heights wind once round the points inside the shape, and not round the others.
 use Rattle.std.proofs.Common.{◌≡◌, ℕ, Bool, true, false, List, [], ◌∷◌, ◌++◌, refl, sym, ap, ap₂, ◌∙◌, arith, subst}
-use lib.IntN.{ℤ, pos, negsuc, ◌+ℤ◌, ◌-ℤ◌, ◌*ℤ◌, neg_ℤ, +ℤ_idl, +ℤ_assoc}
+use lib.IntN.{ℤ, pos, negsuc, ◌+ℤ◌, ◌-ℤ◌, ◌*ℤ◌, neg_ℤ, +ℤ_idl}
 use lib.Signed.{◌<ℤ◌}
 use Rattle.std.specs.Prelude.{if◌then◌else◌}
 use Rattle.std.specs.List.{AllByRecursion, concat}
@@ -28,7 +28,6 @@ use Rattle.scad_geom.proofs.Turns.{Over, NotOver, over_true, over_false, rising_
 use Rattle.scad_geom.proofs.Shapes.{nothing_held}
 use Rattle.scad_geom.proofs.Order.{back}
 use Rattle.slice_snap.specs.declared.piece.Spot.{Spot}
-use Rattle.slice_snap.specs.declared.piece.Piece.{Piece}
 use Rattle.slice_bool.specs.Pieces.{spot_on, piece_between, bundle_piece, slab_pieces}
 use Rattle.slice_snap.specs.Spots.{point_of}
 use Rattle.slice_snap.specs.Pieces.{wind_pieces}

@@ -1,6 +1,5 @@
 -- The pieces of a shape's border wind once round the points inside, and not round the others.
-use Rattle.std.proofs.Common.{◌≡◌, ℕ, zero, suc, ◌<◌, ◌⊎◌, inl, inr, Bool, true, false, not, List, [], ◌∷◌, ◌++◌, length, get_or, refl, sym, ap, ap₂, ◌∙◌, arith, subst}
-use mathlib.Core.Path.{fun_ext}
+use Rattle.std.proofs.Common.{◌≡◌, ℕ, zero, suc, ◌<◌, ◌⊎◌, inl, inr, Bool, true, false, List, [], ◌∷◌, length, get_or, refl, sym, ap₂, ◌∙◌, arith, subst}
 use lib.IntN.{ℤ, pos, ◌+ℤ◌, ◌*ℤ◌}
 use lib.Signed.{◌<ℤ◌, lt_z}
 use Rattle.std.specs.Prelude.{int_lt, if◌then◌else◌, ◌==◌, ◌&&◌}
@@ -15,8 +14,7 @@ use Rattle.scad_geom.specs.declared.shape.Shape.{Shape}
 use Rattle.scad_geom.specs.Line.{rise}
 use Rattle.scad_geom.specs.Point.{Point}
 use Rattle.scad_geom.proofs.Leaves.{wind_leaf}
-use Rattle.scad_geom.specs.Shape.{shape_holds, is_in_by}
-use Rattle.scad_geom.specs.Sign.{is_zero}
+use Rattle.scad_geom.specs.Shape.{is_in_by}
 use Rattle.slice_slab.specs.Bundles.{no_edge, edge_at, AreRanked, AreBundles}
 use Rattle.scad_geom.proofs.Turns.{level_at}
 use Rattle.scad_geom.specs.Point.{whole}

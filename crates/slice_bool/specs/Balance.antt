@@ -1,15 +1,10 @@
 -- Borders that are closed: at each point as many pieces start as end.
-use Rattle.std.specs.Prelude.{Bool, ◌&&◌, if◌then◌else◌, List, [], ◌∷◌, ℕ, ◌==◌, ◌≡◌, pos, ◌*ℤ◌, ◌<ℤ◌, count_by}
-use Rattle.std.specs.Ordering.{int_eq}
+use Rattle.std.specs.Prelude.{List}
 use Rattle.slice_snap.specs.Pieces.{ArePiecesBalanced}
 use Rattle.scad_geom.specs.Leaves.{AreLeavesBalanced}
-use Rattle.scad_geom.specs.declared.point.Edge.{Edge}
 use Rattle.scad_geom.specs.declared.level.LeafEdge.{LeafEdge}
 use Rattle.scad_geom.specs.declared.shape.Shape.{Shape}
-use Rattle.scad_geom.specs.Point.{Point}
-use Rattle.scad_geom.specs.Balance.{IsBalanced}
 use Rattle.slice_snap.specs.declared.piece.Piece.{Piece}
-use Rattle.slice_snap.specs.Spots.{point_of}
 use Rattle.slice_bool.specs.Pieces.{ArePieces}
 
 -- ---- the law

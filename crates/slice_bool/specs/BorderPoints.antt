@@ -1,10 +1,9 @@
 -- Border points, and the points inside a piece.
-use Rattle.std.specs.Prelude.{Bool, true, false, List, pos, ◌≡◌, ◌⊎◌, ◌*ℤ◌, ◌<ℤ◌, All}
+use Rattle.std.specs.Prelude.{Bool, true, false, List, pos, ◌≡◌, ◌<ℤ◌, All}
 use Rattle.slice_snap.specs.Inside.{IsInside}
 use Rattle.scad_geom.specs.declared.level.LeafEdge.{LeafEdge}
 use Rattle.scad_geom.specs.declared.shape.Shape.{Shape}
 use Rattle.scad_geom.specs.Point.{Point}
-use Rattle.scad_geom.specs.Winding.{side_by}
 use Rattle.scad_geom.specs.Shape.{is_in_by}
 use Rattle.slice_snap.specs.declared.piece.Piece.{Piece}
 use Rattle.slice_snap.specs.Spots.{point_of}

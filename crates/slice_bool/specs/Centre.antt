@@ -1,13 +1,10 @@
 -- The centres of cells: the plain form of what a shape holds there.
-use Rattle.std.specs.Prelude.{Bool, not, List, ℕ, ℤ, pos, ◌≡◌, true}
+use Rattle.std.specs.Prelude.{Bool, not, List, ℕ, ℤ, ◌≡◌, true}
 use Rattle.scad_geom.specs.Segment.{segments}
 use Rattle.scad_geom.specs.Half.{centre}
-use Rattle.scad_geom.specs.declared.half.Half.TheVariants.{Cell}
 use Rattle.scad_geom.specs.declared.level.LeafEdge.{LeafEdge}
 use Rattle.scad_geom.specs.declared.shape.Shape.{Shape}
 use Rattle.scad_geom.specs.Winding.{wind, counted}
-use Rattle.scad_geom.specs.Half.{doubled}
-use Rattle.scad_geom.specs.Point.{Point}
 use Rattle.scad_geom.specs.Shape.{shape_holds, is_in}
 use Rattle.scad_geom.specs.Sign.{is_zero}
 use Rattle.slice_snap.specs.declared.piece.Piece.{Piece}

@@ -1,10 +1,8 @@
 -- The ends of pieces, and that one height has one level.
-use Rattle.std.specs.Prelude.{List, [], ◌∷◌, ◌≡◌, All}
+use Rattle.std.specs.Prelude.{List}
 use Rattle.slice_snap.specs.Pieces.{HaveOneLevel}
 use Rattle.scad_geom.specs.declared.level.LeafEdge.{LeafEdge}
 use Rattle.scad_geom.specs.declared.shape.Shape.{Shape}
-use Rattle.scad_geom.specs.Level.{IsSameHeight}
-use Rattle.slice_snap.specs.declared.piece.Spot.{Spot}
 use Rattle.slice_snap.specs.declared.piece.Piece.{Piece}
 use Rattle.slice_bool.specs.Pieces.{ArePieces}
 

@@ -11,7 +11,6 @@ use Rattle.scad_geom.specs.declared.shape.Shape.{Shape}
 use Rattle.scad_geom.specs.Line.{low, high, rise, x_at}
 use Rattle.scad_geom.specs.Winding.{counted}
 use Rattle.scad_geom.specs.Point.{Point}
-use Rattle.scad_geom.specs.Winding.{turn}
 use Rattle.scad_geom.specs.Level.{IsLower, IsSameHeight}
 use Rattle.scad_geom.specs.Shape.{is_in_by}
 use Rattle.scad_geom.specs.Sign.{is_zero}

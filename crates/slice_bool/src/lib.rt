@@ -12,16 +12,16 @@ mod fault;
 mod flat;
 pub mod laws;
 mod near;
-mod small_point;
 #[cfg(test)]
 mod random_outlines;
-#[cfg(test)]
-mod two_rectangles;
 mod slab;
+mod small_point;
 mod stop;
 mod stops;
 mod tally;
 mod turn;
+#[cfg(test)]
+mod two_rectangles;
 
 pub use border::pieces;
 pub use fault::BoolFault;
