@@ -27,7 +27,8 @@ use std::alloc::{AllocError, Global};
 ///
 /// They wind once round each cell centre that the shape holds and round no other, and where the edges of each leaf are
 /// closed, as many start at each point as end there. Their ends are within the limit of the coordinates. Each lies along the
-/// edge of its name, and no two of one name overlap. It is refused exactly where there are more edges than the limit, and then where more than 2,000,000 pairs cross.
+/// edge of its name, and no two of one name overlap. It is refused exactly where there are more edges than the limit, and
+/// then where more than 2,000,000 pairs cross.
 pub fn pieces(
     alloc: Global,
     edges: &[LeafEdge],
