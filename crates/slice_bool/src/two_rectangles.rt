@@ -1,9 +1,10 @@
 //! Borders of two rectangles, worked out by another program, and lists that are too long.
 ghost use Rattle.std.specs.Prelude.{OnOk, IfOk, All};
-ghost use Rattle.scad_geom.specs.Point.{IsWithin, IsEdgeWithin};
+ghost use Rattle.scad_geom.specs.Limits.{coordinate_limit};
+ghost use Rattle.scad_geom.specs.Within.{IsWithin, IsEdgeWithin};
 
 use crate::{BoolFault, pieces};
-use scad_geom::{COORDINATE_LIMIT, Edge, LeafEdge, Pt, Shape};
+use scad_geom::{Edge, LeafEdge, Pt, Shape};
 use slice_snap::{Piece, Spot};
 use std::alloc::{AllocError, Global};
 use std::test::Fail;
@@ -16,7 +17,7 @@ enum Operation {
 }
 
 fn at(x: u8, y: u8) -> Pt
-    ensures { IsWithin COORDINATE_LIMIT result }
+    ensures { IsWithin coordinate_limit result }
 {
     Pt {
         x: i32::from(x),
@@ -25,10 +26,10 @@ fn at(x: u8, y: u8) -> Pt
 }
 
 fn push_side(edges: &mut Vec<LeafEdge>, leaf: u32, a: Pt, b: Pt) -> Result<(), AllocError>
-    requires edges { All (λ e. IsEdgeWithin COORDINATE_LIMIT e.edge) edges.old.items }
-    requires a { IsWithin COORDINATE_LIMIT a }
-    requires b { IsWithin COORDINATE_LIMIT b }
-    ensures { OnOk result (All (λ e. IsEdgeWithin COORDINATE_LIMIT e.edge) edges.new.items) }
+    requires edges { All (λ e. IsEdgeWithin coordinate_limit e.edge) edges.old.items }
+    requires a { IsWithin coordinate_limit a }
+    requires b { IsWithin coordinate_limit b }
+    ensures { OnOk result (All (λ e. IsEdgeWithin coordinate_limit e.edge) edges.new.items) }
 {
     let edge = Edge { a, b };
     edges.push(LeafEdge { leaf, edge })?;
@@ -37,8 +38,8 @@ fn push_side(edges: &mut Vec<LeafEdge>, leaf: u32, a: Pt, b: Pt) -> Result<(), A
 
 // Counter-clockwise from the lower left corner.
 fn push_rectangle(edges: &mut Vec<LeafEdge>, leaf: u32, corners: [u8; 4]) -> Result<(), AllocError>
-    requires { All (λ e. IsEdgeWithin COORDINATE_LIMIT e.edge) edges.old.items }
-    ensures { OnOk result (All (λ e. IsEdgeWithin COORDINATE_LIMIT e.edge) edges.new.items) }
+    requires { All (λ e. IsEdgeWithin coordinate_limit e.edge) edges.old.items }
+    ensures { OnOk result (All (λ e. IsEdgeWithin coordinate_limit e.edge) edges.new.items) }
 {
     let [left, bottom, right, top] = corners;
     push_side(edges, leaf, at(left, bottom), at(right, bottom))?;
@@ -48,7 +49,7 @@ fn push_rectangle(edges: &mut Vec<LeafEdge>, leaf: u32, corners: [u8; 4]) -> Res
 }
 
 fn two_leaves(alloc: Global, first: [u8; 4], second: [u8; 4]) -> Result<Vec<LeafEdge>, AllocError>
-    ensures { IfOk result (λ v. All (λ e. IsEdgeWithin COORDINATE_LIMIT e.edge) v.items) }
+    ensures { IfOk result (λ v. All (λ e. IsEdgeWithin coordinate_limit e.edge) v.items) }
 {
     let mut edges = Vec::new(alloc);
     push_rectangle(&mut edges, 0, first)?;

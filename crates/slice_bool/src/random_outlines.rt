@@ -1,9 +1,10 @@
 //! Random closed outlines, whose pieces an independent program has found too.
 ghost use Rattle.std.specs.Prelude.{◌<◌, OnOk, IfOk, All};
-ghost use Rattle.scad_geom.specs.Point.{IsWithin, IsEdgeWithin};
+ghost use Rattle.scad_geom.specs.Limits.{coordinate_limit};
+ghost use Rattle.scad_geom.specs.Within.{IsWithin, IsEdgeWithin};
 
 use crate::pieces;
-use scad_geom::{COORDINATE_LIMIT, Edge, LeafEdge, Pt, Shape};
+use scad_geom::{Edge, LeafEdge, Pt, Shape};
 use slice_snap::{Piece, Spot};
 use std::alloc::{AllocError, Global};
 use std::test::Fail;
@@ -27,7 +28,7 @@ impl Dice {
 }
 
 fn roll_point(dice: &mut Dice) -> Pt
-    ensures { IsWithin COORDINATE_LIMIT result }
+    ensures { IsWithin coordinate_limit result }
 {
     let x = dice.roll(7) as i32;
     let y = dice.roll(7) as i32;
@@ -35,10 +36,10 @@ fn roll_point(dice: &mut Dice) -> Pt
 }
 
 fn push_edge(edges: &mut Vec<LeafEdge>, leaf: u32, a: Pt, b: Pt) -> Result<(), AllocError>
-    requires edges { All (λ e. IsEdgeWithin COORDINATE_LIMIT e.edge) edges.old.items }
-    requires a { IsWithin COORDINATE_LIMIT a }
-    requires b { IsWithin COORDINATE_LIMIT b }
-    ensures { OnOk result (All (λ e. IsEdgeWithin COORDINATE_LIMIT e.edge) edges.new.items) }
+    requires edges { All (λ e. IsEdgeWithin coordinate_limit e.edge) edges.old.items }
+    requires a { IsWithin coordinate_limit a }
+    requires b { IsWithin coordinate_limit b }
+    ensures { OnOk result (All (λ e. IsEdgeWithin coordinate_limit e.edge) edges.new.items) }
 {
     if a.x == b.x && a.y == b.y {
         return Ok(());
@@ -50,8 +51,8 @@ fn push_edge(edges: &mut Vec<LeafEdge>, leaf: u32, a: Pt, b: Pt) -> Result<(), A
 
 // An outline of three to seven points.
 fn push_outline(edges: &mut Vec<LeafEdge>, leaf: u32, dice: &mut Dice) -> Result<(), AllocError>
-    requires { All (λ e. IsEdgeWithin COORDINATE_LIMIT e.edge) edges.old.items }
-    ensures { OnOk result (All (λ e. IsEdgeWithin COORDINATE_LIMIT e.edge) edges.new.items) }
+    requires { All (λ e. IsEdgeWithin coordinate_limit e.edge) edges.old.items }
+    ensures { OnOk result (All (λ e. IsEdgeWithin coordinate_limit e.edge) edges.new.items) }
 {
     let first = roll_point(dice);
     let mut last = first;
@@ -66,7 +67,7 @@ fn push_outline(edges: &mut Vec<LeafEdge>, leaf: u32, dice: &mut Dice) -> Result
 
 // Three or four leaves of an outline each.
 fn roll_edges(alloc: Global, dice: &mut Dice) -> Result<Vec<LeafEdge>, AllocError>
-    ensures { IfOk result (λ v. All (λ e. IsEdgeWithin COORDINATE_LIMIT e.edge) v.items) }
+    ensures { IfOk result (λ v. All (λ e. IsEdgeWithin coordinate_limit e.edge) v.items) }
 {
     let mut edges = Vec::new(alloc);
     let count = 3 + dice.roll(2);

@@ -3,7 +3,7 @@ ghost use Rattle.std.specs.Prelude.{◌≤◌, ◌^◌, unsigned_abs};
 
 /// The point `(x / d, y / d)`, with numbers that are small enough.
 #[derive(Clone, Copy, Debug)]
-pub(crate) struct Place {
+pub(crate) struct SmallPoint {
     pub(crate) x: i128,
     pub(crate) y: i128,
     pub(crate) d: i128,
