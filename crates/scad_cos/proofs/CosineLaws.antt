@@ -4,6 +4,8 @@ use Rattle.std.specs.Int.{int_rem_euclid}
 use Rattle.std.proofs.lemmas.Bool.{cases_lt}
 use Rattle.std.proofs.lemmas.Bool.Decides.{nat_tests}
 use Rattle.std.proofs.lemmas.Int.{ints, int_rem_euclid_is}
+use Rattle.std.proofs.Math.IntN.{neg_ℤ-neg_ℤ}
+use Rattle.scad_cos.specs.Laws.{CosineIsEven, CosineRepeats, CosineIsOpposite}
 use Rattle.scad_cos.specs.Cosine.{cosine, full_turn, half_turn, first_quarter, cosines}
 
 -- the part of an angle past its whole turns
@@ -42,10 +44,6 @@ full_turn-high : (a : ℕ) → 180000 < a → full_turn a ≡ half_turn (360000 
 unfolding full_turn
 full_turn-high a h = grind (arith, nat_tests)
 
-neg-neg : (n : ℕ) → neg_ℤ (neg_ℤ (pos n)) ≡ pos n
-neg-neg zero = refl
-neg-neg (suc n) = refl
-
 right_angle : first_quarter 90000 ≡ 0
 unfolding first_quarter cosines
 right_angle = refl
@@ -58,7 +56,7 @@ half_turn-opposite a h = by_quarter (cases_lt a 90000) (cases_lt 90000 a)
     by_quarter (inl low) s =
         let back : 180000 - (180000 - a) ≡ a = omega arith in
         half_turn-high (180000 - a) (omega arith) ∙ ap (λ b. neg_ℤ (pos (first_quarter b))) back ∙ ap neg_ℤ (sym (half_turn-low a (omega arith)))
-    by_quarter (inr r) (inl high) = half_turn-low (180000 - a) (omega arith) ∙ sym (neg-neg (first_quarter (180000 - a))) ∙ ap neg_ℤ (sym (half_turn-high a high))
+    by_quarter (inr r) (inl high) = half_turn-low (180000 - a) (omega arith) ∙ sym (neg_ℤ-neg_ℤ (pos (first_quarter (180000 - a)))) ∙ ap neg_ℤ (sym (half_turn-high a high))
     by_quarter (inr r) (inr s) =
         let same : a ≡ 90000 = omega arith in
         let other : 180000 - a ≡ 90000 = omega arith in
@@ -95,18 +93,18 @@ residue-lt (pos n) = omega arith
 residue-lt (negsuc n) = omega arith
 
 -- the cosine is even
-pub cosine-neg : (angle : ℤ) → cosine (neg_ℤ angle) ≡ cosine angle
+pub cosine_is_even : CosineIsEven
 unfolding cosine
-cosine-neg angle = by_rest (residue-neg angle)
+cosine_is_even angle = by_rest (residue-neg angle)
   where
     by_rest : (residue (neg_ℤ angle) ≡ residue angle) ⊎ (residue (neg_ℤ angle) ≡ 360000 - residue angle) → full_turn (residue (neg_ℤ angle)) ≡ full_turn (residue angle)
     by_rest (inl e) = ap full_turn e
     by_rest (inr e) = ap full_turn e ∙ full_turn-mirror (residue angle) (le_of_lt (residue-lt angle))
 
 -- and has the period of a full turn
-pub cosine-period : (angle : ℤ) → cosine (angle +ℤ pos 360000) ≡ cosine angle
+pub cosine_repeats : CosineRepeats
 unfolding cosine
-cosine-period angle =
+cosine_repeats angle =
     let more = residue_is (angle +ℤ pos 360000) (unsigned_abs angle) (lifted angle + 360000) (let here = lifted_is angle in omega (arith, ints)) in
     let here = residue-lifted angle in
     let same : residue (angle +ℤ pos 360000) ≡ residue angle = omega arith in
@@ -136,6 +134,6 @@ full_turn-opposite a h = by_half (cases_lt 180000 a)
         ap full_turn there ∙ full_turn-low (180000 - a) (omega arith) ∙ half_turn-opposite a low ∙ ap neg_ℤ (sym (full_turn-low a low))
 
 -- at 180 degrees less the angle it is the opposite
-pub cosine-opposite : (angle : ℤ) → cosine (pos 180000 -ℤ angle) ≡ neg_ℤ (cosine angle)
+pub cosine_is_opposite : CosineIsOpposite
 unfolding cosine
-cosine-opposite angle = ap full_turn (residue-opposite angle) ∙ full_turn-opposite (residue angle) (residue-lt angle)
+cosine_is_opposite angle = ap full_turn (residue-opposite angle) ∙ full_turn-opposite (residue angle) (residue-lt angle)
