@@ -79,8 +79,8 @@ pub record Reaches (goes_on : List Token → Items → Type 0) : Type 0 where
   pub p : Items
   pub goes : goes_on ts p
 
-reaches : {goes_on : List Token → Items → Type 0} {p : Items} (ts : List Token) → goes_on ts p → Reaches goes_on
-reaches {p = p} ts goes = record { ts = ts; p = p; goes = goes }
+reaches : {goes_on : List Token → Items → Type 0} (p : Items) (ts : List Token) → goes_on ts p → Reaches goes_on
+reaches p ts goes = record { ts = ts; p = p; goes = goes }
 
 abbrev pub ItemsEnd : Items → BehindItems → Type 0
 ItemsEnd a k = Reaches (Goes.ItemsGoes a k)
@@ -92,8 +92,8 @@ pub record Ends (goes_on : List Token → Items → Type 0) : Type 0 where
   pub quiet : Quiet ts
   pub goes : goes_on ts p
 
-ends : {goes_on : List Token → Items → Type 0} {p : Items} (ts : List Token) → Quiet ts → goes_on ts p → Ends goes_on
-ends {p = p} ts quiet goes = record { ts = ts; p = p; quiet = quiet; goes = goes }
+ends : {goes_on : List Token → Items → Type 0} (p : Items) (ts : List Token) → Quiet ts → goes_on ts p → Ends goes_on
+ends p ts quiet goes = record { ts = ts; p = p; quiet = quiet; goes = goes }
 
 -- and at whose first a list has ended
 pub record Closes (may_end : List Token → Type 0) (goes_on : List Token → Items → Type 0) : Type 0 where
@@ -103,27 +103,27 @@ pub record Closes (may_end : List Token → Type 0) (goes_on : List Token → It
   pub last : may_end ts
   pub goes : goes_on ts p
 
-closes : {may_end : List Token → Type 0} {goes_on : List Token → Items → Type 0} {p : Items} (ts : List Token) →
+closes : {may_end : List Token → Type 0} {goes_on : List Token → Items → Type 0} (p : Items) (ts : List Token) →
     Quiet ts → may_end ts → goes_on ts p → Closes may_end goes_on
-closes {p = p} ts quiet last goes = record { ts = ts; p = p; quiet = quiet; last = last; goes = goes }
+closes p ts quiet last goes = record { ts = ts; p = p; quiet = quiet; last = last; goes = goes }
 
 pub end_items : (k : BehindItems) (a : Items) → ItemsEnd a k
-end_items in_program a = reaches [] (Goes.goes_program no_statement)
+end_items in_program a = reaches _ [] (Goes.goes_program no_statement)
 end_items (in_group d k) a =
     let r = end_items k a in
-    reaches (sign CloseCurly here ∷ r.ts) (Goes.goes_group no_statement r.goes)
+    reaches _ (sign CloseCurly here ∷ r.ts) (Goes.goes_group no_statement r.goes)
 end_items (module_body at w all outer k) a =
     let r = end_items k (with_item outer (module_of at w all a)) in
-    reaches r.ts (Goes.goes_module r.goes)
+    reaches _ r.ts (Goes.goes_module r.goes)
 end_items (child_of at m w all outer k) a =
     let r = end_items k (with_statement m outer (call_of at m.percent m.hash w all a)) in
-    reaches r.ts (Goes.goes_child r.goes)
+    reaches _ r.ts (Goes.goes_child r.goes)
 end_items (held_child at m e outer k) a =
     let r = end_items k (with_statement m outer (choice at m.percent m.hash e a no_items)) in
-    reaches (key Else here ∷ sign Semicolon here ∷ r.ts) (Goes.goes_held (otherwise no_child) r.goes)
+    reaches _ (key Else here ∷ sign Semicolon here ∷ r.ts) (Goes.goes_held (otherwise no_child) r.goes)
 end_items (other_child at m e held outer k) a =
     let r = end_items k (with_statement m outer (choice at m.percent m.hash e held a)) in
-    reaches r.ts (Goes.goes_other r.goes)
+    reaches _ r.ts (Goes.goes_other r.goes)
 
 abbrev pub ParametersEnd : List Parameter → BehindParameters → Type 0
 ParametersEnd all k = Closes (λ ts. MoreParams all ts ts all) (Goes.ParametersGoes all k)
@@ -131,10 +131,10 @@ ParametersEnd all k = Closes (λ ts. MoreParams all ts ts all) (Goes.ParametersG
 pub end_parameters : (k : BehindParameters) (all : List Parameter) → ParametersEnd all k
 end_parameters (defined a_module at w a k) all =
     let r = end_items k (with_item a (module_of at w all no_items)) in
-    closes (sign CloseRound here ∷ sign Semicolon here ∷ r.ts) quiet_round last_param (Goes.goes_defined nothing r.goes)
+    closes _ (sign CloseRound here ∷ sign Semicolon here ∷ r.ts) quiet_round last_param (Goes.goes_defined nothing r.goes)
 end_parameters (defined a_function at w a k) all =
     let r = end_items k (with_item a (function_of at w all zero_tree)) in
-    closes (sign CloseRound here ∷ sign Assign here ∷ zero_token ∷ sign Semicolon here ∷ r.ts) quiet_round
+    closes _ (sign CloseRound here ∷ sign Assign here ∷ zero_token ∷ sign Semicolon here ∷ r.ts) quiet_round
     last_param (Goes.goes_function (zero_expr quiet_semicolon) r.goes)
 
 abbrev pub OperandEnd : Expression → BehindOperand → Type 0
@@ -153,112 +153,112 @@ mutual
   pub end_operand : (k : BehindOperand) (e : Expression) → OperandEnd e k
   end_operand (prefixed at op k) e =
       let r = end_operand k (unary at op e) in
-      ends r.ts r.quiet (Goes.goes_prefixed r.goes)
+      ends _ r.ts r.quiet (Goes.goes_prefixed r.goes)
   end_operand (first_of n k) e =
       let r = end_operand k e in
-      ends r.ts r.quiet (Goes.goes_first (quiet_links n e r.quiet) r.goes)
+      ends _ r.ts r.quiet (Goes.goes_first (quiet_links n e r.quiet) r.goes)
   end_operand (right_of n count a op at k) e =
       let r = end_operand k (binary at op a e) in
-      ends r.ts r.quiet (Goes.goes_right (quiet_links n (binary at op a e) r.quiet) r.goes)
+      ends _ r.ts r.quiet (Goes.goes_right (quiet_links n (binary at op a e) r.quiet) r.goes)
   end_operand (tested k) e =
       let r = end_expression k e in
-      ends r.ts r.quiet (Goes.goes_tested (no_choice (quiet_question r.quiet)) r.goes)
+      ends _ r.ts r.quiet (Goes.goes_tested (no_choice (quiet_question r.quiet)) r.goes)
 
   pub end_expression : (k : BehindExpression) (e : Expression) → ExpressionEnd e k
   end_expression (in_round k) e =
       let r = end_operand k e in
-      ends (sign CloseRound here ∷ r.ts) quiet_round (Goes.goes_round (quiet_posts e r.quiet) r.goes)
+      ends _ (sign CloseRound here ∷ r.ts) quiet_round (Goes.goes_round (quiet_posts e r.quiet) r.goes)
   end_expression (in_index at a count k) e =
       let r = end_operand k (index at a e) in
-      ends (sign CloseSquare here ∷ r.ts) quiet_square (Goes.goes_index (quiet_posts (index at a e) r.quiet) r.goes)
+      ends _ (sign CloseSquare here ∷ r.ts) quiet_square (Goes.goes_index (quiet_posts (index at a e) r.quiet) r.goes)
   end_expression (chosen at a k) e =
       let r = end_expression k (choose at a e zero_tree) in
-      ends (sign Colon here ∷ zero_token ∷ r.ts) quiet_colon (Goes.goes_chosen (zero_expr r.quiet) r.goes)
+      ends _ (sign Colon here ∷ zero_token ∷ r.ts) quiet_colon (Goes.goes_chosen (zero_expr r.quiet) r.goes)
   end_expression (other at a b k) e =
       let r = end_expression k (choose at a b e) in
-      ends r.ts r.quiet (Goes.goes_last r.goes)
+      ends _ r.ts r.quiet (Goes.goes_last r.goes)
   end_expression (body_of what at all k) e =
       let r = end_expression k (keyed_tree what at all e) in
-      ends r.ts r.quiet (Goes.goes_body r.goes)
+      ends _ r.ts r.quiet (Goes.goes_body r.goes)
   end_expression (argument_of o a k) e =
       let r = end_arguments k (with_argument a o e) in
-      ends r.ts r.quiet (Goes.goes_argument r.last r.goes)
-  end_expression (plain_item k) e = let r = end_element k (item e) in ends r.ts r.quiet (Goes.goes_item r.goes)
+      ends _ r.ts r.quiet (Goes.goes_argument r.last r.goes)
+  end_expression (plain_item k) e = let r = end_element k (item e) in ends _ r.ts r.quiet (Goes.goes_item r.goes)
   end_expression (range_second at a k) e =
       let r = end_operand k (range at a e) in
-      ends (sign CloseSquare here ∷ r.ts) quiet_square
+      ends _ (sign CloseSquare here ∷ r.ts) quiet_square
       (Goes.goes_second two_parts (quiet_posts (range at a e) r.quiet) r.goes)
   end_expression (range_third at a b k) e =
       let r = end_operand k (stepped at a b e) in
-      ends (sign CloseSquare here ∷ r.ts) quiet_square (Goes.goes_third (quiet_posts (stepped at a b e) r.quiet) r.goes)
+      ends _ (sign CloseSquare here ∷ r.ts) quiet_square (Goes.goes_third (quiet_posts (stepped at a b e) r.quiet) r.goes)
   end_expression (loop_test at all k) e =
       let r = end_element k (for_loop at all e no_arguments (item zero_tree)) in
-      ends (sign Semicolon here ∷ sign CloseRound here ∷ zero_token ∷ r.ts) quiet_semicolon
+      ends _ (sign Semicolon here ∷ sign CloseRound here ∷ zero_token ∷ r.ts) quiet_semicolon
       (Goes.goes_loop (no_args refl) (plain (zero_expr r.quiet)) r.goes)
   end_expression (element_test at k) e =
       let r = end_element k (if_else at e (item zero_tree) (item zero_tree)) in
-      ends (sign CloseRound here ∷ zero_token ∷ key Else here ∷ zero_token ∷ r.ts) quiet_round
+      ends _ (sign CloseRound here ∷ zero_token ∷ key Else here ∷ zero_token ∷ r.ts) quiet_round
       (Goes.goes_test (plain (zero_expr quiet_else)) (an_else (plain (zero_expr r.quiet))) r.goes)
   end_expression (default_of w a k) e =
       let r = end_parameters k (with_parameter a w (Some e)) in
-      ends r.ts r.quiet (Goes.goes_default r.last r.goes)
+      ends _ r.ts r.quiet (Goes.goes_default r.last r.goes)
   end_expression (assigned_to at w a k) e =
       let r = end_items k (with_item a (assignment at w e)) in
-      ends (sign Semicolon here ∷ r.ts) quiet_semicolon (Goes.goes_assigned r.goes)
+      ends _ (sign Semicolon here ∷ r.ts) quiet_semicolon (Goes.goes_assigned r.goes)
   end_expression (function_body at w all a k) e =
       let r = end_items k (with_item a (function_of at w all e)) in
-      ends (sign Semicolon here ∷ r.ts) quiet_semicolon (Goes.goes_result r.goes)
+      ends _ (sign Semicolon here ∷ r.ts) quiet_semicolon (Goes.goes_result r.goes)
   end_expression (statement_test at m a k) e =
       let r = end_items k (with_statement m a (choice at m.percent m.hash e no_items no_items)) in
-      ends (sign CloseRound here ∷ sign Semicolon here ∷ key Else here ∷ sign Semicolon here ∷ r.ts) quiet_round
+      ends _ (sign CloseRound here ∷ sign Semicolon here ∷ key Else here ∷ sign Semicolon here ∷ r.ts) quiet_round
       (Goes.goes_choice no_child (otherwise no_child) r.goes)
 
   pub end_element : (k : BehindElement) (el : Element) → ElementEnd el k
   end_element (in_vector at a k) el =
       let r = end_operand k (vector at (with_element a el)) in
-      ends (sign CloseSquare here ∷ r.ts) quiet_square
+      ends _ (sign CloseSquare here ∷ r.ts) quiet_square
       (Goes.goes_member last_elem (quiet_posts (vector at (with_element a el)) r.quiet) r.goes)
   end_element (each_of at k) el =
       let r = end_element k (each at el) in
-      ends r.ts r.quiet (Goes.goes_each r.goes)
+      ends _ r.ts r.quiet (Goes.goes_each r.goes)
   end_element (for_of at all k) el =
       let r = end_element k (for_each at all el) in
-      ends r.ts r.quiet (Goes.goes_for r.goes)
+      ends _ r.ts r.quiet (Goes.goes_for r.goes)
   end_element (loop_of at starts e steps k) el =
       let r = end_element k (for_loop at starts e steps el) in
-      ends r.ts r.quiet (Goes.goes_turns r.goes)
+      ends _ r.ts r.quiet (Goes.goes_turns r.goes)
   end_element (let_body at all k) el =
       let r = end_element k (let_of at all el) in
-      ends r.ts r.quiet (Goes.goes_let r.goes)
+      ends _ r.ts r.quiet (Goes.goes_let r.goes)
   end_element (held_element at e k) el =
       let r = end_element k (if_else at e el (item zero_tree)) in
-      ends (key Else here ∷ zero_token ∷ r.ts) quiet_else (Goes.goes_if (an_else (plain (zero_expr r.quiet))) r.goes)
+      ends _ (key Else here ∷ zero_token ∷ r.ts) quiet_else (Goes.goes_if (an_else (plain (zero_expr r.quiet))) r.goes)
   end_element (other_element at e held k) el =
       let r = end_element k (if_else at e held el) in
-      ends r.ts r.quiet (Goes.goes_else r.goes)
+      ends _ r.ts r.quiet (Goes.goes_else r.goes)
 
   pub end_arguments : (k : BehindArguments) (all : Arguments) → ArgumentsEnd all k
   end_arguments (of_call at w k) all =
       let r = end_operand k (call at w all) in
-      closes (sign CloseRound here ∷ r.ts) quiet_round (last_arg refl)
+      closes _ (sign CloseRound here ∷ r.ts) quiet_round (last_arg refl)
       (Goes.goes_call (quiet_posts (call at w all) r.quiet) r.goes)
   end_arguments (of_keyed what at k) all =
       let r = end_expression k (keyed_tree what at all zero_tree) in
-      closes (sign CloseRound here ∷ zero_token ∷ r.ts) quiet_round (last_arg refl)
+      closes _ (sign CloseRound here ∷ zero_token ∷ r.ts) quiet_round (last_arg refl)
       (Goes.goes_keyed (zero_expr r.quiet) r.goes)
   end_arguments (of_for at k) all =
       let r = end_element k (for_each at all (item zero_tree)) in
-      closes (sign CloseRound here ∷ zero_token ∷ r.ts) quiet_round (last_arg refl)
+      closes _ (sign CloseRound here ∷ zero_token ∷ r.ts) quiet_round (last_arg refl)
       (Goes.goes_for_each (plain (zero_expr r.quiet)) r.goes)
   end_arguments (of_steps at starts e k) all =
       let r = end_element k (for_loop at starts e all (item zero_tree)) in
-      closes (sign CloseRound here ∷ zero_token ∷ r.ts) quiet_round (last_arg refl)
+      closes _ (sign CloseRound here ∷ zero_token ∷ r.ts) quiet_round (last_arg refl)
       (Goes.goes_steps (plain (zero_expr r.quiet)) r.goes)
   end_arguments (of_let at k) all =
       let r = end_element k (let_of at all (item zero_tree)) in
-      closes (sign CloseRound here ∷ zero_token ∷ r.ts) quiet_round (last_arg refl)
+      closes _ (sign CloseRound here ∷ zero_token ∷ r.ts) quiet_round (last_arg refl)
       (Goes.goes_let_args (plain (zero_expr r.quiet)) r.goes)
   end_arguments (of_statement at m w a k) all =
       let r = end_items k (with_statement m a (call_of at m.percent m.hash w all no_items)) in
-      closes (sign CloseRound here ∷ sign Semicolon here ∷ r.ts) quiet_round (last_arg refl)
+      closes _ (sign CloseRound here ∷ sign Semicolon here ∷ r.ts) quiet_round (last_arg refl)
       (Goes.goes_statement no_child r.goes)
