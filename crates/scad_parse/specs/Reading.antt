@@ -14,12 +14,12 @@ use Rattle.scad_parse.specs.declared.fault.ParseFault.{ParseFault}
 use Rattle.scad_parse.specs.declared.fault.ParseFault.TheVariants.{Memory, Syntax, Nesting, LeftOut}
 use Rattle.scad_parse.specs.declared.operator.Binder.{Binder}
 use Rattle.scad_parse.specs.declared.operator.Binder.TheVariants.{Let, Assert, Echo}
-use Rattle.scad_parse.specs.Behind.{Keyed, letting, asserting, echoing, BehindOperand, BehindExpression, BehindElement, BehindArguments, open_operand, open_expression, open_element, open_arguments}
-use Rattle.scad_parse.specs.Lists.{with_argument}
-use Rattle.scad_parse.specs.State.{State, open_count}
-use Rattle.scad_parse.specs.Tokens.{word_of, is_sign, is_key}
-use Rattle.scad_parse.specs.Steps.{literal, only, after_expression, end_arguments}
-use Rattle.scad_parse.specs.Machine.{Refusal, syntax_at, nesting_at, left_out_at, step, finish, outcome}
+use Rattle.scad_grammar.specs.Behind.{Keyed, letting, asserting, echoing, BehindOperand, BehindExpression, BehindElement, BehindArguments, open_operand, open_expression, open_element, open_arguments}
+use Rattle.scad_grammar.specs.Lists.{with_argument}
+use Rattle.scad_grammar.specs.State.{State, open_count}
+use Rattle.scad_grammar.specs.Tokens.{word_of, is_sign, is_key}
+use Rattle.scad_grammar.specs.Steps.{literal, only, after_expression, end_arguments}
+use Rattle.scad_grammar.specs.Machine.{Refusal, syntax_at, nesting_at, left_out_at, step, finish, outcome}
 
 -- the place of the first token, or that behind the text
 abbrev pub place_of : Place → List Token → Place
@@ -37,7 +37,8 @@ first_word (t ∷ ts) = word_of t
 
 -- the prefix operator that a token is
 abbrev pub prefix_of : Token → Option UnOp
-prefix_of t = if is_sign Bang t then Some Not else (if is_sign Plus t then Some UnaryPlus else (if is_sign Minus t then Some UnaryMinus else None))
+prefix_of t = if is_sign Bang t then Some Not
+    else (if is_sign Plus t then Some UnaryPlus else (if is_sign Minus t then Some UnaryMinus else None))
 
 abbrev pub first_prefix : List Token → Option UnOp
 first_prefix [] = None
@@ -45,7 +46,8 @@ first_prefix (t ∷ ts) = prefix_of t
 
 -- the keyword before an expression that a token is
 abbrev pub binder_of : Token → Option Binder
-binder_of t = if is_key KeyLet t then Some Let else (if is_key KeyAssert t then Some Assert else (if is_key KeyEcho t then Some Echo else None))
+binder_of t = if is_key KeyLet t then Some Let
+    else (if is_key KeyAssert t then Some Assert else (if is_key KeyEcho t then Some Echo else None))
 
 abbrev pub first_binder : List Token → Option Binder
 first_binder [] = None
@@ -75,7 +77,8 @@ Refuses found (LeftOut at name) = found ≡ Err (left_out_at at name)
 
 -- the descent and the reader of tokens go from one state behind these tokens to another one behind the rest
 abbrev pub Reads : {K : Type 0} → (K → ℕ) → (K → State) → (K → State) → ℕ → List Token → List Token → Place → Type 0
-Reads {K} opens from to depth ts rest end = (k : K) → opens k ≡ depth → outcome (from k) ts end ≡ outcome (to k) rest end
+Reads {K} opens from to depth ts rest end = (k : K) → opens k ≡ depth → outcome (from k) ts end
+    ≡ outcome (to k) rest end
 
 -- the reader of tokens refuses so, from this state on
 abbrev pub Stops : {K : Type 0} → (K → ℕ) → (K → State) → ℕ → List Token → Place → ParseFault → Type 0

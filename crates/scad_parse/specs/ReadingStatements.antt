@@ -8,12 +8,12 @@ use Rattle.scad_ast.specs.Tree.{Expression, Parameter, Items, no_items}
 use Rattle.scad_ast.specs.View.{expression_of}
 use Rattle.scad_ast.specs.declared.statement.Param.{Param}
 use Rattle.scad_parse.specs.declared.mark.Marked.{Marked}
-use Rattle.scad_parse.specs.Tokens.{begins_with, begins_with_key}
-use Rattle.scad_parse.specs.Lists.{with_parameter, Marks, no_marks, starred, percented, hashed}
-use Rattle.scad_parse.specs.Behind.{Defined, a_module, a_function, BehindItems, module_body, BehindParameters, open_items, open_parameters}
-use Rattle.scad_parse.specs.State.{State, want_statement, want_marked, want_assign}
-use Rattle.scad_parse.specs.StatementSteps.{callee}
-use Rattle.scad_parse.specs.Machine.{Refusal, left_out_at, outcome}
+use Rattle.scad_grammar.specs.Tokens.{begins_with, begins_with_key}
+use Rattle.scad_grammar.specs.Lists.{with_parameter, Marks, no_marks, starred, percented, hashed}
+use Rattle.scad_grammar.specs.Behind.{Defined, a_module, a_function, BehindItems, module_body, BehindParameters, open_items, open_parameters}
+use Rattle.scad_grammar.specs.State.{State, want_statement, want_marked, want_assign}
+use Rattle.scad_grammar.specs.StatementSteps.{callee}
+use Rattle.scad_grammar.specs.Machine.{Refusal, left_out_at, outcome}
 use Rattle.scad_parse.specs.Reading.{place_of}
 
 -- the marks that stand before a statement
@@ -22,11 +22,13 @@ marks_of m = record { star = m.star; percent = m.percent; hash = m.hash }
 
 -- the tokens begin with a mark
 abbrev pub begins_with_mark : List Token → Bool
-begins_with_mark ts = if begins_with Star ts then true else (if begins_with Percent ts then true else begins_with Hash ts)
+begins_with_mark ts = if begins_with Star ts then true
+    else (if begins_with Percent ts then true else begins_with Hash ts)
 
 -- the marks and the one with which the tokens begin
 abbrev pub with_first_mark : Marks → List Token → Marks
-with_first_mark m ts = if begins_with Star ts then starred m else (if begins_with Percent ts then percented m else hashed m)
+with_first_mark m ts = if begins_with Star ts then starred m
+    else (if begins_with Percent ts then percented m else hashed m)
 
 -- the name that a call calls
 abbrev pub first_callee : List Token → Option (List ℕ)

@@ -3,8 +3,8 @@
 ghost use Rattle.std.specs.Prelude.{◌≡◌, ◌<◌, ◌≤◌, length, MatchResult, true, false};
 ghost use Rattle.scad_ast.specs.Tree.{no_arguments};
 ghost use Rattle.scad_ast.specs.View.{arguments};
-ghost use Rattle.scad_parse.specs.Grammar.{at_end_of_arguments};
-ghost use Rattle.scad_parse.specs.State.{want_arguments, in_arguments, after_argument, have_arguments};
+ghost use Rattle.scad_grammar.specs.Grammar.{at_end_of_arguments};
+ghost use Rattle.scad_grammar.specs.State.{want_arguments, in_arguments, after_argument, have_arguments};
 ghost use Rattle.scad_parse.specs.Reading.{Reads, Stops, open_closing_arguments, open_before_arguments, open_in_arguments, open_members, with_arg};
 
 use crate::expression::expression;
@@ -27,7 +27,8 @@ pub(crate) fn round_arguments<'a>(
     requires { depth ≤ 200 }
     ensures { MatchResult result
         (λ r. (length r.1.now < length ts.now)
-        × Reads open_before_arguments (λ q. want_arguments q.behind) (λ q. q.next (arguments r.0.items)) depth ts.now r.1.now «end»)
+        × Reads open_before_arguments (λ q. want_arguments q.behind) (λ q. q.next (arguments r.0.items)) depth
+        ts.now r.1.now «end»)
         (Stops open_before_arguments (λ q. want_arguments q.behind) depth ts.now «end») }
 {
     let inner = match entered(ts, end, depth) {
@@ -52,7 +53,8 @@ pub(crate) fn closed_arguments<'a>(
     requires { depth ≤ 200 }
     ensures { MatchResult result
         (λ r. (length r.1.now < length ts.now)
-        × Reads open_closing_arguments (λ q. in_arguments no_arguments q.behind) (λ q. q.next (arguments r.0.items)) depth ts.now r.1.now «end»)
+        × Reads open_closing_arguments (λ q. in_arguments no_arguments q.behind)
+        (λ q. q.next (arguments r.0.items)) depth ts.now r.1.now «end»)
         (Stops open_closing_arguments (λ q. in_arguments no_arguments q.behind) depth ts.now «end») }
 {
     let args = match arguments(alloc, ts, end, depth) {
@@ -111,7 +113,8 @@ fn argument<'a>(
     requires some { at_end_of_arguments ts.now ≡ false }
     ensures { MatchResult result
         (λ r. (length r.1.now < length ts.now)
-        × Reads open_members (λ m. in_arguments m.all m.behind) (λ m. after_argument (with_arg m.all r.0) m.behind) depth ts.now r.1.now «end»)
+        × Reads open_members (λ m. in_arguments m.all m.behind)
+        (λ m. after_argument (with_arg m.all r.0) m.behind) depth ts.now r.1.now «end»)
         (Stops open_members (λ m. in_arguments m.all m.behind) depth ts.now «end») }
 {
     if is_named(ts) {

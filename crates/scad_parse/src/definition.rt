@@ -2,11 +2,11 @@
 
 ghost use Rattle.std.specs.Prelude.{◌≡◌, ◌+◌, ◌<◌, ◌≤◌, length, MatchResult, IfOk, map, [], Bool, true, false};
 ghost use Rattle.scad_ast.specs.Scope.{item_of, items, parameter};
-ghost use Rattle.scad_parse.specs.Tokens.{begins_with, begins_with_key};
-ghost use Rattle.scad_parse.specs.Grammar.{begins_named};
-ghost use Rattle.scad_parse.specs.Lists.{with_item};
-ghost use Rattle.scad_parse.specs.Behind.{open_items};
-ghost use Rattle.scad_parse.specs.State.{want_statement, have_items, want_defined, in_parameters, have_parameter, after_parameter, have_parameters};
+ghost use Rattle.scad_grammar.specs.Tokens.{begins_with, begins_with_key};
+ghost use Rattle.scad_grammar.specs.Grammar.{begins_named};
+ghost use Rattle.scad_grammar.specs.Lists.{with_item};
+ghost use Rattle.scad_grammar.specs.Behind.{open_items};
+ghost use Rattle.scad_grammar.specs.State.{want_statement, have_items, want_defined, in_parameters, have_parameter, after_parameter, have_parameters};
 ghost use Rattle.scad_parse.specs.Reading.{Reads, Stops};
 ghost use Rattle.scad_parse.specs.ReadingStatements.{Parametered, Heading, open_in_parameters, open_parametered, with_param, open_heading, headed};
 
@@ -113,7 +113,8 @@ pub(crate) fn heading<'a>(
     requires { depth ≤ 200 }
     ensures { MatchResult result
         (λ r. (length r.2.now < length ts.now)
-        × Reads open_heading (λ q. want_defined q.what q.at q.all q.behind) (λ q. headed q.what q.at r.0 (map parameter r.1.items) q.all q.behind) depth ts.now r.2.now «end»)
+        × Reads open_heading (λ q. want_defined q.what q.at q.all q.behind)
+        (λ q. headed q.what q.at r.0 (map parameter r.1.items) q.all q.behind) depth ts.now r.2.now «end»)
         (Stops open_heading (λ q. want_defined q.what q.at q.all q.behind) depth ts.now «end») }
 {
     let name = match expect_word(alloc, ts, end) {
@@ -174,7 +175,8 @@ fn named_parameter<'a>(
     requires some { begins_with Sign.CloseRound ts.now ≡ false }
     ensures { MatchResult result
         (λ r. (length r.1.now < length ts.now)
-        × Reads open_parametered (λ m. in_parameters m.all m.behind) (λ m. after_parameter (with_param m.all r.0) m.behind) depth ts.now r.1.now «end»)
+        × Reads open_parametered (λ m. in_parameters m.all m.behind)
+        (λ m. after_parameter (with_param m.all r.0) m.behind) depth ts.now r.1.now «end»)
         (Stops open_parametered (λ m. in_parameters m.all m.behind) depth ts.now «end») }
 {
     let name = match expect_word(alloc, ts, end) {
@@ -199,7 +201,8 @@ fn with_default<'a>(
     requires { depth ≤ 200 }
     ensures { MatchResult result
         (λ r. (length r.1.now ≤ length ts.now)
-        × Reads open_parametered (λ m. have_parameter name m.all m.behind) (λ m. after_parameter (with_param m.all r.0) m.behind) depth ts.now r.1.now «end»)
+        × Reads open_parametered (λ m. have_parameter name m.all m.behind)
+        (λ m. after_parameter (with_param m.all r.0) m.behind) depth ts.now r.1.now «end»)
         (Stops open_parametered (λ m. have_parameter name m.all m.behind) depth ts.now «end») }
 {
     if is_sign(Sign::Assign, ts) {
@@ -220,7 +223,8 @@ fn behind_parameter<'a>(ts: &'a [Token], end: Place, depth: u32) -> Result<&'a [
     requires { depth ≤ 200 }
     ensures { MatchResult result
         (λ rest. (length rest.now ≤ length ts.now)
-        × Reads open_parametered (λ m. after_parameter m.all m.behind) (λ m. in_parameters m.all m.behind) depth ts.now rest.now «end»)
+        × Reads open_parametered (λ m. after_parameter m.all m.behind) (λ m. in_parameters m.all m.behind) depth
+        ts.now rest.now «end»)
         (λ fault. Stops open_parametered (λ m. after_parameter m.all m.behind) depth ts.now «end» fault) }
 {
     if is_sign(Sign::Comma, ts) {

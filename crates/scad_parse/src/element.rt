@@ -2,11 +2,11 @@
 
 ghost use Rattle.std.specs.Prelude.{◌≡◌, ◌+◌, ◌<◌, ◌≤◌, length, MatchResult, true, false};
 ghost use Rattle.scad_ast.specs.View.{expression_of, arguments, element_of};
-ghost use Rattle.scad_parse.specs.Tokens.{begins_with, begins_with_key};
-ghost use Rattle.scad_parse.specs.Grammar.{at_end_of_arguments};
-ghost use Rattle.scad_parse.specs.State.{have_arguments, want_element, have_element};
+ghost use Rattle.scad_grammar.specs.Tokens.{begins_with, begins_with_key};
+ghost use Rattle.scad_grammar.specs.Grammar.{at_end_of_arguments};
+ghost use Rattle.scad_grammar.specs.State.{have_arguments, want_element, have_element};
 ghost use Rattle.scad_parse.specs.Reading.{Reads, Stops, open_in_element};
-ghost use Rattle.scad_parse.specs.Behind.{held_element, of_for, open_element};
+ghost use Rattle.scad_grammar.specs.Behind.{held_element, of_for, open_element};
 
 use crate::argument::{arguments, closed_arguments, round_arguments};
 use crate::expression::{closed, expression};
@@ -178,8 +178,10 @@ fn otherwise<'a>(
     requires { depth ≤ 200 }
     ensures { MatchResult result
         (λ r. (length r.1.now ≤ length ts.now)
-        × Reads open_in_element (λ k. have_element (element_of held) (held_element at (expression_of test) k)) (have_element (element_of r.0)) depth ts.now r.1.now «end»)
-        (Stops open_in_element (λ k. have_element (element_of held) (held_element at (expression_of test) k)) depth ts.now «end») }
+        × Reads open_in_element (λ k. have_element (element_of held) (held_element at (expression_of test) k))
+        (have_element (element_of r.0)) depth ts.now r.1.now «end»)
+        (Stops open_in_element (λ k. have_element (element_of held) (held_element at (expression_of test) k))
+        depth ts.now «end») }
 {
     if is_key(Key::Else, ts) {
         let inner = match opened(depth, place(ts, end)) {
@@ -269,7 +271,8 @@ fn for_loop<'a>(
     requires more { begins_with Sign.CloseRound ts.now ≡ false }
     ensures { MatchResult result
         (λ r. (length r.1.now < length ts.now)
-        × Reads open_in_element (λ k. have_arguments (arguments init.items) (of_for at k)) (have_element (element_of r.0)) depth ts.now r.1.now «end»)
+        × Reads open_in_element (λ k. have_arguments (arguments init.items) (of_for at k))
+        (have_element (element_of r.0)) depth ts.now r.1.now «end»)
         (Stops open_in_element (λ k. have_arguments (arguments init.items) (of_for at k)) depth ts.now «end») }
 {
     let test = match closed(alloc, Sign::Semicolon, behind(ts), end, within) {

@@ -3,9 +3,9 @@
 
 ghost use Rattle.std.specs.Prelude.{◌≡◌, ◌<◌, ◌≤◌, length, MatchResult, Some, None, true, false};
 ghost use Rattle.scad_ast.specs.View.{expression_of};
-ghost use Rattle.scad_parse.specs.Tokens.{begins_with, begins_with_key};
-ghost use Rattle.scad_parse.specs.Behind.{tested, open_expression};
-ghost use Rattle.scad_parse.specs.State.{want_expression, have_expression, have_operand};
+ghost use Rattle.scad_grammar.specs.Tokens.{begins_with, begins_with_key};
+ghost use Rattle.scad_grammar.specs.Behind.{tested, open_expression};
+ghost use Rattle.scad_grammar.specs.State.{want_expression, have_expression, have_operand};
 ghost use Rattle.scad_parse.specs.Reading.{Reads, Stops, first_binder, open_closing};
 
 use crate::argument::round_arguments;
@@ -125,7 +125,8 @@ fn chosen<'a>(
     requires question { begins_with Sign.Question ts.now ≡ true }
     ensures { MatchResult result
         (λ r. (length r.1.now < length ts.now)
-        × Reads open_expression (λ k. have_operand (expression_of test) (tested k)) (have_expression (expression_of r.0)) depth ts.now r.1.now «end»)
+        × Reads open_expression (λ k. have_operand (expression_of test) (tested k))
+        (have_expression (expression_of r.0)) depth ts.now r.1.now «end»)
         (Stops open_expression (λ k. have_operand (expression_of test) (tested k)) depth ts.now «end») }
 {
     let at = place(ts, end);
@@ -160,7 +161,8 @@ pub(crate) fn closed<'a>(
     requires { depth ≤ 200 }
     ensures { MatchResult result
         (λ r. (length r.1.now < length ts.now)
-        × Reads (open_closing {s = sign}) (λ q. want_expression q.behind) (λ q. q.next (expression_of r.0)) depth ts.now r.1.now «end»)
+        × Reads (open_closing {s = sign}) (λ q. want_expression q.behind) (λ q. q.next (expression_of r.0)) depth
+        ts.now r.1.now «end»)
         (Stops (open_closing {s = sign}) (λ q. want_expression q.behind) depth ts.now «end») }
 {
     let value = match expression(alloc, ts, end, depth) {

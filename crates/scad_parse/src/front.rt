@@ -1,8 +1,8 @@
 //! The token that stands at the front of what is left.
 
 ghost use Rattle.std.specs.Prelude.{◌≡◌, ◌≢◌, ◌<◌, ◌≤◌, length, Some, None, true, false, is_some, IfOk, IfErr, MatchResult};
-ghost use Rattle.scad_parse.specs.Tokens.{sign_number, key_number, is_sign_kind, is_key_kind, word_kind, begins_with, begins_with_key};
-ghost use Rattle.scad_parse.specs.Grammar.{begins_named, at_end_of_arguments, ends_arguments_kind};
+ghost use Rattle.scad_grammar.specs.Tokens.{sign_number, key_number, is_sign_kind, is_key_kind, word_kind, begins_with, begins_with_key};
+ghost use Rattle.scad_grammar.specs.Grammar.{begins_named, at_end_of_arguments, ends_arguments_kind};
 ghost use Rattle.scad_parse.specs.Reading.{place_of, behind, first_word};
 
 use crate::fault::ParseFault;
@@ -104,8 +104,10 @@ pub(crate) fn first_word(alloc: Global, ts: &[Token]) -> Result<Option<Text>, Al
 
 /// What stands behind the sign, which is to come.
 pub(crate) fn expect<'a>(sign: Sign, ts: &'a [Token], end: Place) -> Result<&'a [Token], ParseFault>
-    ensures found { IfOk result (λ rest. (begins_with sign ts.now ≡ true) × (rest.now ≡ behind ts.now) × (length rest.now < length ts.now)) }
-    ensures missing { IfErr result (λ fault. (begins_with sign ts.now ≡ false) × (fault ≡ ParseFault.Syntax (place_of «end» ts.now))) }
+    ensures found { IfOk result (λ rest. (begins_with sign ts.now ≡ true) × (rest.now ≡ behind ts.now)
+        × (length rest.now < length ts.now)) }
+    ensures missing { IfErr result (λ fault. (begins_with sign ts.now ≡ false)
+        × (fault ≡ ParseFault.Syntax (place_of «end» ts.now))) }
 {
     if is_sign(sign, ts) {
         Ok(behind(ts))
@@ -117,7 +119,8 @@ pub(crate) fn expect<'a>(sign: Sign, ts: &'a [Token], end: Place) -> Result<&'a 
 /// The word that is to come.
 pub(crate) fn expect_word(alloc: Global, ts: &[Token], end: Place) -> Result<Text, ParseFault>
     ensures found { IfOk result (λ word. first_word ts.now ≡ Some word) }
-    ensures missing { IfErr result (λ fault. fault ≢ ParseFault.Memory → (first_word ts.now ≡ None) × (fault ≡ ParseFault.Syntax (place_of «end» ts.now))) }
+    ensures missing { IfErr result (λ fault. fault ≢ ParseFault.Memory → (first_word ts.now ≡ None)
+        × (fault ≡ ParseFault.Syntax (place_of «end» ts.now))) }
 {
     match first_word(alloc, ts)? {
         Some(word) => Ok(word),

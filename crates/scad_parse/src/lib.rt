@@ -1,27 +1,31 @@
-//! The grammar of OpenSCAD source: the syntax tree of a list of tokens.
+//! The descent that builds the syntax tree of a list of tokens.
 //! The contract gives exactly the program that the tokens derive, or the first token with a fault.
 #![tactic(auto)]
 
-mod argument;
+// the answers
+mod fault;
+
+// a program, its statements and definitions
 mod definition;
 mod descent;
+mod instance;
+mod mark;
+mod statement;
+
+// expressions, from the loosest operator to what stands alone
+mod argument;
 mod element;
 mod expression;
-mod fault;
-mod front;
-pub mod laws;
-mod mark;
-mod nesting;
 mod node;
 mod operand;
 mod operator;
 mod primary;
-mod reading;
-mod statement;
 mod vector;
+
+// what all of them use: signs, the limit, the token at the front
+mod front;
+mod nesting;
+mod reading;
 
 pub use descent::parse;
 pub use fault::ParseFault;
-
-#[cfg(test)]
-mod sources;

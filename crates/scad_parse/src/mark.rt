@@ -1,8 +1,8 @@
 //! The marks before a statement, and the name that a call begins with.
 
 ghost use Rattle.std.specs.Prelude.{◌≡◌, Bool, true, false, Some, None, IfOk};
-ghost use Rattle.scad_parse.specs.Lists.{no_marks};
-ghost use Rattle.scad_parse.specs.StatementSteps.{callee_kind};
+ghost use Rattle.scad_grammar.specs.Lists.{no_marks};
+ghost use Rattle.scad_grammar.specs.StatementSteps.{callee_kind};
 ghost use Rattle.scad_parse.specs.ReadingStatements.{marks_of, begins_with_mark, with_first_mark, first_callee};
 ghost use Rattle.scad_lex.specs.declared.token.TokenKind.TheVariants.{Key as KeyKind};
 

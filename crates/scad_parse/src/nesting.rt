@@ -12,7 +12,8 @@ const LIMIT: u32 = 200;
 
 /// The number of open constructs when the token at this place opens one more.
 pub(crate) fn opened(depth: u32, at: Place) -> Result<u32, ParseFault>
-    ensures { MatchResult result (λ more. (more ≡ depth + 1) × (depth < 200)) (λ e. (e ≡ ParseFault.Nesting at) × (200 ≤ depth)) }
+    ensures { MatchResult result (λ more. (more ≡ depth + 1) × (depth < 200)) (λ e. (e ≡ ParseFault.Nesting at)
+        × (200 ≤ depth)) }
 {
     if depth < LIMIT {
         Ok(depth + 1)

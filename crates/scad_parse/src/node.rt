@@ -3,8 +3,8 @@
 ghost use Rattle.std.specs.Prelude.{◌≡◌, IfOk};
 ghost use Rattle.scad_ast.specs.Tree.{number as number_tree, name as name_tree, call as call_tree, vector as vector_tree, string, unary, binary, choose, index, member, range, stepped, each, for_each, for_loop, if_element, if_else};
 ghost use Rattle.scad_ast.specs.View.{expression_of, element_of, arguments, elements};
-ghost use Rattle.scad_parse.specs.Behind.{keyed_tree};
-ghost use Rattle.scad_parse.specs.Lists.{let_of};
+ghost use Rattle.scad_grammar.specs.Behind.{keyed_tree};
+ghost use Rattle.scad_grammar.specs.Lists.{let_of};
 ghost use Rattle.scad_parse.specs.Reading.{keyed};
 
 use crate::operator::Binder;
@@ -93,7 +93,8 @@ pub(crate) fn choose(
     chosen: Expr,
     other: Expr,
 ) -> Result<Expr, AllocError>
-    ensures { IfOk result (λ e. expression_of e ≡ choose at (expression_of test) (expression_of chosen) (expression_of other)) }
+    ensures { IfOk result (λ e. expression_of e
+        ≡ choose at (expression_of test) (expression_of chosen) (expression_of other)) }
 {
     let test = Box::new(alloc, test)?;
     let chosen = Box::new(alloc, chosen)?;
@@ -132,7 +133,8 @@ pub(crate) fn bound(
     args: Args,
     body: Expr,
 ) -> Result<Expr, AllocError>
-    ensures { IfOk result (λ e. expression_of e ≡ keyed_tree (keyed binder) at (arguments args.items) (expression_of body)) }
+    ensures { IfOk result (λ e. expression_of e
+        ≡ keyed_tree (keyed binder) at (arguments args.items) (expression_of body)) }
 {
     let body = Box::new(alloc, body)?;
     match binder {
@@ -171,7 +173,8 @@ pub(crate) fn stepped(
     step: Expr,
     last: Expr,
 ) -> Result<Expr, AllocError>
-    ensures { IfOk result (λ e. expression_of e ≡ stepped at (expression_of start) (expression_of step) (expression_of last)) }
+    ensures { IfOk result (λ e. expression_of e
+        ≡ stepped at (expression_of start) (expression_of step) (expression_of last)) }
 {
     let start = Box::new(alloc, start)?;
     let step = Box::new(alloc, step)?;
@@ -204,7 +207,8 @@ pub(crate) fn for_loop(
     step: Args,
     e: Elem,
 ) -> Result<Elem, AllocError>
-    ensures { IfOk result (λ node. element_of node ≡ for_loop at (arguments init.items) (expression_of test) (arguments step.items) (element_of e)) }
+    ensures { IfOk result (λ node. element_of node
+        ≡ for_loop at (arguments init.items) (expression_of test) (arguments step.items) (element_of e)) }
 {
     let e = Box::new(alloc, e)?;
     Ok(Elem::Loop(init, test, step, e, at))
@@ -242,7 +246,8 @@ pub(crate) fn if_else(
     held: Elem,
     other: Elem,
 ) -> Result<Elem, AllocError>
-    ensures { IfOk result (λ node. element_of node ≡ if_else at (expression_of test) (element_of held) (element_of other)) }
+    ensures { IfOk result (λ node. element_of node
+        ≡ if_else at (expression_of test) (element_of held) (element_of other)) }
 {
     let held = Box::new(alloc, held)?;
     let other = Box::new(alloc, other)?;

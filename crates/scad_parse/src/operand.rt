@@ -2,9 +2,9 @@
 
 ghost use Rattle.std.specs.Prelude.{◌≡◌, suc, ◌+◌, ◌<◌, ◌≤◌, length, MatchResult, Some, true, false};
 ghost use Rattle.scad_ast.specs.View.{expression_of};
-ghost use Rattle.scad_parse.specs.Tokens.{begins_with};
-ghost use Rattle.scad_parse.specs.Behind.{open_operand};
-ghost use Rattle.scad_parse.specs.State.{want_operand, have_operand, want_unary, have_links, have_post};
+ghost use Rattle.scad_grammar.specs.Tokens.{begins_with};
+ghost use Rattle.scad_grammar.specs.Behind.{open_operand};
+ghost use Rattle.scad_grammar.specs.State.{want_operand, have_operand, want_unary, have_links, have_post};
 ghost use Rattle.scad_parse.specs.Reading.{Reads, Stops, first_prefix, open_counted};
 
 use crate::expression::closed;
@@ -71,7 +71,8 @@ fn operands<'a>(
     requires lines { line < 6 }
     ensures { MatchResult result
         (λ r. (length r.1.now ≤ length ts.now)
-        × Reads open_counted (λ c. have_links line c.count (expression_of left) c.behind) (λ c. have_operand (expression_of r.0) c.behind) depth ts.now r.1.now «end»)
+        × Reads open_counted (λ c. have_links line c.count (expression_of left) c.behind)
+        (λ c. have_operand (expression_of r.0) c.behind) depth ts.now r.1.now «end»)
         (Stops open_counted (λ c. have_links line c.count (expression_of left) c.behind) depth ts.now «end») }
 {
     match first_operator(line, ts) {
@@ -173,7 +174,8 @@ fn postfix<'a>(
     requires { depth ≤ 200 }
     ensures { MatchResult result
         (λ r. (length r.1.now ≤ length ts.now)
-        × Reads open_counted (λ c. have_post c.count (expression_of value) c.behind) (λ c. have_operand (expression_of r.0) c.behind) depth ts.now r.1.now «end»)
+        × Reads open_counted (λ c. have_post c.count (expression_of value) c.behind)
+        (λ c. have_operand (expression_of r.0) c.behind) depth ts.now r.1.now «end»)
         (Stops open_counted (λ c. have_post c.count (expression_of value) c.behind) depth ts.now «end») }
 {
     if is_sign(Sign::OpenSquare, ts) {
@@ -217,7 +219,8 @@ fn indexed<'a>(
     requires bracket { begins_with Sign.OpenSquare ts.now ≡ true }
     ensures { MatchResult result
         (λ r. (r.0 ≡ depth + 1) × (r.0 ≤ 200) × (length r.2.now < length ts.now)
-        × Reads open_counted (λ c. have_post c.count (expression_of value) c.behind) (λ c. have_post (suc c.count) (expression_of r.1) c.behind) depth ts.now r.2.now «end»)
+        × Reads open_counted (λ c. have_post c.count (expression_of value) c.behind)
+        (λ c. have_post (suc c.count) (expression_of r.1) c.behind) depth ts.now r.2.now «end»)
         (Stops open_counted (λ c. have_post c.count (expression_of value) c.behind) depth ts.now «end») }
 {
     let at = place(ts, end);
@@ -253,7 +256,8 @@ fn member<'a>(
     requires dot { begins_with Sign.Dot ts.now ≡ true }
     ensures { MatchResult result
         (λ r. (r.0 ≡ depth + 1) × (r.0 ≤ 200) × (length r.2.now < length ts.now)
-        × Reads open_counted (λ c. have_post c.count (expression_of value) c.behind) (λ c. have_post (suc c.count) (expression_of r.1) c.behind) depth ts.now r.2.now «end»)
+        × Reads open_counted (λ c. have_post c.count (expression_of value) c.behind)
+        (λ c. have_post (suc c.count) (expression_of r.1) c.behind) depth ts.now r.2.now «end»)
         (Stops open_counted (λ c. have_post c.count (expression_of value) c.behind) depth ts.now «end») }
 {
     let at = place(ts, end);

@@ -2,8 +2,8 @@
 
 ghost use Rattle.std.specs.Prelude.{◌≡◌, Some, None, option_map, IfOk};
 ghost use Rattle.scad_ast.specs.View.{expression_of};
-ghost use Rattle.scad_parse.specs.Tokens.{operator_sign, on_line, line_of, operator_kind, first_operator};
-ghost use Rattle.scad_parse.specs.Steps.{literal_kind};
+ghost use Rattle.scad_grammar.specs.Tokens.{operator_sign, on_line, line_of, operator_kind, first_operator};
+ghost use Rattle.scad_grammar.specs.Steps.{literal_kind};
 ghost use Rattle.scad_parse.specs.Reading.{first_prefix, first_binder, first_literal};
 ghost use Rattle.scad_lex.specs.declared.token.TokenKind.TheVariants.{Key as KeyKind};
 

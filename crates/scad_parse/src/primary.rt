@@ -2,9 +2,9 @@
 
 ghost use Rattle.std.specs.Prelude.{◌≡◌, ◌<◌, ◌≤◌, length, MatchResult, None, true, false};
 ghost use Rattle.scad_ast.specs.View.{expression_of};
-ghost use Rattle.scad_parse.specs.Tokens.{begins_with};
-ghost use Rattle.scad_parse.specs.Behind.{open_operand};
-ghost use Rattle.scad_parse.specs.State.{want_unary, have_post, have_name};
+ghost use Rattle.scad_grammar.specs.Tokens.{begins_with};
+ghost use Rattle.scad_grammar.specs.Behind.{open_operand};
+ghost use Rattle.scad_grammar.specs.State.{want_unary, have_post, have_name};
 ghost use Rattle.scad_parse.specs.Reading.{Reads, Stops, first_prefix, first_literal};
 
 use crate::argument::closed_arguments;

@@ -1,13 +1,13 @@
 //! Where one sign may stand alone, and what stands between the members of a list.
 
 ghost use Rattle.std.specs.Prelude.{◌≡◌, ◌+◌, ◌<◌, ◌≤◌, length, MatchResult, None, true};
-ghost use Rattle.scad_parse.specs.Tokens.{begins_with};
-ghost use Rattle.scad_parse.specs.Behind.{in_vector};
-ghost use Rattle.scad_parse.specs.Lists.{with_element};
-ghost use Rattle.scad_parse.specs.State.{after_argument, in_arguments, have_element, in_elements};
-ghost use Rattle.scad_parse.specs.Steps.{range_start};
+ghost use Rattle.scad_grammar.specs.Tokens.{begins_with};
+ghost use Rattle.scad_grammar.specs.Behind.{in_vector};
+ghost use Rattle.scad_grammar.specs.Lists.{with_element};
+ghost use Rattle.scad_grammar.specs.State.{after_argument, in_arguments, have_element, in_elements};
+ghost use Rattle.scad_grammar.specs.Steps.{range_start};
 ghost use Rattle.scad_parse.specs.Reading.{Reads, Stops, Refuses, Listed, open_entering, open_members, open_listed};
-ghost use Rattle.scad_parse.specs.Machine.{outcome};
+ghost use Rattle.scad_grammar.specs.Machine.{outcome};
 
 use crate::fault::ParseFault;
 use crate::front::{behind, expect, is_end_of_arguments, is_sign, place};
@@ -45,7 +45,8 @@ pub(crate) fn behind_argument<'a>(
     requires { depth ≤ 200 }
     ensures { MatchResult result
         (λ rest. (length rest.now ≤ length ts.now)
-        × Reads open_members (λ m. after_argument m.all m.behind) (λ m. in_arguments m.all m.behind) depth ts.now rest.now «end»)
+        × Reads open_members (λ m. after_argument m.all m.behind) (λ m. in_arguments m.all m.behind) depth ts.now
+        rest.now «end»)
         (λ fault. Stops open_members (λ m. after_argument m.all m.behind) depth ts.now «end» fault) }
 {
     if is_sign(Sign::Comma, ts) {
@@ -66,7 +67,8 @@ pub(crate) fn behind_element<'a>(
     requires { depth ≤ 200 }
     ensures { MatchResult result
         (λ rest. (length rest.now ≤ length ts.now)
-        × Reads open_listed (λ m. have_element m.last (in_vector m.at m.all m.behind)) (λ m. in_elements m.at (with_element m.all m.last) m.behind) depth ts.now rest.now «end»)
+        × Reads open_listed (λ m. have_element m.last (in_vector m.at m.all m.behind))
+        (λ m. in_elements m.at (with_element m.all m.last) m.behind) depth ts.now rest.now «end»)
         (λ fault. (m : Listed) → open_listed m ≡ depth
         → (begins_with Sign.Colon ts.now ≡ true → range_start m.all m.last ≡ None)
         → Refuses (outcome (have_element m.last (in_vector m.at m.all m.behind)) ts.now «end») fault) }

@@ -2,12 +2,12 @@
 
 ghost use Rattle.std.specs.Prelude.{◌≡◌, ◌<◌, ◌≤◌, length, MatchResult, None, true, false, option_map};
 ghost use Rattle.scad_ast.specs.View.{expression_of, element_of};
-ghost use Rattle.scad_parse.specs.Tokens.{begins_with};
-ghost use Rattle.scad_parse.specs.Behind.{open_operand, in_vector};
-ghost use Rattle.scad_parse.specs.State.{want_unary, have_post, have_element, in_elements};
+ghost use Rattle.scad_grammar.specs.Tokens.{begins_with};
+ghost use Rattle.scad_grammar.specs.Behind.{open_operand, in_vector};
+ghost use Rattle.scad_grammar.specs.State.{want_unary, have_post, have_element, in_elements};
 ghost use Rattle.scad_parse.specs.Reading.{Reads, Stops, first_prefix, open_in_brackets};
 ghost use Rattle.scad_ast.specs.Tree.{no_elements, item};
-ghost use Rattle.scad_parse.specs.Steps.{range_start};
+ghost use Rattle.scad_grammar.specs.Steps.{range_start};
 
 use crate::element::element;
 use crate::expression::{closed, expression};
@@ -116,8 +116,10 @@ fn range<'a>(
     requires colon { begins_with Sign.Colon ts.now ≡ true }
     ensures { MatchResult result
         (λ r. (length r.1.now < length ts.now)
-        × Reads open_in_brackets (λ k. have_element (item (expression_of start)) (in_vector at no_elements k)) (have_post 0 (expression_of r.0)) depth ts.now r.1.now «end»)
-        (Stops open_in_brackets (λ k. have_element (item (expression_of start)) (in_vector at no_elements k)) depth ts.now «end») }
+        × Reads open_in_brackets (λ k. have_element (item (expression_of start)) (in_vector at no_elements k))
+        (have_post 0 (expression_of r.0)) depth ts.now r.1.now «end»)
+        (Stops open_in_brackets (λ k. have_element (item (expression_of start)) (in_vector at no_elements k))
+        depth ts.now «end») }
 {
     let second = match expression(alloc, behind(ts), end, depth) {
         Ok(second) => second,
@@ -161,8 +163,10 @@ fn vector<'a>(
     requires no_colon { begins_with Sign.Colon ts.now ≡ false }
     ensures { MatchResult result
         (λ r. (length r.1.now < length ts.now)
-        × Reads open_in_brackets (λ k. have_element (element_of first) (in_vector at no_elements k)) (have_post 0 (expression_of r.0)) depth ts.now r.1.now «end»)
-        (Stops open_in_brackets (λ k. have_element (element_of first) (in_vector at no_elements k)) depth ts.now «end») }
+        × Reads open_in_brackets (λ k. have_element (element_of first) (in_vector at no_elements k))
+        (have_post 0 (expression_of r.0)) depth ts.now r.1.now «end»)
+        (Stops open_in_brackets (λ k. have_element (element_of first) (in_vector at no_elements k)) depth ts.now
+        «end») }
 {
     let mut elems = Elems::new(alloc);
     match elems.push(first) {

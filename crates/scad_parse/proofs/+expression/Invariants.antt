@@ -1,9 +1,9 @@
 use Rattle.std.proofs.Common.{◌≡◌, ◌+◌, ◌*◌, ◌≤◌, length, None}
 use Rattle.scad_ast.specs.Tree.{no_arguments, no_elements, Element}
 use Rattle.scad_ast.specs.View.{arguments, elements, element_of}
-use Rattle.scad_parse.specs.Behind.{in_vector}
-use Rattle.scad_parse.specs.State.{in_arguments, have_element, in_elements}
-use Rattle.scad_parse.specs.Steps.{range_start}
+use Rattle.scad_grammar.specs.Behind.{in_vector}
+use Rattle.scad_grammar.specs.State.{in_arguments, have_element, in_elements}
+use Rattle.scad_grammar.specs.Steps.{range_start}
 use Rattle.scad_parse.specs.Reading.{Reads, open_in_arguments, open_in_brackets}
 use Rattle.scad_parse.proofs.+expression.Given as goal
 
@@ -100,7 +100,8 @@ decreases-vector::vector l = 16 * length l.ts.now + 13
 abbrev pub invariant-argument::arguments-members : goal.invariant-argument::arguments-members
 invariant-argument::arguments-members l =
     (length l.left ≤ length l.fn.ts)
-    × Reads open_in_arguments (in_arguments no_arguments) (in_arguments (arguments l.args.items)) l.depth l.fn.ts l.left l.end
+    × Reads open_in_arguments (in_arguments no_arguments) (in_arguments (arguments l.args.items)) l.depth l.fn.ts
+    l.left l.end
 
 abbrev pub decreases-argument::arguments-members : goal.decreases-argument::arguments-members
 decreases-argument::arguments-members l = length l.left
@@ -108,7 +109,8 @@ decreases-argument::arguments-members l = length l.left
 abbrev pub invariant-vector::vector-members : goal.invariant-vector::vector-members
 invariant-vector::vector-members l =
     (length l.left ≤ length l.fn.ts)
-    × Reads open_in_brackets (λ k. have_element (element_of l.fn.first) (in_vector l.at no_elements k)) (in_elements l.at (elements l.elems.items)) l.depth l.fn.ts l.left l.end
+    × Reads open_in_brackets (λ k. have_element (element_of l.fn.first) (in_vector l.at no_elements k))
+    (in_elements l.at (elements l.elems.items)) l.depth l.fn.ts l.left l.end
     × ((el : Element) → range_start (elements l.elems.items) el ≡ None)
 
 abbrev pub decreases-vector::vector-members : goal.decreases-vector::vector-members

@@ -1,9 +1,9 @@
 use Rattle.std.proofs.Common.{◌≡◌, ◌∙◌, sym, ap, arith}
 use Rattle.std.specs.Prelude.{Err}
-use Rattle.scad_parse.specs.State.{in_parameters}
-use Rattle.scad_parse.specs.Machine.{outcome, syntax_at}
-use Rattle.scad_parse.proofs.Outcomes.{may, shorter}
-use Rattle.scad_parse.proofs.DescentParameters.{parameter_comma, parameter_ends, parameter_stuck}
+use Rattle.scad_grammar.specs.State.{in_parameters}
+use Rattle.scad_grammar.specs.Machine.{outcome, syntax_at}
+use Rattle.scad_parse.proofs.reader.Outcomes.{may, shorter}
+use Rattle.scad_parse.proofs.reader.Parameters.{parameter_comma, parameter_ends, parameter_stuck}
 use Rattle.scad_parse.proofs.definition.behind_parameter.Goals as goal
 
 pub returns-then-is_sign : goal.returns-then-is_sign
@@ -17,10 +17,14 @@ returns-then-is_sign c =
     )
 
 pub returns-then-is_sign-2 : goal.returns-then-is_sign-2
-returns-then-is_sign-2 c =
-    (omega arith, λ m h. parameter_ends m.all m.behind c.args.ts.now c.args.end (sym c.is_sign.ensures ∙ c.if-is_sign.false) (sym c.is_sign-else-is_sign.ensures ∙ c.if-is_sign-2.true))
+returns-then-is_sign-2 c = (
+  omega arith,
+  λ m h. parameter_ends m.all m.behind c.args.ts.now c.args.end (sym c.is_sign.ensures
+      ∙ c.if-is_sign.false) (sym c.is_sign-else-is_sign.ensures ∙ c.if-is_sign-2.true),
+)
 
 pub returns-else-is_sign-2 : goal.returns-else-is_sign-2
 returns-else-is_sign-2 c = λ m h.
-    parameter_stuck m.all m.behind c.args.ts.now c.args.end (sym c.is_sign.ensures ∙ c.if-is_sign.false) (sym c.is_sign-else-is_sign.ensures ∙ c.if-is_sign-2.false)
+    parameter_stuck m.all m.behind c.args.ts.now c.args.end (sym c.is_sign.ensures
+    ∙ c.if-is_sign.false) (sym c.is_sign-else-is_sign.ensures ∙ c.if-is_sign-2.false)
     ∙ ap (λ p. Err (syntax_at p)) (sym c.place.ensures)

@@ -1,13 +1,15 @@
 use Rattle.std.proofs.Common.{◌≡◌, ◌∙◌, sym, ap, refl, arith}
-use Rattle.scad_parse.specs.State.{have_parameter}
-use Rattle.scad_parse.specs.Machine.{outcome}
-use Rattle.scad_parse.proofs.Outcomes.{may, refused_by, syntax_as, behind_word}
-use Rattle.scad_parse.proofs.DescentParameters.{parameter_here, no_parameter, or_memory}
+use Rattle.scad_grammar.specs.State.{have_parameter}
+use Rattle.scad_grammar.specs.Machine.{outcome}
+use Rattle.scad_parse.proofs.reader.Outcomes.{may, refused_by, syntax_as, behind_word}
+use Rattle.scad_parse.proofs.reader.Parameters.{parameter_here, no_parameter, or_memory}
 use Rattle.scad_parse.proofs.definition.named_parameter.Goals as goal
 
 pub returns-in-Err : goal.returns-in-Err
 returns-in-Err c = λ m h.
-    or_memory _ c.in-Err.fault (λ n. syntax_as (no_parameter m.all m.behind c.args.ts.now c.args.end c.requires.some (c.in-Err.ensures.missing n).0) (c.in-Err.ensures.missing n).1 refl)
+    or_memory _ c.in-Err.fault
+    (λ n. syntax_as (no_parameter m.all m.behind c.args.ts.now c.args.end c.requires.some
+    (c.in-Err.ensures.missing n).0) (c.in-Err.ensures.missing n).1 refl)
 
 pub returns-in-Err-with_default : goal.returns-in-Err-with_default
 returns-in-Err-with_default c = λ m h.

@@ -1,6 +1,6 @@
 use Rattle.std.proofs.Common.{◌≡◌, ◌∙◌, ap}
 use Rattle.scad_ast.specs.Scope.{items}
-use Rattle.scad_parse.proofs.DescentStatements.{items_push}
+use Rattle.scad_parse.proofs.reader.Statements.{items_push}
 use Rattle.scad_parse.proofs.definition.pushed.Goals as goal
 
 pub returns-in-Ok : goal.returns-in-Ok

@@ -1,10 +1,10 @@
 use Rattle.std.proofs.Common.{◌≡◌, ◌∙◌, sym, ap, refl, arith}
 use Rattle.scad_ast.specs.View.{expression_of}
-use Rattle.scad_parse.specs.Behind.{default_of}
-use Rattle.scad_parse.specs.State.{want_expression}
-use Rattle.scad_parse.specs.Machine.{outcome}
-use Rattle.scad_parse.proofs.Outcomes.{may, refused_by, shorter}
-use Rattle.scad_parse.proofs.DescentParameters.{default_here, default_done, no_default}
+use Rattle.scad_grammar.specs.Behind.{default_of}
+use Rattle.scad_grammar.specs.State.{want_expression}
+use Rattle.scad_grammar.specs.Machine.{outcome}
+use Rattle.scad_parse.proofs.reader.Outcomes.{may, refused_by, shorter}
+use Rattle.scad_parse.proofs.reader.Parameters.{default_here, default_done, no_default}
 use Rattle.scad_parse.proofs.definition.with_default.Goals as goal
 
 pub returns-in-Err : goal.returns-in-Err
@@ -30,5 +30,8 @@ returns-in-Ok c =
     )
 
 pub returns-else-is_sign : goal.returns-else-is_sign
-returns-else-is_sign c =
-    (omega arith, λ m h. no_default c.args.name m.all m.behind c.args.ts.now c.args.end (sym c.is_sign.ensures ∙ c.if-is_sign.false))
+returns-else-is_sign c = (
+  omega arith,
+  λ m h. no_default c.args.name m.all m.behind c.args.ts.now c.args.end (sym c.is_sign.ensures
+      ∙ c.if-is_sign.false),
+)

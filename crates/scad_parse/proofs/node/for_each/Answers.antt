@@ -5,4 +5,5 @@ use Rattle.scad_ast.proofs.Rows.{for_view}
 use Rattle.scad_parse.proofs.node.for_each.Goals as goal
 
 pub returns : goal.returns
-returns c = for_view c.args.args c.in_ok-e.e c.args.at ∙ ap (λ e. for_each c.args.at (arguments c.args.args.items) (element_of e)) c.in_ok-e.ensures.ok
+returns c = for_view c.args.args c.in_ok-e.e c.args.at
+    ∙ ap (λ e. for_each c.args.at (arguments c.args.args.items) (element_of e)) c.in_ok-e.ensures.ok

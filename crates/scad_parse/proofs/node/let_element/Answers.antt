@@ -5,11 +5,12 @@ use Rattle.scad_ast.specs.declared.expression.Elem.{Elem, Item, Item', Each', Fo
 use Rattle.scad_ast.specs.Tree.{Arguments, let_element}
 use Rattle.scad_ast.specs.View.{arguments, element_of}
 use Rattle.scad_ast.proofs.Rows.{let_element_view}
-use Rattle.scad_parse.specs.Lists.{let_of}
+use Rattle.scad_grammar.specs.Lists.{let_of}
 use Rattle.scad_parse.proofs.node.let_element.Goals as goal
 
 -- an element that is no expression
-no_item : (e : Elem) (at : Place) (all : Arguments) → ((x : Expr) → e ≡ Item x → ⊥) → let_element at all (element_of e) ≡ let_of at all (element_of e)
+no_item : (e : Elem) (at : Place) (all : Arguments) → ((x : Expr) → e ≡ Item x → ⊥) →
+    let_element at all (element_of e) ≡ let_of at all (element_of e)
 no_item (Item' a n) at all h = absurd (h (record { at = a; node = n }) refl)
 no_item (Each' p e at') at all h = refl
 no_item (For' shape row p e at') at all h = refl

@@ -1,9 +1,9 @@
 use Rattle.std.proofs.Common.{◌≡◌, ◌∙◌, sym, ap, subst, arith}
 use Rattle.std.specs.Prelude.{Err}
-use Rattle.scad_parse.specs.State.{after_argument, in_arguments}
-use Rattle.scad_parse.specs.Machine.{outcome, syntax_at}
-use Rattle.scad_parse.proofs.Outcomes.{may, shorter}
-use Rattle.scad_parse.proofs.DescentArguments.{comma_here, member_ends, member_stuck}
+use Rattle.scad_grammar.specs.State.{after_argument, in_arguments}
+use Rattle.scad_grammar.specs.Machine.{outcome, syntax_at}
+use Rattle.scad_parse.proofs.reader.Outcomes.{may, shorter}
+use Rattle.scad_parse.proofs.reader.Arguments.{comma_here, member_ends, member_stuck}
 use Rattle.scad_parse.proofs.reading.behind_argument.Goals as goal
 
 pub returns-then-is_sign : goal.returns-then-is_sign
@@ -17,10 +17,14 @@ returns-then-is_sign c =
     )
 
 pub returns-then-is_end_of_arguments : goal.returns-then-is_end_of_arguments
-returns-then-is_end_of_arguments c =
-    (omega arith, λ m h. member_ends m.all m.behind c.args.ts.now c.args.end (sym c.is_sign.ensures ∙ c.if-is_sign.false) (sym c.is_end_of_arguments.ensures ∙ c.if-is_end_of_arguments.true))
+returns-then-is_end_of_arguments c = (
+  omega arith,
+  λ m h. member_ends m.all m.behind c.args.ts.now c.args.end (sym c.is_sign.ensures
+      ∙ c.if-is_sign.false) (sym c.is_end_of_arguments.ensures ∙ c.if-is_end_of_arguments.true),
+)
 
 pub returns-else-is_end_of_arguments : goal.returns-else-is_end_of_arguments
 returns-else-is_end_of_arguments c = λ m h.
-    member_stuck m.all m.behind c.args.ts.now c.args.end (sym c.is_sign.ensures ∙ c.if-is_sign.false) (sym c.is_end_of_arguments.ensures ∙ c.if-is_end_of_arguments.false)
+    member_stuck m.all m.behind c.args.ts.now c.args.end (sym c.is_sign.ensures
+    ∙ c.if-is_sign.false) (sym c.is_end_of_arguments.ensures ∙ c.if-is_end_of_arguments.false)
     ∙ ap (λ p. Err (syntax_at p)) (sym c.place.ensures)

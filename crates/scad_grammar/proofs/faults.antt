@@ -1,0 +1,6 @@
+-- The forms that are left out, and the one answer that tokens have.
+pub mod Faults
+pub mod Foreign
+pub mod Forms
+pub mod Leaves
+pub mod Standins

@@ -1,5 +1,0 @@
-use Rattle.scad_parse.proofs.Unique.{ends_exclude_nothing}
-use Rattle.scad_parse.proofs.laws.ends_exclude_nothing.Goals as goal
-
-pub returns : goal.returns
-returns c = ends_exclude_nothing

@@ -1,5 +1,0 @@
-use Rattle.scad_parse.proofs.Unique.{judges_as_the_grammar}
-use Rattle.scad_parse.proofs.laws.judges_as_the_grammar.Goals as goal
-
-pub returns : goal.returns
-returns c = judges_as_the_grammar

@@ -1,8 +1,0 @@
-use Rattle.scad_parse.proofs.Unique.{printed_text_derives, printed_source_derives}
-use Rattle.scad_parse.proofs.laws.printed_text_derives.Goals as goal
-
-pub returns-clause-tokens : goal.returns-clause-tokens
-returns-clause-tokens c = printed_text_derives
-
-pub returns-clause-source : goal.returns-clause-source
-returns-clause-source c = printed_source_derives

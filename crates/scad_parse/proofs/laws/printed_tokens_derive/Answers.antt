@@ -1,5 +1,0 @@
-use Rattle.scad_parse.proofs.Unique.{printed_tokens_derive}
-use Rattle.scad_parse.proofs.laws.printed_tokens_derive.Goals as goal
-
-pub returns : goal.returns
-returns c = printed_tokens_derive

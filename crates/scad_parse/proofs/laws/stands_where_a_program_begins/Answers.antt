@@ -1,5 +1,0 @@
-use Rattle.scad_parse.proofs.Unique.{stands_where_a_program_begins}
-use Rattle.scad_parse.proofs.laws.stands_where_a_program_begins.Goals as goal
-
-pub returns : goal.returns
-returns c = stands_where_a_program_begins
