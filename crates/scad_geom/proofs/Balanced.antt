@@ -1,5 +1,6 @@
 -- How many segments start and end at a point, segment by segment, and of whole edges at whole points.
-use Rattle.std.proofs.Common.{◌≡◌, ℕ, ◌+◌, Bool, true, false, cond, ◌&&◌, List, [], ◌∷◌, refl, sym, ap, ap₂, ◌∙◌, arith}
+use Rattle.std.proofs.Common.{◌≡◌, ℕ, ◌+◌, Bool, cond, ◌&&◌, List, [], ◌∷◌, refl, sym, ap, ap₂, ◌∙◌, arith}
+use Rattle.std.proofs.Math.Bool.{and_comm}
 use lib.IntN.{ℤ, pos, ◌*ℤ◌}
 use Rattle.std.specs.Prelude.{count_by}
 use Rattle.std.specs.Ordering.{int_eq}
@@ -25,17 +26,11 @@ ends-cons p s ss = sum_by-cons (λ x. once (is_same_point p x.to)) s ss
 abbrev pub same_place : Pt → Pt → Bool
 same_place p q = int_eq p.x q.x && int_eq p.y q.y
 
-same_whole : (p q : Pt) → is_same_point (whole p) (whole q) ≡ same_place p q
-same_whole p q = rw (one p.x, one p.y, one q.x, one q.y) (swap (int_eq p.y q.y) (int_eq p.x q.x))
+pub same_whole : (p q : Pt) → is_same_point (whole p) (whole q) ≡ same_place p q
+same_whole p q = rw (one p.x, one p.y, one q.x, one q.y) (and_comm (int_eq p.y q.y) (int_eq p.x q.x))
   where
     one : (z : ℤ) → z *ℤ pos 1 ≡ z
     one z = omega (arith, ints)
-
-    swap : (a b : Bool) → (a && b) ≡ (b && a)
-    swap true true = refl
-    swap true false = refl
-    swap false true = refl
-    swap false false = refl
 
 pub whole_starts : (p : Pt) (es : List Edge) → starts_at (whole p) (segments es) ≡ count_by (λ e. same_place p e.a) es
 whole_starts p [] = refl

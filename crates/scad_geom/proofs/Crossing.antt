@@ -1,16 +1,19 @@
--- Crossings of whole edges, over doubled coordinates.
+-- Crossings of edges and rays, in whole numbers over one divisor.
 use Rattle.std.proofs.Common.{List, [], ◌∷◌, ℤ, pos, ◌+ℤ◌, ◌-ℤ◌, ◌*ℤ◌}
 use Rattle.std.specs.Prelude.{int_lt, if◌then◌else◌}
 use Rattle.scad_geom.specs.declared.point.Pt.{Pt}
 use Rattle.scad_geom.specs.declared.point.Edge.{Edge}
 use Rattle.scad_geom.specs.Winding.{counted}
 
--- an edge with both ends doubled
-abbrev pub doubled_point : Pt → Pt
-doubled_point p = record { x = pos 2 *ℤ p.x; y = pos 2 *ℤ p.y }
+-- an edge with all coordinates times a number
+abbrev pub times_point : ℤ → Pt → Pt
+times_point k p = record { x = k *ℤ p.x; y = k *ℤ p.y }
+
+abbrev pub scaled : ℤ → Edge → Edge
+scaled k e = record { a = times_point k e.a; b = times_point k e.b }
 
 abbrev pub doubled_edge : Edge → Edge
-doubled_edge e = record { a = doubled_point e.a; b = doubled_point e.b }
+doubled_edge e = scaled (pos 2) e
 
 -- how an edge passes a height
 abbrev pub passage : Edge → ℤ → ℤ

@@ -1,5 +1,6 @@
 -- The winding number of a square's outline, by the tests on which it depends.
 use Rattle.std.proofs.Common.{◌≡◌, ◌≢◌, ℕ, ◌*◌, Bool, true, false, not, ◌&&◌, if◌then◌else◌}
+use Rattle.scad_base.proofs.Integers.{minus_self, zero_minus}
 use Rattle.std.proofs.Common.{ℤ, pos, negsuc, ◌+ℤ◌, ◌-ℤ◌, ◌*ℤ◌, neg_ℤ, int_lt, ◌<ℤ◌, refl, ◌∙◌, arith}
 use Rattle.std.proofs.lemmas.Int.{ints}
 use Rattle.std.proofs.Math.IntN.{zero-*ℤ, neg_ℤ-neg_ℤ, ℤ_discrete}
@@ -11,7 +12,7 @@ use Rattle.scad_geom.specs.Half.{doubled}
 use Rattle.scad_geom.specs.Winding.{wind, counted}
 use Rattle.scad_geom.specs.Loop.{sides}
 use Rattle.scad_geom.specs.Square.{square, square_wind, IsStrictlyWithin, IsCentreInside, SquareWindsOnce}
-use Rattle.scad_geom.proofs.Signs.{sub-self, sub-zero, zero-sub, one-mul, minus_one-mul}
+use Rattle.scad_geom.proofs.Signs.{sub-zero, one-mul, minus_one-mul}
 use Rattle.scad_geom.proofs.Integers.{neg_mul}
 use Rattle.scad_geom.proofs.Crossing.{side_of, crossings}
 use Rattle.scad_geom.proofs.Doubled.{wind_halves}
@@ -25,11 +26,11 @@ abbrev left_side : ℤ → Edge
 left_side k = record { a = record { x = pos 0; y = k }; b = record { x = pos 0; y = pos 0 } }
 
 right_area : (k x y : ℤ) → pos 1 *ℤ side_of (right_side k) x y ≡ neg_ℤ (k *ℤ (x -ℤ k))
-right_area k x y = rw (one-mul, sub-self k, sub-zero k, zero-*ℤ, zero-sub)
+right_area k x y = rw (one-mul, minus_self k, sub-zero k, zero-*ℤ, zero_minus)
 
 left_area : (k x y : ℤ) → negsuc 0 *ℤ side_of (left_side k) x y ≡ neg_ℤ (k *ℤ x)
 left_area k x y =
-    rw (zero-*ℤ, zero-sub, minus_one-mul, zero-sub k, sub-zero x, neg_ℤ-neg_ℤ (neg_ℤ k *ℤ x), neg_mul k x)
+    rw (zero-*ℤ, zero_minus, minus_one-mul, zero_minus k, sub-zero x, neg_ℤ-neg_ℤ (neg_ℤ k *ℤ x), neg_mul k x)
 
 -- each lies right of the point exactly where the point's x is less than its own
 right_is_right : (k x y : ℤ) → pos 0 <ℤ k →

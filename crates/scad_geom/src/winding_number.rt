@@ -155,4 +155,27 @@ mod tests {
         }
         assert_eq!(rt; winding(&[], Pt { x: 0, y: 0 }, Half::Cell), 0);
     }
+
+    #[test]
+    fn widest_edges_are_counted_exactly(rt: HostRuntime) {
+        const FAR: i32 = 1_100_000;
+        let diagonal = [Edge {
+            a: Pt { x: -FAR, y: -FAR },
+            b: Pt { x: FAR, y: FAR },
+        }];
+        for (x, y, half, turns) in [
+            (FAR - 1, FAR - 1, Half::Whole, 0),
+            (FAR - 2, FAR - 1, Half::Cell, 1),
+            (FAR - 1, FAR - 1, Half::Cell, 0),
+            (-FAR, -FAR, Half::Whole, 0),
+            (-FAR, 1 - FAR, Half::Whole, 1),
+            (-FAR, FAR, Half::Whole, 0),
+        ] {
+            assert_eq!(rt;
+                winding(&diagonal, Pt { x, y }, half),
+                turns,
+                "at {x}, {y}, {half:?}"
+            );
+        }
+    }
 }

@@ -1,0 +1,5 @@
+pub mod Integers
+pub mod Lists
+pub mod Memories
+pub mod Products
+pub mod Tests

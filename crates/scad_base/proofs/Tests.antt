@@ -1,0 +1,25 @@
+-- What tests of whole numbers tell, and choices that don't matter.
+use Rattle.std.proofs.Common.{◌≡◌, ℤ, Bool, true, false, cond, refl, arith, ◌<ℤ◌, int_lt}
+use Rattle.std.specs.Prelude.{◌≤ℤ◌}
+use Rattle.std.specs.Ordering.{int_cmp, is_lt}
+use Rattle.std.specs.declared.cmp.Ordering.TheVariants.{Less, Equal, Greater}
+use Rattle.std.proofs.lemmas.Int.{ints}
+
+-- of two equal values it doesn't matter which
+pub cond_same : {A : Type 0} (b : Bool) (x : A) → cond b x x ≡ x
+cond_same true x = refl
+cond_same false x = refl
+
+pub int_lt-true : (a b : ℤ) → int_lt a b ≡ true → a <ℤ b
+int_lt-true a b e = grind (arith, ints)
+
+pub int_lt-false : (a b : ℤ) → int_lt a b ≡ false → b ≤ℤ a
+int_lt-false a b e = grind (arith, ints)
+
+pub is_lt-int_cmp : (a b : ℤ) → is_lt (int_cmp a b) ≡ int_lt a b
+is_lt-int_cmp a b = by_tests (int_lt a b) (int_lt b a)
+  where
+    by_tests : (less more : Bool) → is_lt (cond less Less (cond more Greater Equal)) ≡ less
+    by_tests true more = refl
+    by_tests false true = refl
+    by_tests false false = refl

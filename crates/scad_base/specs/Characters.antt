@@ -1,0 +1,42 @@
+-- The code points of characters that texts are read by and made of.
+use Rattle.std.specs.Prelude.{ℕ}
+
+-- `"`
+abbrev pub quote : ℕ
+quote = 34
+
+-- `+`
+abbrev pub plus : ℕ
+plus = 43
+
+-- `-`
+abbrev pub minus : ℕ
+minus = 45
+
+-- `.`
+abbrev pub point : ℕ
+point = 46
+
+-- `0`, the first of the ten digits
+abbrev pub digit_zero : ℕ
+digit_zero = 48
+
+-- `E`
+abbrev pub upper_e : ℕ
+upper_e = 69
+
+-- `[`
+abbrev pub open_square : ℕ
+open_square = 91
+
+-- `\`
+abbrev pub backslash : ℕ
+backslash = 92
+
+-- `]`
+abbrev pub close_square : ℕ
+close_square = 93
+
+-- `e`
+abbrev pub lower_e : ℕ
+lower_e = 101
