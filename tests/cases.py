@@ -5,7 +5,7 @@
     settings.toml        the settings, where there are some
     report               what must stand on standard output
     status               the exit status, where it isn't 0
-    outlines.cli         the outlines that must be written, or outlines.cli.sha256 with their checksum
+    outlines.cli         the outlines that must be written, or their checksum: outlines.cli.sha256
     print.gcode          the printing program that must be written, or print.gcode.sha256
 
 The words name these files. A file that isn't there must not be written.

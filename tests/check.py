@@ -52,8 +52,8 @@ class FrontOf:
 class Check:
     """What is given to the program, and what must come of it.
 
-    `given` are the files before the run and `left` those after it that aren't given ones that stand as they were; no others may
-    be there. The program is started by the line `shell` of a shell, with `words` behind its name.
+    `given` are the files before the run, and `left` are those after it that weren't given or have
+    changed; no others may be there. The line `shell` starts the program, with `words` behind its name.
     """
 
     name: str
@@ -80,7 +80,7 @@ class Outcome:
 
 
 def run(check, program):
-    """Runs the program in a fresh folder. The status is None where it didn't end in time, and below 0 for a signal."""
+    """Runs the program in a fresh folder; its status is None past the time limit, or minus a signal."""
     with tempfile.TemporaryDirectory(prefix="scadslice-") as room:
         for name in check.folders:
             os.makedirs(os.path.join(room, name))
@@ -88,9 +88,9 @@ def run(check, program):
             with open(os.path.join(room, name), "wb") as file:
                 file.write(content)
         words = ["sh", "-c", check.shell, "sh", program, *check.words]
-        environment = {"PATH": "/usr/local/bin:/usr/bin:/bin", "LANG": "C.UTF-8", "HOME": room, "TMPDIR": room}
-        streams = {"stdin": subprocess.PIPE, "stdout": subprocess.PIPE, "stderr": subprocess.PIPE}
-        started = subprocess.Popen(words, cwd=room, env=environment, start_new_session=True, **streams)
+        how = dict.fromkeys(("stdin", "stdout", "stderr"), subprocess.PIPE)
+        how["env"] = {"PATH": "/usr/local/bin:/usr/bin:/bin", "LANG": "C.UTF-8", "TMPDIR": room}
+        started = subprocess.Popen(words, cwd=room, start_new_session=True, **how)
         try:
             report, errors = started.communicate(check.input, timeout=TIME_LIMIT)
             status = started.returncode
@@ -139,7 +139,9 @@ def compared(check, outcome):
 def first_difference(found, wanted):
     """The first line that differs, both ways."""
     ours, theirs = found.split(b"\n"), wanted.split(b"\n")
-    same = next((i for i, (a, b) in enumerate(zip(ours, theirs)) if a != b), min(len(ours), len(theirs)))
+    same = 0
+    while same < min(len(ours), len(theirs)) and ours[same] == theirs[same]:
+        same += 1
     at = lambda lines: shown(lines[same]) if same < len(lines) else "its end"
     return f"in line {same + 1}: {at(ours)} in place of {at(theirs)}"
 

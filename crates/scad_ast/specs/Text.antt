@@ -3,6 +3,7 @@
 -- name, a call, a vector, a range, an index or a member.
 use Rattle.std.specs.Prelude.{ℕ, ℤ, Bool, true, false, if◌then◌else◌, ◌==◌, List, [], ◌∷◌, ◌++◌, Option, Some, None, codes, encode_utf8}
 use Rattle.std.specs.List.{flat_map}
+pub use Rattle.scad_base.specs.Characters.{quote, backslash}
 use Rattle.scad_num.specs.Text.{number_text}
 use Rattle.scad_fault.specs.declared.place.Place.{Place}
 use Rattle.scad_ast.specs.declared.operator.UnOp.{UnOp}
@@ -14,12 +15,6 @@ use Rattle.scad_ast.specs.Tree.{Expression, undef, boolean, number, string, name
 -- ---- tokens
 abbrev pub blank : ℕ
 blank = 32
-
-abbrev pub quote : ℕ
-quote = 34
-
-abbrev pub backslash : ℕ
-backslash = 92
 
 -- a token and a blank
 abbrev pub spaced : List ℕ → List ℕ

@@ -1,5 +1,10 @@
--- The code points of characters that texts are read by and made of.
-use Rattle.std.specs.Prelude.{ℕ}
+-- Code points: which are characters, and those of characters that texts are read by and made of.
+use Rattle.std.specs.Prelude.{ℕ, Bool, ◌||◌, nat_lt}
+use Rattle.std.specs.Int.{is_in_range}
+
+-- the number is that of a character, a Unicode scalar value (The Unicode Standard, "Surrogates")
+abbrev pub is_scalar : ℕ → Bool
+is_scalar c = nat_lt c 0xD800 || is_in_range 0xE000 0x10_FFFF c
 
 -- `"`
 abbrev pub quote : ℕ

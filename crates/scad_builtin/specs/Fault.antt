@@ -1,5 +1,6 @@
 -- The faults of numbers, as those of functions.
 use Rattle.std.specs.Prelude.{Result, Ok, Err}
+pub use Rattle.scad_base.specs.Results.{and_then}
 use Rattle.scad_num.specs.declared.fault.NumFault.{NumFault}
 use Rattle.scad_num.specs.declared.fault.NumFault.TheVariants.{Range}
 use Rattle.scad_num.specs.declared.fault.NumFault.TheVariants.{ZeroDivisor as ByZero}
@@ -14,8 +15,3 @@ fault_of ByZero = ZeroDivisor
 abbrev pub judged : {A : Type 0} → Result A NumFault → Result A BuiltinFault
 judged (Ok a) = Ok a
 judged (Err e) = Err (fault_of e)
-
--- what f makes of a result, or the fault in its place
-abbrev pub and_then : {A B F : Type 0} → Result A F → (A → Result B F) → Result B F
-and_then (Ok a) f = f a
-and_then (Err e) f = Err e

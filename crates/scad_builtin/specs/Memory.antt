@@ -1,5 +1,6 @@
 -- Where want of memory may be an answer.
-use Rattle.std.specs.Prelude.{Bool, true, false, not, ◌||◌, IsTrue, IfErr, Result}
+use Rattle.std.specs.Prelude.{Bool, true, false, Result}
+use Rattle.scad_base.specs.Memory.{TakesMemoryFor as TakesFor, TakesNone as TakesNothing}
 use Rattle.scad_builtin.specs.declared.fault.BuiltinFault.{BuiltinFault}
 use Rattle.scad_builtin.specs.declared.fault.BuiltinFault.TheVariants.{Memory}
 use Rattle.scad_builtin.specs.declared.function.Function.{Function}
@@ -26,8 +27,8 @@ names_maker Unknown = false
 
 -- there is memory enough, unless what is made is a string or a vector
 abbrev pub TakesMemoryFor : {A : Type 0} → Bool → Result A BuiltinFault → Type 0
-TakesMemoryFor maker answer = IfErr answer (λ e. IsTrue (maker || not (is_memory e)))
+TakesMemoryFor maker answer = TakesFor is_memory maker answer
 
 -- no memory is taken
 abbrev pub TakesNone : {A : Type 0} → Result A BuiltinFault → Type 0
-TakesNone answer = TakesMemoryFor false answer
+TakesNone answer = TakesNothing is_memory answer

@@ -1,6 +1,6 @@
 -- Functions of strings (OpenSCAD User Manual, "String Functions").
-use Rattle.std.specs.Prelude.{ℕ, ◌*◌, ◌++◌, Bool, ◌&&◌, ◌||◌, List, [], ◌∷◌, nat_lt, ℤ, pos, unsigned_abs, int_lt, if◌then◌else◌}
-use Rattle.std.specs.Int.{is_in_range}
+use Rattle.std.specs.Prelude.{ℕ, ◌*◌, ◌++◌, ◌&&◌, List, [], ◌∷◌, ℤ, pos, unsigned_abs, int_lt, if◌then◌else◌}
+use Rattle.scad_base.specs.Characters.{is_scalar}
 use Rattle.scad_num.specs.Number.{one}
 use Rattle.scad_value.specs.Datum.{Datum, undef, number, string, Elements, no_elements, element}
 use Rattle.scad_value.specs.Texts.{text}
@@ -13,10 +13,6 @@ bare_text d = text d
 abbrev pub joined_texts : Elements → List ℕ
 joined_texts no_elements = []
 joined_texts (element d more) = bare_text d ++ joined_texts more
-
--- the number is that of a character
-abbrev pub is_scalar : ℕ → Bool
-is_scalar c = nat_lt c 0xD800 || is_in_range 0xE000 0x10_FFFF c
 
 -- the character of this number, or no character where it is none above 0
 abbrev pub character_of : ℤ → List ℕ

@@ -7,23 +7,26 @@ ghost use Rattle.scad_builtin.specs.Names.{name_table, numbered_name, meaning_of
 use crate::function::{Function, Name};
 use scad_table::{Row, find};
 
+/// The number of a name that the language leaves out.
+const LEFT_OUT: u16 = 23;
+
 const NAMES: [Row; 42] = [
     Row { name: "abs", id: 0 },
     Row {
         name: "acos",
-        id: 23,
+        id: LEFT_OUT,
     },
     Row {
         name: "asin",
-        id: 23,
+        id: LEFT_OUT,
     },
     Row {
         name: "atan",
-        id: 23,
+        id: LEFT_OUT,
     },
     Row {
         name: "atan2",
-        id: 23,
+        id: LEFT_OUT,
     },
     Row {
         name: "ceil",
@@ -44,15 +47,15 @@ const NAMES: [Row; 42] = [
     },
     Row {
         name: "dxf_cross",
-        id: 23,
+        id: LEFT_OUT,
     },
     Row {
         name: "dxf_dim",
-        id: 23,
+        id: LEFT_OUT,
     },
     Row {
         name: "exp",
-        id: 23,
+        id: LEFT_OUT,
     },
     Row {
         name: "floor",
@@ -60,7 +63,7 @@ const NAMES: [Row; 42] = [
     },
     Row {
         name: "fontmetrics",
-        id: 23,
+        id: LEFT_OUT,
     },
     Row {
         name: "is_bool",
@@ -68,7 +71,7 @@ const NAMES: [Row; 42] = [
     },
     Row {
         name: "is_function",
-        id: 23,
+        id: LEFT_OUT,
     },
     Row {
         name: "is_list",
@@ -93,11 +96,11 @@ const NAMES: [Row; 42] = [
     Row { name: "ln", id: 23 },
     Row {
         name: "log",
-        id: 23,
+        id: LEFT_OUT,
     },
     Row {
         name: "lookup",
-        id: 23,
+        id: LEFT_OUT,
     },
     Row {
         name: "max",
@@ -114,15 +117,15 @@ const NAMES: [Row; 42] = [
     },
     Row {
         name: "parent_module",
-        id: 23,
+        id: LEFT_OUT,
     },
     Row {
         name: "pow",
-        id: 23,
+        id: LEFT_OUT,
     },
     Row {
         name: "rands",
-        id: 23,
+        id: LEFT_OUT,
     },
     Row {
         name: "round",
@@ -130,7 +133,7 @@ const NAMES: [Row; 42] = [
     },
     Row {
         name: "search",
-        id: 23,
+        id: LEFT_OUT,
     },
     Row {
         name: "sign",
@@ -148,15 +151,15 @@ const NAMES: [Row; 42] = [
     Row { name: "tan", id: 8 },
     Row {
         name: "textmetrics",
-        id: 23,
+        id: LEFT_OUT,
     },
     Row {
         name: "version",
-        id: 23,
+        id: LEFT_OUT,
     },
     Row {
         name: "version_num",
-        id: 23,
+        id: LEFT_OUT,
     },
 ];
 
@@ -196,7 +199,7 @@ fn numbered_name(number: u16) -> Name
         20 => Name::Known(Function::IsNum),
         21 => Name::Known(Function::IsString),
         22 => Name::Known(Function::IsList),
-        23 => Name::LeftOut,
+        LEFT_OUT => Name::LeftOut,
         _ => Name::Unknown,
     }
 }

@@ -1,2 +1,3 @@
 pub mod Circle
 pub mod Cosine
+pub mod Laws

@@ -1,26 +1,18 @@
 -- Lines in full: those that do not depend on what the run was given, and an example of each other form.
 use Rattle.std.proofs.Common.{◌≡◌, [], codes, refl, pos, negsuc}
 use Rattle.std.specs.Fmt.{digits}
-use Rattle.scad_fault.specs.declared.place.Place.{Place}
 use Rattle.scad_fault.specs.declared.fault.FaultKind.TheVariants.{LeftOut, NotClosed, NotBuilt}
 use Rattle.scad_fault.specs.declared.budget.BudgetKind.TheVariants.{SourceLong, Depth, Layers, LayerEdges}
 use Rattle.scad_fault.specs.declared.settings.SetKind.TheVariants.{NotToml, OutOfRange}
+use Rattle.scad_fault.specs.Place.{no_place, first_place}
 use Rattle.scad_fault.specs.Line.{fault_line, settings_line, budget_line}
 
--- the first place of a source
-abbrev pub start : Place
-start = record { line = 1; col = 1 }
-
--- no place
-abbrev pub nowhere : Place
-nowhere = record { line = 0; col = 0 }
-
-pub not_built_line : fault_line (record { kind = NotBuilt; at = start; name = [] }) ≡ codes "fault 15 NotBuilt at 1:1\n"
+pub not_built_line : fault_line (record { kind = NotBuilt; at = first_place; name = [] }) ≡ codes "fault 15 NotBuilt at 1:1\n"
 unfolding fault_line digits
 not_built_line = refl
 
 pub source_long_line :
-    budget_line (record { kind = SourceLong; at = nowhere; layer = 0; count = 0 }) ≡ codes "budget 1 SourceLong\n"
+    budget_line (record { kind = SourceLong; at = no_place; layer = 0; count = 0 }) ≡ codes "budget 1 SourceLong\n"
 unfolding budget_line digits
 source_long_line = refl
 
@@ -35,7 +27,7 @@ left_out_line :
 unfolding fault_line digits
 left_out_line = refl
 
-not_closed_line : fault_line (record { kind = NotClosed; at = start; name = [] }) ≡ codes "fault 12 NotClosed at 1:1\n"
+not_closed_line : fault_line (record { kind = NotClosed; at = first_place; name = [] }) ≡ codes "fault 12 NotClosed at 1:1\n"
 unfolding fault_line digits
 not_closed_line = refl
 
@@ -57,12 +49,12 @@ unfolding budget_line digits
 depth_line = refl
 
 layers_line :
-    budget_line (record { kind = Layers; at = nowhere; layer = 0; count = 50000 }) ≡ codes "budget 6 Layers count 50000\n"
+    budget_line (record { kind = Layers; at = no_place; layer = 0; count = 50000 }) ≡ codes "budget 6 Layers count 50000\n"
 unfolding budget_line digits
 layers_line = refl
 
 layer_edges_line :
-    budget_line (record { kind = LayerEdges; at = nowhere; layer = 4; count = 20010 })
+    budget_line (record { kind = LayerEdges; at = no_place; layer = 4; count = 20010 })
     ≡ codes "budget 7 LayerEdges layer 4 count 20010\n"
 unfolding budget_line digits
 layer_edges_line = refl

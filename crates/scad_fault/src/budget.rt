@@ -1,6 +1,7 @@
 ghost use Rattle.std.specs.Prelude.{◌≡◌, ◌++◌, IfOk, OnOk};
 ghost use Rattle.scad_fault.specs.Kinds.{budget_number, budget_name};
 ghost use Rattle.scad_fault.specs.Line.{budget_line, passed_text};
+ghost use Rattle.scad_fault.specs.Place.{no_place};
 
 use crate::line;
 use crate::place::Place;
@@ -69,7 +70,7 @@ impl Budget {
     /// A source with more bytes than the limit.
     pub fn source_long() -> Budget
         ensures { result ≡
-            record { kind = BudgetKind.SourceLong; at = Place.NONE; layer = 0; count = 0 } }
+            record { kind = BudgetKind.SourceLong; at = no_place; layer = 0; count = 0 } }
     {
         Budget {
             kind: BudgetKind::SourceLong,
@@ -94,7 +95,7 @@ impl Budget {
     /// More layers than the limit.
     pub fn layers(count: u64) -> Budget
         ensures { result ≡
-            record { kind = BudgetKind.Layers; at = Place.NONE; layer = 0; count = count } }
+            record { kind = BudgetKind.Layers; at = no_place; layer = 0; count = count } }
     {
         Budget {
             kind: BudgetKind::Layers,
@@ -106,7 +107,7 @@ impl Budget {
 
     /// A budget of one layer.
     pub fn of_layer(kind: BudgetKind, layer: u32, count: u64) -> Budget
-        ensures { result ≡ record { kind = kind; at = Place.NONE; layer = layer; count = count } }
+        ensures { result ≡ record { kind = kind; at = no_place; layer = layer; count = count } }
     {
         Budget {
             kind,

@@ -16,7 +16,7 @@ pub use budget::{Budget, BudgetKind};
 pub use chars::Chars;
 pub use fault::{Fault, FaultKind};
 pub use file_name::FileName;
-pub use place::Place;
+pub use place::{Place, constant_places};
 pub use settings::{SetFault, SetKind};
 pub use status::{OUT_OF_MEMORY, READ_FAULT, Status, WRITE_FAULT, constant_lines};
 pub use text::Text;

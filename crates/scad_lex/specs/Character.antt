@@ -1,10 +1,7 @@
 -- Characters in UTF-8 (The Unicode Standard, "UTF-8"): each is the shortest form of a Unicode scalar value.
-use Rattle.std.specs.Prelude.{ℕ, ◌+◌, ◌-◌, ◌*◌, Bool, ◌&&◌, ◌||◌, List, Option, Some, None, option_and_then, nat_lt, nat_le, if◌then◌else◌, slice_index}
+use Rattle.std.specs.Prelude.{ℕ, ◌+◌, ◌-◌, ◌*◌, ◌&&◌, List, Option, Some, None, option_and_then, nat_lt, nat_le, if◌then◌else◌, slice_index}
 use Rattle.std.specs.Int.{is_in_range}
-
--- the number is the code point of a character
-abbrev pub is_scalar : ℕ → Bool
-is_scalar c = nat_lt c 0xD800 || is_in_range 0xE000 0x10_FFFF c
+pub use Rattle.scad_base.specs.Characters.{is_scalar}
 
 -- the six bits of the byte at k, where it goes on a character
 unfoldable pub tail_at : List ℕ → ℕ → Option ℕ

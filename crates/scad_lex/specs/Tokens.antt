@@ -2,6 +2,7 @@
 use Rattle.std.specs.Prelude.{◌≡◌, ℕ, zero, suc, pred, ◌+◌, ◌++◌, List, [], ◌∷◌, Result, Ok, Err, nat_eq, ◌==◌, if◌then◌else◌, take, drop}
 use Rattle.std.specs.List.{starts_with}
 use Rattle.scad_fault.specs.declared.place.Place.{Place}
+pub use Rattle.scad_fault.specs.Place.{first_place as start}
 use Rattle.scad_lex.specs.declared.fault.LexFault.{LexFault}
 use Rattle.scad_lex.specs.declared.fault.LexFault.TheVariants.{BadText, Range, Memory}
 use Rattle.scad_lex.specs.declared.token.Token.{Token}
@@ -23,10 +24,6 @@ next at b = if b == 10 then next_line at else next_col at
 abbrev pub after : Place → List ℕ → Place
 after at [] = at
 after at (b ∷ bytes) = after (next at b) bytes
-
--- the first place of a text
-abbrev pub start : Place
-start = record { line = 1; col = 1 }
 
 -- a leading byte order mark takes no column
 abbrev pub without_mark : List ℕ → List ℕ

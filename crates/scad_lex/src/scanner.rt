@@ -72,7 +72,7 @@ pub fn lex(alloc: Global, bytes: &[u8]) -> Result<Tokens, LexFault>
 {
     let text = without_mark(bytes);
     let mut list = Vec::new(alloc);
-    let mut at = Place { line: 1, col: 1 };
+    let mut at = Place::START;
     let mut done = 0usize;
     'pieces: while done < text.len() {
         let rest = behind(text, done);

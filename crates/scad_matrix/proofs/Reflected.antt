@@ -55,6 +55,3 @@ twice-yz x y z s is = subst (λ t. 2 * unsigned_abs (y *ℤ z) ≤ unsigned_abs 
 
 pub twice-zx : (x y z s : ℤ) → s ≡ square_of x y z → 2 * unsigned_abs (z *ℤ x) ≤ unsigned_abs s
 twice-zx x y z s is = subst (λ t. 2 * unsigned_abs (z *ℤ x) ≤ unsigned_abs t) (sym (is ∙ sum_of_squares x y z)) (omega (arith, unsigned_abs-mul z x, twice_product (unsigned_abs z) (unsigned_abs x)))
-
-pub minus_as_neg : (z : ℤ) → pos 0 -ℤ z ≡ neg_ℤ z
-minus_as_neg z = omega (arith, ints)

@@ -1,5 +1,6 @@
 -- Products of matrices and placed points (OpenSCAD User Manual, "Transformations").
 use Rattle.std.specs.Prelude.{ℕ, nat_le, if◌then◌else◌, Option, Some, None, Result, Ok, Err, ℤ, pos, ◌+ℤ◌, ◌*ℤ◌, unsigned_abs}
+use Rattle.scad_base.specs.Results.{and_then}
 use Rattle.scad_num.specs.Number.{one, most}
 use Rattle.scad_num.specs.Rounding.{half_away}
 use Rattle.scad_geom.specs.declared.point3.Pt3.{Pt3}
@@ -24,11 +25,6 @@ in_range z = if nat_le (unsigned_abs z) most then Ok z else Err Range
 
 abbrev pub entry_number : Row → ℤ → ℤ → ℤ → ℤ → Result ℤ MatrixFault
 entry_number r x y z last = in_range (entry r x y z last)
-
--- what f makes of a number, or the fault in its place
-abbrev pub and_then : {A B : Type 0} → Result A MatrixFault → (A → Result B MatrixFault) → Result B MatrixFault
-and_then (Ok a) f = f a
-and_then (Err e) f = Err e
 
 -- a row times a matrix, whose fourth row is 0, 0, 0, 1
 abbrev pub row_number : Row → Matrix → Result Row MatrixFault

@@ -1,6 +1,8 @@
 -- Decimals of a number, one by one.
-use Rattle.std.proofs.Common.{◌≡◌, ◌≢◌, ℕ, zero, suc, ◌+◌, ◌-◌, ◌*◌, ◌/◌, ◌%◌, List, [], ◌∷◌, refl, ap, sym, ◌∙◌, arith, false}
+use Rattle.std.proofs.Common.{◌≡◌, ◌≢◌, ℕ, zero, suc, ◌+◌, ◌-◌, ◌*◌, ◌/◌, ◌%◌, ◌^◌, ◌<◌, ◌≤◌, length, List, [], ◌∷◌, refl, ap, sym, ◌∙◌, arith, false}
 use Rattle.std.proofs.lemmas.Bool.Decides.{nat_tests}
+use Rattle.std.proofs.lemmas.Fmt.{length-decimal-le}
+use Rattle.std.specs.Fmt.{decimal}
 use Rattle.std.specs.Prelude.{◌==◌, if◌then◌else◌}
 use Rattle.scad_num.specs.Number.{one}
 use Rattle.scad_num.specs.Text.{decimals_of}
@@ -17,3 +19,7 @@ next_decimal (suc n) parts some more =
     let no : (parts == 0) ≡ false = grind (arith, nat_tests) in
     let rest : List ℕ = (48 + parts * 10 / one) ∷ decimals_of n (parts * 10 % one) in
     ap (λ b. if b then [] else rest) no ∙ ap (λ k. (48 + parts * 10 / one) ∷ decimals_of k (parts * 10 % one)) (sym e)
+
+-- the whole part of a number has ten digits at most
+pub whole_digits : (n : ℕ) → n < 10000000000 → length (decimal n) ≤ 10
+whole_digits n h = length-decimal-le 10 n (omega arith) h (omega arith)

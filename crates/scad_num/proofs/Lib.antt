@@ -5,6 +5,7 @@ pub mod Exponent
 pub mod LongestLiteral
 pub mod Nearest
 pub mod Number
+pub mod Recognised
 pub mod SquareRoot
 pub mod Scaled
 pub mod Decimals

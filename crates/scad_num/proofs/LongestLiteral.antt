@@ -38,7 +38,7 @@ slice_index-take_past : (n i : ℕ) (bytes : List ℕ) → n ≤ i → slice_ind
 slice_index-take_past n i bytes h = get_or_past (take n bytes) i 0 (omega (arith, length-take n bytes))
 
 -- how many digits stand behind the point
-abbrev decimals_len : List ℕ → ℕ
+abbrev pub decimals_len : List ℕ → ℕ
 decimals_len bytes = cond (has_point bytes) (digits_len (drop (digits_len bytes + 1) bytes)) 0
 
 length-decimal_digits : (bytes : List ℕ) → length (decimal_digits bytes) ≡ decimals_len bytes
@@ -49,10 +49,10 @@ length-decimal_digits bytes = by_point (has_point bytes) (drop (digits_len bytes
     by_point false rest = refl
 
 -- the length of a mantissa by its digits
-abbrev len_of : ℕ → Bool → ℕ → ℕ
+abbrev pub len_of : ℕ → Bool → ℕ → ℕ
 len_of whole point decimals = cond (eqb (whole + decimals) 0) 0 (cond point (whole + 1 + decimals) whole)
 
-mantissa_len-by_digits : (bytes : List ℕ) → mantissa_len bytes ≡ len_of (digits_len bytes) (has_point bytes) (decimals_len bytes)
+pub mantissa_len-by_digits : (bytes : List ℕ) → mantissa_len bytes ≡ len_of (digits_len bytes) (has_point bytes) (decimals_len bytes)
 unfolding mantissa_len
 mantissa_len-by_digits bytes = ap (len_of (digits_len bytes) (has_point bytes)) (length-decimal_digits bytes)
 
@@ -99,25 +99,25 @@ mantissa_len-take n bytes h = mantissa_len-by_digits (take n bytes) ∙ shorter 
         ∙ len_of-cut n (digits_len bytes) tail (has_point bytes) fits g
 
 -- the mark of an exponent stands in front
-abbrev has_mark : List ℕ → Bool
+abbrev pub has_mark : List ℕ → Bool
 has_mark bytes = slice_index bytes 0 == 101 || slice_index bytes 0 == 69
 
-abbrev power_len : List ℕ → ℕ
+abbrev pub power_len : List ℕ → ℕ
 power_len bytes = digits_len (drop (1 + sign_len bytes) bytes)
 
 -- the length of an exponent by its parts
-abbrev exponent_of : Bool → ℕ → ℕ → ℕ
+abbrev pub exponent_of : Bool → ℕ → ℕ → ℕ
 exponent_of mark sign digits = cond (mark && ltb 0 digits) (1 + sign + digits) 0
 
-exponent_len-by_parts : (bytes : List ℕ) → exponent_len bytes ≡ exponent_of (has_mark bytes) (sign_len bytes) (power_len bytes)
+pub exponent_len-by_parts : (bytes : List ℕ) → exponent_len bytes ≡ exponent_of (has_mark bytes) (sign_len bytes) (power_len bytes)
 unfolding exponent_len
 exponent_len-by_parts bytes = ap (exponent_of (has_mark bytes) (sign_len bytes)) (length-prefix_len is_ascii_digit (drop (1 + sign_len bytes) bytes))
 
-exponent_of-parts : (mark : Bool) (sign digits : ℕ) → 0 < exponent_of mark sign digits → (exponent_of mark sign digits ≡ 1 + sign + digits) × (0 < digits)
+pub exponent_of-parts : (mark : Bool) (sign digits : ℕ) → 0 < exponent_of mark sign digits → (exponent_of mark sign digits ≡ 1 + sign + digits) × (0 < digits)
 exponent_of-parts true sign digits h = grind (arith, nat_tests)
 exponent_of-parts false sign digits h = absurd (omega arith)
 
-exponent_len-nil : exponent_len [] ≡ 0
+pub exponent_len-nil : exponent_len [] ≡ 0
 unfolding exponent_len
 exponent_len-nil = refl
 
@@ -141,7 +141,7 @@ exponent_len-take bytes = by_len (cases_lt 0 (exponent_len bytes))
         ∙ sym (exponent_len-by_parts bytes)
 
 -- a literal by its parts
-literal_of-parts : (mantissa exponent : ℕ) → 0 < cond (eqb mantissa 0) 0 (mantissa + exponent) → cond (eqb mantissa 0) 0 (mantissa + exponent) ≡ mantissa + exponent
+pub literal_of-parts : (mantissa exponent : ℕ) → 0 < cond (eqb mantissa 0) 0 (mantissa + exponent) → cond (eqb mantissa 0) 0 (mantissa + exponent) ≡ mantissa + exponent
 literal_of-parts mantissa exponent h = grind (arith, nat_tests)
 
 -- the longest literal stands in its own part

@@ -4,12 +4,8 @@ use Rattle.std.proofs.lemmas.Bool.{cases_lt}
 use Rattle.std.proofs.lemmas.Bool.Decides.{nat_tests}
 use Rattle.std.proofs.lemmas.Nat.{mul-le}
 use Rattle.std.proofs.Math.Nat.{pow-suc}
+use Rattle.scad_num.specs.Laws.{IsRoot, RootsAreWhole}
 use Rattle.scad_num.specs.Root.{root, root_in_steps, root_after}
-
--- r is the greatest whole number whose square is not above n
-pub record IsRoot (n r : ℕ) : Type 0 where
-  pub square_le : r * r ≤ n
-  pub next_square_gt : n < (r + 1) * (r + 1)
 
 -- a square root is no greater than another
 IsRoot-le : (n a b : ℕ) → IsRoot n a → IsRoot n b → a ≤ b
@@ -41,6 +37,9 @@ IsRoot-in_steps (suc steps) n h = IsRoot-root_after n (root_in_steps steps (n / 
 pub IsRoot-root : (n : ℕ) → n < 2 ^ 128 → IsRoot n (root n)
 unfolding root
 IsRoot-root n h = IsRoot-in_steps 64 n h
+
+pub roots_are_whole : RootsAreWhole
+roots_are_whole n h = (IsRoot-root n h, λ r is. IsRoot-unique n r (root n) is (IsRoot-root n h))
 
 -- a root of at most 10^21 is at most 10^15
 pub root_small : (n r : ℕ) → r * r ≤ n → n ≤ 1000000000000000000000 → r ≤ 1000000000000000

@@ -1,3 +1,4 @@
+pub mod Laws
 pub mod Literal
 pub mod Number
 pub mod Root

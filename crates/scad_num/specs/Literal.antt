@@ -1,28 +1,56 @@
 -- Number literals: digits with perhaps a point before, among or behind them, then perhaps an exponent
 -- (OpenSCAD User Manual, "Numbers").
-use Rattle.std.specs.Prelude.{ℕ, ◌+◌, ◌*◌, ◌^◌, Bool, ◌&&◌, ◌||◌, List, [], ◌++◌, length, drop, ◌==◌, nat_lt, if◌then◌else◌, slice_index, ℤ, pos, Result, take_while}
+use Rattle.std.specs.Prelude.{◌≡◌, ℕ, ◌+◌, ◌*◌, ◌^◌, ◌<◌, ◌≤◌, Bool, true, ◌⊎◌, ◌&&◌, ◌||◌, List, [], ◌∷◌, ◌++◌, length, take, drop, ◌==◌, nat_lt, if◌then◌else◌, slice_index, ℤ, pos, Result, take_while}
 use Rattle.std.specs.Char.{is_ascii_digit}
-use Rattle.std.specs.List.{prefix_len}
+use Rattle.std.specs.List.{prefix_len, AllByRecursion}
 use Rattle.std.specs.Str.Parse.{digits_value}
+pub use Rattle.scad_base.specs.Characters.{plus, minus, point, upper_e, lower_e}
 use Rattle.scad_num.specs.declared.fault.NumFault.{NumFault}
 use Rattle.scad_num.specs.Number.{number_of}
 use Rattle.scad_num.specs.Rounding.{half_up}
 
--- the bytes of `+`, `-`, `.`, `E` and `e`
-abbrev pub plus : ℕ
-plus = 43
+-- ---- the form of a literal
 
-abbrev pub minus : ℕ
-minus = 45
+-- decimal digits, perhaps none
+abbrev pub AreDigits : List ℕ → Type 0
+AreDigits bytes = AllByRecursion (λ b. is_ascii_digit b ≡ true) bytes
 
-abbrev pub point : ℕ
-point = 46
+-- digits, one at least, and perhaps a point before, among or behind them
+pub data Mantissa : List ℕ → Type 0 where
+  -- `12`
+  whole : (digits : List ℕ) → AreDigits digits → 0 < length digits → Mantissa digits
+  -- `12.`, `12.5`, `.5`
+  pointed : (digits decimals : List ℕ) → AreDigits digits → AreDigits decimals → 0 < length digits + length decimals
+      → Mantissa (digits ++ point ∷ decimals)
 
-abbrev pub upper_e : ℕ
-upper_e = 69
+-- `e` or `E`
+abbrev pub IsMark : ℕ → Type 0
+IsMark b = (b ≡ lower_e) ⊎ (b ≡ upper_e)
 
-abbrev pub lower_e : ℕ
-lower_e = 101
+-- `+` or `-`
+abbrev pub IsSign : ℕ → Type 0
+IsSign b = (b ≡ plus) ⊎ (b ≡ minus)
+
+-- a mark, perhaps a sign, and digits, one at least
+pub data Exponent : List ℕ → Type 0 where
+  -- `e5`
+  unsigned : (mark : ℕ) (digits : List ℕ) → IsMark mark → AreDigits digits → 0 < length digits → Exponent (mark ∷ digits)
+  -- `e+5`, `e-5`
+  signed : (mark sign : ℕ) (digits : List ℕ) → IsMark mark → IsSign sign → AreDigits digits → 0 < length digits
+      → Exponent (mark ∷ sign ∷ digits)
+
+-- a mantissa, and perhaps an exponent behind it
+pub data Literal : List ℕ → Type 0 where
+  plain : (mantissa : List ℕ) → Mantissa mantissa → Literal mantissa
+  scaled : (mantissa exponent : List ℕ) → Mantissa mantissa → Exponent exponent → Literal (mantissa ++ exponent)
+
+-- so many bytes in front are a literal, if there are some, and no more bytes in front are one
+pub record IsLongestLiteral (bytes : List ℕ) (n : ℕ) : Type 0 where
+  pub within : n ≤ length bytes
+  pub literal : 0 < n → Literal (take n bytes)
+  pub longest : (m : ℕ) → m ≤ length bytes → Literal (take m bytes) → m ≤ n
+
+-- ---- its parts
 
 -- how many digits the bytes begin with
 abbrev pub digits_len : List ℕ → ℕ

@@ -21,12 +21,13 @@ pub struct Num {
 
 impl Model for Num {
     ghost use Rattle.std.specs.Prelude.{ℤ, ◌≤◌, unsigned_abs};
+    ghost use Rattle.scad_num.specs.Number.{most};
 
     ghost Value = { ℤ };
 
     ghost view = { λ n. n.millionths };
 
-    ghost invariant = { λ n. unsigned_abs n.millionths ≤ 1000000000000000 };
+    ghost invariant = { λ n. unsigned_abs n.millionths ≤ most };
 
     ghost inverse = { λ z. record { millionths = z } };
 }

@@ -1,6 +1,7 @@
 ghost use Rattle.std.specs.Prelude.{◌≡◌, ◌+◌, ◌*◌, ◌^◌, ◌<◌, ◌≤◌, ◌++◌, length, take, drop, min, true, pos};
 ghost use Rattle.std.specs.Str.Parse.{AllDigits, digits_value};
 ghost use Rattle.scad_num.specs.Literal.{mantissa_len, exponent_len, literal_len, is_literal, literal_number, whole_digits, decimal_digits, tens_up, tens_down};
+ghost use Rattle.scad_num.specs.Number.{most};
 ghost use Rattle.scad_num.specs.Rounding.{half_up};
 
 use crate::decimal::{digits_onto, first, zeros_onto};
@@ -52,7 +53,7 @@ fn rounded_millionths(whole: &[u8], decimals: &[u8], up: u128, down: u128) -> u6
     requires whole_digits { AllDigits 10 whole.now }
     requires decimal_digits { AllDigits 10 decimals.now }
     requires up_room { up ≤ 2 ^ 100 }
-    ensures value { result ≡ min (half_up (digits_value 10 (whole.now ++ decimals.now) * 10 ^ (6 + up)) (10 ^ (length decimals.now + down))) 1000000000000001 }
+    ensures value { result ≡ min (half_up (digits_value 10 (whole.now ++ decimals.now) * 10 ^ (6 + up)) (10 ^ (length decimals.now + down))) (most + 1) }
     ensures short { length whole.now + length decimals.now < 2 ^ 65 }
 {
     let whole_len = whole.len() as u128;

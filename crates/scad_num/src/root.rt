@@ -1,13 +1,14 @@
-ghost use Rattle.std.specs.Prelude.{◌≡◌, ◌≤◌, pos, ◌≤ℤ◌};
+ghost use Rattle.std.specs.Prelude.{◌≡◌, ◌*◌, ◌≤◌, pos, ◌≤ℤ◌};
+ghost use Rattle.scad_num.specs.Number.{one, most};
 ghost use Rattle.scad_num.specs.Root.{root, sqrt_of};
 
 use crate::fixed_point::{Num, ONE};
 
-/// The whole square root of a number of at most 10^21.
+/// The whole square root of a number that is small enough.
 fn root(n: u128) -> u64
-    requires { n ≤ 1000000000000000000000 }
+    requires { n ≤ most * one }
     ensures value { result ≡ root n }
-    ensures small { result ≤ 1000000000000000 }
+    ensures small { result ≤ most }
 {
     n.isqrt() as u64
 }

@@ -1,65 +1,131 @@
 //! The text of a number.
-ghost use Rattle.std.specs.Prelude.{◌≡◌, ◌<◌, ◌++◌, [], ◌∷◌, ◌+◌, OnOk};
+ghost use Rattle.std.specs.Prelude.{◌≡◌, ◌<◌, ◌≤◌, ◌+◌, ℕ, List, ◌++◌, OnOk, OnErr};
 ghost use Rattle.std.specs.Fmt.{decimal};
+ghost use Rattle.arrayvec.specs.ArrayVec.{array_vec_len};
+ghost use Rattle.scad_num.specs.Number.{one, most};
 ghost use Rattle.scad_num.specs.Text.{decimals_of, fraction_text, size_text, number_text};
 
 use crate::fixed_point::{Num, ONE_PART};
+use arrayvec::ArrayVec;
 use itoa::Buffer;
 use std::alloc::AllocError;
+use std::marker::Model;
+
+/// A sign, ten digits, a point and six decimals: no number's text is longer.
+type Digits = ArrayVec<u8, 18>;
+
+/// The text of a number, which takes no memory: its bytes, all of them ASCII.
+#[derive(Drop)]
+pub struct NumText {
+    digits: Digits,
+}
+
+impl Model for NumText {
+    ghost Value = { List ℕ };
+
+    ghost view = { λ t. t.digits.items };
+}
+
+impl NumText {
+    pub fn as_slice(&self) -> &[u8]
+        ensures { result.now ≡ self.now }
+    {
+        self.digits.as_slice()
+    }
+}
 
 impl Num {
-    /// Appends the number's text: its whole part in decimal, and where it isn't whole a point and its
-    /// decimals without ending zeros.
-    pub fn write_to(self, out: &mut Vec<u8>) -> Result<(), AllocError>
-        ensures { OnOk result (out.new.items ≡ out.old.items ++ number_text self) }
+    /// The number's text: its whole part in decimal, and where it isn't whole a point and its decimals
+    /// without ending zeros.
+    pub fn text(self) -> NumText
+        ensures { result ≡ number_text self }
     {
-        if self.millionths() < 0 {
-            out.push(b'-')?;
+        let mut digits = ArrayVec::new();
+        let millionths = self.millionths();
+        if millionths < 0 {
+            digits.push(b'-');
         }
-        push_size(out, self.millionths().unsigned_abs())
+        push_size(&mut digits, millionths.unsigned_abs());
+        NumText { digits }
+    }
+
+    /// Appends the number's text, or leaves `out` as it is where there is no memory.
+    pub fn write_to(self, out: &mut Vec<u8>) -> Result<(), AllocError>
+        ensures ok { OnOk result (out.new.items ≡ out.old.items ++ number_text self) }
+        ensures err { OnErr result (out.new.items ≡ out.old.items) }
+    {
+        out.extend_from_slice(self.text().as_slice())
     }
 }
 
-fn push_size(out: &mut Vec<u8>, millionths: u64) -> Result<(), AllocError>
-    ensures { OnOk result (out.new.items ≡ out.old.items ++ size_text millionths) }
+fn push_size(out: &mut Digits, millionths: u64)
+    requires room { array_vec_len out.old ≤ 1 }
+    requires range { millionths ≤ most }
+    ensures { out.new.items ≡ out.old.items ++ size_text millionths }
 {
-    push_whole(out, millionths / ONE_PART)?;
-    push_fraction(out, millionths % ONE_PART)
+    push_whole(out, millionths / ONE_PART);
+    push_fraction(out, millionths % ONE_PART);
 }
 
-fn push_whole(out: &mut Vec<u8>, n: u64) -> Result<(), AllocError>
-    ensures { OnOk result (out.new.items ≡ out.old.items ++ decimal n) }
+#[tactic(auto, using(crate::proofs::Decimals::whole_digits))]
+fn push_whole(out: &mut Digits, n: u64)
+    requires room { array_vec_len out.old ≤ 1 }
+    requires range { n < 10000000000 }
+    ensures digits { out.new.items ≡ out.old.items ++ decimal n }
+    ensures length { array_vec_len out.new ≤ 11 }
 {
-    out.extend_from_slice(Buffer::new().format(n).as_bytes())
+    out.try_extend_from_slice(Buffer::new().format(n).as_bytes())
+        .unwrap();
 }
 
-fn push_fraction(out: &mut Vec<u8>, parts: u64) -> Result<(), AllocError>
-    requires { parts < 1000000 }
-    ensures { OnOk result (out.new.items ≡ out.old.items ++ fraction_text parts) }
+fn push_fraction(out: &mut Digits, parts: u64)
+    requires room { array_vec_len out.old ≤ 11 }
+    requires range { parts < one }
+    ensures { out.new.items ≡ out.old.items ++ fraction_text parts }
 {
-    if parts == 0 {
-        return Ok(());
+    if parts > 0 {
+        out.push(b'.');
+        push_decimals(out, 6, parts);
     }
-    out.push(b'.')?;
-    push_decimals(out, 6, parts)
 }
 
 #[tactic(auto, using(crate::proofs::Decimals::no_decimals, crate::proofs::Decimals::next_decimal))]
-fn push_decimals(out: &mut Vec<u8>, places: u32, parts: u64) -> Result<(), AllocError>
-    requires { parts < 1000000 }
-    ensures { OnOk result (out.new.items ≡ out.old.items ++ decimals_of places parts) }
+fn push_decimals(out: &mut Digits, places: u32, parts: u64)
+    requires room { array_vec_len out.old + places ≤ 18 }
+    requires range { parts < one }
+    ensures { out.new.items ≡ out.old.items ++ decimals_of places parts }
 {
-    if places == 0 || parts == 0 {
-        return Ok(());
+    if places > 0 && parts > 0 {
+        out.push(b'0' + (parts * 10 / ONE_PART) as u8);
+        push_decimals(out, places - 1, parts * 10 % ONE_PART);
     }
-    push_digit(out, parts * 10 / ONE_PART)?;
-    push_decimals(out, places - 1, parts * 10 % ONE_PART)
 }
 
-fn push_digit(out: &mut Vec<u8>, digit: u64) -> Result<(), AllocError>
-    requires { digit < 10 }
-    ensures { OnOk result (out.new.items ≡ out.old.items ++ (48 + digit) ∷ []) }
-{
-    out.push(b'0' + digit as u8)?;
-    Ok(())
+#[cfg(test)]
+mod tests {
+    use super::*;
+    use std::test::Fail;
+
+    #[test]
+    fn texts_have_no_ending_zeros(rt: HostRuntime) -> Result<(), Fail> {
+        for (millionths, wanted) in [
+            (0, "0"),
+            (1_000_000, "1"),
+            (-500_000, "-0.5"),
+            (1, "0.000001"),
+            (-1_200_030, "-1.20003"),
+            (1_000_000_000_000_000, "1000000000"),
+            (-999_999_999_999_999, "-999999999.999999"),
+        ] {
+            let mut out = Vec::new(rt.alloc());
+            out.push(b'=')?;
+            Num::within(millionths).write_to(&mut out)?;
+            assert_eq!(rt; &out.as_slice()[1..], wanted.as_bytes());
+            assert_eq!(rt;
+                Num::within(millionths).text().as_slice(),
+                wanted.as_bytes()
+            );
+        }
+        Ok(())
+    }
 }

@@ -10,7 +10,7 @@ use Rattle.scad_value.specs.Datum.{Datum, undef, boolean, number, string, vector
 use Rattle.scad_value.specs.Index.{indexed}
 use Rattle.scad_value.specs.Measures.{made, nesting}
 use Rattle.scad_value.specs.Operators.{op}
-use Rattle.scad_value.specs.Texts.{text, size_text}
+use Rattle.scad_value.specs.Texts.{text}
 
 abbrev two : Datum → Datum → Datum
 two a b = vector (element a (element b no_elements))
@@ -77,5 +77,5 @@ nested = refl
 
 -- a vector, as it is printed
 printed : text (two (number (negsuc 499999)) (string (97 ∷ []))) ≡ codes "[-0.5, \"a\"]"
-unfolding size_text digits
+unfolding digits
 printed = refl

@@ -1,15 +1,15 @@
 -- Where memory may be wanting.
-use Rattle.std.proofs.Common.{◌≡◌, Bool, true, false, Result, Ok, Err, refl}
+use Rattle.std.proofs.Common.{◌≡◌, Bool, true, Result, Ok, Err, refl}
 use Rattle.scad_value.specs.declared.fault.ValueFault.{ValueFault}
+use Rattle.scad_base.proofs.Memories.{TakesMemoryFor-none}
+use Rattle.scad_value.specs.Faults.{is_memory}
 use Rattle.scad_value.specs.Elementwise.{AllAnswers, as_vector}
 use Rattle.scad_value.specs.Memory.{begins_list, TakesMemoryFor, TakesNone}
 use Rattle.scad_value.proofs.Rows.{at_vector}
 
 -- where none is taken, any may be
 pub takes-none : {A : Type 0} (list : Bool) (answer : Result A ValueFault) → TakesNone answer → TakesMemoryFor list answer
-takes-none list (Ok a) none = none
-takes-none true (Err e) none = refl
-takes-none false (Err e) none = none
+takes-none list answer none = TakesMemoryFor-none is_memory list answer none
 
 pub begins-vector : (all : AllAnswers) → begins_list (as_vector all) ≡ true
 begins-vector (Ok all) = refl

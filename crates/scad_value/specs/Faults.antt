@@ -1,5 +1,6 @@
 -- Faults of operations, and what an answer tells of them.
-use Rattle.std.specs.Prelude.{◌≡◌, Result, Err}
+use Rattle.std.specs.Prelude.{Bool, true, false, Result}
+use Rattle.scad_base.specs.Memory.{Refuses as RefusesBy}
 use Rattle.scad_num.specs.declared.fault.NumFault.{NumFault}
 use Rattle.scad_num.specs.declared.fault.NumFault.TheVariants.{Range}
 use Rattle.scad_num.specs.declared.fault.NumFault.TheVariants.{ZeroDivisor as NumZeroDivisor}
@@ -11,8 +12,10 @@ abbrev pub fault_of : NumFault → ValueFault
 fault_of Range = NumberRange
 fault_of NumZeroDivisor = ZeroDivisor
 
+abbrev pub is_memory : ValueFault → Bool
+is_memory Memory = true
+is_memory _ = false
+
 -- there is no value for this reason, or there was no memory
 abbrev pub Refuses : {A : Type 0} → Result A ValueFault → ValueFault → Type 0
-Refuses answer ZeroDivisor = answer ≡ Err ZeroDivisor
-Refuses answer NumberRange = answer ≡ Err NumberRange
-Refuses answer Memory = Unit {0}
+Refuses answer fault = RefusesBy is_memory answer fault

@@ -1,13 +1,10 @@
 -- Where want of memory may be an answer.
-use Rattle.std.specs.Prelude.{Bool, true, false, not, ◌||◌, IsTrue, IfErr, Result, Ok, Err}
+use Rattle.std.specs.Prelude.{Bool, true, false, Result, Ok, Err}
+use Rattle.scad_base.specs.Memory.{TakesMemoryFor as TakesFor, TakesNone as TakesNothing}
 use Rattle.scad_value.specs.declared.fault.ValueFault.{ValueFault}
-use Rattle.scad_value.specs.declared.fault.ValueFault.TheVariants.{Memory}
 use Rattle.scad_value.specs.Datum.{Datum, string, vector}
 use Rattle.scad_value.specs.Elementwise.{Answer}
-
-abbrev pub is_memory : ValueFault → Bool
-is_memory Memory = true
-is_memory _ = false
+use Rattle.scad_value.specs.Faults.{is_memory}
 
 -- strings and vectors lie in memory of their own, all else in the value itself
 abbrev pub is_list : Datum → Bool
@@ -22,8 +19,8 @@ begins_list (Err fault) = true
 
 -- there is memory enough, unless a list is made
 abbrev pub TakesMemoryFor : {A : Type 0} → Bool → Result A ValueFault → Type 0
-TakesMemoryFor list answer = IfErr answer (λ e. IsTrue (list || not (is_memory e)))
+TakesMemoryFor list answer = TakesFor is_memory list answer
 
 -- no memory is taken
 abbrev pub TakesNone : {A : Type 0} → Result A ValueFault → Type 0
-TakesNone answer = TakesMemoryFor false answer
+TakesNone answer = TakesNothing is_memory answer

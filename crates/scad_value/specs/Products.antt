@@ -1,9 +1,10 @@
 -- Products of vectors and matrices (OpenSCAD User Manual, "Vector operators").
-use Rattle.std.specs.Prelude.{ℕ, zero, suc, ◌+◌, ◌==◌, nat_lt, ℤ, pos, Bool, true, false, ◌&&◌, if◌then◌else◌, Result, Ok, Err}
+use Rattle.std.specs.Prelude.{ℕ, zero, suc, ◌+◌, ◌==◌, ℤ, pos, Bool, true, false, ◌&&◌, if◌then◌else◌, Option, Some, None, Result, Ok}
+use Rattle.scad_base.specs.Results.{and_then}
 use Rattle.scad_num.specs.declared.fault.NumFault.{NumFault}
 use Rattle.scad_num.specs.Number.{sum_of, product_of}
-use Rattle.scad_value.specs.declared.product.Shape.{Shape}
-use Rattle.scad_value.specs.declared.product.Shape.TheVariants.{Numbers, Matrix, Other}
+use Rattle.scad_value.specs.declared.product.Factor.{Factor}
+use Rattle.scad_value.specs.declared.product.Factor.TheVariants.{Numbers, Matrix, Other}
 use Rattle.scad_value.specs.Datum.{Datum, undef, number, vector, Elements, no_elements, element}
 use Rattle.scad_value.specs.Kinds.{is_number}
 use Rattle.scad_value.specs.Elementwise.{Answer, AllAnswers, as_number, as_vector, first_then}
@@ -22,33 +23,43 @@ abbrev pub all_numbers : Elements → Bool
 all_numbers no_elements = true
 all_numbers (element d all) = is_number d && all_numbers all
 
--- how many elements there are, if all are numbers, else 0
-abbrev pub numbers_in : Elements → ℕ
-numbers_in all = if all_numbers all then count all else 0
+-- how many numbers there are, where there is one and all elements are numbers
+abbrev pub numbers_in : Elements → Option ℕ
+numbers_in no_elements = None
+numbers_in (element d all) = if all_numbers (element d all) then Some (count (element d all)) else None
 
 -- the same of a value's elements
-abbrev pub width : Datum → ℕ
+abbrev pub width : Datum → Option ℕ
 width (vector all) = numbers_in all
-width _ = 0
+width _ = None
 
--- each element is a vector of so many numbers
+-- the row is a vector of so many numbers
+abbrev pub is_wide : ℕ → Option ℕ → Bool
+is_wide n (Some m) = m == n
+is_wide n None = false
+
 abbrev pub all_wide : ℕ → Elements → Bool
 all_wide n no_elements = true
-all_wide n (element d all) = width d == n && all_wide n all
+all_wide n (element d all) = is_wide n (width d) && all_wide n all
 
--- the length of the rows, if all are vectors of equally many numbers, else 0
-abbrev pub columns_in : Elements → ℕ
-columns_in all = if all_wide (width (nth all 0)) all then width (nth all 0) else 0
+-- the length of the first row, where all rows have it
+abbrev pub columns_of : Option ℕ → Elements → Option ℕ
+columns_of (Some n) all = if all_wide n all then Some n else None
+columns_of None all = None
 
--- so many numbers, one at least; so many rows of so many numbers, one at least each; or something else
-abbrev pub shape : Elements → Shape
-shape all =
-    if nat_lt 0 (numbers_in all) then Numbers (numbers_in all)
-    else (if nat_lt 0 (columns_in all) then Matrix (count all) (columns_in all) else Other)
+-- the length of the rows, where all are vectors of equally many numbers, one at least
+abbrev pub columns_in : Elements → Option ℕ
+columns_in all = columns_of (width (nth all 0)) all
 
-abbrev pub and_then : {A B : Type 0} → Result A NumFault → (A → Result B NumFault) → Result B NumFault
-and_then (Ok a) f = f a
-and_then (Err fault) f = Err fault
+-- so many numbers; else so many rows of so many numbers; else neither
+abbrev pub factor_by : Option ℕ → ℕ → Option ℕ → Factor
+factor_by (Some n) rows columns = Numbers n
+factor_by None rows (Some columns) = Matrix rows columns
+factor_by None rows None = Other
+
+-- what the elements of a vector are to a product
+abbrev pub factor : Elements → Factor
+factor all = factor_by (numbers_in all) (count all) (columns_in all)
 
 abbrev pub amount : Datum → ℤ
 amount (number z) = z
@@ -98,12 +109,12 @@ when true answer = answer
 when false answer = Ok undef
 
 -- vectors of equal length; matrix and vector, vector and matrix, matrix and matrix, where the inner lengths agree
-abbrev pub product_by_shapes : Shape → Shape → Elements → Elements → Answer
-product_by_shapes (Numbers n) (Numbers m) xs ys = when (n == m) (as_number (dot xs ys))
-product_by_shapes (Matrix rows n) (Numbers m) xs ys = when (n == m) (as_vector (by_rows xs ys))
-product_by_shapes (Numbers n) (Matrix m columns) xs ys = when (n == m) (as_vector (by_columns columns 0 xs ys))
-product_by_shapes (Matrix rows n) (Matrix m columns) xs ys = when (n == m) (as_vector (by_rows_and_columns columns xs ys))
-product_by_shapes _ _ xs ys = Ok undef
+abbrev pub product_of_factors : Factor → Factor → Elements → Elements → Answer
+product_of_factors (Numbers n) (Numbers m) xs ys = when (n == m) (as_number (dot xs ys))
+product_of_factors (Matrix rows n) (Numbers m) xs ys = when (n == m) (as_vector (by_rows xs ys))
+product_of_factors (Numbers n) (Matrix m columns) xs ys = when (n == m) (as_vector (by_columns columns 0 xs ys))
+product_of_factors (Matrix rows n) (Matrix m columns) xs ys = when (n == m) (as_vector (by_rows_and_columns columns xs ys))
+product_of_factors _ _ xs ys = Ok undef
 
 abbrev pub product_of_vectors : Elements → Elements → Answer
-product_of_vectors xs ys = product_by_shapes (shape xs) (shape ys) xs ys
+product_of_vectors xs ys = product_of_factors (factor xs) (factor ys) xs ys

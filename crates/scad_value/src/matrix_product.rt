@@ -4,14 +4,14 @@ ghost use Rattle.std.specs.Prelude.{◌≡◌, Ok, IfOk, IfErr};
 ghost use Rattle.scad_value.specs.Elementwise.{as_number};
 ghost use Rattle.scad_value.specs.Faults.{Refuses};
 ghost use Rattle.scad_value.specs.Memory.{begins_list, TakesMemoryFor};
-ghost use Rattle.scad_value.specs.Products.{elements_in, dot, by_columns, by_rows, by_rows_and_columns, product_by_shapes, product_of_vectors};
-ghost use Rattle.scad_value.specs.declared.product.Shape.TheVariants.{Numbers, Matrix};
+ghost use Rattle.scad_value.specs.Products.{elements_in, dot, by_columns, by_rows, by_rows_and_columns, product_of_factors, product_of_vectors};
+ghost use Rattle.scad_value.specs.declared.product.Factor.TheVariants.{Numbers, Matrix};
 ghost use Rattle.scad_value.specs.View.{datum_of, elements};
 
 use crate::elementwise::as_number;
 use crate::fault::ValueFault;
 use crate::kind::elements_of;
-use crate::product::{Shape, dot, dot_column, shape_of};
+use crate::product::{Factor, dot, dot_column, factor_of};
 use crate::value::{Value, Values};
 use std::alloc::Global;
 
@@ -90,27 +90,27 @@ fn by_rows_and_columns(
 #[tactic(auto, using(crate::proofs::Memory::takings))]
 fn times_vector(
     alloc: Global,
-    left: Shape,
+    left: Factor,
     length: usize,
     xs: &[Value],
     ys: &[Value],
 ) -> Result<Value, ValueFault>
     ensures found { IfOk result
-        (λ v. product_by_shapes left (Numbers length) (elements xs.now) (elements ys.now)
+        (λ v. product_of_factors left (Numbers length) (elements xs.now) (elements ys.now)
         ≡ Ok (datum_of v)) }
     ensures refused { IfErr result
-        (Refuses (product_by_shapes left (Numbers length) (elements xs.now) (elements ys.now))) }
+        (Refuses (product_of_factors left (Numbers length) (elements xs.now) (elements ys.now))) }
     ensures memory { TakesMemoryFor
-        (begins_list (product_by_shapes left (Numbers length) (elements xs.now) (elements ys.now))) result }
+        (begins_list (product_of_factors left (Numbers length) (elements xs.now) (elements ys.now))) result }
 {
     match left {
-        Shape::Numbers(n) => {
+        Factor::Numbers(n) => {
             if n != length {
                 return Ok(Value::Undef);
             }
             as_number(dot(xs, ys))
         }
-        Shape::Matrix(_, n) => {
+        Factor::Matrix(_, n) => {
             if n != length {
                 return Ok(Value::Undef);
             }
@@ -119,7 +119,7 @@ fn times_vector(
                 Err(fault) => Err(fault),
             }
         }
-        Shape::Other => Ok(Value::Undef),
+        Factor::Other => Ok(Value::Undef),
     }
 }
 
@@ -127,22 +127,22 @@ fn times_vector(
 #[tactic(auto, using(crate::proofs::Memory::takings))]
 fn times_matrix(
     alloc: Global,
-    left: Shape,
+    left: Factor,
     rows: usize,
     columns: usize,
     xs: &[Value],
     ys: &[Value],
 ) -> Result<Value, ValueFault>
     ensures found { IfOk result
-        (λ v. product_by_shapes left (Matrix rows columns) (elements xs.now) (elements ys.now)
+        (λ v. product_of_factors left (Matrix rows columns) (elements xs.now) (elements ys.now)
         ≡ Ok (datum_of v)) }
     ensures refused { IfErr result
-        (Refuses (product_by_shapes left (Matrix rows columns) (elements xs.now) (elements ys.now))) }
+        (Refuses (product_of_factors left (Matrix rows columns) (elements xs.now) (elements ys.now))) }
     ensures memory { TakesMemoryFor
-        (begins_list (product_by_shapes left (Matrix rows columns) (elements xs.now) (elements ys.now))) result }
+        (begins_list (product_of_factors left (Matrix rows columns) (elements xs.now) (elements ys.now))) result }
 {
     match left {
-        Shape::Numbers(n) => {
+        Factor::Numbers(n) => {
             if n != rows {
                 return Ok(Value::Undef);
             }
@@ -151,7 +151,7 @@ fn times_matrix(
                 Err(fault) => Err(fault),
             }
         }
-        Shape::Matrix(_, n) => {
+        Factor::Matrix(_, n) => {
             if n != rows {
                 return Ok(Value::Undef);
             }
@@ -160,7 +160,7 @@ fn times_matrix(
                 Err(fault) => Err(fault),
             }
         }
-        Shape::Other => Ok(Value::Undef),
+        Factor::Other => Ok(Value::Undef),
     }
 }
 
@@ -177,10 +177,10 @@ pub(crate) fn product_of_vectors(
     ensures memory { TakesMemoryFor
         (begins_list (product_of_vectors (elements xs.now) (elements ys.now))) result }
 {
-    let left = shape_of(xs);
-    match shape_of(ys) {
-        Shape::Numbers(n) => times_vector(alloc, left, n, xs, ys),
-        Shape::Matrix(rows, columns) => times_matrix(alloc, left, rows, columns, xs, ys),
-        Shape::Other => Ok(Value::Undef),
+    let left = factor_of(xs);
+    match factor_of(ys) {
+        Factor::Numbers(n) => times_vector(alloc, left, n, xs, ys),
+        Factor::Matrix(rows, columns) => times_matrix(alloc, left, rows, columns, xs, ys),
+        Factor::Other => Ok(Value::Undef),
     }
 }

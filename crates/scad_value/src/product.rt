@@ -1,7 +1,7 @@
 //! Products of vectors and matrices.
 
 ghost use Rattle.std.specs.Prelude.{◌≡◌};
-ghost use Rattle.scad_value.specs.Products.{amount, numbers_in, width, columns_in, shape, nth, elements_in, plus_product, dot, column};
+ghost use Rattle.scad_value.specs.Products.{amount, numbers_in, width, is_wide, all_wide, columns_in, factor, nth, elements_in, plus_product, dot, column};
 ghost use Rattle.scad_value.specs.View.{datum_of, elements};
 
 use crate::kind::{elements_of, number_of};
@@ -10,71 +10,89 @@ use scad_num::{Num, NumFault};
 
 /// What the elements of a vector are to a product.
 #[derive(Clone, Copy, Debug, PartialEq, Eq)]
-pub(crate) enum Shape {
+pub(crate) enum Factor {
     /// So many numbers, one at least.
     Numbers(usize),
     /// So many rows of so many numbers, one at least each.
     Matrix(usize, usize),
+    /// Neither.
     Other,
 }
 
-/// How many elements there are, if all are numbers, else 0.
+/// How many numbers there are, where there is one and all elements are numbers.
 #[tactic(auto, using(crate::proofs::Rows::counted))]
-pub fn numbers_in(all: &[Value]) -> usize
+pub fn numbers_in(all: &[Value]) -> Option<usize>
     ensures { result ≡ numbers_in (elements all.now) }
 {
+    if all.is_empty() {
+        return None;
+    }
     'elements: for v in all {
         if number_of(v).is_none() {
-            return 0;
+            return None;
         }
     }
-    all.len()
+    Some(all.len())
 }
 
-/// How many elements a vector of numbers has, and 0 for any other value.
-fn width(v: &Value) -> usize
+/// The same of a value's elements.
+fn width(v: &Value) -> Option<usize>
     ensures { result ≡ width (datum_of v.now) }
 {
-    match elements_of(v) {
-        Some(all) => numbers_in(all),
-        None => 0,
-    }
+    numbers_in(elements_of(v)?)
 }
 
 #[tactic(auto, using(crate::proofs::Access::places))]
-fn first_width(all: &[Value]) -> usize
+fn first_width(all: &[Value]) -> Option<usize>
     ensures { result ≡ width (nth (elements all.now) 0) }
 {
-    if all.is_empty() { 0 } else { width(&all[0]) }
+    if all.is_empty() { None } else { width(&all[0]) }
 }
 
-/// The length of the rows, if all are vectors of equally many numbers, else 0.
-#[tactic(auto, using(crate::proofs::Rows::counted))]
-fn columns_in(all: &[Value]) -> usize
-    ensures { result ≡ columns_in (elements all.now) }
+/// Whether the row is a vector of so many numbers.
+fn is_wide(n: usize, row: &Value) -> bool
+    ensures { result ≡ is_wide n (width (datum_of row.now)) }
 {
-    let columns = first_width(all);
-    'rows: for v in all {
-        if width(v) != columns {
-            return 0;
+    match width(row) {
+        Some(m) => m == n,
+        None => false,
+    }
+}
+
+/// Whether all rows are vectors of so many numbers.
+#[tactic(auto, using(crate::proofs::Rows::left))]
+fn all_wide(n: usize, all: &[Value]) -> bool
+    ensures { result ≡ all_wide n (elements all.now) }
+{
+    'rows: for row in all {
+        if !is_wide(n, row) {
+            return false;
         }
     }
-    columns
+    true
+}
+
+/// The length of the rows, where all are vectors of equally many numbers, one at least.
+fn columns_in(all: &[Value]) -> Option<usize>
+    ensures { result ≡ columns_in (elements all.now) }
+{
+    match first_width(all) {
+        Some(n) => { if all_wide(n, all) { Some(n) } else { None } }
+        None => None,
+    }
 }
 
 #[tactic(auto, using(crate::proofs::Rows::counted))]
-pub(crate) fn shape_of(all: &[Value]) -> Shape
-    ensures { result ≡ shape (elements all.now) }
+pub(crate) fn factor_of(all: &[Value]) -> Factor
+    ensures { result ≡ factor (elements all.now) }
 {
-    let numbers = numbers_in(all);
-    if numbers > 0 {
-        return Shape::Numbers(numbers);
+    match numbers_in(all) {
+        Some(n) => Factor::Numbers(n),
+        None => match columns_in(all) {
+            Some(columns) => Factor::Matrix(all.len(), columns),
+            None => Factor::Other,
+        },
     }
-    let columns = columns_in(all);
-    if columns > 0 {
-        return Shape::Matrix(all.len(), columns);
-    }
-    Shape::Other
 }
 
 /// A number's value, and 0 for any other value.

@@ -1,11 +1,13 @@
 //! Values as texts.
 
-ghost use Rattle.std.specs.Prelude.{◌≡◌, ◌+◌, ◌*◌, ◌/◌, ◌^◌, ◌<◌, true, ◌∷◌, ◌++◌, decimal, IfOk, OnOk, encode_utf8_all};
-ghost use Rattle.scad_value.specs.Texts.{decimals, size_text, number_text, boolean_text, quoted_text, range_text, comma, text, elements_text};
+ghost use Rattle.std.specs.Prelude.{◌≡◌, true, ◌∷◌, ◌++◌, IfOk, OnOk, OnErr, encode_utf8_all};
+ghost use Rattle.scad_base.specs.Characters.{open_square};
+ghost use Rattle.scad_num.specs.Text.{number_text};
+ghost use Rattle.scad_ast.specs.Text.{boolean_text, separator};
+ghost use Rattle.scad_value.specs.Texts.{quoted_text, range_text, text, elements_text};
 ghost use Rattle.scad_value.specs.View.{datum_of, elements};
 
 use crate::value::Value;
-use itoa::Buffer;
 use scad_fault::Text;
 use scad_num::Num;
 use std::alloc::{AllocError, Global};
@@ -20,76 +22,11 @@ fn push_ascii(out: &mut Vec<char>, bytes: &[u8]) -> Result<(), AllocError>
     Ok(())
 }
 
-/// Appends the digits of a number.
-fn push_decimal(out: &mut Vec<char>, n: u64) -> Result<(), AllocError>
-    ensures { OnOk result (out.new.items ≡ out.old.items ++ decimal n) }
-{
-    push_ascii(out, Buffer::new().format(n).as_bytes())
-}
-
-/// 10 to the power of k.
-fn power(k: u32) -> u64
-    requires { k < 6 }
-    ensures value { result ≡ 10 ^ k }
-    ensures some { 0 < result }
-{
-    match k {
-        0 => 1,
-        1 => 10,
-        2 => 100,
-        3 => 1_000,
-        4 => 10_000,
-        _ => 100_000,
-    }
-}
-
-/// The digit of a rest at a place.
-fn digit(rest: u64, place: u64) -> char
-    requires place { 0 < place }
-    requires rest { rest < 10 * place }
-    ensures { result ≡ 48 + rest / place }
-{
-    (b'0' + (rest / place) as u8) as char
-}
-
-/// Appends decimals without zeros at the end.
-fn push_decimals(out: &mut Vec<char>, rest: u64) -> Result<(), AllocError>
-    requires { rest < 1000000 }
-    ensures { OnOk result (out.new.items ≡ out.old.items ++ decimals 6 rest) }
-{
-    let mut left = rest;
-    let mut k = 6u32;
-    'places: while k > 0 && left > 0 {
-        k -= 1;
-        let place = power(k);
-        out.push(digit(left, place))?;
-        left %= place;
-    }
-    Ok(())
-}
-
-/// Appends a number of millionths that isn't negative.
-#[tactic(auto, unfolding(crate::specs::Texts::size_text))]
-fn push_size(out: &mut Vec<char>, millionths: u64) -> Result<(), AllocError>
-    ensures { OnOk result (out.new.items ≡ out.old.items ++ size_text millionths) }
-{
-    push_decimal(out, millionths / 1_000_000)?;
-    let rest = millionths % 1_000_000;
-    if rest == 0 {
-        return Ok(());
-    }
-    out.push('.')?;
-    push_decimals(out, rest)
-}
-
+/// Appends a number.
 fn push_number(out: &mut Vec<char>, n: Num) -> Result<(), AllocError>
     ensures { OnOk result (out.new.items ≡ out.old.items ++ number_text n) }
 {
-    let millionths = n.millionths();
-    if millionths < 0 {
-        out.push('-')?;
-    }
-    push_size(out, millionths.unsigned_abs())
+    push_ascii(out, n.text().as_slice())
 }
 
 fn push_boolean(out: &mut Vec<char>, b: bool) -> Result<(), AllocError>
@@ -125,8 +62,8 @@ fn push_range(out: &mut Vec<char>, start: Num, step: Num, end: Num) -> Result<()
 }
 
 /// Appends what stands before an element.
-fn push_comma(out: &mut Vec<char>, first: bool) -> Result<(), AllocError>
-    ensures { OnOk result (out.new.items ≡ out.old.items ++ comma first) }
+fn push_separator(out: &mut Vec<char>, first: bool) -> Result<(), AllocError>
+    ensures { OnOk result (out.new.items ≡ out.old.items ++ separator first) }
 {
     if first {
         Ok(())
@@ -135,9 +72,8 @@ fn push_comma(out: &mut Vec<char>, first: bool) -> Result<(), AllocError>
     }
 }
 
-/// Appends the code points that are printed for the value, a string between quotes.
 #[cycle(text)]
-pub fn push_text(out: &mut Vec<char>, a: &Value) -> Result<(), AllocError>
+fn push_value(out: &mut Vec<char>, a: &Value) -> Result<(), AllocError>
     ensures { OnOk result (out.new.items ≡ out.old.items ++ text (datum_of a.now)) }
 {
     match a {
@@ -152,17 +88,28 @@ pub fn push_text(out: &mut Vec<char>, a: &Value) -> Result<(), AllocError>
 
 #[cycle(text)]
 fn push_vector(out: &mut Vec<char>, all: &[Value]) -> Result<(), AllocError>
-    ensures { OnOk result (out.new.items ≡ out.old.items ++ 91 ∷ elements_text true (elements all.now)) }
+    ensures { OnOk result (out.new.items ≡ out.old.items ++ open_square ∷ elements_text true (elements all.now)) }
 {
     out.push('[')?;
     let mut first = true;
     'elements: for v in all {
-        push_comma(out, first)?;
-        push_text(out, v)?;
+        push_separator(out, first)?;
+        push_value(out, v)?;
         first = false;
     }
     out.push(']')?;
     Ok(())
+}
+
+/// Appends the code points that are printed for the value, a string between quotes. They are made apart
+/// first, so `out` stays as it is where there is no memory.
+pub fn push_text(out: &mut Vec<char>, a: &Value) -> Result<(), AllocError>
+    ensures ok { OnOk result (out.new.items ≡ out.old.items ++ text (datum_of a.now)) }
+    ensures err { OnErr result (out.new.items ≡ out.old.items) }
+{
+    let mut chars = Vec::new(*out.allocator());
+    push_value(&mut chars, a)?;
+    out.extend_from_slice(chars.as_slice())
 }
 
 /// Characters as UTF-8.
@@ -181,6 +128,6 @@ pub fn text_of(alloc: Global, a: &Value) -> Result<Text, AllocError>
     ensures { IfOk result (λ t. t ≡ encode_utf8_all (text (datum_of a.now))) }
 {
     let mut chars = Vec::new(alloc);
-    push_text(&mut chars, a)?;
+    push_value(&mut chars, a)?;
     encoded(alloc, chars.as_slice())
 }

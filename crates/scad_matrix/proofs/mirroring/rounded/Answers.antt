@@ -1,7 +1,8 @@
 use Rattle.std.proofs.Common.{pos, neg_ℤ, ◌-ℤ◌, FitsSigned, arith, ap, sym, ◌∙◌}
 use Rattle.std.proofs.lemmas.Int.{ints, to_z-of_z}
 use Rattle.scad_num.specs.Rounding.{half_up}
-use Rattle.scad_matrix.proofs.Reflected.{half_away-below, half_away-above, minus_as_neg}
+use Rattle.scad_base.proofs.Integers.{zero_minus}
+use Rattle.scad_matrix.proofs.Reflected.{half_away-below, half_away-above}
 use Rattle.scad_matrix.proofs.mirroring.rounded.Goals as goal
 use mir.Syntax.{w64}
 
@@ -15,7 +16,7 @@ returns-then-n-lt0 c =
     let size = c.rounded_size-size.ensures.value in
     let abs = simp to_z-of_z at c.unsigned_abs.ensures.value in
     let below = simp to_z-of_z at c.if-n-lt0.true in
-    given ∙ minus_as_neg c.rounded_size-size.result ∙ ap neg_ℤ (size ∙ ap (λ m. pos (half_up m c.args.d)) abs) ∙ sym (half_away-below c.args.n c.args.d below)
+    given ∙ zero_minus c.rounded_size-size.result ∙ ap neg_ℤ (size ∙ ap (λ m. pos (half_up m c.args.d)) abs) ∙ sym (half_away-below c.args.n c.args.d below)
 
 pub returns-else-n-lt0 : goal.returns-else-n-lt0
 returns-else-n-lt0 c =

@@ -1,0 +1,5 @@
+use Rattle.scad_num.proofs.Nearest.{floors_and_ceilings}
+use Rattle.scad_num.proofs.laws.floors_and_ceilings.Goals as goal
+
+pub returns : goal.returns
+returns c = floors_and_ceilings

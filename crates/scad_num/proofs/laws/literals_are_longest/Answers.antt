@@ -1,0 +1,5 @@
+use Rattle.scad_num.proofs.Recognised.{literals_are_longest}
+use Rattle.scad_num.proofs.laws.literals_are_longest.Goals as goal
+
+pub returns : goal.returns
+returns c = literals_are_longest

@@ -1,0 +1,5 @@
+use Rattle.scad_num.proofs.Nearest.{rounds_away_from_zero}
+use Rattle.scad_num.proofs.laws.rounds_away_from_zero.Goals as goal
+
+pub returns : goal.returns
+returns c = rounds_away_from_zero
