@@ -28,7 +28,7 @@ across_gap : (r u o x y d x' y' d' : ℤ) → u *ℤ y +ℤ o *ℤ d -ℤ r *ℤ
     → r *ℤ (x' *ℤ d -ℤ x *ℤ d') ≡ u *ℤ (y' *ℤ d -ℤ y *ℤ d')
 across_gap r u o x y d x' y' d' h k =
     let i : u *ℤ (y' *ℤ d -ℤ y *ℤ d') -ℤ r *ℤ (x' *ℤ d -ℤ x *ℤ d') ≡ (u *ℤ y' +ℤ o *ℤ d' -ℤ r *ℤ x') *ℤ d -ℤ (u *ℤ y +ℤ o *ℤ d -ℤ r *ℤ x) *ℤ d' =
-        ring (r ∷ u ∷ o ∷ x ∷ y ∷ d ∷ x' ∷ y' ∷ d' ∷ []) (v1 ⊗ (v7 ⊗ v5 ⊖ v4 ⊗ v8) ⊖ v0 ⊗ (v6 ⊗ v5 ⊖ v3 ⊗ v8)) ((v1 ⊗ v7 ⊕ v2 ⊗ v8 ⊖ v0 ⊗ v6) ⊗ v5 ⊖ (v1 ⊗ v4 ⊕ v2 ⊗ v5 ⊖ v0 ⊗ v3) ⊗ v8) refl in
+    ring (r ∷ u ∷ o ∷ x ∷ y ∷ d ∷ x' ∷ y' ∷ d' ∷ []) (v1 ⊗ (v7 ⊗ v5 ⊖ v4 ⊗ v8) ⊖ v0 ⊗ (v6 ⊗ v5 ⊖ v3 ⊗ v8)) ((v1 ⊗ v7 ⊕ v2 ⊗ v8 ⊖ v0 ⊗ v6) ⊗ v5 ⊖ (v1 ⊗ v4 ⊕ v2 ⊗ v5 ⊖ v0 ⊗ v3) ⊗ v8) refl in
     sym (minus _ _ (i ∙ ap₂ (λ (s t : ℤ). s *ℤ d -ℤ t *ℤ d') k h ∙ nothing d d'))
   where
     nothing : (d d' : ℤ) → pos 0 *ℤ d -ℤ pos 0 *ℤ d' ≡ pos 0
@@ -86,7 +86,7 @@ module _ (e : Edge) where
       let g = gaps p q hp hq in
       let z : q.y *ℤ p.d -ℤ p.y *ℤ q.d ≡ pos 0 = no_gap (q.y *ℤ p.d) (p.y *ℤ q.d) (sym h) in
       let x : q.x *ℤ p.d -ℤ p.x *ℤ q.d ≡ pos 0 = zero_factor (q.x *ℤ p.d -ℤ p.x *ℤ q.d) (rise e) r
-          (ring (rise e ∷ (q.x *ℤ p.d -ℤ p.x *ℤ q.d) ∷ []) (v1 ⊗ v0) (v0 ⊗ v1) refl ∙ g ∙ ap (λ (t : ℤ). run e *ℤ t) z ∙ ring (run e ∷ []) (v0 ⊗ num (pos 0)) (num (pos 0)) refl) in
+      (ring (rise e ∷ (q.x *ℤ p.d -ℤ p.x *ℤ q.d) ∷ []) (v1 ⊗ v0) (v0 ⊗ v1) refl ∙ g ∙ ap (λ (t : ℤ). run e *ℤ t) z ∙ ring (run e ∷ []) (v0 ⊗ num (pos 0)) (num (pos 0)) refl) in
       is_same p q h (sym (minus (q.x *ℤ p.d) (p.x *ℤ q.d) x))
 
   -- ---- where it is flat
@@ -95,7 +95,7 @@ module _ (e : Edge) where
     unfolding left_of x_at offset
     at_height p h =
         let own : run e *ℤ p.y +ℤ (pos 0 *ℤ (low e).x -ℤ run e *ℤ (low e).y) *ℤ p.d -ℤ pos 0 *ℤ p.x ≡ pos 0 =
-            subst (λ (r : ℤ). run e *ℤ p.y +ℤ (r *ℤ (low e).x -ℤ run e *ℤ (low e).y) *ℤ p.d -ℤ r *ℤ p.x ≡ pos 0) flat h in
+        subst (λ (r : ℤ). run e *ℤ p.y +ℤ (r *ℤ (low e).x -ℤ run e *ℤ (low e).y) *ℤ p.d -ℤ r *ℤ p.x ≡ pos 0) flat h in
         minus p.y ((low e).y *ℤ p.d) (cancel_any (p.y -ℤ (low e).y *ℤ p.d) (run e) long
         (ring (run e ∷ p.y ∷ (low e).x ∷ (low e).y ∷ p.d ∷ p.x ∷ []) ((v1 ⊖ v3 ⊗ v4) ⊗ v0) (v0 ⊗ v1 ⊕ (num (pos 0) ⊗ v2 ⊖ v0 ⊗ v3) ⊗ v4 ⊖ num (pos 0) ⊗ v5) refl ∙ own))
 
