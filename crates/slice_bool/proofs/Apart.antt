@@ -25,7 +25,7 @@ use Rattle.slice_snap.specs.declared.piece.Piece.{Piece}
 use Rattle.slice_snap.specs.Spots.{point_of}
 use Rattle.slice_snap.specs.Inside.{IsInside}
 use Rattle.slice_snap.specs.Naming.{AreApartByName, AllPairs}
-use Rattle.slice_snap.proofs.Ends.{both_lists}
+use Rattle.scad_base.proofs.Lists.{AllByRecursion-append}
 use Rattle.slice_bool.specs.Pieces.{spot_on, piece_between, bundle_piece, slab_pieces, GoRight, AreStops, covers, stretch_piece, flat_pieces, AreLevelPieces, ArePieces}
 use Rattle.slice_bool.proofs.Passing.{IsLive, live_bundles}
 use Rattle.slice_bool.proofs.Middle.{half_point}
@@ -42,7 +42,7 @@ use Rattle.scad_geom.specs.Heights.{AreNeighbours}
 -- ---- pairs of two lists
 pairs-append : (R : Piece → Piece → Type 0) (qs rs : List Piece) → AllPairs R qs → AllPairs R rs → AllByRecursion (λ q. AllByRecursion (R q) rs) qs → AllPairs R (qs ++ rs)
 pairs-append R [] rs a b c = b
-pairs-append R (q ∷ qs) rs a b c = (both_lists (R q) qs rs a.0 c.0, pairs-append R qs rs a.1 b c.1)
+pairs-append R (q ∷ qs) rs a b c = (AllByRecursion-append (R q) qs rs a.0 c.0, pairs-append R qs rs a.1 b c.1)
 
 -- what holds of each point inside a piece
 abbrev pub AllInside : (Point → Type 0) → Piece → Type 0
@@ -106,7 +106,7 @@ module _ (es : List LeafEdge) (shape : Shape) where
   slab_inside l u n [] r ls = tt
   slab_inside l u n ([] ∷ bs) r ls = absurd r.0
   slab_inside l u n ((k ∷ ks) ∷ bs) r ls =
-      both_lists (AllInside (Between l u)) (bundle_piece es shape l u (k ∷ ks)) (slab_pieces es shape l u bs)
+      AllByRecursion-append (AllInside (Between l u)) (bundle_piece es shape l u (k ∷ ks)) (slab_pieces es shape l u bs)
       (between_inside (Between l u) (is_in_by true false es shape (half_point es l u k)) (is_in_by true true es shape (half_point es l u k)) (spot_on (edge_at es k) l) (spot_on (edge_at es k) u) k
       (high_divisor es shape l u n k ls.0) (λ p dp i. inside_slab es shape l u n k ls.0 p dp i))
       (slab_inside l u n bs r.2 (back (IsLive es l u) (k ∷ ks) (concat bs) ls))
@@ -115,7 +115,7 @@ module _ (es : List LeafEdge) (shape : Shape) where
   later_named l u k ks [] h = tt
   later_named l u k ks ([] ∷ bs) h = absurd h.0
   later_named l u k ks ((j ∷ js) ∷ bs) h =
-      both_lists (λ r. r.edge ≡ k → ⊥) (bundle_piece es shape l u (j ∷ js)) (slab_pieces es shape l u bs)
+      AllByRecursion-append (λ r. r.edge ≡ k → ⊥) (bundle_piece es shape l u (j ∷ js)) (slab_pieces es shape l u bs)
       (others_named k (is_in_by true false es shape (half_point es l u j)) (is_in_by true true es shape (half_point es l u j)) (spot_on (edge_at es j) l) (spot_on (edge_at es j) u) j
       (λ e. not_before_itself l (edge_at es k) (subst (λ (i : ℕ). IsBefore l (edge_at es k) (edge_at es i)) e h.0)))
       (later_named l u k ks bs h.1)
@@ -152,7 +152,7 @@ module _ (es : List LeafEdge) (shape : Shape) where
     past_all : (s : Spot) (ss : List Spot) → AllByRecursion (IsSpotAt l) (s ∷ ss) → GoRight (s ∷ ss) → AllByRecursion (AllInside (Past l s)) (flat_pieces es shape (s ∷ ss))
     past_all s [] hs r = tt
     past_all s (t ∷ ss) hs r =
-        both_lists (AllInside (Past l s)) (stretch_piece es shape s t (position (covers s t) es)) (flat_pieces es shape (t ∷ ss))
+        AllByRecursion-append (AllInside (Past l s)) (stretch_piece es shape s t (position (covers s t) es)) (flat_pieces es shape (t ∷ ss))
         (stretch_inside (Past l s) s t (position (covers s t) es) (spot_divisor l t dl hs.1.0)
         (λ p dp i. let x = inside_stretch es shape l dl s t hs.0 hs.1.0 r.0 p dp i in (x.0, x.1)))
         (weaker (Past l t) (Past l s) (λ p dp h. (h.0, nearer l true p dp t s hs.1.0 hs.0 (lower_weak (across s) (across t) r.0) h.1)) (flat_pieces es shape (t ∷ ss)) (past_all t ss hs.1 r.1))
@@ -196,8 +196,8 @@ module _ (es : List LeafEdge) (shape : Shape) where
   from_all l [] pieces d r h a = subst (AllByRecursion (AllInside (From l))) (sym a.2) (weaker (IsAt l) (From l) (λ p dp k. down_to (level_at p) l k) (flat_pieces es shape a.0) (flat_inside l d.0 a.0 a.1))
   from_all l (u ∷ ls) pieces d r h a =
       subst (AllByRecursion (AllInside (From l))) (sym a.6)
-      (both_lists (AllInside (From l)) (flat_pieces es shape a.0 ++ slab_pieces es shape l u a.1) a.2
-      (both_lists (AllInside (From l)) (flat_pieces es shape a.0) (slab_pieces es shape l u a.1)
+      (AllByRecursion-append (AllInside (From l)) (flat_pieces es shape a.0 ++ slab_pieces es shape l u a.1) a.2
+      (AllByRecursion-append (AllInside (From l)) (flat_pieces es shape a.0) (slab_pieces es shape l u a.1)
       (weaker (IsAt l) (From l) (λ p dp k. down_to (level_at p) l k) (flat_pieces es shape a.0) (flat_inside l d.0 a.0 a.3))
       (weaker (Between l u) (From l) (λ p dp k. lower_weak l (level_at p) k.0) (slab_pieces es shape l u a.1)
       (slab_inside l u (neighbours_next es l u ls d r h) a.1 a.4.ranked (live_bundles es l u a.1 a.4))))
@@ -218,7 +218,7 @@ module _ (es : List LeafEdge) (shape : Shape) where
       (all_apart (IsAt l) (Between l u) (λ p dp i k. apart_heights l (level_at p) k.0 (up_to (level_at p) l i)) (flat_pieces es shape a.0) (slab_pieces es shape l u a.1) flats slabs))
       (levels_apart u ls a.2 d.1 r.1 above a.5)
       (all_apart (Under u) (From u) (λ p dp i k. apart_heights (level_at p) u i k) (flat_pieces es shape a.0 ++ slab_pieces es shape l u a.1) a.2
-      (both_lists (AllInside (Under u)) (flat_pieces es shape a.0) (slab_pieces es shape l u a.1)
+      (AllByRecursion-append (AllInside (Under u)) (flat_pieces es shape a.0) (slab_pieces es shape l u a.1)
       (weaker (IsAt l) (Under u) (λ p dp k. at_most_then_lower (level_at p) l u dp d.0 d.1.0 (up_to (level_at p) l k) r.0) (flat_pieces es shape a.0) flats)
       (weaker (Between l u) (Under u) (λ p dp k. k.1) (slab_pieces es shape l u a.1) slabs))
       (from_all u ls a.2 d.1 r.1 above a.5)))

@@ -17,7 +17,7 @@ use Rattle.scad_geom.proofs.Ring.{ring, ◌⊕◌, ◌⊖◌, ◌⊗◌, v0, v1,
 use Rattle.scad_geom.proofs.Signs.{at_least_mul}
 use Rattle.scad_geom.proofs.Heights.{at_most_chain, lower_weak}
 use Rattle.scad_geom.proofs.Turns.{beyond_mul}
-use Rattle.slice_bool.proofs.Gaps.{weak, at_least_of}
+use Rattle.scad_base.proofs.Integers.{at_most_of_less, gap_of_at_most}
 use Rattle.slice_snap.specs.declared.piece.Spot.{Spot}
 use Rattle.slice_snap.specs.declared.piece.Piece.{Piece}
 use Rattle.slice_snap.specs.Spots.{point_of}
@@ -130,7 +130,7 @@ module _ (l : Level) (right : Bool) (p : Point) (dp : pos 0 <ℤ p.d) where
       let at : s.at ≡ w.at = hs.at ∙ sym hw.at in
       let i : gap p (point_of w) *ℤ pos s.run ≡ (s.x *ℤ p.d -ℤ p.x *ℤ (w.at.d *ℤ pos s.run)) *ℤ pos w.run +ℤ (w.x *ℤ pos s.run -ℤ s.x *ℤ pos w.run) *ℤ p.d = further_identity s.x (pos s.run) w.x (pos w.run) p.x p.d w.at.d in
       let j : gap p (point_of w) *ℤ pos s.run ≡ gap p (point_of s) *ℤ pos w.run +ℤ (w.x *ℤ pos s.run -ℤ s.x *ℤ pos w.run) *ℤ p.d = i ∙ ap (λ (m : Level). (s.x *ℤ p.d -ℤ p.x *ℤ (m.d *ℤ pos s.run)) *ℤ pos w.run +ℤ (w.x *ℤ pos s.run -ℤ s.x *ℤ pos w.run) *ℤ p.d) (sym at) in
-      let m : pos 0 ≤ℤ ((w.x *ℤ pos s.run -ℤ s.x *ℤ pos w.run) *ℤ p.d) = at_least_mul (w.x *ℤ pos s.run -ℤ s.x *ℤ pos w.run) p.d (at_least_of (s.x *ℤ pos w.run) (w.x *ℤ pos s.run) o) (weak p.d dp) in
+      let m : pos 0 ≤ℤ ((w.x *ℤ pos s.run -ℤ s.x *ℤ pos w.run) *ℤ p.d) = at_least_mul (w.x *ℤ pos s.run -ℤ s.x *ℤ pos w.run) p.d (gap_of_at_most (s.x *ℤ pos w.run) (w.x *ℤ pos s.run) o) (at_most_of_less (pos 0) p.d dp) in
       sym (beyond_mul right (pos s.run) (gap p (point_of w)) hs.runs)
       ∙ beyond_more right (gap p (point_of s) *ℤ pos w.run) (gap p (point_of w) *ℤ pos s.run) (more_of (gap p (point_of w) *ℤ pos s.run) (gap p (point_of s) *ℤ pos w.run) ((w.x *ℤ pos s.run -ℤ s.x *ℤ pos w.run) *ℤ p.d) j m)
       (beyond_mul right (pos w.run) (gap p (point_of s)) hw.runs ∙ h)

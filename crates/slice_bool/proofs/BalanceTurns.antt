@@ -14,7 +14,7 @@ use Rattle.scad_geom.proofs.Signs.{pos_mul}
 use Rattle.scad_geom.proofs.Integers.{mul_assoc, neg_mul}
 use Rattle.scad_geom.proofs.Heights.{lower_then_at_most, at_most_then_lower, lower_weak}
 use Rattle.scad_geom.proofs.Turns.{level_at, over_true, over_false, flat_turn, rising_turn, beyond_mul}
-use Rattle.slice_bool.proofs.Gaps.{gap_of}
+use Rattle.scad_base.proofs.Integers.{gap_of_less}
 
 -- how far b lies to the right of p, over the product of their divisors
 abbrev pub gap : Point → Point → ℤ
@@ -75,14 +75,14 @@ start_side : (right : Bool) (p a b : Point) → IsLower (level_at a) (level_at b
 unfolding side_by
 start_side right p a b o h =
     ap (is_beyond right) (from_start a.x a.y a.d b.x b.y b.d p.x p.y p.d ∙ drop_zero (b.x *ℤ a.d -ℤ a.x *ℤ b.d) (p.y *ℤ a.d -ℤ a.y *ℤ p.d) (gap p a *ℤ (b.y *ℤ a.d -ℤ a.y *ℤ b.d)) (no_gap (p.y *ℤ a.d) (a.y *ℤ p.d) h))
-    ∙ beyond_mul right (b.y *ℤ a.d -ℤ a.y *ℤ b.d) (gap p a) (gap_of (a.y *ℤ b.d) (b.y *ℤ a.d) o)
+    ∙ beyond_mul right (b.y *ℤ a.d -ℤ a.y *ℤ b.d) (gap p a) (gap_of_less (a.y *ℤ b.d) (b.y *ℤ a.d) o)
 
 end_side : (right : Bool) (p a b : Point) → pos 0 <ℤ a.d → pos 0 <ℤ b.d → IsLower (level_at a) (level_at b) → p.y *ℤ b.d ≡ b.y *ℤ p.d → is_beyond right (side_by p a b) ≡ is_right right p b
 unfolding side_by
 end_side right p a b da db o h =
     sym (beyond_mul right b.d (side_by p a b) db)
     ∙ ap (is_beyond right) (from_end a.x a.y a.d b.x b.y b.d p.x p.y p.d ∙ drop_zero (a.d *ℤ (b.x *ℤ a.d -ℤ a.x *ℤ b.d)) (p.y *ℤ b.d -ℤ b.y *ℤ p.d) (gap p b *ℤ (a.d *ℤ (b.y *ℤ a.d -ℤ a.y *ℤ b.d))) (no_gap (p.y *ℤ b.d) (b.y *ℤ p.d) h))
-    ∙ beyond_mul right (a.d *ℤ (b.y *ℤ a.d -ℤ a.y *ℤ b.d)) (gap p b) (pos_mul a.d (b.y *ℤ a.d -ℤ a.y *ℤ b.d) da (gap_of (a.y *ℤ b.d) (b.y *ℤ a.d) o))
+    ∙ beyond_mul right (a.d *ℤ (b.y *ℤ a.d -ℤ a.y *ℤ b.d)) (gap p b) (pos_mul a.d (b.y *ℤ a.d -ℤ a.y *ℤ b.d) da (gap_of_less (a.y *ℤ b.d) (b.y *ℤ a.d) o))
 
 -- ---- upwards
 not_both : (z : ℤ) → z -ℤ z ≡ pos 0

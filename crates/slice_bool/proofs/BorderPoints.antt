@@ -6,6 +6,7 @@ use Rattle.std.specs.Prelude.{Option, Some, None, unsigned_abs}
 use Rattle.std.specs.List.{AllByRecursion, All, concat, position}
 use Rattle.std.proofs.lemmas.Int.{ints, by_lt_z}
 use Rattle.std.proofs.lemmas.List.Elements.{All-from_recursion}
+use Rattle.scad_base.proofs.Products.{zero_factor}
 use Rattle.scad_geom.specs.declared.level.Level.{Level}
 use Rattle.scad_geom.specs.declared.level.LeafEdge.{LeafEdge}
 use Rattle.scad_geom.specs.declared.shape.Shape.{Shape}
@@ -29,22 +30,17 @@ use Rattle.slice_bool.specs.Pieces.{spot_on, piece_between, bundle_piece, slab_p
 use Rattle.slice_snap.specs.Spots.{point_of}
 use Rattle.slice_bool.specs.BorderPoints.{IsBorderPoint}
 use Rattle.slice_snap.specs.Inside.{IsBelow, IsLeftOf, AreLevel, IsBetween, IsInside}
-use Rattle.slice_bool.proofs.Gaps.{gap_of}
+use Rattle.scad_base.proofs.Integers.{gap_of_less}
 use Rattle.slice_bool.proofs.Middle.{size_of, half_point, lower_scaled, scaled_below, value_right_at, value_left_at, value_right, value_left}
 use Rattle.slice_bool.proofs.Slabs.{side_up_is}
 use Rattle.slice_bool.proofs.Winding.{IsSpotAt, stops_at, spots_are_at}
-use Rattle.slice_snap.proofs.Ends.{both_lists}
+use Rattle.scad_base.proofs.Lists.{AllByRecursion-append}
 use Rattle.slice_bool.proofs.Walk.{UpTo, at_first, at_next, neighbours_next}
 use Rattle.slice_bool.proofs.BalanceTurns.{is_right, side_turned}
 use Rattle.slice_bool.proofs.BalanceSpots.{IsAt, up_to, down_to, values_alike}
 use Rattle.slice_bool.specs.Pieces.{across}
 use Rattle.slice_bool.proofs.BalanceStops.{IsUpTo, first_up_to, next_up_to, IsBeside, beside, further}
 use Rattle.slice_bool.proofs.BalanceFlat.{spot_is_at, spot_divisor, alike_beside}
-
-cancel : (a r : ℤ) → pos 0 <ℤ r → a *ℤ r ≡ pos 0 → a ≡ pos 0
-cancel a r p h = by_lt_z a (pos 0)
-    (λ q. let m = neg_mul_pos a r p q in absurd (omega (arith, ints)))
-    (λ q. by_lt_z (pos 0) a (λ k. let m = pos_mul a r k p in absurd (omega (arith, ints))) (λ k. omega (arith, ints)))
 
 nothing : (z d : ℤ) → z ≡ pos 0 → neg_ℤ z *ℤ d ≡ pos 0
 nothing z d h = let t : z *ℤ d ≡ pos 0 = rw h (omega (arith, ints)) in rw neg_mul (omega (arith, ints))
@@ -55,7 +51,7 @@ between_turned R a p b (inr h) = inl h
 
 pub inside_turned : (a b p : Point) → pos 0 <ℤ a.d → IsInside a b p → IsInside b a p
 inside_turned a b p da h = record {
-  on_line = cancel (side_by p b a) a.d da (side_turned p a b ∙ nothing (side_by p a b) b.d h.on_line);
+  on_line = zero_factor (side_by p b a) a.d da (side_turned p a b ∙ nothing (side_by p a b) b.d h.on_line);
   between = elim h.between [
     | inl k ↦ inl (between_turned IsBelow a p b k)
     | inr k ↦ inr (sym k.1, sym k.0, between_turned IsLeftOf a p b k.2)
@@ -116,8 +112,8 @@ module _ (es : List LeafEdge) (shape : Shape) where
     on_edge p h =
         let r = rise (edge_at es k) in
         let factor : ℤ = (r *ℤ r) *ℤ (l.d *ℤ (u.n *ℤ l.d -ℤ l.n *ℤ u.d)) in
-        let positive : pos 0 <ℤ factor = pos_mul (r *ℤ r) (l.d *ℤ (u.n *ℤ l.d -ℤ l.n *ℤ u.d)) (pos_mul r r lk.reaches.rises lk.reaches.rises) (pos_mul l.d (u.n *ℤ l.d -ℤ l.n *ℤ u.d) n.lower_divisor (gap_of (l.n *ℤ u.d) (u.n *ℤ l.d) n.in_order)) in
-        cancel (left_of (edge_at es k) p.x p.y p.d) factor positive (sym (side_up_is p (edge_at es k) l u (pos (unsigned_abs r)) (size_of r lk.reaches.rises)) ∙ h)
+        let positive : pos 0 <ℤ factor = pos_mul (r *ℤ r) (l.d *ℤ (u.n *ℤ l.d -ℤ l.n *ℤ u.d)) (pos_mul r r lk.reaches.rises lk.reaches.rises) (pos_mul l.d (u.n *ℤ l.d -ℤ l.n *ℤ u.d) n.lower_divisor (gap_of_less (l.n *ℤ u.d) (u.n *ℤ l.d) n.in_order)) in
+        zero_factor (left_of (edge_at es k) p.x p.y p.d) factor positive (sym (side_up_is p (edge_at es k) l u (pos (unsigned_abs r)) (size_of r lk.reaches.rises)) ∙ h)
 
     over_low : (p : Point) → pos 0 <ℤ p.d → IsBelow (point_of (spot_on (edge_at es k) l)) p → IsLower l (level_at p)
     over_low p dp h =
@@ -164,7 +160,7 @@ module _ (es : List LeafEdge) (shape : Shape) where
   slab_borders l u n before ((k ∷ ks) ∷ bs) b =
       let shifted : before ++ ((k ∷ ks) ∷ bs) ≡ (before ++ ((k ∷ ks) ∷ [])) ++ bs = sym (append_assoc before ((k ∷ ks) ∷ []) bs) in
       let live = later_live l u before ((k ∷ ks) ∷ bs) (live_bundles es l u (before ++ ((k ∷ ks) ∷ bs)) b) in
-      both_lists (λ q. Borders q.from q.to) (bundle_piece es shape l u (k ∷ ks)) (slab_pieces es shape l u bs)
+      AllByRecursion-append (λ q. Borders q.from q.to) (bundle_piece es shape l u (k ∷ ks)) (slab_pieces es shape l u bs)
       (bundle_borders l u n k live.0 ks before bs b)
       (slab_borders l u n (before ++ ((k ∷ ks) ∷ [])) bs (subst (AreBundles es l u) shifted b))
 
@@ -236,7 +232,7 @@ module _ (es : List LeafEdge) (shape : Shape) where
   walk_borders : (l : Level) → pos 0 <ℤ l.d → (s : Spot) (ss : List Spot) → AllByRecursion (IsSpotAt l) (s ∷ ss) → GoRight (s ∷ ss) → AllByRecursion (IsUpTo s ss) (spots_at es l) → AllBorder (flat_pieces es shape (s ∷ ss))
   walk_borders l dl s [] hs r h = tt
   walk_borders l dl s (t ∷ ss) hs r h =
-      both_lists (λ q. Borders q.from q.to) (stretch_piece es shape s t (position (covers s t) es)) (flat_pieces es shape (t ∷ ss))
+      AllByRecursion-append (λ q. Borders q.from q.to) (stretch_piece es shape s t (position (covers s t) es)) (flat_pieces es shape (t ∷ ss))
       (stretch_borders l dl s t hs.0 hs.1.0 r.0 (position (covers s t) es) (beside l s t ss (spots_at es l) hs.1 (spots_are_at es l) r.1 h))
       (walk_borders l dl t ss hs.1 r.1 (next_up_to l s t ss (spots_at es l) hs.0 hs.1.0 (spots_are_at es l) r.0 h))
 
@@ -250,8 +246,8 @@ module _ (es : List LeafEdge) (shape : Shape) where
   level_borders l [] pieces d r h a = subst AllBorder (sym a.2) (flat_borders l d.0 a.0 a.1)
   level_borders l (u ∷ ls) pieces d r h a =
       subst AllBorder (sym a.6)
-      (both_lists (λ q. Borders q.from q.to) (flat_pieces es shape a.0 ++ slab_pieces es shape l u a.1) a.2
-      (both_lists (λ q. Borders q.from q.to) (flat_pieces es shape a.0) (slab_pieces es shape l u a.1)
+      (AllByRecursion-append (λ q. Borders q.from q.to) (flat_pieces es shape a.0 ++ slab_pieces es shape l u a.1) a.2
+      (AllByRecursion-append (λ q. Borders q.from q.to) (flat_pieces es shape a.0) (slab_pieces es shape l u a.1)
       (flat_borders l d.0 a.0 a.3) (slab_borders l u (neighbours_next es l u ls d r h) [] a.1 a.4))
       (level_borders u ls a.2 d.1 r.1 (at_next l u ls (heights es) d.0 d.1.0 (heights_positive es) r.0 h) a.5))
 

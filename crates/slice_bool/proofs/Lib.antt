@@ -1,4 +1,3 @@
-pub mod Gaps
 pub mod Sums
 pub mod Reaching
 pub mod Passing

@@ -15,7 +15,7 @@ use Rattle.scad_geom.specs.Shape.{is_in_by}
 use Rattle.scad_geom.specs.Level.{IsLower, IsAtMost}
 use Rattle.scad_geom.specs.Heights.{AreNeighbours}
 use Rattle.scad_geom.specs.EdgeOrder.{IsBefore}
-use Rattle.slice_bool.proofs.Gaps.{from_gap, gap_of, from_at_least, at_least_of, weak}
+use Rattle.scad_base.proofs.Integers.{less_of_gap, gap_of_less, at_most_of_gap, gap_of_at_most, at_most_of_less}
 use Rattle.slice_slab.specs.Bundles.{no_edge, edge_at, Precedes, AreRanked, AreBundles}
 use Rattle.scad_geom.proofs.Signs.{pos_mul, at_least_mul, pos_left}
 use Rattle.scad_geom.proofs.Lines.{left_of_by}
@@ -48,25 +48,25 @@ abbrev pub scaled : Level → ℤ → Level
 scaled h r = record { n = h.n *ℤ r; d = h.d *ℤ r }
 
 pub lower_scaled : (p h : Level) (r : ℤ) → pos 0 <ℤ r → IsLower p h → IsLower p (scaled h r)
-lower_scaled p h r pr o = let m = pos_mul (h.n *ℤ p.d -ℤ p.n *ℤ h.d) r (gap_of (p.n *ℤ h.d) (h.n *ℤ p.d) o) pr in from_gap (p.n *ℤ (h.d *ℤ r)) ((h.n *ℤ r) *ℤ p.d) (rw (scaled_lower p.n p.d h.n h.d r) m)
+lower_scaled p h r pr o = let m = pos_mul (h.n *ℤ p.d -ℤ p.n *ℤ h.d) r (gap_of_less (p.n *ℤ h.d) (h.n *ℤ p.d) o) pr in less_of_gap (p.n *ℤ (h.d *ℤ r)) ((h.n *ℤ r) *ℤ p.d) (rw (scaled_lower p.n p.d h.n h.d r) m)
 
 pub at_most_scaled : (p h : Level) (r : ℤ) → pos 0 <ℤ r → IsAtMost p h → IsAtMost p (scaled h r)
-at_most_scaled p h r pr o = let m = at_least_mul (h.n *ℤ p.d -ℤ p.n *ℤ h.d) r (at_least_of (p.n *ℤ h.d) (h.n *ℤ p.d) o) (weak r pr) in from_at_least (p.n *ℤ (h.d *ℤ r)) ((h.n *ℤ r) *ℤ p.d) (rw (scaled_lower p.n p.d h.n h.d r) m)
+at_most_scaled p h r pr o = let m = at_least_mul (h.n *ℤ p.d -ℤ p.n *ℤ h.d) r (gap_of_at_most (p.n *ℤ h.d) (h.n *ℤ p.d) o) (at_most_of_less (pos 0) r pr) in at_most_of_gap (p.n *ℤ (h.d *ℤ r)) ((h.n *ℤ r) *ℤ p.d) (rw (scaled_lower p.n p.d h.n h.d r) m)
 
 pub scaled_below : (p h : Level) (r : ℤ) → pos 0 <ℤ r → IsLower h p → IsLower (scaled h r) p
-scaled_below p h r pr o = let m = pos_mul (p.n *ℤ h.d -ℤ h.n *ℤ p.d) r (gap_of (h.n *ℤ p.d) (p.n *ℤ h.d) o) pr in from_gap ((h.n *ℤ r) *ℤ p.d) (p.n *ℤ (h.d *ℤ r)) (rw (scaled_upper p.n p.d h.n h.d r) m)
+scaled_below p h r pr o = let m = pos_mul (p.n *ℤ h.d -ℤ h.n *ℤ p.d) r (gap_of_less (h.n *ℤ p.d) (p.n *ℤ h.d) o) pr in less_of_gap ((h.n *ℤ r) *ℤ p.d) (p.n *ℤ (h.d *ℤ r)) (rw (scaled_upper p.n p.d h.n h.d r) m)
 
 pub scaled_at_most : (p h : Level) (r : ℤ) → pos 0 <ℤ r → IsAtMost h p → IsAtMost (scaled h r) p
-scaled_at_most p h r pr o = let m = at_least_mul (p.n *ℤ h.d -ℤ h.n *ℤ p.d) r (at_least_of (h.n *ℤ p.d) (p.n *ℤ h.d) o) (weak r pr) in from_at_least ((h.n *ℤ r) *ℤ p.d) (p.n *ℤ (h.d *ℤ r)) (rw (scaled_upper p.n p.d h.n h.d r) m)
+scaled_at_most p h r pr o = let m = at_least_mul (p.n *ℤ h.d -ℤ h.n *ℤ p.d) r (gap_of_at_most (h.n *ℤ p.d) (p.n *ℤ h.d) o) (at_most_of_less (pos 0) r pr) in at_most_of_gap ((h.n *ℤ r) *ℤ p.d) (p.n *ℤ (h.d *ℤ r)) (rw (scaled_upper p.n p.d h.n h.d r) m)
 
 middle_positive : (l u : Level) → pos 0 <ℤ l.d → pos 0 <ℤ u.d → pos 0 <ℤ (middle l u).d
 middle_positive l u dl du = pos_mul (pos 2) (l.d *ℤ u.d) (omega (arith, ints)) (pos_mul l.d u.d dl du)
 
 above_low : (l u : Level) → pos 0 <ℤ l.d → IsLower l u → IsLower l (middle l u)
-above_low l u dl o = let m = pos_mul (u.n *ℤ l.d -ℤ l.n *ℤ u.d) l.d (gap_of (l.n *ℤ u.d) (u.n *ℤ l.d) o) dl in from_gap (l.n *ℤ (middle l u).d) ((middle l u).n *ℤ l.d) (rw (low_middle l.n l.d u.n u.d) m)
+above_low l u dl o = let m = pos_mul (u.n *ℤ l.d -ℤ l.n *ℤ u.d) l.d (gap_of_less (l.n *ℤ u.d) (u.n *ℤ l.d) o) dl in less_of_gap (l.n *ℤ (middle l u).d) ((middle l u).n *ℤ l.d) (rw (low_middle l.n l.d u.n u.d) m)
 
 below_high : (l u : Level) → pos 0 <ℤ u.d → IsLower l u → IsLower (middle l u) u
-below_high l u du o = let m = pos_mul (u.n *ℤ l.d -ℤ l.n *ℤ u.d) u.d (gap_of (l.n *ℤ u.d) (u.n *ℤ l.d) o) du in from_gap ((middle l u).n *ℤ u.d) (u.n *ℤ (middle l u).d) (rw (high_middle l.n l.d u.n u.d) m)
+below_high l u du o = let m = pos_mul (u.n *ℤ l.d -ℤ l.n *ℤ u.d) u.d (gap_of_less (l.n *ℤ u.d) (u.n *ℤ l.d) o) du in less_of_gap ((middle l u).n *ℤ u.d) (u.n *ℤ (middle l u).d) (rw (high_middle l.n l.d u.n u.d) m)
 
 -- the rise of an edge that rises is its size
 pub size_of : (z : ℤ) → pos 0 <ℤ z → pos (unsigned_abs z) ≡ z
@@ -86,7 +86,7 @@ unfolding left_of x_at
 on_own e h r q = rw q (on_line (run e) (offset e) (rise e) h.n h.d)
 
 pub below_zero : (a r : ℤ) → pos 0 <ℤ r → (a *ℤ r) <ℤ pos 0 → a <ℤ pos 0
-below_zero a r p h = by_lt_z a (pos 0) (λ q. q) (λ q. let m = at_least_mul a r q (weak r p) in absurd (omega (arith, ints)))
+below_zero a r p h = by_lt_z a (pos 0) (λ q. q) (λ q. let m = at_least_mul a r q (at_most_of_less (pos 0) r p) in absurd (omega (arith, ints)))
 
 -- a point of an edge, between the two heights
 module _ (es : List LeafEdge) (l u : Level) (n : AreNeighbours es l u) (k : ℕ) (lk : IsLive es l u k) (p : Point) (dp : pos 0 <ℤ p.d) (from : IsLower l (level_at p)) (to : IsLower (level_at p) u) (on : left_of (edge_at es k) p.x p.y p.d ≡ pos 0) where

@@ -29,10 +29,10 @@ use Rattle.slice_snap.specs.declared.piece.Piece.{Piece}
 use Rattle.slice_snap.specs.Spots.{point_of}
 use Rattle.slice_snap.specs.Inside.{IsBelow, IsLeftOf}
 use Rattle.slice_snap.specs.Naming.{IsOnLine, LiesAlong, HasLength, AreNamed}
-use Rattle.slice_snap.proofs.Ends.{both_lists}
+use Rattle.scad_base.proofs.Lists.{AllByRecursion-append}
 use Rattle.slice_bool.specs.Pieces.{spot_on, piece_between, bundle_piece, slab_pieces, is_flat_at, IsLeft, GoRight, AreStops, covers, stretch_piece, flat_pieces, AreLevelPieces, ArePieces}
 use Rattle.slice_bool.proofs.Passing.{IsLive, live_bundles}
-use Rattle.slice_bool.proofs.Gaps.{gap_of, from_gap, at_least_of, weak}
+use Rattle.scad_base.proofs.Integers.{gap_of_less, less_of_gap, gap_of_at_most, at_most_of_less}
 use Rattle.slice_bool.proofs.BalanceEdges.{is_true_second}
 use Rattle.slice_bool.proofs.Middle.{size_of, half_point, on_own}
 use Rattle.slice_bool.proofs.Winding.{IsSpotAt, is_true_first, stops_at}
@@ -113,7 +113,7 @@ module _ (es : List LeafEdge) (shape : Shape) where
       let e : Edge = edge_at es k in
       let up = ls.0.reaches.rises in
       let z = below_differ (point_of (spot_on e l)) (point_of (spot_on e u)) (rises es shape l u n k ls.0) in
-      both_lists (IsPart es) (bundle_piece es shape l u (k ∷ ks)) (slab_pieces es shape l u bs)
+      AllByRecursion-append (IsPart es) (bundle_piece es shape l u (k ∷ ks)) (slab_pieces es shape l u bs)
       (between_part es (is_in_by true false es shape (half_point es l u k)) (is_in_by true true es shape (half_point es l u k)) (spot_on e l) (spot_on e u) k ls.0.there z.0 z.1
       (rising_length e up) (on_own e l (pos (unsigned_abs (rise e))) (size_of (rise e) up)) (on_own e u (pos (unsigned_abs (rise e))) (size_of (rise e) up)))
       (slab_parts l u n bs r.2 (back (IsLive es l u) (k ∷ ks) (concat bs) ls))
@@ -172,8 +172,8 @@ from_test a b h = omega (arith, ints)
 
 no_room : (l : Level) (s t : Spot) (z : ℤ) → IsSpotAt l s → IsSpotAt l t → IsLeft s t → int_le (z *ℤ (l.d *ℤ pos s.run)) s.x ≡ true → int_le t.x (z *ℤ (l.d *ℤ pos t.run)) ≡ true → ⊥
 no_room l s t z hs ht o h k =
-    let a = at_least_mul (s.x -ℤ z *ℤ (l.d *ℤ pos s.run)) (pos t.run) (at_least_of (z *ℤ (l.d *ℤ pos s.run)) s.x (from_test (z *ℤ (l.d *ℤ pos s.run)) s.x h)) (weak (pos t.run) ht.runs) in
-    let b = at_least_mul (z *ℤ (l.d *ℤ pos t.run) -ℤ t.x) (pos s.run) (at_least_of t.x (z *ℤ (l.d *ℤ pos t.run)) (from_test t.x (z *ℤ (l.d *ℤ pos t.run)) k)) (weak (pos s.run) hs.runs) in
+    let a = at_least_mul (s.x -ℤ z *ℤ (l.d *ℤ pos s.run)) (pos t.run) (gap_of_at_most (z *ℤ (l.d *ℤ pos s.run)) s.x (from_test (z *ℤ (l.d *ℤ pos s.run)) s.x h)) (at_most_of_less (pos 0) (pos t.run) ht.runs) in
+    let b = at_least_mul (z *ℤ (l.d *ℤ pos t.run) -ℤ t.x) (pos s.run) (gap_of_at_most t.x (z *ℤ (l.d *ℤ pos t.run)) (from_test t.x (z *ℤ (l.d *ℤ pos t.run)) k)) (at_most_of_less (pos 0) (pos s.run) hs.runs) in
     let c = spanned s.x (pos s.run) t.x (pos t.run) z l.d in
     omega (arith, ints)
 
@@ -197,9 +197,9 @@ covering_length l s t e hs ht o h = not_true (is_same_point (whole e.edge.a) (wh
 
 stop_left : (l : Level) (s t : Spot) → pos 0 <ℤ l.d → IsSpotAt l s → IsSpotAt l t → IsLeft s t → IsLeftOf (point_of s) (point_of t)
 stop_left l s t dl hs ht o =
-    let m = pos_mul (t.x *ℤ pos s.run -ℤ s.x *ℤ pos t.run) l.d (gap_of (s.x *ℤ pos t.run) (t.x *ℤ pos s.run) o) dl in
+    let m = pos_mul (t.x *ℤ pos s.run -ℤ s.x *ℤ pos t.run) l.d (gap_of_less (s.x *ℤ pos t.run) (t.x *ℤ pos s.run) o) dl in
     let g : pos 0 <ℤ gap (point_of s) (point_of t) = rw (spot_gap l s t hs ht) m in
-    from_gap (s.x *ℤ (t.at.d *ℤ pos t.run)) (t.x *ℤ (s.at.d *ℤ pos s.run)) g
+    less_of_gap (s.x *ℤ (t.at.d *ℤ pos t.run)) (t.x *ℤ (s.at.d *ℤ pos s.run)) g
 
 module _ (es : List LeafEdge) (shape : Shape) (l : Level) (dl : pos 0 <ℤ l.d) where
   stretch_part : (s t : Spot) → IsSpotAt l s → IsSpotAt l t → IsLeft s t → (name : Option ℕ) → position (covers s t) es ≡ name → AllByRecursion (IsPart es) (stretch_piece es shape s t name)
@@ -218,7 +218,7 @@ module _ (es : List LeafEdge) (shape : Shape) (l : Level) (dl : pos 0 <ℤ l.d) 
   walk_parts : (s : Spot) (ss : List Spot) → AllByRecursion (IsSpotAt l) (s ∷ ss) → GoRight (s ∷ ss) → AllByRecursion (IsPart es) (flat_pieces es shape (s ∷ ss))
   walk_parts s [] hs r = tt
   walk_parts s (t ∷ ss) hs r =
-      both_lists (IsPart es) (stretch_piece es shape s t (position (covers s t) es)) (flat_pieces es shape (t ∷ ss))
+      AllByRecursion-append (IsPart es) (stretch_piece es shape s t (position (covers s t) es)) (flat_pieces es shape (t ∷ ss))
       (stretch_part s t hs.0 hs.1.0 r.0 (position (covers s t) es) refl) (walk_parts t ss hs.1 r.1)
 
   flat_parts : (stops : List Spot) → AreStops es l stops → AllByRecursion (IsPart es) (flat_pieces es shape stops)
@@ -232,8 +232,8 @@ module _ (es : List LeafEdge) (shape : Shape) where
   level_parts l [] pieces d r h a = subst (AllByRecursion (IsPart es)) (sym a.2) (flat_parts es shape l d.0 a.0 a.1)
   level_parts l (u ∷ ls) pieces d r h a =
       subst (AllByRecursion (IsPart es)) (sym a.6)
-      (both_lists (IsPart es) (flat_pieces es shape a.0 ++ slab_pieces es shape l u a.1) a.2
-      (both_lists (IsPart es) (flat_pieces es shape a.0) (slab_pieces es shape l u a.1)
+      (AllByRecursion-append (IsPart es) (flat_pieces es shape a.0 ++ slab_pieces es shape l u a.1) a.2
+      (AllByRecursion-append (IsPart es) (flat_pieces es shape a.0) (slab_pieces es shape l u a.1)
       (flat_parts es shape l d.0 a.0 a.3) (slab_parts es shape l u (neighbours_next es l u ls d r h) a.1 a.4.ranked (live_bundles es l u a.1 a.4)))
       (level_parts u ls a.2 d.1 r.1 (at_next l u ls (heights es) d.0 d.1.0 (heights_positive es) r.0 h) a.5))
 

@@ -34,7 +34,7 @@ use Rattle.slice_snap.specs.Pieces.{wind_pieces}
 use Rattle.std.specs.Prelude.{unsigned_abs}
 use Rattle.slice_bool.proofs.Passing.{IsLive, live_bundles, passing, HeadPasses, Around}
 use Rattle.slice_bool.proofs.Values.{all_pass, value_of, is_in_passing}
-use Rattle.slice_bool.proofs.Gaps.{gap_of}
+use Rattle.scad_base.proofs.Integers.{gap_of_less}
 use Rattle.slice_bool.proofs.Middle.{scaled, lower_scaled, at_most_scaled, scaled_below, scaled_at_most, size_of, half_point, value_right, value_left}
 
 side_up : (u c r x y d n1 d1 n2 d2 : ℤ) → ((u *ℤ n2 +ℤ c *ℤ d2) *ℤ (d1 *ℤ r) -ℤ (u *ℤ n1 +ℤ c *ℤ d1) *ℤ (d2 *ℤ r)) *ℤ (y *ℤ (d1 *ℤ r) -ℤ n1 *ℤ r *ℤ d) -ℤ (n2 *ℤ r *ℤ (d1 *ℤ r) -ℤ n1 *ℤ r *ℤ (d2 *ℤ r)) *ℤ (x *ℤ (d1 *ℤ r) -ℤ (u *ℤ n1 +ℤ c *ℤ d1) *ℤ d) ≡ (u *ℤ y +ℤ c *ℤ d -ℤ r *ℤ x) *ℤ (r *ℤ r *ℤ (d1 *ℤ (n2 *ℤ d1 -ℤ n1 *ℤ d2)))
@@ -78,7 +78,7 @@ module _ (above right : Bool) (p : Point) (e : Edge) (l u : Level) (re : pos 0 <
   run_positive = subst (λ (z : ℤ). pos 0 <ℤ z) (sym (size_of (rise e) re)) re
 
   factor_positive : (d : ℤ) → pos 0 <ℤ d → pos 0 <ℤ ((rise e *ℤ rise e) *ℤ (d *ℤ (u.n *ℤ l.d -ℤ l.n *ℤ u.d)))
-  factor_positive d dd = pos_mul (rise e *ℤ rise e) (d *ℤ (u.n *ℤ l.d -ℤ l.n *ℤ u.d)) (pos_mul (rise e) (rise e) re re) (pos_mul d (u.n *ℤ l.d -ℤ l.n *ℤ u.d) dd (gap_of (l.n *ℤ u.d) (u.n *ℤ l.d) o))
+  factor_positive d dd = pos_mul (rise e *ℤ rise e) (d *ℤ (u.n *ℤ l.d -ℤ l.n *ℤ u.d)) (pos_mul (rise e) (rise e) re re) (pos_mul d (u.n *ℤ l.d -ℤ l.n *ℤ u.d) dd (gap_of_less (l.n *ℤ u.d) (u.n *ℤ l.d) o))
 
   pub up_turn : turn above right p (point_of (spot_on e l)) (point_of (spot_on e u)) ≡ (if is_beyond right (left_of e p.x p.y p.d) then pos 1 else pos 0)
   up_turn =

@@ -5,7 +5,7 @@ use lib.Signed.{◌<ℤ◌, lt_z}
 use Rattle.std.specs.Prelude.{int_lt, if◌then◌else◌, ◌==◌, ◌&&◌}
 use Rattle.std.specs.List.{AllByRecursion, concat}
 use Rattle.std.proofs.lemmas.Int.{ints, by_lt_z}
-use Rattle.slice_snap.proofs.Ends.{both_lists}
+use Rattle.scad_base.proofs.Lists.{AllByRecursion-append}
 use Rattle.scad_geom.proofs.Leaves.{held_by_numbers}
 use Rattle.scad_geom.specs.declared.point.Edge.{Edge}
 use Rattle.scad_geom.specs.declared.level.Level.{Level}
@@ -101,7 +101,7 @@ passes_rises e l h =
 
 pub spots_are_at : (es : List LeafEdge) (l : Level) → AllByRecursion (IsSpotAt l) (spots_at es l)
 spots_are_at [] l = tt
-spots_are_at (e ∷ es) l = both_lists (IsSpotAt l) _ (spots_at es l) (by_tests (is_flat_at e.edge l) (passes_at e.edge l) refl) (spots_are_at es l)
+spots_are_at (e ∷ es) l = AllByRecursion-append (IsSpotAt l) _ (spots_at es l) (by_tests (is_flat_at e.edge l) (passes_at e.edge l) refl) (spots_are_at es l)
   where
     by_tests : (f t : Bool) → passes_at e.edge l ≡ t → AllByRecursion (IsSpotAt l) (if f then whole_spot e.edge.a.x l ∷ (whole_spot e.edge.b.x l ∷ []) else if t then spot_on e.edge l ∷ [] else [])
     by_tests true t q = (record { at = refl; runs = omega (arith, ints) }, (record { at = refl; runs = omega (arith, ints) }, tt))

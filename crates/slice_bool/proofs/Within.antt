@@ -7,8 +7,9 @@ use Rattle.std.specs.List.{AllByRecursion, All, concat}
 use Rattle.std.proofs.lemmas.Int.{ints, unsigned_abs-mul}
 use Rattle.std.proofs.lemmas.Nat.{mul-le}
 use Rattle.std.proofs.lemmas.List.Elements.{recursion_from_All, All-from_recursion}
-use Rattle.slice_bool.proofs.Gaps.{at_least_of}
-use Rattle.slice_snap.proofs.Ends.{both_lists, joined, from_ends}
+use Rattle.scad_base.proofs.Integers.{gap_of_at_most}
+use Rattle.slice_snap.proofs.Ends.{joined, from_ends}
+use Rattle.scad_base.proofs.Lists.{AllByRecursion-append}
 use Rattle.scad_geom.specs.declared.point.Edge.{Edge}
 use Rattle.scad_geom.specs.declared.level.Level.{Level}
 use Rattle.scad_geom.specs.declared.level.LeafEdge.{LeafEdge}
@@ -28,7 +29,7 @@ use Rattle.slice_bool.specs.Pieces.{spot_on, whole_spot, slab_pieces, is_flat_at
 use Rattle.slice_snap.specs.Pieces.{ends_of}
 use Rattle.slice_snap.specs.Spots.{IsSpotWithin}
 use Rattle.slice_snap.specs.Pieces.{IsPieceWithin}
-use Rattle.slice_snap.proofs.Ends.{both_lists}
+use Rattle.scad_base.proofs.Lists.{AllByRecursion-append}
 use Rattle.slice_bool.proofs.Winding.{of_stops}
 use Rattle.slice_snap.proofs.Ends.{joined}
 use Rattle.slice_bool.proofs.Ends.{flat_ends, slab_ends, AtBoth, each_of}
@@ -66,7 +67,7 @@ x_within limit e l w h k =
     let q = high e in
     rw (← (unsigned_abs-mul (q.y -ℤ p.y) l.d), ← (weights_add p.y q.y l.n l.d), by_weights p.x p.y q.x q.y l.n l.d)
     (both_weighed limit p.x q.x (q.y *ℤ l.d -ℤ l.n) (l.n -ℤ p.y *ℤ l.d) (low_within limit e w).x (high_within limit e w).x
-    (at_least_of l.n (q.y *ℤ l.d) k) (at_least_of (p.y *ℤ l.d) l.n h))
+    (gap_of_at_most l.n (q.y *ℤ l.d) k) (gap_of_at_most (p.y *ℤ l.d) l.n h))
 
 rise_within : (limit : ℕ) (e : Edge) → IsEdgeWithin limit e → unsigned_abs (rise e) ≤ 2 * limit
 unfolding rise
@@ -99,7 +100,7 @@ module _ (limit : ℕ) (lp : 0 < limit) where
 
   spots_within : (es : List LeafEdge) (l : Level) → AllByRecursion (λ e. IsEdgeWithin limit e.edge) es → IsLevelWithin limit l → AllByRecursion (IsSpotWithin limit) (spots_at es l)
   spots_within [] l w v = tt
-  spots_within (e ∷ es) l w v = both_lists (IsSpotWithin limit) _ (spots_at es l) (by_tests (is_flat_at e.edge l) (passes_at e.edge l) refl) (spots_within es l w.1 v)
+  spots_within (e ∷ es) l w v = AllByRecursion-append (IsSpotWithin limit) _ (spots_at es l) (by_tests (is_flat_at e.edge l) (passes_at e.edge l) refl) (spots_within es l w.1 v)
     where
       by_tests : (f t : Bool) → passes_at e.edge l ≡ t
           → AllByRecursion (IsSpotWithin limit) (if f then whole_spot e.edge.a.x l ∷ (whole_spot e.edge.b.x l ∷ []) else if t then spot_on e.edge l ∷ [] else [])

@@ -5,12 +5,7 @@ use Rattle.std.specs.declared.cmp.Ordering.TheVariants.{Less, Equal, Greater}
 use Rattle.std.specs.Prelude.{ℤ, int_lt}
 use Rattle.std.specs.List.{count_by}
 use Rattle.std.proofs.lemmas.Grind.{common_steps}
-use Rattle.std.specs.Ordering.{int_eq}
-use Rattle.std.specs.Prelude.{◌&&◌}
-use Rattle.std.proofs.lemmas.Int.{ints}
 use lib.IntN.{pos, ◌*ℤ◌}
-use Rattle.scad_geom.specs.declared.point.Pt.{Pt}
-use Rattle.scad_geom.specs.Point.{whole, is_same_point}
 use Rattle.scad_geom.specs.declared.level.Level.{Level}
 use Rattle.scad_geom.specs.declared.level.LeafEdge.{LeafEdge}
 use Rattle.slice_events.specs.Levels.{crosses, crossings}
@@ -19,14 +14,6 @@ pub crossings_more : (es : List LeafEdge) (i : ℕ) (e : LeafEdge) → i < lengt
 crossings_more [] i e h q = absurd (omega arith)
 crossings_more (g ∷ es) zero e h q = rw q refl
 crossings_more (g ∷ es) (suc i) e h q = crossings_more es i e (omega arith) q
-
-pub is_lt-int_cmp : (x y : ℤ) → is_lt (int_cmp x y) ≡ int_lt x y
-is_lt-int_cmp x y = by_tests (int_lt x y) (int_lt y x)
-  where
-    by_tests : (s t : Bool) → is_lt (cond s Less (cond t Greater Equal)) ≡ s
-    by_tests true t = refl
-    by_tests false true = refl
-    by_tests false false = refl
 
 pub pushed : (out rest whole : List Level) (l : Level) → out ++ (l ∷ rest) ≡ whole → (out ++ (l ∷ [])) ++ rest ≡ whole
 pushed out rest whole l h = append_assoc out (l ∷ []) rest ∙ h
@@ -42,10 +29,3 @@ drop_one [] zero = refl
 drop_one [] (suc i) = refl
 drop_one (x ∷ xs) zero = refl
 drop_one (x ∷ xs) (suc i) = drop_one xs i
-
--- whole points are the same where both coordinates are
-pub same_whole : (p q : Pt) → is_same_point (whole p) (whole q) ≡ (int_eq p.y q.y && int_eq p.x q.x)
-same_whole p q = rw (one p.x, one p.y, one q.x, one q.y) refl
-  where
-    one : (z : ℤ) → z *ℤ pos 1 ≡ z
-    one z = omega (arith, ints)

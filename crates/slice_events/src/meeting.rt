@@ -28,11 +28,11 @@ fn share_end(e: &Edge, f: &Edge) -> bool
     (are_same(e.a, f.a) || are_same(e.a, f.b)) || (are_same(e.b, f.a) || are_same(e.b, f.b))
 }
 
-#[tactic(auto, using(crate::proofs::Steps::same_whole))]
+#[tactic(auto, using(scad_geom::proofs::Balanced::same_whole))]
 fn are_same(p: Pt, q: Pt) -> bool
     ensures { result ≡ is_same_point (whole p) (whole q) }
 {
-    p.y == q.y && p.x == q.x
+    p.x == q.x && p.y == q.y
 }
 
 /// Whether two edges that aren't parallel have a common point.

@@ -7,6 +7,7 @@ use Rattle.std.specs.declared.cmp.Ordering.TheVariants.{Less, Equal, Greater}
 use Rattle.std.specs.Cmp.{IsStrictWeakOrder}
 use Rattle.std.proofs.lemmas.Int.{ints}
 use Rattle.std.proofs.lemmas.List.Sorted.{IsStrictWeakOrder-by_number}
+use Rattle.scad_base.proofs.Tests.{is_lt-int_cmp}
 use Rattle.scad_geom.specs.declared.level.Level.{Level}
 use Rattle.scad_geom.specs.Level.{IsAtMost}
 use Rattle.scad_geom.proofs.Heights.{at_most_chain}
@@ -63,12 +64,4 @@ pub passage_order : IsStrictWeakOrder comes_first
 passage_order = lexicographic is_left (first_by leans_left (λ p q. nat_lt p.number q.number)) left_order (lexicographic leans_left (λ p q. nat_lt p.number q.number) lean_order (IsStrictWeakOrder-by_number (λ (p : Passage). p.number)))
 
 -- ---- what comparisons say of the tests
-pub is_lt-int_cmp : (x y : ℤ) → is_lt (int_cmp x y) ≡ int_lt x y
-is_lt-int_cmp x y = by_tests (int_lt x y) (int_lt y x)
-  where
-    by_tests : (s t : Bool) → is_lt (cond s Less (cond t Greater Equal)) ≡ s
-    by_tests true t = refl
-    by_tests false true = refl
-    by_tests false false = refl
-
 pub ruleset cmp_tests = (is_lt-int_cmp)

@@ -1,4 +1,5 @@
 pub mod OneLine
+pub mod GoingOn
 pub mod Ends
 pub mod Ways
 mod Examples

@@ -6,6 +6,7 @@ use Rattle.std.specs.Prelude.{int_lt, ◌&&◌}
 use Rattle.std.specs.Ordering.{int_eq}
 use Rattle.std.specs.Cmp.{signed_Decides}
 use Rattle.std.proofs.lemmas.Int.{ints, by_lt_z}
+use Rattle.scad_base.proofs.Products.{zero_factor}
 use Rattle.scad_geom.specs.declared.point.Edge.{Edge}
 use Rattle.scad_geom.specs.declared.level.Level.{Level}
 use Rattle.scad_geom.specs.Point.{Point, whole, is_same_point}
@@ -15,12 +16,6 @@ use Rattle.scad_geom.proofs.Ring.{ring, num, ◌⊕◌, ◌⊖◌, ◌⊗◌, v0
 use Rattle.scad_geom.proofs.Signs.{pos_mul, neg_mul_pos}
 use Rattle.scad_geom.proofs.Bounds.{rise_at_least}
 use Rattle.slice_snap.specs.Naming.{IsOnLine}
-
--- ---- factors
-cancel : (a r : ℤ) → pos 0 <ℤ r → a *ℤ r ≡ pos 0 → a ≡ pos 0
-cancel a r p h = by_lt_z a (pos 0)
-    (λ q. let m = neg_mul_pos a r p q in absurd (omega (arith, ints)))
-    (λ q. by_lt_z (pos 0) a (λ k. let m = pos_mul a r k p in absurd (omega (arith, ints))) (λ k. omega (arith, ints)))
 
 minus : (a b : ℤ) → a -ℤ b ≡ pos 0 → a ≡ b
 minus a b h = omega (arith, ints)
@@ -33,15 +28,15 @@ across_gap : (r u o x y d x' y' d' : ℤ) → u *ℤ y +ℤ o *ℤ d -ℤ r *ℤ
     → r *ℤ (x' *ℤ d -ℤ x *ℤ d') ≡ u *ℤ (y' *ℤ d -ℤ y *ℤ d')
 across_gap r u o x y d x' y' d' h k =
     let i : u *ℤ (y' *ℤ d -ℤ y *ℤ d') -ℤ r *ℤ (x' *ℤ d -ℤ x *ℤ d') ≡ (u *ℤ y' +ℤ o *ℤ d' -ℤ r *ℤ x') *ℤ d -ℤ (u *ℤ y +ℤ o *ℤ d -ℤ r *ℤ x) *ℤ d' =
-        ring (r ∷ u ∷ o ∷ x ∷ y ∷ d ∷ x' ∷ y' ∷ d' ∷ []) (v1 ⊗ (v7 ⊗ v5 ⊖ v4 ⊗ v8) ⊖ v0 ⊗ (v6 ⊗ v5 ⊖ v3 ⊗ v8)) ((v1 ⊗ v7 ⊕ v2 ⊗ v8 ⊖ v0 ⊗ v6) ⊗ v5 ⊖ (v1 ⊗ v4 ⊕ v2 ⊗ v5 ⊖ v0 ⊗ v3) ⊗ v8) refl in
+    ring (r ∷ u ∷ o ∷ x ∷ y ∷ d ∷ x' ∷ y' ∷ d' ∷ []) (v1 ⊗ (v7 ⊗ v5 ⊖ v4 ⊗ v8) ⊖ v0 ⊗ (v6 ⊗ v5 ⊖ v3 ⊗ v8)) ((v1 ⊗ v7 ⊕ v2 ⊗ v8 ⊖ v0 ⊗ v6) ⊗ v5 ⊖ (v1 ⊗ v4 ⊕ v2 ⊗ v5 ⊖ v0 ⊗ v3) ⊗ v8) refl in
     sym (minus _ _ (i ∙ ap₂ (λ (s t : ℤ). s *ℤ d -ℤ t *ℤ d') k h ∙ nothing d d'))
   where
     nothing : (d d' : ℤ) → pos 0 *ℤ d -ℤ pos 0 *ℤ d' ≡ pos 0
     nothing d d' = omega (arith, ints)
 
 cancel_any : (a r : ℤ) → (r ≡ pos 0 → ⊥) → a *ℤ r ≡ pos 0 → a ≡ pos 0
-cancel_any a r n h = by_lt_z (pos 0) r (λ p. cancel a r p h)
-    (λ p. by_lt_z r (pos 0) (λ q. cancel a (pos 0 -ℤ r) (turned r q) (turned_mul a r h)) (λ q. absurd (n (both r p q))))
+cancel_any a r n h = by_lt_z (pos 0) r (λ p. zero_factor a r p h)
+    (λ p. by_lt_z r (pos 0) (λ q. zero_factor a (pos 0 -ℤ r) (turned r q) (turned_mul a r h)) (λ q. absurd (n (both r p q))))
   where
     turned : (r : ℤ) → r <ℤ pos 0 → pos 0 <ℤ (pos 0 -ℤ r)
     turned r h = omega (arith, ints)
@@ -84,14 +79,14 @@ module _ (e : Edge) where
   pub side_rising : pos 0 <ℤ rise e → (p a b : Point) → IsOnLine e p → IsOnLine e a → IsOnLine e b → side_by p a b ≡ pos 0
   unfolding side_by
   side_rising r p a b hp ha hb =
-      cancel _ (rise e) r (products (rise e) (run e) (b.x *ℤ a.d -ℤ a.x *ℤ b.d) (b.y *ℤ a.d -ℤ a.y *ℤ b.d) (p.x *ℤ a.d -ℤ a.x *ℤ p.d) (p.y *ℤ a.d -ℤ a.y *ℤ p.d) (gaps a b ha hb) (gaps a p ha hp))
+      zero_factor _ (rise e) r (products (rise e) (run e) (b.x *ℤ a.d -ℤ a.x *ℤ b.d) (b.y *ℤ a.d -ℤ a.y *ℤ b.d) (p.x *ℤ a.d -ℤ a.x *ℤ p.d) (p.y *ℤ a.d -ℤ a.y *ℤ p.d) (gaps a b ha hb) (gaps a p ha hp))
 
   pub same_rising : pos 0 <ℤ rise e → (p q : Point) → IsOnLine e p → IsOnLine e q → p.y *ℤ q.d ≡ q.y *ℤ p.d → is_same_point p q ≡ true
   same_rising r p q hp hq h =
       let g = gaps p q hp hq in
       let z : q.y *ℤ p.d -ℤ p.y *ℤ q.d ≡ pos 0 = no_gap (q.y *ℤ p.d) (p.y *ℤ q.d) (sym h) in
-      let x : q.x *ℤ p.d -ℤ p.x *ℤ q.d ≡ pos 0 = cancel (q.x *ℤ p.d -ℤ p.x *ℤ q.d) (rise e) r
-          (ring (rise e ∷ (q.x *ℤ p.d -ℤ p.x *ℤ q.d) ∷ []) (v1 ⊗ v0) (v0 ⊗ v1) refl ∙ g ∙ ap (λ (t : ℤ). run e *ℤ t) z ∙ ring (run e ∷ []) (v0 ⊗ num (pos 0)) (num (pos 0)) refl) in
+      let x : q.x *ℤ p.d -ℤ p.x *ℤ q.d ≡ pos 0 = zero_factor (q.x *ℤ p.d -ℤ p.x *ℤ q.d) (rise e) r
+      (ring (rise e ∷ (q.x *ℤ p.d -ℤ p.x *ℤ q.d) ∷ []) (v1 ⊗ v0) (v0 ⊗ v1) refl ∙ g ∙ ap (λ (t : ℤ). run e *ℤ t) z ∙ ring (run e ∷ []) (v0 ⊗ num (pos 0)) (num (pos 0)) refl) in
       is_same p q h (sym (minus (q.x *ℤ p.d) (p.x *ℤ q.d) x))
 
   -- ---- where it is flat
@@ -100,7 +95,7 @@ module _ (e : Edge) where
     unfolding left_of x_at offset
     at_height p h =
         let own : run e *ℤ p.y +ℤ (pos 0 *ℤ (low e).x -ℤ run e *ℤ (low e).y) *ℤ p.d -ℤ pos 0 *ℤ p.x ≡ pos 0 =
-            subst (λ (r : ℤ). run e *ℤ p.y +ℤ (r *ℤ (low e).x -ℤ run e *ℤ (low e).y) *ℤ p.d -ℤ r *ℤ p.x ≡ pos 0) flat h in
+        subst (λ (r : ℤ). run e *ℤ p.y +ℤ (r *ℤ (low e).x -ℤ run e *ℤ (low e).y) *ℤ p.d -ℤ r *ℤ p.x ≡ pos 0) flat h in
         minus p.y ((low e).y *ℤ p.d) (cancel_any (p.y -ℤ (low e).y *ℤ p.d) (run e) long
         (ring (run e ∷ p.y ∷ (low e).x ∷ (low e).y ∷ p.d ∷ p.x ∷ []) ((v1 ⊖ v3 ⊗ v4) ⊗ v0) (v0 ⊗ v1 ⊕ (num (pos 0) ⊗ v2 ⊖ v0 ⊗ v3) ⊗ v4 ⊖ num (pos 0) ⊗ v5) refl ∙ own))
 

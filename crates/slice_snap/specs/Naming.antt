@@ -1,5 +1,5 @@
 -- What the names of pieces say: pieces of one name are parts of one line, and no two of them overlap. Merging goes by it.
-use Rattle.std.specs.Prelude.{List, [], ◌∷◌, ℕ, ◌<◌, ⊤, ◌≡◌, false, pos, ◌<ℤ◌, All}
+use Rattle.std.specs.Prelude.{List, [], ◌∷◌, ℕ, ◌<◌, ⊤, ◌≡◌, true, false, pos, ◌<ℤ◌, All}
 use Rattle.std.specs.List.{AllByRecursion}
 use Rattle.scad_geom.specs.declared.point.Edge.{Edge}
 use Rattle.scad_geom.specs.Point.{Point, whole, is_same_point}
@@ -7,6 +7,7 @@ use Rattle.scad_geom.specs.Line.{left_of}
 use Rattle.slice_snap.specs.declared.piece.Piece.{Piece}
 use Rattle.slice_snap.specs.Spots.{point_of, is_same_spot}
 use Rattle.slice_snap.specs.Inside.{IsInside}
+use Rattle.slice_snap.specs.Pieces.{IsPieceWithin}
 
 -- a point on the line of an edge
 abbrev pub IsOnLine : Edge → Point → Type 0
@@ -42,3 +43,11 @@ pub record AreNamed (count : ℕ) (edge : ℕ → Edge) (pieces : List Piece) : 
   pub lengths : All HasLength pieces
   pub lines : All (λ q. LiesAlong (edge q.edge) q) pieces
   pub apart : AllPairs AreApartByName pieces
+
+-- ---- the law
+-- Two pieces along one edge that don't overlap, the first ending where the second starts, go on in one direction: their common
+-- end lies inside the way from the first one's start to the second one's end.
+abbrev pub PiecesGoOn : Type 0
+PiecesGoOn =
+    (limit : ℕ) (e : Edge) (q r : Piece) → IsPieceWithin limit q → IsPieceWithin limit r → LiesAlong e q → LiesAlong e r → HasLength q → HasLength r
+    → AreApart q r → is_same_spot q.to r.from ≡ true → IsInside (point_of q.from) (point_of r.to) (point_of q.to)

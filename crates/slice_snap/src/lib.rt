@@ -1,9 +1,11 @@
 //! Pieces of the border of a shape, with exact ends.
 //!
 //! The types state how an end is written: a height, and an x over the height's divisor and a rise. The definitions state what
-//! lists of pieces are for the crates above: their points, ends, winding, balance and names.
+//! lists of pieces are for the crates above: their points, ends, winding, balance and names. The contracts promise laws of
+//! them.
 #![tactic(auto)]
 
+pub mod laws;
 mod piece;
 
 pub use piece::{Piece, Spot};

@@ -2,7 +2,7 @@
 use Rattle.std.proofs.Common.{rules}
 use Rattle.std.proofs.lemmas.Result.{on_ok_weaker}
 use Rattle.std.proofs.lemmas.List.Sorted.{answers_always}
-use Rattle.slice_events.proofs.Steps.{is_lt-int_cmp}
+use Rattle.scad_base.proofs.Tests.{is_lt-int_cmp}
 use Rattle.slice_bool.proofs.Stopping.{comes_left, stop_order, sorted_from}
 use Rattle.slice_bool.proofs.stops.sort.Goals as goal
 

@@ -2,7 +2,7 @@
 use Rattle.std.proofs.Common.{◌+◌, ◌<◌, suc, length, sym, ap, ap₂, ◌∙◌, arith, add-one, eq-eqb}
 use Rattle.std.specs.Ordering.{is_lt}
 use Rattle.std.specs.Prelude.{pos, ◌*ℤ◌}
-use Rattle.slice_events.proofs.Steps.{is_lt-int_cmp}
+use Rattle.scad_base.proofs.Tests.{is_lt-int_cmp}
 use Rattle.slice_bool.specs.declared.stop.Stop.{Stop}
 use Rattle.slice_bool.specs.Stops.{is_left}
 use Rattle.slice_events.proofs.Repeats.{stays_last, stays_next}

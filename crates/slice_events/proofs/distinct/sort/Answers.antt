@@ -3,7 +3,7 @@ use Rattle.std.proofs.Common.{rules}
 use Rattle.std.proofs.lemmas.Result.{on_ok_weaker}
 use Rattle.std.proofs.lemmas.List.Sorted.{answers_always}
 use Rattle.slice_events.proofs.Ascending.{comes_lower, lower_order, climbing_from}
-use Rattle.slice_events.proofs.Steps.{is_lt-int_cmp}
+use Rattle.scad_base.proofs.Tests.{is_lt-int_cmp}
 use Rattle.slice_events.proofs.distinct.sort.Goals as goal
 
 pub returns-clause-sorted : goal.returns-clause-sorted
