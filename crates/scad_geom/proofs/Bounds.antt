@@ -1,5 +1,7 @@
 -- The height at which two edges meet lies within the limit of their coordinates.
 use Rattle.std.proofs.Common.{◌≡◌, ℕ, ◌*◌, ◌≤◌, ◌^◌, ◌⊎◌, inl, inr, Bool, true, false, not, cond, ◌&&◌, ◌||◌, refl, arith}
+use Rattle.std.proofs.lemmas.Bool.{and_parts}
+use Rattle.scad_base.proofs.Integers.{unsigned_abs-neg}
 use lib.IntN.{ℤ, pos, ◌+ℤ◌, ◌-ℤ◌, ◌*ℤ◌, neg_ℤ}
 use lib.Signed.{◌<ℤ◌, ◌≤ℤ◌}
 use Rattle.std.specs.Prelude.{int_lt, int_le, if◌then◌else◌, unsigned_abs}
@@ -7,23 +9,19 @@ use Rattle.std.proofs.lemmas.Int.{ints, unsigned_abs-mul}
 use Rattle.std.proofs.lemmas.Nat.{mul-le}
 use Rattle.scad_geom.specs.declared.point.Edge.{Edge}
 use Rattle.scad_geom.specs.declared.level.Level.{Level}
-use Rattle.scad_geom.specs.Point.{IsWithin, IsEdgeWithin}
+use Rattle.scad_geom.specs.Within.{IsWithin, IsEdgeWithin}
 use Rattle.scad_geom.specs.Line.{low, high, rise, left_of, lean, apart}
-use Rattle.scad_geom.specs.Shape.{is_zero}
-use Rattle.scad_geom.specs.Heights.{straddles, meets, meeting, IsLevelWithin}
+use Rattle.scad_geom.specs.Sign.{is_zero}
+use Rattle.scad_geom.specs.Level.{IsLevelWithin}
+use Rattle.scad_geom.specs.Meeting.{straddles, meets, meeting}
 use Rattle.scad_geom.proofs.Signs.{at_least_mul, at_most_mul}
 use Rattle.scad_geom.proofs.Lines.{low_by, high_by}
 use Rattle.scad_geom.proofs.Heights.{meeting_positive}
 
-both_are : (a b : Bool) → (a && b) ≡ true → (a ≡ true) × (b ≡ true)
-both_are true true h = (refl, refl)
-both_are true false h = cc
-both_are false b h = cc
-
 one_is : (a b c d : Bool) → ((a && b) || (c && d)) ≡ true → ((a ≡ true) × (b ≡ true)) ⊎ ((c ≡ true) × (d ≡ true))
 one_is true true c d h = inl (refl, refl)
-one_is true false c d h = inr (both_are c d h)
-one_is false b c d h = inr (both_are c d h)
+one_is true false c d h = inr (and_parts c d h)
+one_is false b c d h = inr (and_parts c d h)
 
 pub rise_at_least : (e : Edge) → pos 0 ≤ℤ rise e
 unfolding rise low high
@@ -95,13 +93,10 @@ apart_within limit e f w h =
       | inr c ↦ between (lean e f) (apart e f) (high f).y (low f).y limit u l c.1 c.0
     ]
 
-abs_neg : (z : ℤ) → unsigned_abs (neg_ℤ z) ≡ unsigned_abs z
-abs_neg z = omega (arith, ints)
-
 pub meeting_within : (limit : ℕ) (e f : Edge) → IsEdgeWithin limit f → unsigned_abs (lean e f) ≤ 10 ^ 13 → meets e f ≡ true → IsLevelWithin limit (meeting e f)
 unfolding meets meeting
 meeting_within limit e f w d h =
-    let s : straddles e f ≡ true = (both_are (straddles e f) (straddles f e) (both_are (not (is_zero (lean e f))) (straddles e f && straddles f e) h).1).0 in
+    let s : straddles e f ≡ true = (and_parts (straddles e f) (straddles f e) (and_parts (not (is_zero (lean e f))) (straddles e f && straddles f e) h).1).0 in
     let b = apart_within limit e f w s in
     by_test (int_lt (pos 0) (lean e f)) (meeting_positive e f h) b
   where
@@ -113,5 +108,5 @@ meeting_within limit e f w d h =
 
     by_test : (t : Bool) → pos 0 <ℤ (if t then up else down).d → unsigned_abs (apart e f) ≤ limit * unsigned_abs (lean e f)
         → IsLevelWithin limit (if t then up else down)
-    by_test true p b = record { positive = p; divisor = d; size = rw (abs_neg (apart e f)) b }
-    by_test false p b = record { positive = p; divisor = rw (abs_neg (lean e f)) d; size = rw (abs_neg (lean e f)) b }
+    by_test true p b = record { positive = p; divisor = d; size = rw (unsigned_abs-neg (apart e f)) b }
+    by_test false p b = record { positive = p; divisor = rw (unsigned_abs-neg (lean e f)) d; size = rw (unsigned_abs-neg (lean e f)) b }

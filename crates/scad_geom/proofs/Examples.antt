@@ -1,10 +1,12 @@
 -- Winding numbers and areas that the definitions compute.
 use Rattle.std.proofs.Common.{◌≡◌, List, [], ◌∷◌, ℤ, pos, negsuc, refl}
 use Rattle.scad_geom.specs.declared.point.Pt.{Pt}
-use Rattle.scad_geom.specs.declared.half.Half.TheVariants.{Whole, Cell}
+use Rattle.scad_geom.specs.declared.half.Half.TheVariants.{Whole}
 use Rattle.scad_geom.specs.Loop.{sides}
 use Rattle.scad_geom.specs.Area.{twice_area}
-use Rattle.scad_geom.specs.Winding.{wind, doubled}
+use Rattle.scad_geom.specs.Segment.{segments}
+use Rattle.scad_geom.specs.Half.{meant, centre}
+use Rattle.scad_geom.specs.Winding.{wind, is_over, passage_by, side_by, is_beyond, turn}
 
 abbrev at : ℤ → ℤ → Pt
 at x y = record { x = x; y = y }
@@ -28,24 +30,31 @@ area-empty = refl
 area-two_points : twice_area (at (pos 3) (pos 1) ∷ at (negsuc 6) (pos 5) ∷ []) ≡ pos 0
 area-two_points = refl
 
-wind-inside : wind (sides square_10) (doubled Cell (pos 9)) (doubled Cell (pos 0)) ≡ pos 1
+wind-inside : wind (centre (pos 9) (pos 0)) (segments (sides square_10)) ≡ pos 1
+unfolding turn is_beyond passage_by side_by is_over
 wind-inside = refl
 
-wind-right_of : wind (sides square_10) (doubled Cell (pos 10)) (doubled Cell (pos 0)) ≡ pos 0
+wind-right_of : wind (centre (pos 10) (pos 0)) (segments (sides square_10)) ≡ pos 0
+unfolding turn is_beyond passage_by side_by is_over
 wind-right_of = refl
 
-wind-left_of : wind (sides square_10) (doubled Cell (negsuc 0)) (doubled Cell (pos 5)) ≡ pos 0
+wind-left_of : wind (centre (negsuc 0) (pos 5)) (segments (sides square_10)) ≡ pos 0
+unfolding turn is_beyond passage_by side_by is_over
 wind-left_of = refl
 
-wind-clockwise : wind (sides clockwise_10) (doubled Cell (pos 9)) (doubled Cell (pos 0)) ≡ negsuc 0
+wind-clockwise : wind (centre (pos 9) (pos 0)) (segments (sides clockwise_10)) ≡ negsuc 0
+unfolding turn is_beyond passage_by side_by is_over
 wind-clockwise = refl
 
 -- on the border the lower and left sides count as inside, the upper and right ones as outside
-wind-lower_left_corner : wind (sides square_10) (doubled Whole (pos 0)) (doubled Whole (pos 0)) ≡ pos 1
+wind-lower_left_corner : wind (meant Whole (at (pos 0) (pos 0))) (segments (sides square_10)) ≡ pos 1
+unfolding turn is_beyond passage_by side_by is_over
 wind-lower_left_corner = refl
 
-wind-right_side : wind (sides square_10) (doubled Whole (pos 10)) (doubled Whole (pos 5)) ≡ pos 0
+wind-right_side : wind (meant Whole (at (pos 10) (pos 5))) (segments (sides square_10)) ≡ pos 0
+unfolding turn is_beyond passage_by side_by is_over
 wind-right_side = refl
 
-wind-upper_side : wind (sides square_10) (doubled Whole (pos 5)) (doubled Whole (pos 10)) ≡ pos 0
+wind-upper_side : wind (meant Whole (at (pos 5) (pos 10))) (segments (sides square_10)) ≡ pos 0
+unfolding turn is_beyond passage_by side_by is_over
 wind-upper_side = refl

@@ -1,5 +1,8 @@
 -- Comparing heights over different divisors, and the heights at which two edges meet.
-use Rattle.std.proofs.Common.{◌≡◌, zero, suc, Bool, true, false, not, cond, ◌&&◌, ◌||◌, List, [], ◌∷◌, ◌++◌, refl, sym, ◌∙◌, arith, subst}
+use Rattle.std.proofs.Common.{◌≡◌, zero, suc, Bool, true, false, not, cond, ◌&&◌, ◌||◌, List, [], ◌∷◌, refl, sym, ◌∙◌, arith, subst}
+use Rattle.std.proofs.Math.Bool.{and_comm}
+use Rattle.scad_base.proofs.Integers.{gap_of_less, gap_of_at_most, less_of_gap, at_most_of_gap}
+use Rattle.scad_base.proofs.Lists.{AllByRecursion-append}
 use lib.IntN.{ℤ, pos, negsuc, ◌+ℤ◌, ◌-ℤ◌, ◌*ℤ◌, neg_ℤ, neg_ℤ-neg_ℤ}
 use lib.Signed.{◌<ℤ◌, ◌≤ℤ◌, lt_z, le_z}
 use Rattle.std.specs.Prelude.{int_lt, int_le, if◌then◌else◌}
@@ -9,8 +12,10 @@ use Rattle.scad_geom.specs.declared.point.Edge.{Edge}
 use Rattle.scad_geom.specs.declared.level.Level.{Level}
 use Rattle.scad_geom.specs.declared.level.LeafEdge.{LeafEdge}
 use Rattle.scad_geom.specs.Line.{low, high, rise, run, offset, left_of, lean, apart}
-use Rattle.scad_geom.specs.Shape.{is_zero}
-use Rattle.scad_geom.specs.Heights.{level_of, IsLower, IsAtMost, straddles, meets, meeting, meetings, heights}
+use Rattle.scad_geom.specs.Sign.{is_zero}
+use Rattle.scad_geom.specs.Level.{level_of, IsLower, IsAtMost}
+use Rattle.scad_geom.specs.Meeting.{straddles, meets, meeting}
+use Rattle.scad_geom.specs.Heights.{meetings, heights}
 use Rattle.scad_geom.proofs.Ring.{ring, num, ◌⊕◌, ◌⊖◌, ◌⊗◌, v0, v1, v2, v3, v4, v5}
 use Rattle.scad_geom.proofs.Signs.{pos_mul, at_least_mul, pos_left, at_least_left}
 use Rattle.scad_geom.proofs.Lines.{low_by, high_by}
@@ -19,39 +24,27 @@ use Rattle.scad_geom.proofs.Integers.{neg_mul}
 chain : (a p b q c r : ℤ) → (c *ℤ p -ℤ a *ℤ r) *ℤ q ≡ (c *ℤ q -ℤ b *ℤ r) *ℤ p +ℤ (b *ℤ p -ℤ a *ℤ q) *ℤ r
 chain a p b q c r = ring (a ∷ p ∷ b ∷ q ∷ c ∷ r ∷ []) ((v4 ⊗ v1 ⊖ v0 ⊗ v5) ⊗ v3) ((v4 ⊗ v3 ⊖ v2 ⊗ v5) ⊗ v1 ⊕ (v2 ⊗ v1 ⊖ v0 ⊗ v3) ⊗ v5) refl
 
-gap_pos : (a b : ℤ) → a <ℤ b → pos 0 <ℤ (b -ℤ a)
-gap_pos a b h = omega (arith, ints)
-
-gap_at_least : (a b : ℤ) → a ≤ℤ b → pos 0 ≤ℤ (b -ℤ a)
-gap_at_least a b h = omega (arith, ints)
-
-from_gap : (a b : ℤ) → pos 0 <ℤ (b -ℤ a) → a <ℤ b
-from_gap a b h = omega (arith, ints)
-
-from_at_least : (a b : ℤ) → pos 0 ≤ℤ (b -ℤ a) → a ≤ℤ b
-from_at_least a b h = omega (arith, ints)
-
 -- transitivity, by which of the two steps is strict
 pub lower_then_at_most : (p q r : Level) → pos 0 <ℤ p.d → pos 0 <ℤ q.d → pos 0 <ℤ r.d → IsLower p q → IsAtMost q r → IsLower p r
 lower_then_at_most p q r dp dq dr h k =
-    let s : pos 0 ≤ℤ ((r.n *ℤ q.d -ℤ q.n *ℤ r.d) *ℤ p.d) = at_least_mul _ _ (gap_at_least _ _ k) (omega (arith, ints)) in
-    let t : pos 0 <ℤ ((q.n *ℤ p.d -ℤ p.n *ℤ q.d) *ℤ r.d) = pos_mul _ _ (gap_pos _ _ h) dr in
+    let s : pos 0 ≤ℤ ((r.n *ℤ q.d -ℤ q.n *ℤ r.d) *ℤ p.d) = at_least_mul _ _ (gap_of_at_most _ _ k) (omega (arith, ints)) in
+    let t : pos 0 <ℤ ((q.n *ℤ p.d -ℤ p.n *ℤ q.d) *ℤ r.d) = pos_mul _ _ (gap_of_less _ _ h) dr in
     let u = chain p.n p.d q.n q.d r.n r.d in
-    from_gap _ _ (pos_left (r.n *ℤ p.d -ℤ p.n *ℤ r.d) q.d dq (rw u (omega (arith, ints, s, t))))
+    less_of_gap _ _ (pos_left (r.n *ℤ p.d -ℤ p.n *ℤ r.d) q.d dq (rw u (omega (arith, ints, s, t))))
 
 pub at_most_then_lower : (p q r : Level) → pos 0 <ℤ p.d → pos 0 <ℤ q.d → pos 0 <ℤ r.d → IsAtMost p q → IsLower q r → IsLower p r
 at_most_then_lower p q r dp dq dr h k =
-    let s : pos 0 <ℤ ((r.n *ℤ q.d -ℤ q.n *ℤ r.d) *ℤ p.d) = pos_mul _ _ (gap_pos _ _ k) dp in
-    let t : pos 0 ≤ℤ ((q.n *ℤ p.d -ℤ p.n *ℤ q.d) *ℤ r.d) = at_least_mul _ _ (gap_at_least _ _ h) (omega (arith, ints)) in
+    let s : pos 0 <ℤ ((r.n *ℤ q.d -ℤ q.n *ℤ r.d) *ℤ p.d) = pos_mul _ _ (gap_of_less _ _ k) dp in
+    let t : pos 0 ≤ℤ ((q.n *ℤ p.d -ℤ p.n *ℤ q.d) *ℤ r.d) = at_least_mul _ _ (gap_of_at_most _ _ h) (omega (arith, ints)) in
     let u = chain p.n p.d q.n q.d r.n r.d in
-    from_gap _ _ (pos_left (r.n *ℤ p.d -ℤ p.n *ℤ r.d) q.d dq (rw u (omega (arith, ints, s, t))))
+    less_of_gap _ _ (pos_left (r.n *ℤ p.d -ℤ p.n *ℤ r.d) q.d dq (rw u (omega (arith, ints, s, t))))
 
 pub at_most_chain : (p q r : Level) → pos 0 <ℤ p.d → pos 0 <ℤ q.d → pos 0 <ℤ r.d → IsAtMost p q → IsAtMost q r → IsAtMost p r
 at_most_chain p q r dp dq dr h k =
-    let s : pos 0 ≤ℤ ((r.n *ℤ q.d -ℤ q.n *ℤ r.d) *ℤ p.d) = at_least_mul _ _ (gap_at_least _ _ k) (omega (arith, ints)) in
-    let t : pos 0 ≤ℤ ((q.n *ℤ p.d -ℤ p.n *ℤ q.d) *ℤ r.d) = at_least_mul _ _ (gap_at_least _ _ h) (omega (arith, ints)) in
+    let s : pos 0 ≤ℤ ((r.n *ℤ q.d -ℤ q.n *ℤ r.d) *ℤ p.d) = at_least_mul _ _ (gap_of_at_most _ _ k) (omega (arith, ints)) in
+    let t : pos 0 ≤ℤ ((q.n *ℤ p.d -ℤ p.n *ℤ q.d) *ℤ r.d) = at_least_mul _ _ (gap_of_at_most _ _ h) (omega (arith, ints)) in
     let u = chain p.n p.d q.n q.d r.n r.d in
-    from_at_least _ _ (at_least_left (r.n *ℤ p.d -ℤ p.n *ℤ r.d) q.d dq (rw u (omega (arith, ints, s, t))))
+    at_most_of_gap _ _ (at_least_left (r.n *ℤ p.d -ℤ p.n *ℤ r.d) q.d dq (rw u (omega (arith, ints, s, t))))
 
 pub lower_weak : (p q : Level) → IsLower p q → IsAtMost p q
 lower_weak p q h = omega (arith, ints)
@@ -82,12 +75,6 @@ is_zero-neg : (z : ℤ) → is_zero (neg_ℤ z) ≡ is_zero z
 is_zero-neg (pos zero) = refl
 is_zero-neg (pos (suc n)) = refl
 is_zero-neg (negsuc n) = refl
-
-and_comm : (a b : Bool) → (a && b) ≡ (b && a)
-and_comm true true = refl
-and_comm true false = refl
-and_comm false true = refl
-and_comm false false = refl
 
 below_line : (z s a y b : ℤ) → z *ℤ s ≡ a *ℤ y +ℤ b *ℤ pos 1 → pos 0 <ℤ s → (y *ℤ a) <ℤ (neg_ℤ b *ℤ pos 1) → z <ℤ pos 0
 below_line z s a y b e p h =
@@ -201,10 +188,6 @@ meeting_positive e f h =
     let z : is_zero (lean e f) ≡ false = meets_not_zero (is_zero (lean e f)) (straddles e f && straddles f e) h in
     subst (λ (z : ℤ). pos 0 <ℤ z) (sym (cond_d (int_lt (pos 0) (lean e f)) (record { n = neg_ℤ (apart e f); d = lean e f }) (record { n = apart e f; d = neg_ℤ (lean e f) }))) (meeting_divisor (lean e f) z)
 
-both_parts : {A : Type 0} (P : A → Type 0) (xs ys : List A) → AllByRecursion P xs → AllByRecursion P ys → AllByRecursion P (xs ++ ys)
-both_parts P [] ys h k = k
-both_parts P (x ∷ xs) ys h k = (h.0, both_parts P xs ys h.1 k)
-
 meetings_positive : (e : Edge) (fs : List LeafEdge) → AllByRecursion (λ (h : Level). pos 0 <ℤ h.d) (meetings e fs)
 meetings_positive e [] = tt
 meetings_positive e (f ∷ fs) = by_test (meets e f.edge) refl (meetings_positive e fs)
@@ -217,4 +200,4 @@ pub heights_positive : (es : List LeafEdge) → AllByRecursion (λ (h : Level). 
 heights_positive [] = tt
 heights_positive (e ∷ es) =
     let one : pos 0 <ℤ pos 1 = omega (arith, ints) in
-    (one, (one, both_parts (λ (h : Level). pos 0 <ℤ h.d) (meetings e.edge es) (heights es) (meetings_positive e.edge es) (heights_positive es)))
+    (one, (one, AllByRecursion-append (λ (h : Level). pos 0 <ℤ h.d) (meetings e.edge es) (heights es) (meetings_positive e.edge es) (heights_positive es)))

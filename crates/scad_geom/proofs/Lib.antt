@@ -8,7 +8,10 @@ pub mod Order
 pub mod Turns
 pub mod Shapes
 pub mod Bounds
+pub mod Crossing
 pub mod Doubled
+pub mod Leaves
+pub mod Balanced
 pub mod Nearest
 mod RoundingExamples
 pub mod Bits

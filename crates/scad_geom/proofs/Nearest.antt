@@ -1,13 +1,11 @@
 -- What rounding with halves downwards gives.
 use Rattle.std.proofs.Common.{◌≡◌, ℕ, suc, ◌*◌, ◌<◌, ◌≤◌, ℤ, pos, negsuc, neg_ℤ, ◌+ℤ◌, ◌-ℤ◌, ◌*ℤ◌, ◌<ℤ◌, ◌≤ℤ◌, unsigned_abs, arith, inl, inr, zero, ap, subst, sym, ◌∙◌}
+use Rattle.scad_base.proofs.Integers.{zero_minus}
 use Rattle.std.proofs.lemmas.Int.{ints}
 use Rattle.std.proofs.Math.Nat.{mul-le-mul_left, mul_comm}
 use Rattle.std.proofs.lemmas.Bool.{cases_lt}
 use Rattle.std.specs.Int.{int_div_euclid}
 use Rattle.scad_geom.specs.Rounding.{half_down, IsNearest}
-
-minus_as_neg : (z : ℤ) → pos 0 -ℤ z ≡ neg_ℤ z
-minus_as_neg z = omega (arith, ints)
 
 -- a quotient's remainder is from 0 to below the divisor
 quotient_low : (a : ℤ) (b : ℕ) → 0 < b → (pos b *ℤ int_div_euclid a (pos b)) ≤ℤ a
@@ -47,7 +45,7 @@ pub record Rounds (n d r : ℤ) (m : ℕ) : Type 0 where
 pub rounds : (n d q : ℤ) (m : ℕ) → pos 0 <ℤ d → unsigned_abs n ≤ m * unsigned_abs d → q ≡ int_div_euclid (d -ℤ pos 2 *ℤ n) (pos 2 *ℤ d) → Rounds n d (pos 0 -ℤ q) m
 unfolding half_down
 rounds n (pos d) q m above small e =
-    let same : pos 0 -ℤ q ≡ half_down n (pos d) = ap (λ z. pos 0 -ℤ z) e ∙ minus_as_neg (int_div_euclid (pos d -ℤ pos 2 *ℤ n) (pos 2 *ℤ pos d)) in
+    let same : pos 0 -ℤ q ≡ half_down n (pos d) = ap (λ z. pos 0 -ℤ z) e ∙ zero_minus (int_div_euclid (pos d -ℤ pos 2 *ℤ n) (pos 2 *ℤ pos d)) in
     let is : IsNearest n (pos d) (pos 0 -ℤ q) = subst (IsNearest n (pos d)) (sym same) (IsNearest-half_down n d (omega (arith, ints))) in
     record { value = same; nearest = is; size = size-IsNearest n d m (pos 0 -ℤ q) (omega (arith, ints)) (subst (λ k. unsigned_abs n ≤ k) (mul_comm m d) small) is }
 rounds n (negsuc d) q m above small e = absurd (omega (arith, ints))

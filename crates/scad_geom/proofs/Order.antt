@@ -10,7 +10,10 @@ use Rattle.scad_geom.specs.declared.point.Edge.{Edge}
 use Rattle.scad_geom.specs.declared.level.Level.{Level}
 use Rattle.scad_geom.specs.declared.level.LeafEdge.{LeafEdge}
 use Rattle.scad_geom.specs.Line.{rise, run, x_at, lean, apart}
-use Rattle.scad_geom.specs.Heights.{level_of, IsLower, IsAtMost, meets, meeting, meetings, heights, AreNeighbours, IsBefore, AreAligned}
+use Rattle.scad_geom.specs.Level.{level_of, IsLower, IsAtMost}
+use Rattle.scad_geom.specs.Meeting.{meets, meeting}
+use Rattle.scad_geom.specs.Heights.{meetings, heights, AreNeighbours}
+use Rattle.scad_geom.specs.EdgeOrder.{IsBefore, AreAligned}
 use Rattle.scad_geom.proofs.Ring.{ring, ◌⊕◌, ◌⊖◌, ◌⊗◌, v0, v1, v2, v3, v4, v5}
 use Rattle.scad_geom.proofs.Signs.{pos_mul, at_least_mul, pos_left, at_least_left, neg_mul_pos, at_most_mul}
 use Rattle.scad_geom.proofs.Integers.{neg_mul}

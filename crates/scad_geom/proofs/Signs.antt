@@ -1,18 +1,13 @@
 -- Sums and products of whole numbers, and their signs.
-use Rattle.std.proofs.Common.{◌≡◌, ℕ, zero, suc, ◌*◌, ◌≤◌, arith}
+use Rattle.std.proofs.Common.{◌≡◌, zero, suc, arith}
+use Rattle.scad_base.proofs.Products.{positive_product, negative_product}
 use Rattle.std.proofs.Common.{ℤ, pos, negsuc, ◌-ℤ◌, ◌*ℤ◌, neg_ℤ, int_lt, ◌<ℤ◌}
 use lib.Signed.{◌≤ℤ◌}
 use Rattle.std.proofs.lemmas.Int.{ints}
 use Rattle.std.proofs.Math.IntN.{zero-*ℤ}
 
-pub sub-self : (z : ℤ) → z -ℤ z ≡ pos 0
-sub-self z = omega (arith, ints)
-
 pub sub-zero : (z : ℤ) → z -ℤ pos 0 ≡ z
 sub-zero z = omega (arith, ints)
-
-pub zero-sub : (z : ℤ) → pos 0 -ℤ z ≡ neg_ℤ z
-zero-sub z = omega (arith, ints)
 
 pub one-mul : (z : ℤ) → pos 1 *ℤ z ≡ z
 one-mul z = omega (arith, ints)
@@ -27,36 +22,26 @@ product_is_negative (pos (suc k)) (pos n) positive = grind (arith, ints)
 product_is_negative (pos (suc k)) (negsuc n) positive = grind (arith, ints)
 product_is_negative (negsuc k) d positive = absurd (omega (arith, ints))
 
-mul_ge : (a b : ℕ) → 1 ≤ a → 1 ≤ b → 1 ≤ a * b
-mul_ge a b p q = grind arith
-
 pub pos_mul : (a b : ℤ) → pos 0 <ℤ a → pos 0 <ℤ b → pos 0 <ℤ (a *ℤ b)
-pos_mul (pos m) (pos n) p q = let r : 1 ≤ m = omega (arith, ints) in let s : 1 ≤ n = omega (arith, ints) in omega (arith, ints, mul_ge m n r s)
-pos_mul (pos m) (negsuc n) p q = absurd (omega (arith, ints))
-pos_mul (negsuc m) b p q = absurd (omega (arith, ints))
+pos_mul = positive_product
+
+pub neg_mul_pos : (a r : ℤ) → pos 0 <ℤ r → a <ℤ pos 0 → (a *ℤ r) <ℤ pos 0
+neg_mul_pos = negative_product
 
 pub at_least_mul : (a b : ℤ) → pos 0 ≤ℤ a → pos 0 ≤ℤ b → pos 0 ≤ℤ (a *ℤ b)
 at_least_mul (pos m) (pos n) p q = omega (arith, ints)
 at_least_mul (pos m) (negsuc n) p q = absurd (omega (arith, ints))
 at_least_mul (negsuc m) b p q = absurd (omega (arith, ints))
 
--- a product with a positive factor has the sign of the other
-neg_down : (a r : ℤ) → pos 0 <ℤ r → a <ℤ pos 0 → (a *ℤ r) <ℤ pos 0
-neg_down (negsuc m) (pos n) p q = let s : 1 ≤ n = omega (arith, ints) in let r : 1 ≤ suc m = omega arith in omega (arith, ints, mul_ge (suc m) n r s)
-neg_down (negsuc m) (negsuc n) p q = absurd (omega (arith, ints))
-neg_down (pos m) r p q = absurd (omega (arith, ints))
-
+-- a factor of a product with a positive factor has the sign of the product
 pub pos_left : (a r : ℤ) → pos 0 <ℤ r → pos 0 <ℤ (a *ℤ r) → pos 0 <ℤ a
 pos_left (pos zero) r p q = absurd (omega (arith, ints))
 pos_left (pos (suc m)) r p q = omega (arith, ints)
-pos_left (negsuc m) r p q = let d : negsuc m <ℤ pos 0 = omega (arith, ints) in absurd (omega (arith, ints, neg_down (negsuc m) r p d))
+pos_left (negsuc m) r p q = let d : negsuc m <ℤ pos 0 = omega (arith, ints) in absurd (omega (arith, ints, negative_product (negsuc m) r p d))
 
 pub at_least_left : (a r : ℤ) → pos 0 <ℤ r → pos 0 ≤ℤ (a *ℤ r) → pos 0 ≤ℤ a
 at_least_left (pos m) r p q = omega (arith, ints)
-at_least_left (negsuc m) r p q = let d : negsuc m <ℤ pos 0 = omega (arith, ints) in absurd (omega (arith, ints, neg_down (negsuc m) r p d))
-
-pub neg_mul_pos : (a r : ℤ) → pos 0 <ℤ r → a <ℤ pos 0 → (a *ℤ r) <ℤ pos 0
-neg_mul_pos = neg_down
+at_least_left (negsuc m) r p q = let d : negsuc m <ℤ pos 0 = omega (arith, ints) in absurd (omega (arith, ints, negative_product (negsuc m) r p d))
 
 pub at_most_mul : (a r : ℤ) → a ≤ℤ pos 0 → pos 0 ≤ℤ r → (a *ℤ r) ≤ℤ pos 0
 at_most_mul (pos zero) r p q = rw (zero-*ℤ r) (omega (arith, ints))

@@ -1,15 +1,21 @@
 -- The winding number of a square's outline, by the tests on which it depends.
 use Rattle.std.proofs.Common.{◌≡◌, ◌≢◌, ℕ, ◌*◌, Bool, true, false, not, ◌&&◌, if◌then◌else◌}
+use Rattle.scad_base.proofs.Integers.{minus_self, zero_minus}
 use Rattle.std.proofs.Common.{ℤ, pos, negsuc, ◌+ℤ◌, ◌-ℤ◌, ◌*ℤ◌, neg_ℤ, int_lt, ◌<ℤ◌, refl, ◌∙◌, arith}
 use Rattle.std.proofs.lemmas.Int.{ints}
 use Rattle.std.proofs.Math.IntN.{zero-*ℤ, neg_ℤ-neg_ℤ, ℤ_discrete}
 use Rattle.scad_geom.specs.declared.point.Edge.{Edge}
 use Rattle.scad_geom.specs.declared.half.Half.TheVariants.{Cell}
-use Rattle.scad_geom.specs.Winding.{wind, counted, doubled, side_of}
+use Rattle.scad_geom.specs.Point.{halves}
+use Rattle.scad_geom.specs.Segment.{segments}
+use Rattle.scad_geom.specs.Half.{doubled}
+use Rattle.scad_geom.specs.Winding.{wind, counted}
 use Rattle.scad_geom.specs.Loop.{sides}
 use Rattle.scad_geom.specs.Square.{square, square_wind, IsStrictlyWithin, IsCentreInside, SquareWindsOnce}
-use Rattle.scad_geom.proofs.Signs.{sub-self, sub-zero, zero-sub, one-mul, minus_one-mul}
+use Rattle.scad_geom.proofs.Signs.{sub-zero, one-mul, minus_one-mul}
 use Rattle.scad_geom.proofs.Integers.{neg_mul}
+use Rattle.scad_geom.proofs.Crossing.{side_of, crossings}
+use Rattle.scad_geom.proofs.Doubled.{wind_halves}
 use Rattle.scad_geom.proofs.Signs.{product_is_negative}
 
 -- the upright sides of a square with the side k
@@ -20,11 +26,11 @@ abbrev left_side : ℤ → Edge
 left_side k = record { a = record { x = pos 0; y = k }; b = record { x = pos 0; y = pos 0 } }
 
 right_area : (k x y : ℤ) → pos 1 *ℤ side_of (right_side k) x y ≡ neg_ℤ (k *ℤ (x -ℤ k))
-right_area k x y = rw (one-mul, sub-self k, sub-zero k, zero-*ℤ, zero-sub)
+right_area k x y = rw (one-mul, minus_self k, sub-zero k, zero-*ℤ, zero_minus)
 
 left_area : (k x y : ℤ) → negsuc 0 *ℤ side_of (left_side k) x y ≡ neg_ℤ (k *ℤ x)
 left_area k x y =
-    rw (zero-*ℤ, zero-sub, minus_one-mul, zero-sub k, sub-zero x, neg_ℤ-neg_ℤ (neg_ℤ k *ℤ x), neg_mul k x)
+    rw (zero-*ℤ, zero_minus, minus_one-mul, zero_minus k, sub-zero x, neg_ℤ-neg_ℤ (neg_ℤ k *ℤ x), neg_mul k x)
 
 -- each lies right of the point exactly where the point's x is less than its own
 right_is_right : (k x y : ℤ) → pos 0 <ℤ k →
@@ -82,16 +88,21 @@ four_by false true a b c d right left ordered signs =
     rw (told.0, told.1) (simp crossed-zero (upright_sum right left))
 
 -- the winding number round a point whose coordinates are doubled
-wind-square : (side : ℕ) (x y : ℤ) →
-    wind (sides (square side)) x y
+crossings-square : (side : ℕ) (x y : ℤ) →
+    crossings (sides (square side)) x y
     ≡ turns_by (int_lt y (pos 0)) (int_lt y (pos (2 * side))) (int_lt x (pos (2 * side))) (int_lt x (pos 0))
-wind-square side x y =
+crossings-square side x y =
     let k = pos (2 * side) in
     four_by _ _ _ _ _ _ _ _
     (λ below. grind (arith, ints))
     (λ not_below under.
     let positive : pos 0 <ℤ k = grind (arith, ints) in
     (right_is_right k x y positive, left_is_right k x y positive))
+
+wind-square : (side : ℕ) (x y : ℤ) →
+    wind (halves x y) (segments (sides (square side)))
+    ≡ turns_by (int_lt y (pos 0)) (int_lt y (pos (2 * side))) (int_lt x (pos (2 * side))) (int_lt x (pos 0))
+wind-square side x y = wind_halves (sides (square side)) x y ∙ crossings-square side x y
 
 -- where that isn't 0, the tests are those of a point inside
 turns_only : (lower upper right left : Bool) → (left ≡ true → right ≡ true) →

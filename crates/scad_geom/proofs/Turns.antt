@@ -7,10 +7,10 @@ use Rattle.std.proofs.lemmas.Int.{ints, by_lt_z}
 use Rattle.scad_geom.specs.declared.point.Pt.{Pt}
 use Rattle.scad_geom.specs.declared.point.Edge.{Edge}
 use Rattle.scad_geom.specs.declared.level.Level.{Level}
-use Rattle.scad_geom.specs.Winding.{counted}
 use Rattle.scad_geom.specs.Line.{low, high, rise, run, offset, x_at, left_of}
-use Rattle.scad_geom.specs.Around.{Point, whole, is_over, passage_by, side_by, is_beyond, turn}
-use Rattle.scad_geom.specs.Heights.{level_of, IsLower, IsAtMost}
+use Rattle.scad_geom.specs.Point.{Point, whole}
+use Rattle.scad_geom.specs.Winding.{counted, is_over, passage_by, side_by, is_beyond, turn}
+use Rattle.scad_geom.specs.Level.{level_of, IsLower, IsAtMost}
 use Rattle.scad_geom.proofs.Ring.{ring, num, ◌⊕◌, ◌⊖◌, ◌⊗◌, v0, v1, v2, v3, v4, v5, v6}
 use Rattle.scad_geom.proofs.Signs.{pos_mul, at_least_mul, neg_mul_pos, at_most_mul}
 use Rattle.scad_geom.proofs.Heights.{Reaches, lower_then_at_most, at_most_then_lower, at_most_chain}

@@ -1,14 +1,23 @@
--- Points and edges whose coordinates are small enough for a call's arithmetic.
-use Rattle.std.specs.Prelude.{ℕ, ◌≤◌, unsigned_abs}
+-- Exact points of a layer's plane: two whole numbers over one divisor.
+use Rattle.std.specs.Prelude.{Bool, ◌&&◌, ℤ, pos, ◌*ℤ◌}
+use Rattle.std.specs.Ordering.{int_eq}
 use Rattle.scad_geom.specs.declared.point.Pt.{Pt}
-use Rattle.scad_geom.specs.declared.point.Edge.{Edge}
+pub use Rattle.scad_geom.specs.Within.{IsWithin, IsEdgeWithin}
 
--- neither coordinate is greater in size than the limit
-pub record IsWithin (limit : ℕ) (p : Pt) : Type 0 where
-  pub x : unsigned_abs p.x ≤ limit
-  pub y : unsigned_abs p.y ≤ limit
+-- the point (x / d, y / d), with d above 0
+pub record Point : Type 0 where
+  pub x : ℤ
+  pub y : ℤ
+  pub d : ℤ
 
--- both ends are within the limit
-pub record IsEdgeWithin (limit : ℕ) (e : Edge) : Type 0 where
-  pub a : IsWithin limit e.a
-  pub b : IsWithin limit e.b
+-- a point in whole micrometres
+abbrev pub whole : Pt → Point
+whole p = record { x = p.x; y = p.y; d = pos 1 }
+
+-- the point (x / 2, y / 2)
+abbrev pub halves : ℤ → ℤ → Point
+halves x y = record { x = x; y = y; d = pos 2 }
+
+-- whether two points are the same, over any divisors
+abbrev pub is_same_point : Point → Point → Bool
+is_same_point p q = int_eq (p.y *ℤ q.d) (q.y *ℤ p.d) && int_eq (p.x *ℤ q.d) (q.x *ℤ p.d)

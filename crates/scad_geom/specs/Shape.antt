@@ -1,8 +1,13 @@
 -- Membership in a tree of set operations over leaves.
-use Rattle.std.specs.Prelude.{Bool, true, false, not, ◌&&◌, ◌||◌, List, [], ◌∷◌, ℕ, ℤ, pos, negsuc, zero, suc}
+use Rattle.std.specs.Prelude.{Bool, true, false, not, ◌&&◌, ◌||◌, List, [], ◌∷◌, ℕ}
 use Rattle.scad_geom.specs.declared.level.LeafEdge.{LeafEdge}
 use Rattle.scad_geom.specs.declared.shape.Shape.{Shape, Empty, Leaf, Union', Inter', Diff', Row_of-Shape, end_of-Shape, more_of-Shape}
-use Rattle.scad_geom.specs.Around.{Point, wind_by}
+use Rattle.scad_geom.specs.Point.{Point}
+use Rattle.scad_geom.specs.Segment.{segments}
+use Rattle.scad_geom.specs.Winding.{wind_by}
+use Rattle.scad_geom.specs.Leaves.{edges_of}
+use Rattle.scad_geom.specs.Sign.{is_zero}
+pub use Rattle.scad_geom.specs.Sign.{is_zero}
 
 -- whether a shape holds a point that is inside these leaves. A union holds it where some member does, an intersection
 -- where it has members and all do, a difference where the first does and none of the rest
@@ -26,15 +31,10 @@ abbrev mutual
   has_member end_of-Shape = false
   has_member (more_of-Shape member rest) = true
 
-abbrev pub is_zero : ℤ → Bool
-is_zero (pos zero) = true
-is_zero (pos (suc n)) = false
-is_zero (negsuc n) = false
-
 -- whether a shape over the leaves of an edge list holds what lies hard by a point. A leaf holds where the winding number
 -- of its edges isn't 0
 unfoldable pub is_in_by : Bool → Bool → List LeafEdge → Shape → Point → Bool
-is_in_by above right edges shape p = shape_holds (λ leaf. not (is_zero (wind_by above right p leaf edges))) shape
+is_in_by above right edges shape p = shape_holds (λ leaf. not (is_zero (wind_by above right p (segments (edges_of leaf edges))))) shape
 
 -- whether a shape holds a point: the nonzero winding rule for each leaf
 unfoldable pub is_in : List LeafEdge → Shape → Point → Bool

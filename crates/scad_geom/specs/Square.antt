@@ -2,8 +2,10 @@
 use Rattle.std.specs.Prelude.{◌≡◌, ◌≢◌, ℕ, ◌*◌, List, [], ◌∷◌, ℤ, pos, ◌<ℤ◌}
 use Rattle.scad_geom.specs.declared.point.Pt.{Pt}
 use Rattle.scad_geom.specs.declared.half.Half.TheVariants.{Cell}
+use Rattle.scad_geom.specs.Segment.{segments}
+use Rattle.scad_geom.specs.Half.{doubled, centre}
 use Rattle.scad_geom.specs.Loop.{sides}
-use Rattle.scad_geom.specs.Winding.{wind, doubled}
+use Rattle.scad_geom.specs.Winding.{wind}
 
 abbrev corner : ℕ → ℕ → Pt
 corner x y = record { x = pos x; y = pos y }
@@ -24,7 +26,7 @@ pub record IsCentreInside (side : ℕ) (i j : ℤ) : Type 0 where
 
 -- the winding number of the square's outline round the centre of the cell at (i, j)
 abbrev pub square_wind : ℕ → ℤ → ℤ → ℤ
-square_wind side i j = wind (sides (square side)) (doubled Cell i) (doubled Cell j)
+square_wind side i j = wind (centre i j) (segments (sides (square side)))
 
 -- the outline winds once round each cell centre strictly inside the square, and not at all round any
 -- other

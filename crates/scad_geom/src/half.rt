@@ -1,6 +1,6 @@
 //! Whole points and cell centres, in numbers that are twice the coordinates.
 ghost use Rattle.std.specs.Prelude.{◌≡◌, ◌+◌, ◌*◌, ◌≤◌, unsigned_abs};
-ghost use Rattle.scad_geom.specs.Winding.{doubled};
+ghost use Rattle.scad_geom.specs.Half.{doubled};
 
 /// Which point a whole point stands for.
 #[derive(Clone, Copy, Debug, PartialEq, Eq)]

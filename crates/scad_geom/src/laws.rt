@@ -1,4 +1,8 @@
 //! Laws of the definitions, each carried by the contract of a function that does nothing.
+ghost use Rattle.std.specs.Prelude.{◌≡◌};
+ghost use Rattle.scad_geom.specs.declared.point.TheConstants.{COORDINATE_LIMIT};
+ghost use Rattle.scad_geom.specs.declared.point3.TheConstants.{POINT_LIMIT};
+ghost use Rattle.scad_geom.specs.Limits.{point_limit, coordinate_limit};
 ghost use Rattle.scad_geom.specs.Square.{SquareWindsOnce};
 
 /// The outline of a square with a corner at the origin, counter-clockwise, winds once round each
@@ -8,6 +12,12 @@ pub fn square_winds_once()
     ensures { SquareWindsOnce }
 {}
 
+/// The greatest sizes of coordinates.
+pub fn limits()
+    ensures point { POINT_LIMIT ≡ point_limit }
+    ensures coordinate { COORDINATE_LIMIT ≡ coordinate_limit }
+{}
+
 #[cfg(test)]
 mod tests {
     use super::*;
@@ -15,5 +25,6 @@ mod tests {
     #[test]
     fn laws_are_called() {
         square_winds_once();
+        limits();
     }
 }

@@ -1,18 +1,19 @@
 //! The line of an edge, read upwards.
 ghost use Rattle.std.specs.Prelude.{◌≡◌, ◌+◌, ◌*◌, ◌^◌, ◌<◌, ◌≤◌, ◌+ℤ◌, ◌-ℤ◌, ◌*ℤ◌, pos, ◌<ℤ◌, int_lt, unsigned_abs};
-ghost use Rattle.scad_geom.specs.Point.{IsWithin, IsEdgeWithin};
+ghost use Rattle.scad_geom.specs.Limits.{coordinate_limit};
+ghost use Rattle.scad_geom.specs.Within.{IsWithin, IsEdgeWithin};
 ghost use Rattle.scad_geom.specs.Line.{low, high, rise, run, offset, x_at};
-ghost use Rattle.scad_geom.specs.Heights.{IsLevelWithin};
+ghost use Rattle.scad_geom.specs.Level.{IsLevelWithin};
 
 use crate::level::Level;
-use crate::point::{COORDINATE_LIMIT, Edge, Pt};
+use crate::point::{Edge, Pt};
 use crate::wide::{minus, plus, span, times};
 
 /// The lower end of an edge, the start of a flat one.
 #[tactic(auto, using(crate::proofs::Casts::casts), unfolding(crate::specs::Line::low))]
 pub fn low(e: &Edge) -> Pt
     ensures value { result ≡ low e.now }
-    ensures within { IsEdgeWithin COORDINATE_LIMIT e.now → IsWithin COORDINATE_LIMIT result }
+    ensures within { IsEdgeWithin coordinate_limit e.now → IsWithin coordinate_limit result }
 {
     if e.b.y < e.a.y { e.b } else { e.a }
 }
@@ -21,7 +22,7 @@ pub fn low(e: &Edge) -> Pt
 #[tactic(auto, using(crate::proofs::Casts::casts), unfolding(crate::specs::Line::high))]
 pub fn high(e: &Edge) -> Pt
     ensures value { result ≡ high e.now }
-    ensures within { IsEdgeWithin COORDINATE_LIMIT e.now → IsWithin COORDINATE_LIMIT result }
+    ensures within { IsEdgeWithin coordinate_limit e.now → IsWithin coordinate_limit result }
 {
     if e.b.y < e.a.y { e.a } else { e.b }
 }
@@ -29,9 +30,9 @@ pub fn high(e: &Edge) -> Pt
 /// How far an edge rises from its lower to its upper end, in micrometres.
 #[tactic(auto, using(crate::proofs::Casts::casts), unfolding(crate::specs::Line::rise))]
 pub fn rise(e: &Edge) -> i128
-    requires { IsEdgeWithin COORDINATE_LIMIT e.now }
+    requires { IsEdgeWithin coordinate_limit e.now }
     ensures value { result ≡ rise e.now }
-    ensures size { unsigned_abs result ≤ 2200000 }
+    ensures size { unsigned_abs result ≤ 2 * coordinate_limit }
 {
     span(low(e).y, high(e).y)
 }
@@ -39,9 +40,9 @@ pub fn rise(e: &Edge) -> i128
 /// How far an edge runs to the right on the way up, in micrometres.
 #[tactic(auto, using(crate::proofs::Casts::casts), unfolding(crate::specs::Line::run))]
 pub fn run(e: &Edge) -> i128
-    requires { IsEdgeWithin COORDINATE_LIMIT e.now }
+    requires { IsEdgeWithin coordinate_limit e.now }
     ensures value { result ≡ run e.now }
-    ensures size { unsigned_abs result ≤ 2200000 }
+    ensures size { unsigned_abs result ≤ 2 * coordinate_limit }
 {
     span(low(e).x, high(e).x)
 }
@@ -49,7 +50,7 @@ pub fn run(e: &Edge) -> i128
 // What places the line of an edge: its points have rise * x = run * y + offset.
 #[tactic(auto, using(crate::proofs::Casts::casts), unfolding(crate::specs::Line::offset))]
 pub fn offset(e: &Edge) -> i128
-    requires { IsEdgeWithin COORDINATE_LIMIT e.now }
+    requires { IsEdgeWithin coordinate_limit e.now }
     ensures value { result ≡ offset e.now }
     ensures size { unsigned_abs result ≤ 2 ^ 44 }
 {
@@ -62,8 +63,8 @@ pub fn offset(e: &Edge) -> i128
 /// The x of the line of an edge that isn't flat, at a height: this over its rise and the divisor of the height.
 #[tactic(auto, using(crate::proofs::Casts::casts), unfolding(crate::specs::Line::x_at))]
 pub fn x_at(e: &Edge, at: &Level) -> i128
-    requires edge { IsEdgeWithin COORDINATE_LIMIT e.now }
-    requires level { IsLevelWithin COORDINATE_LIMIT at.now }
+    requires edge { IsEdgeWithin coordinate_limit e.now }
+    requires level { IsLevelWithin coordinate_limit at.now }
     ensures value { result ≡ x_at e.now at.now.n at.now.d }
     ensures size { unsigned_abs result ≤ 2 ^ 89 }
 {

@@ -21,3 +21,48 @@ pub fn is_in_range(p: Pt3) -> bool
         && p.y.unsigned_abs() <= POINT_LIMIT
         && p.z.unsigned_abs() <= POINT_LIMIT
 }
+
+#[cfg(test)]
+mod tests {
+    use super::*;
+
+    #[test]
+    fn a_metre_is_in_range_and_a_micrometre_more_is_not(rt: HostRuntime) {
+        for size in [1_000_000, -1_000_000] {
+            assert_eq!(rt;
+                is_in_range(Pt3 {
+                    x: size,
+                    y: size,
+                    z: size
+                }),
+                true
+            );
+        }
+        for size in [1_000_001, -1_000_001, i32::MIN] {
+            assert_eq!(rt;
+                is_in_range(Pt3 {
+                    x: size,
+                    y: 0,
+                    z: 0
+                }),
+                false
+            );
+            assert_eq!(rt;
+                is_in_range(Pt3 {
+                    x: 0,
+                    y: size,
+                    z: 0
+                }),
+                false
+            );
+            assert_eq!(rt;
+                is_in_range(Pt3 {
+                    x: 0,
+                    y: 0,
+                    z: size
+                }),
+                false
+            );
+        }
+    }
+}

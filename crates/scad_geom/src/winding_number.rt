@@ -1,10 +1,14 @@
 //! The winding number of an edge list round a point.
-ghost use Rattle.std.specs.Prelude.{◌≡◌, ◌+◌, ◌*◌, ◌^◌, ◌<◌, ◌≤◌, ◌-ℤ◌, ◌*ℤ◌, pos, int_lt, unsigned_abs, length, All};
-ghost use Rattle.scad_geom.specs.Point.{IsWithin, IsEdgeWithin};
-ghost use Rattle.scad_geom.specs.Winding.{doubled, doubled_edge, counted, passage, side_of, crossing, wind};
+ghost use Rattle.std.specs.Prelude.{◌≡◌, ◌+◌, ◌*◌, ◌^◌, ◌<◌, ◌≤◌, ◌-ℤ◌, ◌*ℤ◌, pos, true, int_lt, unsigned_abs, length, All};
+ghost use Rattle.scad_geom.specs.Limits.{coordinate_limit};
+ghost use Rattle.scad_geom.specs.Within.{IsWithin, IsEdgeWithin};
+ghost use Rattle.scad_geom.specs.Point.{whole, halves};
+ghost use Rattle.scad_geom.specs.Segment.{segments};
+ghost use Rattle.scad_geom.specs.Half.{meant};
+ghost use Rattle.scad_geom.specs.Winding.{counted, turn, wind};
 
 use crate::half::Half;
-use crate::point::{COORDINATE_LIMIT, Edge, Pt};
+use crate::point::{Edge, Pt};
 use crate::whole::{minus, plus, times};
 
 /// How often the edges turn round the point, counter-clockwise turns counted up and clockwise ones
@@ -12,10 +16,10 @@ use crate::whole::{minus, plus, times};
 /// upwards and as -1 where it goes downwards. A point on an edge counts with the side above it, then
 /// with the side to its right.
 pub fn winding(edges: &[Edge], p: Pt, half: Half) -> i64
-    requires edges { All (IsEdgeWithin COORDINATE_LIMIT) edges.now }
-    requires point { IsWithin COORDINATE_LIMIT p }
+    requires edges { All (IsEdgeWithin coordinate_limit) edges.now }
+    requires point { IsWithin coordinate_limit p }
     requires few { length edges.now < 2 ^ 32 }
-    ensures { result ≡ wind edges.now (doubled half p.x) (doubled half p.y) }
+    ensures { result ≡ wind (meant half p) (segments edges.now) }
 {
     sum_of_crossings(edges, half.doubled(p.x), half.doubled(p.y))
 }
@@ -23,11 +27,11 @@ pub fn winding(edges: &[Edge], p: Pt, half: Half) -> i64
 // The winding number round a point whose coordinates are doubled.
 #[tactic(auto, using(crate::proofs::Casts::casts, crate::proofs::Crossings::wind_more))]
 fn sum_of_crossings(edges: &[Edge], x: i64, y: i64) -> i64
-    requires edges { All (IsEdgeWithin COORDINATE_LIMIT) edges.now }
+    requires edges { All (IsEdgeWithin coordinate_limit) edges.now }
     requires x { unsigned_abs x ≤ 2 ^ 22 }
     requires y { unsigned_abs y ≤ 2 ^ 22 }
     requires few { length edges.now < 2 ^ 32 }
-    ensures { result ≡ wind edges.now x y }
+    ensures { result ≡ wind (halves x y) (segments edges.now) }
 {
     let mut sum = 0;
     'edges: for edge in edges {
@@ -36,12 +40,12 @@ fn sum_of_crossings(edges: &[Edge], x: i64, y: i64) -> i64
     sum
 }
 
-// The edge's crossing of the ray from the point, whose coordinates are doubled.
+// The edge's turn round the point, whose coordinates are doubled.
 fn crossing(edge: &Edge, x: i64, y: i64) -> i64
-    requires edge { IsEdgeWithin COORDINATE_LIMIT edge.now }
+    requires edge { IsEdgeWithin coordinate_limit edge.now }
     requires x { unsigned_abs x ≤ 2 ^ 22 }
     requires y { unsigned_abs y ≤ 2 ^ 22 }
-    ensures value { result ≡ crossing (doubled_edge edge.now) x y }
+    ensures value { result ≡ turn true true (halves x y) (whole edge.now.a) (whole edge.now.b) }
     ensures size { unsigned_abs result ≤ 1 }
 {
     let step = passage(edge, y);
@@ -57,7 +61,7 @@ fn crossing(edge: &Edge, x: i64, y: i64) -> i64
 
 // How the edge passes the height, which is doubled.
 fn passage(edge: &Edge, y: i64) -> i64
-    ensures value { result ≡ passage (doubled_edge edge.now) y }
+    ensures value { result ≡ counted (int_lt y (pos 2 *ℤ edge.now.b.y)) -ℤ counted (int_lt y (pos 2 *ℤ edge.now.a.y)) }
     ensures size { unsigned_abs result ≤ 1 }
 {
     i64::from(is_above(edge.b, y)) - i64::from(is_above(edge.a, y))
@@ -71,10 +75,12 @@ fn is_above(end: Pt, y: i64) -> bool
 
 // On which side of the edge the point lies, whose coordinates are doubled.
 fn side_at(edge: &Edge, x: i64, y: i64) -> i64
-    requires edge { IsEdgeWithin COORDINATE_LIMIT edge.now }
+    requires edge { IsEdgeWithin coordinate_limit edge.now }
     requires x { unsigned_abs x ≤ 2 ^ 22 }
     requires y { unsigned_abs y ≤ 2 ^ 22 }
-    ensures value { result ≡ side_of (doubled_edge edge.now) x y }
+    ensures value { result
+        ≡ (pos 2 *ℤ edge.now.b.x -ℤ pos 2 *ℤ edge.now.a.x) *ℤ (y -ℤ pos 2 *ℤ edge.now.a.y)
+        -ℤ (pos 2 *ℤ edge.now.b.y -ℤ pos 2 *ℤ edge.now.a.y) *ℤ (x -ℤ pos 2 *ℤ edge.now.a.x) }
     ensures size { unsigned_abs result ≤ 2 ^ 47 }
 {
     let left = times::<23, 23>(doubled_span(edge.a.x, edge.b.x), gap(edge.a.y, y));
@@ -148,5 +154,28 @@ mod tests {
             );
         }
         assert_eq!(rt; winding(&[], Pt { x: 0, y: 0 }, Half::Cell), 0);
+    }
+
+    #[test]
+    fn widest_edges_are_counted_exactly(rt: HostRuntime) {
+        const FAR: i32 = 1_100_000;
+        let diagonal = [Edge {
+            a: Pt { x: -FAR, y: -FAR },
+            b: Pt { x: FAR, y: FAR },
+        }];
+        for (x, y, half, turns) in [
+            (FAR - 1, FAR - 1, Half::Whole, 0),
+            (FAR - 2, FAR - 1, Half::Cell, 1),
+            (FAR - 1, FAR - 1, Half::Cell, 0),
+            (-FAR, -FAR, Half::Whole, 0),
+            (-FAR, 1 - FAR, Half::Whole, 1),
+            (-FAR, FAR, Half::Whole, 0),
+        ] {
+            assert_eq!(rt;
+                winding(&diagonal, Pt { x, y }, half),
+                turns,
+                "at {x}, {y}, {half:?}"
+            );
+        }
     }
 }

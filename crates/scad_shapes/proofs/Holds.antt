@@ -17,7 +17,7 @@ use Rattle.scad_matrix.specs.Matrix.{micrometre, placed_coordinate, placed_point
 use Rattle.scad_shapes.specs.Outline.{start_of, circle}
 use Rattle.scad_shapes.specs.Outline as outline
 use Rattle.scad_shapes.specs.Rings.{placed_ring, two_rings, solid_of_rings, UnlessMemory}
-use Rattle.scad_shapes.specs.Laws.{IsUpright, IsDiagonal, placed_outline, placed_height, CubesHold, PrismsHold, CylindersHold}
+use Rattle.scad_shapes.specs.Laws.{IsUpright, IsDiagonal, placed_outline, placed_height, CubesHold, PlacedPrismsHold, CylindersHold}
 
 -- a row doesn't read a coordinate whose entry is 0
 gone : (k z w : ℤ) → k ≡ pos 0 → k *ℤ z ≡ k *ℤ w
@@ -88,8 +88,8 @@ module _ (m : Matrix) (diagonal : IsDiagonal m) where
 pub cubes_hold : CubesHold
 cubes_hold = record { each = λ x y z center m diagonal. placed_box_holds m diagonal (start_of x center) (start_of y center) (start_of z center) x y z }
 
-pub prisms_hold : PrismsHold
-prisms_hold = record { each = λ points low high m upright. placed_prism_holds m upright points low high }
+pub placed_prisms_hold : PlacedPrismsHold
+placed_prisms_hold = record { each = λ points low high m upright. placed_prism_holds m upright points low high }
 
 pub cylinders_hold : CylindersHold
 cylinders_hold = record { each = λ h r n center m upright. placed_prism_holds m upright (circle r n) (start_of h center) (start_of h center +ℤ h) }

@@ -1,5 +1,6 @@
 -- The solids of faces whose numbers all name points, and rings that are made one by one.
 use Rattle.std.proofs.Common.{◌≡◌, ℕ, zero, suc, ◌+◌, ◌<◌, Bool, true, false, cond, ◌&&◌, ◌==◌, Some, List, [], ◌∷◌, ◌++◌, append_assoc, length, map, None, Result, Ok, Err, arith, refl, ap, ap₂, sym, ◌∙◌, nat_le, nat_lt, ◌-◌, ℤ}
+use Rattle.std.proofs.lemmas.Bool.{and_parts}
 use Rattle.std.specs.Prelude.{if◌then◌else◌}
 use Rattle.std.specs.List.{find, flat_map, list_all, range_with_len}
 use Rattle.std.specs.Option.{option_or}
@@ -27,25 +28,17 @@ module _ (count : ℕ) where
   names_none : (face : List ℕ) → names_points count face ≡ true → find (λ k. nat_le count k) face ≡ None
   names_none [] e = refl
   names_none (k ∷ face) e =
-      let parts = both (nat_lt k count) (names_points count face) e in
+      let parts = and_parts (nat_lt k count) (names_points count face) e in
       ap (λ b. cond b (Some k) (find (λ i. nat_le count i) face)) (not_above k parts.0) ∙ names_none face parts.1
     where
-      both : (a b : Bool) → a && b ≡ true → (a ≡ true) × (b ≡ true)
-      both true b e = (refl, e)
-      both false b e = absurd (cc)
-
       not_above : (k : ℕ) → nat_lt k count ≡ true → nat_le count k ≡ false
       not_above k t = grind (arith, nat_tests)
-
-  both : (a b : Bool) → a && b ≡ true → (a ≡ true) × (b ≡ true)
-  both true b e = (refl, e)
-  both false b e = absurd (cc)
 
   -- faces that name points alone have no bad number
   pub name_points-none : (faces : List (List ℕ)) → name_points count faces ≡ true → first_bad count faces ≡ None
   name_points-none [] e = refl
   name_points-none (face ∷ faces) e =
-      let parts = both (names_points count face) (name_points count faces) e in
+      let parts = and_parts (names_points count face) (name_points count faces) e in
       find-append (λ k. nat_le count k) face (flat_map (λ f. f) faces)
       ∙ ap (λ o. option_or o (first_bad count faces)) (names_none face parts.0)
       ∙ name_points-none faces parts.1

@@ -45,7 +45,7 @@ pub record CubesHold : Type 0 where
 
 -- a prism over any outline, under an upright matrix, contains a point at a layer exactly where the plane lies strictly
 -- between the placed ends and the placed outline winds round the point
-pub record PrismsHold : Type 0 where
+pub record PlacedPrismsHold : Type 0 where
   pub each : (outline : List (ℤ × ℤ)) (low high : ℤ) (m : Matrix) → IsUpright m →
       HoldInside (placed_outline m outline) (placed_height m high) (placed_height m low) (stacked (two_rings m outline outline low high))
 

@@ -1,5 +1,5 @@
 //! Laws of the definitions, each carried by the contract of a function that does nothing.
-ghost use Rattle.scad_shapes.specs.Laws.{CubesHold, PrismsHold, CylindersHold};
+ghost use Rattle.scad_shapes.specs.Laws.{CubesHold, PlacedPrismsHold, CylindersHold};
 
 /// Under a diagonal matrix a cube contains a cell centre at a layer exactly where each of its three
 /// coordinates lies strictly between those of two opposite placed corners.
@@ -10,9 +10,9 @@ pub fn cubes_hold()
 
 /// Under an upright matrix the prism over any outline contains a point at a layer exactly where the plane
 /// lies strictly between its placed ends and the placed outline winds round the point.
-#[tactic(auto, using(crate::proofs::Holds::prisms_hold))]
-pub fn prisms_hold()
-    ensures { PrismsHold }
+#[tactic(auto, using(crate::proofs::Holds::placed_prisms_hold))]
+pub fn placed_prisms_hold()
+    ensures { PlacedPrismsHold }
 {}
 
 /// So does a cylinder of equal radii.
@@ -28,7 +28,7 @@ mod tests {
     #[test]
     fn laws_are_called() {
         cubes_hold();
-        prisms_hold();
+        placed_prisms_hold();
         cylinders_hold();
     }
 }

@@ -28,6 +28,22 @@ fn triangle(a: Pt3, b: Pt3, c: Pt3) -> Triangle {
 }
 
 #[test]
+fn takes_a_metre_and_refuses_what_rounds_to_more(rt: HostRuntime) -> Result<(), Fail> {
+    let one = Num::of(M)?;
+    for (size, want) in [
+        (1_000 * M, None),
+        (1_000 * M + 499, None),
+        (1_000 * M + 500, Some(ShapeFault::CoordinateRange)),
+        (-1_000 * M, None),
+        (-1_000 * M - 500, Some(ShapeFault::CoordinateRange)),
+    ] {
+        let solid = cube(rt.alloc(), one, Num::of(size)?, one, false, &straight());
+        assert_eq!(rt; solid.err(), want, "at {size}");
+    }
+    Ok(())
+}
+
+#[test]
 fn places_a_turned_cube(rt: HostRuntime) -> Result<(), Fail> {
     let (long, high) = (Num::of(10 * M)?, Num::of(M)?);
     let m = turn(Axis::Z, 45_000);

@@ -2,16 +2,18 @@
 use Rattle.std.proofs.Common.{◌≡◌, Bool, true, false, cond, ◌&&◌, not, List, [], ◌∷◌, Option, Some, None, IfSome, ℤ, pos, ◌*ℤ◌, ◌≤ℤ◌, arith, refl, ap, ap₂, ◌∙◌}
 use Rattle.std.specs.Int.{int_max}
 use Rattle.std.specs.List.{cons_option}
-use Rattle.std.specs.Ordering.{int_eq}
 use Rattle.std.proofs.lemmas.Int.{ints, clamps}
+use Rattle.scad_geom.specs.Segment.{Segment}
+use Rattle.scad_geom.specs.Sign.{is_zero}
+use Rattle.scad_geom.specs.Winding.{wind}
 use Rattle.scad_solid.specs.declared.triangle.Triangle.{Triangle}
 use Rattle.scad_solid.specs.Height.{top_of, higher_of, highest_of}
-use Rattle.scad_solid.specs.Cut.{Cut, is_above, is_below, cut_between, cut_of, cuts_of, cut_wind}
+use Rattle.scad_solid.specs.Cut.{is_above, is_below, cut_between, cut_of, cuts_of}
 use Rattle.scad_solid.specs.Laws.{NothingAbove}
 
 module _ (plane : ℤ) where
   -- the cut of a triangle by which of its corners lie above and below the plane
-  abbrev cut_by : Triangle → Bool → Bool → Bool → Bool → Bool → Bool → Option Cut
+  abbrev cut_by : Triangle → Bool → Bool → Bool → Bool → Bool → Bool → Option Segment
   cut_by t up_a up_b up_c down_a down_b down_c = cut_between plane
       (cond (up_a && down_b) (Some (record { from = t.a; to = t.b })) (cond (up_b && down_c) (Some (record { from = t.b; to = t.c })) (cond (up_c && down_a) (Some (record { from = t.c; to = t.a })) None)))
       (cond (down_a && up_b) (Some (record { from = t.a; to = t.b })) (cond (down_b && up_c) (Some (record { from = t.b; to = t.c })) (cond (down_c && up_a) (Some (record { from = t.c; to = t.a })) None)))
@@ -59,4 +61,4 @@ module _ (plane : ℤ) where
   all_uncut (t ∷ ts) l = ap₂ cons_option (uncut t (higher_first (top_of t) (highest_of ts) l)) (all_uncut ts (higher_rest (top_of t) (highest_of ts) l))
 
 pub nothing_above : NothingAbove
-nothing_above = record { each = λ plane ts x y l. ap (λ cs. not (int_eq (cut_wind cs x y) (pos 0))) (all_uncut plane ts l) }
+nothing_above = record { each = λ plane ts p l. ap (λ cs. not (is_zero (wind p cs))) (all_uncut plane ts l) }

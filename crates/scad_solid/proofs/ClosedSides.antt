@@ -1,5 +1,6 @@
 -- A surface is closed exactly where its sides and their reverses are the same list once both are sorted.
 use Rattle.std.proofs.Common.{◌≡◌, ℕ, zero, suc, ◌<◌, Bool, true, false, cond, ◌&&◌, ◌==◌, List, [], ◌∷◌, length, get_or, map, arith, refl, ap, ap₂, sym, ◌∙◌, subst, ◌⊎◌, inl, inr}
+use Rattle.std.proofs.Math.Bool.{and_comm}
 use Rattle.std.specs.Cmp.{both_ways}
 use Rattle.std.specs.Cmp.Lexicographic.{pointwise}
 use Rattle.std.specs.List.{sum_by, list_all}
@@ -13,12 +14,6 @@ use Rattle.scad_solid.specs.Surface.{sides, occurrences, is_closed}
 use Rattle.scad_solid.proofs.Multiset.{same_ascending, same_sums, times_in-cons, place_of}
 use Rattle.scad_solid.proofs.SideOrder.{side_cmp, side_total, side_exact, side_Decides}
 use borrow.Author.Tests.{eqb-true, eq-eqb}
-
-and_comm : (a b : Bool) → (a && b) ≡ (b && a)
-and_comm true true = refl
-and_comm true false = refl
-and_comm false true = refl
-and_comm false false = refl
 
 both_pass : (a b : Bool) → (a && b) ≡ true → (a ≡ true) × (b ≡ true)
 both_pass true b e = (refl, e)

@@ -1,5 +1,6 @@
 -- How many triangles faces and stacked rings have.
 use Rattle.std.proofs.Common.{◌≡◌, ℕ, suc, ◌+◌, ◌-◌, ◌*◌, ◌&&◌, ◌==◌, Bool, true, false, List, [], ◌∷◌, ◌++◌, length, map, reverse, arith, refl, ap, ap₂, sym, ◌∙◌, length-append}
+use Rattle.std.proofs.lemmas.Bool.{and_parts}
 use Rattle.std.specs.List.{zip, list_all, sum_by}
 use Rattle.std.proofs.lemmas.Grind.{flat_map-append}
 use Rattle.std.proofs.lemmas.Bool.Decides.{nat_tests}
@@ -41,17 +42,13 @@ pub length-band : (upper lower : List Pt3) → length upper ≡ length lower →
 length-band upper lower e =
     length-quads (ring_sides upper) (ring_sides lower) (length-ring_sides upper ∙ e ∙ sym (length-ring_sides lower)) ∙ ap (λ n. 2 * n) (length-ring_sides upper)
 
-both : (a b : Bool) → a && b ≡ true → (a ≡ true) × (b ≡ true)
-both true b e = (refl, e)
-both false b e = absurd (cc)
-
 equal : (a m : ℕ) → (a == m) ≡ true → a ≡ m
 equal a m e = grind (arith, nat_tests)
 
 length-below : (m : ℕ) (ring : List Pt3) (rings : List (List Pt3)) → length ring ≡ m → list_all (λ r. length r == m) rings ≡ true → length (fans (faces_below ring rings)) ≡ 2 * m * length rings + (m - 2)
 length-below m ring [] e all = length-append (fan ring) [] ∙ omega (arith, length-fan ring)
 length-below m ring (next ∷ rings) e all =
-    let parts = both (length next == m) (list_all (λ r. length r == m) rings) all in
+    let parts = and_parts (length next == m) (list_all (λ r. length r == m) rings) all in
     let same = equal (length next) m parts.0 in
     let here = length-band ring next (e ∙ sym same) in
     let below = length-below m next rings same parts.1 in

@@ -1,5 +1,7 @@
 -- What flows along directed sides, once one way and once the other: round each triangle of a stack of rings it comes to nothing.
 use Rattle.std.proofs.Common.{◌≡◌, ℕ, Bool, true, false, cond, List, [], ◌∷◌, ◌++◌, length, map, reverse, ℤ, pos, neg_ℤ, ◌+ℤ◌, ◌-ℤ◌, arith, refl, ap, ap₂, sym, ◌∙◌, append_assoc, ◌&&◌, ◌==◌}
+use Rattle.std.proofs.Math.Bool.{and_comm}
+use Rattle.std.proofs.lemmas.Bool.{and_parts}
 use Rattle.std.specs.List.{zip, list_all}
 use Rattle.std.proofs.lemmas.Int.{ints}
 use Rattle.std.proofs.lemmas.Grind.{flat_map-append, reverse_onto}
@@ -14,16 +16,6 @@ use Rattle.scad_solid.proofs.Multiset.{times_in-cons}
 use Rattle.scad_solid.proofs.SideOrder.{side_Decides}
 use Rattle.scad_solid.proofs.ClosedSides.{is_closed-IsClosed}
 use borrow.Author.Tests.{eqb-true, eq-eqb}
-
-both : (a b : Bool) → (a && b) ≡ true → (a ≡ true) × (b ≡ true)
-both true b e = (refl, e)
-both false b e = absurd (cc)
-
-and_comm : (a b : Bool) → (a && b) ≡ (b && a)
-and_comm true true = refl
-and_comm true false = refl
-and_comm false true = refl
-and_comm false false = refl
 
 abbrev to : Pt3 → Pt3 → Side
 to p q = record { from = p; to = q }
@@ -127,7 +119,7 @@ module _ (T : Side → ℤ) (turns : (s : Side) → T (reversed s) ≡ neg_ℤ (
   faces_below-flow : (m : ℕ) (ring : List Pt3) (rings : List (List Pt3)) → length ring ≡ m → list_all (λ r. length r == m) rings ≡ true → flow_round (fans (faces_below ring rings)) ≡ flow (ring_sides ring)
   faces_below-flow m ring [] long all = omega (arith, ints, flow_round-append (fan ring) [], fan-flow ring)
   faces_below-flow m ring (next ∷ rings) long all =
-      let one = both (length next == m) (list_all (λ r. length r == m) rings) all in
+      let one = and_parts (length next == m) (list_all (λ r. length r == m) rings) all in
       let next_long = eqb-true (length next) m one.0 in
       ap flow_round (flat_map-append fan (band ring next) (faces_below next rings))
       ∙ omega (arith, ints, flow_round-append (fans (band ring next)) (fans (faces_below next rings)), band-flow ring next (long ∙ sym next_long), faces_below-flow m next rings next_long one.1)
@@ -137,7 +129,7 @@ module _ (T : Side → ℤ) (turns : (s : Side) → T (reversed s) ≡ neg_ℤ (
   unfolding stacked
   stacked-flow m [] all = refl
   stacked-flow m (top ∷ rings) all =
-      let one = both (length top == m) (list_all (λ r. length r == m) rings) all in
+      let one = and_parts (length top == m) (list_all (λ r. length r == m) rings) all in
       omega (arith, ints, flow_round-append (fan (reverse top)) (fans (faces_below top rings)), fan-flow (reverse top), reverse-flow top, faces_below-flow m top rings (eqb-true (length top) m one.0) one.1)
 
 -- a side counts once where it is s, and once less where it is the reverse of s

@@ -6,6 +6,7 @@ pub mod Heights
 pub mod InRange
 pub mod Flow
 pub mod Parts
+pub mod Segments
 pub mod Prism
 pub mod Rectangle
 pub mod Holds

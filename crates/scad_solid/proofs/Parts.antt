@@ -4,7 +4,8 @@ use Rattle.std.specs.Prelude.{int_lt, if◌then◌else◌}
 use Rattle.std.proofs.lemmas.Int.{ints}
 use Rattle.scad_geom.specs.declared.point.Pt.{Pt}
 use Rattle.scad_geom.specs.declared.point.Edge.{Edge}
-use Rattle.scad_geom.specs.Winding.{counted, side_of, crossing}
+use Rattle.scad_geom.specs.Winding.{counted}
+use Rattle.scad_geom.proofs.Crossing.{side_of, crossing, scaled, times_point}
 use Rattle.scad_geom.proofs.Ring.{solve, var, plus, less, times}
 
 -- the crossing by whether each end lies above, and on which side the point lies
@@ -41,10 +42,6 @@ sign_down k (negsuc n) = grind (arith, ints)
 pub gap_sign : (a b : ℤ) → int_lt a b ≡ int_lt (pos 0) (b -ℤ a)
 gap_sign a b = grind (arith, ints)
 
--- the point (x, y) scaled, and an edge scaled
-abbrev pub scaled : ℤ → Edge → Edge
-scaled k e = record { a = record { x = k *ℤ e.a.x; y = k *ℤ e.a.y }; b = record { x = k *ℤ e.b.x; y = k *ℤ e.b.y } }
-
 side_of-scaled : (k : ℤ) (e : Edge) (x y : ℤ) → side_of (scaled k e) (k *ℤ x) (k *ℤ y) ≡ k *ℤ (k *ℤ side_of e x y)
 side_of-scaled k e x y =
     let K = var 0 in let AX = var 1 in let AY = var 2 in let BX = var 3 in let BY = var 4 in let X = var 5 in let Y = var 6 in
@@ -73,9 +70,6 @@ crossing-scaled k e x y =
 -- the point of an edge that divides it as v to u, over the divisor u + v
 abbrev pub mixed : ℤ → ℤ → Edge → Pt
 mixed u v e = record { x = u *ℤ e.a.x +ℤ v *ℤ e.b.x; y = u *ℤ e.a.y +ℤ v *ℤ e.b.y }
-
-abbrev pub times_point : ℤ → Pt → Pt
-times_point k p = record { x = k *ℤ p.x; y = k *ℤ p.y }
 
 -- the table: a point between two ends lies above where both do, and below where both do
 parts_told : (a b m left right : Bool) → ((a ≡ true) → (b ≡ true) → m ≡ true) → ((a ≡ false) → (b ≡ false) → m ≡ false) → told a m left right +ℤ told m b left right ≡ told a b left right

@@ -4,7 +4,11 @@ use Rattle.std.specs.Prelude.{int_lt}
 use Rattle.std.proofs.lemmas.Int.{ints}
 use Rattle.scad_geom.specs.declared.point.Pt.{Pt}
 use Rattle.scad_geom.specs.declared.point.Edge.{Edge}
-use Rattle.scad_geom.specs.Winding.{side_of, crossing, counted, doubled_edge, wind}
+use Rattle.scad_geom.specs.Point.{halves}
+use Rattle.scad_geom.specs.Segment.{segments}
+use Rattle.scad_geom.specs.Winding.{counted, wind}
+use Rattle.scad_geom.proofs.Crossing.{side_of, crossing, doubled_edge}
+use Rattle.scad_geom.proofs.Doubled.{wind_halves}
 use Rattle.scad_geom.specs.Loop.{sides}
 use Rattle.scad_geom.proofs.Ring.{Term, solve, var, num, less, times}
 use Rattle.scad_solid.specs.Laws.{rectangle}
@@ -79,6 +83,6 @@ flat a b h x y = crossing-told (doubled_edge (edge (point a h) (point b h))) x y
 abbrev pub boxed : Bool → Bool → Bool → Bool → ℤ
 boxed a0 a1 r0 r1 = up a0 a1 r1 +ℤ up a1 a0 r0
 
-pub rectangle_wind : (x0 y0 x1 y1 x y : ℤ) → wind (sides (rectangle x0 y0 x1 y1)) x y ≡ boxed (int_lt y (pos 2 *ℤ y0)) (int_lt y (pos 2 *ℤ y1)) (int_lt x (pos 2 *ℤ x0)) (int_lt x (pos 2 *ℤ x1))
+pub rectangle_wind : (x0 y0 x1 y1 x y : ℤ) → wind (halves x y) (segments (sides (rectangle x0 y0 x1 y1))) ≡ boxed (int_lt y (pos 2 *ℤ y0)) (int_lt y (pos 2 *ℤ y1)) (int_lt x (pos 2 *ℤ x0)) (int_lt x (pos 2 *ℤ x1))
 rectangle_wind x0 y0 x1 y1 x y =
-    omega (arith, ints, flat x0 x1 y0 x y, upright x1 y0 y1 x y, flat x1 x0 y1 x y, upright x0 y1 y0 x y)
+    omega (arith, ints, wind_halves (sides (rectangle x0 y0 x1 y1)) x y, flat x0 x1 y0 x y, upright x1 y0 y1 x y, flat x1 x0 y1 x y, upright x0 y1 y0 x y)

@@ -3,8 +3,11 @@ use Rattle.std.specs.Prelude.{◌≡◌, ◌≢◌, ◌⊎◌, ◌↔◌, ℕ, L
 use Rattle.scad_geom.specs.declared.point.Pt.{Pt}
 use Rattle.scad_geom.specs.declared.point3.Pt3.{Pt3}
 use Rattle.scad_geom.specs.declared.half.Half.TheVariants.{Cell}
+use Rattle.scad_geom.specs.Point.{Point}
+use Rattle.scad_geom.specs.Segment.{segments}
+use Rattle.scad_geom.specs.Half.{doubled, centre}
 use Rattle.scad_geom.specs.Loop.{sides}
-use Rattle.scad_geom.specs.Winding.{doubled, wind}
+use Rattle.scad_geom.specs.Winding.{wind}
 use Rattle.scad_solid.specs.declared.triangle.Triangle.{Triangle}
 use Rattle.scad_solid.specs.Stack.{stacked}
 use Rattle.scad_solid.specs.Height.{highest_of}
@@ -39,13 +42,13 @@ pub record IsCentreBetween (p q : Pt3) (layer h : ℕ) (i j : ℤ) : Type 0 wher
 -- triangles contain exactly the cell centres that lie strictly between two corners along each axis, at any layer
 pub record HoldBetween (p q : Pt3) (ts : List Triangle) : Type 0 where
   pub each : (layer h : ℕ) (i j : ℤ) →
-      IsTrue (contains (plane_of layer h) ts (doubled Cell i) (doubled Cell j)) ↔ IsCentreBetween p q layer h i j
+      IsTrue (contains (plane_of layer h) ts (centre i j)) ↔ IsCentreBetween p q layer h i j
 
--- triangles contain (x / 2, y / 2) at exactly those layers whose plane lies strictly between two heights, and there
--- exactly where a ring winds round the point
+-- triangles contain a point at exactly those layers whose plane lies strictly between two heights, and there exactly
+-- where a ring winds round the point
 pub record HoldInside (ring : List Pt) (upper lower : ℤ) (ts : List Triangle) : Type 0 where
-  pub each : (layer h : ℕ) (x y : ℤ) →
-      IsTrue (contains (plane_of layer h) ts x y) ↔ (IsBetween (plane_of layer h) upper lower × (wind (sides ring) x y ≢ pos 0))
+  pub each : (layer h : ℕ) (p : Point) → pos 0 <ℤ p.d →
+      IsTrue (contains (plane_of layer h) ts p) ↔ (IsBetween (plane_of layer h) upper lower × (wind p (segments (sides ring)) ≢ pos 0))
 
 -- a prism over any ring holds what lies between its ends and inside the ring
 pub record PrismsHold : Type 0 where
@@ -58,4 +61,4 @@ pub record BoxesHold : Type 0 where
 
 -- triangles contain nothing at a plane that lies at or above all their corners
 pub record NothingAbove : Type 0 where
-  pub each : (plane : ℤ) (ts : List Triangle) (x y : ℤ) → IfSome (highest_of ts) (λ z. (pos 2 *ℤ z) ≤ℤ plane) → contains plane ts x y ≡ false
+  pub each : (plane : ℤ) (ts : List Triangle) (p : Point) → IfSome (highest_of ts) (λ z. (pos 2 *ℤ z) ≤ℤ plane) → contains plane ts p ≡ false

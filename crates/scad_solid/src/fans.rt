@@ -1,9 +1,10 @@
 //! The triangles of faces.
-ghost use Rattle.std.specs.Prelude.{◌≡◌, ◌<◌, ◌++◌, length, map, None, OnOk, IfOk, IsTrue, find, nat_le};
+ghost use Rattle.std.specs.Prelude.{◌≡◌, ◌<◌, length, map, None, IfOk, IsTrue, find, nat_le};
 ghost use Rattle.std.specs.List.{list_all};
-ghost use Rattle.scad_solid.specs.Solid.{corners, fan, fans, first_bad, names_points};
+ghost use Rattle.scad_solid.specs.Solid.{corners, fans, first_bad, names_points};
 
 use crate::face::Face;
+use crate::fan::push_fan;
 use crate::triangle::Triangle;
 use scad_geom::Pt3;
 use std::alloc::{AllocError, Global};
@@ -37,24 +38,20 @@ pub(crate) fn fans(
 {
     let mut triangles = Vec::new(alloc);
     for face in faces {
-        push_fan(&mut triangles, points, face.as_slice())?;
+        let corners = corners(alloc, points, face.as_slice())?;
+        push_fan(&mut triangles, corners.as_slice())?;
     }
     Ok(triangles)
 }
 
-fn push_fan(out: &mut Vec<Triangle>, points: &[Pt3], face: &[u32]) -> Result<(), AllocError>
+// The points that the face names.
+fn corners(alloc: Global, points: &[Pt3], face: &[u32]) -> Result<Vec<Pt3>, AllocError>
     requires { IsTrue (names_points (length points.now) face.now) }
-    ensures { OnOk result (out.new.items ≡ out.old.items ++ fan (corners points.now face.now)) }
+    ensures { IfOk result (λ v. v.items ≡ corners points.now face.now) }
 {
-    let [first, second, rest @ ..] = face else {
-        return Ok(());
-    };
-    let a = points[*first as usize];
-    let mut b = points[*second as usize];
-    for i in rest {
-        let c = points[*i as usize];
-        out.push(Triangle { a, b, c })?;
-        b = c;
+    let mut corners = Vec::new(alloc);
+    for i in face {
+        corners.push(points[*i as usize])?;
     }
-    Ok(())
+    Ok(corners)
 }

@@ -6,6 +6,7 @@
 
 mod closed;
 mod face;
+mod fan;
 mod fans;
 mod fault;
 pub mod laws;

@@ -3,6 +3,7 @@ ghost use Rattle.std.specs.Prelude.{◌≡◌, ◌<◌, ◌++◌, [], ◌∷◌,
 ghost use Rattle.scad_solid.specs.Solid.{fan, fans};
 ghost use Rattle.scad_solid.specs.Stack.{band, faces_below, stacked, are_alike, rings_in_range};
 
+use crate::fan::push_fan;
 use crate::ring::Ring;
 use crate::triangle::Triangle;
 use crate::triangles::Triangles;
@@ -38,7 +39,7 @@ fn push_turned(alloc: Global, out: &mut Vec<Triangle>, ring: &[Pt3]) -> Result<(
 {
     let mut turned = Vec::from_slice(alloc, ring)?;
     turned.reverse();
-    push_face(out, turned.as_slice())
+    push_fan(out, turned.as_slice())
 }
 
 // The bands below the ring, and the last ring.
@@ -51,7 +52,7 @@ fn push_below(out: &mut Vec<Triangle>, top: &Ring, rings: &[Ring]) -> Result<(),
         push_band(out, upper.as_slice(), lower.as_slice())?;
         upper = lower;
     }
-    push_face(out, upper.as_slice())
+    push_fan(out, upper.as_slice())
 }
 
 fn push_band(out: &mut Vec<Triangle>, upper: &[Pt3], lower: &[Pt3]) -> Result<(), AllocError>
@@ -76,23 +77,5 @@ fn push_quad(out: &mut Vec<Triangle>, p: Pt3, q: Pt3, r: Pt3, s: Pt3) -> Result<
 {
     out.push(Triangle { a: p, b: q, c: r })?;
     out.push(Triangle { a: p, b: r, c: s })?;
-    Ok(())
-}
-
-fn push_face(out: &mut Vec<Triangle>, face: &[Pt3]) -> Result<(), AllocError>
-    ensures { OnOk result (out.new.items ≡ out.old.items ++ fan face.now) }
-{
-    let [first, second, rest @ ..] = face else {
-        return Ok(());
-    };
-    let mut b = *second;
-    for c in rest {
-        out.push(Triangle {
-            a: *first,
-            b,
-            c: *c,
-        })?;
-        b = *c;
-    }
     Ok(())
 }

@@ -82,6 +82,26 @@ fn refuses_by_range_then_index_then_surface(rt: HostRuntime) -> Result<(), Fail>
 }
 
 #[test]
+fn takes_a_metre_and_refuses_a_micrometre_more(rt: HostRuntime) -> Result<(), Fail> {
+    let faces = faces(rt.alloc(), &[[0, 1, 2], [0, 3, 1], [1, 3, 2], [0, 2, 3]])?;
+    for (size, want) in [
+        (1_000_000, None),
+        (-1_000_000, None),
+        (1_000_001, Some(SolidFault::CoordinateRange)),
+        (-1_000_001, Some(SolidFault::CoordinateRange)),
+    ] {
+        let mut points = TETRAHEDRON;
+        points[1].x = size;
+        assert_eq!(rt;
+            Triangles::from_faces(rt.alloc(), &points, &faces).err(),
+            want,
+            "at {size}"
+        );
+    }
+    Ok(())
+}
+
+#[test]
 fn takes_no_faces(rt: HostRuntime) -> Result<(), Fail> {
     let none = Triangles::from_faces(rt.alloc(), &TETRAHEDRON, &[])?;
     assert_eq!(rt; none.count(), 0);

@@ -7,8 +7,9 @@ use Rattle.std.specs.List.{range_with_len}
 use Rattle.std.specs.Option.{option_map_or}
 use Rattle.std.proofs.lemmas.List.{append-nil}
 use Rattle.scad_geom.specs.Loop.{sides}
-use Rattle.scad_geom.specs.Winding.{wind, doubled}
-use Rattle.scad_geom.specs.declared.half.Half.TheVariants.{Cell}
+use Rattle.scad_geom.specs.Segment.{segments}
+use Rattle.scad_geom.specs.Half.{centre}
+use Rattle.scad_geom.specs.Winding.{wind}
 use Rattle.scad_geom.specs.Square.{square, square_wind, IsStrictlyWithin}
 use Rattle.scad_geom.proofs.Square.{inside_wind, wind_inside}
 use Rattle.scad_tool.specs.Cube.{layer_count, side_length, cube_layer, cube_layers, layer_winding, winding_in, twice_plane, IsInCube, OutlinesHoldCube}
@@ -28,7 +29,7 @@ none_at f a (suc n) (suc i) above = none_at f (a + 1) n i (omega (arith, above))
 
 -- a layer of a cube winds as its one outline does
 layer_square : (size i : ℕ) (x y : ℤ) → layer_winding x y (cube_layer size i) ≡ square_wind (side_length size) x y
-layer_square size i x y = ap (λ edges. wind edges (doubled Cell x) (doubled Cell y)) (append-nil (sides (square (side_length size))))
+layer_square size i x y = ap (λ edges. wind (centre x y) (segments edges)) (append-nil (sides (square (side_length size))))
 
 there : (size n : ℕ) (x y : ℤ) → n < layer_count size → winding_in (cube_layers size) n x y ≡ square_wind (side_length size) x y
 there size n x y below =

@@ -3,8 +3,9 @@ use Rattle.std.specs.Prelude.{◌≡◌, ◌≢◌, ◌+◌, ◌*◌, List, [], 
 use Rattle.std.specs.List.{range_with_len}
 use Rattle.std.specs.Option.{option_map_or}
 use Rattle.scad_geom.specs.Loop.{sides}
-use Rattle.scad_geom.specs.Winding.{wind, doubled}
-use Rattle.scad_geom.specs.declared.half.Half.TheVariants.{Cell}
+use Rattle.scad_geom.specs.Segment.{segments}
+use Rattle.scad_geom.specs.Half.{centre}
+use Rattle.scad_geom.specs.Winding.{wind}
 use Rattle.scad_geom.specs.Square.{square, IsStrictlyWithin, IsCentreInside}
 use Rattle.cli_text.specs.Cli.{Layer}
 
@@ -39,7 +40,7 @@ IsInCube size n x y =
 
 -- how often a layer's outlines wind round the centre of the cell at (x, y)
 abbrev pub layer_winding : ℤ → ℤ → Layer → ℤ
-layer_winding x y layer = wind (flat_map sides layer.loops) (doubled Cell x) (doubled Cell y)
+layer_winding x y layer = wind (centre x y) (segments (flat_map sides layer.loops))
 
 -- the same for layer n of a list, 0 where there is no such layer
 abbrev pub winding_in : List Layer → ℕ → ℤ → ℤ → ℤ

@@ -1,7 +1,6 @@
 -- Round a closed list of edges: where flat edges lie on one side of a point, a leaf's winding numbers hard above the point
 -- and hard below it are one.
-use Rattle.std.proofs.Common.{◌≡◌, ℕ, ◌+◌, ◌≤◌, Bool, true, false, not, cond, List, [], ◌∷◌, refl, sym, ap, ap₂, ◌∙◌, arith}
-use mathlib.Core.Path.{fun_ext}
+use Rattle.std.proofs.Common.{◌≡◌, ℕ, ◌+◌, ◌≤◌, Bool, true, false, cond, List, [], ◌∷◌, refl, sym, ap, ap₂, ◌∙◌, arith}
 use lib.IntN.{ℤ, pos, ◌+ℤ◌, ◌-ℤ◌}
 use lib.Signed.{◌<ℤ◌}
 use Rattle.std.specs.Prelude.{if◌then◌else◌, ◌==◌, ◌&&◌}
@@ -14,18 +13,22 @@ use Rattle.scad_geom.specs.declared.point.Pt.{Pt}
 use Rattle.scad_geom.specs.declared.point.Edge.{Edge}
 use Rattle.scad_geom.specs.declared.level.LeafEdge.{LeafEdge}
 use Rattle.scad_geom.specs.declared.shape.Shape.{Shape}
-use Rattle.scad_geom.specs.Balance.{same_place, starts_at, ends_at, IsBalanced}
-use Rattle.scad_geom.specs.Around.{Point, whole, turn, wind_by}
-use Rattle.scad_geom.specs.Shape.{shape_holds, is_zero, is_in_by}
+use Rattle.scad_geom.specs.Balance.{IsBalanced}
+use Rattle.scad_geom.specs.Segment.{segments}
+use Rattle.scad_geom.proofs.Balanced.{once, same_place, whole_balance}
+use Rattle.scad_geom.proofs.Leaves.{held_alike}
+use Rattle.std.specs.Prelude.{count_by, filter}
+use Rattle.std.proofs.Common.{map}
+use Rattle.scad_geom.specs.Point.{Point, whole}
+use Rattle.scad_geom.specs.Winding.{turn}
+use Rattle.scad_geom.proofs.Leaves.{wind_leaf}
+use Rattle.scad_geom.specs.Shape.{is_in_by}
 use Rattle.scad_geom.proofs.Turns.{level_turn}
-use Rattle.slice_bool.specs.Balance.{edges_of, AreLeavesBalanced}
+use Rattle.scad_geom.specs.Leaves.{edges_of, AreLeavesBalanced}
 use Rattle.slice_bool.proofs.Winding.{is_true_first}
 use Rattle.slice_bool.proofs.BalanceTurns.{ahead, step_up, step_down, int_eq-true}
 
 -- ---- where as many edges start at each point as end there, sums over starts are sums over ends
-abbrev once : Bool → ℕ
-once b = cond b 1 0
-
 abbrev starts : List Edge → List Pt
 starts [] = []
 starts (e ∷ es) = e.a ∷ starts es
@@ -42,15 +45,15 @@ abbrev total : (Pt → ℤ) → List Pt → ℤ
 total f [] = pos 0
 total f (q ∷ qs) = f q +ℤ total f qs
 
-tally-starts : (p : Pt) (es : List Edge) → starts_at p es ≡ tally p (starts es)
+tally-starts : (p : Pt) (es : List Edge) → count_by (λ e. same_place p e.a) es ≡ tally p (starts es)
 tally-starts p [] = refl
 tally-starts p (e ∷ es) = sum_by-cons (λ x. once (same_place p x.a)) e es ∙ ap (λ (n : ℕ). once (same_place p e.a) + n) (tally-starts p es)
 
-tally-ends : (p : Pt) (es : List Edge) → ends_at p es ≡ tally p (ends es)
+tally-ends : (p : Pt) (es : List Edge) → count_by (λ e. same_place p e.b) es ≡ tally p (ends es)
 tally-ends p [] = refl
 tally-ends p (e ∷ es) = sum_by-cons (λ x. once (same_place p x.b)) e es ∙ ap (λ (n : ℕ). once (same_place p e.b) + n) (tally-ends p es)
 
-is_true_second : (a b : Bool) → (a && b) ≡ true → b ≡ true
+pub is_true_second : (a b : Bool) → (a && b) ≡ true → b ≡ true
 is_true_second true b h = h
 is_true_second false b h = cc
 
@@ -99,8 +102,8 @@ total-same f (p ∷ ps) qs h =
     ap (λ (z : ℤ). f p +ℤ z) (total-same f ps (without p qs) (λ q. let a = h q in let b = tally-without p q qs some in omega arith))
     ∙ sym (total-without f p qs some)
 
-balanced_totals : (f : Pt → ℤ) (es : List Edge) → IsBalanced es → total f (starts es) ≡ total f (ends es)
-balanced_totals f es h = total-same f (starts es) (ends es) (λ p. sym (tally-starts p es) ∙ h.each p ∙ tally-ends p es)
+balanced_totals : (f : Pt → ℤ) (es : List Edge) → IsBalanced (segments es) → total f (starts es) ≡ total f (ends es)
+balanced_totals f es h = total-same f (starts es) (ends es) (λ p. sym (tally-starts p es) ∙ whole_balance es h p ∙ tally-ends p es)
 
 -- ---- edges hard by a point
 -- a flat edge lies on one side of a point, or not at its height
@@ -122,30 +125,31 @@ edge_step right p dp e h =
         → turn true right p (whole e.edge.a) (whole e.edge.b) -ℤ turn false right p (whole e.edge.a) (whole e.edge.b) ≡ ahead right p (whole e.edge.a) -ℤ ahead right p (whole e.edge.b)
     flat level = ap₂ (λ (y z : ℤ). y -ℤ z) (level_turn true right p e.edge level) (level_turn false right p e.edge level) ∙ none (ahead right p (whole e.edge.a)) (ahead right p (whole e.edge.b)) (h level)
 
-by_leaf : (t : Bool) (f : Pt → ℤ) (e : Edge) (es : List Edge) (a b x y : ℤ) → a -ℤ b ≡ f e.a -ℤ f e.b → x -ℤ y ≡ total f (starts es) -ℤ total f (ends es)
-    → ((if t then a else pos 0) +ℤ x) -ℤ ((if t then b else pos 0) +ℤ y) ≡ total f (starts (if t then e ∷ es else es)) -ℤ total f (ends (if t then e ∷ es else es))
-by_leaf true f e es a b x y h k = more a b (f e.a) (f e.b) x y (total f (starts es)) (total f (ends es)) h k
+by_leaf : (t : Bool) (f : Pt → ℤ) (e : LeafEdge) (fs : List LeafEdge) (a b x y : ℤ) → a -ℤ b ≡ f e.edge.a -ℤ f e.edge.b
+    → x -ℤ y ≡ total f (starts (map (λ d. d.edge) fs)) -ℤ total f (ends (map (λ d. d.edge) fs))
+    → ((if t then a else pos 0) +ℤ x) -ℤ ((if t then b else pos 0) +ℤ y) ≡ total f (starts (map (λ d. d.edge) (cond t (e ∷ fs) fs))) -ℤ total f (ends (map (λ d. d.edge) (cond t (e ∷ fs) fs)))
+by_leaf true f e fs a b x y h k = more a b (f e.edge.a) (f e.edge.b) x y (total f (starts (map (λ d. d.edge) fs))) (total f (ends (map (λ d. d.edge) fs))) h k
   where
     more : (t f x y a b c d : ℤ) → t -ℤ f ≡ x -ℤ y → a -ℤ b ≡ c -ℤ d → (t +ℤ a) -ℤ (f +ℤ b) ≡ (x +ℤ c) -ℤ (y +ℤ d)
     more t f x y a b c d h k = omega (arith, ints)
-by_leaf false f e es a b x y h k = same x y (total f (starts es)) (total f (ends es)) k
+by_leaf false f e fs a b x y h k = same x y (total f (starts (map (λ d. d.edge) fs))) (total f (ends (map (λ d. d.edge) fs))) k
   where
     same : (a b c d : ℤ) → a -ℤ b ≡ c -ℤ d → (pos 0 +ℤ a) -ℤ (pos 0 +ℤ b) ≡ c -ℤ d
     same a b c d h = omega (arith, ints)
 
 leaf_step : (right : Bool) (p : Point) → pos 0 <ℤ p.d → (leaf : ℕ) (es : List LeafEdge) → AllByRecursion (IsAside right p) es
-    → wind_by true right p leaf es -ℤ wind_by false right p leaf es ≡ total (λ q. ahead right p (whole q)) (starts (edges_of leaf es)) -ℤ total (λ q. ahead right p (whole q)) (ends (edges_of leaf es))
+    → wind_leaf true right p leaf es -ℤ wind_leaf false right p leaf es ≡ total (λ q. ahead right p (whole q)) (starts (edges_of leaf es)) -ℤ total (λ q. ahead right p (whole q)) (ends (edges_of leaf es))
 leaf_step right p dp leaf [] h = refl
 leaf_step right p dp leaf (e ∷ es) h =
-    by_leaf (e.leaf == leaf) (λ q. ahead right p (whole q)) e.edge (edges_of leaf es)
+    by_leaf (e.leaf == leaf) (λ q. ahead right p (whole q)) e (filter (λ d. d.leaf == leaf) es)
     (turn true right p (whole e.edge.a) (whole e.edge.b)) (turn false right p (whole e.edge.a) (whole e.edge.b))
-    (wind_by true right p leaf es) (wind_by false right p leaf es)
+    (wind_leaf true right p leaf es) (wind_leaf false right p leaf es)
     (edge_step right p dp e h.0) (leaf_step right p dp leaf es h.1)
 
-leaf_same : (right : Bool) (p : Point) → pos 0 <ℤ p.d → (leaf : ℕ) (es : List LeafEdge) → IsBalanced (edges_of leaf es) → AllByRecursion (IsAside right p) es
-    → wind_by true right p leaf es ≡ wind_by false right p leaf es
+leaf_same : (right : Bool) (p : Point) → pos 0 <ℤ p.d → (leaf : ℕ) (es : List LeafEdge) → IsBalanced (segments (edges_of leaf es)) → AllByRecursion (IsAside right p) es
+    → wind_leaf true right p leaf es ≡ wind_leaf false right p leaf es
 leaf_same right p dp leaf es b h =
-    equal (wind_by true right p leaf es) (wind_by false right p leaf es) (total (λ q. ahead right p (whole q)) (starts (edges_of leaf es))) (total (λ q. ahead right p (whole q)) (ends (edges_of leaf es)))
+    equal (wind_leaf true right p leaf es) (wind_leaf false right p leaf es) (total (λ q. ahead right p (whole q)) (starts (edges_of leaf es))) (total (λ q. ahead right p (whole q)) (ends (edges_of leaf es)))
     (leaf_step right p dp leaf es h) (balanced_totals (λ q. ahead right p (whole q)) (edges_of leaf es) b)
   where
     equal : (t f x y : ℤ) → t -ℤ f ≡ x -ℤ y → x ≡ y → t ≡ f
@@ -154,6 +158,5 @@ leaf_same right p dp leaf es b h =
 -- a shape's values hard above and hard below are one, where no flat edge lies hard by
 pub level_values : (right : Bool) (p : Point) → pos 0 <ℤ p.d → (es : List LeafEdge) (shape : Shape) → AreLeavesBalanced es → AllByRecursion (IsAside right p) es
     → is_in_by true right es shape p ≡ is_in_by false right es shape p
-unfolding is_in_by
 level_values right p dp es shape b h =
-    ap (λ (f : ℕ → Bool). shape_holds f shape) (fun_ext (λ leaf. ap (λ (z : ℤ). not (is_zero z)) (leaf_same right p dp leaf es (b.each leaf) h)))
+    held_alike true right p es false right p es shape (λ leaf. leaf_same right p dp leaf es (b.each leaf) h)

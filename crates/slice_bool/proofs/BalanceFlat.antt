@@ -10,9 +10,10 @@ use Rattle.scad_geom.specs.declared.level.Level.{Level}
 use Rattle.scad_geom.specs.declared.level.LeafEdge.{LeafEdge}
 use Rattle.scad_geom.specs.declared.shape.Shape.{Shape}
 use Rattle.scad_geom.specs.Winding.{counted}
-use Rattle.scad_geom.specs.Around.{Point, is_beyond}
+use Rattle.scad_geom.specs.Point.{Point}
+use Rattle.scad_geom.specs.Winding.{is_beyond}
 use Rattle.scad_geom.specs.Shape.{is_in_by}
-use Rattle.scad_geom.specs.Heights.{IsLower, IsAtMost}
+use Rattle.scad_geom.specs.Level.{IsLower, IsAtMost}
 use Rattle.scad_geom.proofs.Ring.{ring, ◌⊖◌, ◌⊗◌, v0, v1, v2, v3, v4}
 use Rattle.scad_geom.proofs.Integers.{mul_assoc}
 use Rattle.scad_geom.proofs.Signs.{pos_mul}
@@ -20,14 +21,16 @@ use Rattle.scad_geom.proofs.Heights.{lower_then_at_most, lower_weak}
 use Rattle.scad_geom.proofs.Order.{front, back}
 use Rattle.scad_geom.proofs.Turns.{level_at, beyond_mul}
 use Rattle.slice_snap.specs.declared.piece.Spot.{Spot}
-use Rattle.slice_bool.specs.Pieces.{whole_spot, point_of, is_flat_at, spots_at, IsLeft, GoRight, HasSpot, AreStops, covers, stretch_piece, flat_pieces}
-use Rattle.slice_bool.specs.Balance.{AreLeavesBalanced}
+use Rattle.slice_bool.specs.Pieces.{whole_spot, is_flat_at, spots_at, IsLeft, GoRight, HasSpot, AreStops, covers, stretch_piece, flat_pieces}
+use Rattle.slice_snap.specs.Spots.{point_of}
+use Rattle.scad_geom.specs.Leaves.{AreLeavesBalanced}
 use Rattle.slice_bool.proofs.Middle.{lower_scaled, scaled_below}
 use Rattle.slice_bool.proofs.Winding.{IsSpotAt, stops_at, spots_are_at}
 use Rattle.slice_bool.proofs.BalanceTurns.{gap, is_right, ahead, ahead_level, ahead_over, ahead_under}
 use Rattle.slice_bool.proofs.BalanceEdges.{level_values}
 use Rattle.slice_bool.proofs.BalanceSpots.{IsAt, own_spots, flat_spots, IsAlike, values_alike, IsOneSided, asides, all_one_sided}
-use Rattle.slice_bool.proofs.BalanceStops.{aheads, aheads-append, between_apart, stretch_alike, flat_alike, across, IsUpTo, from_stop, first_up_to, next_up_to, IsBeside, beside, further, nearer, all_further, all_nearer}
+use Rattle.slice_bool.specs.Pieces.{across}
+use Rattle.slice_bool.proofs.BalanceStops.{aheads, aheads-append, between_apart, stretch_alike, flat_alike, IsUpTo, from_stop, first_up_to, next_up_to, IsBeside, beside, further, nearer, all_further, all_nearer}
 
 -- ---- a flat edge with one end at the left stop or before it, and one at the right stop or after it, covers the stretch
 left_reach : (s : Spot) (l : Level) (x : ℤ) → s.at ≡ l → IsAtMost (across (whole_spot x l)) (across s) → int_le (x *ℤ (s.at.d *ℤ pos s.run)) s.x ≡ true
@@ -100,7 +103,7 @@ spot_divisor l s dl h = pos_mul s.at.d (pos s.run) (subst (λ (m : Level). pos 0
 spots_gap : (sx sr wx wr k : ℤ) → wx *ℤ (k *ℤ sr) -ℤ sx *ℤ (k *ℤ wr) ≡ (wx *ℤ sr -ℤ sx *ℤ wr) *ℤ k
 spots_gap sx sr wx wr k = ring (sx ∷ sr ∷ wx ∷ wr ∷ k ∷ []) (v2 ⊗ (v4 ⊗ v1) ⊖ v0 ⊗ (v4 ⊗ v3)) ((v2 ⊗ v1 ⊖ v0 ⊗ v3) ⊗ v4) refl
 
-spot_gap : (l : Level) (s w : Spot) → IsSpotAt l s → IsSpotAt l w → gap (point_of s) (point_of w) ≡ (w.x *ℤ pos s.run -ℤ s.x *ℤ pos w.run) *ℤ l.d
+pub spot_gap : (l : Level) (s w : Spot) → IsSpotAt l s → IsSpotAt l w → gap (point_of s) (point_of w) ≡ (w.x *ℤ pos s.run -ℤ s.x *ℤ pos w.run) *ℤ l.d
 spot_gap l s w hs hw =
     ap₂ (λ (m n : Level). w.x *ℤ (m.d *ℤ pos s.run) -ℤ s.x *ℤ (n.d *ℤ pos w.run)) hs.at hw.at
     ∙ spots_gap s.x (pos s.run) w.x (pos w.run) l.d

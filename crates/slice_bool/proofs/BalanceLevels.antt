@@ -1,19 +1,22 @@
 -- Upwards through the levels: as many pieces start at a point as end there.
-use Rattle.std.proofs.Common.{◌≡◌, ℕ, ◌+◌, ◌⊎◌, inl, inr, Bool, true, false, cond, List, [], ◌∷◌, ◌++◌, refl, sym, ap, ap₂, ◌∙◌, arith, subst}
+use Rattle.std.proofs.Common.{◌≡◌, ℕ, ◌+◌, ◌⊎◌, inl, inr, Bool, true, false, List, [], ◌∷◌, ◌++◌, refl, sym, ap, ap₂, ◌∙◌, arith, subst}
 use lib.IntN.{ℤ, pos, ◌+ℤ◌, ◌-ℤ◌, ◌*ℤ◌}
 use lib.Signed.{◌<ℤ◌}
 use Rattle.std.specs.Prelude.{unsigned_abs}
 use Rattle.std.specs.List.{AllByRecursion, concat}
 use Rattle.std.proofs.lemmas.Int.{ints, by_lt_z}
-use Rattle.std.proofs.lemmas.List.Sums.{sum_by-cons}
+use Rattle.slice_snap.specs.Pieces.{way_of, ways_of}
+use Rattle.scad_geom.proofs.Balanced.{once, starts-cons, ends-cons}
 use Rattle.scad_geom.specs.declared.level.Level.{Level}
 use Rattle.scad_geom.specs.declared.level.LeafEdge.{LeafEdge}
 use Rattle.scad_geom.specs.declared.shape.Shape.{Shape}
 use Rattle.scad_geom.specs.Line.{rise}
 use Rattle.scad_geom.specs.Winding.{counted}
-use Rattle.scad_geom.specs.Around.{Point, whole, turn}
+use Rattle.scad_geom.specs.Point.{Point, whole}
+use Rattle.scad_geom.specs.Winding.{turn}
 use Rattle.scad_geom.specs.Shape.{is_in_by}
-use Rattle.scad_geom.specs.Heights.{level_of, IsLower, heights, meetings}
+use Rattle.scad_geom.specs.Level.{level_of, IsLower}
+use Rattle.scad_geom.specs.Heights.{heights, meetings}
 use Rattle.scad_geom.proofs.Signs.{pos_mul}
 use Rattle.scad_geom.proofs.Heights.{lower_then_at_most, at_most_then_lower, lower_weak}
 use Rattle.scad_geom.proofs.Order.{back}
@@ -22,11 +25,16 @@ use Rattle.slice_events.specs.Levels.{IsRising, HasHeight}
 use Rattle.slice_slab.specs.Bundles.{edge_at, AreRanked, AreBundles}
 use Rattle.slice_snap.specs.declared.piece.Spot.{Spot}
 use Rattle.slice_snap.specs.declared.piece.Piece.{Piece}
-use Rattle.slice_bool.specs.Pieces.{spot_on, point_of, wind_pieces, piece_between, bundle_piece, slab_pieces, flat_pieces, AreStops, AreLevelPieces, ArePieces}
-use Rattle.slice_bool.specs.Balance.{AreLeavesBalanced, is_same_point, starts_at, ends_at, ArePiecesBalanced}
+use Rattle.slice_bool.specs.Pieces.{spot_on, piece_between, bundle_piece, slab_pieces, flat_pieces, AreStops, AreLevelPieces, ArePieces}
+use Rattle.slice_snap.specs.Spots.{point_of}
+use Rattle.slice_snap.specs.Pieces.{wind_pieces}
+use Rattle.scad_geom.specs.Leaves.{AreLeavesBalanced}
+use Rattle.scad_geom.specs.Point.{is_same_point}
+use Rattle.scad_geom.specs.Balance.{starts_at, ends_at}
+use Rattle.slice_snap.specs.Pieces.{ArePiecesBalanced}
 use Rattle.slice_bool.proofs.Passing.{IsLive, live_bundles}
 use Rattle.slice_bool.proofs.Middle.{size_of, half_point, lower_scaled, scaled_below}
-use Rattle.slice_bool.proofs.Slabs.{wind_pieces-append}
+use Rattle.slice_snap.proofs.Ways.{wind_pieces-append}
 use Rattle.slice_bool.proofs.Winding.{stops_still}
 use Rattle.slice_bool.proofs.Walk.{pieces_wind}
 use Rattle.slice_bool.proofs.BalanceTurns.{ahead, ahead_over, ahead_under, ahead_both, step_up, step_down}
@@ -208,30 +216,27 @@ module _ (es : List LeafEdge) (shape : Shape) (balanced : AreLeavesBalanced es) 
       unchanged x y t f h k m = omega (arith, ints)
 
 -- ---- what starts and ends at a point lies ahead of it on the left and not on the right
-abbrev once : Bool → ℕ
-once b = cond b 1 0
-
 counted-once : (b : Bool) → counted b ≡ pos (once b)
 counted-once true = refl
 counted-once false = refl
 
-at_point : (p : Point) (qs : List Piece) → aheads false p qs -ℤ aheads true p qs ≡ pos (starts_at p qs) -ℤ pos (ends_at p qs)
+at_point : (p : Point) (qs : List Piece) → aheads false p qs -ℤ aheads true p qs ≡ pos (starts_at p (ways_of qs)) -ℤ pos (ends_at p (ways_of qs))
 at_point p [] = refl
 at_point p (q ∷ qs) =
     total (ahead false p (point_of q.from)) (ahead true p (point_of q.from)) (ahead false p (point_of q.to)) (ahead true p (point_of q.to)) (aheads false p qs) (aheads true p qs)
-    (once (is_same_point p (point_of q.from))) (once (is_same_point p (point_of q.to))) (starts_at p qs) (ends_at p qs) (starts_at p (q ∷ qs)) (ends_at p (q ∷ qs))
+    (once (is_same_point p (point_of q.from))) (once (is_same_point p (point_of q.to))) (starts_at p (ways_of qs)) (ends_at p (ways_of qs)) (starts_at p (ways_of (q ∷ qs))) (ends_at p (ways_of (q ∷ qs)))
     (ahead_both p (point_of q.from) ∙ counted-once (is_same_point p (point_of q.from)))
     (ahead_both p (point_of q.to) ∙ counted-once (is_same_point p (point_of q.to)))
     (at_point p qs)
-    (sum_by-cons (λ (q : Piece). once (is_same_point p (point_of q.from))) q qs)
-    (sum_by-cons (λ (q : Piece). once (is_same_point p (point_of q.to))) q qs)
+    (starts-cons p (way_of q) (ways_of qs))
+    (ends-cons p (way_of q) (ways_of qs))
   where
     total : (a b c d x y : ℤ) (s e ss ee sa ea : ℕ) → a -ℤ b ≡ pos s → c -ℤ d ≡ pos e → x -ℤ y ≡ pos ss -ℤ pos ee → sa ≡ s + ss → ea ≡ e + ee → ((a -ℤ c) +ℤ x) -ℤ ((b -ℤ d) +ℤ y) ≡ pos sa -ℤ pos ea
     total a b c d x y s e ss ee sa ea h k m n o = omega (arith, ints)
 
 pub pieces_are_balanced : (es : List LeafEdge) (shape : Shape) (pieces : List Piece) → AreLeavesBalanced es → ArePieces es shape pieces → ArePiecesBalanced pieces
 pieces_are_balanced es shape pieces b a = record {
-  each = λ p dp. equal (aheads false p pieces) (aheads true p pieces) (starts_at p pieces) (ends_at p pieces) (at_point p pieces) (none_ahead es shape b false p dp pieces a) (none_ahead es shape b true p dp pieces a);
+  each = λ p dp. equal (aheads false p pieces) (aheads true p pieces) (starts_at p (ways_of pieces)) (ends_at p (ways_of pieces)) (at_point p pieces) (none_ahead es shape b false p dp pieces a) (none_ahead es shape b true p dp pieces a);
 }
   where
     equal : (x y : ℤ) (m n : ℕ) → x -ℤ y ≡ pos m -ℤ pos n → x ≡ pos 0 → y ≡ pos 0 → m ≡ n

@@ -1,12 +1,12 @@
 -- What lies hard by a point at a height depends only on which of the height's spots lie to its right.
-use Rattle.std.proofs.Common.{◌≡◌, ℕ, zero, suc, ◌⊎◌, inl, inr, Bool, true, false, not, cond, List, [], ◌∷◌, refl, sym, ap, ap₂, ◌∙◌, arith, subst}
-use mathlib.Core.Path.{fun_ext}
+use Rattle.std.proofs.Common.{◌≡◌, ℕ, zero, suc, ◌⊎◌, inl, inr, Bool, true, false, cond, List, [], ◌∷◌, refl, sym, ap, ap₂, ◌∙◌, arith, subst}
 use lib.IntN.{ℤ, pos, negsuc, ◌+ℤ◌, ◌-ℤ◌, ◌*ℤ◌}
 use lib.Signed.{◌<ℤ◌}
 use Rattle.std.specs.Prelude.{int_lt, int_le, if◌then◌else◌, ◌==◌, ◌&&◌, unsigned_abs}
 use Rattle.std.specs.Ordering.{int_eq}
 use Rattle.std.specs.List.{AllByRecursion}
 use Rattle.std.proofs.lemmas.Int.{ints, by_lt_z}
+use Rattle.scad_geom.proofs.Leaves.{held_alike}
 use Rattle.scad_geom.specs.declared.point.Pt.{Pt}
 use Rattle.scad_geom.specs.declared.point.Edge.{Edge}
 use Rattle.scad_geom.specs.declared.level.Level.{Level}
@@ -14,15 +14,19 @@ use Rattle.scad_geom.specs.declared.level.LeafEdge.{LeafEdge}
 use Rattle.scad_geom.specs.declared.shape.Shape.{Shape}
 use Rattle.scad_geom.specs.Line.{low, high, rise, run, offset, x_at, left_of}
 use Rattle.scad_geom.specs.Winding.{counted}
-use Rattle.scad_geom.specs.Around.{Point, whole, is_beyond, turn, wind_by}
-use Rattle.scad_geom.specs.Shape.{shape_holds, is_zero, is_in_by}
-use Rattle.scad_geom.specs.Heights.{level_of, IsLower, IsAtMost, IsSameHeight}
+use Rattle.scad_geom.specs.Point.{Point, whole}
+use Rattle.scad_geom.specs.Winding.{is_beyond, turn}
+use Rattle.scad_geom.proofs.Leaves.{wind_leaf}
+use Rattle.scad_geom.specs.Shape.{is_in_by}
+use Rattle.scad_geom.specs.Sign.{is_zero}
+use Rattle.scad_geom.specs.Level.{level_of, IsLower, IsAtMost, IsSameHeight}
 use Rattle.scad_geom.proofs.Ring.{ring, ◌⊕◌, ◌⊖◌, ◌⊗◌, v0, v1, v2, v3, v4, v5, v6, v7}
 use Rattle.scad_geom.proofs.Heights.{lower_then_at_most, at_most_then_lower, at_most_chain, lower_weak}
 use Rattle.scad_geom.proofs.Order.{front, back}
 use Rattle.scad_geom.proofs.Turns.{level_at, Over, NotOver, under_turn, over_turn, heading, reaching_turn, beyond_mul}
 use Rattle.slice_snap.specs.declared.piece.Spot.{Spot}
-use Rattle.slice_bool.specs.Pieces.{spot_on, whole_spot, point_of, is_flat_at, passes_at, spots_at}
+use Rattle.slice_bool.specs.Pieces.{spot_on, whole_spot, is_flat_at, passes_at, spots_at}
+use Rattle.slice_snap.specs.Spots.{point_of}
 use Rattle.slice_bool.proofs.Middle.{size_of}
 use Rattle.slice_bool.proofs.Winding.{either_over, is_true_first}
 use Rattle.slice_bool.proofs.BalanceTurns.{gap, is_right, ahead_level, ahead_over, ahead_under, drop_zero, no_gap, int_eq-true}
@@ -181,7 +185,7 @@ module _ (l : Level) (dl : pos 0 <ℤ l.d) (r : Bool) (p : Point) (s : Bool) (q 
     | inr z ↦ z.1 r p dp ap' ∙ ap (λ (t : Bool). if t then heading e.edge else pos 0) (passing_spot (IsAlike r p s q) e l h z.0) ∙ sym (z.1 s q dq aq)
   ]
 
-  wind_alike : (above : Bool) (leaf : ℕ) (es : List LeafEdge) → AllByRecursion (IsAlike r p s q) (spots_at es l) → wind_by above r p leaf es ≡ wind_by above s q leaf es
+  wind_alike : (above : Bool) (leaf : ℕ) (es : List LeafEdge) → AllByRecursion (IsAlike r p s q) (spots_at es l) → wind_leaf above r p leaf es ≡ wind_leaf above s q leaf es
   wind_alike above leaf [] h = refl
   wind_alike above leaf (e ∷ es) h =
       ap₂ (λ (y z : ℤ). y +ℤ z)
@@ -189,8 +193,7 @@ module _ (l : Level) (dl : pos 0 <ℤ l.d) (r : Bool) (p : Point) (s : Bool) (q 
       (wind_alike above leaf es (back (IsAlike r p s q) (own_spots e l) (spots_at es l) h))
 
   pub values_alike : (above : Bool) (es : List LeafEdge) (shape : Shape) → AllByRecursion (IsAlike r p s q) (spots_at es l) → is_in_by above r es shape p ≡ is_in_by above s es shape q
-  unfolding is_in_by
-  values_alike above es shape h = ap (λ (f : ℕ → Bool). shape_holds f shape) (fun_ext (λ leaf. ap (λ (z : ℤ). not (is_zero z)) (wind_alike above leaf es h)))
+  values_alike above es shape h = held_alike above r p es above s q es shape (λ leaf. wind_alike above leaf es h)
 
 -- ---- flat edges
 -- a flat edge of a height has both ends on the right of a point or none

@@ -9,16 +9,19 @@ use Rattle.scad_geom.specs.declared.level.Level.{Level}
 use Rattle.scad_geom.specs.declared.level.LeafEdge.{LeafEdge}
 use Rattle.scad_geom.specs.declared.shape.Shape.{Shape}
 use Rattle.scad_geom.specs.Winding.{counted}
-use Rattle.scad_geom.specs.Around.{Point, is_beyond}
+use Rattle.scad_geom.specs.Point.{Point}
+use Rattle.scad_geom.specs.Winding.{is_beyond}
 use Rattle.scad_geom.specs.Shape.{is_in_by}
-use Rattle.scad_geom.specs.Heights.{IsAtMost}
+use Rattle.scad_geom.specs.Level.{IsAtMost}
 use Rattle.scad_geom.proofs.Ring.{ring, ◌⊕◌, ◌⊖◌, ◌⊗◌, v0, v1, v2, v3, v4, v5, v6}
 use Rattle.scad_geom.proofs.Signs.{at_least_mul}
 use Rattle.scad_geom.proofs.Heights.{at_most_chain, lower_weak}
 use Rattle.scad_geom.proofs.Turns.{beyond_mul}
+use Rattle.slice_bool.proofs.Gaps.{weak, at_least_of}
 use Rattle.slice_snap.specs.declared.piece.Spot.{Spot}
 use Rattle.slice_snap.specs.declared.piece.Piece.{Piece}
-use Rattle.slice_bool.specs.Pieces.{point_of, piece_between, IsLeft, GoRight, HasSpot, covers, stretch_piece, flat_pieces}
+use Rattle.slice_snap.specs.Spots.{point_of}
+use Rattle.slice_bool.specs.Pieces.{piece_between, IsLeft, GoRight, HasSpot, covers, stretch_piece, flat_pieces, across}
 use Rattle.slice_bool.proofs.Winding.{IsSpotAt}
 use Rattle.slice_bool.proofs.BalanceTurns.{gap, is_right, ahead}
 use Rattle.slice_bool.proofs.BalanceSpots.{up_to, down_to}
@@ -70,10 +73,6 @@ flat_alike right p es shape c (s ∷ (t ∷ ss)) h =
     (flat_alike right p es shape c (t ∷ ss) h.1)
 
 -- ---- spots of one height from left to right
--- the x of a spot, as a number over its rise
-abbrev pub across : Spot → Level
-across s = record { n = s.x; d = pos s.run }
-
 -- a spot doesn't lie after one stop or is one of the later stops
 abbrev pub IsUpTo : Spot → List Spot → Spot → Type 0
 IsUpTo s ss w = IsAtMost (across w) (across s) ⊎ HasSpot ss w
@@ -121,12 +120,6 @@ beyond_more : (right : Bool) (y z : ℤ) → y ≤ℤ z → is_beyond right y �
 unfolding is_beyond
 beyond_more true y z h k = sym (omega (arith, ints))
 beyond_more false y z h k = sym (omega (arith, ints))
-
-weak : (z : ℤ) → pos 0 <ℤ z → pos 0 ≤ℤ z
-weak z h = omega (arith, ints)
-
-at_least_of : (a b : ℤ) → a ≤ℤ b → pos 0 ≤ℤ (b -ℤ a)
-at_least_of a b h = omega (arith, ints)
 
 more_of : (a b c : ℤ) → a ≡ b +ℤ c → pos 0 ≤ℤ c → b ≤ℤ a
 more_of a b c h k = omega (arith, ints)

@@ -6,13 +6,15 @@ use Rattle.std.specs.Prelude.{int_lt, int_le, if◌then◌else◌, ◌&&◌}
 use Rattle.std.specs.Ordering.{int_eq}
 use Rattle.std.proofs.lemmas.Int.{ints, by_lt_z}
 use Rattle.scad_geom.specs.Winding.{counted}
-use Rattle.scad_geom.specs.Around.{Point, is_over, passage_by, side_by, is_beyond, turn}
-use Rattle.scad_geom.specs.Heights.{IsLower, IsAtMost}
+use Rattle.scad_geom.specs.Point.{Point}
+use Rattle.scad_geom.specs.Winding.{is_over, passage_by, side_by, is_beyond, turn}
+use Rattle.scad_geom.specs.Level.{IsLower, IsAtMost}
 use Rattle.scad_geom.proofs.Ring.{ring, num, ◌⊕◌, ◌⊖◌, ◌⊗◌, v0, v1, v2, v3, v4, v5, v6, v7, v8}
 use Rattle.scad_geom.proofs.Signs.{pos_mul}
 use Rattle.scad_geom.proofs.Integers.{mul_assoc, neg_mul}
 use Rattle.scad_geom.proofs.Heights.{lower_then_at_most, at_most_then_lower, lower_weak}
 use Rattle.scad_geom.proofs.Turns.{level_at, over_true, over_false, flat_turn, rising_turn, beyond_mul}
+use Rattle.slice_bool.proofs.Gaps.{gap_of}
 
 -- how far b lies to the right of p, over the product of their divisors
 abbrev pub gap : Point → Point → ℤ
@@ -68,9 +70,6 @@ turned_over ax ay ad bx by bd x y d = ring (ax ∷ ay ∷ ad ∷ bx ∷ by ∷ b
 
 pub no_gap : (a b : ℤ) → a ≡ b → a -ℤ b ≡ pos 0
 no_gap a b h = omega (arith, ints)
-
-gap_of : (a b : ℤ) → a <ℤ b → pos 0 <ℤ (b -ℤ a)
-gap_of a b h = omega (arith, ints)
 
 start_side : (right : Bool) (p a b : Point) → IsLower (level_at a) (level_at b) → p.y *ℤ a.d ≡ a.y *ℤ p.d → is_beyond right (side_by p a b) ≡ is_right right p a
 unfolding side_by

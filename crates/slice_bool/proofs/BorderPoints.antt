@@ -10,9 +10,11 @@ use Rattle.scad_geom.specs.declared.level.Level.{Level}
 use Rattle.scad_geom.specs.declared.level.LeafEdge.{LeafEdge}
 use Rattle.scad_geom.specs.declared.shape.Shape.{Shape}
 use Rattle.scad_geom.specs.Line.{rise, left_of}
-use Rattle.scad_geom.specs.Around.{Point, side_by, is_beyond}
+use Rattle.scad_geom.specs.Point.{Point}
+use Rattle.scad_geom.specs.Winding.{side_by, is_beyond}
 use Rattle.scad_geom.specs.Shape.{is_in_by}
-use Rattle.scad_geom.specs.Heights.{IsLower, IsAtMost, IsSameHeight, AreNeighbours, heights}
+use Rattle.scad_geom.specs.Level.{IsLower, IsAtMost, IsSameHeight}
+use Rattle.scad_geom.specs.Heights.{AreNeighbours, heights}
 use Rattle.scad_geom.proofs.Signs.{pos_mul, neg_mul_pos}
 use Rattle.scad_geom.proofs.Integers.{neg_mul}
 use Rattle.scad_geom.proofs.Heights.{lower_then_at_most, at_most_then_lower, at_most_chain, lower_weak, heights_positive}
@@ -23,15 +25,20 @@ use Rattle.slice_slab.specs.Bundles.{edge_at, AreRanked, AreBundles}
 use Rattle.slice_slab.proofs.Live.{IsLive, live_bundles}
 use Rattle.slice_snap.specs.declared.piece.Spot.{Spot}
 use Rattle.slice_snap.specs.declared.piece.Piece.{Piece}
-use Rattle.slice_bool.specs.Pieces.{spot_on, point_of, piece_between, bundle_piece, slab_pieces, spots_at, IsLeft, GoRight, AreStops, covers, stretch_piece, flat_pieces, AreLevelPieces, ArePieces}
-use Rattle.slice_bool.specs.BorderPoints.{IsBorderPoint, IsBelow, IsLeftOf, AreLevel, IsBetween, IsInside}
+use Rattle.slice_bool.specs.Pieces.{spot_on, piece_between, bundle_piece, slab_pieces, spots_at, IsLeft, GoRight, AreStops, covers, stretch_piece, flat_pieces, AreLevelPieces, ArePieces}
+use Rattle.slice_snap.specs.Spots.{point_of}
+use Rattle.slice_bool.specs.BorderPoints.{IsBorderPoint}
+use Rattle.slice_snap.specs.Inside.{IsBelow, IsLeftOf, AreLevel, IsBetween, IsInside}
+use Rattle.slice_bool.proofs.Gaps.{gap_of}
 use Rattle.slice_bool.proofs.Middle.{size_of, half_point, lower_scaled, scaled_below, value_right_at, value_left_at, value_right, value_left}
 use Rattle.slice_bool.proofs.Slabs.{side_up_is}
-use Rattle.slice_bool.proofs.Winding.{IsSpotAt, both_lists, stops_at, spots_are_at}
+use Rattle.slice_bool.proofs.Winding.{IsSpotAt, stops_at, spots_are_at}
+use Rattle.slice_snap.proofs.Ends.{both_lists}
 use Rattle.slice_bool.proofs.Walk.{UpTo, at_first, at_next, neighbours_next}
 use Rattle.slice_bool.proofs.BalanceTurns.{is_right, side_turned}
 use Rattle.slice_bool.proofs.BalanceSpots.{IsAt, up_to, down_to, values_alike}
-use Rattle.slice_bool.proofs.BalanceStops.{IsUpTo, first_up_to, next_up_to, IsBeside, beside, further, across}
+use Rattle.slice_bool.specs.Pieces.{across}
+use Rattle.slice_bool.proofs.BalanceStops.{IsUpTo, first_up_to, next_up_to, IsBeside, beside, further}
 use Rattle.slice_bool.proofs.BalanceFlat.{spot_is_at, spot_divisor, alike_beside}
 
 cancel : (a r : ℤ) → pos 0 <ℤ r → a *ℤ r ≡ pos 0 → a ≡ pos 0
@@ -46,7 +53,7 @@ between_turned : (R : Point → Point → Type 0) (a p b : Point) → IsBetween 
 between_turned R a p b (inl h) = inr h
 between_turned R a p b (inr h) = inl h
 
-inside_turned : (a b p : Point) → pos 0 <ℤ a.d → IsInside a b p → IsInside b a p
+pub inside_turned : (a b p : Point) → pos 0 <ℤ a.d → IsInside a b p → IsInside b a p
 inside_turned a b p da h = record {
   on_line = cancel (side_by p b a) a.d da (side_turned p a b ∙ nothing (side_by p a b) b.d h.on_line);
   between = elim h.between [
@@ -86,9 +93,6 @@ module _ (es : List LeafEdge) (shape : Shape) where
       let n = lower_then_at_most (level_at a) (level_at b) (level_at p) da db dp o m in
       omega (arith, ints)
 
-  gap_of : (a b : ℤ) → a <ℤ b → pos 0 <ℤ (b -ℤ a)
-  gap_of a b h = omega (arith, ints)
-
   module _ (l u : Level) (n : AreNeighbours es l u) (k : ℕ) (lk : IsLive es l u k) where
     run_positive : pos 0 <ℤ pos (unsigned_abs (rise (edge_at es k)))
     run_positive = subst (λ (z : ℤ). pos 0 <ℤ z) (sym (size_of (rise (edge_at es k)) lk.reaches.rises)) lk.reaches.rises
@@ -102,10 +106,10 @@ module _ (es : List LeafEdge) (shape : Shape) where
     low_divisor : pos 0 <ℤ (point_of (spot_on (edge_at es k) l)).d
     low_divisor = spot_divisor l (spot_on (edge_at es k) l) n.lower_divisor low_spot
 
-    high_divisor : pos 0 <ℤ (point_of (spot_on (edge_at es k) u)).d
+    pub high_divisor : pos 0 <ℤ (point_of (spot_on (edge_at es k) u)).d
     high_divisor = spot_divisor u (spot_on (edge_at es k) u) n.upper_divisor high_spot
 
-    rises : IsBelow (point_of (spot_on (edge_at es k) l)) (point_of (spot_on (edge_at es k) u))
+    pub rises : IsBelow (point_of (spot_on (edge_at es k) l)) (point_of (spot_on (edge_at es k) u))
     rises = scaled_below (level_at (point_of (spot_on (edge_at es k) u))) l (pos (unsigned_abs (rise (edge_at es k)))) run_positive (lower_scaled l u (pos (unsigned_abs (rise (edge_at es k)))) run_positive n.in_order)
 
     on_edge : (p : Point) → side_by p (point_of (spot_on (edge_at es k) l)) (point_of (spot_on (edge_at es k) u)) ≡ pos 0 → left_of (edge_at es k) p.x p.y p.d ≡ pos 0
@@ -125,7 +129,7 @@ module _ (es : List LeafEdge) (shape : Shape) where
         let same = up_to (level_at (point_of (spot_on (edge_at es k) u))) u (spot_is_at u (spot_on (edge_at es k) u) high_spot) in
         lower_then_at_most (level_at p) (level_at (point_of (spot_on (edge_at es k) u))) u dp high_divisor n.upper_divisor h same
 
-    inside_slab : (p : Point) → pos 0 <ℤ p.d → IsInside (point_of (spot_on (edge_at es k) l)) (point_of (spot_on (edge_at es k) u)) p → IsLower l (level_at p) × IsLower (level_at p) u
+    pub inside_slab : (p : Point) → pos 0 <ℤ p.d → IsInside (point_of (spot_on (edge_at es k) l)) (point_of (spot_on (edge_at es k) u)) p → IsLower l (level_at p) × IsLower (level_at p) u
     inside_slab p dp i = elim i.between [
       | inl h ↦ elim h [
         | inl o ↦ (over_low p dp o.0, under_high p dp o.1)
@@ -202,7 +206,7 @@ module _ (es : List LeafEdge) (shape : Shape) where
         both_lower p q h k = omega (arith, ints)
 
     -- a point inside the stretch lies at the height, with the one stop to its left and the other to its right
-    inside_stretch : (p : Point) → pos 0 <ℤ p.d → IsInside (point_of s) (point_of t) p → IsAt l p × (is_right true p (point_of s) ≡ false) × (is_right true p (point_of t) ≡ true)
+    pub inside_stretch : (p : Point) → pos 0 <ℤ p.d → IsInside (point_of s) (point_of t) p → IsAt l p × (is_right true p (point_of s) ≡ false) × (is_right true p (point_of t) ≡ true)
     inside_stretch p dp i = elim i.between [
       | inl h ↦ elim h [
         | inl k ↦ absurd (ends_level p dp k.0 k.1)

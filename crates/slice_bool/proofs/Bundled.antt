@@ -11,7 +11,8 @@ use Rattle.std.proofs.lemmas.List.Sorted.{length_permutation}
 use Rattle.scad_geom.specs.declared.level.Level.{Level}
 use Rattle.scad_geom.specs.declared.level.LeafEdge.{LeafEdge}
 use Rattle.scad_geom.specs.declared.shape.Shape.{Shape}
-use Rattle.scad_geom.specs.Shape.{shape_holds, is_zero}
+use Rattle.scad_geom.specs.Shape.{shape_holds}
+use Rattle.scad_geom.specs.Sign.{is_zero}
 use Rattle.scad_geom.specs.Heights.{AreNeighbours}
 use Rattle.scad_geom.proofs.Order.{front, back}
 use Rattle.scad_geom.proofs.Shapes.{nothing_held}
@@ -19,8 +20,9 @@ use Rattle.scad_geom.proofs.Turns.{heading}
 use Rattle.slice_slab.specs.Bundles.{no_edge, edge_at, reaches, reaching, AreBundles}
 use Rattle.slice_snap.specs.declared.piece.Piece.{Piece}
 use Rattle.slice_bool.specs.Pieces.{spot_on, piece_between, bundle_piece, slab_pieces}
-use Rattle.slice_bool.specs.Tally.{IsTally, AreWithin, is_held, heading_of, headings, left_value}
-use Rattle.slice_bool.specs.Made.{AreMembers, AreLeftValues, RisesFirst, piece_of}
+use Rattle.slice_bool.specs.Tally.{IsTally, AreWithin, is_held, heading_of, headings}
+use Rattle.slice_bool.specs.Beside.{left_value}
+use Rattle.slice_bool.specs.Beside.{AreMembers, AreLeftValues, RisesFirst, piece_of}
 use Rattle.slice_bool.proofs.Sums.{sum_z}
 use Rattle.slice_bool.proofs.Reaching.{heading_for}
 use Rattle.slice_bool.proofs.Passing.{IsLive, live_bundles}

@@ -1,38 +1,26 @@
 -- At the centres of cells, by plain winding numbers.
-use Rattle.std.proofs.Common.{◌≡◌, ℕ, Bool, true, not, List, [], ◌∷◌, refl, ap, ◌∙◌, arith}
-use mathlib.Core.Path.{fun_ext}
+use Rattle.std.proofs.Common.{◌≡◌, true, List, refl, ap, ◌∙◌, arith}
 use lib.IntN.{ℤ, pos}
 use lib.Signed.{◌<ℤ◌}
-use Rattle.std.specs.Prelude.{if◌then◌else◌, ◌==◌}
 use Rattle.std.proofs.lemmas.Int.{ints}
-use Rattle.scad_geom.specs.declared.point.Edge.{Edge}
-use Rattle.scad_geom.specs.declared.half.Half.TheVariants.{Cell}
 use Rattle.scad_geom.specs.declared.level.LeafEdge.{LeafEdge}
 use Rattle.scad_geom.specs.declared.shape.Shape.{Shape}
-use Rattle.scad_geom.specs.Winding.{wind, doubled, counted}
-use Rattle.scad_geom.specs.Around.{wind_by}
-use Rattle.scad_geom.specs.Shape.{shape_holds, is_zero, is_in_by, is_in}
-use Rattle.scad_geom.proofs.Doubled as halves
+use Rattle.scad_geom.specs.Winding.{counted}
+use Rattle.scad_geom.specs.Shape.{is_in_by, is_in}
 use Rattle.slice_snap.specs.declared.piece.Piece.{Piece}
-use Rattle.slice_bool.specs.Pieces.{wind_pieces, ArePieces}
-use Rattle.slice_bool.specs.Balance.{edges_of}
-use Rattle.slice_bool.specs.Centre.{centre, holds_centre}
+use Rattle.slice_snap.specs.Pieces.{wind_pieces}
+use Rattle.slice_bool.specs.Pieces.{ArePieces}
+use Rattle.scad_geom.specs.Half.{centre}
+use Rattle.slice_bool.specs.Centre.{holds_centre}
 use Rattle.slice_bool.proofs.Walk.{pieces_wind}
-
-same_edges : (leaf : ℕ) (es : List LeafEdge) → halves.edges_of leaf es ≡ edges_of leaf es
-same_edges leaf [] = refl
-same_edges leaf (e ∷ es) = ap (λ (fs : List Edge). if e.leaf == leaf then e.edge ∷ fs else fs) (same_edges leaf es)
-
-wind_centre : (es : List LeafEdge) (i j : ℤ) (leaf : ℕ) → wind_by true true (centre i j) leaf es ≡ wind (edges_of leaf es) (doubled Cell i) (doubled Cell j)
-wind_centre es i j leaf = halves.wind-half es leaf (doubled Cell i) (doubled Cell j) ∙ ap (λ (fs : List Edge). wind fs (doubled Cell i) (doubled Cell j)) (same_edges leaf es)
 
 pub centres_are_held : (es : List LeafEdge) (shape : Shape) (i j : ℤ) → is_in es shape (centre i j) ≡ holds_centre es shape i j
 unfolding is_in is_in_by
-centres_are_held es shape i j = ap (λ (f : ℕ → Bool). shape_holds f shape) (fun_ext (λ leaf. ap (λ (z : ℤ). not (is_zero z)) (wind_centre es i j leaf)))
+centres_are_held es shape i j = refl
 
 held_above : (es : List LeafEdge) (shape : Shape) (i j : ℤ) → is_in_by true true es shape (centre i j) ≡ holds_centre es shape i j
 unfolding is_in_by
-held_above es shape i j = ap (λ (f : ℕ → Bool). shape_holds f shape) (fun_ext (λ leaf. ap (λ (z : ℤ). not (is_zero z)) (wind_centre es i j leaf)))
+held_above es shape i j = refl
 
 pub centres_are_wound_once : (es : List LeafEdge) (shape : Shape) (pieces : List Piece) → ArePieces es shape pieces → (i j : ℤ)
     → wind_pieces true true (centre i j) pieces ≡ counted (holds_centre es shape i j)

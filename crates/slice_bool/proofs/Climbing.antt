@@ -1,5 +1,5 @@
 -- From level to level.
-use Rattle.std.proofs.Common.{◌≡◌, ℕ, zero, suc, ◌+◌, ◌<◌, ◌≤◌, List, [], ◌∷◌, ◌++◌, length, get_or, drop, refl, sym, ap, ◌∙◌, arith, subst, append_assoc, add-one}
+use Rattle.std.proofs.Common.{◌≡◌, ℕ, zero, suc, ◌+◌, ◌<◌, ◌≤◌, List, [], ◌∷◌, ◌++◌, length, get_or, drop, refl, sym, ap, ap₂, ◌∙◌, arith, subst, append_assoc, add-one}
 use lib.IntN.{pos}
 use lib.Signed.{◌<ℤ◌}
 use Rattle.std.specs.List.{AllByRecursion}
@@ -11,8 +11,8 @@ use Rattle.scad_geom.specs.Heights.{AreNeighbours, heights}
 use Rattle.scad_geom.proofs.Heights.{heights_positive}
 use Rattle.slice_events.specs.Levels.{IsRising, AreLevels}
 use Rattle.slice_snap.specs.declared.piece.Piece.{Piece}
-use Rattle.slice_bool.specs.Pieces.{flat_pieces, slab_pieces, AreLevelPieces}
-use Rattle.slice_bool.specs.Made.{AddsFlat, AddsSlab, AddsLevel}
+use Rattle.slice_bool.specs.Pieces.{AreLevelPieces}
+use Rattle.slice_bool.specs.Parts.{AreOnLevel, Extends, AreBetweenLevels, AreUpToNext}
 use Rattle.slice_bool.proofs.Walk.{UpTo, at_first, at_next, neighbours_next}
 
 -- ---- neighbouring levels
@@ -36,17 +36,18 @@ past (l ∷ ls) (suc i) h = past ls i (omega arith)
 
 -- on the last level
 pub last_level : (es : List LeafEdge) (shape : Shape) (ls : List Level) (i : ℕ) (d : Level) (old new : List Piece) → i < length ls → length ls ≤ i + 1
-    → AddsFlat es shape (get_or ls i d) old new → AddsLevel es shape (drop i ls) old new
+    → Extends (AreOnLevel es shape (get_or ls i d)) old new → Extends (AreUpToNext es shape (drop i ls)) old new
 last_level es shape ls i d old new h k a =
     let e : drop i ls ≡ get_or ls i d ∷ [] = drop_more ls i d h ∙ ap (λ (r : List Level). get_or ls i d ∷ r) (past ls (i + 1) k) in
-    subst (λ (ls : List Level). AddsLevel es shape ls old new) (sym e) a
+    subst (λ (ls : List Level). Extends (AreUpToNext es shape ls) old new) (sym e) a
 
 -- on one with a next
 pub next_level : (es : List LeafEdge) (shape : Shape) (ls : List Level) (i : ℕ) (d e : Level) (old mid new : List Piece) → i + 1 < length ls
-    → AddsFlat es shape (get_or ls i d) old mid → AddsSlab es shape (get_or ls i d) (get_or ls (i + 1) e) mid new → AddsLevel es shape (drop i ls) old new
+    → Extends (AreOnLevel es shape (get_or ls i d)) old mid → Extends (AreBetweenLevels es shape (get_or ls i d) (get_or ls (i + 1) e)) mid new → Extends (AreUpToNext es shape (drop i ls)) old new
 next_level es shape ls i d e old mid new h a b =
     let f : drop i ls ≡ get_or ls i d ∷ (get_or ls (i + 1) e ∷ drop (i + 1 + 1) ls) = drop_more ls i d (omega arith) ∙ ap (λ (r : List Level). get_or ls i d ∷ r) (drop_more ls (i + 1) e h) in
-    subst (λ (ls : List Level). AddsLevel es shape ls old new) (sym f) (mid, a, b)
+    subst (λ (ls : List Level). Extends (AreUpToNext es shape ls) old new) (sym f)
+    (a.0 ++ b.0, (a.0, b.0, a.1, b.1, refl), b.2 ∙ ap (λ (qs : List Piece). qs ++ b.0) a.2 ∙ append_assoc old a.0 b.0)
 
 -- ---- all levels
 -- the pieces so far, with those of the levels to come, are those of all levels
@@ -56,25 +57,34 @@ Goes es shape ls next out = (rest : List Piece) → AreLevelPieces es shape next
 pub starts : (es : List LeafEdge) (shape : Shape) (ls : List Level) → Goes es shape ls ls []
 starts es shape ls rest a = a
 
-one_level : (es : List LeafEdge) (shape : Shape) (l : Level) (next : List Level) (old new : List Piece) → AddsLevel es shape (l ∷ next) old new
+one_level : (es : List LeafEdge) (shape : Shape) (l : Level) (next : List Level) (old new : List Piece) → Extends (AreUpToNext es shape (l ∷ next)) old new
     → (rest : List Piece) → AreLevelPieces es shape next rest → (more : List Piece) × AreLevelPieces es shape (l ∷ next) more × (new ++ rest ≡ old ++ more)
-one_level es shape l [] old new a rest r =
-    (flat_pieces es shape a.0, (a.0, a.1, refl), ap (λ (qs : List Piece). new ++ qs) r ∙ append-nil new ∙ a.2)
+one_level es shape l [] old new a rest r = (a.0, a.1, ap (λ (qs : List Piece). new ++ qs) r ∙ append-nil new ∙ a.2)
 one_level es shape l (u ∷ next) old new a rest r =
-    let flat : AddsFlat es shape l old a.0 = a.1 in
-    let slab : AddsSlab es shape l u a.0 new = a.2 in
-    let more : List Piece = flat_pieces es shape flat.0 ++ slab_pieces es shape l u slab.0 ++ rest in (
-      more,
-      (flat.0, slab.0, rest, flat.1, slab.1, r, refl),
-      ap (λ (qs : List Piece). qs ++ rest) (slab.2 ∙ ap (λ (qs : List Piece). qs ++ slab_pieces es shape l u slab.0) flat.2 ∙ append_assoc old (flat_pieces es shape flat.0) (slab_pieces es shape l u slab.0))
-          ∙ append_assoc old (flat_pieces es shape flat.0 ++ slab_pieces es shape l u slab.0) rest,
+    let parts = a.1 in
+    let flats : List Piece = parts.0 in
+    let slabs : List Piece = parts.1 in
+    let on : AreOnLevel es shape l flats = parts.2 in
+    let between : AreBetweenLevels es shape l u slabs = parts.3 in
+    let is : a.0 ≡ flats ++ slabs = parts.4 in (
+      a.0 ++ rest,
+      (
+        on.0,
+        between.0,
+        rest,
+        on.1,
+        between.1,
+        r,
+        ap (λ (qs : List Piece). qs ++ rest) (is ∙ ap₂ (λ (qs rs : List Piece). qs ++ rs) on.2 between.2),
+      ),
+      ap (λ (qs : List Piece). qs ++ rest) a.2 ∙ append_assoc old a.0 rest,
     )
 
-pub goes_on : (es : List LeafEdge) (shape : Shape) (ls : List Level) (i : ℕ) (old new : List Piece) → i < length ls → Goes es shape ls (drop i ls) old → AddsLevel es shape (drop i ls) old new → Goes es shape ls (drop (i + 1) ls) new
+pub goes_on : (es : List LeafEdge) (shape : Shape) (ls : List Level) (i : ℕ) (old new : List Piece) → i < length ls → Goes es shape ls (drop i ls) old → Extends (AreUpToNext es shape (drop i ls)) old new → Goes es shape ls (drop (i + 1) ls) new
 goes_on es shape [] i old new h g a rest r = absurd (omega arith)
 goes_on es shape (l ∷ ls) i old new h g a rest r =
     let d : drop i (l ∷ ls) ≡ get_or (l ∷ ls) i l ∷ drop (i + 1) (l ∷ ls) = drop_more (l ∷ ls) i l h in
-    let m = one_level es shape (get_or (l ∷ ls) i l) (drop (i + 1) (l ∷ ls)) old new (subst (λ (ks : List Level). AddsLevel es shape ks old new) d a) rest r in
+    let m = one_level es shape (get_or (l ∷ ls) i l) (drop (i + 1) (l ∷ ls)) old new (subst (λ (ks : List Level). Extends (AreUpToNext es shape ks) old new) d a) rest r in
     subst (AreLevelPieces es shape (l ∷ ls)) (sym m.2) (g m.0 (subst (λ (ks : List Level). AreLevelPieces es shape ks m.0) (sym d) m.1))
 
 pub ends : (es : List LeafEdge) (shape : Shape) (ls : List Level) (i : ℕ) (out : List Piece) → length ls ≤ i → Goes es shape ls (drop i ls) out → AreLevelPieces es shape ls out

@@ -1,7 +1,7 @@
 -- Where the edges of each leaf are balanced, the values above and below a stretch that no flat edge covers are the same.
 use Rattle.std.proofs.Common.{◌≡◌, true, false, List, [], ◌∷◌, arith}
-use lib.IntN.{pos, ◌*ℤ◌}
-use lib.Signed.{◌<ℤ◌, ◌≤ℤ◌}
+use lib.IntN.{pos}
+use lib.Signed.{◌<ℤ◌}
 use Rattle.std.specs.Prelude.{None}
 use Rattle.std.specs.List.{AllByRecursion, position}
 use Rattle.std.proofs.lemmas.Int.{ints}
@@ -9,15 +9,17 @@ use Rattle.scad_geom.specs.declared.level.Level.{Level}
 use Rattle.scad_geom.specs.declared.level.LeafEdge.{LeafEdge}
 use Rattle.scad_geom.specs.declared.shape.Shape.{Shape}
 use Rattle.scad_geom.specs.Shape.{is_in_by}
-use Rattle.scad_geom.specs.Heights.{IsAtMost}
+use Rattle.scad_geom.specs.Level.{IsAtMost}
 use Rattle.slice_snap.specs.declared.piece.Spot.{Spot}
-use Rattle.slice_bool.specs.Pieces.{point_of, spots_at, IsLeft, GoRight, covers}
-use Rattle.slice_bool.specs.Balance.{AreLeavesBalanced}
+use Rattle.slice_snap.specs.Spots.{point_of}
+use Rattle.slice_bool.specs.Pieces.{spots_at, IsLeft, GoRight, covers}
+use Rattle.scad_geom.specs.Leaves.{AreLeavesBalanced}
 use Rattle.slice_bool.specs.Covered.{AreChangesCovered, StretchesAreCovered}
 use Rattle.slice_bool.proofs.Winding.{IsSpotAt, stops_at, spots_are_at}
 use Rattle.slice_bool.proofs.BalanceEdges.{level_values}
 use Rattle.slice_bool.proofs.BalanceSpots.{asides}
-use Rattle.slice_bool.proofs.BalanceStops.{across, IsUpTo, first_up_to, next_up_to, IsBeside, beside}
+use Rattle.slice_bool.specs.Pieces.{across}
+use Rattle.slice_bool.proofs.BalanceStops.{IsUpTo, first_up_to, next_up_to, IsBeside, beside}
 use Rattle.slice_bool.proofs.BalanceFlat.{none_covers, spot_is_at, spot_divisor, not_after, is_after, all_uncovered}
 
 not_past : (s : Spot) → IsAtMost (across s) (across s)

@@ -1,41 +1,36 @@
 -- The ends of pieces lie on the levels, and no two levels are equal in height.
-use Rattle.std.proofs.Common.{◌≡◌, ℕ, ◌⊎◌, inl, inr, Bool, true, false, List, [], ◌∷◌, ◌++◌, refl, sym, ap, ◌∙◌, arith, subst}
+use Rattle.std.proofs.Common.{◌≡◌, ℕ, ◌⊎◌, inl, inr, Bool, true, false, List, [], ◌∷◌, ◌++◌, refl, sym, ◌∙◌, arith, subst}
 use lib.IntN.{pos}
 use lib.Signed.{◌<ℤ◌}
 use Rattle.std.specs.Prelude.{Option, Some, None}
 use Rattle.std.specs.List.{AllByRecursion, All, position, concat}
 use Rattle.std.proofs.lemmas.Int.{ints}
 use Rattle.std.proofs.lemmas.List.Elements.{All-from_recursion}
+use Rattle.slice_snap.proofs.Ends.{joined}
 use Rattle.scad_geom.specs.declared.level.Level.{Level}
 use Rattle.scad_geom.specs.declared.level.LeafEdge.{LeafEdge}
 use Rattle.scad_geom.specs.declared.shape.Shape.{Shape}
 use Rattle.scad_geom.specs.Shape.{is_in_by}
-use Rattle.scad_geom.specs.Heights.{IsLower, IsSameHeight}
+use Rattle.scad_geom.specs.Level.{IsLower, IsSameHeight}
 use Rattle.scad_geom.proofs.Heights.{lower_then_at_most, lower_weak}
 use Rattle.scad_geom.proofs.Order.{front, back}
 use Rattle.slice_events.specs.Levels.{IsRising}
 use Rattle.slice_slab.specs.Bundles.{edge_at}
 use Rattle.slice_snap.specs.declared.piece.Spot.{Spot}
 use Rattle.slice_snap.specs.declared.piece.Piece.{Piece}
-use Rattle.slice_bool.specs.Pieces.{spot_on, point_of, piece_between, bundle_piece, slab_pieces, covers, stretch_piece, flat_pieces, AreLevelPieces, ArePieces}
-use Rattle.slice_bool.specs.Ends.{ends_of, HaveOneLevel}
+use Rattle.slice_bool.specs.Pieces.{spot_on, piece_between, bundle_piece, slab_pieces, covers, stretch_piece, flat_pieces, AreLevelPieces, ArePieces}
+use Rattle.slice_snap.specs.Spots.{point_of}
+use Rattle.slice_snap.specs.Pieces.{ends_of, HaveOneLevel}
 use Rattle.slice_bool.proofs.Passing.{IsLive, live_bundles}
 use Rattle.slice_bool.proofs.Middle.{half_point}
-use Rattle.slice_bool.proofs.Winding.{IsSpotAt, both_lists, stops_at}
+use Rattle.slice_bool.proofs.Winding.{IsSpotAt, stops_at}
 
 -- one of the levels
 abbrev pub IsAmong : List Level → Level → Type 0
 IsAmong [] l = ⊥
 IsAmong (k ∷ ks) l = (k ≡ l) ⊎ IsAmong ks l
 
-ends-append : (qs rs : List Piece) → ends_of (qs ++ rs) ≡ ends_of qs ++ ends_of rs
-ends-append [] rs = refl
-ends-append (q ∷ qs) rs = ap (λ (ss : List Spot). q.from ∷ (q.to ∷ ss)) (ends-append qs rs)
-
 module _ (P : Spot → Type 0) where
-  pub joined : (qs rs : List Piece) → AllByRecursion P (ends_of qs) → AllByRecursion P (ends_of rs) → AllByRecursion P (ends_of (qs ++ rs))
-  joined qs rs h k = subst (AllByRecursion P) (sym (ends-append qs rs)) (both_lists P (ends_of qs) (ends_of rs) h k)
-
   between_ends : (v w : Bool) (s t : Spot) (name : ℕ) → P s → P t → AllByRecursion P (ends_of (piece_between v w s t name))
   between_ends true true s t name h k = tt
   between_ends true false s t name h k = (h, (k, tt))
@@ -50,7 +45,7 @@ module _ (P : Spot → Type 0) where
   flat_ends es shape [] h = tt
   flat_ends es shape (s ∷ []) h = tt
   flat_ends es shape (s ∷ (t ∷ ss)) h =
-      joined (stretch_piece es shape s t (position (covers s t) es)) (flat_pieces es shape (t ∷ ss))
+      joined P (stretch_piece es shape s t (position (covers s t) es)) (flat_pieces es shape (t ∷ ss))
       (stretch_ends es shape s t (position (covers s t) es) h.0 h.1.0) (flat_ends es shape (t ∷ ss) h.1)
 
   -- what holds of both ends of an edge between two heights
@@ -67,7 +62,7 @@ module _ (P : Spot → Type 0) where
       → AllByRecursion P (ends_of (slab_pieces es shape l u bs))
   slab_ends es shape l u [] h = tt
   slab_ends es shape l u (b ∷ bs) h =
-      joined (bundle_piece es shape l u b) (slab_pieces es shape l u bs)
+      joined P (bundle_piece es shape l u b) (slab_pieces es shape l u bs)
       (bundle_ends es shape l u b (front (AtBoth es l u) b (concat bs) h)) (slab_ends es shape l u bs (back (AtBoth es l u) b (concat bs) h))
 
 pub each_of : (Q R : ℕ → Type 0) → ((k : ℕ) → Q k → R k) → (ks : List ℕ) → AllByRecursion Q ks → AllByRecursion R ks

@@ -1,17 +1,23 @@
 -- The winding numbers of edges hard by a point.
-use Rattle.std.proofs.Common.{◌≡◌, ℕ, ◌+◌, ◌<◌, ◌≤◌, Bool, true, false, not, List, length, get_or, drop, refl, ap, arith}
+use Rattle.std.proofs.Common.{◌≡◌, ℕ, ◌+◌, ◌<◌, ◌≤◌, Bool, true, false, not, List, length, get_or, drop, refl, sym, ap, ◌∙◌, arith}
 use mathlib.Core.Path.{fun_ext}
 use lib.IntN.{ℤ, pos, ◌+ℤ◌, ◌-ℤ◌, ◌*ℤ◌}
 use mir.Syntax.{w64}
 use mir.Val.{to_z, of_z}
 use Rattle.std.specs.Prelude.{int_lt, int_le, unsigned_abs, ◌==◌, if◌then◌else◌}
 use Rattle.std.proofs.lemmas.Int.{ints}
-use Rattle.std.proofs.lemmas.List.{at_drop_more}
+use Rattle.std.proofs.lemmas.List.{at_drop_more, drop_all}
+use Rattle.scad_geom.specs.Winding.{wind_by}
+use Rattle.scad_geom.specs.Segment.{segments}
+use Rattle.scad_geom.specs.Leaves.{edges_of}
 use Rattle.scad_geom.specs.declared.point.Pt.{Pt}
 use Rattle.scad_geom.specs.declared.level.LeafEdge.{LeafEdge}
 use Rattle.scad_geom.specs.declared.shape.Shape.{Shape}
-use Rattle.scad_geom.specs.Around.{Point, whole, is_over, side_by, turn, wind_by}
-use Rattle.scad_geom.specs.Shape.{shape_holds, is_zero, is_in_by}
+use Rattle.scad_geom.specs.Point.{Point, whole}
+use Rattle.scad_geom.specs.Winding.{is_over, side_by, turn}
+use Rattle.scad_geom.proofs.Leaves.{wind_leaf, wind_leaf-is}
+use Rattle.scad_geom.specs.Shape.{shape_holds, is_in_by}
+use Rattle.scad_geom.specs.Sign.{is_zero}
 use Rattle.slice_bool.specs.Tally.{IsTally, is_held}
 
 one_mul : (z : ℤ) → z *ℤ pos 1 ≡ z
@@ -33,9 +39,9 @@ side_whole p a b = rw (one_mul a.x, one_mul b.x, one_mul a.y, one_mul b.y, one_m
 
 -- one more edge
 pub wind_more : (above : Bool) (p : Point) (leaf : ℕ) (es : List LeafEdge) (i : ℕ) (d : LeafEdge) → i < length es
-    → wind_by above true p leaf (drop i es)
-    ≡ (if (get_or es i d).leaf == leaf then turn above true p (whole (get_or es i d).edge.a) (whole (get_or es i d).edge.b) else pos 0) +ℤ wind_by above true p leaf (drop (i + 1) es)
-wind_more above p leaf es i d h = at_drop_more (wind_by above true p leaf) es i d h
+    → wind_leaf above true p leaf (drop i es)
+    ≡ (if (get_or es i d).leaf == leaf then turn above true p (whole (get_or es i d).edge.a) (whole (get_or es i d).edge.b) else pos 0) +ℤ wind_leaf above true p leaf (drop (i + 1) es)
+wind_more above p leaf es i d h = at_drop_more (wind_leaf above true p leaf) es i d h
 
 -- a number that was passed to a call
 pub passed : (z : ℤ) → unsigned_abs z ≤ 1 → to_z w64 (of_z w64 z) ≡ z
@@ -52,7 +58,16 @@ size_step old new z true most e h k = let p = passed z h in omega (arith, ints)
 size_step old new z false most e h k = omega (arith, ints)
 
 -- what a shape holds, by the winding numbers of all leaves
-pub held_by : (above : Bool) (es : List LeafEdge) (shape : Shape) (p : Point) (turns : List ℤ) → IsTally turns (λ leaf. wind_by above true p leaf es)
+pub held_by : (above : Bool) (es : List LeafEdge) (shape : Shape) (p : Point) (turns : List ℤ) → IsTally turns (λ leaf. wind_by above true p (segments (edges_of leaf es)))
     → is_held (λ leaf. get_or turns leaf (pos 0)) shape ≡ is_in_by above true es shape p
 unfolding is_in_by
 held_by above es shape p turns h = ap (λ (f : ℕ → Bool). shape_holds f shape) (fun_ext (λ leaf. ap (λ (z : ℤ). not (is_zero z)) (h leaf)))
+
+-- after the last edge
+pub all_turned : (above : Bool) (p : Point) (es : List LeafEdge) (i : ℕ) (turns : List ℤ) → length es ≤ i
+    → ((leaf : ℕ) → get_or turns leaf (pos 0) +ℤ wind_leaf above true p leaf (drop i es) ≡ wind_leaf above true p leaf es) → IsTally turns (λ leaf. wind_by above true p (segments (edges_of leaf es)))
+all_turned above p es i turns h s leaf =
+    none_left (get_or turns leaf (pos 0)) _ _ (ap (wind_leaf above true p leaf) (drop_all i es h)) (s leaf) ∙ sym (wind_leaf-is above true p leaf es)
+  where
+    none_left : (x y z : ℤ) → y ≡ pos 0 → x +ℤ y ≡ z → x ≡ z
+    none_left x y z h k = omega (arith, ints)

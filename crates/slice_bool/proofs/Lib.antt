@@ -1,3 +1,4 @@
+pub mod Gaps
 pub mod Sums
 pub mod Reaching
 pub mod Passing
@@ -18,6 +19,8 @@ pub mod Covered
 pub mod BalanceLevels
 mod Examples
 pub mod BorderPoints
+pub mod Apart
+pub mod Named
 pub mod Stopping
 pub mod Hardby
 pub mod Stretches

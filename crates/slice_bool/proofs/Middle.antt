@@ -1,7 +1,7 @@
 -- A shape's values hard by a bundle at half height, on its left and on its right.
 use Rattle.std.proofs.Common.{◌≡◌, ℕ, Bool, true, false, not, List, [], ◌∷◌, ◌++◌, refl, sym, ap, ◌∙◌, arith, subst}
 use lib.IntN.{ℤ, pos, negsuc, ◌+ℤ◌, ◌-ℤ◌, ◌*ℤ◌, zero-*ℤ}
-use lib.Signed.{◌<ℤ◌, ◌≤ℤ◌}
+use lib.Signed.{◌<ℤ◌}
 use Rattle.std.specs.List.{AllByRecursion, concat}
 use Rattle.std.proofs.lemmas.Int.{ints, by_lt_z}
 use Rattle.scad_geom.specs.declared.point.Edge.{Edge}
@@ -9,9 +9,13 @@ use Rattle.scad_geom.specs.declared.level.Level.{Level}
 use Rattle.scad_geom.specs.declared.level.LeafEdge.{LeafEdge}
 use Rattle.scad_geom.specs.declared.shape.Shape.{Shape}
 use Rattle.scad_geom.specs.Line.{rise, x_at, left_of}
-use Rattle.scad_geom.specs.Around.{Point, is_beyond}
+use Rattle.scad_geom.specs.Point.{Point}
+use Rattle.scad_geom.specs.Winding.{is_beyond}
 use Rattle.scad_geom.specs.Shape.{is_in_by}
-use Rattle.scad_geom.specs.Heights.{IsLower, IsAtMost, AreNeighbours, IsBefore}
+use Rattle.scad_geom.specs.Level.{IsLower, IsAtMost}
+use Rattle.scad_geom.specs.Heights.{AreNeighbours}
+use Rattle.scad_geom.specs.EdgeOrder.{IsBefore}
+use Rattle.slice_bool.proofs.Gaps.{from_gap, gap_of, from_at_least, at_least_of, weak}
 use Rattle.slice_slab.specs.Bundles.{no_edge, edge_at, Precedes, AreRanked, AreBundles}
 use Rattle.scad_geom.proofs.Signs.{pos_mul, at_least_mul, pos_left}
 use Rattle.scad_geom.proofs.Lines.{left_of_by}
@@ -21,7 +25,8 @@ use Rattle.slice_bool.proofs.Reaching.{lies_left}
 use Rattle.scad_geom.specs.Line.{run, offset, left_of}
 use Rattle.scad_geom.proofs.Ring.{ring, num, ◌⊕◌, ◌⊖◌, ◌⊗◌, v0, v1, v2, v3, v4}
 use Rattle.scad_geom.proofs.Order.{back, before_inside}
-use Rattle.slice_bool.specs.Pieces.{spot_on, point_of, middle}
+use Rattle.slice_bool.specs.Pieces.{spot_on, middle}
+use Rattle.slice_snap.specs.Spots.{point_of}
 use Rattle.std.specs.Prelude.{unsigned_abs}
 use Rattle.slice_bool.proofs.Passing.{IsLive, live_bundles, passing, Around}
 use Rattle.slice_bool.proofs.Values.{value_of, is_in_passing}
@@ -37,21 +42,6 @@ scaled_lower pn pd n d r = ring (pn ∷ pd ∷ n ∷ d ∷ r ∷ []) (v2 ⊗ v4 
 
 scaled_upper : (pn pd n d r : ℤ) → pn *ℤ (d *ℤ r) -ℤ n *ℤ r *ℤ pd ≡ (pn *ℤ d -ℤ n *ℤ pd) *ℤ r
 scaled_upper pn pd n d r = ring (pn ∷ pd ∷ n ∷ d ∷ r ∷ []) (v0 ⊗ (v3 ⊗ v4) ⊖ v2 ⊗ v4 ⊗ v1) ((v0 ⊗ v3 ⊖ v2 ⊗ v1) ⊗ v4) refl
-
-from_gap : (a b : ℤ) → pos 0 <ℤ (b -ℤ a) → a <ℤ b
-from_gap a b h = omega (arith, ints)
-
-gap_of : (a b : ℤ) → a <ℤ b → pos 0 <ℤ (b -ℤ a)
-gap_of a b h = omega (arith, ints)
-
-from_at_least : (a b : ℤ) → pos 0 ≤ℤ (b -ℤ a) → a ≤ℤ b
-from_at_least a b h = omega (arith, ints)
-
-at_least_of : (a b : ℤ) → a ≤ℤ b → pos 0 ≤ℤ (b -ℤ a)
-at_least_of a b h = omega (arith, ints)
-
-weak : (z : ℤ) → pos 0 <ℤ z → pos 0 ≤ℤ z
-weak z h = omega (arith, ints)
 
 -- the height of a spot's point is the spot's
 abbrev pub scaled : Level → ℤ → Level

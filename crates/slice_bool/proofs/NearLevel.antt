@@ -1,6 +1,5 @@
 -- Edges that don't pass a level don't wind round what lies hard by its stops, and only flat edges on it cover a stretch.
-use Rattle.std.proofs.Common.{◌≡◌, ℕ, zero, suc, ◌+◌, ◌<◌, Bool, true, false, not, List, [], ◌∷◌, length, get_or, drop, refl, sym, ap, ◌∙◌, arith, subst}
-use mathlib.Core.Path.{fun_ext}
+use Rattle.std.proofs.Common.{◌≡◌, ℕ, zero, suc, ◌+◌, ◌<◌, Bool, true, false, List, [], ◌∷◌, length, get_or, drop, refl, sym, ap, ◌∙◌, arith, subst}
 use lib.IntN.{ℤ, pos, ◌+ℤ◌, ◌-ℤ◌, ◌*ℤ◌}
 use lib.Signed.{◌<ℤ◌}
 use Rattle.std.specs.Prelude.{int_lt, int_le, if◌then◌else◌, ◌==◌, ◌&&◌, Some}
@@ -9,21 +8,25 @@ use Rattle.std.proofs.lemmas.Int.{ints}
 use Rattle.std.proofs.lemmas.List.{at_drop_more, drop_all}
 use Rattle.std.proofs.lemmas.Iterator.Adapters.{position_from-zero}
 use Rattle.std.proofs.lemmas.List.Elements.{All-from_recursion}
+use Rattle.scad_geom.proofs.Leaves.{held_alike}
 use Rattle.scad_geom.specs.declared.point.Edge.{Edge}
 use Rattle.scad_geom.specs.declared.level.Level.{Level}
 use Rattle.scad_geom.specs.declared.level.LeafEdge.{LeafEdge}
 use Rattle.scad_geom.specs.declared.shape.Shape.{Shape}
 use Rattle.scad_geom.specs.Line.{low, high, rise}
-use Rattle.scad_geom.specs.Around.{whole, turn, wind_by}
-use Rattle.scad_geom.specs.Heights.{level_of, IsLower, IsAtMost}
-use Rattle.scad_geom.specs.Shape.{shape_holds, is_zero, is_in_by}
+use Rattle.scad_geom.specs.Point.{whole}
+use Rattle.scad_geom.specs.Winding.{turn}
+use Rattle.scad_geom.proofs.Leaves.{wind_leaf}
+use Rattle.scad_geom.specs.Level.{level_of, IsLower, IsAtMost}
+use Rattle.scad_geom.specs.Shape.{is_in_by}
 use Rattle.scad_geom.proofs.Heights.{lower_then_at_most, at_most_then_lower, lower_weak}
 use Rattle.scad_geom.proofs.Turns.{level_at, Over, NotOver, under_turn, over_turn, level_turn}
 use Rattle.slice_slab.specs.Bundles.{no_edge}
 use Rattle.slice_snap.specs.declared.piece.Spot.{Spot}
 use Rattle.slice_bool.specs.declared.near.Near.{Near}
 use Rattle.slice_bool.specs.declared.stop.Stop.{Stop}
-use Rattle.slice_bool.specs.Pieces.{point_of, passes_at, is_flat_at, covers, AreStops}
+use Rattle.slice_snap.specs.Spots.{point_of}
+use Rattle.slice_bool.specs.Pieces.{passes_at, is_flat_at, covers, AreStops}
 use Rattle.slice_bool.specs.Stops.{spots_in}
 use Rattle.slice_bool.specs.Near.{passing_at, flats_from, first_cover, IsNear}
 use Rattle.slice_bool.proofs.Middle.{lower_scaled, scaled_below}
@@ -90,7 +93,7 @@ module _ (above : Bool) (s : Spot) (runs : pos 0 <ℤ pos s.run) (d : pos 0 <ℤ
 
 -- ---- winding numbers and values by the edges that pass the level
 passing_wind : (above : Bool) (s : Spot) → pos 0 <ℤ pos s.run → pos 0 <ℤ s.at.d → (leaf : ℕ) (es : List LeafEdge)
-    → wind_by above true (point_of s) leaf (passing_at es s.at) ≡ wind_by above true (point_of s) leaf es
+    → wind_leaf above true (point_of s) leaf (passing_at es s.at) ≡ wind_leaf above true (point_of s) leaf es
 passing_wind above s runs d leaf [] = refl
 passing_wind above s runs d leaf (e ∷ es) = by_test (passes_at e.edge s.at) refl (passing_wind above s runs d leaf es)
   where
@@ -104,15 +107,14 @@ passing_wind above s runs d leaf (e ∷ es) = by_test (passes_at e.edge s.at) re
     without : (x y z : ℤ) → x ≡ pos 0 → y ≡ z → y ≡ x +ℤ z
     without x y z h k = omega (arith, ints)
 
-    by_test : (t : Bool) → passes_at e.edge s.at ≡ t → wind_by above true (point_of s) leaf (passing_at es s.at) ≡ wind_by above true (point_of s) leaf es
-        → wind_by above true (point_of s) leaf (if t then e ∷ passing_at es s.at else passing_at es s.at) ≡ own +ℤ wind_by above true (point_of s) leaf es
+    by_test : (t : Bool) → passes_at e.edge s.at ≡ t → wind_leaf above true (point_of s) leaf (passing_at es s.at) ≡ wind_leaf above true (point_of s) leaf es
+        → wind_leaf above true (point_of s) leaf (if t then e ∷ passing_at es s.at else passing_at es s.at) ≡ own +ℤ wind_leaf above true (point_of s) leaf es
     by_test true q h = ap (λ (z : ℤ). own +ℤ z) h
     by_test false q h = without own _ _ (nothing (e.leaf == leaf) (still above s runs d e.edge q)) h
 
 pub passing_values : (above : Bool) (s : Spot) → pos 0 <ℤ pos s.run → pos 0 <ℤ s.at.d → (es : List LeafEdge) (shape : Shape)
     → is_in_by above true (passing_at es s.at) shape (point_of s) ≡ is_in_by above true es shape (point_of s)
-unfolding is_in_by
-passing_values above s runs d es shape = ap (λ (f : ℕ → Bool). shape_holds f shape) (fun_ext (λ leaf. ap (λ (z : ℤ). not (is_zero z)) (passing_wind above s runs d leaf es)))
+passing_values above s runs d es shape = held_alike above true (point_of s) (passing_at es s.at) above true (point_of s) es shape (λ leaf. passing_wind above s runs d leaf es)
 
 -- ---- only flat edges on the level cover a stretch
 by_flat : (f c : Bool) → f ≡ false → (f && c) ≡ false

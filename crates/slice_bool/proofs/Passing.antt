@@ -9,8 +9,11 @@ use Rattle.scad_geom.specs.declared.point.Edge.{Edge}
 use Rattle.scad_geom.specs.declared.level.Level.{Level}
 use Rattle.scad_geom.specs.declared.level.LeafEdge.{LeafEdge}
 use Rattle.scad_geom.specs.Line.{rise, x_at, left_of}
-use Rattle.scad_geom.specs.Around.{Point, is_beyond}
-use Rattle.scad_geom.specs.Heights.{IsAtMost, AreNeighbours, AreAligned}
+use Rattle.scad_geom.specs.Point.{Point}
+use Rattle.scad_geom.specs.Winding.{is_beyond}
+use Rattle.scad_geom.specs.Level.{IsAtMost}
+use Rattle.scad_geom.specs.Heights.{AreNeighbours}
+use Rattle.scad_geom.specs.EdgeOrder.{AreAligned}
 use Rattle.scad_geom.proofs.Lines.{left_of_by}
 use Rattle.scad_geom.proofs.Order.{aligned_all}
 use Rattle.scad_geom.proofs.Turns.{level_at, Spans, beyond_mul}

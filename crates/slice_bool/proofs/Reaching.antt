@@ -9,8 +9,11 @@ use Rattle.scad_geom.specs.declared.point.Edge.{Edge}
 use Rattle.scad_geom.specs.declared.level.Level.{Level}
 use Rattle.scad_geom.specs.declared.level.LeafEdge.{LeafEdge}
 use Rattle.scad_geom.specs.Line.{low, high, rise, left_of}
-use Rattle.scad_geom.specs.Around.{Point, whole, is_beyond, turn, wind_by}
-use Rattle.scad_geom.specs.Heights.{level_of, IsLower, IsAtMost, heights, AreNeighbours}
+use Rattle.scad_geom.specs.Point.{Point, whole}
+use Rattle.scad_geom.specs.Winding.{is_beyond, turn}
+use Rattle.scad_geom.proofs.Leaves.{wind_leaf}
+use Rattle.scad_geom.specs.Level.{level_of, IsLower, IsAtMost}
+use Rattle.scad_geom.specs.Heights.{heights, AreNeighbours}
 use Rattle.slice_slab.specs.Bundles.{no_edge, reaches, reaching}
 use Rattle.scad_geom.proofs.Heights.{Reaches, lower_then_at_most, at_most_then_lower}
 use Rattle.scad_geom.proofs.Order.{all_ends}
@@ -83,20 +86,20 @@ share above right p leaf e = if e.leaf == leaf then turn above right p (whole e.
 reach_sum : (above right : Bool) (p : Point) (leaf : ℕ) (l u : Level) (F : ℕ → ℤ) (k : ℕ) (es : List LeafEdge)
     → ((i : ℕ) → i < length es → reaches (get_or es i no_edge).edge l u ≡ true → share above right p leaf (get_or es i no_edge) ≡ F (k + i))
     → ((i : ℕ) → i < length es → reaches (get_or es i no_edge).edge l u ≡ false → share above right p leaf (get_or es i no_edge) ≡ pos 0)
-    → wind_by above right p leaf es ≡ sum_z F (reaching k es l u)
+    → wind_leaf above right p leaf es ≡ sum_z F (reaching k es l u)
 reach_sum above right p leaf l u F k [] h z = refl
 reach_sum above right p leaf l u F k (e ∷ es) h z =
-    let r : wind_by above right p leaf es ≡ sum_z F (reaching (k + 1) es l u) = reach_sum above right p leaf l u F (k + 1) es
+    let r : wind_leaf above right p leaf es ≡ sum_z F (reaching (k + 1) es l u) = reach_sum above right p leaf l u F (k + 1) es
     (λ i o t. h (suc i) (omega arith) t ∙ ap F (omega arith)) (λ i o t. z (suc i) (omega arith) t) in
     by_test (reaches e.edge l u) refl r
   where
-    by_test : (t : Bool) → reaches e.edge l u ≡ t → wind_by above right p leaf es ≡ sum_z F (reaching (k + 1) es l u)
-        → share above right p leaf e +ℤ wind_by above right p leaf es ≡ sum_z F (if t then k ∷ reaching (k + 1) es l u else reaching (k + 1) es l u)
+    by_test : (t : Bool) → reaches e.edge l u ≡ t → wind_leaf above right p leaf es ≡ sum_z F (reaching (k + 1) es l u)
+        → share above right p leaf e +ℤ wind_leaf above right p leaf es ≡ sum_z F (if t then k ∷ reaching (k + 1) es l u else reaching (k + 1) es l u)
     by_test true q r = ap₂ (λ (x y : ℤ). x +ℤ y) (h zero (omega arith) q ∙ ap F (omega arith)) r
     by_test false q r = ap₂ (λ (x y : ℤ). x +ℤ y) (z zero (omega arith) q) r ∙ +ℤ_idl (sum_z F (reaching (k + 1) es l u))
 
 pub wind_reaching : (above right : Bool) (p : Point) (leaf : ℕ) (es : List LeafEdge) (l u : Level) → AreNeighbours es l u → pos 0 <ℤ p.d → Spans above (level_at p) l u
-    → wind_by above right p leaf es ≡ sum_z (λ k. if lies_left es right p k then heading_for es leaf k else pos 0) (reaching 0 es l u)
+    → wind_leaf above right p leaf es ≡ sum_z (λ k. if lies_left es right p k then heading_for es leaf k else pos 0) (reaching 0 es l u)
 wind_reaching above right p leaf es l u n dp s =
     reach_sum above right p leaf l u (λ k. if lies_left es right p k then heading_for es leaf k else pos 0) 0 es
     (λ i o t. given i (reaches_is _ l u t) ∙ ap (λ (k : ℕ). if lies_left es right p k then heading_for es leaf k else pos 0) (omega arith))

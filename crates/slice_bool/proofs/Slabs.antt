@@ -1,18 +1,20 @@
 -- The pieces between two neighbouring heights wind once round the points inside the shape, and not round the others.
 use Rattle.std.proofs.Common.{◌≡◌, ℕ, Bool, true, false, List, [], ◌∷◌, ◌++◌, refl, sym, ap, ap₂, ◌∙◌, arith, subst}
-use lib.IntN.{ℤ, pos, negsuc, ◌+ℤ◌, ◌-ℤ◌, ◌*ℤ◌, neg_ℤ, +ℤ_idl, +ℤ_assoc}
+use lib.IntN.{ℤ, pos, negsuc, ◌+ℤ◌, ◌-ℤ◌, ◌*ℤ◌, neg_ℤ, +ℤ_idl}
 use lib.Signed.{◌<ℤ◌}
 use Rattle.std.specs.Prelude.{if◌then◌else◌}
 use Rattle.std.specs.List.{AllByRecursion, concat}
 use Rattle.std.proofs.lemmas.Int.{ints}
+use Rattle.slice_snap.proofs.Ways.{wind_pieces-append}
 use Rattle.scad_geom.specs.declared.point.Edge.{Edge}
 use Rattle.scad_geom.specs.declared.level.Level.{Level}
 use Rattle.scad_geom.specs.declared.level.LeafEdge.{LeafEdge}
 use Rattle.scad_geom.specs.declared.shape.Shape.{Shape}
 use Rattle.scad_geom.specs.Line.{rise, x_at, left_of}
-use Rattle.scad_geom.specs.Around.{Point, is_beyond}
+use Rattle.scad_geom.specs.Point.{Point}
+use Rattle.scad_geom.specs.Winding.{is_beyond}
 use Rattle.scad_geom.specs.Shape.{is_in_by}
-use Rattle.scad_geom.specs.Heights.{IsLower}
+use Rattle.scad_geom.specs.Level.{IsLower}
 use Rattle.slice_slab.specs.Bundles.{edge_at, AreRanked, AreBundles}
 use Rattle.scad_geom.proofs.Signs.{pos_mul}
 use Rattle.scad_geom.proofs.Turns.{level_at, Spans, beyond_mul}
@@ -20,17 +22,19 @@ use Rattle.slice_bool.proofs.Reaching.{lies_left}
 use Rattle.std.proofs.Common.{append_assoc}
 use Rattle.scad_geom.specs.Line.{run, offset, left_of}
 use Rattle.scad_geom.specs.Winding.{counted}
-use Rattle.scad_geom.specs.Around.{is_over, side_by, turn}
+use Rattle.scad_geom.specs.Winding.{is_over, side_by, turn}
 use Rattle.scad_geom.proofs.Ring.{ring, num, ◌⊕◌, ◌⊖◌, ◌⊗◌, v0, v1, v2, v3, v4, v5, v6, v7, v8, v9}
 use Rattle.scad_geom.proofs.Turns.{Over, NotOver, over_true, over_false, rising_turn, falling_turn}
 use Rattle.scad_geom.proofs.Shapes.{nothing_held}
 use Rattle.scad_geom.proofs.Order.{back}
 use Rattle.slice_snap.specs.declared.piece.Spot.{Spot}
-use Rattle.slice_snap.specs.declared.piece.Piece.{Piece}
-use Rattle.slice_bool.specs.Pieces.{spot_on, point_of, wind_pieces, piece_between, bundle_piece, slab_pieces}
+use Rattle.slice_bool.specs.Pieces.{spot_on, piece_between, bundle_piece, slab_pieces}
+use Rattle.slice_snap.specs.Spots.{point_of}
+use Rattle.slice_snap.specs.Pieces.{wind_pieces}
 use Rattle.std.specs.Prelude.{unsigned_abs}
 use Rattle.slice_bool.proofs.Passing.{IsLive, live_bundles, passing, HeadPasses, Around}
 use Rattle.slice_bool.proofs.Values.{all_pass, value_of, is_in_passing}
+use Rattle.slice_bool.proofs.Gaps.{gap_of}
 use Rattle.slice_bool.proofs.Middle.{scaled, lower_scaled, at_most_scaled, scaled_below, scaled_at_most, size_of, half_point, value_right, value_left}
 
 side_up : (u c r x y d n1 d1 n2 d2 : ℤ) → ((u *ℤ n2 +ℤ c *ℤ d2) *ℤ (d1 *ℤ r) -ℤ (u *ℤ n1 +ℤ c *ℤ d1) *ℤ (d2 *ℤ r)) *ℤ (y *ℤ (d1 *ℤ r) -ℤ n1 *ℤ r *ℤ d) -ℤ (n2 *ℤ r *ℤ (d1 *ℤ r) -ℤ n1 *ℤ r *ℤ (d2 *ℤ r)) *ℤ (x *ℤ (d1 *ℤ r) -ℤ (u *ℤ n1 +ℤ c *ℤ d1) *ℤ d) ≡ (u *ℤ y +ℤ c *ℤ d -ℤ r *ℤ x) *ℤ (r *ℤ r *ℤ (d1 *ℤ (n2 *ℤ d1 -ℤ n1 *ℤ d2)))
@@ -69,9 +73,6 @@ side_down_is : (p : Point) (e : Edge) (l u : Level) (r : ℤ) → r ≡ rise e
 unfolding side_by left_of x_at
 side_down_is p e l u r q = rw q (no_minus _ ∙ side_down (run e) (offset e) (rise e) p.x p.y p.d l.n l.d u.n u.d)
 
-gap_of : (a b : ℤ) → a <ℤ b → pos 0 <ℤ (b -ℤ a)
-gap_of a b h = omega (arith, ints)
-
 module _ (above right : Bool) (p : Point) (e : Edge) (l u : Level) (re : pos 0 <ℤ rise e) (dl : pos 0 <ℤ l.d) (du : pos 0 <ℤ u.d) (o : IsLower l u) (s : Spans above (level_at p) l u) where
   run_positive : pos 0 <ℤ pos (unsigned_abs (rise e))
   run_positive = subst (λ (z : ℤ). pos 0 <ℤ z) (sym (size_of (rise e) re)) re
@@ -92,11 +93,6 @@ module _ (above right : Bool) (p : Point) (e : Edge) (l u : Level) (re : pos 0 <
       ∙ beyond_mul right ((rise e *ℤ rise e) *ℤ (u.d *ℤ (u.n *ℤ l.d -ℤ l.n *ℤ u.d))) (left_of e p.x p.y p.d) (factor_positive u.d du))
 
 -- ---- pieces
-pub wind_pieces-append : (above right : Bool) (p : Point) (qs rs : List Piece) → wind_pieces above right p (qs ++ rs) ≡ wind_pieces above right p qs +ℤ wind_pieces above right p rs
-wind_pieces-append above right p [] rs = sym (+ℤ_idl (wind_pieces above right p rs))
-wind_pieces-append above right p (q ∷ qs) rs = ap (λ (z : ℤ). turn above right p (point_of q.from) (point_of q.to) +ℤ z) (wind_pieces-append above right p qs rs)
-    ∙ sym (+ℤ_assoc (turn above right p (point_of q.from) (point_of q.to)) (wind_pieces above right p qs) (wind_pieces above right p rs))
-
 -- a piece winds by the difference of the values on its sides, where the point lies to its left
 pub wind_between : (above right : Bool) (p : Point) (b v w : Bool) (s t : Spot) (name : ℕ)
     → turn above right p (point_of s) (point_of t) ≡ (if b then pos 1 else pos 0) → turn above right p (point_of t) (point_of s) ≡ (if b then negsuc 0 else pos 0)

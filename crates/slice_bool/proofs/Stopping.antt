@@ -1,5 +1,5 @@
 -- Sorted spots without repeats are the stops.
-use Rattle.std.proofs.Common.{◌≡◌, ℕ, zero, suc, ◌+◌, ◌<◌, inl, inr, Bool, true, false, List, [], ◌∷◌, ◌++◌, length, get_or, drop, refl, sym, ap, ◌∙◌, arith, subst, add-one, append_assoc}
+use Rattle.std.proofs.Common.{◌≡◌, ℕ, zero, suc, ◌+◌, ◌<◌, inl, inr, Bool, true, false, List, [], ◌∷◌, ◌++◌, length, get_or, refl, sym, ap, ◌∙◌, arith, subst, add-one, append_assoc}
 use lib.IntN.{pos}
 use lib.Signed.{◌<ℤ◌}
 use Rattle.std.specs.Prelude.{if◌then◌else◌}
@@ -11,16 +11,14 @@ use Rattle.std.proofs.lemmas.List.Elements.{recursion_from_All, All-from_recursi
 use Rattle.std.proofs.lemmas.List.Sorted.{All-permutation, IsPermutation-map, IsPermutation-sym}
 use Rattle.scad_geom.specs.declared.level.Level.{Level}
 use Rattle.scad_geom.specs.declared.level.LeafEdge.{LeafEdge}
-use Rattle.scad_geom.specs.Heights.{IsAtMost}
+use Rattle.scad_geom.specs.Level.{IsAtMost}
 use Rattle.scad_geom.proofs.Heights.{at_most_chain, lower_then_at_most}
 use Rattle.slice_snap.specs.declared.piece.Spot.{Spot}
 use Rattle.slice_bool.specs.declared.stop.Stop.{Stop}
-use Rattle.slice_bool.specs.Pieces.{spots_at, IsLeft, IsSameSpot, GoRight, HasSpot, IsOneOf, AreStops}
-use Rattle.slice_bool.specs.Stops.{spots_in, is_left, AreSorted, distinct_of, stays_at}
-
--- a spot's x over its run
-abbrev ratio : Spot → Level
-ratio s = record { n = s.x; d = pos s.run }
+use Rattle.slice_bool.specs.Pieces.{spots_at, IsLeft, IsSameAcross, GoRight, HasSpot, IsOneOf, AreStops, across}
+use Rattle.slice_bool.specs.Stops.{spots_in, is_left, AreSorted}
+use Rattle.slice_events.specs.Distinct.{distinct_by}
+use Rattle.slice_events.proofs.Repeats.{distinct_all}
 
 abbrev Runs : Spot → Type 0
 Runs s = pos 0 <ℤ pos s.run
@@ -36,9 +34,9 @@ pub stop_order : IsStrictWeakOrder comes_left
 stop_order = record {
   one_way = λ x y h. sym (omega (arith, ints));
   chain = λ x y z h k.
-      let a : IsAtMost (ratio y.spot) (ratio x.spot) = omega (arith, ints) in
-      let b : IsAtMost (ratio z.spot) (ratio y.spot) = omega (arith, ints) in
-      let c : IsAtMost (ratio z.spot) (ratio x.spot) = at_most_chain (ratio z.spot) (ratio y.spot) (ratio x.spot) (runs_of z) (runs_of y) (runs_of x) b a in
+      let a : IsAtMost (across y.spot) (across x.spot) = omega (arith, ints) in
+      let b : IsAtMost (across z.spot) (across y.spot) = omega (arith, ints) in
+      let c : IsAtMost (across z.spot) (across x.spot) = at_most_chain (across z.spot) (across y.spot) (across x.spot) (runs_of z) (runs_of y) (runs_of x) b a in
       sym (omega (arith, ints));
 }
 
@@ -53,47 +51,37 @@ pub sorted_from : (ss : List Stop) → IsSortedBy comes_left ss → AreSorted (s
 sorted_from ss h = sorted_by ss (λ k d b. let t : comes_left (get_or ss (k + 1) d) (get_or ss k d) ≡ false = h k d (omega arith) (omega arith) in rw add-one at t)
 
 -- ---- a sorted list without repeats
-left_then : (s t u : Spot) → Runs s → Runs t → Runs u → IsLeft s t → IsAtMost (ratio t) (ratio u) → IsLeft s u
-left_then s t u rs rt ru h k = lower_then_at_most (ratio s) (ratio t) (ratio u) rs rt ru h k
+left_then : (s t u : Spot) → Runs s → Runs t → Runs u → IsLeft s t → IsAtMost (across t) (across u) → IsLeft s u
+left_then s t u rs rt ru h k = lower_then_at_most (across s) (across t) (across u) rs rt ru h k
 
-first_left : (s t : Spot) (ss : List Spot) → IsLeft s t → AllByRecursion (λ (s : Spot). pos 0 <ℤ pos s.run) (s ∷ (t ∷ ss)) → AreSorted (t ∷ ss) → GoRight (distinct_of (t ∷ ss)) → GoRight (s ∷ distinct_of (t ∷ ss))
+first_left : (s t : Spot) (ss : List Spot) → IsLeft s t → AllByRecursion (λ (s : Spot). pos 0 <ℤ pos s.run) (s ∷ (t ∷ ss)) → AreSorted (t ∷ ss) → GoRight (distinct_by is_left (t ∷ ss)) → GoRight (s ∷ distinct_by is_left (t ∷ ss))
 first_left s t [] o d c r = (o, tt)
 first_left s t (x ∷ ss) o d c r = by_test (is_left t x) r (λ r'. first_left s x ss (left_then s t x d.0 d.1.0 d.1.1.0 o c.0) (d.0, d.1.1) c.1 r')
   where
-    by_test : (b : Bool) → GoRight (if b then t ∷ distinct_of (x ∷ ss) else distinct_of (x ∷ ss)) → (GoRight (distinct_of (x ∷ ss)) → GoRight (s ∷ distinct_of (x ∷ ss)))
-        → GoRight (s ∷ (if b then t ∷ distinct_of (x ∷ ss) else distinct_of (x ∷ ss)))
+    by_test : (b : Bool) → GoRight (if b then t ∷ distinct_by is_left (x ∷ ss) else distinct_by is_left (x ∷ ss)) → (GoRight (distinct_by is_left (x ∷ ss)) → GoRight (s ∷ distinct_by is_left (x ∷ ss)))
+        → GoRight (s ∷ (if b then t ∷ distinct_by is_left (x ∷ ss) else distinct_by is_left (x ∷ ss)))
     by_test true r f = (o, r)
     by_test false r f = f r
 
-go_right : (ss : List Spot) → AllByRecursion (λ (s : Spot). pos 0 <ℤ pos s.run) ss → AreSorted ss → GoRight (distinct_of ss)
+go_right : (ss : List Spot) → AllByRecursion (λ (s : Spot). pos 0 <ℤ pos s.run) ss → AreSorted ss → GoRight (distinct_by is_left ss)
 go_right [] d c = tt
 go_right (s ∷ []) d c = tt
 go_right (s ∷ (t ∷ ss)) d c = by_test (is_left s t) refl (go_right (t ∷ ss) d.1 c.1)
   where
-    by_test : (b : Bool) → is_left s t ≡ b → GoRight (distinct_of (t ∷ ss)) → GoRight (if b then s ∷ distinct_of (t ∷ ss) else distinct_of (t ∷ ss))
+    by_test : (b : Bool) → is_left s t ≡ b → GoRight (distinct_by is_left (t ∷ ss)) → GoRight (if b then s ∷ distinct_by is_left (t ∷ ss) else distinct_by is_left (t ∷ ss))
     by_test true e r = first_left s t ss (omega (arith, ints)) d c.1 r
     by_test false e r = r
 
--- what holds of each still does
-still : (P : Spot → Type 0) (ss : List Spot) → AllByRecursion P ss → AllByRecursion P (distinct_of ss)
-still P [] h = tt
-still P (s ∷ []) h = h
-still P (s ∷ (t ∷ ss)) h = by_test (is_left s t) (still P (t ∷ ss) h.1)
-  where
-    by_test : (b : Bool) → AllByRecursion P (distinct_of (t ∷ ss)) → AllByRecursion P (if b then s ∷ distinct_of (t ∷ ss) else distinct_of (t ∷ ss))
-    by_test true r = (h.0, r)
-    by_test false r = r
-
-same_then : (ts : List Spot) (s t : Spot) → Runs s → Runs t → AllByRecursion (λ (s : Spot). pos 0 <ℤ pos s.run) ts → IsSameSpot s t → HasSpot ts s → HasSpot ts t
+same_then : (ts : List Spot) (s t : Spot) → Runs s → Runs t → AllByRecursion (λ (s : Spot). pos 0 <ℤ pos s.run) ts → IsSameAcross s t → HasSpot ts s → HasSpot ts t
 same_then [] s t ds dt d e r = absurd r
 same_then (u ∷ ts) s t ds dt d e (inl q) =
-    let a : IsAtMost (ratio u) (ratio t) = at_most_chain (ratio u) (ratio s) (ratio t) d.0 ds dt (omega (arith, ints)) (omega (arith, ints)) in
-    let b : IsAtMost (ratio t) (ratio u) = at_most_chain (ratio t) (ratio s) (ratio u) dt ds d.0 (omega (arith, ints)) (omega (arith, ints)) in
+    let a : IsAtMost (across u) (across t) = at_most_chain (across u) (across s) (across t) d.0 ds dt (omega (arith, ints)) (omega (arith, ints)) in
+    let b : IsAtMost (across t) (across u) = at_most_chain (across t) (across s) (across u) dt ds d.0 (omega (arith, ints)) (omega (arith, ints)) in
     inl (omega (arith, ints))
 same_then (u ∷ ts) s t ds dt d e (inr r) = inr (same_then ts s t ds dt d.1 e r)
 
 -- each place is still there
-all_there : (ss : List Spot) → AllByRecursion (λ (s : Spot). pos 0 <ℤ pos s.run) ss → AreSorted ss → AllByRecursion (HasSpot (distinct_of ss)) ss
+all_there : (ss : List Spot) → AllByRecursion (λ (s : Spot). pos 0 <ℤ pos s.run) ss → AreSorted ss → AllByRecursion (HasSpot (distinct_by is_left ss)) ss
 all_there [] d c = tt
 all_there (s ∷ []) d c = (inl refl, tt)
 all_there (s ∷ (t ∷ ss)) d c = by_test (is_left s t) refl (all_there (t ∷ ss) d.1 c.1)
@@ -102,10 +90,10 @@ all_there (s ∷ (t ∷ ss)) d c = by_test (is_left s t) refl (all_there (t ∷ 
     later [] ts h = tt
     later (x ∷ xs) ts h = (inr h.0, later xs ts h.1)
 
-    by_test : (b : Bool) → is_left s t ≡ b → AllByRecursion (HasSpot (distinct_of (t ∷ ss))) (t ∷ ss)
-        → AllByRecursion (HasSpot (if b then s ∷ distinct_of (t ∷ ss) else distinct_of (t ∷ ss))) (s ∷ (t ∷ ss))
-    by_test true e r = (inl refl, later (t ∷ ss) (distinct_of (t ∷ ss)) r)
-    by_test false e r = let c0 = c.0 in (same_then (distinct_of (t ∷ ss)) t s d.1.0 d.0 (still (λ (s : Spot). pos 0 <ℤ pos s.run) (t ∷ ss) d.1) (omega (arith, ints)) r.0, r)
+    by_test : (b : Bool) → is_left s t ≡ b → AllByRecursion (HasSpot (distinct_by is_left (t ∷ ss))) (t ∷ ss)
+        → AllByRecursion (HasSpot (if b then s ∷ distinct_by is_left (t ∷ ss) else distinct_by is_left (t ∷ ss))) (s ∷ (t ∷ ss))
+    by_test true e r = (inl refl, later (t ∷ ss) (distinct_by is_left (t ∷ ss)) r)
+    by_test false e r = let c0 = c.0 in (same_then (distinct_by is_left (t ∷ ss)) t s d.1.0 d.0 (distinct_all is_left (λ (s : Spot). pos 0 <ℤ pos s.run) (t ∷ ss) d.1) (omega (arith, ints)) r.0, r)
 
 -- ---- which spots a list has doesn't depend on its order
 one_at : (ts : List Spot) (k : ℕ) (d : Spot) → k < length ts → IsOneOf ts (get_or ts k d)
@@ -120,47 +108,20 @@ all_run : (ss : List Stop) → AllByRecursion (λ (s : Spot). pos 0 <ℤ pos s.r
 all_run [] = tt
 all_run (s ∷ ss) = (runs_of s, all_run ss)
 
-pub sorted_stops : (edges : List LeafEdge) (at : Level) (all sorted : List Stop) → spots_in all ≡ spots_at edges at → IsPermutation all sorted → AreSorted (spots_in sorted) → AreStops edges at (distinct_of (spots_in sorted))
+pub sorted_stops : (edges : List LeafEdge) (at : Level) (all sorted : List Stop) → spots_in all ≡ spots_at edges at → IsPermutation all sorted → AreSorted (spots_in sorted) → AreStops edges at (distinct_by is_left (spots_in sorted))
 sorted_stops edges at all sorted e p c =
     let q : IsPermutation (spots_in all) (spots_in sorted) = IsPermutation-map (λ (s : Stop). s.spot) all sorted p in
     let P : Spot → Type 0 = IsOneOf (spots_in all) in
-    let H : Spot → Type 0 = HasSpot (distinct_of (spots_in sorted)) in
-    let sound : AllByRecursion P (distinct_of (spots_in sorted)) = still P (spots_in sorted) (carry P (spots_in all) (spots_in sorted) q (λ k d l. one_at (spots_in all) k d l)) in
+    let H : Spot → Type 0 = HasSpot (distinct_by is_left (spots_in sorted)) in
+    let sound : AllByRecursion P (distinct_by is_left (spots_in sorted)) = distinct_all is_left P (spots_in sorted) (carry P (spots_in all) (spots_in sorted) q (λ k d l. one_at (spots_in all) k d l)) in
     let complete : AllByRecursion H (spots_in all) = carry H (spots_in sorted) (spots_in all) (IsPermutation-sym (spots_in all) (spots_in sorted) q) (All-from_recursion H (spots_in sorted) (all_there (spots_in sorted) (all_run sorted) c)) in
     record {
       rightwards = go_right (spots_in sorted) (all_run sorted) c;
-      sound = subst (λ (ts : List Spot). AllByRecursion (IsOneOf ts) (distinct_of (spots_in sorted))) e sound;
+      sound = subst (λ (ts : List Spot). AllByRecursion (IsOneOf ts) (distinct_by is_left (spots_in sorted))) e sound;
       complete = subst (AllByRecursion H) e complete;
     }
 
 -- ---- the loops' steps
-pub stays_last : (ss : List Stop) (i : ℕ) → i + 1 ≡ length ss → stays_at (spots_in ss) i ≡ true
-stays_last [] i h = absurd (omega arith)
-stays_last (s ∷ []) i h = refl
-stays_last (s ∷ (t ∷ ss)) zero h = absurd (omega arith)
-stays_last (s ∷ (t ∷ ss)) (suc i) h = stays_last (t ∷ ss) i (omega arith)
-
-pub stays_next : (ss : List Stop) (i : ℕ) (d e : Stop) → suc i < length ss → stays_at (spots_in ss) i ≡ is_left (get_or ss i d).spot (get_or ss (suc i) e).spot
-stays_next [] i d e h = absurd (omega arith)
-stays_next (x ∷ []) i d e h = absurd (omega arith)
-stays_next (x ∷ (y ∷ ss)) zero d e h = refl
-stays_next (x ∷ (y ∷ ss)) (suc i) d e h = stays_next (y ∷ ss) i d e (omega arith)
-
-distinct_more : (ss : List Stop) (i : ℕ) (d : Stop) → i < length ss
-    → distinct_of (drop i (spots_in ss)) ≡ (if stays_at (spots_in ss) i then (get_or ss i d).spot ∷ distinct_of (drop (suc i) (spots_in ss)) else distinct_of (drop (suc i) (spots_in ss)))
-distinct_more [] i d h = absurd (omega arith)
-distinct_more (x ∷ []) zero d h = refl
-distinct_more (x ∷ []) (suc i) d h = absurd (omega arith)
-distinct_more (x ∷ (y ∷ ss)) zero d h = refl
-distinct_more (x ∷ (y ∷ ss)) (suc i) d h = distinct_more (y ∷ ss) i d (omega arith)
-
-pub distinct_kept : (ss : List Stop) (i : ℕ) (d : Stop) → i < length ss → stays_at (spots_in ss) i ≡ true → distinct_of (drop i (spots_in ss)) ≡ (get_or ss i d).spot ∷ distinct_of (drop (i + 1) (spots_in ss))
-distinct_kept ss i d h e = distinct_more ss i d h ∙ rw (e, add-one) refl
-
-pub distinct_left : (ss : List Stop) (i : ℕ) → i < length ss → stays_at (spots_in ss) i ≡ false → distinct_of (drop i (spots_in ss)) ≡ distinct_of (drop (i + 1) (spots_in ss))
-distinct_left [] i h e = absurd (omega arith)
-distinct_left (x ∷ ss) i h e = distinct_more (x ∷ ss) i x h ∙ rw (e, add-one) refl
-
 spots-append : (ss ts : List Stop) → spots_in (ss ++ ts) ≡ spots_in ss ++ spots_in ts
 spots-append [] ts = refl
 spots-append (s ∷ ss) ts = ap (λ (us : List Spot). s.spot ∷ us) (spots-append ss ts)

@@ -1,16 +1,18 @@
 -- A shape's value beside the bundles between two neighbouring heights, by the headings of the edges to the right.
-use Rattle.std.proofs.Common.{◌≡◌, ℕ, Bool, true, false, not, List, [], ◌∷◌, ◌++◌, refl, sym, ap, ap₂, ◌∙◌}
-use mathlib.Core.Path.{fun_ext}
+use Rattle.std.proofs.Common.{◌≡◌, ℕ, Bool, true, false, not, List, [], ◌∷◌, ◌++◌, refl, sym, ap₂, ◌∙◌}
 use lib.IntN.{ℤ, pos, ◌+ℤ◌, +ℤ_idl}
 use lib.Signed.{◌<ℤ◌}
 use Rattle.std.specs.Prelude.{if◌then◌else◌}
 use Rattle.std.specs.List.{AllByRecursion, concat}
+use Rattle.scad_geom.proofs.Leaves.{held_by_numbers}
 use Rattle.scad_geom.specs.declared.level.Level.{Level}
 use Rattle.scad_geom.specs.declared.level.LeafEdge.{LeafEdge}
 use Rattle.scad_geom.specs.declared.shape.Shape.{Shape}
-use Rattle.scad_geom.specs.Around.{Point, wind_by}
-use Rattle.scad_geom.specs.Shape.{shape_holds, is_zero, is_in_by}
-use Rattle.scad_geom.specs.Heights.{AreAligned}
+use Rattle.scad_geom.specs.Point.{Point}
+use Rattle.scad_geom.proofs.Leaves.{wind_leaf}
+use Rattle.scad_geom.specs.Shape.{shape_holds, is_in_by}
+use Rattle.scad_geom.specs.Sign.{is_zero}
+use Rattle.scad_geom.specs.EdgeOrder.{AreAligned}
 use Rattle.slice_slab.specs.Bundles.{no_edge, edge_at, reaching, IsBundle, Precedes, AreRanked, AreBundles}
 use Rattle.scad_geom.proofs.Order.{before_between}
 use Rattle.scad_geom.proofs.Turns.{level_at}
@@ -85,7 +87,7 @@ module _ (es : List LeafEdge) (above right : Bool) (p : Point) (l u : Level) (a 
           ∙ ap₂ (λ (y z : ℤ). y +ℤ z) (head_counts leaf k ks false r.0 (front (IsLive es l u) (k ∷ ks) (concat bs) ls) e) i
           ∙ +ℤ_idl (sum_z (heading_for es leaf) (concat (passing es right p bs)))
 
-  wind_passing : (leaf : ℕ) (bs : List (List ℕ)) → AreBundles es l u bs → wind_by above right p leaf es ≡ sum_z (heading_for es leaf) (concat (passing es right p bs))
+  wind_passing : (leaf : ℕ) (bs : List (List ℕ)) → AreBundles es l u bs → wind_leaf above right p leaf es ≡ sum_z (heading_for es leaf) (concat (passing es right p bs))
   wind_passing leaf bs b =
       wind_reaching above right p leaf es l u a.neighbours a.divisor a.spans
       ∙ sym (sum_z-permutation (heading_beyond es right p leaf) (reaching 0 es l u) (concat bs) b.members)
@@ -97,6 +99,5 @@ value_of es shape bs = shape_holds (λ leaf. not (is_zero (sum_z (heading_for es
 
 pub is_in_passing : (es : List LeafEdge) (shape : Shape) (above right : Bool) (p : Point) (l u : Level) → Around es above right p l u → (bs : List (List ℕ)) → AreBundles es l u bs
     → is_in_by above right es shape p ≡ value_of es shape (passing es right p bs)
-unfolding is_in_by
 is_in_passing es shape above right p l u a bs b =
-    ap (λ (f : ℕ → Bool). shape_holds f shape) (fun_ext (λ leaf. ap (λ (z : ℤ). not (is_zero z)) (wind_passing es above right p l u a leaf bs b)))
+    held_by_numbers above right p es shape (λ leaf. sum_z (heading_for es leaf) (concat (passing es right p bs))) (λ leaf. wind_passing es above right p l u a leaf bs b)

@@ -8,19 +8,23 @@ use Rattle.std.proofs.lemmas.List.Elements.{All-from_recursion}
 use Rattle.scad_geom.specs.declared.level.Level.{Level}
 use Rattle.scad_geom.specs.declared.level.LeafEdge.{LeafEdge}
 use Rattle.scad_geom.specs.declared.shape.Shape.{Shape}
-use Rattle.scad_geom.specs.Around.{Point}
+use Rattle.scad_geom.specs.Point.{Point}
 use Rattle.scad_geom.specs.Shape.{is_in_by}
-use Rattle.scad_geom.specs.Heights.{IsLower, IsAtMost, AreNeighbours}
+use Rattle.scad_geom.specs.Level.{IsLower, IsAtMost}
+use Rattle.scad_geom.specs.Heights.{AreNeighbours}
 use Rattle.scad_geom.proofs.Heights.{lower_weak}
 use Rattle.scad_geom.proofs.Turns.{level_at}
 use Rattle.scad_geom.specs.Winding.{counted}
-use Rattle.scad_geom.specs.Heights.{IsSameHeight, heights}
+use Rattle.scad_geom.specs.Level.{IsSameHeight}
+use Rattle.scad_geom.specs.Heights.{heights}
 use Rattle.scad_geom.proofs.Heights.{at_most_chain, heights_positive}
 use Rattle.scad_geom.proofs.Turns.{Over, NotOver, over_up, not_over_down}
 use Rattle.slice_events.specs.Levels.{IsRising, HasHeight, AreLevels}
 use Rattle.slice_snap.specs.declared.piece.Piece.{Piece}
-use Rattle.slice_bool.specs.Pieces.{wind_pieces, slab_pieces, flat_pieces, AreLevelPieces, ArePieces}
-use Rattle.slice_bool.proofs.Slabs.{wind_pieces-append, slab_winding}
+use Rattle.slice_snap.specs.Pieces.{wind_pieces}
+use Rattle.slice_bool.specs.Pieces.{slab_pieces, flat_pieces, AreLevelPieces, ArePieces}
+use Rattle.slice_snap.proofs.Ways.{wind_pieces-append}
+use Rattle.slice_bool.proofs.Slabs.{slab_winding}
 use Rattle.slice_bool.proofs.Winding.{outside_below, outside_above, either_over, stops_still, slab_over, slab_under, two_zeros}
 
 -- ---- the heights, seen from a level

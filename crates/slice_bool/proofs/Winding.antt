@@ -1,36 +1,42 @@
 -- The pieces of a shape's border wind once round the points inside, and not round the others.
-use Rattle.std.proofs.Common.{◌≡◌, ℕ, zero, suc, ◌<◌, ◌⊎◌, inl, inr, Bool, true, false, not, List, [], ◌∷◌, ◌++◌, length, get_or, refl, sym, ap, ap₂, ◌∙◌, arith, subst}
-use mathlib.Core.Path.{fun_ext}
+use Rattle.std.proofs.Common.{◌≡◌, ℕ, zero, suc, ◌<◌, ◌⊎◌, inl, inr, Bool, true, false, List, [], ◌∷◌, length, get_or, refl, sym, ap₂, ◌∙◌, arith, subst}
 use lib.IntN.{ℤ, pos, ◌+ℤ◌, ◌*ℤ◌}
 use lib.Signed.{◌<ℤ◌, lt_z}
 use Rattle.std.specs.Prelude.{int_lt, if◌then◌else◌, ◌==◌, ◌&&◌}
 use Rattle.std.specs.List.{AllByRecursion, concat}
 use Rattle.std.proofs.lemmas.Int.{ints, by_lt_z}
+use Rattle.slice_snap.proofs.Ends.{both_lists}
+use Rattle.scad_geom.proofs.Leaves.{held_by_numbers}
 use Rattle.scad_geom.specs.declared.point.Edge.{Edge}
 use Rattle.scad_geom.specs.declared.level.Level.{Level}
 use Rattle.scad_geom.specs.declared.level.LeafEdge.{LeafEdge}
 use Rattle.scad_geom.specs.declared.shape.Shape.{Shape}
 use Rattle.scad_geom.specs.Line.{rise}
-use Rattle.scad_geom.specs.Around.{Point, wind_by}
-use Rattle.scad_geom.specs.Shape.{shape_holds, is_zero, is_in_by}
+use Rattle.scad_geom.specs.Point.{Point}
+use Rattle.scad_geom.proofs.Leaves.{wind_leaf}
+use Rattle.scad_geom.specs.Shape.{is_in_by}
 use Rattle.slice_slab.specs.Bundles.{no_edge, edge_at, AreRanked, AreBundles}
 use Rattle.scad_geom.proofs.Turns.{level_at}
-use Rattle.scad_geom.specs.Around.{whole, is_over, turn}
+use Rattle.scad_geom.specs.Point.{whole}
+use Rattle.scad_geom.specs.Winding.{is_over, turn}
 use Rattle.scad_geom.specs.Heights.{heights}
 use Rattle.scad_geom.proofs.Turns.{Over, NotOver, flat_turn, under_turn, over_turn}
 use Rattle.scad_geom.proofs.Shapes.{nothing_held}
 use Rattle.scad_geom.proofs.Order.{back, all_ends}
 use Rattle.slice_snap.specs.declared.piece.Spot.{Spot}
-use Rattle.slice_bool.specs.Pieces.{spot_on, whole_spot, point_of, wind_pieces, piece_between, bundle_piece, slab_pieces, is_flat_at, passes_at, spots_at, IsOneOf, AreStops, covers, stretch_piece, flat_pieces}
+use Rattle.slice_bool.specs.Pieces.{spot_on, whole_spot, piece_between, bundle_piece, slab_pieces, is_flat_at, passes_at, spots_at, IsOneOf, AreStops, covers, stretch_piece, flat_pieces}
+use Rattle.slice_snap.specs.Spots.{point_of}
+use Rattle.slice_snap.specs.Pieces.{wind_pieces}
 use Rattle.std.specs.Prelude.{unsigned_abs, Option, Some, None}
 use Rattle.std.specs.List.{position}
 use Rattle.slice_bool.proofs.Passing.{IsLive, live_bundles}
 use Rattle.slice_bool.proofs.Middle.{size_of, half_point}
-use Rattle.slice_bool.proofs.Slabs.{spot_over, spot_not_over, wind_pieces-append}
+use Rattle.slice_bool.proofs.Slabs.{spot_over, spot_not_over}
+use Rattle.slice_snap.proofs.Ways.{wind_pieces-append}
 
 -- ---- where no edge passes a point's height, nothing is inside
 nothing_around : (above right : Bool) (p : Point) (leaf : ℕ) (es : List LeafEdge)
-    → ((i : ℕ) → i < length es → turn above right p (whole (get_or es i no_edge).edge.a) (whole (get_or es i no_edge).edge.b) ≡ pos 0) → wind_by above right p leaf es ≡ pos 0
+    → ((i : ℕ) → i < length es → turn above right p (whole (get_or es i no_edge).edge.a) (whole (get_or es i no_edge).edge.b) ≡ pos 0) → wind_leaf above right p leaf es ≡ pos 0
 nothing_around above right p leaf [] h = refl
 nothing_around above right p leaf (e ∷ es) h =
     ap₂ (λ (y z : ℤ). y +ℤ z) (by_test (e.leaf == leaf) (h zero (omega arith))) (nothing_around above right p leaf es (λ i o. h (suc i) (omega arith)))
@@ -41,9 +47,8 @@ nothing_around above right p leaf (e ∷ es) h =
 
 outside : (es : List LeafEdge) (shape : Shape) (above right : Bool) (p : Point)
     → ((i : ℕ) → i < length es → turn above right p (whole (get_or es i no_edge).edge.a) (whole (get_or es i no_edge).edge.b) ≡ pos 0) → is_in_by above right es shape p ≡ false
-unfolding is_in_by
 outside es shape above right p h =
-    ap (λ (f : ℕ → Bool). shape_holds f shape) (fun_ext (λ leaf. ap (λ (z : ℤ). not (is_zero z)) (nothing_around above right p leaf es h))) ∙ nothing_held shape
+    held_by_numbers above right p es shape (λ leaf. pos 0) (λ leaf. nothing_around above right p leaf es h) ∙ nothing_held shape
 
 pub outside_below : (es : List LeafEdge) (shape : Shape) (above right : Bool) (p : Point) → AllByRecursion (Over above (level_at p)) (heights es) → is_in_by above right es shape p ≡ false
 outside_below es shape above right p h = outside es shape above right p (λ i o. let t = all_ends (Over above (level_at p)) es i no_edge h o in over_turn above right p (get_or es i no_edge).edge t.0 t.1)
@@ -83,10 +88,6 @@ one_of P (t ∷ ts) s h o = elim o [ inl e ↦ subst P e h.0 | inr r ↦ one_of 
 pub of_stops : (P : Spot → Type 0) (ts ss : List Spot) → AllByRecursion P ts → AllByRecursion (IsOneOf ts) ss → AllByRecursion P ss
 of_stops P ts [] h o = tt
 of_stops P ts (s ∷ ss) h o = (one_of P ts s h o.0, of_stops P ts ss h o.1)
-
-pub both_lists : {A : Type 0} (P : A → Type 0) (xs ys : List A) → AllByRecursion P xs → AllByRecursion P ys → AllByRecursion P (xs ++ ys)
-both_lists P [] ys h k = k
-both_lists P (x ∷ xs) ys h k = (h.0, both_lists P xs ys h.1 k)
 
 pub is_true_first : (a b : Bool) → (a && b) ≡ true → a ≡ true
 is_true_first true b h = refl

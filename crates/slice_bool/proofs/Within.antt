@@ -7,13 +7,15 @@ use Rattle.std.specs.List.{AllByRecursion, All, concat}
 use Rattle.std.proofs.lemmas.Int.{ints, unsigned_abs-mul}
 use Rattle.std.proofs.lemmas.Nat.{mul-le}
 use Rattle.std.proofs.lemmas.List.Elements.{recursion_from_All, All-from_recursion}
+use Rattle.slice_bool.proofs.Gaps.{at_least_of}
+use Rattle.slice_snap.proofs.Ends.{both_lists, joined, from_ends}
 use Rattle.scad_geom.specs.declared.point.Edge.{Edge}
 use Rattle.scad_geom.specs.declared.level.Level.{Level}
 use Rattle.scad_geom.specs.declared.level.LeafEdge.{LeafEdge}
 use Rattle.scad_geom.specs.declared.shape.Shape.{Shape}
-use Rattle.scad_geom.specs.Point.{IsEdgeWithin}
+use Rattle.scad_geom.specs.Within.{IsEdgeWithin}
 use Rattle.scad_geom.specs.Line.{low, high, rise, run, offset, x_at}
-use Rattle.scad_geom.specs.Heights.{level_of, IsLower, IsLevelWithin}
+use Rattle.scad_geom.specs.Level.{level_of, IsLower, IsLevelWithin}
 use Rattle.scad_geom.proofs.Ring.{ring, ◌⊕◌, ◌⊖◌, ◌⊗◌, v0, v1, v2, v3, v4, v5}
 use Rattle.scad_geom.proofs.Bounds.{low_within, high_within}
 use Rattle.scad_geom.proofs.Heights.{Reaches, lower_then_at_most, at_most_then_lower}
@@ -23,10 +25,13 @@ use Rattle.slice_slab.proofs.Live.{IsLive, live_bundles, reaches_is}
 use Rattle.slice_snap.specs.declared.piece.Spot.{Spot}
 use Rattle.slice_snap.specs.declared.piece.Piece.{Piece}
 use Rattle.slice_bool.specs.Pieces.{spot_on, whole_spot, slab_pieces, is_flat_at, passes_at, spots_at, AreStops, flat_pieces, AreLevelPieces, ArePieces}
-use Rattle.slice_bool.specs.Ends.{ends_of}
-use Rattle.slice_bool.specs.Within.{IsSpotWithin, IsPieceWithin}
-use Rattle.slice_bool.proofs.Winding.{both_lists, of_stops}
-use Rattle.slice_bool.proofs.Ends.{joined, flat_ends, slab_ends, AtBoth, each_of}
+use Rattle.slice_snap.specs.Pieces.{ends_of}
+use Rattle.slice_snap.specs.Spots.{IsSpotWithin}
+use Rattle.slice_snap.specs.Pieces.{IsPieceWithin}
+use Rattle.slice_snap.proofs.Ends.{both_lists}
+use Rattle.slice_bool.proofs.Winding.{of_stops}
+use Rattle.slice_snap.proofs.Ends.{joined}
+use Rattle.slice_bool.proofs.Ends.{flat_ends, slab_ends, AtBoth, each_of}
 
 -- ---- where an edge passes a height: between its ends
 by_weights : (x y g h n d : ℤ) → (g -ℤ x) *ℤ n +ℤ ((h -ℤ y) *ℤ x -ℤ (g -ℤ x) *ℤ y) *ℤ d ≡ x *ℤ (h *ℤ d -ℤ n) +ℤ g *ℤ (n -ℤ y *ℤ d)
@@ -52,9 +57,6 @@ both_weighed limit x g v w hx hg pv pw =
     let p = weighed limit x v hx in
     let q = weighed limit g w hg in
     rw (sum_abs v w pv pw) (omega (arith, s, p, q))
-
-at_least_of : (a b : ℤ) → a ≤ℤ b → pos 0 ≤ℤ (b -ℤ a)
-at_least_of a b h = omega (arith, ints)
 
 x_within : (limit : ℕ) (e : Edge) (l : Level) → IsEdgeWithin limit e → ((low e).y *ℤ l.d) ≤ℤ l.n → l.n ≤ℤ ((high e).y *ℤ l.d)
     → unsigned_abs (x_at e l.n l.d) ≤ limit * (unsigned_abs (rise e) * unsigned_abs l.d)
@@ -144,13 +146,9 @@ module _ (limit : ℕ) (lp : 0 < limit) where
       (slab_ends (IsSpotWithin limit) es shape l u h.1 (bundles_within es l u (concat h.1) w v.0 v.1.0 r.0 (live_bundles es l u h.1 h.4))))
       (ends_within es shape (u ∷ ls) h.2 w v.1 r.1 h.5))
 
-  from_ends : (qs : List Piece) → AllByRecursion (IsSpotWithin limit) (ends_of qs) → AllByRecursion (IsPieceWithin limit) qs
-  from_ends [] h = tt
-  from_ends (q ∷ qs) h = (record { from = h.0; to = h.1.0 }, from_ends qs h.1.1)
-
   pub spots_are_within : (es : List LeafEdge) → All (λ e. IsEdgeWithin limit e.edge) es → (shape : Shape) (pieces : List Piece)
       → (h : ArePieces es shape pieces) → All (IsLevelWithin limit) h.levels → All (IsPieceWithin limit) pieces
   spots_are_within es w shape pieces h v =
       All-from_recursion (IsPieceWithin limit) pieces
-      (from_ends pieces (ends_within es shape h.levels pieces (recursion_from_All (λ e. IsEdgeWithin limit e.edge) es w) (recursion_from_All (IsLevelWithin limit) h.levels v)
+      (from_ends limit pieces (ends_within es shape h.levels pieces (recursion_from_All (λ e. IsEdgeWithin limit e.edge) es w) (recursion_from_All (IsLevelWithin limit) h.levels v)
       h.are_levels.rising h.are_pieces))

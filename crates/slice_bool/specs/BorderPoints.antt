@@ -1,11 +1,13 @@
 -- Border points, and the points inside a piece.
-use Rattle.std.specs.Prelude.{Bool, true, false, List, pos, ◌≡◌, ◌⊎◌, ◌*ℤ◌, ◌<ℤ◌, All}
+use Rattle.std.specs.Prelude.{Bool, true, false, List, pos, ◌≡◌, ◌<ℤ◌, All}
+use Rattle.slice_snap.specs.Inside.{IsInside}
 use Rattle.scad_geom.specs.declared.level.LeafEdge.{LeafEdge}
 use Rattle.scad_geom.specs.declared.shape.Shape.{Shape}
-use Rattle.scad_geom.specs.Around.{Point, side_by}
+use Rattle.scad_geom.specs.Point.{Point}
 use Rattle.scad_geom.specs.Shape.{is_in_by}
 use Rattle.slice_snap.specs.declared.piece.Piece.{Piece}
-use Rattle.slice_bool.specs.Pieces.{point_of, ArePieces}
+use Rattle.slice_snap.specs.Spots.{point_of}
+use Rattle.slice_bool.specs.Pieces.{ArePieces}
 
 -- a point hard by which the shape holds on one of the four sides and not on another
 pub record IsBorderPoint (edges : List LeafEdge) (shape : Shape) (p : Point) : Type 0 where
@@ -15,25 +17,6 @@ pub record IsBorderPoint (edges : List LeafEdge) (shape : Shape) (p : Point) : T
   pub missed_above : Bool
   pub missed_right : Bool
   pub missed : is_in_by missed_above missed_right edges shape p ≡ false
-
--- ---- one point lies below another, to its left, at its height
-abbrev pub IsBelow : Point → Point → Type 0
-IsBelow p q = (p.y *ℤ q.d) <ℤ (q.y *ℤ p.d)
-
-abbrev pub IsLeftOf : Point → Point → Type 0
-IsLeftOf p q = (p.x *ℤ q.d) <ℤ (q.x *ℤ p.d)
-
-abbrev pub AreLevel : Point → Point → Type 0
-AreLevel p q = p.y *ℤ q.d ≡ q.y *ℤ p.d
-
--- by one of these orders, p strictly between a and b
-abbrev pub IsBetween : (Point → Point → Type 0) → Point → Point → Point → Type 0
-IsBetween R a p b = (R a p × R p b) ⊎ (R b p × R p a)
-
--- a point on the straight line from a to b, strictly between them
-pub record IsInside (a b p : Point) : Type 0 where
-  pub on_line : side_by p a b ≡ pos 0
-  pub between : IsBetween IsBelow a p b ⊎ (AreLevel a p × AreLevel p b × IsBetween IsLeftOf a p b)
 
 -- ---- the law
 -- Each point of a piece but its ends is a border point.

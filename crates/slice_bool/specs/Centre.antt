@@ -1,22 +1,20 @@
 -- The centres of cells: the plain form of what a shape holds there.
-use Rattle.std.specs.Prelude.{Bool, not, List, ℕ, ℤ, pos, ◌≡◌, true}
-use Rattle.scad_geom.specs.declared.half.Half.TheVariants.{Cell}
+use Rattle.std.specs.Prelude.{Bool, not, List, ℕ, ℤ, ◌≡◌, true}
+use Rattle.scad_geom.specs.Segment.{segments}
+use Rattle.scad_geom.specs.Half.{centre}
 use Rattle.scad_geom.specs.declared.level.LeafEdge.{LeafEdge}
 use Rattle.scad_geom.specs.declared.shape.Shape.{Shape}
-use Rattle.scad_geom.specs.Winding.{wind, doubled, counted}
-use Rattle.scad_geom.specs.Around.{Point}
-use Rattle.scad_geom.specs.Shape.{shape_holds, is_zero, is_in}
+use Rattle.scad_geom.specs.Winding.{wind, counted}
+use Rattle.scad_geom.specs.Shape.{shape_holds, is_in}
+use Rattle.scad_geom.specs.Sign.{is_zero}
 use Rattle.slice_snap.specs.declared.piece.Piece.{Piece}
-use Rattle.slice_bool.specs.Pieces.{wind_pieces, ArePieces}
-use Rattle.slice_bool.specs.Balance.{edges_of}
-
--- the centre (i + 1/2, j + 1/2) of the cell at (i, j)
-abbrev pub centre : ℤ → ℤ → Point
-centre i j = record { x = doubled Cell i; y = doubled Cell j; d = pos 2 }
+use Rattle.slice_snap.specs.Pieces.{wind_pieces}
+use Rattle.slice_bool.specs.Pieces.{ArePieces}
+use Rattle.scad_geom.specs.Leaves.{edges_of}
 
 -- whether a leaf holds the centre of the cell at (i, j): the winding number of its edges round it isn't 0
 abbrev pub leaf_holds : List LeafEdge → ℤ → ℤ → ℕ → Bool
-leaf_holds edges i j leaf = not (is_zero (wind (edges_of leaf edges) (doubled Cell i) (doubled Cell j)))
+leaf_holds edges i j leaf = not (is_zero (wind (centre i j) (segments (edges_of leaf edges))))
 
 -- whether a shape over the leaves of an edge list holds that centre
 abbrev pub holds_centre : List LeafEdge → Shape → ℤ → ℤ → Bool

@@ -6,8 +6,9 @@ use Rattle.scad_geom.specs.declared.level.LeafEdge.{LeafEdge}
 use Rattle.scad_geom.specs.declared.shape.Shape.{Shape}
 use Rattle.scad_geom.specs.Shape.{is_in_by}
 use Rattle.slice_snap.specs.declared.piece.Spot.{Spot}
-use Rattle.slice_bool.specs.Pieces.{point_of, AreStops, covers}
-use Rattle.slice_bool.specs.Balance.{AreLeavesBalanced}
+use Rattle.slice_snap.specs.Spots.{point_of}
+use Rattle.slice_bool.specs.Pieces.{AreStops, covers}
+use Rattle.scad_geom.specs.Leaves.{AreLeavesBalanced}
 
 -- on each stretch between neighbouring stops that no flat edge covers, the values just above and just below are the same
 abbrev pub AreChangesCovered : List LeafEdge → Shape → List Spot → Type 0

@@ -1,5 +1,6 @@
 -- When a border is refused.
 use Rattle.std.specs.Prelude.{ℕ, ◌≡◌, ◌<◌, ◌≤◌}
+use Rattle.slice_events.specs.Limits.{crossing_limit}
 use Rattle.slice_bool.specs.declared.fault.BoolFault.{BoolFault}
 use Rattle.slice_bool.specs.declared.fault.BoolFault.TheVariants.{Memory, Edges, Crossings}
 
@@ -8,4 +9,4 @@ use Rattle.slice_bool.specs.declared.fault.BoolFault.TheVariants.{Memory, Edges,
 abbrev pub IsRefusal : ℕ → ℕ → ℕ → BoolFault → Type 0
 IsRefusal count limit crossings Memory = count ≤ limit
 IsRefusal count limit crossings (Edges c) = (c ≡ count) × (limit < count)
-IsRefusal count limit crossings (Crossings c) = (count ≤ limit) × (c ≡ crossings) × (2000000 < crossings)
+IsRefusal count limit crossings (Crossings c) = (count ≤ limit) × (c ≡ crossings) × (crossing_limit < crossings)

@@ -1,8 +1,9 @@
 -- What of an edge list matters on a level: the edges that pass it, and the numbers of the flat ones that lie on it.
 use Rattle.std.specs.Prelude.{if◌then◌else◌, List, [], ◌∷◌, ℕ, ◌+◌, ◌<◌, ◌^◌, ◌≡◌, length, slice_index_or, Option, None, Some, All}
+use Rattle.scad_geom.specs.Limits.{coordinate_limit}
 use Rattle.scad_geom.specs.declared.level.Level.{Level}
 use Rattle.scad_geom.specs.declared.level.LeafEdge.{LeafEdge}
-use Rattle.scad_geom.specs.Point.{IsEdgeWithin}
+use Rattle.scad_geom.specs.Within.{IsEdgeWithin}
 use Rattle.slice_slab.specs.Bundles.{no_edge}
 use Rattle.slice_snap.specs.declared.piece.Spot.{Spot}
 use Rattle.slice_bool.specs.declared.near.Near.{Near}
@@ -26,7 +27,7 @@ first_cover edges s t (k ∷ ks) = if covers s t (slice_index_or edges k no_edge
 -- what was found is that of the level
 pub record IsNear (edges : List LeafEdge) (at : Level) (near : Near) : Type 0 where
   pub passing : near.passing.items ≡ passing_at edges at
-  pub within : All (λ e. IsEdgeWithin 1100000 e.edge) near.passing.items
+  pub within : All (λ e. IsEdgeWithin coordinate_limit e.edge) near.passing.items
   pub few : length near.passing.items < 2 ^ 32
   pub flats : near.flats.items ≡ flats_from 0 edges at
   pub there : All (λ k. k < length edges) near.flats.items

@@ -2,14 +2,18 @@
 use Rattle.std.specs.Prelude.{Bool, true, false, ◌&&◌, ◌||◌, if◌then◌else◌, List, [], ◌∷◌, ◌++◌, ℕ, Option, None, Some, ◌≡◌, ◌⊎◌, ⊤, ℤ, pos, ◌+ℤ◌, ◌*ℤ◌, int_lt, int_le, ◌<ℤ◌, unsigned_abs}
 use Rattle.std.specs.List.{AllByRecursion, position}
 use Rattle.std.specs.Ordering.{int_eq}
+use Rattle.slice_snap.specs.Spots.{point_of}
+use Rattle.slice_snap.specs.Pieces.{wind_pieces}
 use Rattle.scad_geom.specs.declared.point.Edge.{Edge}
 use Rattle.scad_geom.specs.declared.level.Level.{Level}
 use Rattle.scad_geom.specs.declared.level.LeafEdge.{LeafEdge}
 use Rattle.scad_geom.specs.declared.shape.Shape.{Shape}
 use Rattle.scad_geom.specs.Line.{low, high, rise, x_at}
 use Rattle.scad_geom.specs.Winding.{counted}
-use Rattle.scad_geom.specs.Around.{Point, turn}
-use Rattle.scad_geom.specs.Shape.{is_in_by, is_zero}
+use Rattle.scad_geom.specs.Point.{Point}
+use Rattle.scad_geom.specs.Level.{IsLower, IsSameHeight}
+use Rattle.scad_geom.specs.Shape.{is_in_by}
+use Rattle.scad_geom.specs.Sign.{is_zero}
 use Rattle.slice_events.specs.Levels.{AreLevels}
 use Rattle.slice_slab.specs.Bundles.{edge_at, AreBundles}
 use Rattle.slice_snap.specs.declared.piece.Spot.{Spot}
@@ -22,15 +26,6 @@ spot_on e at = record { at = at; x = x_at e at.n at.d; run = unsigned_abs (rise 
 -- where a whole x lies at a height
 abbrev pub whole_spot : ℤ → Level → Spot
 whole_spot x at = record { at = at; x = x *ℤ at.d; run = 1 }
-
--- the point that a spot stands for
-abbrev pub point_of : Spot → Point
-point_of s = record { x = s.x; y = s.at.n *ℤ pos s.run; d = s.at.d *ℤ pos s.run }
-
--- the winding number of pieces hard by a point
-abbrev pub wind_pieces : Bool → Bool → Point → List Piece → ℤ
-wind_pieces above right p [] = pos 0
-wind_pieces above right p (q ∷ qs) = turn above right p (point_of q.from) (point_of q.to) +ℤ wind_pieces above right p qs
 
 -- the piece between two spots, where the values on its left (on the way from s to t) and on its right differ: directed
 -- with the inside on its left
@@ -66,17 +61,25 @@ is_flat_at e at = is_zero (rise e) && int_eq (e.a.y *ℤ at.d) at.n
 abbrev pub passes_at : Edge → Level → Bool
 passes_at e at = int_lt (pos 0) (rise e) && (int_le ((low e).y *ℤ at.d) at.n && int_le at.n ((high e).y *ℤ at.d))
 
--- where the edges meet a height, a flat edge at both its ends
+-- where an edge meets a height, a flat edge at both its ends
+abbrev pub edge_spots : Edge → Level → List Spot
+edge_spots e at = if is_flat_at e at then whole_spot e.a.x at ∷ (whole_spot e.b.x at ∷ []) else if passes_at e at then spot_on e at ∷ [] else []
+
+-- where the edges of a list do
 abbrev pub spots_at : List LeafEdge → Level → List Spot
 spots_at [] at = []
-spots_at (e ∷ es) at = (if is_flat_at e.edge at then whole_spot e.edge.a.x at ∷ (whole_spot e.edge.b.x at ∷ []) else if passes_at e.edge at then spot_on e.edge at ∷ [] else []) ++ spots_at es at
+spots_at (e ∷ es) at = edge_spots e.edge at ++ spots_at es at
+
+-- the x of a spot as a number over its run: by it spots of one height go from left to right
+abbrev pub across : Spot → Level
+across s = record { n = s.x; d = pos s.run }
 
 -- of two spots at one height: the first lies to the left; they are the same point
 abbrev pub IsLeft : Spot → Spot → Type 0
-IsLeft s t = (s.x *ℤ pos t.run) <ℤ (t.x *ℤ pos s.run)
+IsLeft s t = IsLower (across s) (across t)
 
-abbrev pub IsSameSpot : Spot → Spot → Type 0
-IsSameSpot s t = s.x *ℤ pos t.run ≡ t.x *ℤ pos s.run
+abbrev pub IsSameAcross : Spot → Spot → Type 0
+IsSameAcross s t = IsSameHeight (across s) (across t)
 
 abbrev pub GoRight : List Spot → Type 0
 GoRight [] = ⊤
@@ -85,7 +88,7 @@ GoRight (s ∷ (t ∷ ss)) = IsLeft s t × GoRight (t ∷ ss)
 
 abbrev pub HasSpot : List Spot → Spot → Type 0
 HasSpot [] s = ⊥
-HasSpot (t ∷ ts) s = IsSameSpot t s ⊎ HasSpot ts s
+HasSpot (t ∷ ts) s = IsSameAcross t s ⊎ HasSpot ts s
 
 -- one of the list's spots
 abbrev pub IsOneOf : List Spot → Spot → Type 0

@@ -1,10 +1,10 @@
 -- Winding numbers of leaves, and how a bundle's edges change them.
 use Rattle.std.specs.Prelude.{Bool, not, List, [], ◌∷◌, ℕ, ◌==◌, ◌≡◌, ◌≤◌, ℤ, pos, negsuc, ◌+ℤ◌, int_lt, if◌then◌else◌, slice_index_or, unsigned_abs}
-use Rattle.std.specs.List.{concat}
 use Rattle.scad_geom.specs.declared.point.Edge.{Edge}
 use Rattle.scad_geom.specs.declared.level.LeafEdge.{LeafEdge}
 use Rattle.scad_geom.specs.declared.shape.Shape.{Shape}
-use Rattle.scad_geom.specs.Shape.{shape_holds, is_zero}
+use Rattle.scad_geom.specs.Shape.{shape_holds}
+use Rattle.scad_geom.specs.Sign.{is_zero}
 use Rattle.slice_slab.specs.Bundles.{no_edge}
 
 -- numbers by leaf; past the list's end they are 0
@@ -27,7 +27,3 @@ heading_of e = if int_lt e.b.y e.a.y then negsuc 0 else pos 1
 abbrev pub headings : List LeafEdge → ℕ → List ℕ → ℤ
 headings edges leaf [] = pos 0
 headings edges leaf (k ∷ ks) = (if (slice_index_or edges k no_edge).leaf == leaf then heading_of (slice_index_or edges k no_edge).edge else pos 0) +ℤ headings edges leaf ks
-
--- whether a shape holds what lies to the left of these bundles and of no others
-abbrev pub left_value : List LeafEdge → Shape → List (List ℕ) → Bool
-left_value edges shape bundles = is_held (λ leaf. headings edges leaf (concat bundles)) shape

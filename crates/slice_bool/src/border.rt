@@ -1,21 +1,24 @@
 //! All pieces of a border.
 ghost use Rattle.std.specs.Prelude.{◌≡◌, ◌<◌, ◌≤◌, ◌+◌, ◌^◌, length, drop, OnOk, IfOk, IfErr, All};
-ghost use Rattle.scad_geom.specs.Point.{IsEdgeWithin};
-ghost use Rattle.scad_geom.specs.Heights.{IsLevelWithin};
+ghost use Rattle.scad_geom.specs.Limits.{coordinate_limit};
+ghost use Rattle.scad_geom.specs.Within.{IsEdgeWithin};
+ghost use Rattle.scad_geom.specs.Level.{IsLevelWithin};
+ghost use Rattle.slice_events.specs.Limits.{crossing_limit};
 ghost use Rattle.slice_events.specs.Levels.{crossings, AreLevels};
 ghost use Rattle.slice_bool.specs.Pieces.{AreLevelPieces, ArePieces};
-ghost use Rattle.slice_bool.specs.Ends.{HaveOneLevel};
-ghost use Rattle.slice_bool.specs.Within.{IsPieceWithin};
-ghost use Rattle.slice_bool.specs.Balance.{AreLeavesBalanced, ArePiecesBalanced};
+ghost use Rattle.scad_geom.specs.Leaves.{AreLeavesBalanced};
+ghost use Rattle.slice_slab.specs.Bundles.{edge_at};
+ghost use Rattle.slice_snap.specs.Pieces.{HaveOneLevel, IsPieceWithin, ArePiecesBalanced};
+ghost use Rattle.slice_snap.specs.Naming.{AreNamed};
 ghost use Rattle.slice_bool.specs.Centre.{AreCentresWound};
 ghost use Rattle.slice_bool.specs.Fault.{IsRefusal};
-ghost use Rattle.slice_bool.specs.Made.{AddsLevel};
+ghost use Rattle.slice_bool.specs.Parts.{AreUpToNext, Extends};
 
 use crate::fault::BoolFault;
 use crate::flat::push_flat_pieces;
 use crate::slab::push_slab_pieces;
-use scad_geom::{COORDINATE_LIMIT, LeafEdge, Level, Shape};
-use slice_events::{CROSSING_LIMIT, EventFault, levels};
+use scad_geom::{LeafEdge, Level, Shape};
+use slice_events::{EventFault, levels};
 use slice_snap::Piece;
 use std::alloc::{AllocError, Global};
 
@@ -23,22 +26,24 @@ use std::alloc::{AllocError, Global};
 /// level upwards, the flat pieces on a level before those between it and the next, each group from left to right.
 ///
 /// They wind once round each cell centre that the shape holds and round no other, and where the edges of each leaf are
-/// closed, as many start at each point as end there. Their ends are within the limit of the coordinates. It is refused
-/// exactly where there are more edges than the limit, and then where more pairs cross than `CROSSING_LIMIT`.
+/// closed, as many start at each point as end there. Their ends are within the limit of the coordinates. Each lies along the
+/// edge of its name, and no two of one name overlap. It is refused exactly where there are more edges than the limit, and
+/// then where more than 2,000,000 pairs cross.
 pub fn pieces(
     alloc: Global,
     edges: &[LeafEdge],
     shape: &Shape,
     limit: u32,
 ) -> Result<Vec<Piece>, BoolFault>
-    requires { All (λ e. IsEdgeWithin COORDINATE_LIMIT e.edge) edges.now }
+    requires { All (λ e. IsEdgeWithin coordinate_limit e.edge) edges.now }
     ensures pieces { IfOk result (λ v. ArePieces edges.now shape.now v.items) }
     ensures levels { IfOk result (λ v. HaveOneLevel v.items) }
-    ensures within { IfOk result (λ v. All (IsPieceWithin COORDINATE_LIMIT) v.items) }
+    ensures within { IfOk result (λ v. All (IsPieceWithin coordinate_limit) v.items) }
     ensures balanced { IfOk result (λ v. AreLeavesBalanced edges.now → ArePiecesBalanced v.items) }
     ensures centres { IfOk result (λ v. AreCentresWound edges.now shape.now v.items) }
+    ensures named { IfOk result (λ v. AreNamed (length edges.now) (edge_at edges.now) v.items) }
     ensures few { IfOk result (λ v. length edges.now ≤ limit) }
-    ensures accepted { IfOk result (λ v. crossings edges.now ≤ CROSSING_LIMIT) }
+    ensures accepted { IfOk result (λ v. crossings edges.now ≤ crossing_limit) }
     ensures refused { IfErr result (IsRefusal (length edges.now) limit (crossings edges.now)) }
 {
     let count = edges.len() as u64;
@@ -61,9 +66,9 @@ fn all_pieces(
     shape: &Shape,
     levels: &[Level],
 ) -> Result<Vec<Piece>, AllocError>
-    requires edges { All (λ e. IsEdgeWithin COORDINATE_LIMIT e.edge) edges.now }
+    requires edges { All (λ e. IsEdgeWithin coordinate_limit e.edge) edges.now }
     requires few { length edges.now < 2 ^ 32 }
-    requires within { All (IsLevelWithin COORDINATE_LIMIT) levels.now }
+    requires within { All (IsLevelWithin coordinate_limit) levels.now }
     requires levels { AreLevels edges.now levels.now }
     ensures { IfOk result (λ v. AreLevelPieces edges.now shape.now levels.now v.items) }
 {
@@ -83,12 +88,12 @@ fn push_level(
     levels: &[Level],
     i: usize,
 ) -> Result<(), AllocError>
-    requires edges { All (λ e. IsEdgeWithin COORDINATE_LIMIT e.edge) edges.now }
+    requires edges { All (λ e. IsEdgeWithin coordinate_limit e.edge) edges.now }
     requires few { length edges.now < 2 ^ 32 }
-    requires within { All (IsLevelWithin COORDINATE_LIMIT) levels.now }
+    requires within { All (IsLevelWithin coordinate_limit) levels.now }
     requires levels { AreLevels edges.now levels.now }
     requires there { i < length levels.now }
-    ensures { OnOk result (AddsLevel edges.now shape.now (drop i levels.now) out.old.items out.new.items) }
+    ensures { OnOk result (Extends (AreUpToNext edges.now shape.now (drop i levels.now)) out.old.items out.new.items) }
 {
     push_flat_pieces(alloc, out, edges, shape, &levels[i])?;
     if i + 1 < levels.len() {

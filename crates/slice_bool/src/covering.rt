@@ -1,19 +1,20 @@
 //! Flat edges that cover a stretch of a level.
 ghost use Rattle.std.specs.Prelude.{◌≡◌, ◌<◌, ◌≤◌, ◌^◌, ◌&&◌, ◌*ℤ◌, pos, int_le, length, All, unsigned_abs};
 ghost use Rattle.std.specs.List.{position};
-ghost use Rattle.scad_geom.specs.Point.{IsWithin, IsEdgeWithin};
+ghost use Rattle.scad_geom.specs.Limits.{coordinate_limit};
+ghost use Rattle.scad_geom.specs.Within.{IsWithin, IsEdgeWithin};
 ghost use Rattle.slice_bool.specs.Pieces.{covers};
 ghost use Rattle.slice_bool.specs.Near.{flats_from};
 
 use crate::stop::Stop;
 use crate::stops::is_flat_at;
 use scad_geom::wide::times;
-use scad_geom::{COORDINATE_LIMIT, LeafEdge, Pt};
+use scad_geom::{LeafEdge, Pt};
 
 /// The least number of a flat edge that covers the stretch between two stops, among those of the flat edges on their
 /// level.
 pub(crate) fn covering_edge(edges: &[LeafEdge], flats: &[u32], s: &Stop, t: &Stop) -> Option<u32>
-    requires within { All (λ e. IsEdgeWithin COORDINATE_LIMIT e.edge) edges.now }
+    requires within { All (λ e. IsEdgeWithin coordinate_limit e.edge) edges.now }
     requires there { All (λ k. k < length edges.now) flats.now }
     requires flats { flats.now ≡ flats_from 0 edges.now s.now.spot.at }
     ensures { result ≡ position (covers s.now.spot t.now.spot) edges.now }
@@ -27,7 +28,7 @@ pub(crate) fn covering_edge(edges: &[LeafEdge], flats: &[u32], s: &Stop, t: &Sto
 }
 
 fn covers(e: &LeafEdge, s: &Stop, t: &Stop) -> bool
-    requires { IsEdgeWithin COORDINATE_LIMIT e.now.edge }
+    requires { IsEdgeWithin coordinate_limit e.now.edge }
     ensures { result ≡ covers s.now.spot t.now.spot e.now }
 {
     is_flat_at(&e.edge, &s.spot.at)
@@ -36,8 +37,8 @@ fn covers(e: &LeafEdge, s: &Stop, t: &Stop) -> bool
 
 // Whether the stretch between two stops lies from the x of one point to that of another.
 fn spans(from: Pt, to: Pt, s: &Stop, t: &Stop) -> bool
-    requires from { IsWithin COORDINATE_LIMIT from }
-    requires to { IsWithin COORDINATE_LIMIT to }
+    requires from { IsWithin coordinate_limit from }
+    requires to { IsWithin coordinate_limit to }
     ensures { result ≡ (int_le (from.x *ℤ (s.now.spot.at.d *ℤ pos s.now.spot.run)) s.now.spot.x
         && int_le t.now.spot.x (to.x *ℤ (t.now.spot.at.d *ℤ pos t.now.spot.run))) }
 {
@@ -46,7 +47,7 @@ fn spans(from: Pt, to: Pt, s: &Stop, t: &Stop) -> bool
 
 // The x of a point over the divisor of a stop's.
 fn scaled(p: Pt, s: &Stop) -> i128
-    requires { IsWithin COORDINATE_LIMIT p }
+    requires { IsWithin coordinate_limit p }
     ensures { result ≡ p.x *ℤ (s.now.spot.at.d *ℤ pos s.now.spot.run) }
 {
     times::<21, 66>(p.x as i128, divisor(s))

@@ -1,12 +1,13 @@
 //! The pieces on a level.
 ghost use Rattle.std.specs.Prelude.{◌≡◌, ◌<◌, ◌^◌, ◌++◌, length, OnOk, All};
 ghost use Rattle.std.specs.List.{position};
-ghost use Rattle.scad_geom.specs.Point.{IsEdgeWithin};
-ghost use Rattle.scad_geom.specs.Heights.{IsLevelWithin};
+ghost use Rattle.scad_geom.specs.Limits.{coordinate_limit};
+ghost use Rattle.scad_geom.specs.Within.{IsEdgeWithin};
+ghost use Rattle.scad_geom.specs.Level.{IsLevelWithin};
 ghost use Rattle.slice_bool.specs.Pieces.{covers, stretch_piece, flat_pieces};
 ghost use Rattle.slice_bool.specs.Stops.{spots_in};
 ghost use Rattle.slice_bool.specs.Near.{IsNear};
-ghost use Rattle.slice_bool.specs.Made.{AddsFlat};
+ghost use Rattle.slice_bool.specs.Parts.{AreOnLevel, Extends};
 
 use crate::around::holds_by;
 use crate::between::push_between;
@@ -14,7 +15,7 @@ use crate::covering::covering_edge;
 use crate::near::{Near, edges_near};
 use crate::stop::Stop;
 use crate::stops::stops;
-use scad_geom::{COORDINATE_LIMIT, LeafEdge, Level, Shape};
+use scad_geom::{LeafEdge, Level, Shape};
 use slice_snap::Piece;
 use std::alloc::{AllocError, Global};
 
@@ -25,10 +26,10 @@ pub(crate) fn push_flat_pieces(
     shape: &Shape,
     at: &Level,
 ) -> Result<(), AllocError>
-    requires within { All (λ e. IsEdgeWithin COORDINATE_LIMIT e.edge) edges.now }
+    requires within { All (λ e. IsEdgeWithin coordinate_limit e.edge) edges.now }
     requires few { length edges.now < 2 ^ 32 }
-    requires at { IsLevelWithin COORDINATE_LIMIT at.now }
-    ensures { OnOk result (AddsFlat edges.now shape.now at.now out.old.items out.new.items) }
+    requires at { IsLevelWithin coordinate_limit at.now }
+    ensures { OnOk result (Extends (AreOnLevel edges.now shape.now at.now) out.old.items out.new.items) }
 {
     let stops = stops(alloc, edges, at)?;
     let near = edges_near(alloc, edges, at)?;
@@ -43,7 +44,7 @@ fn push_stretches(
     shape: &Shape,
     stops: &[Stop],
 ) -> Result<(), AllocError>
-    requires within { All (λ e. IsEdgeWithin COORDINATE_LIMIT e.edge) edges.now }
+    requires within { All (λ e. IsEdgeWithin coordinate_limit e.edge) edges.now }
     requires near { All (λ s. IsNear edges.now s.spot.at near.now) stops.now }
     ensures { OnOk result (out.new.items ≡ out.old.items ++ flat_pieces edges.now shape.now (spots_in stops.now)) }
 {
@@ -63,7 +64,7 @@ fn push_stretch(
     s: &Stop,
     t: &Stop,
 ) -> Result<(), AllocError>
-    requires within { All (λ e. IsEdgeWithin COORDINATE_LIMIT e.edge) edges.now }
+    requires within { All (λ e. IsEdgeWithin coordinate_limit e.edge) edges.now }
     requires near { IsNear edges.now s.now.spot.at near.now }
     ensures { OnOk result (out.new.items
         ≡ out.old.items ++ stretch_piece edges.now shape.now s.now.spot t.now.spot (position (covers s.now.spot t.now.spot) edges.now)) }

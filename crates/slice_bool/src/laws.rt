@@ -2,6 +2,7 @@
 ghost use Rattle.slice_bool.specs.Pieces.{PiecesWindOnce};
 ghost use Rattle.slice_bool.specs.Ends.{HeightsHaveOneLevel};
 ghost use Rattle.slice_bool.specs.Within.{SpotsAreWithin};
+ghost use Rattle.slice_bool.specs.Named.{PiecesAreNamed};
 ghost use Rattle.slice_bool.specs.Balance.{BordersAreBalanced};
 ghost use Rattle.slice_bool.specs.Covered.{StretchesAreCovered};
 ghost use Rattle.slice_bool.specs.BorderPoints.{PiecesAreBorder};
@@ -21,6 +22,12 @@ pub fn heights_have_one_level()
 /// Where the edges of a border and its levels are within a limit above 0, so are the ends of its pieces.
 pub fn spots_are_within()
     ensures { SpotsAreWithin }
+{}
+
+/// The pieces of a border are named by the numbers of its edges: none is empty, each lies along the edge of its name, and
+/// those of one name don't overlap.
+pub fn pieces_are_named()
+    ensures { PiecesAreNamed }
 {}
 
 /// Round each cell centre that a shape holds the pieces of its border wind once, and round no other, in
@@ -56,6 +63,7 @@ mod tests {
         pieces_wind_once();
         heights_have_one_level();
         spots_are_within();
+        pieces_are_named();
         centres_are_wound_once();
         borders_are_balanced();
         stretches_are_covered();

@@ -12,16 +12,16 @@ mod fault;
 mod flat;
 pub mod laws;
 mod near;
-mod place;
 #[cfg(test)]
-mod random;
-#[cfg(test)]
-mod rectangles;
+mod random_outlines;
 mod slab;
+mod small_point;
 mod stop;
 mod stops;
 mod tally;
 mod turn;
+#[cfg(test)]
+mod two_rectangles;
 
 pub use border::pieces;
 pub use fault::BoolFault;

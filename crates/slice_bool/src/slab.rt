@@ -1,15 +1,18 @@
 //! The pieces between two neighbouring levels.
 ghost use Rattle.std.specs.Prelude.{◌≡◌, ◌<◌, ◌^◌, ◌++◌, length, OnOk, IfOk, All};
-ghost use Rattle.scad_geom.specs.Point.{IsEdgeWithin};
-ghost use Rattle.scad_geom.specs.Heights.{IsLevelWithin, AreNeighbours};
+ghost use Rattle.scad_geom.specs.Limits.{coordinate_limit};
+ghost use Rattle.scad_geom.specs.Within.{IsEdgeWithin};
+ghost use Rattle.scad_geom.specs.Level.{IsLevelWithin};
+ghost use Rattle.scad_geom.specs.Heights.{AreNeighbours};
 ghost use Rattle.slice_slab.specs.Bundles.{AreBundles};
 ghost use Rattle.slice_bool.specs.Pieces.{slab_pieces};
-ghost use Rattle.slice_bool.specs.Made.{AddsSlab, AreMembers, AreLeftValues, RisesFirst, piece_of};
+ghost use Rattle.slice_bool.specs.Parts.{AreBetweenLevels, Extends};
+ghost use Rattle.slice_bool.specs.Beside.{AreMembers, AreLeftValues, RisesFirst, piece_of};
 
 use crate::between::push_between;
 use crate::stop::spot_on;
 use crate::tally::{add_bundle, is_held, no_turns};
-use scad_geom::{COORDINATE_LIMIT, LeafEdge, Level, Shape};
+use scad_geom::{LeafEdge, Level, Shape};
 use slice_slab::{Bundle, slab};
 use slice_snap::Piece;
 use std::alloc::{AllocError, Global};
@@ -22,12 +25,12 @@ pub(crate) fn push_slab_pieces(
     lower: &Level,
     upper: &Level,
 ) -> Result<(), AllocError>
-    requires within { All (λ e. IsEdgeWithin COORDINATE_LIMIT e.edge) edges.now }
+    requires within { All (λ e. IsEdgeWithin coordinate_limit e.edge) edges.now }
     requires few { length edges.now < 2 ^ 32 }
-    requires lower { IsLevelWithin COORDINATE_LIMIT lower.now }
-    requires upper { IsLevelWithin COORDINATE_LIMIT upper.now }
+    requires lower { IsLevelWithin coordinate_limit lower.now }
+    requires upper { IsLevelWithin coordinate_limit upper.now }
     requires neighbours { AreNeighbours edges.now lower.now upper.now }
-    ensures { OnOk result (AddsSlab edges.now shape.now lower.now upper.now out.old.items out.new.items) }
+    ensures { OnOk result (Extends (AreBetweenLevels edges.now shape.now lower.now upper.now) out.old.items out.new.items) }
 {
     let bundles = slab(alloc, edges, lower, upper)?;
     push_bundles(alloc, out, edges, shape, lower, upper, &bundles)
@@ -42,10 +45,10 @@ fn push_bundles(
     upper: &Level,
     bundles: &[Bundle],
 ) -> Result<(), AllocError>
-    requires within { All (λ e. IsEdgeWithin COORDINATE_LIMIT e.edge) edges.now }
+    requires within { All (λ e. IsEdgeWithin coordinate_limit e.edge) edges.now }
     requires few { length edges.now < 2 ^ 32 }
-    requires lower { IsLevelWithin COORDINATE_LIMIT lower.now }
-    requires upper { IsLevelWithin COORDINATE_LIMIT upper.now }
+    requires lower { IsLevelWithin coordinate_limit lower.now }
+    requires upper { IsLevelWithin coordinate_limit upper.now }
     requires neighbours { AreNeighbours edges.now lower.now upper.now }
     requires bundles { AreBundles edges.now lower.now upper.now bundles.now }
     ensures { OnOk result (out.new.items
@@ -70,9 +73,9 @@ fn push_bundle(
     right: bool,
     bundle: &Bundle,
 ) -> Result<(), AllocError>
-    requires within { All (λ e. IsEdgeWithin COORDINATE_LIMIT e.edge) edges.now }
-    requires lower { IsLevelWithin COORDINATE_LIMIT lower.now }
-    requires upper { IsLevelWithin COORDINATE_LIMIT upper.now }
+    requires within { All (λ e. IsEdgeWithin coordinate_limit e.edge) edges.now }
+    requires lower { IsLevelWithin coordinate_limit lower.now }
+    requires upper { IsLevelWithin coordinate_limit upper.now }
     requires first { RisesFirst edges.now bundle.now }
     ensures { OnOk result (out.new.items
         ≡ out.old.items ++ piece_of edges.now lower.now upper.now left right bundle.now) }

@@ -2,22 +2,24 @@
 ghost use Rattle.std.specs.Prelude.{◌≡◌, ◌<◌, ◌&&◌, ◌*ℤ◌, ◌<ℤ◌, pos, true, int_le, int_lt, [], ◌∷◌, ◌++◌, length, OnOk, IfOk, All};
 ghost use Rattle.std.specs.List.Sorted.{IsPermutation};
 ghost use Rattle.std.specs.Ordering.{is_lt, int_cmp};
+ghost use Rattle.scad_geom.specs.Limits.{coordinate_limit};
 ghost use Rattle.scad_geom.specs.Line.{low, high, rise};
-ghost use Rattle.scad_geom.specs.Point.{IsEdgeWithin};
-ghost use Rattle.scad_geom.specs.Heights.{IsLevelWithin};
-ghost use Rattle.slice_bool.specs.Pieces.{is_flat_at, passes_at, spots_at, AreStops};
-ghost use Rattle.slice_bool.specs.Stops.{spots_in, edge_spots, is_left, AreSorted, distinct_of, stays_at};
+ghost use Rattle.scad_geom.specs.Within.{IsEdgeWithin};
+ghost use Rattle.scad_geom.specs.Level.{IsLevelWithin};
+ghost use Rattle.slice_bool.specs.Pieces.{is_flat_at, passes_at, spots_at, AreStops, edge_spots};
+ghost use Rattle.slice_bool.specs.Stops.{spots_in, is_left, AreSorted};
+ghost use Rattle.slice_events.specs.Distinct.{distinct_by, stays_by};
 
 use crate::stop::{Stop, spot_on, whole_spot};
 use scad_geom::line::{high, low, rise};
 use scad_geom::wide::times;
-use scad_geom::{COORDINATE_LIMIT, Edge, LeafEdge, Level};
+use scad_geom::{Edge, LeafEdge, Level};
 use std::alloc::{AllocError, Global};
 use std::cmp::Ordering;
 
 pub(crate) fn stops(alloc: Global, edges: &[LeafEdge], at: &Level) -> Result<Vec<Stop>, AllocError>
-    requires within { All (λ e. IsEdgeWithin COORDINATE_LIMIT e.edge) edges.now }
-    requires at { IsLevelWithin COORDINATE_LIMIT at.now }
+    requires within { All (λ e. IsEdgeWithin coordinate_limit e.edge) edges.now }
+    requires at { IsLevelWithin coordinate_limit at.now }
     ensures { IfOk result (λ v. AreStops edges.now at.now (spots_in v.items)) }
 {
     let mut all = spots(alloc, edges, at)?;
@@ -26,8 +28,8 @@ pub(crate) fn stops(alloc: Global, edges: &[LeafEdge], at: &Level) -> Result<Vec
 }
 
 fn spots(alloc: Global, edges: &[LeafEdge], at: &Level) -> Result<Vec<Stop>, AllocError>
-    requires within { All (λ e. IsEdgeWithin COORDINATE_LIMIT e.edge) edges.now }
-    requires at { IsLevelWithin COORDINATE_LIMIT at.now }
+    requires within { All (λ e. IsEdgeWithin coordinate_limit e.edge) edges.now }
+    requires at { IsLevelWithin coordinate_limit at.now }
     ensures { IfOk result (λ v. spots_in v.items ≡ spots_at edges.now at.now) }
 {
     let mut out = Vec::new(alloc);
@@ -38,8 +40,8 @@ fn spots(alloc: Global, edges: &[LeafEdge], at: &Level) -> Result<Vec<Stop>, All
 }
 
 fn push_spots(out: &mut Vec<Stop>, e: &Edge, at: &Level) -> Result<(), AllocError>
-    requires edge { IsEdgeWithin COORDINATE_LIMIT e.now }
-    requires at { IsLevelWithin COORDINATE_LIMIT at.now }
+    requires edge { IsEdgeWithin coordinate_limit e.now }
+    requires at { IsLevelWithin coordinate_limit at.now }
     ensures ok { OnOk result (spots_in out.new.items ≡ spots_in out.old.items ++ edge_spots e.now at.now) }
 {
     if is_flat_at(e, at) {
@@ -61,8 +63,8 @@ fn push(out: &mut Vec<Stop>, stop: Stop) -> Result<(), AllocError>
 
 /// Whether an edge is flat and lies at a height.
 pub(crate) fn is_flat_at(e: &Edge, at: &Level) -> bool
-    requires edge { IsEdgeWithin COORDINATE_LIMIT e.now }
-    requires at { IsLevelWithin COORDINATE_LIMIT at.now }
+    requires edge { IsEdgeWithin coordinate_limit e.now }
+    requires at { IsLevelWithin coordinate_limit at.now }
     ensures { result ≡ is_flat_at e.now at.now }
 {
     rise(e) == 0 && times::<21, 44>(e.a.y as i128, at.d) == at.n
@@ -70,8 +72,8 @@ pub(crate) fn is_flat_at(e: &Edge, at: &Level) -> bool
 
 /// Whether an edge isn't flat and meets a height.
 pub(crate) fn passes_at(e: &Edge, at: &Level) -> bool
-    requires edge { IsEdgeWithin COORDINATE_LIMIT e.now }
-    requires at { IsLevelWithin COORDINATE_LIMIT at.now }
+    requires edge { IsEdgeWithin coordinate_limit e.now }
+    requires at { IsLevelWithin coordinate_limit at.now }
     ensures value { result ≡ passes_at e.now at.now }
     ensures rises { result ≡ true → pos 0 <ℤ rise e.now }
 {
@@ -79,16 +81,16 @@ pub(crate) fn passes_at(e: &Edge, at: &Level) -> bool
 }
 
 fn starts_by(e: &Edge, at: &Level) -> bool
-    requires edge { IsEdgeWithin COORDINATE_LIMIT e.now }
-    requires at { IsLevelWithin COORDINATE_LIMIT at.now }
+    requires edge { IsEdgeWithin coordinate_limit e.now }
+    requires at { IsLevelWithin coordinate_limit at.now }
     ensures { result ≡ int_le ((low e.now).y *ℤ at.now.d) at.now.n }
 {
     times::<21, 44>(low(e).y as i128, at.d) <= at.n
 }
 
 fn ends_from(e: &Edge, at: &Level) -> bool
-    requires edge { IsEdgeWithin COORDINATE_LIMIT e.now }
-    requires at { IsLevelWithin COORDINATE_LIMIT at.now }
+    requires edge { IsEdgeWithin coordinate_limit e.now }
+    requires at { IsLevelWithin coordinate_limit at.now }
     ensures { result ≡ int_le at.now.n ((high e.now).y *ℤ at.now.d) }
 {
     at.n <= times::<21, 44>(high(e).y as i128, at.d)
@@ -115,7 +117,7 @@ fn x_times_run(s: &Stop, t: &Stop) -> i128
 }
 
 fn distinct(alloc: Global, stops: &[Stop]) -> Result<Vec<Stop>, AllocError>
-    ensures { IfOk result (λ v. spots_in v.items ≡ distinct_of (spots_in stops.now)) }
+    ensures { IfOk result (λ v. spots_in v.items ≡ distinct_by is_left (spots_in stops.now)) }
 {
     let mut out = Vec::new(alloc);
     'stops: for i in 0..stops.len() {
@@ -129,7 +131,7 @@ fn distinct(alloc: Global, stops: &[Stop]) -> Result<Vec<Stop>, AllocError>
 // Whether the stop is the last one or lies to the left of the next.
 fn stays(stops: &[Stop], i: usize) -> bool
     requires { i < length stops.now }
-    ensures { result ≡ stays_at (spots_in stops.now) i }
+    ensures { result ≡ stays_by is_left (spots_in stops.now) i }
 {
     i + 1 == stops.len() || compare(&stops[i], &stops[i + 1]).is_lt()
 }

@@ -1,6 +1,6 @@
 //! Winding numbers of leaves, by leaf.
 ghost use Rattle.std.specs.Prelude.{◌≡◌, ◌<◌, ◌≤◌, ◌==◌, ◌^◌, ◌+ℤ◌, pos, not, map, length, IfOk, All, slice_index_or, if◌then◌else◌, unsigned_abs, vec_len};
-ghost use Rattle.scad_geom.specs.Shape.{is_zero};
+ghost use Rattle.scad_geom.specs.Sign.{is_zero};
 ghost use Rattle.slice_bool.specs.Tally.{IsTally, AreWithin, is_held, heading_of, headings};
 
 use scad_geom::whole::plus;

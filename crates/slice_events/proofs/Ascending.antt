@@ -1,8 +1,8 @@
 -- Sorted heights without repeats are the levels.
 use Rattle.std.proofs.Common.{◌≡◌, ℕ, zero, suc, ◌+◌, ◌<◌, inl, inr, Bool, true, false, List, [], ◌∷◌, length, get_or, refl, sym, arith, subst, add-one}
-use lib.IntN.{pos, ◌*ℤ◌}
+use lib.IntN.{pos}
 use lib.Signed.{◌<ℤ◌}
-use Rattle.std.specs.Prelude.{int_lt, if◌then◌else◌}
+use Rattle.std.specs.Prelude.{if◌then◌else◌}
 use Rattle.std.specs.List.{AllByRecursion, All}
 use Rattle.std.specs.List.Sorted.{IsPermutation, IsSortedBy}
 use Rattle.std.specs.Cmp.{IsStrictWeakOrder}
@@ -11,17 +11,20 @@ use Rattle.std.proofs.lemmas.List.Elements.{recursion_from_All, All-from_recursi
 use Rattle.std.proofs.lemmas.List.Sorted.{All-permutation, IsPermutation-map, IsPermutation-sym}
 use Rattle.scad_geom.specs.declared.level.Level.{Level}
 use Rattle.scad_geom.specs.declared.level.LeafEdge.{LeafEdge}
-use Rattle.scad_geom.specs.Heights.{IsLower, IsAtMost, IsSameHeight, heights}
+use Rattle.scad_geom.specs.Level.{IsLower, IsAtMost, IsSameHeight}
+use Rattle.scad_geom.specs.Heights.{heights}
 use Rattle.scad_geom.proofs.Heights.{at_most_chain, lower_then_at_most}
 use Rattle.slice_events.specs.declared.height.Height.{Height}
 use Rattle.slice_events.specs.Levels.{IsRising, HasHeight, AreLevels}
-use Rattle.slice_events.specs.Collected.{levels_in, IsClimbing, distinct_of}
+use Rattle.slice_events.specs.Collected.{levels_in, is_lower, IsClimbing}
+use Rattle.slice_events.specs.Distinct.{distinct_by}
+use Rattle.slice_events.proofs.Repeats.{distinct_all}
 
 -- ---- the order of bounded levels
-abbrev pub is_lower : Height → Height → Bool
-is_lower p q = int_lt (p.level.n *ℤ q.level.d) (q.level.n *ℤ p.level.d)
+abbrev pub comes_lower : Height → Height → Bool
+comes_lower p q = is_lower p.level q.level
 
-pub lower_order : IsStrictWeakOrder is_lower
+pub lower_order : IsStrictWeakOrder comes_lower
 lower_order = record {
   one_way = λ x y h. sym (omega (arith, ints));
   chain = λ x y z h k.
@@ -31,46 +34,40 @@ lower_order = record {
       sym (omega (arith, ints));
 }
 
-climbing_by : (hs : List Height) → ((k : ℕ) (d : Height) → suc k < length hs → is_lower (get_or hs (suc k) d) (get_or hs k d) ≡ false) → IsClimbing (levels_in hs)
+climbing_by : (hs : List Height) → ((k : ℕ) (d : Height) → suc k < length hs → comes_lower (get_or hs (suc k) d) (get_or hs k d) ≡ false) → IsClimbing (levels_in hs)
 climbing_by [] h = tt
 climbing_by (p ∷ []) h = tt
 climbing_by (p ∷ (q ∷ hs)) h =
-    let first : is_lower q p ≡ false = h zero p (omega arith) in
+    let first : comes_lower q p ≡ false = h zero p (omega arith) in
     (omega (arith, ints), climbing_by (q ∷ hs) (λ k d b. h (suc k) d (omega arith)))
 
-pub climbing_from : (hs : List Height) → IsSortedBy is_lower hs → IsClimbing (levels_in hs)
-climbing_from hs h = climbing_by hs (λ k d b. let t : is_lower (get_or hs (k + 1) d) (get_or hs k d) ≡ false = h k d (omega arith) (omega arith) in rw add-one at t)
+pub climbing_from : (hs : List Height) → IsSortedBy comes_lower hs → IsClimbing (levels_in hs)
+climbing_from hs h = climbing_by hs (λ k d b. let t : comes_lower (get_or hs (k + 1) d) (get_or hs k d) ≡ false = h k d (omega arith) (omega arith) in rw add-one at t)
 
 -- ---- a climbing list without repeats
 Positive : Level → Type 0
 Positive l = pos 0 <ℤ l.d
 
-first_lower : (p q : Level) (hs : List Level) → IsLower p q → AllByRecursion (λ (l : Level). pos 0 <ℤ l.d) (p ∷ (q ∷ hs)) → IsClimbing (q ∷ hs) → IsRising (distinct_of (q ∷ hs)) → IsRising (p ∷ distinct_of (q ∷ hs))
+first_lower : (p q : Level) (hs : List Level) → IsLower p q → AllByRecursion (λ (l : Level). pos 0 <ℤ l.d) (p ∷ (q ∷ hs)) → IsClimbing (q ∷ hs) → IsRising (distinct_by is_lower (q ∷ hs)) → IsRising (p ∷ distinct_by is_lower (q ∷ hs))
 first_lower p q [] o d c r = (o, tt)
-first_lower p q (x ∷ hs) o d c r = by_test (int_lt (q.n *ℤ x.d) (x.n *ℤ q.d)) r (λ r'. first_lower p x hs (lower_then_at_most p q x d.0 d.1.0 d.1.1.0 o c.0) (d.0, d.1.1) c.1 r')
+first_lower p q (x ∷ hs) o d c r = by_test (is_lower q x) r (λ r'. first_lower p x hs (lower_then_at_most p q x d.0 d.1.0 d.1.1.0 o c.0) (d.0, d.1.1) c.1 r')
   where
-    by_test : (t : Bool) → IsRising (if t then q ∷ distinct_of (x ∷ hs) else distinct_of (x ∷ hs)) → (IsRising (distinct_of (x ∷ hs)) → IsRising (p ∷ distinct_of (x ∷ hs)))
-        → IsRising (p ∷ (if t then q ∷ distinct_of (x ∷ hs) else distinct_of (x ∷ hs)))
+    by_test : (t : Bool) → IsRising (if t then q ∷ distinct_by is_lower (x ∷ hs) else distinct_by is_lower (x ∷ hs)) → (IsRising (distinct_by is_lower (x ∷ hs)) → IsRising (p ∷ distinct_by is_lower (x ∷ hs)))
+        → IsRising (p ∷ (if t then q ∷ distinct_by is_lower (x ∷ hs) else distinct_by is_lower (x ∷ hs)))
     by_test true r f = (o, r)
     by_test false r f = f r
 
-pub distinct_rises : (hs : List Level) → AllByRecursion (λ (l : Level). pos 0 <ℤ l.d) hs → IsClimbing hs → IsRising (distinct_of hs)
+pub distinct_rises : (hs : List Level) → AllByRecursion (λ (l : Level). pos 0 <ℤ l.d) hs → IsClimbing hs → IsRising (distinct_by is_lower hs)
 distinct_rises [] d c = tt
 distinct_rises (p ∷ []) d c = tt
-distinct_rises (p ∷ (q ∷ hs)) d c = by_test (int_lt (p.n *ℤ q.d) (q.n *ℤ p.d)) refl (distinct_rises (q ∷ hs) d.1 c.1)
+distinct_rises (p ∷ (q ∷ hs)) d c = by_test (is_lower p q) refl (distinct_rises (q ∷ hs) d.1 c.1)
   where
-    by_test : (t : Bool) → int_lt (p.n *ℤ q.d) (q.n *ℤ p.d) ≡ t → IsRising (distinct_of (q ∷ hs)) → IsRising (if t then p ∷ distinct_of (q ∷ hs) else distinct_of (q ∷ hs))
+    by_test : (t : Bool) → is_lower p q ≡ t → IsRising (distinct_by is_lower (q ∷ hs)) → IsRising (if t then p ∷ distinct_by is_lower (q ∷ hs) else distinct_by is_lower (q ∷ hs))
     by_test true e r = first_lower p q hs (omega (arith, ints)) d c.1 r
     by_test false e r = r
 
-pub distinct_divisors : (hs : List Level) → AllByRecursion (λ (l : Level). pos 0 <ℤ l.d) hs → AllByRecursion (λ (l : Level). pos 0 <ℤ l.d) (distinct_of hs)
-distinct_divisors [] d = tt
-distinct_divisors (p ∷ []) d = d
-distinct_divisors (p ∷ (q ∷ hs)) d = by_test (int_lt (p.n *ℤ q.d) (q.n *ℤ p.d)) (distinct_divisors (q ∷ hs) d.1)
-  where
-    by_test : (t : Bool) → AllByRecursion (λ (l : Level). pos 0 <ℤ l.d) (distinct_of (q ∷ hs)) → AllByRecursion (λ (l : Level). pos 0 <ℤ l.d) (if t then p ∷ distinct_of (q ∷ hs) else distinct_of (q ∷ hs))
-    by_test true r = (d.0, r)
-    by_test false r = r
+distinct_divisors : (hs : List Level) → AllByRecursion (λ (l : Level). pos 0 <ℤ l.d) hs → AllByRecursion (λ (l : Level). pos 0 <ℤ l.d) (distinct_by is_lower hs)
+distinct_divisors hs d = distinct_all is_lower (λ (l : Level). pos 0 <ℤ l.d) hs d
 
 same_then : (ls : List Level) (g h : Level) → pos 0 <ℤ h.d → pos 0 <ℤ g.d → AllByRecursion (λ (l : Level). pos 0 <ℤ l.d) ls → IsSameHeight g h → HasHeight ls g → HasHeight ls h
 same_then [] g h dh dg d e r = absurd r
@@ -81,33 +78,33 @@ same_then (l ∷ ls) g h dh dg d e (inl s) =
 same_then (l ∷ ls) g h dh dg d e (inr r) = inr (same_then ls g h dh dg d.1 e r)
 
 -- each height is still there
-pub distinct_complete : (hs : List Level) → AllByRecursion (λ (l : Level). pos 0 <ℤ l.d) hs → IsClimbing hs → AllByRecursion (HasHeight (distinct_of hs)) hs
+pub distinct_complete : (hs : List Level) → AllByRecursion (λ (l : Level). pos 0 <ℤ l.d) hs → IsClimbing hs → AllByRecursion (HasHeight (distinct_by is_lower hs)) hs
 distinct_complete [] d c = tt
 distinct_complete (p ∷ []) d c = (inl refl, tt)
-distinct_complete (p ∷ (q ∷ hs)) d c = by_test (int_lt (p.n *ℤ q.d) (q.n *ℤ p.d)) refl (distinct_complete (q ∷ hs) d.1 c.1)
+distinct_complete (p ∷ (q ∷ hs)) d c = by_test (is_lower p q) refl (distinct_complete (q ∷ hs) d.1 c.1)
   where
     later : (xs ls : List Level) → AllByRecursion (HasHeight ls) xs → AllByRecursion (HasHeight (p ∷ ls)) xs
     later [] ls h = tt
     later (x ∷ xs) ls h = (inr h.0, later xs ls h.1)
 
-    by_test : (t : Bool) → int_lt (p.n *ℤ q.d) (q.n *ℤ p.d) ≡ t → AllByRecursion (HasHeight (distinct_of (q ∷ hs))) (q ∷ hs)
-        → AllByRecursion (HasHeight (if t then p ∷ distinct_of (q ∷ hs) else distinct_of (q ∷ hs))) (p ∷ (q ∷ hs))
-    by_test true e r = (inl refl, later (q ∷ hs) (distinct_of (q ∷ hs)) r)
-    by_test false e r = let c0 = c.0 in (same_then (distinct_of (q ∷ hs)) q p d.0 d.1.0 (distinct_divisors (q ∷ hs) d.1) (omega (arith, ints)) r.0, r)
+    by_test : (t : Bool) → is_lower p q ≡ t → AllByRecursion (HasHeight (distinct_by is_lower (q ∷ hs))) (q ∷ hs)
+        → AllByRecursion (HasHeight (if t then p ∷ distinct_by is_lower (q ∷ hs) else distinct_by is_lower (q ∷ hs))) (p ∷ (q ∷ hs))
+    by_test true e r = (inl refl, later (q ∷ hs) (distinct_by is_lower (q ∷ hs)) r)
+    by_test false e r = let c0 = c.0 in (same_then (distinct_by is_lower (q ∷ hs)) q p d.0 d.1.0 (distinct_divisors (q ∷ hs) d.1) (omega (arith, ints)) r.0, r)
 
 -- and nothing else
-pub distinct_sound : (hs : List Level) → AllByRecursion (HasHeight hs) (distinct_of hs)
+pub distinct_sound : (hs : List Level) → AllByRecursion (HasHeight hs) (distinct_by is_lower hs)
 distinct_sound [] = tt
 distinct_sound (p ∷ []) = (inl refl, tt)
-distinct_sound (p ∷ (q ∷ hs)) = by_test (int_lt (p.n *ℤ q.d) (q.n *ℤ p.d)) (distinct_sound (q ∷ hs))
+distinct_sound (p ∷ (q ∷ hs)) = by_test (is_lower p q) (distinct_sound (q ∷ hs))
   where
     more : (ls : List Level) → AllByRecursion (HasHeight (q ∷ hs)) ls → AllByRecursion (HasHeight (p ∷ (q ∷ hs))) ls
     more [] h = tt
     more (l ∷ ls) h = (inr h.0, more ls h.1)
 
-    by_test : (t : Bool) → AllByRecursion (HasHeight (q ∷ hs)) (distinct_of (q ∷ hs)) → AllByRecursion (HasHeight (p ∷ (q ∷ hs))) (if t then p ∷ distinct_of (q ∷ hs) else distinct_of (q ∷ hs))
-    by_test true r = (inl refl, more (distinct_of (q ∷ hs)) r)
-    by_test false r = more (distinct_of (q ∷ hs)) r
+    by_test : (t : Bool) → AllByRecursion (HasHeight (q ∷ hs)) (distinct_by is_lower (q ∷ hs)) → AllByRecursion (HasHeight (p ∷ (q ∷ hs))) (if t then p ∷ distinct_by is_lower (q ∷ hs) else distinct_by is_lower (q ∷ hs))
+    by_test true r = (inl refl, more (distinct_by is_lower (q ∷ hs)) r)
+    by_test false r = more (distinct_by is_lower (q ∷ hs)) r
 
 -- ---- which heights a list has doesn't depend on its order
 has_where : (xs : List Level) (h : Level) → HasHeight xs h → (k : ℕ) × (k < length xs) × ((d : Level) → IsSameHeight (get_or xs k d) h)
@@ -141,7 +138,7 @@ over : (xs ys ls : List Level) → IsPermutation xs ys → AllByRecursion (λ (l
 over xs ys [] p dy dx dl h = tt
 over xs ys (l ∷ ls) p dy dx dl h = (has_permuted xs ys l p h.0 dy dl.0 dx, over xs ys ls p dy dx dl.1 h.1)
 
-pub sorted_levels : (edges : List LeafEdge) (all sorted : List Height) → levels_in all ≡ heights edges → IsPermutation all sorted → IsClimbing (levels_in sorted) → AreLevels edges (distinct_of (levels_in sorted))
+pub sorted_levels : (edges : List LeafEdge) (all sorted : List Height) → levels_in all ≡ heights edges → IsPermutation all sorted → IsClimbing (levels_in sorted) → AreLevels edges (distinct_by is_lower (levels_in sorted))
 sorted_levels edges all sorted e p c =
     let q : IsPermutation (levels_in all) (levels_in sorted) = IsPermutation-map (λ (h : Height). h.level) all sorted p in
     let ds = all_positive sorted in
@@ -150,6 +147,6 @@ sorted_levels edges all sorted e p c =
     record {
       divisors = dd;
       rising = distinct_rises (levels_in sorted) ds c;
-      sound = subst (λ (hs : List Level). AllByRecursion (HasHeight hs) (distinct_of (levels_in sorted))) e (over (levels_in sorted) (levels_in all) (distinct_of (levels_in sorted)) (IsPermutation-sym (levels_in all) (levels_in sorted) q) da ds dd (distinct_sound (levels_in sorted)));
-      complete = subst (AllByRecursion (HasHeight (distinct_of (levels_in sorted)))) e (carry (HasHeight (distinct_of (levels_in sorted))) (levels_in all) (levels_in sorted) (IsPermutation-sym (levels_in all) (levels_in sorted) q) (distinct_complete (levels_in sorted) ds c));
+      sound = subst (λ (hs : List Level). AllByRecursion (HasHeight hs) (distinct_by is_lower (levels_in sorted))) e (over (levels_in sorted) (levels_in all) (distinct_by is_lower (levels_in sorted)) (IsPermutation-sym (levels_in all) (levels_in sorted) q) da ds dd (distinct_sound (levels_in sorted)));
+      complete = subst (AllByRecursion (HasHeight (distinct_by is_lower (levels_in sorted)))) e (carry (HasHeight (distinct_by is_lower (levels_in sorted))) (levels_in all) (levels_in sorted) (IsPermutation-sym (levels_in all) (levels_in sorted) q) (distinct_complete (levels_in sorted) ds c));
     }

@@ -1,12 +1,13 @@
 -- The levels of a list of edges: the distinct heights of their ends and meetings, ascending. And how many pairs cross.
 use Rattle.std.specs.Prelude.{Bool, not, ◌&&◌, ◌||◌, List, [], ◌∷◌, ℕ, ◌+◌, ◌⊎◌, ⊤, pos, ◌<ℤ◌, count_by}
 use Rattle.std.specs.List.{AllByRecursion}
-use Rattle.std.specs.Ordering.{int_eq}
-use Rattle.scad_geom.specs.declared.point.Pt.{Pt}
 use Rattle.scad_geom.specs.declared.point.Edge.{Edge}
 use Rattle.scad_geom.specs.declared.level.Level.{Level}
 use Rattle.scad_geom.specs.declared.level.LeafEdge.{LeafEdge}
-use Rattle.scad_geom.specs.Heights.{IsLower, IsSameHeight, meets, heights}
+use Rattle.scad_geom.specs.Point.{whole, is_same_point}
+use Rattle.scad_geom.specs.Level.{IsLower, IsSameHeight}
+use Rattle.scad_geom.specs.Meeting.{meets}
+use Rattle.scad_geom.specs.Heights.{heights}
 
 -- each lies below the next
 abbrev pub IsRising : List Level → Type 0
@@ -26,11 +27,9 @@ pub record AreLevels (edges : List LeafEdge) (levels : List Level) : Type 0 wher
   pub sound : AllByRecursion (HasHeight (heights edges)) levels
   pub complete : AllByRecursion (HasHeight levels) (heights edges)
 
-abbrev pub same_point : Pt → Pt → Bool
-same_point p q = int_eq p.x q.x && int_eq p.y q.y
-
+-- whether an end of one edge is an end of the other
 abbrev pub share_end : Edge → Edge → Bool
-share_end e f = (same_point e.a f.a || same_point e.a f.b) || (same_point e.b f.a || same_point e.b f.b)
+share_end e f = (is_same_point (whole e.a) (whole f.a) || is_same_point (whole e.a) (whole f.b)) || (is_same_point (whole e.b) (whole f.a) || is_same_point (whole e.b) (whole f.b))
 
 -- whether two edges that aren't parallel have a common point that isn't an end of both
 abbrev pub crosses : Edge → Edge → Bool

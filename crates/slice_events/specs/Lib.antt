@@ -1,3 +1,5 @@
+pub mod Limits
 pub mod Levels
+pub mod Distinct
 pub mod Collected
 pub mod Refusal

@@ -1,16 +1,18 @@
 //! The heights of all ends and meetings, in any order.
 ghost use Rattle.std.specs.Prelude.{◌≡◌, ◌≤◌, [], ◌∷◌, ◌++◌, map, OnOk, IfOk, All, unsigned_abs};
-ghost use Rattle.scad_geom.specs.Point.{IsEdgeWithin};
-ghost use Rattle.scad_geom.specs.Heights.{level_of, meetings, heights, IsLevelWithin};
+ghost use Rattle.scad_geom.specs.Limits.{coordinate_limit};
+ghost use Rattle.scad_geom.specs.Within.{IsEdgeWithin};
+ghost use Rattle.scad_geom.specs.Level.{level_of, IsLevelWithin};
+ghost use Rattle.scad_geom.specs.Heights.{meetings, heights};
 ghost use Rattle.slice_events.specs.Collected.{levels_in};
 
 use crate::height::Height;
 use crate::meeting::{meeting, meets};
-use scad_geom::{COORDINATE_LIMIT, Edge, LeafEdge, Level};
+use scad_geom::{Edge, LeafEdge, Level};
 use std::alloc::{AllocError, Global};
 
 pub(crate) fn all_heights(alloc: Global, edges: &[LeafEdge]) -> Result<Vec<Height>, AllocError>
-    requires { All (λ e. IsEdgeWithin COORDINATE_LIMIT e.edge) edges.now }
+    requires { All (λ e. IsEdgeWithin coordinate_limit e.edge) edges.now }
     ensures { IfOk result (λ v. levels_in v.items ≡ heights edges.now) }
 {
     let mut out = Vec::new(alloc);
@@ -22,8 +24,8 @@ pub(crate) fn all_heights(alloc: Global, edges: &[LeafEdge]) -> Result<Vec<Heigh
 
 // The heights of an edge's ends and of its meetings with later edges.
 fn push_heights(out: &mut Vec<Height>, e: &Edge, later: &[LeafEdge]) -> Result<(), AllocError>
-    requires edge { IsEdgeWithin COORDINATE_LIMIT e.now }
-    requires later { All (λ e. IsEdgeWithin COORDINATE_LIMIT e.edge) later.now }
+    requires edge { IsEdgeWithin coordinate_limit e.now }
+    requires later { All (λ e. IsEdgeWithin coordinate_limit e.edge) later.now }
     ensures ok { OnOk result (levels_in out.new.items ≡ levels_in out.old.items ++ (level_of e.now.a.y ∷ level_of e.now.b.y ∷ meetings e.now later.now)) }
 {
     push_whole(out, e.a.y)?;
@@ -32,15 +34,15 @@ fn push_heights(out: &mut Vec<Height>, e: &Edge, later: &[LeafEdge]) -> Result<(
 }
 
 fn push_whole(out: &mut Vec<Height>, y: i32) -> Result<(), AllocError>
-    requires { unsigned_abs y ≤ 1100000 }
+    requires { unsigned_abs y ≤ coordinate_limit }
     ensures ok { OnOk result (levels_in out.new.items ≡ levels_in out.old.items ++ level_of y ∷ []) }
 {
     push(out, Level { n: y as i128, d: 1 })
 }
 
 fn push_meetings(out: &mut Vec<Height>, e: &Edge, later: &[LeafEdge]) -> Result<(), AllocError>
-    requires edge { IsEdgeWithin COORDINATE_LIMIT e.now }
-    requires later { All (λ e. IsEdgeWithin COORDINATE_LIMIT e.edge) later.now }
+    requires edge { IsEdgeWithin coordinate_limit e.now }
+    requires later { All (λ e. IsEdgeWithin coordinate_limit e.edge) later.now }
     ensures ok { OnOk result (levels_in out.new.items ≡ levels_in out.old.items ++ meetings e.now later.now) }
 {
     'later: for f in later {
@@ -52,7 +54,7 @@ fn push_meetings(out: &mut Vec<Height>, e: &Edge, later: &[LeafEdge]) -> Result<
 }
 
 fn push(out: &mut Vec<Height>, level: Level) -> Result<(), AllocError>
-    requires { IsLevelWithin 1100000 level }
+    requires { IsLevelWithin coordinate_limit level }
     ensures ok { OnOk result (levels_in out.new.items ≡ levels_in out.old.items ++ level ∷ []) }
 {
     out.push(Height { level })?;

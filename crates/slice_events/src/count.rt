@@ -1,13 +1,14 @@
 //! How many pairs of edges cross.
 ghost use Rattle.std.specs.Prelude.{◌≡◌, ◌+◌, ◌^◌, ◌<◌, ◌≤◌, length, drop, count_by, All};
-ghost use Rattle.scad_geom.specs.Point.{IsEdgeWithin};
+ghost use Rattle.scad_geom.specs.Limits.{coordinate_limit};
+ghost use Rattle.scad_geom.specs.Within.{IsEdgeWithin};
 ghost use Rattle.slice_events.specs.Levels.{crosses, crossings};
 
 use crate::meeting::crosses;
-use scad_geom::{COORDINATE_LIMIT, LeafEdge};
+use scad_geom::LeafEdge;
 
 pub(crate) fn crossings(edges: &[LeafEdge]) -> u64
-    requires within { All (λ e. IsEdgeWithin COORDINATE_LIMIT e.edge) edges.now }
+    requires within { All (λ e. IsEdgeWithin coordinate_limit e.edge) edges.now }
     requires few { length edges.now < 2 ^ 32 }
     ensures { result ≡ crossings edges.now }
 {
@@ -20,7 +21,7 @@ pub(crate) fn crossings(edges: &[LeafEdge]) -> u64
 
 // How many edges of the list cross its first.
 fn first_crossings(edges: &[LeafEdge]) -> u64
-    requires within { All (λ e. IsEdgeWithin COORDINATE_LIMIT e.edge) edges.now }
+    requires within { All (λ e. IsEdgeWithin coordinate_limit e.edge) edges.now }
     requires few { length edges.now < 2 ^ 32 }
     ensures value { crossings edges.now ≡ result + crossings (drop 1 edges.now) }
     ensures few { result ≤ 2 ^ 32 }
@@ -32,8 +33,8 @@ fn first_crossings(edges: &[LeafEdge]) -> u64
 }
 
 fn crossings_with(e: &LeafEdge, later: &[LeafEdge]) -> u64
-    requires edge { IsEdgeWithin COORDINATE_LIMIT e.now.edge }
-    requires later { All (λ e. IsEdgeWithin COORDINATE_LIMIT e.edge) later.now }
+    requires edge { IsEdgeWithin coordinate_limit e.now.edge }
+    requires later { All (λ e. IsEdgeWithin coordinate_limit e.edge) later.now }
     requires few { length later.now < 2 ^ 32 }
     ensures value { result ≡ count_by (λ f. crosses e.now.edge f.edge) later.now }
     ensures few { result ≤ length later.now }
@@ -53,7 +54,7 @@ mod tests {
     use scad_geom::{Edge, Pt};
 
     fn edge(from: [u8; 2], to: [u8; 2]) -> LeafEdge
-        ensures { IsEdgeWithin COORDINATE_LIMIT result.edge }
+        ensures { IsEdgeWithin coordinate_limit result.edge }
     {
         let [ax, ay] = from.map(i32::from);
         let [bx, by] = to.map(i32::from);

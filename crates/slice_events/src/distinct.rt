@@ -1,11 +1,13 @@
 //! Levels in ascending order, each once.
 ghost use Rattle.std.specs.Prelude.{◌≡◌, ◌<◌, length, OnOk, IfOk, All};
 ghost use Rattle.std.specs.List.Sorted.{IsPermutation};
-ghost use Rattle.scad_geom.specs.Heights.{IsLevelWithin};
-ghost use Rattle.slice_events.specs.Collected.{levels_in, IsClimbing, distinct_of, stays_at};
+ghost use Rattle.scad_geom.specs.Limits.{coordinate_limit};
+ghost use Rattle.scad_geom.specs.Level.{IsLevelWithin};
+ghost use Rattle.slice_events.specs.Collected.{levels_in, is_lower, IsClimbing};
+ghost use Rattle.slice_events.specs.Distinct.{distinct_by, stays_by};
 
 use crate::height::Height;
-use scad_geom::{COORDINATE_LIMIT, Level, cmp_level};
+use scad_geom::{Level, cmp_level};
 use std::alloc::{AllocError, Global};
 
 pub(crate) fn sort(heights: &mut Vec<Height>) -> Result<(), AllocError>
@@ -16,8 +18,8 @@ pub(crate) fn sort(heights: &mut Vec<Height>) -> Result<(), AllocError>
 }
 
 pub(crate) fn distinct(alloc: Global, heights: &[Height]) -> Result<Vec<Level>, AllocError>
-    ensures value { IfOk result (λ v. v.items ≡ distinct_of (levels_in heights.now)) }
-    ensures within { IfOk result (λ v. All (IsLevelWithin COORDINATE_LIMIT) v.items) }
+    ensures value { IfOk result (λ v. v.items ≡ distinct_by is_lower (levels_in heights.now)) }
+    ensures within { IfOk result (λ v. All (IsLevelWithin coordinate_limit) v.items) }
 {
     let mut out = Vec::new(alloc);
     'heights: for i in 0..heights.len() {
@@ -31,7 +33,7 @@ pub(crate) fn distinct(alloc: Global, heights: &[Height]) -> Result<Vec<Level>, 
 // Whether the height is the last one or lies below the next.
 fn stays(heights: &[Height], i: usize) -> bool
     requires { i < length heights.now }
-    ensures { result ≡ stays_at (levels_in heights.now) i }
+    ensures { result ≡ stays_by is_lower (levels_in heights.now) i }
 {
     i + 1 == heights.len() || cmp_level(&heights[i].level, &heights[i + 1].level).is_lt()
 }

@@ -1,14 +1,16 @@
 //! The levels of a list of edges.
 ghost use Rattle.std.specs.Prelude.{◌≡◌, ◌^◌, ◌<◌, ◌≤◌, length, IfOk, IfErr, All};
-ghost use Rattle.scad_geom.specs.Point.{IsEdgeWithin};
-ghost use Rattle.scad_geom.specs.Heights.{IsLevelWithin};
+ghost use Rattle.scad_geom.specs.Limits.{coordinate_limit};
+ghost use Rattle.scad_geom.specs.Within.{IsEdgeWithin};
+ghost use Rattle.scad_geom.specs.Level.{IsLevelWithin};
+ghost use Rattle.slice_events.specs.Limits.{crossing_limit};
 ghost use Rattle.slice_events.specs.Levels.{crossings, AreLevels};
 ghost use Rattle.slice_events.specs.Refusal.{IsCrossings};
 
 use crate::collect::all_heights;
 use crate::count::crossings;
 use crate::distinct::{distinct, sort};
-use scad_geom::{COORDINATE_LIMIT, LeafEdge, Level};
+use scad_geom::{LeafEdge, Level};
 use std::alloc::{AllocError, Global};
 
 /// The greatest number of crossings that is taken.
@@ -27,12 +29,13 @@ pub enum EventFault {
 /// It is refused exactly where more than `CROSSING_LIMIT` pairs cross: are not parallel and have a common point that
 /// isn't an end of both.
 pub fn levels(alloc: Global, edges: &[LeafEdge]) -> Result<Vec<Level>, EventFault>
-    requires within { All (λ e. IsEdgeWithin COORDINATE_LIMIT e.edge) edges.now }
+    requires within { All (λ e. IsEdgeWithin coordinate_limit e.edge) edges.now }
     requires few { length edges.now < 2 ^ 32 }
     ensures levels { IfOk result (λ v. AreLevels edges.now v.items) }
-    ensures within { IfOk result (λ v. All (IsLevelWithin COORDINATE_LIMIT) v.items) }
-    ensures accepted { IfOk result (λ v. crossings edges.now ≤ CROSSING_LIMIT) }
+    ensures within { IfOk result (λ v. All (IsLevelWithin coordinate_limit) v.items) }
+    ensures accepted { IfOk result (λ v. crossings edges.now ≤ crossing_limit) }
     ensures refused { IfErr result (IsCrossings (crossings edges.now)) }
+    ensures limit { CROSSING_LIMIT ≡ crossing_limit }
 {
     let count = crossings(edges);
     if count > CROSSING_LIMIT {
@@ -45,9 +48,9 @@ pub fn levels(alloc: Global, edges: &[LeafEdge]) -> Result<Vec<Level>, EventFaul
 }
 
 fn ascending(alloc: Global, edges: &[LeafEdge]) -> Result<Vec<Level>, AllocError>
-    requires { All (λ e. IsEdgeWithin COORDINATE_LIMIT e.edge) edges.now }
+    requires { All (λ e. IsEdgeWithin coordinate_limit e.edge) edges.now }
     ensures levels { IfOk result (λ v. AreLevels edges.now v.items) }
-    ensures within { IfOk result (λ v. All (IsLevelWithin COORDINATE_LIMIT) v.items) }
+    ensures within { IfOk result (λ v. All (IsLevelWithin coordinate_limit) v.items) }
 {
     let mut heights = all_heights(alloc, edges)?;
     sort(&mut heights)?;

@@ -1,5 +1,6 @@
 //! Levels within the bounds of the comparisons.
-ghost use Rattle.scad_geom.specs.Heights.{IsLevelWithin};
+ghost use Rattle.scad_geom.specs.Limits.{coordinate_limit};
+ghost use Rattle.scad_geom.specs.Level.{IsLevelWithin};
 
 use scad_geom::Level;
 
@@ -7,5 +8,5 @@ use scad_geom::Level;
 #[derive(Clone, Copy, Debug)]
 pub(crate) struct Height {
     pub(crate) level: Level,
-    ghost within: { IsLevelWithin 1100000 level },
+    ghost within: { IsLevelWithin coordinate_limit level },
 }

@@ -8,9 +8,9 @@ mod collect;
 mod count;
 mod distinct;
 mod events;
-#[cfg(test)]
-mod grid;
 mod height;
+#[cfg(test)]
+mod limit_tests;
 mod meeting;
 
 pub use events::{CROSSING_LIMIT, EventFault, levels};

@@ -1,5 +1,6 @@
 -- The section of a closed surface is balanced.
-use Rattle.std.proofs.Common.{◌≡◌, ℕ, ◌+◌, ◌*◌, ◌/◌, Bool, true, false, cond, ◌&&◌, not, List, [], ◌∷◌, map, Some, None, Option, ℤ, pos, ◌*ℤ◌, refl, ap, ap₂, sym, ◌∙◌, subst, arith}
+use Rattle.std.proofs.Common.{◌≡◌, ℕ, ◌+◌, ◌*◌, ◌/◌, Bool, true, false, cond, ◌&&◌, not, List, [], ◌∷◌, map, Some, None, Option, ℤ, pos, ◌*ℤ◌, ◌<ℤ◌, refl, ap, ap₂, sym, ◌∙◌, subst, arith}
+use Rattle.std.proofs.lemmas.Bool.{and_parts}
 use Rattle.std.specs.Prelude.{filter, int_lt}
 use Rattle.std.specs.Ordering.{int_eq}
 use Rattle.std.specs.Cmp.{signed_Decides}
@@ -8,32 +9,35 @@ use Rattle.std.proofs.lemmas.Int.{ints}
 use Rattle.std.proofs.lemmas.List.Sums.{sum_by-cons, sum_by-append}
 use Rattle.scad_geom.specs.declared.point.Pt.{Pt}
 use Rattle.scad_geom.specs.declared.point.Edge.{Edge}
-use Rattle.scad_geom.specs.Balance.{same_place, starts_at, ends_at, IsBalanced}
+use Rattle.scad_geom.specs.Point.{Point, whole, is_same_point}
+use Rattle.scad_geom.specs.Segment.{Segment, segment_of, segments}
+use Rattle.scad_geom.specs.Balance.{starts_at, ends_at, IsBalanced}
+use Rattle.scad_geom.proofs.Balanced.{once, same_place, same_whole}
+use Rattle.scad_geom.proofs.Balanced as balance
 use Rattle.scad_solid.specs.declared.side.Side.{Side}
 use Rattle.scad_solid.specs.declared.triangle.Triangle.{Triangle}
 use Rattle.scad_solid.specs.Side.{reversed}
 use Rattle.scad_solid.specs.Surface.{sides_of, sides, is_closed}
-use Rattle.scad_solid.specs.Cut.{Cut, is_above, is_below, cut_between, cut_of, cuts_of, plane_of, point_between}
+use Rattle.scad_solid.specs.Cut.{is_above, is_below, cut_between, cut_of, cuts_of, plane_of, point_between}
 use Rattle.scad_solid.proofs.ClosedSides.{sum_by-reversed}
 use Rattle.slice_section.specs.Section.{nearest_point, rounded, has_length, section_of}
 
--- once, where a test holds
-abbrev once : Bool → ℕ
-once b = cond b 1 0
+-- how many edges start at a point, and how many end there
+abbrev starts : Point → List Edge → ℕ
+starts p es = starts_at p (segments es)
 
-starts-cons : (p : Pt) (e : Edge) (es : List Edge) → starts_at p (e ∷ es) ≡ once (same_place p e.a) + starts_at p es
-starts-cons p e es = sum_by-cons (λ x. once (same_place p x.a)) e es
+abbrev ends : Point → List Edge → ℕ
+ends p es = ends_at p (segments es)
 
-ends-cons : (p : Pt) (e : Edge) (es : List Edge) → ends_at p (e ∷ es) ≡ once (same_place p e.b) + ends_at p es
-ends-cons p e es = sum_by-cons (λ x. once (same_place p x.b)) e es
+starts-cons : (p : Point) (e : Edge) (es : List Edge) → starts p (e ∷ es) ≡ once (is_same_point p (whole e.a)) + starts p es
+starts-cons p e es = balance.starts-cons p (segment_of e) (segments es)
 
-both : (a b : Bool) → (a && b) ≡ true → (a ≡ true) × (b ≡ true)
-both true b e = (refl, e)
-both false b e = absurd (cc)
+ends-cons : (p : Point) (e : Edge) (es : List Edge) → ends p (e ∷ es) ≡ once (is_same_point p (whole e.b)) + ends p es
+ends-cons p e es = balance.ends-cons p (segment_of e) (segments es)
 
 same_place-is : (p q : Pt) → same_place p q ≡ true → p ≡ q
 same_place-is p q e =
-    let parts = both (int_eq p.x q.x) (int_eq p.y q.y) e in
+    let parts = and_parts (int_eq p.x q.x) (int_eq p.y q.y) e in
     let ex = (signed_Decides p.x q.x).0 parts.0 in
     let ey = (signed_Decides p.y q.y).0 parts.1 in
     λ i. record { x = ex i; y = ey i }
@@ -43,20 +47,20 @@ was_true true e = refl
 was_true false e = absurd (cc)
 
 -- edges whose ends coincide start and end alike, so that leaving them out changes no balance
-left_out : (p : Pt) (es : List Edge) → starts_at p (filter has_length es) + ends_at p es ≡ ends_at p (filter has_length es) + starts_at p es
+left_out : (p : Point) (es : List Edge) → starts p (filter has_length es) + ends p es ≡ ends p (filter has_length es) + starts p es
 left_out p [] = refl
 left_out p (e ∷ es) =
     let rest = left_out p es in
-    elim (has_length e) as (λ b. has_length e ≡ b → starts_at p (cond b (e ∷ filter has_length es) (filter has_length es)) + ends_at p (e ∷ es) ≡ ends_at p (cond b (e ∷ filter has_length es) (filter has_length es)) + starts_at p (e ∷ es)) [
+    elim (has_length e) as (λ b. has_length e ≡ b → starts p (cond b (e ∷ filter has_length es) (filter has_length es)) + ends p (e ∷ es) ≡ ends p (cond b (e ∷ filter has_length es) (filter has_length es)) + starts p (e ∷ es)) [
       | true ↦ (λ t. omega (arith, starts-cons p e es, ends-cons p e es, starts-cons p e (filter has_length es), ends-cons p e (filter has_length es)))
       | false ↦ (λ t.
-          let ends_meet : once (same_place p e.a) ≡ once (same_place p e.b) = ap {B = ℕ} (λ q. once (same_place p q)) (same_place-is e.a e.b (was_true (same_place e.a e.b) t)) in
+          let ends_meet : once (is_same_point p (whole e.a)) ≡ once (is_same_point p (whole e.b)) = ap {B = ℕ} (λ q. once (is_same_point p (whole q))) (same_place-is e.a e.b (sym (same_whole e.a e.b) ∙ was_true (is_same_point (whole e.a) (whole e.b)) t)) in
           omega (arith, starts-cons p e es, ends-cons p e es))
     ] refl
 
 -- a side that falls through the plane at a point that is rounded to p counts once
-abbrev falls_at : Pt → ℤ → Side → ℕ
-falls_at p plane s = cond (is_above plane s.from.z) (cond (is_below plane s.to.z) (once (same_place p (nearest_point (point_between s.to s.from plane)))) 0) 0
+abbrev falls_at : Point → ℤ → Side → ℕ
+falls_at p plane s = cond (is_above plane s.from.z) (cond (is_below plane s.to.z) (once (is_same_point p (whole (nearest_point (point_between s.to s.from plane))))) 0) 0
 
 -- the plane of a layer has no corner in it
 below_or_above : (layer h : ℕ) (z : ℤ) → is_below (plane_of layer h) z ≡ not (is_above (plane_of layer h) z)
@@ -65,12 +69,12 @@ below_or_above layer h z = apart (layer * h + h / 2) z
     apart : (n : ℕ) (z : ℤ) → int_lt (pos 2 *ℤ z) (pos (2 * n + 1)) ≡ not (int_lt (pos (2 * n + 1)) (pos 2 *ℤ z))
     apart n z = grind (arith, ints)
 
-module _ (p : Pt) (plane : ℤ) where
+module _ (p : Point) (plane : ℤ) where
   abbrev start_of : Side → ℕ
-  start_of s = once (same_place p (nearest_point (point_between s.to s.from plane)))
+  start_of s = once (is_same_point p (whole (nearest_point (point_between s.to s.from plane))))
 
   abbrev end_of : Side → ℕ
-  end_of s = once (same_place p (nearest_point (point_between s.from s.to plane)))
+  end_of s = once (is_same_point p (whole (nearest_point (point_between s.from s.to plane))))
 
   abbrev ab : Triangle → Side
   ab t = record { from = t.a; to = t.b }
@@ -82,17 +86,17 @@ module _ (p : Pt) (plane : ℤ) where
   ca t = record { from = t.c; to = t.a }
 
   -- the cut of a triangle by which of its corners lie above and below
-  abbrev cut_by : Triangle → Bool → Bool → Bool → Bool → Bool → Bool → Option Cut
+  abbrev cut_by : Triangle → Bool → Bool → Bool → Bool → Bool → Bool → Option Segment
   cut_by t a a' b b' c c' = cut_between plane
       (cond (a && b') (Some (ab t)) (cond (b && c') (Some (bc t)) (cond (c && a') (Some (ca t)) None)))
       (cond (a' && b) (Some (ab t)) (cond (b' && c) (Some (bc t)) (cond (c' && a) (Some (ca t)) None)))
 
   abbrev Starts : Triangle → Bool → Bool → Bool → Bool → Bool → Bool → Type 0
-  Starts t a a' b b' c c' = starts_at p (map rounded (cons_option (cut_by t a a' b b' c c') [])) ≡
+  Starts t a a' b b' c c' = starts p (map rounded (cons_option (cut_by t a a' b b' c c') [])) ≡
       cond a (cond b' (start_of (ab t)) 0) 0 + (cond b (cond c' (start_of (bc t)) 0) 0 + cond c (cond a' (start_of (ca t)) 0) 0)
 
   abbrev Ends : Triangle → Bool → Bool → Bool → Bool → Bool → Bool → Type 0
-  Ends t a a' b b' c c' = ends_at p (map rounded (cons_option (cut_by t a a' b b' c c') [])) ≡
+  Ends t a a' b b' c c' = ends p (map rounded (cons_option (cut_by t a a' b b' c c') [])) ≡
       cond b (cond a' (end_of (ab t)) 0) 0 + (cond c (cond b' (end_of (bc t)) 0) 0 + cond a (cond c' (end_of (ca t)) 0) 0)
 
   starts_by : (t : Triangle) (a b c : Bool) → Starts t a (not a) b (not b) c (not c)
@@ -116,7 +120,7 @@ module _ (p : Pt) (plane : ℤ) where
   ends_by t false false false = refl
 
   module _ (apart : (z : ℤ) → is_below plane z ≡ not (is_above plane z)) where
-    starts_of : (t : Triangle) → starts_at p (map rounded (cons_option (cut_of plane t) [])) ≡ sum_by (falls_at p plane) (sides_of t)
+    starts_of : (t : Triangle) → starts p (map rounded (cons_option (cut_of plane t) [])) ≡ sum_by (falls_at p plane) (sides_of t)
     starts_of t =
         subst (λ x. Starts t (is_above plane t.a.z) x (is_above plane t.b.z) (is_below plane t.b.z) (is_above plane t.c.z) (is_below plane t.c.z)) (sym (apart t.a.z))
         (subst (λ x. Starts t (is_above plane t.a.z) (not (is_above plane t.a.z)) (is_above plane t.b.z) x (is_above plane t.c.z) (is_below plane t.c.z)) (sym (apart t.b.z))
@@ -124,7 +128,7 @@ module _ (p : Pt) (plane : ℤ) where
         (starts_by t (is_above plane t.a.z) (is_above plane t.b.z) (is_above plane t.c.z))))
         ∙ omega arith
 
-    ends_of : (t : Triangle) → ends_at p (map rounded (cons_option (cut_of plane t) [])) ≡ sum_by (λ s. falls_at p plane (reversed s)) (sides_of t)
+    ends_of : (t : Triangle) → ends p (map rounded (cons_option (cut_of plane t) [])) ≡ sum_by (λ s. falls_at p plane (reversed s)) (sides_of t)
     ends_of t =
         subst (λ x. Ends t (is_above plane t.a.z) x (is_above plane t.b.z) (is_below plane t.b.z) (is_above plane t.c.z) (is_below plane t.c.z)) (sym (apart t.a.z))
         (subst (λ x. Ends t (is_above plane t.a.z) (not (is_above plane t.a.z)) (is_above plane t.b.z) x (is_above plane t.c.z) (is_below plane t.c.z)) (sym (apart t.b.z))
@@ -132,19 +136,19 @@ module _ (p : Pt) (plane : ℤ) where
         (ends_by t (is_above plane t.a.z) (is_above plane t.b.z) (is_above plane t.c.z))))
         ∙ omega arith
 
-    starts-more : (o : Option Cut) (cs : List Cut) → starts_at p (map rounded (cons_option o cs)) ≡ starts_at p (map rounded (cons_option o [])) + starts_at p (map rounded cs)
+    starts-more : (o : Option Segment) (cs : List Segment) → starts p (map rounded (cons_option o cs)) ≡ starts p (map rounded (cons_option o [])) + starts p (map rounded cs)
     starts-more None cs = omega arith
     starts-more (Some c) cs = omega (arith, starts-cons p (rounded c) (map rounded cs))
 
-    ends-more : (o : Option Cut) (cs : List Cut) → ends_at p (map rounded (cons_option o cs)) ≡ ends_at p (map rounded (cons_option o [])) + ends_at p (map rounded cs)
+    ends-more : (o : Option Segment) (cs : List Segment) → ends p (map rounded (cons_option o cs)) ≡ ends p (map rounded (cons_option o [])) + ends p (map rounded cs)
     ends-more None cs = omega arith
     ends-more (Some c) cs = omega (arith, ends-cons p (rounded c) (map rounded cs))
 
-    starts_all : (ts : List Triangle) → starts_at p (map rounded (cuts_of plane ts)) ≡ sum_by (falls_at p plane) (sides ts)
+    starts_all : (ts : List Triangle) → starts p (map rounded (cuts_of plane ts)) ≡ sum_by (falls_at p plane) (sides ts)
     starts_all [] = refl
     starts_all (t ∷ ts) = starts-more (cut_of plane t) (cuts_of plane ts) ∙ ap₂ (λ m n. m + n) (starts_of t) (starts_all ts) ∙ sym (sum_by-append (falls_at p plane) (sides_of t) (sides ts))
 
-    ends_all : (ts : List Triangle) → ends_at p (map rounded (cuts_of plane ts)) ≡ sum_by (λ s. falls_at p plane (reversed s)) (sides ts)
+    ends_all : (ts : List Triangle) → ends p (map rounded (cuts_of plane ts)) ≡ sum_by (λ s. falls_at p plane (reversed s)) (sides ts)
     ends_all [] = refl
     ends_all (t ∷ ts) = ends-more (cut_of plane t) (cuts_of plane ts) ∙ ap₂ (λ m n. m + n) (ends_of t) (ends_all ts) ∙ sym (sum_by-append (λ s. falls_at p plane (reversed s)) (sides_of t) (sides ts))
 
@@ -153,11 +157,11 @@ sum_by-of_reversed : (f : Side → ℕ) (ss : List Side) → sum_by (λ s. f (re
 sum_by-of_reversed f [] = refl
 sum_by-of_reversed f (s ∷ ss) = omega (arith, sum_by-cons (λ x. f (reversed x)) s ss, sum_by-cons f (reversed s) (map reversed ss), sum_by-of_reversed f ss)
 
-pub IsBalanced-section_of : (ts : List Triangle) (layer h : ℕ) → is_closed ts ≡ true → IsBalanced (section_of ts layer h)
+pub IsBalanced-section_of : (ts : List Triangle) (layer h : ℕ) → is_closed ts ≡ true → IsBalanced (segments (section_of ts layer h))
 IsBalanced-section_of ts layer h closed = record { each = each }
   where
-    each : (p : Pt) → starts_at p (section_of ts layer h) ≡ ends_at p (section_of ts layer h)
-    each p =
+    each : (p : Point) → pos 0 <ℤ p.d → starts p (section_of ts layer h) ≡ ends p (section_of ts layer h)
+    each p some =
         let plane = plane_of layer h in
         let s = starts_all p plane (below_or_above layer h) ts in
         let e = ends_all p plane (below_or_above layer h) ts ∙ sum_by-of_reversed (falls_at p plane) (sides ts) ∙ sum_by-reversed ts closed (falls_at p plane) in

@@ -2,7 +2,7 @@
 ghost use Rattle.std.specs.Prelude.{◌≡◌, ◌^◌, ◌≤◌, ◌*ℤ◌, ◌-ℤ◌, pos, unsigned_abs, IsTrue, IfSome, find};
 ghost use Rattle.std.specs.Option.{option_map};
 ghost use Rattle.scad_geom.specs.Rounding.{half_down};
-ghost use Rattle.scad_geom.specs.declared.point3.TheConstants.{POINT_LIMIT};
+ghost use Rattle.scad_geom.specs.Limits.{point_limit};
 ghost use Rattle.scad_solid.specs.Range.{is_triangle_in_range};
 ghost use Rattle.scad_solid.specs.Surface.{sides_of};
 ghost use Rattle.scad_solid.specs.Cut.{falls, rises, cut_of, weighted, point_between};
@@ -71,8 +71,8 @@ fn point_between(lower: Pt3, upper: Pt3, plane: i128) -> Pt
 // One coordinate where the side from `lower` at the height `low` to `upper` at the height `high` meets the
 // plane between them, rounded.
 fn coordinate_at(lower: i32, upper: i32, low: i32, high: i32, plane: i128) -> i32
-    requires lower { unsigned_abs lower ≤ POINT_LIMIT }
-    requires upper { unsigned_abs upper ≤ POINT_LIMIT }
+    requires lower { unsigned_abs lower ≤ point_limit }
+    requires upper { unsigned_abs upper ≤ point_limit }
     requires heights { IsBetween plane low high }
     ensures { result ≡ half_down (weighted lower upper low high plane) (pos 2 *ℤ high -ℤ pos 2 *ℤ low) }
 {
@@ -87,7 +87,7 @@ fn coordinate_at(lower: i32, upper: i32, low: i32, high: i32, plane: i128) -> i3
 
 // Twice the height from the plane up to `high`.
 fn up_to(high: i32, plane: i128) -> i128
-    requires small { unsigned_abs high ≤ POINT_LIMIT }
+    requires small { unsigned_abs high ≤ point_limit }
     requires narrow { unsigned_abs plane ≤ 2 ^ 21 }
     ensures value { result ≡ pos 2 *ℤ high -ℤ plane }
     ensures size { unsigned_abs result ≤ 2 ^ 22 }
@@ -97,7 +97,7 @@ fn up_to(high: i32, plane: i128) -> i128
 
 // Twice the height from the plane down to `low`.
 fn down_to(low: i32, plane: i128) -> i128
-    requires small { unsigned_abs low ≤ POINT_LIMIT }
+    requires small { unsigned_abs low ≤ point_limit }
     requires narrow { unsigned_abs plane ≤ 2 ^ 21 }
     ensures value { result ≡ plane -ℤ pos 2 *ℤ low }
     ensures size { unsigned_abs result ≤ 2 ^ 22 }

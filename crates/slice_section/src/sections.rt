@@ -1,8 +1,9 @@
 //! Sections of solids.
 ghost use Rattle.std.specs.Prelude.{◌≡◌, [], ◌∷◌, ◌++◌, IsTrue, IfOk, OnOk};
+ghost use Rattle.scad_geom.specs.Segment.{segments};
 ghost use Rattle.scad_geom.specs.Balance.{IsBalanced};
 ghost use Rattle.scad_solid.specs.Range.{is_triangle_in_range};
-ghost use Rattle.slice_section.specs.Section.{section_of, edges_of};
+ghost use Rattle.slice_section.specs.Section.{section_of, edges_at};
 
 use crate::cut::edge_of;
 use crate::plane::plane_of;
@@ -22,7 +23,7 @@ pub fn section(
     h: u32,
 ) -> Result<Vec<Edge>, AllocError>
     ensures edges { IfOk result (λ v. v.items ≡ section_of solid.now layer h) }
-    ensures balanced { IfOk result (λ v. IsBalanced v.items) }
+    ensures balanced { IfOk result (λ v. IsBalanced (segments v.items)) }
 {
     let plane = plane_of(layer, h);
     let mut edges = Vec::new(alloc);
@@ -35,7 +36,7 @@ pub fn section(
 // The triangle's edge, where it has one with differing ends.
 fn push_edge(edges: &mut Vec<Edge>, triangle: &Triangle, plane: i128) -> Result<(), AllocError>
     requires { IsTrue (is_triangle_in_range triangle.now) }
-    ensures { OnOk result (edges.new.items ≡ edges.old.items ++ edges_of plane (triangle.now ∷ [])) }
+    ensures { OnOk result (edges.new.items ≡ edges.old.items ++ edges_at plane (triangle.now ∷ [])) }
 {
     match edge_of(triangle, plane) {
         Some(edge) => {

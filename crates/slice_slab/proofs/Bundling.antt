@@ -1,4 +1,4 @@
--- Sorted places give the bundles.
+-- Sorted passages give the bundles.
 use Rattle.std.proofs.Common.{◌≡◌, ℕ, zero, suc, ◌+◌, ◌<◌, ◌≤◌, ◌⊎◌, inl, inr, Bool, true, false, not, ◌&&◌, ◌||◌, cond, List, [], ◌∷◌, length, get_or, refl, sym, ap, ◌∙◌, arith, subst, add-one}
 use lib.IntN.{ℤ, pos, ◌*ℤ◌}
 use lib.Signed.{◌<ℤ◌}
@@ -13,11 +13,12 @@ use Rattle.scad_geom.specs.declared.level.Level.{Level}
 use Rattle.scad_geom.specs.declared.level.LeafEdge.{LeafEdge}
 use Rattle.scad_geom.specs.declared.point.Edge.{Edge}
 use Rattle.scad_geom.specs.Line.{rise, run, x_at}
-use Rattle.scad_geom.specs.Heights.{IsLower, IsAtMost, IsSameHeight, IsBefore, AreAligned}
+use Rattle.scad_geom.specs.Level.{IsLower, IsAtMost, IsSameHeight}
+use Rattle.scad_geom.specs.EdgeOrder.{IsBefore, AreAligned}
 use Rattle.scad_geom.proofs.Heights.{at_most_chain, at_most_then_lower, lower_then_at_most}
-use Rattle.slice_slab.specs.declared.place.Place.{Place}
+use Rattle.slice_slab.specs.declared.passage.Passage.{Passage}
 use Rattle.slice_slab.specs.Bundles.{edge_at, Precedes, AreRanked}
-use Rattle.slice_slab.specs.Places.{is_left, leans_left, comes_first, IsPlaceOf, numbers_of, is_aligned, joined, bundles_of, AreSorted}
+use Rattle.slice_slab.specs.Passages.{is_left, leans_left, comes_first, IsPassageOf, numbers_of, is_aligned, joined, bundles_of, AreSorted}
 
 -- ---- fractions that are the same, or one below the other
 same_chain : (p q r : Level) → pos 0 <ℤ p.d → pos 0 <ℤ q.d → pos 0 <ℤ r.d → IsSameHeight p q → IsSameHeight q r → IsSameHeight p r
@@ -58,7 +59,7 @@ module _ (at : Level) (e f g : Edge) (de : pos 0 <ℤ rise e) (df : pos 0 <ℤ r
   before_chain (inr h) (inl k) = inl (same_lower (x_of at e) (x_of at f) (x_of at g) de df dg h.0 k)
   before_chain (inr h) (inr k) = inr (same_chain (x_of at e) (x_of at f) (x_of at g) de df dg h.0 k.0, lower_chain (lean_of e) (lean_of f) (lean_of g) de df dg h.1 k.1)
 
--- ---- neighbours of a sorted list of places
+-- ---- neighbours of a sorted list of passages
 eq_from : (a b : ℤ) → int_eq a b ≡ true → a ≡ b
 eq_from a b h = by_tests (int_lt a b) refl (int_lt b a) refl h
   where
@@ -78,14 +79,14 @@ both_true true true h = (refl, refl)
 both_true true false h = cc
 both_true false b h = cc
 
--- what a place says of its edge
-same_edge : (es : List LeafEdge) (at : Level) (p q : Place) → IsPlaceOf es at p → IsPlaceOf es at q → p.x *ℤ q.rise ≡ q.x *ℤ p.rise → p.run *ℤ q.rise ≡ q.run *ℤ p.rise → AreAligned at (edge_at es p.number) (edge_at es q.number)
+-- what a passage says of its edge
+same_edge : (es : List LeafEdge) (at : Level) (p q : Passage) → IsPassageOf es at p → IsPassageOf es at q → p.x *ℤ q.rise ≡ q.x *ℤ p.rise → p.run *ℤ q.rise ≡ q.run *ℤ p.rise → AreAligned at (edge_at es p.number) (edge_at es q.number)
 same_edge es at p q hp hq h k =
     let a = rw (hp.x, hq.x, hp.rise, hq.rise) at h in
     let b = rw (hp.run, hq.run, hp.rise, hq.rise) at k in
     (a, b)
 
-before_edge : (es : List LeafEdge) (at : Level) (p q : Place) → IsPlaceOf es at p → IsPlaceOf es at q → ((p.x *ℤ q.rise) <ℤ (q.x *ℤ p.rise)) ⊎ ((p.x *ℤ q.rise ≡ q.x *ℤ p.rise) × ((p.run *ℤ q.rise) <ℤ (q.run *ℤ p.rise)))
+before_edge : (es : List LeafEdge) (at : Level) (p q : Passage) → IsPassageOf es at p → IsPassageOf es at q → ((p.x *ℤ q.rise) <ℤ (q.x *ℤ p.rise)) ⊎ ((p.x *ℤ q.rise ≡ q.x *ℤ p.rise) × ((p.run *ℤ q.rise) <ℤ (q.run *ℤ p.rise)))
     → IsBefore at (edge_at es p.number) (edge_at es q.number)
 before_edge es at p q hp hq (inl h) = inl (rw (hp.x, hq.x, hp.rise, hq.rise) at h)
 before_edge es at p q hp hq (inr h) = let h0 = h.0 in let h1 = h.1 in inr (rw (hp.x, hq.x, hp.rise, hq.rise) at h0, rw (hp.run, hq.run, hp.rise, hq.rise) at h1)
@@ -99,7 +100,7 @@ apart_parts false false false true e h = (refl, inr (refl, refl, inl refl))
 apart_parts false false false false true h = cc
 apart_parts false false false false false h = (refl, inr (refl, refl, inr (refl, refl)))
 
-neighbours : (p q : Place) → comes_first q p ≡ false
+neighbours : (p q : Passage) → comes_first q p ≡ false
     → (((p.x *ℤ q.rise) <ℤ (q.x *ℤ p.rise)) ⊎ ((p.x *ℤ q.rise ≡ q.x *ℤ p.rise) × ((p.run *ℤ q.rise) <ℤ (q.run *ℤ p.rise))))
     ⊎ ((p.x *ℤ q.rise ≡ q.x *ℤ p.rise) × (p.run *ℤ q.rise ≡ q.run *ℤ p.rise) × (p.number ≤ q.number))
 neighbours p q h =
@@ -119,15 +120,15 @@ neighbours p q h =
     not_less : (m n : ℕ) → nat_lt m n ≡ false → n ≤ m
     not_less m n h = nltb→le m n (subst (λ (t : Bool). T (not t)) (sym h) tt)
 
-sorted_by : (ps : List Place) → ((k : ℕ) (d : Place) → suc k < length ps → comes_first (get_or ps (suc k) d) (get_or ps k d) ≡ false) → AreSorted ps
+sorted_by : (ps : List Passage) → ((k : ℕ) (d : Passage) → suc k < length ps → comes_first (get_or ps (suc k) d) (get_or ps k d) ≡ false) → AreSorted ps
 sorted_by [] h = tt
 sorted_by (p ∷ []) h = tt
 sorted_by (p ∷ (q ∷ ps)) h = (h zero p (omega arith), sorted_by (q ∷ ps) (λ k d b. h (suc k) d (omega arith)))
 
-pub sorted_from : (ps : List Place) → IsSortedBy comes_first ps → AreSorted ps
+pub sorted_from : (ps : List Passage) → IsSortedBy comes_first ps → AreSorted ps
 sorted_from ps h = sorted_by ps (λ k d b. let t : comes_first (get_or ps (k + 1) d) (get_or ps k d) ≡ false = h k d (omega arith) (omega arith) in rw add-one at t)
 
--- ---- bundles of sorted places
+-- ---- bundles of sorted passages
 abbrev pub Rises : List LeafEdge → ℕ → Type 0
 Rises es k = pos 0 <ℤ rise (edge_at es k)
 
@@ -135,7 +136,7 @@ abbrev pub HeadRises : List LeafEdge → List ℕ → Type 0
 HeadRises es [] = ⊥
 HeadRises es (k ∷ ks) = Rises es k
 
-record Bundled (es : List LeafEdge) (at : Level) (p : Place) (ps : List Place) : Type 0 where
+record Bundled (es : List LeafEdge) (at : Level) (p : Passage) (ps : List Passage) : Type 0 where
   ks : List ℕ
   bs : List (List ℕ)
   are : bundles_of (p ∷ ps) ≡ (p.number ∷ ks) ∷ bs
@@ -143,10 +144,10 @@ record Bundled (es : List LeafEdge) (at : Level) (p : Place) (ps : List Place) :
   rise_ks : AllByRecursion (Rises es) ks
   rise_bs : AllByRecursion (HeadRises es) bs
 
-rises_of : (es : List LeafEdge) (at : Level) (p : Place) → IsPlaceOf es at p → Rises es p.number
+rises_of : (es : List LeafEdge) (at : Level) (p : Passage) → IsPassageOf es at p → Rises es p.number
 rises_of es at p h = subst (λ (z : ℤ). pos 0 <ℤ z) h.rise p.rises
 
-module _ (es : List LeafEdge) (at : Level) (p q : Place) (hp : Rises es p.number) (hq : Rises es q.number) where
+module _ (es : List LeafEdge) (at : Level) (p q : Passage) (hp : Rises es p.number) (hq : Rises es q.number) where
   all_aligned : AreAligned at (edge_at es p.number) (edge_at es q.number) → (ks : List ℕ) → AllByRecursion (Rises es) ks → AllByRecursion (λ j. AreAligned at (edge_at es q.number) (edge_at es j)) ks
       → AllByRecursion (λ j. AreAligned at (edge_at es p.number) (edge_at es j)) ks
   all_aligned a [] r h = tt
@@ -168,13 +169,13 @@ module _ (es : List LeafEdge) (at : Level) (p q : Place) (hp : Rises es p.number
   precede_before a ks ([] ∷ bs) r h = absurd r.0
   precede_before a ks ((j ∷ js) ∷ bs) r h = (before_chain at (edge_at es p.number) (edge_at es q.number) (edge_at es j) hp hq r.0 a h.0, precede_before a ks bs r.1 h.1)
 
-not_aligned : (p q : Place) → p.x *ℤ q.rise ≡ q.x *ℤ p.rise → p.run *ℤ q.rise ≡ q.run *ℤ p.rise → is_aligned p q ≡ false → ⊥
+not_aligned : (p q : Passage) → p.x *ℤ q.rise ≡ q.x *ℤ p.rise → p.run *ℤ q.rise ≡ q.run *ℤ p.rise → is_aligned p q ≡ false → ⊥
 not_aligned p q h k e = let a = eq_to (p.x *ℤ q.rise) (q.x *ℤ p.rise) h in let b = eq_to (p.run *ℤ q.rise) (q.run *ℤ p.rise) k in differ (sym (rw (a, b) refl) ∙ e)
   where
     differ : true ≡ false → ⊥
     differ h = cc
 
-bundled : (es : List LeafEdge) (at : Level) (p : Place) (ps : List Place) → AllByRecursion (IsPlaceOf es at) (p ∷ ps) → AreSorted (p ∷ ps) → Bundled es at p ps
+bundled : (es : List LeafEdge) (at : Level) (p : Passage) (ps : List Passage) → AllByRecursion (IsPassageOf es at) (p ∷ ps) → AreSorted (p ∷ ps) → Bundled es at p ps
 bundled es at p [] h s = record { ks = []; bs = []; are = refl; ranked = (((tt, tt), tt), tt, tt); rise_ks = tt; rise_bs = tt }
 bundled es at p (q ∷ ps) h s =
     let r = bundled es at q ps h.1 s.1 in
@@ -210,11 +211,11 @@ bundled es at p (q ∷ ps) h s =
     by_test true e r (inl (inl n)) hp hq = let x = eq_from (p.x *ℤ q.rise) (q.x *ℤ p.rise) (both_true (int_eq (p.x *ℤ q.rise) (q.x *ℤ p.rise)) (int_eq (p.run *ℤ q.rise) (q.run *ℤ p.rise)) e).0 in absurd (omega (arith, ints))
     by_test true e r (inl (inr n)) hp hq = let n1 = n.1 in let x = eq_from (p.run *ℤ q.rise) (q.run *ℤ p.rise) (both_true (int_eq (p.x *ℤ q.rise) (q.x *ℤ p.rise)) (int_eq (p.run *ℤ q.rise) (q.run *ℤ p.rise)) e).1 in absurd (omega (arith, ints))
 
-pub ranked_bundles : (es : List LeafEdge) (at : Level) (ps : List Place) → AllByRecursion (IsPlaceOf es at) ps → AreSorted ps → AreRanked es at (bundles_of ps)
+pub ranked_bundles : (es : List LeafEdge) (at : Level) (ps : List Passage) → AllByRecursion (IsPassageOf es at) ps → AreSorted ps → AreRanked es at (bundles_of ps)
 ranked_bundles es at [] h s = tt
 ranked_bundles es at (p ∷ ps) h s = let b = bundled es at p ps h s in subst (AreRanked es at) (sym b.are) b.ranked
 
-pub concat-bundles : (ps : List Place) → concat (bundles_of ps) ≡ numbers_of ps
+pub concat-bundles : (ps : List Passage) → concat (bundles_of ps) ≡ numbers_of ps
 concat-bundles [] = refl
 concat-bundles (p ∷ []) = refl
 concat-bundles (p ∷ (q ∷ ps)) = by_test (is_aligned p q) (concat-bundles (q ∷ ps))

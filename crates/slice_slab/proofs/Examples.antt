@@ -6,7 +6,9 @@ use Rattle.std.specs.List.{AllByRecursion}
 use Rattle.std.proofs.lemmas.List.Elements.{All-from_recursion}
 use Rattle.scad_geom.specs.declared.level.Level.{Level}
 use Rattle.scad_geom.specs.declared.level.LeafEdge.{LeafEdge}
-use Rattle.scad_geom.specs.Heights.{level_of, heights, meets, meeting, straddles, IsAtMost, AreNeighbours}
+use Rattle.scad_geom.specs.Level.{level_of, IsAtMost}
+use Rattle.scad_geom.specs.Heights.{heights, AreNeighbours}
+use Rattle.scad_geom.specs.Meeting.{meets, meeting, straddles}
 use Rattle.scad_geom.specs.Line.{low, high, rise, run, offset, x_at, left_of, lean, apart}
 
 abbrev from_to : ℕ → ℤ → ℤ → ℤ → ℤ → LeafEdge

@@ -8,7 +8,9 @@ use Rattle.scad_geom.specs.declared.point.Edge.{Edge}
 use Rattle.scad_geom.specs.declared.level.Level.{Level}
 use Rattle.scad_geom.specs.declared.level.LeafEdge.{LeafEdge}
 use Rattle.scad_geom.specs.Line.{rise, x_at}
-use Rattle.scad_geom.specs.Heights.{IsAtMost, IsSameHeight, AreNeighbours, AreAligned}
+use Rattle.scad_geom.specs.Level.{IsAtMost, IsSameHeight}
+use Rattle.scad_geom.specs.Heights.{AreNeighbours}
+use Rattle.scad_geom.specs.EdgeOrder.{AreAligned}
 use Rattle.scad_geom.proofs.Heights.{lower_then_at_most, at_most_then_lower, at_most_chain}
 use Rattle.scad_geom.proofs.Order.{front, back, before_inside, before_between, aligned_all}
 use Rattle.slice_slab.specs.Bundles.{no_edge, edge_at, IsBundle, Precedes, AreRanked, AreBundles}

@@ -1,4 +1,4 @@
--- The order of places is a strict order in which any two compare.
+-- The order of passages is a strict order in which any two compare.
 use Rattle.std.proofs.Common.{◌≡◌, Bool, true, false, not, ◌&&◌, ◌||◌, cond, refl, sym, arith}
 use lib.IntN.{ℤ}
 use Rattle.std.specs.Prelude.{int_lt, nat_lt}
@@ -8,13 +8,13 @@ use Rattle.std.specs.Cmp.{IsStrictWeakOrder}
 use Rattle.std.proofs.lemmas.Int.{ints}
 use Rattle.std.proofs.lemmas.List.Sorted.{IsStrictWeakOrder-by_number}
 use Rattle.scad_geom.specs.declared.level.Level.{Level}
-use Rattle.scad_geom.specs.Heights.{IsAtMost}
+use Rattle.scad_geom.specs.Level.{IsAtMost}
 use Rattle.scad_geom.proofs.Heights.{at_most_chain}
-use Rattle.slice_slab.specs.declared.place.Place.{Place}
-use Rattle.slice_slab.specs.Places.{is_left, leans_left, first_by, comes_first}
+use Rattle.slice_slab.specs.declared.passage.Passage.{Passage}
+use Rattle.slice_slab.specs.Passages.{is_left, leans_left, first_by, comes_first}
 
 -- two orders, one after the other
-lexicographic : (lt mt : Place → Place → Bool) → IsStrictWeakOrder lt → IsStrictWeakOrder mt → IsStrictWeakOrder (first_by lt mt)
+lexicographic : (lt mt : Passage → Passage → Bool) → IsStrictWeakOrder lt → IsStrictWeakOrder mt → IsStrictWeakOrder (first_by lt mt)
 lexicographic lt mt a b = record {
   one_way = λ x y h. one (lt x y) (lt y x) (mt x y) (mt y x) (a.one_way x y) (b.one_way x y) h;
   chain = λ x y z h k. two (lt x y) (lt y x) (mt x y) (lt y z) (lt z y) (mt y z) (lt x z) (lt z x) (mt x z)
@@ -41,7 +41,7 @@ left_order : IsStrictWeakOrder is_left
 left_order = record {
   one_way = λ x y h. sym (omega (arith, ints));
   chain = λ x y z h k.
-      let at : Place → Level = λ p. record { n = p.x; d = p.rise } in
+      let at : Passage → Level = λ p. record { n = p.x; d = p.rise } in
       let a : IsAtMost (at y) (at x) = omega (arith, ints) in
       let b : IsAtMost (at z) (at y) = omega (arith, ints) in
       let c : IsAtMost (at z) (at x) = at_most_chain (at z) (at y) (at x) z.rises y.rises x.rises b a in
@@ -52,15 +52,15 @@ lean_order : IsStrictWeakOrder leans_left
 lean_order = record {
   one_way = λ x y h. sym (omega (arith, ints));
   chain = λ x y z h k.
-      let at : Place → Level = λ p. record { n = p.run; d = p.rise } in
+      let at : Passage → Level = λ p. record { n = p.run; d = p.rise } in
       let a : IsAtMost (at y) (at x) = omega (arith, ints) in
       let b : IsAtMost (at z) (at y) = omega (arith, ints) in
       let c : IsAtMost (at z) (at x) = at_most_chain (at z) (at y) (at x) z.rises y.rises x.rises b a in
       sym (omega (arith, ints));
 }
 
-pub place_order : IsStrictWeakOrder comes_first
-place_order = lexicographic is_left (first_by leans_left (λ p q. nat_lt p.number q.number)) left_order (lexicographic leans_left (λ p q. nat_lt p.number q.number) lean_order (IsStrictWeakOrder-by_number (λ (p : Place). p.number)))
+pub passage_order : IsStrictWeakOrder comes_first
+passage_order = lexicographic is_left (first_by leans_left (λ p q. nat_lt p.number q.number)) left_order (lexicographic leans_left (λ p q. nat_lt p.number q.number) lean_order (IsStrictWeakOrder-by_number (λ (p : Passage). p.number)))
 
 -- ---- what comparisons say of the tests
 pub is_lt-int_cmp : (x y : ℤ) → is_lt (int_cmp x y) ≡ int_lt x y

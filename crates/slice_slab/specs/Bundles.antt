@@ -6,7 +6,7 @@ use Rattle.scad_geom.specs.declared.point.Edge.{Edge}
 use Rattle.scad_geom.specs.declared.level.Level.{Level}
 use Rattle.scad_geom.specs.declared.level.LeafEdge.{LeafEdge}
 use Rattle.scad_geom.specs.Line.{low, high, rise}
-use Rattle.scad_geom.specs.Heights.{IsBefore, AreAligned}
+use Rattle.scad_geom.specs.EdgeOrder.{IsBefore, AreAligned}
 
 -- what stands for an edge past the end of a list
 abbrev pub no_edge : LeafEdge

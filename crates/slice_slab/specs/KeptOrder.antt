@@ -5,7 +5,8 @@ use Rattle.scad_geom.specs.declared.point.Edge.{Edge}
 use Rattle.scad_geom.specs.declared.level.Level.{Level}
 use Rattle.scad_geom.specs.declared.level.LeafEdge.{LeafEdge}
 use Rattle.scad_geom.specs.Line.{rise, x_at}
-use Rattle.scad_geom.specs.Heights.{IsLower, IsAtMost, AreNeighbours}
+use Rattle.scad_geom.specs.Level.{IsLower, IsAtMost}
+use Rattle.scad_geom.specs.Heights.{AreNeighbours}
 use Rattle.slice_slab.specs.Bundles.{edge_at, AreBundles}
 
 -- at a height, e lies to the left of f; not to the right of it; at the same place

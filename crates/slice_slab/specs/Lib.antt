@@ -1,3 +1,3 @@
 pub mod Bundles
-pub mod Places
+pub mod Passages
 pub mod KeptOrder

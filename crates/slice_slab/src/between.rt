@@ -1,17 +1,19 @@
 //! The bundles between two neighbouring heights.
 ghost use Rattle.std.specs.Prelude.{◌≡◌, ◌<◌, ◌^◌, length, OnOk, IfOk, All};
 ghost use Rattle.std.specs.List.Sorted.{IsPermutation};
-ghost use Rattle.scad_geom.specs.Point.{IsEdgeWithin};
-ghost use Rattle.scad_geom.specs.Heights.{IsLevelWithin, AreNeighbours};
+ghost use Rattle.scad_geom.specs.Limits.{coordinate_limit};
+ghost use Rattle.scad_geom.specs.Within.{IsEdgeWithin};
+ghost use Rattle.scad_geom.specs.Level.{IsLevelWithin};
+ghost use Rattle.scad_geom.specs.Heights.{AreNeighbours};
 ghost use Rattle.slice_slab.specs.Bundles.{AreBundles};
-ghost use Rattle.slice_slab.specs.Places.{AreSorted};
+ghost use Rattle.slice_slab.specs.Passages.{AreSorted};
 
 use crate::bundle::Bundle;
-use crate::collect::places;
+use crate::collect::passages;
 use crate::group::group;
 use crate::order::compare;
-use crate::place::Place;
-use scad_geom::{COORDINATE_LIMIT, LeafEdge, Level};
+use crate::passage::Passage;
+use scad_geom::{LeafEdge, Level};
 use std::alloc::{AllocError, Global};
 
 /// The edges that reach two neighbouring levels, from left to right: ordered by x at the lower one and then by slope,
@@ -22,23 +24,23 @@ pub fn slab(
     lower: &Level,
     upper: &Level,
 ) -> Result<Vec<Bundle>, AllocError>
-    requires within { All (λ e. IsEdgeWithin COORDINATE_LIMIT e.edge) edges.now }
+    requires within { All (λ e. IsEdgeWithin coordinate_limit e.edge) edges.now }
     requires few { length edges.now < 2 ^ 32 }
-    requires lower { IsLevelWithin COORDINATE_LIMIT lower.now }
-    requires upper { IsLevelWithin COORDINATE_LIMIT upper.now }
+    requires lower { IsLevelWithin coordinate_limit lower.now }
+    requires upper { IsLevelWithin coordinate_limit upper.now }
     requires neighbours { AreNeighbours edges.now lower.now upper.now }
     ensures { IfOk result (λ v. AreBundles edges.now lower.now upper.now v.items) }
 {
-    let mut places = places(alloc, edges, lower, upper)?;
-    sort(&mut places)?;
-    group(alloc, &places)
+    let mut passages = passages(alloc, edges, lower, upper)?;
+    sort(&mut passages)?;
+    group(alloc, &passages)
 }
 
-fn sort(places: &mut Vec<Place>) -> Result<(), AllocError>
-    ensures permutation { IsPermutation places.old.items places.new.items }
-    ensures sorted { OnOk result (AreSorted places.new.items) }
+fn sort(passages: &mut Vec<Passage>) -> Result<(), AllocError>
+    ensures permutation { IsPermutation passages.old.items passages.new.items }
+    ensures sorted { OnOk result (AreSorted passages.new.items) }
 {
-    places.sort_by(compare)
+    passages.sort_by(compare)
 }
 
 #[cfg(test)]

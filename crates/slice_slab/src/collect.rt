@@ -1,43 +1,44 @@
-//! The places of the edges that reach two heights.
+//! The passages of the edges that reach two heights.
 ghost use Rattle.std.specs.Prelude.{◌≡◌, ◌<◌, ◌^◌, ◌*ℤ◌, ◌<ℤ◌, pos, int_le, true, length, IfOk, All};
+ghost use Rattle.scad_geom.specs.Limits.{coordinate_limit};
 ghost use Rattle.scad_geom.specs.Line.{low, high, rise};
-ghost use Rattle.scad_geom.specs.Point.{IsEdgeWithin};
-ghost use Rattle.scad_geom.specs.Heights.{IsLevelWithin};
+ghost use Rattle.scad_geom.specs.Within.{IsEdgeWithin};
+ghost use Rattle.scad_geom.specs.Level.{IsLevelWithin};
 ghost use Rattle.slice_slab.specs.Bundles.{reaches, reaching, edge_at};
-ghost use Rattle.slice_slab.specs.Places.{numbers_of, IsPlaceOf};
+ghost use Rattle.slice_slab.specs.Passages.{numbers_of, IsPassageOf};
 
-use crate::place::Place;
+use crate::passage::Passage;
 use scad_geom::line::{high, low, rise, run, x_at};
 use scad_geom::wide::times;
-use scad_geom::{COORDINATE_LIMIT, Edge, LeafEdge, Level};
+use scad_geom::{Edge, LeafEdge, Level};
 use std::alloc::{AllocError, Global};
 
-pub(crate) fn places(
+pub(crate) fn passages(
     alloc: Global,
     edges: &[LeafEdge],
     lower: &Level,
     upper: &Level,
-) -> Result<Vec<Place>, AllocError>
-    requires within { All (λ e. IsEdgeWithin COORDINATE_LIMIT e.edge) edges.now }
+) -> Result<Vec<Passage>, AllocError>
+    requires within { All (λ e. IsEdgeWithin coordinate_limit e.edge) edges.now }
     requires few { length edges.now < 2 ^ 32 }
-    requires lower { IsLevelWithin COORDINATE_LIMIT lower.now }
-    requires upper { IsLevelWithin COORDINATE_LIMIT upper.now }
+    requires lower { IsLevelWithin coordinate_limit lower.now }
+    requires upper { IsLevelWithin coordinate_limit upper.now }
     ensures numbers { IfOk result (λ v. numbers_of v.items ≡ reaching 0 edges.now lower.now upper.now) }
-    ensures places { IfOk result (λ v. All (IsPlaceOf edges.now lower.now) v.items) }
+    ensures passages { IfOk result (λ v. All (IsPassageOf edges.now lower.now) v.items) }
 {
     let mut out = Vec::new(alloc);
     'edges: for i in 0..edges.len() {
         if reaches_at(edges, i, lower, upper) {
-            out.push(place(edges, i, lower))?;
+            out.push(passage(edges, i, lower))?;
         }
     }
     Ok(out)
 }
 
 fn reaches_at(edges: &[LeafEdge], i: usize, lower: &Level, upper: &Level) -> bool
-    requires within { All (λ e. IsEdgeWithin COORDINATE_LIMIT e.edge) edges.now }
-    requires lower { IsLevelWithin COORDINATE_LIMIT lower.now }
-    requires upper { IsLevelWithin COORDINATE_LIMIT upper.now }
+    requires within { All (λ e. IsEdgeWithin coordinate_limit e.edge) edges.now }
+    requires lower { IsLevelWithin coordinate_limit lower.now }
+    requires upper { IsLevelWithin coordinate_limit upper.now }
     requires there { i < length edges.now }
     ensures value { result ≡ reaches (edge_at edges.now i) lower.now upper.now }
     ensures rises { result ≡ true → pos 0 <ℤ rise (edge_at edges.now i) }
@@ -45,17 +46,17 @@ fn reaches_at(edges: &[LeafEdge], i: usize, lower: &Level, upper: &Level) -> boo
     reaches(&edges[i].edge, lower, upper)
 }
 
-fn place(edges: &[LeafEdge], i: usize, at: &Level) -> Place
-    requires within { All (λ e. IsEdgeWithin COORDINATE_LIMIT e.edge) edges.now }
+fn passage(edges: &[LeafEdge], i: usize, at: &Level) -> Passage
+    requires within { All (λ e. IsEdgeWithin coordinate_limit e.edge) edges.now }
     requires few { length edges.now < 2 ^ 32 }
-    requires at { IsLevelWithin COORDINATE_LIMIT at.now }
+    requires at { IsLevelWithin coordinate_limit at.now }
     requires there { i < length edges.now }
     requires rises { pos 0 <ℤ rise (edge_at edges.now i) }
     ensures number { result.number ≡ i }
-    ensures place { IsPlaceOf edges.now at.now result }
+    ensures passage { IsPassageOf edges.now at.now result }
 {
     let e = &edges[i].edge;
-    Place {
+    Passage {
         number: i as u32,
         x: x_at(e, at),
         rise: rise(e),
@@ -66,9 +67,9 @@ fn place(edges: &[LeafEdge], i: usize, at: &Level) -> Place
 /// Whether an edge isn't flat and reaches both heights.
 #[tactic(auto, using(scad_geom::proofs::Casts::casts), unfolding(crate::specs::Bundles::reaches))]
 fn reaches(e: &Edge, lower: &Level, upper: &Level) -> bool
-    requires edge { IsEdgeWithin COORDINATE_LIMIT e.now }
-    requires lower { IsLevelWithin COORDINATE_LIMIT lower.now }
-    requires upper { IsLevelWithin COORDINATE_LIMIT upper.now }
+    requires edge { IsEdgeWithin coordinate_limit e.now }
+    requires lower { IsLevelWithin coordinate_limit lower.now }
+    requires upper { IsLevelWithin coordinate_limit upper.now }
     ensures value { result ≡ reaches e.now lower.now upper.now }
     ensures rises { result ≡ true → pos 0 <ℤ rise e.now }
 {
@@ -76,16 +77,16 @@ fn reaches(e: &Edge, lower: &Level, upper: &Level) -> bool
 }
 
 fn starts_by(e: &Edge, lower: &Level) -> bool
-    requires edge { IsEdgeWithin COORDINATE_LIMIT e.now }
-    requires lower { IsLevelWithin COORDINATE_LIMIT lower.now }
+    requires edge { IsEdgeWithin coordinate_limit e.now }
+    requires lower { IsLevelWithin coordinate_limit lower.now }
     ensures { result ≡ int_le ((low e.now).y *ℤ lower.now.d) lower.now.n }
 {
     times::<21, 44>(low(e).y as i128, lower.d) <= lower.n
 }
 
 fn ends_from(e: &Edge, upper: &Level) -> bool
-    requires edge { IsEdgeWithin COORDINATE_LIMIT e.now }
-    requires upper { IsLevelWithin COORDINATE_LIMIT upper.now }
+    requires edge { IsEdgeWithin coordinate_limit e.now }
+    requires upper { IsLevelWithin coordinate_limit upper.now }
     ensures { result ≡ int_le upper.now.n ((high e.now).y *ℤ upper.now.d) }
 {
     upper.n <= times::<21, 44>(high(e).y as i128, upper.d)

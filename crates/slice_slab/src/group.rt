@@ -1,22 +1,22 @@
-//! Neighbouring places that coincide, in bundles.
+//! Neighbouring passages that coincide, in bundles.
 ghost use Rattle.std.specs.Prelude.{◌≡◌, ◌<◌, ◌∷◌, [], ◌++◌, length, IfOk, OnOk};
-ghost use Rattle.slice_slab.specs.Places.{bundles_of, is_aligned, ends_bundle};
+ghost use Rattle.slice_slab.specs.Passages.{bundles_of, is_aligned, ends_bundle};
 
 use crate::bundle::Bundle;
 use crate::order::{by_slope, by_x};
-use crate::place::Place;
+use crate::passage::Passage;
 use std::alloc::{AllocError, Global};
 use std::cmp::Ordering;
 use std::mem;
 
-pub(crate) fn group(alloc: Global, places: &[Place]) -> Result<Vec<Bundle>, AllocError>
-    ensures { IfOk result (λ v. v.items ≡ bundles_of places.now) }
+pub(crate) fn group(alloc: Global, passages: &[Passage]) -> Result<Vec<Bundle>, AllocError>
+    ensures { IfOk result (λ v. v.items ≡ bundles_of passages.now) }
 {
     let mut out = Vec::new(alloc);
     let mut current = Vec::new(alloc);
-    'places: for i in 0..places.len() {
-        current.push(places[i].number)?;
-        if is_last(places, i) {
+    'passages: for i in 0..passages.len() {
+        current.push(passages[i].number)?;
+        if is_last(passages, i) {
             close(alloc, &mut out, &mut current)?;
         }
     }
@@ -33,15 +33,15 @@ fn close(alloc: Global, out: &mut Vec<Bundle>, current: &mut Vec<u32>) -> Result
     Ok(())
 }
 
-// Whether the place doesn't coincide with the next, or is the last.
-fn is_last(places: &[Place], i: usize) -> bool
-    requires { i < length places.now }
-    ensures { result ≡ ends_bundle places.now i }
+// Whether the passage doesn't coincide with the next, or is the last.
+fn is_last(passages: &[Passage], i: usize) -> bool
+    requires { i < length passages.now }
+    ensures { result ≡ ends_bundle passages.now i }
 {
-    i + 1 == places.len() || !are_aligned(&places[i], &places[i + 1])
+    i + 1 == passages.len() || !are_aligned(&passages[i], &passages[i + 1])
 }
 
-fn are_aligned(p: &Place, q: &Place) -> bool
+fn are_aligned(p: &Passage, q: &Passage) -> bool
     ensures { result ≡ is_aligned p.now q.now }
 {
     matches!(by_x(p, q), Ordering::Equal) && matches!(by_slope(p, q), Ordering::Equal)

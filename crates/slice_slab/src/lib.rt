@@ -10,7 +10,7 @@ mod collect;
 mod group;
 pub mod laws;
 mod order;
-mod place;
+mod passage;
 
 pub use between::slab;
 pub use bundle::Bundle;

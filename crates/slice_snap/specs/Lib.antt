@@ -1,0 +1,4 @@
+pub mod Spots
+pub mod Inside
+pub mod Pieces
+pub mod Naming

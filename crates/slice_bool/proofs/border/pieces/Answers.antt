@@ -1,6 +1,6 @@
 -- What holds of all pieces that meet the definition.
 use Rattle.std.proofs.Common.{◌≡◌, List, subst, arith}
-use Rattle.scad_geom.specs.declared.point.TheConstants.{COORDINATE_LIMIT}
+use Rattle.scad_geom.specs.Limits.{coordinate_limit}
 use Rattle.scad_geom.specs.declared.level.Level.{Level}
 use Rattle.scad_geom.specs.declared.level.LeafEdge.{LeafEdge}
 use Rattle.scad_geom.specs.declared.shape.Shape.{Shape}
@@ -11,6 +11,7 @@ use Rattle.slice_bool.proofs.Ends.{heights_have_one_level}
 use Rattle.slice_bool.proofs.Within.{spots_are_within}
 use Rattle.slice_bool.proofs.BalanceLevels.{pieces_are_balanced}
 use Rattle.slice_bool.proofs.Centre.{centres_are_wound_once}
+use Rattle.slice_bool.proofs.Named.{pieces_are_named}
 use Rattle.slice_bool.proofs.border.pieces.Goals as goal
 
 abbrev all : (es : List LeafEdge) (shape : Shape) (ls ks : List Level) (pieces : List Piece) → AreLevels es ls → ks ≡ ls → AreLevelPieces es shape ks pieces → ArePieces es shape pieces
@@ -33,7 +34,7 @@ returns-in-Ok-all_pieces-clause-within c =
     let es = c.args.edges.now in
     let shape = c.args.shape.now in
     let pieces = c.in-Ok-all_pieces.pieces.items in
-    spots_are_within COORDINATE_LIMIT (omega arith) es c.requires shape pieces
+    spots_are_within coordinate_limit (omega arith) es c.requires shape pieces
     (all es shape c.in-Ok.levels.items c.deref.result.now pieces c.in-Ok.ensures.levels c.deref.ensures.value c.in-Ok-all_pieces.ensures) c.in-Ok.ensures.within
 
 pub returns-in-Ok-all_pieces-clause-balanced : goal.returns-in-Ok-all_pieces-clause-balanced
@@ -50,4 +51,12 @@ returns-in-Ok-all_pieces-clause-centres c =
     let shape = c.args.shape.now in
     let pieces = c.in-Ok-all_pieces.pieces.items in
     centres_are_wound_once es shape pieces
+    (all es shape c.in-Ok.levels.items c.deref.result.now pieces c.in-Ok.ensures.levels c.deref.ensures.value c.in-Ok-all_pieces.ensures)
+
+pub returns-in-Ok-all_pieces-clause-named : goal.returns-in-Ok-all_pieces-clause-named
+returns-in-Ok-all_pieces-clause-named c =
+    let es = c.args.edges.now in
+    let shape = c.args.shape.now in
+    let pieces = c.in-Ok-all_pieces.pieces.items in
+    pieces_are_named es shape pieces
     (all es shape c.in-Ok.levels.items c.deref.result.now pieces c.in-Ok.ensures.levels c.deref.ensures.value c.in-Ok-all_pieces.ensures)

@@ -3,7 +3,8 @@ use Rattle.std.proofs.Common.{◌≡◌, ◌+◌, ◌-◌, ◌<◌, ◌^◌, ℕ
 use Rattle.std.specs.Prelude.{ℤ, pos, ◌+ℤ◌}
 use Rattle.std.specs.List.{All, concat}
 use Rattle.scad_geom.specs.declared.level.LeafEdge.{LeafEdge}
-use Rattle.slice_bool.specs.Tally.{IsTally, is_held, headings, left_value}
+use Rattle.slice_bool.specs.Tally.{IsTally, is_held, headings}
+use Rattle.slice_bool.specs.Beside.{left_value}
 use Rattle.slice_bool.proofs.Bundled.{there_at, few_to_left, tally_more, held_left, all_dropped, one_more, first_value, length_more}
 use Rattle.slice_bool.proofs.slab.left_values.Goals as goal
 

@@ -1,6 +1,7 @@
 use Rattle.std.proofs.Common.{◌≡◌, ℕ, ◌+◌, ◌-◌, ◌<◌, ◌≤◌, false, length, drop, get_or, vec_len}
 use Rattle.std.specs.List.{All, concat}
-use Rattle.slice_bool.specs.Tally.{IsTally, headings, left_value}
+use Rattle.slice_bool.specs.Tally.{IsTally, headings}
+use Rattle.slice_bool.specs.Beside.{left_value}
 use Rattle.slice_bool.proofs.slab.left_values.Given as goal
 
 abbrev pub invariant-bundles : goal.invariant-bundles

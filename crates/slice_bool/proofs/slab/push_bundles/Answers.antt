@@ -2,8 +2,8 @@
 use Rattle.std.proofs.Common.{◌≡◌, ◌+◌, ◌-◌, ◌++◌, ℕ, Bool, false, List, length, get_or, drop, sym, ap, ap₂, ◌∙◌, arith, subst}
 use Rattle.slice_snap.specs.declared.piece.Piece.{Piece}
 use Rattle.slice_bool.specs.Pieces.{slab_pieces}
-use Rattle.slice_bool.specs.Tally.{left_value}
-use Rattle.slice_bool.specs.Made.{RisesFirst, piece_of}
+use Rattle.slice_bool.specs.Beside.{left_value}
+use Rattle.slice_bool.specs.Beside.{RisesFirst, piece_of}
 use Rattle.slice_bool.proofs.Bundled.{are_members, rises_at, piece_at, value_beside, any_default}
 use Rattle.slice_bool.proofs.Stretches.{more_pieces}
 use Rattle.slice_bool.proofs.slab.push_bundles.Goals as goal

@@ -5,11 +5,11 @@ use Rattle.std.specs.Prelude.{pos, ◌*ℤ◌}
 use Rattle.slice_events.proofs.Steps.{is_lt-int_cmp}
 use Rattle.slice_bool.specs.declared.stop.Stop.{Stop}
 use Rattle.slice_bool.specs.Stops.{is_left}
-use Rattle.slice_bool.proofs.Stopping.{stays_last, stays_next}
+use Rattle.slice_events.proofs.Repeats.{stays_last, stays_next}
 use Rattle.slice_bool.proofs.stops.stays.Goals as goal
 
 pub returns-then-i-stops : goal.returns-then-i-stops
-returns-then-i-stops c = eq-eqb (c.args.i + 1) (length c.args.stops.now) c.if-i-stops.true ∙ sym (stays_last c.args.stops.now c.args.i c.if-i-stops.true)
+returns-then-i-stops c = eq-eqb (c.args.i + 1) (length c.args.stops.now) c.if-i-stops.true ∙ sym (stays_last is_left (λ (s : Stop). s.spot) c.args.stops.now c.args.i c.if-i-stops.true)
 
 pub returns-else-i-stops : goal.returns-else-i-stops
 returns-else-i-stops c =
@@ -17,6 +17,6 @@ returns-else-i-stops c =
     let s : Stop = c.index-stops-i.result in
     let t : Stop = c.index-stops-i-else-i-stops.result in
     let there : suc c.args.i < length c.args.stops.now = omega (arith, c.requires) in
-    let e = rw (← add-one) at (stays_next c.args.stops.now c.args.i s t there) in
+    let e = rw (← add-one) at (stays_next is_left (λ (s : Stop). s.spot) c.args.stops.now c.args.i s t there) in
     c.is_lt.ensures ∙ ap is_lt c.compare.ensures ∙ is_lt-int_cmp (s.spot.x *ℤ pos t.spot.run) (t.spot.x *ℤ pos s.spot.run)
     ∙ ap₂ (λ (s t : Stop). is_left s.spot t.spot) c.index-stops-i.is c.index-stops-i-else-i-stops.is ∙ sym e

@@ -1,5 +1,6 @@
 use Rattle.std.proofs.Common.{◌≡◌, ◌*◌, ◌≤◌, ◌*ℤ◌, ◌+ℤ◌, unsigned_abs, FitsSigned, arith, ap₂, sym, ◌∙◌, subst}
 use Rattle.std.proofs.lemmas.Int.{ints, to_z-of_z}
+use Rattle.scad_geom.specs.Limits.{coordinate_limit}
 use Rattle.slice_section.proofs.Weighted.{weighted_range}
 use Rattle.slice_section.proofs.cut.coordinate_at.Goals as goal
 use mir.Syntax.{w128}
@@ -39,5 +40,5 @@ round_half_down-requires-clause-range c =
     let d = simp to_z-of_z at c.apart.ensures in
     let spread : c.apart.result ≡ c.up_to-down.result +ℤ c.down_to-up.result = omega (arith, ints) in
     let product : c.plus-n.result ≡ c.args.lower *ℤ c.up_to-down.result +ℤ c.args.upper *ℤ c.down_to-up.result = n ∙ ap₂ (λ a b. a +ℤ b) x y in
-    let small = weighted_range 1100000 c.args.lower c.args.upper c.up_to-down.result c.down_to-up.result (omega (arith, c.requires.lower)) (omega (arith, c.requires.upper)) (omega (arith, ints)) (omega (arith, ints)) in
-    simp to_z-of_z (subst (λ m. unsigned_abs c.plus-n.result ≤ 1100000 * unsigned_abs m) (sym spread) (subst (λ m. unsigned_abs m ≤ 1100000 * unsigned_abs (c.up_to-down.result +ℤ c.down_to-up.result)) (sym product) small))
+    let small = weighted_range coordinate_limit c.args.lower c.args.upper c.up_to-down.result c.down_to-up.result (omega (arith, c.requires.lower)) (omega (arith, c.requires.upper)) (omega (arith, ints)) (omega (arith, ints)) in
+    simp to_z-of_z (subst (λ m. unsigned_abs c.plus-n.result ≤ coordinate_limit * unsigned_abs m) (sym spread) (subst (λ m. unsigned_abs m ≤ coordinate_limit * unsigned_abs (c.up_to-down.result +ℤ c.down_to-up.result)) (sym product) small))

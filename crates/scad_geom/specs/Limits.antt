@@ -1,0 +1,10 @@
+-- The greatest sizes of coordinates.
+use Rattle.std.specs.Prelude.{ℕ}
+
+-- of points of a solid: 1,000,000 micrometres, one metre
+abbrev pub point_limit : ℕ
+point_limit = 1000000
+
+-- of the ends of a layer's edges: 1,100,000 micrometres
+abbrev pub coordinate_limit : ℕ
+coordinate_limit = 1100000

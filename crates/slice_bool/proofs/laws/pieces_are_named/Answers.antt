@@ -1,0 +1,5 @@
+use Rattle.slice_bool.proofs.Named.{pieces_are_named}
+use Rattle.slice_bool.proofs.laws.pieces_are_named.Goals as goal
+
+pub returns : goal.returns
+returns c = pieces_are_named

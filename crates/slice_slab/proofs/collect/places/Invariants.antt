@@ -1,8 +1,0 @@
-use Rattle.std.proofs.Common.{◌≡◌, ◌++◌, drop}
-use Rattle.std.specs.List.{All}
-use Rattle.slice_slab.specs.Bundles.{reaching}
-use Rattle.slice_slab.specs.Places.{numbers_of, IsPlaceOf}
-use Rattle.slice_slab.proofs.collect.places.Given as goal
-
-abbrev pub invariant-edges : goal.invariant-edges
-invariant-edges l = record { numbers : numbers_of l.out.items ++ reaching l.i (drop l.i l.edges) l.lower l.upper ≡ reaching 0 l.edges l.lower l.upper; places : All (IsPlaceOf l.edges l.lower) l.out.items }

@@ -1,0 +1,4 @@
+pub mod OneLine
+pub mod Ends
+pub mod Ways
+mod Examples

@@ -1,0 +1,92 @@
+"""The golden cases: `cases/NAME/` with what is given to the program and what must come of it.
+
+    words                the words behind the program's name, one a line
+    model.scad           the source, where there is one
+    settings.toml        the settings, where there are some
+    report               what must stand on standard output
+    status               the exit status, where it isn't 0
+    outlines.cli         the outlines that must be written, or their checksum: outlines.cli.sha256
+    print.gcode          the printing program that must be written, or print.gcode.sha256
+
+The words name these files. A file that isn't there must not be written.
+"""
+
+import os
+import re
+
+from check import Check, Checksum, Exactly
+
+FOLDER = os.path.join(os.path.dirname(os.path.realpath(__file__)), "cases")
+GIVEN = ("model.scad", "settings.toml")
+WRITTEN = ("outlines.cli", "print.gcode")
+KNOWN = {"words", "report", "status", *GIVEN, *WRITTEN, *(f"{name}.sha256" for name in WRITTEN)}
+
+
+class BadCase:
+    """A folder that is no case: it fails and says why."""
+
+    def __init__(self, name, why):
+        self.name, self.why = name, why
+
+    def tried(self, _program):
+        return [f"it is no case: {self.why}"]
+
+
+def golden_cases():
+    """All cases, by their names."""
+    return [golden_case(name) for name in sorted(os.listdir(FOLDER))]
+
+
+def golden_case(name):
+    try:
+        return read_case(name)
+    except (OSError, ValueError) as error:
+        return BadCase(name, error)
+
+
+def read_case(name):
+    folder = os.path.join(FOLDER, name)
+    files = {it: content(os.path.join(folder, it)) for it in os.listdir(folder)}
+    if not re.fullmatch("[a-z0-9_]+", name):
+        raise ValueError("its name isn't of small letters, digits and _")
+    for file in files.keys() - KNOWN:
+        raise ValueError(f"the file {file} has no meaning")
+    for file in {"words", "report"} - files.keys():
+        raise ValueError(f"the file {file} is missing")
+    return Check(
+        name=name,
+        words=lines_of(files["words"]),
+        status=status_of(files.get("status", b"0")),
+        report=files["report"],
+        given={it: files[it] for it in GIVEN if it in files},
+        left={it: written for it in WRITTEN if (written := written_in(files, it))},
+    )
+
+
+def written_in(files, name):
+    """What must be written under this name, or None."""
+    checksum = files.get(f"{name}.sha256")
+    if checksum is None:
+        return Exactly(files[name]) if name in files else None
+    found = re.fullmatch(rf"([0-9a-f]{{64}})  {re.escape(name)}\n", checksum.decode())
+    if not found or name in files:
+        raise ValueError(f"{name}.sha256 is no line of sha256sum, or stands beside {name}")
+    return Checksum(found[1])
+
+
+def lines_of(text):
+    *lines, rest = text.split(b"\n")
+    if rest:
+        raise ValueError("the last line of words has no end")
+    return lines
+
+
+def status_of(text):
+    if not re.fullmatch(rb"[0-9]{1,3}\n?", text):
+        raise ValueError("status has no number")
+    return int(text)
+
+
+def content(path):
+    with open(path, "rb") as file:
+        return file.read()

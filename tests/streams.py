@@ -1,0 +1,207 @@
+"""Checks of each exit status and of the streams: standard output, standard error and the files.
+
+Status 3, faulty settings, can't be brought about: no word names settings yet.
+"""
+
+import shlex
+
+from check import Check, Exactly, FrontOf, compared, run
+
+CUBE = b"cube(1);"
+SOURCE_LIMIT = 4_194_304
+DONE = b"done: 5 layers, 5 loops\n"
+USAGE = b"usage: scadslice COMMAND\n"
+READ_FAULT = b"read fault\n"
+WRITE_FAULT = b"write fault\n"
+SOURCE_LONG = b"budget 1 SourceLong\n"
+NOT_BUILT = b"fault 15 NotBuilt at 1:1\n"
+OUT_OF_MEMORY = b"out of memory\n"
+
+# A source, and an output of before that must stay where none is created.
+KEPT = {"m.scad": CUBE, "o.cli": b"kept\n"}
+FULL_REPORT = 'exec "$@" >/dev/full'
+SLOW_PIPE = """{ printf cu; sleep 0.2; printf 'be(1);'; sleep 0.2; echo; } | "$@" """
+# The program starts once the pipe's other end is closed.
+UNREAD_PIPE = """
+    { until [ -e closed ]; do sleep 0.01; done; "$@"; echo $? >status; } | { exec <&-; >closed; }
+    answer=$(cat status); rm closed status; exit "$answer" """
+
+
+def outlines(size):
+    """The outlines of a cube of so many millimetres."""
+    layers, side = 5 * size, 1000 * size
+    square = f"$$POLYLINE/1,1,5,0,0,{side},0,{side},{side},0,{side},0,0"
+    lines = ["$$HEADERSTART", "$$ASCII", "$$UNITS/0.001", "$$VERSION/200", f"$$LAYERS/{layers}"]
+    lines += ["$$HEADEREND", "$$GEOMETRYSTART"]
+    for layer in range(1, layers + 1):
+        lines += [f"$$LAYER/{200 * layer}", square]
+    return "\n".join([*lines, "$$GEOMETRYEND", ""]).encode()
+
+
+WRITTEN = {"o.cli": outlines(1)}
+
+
+def stream_checks():
+    return [*done(), *source(), *usage(), *read(), *write(), *long(), MemoryCheck()]
+
+
+def sliced(name, status=0, report=DONE, model=b"m.scad", cli=b"o.cli", left=WRITTEN, **more):
+    """A check of the words `slice`, model and outlines over a file `m.scad`, unless `more` says else."""
+    expected = lambda it: it if hasattr(it, "difference") else Exactly(it)
+    given = {"words": [b"slice", model, cli], "given": {"m.scad": CUBE}, **more}
+    left = {file: expected(it) for file, it in left.items()}
+    return Check(name, status=status, report=report, left=left, **given)
+
+
+def refused(name, status, report, **more):
+    """A check after which the files stand as they were."""
+    return sliced(name, status, report, **{"left": {}, "given": KEPT, **more})
+
+
+def done():
+    none, stdin = {}, b"/dev/stdin"
+    return [
+        sliced("done"),
+        sliced("an_output_that_is_there_is_replaced", given={"m.scad": CUBE, "o.cli": outlines(2)}),
+        sliced(
+            "names_with_a_blank_and_letters",
+            model=b"my m.scad",
+            cli="ö.cli".encode(),
+            given={"my m.scad": CUBE},
+            left={"ö.cli": outlines(1)},
+        ),
+        sliced(
+            "names_in_folders",
+            model=b"parts/m.scad",
+            cli=b"./parts/../written/o.cli",
+            folders=["parts", "written"],
+            given={"parts/m.scad": CUBE},
+            left={"written/o.cli": outlines(1)},
+        ),
+        sliced("a_source_from_a_pipe", model=stdin, given=none, input=CUBE),
+        sliced("a_source_from_a_slow_pipe", model=stdin, given=none, shell=SLOW_PIPE),
+        sliced("standard_input_is_not_read", input=b"cube(2);"),
+        sliced("standard_input_is_closed", shell='exec "$@" <&-'),
+        sliced("standard_error_is_closed", shell='exec "$@" 2>&-'),
+        sliced("an_output_that_keeps_nothing", cli=b"/dev/null", left=none),
+    ]
+
+
+def source():
+    cut = {"m.scad": b"cube(", "o.cli": b"kept\n"}
+    return [refused("a_source_of_another_form", 1, NOT_BUILT, given=cut)]
+
+
+def usage():
+    three = [b"slice", b"m.scad", b"o.cli"]
+    faulty = {
+        "no_word": [],
+        "one_word": three[:1],
+        "two_words": three[:2],
+        "a_fourth_word": [*three, b"more"],
+        "a_fourth_word_that_is_empty": [*three, b""],
+        "a_fourth_word_that_is_not_utf8": [*three, b"\xff"],
+        "an_unknown_command": [b"draw", *three[1:]],
+        "a_command_in_capitals": [b"SLICE", *three[1:]],
+        "an_empty_command": [b"", *three[1:]],
+        "a_command_that_is_not_utf8": [b"slice\xff", *three[1:]],
+        "equal_names": [b"slice", b"m.scad", b"m.scad"],
+        "a_model_name_that_is_not_utf8": [b"slice", b"m\xc3.scad", b"o.cli"],
+        "an_output_name_that_is_not_utf8": [b"slice", b"m.scad", b"\xff.cli"],
+        "help": [b"--help"],
+        "version": [b"--version"],
+    }
+    return [refused(f"usage_{name}", 2, USAGE, words=words) for name, words in faulty.items()]
+
+
+def read():
+    models = {
+        "missing": b"other.scad",
+        "without_a_name": b"",
+        "a_folder": b"parts",
+        "below_a_file": b"m.scad/m.scad",
+        "in_a_missing_folder": b"other/m.scad",
+    }
+    in_order, full = "a_missing_model_and_a_missing_folder", "a_read_fault_on_a_full_device"
+    return [
+        *(refused(f"a_model_{name}", 4, READ_FAULT, model=model, folders=["parts"])
+          for name, model in models.items()),
+        refused(in_order, 4, READ_FAULT, model=b"other.scad", cli=b"no/o.cli"),
+        refused(full, 5, b"", model=b"other.scad", shell=FULL_REPORT),
+    ]
+
+
+def write():
+    outputs = {
+        "on_a_full_device": b"/dev/full",
+        "in_a_missing_folder": b"no/o.cli",
+        "that_is_a_folder": b"written",
+        "without_a_name": b"",
+    }
+    reports = {
+        "on_a_full_device": FULL_REPORT,
+        "for_reading_only": 'exec "$@" 1</dev/null',
+        "into_a_pipe_that_nobody_reads": UNREAD_PIPE,
+        "that_is_closed": 'exec "$@" >&-',
+    }
+    # (the limit on the size of files doesn't hold for the report, which goes into a pipe)
+    limited = {
+        "given": {"m.scad": b"cube(100);"},
+        "left": {"o.cli": FrontOf(outlines(100))},
+        "shell": """trap '' XFSZ; ulimit -f 8; exec "$@" """,
+    }
+    return [
+        *(refused(f"an_output_{name}", 5, WRITE_FAULT, cli=cli, folders=["written"])
+          for name, cli in outputs.items()),
+        *(sliced(f"a_report_{name}", 5, b"", shell=shell) for name, shell in reports.items()),
+        sliced("outlines_past_a_limit_on_files", 5, WRITE_FAULT, **limited),
+        refused("both_outputs_on_a_full_device", 5, b"", cli=b"/dev/full", shell=FULL_REPORT),
+        refused("usage_on_a_full_device", 5, b"", words=[], shell=FULL_REPORT),
+    ]
+
+
+def of_bytes(length):
+    """A cube whose source has so many bytes."""
+    return {"m.scad": CUBE + b"\n" * (length - len(CUBE)), "o.cli": b"kept\n"}
+
+
+def long():
+    return [
+        sliced("a_source_at_its_limit", given=of_bytes(SOURCE_LIMIT)),
+        refused("a_source_past_its_limit", 6, SOURCE_LONG, given=of_bytes(SOURCE_LIMIT + 1)),
+        refused("a_source_without_end", 6, SOURCE_LONG, model=b"/dev/zero"),
+    ]
+
+
+class MemoryCheck:
+    """With a little more memory than a short source takes, a source at its limit runs out of it."""
+
+    name = "a_source_that_memory_cannot_hold"
+
+    def tried(self, program):
+        under = lambda limit: f'ulimit -v {limit} && exec "$@" 2>/dev/null'
+        short = lambda limit: sliced("", shell=under(limit))
+        is_done = lambda limit: not compared(short(limit), run(short(limit), program))
+        least = next(filter(is_done, range(1024, 65537, 512)), None)
+        if least is None:
+            return ["a short source isn't done in 64 MiB"]
+        given = of_bytes(SOURCE_LIMIT)
+        long_one = refused("", 7, OUT_OF_MEMORY, given=given, shell=under(least + 1024))
+        return compared(long_one, run(long_one, program))
+
+
+def launcher_checks(launcher):
+    """The launcher hands on words, streams and status of a program that is newer than its sources.
+
+    It doesn't find `rt` on this path, and so never builds here.
+    """
+    start = f"shift; export PATH=/usr/bin:/bin; exec {shlex.quote(launcher)}"
+    by = lambda redirected="": f'{start} "$@" {redirected}'
+    more = [b"slice", b"m.scad", b"o.cli"]
+    return [
+        sliced("the_launcher_runs_the_program", shell=by()),
+        refused("the_launcher_hands_on_all_words", 2, USAGE, words=[*more, b""], shell=by()),
+        refused("the_launcher_hands_on_any_bytes", 2, USAGE, words=[*more, b"\xff"], shell=by()),
+        sliced("the_launcher_with_a_full_device", 5, b"", shell=by(">/dev/full")),
+        sliced("the_launcher_opens_closed_streams", 5, b"", shell=by("<&- >&-")),
+    ]
