@@ -7,3 +7,4 @@ mod SpelledNumbers
 mod SpelledSigns
 mod SpelledStrings
 mod SpelledWords
+pub mod Longest
