@@ -1,3 +1,4 @@
+pub mod Closed
 mod Fronts
 pub mod HaveSpellings
 mod Pieces

@@ -1,9 +1,10 @@
 -- The forms of blanks, of comments up to a line's end and of names, and that such pieces are the longest in front.
-use Rattle.std.specs.Prelude.{◌≡◌, ℕ, ◌<◌, ◌≤◌, true, List, [], ◌∷◌, ◌⊎◌, length, take}
+use Rattle.std.specs.Prelude.{◌≡◌, ℕ, ◌+◌, ◌<◌, ◌≤◌, true, List, [], ◌∷◌, ◌⊎◌, Some, length, take}
 use Rattle.std.specs.List.{prefix_len, AllByRecursion}
 use Rattle.scad_lex.specs.declared.gap.Class.{Class}
 use Rattle.scad_lex.specs.declared.gap.Class.TheVariants.{WordByte}
 use Rattle.scad_lex.specs.Classes.{is_of}
+use Rattle.scad_lex.specs.Gap.{closed_len, closes_at}
 use Rattle.scad_lex.specs.Words.{begins_word, word_len}
 
 -- so many bytes in front have the form, if there are some, and no more bytes in front have it
@@ -29,6 +30,11 @@ IsSpecialName (b ∷ more) = (b ≡ 36) × IsPlainName more
 abbrev pub IsName : List ℕ → Type 0
 IsName bytes = IsPlainName bytes ⊎ IsSpecialName bytes
 
+-- what stands behind the `/*` of a comment: it ends with `*/`, and no `*/` stands before
+pub record IsClosed (bytes : List ℕ) : Type 0 where
+  pub ends : (n : ℕ) × (length bytes ≡ n + 2) × (closes_at bytes n ≡ true)
+  pub first : (i : ℕ) → closes_at bytes i ≡ true → length bytes ≤ i + 2
+
 -- blanks, and the bytes of a comment up to its line's end, are cut off as far as they go
 abbrev pub RunsAreLongest : Type 0
 RunsAreLongest = (class : Class) (bytes : List ℕ) → IsLongest (AreOf class) bytes (prefix_len (is_of class) bytes)
@@ -36,3 +42,7 @@ RunsAreLongest = (class : Class) (bytes : List ℕ) → IsLongest (AreOf class) 
 -- and so are names
 abbrev pub NamesAreLongest : Type 0
 NamesAreLongest = (bytes : List ℕ) → IsLongest IsName bytes (word_len bytes)
+
+-- where a comment is closed, it is cut off at the first `*/`, and no more bytes are one comment
+abbrev pub CommentsAreLongest : Type 0
+CommentsAreLongest = (bytes : List ℕ) (n : ℕ) → closed_len bytes ≡ Some n → IsLongest IsClosed bytes n

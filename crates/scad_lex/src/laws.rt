@@ -1,5 +1,5 @@
 //! Laws of the definitions, each carried by the contract of a function that does nothing.
-ghost use Rattle.scad_lex.specs.Longest.{RunsAreLongest, NamesAreLongest};
+ghost use Rattle.scad_lex.specs.Longest.{RunsAreLongest, NamesAreLongest, CommentsAreLongest};
 ghost use Rattle.scad_lex.specs.Spelling.{SpelledTokensAreRead, TokensHaveSpellings};
 
 /// The text of tokens, each as it is spelled and a blank or a line feed behind it, has these tokens
@@ -23,4 +23,9 @@ pub fn runs_are_longest()
 /// And so are names.
 pub fn names_are_longest()
     ensures { NamesAreLongest }
+{}
+
+/// A comment in `/*` and `*/` ends at the first `*/`, and no more bytes are one comment.
+pub fn comments_are_longest()
+    ensures { CommentsAreLongest }
 {}
