@@ -1,3 +1,4 @@
+pub mod Closed
 mod Fronts
 pub mod HaveSpellings
 mod Pieces
@@ -7,3 +8,4 @@ mod SpelledNumbers
 mod SpelledSigns
 mod SpelledStrings
 mod SpelledWords
+pub mod Longest

@@ -4,6 +4,7 @@ pub mod Escape
 pub mod Front
 pub mod Gap
 pub mod Keys
+pub mod Longest
 pub mod Quoted
 pub mod Signs
 pub mod Spelling

@@ -1,4 +1,5 @@
 //! Laws of the definitions, each carried by the contract of a function that does nothing.
+ghost use Rattle.scad_lex.specs.Longest.{RunsAreLongest, NamesAreLongest, CommentsAreLongest};
 ghost use Rattle.scad_lex.specs.Spelling.{SpelledTokensAreRead, TokensHaveSpellings};
 
 /// The text of tokens, each as it is spelled and a blank or a line feed behind it, has these tokens
@@ -12,4 +13,19 @@ pub fn spelled_tokens_are_read()
 #[tactic(auto, using(crate::proofs::HaveSpellings::tokens_have_spellings))]
 pub fn tokens_have_spellings()
     ensures { TokensHaveSpellings }
+{}
+
+/// Blanks, and the bytes of a comment up to its line's end, are cut off as far as they go.
+pub fn runs_are_longest()
+    ensures { RunsAreLongest }
+{}
+
+/// And so are names.
+pub fn names_are_longest()
+    ensures { NamesAreLongest }
+{}
+
+/// A comment in `/*` and `*/` ends at the first `*/`, and no more bytes are one comment.
+pub fn comments_are_longest()
+    ensures { CommentsAreLongest }
 {}

@@ -4,7 +4,7 @@ use Rattle.scad_base.specs.Results.{and_then}
 use Rattle.scad_num.specs.Number.{one, most}
 use Rattle.scad_num.specs.Rounding.{half_away}
 use Rattle.scad_geom.specs.declared.point3.Pt3.{Pt3}
-use Rattle.scad_geom.specs.declared.point3.TheConstants.{POINT_LIMIT}
+use Rattle.scad_geom.specs.Limits.{point_limit}
 use Rattle.scad_geom.specs.PointRange.{is_in_range}
 use Rattle.scad_matrix.specs.declared.matrix.Row.{Row}
 use Rattle.scad_matrix.specs.declared.matrix.Matrix.{Matrix}
@@ -53,7 +53,7 @@ placed_coordinate r x y z = half_away (dot r x y z (pos one)) micrometre
 
 -- a coordinate of a solid, where it is in range
 abbrev pub coordinate_in_range : ℤ → Option ℤ
-coordinate_in_range z = if nat_le (unsigned_abs z) POINT_LIMIT then Some z else None
+coordinate_in_range z = if nat_le (unsigned_abs z) point_limit then Some z else None
 
 abbrev pub placed_point : Matrix → ℤ → ℤ → ℤ → Pt3
 placed_point m x y z = record { x = placed_coordinate m.x x y z; y = placed_coordinate m.y x y z; z = placed_coordinate m.z x y z }

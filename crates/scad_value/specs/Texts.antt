@@ -1,8 +1,8 @@
 -- Values as texts: the code points that are printed for them.
 use Rattle.std.specs.Prelude.{ℕ, ℤ, Bool, true, false, List, [], ◌∷◌, ◌++◌, codes}
 use Rattle.scad_base.specs.Characters.{quote, open_square, close_square}
-use Rattle.scad_num.specs.Text.{number_text}
-use Rattle.scad_ast.specs.Text.{boolean_text, separator}
+pub use Rattle.scad_num.specs.Text.{size_text, number_text}
+pub use Rattle.scad_ast.specs.Text.{boolean_text, separator, separator as comma}
 use Rattle.scad_value.specs.Datum.{Datum, undef, boolean, number, string, vector, range, Elements, no_elements, element}
 
 abbrev pub quoted_text : List ℕ → List ℕ
