@@ -36,10 +36,10 @@ module _ (c n l : ℕ) (vs : List View) (i : ℕ) (v : View) (e : get_elem? vs i
   sum_split : (f : View → ℕ) → f spent ≡ 0 → sum_by f (set vs i (gives v) ++ given v ∷ []) + f v ≡ sum_by f vs + f (gives v) + f (given v)
   sum_split f z = let p = sum_changed f z vs i v (gives v) e in omega (arith, sum_by_push f (set vs i (gives v)) (given v))
 
-  more_given : given_of (set vs i (gives v) ++ given v ∷ []) ≡ given_of vs + 1
+  pub more_given : given_of (set vs i (gives v) ++ given v ∷ []) ≡ given_of vs + 1
   more_given = let p = sum_split (λ u. u.given) refl in omega arith
 
-  counts_all : v.given ≡ given_of vs
+  pub counts_all : v.given ≡ given_of vs
   counts_all = All-at (λ u. Contains u.members 0 → u.given ≡ given_of vs) vs i v e k.counts first
 
   some_given : 0 < given_of vs

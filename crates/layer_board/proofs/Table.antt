@@ -1,25 +1,27 @@
 -- Each step of the table is an event of the board, and so keeps the rule.
-use Rattle.std.proofs.Common.{◌≡◌, ℕ, zero, suc, ◌+◌, ◌%◌, ◌^◌, ◌<◌, ◌≤◌, ◌≢◌, ⊎_elim, min, true, false, if◌then◌else◌, List, [], ◌∷◌, ◌++◌, length, get_or, set, sym, refl, ap, ◌∙◌, subst, subst₂, arith, All, Contains, sum_by, flat_map, Option, Some, None, option_to_list, length-set, get_or-set_same, get_or-set_other, mod-eq_of_lt, slice_index, slice_set}
+use Rattle.std.proofs.Common.{◌≡◌, ℕ, zero, suc, ◌+◌, ◌%◌, ◌^◌, ◌<◌, ◌≤◌, ◌≢◌, ⊎_elim, min, Bool, true, false, nat_lt, if◌then◌else◌, List, [], ◌∷◌, ◌++◌, length, get_or, set, sym, refl, ap, ◌∙◌, subst, subst₂, arith, All, Contains, sum_by, flat_map, Option, Some, None, option_to_list, length-set, get_or-set_same, get_or-set_other, mod-eq_of_lt, slice_index, slice_set}
 use Rattle.std.proofs.lemmas.List.Sums.{sum_by-cons}
 use Rattle.std.proofs.lemmas.List.Elements.{Contains-get_or}
 use Rattle.std.proofs.lemmas.Bool.{cases_lt}
 use mathlib.Core.Option.{some, none}
 use lib.ListN.{get_elem?}
-use Rattle.atomic_table.specs.Table.{State, Me, step, Act, keeps, stepped, Allows, Splits, Joins}
-use Rattle.atomic_table.proofs.Lists.{set_again, set_else}
+use Rattle.atomic_table.specs.Table.{State, Me, step, Act, keeps, stepped, Allows, Splits, Joins, Final, Seen}
+use Rattle.atomic_table.proofs.Lists.{set_again, set_else, set_here}
 use Rattle.layer_board.specs.declared.view.View.{View}
 use Rattle.layer_board.specs.declared.view.Size.{Size}
 use Rattle.layer_board.specs.Numbers.{below, lowest}
-use Rattle.layer_board.specs.Pass.{opened, spent, gives, given, claims, looks, fails, finishes, joins}
+use Rattle.layer_board.specs.Pass.{opened, spent, gives, given, draws, ends, claims, skips, is_above, looks, fails, finishes, joins}
 use Rattle.layer_board.specs.Events.{BoardState, IsLive, opening}
 use Rattle.layer_board.specs.Sound.{IsSoundPass, IsSound, given_of, ended_members}
 use Rattle.layer_board.specs.Rule.{board_of, IsBoard, Claimed, Looked, Failed, Finished, Counted}
-use Rattle.layer_board.proofs.Lists.{part_le_sum, lowest_le}
+use Rattle.layer_board.specs.Calls.{Closed}
+use Rattle.layer_board.proofs.Ending.{closes, others_spent}
+use Rattle.layer_board.proofs.Lists.{at_there, part_le_sum, lowest_le}
 use Rattle.layer_board.proofs.Counts.{is, counts_contained, counts_past, length_is_sum, length-below}
 use Rattle.layer_board.proofs.Steps.{board, ended_of, sum_changed, lowest_changed, members_sum, drawn_sum}
 use Rattle.layer_board.proofs.Events.{counted, sound_at, claimed, looked, failed, finished}
-use Rattle.layer_board.proofs.Splitting.{split_sound, opens}
-use Rattle.layer_board.proofs.Joining.{joined}
+use Rattle.layer_board.proofs.Splitting.{split_sound, more_given, counts_all, opens}
+use Rattle.layer_board.proofs.Joining.{joined, sum_joined}
 
 sum_mono : (f g : View → ℕ) → ((v : View) → f v ≤ g v) → (vs : List View) → sum_by f vs ≤ sum_by g vs
 sum_mono f g le [] = omega arith
@@ -85,11 +87,15 @@ next_set s m e = (get_or-set_same s.words 0 m 0 (omega arith), get_or-set_other 
 least_set : (s : State (Unit {0}) View) (m : ℕ) → length s.words ≡ 2 → (slice_index (slice_set s.words 1 m) 0 ≡ slice_index s.words 0) × (slice_index (slice_set s.words 1 m) 1 ≡ m)
 least_set s m e = (get_or-set_other s.words 1 0 m 0 (omega arith), get_or-set_same s.words 1 m 0 (omega arith))
 
+given_by : (b : Bool) (v x y : View) → x.given ≡ v.given → y.given ≡ v.given → (if b then x else y).given ≡ v.given
+given_by true v x y p q = p
+given_by false v x y p q = q
+
 claims_given : (n : ℕ) (v : View) → (claims n v).given ≡ v.given
-claims_given n v = ?
+claims_given n v = given_by (nat_lt n v.count) v (draws n v) (ends v) refl refl
 
 looks_given : (l : ℕ) (v : View) → (looks l v).given ≡ v.given
-looks_given l v = ?
+looks_given l v = given_by (is_above l v.pending) v (skips v) v refl refl
 
 module _ (size : Size) (slots id : ℕ) (me : Me (Unit {0}) View) where
   pub claims_step : 0 < length me.0.members → me.0.pending ≡ None → me.0.ended ≡ false → Allows (IsBoard size) slots id me 0 (λ n. (n + 1) % 2 ^ 64) (Claimed (step slots 0 1 0 none) me)
@@ -100,7 +106,7 @@ module _ (size : Size) (slots id : ℕ) (me : Me (Unit {0}) View) where
       let k : IsSound size.count (board n l s.views) = b.sound in
       let near = next_within size s b in
       let small = b.layers in
-      let plus : (n + 1) % 2 ^ 64 ≡ n + 1 = mod-eq_of_lt (n + 1) (2 ^ 64) (omega arith) in
+      let plus : (n + 1) % 2 ^ 64 ≡ n + 1 = mod-eq_of_lt (let goal : n + 1 < 2 ^ 64 = omega arith in goal) in
       let t = next_set s ((n + 1) % 2 ^ 64) b.words in
       let k' = claimed size.count n l s.views id v e live free going k in
       (claims n v, keeps, tt,
@@ -108,7 +114,8 @@ module _ (size : Size) (slots id : ℕ) (me : Me (Unit {0}) View) where
         record {
           event = refl;
           ascends = draws_ascend size.count n l s.views id v e k;
-          few = ?;
+          few = let a = draws_few size.count (n + 1) l (set s.views id (claims n v)) id (claims n v) (set_here s.views id (claims n v) (at_there s.views id v e).0) k' in
+              let same = counted size.count n l v live (sound_at size.count n l s.views id v e k) in omega arith;
         })
 
   pub looks_step : (m : ℕ) → me.0.pending ≡ Some m → 0 < length me.0.members → Allows (IsBoard size) slots id me 1 (λ n. n) (Looked (step slots 1 0 0 none) me)
@@ -166,7 +173,10 @@ splits_step size id v first room s b e =
     let n : ℕ = slice_index s.words 0 in
     let l : ℕ = slice_index s.words 1 in
     let k : IsSound size.count (board n l s.views) = b.sound in
-    ?
+    let live : 0 < length v.members = let x = first.1 in omega arith in
+    let g = more_given size.count n l s.views id v e first k in
+    let h = counts_all size.count n l s.views id v e first k in
+    record { words = b.words; layers = b.layers; workers = b.workers; given = omega arith; sound = split_sound size.count n l s.views id v e first k live; }
 
 pub joins_step : (size : Size) (id other : ℕ) (v w : View) → IsLive v → IsLive w → v.pending ≡ None → w.pending ≡ None → Joins (IsBoard size) id v other w (joins v w) spent
 joins_step size id other v w live_v live_w free_v free_w s b e apart f =
@@ -174,8 +184,27 @@ joins_step size id other v w live_v live_w free_v free_w s b e apart f =
     let l : ℕ = slice_index s.words 1 in
     let k : IsSound size.count (board n l s.views) = b.sound in
     let there : get_elem? s.views other ≡ some w = sym (set_else s.views id other (joins v w) apart) ∙ f in
-    ?
+    let g = sum_joined size.count n l s.views id other v w apart e there (λ u. u.given) refl in
+    let h = b.given in
+    record { words = b.words; layers = b.layers; workers = b.workers; given = omega arith; sound = joined size.count n l s.views id other v w apart e there live_v live_w free_v free_w k; }
 
 pub opens_board : (size : Size) → 0 < size.workers → size.workers ≤ 64 → size.count < 4294967296
     → IsBoard size (record { words = 0 ∷ size.count ∷ []; homes = []; views = opened size.count ∷ [] })
 opens_board size some_worker few layers = record { words = refl; layers = layers; workers = few; given = omega arith; sound = opens size.count; }
+
+-- what the words of a table that is closed say
+pub closes_table : (size : Size) (id : ℕ) (v : View) (words : List ℕ) (slots : List (Unit {0})) (least : ℕ) → Final (Seen (IsBoard size) id v) words slots → get_elem? words 1 ≡ some least
+    → v.ended ≡ true → length v.members ≡ size.workers → Closed size.count least v × (least ≤ size.count) × (size.count < 4294967296)
+closes_table size id v words slots least f e ended all =
+    let s : State (Unit {0}) View = f.0 in
+    let b : IsBoard size s = f.1.0 in
+    let there : get_elem? s.views id ≡ some v = f.1.1 in
+    let n : ℕ = slice_index s.words 0 in
+    let l : ℕ = slice_index s.words 1 in
+    let k : IsSound size.count (board n l s.views) = b.sound in
+    let same : l ≡ least = ap (λ ws. slice_index ws 1) f.2 ∙ (at_there words 1 least e).1 0 in
+    let given = b.given in
+    let closed = subst (λ x. Closed size.count x v) same (closes size.count n l s.views id v there ended k (others_spent size.count n l s.views id v there ended k (omega arith))) in
+    let small = lowest_le size.count v.failed in
+    let is = closed.is_lowest in
+    (closed, omega arith, b.layers)

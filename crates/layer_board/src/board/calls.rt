@@ -76,11 +76,12 @@ impl Board {
             members,
             ended,
         } = other;
+        self.table.shared.join_seat::<rule::Joins>(&mut pass.seat, seat);
+        // The other branch never runs: a load would show that no pass has more than 64 members.
         let Some(sum) = pass.members.checked_add(members) else {
             self.table.shared.load::<rule::Counts>(&mut pass.seat, NEXT);
             unreachable!()
         };
-        self.table.shared.join_seat::<rule::Joins>(&mut pass.seat, seat);
         pass.members = sum;
         pass.ended = pass.ended || ended;
     }
