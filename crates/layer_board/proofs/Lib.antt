@@ -7,3 +7,4 @@ pub mod Splitting
 pub mod Ending
 pub mod Orders
 pub mod Table
+pub mod Dealing

@@ -1,5 +1,5 @@
 -- What the calls of a board say of its passes.
-use Rattle.std.specs.Prelude.{◌≡◌, ℕ, ◌<◌, ◌++◌, Bool, true, false, None, List, [], length, All, Contains}
+use Rattle.std.specs.Prelude.{◌≡◌, ℕ, ◌-◌, ◌<◌, ◌∷◌, ◌++◌, Bool, true, false, None, List, [], length, All, Contains, replicate}
 use Rattle.layer_board.specs.declared.view.View.{View}
 use Rattle.layer_board.specs.declared.board.Board.{Board}
 use Rattle.layer_board.specs.declared.board.Pass.{Pass}
@@ -7,6 +7,7 @@ use Rattle.layer_board.specs.declared.board.Claim.{Claim}
 use Rattle.layer_board.specs.declared.board.Claim.TheVariants.{Layer, Ended}
 use Rattle.layer_board.specs.Numbers.{below, lowest, Rearranged}
 use Rattle.layer_board.specs.Pass.{draws, ends, skips}
+use Rattle.layer_board.specs.Events.{opening, Split, Runs}
 
 abbrev pub view : Pass → View
 view p = p.seat.me.0
@@ -34,6 +35,14 @@ pub record IsFresh (b : Board) (p : Pass) : Type 0 where
   pub failed : (view p).failed ≡ []
   pub skipped : (view p).skipped ≡ []
   pub ended : (view p).ended ≡ false
+
+-- a board of so many layers has these passes, after its first pass was split so often, and after no other event
+abbrev pub AreSplit : ℕ → ℕ → View → List View → Type 0
+AreSplit layers splits first others = Runs (replicate splits (Split 0)) (opening layers) (record { next = 0; least = layers; passes = first ∷ others })
+
+-- the passes of a new board: the one that was split for all others stands last
+abbrev pub AreDealt : ℕ → ℕ → List View → Type 0
+AreDealt layers workers passes = (first : View) × (others : List View) × (passes ≡ others ++ first ∷ []) × AreSplit layers (workers - 1) first others
 
 -- the event Claim, seen in its pass: the layer that is answered is drawn and pending; otherwise the pass knows the end
 abbrev pub Claims : View → Claim → View → Type 0

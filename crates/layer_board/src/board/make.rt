@@ -1,7 +1,7 @@
 //! How a board is made.
-ghost use Rattle.std.specs.Prelude.{◌≡◌, ◌<◌, ◌≤◌, length, IfOk, All, Contains, vec_len};
+ghost use Rattle.std.specs.Prelude.{◌≡◌, ◌<◌, ◌≤◌, length, IfOk, map, All, Contains, vec_len};
 ghost use Rattle.layer_board.specs.Pass.{opened, gives, given};
-ghost use Rattle.layer_board.specs.Calls.{view, layers_of, workers_of, IsOf, IsFresh};
+ghost use Rattle.layer_board.specs.Calls.{view, layers_of, workers_of, IsOf, IsFresh, AreDealt};
 
 use super::{Board, Pass};
 use crate::rule::{Gives, Sharing};
@@ -15,6 +15,7 @@ impl Board {
         requires some { 0 < workers }
         requires few { workers ≤ 64 }
         ensures board { IfOk result (λ r. (layers_of r.0 ≡ count) × (workers_of r.0 ≡ workers)) }
+        ensures splits { IfOk result (λ r. AreDealt count workers (map view r.1.items)) }
         ensures passes { IfOk result (λ r. (vec_len r.1 ≡ workers) × All (IsFresh r.0) r.1.items) }
     {
         let (board, mut first) = Board::open(alloc, count, workers)?;
