@@ -1,5 +1,5 @@
 -- How often a number stands in a list, and what the numbers below n weigh.
-use Rattle.std.proofs.Common.{◌≡◌, ℕ, zero, suc, ◌+◌, ◌<◌, ◌≤◌, ◌≢◌, min, true, false, cond, eqb, eq-eqb, ne_eqb, List, [], ◌∷◌, ◌++◌, length, get_or, sym, refl, ap, ◌∙◌, subst, ⊎_elim, arith, add-one, sum_by, Contains}
+use Rattle.std.proofs.Common.{◌≡◌, ℕ, zero, suc, ◌+◌, ◌<◌, ◌≤◌, ◌≢◌, min, cond, eqb, eq-eqb, ne_eqb, List, [], ◌∷◌, length, get_or, refl, ap, ◌∙◌, subst, ⊎_elim, arith, add-one, sum_by, Contains}
 use Rattle.std.proofs.lemmas.List.Sums.{sum_by-cons, sum_by_push}
 use Rattle.std.proofs.lemmas.Bool.{cases_lt}
 use native.Mathlib.Decide.{ℕ_discrete}
@@ -78,9 +78,9 @@ lowest_among c [] h = absurd (omega arith)
 lowest_among c (x ∷ xs) h = ⊎_elim
     (λ small. (0, omega arith, (let goal : x ≡ min x (lowest c xs) = omega arith in goal)))
     (λ big.
-        let e : lowest c xs ≡ min x (lowest c xs) = omega arith in
-        let t = lowest_among c xs (omega arith) in
-        let l = t.1 in
-        let there : Contains (x ∷ xs) (lowest c xs) = (suc t.0, omega arith, t.2) in
-        subst (Contains (x ∷ xs)) e there)
+    let e : lowest c xs ≡ min x (lowest c xs) = omega arith in
+    let t = lowest_among c xs (omega arith) in
+    let l = t.1 in
+    let there : Contains (x ∷ xs) (lowest c xs) = (suc t.0, omega arith, t.2) in
+    subst (Contains (x ∷ xs)) e there)
     (cases_lt x (lowest c xs))

@@ -1,5 +1,5 @@
 -- What a board ends with, where one pass is left and was told that all layers are drawn.
-use Rattle.std.proofs.Common.{◌≡◌, ℕ, zero, suc, ◌+◌, ◌<◌, ◌≤◌, ◌≢◌, ◌⊎◌, inl, inr, ⊎_elim, min, true, List, [], ◌∷◌, ◌++◌, length, get_or, set, sym, refl, ap, ◌∙◌, subst, arith, All, Contains, sum_by, flat_map, None, option_to_list}
+use Rattle.std.proofs.Common.{◌≡◌, ℕ, ◌<◌, ◌≤◌, ⊎_elim, min, true, List, [], ◌++◌, length, get_or, set, sym, refl, ap, ◌∙◌, arith, All, Contains, sum_by, option_to_list}
 use Rattle.std.proofs.lemmas.List.Sums.{sum_by-append}
 use Rattle.std.proofs.lemmas.List.Elements.{All-set, All-weaker, All-contains}
 use Rattle.std.proofs.lemmas.Bool.{cases_lt}
@@ -8,11 +8,10 @@ use lib.ListN.{get_elem?}
 use Rattle.layer_board.specs.declared.view.View.{View}
 use Rattle.layer_board.specs.Numbers.{below, lowest, Rearranged}
 use Rattle.layer_board.specs.Pass.{spent}
-use Rattle.layer_board.specs.Events.{BoardState, IsLive}
 use Rattle.layer_board.specs.Sound.{IsSoundPass, IsSound, given_of}
 use Rattle.layer_board.specs.Calls.{Closed}
-use Rattle.layer_board.proofs.Lists.{All-at, sum_out, sum_none, none_of_sum, lowest_le, lowest_out, lowest_none}
-use Rattle.layer_board.proofs.Counts.{is, counts_contained, contains_counted, counts_below, lowest_at, same_below, length_is_sum, length-below}
+use Rattle.layer_board.proofs.Lists.{sum_out, sum_none, none_of_sum, lowest_le, lowest_out, lowest_none}
+use Rattle.layer_board.proofs.Counts.{is, contains_counted, counts_below, lowest_at, same_below, length_is_sum, length-below}
 use Rattle.layer_board.proofs.Steps.{board, members_sum, drawn_sum}
 use Rattle.layer_board.proofs.Events.{sound_at, spent_sound}
 
@@ -30,10 +29,10 @@ module _ (c n l : ℕ) (vs : List View) (i : ℕ) (v : View) (e : get_elem? vs i
       let z = none_of_sum (λ (u : View). sum_by (λ _. 1) u.members) (set vs i spent) (omega arith) in
       let each = All-set (IsSoundPass c n l) vs i spent (spent_sound c n l) k.passes in
       λ q d h. ⊎_elim (λ same. same)
-        (λ t. let some_member = t.0 in
-            let x = z q d h in
-            let y = length_is_sum (get_or (set vs i spent) q d).members in absurd (omega arith))
-        (each q d h).live
+      (λ t. let some_member = t.0 in
+      let x = z q d h in
+      let y = length_is_sum (get_or (set vs i spent) q d).members in absurd (omega arith))
+      (each q d h).live
 
   module _ (alone : All (λ u. u ≡ spent) (set vs i spent)) where
     -- what all passes have is what this one has
@@ -66,13 +65,13 @@ module _ (c n l : ℕ) (vs : List View) (i : ℕ) (v : View) (e : get_elem? vs i
         let f = counts_below m c (omega arith) in
         let g = alone_parts (is m) in
         contains_counted m v.finished
-          (⊎_elim (λ h. h)
-            (λ none. ⊎_elim
-              (λ h. let t = lowest_at c m v.failed (contains_counted m v.failed h) in absurd (omega arith))
-              (λ none'. let t = All-contains (λ x. l < x) v.skipped m sound_v.skipped
-                    (contains_counted m v.skipped (omega (arith, sum_by-append (is m) v.finished (v.failed ++ v.skipped), sum_by-append (is m) v.failed v.skipped))) in absurd (omega arith))
-              (cases_lt 0 (sum_by (is m) v.failed)))
-            (cases_lt 0 (sum_by (is m) v.finished)))
+        (⊎_elim (λ h. h)
+        (λ none. ⊎_elim
+        (λ h. let t = lowest_at c m v.failed (contains_counted m v.failed h) in absurd (omega arith))
+        (λ none'. let t = All-contains (λ x. l < x) v.skipped m sound_v.skipped
+        (contains_counted m v.skipped (omega (arith, sum_by-append (is m) v.finished (v.failed ++ v.skipped), sum_by-append (is m) v.failed v.skipped))) in absurd (omega arith))
+        (cases_lt 0 (sum_by (is m) v.failed)))
+        (cases_lt 0 (sum_by (is m) v.finished)))
 
     pub closes : Closed c l v
-    closes = record { drawn = alone_drawn; parts = alone_parts; is_lowest = alone_least; finished = alone_finished; }
+    closes = record { drawn = alone_drawn; parts = alone_parts; is_lowest = alone_least; finished = alone_finished }

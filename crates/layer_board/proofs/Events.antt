@@ -1,5 +1,5 @@
 -- Claim, Look, Fail and Finish keep a board sound.
-use Rattle.std.proofs.Common.{◌≡◌, ℕ, zero, suc, ◌+◌, ◌<◌, ◌≤◌, ◌≢◌, ◌⊎◌, inl, inr, ⊎_elim, min, Bool, true, false, true≢false, if◌then◌else◌, nat_lt, lt-ltb, le-ltb, List, [], ◌∷◌, ◌++◌, length, set, sym, refl, ap, ◌∙◌, subst, arith, All, Contains, sum_by, flat_map, Option, Some, None, option_to_list}
+use Rattle.std.proofs.Common.{◌≡◌, ℕ, ◌+◌, ◌<◌, ◌≤◌, inl, inr, ⊎_elim, min, false, true≢false, if◌then◌else◌, lt-ltb, le-ltb, List, [], ◌∷◌, ◌++◌, length, set, sym, refl, ap, ◌∙◌, subst, arith, All, sum_by, flat_map, Some, None, option_to_list}
 use Rattle.std.proofs.lemmas.List.Sums.{sum_by-append, sum_by_push, sum_by-cons}
 use Rattle.std.proofs.lemmas.List.Elements.{All-append, All-cons, All-nil}
 use Rattle.std.proofs.lemmas.Bool.{cases_lt, false≢true}
@@ -7,16 +7,16 @@ use mathlib.Core.Option.{some}
 use lib.ListN.{get_elem?}
 use Rattle.atomic_table.proofs.Lists.{set_again}
 use Rattle.layer_board.specs.declared.view.View.{View}
-use Rattle.layer_board.specs.Numbers.{below, lowest, Rearranged}
+use Rattle.layer_board.specs.Numbers.{below, lowest}
 use Rattle.layer_board.specs.Pass.{spent, draws, ends, claims, skips, is_above, looks, fails, finishes}
-use Rattle.layer_board.specs.Events.{BoardState, IsLive}
+use Rattle.layer_board.specs.Events.{IsLive}
 use Rattle.layer_board.specs.Sound.{IsSoundPass, IsSound}
 use Rattle.layer_board.proofs.Lists.{All-at, lowest_le, lowest_both}
 use Rattle.layer_board.proofs.Counts.{below_more, same_below}
 use Rattle.layer_board.proofs.Steps.{board, ended_of, lowest_changed, Moves, moved, stays}
 
 pub spent_sound : (c n l : ℕ) → IsSoundPass c n l spent
-spent_sound c n l = record { live = inl refl; parts = λ h. refl; skipped = All-nil (λ m. l < m); ended = λ t. absurd (false≢true t); }
+spent_sound c n l = record { live = inl refl; parts = λ h. refl; skipped = All-nil (λ m. l < m); ended = λ t. absurd (false≢true t) }
 
 -- a pass with members has the board's number of layers
 pub counted : (c n l : ℕ) (v : View) → IsLive v → IsSoundPass c n l v → v.count ≡ c
@@ -84,11 +84,11 @@ claimed c n l vs i v e live free going k =
     let s = sound_at c n l vs i v e k in
     let same = counted c n l v live s in
     ⊎_elim
-      (λ small. subst (λ w. IsSound c (board (n + 1) l (set vs i w))) (sym (claims_layer n v (subst (λ m. n < m) (sym same) small)))
-          (moved c n l (n + 1) l vs i v (draws n v) e (draws_moves c n l v small same live free going s) (same_least c n l vs i v (draws n v) e refl k) k))
-      (λ big. subst (λ w. IsSound c (board (n + 1) l (set vs i w))) (sym (claims_end n v (subst (λ m. m ≤ n) (sym same) big)))
-          (moved c n l (n + 1) l vs i v (ends v) e (ends_moves c n l v big same live free going s) (same_least c n l vs i v (ends v) e refl k) k))
-      (cases_lt n c)
+    (λ small. subst (λ w. IsSound c (board (n + 1) l (set vs i w))) (sym (claims_layer n v (subst (λ m. n < m) (sym same) small)))
+    (moved c n l (n + 1) l vs i v (draws n v) e (draws_moves c n l v small same live free going s) (same_least c n l vs i v (draws n v) e refl k) k))
+    (λ big. subst (λ w. IsSound c (board (n + 1) l (set vs i w))) (sym (claims_end n v (subst (λ m. m ≤ n) (sym same) big)))
+    (moved c n l (n + 1) l vs i v (ends v) e (ends_moves c n l v big same live free going s) (same_least c n l vs i v (ends v) e refl k) k))
+    (cases_lt n c)
 
 -- a pass that has something pending isn't spent
 pub pending_lives : (c n l : ℕ) (v : View) (m : ℕ) → v.pending ≡ Some m → IsSoundPass c n l v → IsLive v × (v.count ≡ c)
@@ -106,13 +106,15 @@ skips_moves c n l v m p above s = record {
   most = inl (omega arith);
   pass = record {
     live = inr (pending_lives c n l v m p s);
-    parts = λ h. let q = s.parts h in omega (arith,
-        sum_by-append h (option_to_list v.pending) (v.finished ++ (v.failed ++ v.skipped)),
-        sum_by-append h v.finished (v.failed ++ v.skipped),
-        sum_by-append h v.failed v.skipped,
-        sum_by-append h v.finished (v.failed ++ (v.skipped ++ option_to_list v.pending)),
-        sum_by-append h v.failed (v.skipped ++ option_to_list v.pending),
-        sum_by-append h v.skipped (option_to_list v.pending));
+    parts = λ h. let q = s.parts h in omega (
+      arith,
+      sum_by-append h (option_to_list v.pending) (v.finished ++ (v.failed ++ v.skipped)),
+      sum_by-append h v.finished (v.failed ++ v.skipped),
+      sum_by-append h v.failed v.skipped,
+      sum_by-append h v.finished (v.failed ++ (v.skipped ++ option_to_list v.pending)),
+      sum_by-append h v.failed (v.skipped ++ option_to_list v.pending),
+      sum_by-append h v.skipped (option_to_list v.pending),
+    );
     skipped = All-append (λ k. l < k) v.skipped (option_to_list v.pending) s.skipped
         (subst (λ o. All (λ k. l < k) (option_to_list o)) (sym p) (All-cons (λ k. l < k) m [] above (All-nil (λ k. l < k))));
     ended = λ t. ((s.ended t).0, refl);
@@ -129,11 +131,13 @@ finishes_moves c n l v m p s = record {
   most = inl (omega arith);
   pass = record {
     live = inr (pending_lives c n l v m p s);
-    parts = λ h. let q = s.parts h in omega (arith,
-        sum_by-append h (option_to_list v.pending) (v.finished ++ (v.failed ++ v.skipped)),
-        sum_by-append h v.finished (v.failed ++ v.skipped),
-        sum_by-append h (v.finished ++ option_to_list v.pending) (v.failed ++ v.skipped),
-        sum_by-append h v.finished (option_to_list v.pending));
+    parts = λ h. let q = s.parts h in omega (
+      arith,
+      sum_by-append h (option_to_list v.pending) (v.finished ++ (v.failed ++ v.skipped)),
+      sum_by-append h v.finished (v.failed ++ v.skipped),
+      sum_by-append h (v.finished ++ option_to_list v.pending) (v.failed ++ v.skipped),
+      sum_by-append h v.finished (option_to_list v.pending),
+    );
     skipped = s.skipped;
     ended = λ t. ((s.ended t).0, refl);
   };
@@ -149,13 +153,15 @@ fails_moves c n l l' v m p down s s' = record {
   most = inl (omega arith);
   pass = record {
     live = inr (pending_lives c n l v m p s);
-    parts = λ h. let q = s.parts h in omega (arith,
-        sum_by-append h (option_to_list v.pending) (v.finished ++ (v.failed ++ v.skipped)),
-        sum_by-append h v.finished (v.failed ++ v.skipped),
-        sum_by-append h v.failed v.skipped,
-        sum_by-append h v.finished ((v.failed ++ option_to_list v.pending) ++ v.skipped),
-        sum_by-append h (v.failed ++ option_to_list v.pending) v.skipped,
-        sum_by-append h v.failed (option_to_list v.pending));
+    parts = λ h. let q = s.parts h in omega (
+      arith,
+      sum_by-append h (option_to_list v.pending) (v.finished ++ (v.failed ++ v.skipped)),
+      sum_by-append h v.finished (v.failed ++ v.skipped),
+      sum_by-append h v.failed v.skipped,
+      sum_by-append h v.finished ((v.failed ++ option_to_list v.pending) ++ v.skipped),
+      sum_by-append h (v.failed ++ option_to_list v.pending) v.skipped,
+      sum_by-append h v.failed (option_to_list v.pending),
+    );
     skipped = s'.skipped;
     ended = λ t. ((s.ended t).0, refl);
   };
@@ -177,10 +183,10 @@ pub looked : (c n l : ℕ) (vs : List View) (i : ℕ) (v : View) (m : ℕ) → g
 looked c n l vs i v m e p k =
     let s = sound_at c n l vs i v e k in
     ⊎_elim
-      (λ above. subst (λ w. IsSound c (board n l (set vs i w))) (sym (looks_skip l m v p above))
-          (moved c n l n l vs i v (skips v) e (skips_moves c n l v m p above s) (same_least c n l vs i v (skips v) e refl k) k))
-      (λ most. subst (λ us. IsSound c (board n l us)) (sym (ap (set vs i) (looks_stay l m v p most) ∙ set_again vs i v e)) k)
-      (cases_lt l m)
+    (λ above. subst (λ w. IsSound c (board n l (set vs i w))) (sym (looks_skip l m v p above))
+    (moved c n l n l vs i v (skips v) e (skips_moves c n l v m p above s) (same_least c n l vs i v (skips v) e refl k) k))
+    (λ most. subst (λ us. IsSound c (board n l us)) (sym (ap (set vs i) (looks_stay l m v p most) ∙ set_again vs i v e)) k)
+    (cases_lt l m)
 
 pub finished : (c n l : ℕ) (vs : List View) (i : ℕ) (v : View) (m : ℕ) → get_elem? vs i ≡ some v → v.pending ≡ Some m
     → IsSound c (board n l vs) → IsSound c (board n l (set vs i (finishes v)))

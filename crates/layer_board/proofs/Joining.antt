@@ -1,15 +1,15 @@
 -- Join keeps a board sound.
-use Rattle.std.proofs.Common.{◌≡◌, ℕ, zero, suc, ◌+◌, ◌<◌, ◌≤◌, ◌≢◌, ◌⊎◌, inl, inr, ⊎_elim, min, Bool, true, false, ◌||◌, if◌then◌else◌, List, [], ◌∷◌, ◌++◌, length, get_or, set, sym, refl, ap, ◌∙◌, subst, arith, All, Contains, sum_by, flat_map, Option, None, option_to_list, length-append, length-set}
+use Rattle.std.proofs.Common.{◌≡◌, ℕ, ◌+◌, ◌<◌, ◌≤◌, ◌≢◌, inr, ⊎_elim, min, Bool, true, false, ◌||◌, if◌then◌else◌, List, ◌++◌, length, set, sym, refl, ap, ◌∙◌, subst, arith, All, Contains, sum_by, flat_map, None, option_to_list, length-append}
 use Rattle.std.proofs.lemmas.List.Sums.{sum_by-append}
 use Rattle.std.proofs.lemmas.List.{set-set, set_comm}
-use Rattle.std.proofs.lemmas.List.Elements.{All-set, All-append, All-weaker, Contains-append_cases}
+use Rattle.std.proofs.lemmas.List.Elements.{All-set, All-append, Contains-append_cases}
 use mathlib.Core.Option.{some}
 use lib.ListN.{get_elem?}
 use Rattle.atomic_table.proofs.Lists.{set_here, set_else}
 use Rattle.layer_board.specs.declared.view.View.{View}
 use Rattle.layer_board.specs.Numbers.{below, lowest}
 use Rattle.layer_board.specs.Pass.{spent, joins}
-use Rattle.layer_board.specs.Events.{BoardState, IsLive}
+use Rattle.layer_board.specs.Events.{IsLive}
 use Rattle.layer_board.specs.Sound.{IsSoundPass, IsSound, given_of}
 use Rattle.layer_board.proofs.Lists.{at_there, All-at, sum_out, flat_sum, part_le_sum, lowest_both, lowest_out}
 use Rattle.layer_board.proofs.Steps.{board, ended_of, sum_changed, members_sum, drawn_sum}
@@ -45,8 +45,8 @@ module _ (c n l : ℕ) (vs : List View) (i j : ℕ) (v w : View) (apart : j ≢ 
       let b : lowest c (flat_map (λ u. u.failed) (set vs i spent)) ≡ min (lowest c w.failed) rest = lowest_out c (λ (u : View). u.failed) spent refl (set vs i spent) j w (second spent) in
       let here : get_elem? (set (set vs i (joins v w)) j spent) i ≡ some (joins v w) = set_else (set vs i (joins v w)) j i spent (λ e. apart (sym e)) ∙ set_here vs i (joins v w) within in
       let d : lowest c (flat_map (λ u. u.failed) (set (set vs i (joins v w)) j spent)) ≡ min (lowest c (v.failed ++ w.failed)) rest =
-          lowest_out c (λ (u : View). u.failed) spent refl (set (set vs i (joins v w)) j spent) i (joins v w) here
-            ∙ ap (λ us. min (lowest c (v.failed ++ w.failed)) (lowest c (flat_map (λ u. u.failed) us))) same_rest in
+      lowest_out c (λ (u : View). u.failed) spent refl (set (set vs i (joins v w)) j spent) i (joins v w) here
+      ∙ ap (λ us. min (lowest c (v.failed ++ w.failed)) (lowest c (flat_map (λ u. u.failed) us))) same_rest in
       let e = lowest_both c v.failed w.failed in omega arith
 
   either_ended : (a b : Bool) → (P : Type 0) → (a ≡ true → P) → (b ≡ true → P) → a || b ≡ true → P
@@ -63,9 +63,9 @@ module _ (c n l : ℕ) (vs : List View) (i j : ℕ) (v w : View) (apart : j ≢ 
   counts_both k t =
       let p = two_parts (λ u. u.given) refl in
       ⊎_elim
-        (λ a. let q = All-at (λ u. Contains u.members 0 → u.given ≡ given_of vs) vs i v at_i k.counts a in omega arith)
-        (λ b. let q = All-at (λ u. Contains u.members 0 → u.given ≡ given_of vs) vs j w at_j k.counts b in omega arith)
-        (Contains-append_cases v.members w.members 0 t)
+      (λ a. let q = All-at (λ u. Contains u.members 0 → u.given ≡ given_of vs) vs i v at_i k.counts a in omega arith)
+      (λ b. let q = All-at (λ u. Contains u.members 0 → u.given ≡ given_of vs) vs j w at_j k.counts b in omega arith)
+      (Contains-append_cases v.members w.members 0 t)
 
   without_pending : (u : View) → u.pending ≡ None → IsSoundPass c n l u → (h : ℕ → ℕ) → sum_by h u.drawn ≡ sum_by h u.finished + sum_by h u.failed + sum_by h u.skipped
   without_pending u free s h =
@@ -78,13 +78,15 @@ module _ (c n l : ℕ) (vs : List View) (i j : ℕ) (v w : View) (apart : j ≢ 
     parts = λ h.
         let p = without_pending v free_v sv h in
         let q = without_pending w free_w sw h in
-        omega (arith,
+        omega (
+          arith,
           sum_by-append h v.drawn w.drawn,
           sum_by-append h (v.finished ++ w.finished) ((v.failed ++ w.failed) ++ (v.skipped ++ w.skipped)),
           sum_by-append h (v.failed ++ w.failed) (v.skipped ++ w.skipped),
           sum_by-append h v.finished w.finished,
           sum_by-append h v.failed w.failed,
-          sum_by-append h v.skipped w.skipped);
+          sum_by-append h v.skipped w.skipped,
+        );
     skipped = All-append (λ m. l < m) v.skipped w.skipped sv.skipped sw.skipped;
     ended = either_ended v.ended w.ended _ (λ e. ((sv.ended e).0, refl)) (λ e. ((sw.ended e).0, refl));
   }
@@ -100,17 +102,17 @@ module _ (c n l : ℕ) (vs : List View) (i j : ℕ) (v w : View) (apart : j ≢ 
             let q = sum_by-append h v.members w.members in
             let r = members_sum c (board n l vs) k h in
             flat_sum h (λ (u : View). u.members) (set (set vs i (joins v w)) j spent)
-              ∙ (let goal : sum_by (λ u. sum_by h u.members) (set (set vs i (joins v w)) j spent) ≡ sum_by h (below (given_of vs)) = omega arith in goal)
-              ∙ ap (λ g. sum_by h (below g)) (sym same_given);
+            ∙ (let goal : sum_by (λ u. sum_by h u.members) (set (set vs i (joins v w)) j spent) ≡ sum_by h (below (given_of vs)) = omega arith in goal)
+            ∙ ap (λ g. sum_by h (below g)) (sym same_given);
         counts = subst (λ g. All (λ u. Contains u.members 0 → u.given ≡ g) (set (set vs i (joins v w)) j spent)) (sym same_given)
             (All-set (λ u. Contains u.members 0 → u.given ≡ given_of vs) (set vs i (joins v w)) j spent (λ t. let none = t.1 in absurd (omega arith))
-              (All-set (λ u. Contains u.members 0 → u.given ≡ given_of vs) vs i (joins v w) (counts_both k) k.counts));
+            (All-set (λ u. Contains u.members 0 → u.given ≡ given_of vs) vs i (joins v w) (counts_both k) k.counts));
         drawn = λ h.
             let p = sum_joined (λ u. sum_by h u.drawn) refl in
             let q = sum_by-append h v.drawn w.drawn in
             let r = drawn_sum c (board n l vs) k h in
             flat_sum h (λ (u : View). u.drawn) (set (set vs i (joins v w)) j spent)
-              ∙ (let goal : sum_by (λ u. sum_by h u.drawn) (set (set vs i (joins v w)) j spent) ≡ sum_by h (below (min n c)) = omega arith in goal);
+            ∙ (let goal : sum_by (λ u. sum_by h u.drawn) (set (set vs i (joins v w)) j spent) ≡ sum_by h (below (min n c)) = omega arith in goal);
         least = k.least ∙ sym lowest_joined;
         most =
             let p = sum_joined ended_of refl in

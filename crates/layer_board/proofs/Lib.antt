@@ -8,3 +8,4 @@ pub mod Ending
 pub mod Orders
 pub mod Table
 pub mod Dealing
+mod Examples

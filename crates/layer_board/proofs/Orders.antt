@@ -1,5 +1,5 @@
 -- Every event keeps a board sound, and its failed and finished layers true to the verdicts; so all orders of events end alike.
-use Rattle.std.proofs.Common.{◌≡◌, ℕ, zero, suc, ◌+◌, ◌<◌, ◌≤◌, ◌≢◌, ⊎_elim, min, Bool, true, false, if◌then◌else◌, nat_lt, List, [], ◌∷◌, ◌++◌, length, get_or, set, sym, refl, ap, ◌∙◌, subst, arith, All, Contains, Option, Some, None, IfSome, option_to_list, get_or-set_same, get_or-set_other, length-set}
+use Rattle.std.proofs.Common.{◌≡◌, ℕ, Bool, true, false, if◌then◌else◌, nat_lt, List, [], ◌∷◌, length, get_or, set, sym, refl, ap, ◌∙◌, subst, arith, All, Contains, Option, Some, None, IfSome, option_to_list, get_or-set_same, get_or-set_other, length-set}
 use Rattle.std.specs.List.{position_or_len}
 use Rattle.std.proofs.lemmas.List.Sums.{position_or_len_is}
 use Rattle.std.proofs.lemmas.List.{get_or_default}
@@ -15,7 +15,7 @@ use Rattle.layer_board.specs.Events.{BoardState, opening, Event, Split, Claim, L
 use Rattle.layer_board.specs.Sound.{IsSound}
 use Rattle.layer_board.specs.Calls.{Closed}
 use Rattle.layer_board.specs.Orders.{verdict, IsJudged, AreJudged, IsLast, OrdersAgree, StaysSound}
-use Rattle.layer_board.proofs.Lists.{at_live, at_there, All-at, lowest_le}
+use Rattle.layer_board.proofs.Lists.{at_live, All-at, lowest_le}
 use Rattle.layer_board.proofs.Counts.{lowest_among}
 use Rattle.layer_board.proofs.Events.{claimed, looked, failed, finished}
 use Rattle.layer_board.proofs.Splitting.{split_sound, opens}
@@ -55,7 +55,7 @@ module _ (verdicts : List Bool) where
     finished : All (λ n. verdict verdicts n ≡ false) v.finished
 
   spent_fair : Fair spent
-  spent_fair = record { failed = All-nil (λ n. verdict verdicts n ≡ true); finished = All-nil (λ n. verdict verdicts n ≡ false); }
+  spent_fair = record { failed = All-nil (λ n. verdict verdicts n ≡ true); finished = All-nil (λ n. verdict verdicts n ≡ false) }
 
   by_pending : (P : ℕ → Type 0) (o : Option ℕ) → IfSome o P → All P (option_to_list o)
   by_pending P None h = All-nil P
@@ -71,16 +71,16 @@ module _ (verdicts : List Bool) where
   after_fair : (e : Event) (s : BoardState) → Allowed e s → IsJudged verdicts e s → All Fair s.passes → All Fair (after e s).passes
   after_fair (Split i) s a j f =
       let v = fair_at s i (live_there s i (first_lives (pass_at s i) a.0)) f in
-      All-push Fair (put i (gives (pass_at s i)) s.passes) (given (pass_at s i)) (All-set Fair s.passes i (gives (pass_at s i)) (record { failed = v.failed; finished = v.finished; }) f)
-        (record { failed = All-nil (λ n. verdict verdicts n ≡ true); finished = All-nil (λ n. verdict verdicts n ≡ false); })
+      All-push Fair (put i (gives (pass_at s i)) s.passes) (given (pass_at s i)) (All-set Fair s.passes i (gives (pass_at s i)) (record { failed = v.failed; finished = v.finished }) f)
+      (record { failed = All-nil (λ n. verdict verdicts n ≡ true); finished = All-nil (λ n. verdict verdicts n ≡ false) })
   after_fair (Claim i) s a j f =
       let v = fair_at s i (live_there s i a.0) f in
       All-set Fair s.passes i (claims s.next (pass_at s i)) (fair_choice (nat_lt s.next (pass_at s i).count) (draws s.next (pass_at s i)) (ends (pass_at s i))
-        (record { failed = v.failed; finished = v.finished; }) (record { failed = v.failed; finished = v.finished; })) f
+      (record { failed = v.failed; finished = v.finished }) (record { failed = v.failed; finished = v.finished })) f
   after_fair (Look i) s a j f =
       let v = fair_at s i (pending_there s i a.0 a.1) f in
       All-set Fair s.passes i (looks s.least (pass_at s i)) (fair_choice (is_above s.least (pass_at s i).pending) (skips (pass_at s i)) (pass_at s i)
-        (record { failed = v.failed; finished = v.finished; }) v) f
+      (record { failed = v.failed; finished = v.finished }) v) f
   after_fair (Fail i) s a j f =
       let v = fair_at s i (pending_there s i a.0 a.1) f in
       All-set Fair s.passes i (fails (pass_at s i)) (record {
@@ -112,9 +112,9 @@ module _ (verdicts : List Bool) where
       let e = k.is_lowest in
       let small = lowest_le (length verdicts) v.failed in
       sym (position_or_len_is (λ (failed : Bool). failed) verdicts l false (omega arith)
-        (λ m h. All-contains (λ n. verdict verdicts n ≡ false) v.finished m g (k.finished m h))
-        (λ h. subst (λ m. verdict verdicts m ≡ true) (sym e)
-          (All-contains (λ n. verdict verdicts n ≡ true) v.failed (lowest (length verdicts) v.failed) f (lowest_among (length verdicts) v.failed (omega arith)))))
+      (λ m h. All-contains (λ n. verdict verdicts n ≡ false) v.finished m g (k.finished m h))
+      (λ h. subst (λ m. verdict verdicts m ≡ true) (sym e)
+      (All-contains (λ n. verdict verdicts n ≡ true) v.failed (lowest (length verdicts) v.failed) f (lowest_among (length verdicts) v.failed (omega arith)))))
 
 others : (s : BoardState) (i : ℕ) → IsLast s i → All (λ u. u ≡ spent) (set s.passes i spent)
 others s i t k d h = dite (ℕ_discrete k i)
@@ -125,8 +125,8 @@ pub orders_agree : OrdersAgree
 orders_agree verdicts events end last r j t =
     let k = runs_sound (length verdicts) events (opening (length verdicts)) end r (opens (length verdicts)) in
     let f = runs_fair verdicts events (opening (length verdicts)) end r j
-        (All-cons (Fair verdicts) (opened (length verdicts)) [] (record { failed = All-nil (λ n. verdict verdicts n ≡ true); finished = All-nil (λ n. verdict verdicts n ≡ false); }) (All-nil (Fair verdicts))) in
+    (All-cons (Fair verdicts) (opened (length verdicts)) [] (record { failed = All-nil (λ n. verdict verdicts n ≡ true); finished = All-nil (λ n. verdict verdicts n ≡ false) }) (All-nil (Fair verdicts))) in
     let there = live_there end last t.live in
     let v = fair_at verdicts end last there f in
     least_is_first verdicts end.least (pass_at end last)
-      (closes (length verdicts) end.next end.least end.passes last (pass_at end last) there t.ended k (others end last t)) v.failed v.finished
+    (closes (length verdicts) end.next end.least end.passes last (pass_at end last) there t.ended k (others end last t)) v.failed v.finished

@@ -1,20 +1,19 @@
 -- Split keeps a board sound, and a board opens sound.
-use Rattle.std.proofs.Common.{◌≡◌, ℕ, zero, suc, ◌+◌, ◌<◌, ◌≤◌, ◌≢◌, inl, inr, ⊎_elim, min, true, false, List, [], ◌∷◌, ◌++◌, length, get_or, set, sym, refl, ap, ◌∙◌, subst, arith, All, Contains, sum_by, flat_map, Option, None, option_to_list}
-use Rattle.std.proofs.lemmas.List.Sums.{sum_by-append, sum_by_push, sum_by-cons}
+use Rattle.std.proofs.Common.{◌≡◌, ℕ, ◌+◌, ◌<◌, inr, ⊎_elim, min, List, [], ◌∷◌, ◌++◌, set, sym, refl, ap, ◌∙◌, subst, arith, All, Contains, sum_by}
+use Rattle.std.proofs.lemmas.List.Sums.{sum_by_push, sum_by-cons}
 use Rattle.std.proofs.lemmas.List.{set-set}
 use Rattle.std.proofs.lemmas.Bool.{false≢true, cases_lt}
 use Rattle.std.proofs.lemmas.List.Elements.{All-set, All-push, All-weaker, All-cons, All-nil}
 use mathlib.Core.Option.{some}
 use lib.ListN.{get_elem?}
-use Rattle.atomic_table.proofs.Lists.{set_again}
 use Rattle.layer_board.specs.declared.view.View.{View}
 use Rattle.layer_board.specs.Numbers.{below, lowest}
 use Rattle.layer_board.specs.Pass.{opened, spent, gives, given}
-use Rattle.layer_board.specs.Events.{BoardState, IsLive, opening}
+use Rattle.layer_board.specs.Events.{IsLive, opening}
 use Rattle.layer_board.specs.Sound.{IsSoundPass, IsSound, given_of}
-use Rattle.layer_board.proofs.Lists.{at_there, All-at, sum_out, flat_sum, part_le_sum, none_of_sum, flat_push}
+use Rattle.layer_board.proofs.Lists.{All-at, sum_out, flat_sum, part_le_sum, none_of_sum, flat_push}
 use Rattle.layer_board.proofs.Counts.{is, is_other, counts_contained, counts_once, counts_past, below_more}
-use Rattle.layer_board.proofs.Steps.{board, ended_of, sum_changed, lowest_changed, members_sum, drawn_sum, stays}
+use Rattle.layer_board.proofs.Steps.{board, ended_of, sum_changed, lowest_changed, members_sum, drawn_sum}
 use Rattle.layer_board.proofs.Events.{counted, sound_at}
 
 -- how often 0 is a member of the pass
@@ -52,7 +51,7 @@ module _ (c n l : ℕ) (vs : List View) (i : ℕ) (v : View) (e : get_elem? vs i
   counts_new : All (λ u. Contains u.members 0 → u.given ≡ given_of vs + 1) (set vs i (gives v))
   counts_new = subst (λ us. All (λ u. Contains u.members 0 → u.given ≡ given_of vs + 1) us) (set-set vs i spent (gives v))
       (All-set (λ u. Contains u.members 0 → u.given ≡ given_of vs + 1) (set vs i spent) i (gives v) (λ t. ap (λ g. g + 1) counts_all)
-        (All-weaker (λ u. ¬ Contains u.members 0) (λ u. Contains u.members 0 → u.given ≡ given_of vs + 1) (λ u h t. absurd (h t)) (set vs i spent) (only_first c n l vs i v e first k)))
+      (All-weaker (λ u. ¬ Contains u.members 0) (λ u. Contains u.members 0 → u.given ≡ given_of vs + 1) (λ u h t. absurd (h t)) (set vs i spent) (only_first c n l vs i v e first k)))
 
   not_first : ¬ Contains (v.given ∷ []) 0
   not_first t =
@@ -75,22 +74,22 @@ module _ (c n l : ℕ) (vs : List View) (i : ℕ) (v : View) (e : get_elem? vs i
         let s = below_more h (given_of vs) in
         let t : h v.given ≡ h (given_of vs) = ap h counts_all in
         flat_sum h (λ (u : View). u.members) (set vs i (gives v) ++ given v ∷ [])
-          ∙ (let goal : sum_by (λ u. sum_by h u.members) (set vs i (gives v) ++ given v ∷ []) ≡ sum_by h (below (given_of vs + 1)) = omega arith in goal)
-          ∙ ap (λ g. sum_by h (below g)) (sym more_given);
+        ∙ (let goal : sum_by (λ u. sum_by h u.members) (set vs i (gives v) ++ given v ∷ []) ≡ sum_by h (below (given_of vs + 1)) = omega arith in goal)
+        ∙ ap (λ g. sum_by h (below g)) (sym more_given);
     counts = subst (λ g. All (λ u. Contains u.members 0 → u.given ≡ g) (set vs i (gives v) ++ given v ∷ [])) (sym more_given)
         (All-push (λ u. Contains u.members 0 → u.given ≡ given_of vs + 1) (set vs i (gives v)) (given v) counts_new (λ t. absurd (not_first t)));
     drawn = λ h.
         let p = sum_split (λ u. sum_by h u.drawn) refl in
         let r = drawn_sum c (board n l vs) k h in
         flat_sum h (λ (u : View). u.drawn) (set vs i (gives v) ++ given v ∷ [])
-          ∙ (let goal : sum_by (λ u. sum_by h u.drawn) (set vs i (gives v) ++ given v ∷ []) ≡ sum_by h (below (min n c)) = omega arith in goal);
+        ∙ (let goal : sum_by (λ u. sum_by h u.drawn) (set vs i (gives v) ++ given v ∷ []) ≡ sum_by h (below (min n c)) = omega arith in goal);
     least =
         let t = lowest_changed c vs i v (gives v) e in
         k.least ∙ t.1 ∙ sym t.2 ∙ ap (lowest c) (sym (flat_push (λ (u : View). u.failed) (set vs i (gives v)) (given v) refl));
     most = let p = sum_split ended_of refl in let q = k.most in omega arith;
     passes = All-push (IsSoundPass c n l) (set vs i (gives v)) (given v)
-        (All-set (IsSoundPass c n l) vs i (gives v) (record { live = inr (live, counted c n l v live sound_v); parts = sound_v.parts; skipped = sound_v.skipped; ended = sound_v.ended; }) k.passes)
-        (record { live = inr (omega arith, counted c n l v live sound_v); parts = λ h. refl; skipped = All-nil (λ m. l < m); ended = λ t. absurd (false≢true t); });
+        (All-set (IsSoundPass c n l) vs i (gives v) (record { live = inr (live, counted c n l v live sound_v); parts = sound_v.parts; skipped = sound_v.skipped; ended = sound_v.ended }) k.passes)
+        (record { live = inr (omega arith, counted c n l v live sound_v); parts = λ h. refl; skipped = All-nil (λ m. l < m); ended = λ t. absurd (false≢true t) });
   }
 
 -- a board opens sound
@@ -102,9 +101,9 @@ opens c = record {
   least = refl;
   most = omega arith;
   passes = All-cons (IsSoundPass c 0 c) (opened c) [] (record {
-      live = inr (omega arith, refl);
-      parts = λ h. refl;
-      skipped = All-nil (λ m. c < m);
-      ended = λ t. absurd (false≢true t);
-    }) (All-nil (IsSoundPass c 0 c));
+    live = inr (omega arith, refl);
+    parts = λ h. refl;
+    skipped = All-nil (λ m. c < m);
+    ended = λ t. absurd (false≢true t);
+  }) (All-nil (IsSoundPass c 0 c));
 }

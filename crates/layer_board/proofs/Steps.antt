@@ -1,20 +1,16 @@
 -- A sound board stays sound where one pass that keeps its members makes a step: Claim, Look, Fail and Finish.
-use Rattle.std.proofs.Common.{◌≡◌, ℕ, zero, suc, ◌+◌, ◌<◌, ◌≤◌, ◌≢◌, ◌⊎◌, inl, inr, ⊎_elim, min, true, false, true≢false, cond, if◌then◌else◌, nat_lt, lt-ltb, le-ltb, List, [], ◌∷◌, ◌++◌, length, get_or, set, sym, refl, ap, ◌∙◌, subst, arith, All, Contains, sum_by, flat_map, Option, Some, None, option_to_list}
-use Rattle.std.proofs.lemmas.List.Sums.{sum_by-append, sum_by_push}
+use Rattle.std.proofs.Common.{◌≡◌, ℕ, ◌+◌, ◌<◌, ◌≤◌, ◌⊎◌, ⊎_elim, min, if◌then◌else◌, List, length, set, sym, refl, ap, ◌∙◌, subst, arith, All, Contains, sum_by, flat_map}
 use Rattle.std.proofs.lemmas.List.{set-set}
-use Rattle.std.proofs.lemmas.List.Elements.{All-set, All-weaker, All-push}
-use native.Mathlib.Decide.{dec_lt}
-use mathlib.Core.Logic.{dite}
+use Rattle.std.proofs.lemmas.List.Elements.{All-set, All-weaker}
 use mathlib.Core.Option.{some}
 use lib.ListN.{get_elem?}
 use Rattle.atomic_table.proofs.Lists.{set_here}
 use Rattle.layer_board.specs.declared.view.View.{View}
-use Rattle.layer_board.specs.Numbers.{below, lowest, Rearranged}
-use Rattle.layer_board.specs.Pass.{spent, draws, ends, claims, skips, is_above, looks, fails, finishes}
-use Rattle.layer_board.specs.Events.{BoardState, IsLive}
-use Rattle.layer_board.specs.Sound.{IsSoundPass, IsSound, given_of, ended_members}
-use Rattle.layer_board.proofs.Lists.{at_there, All-at, sum_out, flat_sum, lowest_le, lowest_both, lowest_out, part_le_sum}
-use Rattle.layer_board.proofs.Counts.{below_more}
+use Rattle.layer_board.specs.Numbers.{below, lowest}
+use Rattle.layer_board.specs.Pass.{spent}
+use Rattle.layer_board.specs.Events.{BoardState}
+use Rattle.layer_board.specs.Sound.{IsSoundPass, IsSound, given_of}
+use Rattle.layer_board.proofs.Lists.{at_there, All-at, sum_out, flat_sum, lowest_out, part_le_sum}
 
 abbrev pub board : ℕ → ℕ → List View → BoardState
 board next least passes = record { next = next; least = least; passes = passes }
@@ -44,11 +40,12 @@ sum_changed f z vs i v w e =
 pub lowest_changed : (c : ℕ) (vs : List View) (i : ℕ) (v w : View) → get_elem? vs i ≡ some v
     → (rest : ℕ) × (lowest c (flat_map (λ u. u.failed) vs) ≡ min (lowest c v.failed) rest) × (lowest c (flat_map (λ u. u.failed) (set vs i w)) ≡ min (lowest c w.failed) rest)
 lowest_changed c vs i v w e =
-    let t = at_there vs i v e in
-    (lowest c (flat_map (λ u. u.failed) (set vs i spent)),
+    let t = at_there vs i v e in (
+      lowest c (flat_map (λ u. u.failed) (set vs i spent)),
       lowest_out c (λ (u : View). u.failed) spent refl vs i v e,
       lowest_out c (λ (u : View). u.failed) spent refl (set vs i w) i w (set_here vs i w t.0)
-        ∙ ap (λ us. min (lowest c w.failed) (lowest c (flat_map (λ u. u.failed) us))) (set-set vs i w spent))
+          ∙ ap (λ us. min (lowest c w.failed) (lowest c (flat_map (λ u. u.failed) us))) (set-set vs i w spent),
+    )
 
 -- the members, the numbers given and the layers drawn, as sums
 pub members_sum : (c : ℕ) (s : BoardState) → IsSound c s → (h : ℕ → ℕ) → sum_by (λ v. sum_by h v.members) s.passes ≡ sum_by h (below (given_of s.passes))
@@ -82,7 +79,7 @@ moved c n l n' l' vs i v w e m least k =
           flat_sum h (λ (u : View). u.members) (set vs i w) ∙ (let goal : sum_by (λ u. sum_by h u.members) (set vs i w) ≡ sum_by h (below (given_of vs)) = omega arith in goal) ∙ ap (λ g. sum_by h (below g)) (sym same_given);
       counts = subst (λ g. All (λ u. Contains u.members 0 → u.given ≡ g) (set vs i w)) (sym same_given)
           (All-set (λ u. Contains u.members 0 → u.given ≡ given_of vs) vs i w
-            (λ t. m.given ∙ All-at (λ u. Contains u.members 0 → u.given ≡ given_of vs) vs i v e counts (subst (λ ms. Contains ms 0) m.members t)) counts);
+          (λ t. m.given ∙ All-at (λ u. Contains u.members 0 → u.given ≡ given_of vs) vs i v e counts (subst (λ ms. Contains ms 0) m.members t)) counts);
       drawn = λ h.
           let p = sum_changed (λ u. sum_by h u.drawn) refl vs i v w e in
           let q = m.drawn h in

@@ -1,18 +1,18 @@
 -- Each step of the table is an event of the board, and so keeps the rule.
-use Rattle.std.proofs.Common.{◌≡◌, ℕ, zero, suc, ◌+◌, ◌%◌, ◌^◌, ◌<◌, ◌≤◌, ◌≢◌, ⊎_elim, min, Bool, true, false, nat_lt, if◌then◌else◌, List, [], ◌∷◌, ◌++◌, length, get_or, set, sym, refl, ap, ◌∙◌, subst, subst₂, arith, All, Contains, sum_by, flat_map, Option, Some, None, option_to_list, length-set, get_or-set_same, get_or-set_other, mod-eq_of_lt, slice_index, slice_set}
+use Rattle.std.proofs.Common.{◌≡◌, ℕ, ◌+◌, ◌%◌, ◌^◌, ◌<◌, ◌≤◌, ⊎_elim, min, Bool, true, false, nat_lt, if◌then◌else◌, List, [], ◌∷◌, length, get_or, set, sym, refl, ap, ◌∙◌, subst, subst₂, arith, All, Contains, sum_by, Some, None, option_to_list, length-set, get_or-set_same, get_or-set_other, mod-eq_of_lt, slice_index, slice_set}
 use Rattle.std.proofs.lemmas.List.Sums.{sum_by-cons}
 use Rattle.std.proofs.lemmas.List.Elements.{Contains-get_or}
 use Rattle.std.proofs.lemmas.Bool.{cases_lt}
 use mathlib.Core.Option.{some, none}
 use lib.ListN.{get_elem?}
-use Rattle.atomic_table.specs.Table.{State, Me, step, Act, keeps, stepped, Allows, Splits, Joins, Final, Seen}
+use Rattle.atomic_table.specs.Table.{State, Me, step, keeps, stepped, Allows, Splits, Joins, Final, Seen}
 use Rattle.atomic_table.proofs.Lists.{set_again, set_else, set_here}
 use Rattle.layer_board.specs.declared.view.View.{View}
 use Rattle.layer_board.specs.declared.view.Size.{Size}
-use Rattle.layer_board.specs.Numbers.{below, lowest}
+use Rattle.layer_board.specs.Numbers.{lowest}
 use Rattle.layer_board.specs.Pass.{opened, spent, gives, given, draws, ends, claims, skips, is_above, looks, fails, finishes, joins}
-use Rattle.layer_board.specs.Events.{BoardState, IsLive, opening}
-use Rattle.layer_board.specs.Sound.{IsSoundPass, IsSound, given_of, ended_members}
+use Rattle.layer_board.specs.Events.{BoardState, IsLive}
+use Rattle.layer_board.specs.Sound.{IsSound, given_of}
 use Rattle.layer_board.specs.Rule.{board_of, IsBoard, Claimed, Looked, Failed, Finished, Counted}
 use Rattle.layer_board.specs.Calls.{Closed}
 use Rattle.layer_board.proofs.Ending.{closes, others_spent}
@@ -108,15 +108,18 @@ module _ (size : Size) (slots id : ℕ) (me : Me (Unit {0}) View) where
       let small = b.layers in
       let plus : (n + 1) % 2 ^ 64 ≡ n + 1 = mod-eq_of_lt (let goal : n + 1 < 2 ^ 64 = omega arith in goal) in
       let t = next_set s ((n + 1) % 2 ^ 64) b.words in
-      let k' = claimed size.count n l s.views id v e live free going k in
-      (claims n v, keeps, tt,
+      let k' = claimed size.count n l s.views id v e live free going k in (
+        claims n v,
+        keeps,
+        tt,
         board_after size s 0 ((n + 1) % 2 ^ 64) (n + 1) l id me.1 v (claims n v) e (claims_given n v) (t.0 ∙ plus) t.1 b k',
         record {
           event = refl;
           ascends = draws_ascend size.count n l s.views id v e k;
           few = let a = draws_few size.count (n + 1) l (set s.views id (claims n v)) id (claims n v) (set_here s.views id (claims n v) (at_there s.views id v e).0) k' in
               let same = counted size.count n l v live (sound_at size.count n l s.views id v e k) in omega arith;
-        })
+        },
+      )
 
   pub looks_step : (m : ℕ) → me.0.pending ≡ Some m → 0 < length me.0.members → Allows (IsBoard size) slots id me 1 (λ n. n) (Looked (step slots 1 0 0 none) me)
   looks_step m p live s b homes e fits =
@@ -126,13 +129,16 @@ module _ (size : Size) (slots id : ℕ) (me : Me (Unit {0}) View) where
       let k : IsSound size.count (board n l s.views) = b.sound in
       let t = least_set s l b.words in
       let u = lowest_changed size.count s.views id v v e in
-      let same = counted size.count n l v live (sound_at size.count n l s.views id v e k) in
-      (looks l v, keeps, tt,
+      let same = counted size.count n l v live (sound_at size.count n l s.views id v e k) in (
+        looks l v,
+        keeps,
+        tt,
         board_after size s 1 l n l id me.1 v (looks l v) e (looks_given l v) t.0 t.1 b (looked size.count n l s.views id v m e p k),
         record {
           event = refl;
           failed = let a = k.least in let c = u.1 in let d : lowest v.count v.failed ≡ lowest size.count v.failed = ap (λ x. lowest x v.failed) same in omega arith;
-        })
+        },
+      )
 
   pub fails_step : (m : ℕ) → me.0.pending ≡ Some m → Allows (IsBoard size) slots id me 1 (λ n. min n m) (Failed (step slots 1 m 0 none) me)
   fails_step m p s b homes e fits =
@@ -141,10 +147,13 @@ module _ (size : Size) (slots id : ℕ) (me : Me (Unit {0}) View) where
       let l : ℕ = slice_index s.words 1 in
       let k : IsSound size.count (board n l s.views) = b.sound in
       let t = least_set s (min l m) b.words in
-      let same : lowest l (option_to_list v.pending) ≡ min m l = ap (λ o. lowest l (option_to_list o)) p in
-      (fails v, keeps, tt,
+      let same : lowest l (option_to_list v.pending) ≡ min m l = ap (λ o. lowest l (option_to_list o)) p in (
+        fails v,
+        keeps,
+        tt,
         board_after size s 1 (min l m) n (lowest l (option_to_list v.pending)) id me.1 v (fails v) e refl t.0 (t.1 ∙ (let goal : min l m ≡ lowest l (option_to_list v.pending) = omega arith in goal)) b (failed size.count n l s.views id v m e p k),
-        refl)
+        refl,
+      )
 
   pub finishes_step : (m : ℕ) → me.0.pending ≡ Some m → Allows (IsBoard size) slots id me 0 (λ n. n) (Finished (step slots 0 0 0 none) me)
   finishes_step m p s b homes e fits =
@@ -152,10 +161,13 @@ module _ (size : Size) (slots id : ℕ) (me : Me (Unit {0}) View) where
       let n : ℕ = slice_index s.words 0 in
       let l : ℕ = slice_index s.words 1 in
       let k : IsSound size.count (board n l s.views) = b.sound in
-      let t = next_set s n b.words in
-      (finishes v, keeps, tt,
+      let t = next_set s n b.words in (
+        finishes v,
+        keeps,
+        tt,
         board_after size s 0 n n l id me.1 v (finishes v) e refl t.0 t.1 b (finished size.count n l s.views id v m e p k),
-        refl)
+        refl,
+      )
 
   pub counts_step : Allows (IsBoard size) slots id me 0 (λ n. n) (Counted (step slots 0 0 0 none) me)
   counts_step s b homes e fits =
@@ -163,10 +175,13 @@ module _ (size : Size) (slots id : ℕ) (me : Me (Unit {0}) View) where
       let n : ℕ = slice_index s.words 0 in
       let l : ℕ = slice_index s.words 1 in
       let k : IsSound size.count (board n l s.views) = b.sound in
-      let t = next_set s n b.words in
-      (v, keeps, tt,
+      let t = next_set s n b.words in (
+        v,
+        keeps,
+        tt,
         board_after size s 0 n n l id me.1 v v e refl t.0 t.1 b (subst (λ us. IsSound size.count (board n l us)) (sym (set_again s.views id v e)) k),
-        record { event = refl; few = members_few size s id v e b; })
+        record { event = refl; few = members_few size s id v e b },
+      )
 
 pub splits_step : (size : Size) (id : ℕ) (v : View) → Contains v.members 0 → v.given < size.workers → Splits (IsBoard size) id v (gives v) (given v)
 splits_step size id v first room s b e =
@@ -176,7 +191,7 @@ splits_step size id v first room s b e =
     let live : 0 < length v.members = let x = first.1 in omega arith in
     let g = more_given size.count n l s.views id v e first k in
     let h = counts_all size.count n l s.views id v e first k in
-    record { words = b.words; layers = b.layers; workers = b.workers; given = omega arith; sound = split_sound size.count n l s.views id v e first k live; }
+    record { words = b.words; layers = b.layers; workers = b.workers; given = omega arith; sound = split_sound size.count n l s.views id v e first k live }
 
 pub joins_step : (size : Size) (id other : ℕ) (v w : View) → IsLive v → IsLive w → v.pending ≡ None → w.pending ≡ None → Joins (IsBoard size) id v other w (joins v w) spent
 joins_step size id other v w live_v live_w free_v free_w s b e apart f =
@@ -186,11 +201,11 @@ joins_step size id other v w live_v live_w free_v free_w s b e apart f =
     let there : get_elem? s.views other ≡ some w = sym (set_else s.views id other (joins v w) apart) ∙ f in
     let g = sum_joined size.count n l s.views id other v w apart e there (λ u. u.given) refl in
     let h = b.given in
-    record { words = b.words; layers = b.layers; workers = b.workers; given = omega arith; sound = joined size.count n l s.views id other v w apart e there live_v live_w free_v free_w k; }
+    record { words = b.words; layers = b.layers; workers = b.workers; given = omega arith; sound = joined size.count n l s.views id other v w apart e there live_v live_w free_v free_w k }
 
 pub opens_board : (size : Size) → 0 < size.workers → size.workers ≤ 64 → size.count < 4294967296
     → IsBoard size (record { words = 0 ∷ size.count ∷ []; homes = []; views = opened size.count ∷ [] })
-opens_board size some_worker few layers = record { words = refl; layers = layers; workers = few; given = omega arith; sound = opens size.count; }
+opens_board size some_worker few layers = record { words = refl; layers = layers; workers = few; given = omega arith; sound = opens size.count }
 
 -- what the words of a table that is closed say
 pub closes_table : (size : Size) (id : ℕ) (v : View) (words : List ℕ) (slots : List (Unit {0})) (least : ℕ) → Final (Seen (IsBoard size) id v) words slots → get_elem? words 1 ≡ some least

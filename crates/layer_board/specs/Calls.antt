@@ -38,18 +38,23 @@ pub record IsFresh (b : Board) (p : Pass) : Type 0 where
 
 -- a board of so many layers has these passes, after its first pass was split so often, and after no other event
 abbrev pub AreSplit : ℕ → ℕ → View → List View → Type 0
-AreSplit layers splits first others = Runs (replicate splits (Split 0)) (opening layers) (record { next = 0; least = layers; passes = first ∷ others })
+AreSplit layers splits first others =
+    Runs (replicate splits (Split 0)) (opening layers) (record { next = 0; least = layers; passes = first ∷ others })
 
 -- the passes of a new board: the one that was split for all others stands last
 abbrev pub AreDealt : ℕ → ℕ → List View → Type 0
-AreDealt layers workers passes = (first : View) × (others : List View) × (passes ≡ others ++ first ∷ []) × AreSplit layers (workers - 1) first others
+AreDealt layers workers passes =
+    (first : View) × (others : List View) × (passes ≡ others ++ first ∷ [])
+    × AreSplit layers (workers - 1) first others
 
--- the event Claim, seen in its pass: the layer that is answered is drawn and pending; otherwise the pass knows the end
+-- the event Claim, seen in its pass: the layer that is answered is drawn and pending; or else the pass was told
+-- the end, now or before
 abbrev pub Claims : View → Claim → View → Type 0
 Claims v (Layer n) w = (v.ended ≡ false) × (n < v.count) × (w ≡ draws n v)
 Claims v Ended w = w ≡ ends v
 
--- the event Look, seen in its pass: the pending layer is skipped where the answer is true, and nothing changes where it is false
+-- the event Look, seen in its pass: the pending layer is skipped where the answer is true, and nothing changes
+-- where it is false
 abbrev pub Looks : View → Bool → View → Type 0
 Looks v true w = w ≡ skips v
 Looks v false w = w ≡ v

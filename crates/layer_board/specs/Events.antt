@@ -1,6 +1,6 @@
 -- A board as two numbers and its passes, and the six events that change it.
--- A pass is named by its place in the list. One that was joined to another stays in its place as `spent`, without members.
-use Rattle.std.specs.Prelude.{◌≡◌, ◌≢◌, ℕ, ◌+◌, ◌<◌, true, false, None, Some, List, [], ◌∷◌, ◌++◌, length, Contains, slice_index_or, slice_set, option_to_list}
+-- A pass is named by its place in the list. One that was joined to another stays there as `spent`, without members.
+use Rattle.std.specs.Prelude.{◌≡◌, ◌≢◌, ℕ, ◌+◌, ◌<◌, false, None, Some, List, [], ◌∷◌, ◌++◌, length, Contains, slice_index_or, slice_set, option_to_list}
 use Rattle.layer_board.specs.declared.view.View.{View}
 use Rattle.layer_board.specs.Numbers.{lowest}
 use Rattle.layer_board.specs.Pass.{opened, spent, gives, given, claims, looks, fails, finishes, joins}
@@ -45,7 +45,9 @@ Allowed (Claim i) s = IsLive (pass_at s i) × ((pass_at s i).pending ≡ None) �
 Allowed (Look i) s = (n : ℕ) × ((pass_at s i).pending ≡ Some n)
 Allowed (Fail i) s = (n : ℕ) × ((pass_at s i).pending ≡ Some n)
 Allowed (Finish i) s = (n : ℕ) × ((pass_at s i).pending ≡ Some n)
-Allowed (Join i j) s = (j ≢ i) × IsLive (pass_at s i) × IsLive (pass_at s j) × ((pass_at s i).pending ≡ None) × ((pass_at s j).pending ≡ None)
+Allowed (Join i j) s =
+    (j ≢ i) × IsLive (pass_at s i) × IsLive (pass_at s j)
+    × ((pass_at s i).pending ≡ None) × ((pass_at s j).pending ≡ None)
 
 -- the pass at the place is now v
 abbrev pub put : ℕ → View → List View → List View
@@ -56,7 +58,10 @@ abbrev pub after : Event → BoardState → BoardState
 after (Split i) s = record s { passes = put i (gives (pass_at s i)) s.passes ++ given (pass_at s i) ∷ [] }
 after (Claim i) s = record s { next = s.next + 1; passes = put i (claims s.next (pass_at s i)) s.passes }
 after (Look i) s = record s { passes = put i (looks s.least (pass_at s i)) s.passes }
-after (Fail i) s = record s { least = lowest s.least (option_to_list (pass_at s i).pending); passes = put i (fails (pass_at s i)) s.passes }
+after (Fail i) s = record s {
+  least = lowest s.least (option_to_list (pass_at s i).pending);
+  passes = put i (fails (pass_at s i)) s.passes;
+}
 after (Finish i) s = record s { passes = put i (finishes (pass_at s i)) s.passes }
 after (Join i j) s = record s { passes = put j spent (put i (joins (pass_at s i) (pass_at s j)) s.passes) }
 

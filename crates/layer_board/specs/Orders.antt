@@ -1,4 +1,4 @@
--- The layers have verdicts, true where a layer fails. The least failed layer of a board is one, whatever the order of its events.
+-- Each layer has a verdict, true where it fails. Whatever the order of its events, a board ends with one least failed layer.
 use Rattle.std.specs.Prelude.{◌≡◌, ◌≢◌, ℕ, Bool, true, false, List, [], ◌∷◌, ⊤, IfSome, length, slice_index_or}
 use Rattle.std.specs.List.{position_or_len}
 use Rattle.layer_board.specs.Pass.{spent}
@@ -31,7 +31,8 @@ pub record IsLast (s : BoardState) (i : ℕ) : Type 0 where
 -- whatever the events and their order, the board ends with the first layer whose verdict is true, or with their number
 abbrev pub OrdersAgree : Type 0
 OrdersAgree = (verdicts : List Bool) (events : List Event) (end : BoardState) (last : ℕ)
-    → Runs events (opening (length verdicts)) end → AreJudged verdicts events (opening (length verdicts)) → IsLast end last
+    → Runs events (opening (length verdicts)) end → AreJudged verdicts events (opening (length verdicts))
+    → IsLast end last
     → end.least ≡ position_or_len (λ failed. failed) verdicts
 
 -- whatever the events and their order, the board is sound after them

@@ -2,13 +2,27 @@
 use Rattle.std.specs.Prelude.{ℕ, ◌+◌, Bool, true, false, ◌||◌, if◌then◌else◌, nat_lt, Option, Some, None, option_to_list, List, [], ◌∷◌, ◌++◌}
 use Rattle.layer_board.specs.declared.view.View.{View}
 
--- the pass that a board of so many layers opens with: it is member 0, and the one number given
+-- a pass that has drawn nothing, for a board of so many layers, with a count of numbers given and with members
+abbrev pub empty : ℕ → ℕ → List ℕ → View
+empty count given members = record {
+  count = count;
+  given = given;
+  members = members;
+  pending = None;
+  ended = false;
+  drawn = [];
+  finished = [];
+  failed = [];
+  skipped = [];
+}
+
+-- the pass that a board opens with: it is member 0, and counts one number given
 abbrev pub opened : ℕ → View
-opened count = record { count = count; given = 1; members = 0 ∷ []; drawn = []; pending = None; finished = []; failed = []; skipped = []; ended = false }
+opened count = empty count 1 (0 ∷ [])
 
 -- what is left of a pass that was joined to another
 abbrev pub spent : View
-spent = record { count = 0; given = 0; members = []; drawn = []; pending = None; finished = []; failed = []; skipped = []; ended = false }
+spent = empty 0 0 []
 
 -- Split: one number more was given ..
 abbrev pub gives : View → View
@@ -16,7 +30,7 @@ gives v = record v { given = v.given + 1 }
 
 -- .. and it is the only member of a new, empty pass
 abbrev pub given : View → View
-given v = record { count = v.count; given = 0; members = v.given ∷ []; drawn = []; pending = None; finished = []; failed = []; skipped = []; ended = false }
+given v = empty v.count 0 (v.given ∷ [])
 
 -- the layer n is drawn, and pending
 abbrev pub draws : ℕ → View → View
@@ -53,4 +67,14 @@ finishes v = record v { finished = v.finished ++ option_to_list v.pending; pendi
 
 -- Join: all that either pass has
 abbrev pub joins : View → View → View
-joins v w = record { count = v.count; given = v.given + w.given; members = v.members ++ w.members; drawn = v.drawn ++ w.drawn; pending = None; finished = v.finished ++ w.finished; failed = v.failed ++ w.failed; skipped = v.skipped ++ w.skipped; ended = v.ended || w.ended }
+joins v w = record {
+  count = v.count;
+  given = v.given + w.given;
+  members = v.members ++ w.members;
+  drawn = v.drawn ++ w.drawn;
+  pending = None;
+  finished = v.finished ++ w.finished;
+  failed = v.failed ++ w.failed;
+  skipped = v.skipped ++ w.skipped;
+  ended = v.ended || w.ended;
+}

@@ -1,5 +1,5 @@
 -- The rule of the table of two words, next and least, and of its passes; and what each step tells its pass.
-use Rattle.std.specs.Prelude.{◌≡◌, ℕ, ◌<◌, ◌≤◌, List, [], ◌∷◌, length, All, slice_index}
+use Rattle.std.specs.Prelude.{◌≡◌, ℕ, ◌<◌, ◌≤◌, length, All, slice_index}
 use Rattle.atomic_table.specs.Table.{State, Me, Step}
 use Rattle.layer_board.specs.declared.view.View.{View}
 use Rattle.layer_board.specs.declared.view.Size.{Size}
@@ -21,7 +21,7 @@ pub record IsBoard (size : Size) (s : State (Unit {0}) View) : Type 0 where
   pub sound : IsSound size.count (board_of s)
 
 module _ (st : Step (Unit {0})) (me : Me (Unit {0}) View) (found : ℕ) (me' : Me (Unit {0}) View) where
-  -- the event Claim at the number found, which is above all that the pass drew before, and no more layers than there are
+  -- the event Claim at the number found, which lies above all that the pass drew before; no more are drawn than there are
   pub record Claimed : Type 0 where
     pub event : me' ≡ (claims found me.0, me.1)
     pub ascends : All (λ d. d < found) me.0.drawn

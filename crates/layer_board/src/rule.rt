@@ -7,6 +7,7 @@ use atomic_table::{Join, Play, Split, TableRule};
 
 /// Word 0 is the next number to draw, word 1 the least failed layer, or the number of layers.
 pub const NEXT: usize = 0;
+
 pub const LEAST: usize = 1;
 
 pub struct Sharing;

@@ -21,7 +21,10 @@ impl Board {
         if pass.ended {
             return Claim::Ended;
         }
-        let found = self.table.shared.fetch_add::<rule::Claims>(&mut pass.seat, NEXT, 1);
+        let found = self
+            .table
+            .shared
+            .fetch_add::<rule::Claims>(&mut pass.seat, NEXT, 1);
         if found < u64::from(self.count) {
             Claim::Layer(found as u32)
         } else {
@@ -49,7 +52,10 @@ impl Board {
         ensures of { IsOf self.now pass.new }
         ensures event { view pass.new ≡ fails (view pass.old) }
     {
-        let _ = self.table.shared.fetch_min::<rule::Fails>(&mut pass.seat, LEAST, u64::from(n));
+        let _ = self
+            .table
+            .shared
+            .fetch_min::<rule::Fails>(&mut pass.seat, LEAST, u64::from(n));
     }
 
     /// The pending layer is finished.
@@ -59,7 +65,10 @@ impl Board {
         ensures of { IsOf self.now pass.new }
         ensures event { view pass.new ≡ finishes (view pass.old) }
     {
-        let _ = self.table.shared.load::<rule::Finishes>(&mut pass.seat, NEXT);
+        let _ = self
+            .table
+            .shared
+            .load::<rule::Finishes>(&mut pass.seat, NEXT);
     }
 
     /// The first pass takes over all that the other has.
@@ -76,7 +85,9 @@ impl Board {
             members,
             ended,
         } = other;
-        self.table.shared.join_seat::<rule::Joins>(&mut pass.seat, seat);
+        self.table
+            .shared
+            .join_seat::<rule::Joins>(&mut pass.seat, seat);
         // The other branch never runs: a load would show that no pass has more than 64 members.
         let Some(sum) = pass.members.checked_add(members) else {
             self.table.shared.load::<rule::Counts>(&mut pass.seat, NEXT);

@@ -1,4 +1,4 @@
-use Rattle.std.proofs.Common.{rules, arith, length-append}
+use Rattle.std.proofs.Common.{rules}
 use Rattle.layer_board.proofs.Table.{joins_step, counts_step}
 use Rattle.layer_board.proofs.board.Board.join.Goals as goal
 
