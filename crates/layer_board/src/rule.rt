@@ -5,9 +5,10 @@ ghost use Rattle.layer_board.specs.Rule.{IsBoard, Claimed, Looked, Failed, Finis
 use crate::view::{Size, View};
 use atomic_table::{Join, Play, Split, TableRule};
 
-/// Word 0 is the next number to draw, word 1 the least failed layer, or the number of layers.
+/// The word of the next number to draw.
 pub const NEXT: usize = 0;
 
+/// The word of the least failed layer, or else the number of layers.
 pub const LEAST: usize = 1;
 
 pub struct Sharing;

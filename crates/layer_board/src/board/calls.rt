@@ -21,10 +21,8 @@ impl Board {
         if pass.ended {
             return Claim::Ended;
         }
-        let found = self
-            .table
-            .shared
-            .fetch_add::<rule::Claims>(&mut pass.seat, NEXT, 1);
+        let words = &self.table.shared;
+        let found = words.fetch_add::<rule::Claims>(&mut pass.seat, NEXT, 1);
         if found < u64::from(self.count) {
             Claim::Layer(found as u32)
         } else {
@@ -41,7 +39,8 @@ impl Board {
         ensures event { Looks (view pass.old) result (view pass.new) }
         ensures failed { (m : ℕ) → Contains (view pass.old).failed m → m < n → result ≡ true }
     {
-        let least = self.table.shared.load::<rule::Looks>(&mut pass.seat, LEAST);
+        let words = &self.table.shared;
+        let least = words.load::<rule::Looks>(&mut pass.seat, LEAST);
         least < u64::from(n)
     }
 
@@ -52,10 +51,8 @@ impl Board {
         ensures of { IsOf self.now pass.new }
         ensures event { view pass.new ≡ fails (view pass.old) }
     {
-        let _ = self
-            .table
-            .shared
-            .fetch_min::<rule::Fails>(&mut pass.seat, LEAST, u64::from(n));
+        let words = &self.table.shared;
+        let _ = words.fetch_min::<rule::Fails>(&mut pass.seat, LEAST, u64::from(n));
     }
 
     /// The pending layer is finished.
@@ -65,10 +62,8 @@ impl Board {
         ensures of { IsOf self.now pass.new }
         ensures event { view pass.new ≡ finishes (view pass.old) }
     {
-        let _ = self
-            .table
-            .shared
-            .load::<rule::Finishes>(&mut pass.seat, NEXT);
+        let words = &self.table.shared;
+        let _ = words.load::<rule::Finishes>(&mut pass.seat, NEXT);
     }
 
     /// The first pass takes over all that the other has.
@@ -85,12 +80,11 @@ impl Board {
             members,
             ended,
         } = other;
-        self.table
-            .shared
-            .join_seat::<rule::Joins>(&mut pass.seat, seat);
+        let words = &self.table.shared;
+        words.join_seat::<rule::Joins>(&mut pass.seat, seat);
         // The other branch never runs: a load would show that no pass has more than 64 members.
         let Some(sum) = pass.members.checked_add(members) else {
-            self.table.shared.load::<rule::Counts>(&mut pass.seat, NEXT);
+            words.load::<rule::Counts>(&mut pass.seat, NEXT);
             unreachable!()
         };
         pass.members = sum;
