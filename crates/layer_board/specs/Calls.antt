@@ -1,5 +1,5 @@
 -- What the calls of a board say of its passes.
-use Rattle.std.specs.Prelude.{◌≡◌, ℕ, ◌-◌, ◌<◌, ◌∷◌, ◌++◌, Bool, true, false, None, List, [], length, All, Contains, replicate}
+use Rattle.std.specs.Prelude.{◌≡◌, ℕ, ◌-◌, ◌<◌, ◌∷◌, ◌++◌, Bool, true, false, List, [], length, All, Contains, replicate}
 use Rattle.layer_board.specs.declared.view.View.{View}
 use Rattle.layer_board.specs.declared.board.Board.{Board}
 use Rattle.layer_board.specs.declared.board.Pass.{Pass}
@@ -7,7 +7,7 @@ use Rattle.layer_board.specs.declared.board.Claim.{Claim}
 use Rattle.layer_board.specs.declared.board.Claim.TheVariants.{Layer, Ended}
 use Rattle.layer_board.specs.Numbers.{below, lowest, Rearranged}
 use Rattle.layer_board.specs.Pass.{draws, ends, skips}
-use Rattle.layer_board.specs.Events.{opening, Split, Runs}
+use Rattle.layer_board.specs.Events.{opening, Split, IsEmpty, Runs}
 
 abbrev pub view : Pass → View
 view p = p.seat.me.0
@@ -29,11 +29,7 @@ pub record IsOf (b : Board) (p : Pass) : Type 0 where
 pub record IsFresh (b : Board) (p : Pass) : Type 0 where
   pub «of» : IsOf b p
   pub member : length (view p).members ≡ 1
-  pub drawn : (view p).drawn ≡ []
-  pub pending : (view p).pending ≡ None
-  pub finished : (view p).finished ≡ []
-  pub failed : (view p).failed ≡ []
-  pub skipped : (view p).skipped ≡ []
+  pub nothing : IsEmpty (view p)
   pub ended : (view p).ended ≡ false
 
 -- a board of so many layers has these passes, after its first pass was split so often, and after no other event

@@ -33,6 +33,6 @@ pub record IsSound (count : ℕ) (s : BoardState) : Type 0 where
   pub drawn : Rearranged (flat_map (λ v. v.drawn) s.passes) (below (min s.next count))
   -- the least of count and all failed layers
   pub least : s.least ≡ lowest count (flat_map (λ v. v.failed) s.passes)
-  -- only passes that were told the end have drawn past it, each member once
+  -- next passes the number of layers by no more than the members of the ended passes
   pub most : s.next ≤ count + ended_members s.passes
   pub passes : All (IsSoundPass count s.next s.least) s.passes

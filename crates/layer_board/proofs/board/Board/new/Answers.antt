@@ -1,7 +1,7 @@
 use Rattle.std.proofs.Common.{rules, arith, refl, subst, sym, All, map, ◌≡◌, ◌+◌, ◌-◌}
 use Rattle.std.proofs.lemmas.List.Elements.{All-push}
 use Rattle.layer_board.specs.Calls.{view, IsFresh, AreSplit, AreDealt}
-use Rattle.layer_board.proofs.Dealing.{deals_more, deals_all, fresh_given, fresh_opened}
+use Rattle.layer_board.proofs.Dealing.{deals_more, deals_all, fresh_as}
 use Rattle.layer_board.proofs.board.Board.new.Goals as goal
 
 pub loop-made-preserved : goal.loop-made-preserved
@@ -9,7 +9,7 @@ loop-made-preserved c =
     let board = c.in_ok-board.board in
     let was = c.loop-made.invariant in
     let items = c.in_ok-push.ensures.items in
-    let fresh = fresh_given board c.split.result (view c.loop-made.first) c.split.ensures.of.1 c.split.ensures.event.1 in (
+    let fresh = fresh_as board c.split.result (view c.loop-made.first).count 0 (view c.loop-made.first).given c.split.ensures.of.1 c.split.ensures.event.1 in (
       search rules,
       search rules,
       search rules,
@@ -31,5 +31,5 @@ pub returns-clause-passes : goal.returns-clause-passes
 returns-clause-passes c =
     let board = c.in_ok-board.board in
     let was = c.loop-made.invariant in
-    let fresh = fresh_opened board c.loop-made.first c.args.count c.loop-made._made was.2 was.3 in
+    let fresh = fresh_as board c.loop-made.first c.args.count c.loop-made._made 0 was.2 was.3 in
     (search rules, subst (All (IsFresh board)) (sym c.in_ok-push-2.ensures.items) (All-push (IsFresh board) c.loop-made.passes.items c.loop-made.first was.4 fresh))
