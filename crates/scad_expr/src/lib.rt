@@ -1,0 +1,7 @@
+//! Expressions of a program: `specs/Meaning.antt` says what each gives, one rule for each kind of node.
+//! The rules are shown at worked examples; a function that evaluates isn't there yet.
+#![tactic(auto)]
+
+mod fault;
+
+pub use fault::EvalFault;
