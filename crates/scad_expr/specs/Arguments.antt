@@ -67,6 +67,6 @@ abbrev pub number_of_children : Items → Datum
 number_of_children all = number (pos (min (statements all) 1000000000 * 1000000))
 
 -- where a call keeps children, `$children` is their number, also over a parameter of that name
-unfoldable pub with_children : Children → Names → Names
-with_children no_children along = along
-with_children (children all env) along = with_name (codes "$children") (number_of_children all) along
+unfoldable pub with_children : Children → Bound → Bound
+with_children no_children b = b
+with_children (children all env) b = set (codes "$children") (number_of_children all) b

@@ -1,6 +1,6 @@
 -- What an expression gives (OpenSCAD User Manual, "The OpenSCAD Language"): a value and a new state, or the first fault or
 -- budget. One rule for each kind of node, in the order of the syntax tree. `env` are the frames of the place where the node
--- stands, `along` the `$` names along the calls. What a node holds stands one deeper than the node, and `below` says what is
+-- stands, `along` those of the `$` names along the calls. What a node holds stands one deeper than the node, and `below` says what is
 -- given there.
 use Rattle.std.specs.Prelude.{ℕ, zero, suc, ℤ, pos, ◌==◌, ◌||◌, Bool, true, false, not, List, [], ◌∷◌, ◌++◌, Option, Some, None, Result, Ok, Err, map, if◌then◌else◌, codes}
 use Rattle.std.specs.List.{flat_map}
@@ -90,73 +90,73 @@ judge_variables at word args = if is_none args then fault_of IsBadArgument at wo
 -- ---- what stands one deeper
 pub record Below : Type 0 where
   -- the value of an expression
-  pub value : Env → Names → Expression → Action Datum
+  pub value : Env → Env → Expression → Action Datum
   -- the values so far of a vector, and behind them those that an element gives
-  pub element : Env → Names → Element → List Datum → Action (List Datum)
+  pub element : Env → Env → Element → List Datum → Action (List Datum)
 
 module _ (below : Below) where
   -- ---- arguments and calls
   -- the values of arguments, left to right, behind those so far
-  unfoldable pub values : Env → Names → Arguments → List Datum → Action (List Datum)
+  unfoldable pub values : Env → Env → Arguments → List Datum → Action (List Datum)
   values env along no_arguments so_far = pure so_far
   values env along (argument word e more) so_far = do
     d ← below.value env along e
     values env along more (so_far ++ d ∷ [])
 
   -- a missing parameter takes its default, evaluated where the definition stands with the call's `$` names, else `undef`
-  unfoldable pub default_value : Env → Names → Option Expression → Action Datum
+  unfoldable pub default_value : Env → Env → Option Expression → Action Datum
   default_value home along None = pure undef
   default_value home along (Some e) = below.value home along e
 
   -- the parameters that weren't given, in their order
-  unfoldable pub defaults : Env → Names → List Parameter → Bound → Action Bound
-  defaults home given_names [] b = pure b
-  defaults home given_names (p ∷ more) b =
-      if is_given p.name given_names then defaults home given_names more b
-      else (default_value home b.along p.default >>= λ d. defaults home given_names more (set p.name d b))
+  unfoldable pub defaults : Env → Env → Names → List Parameter → Bound → Action Bound
+  defaults home along given_names [] b = pure b
+  defaults home along given_names (p ∷ more) b =
+      if is_given p.name given_names then defaults home along given_names more b
+      else (default_value home (within along b.dollars) p.default >>= λ d. defaults home along given_names more (set p.name d b))
 
   -- the names of a call's parameters: first those that are given, then the others
-  unfoldable pub bound : Env → Names → List Parameter → Arguments → List Datum → Action Bound
+  unfoldable pub bound : Env → Env → List Parameter → Arguments → List Datum → Action Bound
   bound home along parameters args found =
       let got = given (map (λ p. p.name) parameters) args found in
-      defaults home got parameters (set_all got (empty along))
+      defaults home along got parameters (set_all got empty)
 
   -- a call of a function of the program: its body's frame stands inside the environment of the definition
-  unfoldable pub called_own : Names → Found → Arguments → List Datum → Action Datum
+  unfoldable pub called_own : Env → Found → Arguments → List Datum → Action Datum
   called_own along f args found = do
     b ← bound f.home along f.function.parameters args found
-    below.value (within f.home b) b.along f.function.body
+    below.value (within f.home b.names) (within along b.dollars) f.function.body
 
   -- the program's functions go before those of the language
-  unfoldable pub called : Place → List ℕ → Option Found → Names → Arguments → List Datum → Action Datum
+  unfoldable pub called : Place → List ℕ → Option Found → Env → Arguments → List Datum → Action Datum
   called at name None along args found = called_builtin at name (builtin name (as_elements found))
   called at name (Some f) along args found = called_own along f args found
 
   -- names are bound left to right, later ones seeing earlier ones; each has a name, as was judged before
-  unfoldable pub bound_in_order : Env → Arguments → Bound → Action Bound
-  bound_in_order env no_arguments b = pure b
-  bound_in_order env (argument None e more) b = bound_in_order env more b
-  bound_in_order env (argument (Some name) e more) b = do
-    d ← below.value (within env b) b.along e
-    bound_in_order env more (set name d b)
+  unfoldable pub bound_in_order : Env → Env → Arguments → Bound → Action Bound
+  bound_in_order env along no_arguments b = pure b
+  bound_in_order env along (argument None e more) b = bound_in_order env along more b
+  bound_in_order env along (argument (Some name) e more) b = do
+    d ← below.value (within env b.names) (within along b.dollars) e
+    bound_in_order env along more (set name d b)
 
   -- ---- elements of a vector
-  unfoldable pub elements : Env → Names → Elements → List Datum → Action (List Datum)
+  unfoldable pub elements : Env → Env → Elements → List Datum → Action (List Datum)
   elements env along no_elements so_far = pure so_far
   elements env along (element e more) so_far = do
     now ← below.element env along e so_far
     elements env along more now
 
   -- one turn for each of some values: a step at the `for`, and then what runs inside with the name set in a frame of its own
-  unfoldable pub turns : Place → List ℕ → (Env → Names → List Datum → Action (List Datum)) → Env → Names → List Datum → List Datum → Action (List Datum)
+  unfoldable pub turns : Place → List ℕ → (Env → Env → List Datum → Action (List Datum)) → Env → Env → List Datum → List Datum → Action (List Datum)
   turns at name inner env along [] so_far = pure so_far
   turns at name inner env along (d ∷ more) so_far = do
     step at
-    now ← inner (within env (set name d (empty along))) (set name d (empty along)).along so_far
+    now ← inner (within env (set name d empty).names) (within along (set name d empty).dollars) so_far
     turns at name inner env along more now
 
   -- the first variable is the outermost; the values of each are evaluated anew in each turn of those before it, and see them
-  unfoldable pub for_variables : Place → Arguments → Element → Env → Names → List Datum → Action (List Datum)
+  unfoldable pub for_variables : Place → Arguments → Element → Env → Env → List Datum → Action (List Datum)
   for_variables at no_arguments body env along so_far = below.element env along body so_far
   for_variables at (argument None e more) body env along so_far = for_variables at more body env along so_far
   for_variables at (argument (Some name) e more) body env along so_far = do
@@ -165,19 +165,19 @@ module _ (below : Below) where
 
   -- `for (start; test; step)`: while the test holds, a step at the `for`, the element, and the step's names in the frame of
   -- the start's. Each turn takes a step, so the steps end before the turns do
-  unfoldable pub loop_turns : ℕ → Place → Expression → Arguments → Element → Env → Bound → List Datum → Action (List Datum)
-  loop_turns zero at test steps body env b so_far = over Steps at
-  loop_turns (suc n) at test steps body env b so_far = do
-    holds ← below.value (within env b) b.along test
+  unfoldable pub loop_turns : ℕ → Place → Expression → Arguments → Element → Env → Env → Bound → List Datum → Action (List Datum)
+  loop_turns zero at test steps body env along b so_far = over Steps at
+  loop_turns (suc n) at test steps body env along b so_far = do
+    holds ← below.value (within env b.names) (within along b.dollars) test
     (if truth holds then (do
         step at
-        now ← below.element (within env b) b.along body so_far
-        next ← bound_in_order env steps b
-        loop_turns n at test steps body env next now)
+        now ← below.element (within env b.names) (within along b.dollars) body so_far
+        next ← bound_in_order env along steps b
+        loop_turns n at test steps body env along next now)
       else pure so_far)
 
   -- ---- one rule for each kind of expression
-  unfoldable pub node : Env → Names → Expression → Action Datum
+  unfoldable pub node : Env → Env → Expression → Action Datum
   -- a literal is its value
   node env along (undef_at at) = pure undef
   node env along (boolean_at at b) = pure (boolean b)
@@ -240,8 +240,8 @@ module _ (below : Below) where
   -- the names in a frame of their own, and then the expression inside it
   node env along (let_in at args e) = do
     judge_named at (codes "let") args
-    b ← bound_in_order env args (empty along)
-    below.value (within env b) b.along e
+    b ← bound_in_order env along args empty
+    below.value (within env b.names) (within along b.dollars) e
   -- the arguments, the judgement, and then the expression
   node env along (assert_in at args e) = do
     found ← values env along args []
@@ -254,13 +254,13 @@ module _ (below : Below) where
     below.value env along e
 
   -- an expression takes a step as it begins
-  unfoldable pub value_layer : Env → Names → Expression → Action Datum
+  unfoldable pub value_layer : Env → Env → Expression → Action Datum
   value_layer env along e = do
     step (place e)
     node env along e
 
   -- ---- one rule for each kind of element
-  unfoldable pub element_node : Env → Names → Element → List Datum → Action (List Datum)
+  unfoldable pub element_node : Env → Env → Element → List Datum → Action (List Datum)
   -- an expression is no element of its own for steps and depth: it stands where the element does
   element_node env along (item e) so_far = do
     d ← value_layer env along e
@@ -278,13 +278,13 @@ module _ (below : Below) where
     step at
     judge_named at (codes "for") starts
     judge_named at (codes "for") steps
-    b ← bound_in_order env starts (empty along)
-    loop_turns (suc step_limit) at test steps e env b so_far
+    b ← bound_in_order env along starts empty
+    loop_turns (suc step_limit) at test steps e env along b so_far
   element_node env along (let_element at args e) so_far = do
     step at
     judge_named at (codes "let") args
-    b ← bound_in_order env args (empty along)
-    below.element (within env b) b.along e so_far
+    b ← bound_in_order env along args empty
+    below.element (within env b.names) (within along b.dollars) e so_far
   element_node env along (if_element at test e) so_far = do
     step at
     d ← below.value env along test
@@ -306,17 +306,18 @@ meaning zero = too_deep
 meaning (suc depth) = record { value = value_layer (meaning depth); element = element_node (meaning depth) }
 
 -- the value of an expression
-abbrev pub value : ℕ → Env → Names → Expression → Action Datum
+abbrev pub value : ℕ → Env → Env → Expression → Action Datum
 value depth = (meaning depth).value
 
--- what a call opens: the environment of its parameters, with its children where it keeps some, and its `$` names
+-- what a call opens: the environment of its parameters, with its children where it keeps some, and that of its `$` names
 pub record Opened : Type 0 where
   pub env : Env
-  pub along : Names
+  pub along : Env
 
-abbrev pub opened : Env → Children → Bound → Opened
-opened home kept b = record { env = inside (frame b.names None kept) home; along = with_children kept b.along }
+abbrev pub opened : Env → Env → Children → Bound → Opened
+opened home along kept b = record { env = inside (frame b.names None kept) home; along = within along b.dollars }
 
 -- the frames of a call of a function or module that is defined in the environment `home`, by arguments with their values
-abbrev pub bind : ℕ → Env → Names → List Parameter → Arguments → List Datum → Children → Action Opened
-bind depth home along parameters args found kept = bound (meaning depth) home along parameters args found >>= λ b. pure (opened home kept b)
+abbrev pub bind : ℕ → Env → Env → List Parameter → Arguments → List Datum → Children → Action Opened
+bind depth home along parameters args found kept =
+    bound (meaning depth) home along parameters args found >>= λ b. pure (opened home along kept (with_children kept b))
