@@ -1,2 +1,10 @@
-pub mod Examples
+pub mod ExampleWords
+pub mod ExamplesBound
+pub mod ExamplesBudgets
+pub mod ExamplesCalls
+pub mod ExamplesComprehensions
+pub mod ExamplesDollars
+pub mod ExamplesLoops
+pub mod ExamplesOperators
+pub mod ExamplesRanges
 pub mod OnLiterals

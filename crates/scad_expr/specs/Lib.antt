@@ -1,5 +1,7 @@
+pub mod Answers
 pub mod Arguments
 pub mod Functions
+pub mod Machine
 pub mod Meaning
 pub mod Places
 pub mod Printed

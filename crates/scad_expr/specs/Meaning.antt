@@ -170,11 +170,11 @@ module _ (below : Below) where
   loop_turns (suc n) at test steps body env along b so_far = do
     holds ← below.value (within env b.names) (within along b.dollars) test
     (if truth holds then (do
-        step at
-        now ← below.element (within env b.names) (within along b.dollars) body so_far
-        next ← bound_in_order env along steps b
-        loop_turns n at test steps body env along next now)
-      else pure so_far)
+      step at
+      now ← below.element (within env b.names) (within along b.dollars) body so_far
+      next ← bound_in_order env along steps b
+      loop_turns n at test steps body env along next now)
+        else pure so_far)
 
   -- ---- one rule for each kind of expression
   unfoldable pub node : Env → Env → Expression → Action Datum
@@ -208,14 +208,14 @@ module _ (below : Below) where
   node env along (binary_at at Or a b) = do
     d ← below.value env along a
     (if truth d then pure (boolean true) else (do
-        e ← below.value env along b
-        pure (boolean (truth e))))
+      e ← below.value env along b
+      pure (boolean (truth e))))
   node env along (binary_at at And a b) = do
     d ← below.value env along a
     (if truth d then (do
-        e ← below.value env along b
-        pure (boolean (truth e)))
-      else pure (boolean false))
+      e ← below.value env along b
+      pure (boolean (truth e)))
+        else pure (boolean false))
   -- the left operand, the right one, and then the operator
   node env along (binary_at at o a b) = do
     d ← below.value env along a
@@ -298,7 +298,8 @@ module _ (below : Below) where
 abbrev pub too_deep : Below
 too_deep = record {
   value = λ env along e. over Depth (place e);
-  element = λ env along e so_far. over Depth (element_place e) }
+  element = λ env along e so_far. over Depth (element_place e);
+}
 
 -- what is given where so many levels of depth are left, that of the node itself counted
 unfoldable pub meaning : ℕ → Below

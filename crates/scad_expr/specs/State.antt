@@ -50,7 +50,6 @@ and_then (refuses e s) f = refuses e s
 
 infixl 10 ◌>>=◌
 infixl 10 ◌>>◌
-
 -- one action and then another, which goes by what the first gave; after a refusal nothing is done
 abbrev pub ◌>>=◌ : {A B : Type 0} → Action A → (A → Action B) → Action B
 m >>= f = λ s. and_then (m s) f

@@ -2,6 +2,9 @@
 //! The rules are shown at worked examples; a function that evaluates isn't there yet.
 #![tactic(auto)]
 
+mod counted;
 mod fault;
+mod machine;
 
 pub use fault::EvalFault;
+pub use machine::Machine;
