@@ -5,6 +5,7 @@
 mod counted;
 mod fault;
 mod machine;
+mod operated;
 
 pub use fault::EvalFault;
 pub use machine::Machine;
