@@ -7,4 +7,5 @@ pub mod ExamplesDollars
 pub mod ExamplesLoops
 pub mod ExamplesOperators
 pub mod ExamplesRanges
+pub mod Lists
 pub mod OnLiterals

@@ -8,3 +8,4 @@ pub mod Printed
 pub mod Runs
 pub mod State
 pub mod Variables
+pub mod View

@@ -5,7 +5,9 @@
 mod counted;
 mod fault;
 mod machine;
+mod named;
 mod operated;
+mod printed;
 
 pub use fault::EvalFault;
 pub use machine::Machine;
