@@ -9,3 +9,4 @@ pub mod ExamplesOperators
 pub mod ExamplesRanges
 pub mod Lists
 pub mod OnLiterals
+pub mod OpenFrames

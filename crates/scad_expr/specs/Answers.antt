@@ -12,3 +12,7 @@ Does view outcome (Err e) new = e ≢ Memory → outcome ≡ refuses e new
 -- an answer that tells no more than that it is one
 abbrev pub nothing : {A : Type 0} → A → Unit {0}
 nothing a = tt
+
+-- it was done, and nothing else changed
+abbrev pub done_at : State → Outcome (Unit {0})
+done_at s = gives tt s

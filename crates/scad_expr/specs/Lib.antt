@@ -3,6 +3,7 @@ pub mod Arguments
 pub mod Functions
 pub mod Machine
 pub mod Meaning
+pub mod Opened
 pub mod Places
 pub mod Printed
 pub mod Runs

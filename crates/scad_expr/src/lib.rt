@@ -6,6 +6,7 @@ mod counted;
 mod fault;
 mod machine;
 mod named;
+mod opened;
 mod operated;
 mod printed;
 

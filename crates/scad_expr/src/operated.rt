@@ -102,7 +102,12 @@ impl<'p> Machine<'p> {
                 Err(named_fault(alloc, FaultKind::UnknownFunction, at, name))
             }
             Err(BuiltinFault::LeftOut) => Err(named_fault(alloc, FaultKind::LeftOut, at, name)),
-            Err(BuiltinFault::BadArgument) => Err(named_fault(alloc, FaultKind::BadArgument, at, name)),
+            Err(BuiltinFault::BadArgument) => Err(named_fault(
+                alloc,
+                FaultKind::BadArgument,
+                at,
+                name,
+            )),
             Err(BuiltinFault::ZeroDivisor) => Err(fault(alloc, FaultKind::ZeroDivisor, at)),
             Err(BuiltinFault::NumberRange) => Err(fault(alloc, FaultKind::NumberRange, at)),
             Err(BuiltinFault::Memory) => Err(EvalFault::Memory),

@@ -46,7 +46,11 @@ fn push_comma(out: &mut Vec<char>, first: bool) -> Result<(), AllocError>
 
 /// The line of these arguments and values.
 #[tactic(auto, using(crate::proofs::Lists::lists), unfolding(crate::specs::Printed::echo_line))]
-pub(crate) fn echo_line(alloc: Global, args: &[Arg], values: &[Value]) -> Result<Vec<char>, AllocError>
+pub(crate) fn echo_line(
+    alloc: Global,
+    args: &[Arg],
+    values: &[Value],
+) -> Result<Vec<char>, AllocError>
     ensures { IfOk result (λ line. line.items ≡ echo_line (arguments args.now) (data_of values.now)) }
 {
     let mut line = Vec::new(alloc);
