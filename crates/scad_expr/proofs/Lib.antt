@@ -10,3 +10,4 @@ pub mod ExamplesRanges
 pub mod Lists
 pub mod OnLiterals
 pub mod OpenFrames
+pub mod DepthLeft

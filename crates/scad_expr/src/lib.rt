@@ -9,6 +9,7 @@ mod named;
 mod opened;
 mod operated;
 mod printed;
+mod walk;
 
 pub use fault::EvalFault;
 pub use machine::Machine;
