@@ -53,12 +53,7 @@ fn stepped<'p>(
 
 #[cycle(eval)]
 #[tactic(auto, unfolding(crate::specs::Meaning::node))]
-fn node<'p>(
-    alloc: Global,
-    e: &'p Expr,
-    depth: u32,
-    m: &mut Machine<'p>,
-) -> Result<Value, EvalFault>
+fn node<'p>(alloc: Global, e: &'p Expr, depth: u32, m: &mut Machine<'p>) -> Result<Value, EvalFault>
     ensures does { Does datum_of (node (meaning depth) (env_in (held m.old))
         (along_in (held m.old)) (expression_of e.now) (state_of m.old)) result (state_of m.new) }
     ensures kept { OnOk result (held m.new ≡ held m.old) }
