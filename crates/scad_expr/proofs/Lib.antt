@@ -1,0 +1,13 @@
+pub mod ExampleWords
+pub mod ExamplesBound
+pub mod ExamplesBudgets
+pub mod ExamplesCalls
+pub mod ExamplesComprehensions
+pub mod ExamplesDollars
+pub mod ExamplesLoops
+pub mod ExamplesOperators
+pub mod ExamplesRanges
+pub mod Lists
+pub mod OnLiterals
+pub mod OpenFrames
+pub mod DepthLeft

@@ -1,0 +1,12 @@
+pub mod Answers
+pub mod Arguments
+pub mod Functions
+pub mod Machine
+pub mod Meaning
+pub mod Opened
+pub mod Places
+pub mod Printed
+pub mod Runs
+pub mod State
+pub mod Variables
+pub mod View

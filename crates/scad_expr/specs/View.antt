@@ -1,0 +1,18 @@
+-- What lists in memory are to the definitions.
+use Rattle.std.specs.Prelude.{List, map}
+use Rattle.scad_ast.specs.declared.expression.Expr.{Expr}
+use Rattle.scad_ast.specs.declared.statement.Param.{Param}
+use Rattle.scad_ast.specs.Scope.{parameter}
+use Rattle.scad_ast.specs.View.{expression_of}
+use Rattle.scad_value.specs.Datum.{Datum}
+use Rattle.scad_value.specs.View.{datum_of}
+use Rattle.scad_value.specs.declared.value.Value.{Value}
+use Rattle.scad_expr.specs.Functions.{Function}
+
+-- values, one behind another
+abbrev pub data_of : List Value → List Datum
+data_of all = map datum_of all
+
+-- a function that is defined by these parameters and this expression
+abbrev pub function_of : List Param → Expr → Function
+function_of params body = record { parameters = map parameter params; body = expression_of body }

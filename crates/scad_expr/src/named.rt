@@ -1,0 +1,65 @@
+//! What names mean for a machine, and what is asked of arguments.
+
+ghost use Rattle.std.specs.Prelude.{◌≡◌, [], option_map};
+ghost use Rattle.scad_ast.specs.View.{arguments};
+ghost use Rattle.scad_value.specs.View.{datum_of};
+ghost use Rattle.scad_expr.specs.Answers.{Does};
+ghost use Rattle.scad_expr.specs.Arguments.{are_named};
+ghost use Rattle.scad_expr.specs.Machine.{held, env_in, along_in};
+ghost use Rattle.scad_expr.specs.State.{State, gives};
+ghost use Rattle.scad_expr.specs.Variables.{is_dollar, or_undef, variable};
+
+use crate::fault::EvalFault;
+use crate::machine::Machine;
+use scad_ast::Arg;
+use scad_value::{Value, copy};
+use std::alloc::Global;
+
+/// Whether the name begins with `$`.
+pub(crate) fn is_dollar(name: &[u8]) -> bool
+    ensures { result ≡ is_dollar name.now }
+{
+    match name {
+        [first, ..] => *first == b'$',
+        [] => false,
+    }
+}
+
+/// A copy of what was found, or `undef`.
+fn copied(alloc: Global, found: Option<&Value>) -> Result<Value, EvalFault>
+    ensures { (s : State) → Does datum_of (gives (or_undef (option_map (λ v. datum_of v.now) found.entry)) s) result s }
+{
+    match found {
+        Some(value) => Ok(copy(alloc, value)?),
+        None => Ok(Value::Undef),
+    }
+}
+
+/// Whether every argument has a name.
+#[tactic(auto, using(crate::proofs::Lists::lists))]
+pub(crate) fn are_named(args: &[Arg]) -> bool
+    ensures { result ≡ are_named (arguments args.now) }
+{
+    'arguments: for arg in args {
+        if arg.name.is_none() {
+            return false;
+        }
+    }
+    true
+}
+
+impl<'p> Machine<'p> {
+    /// The value of a variable.
+    #[tactic(auto, unfolding(crate::specs::Variables::variable, crate::specs::Machine::env_in, crate::specs::Machine::along_in, crate::specs::Machine::held))]
+    pub(crate) fn variable(&self, alloc: Global, name: &[u8]) -> Result<Value, EvalFault>
+        ensures { (s : State) → Does datum_of (gives
+            (variable name.now (env_in (held self.now)) (along_in (held self.now))) s) result s }
+    {
+        if is_dollar(name) {
+            let last = self.along.len().saturating_sub(1);
+            copied(alloc, self.along.get(last, name))
+        } else {
+            copied(alloc, self.frames.get(self.here, name))
+        }
+    }
+}

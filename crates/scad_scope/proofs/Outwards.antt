@@ -1,0 +1,152 @@
+-- Frames in memory and the environments that they stand for.
+use Rattle.std.proofs.Common.{◌≡◌, ◌≢◌, ℕ, ◌+◌, ◌-◌, ◌<◌, ◌≤◌, Bool, true, false, cond, List, [], ◌∷◌, ◌++◌, map, length, take, drop, get_or, set, Option, Some, None, option_map, if◌then◌else◌, Vec, Global, vec_len, Result, Ok, Err, OnOk, OnErr, Bor, refl, sym, ap, ap₂, ◌∙◌, append_assoc, arith, rules}
+use Rattle.std.specs.Prelude.{nat_eq, option_copied}
+use Rattle.std.specs.Cmp.Lexicographic.{pointwise}
+use Rattle.std.proofs.lemmas.List.{map-append, map-set, take-map, length-map, get_or-take, get_or_past, get_or-map, set-get_or, drop_more, length-append, length-take, length-take-le, take-append-drop, take_at}
+use Rattle.std.proofs.Math.Seq.{get_or-append_seam}
+use Rattle.std.specs.Map.{lookup}
+use Rattle.scad_value.specs.Datum.{Datum}
+use Rattle.indexmap.specs.IndexMap.{insert_entry, IndexMap, get_by}
+use Rattle.scad_value.specs.declared.value.Value.{Value}
+use Rattle.scad_value.specs.View.{datum_of}
+use Rattle.scad_scope.specs.declared.frame.Frame.{Frame}
+use Rattle.scad_scope.specs.declared.frames.Frames.{Frames}
+use Rattle.scad_scope.specs.Names.{is_same_name, Names, value_of_name, with_name}
+use Rattle.scad_scope.specs.Env.{Env, outside, inside, sought, or_else}
+use Rattle.scad_scope.specs.Stored.{Stored, pushed, stored_at, with_name_in, with_name_in_last, env_at, env_round, env_of, envs_onto, envs}
+use Rattle.scad_scope.specs.View.{named, frame_stored, stored}
+
+-- ---- names in memory
+abbrev same_key : Vec ℕ Global → Vec ℕ Global → Bool
+same_key a b = pointwise nat_eq a.items b.items
+
+pub named-insert : (es : List (Vec ℕ Global × Value)) (key : Vec ℕ Global) (v : Value) → map named (insert_entry same_key es key v) ≡ with_name key.items (datum_of v) (map named es)
+named-insert [] key v = refl
+named-insert (e ∷ es) key v = by (named-insert es key v) (same_key key e.0)
+  where
+    by : map named (insert_entry same_key es key v) ≡ with_name key.items (datum_of v) (map named es) → (b : Bool) → map named (if b then (e.0, v) ∷ es else e ∷ insert_entry same_key es key v) ≡ (if b then (e.0.items, datum_of v) ∷ map named es else named e ∷ with_name key.items (datum_of v) (map named es))
+    by rest true = refl
+    by rest false = ap (λ l. named e ∷ l) rest
+
+pub value_of_name-named : (name : List ℕ) (es : List (Vec ℕ Global × Value)) → option_map datum_of (lookup (λ k. pointwise nat_eq name k.items) es) ≡ value_of_name name (map named es)
+value_of_name-named name [] = refl
+value_of_name-named name (e ∷ es) = by (value_of_name-named name es) (pointwise nat_eq name e.0.items)
+  where
+    by : option_map datum_of (lookup (λ k. pointwise nat_eq name k.items) es) ≡ value_of_name name (map named es) → (b : Bool) → option_map datum_of (if b then Some e.1 else lookup (λ k. pointwise nat_eq name k.items) es) ≡ (if b then Some (datum_of e.1) else value_of_name name (map named es))
+    by rest true = refl
+    by rest false = rest
+
+-- ---- one frame of a list is written
+pub stored-written : (fs : List Frame) (i : ℕ) (old new : Frame) (d : Stored) (f : Stored → Stored) → i < length fs → old ≡ get_or fs i old → frame_stored new ≡ f (frame_stored old) → map frame_stored (set fs i new) ≡ set (map frame_stored fs) i (f (get_or (map frame_stored fs) i d))
+stored-written fs i old new d f below is made =
+    map-set frame_stored fs i new ∙ ap (set (map frame_stored fs) i) (made ∙ ap f (ap frame_stored is ∙ sym (get_or-map frame_stored fs i old d below)))
+
+pub stored-same : (fs : List Frame) (i : ℕ) (old new : Frame) → i < length fs → old ≡ get_or fs i old → frame_stored new ≡ frame_stored old → map frame_stored (set fs i new) ≡ map frame_stored fs
+stored-same fs i old new below is same =
+    map-set frame_stored fs i new ∙ ap (set (map frame_stored fs) i) (same ∙ ap frame_stored is ∙ sym (get_or-map frame_stored fs i old (frame_stored old) below)) ∙ set-get_or (map frame_stored fs) i (frame_stored old)
+
+-- what an answer tells, told otherwise
+pub on_ok : {A E P Q : Type 0} (r : Result A E) → (P → Q) → OnOk r P → OnOk r Q
+on_ok (Ok a) f p = f p
+on_ok (Err e) f p = tt
+
+pub on_err : {A E P : Type 0} (r : Result A E) → P → OnErr r P
+on_err (Ok a) p = tt
+on_err (Err e) p = p
+
+-- a value that is lent is a value
+pub lent : (r : Option (Bor Value)) → option_map (λ v. datum_of v.now) r ≡ option_map datum_of (option_copied r)
+lent None = refl
+lent (Some v) = refl
+
+-- a frame of a list, as it is stored
+pub stored-index : (fs : List Frame) (n : ℕ) (f : Frame) → n < length fs → f ≡ get_or fs n f → frame_stored f ≡ get_or (map frame_stored fs) n (frame_stored f)
+stored-index fs n f below is = ap frame_stored is ∙ sym (get_or-map frame_stored fs n f (frame_stored f) below)
+
+-- the name is set in the last frame
+pub stored-last : (fs : List Frame) (i : ℕ) (key name : List ℕ) (d : Datum) (old new : Frame) → i ≡ length fs - 1 → i < length fs → key ≡ name → old ≡ get_or fs i old → frame_stored new ≡ with_name_in key d (frame_stored old) → map frame_stored (set fs i new) ≡ with_name_in_last name d (map frame_stored fs)
+stored-last fs i key name d old new last below same is made =
+    stored-written fs i old new (pushed None None None) (with_name_in name d) below is (made ∙ ap (λ n. with_name_in n d (frame_stored old)) same)
+    ∙ ap (λ j. set (map frame_stored fs) j (with_name_in name d (stored_at (map frame_stored fs) j))) (last ∙ ap (λ m. m - 1) (sym (length-map fs frame_stored)))
+
+pub ruleset writes = (stored-written, stored-same, length-map)
+
+-- ---- the environment of a number
+split : (before : List Env) (xs ys : List Stored) → envs_onto before (xs ++ ys) ≡ envs_onto (envs_onto before xs) ys
+split before [] ys = refl
+split before (f ∷ xs) ys = split (before ++ env_of before f ∷ []) xs ys
+
+nothing_behind : {A : Type 0} (xs : List A) → xs ≡ xs ++ []
+nothing_behind [] = refl
+nothing_behind (x ∷ xs) = ap (λ l. x ∷ l) (nothing_behind xs)
+
+-- later frames change no environment
+grows : (before : List Env) (all : List Stored) → (rest : List Env) × (envs_onto before all ≡ before ++ rest)
+grows before [] = ([], nothing_behind before)
+grows before (f ∷ all) =
+    let r = grows (before ++ env_of before f ∷ []) all in
+    (env_of before f ∷ r.0, r.1 ∙ append_assoc before (env_of before f ∷ []) r.0)
+
+length-envs_onto : (before : List Env) (all : List Stored) → length (envs_onto before all) ≡ length before + length all
+length-envs_onto before [] = omega arith
+length-envs_onto before (f ∷ all) =
+    let rest = length-envs_onto (before ++ env_of before f ∷ []) all in
+    let one = length-append before (env_of before f ∷ []) in
+    omega (arith, rest, one)
+
+pub length-envs : (all : List Stored) → length (envs all) ≡ length all
+length-envs all = let all_of = length-envs_onto [] all in omega (arith, all_of)
+
+-- an environment behind others
+pub envs-push : (all : List Stored) (f : Stored) → envs (all ++ f ∷ []) ≡ envs all ++ env_of (envs all) f ∷ []
+envs-push all f = split [] all (f ∷ [])
+
+module _ (all : List Stored) (n : ℕ) (f : Stored) (below : n < length all) (is : f ≡ get_or all n f) where
+  first : List Env
+  first = envs (take n all)
+
+  parts : all ≡ take n all ++ f ∷ drop (n + 1) all
+  parts = sym (take-append-drop n all) ∙ ap (λ l. take n all ++ l) (drop_more all n f below ∙ ap (λ g. g ∷ drop (n + 1) all) (sym is))
+
+  later : List Env
+  later = (grows (envs (take n all) ++ env_of (envs (take n all)) f ∷ []) (drop (n + 1) all)).0
+
+  whole : envs all ≡ envs (take n all) ++ env_of (envs (take n all)) f ∷ later
+  unfolding later
+  whole =
+      ap envs parts ∙ split [] (take n all) (f ∷ drop (n + 1) all)
+      ∙ (grows (envs (take n all) ++ env_of (envs (take n all)) f ∷ []) (drop (n + 1) all)).1
+      ∙ append_assoc (envs (take n all)) (env_of (envs (take n all)) f ∷ []) later
+
+  many : length (envs (take n all)) ≡ n
+  many = length-envs (take n all) ∙ length-take-le n all (omega arith)
+
+  front : take n (envs all) ≡ envs (take n all)
+  front = ap (take n) whole ∙ take_at (envs (take n all)) (env_of (envs (take n all)) f ∷ later) n many
+
+  -- the environment of a frame stands on those of the frames before it
+  pub env_at-number : env_at (envs all) n ≡ env_of (take n (envs all)) f
+  env_at-number =
+      ap (λ l. get_or l n outside) whole
+      ∙ ap (λ m. get_or (envs (take n all) ++ env_of (envs (take n all)) f ∷ later) m outside) (sym many)
+      ∙ get_or-append_seam (envs (take n all)) (env_of (envs (take n all)) f) later outside
+      ∙ ap (λ l. env_of l f) (sym front)
+
+  -- a name that the frame has
+  pub sought-there : (name : List ℕ) (d : Datum) → value_of_name name f.names ≡ Some d → sought name (env_at (envs all) n) ≡ Some d
+  sought-there name d found = ap (sought name) env_at-number ∙ ap (λ o. or_else o (sought name (env_round (take n (envs all)) f.parent))) found
+
+  -- a name that the frame doesn't have
+  pub sought-round : (name : List ℕ) → value_of_name name f.names ≡ None → sought name (env_at (envs all) n) ≡ sought name (env_round (take n (envs all)) f.parent)
+  sought-round name found = ap (sought name) env_at-number ∙ ap (λ o. or_else o (sought name (env_round (take n (envs all)) f.parent))) found
+
+-- the environments before a number
+pub round-before : (es : List Env) (parent : Option ℕ) (n p : ℕ) → parent ≡ Some p → p < n → env_round (take n es) parent ≡ env_at es p
+round-before es parent n p is before = ap (env_round (take n es)) is ∙ get_or-take n es p outside before
+
+pub round-past : (es : List Env) (parent : Option ℕ) (n p : ℕ) → parent ≡ Some p → n ≤ p → env_round (take n es) parent ≡ outside
+round-past es parent n p is past = ap (env_round (take n es)) is ∙ get_or_past (take n es) p outside (let some = length-take n es in omega (arith, some))
+
+-- no frame has the number
+pub sought-past : (all : List Stored) (n : ℕ) (name : List ℕ) → length all ≤ n → sought name (env_at (envs all) n) ≡ None
+sought-past all n name past = ap (sought name) (get_or_past (envs all) n outside (let many = length-envs all in omega (arith, many)))

@@ -1,0 +1,22 @@
+-- Names with their values: the values of variables in one frame.
+use Rattle.std.specs.Prelude.{ℕ, Bool, List, [], ◌∷◌, Option, Some, None, if◌then◌else◌, nat_eq}
+use Rattle.std.specs.Cmp.Lexicographic.{pointwise}
+use Rattle.scad_value.specs.Datum.{Datum}
+
+-- byte for byte
+abbrev pub is_same_name : List ℕ → List ℕ → Bool
+is_same_name a b = pointwise nat_eq a b
+
+-- each name with its value, in the order in which the names were first set
+abbrev pub Names : Type 0
+Names = List (List ℕ × Datum)
+
+-- the value of a name
+abbrev pub value_of_name : List ℕ → Names → Option Datum
+value_of_name name [] = None
+value_of_name name (p ∷ more) = if is_same_name name p.0 then Some p.1 else value_of_name name more
+
+-- a name that is there takes the value, another one goes last with it
+abbrev pub with_name : List ℕ → Datum → Names → Names
+with_name name d [] = (name, d) ∷ []
+with_name name d (p ∷ more) = if is_same_name name p.0 then (p.0, d) ∷ more else p ∷ with_name name d more

@@ -1,0 +1,30 @@
+-- The frames that a value in memory is.
+use Rattle.std.specs.Prelude.{ℕ, List, map, option_map, Vec}
+use Rattle.std.specs.Global.{Global}
+use Rattle.scad_ast.specs.Scope.{items}
+use Rattle.scad_value.specs.Datum.{Datum}
+use Rattle.scad_value.specs.View.{datum_of}
+use Rattle.scad_value.specs.declared.value.Value.{Value}
+use Rattle.scad_scope.specs.declared.frame.Frame.{Frame}
+use Rattle.scad_scope.specs.declared.kept.Kept.{Kept}
+use Rattle.scad_scope.specs.declared.frames.Frames.{Frames}
+use Rattle.scad_scope.specs.Stored.{Stored, StoredChildren}
+
+-- a name with its value
+abbrev pub named : Vec ℕ Global × Value → List ℕ × Datum
+named p = (p.0.items, datum_of p.1)
+
+abbrev pub children_stored : Kept → StoredChildren
+children_stored k = record { statements = items k.scope.now.items; home = k.home }
+
+unfoldable pub frame_stored : Frame → Stored
+frame_stored f = record {
+  names = map named f.names.entries;
+  parent = f.parent;
+  scope = option_map (λ s. items s.now.items) f.scope;
+  kept = option_map children_stored f.kept;
+}
+
+-- the frames by their numbers
+unfoldable pub stored : Frames → List Stored
+stored f = map frame_stored f.frames.items

@@ -1,0 +1,18 @@
+//! The variables that a scope assigns, and frames of names with their values.
+//! `bindings` gives exactly the names assigned in a scope with their last assignments, and `Frames` finds
+//! a name exactly where a frame or one of those round it has it.
+#![tactic(auto)]
+
+mod assigned;
+mod binding;
+mod frame;
+mod frames;
+mod kept;
+
+pub use assigned::bindings;
+pub use binding::{Binding, Bindings};
+pub use frames::Frames;
+pub use kept::Kept;
+
+#[cfg(test)]
+mod tests;
