@@ -1,0 +1,15 @@
+//! Commands as scripts: steps on a desk, then a status with the report's last line.
+//! Its contracts say what is left of a script, and its laws what every run of every script promises.
+#![tactic(auto)]
+
+mod calls;
+mod loading;
+mod refusal;
+mod reporting;
+mod stop;
+
+pub use calls::{make, send};
+pub use loading::{Input, load};
+pub use refusal::Refusal;
+pub use reporting::report;
+pub use stop::Stop;
