@@ -1,1 +1,7 @@
 pub mod Playing
+pub mod Effects
+pub mod Order
+pub mod Fronts
+pub mod Handed
+pub mod Created
+pub mod Promised

@@ -3,12 +3,17 @@
 #![tactic(auto)]
 
 mod calls;
+mod laws;
 mod loading;
 mod refusal;
 mod reporting;
 mod stop;
 
 pub use calls::{make, send};
+pub use laws::{
+    created_for_bytes, failed_reports_are_write, files_are_fronts, names_are_given,
+    statuses_keep_promises,
+};
 pub use loading::{Input, load};
 pub use refusal::Refusal;
 pub use reporting::report;

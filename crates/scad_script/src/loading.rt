@@ -20,7 +20,12 @@ pub enum Input {
 }
 
 /// Opens the file of this name and reads it to its end, or to one byte past the limit: the step `Reads`.
-pub fn load<D: Desk>(alloc: Global, name: &str, limit: Option<usize>, desk: &mut D) -> Result<Input, Stop>
+pub fn load<D: Desk>(
+    alloc: Global,
+    name: &str,
+    limit: Option<usize>,
+    desk: &mut D,
+) -> Result<Input, Stop>
     requires sound { Sound (D.view desk.old) }
 
     ensures carries { Carries (first (Reads name.now ∷ [])) result (D.view desk.old) (D.view desk.new) }

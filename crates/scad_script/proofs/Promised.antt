@@ -1,0 +1,321 @@
+-- Each status keeps its promise.
+use Rattle.std.proofs.Common.{◌≡◌, ◌≢◌, ◌⊎◌, ◌+◌, ◌<◌, ◌≤◌, ◌++◌, List, [], ◌∷◌, ℕ, Bool, true, false, Option, Some, None, Result, Ok, Err, inl, inr, refl, sym, ap, ◌∙◌, subst, length, take, arith, append_assoc, length-append}
+use Rattle.std.specs.Prelude.{IfSome, option_map}
+use Rattle.std.proofs.lemmas.List.{append-nil, take_all, take-append-le}
+use Rattle.std.proofs.Math.Seq.{take-append-add}
+use Rattle.scad_fault.specs.declared.status.Status.{Status}
+use Rattle.scad_fault.specs.declared.status.Status.TheVariants.{Done, Read, Write, Memory}
+use Rattle.scad_fault.specs.Line.{line_of}
+use Rattle.scad_io.specs.Desk.{Side, View, side, sent}
+use Rattle.scad_io.specs.Sent.{SentPartly}
+use Rattle.scad_io.specs.declared.desk.Out.{Out}
+use Rattle.scad_io.specs.declared.desk.Out.TheVariants.{Report, Cli, Gcode}
+use Rattle.scad_io.proofs.Sent.{side-put}
+use Rattle.scad_script.specs.declared.refusal.Refusal.{Refusal}
+use Rattle.scad_script.specs.declared.stop.Stop.{Stop}
+use Rattle.scad_script.specs.Steps.{Step, Reads, Makes, Sends, stage, is_same, text_of, reading, echoing, drawing}
+use Rattle.scad_script.specs.Script.{Script, Ending, Finishes, Refuses, first, ends, refused, answer_of, answer_by, expected_echoes}
+use Rattle.scad_script.specs.Names.{Given, name_for, IsAmong, AllFrom, AllStand, Stands, OnlyReads, IsOrderly}
+use Rattle.scad_script.specs.Played.{Fails, Went, Left, StopsAt, EndsIn}
+use Rattle.scad_script.specs.Run.{Sound, IsReady, Tells, Reports}
+use Rattle.scad_script.specs.Promises.{Adds, IsAnswered, IsReadFault, HasFailed, IsFaultLine, IsReport, CutReport, IsWriteFault, IsMemoryLine, Promised}
+use Rattle.scad_script.specs.Laws.{StatusesKeepPromises, FailedReportsAreWrite}
+use Rattle.scad_script.proofs.Effects.{adds_then, kept_if, created_each}
+use Rattle.scad_script.proofs.Order.{stands_at, drawing_echoes}
+use Rattle.scad_script.proofs.Fronts.{went_adds, went_sound, text_parts, ends_front, with_report, reports_only, echoes_are}
+use Rattle.scad_script.proofs.Handed.{IsMade, went_made, left_uses, cli_drawn, gcode_drawn}
+use Rattle.scad_script.proofs.Created.{stops_reading}
+
+-- What the report has before its last line.
+
+-- a front of the echo lines is there
+pub record Echoed (whole : Script) (count : ℕ) (old now : View) : Type 0 where
+  pub within : count ≤ length (expected_echoes whole)
+  pub part : Adds (take count (expected_echoes whole)) old.report now.report
+
+echoed : (given : Given) (whole : Script) (ended : Result (List ℕ) Stop) (old now : View) → IsOrderly given whole → old.report.failed ≡ false → EndsIn whole ended old now → (n : ℕ) × Echoed whole n old now
+echoed given whole ended old now orderly sound ends =
+    let front = ends_front Report whole ended old now ends sound in
+    let same = echoes_are whole.steps whole.ending orderly.lacks in (
+      front.count,
+      record {
+        within = subst (λ (text : List ℕ). front.count ≤ length text) same front.within;
+        part = subst (λ (text : List ℕ). Adds (take front.count text) old.report now.report) same front.part;
+      },
+    )
+
+-- a line went to the report in part, behind what it had
+cut : (whole : Script) (before line : List ℕ) (old mid new : View) → IsReport whole (before ++ line) → Adds before old.report mid.report → SentPartly Report line mid new → CutReport whole old new
+cut whole before line old mid new meant had partly =
+    let n = partly.count in
+    let long = length-append before line in
+    let short = partly.proper in
+    record {
+      text = before ++ line;
+      meant = meant;
+      count = length before + n;
+      proper = omega (arith, long, short);
+      part = subst (λ (text : List ℕ). Adds text old.report new.report) (sym (take-append-add before line n))
+          (adds_then before (take n line) old.report mid.report new.report had (ap (λ v. v.report.bytes) partly.view));
+      failed = ap (λ v. v.report.failed) partly.view;
+    }
+
+cut_line : (whole : Script) (n : ℕ) (line : List ℕ) (old mid new : View) → IsFaultLine line → Echoed whole n old mid → SentPartly Report line mid new → CutReport whole old new
+cut_line whole n line old mid new fault had partly =
+    cut whole (take n (expected_echoes whole)) line old mid new (inr (n, line, fault, refl)) had.part partly
+
+-- Statuses 0, 1, 2, 3 and 6.
+
+-- where nothing is left, all steps were taken
+all_went : {whole : Script} {ending : Ending} {old now : View} (left : Left whole (ends ending) old now) → Went (left.done ++ []) old now
+all_went {old = old} {now = now} left = subst (λ (steps : List Step). Went steps old now) (sym (append-nil left.done)) left.went
+
+finished : (whole : Script) (line : List ℕ) (old mid new : View) → Left whole (ends (Finishes line)) old mid → new ≡ sent Report line false mid → IsAnswered whole Done old new
+finished whole line old mid new left went =
+    let steps = left.done ++ [] in
+    let all = all_went left in
+    subst (λ (w : Script). IsAnswered w Done old new) left.parts (
+      refl,
+      adds_then (text_of Report steps) line old.report mid.report new.report (went_adds Report steps old mid all) (ap (λ v. v.report.bytes) went),
+      ap (λ v. v.cli.bytes) went ∙ went_adds Cli steps old mid all,
+      ap (λ v. v.gcode.bytes) went ∙ went_adds Gcode steps old mid all,
+    )
+
+refused_whole : (whole : Script) (why : Refusal) (old mid new : View) → Left whole (ends (Refuses why)) old mid → new ≡ sent Report (line_of (refused why)) false mid → IsAnswered whole (refused why) old new
+refused_whole whole why old mid new left went =
+    let steps = left.done ++ [] in
+    let all = all_went left in
+    subst (λ (w : Script). IsAnswered w (refused why) old new) left.parts (
+      refl,
+      adds_then (text_of Report steps) (line_of (refused why)) old.report mid.report new.report (went_adds Report steps old mid all) (ap (λ v. v.report.bytes) went),
+      ap (λ v. v.cli.bytes) went ∙ went_adds Cli steps old mid all,
+      ap (λ v. v.gcode.bytes) went ∙ went_adds Gcode steps old mid all,
+    )
+
+finished_cut : (whole : Script) (line : List ℕ) (old mid new : View) → Left whole (ends (Finishes line)) old mid → SentPartly Report line mid new → CutReport whole old new
+finished_cut whole line old mid new left partly =
+    let steps = left.done ++ [] in
+    subst (λ (w : Script). CutReport w old new) left.parts
+    (cut (record { steps = steps; ending = Finishes line }) (text_of Report steps) line old mid new (inl refl)
+    (went_adds Report steps old mid (all_went left)) partly)
+
+refused_cut : (whole : Script) (why : Refusal) (old mid new : View) → Left whole (ends (Refuses why)) old mid → SentPartly Report (line_of (refused why)) mid new → CutReport whole old new
+refused_cut whole why old mid new left partly =
+    let steps = left.done ++ [] in
+    subst (λ (w : Script). CutReport w old new) left.parts
+    (cut (record { steps = steps; ending = Refuses why }) (text_of Report steps) (line_of (refused why)) old mid new (inl refl)
+    (went_adds Report steps old mid (all_went left)) partly)
+
+promised_answer : (given : Given) (whole : Script) (why : Refusal) (old new : View) → IsAnswered whole (refused why) old new → Promised given whole (refused why) old new
+promised_answer given whole (Refusal.Source fault) old new answered = answered
+promised_answer given whole Refusal.Usage old new answered = answered
+promised_answer given whole (Refusal.Settings fault) old new answered = answered
+promised_answer given whole (Refusal.Over budget) old new answered = answered
+
+-- Status 4.
+
+-- the input that failed was asked for by a name that was given
+reading_fails : (given : Given) (step : Step) (rest whole : Script) (old mid now : View) → stage step ≡ reading → AllStand given whole.steps → Left whole (first (step ∷ []) rest) old mid → Fails step mid now → (now.input.failed ≡ true) × ((name : List ℕ) × IsAmong name given.input × IfSome now.input.name (λ told. told ≡ name))
+reading_fails given (Reads name) rest whole old mid now same all left fails =
+    let here = stands_at given left.done (Reads name) rest.steps (subst (λ (s : Script). AllStand given s.steps) (sym left.parts) all) in
+    (ap (λ v. v.input.failed) fails.only, (name, here.name, fails.named))
+reading_fails given (Makes o name) rest whole old mid now same all left fails = let never : ⊥ = cc in absurd never
+reading_fails given (Sends Report piece) rest whole old mid now same all left fails = let never : ⊥ = cc in absurd never
+reading_fails given (Sends Cli piece) rest whole old mid now same all left fails = let never : ⊥ = cc in absurd never
+reading_fails given (Sends Gcode piece) rest whole old mid now same all left fails = let never : ⊥ = cc in absurd never
+
+read_fault : (given : Given) (whole : Script) (old mid new : View) → AllStand given whole.steps → StopsAt reading whole old mid → new ≡ sent Report (line_of Read) false mid → IsReadFault given old new
+read_fault given whole old mid new all stops went =
+    let input = reading_fails given stops.0 stops.1 whole old stops.2 mid stops.3 all stops.4 stops.5 in
+    record {
+      failed = ap (λ v. v.input.failed) went ∙ input.0;
+      name = input.1.0;
+      meant = input.1.1;
+      named = subst (λ (told : Option (List ℕ)). IfSome told (λ known. known ≡ input.1.0)) (sym (ap (λ v. v.input.name) went)) input.1.2;
+      line = ap (λ v. v.report.bytes) went ∙ ap (λ s. option_map (λ before. before ++ line_of Read) s.bytes) (stops_reading Report given whole old mid all stops);
+      cli = ap (λ v. v.cli) went ∙ stops_reading Cli given whole old mid all stops;
+      gcode = ap (λ v. v.gcode) went ∙ stops_reading Gcode given whole old mid all stops;
+    }
+
+-- Status 5.
+
+failed_at : (given : Given) (out : Out) (name : List ℕ) (mid new : View) → new ≡ with_report mid new → name_for out given ≡ Some name → (side out mid).failed ≡ true → IfSome (side out mid).name (λ told. told ≡ name) → HasFailed given new
+failed_at given Report name mid new only meant failed named = let never : ⊥ = cc in absurd never
+failed_at given Cli name mid new only meant failed named =
+    record {
+      out = Cli;
+      name = name;
+      meant = meant;
+      failed = ap (λ v. v.cli.failed) only ∙ failed;
+      named = subst (λ (told : Option (List ℕ)). IfSome told (λ known. known ≡ name)) (sym (ap (λ v. v.cli.name) only)) named;
+    }
+failed_at given Gcode name mid new only meant failed named =
+    record {
+      out = Gcode;
+      name = name;
+      meant = meant;
+      failed = ap (λ v. v.gcode.failed) only ∙ failed;
+      named = subst (λ (told : Option (List ℕ)). IfSome told (λ known. known ≡ name)) (sym (ap (λ v. v.gcode.name) only)) named;
+    }
+
+-- what was sent in part had been created, under the name that was given
+sends_failed : (given : Given) (o : Out) (piece : List ℕ) (start : Side) (mid now new : View) → new ≡ with_report now new → start.created ≡ false → (side o mid).created ≡ true → SentPartly o piece mid now → IsMade given o start (side o mid) → HasFailed given new
+sends_failed given o piece start mid now new only absent there partly (inl stands) =
+    let not_made : (side o mid).created ≡ false = ap (λ s. s.created) stands ∙ absent in let never : ⊥ = cc in absurd never
+sends_failed given o piece start mid now new only absent there partly (inr (name, meant, made, named)) =
+    let after = ap (side o) partly.view ∙ side-put o _ mid in
+    failed_at given o name now new only meant (ap (λ s. s.failed) after)
+    (subst (λ (told : Option (List ℕ)). IfSome told (λ known. known ≡ name)) (sym (ap (λ s. s.name) after)) named)
+
+-- a step that draws failed: its output has failed, and the report stands
+pub record DrawingFailed (given : Given) (step : Step) (mid now new : View) : Type 0 where
+  pub failed : HasFailed given new
+  pub silent : (rest : List Step) → text_of Report (step ∷ rest) ≡ text_of Report rest
+  pub report : now.report.bytes ≡ mid.report.bytes
+
+drawing_fails : (given : Given) (step : Step) (rest whole : Script) (old mid now new : View) → stage step ≡ drawing → AllStand given whole.steps → IsReady old → new ≡ with_report now new → Left whole (first (step ∷ []) rest) old mid → Fails step mid now → DrawingFailed given step mid now new
+drawing_fails given (Reads name) rest whole old mid now new same all ready only left fails = let never : ⊥ = cc in absurd never
+drawing_fails given (Makes o name) rest whole old mid now new same all ready only left (e, creates) =
+    let here = stands_at given left.done (Makes o name) rest.steps (subst (λ (s : Script). AllStand given s.steps) (sym left.parts) all) in
+    record {
+      failed = failed_at given o name now new only here.name (ap (λ s. s.failed) (ap (side o) creates.only ∙ side-put o _ mid)) creates.named;
+      silent = λ rest. refl;
+      report = kept_if (is_same o Report) now.report.name false true mid.report now.report (created_each Report o name (Err e) mid now creates);
+    }
+drawing_fails given (Sends Report piece) rest whole old mid now new same all ready only left fails = let never : ⊥ = cc in absurd never
+drawing_fails given (Sends Cli piece) rest whole old mid now new same all ready only left (there, partly) =
+    let made = went_made given Cli old.cli left.done old mid cli_drawn ready.cli left.went (left_uses given all left) (inl refl) in
+    record {
+      failed = sends_failed given Cli piece old.cli mid now new only ready.cli (there cli_drawn) partly made;
+      silent = λ rest. refl;
+      report = ap (λ v. v.report.bytes) partly.view;
+    }
+drawing_fails given (Sends Gcode piece) rest whole old mid now new same all ready only left (there, partly) =
+    let made = went_made given Gcode old.gcode left.done old mid gcode_drawn ready.gcode left.went (left_uses given all left) (inl refl) in
+    record {
+      failed = sends_failed given Gcode piece old.gcode mid now new only ready.gcode (there gcode_drawn) partly made;
+      silent = λ rest. refl;
+      report = ap (λ v. v.report.bytes) partly.view;
+    }
+
+write_fault : (given : Given) (whole : Script) (old mid new : View) → IsOrderly given whole → IsReady old → StopsAt drawing whole old mid → new ≡ sent Report (line_of Write) false mid → IsWriteFault given whole old new
+write_fault given whole old now new orderly ready (step, rest, mid, same, left, fails) went =
+    let only : new ≡ with_report now new = went ∙ ap (with_report now) (sym went) in
+    let drew = drawing_fails given step rest whole old mid now new same orderly.steps ready only left fails in
+    let here = stands_at given left.done step rest.steps (subst (λ (s : Script). AllStand given s.steps) (sym left.parts) orderly.steps) in
+    let behind : text_of Report rest.steps ≡ [] =
+    drawing_echoes rest.steps (subst (λ (n : ℕ). AllFrom n rest.steps) same here.order)
+    in
+    let all : text_of Report left.done ≡ expected_echoes whole =
+    sym (append-nil (text_of Report left.done))
+    ∙ ap (λ text. text_of Report left.done ++ text) (sym (drew.silent rest.steps ∙ behind))
+    ∙ text_parts Report left
+    ∙ echoes_are whole.steps whole.ending orderly.lacks
+    in
+    let had : Adds (expected_echoes whole) old.report now.report =
+    subst (λ (text : List ℕ). Adds text old.report now.report) all (drew.report ∙ went_adds Report left.done old mid left.went)
+    in
+    inl (
+      drew.failed,
+      adds_then (expected_echoes whole) (line_of Write) old.report now.report new.report had (ap (λ v. v.report.bytes) went),
+      ap (λ v. v.report.failed) went,
+    )
+
+-- the report failed within its echo lines
+echo_failed : (step : Step) (mid now : View) → stage step ≡ echoing → Fails step mid now → now.report.failed ≡ true
+echo_failed (Reads name) mid now same fails = let never : ⊥ = cc in absurd never
+echo_failed (Makes o name) mid now same fails = let never : ⊥ = cc in absurd never
+echo_failed (Sends Report piece) mid now same (there, partly) = ap (λ v. v.report.failed) partly.view
+echo_failed (Sends Cli piece) mid now same fails = let never : ⊥ = cc in absurd never
+echo_failed (Sends Gcode piece) mid now same fails = let never : ⊥ = cc in absurd never
+
+silent_fault : (given : Given) (whole : Script) (old now : View) → IsOrderly given whole → old.report.failed ≡ false → StopsAt echoing whole old now → CutReport whole old now
+silent_fault given whole old now orderly sound stops =
+    let had = echoed given whole (Err Stop.Silent) old now orderly sound stops in
+    let echoes = expected_echoes whole in
+    let all = take_all (length echoes) echoes (omega arith) in
+    let inside : had.0 ≤ length echoes = had.1.within in
+    let long = length-append echoes (line_of Memory) in
+    let line : length (line_of Memory) ≡ 14 = refl in
+    record {
+      text = echoes ++ line_of Memory;
+      meant = inr (length echoes, line_of Memory, inr (inr refl), ap (λ text. text ++ line_of Memory) (sym all));
+      count = had.0;
+      proper = omega (arith, long, line, inside);
+      part = subst (λ (text : List ℕ). Adds text old.report now.report) (sym (take-append-le had.0 echoes (line_of Memory) inside)) had.1.part;
+      failed = echo_failed stops.0 stops.2 now stops.3 stops.5;
+    }
+
+-- Status 7.
+
+memory_line : (given : Given) (whole : Script) (ended : Result (List ℕ) Stop) (old mid new : View) → IsOrderly given whole → old.report.failed ≡ false → EndsIn whole ended old mid → new ≡ sent Report (line_of Memory) false mid → IsMemoryLine whole old new
+memory_line given whole ended old mid new orderly sound ends went =
+    let had = echoed given whole ended old mid orderly sound ends in
+    record {
+      count = had.0;
+      within = had.1.within;
+      line = adds_then (take had.0 (expected_echoes whole)) (line_of Memory) old.report mid.report new.report had.1.part (ap (λ v. v.report.bytes) went);
+    }
+
+-- All statuses.
+
+-- a promise under the status that it is about
+told : (given : Given) (whole : Script) (is status : Status) (old new : View) → status ≡ is → Promised given whole is old new → Promised given whole status old new
+told given whole is status old new same promised = subst (λ (s : Status). Promised given whole s old new) (sym same) promised
+
+-- a line in place of the answer's was cut short
+fault_cut : (given : Given) (whole : Script) (ended : Result (List ℕ) Stop) (line : List ℕ) (old mid new : View) → IsOrderly given whole → old.report.failed ≡ false → EndsIn whole ended old mid → IsFaultLine line → SentPartly Report line mid new → CutReport whole old new
+fault_cut given whole ended line old mid new orderly sound ends fault partly =
+    let had = echoed given whole ended old mid orderly sound ends in
+    cut_line whole had.0 line old mid new fault had.1 partly
+
+promised : (given : Given) (whole : Script) (ended : Result (List ℕ) Stop) (status : Status) (old mid new : View) → IsOrderly given whole → IsReady old → EndsIn whole ended old mid → Reports ended status mid new → Promised given whole status old new
+promised given whole (Ok line) status old mid new orderly ready left (inl (same, went)) =
+    told given whole Done status old new same (finished whole line old mid new left went)
+promised given whole (Ok line) status old mid new orderly ready left (inr (same, partly)) =
+    told given whole Write status old new same (inr (finished_cut whole line old mid new left partly))
+promised given whole (Err (Stop.Ends why)) status old mid new orderly ready left (inl (inl (same, went))) =
+    told given whole (refused why) status old new same (promised_answer given whole why old new (refused_whole whole why old mid new left went))
+promised given whole (Err (Stop.Ends why)) status old mid new orderly ready left (inl (inr (same, partly))) =
+    told given whole Write status old new same (inr (refused_cut whole why old mid new left partly))
+promised given whole (Err (Stop.Ends why)) status old mid new orderly ready left (inr (inl (same, went))) =
+    told given whole Memory status old new same (memory_line given whole (Err (Stop.Ends why)) old mid new orderly ready.sound.report left went)
+promised given whole (Err (Stop.Ends why)) status old mid new orderly ready left (inr (inr (same, partly))) =
+    told given whole Write status old new same (inr (fault_cut given whole (Err (Stop.Ends why)) _ old mid new orderly ready.sound.report left (inr (inr refl)) partly))
+promised given whole (Err Stop.Read) status old mid new orderly ready stops (inl (same, went)) =
+    told given whole Read status old new same (read_fault given whole old mid new orderly.steps stops went)
+promised given whole (Err Stop.Read) status old mid new orderly ready stops (inr (same, partly)) =
+    told given whole Write status old new same (inr (fault_cut given whole (Err Stop.Read) _ old mid new orderly ready.sound.report stops (inl refl) partly))
+promised given whole (Err Stop.Write) status old mid new orderly ready stops (inl (same, went)) =
+    told given whole Write status old new same (write_fault given whole old mid new orderly ready stops went)
+promised given whole (Err Stop.Write) status old mid new orderly ready stops (inr (same, partly)) =
+    told given whole Write status old new same (inr (fault_cut given whole (Err Stop.Write) _ old mid new orderly ready.sound.report stops (inr (inl refl)) partly))
+promised given whole (Err Stop.Silent) status old mid new orderly ready stops (same, went) =
+    told given whole Write status old new same (inr (subst (λ (v : View). CutReport whole old v) (sym went) (silent_fault given whole old mid orderly ready.sound.report stops)))
+promised given whole (Err Stop.Memory) status old mid new orderly ready stops (inl (same, went)) =
+    told given whole Memory status old new same (memory_line given whole (Err Stop.Memory) old mid new orderly ready.sound.report stops went)
+promised given whole (Err Stop.Memory) status old mid new orderly ready stops (inr (same, partly)) =
+    told given whole Write status old new same (inr (fault_cut given whole (Err Stop.Memory) _ old mid new orderly ready.sound.report stops (inr (inr refl)) partly))
+
+pub statuses_keep_promises : StatusesKeepPromises
+statuses_keep_promises given whole status old new orderly ready (ended, mid, ends, reports) =
+    promised given whole ended status old mid new orderly ready ends reports
+
+-- A report that has failed.
+
+tells_write : (line : List ℕ) (is status : Status) (old new : View) → Tells line is status old new → new.report.failed ≡ true → status ≡ Write
+tells_write line is status old new (inl (same, went)) failed =
+    let sound : new.report.failed ≡ false = ap (λ v. v.report.failed) went in let never : ⊥ = cc in absurd never
+tells_write line is status old new (inr (same, partly)) failed = same
+
+reports_write : (ended : Result (List ℕ) Stop) (status : Status) (old new : View) → Reports ended status old new → new.report.failed ≡ true → status ≡ Write
+reports_write (Ok line) status old new tells failed = tells_write _ _ status old new tells failed
+reports_write (Err (Stop.Ends why)) status old new (inl tells) failed = tells_write _ _ status old new tells failed
+reports_write (Err (Stop.Ends why)) status old new (inr tells) failed = tells_write _ _ status old new tells failed
+reports_write (Err Stop.Read) status old new tells failed = tells_write _ _ status old new tells failed
+reports_write (Err Stop.Silent) status old new (same, went) failed = same
+reports_write (Err Stop.Write) status old new tells failed = tells_write _ _ status old new tells failed
+reports_write (Err Stop.Memory) status old new tells failed = tells_write _ _ status old new tells failed
+
+pub failed_reports_are_write : FailedReportsAreWrite
+failed_reports_are_write given whole status old new orderly ready (ended, mid, ends, reports) = reports_write ended status mid new reports
