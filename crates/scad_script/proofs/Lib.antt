@@ -5,3 +5,5 @@ pub mod Fronts
 pub mod Handed
 pub mod Created
 pub mod Promised
+pub mod Layers
+mod Examples

@@ -6,21 +6,22 @@ use Rattle.std.proofs.Math.Seq.{take-append-add}
 use Rattle.scad_fault.specs.declared.status.Status.{Status}
 use Rattle.scad_fault.specs.declared.status.Status.TheVariants.{Done, Read, Write, Memory}
 use Rattle.scad_fault.specs.Line.{line_of}
-use Rattle.scad_io.specs.Desk.{Side, View, side, sent}
+use Rattle.scad_io.specs.Desk.{Side, View, side, sent, Creates}
 use Rattle.scad_io.specs.Sent.{SentPartly}
+use Rattle.scad_io.specs.declared.desk.Failed.{Failed}
 use Rattle.scad_io.specs.declared.desk.Out.{Out}
 use Rattle.scad_io.specs.declared.desk.Out.TheVariants.{Report, Cli, Gcode}
 use Rattle.scad_io.proofs.Sent.{side-put}
 use Rattle.scad_script.specs.declared.refusal.Refusal.{Refusal}
 use Rattle.scad_script.specs.declared.stop.Stop.{Stop}
-use Rattle.scad_script.specs.Steps.{Step, Reads, Makes, Sends, stage, is_same, text_of, reading, echoing, drawing}
+use Rattle.scad_script.specs.Steps.{Step, Reads, Makes, Sends, stage, text_of, reading, echoing, drawing}
 use Rattle.scad_script.specs.Script.{Script, Ending, Finishes, Refuses, first, ends, refused, answer_of, answer_by, expected_echoes}
 use Rattle.scad_script.specs.Names.{Given, name_for, IsAmong, AllFrom, AllStand, Stands, OnlyReads, IsOrderly}
 use Rattle.scad_script.specs.Played.{Fails, Went, Left, StopsAt, EndsIn}
 use Rattle.scad_script.specs.Run.{Sound, IsReady, Tells, Reports}
 use Rattle.scad_script.specs.Promises.{Adds, IsAnswered, IsReadFault, HasFailed, IsFaultLine, IsReport, CutReport, IsWriteFault, IsMemoryLine, Promised}
 use Rattle.scad_script.specs.Laws.{StatusesKeepPromises, FailedReportsAreWrite}
-use Rattle.scad_script.proofs.Effects.{adds_then, kept_if, created_each}
+use Rattle.scad_script.proofs.Effects.{adds_then}
 use Rattle.scad_script.proofs.Order.{stands_at, drawing_echoes}
 use Rattle.scad_script.proofs.Fronts.{went_adds, went_sound, text_parts, ends_front, with_report, reports_only, echoes_are}
 use Rattle.scad_script.proofs.Handed.{IsMade, went_made, left_uses, cli_drawn, gcode_drawn}
@@ -171,7 +172,12 @@ sends_failed given o piece start mid now new only absent there partly (inr (name
 pub record DrawingFailed (given : Given) (step : Step) (mid now new : View) : Type 0 where
   pub failed : HasFailed given new
   pub silent : (rest : List Step) → text_of Report (step ∷ rest) ≡ text_of Report rest
-  pub report : now.report.bytes ≡ mid.report.bytes
+  pub report : now.report ≡ mid.report
+
+report_kept : (given : Given) (o : Out) (name : List ℕ) (r : Result (Unit {0}) Failed) (mid now : View) → name_for o given ≡ Some name → Creates o name r mid now → now.report ≡ mid.report
+report_kept given Report name r mid now meant creates = let never : ⊥ = cc in absurd never
+report_kept given Cli name r mid now meant creates = ap (λ v. v.report) creates.only
+report_kept given Gcode name r mid now meant creates = ap (λ v. v.report) creates.only
 
 drawing_fails : (given : Given) (step : Step) (rest whole : Script) (old mid now new : View) → stage step ≡ drawing → AllStand given whole.steps → IsReady old → new ≡ with_report now new → Left whole (first (step ∷ []) rest) old mid → Fails step mid now → DrawingFailed given step mid now new
 drawing_fails given (Reads name) rest whole old mid now new same all ready only left fails = let never : ⊥ = cc in absurd never
@@ -180,7 +186,7 @@ drawing_fails given (Makes o name) rest whole old mid now new same all ready onl
     record {
       failed = failed_at given o name now new only here.name (ap (λ s. s.failed) (ap (side o) creates.only ∙ side-put o _ mid)) creates.named;
       silent = λ rest. refl;
-      report = kept_if (is_same o Report) now.report.name false true mid.report now.report (created_each Report o name (Err e) mid now creates);
+      report = report_kept given o name (Err e) mid now here.name creates;
     }
 drawing_fails given (Sends Report piece) rest whole old mid now new same all ready only left fails = let never : ⊥ = cc in absurd never
 drawing_fails given (Sends Cli piece) rest whole old mid now new same all ready only left (there, partly) =
@@ -188,14 +194,14 @@ drawing_fails given (Sends Cli piece) rest whole old mid now new same all ready 
     record {
       failed = sends_failed given Cli piece old.cli mid now new only ready.cli (there cli_drawn) partly made;
       silent = λ rest. refl;
-      report = ap (λ v. v.report.bytes) partly.view;
+      report = ap (λ v. v.report) partly.view;
     }
 drawing_fails given (Sends Gcode piece) rest whole old mid now new same all ready only left (there, partly) =
     let made = went_made given Gcode old.gcode left.done old mid gcode_drawn ready.gcode left.went (left_uses given all left) (inl refl) in
     record {
       failed = sends_failed given Gcode piece old.gcode mid now new only ready.gcode (there gcode_drawn) partly made;
       silent = λ rest. refl;
-      report = ap (λ v. v.report.bytes) partly.view;
+      report = ap (λ v. v.report) partly.view;
     }
 
 write_fault : (given : Given) (whole : Script) (old mid new : View) → IsOrderly given whole → IsReady old → StopsAt drawing whole old mid → new ≡ sent Report (line_of Write) false mid → IsWriteFault given whole old new
@@ -213,7 +219,7 @@ write_fault given whole old now new orderly ready (step, rest, mid, same, left, 
     ∙ echoes_are whole.steps whole.ending orderly.lacks
     in
     let had : Adds (expected_echoes whole) old.report now.report =
-    subst (λ (text : List ℕ). Adds text old.report now.report) all (drew.report ∙ went_adds Report left.done old mid left.went)
+    subst (λ (text : List ℕ). Adds text old.report now.report) all (ap (λ s. s.bytes) drew.report ∙ went_adds Report left.done old mid left.went)
     in
     inl (
       drew.failed,
@@ -300,6 +306,25 @@ promised given whole (Err Stop.Memory) status old mid new orderly ready stops (i
 pub statuses_keep_promises : StatusesKeepPromises
 statuses_keep_promises given whole status old new orderly ready (ended, mid, ends, reports) =
     promised given whole ended status old mid new orderly ready ends reports
+
+-- A report that has not failed, unless the script stopped at it.
+
+left_sound : (whole rest : Script) (old now : View) → old.report.failed ≡ false → Left whole rest old now → now.report.failed ≡ false
+left_sound whole rest old now sound left = went_sound Report left.done old now left.went sound
+
+drawing_sound : (given : Given) (whole : Script) (old now : View) → AllStand given whole.steps → IsReady old → StopsAt drawing whole old now → now.report.failed ≡ false
+drawing_sound given whole old now all ready (step, rest, mid, same, left, fails) =
+    let drew = drawing_fails given step rest whole old mid now now same all ready refl left fails in
+    ap (λ s. s.failed) drew.report ∙ left_sound whole (first (step ∷ []) rest) old mid ready.sound.report left
+
+pub report_sound : (given : Given) (whole : Script) (ended : Result (List ℕ) Stop) (old now : View) → IsOrderly given whole → IsReady old → EndsIn whole ended old now → ended ≢ Err Stop.Silent → now.report.failed ≡ false
+report_sound given whole (Ok line) old now orderly ready left said = left_sound whole _ old now ready.sound.report left
+report_sound given whole (Err (Stop.Ends why)) old now orderly ready left said = left_sound whole _ old now ready.sound.report left
+report_sound given whole (Err Stop.Read) old now orderly ready stops said =
+    ap (λ s. s.failed) (stops_reading Report given whole old now orderly.steps stops) ∙ ready.sound.report
+report_sound given whole (Err Stop.Silent) old now orderly ready stops said = absurd (said refl)
+report_sound given whole (Err Stop.Write) old now orderly ready stops said = drawing_sound given whole old now orderly.steps ready stops
+report_sound given whole (Err Stop.Memory) old now orderly ready (rest, left) said = left_sound whole rest old now ready.sound.report left
 
 -- A report that has failed.
 

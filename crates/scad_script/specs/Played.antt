@@ -1,5 +1,5 @@
 -- What playing the steps of a script does to a desk, and what is left of the script then.
-use Rattle.std.specs.Prelude.{◌≡◌, ◌≢◌, ℕ, Bool, true, false, List, [], ◌∷◌, Option, IfSome, Result, Ok, Err}
+use Rattle.std.specs.Prelude.{◌≡◌, ◌≢◌, ◌<◌, ℕ, Bool, true, false, List, [], ◌∷◌, Option, IfSome, IfErr, Result, Ok, Err}
 use Rattle.scad_io.specs.Desk.{View, side, sent, Creates}
 use Rattle.scad_io.specs.Sent.{SentPartly}
 use Rattle.scad_io.specs.declared.desk.Out.{Out}
@@ -47,6 +47,14 @@ stop_of Report = Stop.Silent
 stop_of Cli = Stop.Write
 stop_of Gcode = Stop.Write
 
+-- a script stops so because an object failed
+abbrev pub is_fault : Stop → Bool
+is_fault (Stop.Ends refusal) = false
+is_fault Stop.Read = true
+is_fault Stop.Write = true
+is_fault Stop.Silent = true
+is_fault Stop.Memory = false
+
 -- the next step was one of this stage, and failed
 abbrev pub StopsAt : ℕ → Script → View → View → Type 0
 StopsAt at whole old new =
@@ -79,3 +87,7 @@ EndsIn whole (Err stop) old new = Stops whole stop old new
 -- In every script of which this is left it was played to its end, or stopped.
 abbrev pub Completes : Script → Result (List ℕ) Stop → View → View → Type 0
 Completes part result old new = (whole : Script) (start : View) → Left whole part start old → EndsIn whole result start new
+
+-- the count of faults rose where a script stopped because an object failed
+abbrev pub HasRisen : {T : Type 0} → Result T Stop → ℕ → ℕ → Type 0
+HasRisen result before now = IfErr result (λ stop. is_fault stop ≡ true → before < now)

@@ -2,7 +2,7 @@
 ghost use Rattle.std.specs.Prelude.{◌≡◌, ◌<◌, ◌≤◌, ◌∷◌, [], Some, IfOk, OnOk, IsErrOf, IfSome, option_map};
 ghost use Rattle.scad_script.specs.Steps.{Reads};
 ghost use Rattle.scad_script.specs.Script.{first, input_of};
-ghost use Rattle.scad_script.specs.Played.{Carries};
+ghost use Rattle.scad_script.specs.Played.{Carries, HasRisen};
 ghost use Rattle.scad_script.specs.Run.{Sound, CreatesNone};
 
 use crate::Stop;
@@ -35,7 +35,7 @@ pub fn load<D: Desk>(
     ensures creates { CreatesNone (D.view desk.old) (D.view desk.new) }
     ensures files { D.files desk.new ≡ D.files desk.old }
     ensures later { D.faults desk.old ≤ D.faults desk.new }
-    ensures cause { IsErrOf result Stop.Read → D.faults desk.old < D.faults desk.new }
+    ensures cause { HasRisen result (D.faults desk.old) (D.faults desk.new) }
 {
     match desk.open(name) {
         Ok(()) => {}
