@@ -4,6 +4,8 @@ pub mod Order
 pub mod Fronts
 pub mod Handed
 pub mod Created
+pub mod Answered
+pub mod Faulted
 pub mod Promised
 pub mod Layers
 mod Examples

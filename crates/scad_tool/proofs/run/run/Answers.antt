@@ -3,7 +3,8 @@ use Rattle.scad_io.specs.Desk.{Files, View}
 use Rattle.scad_script.specs.declared.loading.Input.{Input}
 use Rattle.scad_script.specs.Run.{RunsTo}
 use Rattle.scad_script.specs.Promises.{Promised}
-use Rattle.scad_script.proofs.Promised.{statuses_keep_promises, report_sound}
+use Rattle.scad_script.proofs.Promised.{statuses_keep_promises}
+use Rattle.scad_script.proofs.Faulted.{report_sound}
 use Rattle.scad_script.proofs.Fronts.{files_are_fronts}
 use Rattle.scad_script.proofs.Handed.{names_are_given}
 use Rattle.scad_script.proofs.Created.{created_for_bytes}
