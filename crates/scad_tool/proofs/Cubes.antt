@@ -1,35 +1,61 @@
--- A run that is done drew the outlines of the source's cube.
-use Rattle.std.proofs.Common.{◌≡◌, ℕ, false, List, Ok, Err, ap, subst, ◌∙◌}
-use Rattle.scad_fault.specs.declared.status.Status.{Status}
-use Rattle.scad_fault.specs.declared.status.Status.TheVariants.{Done, Source, Usage, Settings, Read, Write, Over, Memory}
-use Rattle.scad_io.specs.Desk.{Files, View}
-use Rattle.scad_tool.specs.Cube.{cube_layers}
-use Rattle.scad_tool.specs.Answer.{Outcome, status_of}
-use Rattle.scad_tool.specs.Run.{Reaches, RunsTo}
-use Rattle.scad_tool.specs.Promises.{HoldsCube}
-use Rattle.scad_tool.proofs.Views.{outlines_made, adds_to, adds_cli}
-use Rattle.scad_tool.proofs.Membership.{outlines_hold_cube}
+-- The script of a cube, piece by piece.
+use Rattle.std.proofs.Common.{◌≡◌, ◌+◌, ◌-◌, ◌*◌, ◌<◌, ◌++◌, List, [], ◌∷◌, ℕ, Ok, refl, sym, ap, ap₂, ◌∙◌, append_assoc}
+use Rattle.std.specs.Prelude.{map, flat_map}
+use Rattle.std.specs.List.{range_with_len}
+use Rattle.std.proofs.lemmas.List.{append-nil}
+use Rattle.std.proofs.lemmas.List.FromFn.{length-map-range_with_len}
+use Rattle.cli_text.specs.Cli.{head, layer_text, geometry_end, cli}
+use Rattle.scad_geom.specs.declared.point.Pt.{Pt}
+use Rattle.scad_geom.specs.Square.{square}
+use Rattle.scad_io.specs.declared.desk.Out.TheVariants.{Report, Cli, Gcode}
+use Rattle.scad_script.specs.Steps.{Sends, text_of}
+use Rattle.scad_script.specs.Script.{Script, Finishes, first, ends, layers}
+use Rattle.scad_script.proofs.Layers.{next_layer, no_layer, layers_text, layers_ending}
+use Rattle.scad_tool.specs.Cube.{layer_height, layer_count, side_length, cube_layer, cube_layers}
+use Rattle.scad_tool.specs.Answer.{done_line, cube_steps, cube_script}
 
-done_outcome : (words : List (List ℕ)) (files : Files) (outcome : Outcome) (old mid new : View) → Reaches words files outcome old mid → Done ≡ status_of outcome → new.cli ≡ mid.cli → HoldsCube words files old new
-done_outcome words files (Ok size) old mid new (names, form, source, draws) same cli = (
-  names,
-  size,
-  cube_layers size,
-  form,
-  source,
-  ap (λ s. s.bytes) cli ∙ adds_to _ old.cli draws.made.cli mid.cli (outlines_made draws.makes).bytes (adds_cli _ false draws.made mid draws.drawn),
-  outlines_hold_cube size,
-)
-done_outcome words files (Err Done) old mid new never same cli = absurd never
-done_outcome words files (Err (Source fault)) old mid new reached same cli = let never : ⊥ = cc in absurd never
-done_outcome words files (Err Usage) old mid new reached same cli = let never : ⊥ = cc in absurd never
-done_outcome words files (Err (Settings fault)) old mid new reached same cli = let never : ⊥ = cc in absurd never
-done_outcome words files (Err Read) old mid new reached same cli = let never : ⊥ = cc in absurd never
-done_outcome words files (Err Write) old mid new reached same cli = let never : ⊥ = cc in absurd never
-done_outcome words files (Err (Over budget)) old mid new reached same cli = let never : ⊥ = cc in absurd never
-done_outcome words files (Err Memory) old mid new reached same cli = let never : ⊥ = cc in absurd never
+-- what follows the layers
+abbrev pub cube_end : ℕ → Script
+cube_end size = first (Sends Cli geometry_end ∷ []) (ends (Finishes (done_line (layer_count size))))
 
-pub holds_cube : (words : List (List ℕ)) (files : Files) (status : Status) (old new : View) → RunsTo words files status old new → status ≡ Done → HoldsCube words files old new
-holds_cube words files status old new runs done =
-    let ran : RunsTo words files Done old new = subst (λ (s : Status). RunsTo words files s old new) done runs in
-    done_outcome words files ran.0 old ran.1 new ran.2 ran.3.0 (ap (λ v. v.cli) ran.3.1)
+-- the layers from one on, and what follows
+abbrev pub layers_from : ℕ → ℕ → Script → Script
+layers_from size i rest = layers (λ k. Ok (cube_steps size k)) i (layer_count size - i) rest
+
+pub next_of_cube : (size i : ℕ) (outlines : List (List Pt)) (rest : Script) → i < layer_count size → outlines ≡ square (side_length size) ∷ [] → layers_from size i rest ≡ first (Sends Cli (layer_text (record { z = layer_height * (i + 1); loops = outlines })) ∷ []) (layers_from size (i + 1) rest)
+next_of_cube size i outlines rest inside same =
+    next_layer (λ k. Ok (cube_steps size k)) i (layer_count size) rest inside
+    ∙ ap (λ os. first (Sends Cli (layer_text (record { z = layer_height * (i + 1); loops = os })) ∷ []) (layers_from size (i + 1) rest)) (sym same)
+
+-- the head, by the number of layers that the code has
+pub cube_begins : (size n : ℕ) → n ≡ layer_count size → cube_script size ≡ first (Sends Cli (head n) ∷ []) (layers (λ k. Ok (cube_steps size k)) 0 (layer_count size) (cube_end size))
+cube_begins size n count =
+    ap (λ k. first (Sends Cli (head k) ∷ []) (layers (λ i. Ok (cube_steps size i)) 0 (layer_count size) (cube_end size))) (sym count)
+
+-- the last line, by the number of layers that the code has
+pub cube_finishes : (size n : ℕ) (line : List ℕ) → n ≡ layer_count size → line ≡ done_line n → ends (Finishes (done_line (layer_count size))) ≡ ends (Finishes line)
+cube_finishes size n line count same = ap (λ text. ends (Finishes text)) (ap done_line (sym count) ∙ sym same)
+
+-- What the script writes.
+
+layers_are : (size : ℕ) (is : List ℕ) → flat_map (λ i. text_of Cli (cube_steps size i)) is ≡ flat_map layer_text (map (cube_layer size) is)
+layers_are size [] = refl
+layers_are size (i ∷ is) = ap₂ (λ a b. a ++ b) (append-nil (layer_text (cube_layer size i))) (layers_are size is)
+
+pub cube_text : (size : ℕ) → text_of Cli (cube_script size).steps ≡ cli (cube_layers size)
+cube_text size =
+    let n = layer_count size in
+    let count = length-map-range_with_len (cube_layer size) 0 n in
+    ap (λ text. head n ++ text)
+    (layers_text Cli (cube_steps size) 0 n (cube_end size)
+    ∙ ap₂ (λ a b. a ++ b) (layers_are size (range_with_len 0 n)) (append-nil geometry_end))
+    ∙ sym (append_assoc (head n) (flat_map layer_text (cube_layers size)) geometry_end)
+    ∙ ap (λ k. (head k ++ flat_map layer_text (cube_layers size)) ++ geometry_end) (sym count)
+
+pub cube_ending : (size : ℕ) → (cube_script size).ending ≡ Finishes (done_line (layer_count size))
+cube_ending size = layers_ending (cube_steps size) 0 (layer_count size) (cube_end size)
+
+-- behind the last layer
+pub after_layers : (size i : ℕ) (rest : Script) → i ≡ layer_count size → layers_from size i rest ≡ rest
+after_layers size i rest last =
+    ap (λ k. layers_from size k rest) last ∙ no_layer (λ k. Ok (cube_steps size k)) (layer_count size) rest

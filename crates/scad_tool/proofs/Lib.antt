@@ -1,10 +1,5 @@
-mod Layers
-mod Loading
-mod Drawing
-mod Views
-mod Judged
-mod Promised
-mod Refusals
-mod Fronts
 mod Membership
 mod Cubes
+mod Orderly
+mod Working
+mod Judged

@@ -1,17 +1,22 @@
--- What a run answers: a function of the words and of what the named files contain.
-use Rattle.std.specs.Prelude.{◌++◌, List, [], ℕ, Option, Some, Result, Ok, Err, nat_lt, length, codes, decimal, option_map, if◌then◌else◌}
-use Rattle.std.specs.Option.{option_map_or, ok_or}
+-- What a run answers: a script of the words and of what was read of the named files.
+use Rattle.std.specs.Prelude.{◌≡◌, ◌++◌, List, [], ◌∷◌, ℕ, Option, Some, None, IfSome, Result, Ok, length, codes, decimal, option_map}
+use Rattle.std.specs.Option.{option_and_then}
 use Rattle.scad_fault.specs.declared.fault.Fault.{Fault}
 use Rattle.scad_fault.specs.declared.fault.FaultKind.TheVariants.{NotBuilt}
 use Rattle.scad_fault.specs.declared.budget.Budget.{Budget}
 use Rattle.scad_fault.specs.declared.budget.BudgetKind.TheVariants.{SourceLong}
-use Rattle.scad_fault.specs.declared.status.Status.{Status}
-use Rattle.scad_fault.specs.declared.status.Status.TheVariants.{Done, Source, Usage, Over}
-use Rattle.scad_fault.specs.Line.{line_of}
-use Rattle.cli_text.specs.Cli.{cli}
-use Rattle.scad_tool.specs.Words.{names_of}
+use Rattle.scad_io.specs.Desk.{Files}
+use Rattle.scad_io.specs.declared.desk.Out.TheVariants.{Cli}
+use Rattle.scad_script.specs.declared.loading.Input.{Input}
+use Rattle.scad_script.specs.declared.loading.Input.TheVariants.{Whole, Long}
+use Rattle.scad_script.specs.declared.refusal.Refusal.TheVariants.{Source, Usage, Over}
+use Rattle.scad_script.specs.Steps.{Step, Reads, Makes, Sends}
+use Rattle.scad_script.specs.Script.{Script, Finishes, Refuses, Lacks, Answer, first, ends, layers, input_of, answer_of}
+use Rattle.scad_script.specs.Names.{Given, nothing_given}
+use Rattle.cli_text.specs.Cli.{head, layer_text, geometry_end}
+use Rattle.scad_tool.specs.Words.{Names, names_of}
 use Rattle.scad_tool.specs.Source.{cube_size}
-use Rattle.scad_tool.specs.Cube.{cube_layers, layer_count}
+use Rattle.scad_tool.specs.Cube.{cube_layer, layer_count}
 
 -- the most bytes that a source may have
 abbrev pub source_limit : ℕ
@@ -25,49 +30,62 @@ not_built = record { kind = NotBuilt; at = record { line = 1; col = 1 }; name = 
 abbrev pub source_long : Budget
 source_long = record { kind = SourceLong; at = record { line = 0; col = 0 }; layer = 0; count = 0 }
 
--- How the work ends, before the report's last line: with the outlines of a cube of so many millimetres, or otherwise.
-abbrev pub Outcome : Type 0
-Outcome = Result ℕ Status
-
--- the outcome for a source
-abbrev pub outcome_of_source : List ℕ → Outcome
-outcome_of_source source =
-    if nat_lt source_limit (length source) then Err (Over source_long)
-    else ok_or (cube_size source) (Source not_built)
-
--- the outcome for words and for what the names contain; there is none where the model is missing
-abbrev pub outcome_of : List (List ℕ) → (List ℕ → Option (List ℕ)) → Option Outcome
-outcome_of words contents =
-    option_map_or (λ names. option_map outcome_of_source (contents names.model)) (names_of words) (Some (Err Usage))
-
--- the status that an outcome is reported by
-abbrev pub status_of : Outcome → Status
-status_of (Ok size) = Done
-status_of (Err status) = status
-
 -- `done: N layers, N loops`
 unfoldable pub done_line : ℕ → List ℕ
 done_line layers = codes "done: " ++ decimal layers ++ codes " layers, " ++ decimal layers ++ codes " loops\n"
 
--- the line that reports an outcome
-abbrev pub line_for : Outcome → List ℕ
-line_for (Ok size) = done_line (layer_count size)
-line_for (Err status) = line_of status
+-- layer i of a cube of so many millimetres is written at once
+abbrev pub cube_steps : ℕ → ℕ → List Step
+cube_steps size i = Sends Cli (layer_text (cube_layer size i)) ∷ []
 
--- the outlines that an outcome leaves
-abbrev pub outlines_for : Outcome → List ℕ
-outlines_for (Ok size) = cli (cube_layers size)
-outlines_for (Err status) = []
+-- the outlines of a cube: the head, the layers from the lowest upwards, the end
+abbrev pub cube_script : ℕ → Script
+cube_script size =
+    first (Sends Cli (head (layer_count size)) ∷ [])
+    (layers (λ i. Ok (cube_steps size i)) 0 (layer_count size)
+    (first (Sends Cli geometry_end ∷ []) (ends (Finishes (done_line (layer_count size))))))
 
--- a whole answer: the status, and the bytes that go to the report and to the outlines
-pub record Answer : Type 0 where
-  pub status : Status
-  pub report : List ℕ
-  pub cli : List ℕ
+-- what follows a source with a cube of this size, if it is of the form; the outlines have this name
+abbrev pub source_script : List ℕ → Option ℕ → Script
+source_script cli None = ends (Refuses (Source not_built))
+source_script cli (Some size) = first (Makes Cli cli ∷ []) (cube_script size)
 
-abbrev pub answer_for : Outcome → Answer
-answer_for outcome = record { status = status_of outcome; report = line_for outcome; cli = outlines_for outcome }
+-- what follows what was read of the model, if it is there
+abbrev pub input_script : List ℕ → Option Input → Script
+input_script cli None = ends Lacks
+input_script cli (Some Long) = ends (Refuses (Over source_long))
+input_script cli (Some (Whole source)) = source_script cli (cube_size source)
 
--- the whole answer for words and for what the names contain
+-- the script for the names that the words give, if they are of the form
+abbrev pub names_script : Option Names → Option Input → Script
+names_script None input = ends (Refuses Usage)
+names_script (Some names) input = first (Reads names.model ∷ []) (input_script names.cli input)
+
+-- the script of the words and of what was read of the model
+abbrev pub script_of : List (List ℕ) → Option Input → Script
+script_of words input = names_script (names_of words) input
+
+-- what is read of the model that the words name
+abbrev pub read_of : List (List ℕ) → (List ℕ → Option (List ℕ)) → Option Input
+read_of words contents =
+    option_and_then (λ names. option_map (input_of (Some source_limit)) (contents names.model)) (names_of words)
+
+-- this was read of the model, where the contents are told
+abbrev pub IsRead : List (List ℕ) → Files → Option Input → Type 0
+IsRead words files input = IfSome files (λ contents. input ≡ read_of words contents)
+
+-- the script of the words, with what was read of the model, has this property
+abbrev pub OnScript : List (List ℕ) → Files → (Script → Type 0) → Type 0
+OnScript words files Holds = (input : Option Input) × IsRead words files input × Holds (script_of words input)
+
+-- the whole answer for words and for what the names contain; there is none where the model is missing
 abbrev pub answer : List (List ℕ) → (List ℕ → Option (List ℕ)) → Option Answer
-answer words contents = option_map answer_for (outcome_of words contents)
+answer words contents = answer_of (script_of words (read_of words contents))
+
+-- the names that the words give
+abbrev pub given_of : Option Names → Given
+given_of None = nothing_given
+given_of (Some names) = record { input = names.model ∷ []; cli = Some names.cli; gcode = None }
+
+abbrev pub given_by : List (List ℕ) → Given
+given_by words = given_of (names_of words)

@@ -2,5 +2,4 @@ pub mod Words
 pub mod Source
 pub mod Cube
 pub mod Answer
-pub mod Run
 pub mod Promises

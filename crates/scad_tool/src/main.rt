@@ -2,11 +2,8 @@
 #![tactic(auto)]
 
 mod cube;
-mod input;
-mod report;
 mod run;
 mod source;
-mod stop;
 #[cfg(test)]
 mod tests;
 mod words;

@@ -1,45 +1,61 @@
 //! The work of a command, up to the report's last line.
-ghost use Rattle.std.specs.Prelude.{◌≡◌, ◌<◌, ◌≤◌, true, false, map, string_bytes, IfOk, IsErrOf};
-ghost use Rattle.scad_tool.specs.Run.{Reaches};
+ghost use Rattle.std.specs.Prelude.{◌≡◌, ◌<◌, ◌≤◌, false, Some, map, string_bytes};
+ghost use Rattle.scad_script.specs.Played.{Completes, EndsIn, HasRisen};
+ghost use Rattle.scad_script.specs.Run.{Sound};
+ghost use Rattle.scad_tool.specs.Answer.{input_script, OnScript};
 
 use crate::cube::draw_cube;
-use crate::input::load;
 use crate::source::read_cube;
-use crate::stop::Stop;
 use crate::words::read_words;
-use scad_fault::{Fault, FaultKind, Place, Status};
+use scad_fault::{Budget, Fault, FaultKind, Place, Text};
 use scad_io::{Desk, Out};
+use scad_script::{Input, Refusal, Stop, load, make};
 use std::alloc::Global;
 
-/// Reads the words and the source, and writes the outlines: the size of the cube, in millimetres, or the status.
-pub fn work<D: Desk>(alloc: Global, words: &[String], desk: &mut D) -> Result<u32, Status>
-    requires input { (D.view desk.old).input.failed ≡ false }
-    requires cli { (D.view desk.old).cli.failed ≡ false }
+/// The most bytes that a source may have.
+const SOURCE_LIMIT: usize = 4_194_304;
+
+/// Reads the words and the source, and writes the outlines: the last line, or why it stopped.
+pub fn work<D: Desk>(alloc: Global, words: &[String], desk: &mut D) -> Result<Text, Stop>
+    requires sound { Sound (D.view desk.old) }
     requires absent { (D.view desk.old).cli.created ≡ false }
 
-    ensures reaches { Reaches (map string_bytes words.now) (D.files desk.old) result (D.view desk.old) (D.view desk.new) }
-    ensures size { IfOk result (λ size. size ≤ 1000) }
+    ensures plays { OnScript (map string_bytes words.now) (D.files desk.old)
+        (λ whole. EndsIn whole result (D.view desk.old) (D.view desk.new)) }
     ensures files { D.files desk.new ≡ D.files desk.old }
     ensures later { D.faults desk.old ≤ D.faults desk.new }
-    ensures read { IsErrOf result Status.Read → D.faults desk.old < D.faults desk.new }
-    ensures write { IsErrOf result Status.Write → D.faults desk.old < D.faults desk.new }
+    ensures cause { HasRisen result (D.faults desk.old) (D.faults desk.new) }
 {
     let Some(names) = read_words(words) else {
-        return Err(Status::Usage);
+        return Err(Stop::Ends(Refusal::Usage));
     };
-    let source = match load(alloc, names.model, desk) {
-        Ok(source) => source,
-        Err(status) => return Err(status),
+    match load(alloc, names.model, Some(SOURCE_LIMIT), desk) {
+        Ok(input) => slice(alloc, names.cli, input, desk),
+        Err(stop) => Err(stop),
+    }
+}
+
+/// Judges what was read, and writes the outlines.
+fn slice<D: Desk>(alloc: Global, cli: &str, input: Input, desk: &mut D) -> Result<Text, Stop>
+    requires sound { Sound (D.view desk.old) }
+    requires absent { (D.view desk.old).cli.created ≡ false }
+
+    ensures completes { Completes (input_script cli.now (Some input))
+        result (D.view desk.old) (D.view desk.new) }
+    ensures files { D.files desk.new ≡ D.files desk.old }
+    ensures later { D.faults desk.old ≤ D.faults desk.new }
+    ensures cause { HasRisen result (D.faults desk.old) (D.faults desk.new) }
+{
+    let source = match input {
+        Input::Whole(source) => source,
+        Input::Long => return Err(Stop::Ends(Refusal::Over(Budget::source_long()))),
     };
     let Some(size) = read_cube(source.as_slice()) else {
-        return Err(Status::Source(Fault::unnamed(alloc, FaultKind::NotBuilt, Place::START)));
+        let fault = Fault::unnamed(alloc, FaultKind::NotBuilt, Place::START);
+        return Err(Stop::Ends(Refusal::Source(fault)));
     };
-    if desk.create(Out::Cli, names.cli).is_err() {
-        return Err(Status::Write);
-    }
-    match draw_cube(alloc, size, desk) {
-        Ok(()) => Ok(size),
-        Err(Stop::Write) => Err(Status::Write),
-        Err(Stop::Memory) => Err(Status::Memory),
+    match make(desk, Out::Cli, cli) {
+        Ok(()) => draw_cube(alloc, size, desk),
+        Err(stop) => Err(stop),
     }
 }

@@ -1,21 +1,34 @@
-use Rattle.scad_io.proofs.Sent.{goes_on}
-use Rattle.scad_tool.proofs.Drawing.{cube_begun, cube_stops_first, stops_in, ends_in}
+use Rattle.std.proofs.Common.{rules}
+use Rattle.scad_script.proofs.Layers.{as_left}
+use Rattle.scad_tool.proofs.Cubes.{cube_begins, cube_finishes}
 use Rattle.scad_tool.proofs.cube.draw_cube.Goals as goal
 
-pub returns-in-Err-clause-draws : goal.returns-in-Err-clause-draws
-returns-in-Err-clause-draws g c = cube_stops_first _ c.requires.sound
+pub returns-in-Err-draw_head-clause-completes : goal.returns-in-Err-draw_head-clause-completes
+returns-in-Err-draw_head-clause-completes g c whole start left =
+    c.in-Err-draw_head.ensures.carries whole _ start (as_left (cube_begins c.args.size c.layers_of.result c.layers_of.ensures) left)
 
-pub returns-in-Err-draw_head-clause-draws : goal.returns-in-Err-draw_head-clause-draws
-returns-in-Err-draw_head-clause-draws g c =
-    stops_in _ _ _ c.in-Err-draw_head.stop (cube_begun c.args.size c.layers_of.result c.layers_of.ensures c.requires.sound) c.in-Err-draw_head.ensures.draws
+pub returns-in-Err-draw_layers-clause-completes : goal.returns-in-Err-draw_layers-clause-completes
+returns-in-Err-draw_layers-clause-completes g c whole start left =
+    c.in-Err-draw_layers.ensures.carries whole _ start
+    (c.in-Ok-draw_head.ensures.carries whole _ start (as_left (cube_begins c.args.size c.layers_of.result c.layers_of.ensures) left))
 
-pub returns-in-Err-draw_layers-clause-draws : goal.returns-in-Err-draw_layers-clause-draws
-returns-in-Err-draw_layers-clause-draws g c =
-    let headed = goes_on _ _ (cube_begun c.args.size c.layers_of.result c.layers_of.ensures c.requires.sound) c.in-Ok-draw_head.ensures.draws in
-    stops_in _ _ _ c.in-Err-draw_layers.stop headed c.in-Err-draw_layers.ensures.draws
+pub returns-in-Err-draw_end-clause-completes : goal.returns-in-Err-draw_end-clause-completes
+returns-in-Err-draw_end-clause-completes g c whole start left =
+    c.in-Err-draw_end.ensures.carries whole _ start
+    (c.in-Ok-draw_layers.ensures.carries whole _ start
+    (c.in-Ok-draw_head.ensures.carries whole _ start (as_left (cube_begins c.args.size c.layers_of.result c.layers_of.ensures) left)))
 
-pub returns-clause-draws : goal.returns-clause-draws
-returns-clause-draws g c =
-    let headed = goes_on _ _ (cube_begun c.args.size c.layers_of.result c.layers_of.ensures c.requires.sound) c.in-Ok-draw_head.ensures.draws in
-    let drawn = goes_on _ _ headed c.in-Ok-draw_layers.ensures.draws in
-    ends_in _ _ c.draw_end.result drawn c.draw_end.ensures.draws
+pub returns-in-Ok-done_line-clause-completes : goal.returns-in-Ok-done_line-clause-completes
+returns-in-Ok-done_line-clause-completes g c whole start left =
+    as_left (search rules)
+    (c.in-Ok-draw_end.ensures.carries whole _ start
+    (c.in-Ok-draw_layers.ensures.carries whole _ start
+    (c.in-Ok-draw_head.ensures.carries whole _ start (as_left (cube_begins c.args.size c.layers_of.result c.layers_of.ensures) left))))
+
+pub returns-clause-completes : goal.returns-clause-completes
+returns-clause-completes g c whole start left = (
+  _,
+  c.in-Ok-draw_end.ensures.carries whole _ start
+      (c.in-Ok-draw_layers.ensures.carries whole _ start
+      (c.in-Ok-draw_head.ensures.carries whole _ start (as_left (cube_begins c.args.size c.layers_of.result c.layers_of.ensures) left))),
+)

@@ -1,19 +1,27 @@
-use Rattle.std.proofs.Common.{rules, ◌<◌}
+use Rattle.std.proofs.Common.{rules, ◌<◌, ◌≡◌}
+use Rattle.scad_script.proofs.Layers.{as_left, no_layer}
 use Rattle.scad_tool.specs.Cube.{layer_count}
-use Rattle.scad_tool.proofs.Layers.{layer_goes_on, layer_stops}
+use Rattle.scad_tool.proofs.Cubes.{next_of_cube, after_layers}
 use Rattle.scad_tool.proofs.cube.draw_layers.Goals as goal
 
-pub returns-in-Err-clause-draws : goal.returns-in-Err-clause-draws
-returns-in-Err-clause-draws g c =
+pub returns-in-Err-clause-carries : goal.returns-in-Err-clause-carries
+returns-in-Err-clause-carries g c whole rest start left =
     let inside : c.layers.layer < layer_count c.args.size = search rules in
-    layer_stops c.args.size c.layers.layer _ c.in-Err.stop inside c.requires.outlines c.layers.invariant.0 c.in-Err.ensures.draws
+    c.in-Err.ensures.carries whole _ start
+    (as_left (next_of_cube c.args.size c.layers.layer _ rest inside c.requires.outlines) (c.layers.invariant.0 whole rest start left))
 
 pub layers-preserved : goal.layers-preserved
 layers-preserved g c =
     let inside : c.layers.layer < layer_count c.args.size = search rules in (
-      layer_goes_on c.args.size c.layers.layer inside c.requires.outlines c.layers.invariant.0 c.in-Ok.ensures.draws,
+      (λ whole rest start left. c.in-Ok.ensures.carries whole _ start
+          (as_left (next_of_cube c.args.size c.layers.layer _ rest inside c.requires.outlines) (c.layers.invariant.0 whole rest start left))),
       search rules,
       search rules,
       search rules,
       search rules,
     )
+
+pub returns-clause-carries : goal.returns-clause-carries
+returns-clause-carries g c whole rest start left =
+    let last : c.layers.layer ≡ layer_count c.args.size = search rules in
+    as_left (after_layers c.args.size c.layers.layer rest last) (c.layers.invariant.0 whole rest start left)

@@ -1,0 +1,5 @@
+use Rattle.scad_script.proofs.Created as lemma
+use Rattle.scad_script.proofs.laws.created_for_bytes.Goals as goal
+
+pub returns : goal.returns
+returns c = lemma.created_for_bytes

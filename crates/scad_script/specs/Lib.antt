@@ -1,0 +1,7 @@
+pub mod Steps
+pub mod Script
+pub mod Names
+pub mod Played
+pub mod Run
+pub mod Promises
+pub mod Laws
