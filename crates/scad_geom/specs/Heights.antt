@@ -5,10 +5,6 @@ use Rattle.scad_geom.specs.declared.level.Level.{Level}
 use Rattle.scad_geom.specs.declared.level.LeafEdge.{LeafEdge}
 use Rattle.scad_geom.specs.Level.{level_of, IsLower, IsAtMost}
 use Rattle.scad_geom.specs.Meeting.{meets, meeting}
-pub use Rattle.scad_geom.specs.Level.{level_of, IsLower, IsAtMost, IsSameHeight, IsLevelWithin}
-pub use Rattle.scad_geom.specs.Meeting.{straddles, meets, meeting}
-pub use Rattle.scad_geom.specs.EdgeOrder.{IsBefore, AreAligned}
-pub use Rattle.scad_geom.specs.Sign.{sign_of}
 
 -- the heights at which an edge meets those of a list that aren't parallel to it
 abbrev pub meetings : Edge → List LeafEdge → List Level

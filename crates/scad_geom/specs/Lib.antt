@@ -18,4 +18,3 @@ pub mod EdgeOrder
 pub mod Shape
 pub mod Rounding
 pub mod Square
-pub mod Around

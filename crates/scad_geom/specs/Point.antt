@@ -2,7 +2,6 @@
 use Rattle.std.specs.Prelude.{Bool, ◌&&◌, ℤ, pos, ◌*ℤ◌}
 use Rattle.std.specs.Ordering.{int_eq}
 use Rattle.scad_geom.specs.declared.point.Pt.{Pt}
-pub use Rattle.scad_geom.specs.Within.{IsWithin, IsEdgeWithin}
 
 -- the point (x / d, y / d), with d above 0
 pub record Point : Type 0 where

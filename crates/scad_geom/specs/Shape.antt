@@ -7,7 +7,6 @@ use Rattle.scad_geom.specs.Segment.{segments}
 use Rattle.scad_geom.specs.Winding.{wind_by}
 use Rattle.scad_geom.specs.Leaves.{edges_of}
 use Rattle.scad_geom.specs.Sign.{is_zero}
-pub use Rattle.scad_geom.specs.Sign.{is_zero}
 
 -- whether a shape holds a point that is inside these leaves. A union holds it where some member does, an intersection
 -- where it has members and all do, a difference where the first does and none of the rest
