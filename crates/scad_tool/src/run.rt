@@ -27,7 +27,8 @@ pub fn run<R: Threads + Sync, D: Desk, G: Gate>(
     requires ready { IsReady (D.view desk.old) }
 
     // The run plays the script of the words and of what was read of the model, to its end or until it
-    // stops, and then tries the last line. The clauses below follow from this one.
+    // stops, and then tries the last line. The clauses below follow from this one. It says what the desk
+    // shows, not how many calls were made.
     ensures runs { OnScript (map string_bytes words.now) (D.files desk.old)
         (λ whole. RunsTo whole result (D.view desk.old) (D.view desk.new)) }
 
@@ -49,7 +50,8 @@ pub fn run<R: Threads + Sync, D: Desk, G: Gate>(
         (λ whole. IsMemoryLine whole (D.view desk.old) (D.view desk.new)) }
     ensures failed_report { FailedReportIsWrite result (D.view desk.new) }
 
-    // Every file is a front of the answer's, and none is created in vain.
+    // Both files are fronts of the answer's bytes, at every status; at the statuses 0 to 4 and 6 none is
+    // created that gets no bytes.
     ensures front { OnScript (map string_bytes words.now) (D.files desk.old)
         (λ whole. AreFronts whole (D.view desk.old) (D.view desk.new)) }
     ensures created { CreatesForBytes result (D.view desk.old) (D.view desk.new) }

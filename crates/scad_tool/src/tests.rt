@@ -202,6 +202,8 @@ fn done_but_for<R: Threads + Sync + Abort>(
         return Ok(true);
     }
     assert!(rt; answer.faults == 1);
+    // The first three calls are those on the input.
+    assert!(rt; (answer.code == 4) == (call < 3), "call {call}");
     match answer.code {
         4 => expect(rt, &answer, 4, "read fault\n", "reading"),
         // The report's own call is the last one.
@@ -213,6 +215,7 @@ fn done_but_for<R: Threads + Sync + Abort>(
     Ok(false)
 }
 
+/// The input is opened once and read to its end once, and each piece goes out by one write.
 #[test]
 fn each_call_failing_in_turn(rt: HostRuntime) -> Result<(), Fail> {
     let alloc = rt.alloc();
