@@ -176,6 +176,22 @@ module _ (below : Below) where
       loop_turns n at test steps body env along next now)
         else pure so_far)
 
+  -- ---- operands
+  -- the boolean of an expression's truth
+  unfoldable pub truth_of : Env → Env → Expression → Action Datum
+  truth_of env along e = do
+    d ← below.value env along e
+    pure (boolean (truth d))
+
+  -- the right side of `||` isn't evaluated where the left is true, that of `&&` where it is false; any other operator takes
+  -- both operands
+  unfoldable pub right_side : Env → Env → Place → BinOp → Datum → Expression → Action Datum
+  right_side env along at Or d b = if truth d then pure (boolean true) else truth_of env along b
+  right_side env along at And d b = if truth d then truth_of env along b else pure (boolean false)
+  right_side env along at o d b = do
+    e ← below.value env along b
+    operated at (op o d e)
+
   -- ---- one rule for each kind of expression
   unfoldable pub node : Env → Env → Expression → Action Datum
   -- a literal is its value
@@ -204,23 +220,10 @@ module _ (below : Below) where
   node env along (unary_at at o a) = do
     d ← below.value env along a
     make at (unary_op o d)
-  -- the right side of `||` isn't evaluated where the left is true, that of `&&` where it is false
-  node env along (binary_at at Or a b) = do
-    d ← below.value env along a
-    (if truth d then pure (boolean true) else (do
-      e ← below.value env along b
-      pure (boolean (truth e))))
-  node env along (binary_at at And a b) = do
-    d ← below.value env along a
-    (if truth d then (do
-      e ← below.value env along b
-      pure (boolean (truth e)))
-        else pure (boolean false))
-  -- the left operand, the right one, and then the operator
+  -- the left operand, and then the right side
   node env along (binary_at at o a b) = do
     d ← below.value env along a
-    e ← below.value env along b
-    operated at (op o d e)
+    right_side env along at o d b
   -- the test, and then the chosen side alone
   node env along (choose_at at test a b) = do
     d ← below.value env along test
