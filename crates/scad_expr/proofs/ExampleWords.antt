@@ -1,5 +1,5 @@
 -- How the worked examples are written.
-use Rattle.std.proofs.Common.{ℕ, List, [], Option, Some, refl}
+use Rattle.std.proofs.Common.{ℕ, List, [], Option, Some}
 use Rattle.std.specs.Prelude.{encode_utf8_all, map}
 use Rattle.scad_fault.specs.declared.place.Place.{Place}
 use Rattle.scad_fault.specs.declared.fault.FaultKind.{FaultKind}

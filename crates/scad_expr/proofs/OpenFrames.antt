@@ -1,10 +1,10 @@
 -- What names mean in frames that were opened.
-use Rattle.std.proofs.Common.{◌≡◌, ◌≢◌, ℕ, ◌+◌, ◌-◌, ◌<◌, Bool, true, false, List, [], ◌∷◌, ◌++◌, length, take, get_or, set, Option, Some, None, if◌then◌else◌, refl, sym, ap, ap₂, ◌∙◌, arith}
+use Rattle.std.proofs.Common.{◌≡◌, ◌≢◌, ℕ, ◌-◌, ◌<◌, Bool, true, false, List, [], ◌∷◌, ◌++◌, length, get_or, set, Some, None, if◌then◌else◌, refl, sym, ap, ap₂, ◌∙◌, arith}
 use Rattle.std.proofs.lemmas.List.{length-append, take_at, get_or_append_left}
 use Rattle.std.proofs.Math.Seq.{get_or-append_seam}
 use Rattle.scad_value.specs.Datum.{Datum}
 use Rattle.scad_scope.specs.Names.{with_name}
-use Rattle.scad_scope.specs.Env.{Env, outside}
+use Rattle.scad_scope.specs.Env.{outside}
 use Rattle.scad_scope.specs.Stored.{Stored, pushed, with_name_in, with_name_in_last, env_at, env_round, env_of, envs}
 use Rattle.scad_scope.proofs.Outwards.{envs-push, length-envs}
 use Rattle.scad_expr.specs.Machine.{Held, env_in, along_in}

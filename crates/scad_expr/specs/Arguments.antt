@@ -1,9 +1,9 @@
 -- Which parameter takes which argument (OpenSCAD User Manual, "Function Literals", "User-Defined Functions and Modules").
-use Rattle.std.specs.Prelude.{ℕ, ◌+◌, ◌*◌, ◌||◌, ℤ, pos, Bool, true, false, min, List, [], ◌∷◌, Option, Some, None, slice_get, fold, is_some, if◌then◌else◌, codes}
-use Rattle.scad_ast.specs.Tree.{Expression, Parameter, Arguments, no_arguments, argument, Items, no_items, entry, Item, call_of, choice}
-use Rattle.scad_value.specs.Datum.{Datum, undef, number}
+use Rattle.std.specs.Prelude.{ℕ, ◌+◌, ◌*◌, ◌||◌, pos, Bool, true, false, min, List, [], ◌∷◌, Option, Some, None, slice_get, is_some, if◌then◌else◌, codes}
+use Rattle.scad_ast.specs.Tree.{Arguments, no_arguments, argument, Items, no_items, entry, Item, call_of, choice}
+use Rattle.scad_value.specs.Datum.{Datum, number}
 use Rattle.scad_scope.specs.Names.{Names, is_same_name, value_of_name, with_name}
-use Rattle.scad_scope.specs.Env.{Env, inside, frame, Children, no_children, children}
+use Rattle.scad_scope.specs.Env.{Children, no_children, children}
 use Rattle.scad_expr.specs.Variables.{is_dollar, Bound, set}
 
 abbrev pub is_parameter : List ℕ → List (List ℕ) → Bool

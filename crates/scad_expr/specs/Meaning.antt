@@ -2,13 +2,12 @@
 -- budget. One rule for each kind of node, in the order of the syntax tree. `env` are the frames of the place where the node
 -- stands, `along` those of the `$` names along the calls. What a node holds stands one deeper than the node, and `below` says what is
 -- given there.
-use Rattle.std.specs.Prelude.{ℕ, zero, suc, ℤ, pos, ◌==◌, ◌||◌, Bool, true, false, not, List, [], ◌∷◌, ◌++◌, Option, Some, None, Result, Ok, Err, map, if◌then◌else◌, codes}
+use Rattle.std.specs.Prelude.{ℕ, zero, suc, pos, true, false, List, [], ◌∷◌, ◌++◌, Option, Some, None, Result, Ok, Err, map, if◌then◌else◌, codes}
 use Rattle.std.specs.List.{flat_map}
 use Rattle.std.specs.Ordering.{int_eq}
 use Rattle.scad_fault.specs.declared.place.Place.{Place}
 use Rattle.scad_fault.specs.declared.fault.FaultKind.TheVariants.{LeftOut as IsLeftOut, UnknownFunction as IsUnknown, BadArgument as IsBadArgument, ZeroDivisor as IsZeroDivisor, NumberRange as IsNumberRange, AssertFailed, ZeroStep}
 use Rattle.scad_fault.specs.declared.budget.BudgetKind.TheVariants.{Steps, Depth}
-use Rattle.scad_ast.specs.declared.operator.UnOp.{UnOp}
 use Rattle.scad_ast.specs.declared.operator.BinOp.{BinOp}
 use Rattle.scad_ast.specs.declared.operator.BinOp.TheVariants.{Or, And}
 use Rattle.scad_ast.specs.Tree.{Expression, Arguments, no_arguments, argument, Elements, no_elements, element, Element, item, each, for_each, for_loop, let_element, if_element, if_else, Parameter}
@@ -23,12 +22,12 @@ use Rattle.scad_builtin.specs.Builtin.{builtin}
 use Rattle.scad_builtin.specs.declared.fault.BuiltinFault.{BuiltinFault}
 use Rattle.scad_builtin.specs.declared.fault.BuiltinFault.TheVariants.{UnknownFunction, LeftOut, BadArgument, ZeroDivisor, NumberRange, Memory}
 use Rattle.scad_scope.specs.Names.{Names, is_same_name, value_of_name}
-use Rattle.scad_scope.specs.Env.{Env, inside, frame, Children, no_children}
+use Rattle.scad_scope.specs.Env.{Env, inside, frame, Children}
 use Rattle.scad_expr.specs.declared.fault.EvalFault.TheVariants.{Memory as WantOfMemory}
-use Rattle.scad_expr.specs.State.{State, step_limit, Outcome, Action, and_then, pure, ◌>>=◌, ◌>>◌, refuse, fault, fault_of, over, take, step, make, say}
+use Rattle.scad_expr.specs.State.{step_limit, Action, pure, ◌>>=◌, ◌>>◌, refuse, fault, fault_of, over, step, make, say}
 use Rattle.scad_expr.specs.Places.{place, element_place}
 use Rattle.scad_expr.specs.Variables.{variable, Bound, set, empty, within}
-use Rattle.scad_expr.specs.Functions.{Function, Found, function_named}
+use Rattle.scad_expr.specs.Functions.{Found, function_named}
 use Rattle.scad_expr.specs.Runs.{items, as_elements, range_of_ends}
 use Rattle.scad_expr.specs.Arguments.{given, set_all, is_given, are_named, is_none, with_children}
 use Rattle.scad_expr.specs.Printed.{echo_line}

@@ -1,5 +1,5 @@
 -- Ranges, and what `for` and `each` run over (OpenSCAD User Manual, "Ranges", "For Loop", "List Comprehensions").
-use Rattle.std.specs.Prelude.{ℕ, zero, suc, ◌+◌, ℤ, pos, negsuc, ◌+ℤ◌, ◌-ℤ◌, int_lt, int_div, unsigned_abs, Bool, List, [], ◌∷◌, map, if◌then◌else◌}
+use Rattle.std.specs.Prelude.{ℕ, zero, suc, ◌+◌, ℤ, pos, ◌+ℤ◌, ◌-ℤ◌, int_lt, int_div, unsigned_abs, List, [], ◌∷◌, map, if◌then◌else◌}
 use Rattle.scad_value.specs.Datum.{Datum, undef, boolean, number, string, vector, range, Elements, no_elements, element}
 
 -- so many numbers from the first one on, each a step after the one before

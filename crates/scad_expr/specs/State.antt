@@ -1,5 +1,5 @@
 -- What evaluation counts and writes as it goes: its state, and actions that take a state to another one.
-use Rattle.std.specs.Prelude.{ℕ, ◌+◌, ◌++◌, nat_lt, if◌then◌else◌, List, [], ◌∷◌, Option, Some, None, length, encode_utf8_all}
+use Rattle.std.specs.Prelude.{ℕ, ◌+◌, ◌++◌, nat_lt, if◌then◌else◌, List, [], ◌∷◌, length, encode_utf8_all}
 use Rattle.scad_fault.specs.declared.place.Place.{Place}
 use Rattle.scad_fault.specs.declared.fault.FaultKind.{FaultKind}
 use Rattle.scad_fault.specs.declared.budget.BudgetKind.{BudgetKind}

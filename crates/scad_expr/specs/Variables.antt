@@ -1,5 +1,5 @@
 -- Variables (OpenSCAD User Manual, "Variables", "Scope of variables", "Special variables").
-use Rattle.std.specs.Prelude.{ℕ, ◌==◌, ℤ, pos, Bool, true, false, List, [], ◌∷◌, Option, Some, None, if◌then◌else◌, codes}
+use Rattle.std.specs.Prelude.{ℕ, ◌==◌, pos, Bool, false, List, [], ◌∷◌, Option, Some, None, if◌then◌else◌, codes}
 use Rattle.scad_value.specs.Datum.{Datum, undef, boolean, number}
 use Rattle.scad_scope.specs.Names.{Names, with_name}
 use Rattle.scad_scope.specs.Env.{Env, outside, inside, frame, no_children, sought}

@@ -7,7 +7,7 @@ use Rattle.indexmap.specs.IndexMap.{insert_entry}
 use Rattle.scad_ast.specs.Tree.{Items}
 use Rattle.scad_scope.specs.declared.binding.Binding.{Binding}
 use Rattle.scad_scope.specs.Names.{is_same_name}
-use Rattle.scad_scope.specs.Noted.{Places, with_place, noted, noted_all, placed, as_binding}
+use Rattle.scad_scope.specs.Noted.{Places, with_place, noted_all, placed, as_binding}
 use Rattle.scad_scope.specs.Assigned.{assigned_by, differs_from, first_assigned, last_place, binding, bindings}
 
 abbrev has : List ℕ → Places → Bool

@@ -1,20 +1,19 @@
 -- Frames in memory and the environments that they stand for.
-use Rattle.std.proofs.Common.{◌≡◌, ◌≢◌, ℕ, ◌+◌, ◌-◌, ◌<◌, ◌≤◌, Bool, true, false, cond, List, [], ◌∷◌, ◌++◌, map, length, take, drop, get_or, set, Option, Some, None, option_map, if◌then◌else◌, Vec, Global, vec_len, Result, Ok, Err, OnOk, OnErr, Bor, refl, sym, ap, ap₂, ◌∙◌, append_assoc, arith, rules}
+use Rattle.std.proofs.Common.{◌≡◌, ℕ, ◌+◌, ◌-◌, ◌<◌, ◌≤◌, Bool, true, false, List, [], ◌∷◌, ◌++◌, map, length, take, drop, get_or, set, Option, Some, None, option_map, if◌then◌else◌, Vec, Global, Result, Ok, Err, OnOk, OnErr, Bor, refl, sym, ap, ◌∙◌, append_assoc, arith}
 use Rattle.std.specs.Prelude.{nat_eq, option_copied}
 use Rattle.std.specs.Cmp.Lexicographic.{pointwise}
 use Rattle.std.proofs.lemmas.List.{map-append, map-set, take-map, length-map, get_or-take, get_or_past, get_or-map, set-get_or, drop_more, length-append, length-take, length-take-le, take-append-drop, take_at}
 use Rattle.std.proofs.Math.Seq.{get_or-append_seam}
 use Rattle.std.specs.Map.{lookup}
 use Rattle.scad_value.specs.Datum.{Datum}
-use Rattle.indexmap.specs.IndexMap.{insert_entry, IndexMap, get_by}
+use Rattle.indexmap.specs.IndexMap.{insert_entry}
 use Rattle.scad_value.specs.declared.value.Value.{Value}
 use Rattle.scad_value.specs.View.{datum_of}
 use Rattle.scad_scope.specs.declared.frame.Frame.{Frame}
-use Rattle.scad_scope.specs.declared.frames.Frames.{Frames}
-use Rattle.scad_scope.specs.Names.{is_same_name, Names, value_of_name, with_name}
-use Rattle.scad_scope.specs.Env.{Env, outside, inside, sought, or_else}
+use Rattle.scad_scope.specs.Names.{value_of_name, with_name}
+use Rattle.scad_scope.specs.Env.{Env, outside, sought, or_else}
 use Rattle.scad_scope.specs.Stored.{Stored, pushed, stored_at, with_name_in, with_name_in_last, env_at, env_round, env_of, envs_onto, envs}
-use Rattle.scad_scope.specs.View.{named, frame_stored, stored}
+use Rattle.scad_scope.specs.View.{named, frame_stored}
 
 -- ---- names in memory
 abbrev same_key : Vec ℕ Global → Vec ℕ Global → Bool

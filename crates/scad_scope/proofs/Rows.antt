@@ -1,8 +1,7 @@
 -- The items of a scope are those of the list that holds them.
-use Rattle.std.proofs.Common.{◌≡◌, ℕ, ◌+◌, ◌<◌, ◌≤◌, List, [], ◌∷◌, Option, length, get_or, drop, refl, ap, ◌∙◌, sym, arith, subst}
+use Rattle.std.proofs.Common.{◌≡◌, ℕ, ◌+◌, ◌<◌, ◌≤◌, List, [], ◌∷◌, Option, length, get_or, drop, ap, ◌∙◌, sym}
 use Rattle.std.proofs.lemmas.List.{drop_more, drop_all}
 use Rattle.scad_ast.specs.declared.statement.Item.{Item}
-use Rattle.scad_ast.specs.Tree.{Items, no_items, entry}
 use Rattle.scad_ast.specs.Scope.{item_of, items}
 use Rattle.scad_scope.specs.Assigned.{assigned, assigned_by}
 

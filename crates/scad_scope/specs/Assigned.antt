@@ -1,6 +1,6 @@
 -- The variables of a scope (OpenSCAD User Manual, "Variables", "Scope of variables"): in one scope the last assignment to a
 -- name gives its value.
-use Rattle.std.specs.Prelude.{ℕ, zero, suc, ◌+◌, Bool, not, List, [], ◌∷◌, filter, map, Option, Some, None, if◌then◌else◌}
+use Rattle.std.specs.Prelude.{ℕ, ◌+◌, Bool, not, List, [], ◌∷◌, filter, map, Option, Some, None, if◌then◌else◌}
 use Rattle.scad_ast.specs.Tree.{Item, assignment, Items, no_items, entry}
 use Rattle.scad_scope.specs.declared.binding.Binding.{Binding}
 use Rattle.scad_scope.specs.Names.{is_same_name}

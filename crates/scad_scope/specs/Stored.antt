@@ -3,7 +3,7 @@ use Rattle.std.specs.Prelude.{ℕ, ◌-◌, List, [], ◌∷◌, ◌++◌, lengt
 use Rattle.scad_ast.specs.Tree.{Items}
 use Rattle.scad_value.specs.Datum.{Datum}
 use Rattle.scad_scope.specs.Names.{Names, with_name}
-use Rattle.scad_scope.specs.Env.{Env, outside, inside, Frame, frame, Children, no_children, children}
+use Rattle.scad_scope.specs.Env.{Env, outside, inside, frame, Children, no_children, children}
 
 -- the children of a call, with the number of the frame where they are written
 pub record StoredChildren : Type 0 where

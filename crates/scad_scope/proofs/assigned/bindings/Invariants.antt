@@ -1,6 +1,4 @@
 use Rattle.std.proofs.Common.{◌≡◌, [], map, drop}
-use Rattle.scad_ast.specs.Scope.{items}
-use Rattle.scad_scope.specs.Assigned.{assigned_by}
 use Rattle.scad_scope.specs.Noted.{placed, noted_all}
 use Rattle.scad_scope.proofs.Rows.{assigned_in}
 use Rattle.scad_scope.proofs.assigned.bindings.Given as goal

@@ -1,4 +1,4 @@
-use Rattle.std.proofs.Common.{◌≡◌, ◌<◌, ◌≤◌, length, map, take, sym, ap, ◌∙◌, arith, Some, None}
+use Rattle.std.proofs.Common.{map, take, sym, ap, ◌∙◌, arith}
 use Rattle.std.proofs.lemmas.List.{length-map}
 use Rattle.scad_value.specs.View.{datum_of}
 use Rattle.scad_scope.specs.Env.{sought}

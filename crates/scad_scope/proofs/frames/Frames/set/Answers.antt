@@ -1,4 +1,4 @@
-use Rattle.std.proofs.Common.{◌≡◌, ◌<◌, ◌-◌, length, arith, ap, ◌∙◌, vec_len}
+use Rattle.std.proofs.Common.{◌-◌, arith}
 use Rattle.scad_value.specs.View.{datum_of}
 use Rattle.scad_scope.specs.View.{stored}
 use Rattle.scad_scope.proofs.Outwards.{on_ok, stored-last}
