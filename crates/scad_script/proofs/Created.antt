@@ -11,10 +11,10 @@ use Rattle.scad_script.specs.declared.refusal.Refusal.{Refusal}
 use Rattle.scad_script.specs.declared.stop.Stop.{Stop}
 use Rattle.scad_script.specs.Steps.{Step, Reads, Makes, Sends, is_same, piece_for, text_of, stage, reading}
 use Rattle.scad_script.specs.Script.{Script, Ending, first, ends, refused}
-use Rattle.scad_script.specs.Names.{Given, AllStand, AllUpTo, IsOrderly}
+use Rattle.scad_script.specs.Names.{Given, AllStand}
 use Rattle.scad_script.specs.Played.{Takes, Fails, Went, Left, StopsAt, EndsIn}
 use Rattle.scad_script.specs.Run.{Tells, Reports}
-use Rattle.scad_script.specs.Promises.{Adds, HasBytes, CreatesForBytes}
+use Rattle.scad_script.specs.Promises.{HasBytes, CreatesForBytes}
 use Rattle.scad_script.specs.Laws.{CreatedForBytes}
 use Rattle.scad_script.proofs.Effects.{same_is, asked, sent_each, created_each, read_each}
 use Rattle.scad_script.proofs.Order.{all_before, reading_stands}

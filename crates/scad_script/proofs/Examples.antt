@@ -1,21 +1,20 @@
 -- Three runs by the definitions: a budget in the middle of a file, a report cut within its echo lines, and two outputs of
 -- which the second fails.
-use Rattle.std.proofs.Common.{◌≡◌, ◌==◌, ◌≢◌, ◌++◌, List, [], ◌∷◌, ℕ, true, false, Option, Some, None, Result, Ok, Err, inl, inr, refl, codes, decimal, pos, arith}
+use Rattle.std.proofs.Common.{◌≡◌, ◌==◌, List, [], ◌∷◌, ℕ, true, false, Option, Some, None, Result, Ok, Err, inl, refl, codes, decimal, pos, arith}
 use Rattle.std.specs.Prelude.{if◌then◌else◌}
 use Rattle.std.specs.Fmt.{digits}
 use Rattle.scad_fault.specs.declared.budget.Budget.{Budget}
 use Rattle.scad_fault.specs.declared.budget.BudgetKind.TheVariants.{LayerEdges}
 use Rattle.scad_fault.specs.declared.settings.SetFault.{SetFault}
 use Rattle.scad_fault.specs.declared.settings.SetKind.TheVariants.{NotToml}
-use Rattle.scad_fault.specs.declared.status.Status.{Status}
 use Rattle.scad_fault.specs.declared.status.Status.TheVariants.{Done, Write, Over}
-use Rattle.scad_fault.specs.Line.{line_of, budget_line}
+use Rattle.scad_fault.specs.Line.{budget_line}
 use Rattle.scad_io.specs.Desk.{Side, View, unused}
 use Rattle.scad_io.specs.declared.desk.Out.TheVariants.{Report, Cli, Gcode}
 use Rattle.scad_script.specs.declared.refusal.Refusal.TheVariants.{Settings}
 use Rattle.scad_script.specs.declared.stop.Stop.{Stop}
 use Rattle.scad_script.specs.declared.loading.Input.{Input}
-use Rattle.scad_script.specs.declared.loading.Input.TheVariants.{Whole, Long}
+use Rattle.scad_script.specs.declared.loading.Input.TheVariants.{Whole}
 use Rattle.scad_script.specs.Steps.{Step, Reads, Makes, Sends}
 use Rattle.scad_script.specs.Script.{Script, Finishes, Refuses, Lacks, first, ends, layers, answer_of}
 use Rattle.scad_script.specs.Run.{RunsTo}

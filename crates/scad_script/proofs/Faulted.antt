@@ -1,8 +1,7 @@
 -- The statuses Read and Write: which object has failed, and what the report has.
-use Rattle.std.proofs.Common.{◌≡◌, ◌≢◌, ◌+◌, ◌≤◌, ◌++◌, List, [], ◌∷◌, ℕ, true, false, Option, Some, Result, Ok, Err, inl, inr, refl, sym, ap, ◌∙◌, subst, length, arith, length-append}
+use Rattle.std.proofs.Common.{◌≡◌, ◌≢◌, ◌≤◌, ◌++◌, List, [], ◌∷◌, ℕ, true, false, Option, Some, Result, Ok, Err, inl, inr, refl, sym, ap, ◌∙◌, subst, length, arith, length-append}
 use Rattle.std.specs.Prelude.{IfSome, option_map}
 use Rattle.std.proofs.lemmas.List.{append-nil, take_all, take-append-le}
-use Rattle.scad_fault.specs.declared.status.Status.{Status}
 use Rattle.scad_fault.specs.declared.status.Status.TheVariants.{Read, Write, Memory}
 use Rattle.scad_fault.specs.Line.{line_of}
 use Rattle.scad_io.specs.Desk.{Side, View, side, sent, Creates}

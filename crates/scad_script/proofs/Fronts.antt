@@ -9,10 +9,10 @@ use Rattle.scad_io.specs.declared.desk.Out.TheVariants.{Report, Cli, Gcode}
 use Rattle.scad_script.specs.declared.stop.Stop.{Stop}
 use Rattle.scad_script.specs.Steps.{Step, piece_for, text_of, reading, echoing, drawing}
 use Rattle.scad_script.specs.Script.{Script, Ending, Finishes, Refuses, Lacks, answer_by}
-use Rattle.scad_script.specs.Names.{Given, OnlyReads, IsOrderly}
-use Rattle.scad_script.specs.Played.{Takes, Went, Left, StopsAt, EndsIn}
-use Rattle.scad_script.specs.Run.{Sound, IsReady, Tells, Reports, RunsTo}
-use Rattle.scad_script.specs.Promises.{Adds, IsFront, AreFronts}
+use Rattle.scad_script.specs.Names.{OnlyReads}
+use Rattle.scad_script.specs.Played.{Went, Left, StopsAt, EndsIn}
+use Rattle.scad_script.specs.Run.{Tells, Reports}
+use Rattle.scad_script.specs.Promises.{Adds, IsFront}
 use Rattle.scad_script.specs.Laws.{FilesAreFronts}
 use Rattle.scad_script.proofs.Effects.{adds_nothing, adds_then, takes_adds, takes_sound, front_stands, fails_front, front_after}
 use Rattle.scad_script.proofs.Order.{reading_text}

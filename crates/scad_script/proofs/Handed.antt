@@ -1,7 +1,7 @@
 -- At every status the names that were handed in are those that were given.
-use Rattle.std.proofs.Common.{◌≡◌, ◌≢◌, ◌⊎◌, ◌++◌, List, [], ◌∷◌, ℕ, Bool, true, false, Option, Some, None, Result, Ok, Err, inl, inr, refl, sym, ap, ◌∙◌, subst}
+use Rattle.std.proofs.Common.{◌≡◌, ◌≢◌, ◌⊎◌, List, [], ◌∷◌, ℕ, Bool, true, false, Option, Some, Result, Ok, Err, inl, inr, refl, sym, ap, ◌∙◌, subst}
 use Rattle.std.specs.Prelude.{IfSome, if◌then◌else◌}
-use Rattle.scad_io.specs.Desk.{Side, View, side, added, sent}
+use Rattle.scad_io.specs.Desk.{Side, View, side, added}
 use Rattle.scad_io.specs.declared.desk.Out.{Out}
 use Rattle.scad_io.specs.declared.desk.Out.TheVariants.{Report, Cli, Gcode}
 use Rattle.scad_io.proofs.Sent.{input-put}

@@ -1,5 +1,5 @@
 -- Layers one after another, and that a script with layers is orderly.
-use Rattle.std.proofs.Common.{◌≡◌, ◌≢◌, ◌+◌, ◌-◌, ◌<◌, ◌≤◌, ◌++◌, List, [], ◌∷◌, ℕ, zero, suc, Result, Ok, Err, refl, sym, ap, ◌∙◌, subst, arith, append_assoc}
+use Rattle.std.proofs.Common.{◌≡◌, ◌≢◌, ◌+◌, ◌-◌, ◌<◌, ◌++◌, List, [], ◌∷◌, ℕ, zero, suc, Result, Ok, Err, refl, sym, ap, ◌∙◌, subst, arith, append_assoc}
 use Rattle.std.specs.Prelude.{IfOk, flat_map}
 use Rattle.std.specs.List.{range_with_len}
 use Rattle.std.proofs.lemmas.Grind.{flat_map-append}
@@ -8,7 +8,7 @@ use Rattle.scad_io.specs.Desk.{View}
 use Rattle.scad_io.specs.declared.desk.Out.{Out}
 use Rattle.scad_io.specs.declared.desk.Out.TheVariants.{Report, Cli, Gcode}
 use Rattle.scad_script.specs.Steps.{Step, Reads, Makes, Sends, piece_for, text_of, drawing}
-use Rattle.scad_script.specs.Script.{Script, Ending, Finishes, Refuses, Lacks, first, layer_then, layers}
+use Rattle.scad_script.specs.Script.{Script, Ending, Finishes, Refuses, Lacks, layer_then, layers}
 use Rattle.scad_script.specs.Names.{Given, AllFrom, AllStand, OnlyReads}
 use Rattle.scad_script.specs.Played.{Left}
 

@@ -1,12 +1,9 @@
 -- How playing a script goes on, and what a part of a file that was read is.
-use Rattle.std.proofs.Common.{◌≡◌, ◌++◌, List, [], ◌∷◌, ℕ, Bool, true, false, Option, Some, None, Ok, Err, refl, sym, ap, ◌∙◌, subst, append_assoc}
-use Rattle.std.specs.Prelude.{IfSome}
-use Rattle.scad_io.specs.Desk.{Files, View, Opens, Creates, taken, sent}
-use Rattle.scad_io.specs.Sent.{SentPartly}
-use Rattle.scad_io.specs.declared.desk.Out.{Out}
-use Rattle.scad_script.specs.Steps.{Step, Reads, Makes, Sends}
+use Rattle.std.proofs.Common.{◌++◌, List, [], ◌∷◌, refl, ap, ◌∙◌, subst, append_assoc}
+use Rattle.scad_io.specs.Desk.{View}
+use Rattle.scad_script.specs.Steps.{Step}
 use Rattle.scad_script.specs.Script.{Script, first}
-use Rattle.scad_script.specs.Played.{UsesInput, IsThere, Takes, Went, Left}
+use Rattle.scad_script.specs.Played.{Takes, Went, Left}
 
 -- one more step behind those that were taken
 pub then_takes : (done : List Step) (step : Step) (old mid new : View) → Went done old mid → Takes step mid new → Went (done ++ step ∷ []) old new

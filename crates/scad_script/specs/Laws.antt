@@ -1,5 +1,4 @@
 -- The laws of runs: what holds of every run of every orderly script over a desk that is ready.
-use Rattle.std.specs.Prelude.{◌≡◌}
 use Rattle.scad_fault.specs.declared.status.Status.{Status}
 use Rattle.scad_io.specs.Desk.{View}
 use Rattle.scad_script.specs.Script.{Script}

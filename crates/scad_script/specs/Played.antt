@@ -1,5 +1,5 @@
 -- What playing the steps of a script does to a desk, and what is left of the script then.
-use Rattle.std.specs.Prelude.{◌≡◌, ◌≢◌, ◌<◌, ℕ, Bool, true, false, List, [], ◌∷◌, Option, IfSome, IfErr, Result, Ok, Err}
+use Rattle.std.specs.Prelude.{◌≡◌, ◌≢◌, ◌<◌, ℕ, Bool, true, false, List, [], ◌∷◌, IfSome, IfErr, Result, Ok, Err}
 use Rattle.scad_io.specs.Desk.{View, side, sent, Creates}
 use Rattle.scad_io.specs.Sent.{SentPartly}
 use Rattle.scad_io.specs.declared.desk.Out.{Out}

@@ -1,11 +1,10 @@
 -- What a run of any orderly script promises, one sentence each.
-use Rattle.std.specs.Prelude.{◌≡◌, ◌≢◌, ◌⊎◌, ◌<◌, ◌≤◌, ◌++◌, List, [], ℕ, true, false, Option, Some, None, IfSome, IsSomeAnd, length, take, option_map}
+use Rattle.std.specs.Prelude.{◌≡◌, ◌≢◌, ◌⊎◌, ◌<◌, ◌≤◌, ◌++◌, List, [], ℕ, true, false, Some, IfSome, IsSomeAnd, length, take, option_map}
 use Rattle.scad_fault.specs.declared.status.Status.{Status}
 use Rattle.scad_fault.specs.declared.status.Status.TheVariants.{Read, Write, Memory}
 use Rattle.scad_fault.specs.Line.{line_of}
 use Rattle.scad_io.specs.Desk.{Side, View, side}
 use Rattle.scad_io.specs.declared.desk.Out.{Out}
-use Rattle.scad_io.specs.declared.desk.Out.TheVariants.{Cli, Gcode}
 use Rattle.scad_script.specs.Script.{Script, answer_of, expected_echoes, expected_cli, expected_gcode}
 use Rattle.scad_script.specs.Names.{Given, name_for, IsAmong}
 

@@ -3,7 +3,7 @@ use Rattle.std.specs.Prelude.{◌≡◌, ◌⊎◌, true, false, List, ℕ, Resu
 use Rattle.scad_fault.specs.declared.status.Status.{Status}
 use Rattle.scad_fault.specs.declared.status.Status.TheVariants.{Done, Read, Write, Memory}
 use Rattle.scad_fault.specs.Line.{line_of}
-use Rattle.scad_io.specs.Desk.{View, side, sent}
+use Rattle.scad_io.specs.Desk.{View, sent}
 use Rattle.scad_io.specs.Sent.{SentPartly}
 use Rattle.scad_io.specs.declared.desk.Out.{Out}
 use Rattle.scad_io.specs.declared.desk.Out.TheVariants.{Report, Cli, Gcode}
