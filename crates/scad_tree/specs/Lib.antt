@@ -1,0 +1,6 @@
+pub mod Solid
+pub mod View
+pub mod Normal
+pub mod Member
+pub mod Height
+pub mod Laws
