@@ -1,5 +1,5 @@
 -- The operations give trees in normal form.
-use Rattle.std.proofs.Common.{◌≡◌, Bool, true, false, not, ◌&&◌, ◌||◌, List, [], ◌∷◌, ◌++◌, ℕ, zero, suc, ◌+◌, ◌<◌, ◌≤◌, length, take, drop, get_or, slice_index_or, refl, ap, ap₂, arith, sym, ◌∙◌, filter, map, if◌then◌else◌, rules}
+use Rattle.std.proofs.Common.{◌≡◌, Bool, true, false, not, ◌&&◌, ◌||◌, List, [], ◌∷◌, ◌++◌, ℕ, zero, suc, ◌+◌, ◌<◌, ◌≤◌, length, take, drop, get_or, slice_index_or, refl, ap, ap₂, arith, sym, ◌∙◌, if◌then◌else◌}
 use Rattle.std.proofs.lemmas.Bool.{false≢true}
 use Rattle.std.proofs.lemmas.List.Folds.{list_all-append}
 use Rattle.std.specs.List.{flat_map, list_all, list_any}
@@ -7,7 +7,6 @@ use Rattle.scad_tree.specs.declared.node.Node.{Node}
 use Rattle.scad_tree.specs.Solid.{Solid, Solids, nothing, surface, union, intersection, difference, none, member, members, members_of}
 use Rattle.scad_tree.specs.View.{solid_of, solids}
 use Rattle.scad_tree.specs.Normal.{parts, union_of, intersection_of, without, intersected, subtracted, is_nothing, is_union, is_apart, is_kept, are_kept, are_kept_apart, are_several, is_normal, not_empty}
-use Rattle.scad_tree.proofs.Rows.{both}
 
 and_true : (b : Bool) → (b && true) ≡ b
 and_true true = refl

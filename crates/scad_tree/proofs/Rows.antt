@@ -1,8 +1,8 @@
 -- The members of a node are those of the vector that holds them.
-use Rattle.std.proofs.Common.{◌≡◌, ◌≤◌, ◌++◌, ◌∙◌, sym, false, ℕ, List, [], ◌∷◌, Vec, Box, Global, length, refl, ap, rules, arith}
-use Rattle.scad_tree.specs.declared.node.Node.{Node, Empty, Union, Inter, Diff, Row_of-Node, end_of-Node, more_of-Node, items-the_row-Node}
+use Rattle.std.proofs.Common.{◌≡◌, ◌≤◌, ◌++◌, ◌∙◌, sym, false, List, [], ◌∷◌, Vec, Box, Global, length, refl, ap, rules, arith}
+use Rattle.scad_tree.specs.declared.node.Node.{Node, Union, Inter, Diff, Row_of-Node, end_of-Node, more_of-Node, items-the_row-Node}
 use Rattle.scad_tree.specs.declared.node.Node.{the_lemmas}
-use Rattle.scad_tree.specs.Solid.{Solid, union, intersection, difference, none, member, members, members_of}
+use Rattle.scad_tree.specs.Solid.{Solid, union, intersection, difference, member, members, members_of}
 use Rattle.scad_tree.specs.Normal.{parts, is_nothing, union_of, intersection_of, without}
 use Rattle.scad_tree.specs.View.{solid_of, solids_of, solids}
 

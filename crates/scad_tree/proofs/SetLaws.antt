@@ -3,7 +3,7 @@ use Rattle.std.proofs.Common.{◌≡◌, Bool, true, false, not, ◌&&◌, ◌||
 use Rattle.std.specs.List.{flat_map, list_any}
 use Rattle.scad_solid.specs.declared.triangle.Triangle.{Triangle}
 use Rattle.scad_tree.specs.Solid.{Solid, Solids, nothing, surface, union, intersection, difference, none, member, members, members_of}
-use Rattle.scad_tree.specs.Normal.{parts, union_of, united, intersection_of, intersected, without, subtracted, is_nothing, are_some}
+use Rattle.scad_tree.specs.Normal.{parts, union_of, united, intersection_of, intersected, without, subtracted, is_nothing}
 use Rattle.scad_tree.specs.Member.{holds, some_hold, all_hold, any_holds, each_holds, has_items, first_alone_holds}
 use Rattle.scad_tree.specs.Laws.{OperationsHold}
 

@@ -2,5 +2,4 @@ pub mod Solid
 pub mod View
 pub mod Normal
 pub mod Member
-pub mod Height
 pub mod Laws

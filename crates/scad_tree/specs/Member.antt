@@ -1,8 +1,6 @@
 -- What a tree of set operations contains, from what its surfaces contain.
-use Rattle.std.specs.Prelude.{ℤ, Bool, true, false, not, ◌&&◌, ◌||◌, List, [], ◌∷◌}
-use Rattle.scad_geom.specs.Point.{Point}
+use Rattle.std.specs.Prelude.{Bool, true, false, not, ◌&&◌, ◌||◌, List, [], ◌∷◌}
 use Rattle.scad_solid.specs.declared.triangle.Triangle.{Triangle}
-use Rattle.scad_solid.specs.Cut.{contains}
 use Rattle.scad_tree.specs.Solid.{Solid, Solids, nothing, surface, union, intersection, difference, none, member}
 use Rattle.scad_tree.specs.Normal.{are_some}
 
@@ -23,10 +21,6 @@ abbrev mutual
   pub all_hold : (List Triangle → Bool) → Solids → Bool
   all_hold inside none = true
   all_hold inside (member s rest) = holds inside s && all_hold inside rest
-
--- whether a tree contains a point at a plane, by the exact cuts of its surfaces
-abbrev pub contains_at : ℤ → Point → Solid → Bool
-contains_at plane p s = holds (λ ts. contains plane ts p) s
 
 -- the union, the intersection and the difference of what the members hold
 abbrev pub any_holds : (List Triangle → Bool) → List Solid → Bool

@@ -4,8 +4,8 @@ ghost use Rattle.std.specs.List.{list_all};
 ghost use Rattle.scad_tree.specs.View.{solid_of, solids};
 ghost use Rattle.scad_tree.specs.Normal.{united, intersected, subtracted, not_empty, is_kept};
 
-use crate::normal::{intersection_of, is_empty, push_parts, union_of, without};
 use crate::node::Node;
+use crate::normal::{intersection_of, is_empty, push_parts, union_of, without};
 use crate::tree::Tree;
 use std::alloc::{AllocError, Global};
 

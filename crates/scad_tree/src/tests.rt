@@ -11,9 +11,21 @@ fn tree(alloc: Global, size: i32) -> Result<Tree, Fail> {
     }
     let points = [
         Pt3 { x: 0, y: 0, z: 0 },
-        Pt3 { x: size, y: 0, z: 0 },
-        Pt3 { x: 0, y: size, z: 0 },
-        Pt3 { x: 0, y: 0, z: size },
+        Pt3 {
+            x: size,
+            y: 0,
+            z: 0,
+        },
+        Pt3 {
+            x: 0,
+            y: size,
+            z: 0,
+        },
+        Pt3 {
+            x: 0,
+            y: 0,
+            z: size,
+        },
     ];
     let mut faces = Vec::new(alloc);
     for face in [[0, 1, 2], [0, 3, 1], [1, 3, 2], [0, 2, 3]] {
@@ -73,8 +85,14 @@ fn intersections_with_what_is_empty_are_empty(rt: HostRuntime) -> Result<(), Fai
     let alloc = rt.alloc();
     assert_eq!(rt; top(intersect(alloc, trees(alloc, &[])?)?), ("empty", 0));
     assert_eq!(rt; top(intersect(alloc, trees(alloc, &[5])?)?), ("leaf", 4));
-    assert_eq!(rt; top(intersect(alloc, trees(alloc, &[5, 0])?)?), ("empty", 0));
-    assert_eq!(rt; top(intersect(alloc, trees(alloc, &[5, 7, 9])?)?), ("intersection", 3));
+    assert_eq!(rt;
+        top(intersect(alloc, trees(alloc, &[5, 0])?)?),
+        ("empty", 0)
+    );
+    assert_eq!(rt;
+        top(intersect(alloc, trees(alloc, &[5, 7, 9])?)?),
+        ("intersection", 3)
+    );
     Ok(())
 }
 
@@ -85,7 +103,10 @@ fn differences_take_all_others_from_the_first(rt: HostRuntime) -> Result<(), Fai
     assert_eq!(rt; top(subtract(alloc, trees(alloc, &[0, 5])?)?), ("empty", 0));
     assert_eq!(rt; top(subtract(alloc, trees(alloc, &[5])?)?), ("leaf", 4));
     assert_eq!(rt; top(subtract(alloc, trees(alloc, &[5, 0])?)?), ("leaf", 4));
-    assert_eq!(rt; top(subtract(alloc, trees(alloc, &[5, 0, 7, 9])?)?), ("difference", 2));
+    assert_eq!(rt;
+        top(subtract(alloc, trees(alloc, &[5, 0, 7, 9])?)?),
+        ("difference", 2)
+    );
     Ok(())
 }
 

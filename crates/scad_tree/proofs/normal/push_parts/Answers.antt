@@ -1,6 +1,6 @@
-use Rattle.std.proofs.Common.{◌≡◌, ◌++◌, ◌∙◌, OnOk, ap, sym, subst, arith}
+use Rattle.std.proofs.Common.{◌∙◌, ap, arith}
 use Rattle.std.proofs.lemmas.Grind.{common_steps}
-use Rattle.scad_tree.specs.View.{solid_of, solids}
+use Rattle.scad_tree.specs.View.{solid_of}
 use Rattle.scad_tree.specs.Normal.{parts}
 use Rattle.scad_tree.proofs.Rows.{both, parts_union, parts_inter, parts_diff}
 use Rattle.scad_tree.proofs.normal.push_parts.Goals as goal

@@ -1,7 +1,7 @@
-use Rattle.std.proofs.Common.{◌≡◌, true, false}
-use Rattle.std.specs.List.{flat_map, list_all, list_any}
+use Rattle.std.proofs.Common.{◌≡◌, true}
+use Rattle.std.specs.List.{list_all}
 use Rattle.scad_tree.specs.View.{solids}
-use Rattle.scad_tree.specs.Normal.{parts, is_apart, is_kept, is_nothing, not_empty}
+use Rattle.scad_tree.specs.Normal.{is_kept, not_empty}
 use Rattle.scad_tree.proofs.operations.full.Given as goal
 
 abbrev pub invariant-loop-member : goal.invariant-loop-member

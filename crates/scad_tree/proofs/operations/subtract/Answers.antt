@@ -1,7 +1,6 @@
-use Rattle.std.proofs.Common.{◌≡◌, ◌∷◌, ◌∙◌, true, false, ap, ap₂, sym, subst, arith}
-use Rattle.scad_tree.specs.declared.node.Node.{Node}
+use Rattle.std.proofs.Common.{◌≡◌, ◌∙◌, true, false, ap, ap₂, sym, subst, arith}
 use Rattle.scad_tree.specs.View.{solid_of, solids}
-use Rattle.scad_tree.specs.Normal.{is_nothing, is_normal, is_kept, without, subtracted}
+use Rattle.scad_tree.specs.Normal.{is_nothing, is_normal, without, subtracted}
 use Rattle.scad_tree.proofs.NormalForm.{subtracted_none, subtracted_empty, subtracted_full, first_and_rest, without_normal, normal_kept}
 use Rattle.scad_tree.proofs.operations.subtract.Goals as goal
 

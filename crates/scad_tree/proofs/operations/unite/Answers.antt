@@ -15,9 +15,10 @@ pub loop-member-preserved : goal.loop-member-preserved
 loop-member-preserved c =
     let added = c.in_ok-push_parts.ensures in
     let node = c.into_node.result in
-    let normal = ap (λ n. is_normal (solid_of n)) c.into_node.ensures.same ∙ c.into_node.ensures.normal in
-    (added ∙ ap₂ (λ ss n. ss ++ parts (solid_of n)) c.loop-member.invariant.0 c.into_node.ensures.same ∙ sym (parts_more c.loop-member.yielded c.in-Some.member),
-     subst (λ ss. list_all is_apart ss ≡ true) (sym added) (all_more is_apart (solids c.loop-member.parts.items) (parts (solid_of node)) c.loop-member.invariant.1 (parts_apart (solid_of node) normal)))
+    let normal = ap (λ n. is_normal (solid_of n)) c.into_node.ensures.same ∙ c.into_node.ensures.normal in (
+      added ∙ ap₂ (λ ss n. ss ++ parts (solid_of n)) c.loop-member.invariant.0 c.into_node.ensures.same ∙ sym (parts_more c.loop-member.yielded c.in-Some.member),
+      subst (λ ss. list_all is_apart ss ≡ true) (sym added) (all_more is_apart (solids c.loop-member.parts.items) (parts (solid_of node)) c.loop-member.invariant.1 (parts_apart (solid_of node) normal)),
+    )
 
 pub returns : goal.returns
 unfolding united
