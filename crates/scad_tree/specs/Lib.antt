@@ -1,0 +1,5 @@
+pub mod Solid
+pub mod View
+pub mod Normal
+pub mod Member
+pub mod Laws

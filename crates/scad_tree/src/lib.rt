@@ -1,0 +1,17 @@
+//! Trees of solids under union, intersection and difference, in normal form.
+//!
+//! The contracts promise the tree of each operation exactly, that it is in normal form, and that it
+//! contains a point exactly where the set operations of its members say so.
+#![tactic(auto)]
+
+pub mod laws;
+mod node;
+mod normal;
+mod operations;
+#[cfg(test)]
+mod tests;
+mod tree;
+
+pub use node::Node;
+pub use operations::{intersect, subtract, unite};
+pub use tree::Tree;
