@@ -10,4 +10,3 @@ pub mod ExamplesRanges
 pub mod Lists
 pub mod OnLiterals
 pub mod OpenFrames
-pub mod DepthLeft

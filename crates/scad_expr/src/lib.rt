@@ -9,7 +9,6 @@ mod named;
 mod opened;
 mod operated;
 mod printed;
-mod walk;
 
 pub use fault::EvalFault;
 pub use machine::Machine;
