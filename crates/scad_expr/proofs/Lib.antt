@@ -7,6 +7,8 @@ pub mod ExamplesDollars
 pub mod ExamplesLoops
 pub mod ExamplesOperators
 pub mod ExamplesRanges
+pub mod Homes
 pub mod Lists
 pub mod OnLiterals
 pub mod OpenFrames
+pub mod Tested

@@ -1,11 +1,16 @@
 -- Arguments and values that are left in a loop.
-use Rattle.std.proofs.Common.{◌≡◌, ℕ, ◌+◌, ◌<◌, ◌≤◌, List, [], ◌∷◌, length, get_or, drop, ap, ◌∙◌, sym}
+use Rattle.std.proofs.Common.{◌≡◌, ◌≢◌, ℕ, ◌+◌, ◌<◌, ◌≤◌, true, false, List, [], ◌∷◌, Vec, Global, length, get_or, drop, refl, ap, ◌∙◌, sym, arith}
 use Rattle.std.proofs.lemmas.List.{drop_more, drop_all}
 use Rattle.scad_ast.specs.declared.expression.Arg.{Arg}
 use Rattle.scad_ast.specs.Tree.{no_arguments, argument}
 use Rattle.scad_ast.specs.View.{expression_of, arguments}
 use Rattle.scad_value.specs.declared.value.Value.{Value}
-use Rattle.scad_value.specs.View.{datum_of}
+use Rattle.scad_value.specs.declared.value.Value.{List as ListValue}
+use Rattle.scad_value.specs.Datum.{vector, element}
+use Rattle.scad_value.specs.View.{datum_of, elements}
+use Rattle.scad_value.proofs.Rows.{vector_view}
+use Rattle.scad_expr.specs.Runs.{as_elements}
+use Rattle.scad_expr.specs.Arguments.{is_none}
 use Rattle.scad_expr.specs.View.{data_of}
 
 -- the next argument
@@ -23,3 +28,22 @@ pub data-drop_all : (all : List Value) (i : ℕ) → length all ≤ i → data_o
 data-drop_all all i past = ap data_of (drop_all i all past)
 
 pub ruleset lists = (arguments-drop, arguments-drop_all, data-drop, data-drop_all)
+
+-- whether there are arguments
+pub none-empty : (all : List Arg) → length all ≡ 0 → is_none (arguments all) ≡ true
+none-empty [] e = refl
+none-empty (a ∷ all) e = absurd (let no : ⊥ = omega (arith, e) in no)
+
+pub none-some : (all : List Arg) → length all ≢ 0 → is_none (arguments all) ≡ false
+none-some [] e = absurd (e refl)
+none-some (a ∷ all) e = refl
+
+pub ruleset some = (none-empty, none-some)
+
+-- ---- the elements of a vector
+elements-data : (all : List Value) → elements all ≡ as_elements (data_of all)
+elements-data [] = refl
+elements-data (v ∷ all) = ap (element (datum_of v)) (elements-data all)
+
+pub vector-data : (all : Vec Value Global) → datum_of (ListValue all) ≡ vector (as_elements (data_of all.items))
+vector-data all = vector_view all ∙ ap vector (elements-data all.items)

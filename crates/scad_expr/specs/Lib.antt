@@ -8,5 +8,6 @@ pub mod Places
 pub mod Printed
 pub mod Runs
 pub mod State
+pub mod Tested
 pub mod Variables
 pub mod View

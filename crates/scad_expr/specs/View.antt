@@ -7,7 +7,11 @@ use Rattle.scad_ast.specs.View.{expression_of}
 use Rattle.scad_value.specs.Datum.{Datum}
 use Rattle.scad_value.specs.View.{datum_of}
 use Rattle.scad_value.specs.declared.value.Value.{Value}
-use Rattle.scad_expr.specs.Functions.{Function}
+use Rattle.scad_scope.specs.Env.{Env}
+use Rattle.scad_scope.specs.Stored.{env_at}
+use Rattle.scad_expr.specs.declared.defined.Defined.{Defined}
+use Rattle.scad_expr.specs.declared.defined.DefinedAt.{DefinedAt}
+use Rattle.scad_expr.specs.Functions.{Function, Found}
 
 -- values, one behind another
 abbrev pub data_of : List Value → List Datum
@@ -16,3 +20,11 @@ data_of all = map datum_of all
 -- a function that is defined by these parameters and this expression
 abbrev pub function_of : List Param → Expr → Function
 function_of params body = record { parameters = map parameter params; body = expression_of body }
+
+-- the function that stands there
+abbrev pub function_at : Defined → Function
+function_at d = function_of d.params.now.items d.body.now
+
+-- and the environment where its definition stands, among those of all frames
+abbrev pub found_at : List Env → DefinedAt → Found
+found_at envs d = record { function = function_at d.function; home = env_at envs d.home }

@@ -3,12 +3,16 @@
 #![tactic(auto)]
 
 mod counted;
+mod defined;
 mod fault;
+mod judged;
 mod machine;
+mod made;
 mod named;
 mod opened;
 mod operated;
 mod printed;
+mod sought;
 
 pub use fault::EvalFault;
 pub use machine::Machine;

@@ -21,7 +21,7 @@ use scad_value::{Value, ValueFault, binary, index, unary};
 use std::alloc::{AllocError, Global};
 
 /// A fault without a name.
-fn fault(alloc: Global, kind: FaultKind, at: Place) -> EvalFault
+pub(crate) fn fault(alloc: Global, kind: FaultKind, at: Place) -> EvalFault
     ensures { result ≡ EvalFault.Fault (record { kind = kind; at = at; name = [] }) }
 {
     EvalFault::Fault(Fault {
@@ -32,7 +32,7 @@ fn fault(alloc: Global, kind: FaultKind, at: Place) -> EvalFault
 }
 
 /// A fault with a name, or want of memory for it.
-fn named_fault(alloc: Global, kind: FaultKind, at: Place, name: &[u8]) -> EvalFault
+pub(crate) fn named_fault(alloc: Global, kind: FaultKind, at: Place, name: &[u8]) -> EvalFault
     ensures { result ≢ EvalFault.Memory
         → result ≡ EvalFault.Fault (record { kind = kind; at = at; name = name.now }) }
 {

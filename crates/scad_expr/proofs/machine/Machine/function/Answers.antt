@@ -1,0 +1,15 @@
+use Rattle.std.proofs.Common.{◌≡◌, None, ◌<◌, length, sym, ap, ◌∙◌, arith}
+use Rattle.scad_scope.specs.Stored.{stored_at}
+use Rattle.scad_scope.specs.View.{stored}
+use Rattle.scad_expr.specs.Functions.{defined_in}
+use Rattle.scad_expr.specs.Machine.{held, env_in}
+use Rattle.scad_expr.proofs.Homes.{function-round_past}
+use Rattle.scad_expr.proofs.machine.Machine.function.Goals as goal
+
+pub returns-then-at-parent : goal.returns-then-at-parent
+unfolding held env_in
+returns-then-at-parent c =
+    let fs = stored c.args.self.now.frames in
+    let inside : c.outwards.at < length (stored c.args.self.now.frames) = omega (arith, c.len.ensures) in
+    let none : defined_in c.args.name.now (stored_at (stored c.args.self.now.frames) c.outwards.at).scope ≡ None = ap (defined_in c.args.name.now) (sym c.scope-scope.ensures) ∙ sym c.in-None.ensures in
+    sym (function-round_past fs c.outwards.at inside c.args.name.now c.in-Some-parent.parent none (sym c.in-Some-parent.ensures) (omega arith)) ∙ c.outwards.invariant

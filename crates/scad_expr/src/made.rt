@@ -1,0 +1,47 @@
+//! Vectors and lines of `echo` that are made at a place.
+
+ghost use Rattle.std.specs.Prelude.{◌≡◌};
+ghost use Rattle.scad_ast.specs.View.{arguments};
+ghost use Rattle.scad_value.specs.Datum.{vector};
+ghost use Rattle.scad_value.specs.View.{datum_of};
+ghost use Rattle.scad_expr.specs.Answers.{Does, nothing};
+ghost use Rattle.scad_expr.specs.Machine.{held, state_of};
+ghost use Rattle.scad_expr.specs.Printed.{echo_line};
+ghost use Rattle.scad_expr.specs.Runs.{as_elements};
+ghost use Rattle.scad_expr.specs.State.{make, say};
+ghost use Rattle.scad_expr.specs.View.{data_of};
+
+use crate::fault::EvalFault;
+use crate::machine::Machine;
+use crate::printed::echo_line;
+use scad_ast::Arg;
+use scad_fault::Place;
+use scad_value::Value;
+use std::alloc::Global;
+
+impl<'p> Machine<'p> {
+    /// The vector of these values.
+    pub(crate) fn vector(&mut self, at: Place, found: Vec<Value>) -> Result<Value, EvalFault>
+        ensures does { Does datum_of (make at (vector (as_elements (data_of found.items))) (state_of self.old))
+            result (state_of self.new) }
+        ensures kept { held self.new ≡ held self.old }
+    {
+        self.make(at, Value::List(found))
+    }
+
+    /// The line of these arguments with their values.
+    pub(crate) fn echo(
+        &mut self,
+        alloc: Global,
+        at: Place,
+        args: &[Arg],
+        values: &[Value],
+    ) -> Result<(), EvalFault>
+        ensures does { Does nothing (say at (echo_line (arguments args.now) (data_of values.now))
+            (state_of self.old)) result (state_of self.new) }
+        ensures kept { held self.new ≡ held self.old }
+    {
+        let line = echo_line(alloc, args, values)?;
+        self.say(alloc, at, &line)
+    }
+}
