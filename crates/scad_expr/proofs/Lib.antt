@@ -11,4 +11,7 @@ pub mod Homes
 pub mod Lists
 pub mod OnLiterals
 pub mod OpenFrames
+pub mod Rising
+pub mod RisingNodes
 pub mod Tested
+pub mod Turns

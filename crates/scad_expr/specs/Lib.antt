@@ -1,6 +1,7 @@
 pub mod Answers
 pub mod Arguments
 pub mod Functions
+pub mod Laws
 pub mod Machine
 pub mod Meaning
 pub mod Opened

@@ -6,6 +6,7 @@ mod counted;
 mod defined;
 mod fault;
 mod judged;
+pub mod laws;
 mod machine;
 mod made;
 mod named;
