@@ -4,8 +4,10 @@ pub mod ExamplesBudgets
 pub mod ExamplesCalls
 pub mod ExamplesComprehensions
 pub mod ExamplesDollars
+pub mod ExamplesEdges
 pub mod ExamplesLoops
 pub mod ExamplesOperators
+pub mod ExamplesParameters
 pub mod ExamplesRanges
 pub mod Homes
 pub mod Lists
