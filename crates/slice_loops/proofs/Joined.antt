@@ -20,15 +20,18 @@ empty (e ∷ es) h = absurd (omega arith)
 drawn_permuted : (es fs : List Edge) → IsPermutation es fs → (loops : List (List Pt)) → AreDrawn fs loops → AreDrawn es loops
 drawn_permuted es fs m [] d = empty es (sym (length_permutation es fs m) ∙ ap (λ (l : List Edge). length l) d)
 drawn_permuted es fs m (l ∷ ls) d =
-    let loop = d.1 in
-    (d.0, record {
-      first = loop.first;
-      others = loop.others;
-      way = loop.way;
-      least = record { taken = IsPermutation-trans es fs (loop.first ∷ loop.others) m loop.least.taken; least = loop.least.least };
-      back = loop.back;
-      vertices = loop.vertices;
-    }, d.2)
+    let loop = d.1 in (
+      d.0,
+      record {
+        first = loop.first;
+        others = loop.others;
+        way = loop.way;
+        least = record { taken = IsPermutation-trans es fs (loop.first ∷ loop.others) m loop.least.taken; least = loop.least.least };
+        back = loop.back;
+        vertices = loop.vertices;
+      },
+      d.2,
+    )
 
 pub makes_none : (es fs : List Edge) → IsPermutation es fs → Makes es [] fs
 makes_none es fs m = λ more a. record { loops = a.loops; drawn = drawn_permuted es fs m a.loops a.drawn; kept = a.kept }

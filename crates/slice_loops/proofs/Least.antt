@@ -128,9 +128,10 @@ way_at_least e start (v ∷ vs) p es left a h =
     let others : List Edge = h.2.1 in
     let t : TakesLeastFrom p es f others = h.2.2 in
     let all : All (λ f. is_less f e ≡ false) (f ∷ others) = All-permutation (λ (f : Edge). is_less f e ≡ false) es (f ∷ others) t.taken a in
-    let here : f.a ≡ v = t.starts ∙ sym h.0 in
-    (subst (IsAtLeast e.a) here (start_at_least e f (All-head (λ (f : Edge). is_less f e ≡ false) f others all)),
-     way_at_least e start vs f.b others left (All-tail (λ (f : Edge). is_less f e ≡ false) f others all) h.2.3)
+    let here : f.a ≡ v = t.starts ∙ sym h.0 in (
+      subst (IsAtLeast e.a) here (start_at_least e f (All-head (λ (f : Edge). is_less f e ≡ false) f others all)),
+      way_at_least e start vs f.b others left (All-tail (λ (f : Edge). is_less f e ≡ false) f others all) h.2.3,
+    )
 
 pub loop_at_least : (es : List Edge) (l : List Pt) (left : List Edge) (h : IsLoop es l left) → AllByRecursion (IsAtLeast h.first.a) h.way
 loop_at_least es l left h = way_at_least h.first h.first.a h.way h.first.b h.others left h.least.least h.back

@@ -32,10 +32,10 @@ between first at next es b = record {
       starts-cons q (segment_of (edge next first)) (segments (edge at next ∷ es))
       ∙ ap (λ (n : ℕ). once (is_same_point q (whole next)) + n) (starts-cons q (segment_of (edge at next)) (segments es))
       ∙ moved (once (is_same_point q (whole at))) (once (is_same_point q (whole first))) (once (is_same_point q (whole next)))
-          (starts_at q (segments es)) (ends_at q (segments es))
-          (starts_at q (segments (edge at first ∷ es))) (ends_at q (segments (edge at first ∷ es))) from to (b.each q d)
+      (starts_at q (segments es)) (ends_at q (segments es))
+      (starts_at q (segments (edge at first ∷ es))) (ends_at q (segments (edge at first ∷ es))) from to (b.each q d)
       ∙ sym (ends-cons q (segment_of (edge next first)) (segments (edge at next ∷ es))
-          ∙ ap (λ (n : ℕ). once (is_same_point q (whole first)) + n) (ends-cons q (segment_of (edge at next)) (segments es)));
+      ∙ ap (λ (n : ℕ). once (is_same_point q (whole first)) + n) (ends-cons q (segment_of (edge at next)) (segments es)));
 }
 
 to_back : (e : Edge) (es : List Edge) → IsPermutation (e ∷ es) (es ++ (e ∷ []))
@@ -44,8 +44,8 @@ to_back e es = IsPermutation-sym (es ++ (e ∷ [])) (e ∷ es) (IsPermutation-to
 pub round_on : (first at next : Pt) (es : List Edge) → IsBalanced (segments (edge at first ∷ es)) → IsBalanced (segments (edge next first ∷ (es ++ (edge at next ∷ []))))
 round_on first at next es b =
     balanced_permuted (edge next first ∷ (edge at next ∷ es)) (edge next first ∷ (es ++ (edge at next ∷ [])))
-        (IsPermutation-cons (edge next first) (edge at next ∷ es) (es ++ (edge at next ∷ [])) (to_back (edge at next) es))
-        (between first at next es b)
+    (IsPermutation-cons (edge next first) (edge at next ∷ es) (es ++ (edge at next ∷ [])) (to_back (edge at next) es))
+    (between first at next es b)
 
 pub round_end : (first at : Pt) (es : List Edge) → IsBalanced (segments (edge at first ∷ es)) → IsBalanced (segments (es ++ (edge at first ∷ [])))
 round_end first at es b = balanced_permuted (edge at first ∷ es) (es ++ (edge at first ∷ [])) (to_back (edge at first) es) b

@@ -66,7 +66,7 @@ further_across k l w ux uy vx vy h e =
     ring (k ∷ l ∷ w ∷ ux ∷ uy ∷ vx ∷ vy ∷ []) (((v3 ⊗ v5 ⊕ v4 ⊗ v6) ⊗ v0) ⊗ (v5 ⊕ v2)) ((v3 ⊗ v5 ⊕ v4 ⊗ v6) ⊗ (v0 ⊗ v5) ⊕ (v3 ⊗ v5 ⊕ v4 ⊗ v6) ⊗ (v0 ⊗ v2)) refl
     ∙ ap (λ (z : ℤ). (ux *ℤ vx +ℤ uy *ℤ vy) *ℤ (k *ℤ vx) +ℤ (ux *ℤ vx +ℤ uy *ℤ vy) *ℤ z) h
     ∙ ring (k ∷ l ∷ w ∷ ux ∷ uy ∷ vx ∷ vy ∷ []) ((v3 ⊗ v5 ⊕ v4 ⊗ v6) ⊗ (v0 ⊗ v5) ⊕ (v3 ⊗ v5 ⊕ v4 ⊗ v6) ⊗ (v1 ⊗ v3))
-        ((v0 ⊗ (v3 ⊗ v5 ⊕ v4 ⊗ v6) ⊕ v1 ⊗ (v3 ⊗ v3 ⊕ v4 ⊗ v4)) ⊗ v5 ⊕ (v1 ⊗ v4) ⊗ (v3 ⊗ v6 ⊖ v4 ⊗ v5)) refl
+    ((v0 ⊗ (v3 ⊗ v5 ⊕ v4 ⊗ v6) ⊕ v1 ⊗ (v3 ⊗ v3 ⊕ v4 ⊗ v4)) ⊗ v5 ⊕ (v1 ⊗ v4) ⊗ (v3 ⊗ v6 ⊖ v4 ⊗ v5)) refl
     ∙ ap (λ (z : ℤ). (k *ℤ (ux *ℤ vx +ℤ uy *ℤ vy) +ℤ l *ℤ (ux *ℤ ux +ℤ uy *ℤ uy)) *ℤ vx +ℤ (l *ℤ uy) *ℤ z) e
     ∙ nothing ((k *ℤ (ux *ℤ vx +ℤ uy *ℤ vy) +ℤ l *ℤ (ux *ℤ ux +ℤ uy *ℤ uy)) *ℤ vx) (l *ℤ uy)
 
@@ -76,15 +76,15 @@ further_along k l w ux uy vx vy h e =
     ring (k ∷ l ∷ w ∷ ux ∷ uy ∷ vx ∷ vy ∷ []) (((v3 ⊗ v5 ⊕ v4 ⊗ v6) ⊗ v0) ⊗ (v6 ⊕ v2)) ((v3 ⊗ v5 ⊕ v4 ⊗ v6) ⊗ (v0 ⊗ v6) ⊕ (v3 ⊗ v5 ⊕ v4 ⊗ v6) ⊗ (v0 ⊗ v2)) refl
     ∙ ap (λ (z : ℤ). (ux *ℤ vx +ℤ uy *ℤ vy) *ℤ (k *ℤ vy) +ℤ (ux *ℤ vx +ℤ uy *ℤ vy) *ℤ z) h
     ∙ ring (k ∷ l ∷ w ∷ ux ∷ uy ∷ vx ∷ vy ∷ []) ((v3 ⊗ v5 ⊕ v4 ⊗ v6) ⊗ (v0 ⊗ v6) ⊕ (v3 ⊗ v5 ⊕ v4 ⊗ v6) ⊗ (v1 ⊗ v4))
-        ((v0 ⊗ (v3 ⊗ v5 ⊕ v4 ⊗ v6) ⊕ v1 ⊗ (v3 ⊗ v3 ⊕ v4 ⊗ v4)) ⊗ v6 ⊖ (v1 ⊗ v3) ⊗ (v3 ⊗ v6 ⊖ v4 ⊗ v5)) refl
+    ((v0 ⊗ (v3 ⊗ v5 ⊕ v4 ⊗ v6) ⊕ v1 ⊗ (v3 ⊗ v3 ⊕ v4 ⊗ v4)) ⊗ v6 ⊖ (v1 ⊗ v3) ⊗ (v3 ⊗ v6 ⊖ v4 ⊗ v5)) refl
     ∙ ap (λ (z : ℤ). (k *ℤ (ux *ℤ vx +ℤ uy *ℤ vy) +ℤ l *ℤ (ux *ℤ ux +ℤ uy *ℤ uy)) *ℤ vy -ℤ (l *ℤ ux) *ℤ z) e
     ∙ no_less ((k *ℤ (ux *ℤ vx +ℤ uy *ℤ vy) +ℤ l *ℤ (ux *ℤ ux +ℤ uy *ℤ uy)) *ℤ vy) (l *ℤ ux)
 
 square : (z : ℤ) → pos 0 ≤ℤ (z *ℤ z)
 square z = by_lt_z z (pos 0)
     (λ q. let turned : (pos 0 -ℤ z) *ℤ (pos 0 -ℤ z) ≡ z *ℤ z = ring (z ∷ []) ((num (pos 0) ⊖ v0) ⊗ (num (pos 0) ⊖ v0)) (v0 ⊗ v0) refl in
-          let above : pos 0 ≤ℤ (pos 0 -ℤ z) = omega (arith, ints) in
-          subst (λ (y : ℤ). pos 0 ≤ℤ y) turned (at_least_mul (pos 0 -ℤ z) (pos 0 -ℤ z) above above))
+    let above : pos 0 ≤ℤ (pos 0 -ℤ z) = omega (arith, ints) in
+    subst (λ (y : ℤ). pos 0 ≤ℤ y) turned (at_least_mul (pos 0 -ℤ z) (pos 0 -ℤ z) above above))
     (λ q. at_least_mul z z q q)
 
 added : (s t : ℤ) → pos 0 <ℤ s → pos 0 ≤ℤ t → pos 0 <ℤ (s +ℤ t)
@@ -152,8 +152,8 @@ unfolding bend advance
 between_turned a p b t =
     let s = straight a p b t in
     between_by b p a
-        (bend_turned a.x a.y p.x p.y b.x b.y ∙ zero_less (bend a p b) s.0)
-        (subst (λ (z : ℤ). pos 0 <ℤ z) (sym (advance_turned a.x a.y p.x p.y b.x b.y)) s.1)
+    (bend_turned a.x a.y p.x p.y b.x b.y ∙ zero_less (bend a p b) s.0)
+    (subst (λ (z : ℤ). pos 0 <ℤ z) (sym (advance_turned a.x a.y p.x p.y b.x b.y)) s.1)
 
 -- ---- signs along one direction
 mul_comm : (s t : ℤ) → s *ℤ t ≡ t *ℤ s

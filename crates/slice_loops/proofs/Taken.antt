@@ -33,8 +33,8 @@ least_removed p [] i d up l none = absurd (omega arith)
 least_removed p (e ∷ es) zero d up l none = λ k c b s. up.0 k c b
 least_removed p (e ∷ es) (suc i) d up l none =
     All-cons (λ f. f.a ≡ p → is_less f (get_or es i d) ≡ false) e (remove es i)
-        (λ s. absurd (none zero e (omega arith) s))
-        (least_removed p es i d up.1 (omega arith) (λ k c b s. none (suc k) c (omega arith) s))
+    (λ s. absurd (none zero e (omega arith) s))
+    (least_removed p es i d up.1 (omega arith) (λ k c b s. none (suc k) c (omega arith) s))
 
 pub takes_from : (p : Pt) (es : List Edge) (i : ℕ) (e : Edge) → IsAscending es → IsFirstFrom p es i → e ≡ get_or es i e → TakesLeastFrom p es e (remove es i)
 takes_from p es i e up f h = record {

@@ -27,7 +27,7 @@ way-init c =
 pub take_from-next-requires-clause-there : goal.take_from-next-requires-clause-there
 take_from-next-requires-clause-there c =
     one_starts c.remove-first.result.a c.way.at c.way.left.items c.way.invariant.balanced
-        (differ_by c.way.at c.remove-first.result.a c.ne.result c.ne.ensures c.way-test.true)
+    (differ_by c.way.at c.remove-first.result.a c.ne.result c.ne.ensures c.way-test.true)
 
 pub way-preserved : goal.way-preserved
 way-preserved c =
@@ -40,7 +40,7 @@ way-preserved c =
       leads = subst (λ (vs : List Pt). Leads c.args.left.now.items start vs next.b left)
           (sym c.in_ok-push-2.ensures.items)
           (leads_on c.args.left.now.items start c.way.vertices.items c.way.at c.way.left.items next left c.way.invariant.leads
-              (differ_by c.way.at start c.ne.result c.ne.ensures c.way-test.true) c.take_from-next.ensures.least);
+          (differ_by c.way.at start c.ne.result c.ne.ensures c.way-test.true) c.take_from-next.ensures.least);
       ascending = c.take_from-next.ensures.ascending;
       balanced = goes_on start c.way.at c.way.left.items next left c.way.invariant.balanced c.take_from-next.ensures.least;
       fewer = omega arith;
@@ -49,9 +49,9 @@ way-preserved c =
 pub returns-clause-drawn : goal.returns-clause-drawn
 returns-clause-drawn c =
     leads_back c.args.left.now.items c.remove-first.result.a c.way.vertices.items c.way.at c.way.left.items c.way.invariant.leads
-        (equal_by c.way.at c.remove-first.result.a c.ne.result c.ne.ensures c.way-test.false)
+    (equal_by c.way.at c.remove-first.result.a c.ne.result c.ne.ensures c.way-test.false)
 
 pub returns-clause-balanced : goal.returns-clause-balanced
 returns-clause-balanced c =
     comes_back c.remove-first.result.a c.way.at c.way.left.items
-        (equal_by c.way.at c.remove-first.result.a c.ne.result c.ne.ensures c.way-test.false) c.way.invariant.balanced
+    (equal_by c.way.at c.remove-first.result.a c.ne.result c.ne.ensures c.way-test.false) c.way.invariant.balanced

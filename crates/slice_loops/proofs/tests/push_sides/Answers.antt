@@ -10,5 +10,5 @@ use Rattle.slice_loops.proofs.tests.push_sides.Goals as goal
 pub returns : goal.returns
 returns c =
     on_ok_weaker c.push_edge-2.result
-        (λ s. subst (λ (l : List Edge). IsBalanced (segments l)) (sym s) (round_end c.args.first c.vertices.at c.vertices.edges.items c.vertices.invariant))
-        c.push_edge-2.ensures
+    (λ s. subst (λ (l : List Edge). IsBalanced (segments l)) (sym s) (round_end c.args.first c.vertices.at c.vertices.edges.items c.vertices.invariant))
+    c.push_edge-2.ensures
