@@ -1,0 +1,12 @@
+pub mod Points
+pub mod Taken
+pub mod Closed
+pub mod Ways
+pub mod Joined
+pub mod Rearranged
+pub mod Unique
+pub mod Straight
+pub mod Parts
+pub mod Least
+pub mod Winding
+pub mod Round

@@ -1,0 +1,6 @@
+pub mod Order
+pub mod Drawing
+pub mod Corners
+pub mod Outlines
+pub mod Ascending
+pub mod Laws

@@ -1,0 +1,37 @@
+//! Laws of the definitions, each carried by the contract of a function that does nothing.
+ghost use Rattle.slice_loops.specs.Laws.{SidesAreEdges, LoopsAreOne, OutlinesAreOne, OutlinesKeepWinding};
+
+/// The sides of the loops that are drawn from edges are these edges in another order.
+#[tactic(auto, using(crate::proofs::Rearranged::sides_are_edges))]
+pub fn sides_are_edges()
+    ensures { SidesAreEdges }
+{}
+
+/// From the same edges, in whatever order, the same loops are drawn.
+pub fn loops_are_one()
+    ensures { LoopsAreOne }
+{}
+
+/// From the same edges, in whatever order, the same outlines are made.
+pub fn outlines_are_one()
+    ensures { OutlinesAreOne }
+{}
+
+/// Outlines wind round each point, and hard by it above or below and right or left, as the edges that they are made of.
+#[tactic(auto, using(crate::proofs::Winding::outlines_keep_winding))]
+pub fn outlines_keep_winding()
+    ensures { OutlinesKeepWinding }
+{}
+
+#[cfg(test)]
+mod tests {
+    use super::*;
+
+    #[test]
+    fn laws_are_called() {
+        sides_are_edges();
+        loops_are_one();
+        outlines_are_one();
+        outlines_keep_winding();
+    }
+}

@@ -1,0 +1,15 @@
+//! Closed outlines of directed edges.
+//!
+//! The contracts promise exactly the loops that are drawn from the edges, by their corners; laws say that the definition leaves
+//! nothing open, that the sides of the drawn loops are the edges in another order, and that the outlines wind as the edges do.
+#![tactic(auto, using(scad_geom::proofs::Casts::casts))]
+
+mod ascending;
+mod corners;
+mod drawing;
+mod joining;
+pub mod laws;
+#[cfg(test)]
+mod tests;
+
+pub use joining::join;
