@@ -7,7 +7,7 @@ use Rattle.scad_cos.specs.Cosine.{cosines, first_quarter, half_turn, full_turn, 
 use Rattle.scad_value.specs.Datum.{Datum, undef, boolean, number, string, vector, Elements, no_elements, element}
 use Rattle.scad_builtin.specs.declared.fault.BuiltinFault.TheVariants.{BadArgument, ZeroDivisor, NumberRange, UnknownFunction, LeftOut}
 use Rattle.scad_builtin.specs.declared.function.Function.TheVariants.{Cos, Tan, Min, Chr, Ord, Norm, Cross, Concat, Floor}
-use Rattle.scad_builtin.specs.Names.{numbered_name, meaning_of}
+use Rattle.scad_builtin.specs.Names.{meaning_of}
 use Rattle.scad_builtin.specs.Builtin.{of_number, of_test, value_of, builtin}
 
 abbrev one : Datum → Elements
@@ -34,17 +34,17 @@ n4 = number (pos 4000000)
 
 -- log(1)
 a_logarithm : builtin (codes "log") (one n1) ≡ Err LeftOut
-unfolding meaning_of numbered_name
+unfolding meaning_of
 a_logarithm = refl
 
 -- mod(1)
 no_function : builtin (codes "mod") (one n1) ≡ Err UnknownFunction
-unfolding meaning_of numbered_name
+unfolding meaning_of
 no_function = refl
 
 -- is_list([])
 the_empty_list : builtin (codes "is_list") (one (vector no_elements)) ≡ Ok (boolean true)
-unfolding meaning_of numbered_name
+unfolding meaning_of
 the_empty_list = refl
 
 cosine_of_60_degrees : value_of Cos (one (number (pos 60000000))) ≡ Ok (number (pos 500000))

@@ -5,6 +5,7 @@ pub mod Fault
 pub mod Kinds
 pub mod Memory
 pub mod Names
+pub mod Ids
 pub mod Numbers
 pub mod Strings
 pub mod Vectors

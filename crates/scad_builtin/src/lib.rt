@@ -10,6 +10,7 @@ mod dispatch;
 mod extreme;
 mod fault;
 mod function;
+mod id;
 mod kind;
 mod length;
 mod name;

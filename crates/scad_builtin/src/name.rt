@@ -2,16 +2,18 @@
 
 ghost use Rattle.std.specs.Prelude.{◌≡◌, IsTrue};
 ghost use Rattle.scad_table.specs.Table.{entries, ascends};
-ghost use Rattle.scad_builtin.specs.Names.{name_table, numbered_name, meaning_of};
+ghost use Rattle.scad_builtin.specs.Ids.{name_table, numbered_name};
+ghost use Rattle.scad_builtin.specs.Names.{meaning_of};
 
 use crate::function::{Function, Name};
+use crate::id::*;
 use scad_table::{Row, find};
 
-/// The number of a name that the language leaves out.
-const LEFT_OUT: u16 = 23;
-
 const NAMES: [Row; 42] = [
-    Row { name: "abs", id: 0 },
+    Row {
+        name: "abs",
+        id: ABS,
+    },
     Row {
         name: "acos",
         id: LEFT_OUT,
@@ -30,20 +32,23 @@ const NAMES: [Row; 42] = [
     },
     Row {
         name: "ceil",
-        id: 3,
+        id: CEIL,
     },
     Row {
         name: "chr",
-        id: 14,
+        id: CHR,
     },
     Row {
         name: "concat",
-        id: 12,
+        id: CONCAT,
     },
-    Row { name: "cos", id: 7 },
+    Row {
+        name: "cos",
+        id: COS,
+    },
     Row {
         name: "cross",
-        id: 17,
+        id: CROSS,
     },
     Row {
         name: "dxf_cross",
@@ -59,7 +64,7 @@ const NAMES: [Row; 42] = [
     },
     Row {
         name: "floor",
-        id: 2,
+        id: FLOOR,
     },
     Row {
         name: "fontmetrics",
@@ -67,7 +72,7 @@ const NAMES: [Row; 42] = [
     },
     Row {
         name: "is_bool",
-        id: 19,
+        id: IS_BOOL,
     },
     Row {
         name: "is_function",
@@ -75,25 +80,28 @@ const NAMES: [Row; 42] = [
     },
     Row {
         name: "is_list",
-        id: 22,
+        id: IS_LIST,
     },
     Row {
         name: "is_num",
-        id: 20,
+        id: IS_NUM,
     },
     Row {
         name: "is_string",
-        id: 21,
+        id: IS_STRING,
     },
     Row {
         name: "is_undef",
-        id: 18,
+        id: IS_UNDEF,
     },
     Row {
         name: "len",
-        id: 11,
+        id: LEN,
     },
-    Row { name: "ln", id: 23 },
+    Row {
+        name: "ln",
+        id: LEFT_OUT,
+    },
     Row {
         name: "log",
         id: LEFT_OUT,
@@ -104,16 +112,19 @@ const NAMES: [Row; 42] = [
     },
     Row {
         name: "max",
-        id: 10,
+        id: MAX,
     },
-    Row { name: "min", id: 9 },
+    Row {
+        name: "min",
+        id: MIN,
+    },
     Row {
         name: "norm",
-        id: 16,
+        id: NORM,
     },
     Row {
         name: "ord",
-        id: 15,
+        id: ORD,
     },
     Row {
         name: "parent_module",
@@ -129,7 +140,7 @@ const NAMES: [Row; 42] = [
     },
     Row {
         name: "round",
-        id: 4,
+        id: ROUND,
     },
     Row {
         name: "search",
@@ -137,18 +148,24 @@ const NAMES: [Row; 42] = [
     },
     Row {
         name: "sign",
-        id: 1,
+        id: SIGN,
     },
-    Row { name: "sin", id: 6 },
+    Row {
+        name: "sin",
+        id: SIN,
+    },
     Row {
         name: "sqrt",
-        id: 5,
+        id: SQRT,
     },
     Row {
         name: "str",
-        id: 13,
+        id: STR,
     },
-    Row { name: "tan", id: 8 },
+    Row {
+        name: "tan",
+        id: TAN,
+    },
     Row {
         name: "textmetrics",
         id: LEFT_OUT,
@@ -171,46 +188,45 @@ fn names() -> &'static [Row]
     &NAMES
 }
 
-#[tactic(auto, unfolding(crate::specs::Names::numbered_name))]
-fn numbered_name(number: u16) -> Name
-    ensures { result ≡ numbered_name number }
+#[tactic(auto, unfolding(crate::specs::Ids::numbered_name))]
+fn numbered_name(id: u16) -> Name
+    ensures { result ≡ numbered_name id }
 {
-    match number {
-        0 => Name::Known(Function::Abs),
-        1 => Name::Known(Function::Sign),
-        2 => Name::Known(Function::Floor),
-        3 => Name::Known(Function::Ceil),
-        4 => Name::Known(Function::Round),
-        5 => Name::Known(Function::Sqrt),
-        6 => Name::Known(Function::Sin),
-        7 => Name::Known(Function::Cos),
-        8 => Name::Known(Function::Tan),
-        9 => Name::Known(Function::Min),
-        10 => Name::Known(Function::Max),
-        11 => Name::Known(Function::Len),
-        12 => Name::Known(Function::Concat),
-        13 => Name::Known(Function::Str),
-        14 => Name::Known(Function::Chr),
-        15 => Name::Known(Function::Ord),
-        16 => Name::Known(Function::Norm),
-        17 => Name::Known(Function::Cross),
-        18 => Name::Known(Function::IsUndef),
-        19 => Name::Known(Function::IsBool),
-        20 => Name::Known(Function::IsNum),
-        21 => Name::Known(Function::IsString),
-        22 => Name::Known(Function::IsList),
+    match id {
+        ABS => Name::Known(Function::Abs),
+        SIGN => Name::Known(Function::Sign),
+        FLOOR => Name::Known(Function::Floor),
+        CEIL => Name::Known(Function::Ceil),
+        ROUND => Name::Known(Function::Round),
+        SQRT => Name::Known(Function::Sqrt),
+        SIN => Name::Known(Function::Sin),
+        COS => Name::Known(Function::Cos),
+        TAN => Name::Known(Function::Tan),
+        MIN => Name::Known(Function::Min),
+        MAX => Name::Known(Function::Max),
+        LEN => Name::Known(Function::Len),
+        CONCAT => Name::Known(Function::Concat),
+        STR => Name::Known(Function::Str),
+        CHR => Name::Known(Function::Chr),
+        ORD => Name::Known(Function::Ord),
+        NORM => Name::Known(Function::Norm),
+        CROSS => Name::Known(Function::Cross),
+        IS_UNDEF => Name::Known(Function::IsUndef),
+        IS_BOOL => Name::Known(Function::IsBool),
+        IS_NUM => Name::Known(Function::IsNum),
+        IS_STRING => Name::Known(Function::IsString),
+        IS_LIST => Name::Known(Function::IsList),
         LEFT_OUT => Name::LeftOut,
         _ => Name::Unknown,
     }
 }
 
 /// What a name means where a function is called.
-#[tactic(auto, unfolding(crate::specs::Names::meaning_of))]
 pub(crate) fn meaning_of(name: &[u8]) -> Name
     ensures { result ≡ meaning_of name.now }
 {
     match find(names(), name) {
-        Some(number) => numbered_name(number),
+        Some(id) => numbered_name(id),
         None => Name::Unknown,
     }
 }

@@ -1,3 +1,5 @@
+pub mod CallFrames
+pub mod DepthLeft
 pub mod ExampleWords
 pub mod ExamplesBound
 pub mod ExamplesBudgets
@@ -9,11 +11,16 @@ pub mod ExamplesLoops
 pub mod ExamplesOperators
 pub mod ExamplesParameters
 pub mod ExamplesRanges
+pub mod Giving
 pub mod Homes
+pub mod InPlace
 pub mod Lists
+pub mod Loops
+pub mod Nodes
 pub mod OnLiterals
 pub mod OpenFrames
 pub mod Rising
 pub mod RisingNodes
+pub mod RunsLeft
 pub mod Tested
 pub mod Turns

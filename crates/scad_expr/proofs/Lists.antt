@@ -47,3 +47,6 @@ elements-data (v ∷ all) = ap (element (datum_of v)) (elements-data all)
 
 pub vector-data : (all : Vec Value Global) → datum_of (ListValue all) ≡ vector (as_elements (data_of all.items))
 vector-data all = vector_view all ∙ ap vector (elements-data all.items)
+
+pub called_elements : (all : List Value) → as_elements (data_of all) ≡ elements all
+called_elements all = sym (elements-data all)

@@ -4,7 +4,7 @@ use Rattle.std.specs.Fmt.{digits}
 use Rattle.scad_num.specs.Number.{number_of, quotient_of, remainder_of}
 use Rattle.scad_num.specs.Rounding.{half_up, half_away}
 use Rattle.scad_num.specs.Root.{root, root_in_steps, root_after, sqrt_of}
-use Rattle.scad_builtin.specs.Names.{numbered_name, meaning_of}
+use Rattle.scad_builtin.specs.Names.{meaning_of}
 use Rattle.scad_expr.specs.State.{fault, fault_of, over, take, step, make, say}
 use Rattle.scad_expr.specs.Variables.{variable, set}
 use Rattle.scad_expr.specs.Functions.{function_named}
@@ -14,5 +14,5 @@ use Rattle.scad_expr.specs.Printed.{echo_line}
 use Rattle.scad_expr.specs.Meaning.{operated, called_builtin, ranged, ranged_by_one, member_of, asserted, judge_named, judge_variables, values, default_value, defaults, bound, called_own, called, bound_in_order, elements, turns, for_variables, loop_turns, truth_of, right_side, node, value_layer, element_node, meaning}
 
 unfoldable pub expressions_on_literals : ⊤
-unfolding digits number_of quotient_of remainder_of half_up half_away root root_in_steps root_after sqrt_of numbered_name meaning_of fault fault_of over take step make say variable set function_named items given set_all with_children echo_line operated called_builtin ranged ranged_by_one member_of asserted judge_named judge_variables values default_value defaults bound called_own called bound_in_order elements turns for_variables loop_turns truth_of right_side node value_layer element_node meaning
+unfolding digits number_of quotient_of remainder_of half_up half_away root root_in_steps root_after sqrt_of meaning_of fault fault_of over take step make say variable set function_named items given set_all with_children echo_line operated called_builtin ranged ranged_by_one member_of asserted judge_named judge_variables values default_value defaults bound called_own called bound_in_order elements turns for_variables loop_turns truth_of right_side node value_layer element_node meaning
 expressions_on_literals = tt

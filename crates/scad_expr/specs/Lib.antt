@@ -1,11 +1,13 @@
 pub mod Answers
 pub mod Arguments
 pub mod Functions
+pub mod Given
 pub mod Laws
 pub mod Machine
 pub mod Meaning
 pub mod Opened
 pub mod Places
+pub mod Portions
 pub mod Printed
 pub mod Runs
 pub mod State

@@ -6,14 +6,16 @@ use Rattle.scad_scope.specs.View.{stored}
 use Rattle.scad_expr.specs.declared.machine.Machine.{Machine}
 use Rattle.scad_expr.specs.State.{State, step_limit}
 
--- its frames, those of the `$` names, and the number of the frame from which names are sought
+-- its frames, those of the `$` names, the number of the frame from which names are sought, and how many levels of depth an
+-- expression has that it evaluates
 pub record Held : Type 0 where
   pub frames : List Stored
   pub along : List Stored
   pub here : ℕ
+  pub depth : ℕ
 
 unfoldable pub held : Machine → Held
-held m = record { frames = stored m.frames; along = stored m.along; here = m.here }
+held m = record { frames = stored m.frames; along = stored m.along; here = m.here; depth = m.depth_left }
 
 -- the environment of names, and that of the `$` names, which is the last frame's
 unfoldable pub env_in : Held → Env

@@ -1,5 +1,6 @@
 -- What lists in memory are to the definitions.
-use Rattle.std.specs.Prelude.{List, map}
+use Rattle.std.specs.Prelude.{List, map, Vec}
+use Rattle.std.specs.Global.{Global}
 use Rattle.scad_ast.specs.declared.expression.Expr.{Expr}
 use Rattle.scad_ast.specs.declared.statement.Param.{Param}
 use Rattle.scad_ast.specs.Scope.{parameter}
@@ -16,6 +17,10 @@ use Rattle.scad_expr.specs.Functions.{Function, Found}
 -- values, one behind another
 abbrev pub data_of : List Value → List Datum
 data_of all = map datum_of all
+
+-- the values that a vector of them holds
+abbrev pub data_in : Vec Value Global → List Datum
+data_in v = data_of v.items
 
 -- a function that is defined by these parameters and this expression
 abbrev pub function_of : List Param → Expr → Function

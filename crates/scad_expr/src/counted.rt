@@ -16,7 +16,7 @@ use std::alloc::{AllocError, Global};
 impl<'p> Machine<'p> {
     /// Takes so many steps.
     #[tactic(auto, unfolding(crate::specs::Machine::state_of, crate::specs::Machine::held, crate::specs::State::take, crate::specs::State::over))]
-    pub(crate) fn take(&mut self, count: u64, at: Place) -> Result<(), EvalFault>
+    pub fn take(&mut self, count: u64, at: Place) -> Result<(), EvalFault>
         ensures does { Does nothing (take count at (state_of self.old)) result (state_of self.new) }
         ensures kept { held self.new ≡ held self.old }
     {
@@ -29,7 +29,7 @@ impl<'p> Machine<'p> {
 
     /// Takes the step of a node that begins.
     #[tactic(auto, unfolding(crate::specs::State::step))]
-    pub(crate) fn step(&mut self, at: Place) -> Result<(), EvalFault>
+    pub fn step(&mut self, at: Place) -> Result<(), EvalFault>
         ensures does { Does nothing (step at (state_of self.old)) result (state_of self.new) }
         ensures kept { held self.new ≡ held self.old }
     {
@@ -38,7 +38,7 @@ impl<'p> Machine<'p> {
 
     /// Judges a value that was made, and takes its steps.
     #[tactic(auto, unfolding(crate::specs::State::make, crate::specs::State::over, crate::specs::State::take, crate::specs::Machine::state_of))]
-    pub(crate) fn make(&mut self, at: Place, value: Value) -> Result<Value, EvalFault>
+    pub fn make(&mut self, at: Place, value: Value) -> Result<Value, EvalFault>
         ensures does { Does datum_of (make at (datum_of value) (state_of self.old)) result (state_of self.new) }
         ensures kept { held self.new ≡ held self.old }
     {

@@ -21,12 +21,7 @@ use std::alloc::Global;
 
 /// Every argument has a name.
 #[tactic(auto, unfolding(crate::specs::Meaning::judge_named, crate::specs::State::fault_of))]
-pub(crate) fn judge_named(
-    alloc: Global,
-    at: Place,
-    word: &[u8],
-    args: &[Arg],
-) -> Result<(), EvalFault>
+pub fn judge_named(alloc: Global, at: Place, word: &[u8], args: &[Arg]) -> Result<(), EvalFault>
     ensures { (s : State) → Does nothing (judge_named at word.now (arguments args.now) s) result s }
 {
     if are_named(args) {
@@ -38,12 +33,7 @@ pub(crate) fn judge_named(
 
 /// There is an argument, and every one has a name.
 #[tactic(auto, using(crate::proofs::Lists::some), unfolding(crate::specs::Meaning::judge_variables, crate::specs::State::fault_of))]
-pub(crate) fn judge_variables(
-    alloc: Global,
-    at: Place,
-    word: &[u8],
-    args: &[Arg],
-) -> Result<(), EvalFault>
+pub fn judge_variables(alloc: Global, at: Place, word: &[u8], args: &[Arg]) -> Result<(), EvalFault>
     ensures { (s : State) → Does nothing (judge_variables at word.now (arguments args.now) s) result s }
 {
     if args.len() == 0 {
@@ -125,12 +115,7 @@ fn tested(alloc: Global, at: Place, test: Option<&Value>) -> Result<(), EvalFaul
 
 /// The judgement of an `assert` with these arguments and values.
 #[tactic(auto, unfolding(crate::specs::Meaning::asserted))]
-pub(crate) fn asserted(
-    alloc: Global,
-    at: Place,
-    args: &[Arg],
-    values: &[Value],
-) -> Result<(), EvalFault>
+pub fn asserted(alloc: Global, at: Place, args: &[Arg], values: &[Value]) -> Result<(), EvalFault>
     ensures { (s : State) → Does nothing (asserted at (arguments args.now) (data_of values.now) s) result s }
 {
     tested(alloc, at, test_of(args, values))

@@ -14,6 +14,7 @@ pub struct Machine<'p> {
     /// The frame from which the other names are sought.
     pub here: u32,
     pub steps_left: u32,
+    /// How many levels of depth an expression has that is evaluated, its own counted.
     pub depth_left: u32,
     pub leaves: u32,
     pub triangles: u64,

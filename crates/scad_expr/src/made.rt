@@ -30,7 +30,7 @@ impl<'p> Machine<'p> {
     }
 
     /// The line of these arguments with their values.
-    pub(crate) fn echo(
+    pub fn echo(
         &mut self,
         alloc: Global,
         at: Place,

@@ -49,17 +49,25 @@ pub(crate) fn are_named(args: &[Arg]) -> bool
 }
 
 impl<'p> Machine<'p> {
-    /// The value of a variable.
+    /// The value of a variable, where it has one.
     #[tactic(auto, unfolding(crate::specs::Variables::variable, crate::specs::Machine::env_in, crate::specs::Machine::along_in, crate::specs::Machine::held))]
-    pub(crate) fn variable(&self, alloc: Global, name: &[u8]) -> Result<Value, EvalFault>
-        ensures { (s : State) → Does datum_of (gives
-            (variable name.now (env_in (held self.now)) (along_in (held self.now))) s) result s }
+    pub fn seek(&self, name: &[u8]) -> Option<&Value>
+        ensures { or_undef (option_map (λ v. datum_of v.now) result)
+            ≡ variable name.now (env_in (held self.now)) (along_in (held self.now)) }
     {
         if is_dollar(name) {
             let last = self.along.len().saturating_sub(1);
-            copied(alloc, self.along.get(last, name))
+            self.along.get(last, name)
         } else {
-            copied(alloc, self.frames.get(self.here, name))
+            self.frames.get(self.here, name)
         }
+    }
+
+    /// A copy of the value of a variable.
+    pub fn variable(&self, alloc: Global, name: &[u8]) -> Result<Value, EvalFault>
+        ensures { (s : State) → Does datum_of (gives
+            (variable name.now (env_in (held self.now)) (along_in (held self.now))) s) result s }
+    {
+        copied(alloc, self.seek(name))
     }
 }

@@ -1,6 +1,6 @@
 //! Values of operators and functions, and ranges, at a place in the source.
 
-ghost use Rattle.std.specs.Prelude.{◌≡◌, ◌≢◌, [], IfOk};
+ghost use Rattle.std.specs.Prelude.{◌≡◌, ◌≢◌, [], IfOk, Err};
 ghost use Rattle.scad_builtin.specs.Builtin.{builtin};
 ghost use Rattle.scad_value.specs.Datum.{number};
 ghost use Rattle.scad_value.specs.Operators.{op, unary_op};
@@ -9,7 +9,7 @@ ghost use Rattle.scad_expr.specs.Answers.{Does};
 ghost use Rattle.scad_expr.specs.Machine.{held, state_of};
 ghost use Rattle.scad_expr.specs.Meaning.{operated, called_builtin, ranged, ranged_by_one, member_of};
 ghost use Rattle.scad_expr.specs.Runs.{range_of_ends};
-ghost use Rattle.scad_expr.specs.State.{State, make};
+ghost use Rattle.scad_expr.specs.State.{State, make, refuses};
 
 use crate::fault::EvalFault;
 use crate::machine::Machine;
@@ -84,7 +84,7 @@ impl<'p> Machine<'p> {
     }
 
     /// The value of a function of the language.
-    #[tactic(auto, unfolding(crate::specs::Meaning::called_builtin, crate::specs::State::fault, crate::specs::State::fault_of))]
+    #[tactic(auto, using(crate::proofs::InPlace::refused), unfolding(crate::specs::Meaning::called_builtin))]
     pub(crate) fn builtin(
         &mut self,
         alloc: Global,
@@ -98,20 +98,25 @@ impl<'p> Machine<'p> {
     {
         match call(alloc, name, args) {
             Ok(value) => self.make(at, value),
-            Err(BuiltinFault::UnknownFunction) => {
-                Err(named_fault(alloc, FaultKind::UnknownFunction, at, name))
-            }
-            Err(BuiltinFault::LeftOut) => Err(named_fault(alloc, FaultKind::LeftOut, at, name)),
-            Err(BuiltinFault::BadArgument) => Err(named_fault(
-                alloc,
-                FaultKind::BadArgument,
-                at,
-                name,
-            )),
-            Err(BuiltinFault::ZeroDivisor) => Err(fault(alloc, FaultKind::ZeroDivisor, at)),
-            Err(BuiltinFault::NumberRange) => Err(fault(alloc, FaultKind::NumberRange, at)),
-            Err(BuiltinFault::Memory) => Err(EvalFault::Memory),
+            Err(e) => Err(refusal(alloc, at, name, e)),
         }
+    }
+}
+
+/// The fault for which a function of the language has no value.
+#[tactic(auto, unfolding(crate::specs::Meaning::called_builtin, crate::specs::State::fault, crate::specs::State::fault_of))]
+pub(crate) fn refusal(alloc: Global, at: Place, name: &[u8], e: BuiltinFault) -> EvalFault
+    ensures told { (s : State) → result ≢ EvalFault.Memory
+        → called_builtin at name.now (Err e) s ≡ refuses result s }
+    ensures memory { e ≡ BuiltinFault.Memory → result ≡ EvalFault.Memory }
+{
+    match e {
+        BuiltinFault::UnknownFunction => named_fault(alloc, FaultKind::UnknownFunction, at, name),
+        BuiltinFault::LeftOut => named_fault(alloc, FaultKind::LeftOut, at, name),
+        BuiltinFault::BadArgument => named_fault(alloc, FaultKind::BadArgument, at, name),
+        BuiltinFault::ZeroDivisor => fault(alloc, FaultKind::ZeroDivisor, at),
+        BuiltinFault::NumberRange => fault(alloc, FaultKind::NumberRange, at),
+        BuiltinFault::Memory => EvalFault::Memory,
     }
 }
 

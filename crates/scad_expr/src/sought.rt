@@ -1,6 +1,6 @@
 //! Functions of the program by their names.
 
-ghost use Rattle.std.specs.Prelude.{◌≡◌, None, option_map};
+ghost use Rattle.std.specs.Prelude.{◌≡◌, ◌<◌, length, None, option_map, IfSome};
 ghost use Rattle.scad_ast.specs.Scope.{item_of, items};
 ghost use Rattle.scad_scope.specs.Stored.{envs};
 ghost use Rattle.scad_expr.specs.Functions.{defined, last_defined, defined_in, function_named};
@@ -57,8 +57,9 @@ impl<'p> Machine<'p> {
     /// The function of a name in the innermost scope that has one.
     #[tactic(auto, using(crate::proofs::Homes::homes), unfolding(crate::specs::Machine::held, crate::specs::Machine::env_in))]
     pub(crate) fn function(&self, name: &[u8]) -> Option<DefinedAt<'p>>
-        ensures { option_map (found_at (envs (held self.now).frames)) result
+        ensures found { option_map (found_at (envs (held self.now).frames)) result
             ≡ function_named name.now (env_in (held self.now)) }
+        ensures there { IfSome result (λ f. f.home < length (held self.now).frames) }
     {
         let mut at = self.here;
         'outwards: loop {

@@ -1,9 +1,11 @@
 -- How many segments start and end at a point, segment by segment, and of whole edges at whole points.
-use Rattle.std.proofs.Common.{◌≡◌, ℕ, ◌+◌, Bool, cond, ◌&&◌, List, [], ◌∷◌, refl, sym, ap, ap₂, ◌∙◌, arith}
+use Rattle.std.proofs.Common.{◌≡◌, ℕ, ◌+◌, Bool, true, cond, ◌&&◌, List, [], ◌∷◌, refl, sym, ap, ap₂, ◌∙◌, arith}
 use Rattle.std.proofs.Math.Bool.{and_comm}
+use Rattle.std.proofs.lemmas.Bool.{and_parts}
 use lib.IntN.{ℤ, pos, ◌*ℤ◌}
 use Rattle.std.specs.Prelude.{count_by}
 use Rattle.std.specs.Ordering.{int_eq}
+use Rattle.std.specs.Cmp.{signed_Decides}
 use Rattle.std.proofs.lemmas.Int.{ints}
 use Rattle.std.proofs.lemmas.List.Sums.{sum_by-cons}
 use Rattle.scad_geom.specs.declared.point.Pt.{Pt}
@@ -25,6 +27,16 @@ ends-cons p s ss = sum_by-cons (λ x. once (is_same_point p x.to)) s ss
 -- two points in whole micrometres are the same
 abbrev pub same_place : Pt → Pt → Bool
 same_place p q = int_eq p.x q.x && int_eq p.y q.y
+
+pub same_place-is : (p q : Pt) → same_place p q ≡ true → p ≡ q
+same_place-is p q e =
+    let both = and_parts (int_eq p.x q.x) (int_eq p.y q.y) e in
+    let x = (signed_Decides p.x q.x).0 both.0 in
+    let y = (signed_Decides p.y q.y).0 both.1 in
+    λ i. record { x = x i; y = y i }
+
+pub same_place-itself : (p : Pt) → same_place p p ≡ true
+same_place-itself p = ap₂ (λ (a b : Bool). a && b) ((signed_Decides p.x p.x).1 refl) ((signed_Decides p.y p.y).1 refl)
 
 pub same_whole : (p q : Pt) → is_same_point (whole p) (whole q) ≡ same_place p q
 same_whole p q = rw (one p.x, one p.y, one q.x, one q.y) (and_comm (int_eq p.y q.y) (int_eq p.x q.x))

@@ -17,7 +17,8 @@ use Rattle.scad_geom.specs.Level.{level_of, IsLower, IsAtMost}
 use Rattle.scad_geom.specs.Meeting.{straddles, meets, meeting}
 use Rattle.scad_geom.specs.Heights.{meetings, heights}
 use Rattle.scad_geom.proofs.Ring.{ring, num, ◌⊕◌, ◌⊖◌, ◌⊗◌, v0, v1, v2, v3, v4, v5}
-use Rattle.scad_geom.proofs.Signs.{pos_mul, at_least_mul, pos_left, at_least_left}
+use Rattle.scad_base.proofs.Products.{positive_product}
+use Rattle.scad_geom.proofs.Signs.{at_least_mul, pos_left, at_least_left}
 use Rattle.scad_geom.proofs.Lines.{low_by, high_by}
 use Rattle.scad_geom.proofs.Integers.{neg_mul}
 
@@ -28,13 +29,13 @@ chain a p b q c r = ring (a ∷ p ∷ b ∷ q ∷ c ∷ r ∷ []) ((v4 ⊗ v1 �
 pub lower_then_at_most : (p q r : Level) → pos 0 <ℤ p.d → pos 0 <ℤ q.d → pos 0 <ℤ r.d → IsLower p q → IsAtMost q r → IsLower p r
 lower_then_at_most p q r dp dq dr h k =
     let s : pos 0 ≤ℤ ((r.n *ℤ q.d -ℤ q.n *ℤ r.d) *ℤ p.d) = at_least_mul _ _ (gap_of_at_most _ _ k) (omega (arith, ints)) in
-    let t : pos 0 <ℤ ((q.n *ℤ p.d -ℤ p.n *ℤ q.d) *ℤ r.d) = pos_mul _ _ (gap_of_less _ _ h) dr in
+    let t : pos 0 <ℤ ((q.n *ℤ p.d -ℤ p.n *ℤ q.d) *ℤ r.d) = positive_product _ _ (gap_of_less _ _ h) dr in
     let u = chain p.n p.d q.n q.d r.n r.d in
     less_of_gap _ _ (pos_left (r.n *ℤ p.d -ℤ p.n *ℤ r.d) q.d dq (rw u (omega (arith, ints, s, t))))
 
 pub at_most_then_lower : (p q r : Level) → pos 0 <ℤ p.d → pos 0 <ℤ q.d → pos 0 <ℤ r.d → IsAtMost p q → IsLower q r → IsLower p r
 at_most_then_lower p q r dp dq dr h k =
-    let s : pos 0 <ℤ ((r.n *ℤ q.d -ℤ q.n *ℤ r.d) *ℤ p.d) = pos_mul _ _ (gap_of_less _ _ k) dp in
+    let s : pos 0 <ℤ ((r.n *ℤ q.d -ℤ q.n *ℤ r.d) *ℤ p.d) = positive_product _ _ (gap_of_less _ _ k) dp in
     let t : pos 0 ≤ℤ ((q.n *ℤ p.d -ℤ p.n *ℤ q.d) *ℤ r.d) = at_least_mul _ _ (gap_of_at_most _ _ h) (omega (arith, ints)) in
     let u = chain p.n p.d q.n q.d r.n r.d in
     less_of_gap _ _ (pos_left (r.n *ℤ p.d -ℤ p.n *ℤ r.d) q.d dq (rw u (omega (arith, ints, s, t))))

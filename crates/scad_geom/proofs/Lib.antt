@@ -12,9 +12,13 @@ pub mod Crossing
 pub mod Doubled
 pub mod Leaves
 pub mod Balanced
+pub mod Places
 pub mod Nearest
 mod RoundingExamples
 pub mod Bits
 pub mod Casts
 pub mod Crossings
 pub mod Square
+pub mod Points
+pub mod Sums
+mod Boxes

@@ -1,5 +1,6 @@
 -- Between two neighbouring heights the order of edges stays as it is.
 use Rattle.std.proofs.Common.{◌≡◌, ℕ, zero, suc, ◌<◌, ◌⊎◌, inl, inr, Bool, true, false, List, [], ◌∷◌, ◌++◌, length, get_or, refl, sym, ap, ◌∙◌, arith, subst}
+use Rattle.scad_base.proofs.Products.{negative_factor}
 use lib.IntN.{ℤ, pos, negsuc, ◌+ℤ◌, ◌-ℤ◌, ◌*ℤ◌, neg_ℤ, zero-*ℤ}
 use lib.Signed.{◌<ℤ◌, ◌≤ℤ◌}
 use Rattle.std.specs.Prelude.{if◌then◌else◌}
@@ -15,7 +16,8 @@ use Rattle.scad_geom.specs.Meeting.{meets, meeting}
 use Rattle.scad_geom.specs.Heights.{meetings, heights, AreNeighbours}
 use Rattle.scad_geom.specs.EdgeOrder.{IsBefore, AreAligned}
 use Rattle.scad_geom.proofs.Ring.{ring, ◌⊕◌, ◌⊖◌, ◌⊗◌, v0, v1, v2, v3, v4, v5}
-use Rattle.scad_geom.proofs.Signs.{pos_mul, at_least_mul, pos_left, at_least_left, neg_mul_pos, at_most_mul}
+use Rattle.scad_base.proofs.Products.{positive_product, negative_product}
+use Rattle.scad_geom.proofs.Signs.{at_least_mul, pos_left, at_least_left, at_most_mul}
 use Rattle.scad_geom.proofs.Integers.{neg_mul}
 use Rattle.scad_geom.proofs.Lines.{gap_is}
 use Rattle.scad_geom.proofs.Heights.{Reaches, meeting_up, meets_between, meets_turned, meeting_is, meeting_turned, lower_then_at_most, at_most_then_lower}
@@ -94,17 +96,11 @@ factor a (pos zero) h k = absurd (omega (arith, ints))
 factor a (pos (suc m)) h k = pos_left a (pos (suc m)) (omega (arith, ints)) k
 factor a (negsuc m) h k = absurd (omega (arith, ints))
 
-below_zero : (a r : ℤ) → pos 0 <ℤ r → (a *ℤ r) <ℤ pos 0 → a <ℤ pos 0
-below_zero a r p h =
-    let k : pos 0 <ℤ (neg_ℤ a *ℤ r) = rw neg_mul (omega (arith, ints)) in
-    let m : pos 0 <ℤ neg_ℤ a = pos_left (neg_ℤ a) r p k in
-    omega (arith, ints)
-
 -- a line that isn't above 0 at one height and is above 0 at a later one rises, and passes 0 between them
 rises_between : (a b : ℤ) (p q : Level) → pos 0 <ℤ p.d → pos 0 <ℤ q.d → (a *ℤ p.n +ℤ b *ℤ p.d) ≤ℤ pos 0 → pos 0 <ℤ (a *ℤ q.n +ℤ b *ℤ q.d) → IsAtMost p q → pos 0 <ℤ a
 rises_between a b p q dp dq h k o =
     let i = climb a b q.n q.d p.n p.d in
-    let s : pos 0 <ℤ ((a *ℤ q.n +ℤ b *ℤ q.d) *ℤ p.d) = pos_mul _ _ k dp in
+    let s : pos 0 <ℤ ((a *ℤ q.n +ℤ b *ℤ q.d) *ℤ p.d) = positive_product _ _ k dp in
     let t : ((a *ℤ p.n +ℤ b *ℤ p.d) *ℤ q.d) ≤ℤ pos 0 = at_most_mul (a *ℤ p.n +ℤ b *ℤ p.d) q.d h (weak q.d dq) in
     let w : pos 0 <ℤ (a *ℤ (q.n *ℤ p.d -ℤ p.n *ℤ q.d)) = omega (arith, ints) in
     let g : pos 0 ≤ℤ (q.n *ℤ p.d -ℤ p.n *ℤ q.d) = omega (arith, ints) in
@@ -115,7 +111,7 @@ rises_later : (a b : ℤ) (p q : Level) → pos 0 <ℤ p.d → pos 0 <ℤ q.d �
 rises_later a b p q dp dq h k o =
     let i = climb a b q.n q.d p.n p.d in
     let s : pos 0 ≤ℤ ((a *ℤ q.n +ℤ b *ℤ q.d) *ℤ p.d) = at_least_mul _ _ k (weak p.d dp) in
-    let t : ((a *ℤ p.n +ℤ b *ℤ p.d) *ℤ q.d) <ℤ pos 0 = neg_mul_pos (a *ℤ p.n +ℤ b *ℤ p.d) q.d dq h in
+    let t : ((a *ℤ p.n +ℤ b *ℤ p.d) *ℤ q.d) <ℤ pos 0 = negative_product (a *ℤ p.n +ℤ b *ℤ p.d) q.d dq h in
     let w : pos 0 <ℤ (a *ℤ (q.n *ℤ p.d -ℤ p.n *ℤ q.d)) = omega (arith, ints) in
     let g : pos 0 ≤ℤ (q.n *ℤ p.d -ℤ p.n *ℤ q.d) = omega (arith, ints) in
     factor a (q.n *ℤ p.d -ℤ p.n *ℤ q.d) g w
@@ -125,10 +121,10 @@ falls_later : (a b : ℤ) (p q : Level) → pos 0 <ℤ p.d → pos 0 <ℤ q.d �
 falls_later a b p q dp dq h k o =
     let i = climb a b q.n q.d p.n p.d in
     let g : pos 0 <ℤ (q.n *ℤ p.d -ℤ p.n *ℤ q.d) = omega (arith, ints) in
-    let w : (a *ℤ (q.n *ℤ p.d -ℤ p.n *ℤ q.d)) <ℤ pos 0 = neg_mul_pos a (q.n *ℤ p.d -ℤ p.n *ℤ q.d) g k in
+    let w : (a *ℤ (q.n *ℤ p.d -ℤ p.n *ℤ q.d)) <ℤ pos 0 = negative_product a (q.n *ℤ p.d -ℤ p.n *ℤ q.d) g k in
     let z : (a *ℤ p.n +ℤ b *ℤ p.d) *ℤ q.d ≡ pos 0 = rw h (zero-*ℤ q.d) in
     let v : ((a *ℤ q.n +ℤ b *ℤ q.d) *ℤ p.d) <ℤ pos 0 = omega (arith, ints) in
-    below_zero (a *ℤ q.n +ℤ b *ℤ q.d) p.d dp v
+    negative_factor (a *ℤ q.n +ℤ b *ℤ q.d) p.d dp v
 
 -- ---- the order of two edges that reach two neighbouring heights
 lower_meeting : (e f : Edge) (l : Level) → (lean e f *ℤ l.n +ℤ apart e f *ℤ l.d) <ℤ pos 0 → IsLower l (meeting_up e f)

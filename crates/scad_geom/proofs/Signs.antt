@@ -1,6 +1,6 @@
 -- Sums and products of whole numbers, and their signs.
 use Rattle.std.proofs.Common.{◌≡◌, zero, suc, arith}
-use Rattle.scad_base.proofs.Products.{positive_product, negative_product}
+use Rattle.scad_base.proofs.Products.{negative_product}
 use Rattle.std.proofs.Common.{ℤ, pos, negsuc, ◌-ℤ◌, ◌*ℤ◌, neg_ℤ, int_lt, ◌<ℤ◌}
 use lib.Signed.{◌≤ℤ◌}
 use Rattle.std.proofs.lemmas.Int.{ints}
@@ -21,12 +21,6 @@ product_is_negative (pos zero) d positive = absurd (omega (arith, ints))
 product_is_negative (pos (suc k)) (pos n) positive = grind (arith, ints)
 product_is_negative (pos (suc k)) (negsuc n) positive = grind (arith, ints)
 product_is_negative (negsuc k) d positive = absurd (omega (arith, ints))
-
-pub pos_mul : (a b : ℤ) → pos 0 <ℤ a → pos 0 <ℤ b → pos 0 <ℤ (a *ℤ b)
-pos_mul = positive_product
-
-pub neg_mul_pos : (a r : ℤ) → pos 0 <ℤ r → a <ℤ pos 0 → (a *ℤ r) <ℤ pos 0
-neg_mul_pos = negative_product
 
 pub at_least_mul : (a b : ℤ) → pos 0 ≤ℤ a → pos 0 ≤ℤ b → pos 0 ≤ℤ (a *ℤ b)
 at_least_mul (pos m) (pos n) p q = omega (arith, ints)

@@ -1,5 +1,6 @@
 -- The turn of an edge that reaches two neighbouring heights, hard by a point between them.
 use Rattle.std.proofs.Common.{◌≡◌, Bool, true, false, cond, [], ◌∷◌, refl, sym, ap, ap₂, ◌∙◌, arith, subst}
+use Rattle.scad_base.proofs.Integers.{zero_minus}
 use lib.IntN.{ℤ, pos, negsuc, ◌+ℤ◌, ◌-ℤ◌, ◌*ℤ◌, neg_ℤ}
 use lib.Signed.{◌<ℤ◌, ◌≤ℤ◌, lt_z, le_z}
 use Rattle.std.specs.Prelude.{int_lt, int_le, if◌then◌else◌}
@@ -12,7 +13,8 @@ use Rattle.scad_geom.specs.Point.{Point, whole}
 use Rattle.scad_geom.specs.Winding.{counted, is_over, passage_by, side_by, is_beyond, turn}
 use Rattle.scad_geom.specs.Level.{level_of, IsLower, IsAtMost}
 use Rattle.scad_geom.proofs.Ring.{ring, num, ◌⊕◌, ◌⊖◌, ◌⊗◌, v0, v1, v2, v3, v4, v5, v6}
-use Rattle.scad_geom.proofs.Signs.{pos_mul, at_least_mul, neg_mul_pos, at_most_mul}
+use Rattle.scad_base.proofs.Products.{positive_product, negative_product}
+use Rattle.scad_geom.proofs.Signs.{at_least_mul, at_most_mul}
 use Rattle.scad_geom.proofs.Heights.{Reaches, lower_then_at_most, at_most_then_lower, at_most_chain}
 
 -- the height of a point
@@ -79,13 +81,13 @@ falling_turn above right p a b e f = rw (e, f, minus_mul (side_by p a b))
 pub beyond_mul : (right : Bool) (k z : ℤ) → pos 0 <ℤ k → is_beyond right (z *ℤ k) ≡ is_beyond right z
 unfolding is_beyond
 beyond_mul true k z h = by_lt_z (pos 0) z
-    (λ q. let a : int_lt (pos 0) z ≡ true = sym (omega (arith, ints)) in let b : int_lt (pos 0) (z *ℤ k) ≡ true = let m = pos_mul z k q h in sym (omega (arith, ints)) in b ∙ sym a)
+    (λ q. let a : int_lt (pos 0) z ≡ true = sym (omega (arith, ints)) in let b : int_lt (pos 0) (z *ℤ k) ≡ true = let m = positive_product z k q h in sym (omega (arith, ints)) in b ∙ sym a)
     (λ q. let a : int_lt (pos 0) z ≡ false = sym (omega (arith, ints)) in let b : int_lt (pos 0) (z *ℤ k) ≡ false = let m = at_most_mul z k q (weak k h) in sym (omega (arith, ints)) in b ∙ sym a)
   where
     weak : (z : ℤ) → pos 0 <ℤ z → pos 0 ≤ℤ z
     weak z h = omega (arith, ints)
 beyond_mul false k z h = by_lt_z z (pos 0)
-    (λ q. let a : int_le (pos 0) z ≡ false = sym (omega (arith, ints)) in let b : int_le (pos 0) (z *ℤ k) ≡ false = let m = neg_mul_pos z k h q in sym (omega (arith, ints)) in b ∙ sym a)
+    (λ q. let a : int_le (pos 0) z ≡ false = sym (omega (arith, ints)) in let b : int_le (pos 0) (z *ℤ k) ≡ false = let m = negative_product z k h q in sym (omega (arith, ints)) in b ∙ sym a)
     (λ q. let a : int_le (pos 0) z ≡ true = sym (omega (arith, ints)) in let b : int_le (pos 0) (z *ℤ k) ≡ true = let m = at_least_mul z k q (weak k h) in sym (omega (arith, ints)) in b ∙ sym a)
   where
     weak : (z : ℤ) → pos 0 <ℤ z → pos 0 ≤ℤ z
@@ -102,9 +104,6 @@ rising_side ax ay bx by x y d = ring (ax ∷ ay ∷ bx ∷ by ∷ x ∷ y ∷ d 
 falling_side : (ax ay bx by x y d : ℤ) → pos 0 -ℤ ((bx *ℤ pos 1 -ℤ ax *ℤ pos 1) *ℤ (y *ℤ pos 1 -ℤ ay *ℤ d) -ℤ (by *ℤ pos 1 -ℤ ay *ℤ pos 1) *ℤ (x *ℤ pos 1 -ℤ ax *ℤ d)) ≡ (ax -ℤ bx) *ℤ y +ℤ ((ay -ℤ by) *ℤ bx -ℤ (ax -ℤ bx) *ℤ by) *ℤ d -ℤ (ay -ℤ by) *ℤ x
 falling_side ax ay bx by x y d = ring (ax ∷ ay ∷ bx ∷ by ∷ x ∷ y ∷ d ∷ []) (num (pos 0) ⊖ ((v2 ⊗ num (pos 1) ⊖ v0 ⊗ num (pos 1)) ⊗ (v5 ⊗ num (pos 1) ⊖ v1 ⊗ v6) ⊖ (v3 ⊗ num (pos 1) ⊖ v1 ⊗ num (pos 1)) ⊗ (v4 ⊗ num (pos 1) ⊖ v0 ⊗ v6))) ((v0 ⊖ v2) ⊗ v5 ⊕ ((v1 ⊖ v3) ⊗ v2 ⊖ (v0 ⊖ v2) ⊗ v3) ⊗ v6 ⊖ (v1 ⊖ v3) ⊗ v4) refl
 
-no_minus : (z : ℤ) → pos 0 -ℤ z ≡ neg_ℤ z
-no_minus z = omega (arith, ints)
-
 turn_by_test : (above right : Bool) (p : Point) (e : Edge) (t : Bool) → int_lt e.b.y e.a.y ≡ t
     → NotOver above (level_at p) (level_of (low e).y) → Over above (level_at p) (level_of (high e).y)
     → turn above right p (whole e.a) (whole e.b) ≡ (if is_beyond right (left_of e p.x p.y p.d) then (if t then negsuc 0 else pos 1) else pos 0)
@@ -115,7 +114,7 @@ turn_by_test above right p e true q under upper =
     let a = over_false above p (whole e.b) (subst (λ (q : Pt). NotOver above (level_at p) (level_of q.y)) l' under) in
     let b = over_true above p (whole e.a) (subst (λ (q : Pt). Over above (level_at p) (level_of q.y)) h' upper) in
     let f = falling_turn above right p (whole e.a) (whole e.b) b a in
-    let g = sym (no_minus (side_by p (whole e.a) (whole e.b))) ∙ falling_side e.a.x e.a.y e.b.x e.b.y p.x p.y p.d in
+    let g = sym (zero_minus (side_by p (whole e.a) (whole e.b))) ∙ falling_side e.a.x e.a.y e.b.x e.b.y p.x p.y p.d in
     f ∙ ap (λ (z : ℤ). if is_beyond right z then negsuc 0 else pos 0) (g ∙ sym (ap₂ (λ (lo hi : Pt). (hi.x -ℤ lo.x) *ℤ p.y +ℤ ((hi.y -ℤ lo.y) *ℤ lo.x -ℤ (hi.x -ℤ lo.x) *ℤ lo.y) *ℤ p.d -ℤ (hi.y -ℤ lo.y) *ℤ p.x) l' h'))
 turn_by_test above right p e false q under upper =
     let l' : low e ≡ e.a = ap (λ (t : Bool). cond t e.b e.a) q in

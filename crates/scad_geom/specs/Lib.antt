@@ -7,6 +7,7 @@ pub mod Point
 pub mod Segment
 pub mod Half
 pub mod Winding
+pub mod Near
 pub mod Balance
 pub mod Leaves
 pub mod Sign

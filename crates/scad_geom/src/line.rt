@@ -1,5 +1,5 @@
 //! The line of an edge, read upwards.
-ghost use Rattle.std.specs.Prelude.{◌≡◌, ◌+◌, ◌*◌, ◌^◌, ◌<◌, ◌≤◌, ◌+ℤ◌, ◌-ℤ◌, ◌*ℤ◌, pos, ◌<ℤ◌, int_lt, unsigned_abs};
+ghost use Rattle.std.specs.Prelude.{◌≡◌, ◌+◌, ◌*◌, ◌^◌, ◌<◌, ◌≤◌, ◌+ℤ◌, ◌-ℤ◌, ◌*ℤ◌, pos, ◌<ℤ◌, int_lt, int_le, unsigned_abs};
 ghost use Rattle.scad_geom.specs.Limits.{coordinate_limit};
 ghost use Rattle.scad_geom.specs.Within.{IsWithin, IsEdgeWithin};
 ghost use Rattle.scad_geom.specs.Line.{low, high, rise, run, offset, x_at};
@@ -60,6 +60,24 @@ pub fn offset(e: &Edge) -> i128
     minus(up, right)
 }
 
+/// Whether an edge's lower end doesn't lie above a height.
+pub fn starts_by(e: &Edge, at: &Level) -> bool
+    requires edge { IsEdgeWithin coordinate_limit e.now }
+    requires level { IsLevelWithin coordinate_limit at.now }
+    ensures { result ≡ int_le ((low e.now).y *ℤ at.now.d) at.now.n }
+{
+    times::<21, 44>(low(e).y as i128, at.d) <= at.n
+}
+
+/// Whether an edge's upper end doesn't lie below a height.
+pub fn ends_from(e: &Edge, at: &Level) -> bool
+    requires edge { IsEdgeWithin coordinate_limit e.now }
+    requires level { IsLevelWithin coordinate_limit at.now }
+    ensures { result ≡ int_le at.now.n ((high e.now).y *ℤ at.now.d) }
+{
+    at.n <= times::<21, 44>(high(e).y as i128, at.d)
+}
+
 /// The x of the line of an edge that isn't flat, at a height: this over its rise and the divisor of the height.
 #[tactic(auto, using(crate::proofs::Casts::casts), unfolding(crate::specs::Line::x_at))]
 pub fn x_at(e: &Edge, at: &Level) -> i128
@@ -71,4 +89,27 @@ pub fn x_at(e: &Edge, at: &Level) -> i128
     let slant = times::<22, 64>(run(e), at.n);
     let start = times::<44, 44>(offset(e), at.d);
     plus(slant, start)
+}
+
+#[cfg(test)]
+mod tests {
+    use super::*;
+
+    #[test]
+    fn an_edge_reaches_the_heights_of_its_ends(rt: HostRuntime) {
+        let e = Edge {
+            a: Pt { x: 0, y: 3 },
+            b: Pt { x: 9, y: 0 },
+        };
+        for (n, starts, ends) in [
+            (-1, false, true),
+            (0, true, true),
+            (6, true, true),
+            (7, true, false),
+        ] {
+            let at = Level { n, d: 2 };
+            assert_eq!(rt; starts_by(&e, &at), starts, "at {n} / 2");
+            assert_eq!(rt; ends_from(&e, &at), ends, "at {n} / 2");
+        }
+    }
 }

@@ -2,5 +2,7 @@ mod Rows
 pub mod Unique
 mod faults
 mod grammar
+mod nesting
 mod printing
 mod reader
+mod rules

@@ -9,12 +9,20 @@ use Rattle.scad_lex.specs.declared.token.Key.{Key as KeyName}
 use Rattle.scad_lex.specs.declared.token.Key.TheVariants as Keys
 use Rattle.scad_ast.specs.declared.operator.UnOp.TheVariants.{Not, Minus as UnaryMinus}
 use Rattle.scad_ast.specs.declared.operator.BinOp.TheVariants as Ops
-use Rattle.scad_ast.specs.Tree.{number, name, vector, range, stepped, unary, binary, choose, index, member, call, let_in, assert_in, echo_in, no_arguments, argument, no_elements, element, item, each, for_each, for_loop, let_element, if_else, no_items, entry, assignment, module_of, function_of, call_of, choice, Items}
+use Rattle.scad_ast.specs.Tree.{number, name, vector, range, stepped, unary, binary, choose, index, member, call}
+use Rattle.scad_ast.specs.Tree.{let_in, assert_in, echo_in, no_arguments, argument, no_elements, element, item, each}
+use Rattle.scad_ast.specs.Tree.{for_each, for_loop, let_element, if_else, no_items, entry, assignment, module_of}
+use Rattle.scad_ast.specs.Tree.{function_of, call_of, choice, Items}
 use Rattle.scad_grammar.specs.Tokens.{sign, key, word, numeral}
-use Rattle.scad_grammar.specs.Machine.{Refusal, start, outcome, outcome_of, reach, step, finish, judge_move, judge_end, syntax_at, left_out_at}
+use Rattle.scad_grammar.specs.Machine.{Refusal, start, outcome, outcome_of, reach, step, finish, judge_move}
+use Rattle.scad_grammar.specs.Machine.{judge_end, syntax_at, left_out_at}
 use Rattle.scad_grammar.specs.State.{open_count}
-use Rattle.scad_grammar.specs.Steps.{prim_step, unary_step, expression_step, element_step, end_arguments, after_argument_step, arguments_step, end_parameters, after_parameter_step, after_one_step, member_step, after_element, after_expression, tested_step, after_operand, post_step, name_step, word_argument}
-use Rattle.scad_grammar.specs.StatementSteps.{marked_step, first_step, definition_step, statement_step, word_statement, child_step, after_items, finish_items, parameters_step}
+use Rattle.scad_grammar.specs.Steps.{prim_step, unary_step, expression_step, element_step, end_arguments}
+use Rattle.scad_grammar.specs.Steps.{after_argument_step, arguments_step, end_parameters, after_parameter_step}
+use Rattle.scad_grammar.specs.Steps.{after_one_step, member_step, after_element, after_expression, tested_step}
+use Rattle.scad_grammar.specs.Steps.{after_operand, post_step, name_step, word_argument}
+use Rattle.scad_grammar.specs.StatementSteps.{marked_step, first_step, definition_step, statement_step}
+use Rattle.scad_grammar.specs.StatementSteps.{word_statement, child_step, after_items, finish_items, parameters_step}
 
 -- all stand on the first line
 abbrev at : ℕ → Place
@@ -166,7 +174,8 @@ sources =
     (binary (at 19) Ops.Add (name (at 18) (codes "i")) (number (at 20) (pos 1000000))) no_arguments)
     (item (name (at 23) (codes "i")))) no_elements))) no_items))
     -- x=[each [1,2], 3];
-    ∷ source (w (codes "x") 1 ∷ s Signs.Assign 2 ∷ s Signs.OpenSquare 3 ∷ k Keys.Each 4 ∷ s Signs.OpenSquare 9 ∷ n 1 10
+    ∷ source (w (codes "x") 1 ∷ s Signs.Assign 2 ∷ s Signs.OpenSquare 3 ∷ k Keys.Each 4 ∷ s Signs.OpenSquare 9 ∷ n 1
+    10
     ∷ s Signs.Comma 11 ∷ n 2 12 ∷ s Signs.CloseSquare 13 ∷ s Signs.Comma 14 ∷ n 3 16 ∷ s Signs.CloseSquare 17
     ∷ s Signs.Semicolon 18 ∷ []) 19
     (Ok (entry (assignment (at 1) (codes "x")
@@ -282,7 +291,8 @@ openings =
     ∷ opening (k Keys.If 1 ∷ s Signs.OpenRound 3 ∷ w (codes "a") 4 ∷ s Signs.CloseRound 5 ∷ w (codes "b") 7
     ∷ s Signs.OpenRound 8 ∷ s Signs.CloseRound 9 ∷ s Signs.Semicolon 10 ∷ []) 1
     -- union() {a();
-    ∷ opening (w (codes "union") 1 ∷ s Signs.OpenRound 6 ∷ s Signs.CloseRound 7 ∷ s Signs.OpenCurly 9 ∷ w (codes "a") 10
+    ∷ opening (w (codes "union") 1 ∷ s Signs.OpenRound 6 ∷ s Signs.CloseRound 7 ∷ s Signs.OpenCurly 9 ∷ w
+    (codes "a") 10
     ∷ s Signs.OpenRound 11 ∷ s Signs.CloseRound 12 ∷ s Signs.Semicolon 13 ∷ []) 2
     -- if(a) b(); else c();
     ∷ opening (k Keys.If 1 ∷ s Signs.OpenRound 3 ∷ w (codes "a") 4 ∷ s Signs.CloseRound 5 ∷ w (codes "b") 7

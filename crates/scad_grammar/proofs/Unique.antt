@@ -4,7 +4,9 @@ use Rattle.scad_lex.proofs.HaveSpellings.{tokens_have_spellings}
 use Rattle.scad_grammar.specs.Machine.{start, reach}
 use Rattle.scad_grammar.specs.Judged.{Judged}
 use Rattle.scad_grammar.specs.PrintedItems.{items_onto}
-use Rattle.scad_grammar.specs.Promises.{OneProgram, ReadsWhatIsDerived, StandsWhereAProgramBegins, JudgesAsTheGrammar, EndsExcludeNothing, PrintedTokensDerive, PrintedTextDerives, PrintedSourceDerives}
+use Rattle.scad_grammar.specs.Promises.{OneProgram, ReadsWhatIsDerived, StandsWhereAProgramBegins, JudgesAsTheGrammar}
+use Rattle.scad_grammar.specs.Promises.{EndsExcludeNothing, PrintedTokensDerive, PrintedTextDerives}
+use Rattle.scad_grammar.specs.Promises.{PrintedSourceDerives}
 use Rattle.scad_grammar.proofs.reader.Asked.{same_some}
 use Rattle.scad_grammar.proofs.reader.Statements.{runs_program}
 use Rattle.scad_grammar.proofs.reader.Sound.{sound_program}

@@ -5,6 +5,7 @@ pub mod PrintableItems
 pub mod Printables
 pub mod PrintedItemTexts
 pub mod PrintedTexts
+pub mod Posted
 pub mod Printing
 pub mod PrintingItems
 pub mod Reread

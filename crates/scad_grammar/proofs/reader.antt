@@ -1,6 +1,7 @@
 -- The reader of tokens against the grammar.
 pub mod Asked
 pub mod Backward
+pub mod BackwardElements
 pub mod Ends
 pub mod Expressions
 pub mod Goes

@@ -4,7 +4,8 @@ use Rattle.std.specs.Prelude.{ℕ, Bool, List, Option, ◌+◌}
 use Rattle.scad_fault.specs.declared.place.Place.{Place}
 use Rattle.scad_ast.specs.declared.operator.UnOp.{UnOp}
 use Rattle.scad_ast.specs.declared.operator.BinOp.{BinOp}
-use Rattle.scad_ast.specs.Tree.{Expression, let_in, assert_in, echo_in, Arguments, Elements, Element, Parameter, Items}
+use Rattle.scad_ast.specs.Tree.{Expression, let_in, assert_in, echo_in, Arguments, Elements, Element, Parameter}
+use Rattle.scad_ast.specs.Tree.{Items}
 use Rattle.scad_grammar.specs.Lists.{Marks}
 
 -- `let`, `assert`, `echo` before an expression

@@ -9,12 +9,19 @@ use Rattle.scad_fault.specs.declared.place.Place.{Place}
 use Rattle.scad_lex.specs.declared.token.Token.{Token}
 use Rattle.scad_lex.specs.declared.token.TokenKind.{TokenKind}
 use Rattle.scad_lex.specs.declared.token.TokenKind.TheVariants.{Sign}
-use Rattle.scad_lex.specs.declared.token.Sign.TheVariants.{OpenRound, CloseRound, OpenSquare, CloseSquare, Semicolon, Comma, Colon, Question, Assign, Plus, Minus, Caret, Bang, Dot}
-use Rattle.scad_lex.specs.declared.token.Key.TheVariants.{If, Else as KeyElse, For, Let, Assert, Echo, Each, True, False, Undef}
+use Rattle.scad_lex.specs.declared.token.Sign.TheVariants.{OpenRound, CloseRound, OpenSquare, CloseSquare, Semicolon}
+use Rattle.scad_lex.specs.declared.token.Sign.TheVariants.{Comma, Colon, Question, Assign, Plus, Minus, Caret, Bang}
+use Rattle.scad_lex.specs.declared.token.Sign.TheVariants.{Dot}
+use Rattle.scad_lex.specs.declared.token.Key.TheVariants.{If, Else as KeyElse, For, Let, Assert, Echo, Each, True}
+use Rattle.scad_lex.specs.declared.token.Key.TheVariants.{False, Undef}
 use Rattle.scad_ast.specs.declared.operator.UnOp.TheVariants.{Not, Plus as UnaryPlus, Minus as UnaryMinus}
 use Rattle.scad_ast.specs.declared.operator.BinOp.{BinOp}
-use Rattle.scad_ast.specs.Tree.{Expression, undef, boolean, number, string, name, vector, range, stepped, unary, binary, choose, index, member, call, let_in, assert_in, echo_in, Arguments, no_arguments, Elements, no_elements, Element, item, each, for_each, for_loop, let_element, if_element, if_else, Parameter}
-use Rattle.scad_grammar.specs.Tokens.{sign, key, word, numeral, quoted, word_of, begins_with, begins_with_key, operator, first_operator}
+use Rattle.scad_ast.specs.Tree.{Expression, undef, boolean, number, string, name, vector, range, stepped, unary}
+use Rattle.scad_ast.specs.Tree.{binary, choose, index, member, call, let_in, assert_in, echo_in, Arguments}
+use Rattle.scad_ast.specs.Tree.{no_arguments, Elements, no_elements, Element, item, each, for_each, for_loop}
+use Rattle.scad_ast.specs.Tree.{let_element, if_element, if_else, Parameter}
+use Rattle.scad_grammar.specs.Tokens.{sign, key, word, numeral, quoted, word_of, begins_with, begins_with_key}
+use Rattle.scad_grammar.specs.Tokens.{operator, first_operator}
 use Rattle.scad_grammar.specs.Lists.{with_argument, with_element, with_parameter}
 
 -- `)` or `;`, which ends arguments

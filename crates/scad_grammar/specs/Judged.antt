@@ -1,16 +1,12 @@
 -- What tokens are: the program that they derive, or the fault at the first token, or at the end, that has one.
-use Rattle.std.specs.Prelude.{◌≡◌, ℕ, ◌<◌, ◌≤◌, List, [], ◌∷◌, ◌++◌, Some, Result, Ok, Err}
+use Rattle.std.specs.Prelude.{◌≡◌, ℕ, ◌<◌, ◌≤◌, List, [], ◌∷◌, ◌++◌, Result, Ok, Err}
 use Rattle.scad_fault.specs.declared.place.Place.{Place}
 use Rattle.scad_lex.specs.declared.token.Token.{Token}
 use Rattle.scad_ast.specs.Tree.{Items}
 use Rattle.scad_grammar.specs.Statements.{Derives, Begins}
 use Rattle.scad_grammar.specs.LeftOut.{IsLeftOut}
-use Rattle.scad_grammar.specs.State.{State, open_count}
-use Rattle.scad_grammar.specs.Machine.{start, reach, Refusal, syntax_at, nesting_at, left_out_at, most_open}
-
--- behind tokens with which a program begins so many constructs stand open
-abbrev pub Opens : List Token → ℕ → Type 0
-Opens ts n = (s : State) × (reach start ts ≡ Some s) × (open_count s ≡ n)
+use Rattle.scad_grammar.specs.Nesting.{Opens}
+use Rattle.scad_grammar.specs.Machine.{Refusal, syntax_at, nesting_at, left_out_at, most_open}
 
 -- some program begins with these tokens, and the last is of no form that is left out
 pub record MayStand (before : List Token) (t : Token) : Type 0 where
@@ -34,3 +30,16 @@ pub data Judged : List Token → List Token → Place → Result Items Refusal �
   stands : {before ts : List Token} {t : Token} {end : Place} {answer : Result Items Refusal} (n : ℕ) →
       MayStand before t → Opens (before ++ (t ∷ [])) n → n ≤ most_open →
       Judged (before ++ (t ∷ [])) ts end answer → Judged before (t ∷ ts) end answer
+
+-- The token has a fault behind these tokens: it is of a form that is left out, or no program begins with the tokens
+-- up to it, or with it too many constructs stand open.
+pub data HasFault : List Token → Token → Type 0 where
+  of_left_out_form : {before : List Token} {t : Token} {w : List ℕ} → IsLeftOut before t w → HasFault before t
+  out_of_place : {before : List Token} {t : Token} → (Begins (before ++ (t ∷ [])) → ⊥) → HasFault before t
+  too_deep : {before : List Token} {t : Token} (n : ℕ) →
+      Opens (before ++ (t ∷ [])) n → most_open < n → HasFault before t
+
+-- none of these tokens has a fault behind those before it
+abbrev pub NothingIsRefused : List Token → Type 0
+NothingIsRefused ts =
+    (before behind : List Token) (t : Token) → ts ≡ before ++ (t ∷ behind) → HasFault before t → ⊥

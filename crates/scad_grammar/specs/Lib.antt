@@ -5,11 +5,15 @@ pub mod LeftOut
 pub mod Lists
 pub mod Machine
 pub mod Move
+pub mod Nesting
 pub mod Plain
 pub mod Printed
 pub mod PrintedItems
 pub mod Promises
+pub mod Reads
+pub mod Rules
 pub mod State
+pub mod StatementRules
 pub mod StatementSteps
 pub mod Statements
 pub mod Steps

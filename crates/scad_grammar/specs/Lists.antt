@@ -1,7 +1,8 @@
 -- The lists of the syntax tree with one more member at their end.
 use Rattle.std.specs.Prelude.{ℕ, Bool, true, false, List, [], ◌∷◌, Option, if◌then◌else◌}
 use Rattle.scad_fault.specs.declared.place.Place.{Place}
-use Rattle.scad_ast.specs.Tree.{Expression, let_in, Arguments, no_arguments, argument, Elements, no_elements, element, Element, item, let_element, Parameter, Items, no_items, entry, Item}
+use Rattle.scad_ast.specs.Tree.{Expression, let_in, Arguments, no_arguments, argument, Elements, no_elements, element}
+use Rattle.scad_ast.specs.Tree.{Element, item, let_element, Parameter, Items, no_items, entry, Item}
 
 abbrev pub with_argument : Arguments → Option (List ℕ) → Expression → Arguments
 with_argument no_arguments name value = argument name value no_arguments

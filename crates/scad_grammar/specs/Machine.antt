@@ -1,6 +1,6 @@
--- A reader of tokens: each token moves it by one step, and decides alone. It finds the program or the first
--- token with a
--- fault.
+-- A reader of tokens: each token moves it by one step, and decides alone. It finds the program or the first token
+-- with
+-- a fault.
 use Rattle.std.specs.Prelude.{ℕ, List, [], ◌∷◌, Option, Some, None, Result, Ok, Err, nat_lt, if◌then◌else◌}
 use Rattle.scad_fault.specs.declared.place.Place.{Place}
 use Rattle.scad_lex.specs.declared.token.Token.{Token}
@@ -9,12 +9,22 @@ use Rattle.scad_ast.specs.Tree.{vector, Items, no_items, no_arguments}
 use Rattle.scad_grammar.specs.Tokens.{is_sign, word_of}
 use Rattle.scad_grammar.specs.Lists.{with_parameter}
 use Rattle.scad_grammar.specs.Behind.{in_program, in_vector, element_test, statement_test, function_body}
-use Rattle.scad_grammar.specs.State.{State, want_expression, have_expression, want_unary, have_operand, have_name, have_post, want_member, have_links, want_arguments, in_arguments, have_word, after_argument, have_arguments, want_element, have_element, want_test, in_elements, after_one, have_elements, want_statement, have_items, have_start, want_marked, want_choice, want_child, want_defined, want_parameters, in_parameters, have_parameter, after_parameter, have_parameters, want_assign, open_count}
+use Rattle.scad_grammar.specs.State.{State, want_expression, have_expression, want_unary, have_operand, have_name}
+use Rattle.scad_grammar.specs.State.{have_post, want_member, have_links, want_arguments, in_arguments, have_word}
+use Rattle.scad_grammar.specs.State.{after_argument, have_arguments, want_element, have_element, want_test}
+use Rattle.scad_grammar.specs.State.{in_elements, after_one, have_elements, want_statement, have_items, have_start}
+use Rattle.scad_grammar.specs.State.{want_marked, want_choice, want_child, want_defined, want_parameters}
+use Rattle.scad_grammar.specs.State.{in_parameters, have_parameter, after_parameter, have_parameters, want_assign}
+use Rattle.scad_grammar.specs.State.{open_count}
 use Rattle.scad_grammar.specs.Behind.{default_of}
 use Rattle.scad_grammar.specs.Move.{Move, go, left_out, stuck}
 use Rattle.scad_grammar.specs.Tokens.{operator}
-use Rattle.scad_grammar.specs.Steps.{only, unary_step, expression_step, element_step, end_arguments, after_argument_step, arguments_step, end_parameters, after_parameter_step, after_one_step, after_element, after_expression, link_step, after_operand, post_step, name_step, word_argument, member_name}
-use Rattle.scad_grammar.specs.StatementSteps.{marked_step, statement_step, word_statement, child_step, after_items, finish_items, defined_name, parameters_step}
+use Rattle.scad_grammar.specs.Steps.{only, unary_step, expression_step, element_step, end_arguments}
+use Rattle.scad_grammar.specs.Steps.{after_argument_step, arguments_step, end_parameters, after_parameter_step}
+use Rattle.scad_grammar.specs.Steps.{after_one_step, after_element, after_expression, link_step, after_operand}
+use Rattle.scad_grammar.specs.Steps.{post_step, name_step, word_argument, member_name}
+use Rattle.scad_grammar.specs.StatementSteps.{marked_step, statement_step, word_statement, child_step, after_items}
+use Rattle.scad_grammar.specs.StatementSteps.{finish_items, defined_name, parameters_step}
 
 unfoldable pub step : State → Token → Move
 step (want_expression k) t = expression_step t k

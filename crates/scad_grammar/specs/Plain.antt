@@ -1,17 +1,24 @@
--- The grammar once more, as it stands on paper: each part may end wherever its production may. Only an `else`
--- belongs to
--- the nearest `if`. The families and alternatives are those of Grammar and Statements.
+-- The grammar once more, as it stands on paper: each part may end wherever its production may. Only an `else` belongs
+-- to the nearest `if`. The families and alternatives are those of Grammar and Statements.
 use Rattle.std.specs.Prelude.{◌≡◌, ℕ, zero, suc, ℤ, Bool, true, false, List, [], ◌∷◌, Option, Some, None}
 use Rattle.scad_fault.specs.declared.place.Place.{Place}
 use Rattle.scad_lex.specs.declared.token.Token.{Token}
-use Rattle.scad_lex.specs.declared.token.Sign.TheVariants.{OpenRound, CloseRound, OpenSquare, CloseSquare, OpenCurly, CloseCurly, Semicolon, Comma, Colon, Question, Assign, Plus, Minus, Bang, Dot, Star, Percent, Hash}
-use Rattle.scad_lex.specs.declared.token.Key.TheVariants.{Module, Function, If, Else as KeyElse, For, Let, Assert, Echo, Each, True, False, Undef}
+use Rattle.scad_lex.specs.declared.token.Sign.TheVariants.{OpenRound, CloseRound, OpenSquare, CloseSquare, OpenCurly}
+use Rattle.scad_lex.specs.declared.token.Sign.TheVariants.{CloseCurly, Semicolon, Comma, Colon, Question, Assign}
+use Rattle.scad_lex.specs.declared.token.Sign.TheVariants.{Plus, Minus, Bang, Dot, Star, Percent, Hash}
+use Rattle.scad_lex.specs.declared.token.Key.TheVariants.{Module, Function, If, Else as KeyElse, For, Let, Assert}
+use Rattle.scad_lex.specs.declared.token.Key.TheVariants.{Echo, Each, True, False, Undef}
 use Rattle.scad_ast.specs.declared.operator.UnOp.TheVariants.{Not, Plus as UnaryPlus, Minus as UnaryMinus}
 use Rattle.scad_ast.specs.declared.operator.BinOp.{BinOp}
-use Rattle.scad_ast.specs.Tree.{Expression, undef, boolean, number, string, name, vector, range, stepped, unary, binary, choose, index, member, call, let_in, assert_in, echo_in, Arguments, no_arguments, Elements, no_elements, Element, item, each, for_each, for_loop, let_element, if_element, if_else, Parameter, Items, no_items, assignment, module_of, function_of, call_of}
+use Rattle.scad_ast.specs.Tree.{Expression, undef, boolean, number, string, name, vector, range, stepped, unary}
+use Rattle.scad_ast.specs.Tree.{binary, choose, index, member, call, let_in, assert_in, echo_in, Arguments}
+use Rattle.scad_ast.specs.Tree.{no_arguments, Elements, no_elements, Element, item, each, for_each, for_loop}
+use Rattle.scad_ast.specs.Tree.{let_element, if_element, if_else, Parameter, Items, no_items, assignment, module_of}
+use Rattle.scad_ast.specs.Tree.{function_of, call_of}
 use Rattle.scad_ast.specs.Tree.{choice as choice_of}
 use Rattle.scad_grammar.specs.Tokens.{sign, key, word, numeral, quoted, begins_with_key, operator}
-use Rattle.scad_grammar.specs.Lists.{with_argument, with_element, with_parameter, with_item, with_statement, Marks, no_marks, starred, percented, hashed}
+use Rattle.scad_grammar.specs.Lists.{with_argument, with_element, with_parameter, with_item, with_statement, Marks}
+use Rattle.scad_grammar.specs.Lists.{no_marks, starred, percented, hashed}
 use Rattle.scad_grammar.specs.Statements.{Callee}
 
 mutual

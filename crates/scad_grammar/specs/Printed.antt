@@ -1,16 +1,23 @@
--- The tokens of a tree's printed text, in front of further tokens, and the tree without its places. An operand
--- stands in
--- parentheses unless it is a literal, a name, a call, a vector, a range, an index or a member.
+-- The tokens of a tree's printed text, in front of further tokens, and the tree without its places. An operand stands
+-- in parentheses unless it is a literal, a name, a call, a vector, a range, an index or a member.
 use Rattle.std.specs.Prelude.{◌≡◌, ℕ, Bool, true, false, List, ◌∷◌, Option, Some, None}
 use Rattle.scad_fault.specs.declared.place.Place.{Place}
 use Rattle.scad_lex.specs.declared.token.Token.{Token}
-use Rattle.scad_lex.specs.declared.token.Sign.TheVariants.{OpenRound, CloseRound, OpenSquare, CloseSquare, Semicolon, Comma, Colon, Question, Assign, Equal, NotEqual, Less, LessEqual, Greater, GreaterEqual, Plus, Minus, Star, Slash, Percent, Bang, AndAnd, OrOr, Dot}
+use Rattle.scad_lex.specs.declared.token.Sign.TheVariants.{OpenRound, CloseRound, OpenSquare, CloseSquare, Semicolon}
+use Rattle.scad_lex.specs.declared.token.Sign.TheVariants.{Comma, Colon, Question, Assign, Equal, NotEqual, Less}
+use Rattle.scad_lex.specs.declared.token.Sign.TheVariants.{LessEqual, Greater, GreaterEqual, Plus, Minus, Star, Slash}
+use Rattle.scad_lex.specs.declared.token.Sign.TheVariants.{Percent, Bang, AndAnd, OrOr, Dot}
 use Rattle.scad_lex.specs.declared.token.Key.TheVariants.{If, Else, For, Let, Assert, Echo, Each, True, False, Undef}
 use Rattle.scad_ast.specs.declared.operator.UnOp.{UnOp}
 use Rattle.scad_ast.specs.declared.operator.UnOp.TheVariants.{Not, Plus as UnaryPlus, Minus as UnaryMinus}
 use Rattle.scad_ast.specs.declared.operator.BinOp.{BinOp}
-use Rattle.scad_ast.specs.declared.operator.BinOp.TheVariants.{Or, And, Eq, Ne, Lt, Le, Gt, Ge, Add, Sub, Mul, Div, Rem}
-use Rattle.scad_ast.specs.Tree.{Expression, undef, boolean, number, string, name, vector, range, stepped, unary, binary, choose, index, member, call, let_in, assert_in, echo_in, Arguments, no_arguments, argument, Elements, no_elements, element, Element, item, each, for_each, for_loop, let_element, if_element, if_else}
+use Rattle.scad_ast.specs.declared.operator.BinOp.TheVariants.{Or, And, Eq, Ne, Lt, Le, Gt, Ge, Add, Sub, Mul, Div}
+use Rattle.scad_ast.specs.declared.operator.BinOp.TheVariants.{Rem}
+use Rattle.scad_ast.specs.Text.{stands_alone}
+use Rattle.scad_ast.specs.Tree.{Expression, undef, boolean, number, string, name, vector, range, stepped, unary}
+use Rattle.scad_ast.specs.Tree.{binary, choose, index, member, call, let_in, assert_in, echo_in, Arguments}
+use Rattle.scad_ast.specs.Tree.{no_arguments, argument, Elements, no_elements, element, Element, item, each, for_each}
+use Rattle.scad_ast.specs.Tree.{for_loop, let_element, if_element, if_else}
 use Rattle.scad_grammar.specs.Tokens.{sign, key, word, numeral, quoted}
 
 -- no place
@@ -40,15 +47,6 @@ operator_token Sub = sign Minus nowhere
 operator_token Mul = sign Star nowhere
 operator_token Div = sign Slash nowhere
 operator_token Rem = sign Percent nowhere
-
-abbrev pub is_alone : Expression → Bool
-is_alone (unary at op a) = false
-is_alone (binary at op a b) = false
-is_alone (choose at a b c) = false
-is_alone (let_in at args a) = false
-is_alone (assert_in at args a) = false
-is_alone (echo_in at args a) = false
-is_alone _ = true
 
 -- an operand, which stands alone or in parentheses
 abbrev pub enclosed_onto : Bool → (List Token → List Token) → List Token → List Token
@@ -83,18 +81,18 @@ abbrev mutual
       sign OpenSquare nowhere ∷ expression_onto a
       (sign Colon nowhere ∷ expression_onto b
       (sign Colon nowhere ∷ expression_onto c (sign CloseSquare nowhere ∷ us)))
-  expression_onto (unary at op a) us = prefix_token op ∷ enclosed_onto (is_alone a) (expression_onto a) us
+  expression_onto (unary at op a) us = prefix_token op ∷ enclosed_onto (stands_alone a) (expression_onto a) us
   expression_onto (binary at op a b) us =
-      enclosed_onto (is_alone a) (expression_onto a)
-      (operator_token op ∷ enclosed_onto (is_alone b) (expression_onto b) us)
+      enclosed_onto (stands_alone a) (expression_onto a)
+      (operator_token op ∷ enclosed_onto (stands_alone b) (expression_onto b) us)
   expression_onto (choose at a b c) us =
-      enclosed_onto (is_alone a) (expression_onto a)
+      enclosed_onto (stands_alone a) (expression_onto a)
       (sign Question nowhere ∷ expression_onto b (sign Colon nowhere ∷ expression_onto c us))
   expression_onto (index at a i) us =
-      enclosed_onto (is_alone a) (expression_onto a)
+      enclosed_onto (stands_alone a) (expression_onto a)
       (sign OpenSquare nowhere ∷ expression_onto i (sign CloseSquare nowhere ∷ us))
   expression_onto (member at a w) us =
-      enclosed_onto (is_alone a) (expression_onto a) (sign Dot nowhere ∷ word w nowhere ∷ us)
+      enclosed_onto (stands_alone a) (expression_onto a) (sign Dot nowhere ∷ word w nowhere ∷ us)
   expression_onto (call at w all) us = word w nowhere ∷ in_round_onto (arguments_onto true all) us
   expression_onto (let_in at all a) us =
       key Let nowhere ∷ in_round_onto (arguments_onto true all) (expression_onto a us)

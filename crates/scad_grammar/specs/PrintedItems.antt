@@ -1,13 +1,16 @@
 -- The tokens of the printed text of items, in front of further tokens, and the items without their places.
-use Rattle.std.specs.Prelude.{◌≡◌, ℕ, Bool, true, false, if◌then◌else◌, List, [], ◌∷◌, Option, Some, None, option_map, map, codes}
+use Rattle.std.specs.Prelude.{◌≡◌, ℕ, Bool, true, false, if◌then◌else◌, List, [], ◌∷◌, Option, Some, None, option_map}
+use Rattle.std.specs.Prelude.{map, codes}
 use Rattle.std.specs.Str.{bytes_eq}
 use Rattle.scad_lex.specs.declared.token.Token.{Token}
 use Rattle.scad_lex.specs.declared.token.Sign.{Sign as SignName}
 use Rattle.scad_lex.specs.declared.token.Sign.TheVariants.{OpenCurly, CloseCurly, Semicolon, Assign, Percent, Hash}
 use Rattle.scad_lex.specs.declared.token.Key.TheVariants.{Module, Function, If, Else, For, Let, Assert, Echo}
-use Rattle.scad_ast.specs.Tree.{Expression, Parameter, Items, no_items, entry, Item, assignment, module_of, function_of, call_of, choice}
+use Rattle.scad_ast.specs.Tree.{Expression, Parameter, Items, no_items, entry, Item, assignment, module_of}
+use Rattle.scad_ast.specs.Tree.{function_of, call_of, choice}
 use Rattle.scad_grammar.specs.Tokens.{sign, key, word}
-use Rattle.scad_grammar.specs.Printed.{nowhere, in_round_onto, comma_onto, expression_onto, arguments_onto, unplaced, unplaced_arguments, IsPrintable, ArePrintable}
+use Rattle.scad_grammar.specs.Printed.{nowhere, in_round_onto, comma_onto, expression_onto, arguments_onto, unplaced}
+use Rattle.scad_grammar.specs.Printed.{unplaced_arguments, IsPrintable, ArePrintable}
 
 -- the token of a name that is called: four of them are keywords
 abbrev pub callee_token : List ℕ → Token

@@ -9,9 +9,11 @@ use Rattle.scad_ast.specs.Text.{items_text}
 use Rattle.scad_grammar.specs.Statements.{Derives, Begins}
 use Rattle.scad_grammar.specs.Plain
 use Rattle.scad_grammar.specs.PrintedItems.{items_onto, unplaced_items}
-use Rattle.scad_grammar.specs.State.{State}
+use Rattle.scad_grammar.specs.Nesting.{Opens}
+use Rattle.scad_grammar.specs.State.{State, open_count}
+use Rattle.scad_grammar.specs.StatementRules.{descent}
 use Rattle.scad_grammar.specs.Machine.{start, reach, run, outcome_of, Refusal}
-use Rattle.scad_grammar.specs.Judged.{Judged}
+use Rattle.scad_grammar.specs.Judged.{Judged, NothingIsRefused}
 
 -- no tokens derive two programs
 abbrev pub OneProgram : Type 0
@@ -25,10 +27,23 @@ ReadsWhatIsDerived = (ts : List Token) (p : Items) → (run start ts ≡ Some p)
 abbrev pub StandsWhereAProgramBegins : Type 0
 StandsWhereAProgramBegins = (ts : List Token) → Begins ts ↔ ((s : State) × (reach start ts ≡ Some s))
 
+-- how many constructs the reader counts behind tokens is how many stand open there
+abbrev pub CountsWhatIsOpen : Type 0
+CountsWhatIsOpen = (ts : List Token) (s : State) → reach start ts ≡ Some s → Opens ts (open_count s)
+
 -- what tokens are is judged by the grammar: there is one answer, and the reader gives it
 abbrev pub JudgesAsTheGrammar : Type 0
 JudgesAsTheGrammar = (ts : List Token) (end : Place) (answer : Result Items Refusal) →
     Judged [] ts end answer ↔ (outcome_of ts end ≡ answer)
+
+-- a descent that reads by the rules gives what the reader of tokens gives
+abbrev pub DescentIsTheReader : Type 0
+DescentIsTheReader = (ts : List Token) (end : Place) → descent ts end ≡ outcome_of ts end
+
+-- tokens are a program exactly where nothing is refused and the grammar as it stands on paper derives it
+abbrev pub AcceptsWhatIsDerived : Type 0
+AcceptsWhatIsDerived = (ts : List Token) (end : Place) (p : Items) →
+    Judged [] ts end (Ok p) ↔ (NothingIsRefused ts × Plain.Derives ts p)
 
 -- that each part is as long as it can be excludes no program: the grammar as it stands on paper derives the same ones
 abbrev pub EndsExcludeNothing : Type 0

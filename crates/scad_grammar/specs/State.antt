@@ -3,7 +3,9 @@ use Rattle.std.specs.Prelude.{ℕ, zero, suc, ◌+◌, Bool, List}
 use Rattle.scad_fault.specs.declared.place.Place.{Place}
 use Rattle.scad_ast.specs.Tree.{Expression, Arguments, Elements, Element, Parameter, Items}
 use Rattle.scad_grammar.specs.Lists.{Marks}
-use Rattle.scad_grammar.specs.Behind.{Defined, BehindItems, BehindParameters, BehindOperand, first_of, BehindExpression, BehindElement, BehindArguments, open_items, open_ended, open_parameters, open_operand, open_expression, open_element, open_arguments}
+use Rattle.scad_grammar.specs.Behind.{Defined, BehindItems, BehindParameters, BehindOperand, first_of}
+use Rattle.scad_grammar.specs.Behind.{BehindExpression, BehindElement, BehindArguments, open_items, open_ended}
+use Rattle.scad_grammar.specs.Behind.{open_parameters, open_operand, open_expression, open_element, open_arguments}
 
 pub data State : Type 0 where
   want_expression : BehindExpression → State

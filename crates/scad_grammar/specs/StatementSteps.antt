@@ -4,13 +4,19 @@ use Rattle.scad_fault.specs.declared.place.Place.{Place}
 use Rattle.scad_lex.specs.declared.token.Token.{Token}
 use Rattle.scad_lex.specs.declared.token.TokenKind.{TokenKind}
 use Rattle.scad_lex.specs.declared.token.TokenKind.TheVariants.{Word, Key}
-use Rattle.scad_lex.specs.declared.token.Sign.TheVariants.{OpenRound, CloseRound, OpenCurly, CloseCurly, Semicolon, Assign, Star, Percent, Hash, Bang}
-use Rattle.scad_lex.specs.declared.token.Key.TheVariants.{Module, Function, If, Else, For, Let, Assert, Echo, Include, Use}
+use Rattle.scad_lex.specs.declared.token.Sign.TheVariants.{OpenRound, CloseRound, OpenCurly, CloseCurly, Semicolon}
+use Rattle.scad_lex.specs.declared.token.Sign.TheVariants.{Assign, Star, Percent, Hash, Bang}
+use Rattle.scad_lex.specs.declared.token.Key.TheVariants.{Module, Function, If, Else, For, Let, Assert, Echo, Include}
+use Rattle.scad_lex.specs.declared.token.Key.TheVariants.{Use}
 use Rattle.scad_ast.specs.Tree.{no_arguments, Parameter, Items, no_items, module_of, call_of, choice}
 use Rattle.scad_grammar.specs.Tokens.{is_sign, is_key, word_of}
 use Rattle.scad_grammar.specs.Lists.{with_item, with_statement, Marks, no_marks, starred, percented, hashed}
-use Rattle.scad_grammar.specs.Behind.{a_module, a_function, Defined, BehindItems, in_program, in_group, module_body, child_of, held_child, other_child, BehindParameters, defined, assigned_to, of_statement}
-use Rattle.scad_grammar.specs.State.{want_expression, want_arguments, in_arguments, have_items, have_start, want_marked, want_choice, want_child, want_defined, want_parameters, have_parameter}
+use Rattle.scad_grammar.specs.Behind.{a_module, a_function, Defined, BehindItems, in_program, in_group, module_body}
+use Rattle.scad_grammar.specs.Behind.{child_of, held_child, other_child, BehindParameters, defined, assigned_to}
+use Rattle.scad_grammar.specs.Behind.{of_statement}
+use Rattle.scad_grammar.specs.State.{want_expression, want_arguments, in_arguments, have_items, have_start}
+use Rattle.scad_grammar.specs.State.{want_marked, want_choice, want_child, want_defined, want_parameters}
+use Rattle.scad_grammar.specs.State.{have_parameter}
 use Rattle.scad_grammar.specs.Move.{Move, go, left_out, stuck}
 use Rattle.scad_grammar.specs.Steps.{only, end_parameters}
 

@@ -3,9 +3,11 @@
 use Rattle.std.specs.Prelude.{◌≡◌, ℕ, Bool, true, false, List, [], ◌∷◌, ◌++◌, codes}
 use Rattle.scad_fault.specs.declared.place.Place.{Place}
 use Rattle.scad_lex.specs.declared.token.Token.{Token}
-use Rattle.scad_lex.specs.declared.token.Sign.TheVariants.{OpenRound, CloseRound, OpenCurly, CloseCurly, Semicolon, Assign, Star, Percent, Hash}
+use Rattle.scad_lex.specs.declared.token.Sign.TheVariants.{OpenRound, CloseRound, OpenCurly, CloseCurly, Semicolon}
+use Rattle.scad_lex.specs.declared.token.Sign.TheVariants.{Assign, Star, Percent, Hash}
 use Rattle.scad_lex.specs.declared.token.Key.TheVariants.{Module, Function, If, Else, For, Let, Assert, Echo}
-use Rattle.scad_ast.specs.Tree.{Expression, Arguments, no_arguments, Parameter, Items, no_items, assignment, module_of, function_of, call_of, choice}
+use Rattle.scad_ast.specs.Tree.{Expression, Arguments, no_arguments, Parameter, Items, no_items, assignment}
+use Rattle.scad_ast.specs.Tree.{module_of, function_of, call_of, choice}
 use Rattle.scad_grammar.specs.Tokens.{sign, key, word, begins_with_key}
 use Rattle.scad_grammar.specs.Lists.{with_item, with_statement, Marks, no_marks, starred, percented, hashed}
 use Rattle.scad_grammar.specs.Grammar.{Expr, Args, Params}

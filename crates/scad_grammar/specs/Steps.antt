@@ -4,16 +4,31 @@ use Rattle.scad_fault.specs.declared.place.Place.{Place}
 use Rattle.scad_lex.specs.declared.token.Token.{Token}
 use Rattle.scad_lex.specs.declared.token.TokenKind.{TokenKind}
 use Rattle.scad_lex.specs.declared.token.TokenKind.TheVariants.{Number, Str, Key}
-use Rattle.scad_lex.specs.declared.token.Sign.TheVariants.{OpenRound, CloseRound, OpenSquare, CloseSquare, Semicolon, Comma, Colon, Question, Assign, Plus, Minus, Caret, Bang, Dot}
-use Rattle.scad_lex.specs.declared.token.Key.TheVariants.{Function, If, Else, For, Let, Assert, Echo, Each, True, False, Undef}
+use Rattle.scad_lex.specs.declared.token.Sign.TheVariants.{OpenRound, CloseRound, OpenSquare, CloseSquare, Semicolon}
+use Rattle.scad_lex.specs.declared.token.Sign.TheVariants.{Comma, Colon, Question, Assign, Plus, Minus, Caret, Bang}
+use Rattle.scad_lex.specs.declared.token.Sign.TheVariants.{Dot}
+use Rattle.scad_lex.specs.declared.token.Key.TheVariants.{Function, If, Else, For, Let, Assert, Echo, Each, True}
+use Rattle.scad_lex.specs.declared.token.Key.TheVariants.{False, Undef}
 use Rattle.scad_ast.specs.declared.operator.UnOp.TheVariants.{Not, Plus as UnaryPlus, Minus as UnaryMinus}
 use Rattle.scad_ast.specs.declared.operator.BinOp.{BinOp}
-use Rattle.scad_ast.specs.Tree.{no_items, Expression, undef, boolean, number, string, name, vector, range, stepped, unary, binary, choose, index, member, call, Arguments, no_arguments, Elements, no_elements, Element, item, each, for_each, for_loop, if_element, if_else, Parameter, assignment, function_of}
+use Rattle.scad_ast.specs.Tree.{no_items, Expression, undef, boolean, number, string, name, vector, range, stepped}
+use Rattle.scad_ast.specs.Tree.{unary, binary, choose, index, member, call, Arguments, no_arguments, Elements}
+use Rattle.scad_ast.specs.Tree.{no_elements, Element, item, each, for_each, for_loop, if_element, if_else, Parameter}
+use Rattle.scad_ast.specs.Tree.{assignment, function_of}
 use Rattle.scad_grammar.specs.Tokens.{is_sign, is_key, word_of, operator}
 use Rattle.scad_grammar.specs.Lists.{with_argument, with_element, with_parameter, with_item, let_of}
 use Rattle.scad_grammar.specs.Grammar.{ends_arguments}
-use Rattle.scad_grammar.specs.Behind.{letting, asserting, echoing, keyed_tree, a_module, a_function, module_body, child_of, held_child, BehindParameters, defined, BehindOperand, prefixed, first_of, right_of, tested, BehindExpression, in_round, in_index, chosen, other, body_of, argument_of, plain_item, range_second, range_third, loop_test, element_test, default_of, assigned_to, function_body, statement_test, BehindElement, in_vector, each_of, for_of, loop_of, let_body, held_element, other_element, BehindArguments, of_call, of_keyed, of_for, of_steps, of_let, of_statement}
-use Rattle.scad_grammar.specs.State.{State, want_expression, want_unary, want_operand, opened, have_name, have_post, want_member, want_arguments, in_arguments, have_word, want_element, want_test, in_elements, have_items, want_statement, want_child, want_assign, in_parameters}
+use Rattle.scad_grammar.specs.Behind.{letting, asserting, echoing, keyed_tree, a_module, a_function, module_body}
+use Rattle.scad_grammar.specs.Behind.{child_of, held_child, BehindParameters, defined, BehindOperand, prefixed}
+use Rattle.scad_grammar.specs.Behind.{first_of, right_of, tested, BehindExpression, in_round, in_index, chosen, other}
+use Rattle.scad_grammar.specs.Behind.{body_of, argument_of, plain_item, range_second, range_third, loop_test}
+use Rattle.scad_grammar.specs.Behind.{element_test, default_of, assigned_to, function_body, statement_test}
+use Rattle.scad_grammar.specs.Behind.{BehindElement, in_vector, each_of, for_of, loop_of, let_body, held_element}
+use Rattle.scad_grammar.specs.Behind.{other_element, BehindArguments, of_call, of_keyed, of_for, of_steps, of_let}
+use Rattle.scad_grammar.specs.Behind.{of_statement}
+use Rattle.scad_grammar.specs.State.{State, want_expression, want_unary, want_operand, opened, have_name, have_post}
+use Rattle.scad_grammar.specs.State.{want_member, want_arguments, in_arguments, have_word, want_element, want_test}
+use Rattle.scad_grammar.specs.State.{in_elements, have_items, want_statement, want_child, want_assign, in_parameters}
 use Rattle.scad_grammar.specs.Move.{Move, go, left_out, stuck}
 
 -- only this sign may stand here

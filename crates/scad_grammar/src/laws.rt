@@ -1,5 +1,5 @@
 //! Laws of the definitions, each carried by the contract of a function that does nothing.
-ghost use Rattle.scad_grammar.specs.Promises.{OneProgram, ReadsWhatIsDerived, StandsWhereAProgramBegins, JudgesAsTheGrammar, EndsExcludeNothing, PrintedTokensDerive, PrintedTextDerives, PrintedSourceDerives};
+ghost use Rattle.scad_grammar.specs.Promises.{OneProgram, ReadsWhatIsDerived, StandsWhereAProgramBegins, CountsWhatIsOpen, JudgesAsTheGrammar, AcceptsWhatIsDerived, DescentIsTheReader, EndsExcludeNothing, PrintedTokensDerive, PrintedTextDerives, PrintedSourceDerives};
 
 /// No tokens derive two programs.
 pub fn one_program()
@@ -16,9 +16,26 @@ pub fn stands_where_a_program_begins()
     ensures { StandsWhereAProgramBegins }
 {}
 
+/// What the reader counts behind tokens is the number of constructs that stand open there: the most that
+/// a derivation of a program that begins with them has open.
+pub fn counts_what_is_open()
+    ensures { CountsWhatIsOpen }
+{}
+
 /// What tokens are is judged by the grammar: there is one answer, and the reader gives it.
 pub fn judges_as_the_grammar()
     ensures { JudgesAsTheGrammar }
+{}
+
+/// Tokens are a program exactly where none of them has a fault and the grammar as it stands on paper
+/// derives it from them.
+pub fn accepts_what_is_derived()
+    ensures { AcceptsWhatIsDerived }
+{}
+
+/// A descent that reads by the rules gives what the reader of tokens gives: the program, or the first fault.
+pub fn descent_is_the_reader()
+    ensures { DescentIsTheReader }
 {}
 
 /// That each part is as long as it can be excludes no program: the grammar as it stands on paper
@@ -49,7 +66,10 @@ mod tests {
         one_program();
         reads_what_is_derived();
         stands_where_a_program_begins();
+        counts_what_is_open();
         judges_as_the_grammar();
+        accepts_what_is_derived();
+        descent_is_the_reader();
         printed_tokens_derive();
         printed_text_derives();
     }

@@ -1,31 +1,34 @@
 -- A comment in `/*` and `*/` is cut off at its first `*/`.
-use Rattle.std.proofs.Common.{◌≡◌, ℕ, zero, suc, ◌+◌, ◌-◌, ◌<◌, ◌≤◌, Bool, true, false, cond, ◌&&◌, List, [], ◌∷◌, length, take, Option, Some, None, refl, sym, ap, arith, ◌∙◌, ◌⊎◌, inl, inr}
+use Rattle.std.proofs.Common.{◌≡◌, ℕ, zero, suc, ◌+◌, ◌<◌, ◌≤◌, Bool, true, false, cond, ◌&&◌, List, [], ◌∷◌, length}
+use Rattle.std.proofs.Common.{take, Option, Some, None, refl, sym, ap, arith, ◌∙◌, ◌⊎◌, inl, inr}
 use Rattle.std.specs.Prelude.{slice_index, ◌==◌, option_map}
 use Rattle.std.proofs.lemmas.Bool.{cases_lt, cases_Bool}
 use Rattle.std.proofs.lemmas.Bool.Decides.{nat_tests}
 use Rattle.std.proofs.lemmas.List.{length-take, get_or-take, get_or_past}
 use Rattle.scad_lex.specs.Gap.{closed_len, closes_at}
-use Rattle.scad_lex.specs.Longest.{IsLongest, IsClosed, CommentsAreLongest}
+use Rattle.scad_lex.specs.Longest.{IsClosed, CommentsAreLongest}
 
 -- the first `*/` ends behind n bytes
-record EndsFirst (bytes : List ℕ) (n : ℕ) : Type 0 where
-  at : ℕ
-  long : n ≡ at + 2
-  closes : closes_at bytes at ≡ true
-  first : (i : ℕ) → closes_at bytes i ≡ true → n ≤ i + 2
+pub record EndsFirst (bytes : List ℕ) (n : ℕ) : Type 0 where
+  pub at : ℕ
+  pub long : n ≡ at + 2
+  pub closes : closes_at bytes at ≡ true
+  pub first : (i : ℕ) → closes_at bytes i ≡ true → n ≤ i + 2
 
-closes-next : (a : ℕ) (bytes : List ℕ) (i : ℕ) → closes_at (a ∷ bytes) (suc i) ≡ closes_at bytes i
-closes-next a bytes i = let e : suc i + 1 ≡ suc (i + 1) = omega arith in ap (λ k. slice_index bytes i == 42 && slice_index (a ∷ bytes) k == 47) e
+pub closes-next : (a : ℕ) (bytes : List ℕ) (i : ℕ) → closes_at (a ∷ bytes) (suc i) ≡ closes_at bytes i
+closes-next a bytes i = let e : suc i + 1 ≡ suc (i + 1) =
+    omega arith in ap (λ k. slice_index bytes i == 42 && slice_index (a ∷ bytes) k == 47) e
 
 shorter : (o : Option ℕ) (n : ℕ) → option_map suc o ≡ Some n → (m : ℕ) × (o ≡ Some m) × (n ≡ suc m)
 shorter None n e = absurd cc
 shorter (Some m) n e = (m, refl, cc)
 
-first-end : (bytes : List ℕ) (n : ℕ) → closed_len bytes ≡ Some n → EndsFirst bytes n
+pub first-end : (bytes : List ℕ) (n : ℕ) → closed_len bytes ≡ Some n → EndsFirst bytes n
 first-end [] n e = absurd cc
 first-end (a ∷ bytes) n e = by_first (cases_Bool (closes_at (a ∷ bytes) 0)) (first-end bytes)
   where
-    later : (t : Bool) → t ≡ false → cond t (Some 2) (option_map suc (closed_len bytes)) ≡ Some n → option_map suc (closed_len bytes) ≡ Some n
+    later : (t : Bool) → t ≡ false → cond t (Some 2) (option_map suc (closed_len bytes)) ≡ Some n →
+        option_map suc (closed_len bytes) ≡ Some n
     later true h g = absurd cc
     later false h g = g
 
@@ -33,7 +36,8 @@ first-end (a ∷ bytes) n e = by_first (cases_Bool (closes_at (a ∷ bytes) 0)) 
     two true h g = cc
     two false h g = absurd cc
 
-    by_first : (closes_at (a ∷ bytes) 0 ≡ true) ⊎ (closes_at (a ∷ bytes) 0 ≡ false) → ((m : ℕ) → closed_len bytes ≡ Some m → EndsFirst bytes m) → EndsFirst (a ∷ bytes) n
+    by_first : (closes_at (a ∷ bytes) 0 ≡ true) ⊎ (closes_at (a ∷ bytes) 0 ≡ false) →
+        ((m : ℕ) → closed_len bytes ≡ Some m → EndsFirst bytes m) → EndsFirst (a ∷ bytes) n
     by_first (inl t) hyp =
         let n_two = two (closes_at (a ∷ bytes) 0) t e in
         record { at = 0; long = omega (arith, n_two); closes = t; first = λ i closes. omega (arith, n_two) }
@@ -49,16 +53,17 @@ first-end (a ∷ bytes) n e = by_first (cases_Bool (closes_at (a ∷ bytes) 0)) 
       where
         none_before : (m : ℕ) → n ≡ suc m → EndsFirst bytes m → (i : ℕ) → closes_at (a ∷ bytes) i ≡ true → n ≤ i + 2
         none_before m is there zero closes = absurd cc
-        none_before m is there (suc i) closes = omega (arith, is, there.first i (sym (closes-next a bytes i) ∙ closes))
+        none_before m is there (suc i) closes =
+            omega (arith, is, there.first i (sym (closes-next a bytes i) ∙ closes))
 
 -- within the bytes in front it closes as in all
-closes-take : (m : ℕ) (bytes : List ℕ) (i : ℕ) → i + 2 ≤ m → closes_at (take m bytes) i ≡ closes_at bytes i
+pub closes-take : (m : ℕ) (bytes : List ℕ) (i : ℕ) → i + 2 ≤ m → closes_at (take m bytes) i ≡ closes_at bytes i
 closes-take m bytes i h =
     ap (λ c. c == 42 && slice_index (take m bytes) (i + 1) == 47) (get_or-take m bytes i 0 (omega arith))
     ∙ ap (λ c. slice_index bytes i == 42 && c == 47) (get_or-take m bytes (i + 1) 0 (omega arith))
 
 -- it closes within the bytes
-closes-within : (bytes : List ℕ) (i : ℕ) → closes_at bytes i ≡ true → i + 2 ≤ length bytes
+pub closes-within : (bytes : List ℕ) (i : ℕ) → closes_at bytes i ≡ true → i + 2 ≤ length bytes
 closes-within bytes i closes = by_order (cases_lt (i + 1) (length bytes))
   where
     outside : (x y : ℕ) → y ≡ 0 → (x == 42 && y == 47) ≡ true → ⊥
@@ -66,7 +71,8 @@ closes-within bytes i closes = by_order (cases_lt (i + 1) (length bytes))
 
     by_order : (i + 1 < length bytes) ⊎ (length bytes ≤ i + 1) → i + 2 ≤ length bytes
     by_order (inl h) = omega arith
-    by_order (inr h) = absurd (outside (slice_index bytes i) (slice_index bytes (i + 1)) (get_or_past bytes (i + 1) 0 h) closes)
+    by_order (inr h) = absurd
+        (outside (slice_index bytes i) (slice_index bytes (i + 1)) (get_or_past bytes (i + 1) 0 h) closes)
 
 pub comments_are_longest : CommentsAreLongest
 comments_are_longest bytes n e = record { within = inside; formed = λ some. closed; longest = longest }
@@ -83,7 +89,9 @@ comments_are_longest bytes n e = record { within = inside; formed = λ some. clo
     closed : IsClosed (take n bytes)
     closed = record {
       ends = (there.at, size ∙ there.long, closes-take n bytes there.at (omega (arith, there.long)) ∙ there.closes);
-      first = λ i closes. let within = closes-within (take n bytes) i closes in omega (arith, size, there.first i (sym (closes-take n bytes i (omega (arith, size, within))) ∙ closes));
+      first = λ i closes. let within =
+          closes-within (take n bytes) i closes in omega
+          (arith, size, there.first i (sym (closes-take n bytes i (omega (arith, size, within))) ∙ closes));
     }
 
     longest : (m : ℕ) → m ≤ length bytes → IsClosed (take m bytes) → m ≤ n
@@ -92,4 +100,10 @@ comments_are_longest bytes n e = record { within = inside; formed = λ some. clo
         by_order : (n < m) ⊎ (m ≤ n) → m ≤ n
         by_order (inr g) = g
         by_order (inl g) =
-            omega (arith, length-take m bytes, is.first there.at (closes-take m bytes there.at (omega (arith, there.long)) ∙ there.closes), there.long)
+            omega (
+              arith,
+              length-take m bytes,
+              is.first there.at
+                  (closes-take m bytes there.at (omega (arith, there.long)) ∙ there.closes),
+              there.long,
+            )

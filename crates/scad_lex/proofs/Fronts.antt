@@ -1,5 +1,6 @@
 -- What stands at the front of a text by its first bytes.
-use Rattle.std.proofs.Common.{◌≡◌, ℕ, suc, ◌+◌, ◌≤◌, Bool, true, false, cond, ◌&&◌, ◌==◌, List, [], ◌∷◌, length, take, drop, take_while, ap, ◌∙◌, arith}
+use Rattle.std.proofs.Common.{◌≡◌, ℕ, suc, ◌+◌, ◌≤◌, Bool, true, false, cond, ◌&&◌, ◌==◌, List, [], ◌∷◌, length, take}
+use Rattle.std.proofs.Common.{drop, take_while, ap, ◌∙◌, arith}
 use Rattle.std.specs.Prelude.{slice_index, nat_lt}
 use Rattle.std.specs.Char.{is_ascii_digit}
 use Rattle.std.specs.List.{prefix_len}
@@ -30,10 +31,11 @@ no_mantissa c rest digit point =
 
 pub no_literal : (c : ℕ) (rest : List ℕ) → is_ascii_digit c ≡ false → (c == 46) ≡ false → literal_len (c ∷ rest) ≡ 0
 unfolding literal_len
-no_literal c rest digit point = ap (λ m. cond (m == 0) 0 (m + exponent_len (drop m (c ∷ rest)))) (no_mantissa c rest digit point)
+no_literal c rest digit point =
+    ap (λ m. cond (m == 0) 0 (m + exponent_len (drop m (c ∷ rest)))) (no_mantissa c rest digit point)
 
 -- the front by the tests of the first byte, and by the length of the literal and of the name there
-abbrev front_by : List ℕ → Bool → Bool → Bool → ℕ → ℕ → Front
+abbrev pub front_by : List ℕ → Bool → Bool → Bool → ℕ → ℕ → Front
 front_by bytes blank slash quote literal word =
     let a = slice_index bytes 0 in
     let b = slice_index bytes 1 in
@@ -51,7 +53,8 @@ pub record IsPlain (c : ℕ) : Type 0 where
   pub slash : (c == 47) ≡ false
   pub quote : (c == 34) ≡ false
 
-front_plain : (c : ℕ) (rest : List ℕ) → IsPlain c → front_of (c ∷ rest) ≡ front_by (c ∷ rest) false false false (literal_len (c ∷ rest)) (word_len (c ∷ rest))
+pub front_plain : (c : ℕ) (rest : List ℕ) → IsPlain c →
+    front_of (c ∷ rest) ≡ front_by (c ∷ rest) false false false (literal_len (c ∷ rest)) (word_len (c ∷ rest))
 unfolding front_of
 front_plain c rest plain =
     ap (λ t. front_by (c ∷ rest) t (c == 47) (c == 34) (literal_len (c ∷ rest)) (word_len (c ∷ rest))) plain.blank
@@ -59,7 +62,8 @@ front_plain c rest plain =
     ∙ ap (λ t. front_by (c ∷ rest) false false t (literal_len (c ∷ rest)) (word_len (c ∷ rest))) plain.quote
 
 is_plain : (c : ℕ) → 48 ≤ c → IsPlain c
-is_plain c low = record { blank = grind (arith, nat_tests); slash = grind (arith, nat_tests); quote = grind (arith, nat_tests) }
+is_plain c low = record
+    { blank = grind (arith, nat_tests); slash = grind (arith, nat_tests); quote = grind (arith, nat_tests) }
 
 above : (n : ℕ) → nat_lt 0 (suc n) ≡ true
 above n = grind (arith, nat_tests)
@@ -72,9 +76,11 @@ pub front_number : (c : ℕ) (rest : List ℕ) (n : ℕ) → 48 ≤ c → litera
 front_number c rest n low literal =
     front_plain c rest (is_plain c low)
     ∙ ap (λ l. front_by (c ∷ rest) false false false l (word_len (c ∷ rest))) literal
-    ∙ given (nat_lt 0 (suc n)) (numeral_of (take (suc n) (c ∷ rest)) (literal_number (take (suc n) (c ∷ rest)))) _ (above n)
+    ∙ given (nat_lt 0 (suc n)) (numeral_of (take (suc n) (c ∷ rest)) (literal_number (take (suc n) (c ∷ rest)))) _
+    (above n)
 
-pub front_word : (c : ℕ) (rest : List ℕ) (n : ℕ) → IsPlain c → is_ascii_digit c ≡ false → (c == 46) ≡ false → word_len (c ∷ rest) ≡ suc n
+pub front_word : (c : ℕ) (rest : List ℕ) (n : ℕ) → IsPlain c → is_ascii_digit c ≡ false → (c == 46) ≡ false →
+    word_len (c ∷ rest) ≡ suc n
     → front_of (c ∷ rest) ≡ word_of (take (suc n) (c ∷ rest)) (key_of (take (suc n) (c ∷ rest)))
 front_word c rest n plain digit point word =
     front_plain c rest plain

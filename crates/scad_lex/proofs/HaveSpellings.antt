@@ -1,9 +1,9 @@
 -- The tokens of a text can be spelled.
-use Rattle.std.proofs.Common.{◌≡◌, ℕ, zero, suc, ◌+◌, ◌<◌, Bool, true, false, cond, ◌==◌, ◌&&◌, List, [], ◌∷◌, length, take, drop, Option, Some, None, Ok, Err, refl, ap, sym, subst, ◌∙◌, arith}
+use Rattle.std.proofs.Common.{◌≡◌, ℕ, zero, suc, ◌<◌, Bool, true, false, cond, ◌==◌, ◌&&◌, List, [], ◌∷◌}
+use Rattle.std.proofs.Common.{take, drop, Option, Some, None, Ok, Err, refl, subst, arith}
 use Rattle.std.specs.Prelude.{pos, slice_index, option_and_then, nat_lt, nat_le}
 use Rattle.std.specs.List.{prefix_len}
 use Rattle.std.proofs.lemmas.Bool.Decides.{nat_tests}
-use Rattle.std.proofs.lemmas.List.Folds.{length-prefix_len}
 use Rattle.scad_fault.specs.declared.place.Place.{Place}
 use Rattle.scad_num.specs.declared.fault.NumFault.TheVariants.{Range}
 use Rattle.scad_num.specs.Literal.{literal_len, literal_number, literal_millionths}
@@ -17,15 +17,17 @@ use Rattle.scad_lex.specs.declared.quoted.Quoted.TheVariants.{Closed, Unclosed, 
 use Rattle.scad_lex.specs.declared.gap.Class.TheVariants.{Blank, WithinLine}
 use Rattle.scad_lex.specs.Classes.{is_of}
 use Rattle.scad_lex.specs.Gap.{is_blank, closed_len}
-use Rattle.scad_lex.specs.Character.{is_scalar, tail_at, two_tails_at, form_of, two_bytes, three_bytes, four_bytes, character_at}
+use Rattle.scad_lex.specs.Character.{is_scalar, tail_at, two_tails_at, form_of, two_bytes, three_bytes, four_bytes}
+use Rattle.scad_lex.specs.Character.{character_at}
 use Rattle.scad_lex.specs.Escape.{coded, escape_at, two_digits, four_digits, six_digits}
 use Rattle.scad_lex.specs.Quoted.{element_at, behind, begun, quoted_from, others as others_of}
-use Rattle.scad_lex.specs.Words.{begins_word, goes_on_word, word_len}
+use Rattle.scad_lex.specs.Words.{word_len}
 use Rattle.scad_lex.specs.Keys.{key_of}
 use Rattle.scad_lex.specs.Signs.{two_byte_sign, one_byte_sign}
 use Rattle.scad_lex.specs.Front.{front_of, comment_of, string_of, numeral_of, word_of, sign_of}
 use Rattle.scad_lex.specs.Tokens.{Answer, next, others, led_by, tokens_from, start, without_mark}
 use Rattle.scad_lex.specs.Spelling.{AreScalars, CanBeSpelled, HaveSpellings, TokensHaveSpellings}
+use Rattle.scad_lex.proofs.CutNames.{IsName, word_name}
 
 -- ---- characters
 abbrev ElementCan : Option (ℕ × ℕ) → Type 0
@@ -68,8 +70,10 @@ escape_can bytes =
     (either_can (slice_index bytes 1 == 92) _ _ refl
     (either_can (slice_index bytes 1 == 34) _ _ refl
     (either_can (slice_index bytes 1 == 120) _ _ (then_can (coded 128 4) (two_digits bytes 2) (coded_can 128 4))
-    (either_can (slice_index bytes 1 == 117) _ _ (then_can (coded 0x11_0000 6) (four_digits bytes 2) (coded_can 0x11_0000 6))
-    (either_can (slice_index bytes 1 == 85) _ _ (then_can (coded 0x11_0000 8) (six_digits bytes 2) (coded_can 0x11_0000 8)) tt)))))))
+    (either_can (slice_index bytes 1 == 117) _ _
+    (then_can (coded 0x11_0000 6) (four_digits bytes 2) (coded_can 0x11_0000 6))
+    (either_can (slice_index bytes 1 == 85) _ _
+    (then_can (coded 0x11_0000 8) (six_digits bytes 2) (coded_can 0x11_0000 8)) tt)))))))
 
 two_can : (bytes : List ℕ) → ElementCan (two_bytes bytes)
 unfolding two_bytes
@@ -81,15 +85,18 @@ three_can bytes = then_can _ (two_tails_at bytes 1) (λ low. form_can 0x800 3 _)
 
 four_can : (bytes : List ℕ) → ElementCan (four_bytes bytes)
 unfolding four_bytes
-four_can bytes = then_can _ (tail_at bytes 1) (λ high. then_can _ (two_tails_at bytes 2) (λ low. form_can 0x1_0000 4 _))
+four_can bytes = then_can _ (tail_at bytes 1)
+    (λ high. then_can _ (two_tails_at bytes 2) (λ low. form_can 0x1_0000 4 _))
 
 character_can : (bytes : List ℕ) → ElementCan (character_at bytes)
 unfolding character_at
 character_can bytes = by_ascii (nat_lt (slice_index bytes 0) 0x80) refl
   where
     by_ascii : (t : Bool) → nat_lt (slice_index bytes 0) 0x80 ≡ t
-        → ElementCan (cond t (Some (slice_index bytes 0, 1)) (cond (nat_lt (slice_index bytes 0) 0xC0) None (cond (nat_lt (slice_index bytes 0) 0xE0) (two_bytes bytes)
-        (cond (nat_lt (slice_index bytes 0) 0xF0) (three_bytes bytes) (cond (nat_lt (slice_index bytes 0) 0xF8) (four_bytes bytes) None)))))
+        → ElementCan (cond t (Some (slice_index bytes 0, 1))
+        (cond (nat_lt (slice_index bytes 0) 0xC0) None (cond (nat_lt (slice_index bytes 0) 0xE0) (two_bytes bytes)
+        (cond (nat_lt (slice_index bytes 0) 0xF0) (three_bytes bytes)
+        (cond (nat_lt (slice_index bytes 0) 0xF8) (four_bytes bytes) None)))))
     by_ascii true h = grind (arith, nat_tests)
     by_ascii false h =
         either_can (nat_lt (slice_index bytes 0) 0xC0) _ _ tt
@@ -116,7 +123,8 @@ behind_one c n (Closed chars m) scalar can = (scalar, can)
 behind_one c n Unclosed scalar can = tt
 behind_one c n (Broken m) scalar can = tt
 
-begun_can : (b : ℕ) (e : Option (ℕ × ℕ)) (later : Quoted) → ElementCan e → QuotedCan later → QuotedCan (begun b e later)
+begun_can : (b : ℕ) (e : Option (ℕ × ℕ)) (later : Quoted) → ElementCan e → QuotedCan later →
+    QuotedCan (begun b e later)
 begun_can b None later one can = by_quote (b == 34)
   where
     by_quote : (t : Bool) → QuotedCan (cond t (Closed [] 1) (Broken 0))
@@ -131,81 +139,10 @@ begun_can b (Some (c, n)) later one can = by_quote (b == 34)
 quoted_can : (n : ℕ) (bytes : List ℕ) → QuotedCan (quoted_from n bytes)
 quoted_can zero [] = tt
 quoted_can (suc n) [] = tt
-quoted_can zero (b ∷ bytes) = begun_can b (element_at (b ∷ bytes)) (quoted_from (others_of (element_at (b ∷ bytes))) bytes) (element_can (b ∷ bytes)) (quoted_can (others_of (element_at (b ∷ bytes))) bytes)
+quoted_can zero (b ∷ bytes) =
+    begun_can b (element_at (b ∷ bytes)) (quoted_from (others_of (element_at (b ∷ bytes))) bytes)
+    (element_can (b ∷ bytes)) (quoted_can (others_of (element_at (b ∷ bytes))) bytes)
 quoted_can (suc n) (b ∷ bytes) = behind_none 1 (quoted_from n bytes) (quoted_can n bytes)
-
--- ---- names
-prefix_len-whole : (f : ℕ → Bool) (xs : List ℕ) → prefix_len f (take (prefix_len f xs) xs) ≡ prefix_len f xs
-prefix_len-whole f [] = refl
-prefix_len-whole f (x ∷ xs) = by_test (f x) refl (prefix_len-whole f xs)
-  where
-    by_test : (t : Bool) → f x ≡ t → prefix_len f (take (prefix_len f xs) xs) ≡ prefix_len f xs → prefix_len f (take (cond t (1 + prefix_len f xs) 0) (x ∷ xs)) ≡ cond t (1 + prefix_len f xs) 0
-    by_test true h later =
-        let more : 1 + prefix_len f xs ≡ suc (prefix_len f xs) = omega arith in
-        ap (λ n. prefix_len f (take n (x ∷ xs))) more
-        ∙ ap (λ t. cond t (1 + prefix_len f (take (prefix_len f xs) xs)) 0) h
-        ∙ ap (λ n. 1 + n) later
-    by_test false h later = refl
-
-abbrev len_from : ℕ → List ℕ → ℕ
-len_from d bytes = cond (begins_word (slice_index bytes d)) (d + prefix_len goes_on_word (drop d bytes)) 0
-
-begins_goes : (b : ℕ) → begins_word b ≡ true → goes_on_word b ≡ true
-begins_goes b h = grind (arith, nat_tests)
-
-abbrev IsName : List ℕ → Type 0
-IsName word = (0 < length word) × (word_len word ≡ length word)
-
-plain_name : (c : ℕ) (ys : List ℕ) → (c == 36) ≡ false → begins_word c ≡ true → prefix_len goes_on_word (c ∷ ys) ≡ length (c ∷ ys) → IsName (c ∷ ys)
-unfolding word_len
-plain_name c ys plain letter all = (
-  omega arith,
-  ap (λ t. len_from (cond t 1 0) (c ∷ ys)) plain ∙ ap (λ t. cond t (0 + prefix_len goes_on_word (c ∷ ys)) 0) letter ∙ omega (arith, all),
-)
-
-dollar_name : (c d : ℕ) (ys : List ℕ) → (c == 36) ≡ true → begins_word d ≡ true → prefix_len goes_on_word (d ∷ ys) ≡ length (d ∷ ys) → IsName (c ∷ d ∷ ys)
-unfolding word_len
-dollar_name c d ys dollar letter all = (
-  omega arith,
-  ap (λ t. len_from (cond t 1 0) (c ∷ d ∷ ys)) dollar ∙ ap (λ t. cond t (1 + prefix_len goes_on_word (d ∷ ys)) 0) letter ∙ omega (arith, all),
-)
-
-run_len : (d : ℕ) (es : List ℕ) → goes_on_word d ≡ true → prefix_len goes_on_word (d ∷ es) ≡ suc (prefix_len goes_on_word es)
-run_len d es goes = ap (λ t. cond t (1 + prefix_len goes_on_word es) 0) goes ∙ omega arith
-
-first_kept : (d : ℕ) (es : List ℕ) → goes_on_word d ≡ true → take (prefix_len goes_on_word (d ∷ es)) (d ∷ es) ≡ d ∷ take (prefix_len goes_on_word es) es
-first_kept d es goes = ap (λ n. take n (d ∷ es)) (run_len d es goes)
-
-run_is : (d : ℕ) (es : List ℕ) → goes_on_word d ≡ true
-    → prefix_len goes_on_word (d ∷ take (prefix_len goes_on_word es) es) ≡ length (d ∷ take (prefix_len goes_on_word es) es)
-run_is d es goes =
-    subst (λ w. prefix_len goes_on_word w ≡ length w) (first_kept d es goes)
-    (prefix_len-whole goes_on_word (d ∷ es) ∙ sym (length-prefix_len goes_on_word (d ∷ es)))
-
-name_from : (t : Bool) (c : ℕ) (cs : List ℕ) → (c == 36) ≡ t → 0 < len_from (cond t 1 0) (c ∷ cs) → IsName (take (len_from (cond t 1 0) (c ∷ cs)) (c ∷ cs))
-name_from false c cs plain some = by_letter (begins_word c) refl some
-  where
-    by_letter : (t : Bool) → begins_word c ≡ t → 0 < cond t (0 + prefix_len goes_on_word (c ∷ cs)) 0 → IsName (take (len_from 0 (c ∷ cs)) (c ∷ cs))
-    by_letter false letter fact = absurd (omega (arith, fact))
-    by_letter true letter fact =
-        let goes : goes_on_word c ≡ true = begins_goes c letter in
-        let long : len_from 0 (c ∷ cs) ≡ prefix_len goes_on_word (c ∷ cs) = ap (λ t. cond t (0 + prefix_len goes_on_word (c ∷ cs)) 0) letter ∙ omega arith in
-        subst IsName (sym (ap (λ n. take n (c ∷ cs)) long ∙ first_kept c cs goes)) (plain_name c (take (prefix_len goes_on_word cs) cs) plain letter (run_is c cs goes))
-name_from true c [] dollar some = absurd (omega (arith, some))
-name_from true c (e ∷ es) dollar some = by_letter (begins_word e) refl some
-  where
-    by_letter : (t : Bool) → begins_word e ≡ t → 0 < cond t (1 + prefix_len goes_on_word (e ∷ es)) 0 → IsName (take (len_from 1 (c ∷ e ∷ es)) (c ∷ e ∷ es))
-    by_letter false letter fact = absurd (omega (arith, fact))
-    by_letter true letter fact =
-        let goes : goes_on_word e ≡ true = begins_goes e letter in
-        let long : len_from 1 (c ∷ e ∷ es) ≡ suc (prefix_len goes_on_word (e ∷ es)) = ap (λ t. cond t (1 + prefix_len goes_on_word (e ∷ es)) 0) letter ∙ omega arith in
-        subst IsName (sym (ap (λ n. take n (c ∷ e ∷ es)) long ∙ ap (λ w. c ∷ w) (first_kept e es goes)))
-        (dollar_name c e (take (prefix_len goes_on_word es) es) dollar letter (run_is e es goes))
-
-word_name : (bytes : List ℕ) → 0 < word_len bytes → IsName (take (word_len bytes) bytes)
-unfolding word_len
-word_name [] some = absurd (omega (arith, some))
-word_name (c ∷ cs) some = name_from (c == 36) c cs refl some
 
 -- ---- what stands at the front
 abbrev FrontCan : Front → Type 0
@@ -249,11 +186,15 @@ sign_can None (Some sign) = tt
 sign_can None None = tt
 
 word_branch : (bytes : List ℕ) (rest : Front) → FrontCan rest
-    → FrontCan (cond (nat_lt 0 (word_len bytes)) (word_of (take (word_len bytes) bytes) (key_of (take (word_len bytes) bytes))) rest)
+    → FrontCan (cond (nat_lt 0 (word_len bytes))
+    (word_of (take (word_len bytes) bytes) (key_of (take (word_len bytes) bytes))) rest)
 word_branch bytes rest can = by_some (nat_lt 0 (word_len bytes)) refl
   where
-    by_some : (t : Bool) → nat_lt 0 (word_len bytes) ≡ t → FrontCan (cond t (word_of (take (word_len bytes) bytes) (key_of (take (word_len bytes) bytes))) rest)
-    by_some true h = let some : 0 < word_len bytes = grind (arith, nat_tests) in word_can (take (word_len bytes) bytes) (key_of (take (word_len bytes) bytes)) refl (word_name bytes some)
+    by_some : (t : Bool) → nat_lt 0 (word_len bytes) ≡ t →
+        FrontCan (cond t (word_of (take (word_len bytes) bytes) (key_of (take (word_len bytes) bytes))) rest)
+    by_some true h = let some : 0 < word_len bytes =
+        grind (arith, nat_tests) in word_can (take (word_len bytes) bytes) (key_of (take (word_len bytes) bytes)) refl
+        (word_name bytes some)
     by_some false h = can
 
 front_can : (bytes : List ℕ) → FrontCan (front_of bytes)
@@ -271,9 +212,12 @@ front_can bytes =
     let lines : Front = cond (a == 47 && b == 47) (Gap (prefix_len (is_of WithinLine) bytes)) comments in
     front_either (is_blank a) (Gap (prefix_len (is_of Blank) bytes)) lines tt
     (front_either (a == 47 && b == 47) (Gap (prefix_len (is_of WithinLine) bytes)) comments tt
-    (front_either (a == 47 && b == 42) (comment_of (closed_len (drop 2 bytes))) strings (comment_can (closed_len (drop 2 bytes)))
-    (front_either (a == 34) (string_of (quoted_from 0 (drop 1 bytes))) numerals (string_can (quoted_from 0 (drop 1 bytes)) (quoted_can 0 (drop 1 bytes)))
-    (front_either (nat_lt 0 (literal_len bytes)) (numeral_of literal (literal_number literal)) names (numeral_can literal (literal_millionths literal))
+    (front_either (a == 47 && b == 42) (comment_of (closed_len (drop 2 bytes))) strings
+    (comment_can (closed_len (drop 2 bytes)))
+    (front_either (a == 34) (string_of (quoted_from 0 (drop 1 bytes))) numerals
+    (string_can (quoted_from 0 (drop 1 bytes)) (quoted_can 0 (drop 1 bytes)))
+    (front_either (nat_lt 0 (literal_len bytes)) (numeral_of literal (literal_number literal)) names
+    (numeral_can literal (literal_millionths literal))
     (word_branch bytes signs (sign_can (two_byte_sign a b) (one_byte_sign a)))))))
 
 -- ---- tokens
@@ -281,7 +225,8 @@ abbrev AnswerCan : Answer → Type 0
 AnswerCan (Ok found) = HaveSpellings found.0
 AnswerCan (Err fault) = Unit {0}
 
-led_can : (piece : Front) (at : Place) (bytes : List ℕ) (later : Answer) → FrontCan piece → AnswerCan later → AnswerCan (led_by piece at bytes later)
+led_can : (piece : Front) (at : Place) (bytes : List ℕ) (later : Answer) → FrontCan piece → AnswerCan later →
+    AnswerCan (led_by piece at bytes later)
 led_can (Gap n) at bytes later piece_can can = can
 led_can (Cut kind n) at bytes (Ok found) piece_can can = (piece_can, can)
 led_can (Cut kind n) at bytes (Err fault) piece_can can = tt
@@ -292,7 +237,8 @@ from_can : (n : ℕ) (at : Place) (bytes : List ℕ) → AnswerCan (tokens_from 
 from_can zero at [] = tt
 from_can (suc n) at [] = tt
 from_can zero at (b ∷ bytes) =
-    led_can (front_of (b ∷ bytes)) at (b ∷ bytes) (tokens_from (others (front_of (b ∷ bytes))) (next at b) bytes) (front_can (b ∷ bytes))
+    led_can (front_of (b ∷ bytes)) at (b ∷ bytes) (tokens_from (others (front_of (b ∷ bytes))) (next at b) bytes)
+    (front_can (b ∷ bytes))
     (from_can (others (front_of (b ∷ bytes))) (next at b) bytes)
 from_can (suc n) at (b ∷ bytes) = from_can n (next at b) bytes
 

@@ -1,6 +1,14 @@
 pub mod Closed
+mod CutNames
+mod Decimals
+mod Elements
 mod Fronts
 pub mod HaveSpellings
+pub mod Longest
+mod LongestPiece
+mod LongestString
+mod PieceFits
+mod PieceFormed
 mod Pieces
 mod Quotes
 pub mod Spelled
@@ -8,4 +16,3 @@ mod SpelledNumbers
 mod SpelledSigns
 mod SpelledStrings
 mod SpelledWords
-pub mod Longest

@@ -1,9 +1,11 @@
 -- A number before a blank is cut as it is spelled.
-use Rattle.std.proofs.Common.{◌≡◌, ◌≢◌, ℕ, zero, suc, ◌+◌, ◌*◌, ◌/◌, ◌%◌, ◌^◌, ◌<◌, ◌≤◌, Bool, true, false, cond, ◌==◌, List, [], ◌∷◌, ◌++◌, length, take, drop, take_while, Ok, Err, refl, ap, sym, subst, ◌∙◌, arith, ◌⊎◌, inl, inr, append_assoc, length-append}
+use Rattle.std.proofs.Common.{◌≡◌, ◌≢◌, ℕ, zero, suc, ◌+◌, ◌*◌, ◌/◌, ◌%◌, ◌^◌, ◌<◌, ◌≤◌, Bool, true, false, cond}
+use Rattle.std.proofs.Common.{◌==◌, List, [], ◌∷◌, ◌++◌, length, drop, take_while, Ok, Err, refl, ap, sym}
+use Rattle.std.proofs.Common.{subst, ◌∙◌, arith, ◌⊎◌, inl, inr, append_assoc, length-append}
 use Rattle.std.specs.Prelude.{ℤ, pos, slice_index, nat_le}
-use Rattle.std.specs.Char.{is_ascii_digit, digit_value}
+use Rattle.std.specs.Char.{is_ascii_digit}
 use Rattle.std.specs.Fmt.{decimal}
-use Rattle.std.specs.Str.Parse.{AllDigits, IsNumeral, digits_value, digits_value_after}
+use Rattle.std.specs.Str.Parse.{IsNumeral, digits_value}
 use Rattle.std.proofs.Math.Seq.{take-append_seam, drop-append_seam, drop-append-add}
 use Rattle.std.proofs.Math.Nat.{pow-suc}
 use Rattle.std.proofs.lemmas.Bool.{cases_eq, ne_eqb}
@@ -11,39 +13,20 @@ use Rattle.std.proofs.lemmas.Bool.Decides.{nat_tests}
 use Rattle.std.proofs.lemmas.Fmt.{decimal_is_IsNumeral}
 use Rattle.std.proofs.lemmas.List.{get_or-append-add, append-nil}
 use Rattle.std.proofs.lemmas.Nat.{div-mul-add}
-use Rattle.std.proofs.lemmas.Str.Parse.{digit_at}
 use Rattle.scad_num.specs.declared.fault.NumFault.TheVariants.{Range}
-use Rattle.scad_num.specs.Literal.{digits_len, has_point, whole_digits, decimal_digits, mantissa_len, exponent_len, tens_up, tens_down, literal_len, literal_millionths, literal_number}
+use Rattle.scad_num.specs.Literal.{digits_len, has_point, whole_digits, decimal_digits, mantissa_len, exponent_len}
+use Rattle.scad_num.specs.Literal.{tens_up, tens_down, literal_len, literal_millionths, literal_number}
 use Rattle.scad_num.specs.Number.{one, most, number_of}
 use Rattle.scad_num.specs.Rounding.{half_up}
 use Rattle.scad_num.specs.Text.{decimals_of, fraction_text, size_text, number_text}
-use Rattle.scad_num.proofs.Digits.{digit_value-decimal}
-use Rattle.scad_num.proofs.Scaled.{digits_value_after-split, digits_value-append}
+use Rattle.scad_num.proofs.Scaled.{digits_value-append}
 use Rattle.scad_lex.specs.declared.token.TokenKind.TheVariants.{Number}
 use Rattle.scad_lex.specs.declared.front.Front.TheVariants.{Cut}
 use Rattle.scad_lex.specs.Front.{front_of, numeral_of}
 use Rattle.scad_lex.specs.Spelling.{blank_behind}
 use Rattle.scad_lex.proofs.Fronts.{front_number}
-
--- ---- runs of digits
-abbrev AreDigits : List ℕ → Type 0
-AreDigits [] = Unit {0}
-AreDigits (c ∷ cs) = (is_ascii_digit c ≡ true) × AreDigits cs
-
-digits_len-before : (ds more : List ℕ) → AreDigits ds → digits_len more ≡ 0 → digits_len (ds ++ more) ≡ length ds
-digits_len-before [] more are ends = ends
-digits_len-before (c ∷ cs) more (digit, are) ends =
-    ap (λ t. cond t (1 + digits_len (cs ++ more)) 0) digit ∙ omega (arith, digits_len-before cs more are ends)
-
-take_digits : (ds more : List ℕ) → AreDigits ds → digits_len more ≡ 0 → take_while is_ascii_digit (ds ++ more) ≡ ds
-take_digits ds more are ends = ap (λ n. take n (ds ++ more)) (digits_len-before ds more are ends) ∙ take-append_seam ds more
-
-is_digit : (c : ℕ) → digit_value c < 10 → is_ascii_digit c ≡ true
-is_digit c h = grind (arith, nat_tests, digit_at (c ∷ []) 0 (h, tt) (omega arith))
-
-are_digits : (ds : List ℕ) → AllDigits 10 ds → AreDigits ds
-are_digits [] all = tt
-are_digits (c ∷ cs) (h, all) = (is_digit c h, are_digits cs all)
+use Rattle.scad_lex.proofs.Decimals.{AreDigits, digits_len-before, take_digits, are_digits, end_in_six, decimals_are}
+use Rattle.scad_lex.proofs.Decimals.{decimals_value}
 
 -- ---- what may stand behind a number
 record Ends (more : List ℕ) : Type 0 where
@@ -64,17 +47,20 @@ ends_nothing = record { digit = refl; point = refl; exponent = refl }
 abbrev mantissa_by : ℕ → Bool → ℕ → ℕ
 mantissa_by whole point decimals = cond (whole + decimals == 0) 0 (cond point (whole + 1 + decimals) whole)
 
-mantissa-by : (bytes : List ℕ) → mantissa_len bytes ≡ mantissa_by (digits_len bytes) (has_point bytes) (length (decimal_digits bytes))
+mantissa-by : (bytes : List ℕ) →
+    mantissa_len bytes ≡ mantissa_by (digits_len bytes) (has_point bytes) (length (decimal_digits bytes))
 unfolding mantissa_len
 mantissa-by bytes = refl
 
-some_whole : (whole decimals : ℕ) (point : Bool) → 0 < whole → mantissa_by whole point decimals ≡ cond point (whole + 1 + decimals) whole
+some_whole : (whole decimals : ℕ) (point : Bool) → 0 < whole →
+    mantissa_by whole point decimals ≡ cond point (whole + 1 + decimals) whole
 some_whole whole decimals point h = ap (λ t. cond t 0 (cond point (whole + 1 + decimals) whole)) none
   where
     none : (whole + decimals == 0) ≡ false
     none = grind (arith, nat_tests)
 
-literal_by : (text more : List ℕ) → 0 < length text → mantissa_len (text ++ more) ≡ length text → exponent_len more ≡ 0 → literal_len (text ++ more) ≡ length text
+literal_by : (text more : List ℕ) → 0 < length text → mantissa_len (text ++ more) ≡ length text →
+    exponent_len more ≡ 0 → literal_len (text ++ more) ≡ length text
 unfolding literal_len
 literal_by text more some mantissa none =
     ap (λ m. cond (m == 0) 0 (m + exponent_len (drop m (text ++ more)))) mantissa
@@ -93,11 +79,13 @@ module _ (whole more : List ℕ) (are : AreDigits whole) (some : 0 < length whol
 
   whole_point : has_point (whole ++ more) ≡ false
   whole_point =
-      ap (λ n. slice_index (whole ++ more) n == 46) (let e : digits_len (whole ++ more) ≡ length whole + 0 = omega (arith, whole_len) in e)
+      ap (λ n. slice_index (whole ++ more) n == 46)
+      (let e : digits_len (whole ++ more) ≡ length whole + 0 = omega (arith, whole_len) in e)
       ∙ ap (λ b. b == 46) (get_or-append-add whole more 0 0) ∙ ends.point
 
   whole_decimals : decimal_digits (whole ++ more) ≡ []
-  whole_decimals = ap (λ t. cond t (take_while is_ascii_digit (drop (digits_len (whole ++ more) + 1) (whole ++ more))) []) whole_point
+  whole_decimals = ap (λ t. cond t (take_while is_ascii_digit (drop (digits_len (whole ++ more) + 1) (whole ++ more)))
+      []) whole_point
 
   whole_mantissa : mantissa_len (whole ++ more) ≡ length whole
   whole_mantissa =
@@ -106,18 +94,22 @@ module _ (whole more : List ℕ) (are : AreDigits whole) (some : 0 < length whol
       ∙ ap (λ t. mantissa_by (length whole) t (length (decimal_digits (whole ++ more)))) whole_point
       ∙ some_whole (length whole) (length (decimal_digits (whole ++ more))) false some
 
-module _ (whole decimals more : List ℕ) (are : AreDigits whole) (some : 0 < length whole) (also : AreDigits decimals) (ends : Ends more) where
+module _ (whole decimals more : List ℕ) (are : AreDigits whole) (some : 0 < length whole) (also : AreDigits decimals)
+    (ends : Ends more) where
   split_len : digits_len (whole ++ (46 ∷ decimals ++ more)) ≡ length whole
   split_len = digits_len-before whole (46 ∷ decimals ++ more) are refl
 
   split_point : has_point (whole ++ (46 ∷ decimals ++ more)) ≡ true
   split_point =
-      ap (λ n. slice_index (whole ++ (46 ∷ decimals ++ more)) n == 46) (let e : digits_len (whole ++ (46 ∷ decimals ++ more)) ≡ length whole + 0 = omega (arith, split_len) in e)
+      ap (λ n. slice_index (whole ++ (46 ∷ decimals ++ more)) n == 46)
+      (let e : digits_len (whole ++ (46 ∷ decimals ++ more)) ≡ length whole + 0 = omega (arith, split_len) in e)
       ∙ ap (λ b. b == 46) (get_or-append-add whole (46 ∷ decimals ++ more) 0 0)
 
   split_decimals : decimal_digits (whole ++ (46 ∷ decimals ++ more)) ≡ decimals
   split_decimals =
-      ap (λ t. cond t (take_while is_ascii_digit (drop (digits_len (whole ++ (46 ∷ decimals ++ more)) + 1) (whole ++ (46 ∷ decimals ++ more)))) []) split_point
+      ap (λ t. cond t (take_while is_ascii_digit
+      (drop (digits_len (whole ++ (46 ∷ decimals ++ more)) + 1) (whole ++ (46 ∷ decimals ++ more)))) [])
+      split_point
       ∙ ap (λ n. take_while is_ascii_digit (drop (n + 1) (whole ++ (46 ∷ decimals ++ more)))) split_len
       ∙ ap (take_while is_ascii_digit) (drop-append-add whole (46 ∷ decimals ++ more) 1)
       ∙ take_digits decimals more also ends.digit
@@ -125,8 +117,10 @@ module _ (whole decimals more : List ℕ) (are : AreDigits whole) (some : 0 < le
   split_mantissa : mantissa_len (whole ++ (46 ∷ decimals ++ more)) ≡ length (whole ++ 46 ∷ decimals)
   split_mantissa =
       mantissa-by (whole ++ (46 ∷ decimals ++ more))
-      ∙ ap (λ n. mantissa_by n (has_point (whole ++ (46 ∷ decimals ++ more))) (length (decimal_digits (whole ++ (46 ∷ decimals ++ more))))) split_len
-      ∙ ap (λ t. mantissa_by (length whole) t (length (decimal_digits (whole ++ (46 ∷ decimals ++ more))))) split_point
+      ∙ ap (λ n. mantissa_by n (has_point (whole ++ (46 ∷ decimals ++ more)))
+      (length (decimal_digits (whole ++ (46 ∷ decimals ++ more))))) split_len
+      ∙ ap (λ t. mantissa_by (length whole) t (length (decimal_digits (whole ++ (46 ∷ decimals ++ more)))))
+      split_point
       ∙ ap (λ ds. mantissa_by (length whole) true (length ds)) split_decimals
       ∙ some_whole (length whole) (length decimals) true some
       ∙ omega (arith, length-append whole (46 ∷ decimals))
@@ -144,9 +138,11 @@ ten_pow (suc k) = omega (arith, ten_pow k, pow-suc 10 k)
 
 abbrev millionths_by : List ℕ → List ℕ → List ℕ → ℕ
 millionths_by whole decimals exponent =
-    half_up (digits_value 10 (whole ++ decimals) * 10 ^ (6 + tens_up exponent)) (10 ^ (length decimals + tens_down exponent))
+    half_up (digits_value 10 (whole ++ decimals) * 10 ^ (6 + tens_up exponent))
+    (10 ^ (length decimals + tens_down exponent))
 
-millionths-by : (text whole decimals : List ℕ) → whole_digits text ≡ whole → decimal_digits text ≡ decimals → mantissa_len text ≡ length text
+millionths-by : (text whole decimals : List ℕ) → whole_digits text ≡ whole → decimal_digits text ≡ decimals →
+    mantissa_len text ≡ length text
     → literal_millionths text ≡ half_up (digits_value 10 (whole ++ decimals) * 10 ^ 6) (10 ^ length decimals)
 unfolding literal_millionths tens_up tens_down
 millionths-by text whole decimals is_whole is_decimals all =
@@ -159,60 +155,19 @@ millionths-by text whole decimals is_whole is_decimals all =
     drop_whole [] = refl
     drop_whole (x ∷ xs) = drop_whole xs
 
--- ---- decimals
--- no more than so many decimals stand behind the point
-abbrev EndIn : ℕ → ℕ → Type 0
-EndIn zero parts = parts ≡ 0
-EndIn (suc k) parts = EndIn k (parts * 10 % one)
-
-end_in_six : (parts : ℕ) → EndIn 6 parts
-end_in_six parts = omega arith
-
-decimals_are : (k parts : ℕ) → parts < one → AreDigits (decimals_of k parts)
-decimals_are zero parts below = tt
-decimals_are (suc k) parts below = by_end (parts == 0) (decimals_are k (parts * 10 % one) (omega arith))
-  where
-    digit : is_ascii_digit (48 + parts * 10 / one) ≡ true
-    digit = let small : parts * 10 / one < 10 = omega arith in grind (arith, nat_tests)
-
-    by_end : (t : Bool) → AreDigits (decimals_of k (parts * 10 % one)) → AreDigits (cond t [] ((48 + parts * 10 / one) ∷ decimals_of k (parts * 10 % one)))
-    by_end true later = tt
-    by_end false later = (digit, later)
-
-next_value : (d r parts : ℕ) (ds : List ℕ) → d < 10 → parts * 10 ≡ d * one + r → digits_value 10 ds * one ≡ r * 10 ^ length ds
-    → digits_value 10 ((48 + d) ∷ ds) * one ≡ parts * 10 ^ length ((48 + d) ∷ ds)
-next_value d r parts ds small is later =
-    let digit : digit_value (48 + d) ≡ d = digit_value-decimal (48 + d) (omega arith) (omega arith) ∙ omega arith in
-    let front : 0 * 10 + digit_value (48 + d) ≡ d = omega (arith, digit) in
-    let value : digits_value 10 ((48 + d) ∷ ds) ≡ d * 10 ^ length ds + digits_value 10 ds = ap (λ n. digits_value_after 10 n ds) front ∙ digits_value_after-split d ds in
-    omega (arith, value, ap (λ x. x * 10 ^ length ds) is, later, ap (λ x. parts * x) (pow-suc 10 (length ds)))
-
-decimals_value : (k parts : ℕ) → parts < one → EndIn k parts → digits_value 10 (decimals_of k parts) * one ≡ parts * 10 ^ length (decimals_of k parts)
-decimals_value zero parts below end = omega (arith, end)
-decimals_value (suc k) parts below end = by_end (cases_eq parts 0) (decimals_value k (parts * 10 % one) (omega arith) end)
-  where
-    d : ℕ
-    d = parts * 10 / one
-
-    r : ℕ
-    r = parts * 10 % one
-
-    by_end : (parts ≡ 0) ⊎ (parts ≢ 0) → digits_value 10 (decimals_of k r) * one ≡ r * 10 ^ length (decimals_of k r)
-        → digits_value 10 (decimals_of (suc k) parts) * one ≡ parts * 10 ^ length (decimals_of (suc k) parts)
-    by_end (inl e) later = subst (λ p. digits_value 10 (decimals_of (suc k) p) * one ≡ p * 10 ^ length (decimals_of (suc k) p)) (sym e) refl
-    by_end (inr ne) later =
-        subst (λ ds. digits_value 10 ds * one ≡ parts * 10 ^ length ds) (sym (ap (λ t. cond t [] ((48 + d) ∷ decimals_of k r)) (ne_eqb parts 0 ne)))
-        (next_value d r parts (decimals_of k r) (omega arith) (omega arith) later)
-
 -- ---- a number
-joined_value : (v whole part w p n P : ℕ) → v ≡ whole * P + part → whole ≡ w → part * one ≡ p * P → n ≡ w * one + p → v * 10 ^ 6 ≡ n * P
-joined_value v whole part w p n P joined is_whole is_part is = omega (arith, joined, ap (λ x. x * P) is_whole, is_part, ap (λ x. x * P) is)
+joined_value : (v whole part w p n P : ℕ) → v ≡ whole * P + part → whole ≡ w → part * one ≡ p * P → n ≡ w * one + p →
+    v * 10 ^ 6 ≡ n * P
+joined_value v whole part w p n P joined is_whole is_part is =
+    omega (arith, joined, ap (λ x. x * P) is_whole, is_part, ap (λ x. x * P) is)
 
-value_of : (whole ds : List ℕ) (w p n : ℕ) → digits_value 10 whole ≡ w → digits_value 10 ds * one ≡ p * 10 ^ length ds → n ≡ w * one + p
+value_of : (whole ds : List ℕ) (w p n : ℕ) → digits_value 10 whole ≡ w →
+    digits_value 10 ds * one ≡ p * 10 ^ length ds → n ≡ w * one + p
     → half_up (digits_value 10 (whole ++ ds) * 10 ^ 6) (10 ^ length ds) ≡ n
 value_of whole ds w p n is_whole is_part is =
     ap (λ x. half_up x (10 ^ length ds))
-    (joined_value (digits_value 10 (whole ++ ds)) (digits_value 10 whole) (digits_value 10 ds) w p n (10 ^ length ds) (digits_value-append whole ds) is_whole is_part is)
+    (joined_value (digits_value 10 (whole ++ ds)) (digits_value 10 whole) (digits_value 10 ds) w p n (10 ^ length ds)
+    (digits_value-append whole ds) is_whole is_part is)
     ∙ half_up-exact n (10 ^ length ds) (ten_pow (length ds))
 
 number_small : (n : ℕ) → n ≤ most → number_of (pos n) ≡ Ok (pos n)
@@ -225,7 +180,8 @@ first_digit : (whole more : List ℕ) → AreDigits whole → 0 < length whole �
 first_digit [] more are some = absurd (omega (arith, some))
 first_digit (c ∷ cs) more (digit, are) some = grind (arith, nat_tests)
 
-cut_number : (text more : List ℕ) (n : ℕ) → 0 < length text → 48 ≤ slice_index text 0 → literal_len (text ++ more) ≡ length text → literal_millionths text ≡ n → n ≤ most
+cut_number : (text more : List ℕ) (n : ℕ) → 0 < length text → 48 ≤ slice_index text 0 →
+    literal_len (text ++ more) ≡ length text → literal_millionths text ≡ n → n ≤ most
     → front_of (text ++ more) ≡ Cut (Number (pos n)) (length text)
 unfolding numeral_of
 cut_number [] more n some low literal value small = absurd (omega (arith, some))
@@ -234,11 +190,13 @@ cut_number (c ∷ cs) more n some low literal value small =
     ∙ ap (λ t. numeral_of t (literal_number t)) (take-append_seam (c ∷ cs) more)
     ∙ ap (numeral_of (c ∷ cs)) (ap (λ m. number_of (pos m)) value ∙ number_small n small)
 
-whole_front : (whole more : List ℕ) (n : ℕ) → AreDigits whole → 0 < length whole → Ends more → digits_value 10 whole * one ≡ n → n ≤ most
+whole_front : (whole more : List ℕ) (n : ℕ) → AreDigits whole → 0 < length whole → Ends more →
+    digits_value 10 whole * one ≡ n → n ≤ most
     → front_of (whole ++ more) ≡ Cut (Number (pos n)) (length whole)
 whole_front whole more n are some ends value small =
     let same : whole ≡ whole ++ [] = sym (append-nil whole) in
-    cut_number whole more n some (subst (λ t. 48 ≤ slice_index t 0) (append-nil whole) (first_digit whole [] are some))
+    cut_number whole more n some
+    (subst (λ t. 48 ≤ slice_index t 0) (append-nil whole) (first_digit whole [] are some))
     (literal_by whole more some (whole_mantissa whole more are some ends) ends.exponent)
     (millionths-by whole whole [] (ap whole_digits same ∙ take_digits whole [] are refl)
     (ap decimal_digits same ∙ whole_decimals whole [] are some ends_nothing)
@@ -254,14 +212,16 @@ split_front whole ds more w p n are some also ends is_whole is_part is small =
     let longer : 0 < length (whole ++ 46 ∷ ds) = omega (arith, length-append whole (46 ∷ ds)) in
     cut_number (whole ++ 46 ∷ ds) more n longer (first_digit whole (46 ∷ ds) are some)
     (literal_by (whole ++ 46 ∷ ds) more longer
-    (ap mantissa_len (append_assoc whole (46 ∷ ds) more) ∙ split_mantissa whole ds more are some also ends) ends.exponent)
+    (ap mantissa_len (append_assoc whole (46 ∷ ds) more) ∙ split_mantissa whole ds more are some also ends)
+    ends.exponent)
     (millionths-by (whole ++ 46 ∷ ds) whole ds (take_digits whole (46 ∷ ds) are refl)
     (ap decimal_digits same ∙ split_decimals whole ds [] are some also ends_nothing)
     (ap mantissa_len same ∙ split_mantissa whole ds [] are some also ends_nothing)
     ∙ value_of whole ds w p n is_whole is_part is)
     small
 
-size_front : (n : ℕ) (more : List ℕ) → n ≤ most → Ends more → front_of (size_text n ++ more) ≡ Cut (Number (pos n)) (length (size_text n))
+size_front : (n : ℕ) (more : List ℕ) → n ≤ most → Ends more →
+    front_of (size_text n ++ more) ≡ Cut (Number (pos n)) (length (size_text n))
 size_front n more small ends = by_part (cases_eq p 0)
   where
     w : ℕ
@@ -278,10 +238,12 @@ size_front n more small ends = by_part (cases_eq p 0)
 
     by_part : (p ≡ 0) ⊎ (p ≢ 0) → front_of (size_text n ++ more) ≡ Cut (Number (pos n)) (length (size_text n))
     by_part (inl e) =
-        subst (λ t. front_of (t ++ more) ≡ Cut (Number (pos n)) (length t)) (sym (ap (λ q. decimal w ++ fraction_text q) e ∙ append-nil (decimal w)))
+        subst (λ t. front_of (t ++ more) ≡ Cut (Number (pos n)) (length t))
+        (sym (ap (λ q. decimal w ++ fraction_text q) e ∙ append-nil (decimal w)))
         (whole_front (decimal w) more n are numeral.0.0 ends (ap (λ x. x * one) numeral.1 ∙ omega (arith, e)) small)
     by_part (inr ne) =
-        subst (λ t. front_of (t ++ more) ≡ Cut (Number (pos n)) (length t)) (sym (ap (λ t. decimal w ++ cond t [] (46 ∷ decimals_of 6 p)) (ne_eqb p 0 ne)))
+        subst (λ t. front_of (t ++ more) ≡ Cut (Number (pos n)) (length t))
+        (sym (ap (λ t. decimal w ++ cond t [] (46 ∷ decimals_of 6 p)) (ne_eqb p 0 ne)))
         (split_front (decimal w) (decimals_of 6 p) more w p n are numeral.0.0 (decimals_are 6 p (omega arith)) ends
         numeral.1 (decimals_value 6 p (omega arith) (end_in_six p)) (omega arith) small)
 

@@ -3,9 +3,14 @@ use Rattle.std.proofs.Common.{◌≡◌, ℕ, Bool, true, false, List, ◌∷◌
 use Rattle.scad_num.specs.Literal.{literal_len, mantissa_len, exponent_len}
 use Rattle.scad_lex.specs.declared.token.TokenKind.TheVariants.{Sign, Key}
 use Rattle.scad_lex.specs.declared.token.Sign.{Sign as SignName}
-use Rattle.scad_lex.specs.declared.token.Sign.TheVariants.{OpenRound, CloseRound, OpenSquare, CloseSquare, OpenCurly, CloseCurly, Semicolon, Comma, Colon, Question, Assign, Equal, NotEqual, Less, LessEqual, Greater, GreaterEqual, Plus, Minus, Star, Slash, Percent, Caret, Bang, AndAnd, OrOr, Hash, Dot}
+use Rattle.scad_lex.specs.declared.token.Sign.TheVariants.{OpenRound, CloseRound, OpenSquare, CloseSquare, OpenCurly}
+use Rattle.scad_lex.specs.declared.token.Sign.TheVariants.{CloseCurly, Semicolon, Comma, Colon, Question, Assign}
+use Rattle.scad_lex.specs.declared.token.Sign.TheVariants.{Equal, NotEqual, Less, LessEqual, Greater, GreaterEqual}
+use Rattle.scad_lex.specs.declared.token.Sign.TheVariants.{Plus, Minus, Star, Slash, Percent, Caret, Bang, AndAnd}
+use Rattle.scad_lex.specs.declared.token.Sign.TheVariants.{OrOr, Hash, Dot}
 use Rattle.scad_lex.specs.declared.token.Key.{Key as KeyName}
-use Rattle.scad_lex.specs.declared.token.Key.TheVariants.{Module, Function, If, Else, For, Let, Assert, Echo, Each, True, False, Undef, Include, Use}
+use Rattle.scad_lex.specs.declared.token.Key.TheVariants.{Module, Function, If, Else, For, Let, Assert, Echo, Each}
+use Rattle.scad_lex.specs.declared.token.Key.TheVariants.{True, False, Undef, Include, Use}
 use Rattle.scad_lex.specs.declared.front.Front.TheVariants.{Cut}
 use Rattle.scad_lex.specs.Front.{front_of, sign_of, word_of}
 use Rattle.scad_lex.specs.Words.{word_len}
@@ -13,8 +18,10 @@ use Rattle.scad_lex.specs.Signs.{two_byte_sign, one_byte_sign, mark_sign, operat
 use Rattle.scad_lex.specs.Keys.{key_of, numbered_key}
 use Rattle.scad_lex.specs.Spelling.{sign_spelling, key_spelling, blank_behind}
 
-pub sign_front : (s : SignName) (b : Bool) (rest : List ℕ) → front_of (sign_spelling s ++ blank_behind b ∷ rest) ≡ Cut (Sign s) (length (sign_spelling s))
-unfolding front_of literal_len mantissa_len exponent_len word_len two_byte_sign one_byte_sign mark_sign operator_sign sign_of
+pub sign_front : (s : SignName) (b : Bool) (rest : List ℕ) →
+    front_of (sign_spelling s ++ blank_behind b ∷ rest) ≡ Cut (Sign s) (length (sign_spelling s))
+unfolding front_of literal_len mantissa_len exponent_len word_len two_byte_sign one_byte_sign mark_sign operator_sign
+    sign_of
 sign_front OpenRound true rest = refl
 sign_front OpenRound false rest = refl
 sign_front CloseRound true rest = refl
@@ -72,7 +79,8 @@ sign_front Hash false rest = refl
 sign_front Dot true rest = refl
 sign_front Dot false rest = refl
 
-pub key_front : (k : KeyName) (b : Bool) (rest : List ℕ) → front_of (key_spelling k ++ blank_behind b ∷ rest) ≡ Cut (Key k) (length (key_spelling k))
+pub key_front : (k : KeyName) (b : Bool) (rest : List ℕ) →
+    front_of (key_spelling k ++ blank_behind b ∷ rest) ≡ Cut (Key k) (length (key_spelling k))
 unfolding front_of literal_len mantissa_len exponent_len word_len key_of numbered_key word_of
 key_front Module true rest = refl
 key_front Module false rest = refl

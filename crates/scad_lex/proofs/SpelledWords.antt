@@ -1,5 +1,6 @@
 -- A name before a blank is cut as it is spelled.
-use Rattle.std.proofs.Common.{◌≡◌, ℕ, suc, ◌+◌, ◌<◌, Bool, true, false, cond, ◌==◌, ◌||◌, List, [], ◌∷◌, ◌++◌, length, drop, None, refl, ap, ◌∙◌, arith}
+use Rattle.std.proofs.Common.{◌≡◌, ℕ, suc, ◌+◌, ◌<◌, Bool, true, false, cond, ◌==◌, ◌||◌, List, [], ◌∷◌, ◌++◌, length}
+use Rattle.std.proofs.Common.{drop, None, refl, ap, ◌∙◌, arith}
 use Rattle.std.specs.Prelude.{slice_index}
 use Rattle.std.specs.Char.{is_ascii_digit}
 use Rattle.std.specs.List.{prefix_len}
@@ -18,9 +19,12 @@ counted true p q n h same = let e : p ≡ n = omega (arith, h) in let f : q ≡ 
 counted false p q n h same = absurd (omega (arith, h))
 
 -- a run that takes a whole list ends before what doesn't go on with it
-prefix_len-before : (f : ℕ → Bool) (xs : List ℕ) (b : ℕ) (rest : List ℕ) → f b ≡ false → prefix_len f xs ≡ length xs → prefix_len f (xs ++ b ∷ rest) ≡ length xs
+prefix_len-before : (f : ℕ → Bool) (xs : List ℕ) (b : ℕ) (rest : List ℕ) → f b ≡ false → prefix_len f xs ≡ length xs →
+    prefix_len f (xs ++ b ∷ rest) ≡ length xs
 prefix_len-before f [] b rest ends whole = ap (λ t. cond t (1 + prefix_len f rest) 0) ends
-prefix_len-before f (x ∷ xs) b rest ends whole = counted (f x) (prefix_len f xs) (prefix_len f (xs ++ b ∷ rest)) (length xs) whole (prefix_len-before f xs b rest ends)
+prefix_len-before f (x ∷ xs) b rest ends whole =
+    counted (f x) (prefix_len f xs) (prefix_len f (xs ++ b ∷ rest)) (length xs) whole
+    (prefix_len-before f xs b rest ends)
 
 -- how long a name is whose first letter stands behind so many bytes
 abbrev len_from : ℕ → List ℕ → ℕ
@@ -31,24 +35,30 @@ chosen true p q n h same = same h
 chosen false p q n h same = absurd (omega (arith, h))
 
 len_from-before : (dollar : Bool) (c : ℕ) (cs : List ℕ) (b : ℕ) (rest : List ℕ) → goes_on_word b ≡ false
-    → len_from (cond dollar 1 0) (c ∷ cs) ≡ suc (length cs) → len_from (cond dollar 1 0) (c ∷ cs ++ b ∷ rest) ≡ suc (length cs)
+    → len_from (cond dollar 1 0) (c ∷ cs) ≡ suc (length cs) →
+    len_from (cond dollar 1 0) (c ∷ cs ++ b ∷ rest) ≡ suc (length cs)
 len_from-before false c cs b rest ends whole =
-    chosen (begins_word c) (0 + prefix_len goes_on_word (c ∷ cs)) (0 + prefix_len goes_on_word (c ∷ cs ++ b ∷ rest)) (length cs) whole
+    chosen (begins_word c) (0 + prefix_len goes_on_word (c ∷ cs)) (0 + prefix_len goes_on_word (c ∷ cs ++ b ∷ rest))
+    (length cs) whole
     (λ e. let all : prefix_len goes_on_word (c ∷ cs) ≡ length (c ∷ cs) = omega (arith, e) in
-    let more : prefix_len goes_on_word (c ∷ cs ++ b ∷ rest) ≡ length (c ∷ cs) = prefix_len-before goes_on_word (c ∷ cs) b rest ends all in
+    let more : prefix_len goes_on_word (c ∷ cs ++ b ∷ rest) ≡ length (c ∷ cs) =
+    prefix_len-before goes_on_word (c ∷ cs) b rest ends all in
     omega (arith, more))
 len_from-before true c [] b rest ends whole = absurd (omega (arith, whole))
 len_from-before true c (d ∷ ds) b rest ends whole =
-    chosen (begins_word d) (1 + prefix_len goes_on_word (d ∷ ds)) (1 + prefix_len goes_on_word (d ∷ ds ++ b ∷ rest)) (suc (length ds)) whole
+    chosen (begins_word d) (1 + prefix_len goes_on_word (d ∷ ds)) (1 + prefix_len goes_on_word (d ∷ ds ++ b ∷ rest))
+    (suc (length ds)) whole
     (λ e. let all : prefix_len goes_on_word (d ∷ ds) ≡ length (d ∷ ds) = omega (arith, e) in
-    let more : prefix_len goes_on_word (d ∷ ds ++ b ∷ rest) ≡ length (d ∷ ds) = prefix_len-before goes_on_word (d ∷ ds) b rest ends all in
+    let more : prefix_len goes_on_word (d ∷ ds ++ b ∷ rest) ≡ length (d ∷ ds) =
+    prefix_len-before goes_on_word (d ∷ ds) b rest ends all in
     omega (arith, more))
 
 blank_ends : (b : Bool) → goes_on_word (blank_behind b) ≡ false
 blank_ends true = refl
 blank_ends false = refl
 
-word_len-before : (c : ℕ) (cs : List ℕ) (b : Bool) (rest : List ℕ) → word_len (c ∷ cs) ≡ suc (length cs) → word_len (c ∷ cs ++ blank_behind b ∷ rest) ≡ suc (length cs)
+word_len-before : (c : ℕ) (cs : List ℕ) (b : Bool) (rest : List ℕ) → word_len (c ∷ cs) ≡ suc (length cs) →
+    word_len (c ∷ cs ++ blank_behind b ∷ rest) ≡ suc (length cs)
 unfolding word_len
 word_len-before c cs b rest whole = len_from-before (c == 36) c cs (blank_behind b) rest (blank_ends b) whole
 
@@ -65,14 +75,16 @@ first_of c rest n whole = by_dollar (c == 36) whole
     by_dollar true h = refl
     by_dollar false h = by_letter (begins_word c) (0 + prefix_len goes_on_word (c ∷ rest)) h
 
-first_plain : (c : ℕ) → (c == 36 || begins_word c) ≡ true → IsPlain c × (is_ascii_digit c ≡ false) × ((c == 46) ≡ false)
+first_plain : (c : ℕ) → (c == 36 || begins_word c) ≡ true → IsPlain c × (is_ascii_digit c ≡ false)
+    × ((c == 46) ≡ false)
 first_plain c h = (
   record { blank = grind (arith, nat_tests); slash = grind (arith, nat_tests); quote = grind (arith, nat_tests) },
   grind (arith, nat_tests),
   grind (arith, nat_tests),
 )
 
-pub word_front : (word : List ℕ) (b : Bool) (rest : List ℕ) → 0 < length word → word_len word ≡ length word → key_of word ≡ None
+pub word_front : (word : List ℕ) (b : Bool) (rest : List ℕ) → 0 < length word → word_len word ≡ length word →
+    key_of word ≡ None
     → front_of (word ++ blank_behind b ∷ rest) ≡ Cut (Word word) (length word)
 unfolding word_of
 word_front [] b rest some whole other = absurd (omega (arith, some))

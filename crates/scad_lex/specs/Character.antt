@@ -1,5 +1,6 @@
 -- Characters in UTF-8 (The Unicode Standard, "UTF-8"): each is the shortest form of a Unicode scalar value.
-use Rattle.std.specs.Prelude.{ℕ, ◌+◌, ◌-◌, ◌*◌, ◌&&◌, List, Option, Some, None, option_and_then, nat_lt, nat_le, if◌then◌else◌, slice_index}
+use Rattle.std.specs.Prelude.{ℕ, ◌+◌, ◌-◌, ◌*◌, ◌&&◌, List, Option, Some, None, option_and_then, nat_lt, nat_le}
+use Rattle.std.specs.Prelude.{if◌then◌else◌, slice_index}
 use Rattle.std.specs.Int.{is_in_range}
 pub use Rattle.scad_base.specs.Characters.{is_scalar}
 
@@ -9,7 +10,9 @@ tail_at bytes k = if is_in_range 0x80 0xBF (slice_index bytes k) then Some (slic
 
 -- the twelve bits of the bytes at k and behind it
 unfoldable pub two_tails_at : List ℕ → ℕ → Option ℕ
-two_tails_at bytes k = option_and_then (λ high. option_and_then (λ low. Some (high * 64 + low)) (tail_at bytes (k + 1))) (tail_at bytes k)
+two_tails_at bytes k =
+    option_and_then (λ high. option_and_then (λ low. Some (high * 64 + low)) (tail_at bytes (k + 1)))
+    (tail_at bytes k)
 
 -- a form of n bytes for the code point, where shorter forms reach up to least
 unfoldable pub form_of : ℕ → ℕ → ℕ → Option (ℕ × ℕ)
@@ -19,11 +22,15 @@ unfoldable pub two_bytes : List ℕ → Option (ℕ × ℕ)
 two_bytes bytes = option_and_then (λ low. form_of 0x80 2 ((slice_index bytes 0 - 0xC0) * 64 + low)) (tail_at bytes 1)
 
 unfoldable pub three_bytes : List ℕ → Option (ℕ × ℕ)
-three_bytes bytes = option_and_then (λ low. form_of 0x800 3 ((slice_index bytes 0 - 0xE0) * 4096 + low)) (two_tails_at bytes 1)
+three_bytes bytes = option_and_then (λ low. form_of 0x800 3 ((slice_index bytes 0 - 0xE0) * 4096 + low))
+    (two_tails_at bytes 1)
 
 unfoldable pub four_bytes : List ℕ → Option (ℕ × ℕ)
 four_bytes bytes =
-    option_and_then (λ high. option_and_then (λ low. form_of 0x1_0000 4 ((slice_index bytes 0 - 0xF0) * 262144 + high * 4096 + low)) (two_tails_at bytes 2)) (tail_at bytes 1)
+    option_and_then (λ high.
+    option_and_then (λ low. form_of 0x1_0000 4 ((slice_index bytes 0 - 0xF0) * 262144 + high * 4096 + low))
+    (two_tails_at bytes 2))
+    (tail_at bytes 1)
 
 -- the character that bytes begin with and its number of bytes, or None where they begin with none
 unfoldable pub character_at : List ℕ → Option (ℕ × ℕ)

@@ -1,5 +1,7 @@
 -- What stands at the front of a text: blanks or a comment, a token, or neither.
-use Rattle.std.specs.Prelude.{ℕ, ◌+◌, ◌<◌, ◌≤◌, ◌&&◌, List, Option, Some, None, Result, Ok, Err, ℤ, ◌==◌, nat_lt, if◌then◌else◌, slice_index, take, drop, length}
+use Prim.Native.Char.{code}
+use Rattle.std.specs.Prelude.{ℕ, ◌+◌, ◌<◌, ◌≤◌, ◌&&◌, List, Option, Some, None, Result, Ok, Err, ℤ, ◌==◌, nat_lt}
+use Rattle.std.specs.Prelude.{if◌then◌else◌, slice_index, take, drop, length}
 use Rattle.std.specs.List.{prefix_len}
 use Rattle.scad_num.specs.declared.fault.NumFault.{NumFault}
 use Rattle.scad_num.specs.Literal.{literal_len, literal_number}
@@ -50,11 +52,13 @@ front_of bytes =
     let a = slice_index bytes 0 in
     let b = slice_index bytes 1 in
     if is_blank a then Gap (prefix_len (is_of Blank) bytes)
-    else (if a == 47 && b == 47 then Gap (prefix_len (is_of WithinLine) bytes)
-    else (if a == 47 && b == 42 then comment_of (closed_len (drop 2 bytes))
-    else (if a == 34 then string_of (quoted (drop 1 bytes))
-    else (if nat_lt 0 (literal_len bytes) then numeral_of (take (literal_len bytes) bytes) (literal_number (take (literal_len bytes) bytes))
-    else (if nat_lt 0 (word_len bytes) then word_of (take (word_len bytes) bytes) (key_of (take (word_len bytes) bytes))
+    else (if a == code "/" && b == code "/" then Gap (prefix_len (is_of WithinLine) bytes)
+    else (if a == code "/" && b == code "*" then comment_of (closed_len (drop 2 bytes))
+    else (if a == code "\"" then string_of (quoted (drop 1 bytes))
+    else (if nat_lt 0 (literal_len bytes) then
+    numeral_of (take (literal_len bytes) bytes) (literal_number (take (literal_len bytes) bytes))
+    else (if nat_lt 0 (word_len bytes) then
+    word_of (take (word_len bytes) bytes) (key_of (take (word_len bytes) bytes))
     else sign_of (two_byte_sign a b) (one_byte_sign a))))))
 
 -- a piece has at least a byte, and few bytes beyond a text of this length

@@ -2,13 +2,15 @@
 use Rattle.std.specs.Prelude.{ℕ, List, [], ◌∷◌, Option, Some, None, option_and_then, ◌==◌, if◌then◌else◌, codes}
 use Rattle.scad_table.specs.Table.{id_of}
 use Rattle.scad_lex.specs.declared.token.Key.{Key}
-use Rattle.scad_lex.specs.declared.token.Key.TheVariants.{Module, Function, If, Else, For, Let, Assert, Echo, Each, True, False, Undef, Include, Use}
+use Rattle.scad_lex.specs.declared.token.Key.TheVariants.{Module, Function, If, Else, For, Let, Assert, Echo, Each}
+use Rattle.scad_lex.specs.declared.token.Key.TheVariants.{True, False, Undef, Include, Use}
 
 -- each keyword with its number
 abbrev pub key_table : List (List ℕ × ℕ)
 key_table =
-    (codes "assert", 0) ∷ (codes "each", 1) ∷ (codes "echo", 2) ∷ (codes "else", 3) ∷ (codes "false", 4) ∷ (codes "for", 5)
-    ∷ (codes "function", 6) ∷ (codes "if", 7) ∷ (codes "include", 8) ∷ (codes "let", 9) ∷ (codes "module", 10) ∷ (codes "true", 11)
+    (codes "assert", 0) ∷ (codes "each", 1) ∷ (codes "echo", 2) ∷ (codes "else", 3) ∷ (codes "false", 4)
+    ∷ (codes "for", 5) ∷ (codes "function", 6) ∷ (codes "if", 7) ∷ (codes "include", 8) ∷ (codes "let", 9)
+    ∷ (codes "module", 10) ∷ (codes "true", 11)
     ∷ (codes "undef", 12) ∷ (codes "use", 13) ∷ []
 
 -- the keyword of a number

@@ -1,5 +1,7 @@
 -- Strings (OpenSCAD User Manual, "Strings").
-use Rattle.std.specs.Prelude.{ℕ, zero, suc, ◌+◌, List, [], ◌∷◌, ◌++◌, Option, Some, None, ◌==◌, if◌then◌else◌, slice_index}
+use Prim.Native.Char.{code}
+use Rattle.std.specs.Prelude.{ℕ, zero, suc, ◌+◌, List, [], ◌∷◌, ◌++◌, Option, Some, None, ◌==◌, if◌then◌else◌}
+use Rattle.std.specs.Prelude.{slice_index}
 use Rattle.scad_lex.specs.Character.{character_at}
 use Rattle.scad_lex.specs.Escape.{escape_at}
 use Rattle.scad_lex.specs.declared.quoted.Quoted.{Quoted}
@@ -7,7 +9,7 @@ use Rattle.scad_lex.specs.declared.quoted.Quoted.TheVariants.{Closed, Unclosed, 
 
 -- the character or the escape that the bytes begin with, and its number of bytes
 unfoldable pub element_at : List ℕ → Option (ℕ × ℕ)
-element_at bytes = if slice_index bytes 0 == 92 then escape_at bytes else character_at bytes
+element_at bytes = if slice_index bytes 0 == code "\\" then escape_at bytes else character_at bytes
 
 -- what stands behind a quote, where these characters of so many bytes stand before it
 abbrev pub behind : List ℕ → ℕ → Quoted → Quoted
@@ -23,8 +25,8 @@ others (Some (c, suc n)) = n
 
 -- the first byte is a quote, or no element begins with it, or one does and this stands behind its first byte
 abbrev pub begun : ℕ → Option (ℕ × ℕ) → Quoted → Quoted
-begun b None later = if b == 34 then Closed [] 1 else Broken 0
-begun b (Some (c, n)) later = if b == 34 then Closed [] 1 else behind (c ∷ []) 1 later
+begun b None later = if b == code "\"" then Closed [] 1 else Broken 0
+begun b (Some (c, n)) later = if b == code "\"" then Closed [] 1 else behind (c ∷ []) 1 later
 
 -- what stands behind an opening quote, where the first bytes, so many, belong to an element that has begun
 abbrev pub quoted_from : ℕ → List ℕ → Quoted

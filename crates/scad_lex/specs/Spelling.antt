@@ -1,5 +1,7 @@
 -- How tokens are spelled, and the text of tokens with a blank behind each.
-use Rattle.std.specs.Prelude.{◌≡◌, ℕ, ◌<◌, ◌≤◌, Bool, true, false, List, [], ◌∷◌, ◌++◌, None, Ok, pos, codes, length, encode_utf8, ◌==◌, if◌then◌else◌}
+use Prim.Native.Char.{code}
+use Rattle.std.specs.Prelude.{◌≡◌, ℕ, ◌<◌, ◌≤◌, Bool, true, false, List, [], ◌∷◌, ◌++◌, None, Ok, pos, codes, length}
+use Rattle.std.specs.Prelude.{encode_utf8, ◌==◌, if◌then◌else◌}
 use Rattle.std.specs.List.{flat_map}
 use Rattle.scad_fault.specs.declared.place.Place.{Place}
 use Rattle.scad_num.specs.Text.{number_text}
@@ -7,9 +9,14 @@ use Rattle.scad_lex.specs.declared.token.Token.{Token}
 use Rattle.scad_lex.specs.declared.token.TokenKind.{TokenKind}
 use Rattle.scad_lex.specs.declared.token.TokenKind.TheVariants.{Number, Str, Word, Sign, Key}
 use Rattle.scad_lex.specs.declared.token.Sign.{Sign as SignName}
-use Rattle.scad_lex.specs.declared.token.Sign.TheVariants.{OpenRound, CloseRound, OpenSquare, CloseSquare, OpenCurly, CloseCurly, Semicolon, Comma, Colon, Question, Assign, Equal, NotEqual, Less, LessEqual, Greater, GreaterEqual, Plus, Minus, Star, Slash, Percent, Caret, Bang, AndAnd, OrOr, Hash, Dot}
+use Rattle.scad_lex.specs.declared.token.Sign.TheVariants.{OpenRound, CloseRound, OpenSquare, CloseSquare, OpenCurly}
+use Rattle.scad_lex.specs.declared.token.Sign.TheVariants.{CloseCurly, Semicolon, Comma, Colon, Question, Assign}
+use Rattle.scad_lex.specs.declared.token.Sign.TheVariants.{Equal, NotEqual, Less, LessEqual, Greater, GreaterEqual}
+use Rattle.scad_lex.specs.declared.token.Sign.TheVariants.{Plus, Minus, Star, Slash, Percent, Caret, Bang, AndAnd}
+use Rattle.scad_lex.specs.declared.token.Sign.TheVariants.{OrOr, Hash, Dot}
 use Rattle.scad_lex.specs.declared.token.Key.{Key as KeyName}
-use Rattle.scad_lex.specs.declared.token.Key.TheVariants.{Module, Function, If, Else, For, Let, Assert, Echo, Each, True, False, Undef, Include, Use}
+use Rattle.scad_lex.specs.declared.token.Key.TheVariants.{Module, Function, If, Else, For, Let, Assert, Echo, Each}
+use Rattle.scad_lex.specs.declared.token.Key.TheVariants.{True, False, Undef, Include, Use}
 use Rattle.scad_lex.specs.Character.{is_scalar}
 use Rattle.scad_lex.specs.Keys.{key_of}
 use Rattle.scad_lex.specs.Words.{word_len}
@@ -63,11 +70,11 @@ key_spelling Use = codes "use"
 
 -- a character of a string: a quote and a backslash behind a backslash, any other as it is
 abbrev pub character_spelling : ℕ → List ℕ
-character_spelling c = if c == 34 then 92 ∷ 34 ∷ [] else if c == 92 then 92 ∷ 92 ∷ [] else encode_utf8 c
+character_spelling c = if c == code "\"" then codes "\\\"" else if c == code "\\" then codes "\\\\" else encode_utf8 c
 
 abbrev pub spelling : TokenKind → List ℕ
 spelling (Number z) = number_text z
-spelling (Str chars) = 34 ∷ flat_map character_spelling chars ++ 34 ∷ []
+spelling (Str chars) = code "\"" ∷ flat_map character_spelling chars ++ codes "\""
 spelling (Word word) = word
 spelling (Sign sign) = sign_spelling sign
 spelling (Key key) = key_spelling key
@@ -91,8 +98,8 @@ Spaced = TokenKind × Bool
 
 -- the blank behind a token
 abbrev pub blank_behind : Bool → ℕ
-blank_behind true = 10
-blank_behind false = 32
+blank_behind true = code "\n"
+blank_behind false = code " "
 
 -- the text of tokens, a blank behind each
 abbrev pub spelled : List Spaced → List ℕ
@@ -110,7 +117,8 @@ placed at (k ∷ more) = record { kind = k.0; at = at } ∷ placed (after at (sp
 
 -- the text of tokens that are spelled so has these tokens, and no others
 abbrev pub SpelledTokensAreRead : Type 0
-SpelledTokensAreRead = (all : List Spaced) → CanAllBeSpelled all → tokens (spelled all) ≡ Ok (placed start all, after start (spelled all))
+SpelledTokensAreRead = (all : List Spaced) → CanAllBeSpelled all →
+    tokens (spelled all) ≡ Ok (placed start all, after start (spelled all))
 
 -- each of these tokens can be spelled
 abbrev pub HaveSpellings : List Token → Type 0
@@ -119,4 +127,5 @@ HaveSpellings (t ∷ ts) = CanBeSpelled t.kind × HaveSpellings ts
 
 -- the tokens of a text can be spelled
 abbrev pub TokensHaveSpellings : Type 0
-TokensHaveSpellings = (bytes : List ℕ) (ts : List Token) (end : Place) → tokens bytes ≡ Ok (ts, end) → HaveSpellings ts
+TokensHaveSpellings = (bytes : List ℕ) (ts : List Token) (end : Place) → tokens bytes ≡ Ok (ts, end) →
+    HaveSpellings ts

@@ -1,5 +1,7 @@
 -- The tokens of a text: it is cut into tokens, blanks and comments, each the longest that begins at its place.
-use Rattle.std.specs.Prelude.{◌≡◌, ℕ, zero, suc, pred, ◌+◌, ◌++◌, List, [], ◌∷◌, Result, Ok, Err, nat_eq, ◌==◌, if◌then◌else◌, take, drop}
+use Prim.Native.Char.{code}
+use Rattle.std.specs.Prelude.{◌≡◌, ℕ, zero, suc, pred, ◌+◌, ◌++◌, List, [], ◌∷◌, Result, Ok, Err, nat_eq, ◌==◌}
+use Rattle.std.specs.Prelude.{if◌then◌else◌, take, drop}
 use Rattle.std.specs.List.{starts_with}
 use Rattle.scad_fault.specs.declared.place.Place.{Place}
 pub use Rattle.scad_fault.specs.Place.{first_place as start}
@@ -18,7 +20,7 @@ next_col at = record { line = at.line; col = at.col + 1 }
 
 -- the place behind a byte: a line feed begins a line, each other byte takes a column
 abbrev pub next : Place → ℕ → Place
-next at b = if b == 10 then next_line at else next_col at
+next at b = if b == code "\n" then next_line at else next_col at
 
 -- the place behind bytes
 abbrev pub after : Place → List ℕ → Place

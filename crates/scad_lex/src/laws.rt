@@ -1,5 +1,5 @@
 //! Laws of the definitions, each carried by the contract of a function that does nothing.
-ghost use Rattle.scad_lex.specs.Longest.{RunsAreLongest, NamesAreLongest, CommentsAreLongest};
+ghost use Rattle.scad_lex.specs.Longest.{RunsAreLongest, NamesAreLongest, CommentsAreLongest, PiecesAreLongest, NoPieceIsMissed};
 ghost use Rattle.scad_lex.specs.Spelling.{SpelledTokensAreRead, TokensHaveSpellings};
 
 /// The text of tokens, each as it is spelled and a blank or a line feed behind it, has these tokens
@@ -28,4 +28,12 @@ pub fn names_are_longest()
 /// A comment in `/*` and `*/` ends at the first `*/`, and no more bytes are one comment.
 pub fn comments_are_longest()
     ensures { CommentsAreLongest }
+{}
+
+/// What is cut off in front of a text, blanks, a comment or a token, is the longest of all pieces that
+/// the text begins with, and where nothing is cut off no piece begins, but for the `/` of a comment
+/// that isn't closed.
+pub fn pieces_are_longest()
+    ensures longest { PiecesAreLongest }
+    ensures none_missed { NoPieceIsMissed }
 {}

@@ -61,3 +61,20 @@ placed_point m x y z = record { x = placed_coordinate m.x x y z; y = placed_coor
 -- the placed point, or Range where a coordinate is out of range
 abbrev pub placed : Matrix → ℤ → ℤ → ℤ → Result Pt3 MatrixFault
 placed m x y z = if is_in_range (placed_point m x y z) then Ok (placed_point m x y z) else Err Range
+
+-- the matrix inside an extrusion, where it acts by its x and y rows and columns alone: neither row reads z, and z is left
+-- as it is
+abbrev pub flattened : Matrix → Matrix
+flattened m = record {
+  x = record { x = m.x.x; y = m.x.y; z = pos 0; shift = m.x.shift };
+  y = record { x = m.y.x; y = m.y.y; z = pos 0; shift = m.y.shift };
+  z = record { x = pos 0; y = pos 0; z = pos one; shift = pos 0 };
+}
+
+-- the placed point of a profile, in millionths: each number the exact sum of products, rounded once, or Range where one is
+-- out of range
+abbrev pub placed_profile : Matrix → ℤ → ℤ → Result (ℤ × ℤ) MatrixFault
+placed_profile m x y =
+    and_then (entry_number m.x x y (pos 0) (pos one)) (λ across.
+    and_then (entry_number m.y x y (pos 0) (pos one)) (λ along.
+    Ok (across, along)))

@@ -5,6 +5,7 @@
 //! one of these is out of range.
 #![tactic(auto, using(scad_geom::proofs::Casts::casts))]
 
+mod flat;
 mod makers;
 mod matrix;
 mod mirroring;

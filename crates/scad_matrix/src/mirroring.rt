@@ -6,6 +6,7 @@ ghost use Rattle.scad_matrix.specs.Makers.{square_of, reflection, along, across}
 
 use crate::makers::translate;
 use crate::matrix::{Matrix, Row};
+use crate::products::product;
 use scad_geom::wide::{minus, plus, times};
 use scad_num::{Num, half_up};
 
@@ -42,13 +43,6 @@ pub fn mirror(x: Num, y: Num, z: Num) -> Matrix
             shift: o,
         },
     }
-}
-
-fn product(a: Num, b: Num) -> i128
-    ensures value { result ≡ a *ℤ b }
-    ensures size { unsigned_abs result ≤ 2 ^ 100 }
-{
-    times::<50, 50>(a.millionths() as i128, b.millionths() as i128)
 }
 
 // The square of a normal's length.

@@ -25,7 +25,8 @@ pub(crate) fn dot(row: &Row, x: Num, y: Num, z: Num, last: i64) -> i128
     )
 }
 
-fn product(a: Num, b: Num) -> i128
+/// The exact product of two numbers, in millionths of millionths.
+pub(crate) fn product(a: Num, b: Num) -> i128
     ensures value { result ≡ a *ℤ b }
     ensures size { unsigned_abs result ≤ 2 ^ 100 }
 {
@@ -40,8 +41,8 @@ fn rounded(row: &Row, x: Num, y: Num, z: Num, last: i64) -> i128
     half_away(dot(row, x, y, z, last), 1_000_000)
 }
 
-// An entry of a product: the exact product, rounded once, where it is in range.
-fn entry(row: &Row, x: Num, y: Num, z: Num, last: i64) -> Result<Num, MatrixFault>
+/// An entry of a product: the exact product, rounded once, where it is in range.
+pub(crate) fn entry(row: &Row, x: Num, y: Num, z: Num, last: i64) -> Result<Num, MatrixFault>
     requires { unsigned_abs last ≤ one }
     ensures { result ≡ entry_number row.now x y z last }
 {

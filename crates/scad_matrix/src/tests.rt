@@ -114,3 +114,30 @@ fn places_the_corners_of_a_turned_cube(rt: HostRuntime) -> Result<(), Fail> {
     );
     Ok(())
 }
+
+#[test]
+fn places_profiles_inside_extrusions(rt: HostRuntime) -> Result<(), Fail> {
+    let (half, two, three) = (Num::of(M / 2)?, Num::of(2 * M)?, Num::of(3 * M)?);
+    let m = turn(Axis::Z, 30000)
+        .compose(&translate(half, two, three))
+        .ok()
+        .ok_or(NumFault::Range)?;
+    let tilted = turn(Axis::X, 30000)
+        .compose(&m)
+        .ok()
+        .ok_or(NumFault::Range)?;
+    assert_eq!(rt;
+        entries(&tilted.flat()),
+        [
+            866025, -500000, 0, -566988, 433013, 749999, 0, 216505, 0, 0, M, 0
+        ]
+    );
+    let placed = tilted.profile(half, Num::of(-3)?);
+    assert_eq!(rt; placed, Ok((Num::of(-133974)?, Num::of(433009)?)));
+    let large = Num::of(500_000_001 * M)?;
+    assert_eq!(rt;
+        scale(two, two, two).profile(half, large),
+        Err(MatrixFault::Range)
+    );
+    Ok(())
+}

@@ -16,7 +16,9 @@ use Rattle.scad_matrix.specs.declared.matrix.Matrix.{Matrix}
 use Rattle.scad_matrix.specs.Matrix.{micrometre, placed_coordinate, placed_point}
 use Rattle.scad_shapes.specs.Outline.{start_of, circle}
 use Rattle.scad_shapes.specs.Outline as outline
-use Rattle.scad_shapes.specs.Rings.{placed_ring, two_rings, solid_of_rings, UnlessMemory}
+use Rattle.scad_base.specs.Memory.{UnlessMemory}
+use Rattle.scad_shapes.specs.Faults.{is_memory}
+use Rattle.scad_shapes.specs.Rings.{placed_ring, two_rings, solid_of_rings}
 use Rattle.scad_shapes.specs.Laws.{IsUpright, IsDiagonal, placed_outline, placed_height, CubesHold, PlacedPrismsHold, CylindersHold}
 
 -- a row doesn't read a coordinate whose entry is 0
@@ -99,6 +101,6 @@ solid_by : (b : Bool) (ts us : List Triangle) → Ok us ≡ (if b then Ok ts els
 solid_by true ts us e = cc
 solid_by false ts us e = absurd (cc)
 
-pub of_solid : (P : List Triangle → Type 0) (rings : List (List Pt3)) → P (stacked rings) → (r : Result (List Triangle) ShapeFault) → UnlessMemory r (r ≡ solid_of_rings rings) → IfOk r P
+pub of_solid : (P : List Triangle → Type 0) (rings : List (List Pt3)) → P (stacked rings) → (r : Result (List Triangle) ShapeFault) → UnlessMemory is_memory r (r ≡ solid_of_rings rings) → IfOk r P
 of_solid P rings all (Ok ts) is = subst P (sym (solid_by (rings_in_range rings) (stacked rings) ts is)) all
 of_solid P rings all (Err e) is = tt

@@ -1,3 +1,4 @@
+pub mod Faults
 pub mod Outline
 pub mod Rings
 pub mod Polyhedron

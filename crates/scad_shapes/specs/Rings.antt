@@ -11,7 +11,7 @@ use Rattle.scad_cos.specs.Cosine.{cosine, sine}
 use Rattle.scad_matrix.specs.declared.matrix.Matrix.{Matrix}
 use Rattle.scad_matrix.specs.Matrix.{placed_point}
 use Rattle.scad_shapes.specs.declared.fault.ShapeFault.{ShapeFault}
-use Rattle.scad_shapes.specs.declared.fault.ShapeFault.TheVariants.{CoordinateRange, NotClosed, Memory}
+use Rattle.scad_shapes.specs.declared.fault.ShapeFault.TheVariants.{CoordinateRange}
 use Rattle.scad_shapes.specs.Outline.{start_of, rectangle, circle, part_of, sphere_rings, polar_angle}
 
 -- the points of an outline at a height, each placed by the whole matrix
@@ -49,10 +49,3 @@ ring_if_in_range ring = if list_all is_in_range ring then Ok ring else Err Coord
 -- the solid of placed rings, or CoordinateRange where a coordinate is out of range
 abbrev pub solid_of_rings : List (List Pt3) → Result (List Triangle) ShapeFault
 solid_of_rings rings = if rings_in_range rings then Ok (stacked rings) else Err CoordinateRange
-
--- a fact of every answer but want of memory
-abbrev pub UnlessMemory : {A : Type 0} → Result A ShapeFault → Type 0 → Type 0
-UnlessMemory (Ok a) P = P
-UnlessMemory (Err CoordinateRange) P = P
-UnlessMemory (Err NotClosed) P = P
-UnlessMemory (Err Memory) P = Unit {0}

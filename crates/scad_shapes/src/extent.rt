@@ -7,7 +7,7 @@ ghost use Rattle.scad_shapes.specs.Outline.{start_of};
 use scad_num::{Num, half_away};
 
 /// Where a size begins and where it ends along an axis.
-pub(crate) fn extent(size: Num, center: bool) -> (Num, Num)
+pub fn extent(size: Num, center: bool) -> (Num, Num)
     ensures begins { result.0 ≡ start_of size center }
     ensures ends { result.1 ≡ start_of size center +ℤ size }
 {

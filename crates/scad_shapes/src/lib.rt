@@ -9,6 +9,7 @@ mod extent;
 mod fault;
 pub mod laws;
 mod outline;
+pub mod parts;
 mod placing;
 mod polyhedra;
 mod prisms;

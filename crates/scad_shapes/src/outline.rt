@@ -10,7 +10,7 @@ use scad_num::{Num, half_away, times};
 use std::alloc::{AllocError, Global};
 
 /// The rectangle of a cube.
-pub(crate) fn rectangle(x: Num, y: Num, center: bool) -> [(Num, Num); 4]
+pub fn rectangle(x: Num, y: Num, center: bool) -> [(Num, Num); 4]
     ensures { result ≡ rectangle x y center }
 {
     let (left, right) = extent(x, center);
@@ -19,7 +19,7 @@ pub(crate) fn rectangle(x: Num, y: Num, center: bool) -> [(Num, Num); 4]
 }
 
 /// The vertices of a circle.
-pub(crate) fn circle(alloc: Global, r: Num, n: u32) -> Result<Vec<(Num, Num)>, AllocError>
+pub fn circle(alloc: Global, r: Num, n: u32) -> Result<Vec<(Num, Num)>, AllocError>
     requires { n ≤ 1000000000 }
     ensures vertices { IfOk result (λ v. v.items ≡ circle r n) }
     ensures count { IfOk result (λ v. length v.items ≡ n) }
@@ -41,7 +41,7 @@ fn vertex(r: Num, n: u32, i: u32) -> (Num, Num)
 }
 
 /// A length times a cosine or a sine.
-pub(crate) fn part_of(r: Num, c: i64) -> Num
+pub fn part_of(r: Num, c: i64) -> Num
     requires { unsigned_abs c ≤ one }
     ensures { result ≡ part_of r c }
 {

@@ -1,10 +1,12 @@
 //! Placed rings, and their solids.
 ghost use Rattle.std.specs.Prelude.{◌≡◌, Ok, IsTrue};
+ghost use Rattle.scad_base.specs.Memory.{UnlessMemory};
+ghost use Rattle.scad_shapes.specs.Faults.{is_memory};
 ghost use Rattle.scad_solid.specs.Stack.{stacked, are_alike, rings_in_range};
 ghost use Rattle.scad_geom.specs.PointRange.{is_in_range};
 ghost use Rattle.scad_matrix.specs.Matrix.{placed_point};
 ghost use Rattle.scad_shapes.specs.Pushed.{Pushes};
-ghost use Rattle.scad_shapes.specs.Rings.{placed_ring, ring_if_in_range, UnlessMemory};
+ghost use Rattle.scad_shapes.specs.Rings.{placed_ring, ring_if_in_range};
 
 use crate::fault::ShapeFault;
 use scad_geom::Pt3;
@@ -20,7 +22,7 @@ pub(crate) fn place_ring(
     z: Num,
     outline: &[(Num, Num)],
 ) -> Result<Ring, ShapeFault>
-    ensures { UnlessMemory result (result ≡ ring_if_in_range (placed_ring m.now z outline.now)) }
+    ensures { UnlessMemory is_memory result (result ≡ ring_if_in_range (placed_ring m.now z outline.now)) }
 {
     let mut ring = Vec::new(alloc);
     'points: for point in outline {
@@ -30,14 +32,8 @@ pub(crate) fn place_ring(
     Ok(Ring::from_vec(ring))
 }
 
-/// Adds a placed point.
-pub(crate) fn push_placed(
-    out: &mut Vec<Pt3>,
-    m: &Matrix,
-    x: Num,
-    y: Num,
-    z: Num,
-) -> Result<(), ShapeFault>
+/// Adds a placed point. CoordinateRange exactly where a coordinate of it is out of range.
+pub fn push_placed(out: &mut Vec<Pt3>, m: &Matrix, x: Num, y: Num, z: Num) -> Result<(), ShapeFault>
     ensures { Pushes is_in_range out.old.items (placed_point m.now x y z) out.new.items result }
 {
     let Ok(point) = m.place(x, y, z) else {
@@ -53,7 +49,7 @@ pub(crate) fn push_placed(
 pub(crate) fn solid(alloc: Global, rings: &[Ring]) -> Result<Triangles, ShapeFault>
     requires alike { IsTrue (are_alike rings.now) }
     requires in_range { IsTrue (rings_in_range rings.now) }
-    ensures { UnlessMemory result (result ≡ Ok (stacked rings.now)) }
+    ensures { UnlessMemory is_memory result (result ≡ Ok (stacked rings.now)) }
 {
     match stack(alloc, rings) {
         Ok(solid) => Ok(solid),

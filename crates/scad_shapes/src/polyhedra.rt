@@ -1,11 +1,12 @@
 //! Polyhedra.
 ghost use Rattle.std.specs.Prelude.{◌≡◌, true, length, map, IfOk, IsTrue};
+ghost use Rattle.scad_base.specs.Memory.{UnlessMemory};
+ghost use Rattle.scad_shapes.specs.Faults.{is_memory};
 ghost use Rattle.scad_shapes.specs.declared.count.Form.TheVariants.{Polyhedron};
 ghost use Rattle.scad_shapes.specs.Count.{triangles_of, face_triangles};
 ghost use Rattle.std.specs.List.{list_all};
 ghost use Rattle.scad_geom.specs.PointRange.{is_in_range};
 ghost use Rattle.scad_solid.specs.Solid.{fans, corners};
-ghost use Rattle.scad_shapes.specs.Rings.{UnlessMemory};
 ghost use Rattle.scad_shapes.specs.Pushed.{Collects};
 ghost use Rattle.scad_shapes.specs.Polyhedron.{placed_points, name_points, if_closed, polyhedron_of};
 
@@ -26,7 +27,7 @@ pub fn polyhedron(
     m: &Matrix,
 ) -> Result<Triangles, ShapeFault>
     requires { IsTrue (name_points (length points.now) faces.now) }
-    ensures solid { UnlessMemory result (result ≡ polyhedron_of points.now faces.now m.now) }
+    ensures solid { UnlessMemory is_memory result (result ≡ polyhedron_of points.now faces.now m.now) }
     ensures count { IfOk result (λ t. length t ≡ triangles_of (Polyhedron (face_triangles faces.now))) }
 {
     let placed = place(alloc, points, m)?;
@@ -37,7 +38,7 @@ pub fn polyhedron(
 fn bounded(alloc: Global, points: &[Pt3], faces: &[Face]) -> Result<Triangles, ShapeFault>
     requires in_range { list_all is_in_range points.now ≡ true }
     requires named { IsTrue (name_points (length points.now) faces.now) }
-    ensures solid { UnlessMemory result (result ≡ if_closed (fans (map (corners points.now) faces.now))) }
+    ensures solid { UnlessMemory is_memory result (result ≡ if_closed (fans (map (corners points.now) faces.now))) }
     ensures count { IfOk result (λ t. length t ≡ face_triangles faces.now) }
 {
     match Triangles::from_faces(alloc, points, faces) {

@@ -1,9 +1,11 @@
 //! Cubes and cylinders.
 ghost use Rattle.std.specs.Prelude.{◌≡◌, ◌≤◌, ◌+ℤ◌, length, IfOk};
+ghost use Rattle.scad_base.specs.Memory.{UnlessMemory};
+ghost use Rattle.scad_shapes.specs.Faults.{is_memory};
 ghost use Rattle.scad_solid.specs.Laws.{HoldBetween, HoldInside};
 ghost use Rattle.scad_shapes.specs.declared.count.Form.TheVariants.{Cube, Cylinder};
 ghost use Rattle.scad_shapes.specs.Count.{triangles_of, prism_triangles};
-ghost use Rattle.scad_shapes.specs.Rings.{two_rings, cube_rings, cylinder_rings, solid_of_rings, UnlessMemory};
+ghost use Rattle.scad_shapes.specs.Rings.{two_rings, cube_rings, cylinder_rings, solid_of_rings};
 ghost use Rattle.scad_shapes.specs.Outline.{start_of, circle};
 ghost use Rattle.scad_shapes.specs.Laws.{IsDiagonal, IsUpright, first_corner, last_corner, placed_outline, placed_height};
 
@@ -25,7 +27,7 @@ pub fn cube(
     center: bool,
     m: &Matrix,
 ) -> Result<Triangles, ShapeFault>
-    ensures solid { UnlessMemory result (result ≡ solid_of_rings (cube_rings x y z center m.now)) }
+    ensures solid { UnlessMemory is_memory result (result ≡ solid_of_rings (cube_rings x y z center m.now)) }
     ensures count { IfOk result (λ t. length t ≡ triangles_of Cube) }
     ensures holds { IsDiagonal m.now → IfOk result (λ t. HoldBetween (first_corner x y z center m.now) (last_corner x y z center m.now) t) }
 {
@@ -47,7 +49,7 @@ pub fn cylinder(
 ) -> Result<Triangles, ShapeFault>
     requires some { 3 ≤ n }
     requires few { n ≤ 200000 }
-    ensures solid { UnlessMemory result (result ≡ solid_of_rings (cylinder_rings h r1 r2 n center m.now)) }
+    ensures solid { UnlessMemory is_memory result (result ≡ solid_of_rings (cylinder_rings h r1 r2 n center m.now)) }
     ensures count { IfOk result (λ t. length t ≡ triangles_of (Cylinder n)) }
     ensures holds { IsUpright m.now → r1 ≡ r2 → IfOk result (λ t. HoldInside (placed_outline m.now (circle r1 n)) (placed_height m.now (start_of h center +ℤ h)) (placed_height m.now (start_of h center)) t) }
 {
@@ -61,9 +63,9 @@ pub fn cylinder(
     prism(alloc, m, bottom.as_slice(), top.as_slice(), low, high)
 }
 
-// The solid between an outline at a lower and one at an upper height.
+/// The solid between an outline at a lower and one at an upper height.
 #[tactic(auto, using(crate::proofs::Counted::prism_count, scad_geom::proofs::Casts::casts))]
-fn prism(
+pub fn prism(
     alloc: Global,
     m: &Matrix,
     bottom: &[(Num, Num)],
@@ -73,7 +75,7 @@ fn prism(
 ) -> Result<Triangles, ShapeFault>
     requires alike { length bottom.now ≡ length top.now }
     requires some { 3 ≤ length top.now }
-    ensures solid { UnlessMemory result (result ≡ solid_of_rings (two_rings m.now bottom.now top.now low high)) }
+    ensures solid { UnlessMemory is_memory result (result ≡ solid_of_rings (two_rings m.now bottom.now top.now low high)) }
     ensures count { IfOk result (λ t. length t ≡ prism_triangles (length top.now)) }
 {
     let upper = place_ring(alloc, m, high, top)?;

@@ -1,9 +1,11 @@
 //! Spheres.
 ghost use Rattle.std.specs.Prelude.{◌≡◌, ◌<◌, ◌≤◌, ◌++◌, ◌∷◌, [], pos, unsigned_abs, length, IfOk};
+ghost use Rattle.scad_base.specs.Memory.{UnlessMemory};
+ghost use Rattle.scad_shapes.specs.Faults.{is_memory};
 ghost use Rattle.scad_shapes.specs.declared.count.Form.TheVariants.{Sphere};
 ghost use Rattle.scad_shapes.specs.Count.{triangles_of};
 ghost use Rattle.scad_shapes.specs.Outline.{sphere_rings, polar_angle};
-ghost use Rattle.scad_shapes.specs.Rings.{sphere_ring, sphere_ring_at, sphere_rings_of, ring_if_in_range, solid_of_rings, UnlessMemory};
+ghost use Rattle.scad_shapes.specs.Rings.{sphere_ring, sphere_ring_at, sphere_rings_of, ring_if_in_range, solid_of_rings};
 ghost use Rattle.scad_shapes.specs.Pushed.{Pushes, Collects, ring_in_range};
 
 use crate::fault::ShapeFault;
@@ -20,7 +22,7 @@ use std::alloc::Global;
 pub fn sphere(alloc: Global, r: Num, n: u32, m: &Matrix) -> Result<Triangles, ShapeFault>
     requires some { 3 ≤ n }
     requires few { n ≤ 200000 }
-    ensures solid { UnlessMemory result (result ≡ solid_of_rings (sphere_rings_of r n m.now)) }
+    ensures solid { UnlessMemory is_memory result (result ≡ solid_of_rings (sphere_rings_of r n m.now)) }
     ensures count { IfOk result (λ t. length t ≡ triangles_of (Sphere n)) }
 {
     let rings = rings(alloc, r, n, m)?;
@@ -83,7 +85,7 @@ fn rounded_angle(rings: u64, i: u64) -> u64
 fn ring(alloc: Global, r: Num, n: u32, m: &Matrix, angle: i64) -> Result<Ring, ShapeFault>
     requires few { n ≤ 200000 }
     requires angle { unsigned_abs angle ≤ 360000 }
-    ensures { UnlessMemory result (result ≡ ring_if_in_range (sphere_ring r n m.now angle)) }
+    ensures { UnlessMemory is_memory result (result ≡ ring_if_in_range (sphere_ring r n m.now angle)) }
 {
     let Ok(outline) = circle(alloc, part_of(r, sin(angle)), n) else {
         return Err(ShapeFault::Memory);

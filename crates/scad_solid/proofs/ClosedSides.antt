@@ -1,5 +1,6 @@
 -- A surface is closed exactly where its sides and their reverses are the same list once both are sorted.
-use Rattle.std.proofs.Common.{◌≡◌, ℕ, zero, suc, ◌<◌, Bool, true, false, cond, ◌&&◌, ◌==◌, List, [], ◌∷◌, length, get_or, map, arith, refl, ap, ap₂, sym, ◌∙◌, subst, ◌⊎◌, inl, inr}
+use Rattle.std.proofs.Common.{◌≡◌, ℕ, zero, suc, ◌<◌, Bool, true, cond, ◌&&◌, ◌==◌, List, [], ◌∷◌, length, get_or, map, arith, refl, ap, ap₂, sym, ◌∙◌, subst, ◌⊎◌, inl, inr}
+use Rattle.std.proofs.lemmas.Bool.{and_parts}
 use Rattle.std.proofs.Math.Bool.{and_comm}
 use Rattle.std.specs.Cmp.{both_ways}
 use Rattle.std.specs.Cmp.Lexicographic.{pointwise}
@@ -15,10 +16,6 @@ use Rattle.scad_solid.proofs.Multiset.{same_ascending, same_sums, times_in-cons,
 use Rattle.scad_solid.proofs.SideOrder.{side_cmp, side_total, side_exact, side_Decides}
 use borrow.Author.Tests.{eqb-true, eq-eqb}
 
-both_pass : (a b : Bool) → (a && b) ≡ true → (a ≡ true) × (b ≡ true)
-both_pass true b e = (refl, e)
-both_pass false b e = absurd (cc)
-
 -- a side is the reverse of another where its reverse is that other
 occurrences-reversed : (s : Side) (ss : List Side) → occurrences s (map reversed ss) ≡ occurrences (reversed s) ss
 occurrences-reversed s [] = refl
@@ -33,8 +30,8 @@ pub record IsClosed (ts : List Triangle) : Type 0 where
 -- a test that all elements pass, at one of them
 list_all-at : {X : Type 0} (p : X → Bool) (xs : List X) (i : ℕ) (d : X) → list_all p xs ≡ true → i < length xs → p (get_or xs i d) ≡ true
 list_all-at p [] i d all inside = absurd (omega arith)
-list_all-at p (x ∷ xs) zero d all inside = (both_pass (p x) (list_all p xs) all).0
-list_all-at p (x ∷ xs) (suc i) d all inside = list_all-at p xs i d (both_pass (p x) (list_all p xs) all).1 (omega arith)
+list_all-at p (x ∷ xs) zero d all inside = (and_parts (p x) (list_all p xs) all).0
+list_all-at p (x ∷ xs) (suc i) d all inside = list_all-at p xs i d (and_parts (p x) (list_all p xs) all).1 (omega arith)
 
 list_all-each : {X : Type 0} (p : X → Bool) → ((x : X) → p x ≡ true) → (xs : List X) → list_all p xs ≡ true
 list_all-each p each [] = refl

@@ -1,5 +1,5 @@
 -- How many triangles faces and stacked rings have.
-use Rattle.std.proofs.Common.{◌≡◌, ℕ, suc, ◌+◌, ◌-◌, ◌*◌, ◌&&◌, ◌==◌, Bool, true, false, List, [], ◌∷◌, ◌++◌, length, map, reverse, arith, refl, ap, ap₂, sym, ◌∙◌, length-append}
+use Rattle.std.proofs.Common.{◌≡◌, ℕ, suc, ◌+◌, ◌-◌, ◌*◌, ◌==◌, true, List, [], ◌∷◌, ◌++◌, length, map, reverse, arith, refl, ap, ap₂, sym, ◌∙◌, length-append}
 use Rattle.std.proofs.lemmas.Bool.{and_parts}
 use Rattle.std.specs.List.{zip, list_all, sum_by}
 use Rattle.std.proofs.lemmas.Grind.{flat_map-append}
@@ -10,6 +10,7 @@ use Rattle.scad_geom.specs.declared.point3.Pt3.{Pt3}
 use Rattle.scad_solid.specs.declared.side.Side.{Side}
 use Rattle.scad_solid.specs.Solid.{fan, fan_around, fans}
 use Rattle.scad_solid.specs.Stack.{path, ring_sides, quad, band, faces_below, stacked}
+use Rattle.scad_solid.specs.Wrap.{bands, wrapped}
 
 length-fan_around : (p q : Pt3) (rs : List Pt3) → length (fan_around p q rs) ≡ length rs
 length-fan_around p q [] = refl
@@ -61,6 +62,21 @@ length-stacked m top rings e all =
     let turned = length-fan (reverse top) ∙ ap (λ n. n - 2) (length-reverse top ∙ e) in
     let below = length-below m top rings e all in
     length-append (fan (reverse top)) (fans (faces_below top rings)) ∙ ap₂ (λ a b. a + b) turned below ∙ omega arith
+
+length-bands : (m : ℕ) (ring last : List Pt3) (rings : List (List Pt3)) → length ring ≡ m → length last ≡ m → list_all (λ r. length r == m) rings ≡ true → length (fans (bands ring (rings ++ last ∷ []))) ≡ 2 * m * (length rings + 1)
+length-bands m ring last [] e f all =
+    length-fans-more (band ring last) [] ∙ ap (λ n. n + 0) (length-band ring last (e ∙ sym f) ∙ ap (λ n. 2 * n) e) ∙ omega arith
+length-bands m ring last (next ∷ rings) e f all =
+    let parts = and_parts (length next == m) (list_all (λ r. length r == m) rings) all in
+    let same = equal (length next) m parts.0 in
+    let here = length-band ring next (e ∙ sym same) in
+    let rest = length-bands m next last rings same f parts.1 in
+    length-fans-more (band ring next) (bands next (rings ++ last ∷ [])) ∙ ap₂ (λ a b. a + b) (here ∙ ap (λ n. 2 * n) e) rest ∙ omega arith
+
+-- the triangles of rings on a way that comes back to its start: 2 m from each to the next
+pub length-wrapped : (m : ℕ) (first : List Pt3) (rings : List (List Pt3)) → length first ≡ m → list_all (λ r. length r == m) rings ≡ true → length (wrapped (first ∷ rings)) ≡ 2 * m * (length rings + 1)
+unfolding wrapped
+length-wrapped m first rings e all = length-bands m first first rings e e all
 
 -- and those of given faces
 pub length-fans : (faces : List (List Pt3)) → length (fans faces) ≡ sum_by (λ face. length face - 2) faces

@@ -110,7 +110,7 @@ module _ (T : Side → ℤ) (turns : (s : Side) → T (reversed s) ≡ neg_ℤ (
   paths-flow p [] p' q (t ∷ ts) q' same = absurd (omega arith)
   paths-flow p (r ∷ rs) p' q [] q' same = absurd (omega arith)
 
-  band-flow : (ps qs : List Pt3) → length ps ≡ length qs → flow_round (fans (band ps qs)) ≡ flow (ring_sides ps) -ℤ flow (ring_sides qs)
+  pub band-flow : (ps qs : List Pt3) → length ps ≡ length qs → flow_round (fans (band ps qs)) ≡ flow (ring_sides ps) -ℤ flow (ring_sides qs)
   band-flow [] [] same = refl
   band-flow (p ∷ ps) (q ∷ qs) same = omega (arith, ints, paths-flow p ps p q qs q (omega arith))
   band-flow [] (q ∷ qs) same = absurd (omega arith)
@@ -136,15 +136,15 @@ module _ (T : Side → ℤ) (turns : (s : Side) → T (reversed s) ≡ neg_ℤ (
 abbrev once : Bool → ℤ
 once b = cond b (pos 1) (pos 0)
 
-abbrev turn_of : Side → Side → ℤ
+abbrev pub turn_of : Side → Side → ℤ
 turn_of s t = once (same_side s t) -ℤ once (same_side (reversed s) t)
 
-turn_of-reversed : (s t : Side) → turn_of s (reversed t) ≡ neg_ℤ (turn_of s t)
+pub turn_of-reversed : (s t : Side) → turn_of s (reversed t) ≡ neg_ℤ (turn_of s t)
 turn_of-reversed s t =
     ap₂ (λ a b. once a -ℤ once b) (and_comm (same_point s.from t.to) (same_point s.to t.from)) (and_comm (same_point s.to t.to) (same_point s.from t.from))
     ∙ omega (arith, ints)
 
-turn_of-flow : (s : Side) (ss : List Side) → flow (turn_of s) (turn_of-reversed s) ss +ℤ pos (occurrences (reversed s) ss) ≡ pos (occurrences s ss)
+pub turn_of-flow : (s : Side) (ss : List Side) → flow (turn_of s) (turn_of-reversed s) ss +ℤ pos (occurrences (reversed s) ss) ≡ pos (occurrences s ss)
 turn_of-flow s [] = refl
 turn_of-flow s (t ∷ ss) =
     let rest = turn_of-flow s ss in

@@ -6,7 +6,7 @@ use Rattle.scad_geom.specs.Point.{Point}
 use Rattle.scad_geom.specs.Winding.{is_over, side_by, turn}
 use Rattle.scad_geom.proofs.Crossing.{side_of, crossing}
 use Rattle.scad_geom.proofs.Doubled.{turn_by}
-use Rattle.scad_geom.proofs.Signs.{pos_mul}
+use Rattle.scad_base.proofs.Products.{positive_product}
 use Rattle.scad_geom.proofs.Ring.{solve, var, less, times}
 use Rattle.scad_solid.proofs.Parts.{gap_sign, sign_up_by}
 
@@ -39,7 +39,7 @@ module _ (o a b : Point) where
 
   pub turn_common : pos 0 <ℤ o.d → pos 0 <ℤ a.d → pos 0 <ℤ b.d → turn true true o a b ≡ crossing common (a.d *ℤ b.d *ℤ o.x) (a.d *ℤ b.d *ℤ o.y)
   turn_common some_o some_a some_b =
-      turn_by o a b common (a.d *ℤ b.d *ℤ o.x) (a.d *ℤ b.d *ℤ o.y) (o.d *ℤ b.d) (pos_mul o.d b.d some_o some_b)
+      turn_by o a b common (a.d *ℤ b.d *ℤ o.x) (a.d *ℤ b.d *ℤ o.y) (o.d *ℤ b.d) (positive_product o.d b.d some_o some_b)
       (further b.d a (a.d *ℤ b.d *ℤ o.y) (o.d *ℤ b.d *ℤ a.y) some_b from_height)
       (further a.d b (a.d *ℤ b.d *ℤ o.y) (o.d *ℤ a.d *ℤ b.y) some_a to_height)
       common_side

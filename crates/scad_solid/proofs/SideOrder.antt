@@ -1,5 +1,6 @@
 -- The order of sides that `derive(Ord)` gives, and that it tells differing sides apart.
-use Rattle.std.proofs.Common.{◌≡◌, Bool, true, false, ◌&&◌, ap, ap₂, sym, ◌∙◌, refl}
+use Rattle.std.proofs.Common.{◌≡◌, true, ◌&&◌, ap, ap₂, sym, ◌∙◌, refl}
+use Rattle.std.proofs.lemmas.Bool.{and_parts}
 use Rattle.std.specs.Bool.{Decides}
 use Rattle.std.specs.Ordering.{int_cmp, int_eq, ordering_then}
 use Rattle.std.specs.declared.cmp.Ordering.{Ordering}
@@ -45,17 +46,13 @@ side_exact s t e =
     let to = point_exact s.to t.to both.1 in
     λ i. record { from = from i; to = to i }
 
-both_hold : (a b : Bool) → (a && b) ≡ true → (a ≡ true) × (b ≡ true)
-both_hold true b e = (refl, e)
-both_hold false b e = absurd (cc)
-
 point_Decides : (p q : Pt3) → Decides (same_point p q) (p ≡ q)
 point_Decides p q = (there, back)
   where
     there : same_point p q ≡ true → p ≡ q
     there e =
-        let x = both_hold (int_eq p.x q.x) _ e in
-        let yz = both_hold (int_eq p.y q.y) (int_eq p.z q.z) x.1 in
+        let x = and_parts (int_eq p.x q.x) _ e in
+        let yz = and_parts (int_eq p.y q.y) (int_eq p.z q.z) x.1 in
         let ex = (signed_Decides p.x q.x).0 x.0 in
         let ey = (signed_Decides p.y q.y).0 yz.0 in
         let ez = (signed_Decides p.z q.z).0 yz.1 in
@@ -69,7 +66,7 @@ side_Decides s t = (there, back)
   where
     there : same_side s t ≡ true → s ≡ t
     there e =
-        let both = both_hold (same_point s.from t.from) (same_point s.to t.to) e in
+        let both = and_parts (same_point s.from t.from) (same_point s.to t.to) e in
         let from = (point_Decides s.from t.from).0 both.0 in
         let to = (point_Decides s.to t.to).0 both.1 in
         λ i. record { from = from i; to = to i }

@@ -4,5 +4,6 @@ pub mod Range
 pub mod Height
 pub mod Solid
 pub mod Stack
+pub mod Wrap
 pub mod Cut
 pub mod Laws

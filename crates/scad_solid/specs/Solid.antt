@@ -1,5 +1,5 @@
 -- What the faces of a polyhedron give: their triangles, or why they bound no solid (OpenSCAD User Manual, "polyhedron").
-use Rattle.std.specs.Prelude.{ℕ, List, [], ◌∷◌, length, Bool, map, nat_le, nat_lt, if◌then◌else◌, Option, Some, None, Result, Ok, Err, pos, find, IsTrue}
+use Rattle.std.specs.Prelude.{ℕ, List, [], ◌∷◌, length, Bool, true, false, map, nat_le, nat_lt, if◌then◌else◌, Option, Some, None, Result, Ok, Err, pos, find, IsTrue}
 use Rattle.std.specs.List.{flat_map, list_all, slice_index_or}
 use Rattle.scad_geom.specs.declared.point3.Pt3.{Pt3}
 use Rattle.scad_solid.specs.declared.triangle.Triangle.{Triangle}
@@ -52,10 +52,7 @@ unfoldable pub solid_of : List Pt3 → List (List ℕ) → Result (List Triangle
 solid_of points faces =
     if list_all is_in_range points then closed_or_not (first_bad (length points) faces) (fans (map (corners points) faces)) else Err CoordinateRange
 
--- a fact of every answer but want of memory
-abbrev pub UnlessMemory : Result (List Triangle) SolidFault → Type 0 → Type 0
-UnlessMemory (Ok ts) P = P
-UnlessMemory (Err NotClosed) P = P
-UnlessMemory (Err (BadIndex i)) P = P
-UnlessMemory (Err CoordinateRange) P = P
-UnlessMemory (Err Memory) P = Unit {0}
+-- the fault that stands for want of memory
+abbrev pub is_memory : SolidFault → Bool
+is_memory Memory = true
+is_memory _ = false

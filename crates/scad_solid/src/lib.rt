@@ -18,6 +18,7 @@ mod stacking;
 mod tests;
 mod triangle;
 mod triangles;
+mod wrapping;
 
 pub use face::Face;
 pub use fault::SolidFault;
@@ -26,3 +27,4 @@ pub use side::Side;
 pub use stacking::stack;
 pub use triangle::Triangle;
 pub use triangles::Triangles;
+pub use wrapping::wrap;

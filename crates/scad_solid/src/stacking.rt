@@ -55,7 +55,12 @@ fn push_below(out: &mut Vec<Triangle>, top: &Ring, rings: &[Ring]) -> Result<(),
     push_fan(out, upper.as_slice())
 }
 
-fn push_band(out: &mut Vec<Triangle>, upper: &[Pt3], lower: &[Pt3]) -> Result<(), AllocError>
+/// The quads between a ring and the one below it.
+pub(crate) fn push_band(
+    out: &mut Vec<Triangle>,
+    upper: &[Pt3],
+    lower: &[Pt3],
+) -> Result<(), AllocError>
     requires { length upper.now ≡ length lower.now }
     ensures { OnOk result (out.new.items ≡ out.old.items ++ fans (band upper.now lower.now)) }
 {

@@ -1,7 +1,8 @@
 //! Solids, kept as their surfaces.
 ghost use Rattle.std.specs.Prelude.{◌≡◌, ◌<◌, length, Some, IfSome, slice_get, [], ◌∷◌};
+ghost use Rattle.scad_base.specs.Memory.{UnlessMemory};
 ghost use Rattle.scad_solid.specs.Height.{highest_of, higher_of};
-ghost use Rattle.scad_solid.specs.Solid.{IsSolid, solid_of, UnlessMemory};
+ghost use Rattle.scad_solid.specs.Solid.{IsSolid, solid_of, is_memory};
 
 use crate::closed::is_closed;
 use crate::face::Face;
@@ -49,7 +50,7 @@ impl Triangles {
         points: &[Pt3],
         faces: &[Face],
     ) -> Result<Triangles, SolidFault>
-        ensures { UnlessMemory result (result ≡ solid_of points.now faces.now) }
+        ensures { UnlessMemory is_memory result (result ≡ solid_of points.now faces.now) }
     {
         if !all_in_range(points) {
             return Err(SolidFault::CoordinateRange);

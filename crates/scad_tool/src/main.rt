@@ -10,18 +10,18 @@ mod words;
 mod work;
 
 use run::run;
+use scad_fault::Status;
 use scad_io::{Open, RealDesk};
 use std::env::{self, Env};
 use std::io;
 use std::process::ExitCode;
 
-/// The status of a program that finds no memory for its words.
-const OUT_OF_MEMORY: u8 = 7;
-
 fn main(rt: HostRuntime) -> ExitCode {
     let words = match words_behind_name(&rt) {
         Ok(words) => words,
-        Err(e) if e.kind() == io::ErrorKind::OutOfMemory => return ExitCode::from(OUT_OF_MEMORY),
+        Err(e) if e.kind() == io::ErrorKind::OutOfMemory => {
+            return ExitCode::from(Status::Memory.code());
+        }
         Err(_) => Vec::new(rt.alloc()),
     };
     let mut desk = RealDesk::new(&rt);

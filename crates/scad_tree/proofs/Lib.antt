@@ -1,3 +1,9 @@
 pub mod Rows
 pub mod SetLaws
 pub mod NormalForm
+pub mod Layers
+pub mod Tops
+pub mod Lines
+pub mod LeafSections
+pub mod Numbering
+pub mod Above

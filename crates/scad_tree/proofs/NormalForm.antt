@@ -1,28 +1,13 @@
 -- The operations give trees in normal form.
 use Rattle.std.proofs.Common.{◌≡◌, Bool, true, false, not, ◌&&◌, ◌||◌, List, [], ◌∷◌, ◌++◌, ℕ, zero, suc, ◌+◌, ◌<◌, ◌≤◌, length, take, drop, get_or, slice_index_or, refl, ap, ap₂, arith, sym, ◌∙◌, if◌then◌else◌}
-use Rattle.std.proofs.lemmas.Bool.{false≢true}
+use Rattle.std.proofs.Math.Bool.{and-true}
+use Rattle.std.proofs.lemmas.Bool.{false≢true, and_from, and_parts}
 use Rattle.std.proofs.lemmas.List.Folds.{list_all-append}
 use Rattle.std.specs.List.{flat_map, list_all, list_any}
 use Rattle.scad_tree.specs.declared.node.Node.{Node}
 use Rattle.scad_tree.specs.Solid.{Solid, Solids, nothing, surface, union, intersection, difference, none, member, members, members_of}
 use Rattle.scad_tree.specs.View.{solid_of, solids}
 use Rattle.scad_tree.specs.Normal.{parts, union_of, intersection_of, without, intersected, subtracted, is_nothing, is_union, is_apart, is_kept, are_kept, are_kept_apart, are_several, is_normal, not_empty}
-
-and_true : (b : Bool) → (b && true) ≡ b
-and_true true = refl
-and_true false = refl
-
-and_left : (a b : Bool) → (a && b) ≡ true → a ≡ true
-and_left true b e = refl
-and_left false b e = e
-
-and_right : (a b : Bool) → (a && b) ≡ true → b ≡ true
-and_right true b e = e
-and_right false b e = absurd (false≢true e)
-
-pub and_both : (a b : Bool) → a ≡ true → b ≡ true → (a && b) ≡ true
-and_both true b e f = f
-and_both false b e f = e
 
 listed_apart : (ms : Solids) → list_all is_apart (members_of ms) ≡ are_kept_apart ms
 listed_apart none = refl
@@ -38,10 +23,10 @@ members_kept (s ∷ rest) = ap (λ b. is_kept s && b) (members_kept rest)
 
 pub parts_apart : (s : Solid) → is_normal s ≡ true → list_all is_apart (parts s) ≡ true
 parts_apart nothing e = refl
-parts_apart (surface ts) e = and_true _ ∙ e
-parts_apart (union ms) e = listed_apart ms ∙ and_right (are_several ms) (are_kept_apart ms) e
-parts_apart (intersection ms) e = and_true _ ∙ e
-parts_apart (difference first rest) e = and_true _ ∙ e
+parts_apart (surface ts) e = and-true _ ∙ e
+parts_apart (union ms) e = listed_apart ms ∙ (and_parts (are_several ms) (are_kept_apart ms) e).1
+parts_apart (intersection ms) e = and-true _ ∙ e
+parts_apart (difference first rest) e = and-true _ ∙ e
 
 kept_normal : (s : Solid) → is_kept s ≡ true → is_normal s ≡ true
 kept_normal nothing e = absurd (false≢true e)
@@ -59,21 +44,21 @@ normal_kept (difference first rest) e f = e
 
 pub union_normal : (ss : List Solid) → list_all is_apart ss ≡ true → is_normal (union_of ss) ≡ true
 union_normal [] e = refl
-union_normal (s ∷ []) e = kept_normal s (and_right (not (is_union s)) (is_kept s) (and_left (is_apart s) true e))
+union_normal (s ∷ []) e = kept_normal s (and_parts (not (is_union s)) (is_kept s) (and_parts (is_apart s) true e).0).1
 union_normal (s ∷ t ∷ rest) e = members_apart (s ∷ t ∷ rest) ∙ e
 
 pub intersection_normal : (ss : List Solid) → list_all is_kept ss ≡ true → is_normal (intersection_of ss) ≡ true
 intersection_normal [] e = refl
-intersection_normal (s ∷ []) e = kept_normal s (and_left (is_kept s) true e)
+intersection_normal (s ∷ []) e = kept_normal s (and_parts (is_kept s) true e).0
 intersection_normal (s ∷ t ∷ rest) e = members_kept (s ∷ t ∷ rest) ∙ e
 
 pub without_normal : (first : Solid) (ss : List Solid) → is_kept first ≡ true → list_all is_kept ss ≡ true → is_normal (without first ss) ≡ true
 without_normal first [] e f = kept_normal first e
-without_normal first (s ∷ rest) e f = and_both (is_kept first) (are_kept (members (s ∷ rest))) e (members_kept (s ∷ rest) ∙ f)
+without_normal first (s ∷ rest) e f = and_from (is_kept first) (are_kept (members (s ∷ rest))) e (members_kept (s ∷ rest) ∙ f)
 
 -- ---- one more
 pub all_more : (p : Solid → Bool) (ss ts : List Solid) → list_all p ss ≡ true → list_all p ts ≡ true → list_all p (ss ++ ts) ≡ true
-all_more p ss ts e f = list_all-append p ss ts ∙ and_both (list_all p ss) (list_all p ts) e f
+all_more p ss ts e f = list_all-append p ss ts ∙ and_from (list_all p ss) (list_all p ts) e f
 
 append_nil : (ss : List Solid) → ss ++ [] ≡ ss
 append_nil [] = refl

@@ -1,5 +1,6 @@
 -- Set operations in normal form hold what their members say.
 use Rattle.std.proofs.Common.{◌≡◌, Bool, true, false, not, ◌&&◌, ◌||◌, List, [], ◌∷◌, ◌++◌, refl, ap, sym, ◌∙◌, filter, if◌then◌else◌, rules}
+use Rattle.std.proofs.Math.Bool.{and-false, and-true}
 use Rattle.std.specs.List.{flat_map, list_any}
 use Rattle.scad_solid.specs.declared.triangle.Triangle.{Triangle}
 use Rattle.scad_tree.specs.Solid.{Solid, Solids, nothing, surface, union, intersection, difference, none, member, members, members_of}
@@ -13,14 +14,6 @@ Inside = List Triangle → Bool
 or_false : (b : Bool) → (b || false) ≡ b
 or_false true = refl
 or_false false = refl
-
-and_true : (b : Bool) → (b && true) ≡ b
-and_true true = refl
-and_true false = refl
-
-and_false : (b : Bool) → (b && false) ≡ false
-and_false true = refl
-and_false false = refl
 
 or_assoc : (a b c : Bool) → ((a || b) || c) ≡ (a || (b || c))
 or_assoc true b c = refl
@@ -75,19 +68,19 @@ nothing_holds inside (difference s ms) e = search (rules, e)
 
 intersection_holds : (inside : Inside) (ss : List Solid) → holds inside (intersection_of ss) ≡ (has_items ss && each_holds inside ss)
 intersection_holds inside [] = refl
-intersection_holds inside (s ∷ []) = sym (and_true (holds inside s))
+intersection_holds inside (s ∷ []) = sym (and-true (holds inside s))
 intersection_holds inside (s ∷ t ∷ rest) = all_members inside (s ∷ t ∷ rest)
 
 any_after : (b : Bool) (s : Solid) (inside : Inside) (rest : List Solid) → is_nothing s ≡ b → (list_any is_nothing rest ≡ true → each_holds inside rest ≡ false) → (b || list_any is_nothing rest) ≡ true → (holds inside s && each_holds inside rest) ≡ false
 any_after true s inside rest is later e = ap (λ b. b && each_holds inside rest) (nothing_holds inside s is)
-any_after false s inside rest is later e = ap (λ b. holds inside s && b) (later e) ∙ and_false (holds inside s)
+any_after false s inside rest is later e = ap (λ b. holds inside s && b) (later e) ∙ and-false (holds inside s)
 
 empty_member : (inside : Inside) (ss : List Solid) → list_any is_nothing ss ≡ true → each_holds inside ss ≡ false
 empty_member inside [] e = search (rules, e)
 empty_member inside (s ∷ rest) e = any_after (is_nothing s) s inside rest refl (empty_member inside rest) e
 
 chosen : (b : Bool) (inside : Inside) (ss : List Solid) → list_any is_nothing ss ≡ b → holds inside (if b then nothing else intersection_of ss) ≡ (has_items ss && each_holds inside ss)
-chosen true inside ss e = sym (ap (λ b. has_items ss && b) (empty_member inside ss e) ∙ and_false (has_items ss))
+chosen true inside ss e = sym (ap (λ b. has_items ss && b) (empty_member inside ss e) ∙ and-false (has_items ss))
 chosen false inside ss e = intersection_holds inside ss
 
 pub intersected_holds : (inside : Inside) (ss : List Solid) → holds inside (intersected ss) ≡ (has_items ss && each_holds inside ss)
@@ -108,7 +101,7 @@ full_hold inside [] = refl
 full_hold inside (s ∷ rest) = dropped (is_nothing s) inside s rest refl ∙ ap (λ b. holds inside s || b) (full_hold inside rest)
 
 without_holds : (inside : Inside) (first : Solid) (ss : List Solid) → holds inside (without first ss) ≡ (holds inside first && not (any_holds inside ss))
-without_holds inside first [] = sym (and_true (holds inside first))
+without_holds inside first [] = sym (and-true (holds inside first))
 without_holds inside first (s ∷ rest) = ap (λ b. holds inside first && not b) (some_members inside (s ∷ rest))
 
 taken : (b : Bool) (inside : Inside) (first : Solid) (rest : List Solid) → is_nothing first ≡ b → holds inside (if b then nothing else without first (filter (λ s. not (is_nothing s)) rest)) ≡ (holds inside first && not (any_holds inside rest))

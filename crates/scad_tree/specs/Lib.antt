@@ -2,4 +2,12 @@ pub mod Solid
 pub mod View
 pub mod Normal
 pub mod Member
+pub mod Contained
+pub mod Nesting
+pub mod Height
+pub mod Order
+pub mod Sizes
+pub mod Text
+pub mod Sections
+pub mod Numbered
 pub mod Laws

@@ -4,12 +4,22 @@
 //! contains a point exactly where the set operations of its members say so.
 #![tactic(auto)]
 
+#[cfg(test)]
+mod carved;
+mod height;
+mod inside;
 pub mod laws;
+mod nesting;
 mod node;
 mod normal;
+mod number;
 mod operations;
+mod sections;
+mod shape;
+mod sizes;
 #[cfg(test)]
 mod tests;
+mod text;
 mod tree;
 
 pub use node::Node;

@@ -5,7 +5,7 @@ use std::alloc::Global;
 use std::test::Fail;
 
 // The tree of a tetrahedron of this size, at 0 the empty tree.
-fn tree(alloc: Global, size: i32) -> Result<Tree, Fail> {
+pub(crate) fn tree(alloc: Global, size: i32) -> Result<Tree, Fail> {
     if size == 0 {
         return Ok(Tree::empty());
     }
@@ -38,7 +38,7 @@ fn tree(alloc: Global, size: i32) -> Result<Tree, Fail> {
     Ok(Tree::leaf(triangles))
 }
 
-fn trees(alloc: Global, sizes: &[i32]) -> Result<Vec<Tree>, Fail> {
+pub(crate) fn trees(alloc: Global, sizes: &[i32]) -> Result<Vec<Tree>, Fail> {
     let mut trees = Vec::new(alloc);
     for size in sizes {
         trees.push(tree(alloc, *size)?)?;
@@ -113,4 +113,6 @@ fn differences_take_all_others_from_the_first(rt: HostRuntime) -> Result<(), Fai
 #[test]
 fn laws_are_called() {
     laws::operations_hold();
+    laws::shapes_hold();
+    laws::layers_hold();
 }

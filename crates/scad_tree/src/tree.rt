@@ -57,6 +57,14 @@ impl Tree {
         Tree { node }
     }
 
+    /// The tree's node, lent.
+    pub fn as_node(&self) -> &Node
+        ensures same { result.now ≡ self.now }
+        ensures normal { IsTrue (is_normal (solid_of self.now)) }
+    {
+        &self.node
+    }
+
     /// The tree's node.
     pub fn into_node(self) -> Node
         ensures same { result ≡ self }

@@ -4,8 +4,6 @@ use Rattle.std.proofs.Common.{◌≡◌, ℕ, ◌+◌, ◌≤◌, Bool, true, fa
 use lib.IntN.{ℤ, pos, ◌+ℤ◌, ◌-ℤ◌}
 use lib.Signed.{◌<ℤ◌}
 use Rattle.std.specs.Prelude.{if◌then◌else◌, ◌==◌, ◌&&◌}
-use Rattle.std.specs.Ordering.{int_eq}
-use Rattle.std.specs.Cmp.{signed_Decides}
 use Rattle.std.specs.List.{AllByRecursion}
 use Rattle.std.proofs.lemmas.Int.{ints, by_lt_z}
 use Rattle.std.proofs.lemmas.List.Sums.{sum_by-cons}
@@ -15,7 +13,7 @@ use Rattle.scad_geom.specs.declared.level.LeafEdge.{LeafEdge}
 use Rattle.scad_geom.specs.declared.shape.Shape.{Shape}
 use Rattle.scad_geom.specs.Balance.{IsBalanced}
 use Rattle.scad_geom.specs.Segment.{segments}
-use Rattle.scad_geom.proofs.Balanced.{once, same_place, whole_balance}
+use Rattle.scad_geom.proofs.Balanced.{once, same_place, whole_balance, same_place-is, same_place-itself}
 use Rattle.scad_geom.proofs.Leaves.{held_alike}
 use Rattle.std.specs.Prelude.{count_by, filter}
 use Rattle.std.proofs.Common.{map}
@@ -25,8 +23,7 @@ use Rattle.scad_geom.proofs.Leaves.{wind_leaf}
 use Rattle.scad_geom.specs.Shape.{is_in_by}
 use Rattle.scad_geom.proofs.Turns.{level_turn}
 use Rattle.scad_geom.specs.Leaves.{edges_of, AreLeavesBalanced}
-use Rattle.slice_bool.proofs.Winding.{is_true_first}
-use Rattle.slice_bool.proofs.BalanceTurns.{ahead, step_up, step_down, int_eq-true}
+use Rattle.slice_bool.proofs.BalanceTurns.{ahead, step_up, step_down}
 
 -- ---- where as many edges start at each point as end there, sums over starts are sums over ends
 abbrev starts : List Edge → List Pt
@@ -56,15 +53,6 @@ tally-ends p (e ∷ es) = sum_by-cons (λ x. once (same_place p x.b)) e es ∙ a
 pub is_true_second : (a b : Bool) → (a && b) ≡ true → b ≡ true
 is_true_second true b h = h
 is_true_second false b h = cc
-
-same_place-is : (p q : Pt) → same_place p q ≡ true → p ≡ q
-same_place-is p q e =
-    let ex = (signed_Decides p.x q.x).0 (is_true_first (int_eq p.x q.x) (int_eq p.y q.y) e) in
-    let ey = (signed_Decides p.y q.y).0 (is_true_second (int_eq p.x q.x) (int_eq p.y q.y) e) in
-    λ i. record { x = ex i; y = ey i }
-
-same_place-itself : (p : Pt) → same_place p p ≡ true
-same_place-itself p = rw (int_eq-true p.x p.x refl, int_eq-true p.y p.y refl) refl
 
 abbrev without : Pt → List Pt → List Pt
 without p [] = []

@@ -16,7 +16,7 @@ use Rattle.scad_geom.specs.Shape.{is_in_by}
 use Rattle.scad_geom.specs.Level.{IsLower, IsAtMost}
 use Rattle.scad_geom.proofs.Ring.{ring, ◌⊖◌, ◌⊗◌, v0, v1, v2, v3, v4}
 use Rattle.scad_geom.proofs.Integers.{mul_assoc}
-use Rattle.scad_geom.proofs.Signs.{pos_mul}
+use Rattle.scad_base.proofs.Products.{positive_product}
 use Rattle.scad_geom.proofs.Heights.{lower_then_at_most, lower_weak}
 use Rattle.scad_geom.proofs.Order.{front, back}
 use Rattle.scad_geom.proofs.Turns.{level_at, beyond_mul}
@@ -98,7 +98,7 @@ pub spot_is_at : (l : Level) (s : Spot) → IsSpotAt l s → IsAt l (point_of s)
 spot_is_at l s h = subst (λ (m : Level). (m.n *ℤ pos s.run) *ℤ l.d ≡ l.n *ℤ (m.d *ℤ pos s.run)) (sym h.at) (spot_point l.n l.d (pos s.run))
 
 pub spot_divisor : (l : Level) (s : Spot) → pos 0 <ℤ l.d → IsSpotAt l s → pos 0 <ℤ (point_of s).d
-spot_divisor l s dl h = pos_mul s.at.d (pos s.run) (subst (λ (m : Level). pos 0 <ℤ m.d) (sym h.at) dl) h.runs
+spot_divisor l s dl h = positive_product s.at.d (pos s.run) (subst (λ (m : Level). pos 0 <ℤ m.d) (sym h.at) dl) h.runs
 
 spots_gap : (sx sr wx wr k : ℤ) → wx *ℤ (k *ℤ sr) -ℤ sx *ℤ (k *ℤ wr) ≡ (wx *ℤ sr -ℤ sx *ℤ wr) *ℤ k
 spots_gap sx sr wx wr k = ring (sx ∷ sr ∷ wx ∷ wr ∷ k ∷ []) (v2 ⊗ (v4 ⊗ v1) ⊖ v0 ⊗ (v4 ⊗ v3)) ((v2 ⊗ v1 ⊖ v0 ⊗ v3) ⊗ v4) refl

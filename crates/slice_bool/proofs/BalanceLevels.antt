@@ -17,7 +17,7 @@ use Rattle.scad_geom.specs.Winding.{turn}
 use Rattle.scad_geom.specs.Shape.{is_in_by}
 use Rattle.scad_geom.specs.Level.{level_of, IsLower}
 use Rattle.scad_geom.specs.Heights.{heights, meetings}
-use Rattle.scad_geom.proofs.Signs.{pos_mul}
+use Rattle.scad_base.proofs.Products.{positive_product}
 use Rattle.scad_geom.proofs.Heights.{lower_then_at_most, at_most_then_lower, lower_weak}
 use Rattle.scad_geom.proofs.Order.{back}
 use Rattle.scad_geom.proofs.Turns.{level_at}
@@ -79,8 +79,8 @@ module _ (es : List LeafEdge) (shape : Shape) (right : Bool) (p : Point) (dp : p
       let pr : pos 0 <ℤ r = subst (λ (z : ℤ). pos 0 <ℤ z) (sym (size_of (rise (edge_at es k)) rises)) rises in
       let s : Spot = spot_on (edge_at es k) l in
       let t : Spot = spot_on (edge_at es k) u in
-      let ds : pos 0 <ℤ (point_of s).d = pos_mul l.d r dl pr in
-      let dt : pos 0 <ℤ (point_of t).d = pos_mul u.d r du pr in
+      let ds : pos 0 <ℤ (point_of s).d = positive_product l.d r dl pr in
+      let dt : pos 0 <ℤ (point_of t).d = positive_product u.d r du pr in
       let up : IsLower (level_at (point_of s)) (level_at (point_of t)) = scaled_below (level_at (point_of t)) l r pr (lower_scaled l u r pr o) in
       between_steps right p (is_in_by true false es shape (half_point es l u k)) (is_in_by true true es shape (half_point es l u k)) s t k
       (step_up right p (point_of s) (point_of t) dp ds dt up) (step_down right p (point_of t) (point_of s) dp dt ds up)

@@ -10,7 +10,7 @@ use Rattle.scad_geom.specs.Point.{Point}
 use Rattle.scad_geom.specs.Winding.{is_over, passage_by, side_by, is_beyond, turn}
 use Rattle.scad_geom.specs.Level.{IsLower, IsAtMost}
 use Rattle.scad_geom.proofs.Ring.{ring, num, ◌⊕◌, ◌⊖◌, ◌⊗◌, v0, v1, v2, v3, v4, v5, v6, v7, v8}
-use Rattle.scad_geom.proofs.Signs.{pos_mul}
+use Rattle.scad_base.proofs.Products.{positive_product}
 use Rattle.scad_geom.proofs.Integers.{mul_assoc, neg_mul}
 use Rattle.scad_geom.proofs.Heights.{lower_then_at_most, at_most_then_lower, lower_weak}
 use Rattle.scad_geom.proofs.Turns.{level_at, over_true, over_false, flat_turn, rising_turn, beyond_mul}
@@ -82,7 +82,7 @@ unfolding side_by
 end_side right p a b da db o h =
     sym (beyond_mul right b.d (side_by p a b) db)
     ∙ ap (is_beyond right) (from_end a.x a.y a.d b.x b.y b.d p.x p.y p.d ∙ drop_zero (a.d *ℤ (b.x *ℤ a.d -ℤ a.x *ℤ b.d)) (p.y *ℤ b.d -ℤ b.y *ℤ p.d) (gap p b *ℤ (a.d *ℤ (b.y *ℤ a.d -ℤ a.y *ℤ b.d))) (no_gap (p.y *ℤ b.d) (b.y *ℤ p.d) h))
-    ∙ beyond_mul right (a.d *ℤ (b.y *ℤ a.d -ℤ a.y *ℤ b.d)) (gap p b) (pos_mul a.d (b.y *ℤ a.d -ℤ a.y *ℤ b.d) da (gap_of_less (a.y *ℤ b.d) (b.y *ℤ a.d) o))
+    ∙ beyond_mul right (a.d *ℤ (b.y *ℤ a.d -ℤ a.y *ℤ b.d)) (gap p b) (positive_product a.d (b.y *ℤ a.d -ℤ a.y *ℤ b.d) da (gap_of_less (a.y *ℤ b.d) (b.y *ℤ a.d) o))
 
 -- ---- upwards
 not_both : (z : ℤ) → z -ℤ z ≡ pos 0

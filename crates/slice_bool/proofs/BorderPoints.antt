@@ -4,9 +4,9 @@ use lib.IntN.{ℤ, pos, ◌-ℤ◌, ◌*ℤ◌, neg_ℤ}
 use lib.Signed.{◌<ℤ◌}
 use Rattle.std.specs.Prelude.{Option, Some, None, unsigned_abs}
 use Rattle.std.specs.List.{AllByRecursion, All, concat, position}
-use Rattle.std.proofs.lemmas.Int.{ints, by_lt_z}
+use Rattle.std.proofs.lemmas.Int.{ints}
 use Rattle.std.proofs.lemmas.List.Elements.{All-from_recursion}
-use Rattle.scad_base.proofs.Products.{zero_factor}
+use Rattle.scad_base.proofs.Products.{zero_factor, positive_product}
 use Rattle.scad_geom.specs.declared.level.Level.{Level}
 use Rattle.scad_geom.specs.declared.level.LeafEdge.{LeafEdge}
 use Rattle.scad_geom.specs.declared.shape.Shape.{Shape}
@@ -16,7 +16,6 @@ use Rattle.scad_geom.specs.Winding.{side_by, is_beyond}
 use Rattle.scad_geom.specs.Shape.{is_in_by}
 use Rattle.scad_geom.specs.Level.{IsLower, IsAtMost, IsSameHeight}
 use Rattle.scad_geom.specs.Heights.{AreNeighbours, heights}
-use Rattle.scad_geom.proofs.Signs.{pos_mul, neg_mul_pos}
 use Rattle.scad_geom.proofs.Integers.{neg_mul}
 use Rattle.scad_geom.proofs.Heights.{lower_then_at_most, at_most_then_lower, at_most_chain, lower_weak, heights_positive}
 use Rattle.scad_geom.proofs.Order.{back}
@@ -112,7 +111,7 @@ module _ (es : List LeafEdge) (shape : Shape) where
     on_edge p h =
         let r = rise (edge_at es k) in
         let factor : ℤ = (r *ℤ r) *ℤ (l.d *ℤ (u.n *ℤ l.d -ℤ l.n *ℤ u.d)) in
-        let positive : pos 0 <ℤ factor = pos_mul (r *ℤ r) (l.d *ℤ (u.n *ℤ l.d -ℤ l.n *ℤ u.d)) (pos_mul r r lk.reaches.rises lk.reaches.rises) (pos_mul l.d (u.n *ℤ l.d -ℤ l.n *ℤ u.d) n.lower_divisor (gap_of_less (l.n *ℤ u.d) (u.n *ℤ l.d) n.in_order)) in
+        let positive : pos 0 <ℤ factor = positive_product (r *ℤ r) (l.d *ℤ (u.n *ℤ l.d -ℤ l.n *ℤ u.d)) (positive_product r r lk.reaches.rises lk.reaches.rises) (positive_product l.d (u.n *ℤ l.d -ℤ l.n *ℤ u.d) n.lower_divisor (gap_of_less (l.n *ℤ u.d) (u.n *ℤ l.d) n.in_order)) in
         zero_factor (left_of (edge_at es k) p.x p.y p.d) factor positive (sym (side_up_is p (edge_at es k) l u (pos (unsigned_abs r)) (size_of r lk.reaches.rises)) ∙ h)
 
     over_low : (p : Point) → pos 0 <ℤ p.d → IsBelow (point_of (spot_on (edge_at es k) l)) p → IsLower l (level_at p)

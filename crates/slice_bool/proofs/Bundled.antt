@@ -23,7 +23,7 @@ use Rattle.slice_bool.specs.Pieces.{spot_on, piece_between, bundle_piece, slab_p
 use Rattle.slice_bool.specs.Tally.{IsTally, AreWithin, is_held, heading_of, headings}
 use Rattle.slice_bool.specs.Beside.{left_value}
 use Rattle.slice_bool.specs.Beside.{AreMembers, AreLeftValues, RisesFirst, piece_of}
-use Rattle.slice_bool.proofs.Sums.{sum_z}
+use Rattle.scad_geom.proofs.Sums.{sum_z}
 use Rattle.slice_bool.proofs.Reaching.{heading_for}
 use Rattle.slice_bool.proofs.Passing.{IsLive, live_bundles}
 use Rattle.slice_bool.proofs.Values.{value_of}

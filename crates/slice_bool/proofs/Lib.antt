@@ -1,4 +1,3 @@
-pub mod Sums
 pub mod Reaching
 pub mod Passing
 pub mod Values
@@ -20,9 +19,15 @@ mod Examples
 pub mod BorderPoints
 pub mod Apart
 pub mod Named
+pub mod OnEdges
+pub mod Made
+pub mod Membership
+pub mod Sides
+pub mod NearBorder
 pub mod Stopping
 pub mod Hardby
 pub mod Stretches
 pub mod NearLevel
 pub mod Bundled
 pub mod Climbing
+pub mod OneMade

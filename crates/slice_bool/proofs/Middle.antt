@@ -1,9 +1,10 @@
 -- A shape's values hard by a bundle at half height, on its left and on its right.
 use Rattle.std.proofs.Common.{◌≡◌, ℕ, Bool, true, false, not, List, [], ◌∷◌, ◌++◌, refl, sym, ap, ◌∙◌, arith, subst}
+use Rattle.scad_base.proofs.Products.{negative_factor}
 use lib.IntN.{ℤ, pos, negsuc, ◌+ℤ◌, ◌-ℤ◌, ◌*ℤ◌, zero-*ℤ}
 use lib.Signed.{◌<ℤ◌}
 use Rattle.std.specs.List.{AllByRecursion, concat}
-use Rattle.std.proofs.lemmas.Int.{ints, by_lt_z}
+use Rattle.std.proofs.lemmas.Int.{ints}
 use Rattle.scad_geom.specs.declared.point.Edge.{Edge}
 use Rattle.scad_geom.specs.declared.level.Level.{Level}
 use Rattle.scad_geom.specs.declared.level.LeafEdge.{LeafEdge}
@@ -17,7 +18,8 @@ use Rattle.scad_geom.specs.Heights.{AreNeighbours}
 use Rattle.scad_geom.specs.EdgeOrder.{IsBefore}
 use Rattle.scad_base.proofs.Integers.{less_of_gap, gap_of_less, at_most_of_gap, gap_of_at_most, at_most_of_less}
 use Rattle.slice_slab.specs.Bundles.{no_edge, edge_at, Precedes, AreRanked, AreBundles}
-use Rattle.scad_geom.proofs.Signs.{pos_mul, at_least_mul, pos_left}
+use Rattle.scad_base.proofs.Products.{positive_product}
+use Rattle.scad_geom.proofs.Signs.{at_least_mul, pos_left}
 use Rattle.scad_geom.proofs.Lines.{left_of_by}
 use Rattle.scad_geom.proofs.Heights.{lower_weak}
 use Rattle.scad_geom.proofs.Turns.{level_at}
@@ -48,25 +50,25 @@ abbrev pub scaled : Level → ℤ → Level
 scaled h r = record { n = h.n *ℤ r; d = h.d *ℤ r }
 
 pub lower_scaled : (p h : Level) (r : ℤ) → pos 0 <ℤ r → IsLower p h → IsLower p (scaled h r)
-lower_scaled p h r pr o = let m = pos_mul (h.n *ℤ p.d -ℤ p.n *ℤ h.d) r (gap_of_less (p.n *ℤ h.d) (h.n *ℤ p.d) o) pr in less_of_gap (p.n *ℤ (h.d *ℤ r)) ((h.n *ℤ r) *ℤ p.d) (rw (scaled_lower p.n p.d h.n h.d r) m)
+lower_scaled p h r pr o = let m = positive_product (h.n *ℤ p.d -ℤ p.n *ℤ h.d) r (gap_of_less (p.n *ℤ h.d) (h.n *ℤ p.d) o) pr in less_of_gap (p.n *ℤ (h.d *ℤ r)) ((h.n *ℤ r) *ℤ p.d) (rw (scaled_lower p.n p.d h.n h.d r) m)
 
 pub at_most_scaled : (p h : Level) (r : ℤ) → pos 0 <ℤ r → IsAtMost p h → IsAtMost p (scaled h r)
 at_most_scaled p h r pr o = let m = at_least_mul (h.n *ℤ p.d -ℤ p.n *ℤ h.d) r (gap_of_at_most (p.n *ℤ h.d) (h.n *ℤ p.d) o) (at_most_of_less (pos 0) r pr) in at_most_of_gap (p.n *ℤ (h.d *ℤ r)) ((h.n *ℤ r) *ℤ p.d) (rw (scaled_lower p.n p.d h.n h.d r) m)
 
 pub scaled_below : (p h : Level) (r : ℤ) → pos 0 <ℤ r → IsLower h p → IsLower (scaled h r) p
-scaled_below p h r pr o = let m = pos_mul (p.n *ℤ h.d -ℤ h.n *ℤ p.d) r (gap_of_less (h.n *ℤ p.d) (p.n *ℤ h.d) o) pr in less_of_gap ((h.n *ℤ r) *ℤ p.d) (p.n *ℤ (h.d *ℤ r)) (rw (scaled_upper p.n p.d h.n h.d r) m)
+scaled_below p h r pr o = let m = positive_product (p.n *ℤ h.d -ℤ h.n *ℤ p.d) r (gap_of_less (h.n *ℤ p.d) (p.n *ℤ h.d) o) pr in less_of_gap ((h.n *ℤ r) *ℤ p.d) (p.n *ℤ (h.d *ℤ r)) (rw (scaled_upper p.n p.d h.n h.d r) m)
 
 pub scaled_at_most : (p h : Level) (r : ℤ) → pos 0 <ℤ r → IsAtMost h p → IsAtMost (scaled h r) p
 scaled_at_most p h r pr o = let m = at_least_mul (p.n *ℤ h.d -ℤ h.n *ℤ p.d) r (gap_of_at_most (h.n *ℤ p.d) (p.n *ℤ h.d) o) (at_most_of_less (pos 0) r pr) in at_most_of_gap ((h.n *ℤ r) *ℤ p.d) (p.n *ℤ (h.d *ℤ r)) (rw (scaled_upper p.n p.d h.n h.d r) m)
 
 middle_positive : (l u : Level) → pos 0 <ℤ l.d → pos 0 <ℤ u.d → pos 0 <ℤ (middle l u).d
-middle_positive l u dl du = pos_mul (pos 2) (l.d *ℤ u.d) (omega (arith, ints)) (pos_mul l.d u.d dl du)
+middle_positive l u dl du = positive_product (pos 2) (l.d *ℤ u.d) (omega (arith, ints)) (positive_product l.d u.d dl du)
 
 above_low : (l u : Level) → pos 0 <ℤ l.d → IsLower l u → IsLower l (middle l u)
-above_low l u dl o = let m = pos_mul (u.n *ℤ l.d -ℤ l.n *ℤ u.d) l.d (gap_of_less (l.n *ℤ u.d) (u.n *ℤ l.d) o) dl in less_of_gap (l.n *ℤ (middle l u).d) ((middle l u).n *ℤ l.d) (rw (low_middle l.n l.d u.n u.d) m)
+above_low l u dl o = let m = positive_product (u.n *ℤ l.d -ℤ l.n *ℤ u.d) l.d (gap_of_less (l.n *ℤ u.d) (u.n *ℤ l.d) o) dl in less_of_gap (l.n *ℤ (middle l u).d) ((middle l u).n *ℤ l.d) (rw (low_middle l.n l.d u.n u.d) m)
 
 below_high : (l u : Level) → pos 0 <ℤ u.d → IsLower l u → IsLower (middle l u) u
-below_high l u du o = let m = pos_mul (u.n *ℤ l.d -ℤ l.n *ℤ u.d) u.d (gap_of_less (l.n *ℤ u.d) (u.n *ℤ l.d) o) du in less_of_gap ((middle l u).n *ℤ u.d) (u.n *ℤ (middle l u).d) (rw (high_middle l.n l.d u.n u.d) m)
+below_high l u du o = let m = positive_product (u.n *ℤ l.d -ℤ l.n *ℤ u.d) u.d (gap_of_less (l.n *ℤ u.d) (u.n *ℤ l.d) o) du in less_of_gap ((middle l u).n *ℤ u.d) (u.n *ℤ (middle l u).d) (rw (high_middle l.n l.d u.n u.d) m)
 
 -- the rise of an edge that rises is its size
 pub size_of : (z : ℤ) → pos 0 <ℤ z → pos (unsigned_abs z) ≡ z
@@ -85,9 +87,6 @@ pub on_own : (e : Edge) (h : Level) (r : ℤ) → r ≡ rise e → left_of e (x_
 unfolding left_of x_at
 on_own e h r q = rw q (on_line (run e) (offset e) (rise e) h.n h.d)
 
-pub below_zero : (a r : ℤ) → pos 0 <ℤ r → (a *ℤ r) <ℤ pos 0 → a <ℤ pos 0
-below_zero a r p h = by_lt_z a (pos 0) (λ q. q) (λ q. let m = at_least_mul a r q (at_most_of_less (pos 0) r p) in absurd (omega (arith, ints)))
-
 -- a point of an edge, between the two heights
 module _ (es : List LeafEdge) (l u : Level) (n : AreNeighbours es l u) (k : ℕ) (lk : IsLive es l u k) (p : Point) (dp : pos 0 <ℤ p.d) (from : IsLower l (level_at p)) (to : IsLower (level_at p) u) (on : left_of (edge_at es k) p.x p.y p.d ≡ pos 0) where
   around : (right : Bool) → Around es true right p l u
@@ -105,7 +104,7 @@ module _ (es : List LeafEdge) (l u : Level) (n : AreNeighbours es l u) (k : ℕ)
       below_from a r b s x y pr e z g =
           let w : b *ℤ s ≡ pos 0 = rw z (zero-*ℤ s) in
           let m : (a *ℤ r) <ℤ pos 0 = omega (arith, ints) in
-          below_zero a r pr m
+          negative_factor a r pr m
 
   right_after : (j : ℕ) → IsLive es l u j → IsBefore l (edge_at es k) (edge_at es j) → pos 0 <ℤ left_of (edge_at es j) p.x p.y p.d
   right_after j lj o =
@@ -193,7 +192,7 @@ module _ (es : List LeafEdge) (l u : Level) (n : AreNeighbours es l u) (k : ℕ)
   half_upper = scaled_below u (middle l u) (pos (unsigned_abs (rise (edge_at es k)))) (subst (λ (z : ℤ). pos 0 <ℤ z) (sym (size_of (rise (edge_at es k)) lk.reaches.rises)) lk.reaches.rises) (below_high l u n.upper_divisor n.in_order)
 
   half_divisor : pos 0 <ℤ (half_point es l u k).d
-  half_divisor = pos_mul (middle l u).d (pos (unsigned_abs (rise (edge_at es k)))) (middle_positive l u n.lower_divisor n.upper_divisor) (subst (λ (z : ℤ). pos 0 <ℤ z) (sym (size_of (rise (edge_at es k)) lk.reaches.rises)) lk.reaches.rises)
+  half_divisor = positive_product (middle l u).d (pos (unsigned_abs (rise (edge_at es k)))) (middle_positive l u n.lower_divisor n.upper_divisor) (subst (λ (z : ℤ). pos 0 <ℤ z) (sym (size_of (rise (edge_at es k)) lk.reaches.rises)) lk.reaches.rises)
 
   half_on : left_of (edge_at es k) (half_point es l u k).x (half_point es l u k).y (half_point es l u k).d ≡ pos 0
   half_on = on_own (edge_at es k) (middle l u) (pos (unsigned_abs (rise (edge_at es k)))) (size_of (rise (edge_at es k)) lk.reaches.rises)

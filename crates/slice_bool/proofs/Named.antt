@@ -1,5 +1,6 @@
 -- Each piece has a length and lies along the edge of its name.
 use Rattle.std.proofs.Common.{◌≡◌, ℕ, zero, suc, ◌+◌, ◌<◌, Bool, true, false, cond, List, [], ◌∷◌, ◌++◌, length, get_or, refl, sym, ◌∙◌, arith, subst}
+use Rattle.std.proofs.lemmas.Bool.{false_from_ne_true}
 use lib.IntN.{ℤ, pos, negsuc, ◌+ℤ◌, ◌-ℤ◌, ◌*ℤ◌}
 use lib.Signed.{◌<ℤ◌, ◌≤ℤ◌}
 use Rattle.std.specs.Prelude.{Option, Some, None, ◌&&◌, ◌||◌, int_lt, int_le, unsigned_abs}
@@ -19,7 +20,9 @@ use Rattle.scad_geom.specs.Sign.{is_zero}
 use Rattle.scad_geom.specs.Heights.{heights, AreNeighbours}
 use Rattle.scad_geom.specs.Shape.{is_in_by}
 use Rattle.scad_geom.proofs.Ring.{ring, num, ◌⊕◌, ◌⊖◌, ◌⊗◌, v0, v1, v2, v3, v4, v5}
-use Rattle.scad_geom.proofs.Signs.{pos_mul, at_least_mul}
+use Rattle.scad_base.proofs.Products.{positive_product}
+use Rattle.scad_geom.proofs.Signs.{at_least_mul}
+use Rattle.scad_geom.proofs.Points.{same_height, same_across}
 use Rattle.scad_geom.proofs.Heights.{heights_positive}
 use Rattle.scad_geom.proofs.Order.{back}
 use Rattle.slice_events.specs.Levels.{IsRising, AreLevels}
@@ -42,33 +45,22 @@ use Rattle.slice_bool.proofs.BalanceFlat.{spot_gap}
 use Rattle.slice_bool.proofs.BorderPoints.{rises}
 use Rattle.slice_bool.proofs.Apart.{pieces_are_apart}
 
--- ---- points that differ
-not_true : (b : Bool) → (b ≡ true → ⊥) → b ≡ false
-not_true true h = absurd (h refl)
-not_true false h = refl
-
-equal : (x y : ℤ) → int_eq x y ≡ true → x ≡ y
+pub equal : (x y : ℤ) → int_eq x y ≡ true → x ≡ y
 equal x y h = (signed_Decides x y).0 h
-
-same_height : (p q : Point) → is_same_point p q ≡ true → p.y *ℤ q.d ≡ q.y *ℤ p.d
-same_height p q h = equal (p.y *ℤ q.d) (q.y *ℤ p.d) (is_true_first (int_eq (p.y *ℤ q.d) (q.y *ℤ p.d)) (int_eq (p.x *ℤ q.d) (q.x *ℤ p.d)) h)
-
-same_across : (p q : Point) → is_same_point p q ≡ true → p.x *ℤ q.d ≡ q.x *ℤ p.d
-same_across p q h = equal (p.x *ℤ q.d) (q.x *ℤ p.d) (is_true_second (int_eq (p.y *ℤ q.d) (q.y *ℤ p.d)) (int_eq (p.x *ℤ q.d) (q.x *ℤ p.d)) h)
 
 less_not_equal : (x y : ℤ) → x <ℤ y → x ≡ y → ⊥
 less_not_equal x y h k = omega (arith, ints)
 
 below_differ : (p q : Point) → IsBelow p q → (is_same_point p q ≡ false) × (is_same_point q p ≡ false)
 below_differ p q h = (
-  not_true (is_same_point p q) (λ e. less_not_equal (p.y *ℤ q.d) (q.y *ℤ p.d) h (same_height p q e)),
-  not_true (is_same_point q p) (λ e. less_not_equal (p.y *ℤ q.d) (q.y *ℤ p.d) h (sym (same_height q p e))),
+  false_from_ne_true (is_same_point p q) (λ e. less_not_equal (p.y *ℤ q.d) (q.y *ℤ p.d) h (same_height p q e)),
+  false_from_ne_true (is_same_point q p) (λ e. less_not_equal (p.y *ℤ q.d) (q.y *ℤ p.d) h (sym (same_height q p e))),
 )
 
 left_differ : (p q : Point) → IsLeftOf p q → (is_same_point p q ≡ false) × (is_same_point q p ≡ false)
 left_differ p q h = (
-  not_true (is_same_point p q) (λ e. less_not_equal (p.x *ℤ q.d) (q.x *ℤ p.d) h (same_across p q e)),
-  not_true (is_same_point q p) (λ e. less_not_equal (p.x *ℤ q.d) (q.x *ℤ p.d) h (sym (same_across q p e))),
+  false_from_ne_true (is_same_point p q) (λ e. less_not_equal (p.x *ℤ q.d) (q.x *ℤ p.d) h (same_across p q e)),
+  false_from_ne_true (is_same_point q p) (λ e. less_not_equal (p.x *ℤ q.d) (q.x *ℤ p.d) h (sym (same_across q p e))),
 )
 
 -- ---- one piece
@@ -102,7 +94,7 @@ level_rise e h = by_test (int_lt e.b.y e.a.y)
     by_test false = omega (arith, ints)
 
 rising_length : (e : Edge) → pos 0 <ℤ rise e → is_same_point (whole e.a) (whole e.b) ≡ false
-rising_length e r = not_true (is_same_point (whole e.a) (whole e.b)) (λ h.
+rising_length e r = false_from_ne_true (is_same_point (whole e.a) (whole e.b)) (λ h.
     less_not_equal (pos 0) (rise e) r (sym (level_rise e (same_whole_height e.a.y e.b.y (same_height (whole e.a) (whole e.b) h)))))
 
 module _ (es : List LeafEdge) (shape : Shape) where
@@ -131,7 +123,7 @@ found_from p i (e ∷ es) n h = by_test (p e) refl h (found_from p (i + 1) es n)
     by_test true q k f = (zero, (let z = first i n k in omega arith), omega arith, q)
     by_test false q k f = let r = f k in (suc r.0, omega arith, omega arith, r.3)
 
-found : (p : LeafEdge → Bool) (es : List LeafEdge) (n : ℕ) → position p es ≡ Some n → (n < length es) × (p (get_or es n no_edge) ≡ true)
+pub found : (p : LeafEdge → Bool) (es : List LeafEdge) (n : ℕ) → position p es ≡ Some n → (n < length es) × (p (get_or es n no_edge) ≡ true)
 found p es n h =
     let r = found_from p 0 es n (sym (position_from-zero p es) ∙ h) in
     let e : r.0 ≡ n = omega arith in
@@ -145,7 +137,7 @@ flat_low e h = by_test (int_lt e.b.y e.a.y) h
     by_test true h = omega (arith, ints)
     by_test false h = refl
 
-zero_of : (z : ℤ) → is_zero z ≡ true → z ≡ pos 0
+pub zero_of : (z : ℤ) → is_zero z ≡ true → z ≡ pos 0
 zero_of (pos zero) h = refl
 zero_of (pos (suc n)) h = cc
 zero_of (negsuc n) h = cc
@@ -167,7 +159,7 @@ on_flat e l s q r h =
 spanned : (sx sr tx tr z k : ℤ) → (sx -ℤ z *ℤ (k *ℤ sr)) *ℤ tr +ℤ (z *ℤ (k *ℤ tr) -ℤ tx) *ℤ sr ≡ sx *ℤ tr -ℤ tx *ℤ sr
 spanned sx sr tx tr z k = ring (sx ∷ sr ∷ tx ∷ tr ∷ z ∷ k ∷ []) ((v0 ⊖ v4 ⊗ (v5 ⊗ v1)) ⊗ v3 ⊕ (v4 ⊗ (v5 ⊗ v3) ⊖ v2) ⊗ v1) (v0 ⊗ v3 ⊖ v2 ⊗ v1) refl
 
-from_test : (a b : ℤ) → int_le a b ≡ true → a ≤ℤ b
+pub from_test : (a b : ℤ) → int_le a b ≡ true → a ≤ℤ b
 from_test a b h = omega (arith, ints)
 
 no_room : (l : Level) (s t : Spot) (z : ℤ) → IsSpotAt l s → IsSpotAt l t → IsLeft s t → int_le (z *ℤ (l.d *ℤ pos s.run)) s.x ≡ true → int_le t.x (z *ℤ (l.d *ℤ pos t.run)) ≡ true → ⊥
@@ -186,7 +178,7 @@ spans_apart l s t x y hs ht o h e =
     (subst (λ (m : Level). int_le t.x (y *ℤ (m.d *ℤ pos t.run)) ≡ true) ht.at b)
 
 covering_length : (l : Level) (s t : Spot) (e : LeafEdge) → IsSpotAt l s → IsSpotAt l t → IsLeft s t → covers s t e ≡ true → is_same_point (whole e.edge.a) (whole e.edge.b) ≡ false
-covering_length l s t e hs ht o h = not_true (is_same_point (whole e.edge.a) (whole e.edge.b)) (λ k.
+covering_length l s t e hs ht o h = false_from_ne_true (is_same_point (whole e.edge.a) (whole e.edge.b)) (λ k.
     let x : e.edge.a.x ≡ e.edge.b.x = same_whole_height e.edge.a.x e.edge.b.x (same_across (whole e.edge.a) (whole e.edge.b) k) in
     by_ways _ _ (is_true_second (is_flat_at e.edge s.at) _ h)
     (λ way. spans_apart l s t e.edge.a.x e.edge.b.x hs ht o way x) (λ way. spans_apart l s t e.edge.b.x e.edge.a.x hs ht o way (sym x)))
@@ -195,9 +187,9 @@ covering_length l s t e hs ht o h = not_true (is_same_point (whole e.edge.a) (wh
     by_ways true b h f g = f refl
     by_ways false b h f g = g h
 
-stop_left : (l : Level) (s t : Spot) → pos 0 <ℤ l.d → IsSpotAt l s → IsSpotAt l t → IsLeft s t → IsLeftOf (point_of s) (point_of t)
+pub stop_left : (l : Level) (s t : Spot) → pos 0 <ℤ l.d → IsSpotAt l s → IsSpotAt l t → IsLeft s t → IsLeftOf (point_of s) (point_of t)
 stop_left l s t dl hs ht o =
-    let m = pos_mul (t.x *ℤ pos s.run -ℤ s.x *ℤ pos t.run) l.d (gap_of_less (s.x *ℤ pos t.run) (t.x *ℤ pos s.run) o) dl in
+    let m = positive_product (t.x *ℤ pos s.run -ℤ s.x *ℤ pos t.run) l.d (gap_of_less (s.x *ℤ pos t.run) (t.x *ℤ pos s.run) o) dl in
     let g : pos 0 <ℤ gap (point_of s) (point_of t) = rw (spot_gap l s t hs ht) m in
     less_of_gap (s.x *ℤ (t.at.d *ℤ pos t.run)) (t.x *ℤ (s.at.d *ℤ pos s.run)) g
 

@@ -19,7 +19,7 @@ use Rattle.scad_geom.proofs.Heights.{Reaches, lower_then_at_most, at_most_then_l
 use Rattle.scad_geom.proofs.Order.{all_ends}
 use Rattle.scad_geom.proofs.Turns.{level_at, Over, NotOver, Spans, over_up, not_over_down, heading, reaching_turn, under_turn, over_turn}
 use Rattle.slice_slab.proofs.Live.{reaches_is}
-use Rattle.slice_bool.proofs.Sums.{sum_z}
+use Rattle.scad_geom.proofs.Sums.{sum_z}
 
 reaches_up : (e : Edge) (l u : Level) → pos 0 <ℤ l.d → pos 0 <ℤ u.d → IsLower l u → IsAtMost (level_of e.a.y) l → IsAtMost u (level_of e.b.y) → reaches e l u ≡ true
 unfolding reaches low high rise

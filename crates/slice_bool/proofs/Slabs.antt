@@ -16,7 +16,7 @@ use Rattle.scad_geom.specs.Winding.{is_beyond}
 use Rattle.scad_geom.specs.Shape.{is_in_by}
 use Rattle.scad_geom.specs.Level.{IsLower}
 use Rattle.slice_slab.specs.Bundles.{edge_at, AreRanked, AreBundles}
-use Rattle.scad_geom.proofs.Signs.{pos_mul}
+use Rattle.scad_base.proofs.Products.{positive_product}
 use Rattle.scad_geom.proofs.Turns.{level_at, Spans, beyond_mul}
 use Rattle.slice_bool.proofs.Reaching.{lies_left}
 use Rattle.std.proofs.Common.{append_assoc}
@@ -78,7 +78,7 @@ module _ (above right : Bool) (p : Point) (e : Edge) (l u : Level) (re : pos 0 <
   run_positive = subst (λ (z : ℤ). pos 0 <ℤ z) (sym (size_of (rise e) re)) re
 
   factor_positive : (d : ℤ) → pos 0 <ℤ d → pos 0 <ℤ ((rise e *ℤ rise e) *ℤ (d *ℤ (u.n *ℤ l.d -ℤ l.n *ℤ u.d)))
-  factor_positive d dd = pos_mul (rise e *ℤ rise e) (d *ℤ (u.n *ℤ l.d -ℤ l.n *ℤ u.d)) (pos_mul (rise e) (rise e) re re) (pos_mul d (u.n *ℤ l.d -ℤ l.n *ℤ u.d) dd (gap_of_less (l.n *ℤ u.d) (u.n *ℤ l.d) o))
+  factor_positive d dd = positive_product (rise e *ℤ rise e) (d *ℤ (u.n *ℤ l.d -ℤ l.n *ℤ u.d)) (positive_product (rise e) (rise e) re re) (positive_product d (u.n *ℤ l.d -ℤ l.n *ℤ u.d) dd (gap_of_less (l.n *ℤ u.d) (u.n *ℤ l.d) o))
 
   pub up_turn : turn above right p (point_of (spot_on e l)) (point_of (spot_on e u)) ≡ (if is_beyond right (left_of e p.x p.y p.d) then pos 1 else pos 0)
   up_turn =

@@ -16,7 +16,7 @@ use Rattle.scad_geom.specs.EdgeOrder.{AreAligned}
 use Rattle.slice_slab.specs.Bundles.{no_edge, edge_at, reaching, IsBundle, Precedes, AreRanked, AreBundles}
 use Rattle.scad_geom.proofs.Order.{before_between}
 use Rattle.scad_geom.proofs.Turns.{level_at}
-use Rattle.slice_bool.proofs.Sums.{sum_z, sum_z-append, sum_z-permutation}
+use Rattle.scad_geom.proofs.Sums.{sum_z, sum_z-append, sum_z-permutation}
 use Rattle.slice_bool.proofs.Reaching.{heading_for, lies_left, wind_reaching}
 use Rattle.scad_geom.proofs.Order.{front, back}
 use Rattle.slice_bool.proofs.Passing.{IsLive, live_bundles, same_side, later_side, passing, HeadPasses, Around, spans_from, spans_to}

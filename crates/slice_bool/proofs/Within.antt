@@ -35,10 +35,10 @@ use Rattle.slice_snap.proofs.Ends.{joined}
 use Rattle.slice_bool.proofs.Ends.{flat_ends, slab_ends, AtBoth, each_of}
 
 -- ---- where an edge passes a height: between its ends
-by_weights : (x y g h n d : ℤ) → (g -ℤ x) *ℤ n +ℤ ((h -ℤ y) *ℤ x -ℤ (g -ℤ x) *ℤ y) *ℤ d ≡ x *ℤ (h *ℤ d -ℤ n) +ℤ g *ℤ (n -ℤ y *ℤ d)
+pub by_weights : (x y g h n d : ℤ) → (g -ℤ x) *ℤ n +ℤ ((h -ℤ y) *ℤ x -ℤ (g -ℤ x) *ℤ y) *ℤ d ≡ x *ℤ (h *ℤ d -ℤ n) +ℤ g *ℤ (n -ℤ y *ℤ d)
 by_weights x y g h n d = ring (x ∷ y ∷ g ∷ h ∷ n ∷ d ∷ []) ((v2 ⊖ v0) ⊗ v4 ⊕ ((v3 ⊖ v1) ⊗ v0 ⊖ (v2 ⊖ v0) ⊗ v1) ⊗ v5) (v0 ⊗ (v3 ⊗ v5 ⊖ v4) ⊕ v2 ⊗ (v4 ⊖ v1 ⊗ v5)) refl
 
-weights_add : (y h n d : ℤ) → (h *ℤ d -ℤ n) +ℤ (n -ℤ y *ℤ d) ≡ (h -ℤ y) *ℤ d
+pub weights_add : (y h n d : ℤ) → (h *ℤ d -ℤ n) +ℤ (n -ℤ y *ℤ d) ≡ (h -ℤ y) *ℤ d
 weights_add y h n d = ring (y ∷ h ∷ n ∷ d ∷ []) ((v1 ⊗ v3 ⊖ v2) ⊕ (v2 ⊖ v0 ⊗ v3)) ((v1 ⊖ v0) ⊗ v3) refl
 
 -- the limit times a weight

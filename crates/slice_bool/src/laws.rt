@@ -3,9 +3,13 @@ ghost use Rattle.slice_bool.specs.Pieces.{PiecesWindOnce};
 ghost use Rattle.slice_bool.specs.Ends.{HeightsHaveOneLevel};
 ghost use Rattle.slice_bool.specs.Within.{SpotsAreWithin};
 ghost use Rattle.slice_bool.specs.Named.{PiecesAreNamed};
+ghost use Rattle.slice_bool.specs.OnEdges.{PiecesLieOnEdges};
 ghost use Rattle.slice_bool.specs.Balance.{BordersAreBalanced};
 ghost use Rattle.slice_bool.specs.Covered.{StretchesAreCovered};
 ghost use Rattle.slice_bool.specs.BorderPoints.{PiecesAreBorder};
+ghost use Rattle.slice_bool.specs.OneMade.{MadeAreOne};
+ghost use Rattle.slice_bool.specs.Membership.{OutlinesHoldPoints, OutlinesHoldCentres};
+ghost use Rattle.slice_bool.specs.NearBorder.{OutlinesAreNearBorder};
 ghost use Rattle.slice_bool.specs.Centre.{CentresAreWoundOnce, CentresAreHeld};
 
 /// The pieces of a border wind once round each point that the shape holds, hard by the point on each
@@ -28,6 +32,11 @@ pub fn spots_are_within()
 /// those of one name don't overlap.
 pub fn pieces_are_named()
     ensures { PiecesAreNamed }
+{}
+
+/// Both ends of each piece of a border are points of the edge that it is named by.
+pub fn pieces_lie_on_edges()
+    ensures { PiecesLieOnEdges }
 {}
 
 /// Round each cell centre that a shape holds the pieces of its border wind once, and round no other, in
@@ -54,6 +63,24 @@ pub fn pieces_are_border()
     ensures { PiecesAreBorder }
 {}
 
+/// Named pieces that don't overlap make one list of outlines.
+pub fn made_are_one()
+    ensures { MadeAreOne }
+{}
+
+/// Where the edges of each leaf are balanced, the outlines of a shape wind once round each point that is clear of the
+/// edges by one half and that the shape holds, hard by it on each side, and not at all round any other such point; so
+/// they do at cell centres, in plain winding numbers.
+pub fn outlines_hold()
+    ensures points { OutlinesHoldPoints }
+    ensures centres { OutlinesHoldCentres }
+{}
+
+/// Each point of each side of a shape's outlines lies less than one micrometre along both axes from a border point.
+pub fn outlines_are_near_border()
+    ensures { OutlinesAreNearBorder }
+{}
+
 #[cfg(test)]
 mod tests {
     use super::*;
@@ -64,9 +91,13 @@ mod tests {
         heights_have_one_level();
         spots_are_within();
         pieces_are_named();
+        pieces_lie_on_edges();
         centres_are_wound_once();
         borders_are_balanced();
         stretches_are_covered();
         pieces_are_border();
+        made_are_one();
+        outlines_hold();
+        outlines_are_near_border();
     }
 }

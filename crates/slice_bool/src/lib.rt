@@ -1,7 +1,8 @@
-//! The border between inside and outside of a shape over the leaves of an edge list, cut into directed pieces.
+//! The border between inside and outside of a shape over the leaves of an edge list: its pieces and its outlines.
 //!
 //! The contracts promise exactly the pieces of the definition, which speaks of the shape's values on both sides of the
-//! border alone, and that they wind once round each point that the shape holds and round no other.
+//! border alone, that they wind once round each point that the shape holds and round no other, and exactly the outlines
+//! that these pieces make.
 #![tactic(auto, using(scad_geom::proofs::Casts::casts))]
 
 mod around;
@@ -12,6 +13,7 @@ mod fault;
 mod flat;
 pub mod laws;
 mod near;
+mod outlining;
 #[cfg(test)]
 mod random_outlines;
 mod slab;
@@ -25,3 +27,4 @@ mod two_rectangles;
 
 pub use border::pieces;
 pub use fault::BoolFault;
+pub use outlining::outlines;

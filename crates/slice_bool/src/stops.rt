@@ -11,7 +11,7 @@ ghost use Rattle.slice_bool.specs.Stops.{spots_in, is_left, AreSorted};
 ghost use Rattle.slice_events.specs.Distinct.{distinct_by, stays_by};
 
 use crate::stop::{Stop, spot_on, whole_spot};
-use scad_geom::line::{high, low, rise};
+use scad_geom::line::{ends_from, rise, starts_by};
 use scad_geom::wide::times;
 use scad_geom::{Edge, LeafEdge, Level};
 use std::alloc::{AllocError, Global};
@@ -78,22 +78,6 @@ pub(crate) fn passes_at(e: &Edge, at: &Level) -> bool
     ensures rises { result ≡ true → pos 0 <ℤ rise e.now }
 {
     rise(e) > 0 && (starts_by(e, at) && ends_from(e, at))
-}
-
-fn starts_by(e: &Edge, at: &Level) -> bool
-    requires edge { IsEdgeWithin coordinate_limit e.now }
-    requires at { IsLevelWithin coordinate_limit at.now }
-    ensures { result ≡ int_le ((low e.now).y *ℤ at.now.d) at.now.n }
-{
-    times::<21, 44>(low(e).y as i128, at.d) <= at.n
-}
-
-fn ends_from(e: &Edge, at: &Level) -> bool
-    requires edge { IsEdgeWithin coordinate_limit e.now }
-    requires at { IsLevelWithin coordinate_limit at.now }
-    ensures { result ≡ int_le at.now.n ((high e.now).y *ℤ at.now.d) }
-{
-    at.n <= times::<21, 44>(high(e).y as i128, at.d)
 }
 
 fn sort(stops: &mut Vec<Stop>) -> Result<(), AllocError>

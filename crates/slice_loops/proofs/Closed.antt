@@ -1,18 +1,18 @@
 -- The remaining edges and the straight way from a loop's start to where it has come are closed, so the loop can go on.
-use Rattle.std.proofs.Common.{◌≡◌, ℕ, zero, suc, ◌+◌, ◌<◌, Bool, true, false, List, [], ◌∷◌, map, refl, sym, ap, ap₂, ◌∙◌, subst, arith}
+use Rattle.std.proofs.Common.{◌≡◌, ℕ, ◌+◌, List, [], ◌∷◌, refl, sym, ap, ap₂, ◌∙◌, arith}
 use Rattle.std.specs.Prelude.{count_by, IsPermutation}
 use Rattle.std.proofs.lemmas.List.Elements.{All-head, All-tail}
 use Rattle.std.proofs.lemmas.List.Sums.{sum_by-cons}
 use Rattle.std.proofs.lemmas.List.Sorted.{sum_by-IsPermutation, IsPermutation-map, IsPermutation-cons}
 use Rattle.scad_geom.specs.declared.point.Pt.{Pt}
 use Rattle.scad_geom.specs.declared.point.Edge.{Edge}
-use Rattle.scad_geom.specs.Point.{Point, whole, is_same_point}
+use Rattle.scad_geom.specs.Point.{whole, is_same_point}
 use Rattle.scad_geom.specs.Segment.{Segment, segment_of, segments}
 use Rattle.scad_geom.specs.Balance.{starts_at, ends_at, IsBalanced}
-use Rattle.scad_geom.proofs.Balanced.{once, starts-cons, ends-cons, same_place, whole_balance}
+use Rattle.scad_geom.proofs.Balanced.{once, starts-cons, ends-cons, same_place, whole_balance, same_place-itself}
 use Rattle.slice_loops.specs.Drawing.{TakesLeastFrom}
 use Rattle.slice_loops.specs.Ascending.{NoneStarts}
-use Rattle.slice_loops.proofs.Points.{same_itself, differ}
+use Rattle.slice_loops.proofs.Points.{differ}
 
 -- the edge between two points
 abbrev pub edge : Pt → Pt → Edge
@@ -74,4 +74,4 @@ one_starts start at left b away none =
     (count_by (λ e. same_place at e.a) (edge start at ∷ left)) (count_by (λ e. same_place at e.b) (edge start at ∷ left))
     (sum_by-cons (λ (x : Edge). once (same_place at x.a)) (edge start at) left) (sum_by-cons (λ (x : Edge). once (same_place at x.b)) (edge start at) left)
     (whole_balance (edge start at ∷ left) b at)
-    (ap once (differ at start away)) (count_none at left none) (ap once (same_itself at))
+    (ap once (differ at start away)) (count_none at left none) (ap once (same_place-itself at))

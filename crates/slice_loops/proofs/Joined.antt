@@ -1,13 +1,13 @@
 -- Outlines are made loop by loop: whatever outlines the remaining edges make, those so far and these are the outlines of all.
-use Rattle.std.proofs.Common.{◌≡◌, ℕ, ◌≤◌, ◌<◌, Bool, true, false, cond, List, [], ◌∷◌, ◌++◌, length, nat_le, refl, sym, ap, ◌∙◌, subst, arith, append_assoc, append-nil, le-leb, leb-true}
+use Rattle.std.proofs.Common.{◌≡◌, ◌≤◌, ◌<◌, Bool, true, false, cond, List, [], ◌∷◌, ◌++◌, length, nat_le, refl, sym, ap, ◌∙◌, subst, arith, append_assoc, append-nil, le-leb, leb-true}
+use Rattle.std.proofs.lemmas.Bool.{false_from_ne_true}
 use Rattle.std.specs.Prelude.{IsPermutation}
 use Rattle.std.proofs.lemmas.List.Sorted.{IsPermutation-trans, length_permutation}
 use Rattle.scad_geom.specs.declared.point.Pt.{Pt}
 use Rattle.scad_geom.specs.declared.point.Edge.{Edge}
-use Rattle.slice_loops.specs.Drawing.{TakesLeast, IsLoop, AreDrawn}
+use Rattle.slice_loops.specs.Drawing.{IsLoop, AreDrawn}
 use Rattle.slice_loops.specs.Corners.{corners}
 use Rattle.slice_loops.specs.Outlines.{outlines_of, AreOutlines}
-use Rattle.slice_loops.proofs.Points.{not_true}
 
 abbrev pub Makes : List Edge → List (List Pt) → List Edge → Type 0
 Makes edges outlines left = (more : List (List Pt)) → AreOutlines left more → AreOutlines edges (outlines ++ more)
@@ -57,7 +57,7 @@ makes_one edges outlines es v left c k made loop h same many =
 pub makes_nothing : (edges : List Edge) (outlines : List (List Pt)) (es : List Edge) (v : List Pt) (left : List Edge) (c : List Pt)
     → Makes edges outlines es → IsLoop es v left → c ≡ corners v → length c < 3 → Makes edges outlines left
 makes_nothing edges outlines es v left c made loop h few =
-    let test : nat_le 3 (length c) ≡ false = not_true (nat_le 3 (length c)) (λ e. let many = leb-true 3 (length c) e in omega arith) in
+    let test : nat_le 3 (length c) ≡ false = false_from_ne_true (nat_le 3 (length c)) (λ e. let many = leb-true 3 (length c) e in omega arith) in
     λ more a. made more (one_more es v left c false loop h test more a)
 
 -- ---- all are drawn

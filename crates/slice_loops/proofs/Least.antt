@@ -1,5 +1,6 @@
 -- A loop starts at its least vertex, by y and then by x, which is always a corner.
-use Rattle.std.proofs.Common.{◌≡◌, Bool, true, false, ◌⊎◌, inl, inr, List, [], ◌∷◌, All, refl, sym, ap, ◌∙◌, subst, arith}
+use Rattle.std.proofs.Common.{◌≡◌, true, false, ◌⊎◌, inl, inr, List, [], ◌∷◌, All, refl, sym, ap, ◌∙◌, subst, arith}
+use Rattle.std.proofs.lemmas.Bool.{false_from_ne_true}
 use lib.IntN.{ℤ, pos, ◌+ℤ◌, ◌-ℤ◌, ◌*ℤ◌}
 use lib.Signed.{◌<ℤ◌, ◌≤ℤ◌}
 use Rattle.std.specs.List.{AllByRecursion}
@@ -8,15 +9,14 @@ use Rattle.std.specs.declared.cmp.Ordering.{Ordering}
 use Rattle.std.specs.declared.cmp.Ordering.TheVariants.{Less, Equal, Greater}
 use Rattle.std.specs.Cmp.{int_ranks}
 use Rattle.std.proofs.lemmas.Int.{ints, by_lt_z}
-use Rattle.std.proofs.lemmas.List.Elements.{All-cons, All-head, All-tail}
+use Rattle.std.proofs.lemmas.List.Elements.{All-head, All-tail}
 use Rattle.std.proofs.lemmas.List.Sorted.{All-permutation}
 use Rattle.scad_geom.specs.declared.point.Pt.{Pt}
 use Rattle.scad_geom.specs.declared.point.Edge.{Edge}
-use Rattle.scad_geom.proofs.Ring.{ring, num, ◌⊕◌, ◌⊖◌, ◌⊗◌, v0, v1}
-use Rattle.slice_loops.specs.Order.{point_cmp, edge_cmp, is_less}
+use Rattle.scad_geom.proofs.Ring.{ring, num, ◌⊕◌, ◌⊗◌, v0, v1}
+use Rattle.slice_loops.specs.Order.{point_cmp, is_less}
 use Rattle.slice_loops.specs.Drawing.{TakesLeastFrom, LeadsBack, IsLoop}
 use Rattle.slice_loops.specs.Corners.{advance, is_between, last}
-use Rattle.slice_loops.proofs.Points.{not_true}
 use Rattle.slice_loops.proofs.Straight.{IsAhead, ahead_itself, ahead_on, between_turned, straight, falls, climbs}
 
 -- v isn't less than p
@@ -118,7 +118,7 @@ least_between a p b ha hb t = by_height hb
     by_height (inr h) = by_place h.0 (less_or_equal p.x b.x h.1)
 
 pub least_is_corner : (a p b : Pt) → IsAtLeast p a → IsAtLeast p b → is_between a p b ≡ false
-least_is_corner a p b ha hb = not_true (is_between a p b) (least_between a p b ha hb)
+least_is_corner a p b ha hb = false_from_ne_true (is_between a p b) (least_between a p b ha hb)
 
 -- ---- the vertices of a loop
 way_at_least : (e : Edge) (start : Pt) (vs : List Pt) (p : Pt) (es left : List Edge) → All (λ f. is_less f e ≡ false) es → LeadsBack start vs p es left → AllByRecursion (IsAtLeast e.a) vs

@@ -1,5 +1,5 @@
 -- Two segments end to end on one line wind as the one from the first start to the last end.
-use Rattle.std.proofs.Common.{◌≡◌, Bool, true, false, [], ◌∷◌, refl, sym, ap, ap₂, ◌∙◌, subst, arith}
+use Rattle.std.proofs.Common.{◌≡◌, Bool, true, false, [], ◌∷◌, refl, sym, ap, ap₂, ◌∙◌, arith}
 use lib.IntN.{ℤ, pos, negsuc, ◌+ℤ◌, ◌-ℤ◌, ◌*ℤ◌, neg_ℤ, +ℤ_idl}
 use lib.Signed.{◌<ℤ◌}
 use Rattle.std.specs.Prelude.{if◌then◌else◌, int_lt, int_le}
@@ -7,7 +7,7 @@ use Rattle.std.proofs.lemmas.Int.{ints}
 use Rattle.scad_geom.specs.declared.point.Pt.{Pt}
 use Rattle.scad_geom.specs.Point.{Point, whole}
 use Rattle.scad_geom.specs.Winding.{is_over, side_by, is_beyond, turn}
-use Rattle.scad_geom.proofs.Ring.{ring, num, neg-*ℤ, ◌⊕◌, ◌⊖◌, ◌⊗◌, v0, v1, v2, v3, v4, v5, v6}
+use Rattle.scad_geom.proofs.Ring.{ring, num, neg-*ℤ, ◌⊖◌, ◌⊗◌, v0, v1, v2, v3, v4, v5, v6}
 use Rattle.scad_geom.proofs.Signs.{pos_left}
 use Rattle.scad_geom.proofs.Turns.{flat_turn, rising_turn, falling_turn, beyond_mul}
 use Rattle.slice_loops.specs.Corners.{is_between}

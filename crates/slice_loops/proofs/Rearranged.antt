@@ -1,11 +1,11 @@
 -- The sides of drawn loops are the edges in another order.
-use Rattle.std.proofs.Common.{◌≡◌, List, [], ◌∷◌, ◌++◌, flat_map, refl, sym, ◌∙◌, subst}
+use Rattle.std.proofs.Common.{◌≡◌, List, [], ◌∷◌, ◌++◌, flat_map, sym, ◌∙◌, subst}
 use Rattle.std.specs.Prelude.{IsPermutation}
 use Rattle.std.proofs.lemmas.List.Sorted.{IsPermutation-refl, IsPermutation-cons, IsPermutation-trans, IsPermutation-append_right}
 use Rattle.scad_geom.specs.declared.point.Pt.{Pt}
 use Rattle.scad_geom.specs.declared.point.Edge.{Edge}
 use Rattle.scad_geom.specs.Loop.{path, sides}
-use Rattle.slice_loops.specs.Drawing.{LeadsBack, IsLoop, AreDrawn}
+use Rattle.slice_loops.specs.Drawing.{LeadsBack, IsLoop}
 use Rattle.slice_loops.specs.Laws.{SidesAreEdges}
 use Rattle.slice_loops.proofs.Closed.{edge}
 

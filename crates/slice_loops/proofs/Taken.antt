@@ -1,5 +1,5 @@
 -- In ascending edges the first is the least, and the first that starts at a point is the least that starts there.
-use Rattle.std.proofs.Common.{◌≡◌, ℕ, zero, suc, ◌<◌, ◌≤◌, false, List, [], ◌∷◌, ◌++◌, length, get_or, take, drop, All, sym, ap, ◌∙◌, subst, arith}
+use Rattle.std.proofs.Common.{◌≡◌, ℕ, zero, suc, ◌<◌, ◌≤◌, false, List, [], ◌∷◌, length, get_or, take, drop, All, sym, ap, ◌∙◌, subst, arith}
 use Rattle.std.specs.Prelude.{remove, IsSortedBy, Option, Some, IfSome}
 use Rattle.std.proofs.lemmas.List.Elements.{All-append, All-take, All-drop, All-cons}
 use Rattle.std.proofs.lemmas.List.Sorted.{sorted_far, IsPermutation-remove, length_permutation}

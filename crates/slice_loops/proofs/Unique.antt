@@ -12,12 +12,13 @@ use Rattle.std.specs.Cmp.{IsTotalOrder, tied_itself}
 use Rattle.std.proofs.lemmas.Bool.{and_parts}
 use Rattle.scad_geom.specs.declared.point.Pt.{Pt}
 use Rattle.scad_geom.specs.declared.point.Edge.{Edge}
-use Rattle.scad_geom.proofs.Balanced.{once, same_place}
+use Rattle.scad_geom.proofs.Balanced.{once}
+use Rattle.scad_geom.proofs.Places.{same_edge, same_edge_then_equal, same_edge_itself}
 use Rattle.slice_loops.specs.Order.{point_cmp, edge_cmp, is_less}
-use Rattle.slice_loops.specs.Drawing.{TakesLeast, TakesLeastFrom, LeadsBack, IsLoop, AreDrawn}
-use Rattle.slice_loops.specs.Outlines.{outlines_of, AreOutlines}
+use Rattle.slice_loops.specs.Drawing.{TakesLeastFrom, LeadsBack, IsLoop, AreDrawn}
+use Rattle.slice_loops.specs.Outlines.{outlines_of}
 use Rattle.slice_loops.specs.Laws.{LoopsAreOne, OutlinesAreOne}
-use Rattle.slice_loops.proofs.Points.{same_then_equal, same_itself, edge_total}
+use Rattle.slice_loops.proofs.Points.{edge_total}
 
 -- ---- edges that the order doesn't tell apart are one
 both_equal : (r s : Ordering) → ordering_then r s ≡ Equal → (r ≡ Equal) × (s ≡ Equal)
@@ -53,19 +54,6 @@ neither_less : (e f : Edge) → is_less e f ≡ false → is_less f e ≡ false 
 neither_less e f h k = let o : IsTotalOrder edge_cmp = edge_total in edge_exact e f (tied (edge_cmp e f) (edge_cmp f e) (o.antisymm e f) h k)
 
 -- ---- lists with the same edges, each as often
-abbrev same_edge : Edge → Edge → Bool
-same_edge e f = same_place e.a f.a && same_place e.b f.b
-
-edge_is : (e f : Edge) → same_edge e f ≡ true → e ≡ f
-edge_is e f h =
-    let both = and_parts (same_place e.a f.a) (same_place e.b f.b) h in
-    let a = same_then_equal e.a f.a both.0 in
-    let b = same_then_equal e.b f.b both.1 in
-    λ i. record { a = a i; b = b i }
-
-edge_itself : (e : Edge) → same_edge e e ≡ true
-edge_itself e = ap₂ (λ (a b : Bool). a && b) (same_itself e.a) (same_itself e.b)
-
 often : Edge → List Edge → ℕ
 often x es = sum_by (λ (e : Edge). once (same_edge x e)) es
 
@@ -90,13 +78,13 @@ holds_of P x [] a h = let n = none x in absurd (omega arith)
 holds_of P x (e ∷ es) a h = by_test (same_edge x e) refl (holds_of P x es (All-tail P e es a))
   where
     by_test : (t : Bool) → same_edge x e ≡ t → (0 < often x es → P x) → P x
-    by_test true s later = subst P (sym (edge_is x e s)) (All-head P e es a)
+    by_test true s later = subst P (sym (same_edge_then_equal x e s)) (All-head P e es a)
     by_test false s later =
         let n : often x (e ∷ es) ≡ 0 + often x es = often-cons x e es ∙ ap (λ (b : Bool). once b + often x es) s in
         later (omega arith)
 
 there : (e : Edge) (es : List Edge) → 0 < often e (e ∷ es)
-there e es = let n : often e (e ∷ es) ≡ 1 + often e es = often-cons e e es ∙ ap (λ (b : Bool). once b + often e es) (edge_itself e) in omega arith
+there e es = let n : often e (e ∷ es) ≡ 1 + often e es = often-cons e e es ∙ ap (λ (b : Bool). once b + often e es) (same_edge_itself e) in omega arith
 
 -- ---- one edge is the least of those that pass a test
 least_of : (Q : Edge → Type 0) (es : List Edge) (e : Edge) (others : List Edge) (f : Edge) → HaveSame es (e ∷ others) → All (λ x. Q x → is_less x e ≡ false) others → 0 < often f es → Q f → is_less f e ≡ false

@@ -1,13 +1,10 @@
 -- The outlines wind as the edges that they are made of.
-use Rattle.std.proofs.Common.{◌≡◌, ℕ, ◌+◌, Bool, true, false, cond, List, [], ◌∷◌, ◌++◌, length, nat_le, map, flat_map, refl, sym, ap, ap₂, ◌∙◌, subst, arith, sum_by, leb-false}
-use lib.IntN.{ℤ, pos, ◌+ℤ◌, ◌-ℤ◌, +ℤ_idl, +ℤ_assoc}
+use Rattle.std.proofs.Common.{◌≡◌, Bool, true, false, cond, List, [], ◌∷◌, ◌++◌, length, nat_le, flat_map, refl, sym, ap, ap₂, ◌∙◌, subst, arith, leb-false}
+use lib.IntN.{ℤ, pos, ◌+ℤ◌, +ℤ_idl, +ℤ_assoc}
 use lib.Signed.{◌<ℤ◌}
-use borrow.Author.Differences.{up, down}
 use Rattle.std.specs.Prelude.{IsPermutation}
 use Rattle.std.specs.List.{AllByRecursion}
 use Rattle.std.proofs.lemmas.Int.{ints}
-use Rattle.std.proofs.lemmas.List.Sums.{sum_by-cons}
-use Rattle.std.proofs.lemmas.List.Sorted.{sum_by-IsPermutation}
 use Rattle.scad_geom.specs.declared.point.Pt.{Pt}
 use Rattle.scad_geom.specs.declared.point.Edge.{Edge}
 use Rattle.scad_geom.specs.Point.{Point, whole}
@@ -22,6 +19,7 @@ use Rattle.slice_loops.specs.Laws.{OutlinesKeepWinding}
 use Rattle.slice_loops.proofs.Straight.{IsAhead, ahead_itself, ahead_on, still_between}
 use Rattle.slice_loops.proofs.Parts.{parts_turn, opposites_cancel}
 use Rattle.slice_loops.proofs.Least.{IsAtLeast, least_is_corner, loop_at_least, itself_at_least, last_at_least}
+use Rattle.scad_geom.proofs.Sums.{sum_z, sum_z-permutation}
 use Rattle.slice_loops.proofs.Rearranged.{sides_are_edges}
 
 zero_right : (z : ℤ) → z +ℤ pos 0 ≡ z
@@ -36,19 +34,12 @@ module _ (above right : Bool) (q : Point) where
   turned e = turn above right q (whole e.a) (whole e.b)
 
   -- ---- the order doesn't matter
-  by_parts : (es : List Edge) → winding es ≡ pos (sum_by (λ (e : Edge). up (turned e)) es) -ℤ pos (sum_by (λ (e : Edge). down (turned e)) es)
-  by_parts [] = refl
-  by_parts (e ∷ es) =
-      let a = sum_by-cons (λ (e : Edge). up (turned e)) e es in
-      let b = sum_by-cons (λ (e : Edge). down (turned e)) e es in
-      let r = by_parts es in
-      rw (a, b, r) (omega (arith, ints))
+  winding_is : (es : List Edge) → winding es ≡ sum_z turned es
+  winding_is [] = refl
+  winding_is (e ∷ es) = ap (λ (z : ℤ). turned e +ℤ z) (winding_is es)
 
   pub winding_permuted : (es fs : List Edge) → IsPermutation es fs → winding fs ≡ winding es
-  winding_permuted es fs m =
-      by_parts fs
-      ∙ ap₂ (λ (a b : ℕ). pos a -ℤ pos b) (sum_by-IsPermutation (λ (e : Edge). up (turned e)) es fs m) (sum_by-IsPermutation (λ (e : Edge). down (turned e)) es fs m)
-      ∙ sym (by_parts es)
+  winding_permuted es fs m = winding_is fs ∙ sum_z-permutation turned es fs m ∙ sym (winding_is es)
 
   winding-append : (es fs : List Edge) → winding (es ++ fs) ≡ winding es +ℤ winding fs
   winding-append [] fs = sym (+ℤ_idl (winding fs))

@@ -1,18 +1,15 @@
 -- The section of a closed surface is balanced.
 use Rattle.std.proofs.Common.{◌≡◌, ℕ, ◌+◌, ◌*◌, ◌/◌, Bool, true, false, cond, ◌&&◌, not, List, [], ◌∷◌, map, Some, None, Option, ℤ, pos, ◌*ℤ◌, ◌<ℤ◌, refl, ap, ap₂, sym, ◌∙◌, subst, arith}
-use Rattle.std.proofs.lemmas.Bool.{and_parts}
+use Rattle.std.proofs.lemmas.Bool.{not-false}
 use Rattle.std.specs.Prelude.{filter, int_lt}
-use Rattle.std.specs.Ordering.{int_eq}
-use Rattle.std.specs.Cmp.{signed_Decides}
 use Rattle.std.specs.List.{cons_option, sum_by}
 use Rattle.std.proofs.lemmas.Int.{ints}
 use Rattle.std.proofs.lemmas.List.Sums.{sum_by-cons, sum_by-append}
-use Rattle.scad_geom.specs.declared.point.Pt.{Pt}
 use Rattle.scad_geom.specs.declared.point.Edge.{Edge}
 use Rattle.scad_geom.specs.Point.{Point, whole, is_same_point}
 use Rattle.scad_geom.specs.Segment.{Segment, segment_of, segments}
 use Rattle.scad_geom.specs.Balance.{starts_at, ends_at, IsBalanced}
-use Rattle.scad_geom.proofs.Balanced.{once, same_place, same_whole}
+use Rattle.scad_geom.proofs.Balanced.{once, same_place, same_whole, same_place-is}
 use Rattle.scad_geom.proofs.Balanced as balance
 use Rattle.scad_solid.specs.declared.side.Side.{Side}
 use Rattle.scad_solid.specs.declared.triangle.Triangle.{Triangle}
@@ -35,17 +32,6 @@ starts-cons p e es = balance.starts-cons p (segment_of e) (segments es)
 ends-cons : (p : Point) (e : Edge) (es : List Edge) → ends p (e ∷ es) ≡ once (is_same_point p (whole e.b)) + ends p es
 ends-cons p e es = balance.ends-cons p (segment_of e) (segments es)
 
-same_place-is : (p q : Pt) → same_place p q ≡ true → p ≡ q
-same_place-is p q e =
-    let parts = and_parts (int_eq p.x q.x) (int_eq p.y q.y) e in
-    let ex = (signed_Decides p.x q.x).0 parts.0 in
-    let ey = (signed_Decides p.y q.y).0 parts.1 in
-    λ i. record { x = ex i; y = ey i }
-
-was_true : (b : Bool) → not b ≡ false → b ≡ true
-was_true true e = refl
-was_true false e = absurd (cc)
-
 -- edges whose ends coincide start and end alike, so that leaving them out changes no balance
 left_out : (p : Point) (es : List Edge) → starts p (filter has_length es) + ends p es ≡ ends p (filter has_length es) + starts p es
 left_out p [] = refl
@@ -54,7 +40,7 @@ left_out p (e ∷ es) =
     elim (has_length e) as (λ b. has_length e ≡ b → starts p (cond b (e ∷ filter has_length es) (filter has_length es)) + ends p (e ∷ es) ≡ ends p (cond b (e ∷ filter has_length es) (filter has_length es)) + starts p (e ∷ es)) [
       | true ↦ (λ t. omega (arith, starts-cons p e es, ends-cons p e es, starts-cons p e (filter has_length es), ends-cons p e (filter has_length es)))
       | false ↦ (λ t.
-          let ends_meet : once (is_same_point p (whole e.a)) ≡ once (is_same_point p (whole e.b)) = ap {B = ℕ} (λ q. once (is_same_point p (whole q))) (same_place-is e.a e.b (sym (same_whole e.a e.b) ∙ was_true (is_same_point (whole e.a) (whole e.b)) t)) in
+          let ends_meet : once (is_same_point p (whole e.a)) ≡ once (is_same_point p (whole e.b)) = ap {B = ℕ} (λ q. once (is_same_point p (whole q))) (same_place-is e.a e.b (sym (same_whole e.a e.b) ∙ not-false (is_same_point (whole e.a) (whole e.b)) t)) in
           omega (arith, starts-cons p e es, ends-cons p e es))
     ] refl
 

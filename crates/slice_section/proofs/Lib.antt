@@ -1,4 +1,5 @@
 pub mod Weighted
 pub mod Found
 pub mod Edges
+pub mod Wound
 pub mod Balanced

@@ -9,8 +9,8 @@ ghost use Rattle.scad_solid.specs.Cut.{falls, rises, cut_of, weighted, point_bet
 ghost use Rattle.slice_section.specs.Section.{nearest_point, rounded};
 ghost use Rattle.slice_section.specs.Through.{IsBetween, IsThrough};
 
+use crate::exact::{apart, weighted};
 use crate::plane::{falls, rises};
-use scad_geom::wide::{minus, plus, times};
 use scad_geom::{Edge, Pt, Pt3, round_half_down};
 use scad_solid::{Side, Triangle};
 
@@ -27,7 +27,8 @@ pub(crate) fn edge_of(triangle: &Triangle, plane: i128) -> Option<Edge>
     })
 }
 
-fn falling(triangle: &Triangle, plane: i128) -> Option<Side>
+/// The first side that falls through the plane.
+pub(crate) fn falling(triangle: &Triangle, plane: i128) -> Option<Side>
     requires { IsTrue (is_triangle_in_range triangle.now) }
     ensures first { result ≡ find (falls plane) (sides_of triangle.now) }
     ensures through { IfSome result (λ s. IsThrough plane s.to s.from) }
@@ -36,7 +37,8 @@ fn falling(triangle: &Triangle, plane: i128) -> Option<Side>
     first_falling(&sides, plane)
 }
 
-fn rising(triangle: &Triangle, plane: i128) -> Option<Side>
+/// The first side that rises through the plane.
+pub(crate) fn rising(triangle: &Triangle, plane: i128) -> Option<Side>
     requires { IsTrue (is_triangle_in_range triangle.now) }
     ensures first { result ≡ find (rises plane) (sides_of triangle.now) }
     ensures through { IfSome result (λ s. IsThrough plane s.from s.to) }
@@ -76,38 +78,5 @@ fn coordinate_at(lower: i32, upper: i32, low: i32, high: i32, plane: i128) -> i3
     requires heights { IsBetween plane low high }
     ensures { result ≡ half_down (weighted lower upper low high plane) (pos 2 *ℤ high -ℤ pos 2 *ℤ low) }
 {
-    let down = up_to(high, plane);
-    let up = down_to(low, plane);
-    let n = plus(
-        times::<20, 22>(lower as i128, down),
-        times::<20, 22>(upper as i128, up),
-    );
-    round_half_down(n, apart(low, high))
-}
-
-// Twice the height from the plane up to `high`.
-fn up_to(high: i32, plane: i128) -> i128
-    requires small { unsigned_abs high ≤ point_limit }
-    requires narrow { unsigned_abs plane ≤ 2 ^ 21 }
-    ensures value { result ≡ pos 2 *ℤ high -ℤ plane }
-    ensures size { unsigned_abs result ≤ 2 ^ 22 }
-{
-    minus(2 * high as i128, plane)
-}
-
-// Twice the height from the plane down to `low`.
-fn down_to(low: i32, plane: i128) -> i128
-    requires small { unsigned_abs low ≤ point_limit }
-    requires narrow { unsigned_abs plane ≤ 2 ^ 21 }
-    ensures value { result ≡ plane -ℤ pos 2 *ℤ low }
-    ensures size { unsigned_abs result ≤ 2 ^ 22 }
-{
-    minus(plane, 2 * low as i128)
-}
-
-// Twice the height between the two.
-fn apart(low: i32, high: i32) -> i128
-    ensures value { result ≡ pos 2 *ℤ high -ℤ pos 2 *ℤ low }
-{
-    minus(2 * high as i128, 2 * low as i128)
+    round_half_down(weighted(lower, upper, low, high, plane), apart(low, high))
 }

@@ -1,5 +1,5 @@
-use crate::section;
-use scad_geom::{Edge, Pt, Pt3};
+use crate::{contains, section};
+use scad_geom::{Edge, Half, Pt, Pt3};
 use scad_solid::{Face, SolidFault, Triangles};
 use std::alloc::Global;
 use std::test::Fail;
@@ -66,6 +66,30 @@ fn leaves_out_what_rounds_to_a_point(rt: HostRuntime) -> Result<(), Fail> {
             section(rt.alloc(), &solid, layer, h)?.len(),
             0,
             "layer {layer} of {h}"
+        );
+    }
+    Ok(())
+}
+
+#[test]
+fn contains_what_the_exact_cuts_wind_round(rt: HostRuntime) -> Result<(), Fail> {
+    let solid = tetrahedron(rt.alloc())?;
+    for (layer, x, y, half, inside) in [
+        (0, 450, 449, Half::Whole, true),
+        (0, 450, 450, Half::Whole, false),
+        (0, 449, 449, Half::Cell, true),
+        (0, 449, 450, Half::Cell, false),
+        (0, 0, 5, Half::Whole, true),
+        (0, 899, 0, Half::Whole, true),
+        (0, 900, 0, Half::Whole, false),
+        (4, 49, 49, Half::Cell, true),
+        (4, 49, 50, Half::Cell, false),
+        (5, 0, 0, Half::Cell, false),
+    ] {
+        assert_eq!(rt;
+            contains(&solid, layer, 200, Pt { x, y }, half),
+            inside,
+            "at {x}, {y}, {half:?} of layer {layer}"
         );
     }
     Ok(())

@@ -1,5 +1,6 @@
 -- Sorted passages give the bundles.
 use Rattle.std.proofs.Common.{◌≡◌, ℕ, zero, suc, ◌+◌, ◌<◌, ◌≤◌, ◌⊎◌, inl, inr, Bool, true, false, not, ◌&&◌, ◌||◌, cond, List, [], ◌∷◌, length, get_or, refl, sym, ap, ◌∙◌, arith, subst, add-one}
+use Rattle.std.proofs.lemmas.Bool.{and_parts}
 use lib.IntN.{ℤ, pos, ◌*ℤ◌}
 use lib.Signed.{◌<ℤ◌}
 use Rattle.std.specs.Prelude.{int_lt, nat_lt, if◌then◌else◌}
@@ -73,11 +74,6 @@ eq_to a b h =
     let p : int_lt a b ≡ false = sym (omega (arith, ints)) in
     let q : int_lt b a ≡ false = sym (omega (arith, ints)) in
     rw (p, q) refl
-
-both_true : (a b : Bool) → (a && b) ≡ true → (a ≡ true) × (b ≡ true)
-both_true true true h = (refl, refl)
-both_true true false h = cc
-both_true false b h = cc
 
 -- what a passage says of its edge
 same_edge : (es : List LeafEdge) (at : Level) (p q : Passage) → IsPassageOf es at p → IsPassageOf es at q → p.x *ℤ q.rise ≡ q.x *ℤ p.rise → p.run *ℤ q.rise ≡ q.run *ℤ p.rise → AreAligned at (edge_at es p.number) (edge_at es q.number)
@@ -208,8 +204,8 @@ bundled es at p (q ∷ ps) h s =
           rise_bs = (hq, r.rise_bs);
         }
     by_test false e r (inr n) hp hq = absurd (not_aligned p q n.0 n.1 e)
-    by_test true e r (inl (inl n)) hp hq = let x = eq_from (p.x *ℤ q.rise) (q.x *ℤ p.rise) (both_true (int_eq (p.x *ℤ q.rise) (q.x *ℤ p.rise)) (int_eq (p.run *ℤ q.rise) (q.run *ℤ p.rise)) e).0 in absurd (omega (arith, ints))
-    by_test true e r (inl (inr n)) hp hq = let n1 = n.1 in let x = eq_from (p.run *ℤ q.rise) (q.run *ℤ p.rise) (both_true (int_eq (p.x *ℤ q.rise) (q.x *ℤ p.rise)) (int_eq (p.run *ℤ q.rise) (q.run *ℤ p.rise)) e).1 in absurd (omega (arith, ints))
+    by_test true e r (inl (inl n)) hp hq = let x = eq_from (p.x *ℤ q.rise) (q.x *ℤ p.rise) (and_parts (int_eq (p.x *ℤ q.rise) (q.x *ℤ p.rise)) (int_eq (p.run *ℤ q.rise) (q.run *ℤ p.rise)) e).0 in absurd (omega (arith, ints))
+    by_test true e r (inl (inr n)) hp hq = let n1 = n.1 in let x = eq_from (p.run *ℤ q.rise) (q.run *ℤ p.rise) (and_parts (int_eq (p.x *ℤ q.rise) (q.x *ℤ p.rise)) (int_eq (p.run *ℤ q.rise) (q.run *ℤ p.rise)) e).1 in absurd (omega (arith, ints))
 
 pub ranked_bundles : (es : List LeafEdge) (at : Level) (ps : List Passage) → AllByRecursion (IsPassageOf es at) ps → AreSorted ps → AreRanked es at (bundles_of ps)
 ranked_bundles es at [] h s = tt

@@ -1,5 +1,6 @@
 -- The numbers in the bundles between two heights are those of edges that reach both.
 use Rattle.std.proofs.Common.{◌≡◌, ℕ, zero, suc, ◌+◌, ◌<◌, Bool, true, false, List, [], ◌∷◌, length, get_or, refl, sym, arith, subst}
+use Rattle.std.proofs.lemmas.Bool.{and_parts}
 use lib.IntN.{pos, ◌*ℤ◌}
 use Rattle.std.specs.Prelude.{int_lt, int_le, if◌then◌else◌, ◌&&◌}
 use Rattle.std.specs.List.{AllByRecursion, concat}
@@ -13,16 +14,11 @@ use Rattle.scad_geom.specs.Line.{low, high, rise}
 use Rattle.scad_geom.proofs.Heights.{Reaches}
 use Rattle.slice_slab.specs.Bundles.{no_edge, edge_at, reaches, reaching, AreBundles}
 
-both_are : (a b : Bool) → (a && b) ≡ true → (a ≡ true) × (b ≡ true)
-both_are true true h = (refl, refl)
-both_are true false h = cc
-both_are false b h = cc
-
 pub reaches_is : (e : Edge) (l u : Level) → reaches e l u ≡ true → Reaches e l u
 unfolding reaches
 reaches_is e l u h =
-    let p = both_are (int_lt (pos 0) (rise e)) (int_le ((low e).y *ℤ l.d) l.n && int_le u.n ((high e).y *ℤ u.d)) h in
-    let q = both_are (int_le ((low e).y *ℤ l.d) l.n) (int_le u.n ((high e).y *ℤ u.d)) p.1 in
+    let p = and_parts (int_lt (pos 0) (rise e)) (int_le ((low e).y *ℤ l.d) l.n && int_le u.n ((high e).y *ℤ u.d)) h in
+    let q = and_parts (int_le ((low e).y *ℤ l.d) l.n) (int_le u.n ((high e).y *ℤ u.d)) p.1 in
     let p0 = p.0 in let q0 = q.0 in let q1 = q.1 in
     record { rises = omega (arith, ints); from = omega (arith, ints); to = omega (arith, ints) }
 

@@ -8,8 +8,7 @@ ghost use Rattle.slice_slab.specs.Bundles.{reaches, reaching, edge_at};
 ghost use Rattle.slice_slab.specs.Passages.{numbers_of, IsPassageOf};
 
 use crate::passage::Passage;
-use scad_geom::line::{high, low, rise, run, x_at};
-use scad_geom::wide::times;
+use scad_geom::line::{ends_from, rise, run, starts_by, x_at};
 use scad_geom::{Edge, LeafEdge, Level};
 use std::alloc::{AllocError, Global};
 
@@ -74,20 +73,4 @@ fn reaches(e: &Edge, lower: &Level, upper: &Level) -> bool
     ensures rises { result ≡ true → pos 0 <ℤ rise e.now }
 {
     rise(e) > 0 && (starts_by(e, lower) && ends_from(e, upper))
-}
-
-fn starts_by(e: &Edge, lower: &Level) -> bool
-    requires edge { IsEdgeWithin coordinate_limit e.now }
-    requires lower { IsLevelWithin coordinate_limit lower.now }
-    ensures { result ≡ int_le ((low e.now).y *ℤ lower.now.d) lower.now.n }
-{
-    times::<21, 44>(low(e).y as i128, lower.d) <= lower.n
-}
-
-fn ends_from(e: &Edge, upper: &Level) -> bool
-    requires edge { IsEdgeWithin coordinate_limit e.now }
-    requires upper { IsLevelWithin coordinate_limit upper.now }
-    ensures { result ≡ int_le upper.now.n ((high e.now).y *ℤ upper.now.d) }
-{
-    upper.n <= times::<21, 44>(high(e).y as i128, upper.d)
 }

@@ -1,25 +1,21 @@
 -- Two pieces along one edge that don't overlap, one ending where the other starts, go on in one direction.
-use Rattle.std.proofs.Common.{◌≡◌, ℕ, ◌<◌, inl, inr, Bool, true, false, refl, sym, ◌∙◌, arith, subst}
+use Rattle.std.proofs.Common.{◌≡◌, ℕ, ◌<◌, inl, inr, Bool, true, false, refl, sym, arith, subst}
 use lib.IntN.{ℤ, pos, ◌+ℤ◌, ◌-ℤ◌, ◌*ℤ◌}
-use lib.Signed.{◌<ℤ◌, ◌≤ℤ◌}
-use Rattle.std.specs.Prelude.{◌&&◌, [], ◌∷◌}
-use Rattle.std.specs.Ordering.{int_eq}
-use Rattle.std.specs.Cmp.{signed_Decides}
+use lib.Signed.{◌<ℤ◌}
+use Rattle.std.specs.Prelude.{[], ◌∷◌}
 use Rattle.std.proofs.lemmas.Int.{ints, by_lt_z}
 use Rattle.scad_base.proofs.Integers.{gap_of_less, less_of_gap}
-use Rattle.scad_geom.specs.declared.point.Edge.{Edge}
 use Rattle.scad_geom.specs.declared.level.Level.{Level}
 use Rattle.scad_geom.specs.Point.{Point, is_same_point}
 use Rattle.scad_geom.specs.Level.{IsLower, IsAtMost}
 use Rattle.scad_geom.proofs.Heights.{lower_then_at_most, at_most_then_lower, lower_weak}
+use Rattle.scad_geom.proofs.Points.{same_height, same_across}
 use Rattle.scad_geom.proofs.Ring.{ring, ◌⊕◌, ◌⊖◌, ◌⊗◌, v0, v1, v2, v3}
-use Rattle.scad_geom.proofs.Signs.{pos_mul}
+use Rattle.scad_base.proofs.Products.{positive_product}
 use Rattle.slice_snap.specs.declared.piece.Spot.{Spot}
-use Rattle.slice_snap.specs.declared.piece.Piece.{Piece}
-use Rattle.slice_snap.specs.Spots.{point_of, is_same_spot, IsSpotWithin}
+use Rattle.slice_snap.specs.Spots.{point_of, IsSpotWithin}
 use Rattle.slice_snap.specs.Inside.{IsBetween, IsInside}
-use Rattle.slice_snap.specs.Pieces.{IsPieceWithin}
-use Rattle.slice_snap.specs.Naming.{IsOnLine, LiesAlong, HasLength, AreApart, PiecesGoOn}
+use Rattle.slice_snap.specs.Naming.{IsOnLine, PiecesGoOn}
 use Rattle.slice_snap.proofs.OneLine.{mean, mean_on, side_rising, same_rising, all_level, side_flat, same_flat, by_rise}
 
 -- ---- between two numbers lies the one whose numerator and divisor are the sums of theirs
@@ -131,25 +127,11 @@ module _ (On : Point → Type 0) (k : Point → ℤ)
         (λ o. absurd (differ (is_same_point a m) (same a m oa om (one_height (along a) (along m) o ma)) u)))
 
 -- ---- of pieces
-first_true : (a b : Bool) → (a && b) ≡ true → a ≡ true
-first_true true b h = refl
-first_true false b h = cc
-
-second_true : (a b : Bool) → (a && b) ≡ true → b ≡ true
-second_true true b h = h
-second_true false b h = cc
-
-same_height : (p q : Point) → is_same_point p q ≡ true → p.y *ℤ q.d ≡ q.y *ℤ p.d
-same_height p q h = (signed_Decides (p.y *ℤ q.d) (q.y *ℤ p.d)).0 (first_true (int_eq (p.y *ℤ q.d) (q.y *ℤ p.d)) (int_eq (p.x *ℤ q.d) (q.x *ℤ p.d)) h)
-
-same_across : (p q : Point) → is_same_point p q ≡ true → p.x *ℤ q.d ≡ q.x *ℤ p.d
-same_across p q h = (signed_Decides (p.x *ℤ q.d) (q.x *ℤ p.d)).0 (second_true (int_eq (p.y *ℤ q.d) (q.y *ℤ p.d)) (int_eq (p.x *ℤ q.d) (q.x *ℤ p.d)) h)
-
 above_zero : (n : ℕ) → 0 < n → pos 0 <ℤ pos n
 above_zero n h = omega (arith, ints)
 
 divisor : (limit : ℕ) (s : Spot) → IsSpotWithin limit s → pos 0 <ℤ (point_of s).d
-divisor limit s w = pos_mul s.at.d (pos s.run) w.level.positive (above_zero s.run w.positive)
+divisor limit s w = positive_product s.at.d (pos s.run) w.level.positive (above_zero s.run w.positive)
 
 pub pieces_go_on : PiecesGoOn
 pieces_go_on limit e q r wq wr lq lr hq hr apart joint =

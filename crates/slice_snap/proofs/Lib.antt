@@ -2,4 +2,18 @@ pub mod OneLine
 pub mod GoingOn
 pub mod Ends
 pub mod Ways
+pub mod SameSpots
+pub mod Opposite
+pub mod Rounded
+pub mod Joined
+pub mod Stuck
+pub mod Pairs
+pub mod Balanced
+pub mod Counts
+pub mod OneLeft
+pub mod SamePieces
+pub mod Courses
+pub mod TwoPairs
+pub mod OneMerging
+pub mod WholeLevels
 mod Examples

@@ -2,3 +2,8 @@ pub mod Spots
 pub mod Inside
 pub mod Pieces
 pub mod Naming
+pub mod Merging
+pub mod Rounding
+pub mod Cancelling
+pub mod Joining
+pub mod Laws

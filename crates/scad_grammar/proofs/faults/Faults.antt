@@ -1,5 +1,6 @@
 -- The reader's answer is the one that the grammar judges.
-use Rattle.std.proofs.Common.{◌≡◌, ℕ, ◌<◌, ◌≤◌, Bool, true, false, if◌then◌else◌, List, [], ◌∷◌, ◌++◌, Option, Some, None, Result, Ok, Err, refl, ap, sym, ◌∙◌, subst}
+use Rattle.std.proofs.Common.{◌≡◌, ℕ, ◌<◌, ◌≤◌, Bool, true, false, if◌then◌else◌, List, [], ◌∷◌, ◌++◌, Option, Some}
+use Rattle.std.proofs.Common.{None, Result, Ok, Err, refl, ap, sym, ◌∙◌, subst, arith}
 use Rattle.std.specs.Prelude.{nat_lt}
 use Rattle.std.proofs.lemmas.List.{append-nil}
 use Rattle.std.proofs.lemmas.Bool.{lt-ltb, le-ltb, ltb-true, ltb-false, false≢true}
@@ -9,14 +10,19 @@ use Rattle.scad_ast.specs.Tree.{Items}
 use Rattle.scad_grammar.specs.Statements.{Derives, Begins}
 use Rattle.scad_grammar.specs.State.{State, open_count}
 use Rattle.scad_grammar.specs.Move.{Move, go, left_out, stuck}
-use Rattle.scad_grammar.specs.Machine.{step, finish, start, reach, run, Refusal, syntax_at, nesting_at, most_open, judge_move, judge_end, outcome}
+use Rattle.scad_grammar.specs.Machine.{step, finish, start, reach, run, Refusal, syntax_at, nesting_at, most_open}
+use Rattle.scad_grammar.specs.Machine.{judge_move, judge_end, outcome}
 use Rattle.scad_grammar.specs.LeftOut.{IsLeftOut}
-use Rattle.scad_grammar.specs.Judged.{Opens, MayStand, Judged, is_program, ends_early, is_left_out, is_misplaced, is_nested, stands}
+use Rattle.scad_grammar.specs.Nesting.{Opens}
+use Rattle.scad_grammar.specs.Judged.{MayStand, Judged, is_program, ends_early, is_left_out, is_misplaced, is_nested}
+use Rattle.scad_grammar.specs.Judged.{stands}
 use Rattle.scad_grammar.proofs.reader.Runs.{follow, by_move}
 use Rattle.scad_grammar.proofs.reader.Asked.{same_some, none_is_no_some}
 use Rattle.scad_grammar.proofs.reader.Statements.{runs_program}
 use Rattle.scad_grammar.proofs.reader.Sound.{sound_finish, into_program}
-use Rattle.scad_grammar.proofs.reader.Prefix.{reach_by, by_reach, reached_goes, reached_begins, goes_next, stuck_begins_nothing}
+use Rattle.scad_grammar.proofs.reader.Prefix.{reach_by, by_reach, reached_goes, reached_begins, goes_next}
+use Rattle.scad_grammar.proofs.reader.Prefix.{stuck_begins_nothing}
+use Rattle.scad_grammar.proofs.nesting.Open.{counts_what_is_open}
 use Rattle.scad_grammar.proofs.faults.Leaves.{leaves}
 use Rattle.scad_grammar.proofs.faults.Forms.{left_is, left_step}
 
@@ -86,10 +92,12 @@ at_count : (before ts : List Token) (t : Token) (s next : State) (end : Place) �
     Judged before (t ∷ ts) end (outcome_by (if b then Err (nesting_at t.at) else Ok next) ts end)
 unfolding outcome_by
 at_count before ts t s next end h e j true c =
-    is_nested (open_count next) (may_stand before t s next h e) (next, goes_next before t s next h e, refl)
+    is_nested (open_count next) (may_stand before t s next h e)
+    (counts_what_is_open (before ++ (t ∷ [])) next (goes_next before t s next h e))
     (ltb-true most_open (open_count next) c)
 at_count before ts t s next end h e j false c =
-    stands (open_count next) (may_stand before t s next h e) (next, goes_next before t s next h e, refl)
+    stands (open_count next) (may_stand before t s next h e)
+    (counts_what_is_open (before ++ (t ∷ [])) next (goes_next before t s next h e))
     (ltb-false most_open (open_count next) c) j
 
 at_token : (before ts : List Token) (t : Token) (s : State) (end : Place) → reach start before ≡ Some s →
@@ -130,9 +138,17 @@ may_go before t s h may (go next) e = record { next = next; is = e }
 may_go before t s h may (left_out w) e = absurd (may.not_left_out w (left_is before t s w h e))
 may_go before t s h may stuck e = absurd (stuck_begins_nothing before t s stuck h e refl may.begins)
 
+-- one count is that of all
+pub opens_once : (ts : List Token) (n m : ℕ) → Opens ts n → Opens ts m → n ≡ m
+opens_once ts n m o p =
+    let h = p.most n o.some in
+    let g = o.most m p.some in
+    omega (arith, h, g)
+
 count_is : (before : List Token) (t : Token) (next : State) (n : ℕ) → reach start (before ++ (t ∷ [])) ≡ Some next →
     Opens (before ++ (t ∷ [])) n → n ≡ open_count next
-count_is before t next n r o = sym o.2 ∙ ap open_count (same_some o.0 next (sym o.1 ∙ r))
+count_is before t next n r o =
+    opens_once (before ++ (t ∷ [])) n (open_count next) o (counts_what_is_open (before ++ (t ∷ [])) next r)
 
 misplaced : (before ts : List Token) (t : Token) (s : State) (end : Place) → reach start before ≡ Some s →
     ((w : List ℕ) → IsLeftOut before t w → ⊥) → (Begins (before ++ (t ∷ [])) → ⊥) → (m : Move) → step s t ≡ m →

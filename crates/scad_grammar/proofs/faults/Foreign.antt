@@ -2,16 +2,26 @@
 use Rattle.std.proofs.Common.{◌≡◌, ℕ, Bool, false, List, Option, Some, None, refl, ap, ◌∙◌}
 use Rattle.scad_fault.specs.declared.place.Place.{Place}
 use Rattle.scad_lex.specs.declared.token.Token.{Token}
-use Rattle.scad_lex.specs.declared.token.Sign.TheVariants.{CloseRound, CloseSquare, OpenCurly, Semicolon, Comma, Colon, Question, Assign, Bang, Caret, Hash, Dot}
+use Rattle.scad_lex.specs.declared.token.Sign.TheVariants.{CloseRound, CloseSquare, OpenCurly, Semicolon, Comma}
+use Rattle.scad_lex.specs.declared.token.Sign.TheVariants.{Colon, Question, Assign, Bang, Caret, Hash, Dot}
 use Rattle.scad_lex.specs.declared.token.Key.TheVariants.{Function, Else, Echo, Include, Use}
 use Rattle.scad_ast.specs.declared.operator.BinOp.{BinOp}
-use Rattle.scad_ast.specs.Tree.{Expression, unary, binary, choose, Arguments, Elements, Element, item, each, for_each, for_loop, if_element, if_else, Parameter}
+use Rattle.scad_ast.specs.Tree.{Expression, unary, binary, choose, Arguments, Elements, Element, item, each, for_each}
+use Rattle.scad_ast.specs.Tree.{for_loop, if_element, if_else, Parameter}
 use Rattle.scad_grammar.specs.Tokens.{sign, key, is_sign, is_key, operator}
 use Rattle.scad_grammar.specs.Lists.{with_argument, with_element, with_parameter, let_of}
-use Rattle.scad_grammar.specs.Behind.{keyed_tree, a_module, a_function, BehindParameters, defined, BehindOperand, prefixed, first_of, right_of, tested, BehindExpression, in_round, in_index, chosen, other, body_of, argument_of, plain_item, range_second, range_third, loop_test, element_test, default_of, assigned_to, function_body, statement_test, BehindElement, in_vector, each_of, for_of, loop_of, let_body, held_element, other_element, BehindArguments, of_call, of_keyed, of_for, of_steps, of_let, of_statement}
+use Rattle.scad_grammar.specs.Behind.{keyed_tree, a_module, a_function, BehindParameters, defined, BehindOperand}
+use Rattle.scad_grammar.specs.Behind.{prefixed, first_of, right_of, tested, BehindExpression, in_round, in_index}
+use Rattle.scad_grammar.specs.Behind.{chosen, other, body_of, argument_of, plain_item, range_second, range_third}
+use Rattle.scad_grammar.specs.Behind.{loop_test, element_test, default_of, assigned_to, function_body, statement_test}
+use Rattle.scad_grammar.specs.Behind.{BehindElement, in_vector, each_of, for_of, loop_of, let_body, held_element}
+use Rattle.scad_grammar.specs.Behind.{other_element, BehindArguments, of_call, of_keyed, of_for, of_steps, of_let}
+use Rattle.scad_grammar.specs.Behind.{of_statement}
 use Rattle.scad_grammar.specs.State.{State}
 use Rattle.scad_grammar.specs.Move.{Move, stuck}
-use Rattle.scad_grammar.specs.Steps.{only, end_arguments, after_argument_step, end_parameters, after_parameter_step, after_one_step, member_step, after_element, after_expression, tested_step, link_step, after_operand}
+use Rattle.scad_grammar.specs.Steps.{only, end_arguments, after_argument_step, end_parameters, after_parameter_step}
+use Rattle.scad_grammar.specs.Steps.{after_one_step, member_step, after_element, after_expression, tested_step}
+use Rattle.scad_grammar.specs.Steps.{link_step, after_operand}
 use Rattle.scad_grammar.proofs.reader.Runs.{passed}
 
 -- tokens that neither go on with an expression nor end one

@@ -11,9 +11,14 @@ use Rattle.scad_grammar.specs.State.{State}
 use Rattle.scad_grammar.specs.Move.{Move, go, left_out, stuck}
 use Rattle.scad_grammar.specs.Machine.{step, start, reach}
 use Rattle.scad_grammar.proofs.reader.Asked.{none_is_no_some}
-use Rattle.scad_grammar.proofs.reader.Prefix.{reach_by, reached_begins, begins_reached, reached_next, goes_next, stuck_begins_nothing}
-use Rattle.scad_grammar.proofs.faults.Leaves.{Form, form_include, form_use, form_mark, form_operator, form_function, no_stuck, left_form}
-use Rattle.scad_grammar.proofs.faults.Standins.{Pair, pair_include, pair_use, pair_mark, pair_operator, left_part, told, told_only, paired, paired_function}
+use Rattle.scad_grammar.proofs.reader.Prefix.{reach_by, reached_begins, begins_reached, reached_next, goes_next}
+use Rattle.scad_grammar.proofs.reader.Prefix.{stuck_begins_nothing}
+use Rattle.scad_grammar.proofs.faults.Leaves.{Form, form_include, form_use, form_mark, form_operator, form_function}
+use Rattle.scad_grammar.proofs.faults.Leaves.{no_stuck}
+use Rattle.scad_grammar.proofs.faults.LeavesStatements.{left_form}
+use Rattle.scad_grammar.proofs.faults.Pairs.{Pair, pair_include, pair_use, pair_mark, pair_operator, left_part}
+use Rattle.scad_grammar.proofs.faults.Pairs.{told, told_only}
+use Rattle.scad_grammar.proofs.faults.Standins.{paired, paired_function}
 
 record Goes (m : Move) : Type 0 where
   next : State

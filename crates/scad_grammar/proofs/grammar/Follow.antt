@@ -1,14 +1,17 @@
 -- What may stand behind a part of an expression, and that none of it goes on with the part.
-use Rattle.std.proofs.Common.{◌≡◌, ℕ, suc, ◌<◌, ◌≤◌, ◌==◌, Bool, true, false, if◌then◌else◌, List, [], ◌∷◌, Option, Some, None, refl, ap, arith}
+use Rattle.std.proofs.Common.{◌≡◌, ℕ, suc, ◌<◌, ◌≤◌, ◌==◌, Bool, true, false, if◌then◌else◌, List, [], ◌∷◌, Option}
+use Rattle.std.proofs.Common.{Some, None, refl, ap, arith}
 use Rattle.std.proofs.lemmas.Bool.{eqb-true, false≢true, false_from_ne_true}
 use Rattle.scad_fault.specs.declared.place.Place.{Place}
 use Rattle.scad_lex.specs.declared.token.Token.{Token}
 use Rattle.scad_lex.specs.declared.token.TokenKind.{TokenKind}
 use Rattle.scad_lex.specs.declared.token.TokenKind.TheVariants.{Number, Str, Word, Sign, Key}
-use Rattle.scad_lex.specs.declared.token.Sign.TheVariants.{OpenRound, CloseRound, OpenSquare, CloseSquare, Semicolon, Comma, Colon, Question, Assign, Caret, Dot}
+use Rattle.scad_lex.specs.declared.token.Sign.TheVariants.{OpenRound, CloseRound, OpenSquare, CloseSquare, Semicolon}
+use Rattle.scad_lex.specs.declared.token.Sign.TheVariants.{Comma, Colon, Question, Assign, Caret, Dot}
 use Rattle.scad_lex.specs.declared.token.Key.TheVariants.{Else}
 use Rattle.scad_ast.specs.declared.operator.BinOp.{BinOp}
-use Rattle.scad_grammar.specs.Tokens.{sign, is_sign_kind, operator_sign, line_of, on_line, operator_kind, operator, first_operator, begins_with}
+use Rattle.scad_grammar.specs.Tokens.{sign, is_sign_kind, operator_sign, line_of, on_line, operator_kind, operator}
+use Rattle.scad_grammar.specs.Tokens.{first_operator, begins_with}
 use Rattle.scad_grammar.specs.Grammar.{ends_arguments_kind, at_end_of_arguments}
 use Rattle.scad_grammar.proofs.reader.Asked.{none_is_no_some}
 
@@ -157,9 +160,8 @@ other_line_kind n m op (Str chars) lt h = refl
 other_line_kind n m op (Word w) lt h = refl
 other_line_kind n m op (Key k) lt h = refl
 
--- what may stand behind an operand of the lines up to one: what stands behind an expression, `?`, an operator
--- of that line or of a
--- looser one
+-- what may stand behind an operand of the lines up to one: what stands behind an expression, `?`, an operator of that
+-- line or of a looser one
 pub data Follows : ℕ → List Token → Type 0 where
   by_closing : {n : ℕ} {t : Token} {ts : List Token} → closing_kind t.kind ≡ true → Follows n (t ∷ ts)
   by_question : {n : ℕ} {at : Place} {ts : List Token} → Follows n (sign Question at ∷ ts)

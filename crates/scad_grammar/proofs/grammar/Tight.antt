@@ -11,7 +11,10 @@ use Rattle.scad_grammar.specs.Grammar
 use Rattle.scad_grammar.specs.Statements
 use Rattle.scad_grammar.specs.Plain
 use Rattle.scad_grammar.specs.Grammar.{at_end_of_arguments, begins_named}
-use Rattle.scad_grammar.proofs.grammar.Follow.{closes, ending_closes, closes_no_question, closes_no_assign, operator_is_no_assign, Follows, by_question, by_operator, follows_closing, looser, follows_no_operator, follows_no_square, follows_no_dot, follows_no_caret, follows_no_round}
+use Rattle.scad_grammar.proofs.grammar.Follow.{closes, ending_closes, closes_no_question, closes_no_assign}
+use Rattle.scad_grammar.proofs.grammar.Follow.{operator_is_no_assign, Follows, by_question, by_operator}
+use Rattle.scad_grammar.proofs.grammar.Follow.{follows_closing, looser, follows_no_operator, follows_no_square}
+use Rattle.scad_grammar.proofs.grammar.Follow.{follows_no_dot, follows_no_caret, follows_no_round}
 
 -- an expression that begins with WORD `=` ends behind that WORD
 named_prim : {ts us : List Token} {e : Expression} → Plain.Prim ts us e → begins_named ts ≡ true →

@@ -6,7 +6,9 @@ use Rattle.scad_lex.specs.declared.token.TokenKind.{TokenKind}
 use Rattle.scad_lex.specs.declared.token.Key.{Key as KeyName}
 use Rattle.scad_lex.specs.declared.token.Key.TheVariants.{Else}
 use Rattle.scad_ast.specs.declared.operator.UnOp.TheVariants.{Not, Plus as UnaryPlus, Minus as UnaryMinus}
-use Rattle.scad_ast.specs.Tree.{Expression, vector, range, stepped, unary, binary, choose, index, member, call, let_in, assert_in, echo_in, Arguments, no_arguments, argument, Elements, no_elements, element, Element, item, each, for_each, for_loop, let_element, if_element, if_else}
+use Rattle.scad_ast.specs.Tree.{Expression, vector, range, stepped, unary, binary, choose, index, member, call}
+use Rattle.scad_ast.specs.Tree.{let_in, assert_in, echo_in, Arguments, no_arguments, argument, Elements, no_elements}
+use Rattle.scad_ast.specs.Tree.{element, Element, item, each, for_each, for_loop, let_element, if_element, if_else}
 use Rattle.scad_grammar.specs.Tokens.{begins_with_key}
 use Rattle.scad_grammar.specs.Lists.{with_argument, with_element}
 use Rattle.scad_grammar.specs.Plain

@@ -4,7 +4,8 @@ use Rattle.scad_lex.specs.declared.token.Token.{Token}
 use Rattle.scad_ast.specs.Tree.{Expression, Parameter, Items, no_items, entry, Item}
 use Rattle.scad_grammar.specs.Lists.{with_parameter, with_item, Marks}
 use Rattle.scad_grammar.specs.Plain
-use Rattle.scad_grammar.specs.PrintedItems.{IsPrintableDefault, ArePrintableParameters, ArePrintableItems, IsPrintableItem}
+use Rattle.scad_grammar.specs.PrintedItems.{IsPrintableDefault, ArePrintableParameters, ArePrintableItems}
+use Rattle.scad_grammar.specs.PrintedItems.{IsPrintableItem}
 use Rattle.scad_grammar.proofs.printing.Printables.{printable, printable_args}
 
 with_printable_parameter : (a : List Parameter) (w : List ℕ) (d : Option Expression) → ArePrintableParameters a

@@ -4,11 +4,13 @@ use Rattle.std.proofs.lemmas.Bool.{false≢true}
 use Rattle.scad_fault.specs.declared.place.Place.{Place}
 use Rattle.scad_lex.specs.declared.token.Token.{Token}
 use Rattle.scad_lex.specs.declared.token.Key.TheVariants.{Else}
-use Rattle.scad_ast.specs.Tree.{Expression, Arguments, no_arguments, argument, Elements, no_elements, element, Element}
+use Rattle.scad_ast.specs.Tree.{Expression, Arguments, no_arguments, argument, Elements, no_elements, element}
+use Rattle.scad_ast.specs.Tree.{Element}
 use Rattle.scad_grammar.specs.Tokens.{begins_with_key}
 use Rattle.scad_grammar.specs.Lists.{with_argument, with_element}
 use Rattle.scad_grammar.specs.Plain
-use Rattle.scad_grammar.specs.Printed.{is_item, takes_else, IsPrintable, ArePrintable, ArePrintableElements, IsPrintableElement}
+use Rattle.scad_grammar.specs.Printed.{is_item, takes_else, IsPrintable, ArePrintable, ArePrintableElements}
+use Rattle.scad_grammar.specs.Printed.{IsPrintableElement}
 
 with_printable : (a : Arguments) (w : Option (List ℕ)) (e : Expression) → ArePrintable a → IsPrintable e →
     ArePrintable (with_argument a w e)

@@ -1,15 +1,18 @@
 -- The text of a program is the spelling of its printed tokens.
-use Rattle.std.proofs.Common.{◌≡◌, ℕ, Bool, true, false, if◌then◌else◌, List, [], ◌∷◌, Option, Some, None, refl, sym, subst, codes}
+use Rattle.std.proofs.Common.{◌≡◌, ℕ, Bool, true, false, if◌then◌else◌, List, [], ◌∷◌, Option, Some, None, refl, sym}
+use Rattle.std.proofs.Common.{subst, codes}
 use Rattle.std.specs.Str.{bytes_eq}
 use Rattle.std.proofs.lemmas.Slice.Eq.{bytes_eq-Decides}
 use Rattle.scad_lex.specs.declared.token.Token.{Token}
 use Rattle.scad_lex.specs.declared.token.Sign.TheVariants.{OpenCurly, CloseCurly, Semicolon, Assign, Percent, Hash}
 use Rattle.scad_lex.specs.declared.token.Key.TheVariants.{Module, Function, If, Else, For, Let, Assert, Echo}
-use Rattle.scad_ast.specs.Tree.{Expression, Parameter, Items, no_items, entry, Item, assignment, module_of, function_of, call_of, choice}
+use Rattle.scad_ast.specs.Tree.{Expression, Parameter, Items, no_items, entry, Item, assignment, module_of}
+use Rattle.scad_ast.specs.Tree.{function_of, call_of, choice}
 use Rattle.scad_ast.specs.Text.{spaced, default_text, parameters_text, body, otherwise, items_text, item_text}
 use Rattle.scad_grammar.specs.Tokens.{sign, key, word}
 use Rattle.scad_grammar.specs.Printed.{nowhere}
-use Rattle.scad_grammar.specs.PrintedItems.{callee_token, mark_onto, default_onto, parameters_onto, body_onto, otherwise_onto, items_onto, item_onto}
+use Rattle.scad_grammar.specs.PrintedItems.{callee_token, mark_onto, default_onto, parameters_onto, body_onto}
+use Rattle.scad_grammar.specs.PrintedItems.{otherwise_onto, items_onto, item_onto}
 use Rattle.scad_grammar.proofs.printing.Texts.{Spells, Prints, none, one, ◌before◌, a_sign, a_key, round, whole}
 use Rattle.scad_grammar.proofs.printing.PrintedTexts.{a_word, comma_prints, expression_prints, arguments_print}
 

@@ -1,16 +1,23 @@
 -- The text of an expression is the spelling of its printed tokens.
 use Rattle.std.proofs.Common.{ℕ, Bool, true, false, List, ◌∷◌, Option, Some, None}
 use Rattle.scad_lex.specs.declared.token.Token.{Token}
-use Rattle.scad_lex.specs.declared.token.Sign.TheVariants.{OpenRound, CloseRound, OpenSquare, CloseSquare, Semicolon, Comma, Colon, Question, Assign, Dot}
+use Rattle.scad_lex.specs.declared.token.Sign.TheVariants.{OpenRound, CloseRound, OpenSquare, CloseSquare, Semicolon}
+use Rattle.scad_lex.specs.declared.token.Sign.TheVariants.{Comma, Colon, Question, Assign, Dot}
 use Rattle.scad_lex.specs.declared.token.Key.TheVariants.{If, Else, For, Let, Assert, Echo, Each, True, False, Undef}
 use Rattle.scad_ast.specs.declared.operator.UnOp.{UnOp}
 use Rattle.scad_ast.specs.declared.operator.UnOp.TheVariants.{Not, Plus as UnaryPlus, Minus as UnaryMinus}
 use Rattle.scad_ast.specs.declared.operator.BinOp.{BinOp}
-use Rattle.scad_ast.specs.declared.operator.BinOp.TheVariants.{Or, And, Eq, Ne, Lt, Le, Gt, Ge, Add, Sub, Mul, Div, Rem}
-use Rattle.scad_ast.specs.Tree.{Expression, undef, boolean, number, string, name, vector, range, stepped, unary, binary, choose, index, member, call, let_in, assert_in, echo_in, Arguments, no_arguments, argument, Elements, no_elements, element, Element, item, each, for_each, for_loop, let_element, if_element, if_else}
-use Rattle.scad_ast.specs.Text.{spaced, prefix_text, operator_text, enclosed, separator, argument_name, expression_text, arguments_text, elements_text, element_text}
+use Rattle.scad_ast.specs.declared.operator.BinOp.TheVariants.{Or, And, Eq, Ne, Lt, Le, Gt, Ge, Add, Sub, Mul, Div}
+use Rattle.scad_ast.specs.declared.operator.BinOp.TheVariants.{Rem}
+use Rattle.scad_ast.specs.Tree.{Expression, undef, boolean, number, string, name, vector, range, stepped, unary}
+use Rattle.scad_ast.specs.Tree.{binary, choose, index, member, call, let_in, assert_in, echo_in, Arguments}
+use Rattle.scad_ast.specs.Tree.{no_arguments, argument, Elements, no_elements, element, Element, item, each, for_each}
+use Rattle.scad_ast.specs.Tree.{for_loop, let_element, if_element, if_else}
+use Rattle.scad_ast.specs.Text.{spaced, prefix_text, operator_text, enclosed, separator, argument_name}
+use Rattle.scad_ast.specs.Text.{expression_text, arguments_text, elements_text, element_text, stands_alone}
 use Rattle.scad_grammar.specs.Tokens.{word, numeral, quoted}
-use Rattle.scad_grammar.specs.Printed.{nowhere, prefix_token, operator_token, is_alone, enclosed_onto, named_onto, comma_onto, expression_onto, arguments_onto, elements_onto, element_onto}
+use Rattle.scad_grammar.specs.Printed.{nowhere, prefix_token, operator_token, enclosed_onto, named_onto, comma_onto}
+use Rattle.scad_grammar.specs.Printed.{expression_onto, arguments_onto, elements_onto, element_onto}
 use Rattle.scad_grammar.proofs.printing.Texts.{Prints, none, one, ◌before◌, a_sign, a_key, round}
 
 pub a_word : (w : List ℕ) → Prints (spaced w) (λ us. word w nowhere ∷ us)
@@ -46,7 +53,7 @@ name_prints (Some w) = a_word w before a_sign Assign
 
 -- an operand, alone or in parentheses
 operand_prints : (e : Expression) {text : List ℕ} {f : List Token → List Token} → Prints text f →
-    Prints (enclosed e text) (enclosed_onto (is_alone e) f)
+    Prints (enclosed e text) (enclosed_onto (stands_alone e) f)
 operand_prints (undef at) p = p
 operand_prints (boolean at b) p = p
 operand_prints (number at z) p = p

@@ -1,79 +1,25 @@
 -- The tokens of a printed expression derive it again, its places aside.
-use Rattle.std.proofs.Common.{◌≡◌, ℕ, zero, suc, Bool, true, false, List, ◌∷◌, Option, Some, None, refl, ap, sym, ◌∙◌, subst}
+use Rattle.std.proofs.Common.{◌≡◌, ℕ, Bool, true, false, List, ◌∷◌, Option, Some, None, refl, ap, sym, ◌∙◌}
+use Rattle.std.proofs.Common.{subst}
 use Rattle.std.proofs.lemmas.Bool.{false≢true}
 use Rattle.scad_lex.specs.declared.token.Token.{Token}
-use Rattle.scad_lex.specs.declared.token.Sign.TheVariants.{CloseRound, OpenSquare, CloseSquare, Semicolon, Colon, Question, Dot}
+use Rattle.scad_lex.specs.declared.token.Sign.TheVariants.{CloseRound, OpenSquare, CloseSquare, Semicolon, Colon}
+use Rattle.scad_lex.specs.declared.token.Sign.TheVariants.{Question, Dot}
 use Rattle.scad_lex.specs.declared.token.Key.TheVariants.{Else}
 use Rattle.scad_ast.specs.declared.operator.UnOp.TheVariants.{Not, Plus as UnaryPlus, Minus as UnaryMinus}
-use Rattle.scad_ast.specs.declared.operator.BinOp.{BinOp}
-use Rattle.scad_ast.specs.declared.operator.BinOp.TheVariants.{Or, And, Eq, Ne, Lt, Le, Gt, Ge, Add, Sub, Mul, Div, Rem}
-use Rattle.scad_ast.specs.Tree.{Expression, undef, boolean, number, string, name, vector, range, stepped, unary, binary, choose, index, member, call, let_in, assert_in, echo_in, Arguments, no_arguments, argument, Elements, no_elements, element, Element, item, each, for_each, for_loop, let_element, if_element, if_else}
+use Rattle.scad_ast.specs.Tree.{Expression, undef, boolean, number, string, name, vector, range, stepped, unary}
+use Rattle.scad_ast.specs.Tree.{binary, choose, index, member, call, let_in, assert_in, echo_in, Arguments}
+use Rattle.scad_ast.specs.Tree.{no_arguments, argument, Elements, no_elements, element, Element, item, each, for_each}
+use Rattle.scad_ast.specs.Tree.{for_loop, let_element, if_element, if_else}
 use Rattle.scad_grammar.specs.Tokens.{sign, key, word, begins_with_key}
 use Rattle.scad_grammar.specs.Lists.{with_argument, with_element}
 use Rattle.scad_grammar.specs.Plain
-use Rattle.scad_grammar.specs.Printed.{nowhere, operator_token, is_alone, enclosed_onto, expression_onto, arguments_onto, elements_onto, element_onto, unplaced, unplaced_arguments, unplaced_elements, unplaced_element, is_item, takes_else, IsPrintable, ArePrintable, ArePrintableElements, IsPrintableElement}
-
--- a `prim` and its posts
-pub record Posted (ts us : List Token) (e : Expression) : Type 0 where
-  pub mid : List Token
-  pub head : Expression
-  pub prim : Plain.Prim ts mid head
-  pub posts : Plain.Posts head mid us e
-
-posts_then : {a b e : Expression} {ts us vs : List Token} → Plain.Posts a ts us b → Plain.Posts b us vs e →
-    Plain.Posts a ts vs e
-posts_then Plain.no_post m = m
-posts_then (Plain.an_index d l) m = Plain.an_index d (posts_then l m)
-posts_then (Plain.a_member l) m = Plain.a_member (posts_then l m)
-
-unary_of : {ts us : List Token} {e : Expression} → Posted ts us e → Plain.Unary ts us e
-unary_of p = Plain.post p.prim p.posts
-
-raise : {n : ℕ} {ts us : List Token} {e : Expression} → Plain.Operand n ts us e → Plain.Operand (suc n) ts us e
-raise d = Plain.line d Plain.no_link
-
-up : (n : ℕ) {ts us : List Token} {e : Expression} → Plain.Unary ts us e → Plain.Operand n ts us e
-up zero d = Plain.tightest d
-up (suc n) d = raise (up n d)
-
-of_operand : {ts us : List Token} {e : Expression} → Plain.Operand 6 ts us e → Plain.Expr ts us e
-of_operand d = Plain.test d Plain.no_choice
-
-of_unary : {ts us : List Token} {e : Expression} → Plain.Unary ts us e → Plain.Expr ts us e
-of_unary d = of_operand (up 6 d)
-
--- an operator between two operands
-linked : {ts us vs : List Token} {a b : Expression} (n : ℕ) (op : BinOp) → Posted ts (operator_token op ∷ us) a
-    → Posted us vs b →
-    Plain.Links n a (operator_token op ∷ us) vs (binary nowhere op a b) →
-    Plain.Operand (suc n) ts vs (binary nowhere op a b)
-linked n op p q l = Plain.line (up n (unary_of p)) l
-
-binary_of : (op : BinOp) {ts us vs : List Token} {a b : Expression} → Posted ts (operator_token op ∷ us) a →
-    Posted us vs b →
-    Plain.Expr ts vs (binary nowhere op a b)
-binary_of Or p q = of_operand (linked 5 Or p q (Plain.link refl (up 5 (unary_of q)) Plain.no_link))
-binary_of And p q = of_operand (raise (linked 4 And p q (Plain.link refl (up 4 (unary_of q)) Plain.no_link)))
-binary_of Eq p q = of_operand (raise (raise (linked 3 Eq p q (Plain.link refl (up 3 (unary_of q)) Plain.no_link))))
-binary_of Ne p q = of_operand (raise (raise (linked 3 Ne p q (Plain.link refl (up 3 (unary_of q)) Plain.no_link))))
-binary_of Lt p q = of_operand
-    (raise (raise (raise (linked 2 Lt p q (Plain.link refl (up 2 (unary_of q)) Plain.no_link)))))
-binary_of Le p q = of_operand
-    (raise (raise (raise (linked 2 Le p q (Plain.link refl (up 2 (unary_of q)) Plain.no_link)))))
-binary_of Gt p q = of_operand
-    (raise (raise (raise (linked 2 Gt p q (Plain.link refl (up 2 (unary_of q)) Plain.no_link)))))
-binary_of Ge p q = of_operand
-    (raise (raise (raise (linked 2 Ge p q (Plain.link refl (up 2 (unary_of q)) Plain.no_link)))))
-binary_of Add p q = of_operand
-    (raise (raise (raise (raise (linked 1 Add p q (Plain.link refl (up 1 (unary_of q)) Plain.no_link))))))
-binary_of Sub p q = of_operand
-    (raise (raise (raise (raise (linked 1 Sub p q (Plain.link refl (up 1 (unary_of q)) Plain.no_link))))))
-binary_of Mul p q = of_operand
-    (raise (raise (raise (raise (raise (linked 0 Mul p q (Plain.link refl (up 0 (unary_of q)) Plain.no_link)))))))
-binary_of Div p q = of_operand
-    (raise (raise (raise (raise (raise (linked 0 Div p q (Plain.link refl (up 0 (unary_of q)) Plain.no_link)))))))
-binary_of Rem p q = of_operand
-    (raise (raise (raise (raise (raise (linked 0 Rem p q (Plain.link refl (up 0 (unary_of q)) Plain.no_link)))))))
+use Rattle.scad_ast.specs.Text.{stands_alone}
+use Rattle.scad_grammar.specs.Printed.{nowhere, operator_token, enclosed_onto, expression_onto, arguments_onto}
+use Rattle.scad_grammar.specs.Printed.{elements_onto, element_onto, unplaced, unplaced_arguments, unplaced_elements}
+use Rattle.scad_grammar.specs.Printed.{unplaced_element, is_item, takes_else, IsPrintable, ArePrintable}
+use Rattle.scad_grammar.specs.Printed.{ArePrintableElements, IsPrintableElement}
+use Rattle.scad_grammar.proofs.printing.Posted.{Posted, posts_then, unary_of, up, of_unary, binary_of}
 
 -- a printed expression as a whole, and as an operand
 pub record Printed (alone : Bool) (text : List Token → List Token) (e : Expression) : Type 0 where
@@ -224,7 +170,7 @@ comp_of h (Plain.comp d) = d
 comp_of h (Plain.plain d) = absurd (false≢true (sym h))
 
 mutual
-  pub printed : (e : Expression) → IsPrintable e → Printed (is_alone e) (expression_onto e) (unplaced e)
+  pub printed : (e : Expression) → IsPrintable e → Printed (stands_alone e) (expression_onto e) (unplaced e)
   printed (undef at) h = printed_prim (λ us. Plain.an_undef)
   printed (boolean at true) h = printed_prim (λ us. Plain.a_true)
   printed (boolean at false) h = printed_prim (λ us. Plain.a_false)
@@ -255,7 +201,7 @@ mutual
   printed (binary at op a b) h =
       let p = printed a h.0 in let q = printed b h.1 in
       printed_group (λ us. binary_of op
-      (p.operand (operator_token op ∷ enclosed_onto (is_alone b) (expression_onto b) us)) (q.operand us))
+      (p.operand (operator_token op ∷ enclosed_onto (stands_alone b) (expression_onto b) us)) (q.operand us))
   printed (choose at a b c) h =
       let p = printed a h.0 in let q = printed b h.1 in let r = printed c h.2 in
       printed_group (λ us. Plain.test

@@ -1,5 +1,6 @@
 -- The tokens of printed items derive them again, their places aside.
-use Rattle.std.proofs.Common.{◌≡◌, ℕ, Bool, true, false, if◌then◌else◌, List, [], ◌∷◌, ◌++◌, Option, Some, None, option_map, map, refl, ap, sym, subst, codes}
+use Rattle.std.proofs.Common.{◌≡◌, ℕ, Bool, true, false, if◌then◌else◌, List, [], ◌∷◌, ◌++◌, Option, Some, None}
+use Rattle.std.proofs.Common.{option_map, map, refl, ap, sym, subst, codes}
 use Rattle.std.specs.Str.{bytes_eq}
 use Rattle.std.proofs.lemmas.Slice.Eq.{bytes_eq-Decides}
 use Rattle.std.proofs.lemmas.List.{append-nil}
@@ -7,13 +8,18 @@ use Rattle.scad_fault.specs.declared.place.Place.{Place}
 use Rattle.scad_lex.specs.declared.token.Token.{Token}
 use Rattle.scad_lex.specs.declared.token.Sign.TheVariants.{CloseRound, CloseCurly, Semicolon, Assign, Percent, Hash}
 use Rattle.scad_lex.specs.declared.token.Key.TheVariants.{Else, For, Let, Assert, Echo}
-use Rattle.scad_ast.specs.Tree.{Expression, Arguments, Parameter, Items, no_items, entry, Item, assignment, module_of, function_of, call_of, choice}
+use Rattle.scad_ast.specs.Tree.{Expression, Arguments, Parameter, Items, no_items, entry, Item, assignment, module_of}
+use Rattle.scad_ast.specs.Tree.{function_of, call_of, choice}
 use Rattle.scad_grammar.specs.Tokens.{sign, key, word, begins_with_key}
 use Rattle.scad_grammar.specs.Lists.{with_item, with_parameter, Marks, no_marks}
 use Rattle.scad_grammar.specs.Statements.{Callee, call_word, call_for, call_let, call_echo, call_assert}
 use Rattle.scad_grammar.specs.Plain
-use Rattle.scad_grammar.specs.Printed.{nowhere, expression_onto, unplaced, unplaced_arguments, IsPrintable, ArePrintable}
-use Rattle.scad_grammar.specs.PrintedItems.{callee_token, mark_onto, default_onto, parameters_onto, body_onto, otherwise_onto, items_onto, item_onto, unplaced_parameter, unplaced_items, unplaced_item, IsPrintableDefault, ArePrintableParameters, ArePrintableItems, IsPrintableItem}
+use Rattle.scad_grammar.specs.Printed.{nowhere, expression_onto, unplaced, unplaced_arguments, IsPrintable}
+use Rattle.scad_grammar.specs.Printed.{ArePrintable}
+use Rattle.scad_grammar.specs.PrintedItems.{callee_token, mark_onto, default_onto, parameters_onto, body_onto}
+use Rattle.scad_grammar.specs.PrintedItems.{otherwise_onto, items_onto, item_onto, unplaced_parameter, unplaced_items}
+use Rattle.scad_grammar.specs.PrintedItems.{unplaced_item, IsPrintableDefault, ArePrintableParameters}
+use Rattle.scad_grammar.specs.PrintedItems.{ArePrintableItems, IsPrintableItem}
 use Rattle.scad_grammar.proofs.printing.Printing.{printed, printed_arguments, args_of}
 
 -- the name that is called

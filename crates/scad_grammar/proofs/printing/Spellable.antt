@@ -4,17 +4,22 @@ use Rattle.scad_fault.specs.declared.place.Place.{Place}
 use Rattle.scad_lex.specs.declared.token.Token.{Token}
 use Rattle.scad_lex.specs.declared.token.TokenKind.TheVariants.{Word}
 use Rattle.scad_lex.specs.declared.token.Sign.{Sign as SignName}
-use Rattle.scad_lex.specs.declared.token.Sign.TheVariants.{OpenRound, CloseRound, OpenSquare, CloseSquare, Semicolon, Comma, Colon, Question, Assign, Plus, Minus, Bang, Dot}
+use Rattle.scad_lex.specs.declared.token.Sign.TheVariants.{OpenRound, CloseRound, OpenSquare, CloseSquare, Semicolon}
+use Rattle.scad_lex.specs.declared.token.Sign.TheVariants.{Comma, Colon, Question, Assign, Plus, Minus, Bang, Dot}
 use Rattle.scad_lex.specs.declared.token.Key.{Key as KeyName}
 use Rattle.scad_lex.specs.declared.token.Key.TheVariants.{If, Else, For, Let, Assert, Echo, Each, True, False, Undef}
 use Rattle.scad_lex.specs.Spelling.{CanBeSpelled, HaveSpellings}
 use Rattle.scad_ast.specs.declared.operator.BinOp.{BinOp}
-use Rattle.scad_ast.specs.declared.operator.BinOp.TheVariants.{Or, And, Eq, Ne, Lt, Le, Gt, Ge, Add, Sub, Mul, Div, Rem}
-use Rattle.scad_ast.specs.Tree.{Expression, Arguments, no_arguments, argument, Elements, no_elements, element, Element}
+use Rattle.scad_ast.specs.declared.operator.BinOp.TheVariants.{Or, And, Eq, Ne, Lt, Le, Gt, Ge, Add, Sub, Mul, Div}
+use Rattle.scad_ast.specs.declared.operator.BinOp.TheVariants.{Rem}
+use Rattle.scad_ast.specs.Tree.{Expression, Arguments, no_arguments, argument, Elements, no_elements, element}
+use Rattle.scad_ast.specs.Tree.{Element}
 use Rattle.scad_grammar.specs.Tokens.{sign, key, word, numeral, quoted}
 use Rattle.scad_grammar.specs.Lists.{with_argument, with_element}
 use Rattle.scad_grammar.specs.Plain
-use Rattle.scad_grammar.specs.Printed.{nowhere, operator_token, is_alone, enclosed_onto, in_round_onto, named_onto, comma_onto, expression_onto, arguments_onto, elements_onto, element_onto}
+use Rattle.scad_ast.specs.Text.{stands_alone}
+use Rattle.scad_grammar.specs.Printed.{nowhere, operator_token, enclosed_onto, in_round_onto, named_onto, comma_onto}
+use Rattle.scad_grammar.specs.Printed.{expression_onto, arguments_onto, elements_onto, element_onto}
 
 -- tokens before others that can be spelled, so that all can
 pub record Spellable (onto : List Token → List Token) : Type 0 where
@@ -123,7 +128,7 @@ mutual
   choice Plain.no_choice c h = (c, h)
   choice (Plain.choice {a = a} d e) c h =
       let p = expr d h.1 in let q = expr e p.1.1 in
-      (operand (is_alone a) c before a_sign Question before p.0 before a_sign Colon before q.0, q.1)
+      (operand (stands_alone a) c before a_sign Question before p.0 before a_sign Colon before q.0, q.1)
 
   operand_of : {n : ℕ} {ts us : List Token} {e : Expression} → Plain.Operand n ts us e → HaveSpellings ts →
       Spellable (expression_onto e) × HaveSpellings us
@@ -136,16 +141,16 @@ mutual
   links Plain.no_link c h = (c, h)
   links (Plain.link {op = op} {a = a} {b = b} o d l) c h =
       let p = operand_of d h.1 in links l
-      (operand (is_alone a) c before operator op before operand (is_alone b) p.0) p.1
+      (operand (stands_alone a) c before operator op before operand (stands_alone b) p.0) p.1
 
   unary_of : {ts us : List Token} {e : Expression} → Plain.Unary ts us e → HaveSpellings ts →
       Spellable (expression_onto e) × HaveSpellings us
   unary_of (Plain.not_unary {e = e} d) h = let p =
-      unary_of d h.1 in (a_sign Bang before operand (is_alone e) p.0, p.1)
+      unary_of d h.1 in (a_sign Bang before operand (stands_alone e) p.0, p.1)
   unary_of (Plain.plus_unary {e = e} d) h = let p =
-      unary_of d h.1 in (a_sign Plus before operand (is_alone e) p.0, p.1)
+      unary_of d h.1 in (a_sign Plus before operand (stands_alone e) p.0, p.1)
   unary_of (Plain.minus_unary {e = e} d) h = let p =
-      unary_of d h.1 in (a_sign Minus before operand (is_alone e) p.0, p.1)
+      unary_of d h.1 in (a_sign Minus before operand (stands_alone e) p.0, p.1)
   unary_of (Plain.post d l) h = let p = prim d h in posts l p.0 p.1
 
   posts : {ts us : List Token} {a e : Expression} → Plain.Posts a ts us e → Spellable (expression_onto a) →
@@ -154,9 +159,9 @@ mutual
   posts Plain.no_post c h = (c, h)
   posts (Plain.an_index {a = a} d l) c h =
       let p = expr d h.1 in
-      posts l (operand (is_alone a) c before a_sign OpenSquare before p.0 before a_sign CloseSquare) p.1.1
+      posts l (operand (stands_alone a) c before a_sign OpenSquare before p.0 before a_sign CloseSquare) p.1.1
   posts (Plain.a_member {w = w} {a = a} l) c h =
-      posts l (operand (is_alone a) c before a_sign Dot before a_word w h.1.0) h.1.1
+      posts l (operand (stands_alone a) c before a_sign Dot before a_word w h.1.0) h.1.1
 
   prim : {ts us : List Token} {e : Expression} → Plain.Prim ts us e → HaveSpellings ts →
       Spellable (expression_onto e) × HaveSpellings us

@@ -7,14 +7,17 @@ use Rattle.scad_lex.specs.declared.token.Sign.{Sign as SignName}
 use Rattle.scad_lex.specs.declared.token.Sign.TheVariants.{OpenCurly, CloseCurly, Semicolon, Assign, Percent, Hash}
 use Rattle.scad_lex.specs.declared.token.Key.TheVariants.{Module, Function, If, Else, For, Let, Assert, Echo}
 use Rattle.scad_lex.specs.Spelling.{CanBeSpelled, HaveSpellings}
-use Rattle.scad_ast.specs.Tree.{Expression, Parameter, Items, no_items, entry, Item, assignment, module_of, function_of, call_of, choice}
+use Rattle.scad_ast.specs.Tree.{Expression, Parameter, Items, no_items, entry, Item, assignment, module_of}
+use Rattle.scad_ast.specs.Tree.{function_of, call_of, choice}
 use Rattle.scad_grammar.specs.Tokens.{key, word}
 use Rattle.scad_grammar.specs.Lists.{with_parameter, with_item, Marks}
 use Rattle.scad_grammar.specs.Statements.{Callee, call_word, call_for, call_let, call_echo, call_assert}
 use Rattle.scad_grammar.specs.Plain
 use Rattle.scad_grammar.specs.Printed.{nowhere}
-use Rattle.scad_grammar.specs.PrintedItems.{callee_token, mark_onto, default_onto, parameters_onto, body_onto, otherwise_onto, items_onto, item_onto}
-use Rattle.scad_grammar.proofs.printing.Spellable.{Spellable, none, one, ◌before◌, a_sign, a_key, a_word, round, comma, arguments, expr, args}
+use Rattle.scad_grammar.specs.PrintedItems.{callee_token, mark_onto, default_onto, parameters_onto, body_onto}
+use Rattle.scad_grammar.specs.PrintedItems.{otherwise_onto, items_onto, item_onto}
+use Rattle.scad_grammar.proofs.printing.Spellable.{Spellable, none, one, ◌before◌, a_sign, a_key, a_word, round}
+use Rattle.scad_grammar.proofs.printing.Spellable.{comma, arguments, expr, args}
 
 -- ---- the name of a called module
 callee_if : (b : Bool) (t u : Token) → CanBeSpelled t.kind → CanBeSpelled u.kind →

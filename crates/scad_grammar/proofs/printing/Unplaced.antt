@@ -1,6 +1,10 @@
 -- A tree without its places loses nothing more with them.
 use Rattle.std.proofs.Common.{◌≡◌, List, [], ◌∷◌, Option, Some, None, option_map, map, refl}
-use Rattle.scad_ast.specs.Tree.{Expression, undef, boolean, number, string, name, vector, range, stepped, unary, binary, choose, index, member, call, let_in, assert_in, echo_in, Arguments, no_arguments, argument, Elements, no_elements, element, Element, item, each, for_each, for_loop, let_element, if_element, if_else, Parameter, Items, no_items, entry, Item, assignment, module_of, function_of, call_of, choice}
+use Rattle.scad_ast.specs.Tree.{Expression, undef, boolean, number, string, name, vector, range, stepped, unary}
+use Rattle.scad_ast.specs.Tree.{binary, choose, index, member, call, let_in, assert_in, echo_in, Arguments}
+use Rattle.scad_ast.specs.Tree.{no_arguments, argument, Elements, no_elements, element, Element, item, each, for_each}
+use Rattle.scad_ast.specs.Tree.{for_loop, let_element, if_element, if_else, Parameter, Items, no_items, entry, Item}
+use Rattle.scad_ast.specs.Tree.{assignment, module_of, function_of, call_of, choice}
 use Rattle.scad_grammar.specs.Printed.{nowhere, unplaced, unplaced_arguments, unplaced_elements, unplaced_element}
 use Rattle.scad_grammar.specs.PrintedItems.{unplaced_parameter, unplaced_items, unplaced_item}
 

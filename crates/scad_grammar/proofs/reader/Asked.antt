@@ -1,14 +1,21 @@
 -- A token that passes a test is the token that the test asks for.
-use Rattle.std.proofs.Common.{◌≡◌, ℕ, Bool, true, false, List, Option, Some, None, ◌==◌, if◌then◌else◌, refl, ap, sym, ◌∙◌}
+use Rattle.std.proofs.Common.{◌≡◌, ℕ, Bool, true, false, List, Option, Some, None, ◌==◌, if◌then◌else◌, refl, ap, sym}
+use Rattle.std.proofs.Common.{◌∙◌}
 use Rattle.scad_lex.specs.declared.token.Token.{Token}
 use Rattle.scad_lex.specs.declared.token.TokenKind.{TokenKind}
 use Rattle.scad_lex.specs.declared.token.TokenKind.TheVariants.{Number, Str, Word, Sign, Key}
 use Rattle.scad_lex.specs.declared.token.Sign.{Sign as SignName}
-use Rattle.scad_lex.specs.declared.token.Sign.TheVariants.{OpenRound, CloseRound, OpenSquare, CloseSquare, OpenCurly, CloseCurly, Semicolon, Comma, Colon, Question, Assign, Equal, NotEqual, Less, LessEqual, Greater, GreaterEqual, Plus, Minus, Star, Slash, Percent, Caret, Bang, AndAnd, OrOr, Hash, Dot}
+use Rattle.scad_lex.specs.declared.token.Sign.TheVariants.{OpenRound, CloseRound, OpenSquare, CloseSquare, OpenCurly}
+use Rattle.scad_lex.specs.declared.token.Sign.TheVariants.{CloseCurly, Semicolon, Comma, Colon, Question, Assign}
+use Rattle.scad_lex.specs.declared.token.Sign.TheVariants.{Equal, NotEqual, Less, LessEqual, Greater, GreaterEqual}
+use Rattle.scad_lex.specs.declared.token.Sign.TheVariants.{Plus, Minus, Star, Slash, Percent, Caret, Bang, AndAnd}
+use Rattle.scad_lex.specs.declared.token.Sign.TheVariants.{OrOr, Hash, Dot}
 use Rattle.scad_lex.specs.declared.token.Key.{Key as KeyName}
-use Rattle.scad_lex.specs.declared.token.Key.TheVariants.{Module, Function, If, Else, For, Let, Assert, Echo, Each, True, False, Undef, Include, Use}
+use Rattle.scad_lex.specs.declared.token.Key.TheVariants.{Module, Function, If, Else, For, Let, Assert, Echo, Each}
+use Rattle.scad_lex.specs.declared.token.Key.TheVariants.{True, False, Undef, Include, Use}
 use Rattle.std.proofs.lemmas.Bool.{eqb-true, false≢true}
-use Rattle.scad_grammar.specs.Tokens.{sign_number, key_number, is_sign_kind, is_key_kind, word_kind, is_sign, is_key, word_of, sign, key, word}
+use Rattle.scad_grammar.specs.Tokens.{sign_number, key_number, is_sign_kind, is_key_kind, word_kind, is_sign, is_key}
+use Rattle.scad_grammar.specs.Tokens.{word_of, sign, key, word}
 
 -- the sign, the key of a number
 abbrev sign_from : ℕ → SignName

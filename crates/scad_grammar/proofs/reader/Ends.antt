@@ -4,18 +4,32 @@ use Rattle.scad_fault.specs.declared.place.Place.{Place}
 use Rattle.scad_lex.specs.declared.token.Token.{Token}
 use Rattle.scad_lex.specs.declared.token.TokenKind.{TokenKind}
 use Rattle.scad_lex.specs.declared.token.TokenKind.TheVariants.{Number, Str, Word, Sign, Key}
-use Rattle.scad_lex.specs.declared.token.Sign.TheVariants.{CloseRound, OpenCurly, CloseCurly, Semicolon, Comma, Star, Percent, Hash, Bang}
-use Rattle.scad_lex.specs.declared.token.Key.TheVariants.{Module, Function, If, Else, For, Let, Echo, Assert, Include, Use}
+use Rattle.scad_lex.specs.declared.token.Sign.TheVariants.{CloseRound, OpenCurly, CloseCurly, Semicolon, Comma, Star}
+use Rattle.scad_lex.specs.declared.token.Sign.TheVariants.{Percent, Hash, Bang}
+use Rattle.scad_lex.specs.declared.token.Key.TheVariants.{Module, Function, If, Else, For, Let, Echo, Assert, Include}
+use Rattle.scad_lex.specs.declared.token.Key.TheVariants.{Use}
 use Rattle.scad_ast.specs.Tree.{Expression, Items, no_items, Parameter, module_of, call_of, choice}
 use Rattle.scad_grammar.specs.Tokens.{sign, key, word, word_of}
 use Rattle.scad_grammar.specs.Lists.{with_item, with_statement, Marks, no_marks, starred, percented, hashed}
 use Rattle.scad_grammar.specs.Grammar.{comma_param, last_param, no_params}
-use Rattle.scad_grammar.specs.Statements.{Callee, call_word, call_for, call_let, call_echo, call_assert, nothing, a_group, inst, a_module, a_function, no_statement, statement, star_mark, percent_mark, hash_mark, a_call, a_choice, no_otherwise, otherwise, no_child, children, one_child}
-use Rattle.scad_grammar.specs.Behind.{a_module as the_module, a_function as the_function, BehindItems, in_program, in_group, module_body, child_of, held_child, other_child, BehindParameters, defined, of_statement}
-use Rattle.scad_grammar.specs.State.{have_items, want_marked, want_choice, want_arguments, want_defined, want_statement, have_start, want_child, want_assign, in_parameters, after_parameter}
+use Rattle.scad_grammar.specs.Statements.{Callee, call_word, call_for, call_let, call_echo, call_assert, nothing}
+use Rattle.scad_grammar.specs.Statements.{a_group, inst, a_module, a_function, no_statement, statement, star_mark}
+use Rattle.scad_grammar.specs.Statements.{percent_mark, hash_mark, a_call, a_choice, no_otherwise, otherwise}
+use Rattle.scad_grammar.specs.Statements.{no_child, children, one_child}
+use Rattle.scad_grammar.specs.Behind.{a_module as the_module, a_function as the_function, BehindItems, in_program}
+use Rattle.scad_grammar.specs.Behind.{in_group, module_body, child_of, held_child, other_child, BehindParameters}
+use Rattle.scad_grammar.specs.Behind.{defined, of_statement}
+use Rattle.scad_grammar.specs.State.{have_items, want_marked, want_choice, want_arguments, want_defined}
+use Rattle.scad_grammar.specs.State.{want_statement, have_start, want_child, want_assign, in_parameters}
+use Rattle.scad_grammar.specs.State.{after_parameter}
 use Rattle.scad_grammar.specs.Steps.{end_parameters, after_parameter_step}
-use Rattle.scad_grammar.specs.StatementSteps.{callee, callee_kind, call_step, marked_step, first_step, definition_step, start_step, statement_step, child_step, after_items}
-use Rattle.scad_grammar.proofs.reader.Goes.{Goes, has_items, wants_marked, wants_choice, wants_arguments, wants_defined, wants_parameters, wants_statement, has_start, wants_child, wants_assign, is_in_parameters, is_after_parameter, ItemsGoes, goes_program, goes_group, goes_module, goes_child, goes_held, goes_other, ParametersGoes, goes_defined, goes_function, goes_choice, goes_statement}
+use Rattle.scad_grammar.specs.StatementSteps.{callee, callee_kind, call_step, marked_step, first_step}
+use Rattle.scad_grammar.specs.StatementSteps.{definition_step, start_step, statement_step, child_step, after_items}
+use Rattle.scad_grammar.proofs.reader.Goes.{Goes, has_items, wants_marked, wants_choice, wants_arguments}
+use Rattle.scad_grammar.proofs.reader.Goes.{wants_defined, wants_parameters, wants_statement, has_start, wants_child}
+use Rattle.scad_grammar.proofs.reader.Goes.{wants_assign, is_in_parameters, is_after_parameter, ItemsGoes}
+use Rattle.scad_grammar.proofs.reader.Goes.{goes_program, goes_group, goes_module, goes_child, goes_held, goes_other}
+use Rattle.scad_grammar.proofs.reader.Goes.{ParametersGoes, goes_defined, goes_function, goes_choice, goes_statement}
 use Rattle.scad_grammar.proofs.reader.Asked.{same_some, none_is_no_some}
 use Rattle.scad_grammar.proofs.reader.Tests.{MoveGoes, by_sign, by_key, by_only, by_word}
 

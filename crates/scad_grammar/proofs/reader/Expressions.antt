@@ -4,17 +4,36 @@ use Rattle.std.proofs.Common.{◌≡◌, ℕ, suc, false, List, ◌∷◌, Some,
 use Rattle.scad_fault.specs.declared.place.Place.{Place}
 use Rattle.scad_lex.specs.declared.token.Token.{Token}
 use Rattle.scad_ast.specs.declared.operator.UnOp.TheVariants.{Not, Plus as UnaryPlus, Minus as UnaryMinus}
-use Rattle.scad_ast.specs.Tree.{Expression, unary, binary, choose, let_in, assert_in, echo_in, Arguments, Elements, no_elements, Element, item, each, for_each, for_loop, let_element, if_else}
+use Rattle.scad_ast.specs.Tree.{Expression, unary, binary, choose, let_in, assert_in, echo_in, Arguments, Elements}
+use Rattle.scad_ast.specs.Tree.{no_elements, Element, item, each, for_each, for_loop, let_element, if_else}
 use Rattle.scad_lex.specs.declared.token.Sign.TheVariants.{CloseSquare, Comma}
 use Rattle.scad_grammar.specs.Tokens.{sign}
 use Rattle.scad_grammar.specs.Lists.{with_argument, with_element, let_of}
-use Rattle.scad_grammar.specs.Grammar.{Expr, let_expr, assert_expr, echo_expr, test, Choice, no_choice, choice, Operand, tightest, line, Links, no_link, link, Unary, not_unary, plus_unary, minus_unary, post, Posts, no_post, an_index, a_member, Prim, a_number, a_string, a_true, a_false, an_undef, a_name, a_call, a_group, a_range, a_vector, RangeEnd, two_parts, three_parts, Args, no_args, unnamed, named, MoreArgs, last_arg, comma_arg, Elems, no_elems, elems, MoreElems, last_elem, comma_elem, Elem, comp, plain, Comp, a_for, a_loop, an_each, let_comp, an_if, Else, no_else, an_else, begins_named}
-use Rattle.scad_grammar.specs.Behind.{letting, asserting, echoing, BehindOperand, prefixed, first_of, right_of, tested, BehindExpression, in_round, in_index, chosen, other, body_of, argument_of, plain_item, range_second, range_third, loop_test, element_test, BehindElement, in_vector, each_of, for_of, loop_of, let_body, held_element, other_element, BehindArguments, of_call, of_keyed, of_for, of_steps, of_let}
-use Rattle.scad_grammar.specs.State.{want_expression, have_expression, want_unary, want_operand, have_operand, have_post, have_links, in_arguments, after_argument, have_arguments, want_element, have_element, in_elements, after_one, have_elements}
-use Rattle.scad_grammar.specs.Steps.{prim_step, unary_step, expression_step, element_step, end_arguments, after_argument_step, arguments_step, after_one_step, member_step, after_element, after_expression, tested_step, after_operand, post_step, name_step, word_argument}
+use Rattle.scad_grammar.specs.Grammar.{Expr, let_expr, assert_expr, echo_expr, test, Choice, no_choice, choice}
+use Rattle.scad_grammar.specs.Grammar.{Operand, tightest, line, Links, no_link, link, Unary, not_unary, plus_unary}
+use Rattle.scad_grammar.specs.Grammar.{minus_unary, post, Posts, no_post, an_index, a_member, Prim, a_number}
+use Rattle.scad_grammar.specs.Grammar.{a_string, a_true, a_false, an_undef, a_name, a_call, a_group, a_range}
+use Rattle.scad_grammar.specs.Grammar.{a_vector, RangeEnd, two_parts, three_parts, Args, no_args, unnamed, named}
+use Rattle.scad_grammar.specs.Grammar.{MoreArgs, last_arg, comma_arg, Elems, no_elems, elems, MoreElems, last_elem}
+use Rattle.scad_grammar.specs.Grammar.{comma_elem, Elem, comp, plain, Comp, a_for, a_loop, an_each, let_comp, an_if}
+use Rattle.scad_grammar.specs.Grammar.{Else, no_else, an_else, begins_named}
+use Rattle.scad_grammar.specs.Behind.{letting, asserting, echoing, BehindOperand, prefixed, first_of, right_of}
+use Rattle.scad_grammar.specs.Behind.{tested, BehindExpression, in_round, in_index, chosen, other, body_of}
+use Rattle.scad_grammar.specs.Behind.{argument_of, plain_item, range_second, range_third, loop_test, element_test}
+use Rattle.scad_grammar.specs.Behind.{BehindElement, in_vector, each_of, for_of, loop_of, let_body, held_element}
+use Rattle.scad_grammar.specs.Behind.{other_element, BehindArguments, of_call, of_keyed, of_for, of_steps, of_let}
+use Rattle.scad_grammar.specs.State.{want_expression, have_expression, want_unary, want_operand, have_operand}
+use Rattle.scad_grammar.specs.State.{have_post, have_links, in_arguments, after_argument, have_arguments}
+use Rattle.scad_grammar.specs.State.{want_element, have_element, in_elements, after_one, have_elements}
+use Rattle.scad_grammar.specs.Steps.{prim_step, unary_step, expression_step, element_step, end_arguments}
+use Rattle.scad_grammar.specs.Steps.{after_argument_step, arguments_step, after_one_step, member_step, after_element}
+use Rattle.scad_grammar.specs.Steps.{after_expression, tested_step, after_operand, post_step, name_step}
+use Rattle.scad_grammar.specs.Steps.{word_argument}
 use Rattle.scad_grammar.specs.Machine.{step, finish, run}
-use Rattle.scad_grammar.proofs.reader.Runs.{settle, ended_links, linked, ended_test, ended_posts, ended_name, ended_arguments, ended_argument, ended_if}
-use Rattle.scad_grammar.proofs.reader.Openings.{operand_opening, opens_expression, opens_element, opens_elements_expr, opens_elements_elem, opens_argument}
+use Rattle.scad_grammar.proofs.reader.Runs.{settle, ended_links, linked, ended_test, ended_posts, ended_name}
+use Rattle.scad_grammar.proofs.reader.Runs.{ended_arguments, ended_argument, ended_if}
+use Rattle.scad_grammar.proofs.reader.Openings.{operand_opening, opens_expression, opens_element, opens_elements_expr}
+use Rattle.scad_grammar.proofs.reader.Openings.{opens_elements_elem, opens_argument}
 
 else_let : {p : Place} {e : Expression} {held el : Element} {ts us : List Token} → Else p e held ts us el →
     (at : Place) (all : Arguments) → let_of at all el ≡ let_element at all el

@@ -2,16 +2,33 @@
 use Rattle.std.proofs.Common.{ℕ, Bool, true, List, [], ◌∷◌, Option, Some}
 use Rattle.scad_fault.specs.declared.place.Place.{Place}
 use Rattle.scad_lex.specs.declared.token.Token.{Token}
-use Rattle.scad_lex.specs.declared.token.Sign.TheVariants.{OpenRound, CloseRound, CloseSquare, CloseCurly, Semicolon, Comma, Colon, Assign}
+use Rattle.scad_lex.specs.declared.token.Sign.TheVariants.{OpenRound, CloseRound, CloseSquare, CloseCurly, Semicolon}
+use Rattle.scad_lex.specs.declared.token.Sign.TheVariants.{Comma, Colon, Assign}
 use Rattle.scad_ast.specs.declared.operator.UnOp.{UnOp}
 use Rattle.scad_ast.specs.declared.operator.BinOp.{BinOp}
-use Rattle.scad_ast.specs.Tree.{Expression, vector, stepped, unary, binary, choose, index, member, call, Arguments, no_arguments, Elements, no_elements, Element, item, each, for_each, for_loop, if_else, Parameter, Items, no_items, assignment, module_of, function_of, call_of, choice}
+use Rattle.scad_ast.specs.Tree.{Expression, vector, stepped, unary, binary, choose, index, member, call, Arguments}
+use Rattle.scad_ast.specs.Tree.{no_arguments, Elements, no_elements, Element, item, each, for_each, for_loop, if_else}
+use Rattle.scad_ast.specs.Tree.{Parameter, Items, no_items, assignment, module_of, function_of, call_of, choice}
 use Rattle.scad_grammar.specs.Tokens.{sign, word}
-use Rattle.scad_grammar.specs.Lists.{with_argument, with_element, with_parameter, with_item, let_of, Marks, with_statement}
-use Rattle.scad_grammar.specs.Grammar.{Expr, Choice, Operand, Links, Unary, Posts, RangeEnd, Args, MoreArgs, Elems, MoreElems, Elem, Else, Default, Params, MoreParams}
+use Rattle.scad_grammar.specs.Lists.{with_argument, with_element, with_parameter, with_item, let_of, Marks}
+use Rattle.scad_grammar.specs.Lists.{with_statement}
+use Rattle.scad_grammar.specs.Grammar.{Expr, Choice, Operand, Links, Unary, Posts, RangeEnd, Args, MoreArgs, Elems}
+use Rattle.scad_grammar.specs.Grammar.{MoreElems, Elem, Else, Default, Params, MoreParams}
 use Rattle.scad_grammar.specs.Statements.{Statement, Statements, Inst, Otherwise, Child}
-use Rattle.scad_grammar.specs.Behind.{Keyed, keyed_tree, Defined, a_module, a_function, BehindItems, in_program, in_group, module_body, child_of, held_child, other_child, BehindParameters, defined, BehindOperand, prefixed, first_of, right_of, tested, BehindExpression, in_round, in_index, chosen, other, body_of, argument_of, plain_item, range_second, range_third, loop_test, element_test, default_of, assigned_to, function_body, statement_test, BehindElement, in_vector, each_of, for_of, loop_of, let_body, held_element, other_element, BehindArguments, of_call, of_keyed, of_for, of_steps, of_let, of_statement}
-use Rattle.scad_grammar.specs.State.{State, want_expression, have_expression, want_unary, have_operand, have_name, have_post, want_member, have_links, want_arguments, in_arguments, have_word, after_argument, have_arguments, want_element, have_element, want_test, in_elements, after_one, have_elements, want_statement, have_items, have_start, want_marked, want_choice, want_child, want_defined, want_parameters, in_parameters, have_parameter, after_parameter, have_parameters, want_assign}
+use Rattle.scad_grammar.specs.Behind.{Keyed, keyed_tree, Defined, a_module, a_function, BehindItems, in_program}
+use Rattle.scad_grammar.specs.Behind.{in_group, module_body, child_of, held_child, other_child, BehindParameters}
+use Rattle.scad_grammar.specs.Behind.{defined, BehindOperand, prefixed, first_of, right_of, tested, BehindExpression}
+use Rattle.scad_grammar.specs.Behind.{in_round, in_index, chosen, other, body_of, argument_of, plain_item}
+use Rattle.scad_grammar.specs.Behind.{range_second, range_third, loop_test, element_test, default_of, assigned_to}
+use Rattle.scad_grammar.specs.Behind.{function_body, statement_test, BehindElement, in_vector, each_of, for_of}
+use Rattle.scad_grammar.specs.Behind.{loop_of, let_body, held_element, other_element, BehindArguments, of_call}
+use Rattle.scad_grammar.specs.Behind.{of_keyed, of_for, of_steps, of_let, of_statement}
+use Rattle.scad_grammar.specs.State.{State, want_expression, have_expression, want_unary, have_operand, have_name}
+use Rattle.scad_grammar.specs.State.{have_post, want_member, have_links, want_arguments, in_arguments, have_word}
+use Rattle.scad_grammar.specs.State.{after_argument, have_arguments, want_element, have_element, want_test}
+use Rattle.scad_grammar.specs.State.{in_elements, after_one, have_elements, want_statement, have_items, have_start}
+use Rattle.scad_grammar.specs.State.{want_marked, want_choice, want_child, want_defined, want_parameters}
+use Rattle.scad_grammar.specs.State.{in_parameters, have_parameter, after_parameter, have_parameters, want_assign}
 
 -- behind a statement
 pub data ItemsGoes : Items → BehindItems → List Token → Items → Type 0 where

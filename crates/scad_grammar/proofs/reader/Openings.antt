@@ -6,8 +6,12 @@ use Rattle.scad_lex.specs.declared.token.Sign.TheVariants.{OpenRound, OpenSquare
 use Rattle.scad_lex.specs.declared.token.Key.TheVariants.{True, False, Undef}
 use Rattle.scad_ast.specs.Tree.{Expression, Arguments, Elements, Element}
 use Rattle.scad_grammar.specs.Tokens.{sign, key, word, numeral, quoted}
-use Rattle.scad_grammar.specs.Grammar.{begins_named, Expr, let_expr, assert_expr, echo_expr, test, Operand, tightest, line, Unary, not_unary, plus_unary, minus_unary, post, Prim, a_number, a_string, a_true, a_false, an_undef, a_name, a_call, a_group, a_range, a_vector, Elem, comp, plain, Comp, a_for, a_loop, an_each, let_comp, an_if}
-use Rattle.scad_grammar.specs.Behind.{BehindOperand, tested, BehindExpression, argument_of, plain_item, in_vector, BehindArguments, BehindElement}
+use Rattle.scad_grammar.specs.Grammar.{begins_named, Expr, let_expr, assert_expr, echo_expr, test, Operand, tightest}
+use Rattle.scad_grammar.specs.Grammar.{line, Unary, not_unary, plus_unary, minus_unary, post, Prim, a_number}
+use Rattle.scad_grammar.specs.Grammar.{a_string, a_true, a_false, an_undef, a_name, a_call, a_group, a_range}
+use Rattle.scad_grammar.specs.Grammar.{a_vector, Elem, comp, plain, Comp, a_for, a_loop, an_each, let_comp, an_if}
+use Rattle.scad_grammar.specs.Behind.{BehindOperand, tested, BehindExpression, argument_of, plain_item, in_vector}
+use Rattle.scad_grammar.specs.Behind.{BehindArguments, BehindElement}
 use Rattle.scad_grammar.specs.State.{want_expression, want_unary, opened, in_arguments, want_element, in_elements}
 use Rattle.scad_grammar.specs.Steps.{prim_step, unary_step, expression_step, element_step, arguments_step}
 use Rattle.scad_grammar.specs.Machine.{step, run}

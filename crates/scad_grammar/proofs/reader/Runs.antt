@@ -1,5 +1,6 @@
 -- Runs from states at which each token does the same, and where a part that could go on has ended.
-use Rattle.std.proofs.Common.{◌≡◌, ℕ, suc, Bool, true, false, List, [], ◌∷◌, Option, Some, None, refl, ap, ◌∙◌, sym, if◌then◌else◌}
+use Rattle.std.proofs.Common.{◌≡◌, ℕ, suc, Bool, true, false, List, [], ◌∷◌, Option, Some, None, refl, ap, ◌∙◌, sym}
+use Rattle.std.proofs.Common.{if◌then◌else◌}
 use Rattle.scad_fault.specs.declared.place.Place.{Place}
 use Rattle.scad_lex.specs.declared.token.Token.{Token}
 use Rattle.scad_lex.specs.declared.token.Sign.TheVariants.{OpenRound, OpenSquare, Question, Assign, Caret, Dot}
@@ -13,11 +14,15 @@ use Rattle.scad_lex.specs.declared.token.Sign.TheVariants.{CloseRound, Semicolon
 use Rattle.scad_ast.specs.declared.operator.BinOp.{BinOp}
 use Rattle.scad_grammar.specs.Tokens.{is_sign_kind, operator}
 use Rattle.scad_grammar.specs.Grammar.{at_end_of_arguments, ends_arguments_kind}
-use Rattle.scad_grammar.specs.Behind.{BehindOperand, right_of, tested, BehindExpression, argument_of, BehindArguments, BehindElement, held_element, BehindParameters}
+use Rattle.scad_grammar.specs.Behind.{BehindOperand, right_of, tested, BehindExpression, argument_of, BehindArguments}
+use Rattle.scad_grammar.specs.Behind.{BehindElement, held_element, BehindParameters}
 use Rattle.scad_ast.specs.Tree.{Items}
 use Rattle.scad_grammar.specs.Move.{Move, go, left_out, stuck}
-use Rattle.scad_grammar.specs.State.{State, want_operand, have_operand, have_expression, have_name, have_post, have_links, have_word, opened, in_arguments, have_arguments, after_argument, have_element, have_parameter, after_parameter}
-use Rattle.scad_grammar.specs.Steps.{link_step, name_step, word_argument, post_step, after_operand, tested_step, arguments_step, after_argument_step, after_element}
+use Rattle.scad_grammar.specs.State.{State, want_operand, have_operand, have_expression, have_name, have_post}
+use Rattle.scad_grammar.specs.State.{have_links, have_word, opened, in_arguments, have_arguments, after_argument}
+use Rattle.scad_grammar.specs.State.{have_element, have_parameter, after_parameter}
+use Rattle.scad_grammar.specs.Steps.{link_step, name_step, word_argument, post_step, after_operand, tested_step}
+use Rattle.scad_grammar.specs.Steps.{arguments_step, after_argument_step, after_element}
 use Rattle.scad_grammar.specs.Machine.{step, finish, run}
 
 -- what a run gives behind a move
@@ -107,7 +112,7 @@ unfolding run step finish arguments_step
 ended_arguments all k [] h = refl
 ended_arguments all k (t ∷ ts) h = same_step (in_arguments all k) (have_arguments all k) t ts (taken _ _ h)
 
-ending_is_no_comma : (kind : TokenKind) → ends_arguments_kind kind ≡ true → is_sign_kind Comma kind ≡ false
+pub ending_is_no_comma : (kind : TokenKind) → ends_arguments_kind kind ≡ true → is_sign_kind Comma kind ≡ false
 ending_is_no_comma (Sign CloseRound) h = refl
 ending_is_no_comma (Sign Semicolon) h = refl
 ending_is_no_comma (Sign Comma) h = sym h

@@ -2,14 +2,26 @@
 use Rattle.std.proofs.Common.{◌≡◌, ℕ, zero, suc, pos, false, List, [], ◌∷◌, Some, refl}
 use Rattle.scad_fault.specs.declared.place.Place.{Place}
 use Rattle.scad_lex.specs.declared.token.Token.{Token}
-use Rattle.scad_lex.specs.declared.token.Sign.TheVariants.{OpenRound, CloseRound, CloseSquare, CloseCurly, Semicolon, Colon, Question, Assign}
+use Rattle.scad_lex.specs.declared.token.Sign.TheVariants.{OpenRound, CloseRound, CloseSquare, CloseCurly, Semicolon}
+use Rattle.scad_lex.specs.declared.token.Sign.TheVariants.{Colon, Question, Assign}
 use Rattle.scad_lex.specs.declared.token.Key.TheVariants.{Else}
-use Rattle.scad_ast.specs.Tree.{Expression, number, vector, range, stepped, unary, binary, choose, index, call, Arguments, no_arguments, Element, item, each, for_each, for_loop, if_else, Parameter, Items, no_items, assignment, module_of, function_of, call_of, choice}
+use Rattle.scad_ast.specs.Tree.{Expression, number, vector, range, stepped, unary, binary, choose, index, call}
+use Rattle.scad_ast.specs.Tree.{Arguments, no_arguments, Element, item, each, for_each, for_loop, if_else, Parameter}
+use Rattle.scad_ast.specs.Tree.{Items, no_items, assignment, module_of, function_of, call_of, choice}
 use Rattle.scad_grammar.specs.Tokens.{sign, key, numeral, begins_with}
 use Rattle.scad_grammar.specs.Lists.{with_argument, with_element, with_parameter, with_item, let_of, with_statement}
-use Rattle.scad_grammar.specs.Grammar.{Expr, test, no_choice, Operand, tightest, line, Links, no_link, post, Posts, no_post, a_number, two_parts, no_args, MoreArgs, last_arg, last_elem, plain, an_else, MoreParams, last_param}
+use Rattle.scad_grammar.specs.Grammar.{Expr, test, no_choice, Operand, tightest, line, Links, no_link, post, Posts}
+use Rattle.scad_grammar.specs.Grammar.{no_post, a_number, two_parts, no_args, MoreArgs, last_arg, last_elem, plain}
+use Rattle.scad_grammar.specs.Grammar.{an_else, MoreParams, last_param}
 use Rattle.scad_grammar.specs.Statements.{nothing, no_statement, otherwise, no_child}
-use Rattle.scad_grammar.specs.Behind.{keyed_tree, a_module, a_function, BehindItems, in_program, in_group, module_body, child_of, held_child, other_child, BehindParameters, defined, BehindOperand, prefixed, first_of, right_of, tested, BehindExpression, in_round, in_index, chosen, other, body_of, argument_of, plain_item, range_second, range_third, loop_test, element_test, default_of, assigned_to, function_body, statement_test, BehindElement, in_vector, each_of, for_of, loop_of, let_body, held_element, other_element, BehindArguments, of_call, of_keyed, of_for, of_steps, of_let, of_statement}
+use Rattle.scad_grammar.specs.Behind.{keyed_tree, a_module, a_function, BehindItems, in_program, in_group}
+use Rattle.scad_grammar.specs.Behind.{module_body, child_of, held_child, other_child, BehindParameters, defined}
+use Rattle.scad_grammar.specs.Behind.{BehindOperand, prefixed, first_of, right_of, tested, BehindExpression, in_round}
+use Rattle.scad_grammar.specs.Behind.{in_index, chosen, other, body_of, argument_of, plain_item, range_second}
+use Rattle.scad_grammar.specs.Behind.{range_third, loop_test, element_test, default_of, assigned_to, function_body}
+use Rattle.scad_grammar.specs.Behind.{statement_test, BehindElement, in_vector, each_of, for_of, loop_of, let_body}
+use Rattle.scad_grammar.specs.Behind.{held_element, other_element, BehindArguments, of_call, of_keyed, of_for}
+use Rattle.scad_grammar.specs.Behind.{of_steps, of_let, of_statement}
 use Rattle.scad_grammar.proofs.reader.Goes
 
 -- some place
@@ -131,7 +143,8 @@ ParametersEnd all k = Closes (λ ts. MoreParams all ts ts all) (Goes.ParametersG
 pub end_parameters : (k : BehindParameters) (all : List Parameter) → ParametersEnd all k
 end_parameters (defined a_module at w a k) all =
     let r = end_items k (with_item a (module_of at w all no_items)) in
-    closes _ (sign CloseRound here ∷ sign Semicolon here ∷ r.ts) quiet_round last_param (Goes.goes_defined nothing r.goes)
+    closes _ (sign CloseRound here ∷ sign Semicolon here ∷ r.ts) quiet_round last_param
+    (Goes.goes_defined nothing r.goes)
 end_parameters (defined a_function at w a k) all =
     let r = end_items k (with_item a (function_of at w all zero_tree)) in
     closes _ (sign CloseRound here ∷ sign Assign here ∷ zero_token ∷ sign Semicolon here ∷ r.ts) quiet_round
@@ -190,7 +203,8 @@ mutual
       (Goes.goes_second two_parts (quiet_posts (range at a e) r.quiet) r.goes)
   end_expression (range_third at a b k) e =
       let r = end_operand k (stepped at a b e) in
-      ends _ (sign CloseSquare here ∷ r.ts) quiet_square (Goes.goes_third (quiet_posts (stepped at a b e) r.quiet) r.goes)
+      ends _ (sign CloseSquare here ∷ r.ts) quiet_square
+      (Goes.goes_third (quiet_posts (stepped at a b e) r.quiet) r.goes)
   end_expression (loop_test at all k) e =
       let r = end_element k (for_loop at all e no_arguments (item zero_tree)) in
       ends _ (sign Semicolon here ∷ sign CloseRound here ∷ zero_token ∷ r.ts) quiet_semicolon
@@ -232,7 +246,8 @@ mutual
       ends _ r.ts r.quiet (Goes.goes_let r.goes)
   end_element (held_element at e k) el =
       let r = end_element k (if_else at e el (item zero_tree)) in
-      ends _ (key Else here ∷ zero_token ∷ r.ts) quiet_else (Goes.goes_if (an_else (plain (zero_expr r.quiet))) r.goes)
+      ends _ (key Else here ∷ zero_token ∷ r.ts) quiet_else
+      (Goes.goes_if (an_else (plain (zero_expr r.quiet))) r.goes)
   end_element (other_element at e held k) el =
       let r = end_element k (if_else at e held el) in
       ends _ r.ts r.quiet (Goes.goes_else r.goes)

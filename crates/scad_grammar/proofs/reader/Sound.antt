@@ -3,24 +3,45 @@ use Rattle.std.proofs.Common.{◌≡◌, ℕ, Bool, false, List, [], ◌∷◌, 
 use Rattle.scad_fault.specs.declared.place.Place.{Place}
 use Rattle.scad_lex.specs.declared.token.Token.{Token}
 use Rattle.scad_lex.specs.declared.token.Sign.TheVariants.{OpenRound, CloseRound, CloseSquare, Assign}
-use Rattle.scad_ast.specs.Tree.{vector, no_arguments, Elements, Parameter, Items, no_items, module_of, call_of, choice}
+use Rattle.scad_ast.specs.Tree.{vector, no_arguments, Elements, Parameter, Items, no_items, module_of, call_of}
+use Rattle.scad_ast.specs.Tree.{choice}
 use Rattle.scad_grammar.specs.Tokens.{sign, word, is_sign, word_of, operator}
 use Rattle.scad_grammar.specs.Lists.{with_parameter, with_item, with_statement, Marks, no_marks}
 use Rattle.scad_grammar.specs.Grammar.{no_default, default, params}
-use Rattle.scad_grammar.specs.Statements.{call_word, assign, inst, a_call, no_statement, no_otherwise, Derives, program}
-use Rattle.scad_grammar.specs.Behind.{Defined, BehindItems, in_program, in_group, module_body, child_of, held_child, other_child, BehindParameters, BehindOperand, BehindArguments, BehindElement, element_test, default_of, assigned_to, function_body, statement_test, of_statement}
-use Rattle.scad_grammar.specs.State.{State, want_expression, have_expression, want_unary, have_operand, have_name, have_post, want_member, have_links, want_arguments, in_arguments, have_word, after_argument, have_arguments, want_element, have_element, want_test, in_elements, after_one, have_elements, want_statement, have_items, have_start, want_marked, want_choice, want_child, want_defined, want_parameters, in_parameters, have_parameter, after_parameter, have_parameters, want_assign}
+use Rattle.scad_grammar.specs.Statements.{call_word, assign, inst, a_call, no_statement, no_otherwise, Derives}
+use Rattle.scad_grammar.specs.Statements.{program}
+use Rattle.scad_grammar.specs.Behind.{Defined, BehindItems, in_program, in_group, module_body, child_of, held_child}
+use Rattle.scad_grammar.specs.Behind.{other_child, BehindParameters, BehindOperand, BehindArguments, BehindElement}
+use Rattle.scad_grammar.specs.Behind.{element_test, default_of, assigned_to, function_body, statement_test}
+use Rattle.scad_grammar.specs.Behind.{of_statement}
+use Rattle.scad_grammar.specs.State.{State, want_expression, have_expression, want_unary, have_operand, have_name}
+use Rattle.scad_grammar.specs.State.{have_post, want_member, have_links, want_arguments, in_arguments, have_word}
+use Rattle.scad_grammar.specs.State.{after_argument, have_arguments, want_element, have_element, want_test}
+use Rattle.scad_grammar.specs.State.{in_elements, after_one, have_elements, want_statement, have_items, have_start}
+use Rattle.scad_grammar.specs.State.{want_marked, want_choice, want_child, want_defined, want_parameters}
+use Rattle.scad_grammar.specs.State.{in_parameters, have_parameter, after_parameter, have_parameters, want_assign}
 use Rattle.scad_grammar.specs.Move.{Move, go, left_out, stuck}
 use Rattle.scad_grammar.specs.Steps.{after_operand}
-use Rattle.scad_grammar.specs.StatementSteps.{word_statement, defined_name, parameter_step, parameters_step, finish_items}
+use Rattle.scad_grammar.specs.StatementSteps.{word_statement, defined_name, parameter_step, parameters_step}
+use Rattle.scad_grammar.specs.StatementSteps.{finish_items}
 use Rattle.scad_grammar.specs.Machine.{step, finish, start, run}
 use Rattle.scad_grammar.proofs.reader.Runs.{follow, by_move}
-use Rattle.scad_grammar.proofs.reader.Goes.{Goes, wants_expression, has_expression, has_operand, has_post, wants_arguments, is_in_arguments, has_arguments, has_element, wants_test, has_elements, wants_statement, has_items, has_start, wants_choice, wants_defined, wants_parameters, is_in_parameters, has_parameter, is_after_parameter, has_parameters, wants_assign, ItemsGoes, goes_program, goes_module, goes_child, goes_held, goes_other, goes_default, goes_assigned, goes_result, goes_statement}
+use Rattle.scad_grammar.proofs.reader.Goes.{Goes, wants_expression, has_expression, has_operand, has_post}
+use Rattle.scad_grammar.proofs.reader.Goes.{wants_arguments, is_in_arguments, has_arguments, has_element, wants_test}
+use Rattle.scad_grammar.proofs.reader.Goes.{has_elements, wants_statement, has_items, has_start, wants_choice}
+use Rattle.scad_grammar.proofs.reader.Goes.{wants_defined, wants_parameters, is_in_parameters, has_parameter}
+use Rattle.scad_grammar.proofs.reader.Goes.{is_after_parameter, has_parameters, wants_assign, ItemsGoes, goes_program}
+use Rattle.scad_grammar.proofs.reader.Goes.{goes_module, goes_child, goes_held, goes_other, goes_default}
+use Rattle.scad_grammar.proofs.reader.Goes.{goes_assigned, goes_result, goes_statement}
 use Rattle.scad_grammar.proofs.reader.Asked.{same_some, none_is_no_some}
 use Rattle.scad_grammar.proofs.reader.Tests.{MoveGoes, by_test, by_sign, by_only, by_word}
-use Rattle.scad_grammar.proofs.reader.Ends.{by_marked, by_statement, by_child, by_items, by_end_parameters, into_parameters, by_parameter}
-use Rattle.scad_grammar.proofs.reader.Backward.{by_end_arguments, by_argument, by_one, by_element, by_expression, by_links, by_operand}
-use Rattle.scad_grammar.proofs.reader.Starts.{by_unary, by_want_expression, by_want_element, by_elements, by_post, by_name, by_word_argument, by_arguments, by_member_name}
+use Rattle.scad_grammar.proofs.reader.Ends.{by_marked, by_statement, by_child, by_items, by_end_parameters}
+use Rattle.scad_grammar.proofs.reader.Ends.{into_parameters, by_parameter}
+use Rattle.scad_grammar.proofs.reader.Backward.{by_expression}
+use Rattle.scad_grammar.proofs.reader.BackwardElements.{by_end_arguments, by_argument, by_one, by_element}
+use Rattle.scad_grammar.proofs.reader.Backward.{by_links, by_operand}
+use Rattle.scad_grammar.proofs.reader.Starts.{by_unary, by_want_expression, by_want_element, by_elements, by_post}
+use Rattle.scad_grammar.proofs.reader.Starts.{by_name, by_word_argument, by_arguments, by_member_name}
 
 from_round : {q : Place} {k : BehindArguments} {ts : List Token} {p : Items} →
     Goes (in_arguments no_arguments k) ts p → Goes (want_arguments k) (sign OpenRound q ∷ ts) p

@@ -4,21 +4,40 @@ use Rattle.scad_fault.specs.declared.place.Place.{Place}
 use Rattle.scad_lex.specs.declared.token.Token.{Token}
 use Rattle.scad_lex.specs.declared.token.TokenKind.{TokenKind}
 use Rattle.scad_lex.specs.declared.token.TokenKind.TheVariants.{Number, Str, Word, Sign, Key}
-use Rattle.scad_lex.specs.declared.token.Sign.TheVariants.{OpenRound, CloseRound, OpenSquare, CloseSquare, Assign, Plus, Minus, Caret, Bang, Dot}
-use Rattle.scad_lex.specs.declared.token.Key.TheVariants.{Function, If, For, Let, Assert, Echo, Each, True, False, Undef}
+use Rattle.scad_lex.specs.declared.token.Sign.TheVariants.{OpenRound, CloseRound, OpenSquare, CloseSquare, Assign}
+use Rattle.scad_lex.specs.declared.token.Sign.TheVariants.{Plus, Minus, Caret, Bang, Dot}
+use Rattle.scad_lex.specs.declared.token.Key.TheVariants.{Function, If, For, Let, Assert, Echo, Each, True, False}
+use Rattle.scad_lex.specs.declared.token.Key.TheVariants.{Undef}
 use Rattle.scad_ast.specs.declared.operator.UnOp.TheVariants.{Not, Plus as UnaryPlus, Minus as UnaryMinus}
-use Rattle.scad_ast.specs.Tree.{Expression, name, vector, member, Arguments, no_arguments, Elements, no_elements, Element, item, Items}
+use Rattle.scad_ast.specs.Tree.{Expression, name, vector, member, Arguments, no_arguments, Elements, no_elements}
+use Rattle.scad_ast.specs.Tree.{Element, item, Items}
 use Rattle.scad_grammar.specs.Tokens.{sign, key, word, numeral, quoted, word_of, is_sign, begins_with}
 use Rattle.scad_grammar.specs.Lists.{let_of}
-use Rattle.scad_grammar.specs.Grammar.{Expr, let_expr, assert_expr, echo_expr, test, not_unary, plus_unary, minus_unary, post, no_post, an_index, a_member, Prim, a_number, a_string, a_true, a_false, an_undef, a_name, a_call, a_group, a_range, a_vector, Args, no_args, unnamed, named, no_elems, elems, Elem, comp, plain, a_for, a_loop, an_each, let_comp, an_if, Else as ElseRest, named_by, ends_arguments, begins_named}
-use Rattle.scad_grammar.specs.Behind.{letting, asserting, echoing, BehindOperand, prefixed, tested, BehindExpression, in_round, in_index, argument_of, plain_item, BehindElement, in_vector, each_of, BehindArguments, of_call, of_keyed, of_for, of_let}
-use Rattle.scad_grammar.specs.State.{want_expression, want_unary, opened, have_name, have_post, want_member, want_arguments, in_arguments, have_word, want_element, want_test, in_elements}
+use Rattle.scad_grammar.specs.Grammar.{Expr, let_expr, assert_expr, echo_expr, test, not_unary, plus_unary}
+use Rattle.scad_grammar.specs.Grammar.{minus_unary, post, no_post, an_index, a_member, Prim, a_number, a_string}
+use Rattle.scad_grammar.specs.Grammar.{a_true, a_false, an_undef, a_name, a_call, a_group, a_range, a_vector, Args}
+use Rattle.scad_grammar.specs.Grammar.{no_args, unnamed, named, no_elems, elems, Elem, comp, plain, a_for, a_loop}
+use Rattle.scad_grammar.specs.Grammar.{an_each, let_comp, an_if, Else as ElseRest, named_by, ends_arguments}
+use Rattle.scad_grammar.specs.Grammar.{begins_named}
+use Rattle.scad_grammar.specs.Behind.{letting, asserting, echoing, BehindOperand, prefixed, tested, BehindExpression}
+use Rattle.scad_grammar.specs.Behind.{in_round, in_index, argument_of, plain_item, BehindElement, in_vector, each_of}
+use Rattle.scad_grammar.specs.Behind.{BehindArguments, of_call, of_keyed, of_for, of_let}
+use Rattle.scad_grammar.specs.State.{want_expression, want_unary, opened, have_name, have_post, want_member}
+use Rattle.scad_grammar.specs.State.{want_arguments, in_arguments, have_word, want_element, want_test, in_elements}
 use Rattle.scad_grammar.specs.Move.{go}
-use Rattle.scad_grammar.specs.Steps.{literal, literal_kind, word_step, literal_step, prim_step, unary_step, expression_step, element_step, argument_step, arguments_step, post_step, name_step, word_argument, member_name}
-use Rattle.scad_grammar.proofs.reader.Goes.{Goes, wants_expression, wants_unary, has_name, has_post, wants_member, wants_arguments, is_in_arguments, has_word, wants_element, wants_test, is_in_elements, is_in_range, OperandFrom, operand_from, goes_prefixed, goes_tested, goes_round, goes_index, goes_argument, goes_item, goes_test, ElementGoes, goes_member, goes_range, goes_each, goes_call, goes_keyed, goes_for_each, goes_for_loop, goes_let_args}
+use Rattle.scad_grammar.specs.Steps.{literal, literal_kind, word_step, literal_step, prim_step, unary_step}
+use Rattle.scad_grammar.specs.Steps.{expression_step, element_step, argument_step, arguments_step, post_step}
+use Rattle.scad_grammar.specs.Steps.{name_step, word_argument, member_name}
+use Rattle.scad_grammar.proofs.reader.Goes.{Goes, wants_expression, wants_unary, has_name, has_post, wants_member}
+use Rattle.scad_grammar.proofs.reader.Goes.{wants_arguments, is_in_arguments, has_word, wants_element, wants_test}
+use Rattle.scad_grammar.proofs.reader.Goes.{is_in_elements, is_in_range, OperandFrom, operand_from, goes_prefixed}
+use Rattle.scad_grammar.proofs.reader.Goes.{goes_tested, goes_round, goes_index, goes_argument, goes_item, goes_test}
+use Rattle.scad_grammar.proofs.reader.Goes.{ElementGoes, goes_member, goes_range, goes_each, goes_call, goes_keyed}
+use Rattle.scad_grammar.proofs.reader.Goes.{goes_for_each, goes_for_loop, goes_let_args}
 use Rattle.scad_grammar.proofs.reader.Asked.{same_some, none_is_no_some}
 use Rattle.scad_grammar.proofs.reader.Tests.{MoveGoes, by_test, by_sign, by_key, by_word}
-use Rattle.scad_grammar.proofs.reader.Backward.{opened_from, by_operand, by_end_arguments}
+use Rattle.scad_grammar.proofs.reader.Backward.{opened_from, by_operand}
+use Rattle.scad_grammar.proofs.reader.BackwardElements.{by_end_arguments}
 use Rattle.scad_grammar.proofs.reader.Expressions.{comp_let}
 
 -- NUMBER, STRING, "true", "false", "undef"

@@ -7,12 +7,21 @@ use Rattle.scad_lex.specs.declared.token.Key.TheVariants.{Else}
 use Rattle.scad_ast.specs.Tree.{Expression, Parameter, Items, no_items, module_of, call_of, choice}
 use Rattle.scad_grammar.specs.Tokens.{sign, begins_with_key}
 use Rattle.scad_grammar.specs.Lists.{with_parameter, with_item, with_statement, Marks, no_marks}
-use Rattle.scad_grammar.specs.Grammar.{Default, no_default, default, Params, no_params, params, MoreParams, last_param, comma_param}
-use Rattle.scad_grammar.specs.Statements.{Callee, call_word, call_for, call_let, call_echo, call_assert, Statement, nothing, a_group, assign, a_module, a_function, inst, Statements, no_statement, statement, Inst, star_mark, percent_mark, hash_mark, a_call, a_choice, Otherwise, no_otherwise, otherwise, Child, no_child, children, one_child, Derives, program}
-use Rattle.scad_grammar.specs.Behind.{a_module as the_module, a_function as the_function, BehindItems, in_program, in_group, module_body, child_of, held_child, other_child, BehindParameters, defined, default_of, assigned_to, function_body, statement_test, of_statement}
-use Rattle.scad_grammar.specs.State.{want_arguments, want_statement, have_items, want_marked, want_child, in_parameters, have_parameter, after_parameter, have_parameters, have_expression}
+use Rattle.scad_grammar.specs.Grammar.{Default, no_default, default, Params, no_params, params, MoreParams}
+use Rattle.scad_grammar.specs.Grammar.{last_param, comma_param}
+use Rattle.scad_grammar.specs.Statements.{Callee, call_word, call_for, call_let, call_echo, call_assert, Statement}
+use Rattle.scad_grammar.specs.Statements.{nothing, a_group, assign, a_module, a_function, inst, Statements}
+use Rattle.scad_grammar.specs.Statements.{no_statement, statement, Inst, star_mark, percent_mark, hash_mark, a_call}
+use Rattle.scad_grammar.specs.Statements.{a_choice, Otherwise, no_otherwise, otherwise, Child, no_child, children}
+use Rattle.scad_grammar.specs.Statements.{one_child, Derives, program}
+use Rattle.scad_grammar.specs.Behind.{a_module as the_module, a_function as the_function, BehindItems, in_program}
+use Rattle.scad_grammar.specs.Behind.{in_group, module_body, child_of, held_child, other_child, BehindParameters}
+use Rattle.scad_grammar.specs.Behind.{defined, default_of, assigned_to, function_body, statement_test, of_statement}
+use Rattle.scad_grammar.specs.State.{want_arguments, want_statement, have_items, want_marked, want_child}
+use Rattle.scad_grammar.specs.State.{in_parameters, have_parameter, after_parameter, have_parameters, have_expression}
 use Rattle.scad_grammar.specs.Steps.{end_arguments, after_expression, end_parameters, after_parameter_step}
-use Rattle.scad_grammar.specs.StatementSteps.{marked_step, first_step, definition_step, statement_step, word_statement, child_step, after_items, finish_items, parameters_step}
+use Rattle.scad_grammar.specs.StatementSteps.{marked_step, first_step, definition_step, statement_step}
+use Rattle.scad_grammar.specs.StatementSteps.{word_statement, child_step, after_items, finish_items, parameters_step}
 use Rattle.scad_grammar.specs.Machine.{step, finish, run, start}
 use Rattle.scad_grammar.proofs.reader.Runs.{settle, same_step, passed, ended_parameter}
 use Rattle.scad_grammar.proofs.reader.Expressions.{runs_expr, runs_args}

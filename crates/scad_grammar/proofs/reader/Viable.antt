@@ -2,15 +2,25 @@
 use Rattle.std.proofs.Common.{List, [], ◌∷◌, Some, None, refl}
 use Rattle.scad_lex.specs.declared.token.Token.{Token}
 use Rattle.scad_lex.specs.declared.token.Sign.TheVariants.{OpenRound, CloseRound, CloseSquare, Semicolon, Assign}
-use Rattle.scad_ast.specs.Tree.{name, vector, member, no_arguments, item, Items, no_items, assignment, function_of, call_of}
+use Rattle.scad_ast.specs.Tree.{name, vector, member, no_arguments, item, Items, no_items, assignment, function_of}
+use Rattle.scad_ast.specs.Tree.{call_of}
 use Rattle.scad_grammar.specs.Tokens.{sign, word}
 use Rattle.scad_grammar.specs.Lists.{with_argument, with_parameter, with_item, with_statement}
-use Rattle.scad_grammar.specs.Grammar.{post, a_number, a_name, no_args, named, no_elems, last_elem, plain, no_default, params}
+use Rattle.scad_grammar.specs.Grammar.{post, a_number, a_name, no_args, named, no_elems, last_elem, plain, no_default}
+use Rattle.scad_grammar.specs.Grammar.{params}
 use Rattle.scad_grammar.specs.Statements.{nothing, assign, a_call, call_word, no_child}
 use Rattle.scad_grammar.specs.Behind.{defined, element_test, statement_test}
-use Rattle.scad_grammar.specs.State.{State, want_expression, have_expression, want_unary, have_operand, have_name, have_post, want_member, have_links, want_arguments, in_arguments, have_word, after_argument, have_arguments, want_element, have_element, want_test, in_elements, after_one, have_elements, want_statement, have_items, have_start, want_marked, want_choice, want_child, want_defined, want_parameters, in_parameters, have_parameter, after_parameter, have_parameters, want_assign}
+use Rattle.scad_grammar.specs.State.{State, want_expression, have_expression, want_unary, have_operand, have_name}
+use Rattle.scad_grammar.specs.State.{have_post, want_member, have_links, want_arguments, in_arguments, have_word}
+use Rattle.scad_grammar.specs.State.{after_argument, have_arguments, want_element, have_element, want_test}
+use Rattle.scad_grammar.specs.State.{in_elements, after_one, have_elements, want_statement, have_items, have_start}
+use Rattle.scad_grammar.specs.State.{want_marked, want_choice, want_child, want_defined, want_parameters}
+use Rattle.scad_grammar.specs.State.{in_parameters, have_parameter, after_parameter, have_parameters, want_assign}
 use Rattle.scad_grammar.proofs.reader.Goes
-use Rattle.scad_grammar.proofs.reader.Shortest.{here, quiet_posts, quiet_links, quiet_name, quiet_assign, quiet_semicolon, zero_token, zero_tree, zero_expr, end_items, end_parameters, end_operand, end_expression, end_element, end_arguments}
+use Rattle.scad_grammar.proofs.reader.Shortest.{here, quiet_posts, quiet_links, quiet_name, quiet_assign}
+use Rattle.scad_grammar.proofs.reader.Shortest.{quiet_semicolon, zero_token, zero_tree, zero_expr, end_items}
+use Rattle.scad_grammar.proofs.reader.Shortest.{end_parameters, end_operand, end_expression, end_element}
+use Rattle.scad_grammar.proofs.reader.Shortest.{end_arguments}
 
 -- tokens that go on from a state
 pub record Ending (s : State) : Type 0 where

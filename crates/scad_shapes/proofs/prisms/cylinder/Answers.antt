@@ -1,7 +1,9 @@
 use Rattle.std.proofs.Common.{◌≡◌, ◌+ℤ◌, ap, sym, ◌∙◌, subst}
 use Rattle.scad_solid.specs.Laws.{HoldInside}
 use Rattle.scad_shapes.specs.Outline.{start_of, circle}
-use Rattle.scad_shapes.specs.Rings.{two_rings, cylinder_rings, solid_of_rings, UnlessMemory}
+use Rattle.scad_base.specs.Memory.{UnlessMemory}
+use Rattle.scad_shapes.specs.Faults.{is_memory}
+use Rattle.scad_shapes.specs.Rings.{two_rings, cylinder_rings, solid_of_rings}
 use Rattle.scad_shapes.specs.Laws.{placed_outline, placed_height}
 use Rattle.scad_shapes.proofs.Holds.{of_solid, cylinders_hold}
 use Rattle.scad_shapes.proofs.prisms.cylinder.Goals as goal
@@ -15,4 +17,4 @@ returns-clause-holds c upright equal =
     (λ i. two_rings a.m.now (bottom i) (top i) (c.extent-low.ensures.begins i) (c.extent-low.ensures.ends i)) in
     of_solid (HoldInside (placed_outline a.m.now (circle a.r1 a.n)) (placed_height a.m.now (start_of a.h a.center +ℤ a.h)) (placed_height a.m.now (start_of a.h a.center)))
     (cylinder_rings a.h a.r1 a.r1 a.n a.center a.m.now) (cylinders_hold.each a.h a.r1 a.n a.center a.m.now upright) c.prism.result
-    (subst (λ rings. UnlessMemory c.prism.result (c.prism.result ≡ solid_of_rings rings)) rings c.prism.ensures.solid)
+    (subst (λ rings. UnlessMemory is_memory c.prism.result (c.prism.result ≡ solid_of_rings rings)) rings c.prism.ensures.solid)

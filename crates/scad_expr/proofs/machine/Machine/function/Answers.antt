@@ -6,9 +6,9 @@ use Rattle.scad_expr.specs.Machine.{held, env_in}
 use Rattle.scad_expr.proofs.Homes.{function-round_past}
 use Rattle.scad_expr.proofs.machine.Machine.function.Goals as goal
 
-pub returns-then-at-parent : goal.returns-then-at-parent
+pub returns-then-at-parent-clause-found : goal.returns-then-at-parent-clause-found
 unfolding held env_in
-returns-then-at-parent c =
+returns-then-at-parent-clause-found c =
     let fs = stored c.args.self.now.frames in
     let inside : c.outwards.at < length (stored c.args.self.now.frames) = omega (arith, c.len.ensures) in
     let none : defined_in c.args.name.now (stored_at (stored c.args.self.now.frames) c.outwards.at).scope ≡ None = ap (defined_in c.args.name.now) (sym c.scope-scope.ensures) ∙ sym c.in-None.ensures in

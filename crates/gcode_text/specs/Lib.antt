@@ -1,0 +1,8 @@
+pub mod Amount
+pub mod Appends
+pub mod Cap
+pub mod Gcode
+pub mod Machine
+pub mod Moves
+pub mod Numeral
+pub mod Reading

@@ -1,0 +1,96 @@
+//! Words and lines.
+ghost use Rattle.std.specs.Prelude.{◌≡◌, List, ◌++◌, OnOk, OnErr};
+ghost use Rattle.gcode_text.specs.Gcode.{target, feed_end, amount, travel_line, print_line, height_line, heat_line, number_line};
+ghost use Rattle.gcode_text.specs.Appends.{BeginsWith};
+
+use crate::numeral::{push_hundred_thousandths, push_millimetres, push_thousandths, push_unsigned};
+use crate::rates::Rates;
+use scad_geom::Pt;
+use std::alloc::AllocError;
+
+// `G1 Xx Yy`
+#[tactic(auto, unfolding(crate::specs::Gcode::target))]
+fn push_target(out: &mut Vec<u8>, to: Pt) -> Result<(), AllocError>
+    ensures ok { OnOk result (out.new.items ≡ out.old.items ++ target to) }
+    ensures err { OnErr result (BeginsWith out.old.items out.new.items) }
+{
+    out.extend_from_slice(b"G1 X")?;
+    push_millimetres(out, to.x)?;
+    out.extend_from_slice(b" Y")?;
+    push_millimetres(out, to.y)
+}
+
+// ` Ff` and the line's end
+#[tactic(auto, unfolding(crate::specs::Gcode::feed_end))]
+fn push_feed(out: &mut Vec<u8>, feed: u32) -> Result<(), AllocError>
+    ensures ok { OnOk result (out.new.items ≡ out.old.items ++ feed_end feed) }
+    ensures err { OnErr result (BeginsWith out.old.items out.new.items) }
+{
+    out.extend_from_slice(b" F")?;
+    push_unsigned(out, feed)?;
+    out.push(b'\n')?;
+    Ok(())
+}
+
+#[tactic(auto, unfolding(crate::specs::Gcode::travel_line))]
+pub fn push_travel(out: &mut Vec<u8>, rates: &Rates, to: Pt) -> Result<(), AllocError>
+    ensures ok { OnOk result (out.new.items ≡ out.old.items ++ travel_line rates.now to) }
+    ensures err { OnErr result (BeginsWith out.old.items out.new.items) }
+{
+    push_target(out, to)?;
+    push_feed(out, rates.travel_feed)
+}
+
+// ` Ee`
+#[tactic(auto, unfolding(crate::specs::Gcode::amount))]
+fn push_amount(out: &mut Vec<u8>, e: u128) -> Result<(), AllocError>
+    ensures ok { OnOk result (out.new.items ≡ out.old.items ++ amount e) }
+    ensures err { OnErr result (BeginsWith out.old.items out.new.items) }
+{
+    out.extend_from_slice(b" E")?;
+    push_hundred_thousandths(out, e)
+}
+
+#[tactic(auto, unfolding(crate::specs::Gcode::print_line))]
+pub fn push_print(out: &mut Vec<u8>, rates: &Rates, to: Pt, e: u128) -> Result<(), AllocError>
+    ensures ok { OnOk result (out.new.items ≡ out.old.items ++ print_line rates.now to e) }
+    ensures err { OnErr result (BeginsWith out.old.items out.new.items) }
+{
+    push_target(out, to)?;
+    push_amount(out, e)?;
+    push_feed(out, rates.print_feed)
+}
+
+#[tactic(auto, unfolding(crate::specs::Gcode::height_line))]
+pub fn push_height(out: &mut Vec<u8>, rates: &Rates, z: u64) -> Result<(), AllocError>
+    ensures ok { OnOk result (out.new.items ≡ out.old.items ++ height_line rates.now z) }
+    ensures err { OnErr result (BeginsWith out.old.items out.new.items) }
+{
+    out.extend_from_slice(b"G1 Z")?;
+    push_thousandths(out, z)?;
+    push_feed(out, rates.travel_feed)
+}
+
+#[tactic(auto, unfolding(crate::specs::Gcode::heat_line))]
+pub fn push_heat(out: &mut Vec<u8>, command: &[u8], degrees: u32) -> Result<(), AllocError>
+    ensures ok { OnOk result (out.new.items ≡ out.old.items ++ heat_line command.now degrees) }
+    ensures err { OnErr result (BeginsWith out.old.items out.new.items) }
+{
+    out.extend_from_slice(command)?;
+    out.extend_from_slice(b" S")?;
+    push_unsigned(out, degrees)?;
+    out.push(b'\n')?;
+    Ok(())
+}
+
+// The comment in front of a layer.
+#[tactic(auto, unfolding(crate::specs::Gcode::number_line))]
+pub fn push_layer_number(out: &mut Vec<u8>, layer: u32) -> Result<(), AllocError>
+    ensures ok { OnOk result (out.new.items ≡ out.old.items ++ number_line layer) }
+    ensures err { OnErr result (BeginsWith out.old.items out.new.items) }
+{
+    out.extend_from_slice(b"; layer ")?;
+    push_unsigned(out, layer)?;
+    out.push(b'\n')?;
+    Ok(())
+}

@@ -1,0 +1,106 @@
+//! The head, the layers and the end of a program.
+ghost use Rattle.std.specs.Prelude.{◌≡◌, ◌+◌, ◌^◌, ◌<◌, ◌≤◌, List, ◌++◌, take, length, OnOk, OnErr};
+ghost use Rattle.std.specs.List.{sum_by};
+ghost use Rattle.scad_geom.specs.declared.point.Pt.{Pt};
+ghost use Rattle.gcode_text.specs.Amount.{paths_volume};
+ghost use Rattle.gcode_text.specs.Gcode.{setup, home, head, layer_text, end};
+ghost use Rattle.gcode_text.specs.Appends.{BeginsWith};
+
+use crate::layer::push_layer;
+use crate::rates::Rates;
+use crate::word::push_heat;
+use scad_geom::Path;
+use std::alloc::AllocError;
+
+/// Appends the head of a program, with the temperatures of the hot end and of the bed in degrees Celsius. Where
+/// memory runs out, `out` is as it was.
+pub fn write_head(out: &mut Vec<u8>, hot_end: u32, bed: u32) -> Result<(), AllocError>
+    ensures ok { OnOk result (out.new.items ≡ out.old.items ++ head hot_end bed) }
+    ensures err { OnErr result (out.new.items ≡ out.old.items) }
+{
+    let kept = out.len();
+    let written = push_head(out, hot_end, bed);
+    whole_or_nothing(out, kept, written)
+}
+
+/// Appends the lines of a layer. `volume` is that of all extruding moves so far, in cubic micrometres, and rises
+/// by that of the layer's moves. Where memory runs out, `out` and `volume` are as they were.
+pub fn write_layer(
+    out: &mut Vec<u8>,
+    layer: u32,
+    paths: &[Path],
+    rates: &Rates,
+    volume: &mut u128,
+) -> Result<(), AllocError>
+    requires width { rates.now.line_width ≤ 2000 }
+    requires height { rates.now.layer_height ≤ 2000 }
+    requires area { 1 ≤ rates.now.filament_area }
+    requires count { sum_by length paths.now < 2 ^ 32 }
+    requires volume { volume.old ≤ 10 ^ 30 }
+    ensures ok { OnOk result
+        (out.new.items ≡ out.old.items ++ layer_text rates.now volume.old layer paths.now) }
+    ensures volume { OnOk result (volume.new ≡ volume.old + paths_volume rates.now paths.now) }
+    ensures err { OnErr result (out.new.items ≡ out.old.items) }
+    ensures kept { OnErr result (volume.new ≡ volume.old) }
+{
+    let kept = out.len();
+    let mut sum = *volume;
+    let written = push_layer(out, layer, paths, rates, &mut sum);
+    if written.is_ok() {
+        *volume = sum;
+    }
+    whole_or_nothing(out, kept, written)
+}
+
+/// Appends the end of a program. Where memory runs out, `out` is as it was.
+#[tactic(auto, unfolding(crate::specs::Gcode::end))]
+pub fn write_end(out: &mut Vec<u8>) -> Result<(), AllocError>
+    ensures ok { OnOk result (out.new.items ≡ out.old.items ++ end) }
+    ensures err { OnErr result (out.new.items ≡ out.old.items) }
+{
+    out.extend_from_slice(b"M104 S0\nM140 S0\nM84\n")
+}
+
+// Cuts the text back to its length before a call that ran out of memory.
+fn whole_or_nothing(
+    out: &mut Vec<u8>,
+    kept: usize,
+    written: Result<(), AllocError>,
+) -> Result<(), AllocError>
+    ensures answer { result ≡ written }
+    ensures whole { OnOk written (out.new.items ≡ out.old.items) }
+    ensures nothing { OnErr written (out.new.items ≡ take kept out.old.items) }
+{
+    if written.is_err() {
+        out.truncate(kept);
+    }
+    written
+}
+
+fn push_head(out: &mut Vec<u8>, hot_end: u32, bed: u32) -> Result<(), AllocError>
+    ensures ok { OnOk result (out.new.items ≡ out.old.items ++ head hot_end bed) }
+    ensures err { OnErr result (BeginsWith out.old.items out.new.items) }
+{
+    push_setup(out)?;
+    push_heat(out, b"M140", bed)?;
+    push_heat(out, b"M104", hot_end)?;
+    push_heat(out, b"M190", bed)?;
+    push_heat(out, b"M109", hot_end)?;
+    push_home(out)
+}
+
+#[tactic(auto, unfolding(crate::specs::Gcode::setup))]
+fn push_setup(out: &mut Vec<u8>) -> Result<(), AllocError>
+    ensures ok { OnOk result (out.new.items ≡ out.old.items ++ setup) }
+    ensures err { OnErr result (out.new.items ≡ out.old.items) }
+{
+    out.extend_from_slice(b"; scadslice\nG21\nG90\nM82\nM107\n")
+}
+
+#[tactic(auto, unfolding(crate::specs::Gcode::home))]
+fn push_home(out: &mut Vec<u8>) -> Result<(), AllocError>
+    ensures ok { OnOk result (out.new.items ≡ out.old.items ++ home) }
+    ensures err { OnErr result (out.new.items ≡ out.old.items) }
+{
+    out.extend_from_slice(b"G28\nG92 E0\n")
+}

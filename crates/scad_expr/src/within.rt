@@ -1,0 +1,180 @@
+//! `let`, `assert` and `echo` before an expression, and names that are bound one behind another.
+
+ghost use Rattle.std.specs.Prelude.{◌≡◌, IfOk, OnOk};
+ghost use Rattle.scad_ast.specs.Tree.{let_in, assert_in, echo_in};
+ghost use Rattle.scad_ast.specs.View.{expression_of, arguments};
+ghost use Rattle.scad_value.specs.View.{datum_of};
+ghost use Rattle.scad_expr.specs.Answers.{Does};
+ghost use Rattle.scad_expr.specs.Machine.{held, env_in, along_in, state_of};
+ghost use Rattle.scad_expr.specs.Meaning.{node, bound_in_order, meaning};
+ghost use Rattle.scad_expr.specs.Opened.{bound_in, outer, left, IsInner};
+ghost use Rattle.scad_expr.specs.Portions.{bind_one};
+ghost use Rattle.scad_expr.specs.Variables.{empty, within};
+
+use crate::call::values_at;
+use crate::fault::EvalFault;
+use crate::judged::{asserted, judge_named};
+use crate::machine::Machine;
+use crate::walk::eval_at;
+use scad_ast::{Arg, Args, Expr};
+use scad_fault::Place;
+use scad_value::Value;
+use std::alloc::Global;
+
+/// Opens frames for the names of a `let`, and binds them from left to right, each seeing those before it. Gives the number of
+/// the frame from which names were sought before: `leave` takes the frames away again.
+pub fn let_names<'p>(
+    alloc: Global,
+    args: &'p Args,
+    machine: &mut Machine<'p>,
+) -> Result<u32, EvalFault>
+    ensures does { Does (λ _. bound_in (held machine.new)) (bound_in_order
+        (meaning (held machine.old).depth) (env_in (held machine.old)) (along_in (held machine.old))
+        (arguments args.now.items) empty (state_of machine.old)) result (state_of machine.new) }
+    ensures env { OnOk result (env_in (held machine.new)
+        ≡ within (env_in (held machine.old)) (bound_in (held machine.new)).names) }
+    ensures along { OnOk result (along_in (held machine.new)
+        ≡ within (along_in (held machine.old)) (bound_in (held machine.new)).dollars) }
+    ensures back { IfOk result (λ back. left back (held machine.new) ≡ held machine.old) }
+{
+    let depth = machine.depth();
+    bind_names(alloc, args, depth, machine)
+}
+
+/// `let (names) body`
+#[cycle(eval)]
+#[tactic(auto, unfolding(crate::specs::Meaning::node))]
+pub(crate) fn let_node<'p>(
+    alloc: Global,
+    at: Place,
+    args: &'p [Arg],
+    body: &'p Expr,
+    depth: u32,
+    m: &mut Machine<'p>,
+) -> Result<Value, EvalFault>
+    ensures does { Does datum_of (node (meaning depth) (env_in (held m.old)) (along_in (held m.old))
+        (let_in at (arguments args.now) (expression_of body.now)) (state_of m.old))
+        result (state_of m.new) }
+    ensures kept { OnOk result (held m.new ≡ held m.old) }
+{
+    judge_named(alloc, at, b"let", args)?;
+    let back = bind_names(alloc, args, depth, m)?;
+    let value = eval_at(alloc, body, depth, m)?;
+    m.leave(back);
+    Ok(value)
+}
+
+/// `assert (arguments) body`
+#[cycle(eval)]
+#[tactic(auto, unfolding(crate::specs::Meaning::node))]
+pub(crate) fn assert_node<'p>(
+    alloc: Global,
+    at: Place,
+    args: &'p [Arg],
+    body: &'p Expr,
+    depth: u32,
+    m: &mut Machine<'p>,
+) -> Result<Value, EvalFault>
+    ensures does { Does datum_of (node (meaning depth) (env_in (held m.old)) (along_in (held m.old))
+        (assert_in at (arguments args.now) (expression_of body.now)) (state_of m.old))
+        result (state_of m.new) }
+    ensures kept { OnOk result (held m.new ≡ held m.old) }
+{
+    let found = values_at(alloc, args, depth, m)?;
+    asserted(alloc, at, args, &found)?;
+    eval_at(alloc, body, depth, m)
+}
+
+/// `echo (arguments) body`
+#[cycle(eval)]
+#[tactic(auto, unfolding(crate::specs::Meaning::node))]
+pub(crate) fn echo_node<'p>(
+    alloc: Global,
+    at: Place,
+    args: &'p [Arg],
+    body: &'p Expr,
+    depth: u32,
+    m: &mut Machine<'p>,
+) -> Result<Value, EvalFault>
+    ensures does { Does datum_of (node (meaning depth) (env_in (held m.old)) (along_in (held m.old))
+        (echo_in at (arguments args.now) (expression_of body.now)) (state_of m.old))
+        result (state_of m.new) }
+    ensures kept { OnOk result (held m.new ≡ held m.old) }
+{
+    let found = values_at(alloc, args, depth, m)?;
+    m.echo(alloc, at, args, &found)?;
+    eval_at(alloc, body, depth, m)
+}
+
+/// Opens frames for the names of a `let`, and binds them from left to right. Gives the number of the
+/// frame from which names were sought before.
+#[cycle(eval)]
+#[tactic(auto, using(crate::proofs::OpenFrames::inner))]
+pub(crate) fn bind_names<'p>(
+    alloc: Global,
+    args: &'p [Arg],
+    depth: u32,
+    m: &mut Machine<'p>,
+) -> Result<u32, EvalFault>
+    ensures does { Does (λ _. bound_in (held m.new)) (bound_in_order (meaning depth)
+        (env_in (held m.old)) (along_in (held m.old)) (arguments args.now) empty (state_of m.old))
+        result (state_of m.new) }
+    ensures env { OnOk result (env_in (held m.new)
+        ≡ within (env_in (held m.old)) (bound_in (held m.new)).names) }
+    ensures along { OnOk result (along_in (held m.new)
+        ≡ within (along_in (held m.old)) (bound_in (held m.new)).dollars) }
+    ensures back { IfOk result (λ back. left back (held m.new) ≡ held m.old) }
+    ensures inner { OnOk result (IsInner (held m.new)) }
+    ensures outer { OnOk result (outer (held m.new) ≡ held m.old) }
+{
+    let back = m.open()?;
+    set_names(alloc, args, depth, m)?;
+    Ok(back)
+}
+
+/// Binds names from left to right in the last frames.
+#[cycle(eval)]
+pub(crate) fn set_names<'p>(
+    alloc: Global,
+    args: &'p [Arg],
+    depth: u32,
+    m: &mut Machine<'p>,
+) -> Result<(), EvalFault>
+    requires { IsInner (held m.old) }
+    ensures does { Does (λ _. bound_in (held m.new)) (bound_in_order (meaning depth)
+        (env_in (outer (held m.old))) (along_in (outer (held m.old))) (arguments args.now)
+        (bound_in (held m.old)) (state_of m.old)) result (state_of m.new) }
+    ensures inner { OnOk result (IsInner (held m.new)) }
+    ensures outer { OnOk result (outer (held m.new) ≡ outer (held m.old)) }
+{
+    'names: for arg in args {
+        set_one(alloc, arg, depth, m)?;
+    }
+    Ok(())
+}
+
+/// Binds a name in the last frames.
+#[cycle(eval)]
+#[tactic(auto, using(crate::proofs::OpenFrames::inner), unfolding(crate::specs::Portions::bind_one))]
+fn set_one<'p>(
+    alloc: Global,
+    arg: &'p Arg,
+    depth: u32,
+    m: &mut Machine<'p>,
+) -> Result<(), EvalFault>
+    requires { IsInner (held m.old) }
+    ensures does { Does (λ _. bound_in (held m.new)) (bind_one (meaning depth)
+        (env_in (outer (held m.old))) (along_in (outer (held m.old))) arg.now.name
+        (expression_of arg.now.value) (bound_in (held m.old)) (state_of m.old))
+        result (state_of m.new) }
+    ensures inner { OnOk result (IsInner (held m.new)) }
+    ensures outer { OnOk result (outer (held m.new) ≡ outer (held m.old)) }
+{
+    match &arg.name {
+        Some(name) => {
+            let value = eval_at(alloc, &arg.value, depth, m)?;
+            m.set(name.as_slice(), value)
+        }
+        None => Ok(()),
+    }
+}

@@ -1,0 +1,11 @@
+-- How many constructs stand open.
+pub mod Ended
+pub mod Expressions
+pub mod Kept
+pub mod Open
+pub mod Openings
+pub mod Places
+pub mod Real
+pub mod RealSteps
+pub mod Statements
+pub mod Tracks

@@ -1,0 +1,13 @@
+pub mod Chosen
+pub mod Frames
+pub mod Made
+pub mod Meaning
+pub mod Modules
+pub mod Opened
+pub mod Operation
+pub mod Portions
+pub mod FirstFrames
+pub mod Scopes
+pub mod View
+pub mod Where
+pub mod Model

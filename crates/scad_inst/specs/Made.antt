@@ -1,0 +1,81 @@
+-- Solids that a program makes, with their budgets.
+use Rattle.std.specs.Prelude.{ℕ, ◌+◌, nat_lt, List, Result, Ok, Err, if◌then◌else◌}
+use Rattle.scad_fault.specs.declared.place.Place.{Place}
+use Rattle.scad_fault.specs.declared.fault.FaultKind.TheVariants.{LeftOut as IsLeftOut, BadArgument as IsBadArgument, NumberRange as IsNumberRange, NotClosed as IsNotClosed, CoordinateRange as IsFar, MixedDimensions}
+use Rattle.scad_fault.specs.declared.budget.BudgetKind.TheVariants.{Depth, Leaves, Triangles}
+use Rattle.scad_solid.specs.declared.triangle.Triangle.{Triangle}
+use Rattle.scad_matrix.specs.declared.matrix.Matrix.{Matrix}
+use Rattle.scad_matrix.specs.declared.matrix.MatrixFault.{MatrixFault}
+use Rattle.scad_matrix.specs.declared.matrix.MatrixFault.TheVariants.{Range}
+use Rattle.scad_shapes.specs.declared.fault.ShapeFault.{ShapeFault}
+use Rattle.scad_shapes.specs.declared.fault.ShapeFault.TheVariants.{CoordinateRange, NotClosed, Memory}
+use Rattle.scad_modules.specs.declared.fault.ArgumentFault.TheVariants.{BadArgument, LeftOut, NumberRange}
+use Rattle.scad_modules.specs.declared.fault.ArgumentFault.TheVariants.{Memory as NoMemory}
+use Rattle.scad_modules.specs.Primitive.{Primitive, triangles_of, solid_of}
+use Rattle.scad_modules.specs.Reading.{Read}
+use Rattle.scad_tree.specs.Nesting.{nesting}
+use Rattle.scad_tree.specs.Solid.{Solid, surface}
+use Rattle.scad_expr.specs.declared.fault.EvalFault.TheVariants.{Memory as WantOfMemory}
+use Rattle.scad_expr.specs.State.{Action, pure, ◌>>◌, refuse, fault, fault_of, over}
+use Rattle.scad_inst.specs.Where.{Where, Space, solid, linear, turned}
+
+-- a program makes at most so many leaves
+abbrev pub leaf_limit : ℕ
+leaf_limit = 4096
+
+-- they have at most so many triangles together
+abbrev pub triangle_limit : ℕ
+triangle_limit = 200000
+
+-- the parts of a tree lie at most so deep in one another
+abbrev pub tree_limit : ℕ
+tree_limit = 200
+
+-- one leaf more
+unfoldable pub count_leaf : Place → Action (Unit {0})
+count_leaf at = λ s.
+    if nat_lt leaf_limit (s.leaves + 1) then over Leaves at s
+    else pure tt (record s { leaves = s.leaves + 1 })
+
+-- so many triangles more
+unfoldable pub count_triangles : ℕ → Place → Action (Unit {0})
+count_triangles count at = λ s.
+    if nat_lt triangle_limit (s.triangles + count) then over Triangles at s
+    else pure tt (record s { triangles = s.triangles + count })
+
+-- a placed solid as a tree, or why there is none
+unfoldable pub placed : Place → Result (List Triangle) ShapeFault → Action Solid
+placed at (Ok ts) = pure (surface ts)
+placed at (Err CoordinateRange) = fault IsFar at
+placed at (Err NotClosed) = fault IsNotClosed at
+placed at (Err Memory) = refuse WantOfMemory
+
+-- a leaf: it is counted, then its triangles, and then it is placed
+unfoldable pub leaf : Place → Primitive → Matrix → Action Solid
+leaf at p m = do
+  count_leaf at
+  count_triangles (triangles_of p) at
+  placed at (solid_of p m)
+
+-- what the arguments of a call say, or their fault at its name
+unfoldable pub argued : {A : Type 0} → Place → List ℕ → Read A → Action A
+argued at name (Ok a) = pure a
+argued at name (Err BadArgument) = fault_of IsBadArgument at name
+argued at name (Err LeftOut) = fault_of IsLeftOut at name
+argued at name (Err NumberRange) = fault IsNumberRange at
+argued at name (Err NoMemory) = refuse WantOfMemory
+
+-- the place of a transformation's children
+unfoldable pub placed_by : Place → Result Where MatrixFault → Action Where
+placed_by at (Ok w) = pure w
+placed_by at (Err Range) = fault IsNumberRange at
+
+-- a solid stands outside of every extrusion alone
+unfoldable pub judge_solid : Place → Space → Action (Unit {0})
+judge_solid at solid = pure tt
+judge_solid at (linear height center) = fault MixedDimensions at
+judge_solid at (turned profile word fine) = fault MixedDimensions at
+
+-- a tree that a statement makes
+unfoldable pub judged : Place → Solid → Action Solid
+judged at s = if nat_lt tree_limit (nesting s) then over Depth at else pure s

@@ -1,0 +1,30 @@
+-- What modules of a program in memory are to the definitions.
+use Rattle.std.specs.Prelude.{List, Vec, map}
+use Rattle.std.specs.Global.{Global}
+use Rattle.scad_ast.specs.declared.statement.Item.{Item}
+use Rattle.scad_ast.specs.declared.statement.Param.{Param}
+use Rattle.scad_ast.specs.Scope.{parameter, items}
+use Rattle.scad_scope.specs.Env.{Env}
+use Rattle.scad_scope.specs.Stored.{env_at}
+use Rattle.scad_tree.specs.declared.node.Node.{Node}
+use Rattle.scad_tree.specs.Solid.{Solid}
+use Rattle.scad_tree.specs.View.{solids}
+use Rattle.scad_inst.specs.declared.defined.Defined.{Defined}
+use Rattle.scad_inst.specs.declared.defined.DefinedAt.{DefinedAt}
+use Rattle.scad_inst.specs.Modules.{Module, Found}
+
+-- a module that is defined by these parameters and these items
+abbrev pub definition : List Param → List Item → Module
+definition params body = record { parameters = map parameter params; body = items body }
+
+-- the module that stands there
+abbrev pub module_at : Defined → Module
+module_at d = definition d.params.now.items d.body.now.items
+
+-- and the environment where its definition stands, among those of all frames
+abbrev pub found_at : List Env → DefinedAt → Found
+found_at envs d = record { definition = module_at d.module; home = env_at envs d.home }
+
+-- the trees that a vector holds
+abbrev pub trees_in : Vec Node Global → List Solid
+trees_in v = solids v.items

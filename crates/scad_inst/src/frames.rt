@@ -1,0 +1,236 @@
+//! Depth, and the frames of scopes and calls.
+
+ghost use Rattle.std.specs.Prelude.{◌≡◌, ◌≢◌, ◌<◌, ◌+◌, ◌-◌, ◌∷◌, [], length, IfOk, OnOk};
+ghost use Rattle.scad_ast.specs.Scope.{items};
+ghost use Rattle.scad_ast.specs.View.{arguments, expression_of};
+ghost use Rattle.scad_ast.specs.Tree.{argument, no_arguments};
+ghost use Rattle.scad_value.specs.View.{datum_of};
+ghost use Rattle.scad_scope.specs.Stored.{env_at, envs};
+ghost use Rattle.scad_expr.specs.Answers.{Does, nothing, done_at};
+ghost use Rattle.scad_expr.specs.Machine.{held, env_in, along_in, state_of};
+ghost use Rattle.scad_expr.specs.Opened.{bound_in, left, last_of, opened_in, outer, IsInner};
+ghost use Rattle.scad_expr.specs.Meaning.{meaning, bound_in_order};
+ghost use Rattle.scad_expr.specs.Variables.{empty, is_dollar, within};
+ghost use Rattle.scad_expr.specs.View.{data_in, data_of};
+ghost use Rattle.scad_inst.specs.Frames.{below_of, with_depth, scope_held, IsScope};
+ghost use Rattle.scad_inst.specs.Opened.{dollars_of};
+ghost use Rattle.scad_inst.specs.Portions.{own_opened};
+ghost use Rattle.scad_inst.specs.View.{found_at};
+
+use crate::defined::DefinedAt;
+use scad_ast::{Arg, Args, Scope};
+use scad_expr::{EvalFault, Machine, bind, let_names};
+use scad_scope::Kept;
+use scad_value::{Value, copy};
+use std::alloc::Global;
+
+/// How many levels of depth are left.
+#[tactic(auto, unfolding(scad_expr::specs::Machine::held))]
+pub(crate) fn depth(m: &Machine) -> u32
+    ensures { result ≡ (held m.now).depth }
+{
+    m.depth_left
+}
+
+/// One level deeper, where one is left.
+#[tactic(auto, unfolding(scad_expr::specs::Machine::held, scad_expr::specs::Machine::state_of))]
+pub(crate) fn go_deeper(m: &mut Machine)
+    requires { (held m.old).depth ≢ 0 }
+    ensures same { state_of m.new ≡ state_of m.old }
+    ensures held { held m.new ≡ with_depth ((held m.old).depth - 1) (held m.old) }
+{
+    m.depth_left -= 1;
+}
+
+/// At a level of depth again.
+#[tactic(auto, unfolding(scad_expr::specs::Machine::held, scad_expr::specs::Machine::state_of))]
+pub(crate) fn go_back(depth: u32, m: &mut Machine)
+    ensures same { state_of m.new ≡ state_of m.old }
+    ensures held { held m.new ≡ with_depth depth (held m.old) }
+{
+    m.depth_left = depth;
+}
+
+/// The number of the frame from which names are sought.
+#[tactic(auto, unfolding(scad_expr::specs::Machine::held, scad_expr::specs::Machine::env_in))]
+pub(crate) fn here(m: &Machine) -> u32
+    ensures number { result ≡ (held m.now).here }
+    ensures env { env_at (envs (held m.now).frames) result ≡ env_in (held m.now) }
+{
+    m.here
+}
+
+/// The number of the last frame of the `$` names, where there is one.
+#[tactic(auto, using(scad_expr::proofs::OpenFrames::lasts), unfolding(scad_expr::specs::Machine::held))]
+fn last_along(m: &Machine) -> Option<u32>
+    ensures { result ≡ last_of (held m.now).along }
+{
+    let count = m.along.len();
+    if count == 0 { None } else { Some(count - 1) }
+}
+
+/// Opens the frames of a scope inside the frame of a number. Gives the number of the one from which names
+/// were sought before.
+#[tactic(auto, unfolding(scad_expr::specs::Machine::held, scad_expr::specs::Machine::state_of, crate::specs::Frames::scope_held))]
+pub(crate) fn enter_scope<'p>(
+    home: u32,
+    scope: &'p Scope,
+    m: &mut Machine<'p>,
+) -> Result<u32, EvalFault>
+    ensures does { Does nothing (done_at (state_of m.old)) result (state_of m.new) }
+    ensures held { OnOk result (held m.new ≡ scope_held (items scope.now.items) home empty (held m.old)) }
+    ensures back { IfOk result (λ back. back ≡ (held m.old).here) }
+{
+    let parent = last_along(m);
+    let number = m.frames.push(Some(home), Some(scope), None)?;
+    m.along.push(parent, None, None)?;
+    let back = m.here;
+    m.here = number;
+    Ok(back)
+}
+
+/// Opens the frames of a scope. Gives the number of the frame from which names were sought before.
+#[tactic(auto, using(crate::proofs::ScopeFrames::opening))]
+pub(crate) fn open_frames<'p>(
+    home: u32,
+    scope: &'p Scope,
+    m: &mut Machine<'p>,
+) -> Result<u32, EvalFault>
+    ensures does { Does nothing (done_at (state_of m.old)) result (state_of m.new) }
+    ensures scope { IfOk result (λ back. IsScope (items scope.now.items) home back (held m.new)) }
+    ensures bound { OnOk result (bound_in (held m.new) ≡ empty) }
+    ensures left { IfOk result (λ back. left back (held m.new) ≡ held m.old) }
+{
+    enter_scope(home, scope, m)
+}
+
+/// Opens the frames of a call of a module of the program, with the values of its arguments. Gives the number
+/// of the frame from which names were sought before.
+#[tactic(auto, using(crate::proofs::CallFrames::own))]
+pub(crate) fn open_own<'p>(
+    alloc: Global,
+    own: DefinedAt<'p>,
+    args: &'p Args,
+    found: Vec<Value>,
+    all: &'p Scope,
+    m: &mut Machine<'p>,
+) -> Result<u32, EvalFault>
+    requires { own.home < length (held m.old).frames }
+    ensures does { Does (λ _. opened_in (held m.new)) (own_opened (below_of (held m.old)) (env_in (held m.old))
+        (along_in (held m.old)) (found_at (envs (held m.old).frames) own.entry) (arguments args.now.items)
+        (data_in found) (items all.now.items) (state_of m.old)) result (state_of m.new) }
+    ensures back { IfOk result (λ back. left back (held m.new) ≡ held m.old) }
+    ensures depth { OnOk result ((held m.new).depth ≡ (held m.old).depth) }
+{
+    let back = here(m);
+    let kept = Some(Kept {
+        scope: all,
+        home: back,
+    });
+    bind(alloc, own.module.params, args, found, own.home, kept, m)?;
+    Ok(back)
+}
+
+/// Whether the name begins with `$`.
+fn is_dollar(name: &[u8]) -> bool
+    ensures { result ≡ is_dollar name.now }
+{
+    match name {
+        [first, ..] => *first == b'$',
+        [] => false,
+    }
+}
+
+/// Sets the name of an argument in the last frames, where it begins with `$`.
+#[tactic(auto, using(scad_expr::proofs::OpenFrames::inner), unfolding(crate::specs::Opened::dollars_of))]
+fn set_dollar<'p>(
+    alloc: Global,
+    arg: &Arg,
+    value: &Value,
+    m: &mut Machine<'p>,
+) -> Result<(), EvalFault>
+    requires { IsInner (held m.old) }
+    ensures does { Does nothing (done_at (state_of m.old)) result (state_of m.new) }
+    ensures bound { OnOk result (bound_in (held m.new)
+        ≡ dollars_of (argument arg.now.name (expression_of arg.now.value) no_arguments)
+        (datum_of value.now ∷ []) (bound_in (held m.old))) }
+    ensures inner { OnOk result (IsInner (held m.new)) }
+    ensures outer { OnOk result (outer (held m.new) ≡ outer (held m.old)) }
+{
+    match &arg.name {
+        Some(name) => {
+            if is_dollar(name.as_slice()) {
+                let value = copy(alloc, value)?;
+                m.set(name.as_slice(), value)
+            } else {
+                Ok(())
+            }
+        }
+        None => Ok(()),
+    }
+}
+
+/// Sets each name of an argument that begins with `$` in the last frames.
+fn set_dollars<'p>(
+    alloc: Global,
+    args: &[Arg],
+    found: &[Value],
+    m: &mut Machine<'p>,
+) -> Result<(), EvalFault>
+    requires { IsInner (held m.old) }
+    ensures does { Does nothing (done_at (state_of m.old)) result (state_of m.new) }
+    ensures bound { OnOk result (bound_in (held m.new)
+        ≡ dollars_of (arguments args.now) (data_of found.now) (bound_in (held m.old))) }
+    ensures inner { OnOk result (IsInner (held m.new)) }
+    ensures outer { OnOk result (outer (held m.new) ≡ outer (held m.old)) }
+{
+    let mut k = 0;
+    'arguments: for arg in args {
+        if k >= found.len() {
+            return Ok(());
+        }
+        set_dollar(alloc, arg, &found[k], m)?;
+        k += 1;
+    }
+    Ok(())
+}
+
+/// Opens the frames of a call of a module of the language, with the `$` names among its arguments. Gives the
+/// number of the frame from which names were sought before.
+#[tactic(auto, using(scad_expr::proofs::OpenFrames::inner))]
+pub(crate) fn open_known<'p>(
+    alloc: Global,
+    args: &'p Args,
+    found: &[Value],
+    m: &mut Machine<'p>,
+) -> Result<u32, EvalFault>
+    ensures does { Does nothing (done_at (state_of m.old)) result (state_of m.new) }
+    ensures env { OnOk result (env_in (held m.new) ≡ within (env_in (held m.old))
+        (dollars_of (arguments args.now.items) (data_of found.now) empty).names) }
+    ensures along { OnOk result (along_in (held m.new) ≡ within (along_in (held m.old))
+        (dollars_of (arguments args.now.items) (data_of found.now) empty).dollars) }
+    ensures back { IfOk result (λ back. left back (held m.new) ≡ held m.old) }
+    ensures depth { OnOk result ((held m.new).depth ≡ (held m.old).depth) }
+{
+    let back = m.open()?;
+    set_dollars(alloc, args, found, m)?;
+    Ok(back)
+}
+
+/// Opens the frames of a `let`.
+pub(crate) fn open_names<'p>(
+    alloc: Global,
+    args: &'p Args,
+    m: &mut Machine<'p>,
+) -> Result<u32, EvalFault>
+    ensures does { Does (λ _. bound_in (held m.new)) (bound_in_order (meaning (held m.old).depth) (env_in (held m.old))
+        (along_in (held m.old)) (arguments args.now.items) empty (state_of m.old)) result (state_of m.new) }
+    ensures env { OnOk result (env_in (held m.new) ≡ within (env_in (held m.old)) (bound_in (held m.new)).names) }
+    ensures along { OnOk result (along_in (held m.new)
+        ≡ within (along_in (held m.old)) (bound_in (held m.new)).dollars) }
+    ensures back { IfOk result (λ back. left back (held m.new) ≡ held m.old) }
+    ensures depth { OnOk result ((held m.new).depth ≡ (held m.old).depth) }
+{
+    let back = let_names(alloc, args, m)?;
+    Ok(back)
+}

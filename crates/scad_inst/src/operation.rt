@@ -1,0 +1,9 @@
+//! Set operations over the statements of a scope.
+
+/// What is made of the trees of statements.
+#[derive(Clone, Copy, Debug, PartialEq, Eq)]
+pub enum Operation {
+    Unite,
+    Intersect,
+    Subtract,
+}

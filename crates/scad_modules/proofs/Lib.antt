@@ -1,0 +1,5 @@
+pub mod Angles
+pub mod Faces
+pub mod Fragments
+pub mod Lists
+pub mod Onto

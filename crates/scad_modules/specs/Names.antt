@@ -1,0 +1,58 @@
+-- The names of modules (OpenSCAD User Manual, "Primitive Solids", "Transformations", "CSG Modelling", "Conditional
+-- and Iterator Functions", "User-Defined Functions and Modules"): those of the language, and those of the manual
+-- that it leaves out.
+use Rattle.std.specs.Prelude.{ℕ, List, [], ◌∷◌, ◌==◌, if◌then◌else◌, codes}
+use Rattle.std.specs.Option.{option_map_or}
+use Rattle.scad_table.specs.Table.{id_of}
+use Rattle.scad_modules.specs.declared.module.Shape.TheVariants.{Cube, Sphere, Cylinder, Polyhedron}
+use Rattle.scad_modules.specs.declared.module.Transform.TheVariants.{Translate, Scale, Rotate, Mirror, Multmatrix}
+use Rattle.scad_modules.specs.declared.module.Module.TheVariants.{Shape, Flat, Transform, Union, Difference, Intersection, Children, Echo, Assert}
+use Rattle.scad_modules.specs.declared.id.TheConstants.{CUBE, SPHERE, CYLINDER, POLYHEDRON, FLAT, TRANSLATE, SCALE, ROTATE, MIRROR, MULTMATRIX, UNION, DIFFERENCE, INTERSECTION, FOR, INTERSECTION_FOR, LET, CHILDREN, ECHO, ASSERT, LEFT_OUT}
+use Rattle.scad_modules.specs.declared.module.Name.{Name}
+use Rattle.scad_modules.specs.declared.module.Name.TheVariants.{Known, For, IntersectionFor, Let, LeftOut, Unknown}
+
+-- each name with its id
+abbrev pub name_table : List (List ℕ × ℕ)
+name_table =
+    (codes "assert", ASSERT) ∷ (codes "assign", LEFT_OUT) ∷ (codes "child", LEFT_OUT)
+    ∷ (codes "children", CHILDREN) ∷ (codes "circle", FLAT) ∷ (codes "color", UNION) ∷ (codes "cube", CUBE)
+    ∷ (codes "cylinder", CYLINDER) ∷ (codes "difference", DIFFERENCE) ∷ (codes "echo", ECHO)
+    ∷ (codes "for", FOR) ∷ (codes "group", UNION) ∷ (codes "hull", LEFT_OUT) ∷ (codes "import", LEFT_OUT)
+    ∷ (codes "intersection", INTERSECTION) ∷ (codes "intersection_for", INTERSECTION_FOR)
+    ∷ (codes "let", LET) ∷ (codes "linear_extrude", FLAT) ∷ (codes "minkowski", LEFT_OUT)
+    ∷ (codes "mirror", MIRROR) ∷ (codes "multmatrix", MULTMATRIX) ∷ (codes "offset", LEFT_OUT)
+    ∷ (codes "polygon", FLAT) ∷ (codes "polyhedron", POLYHEDRON) ∷ (codes "projection", LEFT_OUT)
+    ∷ (codes "render", UNION) ∷ (codes "resize", LEFT_OUT) ∷ (codes "rotate", ROTATE)
+    ∷ (codes "rotate_extrude", FLAT) ∷ (codes "scale", SCALE) ∷ (codes "sphere", SPHERE)
+    ∷ (codes "square", FLAT) ∷ (codes "surface", LEFT_OUT) ∷ (codes "text", LEFT_OUT)
+    ∷ (codes "translate", TRANSLATE) ∷ (codes "union", UNION)
+    ∷ []
+
+-- what the name of an id means
+unfoldable pub numbered_name : ℕ → Name
+numbered_name n =
+    if n == CUBE then Known (Shape Cube)
+    else (if n == SPHERE then Known (Shape Sphere)
+    else (if n == CYLINDER then Known (Shape Cylinder)
+    else (if n == POLYHEDRON then Known (Shape Polyhedron)
+    else (if n == FLAT then Known Flat
+    else (if n == TRANSLATE then Known (Transform Translate)
+    else (if n == SCALE then Known (Transform Scale)
+    else (if n == ROTATE then Known (Transform Rotate)
+    else (if n == MIRROR then Known (Transform Mirror)
+    else (if n == MULTMATRIX then Known (Transform Multmatrix)
+    else (if n == UNION then Known Union
+    else (if n == DIFFERENCE then Known Difference
+    else (if n == INTERSECTION then Known Intersection
+    else (if n == FOR then For
+    else (if n == INTERSECTION_FOR then IntersectionFor
+    else (if n == LET then Let
+    else (if n == CHILDREN then Known Children
+    else (if n == ECHO then Known Echo
+    else (if n == ASSERT then Known Assert
+    else (if n == LEFT_OUT then LeftOut
+    else Unknown)))))))))))))))))))
+
+-- what a name means where a module is called and the program defines none of this name
+unfoldable pub meaning_of : List ℕ → Name
+meaning_of name = option_map_or numbered_name (id_of name_table name) Unknown

@@ -1,0 +1,48 @@
+//! The modules of the language.
+
+/// A primitive solid.
+#[derive(Clone, Copy, Debug, PartialEq, Eq)]
+pub enum Shape {
+    Cube,
+    Sphere,
+    Cylinder,
+    Polyhedron,
+}
+
+/// A module whose children are placed by a further matrix.
+#[derive(Clone, Copy, Debug, PartialEq, Eq)]
+pub enum Transform {
+    Translate,
+    Scale,
+    Rotate,
+    Mirror,
+    Multmatrix,
+}
+
+/// A module of the language.
+#[derive(Clone, Copy, Debug, PartialEq, Eq)]
+pub enum Module {
+    Shape(Shape),
+    /// A flat shape or an extrusion.
+    Flat,
+    Transform(Transform),
+    /// `color`, `render`, `group` and `union`.
+    Union,
+    Difference,
+    Intersection,
+    Children,
+    Echo,
+    Assert,
+}
+
+/// What a name means where a module is called and the program defines none of this name.
+#[derive(Clone, Copy, Debug, PartialEq, Eq)]
+pub enum Name {
+    Known(Module),
+    For,
+    IntersectionFor,
+    Let,
+    /// A module of the OpenSCAD User Manual that the language leaves out.
+    LeftOut,
+    Unknown,
+}

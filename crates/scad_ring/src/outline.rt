@@ -1,0 +1,47 @@
+//! A few corners, without memory of their own.
+ghost use Rattle.std.specs.Prelude.{◌≡◌, ◌≤◌, List, [], ◌∷◌, take};
+ghost use Rattle.scad_geom.specs.declared.point.Pt.{Pt};
+
+use scad_geom::Pt;
+use std::marker::Model;
+
+/// The corners of a ring, at most six, seen by contracts as their list.
+#[derive(Debug, Drop)]
+pub struct Ring {
+    corners: [Pt; 6],
+    count: usize,
+    ghost within: { count ≤ 6 },
+}
+
+impl Model for Ring {
+    ghost Value = { List Pt };
+
+    ghost view = { λ r. take r.count r.corners };
+}
+
+impl Ring {
+    pub(crate) fn four(a: Pt, b: Pt, c: Pt, d: Pt) -> Ring
+        ensures { result ≡ a ∷ b ∷ c ∷ d ∷ [] }
+    {
+        Ring {
+            corners: [a, b, c, d, d, d],
+            count: 4,
+        }
+    }
+
+    pub(crate) fn six(a: Pt, b: Pt, c: Pt, d: Pt, e: Pt, f: Pt) -> Ring
+        ensures { result ≡ a ∷ b ∷ c ∷ d ∷ e ∷ f ∷ [] }
+    {
+        Ring {
+            corners: [a, b, c, d, e, f],
+            count: 6,
+        }
+    }
+
+    /// The corners, counter-clockwise from the lowest and then leftmost.
+    pub fn as_slice(&self) -> &[Pt]
+        ensures { result.now ≡ self.now }
+    {
+        &self.corners[..self.count]
+    }
+}

@@ -1,0 +1,34 @@
+-- The commands, as a simple command of clap: each with its positionals in order, all required, and the option
+-- `--settings` with one value. Help and version are off, and one of the commands is required.
+use Rattle.std.specs.Prelude.{true, [], ◌∷◌, Some, codes}
+use Rattle.clap.specs.Walk.{Rule, Text}
+use Rattle.clap.specs.Simple.{App, new_rule, new_app, on_top, with_rule, with_subcommand}
+
+-- a word that is required
+abbrev pub positional : Text → Rule
+positional id = record (new_rule id) { required = true }
+
+-- `--id VALUE` or `--id=VALUE`
+abbrev pub option : Text → Rule
+option id = record (new_rule id) { long = Some id }
+
+-- a command over one model: `NAME MODEL`
+abbrev pub model_app : Text → App
+model_app name = with_rule (with_rule (new_app name) (positional (codes "model"))) (option (codes "settings"))
+
+-- `slice MODEL CLI`
+abbrev pub slice_app : App
+slice_app = with_rule (with_rule (with_rule (new_app (codes "slice")) (positional (codes "model"))) (positional (codes "cli"))) (option (codes "settings"))
+
+-- the program without its commands
+abbrev pub program : App
+program = on_top (λ s. record s {
+  no_binary_name = true;
+  disable_help_flag = true;
+  disable_help_subcommand = true;
+  disable_version_flag = true;
+  subcommand_required = true;
+}) (new_app (codes "scadslice"))
+
+abbrev pub command_set : App
+command_set = with_subcommand (with_subcommand (with_subcommand program (model_app (codes "check")).top) (model_app (codes "tree")).top) slice_app.top

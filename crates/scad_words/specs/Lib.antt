@@ -1,0 +1,4 @@
+pub mod CommandSet
+pub mod Job
+pub mod Rows
+pub mod Settings

@@ -1,0 +1,48 @@
+-- The settings: the range of each, and the value that it has where none is given. Lengths are micrometres, the area square
+-- micrometres, feeds millimetres a minute, temperatures degrees Celsius.
+use Rattle.std.specs.Prelude.{ℕ, Bool, ◌&&◌, List, [], ◌∷◌, Option, option_map, find, codes, bytes_eq, ℤ, pos, int_le}
+use Rattle.scad_words.specs.declared.rows.Row.{Row}
+
+abbrev row : ℕ → ℕ → ℕ → Row
+row least most default = record { least = least; most = most; default = default }
+
+abbrev pub bed : Row
+bed = row 0 200 60
+
+abbrev pub filament_area : Row
+filament_area = row 100000 20000000 2405282
+
+abbrev pub hot_end : Row
+hot_end = row 0 500 200
+
+abbrev pub infill_spacing : Row
+infill_spacing = row 0 100000 2000
+
+abbrev pub layer_height : Row
+layer_height = row 20 1000 200
+
+abbrev pub line_width : Row
+line_width = row 100 2000 450
+
+abbrev pub print_feed : Row
+print_feed = row 1 60000 1800
+
+abbrev pub travel_feed : Row
+travel_feed = row 1 60000 7200
+
+abbrev pub walls : Row
+walls = row 1 10 2
+
+-- the keys, each with its row
+abbrev pub rows : List (List ℕ × Row)
+rows = (codes "bed", bed) ∷ (codes "filament_area", filament_area) ∷ (codes "hot_end", hot_end)
+    ∷ (codes "infill_spacing", infill_spacing) ∷ (codes "layer_height", layer_height) ∷ (codes "line_width", line_width)
+    ∷ (codes "print_feed", print_feed) ∷ (codes "travel_feed", travel_feed) ∷ (codes "walls", walls) ∷ []
+
+-- the row of a key, if there is one
+abbrev pub row_of : List ℕ → Option Row
+row_of key = option_map (λ r. r.1) (find (λ r. bytes_eq key r.0) rows)
+
+-- a whole number lies in the range of a row
+abbrev pub is_in_range : Row → ℤ → Bool
+is_in_range r z = int_le (pos r.least) z && int_le z (pos r.most)

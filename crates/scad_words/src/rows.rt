@@ -1,0 +1,100 @@
+//! The settings' table: the range of each key, and its value where a text has none.
+ghost use Rattle.std.specs.Prelude.{◌≡◌, ◌&&◌, Some, None, ℤ, pos, int_le};
+ghost use Rattle.scad_words.specs.Rows as spec;
+
+/// The least and the greatest value of a setting, and its value where none is given.
+#[derive(Clone, Copy, Debug, PartialEq, Eq)]
+pub struct Row {
+    pub least: u32,
+    pub most: u32,
+    pub default: u32,
+}
+
+impl Row {
+    pub(crate) fn holds(&self, value: i64) -> bool
+        ensures { result ≡ spec.is_in_range self.now value }
+    {
+        self.least as i64 <= value && value <= self.most as i64
+    }
+}
+
+pub(crate) const BED: Row = Row {
+    least: 0,
+    most: 200,
+    default: 60,
+};
+
+pub(crate) const FILAMENT_AREA: Row = Row {
+    least: 100_000,
+    most: 20_000_000,
+    default: 2_405_282,
+};
+
+pub(crate) const HOT_END: Row = Row {
+    least: 0,
+    most: 500,
+    default: 200,
+};
+
+pub(crate) const INFILL_SPACING: Row = Row {
+    least: 0,
+    most: 100_000,
+    default: 2000,
+};
+
+pub(crate) const LAYER_HEIGHT: Row = Row {
+    least: 20,
+    most: 1000,
+    default: 200,
+};
+
+pub(crate) const LINE_WIDTH: Row = Row {
+    least: 100,
+    most: 2000,
+    default: 450,
+};
+
+pub(crate) const PRINT_FEED: Row = Row {
+    least: 1,
+    most: 60_000,
+    default: 1800,
+};
+
+pub(crate) const TRAVEL_FEED: Row = Row {
+    least: 1,
+    most: 60_000,
+    default: 7200,
+};
+
+pub(crate) const WALLS: Row = Row {
+    least: 1,
+    most: 10,
+    default: 2,
+};
+
+/// The row of a key.
+pub(crate) fn row_of(key: &str) -> Option<Row>
+    ensures { result ≡ spec.row_of key.now }
+{
+    if key == "bed" {
+        Some(BED)
+    } else if key == "filament_area" {
+        Some(FILAMENT_AREA)
+    } else if key == "hot_end" {
+        Some(HOT_END)
+    } else if key == "infill_spacing" {
+        Some(INFILL_SPACING)
+    } else if key == "layer_height" {
+        Some(LAYER_HEIGHT)
+    } else if key == "line_width" {
+        Some(LINE_WIDTH)
+    } else if key == "print_feed" {
+        Some(PRINT_FEED)
+    } else if key == "travel_feed" {
+        Some(TRAVEL_FEED)
+    } else if key == "walls" {
+        Some(WALLS)
+    } else {
+        None
+    }
+}

@@ -1,0 +1,5 @@
+use Rattle.slice_snap.proofs.OneLeft.{cancelled_are_one}
+use Rattle.slice_snap.proofs.laws.cancelled_are_one.Goals as goal
+
+pub returns : goal.returns
+returns c = cancelled_are_one

@@ -1,0 +1,135 @@
+-- A point amid a segment lies on its line, strictly between the ends.
+use Rattle.std.proofs.Common.{◌≡◌, inl, inr, Bool, true, false, [], ◌∷◌, refl, sym, ap, ap₂, ◌∙◌, subst, arith}
+use lib.IntN.{ℤ, pos, ◌+ℤ◌, ◌-ℤ◌, ◌*ℤ◌}
+use lib.Signed.{◌<ℤ◌}
+use Rattle.std.proofs.lemmas.Int.{ints, by_lt_z}
+use Rattle.scad_base.proofs.Products.{negative_factor, negative_product, positive_product, zero_factor}
+use Rattle.scad_geom.specs.Point.{Point, is_same_point}
+use Rattle.scad_geom.specs.Winding.{side_by}
+use Rattle.scad_geom.proofs.Ring.{ring, num, ◌⊕◌, ◌⊖◌, ◌⊗◌, v0, v1, v2, v3, v4, v5, v6, v7, v8, v9, v10, v11}
+use Rattle.scad_geom.proofs.Signs.{pos_left}
+use Rattle.winding_laws.specs.Nearness.{IsPoint}
+use Rattle.winding_laws.specs.Parts.{IsOn, IsBetween}
+use Rattle.winding_laws.specs.Approach.{IsAmid, AmidIsBetween}
+use Rattle.winding_laws.proofs.Sameness.{same_by}
+use Rattle.winding_laws.proofs.Between.{rise, bend, bend_side, exchanged}
+
+-- ---- a point amid a segment lies between the ends
+rise_first : (a b p : Point) (o : IsOn a b p) → o.k *ℤ rise a p ≡ o.t *ℤ rise a b
+rise_first a b p o =
+    ring (o.k ∷ p.y ∷ a.d ∷ a.y ∷ p.d ∷ []) (v0 ⊗ (v1 ⊗ v2 ⊖ v3 ⊗ v4)) ((v0 ⊗ v1) ⊗ v2 ⊖ v3 ⊗ (v0 ⊗ v4)) refl
+    ∙ ap₂ (λ (y z : ℤ). y *ℤ a.d -ℤ a.y *ℤ z) o.y o.d
+    ∙ ring (o.s ∷ o.t ∷ a.y ∷ a.d ∷ b.y ∷ b.d ∷ []) ((v0 ⊗ v2 ⊕ v1 ⊗ v4) ⊗ v3 ⊖ v2 ⊗ (v0 ⊗ v3 ⊕ v1 ⊗ v5)) (v1 ⊗ (v4 ⊗ v3 ⊖ v2 ⊗ v5)) refl
+
+rise_second : (a b p : Point) (o : IsOn a b p) → o.k *ℤ rise p b ≡ o.s *ℤ rise a b
+rise_second a b p o =
+    ring (o.k ∷ p.y ∷ b.d ∷ b.y ∷ p.d ∷ []) (v0 ⊗ (v3 ⊗ v4 ⊖ v1 ⊗ v2)) (v3 ⊗ (v0 ⊗ v4) ⊖ (v0 ⊗ v1) ⊗ v2) refl
+    ∙ ap₂ (λ (y z : ℤ). b.y *ℤ z -ℤ y *ℤ b.d) o.y o.d
+    ∙ ring (o.s ∷ o.t ∷ a.y ∷ a.d ∷ b.y ∷ b.d ∷ []) (v4 ⊗ (v0 ⊗ v3 ⊕ v1 ⊗ v5) ⊖ (v0 ⊗ v2 ⊕ v1 ⊗ v4) ⊗ v5) (v0 ⊗ (v4 ⊗ v3 ⊖ v2 ⊗ v5)) refl
+
+bend_none : (a b p : Point) (o : IsOn a b p) → bend a b p *ℤ o.k ≡ pos 0
+bend_none a b p o =
+    ring (rise p b ∷ a.x ∷ rise a p ∷ b.x ∷ rise a b ∷ p.x ∷ o.k ∷ []) ((v0 ⊗ v1 ⊕ v2 ⊗ v3 ⊖ v4 ⊗ v5) ⊗ v6) ((v6 ⊗ v0) ⊗ v1 ⊕ (v6 ⊗ v2) ⊗ v3 ⊖ v4 ⊗ (v6 ⊗ v5)) refl
+    ∙ ap₂ (λ (y z : ℤ). y *ℤ a.x +ℤ z *ℤ b.x -ℤ rise a b *ℤ (o.k *ℤ p.x)) (rise_second a b p o) (rise_first a b p o)
+    ∙ ap (λ (y : ℤ). (o.s *ℤ rise a b) *ℤ a.x +ℤ (o.t *ℤ rise a b) *ℤ b.x -ℤ rise a b *ℤ y) o.x
+    ∙ ring (o.s ∷ o.t ∷ rise a b ∷ a.x ∷ b.x ∷ []) ((v0 ⊗ v2) ⊗ v3 ⊕ (v1 ⊗ v2) ⊗ v4 ⊖ v2 ⊗ (v0 ⊗ v3 ⊕ v1 ⊗ v4)) (num (pos 0)) refl
+
+pub on_line : (a b p : Point) → IsPoint a → IsOn a b p → side_by p a b ≡ pos 0
+on_line a b p da o =
+    sym (bend_side a b p)
+    ∙ ap (λ (z : ℤ). z *ℤ a.d) (zero_factor (bend a b p) o.k o.positive (bend_none a b p o))
+    ∙ ring (a.d ∷ []) (num (pos 0) ⊗ v0) (num (pos 0)) refl
+
+mul_comm : (s t : ℤ) → s *ℤ t ≡ t *ℤ s
+mul_comm s t = ring (s ∷ t ∷ []) (v0 ⊗ v1) (v1 ⊗ v0) refl
+
+climbs : (k r t z : ℤ) → pos 0 <ℤ k → pos 0 <ℤ t → k *ℤ r ≡ t *ℤ z → pos 0 <ℤ z → pos 0 <ℤ r
+climbs k r t z kp tp e h = pos_left r k kp (subst (λ (y : ℤ). pos 0 <ℤ y) (sym (mul_comm r k ∙ e)) (positive_product t z tp h))
+
+falls : (k r t z : ℤ) → pos 0 <ℤ k → pos 0 <ℤ t → k *ℤ r ≡ t *ℤ z → z <ℤ pos 0 → r <ℤ pos 0
+falls k r t z kp tp e h = negative_factor r k kp (subst (λ (y : ℤ). y <ℤ pos 0) (sym (mul_comm r k ∙ e ∙ mul_comm t z)) (negative_product z t tp h))
+
+stays : (k r t z : ℤ) → pos 0 <ℤ k → k *ℤ r ≡ t *ℤ z → z ≡ pos 0 → r ≡ pos 0
+stays k r t z kp e h = zero_factor r k kp (mul_comm r k ∙ e ∙ ap (λ (y : ℤ). t *ℤ y) h ∙ ring (t ∷ []) (v0 ⊗ num (pos 0)) (num (pos 0)) refl)
+
+less_of_gap : (s t : ℤ) → pos 0 <ℤ (t -ℤ s) → s <ℤ t
+less_of_gap s t h = omega (arith, ints)
+
+more_of_gap : (s t : ℤ) → (t -ℤ s) <ℤ pos 0 → t <ℤ s
+more_of_gap s t h = omega (arith, ints)
+
+equal_of_gap : (s t : ℤ) → t -ℤ s ≡ pos 0 → s ≡ t
+equal_of_gap s t h = omega (arith, ints)
+
+-- by height, where the ends differ in height
+by_height : {A : Type 0} (a b p : Point) → IsAmid a b p → (IsBetween (λ q. q.y) a p b → A) → (rise a b ≡ pos 0 → A) → A
+by_height {A = A} a b p h found level =
+    let o = h.on in
+    by_lt_z (pos 0) (rise a b)
+    (λ up. found (inl (
+      less_of_gap (a.y *ℤ p.d) (p.y *ℤ a.d) (climbs o.k (rise a p) o.t (rise a b) o.positive h.second (rise_first a b p o) up),
+      less_of_gap (p.y *ℤ b.d) (b.y *ℤ p.d) (climbs o.k (rise p b) o.s (rise a b) o.positive h.first (rise_second a b p o) up),
+    )))
+    (λ m. by_lt_z (rise a b) (pos 0)
+    (λ down. found (inr (
+      more_of_gap (p.y *ℤ b.d) (b.y *ℤ p.d) (falls o.k (rise p b) o.s (rise a b) o.positive h.first (rise_second a b p o) down),
+      more_of_gap (a.y *ℤ p.d) (p.y *ℤ a.d) (falls o.k (rise a p) o.t (rise a b) o.positive h.second (rise_first a b p o) down),
+    )))
+    (λ l. level (omega (arith, ints))))
+
+amid_exchanged : (a b p : Point) → IsAmid a b p → IsAmid (exchanged a) (exchanged b) (exchanged p)
+amid_exchanged a b p h =
+    let o = h.on in
+    record {
+      on = record { k = o.k; s = o.s; t = o.t; positive = o.positive; first = o.first; second = o.second; some = o.some; x = o.y; y = o.x; d = o.d };
+      first = h.first;
+      second = h.second;
+    }
+
+not_true : (b : Bool) → b ≡ true → b ≡ false → ⊥
+not_true true h k = cc
+not_true false h k = cc
+
+pub amid_is_between : AmidIsBetween
+amid_is_between a b p da db differ h = (
+  on_line a b p da h.on,
+  by_height a b p h (λ f. inl f)
+      (λ level. by_height (exchanged a) (exchanged b) (exchanged p) (amid_exchanged a b p h)
+      (λ f. inr (
+        equal_of_gap (a.y *ℤ p.d) (p.y *ℤ a.d) (stays h.on.k (rise a p) h.on.t (rise a b) h.on.positive (rise_first a b p h.on) level),
+        equal_of_gap (p.y *ℤ b.d) (b.y *ℤ p.d) (stays h.on.k (rise p b) h.on.s (rise a b) h.on.positive (rise_second a b p h.on) level),
+        f,
+      ))
+      (λ place. absurd (not_true (is_same_point a b)
+      (same_by a b (record { x = equal_of_gap (a.x *ℤ b.d) (b.x *ℤ a.d) place; y = equal_of_gap (a.y *ℤ b.d) (b.y *ℤ a.d) level })) differ))),
+)
+
+-- ---- three points of one segment lie on one line
+abbrev turn_of : ℤ → ℤ → ℤ → ℤ → ℤ → ℤ → ℤ → ℤ → ℤ → ℤ
+turn_of px py pd qx qy qd rx ry rd = (ry *ℤ qd -ℤ qy *ℤ rd) *ℤ px +ℤ (qy *ℤ pd -ℤ py *ℤ qd) *ℤ rx -ℤ (ry *ℤ pd -ℤ py *ℤ rd) *ℤ qx
+
+scaled_turn : (k l m px py pd qx qy qd rx ry rd : ℤ) → turn_of px py pd qx qy qd rx ry rd *ℤ (k *ℤ (l *ℤ m)) ≡ turn_of (k *ℤ px) (k *ℤ py) (k *ℤ pd) (l *ℤ qx) (l *ℤ qy) (l *ℤ qd) (m *ℤ rx) (m *ℤ ry) (m *ℤ rd)
+scaled_turn k l m px py pd qx qy qd rx ry rd =
+    ring (k ∷ l ∷ m ∷ px ∷ py ∷ pd ∷ qx ∷ qy ∷ qd ∷ rx ∷ ry ∷ rd ∷ [])
+    (((v10 ⊗ v8 ⊖ v7 ⊗ v11) ⊗ v3 ⊕ (v7 ⊗ v5 ⊖ v4 ⊗ v8) ⊗ v9 ⊖ (v10 ⊗ v5 ⊖ v4 ⊗ v11) ⊗ v6) ⊗ (v0 ⊗ (v1 ⊗ v2)))
+    (((v2 ⊗ v10) ⊗ (v1 ⊗ v8) ⊖ (v1 ⊗ v7) ⊗ (v2 ⊗ v11)) ⊗ (v0 ⊗ v3) ⊕ ((v1 ⊗ v7) ⊗ (v0 ⊗ v5) ⊖ (v0 ⊗ v4) ⊗ (v1 ⊗ v8)) ⊗ (v2 ⊗ v9)
+    ⊖ ((v2 ⊗ v10) ⊗ (v0 ⊗ v5) ⊖ (v0 ⊗ v4) ⊗ (v2 ⊗ v11)) ⊗ (v1 ⊗ v6)) refl
+
+-- by weights of two points
+no_turn : (s t f g h w ax ay ad bx by bd : ℤ) → turn_of (s *ℤ ax +ℤ t *ℤ bx) (s *ℤ ay +ℤ t *ℤ by) (s *ℤ ad +ℤ t *ℤ bd) (f *ℤ ax +ℤ g *ℤ bx) (f *ℤ ay +ℤ g *ℤ by) (f *ℤ ad +ℤ g *ℤ bd)
+    (h *ℤ ax +ℤ w *ℤ bx) (h *ℤ ay +ℤ w *ℤ by) (h *ℤ ad +ℤ w *ℤ bd) ≡ pos 0
+no_turn s t f g h w ax ay ad bx by bd =
+    ring (s ∷ t ∷ f ∷ g ∷ h ∷ w ∷ ax ∷ ay ∷ ad ∷ bx ∷ by ∷ bd ∷ [])
+    (((v4 ⊗ v7 ⊕ v5 ⊗ v10) ⊗ (v2 ⊗ v8 ⊕ v3 ⊗ v11) ⊖ (v2 ⊗ v7 ⊕ v3 ⊗ v10) ⊗ (v4 ⊗ v8 ⊕ v5 ⊗ v11)) ⊗ (v0 ⊗ v6 ⊕ v1 ⊗ v9)
+    ⊕ ((v2 ⊗ v7 ⊕ v3 ⊗ v10) ⊗ (v0 ⊗ v8 ⊕ v1 ⊗ v11) ⊖ (v0 ⊗ v7 ⊕ v1 ⊗ v10) ⊗ (v2 ⊗ v8 ⊕ v3 ⊗ v11)) ⊗ (v4 ⊗ v6 ⊕ v5 ⊗ v9)
+    ⊖ ((v4 ⊗ v7 ⊕ v5 ⊗ v10) ⊗ (v0 ⊗ v8 ⊕ v1 ⊗ v11) ⊖ (v0 ⊗ v7 ⊕ v1 ⊗ v10) ⊗ (v4 ⊗ v8 ⊕ v5 ⊗ v11)) ⊗ (v2 ⊗ v6 ⊕ v3 ⊗ v9)) (num (pos 0)) refl
+
+pub three_on_line : (a b p q r : Point) → IsOn a b p → IsOn a b q → IsOn a b r → side_by q p r ≡ pos 0
+three_on_line a b p q r hp hq hr =
+    let k : ℤ = hp.k *ℤ (hq.k *ℤ hr.k) in
+    let more : pos 0 <ℤ k = positive_product hp.k (hq.k *ℤ hr.k) hp.positive (positive_product hq.k hr.k hq.positive hr.positive) in
+    let none : turn_of (hp.k *ℤ p.x) (hp.k *ℤ p.y) (hp.k *ℤ p.d) (hq.k *ℤ q.x) (hq.k *ℤ q.y) (hq.k *ℤ q.d) (hr.k *ℤ r.x) (hr.k *ℤ r.y) (hr.k *ℤ r.d) ≡ pos 0 =
+    rw (hp.x, hp.y, hp.d, hq.x, hq.y, hq.d, hr.x, hr.y, hr.d) (no_turn hp.s hp.t hq.s hq.t hr.s hr.t a.x a.y a.d b.x b.y b.d) in
+    sym (bend_side p r q)
+    ∙ ap (λ (z : ℤ). z *ℤ p.d) (zero_factor (bend p r q) k more (scaled_turn hp.k hq.k hr.k p.x p.y p.d q.x q.y q.d r.x r.y r.d ∙ none))
+    ∙ ring (p.d ∷ []) (num (pos 0) ⊗ v0) (num (pos 0)) refl
