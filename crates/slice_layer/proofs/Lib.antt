@@ -1,0 +1,6 @@
+pub mod Balanced
+pub mod Ends
+pub mod Sections
+pub mod Clear
+pub mod Membership
+pub mod Surfaces

@@ -1,0 +1,5 @@
+pub mod Leaves
+pub mod Cuts
+pub mod Outlines
+pub mod Membership
+pub mod Refusal
