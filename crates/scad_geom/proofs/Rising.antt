@@ -7,7 +7,6 @@ use Rattle.std.proofs.lemmas.Int.{ints}
 use Rattle.scad_geom.proofs.Signs.{at_least_mul, at_least_left}
 use Rattle.scad_geom.proofs.Ring.{ring, num, ◌⊕◌, ◌⊖◌, ◌⊗◌, v0, v1, v2, v3, v4, v5, v6}
 
-
 -- the mean of a and b by the weights s and t is at most w in size
 pub record Lies (w s t a b : ℤ) : Type 0 where
   pub from : (pos 0 -ℤ w *ℤ (s +ℤ t)) ≤ℤ (s *ℤ a +ℤ t *ℤ b)
