@@ -63,9 +63,9 @@ module _ (layer h : ℕ) (q : Point) (d : pos 0 <ℤ q.d) where
         ∙ section_winds (surface_at (surfaces s) leaf) (surface_closed layer h (surfaces s) leaf surfaces_closed) (surface_clear (surfaces s) leaf all_clear)
 
     -- a shape that numbers the leaves holds, over the section, what the tree contains by its exact cuts
-    section_holds : (shape : Shape) → numbered_of shape ≡ numbered_from 0 s → is_in_by true true (tree_section layer h s) shape q ≡ contained_at layer h q s
+    section_contains : (shape : Shape) → numbered_of shape ≡ numbered_from 0 s → is_in_by true true (tree_section layer h s) shape q ≡ contained_at layer h q s
     unfolding is_in_by
-    section_holds shape numbered =
+    section_contains shape numbered =
         (λ i. shape_holds (λ leaf. not (is_zero (leaf_winds leaf i))) shape)
         ∙ numbering_holds.shapes (λ ts. contains (plane_of layer h) ts q) s shape numbered
 
@@ -78,7 +78,7 @@ pub outlines_hold_points : OutlinesHoldPoints
 outlines_hold_points layer h s outlines closed a q d clear =
     border.outlines_hold_points (tree_section layer h s) a.shape outlines (leaves_balanced layer h s (recursion_from_All (λ ts. is_closed ts ≡ true) (surfaces s) closed)) a.are_outlines true true q d
     (section_clear layer h q d s closed clear)
-    ∙ ap counted (section_holds layer h q d s closed clear a.shape a.numbered)
+    ∙ ap counted (section_contains layer h q d s closed clear a.shape a.numbered)
 
 pub outlines_hold_centres : OutlinesHoldCentres
 outlines_hold_centres layer h s outlines closed a i j clear = outlines_hold_points layer h s outlines closed a (centre i j) (omega (arith, ints)) clear

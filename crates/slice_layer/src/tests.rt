@@ -223,4 +223,5 @@ fn edges_past_the_limit_are_refused(rt: HostRuntime) -> Result<(), Fail> {
 #[test]
 fn laws_are_called() {
     laws::outlines_hold();
+    laws::outlines_are_near_border();
 }
