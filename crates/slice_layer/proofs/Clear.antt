@@ -1,5 +1,5 @@
 -- What is clear of exact cuts by one micrometre is clear of their rounded edges by one half.
-use Rattle.std.proofs.Common.{◌≡◌, ℕ, List, [], ◌∷◌, ◌++◌, ℤ, pos, ◌+ℤ◌, ◌-ℤ◌, ◌*ℤ◌, ◌<ℤ◌, ◌≤ℤ◌, flat_map, arith}
+use Rattle.std.proofs.Common.{List, [], ◌∷◌, ℤ, pos, ◌<ℤ◌, flat_map, arith}
 use Rattle.std.proofs.lemmas.Int.{ints}
 use Rattle.std.specs.List.{AllByRecursion}
 use Rattle.scad_geom.specs.declared.point.Edge.{Edge}

@@ -7,7 +7,6 @@ use Rattle.std.specs.Int.{int_div_euclid}
 use Rattle.std.specs.List.{find, list_all, cons_option, AllByRecursion}
 use Rattle.scad_geom.specs.declared.point3.Pt3.{Pt3}
 use Rattle.scad_geom.specs.Limits.{coordinate_limit, point_limit}
-use Rattle.scad_geom.specs.Point.{Point}
 use Rattle.scad_geom.specs.Rounding.{half_down}
 use Rattle.scad_geom.specs.Segment.{Segment}
 use Rattle.scad_geom.specs.Within.{IsWithin, IsEdgeWithin}

@@ -1,5 +1,5 @@
 -- The outlines of a layer hold what the tree contains, away from its cuts.
-use Rattle.std.proofs.Common.{◌≡◌, ℕ, zero, suc, Bool, true, not, List, [], ◌∷◌, map, flat_map, ℤ, pos, ◌<ℤ◌, arith, refl, ap, sym, ◌∙◌}
+use Rattle.std.proofs.Common.{◌≡◌, ℕ, zero, suc, true, not, List, [], ◌∷◌, map, flat_map, pos, ◌<ℤ◌, arith, ap, ◌∙◌}
 use Rattle.std.proofs.lemmas.Int.{ints}
 use Rattle.std.specs.List.{AllByRecursion}
 use Rattle.std.proofs.lemmas.List.Elements.{recursion_from_All, All-from_recursion}
@@ -30,7 +30,6 @@ use Rattle.slice_bool.specs.Membership.{IsClearByHalf}
 use Rattle.slice_bool.proofs.Membership as border
 use Rattle.slice_layer.specs.Leaves.{AreClosed}
 use Rattle.slice_layer.specs.Cuts.{cuts_at, IsClearOfCuts}
-use Rattle.slice_layer.specs.Outlines.{AreLayerOutlines}
 use Rattle.slice_layer.specs.Membership.{OutlinesHoldPoints, OutlinesHoldCentres}
 use Rattle.slice_layer.proofs.Balanced.{cuts_balanced}
 use Rattle.slice_layer.proofs.Sections.{leaf_edges, surface_closed, leaves_balanced, sections_have}

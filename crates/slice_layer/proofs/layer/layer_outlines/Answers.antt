@@ -1,11 +1,10 @@
-use Rattle.std.proofs.Common.{◌≡◌, All, sym, ◌∙◌, subst}
+use Rattle.std.proofs.Common.{All, sym, ◌∙◌, subst}
 use Rattle.std.proofs.lemmas.Result.{IfOk-weaker}
 use Rattle.scad_geom.specs.Limits.{coordinate_limit}
 use Rattle.scad_geom.specs.Within.{IsEdgeWithin}
 use Rattle.scad_tree.specs.View.{solid_of}
 use Rattle.slice_bool.specs.Outlines.{AreOutlinesOf}
 use Rattle.slice_layer.specs.Leaves.{AreSolids}
-use Rattle.slice_layer.specs.Outlines.{AreLayerOutlines}
 use Rattle.slice_layer.specs.Membership.{HoldCentres}
 use Rattle.slice_layer.specs.Border.{AreNearSectionBorder}
 use Rattle.slice_layer.proofs.Surfaces.{solids_closed, section_within}
