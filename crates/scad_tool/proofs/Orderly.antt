@@ -14,7 +14,8 @@ use Rattle.scad_script.proofs.Layers.{Draws, piece_draws, layers_draw, layers_la
 use Rattle.scad_expr.specs.declared.fault.EvalFault.TheVariants.{Fault, Over, Memory}
 use Rattle.scad_expr.specs.State.{Outcome, gives, refuses}
 use Rattle.scad_tree.specs.Solid.{Solid}
-use Rattle.scad_tree.specs.Sizes.{leaf_count, triangle_count}
+use Rattle.scad_tree.specs.Order.{leaves as leaf_count}
+use Rattle.scad_tree.specs.Sizes.{triangle_count}
 use Rattle.scad_tree.specs.Height.{layers}
 use Rattle.scad_tree.specs.Text.{text_of as tree_text}
 use Rattle.scad_tool.specs.Words.{Command, Check, Tree, Slice, model_of, command_of}
@@ -78,7 +79,7 @@ source_orderly : (command : Command) (source : List ℕ) → IsOrderly (given_of
 source_orderly (Check model) source =
     told_orderly (given_of (Some (Check model))) (λ tree. check_end (leaf_count tree) (triangle_count tree) (layers tree layer_height)) (source_means source)
     (λ tree. end_if (IsOver (layers_passed (layers tree layer_height))) (ok_line (leaf_count tree) (triangle_count tree) (layers tree layer_height))
-        (nat_lt layer_limit (layers tree layer_height)))
+    (nat_lt layer_limit (layers tree layer_height)))
 source_orderly (Tree model) source =
     told_orderly (given_of (Some (Tree model))) (λ tree. Finishes (tree_text tree)) (source_means source)
     (λ tree same. let never : ⊥ = cc in absurd never)

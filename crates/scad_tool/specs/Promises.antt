@@ -1,15 +1,20 @@
 -- What a run promises, one sentence each, where it isn't said of every script.
-use Rattle.std.specs.Prelude.{◌≡◌, ◌++◌, ◌≤◌, List, ℕ, Option, Some, None, IfSome, IsSomeAnd, length}
+use Rattle.std.specs.Prelude.{◌≡◌, ◌⊎◌, ◌++◌, ◌≤◌, List, ℕ, Option, Some, None, IfSome, IsSomeAnd, length}
 use Rattle.scad_fault.specs.declared.status.Status.{Status}
-use Rattle.scad_fault.specs.declared.status.Status.TheVariants.{Source, Usage, Settings, Read, Write, Over, Memory}
+use Rattle.scad_fault.specs.declared.status.Status.TheVariants.{Done, Source, Usage, Settings, Read, Write, Over, Memory}
 use Rattle.scad_fault.specs.Line.{line_of}
 use Rattle.scad_io.specs.Desk.{Files, View}
 use Rattle.scad_script.specs.Script.{Script, expected_echoes}
 use Rattle.scad_script.specs.Promises.{Adds}
 use Rattle.cli_text.specs.Cli.{Layer, cli as text_of_layers}
-use Rattle.scad_tool.specs.Words.{Command, Check, Tree, Slice, command_of}
+use Rattle.scad_tool.specs.Words.{Command, Check, Tree, Slice, model_of, command_of}
 use Rattle.scad_tool.specs.Source.{cube_size}
-use Rattle.scad_tool.specs.Cube.{OutlinesHoldCube}
+use Rattle.scad_expr.specs.State.{State, gives}
+use Rattle.scad_tree.specs.Solid.{Solid}
+use Rattle.scad_tree.specs.Height.{layers}
+use Rattle.scad_tool.specs.Cube.{layer_height, OutlinesHoldCube}
+use Rattle.scad_tool.specs.Meaning.{source_means}
+use Rattle.scad_tool.specs.Told.{layer_limit}
 use Rattle.scad_tool.specs.Answer.{source_limit, answer}
 
 -- what a name contains has this property, where the contents are told
@@ -69,3 +74,19 @@ JudgesCommand command status = (given : Command) × (command ≡ Some given)
 
 abbrev pub JudgesWords : List (List ℕ) → Status → Type 0
 JudgesWords words status = JudgesCommand (command_of words) status
+
+-- what a command asks of its source: `check` and `tree` that it means a tree, `check` that this has no more layers than
+-- the limit, `slice` that it is the form of a cube
+abbrev pub IsAccepted : Command → List ℕ → Type 0
+IsAccepted (Check model) source =
+    (tree : Solid) × (s : State) × (source_means source ≡ gives tree s) × (layers tree layer_height ≤ layer_limit)
+IsAccepted (Tree model) source = (tree : Solid) × (s : State) × (source_means source ≡ gives tree s)
+IsAccepted (Slice model cli) source = (size : ℕ) × (cube_size source ≡ Some size)
+
+-- Where the words are of the form, the source is within its limit and accepted, and the count of faults doesn't rise,
+-- all is done, or memory is wanting.
+abbrev pub IsComplete : List (List ℕ) → Files → Status → ℕ → ℕ → Type 0
+IsComplete words files status before now =
+    IfSome files (λ contents. (command : Command) (source : List ℕ) → command_of words ≡ Some command
+    → contents (model_of command) ≡ Some source → length source ≤ source_limit → IsAccepted command source
+    → now ≡ before → (status ≡ Done) ⊎ (status ≡ Memory))

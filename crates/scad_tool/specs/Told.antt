@@ -11,7 +11,8 @@ use Rattle.scad_expr.specs.declared.fault.EvalFault.{EvalFault}
 use Rattle.scad_expr.specs.declared.fault.EvalFault.TheVariants.{Fault, Over, Memory}
 use Rattle.scad_expr.specs.State.{Outcome, gives, refuses}
 use Rattle.scad_tree.specs.Solid.{Solid}
-use Rattle.scad_tree.specs.Sizes.{leaf_count, triangle_count}
+use Rattle.scad_tree.specs.Order.{leaves as leaf_count}
+use Rattle.scad_tree.specs.Sizes.{triangle_count}
 use Rattle.scad_tree.specs.Height.{layers}
 use Rattle.scad_tree.specs.Text.{text_of}
 use Rattle.scad_tool.specs.Cube.{layer_height}

@@ -4,7 +4,7 @@ ghost use Rattle.scad_script.specs.Run.{IsReady, RunsTo};
 ghost use Rattle.scad_script.specs.Promises.{IsReadFault, IsWriteFault, IsMemoryLine, AreFronts, HandsIn, CreatesForBytes, FailedReportIsWrite};
 ghost use Rattle.scad_tool.specs.Answer.{OnScript, given_by};
 ghost use Rattle.scad_tool.specs.Words.{command_of};
-ghost use Rattle.scad_tool.specs.Promises.{Answers, HoldsCube, Refuses, LeavesOutputs, JudgesWords};
+ghost use Rattle.scad_tool.specs.Promises.{Answers, HoldsCube, Refuses, LeavesOutputs, JudgesWords, IsComplete};
 
 use crate::work::work;
 use scad_fault::Status;
@@ -51,6 +51,7 @@ pub fn run<R: Threads + Sync, D: Desk, G: Gate>(
     ensures memory { result ≡ Status.Memory → OnScript (map string_bytes words.now) (D.files desk.old)
         (λ whole. IsMemoryLine whole (D.view desk.old) (D.view desk.new)) }
     ensures failed_report { FailedReportIsWrite result (D.view desk.new) }
+    ensures complete { IsComplete (map string_bytes words.now) (D.files desk.old) result (D.faults desk.old) (D.faults desk.new) }
 
     // Both files are fronts of the answer's bytes, at every status; at the statuses 0 to 4 and 6 none is
     // created that gets no bytes.

@@ -90,7 +90,9 @@ fn trees_shown(rt: HostRuntime) -> Result<(), Fail> {
 }
 
 const ECHOES: &str = "ECHO: \"a\"\nECHO: 2\n";
+
 const CHECK_LINE: &str = "ok: 1 leaves, 12 triangles, 5 layers\n";
+
 const SOURCE: &str = "echo(\"a\"); echo(2); cube(1);";
 
 /// A check of a source with echo lines in which the call of this number fails: whether it was done all the same.
