@@ -80,7 +80,8 @@ script_ends words contents input command source is form there short accepted =
 
 pub completes : (words : List (List ℕ)) (files : Files) (input : Option Input) (status : Status) (old new : View) (before now : ℕ) → IsRead words files input → Promised (given_by words) (script_of words input) status old new → (status ≡ Read → before < now) → (status ≡ Write → before < now) → IsComplete words files status before now
 completes words None input status old new before now is promised read write = tt
-completes words (Some contents) input status old new before now is promised read write command source form there short accepted same =
+completes words (Some contents) input status old new before now is promised read write =
+    λ command source form there short accepted same.
     let ends = script_ends words contents input command source is form there short accepted in
     done_by (given_by words) (script_of words input) ends.0 status old new ends.1 promised
     (λ r. no_rise before now same (read r)) (λ w. no_rise before now same (write w))

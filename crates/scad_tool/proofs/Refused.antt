@@ -80,10 +80,9 @@ refused_line steps (IsRefusal why) status old new answered other =
 refused_line steps Lacks status old new answered other = absurd answered
 
 quiet_refused : (whole : Script) (status : Status) (old new : View) → AllUpTo echoing whole.steps → RunsTo whole status old new → IsAnswered whole status old new → status ≢ Done → IsRefused whole status old new
-quiet_refused whole status old new all runs answered other = (
-  refused_line whole.steps whole.ending status old new answered other,
-  files_stand whole status old new all runs,
-)
+quiet_refused whole status old new all runs answered other =
+    let stand = files_stand whole status old new all runs in
+    (refused_line whole.steps whole.ending status old new answered other, stand.0, stand.1)
 
 refused_slice : (model cli : List ℕ) (size : Option ℕ) (status : Status) (old new : View) → RunsTo (first (Reads model ∷ []) (slice_script cli size)) status old new → IsAnswered (first (Reads model ∷ []) (slice_script cli size)) status old new → status ≢ Done → IsRefused (first (Reads model ∷ []) (slice_script cli size)) status old new
 refused_slice model cli None status old new runs answered other =

@@ -14,7 +14,7 @@ pub enum Command<'a> {
 impl<'a> Command<'a> {
     /// The name of the source.
     pub fn model(self) -> &'a str
-        ensures { result.now ≡ model_of (meant self) }
+        ensures { result.now ≡ model_of (meant self.entry) }
     {
         match self {
             Command::Check(model) => model,

@@ -50,7 +50,7 @@ fn follow<D: Desk>(
     requires sound { Sound (D.view desk.old) }
     requires absent { (D.view desk.old).cli.created ≡ false }
 
-    ensures completes { Completes (input_script (meant command) (Some input))
+    ensures completes { Completes (input_script (meant command.entry) (Some input))
         result (D.view desk.old) (D.view desk.new) }
     ensures files { D.files desk.new ≡ D.files desk.old }
     ensures later { D.faults desk.old ≤ D.faults desk.new }

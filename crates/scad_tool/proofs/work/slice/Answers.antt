@@ -7,7 +7,7 @@ use Rattle.scad_tool.specs.Source.{cube_size}
 use Rattle.scad_tool.specs.Answer.{cube_script, slice_script}
 use Rattle.scad_tool.proofs.work.slice.Goals as goal
 
-pub returns-clause-completes : goal.returns-clause-completes
-returns-clause-completes g c whole start left =
+pub returns-in-Err-clause-completes : goal.returns-in-Err-clause-completes
+returns-in-Err-clause-completes g c whole start left =
     let same : slice_script c.args.cli.now (cube_size c.args.source.now) ≡ first (Makes Cli c.args.cli.now ∷ []) (cube_script c.in-Some.size) = search rules in
     c.in-Err.ensures.carries whole _ start (as_left same left)
