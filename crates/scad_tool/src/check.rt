@@ -8,6 +8,7 @@ ghost use Rattle.scad_tool.specs.Meaning.{source_means};
 ghost use Rattle.scad_tool.specs.Told.{ok_line, check_end, check_script, tree_script, told};
 ghost use Rattle.scad_tool.specs.Playing.{IsEnd};
 
+use crate::cube::LAYER_HEIGHT;
 use crate::evaluation::evaluate;
 use itoa::Buffer;
 use scad_fault::{Budget, Text};
@@ -15,9 +16,6 @@ use scad_io::Desk;
 use scad_script::{Refusal, Stop};
 use scad_tree::Tree;
 use std::alloc::{AllocError, Global};
-
-/// The layer height where no settings are given, in micrometres.
-const LAYER_HEIGHT: u32 = 200;
 
 /// The most layers of a tree.
 const LAYER_LIMIT: u32 = 20_000;
