@@ -122,7 +122,7 @@ def long():
         check("of_a_comment_at_the_limit", 0, EMPTY, b"//" + b"/" * (SOURCE_LIMIT - 2)),
         check("of_nothing_but_semicolons", 0, EMPTY, filled(b";")),
         check("of_as_many_assignments_as_there_is_room_for", 0, EMPTY, filled(b"a=1;")),
-        check("of_more_cubes_than_leaves", 6, b"budget 4 Leaves at 1:32769\n", CUBE * 20000),
+        check("of_more_cubes_than_may_be_made", 6, b"budget 4 Leaves at 1:32769\n", CUBE * 20000),
     ]
 
 

@@ -1,2 +1,1 @@
 pub mod Cli
-pub mod Appends

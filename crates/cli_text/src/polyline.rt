@@ -2,7 +2,7 @@
 ghost use Rattle.std.specs.Prelude.{◌≡◌, ◌++◌, List, OnOk, OnErr};
 ghost use Rattle.std.specs.List.{flat_map};
 ghost use Rattle.cli_text.specs.Cli.{direction, point_text, polyline_start, polyline_text, closed};
-ghost use Rattle.cli_text.specs.Appends.{BeginsWith};
+ghost use Rattle.scad_base.specs.Appends.{BeginsWith};
 
 use crate::number::{push_signed, push_unsigned};
 use scad_geom::{Pt, twice_area};

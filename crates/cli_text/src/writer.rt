@@ -3,7 +3,7 @@ ghost use Rattle.std.specs.Prelude.{◌≡◌, ◌++◌, List, take, OnOk, OnErr
 ghost use Rattle.std.specs.List.{flat_map};
 ghost use Rattle.scad_geom.specs.declared.point.Pt.{Pt};
 ghost use Rattle.cli_text.specs.Cli.{head_start, head_end, head, layer_start, layer_text, polyline_text, geometry_end};
-ghost use Rattle.cli_text.specs.Appends.{BeginsWith};
+ghost use Rattle.scad_base.specs.Appends.{BeginsWith};
 
 use crate::number::push_unsigned;
 use crate::polyline::push_polyline;

@@ -6,7 +6,7 @@ use Rattle.std.proofs.Math.ListN.{drop_of_length-le}
 use Rattle.std.proofs.lemmas.List.Sums.{sum_by-cons}
 use Rattle.scad_geom.specs.declared.point.Pt.{Pt}
 use Rattle.gcode_text.specs.declared.rates.Rates.{Rates}
-use Rattle.gcode_text.specs.Appends.{BeginsWith}
+use Rattle.scad_base.specs.Appends.{BeginsWith}
 use Rattle.gcode_text.specs.Numeral.{last_digits}
 use Rattle.gcode_text.specs.Amount.{move_volume, moves_volume, path_volume, paths_volume, filament}
 use Rattle.gcode_text.specs.Gcode.{print_line, moves_text, path_text, paths_text}

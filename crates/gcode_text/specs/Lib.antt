@@ -1,5 +1,4 @@
 pub mod Amount
-pub mod Appends
 pub mod Cap
 pub mod Gcode
 pub mod Machine

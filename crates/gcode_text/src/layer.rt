@@ -4,7 +4,7 @@ ghost use Rattle.std.specs.List.{sum_by};
 ghost use Rattle.scad_geom.specs.declared.point.Pt.{Pt};
 ghost use Rattle.gcode_text.specs.Amount.{paths_volume};
 ghost use Rattle.gcode_text.specs.Gcode.{layer_text, paths_text};
-ghost use Rattle.gcode_text.specs.Appends.{BeginsWith};
+ghost use Rattle.scad_base.specs.Appends.{BeginsWith};
 
 use crate::path::push_path;
 use crate::rates::Rates;

@@ -3,7 +3,7 @@ ghost use Rattle.std.specs.Prelude.{◌≡◌, ◌++◌, ◌+◌, ◌%◌, OnOk,
 ghost use Rattle.std.specs.Fmt.{decimal};
 ghost use Rattle.scad_base.specs.Characters.{digit_zero};
 ghost use Rattle.gcode_text.specs.Numeral.{last_digits, fixed, millimetres};
-ghost use Rattle.gcode_text.specs.Appends.{BeginsWith};
+ghost use Rattle.scad_base.specs.Appends.{BeginsWith};
 
 use itoa::Buffer;
 use std::alloc::AllocError;

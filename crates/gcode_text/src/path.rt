@@ -2,7 +2,7 @@
 ghost use Rattle.std.specs.Prelude.{◌≡◌, ◌+◌, ◌*◌, ◌^◌, length, ◌≤◌, List, [], ◌++◌, OnOk, OnErr};
 ghost use Rattle.gcode_text.specs.Amount.{move_volume, moves_volume, path_volume, filament};
 ghost use Rattle.gcode_text.specs.Gcode.{print_line, moves_text, path_text};
-ghost use Rattle.gcode_text.specs.Appends.{BeginsWith};
+ghost use Rattle.scad_base.specs.Appends.{BeginsWith};
 
 use crate::amount::{filament, move_volume};
 use crate::rates::Rates;

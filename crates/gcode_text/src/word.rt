@@ -1,7 +1,7 @@
 //! Words and lines.
 ghost use Rattle.std.specs.Prelude.{◌≡◌, List, ◌++◌, OnOk, OnErr};
 ghost use Rattle.gcode_text.specs.Gcode.{target, feed_end, amount, travel_line, print_line, height_line, heat_line, number_line};
-ghost use Rattle.gcode_text.specs.Appends.{BeginsWith};
+ghost use Rattle.scad_base.specs.Appends.{BeginsWith};
 
 use crate::numeral::{push_hundred_thousandths, push_millimetres, push_thousandths, push_unsigned};
 use crate::rates::Rates;

@@ -3,3 +3,4 @@ pub mod Lists
 pub mod Memories
 pub mod Products
 pub mod Tests
+mod Examples

@@ -1,3 +1,4 @@
+pub mod Appends
 pub mod Characters
 pub mod Memory
 pub mod Results

@@ -2,7 +2,7 @@
 use Rattle.std.proofs.Common.{◌≡◌, ℕ, zero, suc, ◌+◌, add-one, Bool, true, false, ◌||◌, List, [], ◌∷◌, Option, Some, None, if◌then◌else◌, codes, refl, sym, ap, ◌∙◌}
 use Rattle.std.specs.Prelude.{slice_get}
 use Rattle.std.specs.Cmp.Lexicographic.{nat_list_eq_equiv, bytes_decides}
-use Rattle.std.proofs.lemmas.Bool.{true≢false}
+use Rattle.std.proofs.lemmas.Bool.{or_parts}
 use Rattle.scad_ast.specs.Tree.{Arguments, no_arguments, argument}
 use Rattle.scad_value.specs.Datum.{Datum}
 use Rattle.scad_scope.specs.Names.{Names, is_same_name, value_of_name, with_name}
@@ -29,10 +29,6 @@ value_of-with n m d (p ∷ more) = by (value_of-with n m d more) (is_same_name m
         ∙ ap (λ k. if is_same_name n k then Some d else (if is_same_name n p.0 then Some p.1 else value_of_name n more)) (sym ((bytes_decides m p.0).0 e))
     by rest false e = ap (λ o. if is_same_name n p.0 then Some p.1 else o) rest ∙ apart (is_same_name n m) refl e
 
-or_left : (a b : Bool) → (a || b) ≡ false → a ≡ false
-or_left true b h = absurd (true≢false h)
-or_left false b h = refl
-
 -- ---- the parameters of `assert`
 abbrev is_zero : ℕ → Bool
 is_zero zero = true
@@ -52,7 +48,7 @@ named name d all = by (is_parameter name names || is_dollar name) refl
     by : (b : Bool) → (is_parameter name names || is_dollar name) ≡ b → value_of_name (codes "test") (if b then with_name name d all else all) ≡ (if is_same_name (codes "test") name then Some d else value_of_name (codes "test") all)
     by true e = value_of-with (codes "test") name d all
     by false e =
-        let other : is_same_name name (codes "test") ≡ false = or_left (is_same_name name (codes "test")) (is_parameter name (codes "text" ∷ [])) (or_left (is_parameter name names) (is_dollar name) e) in
+        let other : is_same_name name (codes "test") ≡ false = (or_parts (is_same_name name (codes "test")) (is_parameter name (codes "text" ∷ [])) (or_parts (is_parameter name names) (is_dollar name) e).0).0 in
         ap (λ b. if b then Some d else value_of_name (codes "test") all) (sym (nat_list_eq_equiv.symm (codes "test") name ∙ other))
 
 not_first : (i : ℕ) → is_zero (i + 1) ≡ false

@@ -21,4 +21,5 @@ pub mod Crossings
 pub mod Square
 pub mod Points
 pub mod Sums
+pub mod Rising
 mod Boxes

@@ -13,7 +13,7 @@ pub enum Half {
 
 impl Half {
     /// Twice a coordinate of the point that is meant.
-    pub(crate) fn doubled(self, coordinate: i32) -> i64
+    pub fn doubled(self, coordinate: i32) -> i64
         ensures value { result ≡ doubled self coordinate }
         ensures size { unsigned_abs result ≤ 2 * unsigned_abs coordinate + 1 }
     {

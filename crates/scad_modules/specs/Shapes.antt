@@ -23,7 +23,7 @@ pub record Fineness : Type 0 where
 abbrev pub fragments : Fineness → ℤ → Read ℕ
 fragments fine radius =
     and_then (as_number fine.fn) (λ fn. and_then (as_number fine.fa) (λ fa. and_then (as_number fine.fs)
-        (λ fs. Ok (fragments_of radius fn fa fs))))
+    (λ fs. Ok (fragments_of radius fn fa fs))))
 
 -- each of three sizes
 abbrev pub all_sizes : Triple → Read Triple
@@ -83,7 +83,7 @@ faces_over points faces =
 abbrev pub polyhedron_by : Option Datum → Option Datum → Read Primitive
 polyhedron_by points faces =
     and_then (needed points) (λ d. and_then (as_vector d) (λ all. and_then (some_points all)
-        (λ found. faces_over found faces)))
+    (λ found. faces_over found faces)))
 
 -- `cylinder(h, r1, r2, center)`, and by name `r`, `d`, `d1` and `d2`
 abbrev pub cylinder_by : Fineness → Arguments → List Datum → Read Primitive

@@ -83,11 +83,11 @@ about axis length angle = rotation axis (way_round length angle)
 abbrev pub about_axis : ℤ → Triple → Read Matrix
 about_axis angle p =
     if int_eq p.1 (pos 0) then
-      (if int_eq p.2 (pos 0) then (if int_eq p.0 (pos 0) then Err BadArgument else Ok (about X p.0 angle))
-      else (if int_eq p.0 (pos 0) then Ok (about Z p.2 angle) else Err LeftOut))
+    (if int_eq p.2 (pos 0) then (if int_eq p.0 (pos 0) then Err BadArgument else Ok (about X p.0 angle))
+    else (if int_eq p.0 (pos 0) then Ok (about Z p.2 angle) else Err LeftOut))
     else
-      (if int_eq p.2 (pos 0) then (if int_eq p.0 (pos 0) then Ok (about Y p.1 angle) else Err LeftOut)
-      else Err LeftOut)
+    (if int_eq p.2 (pos 0) then (if int_eq p.0 (pos 0) then Ok (about Y p.1 angle) else Err LeftOut)
+    else Err LeftOut)
 
 -- a number of degrees: about z, or about the axis that is given
 abbrev pub turned_about : ℤ → Option Datum → Read Matrix

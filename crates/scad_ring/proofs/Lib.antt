@@ -1,4 +1,4 @@
-pub mod Boxes
+pub mod Mirrored
 pub mod Places
 pub mod Lines
 pub mod Turns

@@ -7,7 +7,7 @@ use Rattle.scad_geom.specs.Point.{Point, whole}
 use Rattle.scad_geom.specs.Near.{IsHalf, MeetsBox}
 use Rattle.scad_geom.proofs.Signs.{at_least_mul}
 use Rattle.scad_geom.proofs.Ring.{ring, num, ◌⊕◌, ◌⊖◌, ◌⊗◌, v0, v1, v2, v3, v4, v5}
-use Rattle.scad_ring.proofs.Boxes.{Lies, Found}
+use Rattle.scad_geom.proofs.Rising.{Lies, Found}
 
 -- ---- nearness over the point's divisor
 place_is : (s t a b x d : ℤ) → pos 2 *ℤ ((s *ℤ a +ℤ t *ℤ b) *ℤ d -ℤ x *ℤ (s *ℤ pos 1 +ℤ t *ℤ pos 1)) ≡ pos 2 *ℤ (s *ℤ (a *ℤ d -ℤ x) +ℤ t *ℤ (b *ℤ d -ℤ x))

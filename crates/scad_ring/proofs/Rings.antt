@@ -11,7 +11,8 @@ use Rattle.scad_geom.specs.Loop.{sides}
 use Rattle.scad_geom.specs.Near.{MeetsBox}
 use Rattle.scad_ring.specs.Ring.{IsLeftOf, AllTurnLeft, IsBefore, StartsLowest, round}
 use Rattle.scad_ring.specs.Corners.{at, rectangle, to_the_right, to_the_left}
-use Rattle.scad_ring.proofs.Boxes.{found, passes, found_mirrored, mirrored_found}
+use Rattle.scad_geom.proofs.Rising.{found, passes}
+use Rattle.scad_ring.proofs.Mirrored.{found_mirrored, mirrored_found}
 use Rattle.scad_ring.proofs.Places.{meets_if_found, found_if_meets, scaled_order}
 use Rattle.scad_ring.proofs.Turns.{right_then-turns, up_then-turns, left_then-turns, down_then-turns, slanted_up-turns, slanted_left-turns, slanted_down-turns, slanted_right-turns}
 use Rattle.scad_ring.proofs.Corners.{IsBy, near_first, near_last, lower, upper}

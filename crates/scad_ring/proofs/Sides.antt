@@ -12,7 +12,7 @@ use Rattle.scad_geom.proofs.Signs.{at_least_mul}
 use Rattle.scad_geom.proofs.Ring.{ring, ◌⊕◌, ◌⊖◌, ◌⊗◌, v0, v1, v2, v3}
 use Rattle.scad_ring.specs.Ring.{IsLeftOf}
 use Rattle.scad_ring.specs.Corners.{rectangle, to_the_right, to_the_left}
-use Rattle.scad_ring.proofs.Boxes.{Passes}
+use Rattle.scad_geom.proofs.Rising.{Passes}
 use Rattle.scad_ring.proofs.Places.{scaled_order}
 use Rattle.scad_ring.proofs.Lines.{lower_holds, lower_gap, upper_holds, upper_gap, right_holds, right_gap, left_holds, left_gap, below_holds, below_gap, above_holds, above_gap, above_left_holds, above_left_gap, below_left_holds, below_left_gap}
 

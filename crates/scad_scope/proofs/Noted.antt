@@ -1,8 +1,9 @@
 -- The names of a scope noted one by one, each with the place of its last assignment so far, are the scope's bindings.
-use Rattle.std.proofs.Common.{◌≡◌, ℕ, ◌+◌, Bool, true, false, cond, not, ◌||◌, List, [], ◌∷◌, ◌++◌, map, filter, Option, Some, None, if◌then◌else◌, refl, sym, ap, ap₂, ◌∙◌, append_assoc, true≢false}
+use Rattle.std.proofs.Common.{◌≡◌, ℕ, ◌+◌, Bool, true, false, cond, not, ◌||◌, List, [], ◌∷◌, ◌++◌, map, filter, Option, Some, None, if◌then◌else◌, refl, sym, ap, ap₂, ◌∙◌, append_assoc}
 use Rattle.std.specs.Borrow.{Bor}
 use Rattle.std.specs.Cmp.Lexicographic.{pointwise, nat_list_eq_equiv, bytes_decides}
 use Rattle.std.specs.Prelude.{nat_eq}
+use Rattle.std.proofs.lemmas.Bool.{or_parts}
 use Rattle.indexmap.specs.IndexMap.{insert_entry}
 use Rattle.scad_ast.specs.Tree.{Items}
 use Rattle.scad_scope.specs.declared.binding.Binding.{Binding}
@@ -27,14 +28,6 @@ same_turned a b = nat_list_eq_equiv.symm a b
 
 same_itself : (a : List ℕ) → is_same_name a a ≡ true
 same_itself a = nat_list_eq_equiv.refl a
-
-or_left : (a b : Bool) → (a || b) ≡ false → a ≡ false
-or_left true b h = absurd (true≢false h)
-or_left false b h = refl
-
-or_right : (a b : Bool) → (a || b) ≡ false → b ≡ false
-or_right true b h = absurd (true≢false h)
-or_right false b h = h
 
 or_twice : (a b : Bool) → (a || b) ≡ (a || (a || b))
 or_twice true b = refl
@@ -83,7 +76,8 @@ same_updated m i more p b e = sym (ap (λ c. (p.0, last_place p.0 (if c then i e
 others : (m : List ℕ) (i : ℕ) (more : List (Option (List ℕ))) (so_far : Places) → has m so_far ≡ false → map (updated (i + 1) more) so_far ≡ map (updated i (Some m ∷ more)) so_far
 others m i more [] h = refl
 others m i more (p ∷ rest) h =
-    ap₂ (λ a b. a ∷ b) (same_updated m i more p false (or_left (is_same_name m p.0) (has m rest) h)) (others m i more rest (or_right (is_same_name m p.0) (has m rest) h))
+    let apart = or_parts (is_same_name m p.0) (has m rest) h in
+    ap₂ (λ a b. a ∷ b) (same_updated m i more p false apart.0) (others m i more rest apart.1)
 
 updated-with_place : (m : List ℕ) (i : ℕ) (more : List (Option (List ℕ))) (so_far : Places) → Distinct so_far → map (updated (i + 1) more) (with_place m i so_far) ≡ map (updated i (Some m ∷ more)) so_far ++ (if has m so_far then [] else (m, last_place m i (i + 1) more) ∷ [])
 updated-with_place m i more [] d = refl

@@ -2,6 +2,7 @@
 use Rattle.std.proofs.Common.{◌≡◌, ◌⊎◌, ℕ, ◌<◌, ◌≤◌, Bool, true, false, not, ◌&&◌, ◌||◌, Option, Some, None, ℤ, pos, ◌*ℤ◌, ◌≤ℤ◌, IfSome, arith, refl, ap, ap₂, sym, ◌∙◌, inl, inr}
 use Rattle.std.proofs.lemmas.Bool.Decides.{nat_tests}
 use Rattle.std.proofs.lemmas.Int.{ints, clamps}
+use Rattle.std.proofs.Math.Bool.{and-false}
 use Rattle.std.specs.Prelude.{nat_lt, int_lt, is_none}
 use Rattle.scad_geom.specs.Point.{Point}
 use Rattle.scad_solid.specs.Height.{higher_of}
@@ -32,10 +33,6 @@ over_one plane (Some z) (Some w) over = chosen (int_lt z w) refl
     chosen true e = inl (omega (arith, ints, clamps, over, e))
     chosen false e = inr (omega (arith, ints, clamps, over, e), refl)
 
-and_false : (b : Bool) → (b && false) ≡ false
-and_false true = refl
-and_false false = refl
-
 module _ (plane : ℤ) (p : Point) where
   mutual
     none_above : (s : Solid) → IsOver plane (top_of s) → contained plane p s ≡ false
@@ -46,7 +43,7 @@ module _ (plane : ℤ) (p : Point) where
     none_above (intersection (member s rest)) over =
         elim (over_one plane (top_of s) (least rest) over) [
           | inl first ↦ ap (λ b. b && all_hold (λ ts. contains plane ts p) rest) (none_above s first)
-          | inr later ↦ ap (λ b. contained plane p s && b) (later_above rest later.0 later.1) ∙ and_false (contained plane p s)
+          | inr later ↦ ap (λ b. contained plane p s && b) (later_above rest later.0 later.1) ∙ and-false (contained plane p s)
         ]
     none_above (difference first rest) over = ap (λ b. b && not (some_hold (λ ts. contains plane ts p) rest)) (none_above first over)
 
@@ -61,7 +58,7 @@ module _ (plane : ℤ) (p : Point) where
     later_above (member s rest) over some =
         elim (over_one plane (top_of s) (least rest) over) [
           | inl first ↦ ap (λ b. b && all_hold (λ ts. contains plane ts p) rest) (none_above s first)
-          | inr later ↦ ap (λ b. contained plane p s && b) (later_above rest later.0 later.1) ∙ and_false (contained plane p s)
+          | inr later ↦ ap (λ b. contained plane p s && b) (later_above rest later.0 later.1) ∙ and-false (contained plane p s)
         ]
 
 -- a layer that isn't among those below the top has its plane above it

@@ -1,7 +1,7 @@
 -- What a traversal adds for an operation, from what it adds for its parts.
 use Rattle.std.proofs.Common.{◌≡◌, ℕ, suc, ◌+◌, ◌-◌, ◌<◌, List, ◌++◌, length, drop, get_or, arith, refl, ap, sym, ◌∙◌, append_assoc, length-append, codes}
 use Rattle.scad_tree.specs.declared.node.Node.{Node}
-use Rattle.scad_tree.specs.Solid.{Solid, Solids, difference, members}
+use Rattle.scad_tree.specs.Solid.{Solid, Solids, difference, member, members}
 use Rattle.scad_tree.specs.Order.{surfaces, all_surfaces, leaves, all_leaves}
 use Rattle.scad_tree.specs.Text.{indent}
 use Rattle.scad_tree.specs.View.{solid_of, solids}
@@ -19,14 +19,23 @@ pub three_pieces : {X : Type 0} (old mid new last head middle rest whole : List 
 three_pieces old mid new last head middle rest whole a b c is =
     pieces old new last (head ++ middle) rest whole (pieces old mid new head middle (head ++ middle) a b refl) c is
 
+-- how many leaves a difference has, and nodes one after another
+pub leaves_of_difference : (first : Solid) (rest : Solids) → leaves (difference first rest) ≡ leaves first + all_leaves rest
+leaves_of_difference first rest = length-append (surfaces first) (all_surfaces rest)
+
+pub leaves_of_member : (s : Solid) (rest : Solids) → all_leaves (member s rest) ≡ leaves s + all_leaves rest
+leaves_of_member s rest = length-append (surfaces s) (all_surfaces rest)
+
+pub ruleset leaves_by_parts = (leaves_of_difference, leaves_of_member)
+
 -- the number of the leaf behind those of a difference
 pub behind : (leaf mid after : ℕ) (first : Solid) (rest : Solids) → mid ≡ leaf + leaves first → after ≡ mid + all_leaves rest → after ≡ leaf + leaves (difference first rest)
-behind leaf mid after first rest a b = let both = length-append (surfaces first) (all_surfaces rest) in omega arith
+behind leaf mid after first rest a b = let both = leaves_of_difference first rest in omega arith
 
 -- and behind those of one more node
 pub numbered_more : (leaf after whole : ℕ) (nodes : List Node) (i : ℕ) (n : Node) → i < length nodes → n ≡ get_or nodes i n → after ≡ leaf + leaves (solid_of n) →
     leaf + all_leaves (members (solids (drop i nodes))) ≡ whole → after + all_leaves (members (solids (drop (i + 1) nodes))) ≡ whole
 numbered_more leaf after whole nodes i n below is next so_far =
     let rest = all_surfaces (members (solids (drop (i + 1) nodes))) in
-    let here : all_leaves (members (solids (drop i nodes))) ≡ leaves (solid_of n) + length rest = ap all_leaves (left-more nodes i n below is) ∙ length-append (surfaces (solid_of n)) rest in
+    let here : all_leaves (members (solids (drop i nodes))) ≡ leaves (solid_of n) + length rest = ap all_leaves (left-more nodes i n below is) ∙ leaves_of_member (solid_of n) (members (solids (drop (i + 1) nodes))) in
     omega arith

@@ -1,6 +1,6 @@
 -- Set operations in normal form hold what their members say.
 use Rattle.std.proofs.Common.{◌≡◌, Bool, true, false, not, ◌&&◌, ◌||◌, List, [], ◌∷◌, ◌++◌, refl, ap, sym, ◌∙◌, filter, if◌then◌else◌, rules}
-use Rattle.std.proofs.Math.Bool.{and-false, and-true}
+use Rattle.std.proofs.Math.Bool.{and-false, and-true, or-false, or_assoc}
 use Rattle.std.specs.List.{flat_map, list_any}
 use Rattle.scad_solid.specs.declared.triangle.Triangle.{Triangle}
 use Rattle.scad_tree.specs.Solid.{Solid, Solids, nothing, surface, union, intersection, difference, none, member, members, members_of}
@@ -10,14 +10,6 @@ use Rattle.scad_tree.specs.Laws.{OperationsHold}
 
 abbrev Inside : Type 0
 Inside = List Triangle → Bool
-
-or_false : (b : Bool) → (b || false) ≡ b
-or_false true = refl
-or_false false = refl
-
-or_assoc : (a b c : Bool) → ((a || b) || c) ≡ (a || (b || c))
-or_assoc true b c = refl
-or_assoc false b c = refl
 
 some_members : (inside : Inside) (ss : List Solid) → some_hold inside (members ss) ≡ any_holds inside ss
 some_members inside [] = refl
@@ -37,10 +29,10 @@ any_both inside (s ∷ rest) ts = ap (λ b. holds inside s || b) (any_both insid
 
 parts_hold : (inside : Inside) (s : Solid) → any_holds inside (parts s) ≡ holds inside s
 parts_hold inside nothing = refl
-parts_hold inside (surface ts) = or_false (inside ts)
+parts_hold inside (surface ts) = or-false (inside ts)
 parts_hold inside (union ms) = some_listed inside ms
-parts_hold inside (intersection ms) = or_false _
-parts_hold inside (difference first rest) = or_false _
+parts_hold inside (intersection ms) = or-false _
+parts_hold inside (difference first rest) = or-false _
 
 all_parts_hold : (inside : Inside) (ss : List Solid) → any_holds inside (flat_map parts ss) ≡ any_holds inside ss
 all_parts_hold inside [] = refl
@@ -51,7 +43,7 @@ all_parts_hold inside (s ∷ rest) =
 
 union_holds : (inside : Inside) (ss : List Solid) → holds inside (union_of ss) ≡ any_holds inside ss
 union_holds inside [] = refl
-union_holds inside (s ∷ []) = sym (or_false (holds inside s))
+union_holds inside (s ∷ []) = sym (or-false (holds inside s))
 union_holds inside (s ∷ t ∷ rest) = some_members inside (s ∷ t ∷ rest)
 
 pub united_holds : (inside : Inside) (ss : List Solid) → holds inside (united ss) ≡ any_holds inside ss

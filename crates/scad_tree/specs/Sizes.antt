@@ -1,19 +1,6 @@
--- How many leaves a tree has, and how many triangles they have together.
+-- How many triangles the leaves of a tree have together; how many leaves it has is said in `Order`.
 use Rattle.std.specs.Prelude.{ℕ, ◌+◌, length}
 use Rattle.scad_tree.specs.Solid.{Solid, Solids, nothing, surface, union, intersection, difference, none, member}
-
-abbrev mutual
-  -- each surface is one
-  pub leaf_count : Solid → ℕ
-  leaf_count nothing = 0
-  leaf_count (surface ts) = 1
-  leaf_count (union ms) = leaf_counts ms
-  leaf_count (intersection ms) = leaf_counts ms
-  leaf_count (difference first rest) = leaf_count first + leaf_counts rest
-
-  pub leaf_counts : Solids → ℕ
-  leaf_counts none = 0
-  leaf_counts (member s rest) = leaf_count s + leaf_counts rest
 
 abbrev mutual
   -- each surface has its own

@@ -1,6 +1,7 @@
 //! How many leaves a tree has, and how many triangles.
 ghost use Rattle.std.specs.Prelude.{◌≡◌, ◌-◌, ◌^◌, min};
-ghost use Rattle.scad_tree.specs.Sizes.{leaf_count, leaf_counts, triangle_count, triangle_counts};
+ghost use Rattle.scad_tree.specs.Order.{leaves, all_leaves};
+ghost use Rattle.scad_tree.specs.Sizes.{triangle_count, triangle_counts};
 ghost use Rattle.scad_tree.specs.Solid.{members};
 ghost use Rattle.scad_tree.specs.View.{solid_of, solids};
 
@@ -10,7 +11,7 @@ use crate::tree::Tree;
 impl Tree {
     /// How many leaves the tree has. Where there are more than 2^64 - 1, this number.
     pub fn leaves(&self) -> u64
-        ensures { result ≡ min (leaf_count (solid_of self.now)) (2 ^ 64 - 1) }
+        ensures { result ≡ min (leaves (solid_of self.now)) (2 ^ 64 - 1) }
     {
         leaves(self.as_node())
     }
@@ -24,9 +25,9 @@ impl Tree {
 }
 
 #[cycle(leaves)]
-#[tactic(auto, using(crate::proofs::Rows::at_operation))]
+#[tactic(auto, using(crate::proofs::Rows::at_operation, crate::proofs::Lines::leaves_by_parts))]
 fn leaves(node: &Node) -> u64
-    ensures { result ≡ min (leaf_count (solid_of node.now)) (2 ^ 64 - 1) }
+    ensures { result ≡ min (leaves (solid_of node.now)) (2 ^ 64 - 1) }
 {
     match node {
         Node::Empty => 0,
@@ -38,9 +39,9 @@ fn leaves(node: &Node) -> u64
 }
 
 #[cycle(leaves)]
-#[tactic(auto, using(crate::proofs::Rows::left))]
+#[tactic(auto, using(crate::proofs::Rows::left, crate::proofs::Lines::leaves_by_parts))]
 fn all_leaves(nodes: &[Node]) -> u64
-    ensures { result ≡ min (leaf_counts (members (solids nodes.now))) (2 ^ 64 - 1) }
+    ensures { result ≡ min (all_leaves (members (solids nodes.now))) (2 ^ 64 - 1) }
 {
     let mut count = 0u64;
     'nodes: for node in nodes {

@@ -50,10 +50,6 @@ tally-ends : (p : Pt) (es : List Edge) → count_by (λ e. same_place p e.b) es 
 tally-ends p [] = refl
 tally-ends p (e ∷ es) = sum_by-cons (λ x. once (same_place p x.b)) e es ∙ ap (λ (n : ℕ). once (same_place p e.b) + n) (tally-ends p es)
 
-pub is_true_second : (a b : Bool) → (a && b) ≡ true → b ≡ true
-is_true_second true b h = h
-is_true_second false b h = cc
-
 abbrev without : Pt → List Pt → List Pt
 without p [] = []
 without p (q ∷ qs) = cond (same_place p q) qs (q ∷ without p qs)

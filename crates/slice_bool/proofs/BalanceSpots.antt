@@ -6,6 +6,7 @@ use Rattle.std.specs.Prelude.{int_lt, int_le, if◌then◌else◌, ◌==◌, ◌
 use Rattle.std.specs.Ordering.{int_eq}
 use Rattle.std.specs.List.{AllByRecursion}
 use Rattle.std.proofs.lemmas.Int.{ints, by_lt_z}
+use Rattle.std.proofs.lemmas.Bool.{and_parts}
 use Rattle.scad_geom.proofs.Leaves.{held_alike}
 use Rattle.scad_geom.specs.declared.point.Pt.{Pt}
 use Rattle.scad_geom.specs.declared.point.Edge.{Edge}
@@ -28,7 +29,7 @@ use Rattle.slice_snap.specs.declared.piece.Spot.{Spot}
 use Rattle.slice_bool.specs.Pieces.{spot_on, whole_spot, is_flat_at, passes_at, spots_at}
 use Rattle.slice_snap.specs.Spots.{point_of}
 use Rattle.slice_bool.proofs.Middle.{size_of}
-use Rattle.slice_bool.proofs.Winding.{either_over, is_true_first}
+use Rattle.slice_bool.proofs.Winding.{either_over}
 use Rattle.slice_bool.proofs.BalanceTurns.{gap, is_right, ahead_level, ahead_over, ahead_under, drop_zero, no_gap, int_eq-true}
 use Rattle.slice_bool.proofs.BalanceEdges.{IsAside}
 
@@ -163,7 +164,7 @@ not_zero (negsuc n) h = refl
 
 pub passing_spot : (P : Spot → Type 0) (e : LeafEdge) (l : Level) → AllByRecursion P (own_spots e l) → passes_at e.edge l ≡ true → P (spot_on e.edge l)
 passing_spot P e l h k =
-    let z : is_zero (rise e.edge) ≡ false = not_zero (rise e.edge) (is_true_first (int_lt (pos 0) (rise e.edge)) (int_le ((low e.edge).y *ℤ l.d) l.n && int_le l.n ((high e.edge).y *ℤ l.d)) k) in
+    let z : is_zero (rise e.edge) ≡ false = not_zero (rise e.edge) (and_parts (int_lt (pos 0) (rise e.edge)) (int_le ((low e.edge).y *ℤ l.d) l.n && int_le l.n ((high e.edge).y *ℤ l.d)) k).0 in
     let f : is_flat_at e.edge l ≡ false = ap (λ (t : Bool). t && int_eq (e.edge.a.y *ℤ l.d) l.n) z in
     let h' = subst (λ (t : Bool). AllByRecursion P (if t then whole_spot e.edge.a.x l ∷ (whole_spot e.edge.b.x l ∷ []) else if passes_at e.edge l then spot_on e.edge l ∷ [] else [])) f h in
     (subst (λ (t : Bool). AllByRecursion P (if t then spot_on e.edge l ∷ [] else [])) k h').0

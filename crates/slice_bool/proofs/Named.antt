@@ -1,6 +1,6 @@
 -- Each piece has a length and lies along the edge of its name.
 use Rattle.std.proofs.Common.{◌≡◌, ℕ, zero, suc, ◌+◌, ◌<◌, Bool, true, false, cond, List, [], ◌∷◌, ◌++◌, length, get_or, refl, sym, ◌∙◌, arith, subst}
-use Rattle.std.proofs.lemmas.Bool.{false_from_ne_true}
+use Rattle.std.proofs.lemmas.Bool.{and_parts, false_from_ne_true}
 use lib.IntN.{ℤ, pos, negsuc, ◌+ℤ◌, ◌-ℤ◌, ◌*ℤ◌}
 use lib.Signed.{◌<ℤ◌, ◌≤ℤ◌}
 use Rattle.std.specs.Prelude.{Option, Some, None, ◌&&◌, ◌||◌, int_lt, int_le, unsigned_abs}
@@ -36,9 +36,8 @@ use Rattle.scad_base.proofs.Lists.{AllByRecursion-append}
 use Rattle.slice_bool.specs.Pieces.{spot_on, piece_between, bundle_piece, slab_pieces, is_flat_at, IsLeft, GoRight, AreStops, covers, stretch_piece, flat_pieces, AreLevelPieces, ArePieces}
 use Rattle.slice_bool.proofs.Passing.{IsLive, live_bundles}
 use Rattle.scad_base.proofs.Integers.{gap_of_less, less_of_gap, gap_of_at_most, at_most_of_less}
-use Rattle.slice_bool.proofs.BalanceEdges.{is_true_second}
 use Rattle.slice_bool.proofs.Middle.{size_of, half_point, on_own}
-use Rattle.slice_bool.proofs.Winding.{IsSpotAt, is_true_first, stops_at}
+use Rattle.slice_bool.proofs.Winding.{IsSpotAt, stops_at}
 use Rattle.slice_bool.proofs.Walk.{UpTo, at_first, at_next, neighbours_next}
 use Rattle.slice_bool.proofs.BalanceTurns.{gap}
 use Rattle.slice_bool.proofs.BalanceFlat.{spot_gap}
@@ -171,8 +170,8 @@ no_room l s t z hs ht o h k =
 
 spans_apart : (l : Level) (s t : Spot) (x y : ℤ) → IsSpotAt l s → IsSpotAt l t → IsLeft s t → (int_le (x *ℤ (s.at.d *ℤ pos s.run)) s.x && int_le t.x (y *ℤ (t.at.d *ℤ pos t.run))) ≡ true → x ≡ y → ⊥
 spans_apart l s t x y hs ht o h e =
-    let a = is_true_first (int_le (x *ℤ (s.at.d *ℤ pos s.run)) s.x) _ h in
-    let b = is_true_second (int_le (x *ℤ (s.at.d *ℤ pos s.run)) s.x) (int_le t.x (y *ℤ (t.at.d *ℤ pos t.run))) h in
+    let a = (and_parts (int_le (x *ℤ (s.at.d *ℤ pos s.run)) s.x) _ h).0 in
+    let b = (and_parts (int_le (x *ℤ (s.at.d *ℤ pos s.run)) s.x) (int_le t.x (y *ℤ (t.at.d *ℤ pos t.run))) h).1 in
     no_room l s t y hs ht o
     (subst (λ (z : ℤ). int_le (z *ℤ (l.d *ℤ pos s.run)) s.x ≡ true) e (subst (λ (m : Level). int_le (x *ℤ (m.d *ℤ pos s.run)) s.x ≡ true) hs.at a))
     (subst (λ (m : Level). int_le t.x (y *ℤ (m.d *ℤ pos t.run)) ≡ true) ht.at b)
@@ -180,7 +179,7 @@ spans_apart l s t x y hs ht o h e =
 covering_length : (l : Level) (s t : Spot) (e : LeafEdge) → IsSpotAt l s → IsSpotAt l t → IsLeft s t → covers s t e ≡ true → is_same_point (whole e.edge.a) (whole e.edge.b) ≡ false
 covering_length l s t e hs ht o h = false_from_ne_true (is_same_point (whole e.edge.a) (whole e.edge.b)) (λ k.
     let x : e.edge.a.x ≡ e.edge.b.x = same_whole_height e.edge.a.x e.edge.b.x (same_across (whole e.edge.a) (whole e.edge.b) k) in
-    by_ways _ _ (is_true_second (is_flat_at e.edge s.at) _ h)
+    by_ways _ _ (and_parts (is_flat_at e.edge s.at) _ h).1
     (λ way. spans_apart l s t e.edge.a.x e.edge.b.x hs ht o way x) (λ way. spans_apart l s t e.edge.b.x e.edge.a.x hs ht o way (sym x)))
   where
     by_ways : (a b : Bool) → (a || b) ≡ true → (a ≡ true → ⊥) → (b ≡ true → ⊥) → ⊥
@@ -199,9 +198,9 @@ module _ (es : List LeafEdge) (shape : Shape) (l : Level) (dl : pos 0 <ℤ l.d) 
   stretch_part s t hs ht o (Some k) h =
       let f = found (covers s t) es k h in
       let e : LeafEdge = get_or es k no_edge in
-      let flat = is_true_first (is_flat_at e.edge s.at) _ f.1 in
-      let r = zero_of (rise e.edge) (is_true_first (is_zero (rise e.edge)) _ flat) in
-      let n = equal (e.edge.a.y *ℤ s.at.d) s.at.n (is_true_second (is_zero (rise e.edge)) (int_eq (e.edge.a.y *ℤ s.at.d) s.at.n) flat) in
+      let flat = (and_parts (is_flat_at e.edge s.at) _ f.1).0 in
+      let r = zero_of (rise e.edge) (and_parts (is_zero (rise e.edge)) _ flat).0 in
+      let n = equal (e.edge.a.y *ℤ s.at.d) s.at.n (and_parts (is_zero (rise e.edge)) (int_eq (e.edge.a.y *ℤ s.at.d) s.at.n) flat).1 in
       let n' : e.edge.a.y *ℤ l.d ≡ l.n = subst (λ (m : Level). e.edge.a.y *ℤ m.d ≡ m.n) hs.at n in
       let z = left_differ (point_of s) (point_of t) (stop_left l s t dl hs ht o) in
       between_part es (is_in_by true true es shape (point_of s)) (is_in_by false true es shape (point_of s)) s t k f.0 z.0 z.1

@@ -7,6 +7,7 @@ use Rattle.std.specs.List.{AllByRecursion, concat, position}
 use Rattle.std.specs.Ordering.{int_eq}
 use Rattle.std.proofs.lemmas.Int.{ints}
 use Rattle.std.proofs.lemmas.List.Elements.{All-from_recursion}
+use Rattle.std.proofs.lemmas.Bool.{and_parts}
 use Rattle.scad_base.proofs.Integers.{gap_of_less, gap_of_at_most, less_of_gap, at_most_of_less}
 use Rattle.scad_base.proofs.Lists.{AllByRecursion-append}
 use Rattle.scad_base.proofs.Products.{positive_product}
@@ -34,9 +35,8 @@ use Rattle.slice_snap.specs.declared.piece.Piece.{Piece}
 use Rattle.slice_snap.specs.Spots.{point_of}
 use Rattle.slice_bool.specs.Pieces.{spot_on, piece_between, bundle_piece, slab_pieces, is_flat_at, IsLeft, GoRight, AreStops, covers, stretch_piece, flat_pieces, AreLevelPieces}
 use Rattle.slice_bool.specs.OnEdges.{EndsLieOn, PiecesLieOnEdges}
-use Rattle.slice_bool.proofs.BalanceEdges.{is_true_second}
 use Rattle.slice_bool.proofs.Middle.{size_of, half_point}
-use Rattle.slice_bool.proofs.Winding.{IsSpotAt, is_true_first, stops_at}
+use Rattle.slice_bool.proofs.Winding.{IsSpotAt, stops_at}
 use Rattle.slice_bool.proofs.Within.{by_weights, weights_add}
 use Rattle.slice_bool.proofs.Walk.{UpTo, at_first, at_next, neighbours_next}
 use Rattle.slice_bool.proofs.Named.{found, zero_of, equal, from_test}
@@ -220,22 +220,22 @@ module _ (l : Level) (dl : pos 0 <ℤ l.d) (s t : Spot) (hs : IsSpotAt l s) (ht 
       at_most_less x y z h k = omega (arith, ints)
 
   covered : (e : LeafEdge) → covers s t e ≡ true → Lies e.edge s × Lies e.edge t
-  covered e h = by_ways _ _ (is_true_second (is_flat_at e.edge s.at) _ h) refl refl
+  covered e h = by_ways _ _ (and_parts (is_flat_at e.edge s.at) _ h).1 refl refl
     where
       flat : is_flat_at e.edge s.at ≡ true
-      flat = is_true_first (is_flat_at e.edge s.at) _ h
+      flat = (and_parts (is_flat_at e.edge s.at) _ h).0
 
       level : e.edge.a.y ≡ e.edge.b.y
-      level = flat_ends e.edge (zero_of (rise e.edge) (is_true_first (is_zero (rise e.edge)) _ flat))
+      level = flat_ends e.edge (zero_of (rise e.edge) (and_parts (is_zero (rise e.edge)) _ flat).0)
 
       at : e.edge.a.y *ℤ l.d ≡ l.n
-      at = subst (λ (m : Level). e.edge.a.y *ℤ m.d ≡ m.n) hs.at (equal (e.edge.a.y *ℤ s.at.d) s.at.n (is_true_second (is_zero (rise e.edge)) (int_eq (e.edge.a.y *ℤ s.at.d) s.at.n) flat))
+      at = subst (λ (m : Level). e.edge.a.y *ℤ m.d ≡ m.n) hs.at (equal (e.edge.a.y *ℤ s.at.d) s.at.n (and_parts (is_zero (rise e.edge)) (int_eq (e.edge.a.y *ℤ s.at.d) s.at.n) flat).1)
 
       first : (x y : ℤ) → (int_le (x *ℤ (s.at.d *ℤ pos s.run)) s.x && int_le t.x (y *ℤ (t.at.d *ℤ pos t.run))) ≡ true → (x *ℤ (l.d *ℤ pos s.run)) ≤ℤ s.x
-      first x y w = subst (λ (m : Level). (x *ℤ (m.d *ℤ pos s.run)) ≤ℤ s.x) hs.at (from_test (x *ℤ (s.at.d *ℤ pos s.run)) s.x (is_true_first (int_le (x *ℤ (s.at.d *ℤ pos s.run)) s.x) _ w))
+      first x y w = subst (λ (m : Level). (x *ℤ (m.d *ℤ pos s.run)) ≤ℤ s.x) hs.at (from_test (x *ℤ (s.at.d *ℤ pos s.run)) s.x (and_parts (int_le (x *ℤ (s.at.d *ℤ pos s.run)) s.x) _ w).0)
 
       last : (x y : ℤ) → (int_le (x *ℤ (s.at.d *ℤ pos s.run)) s.x && int_le t.x (y *ℤ (t.at.d *ℤ pos t.run))) ≡ true → t.x ≤ℤ (y *ℤ (l.d *ℤ pos t.run))
-      last x y w = subst (λ (m : Level). t.x ≤ℤ (y *ℤ (m.d *ℤ pos t.run))) ht.at (from_test t.x (y *ℤ (t.at.d *ℤ pos t.run)) (is_true_second (int_le (x *ℤ (s.at.d *ℤ pos s.run)) s.x) (int_le t.x (y *ℤ (t.at.d *ℤ pos t.run))) w))
+      last x y w = subst (λ (m : Level). t.x ≤ℤ (y *ℤ (m.d *ℤ pos t.run))) ht.at (from_test t.x (y *ℤ (t.at.d *ℤ pos t.run)) (and_parts (int_le (x *ℤ (s.at.d *ℤ pos s.run)) s.x) (int_le t.x (y *ℤ (t.at.d *ℤ pos t.run))) w).1)
 
       rightwards : (int_le (e.edge.a.x *ℤ (s.at.d *ℤ pos s.run)) s.x && int_le t.x (e.edge.b.x *ℤ (t.at.d *ℤ pos t.run))) ≡ true → Lies e.edge s × Lies e.edge t
       rightwards w = spans e.edge level at (first e.edge.a.x e.edge.b.x w) (last e.edge.a.x e.edge.b.x w)

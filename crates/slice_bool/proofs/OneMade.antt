@@ -10,17 +10,11 @@ use Rattle.winding_laws.specs.Rounded.{rounded_edge, has_length}
 use Rattle.slice_snap.specs.declared.piece.Piece.{Piece}
 use Rattle.slice_snap.specs.Pieces.{way_of, ways_of}
 use Rattle.slice_snap.specs.Rounding.{rounded_edges}
-use Rattle.slice_snap.proofs.Counts.{times, times-cons, times_permuted, from_times}
+use Rattle.slice_snap.proofs.Counts.{times_permuted, from_times}
 use Rattle.slice_snap.proofs.OneMerging.{merged_are_one}
-use Rattle.slice_snap.proofs.OneLeft.{cancelled_are_one}
+use Rattle.slice_snap.proofs.OneLeft.{many, many-cons, cancelled_are_one}
 use Rattle.slice_loops.proofs.Unique.{outlines_are_one}
 use Rattle.slice_bool.specs.OneMade.{MadeAreOne}
-
-abbrev many : Edge → List Edge → ℕ
-many e es = times same_edge same_edge_itself same_edge_then_equal e es
-
-many-cons : (e f : Edge) (fs : List Edge) → many e (f ∷ fs) ≡ once (same_edge e f) + many e fs
-many-cons e f fs = times-cons same_edge same_edge_itself same_edge_then_equal e f fs
 
 nothing : (n : ℕ) → 0 + n ≡ n
 nothing n = omega arith

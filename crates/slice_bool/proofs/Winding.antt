@@ -29,6 +29,7 @@ use Rattle.slice_snap.specs.Spots.{point_of}
 use Rattle.slice_snap.specs.Pieces.{wind_pieces}
 use Rattle.std.specs.Prelude.{unsigned_abs, Option, Some, None}
 use Rattle.std.specs.List.{position}
+use Rattle.std.proofs.lemmas.Bool.{and_parts}
 use Rattle.slice_bool.proofs.Passing.{IsLive, live_bundles}
 use Rattle.slice_bool.proofs.Middle.{size_of, half_point}
 use Rattle.slice_bool.proofs.Slabs.{spot_over, spot_not_over}
@@ -89,13 +90,9 @@ pub of_stops : (P : Spot → Type 0) (ts ss : List Spot) → AllByRecursion P ts
 of_stops P ts [] h o = tt
 of_stops P ts (s ∷ ss) h o = (one_of P ts s h o.0, of_stops P ts ss h o.1)
 
-pub is_true_first : (a b : Bool) → (a && b) ≡ true → a ≡ true
-is_true_first true b h = refl
-is_true_first false b h = cc
-
 pub passes_rises : (e : Edge) (l : Level) → passes_at e l ≡ true → pos 0 <ℤ pos (unsigned_abs (rise e))
 passes_rises e l h =
-    let q : int_lt (pos 0) (rise e) ≡ true = is_true_first (int_lt (pos 0) (rise e)) _ h in
+    let q : int_lt (pos 0) (rise e) ≡ true = (and_parts (int_lt (pos 0) (rise e)) _ h).0 in
     let r : pos 0 <ℤ rise e = omega (arith, ints) in
     subst (λ (z : ℤ). pos 0 <ℤ z) (sym (size_of (rise e) r)) r
 

@@ -1,7 +1,7 @@
 //! Which points of a layer's plane a solid contains, by its exact cuts.
 ghost use Rattle.std.specs.Prelude.{◌≡◌, ◌^◌, ◌≤◌, ◌*ℤ◌, ◌-ℤ◌, [], ◌∷◌, pos, true, int_lt, unsigned_abs, IsTrue};
 ghost use Rattle.std.specs.List.{list_all};
-ghost use Rattle.scad_geom.specs.Half.{doubled, meant};
+ghost use Rattle.scad_geom.specs.Half.{meant};
 ghost use Rattle.scad_geom.specs.Point.{halves};
 ghost use Rattle.scad_geom.specs.Winding.{counted, side_by, turn, wind};
 ghost use Rattle.scad_solid.specs.Cut.{plane_of, cuts_of, contains};
@@ -17,6 +17,7 @@ use scad_solid::{Triangle, Triangles};
 
 /// Whether the solid contains the point at a layer of height `h` micrometres: whether the exact cuts of its
 /// triangles wind round it. The plane stands at `layer * h + h / 2`, by whole division, plus one half.
+#[tactic(auto, using(scad_geom::proofs::Casts::casts))]
 pub fn contains(solid: &Triangles, layer: u32, h: u32, p: Pt, half: Half) -> bool
     ensures { result ≡ contains (plane_of layer h) solid.now (meant half p) }
 {
@@ -24,20 +25,9 @@ pub fn contains(solid: &Triangles, layer: u32, h: u32, p: Pt, half: Half) -> boo
     winding(
         solid.as_slice(),
         plane,
-        doubled(half, p.x),
-        doubled(half, p.y),
+        half.doubled(p.x) as i128,
+        half.doubled(p.y) as i128,
     ) != 0
-}
-
-// Twice a coordinate of the point that is meant.
-fn doubled(half: Half, coordinate: i32) -> i128
-    ensures value { result ≡ doubled half coordinate }
-    ensures size { unsigned_abs result ≤ 2 ^ 33 }
-{
-    match half {
-        Half::Whole => 2 * coordinate as i128,
-        Half::Cell => 2 * coordinate as i128 + 1,
-    }
 }
 
 // The winding number of the cuts round a point whose coordinates are doubled.

@@ -10,10 +10,11 @@ use Rattle.slice_snap.specs.Cancelling.{NoneOpposite, AreCancelled}
 use Rattle.slice_snap.specs.Laws.{CancelledAreOne}
 use Rattle.slice_snap.proofs.Counts.{times, times-cons, times_permuted, times_none, from_times}
 
-abbrev many : Edge → List Edge → ℕ
+-- how often an edge stands among edges
+abbrev pub many : Edge → List Edge → ℕ
 many e es = times same_edge same_edge_itself same_edge_then_equal e es
 
-many-cons : (e f : Edge) (fs : List Edge) → many e (f ∷ fs) ≡ once (same_edge e f) + many e fs
+pub many-cons : (e f : Edge) (fs : List Edge) → many e (f ∷ fs) ≡ once (same_edge e f) + many e fs
 many-cons e f fs = times-cons same_edge same_edge_itself same_edge_then_equal e f fs
 
 many-append : (e : Edge) (fs gs : List Edge) → many e (fs ++ gs) ≡ many e fs + many e gs

@@ -1,5 +1,6 @@
 -- Tokens that neither go on with an expression nor end one stop the reader behind each part of one.
 use Rattle.std.proofs.Common.{◌≡◌, ℕ, Bool, false, List, Option, Some, None, refl, ap, ◌∙◌}
+use Rattle.std.proofs.lemmas.Bool.{cond-false}
 use Rattle.scad_fault.specs.declared.place.Place.{Place}
 use Rattle.scad_lex.specs.declared.token.Token.{Token}
 use Rattle.scad_lex.specs.declared.token.Sign.TheVariants.{CloseRound, CloseSquare, OpenCurly, Semicolon, Comma}
@@ -22,7 +23,6 @@ use Rattle.scad_grammar.specs.Move.{Move, stuck}
 use Rattle.scad_grammar.specs.Steps.{only, end_arguments, after_argument_step, end_parameters, after_parameter_step}
 use Rattle.scad_grammar.specs.Steps.{after_one_step, member_step, after_element, after_expression, tested_step}
 use Rattle.scad_grammar.specs.Steps.{link_step, after_operand}
-use Rattle.scad_grammar.proofs.reader.Runs.{passed}
 
 -- tokens that neither go on with an expression nor end one
 pub data Foreign : Token → Type 0 where
@@ -128,7 +128,7 @@ pub stuck_end_arguments : (all : Arguments) (k : BehindArguments) {t : Token} �
 unfolding end_arguments
 stuck_end_arguments all (of_call at n k) f = never _ (no_round f)
 stuck_end_arguments all (of_keyed what at k) f = never _ (no_round f)
-stuck_end_arguments all (of_for at k) f = passed _ _ (no_round f) ∙ never _ (no_semicolon f)
+stuck_end_arguments all (of_for at k) f = cond-false _ _ _ (no_round f) ∙ never _ (no_semicolon f)
 stuck_end_arguments all (of_steps at starts e k) f = never _ (no_round f)
 stuck_end_arguments all (of_let at k) f = never _ (no_round f)
 stuck_end_arguments all (of_statement at m n a k) f = never _ (no_round f)
@@ -136,7 +136,7 @@ stuck_end_arguments all (of_statement at m n a k) f = never _ (no_round f)
 pub stuck_argument : (all : Arguments) (k : BehindArguments) {t : Token} → Foreign t →
     after_argument_step all k t ≡ stuck
 unfolding after_argument_step
-stuck_argument all k f = passed _ _ (no_comma f) ∙ stuck_end_arguments all k f
+stuck_argument all k f = cond-false _ _ _ (no_comma f) ∙ stuck_end_arguments all k f
 
 pub stuck_end_parameters : (all : List Parameter) (k : BehindParameters) {t : Token} → Foreign t →
     end_parameters all k t ≡ stuck
@@ -147,17 +147,17 @@ stuck_end_parameters all (defined a_function at n a k) f = never _ (no_round f)
 pub stuck_parameter : (all : List Parameter) (k : BehindParameters) {t : Token} → Foreign t →
     after_parameter_step all k t ≡ stuck
 unfolding after_parameter_step
-stuck_parameter all k f = passed _ _ (no_comma f) ∙ stuck_end_parameters all k f
+stuck_parameter all k f = cond-false _ _ _ (no_comma f) ∙ stuck_end_parameters all k f
 
 pub stuck_one : (at : Place) (a : Elements) (k : BehindOperand) {t : Token} → Foreign t →
     after_one_step at a k t ≡ stuck
 unfolding after_one_step
-stuck_one at a k f = passed _ _ (no_comma f) ∙ never _ (no_square f)
+stuck_one at a k f = cond-false _ _ _ (no_comma f) ∙ never _ (no_square f)
 
 pub stuck_member : (at : Place) (a : Elements) (el : Element) (k : BehindOperand) {t : Token} → Foreign t →
     member_step at a el k t ≡ stuck
 unfolding member_step
-stuck_member at a el k f = passed _ _ (no_colon f) ∙ stuck_one at (with_element a el) k f
+stuck_member at a el k f = cond-false _ _ _ (no_colon f) ∙ stuck_one at (with_element a el) k f
 
 pub stuck_element : (el : Element) (k : BehindElement) {t : Token} → Foreign t → after_element el k t ≡ stuck
 unfolding after_element
@@ -166,7 +166,7 @@ stuck_element el (each_of at k) f = stuck_element (each at el) k f
 stuck_element el (for_of at all k) f = stuck_element (for_each at all el) k f
 stuck_element el (loop_of at starts e steps k) f = stuck_element (for_loop at starts e steps el) k f
 stuck_element el (let_body at all k) f = stuck_element (let_of at all el) k f
-stuck_element el (held_element at e k) f = passed _ _ (no_else f) ∙ stuck_element (if_element at e el) k f
+stuck_element el (held_element at e k) f = cond-false _ _ _ (no_else f) ∙ stuck_element (if_element at e el) k f
 stuck_element el (other_element at e held k) f = stuck_element (if_else at e held el) k f
 
 pub stuck_expression : (e : Expression) (k : BehindExpression) {t : Token} → Foreign t → after_expression e k t
@@ -179,7 +179,7 @@ stuck_expression e (other at a b k) f = stuck_expression (choose at a b e) k f
 stuck_expression e (body_of what at all k) f = stuck_expression (keyed_tree what at all e) k f
 stuck_expression e (argument_of o all k) f = stuck_argument (with_argument all o e) k f
 stuck_expression e (plain_item k) f = stuck_element (item e) k f
-stuck_expression e (range_second at a k) f = passed _ _ (no_colon f) ∙ never _ (no_square f)
+stuck_expression e (range_second at a k) f = cond-false _ _ _ (no_colon f) ∙ never _ (no_square f)
 stuck_expression e (range_third at a b k) f = never _ (no_square f)
 stuck_expression e (loop_test at all k) f = never _ (no_semicolon f)
 stuck_expression e (element_test at k) f = never _ (no_round f)
@@ -190,7 +190,7 @@ stuck_expression e (statement_test at m a k) f = never _ (no_round f)
 
 pub stuck_tested : (e : Expression) (k : BehindExpression) {t : Token} → Foreign t → tested_step e k t ≡ stuck
 unfolding tested_step
-stuck_tested e k f = passed _ _ (no_question f) ∙ stuck_expression e k f
+stuck_tested e k f = cond-false _ _ _ (no_question f) ∙ stuck_expression e k f
 
 pub stuck_link : (n count : ℕ) (a : Expression) (k : BehindOperand) {t : Token} (x : Move) → Foreign t → x ≡ stuck →
     link_step n count a k t (operator n t) x ≡ stuck

@@ -1,6 +1,7 @@
 -- Where a part has ended and no token goes on with it, what is open behind it is kept.
 use Rattle.std.proofs.Common.{◌≡◌, ℕ, ◌+◌, Bool, true, false, if◌then◌else◌, List, [], ◌∷◌, Option, Some, None, refl}
 use Rattle.std.proofs.Common.{ap, sym, ◌∙◌, arith}
+use Rattle.std.proofs.lemmas.Bool.{cond-false, cond-true}
 use Rattle.scad_fault.specs.declared.place.Place.{Place}
 use Rattle.scad_lex.specs.declared.token.Token.{Token}
 use Rattle.scad_lex.specs.declared.token.Sign.TheVariants.{OpenRound, OpenSquare, CloseSquare, Comma, Question}
@@ -23,7 +24,7 @@ use Rattle.scad_grammar.specs.Steps.{arguments_step, after_argument_step, after_
 use Rattle.scad_grammar.specs.StatementSteps.{after_items}
 use Rattle.scad_grammar.specs.Move.{go}
 use Rattle.scad_grammar.specs.Machine.{step}
-use Rattle.scad_grammar.proofs.reader.Runs.{passed, taken, ending_is_no_comma}
+use Rattle.scad_grammar.proofs.reader.Runs.{ending_is_no_comma}
 use Rattle.scad_grammar.proofs.nesting.Kept.{kept, kept_link, kept_operand}
 use Rattle.scad_grammar.proofs.nesting.Places.{Alike, FirstAlike, by_first}
 
@@ -41,12 +42,12 @@ ended_links n count a k ts h =
 pub ended_test : (a : Expression) (k : BehindExpression) (ts : List Token) → begins_with Question ts ≡ false →
     Alike (have_operand a (tested k)) (have_expression a k) ts
 unfolding step after_operand tested_step
-ended_test a k ts h = by_first (have_operand a (tested k)) (have_expression a k) ts (first ts h) (passed _ _ h)
+ended_test a k ts h = by_first (have_operand a (tested k)) (have_expression a k) ts (first ts h) (cond-false _ _ _ h)
   where
     first : (ts : List Token) → begins_with Question ts ≡ false →
         FirstAlike (have_operand a (tested k)) (have_expression a k) ts
     first [] h = tt
-    first (t ∷ ts) h = passed _ _ h
+    first (t ∷ ts) h = cond-false _ _ _ h
 
 pub ended_posts : (count : ℕ) (a : Expression) (k : BehindOperand) (ts : List Token) →
     begins_with OpenSquare ts ≡ false → begins_with Dot ts ≡ false → begins_with Caret ts ≡ false →
@@ -54,23 +55,23 @@ pub ended_posts : (count : ℕ) (a : Expression) (k : BehindOperand) (ts : List 
 unfolding step post_step
 ended_posts count a k ts h₁ h₂ h₃ =
     by_first (have_post count a k) (have_operand a k) ts (first ts h₁ h₂ h₃)
-    (passed _ _ h₁ ∙ (passed _ _ h₂ ∙ passed _ _ h₃))
+    (cond-false _ _ _ h₁ ∙ (cond-false _ _ _ h₂ ∙ cond-false _ _ _ h₃))
   where
     first : (ts : List Token) → begins_with OpenSquare ts ≡ false → begins_with Dot ts ≡ false →
         begins_with Caret ts ≡ false →
         FirstAlike (have_post count a k) (have_operand a k) ts
     first [] h₁ h₂ h₃ = tt
-    first (t ∷ ts) h₁ h₂ h₃ = passed _ _ h₁ ∙ (passed _ _ h₂ ∙ passed _ _ h₃)
+    first (t ∷ ts) h₁ h₂ h₃ = cond-false _ _ _ h₁ ∙ (cond-false _ _ _ h₂ ∙ cond-false _ _ _ h₃)
 
 pub ended_name : (at : Place) (w : List ℕ) (k : BehindOperand) (ts : List Token) → begins_with OpenRound ts ≡ false →
     Alike (have_name at w k) (have_post 0 (name at w) k) ts
 unfolding step name_step
-ended_name at w k ts h = by_first (have_name at w k) (have_post 0 (name at w) k) ts (first ts h) (passed _ _ h)
+ended_name at w k ts h = by_first (have_name at w k) (have_post 0 (name at w) k) ts (first ts h) (cond-false _ _ _ h)
   where
     first : (ts : List Token) → begins_with OpenRound ts ≡ false →
         FirstAlike (have_name at w k) (have_post 0 (name at w) k) ts
     first [] h = tt
-    first (t ∷ ts) h = passed _ _ h
+    first (t ∷ ts) h = cond-false _ _ _ h
 
 -- whatever comes behind the first operand of an argument, the argument is open
 same_link : (o : Option BinOp) (x y n : ℕ) → x ≡ n → y ≡ n → kept_link o x y ≡ n
@@ -108,7 +109,7 @@ ended_word at w all k ts h =
     first : (ts : List Token) → begins_with Assign ts ≡ false →
         FirstAlike (have_word at w all k) (have_name at w (opened 6 (tested (argument_of None all k)))) ts
     first [] h = tt
-    first (t ∷ ts) h = passed _ _ h
+    first (t ∷ ts) h = cond-false _ _ _ h
 
 pub ended_arguments : (all : Arguments) (k : BehindArguments) (ts : List Token) → at_end_of_arguments ts ≡ true →
     Alike (in_arguments all k) (have_arguments all k) ts
@@ -118,7 +119,7 @@ ended_arguments all k ts h = by_first (in_arguments all k) (have_arguments all k
     first : (ts : List Token) → at_end_of_arguments ts ≡ true →
         FirstAlike (in_arguments all k) (have_arguments all k) ts
     first [] h = tt
-    first (t ∷ ts) h = taken _ _ h
+    first (t ∷ ts) h = cond-true _ _ _ h
 
 pub ended_argument : (all : Arguments) (k : BehindArguments) (ts : List Token) → at_end_of_arguments ts ≡ true →
     Alike (after_argument all k) (have_arguments all k) ts
@@ -128,7 +129,7 @@ ended_argument all k ts h = by_first (after_argument all k) (have_arguments all 
     first : (ts : List Token) → at_end_of_arguments ts ≡ true →
         FirstAlike (after_argument all k) (have_arguments all k) ts
     first [] h = tt
-    first (t ∷ ts) h = passed _ _ (ending_is_no_comma t.kind h)
+    first (t ∷ ts) h = cond-false _ _ _ (ending_is_no_comma t.kind h)
 
 pub ended_if : (at : Place) (e : Expression) (held : Element) (k : BehindElement) (ts : List Token) →
     begins_with_key Else ts ≡ false →
@@ -136,12 +137,12 @@ pub ended_if : (at : Place) (e : Expression) (held : Element) (k : BehindElement
 unfolding step after_element
 ended_if at e held k ts h =
     by_first (have_element held (held_element at e k)) (have_element (if_element at e held) k) ts (first ts h)
-    (passed _ _ h)
+    (cond-false _ _ _ h)
   where
     first : (ts : List Token) → begins_with_key Else ts ≡ false →
         FirstAlike (have_element held (held_element at e k)) (have_element (if_element at e held) k) ts
     first [] h = tt
-    first (t ∷ ts) h = passed _ _ h
+    first (t ∷ ts) h = cond-false _ _ _ h
 
 pub ended_parameter : (w : List ℕ) (all : List Parameter) (k : BehindParameters) (ts : List Token) →
     begins_with Assign ts ≡ false →
@@ -153,7 +154,7 @@ ended_parameter w all k ts h =
     first : (ts : List Token) → begins_with Assign ts ≡ false →
         FirstAlike (have_parameter w all k) (after_parameter (with_parameter all w None) k) ts
     first [] h = tt
-    first (t ∷ ts) h = passed _ _ h
+    first (t ∷ ts) h = cond-false _ _ _ h
 
 pub ended_choice : (at : Place) (m : Marks) (e : Expression) (a outer : Items) (k : BehindItems) (ts : List Token) →
     begins_with_key Else ts ≡ false →
@@ -162,13 +163,14 @@ pub ended_choice : (at : Place) (m : Marks) (e : Expression) (a outer : Items) (
 unfolding step after_items
 ended_choice at m e a outer k ts h =
     by_first (have_items a (held_child at m e outer k))
-    (have_items (with_statement m outer (choice at m.percent m.hash e a no_items)) k) ts (first ts h) (passed _ _ h)
+    (have_items (with_statement m outer (choice at m.percent m.hash e a no_items)) k) ts (first ts h)
+    (cond-false _ _ _ h)
   where
     first : (ts : List Token) → begins_with_key Else ts ≡ false →
         FirstAlike (have_items a (held_child at m e outer k))
         (have_items (with_statement m outer (choice at m.percent m.hash e a no_items)) k) ts
     first [] h = tt
-    first (t ∷ ts) h = passed _ _ h
+    first (t ∷ ts) h = cond-false _ _ _ h
 
 -- a further element, or the end of the elements
 pub ended_element : {a all : Elements} {ts us : List Token} → MoreElems a ts us all →

@@ -1,6 +1,6 @@
 -- Runs from states at which each token does the same, and where a part that could go on has ended.
-use Rattle.std.proofs.Common.{◌≡◌, ℕ, suc, Bool, true, false, List, [], ◌∷◌, Option, Some, None, refl, ap, ◌∙◌, sym}
-use Rattle.std.proofs.Common.{if◌then◌else◌}
+use Rattle.std.proofs.Common.{◌≡◌, ℕ, suc, true, false, List, [], ◌∷◌, Option, Some, None, refl, ap, ◌∙◌, sym}
+use Rattle.std.proofs.lemmas.Bool.{cond-false, cond-true}
 use Rattle.scad_fault.specs.declared.place.Place.{Place}
 use Rattle.scad_lex.specs.declared.token.Token.{Token}
 use Rattle.scad_lex.specs.declared.token.Sign.TheVariants.{OpenRound, OpenSquare, Question, Assign, Caret, Dot}
@@ -48,12 +48,6 @@ by_move s t ts = go_by (step s t)
 pub same_step : (s s' : State) (t : Token) (ts : List Token) → step s t ≡ step s' t → run s (t ∷ ts) ≡ run s' (t ∷ ts)
 same_step s s' t ts h = by_move s t ts ∙ (ap (λ m. follow m ts) h ∙ sym (by_move s' t ts))
 
-pub passed : {A : Type 0} {b : Bool} (x y : A) → b ≡ false → (if b then x else y) ≡ y
-passed x y h = ap (λ b. if b then x else y) h
-
-pub taken : {A : Type 0} {b : Bool} (x y : A) → b ≡ true → (if b then x else y) ≡ x
-taken x y h = ap (λ b. if b then x else y) h
-
 -- states at which each token does the same have the same runs
 pub settle : (s s' : State) → ((t : Token) → step s t ≡ step s' t) → finish s ≡ finish s' → (ts : List Token) →
     run s ts ≡ run s' ts
@@ -81,7 +75,7 @@ pub ended_test : (a : Expression) (k : BehindExpression) (ts : List Token) →
     begins_with Question ts ≡ false → run (have_operand a (tested k)) ts ≡ run (have_expression a k) ts
 unfolding run step finish after_operand tested_step
 ended_test a k [] h = refl
-ended_test a k (t ∷ ts) h = same_step (have_operand a (tested k)) (have_expression a k) t ts (passed _ _ h)
+ended_test a k (t ∷ ts) h = same_step (have_operand a (tested k)) (have_expression a k) t ts (cond-false _ _ _ h)
 
 pub ended_posts : (count : ℕ) (a : Expression) (k : BehindOperand) (ts : List Token) →
     begins_with OpenSquare ts ≡ false → begins_with Dot ts ≡ false → begins_with Caret ts ≡ false →
@@ -89,13 +83,14 @@ pub ended_posts : (count : ℕ) (a : Expression) (k : BehindOperand) (ts : List 
 unfolding run step finish post_step
 ended_posts count a k [] h₁ h₂ h₃ = refl
 ended_posts count a k (t ∷ ts) h₁ h₂ h₃ =
-    same_step (have_post count a k) (have_operand a k) t ts (passed _ _ h₁ ∙ (passed _ _ h₂ ∙ passed _ _ h₃))
+    same_step (have_post count a k) (have_operand a k) t ts
+    (cond-false _ _ _ h₁ ∙ (cond-false _ _ _ h₂ ∙ cond-false _ _ _ h₃))
 
 pub ended_name : (at : Place) (w : List ℕ) (k : BehindOperand) (ts : List Token) →
     begins_with OpenRound ts ≡ false → run (have_name at w k) ts ≡ run (have_post 0 (name at w) k) ts
 unfolding run step finish name_step
 ended_name at w k [] h = refl
-ended_name at w k (t ∷ ts) h = same_step (have_name at w k) (have_post 0 (name at w) k) t ts (passed _ _ h)
+ended_name at w k (t ∷ ts) h = same_step (have_name at w k) (have_post 0 (name at w) k) t ts (cond-false _ _ _ h)
 
 -- a WORD that begins an unnamed argument
 pub ended_word : (at : Place) (w : List ℕ) (all : Arguments) (k : BehindArguments) (ts : List Token) →
@@ -104,13 +99,14 @@ pub ended_word : (at : Place) (w : List ℕ) (all : Arguments) (k : BehindArgume
 unfolding run step finish word_argument
 ended_word at w all k [] h = refl
 ended_word at w all k (t ∷ ts) h =
-    same_step (have_word at w all k) (have_name at w (opened 6 (tested (argument_of None all k)))) t ts (passed _ _ h)
+    same_step (have_word at w all k) (have_name at w (opened 6 (tested (argument_of None all k)))) t ts
+    (cond-false _ _ _ h)
 
 pub ended_arguments : (all : Arguments) (k : BehindArguments) (ts : List Token) →
     at_end_of_arguments ts ≡ true → run (in_arguments all k) ts ≡ run (have_arguments all k) ts
 unfolding run step finish arguments_step
 ended_arguments all k [] h = refl
-ended_arguments all k (t ∷ ts) h = same_step (in_arguments all k) (have_arguments all k) t ts (taken _ _ h)
+ended_arguments all k (t ∷ ts) h = same_step (in_arguments all k) (have_arguments all k) t ts (cond-true _ _ _ h)
 
 pub ending_is_no_comma : (kind : TokenKind) → ends_arguments_kind kind ≡ true → is_sign_kind Comma kind ≡ false
 ending_is_no_comma (Sign CloseRound) h = refl
@@ -124,7 +120,7 @@ pub ended_argument : (all : Arguments) (k : BehindArguments) (ts : List Token) �
 unfolding run step finish after_argument_step
 ended_argument all k [] h = refl
 ended_argument all k (t ∷ ts) h =
-    same_step (after_argument all k) (have_arguments all k) t ts (passed _ _ (ending_is_no_comma t.kind h))
+    same_step (after_argument all k) (have_arguments all k) t ts (cond-false _ _ _ (ending_is_no_comma t.kind h))
 
 pub ended_if : (at : Place) (e : Expression) (held : Element) (k : BehindElement) (ts : List Token) →
     begins_with_key Else ts ≡ false →
@@ -132,7 +128,8 @@ pub ended_if : (at : Place) (e : Expression) (held : Element) (k : BehindElement
 unfolding run step finish after_element
 ended_if at e held k [] h = refl
 ended_if at e held k (t ∷ ts) h =
-    same_step (have_element held (held_element at e k)) (have_element (if_element at e held) k) t ts (passed _ _ h)
+    same_step (have_element held (held_element at e k)) (have_element (if_element at e held) k) t ts
+    (cond-false _ _ _ h)
 
 pub ended_parameter : (w : List ℕ) (all : List Parameter) (k : BehindParameters) (ts : List Token) →
     begins_with Assign ts ≡ false →
@@ -140,4 +137,4 @@ pub ended_parameter : (w : List ℕ) (all : List Parameter) (k : BehindParameter
 unfolding run step finish
 ended_parameter w all k [] h = refl
 ended_parameter w all k (t ∷ ts) h =
-    same_step (have_parameter w all k) (after_parameter (with_parameter all w None) k) t ts (passed _ _ h)
+    same_step (have_parameter w all k) (after_parameter (with_parameter all w None) k) t ts (cond-false _ _ _ h)

@@ -1,5 +1,6 @@
 -- Each derivation of the grammar of statements runs; a program's run gives the program.
 use Rattle.std.proofs.Common.{◌≡◌, ℕ, Bool, true, false, List, [], ◌∷◌, Option, Some, refl, ◌∙◌}
+use Rattle.std.proofs.lemmas.Bool.{cond-false}
 use Rattle.scad_fault.specs.declared.place.Place.{Place}
 use Rattle.scad_lex.specs.declared.token.Token.{Token}
 use Rattle.scad_lex.specs.declared.token.Sign.TheVariants.{OpenRound}
@@ -23,7 +24,7 @@ use Rattle.scad_grammar.specs.Steps.{end_arguments, after_expression, end_parame
 use Rattle.scad_grammar.specs.StatementSteps.{marked_step, first_step, definition_step, statement_step}
 use Rattle.scad_grammar.specs.StatementSteps.{word_statement, child_step, after_items, finish_items, parameters_step}
 use Rattle.scad_grammar.specs.Machine.{step, finish, run, start}
-use Rattle.scad_grammar.proofs.reader.Runs.{settle, same_step, passed, ended_parameter}
+use Rattle.scad_grammar.proofs.reader.Runs.{settle, same_step, ended_parameter}
 use Rattle.scad_grammar.proofs.reader.Expressions.{runs_expr, runs_args}
 
 runs_default : {ts us : List Token} {d : Option Expression} → Default ts us d →
@@ -128,7 +129,7 @@ unfolding run step finish after_items finish_items
 runs_no_otherwise at m e a outer k [] h = refl
 runs_no_otherwise at m e a outer k (t ∷ ts) h =
     same_step (have_items a (held_child at m e outer k))
-    (have_items (with_statement m outer (choice at m.percent m.hash e a no_items)) k) t ts (passed _ _ h)
+    (have_items (with_statement m outer (choice at m.percent m.hash e a no_items)) k) t ts (cond-false _ _ _ h)
 
 mutual
   unfolding run step finish end_arguments after_expression end_parameters marked_step first_step definition_step

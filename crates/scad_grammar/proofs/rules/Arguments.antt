@@ -1,6 +1,7 @@
 -- The rules of arguments give the reader's outcome.
 use Rattle.std.proofs.Common.{◌≡◌, ℕ, zero, suc, ◌+◌, ◌<◌, ◌≤◌, Bool, true, false, if◌then◌else◌, List, [], ◌∷◌}
 use Rattle.std.proofs.Common.{Option, Some, None, Result, Ok, Err, length, refl, ap, sym, ◌∙◌, arith}
+use Rattle.std.proofs.lemmas.Bool.{cond-false}
 use Rattle.scad_fault.specs.declared.place.Place.{Place}
 use Rattle.scad_lex.specs.declared.token.Token.{Token}
 use Rattle.scad_lex.specs.declared.token.TokenKind.{TokenKind}
@@ -20,7 +21,6 @@ use Rattle.scad_grammar.specs.Steps.{arguments_step, after_expression, word_argu
 use Rattle.scad_grammar.specs.Machine.{step, finish, Refusal, syntax_at, most_open, outcome}
 use Rattle.scad_grammar.specs.Rules.{Read, then_read, Rules, expr_of, named_by, more_args, args_of, args_closed_of}
 use Rattle.scad_grammar.proofs.reader.Asked.{is_the_word}
-use Rattle.scad_grammar.proofs.reader.Runs.{passed}
 use Rattle.scad_grammar.proofs.rules.Turns.{follow, answered, by_outcome, goes, goes_nowhere, ends_none, if_gives}
 use Rattle.scad_grammar.proofs.rules.Turns.{then_gives, sign_gives}
 use Rattle.scad_grammar.proofs.rules.Fewer.{Leaves, BelowFewer, expr_leaves}
@@ -57,7 +57,7 @@ unfolding end_arguments
 no_end all (of_call at w k) t h = passed_by (is_sign CloseRound t) _ (no_round t.kind h)
 no_end all (of_keyed what at k) t h = passed_by (is_sign CloseRound t) _ (no_round t.kind h)
 no_end all (of_for at k) t h =
-    passed _ _ (no_round t.kind h) ∙ passed_by (is_sign Semicolon t) _ (no_semicolon t.kind h)
+    cond-false _ _ _ (no_round t.kind h) ∙ passed_by (is_sign Semicolon t) _ (no_semicolon t.kind h)
 no_end all (of_steps at starts e k) t h = passed_by (is_sign CloseRound t) _ (no_round t.kind h)
 no_end all (of_let at k) t h = passed_by (is_sign CloseRound t) _ (no_round t.kind h)
 no_end all (of_statement at m w a k) t h = passed_by (is_sign CloseRound t) _ (no_round t.kind h)

@@ -1,7 +1,7 @@
 use Rattle.std.proofs.Common.{◌≡◌, ◌++◌, drop}
 use Rattle.std.specs.List.{flat_map}
 use Rattle.cli_text.specs.Cli.{point_text}
-use Rattle.cli_text.specs.Appends.{BeginsWith}
+use Rattle.scad_base.specs.Appends.{BeginsWith}
 use Rattle.cli_text.proofs.polyline.push_closed.Given as goal
 
 abbrev pub invariant-points : goal.invariant-points

@@ -2,7 +2,7 @@ use Rattle.std.proofs.Common.{◌≡◌, ◌+◌, ◌*◌, ◌^◌, ◌≤◌, �
 use Rattle.std.specs.List.{sum_by}
 use Rattle.gcode_text.specs.Amount.{paths_volume}
 use Rattle.gcode_text.specs.Gcode.{paths_text}
-use Rattle.gcode_text.specs.Appends.{BeginsWith}
+use Rattle.scad_base.specs.Appends.{BeginsWith}
 use Rattle.gcode_text.proofs.layer.push_paths.Given as goal
 
 abbrev pub invariant-paths : goal.invariant-paths

@@ -1,7 +1,7 @@
 use Rattle.std.proofs.Common.{◌≡◌, ◌+◌, ◌*◌, ◌^◌, ◌≤◌, ◌++◌, drop}
 use Rattle.gcode_text.specs.Amount.{moves_volume}
 use Rattle.gcode_text.specs.Gcode.{moves_text}
-use Rattle.gcode_text.specs.Appends.{BeginsWith}
+use Rattle.scad_base.specs.Appends.{BeginsWith}
 use Rattle.gcode_text.proofs.path.push_moves.Given as goal
 
 abbrev pub invariant-points : goal.invariant-points

@@ -1,5 +1,5 @@
 use Rattle.std.proofs.Common.{◌≡◌, ◌+◌, ◌-◌, ◌^◌, ◌<◌, min, drop}
-use Rattle.scad_tree.specs.Sizes.{leaf_counts}
+use Rattle.scad_tree.specs.Order.{all_leaves}
 use Rattle.scad_tree.specs.Solid.{members}
 use Rattle.scad_tree.specs.View.{solids}
 use Rattle.scad_tree.proofs.sizes.+leaves.Given as goal
@@ -8,5 +8,5 @@ use Rattle.scad_tree.proofs.sizes.+leaves.Given as goal
 abbrev pub invariant-all_leaves-nodes : goal.invariant-all_leaves-nodes
 invariant-all_leaves-nodes l = record {
   in_range : l.count < 2 ^ 64;
-  reached : min (l.count + leaf_counts (members (solids (drop l.node-index l.nodes)))) (2 ^ 64 - 1) ≡ min (leaf_counts (members (solids l.nodes))) (2 ^ 64 - 1);
+  reached : min (l.count + all_leaves (members (solids (drop l.node-index l.nodes)))) (2 ^ 64 - 1) ≡ min (all_leaves (members (solids l.nodes))) (2 ^ 64 - 1);
 }

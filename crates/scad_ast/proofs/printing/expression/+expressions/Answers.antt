@@ -1,10 +1,11 @@
 -- An expression's text from those of its parts, which code sees as slices.
 use Rattle.std.proofs.Common.{rules, ◌≡◌, ◌++◌, OnOk, codes, true, ap, sym, ◌∙◌, arith, Some, None, ℕ, List}
 use Rattle.std.proofs.lemmas.Grind.{common_steps}
+use Rattle.std.proofs.lemmas.Result.{on_ok_weaker}
 use Rattle.scad_ast.specs.declared.expression.Elem.{If}
 use Rattle.scad_ast.specs.Text.{spaced, expression_text, enclosed, in_parentheses, arguments_text, elements_text, element_text}
 use Rattle.scad_ast.specs.View.{expression_of, expression_at, arguments, elements, element_of}
-use Rattle.scad_ast.proofs.Pieces.{on_ok, four}
+use Rattle.scad_ast.proofs.Pieces.{four}
 use Rattle.scad_ast.proofs.Rows.{vector_view, call_view, let_view, assert_view, echo_view, for_view, loop_view, let_element_view}
 use Rattle.scad_ast.proofs.printing.expression.+expressions.Goals as goal
 
@@ -80,6 +81,6 @@ write_element-returns-in_ok-write_loop_steps-in-Loop t c =
     let steps : List ℕ = arguments_text true (arguments c.deref-in-Loop-2.result.now) ++ codes ") " in
     let elem : List ℕ = element_text (element_of c.deref-in-Loop-3.result.now) in
     rw text (rw (← c.deref-in-Loop.ensures.value, ← c.deref-in-Loop-2.ensures.value, ← c.deref-in-Loop-3.ensures)
-    (on_ok c.write_element-in-Loop.result
+    (on_ok_weaker c.write_element-in-Loop.result
     (λ last. four c.args.out.now.items starts test steps elem c.in_ok-write_loop_start-in-Loop.ensures c.in_ok-write_loop_test-in-Loop.ensures c.in_ok-write_loop_steps-in-Loop.ensures last)
     c.write_element-in-Loop.ensures))

@@ -4,7 +4,6 @@ use Rattle.std.proofs.lemmas.Grind.{common_steps}
 use Rattle.scad_ast.specs.Text.{spaced, in_parentheses, expression_text, arguments_text, parameters_text, marks_text, body, otherwise, items_text, item_text}
 use Rattle.scad_ast.specs.View.{expression_of, arguments}
 use Rattle.scad_ast.specs.Scope.{item_of, body_of, items, parameter}
-use Rattle.scad_ast.proofs.Pieces.{on_ok, four}
 use Rattle.scad_ast.proofs.ScopeRows.{module_view, call_view, choice_view}
 use Rattle.scad_ast.proofs.printing.statement.+statements.Goals as goal
 

@@ -194,26 +194,5 @@ passes w ax ay bx by rx ry f =
         ((v5 ⊖ v3) ⊗ (v0 ⊗ (v1 ⊕ v2) ⊕ (v1 ⊗ v4 ⊕ v2 ⊗ v6)) ⊕ (v6 ⊖ v4) ⊗ (v0 ⊗ (v1 ⊕ v2) ⊖ (v1 ⊗ v3 ⊕ v2 ⊗ v5))) refl
 
 -- ---- mirrored segments
-mirrored_mean : (s t a b : ℤ) → s *ℤ (pos 0 -ℤ a) +ℤ t *ℤ (pos 0 -ℤ b) ≡ pos 0 -ℤ (s *ℤ a +ℤ t *ℤ b)
+pub mirrored_mean : (s t a b : ℤ) → s *ℤ (pos 0 -ℤ a) +ℤ t *ℤ (pos 0 -ℤ b) ≡ pos 0 -ℤ (s *ℤ a +ℤ t *ℤ b)
 mirrored_mean s t a b = ring (s ∷ t ∷ a ∷ b ∷ []) (v0 ⊗ (num (pos 0) ⊖ v2) ⊕ v1 ⊗ (num (pos 0) ⊖ v3)) (num (pos 0) ⊖ (v0 ⊗ v2 ⊕ v1 ⊗ v3)) refl
-
-mirrored : (w s t a b : ℤ) → Lies w s t (pos 0 -ℤ a) (pos 0 -ℤ b) → Lies w s t a b
-mirrored w s t a b l =
-    let f = l.from in
-    let g = l.to in
-    let e = mirrored_mean s t a b in
-    record { from = omega (arith, ints, e); to = omega (arith, ints, e) }
-
-mirrored_back : (w s t a b : ℤ) → Lies w s t a b → Lies w s t (pos 0 -ℤ a) (pos 0 -ℤ b)
-mirrored_back w s t a b l =
-    let f = l.from in
-    let g = l.to in
-    let e = mirrored_mean s t a b in
-    record { from = omega (arith, ints, e); to = omega (arith, ints, e) }
-
--- a segment that rises to the left meets the square where its mirror image does
-pub found_mirrored : (w ax ay bx by : ℤ) → Found w (pos 0 -ℤ ax) ay (pos 0 -ℤ bx) by → Found w ax ay bx by
-found_mirrored w ax ay bx by f = record { s = f.s; t = f.t; from = f.from; to = f.to; some = f.some; x = mirrored w f.s f.t ax bx f.x; y = f.y }
-
-pub mirrored_found : (w ax ay bx by : ℤ) → Found w ax ay bx by → Found w (pos 0 -ℤ ax) ay (pos 0 -ℤ bx) by
-mirrored_found w ax ay bx by f = record { s = f.s; t = f.t; from = f.from; to = f.to; some = f.some; x = mirrored_back w f.s f.t ax bx f.x; y = f.y }
