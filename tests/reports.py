@@ -49,11 +49,13 @@ def well(command):
 
 def badly(command):
     lines = told([b"1", b"2"], b"fault 8 ZeroDivisor at 1:25\n")
+    source = b"echo(1); echo(2); echo(3/0); echo(4);"
     never = b"echo(1); module m() m(); m();"
+    depth = told([b"1"], b"budget 3 Depth at 1:21\n")
     return [
         asked(command, "of_a_fault", 1, b"fault 2 Syntax at 1:6\n", source=b"cube("),
-        asked(command, "of_a_fault_behind_lines", 1, lines, source=b"echo(1); echo(2); echo(3/0); echo(4);"),
-        asked(command, "of_a_budget_behind_lines", 6, told([b"1"], b"budget 3 Depth at 1:21\n"), source=never),
+        asked(command, "of_a_fault_behind_lines", 1, lines, source=source),
+        asked(command, "of_a_budget_behind_lines", 6, depth, source=never),
         asked(command, "of_a_long_source", 6, SOURCE_LONG, given=of_bytes(SOURCE_LIMIT + 1)),
         asked(command, "of_a_source_without_end", 6, SOURCE_LONG, model=b"/dev/zero"),
     ]
@@ -120,20 +122,16 @@ def long():
         check("of_a_comment_at_the_limit", 0, EMPTY, b"//" + b"/" * (SOURCE_LIMIT - 2)),
         check("of_nothing_but_semicolons", 0, EMPTY, filled(b";")),
         check("of_as_many_assignments_as_there_is_room_for", 0, EMPTY, filled(b"a=1;")),
-        check("of_more_cubes_than_may_be_made", 6, b"budget 4 Leaves at 1:32769\n", 40_000 * CUBE),
+        check("of_more_cubes_than_may_be_made", 6, b"budget 4 Leaves at 1:32769\n", CUBE * 20000),
     ]
 
 
 def memory():
     """A list of more elements than there is room for, and as few steps as it may take."""
-    source = b"echo(1); echo(len([for (i = [1:1600000]) i]));"
-    line = told([b"1"])
+    elements = {"m.scad": b"echo(1); echo(len([for (i = [1:1600000]) i]));"}
+    name = "check_of_{}_that_memory_cannot_hold".format
+    short = lambda status=0, report=TOLD["check"], **more: asked("check", "", status, report, **more)
     return [
-        MemoryCheck("check_of_a_source_that_memory_cannot_hold", of_bytes(SOURCE_LIMIT), asked_under("check")),
-        MemoryCheck("check_of_a_list_that_memory_cannot_hold", {"m.scad": source}, asked_under("check"), line),
+        MemoryCheck(name("a_source"), of_bytes(SOURCE_LIMIT), short),
+        MemoryCheck(name("a_list"), elements, short, told([b"1"])),
     ]
-
-
-def asked_under(command):
-    """What the check of memory starts: the command on a short source, or one that it is given."""
-    return lambda status=0, report=TOLD[command], **more: asked(command, "", status, report, **more)
