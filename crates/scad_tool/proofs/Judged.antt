@@ -1,5 +1,5 @@
 -- What each status says of the words, of the source and of the files.
-use Rattle.std.proofs.Common.{◌≡◌, ◌≢◌, ◌<◌, ◌≤◌, ◌++◌, List, [], ◌∷◌, ℕ, Bool, true, false, Option, Some, None, refl, sym, ap, ◌∙◌, subst, length, nat_lt, rules, arith}
+use Rattle.std.proofs.Common.{◌≡◌, ◌≢◌, ◌≤◌, List, [], ◌∷◌, ℕ, Bool, true, false, Option, Some, None, refl, sym, ap, ◌∙◌, subst, length, nat_lt, rules, arith}
 use Rattle.std.specs.Prelude.{IsSomeAnd, option_map, unwrap_or, if◌then◌else◌}
 use Rattle.scad_fault.specs.declared.budget.Budget.{Budget}
 use Rattle.scad_fault.specs.declared.status.Status.{Status}

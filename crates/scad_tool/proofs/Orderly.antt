@@ -1,5 +1,5 @@
 -- The script of every words and every source is orderly.
-use Rattle.std.proofs.Common.{◌≡◌, ◌≢◌, ◌++◌, List, [], ◌∷◌, ℕ, Bool, true, false, Option, Some, None, Ok, inl, refl, arith, nat_lt}
+use Rattle.std.proofs.Common.{◌≢◌, ◌++◌, List, [], ◌∷◌, ℕ, Bool, true, false, Option, Some, None, Ok, inl, refl, arith, nat_lt}
 use Rattle.std.specs.Prelude.{if◌then◌else◌}
 use Rattle.cli_text.specs.Cli.{head, head_start, geometry_end}
 use Rattle.scad_io.specs.declared.desk.Out.TheVariants.{Report, Cli}
@@ -7,8 +7,8 @@ use Rattle.scad_script.specs.declared.refusal.Refusal.{Refusal}
 use Rattle.scad_script.specs.declared.refusal.Refusal.TheVariants.{Source, Over as IsOver}
 use Rattle.scad_script.specs.declared.loading.Input.{Input}
 use Rattle.scad_script.specs.declared.loading.Input.TheVariants.{Whole, Long}
-use Rattle.scad_script.specs.Steps.{Step, Reads, Makes, Sends, text_of, reading, drawing, stage}
-use Rattle.scad_script.specs.Script.{Script, Ending, Finishes, Refuses, Lacks, ends}
+use Rattle.scad_script.specs.Steps.{Step, Reads, Sends, reading}
+use Rattle.scad_script.specs.Script.{Ending, Finishes, Refuses, Lacks, ends}
 use Rattle.scad_script.specs.Names.{Given, UsesGiven, AllFrom, OnlyReads, IsOrderly}
 use Rattle.scad_script.proofs.Layers.{Draws, piece_draws, layers_draw, layers_lack, lacks_nothing}
 use Rattle.scad_expr.specs.declared.fault.EvalFault.TheVariants.{Fault, Over, Memory}

@@ -1,5 +1,5 @@
 -- Refusals, and commands that leave both files as they were.
-use Rattle.std.proofs.Common.{◌≡◌, ◌≢◌, ◌++◌, List, [], ◌∷◌, ℕ, Bool, true, false, Option, Some, None, refl, sym, ap, ◌∙◌, subst, arith}
+use Rattle.std.proofs.Common.{◌≡◌, ◌≢◌, ◌++◌, List, [], ◌∷◌, ℕ, Option, Some, None, sym, ap, ◌∙◌, subst, arith}
 use Rattle.scad_fault.specs.declared.status.Status.{Status}
 use Rattle.scad_fault.specs.declared.status.Status.TheVariants.{Done, Source, Usage, Settings, Read, Write, Over, Memory}
 use Rattle.scad_fault.specs.Line.{line_of}
@@ -26,7 +26,7 @@ use Rattle.scad_tool.specs.Source.{cube_size}
 use Rattle.scad_tool.specs.Cube.{layer_height}
 use Rattle.scad_tool.specs.Meaning.{source_means}
 use Rattle.scad_tool.specs.Told.{check_end, told}
-use Rattle.scad_tool.specs.Answer.{slice_script, input_script, command_script, script_of, given_by}
+use Rattle.scad_tool.specs.Answer.{slice_script, command_script, script_of, given_by}
 use Rattle.scad_tool.specs.Promises.{IsRefused, Refuses, LeavesOutputs}
 use Rattle.scad_tool.proofs.Cubes.{cube_ending}
 

@@ -1,6 +1,5 @@
 -- Telling what a source means plays its script.
-use Rattle.std.proofs.Common.{◌≡◌, ◌≢◌, ◌<◌, ◌-◌, ◌^◌, List, [], ◌∷◌, ℕ, Option, Some, None, Result, Ok, Err, refl, sym, ap, ◌∙◌, min, rules, arith}
-use Rattle.std.specs.Prelude.{unwrap_or}
+use Rattle.std.proofs.Common.{◌≡◌, ◌≢◌, List, [], ℕ, Some, None, Result, Ok, Err, refl, sym, ap, ◌∙◌, min, arith}
 use Rattle.scad_fault.specs.declared.place.Place.{Place}
 use Rattle.scad_io.specs.Desk.{View}
 use Rattle.scad_lex.specs.declared.token.Token.{Token}

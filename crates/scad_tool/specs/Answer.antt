@@ -1,5 +1,5 @@
 -- What a run answers: a script of the words and of what was read of the named files.
-use Rattle.std.specs.Prelude.{◌≡◌, ◌++◌, List, [], ◌∷◌, ℕ, Option, Some, None, IfSome, Result, Ok, length, codes, decimal, option_map}
+use Rattle.std.specs.Prelude.{◌≡◌, ◌++◌, List, [], ◌∷◌, ℕ, Option, Some, None, IfSome, Ok, codes, decimal, option_map}
 use Rattle.std.specs.Option.{option_and_then}
 use Rattle.scad_fault.specs.declared.fault.Fault.{Fault}
 use Rattle.scad_fault.specs.declared.fault.FaultKind.TheVariants.{NotBuilt}

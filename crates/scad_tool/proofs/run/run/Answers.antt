@@ -8,9 +8,8 @@ use Rattle.scad_script.proofs.Faulted.{report_sound}
 use Rattle.scad_script.proofs.Fronts.{files_are_fronts}
 use Rattle.scad_script.proofs.Handed.{names_are_given}
 use Rattle.scad_script.proofs.Created.{created_for_bytes}
-use Rattle.scad_tool.specs.Answer.{script_of, given_by, OnScript}
+use Rattle.scad_tool.specs.Answer.{script_of, given_by}
 use Rattle.scad_tool.proofs.Orderly.{orderly}
-use Rattle.scad_tool.proofs.Working.{ran}
 use Rattle.scad_tool.proofs.Judged.{answers, holds_cube, judges, read_fault, write_fault, memory_line}
 use Rattle.scad_tool.proofs.Refused.{leaves, refuses_so}
 use Rattle.scad_tool.proofs.Completed.{completes}

@@ -1,4 +1,4 @@
-use Rattle.std.proofs.Common.{◌≡◌, rules, Some, [], ◌∷◌}
+use Rattle.std.proofs.Common.{◌≡◌, rules, [], ◌∷◌}
 use Rattle.scad_io.specs.declared.desk.Out.TheVariants.{Cli}
 use Rattle.scad_script.specs.Steps.{Makes}
 use Rattle.scad_script.specs.Script.{first}
