@@ -1,0 +1,4 @@
+pub mod Zips
+pub mod Rising
+pub mod Same
+pub mod Merged

@@ -1,0 +1,24 @@
+//! Laws of the definitions, each carried by the contract of a function that does nothing.
+ghost use Rattle.outline_laws.specs.Outlines.{PiecesAreSame, OutlinesAreOne};
+
+/// The pieces of a border are the same one by one, over whatever divisors its levels are written: of one name, from one point to
+/// one point.
+pub fn pieces_are_same()
+    ensures { PiecesAreSame }
+{}
+
+/// A shape over edges within the limit of coordinates has one list of outlines, and so have two shapes that hold alike.
+pub fn outlines_are_one()
+    ensures { OutlinesAreOne }
+{}
+
+#[cfg(test)]
+mod tests {
+    use super::*;
+
+    #[test]
+    fn laws_are_called() {
+        pieces_are_same();
+        outlines_are_one();
+    }
+}
