@@ -2,3 +2,12 @@ pub mod Zips
 pub mod Rising
 pub mod Same
 pub mod Merged
+pub mod Lines
+pub mod Bundles
+pub mod Ranks
+pub mod Values
+pub mod Stops
+pub mod Pieces
+pub mod Named
+pub mod Within
+pub mod OneOutlines

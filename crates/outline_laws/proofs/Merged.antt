@@ -22,7 +22,7 @@ use Rattle.outline_laws.proofs.Zips.{zip_permuted}
 use Rattle.outline_laws.proofs.Same.{spot_turned, spot_chain, pieces_turned, edges_same}
 
 -- ---- counts at a point
-test_same : (s t u v : Spot) → AreSameSpot s t → AreSameSpot u v → is_same_spot s u ≡ is_same_spot t v
+pub test_same : (s t u v : Spot) → AreSameSpot s t → AreSameSpot u v → is_same_spot s u ≡ is_same_spot t v
 test_same s t u v h k =
     same_through (point_of s) (point_of u) (point_of v) k.first k.second k.same
     ∙ by_first (is_same_spot s v) (is_same_spot t v) refl refl

@@ -8,7 +8,7 @@ use Rattle.scad_geom.specs.declared.level.Level.{Level}
 use Rattle.scad_geom.specs.declared.level.LeafEdge.{LeafEdge}
 use Rattle.scad_geom.specs.Level.{IsLower, IsAtMost, IsSameHeight}
 use Rattle.scad_geom.specs.Heights.{heights}
-use Rattle.scad_geom.proofs.Heights.{lower_then_at_most, at_most_chain, lower_weak, heights_positive}
+use Rattle.scad_geom.proofs.Heights.{lower_then_at_most, at_most_then_lower, at_most_chain, lower_weak, heights_positive}
 use Rattle.slice_events.specs.Levels.{IsRising, HasHeight, AreLevels}
 
 abbrev pub HasDivisor : Level → Type 0
@@ -35,6 +35,9 @@ module _ (p q r : Level) (dp : HasDivisor p) (dq : HasDivisor q) (dr : HasDiviso
 
   pub lower_same : IsLower p q → IsSameHeight q r → IsLower p r
   lower_same h k = lower_then_at_most p q r dp dq dr h (up_to q r k)
+
+  pub same_lower : IsSameHeight p q → IsLower q r → IsLower p r
+  same_lower h k = at_most_then_lower p q r dp dq dr (up_to p q h) k
 
   lower_chain : IsLower p q → IsLower q r → IsLower p r
   lower_chain h k = lower_then_at_most p q r dp dq dr h (lower_weak q r k)

@@ -177,6 +177,9 @@ module _ (p q : Level) (dp : HasDivisor p) (dq : HasDivisor q) (e : IsSameHeight
       (subst (λ (l : Level). IsSameHeight l t.at) (sym h.0.level) (subst (IsSameHeight p) (sym k.0.level) e)) z.0,
       from_places ss ts h.1 k.1 z.1)
 
+  pub stops_here : (es : List LeafEdge) (ss : List Spot) → AreStops es p ss → AllByRecursion (IsSpotAt p) ss
+  stops_here es ss a = of_stops (IsSpotAt p) (spots_at es p) ss (spots_here p q dp dq e es) a.sound
+
   pub stops_same : (es : List LeafEdge) (ss ts : List Spot) → AreStops es p ss → AreStops es q ts → AllZip AreSameSpot ss ts
   stops_same es ss ts a b =
       let us : List Spot = spots_at es p in
