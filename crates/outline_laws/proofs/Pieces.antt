@@ -37,7 +37,7 @@ between_same true false s t s' t' k h g = (record { name = refl; from = h; to = 
 between_same false true s t s' t' k h g = (record { name = refl; from = g; to = h }, tt)
 between_same false false s t s' t' k h g = tt
 
-module _ (es : List LeafEdge) (shape other : Shape) (alike : HoldAlike shape other) where
+module _ (es : List LeafEdge) (shape other : Shape) (alike : HoldAlike es shape other) where
   value : (above right : Bool) (s t : Spot) → AreSameSpot s t → is_in_by above right es shape (point_of s) ≡ is_in_by above right es other (point_of t)
   value above right s t h = value_same (point_of s) (point_of t) h.first h.second h.same above right es shape other alike
 
@@ -114,7 +114,7 @@ module _ (es : List LeafEdge) (shape other : Shape) (alike : HoldAlike shape oth
         (bundle_same k ks r.0) (slab_same bs (back (Rises es) (k ∷ ks) (concat bs) r))
 
 -- ---- on all levels
-module _ (es : List LeafEdge) (shape other : Shape) (alike : HoldAlike shape other) where
+module _ (es : List LeafEdge) (shape other : Shape) (alike : HoldAlike es shape other) where
   at_level : (l : Level) (ss : List Spot) → AllByRecursion (IsSpotAt l) ss → AllByRecursion (λ s. s.at ≡ l) ss
   at_level l [] h = tt
   at_level l (s ∷ ss) h = (h.0.level, at_level l ss h.1)

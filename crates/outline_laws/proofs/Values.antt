@@ -110,8 +110,8 @@ module _ (p q : Point) (dp : pos 0 <ℤ p.d) (dq : pos 0 <ℤ q.d) (e : is_same_
   wind_same above right [] = refl
   wind_same above right (f ∷ fs) = ap₂ (λ (y z : ℤ). y +ℤ z) (turn_same above right f) (wind_same above right fs)
 
-  pub value_same : (above right : Bool) (es : List LeafEdge) (s t : Shape) → HoldAlike s t → is_in_by above right es s p ≡ is_in_by above right es t q
+  pub value_same : (above right : Bool) (es : List LeafEdge) (s t : Shape) → HoldAlike es s t → is_in_by above right es s p ≡ is_in_by above right es t q
   unfolding is_in_by
   value_same above right es s t h =
       (λ i. shape_holds (λ leaf. not (is_zero (wind_same above right (edges_of leaf es) i))) s)
-      ∙ h (λ leaf. not (is_zero (wind_by above right q (segments (edges_of leaf es)))))
+      ∙ h above right q dq

@@ -1,8 +1,10 @@
 -- Pieces that are the same, over whatever divisors their ends are written; shapes that hold alike.
-use Rattle.std.specs.Prelude.{◌≡◌, true, ℕ, Bool, List, pos, ◌<ℤ◌}
+use Rattle.std.specs.Prelude.{◌≡◌, true, Bool, List, pos, ◌<ℤ◌}
 use Rattle.std.specs.List.{AllZip}
+use Rattle.scad_geom.specs.declared.level.LeafEdge.{LeafEdge}
 use Rattle.scad_geom.specs.declared.shape.Shape.{Shape}
-use Rattle.scad_geom.specs.Shape.{shape_holds}
+use Rattle.scad_geom.specs.Point.{Point}
+use Rattle.scad_geom.specs.Shape.{is_in_by}
 use Rattle.slice_snap.specs.declared.piece.Spot.{Spot}
 use Rattle.slice_snap.specs.declared.piece.Piece.{Piece}
 use Rattle.slice_snap.specs.Spots.{point_of, is_same_spot}
@@ -23,6 +25,6 @@ pub record AreSamePiece (q r : Piece) : Type 0 where
 abbrev pub ArePiecesSame : List Piece → List Piece → Type 0
 ArePiecesSame qs rs = AllZip AreSamePiece qs rs
 
--- two shapes that hold the same, whatever leaves a point is in
-abbrev pub HoldAlike : Shape → Shape → Type 0
-HoldAlike s t = (inside : ℕ → Bool) → shape_holds inside s ≡ shape_holds inside t
+-- two shapes over one list of edges that hold the same, hard by each point
+abbrev pub HoldAlike : List LeafEdge → Shape → Shape → Type 0
+HoldAlike es s t = (above right : Bool) (p : Point) → pos 0 <ℤ p.d → is_in_by above right es s p ≡ is_in_by above right es t p

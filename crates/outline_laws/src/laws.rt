@@ -1,5 +1,5 @@
 //! Laws of the definitions, each carried by the contract of a function that does nothing.
-ghost use Rattle.outline_laws.specs.Outlines.{PiecesAreSame, OutlinesAreOne};
+ghost use Rattle.outline_laws.specs.Outlines.{PiecesAreSame, OutlinesAreOne, AlikeHaveOneOutlines};
 
 /// The pieces of a border are the same one by one, over whatever divisors its levels are written: of one name, from one point to
 /// one point.
@@ -7,9 +7,10 @@ pub fn pieces_are_same()
     ensures { PiecesAreSame }
 {}
 
-/// A shape over edges within the limit of coordinates has one list of outlines, and so have two shapes that hold alike.
+/// A shape over edges within the limit of coordinates has one list of outlines, and two shapes that hold alike have the same.
 pub fn outlines_are_one()
-    ensures { OutlinesAreOne }
+    ensures one { OutlinesAreOne }
+    ensures alike { AlikeHaveOneOutlines }
 {}
 
 #[cfg(test)]
