@@ -155,7 +155,7 @@ module _ (es : List LeafEdge) (at : Level) where
 
   -- ---- the same flat list is parted in one way
   no_more : (k j : ℕ) (js rest : List ℕ) (ks : List ℕ) (bs : List (List ℕ)) → Aligned k j → AllByRecursion (Precedes es at (k ∷ ks)) bs → AreRanked es at bs → concat bs ≡ j ∷ rest → ⊥
-  no_more k j js rest ks [] a p r e = let n = ap length e in omega arith
+  no_more k j js rest ks [] a p r e = let n : 0 ≡ suc (length rest) = ap length e in omega (arith, n)
   no_more k j js rest ks ([] ∷ bs) a p r e = r.0
   no_more k j js rest ks ((i ∷ is) ∷ bs) a p r e =
       let head : i ≡ j = ap (λ (xs : List ℕ). slice_index_or xs 0 0) e in
@@ -178,9 +178,9 @@ module _ (es : List LeafEdge) (at : Level) where
   same_flat : (bs cs : List (List ℕ)) → AreRanked es at bs → AreRanked es at cs → concat bs ≡ concat cs → bs ≡ cs
   same_flat [] [] r s e = refl
   same_flat [] ([] ∷ cs) r s e = absurd s.0
-  same_flat [] ((j ∷ js) ∷ cs) r s e = let n = ap length e in absurd (omega arith)
+  same_flat [] ((j ∷ js) ∷ cs) r s e = let n : 0 ≡ suc (length (js ++ concat cs)) = ap length e in absurd (omega (arith, n))
   same_flat ([] ∷ bs) cs r s e = absurd r.0
-  same_flat ((k ∷ ks) ∷ bs) [] r s e = let n = ap length e in absurd (omega arith)
+  same_flat ((k ∷ ks) ∷ bs) [] r s e = let n : suc (length (ks ++ concat bs)) ≡ 0 = ap length e in absurd (omega (arith, n))
   same_flat ((k ∷ ks) ∷ bs) ([] ∷ cs) r s e = absurd s.0
   same_flat ((k ∷ ks) ∷ bs) ((j ∷ js) ∷ cs) r s e =
       let head : k ≡ j = ap (λ (xs : List ℕ). slice_index_or xs 0 0) e in

@@ -44,14 +44,14 @@ module _ (es : List LeafEdge) (shape other : Shape) (alike : HoldAlike es shape 
   -- ---- on a level
   module _ (p q : Level) (dp : HasDivisor p) (dq : HasDivisor q) (e : IsSameHeight p q) where
     covers_same : (s t s' t' : Spot) → s.at ≡ p → t.at ≡ p → s'.at ≡ q → t'.at ≡ q → AreSameSpot s s' → AreSameSpot t t' → (f : LeafEdge) → covers s t f ≡ covers s' t' f
-    covers_same s t s' t' as at as' at' h g f =
+    covers_same s t s' t' hs ht hs' ht' h g f =
         let hx = (are_same (point_of s) (point_of s') h.same).x in
         let gx = (are_same (point_of t) (point_of t') g.same).x in
         let low_a = below_test (place s) (place s') h.first h.second hx f.edge.a.x in
         let low_b = below_test (place s) (place s') h.first h.second hx f.edge.b.x in
         let high_a = above_test (place t) (place t') g.first g.second gx f.edge.a.x in
         let high_b = above_test (place t) (place t') g.first g.second gx f.edge.b.x in
-        let flat = flat_test s.at s'.at (subst HasDivisor (sym as) dp) (subst HasDivisor (sym as') dq) (subst (λ (l : Level). IsSameHeight l s'.at) (sym as) (subst (IsSameHeight p) (sym as') e)) f.edge in
+        let flat = flat_test s.at s'.at (subst HasDivisor (sym hs) dp) (subst HasDivisor (sym hs') dq) (subst (λ (l : Level). IsSameHeight l s'.at) (sym hs) (subst (IsSameHeight p) (sym hs') e)) f.edge in
         ap₂ (λ (x y : Bool). x && y) flat
         (ap₂ (λ (x y : Bool). x || y) (ap₂ (λ (x y : Bool). x && y) low_a high_b) (ap₂ (λ (x y : Bool). x && y) low_b high_a))
 

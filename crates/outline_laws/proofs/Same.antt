@@ -7,7 +7,7 @@ use Rattle.std.specs.List.{AllZip}
 use Rattle.scad_geom.specs.declared.point.Pt.{Pt}
 use Rattle.scad_geom.specs.declared.point.Edge.{Edge}
 use Rattle.scad_geom.specs.Point.{Point, whole, is_same_point}
-use Rattle.scad_geom.proofs.Balanced.{same_place, same_place-is, same_whole}
+use Rattle.scad_geom.proofs.Balanced.{same_place-is, same_whole}
 use Rattle.winding_laws.specs.Rounded.{rounded, rounded_edge, has_length}
 use Rattle.winding_laws.proofs.Rounding.{rounded_same}
 use Rattle.winding_laws.proofs.Sameness.{are_same, same_by, are_same_turned, are_same_on, same_itself}

@@ -1,8 +1,8 @@
 -- The pieces of a border over edges in range can be written over divisors that are in range.
-use Rattle.std.proofs.Common.{◌≡◌, ℕ, zero, suc, ◌+◌, ◌*◌, ◌<◌, ◌≤◌, Bool, true, false, List, [], ◌∷◌, ◌++◌, All, length, refl, sym, ap, ap₂, ◌∙◌, subst, arith}
+use Rattle.std.proofs.Common.{◌≡◌, ℕ, zero, suc, ◌+◌, ◌*◌, ◌<◌, ◌≤◌, ◌⊎◌, inl, inr, Bool, true, false, List, [], ◌∷◌, ◌++◌, All, length, refl, sym, ap, ap₂, ◌∙◌, subst, arith}
 use lib.IntN.{ℤ, pos, negsuc, ◌+ℤ◌, ◌-ℤ◌, ◌*ℤ◌}
 use lib.Signed.{◌<ℤ◌, ◌≤ℤ◌}
-use Rattle.std.specs.Prelude.{unsigned_abs, ◌^◌, ◌⊎◌, inl, inr, if◌then◌else◌}
+use Rattle.std.specs.Prelude.{unsigned_abs, ◌^◌, if◌then◌else◌}
 use Rattle.std.specs.List.{AllByRecursion, concat}
 use Rattle.std.proofs.lemmas.Int.{ints, unsigned_abs-mul}
 use Rattle.std.proofs.lemmas.Nat.{mul-le}
@@ -62,10 +62,11 @@ lean_within e f we wf =
     let a : unsigned_abs (run e *ℤ rise f) ≤ 2200000 * 2200000 = times_within (run e) (rise f) 2200000 (run_within e we) (rise_within f wf) in
     let b : unsigned_abs (run f *ℤ rise e) ≤ 2200000 * 2200000 = times_within (run f) (rise e) 2200000 (run_within f wf) (rise_within e we) in
     let c : unsigned_abs (run e *ℤ rise f -ℤ run f *ℤ rise e) ≤ 2200000 * 2200000 + 2200000 * 2200000 = gap_within (run e *ℤ rise f) (run f *ℤ rise e) (2200000 * 2200000) a b in
-    omega (arith, c)
+    let t : 10 ^ 13 ≡ 10000000000000 = refl in
+    omega (arith, c, t)
 
 whole_within : (y : ℤ) → unsigned_abs y ≤ coordinate_limit → IsLevelWithin coordinate_limit (level_of y)
-whole_within y h = record { positive = omega (arith, ints); divisor = omega (arith, ints); size = omega (arith, ints) }
+whole_within y h = record { positive = omega (arith, ints); divisor = let t : 10 ^ 13 ≡ 10000000000000 = refl in omega (arith, ints, t); size = omega (arith, ints) }
 
 abbrev InRange : Level → Type 0
 InRange = IsLevelWithin coordinate_limit
@@ -135,7 +136,7 @@ abbrev rewritten : (s : Spot) → Level → Spot
 rewritten s h = record { at = h; x = s.x *ℤ h.d; run = unsigned_abs s.at.d * s.run }
 
 above_run : (d : ℤ) (r : ℕ) → pos 0 <ℤ d → 0 < r → 0 < unsigned_abs d * r
-above_run (pos d) r h k = let t = mul-le 1 1 d r (omega (arith, ints)) k in omega (arith, t)
+above_run (pos d) r h k = let t = mul-le 1 1 d r (omega (arith, ints)) (omega (arith, k)) in omega (arith, t)
 above_run (negsuc d) r h k = absurd (omega (arith, ints))
 
 size_of : (d : ℤ) (r : ℕ) → pos 0 <ℤ d → pos (unsigned_abs d * r) ≡ d *ℤ pos r
@@ -150,11 +151,10 @@ rewritten_same s n =
     (ap (λ (z : ℤ). s.x *ℤ (h.d *ℤ z)) (size_of s.at.d s.run n.level.divisor) ∙ ring (s.x ∷ h.d ∷ s.at.d ∷ pos s.run ∷ []) (v0 ⊗ (v1 ⊗ (v2 ⊗ v3))) ((v0 ⊗ v1) ⊗ (v2 ⊗ v3)) refl)
 
 -- it is within any limit that is great enough
-room : Spot → ℕ
+abbrev room : Spot → ℕ
 room s = coordinate_limit + (unsigned_abs s.x + unsigned_abs s.at.d * s.run)
 
 rewritten_within : (s : Spot) (n : IsNearSpot s) (limit : ℕ) → room s ≤ limit → IsSpotWithin limit (rewritten s n.level.near)
-unfolding room
 rewritten_within s n limit l =
     let h : Level = n.level.near in
     let w : InRange h = n.level.within in
@@ -162,7 +162,7 @@ rewritten_within s n limit l =
     let p : 0 < run = above_run s.at.d s.run n.level.divisor n.positive in
     let z = w.size in
     let wide : coordinate_limit * unsigned_abs h.d ≤ limit * unsigned_abs h.d = mul-le coordinate_limit (unsigned_abs h.d) limit (unsigned_abs h.d) (omega (arith, l)) (omega arith) in
-    let one : 1 * unsigned_abs h.d ≤ run * unsigned_abs h.d = mul-le 1 (unsigned_abs h.d) run (unsigned_abs h.d) p (omega arith) in
+    let one : 1 * unsigned_abs h.d ≤ run * unsigned_abs h.d = mul-le 1 (unsigned_abs h.d) run (unsigned_abs h.d) (omega (arith, p)) (omega arith) in
     let x : unsigned_abs s.x * unsigned_abs h.d ≤ limit * (run * unsigned_abs h.d) = mul-le (unsigned_abs s.x) (unsigned_abs h.d) limit (run * unsigned_abs h.d) (omega (arith, l)) (omega (arith, one)) in
     record {
       level = record { positive = w.positive; divisor = w.divisor; size = omega (arith, z, wide) };
