@@ -15,7 +15,7 @@ use Rattle.scad_geom.specs.Line.{rise, run, x_at}
 use Rattle.scad_geom.specs.EdgeOrder.{IsBefore, AreAligned}
 use Rattle.scad_geom.proofs.Order.{front, back}
 use Rattle.slice_slab.specs.Bundles.{edge_at, Ascends, IsBundle, Precedes, AreRanked}
-use Rattle.slice_slab.proofs.Bundling.{Rises, aligned_chain, aligned_before, before_chain}
+use Rattle.slice_slab.proofs.Bundling.{Rises, aligned_chain, aligned_before}
 use Rattle.slice_snap.proofs.Counts.{without_first}
 use Rattle.outline_laws.proofs.Rising.{same_chain, lower_same}
 
@@ -32,10 +32,13 @@ sorted_both : (R : ℕ → ℕ → Type 0) (xs ys : List ℕ) → Sorted R xs �
 sorted_both R [] ys h k c = k
 sorted_both R (x ∷ xs) ys h k c = (all_both (R x) xs ys h.0 c.0, sorted_both R xs ys h.1 k c.1)
 
-same_number : (m n : ℕ) → (m == n) ≡ true → m ≡ n
+abbrev equal : ℕ → ℕ → Bool
+equal m n = m == n
+
+same_number : (m n : ℕ) → equal m n ≡ true → m ≡ n
 same_number m n h = (unsigned_Decides m n).0 h
 
-number_itself : (m : ℕ) → (m == m) ≡ true
+number_itself : (m : ℕ) → equal m m ≡ true
 number_itself m = (unsigned_Decides m m).1 refl
 
 -- two lists of the same numbers, in an order of which no two numbers stand in both ways, are one
@@ -68,7 +71,7 @@ module _ (R : ℕ → ℕ → Type 0) (P : ℕ → Type 0) (antisymmetric : (x y
   sorted_one (x ∷ xs) (y ∷ ys) p q h k m =
       let e : x ≡ y = first_is x y xs ys p.0 q.0 h.0 k.0 m in
       let rest : IsPermutation xs ys =
-      without_first (λ m n. m == n) number_itself same_number y xs ys (subst (λ (z : ℕ). IsPermutation (z ∷ xs) (y ∷ ys)) e m) in
+      without_first equal number_itself same_number y xs ys (subst (λ (z : ℕ). IsPermutation (z ∷ xs) (y ∷ ys)) e m) in
       ap₂ (λ (z : ℕ) (zs : List ℕ). z ∷ zs) e (sorted_one xs ys p.1 q.1 h.1 k.1 rest)
 
 -- ---- the order of edges at a height, by number where they coincide

@@ -11,3 +11,4 @@ pub mod Pieces
 pub mod Named
 pub mod Within
 pub mod OneOutlines
+pub mod OneLayer

@@ -73,11 +73,11 @@ InRange = IsLevelWithin coordinate_limit
 
 meetings_within : (e : Edge) (fs : List LeafEdge) → IsEdgeWithin coordinate_limit e → AllByRecursion (λ f. IsEdgeWithin coordinate_limit f.edge) fs → AllByRecursion InRange (meetings e fs)
 meetings_within e [] w ws = tt
-meetings_within e (f ∷ fs) w ws = by_test (meets e f.edge) refl
+meetings_within e (f ∷ fs) w ws = by_test (meetings_within e fs w ws.1) (meets e f.edge) refl
   where
-    by_test : (b : Bool) → meets e f.edge ≡ b → AllByRecursion InRange (if b then meeting e f.edge ∷ meetings e fs else meetings e fs)
-    by_test true h = (meeting_within coordinate_limit e f.edge ws.0 (lean_within e f.edge w ws.0) h, meetings_within e fs w ws.1)
-    by_test false h = meetings_within e fs w ws.1
+    by_test : AllByRecursion InRange (meetings e fs) → (b : Bool) → meets e f.edge ≡ b → AllByRecursion InRange (if b then meeting e f.edge ∷ meetings e fs else meetings e fs)
+    by_test rest true h = (meeting_within coordinate_limit e f.edge ws.0 (lean_within e f.edge w ws.0) h, rest)
+    by_test rest false h = rest
 
 heights_within : (es : List LeafEdge) → AllByRecursion (λ e. IsEdgeWithin coordinate_limit e.edge) es → AllByRecursion InRange (heights es)
 heights_within [] ws = tt

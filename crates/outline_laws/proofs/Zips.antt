@@ -1,9 +1,7 @@
 -- Lists whose elements stand in a relation one by one.
-use Rattle.std.proofs.Common.{◌≡◌, ℕ, zero, suc, ◌+◌, ◌<◌, List, [], ◌∷◌, ◌++◌, length, get_or, set, arith, subst, sym, refl}
-use Rattle.core.proofs.slice.Lists.{hd, swap_is}
-use Rattle.std.specs.Prelude.{IsPermutation}
-use Rattle.std.specs.List.{AllZip, swap}
-use Rattle.std.proofs.lemmas.List.{length-set}
+use Rattle.std.proofs.Common.{◌≡◌, ℕ, zero, suc, ◌+◌, ◌<◌, List, [], ◌∷◌, ◌++◌, length, get_or, set, arith, refl}
+use Rattle.std.specs.Prelude.{IsPermutation, swap}
+use Rattle.std.specs.List.{AllZip}
 use Rattle.std.proofs.lemmas.List.Elements.{AllZip-get_or, length_all_zip}
 use Rattle.std.proofs.lemmas.List.Sorted.{IsPermutation-refl, IsPermutation-trans, IsPermutation-swap, IsPermutation-keeps}
 
@@ -37,14 +35,13 @@ module _ {X : Type 0} (R : X → X → Type 0) where
   zip_set (a ∷ xs) (b ∷ ys) (suc i) x y h r = (h.0, zip_set xs ys i x y h.1 r)
 
   zip_swap : (xs ys : List X) (i j : ℕ) → i < length xs → j < length xs → AllZip R xs ys → AllZip R (swap xs i j) (swap ys i j)
-  zip_swap xs ys i j li lj h =
-      let n : length xs ≡ length ys = length_all_zip R xs ys h in
-      let d : X = hd xs (omega arith) in
-      let e : X = hd ys (omega arith) in
-      let first : AllZip R (set xs i (get_or xs j d)) (set ys i (get_or ys j e)) = zip_set xs ys i (get_or xs j d) (get_or ys j e) h (AllZip-get_or R xs ys j d e h lj) in
-      subst (λ (us : List X). AllZip R us (swap ys i j)) (swap_is xs i j d li lj)
-      (subst (λ (vs : List X). AllZip R (set (set xs i (get_or xs j d)) j (get_or xs i d)) vs) (swap_is ys i j e (omega arith) (omega arith))
-      (zip_set (set xs i (get_or xs j d)) (set ys i (get_or ys j e)) j (get_or xs i d) (get_or ys i e) first (AllZip-get_or R xs ys i d e h li)))
+  zip_swap [] [] i j li lj h = tt
+  zip_swap [] (y ∷ ys) i j li lj h = absurd h
+  zip_swap (x ∷ xs) [] i j li lj h = absurd h
+  zip_swap (x ∷ xs) (y ∷ ys) i j li lj h =
+      zip_set (set (x ∷ xs) i (get_or (x ∷ xs) j x)) (set (y ∷ ys) i (get_or (y ∷ ys) j y)) j (get_or (x ∷ xs) i x) (get_or (y ∷ ys) i y)
+      (zip_set (x ∷ xs) (y ∷ ys) i (get_or (x ∷ xs) j x) (get_or (y ∷ ys) j y) h (AllZip-get_or R (x ∷ xs) (y ∷ ys) j x y h lj))
+      (AllZip-get_or R (x ∷ xs) (y ∷ ys) i x y h li)
 
   -- what is the same one by one can be put in the same other order
   abbrev pub Reordered : List X → List X → Type 0

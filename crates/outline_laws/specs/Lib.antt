@@ -1,2 +1,3 @@
 pub mod Sameness
 pub mod Outlines
+pub mod Layers

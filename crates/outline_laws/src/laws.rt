@@ -1,5 +1,6 @@
 //! Laws of the definitions, each carried by the contract of a function that does nothing.
 ghost use Rattle.outline_laws.specs.Outlines.{PiecesAreSame, OutlinesAreOne, AlikeHaveOneOutlines};
+ghost use Rattle.outline_laws.specs.Layers.{LayersHaveOneOutlines};
 
 /// The pieces of a border are the same one by one, over whatever divisors its levels are written: of one name, from one point to
 /// one point.
@@ -13,6 +14,11 @@ pub fn outlines_are_one()
     ensures alike { AlikeHaveOneOutlines }
 {}
 
+/// A tree of solids has one list of outlines at a layer, whichever shape numbers its leaves.
+pub fn layers_are_one()
+    ensures { LayersHaveOneOutlines }
+{}
+
 #[cfg(test)]
 mod tests {
     use super::*;
@@ -21,5 +27,6 @@ mod tests {
     fn laws_are_called() {
         pieces_are_same();
         outlines_are_one();
+        layers_are_one();
     }
 }
