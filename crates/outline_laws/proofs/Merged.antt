@@ -1,11 +1,8 @@
 -- Pieces that are the same one by one merge alike, and make the same outlines.
-use Rattle.std.proofs.Common.{◌≡◌, ℕ, ◌+◌, Bool, true, false, List, [], ◌∷◌, refl, sym, ap, ap₂, ◌∙◌, subst}
-use lib.IntN.{pos}
-use lib.Signed.{◌<ℤ◌}
+use Rattle.std.proofs.Common.{◌≡◌, ℕ, ◌+◌, Bool, true, false, List, [], ◌∷◌, refl, sym, ap₂, ◌∙◌, subst}
 use Rattle.std.specs.Prelude.{IsPermutation}
 use Rattle.scad_geom.specs.declared.point.Pt.{Pt}
 use Rattle.scad_geom.specs.declared.point.Edge.{Edge}
-use Rattle.scad_geom.specs.Point.{Point, is_same_point}
 use Rattle.scad_geom.specs.Balance.{starts_at, ends_at}
 use Rattle.scad_geom.proofs.Balanced.{once, starts-cons, ends-cons}
 use Rattle.winding_laws.proofs.Sameness.{same_through}
@@ -13,8 +10,7 @@ use Rattle.slice_snap.specs.declared.piece.Spot.{Spot}
 use Rattle.slice_snap.specs.declared.piece.Piece.{Piece}
 use Rattle.slice_snap.specs.Spots.{point_of, is_same_spot}
 use Rattle.slice_snap.specs.Pieces.{way_of, ways_of}
-use Rattle.slice_snap.specs.Merging.{joined, MeetAlone, NoneMeetAlone, AreMerged, all_joined, two_join}
-use Rattle.slice_snap.specs.Rounding.{rounded_edges}
+use Rattle.slice_snap.specs.Merging.{joined, MeetAlone, AreMerged, all_joined, two_join}
 use Rattle.slice_snap.specs.Cancelling.{AreCancelled}
 use Rattle.slice_bool.specs.Outlines.{AreMadeOf}
 use Rattle.outline_laws.specs.Sameness.{AreSameSpot, AreSamePiece, ArePiecesSame}

@@ -1,5 +1,5 @@
 -- Pieces that are the same one by one are named alike.
-use Rattle.std.proofs.Common.{◌≡◌, ℕ, ◌<◌, ◌⊎◌, inl, inr, true, false, List, [], ◌∷◌, All, refl, sym, ap, ap₂, ◌∙◌, subst, arith}
+use Rattle.std.proofs.Common.{◌≡◌, ℕ, ◌<◌, ◌⊎◌, inl, inr, List, [], ◌∷◌, All, refl, sym, ap, ap₂, ◌∙◌, subst, arith}
 use lib.IntN.{ℤ, pos, ◌+ℤ◌, ◌-ℤ◌, ◌*ℤ◌}
 use lib.Signed.{◌<ℤ◌}
 use Rattle.std.specs.List.{AllByRecursion}
@@ -8,20 +8,19 @@ use Rattle.std.proofs.lemmas.List.Elements.{recursion_from_All, All-from_recursi
 use Rattle.scad_base.proofs.Products.{zero_factor, positive_product}
 use Rattle.scad_geom.specs.declared.point.Edge.{Edge}
 use Rattle.scad_geom.specs.declared.level.Level.{Level}
-use Rattle.scad_geom.specs.Point.{Point, is_same_point}
+use Rattle.scad_geom.specs.Point.{Point}
 use Rattle.scad_geom.specs.Line.{rise, run, offset, x_at, left_of}
-use Rattle.scad_geom.specs.Level.{IsLower, IsSameHeight}
 use Rattle.scad_geom.specs.Winding.{side_by}
 use Rattle.scad_geom.proofs.Ring.{ring, ◌⊕◌, ◌⊖◌, ◌⊗◌, v0, v1, v2, v3, v4, v5, v6}
 use Rattle.winding_laws.proofs.Sameness.{AreSame, are_same}
 use Rattle.slice_snap.specs.declared.piece.Spot.{Spot}
 use Rattle.slice_snap.specs.declared.piece.Piece.{Piece}
-use Rattle.slice_snap.specs.Spots.{point_of, is_same_spot}
+use Rattle.slice_snap.specs.Spots.{point_of}
 use Rattle.slice_snap.specs.Inside.{IsBelow, IsLeftOf, AreLevel, IsBetween, IsInside}
-use Rattle.slice_snap.specs.Naming.{IsOnLine, LiesAlong, HasLength, AreApart, AreApartByName, AllPairs, AreNamed}
+use Rattle.slice_snap.specs.Naming.{IsOnLine, LiesAlong, HasLength, AreApartByName, AllPairs, AreNamed}
 use Rattle.outline_laws.specs.Sameness.{AreSameSpot, AreSamePiece, ArePiecesSame}
-use Rattle.outline_laws.proofs.Rising.{HasDivisor, same_chain, lower_same, same_lower}
-use Rattle.outline_laws.proofs.Same.{spot_turned, pieces_turned}
+use Rattle.outline_laws.proofs.Rising.{same_chain, lower_same, same_lower}
+use Rattle.outline_laws.proofs.Same.{pieces_turned}
 use Rattle.outline_laws.proofs.Merged.{test_same}
 
 -- what is 0 over one divisor is so over the other

@@ -14,7 +14,6 @@ use Rattle.scad_tree.proofs.Numbering.{numbering_holds}
 use Rattle.slice_layer.specs.Border.{section_holds}
 use Rattle.slice_layer.proofs.Sections.{leaf_edges}
 use Rattle.slice_layer.proofs.Surfaces.{section_within}
-use Rattle.outline_laws.specs.Sameness.{HoldAlike}
 use Rattle.outline_laws.specs.Layers.{LayersHaveOneOutlines}
 use Rattle.outline_laws.proofs.OneOutlines.{alike_have_one_outlines}
 

@@ -1,5 +1,5 @@
 -- A shape has one list of outlines, and so have two that hold alike.
-use Rattle.std.proofs.Common.{◌≡◌, length, refl}
+use Rattle.std.proofs.Common.{length, refl}
 use Rattle.std.proofs.lemmas.List.Elements.{All-from_recursion}
 use Rattle.slice_slab.specs.Bundles.{edge_at}
 use Rattle.slice_snap.specs.Pieces.{IsPieceWithin}

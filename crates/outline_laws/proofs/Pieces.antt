@@ -1,8 +1,7 @@
 -- Two lists of pieces of one border are the same one by one.
-use Rattle.std.proofs.Common.{◌≡◌, ℕ, ◌<◌, Bool, true, false, ◌&&◌, ◌||◌, List, [], ◌∷◌, ◌++◌, Option, None, Some, refl, sym, ap, ap₂, ◌∙◌, subst, arith}
+use Rattle.std.proofs.Common.{◌≡◌, ℕ, Bool, true, false, ◌&&◌, ◌||◌, List, [], ◌∷◌, ◌++◌, Option, None, Some, refl, sym, ap₂, ◌∙◌, subst, arith}
 use mathlib.Core.Path.{fun_ext}
 use lib.IntN.{ℤ, pos, ◌+ℤ◌, ◌*ℤ◌}
-use lib.Signed.{◌<ℤ◌}
 use Rattle.std.specs.List.{AllByRecursion, AllZip, concat, position}
 use Rattle.std.proofs.lemmas.Int.{ints}
 use Rattle.scad_base.proofs.Products.{positive_product}
@@ -15,16 +14,16 @@ use Rattle.scad_geom.specs.Shape.{is_in_by}
 use Rattle.scad_geom.proofs.Order.{back}
 use Rattle.scad_geom.proofs.Ring.{ring, ◌⊕◌, ◌⊗◌, v0, v1, v2, v3, v4, v5, v6}
 use Rattle.winding_laws.proofs.Sameness.{are_same}
-use Rattle.slice_slab.specs.Bundles.{edge_at, AreBundles}
+use Rattle.slice_slab.specs.Bundles.{edge_at}
 use Rattle.slice_slab.proofs.Bundling.{Rises}
 use Rattle.slice_snap.specs.declared.piece.Spot.{Spot}
 use Rattle.slice_snap.specs.declared.piece.Piece.{Piece}
 use Rattle.slice_snap.specs.Spots.{point_of}
-use Rattle.slice_bool.specs.Pieces.{spot_on, piece_between, middle, bundle_piece, slab_pieces, covers, stretch_piece, flat_pieces, AreStops, AreLevelPieces, ArePieces}
+use Rattle.slice_bool.specs.Pieces.{spot_on, piece_between, middle, bundle_piece, slab_pieces, covers, stretch_piece, flat_pieces, AreStops, AreLevelPieces}
 use Rattle.outline_laws.specs.Sameness.{AreSameSpot, AreSamePiece, ArePiecesSame, HoldAlike}
 use Rattle.outline_laws.specs.Outlines.{PiecesAreSame}
 use Rattle.outline_laws.proofs.Zips.{zip_append}
-use Rattle.outline_laws.proofs.Rising.{HasDivisor, same_chain, levels_same}
+use Rattle.outline_laws.proofs.Rising.{HasDivisor, levels_same}
 use Rattle.outline_laws.proofs.Lines.{below_test, above_test, flat_test}
 use Rattle.outline_laws.proofs.Ranks.{bundles_one, bundles_rise}
 use Rattle.outline_laws.proofs.Values.{value_same}

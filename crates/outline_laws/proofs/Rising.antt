@@ -1,6 +1,6 @@
 -- Levels that rise are told by their heights: two rising lists with the same heights have them one by one.
-use Rattle.std.proofs.Common.{◌≡◌, ◌⊎◌, inl, inr, List, [], ◌∷◌, sym, arith}
-use lib.IntN.{pos, ◌*ℤ◌}
+use Rattle.std.proofs.Common.{inl, inr, List, [], ◌∷◌, sym, arith}
+use lib.IntN.{pos}
 use lib.Signed.{◌<ℤ◌}
 use Rattle.std.specs.List.{AllByRecursion, AllZip}
 use Rattle.std.proofs.lemmas.Int.{ints}
@@ -94,9 +94,11 @@ one_by_one (l ∷ ls) [] dl dm r s h k = absurd h.0
 one_by_one (l ∷ ls) (m ∷ ms) dl dm r s h k =
     let a : AllByRecursion (IsLower l) ls = above_first l ls dl.0 dl.1 r in
     let b : AllByRecursion (IsLower m) ms = above_first m ms dm.0 dm.1 s in
-    let e : IsSameHeight l m = first_same l m ls ms dl.0 dm.0 dl.1 dm.1 a b h.0 k.0 in
-    (e, one_by_one ls ms dl.1 dm.1 (rest_rises l ls r) (rest_rises m ms s)
-    (without_first l m ls ms e a dl.0 dm.0 dl.1 h.1) (without_first m l ms ls (sym e) b dm.0 dl.0 dm.1 k.1))
+    let e : IsSameHeight l m = first_same l m ls ms dl.0 dm.0 dl.1 dm.1 a b h.0 k.0 in (
+      e,
+      one_by_one ls ms dl.1 dm.1 (rest_rises l ls r) (rest_rises m ms s)
+          (without_first l m ls ms e a dl.0 dm.0 dl.1 h.1) (without_first m l ms ls (sym e) b dm.0 dl.0 dm.1 k.1),
+    )
 
 -- ---- levels of one list of edges
 module _ (ms : List Level) (dm : AllByRecursion HasDivisor ms) where

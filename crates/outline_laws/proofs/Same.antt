@@ -1,19 +1,14 @@
 -- Spots and pieces that are the same: both relations are equivalences, and the same ends round to one.
-use Rattle.std.proofs.Common.{◌≡◌, Bool, true, List, [], ◌∷◌, map, refl, sym, ap, ap₂, ◌∙◌}
-use lib.IntN.{pos}
-use lib.Signed.{◌<ℤ◌}
+use Rattle.std.proofs.Common.{◌≡◌, List, [], ◌∷◌, map, refl, sym, ap, ap₂, ◌∙◌}
 use Rattle.std.specs.Prelude.{filter}
-use Rattle.std.specs.List.{AllZip}
-use Rattle.scad_geom.specs.declared.point.Pt.{Pt}
 use Rattle.scad_geom.specs.declared.point.Edge.{Edge}
-use Rattle.scad_geom.specs.Point.{Point, whole, is_same_point}
 use Rattle.scad_geom.proofs.Balanced.{same_place-is, same_whole}
 use Rattle.winding_laws.specs.Rounded.{rounded, rounded_edge, has_length}
 use Rattle.winding_laws.proofs.Rounding.{rounded_same}
-use Rattle.winding_laws.proofs.Sameness.{are_same, same_by, are_same_turned, are_same_on, same_itself}
+use Rattle.winding_laws.proofs.Sameness.{are_same, same_by, are_same_turned, are_same_on}
 use Rattle.slice_snap.specs.declared.piece.Spot.{Spot}
 use Rattle.slice_snap.specs.declared.piece.Piece.{Piece}
-use Rattle.slice_snap.specs.Spots.{point_of, is_same_spot}
+use Rattle.slice_snap.specs.Spots.{point_of}
 use Rattle.slice_snap.specs.Pieces.{way_of, ways_of}
 use Rattle.slice_snap.specs.Rounding.{rounded_edges}
 use Rattle.outline_laws.specs.Sameness.{AreSameSpot, AreSamePiece, ArePiecesSame}

@@ -1,7 +1,7 @@
 -- The stops of one height, over two divisors, are the same one by one.
-use Rattle.std.proofs.Common.{◌≡◌, ℕ, ◌<◌, ◌⊎◌, inl, inr, Bool, true, false, List, [], ◌∷◌, map, refl, sym, ap, ap₂, ◌∙◌, subst, arith}
+use Rattle.std.proofs.Common.{◌≡◌, ℕ, ◌<◌, inl, inr, Bool, true, false, List, [], ◌∷◌, map, refl, sym, ap, ◌∙◌, subst, arith}
 use lib.IntN.{ℤ, pos, ◌-ℤ◌, ◌*ℤ◌}
-use lib.Signed.{◌<ℤ◌, ◌≤ℤ◌}
+use lib.Signed.{◌<ℤ◌}
 use Rattle.std.specs.Prelude.{int_lt, int_le, if◌then◌else◌, unsigned_abs, ◌&&◌}
 use Rattle.std.specs.List.{AllByRecursion, AllZip}
 use Rattle.std.proofs.lemmas.Int.{ints}
@@ -14,10 +14,10 @@ use Rattle.scad_geom.specs.declared.level.LeafEdge.{LeafEdge}
 use Rattle.scad_geom.specs.Line.{low, high, rise, x_at}
 use Rattle.scad_geom.specs.Level.{IsLower, IsSameHeight}
 use Rattle.scad_geom.proofs.Ring.{ring, ◌⊖◌, ◌⊗◌, v0, v1, v2, v3}
-use Rattle.winding_laws.proofs.Sameness.{cancel_mul, are_same, same_by}
+use Rattle.winding_laws.proofs.Sameness.{are_same, same_by}
 use Rattle.slice_events.specs.Levels.{IsRising, HasHeight}
 use Rattle.slice_snap.specs.declared.piece.Spot.{Spot}
-use Rattle.slice_snap.specs.Spots.{point_of, is_same_spot}
+use Rattle.slice_snap.specs.Spots.{point_of}
 use Rattle.slice_bool.specs.Pieces.{spot_on, whole_spot, is_flat_at, passes_at, spots_at, GoRight, HasSpot, IsOneOf, AreStops, across}
 use Rattle.slice_bool.proofs.Winding.{of_stops}
 use Rattle.outline_laws.specs.Sameness.{AreSameSpot}
@@ -172,10 +172,11 @@ module _ (p q : Level) (dp : HasDivisor p) (dq : HasDivisor q) (e : IsSameHeight
   from_places [] [] h k z = tt
   from_places [] (t ∷ ts) h k z = absurd z
   from_places (s ∷ ss) [] h k z = absurd z
-  from_places (s ∷ ss) (t ∷ ts) h k z =
-      (same_placed s t (subst HasDivisor (sym h.0.level) dp) h.0.positive (subst HasDivisor (sym k.0.level) dq) k.0.positive
-      (subst (λ (l : Level). IsSameHeight l t.at) (sym h.0.level) (subst (IsSameHeight p) (sym k.0.level) e)) z.0,
-      from_places ss ts h.1 k.1 z.1)
+  from_places (s ∷ ss) (t ∷ ts) h k z = (
+    same_placed s t (subst HasDivisor (sym h.0.level) dp) h.0.positive (subst HasDivisor (sym k.0.level) dq) k.0.positive
+        (subst (λ (l : Level). IsSameHeight l t.at) (sym h.0.level) (subst (IsSameHeight p) (sym k.0.level) e)) z.0,
+    from_places ss ts h.1 k.1 z.1,
+  )
 
   pub stops_here : (es : List LeafEdge) (ss : List Spot) → AreStops es p ss → AllByRecursion (IsSpotAt p) ss
   stops_here es ss a = of_stops (IsSpotAt p) (spots_at es p) ss (spots_here p q dp dq e es) a.sound

@@ -1,7 +1,7 @@
 -- Hard by one point, over two divisors, shapes that hold alike hold the same.
-use Rattle.std.proofs.Common.{◌≡◌, ℕ, Bool, true, false, not, List, [], ◌∷◌, refl, sym, ap, ap₂, ◌∙◌, arith}
+use Rattle.std.proofs.Common.{◌≡◌, Bool, true, false, not, List, [], ◌∷◌, refl, sym, ap, ap₂, ◌∙◌, arith}
 use lib.IntN.{ℤ, pos, ◌+ℤ◌, ◌-ℤ◌, ◌*ℤ◌}
-use lib.Signed.{◌<ℤ◌, ◌≤ℤ◌}
+use lib.Signed.{◌<ℤ◌}
 use Rattle.std.specs.Prelude.{int_lt, int_le, if◌then◌else◌}
 use Rattle.std.proofs.lemmas.Int.{ints}
 use Rattle.scad_geom.specs.declared.point.Edge.{Edge}
@@ -20,7 +20,6 @@ use Rattle.scad_geom.proofs.Ring.{ring, ◌⊖◌, ◌⊗◌, v0, v1, v2, v3, v4
 use Rattle.winding_laws.proofs.Sameness.{AreSame, are_same}
 use Rattle.winding_laws.proofs.Views.{same_sign}
 use Rattle.outline_laws.specs.Sameness.{HoldAlike}
-use Rattle.outline_laws.proofs.Rising.{HasDivisor}
 use Rattle.outline_laws.proofs.Lines.{both_ways}
 
 abbrev height : Point → Level

@@ -1,20 +1,19 @@
 -- The pieces of a border over edges in range can be written over divisors that are in range.
-use Rattle.std.proofs.Common.{◌≡◌, ℕ, zero, suc, ◌+◌, ◌*◌, ◌<◌, ◌≤◌, ◌⊎◌, inl, inr, Bool, true, false, List, [], ◌∷◌, ◌++◌, All, length, refl, sym, ap, ap₂, ◌∙◌, subst, arith}
-use lib.IntN.{ℤ, pos, negsuc, ◌+ℤ◌, ◌-ℤ◌, ◌*ℤ◌}
-use lib.Signed.{◌<ℤ◌, ◌≤ℤ◌}
+use Rattle.std.proofs.Common.{◌≡◌, ℕ, ◌+◌, ◌*◌, ◌<◌, ◌≤◌, inl, inr, Bool, true, false, List, [], ◌∷◌, ◌++◌, All, refl, sym, ap, ◌∙◌, subst, arith}
+use lib.IntN.{ℤ, pos, negsuc, ◌-ℤ◌, ◌*ℤ◌}
+use lib.Signed.{◌<ℤ◌}
 use Rattle.std.specs.Prelude.{unsigned_abs, ◌^◌, if◌then◌else◌}
 use Rattle.std.specs.List.{AllByRecursion, concat}
 use Rattle.std.proofs.lemmas.Int.{ints, unsigned_abs-mul}
 use Rattle.std.proofs.lemmas.Nat.{mul-le}
-use Rattle.std.proofs.lemmas.List.Elements.{recursion_from_All, All-from_recursion}
+use Rattle.std.proofs.lemmas.List.Elements.{recursion_from_All}
 use Rattle.scad_base.proofs.Lists.{AllByRecursion-append}
-use Rattle.scad_base.proofs.Products.{positive_product}
 use Rattle.scad_geom.specs.declared.point.Edge.{Edge}
 use Rattle.scad_geom.specs.declared.level.Level.{Level}
 use Rattle.scad_geom.specs.declared.level.LeafEdge.{LeafEdge}
 use Rattle.scad_geom.specs.declared.shape.Shape.{Shape}
 use Rattle.scad_geom.specs.Limits.{coordinate_limit}
-use Rattle.scad_geom.specs.Line.{low, high, rise, run, lean}
+use Rattle.scad_geom.specs.Line.{rise, run, lean}
 use Rattle.scad_geom.specs.Level.{level_of, IsSameHeight, IsLevelWithin}
 use Rattle.scad_geom.specs.Meeting.{meets, meeting}
 use Rattle.scad_geom.specs.Heights.{meetings, heights}
@@ -26,12 +25,12 @@ use Rattle.slice_slab.specs.Bundles.{edge_at}
 use Rattle.slice_slab.proofs.Live.{IsLive, live_bundles}
 use Rattle.slice_snap.specs.declared.piece.Spot.{Spot}
 use Rattle.slice_snap.specs.declared.piece.Piece.{Piece}
-use Rattle.slice_snap.specs.Spots.{point_of, IsSpotWithin}
+use Rattle.slice_snap.specs.Spots.{IsSpotWithin}
 use Rattle.slice_snap.specs.Pieces.{ends_of, IsPieceWithin}
 use Rattle.slice_snap.proofs.Ends.{joined}
-use Rattle.slice_bool.specs.Pieces.{spot_on, flat_pieces, slab_pieces, AreStops, AreLevelPieces, ArePieces}
+use Rattle.slice_bool.specs.Pieces.{flat_pieces, slab_pieces, AreLevelPieces, ArePieces}
 use Rattle.slice_bool.proofs.Ends.{flat_ends, slab_ends, AtBoth, each_of}
-use Rattle.outline_laws.specs.Sameness.{AreSameSpot, AreSamePiece, ArePiecesSame}
+use Rattle.outline_laws.specs.Sameness.{AreSameSpot, ArePiecesSame}
 use Rattle.outline_laws.proofs.Rising.{HasDivisor}
 use Rattle.outline_laws.proofs.Stops.{IsSpotAt, stops_here, same_placed}
 
