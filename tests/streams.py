@@ -42,7 +42,7 @@ WRITTEN = {"o.cli": outlines(1)}
 
 
 def stream_checks():
-    return [*done(), *source(), *usage(), *read(), *write(), *long(), MemoryCheck()]
+    return [*done(), *source(), *usage(), *read(), *write(), *long(), memory()]
 
 
 def sliced(name, status=0, report=DONE, model=b"m.scad", cli=b"o.cli", left=WRITTEN, **more):
@@ -173,21 +173,35 @@ def long():
     ]
 
 
-class MemoryCheck:
-    """With a little more memory than a short source takes, a source at its limit runs out of it."""
+def memory():
+    asked = lambda **more: sliced("", **more)
+    return MemoryCheck("a_source_that_memory_cannot_hold", of_bytes(SOURCE_LIMIT), asked)
 
-    name = "a_source_that_memory_cannot_hold"
+
+class MemoryCheck:
+    """With a little more memory than a short source takes, a long one runs out of it.
+
+    `asked` makes a check of a short source, or of the files given. Some of the `lines` may stand
+    before the last line.
+    """
+
+    def __init__(self, name, given, asked, lines=b""):
+        self.name, self.given, self.asked, self.lines = name, given, asked, lines
 
     def tried(self, program):
         under = lambda limit: f'ulimit -v {limit} && exec "$@" 2>/dev/null'
-        short = lambda limit: sliced("", shell=under(limit))
+        short = lambda limit: self.asked(shell=under(limit))
         is_done = lambda limit: not compared(short(limit), run(short(limit), program))
         least = next(filter(is_done, range(1024, 65537, 512)), None)
         if least is None:
             return ["a short source isn't done in 64 MiB"]
-        given = of_bytes(SOURCE_LIMIT)
-        long_one = refused("", 7, OUT_OF_MEMORY, given=given, shell=under(least + 1024))
-        return compared(long_one, run(long_one, program))
+        long_one = self.asked(status=7, report=OUT_OF_MEMORY, given=self.given, left={},
+                              shell=under(least + 1024))
+        outcome = run(long_one, program)
+        lines = outcome.report.removesuffix(OUT_OF_MEMORY)
+        if lines and self.lines.startswith(lines):
+            long_one.report = lines + OUT_OF_MEMORY
+        return compared(long_one, outcome)
 
 
 def launcher_checks(launcher):

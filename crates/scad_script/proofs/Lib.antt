@@ -8,4 +8,5 @@ pub mod Answered
 pub mod Faulted
 pub mod Promised
 pub mod Layers
+pub mod Quiet
 mod Examples

@@ -1,5 +1,5 @@
 -- A command as a script: its steps, then how it ends. The whole answer is read off it.
-use Rattle.std.specs.Prelude.{◌++◌, ◌+◌, ℕ, zero, suc, false, List, [], Option, Some, None, Result, Ok, Err, nat_lt, length, if◌then◌else◌}
+use Rattle.std.specs.Prelude.{◌++◌, ◌+◌, ◌≤◌, ℕ, zero, suc, false, List, [], Option, Some, None, Result, Ok, Err, nat_lt, length, if◌then◌else◌}
 use Rattle.std.specs.Option.{option_map_or}
 use Rattle.scad_fault.specs.declared.budget.Budget.{Budget}
 use Rattle.scad_fault.specs.declared.status.Status.{Status}
@@ -46,6 +46,11 @@ layers layer i (suc n) rest = layer_then (layer i) (layers layer (i + 1) n rest)
 -- what is read of a file, where there is a limit to its length or none
 abbrev pub input_of : Option ℕ → List ℕ → Input
 input_of limit text = if option_map_or (λ most. nat_lt most (length text)) limit false then Long else Whole text
+
+-- what was read whole is within the limit
+abbrev pub IsWithin : Option ℕ → Input → Type 0
+IsWithin (Some most) (Whole text) = length text ≤ most
+IsWithin limit input = Unit {0}
 
 -- the status of a refusal
 abbrev pub refused : Refusal → Status

@@ -1,7 +1,7 @@
 //! The step that reads: a file is opened and read to its end, or past a limit.
 ghost use Rattle.std.specs.Prelude.{◌≡◌, ◌<◌, ◌≤◌, ◌∷◌, [], Some, IfOk, OnOk, IsErrOf, IfSome, option_map};
 ghost use Rattle.scad_script.specs.Steps.{Reads};
-ghost use Rattle.scad_script.specs.Script.{first, input_of};
+ghost use Rattle.scad_script.specs.Script.{first, input_of, IsWithin};
 ghost use Rattle.scad_script.specs.Played.{Carries, HasRisen};
 ghost use Rattle.scad_script.specs.Run.{Sound, CreatesNone};
 
@@ -31,6 +31,7 @@ pub fn load<D: Desk>(
     ensures carries { Carries (first (Reads name.now ∷ [])) result (D.view desk.old) (D.view desk.new) }
     ensures told { IfOk result (λ input. IfSome (D.files desk.old) (λ contents.
         option_map (input_of limit) (contents name.now) ≡ Some input)) }
+    ensures within { IfOk result (IsWithin limit) }
     ensures sound { OnOk result (Sound (D.view desk.new)) }
     ensures creates { CreatesNone (D.view desk.old) (D.view desk.new) }
     ensures files { D.files desk.new ≡ D.files desk.old }

@@ -7,7 +7,7 @@ use Rattle.std.proofs.lemmas.List.FromFn.{length-map-range_with_len}
 use Rattle.cli_text.specs.Cli.{head, layer_text, geometry_end, cli}
 use Rattle.scad_geom.specs.declared.point.Pt.{Pt}
 use Rattle.scad_geom.specs.Square.{square}
-use Rattle.scad_io.specs.declared.desk.Out.TheVariants.{Report, Cli, Gcode}
+use Rattle.scad_io.specs.declared.desk.Out.TheVariants.{Cli}
 use Rattle.scad_script.specs.Steps.{Sends, text_of}
 use Rattle.scad_script.specs.Script.{Script, Finishes, first, ends, layers}
 use Rattle.scad_script.proofs.Layers.{next_layer, no_layer, layers_text, layers_ending}

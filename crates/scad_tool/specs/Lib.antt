@@ -1,5 +1,9 @@
 pub mod Words
 pub mod Source
+pub mod Meaning
+pub mod View
 pub mod Cube
+pub mod Told
 pub mod Answer
+pub mod Playing
 pub mod Promises

@@ -19,7 +19,7 @@ use scad_script::{Stop, send};
 use std::alloc::{AllocError, Global};
 
 /// The layer height where no settings are given, in micrometres.
-const LAYER_HEIGHT: u32 = 200;
+pub const LAYER_HEIGHT: u32 = 200;
 
 /// The side of a cube of one millimetre, in micrometres.
 const MILLIMETRE: u32 = 1000;

@@ -1,7 +1,11 @@
-//! The program: reads a part, and writes its layers' outlines. `run` has the promise; `main` hands it the real files.
+//! The program: reads a part, tells what it means, or writes its layers' outlines. `run` has the promise; `main` hands it
+//! the real files.
 #![tactic(auto)]
 
+mod check;
 mod cube;
+mod evaluation;
+mod meaning;
 mod run;
 mod source;
 #[cfg(test)]

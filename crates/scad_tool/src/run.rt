@@ -3,7 +3,8 @@ ghost use Rattle.std.specs.Prelude.{◌≡◌, ◌<◌, ◌≤◌, map, string_b
 ghost use Rattle.scad_script.specs.Run.{IsReady, RunsTo};
 ghost use Rattle.scad_script.specs.Promises.{IsReadFault, IsWriteFault, IsMemoryLine, AreFronts, HandsIn, CreatesForBytes, FailedReportIsWrite};
 ghost use Rattle.scad_tool.specs.Answer.{OnScript, given_by};
-ghost use Rattle.scad_tool.specs.Promises.{Answers, HoldsCube, Refuses, JudgesWords};
+ghost use Rattle.scad_tool.specs.Words.{command_of};
+ghost use Rattle.scad_tool.specs.Promises.{Answers, HoldsCube, Refuses, LeavesOutputs, JudgesWords, IsComplete};
 
 use crate::work::work;
 use scad_fault::Status;
@@ -35,12 +36,13 @@ pub fn run<R: Threads + Sync, D: Desk, G: Gate>(
     // The status and all bytes are one function of the words and the files.
     ensures answer { Answers (map string_bytes words.now) (D.files desk.old) result (D.view desk.old) (D.view desk.new) }
 
-    // The written outlines hold what the source's cube holds.
+    // The outlines that `slice` wrote hold what the source's cube holds.
     ensures outlines { result ≡ Status.Done → HoldsCube (map string_bytes words.now) (D.files desk.old) (D.view desk.old) (D.view desk.new) }
 
     // When each other status comes, and how the files then stand.
     ensures words { JudgesWords (map string_bytes words.now) result }
-    ensures refusal { Refuses result (D.view desk.old) (D.view desk.new) }
+    ensures refusal { OnScript (map string_bytes words.now) (D.files desk.old)
+        (λ whole. Refuses whole result (D.view desk.old) (D.view desk.new)) }
     ensures read_fault { result ≡ Status.Read → IsReadFault (given_by (map string_bytes words.now)) (D.view desk.old) (D.view desk.new) }
     ensures read_cause { result ≡ Status.Read → D.faults desk.old < D.faults desk.new }
     ensures write_fault { result ≡ Status.Write → OnScript (map string_bytes words.now) (D.files desk.old)
@@ -49,12 +51,16 @@ pub fn run<R: Threads + Sync, D: Desk, G: Gate>(
     ensures memory { result ≡ Status.Memory → OnScript (map string_bytes words.now) (D.files desk.old)
         (λ whole. IsMemoryLine whole (D.view desk.old) (D.view desk.new)) }
     ensures failed_report { FailedReportIsWrite result (D.view desk.new) }
+    ensures complete { IsComplete (map string_bytes words.now) (D.files desk.old) result (D.faults desk.old) (D.faults desk.new) }
 
     // Both files are fronts of the answer's bytes, at every status; at the statuses 0 to 4 and 6 none is
     // created that gets no bytes.
     ensures front { OnScript (map string_bytes words.now) (D.files desk.old)
         (λ whole. AreFronts whole (D.view desk.old) (D.view desk.new)) }
     ensures created { CreatesForBytes result (D.view desk.old) (D.view desk.new) }
+
+    // `check` and `tree` write to nothing but the report.
+    ensures leaves { LeavesOutputs (command_of (map string_bytes words.now)) (D.view desk.old) (D.view desk.new) }
 
     // At every status.
     ensures names { HandsIn (given_by (map string_bytes words.now)) (D.view desk.old) (D.view desk.new) }

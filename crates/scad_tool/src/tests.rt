@@ -2,6 +2,8 @@
 ghost use Rattle.std.specs.Prelude.{◌≡◌, Some, [], IfOk};
 ghost use Rattle.scad_io.specs.Desk.{unused};
 
+mod sources;
+
 use crate::run::run;
 use scad_fault::{Status, Text};
 use scad_io::{MemoryDesk, Open, Out};
@@ -170,7 +172,10 @@ fn words_of_another_form(rt: HostRuntime) -> Result<(), Fail> {
     let alloc = rt.alloc();
     expect_usage(&rt, alloc, &["slice", "m.scad"])?;
     expect_usage(&rt, alloc, &["slice", "a", "a"])?;
-    expect_usage(&rt, alloc, &["check", "a"])?;
+    expect_usage(&rt, alloc, &["check"])?;
+    expect_usage(&rt, alloc, &["check", "a", "b"])?;
+    expect_usage(&rt, alloc, &["tree", "a", "a"])?;
+    expect_usage(&rt, alloc, &["Check", "a"])?;
     expect_usage(&rt, alloc, &[])?;
     expect_usage(&rt, alloc, &["slice", "m.scad", "o.cli", "more"])?;
     Ok(())

@@ -1,6 +1,6 @@
 use Rattle.std.proofs.Common.{rules}
 use Rattle.scad_script.proofs.Layers.{as_left}
-use Rattle.scad_tool.proofs.Cubes.{cube_begins, cube_finishes}
+use Rattle.scad_tool.proofs.Cubes.{cube_begins}
 use Rattle.scad_tool.proofs.cube.draw_cube.Goals as goal
 
 pub returns-in-Err-draw_head-clause-completes : goal.returns-in-Err-draw_head-clause-completes

@@ -1,5 +1,5 @@
 use Rattle.std.proofs.Common.{rules, ◌<◌, ◌≡◌}
-use Rattle.scad_script.proofs.Layers.{as_left, no_layer}
+use Rattle.scad_script.proofs.Layers.{as_left}
 use Rattle.scad_tool.specs.Cube.{layer_count}
 use Rattle.scad_tool.proofs.Cubes.{next_of_cube, after_layers}
 use Rattle.scad_tool.proofs.cube.draw_layers.Goals as goal

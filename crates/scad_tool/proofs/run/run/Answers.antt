@@ -1,4 +1,4 @@
-use Rattle.std.proofs.Common.{Global, ℕ, List, Option, map, string_bytes}
+use Rattle.std.proofs.Common.{rules, Global, ℕ, List, Option, map, string_bytes}
 use Rattle.scad_io.specs.Desk.{Files, View}
 use Rattle.scad_script.specs.declared.loading.Input.{Input}
 use Rattle.scad_script.specs.Run.{RunsTo}
@@ -8,10 +8,11 @@ use Rattle.scad_script.proofs.Faulted.{report_sound}
 use Rattle.scad_script.proofs.Fronts.{files_are_fronts}
 use Rattle.scad_script.proofs.Handed.{names_are_given}
 use Rattle.scad_script.proofs.Created.{created_for_bytes}
-use Rattle.scad_tool.specs.Answer.{script_of, given_by, OnScript}
+use Rattle.scad_tool.specs.Answer.{script_of, given_by}
 use Rattle.scad_tool.proofs.Orderly.{orderly}
-use Rattle.scad_tool.proofs.Working.{ran}
-use Rattle.scad_tool.proofs.Judged.{answers, holds_cube, judges, refuses, read_fault, write_fault, memory_line}
+use Rattle.scad_tool.proofs.Judged.{answers, holds_cube, judges, read_fault, write_fault, memory_line}
+use Rattle.scad_tool.proofs.Refused.{leaves, refuses_so}
+use Rattle.scad_tool.proofs.Completed.{completes}
 use Rattle.scad_tool.proofs.run.run.Given.{Over}
 use Rattle.scad_tool.proofs.run.run.Goals as goal
 
@@ -57,7 +58,14 @@ pub returns-clause-words : goal.returns-clause-words
 returns-clause-words g c = judges (words g c) (input g c) c.report.result (before g c) (after g c) (promised g c)
 
 pub returns-clause-refusal : goal.returns-clause-refusal
-returns-clause-refusal g c = refuses (words g c) (input g c) c.report.result (before g c) (after g c) (runs g c) (promised g c)
+returns-clause-refusal g c = (
+  input g c,
+  c.work-ended.ensures.plays.1,
+  refuses_so (words g c) (input g c) c.report.result (before g c) (after g c) (runs g c) (promised g c),
+)
+
+pub returns-clause-leaves : goal.returns-clause-leaves
+returns-clause-leaves g c = leaves (words g c) (input g c) c.report.result (before g c) (after g c) (runs g c)
 
 pub returns-clause-read_fault : goal.returns-clause-read_fault
 returns-clause-read_fault g c = read_fault (given_by (words g c)) (script_of (words g c) (input g c)) c.report.result (before g c) (after g c) (promised g c)
@@ -75,6 +83,11 @@ returns-clause-memory g c same = (
   c.work-ended.ensures.plays.1,
   memory_line (given_by (words g c)) (script_of (words g c) (input g c)) c.report.result (before g c) (after g c) (promised g c) same,
 )
+
+pub returns-clause-complete : goal.returns-clause-complete
+returns-clause-complete g c =
+    completes (words g c) (files g c) (input g c) c.report.result (before g c) (after g c) (g.D.Desk.faults c.args.desk.now)
+    (g.D.Desk.faults c.report.new.desk) c.work-ended.ensures.plays.1 (promised g c) (search rules) (search rules)
 
 pub returns-clause-front : goal.returns-clause-front
 returns-clause-front g c = (

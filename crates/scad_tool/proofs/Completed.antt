@@ -1,0 +1,87 @@
+-- A source that a command accepts is done to its end.
+use Rattle.std.proofs.Common.{◌≡◌, ◌⊎◌, ◌<◌, ◌≤◌, List, ℕ, Bool, true, false, Option, Some, None, inl, inr, refl, sym, ap, ◌∙◌, subst, length, nat_lt, rules, arith}
+use Rattle.std.specs.Prelude.{option_map, if◌then◌else◌}
+use Rattle.scad_fault.specs.declared.status.Status.{Status}
+use Rattle.scad_fault.specs.declared.status.Status.TheVariants.{Done, Source, Usage, Settings, Read, Write, Over, Memory}
+use Rattle.scad_io.specs.Desk.{Files, View}
+use Rattle.scad_script.specs.declared.loading.Input.{Input}
+use Rattle.scad_script.specs.declared.loading.Input.TheVariants.{Whole, Long}
+use Rattle.scad_script.specs.declared.refusal.Refusal.{Refusal}
+use Rattle.scad_script.specs.Script.{Script, Ending, Finishes, Refuses, input_of}
+use Rattle.scad_script.specs.Names.{Given}
+use Rattle.scad_script.specs.Promises.{IsAnswered, Promised}
+use Rattle.scad_tree.specs.Order.{leaves as leaf_count}
+use Rattle.scad_tree.specs.Sizes.{triangle_count}
+use Rattle.scad_tree.specs.Height.{layers}
+use Rattle.scad_tree.specs.Text.{text_of as tree_text}
+use Rattle.scad_tool.specs.Words.{Command, Check, Tree, Slice, model_of, command_of}
+use Rattle.scad_tool.specs.Cube.{layer_height, layer_count}
+use Rattle.scad_tool.specs.Told.{layer_limit, layers_passed, ok_line, check_script, tree_script, told}
+use Rattle.scad_tool.specs.Answer.{source_limit, done_line, slice_script, source_script, command_script, script_of, IsRead, given_by}
+use Rattle.scad_tool.specs.Promises.{IsAccepted, IsComplete}
+use Rattle.scad_tool.proofs.Cubes.{cube_ending}
+use Rattle.scad_tool.proofs.Working.{read_as}
+
+finishes_if : (refusal : Refusal) (line : List ℕ) (count most : ℕ) (b : Bool) → nat_lt most count ≡ b → count ≤ most → (if b then Refuses refusal else Finishes line) ≡ Finishes line
+finishes_if refusal line count most true is few = let never : ⊥ = search (rules, arith) in absurd never
+finishes_if refusal line count most false is few = refl
+
+-- the script of an accepted source ends with a last line
+accepted_ends : (command : Command) (source : List ℕ) → IsAccepted command source → (line : List ℕ) × ((source_script command source).ending ≡ Finishes line)
+accepted_ends (Check model) source (tree, s, is, few) =
+    let count = layers tree layer_height in
+    let line = ok_line (leaf_count tree) (triangle_count tree) count in (
+      line,
+      ap (λ m. (told check_script m).ending) is
+          ∙ finishes_if (Refusal.Over (layers_passed count)) line count layer_limit (nat_lt layer_limit count) refl few,
+    )
+accepted_ends (Tree model) source (tree, s, is) = (tree_text tree, ap (λ m. (told tree_script m).ending) is)
+accepted_ends (Slice model cli) source (size, is) = (
+  done_line (layer_count size),
+  ap (λ o. (slice_script cli o).ending) is ∙ cube_ending size,
+)
+
+-- what is within the limit is read whole
+whole_of : (source : List ℕ) (b : Bool) → nat_lt source_limit (length source) ≡ b → length source ≤ source_limit → Some (if b then Long else Whole source) ≡ Some (Whole source)
+whole_of source true is short = let never : ⊥ = search (rules, arith) in absurd never
+whole_of source false is short = refl
+
+-- an answer to a script that finishes is that all is done
+done_of : (whole : Script) (line : List ℕ) (status : Status) (old new : View) → whole.ending ≡ Finishes line → IsAnswered whole status old new → status ≡ Done
+done_of whole line status old new is answered =
+    let finished = subst (λ (e : Ending). IsAnswered (record { steps = whole.steps; ending = e }) status old new) is answered in
+    sym finished.0
+
+done_by : (given : Given) (whole : Script) (line : List ℕ) (status : Status) (old new : View) → whole.ending ≡ Finishes line → Promised given whole status old new → (status ≡ Read → ⊥) → (status ≡ Write → ⊥) → (status ≡ Done) ⊎ (status ≡ Memory)
+done_by given whole line Done old new is promised read write = inl refl
+done_by given whole line (Source fault) old new is promised read write = inl (done_of whole line (Source fault) old new is promised)
+done_by given whole line Usage old new is promised read write = inl (done_of whole line Usage old new is promised)
+done_by given whole line (Settings fault) old new is promised read write = inl (done_of whole line (Settings fault) old new is promised)
+done_by given whole line Read old new is promised read write = absurd (read refl)
+done_by given whole line Write old new is promised read write = absurd (write refl)
+done_by given whole line (Over budget) old new is promised read write = inl (done_of whole line (Over budget) old new is promised)
+done_by given whole line Memory old new is promised read write = inr refl
+
+-- no fault rose where the count stands
+no_rise : (before now : ℕ) → now ≡ before → before < now → ⊥
+no_rise before now same rises = omega (arith, same, rises)
+
+-- the script of an accepted source, by what was read
+script_ends : (words : List (List ℕ)) (contents : List ℕ → Option (List ℕ)) (input : Option Input) (command : Command) (source : List ℕ) → IsRead words (Some contents) input → command_of words ≡ Some command → contents (model_of command) ≡ Some source → length source ≤ source_limit → IsAccepted command source → (line : List ℕ) × ((script_of words input).ending ≡ Finishes line)
+script_ends words contents input command source is form there short accepted =
+    let found : input ≡ Some (Whole source) =
+    is ∙ read_as words contents command form ∙ ap (option_map (input_of (Some source_limit))) there
+    ∙ whole_of source (nat_lt source_limit (length source)) refl short
+    in
+    let ends = accepted_ends command source accepted in (
+      ends.0,
+      ap (λ i. (script_of words i).ending) found ∙ ap (λ c. (command_script c (Some (Whole source))).ending) form ∙ ends.1,
+    )
+
+pub completes : (words : List (List ℕ)) (files : Files) (input : Option Input) (status : Status) (old new : View) (before now : ℕ) → IsRead words files input → Promised (given_by words) (script_of words input) status old new → (status ≡ Read → before < now) → (status ≡ Write → before < now) → IsComplete words files status before now
+completes words None input status old new before now is promised read write = tt
+completes words (Some contents) input status old new before now is promised read write =
+    λ command source form there short accepted same.
+    let ends = script_ends words contents input command source is form there short accepted in
+    done_by (given_by words) (script_of words input) ends.0 status old new ends.1 promised
+    (λ r. no_rise before now same (read r)) (λ w. no_rise before now same (write w))

@@ -1,0 +1,68 @@
+-- What a run tells of what a source means: the lines of `echo`, and then the end.
+use Rattle.std.specs.Prelude.{◌++◌, List, [], ◌∷◌, ℕ, Option, Some, None, codes, decimal, flat_map, nat_lt, if◌then◌else◌}
+use Rattle.scad_fault.specs.declared.budget.Budget.{Budget}
+use Rattle.scad_fault.specs.declared.budget.BudgetKind.TheVariants.{Layers}
+use Rattle.scad_io.specs.declared.desk.Out.TheVariants.{Report}
+use Rattle.scad_script.specs.declared.refusal.Refusal.{Refusal}
+use Rattle.scad_script.specs.declared.refusal.Refusal.TheVariants.{Source, Over as IsOver}
+use Rattle.scad_script.specs.Steps.{Sends}
+use Rattle.scad_script.specs.Script.{Script, Ending, Finishes, Refuses, Lacks, first, ends}
+use Rattle.scad_expr.specs.declared.fault.EvalFault.{EvalFault}
+use Rattle.scad_expr.specs.declared.fault.EvalFault.TheVariants.{Fault, Over, Memory}
+use Rattle.scad_expr.specs.State.{Outcome, gives, refuses}
+use Rattle.scad_tree.specs.Solid.{Solid}
+use Rattle.scad_tree.specs.Order.{leaves as leaf_count}
+use Rattle.scad_tree.specs.Sizes.{triangle_count}
+use Rattle.scad_tree.specs.Height.{layers}
+use Rattle.scad_tree.specs.Text.{text_of}
+use Rattle.scad_tool.specs.Cube.{layer_height}
+
+-- the lines of `echo`, each ended by a line feed
+unfoldable pub echo_text : List (List ℕ) → List ℕ
+echo_text lines = flat_map (λ line. line ++ codes "\n") lines
+
+-- the refusal for a fault or a budget of evaluation
+abbrev pub refusal_of : EvalFault → Option Refusal
+refusal_of (Fault fault) = Some (Source fault)
+refusal_of (Over budget) = Some (IsOver budget)
+refusal_of Memory = None
+
+-- the lines are written as one piece, before what follows them
+abbrev pub echoed : List (List ℕ) → Script → Script
+echoed lines rest = first (Sends Report (echo_text lines) ∷ []) rest
+
+-- a refusal stands behind the lines of `echo` before it; no source means a want of memory
+abbrev pub refusal_told : Option Refusal → List (List ℕ) → Script
+refusal_told (Some refusal) lines = echoed lines (ends (Refuses refusal))
+refusal_told None lines = ends Lacks
+
+-- what is told of a source, where this follows its tree
+abbrev pub told : (Solid → Script) → Outcome Solid → Script
+told follows (gives tree s) = echoed s.echoes (follows tree)
+told follows (refuses fault s) = refusal_told (refusal_of fault) s.echoes
+
+-- a tree has at most so many layers
+abbrev pub layer_limit : ℕ
+layer_limit = 20000
+
+-- more layers than the limit
+abbrev pub layers_passed : ℕ → Budget
+layers_passed count = record { kind = Layers; at = record { line = 0; col = 0 }; layer = 0; count = count }
+
+-- `ok: L leaves, T triangles, N layers`
+unfoldable pub ok_line : ℕ → ℕ → ℕ → List ℕ
+ok_line leaves triangles count =
+    codes "ok: " ++ decimal leaves ++ codes " leaves, " ++ decimal triangles ++ codes " triangles, " ++ decimal count
+    ++ codes " layers\n"
+
+-- `check`: the numbers of the tree's leaves, of their triangles and of its layers
+abbrev pub check_end : ℕ → ℕ → ℕ → Ending
+check_end leaves triangles count =
+    if nat_lt layer_limit count then Refuses (IsOver (layers_passed count)) else Finishes (ok_line leaves triangles count)
+
+abbrev pub check_script : Solid → Script
+check_script tree = ends (check_end (leaf_count tree) (triangle_count tree) (layers tree layer_height))
+
+-- `tree`: the text of the tree
+abbrev pub tree_script : Solid → Script
+tree_script tree = ends (Finishes (text_of tree))

@@ -1,0 +1,7 @@
+pub mod Balanced
+pub mod Ends
+pub mod Sections
+pub mod Clear
+pub mod Membership
+pub mod Border
+pub mod Surfaces

@@ -1,0 +1,6 @@
+pub mod Leaves
+pub mod Cuts
+pub mod Outlines
+pub mod Membership
+pub mod Border
+pub mod Refusal

@@ -1,0 +1,1 @@
+translate(1) cube(1/0);

@@ -1,0 +1,1 @@
+echo([for (; false; ) 1]);

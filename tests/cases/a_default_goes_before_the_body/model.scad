@@ -1,0 +1,1 @@
+module m(a, b = 1/0) cube(-1); m(1);

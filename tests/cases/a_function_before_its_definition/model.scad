@@ -1,0 +1,2 @@
+echo(f(3));
+function f(x) = x * x;

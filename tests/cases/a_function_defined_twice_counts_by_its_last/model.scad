@@ -1,0 +1,3 @@
+function f() = 1;
+echo(f());
+function f() = 2;

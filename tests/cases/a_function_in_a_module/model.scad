@@ -1,0 +1,4 @@
+module m() { function f() = 1; echo(f()); }
+function f() = 2;
+m();
+echo(f());

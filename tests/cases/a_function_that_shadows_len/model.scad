@@ -1,0 +1,2 @@
+function len(x) = "mine";
+echo(len([1]));

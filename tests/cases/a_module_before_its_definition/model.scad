@@ -1,0 +1,2 @@
+m(2);
+module m(a) cube(a);

@@ -1,0 +1,1 @@
+module for(a) cube(a);

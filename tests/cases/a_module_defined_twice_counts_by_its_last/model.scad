@@ -1,0 +1,3 @@
+module m() echo(1);
+m();
+module m() echo(2);

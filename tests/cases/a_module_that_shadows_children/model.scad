@@ -1,0 +1,3 @@
+module children() echo("mine");
+module m() children();
+m() cube(1);

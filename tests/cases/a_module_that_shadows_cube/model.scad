@@ -1,0 +1,2 @@
+module cube(a) sphere(a, $fn = 5);
+cube(1);

@@ -1,0 +1,3 @@
+module m() { module cube(a) echo(a); cube(7); }
+m();
+cube(1);

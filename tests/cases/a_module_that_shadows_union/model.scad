@@ -1,0 +1,2 @@
+module union() echo($children);
+union() { cube(1); cube(1); }

@@ -1,0 +1,3 @@
+module m() { module inner() cube(1); inner(); }
+m();
+inner();

@@ -1,0 +1,3 @@
+a = 1;
+union() { a = 2; echo(a); }
+echo(a);

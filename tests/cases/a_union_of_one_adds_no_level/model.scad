@@ -1,0 +1,2 @@
+module n(k) if (k > 1) difference() { n(k - 1); cube(1); } else cube(2);
+union() union() n(200);

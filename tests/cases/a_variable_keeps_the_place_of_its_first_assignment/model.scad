@@ -1,0 +1,1 @@
+a = 1; b = a; a = b; echo(a, b);

@@ -1,0 +1,2 @@
+a = a; module m() { a = a; echo(a); }
+m();

@@ -1,0 +1,1 @@
+intersection_for () cube(1/0);

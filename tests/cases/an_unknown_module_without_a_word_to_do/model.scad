@@ -1,0 +1,1 @@
+module m() { foo(); } cube(1);

@@ -1,0 +1,1 @@
+intersection_for ([1:2]) cube(1/0);

@@ -1,0 +1,2 @@
+assert(text = "a", test = true);
+assert(test = false);

@@ -1,0 +1,1 @@
+assert(1 == 1, "never") cube(1);

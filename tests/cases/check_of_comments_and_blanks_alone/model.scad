@@ -1,0 +1,4 @@
+// nothing
+/* nor
+ here */ 	
+;;{;}

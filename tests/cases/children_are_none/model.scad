@@ -1,0 +1,1 @@
+module m() { echo($children); children(); children(0); } m();

@@ -1,0 +1,2 @@
+module m() children(9);
+m() { a = 1/0; cube(1); }

@@ -1,0 +1,1 @@
+module m() children(1/0); m() cube(1);

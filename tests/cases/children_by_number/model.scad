@@ -1,0 +1,2 @@
+module m() children(1);
+m() { cube(1); sphere(1, $fn = 5); cylinder(1, 1, 1, $fn = 5); }

@@ -1,0 +1,3 @@
+module m() children($x = 3);
+$x = 1;
+m() echo($x);

@@ -1,0 +1,1 @@
+union() { cube(-1); cube(1/0); }

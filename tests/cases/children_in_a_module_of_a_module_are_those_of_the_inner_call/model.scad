@@ -1,0 +1,2 @@
+module m() { module inner() children(); inner(); }
+m() echo("of m");

@@ -1,0 +1,2 @@
+module m() children();
+for (i = [1:3]) m() echo(i);

@@ -1,0 +1,2 @@
+module m() union() echo($children);
+m() { cube(1); cube(1); }

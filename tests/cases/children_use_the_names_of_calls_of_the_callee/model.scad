@@ -1,0 +1,2 @@
+module m() { $x = 5; children(); }
+m() echo($x);

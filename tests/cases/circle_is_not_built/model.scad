@@ -1,0 +1,1 @@
+echo(1); translate([1, 0]) circle(r = 2);

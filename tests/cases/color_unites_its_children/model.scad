@@ -1,0 +1,1 @@
+color("red", 0.5) { cube(1); cube(2); }

@@ -1,0 +1,1 @@
+echo([each [1, 2], each "ab", each [3:4], each undef, each 5, each true, each [[6], [7]]]);

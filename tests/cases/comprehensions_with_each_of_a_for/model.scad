@@ -1,0 +1,1 @@
+echo([each for (i = [1:2]) [i, [i]]], [each each [[1, 2], [3]]], [each if (false) [1]]);

@@ -1,0 +1,1 @@
+echo([for (i = [1:5]) if (i % 2 == 1) i * i else 0]);

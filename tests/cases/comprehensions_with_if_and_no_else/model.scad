@@ -1,0 +1,1 @@
+echo([for (i = [1:4]) if (i > 2) i], [if (false) 1, if (true) 2 else 3]);

@@ -1,0 +1,1 @@
+echo([let (a = 2) for (i = [1:a]) i + a], [for (i = [1:2]) let (j = i * 10) j]);

@@ -1,0 +1,1 @@
+echo([for (i = 0; i < 3; i = i + 1) i * i], [for (i = 0, j = 1; i < 3; j = j + i, i = i + 1) [i, j]]);

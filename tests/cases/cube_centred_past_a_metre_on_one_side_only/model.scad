@@ -1,0 +1,1 @@
+translate([0, 0, 500.001]) cube(1000, center = true);

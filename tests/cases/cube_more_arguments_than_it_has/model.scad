@@ -1,0 +1,1 @@
+cube(2, false, 9, convexity = 3, colour = "red");

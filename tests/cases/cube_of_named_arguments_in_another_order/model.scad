@@ -1,0 +1,1 @@
+cube(center = true, size = [1, 1, 7]);

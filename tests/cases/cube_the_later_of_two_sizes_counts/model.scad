@@ -1,0 +1,1 @@
+cube(size = 2, size = 3);

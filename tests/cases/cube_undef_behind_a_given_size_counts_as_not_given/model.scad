@@ -1,0 +1,1 @@
+cube(5, size = undef);

@@ -1,0 +1,1 @@
+cylinder(10, 5, 3, true);

@@ -1,0 +1,1 @@
+cylinder(h = 3, r = 1, center = true);

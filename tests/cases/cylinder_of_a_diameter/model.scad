@@ -1,0 +1,1 @@
+cylinder(h = 2, d = 40);

@@ -1,0 +1,1 @@
+cylinder($fn = true);

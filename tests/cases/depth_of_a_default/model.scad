@@ -1,0 +1,2 @@
+function f(n, a = f(n + 1)) = a;
+echo(f(0));

@@ -1,0 +1,2 @@
+module m(n) if (n > 0) m(n - 1);
+m(998);

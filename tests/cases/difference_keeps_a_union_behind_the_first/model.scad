@@ -1,0 +1,1 @@
+difference() { cube(9); union() { cube(1); cube(2); } }

@@ -1,0 +1,1 @@
+difference() { cube(9); cube(1); cube(2); cube(3); }

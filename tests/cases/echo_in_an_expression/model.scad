@@ -1,0 +1,2 @@
+x = echo("first", a = 1) 5;
+echo(x);

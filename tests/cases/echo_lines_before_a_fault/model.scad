@@ -1,0 +1,4 @@
+echo(1);
+echo("two");
+cube(-1);
+echo(3);

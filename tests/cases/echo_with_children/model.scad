@@ -1,0 +1,1 @@
+echo(1) { echo(2); cube(1); }

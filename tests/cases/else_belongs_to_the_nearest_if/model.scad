@@ -1,0 +1,1 @@
+if (false) if (true) cube(1); else sphere(1);

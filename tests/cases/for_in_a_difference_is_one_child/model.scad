@@ -1,0 +1,1 @@
+difference() { for (i = [1:2]) cube(i); cube(9); }

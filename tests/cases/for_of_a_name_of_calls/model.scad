@@ -1,0 +1,1 @@
+for ($fn = [3, 4]) cylinder();

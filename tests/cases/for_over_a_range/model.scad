@@ -1,0 +1,1 @@
+for (i = [0:2]) translate([2 * i, 0, 0]) cube(1);

@@ -1,0 +1,1 @@
+for (i = false) echo(i);

@@ -1,0 +1,1 @@
+for (i = undef) cube(-1);

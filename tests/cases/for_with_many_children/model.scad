@@ -1,0 +1,1 @@
+for (i = [1:2]) { cube(i); sphere(i, $fn = 5); }

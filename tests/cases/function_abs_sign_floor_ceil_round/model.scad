@@ -1,0 +1,1 @@
+echo(abs(-2.5), sign(-3), sign(0), floor(-1.5), ceil(-1.5), round(2.5), round(-2.5), floor(2), ceil(2.000001));

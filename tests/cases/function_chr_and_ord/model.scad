@@ -1,0 +1,1 @@
+echo(chr(65), chr(233), chr(8364.9), chr(0), chr(-1), chr(55296), chr(1114112), ord("a"), ord("€uro"), ord(""));

@@ -1,0 +1,1 @@
+echo(concat(), concat([1], 2, [[3]], "ab", [0:1], undef));

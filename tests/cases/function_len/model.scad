@@ -1,0 +1,1 @@
+echo(len([1, [2, 3]]), len("añ€"), len(""), len([]), len(5), len([0:3]), len(undef));

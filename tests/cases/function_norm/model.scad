@@ -1,0 +1,1 @@
+echo(norm([3, 4]), norm([]), norm([1, 1, 1]), norm([-2]));

@@ -1,0 +1,1 @@
+echo(cos(60), sin(30), cos(0.5), tan(45), sin(-90), cos(720), tan(180), sin(0.0005));

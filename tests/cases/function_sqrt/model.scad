@@ -1,0 +1,1 @@
+echo(sqrt(2), sqrt(0), sqrt(1e9), sqrt(0.000001));

@@ -1,0 +1,1 @@
+echo(str(), str("a", 1.5, ["b"], true, undef, [0:2]));

@@ -1,0 +1,1 @@
+echo(is_undef(undef), is_bool(false), is_num(1), is_num("1"), is_string(""), is_list([]), is_list([0:1]), is_undef(0));

@@ -1,0 +1,1 @@
+echo(version(1, 2));

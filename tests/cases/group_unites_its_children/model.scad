@@ -1,0 +1,1 @@
+group() { cube(1); cube(2); }

@@ -1,0 +1,1 @@
+hull() { cube(1); cube(1); }

@@ -1,0 +1,1 @@
+module hull() children(); hull() cube(1);

@@ -1,0 +1,1 @@
+difference() { if (true) { cube(9); cube(8); } cube(1); }

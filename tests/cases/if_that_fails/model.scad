@@ -1,0 +1,1 @@
+if ("") cube(1); else sphere(1, $fn = 5);

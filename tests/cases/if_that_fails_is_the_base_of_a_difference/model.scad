@@ -1,0 +1,1 @@
+difference() { if (false) cube(9); cube(1); }

@@ -1,0 +1,1 @@
+if (1) cube(1); else sphere(1);

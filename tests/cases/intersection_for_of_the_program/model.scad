@@ -1,0 +1,1 @@
+module intersection_for(a) echo(a); intersection_for([1:2]);

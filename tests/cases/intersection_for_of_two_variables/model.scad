@@ -1,0 +1,1 @@
+intersection_for (i = [1:2], j = [1:2]) translate([i, j, 0]) cube(5);

@@ -1,0 +1,1 @@
+intersection_for (i = []) cube(1);

@@ -1,0 +1,1 @@
+intersection_for (i = 4) { cube(i); sphere(i, $fn = 5); }

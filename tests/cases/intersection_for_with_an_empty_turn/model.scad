@@ -1,0 +1,1 @@
+intersection_for (i = [1:3]) if (i != 2) cube(i);

@@ -1,0 +1,1 @@
+intersection() { intersection() { cube(1); cube(2); } cube(3); }

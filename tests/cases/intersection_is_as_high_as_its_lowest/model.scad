@@ -1,0 +1,1 @@
+intersection() { cube(3); cube(2); cube(40); }

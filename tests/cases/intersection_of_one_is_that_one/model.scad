@@ -1,0 +1,1 @@
+intersection() cube(9);

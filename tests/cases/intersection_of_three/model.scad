@@ -1,0 +1,1 @@
+intersection() { cube(9); sphere(8); cylinder(7); }

@@ -1,0 +1,1 @@
+intersection() { union(); for (i = [1:4097]) cube(1); }

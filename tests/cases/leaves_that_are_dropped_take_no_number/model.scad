@@ -1,0 +1,2 @@
+intersection() { cube(1); union(); }
+sphere(1, $fn = 5);

@@ -1,0 +1,1 @@
+let (a = 1, b = a + 1, a = b + 1) echo(a, b);

@@ -1,0 +1,1 @@
+let ($fn = 3) cylinder();

@@ -1,0 +1,1 @@
+let (a = 2) { cube(a); cube(a); }

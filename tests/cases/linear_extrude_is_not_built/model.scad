@@ -1,0 +1,2 @@
+
+  linear_extrude(height = 2) square(1);

@@ -1,0 +1,1 @@
+linear_extrude(height = 2, twist = 90) foo();

@@ -1,0 +1,1 @@
+echo(false && 1/0, true || 1/0);

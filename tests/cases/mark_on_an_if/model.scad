@@ -1,0 +1,1 @@
+difference() { %if (true) cube(1); #if (true) cube(2); *if (true) cube(3); cube(4); }

@@ -1,0 +1,1 @@
+module m() echo($children); m() { %cube(1); cube(2); }

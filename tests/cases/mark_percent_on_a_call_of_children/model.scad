@@ -1,0 +1,1 @@
+module m() difference() { %children(0); children(1); } m() { cube(1); cube(2); }

@@ -1,0 +1,1 @@
+*cube(1); sphere(2, $fn = 5);

@@ -1,0 +1,1 @@
+difference() { #%cube(1); %#cube(2); ##cube(3); #*cube(4); cube(5); }

@@ -1,0 +1,1 @@
+mirror([1, 0, 1]) translate([-6, 0, 0]) cube([6, 1, 1]);

@@ -1,0 +1,1 @@
+mirror(1) cube(2);

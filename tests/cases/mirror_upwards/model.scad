@@ -1,0 +1,1 @@
+mirror([0, 0, 1]) translate([0, 0, -4]) cube(2);

@@ -1,0 +1,1 @@
+mirror() cube(2);

@@ -1,0 +1,1 @@
+multmatrix() cube(1);

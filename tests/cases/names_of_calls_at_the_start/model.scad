@@ -1,0 +1,1 @@
+echo($fn, $fa, $fs, $children, $t, $preview, $parent_modules);

@@ -1,0 +1,2 @@
+
+projection(1);

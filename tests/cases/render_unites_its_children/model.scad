@@ -1,0 +1,1 @@
+render(convexity = 2) { cube(1); cube(2); }

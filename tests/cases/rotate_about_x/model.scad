@@ -1,0 +1,1 @@
+rotate([90, 0, 0]) translate([0, 0, -3]) cube([1, 7, 3]);

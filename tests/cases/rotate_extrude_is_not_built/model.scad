@@ -1,0 +1,1 @@
+union() { cube(1); rotate_extrude() translate([2, 0]) circle(1); }

@@ -1,0 +1,1 @@
+rotate([0, 0, 30], "axis") cube(3);

@@ -1,0 +1,1 @@
+rotate() cube(1);

@@ -1,0 +1,1 @@
+scale(900000000) scale(2) cube(1);

@@ -1,0 +1,1 @@
+scale() cube(2);

@@ -1,0 +1,1 @@
+sphere(undef, 5);

@@ -1,0 +1,1 @@
+sphere(5, $fa = undef);

@@ -1,0 +1,1 @@
+if (false) square(1); else cube(1);

@@ -1,0 +1,1 @@
+module square(a) cube(a); square(2);

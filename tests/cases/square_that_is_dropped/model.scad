@@ -1,0 +1,1 @@
+*square(1); cube(1);

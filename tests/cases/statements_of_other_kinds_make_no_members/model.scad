@@ -1,0 +1,1 @@
+difference() { a = 1; ; cube(9); b = 2; cube(1); }

@@ -1,0 +1,1 @@
+x = [for (i = 0; true; i = i + 1) if (false) i];

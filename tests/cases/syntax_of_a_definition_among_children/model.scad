@@ -1,0 +1,1 @@
+union() { module m() cube(1); }

@@ -1,0 +1,1 @@
+else cube(1);

@@ -1,0 +1,3 @@
+echo(PI);
+PI = 3;
+echo(PI);

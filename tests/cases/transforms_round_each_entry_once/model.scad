@@ -1,0 +1,1 @@
+scale(0.333333) scale(0.333333) scale(9) cube(900);

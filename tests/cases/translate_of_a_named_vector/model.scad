@@ -1,0 +1,1 @@
+translate(v = [0, 0, 4.5]) cube(2);

@@ -1,0 +1,1 @@
+translate([0, "a"]) cube(2);

@@ -1,0 +1,1 @@
+translate([1, 2, 3, 4]) cube(2);

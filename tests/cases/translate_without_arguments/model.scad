@@ -1,0 +1,1 @@
+translate() cube(2);

@@ -1,0 +1,1 @@
+union() { union(); cube(1); difference(); intersection(); sphere(1); }

@@ -1,0 +1,1 @@
+union() { cube(3); cube(2); cube(40); }

@@ -1,0 +1,1 @@
+union() { union() union() cube(1); }

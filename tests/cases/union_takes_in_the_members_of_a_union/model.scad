@@ -1,0 +1,1 @@
+union() { cube(1); union() { cube(2); cube(3); } cube(4); }
