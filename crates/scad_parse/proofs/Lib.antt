@@ -1,1 +1,5 @@
-mod reader
+mod Groups
+mod Members
+mod Rules
+mod Statements
+mod Turns
