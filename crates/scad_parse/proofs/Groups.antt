@@ -21,7 +21,7 @@ use Rattle.scad_grammar.proofs.rules.Program.{descent_is_the_reader}
 use Rattle.scad_parse.specs.declared.fault.ParseFault.{ParseFault}
 use Rattle.scad_parse.specs.declared.fault.ParseFault.TheVariants.{Memory, Syntax, Nesting, LeftOut}
 use Rattle.scad_parse.specs.JudgedFault.{JudgedFault}
-use Rattle.scad_parse.specs.Reading.{below, rules_at, behind, place_of, comma_or, refusal}
+use Rattle.scad_parse.specs.Reading.{below, rules_at, behind, place_of, comma_or, no_value, refusal}
 use Rattle.scad_parse.specs.ReadingStatements.{below_statements, statement_rules_at, parameter_of, parameter_by, default_of}
 use Rattle.scad_parse.proofs.Turns.{Goes, goes_on, stops, leaves, comma_leaves, fewer, rules_are}
 
@@ -38,14 +38,14 @@ parameters_push (x ∷ xs) p = ap (λ all. parameter x ∷ all) (parameters_push
 
 params_more : (end : Place) (same : Rules) (n : ℕ) (all : List Parameter) (us : List Token) →
     more_params end (params_of end same n all) all us
-    ≡ then_read (comma_or (is_sign CloseRound) end tt us) (λ _ vs. params_of end same n all vs)
+    ≡ then_read (comma_or (is_sign CloseRound) end no_value us) (λ _ vs. params_of end same n all vs)
 unfolding params_of
 params_more end same n all [] = refl
 params_more end same n all (t ∷ us) = by n (is_sign Comma t) (is_sign CloseRound t) refl
   where
     by : (n : ℕ) (comma ends : Bool) → is_sign CloseRound t ≡ ends →
         (if comma then params_of end same n all us else (if ends then Ok (all, us) else Err (syntax_at t.at)))
-        ≡ then_read (if comma then Ok (tt, us) else (if ends then Ok (tt, t ∷ us) else Err (syntax_at t.at)))
+        ≡ then_read (if comma then Ok (no_value, us) else (if ends then Ok (no_value, t ∷ us) else Err (syntax_at t.at)))
         (λ _ vs. params_of end same n all vs)
     by n true ends h = refl
     by zero false true h = sym (cond-true _ _ _ h)
@@ -57,7 +57,7 @@ module _ (end : Place) (room : ℕ) where
   params_at n all ts = params_of end (rules_at end room) n all ts
 
   abbrev pub behind_param : ℕ → List Parameter → Parameter → List Token → Read (List Parameter)
-  behind_param n all p us = then_read (comma_or (is_sign CloseRound) end tt us) (λ _ vs. params_at n (with_param all p) vs)
+  behind_param n all p us = then_read (comma_or (is_sign CloseRound) end no_value us) (λ _ vs. params_at n (with_param all p) vs)
 
   named_same : (n : ℕ) (all : List Parameter) (w : List ℕ) (ts : List Token) →
       param_of end (rules_at end room) (λ d us. more_params end (params_at n (with_parameter all w d)) (with_parameter all w d) us) ts
@@ -116,27 +116,27 @@ module _ (end : Place) (room : ℕ) where
       by (Some w) = then_leaves _ _ (default_of end (below end room) ts) _ (default_leaves ts) (λ d us h. h)
 
   module _ (whole : Read (List Parameter)) (all : List Parameter) (ts : List Token)
-      (open : begins_with CloseRound ts ≡ false) (g : Goes params_at whole all ts) where
+      (more : begins_with CloseRound ts ≡ false) (g : Goes params_at whole all ts) where
     pub params_go : (us vs : List Token) (p : Parameter) → parameter_of end (below end room) ts ≡ Ok (p, us) →
-        comma_or (is_sign CloseRound) end tt us ≡ Ok (tt, vs) → Goes params_at whole (with_param all p) vs
+        comma_or (is_sign CloseRound) end no_value us ≡ Ok (no_value, vs) → Goes params_at whole (with_param all p) vs
     params_go us vs p read comma =
         goes_on params_at whole all (with_param all p) ts vs
-        (λ n enough. params_turn all ts open n enough ∙ (ap (λ r. then_read r (behind_param (n - 1) all)) read
+        (λ n enough. params_turn all ts more n enough ∙ (ap (λ r. then_read r (behind_param (n - 1) all)) read
         ∙ ap (λ r. then_read r (λ _ ws. params_at (n - 1) (with_param all p) ws)) comma))
-        (leaves (length ts) _ tt vs comma (comma_leaves (is_sign CloseRound) end tt us (length ts)
+        (leaves (length ts) _ no_value vs comma (comma_leaves (is_sign CloseRound) end no_value us (length ts)
         (leaves (length ts) _ p us read (parameter_leaves ts)))) g
 
     pub params_stop : (fault : Refusal) → parameter_of end (below end room) ts ≡ Err fault → whole ≡ Err fault
     params_stop fault read =
-        stops params_at whole (Err fault) all ts (λ n enough. params_turn all ts open n enough
+        stops params_at whole (Err fault) all ts (λ n enough. params_turn all ts more n enough
         ∙ ap (λ r. then_read r (behind_param (n - 1) all)) read) g
 
     pub params_stop_behind : (us : List Token) (p : Parameter) (fault : Refusal) →
-        parameter_of end (below end room) ts ≡ Ok (p, us) → comma_or (is_sign CloseRound) end tt us ≡ Err fault →
+        parameter_of end (below end room) ts ≡ Ok (p, us) → comma_or (is_sign CloseRound) end no_value us ≡ Err fault →
         whole ≡ Err fault
     params_stop_behind us p fault read comma =
         stops params_at whole (Err fault) all ts
-        (λ n enough. params_turn all ts open n enough ∙ (ap (λ r. then_read r (behind_param (n - 1) all)) read
+        (λ n enough. params_turn all ts more n enough ∙ (ap (λ r. then_read r (behind_param (n - 1) all)) read
         ∙ ap (λ r. then_read r (λ _ ws. params_at (n - 1) (with_param all p) ws)) comma)) g
 
   pub params_end : (whole : Read (List Parameter)) (all : List Parameter) (ts : List Token) →
@@ -174,19 +174,19 @@ module _ (end : Place) (room : ℕ) (d : Bool) where
   group_last all (t ∷ ts) h zero enough = cond-true _ _ _ h
   group_last all (t ∷ ts) h (suc n) enough = cond-true _ _ _ h
 
-  module _ (whole : Read Items) (all : Items) (ts : List Token) (open : begins_with CloseCurly ts ≡ false)
+  module _ (whole : Read Items) (all : Items) (ts : List Token) (more : begins_with CloseCurly ts ≡ false)
       (g : Goes group_at whole all ts) where
     pub group_goes : (us : List Token) (b : Items) → statement_of end (below_statements end room) d all ts ≡ Ok (b, us) →
         Goes group_at whole b us
     group_goes us b read =
-        goes_on group_at whole all b ts us (λ n enough. group_turn all ts open n enough
+        goes_on group_at whole all b ts us (λ n enough. group_turn all ts more n enough
         ∙ ap (λ r. then_read r (λ b us. group_at (n - 1) b us)) read)
         (leaves (length ts) _ b us read ((fewer_statements end room).statement d all ts)) g
 
     pub group_stops : (fault : Refusal) → statement_of end (below_statements end room) d all ts ≡ Err fault →
         whole ≡ Err fault
     group_stops fault read =
-        stops group_at whole (Err fault) all ts (λ n enough. group_turn all ts open n enough
+        stops group_at whole (Err fault) all ts (λ n enough. group_turn all ts more n enough
         ∙ ap (λ r. then_read r (λ b us. group_at (n - 1) b us)) read) g
 
   pub group_ends : (whole : Read Items) (all : Items) (ts : List Token) → begins_with CloseCurly ts ≡ true →

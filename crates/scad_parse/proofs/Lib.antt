@@ -1,5 +1,6 @@
 mod Groups
 mod Members
+mod Pushes
 mod Rules
 mod Statements
 mod Turns

@@ -11,12 +11,12 @@ use Rattle.scad_grammar.specs.Lists.{with_element}
 use Rattle.scad_grammar.specs.Machine.{Refusal, syntax_at}
 use Rattle.scad_grammar.specs.Steps.{range_start}
 use Rattle.scad_grammar.specs.Rules.{Read, then_read, Rules, elem_of, elements_of, more_elements, range_by}
-use Rattle.scad_parse.specs.Reading.{below, behind, place_of, comma_or}
+use Rattle.scad_parse.specs.Reading.{below, behind, place_of, comma_or, no_value}
 use Rattle.scad_parse.proofs.Turns.{Goes, goes_on, stops, leaves, comma_leaves, fewer}
 
 -- what a list of elements goes on with, behind one that no `:` follows
 abbrev pub behind_element : Place → Option Rules → Place → ℕ → Elements → Element → List Token → Read Expression
-behind_element end lower at n all el us = then_read (comma_or (is_sign CloseSquare) end tt us)
+behind_element end lower at n all el us = then_read (comma_or (is_sign CloseSquare) end no_value us)
     (λ _ vs. elements_of end lower n at (with_element all el) vs)
 
 abbrev pub ranged : Place → Option Rules → Place → Elements → Element → List Token → Read Expression
@@ -41,7 +41,7 @@ more_comma end lower at n all el (t ∷ us) h =
     by : (n : ℕ) (comma ends : Bool) → is_sign CloseSquare t ≡ ends →
         (if comma then elements_of end lower n at (with_element all el) us
         else (if ends then Ok (vector at (with_element all el), us) else Err (syntax_at t.at)))
-        ≡ then_read (if comma then Ok (tt, us) else (if ends then Ok (tt, t ∷ us) else Err (syntax_at t.at)))
+        ≡ then_read (if comma then Ok (no_value, us) else (if ends then Ok (no_value, t ∷ us) else Err (syntax_at t.at)))
         (λ _ vs. elements_of end lower n at (with_element all el) vs)
     by n true ends e = refl
     by zero false true e = sym (cond-true _ _ _ e)
@@ -71,24 +71,24 @@ abbrev pub elements_at : Place → ℕ → Place → ℕ → Elements → List T
 elements_at end room at n all ts = elements_of end (below end room) n at all ts
 
 module _ (end : Place) (room : ℕ) (at : Place) (whole : Read Expression) (all : Elements) (ts : List Token)
-    (open : begins_with CloseSquare ts ≡ false) (g : Goes (elements_at end room at) whole all ts) where
+    (more : begins_with CloseSquare ts ≡ false) (g : Goes (elements_at end room at) whole all ts) where
   read_turn : (r : Read Element) (n : ℕ) → length ts ≤ n → elem_of end (below end room) ts ≡ r →
       elements_at end room at n all ts ≡ then_read r (λ el us.
       more_elements end (below end room) (elements_of end (below end room) (n - 1) at (with_element all el)) at all el us)
   read_turn r n enough read =
-      elements_turn end (below end room) at all ts open n enough
+      elements_turn end (below end room) at all ts more n enough
       ∙ ap (λ r. then_read r (λ el us. more_elements end (below end room)
       (elements_of end (below end room) (n - 1) at (with_element all el)) at all el us)) read
 
   pub elements_go : (us vs : List Token) (el : Element) → elem_of end (below end room) ts ≡ Ok (el, us) →
-      begins_with Colon us ≡ false → comma_or (is_sign CloseSquare) end tt us ≡ Ok (tt, vs) →
+      begins_with Colon us ≡ false → comma_or (is_sign CloseSquare) end no_value us ≡ Ok (no_value, vs) →
       Goes (elements_at end room at) whole (with_element all el) vs
   elements_go us vs el read colon comma =
       goes_on (elements_at end room at) whole all (with_element all el) ts vs
       (λ n enough. read_turn (Ok (el, us)) n enough read
       ∙ (more_comma end (below end room) at (n - 1) all el us colon
       ∙ ap (λ r. then_read r (λ _ ws. elements_of end (below end room) (n - 1) at (with_element all el) ws)) comma))
-      (leaves (length ts) _ tt vs comma (comma_leaves (is_sign CloseSquare) end tt us (length ts)
+      (leaves (length ts) _ no_value vs comma (comma_leaves (is_sign CloseSquare) end no_value us (length ts)
       (leaves (length ts) _ el us read ((fewer end room).elem ts)))) g
 
   pub elements_stop : (fault : Refusal) → elem_of end (below end room) ts ≡ Err fault → whole ≡ Err fault
@@ -104,7 +104,7 @@ module _ (end : Place) (room : ℕ) (at : Place) (whole : Read Expression) (all 
 
   pub elements_stop_behind : (us : List Token) (el : Element) (fault : Refusal) →
       elem_of end (below end room) ts ≡ Ok (el, us) → begins_with Colon us ≡ false →
-      comma_or (is_sign CloseSquare) end tt us ≡ Err fault → whole ≡ Err fault
+      comma_or (is_sign CloseSquare) end no_value us ≡ Err fault → whole ≡ Err fault
   elements_stop_behind us el fault read colon comma =
       stops (elements_at end room at) whole (Err fault) all ts
       (λ n enough. read_turn (Ok (el, us)) n enough read

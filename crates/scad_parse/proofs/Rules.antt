@@ -60,6 +60,7 @@ pub operand_looser : (end : Place) (lower : Option Rules) (lines : ℕ) (ts : Li
 unfolding operand_of
 operand_looser end lower zero ts h = absurd (h refl)
 operand_looser end lower (suc line) ts h =
-    ap (λ n. then_read (operand_of end lower n ts) (links_of lower n)) (omega arith)
+    let is : line ≡ suc line - 1 = omega arith in
+    ap (λ n. then_read (operand_of end lower n ts) (links_of lower n)) is
 
 pub ruleset lines = (operand_tightest, operand_looser)

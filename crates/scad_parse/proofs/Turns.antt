@@ -14,7 +14,7 @@ use Rattle.scad_grammar.specs.Steps.{range_start}
 use Rattle.scad_grammar.specs.Rules.{Read, then_read, Rules, above, rules, expr_of, args_of, named_by, more_args, elem_of, elements_of, more_elements, range_by}
 use Rattle.scad_grammar.proofs.rules.Fewer.{Leaves, wider, then_leaves, either, Fewer}
 use Rattle.scad_grammar.proofs.rules.FewerElements.{rules_fewer}
-use Rattle.scad_parse.specs.Reading.{below, rules_at, behind, place_of, first_word, argument_of, comma_or}
+use Rattle.scad_parse.specs.Reading.{below, rules_at, behind, place_of, first_word, argument_of, comma_or, no_value}
 
 -- ---- how many tokens are left
 pub leaves : {A : Type 0} (n : ℕ) (r : Read A) (a : A) (us : List Token) → r ≡ Ok (a, us) → Leaves n r → length us < n
@@ -72,14 +72,14 @@ stops rule whole x s ts turn g = sym g.2 ∙ turn g.0 g.1
 -- ---- arguments
 more_same : (end : Place) (lower : Option Rules) (n : ℕ) (all : Arguments) (us : List Token) →
     more_args end (args_of end lower n all) all us
-    ≡ then_read (comma_or ends_arguments end tt us) (λ _ vs. args_of end lower n all vs)
+    ≡ then_read (comma_or ends_arguments end no_value us) (λ _ vs. args_of end lower n all vs)
 unfolding args_of
 more_same end lower n all [] = refl
 more_same end lower n all (t ∷ us) = by n (is_sign Comma t) (ends_arguments t) refl
   where
     by : (n : ℕ) (comma ends : Bool) → ends_arguments t ≡ ends →
         (if comma then args_of end lower n all us else (if ends then Ok (all, t ∷ us) else Err (syntax_at t.at)))
-        ≡ then_read (if comma then Ok (tt, us) else (if ends then Ok (tt, t ∷ us) else Err (syntax_at t.at)))
+        ≡ then_read (if comma then Ok (no_value, us) else (if ends then Ok (no_value, t ∷ us) else Err (syntax_at t.at)))
         (λ _ vs. args_of end lower n all vs)
     by n true ends h = refl
     by zero false true h = sym (cond-true _ _ _ h)
@@ -87,7 +87,7 @@ more_same end lower n all (t ∷ us) = by n (is_sign Comma t) (ends_arguments t)
     by n false false h = refl
 
 -- a value that is paired and then used
-paired : {A B C D : Type 0} (r : Read A) (pair : A → B) (f : A → List Token → Read C) (g : B → List Token → Read C) →
+paired : {A B C : Type 0} (r : Read A) (pair : A → B) (f : A → List Token → Read C) (g : B → List Token → Read C) →
     ((a : A) (us : List Token) → f a us ≡ g (pair a) us) →
     then_read r f ≡ then_read (then_read r (λ a us. Ok (pair a, us))) g
 paired (Ok r) pair f g same = same r.0 r.1
@@ -95,7 +95,7 @@ paired (Err fault) pair f g same = refl
 
 module _ (end : Place) (lower : Option Rules) where
   abbrev pub behind_one : ℕ → Arguments → Option (List ℕ) × Expression → List Token → Read Arguments
-  behind_one n all a us = then_read (comma_or ends_arguments end tt us)
+  behind_one n all a us = then_read (comma_or ends_arguments end no_value us)
       (λ _ vs. args_of end lower n (with_argument all a.0 a.1) vs)
 
   named_same : (n : ℕ) (all : Arguments) (t : Token) (o : Option (List ℕ)) (ts : List Token) →
@@ -138,7 +138,7 @@ module _ (end : Place) (lower : Option Rules) where
 
 pub args_go : (end : Place) (room : ℕ) (whole : Read Arguments) (all : Arguments) (ts us vs : List Token)
     (a : Option (List ℕ) × Expression) → at_end_of_arguments ts ≡ false →
-    argument_of end (below end room) ts ≡ Ok (a, us) → comma_or ends_arguments end tt us ≡ Ok (tt, vs) →
+    argument_of end (below end room) ts ≡ Ok (a, us) → comma_or ends_arguments end no_value us ≡ Ok (no_value, vs) →
     Goes (args_of end (below end room)) whole all ts →
     Goes (args_of end (below end room)) whole (with_argument all a.0 a.1) vs
 args_go end room whole all ts us vs a h read comma =
@@ -146,8 +146,8 @@ args_go end room whole all ts us vs a h read comma =
     (λ n enough. args_turn end (below end room) all ts h n enough
     ∙ (ap (λ r. then_read r (behind_one end (below end room) (n - 1) all)) read
     ∙ ap (λ r. then_read r (λ _ ws. args_of end (below end room) (n - 1) (with_argument all a.0 a.1) ws)) comma))
-    (leaves (length ts) _ tt vs comma
-    (comma_leaves ends_arguments end tt us (length ts) (leaves (length ts) _ a us read (argument_leaves end room ts))))
+    (leaves (length ts) _ no_value vs comma
+    (comma_leaves ends_arguments end no_value us (length ts) (leaves (length ts) _ a us read (argument_leaves end room ts))))
 
 pub args_stop : (end : Place) (room : ℕ) (whole : Read Arguments) (all : Arguments) (ts : List Token)
     (fault : Refusal) → at_end_of_arguments ts ≡ false → argument_of end (below end room) ts ≡ Err fault →
@@ -159,7 +159,7 @@ args_stop end room whole all ts fault h read =
 
 pub args_stop_behind : (end : Place) (room : ℕ) (whole : Read Arguments) (all : Arguments) (ts us : List Token)
     (a : Option (List ℕ) × Expression) (fault : Refusal) → at_end_of_arguments ts ≡ false →
-    argument_of end (below end room) ts ≡ Ok (a, us) → comma_or ends_arguments end tt us ≡ Err fault →
+    argument_of end (below end room) ts ≡ Ok (a, us) → comma_or ends_arguments end no_value us ≡ Err fault →
     Goes (args_of end (below end room)) whole all ts → whole ≡ Err fault
 args_stop_behind end room whole all ts us a fault h read comma =
     stops (args_of end (below end room)) whole (Err fault) all ts

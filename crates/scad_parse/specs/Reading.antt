@@ -81,3 +81,7 @@ arguments_seen all = arguments all.items
 -- an answer that tells no more than that it is one
 abbrev pub nothing : {A : Type 0} → A → Unit {0}
 nothing a = tt
+
+-- where nothing but the tokens behind is given
+abbrev pub no_value : Unit {0}
+no_value = tt

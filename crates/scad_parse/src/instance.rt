@@ -139,7 +139,6 @@ fn kept(scope: Scope, marks: Marked, at: Place, body: StmtBody) -> Result<Scope,
 }
 
 /// The scope with a call.
-#[tactic(auto, using(scad_ast::proofs::ScopeRows::call_view))]
 fn called(
     scope: Scope,
     marks: Marked,
@@ -155,7 +154,6 @@ fn called(
 }
 
 /// The scope with an `if`.
-#[tactic(auto, using(scad_ast::proofs::ScopeRows::choice_view))]
 fn chosen(
     scope: Scope,
     marks: Marked,
