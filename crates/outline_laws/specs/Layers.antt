@@ -8,4 +8,6 @@ use Rattle.slice_layer.specs.Outlines.{AreLayerOutlines}
 -- ---- the law
 -- A tree of solids has one list of outlines at a layer, whichever shape numbers its leaves.
 abbrev pub LayersHaveOneOutlines : Type 0
-LayersHaveOneOutlines = (layer h : ℕ) (s : Solid) → AreSolids s → (a b : List (List Pt)) → AreLayerOutlines layer h s a → AreLayerOutlines layer h s b → a ≡ b
+LayersHaveOneOutlines =
+    (layer h : ℕ) (s : Solid) → AreSolids s → (a b : List (List Pt))
+    → AreLayerOutlines layer h s a → AreLayerOutlines layer h s b → a ≡ b

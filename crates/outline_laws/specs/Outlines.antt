@@ -13,7 +13,9 @@ use Rattle.outline_laws.specs.Sameness.{ArePiecesSame, HoldAlike}
 -- ---- the laws
 -- Two lists of pieces of a border, of one shape or of two that hold alike, are the same one by one.
 abbrev pub PiecesAreSame : Type 0
-PiecesAreSame = (es : List LeafEdge) (s t : Shape) → HoldAlike es s t → (qs rs : List Piece) → ArePieces es s qs → ArePieces es t rs → ArePiecesSame qs rs
+PiecesAreSame =
+    (es : List LeafEdge) (s t : Shape) → HoldAlike es s t → (qs rs : List Piece)
+    → ArePieces es s qs → ArePieces es t rs → ArePiecesSame qs rs
 
 -- A shape over edges within the limit of coordinates has one list of outlines.
 abbrev pub OutlinesAreOne : Type 0
@@ -24,5 +26,6 @@ OutlinesAreOne =
 -- Two shapes that hold alike have the same.
 abbrev pub AlikeHaveOneOutlines : Type 0
 AlikeHaveOneOutlines =
-    (es : List LeafEdge) → All (λ e. IsEdgeWithin coordinate_limit e.edge) es → (s t : Shape) → HoldAlike es s t → (a b : List (List Pt))
+    (es : List LeafEdge) → All (λ e. IsEdgeWithin coordinate_limit e.edge) es → (s t : Shape) → HoldAlike es s t
+    → (a b : List (List Pt))
     → AreOutlinesOf es s a → AreOutlinesOf es t b → a ≡ b

@@ -27,4 +27,5 @@ ArePiecesSame qs rs = AllZip AreSamePiece qs rs
 
 -- two shapes over one list of edges that hold the same, hard by each point
 abbrev pub HoldAlike : List LeafEdge → Shape → Shape → Type 0
-HoldAlike es s t = (above right : Bool) (p : Point) → pos 0 <ℤ p.d → is_in_by above right es s p ≡ is_in_by above right es t p
+HoldAlike es s t =
+    (above right : Bool) (p : Point) → pos 0 <ℤ p.d → is_in_by above right es s p ≡ is_in_by above right es t p

@@ -2,13 +2,14 @@
 ghost use Rattle.outline_laws.specs.Outlines.{PiecesAreSame, OutlinesAreOne, AlikeHaveOneOutlines};
 ghost use Rattle.outline_laws.specs.Layers.{LayersHaveOneOutlines};
 
-/// The pieces of a border are the same one by one, over whatever divisors its levels are written: of one name, from one point to
-/// one point.
+/// The pieces of a border are the same one by one, over whatever divisors its levels are written: of one name, from one
+/// point to one point.
 pub fn pieces_are_same()
     ensures { PiecesAreSame }
 {}
 
-/// A shape over edges within the limit of coordinates has one list of outlines, and two shapes that hold alike have the same.
+/// A shape over edges within the limit of coordinates has one list of outlines, and two shapes that hold alike have the
+/// same.
 pub fn outlines_are_one()
     ensures one { OutlinesAreOne }
     ensures alike { AlikeHaveOneOutlines }
