@@ -5,4 +5,4 @@ mod grammar
 mod nesting
 mod printing
 mod reader
-mod rules
+pub mod rules
