@@ -11,7 +11,7 @@ use Rattle.std.proofs.lemmas.List.Sorted.{Contains-permutation, IsPermutation-sy
 use Rattle.scad_geom.specs.declared.level.Level.{Level}
 use Rattle.scad_geom.specs.Point.{Point, is_same_point}
 use Rattle.scad_geom.specs.Level.{IsLower, IsAtMost, IsSameHeight}
-use Rattle.scad_geom.proofs.Heights.{lower_then_at_most, at_most_then_lower, at_most_chain, lower_weak, same_at_least, same_at_most, same_height}
+use Rattle.scad_geom.proofs.Heights.{lower_then_at_most, at_most_then_lower, at_most_chain, lower_weak, same_at_least, same_at_most, same_height as one_height}
 use Rattle.scad_geom.proofs.Points.{same_height, same_across}
 use Rattle.winding_laws.specs.Nearness.{IsProper}
 use Rattle.winding_laws.proofs.Sameness.{are_same, same_by, are_same_turned}
@@ -37,7 +37,7 @@ module _ (p q r : Level) (dp : pos 0 <ℤ p.d) (dq : pos 0 <ℤ q.d) (dr : pos 0
   same_lower h k = at_most_then_lower p q r dp dq dr (same_at_least p q h) k
 
   same_same : IsSameHeight p q → IsSameHeight q r → IsSameHeight p r
-  same_same h k = same_height p r (at_most_chain p q r dp dq dr (same_at_least p q h) (same_at_least q r k)) (at_most_chain r q p dr dq dp (same_at_most q r k) (same_at_most p q h))
+  same_same h k = one_height p r (at_most_chain p q r dp dq dr (same_at_least p q h) (same_at_least q r k)) (at_most_chain r q p dr dq dp (same_at_most q r k) (same_at_most p q h))
 
 -- ---- the order of points: by height, then from left to right
 abbrev pub IsBefore : Point → Point → Type 0

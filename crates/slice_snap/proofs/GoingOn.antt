@@ -8,7 +8,7 @@ use Rattle.scad_base.proofs.Integers.{gap_of_less, less_of_gap}
 use Rattle.scad_geom.specs.declared.level.Level.{Level}
 use Rattle.scad_geom.specs.Point.{Point, is_same_point}
 use Rattle.scad_geom.specs.Level.{IsLower, IsAtMost}
-use Rattle.scad_geom.proofs.Heights.{lower_then_at_most, at_most_then_lower, lower_weak, same_at_least, same_at_most, same_height}
+use Rattle.scad_geom.proofs.Heights.{lower_then_at_most, at_most_then_lower, lower_weak, same_at_least, same_at_most, same_height as one_height}
 use Rattle.scad_geom.proofs.Points.{same_height, same_across}
 use Rattle.scad_geom.proofs.Ring.{ring, ◌⊕◌, ◌⊖◌, ◌⊗◌, v0, v1, v2, v3}
 use Rattle.scad_base.proofs.Products.{positive_product}
@@ -106,13 +106,13 @@ module _ (On : Point → Type 0) (k : Point → ℤ)
         (λ am. by_lt_z (k n *ℤ b.d) (k b *ℤ n.d)
         (λ nb. inside a m b oa om ob (inl (am, at_most_then_lower (along m) (along n) (along b) dm dn db mn nb)))
         (λ bn. by_lt_z (k b *ℤ n.d) (k n *ℤ b.d) (λ o. absurd (peak am o))
-        (λ o. absurd (not_both (is_same_point n b) (same n b on ob (same_height (along n) (along b) o bn)) v))))
+        (λ o. absurd (not_both (is_same_point n b) (same n b on ob (one_height (along n) (along b) o bn)) v))))
         (λ ma. by_lt_z (k m *ℤ a.d) (k a *ℤ m.d)
         (λ o. by_lt_z (k b *ℤ n.d) (k n *ℤ b.d)
         (λ bn. inside a m b oa om ob (inr (lower_then_at_most (along b) (along n) (along m) db dn dm bn nm, o)))
         (λ nb. by_lt_z (k n *ℤ b.d) (k b *ℤ n.d) (λ x. absurd (valley o x))
-        (λ x. absurd (not_both (is_same_point n b) (same n b on ob (same_height (along n) (along b) nb x)) v))))
-        (λ o. absurd (not_both (is_same_point a m) (same a m oa om (same_height (along a) (along m) o ma)) u)))
+        (λ x. absurd (not_both (is_same_point n b) (same n b on ob (one_height (along n) (along b) nb x)) v))))
+        (λ o. absurd (not_both (is_same_point a m) (same a m oa om (one_height (along a) (along m) o ma)) u)))
 
 -- ---- of pieces
 above_zero : (n : ℕ) → 0 < n → pos 0 <ℤ pos n

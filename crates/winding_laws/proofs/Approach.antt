@@ -1,5 +1,5 @@
 -- As near as wanted to each point of a segment lies one that isn't an end.
-use Rattle.std.proofs.Common.{◌≡◌, [], ◌∷◌, refl, sym, ap, ◌∙◌, subst, arith}
+use Rattle.std.proofs.Common.{◌≡◌, [], ◌∷◌, refl, sym, ap, ◌∙◌, arith}
 use lib.IntN.{ℤ, pos, ◌+ℤ◌, ◌-ℤ◌, ◌*ℤ◌}
 use lib.Signed.{◌<ℤ◌, ◌≤ℤ◌}
 use Rattle.std.proofs.lemmas.Int.{ints, by_lt_z}
@@ -57,7 +57,6 @@ at_most_turned z =
     let m = at_most_square (pos 0 -ℤ z) in
     let same : (pos 0 -ℤ z) *ℤ (pos 0 -ℤ z) ≡ z *ℤ z = ring (z ∷ []) ((num (pos 0) ⊖ v0) ⊗ (num (pos 0) ⊖ v0)) (v0 ⊗ v0) refl in
     omega (arith, ints)
-
 
 module _ (n : ℤ) (np : pos 0 <ℤ n) (a b p : Point) (da : IsPoint a) (db : IsPoint b) (dp : IsPoint p) (o : IsOn a b p) where
   -- the middle, and how far it lies from p

@@ -30,7 +30,6 @@ cancel_mul a b k h e =
     let z : (a -ℤ b) *ℤ k ≡ pos 0 = ring (a ∷ b ∷ k ∷ []) ((v0 ⊖ v1) ⊗ v2) (v0 ⊗ v2 ⊖ v1 ⊗ v2) refl ∙ no_gap (a *ℤ k) (b *ℤ k) e in
     let n = zero_factor (a -ℤ b) k h z in
     omega (arith, ints)
-  where
 
 -- one coordinate over three divisors
 chain : (x d y e z f : ℤ) → pos 0 <ℤ e → x *ℤ e ≡ y *ℤ d → y *ℤ f ≡ z *ℤ e → x *ℤ f ≡ z *ℤ d
