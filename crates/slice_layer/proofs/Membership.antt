@@ -31,7 +31,7 @@ use Rattle.slice_bool.proofs.Membership as border
 use Rattle.slice_layer.specs.Leaves.{AreClosed}
 use Rattle.slice_layer.specs.Cuts.{cuts_at, IsClearOfCuts}
 use Rattle.slice_layer.specs.Membership.{OutlinesHoldPoints, OutlinesHoldCentres}
-use Rattle.slice_layer.proofs.Balanced.{cuts_balanced}
+use Rattle.slice_section.proofs.Marked.{cuts_balanced}
 use Rattle.slice_layer.proofs.Sections.{leaf_edges, surface_closed, leaves_balanced, sections_have}
 use Rattle.slice_layer.proofs.Clear.{IsClearCut, IsClearEdge, cuts_clear, edges_clear}
 
