@@ -28,7 +28,7 @@ use Rattle.scad_tree.specs.Contained.{contained_at}
 use Rattle.scad_tree.proofs.Numbering.{numbering_holds}
 use Rattle.slice_bool.specs.Membership.{IsClearByHalf}
 use Rattle.slice_bool.proofs.Membership as border
-use Rattle.slice_layer.specs.Leaves.{AreClosed}
+use Rattle.scad_tree.specs.Solids.{AreClosed}
 use Rattle.slice_layer.specs.Cuts.{cuts_at, IsClearOfCuts}
 use Rattle.slice_layer.specs.Membership.{OutlinesHoldPoints, OutlinesHoldCentres}
 use Rattle.slice_section.proofs.Marked.{cuts_balanced}
