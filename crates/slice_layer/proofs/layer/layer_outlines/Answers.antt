@@ -3,8 +3,10 @@ use Rattle.std.proofs.lemmas.Result.{IfOk-weaker}
 use Rattle.scad_geom.specs.Limits.{coordinate_limit}
 use Rattle.scad_geom.specs.Within.{IsEdgeWithin}
 use Rattle.scad_tree.specs.View.{solid_of}
+use Rattle.scad_tree.proofs.Numbering.{numbering_holds}
 use Rattle.slice_bool.specs.Outlines.{AreOutlinesOf}
 use Rattle.scad_tree.specs.Solids.{AreSolids}
+use Rattle.slice_layer.specs.Outlines.{AreLayerOutlines}
 use Rattle.slice_layer.specs.Membership.{HoldCentres}
 use Rattle.slice_layer.specs.Border.{AreNearSectionBorder}
 use Rattle.slice_layer.proofs.Surfaces.{solids_closed, section_within}
@@ -25,7 +27,7 @@ returns-clause-centres c =
     let solids = c.are_solids.ensures in
     IfOk-weaker c.outlines.result (λ v. AreOutlinesOf c.deref.result.now c.in-Ok-shape.shape v.items) (λ v. HoldCentres layer h solid v.items)
     (λ v made. outlines_hold_centres layer h solid v.items (solids_closed solid solids)
-    (record { shape = c.in-Ok-shape.shape; numbered = c.in-Ok-shape.ensures; are_outlines = subst (λ es. AreOutlinesOf es c.in-Ok-shape.shape v.items) (c.deref.ensures.value ∙ c.in-Ok.ensures.edges) made }))
+    (record { shape = c.in-Ok-shape.shape; stands = λ inside. numbering_holds.shapes inside solid c.in-Ok-shape.shape c.in-Ok-shape.ensures; are_outlines = subst (λ es. AreOutlinesOf es c.in-Ok-shape.shape v.items) (c.deref.ensures.value ∙ c.in-Ok.ensures.edges) made }))
     c.outlines.ensures.outlines
 
 pub returns-clause-near : goal.returns-clause-near
@@ -35,5 +37,14 @@ returns-clause-near c =
     let solid = solid_of c.args.tree.now in
     IfOk-weaker c.outlines.result (λ v. AreOutlinesOf c.deref.result.now c.in-Ok-shape.shape v.items) (λ v. AreNearSectionBorder layer h solid v.items)
     (λ v made. outlines_are_near_border layer h solid v.items
-    (record { shape = c.in-Ok-shape.shape; numbered = c.in-Ok-shape.ensures; are_outlines = subst (λ es. AreOutlinesOf es c.in-Ok-shape.shape v.items) (c.deref.ensures.value ∙ c.in-Ok.ensures.edges) made }))
+    (record { shape = c.in-Ok-shape.shape; stands = λ inside. numbering_holds.shapes inside solid c.in-Ok-shape.shape c.in-Ok-shape.ensures; are_outlines = subst (λ es. AreOutlinesOf es c.in-Ok-shape.shape v.items) (c.deref.ensures.value ∙ c.in-Ok.ensures.edges) made }))
+    c.outlines.ensures.outlines
+
+pub returns-clause-outlines : goal.returns-clause-outlines
+returns-clause-outlines c =
+    let layer = c.args.layer in
+    let h = c.args.h in
+    let solid = solid_of c.args.tree.now in
+    IfOk-weaker c.outlines.result (λ v. AreOutlinesOf c.deref.result.now c.in-Ok-shape.shape v.items) (λ v. AreLayerOutlines layer h solid v.items)
+    (λ v made. record { shape = c.in-Ok-shape.shape; stands = λ inside. numbering_holds.shapes inside solid c.in-Ok-shape.shape c.in-Ok-shape.ensures; are_outlines = subst (λ es. AreOutlinesOf es c.in-Ok-shape.shape v.items) (c.deref.ensures.value ∙ c.in-Ok.ensures.edges) made })
     c.outlines.ensures.outlines
