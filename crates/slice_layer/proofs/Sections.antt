@@ -1,13 +1,11 @@
 -- The edges of a tree's section: of each leaf, and of all.
 use Rattle.std.proofs.Common.{◌≡◌, ℕ, zero, suc, ◌+◌, ◌<◌, Bool, true, false, cond, ◌==◌, List, [], ◌∷◌, ◌++◌, map, arith, refl, ap, sym, ◌∙◌, subst}
 use Rattle.std.proofs.lemmas.Bool.Decides.{nat_tests}
-use Rattle.std.proofs.lemmas.List.{append-nil, map-append}
-use Rattle.std.proofs.lemmas.List.Elements.{filter-append}
+use Rattle.std.proofs.lemmas.List.{append-nil}
 use Rattle.std.specs.Prelude.{filter}
 use Rattle.std.specs.List.{AllByRecursion}
 use Rattle.scad_base.proofs.Lists.{AllByRecursion-append}
 use Rattle.scad_geom.specs.declared.point.Edge.{Edge}
-use Rattle.scad_geom.specs.declared.level.LeafEdge.{LeafEdge}
 use Rattle.scad_geom.specs.Segment.{Segment, segments}
 use Rattle.scad_geom.specs.Balance.{IsBalanced}
 use Rattle.scad_geom.specs.Leaves.{edges_of, AreLeavesBalanced}

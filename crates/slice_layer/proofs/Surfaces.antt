@@ -1,18 +1,15 @@
 -- Trees whose surfaces bound solids.
-use Rattle.std.proofs.Common.{◌≡◌, ℕ, ◌+◌, ◌<◌, ◌≤◌, List, [], ◌∷◌, Vec, Box, Global, drop, length, get_or, sym, subst}
+use Rattle.std.proofs.Common.{ℕ, List, [], ◌∷◌}
 use Rattle.std.specs.Prelude.{All, IsTrue}
-use Rattle.std.proofs.lemmas.List.Elements.{All-nil, All-append, All-weaker, All-from_recursion, recursion_from_All}
+use Rattle.std.proofs.lemmas.List.Elements.{All-weaker, All-from_recursion, recursion_from_All}
 use Rattle.scad_geom.specs.Limits.{coordinate_limit}
 use Rattle.scad_geom.specs.Within.{IsEdgeWithin}
 use Rattle.scad_solid.specs.declared.triangle.Triangle.{Triangle}
 use Rattle.scad_solid.specs.Solid.{IsSolid}
 use Rattle.scad_solid.specs.Surface.{is_closed}
 use Rattle.scad_solid.specs.Cut.{cuts_of, plane_of}
-use Rattle.scad_tree.specs.Solid.{Solid, members}
-use Rattle.scad_tree.specs.declared.node.Node.{Node, Union, Inter, Diff}
-use Rattle.scad_tree.specs.View.{solid_of, solids}
-use Rattle.scad_tree.specs.Order.{surfaces, all_surfaces}
-use Rattle.scad_tree.proofs.Rows.{at_union, at_inter, at_diff, left-more, left-none}
+use Rattle.scad_tree.specs.Solid.{Solid}
+use Rattle.scad_tree.specs.Order.{surfaces}
 use Rattle.scad_tree.specs.Sections.{tree_section}
 use Rattle.std.specs.List.{AllByRecursion}
 use Rattle.slice_section.specs.Section.{rounded}

@@ -5,7 +5,6 @@ use Rattle.scad_geom.specs.Within.{IsEdgeWithin}
 use Rattle.scad_tree.specs.View.{solid_of}
 use Rattle.scad_tree.proofs.Numbering.{numbering_holds}
 use Rattle.slice_bool.specs.Outlines.{AreOutlinesOf}
-use Rattle.scad_tree.specs.Solids.{AreSolids}
 use Rattle.slice_layer.specs.Outlines.{AreLayerOutlines}
 use Rattle.slice_layer.specs.Membership.{HoldCentres}
 use Rattle.slice_layer.specs.Border.{AreNearSectionBorder}
