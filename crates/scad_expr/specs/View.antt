@@ -14,14 +14,6 @@ use Rattle.scad_expr.specs.declared.defined.Defined.{Defined}
 use Rattle.scad_expr.specs.declared.defined.DefinedAt.{DefinedAt}
 use Rattle.scad_expr.specs.Functions.{Function, Found}
 
--- values, one behind another
-abbrev pub data_of : List Value → List Datum
-data_of all = map datum_of all
-
--- the values that a vector of them holds
-abbrev pub data_in : Vec Value Global → List Datum
-data_in v = data_of v.items
-
 -- a function that is defined by these parameters and this expression
 abbrev pub function_of : List Param → Expr → Function
 function_of params body = record { parameters = map parameter params; body = expression_of body }
