@@ -1,9 +1,7 @@
 -- Whether there are arguments, and the values that a vector holds.
-use Rattle.std.proofs.Common.{◌≡◌, ◌≢◌, ℕ, ◌+◌, ◌<◌, ◌≤◌, true, false, List, [], ◌∷◌, Vec, Global, length, get_or, drop, refl, ap, ◌∙◌, sym, arith}
-use Rattle.std.proofs.lemmas.List.{drop_more, drop_all}
+use Rattle.std.proofs.Common.{◌≡◌, ◌≢◌, true, false, List, [], ◌∷◌, Vec, Global, length, refl, ap, ◌∙◌, sym, arith}
 use Rattle.scad_ast.specs.declared.expression.Arg.{Arg}
-use Rattle.scad_ast.specs.Tree.{no_arguments, argument}
-use Rattle.scad_ast.specs.View.{expression_of, arguments}
+use Rattle.scad_ast.specs.View.{arguments}
 use Rattle.scad_value.specs.declared.value.Value.{Value}
 use Rattle.scad_value.specs.declared.value.Value.{List as ListValue}
 use Rattle.scad_value.specs.Datum.{vector, element}

@@ -1,13 +1,9 @@
 -- What lists in memory are to the definitions.
-use Rattle.std.specs.Prelude.{List, map, Vec}
-use Rattle.std.specs.Global.{Global}
+use Rattle.std.specs.Prelude.{List, map}
 use Rattle.scad_ast.specs.declared.expression.Expr.{Expr}
 use Rattle.scad_ast.specs.declared.statement.Param.{Param}
 use Rattle.scad_ast.specs.Scope.{parameter}
 use Rattle.scad_ast.specs.View.{expression_of}
-use Rattle.scad_value.specs.Datum.{Datum}
-use Rattle.scad_value.specs.View.{datum_of}
-use Rattle.scad_value.specs.declared.value.Value.{Value}
 use Rattle.scad_scope.specs.Env.{Env}
 use Rattle.scad_scope.specs.Stored.{env_at}
 use Rattle.scad_expr.specs.declared.defined.Defined.{Defined}
