@@ -1,1 +1,6 @@
-mod reader
+mod Groups
+mod Members
+mod Pushes
+mod Rules
+mod Statements
+mod Turns

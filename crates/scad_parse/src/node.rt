@@ -7,11 +7,18 @@ ghost use Rattle.scad_grammar.specs.Behind.{keyed_tree};
 ghost use Rattle.scad_grammar.specs.Lists.{let_of};
 ghost use Rattle.scad_parse.specs.Reading.{keyed};
 
-use crate::operator::Binder;
 use scad_ast::{Args, BinOp, Elem, Elems, Expr, Node, UnOp};
 use scad_fault::{Chars, Place, Text};
 use scad_num::Num;
 use std::alloc::{AllocError, Global};
+
+/// A keyword that stands with arguments before an expression.
+#[derive(Clone, Copy, Debug, PartialEq, Eq)]
+pub(crate) enum Binder {
+    Let,
+    Assert,
+    Echo,
+}
 
 pub(crate) fn number(at: Place, number: Num) -> Expr
     ensures { expression_of result ≡ number_tree at number }
