@@ -23,7 +23,7 @@ use Rattle.scad_parse.specs.declared.fault.ParseFault.TheVariants.{Memory, Synta
 use Rattle.scad_parse.specs.JudgedFault.{JudgedFault}
 use Rattle.scad_parse.specs.Reading.{below, rules_at, behind, place_of, comma_or, no_value, refusal}
 use Rattle.scad_parse.specs.ReadingStatements.{below_statements, statement_rules_at, parameter_of, parameter_by, default_of}
-use Rattle.scad_parse.proofs.Turns.{Goes, goes_on, stops, leaves, comma_leaves, fewer, rules_are}
+use Rattle.scad_parse.proofs.Turns.{Goes, less, goes_on, stops, leaves, comma_leaves, fewer, rules_are}
 
 -- ---- parameters
 -- a parameter as the list's last
@@ -78,7 +78,7 @@ module _ (end : Place) (room : ℕ) where
       by false r = params_more end (rules_at end room) n (with_parameter all w None) (t ∷ ts)
 
   params_turn : (all : List Parameter) (ts : List Token) → begins_with CloseRound ts ≡ false → (n : ℕ) →
-      length ts ≤ n → params_at n all ts ≡ then_read (parameter_of end (below end room) ts) (behind_param (n - 1) all)
+      length ts ≤ n → params_at n all ts ≡ then_read (parameter_of end (below end room) ts) (behind_param (less n) all)
   unfolding params_of parameter_of
   params_turn all [] h zero enough = refl
   params_turn all [] h (suc n) enough = refl
@@ -115,29 +115,35 @@ module _ (end : Place) (room : ℕ) where
       by None = tt
       by (Some w) = then_leaves _ _ (default_of end (below end room) ts) _ (default_leaves ts) (λ d us h. h)
 
+  -- a parameter and what stands behind it take tokens
+  pub params_fewer : (ts us vs : List Token) (p : Parameter) → parameter_of end (below end room) ts ≡ Ok (p, us) →
+      comma_or (is_sign CloseRound) end no_value us ≡ Ok (no_value, vs) → length vs < length ts
+  params_fewer ts us vs p read comma =
+      leaves (length ts) _ no_value vs comma (comma_leaves (is_sign CloseRound) end no_value us (length ts)
+      (leaves (length ts) _ p us read (parameter_leaves ts)))
+
   module _ (whole : Read (List Parameter)) (all : List Parameter) (ts : List Token)
       (more : begins_with CloseRound ts ≡ false) (g : Goes params_at whole all ts) where
     pub params_go : (us vs : List Token) (p : Parameter) → parameter_of end (below end room) ts ≡ Ok (p, us) →
         comma_or (is_sign CloseRound) end no_value us ≡ Ok (no_value, vs) → Goes params_at whole (with_param all p) vs
     params_go us vs p read comma =
         goes_on params_at whole all (with_param all p) ts vs
-        (λ n enough. params_turn all ts more n enough ∙ (ap (λ r. then_read r (behind_param (n - 1) all)) read
-        ∙ ap (λ r. then_read r (λ _ ws. params_at (n - 1) (with_param all p) ws)) comma))
-        (leaves (length ts) _ no_value vs comma (comma_leaves (is_sign CloseRound) end no_value us (length ts)
-        (leaves (length ts) _ p us read (parameter_leaves ts)))) g
+        (λ n enough. params_turn all ts more n enough ∙ (ap (λ r. then_read r (behind_param (less n) all)) read
+        ∙ ap (λ r. then_read r (λ _ ws. params_at (less n) (with_param all p) ws)) comma))
+        (params_fewer ts us vs p read comma) g
 
     pub params_stop : (fault : Refusal) → parameter_of end (below end room) ts ≡ Err fault → whole ≡ Err fault
     params_stop fault read =
         stops params_at whole (Err fault) all ts (λ n enough. params_turn all ts more n enough
-        ∙ ap (λ r. then_read r (behind_param (n - 1) all)) read) g
+        ∙ ap (λ r. then_read r (behind_param (less n) all)) read) g
 
     pub params_stop_behind : (us : List Token) (p : Parameter) (fault : Refusal) →
         parameter_of end (below end room) ts ≡ Ok (p, us) → comma_or (is_sign CloseRound) end no_value us ≡ Err fault →
         whole ≡ Err fault
     params_stop_behind us p fault read comma =
         stops params_at whole (Err fault) all ts
-        (λ n enough. params_turn all ts more n enough ∙ (ap (λ r. then_read r (behind_param (n - 1) all)) read
-        ∙ ap (λ r. then_read r (λ _ ws. params_at (n - 1) (with_param all p) ws)) comma)) g
+        (λ n enough. params_turn all ts more n enough ∙ (ap (λ r. then_read r (behind_param (less n) all)) read
+        ∙ ap (λ r. then_read r (λ _ ws. params_at (less n) (with_param all p) ws)) comma)) g
 
   pub params_end : (whole : Read (List Parameter)) (all : List Parameter) (ts : List Token) →
       begins_with CloseRound ts ≡ true → Goes params_at whole all ts → whole ≡ Ok (all, behind ts)
@@ -151,7 +157,7 @@ statement_rules_are end (suc room) =
     ap (λ r. above_statements end r (Some (statement_rules end room))) (rules_are end (suc room))
     ∙ ap (λ r. above_statements end (rules_at end (suc room)) (Some r)) (statement_rules_are end room)
 
-fewer_statements : (end : Place) (room : ℕ) → FewerStatements (statement_rules_at end room)
+pub fewer_statements : (end : Place) (room : ℕ) → FewerStatements (statement_rules_at end room)
 fewer_statements end room = subst FewerStatements (statement_rules_are end room) (statements_fewer end room)
 
 module _ (end : Place) (room : ℕ) (d : Bool) where
@@ -160,7 +166,7 @@ module _ (end : Place) (room : ℕ) (d : Bool) where
 
   group_turn : (all : Items) (ts : List Token) → begins_with CloseCurly ts ≡ false → (n : ℕ) → length ts ≤ n →
       group_at n all ts
-      ≡ then_read (statement_of end (below_statements end room) d all ts) (λ b us. group_at (n - 1) b us)
+      ≡ then_read (statement_of end (below_statements end room) d all ts) (λ b us. group_at (less n) b us)
   unfolding group_of statement_of
   group_turn all [] h zero enough = refl
   group_turn all [] h (suc n) enough = refl
@@ -174,20 +180,25 @@ module _ (end : Place) (room : ℕ) (d : Bool) where
   group_last all (t ∷ ts) h zero enough = cond-true _ _ _ h
   group_last all (t ∷ ts) h (suc n) enough = cond-true _ _ _ h
 
+  -- a statement takes tokens
+  pub group_fewer : (all b : Items) (ts us : List Token) →
+      statement_of end (below_statements end room) d all ts ≡ Ok (b, us) → length us < length ts
+  group_fewer all b ts us read = leaves (length ts) _ b us read ((fewer_statements end room).statement d all ts)
+
   module _ (whole : Read Items) (all : Items) (ts : List Token) (more : begins_with CloseCurly ts ≡ false)
       (g : Goes group_at whole all ts) where
     pub group_goes : (us : List Token) (b : Items) → statement_of end (below_statements end room) d all ts ≡ Ok (b, us) →
         Goes group_at whole b us
     group_goes us b read =
         goes_on group_at whole all b ts us (λ n enough. group_turn all ts more n enough
-        ∙ ap (λ r. then_read r (λ b us. group_at (n - 1) b us)) read)
-        (leaves (length ts) _ b us read ((fewer_statements end room).statement d all ts)) g
+        ∙ ap (λ r. then_read r (λ b us. group_at (less n) b us)) read)
+        (group_fewer all b ts us read) g
 
     pub group_stops : (fault : Refusal) → statement_of end (below_statements end room) d all ts ≡ Err fault →
         whole ≡ Err fault
     group_stops fault read =
         stops group_at whole (Err fault) all ts (λ n enough. group_turn all ts more n enough
-        ∙ ap (λ r. then_read r (λ b us. group_at (n - 1) b us)) read) g
+        ∙ ap (λ r. then_read r (λ b us. group_at (less n) b us)) read) g
 
   pub group_ends : (whole : Read Items) (all : Items) (ts : List Token) → begins_with CloseCurly ts ≡ true →
       Goes group_at whole all ts → whole ≡ Ok (all, behind ts)
@@ -200,7 +211,7 @@ program_behind end n r = elim r as (λ x. Result Items Refusal) [ Ok r ↦ progr
 
 module _ (end : Place) where
   program_turn : (all : Items) (ts : List Token) → (length ts == 0) ≡ false → (n : ℕ) → length ts ≤ n →
-      program_from end n all ts ≡ program_behind end (n - 1) (statement_of end (below_statements end most_open) true all ts)
+      program_from end n all ts ≡ program_behind end (less n) (statement_of end (below_statements end most_open) true all ts)
   unfolding program_from
   program_turn all [] h n enough = absurd (cc)
   program_turn all (t ∷ ts) h zero enough = absurd (let no : ⊥ = omega (arith, enough) in no)
@@ -218,15 +229,15 @@ module _ (end : Place) where
       statement_of end (below_statements end most_open) true all ts ≡ Ok (b, us) → Goes (program_from end) whole b us
   program_goes whole all b ts us h g read =
       goes_on (program_from end) whole all b ts us
-      (λ n enough. program_turn all ts h n enough ∙ ap (program_behind end (n - 1)) read)
-      (leaves (length ts) _ b us read ((fewer_statements end most_open).statement true all ts)) g
+      (λ n enough. program_turn all ts h n enough ∙ ap (program_behind end (less n)) read)
+      (group_fewer end most_open true all b ts us read) g
 
   pub program_stops : (whole : Result Items Refusal) (all : Items) (ts : List Token) (fault : Refusal) →
       (length ts == 0) ≡ false → Goes (program_from end) whole all ts →
       statement_of end (below_statements end most_open) true all ts ≡ Err fault → whole ≡ Err fault
   program_stops whole all ts fault h g read =
       stops (program_from end) whole (Err fault) all ts
-      (λ n enough. program_turn all ts h n enough ∙ ap (program_behind end (n - 1)) read) g
+      (λ n enough. program_turn all ts h n enough ∙ ap (program_behind end (less n)) read) g
 
   pub program_ends : (whole : Result Items Refusal) (all : Items) (ts : List Token) → (length ts == 0) ≡ true →
       Goes (program_from end) whole all ts → whole ≡ Ok all

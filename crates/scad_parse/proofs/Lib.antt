@@ -1,5 +1,7 @@
 mod Groups
 mod Members
+mod Opened
+mod OpenedStatements
 mod Pushes
 mod Rules
 mod Statements

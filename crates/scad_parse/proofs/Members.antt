@@ -1,5 +1,5 @@
 -- The turns of the loop over the elements of a vector.
-use Rattle.std.proofs.Common.{◌≡◌, ℕ, zero, suc, ◌-◌, ◌≤◌, Bool, true, false, List, [], ◌∷◌, Option, Ok, Err, length, refl, sym, ap, ◌∙◌, arith}
+use Rattle.std.proofs.Common.{◌≡◌, ℕ, zero, suc, ◌-◌, ◌<◌, ◌≤◌, Bool, true, false, List, [], ◌∷◌, Option, Ok, Err, length, refl, sym, ap, ◌∙◌, arith}
 use Rattle.std.specs.Prelude.{if◌then◌else◌}
 use Rattle.std.proofs.lemmas.Bool.{cond-true, cond-false}
 use Rattle.scad_fault.specs.declared.place.Place.{Place}
@@ -12,7 +12,7 @@ use Rattle.scad_grammar.specs.Machine.{Refusal, syntax_at}
 use Rattle.scad_grammar.specs.Steps.{range_start}
 use Rattle.scad_grammar.specs.Rules.{Read, then_read, Rules, elem_of, elements_of, more_elements, range_by}
 use Rattle.scad_parse.specs.Reading.{below, behind, place_of, comma_or, no_value}
-use Rattle.scad_parse.proofs.Turns.{Goes, goes_on, stops, leaves, comma_leaves, fewer}
+use Rattle.scad_parse.proofs.Turns.{Goes, less, goes_on, stops, leaves, comma_leaves, fewer}
 
 -- what a list of elements goes on with, behind one that no `:` follows
 abbrev pub behind_element : Place → Option Rules → Place → ℕ → Elements → Element → List Token → Read Expression
@@ -52,7 +52,7 @@ module _ (end : Place) (lower : Option Rules) (at : Place) where
   pub elements_turn : (all : Elements) (ts : List Token) → begins_with CloseSquare ts ≡ false → (n : ℕ) →
       length ts ≤ n → elements_of end lower n at all ts
       ≡ then_read (elem_of end lower ts)
-      (λ el us. more_elements end lower (elements_of end lower (n - 1) at (with_element all el)) at all el us)
+      (λ el us. more_elements end lower (elements_of end lower (less n) at (with_element all el)) at all el us)
   unfolding elements_of elem_of
   elements_turn all [] h zero enough = refl
   elements_turn all [] h (suc n) enough = refl
@@ -70,15 +70,23 @@ module _ (end : Place) (lower : Option Rules) (at : Place) where
 abbrev pub elements_at : Place → ℕ → Place → ℕ → Elements → List Token → Read Expression
 elements_at end room at n all ts = elements_of end (below end room) n at all ts
 
+-- an element and what stands behind it take tokens
+pub elements_fewer : (end : Place) (room : ℕ) (ts us vs : List Token) (el : Element) →
+    elem_of end (below end room) ts ≡ Ok (el, us) →
+    comma_or (is_sign CloseSquare) end no_value us ≡ Ok (no_value, vs) → length vs < length ts
+elements_fewer end room ts us vs el read comma =
+    leaves (length ts) _ no_value vs comma (comma_leaves (is_sign CloseSquare) end no_value us (length ts)
+    (leaves (length ts) _ el us read ((fewer end room).elem ts)))
+
 module _ (end : Place) (room : ℕ) (at : Place) (whole : Read Expression) (all : Elements) (ts : List Token)
     (more : begins_with CloseSquare ts ≡ false) (g : Goes (elements_at end room at) whole all ts) where
   read_turn : (r : Read Element) (n : ℕ) → length ts ≤ n → elem_of end (below end room) ts ≡ r →
       elements_at end room at n all ts ≡ then_read r (λ el us.
-      more_elements end (below end room) (elements_of end (below end room) (n - 1) at (with_element all el)) at all el us)
+      more_elements end (below end room) (elements_of end (below end room) (less n) at (with_element all el)) at all el us)
   read_turn r n enough read =
       elements_turn end (below end room) at all ts more n enough
       ∙ ap (λ r. then_read r (λ el us. more_elements end (below end room)
-      (elements_of end (below end room) (n - 1) at (with_element all el)) at all el us)) read
+      (elements_of end (below end room) (less n) at (with_element all el)) at all el us)) read
 
   pub elements_go : (us vs : List Token) (el : Element) → elem_of end (below end room) ts ≡ Ok (el, us) →
       begins_with Colon us ≡ false → comma_or (is_sign CloseSquare) end no_value us ≡ Ok (no_value, vs) →
@@ -86,10 +94,9 @@ module _ (end : Place) (room : ℕ) (at : Place) (whole : Read Expression) (all 
   elements_go us vs el read colon comma =
       goes_on (elements_at end room at) whole all (with_element all el) ts vs
       (λ n enough. read_turn (Ok (el, us)) n enough read
-      ∙ (more_comma end (below end room) at (n - 1) all el us colon
-      ∙ ap (λ r. then_read r (λ _ ws. elements_of end (below end room) (n - 1) at (with_element all el) ws)) comma))
-      (leaves (length ts) _ no_value vs comma (comma_leaves (is_sign CloseSquare) end no_value us (length ts)
-      (leaves (length ts) _ el us read ((fewer end room).elem ts)))) g
+      ∙ (more_comma end (below end room) at (less n) all el us colon
+      ∙ ap (λ r. then_read r (λ _ ws. elements_of end (below end room) (less n) at (with_element all el) ws)) comma))
+      (elements_fewer end room ts us vs el read comma) g
 
   pub elements_stop : (fault : Refusal) → elem_of end (below end room) ts ≡ Err fault → whole ≡ Err fault
   elements_stop fault read =
@@ -100,7 +107,7 @@ module _ (end : Place) (room : ℕ) (at : Place) (whole : Read Expression) (all 
   elements_range us el read colon =
       stops (elements_at end room at) whole (ranged end (below end room) at all el us) all ts
       (λ n enough. read_turn (Ok (el, us)) n enough read
-      ∙ more_colon end (below end room) at (n - 1) all el us colon) g
+      ∙ more_colon end (below end room) at (less n) all el us colon) g
 
   pub elements_stop_behind : (us : List Token) (el : Element) (fault : Refusal) →
       elem_of end (below end room) ts ≡ Ok (el, us) → begins_with Colon us ≡ false →
@@ -108,8 +115,8 @@ module _ (end : Place) (room : ℕ) (at : Place) (whole : Read Expression) (all 
   elements_stop_behind us el fault read colon comma =
       stops (elements_at end room at) whole (Err fault) all ts
       (λ n enough. read_turn (Ok (el, us)) n enough read
-      ∙ (more_comma end (below end room) at (n - 1) all el us colon
-      ∙ ap (λ r. then_read r (λ _ ws. elements_of end (below end room) (n - 1) at (with_element all el) ws)) comma)) g
+      ∙ (more_comma end (below end room) at (less n) all el us colon
+      ∙ ap (λ r. then_read r (λ _ ws. elements_of end (below end room) (less n) at (with_element all el) ws)) comma)) g
 
 pub elements_end : (end : Place) (room : ℕ) (at : Place) (whole : Read Expression) (all : Elements) (ts : List Token) →
     begins_with CloseSquare ts ≡ true → Goes (elements_at end room at) whole all ts →

@@ -38,6 +38,10 @@ pub items_push : (xs : List Item) (i : Item) → items (xs ++ (i ∷ [])) ≡ wi
 items_push [] i = refl
 items_push (x ∷ xs) i = ap (entry (item_of x)) (items_push xs i)
 
+-- the word and the parameters of a heading
+abbrev pub with_word : List ℕ → List Parameter → List Token → Read (List ℕ × List Parameter)
+with_word w params us = Ok ((w, params), us)
+
 -- a heading, and what stands behind it
 pub headed : {A : Type 0} (end : Place) (lower : Option StatementRules)
     (f : List ℕ → List Parameter → List Token → Read A) (ts : List Token) →
@@ -47,12 +51,12 @@ headed end lower f [] = refl
 headed end lower f (t ∷ ts) = by (word_of t)
   where
     inside : (w : List ℕ) (r : Read (List Parameter)) →
-        then_read r (f w) ≡ then_read (then_read r (λ ps us. Ok ((w, ps), us))) (λ h us. f h.0 h.1 us)
+        then_read r (f w) ≡ then_read (then_read r (with_word w)) (λ h us. f h.0 h.1 us)
     inside w (Ok r) = refl
     inside w (Err fault) = refl
 
     by : (o : Option (List ℕ)) → heading_by end lower t.at o f ts
-        ≡ then_read (heading_by end lower t.at o (λ w ps us. Ok ((w, ps), us)) ts) (λ h us. f h.0 h.1 us)
+        ≡ then_read (heading_by end lower t.at o with_word ts) (λ h us. f h.0 h.1 us)
     by None = refl
     by (Some w) = inside w _
 

@@ -48,6 +48,15 @@ argument_leaves end room ts =
     (then_leaves _ _ (expr_of end (below end room) ts) _ ((fewer end room).expr ts) (λ e us h. h))
 
 -- ---- the turns of a loop
+-- one turn less, where there is one
+abbrev pub less : ℕ → ℕ
+less zero = zero
+less (suc n) = n
+
+less_turns : (n a b : ℕ) → a ≤ n → b < a → b ≤ less n
+less_turns zero a b enough few = omega arith
+less_turns (suc n) a b enough few = omega arith
+
 -- what is left gives the whole, in no fewer turns than there are tokens
 abbrev pub Goes : {S X : Type 0} → (ℕ → S → List Token → X) → X → S → List Token → Type 0
 Goes rule whole so_far left = (n : ℕ) × (length left ≤ n) × (rule n so_far left ≡ whole)
@@ -61,9 +70,10 @@ begins rule s t ts us same is = (
 )
 
 pub goes_on : {S X : Type 0} (rule : ℕ → S → List Token → X) (whole : X) (s next : S) (ts vs : List Token) →
-    ((n : ℕ) → length ts ≤ n → rule n s ts ≡ rule (n - 1) next vs) → length vs < length ts →
+    ((n : ℕ) → length ts ≤ n → rule n s ts ≡ rule (less n) next vs) → length vs < length ts →
     Goes rule whole s ts → Goes rule whole next vs
-goes_on rule whole s next ts vs turn few g = (g.0 - 1, omega (arith, few, g.1), sym (turn g.0 g.1) ∙ g.2)
+goes_on rule whole s next ts vs turn few g =
+    (less g.0, less_turns g.0 (length ts) (length vs) g.1 few, sym (turn g.0 g.1) ∙ g.2)
 
 pub stops : {S X : Type 0} (rule : ℕ → S → List Token → X) (whole x : X) (s : S) (ts : List Token) →
     ((n : ℕ) → length ts ≤ n → rule n s ts ≡ x) → Goes rule whole s ts → whole ≡ x
@@ -122,7 +132,7 @@ module _ (end : Place) (lower : Option Rules) where
           (λ e vs. more_same end lower n (with_argument all None e) vs)
 
   args_turn : (all : Arguments) (ts : List Token) → at_end_of_arguments ts ≡ false → (n : ℕ) → length ts ≤ n →
-      args_of end lower n all ts ≡ then_read (argument_of end lower ts) (behind_one (n - 1) all)
+      args_of end lower n all ts ≡ then_read (argument_of end lower ts) (behind_one (less n) all)
   unfolding args_of argument_of expr_of
   args_turn all [] h zero enough = refl
   args_turn all [] h (suc n) enough = refl
@@ -136,6 +146,14 @@ module _ (end : Place) (lower : Option Rules) where
   args_last all (t ∷ ts) h zero enough = cond-true _ _ _ h
   args_last all (t ∷ ts) h (suc n) enough = cond-true _ _ _ h
 
+-- an argument and what stands behind it take tokens
+pub args_fewer : (end : Place) (room : ℕ) (ts us vs : List Token) (a : Option (List ℕ) × Expression) →
+    argument_of end (below end room) ts ≡ Ok (a, us) → comma_or ends_arguments end no_value us ≡ Ok (no_value, vs) →
+    length vs < length ts
+args_fewer end room ts us vs a read comma =
+    leaves (length ts) _ no_value vs comma (comma_leaves ends_arguments end no_value us (length ts)
+    (leaves (length ts) _ a us read (argument_leaves end room ts)))
+
 pub args_go : (end : Place) (room : ℕ) (whole : Read Arguments) (all : Arguments) (ts us vs : List Token)
     (a : Option (List ℕ) × Expression) → at_end_of_arguments ts ≡ false →
     argument_of end (below end room) ts ≡ Ok (a, us) → comma_or ends_arguments end no_value us ≡ Ok (no_value, vs) →
@@ -144,10 +162,9 @@ pub args_go : (end : Place) (room : ℕ) (whole : Read Arguments) (all : Argumen
 args_go end room whole all ts us vs a h read comma =
     goes_on (args_of end (below end room)) whole all (with_argument all a.0 a.1) ts vs
     (λ n enough. args_turn end (below end room) all ts h n enough
-    ∙ (ap (λ r. then_read r (behind_one end (below end room) (n - 1) all)) read
-    ∙ ap (λ r. then_read r (λ _ ws. args_of end (below end room) (n - 1) (with_argument all a.0 a.1) ws)) comma))
-    (leaves (length ts) _ no_value vs comma
-    (comma_leaves ends_arguments end no_value us (length ts) (leaves (length ts) _ a us read (argument_leaves end room ts))))
+    ∙ (ap (λ r. then_read r (behind_one end (below end room) (less n) all)) read
+    ∙ ap (λ r. then_read r (λ _ ws. args_of end (below end room) (less n) (with_argument all a.0 a.1) ws)) comma))
+    (args_fewer end room ts us vs a read comma)
 
 pub args_stop : (end : Place) (room : ℕ) (whole : Read Arguments) (all : Arguments) (ts : List Token)
     (fault : Refusal) → at_end_of_arguments ts ≡ false → argument_of end (below end room) ts ≡ Err fault →
@@ -155,7 +172,7 @@ pub args_stop : (end : Place) (room : ℕ) (whole : Read Arguments) (all : Argum
 args_stop end room whole all ts fault h read =
     stops (args_of end (below end room)) whole (Err fault) all ts
     (λ n enough. args_turn end (below end room) all ts h n enough
-    ∙ ap (λ r. then_read r (behind_one end (below end room) (n - 1) all)) read)
+    ∙ ap (λ r. then_read r (behind_one end (below end room) (less n) all)) read)
 
 pub args_stop_behind : (end : Place) (room : ℕ) (whole : Read Arguments) (all : Arguments) (ts us : List Token)
     (a : Option (List ℕ) × Expression) (fault : Refusal) → at_end_of_arguments ts ≡ false →
@@ -164,8 +181,8 @@ pub args_stop_behind : (end : Place) (room : ℕ) (whole : Read Arguments) (all 
 args_stop_behind end room whole all ts us a fault h read comma =
     stops (args_of end (below end room)) whole (Err fault) all ts
     (λ n enough. args_turn end (below end room) all ts h n enough
-    ∙ (ap (λ r. then_read r (behind_one end (below end room) (n - 1) all)) read
-    ∙ ap (λ r. then_read r (λ _ ws. args_of end (below end room) (n - 1) (with_argument all a.0 a.1) ws)) comma))
+    ∙ (ap (λ r. then_read r (behind_one end (below end room) (less n) all)) read
+    ∙ ap (λ r. then_read r (λ _ ws. args_of end (below end room) (less n) (with_argument all a.0 a.1) ws)) comma))
 
 pub args_end : (end : Place) (room : ℕ) (whole : Read Arguments) (all : Arguments) (ts : List Token) →
     at_end_of_arguments ts ≡ true → Goes (args_of end (below end room)) whole all ts → whole ≡ Ok (all, ts)

@@ -3,6 +3,7 @@
 ghost use Rattle.std.specs.Prelude.{◌≡◌, length, [], IfOk};
 ghost use Rattle.scad_ast.specs.Scope.{item_of, items, parameter};
 ghost use Rattle.scad_grammar.specs.Lists.{with_item};
+ghost use Rattle.scad_grammar.specs.Rules.{in_round_of};
 ghost use Rattle.scad_grammar.specs.StatementRules.{params_of};
 ghost use Rattle.scad_parse.specs.Reading.{Gives, below, rules_at};
 ghost use Rattle.scad_parse.specs.ReadingStatements.{below_statements, statement_rules_at, scope_seen, parameters_seen, heading_seen, heading_read, parameter_of, default_of, default_seen};
@@ -67,7 +68,7 @@ pub(crate) fn function<'a>(
 }
 
 // WORD "(" params ")"
-#[tactic(auto, using(crate::proofs::Statements::rounds), unfolding(crate::specs::ReadingStatements::heading_read))]
+#[tactic(auto, unfolding(crate::specs::ReadingStatements::heading_read))]
 fn heading<'a>(alloc: Global, ts: &'a [Token], end: Place, room: u32) -> Read<'a, (Text, Params)>
     ensures { Gives (heading_read «end» (below_statements «end» room) ts.now) heading_seen result }
 {
@@ -77,10 +78,24 @@ fn heading<'a>(alloc: Global, ts: &'a [Token], end: Place, room: u32) -> Read<'a
     let Some(name) = word(alloc, token)? else {
         return Err(ParseFault::Syntax(token.at));
     };
-    let inside = expect(Sign::OpenRound, rest, end)?;
-    let inner = opened(room, place(rest, end))?;
-    let (params, left) = parameters(alloc, inside, end, inner)?;
+    let (params, left) = round_parameters(alloc, rest, end, room)?;
     Ok(((name, params), left))
+}
+
+// "(" params ")"
+#[tactic(auto, using(crate::proofs::Statements::rounds))]
+fn round_parameters<'a>(
+    alloc: Global,
+    ts: &'a [Token],
+    end: Place,
+    room: u32,
+) -> Read<'a, Params>
+    ensures { Gives (in_round_of «end» (below_statements «end» room) (λ r us. r.params_closed us) ts.now)
+        parameters_seen result }
+{
+    let rest = expect(Sign::OpenRound, ts, end)?;
+    let inner = opened(room, place(ts, end))?;
+    parameters(alloc, rest, end, inner)
 }
 
 // params = list of WORD ["=" expr], and ")"

@@ -77,7 +77,7 @@ abbrev pub decreases-vector::brackets : goal.decreases-vector::brackets
 decreases-vector::brackets l = 512 * l.room + 305
 
 abbrev pub decreases-vector::range : goal.decreases-vector::range
-decreases-vector::range l = 512 * l.room + 302
+decreases-vector::range l = 512 * l.room + 303
 
 abbrev pub decreases-vector::ranged : goal.decreases-vector::ranged
 decreases-vector::ranged l = 512 * l.room + 302

@@ -18,19 +18,19 @@ abbrev pub decreases-instance::child : goal.decreases-instance::child
 decreases-instance::child l = 8 * l.room + 1
 
 abbrev pub decreases-instance::choice : goal.decreases-instance::choice
-decreases-instance::choice l = 8 * l.room + 2
+decreases-instance::choice l = 8 * l.room + 3
 
 abbrev pub decreases-instance::first : goal.decreases-instance::first
 decreases-instance::first l = 8 * l.room + 0
 
 abbrev pub decreases-instance::marked : goal.decreases-instance::marked
-decreases-instance::marked l = 8 * l.room + 4
+decreases-instance::marked l = 8 * l.room + 5
 
 abbrev pub decreases-instance::otherwise : goal.decreases-instance::otherwise
 decreases-instance::otherwise l = 8 * l.room + 2
 
 abbrev pub decreases-instance::run : goal.decreases-instance::run
-decreases-instance::run l = 8 * l.room + 3
+decreases-instance::run l = 8 * l.room + 4
 
 abbrev pub decreases-statement::definition : goal.decreases-statement::definition
 decreases-statement::definition l = 8 * l.room + 1
@@ -42,7 +42,7 @@ abbrev pub decreases-statement::statement : goal.decreases-statement::statement
 decreases-statement::statement l = 8 * l.room + 3
 
 abbrev pub decreases-statement::word_behind : goal.decreases-statement::word_behind
-decreases-statement::word_behind l = 8 * l.room + 2
+decreases-statement::word_behind l = 8 * l.room + 3
 
 abbrev pub invariant-statement::group-statements : goal.invariant-statement::group-statements
 invariant-statement::group-statements l =
