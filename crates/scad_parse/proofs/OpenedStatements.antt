@@ -1,11 +1,13 @@
 -- Rules of statements whose first token opens a construct, once the descent has found room for it.
-use Rattle.std.proofs.Common.{◌≡◌, ℕ, ◌-◌, Bool, true, false, List, ◌∷◌, Some, length, refl, sym, ap, ◌∙◌}
+use Rattle.std.proofs.Common.{◌≡◌, ℕ, ◌-◌, Bool, true, false, List, [], ◌∷◌, Some, length, refl, sym, ap, ◌∙◌}
 use Rattle.std.specs.Prelude.{◌≢◌}
 use Rattle.std.proofs.lemmas.Bool.{cond-true, cond-false}
 use Rattle.scad_fault.specs.declared.place.Place.{Place}
 use Rattle.scad_lex.specs.declared.token.Token.{Token}
 use Rattle.scad_lex.specs.declared.token.Sign.TheVariants.{OpenCurly, Semicolon}
 use Rattle.scad_ast.specs.Tree.{Items, no_items}
+use Rattle.scad_ast.specs.Scope.{items}
+use Rattle.scad_ast.specs.declared.statement.Item.{Item}
 use Rattle.scad_grammar.specs.Tokens.{is_sign, word_of}
 use Rattle.scad_grammar.specs.Rules.{Read, deeper}
 use Rattle.scad_grammar.specs.StatementRules.{StatementRules, child_of, statement_of, start_of, group_of, word_behind_of}
@@ -20,12 +22,15 @@ deep end room inner some less at f =
 
 module _ (end : Place) (room inner : ℕ) (some : room ≢ 0) (less : inner ≡ room - 1) (t : Token) (ts us : List Token)
     (is : ts ≡ t ∷ us) where
-  pub group_child : is_sign Semicolon t ≡ false → is_sign OpenCurly t ≡ true → child_of end (below_statements end room) ts
-      ≡ group_of end (below_statements end inner) (length us) false no_items us
+  -- the scope of a child is empty at first
+  pub group_child : (inside : List Item) → inside ≡ [] → is_sign Semicolon t ≡ false → is_sign OpenCurly t ≡ true →
+      child_of end (below_statements end room) ts
+      ≡ group_of end (below_statements end inner) (length us) false (items inside) us
   unfolding child_of
-  group_child a h =
+  group_child inside empty a h =
       ap (child_of end (below_statements end room)) is ∙ (cond-false _ _ _ a ∙ (cond-true _ _ _ h
-      ∙ deep end room inner some less t.at (λ r. r.group false no_items us)))
+      ∙ (deep end room inner some less t.at (λ r. r.group false no_items us)
+      ∙ ap (λ xs. group_of end (below_statements end inner) (length us) false (items xs) us) (sym empty))))
 
   pub group_here : (d : Bool) (all : Items) → is_sign Semicolon t ≡ false → is_sign OpenCurly t ≡ true →
       statement_of end (below_statements end room) d all ts

@@ -5,15 +5,14 @@ use Rattle.scad_fault.specs.declared.place.Place.{Place}
 use Rattle.scad_lex.specs.declared.token.Token.{Token}
 use Rattle.scad_lex.specs.declared.token.Sign.TheVariants.{OpenRound, Star, Percent, Hash}
 use Rattle.scad_lex.specs.declared.token.Key.TheVariants.{Else}
-use Rattle.scad_ast.specs.Tree.{Expression, Parameter, Items, no_items, entry, choice}
+use Rattle.scad_ast.specs.Tree.{Expression, Parameter, Items, no_items, entry, choice, module_of}
 use Rattle.scad_ast.specs.Scope.{item_of, items}
 use Rattle.scad_ast.specs.declared.statement.Item.{Item}
-use Rattle.scad_ast.proofs.ScopeRows.{module_view}
 use Rattle.scad_grammar.specs.Tokens.{begins_with, is_sign, is_key, word_of}
 use Rattle.scad_grammar.specs.Lists.{with_item, with_statement, Marks, starred, percented, hashed}
 use Rattle.scad_grammar.specs.Machine.{syntax_at}
 use Rattle.scad_grammar.specs.Rules.{Read, then_read, Rules, deeper}
-use Rattle.scad_grammar.specs.StatementRules.{StatementRules, child_of, otherwise_of, heading_of, heading_by, marked_of}
+use Rattle.scad_grammar.specs.StatementRules.{StatementRules, statement_of, child_of, otherwise_of, heading_of, heading_by, marked_of}
 use Rattle.scad_parse.specs.Reading.{below, rules_at, behind, place_of}
 use Rattle.scad_parse.specs.ReadingStatements.{below_statements, statement_rules_at, heading_read, other_of, unmarked_of, begins_with_mark, with_first_mark}
 use Rattle.scad_parse.proofs.Rules.{below_none, below_more, sign_here, sign_missing, round_here, round_missing}
@@ -62,7 +61,20 @@ headed end lower f (t ∷ ts) = by (word_of t)
 
 pub ruleset heads = (headed, sign_here, sign_missing)
 
-pub ruleset modules = (headed, module_view)
+-- a module, once its heading was read; its own scope is empty at first
+pub module_headed : (end : Place) (room : ℕ) (at : Place) (all : Items) (inside : List Item) (w : List ℕ)
+    (params : List Parameter) (ts us : List Token) → inside ≡ [] →
+    heading_read end (below_statements end room) ts ≡ Ok ((w, params), us) →
+    (statement_rules_at end room).module_behind at all ts
+    ≡ then_read (statement_of end (below_statements end room) true (items inside) us)
+    (λ body vs. Ok (with_item all (module_of at w params body), vs))
+module_headed end room at all inside w params ts us empty read =
+    let f = λ (w : List ℕ) (params : List Parameter) (us : List Token). then_read
+    (statement_of end (below_statements end room) true no_items us)
+    (λ body vs. Ok (with_item all (module_of at w params body), vs)) in
+    headed end (below_statements end room) f ts ∙ (ap (λ r. then_read r (λ h vs. f h.0 h.1 vs)) read
+    ∙ ap (λ xs. then_read (statement_of end (below_statements end room) true (items xs) us)
+    (λ body vs. Ok (with_item all (module_of at w params body), vs))) (sym empty))
 
 -- ["else" child], and the `if` that it ends
 pub otherwise_other : (end : Place) (lower : Option StatementRules) (at : Place) (m : Marks) (e : Expression)

@@ -33,7 +33,7 @@ pub(crate) fn pushed(scope: Scope, item: Item) -> Result<Scope, AllocError>
 
 // WORD "(" params ")" stmt, behind the "module"
 #[cycle(statement)]
-#[tactic(auto, using(crate::proofs::Statements::modules))]
+#[tactic(auto, using(crate::proofs::Statements::headed))]
 pub(crate) fn module<'a>(
     alloc: Global,
     at: Place,
