@@ -1,8 +1,2 @@
-mod Groups
-mod Members
-mod Opened
-mod OpenedStatements
-mod Pushes
-mod Rules
-mod Statements
-mod Turns
+mod loops
+mod rules

@@ -17,7 +17,7 @@ use std::alloc::Global;
 
 // "(" args ")"
 #[cycle(expression)]
-#[tactic(auto, using(crate::proofs::Rules::rounds))]
+#[tactic(auto, using(crate::proofs::rules::Room::rounds))]
 pub(crate) fn round_arguments<'a>(
     alloc: Global,
     ts: &'a [Token],
@@ -33,7 +33,7 @@ pub(crate) fn round_arguments<'a>(
 
 // args ")"
 #[cycle(expression)]
-#[tactic(auto, using(crate::proofs::Rules::signs))]
+#[tactic(auto, using(crate::proofs::rules::Room::signs))]
 pub(crate) fn closed_arguments<'a>(
     alloc: Global,
     ts: &'a [Token],

@@ -20,7 +20,7 @@ use scad_lex::{Sign, Token};
 use std::alloc::{AllocError, Global};
 
 /// The scope with one more item.
-#[tactic(auto, using(crate::proofs::Statements::items_push))]
+#[tactic(auto, using(crate::proofs::rules::Statements::items_push))]
 pub(crate) fn pushed(scope: Scope, item: Item) -> Result<Scope, AllocError>
     ensures { IfOk result (λ all. items all.items ≡ with_item (items scope.items) (item_of item)) }
 {
@@ -33,7 +33,7 @@ pub(crate) fn pushed(scope: Scope, item: Item) -> Result<Scope, AllocError>
 
 // WORD "(" params ")" stmt, behind the "module"
 #[cycle(statement)]
-#[tactic(auto, using(crate::proofs::Statements::headed))]
+#[tactic(auto, using(crate::proofs::rules::Statements::headed))]
 pub(crate) fn module<'a>(
     alloc: Global,
     at: Place,
@@ -50,7 +50,7 @@ pub(crate) fn module<'a>(
 }
 
 // WORD "(" params ")" "=" expr ";", behind the "function"
-#[tactic(auto, using(crate::proofs::Statements::heads))]
+#[tactic(auto, using(crate::proofs::rules::Statements::heads))]
 pub(crate) fn function<'a>(
     alloc: Global,
     at: Place,
@@ -83,7 +83,7 @@ fn heading<'a>(alloc: Global, ts: &'a [Token], end: Place, room: u32) -> Read<'a
 }
 
 // "(" params ")"
-#[tactic(auto, using(crate::proofs::Statements::rounds))]
+#[tactic(auto, using(crate::proofs::rules::Statements::rounds))]
 fn round_parameters<'a>(
     alloc: Global,
     ts: &'a [Token],

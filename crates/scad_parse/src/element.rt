@@ -21,7 +21,7 @@ use std::alloc::Global;
 
 // elem = comp | expr
 #[cycle(expression)]
-#[tactic(auto, using(crate::proofs::Rules::room), unfolding(scad_grammar::specs::Rules::elem_of))]
+#[tactic(auto, using(crate::proofs::rules::Room::room), unfolding(scad_grammar::specs::Rules::elem_of))]
 pub(crate) fn element<'a>(alloc: Global, ts: &'a [Token], end: Place, room: u32) -> Read<'a, Elem>
     ensures { Gives (elem_of «end» (below «end» room) ts.now) element_of result }
 {
@@ -55,7 +55,7 @@ pub(crate) fn element<'a>(alloc: Global, ts: &'a [Token], end: Place, room: u32)
 
 // ["else" elem], behind a test and the element that it holds
 #[cycle(expression)]
-#[tactic(auto, using(crate::proofs::Rules::room))]
+#[tactic(auto, using(crate::proofs::rules::Room::room))]
 fn otherwise<'a>(
     alloc: Global,
     at: Place,
@@ -80,7 +80,7 @@ fn otherwise<'a>(
 
 // "(" args ")" elem | "(" args ";" expr ";" args ")" elem, behind the "for"
 #[cycle(expression)]
-#[tactic(auto, using(crate::proofs::Rules::rounds))]
+#[tactic(auto, using(crate::proofs::rules::Room::rounds))]
 fn for_element<'a>(
     alloc: Global,
     at: Place,

@@ -53,7 +53,7 @@ pub(crate) fn expression<'a>(
 
 // ("let" | "assert" | "echo") "(" args ")" expr, behind the keyword
 #[cycle(expression)]
-#[tactic(auto, using(crate::proofs::Rules::room))]
+#[tactic(auto, using(crate::proofs::rules::Room::room))]
 fn bound<'a>(
     alloc: Global,
     binder: Binder,
@@ -72,7 +72,7 @@ fn bound<'a>(
 
 // ["?" expr ":" expr], behind the test
 #[cycle(expression)]
-#[tactic(auto, using(crate::proofs::Rules::room), unfolding(scad_grammar::specs::Rules::choice_of))]
+#[tactic(auto, using(crate::proofs::rules::Room::room), unfolding(scad_grammar::specs::Rules::choice_of))]
 fn choice<'a>(alloc: Global, test: Expr, ts: &'a [Token], end: Place, room: u32) -> Read<'a, Expr>
     ensures { Gives (choice_of «end» (below «end» room) (expression_of test) ts.now) expression_of result }
 {
@@ -90,7 +90,7 @@ fn choice<'a>(alloc: Global, test: Expr, ts: &'a [Token], end: Place, room: u32)
 
 // expr, and behind it the sign
 #[cycle(expression)]
-#[tactic(auto, using(crate::proofs::Rules::signs))]
+#[tactic(auto, using(crate::proofs::rules::Room::signs))]
 pub(crate) fn closed<'a>(
     alloc: Global,
     sign: Sign,
@@ -107,7 +107,7 @@ pub(crate) fn closed<'a>(
 
 // "(" expr ")"
 #[cycle(expression)]
-#[tactic(auto, using(crate::proofs::Rules::rounds))]
+#[tactic(auto, using(crate::proofs::rules::Room::rounds))]
 pub(crate) fn round_expression<'a>(
     alloc: Global,
     ts: &'a [Token],

@@ -25,7 +25,14 @@ use std::alloc::{AllocError, Global};
 
 // inst = mark* (call child | "if" "(" expr ")" child ["else" child]), of which the first token is given apart
 #[cycle(statement)]
-#[tactic(auto, using(crate::proofs::Statements::room), unfolding(scad_grammar::specs::StatementRules::first_of, scad_grammar::specs::StatementRules::marked_first))]
+#[tactic(
+    auto,
+    using(crate::proofs::rules::Statements::room),
+    unfolding(
+        scad_grammar::specs::StatementRules::first_of,
+        scad_grammar::specs::StatementRules::marked_first
+    )
+)]
 pub(crate) fn first<'a>(
     alloc: Global,
     scope: Scope,
@@ -190,7 +197,7 @@ pub(crate) fn call<'a>(
 
 // "(" expr ")" child ["else" child], behind the "if"
 #[cycle(statement)]
-#[tactic(auto, using(crate::proofs::Statements::otherwise_other))]
+#[tactic(auto, using(crate::proofs::rules::Statements::otherwise_other))]
 fn choice<'a>(
     alloc: Global,
     at: Place,
@@ -226,7 +233,7 @@ fn otherwise<'a>(alloc: Global, ts: &'a [Token], end: Place, room: u32) -> Read<
 
 // child = ";" | "{" body* "}" | inst
 #[cycle(statement)]
-#[tactic(auto, using(crate::proofs::Statements::room), unfolding(scad_grammar::specs::StatementRules::child_of))]
+#[tactic(auto, using(crate::proofs::rules::Statements::room), unfolding(scad_grammar::specs::StatementRules::child_of))]
 fn child<'a>(alloc: Global, ts: &'a [Token], end: Place, room: u32) -> Read<'a, Scope>
     ensures { Gives (child_of «end» (below_statements «end» room) ts.now) scope_seen result }
 {

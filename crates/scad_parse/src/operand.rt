@@ -23,7 +23,7 @@ use std::alloc::Global;
 // add = mul (("+"|"-") mul)*      mul = unary (("*"|"/"|"%") unary)*
 // An operand of the so many tightest of these lines.
 #[cycle(expression)]
-#[tactic(auto, using(crate::proofs::Rules::lines))]
+#[tactic(auto, using(crate::proofs::rules::Room::lines))]
 pub(crate) fn operand<'a>(
     alloc: Global,
     lines: u8,
@@ -43,7 +43,7 @@ pub(crate) fn operand<'a>(
 
 // (operator operand)*, behind the operands so far
 #[cycle(expression)]
-#[tactic(auto, using(crate::proofs::Rules::room), unfolding(scad_grammar::specs::Rules::links_of))]
+#[tactic(auto, using(crate::proofs::rules::Room::room), unfolding(scad_grammar::specs::Rules::links_of))]
 fn links<'a>(
     alloc: Global,
     line: u8,
@@ -92,7 +92,7 @@ fn unary<'a>(alloc: Global, ts: &'a [Token], end: Place, room: u32) -> Read<'a, 
 
 // unary, behind a prefix operator
 #[cycle(expression)]
-#[tactic(auto, using(crate::proofs::Rules::room))]
+#[tactic(auto, using(crate::proofs::rules::Room::room))]
 fn prefixed<'a>(
     alloc: Global,
     at: Place,
@@ -110,7 +110,7 @@ fn prefixed<'a>(
 
 // ("[" expr "]" | "." WORD)*, behind the prim of a post
 #[cycle(expression)]
-#[tactic(auto, using(crate::proofs::Rules::room), unfolding(scad_grammar::specs::Rules::posts_of))]
+#[tactic(auto, using(crate::proofs::rules::Room::room), unfolding(scad_grammar::specs::Rules::posts_of))]
 fn posts<'a>(alloc: Global, value: Expr, ts: &'a [Token], end: Place, room: u32) -> Read<'a, Expr>
     ensures { Gives (posts_of «end» (below «end» room) (expression_of value) ts.now) expression_of result }
 {
@@ -135,7 +135,7 @@ fn posts<'a>(alloc: Global, value: Expr, ts: &'a [Token], end: Place, room: u32)
 
 // expr "]" behind the "[" of an index, which opens two constructs
 #[cycle(expression)]
-#[tactic(auto, using(crate::proofs::Rules::room))]
+#[tactic(auto, using(crate::proofs::rules::Room::room))]
 fn indexed<'a>(alloc: Global, at: Place, ts: &'a [Token], end: Place, room: u32) -> Read<'a, Expr>
     ensures { Gives ((above «end» (below «end» room)).indexed at ts.now) expression_of result }
 {

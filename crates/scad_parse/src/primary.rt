@@ -23,7 +23,7 @@ use std::alloc::Global;
 //      | range | vector
 // The first token is given apart.
 #[cycle(expression)]
-#[tactic(auto, using(crate::proofs::Rules::room), unfolding(scad_grammar::specs::Rules::prim_of))]
+#[tactic(auto, using(crate::proofs::rules::Room::room), unfolding(scad_grammar::specs::Rules::prim_of))]
 pub(crate) fn primary<'a>(
     alloc: Global,
     token: &Token,
@@ -52,7 +52,7 @@ pub(crate) fn primary<'a>(
 
 // ["(" args ")"] behind a word
 #[cycle(expression)]
-#[tactic(auto, using(crate::proofs::Rules::room))]
+#[tactic(auto, using(crate::proofs::rules::Room::room))]
 fn named<'a>(
     alloc: Global,
     at: Place,

@@ -23,7 +23,14 @@ use std::alloc::Global;
 // body = ";" | "{" body* "}" | assign | inst
 // Where definitions may not stand, it is a body.
 #[cycle(statement)]
-#[tactic(auto, using(crate::proofs::Statements::room), unfolding(scad_grammar::specs::StatementRules::statement_of, scad_grammar::specs::StatementRules::definition_of))]
+#[tactic(
+    auto,
+    using(crate::proofs::rules::Statements::room),
+    unfolding(
+        scad_grammar::specs::StatementRules::statement_of,
+        scad_grammar::specs::StatementRules::definition_of
+    )
+)]
 pub(crate) fn statement<'a>(
     alloc: Global,
     definitions: bool,
@@ -65,8 +72,8 @@ pub(crate) fn group<'a>(
     end: Place,
     room: u32,
 ) -> Read<'a, Scope>
-    ensures { Gives (group_of «end» (below_statements «end» room) (length ts.now) definitions (items scope.items) ts.now)
-        scope_seen result }
+    ensures { Gives (group_of «end» (below_statements «end» room) (length ts.now) definitions (items scope.items)
+        ts.now) scope_seen result }
 {
     let mut all = scope;
     let mut left = ts;
@@ -104,7 +111,11 @@ fn word_behind<'a>(
 
 // module | function | inst, of which the first token is given apart
 #[cycle(statement)]
-#[tactic(auto, using(crate::proofs::Statements::room), unfolding(scad_grammar::specs::StatementRules::definition_of))]
+#[tactic(
+    auto,
+    using(crate::proofs::rules::Statements::room),
+    unfolding(scad_grammar::specs::StatementRules::definition_of)
+)]
 fn definition<'a>(
     alloc: Global,
     scope: Scope,

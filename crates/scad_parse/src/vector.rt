@@ -45,7 +45,7 @@ pub(crate) fn brackets<'a>(
 }
 
 /// The expression with which a range begins: the element, where it is the first.
-#[tactic(auto, using(crate::proofs::Pushes::no_start))]
+#[tactic(auto, using(crate::proofs::loops::Pushes::no_start))]
 fn range_start(all: &Elems, first: Elem) -> Option<Expr>
     ensures { option_map expression_of result ≡ range_start (elements all.now.items) (element_of first) }
 {

@@ -3,8 +3,8 @@ use Rattle.scad_ast.specs.Tree.{no_arguments, no_elements}
 use Rattle.scad_ast.specs.View.{arguments, elements}
 use Rattle.scad_grammar.specs.Rules.{args_of}
 use Rattle.scad_parse.specs.Reading.{below}
-use Rattle.scad_parse.proofs.Turns.{Goes}
-use Rattle.scad_parse.proofs.Members.{elements_at}
+use Rattle.scad_parse.proofs.loops.Elements.{elements_at}
+use Rattle.scad_parse.proofs.loops.Turns.{Goes}
 use Rattle.scad_parse.proofs.+expression.Given as goal
 
 abbrev pub decreases-argument::argument : goal.decreases-argument::argument

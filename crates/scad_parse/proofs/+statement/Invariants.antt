@@ -4,8 +4,8 @@ use Rattle.scad_ast.specs.Scope.{items}
 use Rattle.scad_grammar.specs.StatementRules.{marked_of}
 use Rattle.scad_parse.specs.Reading.{rules_at}
 use Rattle.scad_parse.specs.ReadingStatements.{below_statements, marks_of}
-use Rattle.scad_parse.proofs.Turns.{Goes}
-use Rattle.scad_parse.proofs.Groups.{group_at}
+use Rattle.scad_parse.proofs.loops.Groups.{group_at}
+use Rattle.scad_parse.proofs.loops.Turns.{Goes}
 use Rattle.scad_parse.proofs.+statement.Given as goal
 
 abbrev pub decreases-definition::module : goal.decreases-definition::module

@@ -2,7 +2,7 @@ use Rattle.std.proofs.Common.{◌≡◌, ◌+◌, ◌≤◌, length}
 use Rattle.scad_ast.specs.Tree.{no_items}
 use Rattle.scad_ast.specs.Scope.{items}
 use Rattle.scad_grammar.specs.StatementRules.{program_from, descent}
-use Rattle.scad_parse.proofs.Turns.{Goes}
+use Rattle.scad_parse.proofs.loops.Turns.{Goes}
 use Rattle.scad_parse.proofs.descent.parse.Given as goal
 
 -- the items so far, and what is left

@@ -15,7 +15,7 @@ use Rattle.scad_grammar.specs.Rules.{Read, then_read, Rules, deeper}
 use Rattle.scad_grammar.specs.StatementRules.{StatementRules, statement_of, child_of, otherwise_of, heading_of, heading_by, marked_of}
 use Rattle.scad_parse.specs.Reading.{below, rules_at, behind, place_of}
 use Rattle.scad_parse.specs.ReadingStatements.{below_statements, statement_rules_at, heading_read, other_of, unmarked_of, begins_with_mark, with_first_mark}
-use Rattle.scad_parse.proofs.Rules.{below_none, below_more, sign_here, sign_missing, round_here, round_missing}
+use Rattle.scad_parse.proofs.rules.Room.{below_none, below_more, sign_here, sign_missing, round_here, round_missing}
 
 pub below_none_statements : (end : Place) (room : ℕ) → room ≡ 0 → below_statements end room ≡ None
 unfolding below_statements

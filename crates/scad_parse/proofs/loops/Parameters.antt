@@ -1,4 +1,4 @@
--- The turns of the loops over parameters, the statements of a group and those of a program.
+-- The turns of the loop over the parameters of a definition.
 use Rattle.std.proofs.Common.{◌≡◌, ℕ, zero, suc, ◌-◌, ◌<◌, ◌≤◌, ◌++◌, map, Bool, true, false, List, [], ◌∷◌, Option, Some, None, Ok, Err, length, refl, sym, ap, subst, ◌∙◌, arith}
 use Rattle.std.specs.Prelude.{Result, ◌==◌, ◌≢◌, if◌then◌else◌}
 use Rattle.std.proofs.lemmas.Bool.{cond-true, cond-false}
@@ -23,9 +23,8 @@ use Rattle.scad_parse.specs.declared.fault.ParseFault.TheVariants.{Memory, Synta
 use Rattle.scad_parse.specs.JudgedFault.{JudgedFault}
 use Rattle.scad_parse.specs.Reading.{below, rules_at, behind, place_of, comma_or, no_value, refusal}
 use Rattle.scad_parse.specs.ReadingStatements.{below_statements, statement_rules_at, parameter_of, parameter_by, default_of}
-use Rattle.scad_parse.proofs.Turns.{Goes, less, goes_on, stops, leaves, comma_leaves, fewer, rules_are}
+use Rattle.scad_parse.proofs.loops.Turns.{Goes, less, goes_on, stops, leaves, comma_leaves, fewer}
 
--- ---- parameters
 -- a parameter as the list's last
 abbrev pub with_param : List Parameter → Parameter → List Parameter
 with_param all p = with_parameter all p.name p.default
@@ -45,7 +44,8 @@ params_more end same n all (t ∷ us) = by n (is_sign Comma t) (is_sign CloseRou
   where
     by : (n : ℕ) (comma ends : Bool) → is_sign CloseRound t ≡ ends →
         (if comma then params_of end same n all us else (if ends then Ok (all, us) else Err (syntax_at t.at)))
-        ≡ then_read (if comma then Ok (no_value, us) else (if ends then Ok (no_value, t ∷ us) else Err (syntax_at t.at)))
+        ≡ then_read
+        (if comma then Ok (no_value, us) else (if ends then Ok (no_value, t ∷ us) else Err (syntax_at t.at)))
         (λ _ vs. params_of end same n all vs)
     by n true ends h = refl
     by zero false true h = sym (cond-true _ _ _ h)
@@ -57,10 +57,12 @@ module _ (end : Place) (room : ℕ) where
   params_at n all ts = params_of end (rules_at end room) n all ts
 
   abbrev pub behind_param : ℕ → List Parameter → Parameter → List Token → Read (List Parameter)
-  behind_param n all p us = then_read (comma_or (is_sign CloseRound) end no_value us) (λ _ vs. params_at n (with_param all p) vs)
+  behind_param n all p us =
+      then_read (comma_or (is_sign CloseRound) end no_value us) (λ _ vs. params_at n (with_param all p) vs)
 
   named_same : (n : ℕ) (all : List Parameter) (w : List ℕ) (ts : List Token) →
-      param_of end (rules_at end room) (λ d us. more_params end (params_at n (with_parameter all w d)) (with_parameter all w d) us) ts
+      param_of end (rules_at end room)
+      (λ d us. more_params end (params_at n (with_parameter all w d)) (with_parameter all w d) us) ts
       ≡ then_read (then_read (default_of end (below end room) ts)
       (λ d us. Ok (record { name = w; default = d }, us))) (behind_param n all)
   unfolding default_of
@@ -149,111 +151,3 @@ module _ (end : Place) (room : ℕ) where
       begins_with CloseRound ts ≡ true → Goes params_at whole all ts → whole ≡ Ok (all, behind ts)
   params_end whole all ts h = stops params_at whole (Ok (all, behind ts)) all ts (params_last all ts h)
 
--- ---- groups
-pub statement_rules_are : (end : Place) (room : ℕ) → statement_rules end room ≡ statement_rules_at end room
-unfolding below below_statements
-statement_rules_are end zero = ap (λ r. above_statements end r None) (rules_are end zero)
-statement_rules_are end (suc room) =
-    ap (λ r. above_statements end r (Some (statement_rules end room))) (rules_are end (suc room))
-    ∙ ap (λ r. above_statements end (rules_at end (suc room)) (Some r)) (statement_rules_are end room)
-
-pub fewer_statements : (end : Place) (room : ℕ) → FewerStatements (statement_rules_at end room)
-fewer_statements end room = subst FewerStatements (statement_rules_are end room) (statements_fewer end room)
-
-module _ (end : Place) (room : ℕ) (d : Bool) where
-  abbrev pub group_at : ℕ → Items → List Token → Read Items
-  group_at n all ts = group_of end (below_statements end room) n d all ts
-
-  group_turn : (all : Items) (ts : List Token) → begins_with CloseCurly ts ≡ false → (n : ℕ) → length ts ≤ n →
-      group_at n all ts
-      ≡ then_read (statement_of end (below_statements end room) d all ts) (λ b us. group_at (less n) b us)
-  unfolding group_of statement_of
-  group_turn all [] h zero enough = refl
-  group_turn all [] h (suc n) enough = refl
-  group_turn all (t ∷ ts) h zero enough = absurd (let no : ⊥ = omega (arith, enough) in no)
-  group_turn all (t ∷ ts) h (suc n) enough = cond-false _ _ _ h
-
-  group_last : (all : Items) (ts : List Token) → begins_with CloseCurly ts ≡ true → (n : ℕ) → length ts ≤ n →
-      group_at n all ts ≡ Ok (all, behind ts)
-  unfolding group_of
-  group_last all [] h n enough = absurd (cc)
-  group_last all (t ∷ ts) h zero enough = cond-true _ _ _ h
-  group_last all (t ∷ ts) h (suc n) enough = cond-true _ _ _ h
-
-  -- a statement takes tokens
-  pub group_fewer : (all b : Items) (ts us : List Token) →
-      statement_of end (below_statements end room) d all ts ≡ Ok (b, us) → length us < length ts
-  group_fewer all b ts us read = leaves (length ts) _ b us read ((fewer_statements end room).statement d all ts)
-
-  module _ (whole : Read Items) (all : Items) (ts : List Token) (more : begins_with CloseCurly ts ≡ false)
-      (g : Goes group_at whole all ts) where
-    pub group_goes : (us : List Token) (b : Items) → statement_of end (below_statements end room) d all ts ≡ Ok (b, us) →
-        Goes group_at whole b us
-    group_goes us b read =
-        goes_on group_at whole all b ts us (λ n enough. group_turn all ts more n enough
-        ∙ ap (λ r. then_read r (λ b us. group_at (less n) b us)) read)
-        (group_fewer all b ts us read) g
-
-    pub group_stops : (fault : Refusal) → statement_of end (below_statements end room) d all ts ≡ Err fault →
-        whole ≡ Err fault
-    group_stops fault read =
-        stops group_at whole (Err fault) all ts (λ n enough. group_turn all ts more n enough
-        ∙ ap (λ r. then_read r (λ b us. group_at (less n) b us)) read) g
-
-  pub group_ends : (whole : Read Items) (all : Items) (ts : List Token) → begins_with CloseCurly ts ≡ true →
-      Goes group_at whole all ts → whole ≡ Ok (all, behind ts)
-  group_ends whole all ts h = stops group_at whole (Ok (all, behind ts)) all ts (group_last all ts h)
-
--- ---- a program
--- what a program goes on with, once a statement was read
-abbrev pub program_behind : Place → ℕ → Read Items → Result Items Refusal
-program_behind end n r = elim r as (λ x. Result Items Refusal) [ Ok r ↦ program_from end n r.0 r.1 | Err fault ↦ Err fault ]
-
-module _ (end : Place) where
-  program_turn : (all : Items) (ts : List Token) → (length ts == 0) ≡ false → (n : ℕ) → length ts ≤ n →
-      program_from end n all ts ≡ program_behind end (less n) (statement_of end (below_statements end most_open) true all ts)
-  unfolding program_from
-  program_turn all [] h n enough = absurd (cc)
-  program_turn all (t ∷ ts) h zero enough = absurd (let no : ⊥ = omega (arith, enough) in no)
-  program_turn all (t ∷ ts) h (suc n) enough =
-      ap (λ (r : StatementRules). program_behind end n (r.statement true all (t ∷ ts))) (statement_rules_are end most_open)
-
-  program_last : (all : Items) (ts : List Token) → (length ts == 0) ≡ true → (n : ℕ) → length ts ≤ n →
-      program_from end n all ts ≡ Ok all
-  unfolding program_from
-  program_last all [] h n enough = refl
-  program_last all (t ∷ ts) h n enough = absurd (let z : length (t ∷ ts) ≡ 0 = search (arith, h) in omega (arith, z))
-
-  pub program_goes : (whole : Result Items Refusal) (all b : Items) (ts us : List Token) → (length ts == 0) ≡ false →
-      Goes (program_from end) whole all ts →
-      statement_of end (below_statements end most_open) true all ts ≡ Ok (b, us) → Goes (program_from end) whole b us
-  program_goes whole all b ts us h g read =
-      goes_on (program_from end) whole all b ts us
-      (λ n enough. program_turn all ts h n enough ∙ ap (program_behind end (less n)) read)
-      (group_fewer end most_open true all b ts us read) g
-
-  pub program_stops : (whole : Result Items Refusal) (all : Items) (ts : List Token) (fault : Refusal) →
-      (length ts == 0) ≡ false → Goes (program_from end) whole all ts →
-      statement_of end (below_statements end most_open) true all ts ≡ Err fault → whole ≡ Err fault
-  program_stops whole all ts fault h g read =
-      stops (program_from end) whole (Err fault) all ts
-      (λ n enough. program_turn all ts h n enough ∙ ap (program_behind end (less n)) read) g
-
-  pub program_ends : (whole : Result Items Refusal) (all : Items) (ts : List Token) → (length ts == 0) ≡ true →
-      Goes (program_from end) whole all ts → whole ≡ Ok all
-  program_ends whole all ts h = stops (program_from end) whole (Ok all) all ts (program_last all ts h)
-
--- the answers, in the grammar's words
-pub judged_program : (a : Items) (ts : List Token) (end : Place) → descent ts end ≡ Ok a → Judged [] ts end (Ok a)
-judged_program a ts end h = (judges_as_the_grammar ts end (Ok a)).1 (sym (descent_is_the_reader ts end) ∙ h)
-
-judged_refusal : (ts : List Token) (end : Place) (fault : Refusal) → descent ts end ≡ Err fault →
-    Judged [] ts end (Err fault)
-judged_refusal ts end fault h = (judges_as_the_grammar ts end (Err fault)).1 (sym (descent_is_the_reader ts end) ∙ h)
-
-pub judged_fault : (ts : List Token) (end : Place) (fault : ParseFault) →
-    (fault ≢ Memory → descent ts end ≡ Err (refusal fault)) → JudgedFault ts end fault
-judged_fault ts end Memory h = tt
-judged_fault ts end (Syntax at) h = judged_refusal ts end (syntax_at at) (h (λ e. absurd (cc)))
-judged_fault ts end (Nesting at) h = judged_refusal ts end (nesting_at at) (h (λ e. absurd (cc)))
-judged_fault ts end (LeftOut at name) h = judged_refusal ts end (left_out_at at name) (h (λ e. absurd (cc)))

@@ -12,7 +12,7 @@ use Rattle.scad_grammar.specs.Machine.{Refusal, syntax_at}
 use Rattle.scad_grammar.specs.Steps.{range_start}
 use Rattle.scad_grammar.specs.Rules.{Read, then_read, Rules, elem_of, elements_of, more_elements, range_by}
 use Rattle.scad_parse.specs.Reading.{below, behind, place_of, comma_or, no_value}
-use Rattle.scad_parse.proofs.Turns.{Goes, less, goes_on, stops, leaves, comma_leaves, fewer}
+use Rattle.scad_parse.proofs.loops.Turns.{Goes, less, goes_on, stops, leaves, comma_leaves, fewer}
 
 -- what a list of elements goes on with, behind one that no `:` follows
 abbrev pub behind_element : Place → Option Rules → Place → ℕ → Elements → Element → List Token → Read Expression
@@ -41,7 +41,8 @@ more_comma end lower at n all el (t ∷ us) h =
     by : (n : ℕ) (comma ends : Bool) → is_sign CloseSquare t ≡ ends →
         (if comma then elements_of end lower n at (with_element all el) us
         else (if ends then Ok (vector at (with_element all el), us) else Err (syntax_at t.at)))
-        ≡ then_read (if comma then Ok (no_value, us) else (if ends then Ok (no_value, t ∷ us) else Err (syntax_at t.at)))
+        ≡ then_read
+        (if comma then Ok (no_value, us) else (if ends then Ok (no_value, t ∷ us) else Err (syntax_at t.at)))
         (λ _ vs. elements_of end lower n at (with_element all el) vs)
     by n true ends e = refl
     by zero false true e = sym (cond-true _ _ _ e)
@@ -82,7 +83,8 @@ module _ (end : Place) (room : ℕ) (at : Place) (whole : Read Expression) (all 
     (more : begins_with CloseSquare ts ≡ false) (g : Goes (elements_at end room at) whole all ts) where
   read_turn : (r : Read Element) (n : ℕ) → length ts ≤ n → elem_of end (below end room) ts ≡ r →
       elements_at end room at n all ts ≡ then_read r (λ el us.
-      more_elements end (below end room) (elements_of end (below end room) (less n) at (with_element all el)) at all el us)
+      more_elements end (below end room) (elements_of end (below end room) (less n) at (with_element all el)) at all
+      el us)
   read_turn r n enough read =
       elements_turn end (below end room) at all ts more n enough
       ∙ ap (λ r. then_read r (λ el us. more_elements end (below end room)
