@@ -14,7 +14,7 @@ use Rattle.scad_parse.specs.declared.node.Binder.{Binder}
 use Rattle.scad_parse.specs.declared.node.Binder.TheVariants.{Let, Assert, Echo}
 use Rattle.scad_grammar.specs.Behind.{Keyed, letting, asserting, echoing}
 use Rattle.scad_grammar.specs.Tokens.{word_of, is_sign}
-use Rattle.scad_grammar.specs.Grammar.{begins_named, ends_arguments}
+use Rattle.scad_grammar.specs.Grammar.{begins_named}
 use Rattle.scad_grammar.specs.Machine.{Refusal, syntax_at, nesting_at, left_out_at}
 use Rattle.scad_grammar.specs.Rules.{Read, then_read, Rules, above, expr_of}
 

@@ -18,7 +18,7 @@ use Rattle.scad_grammar.specs.StatementSteps.{callee}
 use Rattle.scad_grammar.specs.Machine.{syntax_at, left_out_at}
 use Rattle.scad_grammar.specs.Rules.{Read, then_read, Rules, expr_of}
 use Rattle.scad_grammar.specs.StatementRules.{StatementRules, above_statements, heading_of, choice_behind_of, call_by, child_of}
-use Rattle.scad_parse.specs.Reading.{below, rules_at}
+use Rattle.scad_parse.specs.Reading.{rules_at}
 
 -- the rules of statements for one construct less than these, where one may open
 unfoldable pub below_statements : Place → ℕ → Option StatementRules

@@ -84,12 +84,7 @@ fn heading<'a>(alloc: Global, ts: &'a [Token], end: Place, room: u32) -> Read<'a
 
 // "(" params ")"
 #[tactic(auto, using(crate::proofs::rules::Statements::rounds))]
-fn round_parameters<'a>(
-    alloc: Global,
-    ts: &'a [Token],
-    end: Place,
-    room: u32,
-) -> Read<'a, Params>
+fn round_parameters<'a>(alloc: Global, ts: &'a [Token], end: Place, room: u32) -> Read<'a, Params>
     ensures { Gives (in_round_of «end» (below_statements «end» room) (λ r us. r.params_closed us) ts.now)
         parameters_seen result }
 {

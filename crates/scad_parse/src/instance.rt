@@ -25,14 +25,7 @@ use std::alloc::{AllocError, Global};
 
 // inst = mark* (call child | "if" "(" expr ")" child ["else" child]), of which the first token is given apart
 #[cycle(statement)]
-#[tactic(
-    auto,
-    using(crate::proofs::rules::Statements::room),
-    unfolding(
-        scad_grammar::specs::StatementRules::first_of,
-        scad_grammar::specs::StatementRules::marked_first
-    )
-)]
+#[tactic(auto, using(crate::proofs::rules::Statements::room), unfolding(scad_grammar::specs::StatementRules::first_of, scad_grammar::specs::StatementRules::marked_first))]
 pub(crate) fn first<'a>(
     alloc: Global,
     scope: Scope,

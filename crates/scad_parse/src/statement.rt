@@ -23,14 +23,7 @@ use std::alloc::Global;
 // body = ";" | "{" body* "}" | assign | inst
 // Where definitions may not stand, it is a body.
 #[cycle(statement)]
-#[tactic(
-    auto,
-    using(crate::proofs::rules::Statements::room),
-    unfolding(
-        scad_grammar::specs::StatementRules::statement_of,
-        scad_grammar::specs::StatementRules::definition_of
-    )
-)]
+#[tactic(auto, using(crate::proofs::rules::Statements::room), unfolding(scad_grammar::specs::StatementRules::statement_of, scad_grammar::specs::StatementRules::definition_of))]
 pub(crate) fn statement<'a>(
     alloc: Global,
     definitions: bool,
@@ -111,11 +104,7 @@ fn word_behind<'a>(
 
 // module | function | inst, of which the first token is given apart
 #[cycle(statement)]
-#[tactic(
-    auto,
-    using(crate::proofs::rules::Statements::room),
-    unfolding(scad_grammar::specs::StatementRules::definition_of)
-)]
+#[tactic(auto, using(crate::proofs::rules::Statements::room), unfolding(scad_grammar::specs::StatementRules::definition_of))]
 fn definition<'a>(
     alloc: Global,
     scope: Scope,

@@ -1,4 +1,4 @@
-use Rattle.std.proofs.Common.{◌≡◌, ◌+◌, ◌*◌, ◌≤◌, length}
+use Rattle.std.proofs.Common.{◌+◌, ◌*◌, length}
 use Rattle.scad_ast.specs.Tree.{no_arguments, no_elements}
 use Rattle.scad_ast.specs.View.{arguments, elements}
 use Rattle.scad_grammar.specs.Rules.{args_of}

@@ -1,5 +1,4 @@
-use Rattle.std.proofs.Common.{◌≡◌, ◌+◌, ◌*◌, ◌≤◌, ℕ, List, length}
-use Rattle.scad_lex.specs.declared.token.Token.{Token}
+use Rattle.std.proofs.Common.{◌≡◌, ◌+◌, ◌*◌, length}
 use Rattle.scad_ast.specs.Scope.{items}
 use Rattle.scad_grammar.specs.StatementRules.{marked_of}
 use Rattle.scad_parse.specs.Reading.{rules_at}

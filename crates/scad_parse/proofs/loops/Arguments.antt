@@ -1,20 +1,18 @@
 -- The turns of the loop over arguments.
-use Rattle.std.proofs.Common.{◌≡◌, ℕ, zero, suc, ◌+◌, ◌-◌, ◌<◌, ◌≤◌, Bool, true, false, List, [], ◌∷◌, Option, Some, None, Ok, Err, length, refl, sym, ap, subst, ◌∙◌, arith}
-use Rattle.std.specs.Prelude.{Result, if◌then◌else◌}
+use Rattle.std.proofs.Common.{◌≡◌, ℕ, zero, suc, ◌<◌, ◌≤◌, Bool, true, false, List, [], ◌∷◌, Option, Some, None, Ok, Err, length, refl, sym, ap, ◌∙◌, arith}
+use Rattle.std.specs.Prelude.{if◌then◌else◌}
 use Rattle.std.proofs.lemmas.Bool.{cond-true, cond-false}
 use Rattle.scad_fault.specs.declared.place.Place.{Place}
 use Rattle.scad_lex.specs.declared.token.Token.{Token}
-use Rattle.scad_lex.specs.declared.token.Sign.TheVariants.{Comma, Assign, Colon, CloseSquare}
-use Rattle.scad_ast.specs.Tree.{Expression, Arguments, Elements, Element, vector}
-use Rattle.scad_grammar.specs.Tokens.{is_sign, begins_with, word_of}
-use Rattle.scad_grammar.specs.Lists.{with_argument, with_element}
+use Rattle.scad_lex.specs.declared.token.Sign.TheVariants.{Comma, Assign}
+use Rattle.scad_ast.specs.Tree.{Expression, Arguments}
+use Rattle.scad_grammar.specs.Tokens.{is_sign, word_of}
+use Rattle.scad_grammar.specs.Lists.{with_argument}
 use Rattle.scad_grammar.specs.Grammar.{begins_named, named_by as is_named_by, at_end_of_arguments, ends_arguments}
 use Rattle.scad_grammar.specs.Machine.{Refusal, syntax_at}
-use Rattle.scad_grammar.specs.Steps.{range_start}
-use Rattle.scad_grammar.specs.Rules.{Read, then_read, Rules, above, rules, expr_of, args_of, named_by, more_args, elem_of, elements_of, more_elements, range_by}
-use Rattle.scad_grammar.proofs.rules.Fewer.{Leaves, wider, then_leaves, either, Fewer}
-use Rattle.scad_grammar.proofs.rules.FewerElements.{rules_fewer}
-use Rattle.scad_parse.specs.Reading.{below, rules_at, behind, place_of, first_word, argument_of, comma_or, no_value}
+use Rattle.scad_grammar.specs.Rules.{Read, then_read, Rules, expr_of, args_of, named_by, more_args}
+use Rattle.scad_grammar.proofs.rules.Fewer.{Leaves, wider, then_leaves, either}
+use Rattle.scad_parse.specs.Reading.{below, behind, argument_of, comma_or, no_value}
 use Rattle.scad_parse.proofs.loops.Turns.{leaves, comma_leaves, fewer, less, Goes, goes_on, stops}
 
 behind_leaves : (ts : List Token) → length (behind (behind ts)) ≤ length ts

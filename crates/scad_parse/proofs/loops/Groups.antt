@@ -1,28 +1,17 @@
 -- The turns of the loop over the statements of a group.
-use Rattle.std.proofs.Common.{◌≡◌, ℕ, zero, suc, ◌-◌, ◌<◌, ◌≤◌, ◌++◌, map, Bool, true, false, List, [], ◌∷◌, Option, Some, None, Ok, Err, length, refl, sym, ap, subst, ◌∙◌, arith}
-use Rattle.std.specs.Prelude.{Result, ◌==◌, ◌≢◌, if◌then◌else◌}
+use Rattle.std.proofs.Common.{◌≡◌, ℕ, zero, suc, ◌<◌, ◌≤◌, Bool, true, false, List, [], ◌∷◌, Some, None, Ok, Err, length, refl, ap, subst, ◌∙◌, arith}
 use Rattle.std.proofs.lemmas.Bool.{cond-true, cond-false}
 use Rattle.scad_fault.specs.declared.place.Place.{Place}
 use Rattle.scad_lex.specs.declared.token.Token.{Token}
-use Rattle.scad_lex.specs.declared.token.Sign.TheVariants.{Comma, CloseRound, CloseCurly, Assign}
-use Rattle.scad_ast.specs.Tree.{Expression, Parameter, Items, no_items}
-use Rattle.scad_ast.specs.Scope.{parameter}
-use Rattle.scad_ast.specs.declared.statement.Param.{Param}
-use Rattle.scad_grammar.specs.Tokens.{is_sign, begins_with, word_of}
-use Rattle.scad_grammar.specs.Lists.{with_parameter}
-use Rattle.scad_grammar.specs.Judged.{Judged}
-use Rattle.scad_grammar.specs.Machine.{Refusal, syntax_at, nesting_at, left_out_at, most_open}
-use Rattle.scad_grammar.specs.Rules.{Read, then_read, Rules, expr_of, rules}
-use Rattle.scad_grammar.specs.StatementRules.{StatementRules, params_of, param_of, param_by, more_params, group_of, statement_of, statement_rules, above_statements, program_from, descent}
-use Rattle.scad_grammar.proofs.Unique.{judges_as_the_grammar}
-use Rattle.scad_grammar.proofs.rules.Fewer.{Leaves, then_leaves, either}
+use Rattle.scad_lex.specs.declared.token.Sign.TheVariants.{CloseCurly}
+use Rattle.scad_ast.specs.Tree.{Items}
+use Rattle.scad_grammar.specs.Tokens.{begins_with}
+use Rattle.scad_grammar.specs.Machine.{Refusal}
+use Rattle.scad_grammar.specs.Rules.{Read, then_read}
+use Rattle.scad_grammar.specs.StatementRules.{group_of, statement_of, statement_rules, above_statements}
 use Rattle.scad_grammar.proofs.rules.FewerStatements.{FewerStatements, statements_fewer}
-use Rattle.scad_grammar.proofs.rules.Program.{descent_is_the_reader}
-use Rattle.scad_parse.specs.declared.fault.ParseFault.{ParseFault}
-use Rattle.scad_parse.specs.declared.fault.ParseFault.TheVariants.{Memory, Syntax, Nesting, LeftOut}
-use Rattle.scad_parse.specs.JudgedFault.{JudgedFault}
-use Rattle.scad_parse.specs.Reading.{below, rules_at, behind, place_of, comma_or, no_value, refusal}
-use Rattle.scad_parse.specs.ReadingStatements.{below_statements, statement_rules_at, parameter_of, parameter_by, default_of}
+use Rattle.scad_parse.specs.Reading.{below, rules_at, behind}
+use Rattle.scad_parse.specs.ReadingStatements.{below_statements, statement_rules_at}
 use Rattle.scad_parse.proofs.loops.Turns.{Goes, less, goes_on, stops, leaves, rules_are}
 
 pub statement_rules_are : (end : Place) (room : ℕ) → statement_rules end room ≡ statement_rules_at end room
@@ -78,4 +67,3 @@ module _ (end : Place) (room : ℕ) (d : Bool) where
   pub group_ends : (whole : Read Items) (all : Items) (ts : List Token) → begins_with CloseCurly ts ≡ true →
       Goes group_at whole all ts → whole ≡ Ok (all, behind ts)
   group_ends whole all ts h = stops group_at whole (Ok (all, behind ts)) all ts (group_last all ts h)
-

@@ -1,28 +1,20 @@
 -- The turns of the loop over the statements of a program, and what the answer says in the grammar's words.
-use Rattle.std.proofs.Common.{◌≡◌, ℕ, zero, suc, ◌-◌, ◌<◌, ◌≤◌, ◌++◌, map, Bool, true, false, List, [], ◌∷◌, Option, Some, None, Ok, Err, length, refl, sym, ap, subst, ◌∙◌, arith}
-use Rattle.std.specs.Prelude.{Result, ◌==◌, ◌≢◌, if◌then◌else◌}
-use Rattle.std.proofs.lemmas.Bool.{cond-true, cond-false}
+use Rattle.std.proofs.Common.{◌≡◌, ℕ, zero, suc, ◌≤◌, true, false, List, [], ◌∷◌, Ok, Err, length, refl, sym, ap, ◌∙◌, arith}
+use Rattle.std.specs.Prelude.{Result, ◌==◌, ◌≢◌}
 use Rattle.scad_fault.specs.declared.place.Place.{Place}
 use Rattle.scad_lex.specs.declared.token.Token.{Token}
-use Rattle.scad_lex.specs.declared.token.Sign.TheVariants.{Comma, CloseRound, CloseCurly, Assign}
-use Rattle.scad_ast.specs.Tree.{Expression, Parameter, Items, no_items}
-use Rattle.scad_ast.specs.Scope.{parameter}
-use Rattle.scad_ast.specs.declared.statement.Param.{Param}
-use Rattle.scad_grammar.specs.Tokens.{is_sign, begins_with, word_of}
-use Rattle.scad_grammar.specs.Lists.{with_parameter}
+use Rattle.scad_ast.specs.Tree.{Items}
 use Rattle.scad_grammar.specs.Judged.{Judged}
 use Rattle.scad_grammar.specs.Machine.{Refusal, syntax_at, nesting_at, left_out_at, most_open}
-use Rattle.scad_grammar.specs.Rules.{Read, then_read, Rules, expr_of, rules}
-use Rattle.scad_grammar.specs.StatementRules.{StatementRules, params_of, param_of, param_by, more_params, group_of, statement_of, statement_rules, above_statements, program_from, descent}
+use Rattle.scad_grammar.specs.Rules.{Read}
+use Rattle.scad_grammar.specs.StatementRules.{StatementRules, statement_of, program_from, descent}
 use Rattle.scad_grammar.proofs.Unique.{judges_as_the_grammar}
-use Rattle.scad_grammar.proofs.rules.Fewer.{Leaves, then_leaves, either}
-use Rattle.scad_grammar.proofs.rules.FewerStatements.{FewerStatements, statements_fewer}
 use Rattle.scad_grammar.proofs.rules.Program.{descent_is_the_reader}
 use Rattle.scad_parse.specs.declared.fault.ParseFault.{ParseFault}
 use Rattle.scad_parse.specs.declared.fault.ParseFault.TheVariants.{Memory, Syntax, Nesting, LeftOut}
 use Rattle.scad_parse.specs.JudgedFault.{JudgedFault}
-use Rattle.scad_parse.specs.Reading.{below, rules_at, behind, place_of, comma_or, no_value, refusal}
-use Rattle.scad_parse.specs.ReadingStatements.{below_statements, statement_rules_at, parameter_of, parameter_by, default_of}
+use Rattle.scad_parse.specs.Reading.{refusal}
+use Rattle.scad_parse.specs.ReadingStatements.{below_statements}
 use Rattle.scad_parse.proofs.loops.Groups.{statement_rules_are, group_fewer}
 use Rattle.scad_parse.proofs.loops.Turns.{Goes, less, goes_on, stops}
 

@@ -1,20 +1,13 @@
 -- What a loop over a list reads: what is left gives what the whole gives.
-use Rattle.std.proofs.Common.{◌≡◌, ℕ, zero, suc, ◌+◌, ◌-◌, ◌<◌, ◌≤◌, Bool, true, false, List, [], ◌∷◌, Option, Some, None, Ok, Err, length, refl, sym, ap, subst, ◌∙◌, arith}
-use Rattle.std.specs.Prelude.{Result, if◌then◌else◌}
-use Rattle.std.proofs.lemmas.Bool.{cond-true, cond-false}
+use Rattle.std.proofs.Common.{◌≡◌, ℕ, zero, suc, ◌<◌, ◌≤◌, Bool, List, [], ◌∷◌, Some, Ok, length, refl, sym, ap, subst, ◌∙◌, arith}
 use Rattle.scad_fault.specs.declared.place.Place.{Place}
 use Rattle.scad_lex.specs.declared.token.Token.{Token}
-use Rattle.scad_lex.specs.declared.token.Sign.TheVariants.{Comma, Assign, Colon, CloseSquare}
-use Rattle.scad_ast.specs.Tree.{Expression, Arguments, Elements, Element, vector}
-use Rattle.scad_grammar.specs.Tokens.{is_sign, begins_with, word_of}
-use Rattle.scad_grammar.specs.Lists.{with_argument, with_element}
-use Rattle.scad_grammar.specs.Grammar.{begins_named, named_by as is_named_by, at_end_of_arguments, ends_arguments}
-use Rattle.scad_grammar.specs.Machine.{Refusal, syntax_at}
-use Rattle.scad_grammar.specs.Steps.{range_start}
-use Rattle.scad_grammar.specs.Rules.{Read, then_read, Rules, above, rules, expr_of, args_of, named_by, more_args, elem_of, elements_of, more_elements, range_by}
-use Rattle.scad_grammar.proofs.rules.Fewer.{Leaves, wider, then_leaves, either, Fewer}
+use Rattle.scad_lex.specs.declared.token.Sign.TheVariants.{Comma}
+use Rattle.scad_grammar.specs.Tokens.{is_sign}
+use Rattle.scad_grammar.specs.Rules.{Read, above, rules}
+use Rattle.scad_grammar.proofs.rules.Fewer.{Leaves, either, Fewer}
 use Rattle.scad_grammar.proofs.rules.FewerElements.{rules_fewer}
-use Rattle.scad_parse.specs.Reading.{below, rules_at, behind, place_of, first_word, argument_of, comma_or, no_value}
+use Rattle.scad_parse.specs.Reading.{below, rules_at, comma_or}
 
 -- ---- how many tokens are left
 pub leaves : {A : Type 0} (n : ℕ) (r : Read A) (a : A) (us : List Token) → r ≡ Ok (a, us) → Leaves n r → length us < n

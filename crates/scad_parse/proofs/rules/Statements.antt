@@ -3,17 +3,16 @@ use Rattle.std.proofs.Common.{◌≡◌, ℕ, zero, suc, ◌-◌, ◌++◌, Bool
 use Rattle.std.specs.Prelude.{◌≢◌, if◌then◌else◌}
 use Rattle.scad_fault.specs.declared.place.Place.{Place}
 use Rattle.scad_lex.specs.declared.token.Token.{Token}
-use Rattle.scad_lex.specs.declared.token.Sign.TheVariants.{OpenRound, Star, Percent, Hash}
+use Rattle.scad_lex.specs.declared.token.Sign.TheVariants.{Star, Percent, Hash}
 use Rattle.scad_lex.specs.declared.token.Key.TheVariants.{Else}
 use Rattle.scad_ast.specs.Tree.{Expression, Parameter, Items, no_items, entry, choice, module_of}
 use Rattle.scad_ast.specs.Scope.{item_of, items}
 use Rattle.scad_ast.specs.declared.statement.Item.{Item}
-use Rattle.scad_grammar.specs.Tokens.{begins_with, is_sign, is_key, word_of}
+use Rattle.scad_grammar.specs.Tokens.{is_sign, is_key, word_of}
 use Rattle.scad_grammar.specs.Lists.{with_item, with_statement, Marks, starred, percented, hashed}
-use Rattle.scad_grammar.specs.Machine.{syntax_at}
-use Rattle.scad_grammar.specs.Rules.{Read, then_read, Rules, deeper}
+use Rattle.scad_grammar.specs.Rules.{Read, then_read, Rules}
 use Rattle.scad_grammar.specs.StatementRules.{StatementRules, statement_of, child_of, otherwise_of, heading_of, heading_by, marked_of}
-use Rattle.scad_parse.specs.Reading.{below, rules_at, behind, place_of}
+use Rattle.scad_parse.specs.Reading.{behind}
 use Rattle.scad_parse.specs.ReadingStatements.{below_statements, statement_rules_at, heading_read, other_of, unmarked_of, begins_with_mark, with_first_mark}
 use Rattle.scad_parse.proofs.rules.Room.{below_none, below_more, sign_here, sign_missing, round_here, round_missing}
 

@@ -1,4 +1,4 @@
-use Rattle.std.proofs.Common.{◌≡◌, List, [], length, map, ap, sym, subst, ◌∙◌}
+use Rattle.std.proofs.Common.{List, [], length, map, ap, sym, subst, ◌∙◌}
 use Rattle.std.proofs.lemmas.Result.{err_from_is_err_and}
 use Rattle.scad_ast.specs.Tree.{Parameter}
 use Rattle.scad_ast.specs.Scope.{parameter}

@@ -1,4 +1,4 @@
-use Rattle.std.proofs.Common.{◌≡◌, ◌+◌, ◌≤◌, length, map, []}
+use Rattle.std.proofs.Common.{length, map, []}
 use Rattle.scad_ast.specs.Scope.{parameter}
 use Rattle.scad_parse.proofs.loops.Parameters.{params_at}
 use Rattle.scad_parse.proofs.loops.Turns.{Goes}

@@ -1,5 +1,4 @@
-use Rattle.std.proofs.Common.{◌≡◌, ◌+◌, ◌≤◌, length}
-use Rattle.scad_ast.specs.Tree.{no_items}
+use Rattle.std.proofs.Common.{length}
 use Rattle.scad_ast.specs.Scope.{items}
 use Rattle.scad_grammar.specs.StatementRules.{program_from, descent}
 use Rattle.scad_parse.proofs.loops.Turns.{Goes}
