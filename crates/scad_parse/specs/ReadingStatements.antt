@@ -1,5 +1,6 @@
 -- What the answers of the descent say where it reads statements and definitions.
-use Rattle.std.specs.Prelude.{ℕ, zero, suc, Bool, true, List, [], ◌∷◌, Option, Some, None, Ok, Err, option_map, map, if◌then◌else◌, codes}
+use Rattle.std.specs.Prelude.{ℕ, zero, suc, Bool, true, List, [], ◌∷◌, Option, Some, None, Ok, Err, option_map, map}
+use Rattle.std.specs.Prelude.{if◌then◌else◌, codes}
 use Rattle.std.specs.Global.{Vec}
 use Rattle.scad_fault.specs.declared.place.Place.{Place}
 use Rattle.scad_lex.specs.declared.token.Token.{Token}
@@ -17,7 +18,8 @@ use Rattle.scad_grammar.specs.Lists.{Marks, starred, percented, hashed}
 use Rattle.scad_grammar.specs.StatementSteps.{callee}
 use Rattle.scad_grammar.specs.Machine.{syntax_at, left_out_at}
 use Rattle.scad_grammar.specs.Rules.{Read, then_read, Rules, expr_of}
-use Rattle.scad_grammar.specs.StatementRules.{StatementRules, above_statements, heading_of, choice_behind_of, call_by, child_of}
+use Rattle.scad_grammar.specs.StatementRules.{StatementRules, above_statements, heading_of, choice_behind_of, call_by}
+use Rattle.scad_grammar.specs.StatementRules.{child_of}
 use Rattle.scad_parse.specs.Reading.{rules_at}
 
 -- the rules of statements for one construct less than these, where one may open

@@ -6,7 +6,9 @@ ghost use Rattle.scad_grammar.specs.Lists.{with_item};
 ghost use Rattle.scad_grammar.specs.Rules.{in_round_of};
 ghost use Rattle.scad_grammar.specs.StatementRules.{params_of};
 ghost use Rattle.scad_parse.specs.Reading.{Gives, below, rules_at};
-ghost use Rattle.scad_parse.specs.ReadingStatements.{below_statements, statement_rules_at, scope_seen, parameters_seen, heading_seen, heading_read, parameter_of, default_of, default_seen};
+ghost use Rattle.scad_parse.specs.ReadingStatements.{below_statements, statement_rules_at, scope_seen};
+ghost use Rattle.scad_parse.specs.ReadingStatements.{parameters_seen, heading_seen, heading_read, parameter_of};
+ghost use Rattle.scad_parse.specs.ReadingStatements.{default_of, default_seen};
 
 use crate::expression::{closed, expression};
 use crate::fault::ParseFault;

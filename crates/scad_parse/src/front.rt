@@ -1,7 +1,8 @@
 //! A token, and the token that stands at the front of what is left.
 
 ghost use Rattle.std.specs.Prelude.{◌≡◌, true, false, is_some, IfOk, OnOk, IfErr, OnErr};
-ghost use Rattle.scad_grammar.specs.Tokens.{sign_number, key_number, is_sign_kind, is_key_kind, word_kind, is_sign, is_key, word_of, begins_with};
+ghost use Rattle.scad_grammar.specs.Tokens.{sign_number, key_number, is_sign_kind, is_key_kind, word_kind, is_sign};
+ghost use Rattle.scad_grammar.specs.Tokens.{is_key, word_of, begins_with};
 ghost use Rattle.scad_grammar.specs.Grammar.{begins_named, at_end_of_arguments, ends_arguments_kind, ends_arguments};
 ghost use Rattle.scad_parse.specs.Reading.{place_of, behind, first_word};
 

@@ -2,7 +2,8 @@
 
 ghost use Rattle.std.specs.Prelude.{◌≡◌};
 ghost use Rattle.scad_ast.specs.View.{expression_of};
-ghost use Rattle.scad_grammar.specs.Rules.{operand_of, links_of, unary_of, prefixed_of, posts_of, member_of, expr_to, above};
+ghost use Rattle.scad_grammar.specs.Rules.{operand_of, links_of, unary_of, prefixed_of, posts_of, member_of, expr_to};
+ghost use Rattle.scad_grammar.specs.Rules.{above};
 ghost use Rattle.scad_parse.specs.Reading.{Gives, below};
 
 use crate::expression::closed;

@@ -11,25 +11,19 @@ use Rattle.scad_parse.proofs.+statement.Goals as goal
 
 pub definition::module-returns-in_err-body : goal.definition::module-returns-in_err-body
 definition::module-returns-in_err-body t c =
+    let head = module_headed c.args.end c.args.room c.args.at (items c.args.scope.items) c.new.result.items
+    c.in_ok-name.name (map parameter c.in_ok-name.params.items) c.args.ts.now c.in_ok-name.left.now
+    c.new.ensures.items c.in_ok-name.ensures in
     let p = err_from_is_err_and c.from_residual-in_err-body.result c.from_residual-in_err-body.ensures.1 in
-    rw (p.1, p.2) (λ some. rw (
-      module_headed c.args.end c.args.room c.args.at (items c.args.scope.items)
-          c.new.result.items c.in_ok-name.name (map parameter c.in_ok-name.params.items) c.args.ts.now c.in_ok-name.left.now
-          c.new.ensures.items c.in_ok-name.ensures,
-      c.in_err-body.ensures some,
-    ))
+    rw (p.1, p.2) (λ some. rw (head, c.in_err-body.ensures some))
 
 pub definition::module-returns : goal.definition::module-returns
 definition::module-returns t c =
-    rw (
-      module_headed c.args.end c.args.room c.args.at (items c.args.scope.items) c.new.result.items c.in_ok-name.name
-          (map parameter c.in_ok-name.params.items) c.args.ts.now c.in_ok-name.left.now c.new.ensures.items
-          c.in_ok-name.ensures,
-      c.in_ok-body.ensures,
-      c.in_ok-pushed.ensures,
-      module_view c.in_ok-name.name
-          c.in_ok-name.params c.in_ok-body.body c.args.at,
-    )
+    let head = module_headed c.args.end c.args.room c.args.at (items c.args.scope.items) c.new.result.items
+    c.in_ok-name.name (map parameter c.in_ok-name.params.items) c.args.ts.now c.in_ok-name.left.now
+    c.new.ensures.items c.in_ok-name.ensures in
+    let made = module_view c.in_ok-name.name c.in_ok-name.params c.in_ok-body.body c.args.at in
+    rw (head, c.in_ok-body.ensures, c.in_ok-pushed.ensures, made)
 
 pub instance::child-returns-then-is_sign-2 : goal.instance::child-returns-then-is_sign-2
 instance::child-returns-then-is_sign-2 t c =

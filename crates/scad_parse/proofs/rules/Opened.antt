@@ -1,5 +1,6 @@
 -- Rules of expressions whose first token opens a construct, once the descent has found room for it.
-use Rattle.std.proofs.Common.{◌≡◌, ℕ, ◌-◌, ◌≤◌, true, false, List, [], ◌∷◌, Some, Ok, length, get_or, take, drop, sym, ap, ◌∙◌, arith}
+use Rattle.std.proofs.Common.{◌≡◌, ℕ, ◌-◌, ◌≤◌, true, false, List, [], ◌∷◌, Some, Ok, length, get_or, take, drop, sym}
+use Rattle.std.proofs.Common.{ap, ◌∙◌, arith}
 use Rattle.std.specs.Prelude.{◌≢◌}
 use Rattle.std.proofs.lemmas.Bool.{cond-true, cond-false}
 use Rattle.std.proofs.lemmas.List.{take_all}
@@ -11,7 +12,9 @@ use Rattle.scad_ast.specs.declared.operator.BinOp.{BinOp}
 use Rattle.scad_ast.specs.Tree.{Expression, Element, binary, call, choose, index, each, if_else}
 use Rattle.scad_grammar.specs.Tokens.{is_sign, is_key, operator}
 use Rattle.scad_grammar.specs.Lists.{let_of}
-use Rattle.scad_grammar.specs.Rules.{Read, then_read, Rules, deeper, expr_to, in_round_of, call_or_name, args_closed_of, posts_of, member_of, link_of, links_of, operand_of, choice_of, expr_of, else_of, elem_of, for_behind_of}
+use Rattle.scad_grammar.specs.Rules.{Read, then_read, Rules, deeper, expr_to, in_round_of, call_or_name}
+use Rattle.scad_grammar.specs.Rules.{args_closed_of, posts_of, member_of, link_of, links_of, operand_of, choice_of}
+use Rattle.scad_grammar.specs.Rules.{expr_of, else_of, elem_of, for_behind_of}
 use Rattle.scad_parse.specs.Reading.{below, rules_at}
 use Rattle.scad_parse.proofs.rules.Room.{below_more}
 

@@ -10,7 +10,8 @@ use Rattle.scad_ast.specs.Scope.{items}
 use Rattle.scad_ast.specs.declared.statement.Item.{Item}
 use Rattle.scad_grammar.specs.Tokens.{is_sign, word_of}
 use Rattle.scad_grammar.specs.Rules.{Read, deeper}
-use Rattle.scad_grammar.specs.StatementRules.{StatementRules, child_of, statement_of, start_of, group_of, word_behind_of}
+use Rattle.scad_grammar.specs.StatementRules.{StatementRules, child_of, statement_of, start_of, group_of}
+use Rattle.scad_grammar.specs.StatementRules.{word_behind_of}
 use Rattle.scad_parse.specs.Reading.{rules_at}
 use Rattle.scad_parse.specs.ReadingStatements.{below_statements, statement_rules_at}
 use Rattle.scad_parse.proofs.rules.Opened.{rest, front}

@@ -1,5 +1,6 @@
 -- The rules of the grammar, where the descent has tested how much may still open and with what tokens begin.
-use Rattle.std.proofs.Common.{◌≡◌, ℕ, zero, suc, ◌-◌, true, false, List, [], ◌∷◌, Option, Some, None, Err, refl, ap, arith}
+use Rattle.std.proofs.Common.{◌≡◌, ℕ, zero, suc, ◌-◌, true, false, List, [], ◌∷◌, Option, Some, None, Err, refl, ap}
+use Rattle.std.proofs.Common.{arith}
 use Rattle.std.specs.Prelude.{◌≢◌, if◌then◌else◌}
 use Rattle.scad_fault.specs.declared.place.Place.{Place}
 use Rattle.scad_lex.specs.declared.token.Token.{Token}
@@ -7,7 +8,8 @@ use Rattle.scad_lex.specs.declared.token.Sign.{Sign as SignName}
 use Rattle.scad_lex.specs.declared.token.Sign.TheVariants.{OpenRound}
 use Rattle.scad_grammar.specs.Tokens.{begins_with}
 use Rattle.scad_grammar.specs.Machine.{syntax_at}
-use Rattle.scad_grammar.specs.Rules.{Read, then_read, behind_sign, above, deeper, in_round_of, operand_of, unary_of, links_of, Rules}
+use Rattle.scad_grammar.specs.Rules.{Read, then_read, behind_sign, above, deeper, in_round_of, operand_of, unary_of}
+use Rattle.scad_grammar.specs.Rules.{links_of, Rules}
 use Rattle.scad_parse.specs.Reading.{below, behind, place_of}
 
 pub below_none : (end : Place) (room : ℕ) → room ≡ 0 → below end room ≡ None

@@ -1,5 +1,6 @@
 -- The rules of statements, where the descent has tested how much may still open and with what tokens begin.
-use Rattle.std.proofs.Common.{◌≡◌, ℕ, zero, suc, ◌-◌, ◌++◌, Bool, true, false, List, [], ◌∷◌, Option, Some, None, Ok, Err, refl, ap, sym, ◌∙◌, arith}
+use Rattle.std.proofs.Common.{◌≡◌, ℕ, zero, suc, ◌-◌, ◌++◌, Bool, true, false, List, [], ◌∷◌, Option, Some, None, Ok}
+use Rattle.std.proofs.Common.{Err, refl, ap, sym, ◌∙◌, arith}
 use Rattle.std.specs.Prelude.{◌≢◌, if◌then◌else◌}
 use Rattle.scad_fault.specs.declared.place.Place.{Place}
 use Rattle.scad_lex.specs.declared.token.Token.{Token}
@@ -11,9 +12,11 @@ use Rattle.scad_ast.specs.declared.statement.Item.{Item}
 use Rattle.scad_grammar.specs.Tokens.{is_sign, is_key, word_of}
 use Rattle.scad_grammar.specs.Lists.{with_item, with_statement, Marks, starred, percented, hashed}
 use Rattle.scad_grammar.specs.Rules.{Read, then_read, Rules}
-use Rattle.scad_grammar.specs.StatementRules.{StatementRules, statement_of, child_of, otherwise_of, heading_of, heading_by, marked_of}
+use Rattle.scad_grammar.specs.StatementRules.{StatementRules, statement_of, child_of, otherwise_of, heading_of}
+use Rattle.scad_grammar.specs.StatementRules.{heading_by, marked_of}
 use Rattle.scad_parse.specs.Reading.{behind}
-use Rattle.scad_parse.specs.ReadingStatements.{below_statements, statement_rules_at, heading_read, other_of, unmarked_of, begins_with_mark, with_first_mark}
+use Rattle.scad_parse.specs.ReadingStatements.{below_statements, statement_rules_at, heading_read, other_of}
+use Rattle.scad_parse.specs.ReadingStatements.{unmarked_of, begins_with_mark, with_first_mark}
 use Rattle.scad_parse.proofs.rules.Room.{below_none, below_more, sign_here, sign_missing, round_here, round_missing}
 
 pub below_none_statements : (end : Place) (room : ℕ) → room ≡ 0 → below_statements end room ≡ None

@@ -3,7 +3,8 @@ use Rattle.std.proofs.lemmas.Result.{err_from_is_err_and}
 use Rattle.scad_ast.specs.Tree.{Parameter}
 use Rattle.scad_ast.specs.Scope.{parameter}
 use Rattle.scad_parse.specs.Reading.{refusal}
-use Rattle.scad_parse.proofs.loops.Parameters.{params_at, parameters_push, params_go, params_fewer, params_stop, params_stop_behind, params_end}
+use Rattle.scad_parse.proofs.loops.Parameters.{params_at, parameters_push, params_go, params_fewer, params_stop}
+use Rattle.scad_parse.proofs.loops.Parameters.{params_stop_behind, params_end}
 use Rattle.scad_parse.proofs.loops.Turns.{Goes}
 use Rattle.scad_parse.proofs.definition.parameters.Goals as goal
 
