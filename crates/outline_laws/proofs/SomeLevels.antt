@@ -1,6 +1,5 @@
 -- Each list of edges has levels.
 use Rattle.std.proofs.Common.{inl, inr, List, [], ◌∷◌, refl}
-use Rattle.std.specs.List.{AllByRecursion}
 use Rattle.scad_geom.specs.declared.level.Level.{Level}
 use Rattle.scad_geom.specs.declared.level.LeafEdge.{LeafEdge}
 use Rattle.scad_geom.specs.Heights.{heights}
