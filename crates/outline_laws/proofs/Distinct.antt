@@ -21,7 +21,8 @@ compared p q = by_lt_z (p.n *ℤ q.d) (q.n *ℤ p.d) (λ l. lower l) not_lower
     not_lower m = by_lt_z (q.n *ℤ p.d) (p.n *ℤ q.d) (λ l. higher l) (λ n. same (omega (arith, ints)))
 
 -- ---- what holds of each element
-pub weaker : {A : Type 0} (P Q : A → Type 0) → ((x : A) → P x → Q x) → (xs : List A) → AllByRecursion P xs → AllByRecursion Q xs
+pub weaker : {A : Type 0} (P Q : A → Type 0) → ((x : A) → P x → Q x) → (xs : List A)
+    → AllByRecursion P xs → AllByRecursion Q xs
 weaker P Q f [] h = tt
 weaker P Q f (x ∷ xs) h = (f x h.0, weaker P Q f xs h.1)
 

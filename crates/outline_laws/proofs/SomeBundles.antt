@@ -33,7 +33,8 @@ ordered : (at : Level) (e f : Edge) → AreOrdered at e f
 unfolding x_of lean_of
 ordered at e f = by_x (compared (x_of at e) (x_of at f)) (compared (lean_of e) (lean_of f))
   where
-    by_lean : x_at e at.n at.d *ℤ rise f ≡ x_at f at.n at.d *ℤ rise e → AreCompared (lean_of e) (lean_of f) → AreOrdered at e f
+    by_lean : x_at e at.n at.d *ℤ rise f ≡ x_at f at.n at.d *ℤ rise e
+        → AreCompared (lean_of e) (lean_of f) → AreOrdered at e f
     by_lean h (lower o) = before (inr (h, o))
     by_lean h (same k) = aligned (h, k)
     by_lean h (higher o) = after (inr (sym h, o))
@@ -74,7 +75,8 @@ module _ (es : List LeafEdge) (at : Level) where
   )
 
   all_aligned : (k j : ℕ) (js : List ℕ) → Rises es k → Rises es j → AllRise js → AreAligned at (edge k) (edge j)
-      → AllByRecursion (λ i. AreAligned at (edge j) (edge i)) js → AllByRecursion (λ i. AreAligned at (edge k) (edge i)) js
+      → AllByRecursion (λ i. AreAligned at (edge j) (edge i)) js
+      → AllByRecursion (λ i. AreAligned at (edge k) (edge i)) js
   all_aligned k j [] rk rj rs a h = tt
   all_aligned k j (i ∷ js) rk rj rs a h =
       (aligned_chain at (edge k) (edge j) (edge i) rk rj rs.0 a h.0, all_aligned k j js rk rj rs.1 a h.1)
@@ -159,7 +161,8 @@ module _ (es : List LeafEdge) (at : Level) where
       let one : HasBundled k on.bundles = bundled k on.bundles r.0 rise above on.ranked in
       record {
         bundles = one.all;
-        members = IsPermutation-trans (k ∷ ks) (k ∷ there) (concat one.all) (IsPermutation-cons k ks there on.members) one.members;
+        members = IsPermutation-trans (k ∷ ks) (k ∷ there) (concat one.all)
+            (IsPermutation-cons k ks there on.members) one.members;
         ranked = one.ranked;
       }
 
@@ -172,7 +175,8 @@ module _ (l u : Level) where
       next : List ℕ
       next = reaching (j + 1) es l u
 
-      by_test : (t : Bool) → AllByRecursion (λ i. k ≤ i) next → AllByRecursion (λ i. k ≤ i) (if t then j ∷ next else next)
+      by_test : (t : Bool) → AllByRecursion (λ i. k ≤ i) next
+          → AllByRecursion (λ i. k ≤ i) (if t then j ∷ next else next)
       by_test true r = (o, r)
       by_test false r = r
 
@@ -194,6 +198,7 @@ pub record HasBundles (es : List LeafEdge) (l u : Level) : Type 0 where
 pub bundles_of : (es : List LeafEdge) (l u : Level) → HasBundles es l u
 bundles_of es l u =
     let ks : List ℕ = reaching 0 es l u in
-    let rise : AllByRecursion (Rises es) ks = weaker (IsLive es l u) (Rises es) (λ k h. h.reaches.rises) ks (live_reaching es l u) in
+    let rise : AllByRecursion (Rises es) ks =
+    weaker (IsLive es l u) (Rises es) (λ k h. h.reaches.rises) ks (live_reaching es l u) in
     let r : HasRanked es l ks = all_ranked es l ks rise (ascending l u 0 es) in
     record { bundles = r.bundles; are_bundles = record { members = r.members; ranked = r.ranked } }

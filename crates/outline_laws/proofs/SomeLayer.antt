@@ -19,4 +19,7 @@ layers_have_outlines layer h s solids =
     let balanced : AreLeavesBalanced es = leaves_balanced layer h s closed in
     let t : HasShape s = shape_of s in
     let o : HasShapeOutlines es t.shape = shape_outlines es t.shape balanced in
-    record { outlines = o.outlines; are_outlines = record { shape = t.shape; stands = t.stands_for; are_outlines = o.are_outlines } }
+    record {
+      outlines = o.outlines;
+      are_outlines = record { shape = t.shape; stands = t.stands_for; are_outlines = o.are_outlines };
+    }

@@ -30,7 +30,8 @@ opposite_in e (f ∷ es) = by_test (same_edge f (turned e)) refl (opposite_in e 
     further : (h : HasOpposite e es) → IsOppositeAt e (f ∷ es) (suc h.place)
     further h = let l = h.opposite.there in record { there = omega arith; opposite = h.opposite.opposite }
 
-    by_test : (b : Bool) → same_edge f (turned e) ≡ b → HasOpposite e es ⊎ HasNone e es → HasOpposite e (f ∷ es) ⊎ HasNone e (f ∷ es)
+    by_test : (b : Bool) → same_edge f (turned e) ≡ b → HasOpposite e es ⊎ HasNone e es
+        → HasOpposite e (f ∷ es) ⊎ HasNone e (f ∷ es)
     by_test true t r = inl (record { place = zero; opposite = here t })
     by_test false t (inl h) = inl (record { place = suc h.place; opposite = further h })
     by_test false t (inr none) = inr (All-cons (λ g. g ≡ turned e → ⊥) f es (differ t) none)
@@ -44,12 +45,19 @@ and_one : (es : List Edge) (e : Edge) → HasCancelled es → HasCancelled (es +
 and_one es e h = by_cases (opposite_in e h.left)
   where
     by_cases : HasOpposite e h.left ⊎ HasNone e h.left → HasCancelled (es ++ (e ∷ []))
-    by_cases (inl o) = record { left = remove h.left o.place; cancelled = leaves_fewer es h.left o.place e h.cancelled o.opposite }
-    by_cases (inr none) = record { left = h.left ++ (e ∷ []); cancelled = leaves_one_more es h.left e h.cancelled none }
+    by_cases (inl o) = record {
+      left = remove h.left o.place;
+      cancelled = leaves_fewer es h.left o.place e h.cancelled o.opposite;
+    }
+    by_cases (inr none) = record {
+      left = h.left ++ (e ∷ []);
+      cancelled = leaves_one_more es h.left e h.cancelled none;
+    }
 
 and_more : (es fs : List Edge) → HasCancelled es → HasCancelled (es ++ fs)
 and_more es [] h = subst HasCancelled (sym (append-nil es)) h
-and_more es (f ∷ fs) h = subst HasCancelled (append_assoc es (f ∷ []) fs) (and_more (es ++ (f ∷ [])) fs (and_one es f h))
+and_more es (f ∷ fs) h =
+    subst HasCancelled (append_assoc es (f ∷ []) fs) (and_more (es ++ (f ∷ [])) fs (and_one es f h))
 
 pub edges_cancelled : (es : List Edge) → HasCancelled es
 edges_cancelled es = and_more [] es (record { left = []; cancelled = leaves_nothing })

@@ -1,6 +1,6 @@
 -- Loops can be drawn from balanced edges.
-use Rattle.std.proofs.Common.{◌≡◌, ℕ, zero, suc, ◌<◌, ◌≤◌, Bool, true, false, true≢false, ◌⊎◌, inl, inr, List, [], ◌∷◌, All}
-use Rattle.std.proofs.Common.{length, refl, sym, ap, ◌∙◌, arith}
+use Rattle.std.proofs.Common.{◌≡◌, ℕ, zero, suc, ◌<◌, ◌≤◌, Bool, true, false, true≢false, ◌⊎◌, inl, inr}
+use Rattle.std.proofs.Common.{List, [], ◌∷◌, All, length, refl, sym, ap, ◌∙◌, arith}
 use Rattle.std.specs.Prelude.{IsPermutation}
 use Rattle.std.specs.Cmp.{IsStrictWeakOrder}
 use Rattle.std.proofs.lemmas.Bool.{false_from_ne_true}
@@ -62,7 +62,8 @@ module _ (test : Edge → Bool) where
   before : (e : Edge) (es : List Edge) (h : HasLeast es) → test e ≡ true → is_less h.first e ≡ false → HasLeast (e ∷ es)
   before e es h p n =
       let old : List Edge = h.first ∷ h.others in
-      let all : All (NotLess h.first) old = All-cons (NotLess h.first) h.first h.others (λ t. not_less_itself h.first) h.least in
+      let all : All (NotLess h.first) old =
+      All-cons (NotLess h.first) h.first h.others (λ t. not_less_itself h.first) h.least in
       record {
         first = e;
         others = es;
@@ -106,13 +107,15 @@ module _ (p : Pt) (es : List Edge) where
       takes h = record {
         starts = same_place-is h.first.a p h.passes;
         taken = h.taken;
-        least = All-weaker (NotLess starts h.first) (λ f. f.a ≡ p → is_less f h.first ≡ false) (λ f n s. n (passes_start f s)) h.others h.least;
+        least = All-weaker (NotLess starts h.first) (λ f. f.a ≡ p → is_less f h.first ≡ false)
+            (λ f n s. n (passes_start f s)) h.others h.least;
       }
 
       by_cases : HasLeast starts es ⊎ NonePasses starts es → HasLeastFrom p es ⊎ NoneStarts p es
       by_cases (inl h) = inl (record { first = h.first; others = h.others; takes = takes h })
       by_cases (inr none) =
-          inr (All-weaker (λ f. starts f ≡ false) (λ f. f.a ≡ p → ⊥) (λ f n s. true≢false (sym (passes_start f s) ∙ n)) es none)
+          inr (All-weaker (λ f. starts f ≡ false) (λ f. f.a ≡ p → ⊥)
+          (λ f n s. true≢false (sym (passes_start f s) ∙ n)) es none)
 
 -- ---- a way back to the start, edge by edge
 record HasWay (start at : Pt) (es : List Edge) : Type 0 where
@@ -127,7 +130,13 @@ fewer_others n k l h e = omega arith
 
 module _ (start at : Pt) (es : List Edge) (b : IsBalanced (segments (edge start at ∷ es))) where
   is_back : at ≡ start → HasWay start at es
-  is_back h = record { way = []; left = es; back = (h, refl); balanced = comes_back start at es h b; fewer = omega arith }
+  is_back h = record {
+    way = [];
+    left = es;
+    back = (h, refl);
+    balanced = comes_back start at es h b;
+    fewer = omega arith;
+  }
 
   module _ (away : at ≡ start → ⊥) where
     -- an edge starts there
@@ -138,8 +147,11 @@ module _ (start at : Pt) (es : List Edge) (b : IsBalanced (segments (edge start 
         by_cases (inl h) = h
         by_cases (inr none) = absurd (one_starts start at es b away none)
 
+    size : suc (length further.others) ≡ length es
+    size = length_permutation es (further.first ∷ further.others) further.takes.taken
+
     some_left : length es ≤ 0 → ⊥
-    some_left l = let n = length_permutation es (further.first ∷ further.others) further.takes.taken in omega arith
+    some_left l = let n = size in omega arith
 
     one_more : HasWay start further.first.b further.others → HasWay start at es
     one_more w = record {
@@ -147,13 +159,14 @@ module _ (start at : Pt) (es : List Edge) (b : IsBalanced (segments (edge start 
       left = w.left;
       back = (refl, away, (further.first, further.others, further.takes, w.back));
       balanced = w.balanced;
-      fewer = let n = length_permutation es (further.first ∷ further.others) further.takes.taken in let m = w.fewer in omega arith;
+      fewer = let n = size in let m = w.fewer in omega arith;
     }
 
 not_at : (p q : Pt) → same_place p q ≡ false → p ≡ q → ⊥
 not_at p q e h = true≢false (sym (same_place-itself q) ∙ ap (λ (r : Pt). same_place r q) (sym h) ∙ e)
 
-way_back : (n : ℕ) (start at : Pt) (es : List Edge) → length es ≤ n → IsBalanced (segments (edge start at ∷ es)) → HasWay start at es
+way_back : (n : ℕ) (start at : Pt) (es : List Edge) → length es ≤ n → IsBalanced (segments (edge start at ∷ es))
+    → HasWay start at es
 way_back zero start at es l b = by_test (same_place at start) refl
   where
     by_test : (t : Bool) → same_place at start ≡ t → HasWay start at es
@@ -162,14 +175,14 @@ way_back zero start at es l b = by_test (same_place at start) refl
 way_back (suc n) start at es l b = by_test (same_place at start) refl (way_back n start)
   where
     by_test : (t : Bool) → same_place at start ≡ t
-        → ((at : Pt) (es : List Edge) → length es ≤ n → IsBalanced (segments (edge start at ∷ es)) → HasWay start at es) → HasWay start at es
+        → ((at : Pt) (es : List Edge) → length es ≤ n → IsBalanced (segments (edge start at ∷ es)) → HasWay start at es)
+        → HasWay start at es
     by_test true e on = is_back start at es b (same_place-is at start e)
     by_test false e on =
         let away : at ≡ start → ⊥ = not_at at start e in
         let h : HasLeastFrom at es = further start at es b away in
-        let size = length_permutation es (h.first ∷ h.others) h.takes.taken in
-        one_more start at es b away
-        (on h.first.b h.others (fewer_others n (length es) (length h.others) l size) (goes_on start at es h.first h.others b h.takes))
+        let few : length h.others ≤ n = fewer_others n (length es) (length h.others) l (size start at es b away) in
+        one_more start at es b away (on h.first.b h.others few (goes_on start at es h.first h.others b h.takes))
 
 -- ---- loop after loop
 record HasLoop (es : List Edge) : Type 0 where
@@ -187,7 +200,8 @@ unfolding any
 closed es b h =
     let size = length_permutation es (h.first ∷ h.others) h.taken in
     let all : IsBalanced (segments (h.first ∷ h.others)) = balanced_permuted es (h.first ∷ h.others) h.taken b in
-    let w : HasWay h.first.a h.first.b h.others = way_back (length h.others) h.first.a h.first.b h.others (omega arith) all in
+    let w : HasWay h.first.a h.first.b h.others =
+    way_back (length h.others) h.first.a h.first.b h.others (omega arith) all in
     let fewer = w.fewer in
     record {
       loop = h.first.a ∷ w.way;

@@ -1,6 +1,6 @@
 -- Pieces can be merged, whatever the pieces.
-use Rattle.std.proofs.Common.{◌≡◌, ℕ, zero, suc, ◌≤◌, Bool, true, false, true≢false, ◌==◌, ◌⊎◌, inl, inr, List, [], ◌∷◌, All}
-use Rattle.std.proofs.Common.{length, refl, sym, ◌∙◌, arith}
+use Rattle.std.proofs.Common.{◌≡◌, ℕ, zero, suc, ◌≤◌, Bool, true, false, true≢false, ◌==◌, ◌⊎◌, inl, inr}
+use Rattle.std.proofs.Common.{List, [], ◌∷◌, All, length, refl, sym, ◌∙◌, arith}
 use Rattle.std.specs.Prelude.{IsPermutation}
 use Rattle.std.specs.Cmp.{unsigned_Decides}
 use Rattle.std.proofs.lemmas.List.Elements.{All-nil, All-cons, All-head}
@@ -54,21 +54,24 @@ module _ (q r : Piece) where
   goes_on_or_not : GoesOn q r ⊎ (GoesOn q r → ⊥)
   goes_on_or_not = by_tests (equal_or_not q.edge r.edge) (is_same_spot q.to r.from) (is_same_spot q.to r.to) refl refl
     where
-      by_tests : (q.edge ≡ r.edge) ⊎ (q.edge ≡ r.edge → ⊥) → (b c : Bool) → is_same_spot q.to r.from ≡ b → is_same_spot q.to r.to ≡ c
-          → GoesOn q r ⊎ (GoesOn q r → ⊥)
+      by_tests : (q.edge ≡ r.edge) ⊎ (q.edge ≡ r.edge → ⊥) → (b c : Bool) → is_same_spot q.to r.from ≡ b
+          → is_same_spot q.to r.to ≡ c → GoesOn q r ⊎ (GoesOn q r → ⊥)
       by_tests (inr n) b c h k = inr (λ g. n g.name)
       by_tests (inl e) false c h k = inr (λ g. true≢false (sym g.meet ∙ h))
       by_tests (inl e) true true h k = inr (λ g. true≢false (sym k ∙ g.away))
       by_tests (inl e) true false h k = inl (record { name = e; meet = h; away = k })
 
 module _ (pieces : List Piece) (s : Spot) where
-  passed_or_not : IsPassedOnce pieces s ⊎ (IsPassedOnce pieces s → ⊥)
-  passed_or_not = by_cases (equal_or_not (ends_at (point_of s) (ways_of pieces)) 1) (equal_or_not (starts_at (point_of s) (ways_of pieces)) 1)
-    where
-      One : ℕ → Type 0
-      One n = (n ≡ 1) ⊎ (n ≡ 1 → ⊥)
+  abbrev ending : ℕ
+  ending = ends_at (point_of s) (ways_of pieces)
 
-      by_cases : One (ends_at (point_of s) (ways_of pieces)) → One (starts_at (point_of s) (ways_of pieces))
+  abbrev starting : ℕ
+  starting = starts_at (point_of s) (ways_of pieces)
+
+  passed_or_not : IsPassedOnce pieces s ⊎ (IsPassedOnce pieces s → ⊥)
+  passed_or_not = by_cases (equal_or_not ending 1) (equal_or_not starting 1)
+    where
+      by_cases : (ending ≡ 1) ⊎ (ending ≡ 1 → ⊥) → (starting ≡ 1) ⊎ (starting ≡ 1 → ⊥)
           → IsPassedOnce pieces s ⊎ (IsPassedOnce pieces s → ⊥)
       by_cases (inr n) c = inr (λ p. n p.one_ends)
       by_cases (inl e) (inr n) = inr (λ p. n p.one_starts)
@@ -96,8 +99,8 @@ module _ (pieces : List Piece) where
   loose_or_stuck : (q : Piece) → IsLoose pieces q ⊎ IsStuck pieces q
   loose_or_stuck q = by_cases (passed_or_not pieces q.to) (next_of q pieces)
     where
-      by_cases : IsPassedOnce pieces q.to ⊎ (IsPassedOnce pieces q.to → ⊥) → HasOne (GoesOn q) pieces ⊎ All (Off q) pieces
-          → IsLoose pieces q ⊎ IsStuck pieces q
+      by_cases : IsPassedOnce pieces q.to ⊎ (IsPassedOnce pieces q.to → ⊥)
+          → HasOne (GoesOn q) pieces ⊎ All (Off q) pieces → IsLoose pieces q ⊎ IsStuck pieces q
       by_cases (inr n) r = inr (λ p. absurd (n p))
       by_cases (inl p) (inr none) = inr (λ p. none)
       by_cases (inl p) (inl h) = inl (record { passed = p; on = h })
@@ -123,8 +126,9 @@ module _ (pieces : List Piece) where
     some_other : All (Off loose) h.others → ⊥
     some_other none =
         let n : HasOne (GoesOn loose) pieces = h.holds.on in
-        let all : All (Off loose) pieces = All-permutation (Off loose) (loose ∷ h.others) pieces
-        (IsPermutation-sym pieces (loose ∷ h.others) h.taken) (All-cons (Off loose) loose h.others not_from_itself none) in
+        let off : All (Off loose) (loose ∷ h.others) = All-cons (Off loose) loose h.others not_from_itself none in
+        let back : IsPermutation (loose ∷ h.others) pieces = IsPermutation-sym pieces (loose ∷ h.others) h.taken in
+        let all : All (Off loose) pieces = All-permutation (Off loose) (loose ∷ h.others) pieces back off in
         All-head (Off loose) n.one n.others (All-permutation (Off loose) pieces (n.one ∷ n.others) n.taken all) n.holds
 
     meeting : HasMeeting pieces
@@ -154,14 +158,18 @@ merging zero pieces l = by_cases (meeting_or_none pieces)
   where
     by_cases : HasMeeting pieces ⊎ NoneMeetAlone pieces → HasMerged pieces
     by_cases (inr none) = as_they_are pieces none
-    by_cases (inl h) = let m = length_permutation pieces (h.first ∷ (h.second ∷ h.others)) h.meet.two in absurd (omega arith)
+    by_cases (inl h) =
+        let size = length_permutation pieces (h.first ∷ (h.second ∷ h.others)) h.meet.two in
+        absurd (omega arith)
 merging (suc n) pieces l = by_cases (meeting_or_none pieces) (merging n)
   where
-    by_cases : HasMeeting pieces ⊎ NoneMeetAlone pieces → ((rest : List Piece) → length rest ≤ n → HasMerged rest) → HasMerged pieces
+    by_cases : HasMeeting pieces ⊎ NoneMeetAlone pieces → ((rest : List Piece) → length rest ≤ n → HasMerged rest)
+        → HasMerged pieces
     by_cases (inr none) on = as_they_are pieces none
     by_cases (inl h) on =
-        let m = length_permutation pieces (h.first ∷ (h.second ∷ h.others)) h.meet.two in
-        let rest : HasMerged (joined h.first h.second ∷ h.others) = on (joined h.first h.second ∷ h.others) (omega arith) in
+        let size = length_permutation pieces (h.first ∷ (h.second ∷ h.others)) h.meet.two in
+        let fewer : List Piece = joined h.first h.second ∷ h.others in
+        let rest : HasMerged fewer = on fewer (omega arith) in
         record { merged = rest.merged; are_merged = two_join h.first h.second h.others h.meet rest.are_merged }
 
 pub pieces_merged : (pieces : List Piece) → HasMerged pieces

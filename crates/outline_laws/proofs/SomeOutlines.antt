@@ -49,9 +49,11 @@ module _ (es : List LeafEdge) where
     rounded_balanced : IsBalanced (segments rounded)
     rounded_balanced =
         let ways : List Segment = ways_of merged.merged in
-        let proper : AreProper merged.merged = are_proper merged.merged (merged_placed es pieces merged.merged merged.are_merged placed) in
+        let proper : AreProper merged.merged =
+        are_proper merged.merged (merged_placed es pieces merged.merged merged.are_merged placed) in
         let balanced = merged_balanced pieces merged.merged merged.are_merged (are_proper pieces placed) b in
-        lengths_keep_balance (map rounded_edge ways) (rounding_keeps_balance ways (All-map IsProper way_of merged.merged proper) balanced)
+        lengths_keep_balance (map rounded_edge ways)
+        (rounding_keeps_balance ways (All-map IsProper way_of merged.merged proper) balanced)
 
     made : HasMade pieces
     made =
@@ -78,4 +80,7 @@ shape_outlines es shape b =
     let p : HasPieces es shape = pieces_of es shape in
     let placed : All (IsPlaced es) p.pieces = pieces_are_placed es shape p.pieces p.are_pieces in
     let m : HasMade es p.pieces = made es p.pieces placed (pieces_are_balanced es shape p.pieces b p.are_pieces) in
-    record { outlines = m.outlines; are_outlines = record { pieces = p.pieces; are_pieces = p.are_pieces; are_made = m.are_made } }
+    record {
+      outlines = m.outlines;
+      are_outlines = record { pieces = p.pieces; are_pieces = p.are_pieces; are_made = m.are_made };
+    }

@@ -31,7 +31,8 @@ record HasStops (es : List LeafEdge) (at : Level) : Type 0 where
 stops_of : (es : List LeafEdge) (at : Level) → HasStops es at
 stops_of es at =
     let ss : List Spot = spots_at es at in
-    let d : AllByRecursion (HasDivisor across) ss = weaker (IsSpotAt at) (HasDivisor across) (λ s h. h.runs) ss (spots_are_at es at) in
+    let d : AllByRecursion (HasDivisor across) ss =
+    weaker (IsSpotAt at) (HasDivisor across) (λ s h. h.runs) ss (spots_are_at es at) in
     let r : HasDistinct across ss = distinct across ss d in
     record {
       stops = r.all;
@@ -70,4 +71,7 @@ module _ (es : List LeafEdge) (shape : Shape) where
   pieces_of =
       let l : HasLevels es = levels_of es in
       let p : HasLevelPieces l.levels = level_pieces l.levels in
-      record { pieces = p.pieces; are_pieces = record { levels = l.levels; are_levels = l.are_levels; are_pieces = p.are_pieces } }
+      record {
+        pieces = p.pieces;
+        are_pieces = record { levels = l.levels; are_levels = l.are_levels; are_pieces = p.are_pieces };
+      }

@@ -133,13 +133,16 @@ module _ (inside : List Triangle → Bool) (all : List (List Triangle)) where
         ∙ ap₂ (λ (a b : Bool). a || b) (stands s n (first_part n (surfaces s) (all_surfaces rest) h))
         (some_stand rest m (second_part n (surfaces s) (all_surfaces rest) h))
 
-    all_stand : (ms : Solids) (first : Shape) (n : ℕ) → StandAt n (all_surfaces ms) → held (all_standing first n ms) ≡ (held first && all_hold inside ms)
+    all_stand : (ms : Solids) (first : Shape) (n : ℕ) → StandAt n (all_surfaces ms)
+        → held (all_standing first n ms) ≡ (held first && all_hold inside ms)
     all_stand none first n h = sym (and-true (held first))
     all_stand (member s rest) first n h =
         let m : ℕ = n + length (surfaces s) in
         let one : held (standing n s) ≡ holds inside s = stands s n (first_part n (surfaces s) (all_surfaces rest) h) in
+        let two : held (both first (standing n s)) ≡ (held first && holds inside s) =
+        both_hold (λ n. inside (surface_at all n)) first (standing n s) ∙ ap (λ (b : Bool). held first && b) one in
         all_stand rest (both first (standing n s)) m (second_part n (surfaces s) (all_surfaces rest) h)
-        ∙ ap (λ (b : Bool). b && all_hold inside rest) (both_hold (λ n. inside (surface_at all n)) first (standing n s) ∙ ap (λ (b : Bool). held first && b) one)
+        ∙ ap (λ (b : Bool). b && all_hold inside rest) two
         ∙ and_assoc (held first) (holds inside s) (all_hold inside rest)
 
 pub record HasShape (s : Solid) : Type 0 where
