@@ -9,7 +9,7 @@ use Rattle.scad_fault.specs.declared.place.Place.{Place}
 use Rattle.scad_fault.specs.declared.budget.BudgetKind.TheVariants.{Steps, Depth}
 use Rattle.scad_value.specs.Datum.{Datum, number, vector, range}
 use Rattle.scad_value.specs.Measures.{made, made_all, nesting, deepest}
-use Rattle.scad_value.specs.View.{datum_of}
+use Rattle.scad_value.specs.View.{datum_of, data_of}
 use Rattle.scad_value.specs.declared.value.Value.{Value}
 use Rattle.scad_expr.specs.declared.part.Part.{Part}
 use Rattle.scad_expr.specs.declared.part.Part.TheVariants.{One, Run}
@@ -17,7 +17,6 @@ use Rattle.scad_expr.specs.Parts.{part_data, parts_of, MakeAlike, MakeAlikeThen}
 use Rattle.scad_expr.specs.Portions.{numbers_left}
 use Rattle.scad_expr.specs.Runs.{items, as_elements, numbers_from, count_of_range}
 use Rattle.scad_expr.specs.State.{State, make, take, over, step_limit, nesting_limit, pure, ◌>>◌}
-use Rattle.scad_expr.specs.View.{data_of}
 
 -- ---- one more part
 pub parts-push : (all : List Part) (v : Value) → parts_of (all ++ One v ∷ []) ≡ parts_of all ++ datum_of v ∷ []
@@ -56,11 +55,13 @@ deepest-behind : (d more other : List Datum) → deepest (as_elements more) ≡ 
 deepest-behind [] more other same = same
 deepest-behind (a ∷ d) more other same = ap (λ n. max (nesting a) n) (deepest-behind d more other same)
 
+none-deeper : (n : ℕ) → max 0 n ≡ n
+none-deeper n = omega arith
+
 deepest-numbers : (n step : ℤ) (k : ℕ) (more : List Datum) → deepest (as_elements (numbers_from n step k ++ more)) ≡ deepest (as_elements more)
 deepest-numbers n step zero more = refl
 deepest-numbers n step (suc k) more =
-    let inside = deepest-numbers (n +ℤ step) step k more in
-    inside
+    none-deeper (deepest (as_elements (numbers_from (n +ℤ step) step k ++ more))) ∙ deepest-numbers (n +ℤ step) step k more
 
 made-many : (d more : List Datum) → length d ≤ made_all (as_elements (d ++ more))
 made-many [] more = omega arith
@@ -76,8 +77,10 @@ nested z at d e same many also =
   where
     over-d : nat_lt step_limit (z.steps + made d) ≡ true
     over-d = grind (arith, nat_tests)
+
     over-e : nat_lt step_limit (z.steps + made e) ≡ true
     over-e = grind (arith, nat_tests)
+
     by : (c : Bool) → (if c then over Depth at else (take (made d) at >> pure d)) z ≡ (if c then over Depth at else (take (made e) at >> pure e)) z
     by true = refl
     by false = passes d over-d ∙ sym (passes e over-e)
@@ -91,7 +94,7 @@ alike-long d whole next n step k many is all = record {
   behind = λ more. record {
     alike = λ at s.
         let nests : nesting (vector (as_elements (d ++ more))) ≡ nesting (vector (as_elements (whole ++ more))) =
-        ap suc (deepest-behind d more (numbers_from n step k ++ more) (sym (deepest-numbers n step k more)))
+        ap (λ n. 1 + n) (deepest-behind d more (numbers_from n step k ++ more) (sym (deepest-numbers n step k more)))
         ∙ ap (λ l. nesting (vector (as_elements l))) (joined more) in
         let short : step_limit < made (vector (as_elements (d ++ more))) =
         (let counts = made-many d more in omega (arith, counts, many)) in

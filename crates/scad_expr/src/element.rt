@@ -4,7 +4,7 @@ ghost use Rattle.std.specs.Prelude.{◌≡◌, OnOk};
 ghost use Rattle.scad_ast.specs.Tree.{vector, item, each, for_each, let_element, if_element, if_else};
 ghost use Rattle.scad_ast.specs.View.{expression_of, arguments, element_of};
 ghost use Rattle.scad_ast.specs.View.{elements as tree_elements};
-ghost use Rattle.scad_value.specs.View.{datum_of, data_in};
+ghost use Rattle.scad_value.specs.View.{datum_of};
 ghost use Rattle.scad_expr.specs.Answers.{Does};
 ghost use Rattle.scad_expr.specs.Machine.{held, env_in, along_in, state_of};
 ghost use Rattle.scad_expr.specs.Meaning.{node, elements, element_node, meaning};

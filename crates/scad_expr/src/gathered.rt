@@ -3,10 +3,9 @@
 ghost use Rattle.std.specs.Prelude.{◌≡◌, ◌++◌, IfOk, OnOk};
 ghost use Rattle.std.specs.List.{flat_map};
 ghost use Rattle.scad_value.specs.Datum.{range};
-ghost use Rattle.scad_value.specs.View.{datum_of};
+ghost use Rattle.scad_value.specs.View.{datum_of, data_in};
 ghost use Rattle.scad_expr.specs.Parts.{part_data, parts_in, MakeAlike, MakeAlikeThen};
 ghost use Rattle.scad_expr.specs.Runs.{items};
-ghost use Rattle.scad_expr.specs.View.{data_in};
 
 use crate::part::Part;
 use crate::running::{items_of, next_number};

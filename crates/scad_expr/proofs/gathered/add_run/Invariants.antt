@@ -2,7 +2,7 @@ use Rattle.std.proofs.Common.{◌≡◌, ◌++◌, length}
 use Rattle.scad_value.specs.Datum.{range}
 use Rattle.scad_expr.specs.Portions.{numbers_left}
 use Rattle.scad_expr.specs.Runs.{items}
-use Rattle.scad_expr.specs.View.{data_in}
+use Rattle.scad_value.specs.View.{data_in}
 use Rattle.scad_expr.proofs.gathered.add_run.Given as goal
 
 abbrev pub invariant-numbers : goal.invariant-numbers
