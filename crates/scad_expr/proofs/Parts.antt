@@ -1,15 +1,15 @@
 -- Parts of a vector that is being made: one more, what `each` makes of them, and how few of them tell that it isn't made.
-use Rattle.std.proofs.Common.{◌≡◌, ℕ, zero, suc, ◌+◌, ◌<◌, ◌≤◌, ℤ, pos, ◌+ℤ◌, Option, Some, None, Bool, true, false, List, [], ◌∷◌, ◌++◌, length, if◌then◌else◌, refl, sym, ap, ap₂, ◌∙◌, append_assoc, length-append, arith}
-use Rattle.std.specs.Prelude.{max, nat_lt, map}
+use Rattle.std.proofs.Common.{◌≡◌, ℕ, zero, suc, ◌+◌, ◌<◌, ◌≤◌, ℤ, pos, ◌+ℤ◌, Option, Some, None, Bool, true, false, List, [], ◌∷◌, ◌++◌, length, if◌then◌else◌, refl, sym, ap, ◌∙◌, append_assoc, arith}
+use Rattle.std.specs.Prelude.{max, nat_lt}
 use Rattle.std.specs.List.{flat_map}
 use Rattle.std.proofs.lemmas.Grind.{flat_map-append}
-use Rattle.std.proofs.lemmas.List.{append-nil, flat_map_more}
+use Rattle.std.proofs.lemmas.List.{append-nil}
 use Rattle.std.proofs.lemmas.Bool.Decides.{nat_tests}
 use Rattle.scad_fault.specs.declared.place.Place.{Place}
 use Rattle.scad_fault.specs.declared.budget.BudgetKind.TheVariants.{Steps, Depth}
 use Rattle.scad_value.specs.Datum.{Datum, number, vector, range}
 use Rattle.scad_value.specs.Measures.{made, made_all, nesting, deepest}
-use Rattle.scad_value.specs.View.{datum_of, data_of}
+use Rattle.scad_value.specs.View.{datum_of}
 use Rattle.scad_value.specs.declared.value.Value.{Value}
 use Rattle.scad_expr.specs.declared.part.Part.{Part}
 use Rattle.scad_expr.specs.declared.part.Part.TheVariants.{One, Run}

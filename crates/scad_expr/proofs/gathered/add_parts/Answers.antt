@@ -1,4 +1,3 @@
-use Rattle.std.proofs.Common.{sym, ap, ◌∙◌}
 use Rattle.scad_expr.proofs.Parts.{each-next}
 use Rattle.scad_expr.proofs.gathered.add_parts.Goals as goal
 

@@ -1,8 +1,7 @@
-use Rattle.std.proofs.Common.{ap, arith}
+use Rattle.std.proofs.Common.{arith}
 use Rattle.std.specs.Vec.Iter.{into_iter_items}
-use Rattle.scad_value.specs.View.{data_in}
 use Rattle.scad_expr.proofs.Loops.{nothing-left}
-use Rattle.scad_expr.proofs.Parts.{alike-same, alike-next, alike-end}
+use Rattle.scad_expr.proofs.Parts.{alike-next, alike-end}
 use Rattle.scad_expr.proofs.gathered.values_of.Goals as goal
 
 pub parts-preserved : goal.parts-preserved
