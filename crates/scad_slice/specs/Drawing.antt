@@ -1,6 +1,6 @@
 -- What is drawn of a tree: the outlines of each of its layers.
-use Rattle.std.specs.Prelude.{◌+◌, ◌*◌, ℕ, List, map, length}
-use Rattle.std.specs.List.{flat_map, range_with_len}
+use Rattle.std.specs.Prelude.{◌+◌, ◌*◌, ℕ, List, map, length, sum_by}
+use Rattle.std.specs.List.{range_with_len}
 use Rattle.scad_geom.specs.declared.point.Pt.{Pt}
 use Rattle.scad_tree.specs.Solid.{Solid}
 use Rattle.slice_layer.specs.Leaves.{AreSolids}
@@ -26,4 +26,4 @@ layers_of drawing n = map (layer_at drawing) (range_with_len 0 n)
 
 -- how many outlines they have together
 abbrev pub loop_count : Drawing → ℕ → ℕ
-loop_count drawing n = length (flat_map drawing (range_with_len 0 n))
+loop_count drawing n = sum_by length (map drawing (range_with_len 0 n))

@@ -22,9 +22,9 @@ use scad_tree::Tree;
 use std::alloc::{AllocError, Global};
 
 /// Writes the outlines of a tree that has so many layers, and gives the last line.
-pub fn draw<D: Desk>(alloc: Global, tree: &Tree, layers: u32, desk: &mut D) -> Result<Text, Stop>
-    requires number { layers ≡ layer_count (solid_of tree.now) }
-    requires few { layers ≤ layer_limit }
+pub fn draw<D: Desk>(alloc: Global, tree: &Tree, count: u32, desk: &mut D) -> Result<Text, Stop>
+    requires number { count ≡ layer_count (solid_of tree.now) }
+    requires few { count ≤ layer_limit }
     requires solids { AreSolids (solid_of tree.now) }
     requires sound { Sound (D.view desk.old) }
     requires made { (D.view desk.old).cli.created ≡ true }
@@ -35,18 +35,18 @@ pub fn draw<D: Desk>(alloc: Global, tree: &Tree, layers: u32, desk: &mut D) -> R
     ensures later { D.faults desk.old ≤ D.faults desk.new }
     ensures cause { HasRisen result (D.faults desk.old) (D.faults desk.new) }
 {
-    send_head(alloc, layers, desk)?;
-    let loops = draw_layers(alloc, tree, layers, desk)?;
+    send_head(alloc, count, desk)?;
+    let loops = draw_layers(alloc, tree, count, desk)?;
     send_end(alloc, desk)?;
-    let line = done_line(alloc, layers, loops)?;
+    let line = done_line(alloc, count, loops)?;
     Ok(Text::from_vec(line))
 }
 
-fn send_head<D: Desk>(alloc: Global, layers: u32, desk: &mut D) -> Result<(), Stop>
+fn send_head<D: Desk>(alloc: Global, count: u32, desk: &mut D) -> Result<(), Stop>
     requires sound { Sound (D.view desk.old) }
     requires made { (D.view desk.old).cli.created ≡ true }
 
-    ensures carries { Carries (first (Sends Cli (head layers) ∷ [])) result (D.view desk.old) (D.view desk.new) }
+    ensures carries { Carries (first (Sends Cli (head count) ∷ [])) result (D.view desk.old) (D.view desk.new) }
     ensures sound { OnOk result (Sound (D.view desk.new)) }
     ensures creates { OnOk result (CreatesNone (D.view desk.old) (D.view desk.new)) }
     ensures files { D.files desk.new ≡ D.files desk.old }
@@ -54,21 +54,21 @@ fn send_head<D: Desk>(alloc: Global, layers: u32, desk: &mut D) -> Result<(), St
     ensures cause { HasRisen result (D.faults desk.old) (D.faults desk.new) }
 {
     let mut text = Vec::new(alloc);
-    write_head(&mut text, layers)?;
+    write_head(&mut text, count)?;
     send(desk, Out::Cli, &text)
 }
 
 /// Writes so many layers from the lowest upwards: how many outlines they have together. No memory holds more than a number
 /// can count.
-fn draw_layers<D: Desk>(alloc: Global, tree: &Tree, layers: u32, desk: &mut D) -> Result<u64, Stop>
-    requires few { layers ≤ layer_limit }
+fn draw_layers<D: Desk>(alloc: Global, tree: &Tree, count: u32, desk: &mut D) -> Result<u64, Stop>
+    requires few { count ≤ layer_limit }
     requires solids { AreSolids (solid_of tree.now) }
     requires sound { Sound (D.view desk.old) }
     requires made { (D.view desk.old).cli.created ≡ true }
 
     ensures carries { (drawing : _) → IsDrawing (solid_of tree.now) drawing
-        → Carries (layers (layer_steps (solid_of tree.now) drawing) 0 layers) result (D.view desk.old) (D.view desk.new) }
-    ensures loops { IfOk result (λ loops. (drawing : _) → IsDrawing (solid_of tree.now) drawing → loops ≡ loop_count drawing layers) }
+        → Carries (layers (layer_steps (solid_of tree.now) drawing) 0 count) result (D.view desk.old) (D.view desk.new) }
+    ensures loops { IfOk result (λ loops. (drawing : _) → IsDrawing (solid_of tree.now) drawing → loops ≡ loop_count drawing count) }
     ensures sound { OnOk result (Sound (D.view desk.new)) }
     ensures creates { OnOk result (CreatesNone (D.view desk.old) (D.view desk.new)) }
     ensures files { D.files desk.new ≡ D.files desk.old }
@@ -76,7 +76,7 @@ fn draw_layers<D: Desk>(alloc: Global, tree: &Tree, layers: u32, desk: &mut D) -
     ensures cause { HasRisen result (D.faults desk.old) (D.faults desk.new) }
 {
     let mut loops: u64 = 0;
-    'layers: for layer in 0..layers {
+    'layers: for layer in 0..count {
         let drawn = draw_layer(alloc, tree, layer, desk)?;
         loops = match loops.checked_add(drawn) {
             Some(sum) => sum,
@@ -104,12 +104,12 @@ fn send_end<D: Desk>(alloc: Global, desk: &mut D) -> Result<(), Stop>
 
 /// `done: N layers, L loops`
 #[tactic(auto, unfolding(crate::specs::Script::done_line))]
-fn done_line(alloc: Global, layers: u32, loops: u64) -> Result<Vec<u8>, AllocError>
-    ensures { IfOk result (λ line. line.items ≡ done_line layers loops) }
+fn done_line(alloc: Global, count: u32, loops: u64) -> Result<Vec<u8>, AllocError>
+    ensures { IfOk result (λ line. line.items ≡ done_line count loops) }
 {
     let mut number = Buffer::new();
     let mut line = Vec::from_slice(alloc, b"done: ")?;
-    line.extend_from_slice(number.format(layers).as_bytes())?;
+    line.extend_from_slice(number.format(count).as_bytes())?;
     line.extend_from_slice(b" layers, ")?;
     line.extend_from_slice(number.format(loops).as_bytes())?;
     line.extend_from_slice(b" loops\n")?;

@@ -1,6 +1,6 @@
 //! One layer: its outlines, and their lines.
-ghost use Rattle.std.specs.Prelude.{◌≡◌, ◌≤◌, ◌<◌, ◌∷◌, [], None, length, IfOk, IfErr, OnOk};
-ghost use Rattle.scad_io.specs.Desk.{View};
+ghost use Rattle.std.specs.Prelude.{◌≡◌, ◌≤◌, ◌<◌, ◌∷◌, [], true, None, length, IfOk, IfErr, OnOk};
+ghost use Rattle.scad_fault.specs.Place.{no_place};
 ghost use Rattle.scad_io.specs.declared.desk.Out.TheVariants.{Cli};
 ghost use Rattle.scad_script.specs.Steps.{Sends};
 ghost use Rattle.scad_script.specs.Script.{first, layer_then};

@@ -10,7 +10,7 @@ use scad_tree::Node;
 
 /// Each leaf of a tree is the surface of a solid. A leaf says so itself, and all that is done is to ask each.
 #[cycle(leaves)]
-pub fn are_solids(node: &Node)
+pub(crate) fn are_solids(node: &Node)
     ensures { AreSolids (solid_of node.now) }
 {
     match node {

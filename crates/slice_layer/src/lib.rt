@@ -11,4 +11,3 @@ mod leaves;
 mod tests;
 
 pub use layer::layer_outlines;
-pub use leaves::are_solids;

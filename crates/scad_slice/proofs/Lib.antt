@@ -1,0 +1,4 @@
+pub mod Drawings
+pub mod Holding
+pub mod Parted
+pub mod Drawn
