@@ -1,13 +1,13 @@
--- The exact cuts of a closed surface are balanced: at each point as many start as end.
-use Rattle.std.proofs.Common.{◌≡◌, ℕ, ◌+◌, ◌*◌, ◌/◌, Bool, true, false, cond, ◌&&◌, not, List, [], ◌∷◌, map, Some, None, Option, ℤ, pos, ◌*ℤ◌, ◌<ℤ◌, refl, ap₂, sym, ◌∙◌, subst, arith}
+-- The cuts of a closed surface are balanced: whatever points count, at their starts as much is counted as at their ends.
+use Rattle.std.proofs.Common.{◌≡◌, ℕ, ◌+◌, ◌*◌, ◌/◌, Bool, true, false, cond, ◌&&◌, not, List, [], ◌∷◌, map, Some, None, Option, ℤ, pos, ◌*ℤ◌, refl, ap₂, sym, ◌∙◌, subst, arith}
 use Rattle.std.specs.Prelude.{int_lt}
 use Rattle.std.specs.List.{cons_option, sum_by}
 use Rattle.std.proofs.lemmas.Int.{ints}
 use Rattle.std.proofs.lemmas.List.Sums.{sum_by-cons, sum_by-append}
 use Rattle.scad_geom.specs.Point.{Point, is_same_point}
 use Rattle.scad_geom.specs.Segment.{Segment}
-use Rattle.scad_geom.specs.Balance.{starts_at, ends_at, IsBalanced}
-use Rattle.scad_geom.proofs.Balanced.{once, starts-cons, ends-cons}
+use Rattle.scad_geom.specs.Balance.{IsBalanced}
+use Rattle.scad_geom.proofs.Balanced.{once}
 use Rattle.scad_solid.specs.declared.side.Side.{Side}
 use Rattle.scad_solid.specs.declared.triangle.Triangle.{Triangle}
 use Rattle.scad_solid.specs.Side.{reversed}
@@ -22,16 +22,22 @@ below_or_above layer h z = apart (layer * h + h / 2) z
     apart : (n : ℕ) (z : ℤ) → int_lt (pos 2 *ℤ z) (pos (2 * n + 1)) ≡ not (int_lt (pos (2 * n + 1)) (pos 2 *ℤ z))
     apart n z = grind (arith, ints)
 
-module _ (p : Point) (plane : ℤ) where
-  -- a side that falls through the plane at p counts once
+module _ (mark : Point → ℕ) (plane : ℤ) where
+  abbrev starts : List Segment → ℕ
+  starts cs = sum_by (λ c. mark c.from) cs
+
+  abbrev ends : List Segment → ℕ
+  ends cs = sum_by (λ c. mark c.to) cs
+
+  -- the mark of the point at which a side falls through the plane, if it does
   abbrev falls_at : Side → ℕ
-  falls_at s = cond (is_above plane s.from.z) (cond (is_below plane s.to.z) (once (is_same_point p (point_between s.to s.from plane))) 0) 0
+  falls_at s = cond (is_above plane s.from.z) (cond (is_below plane s.to.z) (mark (point_between s.to s.from plane)) 0) 0
 
   abbrev start_of : Side → ℕ
-  start_of s = once (is_same_point p (point_between s.to s.from plane))
+  start_of s = mark (point_between s.to s.from plane)
 
   abbrev end_of : Side → ℕ
-  end_of s = once (is_same_point p (point_between s.from s.to plane))
+  end_of s = mark (point_between s.from s.to plane)
 
   abbrev ab : Triangle → Side
   ab t = record { from = t.a; to = t.b }
@@ -49,11 +55,11 @@ module _ (p : Point) (plane : ℤ) where
       (cond (a' && b) (Some (ab t)) (cond (b' && c) (Some (bc t)) (cond (c' && a) (Some (ca t)) None)))
 
   abbrev Starts : Triangle → Bool → Bool → Bool → Bool → Bool → Bool → Type 0
-  Starts t a a' b b' c c' = starts_at p (cons_option (cut_by t a a' b b' c c') []) ≡
+  Starts t a a' b b' c c' = starts (cons_option (cut_by t a a' b b' c c') []) ≡
       cond a (cond b' (start_of (ab t)) 0) 0 + (cond b (cond c' (start_of (bc t)) 0) 0 + cond c (cond a' (start_of (ca t)) 0) 0)
 
   abbrev Ends : Triangle → Bool → Bool → Bool → Bool → Bool → Bool → Type 0
-  Ends t a a' b b' c c' = ends_at p (cons_option (cut_by t a a' b b' c c') []) ≡
+  Ends t a a' b b' c c' = ends (cons_option (cut_by t a a' b b' c c') []) ≡
       cond b (cond a' (end_of (ab t)) 0) 0 + (cond c (cond b' (end_of (bc t)) 0) 0 + cond a (cond c' (end_of (ca t)) 0) 0)
 
   starts_by : (t : Triangle) (a b c : Bool) → Starts t a (not a) b (not b) c (not c)
@@ -77,7 +83,7 @@ module _ (p : Point) (plane : ℤ) where
   ends_by t false false false = refl
 
   module _ (apart : (z : ℤ) → is_below plane z ≡ not (is_above plane z)) where
-    starts_of : (t : Triangle) → starts_at p (cons_option (cut_of plane t) []) ≡ sum_by falls_at (sides_of t)
+    starts_of : (t : Triangle) → starts (cons_option (cut_of plane t) []) ≡ sum_by falls_at (sides_of t)
     starts_of t =
         subst (λ x. Starts t (is_above plane t.a.z) x (is_above plane t.b.z) (is_below plane t.b.z) (is_above plane t.c.z) (is_below plane t.c.z)) (sym (apart t.a.z))
         (subst (λ x. Starts t (is_above plane t.a.z) (not (is_above plane t.a.z)) (is_above plane t.b.z) x (is_above plane t.c.z) (is_below plane t.c.z)) (sym (apart t.b.z))
@@ -85,7 +91,7 @@ module _ (p : Point) (plane : ℤ) where
         (starts_by t (is_above plane t.a.z) (is_above plane t.b.z) (is_above plane t.c.z))))
         ∙ omega arith
 
-    ends_of : (t : Triangle) → ends_at p (cons_option (cut_of plane t) []) ≡ sum_by (λ s. falls_at (reversed s)) (sides_of t)
+    ends_of : (t : Triangle) → ends (cons_option (cut_of plane t) []) ≡ sum_by (λ s. falls_at (reversed s)) (sides_of t)
     ends_of t =
         subst (λ x. Ends t (is_above plane t.a.z) x (is_above plane t.b.z) (is_below plane t.b.z) (is_above plane t.c.z) (is_below plane t.c.z)) (sym (apart t.a.z))
         (subst (λ x. Ends t (is_above plane t.a.z) (not (is_above plane t.a.z)) (is_above plane t.b.z) x (is_above plane t.c.z) (is_below plane t.c.z)) (sym (apart t.b.z))
@@ -93,19 +99,19 @@ module _ (p : Point) (plane : ℤ) where
         (ends_by t (is_above plane t.a.z) (is_above plane t.b.z) (is_above plane t.c.z))))
         ∙ omega arith
 
-    starts-more : (o : Option Segment) (cs : List Segment) → starts_at p (cons_option o cs) ≡ starts_at p (cons_option o []) + starts_at p cs
+    starts-more : (o : Option Segment) (cs : List Segment) → starts (cons_option o cs) ≡ starts (cons_option o []) + starts cs
     starts-more None cs = omega arith
-    starts-more (Some c) cs = omega (arith, starts-cons p c cs)
+    starts-more (Some c) cs = omega (arith, sum_by-cons (λ (x : Segment). mark x.from) c cs)
 
-    ends-more : (o : Option Segment) (cs : List Segment) → ends_at p (cons_option o cs) ≡ ends_at p (cons_option o []) + ends_at p cs
+    ends-more : (o : Option Segment) (cs : List Segment) → ends (cons_option o cs) ≡ ends (cons_option o []) + ends cs
     ends-more None cs = omega arith
-    ends-more (Some c) cs = omega (arith, ends-cons p c cs)
+    ends-more (Some c) cs = omega (arith, sum_by-cons (λ (x : Segment). mark x.to) c cs)
 
-    starts_all : (ts : List Triangle) → starts_at p (cuts_of plane ts) ≡ sum_by falls_at (sides ts)
+    starts_all : (ts : List Triangle) → starts (cuts_of plane ts) ≡ sum_by falls_at (sides ts)
     starts_all [] = refl
     starts_all (t ∷ ts) = starts-more (cut_of plane t) (cuts_of plane ts) ∙ ap₂ (λ m n. m + n) (starts_of t) (starts_all ts) ∙ sym (sum_by-append falls_at (sides_of t) (sides ts))
 
-    ends_all : (ts : List Triangle) → ends_at p (cuts_of plane ts) ≡ sum_by (λ s. falls_at (reversed s)) (sides ts)
+    ends_all : (ts : List Triangle) → ends (cuts_of plane ts) ≡ sum_by (λ s. falls_at (reversed s)) (sides ts)
     ends_all [] = refl
     ends_all (t ∷ ts) = ends-more (cut_of plane t) (cuts_of plane ts) ∙ ap₂ (λ m n. m + n) (ends_of t) (ends_all ts) ∙ sym (sum_by-append (λ s. falls_at (reversed s)) (sides_of t) (sides ts))
 
@@ -114,11 +120,13 @@ sum_by-of_reversed : (f : Side → ℕ) (ss : List Side) → sum_by (λ s. f (re
 sum_by-of_reversed f [] = refl
 sum_by-of_reversed f (s ∷ ss) = omega (arith, sum_by-cons (λ x. f (reversed x)) s ss, sum_by-cons f (reversed s) (map reversed ss), sum_by-of_reversed f ss)
 
+-- as much is marked where cuts start as where they end
+pub marks_balanced : (mark : Point → ℕ) (layer h : ℕ) (ts : List Triangle) → is_closed ts ≡ true
+    → sum_by (λ c. mark c.from) (cuts_of (plane_of layer h) ts) ≡ sum_by (λ c. mark c.to) (cuts_of (plane_of layer h) ts)
+marks_balanced mark layer h ts closed =
+    let plane = plane_of layer h in
+    starts_all mark plane (below_or_above layer h) ts
+    ∙ sym (ends_all mark plane (below_or_above layer h) ts ∙ sum_by-of_reversed (falls_at mark plane) (sides ts) ∙ sum_by-reversed ts closed (falls_at mark plane))
+
 pub cuts_balanced : (layer h : ℕ) (ts : List Triangle) → is_closed ts ≡ true → IsBalanced (cuts_of (plane_of layer h) ts)
-cuts_balanced layer h ts closed = record { each = each }
-  where
-    each : (p : Point) → pos 0 <ℤ p.d → starts_at p (cuts_of (plane_of layer h) ts) ≡ ends_at p (cuts_of (plane_of layer h) ts)
-    each p some =
-        let plane = plane_of layer h in
-        starts_all p plane (below_or_above layer h) ts
-        ∙ sym (ends_all p plane (below_or_above layer h) ts ∙ sum_by-of_reversed (falls_at p plane) (sides ts) ∙ sum_by-reversed ts closed (falls_at p plane))
+cuts_balanced layer h ts closed = record { each = λ p some. marks_balanced (λ q. once (is_same_point p q)) layer h ts closed }
