@@ -10,7 +10,7 @@ use Rattle.scad_solid.specs.Surface.{is_closed}
 use Rattle.scad_solid.specs.Range.{is_triangle_in_range}
 use Rattle.scad_tree.specs.Solid.{Solid}
 use Rattle.scad_tree.specs.Order.{surfaces}
-use Rattle.slice_layer.specs.Leaves.{AreSolids}
+use Rattle.scad_tree.specs.Solids.{AreSolids}
 use Rattle.slice_layer.specs.Outlines.{AreLayerOutlines}
 use Rattle.outline_laws.proofs.OneLayer.{layers_have_one_outlines}
 use Rattle.scad_slice.specs.Budgets.{layer_height}

@@ -9,19 +9,21 @@ use Rattle.scad_io.specs.Desk.{View}
 use Rattle.scad_io.specs.declared.desk.Out.TheVariants.{Cli}
 use Rattle.scad_script.specs.declared.stop.Stop.{Stop}
 use Rattle.scad_script.specs.declared.refusal.Refusal.TheVariants.{Over}
-use Rattle.scad_script.specs.Steps.{Sends}
-use Rattle.scad_script.specs.Script.{Script, Refuses, first, ends, layer_then}
+use Rattle.scad_script.specs.Steps.{Makes, Sends}
+use Rattle.scad_script.specs.Script.{Script, Finishes, Refuses, first, ends, layer_then, layers}
 use Rattle.scad_script.specs.Played.{Left, Stops}
 use Rattle.scad_script.proofs.Layers.{as_left}
 use Rattle.scad_tree.specs.Solid.{Solid}
-use Rattle.slice_layer.specs.Leaves.{AreSolids}
+use Rattle.scad_tree.specs.Solids.{AreSolids}
+use Rattle.slice_bool.specs.declared.fault.BoolFault.TheVariants.{Edges, Crossings}
+use Rattle.slice_layer.specs.Refusal.{IsRefusal}
 use Rattle.slice_layer.specs.Outlines.{AreLayerOutlines}
 use Rattle.outline_laws.proofs.OneLayer.{layers_have_one_outlines}
 use Rattle.slice_events.specs.Limits.{crossing_limit}
-use Rattle.cli_text.specs.Cli.{Layer, layer_text}
-use Rattle.scad_slice.specs.Budgets.{layer_height, edge_limit, edges_passed, crossings_passed, budget_passed, layer_budget}
+use Rattle.cli_text.specs.Cli.{head, layer_text}
+use Rattle.scad_slice.specs.Budgets.{layer_height, layer_count, layer_limit, layers_passed, edge_limit, edges_passed, crossings_passed, budget_passed, layer_budget}
 use Rattle.scad_slice.specs.Drawing.{Drawing, IsDrawing, layer_at, loop_count}
-use Rattle.scad_slice.specs.Script.{written_unless, layer_steps}
+use Rattle.scad_slice.specs.Script.{done_line, written_unless, layer_steps, drawing_end, layers_script, drawing_script, slice_script}
 use Rattle.scad_slice.specs.Playing.{EndsLayer}
 
 -- outlines of a layer are the drawing's
@@ -54,9 +56,17 @@ crossings_budget i edges crossed few many =
     let b : nat_lt crossing_limit crossed ≡ true = grind (arith, nat_tests) in
     (λ k. if a k then Some (edges_passed i edges) else if b k then Some (crossings_passed i crossed) else None)
 
--- that passed is the budget of a stop
-pub ends_by : (passed : Option Budget) (budget : Budget) → passed ≡ Some budget → EndsLayer passed (Stop.Ends (Over budget))
-ends_by passed budget is = subst (λ (p : Option Budget). EndsLayer p (Stop.Ends (Over budget))) (sym is) refl
+-- a stop that says so
+
+pub edges_ended : (i edges crossed count : ℕ) (stop : Stop) → IsRefusal edges edge_limit crossed (Edges count) → stop ≡ Stop.Ends (Over (edges_passed i count)) → EndsLayer (budget_passed i edges crossed) stop
+edges_ended i edges crossed count stop (same, many) is =
+    subst (λ (p : Option Budget). EndsLayer p stop) (sym (edges_budget i edges crossed many))
+    (subst (EndsLayer (Some (edges_passed i edges))) (sym is) (λ k. Over (edges_passed i (same k))))
+
+pub crossings_ended : (i edges crossed count : ℕ) (stop : Stop) → IsRefusal edges edge_limit crossed (Crossings count) → stop ≡ Stop.Ends (Over (crossings_passed i count)) → EndsLayer (budget_passed i edges crossed) stop
+crossings_ended i edges crossed count stop (few, same, many) is =
+    subst (λ (p : Option Budget). EndsLayer p stop) (sym (crossings_budget i edges crossed few many))
+    (subst (EndsLayer (Some (crossings_passed i crossed))) (sym is) (λ k. Over (crossings_passed i (same k))))
 
 -- a layer that passes a budget ends the script
 pub layer_stops : (tree : Solid) (drawing : Drawing) (i : ℕ) (rest whole : Script) (start old : View) (passed : Option Budget) (stop : Stop) → layer_budget tree i ≡ passed → EndsLayer passed stop → Left whole (layer_then (layer_steps tree drawing i) rest) start old → Stops whole stop start old
@@ -70,3 +80,16 @@ layer_stops tree drawing i rest whole start old passed Stop.Silent is same left 
 
 pub one_layer_more : (drawing : Drawing) (i : ℕ) → loop_count drawing (i + 1) ≡ loop_count drawing i + length (drawing i)
 one_layer_more drawing i = sum_by-map-range_with_len_more length drawing 0 i i (omega arith)
+
+-- The script of a tree, by its number of layers and of loops.
+
+pub within_limit : (cli : List ℕ) (drawing : Drawing) (tree : Solid) → layer_count tree ≤ layer_limit → slice_script cli drawing tree ≡ first (Makes Cli cli ∷ []) (drawing_script tree drawing)
+within_limit cli drawing tree few =
+    let within : nat_lt layer_limit (layer_count tree) ≡ false = grind (arith, nat_tests) in
+    ap (λ b. if b then ends (Refuses (Over (layers_passed (layer_count tree)))) else first (Makes Cli cli ∷ []) (drawing_script tree drawing)) within
+
+pub begins_by : (tree : Solid) (drawing : Drawing) (count : ℕ) → count ≡ layer_count tree → drawing_script tree drawing ≡ first (Sends Cli (head count) ∷ []) (layers (layer_steps tree drawing) 0 count (drawing_end drawing count))
+begins_by tree drawing count number = ap (λ n. first (Sends Cli (head n) ∷ []) (layers_script tree drawing n)) (sym number)
+
+pub ends_by : (drawing : Drawing) (count loops : ℕ) (line : List ℕ) → loops ≡ loop_count drawing count → line ≡ done_line count loops → ends (Finishes (done_line count (loop_count drawing count))) ≡ ends (Finishes line)
+ends_by drawing count loops line number is = ap (λ text. ends (Finishes text)) (ap (done_line count) (sym number) ∙ sym is)

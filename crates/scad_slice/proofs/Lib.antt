@@ -2,3 +2,4 @@ pub mod Drawings
 pub mod Holding
 pub mod Parted
 pub mod Drawn
+pub mod Stopping

@@ -3,7 +3,7 @@ use Rattle.std.specs.Prelude.{◌+◌, ◌*◌, ℕ, List, map, length, sum_by}
 use Rattle.std.specs.List.{range_with_len}
 use Rattle.scad_geom.specs.declared.point.Pt.{Pt}
 use Rattle.scad_tree.specs.Solid.{Solid}
-use Rattle.slice_layer.specs.Leaves.{AreSolids}
+use Rattle.scad_tree.specs.Solids.{AreSolids}
 use Rattle.slice_layer.specs.Outlines.{AreLayerOutlines}
 use Rattle.cli_text.specs.Cli.{Layer}
 use Rattle.scad_slice.specs.Budgets.{layer_height}

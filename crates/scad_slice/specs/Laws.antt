@@ -1,7 +1,7 @@
 -- Laws of drawings.
 use Rattle.std.specs.Prelude.{◌≡◌, ℕ, List}
 use Rattle.scad_tree.specs.Solid.{Solid}
-use Rattle.slice_layer.specs.Leaves.{AreSolids}
+use Rattle.scad_tree.specs.Solids.{AreSolids}
 use Rattle.scad_slice.specs.Drawing.{Drawing, IsDrawing, layers_of}
 use Rattle.scad_slice.specs.Budgets.{layer_count}
 use Rattle.scad_slice.specs.Membership.{HoldTree}

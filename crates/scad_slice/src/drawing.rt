@@ -6,7 +6,7 @@ ghost use Rattle.scad_script.specs.Script.{first, layers};
 ghost use Rattle.scad_script.specs.Played.{Carries, Completes, HasRisen};
 ghost use Rattle.scad_script.specs.Run.{Sound, CreatesNone};
 ghost use Rattle.scad_tree.specs.View.{solid_of};
-ghost use Rattle.slice_layer.specs.Leaves.{AreSolids};
+ghost use Rattle.scad_tree.specs.Solids.{AreSolids};
 ghost use Rattle.cli_text.specs.Cli.{head, geometry_end};
 ghost use Rattle.scad_slice.specs.Budgets.{layer_count, layer_limit};
 ghost use Rattle.scad_slice.specs.Drawing.{IsDrawing, loop_count};

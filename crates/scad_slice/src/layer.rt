@@ -7,7 +7,7 @@ ghost use Rattle.scad_script.specs.Script.{first, layer_then};
 ghost use Rattle.scad_script.specs.Played.{Carries, HasRisen};
 ghost use Rattle.scad_script.specs.Run.{Sound, CreatesNone};
 ghost use Rattle.scad_tree.specs.View.{solid_of};
-ghost use Rattle.slice_layer.specs.Leaves.{AreSolids};
+ghost use Rattle.scad_tree.specs.Solids.{AreSolids};
 ghost use Rattle.slice_layer.specs.Outlines.{AreLayerOutlines};
 ghost use Rattle.cli_text.specs.Cli.{Layer, layer_text};
 ghost use Rattle.scad_slice.specs.Budgets.{layer_height, layer_limit, layer_budget, budget_passed};

@@ -3,7 +3,7 @@ ghost use Rattle.std.specs.Prelude.{◌≡◌, ◌≤◌, ◌<◌, false};
 ghost use Rattle.scad_script.specs.Played.{Completes, HasRisen};
 ghost use Rattle.scad_script.specs.Run.{Sound};
 ghost use Rattle.scad_tree.specs.View.{solid_of};
-ghost use Rattle.slice_layer.specs.Leaves.{AreSolids};
+ghost use Rattle.scad_tree.specs.Solids.{AreSolids};
 ghost use Rattle.scad_slice.specs.Drawing.{IsDrawing};
 ghost use Rattle.scad_slice.specs.Script.{slice_script};
 

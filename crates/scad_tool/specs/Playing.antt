@@ -11,7 +11,7 @@ use Rattle.scad_expr.specs.State.{State, Outcome, gives, refuses}
 use Rattle.scad_tree.specs.declared.tree.Tree.{Tree as TreeInMemory}
 use Rattle.scad_tree.specs.Solid.{Solid}
 use Rattle.scad_tree.specs.View.{solid_of}
-use Rattle.slice_layer.specs.Leaves.{AreSolids}
+use Rattle.scad_tree.specs.Solids.{AreSolids}
 use Rattle.scad_slice.specs.Drawing.{Drawing}
 use Rattle.scad_tool.specs.Words.{Command, Check, Tree, Slice, command_of}
 use Rattle.scad_tool.specs.Meaning.{source_means}

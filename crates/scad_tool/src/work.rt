@@ -16,7 +16,6 @@ use crate::words::{Command, read_words};
 use scad_fault::{Budget, Text};
 use scad_io::Desk;
 use scad_script::{Input, Refusal, Stop, load};
-use slice_layer::are_solids;
 use std::alloc::Global;
 
 /// The most bytes that a source may have.
@@ -82,6 +81,6 @@ fn slice<D: Desk>(alloc: Global, cli: &str, source: &[u8], desk: &mut D) -> Resu
     ensures cause { HasRisen result (D.faults desk.old) (D.faults desk.new) }
 {
     let tree = evaluate(alloc, source, desk)?;
-    are_solids(tree.as_node());
+    tree.are_solids();
     scad_slice::slice(alloc, &tree, cli, desk)
 }
