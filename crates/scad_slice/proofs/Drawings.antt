@@ -3,7 +3,6 @@ use Rattle.std.proofs.Common.{◌≡◌, ◌⊎◌, inl, inr, refl, ℕ, List, [
 use Rattle.std.specs.Prelude.{All}
 use Rattle.std.specs.List.{AllByRecursion, list_all}
 use Rattle.std.proofs.lemmas.List.Elements.{recursion_from_All, All-from_recursion}
-use Rattle.scad_geom.specs.declared.point.Pt.{Pt}
 use Rattle.scad_solid.specs.declared.triangle.Triangle.{Triangle}
 use Rattle.scad_solid.specs.Solid.{IsSolid}
 use Rattle.scad_solid.specs.Surface.{is_closed}
@@ -11,8 +10,8 @@ use Rattle.scad_solid.specs.Range.{is_triangle_in_range}
 use Rattle.scad_tree.specs.Solid.{Solid}
 use Rattle.scad_tree.specs.Order.{surfaces}
 use Rattle.scad_tree.specs.Solids.{AreSolids}
-use Rattle.slice_layer.specs.Outlines.{AreLayerOutlines}
 use Rattle.outline_laws.proofs.OneLayer.{layers_have_one_outlines}
+use Rattle.outline_laws.proofs.SomeLayer.{layers_have_outlines}
 use Rattle.scad_slice.specs.Budgets.{layer_height}
 use Rattle.scad_slice.specs.Drawing.{Drawing, IsDrawing}
 use Rattle.scad_slice.specs.Laws.{TreesHaveDrawings, DrawingsAreOne}
@@ -40,16 +39,12 @@ are_solids_or_not tree =
       | inr never ↦ inr (λ solids. never (recursion_from_All IsSolid (surfaces tree) solids))
     ]
 
--- each layer of a tree of solids has outlines
-abbrev LayersHaveOutlines : Type 0
-LayersHaveOutlines = (layer h : ℕ) (s : Solid) → AreSolids s → (outlines : List (List Pt)) × AreLayerOutlines layer h s outlines
+drawing_by : (tree : Solid) → AreSolids tree ⊎ (AreSolids tree → ⊥) → (drawing : Drawing) × IsDrawing tree drawing
+drawing_by tree (inl solids) = (λ i. (layers_have_outlines i layer_height tree solids).outlines, λ again i. (layers_have_outlines i layer_height tree solids).are_outlines)
+drawing_by tree (inr never) = (λ i. [], λ solids. absurd (never solids))
 
-drawing_by : LayersHaveOutlines → (tree : Solid) → AreSolids tree ⊎ (AreSolids tree → ⊥) → (drawing : Drawing) × IsDrawing tree drawing
-drawing_by there tree (inl solids) = (λ i. (there i layer_height tree solids).0, λ again i. (there i layer_height tree solids).1)
-drawing_by there tree (inr never) = (λ i. [], λ solids. absurd (never solids))
-
-pub trees_have_drawings : LayersHaveOutlines → TreesHaveDrawings
-trees_have_drawings there tree = drawing_by there tree (are_solids_or_not tree)
+pub trees_have_drawings : TreesHaveDrawings
+trees_have_drawings tree = drawing_by tree (are_solids_or_not tree)
 
 pub drawings_are_one : DrawingsAreOne
 drawings_are_one tree a b solids of_a of_b =

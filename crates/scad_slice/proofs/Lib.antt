@@ -3,3 +3,4 @@ pub mod Holding
 pub mod Parted
 pub mod Drawn
 pub mod Stopping
+pub mod Orderly
