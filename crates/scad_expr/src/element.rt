@@ -4,12 +4,11 @@ ghost use Rattle.std.specs.Prelude.{◌≡◌, OnOk};
 ghost use Rattle.scad_ast.specs.Tree.{vector, item, each, for_each, let_element, if_element, if_else};
 ghost use Rattle.scad_ast.specs.View.{expression_of, arguments, element_of};
 ghost use Rattle.scad_ast.specs.View.{elements as tree_elements};
-ghost use Rattle.scad_value.specs.View.{datum_of};
+ghost use Rattle.scad_value.specs.View.{datum_of, data_in};
 ghost use Rattle.scad_expr.specs.Answers.{Does};
 ghost use Rattle.scad_expr.specs.Machine.{held, env_in, along_in, state_of};
 ghost use Rattle.scad_expr.specs.Meaning.{node, elements, element_node, meaning};
 ghost use Rattle.scad_expr.specs.Places.{element_place};
-ghost use Rattle.scad_expr.specs.View.{data_in};
 
 use crate::fault::EvalFault;
 use crate::judged::{judge_named, judge_variables};

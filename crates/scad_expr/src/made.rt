@@ -3,13 +3,12 @@
 ghost use Rattle.std.specs.Prelude.{◌≡◌};
 ghost use Rattle.scad_ast.specs.View.{arguments};
 ghost use Rattle.scad_value.specs.Datum.{vector};
-ghost use Rattle.scad_value.specs.View.{datum_of};
+ghost use Rattle.scad_value.specs.View.{datum_of, data_of};
 ghost use Rattle.scad_expr.specs.Answers.{Does, nothing};
 ghost use Rattle.scad_expr.specs.Machine.{held, state_of};
 ghost use Rattle.scad_expr.specs.Printed.{echo_line};
 ghost use Rattle.scad_expr.specs.Runs.{as_elements};
 ghost use Rattle.scad_expr.specs.State.{make, say};
-ghost use Rattle.scad_expr.specs.View.{data_of};
 
 use crate::fault::EvalFault;
 use crate::machine::Machine;

@@ -3,10 +3,9 @@
 ghost use Rattle.std.specs.Prelude.{◌≡◌, ◌++◌, ◌∷◌, [], false, Some, IfOk, OnOk, MatchOption, map};
 ghost use Rattle.std.specs.List.{flat_map};
 ghost use Rattle.scad_value.specs.Datum.{number, string};
-ghost use Rattle.scad_value.specs.View.{datum_of};
+ghost use Rattle.scad_value.specs.View.{datum_of, data_of, data_in};
 ghost use Rattle.scad_expr.specs.Portions.{is_past, numbers_left};
 ghost use Rattle.scad_expr.specs.Runs.{items};
-ghost use Rattle.scad_expr.specs.View.{data_of, data_in};
 
 use scad_fault::Chars;
 use scad_num::Num;

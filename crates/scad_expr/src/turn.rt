@@ -4,7 +4,7 @@ ghost use Rattle.std.specs.Prelude.{◌≡◌, suc, OnOk};
 ghost use Rattle.scad_ast.specs.Tree.{for_loop};
 ghost use Rattle.scad_ast.specs.View.{expression_of, arguments, element_of};
 ghost use Rattle.scad_value.specs.Datum.{range};
-ghost use Rattle.scad_value.specs.View.{datum_of};
+ghost use Rattle.scad_value.specs.View.{datum_of, data_of, data_in};
 ghost use Rattle.scad_expr.specs.Answers.{Does};
 ghost use Rattle.scad_expr.specs.Machine.{held, env_in, along_in, state_of};
 ghost use Rattle.scad_expr.specs.Meaning.{element_node, turns, for_variables, loop_turns, meaning};
@@ -12,7 +12,6 @@ ghost use Rattle.scad_expr.specs.Opened.{bound_in, outer, IsInner};
 ghost use Rattle.scad_expr.specs.Portions.{turn, turn_on, holds};
 ghost use Rattle.scad_expr.specs.Runs.{items};
 ghost use Rattle.scad_expr.specs.State.{step_limit};
-ghost use Rattle.scad_expr.specs.View.{data_of, data_in};
 
 use crate::element::element_at;
 use crate::fault::EvalFault;
@@ -29,7 +28,7 @@ use std::alloc::Global;
 
 /// What an element gives for each of the values of the variables, the first of them the outermost.
 #[cycle(eval)]
-#[tactic(auto, using(crate::proofs::Lists::lists), unfolding(crate::specs::Meaning::for_variables))]
+#[tactic(auto, using(scad_value::proofs::Lists::lists), unfolding(crate::specs::Meaning::for_variables))]
 pub(crate) fn for_variables<'p>(
     alloc: Global,
     at: Place,

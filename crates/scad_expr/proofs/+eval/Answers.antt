@@ -6,7 +6,7 @@ use Rattle.scad_ast.specs.Scope.{parameter}
 use Rattle.scad_ast.specs.Tree.{Expression, Element}
 use Rattle.scad_ast.specs.View.{arguments, expression_of, element_of}
 use Rattle.scad_value.specs.Datum.{Datum}
-use Rattle.scad_value.specs.View.{datum_of}
+use Rattle.scad_value.specs.View.{datum_of, data_of, data_in}
 use Rattle.scad_scope.specs.Stored.{env_at, envs}
 use Rattle.scad_scope.specs.View.{children_stored}
 use Rattle.std.specs.Borrow.{Bor}
@@ -18,7 +18,6 @@ use Rattle.scad_expr.specs.Meaning.{meaning, for_variables, node, element_node, 
 use Rattle.scad_expr.specs.Opened.{bound_in, outer}
 use Rattle.scad_expr.specs.Portions.{numbers_left}
 use Rattle.scad_expr.specs.State.{Outcome, step_limit, gives, refuses, over}
-use Rattle.scad_expr.specs.View.{data_of, data_in}
 use Rattle.scad_expr.proofs.RunsLeft.{data-push, items-range}
 use Rattle.scad_expr.proofs.OpenFrames.{opened-bound, opened-again, call-done, left-later}
 use Rattle.scad_expr.proofs.InPlace.{node-lone, none-named}

@@ -13,7 +13,7 @@ use Rattle.scad_expr.specs.Opened.{opened, bound_in, outer, IsInner}
 use Rattle.scad_expr.specs.Portions.{defaulted, numbers_left}
 use Rattle.scad_expr.specs.Runs.{items}
 use Rattle.scad_expr.specs.State.{step_limit}
-use Rattle.scad_expr.specs.View.{data_of, data_in}
+use Rattle.scad_value.specs.View.{data_of, data_in}
 use Rattle.scad_expr.proofs.+eval.Given as goal
 
 abbrev pub decreases-call::bind_at : goal.decreases-call::bind_at

@@ -1,12 +1,11 @@
 -- Arguments and values that are left in a loop.
-use Rattle.std.proofs.Common.{◌≡◌, ℕ, ◌+◌, ◌<◌, ◌≤◌, List, [], ◌∷◌, length, get_or, drop, refl, ap, ◌∙◌, sym}
+use Rattle.std.proofs.Common.{◌≡◌, ℕ, ◌+◌, ◌<◌, ◌≤◌, List, [], ◌∷◌, length, get_or, drop, ap, ◌∙◌, sym}
 use Rattle.std.proofs.lemmas.List.{drop_more, drop_all}
 use Rattle.scad_ast.specs.declared.expression.Arg.{Arg}
 use Rattle.scad_ast.specs.Tree.{no_arguments, argument}
 use Rattle.scad_ast.specs.View.{expression_of, arguments}
 use Rattle.scad_value.specs.declared.value.Value.{Value}
-use Rattle.scad_value.specs.View.{datum_of}
-use Rattle.scad_modules.specs.View.{data_of}
+use Rattle.scad_value.specs.View.{datum_of, data_of}
 
 -- the next argument
 pub arguments-drop : (all : List Arg) (i : ℕ) (a : Arg) → i < length all → a ≡ get_or all i a → arguments (drop i all) ≡ argument a.name (expression_of a.value) (arguments (drop (i + 1) all))
