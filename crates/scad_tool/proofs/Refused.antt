@@ -93,7 +93,7 @@ sliced model lines rest = first (Reads model ∷ []) (echoed lines rest)
 refused_tree : (model cli : List ℕ) (lines : List (List ℕ)) (drawing : Drawing) (tree : Solid) (status : Status) (old new : View) → HasMany cli drawing tree ⊎ (IsWhole cli drawing tree ⊎ IsCut cli drawing tree) → RunsTo (sliced model lines (slice_script cli drawing tree)) status old new → IsAnswered (sliced model lines (slice_script cli drawing tree)) status old new → status ≢ Done → RefusedOrCut (sliced model lines (slice_script cli drawing tree)) status old new
 refused_tree model cli lines drawing tree status old new (inl many) runs answered other =
     quiet_refused (sliced model lines (slice_script cli drawing tree)) status old new
-    (subst (λ (rest : Script). AllUpTo echoing (sliced model lines rest).steps) (sym many.script) (omega arith, omega arith, tt)) runs answered other
+    (subst (λ (rest : Script). AllUpTo echoing (sliced model lines rest).steps) (sym many.script) (omega arith, (omega arith, tt))) runs answered other
 refused_tree model cli lines drawing tree status old new (inr (inl whole)) runs answered other =
     let steps = (sliced model lines (slice_script cli drawing tree)).steps in
     let finished = subst (λ (e : Ending). IsAnswered (record { steps = steps; ending = e }) status old new) (ap (λ r. r.ending) whole.script) answered in
@@ -121,9 +121,9 @@ refused_slice : (model cli : List ℕ) (drawing : Drawing) (meaning : Outcome So
 refused_slice model cli drawing (gives tree s) status old new runs answered other =
     refused_tree model cli s.echoes drawing tree status old new (script_goes cli drawing tree) runs answered other
 refused_slice model cli drawing (refuses (EvalFault.Fault fault) s) status old new runs answered other =
-    quiet_refused _ status old new (omega arith, omega arith, tt) runs answered other
+    quiet_refused _ status old new (omega arith, (omega arith, tt)) runs answered other
 refused_slice model cli drawing (refuses (EvalFault.Over budget) s) status old new runs answered other =
-    quiet_refused _ status old new (omega arith, omega arith, tt) runs answered other
+    quiet_refused _ status old new (omega arith, (omega arith, tt)) runs answered other
 refused_slice model cli drawing (refuses EvalFault.Memory s) status old new runs answered other = absurd answered
 
 refused_by : (command : Option Command) (drawing : Drawing) (input : Option Input) (status : Status) (old new : View) → RunsTo (command_script command drawing input) status old new → IsAnswered (command_script command drawing input) status old new → status ≢ Done → RefusedOrCut (command_script command drawing input) status old new
@@ -144,7 +144,7 @@ no_budget whole status old new other (inl refused) = refused
 no_budget whole status old new other (inr (budget, same, cut)) = absurd (other budget same)
 
 -- the budget of a status
-budget_in : Budget → Status → Budget
+abbrev budget_in : Budget → Status → Budget
 budget_in other (Over budget) = budget
 budget_in other status = other
 

@@ -123,7 +123,7 @@ solids_meant source tree (s, is) solids other t same =
     let one : tree ≡ other = ap (tree_in tree) (sym is ∙ same) in subst AreSolids one solids
 
 -- where it is refused, or evaluation stopped, none is known of
-pub none_meant : (source : List ℕ) (stop : Stop) → IsRefusedBy (source_means source) stop → OnJudged {List ℕ} (Err stop) (MeansSolids source)
+pub none_meant : (source : List ℕ) (stop : Stop) → IsRefusedBy (source_means source) stop → OnJudged {T = List ℕ} (Err stop) (MeansSolids source)
 none_meant source (Stop.Ends refusal) (fault, s, is) =
     λ tree t same. let never : refuses fault s ≡ gives tree t = sym is ∙ same in let no_way : ⊥ = cc in absurd no_way
 none_meant source Stop.Read refused = tt

@@ -68,7 +68,7 @@ reading_refuses model refusal old new stops =
     let same : Refuses refusal ≡ Lacks = ap (λ s. s.ending) left.parts in
     let never : ⊥ = cc in absurd never
 
-judges_nothing : (model : List ℕ) (stop : Stop) (P : Type 0) (old new : View) → StopsReading model stop old new → OnJudged {List ℕ} (Err stop) P
+judges_nothing : (model : List ℕ) (stop : Stop) (P : Type 0) (old new : View) → StopsReading model stop old new → OnJudged {T = List ℕ} (Err stop) P
 judges_nothing model (Stop.Ends refusal) P old new stops = absurd (reading_refuses model refusal old new stops)
 judges_nothing model Stop.Read P old new stops = tt
 judges_nothing model Stop.Write P old new stops = tt
