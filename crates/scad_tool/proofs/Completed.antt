@@ -44,7 +44,7 @@ accepted_ends (Check model) drawing source (tree, (s, is), few) =
       ap (λ m. (told check_script m).ending) is
           ∙ finishes_if (Refusal.Over (layers_passed count)) line count layer_limit (nat_lt layer_limit count) refl few,
     )
-accepted_ends (Tree model) drawing source (tree, s, is) = (tree_text tree, ap (λ m. (told tree_script m).ending) is)
+accepted_ends (Tree model) drawing source (tree, (s, is)) = (tree_text tree, ap (λ m. (told tree_script m).ending) is)
 accepted_ends (Slice model cli) drawing source (tree, (s, is), few, within) =
     let ends = slice_ends cli drawing tree few within (script_goes cli drawing tree) in
     (ends.0, ap (λ m. (told (slice_script cli drawing) m).ending) is ∙ ends.1)

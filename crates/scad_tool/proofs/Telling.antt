@@ -1,5 +1,6 @@
 -- Telling what a source means plays its script.
-use Rattle.std.proofs.Common.{◌≡◌, ◌≢◌, List, [], ℕ, Some, None, Result, Ok, Err, refl, sym, ap, ◌∙◌, min, arith}
+use Rattle.std.proofs.Common.{◌≡◌, ◌≢◌, List, [], ℕ, Some, None, Result, Ok, Err, refl, sym, ap, ◌∙◌, min, arith, subst}
+use Rattle.std.specs.Prelude.{IfErr}
 use Rattle.scad_fault.specs.declared.place.Place.{Place}
 use Rattle.scad_io.specs.Desk.{View}
 use Rattle.scad_lex.specs.declared.token.Token.{Token}
@@ -14,12 +15,14 @@ use Rattle.scad_parse.specs.JudgedFault.{JudgedFault}
 use Rattle.scad_script.specs.declared.refusal.Refusal.{Refusal}
 use Rattle.scad_script.specs.declared.stop.Stop.{Stop}
 use Rattle.scad_script.specs.Script.{Script, Refuses, ends}
-use Rattle.scad_script.specs.Played.{Left, EndsIn}
+use Rattle.scad_script.specs.Steps.{Step}
+use Rattle.scad_script.specs.Played.{Left, Stops, EndsIn}
 use Rattle.scad_script.proofs.Layers.{as_left}
 use Rattle.scad_expr.specs.declared.fault.EvalFault.{EvalFault}
 use Rattle.scad_expr.specs.declared.fault.EvalFault.TheVariants.{Memory}
 use Rattle.scad_expr.specs.State.{Outcome, gives, refuses, start}
 use Rattle.scad_tree.specs.Solid.{Solid}
+use Rattle.scad_tree.specs.declared.tree.Tree.{Tree}
 use Rattle.scad_tree.specs.Solids.{AreSolids}
 use Rattle.scad_tree.specs.View.{solid_of}
 use Rattle.scad_slice.specs.Drawing.{Drawing, IsDrawing}
@@ -31,8 +34,9 @@ use Rattle.scad_tool.specs.Meaning.{text_fault, tokens_fault, program_means, tok
 use Rattle.scad_tool.specs.View.{parse_fault}
 use Rattle.scad_tool.specs.Told.{refusal_of, refusal_told, echoed, told}
 use Rattle.scad_tool.specs.Answer.{IsDrawingOf}
-use Rattle.scad_tool.specs.Playing.{IsEnd, IsRefusedBy, OnJudged, MeansSolids}
+use Rattle.scad_tool.specs.Playing.{Brings, IsEnd, IsRefusedBy, OnJudged, MeansSolids}
 use Rattle.scad_tool.specs.Promises.{MeansTree}
+use Rattle.scad_tool.proofs.Working.{StopsBefore, step_refuses}
 
 -- A text that has no tokens.
 
@@ -113,7 +117,7 @@ pub refused_so_by : (meaning : Outcome Solid) (e : ModelEnd) (refusal : Refusal)
 refused_so_by meaning e refusal makes is =
     let made = makes (some_refusal e.fault refusal is) in (e.fault, made.0, made.1)
 
-tree_in : Solid → Outcome Solid → Solid
+abbrev tree_in : Solid → Outcome Solid → Solid
 tree_in other (gives tree s) = tree
 tree_in other (refuses fault s) = other
 
@@ -143,3 +147,20 @@ known_judged (Err Stop.Memory) P known = tt
 -- a drawing of what a source means is one of its tree
 pub drawing_meant : (source : List ℕ) (tree : Solid) (drawing : Drawing) → MeansTree tree source → IsDrawingOf (source_means source) drawing → IsDrawing tree drawing
 drawing_meant source tree drawing (s, is) drawn = subst (λ (m : Outcome Solid). IsDrawingOf m drawing) is drawn
+
+-- An error of a call that goes up as it is.
+
+pub stops_bring : (follows : Solid → Script) (whole : Script) (result : Result Tree Stop) (stop : Stop) (old new : View) → result ≡ Err stop → Stops whole stop old new → Brings follows whole result old new
+stops_bring follows whole result stop old new is stops = subst (λ (r : Result Tree Stop). Brings follows whole r old new) (sym is) stops
+
+-- an output that failed is no refusal
+not_refused : (meaning : Outcome Solid) (step : Step) (stop : Stop) (old new : View) → StopsBefore step stop old new → IsRefusedBy meaning stop
+not_refused meaning step (Stop.Ends refusal) old new stops = absurd (step_refuses step refusal old new stops)
+not_refused meaning step Stop.Read old new stops = tt
+not_refused meaning step Stop.Write old new stops = tt
+not_refused meaning step Stop.Silent old new stops = tt
+not_refused meaning step Stop.Memory old new stops = tt
+
+pub stops_refuse : (meaning : Outcome Solid) (step : Step) (result : Result Tree Stop) (stop : Stop) (old new : View) → result ≡ Err stop → StopsBefore step stop old new → IfErr result (IsRefusedBy meaning)
+stops_refuse meaning step result stop old new is stops =
+    subst (λ (r : Result Tree Stop). IfErr r (IsRefusedBy meaning)) (sym is) (not_refused meaning step stop old new stops)
