@@ -1,5 +1,5 @@
 -- A layer that the code has drawn is the drawing's.
-use Rattle.std.proofs.Common.{◌≡◌, ◌+◌, ◌*◌, ◌<◌, ◌≤◌, List, [], ◌∷◌, ℕ, true, false, Option, Some, None, refl, sym, ap, ◌∙◌, subst, length, nat_lt, arith}
+use Rattle.std.proofs.Common.{◌≡◌, ◌+◌, ◌*◌, ◌<◌, ◌≤◌, List, [], ◌∷◌, ℕ, true, false, Option, Some, None, sym, ap, ap₂, ◌∙◌, subst, length, nat_lt, arith}
 use Rattle.std.specs.Prelude.{if◌then◌else◌}
 use Rattle.std.proofs.lemmas.Bool.Decides.{nat_tests}
 use Rattle.std.proofs.lemmas.List.FromFn.{sum_by-map-range_with_len_more}
@@ -78,8 +78,12 @@ layer_stops tree drawing i rest whole start old passed Stop.Read is same left = 
 layer_stops tree drawing i rest whole start old passed Stop.Write is same left = absurd same
 layer_stops tree drawing i rest whole start old passed Stop.Silent is same left = absurd same
 
-pub one_layer_more : (drawing : Drawing) (i : ℕ) → loop_count drawing (i + 1) ≡ loop_count drawing i + length (drawing i)
+one_layer_more : (drawing : Drawing) (i : ℕ) → loop_count drawing (i + 1) ≡ loop_count drawing i + length (drawing i)
 one_layer_more drawing i = sum_by-map-range_with_len_more length drawing 0 i i (omega arith)
+
+-- the loops of the layers before one and of this one
+pub counted_so : (drawing : Drawing) (i before drawn sum : ℕ) → sum ≡ before + drawn → before ≡ loop_count drawing i → drawn ≡ length (drawing i) → sum ≡ loop_count drawing (i + 1)
+counted_so drawing i before drawn sum is earlier here = is ∙ ap₂ (λ a b. a + b) earlier here ∙ sym (one_layer_more drawing i)
 
 -- The script of a tree, by its number of layers and of loops.
 

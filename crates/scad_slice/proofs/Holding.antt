@@ -8,10 +8,9 @@ use Rattle.scad_tree.proofs.Above.{layers_hold}
 use Rattle.scad_tree.specs.Solids.{AreSolids}
 use Rattle.slice_layer.proofs.Surfaces.{solids_closed}
 use Rattle.slice_layer.proofs.Membership.{outlines_hold_centres}
-use Rattle.cli_text.specs.Cli.{Layer}
 use Rattle.scad_slice.specs.Budgets.{layer_height, layer_count}
 use Rattle.scad_slice.specs.Drawing.{Drawing, IsDrawing, layer_at, layers_of}
-use Rattle.scad_slice.specs.Membership.{IsLayerOf, HoldTree}
+use Rattle.scad_slice.specs.Membership.{IsLayerOf}
 use Rattle.scad_slice.specs.Laws.{DrawingsHold}
 
 -- the element at a place in what a function makes of n numbers from a on

@@ -1,5 +1,5 @@
 -- How the script of a drawing goes: it is refused for its number of layers, or a layer ends it, or it goes to its end.
-use Rattle.std.proofs.Common.{◌≡◌, ◌⊎◌, inl, inr, ◌+◌, ◌<◌, ◌≤◌, ◌++◌, List, [], ◌∷◌, ℕ, zero, suc, Bool, true, false, Option, Some, None, refl, sym, ap, ◌∙◌, subst, length, nat_lt, rules, arith, append_assoc}
+use Rattle.std.proofs.Common.{◌≡◌, ◌⊎◌, inl, inr, ◌+◌, ◌<◌, ◌++◌, List, [], ◌∷◌, ℕ, zero, suc, Bool, true, false, Option, Some, None, refl, sym, ap, ◌∙◌, nat_lt, rules, arith, append_assoc}
 use Rattle.std.specs.Prelude.{map, flat_map, unwrap_or, if◌then◌else◌}
 use Rattle.std.specs.List.{range_with_len}
 use Rattle.std.proofs.lemmas.List.{append-nil}
@@ -11,9 +11,8 @@ use Rattle.scad_script.specs.declared.refusal.Refusal.TheVariants.{Over}
 use Rattle.scad_script.specs.Steps.{Step, Makes, Sends, text_of}
 use Rattle.scad_script.specs.Script.{Script, Refuses, first, ends, layer_then, layers}
 use Rattle.scad_tree.specs.Solid.{Solid}
-use Rattle.slice_events.specs.Limits.{crossing_limit}
 use Rattle.cli_text.specs.Cli.{head, layer_text, geometry_end, cli as text_of_layers}
-use Rattle.scad_slice.specs.Budgets.{layer_count, layer_limit, edge_limit, layers_passed, edges_passed, crossings_passed, layer_budget}
+use Rattle.scad_slice.specs.Budgets.{layer_count, layer_limit, layers_passed, edges_passed, crossings_passed, layer_budget}
 use Rattle.scad_slice.specs.Drawing.{Drawing, layer_at, layers_of}
 use Rattle.scad_slice.specs.Script.{written_unless, layer_steps, drawing_end, drawing_script, slice_script}
 
@@ -47,9 +46,9 @@ goes_next tree drawing i n rest (Some budget) is behind = inr (
   ap (λ b. layer_then (written_unless b (layer_at drawing i)) (layers (layer_steps tree drawing) (i + 1) n rest)) is,
 )
 goes_next tree drawing i n rest None is (inl same) = inl (
-  ap (λ b. layer_then (written_unless b (layer_at drawing i)) (layers (layer_steps tree drawing) (i + 1) n rest)) is
-      ∙ ap (λ s. first (layer_written drawing i ∷ []) s) same
-)
+    ap (λ b. layer_then (written_unless b (layer_at drawing i)) (layers (layer_steps tree drawing) (i + 1) n rest)) is
+    ∙ ap (λ s. first (layer_written drawing i ∷ []) s) same
+    )
 goes_next tree drawing i n rest None is (inr (p, same)) =
     let within : p.count < n = p.inside in
     inr (

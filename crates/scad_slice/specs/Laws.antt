@@ -1,5 +1,5 @@
 -- Laws of drawings.
-use Rattle.std.specs.Prelude.{◌≡◌, ℕ, List}
+use Rattle.std.specs.Prelude.{◌≡◌}
 use Rattle.scad_tree.specs.Solid.{Solid}
 use Rattle.scad_tree.specs.Solids.{AreSolids}
 use Rattle.scad_slice.specs.Drawing.{Drawing, IsDrawing, layers_of}

@@ -30,7 +30,12 @@ use std::alloc::Global;
 const EDGE_LIMIT: u32 = 20_000;
 
 /// Writes one layer of a tree by one write, unless it passes a budget: how many outlines it has.
-pub fn draw_layer<D: Desk>(alloc: Global, tree: &Tree, layer: u32, desk: &mut D) -> Result<u64, Stop>
+pub fn draw_layer<D: Desk>(
+    alloc: Global,
+    tree: &Tree,
+    layer: u32,
+    desk: &mut D,
+) -> Result<u64, Stop>
     requires within { layer < layer_limit }
     requires solids { AreSolids (solid_of tree.now) }
     requires sound { Sound (D.view desk.old) }

@@ -5,8 +5,8 @@
 #![tactic(auto)]
 
 mod drawing;
-mod layer;
 pub mod laws;
+mod layer;
 mod slicing;
 #[cfg(test)]
 mod tests;

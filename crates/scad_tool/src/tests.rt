@@ -5,6 +5,7 @@ ghost use Rattle.scad_io.specs.Desk.{unused};
 mod slices;
 mod sources;
 
+use crate::laws;
 use crate::run::run;
 use scad_fault::{Status, Text};
 use scad_io::{MemoryDesk, Open, Out};
@@ -124,6 +125,11 @@ fn unknown_model(rt: HostRuntime) -> Result<(), Fail> {
     expect(&rt, &answer, 4, "read fault\n", "unknown model");
     assert!(rt; answer.cli.is_empty() && answer.faults == 1);
     Ok(())
+}
+
+#[test]
+fn laws_are_called() {
+    laws::answers_are_one();
 }
 
 #[test]

@@ -1,4 +1,4 @@
-use Rattle.std.proofs.Common.{rules, ap, sym, ◌∙◌}
+use Rattle.std.proofs.Common.{rules}
 use Rattle.scad_script.specs.declared.stop.Stop.{Stop}
 use Rattle.scad_script.proofs.Layers.{as_left}
 use Rattle.scad_tree.specs.View.{solid_of}

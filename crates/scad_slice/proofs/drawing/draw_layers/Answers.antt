@@ -1,10 +1,10 @@
-use Rattle.std.proofs.Common.{rules, ◌<◌, ◌≡◌, ◌+◌, ◌-◌, ◌∙◌, ap, ap₂, sym}
+use Rattle.std.proofs.Common.{rules, ◌<◌, ◌≡◌, ◌-◌, ◌∙◌, ap}
 use Rattle.scad_script.proofs.Layers.{as_left, next_layer, no_layer}
 use Rattle.scad_script.specs.Script.{layers}
 use Rattle.scad_tree.specs.View.{solid_of}
 use Rattle.scad_slice.specs.Drawing.{loop_count}
 use Rattle.scad_slice.specs.Script.{layer_steps}
-use Rattle.scad_slice.proofs.Drawn.{one_layer_more}
+use Rattle.scad_slice.proofs.Drawn.{counted_so}
 use Rattle.scad_slice.proofs.Stopping.{stops_part}
 use Rattle.scad_slice.proofs.drawing.draw_layers.Goals as goal
 
@@ -28,9 +28,8 @@ layers-preserved g c =
     let inside : c.layers.layer < c.args.count = search rules in (
       (λ drawing of_tree whole rest start left. c.in_ok-drawn.ensures.carries drawing of_tree whole _ start
           (as_left (next_layer (layer_steps (solid_of c.args.tree.now) drawing) c.layers.layer c.args.count rest inside) (c.layers.invariant.0 drawing of_tree whole rest start left))),
-      (λ drawing of_tree. c.in-Some.ensures.1
-          ∙ ap₂ (λ a b. a + b) (c.layers.invariant.1 drawing of_tree) (c.in_ok-drawn.ensures.loops drawing of_tree)
-          ∙ sym (one_layer_more drawing c.layers.layer)),
+      (λ drawing of_tree. counted_so drawing c.layers.layer c.layers.loops c.in_ok-drawn.drawn c.in-Some.sum c.in-Some.ensures.1
+          (c.layers.invariant.1 drawing of_tree) (c.in_ok-drawn.ensures.loops drawing of_tree)),
       search rules,
       search rules,
       search rules,

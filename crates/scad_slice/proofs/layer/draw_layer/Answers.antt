@@ -1,11 +1,8 @@
-use Rattle.std.proofs.Common.{◌≡◌, List, length, ap, ◌∙◌, refl, rules}
-use Rattle.scad_geom.specs.declared.point.Pt.{Pt}
+use Rattle.std.proofs.Common.{◌≡◌, length, ap, ◌∙◌, refl, rules}
 use Rattle.scad_script.proofs.Layers.{as_left}
 use Rattle.scad_tree.specs.View.{solid_of}
-use Rattle.scad_slice.specs.Drawing.{Drawing, IsDrawing}
 use Rattle.scad_slice.proofs.Drawn.{drawn_so, written_next}
 use Rattle.scad_slice.proofs.Stopping.{stops_part}
-use Rattle.scad_slice.proofs.layer.draw_layer.Given.{Over}
 use Rattle.scad_slice.proofs.layer.draw_layer.Goals as goal
 
 pub returns-in_err-send_layer-clause-carries : goal.returns-in_err-send_layer-clause-carries
