@@ -1,5 +1,5 @@
 -- The runs of a line of infill: the maximal stretches of its whole points that are deep inside outlines.
-use Rattle.std.specs.Prelude.{ℕ, List, [], ◌∷◌, ℤ, pos, ◌+ℤ◌, ◌-ℤ◌, ◌<ℤ◌, ◌≤ℤ◌, All, Contains}
+use Rattle.std.specs.Prelude.{ℕ, ◌≤◌, unsigned_abs, List, [], ◌∷◌, ℤ, pos, ◌+ℤ◌, ◌-ℤ◌, ◌<ℤ◌, ◌≤ℤ◌, All, Contains}
 use Rattle.scad_geom.specs.declared.point.Pt.{Pt}
 use Rattle.plan_infill.specs.declared.line.Line.{Line}
 use Rattle.plan_infill.specs.declared.line.Line.TheVariants.{Row, Column}
@@ -10,6 +10,11 @@ use Rattle.plan_infill.specs.Deep.{IsDeep}
 abbrev pub point_on : Line → ℤ → Pt
 point_on (Row y) z = record { x = z; y = y }
 point_on (Column x) z = record { x = x; y = z }
+
+-- its coordinate isn't greater in size than the limit
+abbrev pub IsLineWithin : ℕ → Line → Type 0
+IsLineWithin limit (Row y) = unsigned_abs y ≤ limit
+IsLineWithin limit (Column x) = unsigned_abs x ≤ limit
 
 -- a run of at least a length: all its whole points are deep, and the next before and after it aren't
 pub record IsRun (outlines : List (List Pt)) (c : ℕ) (line : Line) (least : ℕ) (r : Run) : Type 0 where

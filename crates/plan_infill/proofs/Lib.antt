@@ -1,0 +1,5 @@
+pub mod Quotients
+pub mod Turning
+pub mod Parts
+pub mod Steps
+pub mod Nearer
