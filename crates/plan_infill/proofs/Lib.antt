@@ -3,3 +3,4 @@ pub mod Turning
 pub mod Parts
 pub mod Steps
 pub mod Nearer
+pub mod Reached

@@ -161,7 +161,7 @@ column_turns e x part w k =
 weights : (a b y c d : ℤ) → (c -ℤ a) *ℤ y +ℤ ((d -ℤ b) *ℤ a -ℤ (c -ℤ a) *ℤ b) *ℤ pos 1 ≡ a *ℤ (d -ℤ y) +ℤ c *ℤ (y -ℤ b)
 weights a b y c d = ring (a ∷ b ∷ y ∷ c ∷ d ∷ []) ((v3 ⊖ v0) ⊗ v2 ⊕ ((v4 ⊖ v1) ⊗ v0 ⊖ (v3 ⊖ v0) ⊗ v1) ⊗ num (pos 1)) (v0 ⊗ (v4 ⊖ v2) ⊕ v3 ⊗ (v2 ⊖ v1)) refl
 
-x_at_weights : (e : Edge) (y : ℤ) → x_at e y (pos 1) ≡ (low e).x *ℤ ((high e).y -ℤ y) +ℤ (high e).x *ℤ (y -ℤ (low e).y)
+pub x_at_weights : (e : Edge) (y : ℤ) → x_at e y (pos 1) ≡ (low e).x *ℤ ((high e).y -ℤ y) +ℤ (high e).x *ℤ (y -ℤ (low e).y)
 unfolding x_at run offset rise
 x_at_weights e y = weights (low e).x (low e).y y (high e).x (high e).y
 

@@ -7,7 +7,7 @@ ghost use Rattle.scad_geom.specs.Line.{low, high, rise, run, x_at};
 ghost use Rattle.plan_infill.specs.declared.line.Line.TheVariants.{Row, Column};
 ghost use Rattle.plan_infill.specs.Steps.{Adds, Counts, AreNearSteps};
 ghost use Rattle.plan_infill.specs.Runs.{IsLineWithin};
-ghost use Rattle.plan_infill.specs.Reach.{exchanged, reach, is_beside, IsReached, IsReachedByEnds, IsReachedByLine};
+ghost use Rattle.plan_infill.specs.Reach.{exchanged, reach, is_beside, ends_reach, IsReached, IsReachedByLine};
 
 use crate::line::Line;
 use crate::quotient::{ceiling, floor};
@@ -63,7 +63,7 @@ fn is_beside(e: &Edge, y: i32, c: u32) -> bool
 {
     let starts = is_short(y, low(e).y, c);
     let ends = is_short(high(e).y, y, c);
-    c > 0 && (starts && ends)
+    0 < c as i64 && (starts && ends)
 }
 
 // Whether it is less than c up from one height to another.
@@ -99,13 +99,26 @@ fn reached(e: &Edge, y: i32, c: u32) -> Stretch
 
 // Those that aren't far to the left or right of both ends.
 fn reached_by_ends(e: &Edge, c: u32) -> Stretch
-    ensures { IsReachedByEnds c e.now result }
+    ensures { result ≡ ends_reach c e.now }
 {
-    let (p, q) = (low(e).x, high(e).x);
     Stretch {
-        from: p.min(q) as i128 - c as i128 + 1,
-        until: p.max(q) as i128 + c as i128,
+        from: plus(minus(left(e), c as i128), 1),
+        until: plus(right(e), c as i128),
     }
+}
+
+fn left(e: &Edge) -> i128
+    ensures value { result ≡ int_min (low e.now).x (high e.now).x }
+    ensures size { unsigned_abs result ≤ 2 ^ 31 }
+{
+    low(e).x.min(high(e).x) as i128
+}
+
+fn right(e: &Edge) -> i128
+    ensures value { result ≡ int_max (low e.now).x (high e.now).x }
+    ensures size { unsigned_abs result ≤ 2 ^ 31 }
+{
+    low(e).x.max(high(e).x) as i128
 }
 
 // Those that aren't far to the left or right of the line.
@@ -118,7 +131,7 @@ fn reached_by_line(e: &Edge, y: i32, c: u32) -> Stretch
     let x = x_at(e, &Level { n: y as i128, d: 1 });
     let reach = reach(e, c);
     Stretch {
-        from: floor(minus(x, reach), rise(e)) + 1,
+        from: plus(floor(minus(x, reach), rise(e)), 1),
         until: ceiling(plus(x, reach), rise(e)),
     }
 }
