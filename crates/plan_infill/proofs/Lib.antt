@@ -4,3 +4,7 @@ pub mod Parts
 pub mod Steps
 pub mod Nearer
 pub mod Reached
+pub mod Ordered
+pub mod Edges
+pub mod Stretches
+pub mod Swept

@@ -1,5 +1,5 @@
 -- The stretches along a line where steps say that its points are deep.
-use Rattle.std.specs.Prelude.{◌≡◌, Bool, true, false, not, ◌&&◌, ℕ, Option, None, Some, List, ℤ, pos, ◌+ℤ◌, ◌-ℤ◌, ◌<ℤ◌, ◌≤ℤ◌, ◌≤◌, unsigned_abs, All, Contains}
+use Rattle.std.specs.Prelude.{◌≡◌, Bool, true, false, not, ◌&&◌, if◌then◌else◌, ℕ, Option, None, Some, List, [], ◌∷◌, int_le, ℤ, pos, ◌+ℤ◌, ◌-ℤ◌, ◌<ℤ◌, ◌≤ℤ◌, ◌≤◌, unsigned_abs, All, Contains}
 use Rattle.scad_geom.specs.Sign.{is_zero}
 use Rattle.scad_geom.specs.Limits.{coordinate_limit}
 use Rattle.plan_infill.specs.declared.run.Run.{Run}
@@ -36,6 +36,23 @@ abbrev pub IsOpen : (ℤ → Bool) → ℤ → Option ℤ → Type 0
 IsOpen test place None = test (place -ℤ pos 1) ≡ false
 IsOpen test place (Some from) =
     (from <ℤ place) × ((z : ℤ) → from ≤ℤ z → z <ℤ place → test z ≡ true) × (test (from -ℤ pos 1) ≡ false)
+
+-- the same from the next place on, by whether its points are deep
+abbrev pub opened : Bool → Option ℤ → ℤ → Option ℤ
+opened true None at = Some at
+opened true (Some from) at = Some from
+opened false since at = None
+
+-- the run that ends there, if it is long enough
+abbrev pub closed : Bool → Option ℤ → ℤ → ℕ → List Run
+closed true since at least = []
+closed false None at least = []
+closed false (Some from) at least = if int_le (pos least) ((at -ℤ pos 1) -ℤ from) then record { from = from; to = at -ℤ pos 1 } ∷ [] else []
+
+-- where a stretch goes on, its start and the place before are within a limit
+abbrev pub IsOpenWithin : ℕ → Option ℤ → ℤ → Type 0
+IsOpenWithin limit None at = Unit {0}
+IsOpenWithin limit (Some from) at = (unsigned_abs from ≤ limit) × (unsigned_abs (at -ℤ pos 1) ≤ limit)
 
 -- a test holds within the limit of the coordinates alone
 abbrev pub HoldsWithin : (ℤ → Bool) → Type 0
