@@ -8,3 +8,4 @@ pub mod Ordered
 pub mod Edges
 pub mod Stretches
 pub mod Swept
+pub mod AllRuns
