@@ -9,12 +9,11 @@ mod line;
 mod near_steps;
 mod quotient;
 mod run;
-
 mod step;
 mod stretch;
 mod sweep;
 mod turn_steps;
 
+pub use infill::runs;
 pub use line::Line;
 pub use run::Run;
-pub use infill::runs;

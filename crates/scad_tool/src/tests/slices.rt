@@ -91,7 +91,10 @@ fn refused(rt: HostRuntime) -> Result<(), Fail> {
     let open = "polyhedron([[0,0,0],[1,0,0],[0,1,0],[0,0,1]],[[0,1,2],[0,3,1],[1,3,2]]);";
     for (source, report) in [
         (open, "fault 12 NotClosed at 1:1\n"),
-        ("echo(1); foo();", "ECHO: 1\nfault 5 UnknownModule at 1:10 foo\n"),
+        (
+            "echo(1); foo();",
+            "ECHO: 1\nfault 5 UnknownModule at 1:10 foo\n",
+        ),
         ("cube(1", "fault 2 Syntax at 1:7\n"),
         ("square(1);", "fault 15 NotBuilt at 1:1 square\n"),
     ] {
@@ -108,7 +111,13 @@ fn a_layer_with_too_many_edges(rt: HostRuntime) -> Result<(), Fail> {
     let alloc = rt.alloc();
     let source = "cube([1,1,3]); translate([0,0,0.8]) cylinder(h=0.2,r=50,$fn=10001);";
     let answer = sliced(&rt, alloc, source, Vec::new(alloc), ROOM)?;
-    expect(&rt, &answer, 6, "budget 7 LayerEdges layer 4 count 20010\n", source);
+    expect(
+        &rt,
+        &answer,
+        6,
+        "budget 7 LayerEdges layer 4 count 20010\n",
+        source,
+    );
     assert!(rt; answer.cli == begun(alloc, 15, 4, SQUARE)? && answer.faults == 0);
     Ok(())
 }
@@ -136,10 +145,19 @@ fn done_but_for<R: Threads + Sync + Abort>(
         // create, the head, two layers, the end
         4..9 => expect(rt, &answer, 5, "ECHO: 1\nwrite fault\n", "the outlines"),
         9 => expect(rt, &answer, 5, "ECHO: 1\n", "the last line"),
-        _ => expect(rt, &answer, 0, "ECHO: 1\ndone: 2 layers, 2 loops\n", "no call fails"),
+        _ => expect(
+            rt,
+            &answer,
+            0,
+            "ECHO: 1\ndone: 2 layers, 2 loops\n",
+            "no call fails",
+        ),
     }
     assert!(rt; (answer.faults == 0) == (answer.code == 0));
-    assert!(rt; (answer.cli.len() == whole.len()) == (call >= 9), "call {call}");
+    assert!(rt;
+        (answer.cli.len() == whole.len()) == (call >= 9),
+        "call {call}"
+    );
     Ok(answer.code == 0)
 }
 
