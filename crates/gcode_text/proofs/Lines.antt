@@ -20,7 +20,8 @@ use Rattle.gcode_text.specs.Gcode.{feed_end, target, amount, travel_line, print_
 use Rattle.gcode_text.specs.Reading.{pieces, first_at, without_return, without_comment, words, line_words, number}
 use Rattle.gcode_text.specs.Machine.{State, any, command_of, takes, was_given, with_number, with_word, with_words, nothing_given, obeyed, counting, words_line, line_step}
 use Rattle.gcode_text.proofs.Words.{one_piece, kept_in_front}
-use Rattle.gcode_text.proofs.Printed.{list_all-weaken, no_mark, digits_alone, decimal_digits, three_digits, five_digits, and_left, and_right}
+use Rattle.gcode_text.proofs.Printed.{list_all-weaken, no_mark, digits_alone, decimal_digits, three_digits, five_digits}
+use Rattle.std.proofs.lemmas.Bool.{and_parts}
 
 -- ---- bytes
 
@@ -94,8 +95,8 @@ words_back (word ∷ next ∷ rest) h = words_more word (spaced (next ∷ rest))
 
 byte_in_line : (text : List ℕ) (k : ℕ) → list_all in_line text ≡ true → (get_or text k 0 == 13) ≡ false
 byte_in_line [] k h = refl
-byte_in_line (c ∷ cs) zero h = no_return c (and_left (in_line c) (list_all in_line cs) h)
-byte_in_line (c ∷ cs) (suc k) h = byte_in_line cs k (and_right (in_line c) (list_all in_line cs) h)
+byte_in_line (c ∷ cs) zero h = no_return c (and_parts (in_line c) (list_all in_line cs) h).0
+byte_in_line (c ∷ cs) (suc k) h = byte_in_line cs k (and_parts (in_line c) (list_all in_line cs) h).1
 
 code_back : (text : List ℕ) → list_all in_line text ≡ true → without_comment (without_return text) ≡ text
 unfolding without_comment without_return

@@ -10,15 +10,15 @@ use Rattle.std.proofs.lemmas.Fmt.{decimal_is_IsNumeral_wide}
 use Rattle.std.proofs.lemmas.List.{take_at, drop_at, length-append, append-nil}
 use Rattle.gcode_text.specs.Numeral.{last_digits, fixed, millimetres}
 use Rattle.gcode_text.specs.Reading.{first_at, are_digits, whole_size, pointed_size, size_of, number}
+use Rattle.std.proofs.lemmas.Bool.{and_parts}
 
 -- ---- digits
-
-is_digit : (c : ℕ) → digit_value c < 10 → is_ascii_digit c ≡ true
-is_digit c h = grind (arith, nat_tests)
-
 all_digits : (ds : List ℕ) → AllDigits 10 ds → list_all is_ascii_digit ds ≡ true
 all_digits [] h = refl
-all_digits (c ∷ cs) h = ap₂ (λ (a b : Bool). a && b) (is_digit c h.0) (all_digits cs h.1)
+all_digits (c ∷ cs) h =
+    let value = h.0 in
+    let digit : is_ascii_digit c ≡ true = grind (arith, nat_tests) in
+    ap₂ (λ (a b : Bool). a && b) digit (all_digits cs h.1)
 
 pub decimal_digits : (n : ℕ) → n < 10 ^ 64 → are_digits (decimal n) ≡ true
 unfolding are_digits
@@ -29,18 +29,10 @@ decimal_digits n h =
     some : (k : ℕ) → 0 < k → nat_lt 0 k ≡ true
     some k h = grind (arith, nat_tests)
 
-pub and_left : (a b : Bool) → (a && b) ≡ true → a ≡ true
-and_left true b h = refl
-and_left false b h = h
-
-pub and_right : (a b : Bool) → (a && b) ≡ true → b ≡ true
-and_right true b h = h
-and_right false b h = absurd (cc)
-
 pub list_all-weaken : (p q : ℕ → Bool) → ((b : ℕ) → p b ≡ true → q b ≡ true) → (xs : List ℕ) → list_all p xs ≡ true → list_all q xs ≡ true
 list_all-weaken p q f [] h = refl
 list_all-weaken p q f (x ∷ xs) h =
-    ap₂ (λ (a b : Bool). a && b) (f x (and_left (p x) (list_all p xs) h)) (list_all-weaken p q f xs (and_right (p x) (list_all p xs) h))
+    ap₂ (λ (a b : Bool). a && b) (f x (and_parts (p x) (list_all p xs) h).0) (list_all-weaken p q f xs (and_parts (p x) (list_all p xs) h).1)
 
 equal_itself : (c : ℕ) → (c == c) ≡ true
 equal_itself c = grind (arith, nat_tests)
@@ -48,14 +40,14 @@ equal_itself c = grind (arith, nat_tests)
 pub first_mark : (mark : ℕ) (xs rest : List ℕ) → list_all (λ b. not (b == mark)) xs ≡ true → first_at mark (xs ++ mark ∷ rest) ≡ length xs
 first_mark mark [] rest h = ap (λ (b : Bool). cond (not b) (1 + first_at mark rest) 0) (equal_itself mark)
 first_mark mark (x ∷ xs) rest h =
-    let next : first_at mark (xs ++ mark ∷ rest) ≡ length xs = first_mark mark xs rest (and_right (not (x == mark)) (list_all (λ b. not (b == mark)) xs) h) in
-    ap (λ (b : Bool). cond b (1 + first_at mark (xs ++ mark ∷ rest)) 0) (and_left (not (x == mark)) (list_all (λ b. not (b == mark)) xs) h) ∙ omega arith
+    let next : first_at mark (xs ++ mark ∷ rest) ≡ length xs = first_mark mark xs rest ((and_parts (not (x == mark)) (list_all (λ b. not (b == mark)) xs) h).1) in
+    ap (λ (b : Bool). cond b (1 + first_at mark (xs ++ mark ∷ rest)) 0) ((and_parts (not (x == mark)) (list_all (λ b. not (b == mark)) xs) h).0) ∙ omega arith
 
 pub no_mark : (mark : ℕ) (xs : List ℕ) → list_all (λ b. not (b == mark)) xs ≡ true → first_at mark xs ≡ length xs
 no_mark mark [] h = refl
 no_mark mark (x ∷ xs) h =
-    let next : first_at mark xs ≡ length xs = no_mark mark xs (and_right (not (x == mark)) (list_all (λ b. not (b == mark)) xs) h) in
-    ap (λ (b : Bool). cond b (1 + first_at mark xs) 0) (and_left (not (x == mark)) (list_all (λ b. not (b == mark)) xs) h) ∙ omega arith
+    let next : first_at mark xs ≡ length xs = no_mark mark xs ((and_parts (not (x == mark)) (list_all (λ b. not (b == mark)) xs) h).1) in
+    ap (λ (b : Bool). cond b (1 + first_at mark xs) 0) ((and_parts (not (x == mark)) (list_all (λ b. not (b == mark)) xs) h).0) ∙ omega arith
 
 digit_back : (d : ℕ) → d < 10 → digit_value (48 + d) ≡ d
 digit_back d h = grind (arith, nat_tests)
@@ -85,7 +77,7 @@ digit_no_point b h = grind (arith, nat_tests)
 
 pub digits_alone : (ds : List ℕ) → are_digits ds ≡ true → list_all is_ascii_digit ds ≡ true
 unfolding are_digits
-digits_alone ds h = and_right (nat_lt 0 (length ds)) (list_all is_ascii_digit ds) h
+digits_alone ds h = (and_parts (nat_lt 0 (length ds)) (list_all is_ascii_digit ds) h).1
 
 no_point : (ds : List ℕ) → are_digits ds ≡ true → list_all (λ b. not (b == 46)) ds ≡ true
 no_point ds h = list_all-weaken is_ascii_digit (λ b. not (b == 46)) digit_no_point ds (digits_alone ds h)
@@ -160,7 +152,7 @@ size_five n h =
 pub no_minus : (ds rest : List ℕ) → are_digits ds ≡ true → (slice_index (ds ++ rest) 0 == 45) ≡ false
 unfolding are_digits
 no_minus [] rest h = absurd (cc)
-no_minus (c ∷ cs) rest h = digit_no_minus c (and_left (is_ascii_digit c) (list_all is_ascii_digit cs) (and_right (nat_lt 0 (length (c ∷ cs))) (list_all is_ascii_digit (c ∷ cs)) h))
+no_minus (c ∷ cs) rest h = digit_no_minus c ((and_parts (is_ascii_digit c) (list_all is_ascii_digit cs) ((and_parts (nat_lt 0 (length (c ∷ cs))) (list_all is_ascii_digit (c ∷ cs)) h).1)).0)
   where
     digit_no_minus : (c : ℕ) → is_ascii_digit c ≡ true → (c == 45) ≡ false
     digit_no_minus c h = grind (arith, nat_tests)

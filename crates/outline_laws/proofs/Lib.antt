@@ -12,3 +12,13 @@ pub mod Named
 pub mod Within
 pub mod OneOutlines
 pub mod OneLayer
+pub mod Distinct
+pub mod SomeLevels
+pub mod SomeBundles
+pub mod SomePieces
+pub mod SomeMerged
+pub mod SomeLeft
+pub mod SomeLoops
+pub mod SomeOutlines
+pub mod Standing
+pub mod SomeLayer

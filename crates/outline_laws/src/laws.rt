@@ -1,6 +1,6 @@
 //! Laws of the definitions, each carried by the contract of a function that does nothing.
 ghost use Rattle.outline_laws.specs.Outlines.{PiecesAreSame, OutlinesAreOne, AlikeHaveOneOutlines};
-ghost use Rattle.outline_laws.specs.Layers.{LayersHaveOneOutlines};
+ghost use Rattle.outline_laws.specs.Layers.{LayersHaveOneOutlines, LayersHaveOutlines};
 
 /// The pieces of a border are the same one by one, over whatever divisors its levels are written: of one name, from one
 /// point to one point.
@@ -15,9 +15,14 @@ pub fn outlines_are_one()
     ensures alike { AlikeHaveOneOutlines }
 {}
 
-/// A tree of solids has one list of outlines at a layer, whichever shape numbers its leaves.
+/// A tree of solids has one list of outlines at a layer, whichever shape stands for it.
 pub fn layers_are_one()
     ensures { LayersHaveOneOutlines }
+{}
+
+/// A tree of solids has outlines at each layer.
+pub fn layers_have_outlines()
+    ensures { LayersHaveOutlines }
 {}
 
 #[cfg(test)]
@@ -29,5 +34,6 @@ mod tests {
         pieces_are_same();
         outlines_are_one();
         layers_are_one();
+        layers_have_outlines();
     }
 }

@@ -19,7 +19,7 @@ use Rattle.scad_scope.specs.Names.{Names, value_of_name, with_name}
 use Rattle.scad_expr.specs.Arguments.{given_from, is_given, is_statement, statements}
 use Rattle.scad_expr.specs.Given.{parameter_names, shown, taken, counted_on}
 use Rattle.scad_expr.proofs.Homes.{items-drop, items-drop_all}
-use Rattle.scad_expr.proofs.Lists.{arguments-drop, arguments-drop_all}
+use Rattle.scad_value.proofs.Lists.{arguments-drop, arguments-drop_all}
 
 -- ---- the parameters that are left in a loop
 pub names-drop : (all : List Param) (i : ℕ) (p : Param) → i < length all → p ≡ get_or all i p → parameter_names (drop i all) ≡ p.name ∷ parameter_names (drop (i + 1) all)

@@ -47,7 +47,7 @@ unfolding function_named
 function-past all n name past = ap (function_named name) (get_or_past (envs all) n outside (let many = length-envs all in omega (arith, many)))
 
 module _ (all : List Stored) (n : ℕ) (below : n < length all) where
-  at_number : env_at (envs all) n ≡ env_of (take n (envs all)) (stored_at all n)
+  pub at_number : env_at (envs all) n ≡ env_of (take n (envs all)) (stored_at all n)
   at_number = env_at-number all n (stored_at all n) below (get_or_default all n (pushed None None None) (stored_at all n) below)
 
   -- the frame has a function of the name

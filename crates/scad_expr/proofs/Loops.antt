@@ -24,7 +24,7 @@ use Rattle.scad_ast.specs.Scope.{parameter}
 use Rattle.scad_scope.specs.Stored.{StoredChildren, env_at, envs}
 use Rattle.scad_expr.specs.Given.{parameter_names}
 use Rattle.scad_expr.specs.Opened.{opened, set_in_last, bound_in, outer, IsInner}
-use Rattle.scad_expr.proofs.Lists.{arguments-drop, arguments-drop_all}
+use Rattle.scad_value.proofs.Lists.{arguments-drop, arguments-drop_all}
 use Rattle.scad_expr.proofs.Giving.{names-parameters}
 use Rattle.scad_expr.proofs.OpenFrames.{inner-env, inner-along, call-home, call-along, call-set, opened-bound, opened-again}
 
@@ -33,17 +33,17 @@ nothing-left [] none = refl
 nothing-left (a ∷ all) none = absurd (let no : ⊥ = omega arith in no)
 
 -- ---- what follows an outcome
-goes : {A B : Type 0} (o : Outcome A) (f : A → Action B) (a : A) (s : State) → o ≡ gives a s → and_then o f ≡ f a s
+pub goes : {A B : Type 0} (o : Outcome A) (f : A → Action B) (a : A) (s : State) → o ≡ gives a s → and_then o f ≡ f a s
 goes o f a s e = ap (λ p. and_then p f) e
 
-stops : {A B : Type 0} (o : Outcome A) (f : A → Action B) (e : EvalFault) (s : State) → o ≡ refuses e s → and_then o f ≡ refuses e s
+pub stops : {A B : Type 0} (o : Outcome A) (f : A → Action B) (e : EvalFault) (s : State) → o ≡ refuses e s → and_then o f ≡ refuses e s
 stops o f e s is = ap (λ p. and_then p f) is
 
 same-then : {A B : Type 0} (o : Outcome A) (f g : A → Action B) → ((a : A) (s : State) → f a s ≡ g a s) → and_then o f ≡ and_then o g
 same-then (gives a s) f g h = h a s
 same-then (refuses e s) f g h = refl
 
-twice : {A B C : Type 0} (o : Outcome A) (f : A → Action B) (g : B → Action C) → and_then (and_then o f) g ≡ and_then o (λ a s. and_then (f a s) g)
+pub twice : {A B C : Type 0} (o : Outcome A) (f : A → Action B) (g : B → Action C) → and_then (and_then o f) g ≡ and_then o (λ a s. and_then (f a s) g)
 twice (gives a s) f g = refl
 twice (refuses e s) f g = refl
 

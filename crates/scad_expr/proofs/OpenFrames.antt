@@ -27,13 +27,13 @@ last-some (f ∷ more) n is some = ap Some (omega (arith, is))
 pub ruleset lasts = (last-none, last-some)
 
 -- the environment of a frame that was pushed last
-env_at-last : (all : List Stored) (f : Stored) → env_at (envs (all ++ f ∷ [])) (length all) ≡ env_of (envs all) f
+pub env_at-last : (all : List Stored) (f : Stored) → env_at (envs (all ++ f ∷ [])) (length all) ≡ env_of (envs all) f
 env_at-last all f =
     ap (λ l. get_or l (length all) outside) (envs-push all f)
     ∙ ap (λ n. get_or (envs all ++ env_of (envs all) f ∷ []) n outside) (sym (length-envs all))
     ∙ get_or-append_seam (envs all) (env_of (envs all) f) [] outside
 
-less-one : (all : List Stored) (f : Stored) → length (all ++ f ∷ []) - 1 ≡ length all
+pub less-one : (all : List Stored) (f : Stored) → length (all ++ f ∷ []) - 1 ≡ length all
 less-one all f = let many = length-append all (f ∷ []) in omega (arith, many)
 
 -- names are sought in the new frame, and then where it stands
@@ -50,7 +50,7 @@ env_in-before kept home b h there =
     ap (λ l. get_or l home outside) (envs-push h.frames f)
     ∙ get_or_append_left (envs h.frames) (env_of (envs h.frames) f ∷ []) outside home (omega (arith, many))
 
-round-last : (all : List Stored) → env_round (envs all) (last_of all) ≡ env_at (envs all) (length all - 1)
+pub round-last : (all : List Stored) → env_round (envs all) (last_of all) ≡ env_at (envs all) (length all - 1)
 round-last [] = refl
 round-last (f ∷ more) = ap (env_at (envs (f ∷ more))) (omega arith)
 
@@ -64,11 +64,11 @@ along_in-opened kept here home b h =
     ∙ ap (λ e. within e b.dollars) (round-last h.along)
 
 -- ---- names that are set
-set_at-end : (xs : List Stored) (x y : Stored) → set (xs ++ x ∷ []) (length xs) y ≡ xs ++ y ∷ []
+pub set_at-end : (xs : List Stored) (x y : Stored) → set (xs ++ x ∷ []) (length xs) y ≡ xs ++ y ∷ []
 set_at-end [] x y = refl
 set_at-end (z ∷ xs) x y = ap (λ l. z ∷ l) (set_at-end xs x y)
 
-last-named : (name : List ℕ) (d : Datum) (all : List Stored) (f : Stored) → with_name_in_last name d (all ++ f ∷ []) ≡ all ++ with_name_in name d f ∷ []
+pub last-named : (name : List ℕ) (d : Datum) (all : List Stored) (f : Stored) → with_name_in_last name d (all ++ f ∷ []) ≡ all ++ with_name_in name d f ∷ []
 last-named name d all f =
     ap (λ n. set (all ++ f ∷ []) n (with_name_in name d (get_or (all ++ f ∷ []) n (pushed None None None)))) (less-one all f)
     ∙ ap (λ g. set (all ++ f ∷ []) (length all) (with_name_in name d g)) (get_or-append_seam all f [] (pushed None None None))
@@ -102,7 +102,7 @@ left-opened back kept here home b h is =
     (take_at h.along (d ∷ []) _ (sym (less-one h.along d)))
 
 -- ---- what the frames that were opened tell
-last-frame : (all : List Stored) (f : Stored) → last_frame (all ++ f ∷ []) ≡ f
+pub last-frame : (all : List Stored) (f : Stored) → last_frame (all ++ f ∷ []) ≡ f
 last-frame all f =
     ap (stored_at (all ++ f ∷ [])) (less-one all f) ∙ get_or-append_seam all f [] (pushed None None None)
 

@@ -7,13 +7,12 @@ use Rattle.scad_num.specs.Number.{most}
 use Rattle.std.proofs.Math.Nat.{div-eq_of_lt, div-eq-sub-div, div-zero}
 use Rattle.std.proofs.lemmas.List.{map-append}
 use Rattle.scad_value.specs.Datum.{number, range}
-use Rattle.scad_value.specs.View.{datum_of, elements}
+use Rattle.scad_value.specs.View.{datum_of, elements, data_of}
 use Rattle.scad_value.specs.declared.value.Value.{Value}
 use Rattle.scad_value.specs.declared.value.Value.{List as ListValue}
 use Rattle.scad_value.proofs.Rows.{vector_view}
 use Rattle.scad_expr.specs.Runs.{numbers_from, count_up, count_down, count_of_range, items, as_list}
 use Rattle.scad_expr.specs.Portions.{is_past, numbers_left}
-use Rattle.scad_expr.specs.View.{data_of}
 
 -- ---- values behind others
 pub data-push : (all : List Value) (v : Value) → data_of (all ++ v ∷ []) ≡ data_of all ++ datum_of v ∷ []

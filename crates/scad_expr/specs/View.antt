@@ -1,26 +1,14 @@
 -- What lists in memory are to the definitions.
-use Rattle.std.specs.Prelude.{List, map, Vec}
-use Rattle.std.specs.Global.{Global}
+use Rattle.std.specs.Prelude.{List, map}
 use Rattle.scad_ast.specs.declared.expression.Expr.{Expr}
 use Rattle.scad_ast.specs.declared.statement.Param.{Param}
 use Rattle.scad_ast.specs.Scope.{parameter}
 use Rattle.scad_ast.specs.View.{expression_of}
-use Rattle.scad_value.specs.Datum.{Datum}
-use Rattle.scad_value.specs.View.{datum_of}
-use Rattle.scad_value.specs.declared.value.Value.{Value}
 use Rattle.scad_scope.specs.Env.{Env}
 use Rattle.scad_scope.specs.Stored.{env_at}
 use Rattle.scad_expr.specs.declared.defined.Defined.{Defined}
 use Rattle.scad_expr.specs.declared.defined.DefinedAt.{DefinedAt}
 use Rattle.scad_expr.specs.Functions.{Function, Found}
-
--- values, one behind another
-abbrev pub data_of : List Value → List Datum
-data_of all = map datum_of all
-
--- the values that a vector of them holds
-abbrev pub data_in : Vec Value Global → List Datum
-data_in v = data_of v.items
 
 -- a function that is defined by these parameters and this expression
 abbrev pub function_of : List Param → Expr → Function

@@ -4,7 +4,7 @@ ghost use Rattle.std.specs.Prelude.{◌≡◌, ◌∷◌, [], ◌<◌, length, m
 ghost use Rattle.scad_ast.specs.Scope.{parameter};
 ghost use Rattle.scad_ast.specs.Tree.{call};
 ghost use Rattle.scad_ast.specs.View.{expression_of, arguments};
-ghost use Rattle.scad_value.specs.View.{datum_of};
+ghost use Rattle.scad_value.specs.View.{datum_of, data_in};
 ghost use Rattle.scad_scope.specs.Env.{inside, frame};
 ghost use Rattle.scad_scope.specs.Stored.{env_at, envs, children_in};
 ghost use Rattle.scad_scope.specs.View.{children_stored};
@@ -14,7 +14,7 @@ ghost use Rattle.scad_expr.specs.Machine.{held, env_in, along_in, state_of};
 ghost use Rattle.scad_expr.specs.Meaning.{node, values, called, called_own, default_value, bound, bind, meaning};
 ghost use Rattle.scad_expr.specs.Opened.{opened, bound_in, left, opened_in};
 ghost use Rattle.scad_expr.specs.Variables.{within};
-ghost use Rattle.scad_expr.specs.View.{found_at, data_in};
+ghost use Rattle.scad_expr.specs.View.{found_at};
 
 use crate::defined::DefinedAt;
 use crate::fault::EvalFault;

@@ -1,6 +1,6 @@
 //! Steps, made values, lines and names of an evaluation.
 
-ghost use Rattle.std.specs.Prelude.{◌≡◌, Some, IfOk, encode_utf8_all};
+ghost use Rattle.std.specs.Prelude.{◌≡◌, Some};
 ghost use Rattle.scad_value.specs.View.{datum_of};
 ghost use Rattle.scad_expr.specs.Answers.{Does, nothing};
 ghost use Rattle.scad_expr.specs.Machine.{held, env_in, along_in, state_of};
@@ -10,8 +10,8 @@ ghost use Rattle.scad_expr.specs.Variables.{variable};
 use crate::fault::EvalFault;
 use crate::machine::Machine;
 use scad_fault::{Budget, BudgetKind, Place, Text};
-use scad_value::{Value, copy, made, nesting};
-use std::alloc::{AllocError, Global};
+use scad_value::{Value, copy, encoded, made, nesting};
+use std::alloc::Global;
 
 impl<'p> Machine<'p> {
     /// Takes so many steps.
@@ -59,15 +59,4 @@ impl<'p> Machine<'p> {
         self.echoes.push(text)?;
         self.take(line.len() as u64, at)
     }
-}
-
-/// Characters as UTF-8.
-fn encoded(alloc: Global, chars: &[char]) -> Result<Text, AllocError>
-    ensures { IfOk result (λ t. t ≡ encode_utf8_all chars.now) }
-{
-    let mut text = String::new(alloc);
-    'chars: for c in chars {
-        text.push(*c)?;
-    }
-    Ok(Text::from_vec(text.into_bytes()))
 }

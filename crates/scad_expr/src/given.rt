@@ -3,13 +3,12 @@
 ghost use Rattle.std.specs.Prelude.{◌≡◌, ◌<◌, ◌^◌, ◌||◌, ◌++◌, ◌∷◌, [], if◌then◌else◌, IfOk, OnOk, map, slice_get};
 ghost use Rattle.scad_ast.specs.Scope.{parameter, item_of, items};
 ghost use Rattle.scad_ast.specs.View.{arguments};
-ghost use Rattle.scad_value.specs.View.{datum_of};
+ghost use Rattle.scad_value.specs.View.{datum_of, data_in};
 ghost use Rattle.scad_scope.specs.Names.{with_name};
 ghost use Rattle.scad_expr.specs.Arguments.{is_parameter, to_parameter, to_name, given, is_given, is_statement, number_of_children};
 ghost use Rattle.scad_expr.specs.Given.{parameter_names, shown, counted_on, taken};
 ghost use Rattle.scad_expr.specs.Portions.{missing};
 ghost use Rattle.scad_expr.specs.Variables.{is_dollar};
-ghost use Rattle.scad_expr.specs.View.{data_in};
 
 use crate::named::is_dollar;
 use indexmap::IndexMap;

@@ -2,13 +2,12 @@
 
 ghost use Rattle.std.specs.Prelude.{◌≡◌, [], ◌∷◌, codes, option_map};
 ghost use Rattle.scad_ast.specs.View.{arguments};
-ghost use Rattle.scad_value.specs.View.{datum_of};
+ghost use Rattle.scad_value.specs.View.{datum_of, data_of};
 ghost use Rattle.scad_scope.specs.Names.{value_of_name};
 ghost use Rattle.scad_expr.specs.Answers.{Does, nothing};
 ghost use Rattle.scad_expr.specs.Arguments.{given};
 ghost use Rattle.scad_expr.specs.Meaning.{tested, asserted, judge_named, judge_variables};
 ghost use Rattle.scad_expr.specs.State.{State};
-ghost use Rattle.scad_expr.specs.View.{data_of};
 ghost use Rattle.scad_expr.specs.Tested.{first_after, test_by};
 
 use crate::fault::EvalFault;
@@ -76,7 +75,7 @@ fn first_after(first: bool, arg: &Arg) -> bool
 }
 
 /// The value that is tested.
-#[tactic(auto, using(crate::proofs::Lists::lists, crate::proofs::Tested::tested))]
+#[tactic(auto, using(scad_value::proofs::Lists::lists, crate::proofs::Tested::tested))]
 fn test_of<'a>(args: &[Arg], values: &'a [Value]) -> Option<&'a Value>
     ensures { option_map (λ v. datum_of v.now) result ≡ value_of_name (codes "test")
         (given (codes "test" ∷ codes "text" ∷ []) (arguments args.now) (data_of values.now)) }

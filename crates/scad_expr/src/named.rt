@@ -36,7 +36,7 @@ fn copied(alloc: Global, found: Option<&Value>) -> Result<Value, EvalFault>
 }
 
 /// Whether every argument has a name.
-#[tactic(auto, using(crate::proofs::Lists::lists))]
+#[tactic(auto, using(scad_value::proofs::Lists::lists))]
 pub(crate) fn are_named(args: &[Arg]) -> bool
     ensures { result ≡ are_named (arguments args.now) }
 {

@@ -4,7 +4,7 @@ ghost use Rattle.std.specs.Prelude.{◌≡◌, length, map, None, option_map, If
 ghost use Rattle.scad_ast.specs.Scope.{parameter};
 ghost use Rattle.scad_ast.specs.View.{arguments};
 ghost use Rattle.scad_scope.specs.View.{stored, children_stored};
-ghost use Rattle.scad_value.specs.View.{datum_of};
+ghost use Rattle.scad_value.specs.View.{datum_of, data_in};
 ghost use Rattle.scad_expr.specs.Answers.{Does, nothing, done_at};
 ghost use Rattle.scad_expr.specs.Arguments.{given, set_all};
 ghost use Rattle.scad_expr.specs.Given.{parameter_names, shown};
@@ -13,7 +13,6 @@ ghost use Rattle.scad_expr.specs.Opened.{last_of, opened, set_in_last, set_all_i
 ghost use Rattle.scad_expr.specs.Portions.{missing};
 ghost use Rattle.scad_expr.specs.Variables.{empty, within};
 ghost use Rattle.scad_expr.specs.Variables.{set as set_name};
-ghost use Rattle.scad_expr.specs.View.{data_in};
 
 use crate::fault::EvalFault;
 use crate::given::{Given, given, missing, number_of_children};

@@ -4,7 +4,7 @@ ghost use Rattle.std.specs.Prelude.{◌≡◌, ◌++◌, IfOk, OnOk};
 ghost use Rattle.scad_ast.specs.View.{arguments};
 ghost use Rattle.scad_value.specs.Texts.{comma};
 ghost use Rattle.scad_expr.specs.Printed.{label, echo_line};
-ghost use Rattle.scad_expr.specs.View.{data_of};
+ghost use Rattle.scad_value.specs.View.{data_of};
 
 use scad_ast::Arg;
 use scad_fault::Text;
@@ -45,7 +45,7 @@ fn push_comma(out: &mut Vec<char>, first: bool) -> Result<(), AllocError>
 }
 
 /// The line of these arguments and values.
-#[tactic(auto, using(crate::proofs::Lists::lists), unfolding(crate::specs::Printed::echo_line))]
+#[tactic(auto, using(scad_value::proofs::Lists::lists), unfolding(crate::specs::Printed::echo_line))]
 pub(crate) fn echo_line(
     alloc: Global,
     args: &[Arg],

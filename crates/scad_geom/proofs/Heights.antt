@@ -13,7 +13,7 @@ use Rattle.scad_geom.specs.declared.level.Level.{Level}
 use Rattle.scad_geom.specs.declared.level.LeafEdge.{LeafEdge}
 use Rattle.scad_geom.specs.Line.{low, high, rise, run, offset, left_of, lean, apart}
 use Rattle.scad_geom.specs.Sign.{is_zero}
-use Rattle.scad_geom.specs.Level.{level_of, IsLower, IsAtMost}
+use Rattle.scad_geom.specs.Level.{level_of, IsLower, IsAtMost, IsSameHeight}
 use Rattle.scad_geom.specs.Meeting.{straddles, meets, meeting}
 use Rattle.scad_geom.specs.Heights.{meetings, heights}
 use Rattle.scad_geom.proofs.Ring.{ring, num, ◌⊕◌, ◌⊖◌, ◌⊗◌, v0, v1, v2, v3, v4, v5}
@@ -49,6 +49,16 @@ at_most_chain p q r dp dq dr h k =
 
 pub lower_weak : (p q : Level) → IsLower p q → IsAtMost p q
 lower_weak p q h = omega (arith, ints)
+
+-- of two levels of one height each is at most the other, and the other way round
+pub same_at_least : (p q : Level) → IsSameHeight p q → IsAtMost p q
+same_at_least p q h = omega (arith, ints)
+
+pub same_at_most : (p q : Level) → IsSameHeight p q → IsAtMost q p
+same_at_most p q h = omega (arith, ints)
+
+pub same_height : (p q : Level) → IsAtMost p q → IsAtMost q p → IsSameHeight p q
+same_height p q h k = omega (arith, ints)
 
 -- ---- two edges that meet
 -- an edge that isn't flat and whose ends lie outside two heights or at them

@@ -21,5 +21,6 @@ pub mod Crossings
 pub mod Square
 pub mod Points
 pub mod Sums
+pub mod Removed
 pub mod Rising
 mod Boxes

@@ -21,6 +21,7 @@ use Rattle.scad_geom.proofs.Signs.{at_least_mul, pos_left, at_least_left, at_mos
 use Rattle.scad_geom.proofs.Integers.{neg_mul}
 use Rattle.scad_geom.proofs.Lines.{gap_is}
 use Rattle.scad_geom.proofs.Heights.{Reaches, meeting_up, meets_between, meets_turned, meeting_is, meeting_turned, lower_then_at_most, at_most_then_lower}
+use Rattle.scad_base.proofs.Integers.{at_most_of_less}
 
 -- ---- what holds of every height holds of each end and each meeting
 pub front : {A : Type 0} (P : A → Type 0) (xs ys : List A) → AllByRecursion P (xs ++ ys) → AllByRecursion P xs
@@ -88,9 +89,6 @@ no_meeting es l u n i j d li lj ri rj a h k =
 climb : (a b n d m c : ℤ) → (a *ℤ n +ℤ b *ℤ d) *ℤ c ≡ (a *ℤ m +ℤ b *ℤ c) *ℤ d +ℤ a *ℤ (n *ℤ c -ℤ m *ℤ d)
 climb a b n d m c = ring (a ∷ b ∷ n ∷ d ∷ m ∷ c ∷ []) ((v0 ⊗ v2 ⊕ v1 ⊗ v3) ⊗ v5) ((v0 ⊗ v4 ⊕ v1 ⊗ v5) ⊗ v3 ⊕ v0 ⊗ (v2 ⊗ v5 ⊖ v4 ⊗ v3)) refl
 
-weak : (z : ℤ) → pos 0 <ℤ z → pos 0 ≤ℤ z
-weak z h = omega (arith, ints)
-
 factor : (a g : ℤ) → pos 0 ≤ℤ g → pos 0 <ℤ (a *ℤ g) → pos 0 <ℤ a
 factor a (pos zero) h k = absurd (omega (arith, ints))
 factor a (pos (suc m)) h k = pos_left a (pos (suc m)) (omega (arith, ints)) k
@@ -101,7 +99,7 @@ rises_between : (a b : ℤ) (p q : Level) → pos 0 <ℤ p.d → pos 0 <ℤ q.d 
 rises_between a b p q dp dq h k o =
     let i = climb a b q.n q.d p.n p.d in
     let s : pos 0 <ℤ ((a *ℤ q.n +ℤ b *ℤ q.d) *ℤ p.d) = positive_product _ _ k dp in
-    let t : ((a *ℤ p.n +ℤ b *ℤ p.d) *ℤ q.d) ≤ℤ pos 0 = at_most_mul (a *ℤ p.n +ℤ b *ℤ p.d) q.d h (weak q.d dq) in
+    let t : ((a *ℤ p.n +ℤ b *ℤ p.d) *ℤ q.d) ≤ℤ pos 0 = at_most_mul (a *ℤ p.n +ℤ b *ℤ p.d) q.d h (at_most_of_less (pos 0) q.d dq) in
     let w : pos 0 <ℤ (a *ℤ (q.n *ℤ p.d -ℤ p.n *ℤ q.d)) = omega (arith, ints) in
     let g : pos 0 ≤ℤ (q.n *ℤ p.d -ℤ p.n *ℤ q.d) = omega (arith, ints) in
     factor a (q.n *ℤ p.d -ℤ p.n *ℤ q.d) g w
@@ -110,7 +108,7 @@ rises_between a b p q dp dq h k o =
 rises_later : (a b : ℤ) (p q : Level) → pos 0 <ℤ p.d → pos 0 <ℤ q.d → (a *ℤ p.n +ℤ b *ℤ p.d) <ℤ pos 0 → pos 0 ≤ℤ (a *ℤ q.n +ℤ b *ℤ q.d) → IsAtMost p q → pos 0 <ℤ a
 rises_later a b p q dp dq h k o =
     let i = climb a b q.n q.d p.n p.d in
-    let s : pos 0 ≤ℤ ((a *ℤ q.n +ℤ b *ℤ q.d) *ℤ p.d) = at_least_mul _ _ k (weak p.d dp) in
+    let s : pos 0 ≤ℤ ((a *ℤ q.n +ℤ b *ℤ q.d) *ℤ p.d) = at_least_mul _ _ k (at_most_of_less (pos 0) p.d dp) in
     let t : ((a *ℤ p.n +ℤ b *ℤ p.d) *ℤ q.d) <ℤ pos 0 = negative_product (a *ℤ p.n +ℤ b *ℤ p.d) q.d dq h in
     let w : pos 0 <ℤ (a *ℤ (q.n *ℤ p.d -ℤ p.n *ℤ q.d)) = omega (arith, ints) in
     let g : pos 0 ≤ℤ (q.n *ℤ p.d -ℤ p.n *ℤ q.d) = omega (arith, ints) in

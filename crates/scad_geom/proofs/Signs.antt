@@ -1,5 +1,5 @@
 -- Sums and products of whole numbers, and their signs.
-use Rattle.std.proofs.Common.{◌≡◌, zero, suc, arith}
+use Rattle.std.proofs.Common.{◌≡◌, zero, suc, arith, ◌+ℤ◌}
 use Rattle.scad_base.proofs.Products.{negative_product}
 use Rattle.std.proofs.Common.{ℤ, pos, negsuc, ◌-ℤ◌, ◌*ℤ◌, neg_ℤ, int_lt, ◌<ℤ◌}
 use lib.Signed.{◌≤ℤ◌}
@@ -42,3 +42,18 @@ at_most_mul (pos zero) r p q = rw (zero-*ℤ r) (omega (arith, ints))
 at_most_mul (pos (suc m)) r p q = absurd (omega (arith, ints))
 at_most_mul (negsuc m) (pos n) p q = omega (arith, ints)
 at_most_mul (negsuc m) (negsuc n) p q = absurd (omega (arith, ints))
+
+pub sum_at_least : (s t : ℤ) → pos 0 ≤ℤ s → pos 0 ≤ℤ t → pos 0 ≤ℤ (s +ℤ t)
+sum_at_least s t h k = omega (arith, ints)
+
+-- the gap of equal numbers is 0
+pub no_gap : (s t : ℤ) → s ≡ t → s -ℤ t ≡ pos 0
+no_gap s t h = omega (arith, ints)
+
+-- a square isn't below 0
+pub square_at_least : (z : ℤ) → pos 0 ≤ℤ (z *ℤ z)
+square_at_least (pos n) = at_least_mul (pos n) (pos n) (omega (arith, ints)) (omega (arith, ints))
+square_at_least (negsuc n) = at_least_mul (pos (suc n)) (pos (suc n)) (omega (arith, ints)) (omega (arith, ints))
+
+pub positive_as : (s t : ℤ) → s ≡ t → pos 0 <ℤ s → pos 0 <ℤ t
+positive_as s t e h = omega (arith, ints)

@@ -17,6 +17,7 @@ use Rattle.scad_geom.proofs.Integers.{neg_mul}
 use Rattle.scad_geom.proofs.Crossing.{side_of, crossings}
 use Rattle.scad_geom.proofs.Doubled.{wind_halves}
 use Rattle.scad_geom.proofs.Signs.{product_is_negative}
+use Rattle.scad_base.proofs.Tests.{cond_same}
 
 -- the upright sides of a square with the side k
 abbrev right_side : ℤ → Edge
@@ -46,13 +47,9 @@ left_is_right k x y positive = rw (left_area k x y) (product_is_negative k x pos
 abbrev crossed : ℤ → ℤ → ℤ
 crossed passage side = if int_lt (pos 0) (passage *ℤ side) then passage else pos 0
 
-both_zero : (b : Bool) → (if b then pos 0 else pos 0) ≡ pos 0
-both_zero true = refl
-both_zero false = refl
-
 -- an edge that does not pass the height crosses nothing
 crossed-zero : (side : ℤ) → crossed (pos 0) side ≡ pos 0
-crossed-zero side = both_zero (int_lt (pos 0) (pos 0 *ℤ side))
+crossed-zero side = cond_same (int_lt (pos 0) (pos 0 *ℤ side)) (pos 0)
 
 -- the crossings of the lower, right, upper and left side, where the tests say whether the height is
 -- below the lower and below the upper side

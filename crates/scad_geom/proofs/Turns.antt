@@ -1,8 +1,8 @@
 -- The turn of an edge that reaches two neighbouring heights, hard by a point between them.
 use Rattle.std.proofs.Common.{◌≡◌, Bool, true, false, cond, [], ◌∷◌, refl, sym, ap, ap₂, ◌∙◌, arith, subst}
-use Rattle.scad_base.proofs.Integers.{zero_minus}
+use Rattle.scad_base.proofs.Integers.{zero_minus, at_most_of_less}
 use lib.IntN.{ℤ, pos, negsuc, ◌+ℤ◌, ◌-ℤ◌, ◌*ℤ◌, neg_ℤ}
-use lib.Signed.{◌<ℤ◌, ◌≤ℤ◌, lt_z, le_z}
+use lib.Signed.{◌<ℤ◌, lt_z, le_z}
 use Rattle.std.specs.Prelude.{int_lt, int_le, if◌then◌else◌}
 use Rattle.std.proofs.lemmas.Int.{ints, by_lt_z}
 use Rattle.scad_geom.specs.declared.point.Pt.{Pt}
@@ -82,16 +82,10 @@ pub beyond_mul : (right : Bool) (k z : ℤ) → pos 0 <ℤ k → is_beyond right
 unfolding is_beyond
 beyond_mul true k z h = by_lt_z (pos 0) z
     (λ q. let a : int_lt (pos 0) z ≡ true = sym (omega (arith, ints)) in let b : int_lt (pos 0) (z *ℤ k) ≡ true = let m = positive_product z k q h in sym (omega (arith, ints)) in b ∙ sym a)
-    (λ q. let a : int_lt (pos 0) z ≡ false = sym (omega (arith, ints)) in let b : int_lt (pos 0) (z *ℤ k) ≡ false = let m = at_most_mul z k q (weak k h) in sym (omega (arith, ints)) in b ∙ sym a)
-  where
-    weak : (z : ℤ) → pos 0 <ℤ z → pos 0 ≤ℤ z
-    weak z h = omega (arith, ints)
+    (λ q. let a : int_lt (pos 0) z ≡ false = sym (omega (arith, ints)) in let b : int_lt (pos 0) (z *ℤ k) ≡ false = let m = at_most_mul z k q (at_most_of_less (pos 0) k h) in sym (omega (arith, ints)) in b ∙ sym a)
 beyond_mul false k z h = by_lt_z z (pos 0)
     (λ q. let a : int_le (pos 0) z ≡ false = sym (omega (arith, ints)) in let b : int_le (pos 0) (z *ℤ k) ≡ false = let m = negative_product z k h q in sym (omega (arith, ints)) in b ∙ sym a)
-    (λ q. let a : int_le (pos 0) z ≡ true = sym (omega (arith, ints)) in let b : int_le (pos 0) (z *ℤ k) ≡ true = let m = at_least_mul z k q (weak k h) in sym (omega (arith, ints)) in b ∙ sym a)
-  where
-    weak : (z : ℤ) → pos 0 <ℤ z → pos 0 ≤ℤ z
-    weak z h = omega (arith, ints)
+    (λ q. let a : int_le (pos 0) z ≡ true = sym (omega (arith, ints)) in let b : int_le (pos 0) (z *ℤ k) ≡ true = let m = at_least_mul z k q (at_most_of_less (pos 0) k h) in sym (omega (arith, ints)) in b ∙ sym a)
 
 -- ---- turns of edges
 -- 1 for an edge that runs upwards, -1 for one that runs downwards

@@ -1,6 +1,6 @@
 -- Modules in memory, the environments where their definitions stand, and the children that frames keep.
 use Rattle.std.proofs.Common.{◌≡◌, ℕ, ◌<◌, ◌≤◌, List, length, take, Option, Some, None, option_map, if◌then◌else◌, Vec, Global, refl, sym, ap, ◌∙◌, arith}
-use Rattle.std.proofs.lemmas.List.{get_or_past, get_or_default}
+use Rattle.std.proofs.lemmas.List.{get_or_past}
 use Rattle.scad_fault.specs.declared.place.Place.{Place}
 use Rattle.scad_ast.specs.declared.expression.Expr.{Expr}
 use Rattle.scad_ast.specs.declared.statement.Param.{Param}
@@ -11,11 +11,12 @@ use Rattle.scad_ast.specs.Scope.{item_of, body_of}
 use Rattle.scad_ast.proofs.ScopeRows.{module_view}
 use Rattle.scad_scope.specs.Names.{is_same_name}
 use Rattle.scad_scope.specs.Env.{outside, or_else}
-use Rattle.scad_scope.specs.Stored.{Stored, pushed, stored_at, env_at, env_round, env_of, envs}
-use Rattle.scad_scope.proofs.Outwards.{env_at-number, length-envs, round-before, round-past}
+use Rattle.scad_scope.specs.Stored.{Stored, stored_at, env_at, env_round, env_of, envs}
+use Rattle.scad_scope.proofs.Outwards.{length-envs, round-before, round-past}
 use Rattle.scad_inst.specs.Modules.{found_in, defined, defined_in, module_named}
 use Rattle.scad_inst.specs.Modules.{Module as Definition}
 use Rattle.scad_inst.specs.View.{definition}
+use Rattle.scad_expr.proofs.Homes.{at_number}
 
 -- ---- items by their kinds
 pub not_assignment : (name word : List ℕ) (value : Expr) (at : Place) (o : Option Definition) → defined name (item_of (Assign word value at)) o ≡ o
@@ -43,22 +44,19 @@ unfolding module_named
 module-past all n name past = ap (module_named name) (get_or_past (envs all) n outside (let many = length-envs all in omega (arith, many)))
 
 module _ (all : List Stored) (n : ℕ) (below : n < length all) where
-  pub at_number : env_at (envs all) n ≡ env_of (take n (envs all)) (stored_at all n)
-  at_number = env_at-number all n (stored_at all n) below (get_or_default all n (pushed None None None) (stored_at all n) below)
-
   -- the frame has a module of the name
   pub module-there : (name : List ℕ) (f : Definition) → defined_in name (stored_at all n).scope ≡ Some f → module_named name (env_at (envs all) n) ≡ Some (record { definition = f; home = env_at (envs all) n })
   unfolding module_named
   module-there name f found =
-      ap (module_named name) at_number
+      ap (module_named name) (at_number all n below)
       ∙ ap (λ o. or_else (option_map (found_in (env_of (take n (envs all)) (stored_at all n))) o) (module_named name (env_round (take n (envs all)) (stored_at all n).parent))) found
-      ∙ ap (λ env. Some (found_in env f)) (sym at_number)
+      ∙ ap (λ env. Some (found_in env f)) (sym (at_number all n below))
 
   -- it has none
   round : (name : List ℕ) → defined_in name (stored_at all n).scope ≡ None → module_named name (env_at (envs all) n) ≡ module_named name (env_round (take n (envs all)) (stored_at all n).parent)
   unfolding module_named
   round name found =
-      ap (module_named name) at_number
+      ap (module_named name) (at_number all n below)
       ∙ ap (λ o. or_else (option_map (found_in (env_of (take n (envs all)) (stored_at all n))) o) (module_named name (env_round (take n (envs all)) (stored_at all n).parent))) found
 
   pub module-round : (name : List ℕ) (p : ℕ) → defined_in name (stored_at all n).scope ≡ None → (stored_at all n).parent ≡ Some p → p < n → module_named name (env_at (envs all) n) ≡ module_named name (env_at (envs all) p)

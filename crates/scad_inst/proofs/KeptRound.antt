@@ -5,7 +5,7 @@ use Rattle.scad_scope.specs.Env.{outside, no_children, children}
 use Rattle.scad_scope.specs.Stored.{Stored, StoredChildren, stored_at, env_at, env_round, envs, children_in}
 use Rattle.scad_scope.proofs.Outwards.{length-envs, round-before, round-past}
 use Rattle.scad_inst.specs.Modules.{kept_or, kept_children}
-use Rattle.scad_inst.proofs.Homes.{at_number}
+use Rattle.scad_expr.proofs.Homes.{at_number}
 
 past : (all : List Stored) (n : ℕ) → length all ≤ n → env_at (envs all) n ≡ outside
 past all n over = get_or_past (envs all) n outside (let many = length-envs all in omega (arith, many))

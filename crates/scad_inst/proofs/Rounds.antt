@@ -1,12 +1,12 @@
 -- One more turn of each loop over statements, values and children, and the end of it, in terms of what all of them give.
 use Rattle.std.proofs.Common.{◌≡◌, ℕ, ℤ, ◌+◌, ◌<◌, ◌≤◌, Bool, List, [], ◌∷◌, length, get_or, drop, map, Option, Some, refl, sym, ap, ap₂, ◌∙◌, arith}
-use Rattle.std.proofs.lemmas.List.{drop_more, drop_all}
+use Rattle.std.proofs.lemmas.List.{drop_all}
 use Rattle.scad_fault.specs.declared.place.Place.{Place}
-use Rattle.scad_ast.specs.Tree.{Expression, Arguments, argument, Items, no_items, entry}
+use Rattle.scad_ast.specs.Tree.{Expression, Arguments, argument, Items, no_items}
 use Rattle.scad_ast.specs.declared.statement.Item.{Item}
 use Rattle.scad_ast.specs.declared.expression.Arg.{Arg}
 use Rattle.scad_ast.specs.View.{expression_of, arguments}
-use Rattle.scad_expr.proofs.Lists.{arguments-drop}
+use Rattle.scad_value.proofs.Lists.{arguments-drop}
 use Rattle.scad_ast.specs.Scope.{item_of, items}
 use Rattle.scad_value.specs.Datum.{Datum, undef, boolean, number, string}
 use Rattle.scad_scope.specs.Env.{Env}
@@ -16,7 +16,7 @@ use Rattle.scad_expr.specs.Variables.{set, empty, within}
 use Rattle.scad_expr.specs.Opened.{left}
 use Rattle.scad_expr.specs.Meaning.{value}
 use Rattle.scad_expr.specs.Meaning.{Below as Expressions}
-use Rattle.scad_expr.proofs.Loops.{same-state}
+use Rattle.scad_expr.proofs.Loops.{same-state, goes, stops, twice}
 use Rattle.scad_expr.specs.Machine.{Held, env_in, along_in}
 use Rattle.scad_expr.specs.Runs.{items as run_over}
 use Rattle.scad_expr.proofs.RunsLeft.{items-vector}
@@ -29,22 +29,9 @@ use Rattle.scad_inst.specs.Portions.{turn}
 use Rattle.scad_inst.specs.Where.{Where}
 use Rattle.scad_inst.proofs.Levels.{expressions-are}
 use Rattle.scad_inst.proofs.ScopeFrames.{depth-left}
-
--- ---- what follows an outcome
-goes : {A B : Type 0} (o : Outcome A) (f : A → Action B) (a : A) (s : State) → o ≡ gives a s → and_then o f ≡ f a s
-goes o f a s e = ap (λ p. and_then p f) e
-
-stops : {A B : Type 0} (o : Outcome A) (f : A → Action B) (e : EvalFault) (s : State) → o ≡ refuses e s → and_then o f ≡ refuses e s
-stops o f e s is = ap (λ p. and_then p f) is
-
-twice : {A B C : Type 0} (o : Outcome A) (f : A → Action B) (g : B → Action C) → and_then (and_then o f) g ≡ and_then o (λ a s. and_then (f a s) g)
-twice (gives a s) f g = refl
-twice (refuses e s) f g = refl
+use Rattle.scad_expr.proofs.Homes.{items-drop}
 
 -- ---- statements
-items-drop : (all : List Item) (i : ℕ) (a : Item) → i < length all → a ≡ get_or all i a → items (drop i all) ≡ entry (item_of a) (items (drop (i + 1) all))
-items-drop all i a there is = ap items (drop_more all i a there) ∙ ap (λ b. entry (item_of b) (items (drop (i + 1) all))) (sym is)
-
 module _ (w : Where) (all : List Item) (i : ℕ) (a : Item) (there : i < length all) (is : a ≡ get_or all i a) (h h0 : Held) (same : h ≡ h0) (so_far : List Solid) (s : State) (given : Outcome (List Solid)) (left : members_from (below_of h0) w (env_in h0) (along_in h0) (items (drop i all)) so_far s ≡ given) where
   abbrev rest : List Solid → Action (List Solid)
   rest now = members_from (below_of h0) w (env_in h0) (along_in h0) (items (drop (i + 1) all)) now

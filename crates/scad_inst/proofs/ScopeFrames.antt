@@ -1,15 +1,13 @@
 -- What names mean in the frames of a scope.
-use Rattle.std.proofs.Common.{◌≡◌, ℕ, ◌-◌, Bool, true, false, List, [], ◌∷◌, ◌++◌, length, get_or, set, Some, None, if◌then◌else◌, refl, sym, ap, ap₂, ◌∙◌, arith}
-use Rattle.std.proofs.lemmas.List.{length-append, take_at}
-use Rattle.std.proofs.Math.Seq.{get_or-append_seam}
+use Rattle.std.proofs.Common.{◌≡◌, ℕ, Bool, true, false, List, [], ◌∷◌, ◌++◌, Some, None, if◌then◌else◌, refl, sym, ap, ap₂, ◌∙◌}
+use Rattle.std.proofs.lemmas.List.{take_at}
 use Rattle.scad_ast.specs.Tree.{Items}
 use Rattle.scad_value.specs.Datum.{Datum}
 use Rattle.scad_scope.specs.Names.{with_name}
-use Rattle.scad_scope.specs.Env.{outside, inside, frame, no_children}
-use Rattle.scad_scope.specs.Stored.{Stored, pushed, stored_at, with_name_in, with_name_in_last, env_at, env_round, env_of, envs}
-use Rattle.scad_scope.proofs.Outwards.{envs-push, length-envs}
+use Rattle.scad_scope.specs.Env.{inside, frame, no_children}
+use Rattle.scad_scope.specs.Stored.{Stored, with_name_in_last, env_at, envs}
 use Rattle.scad_expr.specs.Machine.{Held, env_in, along_in}
-use Rattle.scad_expr.specs.Opened.{last_of, set_in_last, left, last_frame, bound_in, opened_in}
+use Rattle.scad_expr.specs.Opened.{last_of, set_in_last, left, bound_in, opened_in}
 use Rattle.scad_expr.specs.Variables.{is_dollar, Bound, empty, within}
 use Rattle.scad_expr.specs.Variables.{set as set_name}
 use Rattle.scad_scope.specs.Assigned.{bindings}
@@ -19,34 +17,7 @@ use Rattle.scad_expr.specs.State.{State, gives, refuses, and_then, pure}
 use Rattle.scad_inst.specs.Frames.{below_of, scope_held, IsScope}
 use Rattle.scad_inst.specs.Meaning.{statements_meaning, assigned, opened_scope}
 use Rattle.scad_inst.specs.Opened.{scope_opened}
-
--- ---- the last frame
-env_at-last : (all : List Stored) (f : Stored) → env_at (envs (all ++ f ∷ [])) (length all) ≡ env_of (envs all) f
-env_at-last all f =
-    ap (λ l. get_or l (length all) outside) (envs-push all f)
-    ∙ ap (λ n. get_or (envs all ++ env_of (envs all) f ∷ []) n outside) (sym (length-envs all))
-    ∙ get_or-append_seam (envs all) (env_of (envs all) f) [] outside
-
-less-one : (all : List Stored) (f : Stored) → length (all ++ f ∷ []) - 1 ≡ length all
-less-one all f = let many = length-append all (f ∷ []) in omega (arith, many)
-
-round-last : (all : List Stored) → env_round (envs all) (last_of all) ≡ env_at (envs all) (length all - 1)
-round-last [] = refl
-round-last (f ∷ more) = ap (env_at (envs (f ∷ more))) (omega arith)
-
-last-frame : (all : List Stored) (f : Stored) → last_frame (all ++ f ∷ []) ≡ f
-last-frame all f =
-    ap (stored_at (all ++ f ∷ [])) (less-one all f) ∙ get_or-append_seam all f [] (pushed None None None)
-
-set_at-end : (xs : List Stored) (x y : Stored) → set (xs ++ x ∷ []) (length xs) y ≡ xs ++ y ∷ []
-set_at-end [] x y = refl
-set_at-end (z ∷ xs) x y = ap (λ l. z ∷ l) (set_at-end xs x y)
-
-last-named : (name : List ℕ) (d : Datum) (all : List Stored) (f : Stored) → with_name_in_last name d (all ++ f ∷ []) ≡ all ++ with_name_in name d f ∷ []
-last-named name d all f =
-    ap (λ n. set (all ++ f ∷ []) n (with_name_in name d (get_or (all ++ f ∷ []) n (pushed None None None)))) (less-one all f)
-    ∙ ap (λ g. set (all ++ f ∷ []) (length all) (with_name_in name d g)) (get_or-append_seam all f [] (pushed None None None))
-    ∙ set_at-end all f (with_name_in name d f)
+use Rattle.scad_expr.proofs.OpenFrames.{env_at-last, less-one, round-last, last-frame, last-named}
 
 -- ---- the frames of a scope
 module _ (scope : Items) (home : ℕ) (b : Bound) (h : Held) where

@@ -5,11 +5,10 @@ ghost use Rattle.scad_ast.specs.Scope.{items};
 ghost use Rattle.scad_ast.specs.View.{arguments};
 ghost use Rattle.scad_tree.specs.View.{solid_of, solids};
 ghost use Rattle.scad_value.specs.Datum.{range};
-ghost use Rattle.scad_value.specs.View.{datum_of};
+ghost use Rattle.scad_value.specs.View.{datum_of, data_in};
 ghost use Rattle.scad_expr.specs.Answers.{Does};
 ghost use Rattle.scad_expr.specs.Machine.{held, env_in, along_in, state_of};
 ghost use Rattle.scad_expr.specs.Runs.{items as run_over};
-ghost use Rattle.scad_expr.specs.View.{data_in};
 ghost use Rattle.scad_inst.specs.Frames.{below_of};
 ghost use Rattle.scad_inst.specs.Meaning.{for_variables, let_in, looped, turns};
 ghost use Rattle.scad_inst.specs.Portions.{turn};
@@ -77,7 +76,7 @@ pub(crate) fn let_in<'p>(
 
 /// The trees of the turns of variables, the first of them the outermost.
 #[cycle(run)]
-#[tactic(auto, using(scad_expr::proofs::Lists::lists, crate::proofs::Levels::expressions), unfolding(crate::specs::Meaning::for_variables))]
+#[tactic(auto, using(scad_value::proofs::Lists::lists, crate::proofs::Levels::expressions), unfolding(crate::specs::Meaning::for_variables))]
 fn for_variables<'p>(
     alloc: Global,
     at: Place,

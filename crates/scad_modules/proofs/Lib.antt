@@ -1,5 +1,4 @@
 pub mod Angles
 pub mod Faces
 pub mod Fragments
-pub mod Lists
 pub mod Onto

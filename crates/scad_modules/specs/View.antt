@@ -15,10 +15,6 @@ use Rattle.scad_modules.specs.Primitive.{Primitive as Solid}
 use Rattle.scad_modules.specs.Reading.{Read}
 use Rattle.scad_modules.specs.Shapes.{Fineness as FineAt}
 
--- values, one behind another
-abbrev pub data_of : List Value → List Datum
-data_of all = map datum_of all
-
 -- a value that may be given
 abbrev pub datum_in : Option (Bor Value) → Option Datum
 datum_in found = option_map (λ v. datum_of v.now) found

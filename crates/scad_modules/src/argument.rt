@@ -2,9 +2,9 @@
 
 ghost use Rattle.std.specs.Prelude.{◌≡◌, ◌<◌, ◌^◌, None};
 ghost use Rattle.scad_ast.specs.View.{arguments};
-ghost use Rattle.scad_value.specs.View.{datum_of};
+ghost use Rattle.scad_value.specs.View.{datum_of, data_of};
 ghost use Rattle.scad_modules.specs.Arguments.{is_placed, taken_by, counted, taken_from, if_given, taken};
-ghost use Rattle.scad_modules.specs.View.{data_of, datum_in};
+ghost use Rattle.scad_modules.specs.View.{datum_in};
 
 use scad_ast::Arg;
 use scad_value::Value;
@@ -60,7 +60,7 @@ fn counted(i: usize, arg: &Arg) -> usize
 }
 
 /// What the parameter takes of all arguments.
-#[tactic(auto, using(crate::proofs::Lists::lists))]
+#[tactic(auto, using(scad_value::proofs::Lists::lists))]
 fn last_taken<'a>(
     place: Option<usize>,
     name: &[u8],

@@ -4,12 +4,12 @@ ghost use Rattle.std.specs.Prelude.{◌≡◌, true, length, IfOk};
 ghost use Rattle.std.specs.Int.{int_max};
 ghost use Rattle.scad_ast.specs.View.{arguments};
 ghost use Rattle.scad_cos.specs.Circle.{fragments_of};
-ghost use Rattle.scad_value.specs.View.{datum_of};
+ghost use Rattle.scad_value.specs.View.{datum_of, data_of};
 ghost use Rattle.scad_modules.specs.Arguments.{taken};
 ghost use Rattle.scad_modules.specs.Primitive.{are_fragments, is_primitive};
 ghost use Rattle.scad_modules.specs.Shapes.{fragments, all_sizes, one_size, three_sizes, given_sizes, sizes, height_of, common_radius, end_radius};
 ghost use Rattle.scad_modules.specs.Shapes.{cube_by, sphere_by, cylinder_of, cylinder_by, faces_over, polyhedron_by, primitive_of};
-ghost use Rattle.scad_modules.specs.View.{data_of, datum_in, fine_at, primitive, Reads};
+ghost use Rattle.scad_modules.specs.View.{datum_in, fine_at, primitive, Reads};
 
 use crate::argument::taken;
 use crate::fault::ArgumentFault;

@@ -3,10 +3,10 @@
 ghost use Rattle.std.specs.Prelude.{◌≡◌, ◌^◌, ◌≤◌, pos, length, unsigned_abs};
 ghost use Rattle.std.specs.Ordering.{int_eq};
 ghost use Rattle.scad_ast.specs.View.{arguments};
-ghost use Rattle.scad_value.specs.View.{datum_of, elements};
+ghost use Rattle.scad_value.specs.View.{datum_of, elements, data_of};
 ghost use Rattle.scad_modules.specs.Transforms.{translate_by, scale_by_three, scale_by, mirror_by, row_at, first_three, turned_by, row_of_four, row_of, rows_of, multmatrix_by};
 ghost use Rattle.scad_modules.specs.Transforms.{angle_of, turned, way_round, about, about_axis, turned_about, product, turned_by_three, rotate_by, matrix_of};
-ghost use Rattle.scad_modules.specs.View.{data_of, datum_in};
+ghost use Rattle.scad_modules.specs.View.{datum_in};
 
 use crate::argument::taken;
 use crate::fault::ArgumentFault;

@@ -10,6 +10,7 @@ use Rattle.scad_scope.specs.declared.binding.Binding.{Binding}
 use Rattle.scad_scope.specs.Names.{is_same_name}
 use Rattle.scad_scope.specs.Noted.{Places, with_place, noted_all, placed, as_binding}
 use Rattle.scad_scope.specs.Assigned.{assigned_by, differs_from, first_assigned, last_place, binding, bindings}
+use Rattle.std.proofs.lemmas.List.{append-nil}
 
 abbrev has : List ℕ → Places → Bool
 has name [] = false
@@ -65,10 +66,6 @@ updated i more p = (p.0, last_place p.0 p.1 i more)
 abbrev added : ℕ → List (Option (List ℕ)) → List ℕ → List ℕ × ℕ
 added i more name = (name, last_place name 0 i more)
 
-nothing_behind : {A : Type 0} (xs : List A) → xs ≡ xs ++ []
-nothing_behind [] = refl
-nothing_behind (x ∷ xs) = ap (λ l. x ∷ l) (nothing_behind xs)
-
 -- an assignment to another name changes no place
 same_updated : (m : List ℕ) (i : ℕ) (more : List (Option (List ℕ))) (p : List ℕ × ℕ) (b : Bool) → is_same_name m p.0 ≡ b → (p.0, last_place p.0 (if b then i else p.1) (i + 1) more) ≡ updated i (Some m ∷ more) p
 same_updated m i more p b e = sym (ap (λ c. (p.0, last_place p.0 (if c then i else p.1) (i + 1) more)) (same_turned p.0 m ∙ e))
@@ -86,7 +83,7 @@ updated-with_place m i more (p ∷ rest) d = by (updated-with_place m i more res
     by : map (updated (i + 1) more) (with_place m i rest) ≡ map (updated i (Some m ∷ more)) rest ++ (if has m rest then [] else (m, last_place m i (i + 1) more) ∷ []) → (b : Bool) → is_same_name m p.0 ≡ b → map (updated (i + 1) more) (if b then (p.0, i) ∷ rest else p ∷ with_place m i rest) ≡ map (updated i (Some m ∷ more)) (p ∷ rest) ++ (if (b || has m rest) then [] else (m, last_place m i (i + 1) more) ∷ [])
     by so_far true e =
         let absent : has m rest ≡ false = ap (λ n. has n rest) ((bytes_decides m p.0).0 e) ∙ d.0 in
-        ap₂ (λ a b. a ∷ b) (same_updated m i more p true e) (others m i more rest absent ∙ nothing_behind (map (updated i (Some m ∷ more)) rest))
+        ap₂ (λ a b. a ∷ b) (same_updated m i more p true e) (others m i more rest absent ∙ sym (append-nil (map (updated i (Some m ∷ more)) rest)))
     by so_far false e = ap₂ (λ a b. a ∷ b) (same_updated m i more p false e) so_far
 
 -- the names that weren't noted, once one more is
@@ -128,7 +125,7 @@ noted_in_order so_far i (Some m ∷ more) d =
   where
     by : (b : Bool) → (map (updated i (Some m ∷ more)) so_far ++ (if b then [] else (m, last_place m i (i + 1) more) ∷ [])) ++ map (added (i + 1) more) (filter (hasnt so_far) (filter (differs_from m) (first_assigned more))) ≡ map (updated i (Some m ∷ more)) so_far ++ map (added i (Some m ∷ more)) (cond (not b) (m ∷ filter (hasnt so_far) (filter (differs_from m) (first_assigned more))) (filter (hasnt so_far) (filter (differs_from m) (first_assigned more))))
     by true =
-        ap₂ (λ a b. a ++ b) (sym (nothing_behind (map (updated i (Some m ∷ more)) so_far))) (added-others m i more (hasnt so_far) (first_assigned more))
+        ap₂ (λ a b. a ++ b) (append-nil (map (updated i (Some m ∷ more)) so_far)) (added-others m i more (hasnt so_far) (first_assigned more))
     by false =
         append_assoc (map (updated i (Some m ∷ more)) so_far) ((m, last_place m i (i + 1) more) ∷ []) (map (added (i + 1) more) (filter (hasnt so_far) (filter (differs_from m) (first_assigned more))))
         ∙ ap₂ (λ a b. map (updated i (Some m ∷ more)) so_far ++ (a ∷ b)) (same_updated m i more (m, 0) true (same_itself m)) (added-others m i more (hasnt so_far) (first_assigned more))

@@ -2,7 +2,7 @@
 use Rattle.std.proofs.Common.{◌≡◌, ℕ, ◌+◌, ◌-◌, ◌<◌, ◌≤◌, Bool, true, false, List, [], ◌∷◌, ◌++◌, map, length, take, drop, get_or, set, Option, Some, None, option_map, if◌then◌else◌, Vec, Global, Result, Ok, Err, OnErr, Bor, refl, sym, ap, ◌∙◌, append_assoc, arith}
 use Rattle.std.specs.Prelude.{nat_eq, option_copied}
 use Rattle.std.specs.Cmp.Lexicographic.{pointwise}
-use Rattle.std.proofs.lemmas.List.{map-append, map-set, take-map, length-map, get_or-take, get_or_past, get_or-map, set-get_or, drop_more, length-append, length-take, length-take-le, take-append-drop, take_at}
+use Rattle.std.proofs.lemmas.List.{map-append, map-set, take-map, length-map, get_or-take, get_or_past, get_or-map, set-get_or, drop_more, length-append, length-take, length-take-le, take-append-drop, take_at, append-nil}
 use Rattle.std.proofs.Math.Seq.{get_or-append_seam}
 use Rattle.std.specs.Map.{lookup}
 use Rattle.scad_value.specs.Datum.{Datum}
@@ -71,13 +71,9 @@ split : (before : List Env) (xs ys : List Stored) → envs_onto before (xs ++ ys
 split before [] ys = refl
 split before (f ∷ xs) ys = split (before ++ env_of before f ∷ []) xs ys
 
-nothing_behind : {A : Type 0} (xs : List A) → xs ≡ xs ++ []
-nothing_behind [] = refl
-nothing_behind (x ∷ xs) = ap (λ l. x ∷ l) (nothing_behind xs)
-
 -- later frames change no environment
 grows : (before : List Env) (all : List Stored) → (rest : List Env) × (envs_onto before all ≡ before ++ rest)
-grows before [] = ([], nothing_behind before)
+grows before [] = ([], sym (append-nil before))
 grows before (f ∷ all) =
     let r = grows (before ++ env_of before f ∷ []) all in
     (env_of before f ∷ r.0, r.1 ∙ append_assoc before (env_of before f ∷ []) r.0)

@@ -7,6 +7,7 @@ use Rattle.scad_geom.specs.declared.point.Edge.{Edge}
 use Rattle.scad_geom.specs.Winding.{counted}
 use Rattle.scad_geom.proofs.Crossing.{side_of, crossing, scaled, times_point}
 use Rattle.scad_geom.proofs.Ring.{solve, var, plus, less, times}
+use Rattle.scad_base.proofs.Tests.{cond_same}
 
 -- the crossing by whether each end lies above, and on which side the point lies
 abbrev pub told : Bool → Bool → Bool → Bool → ℤ
@@ -15,17 +16,13 @@ told false true left right = if left then pos 1 else pos 0
 told true false left right = if right then negsuc 0 else pos 0
 told true true left right = pos 0
 
-either : (b : Bool) → (if b then pos 0 else pos 0) ≡ pos 0
-either true = refl
-either false = refl
-
 crossing_by : (a b : Bool) (s : ℤ) → (if int_lt (pos 0) ((counted b -ℤ counted a) *ℤ s) then counted b -ℤ counted a else pos 0) ≡ told a b (int_lt (pos 0) s) (int_lt s (pos 0))
-crossing_by false false s = either (int_lt (pos 0) ((pos 0 -ℤ pos 0) *ℤ s))
+crossing_by false false s = cond_same (int_lt (pos 0) ((pos 0 -ℤ pos 0) *ℤ s)) (pos 0)
 crossing_by false true s = let same : (pos 1 -ℤ pos 0) *ℤ s ≡ s = omega (arith, ints) in ap (λ z. if int_lt (pos 0) z then pos 1 else pos 0) same
 crossing_by true false (pos zero) = refl
 crossing_by true false (pos (suc n)) = grind (arith, ints)
 crossing_by true false (negsuc n) = grind (arith, ints)
-crossing_by true true s = either (int_lt (pos 0) ((pos 1 -ℤ pos 1) *ℤ s))
+crossing_by true true s = cond_same (int_lt (pos 0) ((pos 1 -ℤ pos 1) *ℤ s)) (pos 0)
 
 pub crossing-told : (e : Edge) (x y : ℤ) → crossing e x y ≡ told (int_lt y e.a.y) (int_lt y e.b.y) (int_lt (pos 0) (side_of e x y)) (int_lt (side_of e x y) (pos 0))
 crossing-told e x y = crossing_by (int_lt y e.a.y) (int_lt y e.b.y) (side_of e x y)

@@ -26,11 +26,11 @@ sections_append layer h leaf (ts ∷ us) vs =
     ap (λ es. leaf_section layer h leaf ts ++ es) (sections_append layer h (leaf + 1) us vs ∙ ap (λ k. sections_from layer h (leaf + 1) us ++ sections_from layer h k vs) (omega arith))
     ∙ sym (append_assoc (leaf_section layer h leaf ts) (sections_from layer h (leaf + 1) us) (sections_from layer h (leaf + length (ts ∷ us)) vs))
 
-edges_of-append : (leaf : ℕ) (es fs : List LeafEdge) → edges_of leaf (es ++ fs) ≡ edges_of leaf es ++ edges_of leaf fs
+pub edges_of-append : (leaf : ℕ) (es fs : List LeafEdge) → edges_of leaf (es ++ fs) ≡ edges_of leaf es ++ edges_of leaf fs
 edges_of-append leaf es fs = ap (map (λ e. e.edge)) (filter-append (λ e. e.leaf == leaf) es fs) ∙ map-append (λ e. e.edge) (filter (λ e. e.leaf == leaf) es) (filter (λ e. e.leaf == leaf) fs)
 
 -- the edges of one leaf are another's only where they are the same leaf
-of_leaf : (leaf k : ℕ) (es : List Edge) (b : Bool) → (k == leaf) ≡ b → edges_of leaf (map (leaf_edge k) es) ≡ cond b es []
+pub of_leaf : (leaf k : ℕ) (es : List Edge) (b : Bool) → (k == leaf) ≡ b → edges_of leaf (map (leaf_edge k) es) ≡ cond b es []
 of_leaf leaf k [] true is = refl
 of_leaf leaf k [] false is = refl
 of_leaf leaf k (e ∷ es) true is =

@@ -7,3 +7,4 @@ pub mod Lines
 pub mod LeafSections
 pub mod Numbering
 pub mod Above
+pub mod Surfaces

@@ -17,6 +17,7 @@ mod operations;
 mod sections;
 mod shape;
 mod sizes;
+mod solids;
 #[cfg(test)]
 mod tests;
 mod text;

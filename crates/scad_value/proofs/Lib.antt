@@ -6,3 +6,4 @@ pub mod Quotients
 pub mod Rows
 pub mod Factors
 pub mod Steps
+pub mod Lists

@@ -1,5 +1,6 @@
 -- The datum that a value in memory is.
-use Rattle.std.specs.Prelude.{List, [], ◌∷◌}
+use Rattle.std.specs.Prelude.{List, [], ◌∷◌, map, Vec}
+use Rattle.std.specs.Global.{Global}
 use Rattle.scad_value.specs.declared.value.Value.{Value, Undef, Bool, Number, Str, List', Range, Row_of-Value, end_of-Value, more_of-Value}
 use Rattle.scad_value.specs.Datum.{Datum, undef, boolean, number, string, vector, range, Elements, no_elements, element}
 
@@ -24,3 +25,11 @@ elements_onto (v ∷ all) more = element (datum_of v) (elements_onto all more)
 -- what a list of values is
 abbrev pub elements : List Value → Elements
 elements all = elements_onto all no_elements
+
+-- values, one behind another
+abbrev pub data_of : List Value → List Datum
+data_of all = map datum_of all
+
+-- the values that a vector of them holds
+abbrev pub data_in : Vec Value Global → List Datum
+data_in v = data_of v.items

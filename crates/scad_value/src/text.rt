@@ -113,7 +113,7 @@ pub fn push_text(out: &mut Vec<char>, a: &Value) -> Result<(), AllocError>
 }
 
 /// Characters as UTF-8.
-fn encoded(alloc: Global, chars: &[char]) -> Result<Text, AllocError>
+pub fn encoded(alloc: Global, chars: &[char]) -> Result<Text, AllocError>
     ensures { IfOk result (λ t. t ≡ encode_utf8_all chars.now) }
 {
     let mut text = String::new(alloc);

@@ -30,8 +30,10 @@ use Rattle.slice_bool.specs.Pieces.{spot_on, whole_spot, is_flat_at, passes_at, 
 use Rattle.slice_snap.specs.Spots.{point_of}
 use Rattle.slice_bool.proofs.Middle.{size_of}
 use Rattle.slice_bool.proofs.Winding.{either_over}
-use Rattle.slice_bool.proofs.BalanceTurns.{gap, is_right, ahead_level, ahead_over, ahead_under, drop_zero, no_gap, int_eq-true}
+use Rattle.slice_bool.proofs.BalanceTurns.{gap, is_right, ahead_level, ahead_over, ahead_under, drop_zero}
 use Rattle.slice_bool.proofs.BalanceEdges.{IsAside}
+use Rattle.scad_geom.proofs.Signs.{no_gap}
+use Rattle.std.specs.Cmp.{signed_Decides}
 
 -- a point at a height
 abbrev pub IsAt : Level → Point → Type 0
@@ -239,7 +241,7 @@ one_sided l dl right p dp at e h flat =
     let a = at_most_chain (level_at p) l (level_of e.edge.a.y) dp dl one (up_to (level_at p) l at) (down_to (level_of e.edge.a.y) l same) in
     let b = at_most_chain (level_of e.edge.a.y) l (level_at p) one dl dp (up_to (level_of e.edge.a.y) l same) (down_to (level_at p) l at) in
     let here : p.y *ℤ pos 1 ≡ e.edge.a.y *ℤ p.d = omega (arith, ints) in
-    let k : is_flat_at e.edge l ≡ true = rw (is_zero-rise e.edge flat) (int_eq-true (e.edge.a.y *ℤ l.d) l.n level) in
+    let k : is_flat_at e.edge l ≡ true = rw (is_zero-rise e.edge flat) ((signed_Decides (e.edge.a.y *ℤ l.d) l.n).1 level) in
     ahead_level right p (whole e.edge.a) here
     ∙ ap counted (sym (whole_right right p l e.edge.a dl) ∙ h k ∙ whole_right right p l e.edge.b dl)
     ∙ sym (ahead_level right p (whole e.edge.b) (subst (λ (y : ℤ). p.y *ℤ pos 1 ≡ y *ℤ p.d) flat here))))

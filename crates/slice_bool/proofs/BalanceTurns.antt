@@ -15,6 +15,8 @@ use Rattle.scad_geom.proofs.Integers.{mul_assoc, neg_mul}
 use Rattle.scad_geom.proofs.Heights.{lower_then_at_most, at_most_then_lower, lower_weak}
 use Rattle.scad_geom.proofs.Turns.{level_at, over_true, over_false, flat_turn, rising_turn, beyond_mul}
 use Rattle.scad_base.proofs.Integers.{gap_of_less}
+use Rattle.scad_geom.proofs.Signs.{no_gap}
+use Rattle.std.specs.Cmp.{signed_Decides}
 
 -- how far b lies to the right of p, over the product of their divisors
 abbrev pub gap : Point → Point → ℤ
@@ -31,12 +33,6 @@ abbrev pub ahead : Bool → Point → Point → ℤ
 ahead right p b = counted (is_level p b && is_right right p b)
 
 -- ---- tests
-pub int_eq-true : (a b : ℤ) → a ≡ b → int_eq a b ≡ true
-int_eq-true a b h =
-    let p : int_lt a b ≡ false = sym (omega (arith, ints)) in
-    let q : int_lt b a ≡ false = sym (omega (arith, ints)) in
-    rw (p, q) refl
-
 pub int_eq-less : (a b : ℤ) → a <ℤ b → int_eq a b ≡ false
 int_eq-less a b h = let p : int_lt a b ≡ true = sym (omega (arith, ints)) in rw p refl
 
@@ -47,7 +43,7 @@ int_eq-more a b h =
     rw (p, q) refl
 
 pub ahead_level : (right : Bool) (p b : Point) → p.y *ℤ b.d ≡ b.y *ℤ p.d → ahead right p b ≡ counted (is_right right p b)
-ahead_level right p b h = ap (λ (t : Bool). counted (t && is_right right p b)) (int_eq-true (p.y *ℤ b.d) (b.y *ℤ p.d) h)
+ahead_level right p b h = ap (λ (t : Bool). counted (t && is_right right p b)) ((signed_Decides (p.y *ℤ b.d) (b.y *ℤ p.d)).1 h)
 
 pub ahead_over : (right : Bool) (p b : Point) → IsLower (level_at p) (level_at b) → ahead right p b ≡ pos 0
 ahead_over right p b h = ap (λ (t : Bool). counted (t && is_right right p b)) (int_eq-less (p.y *ℤ b.d) (b.y *ℤ p.d) h)
@@ -67,9 +63,6 @@ from_end ax ay ad bx by bd x y d = ring (ax ∷ ay ∷ ad ∷ bx ∷ by ∷ bd �
 
 turned_over : (ax ay ad bx by bd x y d : ℤ) → ((ax *ℤ bd -ℤ bx *ℤ ad) *ℤ (y *ℤ bd -ℤ by *ℤ d) -ℤ (ay *ℤ bd -ℤ by *ℤ ad) *ℤ (x *ℤ bd -ℤ bx *ℤ d)) *ℤ ad ≡ pos 0 -ℤ ((bx *ℤ ad -ℤ ax *ℤ bd) *ℤ (y *ℤ ad -ℤ ay *ℤ d) -ℤ (by *ℤ ad -ℤ ay *ℤ bd) *ℤ (x *ℤ ad -ℤ ax *ℤ d)) *ℤ bd
 turned_over ax ay ad bx by bd x y d = ring (ax ∷ ay ∷ ad ∷ bx ∷ by ∷ bd ∷ x ∷ y ∷ d ∷ []) (((v0 ⊗ v5 ⊖ v3 ⊗ v2) ⊗ (v7 ⊗ v5 ⊖ v4 ⊗ v8) ⊖ (v1 ⊗ v5 ⊖ v4 ⊗ v2) ⊗ (v6 ⊗ v5 ⊖ v3 ⊗ v8)) ⊗ v2) (num (pos 0) ⊖ ((v3 ⊗ v2 ⊖ v0 ⊗ v5) ⊗ (v7 ⊗ v2 ⊖ v1 ⊗ v8) ⊖ (v4 ⊗ v2 ⊖ v1 ⊗ v5) ⊗ (v6 ⊗ v2 ⊖ v0 ⊗ v8)) ⊗ v5) refl
-
-pub no_gap : (a b : ℤ) → a ≡ b → a -ℤ b ≡ pos 0
-no_gap a b h = omega (arith, ints)
 
 start_side : (right : Bool) (p a b : Point) → IsLower (level_at a) (level_at b) → p.y *ℤ a.d ≡ a.y *ℤ p.d → is_beyond right (side_by p a b) ≡ is_right right p a
 unfolding side_by
@@ -212,7 +205,7 @@ ahead_both p b = by_test (is_level p b) (three (p.x *ℤ b.d) (b.x *ℤ p.d))
         let e : x ≡ y = omega (arith, ints) in
         let p : int_le (pos 0) (y -ℤ x) ≡ true = sym (omega (arith, ints)) in
         let q : int_lt (pos 0) (y -ℤ x) ≡ false = sym (omega (arith, ints)) in
-        rw (p, q, int_eq-true x y e) refl))
+        rw (p, q, (signed_Decides x y).1 e) refl))
 
     by_test : (t : Bool) → counted (is_beyond false (gap p b)) -ℤ counted (is_beyond true (gap p b)) ≡ counted (int_eq (p.x *ℤ b.d) (b.x *ℤ p.d))
         → counted (t && is_beyond false (gap p b)) -ℤ counted (t && is_beyond true (gap p b)) ≡ counted (t && int_eq (p.x *ℤ b.d) (b.x *ℤ p.d))

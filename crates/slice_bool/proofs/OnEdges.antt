@@ -22,7 +22,7 @@ use Rattle.scad_geom.specs.Level.{level_of, IsAtMost}
 use Rattle.scad_geom.specs.Heights.{heights, AreNeighbours}
 use Rattle.scad_geom.specs.Shape.{is_in_by}
 use Rattle.scad_geom.proofs.Ring.{ring, num, ◌⊕◌, ◌⊖◌, ◌⊗◌, v0, v1, v2, v3, v4, v5}
-use Rattle.scad_geom.proofs.Signs.{at_least_mul, pos_left}
+use Rattle.scad_geom.proofs.Signs.{at_least_mul, pos_left, positive_as}
 use Rattle.scad_geom.proofs.Heights.{heights_positive, Reaches, at_most_chain}
 use Rattle.scad_geom.proofs.Order.{back}
 use Rattle.winding_laws.specs.Parts.{IsOn}
@@ -73,9 +73,6 @@ unfolding rise
 passing_d e l r h =
     ap (λ (z : ℤ). pos 1 *ℤ (l.d *ℤ z)) h
     ∙ ring (l.n ∷ l.d ∷ (low e).y ∷ (high e).y ∷ []) (num (pos 1) ⊗ (v1 ⊗ (v3 ⊖ v2))) ((v3 ⊗ v1 ⊖ v0) ⊗ num (pos 1) ⊕ (v0 ⊖ v2 ⊗ v1) ⊗ num (pos 1)) refl
-
-positive_as : (s t : ℤ) → s ≡ t → pos 0 <ℤ s → pos 0 <ℤ t
-positive_as s t e h = omega (arith, ints)
 
 from_low_to_high : (e : Edge) (p : Point) → IsOn (whole (low e)) (whole (high e)) p → IsOn (whole e.a) (whole e.b) p
 unfolding low high

@@ -13,7 +13,7 @@ use Rattle.scad_geom.specs.Point.{Point, whole}
 use Rattle.scad_geom.specs.Loop.{path, sides}
 use Rattle.scad_geom.proofs.Order.{front, back}
 use Rattle.scad_geom.proofs.Ring.{ring, num, ◌⊕◌, ◌⊖◌, ◌⊗◌, v0, v1, v2, v3, v4, v5}
-use Rattle.scad_geom.proofs.Signs.{at_least_mul}
+use Rattle.scad_geom.proofs.Signs.{at_least_mul, square_at_least}
 use Rattle.winding_laws.specs.Parts.{IsOn}
 use Rattle.winding_laws.proofs.Parts.{parts_are_all}
 use Rattle.slice_loops.specs.Drawing.{IsLoop, AreDrawn}
@@ -24,13 +24,6 @@ use Rattle.slice_loops.proofs.Least.{IsAtLeast, least_is_corner, loop_at_least, 
 use Rattle.slice_loops.proofs.Rearranged.{sides_are_edges}
 
 -- ---- a vertex between its neighbours is a point of the way from one to the other
-square_at_least : (z : ℤ) → pos 0 ≤ℤ (z *ℤ z)
-square_at_least z = by_lt_z z (pos 0)
-    (λ q. let turned : (pos 0 -ℤ z) *ℤ (pos 0 -ℤ z) ≡ z *ℤ z = ring (z ∷ []) ((num (pos 0) ⊖ v0) ⊗ (num (pos 0) ⊖ v0)) (v0 ⊗ v0) refl in
-    let above : pos 0 ≤ℤ (pos 0 -ℤ z) = omega (arith, ints) in
-    subst (λ (y : ℤ). pos 0 ≤ℤ y) turned (at_least_mul (pos 0 -ℤ z) (pos 0 -ℤ z) above above))
-    (λ q. at_least_mul z z q q)
-
 -- the dot product of a way and the whole way, which is made of it and of the other
 part_of : (ux uy vx vy wx wy : ℤ) → wx ≡ ux +ℤ vx → wy ≡ uy +ℤ vy → pos 0 <ℤ (ux *ℤ vx +ℤ uy *ℤ vy) → pos 0 <ℤ (ux *ℤ wx +ℤ uy *ℤ wy)
 part_of ux uy vx vy wx wy hx hy h =

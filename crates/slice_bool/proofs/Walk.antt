@@ -12,7 +12,7 @@ use Rattle.scad_geom.specs.Point.{Point}
 use Rattle.scad_geom.specs.Shape.{is_in_by}
 use Rattle.scad_geom.specs.Level.{IsLower, IsAtMost}
 use Rattle.scad_geom.specs.Heights.{AreNeighbours}
-use Rattle.scad_geom.proofs.Heights.{lower_weak}
+use Rattle.scad_geom.proofs.Heights.{lower_weak, same_at_most, same_at_least}
 use Rattle.scad_geom.proofs.Turns.{level_at}
 use Rattle.scad_geom.specs.Winding.{counted}
 use Rattle.scad_geom.specs.Level.{IsSameHeight}
@@ -30,12 +30,6 @@ use Rattle.slice_bool.proofs.Winding.{outside_below, outside_above, either_over,
 -- ---- the heights, seen from a level
 Positive : Level → Type 0
 Positive h = pos 0 <ℤ h.d
-
-pub same_at_most : (p q : Level) → IsSameHeight p q → IsAtMost q p
-same_at_most p q h = omega (arith, ints)
-
-pub same_at_least : (p q : Level) → IsSameHeight p q → IsAtMost p q
-same_at_least p q h = omega (arith, ints)
 
 -- what a rising list has lies at its first level or above it
 pub from_first : (l : Level) (ls : List Level) (h : Level) → AllByRecursion (λ (l : Level). pos 0 <ℤ l.d) (l ∷ ls) → pos 0 <ℤ h.d → IsRising (l ∷ ls) → HasHeight (l ∷ ls) h → IsAtMost l h

@@ -11,22 +11,21 @@ use Rattle.scad_geom.specs.Shape.{shape_holds, is_in_by}
 use Rattle.scad_geom.specs.Sign.{is_zero}
 use Rattle.slice_section.specs.Section.{section_of}
 use Rattle.scad_tree.specs.Solid.{Solid}
-use Rattle.scad_tree.specs.Numbered.{numbered_of, numbered_from}
 use Rattle.scad_tree.specs.Sections.{tree_section}
-use Rattle.scad_tree.proofs.Numbering.{numbering_holds}
 use Rattle.slice_bool.specs.BorderPoints.{IsBorderPoint}
 use Rattle.slice_bool.specs.NearBorder.{IsNearBorder}
 use Rattle.slice_bool.proofs.NearBorder as border
+use Rattle.slice_layer.specs.Outlines.{StandsFor}
 use Rattle.slice_layer.specs.Border.{section_holds, IsSectionBorder, IsNearSectionBorder, OutlinesAreNearBorder}
 use Rattle.slice_layer.proofs.Sections.{leaf_edges}
 
-module _ (layer h : ℕ) (s : Solid) (shape : Shape) (numbered : numbered_of shape ≡ numbered_from 0 s) where
-  -- over the tree's section, the shape that numbers its leaves holds what the tree holds
-  shape_section : (above right : Bool) (p : Point) → is_in_by above right (tree_section layer h s) shape p ≡ section_holds above right layer h s p
+module _ (layer h : ℕ) (s : Solid) (shape : Shape) (stands : StandsFor shape s) where
+  -- over the tree's section, a shape that stands for the tree holds what it holds
+  pub shape_section : (above right : Bool) (p : Point) → is_in_by above right (tree_section layer h s) shape p ≡ section_holds above right layer h s p
   unfolding is_in_by
   shape_section above right p =
       (λ i. shape_holds (λ leaf. not (is_zero (wind_by above right p (segments (leaf_edges layer h s leaf i))))) shape)
-      ∙ numbering_holds.shapes (λ ts. not (is_zero (wind_by above right p (segments (section_of ts layer h))))) s shape numbered
+      ∙ stands (λ ts. not (is_zero (wind_by above right p (segments (section_of ts layer h)))))
 
   section_border : (p : Point) → IsBorderPoint (tree_section layer h s) shape p → IsSectionBorder layer h s p
   section_border p b = record {
@@ -45,5 +44,5 @@ module _ (layer h : ℕ) (s : Solid) (shape : Shape) (numbered : numbered_of sha
 
 pub outlines_are_near_border : OutlinesAreNearBorder
 outlines_are_near_border layer h s outlines a =
-    All-weaker (IsNearBorder (tree_section layer h s) a.shape) (IsNearSectionBorder layer h s) (edge_near layer h s a.shape a.numbered) (flat_map sides outlines)
+    All-weaker (IsNearBorder (tree_section layer h s) a.shape) (IsNearSectionBorder layer h s) (edge_near layer h s a.shape a.stands) (flat_map sides outlines)
     (border.outlines_are_near_border (tree_section layer h s) a.shape outlines a.are_outlines)

@@ -1,4 +1,3 @@
-pub mod Balanced
 pub mod Ends
 pub mod Sections
 pub mod Clear

@@ -22,16 +22,16 @@ use Rattle.winding_laws.proofs.Lengths.{lengths_keep_winding}
 use Rattle.slice_section.specs.Section.{rounded, section_of}
 use Rattle.scad_tree.specs.Solid.{Solid}
 use Rattle.scad_tree.specs.Order.{surfaces}
-use Rattle.scad_tree.specs.Numbered.{numbered_of, numbered_from, surface_at}
+use Rattle.scad_tree.specs.Numbered.{surface_at}
 use Rattle.scad_tree.specs.Sections.{tree_section}
 use Rattle.scad_tree.specs.Contained.{contained_at}
-use Rattle.scad_tree.proofs.Numbering.{numbering_holds}
 use Rattle.slice_bool.specs.Membership.{IsClearByHalf}
 use Rattle.slice_bool.proofs.Membership as border
-use Rattle.slice_layer.specs.Leaves.{AreClosed}
+use Rattle.scad_tree.specs.Solids.{AreClosed}
+use Rattle.slice_layer.specs.Outlines.{StandsFor}
 use Rattle.slice_layer.specs.Cuts.{cuts_at, IsClearOfCuts}
 use Rattle.slice_layer.specs.Membership.{OutlinesHoldPoints, OutlinesHoldCentres}
-use Rattle.slice_layer.proofs.Balanced.{cuts_balanced}
+use Rattle.slice_section.proofs.Marked.{cuts_balanced}
 use Rattle.slice_layer.proofs.Sections.{leaf_edges, surface_closed, leaves_balanced, sections_have}
 use Rattle.slice_layer.proofs.Clear.{IsClearCut, IsClearEdge, cuts_clear, edges_clear}
 
@@ -61,12 +61,12 @@ module _ (layer h : ℕ) (q : Point) (d : pos 0 <ℤ q.d) where
         ap (λ es. wind q (segments es)) (leaf_edges layer h s leaf)
         ∙ section_winds (surface_at (surfaces s) leaf) (surface_closed layer h (surfaces s) leaf surfaces_closed) (surface_clear (surfaces s) leaf all_clear)
 
-    -- a shape that numbers the leaves holds, over the section, what the tree contains by its exact cuts
-    section_contains : (shape : Shape) → numbered_of shape ≡ numbered_from 0 s → is_in_by true true (tree_section layer h s) shape q ≡ contained_at layer h q s
+    -- a shape that stands for the tree holds, over the section, what the tree contains by its exact cuts
+    section_contains : (shape : Shape) → StandsFor shape s → is_in_by true true (tree_section layer h s) shape q ≡ contained_at layer h q s
     unfolding is_in_by
-    section_contains shape numbered =
+    section_contains shape stands =
         (λ i. shape_holds (λ leaf. not (is_zero (leaf_winds leaf i))) shape)
-        ∙ numbering_holds.shapes (λ ts. contains (plane_of layer h) ts q) s shape numbered
+        ∙ stands (λ ts. contains (plane_of layer h) ts q)
 
     section_clear : IsClearByHalf (tree_section layer h s) q
     section_clear =
@@ -77,7 +77,7 @@ pub outlines_hold_points : OutlinesHoldPoints
 outlines_hold_points layer h s outlines closed a q d clear =
     border.outlines_hold_points (tree_section layer h s) a.shape outlines (leaves_balanced layer h s (recursion_from_All (λ ts. is_closed ts ≡ true) (surfaces s) closed)) a.are_outlines true true q d
     (section_clear layer h q d s closed clear)
-    ∙ ap counted (section_contains layer h q d s closed clear a.shape a.numbered)
+    ∙ ap counted (section_contains layer h q d s closed clear a.shape a.stands)
 
 pub outlines_hold_centres : OutlinesHoldCentres
 outlines_hold_centres layer h s outlines closed a i j clear = outlines_hold_points layer h s outlines closed a (centre i j) (omega (arith, ints)) clear

@@ -1,13 +1,11 @@
 -- The edges of a tree's section: of each leaf, and of all.
 use Rattle.std.proofs.Common.{◌≡◌, ℕ, zero, suc, ◌+◌, ◌<◌, Bool, true, false, cond, ◌==◌, List, [], ◌∷◌, ◌++◌, map, arith, refl, ap, sym, ◌∙◌, subst}
 use Rattle.std.proofs.lemmas.Bool.Decides.{nat_tests}
-use Rattle.std.proofs.lemmas.List.{append-nil, map-append}
-use Rattle.std.proofs.lemmas.List.Elements.{filter-append}
+use Rattle.std.proofs.lemmas.List.{append-nil}
 use Rattle.std.specs.Prelude.{filter}
 use Rattle.std.specs.List.{AllByRecursion}
 use Rattle.scad_base.proofs.Lists.{AllByRecursion-append}
 use Rattle.scad_geom.specs.declared.point.Edge.{Edge}
-use Rattle.scad_geom.specs.declared.level.LeafEdge.{LeafEdge}
 use Rattle.scad_geom.specs.Segment.{Segment, segments}
 use Rattle.scad_geom.specs.Balance.{IsBalanced}
 use Rattle.scad_geom.specs.Leaves.{edges_of, AreLeavesBalanced}
@@ -19,23 +17,10 @@ use Rattle.slice_section.proofs.Balanced.{IsBalanced-section_of}
 use Rattle.scad_tree.specs.Solid.{Solid}
 use Rattle.scad_tree.specs.Order.{surfaces}
 use Rattle.scad_tree.specs.Numbered.{surface_at}
+use Rattle.scad_tree.proofs.LeafSections.{edges_of-append, of_leaf}
 use Rattle.scad_tree.specs.Sections.{leaf_edge, leaf_section, sections_from, tree_section}
 
 -- ---- the edges of one leaf
-edges_of-append : (leaf : ℕ) (es fs : List LeafEdge) → edges_of leaf (es ++ fs) ≡ edges_of leaf es ++ edges_of leaf fs
-edges_of-append leaf es fs = ap (map (λ e. e.edge)) (filter-append (λ e. e.leaf == leaf) es fs) ∙ map-append (λ e. e.edge) (filter (λ e. e.leaf == leaf) es) (filter (λ e. e.leaf == leaf) fs)
-
--- numbered edges are those of their leaf
-of_leaf : (leaf k : ℕ) (es : List Edge) (b : Bool) → (k == leaf) ≡ b → edges_of leaf (map (leaf_edge k) es) ≡ cond b es []
-of_leaf leaf k [] true is = refl
-of_leaf leaf k [] false is = refl
-of_leaf leaf k (e ∷ es) true is =
-    let rest : List LeafEdge = filter (λ x. x.leaf == leaf) (map (leaf_edge k) es) in
-    ap (λ t. map (λ x. x.edge) (cond t (leaf_edge k e ∷ rest) rest)) is ∙ ap (λ r. e ∷ r) (of_leaf leaf k es true is)
-of_leaf leaf k (e ∷ es) false is =
-    let rest : List LeafEdge = filter (λ x. x.leaf == leaf) (map (leaf_edge k) es) in
-    ap (λ t. map (λ x. x.edge) (cond t (leaf_edge k e ∷ rest) rest)) is ∙ of_leaf leaf k es false is
-
 module _ (layer h : ℕ) where
   -- those of the first surface, then those of the others
   parted : (leaf n : ℕ) (ts : List Triangle) (rest : List (List Triangle)) (b : Bool) → (n == leaf) ≡ b

@@ -1,22 +1,19 @@
 -- Trees whose surfaces bound solids.
-use Rattle.std.proofs.Common.{◌≡◌, ℕ, ◌+◌, ◌<◌, ◌≤◌, List, [], ◌∷◌, Vec, Box, Global, drop, length, get_or, sym, subst}
+use Rattle.std.proofs.Common.{ℕ, List, [], ◌∷◌}
 use Rattle.std.specs.Prelude.{All, IsTrue}
-use Rattle.std.proofs.lemmas.List.Elements.{All-nil, All-append, All-weaker, All-from_recursion, recursion_from_All}
+use Rattle.std.proofs.lemmas.List.Elements.{All-weaker, All-from_recursion, recursion_from_All}
 use Rattle.scad_geom.specs.Limits.{coordinate_limit}
 use Rattle.scad_geom.specs.Within.{IsEdgeWithin}
 use Rattle.scad_solid.specs.declared.triangle.Triangle.{Triangle}
 use Rattle.scad_solid.specs.Solid.{IsSolid}
 use Rattle.scad_solid.specs.Surface.{is_closed}
 use Rattle.scad_solid.specs.Cut.{cuts_of, plane_of}
-use Rattle.scad_tree.specs.Solid.{Solid, members}
-use Rattle.scad_tree.specs.declared.node.Node.{Node, Union, Inter, Diff}
-use Rattle.scad_tree.specs.View.{solid_of, solids}
-use Rattle.scad_tree.specs.Order.{surfaces, all_surfaces}
-use Rattle.scad_tree.proofs.Rows.{at_union, at_inter, at_diff, left-more, left-none}
+use Rattle.scad_tree.specs.Solid.{Solid}
+use Rattle.scad_tree.specs.Order.{surfaces}
 use Rattle.scad_tree.specs.Sections.{tree_section}
 use Rattle.std.specs.List.{AllByRecursion}
 use Rattle.slice_section.specs.Section.{rounded}
-use Rattle.slice_layer.specs.Leaves.{AreClosed, AreSolids}
+use Rattle.scad_tree.specs.Solids.{AreClosed, AreSolids}
 use Rattle.slice_layer.proofs.Ends.{cuts_within}
 use Rattle.slice_layer.proofs.Sections.{sections_have}
 
@@ -34,23 +31,3 @@ pub section_within : (layer h : ℕ) (s : Solid) → AreSolids s → All (λ e. 
 section_within layer h s k =
     All-from_recursion (λ e. IsEdgeWithin coordinate_limit e.edge) (tree_section layer h s)
     (sections_have layer h (IsEdgeWithin coordinate_limit) 0 (surfaces s) (surfaces_within layer h (surfaces s) (recursion_from_All IsSolid (surfaces s) k)))
-
--- ---- node by node
--- what is left of nodes, one of which is asked
-pub solids_more : (all : List Node) (i : ℕ) (n : Node) → i < length all → n ≡ get_or all i n → AreSolids (solid_of n) → All IsSolid (all_surfaces (members (solids (drop (i + 1) all)))) → All IsSolid (all_surfaces (members (solids (drop i all))))
-solids_more all i n below is one more =
-    subst (λ ms. All IsSolid (all_surfaces ms)) (sym (left-more all i n below is))
-    (All-append IsSolid (surfaces (solid_of n)) (all_surfaces (members (solids (drop (i + 1) all)))) one more)
-
-pub solids_none : (all : List Node) (i : ℕ) → length all ≤ i → All IsSolid (all_surfaces (members (solids (drop i all))))
-solids_none all i past = subst (λ ms. All IsSolid (all_surfaces ms)) (sym (left-none all i past)) (All-nil IsSolid)
-
--- those of an operation
-pub solids_union : (n : Node) (v : Vec Node Global) → n ≡ Union v → All IsSolid (all_surfaces (members (solids v.items))) → AreSolids (solid_of n)
-solids_union n v is h = subst AreSolids (sym (at_union n v is)) h
-
-pub solids_inter : (n : Node) (v : Vec Node Global) → n ≡ Inter v → All IsSolid (all_surfaces (members (solids v.items))) → AreSolids (solid_of n)
-solids_inter n v is h = subst AreSolids (sym (at_inter n v is)) h
-
-pub solids_diff : (n : Node) (b : Box Node Global) (v : Vec Node Global) → n ≡ Diff b v → AreSolids (solid_of b.value) → All IsSolid (all_surfaces (members (solids v.items))) → AreSolids (solid_of n)
-solids_diff n b v is first rest = subst AreSolids (sym (at_diff n b v is)) (All-append IsSolid (surfaces (solid_of b.value)) (all_surfaces (members (solids v.items))) first rest)

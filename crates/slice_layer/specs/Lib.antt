@@ -1,4 +1,3 @@
-pub mod Leaves
 pub mod Cuts
 pub mod Outlines
 pub mod Membership

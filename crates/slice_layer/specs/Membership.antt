@@ -8,7 +8,7 @@ use Rattle.scad_geom.specs.Winding.{wind, counted}
 use Rattle.scad_geom.specs.Loop.{sides}
 use Rattle.scad_tree.specs.Solid.{Solid}
 use Rattle.scad_tree.specs.Contained.{contained_at}
-use Rattle.slice_layer.specs.Leaves.{AreClosed}
+use Rattle.scad_tree.specs.Solids.{AreClosed}
 use Rattle.slice_layer.specs.Cuts.{IsClearOfCuts}
 use Rattle.slice_layer.specs.Outlines.{AreLayerOutlines}
 

@@ -9,7 +9,6 @@ ghost use Rattle.slice_layer.specs.Membership.{HoldCentres};
 ghost use Rattle.slice_layer.specs.Outlines.{AreLayerOutlines};
 ghost use Rattle.slice_layer.specs.Refusal.{IsRefusal};
 
-use crate::leaves::are_solids;
 use scad_geom::Loop;
 use scad_tree::Tree;
 use slice_bool::{BoolFault, outlines};
@@ -44,6 +43,6 @@ pub fn layer_outlines(
     let Ok(shape) = tree.shape(alloc) else {
         return Err(BoolFault::Memory);
     };
-    are_solids(tree.as_node());
+    tree.are_solids();
     outlines(alloc, &edges, &shape, limit)
 }

@@ -6,7 +6,6 @@
 
 pub mod laws;
 mod layer;
-mod leaves;
 #[cfg(test)]
 mod tests;
 

@@ -18,6 +18,8 @@ use Rattle.slice_loops.specs.Order.{point_cmp, is_less}
 use Rattle.slice_loops.specs.Drawing.{TakesLeastFrom, LeadsBack, IsLoop}
 use Rattle.slice_loops.specs.Corners.{advance, is_between, last}
 use Rattle.slice_loops.proofs.Straight.{IsAhead, ahead_itself, ahead_on, between_turned, straight, falls, climbs}
+use Rattle.scad_base.proofs.Integers.{gap_of_less}
+use Rattle.scad_geom.proofs.Signs.{no_gap}
 
 -- v isn't less than p
 abbrev pub IsAtLeast : Pt → Pt → Type 0
@@ -42,9 +44,6 @@ pub start_at_least : (e f : Edge) → is_less f e ≡ false → IsAtLeast e.a f.
 start_at_least e f h = at_least e.a f.a (first_part (point_cmp f.a e.a) (point_cmp f.b e.b) h)
 
 -- ---- between two that aren't less there isn't the least
-gap : (s t : ℤ) → s <ℤ t → pos 0 <ℤ (t -ℤ s)
-gap s t h = omega (arith, ints)
-
 flipped : (s t : ℤ) → pos 0 <ℤ (s -ℤ t) → (t -ℤ s) <ℤ pos 0
 flipped s t h = omega (arith, ints)
 
@@ -54,20 +53,17 @@ less_of_gap s t h = omega (arith, ints)
 -- where the way goes on upwards from p to b, it comes from below
 from_below : (k l m n a p b : ℤ) → pos 0 <ℤ k → pos 0 <ℤ l → pos 0 <ℤ m → pos 0 <ℤ n → k *ℤ (b -ℤ a) ≡ l *ℤ (b -ℤ p) → m *ℤ (a -ℤ b) ≡ n *ℤ (a -ℤ p) → p <ℤ b → a <ℤ p
 from_below k l m n a p b kp lp mp np h e r =
-    let up : pos 0 <ℤ (b -ℤ a) = climbs k l (b -ℤ a) (b -ℤ p) kp lp h (gap p b r) in
+    let up : pos 0 <ℤ (b -ℤ a) = climbs k l (b -ℤ a) (b -ℤ p) kp lp h (gap_of_less p b r) in
     less_of_gap a p (falls n m (a -ℤ p) (a -ℤ b) np mp (sym e) (flipped b a up))
 
 zeros : (s t : ℤ) → s *ℤ pos 0 +ℤ t *ℤ pos 0 ≡ pos 0
 zeros s t = ring (s ∷ t ∷ []) (v0 ⊗ num (pos 0) ⊕ v1 ⊗ num (pos 0)) (num (pos 0)) refl
 
-no_gap : (s t : ℤ) → s ≡ t → t -ℤ s ≡ pos 0
-no_gap s t h = omega (arith, ints)
-
 no_advance : (a p b : Pt) → p.x ≡ b.x → p.y ≡ b.y → advance a p b ≡ pos 0
 unfolding advance
 no_advance a p b hx hy =
-    ap (λ (z : ℤ). (p.x -ℤ a.x) *ℤ z +ℤ (p.y -ℤ a.y) *ℤ (b.y -ℤ p.y)) (no_gap p.x b.x hx)
-    ∙ ap (λ (z : ℤ). (p.x -ℤ a.x) *ℤ pos 0 +ℤ (p.y -ℤ a.y) *ℤ z) (no_gap p.y b.y hy)
+    ap (λ (z : ℤ). (p.x -ℤ a.x) *ℤ z +ℤ (p.y -ℤ a.y) *ℤ (b.y -ℤ p.y)) (no_gap b.x p.x (sym hx))
+    ∙ ap (λ (z : ℤ). (p.x -ℤ a.x) *ℤ pos 0 +ℤ (p.y -ℤ a.y) *ℤ z) (no_gap b.y p.y (sym hy))
     ∙ zeros (p.x -ℤ a.x) (p.y -ℤ a.y)
 
 not_both : (s t : ℤ) → s <ℤ t → t <ℤ s → ⊥

@@ -1,6 +1,6 @@
 -- Points straight ahead: on one line, in one direction.
 use Rattle.std.proofs.Common.{◌≡◌, Bool, true, ◌&&◌, [], ◌∷◌, refl, sym, ap, ap₂, ◌∙◌, subst, arith}
-use lib.IntN.{ℤ, pos, ◌+ℤ◌, ◌-ℤ◌, ◌*ℤ◌}
+use lib.IntN.{ℤ, pos, ◌+ℤ◌, ◌-ℤ◌, ◌*ℤ◌, *ℤ_comm}
 use lib.Signed.{◌<ℤ◌, ◌≤ℤ◌}
 use Rattle.std.specs.Prelude.{int_lt}
 use Rattle.std.specs.Ordering.{int_eq}
@@ -11,8 +11,9 @@ use Rattle.scad_base.proofs.Tests.{int_lt-true}
 use Rattle.std.proofs.lemmas.Bool.{and_parts}
 use Rattle.scad_geom.specs.declared.point.Pt.{Pt}
 use Rattle.scad_geom.proofs.Ring.{ring, num, ◌⊕◌, ◌⊖◌, ◌⊗◌, v0, v1, v2, v3, v4, v5, v6}
-use Rattle.scad_geom.proofs.Signs.{at_least_mul, pos_left}
+use Rattle.scad_geom.proofs.Signs.{at_least_mul, pos_left, sum_at_least, square_at_least}
 use Rattle.slice_loops.specs.Corners.{bend, advance, is_between}
+use Rattle.scad_base.proofs.Integers.{at_most_of_less}
 
 -- p lies from x in the direction from a to p
 pub record IsAhead (x a p : Pt) : Type 0 where
@@ -80,21 +81,8 @@ further_along k l w ux uy vx vy h e =
     ∙ ap (λ (z : ℤ). (k *ℤ (ux *ℤ vx +ℤ uy *ℤ vy) +ℤ l *ℤ (ux *ℤ ux +ℤ uy *ℤ uy)) *ℤ vy -ℤ (l *ℤ ux) *ℤ z) e
     ∙ no_less ((k *ℤ (ux *ℤ vx +ℤ uy *ℤ vy) +ℤ l *ℤ (ux *ℤ ux +ℤ uy *ℤ uy)) *ℤ vy) (l *ℤ ux)
 
-square : (z : ℤ) → pos 0 ≤ℤ (z *ℤ z)
-square z = by_lt_z z (pos 0)
-    (λ q. let turned : (pos 0 -ℤ z) *ℤ (pos 0 -ℤ z) ≡ z *ℤ z = ring (z ∷ []) ((num (pos 0) ⊖ v0) ⊗ (num (pos 0) ⊖ v0)) (v0 ⊗ v0) refl in
-    let above : pos 0 ≤ℤ (pos 0 -ℤ z) = omega (arith, ints) in
-    subst (λ (y : ℤ). pos 0 ≤ℤ y) turned (at_least_mul (pos 0 -ℤ z) (pos 0 -ℤ z) above above))
-    (λ q. at_least_mul z z q q)
-
 added : (s t : ℤ) → pos 0 <ℤ s → pos 0 ≤ℤ t → pos 0 <ℤ (s +ℤ t)
 added s t h k = omega (arith, ints)
-
-summed : (s t : ℤ) → pos 0 ≤ℤ s → pos 0 ≤ℤ t → pos 0 ≤ℤ (s +ℤ t)
-summed s t h k = omega (arith, ints)
-
-weak : (z : ℤ) → pos 0 <ℤ z → pos 0 ≤ℤ z
-weak z h = omega (arith, ints)
 
 way : (b p x : ℤ) → (b -ℤ p) +ℤ (p -ℤ x) ≡ b -ℤ x
 way b p x = omega (arith, ints)
@@ -132,7 +120,7 @@ ahead_on x a p b h t =
       far_positive = positive_product (ux *ℤ vx +ℤ uy *ℤ vy) h.far s.1 h.far_positive;
       near_positive = added (h.far *ℤ (ux *ℤ vx +ℤ uy *ℤ vy)) (h.near *ℤ (ux *ℤ ux +ℤ uy *ℤ uy))
           (positive_product h.far (ux *ℤ vx +ℤ uy *ℤ vy) h.far_positive s.1)
-          (at_least_mul h.near (ux *ℤ ux +ℤ uy *ℤ uy) (weak h.near h.near_positive) (summed (ux *ℤ ux) (uy *ℤ uy) (square ux) (square uy)));
+          (at_least_mul h.near (ux *ℤ ux +ℤ uy *ℤ uy) (at_most_of_less (pos 0) h.near h.near_positive) (sum_at_least (ux *ℤ ux) (uy *ℤ uy) (square_at_least ux) (square_at_least uy)));
       across = ap (λ (z : ℤ). far *ℤ z) (sym (way b.x p.x x.x)) ∙ further_across h.far h.near wx ux uy vx vy h.across s.0;
       along = ap (λ (z : ℤ). far *ℤ z) (sym (way b.y p.y x.y)) ∙ further_along h.far h.near wy ux uy vx vy h.along s.0;
     }
@@ -156,11 +144,8 @@ between_turned a p b t =
     (subst (λ (z : ℤ). pos 0 <ℤ z) (sym (advance_turned a.x a.y p.x p.y b.x b.y)) s.1)
 
 -- ---- signs along one direction
-mul_comm : (s t : ℤ) → s *ℤ t ≡ t *ℤ s
-mul_comm s t = ring (s ∷ t ∷ []) (v0 ⊗ v1) (v1 ⊗ v0) refl
-
 pub falls : (k l w v : ℤ) → pos 0 <ℤ k → pos 0 <ℤ l → k *ℤ w ≡ l *ℤ v → v <ℤ pos 0 → w <ℤ pos 0
-falls k l w v kp lp h n = negative_factor w k kp (subst (λ (z : ℤ). z <ℤ pos 0) (sym (mul_comm w k ∙ h ∙ mul_comm l v)) (negative_product v l lp n))
+falls k l w v kp lp h n = negative_factor w k kp (subst (λ (z : ℤ). z <ℤ pos 0) (sym (*ℤ_comm w k ∙ h ∙ *ℤ_comm l v)) (negative_product v l lp n))
 
 pub climbs : (k l w v : ℤ) → pos 0 <ℤ k → pos 0 <ℤ l → k *ℤ w ≡ l *ℤ v → pos 0 <ℤ v → pos 0 <ℤ w
-climbs k l w v kp lp h n = pos_left w k kp (subst (λ (z : ℤ). pos 0 <ℤ z) (sym (mul_comm w k ∙ h ∙ mul_comm l v)) (positive_product v l n lp))
+climbs k l w v kp lp h n = pos_left w k kp (subst (λ (z : ℤ). pos 0 <ℤ z) (sym (*ℤ_comm w k ∙ h ∙ *ℤ_comm l v)) (positive_product v l n lp))

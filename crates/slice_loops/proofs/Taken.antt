@@ -9,6 +9,7 @@ use Rattle.slice_loops.specs.Order.{is_less}
 use Rattle.slice_loops.specs.Drawing.{TakesLeast, TakesLeastFrom}
 use Rattle.slice_loops.specs.Ascending.{IsAscending, IsFirstFrom}
 use Rattle.slice_loops.proofs.Points.{less_order}
+use Rattle.scad_geom.proofs.Removed.{all_removed}
 
 ascending_from : (es : List Edge) → ((i j : ℕ) (d : Edge) → i ≤ j → j < length es → is_less (get_or es j d) (get_or es i d) ≡ false) → IsAscending es
 ascending_from [] h = tt
@@ -16,9 +17,6 @@ ascending_from (e ∷ es) h = (λ k d l. h zero (suc k) d (omega arith) (omega a
 
 pub ascending_sorted : (es : List Edge) → IsSortedBy is_less es → IsAscending es
 ascending_sorted es h = ascending_from es (sorted_far is_less less_order es h)
-
-all_removed : (P : Edge → Type 0) (es : List Edge) (i : ℕ) → All P es → All P (remove es i)
-all_removed P es i h = All-append P (take i es) (drop (suc i) es) (All-take P i es h) (All-drop P (suc i) es h)
 
 pub ascending_removed : (es : List Edge) (i : ℕ) → IsAscending es → IsAscending (remove es i)
 ascending_removed [] zero h = tt

@@ -20,6 +20,7 @@ use Rattle.scad_geom.proofs.Heights.{at_most_chain, at_most_then_lower, lower_th
 use Rattle.slice_slab.specs.declared.passage.Passage.{Passage}
 use Rattle.slice_slab.specs.Bundles.{edge_at, Precedes, AreRanked}
 use Rattle.slice_slab.specs.Passages.{is_left, leans_left, comes_first, IsPassageOf, numbers_of, is_aligned, joined, bundles_of, AreSorted}
+use Rattle.std.specs.Cmp.{signed_Decides}
 
 -- ---- fractions that are the same, or one below the other
 same_chain : (p q r : Level) → pos 0 <ℤ p.d → pos 0 <ℤ q.d → pos 0 <ℤ r.d → IsSameHeight p q → IsSameHeight q r → IsSameHeight p r
@@ -61,20 +62,6 @@ module _ (at : Level) (e f g : Edge) (de : pos 0 <ℤ rise e) (df : pos 0 <ℤ r
   before_chain (inr h) (inr k) = inr (same_chain (x_of at e) (x_of at f) (x_of at g) de df dg h.0 k.0, lower_chain (lean_of e) (lean_of f) (lean_of g) de df dg h.1 k.1)
 
 -- ---- neighbours of a sorted list of passages
-eq_from : (a b : ℤ) → int_eq a b ≡ true → a ≡ b
-eq_from a b h = by_tests (int_lt a b) refl (int_lt b a) refl h
-  where
-    by_tests : (s : Bool) → int_lt a b ≡ s → (t : Bool) → int_lt b a ≡ t → is_eq (cond s Less (cond t Greater Equal)) ≡ true → a ≡ b
-    by_tests true e t f k = cc
-    by_tests false e true f k = cc
-    by_tests false e false f k = omega (arith, ints)
-
-eq_to : (a b : ℤ) → a ≡ b → int_eq a b ≡ true
-eq_to a b h =
-    let p : int_lt a b ≡ false = sym (omega (arith, ints)) in
-    let q : int_lt b a ≡ false = sym (omega (arith, ints)) in
-    rw (p, q) refl
-
 -- what a passage says of its edge
 same_edge : (es : List LeafEdge) (at : Level) (p q : Passage) → IsPassageOf es at p → IsPassageOf es at q → p.x *ℤ q.rise ≡ q.x *ℤ p.rise → p.run *ℤ q.rise ≡ q.run *ℤ p.rise → AreAligned at (edge_at es p.number) (edge_at es q.number)
 same_edge es at p q hp hq h k =
@@ -166,7 +153,7 @@ module _ (es : List LeafEdge) (at : Level) (p q : Passage) (hp : Rises es p.numb
   precede_before a ks ((j ∷ js) ∷ bs) r h = (before_chain at (edge_at es p.number) (edge_at es q.number) (edge_at es j) hp hq r.0 a h.0, precede_before a ks bs r.1 h.1)
 
 not_aligned : (p q : Passage) → p.x *ℤ q.rise ≡ q.x *ℤ p.rise → p.run *ℤ q.rise ≡ q.run *ℤ p.rise → is_aligned p q ≡ false → ⊥
-not_aligned p q h k e = let a = eq_to (p.x *ℤ q.rise) (q.x *ℤ p.rise) h in let b = eq_to (p.run *ℤ q.rise) (q.run *ℤ p.rise) k in differ (sym (rw (a, b) refl) ∙ e)
+not_aligned p q h k e = let a = (signed_Decides (p.x *ℤ q.rise) (q.x *ℤ p.rise)).1 h in let b = (signed_Decides (p.run *ℤ q.rise) (q.run *ℤ p.rise)).1 k in differ (sym (rw (a, b) refl) ∙ e)
   where
     differ : true ≡ false → ⊥
     differ h = cc
@@ -204,8 +191,8 @@ bundled es at p (q ∷ ps) h s =
           rise_bs = (hq, r.rise_bs);
         }
     by_test false e r (inr n) hp hq = absurd (not_aligned p q n.0 n.1 e)
-    by_test true e r (inl (inl n)) hp hq = let x = eq_from (p.x *ℤ q.rise) (q.x *ℤ p.rise) (and_parts (int_eq (p.x *ℤ q.rise) (q.x *ℤ p.rise)) (int_eq (p.run *ℤ q.rise) (q.run *ℤ p.rise)) e).0 in absurd (omega (arith, ints))
-    by_test true e r (inl (inr n)) hp hq = let n1 = n.1 in let x = eq_from (p.run *ℤ q.rise) (q.run *ℤ p.rise) (and_parts (int_eq (p.x *ℤ q.rise) (q.x *ℤ p.rise)) (int_eq (p.run *ℤ q.rise) (q.run *ℤ p.rise)) e).1 in absurd (omega (arith, ints))
+    by_test true e r (inl (inl n)) hp hq = let x = (signed_Decides (p.x *ℤ q.rise) (q.x *ℤ p.rise)).0 (and_parts (int_eq (p.x *ℤ q.rise) (q.x *ℤ p.rise)) (int_eq (p.run *ℤ q.rise) (q.run *ℤ p.rise)) e).0 in absurd (omega (arith, ints))
+    by_test true e r (inl (inr n)) hp hq = let n1 = n.1 in let x = (signed_Decides (p.run *ℤ q.rise) (q.run *ℤ p.rise)).0 (and_parts (int_eq (p.x *ℤ q.rise) (q.x *ℤ p.rise)) (int_eq (p.run *ℤ q.rise) (q.run *ℤ p.rise)) e).1 in absurd (omega (arith, ints))
 
 pub ranked_bundles : (es : List LeafEdge) (at : Level) (ps : List Passage) → AllByRecursion (IsPassageOf es at) ps → AreSorted ps → AreRanked es at (bundles_of ps)
 ranked_bundles es at [] h s = tt

@@ -11,7 +11,7 @@ use Rattle.scad_geom.specs.Line.{rise, x_at}
 use Rattle.scad_geom.specs.Level.{IsAtMost, IsSameHeight}
 use Rattle.scad_geom.specs.Heights.{AreNeighbours}
 use Rattle.scad_geom.specs.EdgeOrder.{AreAligned}
-use Rattle.scad_geom.proofs.Heights.{lower_then_at_most, at_most_then_lower, at_most_chain}
+use Rattle.scad_geom.proofs.Heights.{lower_then_at_most, at_most_then_lower, at_most_chain, same_at_least, same_height}
 use Rattle.scad_geom.proofs.Order.{front, back, before_inside, before_between, aligned_all}
 use Rattle.slice_slab.specs.Bundles.{no_edge, edge_at, IsBundle, Precedes, AreRanked, AreBundles}
 use Rattle.slice_slab.specs.KeptOrder.{IsLeftAt, IsNotRightAt, IsSamePlaceAt, AllStand, AllStandInOrder, KeepOrder}
@@ -21,9 +21,6 @@ use Rattle.slice_slab.proofs.Live.{IsLive, live_bundles}
 abbrev place : Level → Edge → Level
 place at e = record { n = x_at e at.n at.d; d = rise e }
 
-not_right : (p q : Level) → IsSameHeight p q → IsAtMost p q
-not_right p q h = omega (arith, ints)
-
 -- what holds of two edges holds of edges at the same places
 abbrev Moves : Level → (Edge → Edge → Type 0) → Type 0
 Moves at R =
@@ -31,22 +28,19 @@ Moves at R =
 
 moves_left : (at : Level) → Moves at (IsLeftAt at)
 moves_left at m k j i pm pk pj pi e h f =
-    let a = at_most_then_lower (place at m) (place at k) (place at j) pm pk pj (not_right (place at m) (place at k) e) h in
-    lower_then_at_most (place at m) (place at j) (place at i) pm pj pi a (not_right (place at j) (place at i) f)
+    let a = at_most_then_lower (place at m) (place at k) (place at j) pm pk pj (same_at_least (place at m) (place at k) e) h in
+    lower_then_at_most (place at m) (place at j) (place at i) pm pj pi a (same_at_least (place at j) (place at i) f)
 
 moves_not_right : (at : Level) → Moves at (IsNotRightAt at)
 moves_not_right at m k j i pm pk pj pi e h f =
-    let a = at_most_chain (place at m) (place at k) (place at j) pm pk pj (not_right (place at m) (place at k) e) h in
-    at_most_chain (place at m) (place at j) (place at i) pm pj pi a (not_right (place at j) (place at i) f)
-
-both_ways : (p q : Level) → IsAtMost p q → IsAtMost q p → IsSameHeight p q
-both_ways p q h k = omega (arith, ints)
+    let a = at_most_chain (place at m) (place at k) (place at j) pm pk pj (same_at_least (place at m) (place at k) e) h in
+    at_most_chain (place at m) (place at j) (place at i) pm pj pi a (same_at_least (place at j) (place at i) f)
 
 moves_same : (at : Level) → Moves at (IsSamePlaceAt at)
 moves_same at m k j i pm pk pj pi e h f =
-    both_ways (place at m) (place at i)
-    (moves_not_right at m k j i pm pk pj pi e (not_right (place at k) (place at j) h) f)
-    (moves_not_right at i j k m pi pj pk pm (sym f) (not_right (place at j) (place at k) (sym h)) (sym e))
+    same_height (place at m) (place at i)
+    (moves_not_right at m k j i pm pk pj pi e (same_at_least (place at k) (place at j) h) f)
+    (moves_not_right at i j k m pi pj pk pm (sym f) (same_at_least (place at j) (place at k) (sym h)) (sym e))
 
 module _ (es : List LeafEdge) (l u : Level) (n : AreNeighbours es l u) where
   -- ---- from the first edges of bundles to all

@@ -11,7 +11,7 @@ use Rattle.std.proofs.lemmas.List.Sorted.{Contains-permutation, IsPermutation-sy
 use Rattle.scad_geom.specs.declared.level.Level.{Level}
 use Rattle.scad_geom.specs.Point.{Point, is_same_point}
 use Rattle.scad_geom.specs.Level.{IsLower, IsAtMost, IsSameHeight}
-use Rattle.scad_geom.proofs.Heights.{lower_then_at_most, at_most_then_lower, at_most_chain, lower_weak}
+use Rattle.scad_geom.proofs.Heights.{lower_then_at_most, at_most_then_lower, at_most_chain, lower_weak, same_at_least, same_at_most, same_height as one_height}
 use Rattle.scad_geom.proofs.Points.{same_height, same_across}
 use Rattle.winding_laws.specs.Nearness.{IsProper}
 use Rattle.winding_laws.proofs.Sameness.{are_same, same_by, are_same_turned}
@@ -26,27 +26,18 @@ use Rattle.slice_snap.proofs.Balanced.{proper_within}
 use Rattle.scad_geom.specs.declared.point.Edge.{Edge}
 
 -- ---- the order of heights
-up_to : (p q : Level) → IsSameHeight p q → IsAtMost p q
-up_to p q h = omega (arith, ints)
-
-down_to : (p q : Level) → IsSameHeight p q → IsAtMost q p
-down_to p q h = omega (arith, ints)
-
-one_height : (p q : Level) → IsAtMost p q → IsAtMost q p → IsSameHeight p q
-one_height p q h k = omega (arith, ints)
-
 module _ (p q r : Level) (dp : pos 0 <ℤ p.d) (dq : pos 0 <ℤ q.d) (dr : pos 0 <ℤ r.d) where
   lower_lower : IsLower p q → IsLower q r → IsLower p r
   lower_lower h k = lower_then_at_most p q r dp dq dr h (lower_weak q r k)
 
   lower_same : IsLower p q → IsSameHeight q r → IsLower p r
-  lower_same h k = lower_then_at_most p q r dp dq dr h (up_to q r k)
+  lower_same h k = lower_then_at_most p q r dp dq dr h (same_at_least q r k)
 
   same_lower : IsSameHeight p q → IsLower q r → IsLower p r
-  same_lower h k = at_most_then_lower p q r dp dq dr (up_to p q h) k
+  same_lower h k = at_most_then_lower p q r dp dq dr (same_at_least p q h) k
 
   same_same : IsSameHeight p q → IsSameHeight q r → IsSameHeight p r
-  same_same h k = one_height p r (at_most_chain p q r dp dq dr (up_to p q h) (up_to q r k)) (at_most_chain r q p dr dq dp (down_to q r k) (down_to p q h))
+  same_same h k = one_height p r (at_most_chain p q r dp dq dr (same_at_least p q h) (same_at_least q r k)) (at_most_chain r q p dr dq dp (same_at_most q r k) (same_at_most p q h))
 
 -- ---- the order of points: by height, then from left to right
 abbrev pub IsBefore : Point → Point → Type 0

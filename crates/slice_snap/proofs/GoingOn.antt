@@ -8,7 +8,7 @@ use Rattle.scad_base.proofs.Integers.{gap_of_less, less_of_gap}
 use Rattle.scad_geom.specs.declared.level.Level.{Level}
 use Rattle.scad_geom.specs.Point.{Point, is_same_point}
 use Rattle.scad_geom.specs.Level.{IsLower, IsAtMost}
-use Rattle.scad_geom.proofs.Heights.{lower_then_at_most, at_most_then_lower, lower_weak}
+use Rattle.scad_geom.proofs.Heights.{lower_then_at_most, at_most_then_lower, lower_weak, same_at_least, same_at_most, same_height as one_height}
 use Rattle.scad_geom.proofs.Points.{same_height, same_across}
 use Rattle.scad_geom.proofs.Ring.{ring, ◌⊕◌, ◌⊖◌, ◌⊗◌, v0, v1, v2, v3}
 use Rattle.scad_base.proofs.Products.{positive_product}
@@ -17,6 +17,7 @@ use Rattle.slice_snap.specs.Spots.{point_of, IsSpotWithin}
 use Rattle.slice_snap.specs.Inside.{IsBetween, IsInside}
 use Rattle.slice_snap.specs.Naming.{IsOnLine, PiecesGoOn}
 use Rattle.slice_snap.proofs.OneLine.{mean, mean_on, side_rising, same_rising, all_level, side_flat, same_flat, by_rise}
+use Rattle.winding_laws.proofs.Amid.{not_both}
 
 -- ---- between two numbers lies the one whose numerator and divisor are the sums of theirs
 abbrev mean_level : Level → Level → Level
@@ -37,19 +38,6 @@ below_second p q h = less_of_gap ((p.n +ℤ q.n) *ℤ q.d) (q.n *ℤ (p.d +ℤ q
 both_positive : (x y : ℤ) → pos 0 <ℤ x → pos 0 <ℤ y → pos 0 <ℤ (x +ℤ y)
 both_positive x y h k = omega (arith, ints)
 
-up_to : (p q : Level) → p.n *ℤ q.d ≡ q.n *ℤ p.d → IsAtMost p q
-up_to p q h = omega (arith, ints)
-
-down_to : (p q : Level) → p.n *ℤ q.d ≡ q.n *ℤ p.d → IsAtMost q p
-down_to p q h = omega (arith, ints)
-
-one_height : (p q : Level) → IsAtMost p q → IsAtMost q p → p.n *ℤ q.d ≡ q.n *ℤ p.d
-one_height p q h k = omega (arith, ints)
-
-differ : (b : Bool) → b ≡ true → b ≡ false → ⊥
-differ true h k = cc
-differ false h k = cc
-
 -- ---- points that are told apart by one number
 module _ (On : Point → Type 0) (k : Point → ℤ)
     (same : (p q : Point) → On p → On q → k p *ℤ q.d ≡ k q *ℤ p.d → is_same_point p q ≡ true)
@@ -67,10 +55,10 @@ module _ (On : Point → Type 0) (k : Point → ℤ)
   module _ (a m n b : Point) (da : pos 0 <ℤ a.d) (dm : pos 0 <ℤ m.d) (dn : pos 0 <ℤ n.d) (db : pos 0 <ℤ b.d) (oa : On a) (om : On m) (on : On n) (ob : On b)
       (e : k m *ℤ n.d ≡ k n *ℤ m.d) (no : (p : Point) → pos 0 <ℤ p.d → IsInside a m p → IsInside n b p → ⊥) where
     mn : IsAtMost (along m) (along n)
-    mn = up_to (along m) (along n) e
+    mn = same_at_least (along m) (along n) e
 
     nm : IsAtMost (along n) (along m)
-    nm = down_to (along m) (along n) e
+    nm = same_at_most (along m) (along n) e
 
     -- both before the common end
     peak : IsLower (along a) (along m) → IsLower (along b) (along n) → ⊥
@@ -118,13 +106,13 @@ module _ (On : Point → Type 0) (k : Point → ℤ)
         (λ am. by_lt_z (k n *ℤ b.d) (k b *ℤ n.d)
         (λ nb. inside a m b oa om ob (inl (am, at_most_then_lower (along m) (along n) (along b) dm dn db mn nb)))
         (λ bn. by_lt_z (k b *ℤ n.d) (k n *ℤ b.d) (λ o. absurd (peak am o))
-        (λ o. absurd (differ (is_same_point n b) (same n b on ob (one_height (along n) (along b) o bn)) v))))
+        (λ o. absurd (not_both (is_same_point n b) (same n b on ob (one_height (along n) (along b) o bn)) v))))
         (λ ma. by_lt_z (k m *ℤ a.d) (k a *ℤ m.d)
         (λ o. by_lt_z (k b *ℤ n.d) (k n *ℤ b.d)
         (λ bn. inside a m b oa om ob (inr (lower_then_at_most (along b) (along n) (along m) db dn dm bn nm, o)))
         (λ nb. by_lt_z (k n *ℤ b.d) (k b *ℤ n.d) (λ x. absurd (valley o x))
-        (λ x. absurd (differ (is_same_point n b) (same n b on ob (one_height (along n) (along b) nb x)) v))))
-        (λ o. absurd (differ (is_same_point a m) (same a m oa om (one_height (along a) (along m) o ma)) u)))
+        (λ x. absurd (not_both (is_same_point n b) (same n b on ob (one_height (along n) (along b) nb x)) v))))
+        (λ o. absurd (not_both (is_same_point a m) (same a m oa om (one_height (along a) (along m) o ma)) u)))
 
 -- ---- of pieces
 above_zero : (n : ℕ) → 0 < n → pos 0 <ℤ pos n

@@ -13,12 +13,10 @@ use Rattle.scad_geom.specs.Winding.{side_by}
 use Rattle.scad_geom.proofs.Ring.{ring, num, ◌⊕◌, ◌⊖◌, ◌⊗◌, v0, v1, v2, v3, v4, v5, v6, v7, v8}
 use Rattle.scad_geom.proofs.Bounds.{rise_at_least}
 use Rattle.slice_snap.specs.Naming.{IsOnLine}
+use Rattle.scad_geom.proofs.Signs.{no_gap}
 
 minus : (a b : ℤ) → a -ℤ b ≡ pos 0 → a ≡ b
 minus a b h = omega (arith, ints)
-
-no_gap : (a b : ℤ) → a ≡ b → a -ℤ b ≡ pos 0
-no_gap a b h = omega (arith, ints)
 
 -- the rise times a gap across is the run times the gap upwards, for two points of the line
 across_gap : (r u o x y d x' y' d' : ℤ) → u *ℤ y +ℤ o *ℤ d -ℤ r *ℤ x ≡ pos 0 → u *ℤ y' +ℤ o *ℤ d' -ℤ r *ℤ x' ≡ pos 0

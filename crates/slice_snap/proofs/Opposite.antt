@@ -7,14 +7,12 @@ use Rattle.std.proofs.lemmas.List.Sorted.{IsPermutation-refl, IsPermutation-sym,
 use Rattle.scad_geom.specs.declared.point.Edge.{Edge}
 use Rattle.winding_laws.specs.Joining.{turned}
 use Rattle.slice_snap.specs.Cancelling.{NoneOpposite, AreCancelled, IsOppositeAt}
+use Rattle.scad_geom.proofs.Removed.{all_removed}
 
 pub leaves_nothing : AreCancelled [] []
 leaves_nothing = record { pairs = []; taken = IsPermutation-refl []; none = tt }
 
 -- ---- an edge whose opposite is left is taken out with it
-all_removed : (P : Edge → Type 0) (es : List Edge) (i : ℕ) → All P es → All P (remove es i)
-all_removed P es i h = All-append P (take i es) (drop (suc i) es) (All-take P i es h) (All-drop P (suc i) es h)
-
 none_removed : (es : List Edge) (i : ℕ) → NoneOpposite es → NoneOpposite (remove es i)
 none_removed [] zero h = tt
 none_removed [] (suc i) h = tt

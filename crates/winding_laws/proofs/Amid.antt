@@ -1,6 +1,6 @@
 -- A point amid a segment lies on its line, strictly between the ends.
 use Rattle.std.proofs.Common.{◌≡◌, inl, inr, Bool, true, false, [], ◌∷◌, refl, sym, ap, ap₂, ◌∙◌, subst, arith}
-use lib.IntN.{ℤ, pos, ◌+ℤ◌, ◌-ℤ◌, ◌*ℤ◌}
+use lib.IntN.{ℤ, pos, ◌+ℤ◌, ◌-ℤ◌, ◌*ℤ◌, *ℤ_comm}
 use lib.Signed.{◌<ℤ◌}
 use Rattle.std.proofs.lemmas.Int.{ints, by_lt_z}
 use Rattle.scad_base.proofs.Products.{negative_factor, negative_product, positive_product, zero_factor}
@@ -40,17 +40,14 @@ on_line a b p da o =
     ∙ ap (λ (z : ℤ). z *ℤ a.d) (zero_factor (bend a b p) o.k o.positive (bend_none a b p o))
     ∙ ring (a.d ∷ []) (num (pos 0) ⊗ v0) (num (pos 0)) refl
 
-mul_comm : (s t : ℤ) → s *ℤ t ≡ t *ℤ s
-mul_comm s t = ring (s ∷ t ∷ []) (v0 ⊗ v1) (v1 ⊗ v0) refl
-
 climbs : (k r t z : ℤ) → pos 0 <ℤ k → pos 0 <ℤ t → k *ℤ r ≡ t *ℤ z → pos 0 <ℤ z → pos 0 <ℤ r
-climbs k r t z kp tp e h = pos_left r k kp (subst (λ (y : ℤ). pos 0 <ℤ y) (sym (mul_comm r k ∙ e)) (positive_product t z tp h))
+climbs k r t z kp tp e h = pos_left r k kp (subst (λ (y : ℤ). pos 0 <ℤ y) (sym (*ℤ_comm r k ∙ e)) (positive_product t z tp h))
 
 falls : (k r t z : ℤ) → pos 0 <ℤ k → pos 0 <ℤ t → k *ℤ r ≡ t *ℤ z → z <ℤ pos 0 → r <ℤ pos 0
-falls k r t z kp tp e h = negative_factor r k kp (subst (λ (y : ℤ). y <ℤ pos 0) (sym (mul_comm r k ∙ e ∙ mul_comm t z)) (negative_product z t tp h))
+falls k r t z kp tp e h = negative_factor r k kp (subst (λ (y : ℤ). y <ℤ pos 0) (sym (*ℤ_comm r k ∙ e ∙ *ℤ_comm t z)) (negative_product z t tp h))
 
 stays : (k r t z : ℤ) → pos 0 <ℤ k → k *ℤ r ≡ t *ℤ z → z ≡ pos 0 → r ≡ pos 0
-stays k r t z kp e h = zero_factor r k kp (mul_comm r k ∙ e ∙ ap (λ (y : ℤ). t *ℤ y) h ∙ ring (t ∷ []) (v0 ⊗ num (pos 0)) (num (pos 0)) refl)
+stays k r t z kp e h = zero_factor r k kp (*ℤ_comm r k ∙ e ∙ ap (λ (y : ℤ). t *ℤ y) h ∙ ring (t ∷ []) (v0 ⊗ num (pos 0)) (num (pos 0)) refl)
 
 less_of_gap : (s t : ℤ) → pos 0 <ℤ (t -ℤ s) → s <ℤ t
 less_of_gap s t h = omega (arith, ints)
@@ -86,9 +83,10 @@ amid_exchanged a b p h =
       second = h.second;
     }
 
-not_true : (b : Bool) → b ≡ true → b ≡ false → ⊥
-not_true true h k = cc
-not_true false h k = cc
+-- nothing is true and false
+pub not_both : (b : Bool) → b ≡ true → b ≡ false → ⊥
+not_both true h k = cc
+not_both false h k = cc
 
 pub amid_is_between : AmidIsBetween
 amid_is_between a b p da db differ h = (
@@ -100,7 +98,7 @@ amid_is_between a b p da db differ h = (
         equal_of_gap (p.y *ℤ b.d) (b.y *ℤ p.d) (stays h.on.k (rise p b) h.on.s (rise a b) h.on.positive (rise_second a b p h.on) level),
         f,
       ))
-      (λ place. absurd (not_true (is_same_point a b)
+      (λ place. absurd (not_both (is_same_point a b)
       (same_by a b (record { x = equal_of_gap (a.x *ℤ b.d) (b.x *ℤ a.d) place; y = equal_of_gap (a.y *ℤ b.d) (b.y *ℤ a.d) level })) differ))),
 )
 

@@ -1,5 +1,5 @@
 -- As near as wanted to each point of a segment lies one that isn't an end.
-use Rattle.std.proofs.Common.{◌≡◌, [], ◌∷◌, refl, sym, ap, ◌∙◌, subst, arith}
+use Rattle.std.proofs.Common.{◌≡◌, [], ◌∷◌, refl, sym, ap, ◌∙◌, arith}
 use lib.IntN.{ℤ, pos, ◌+ℤ◌, ◌-ℤ◌, ◌*ℤ◌}
 use lib.Signed.{◌<ℤ◌, ◌≤ℤ◌}
 use Rattle.std.proofs.lemmas.Int.{ints, by_lt_z}
@@ -7,13 +7,13 @@ use Rattle.scad_base.proofs.Products.{positive_product}
 use Rattle.scad_geom.specs.Point.{Point}
 use Rattle.scad_geom.specs.Near.{mean}
 use Rattle.scad_geom.proofs.Ring.{ring, num, ◌⊕◌, ◌⊖◌, ◌⊗◌, v0, v1, v2, v3, v4, v5, v6, v7}
-use Rattle.scad_geom.proofs.Signs.{at_least_mul}
+use Rattle.scad_geom.proofs.Signs.{at_least_mul, square_at_least}
 use Rattle.winding_laws.specs.Region.{Holds, box}
 use Rattle.winding_laws.specs.Nearness.{seen_from, IsNear, IsPoint}
 use Rattle.winding_laws.specs.Parts.{IsOn}
 use Rattle.winding_laws.specs.Approach.{HasAmid, AmidIsAnywhere}
 use Rattle.winding_laws.proofs.Regions.{holds_as}
-use Rattle.winding_laws.proofs.Weights.{weak}
+use Rattle.scad_base.proofs.Integers.{at_most_of_less}
 
 -- ---- boxes
 across_is : (n x y : ℤ) → n *ℤ x +ℤ pos 0 *ℤ y ≡ n *ℤ x
@@ -47,26 +47,16 @@ in_box n h p a b c d = (
 at_most_square : (z : ℤ) → z ≤ℤ (z *ℤ z)
 at_most_square z = by_lt_z (pos 0) z
     (λ h.
-    let m = at_least_mul z (z -ℤ pos 1) (weak z h) (omega (arith, ints)) in
+    let m = at_least_mul z (z -ℤ pos 1) (at_most_of_less (pos 0) z h) (omega (arith, ints)) in
     let same : z *ℤ (z -ℤ pos 1) ≡ z *ℤ z -ℤ z = ring (z ∷ []) (v0 ⊗ (v0 ⊖ num (pos 1))) (v0 ⊗ v0 ⊖ v0) refl in
     omega (arith, ints))
     (λ h. let s = square_at_least z in omega (arith, ints))
-  where
-    square_at_least : (z : ℤ) → pos 0 ≤ℤ (z *ℤ z)
-    square_at_least z = by_lt_z z (pos 0)
-        (λ q. let turned : (pos 0 -ℤ z) *ℤ (pos 0 -ℤ z) ≡ z *ℤ z = ring (z ∷ []) ((num (pos 0) ⊖ v0) ⊗ (num (pos 0) ⊖ v0)) (v0 ⊗ v0) refl in
-        let above : pos 0 ≤ℤ (pos 0 -ℤ z) = omega (arith, ints) in
-        subst (λ (y : ℤ). pos 0 ≤ℤ y) turned (at_least_mul (pos 0 -ℤ z) (pos 0 -ℤ z) above above))
-        (λ q. at_least_mul z z q q)
 
 at_most_turned : (z : ℤ) → (pos 0 -ℤ z) ≤ℤ (z *ℤ z)
 at_most_turned z =
     let m = at_most_square (pos 0 -ℤ z) in
     let same : (pos 0 -ℤ z) *ℤ (pos 0 -ℤ z) ≡ z *ℤ z = ring (z ∷ []) ((num (pos 0) ⊖ v0) ⊗ (num (pos 0) ⊖ v0)) (v0 ⊗ v0) refl in
     omega (arith, ints)
-
-least_square : (z : ℤ) → pos 0 ≤ℤ (z *ℤ z)
-least_square z = let a = at_most_square z in let b = at_most_turned z in omega (arith, ints)
 
 module _ (n : ℤ) (np : pos 0 <ℤ n) (a b p : Point) (da : IsPoint a) (db : IsPoint b) (dp : IsPoint p) (o : IsOn a b p) where
   -- the middle, and how far it lies from p
@@ -86,16 +76,16 @@ module _ (n : ℤ) (np : pos 0 <ℤ n) (a b p : Point) (da : IsPoint a) (db : Is
   amid = mean weight (pos 1) p middle
 
   squares_least : pos 0 ≤ℤ (x_gap *ℤ x_gap +ℤ y_gap *ℤ y_gap)
-  squares_least = let s = least_square x_gap in let t = least_square y_gap in omega (arith, ints)
+  squares_least = let s = square_at_least x_gap in let t = square_at_least y_gap in omega (arith, ints)
 
   weight_least : pos 0 ≤ℤ weight
-  weight_least = at_least_mul n (x_gap *ℤ x_gap +ℤ y_gap *ℤ y_gap) (weak n np) squares_least
+  weight_least = at_least_mul n (x_gap *ℤ x_gap +ℤ y_gap *ℤ y_gap) (at_most_of_less (pos 0) n np) squares_least
 
   middle_positive : pos 0 <ℤ middle.d
   middle_positive = let s = positive_product b.d a.d db da in let t = positive_product a.d b.d da db in omega (arith, ints)
 
   amid_positive : pos 0 <ℤ amid.d
-  amid_positive = let s = at_least_mul weight p.d weight_least (weak p.d dp) in let t = middle_positive in omega (arith, ints)
+  amid_positive = let s = at_least_mul weight p.d weight_least (at_most_of_less (pos 0) p.d dp) in let t = middle_positive in omega (arith, ints)
 
   gap_same : (w p d m e : ℤ) → (w *ℤ p +ℤ pos 1 *ℤ m) *ℤ d -ℤ p *ℤ (w *ℤ d +ℤ pos 1 *ℤ e) ≡ m *ℤ d -ℤ p *ℤ e
   gap_same w p d m e = ring (w ∷ p ∷ d ∷ m ∷ e ∷ []) ((v0 ⊗ v1 ⊕ num (pos 1) ⊗ v3) ⊗ v2 ⊖ v1 ⊗ (v0 ⊗ v2 ⊕ num (pos 1) ⊗ v4)) (v3 ⊗ v2 ⊖ v1 ⊗ v4) refl
@@ -114,13 +104,13 @@ module _ (n : ℤ) (np : pos 0 <ℤ n) (a b p : Point) (da : IsPoint a) (db : Is
 
   below : (z s t : ℤ) → z ≤ℤ s → pos 0 ≤ℤ t → (n *ℤ z) ≤ℤ (n *ℤ (s +ℤ t))
   below z s t h k =
-      let m = at_least_mul n (s +ℤ t -ℤ z) (weak n np) (omega (arith, ints)) in
+      let m = at_least_mul n (s +ℤ t -ℤ z) (at_most_of_less (pos 0) n np) (omega (arith, ints)) in
       let same : n *ℤ (s +ℤ t -ℤ z) ≡ n *ℤ (s +ℤ t) -ℤ n *ℤ z = ring (n ∷ s ∷ t ∷ z ∷ []) (v0 ⊗ (v1 ⊕ v2 ⊖ v3)) (v0 ⊗ (v1 ⊕ v2) ⊖ v0 ⊗ v3) refl in
       omega (arith, ints)
 
   below_second : (z s t : ℤ) → z ≤ℤ t → pos 0 ≤ℤ s → (n *ℤ z) ≤ℤ (n *ℤ (s +ℤ t))
   below_second z s t h k =
-      let m = at_least_mul n (s +ℤ t -ℤ z) (weak n np) (omega (arith, ints)) in
+      let m = at_least_mul n (s +ℤ t -ℤ z) (at_most_of_less (pos 0) n np) (omega (arith, ints)) in
       let same : n *ℤ (s +ℤ t -ℤ z) ≡ n *ℤ (s +ℤ t) -ℤ n *ℤ z = ring (n ∷ s ∷ t ∷ z ∷ []) (v0 ⊗ (v1 ⊕ v2 ⊖ v3)) (v0 ⊗ (v1 ⊕ v2) ⊖ v0 ⊗ v3) refl in
       omega (arith, ints)
 
@@ -132,10 +122,10 @@ module _ (n : ℤ) (np : pos 0 <ℤ n) (a b p : Point) (da : IsPoint a) (db : Is
       holds_as (box n (pos 1)) (record { x = x_gap; y = y_gap; d = amid.d *ℤ p.d }) (seen_from p amid)
       (sym (gap_same weight p.x p.d middle.x middle.d)) (sym (gap_same weight p.y p.d middle.y middle.d)) refl
       (in_box n (pos 1) (record { x = x_gap; y = y_gap; d = amid.d *ℤ p.d })
-      (most _ _ _ (below x_gap (x_gap *ℤ x_gap) (y_gap *ℤ y_gap) (at_most_square x_gap) (least_square y_gap)) room)
-      (most _ _ _ (below (pos 0 -ℤ x_gap) (x_gap *ℤ x_gap) (y_gap *ℤ y_gap) (at_most_turned x_gap) (least_square y_gap)) room)
-      (most _ _ _ (below_second y_gap (x_gap *ℤ x_gap) (y_gap *ℤ y_gap) (at_most_square y_gap) (least_square x_gap)) room)
-      (most _ _ _ (below_second (pos 0 -ℤ y_gap) (x_gap *ℤ x_gap) (y_gap *ℤ y_gap) (at_most_turned y_gap) (least_square x_gap)) room))
+      (most _ _ _ (below x_gap (x_gap *ℤ x_gap) (y_gap *ℤ y_gap) (at_most_square x_gap) (square_at_least y_gap)) room)
+      (most _ _ _ (below (pos 0 -ℤ x_gap) (x_gap *ℤ x_gap) (y_gap *ℤ y_gap) (at_most_turned x_gap) (square_at_least y_gap)) room)
+      (most _ _ _ (below_second y_gap (x_gap *ℤ x_gap) (y_gap *ℤ y_gap) (at_most_square y_gap) (square_at_least x_gap)) room)
+      (most _ _ _ (below_second (pos 0 -ℤ y_gap) (x_gap *ℤ x_gap) (y_gap *ℤ y_gap) (at_most_turned y_gap) (square_at_least x_gap)) room))
 
   -- its weights
   one_number : (w k s t e f p x y : ℤ) → k *ℤ p ≡ s *ℤ x +ℤ t *ℤ y → k *ℤ (w *ℤ p +ℤ pos 1 *ℤ (f *ℤ x +ℤ e *ℤ y)) ≡ (w *ℤ s +ℤ k *ℤ f) *ℤ x +ℤ (w *ℤ t +ℤ k *ℤ e) *ℤ y
@@ -163,8 +153,8 @@ module _ (n : ℤ) (np : pos 0 <ℤ n) (a b p : Point) (da : IsPoint a) (db : Is
             s = weight *ℤ o.s +ℤ o.k *ℤ b.d;
             t = weight *ℤ o.t +ℤ o.k *ℤ a.d;
             positive = o.positive;
-            first = weak (weight *ℤ o.s +ℤ o.k *ℤ b.d) hs;
-            second = weak (weight *ℤ o.t +ℤ o.k *ℤ a.d) ht;
+            first = at_most_of_less (pos 0) (weight *ℤ o.s +ℤ o.k *ℤ b.d) hs;
+            second = at_most_of_less (pos 0) (weight *ℤ o.t +ℤ o.k *ℤ a.d) ht;
             some = sum_above (weight *ℤ o.s +ℤ o.k *ℤ b.d) (weight *ℤ o.t +ℤ o.k *ℤ a.d) hs ht;
             x = one_number weight o.k o.s o.t a.d b.d p.x a.x b.x o.x;
             y = one_number weight o.k o.s o.t a.d b.d p.y a.y b.y o.y;

@@ -10,7 +10,7 @@ use Rattle.scad_geom.proofs.Ring.{ring, num, ◌⊕◌, ◌⊖◌, ◌⊗◌, v0
 use Rattle.scad_geom.proofs.Signs.{pos_left}
 use Rattle.winding_laws.specs.Parts.{IsOn, IsBetween, BetweenIsOn}
 use Rattle.winding_laws.proofs.Parts.{on_turned}
-use Rattle.winding_laws.proofs.Weights.{weak}
+use Rattle.scad_base.proofs.Integers.{at_most_of_less, gap_of_less}
 
 -- how far p lies above a, over the product of the divisors
 abbrev pub rise : Point → Point → ℤ
@@ -33,9 +33,6 @@ bend_turned a b p =
     ((v1 ⊗ v8 ⊖ v7 ⊗ v2) ⊗ v3 ⊕ (v7 ⊗ v5 ⊖ v4 ⊗ v8) ⊗ v0 ⊖ (v1 ⊗ v5 ⊖ v4 ⊗ v2) ⊗ v6)
     (num (pos 0) ⊖ ((v4 ⊗ v8 ⊖ v7 ⊗ v5) ⊗ v0 ⊕ (v7 ⊗ v2 ⊖ v1 ⊗ v8) ⊗ v3 ⊖ (v4 ⊗ v2 ⊖ v1 ⊗ v5) ⊗ v6)) refl
 
-gap : (s t : ℤ) → s <ℤ t → pos 0 <ℤ (t -ℤ s)
-gap s t h = omega (arith, ints)
-
 both : (s t : ℤ) → pos 0 <ℤ s → pos 0 <ℤ t → pos 0 <ℤ (s +ℤ t)
 both s t h k = omega (arith, ints)
 
@@ -50,15 +47,15 @@ rises_on a b p = ring (a.y ∷ a.d ∷ b.y ∷ b.d ∷ p.y ∷ p.d ∷ []) ((v2 
 
 on_way_up : (a b p : Point) → pos 0 <ℤ a.d → pos 0 <ℤ b.d → pos 0 <ℤ p.d → bend a b p ≡ pos 0 → (a.y *ℤ p.d) <ℤ (p.y *ℤ a.d) → (p.y *ℤ b.d) <ℤ (b.y *ℤ p.d) → IsOn a b p
 on_way_up a b p da db dp e h g =
-    let s : pos 0 <ℤ rise p b = gap (p.y *ℤ b.d) (b.y *ℤ p.d) g in
-    let t : pos 0 <ℤ rise a p = gap (a.y *ℤ p.d) (p.y *ℤ a.d) h in
+    let s : pos 0 <ℤ rise p b = gap_of_less (p.y *ℤ b.d) (b.y *ℤ p.d) g in
+    let t : pos 0 <ℤ rise a p = gap_of_less (a.y *ℤ p.d) (p.y *ℤ a.d) h in
     record {
       k = rise a b;
       s = rise p b;
       t = rise a p;
       positive = pos_left (rise a b) p.d dp (subst (λ (z : ℤ). pos 0 <ℤ z) (sym (rises a b p)) (both (rise p b *ℤ a.d) (rise a p *ℤ b.d) (positive_product (rise p b) a.d s da) (positive_product (rise a p) b.d t db)));
-      first = weak (rise p b) s;
-      second = weak (rise a p) t;
+      first = at_most_of_less (pos 0) (rise p b) s;
+      second = at_most_of_less (pos 0) (rise a p) t;
       some = both (rise p b) (rise a p) s t;
       x = equal (rise p b *ℤ a.x +ℤ rise a p *ℤ b.x) (rise a b *ℤ p.x) e;
       y = rises_on a b p;

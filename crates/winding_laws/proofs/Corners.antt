@@ -7,14 +7,15 @@ use Rattle.std.proofs.lemmas.Int.{ints}
 use Rattle.scad_base.proofs.Products.{positive_product}
 use Rattle.scad_geom.specs.Point.{Point}
 use Rattle.scad_geom.proofs.Ring.{ring, num, ◌⊕◌, ◌⊖◌, ◌⊗◌, v0, v1, v2, v3, v4, v5, v6, v7, v8, v9, v10, v11, v12}
-use Rattle.scad_geom.proofs.Signs.{at_least_mul}
+use Rattle.scad_geom.proofs.Signs.{at_least_mul, sum_at_least}
 use Rattle.winding_laws.specs.Region.{HalfPlane, Holds}
 use Rattle.winding_laws.specs.Nearness.{seen_from, IsNear}
 use Rattle.scad_geom.specs.Near.{mean}
 use Rattle.winding_laws.proofs.Views.{cross}
 use Rattle.winding_laws.proofs.Triangles.{IsRound}
 use Rattle.winding_laws.proofs.Regions.{scaled, added, holds_scaled, holds_added, holds_as}
-use Rattle.winding_laws.proofs.Weights.{weak, some_of_three, sum_at_least}
+use Rattle.winding_laws.proofs.Weights.{some_of_three}
+use Rattle.scad_base.proofs.Integers.{at_most_of_less}
 
 -- no point of the segment from a to b is one of the region's
 abbrev pub IsAway : List HalfPlane → Point → Point → Type 0
@@ -75,12 +76,12 @@ module _ (region : List HalfPlane) (a b p q r : Point) (da : pos 0 <ℤ a.d) (db
       let sum : Point = added (scaled (seen_from p a) (u *ℤ b.d)) (added (scaled (seen_from q b) (v *ℤ a.d)) (scaled (seen_from r b) (w *ℤ a.d))) in
       let held : Holds region sum =
       holds_added region (scaled (seen_from p a) (u *ℤ b.d)) (added (scaled (seen_from q b) (v *ℤ a.d)) (scaled (seen_from r b) (w *ℤ a.d)))
-      (holds_scaled region (seen_from p a) (u *ℤ b.d) (at_least_mul u b.d first (weak b.d db)) np)
+      (holds_scaled region (seen_from p a) (u *ℤ b.d) (at_least_mul u b.d first (at_most_of_less (pos 0) b.d db)) np)
       (holds_added region (scaled (seen_from q b) (v *ℤ a.d)) (scaled (seen_from r b) (w *ℤ a.d))
-      (holds_scaled region (seen_from q b) (v *ℤ a.d) (at_least_mul v a.d second (weak a.d da)) nq)
-      (holds_scaled region (seen_from r b) (w *ℤ a.d) (at_least_mul w a.d last (weak a.d da)) nr)) in
-      away s t (at_least_mul u (p.d *ℤ b.d) first (weak (p.d *ℤ b.d) fk))
-      (sum_at_least (v *ℤ (q.d *ℤ a.d)) (w *ℤ (r.d *ℤ a.d)) (at_least_mul v (q.d *ℤ a.d) second (weak (q.d *ℤ a.d) ge)) (at_least_mul w (r.d *ℤ a.d) last (weak (r.d *ℤ a.d) he)))
+      (holds_scaled region (seen_from q b) (v *ℤ a.d) (at_least_mul v a.d second (at_most_of_less (pos 0) a.d da)) nq)
+      (holds_scaled region (seen_from r b) (w *ℤ a.d) (at_least_mul w a.d last (at_most_of_less (pos 0) a.d da)) nr)) in
+      away s t (at_least_mul u (p.d *ℤ b.d) first (at_most_of_less (pos 0) (p.d *ℤ b.d) fk))
+      (sum_at_least (v *ℤ (q.d *ℤ a.d)) (w *ℤ (r.d *ℤ a.d)) (at_least_mul v (q.d *ℤ a.d) second (at_most_of_less (pos 0) (q.d *ℤ a.d) ge)) (at_least_mul w (r.d *ℤ a.d) last (at_most_of_less (pos 0) (r.d *ℤ a.d) he)))
       (some_of_three u v w (p.d *ℤ b.d) (q.d *ℤ a.d) (r.d *ℤ a.d) first second last round.some fk ge he)
       (holds_as region sum (mean s t a b)
       (one_axis u v w p.x q.x r.x p.d q.d r.d a.x a.d b.x b.d origin_x) (one_axis u v w p.y q.y r.y p.d q.d r.d a.y a.d b.y b.d origin_y)

@@ -1,7 +1,7 @@
 -- How the turn of a segment changes where its ends are moved.
 use Rattle.std.proofs.Common.{◌≡◌, Bool, List, sym, ap₂, ◌∙◌, subst, arith}
-use lib.IntN.{ℤ, pos, ◌+ℤ◌, ◌-ℤ◌, ◌*ℤ◌}
-use lib.Signed.{◌<ℤ◌, ◌≤ℤ◌}
+use lib.IntN.{ℤ, pos, ◌+ℤ◌, ◌-ℤ◌}
+use lib.Signed.{◌<ℤ◌}
 use Rattle.std.proofs.lemmas.Int.{ints}
 use Rattle.scad_base.proofs.Products.{positive_product}
 use Rattle.scad_geom.specs.Point.{Point}
@@ -12,9 +12,7 @@ use Rattle.winding_laws.proofs.Views.{swing, swing_turned, turn_seen}
 use Rattle.winding_laws.proofs.Triangles.{triangle}
 use Rattle.winding_laws.proofs.Regions.{near_itself, near_seen, mean_seen}
 use Rattle.winding_laws.proofs.Corners.{IsAway, away_turned, not_round}
-
-pub square_at_least : (z : ℤ) → pos 0 <ℤ z → pos 0 ≤ℤ (z *ℤ z)
-square_at_least z h = let m = positive_product z z h h in omega (arith, ints)
+use Rattle.scad_geom.proofs.Signs.{square_at_least}
 
 -- what is clear of a point is away from the origin as the point sees it
 pub clear_seen : (region : List HalfPlane) (q a b : Point) → IsFar region q a b → IsAway region (seen_from q a) (seen_from q b)
@@ -43,9 +41,9 @@ module _ (region : List HalfPlane) (above right : Bool) where
       → IsFar region q a b → IsNear region c a → IsNear region d b
       → turn above right q c d ≡ turn above right q a b +ℤ (turn above right q b d -ℤ turn above right q a c)
   moved_turn o q a b c d dq da db dc dd clear nc nd =
-      let least = square_at_least q.d dq in
-      let near_a = near_seen region q a a least (near_itself region o a (square_at_least a.d da)) in
-      let near_b = near_seen region q b b least (near_itself region o b (square_at_least b.d db)) in
+      let least = square_at_least q.d in
+      let near_a = near_seen region q a a least (near_itself region o a (square_at_least a.d)) in
+      let near_b = near_seen region q b b least (near_itself region o b (square_at_least b.d)) in
       turn_seen above right q c d dq dc
       ∙ moved_swing (seen_from q a) (seen_from q b) (seen_from q c) (seen_from q d)
       (positive_product a.d q.d da dq) (positive_product b.d q.d db dq) (positive_product c.d q.d dc dq) (positive_product d.d q.d dd dq)

@@ -14,7 +14,8 @@ use Rattle.winding_laws.specs.Parts.{IsOn, PartsAreFar, PartsAreClear, MovesStay
 use Rattle.winding_laws.proofs.Regions.{scaled, added, holds_scaled, holds_added, holds_as}
 use Rattle.winding_laws.proofs.Squares.{held_by, half_across, half_along, near_by_close, far_by_clear, clear_by_far}
 use Rattle.winding_laws.proofs.Parts.{mean_on, parts_are_on, parts_are_all}
-use Rattle.winding_laws.proofs.Weights.{weak, some_weight}
+use Rattle.winding_laws.proofs.Weights.{some_weight}
+use Rattle.scad_base.proofs.Integers.{at_most_of_less}
 
 -- ---- parts
 -- what is near to a point of a segment is near to a mean of its ends
@@ -22,7 +23,7 @@ on_near : (region : List HalfPlane) (q a b p : Point) (h : IsOn a b p) → IsNea
 on_near region q a b p h n =
     holds_as region (scaled (seen_from q p) h.k) (seen_from q (mean h.s h.t a b))
     (one_axis h.k h.s h.t p.x p.d a.x a.d b.x b.d q.x q.d h.x h.d) (one_axis h.k h.s h.t p.y p.d a.y a.d b.y b.d q.y q.d h.y h.d) (weights h.k (h.s *ℤ a.d +ℤ h.t *ℤ b.d) p.d q.d h.d)
-    (holds_scaled region (seen_from q p) h.k (weak h.k h.positive) n)
+    (holds_scaled region (seen_from q p) h.k (at_most_of_less (pos 0) h.k h.positive) n)
   where
     one_axis : (k s t x d y e z f w g : ℤ) → k *ℤ x ≡ s *ℤ y +ℤ t *ℤ z → k *ℤ d ≡ s *ℤ e +ℤ t *ℤ f → (x *ℤ g -ℤ w *ℤ d) *ℤ k ≡ (s *ℤ y +ℤ t *ℤ z) *ℤ g -ℤ w *ℤ (s *ℤ e +ℤ t *ℤ f)
     one_axis k s t x d y e z f w g hx hd =
@@ -87,14 +88,14 @@ module _ (q a b c d : Point) (u v : ℤ) where
   module _ (r s t : List HalfPlane) (sum : AddUp r s t) (dq : pos 0 <ℤ q.d) (da : pos 0 <ℤ a.d) (db : pos 0 <ℤ b.d) (hu : pos 0 ≤ℤ u) (hv : pos 0 ≤ℤ v) where
     drift_held : IsNear s c a → IsNear s d b → Holds s drift
     drift_held n m =
-        holds_scaled s (added (scaled (seen_from c a) (u *ℤ b.d)) (scaled (seen_from d b) (v *ℤ a.d))) q.d (weak q.d dq)
+        holds_scaled s (added (scaled (seen_from c a) (u *ℤ b.d)) (scaled (seen_from d b) (v *ℤ a.d))) q.d (at_most_of_less (pos 0) q.d dq)
         (holds_added s (scaled (seen_from c a) (u *ℤ b.d)) (scaled (seen_from d b) (v *ℤ a.d))
-        (holds_scaled s (seen_from c a) (u *ℤ b.d) (at_least_mul u b.d hu (weak b.d db)) n)
-        (holds_scaled s (seen_from d b) (v *ℤ a.d) (at_least_mul v a.d hv (weak a.d da)) m))
+        (holds_scaled s (seen_from c a) (u *ℤ b.d) (at_least_mul u b.d hu (at_most_of_less (pos 0) b.d db)) n)
+        (holds_scaled s (seen_from d b) (v *ℤ a.d) (at_least_mul v a.d hv (at_most_of_less (pos 0) a.d da)) m))
 
     moved_near : IsNear s c a → IsNear s d b → IsNear r q (mean u v c d) → IsNear t q (mean first_weight second_weight a b)
     moved_near n m o =
-        let seen : Holds r view = holds_scaled r (seen_from q (mean u v c d)) (a.d *ℤ b.d) (weak (a.d *ℤ b.d) (positive_product a.d b.d da db)) o in
+        let seen : Holds r view = holds_scaled r (seen_from q (mean u v c d)) (a.d *ℤ b.d) (at_most_of_less (pos 0) (a.d *ℤ b.d) (positive_product a.d b.d da db)) o in
         let drifted : Holds s (record drift { d = view.d }) = holds_as s drift (record drift { d = view.d }) refl refl (drift_weight u v a.d b.d c.d d.d q.d) (drift_held n m) in
         holds_as t (record { x = view.x +ℤ drift.x; y = view.y +ℤ drift.y; d = view.d }) (seen_from q (mean first_weight second_weight a b))
         (one_axis u v a.x a.d b.x b.d c.x c.d d.x d.d q.x q.d) (one_axis u v a.y a.d b.y b.d c.y c.d d.y d.d q.y q.d) (all_weight u v a.d b.d c.d d.d q.d)
@@ -104,7 +105,7 @@ pub moves_stay_far : MovesStayFar
 moves_stay_far r s t sum q a b c d dq da db dc dd f n m u v hu hv o near =
     let cb : pos 0 <ℤ (c.d *ℤ b.d) = positive_product c.d b.d dc db in
     let de : pos 0 <ℤ (d.d *ℤ a.d) = positive_product d.d a.d dd da in
-    f (u *ℤ (c.d *ℤ b.d)) (v *ℤ (d.d *ℤ a.d)) (at_least_mul u (c.d *ℤ b.d) hu (weak (c.d *ℤ b.d) cb)) (at_least_mul v (d.d *ℤ a.d) hv (weak (d.d *ℤ a.d) de))
+    f (u *ℤ (c.d *ℤ b.d)) (v *ℤ (d.d *ℤ a.d)) (at_least_mul u (c.d *ℤ b.d) hu (at_most_of_less (pos 0) (c.d *ℤ b.d) cb)) (at_least_mul v (d.d *ℤ a.d) hv (at_most_of_less (pos 0) (d.d *ℤ a.d) de))
     (some_weight u v (c.d *ℤ b.d) (d.d *ℤ a.d) hu hv o cb de)
     (moved_near q a b c d u v r s t sum dq da db hu hv n m near)
 

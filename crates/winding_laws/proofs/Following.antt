@@ -13,7 +13,8 @@ use Rattle.winding_laws.specs.Parts.{IsOn}
 use Rattle.winding_laws.specs.Approach.{HasNear, PointsFollow}
 use Rattle.winding_laws.proofs.Regions.{scaled, added, holds_scaled, holds_added, holds_as}
 use Rattle.winding_laws.proofs.Parts.{mean_on}
-use Rattle.winding_laws.proofs.Weights.{weak, some_weight}
+use Rattle.winding_laws.proofs.Weights.{some_weight}
+use Rattle.scad_base.proofs.Integers.{at_most_of_less}
 
 -- ---- points follow the ends
 module _ (region : List HalfPlane) (a b c d p : Point) (da : IsPoint a) (db : IsPoint b) (dc : IsPoint c) (dd : IsPoint d) (dp : IsPoint p)
@@ -67,18 +68,18 @@ module _ (region : List HalfPlane) (a b c d p : Point) (da : IsPoint a) (db : Is
 
   follows : HasNear region a b p
   follows =
-      let hs = at_least_mul o.s (c.d *ℤ b.d) o.first (weak (c.d *ℤ b.d) cb) in
-      let ht = at_least_mul o.t (d.d *ℤ a.d) o.second (weak (d.d *ℤ a.d) de) in
+      let hs = at_least_mul o.s (c.d *ℤ b.d) o.first (at_most_of_less (pos 0) (c.d *ℤ b.d) cb) in
+      let ht = at_least_mul o.t (d.d *ℤ a.d) o.second (at_most_of_less (pos 0) (d.d *ℤ a.d) de) in
       record {
         point = mean first second a b;
         positive = some_weight first second a.d b.d hs ht some da db;
         on = mean_on first second hs ht some a b;
         near = holds_as region (scaled drift p.d) (seen_from p (mean first second a b))
             (one_axis o.k o.s o.t a.x a.d b.x b.d c.x c.d d.x d.d p.x p.d o.x o.d) (one_axis o.k o.s o.t a.y a.d b.y b.d c.y c.d d.y d.d p.y p.d o.y o.d) (weights o.s o.t a.d b.d c.d d.d p.d)
-            (holds_scaled region drift p.d (weak p.d dp)
+            (holds_scaled region drift p.d (at_most_of_less (pos 0) p.d dp)
             (holds_added region (scaled (seen_from c a) (o.s *ℤ b.d)) (scaled (seen_from d b) (o.t *ℤ a.d))
-            (holds_scaled region (seen_from c a) (o.s *ℤ b.d) (at_least_mul o.s b.d o.first (weak b.d db)) na)
-            (holds_scaled region (seen_from d b) (o.t *ℤ a.d) (at_least_mul o.t a.d o.second (weak a.d da)) nb)));
+            (holds_scaled region (seen_from c a) (o.s *ℤ b.d) (at_least_mul o.s b.d o.first (at_most_of_less (pos 0) b.d db)) na)
+            (holds_scaled region (seen_from d b) (o.t *ℤ a.d) (at_least_mul o.t a.d o.second (at_most_of_less (pos 0) a.d da)) nb)));
       }
 
 pub points_follow : PointsFollow

@@ -25,7 +25,8 @@ use Rattle.winding_laws.proofs.Edges.{clear_seen}
 use Rattle.winding_laws.proofs.Sameness.{are_same, along_seen}
 use Rattle.winding_laws.proofs.Totals.{starts, ends, balanced_totals}
 use Rattle.winding_laws.proofs.Triangles.{flat}
-use Rattle.winding_laws.proofs.Weights.{weak, some_weight}
+use Rattle.winding_laws.proofs.Weights.{some_weight}
+use Rattle.scad_base.proofs.Integers.{at_most_of_less}
 
 -- ---- no mean of the ends lies at the origin
 not_through : (region : List HalfPlane) → HoldsOrigin region → (a b : Point) → IsPoint a → IsPoint b → IsAway region a b → (s t : ℤ) → pos 0 ≤ℤ s → pos 0 ≤ℤ t → pos 0 <ℤ (s +ℤ t)
@@ -34,7 +35,7 @@ not_through region o a b da db away s t hs ht more x y =
     let w : ℤ = s *ℤ a.d +ℤ t *ℤ b.d in
     away s t hs ht more
     (holds_as region (scaled (record { x = pos 0; y = pos 0; d = pos 1 }) w) (mean s t a b) (zero_times w ∙ sym x) (zero_times w ∙ sym y) (one_times w)
-    (holds_scaled region (record { x = pos 0; y = pos 0; d = pos 1 }) w (weak w (some_weight s t a.d b.d hs ht more da db)) o))
+    (holds_scaled region (record { x = pos 0; y = pos 0; d = pos 1 }) w (at_most_of_less (pos 0) w (some_weight s t a.d b.d hs ht more da db)) o))
   where
     zero_times : (k : ℤ) → pos 0 *ℤ k ≡ pos 0
     zero_times k = ring (k ∷ []) (num (pos 0) ⊗ v0) (num (pos 0)) refl

@@ -14,7 +14,8 @@ use Rattle.winding_laws.specs.Parts.{IsOn}
 use Rattle.winding_laws.specs.Approach.{LinesAreAll}
 use Rattle.winding_laws.proofs.Parts.{on_turned, parts_are_on, parts_are_all}
 use Rattle.winding_laws.proofs.Between.{rise, bend, bend_side, bend_turned, rises, rises_on, exchanged, side_exchanged, on_exchanged}
-use Rattle.winding_laws.proofs.Weights.{weak, some_weight}
+use Rattle.winding_laws.proofs.Weights.{some_weight}
+use Rattle.scad_base.proofs.Integers.{at_most_of_less}
 
 -- ---- the ends
 only_first : (x y : ℤ) → pos 1 *ℤ x ≡ pos 1 *ℤ x +ℤ pos 0 *ℤ y
@@ -82,7 +83,7 @@ module _ (a m b p : Point) (da : IsPoint a) (dm : IsPoint m) (db : IsPoint b) (u
         t = rise a b;
         positive = more;
         first = omega (arith, ints);
-        second = weak (rise a b) up;
+        second = at_most_of_less (pos 0) (rise a b) up;
         some = omega (arith, ints);
         x = alone_last (rise m b) (rise a m) (rise a b) a.x b.x m.x flat;
         y = alone_last (rise m b) (rise a m) (rise a b) a.y b.y m.y heights;
@@ -103,7 +104,7 @@ module _ (a m b p : Point) (da : IsPoint a) (dm : IsPoint m) (db : IsPoint b) (u
         s = rise a b;
         t = pos 0 -ℤ rise a m;
         positive = more;
-        first = weak (rise a b) up;
+        first = at_most_of_less (pos 0) (rise a b) up;
         second = omega (arith, ints);
         some = omega (arith, ints);
         x = alone_first (rise m b) (rise a m) (rise a b) a.x b.x m.x flat;
@@ -173,7 +174,7 @@ at_one a m b p da db h g o =
       s = o.s *ℤ a.d +ℤ o.t *ℤ b.d;
       t = pos 0;
       positive = positive_product a.d o.k da o.positive;
-      first = weak (o.s *ℤ a.d +ℤ o.t *ℤ b.d) more;
+      first = at_most_of_less (pos 0) (o.s *ℤ a.d +ℤ o.t *ℤ b.d) more;
       second = omega (arith, ints);
       some = omega (arith, ints);
       x = one_number o.k o.s o.t a.d b.d a.x b.x p.x m.x g o.x;

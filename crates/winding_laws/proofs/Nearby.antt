@@ -11,15 +11,16 @@ use Rattle.winding_laws.specs.Nearness.{seen_from, IsNear, IsPoint}
 use Rattle.winding_laws.specs.Parts.{IsOn}
 use Rattle.winding_laws.proofs.Regions.{scaled, holds_scaled, holds_left, holds_as}
 use Rattle.winding_laws.proofs.Sameness.{are_same}
-use Rattle.winding_laws.proofs.Weights.{weak, some_weight}
+use Rattle.winding_laws.proofs.Weights.{some_weight}
+use Rattle.scad_base.proofs.Integers.{at_most_of_less}
 
 -- ---- near to what is near
 pub near_on : (r s t : List HalfPlane) → AddUp r s t → (p m b : Point) → IsPoint p → IsPoint m → IsPoint b → IsNear r p m → IsNear s m b → IsNear t p b
 near_on r s t sum p m b dp dm db h g =
     let first : Point = scaled (seen_from p m) b.d in
     let second : Point = scaled (seen_from m b) p.d in
-    let a : Holds r first = holds_scaled r (seen_from p m) b.d (weak b.d db) h in
-    let c : Holds s (record second { d = first.d }) = holds_as s second (record second { d = first.d }) refl refl (weight b.d m.d p.d) (holds_scaled s (seen_from m b) p.d (weak p.d dp) g) in
+    let a : Holds r first = holds_scaled r (seen_from p m) b.d (at_most_of_less (pos 0) b.d db) h in
+    let c : Holds s (record second { d = first.d }) = holds_as s second (record second { d = first.d }) refl refl (weight b.d m.d p.d) (holds_scaled s (seen_from m b) p.d (at_most_of_less (pos 0) p.d dp) g) in
     holds_left t (seen_from p b) m.d dm
     (holds_as t (record { x = first.x +ℤ second.x; y = first.y +ℤ second.y; d = first.d }) (scaled (seen_from p b) m.d)
     (one_axis p.x p.d m.x m.d b.x b.d) (one_axis p.y p.d m.y m.d b.y b.d) (all_weight b.d m.d p.d)
@@ -58,8 +59,8 @@ on_same m n b p dm dn e o =
       s = o.s *ℤ m.d;
       t = o.t *ℤ n.d;
       positive = positive_product o.k n.d o.positive dn;
-      first = at_least_mul o.s m.d o.first (weak m.d dm);
-      second = at_least_mul o.t n.d o.second (weak n.d dn);
+      first = at_least_mul o.s m.d o.first (at_most_of_less (pos 0) m.d dm);
+      second = at_least_mul o.t n.d o.second (at_most_of_less (pos 0) n.d dn);
       some = some_weight o.s o.t m.d n.d o.first o.second o.some dm dn;
       x = one_number o.k o.s o.t m.d n.d m.x n.x b.x p.x same.x o.x;
       y = one_number o.k o.s o.t m.d n.d m.y n.y b.y p.y same.y o.y;

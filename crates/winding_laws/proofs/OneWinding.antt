@@ -20,15 +20,13 @@ use Rattle.winding_laws.specs.OneWinding.{RegionsHaveOneWinding, SquaresHaveOneW
 use Rattle.winding_laws.proofs.Views.{swing, swing_turned, turn_seen, IsAlong, swing_along, swing_to_along}
 use Rattle.winding_laws.proofs.Regions.{near_itself, near_seen, near_unseen, axis_seen, mean_seen}
 use Rattle.winding_laws.proofs.Corners.{IsAway}
-use Rattle.winding_laws.proofs.Edges.{square_at_least, moved_swing}
+use Rattle.winding_laws.proofs.Edges.{moved_swing}
 use Rattle.winding_laws.proofs.Sameness.{are_same, along_seen}
 use Rattle.winding_laws.proofs.Squares.{near_by_close, far_segments}
 use Rattle.winding_laws.proofs.Totals.{starts, ends, balanced_totals}
 use Rattle.winding_laws.proofs.Ways.{length, way, way_holds_origin, near_moved_back, way_near, by_length}
-use Rattle.winding_laws.proofs.Weights.{weak}
-
-no_gap : (s t : ℤ) → s ≡ t → s -ℤ t ≡ pos 0
-no_gap s t h = omega (arith, ints)
+use Rattle.scad_base.proofs.Integers.{at_most_of_less}
+use Rattle.scad_geom.proofs.Signs.{no_gap, square_at_least}
 
 module _ (region : List HalfPlane) (above right : Bool) (c q p : Point) (dc : pos 0 <ℤ c.d) (dq : pos 0 <ℤ q.d) (dp : pos 0 <ℤ p.d) (nq : IsNear region c q) (np : IsNear region c p) where
   qq : pos 0 <ℤ (q.d *ℤ q.d)
@@ -70,8 +68,8 @@ module _ (region : List HalfPlane) (above right : Bool) (c q p : Point) (dc : po
   away more a b f s t hs ht o h =
       f s t hs ht o
       (near_unseen region q c (mean s t a b) qq
-      (way_near region (seen_from q c) far (seen_from q q) (no_gap (q.x *ℤ q.d) (q.x *ℤ q.d) refl) (no_gap (q.y *ℤ q.d) (q.y *ℤ q.d) refl) (weak (p.d *ℤ q.d) far_positive) qq more
-      (near_seen region q c q (weak (q.d *ℤ q.d) qq) nq) (near_seen region q c p (weak (q.d *ℤ q.d) qq) np)
+      (way_near region (seen_from q c) far (seen_from q q) (no_gap (q.x *ℤ q.d) (q.x *ℤ q.d) refl) (no_gap (q.y *ℤ q.d) (q.y *ℤ q.d) refl) (at_most_of_less (pos 0) (p.d *ℤ q.d) far_positive) qq more
+      (near_seen region q c q (at_most_of_less (pos 0) (q.d *ℤ q.d) qq) nq) (near_seen region q c p (at_most_of_less (pos 0) (q.d *ℤ q.d) qq) np)
       (seen_from q (mean s t a b)) (subst (Holds (way far)) (mean_seen q a b s t) h)))
 
   two_points : pos 0 <ℤ length far → (a b : Point) → pos 0 <ℤ a.d → pos 0 <ℤ b.d → IsFar region c a b → turn above right p a b ≡ turn above right q a b +ℤ (change b -ℤ change a)
@@ -80,8 +78,8 @@ module _ (region : List HalfPlane) (above right : Bool) (c q p : Point) (dc : po
       let sb : Point = seen_from q b in
       let ea : pos 0 <ℤ sa.d = positive_product a.d q.d da dq in
       let eb : pos 0 <ℤ sb.d = positive_product b.d q.d db dq in
-      let la = square_at_least sa.d ea in
-      let lb = square_at_least sb.d eb in
+      let la = square_at_least sa.d in
+      let lb = square_at_least sb.d in
       turn_seen above right p a b dp da
       ∙ swing_along above right (seen_from p a) (seen_from far sa) (seen_from p b) (moved_along a)
       ∙ swing_to_along above right (seen_from far sa) (seen_from p b) (seen_from far sb) (moved_along b)

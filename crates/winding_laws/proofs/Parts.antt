@@ -7,9 +7,9 @@ use Rattle.scad_base.proofs.Products.{positive_product}
 use Rattle.scad_geom.specs.Point.{Point}
 use Rattle.scad_geom.specs.Near.{mean}
 use Rattle.scad_geom.proofs.Ring.{ring, num, ◌⊕◌, ◌⊖◌, ◌⊗◌, v0, v1, v2, v3, v4, v5, v6, v7, v8, v9}
-use Rattle.scad_geom.proofs.Signs.{at_least_mul}
+use Rattle.scad_geom.proofs.Signs.{at_least_mul, sum_at_least}
 use Rattle.winding_laws.specs.Parts.{IsOn, PartsAreOn, PartsAreAll}
-use Rattle.winding_laws.proofs.Weights.{weak, sum_at_least}
+use Rattle.scad_base.proofs.Integers.{at_most_of_less}
 
 one_times : (z : ℤ) → pos 1 *ℤ z ≡ z
 one_times z = omega (arith, ints)
@@ -70,8 +70,8 @@ some_through k l u v s t f g kp lp hu hv o st fg =
     ring (k ∷ l ∷ u ∷ v ∷ s ∷ t ∷ f ∷ g ∷ []) ((v4 ⊗ (v1 ⊗ v2) ⊕ v6 ⊗ (v0 ⊗ v3)) ⊕ (v5 ⊗ (v1 ⊗ v2) ⊕ v7 ⊗ (v0 ⊗ v3))) (((v4 ⊕ v5) ⊗ v1) ⊗ v2 ⊕ ((v6 ⊕ v7) ⊗ v0) ⊗ v3) refl in
     let m : pos 0 <ℤ ((s +ℤ t) *ℤ l) = positive_product (s +ℤ t) l st lp in
     let n : pos 0 <ℤ ((f +ℤ g) *ℤ k) = positive_product (f +ℤ g) k fg kp in
-    let a = at_least_mul ((s +ℤ t) *ℤ l) u (weak ((s +ℤ t) *ℤ l) m) hu in
-    let b = at_least_mul ((f +ℤ g) *ℤ k) v (weak ((f +ℤ g) *ℤ k) n) hv in
+    let a = at_least_mul ((s +ℤ t) *ℤ l) u (at_most_of_less (pos 0) ((s +ℤ t) *ℤ l) m) hu in
+    let b = at_least_mul ((f +ℤ g) *ℤ k) v (at_most_of_less (pos 0) ((f +ℤ g) *ℤ k) n) hv in
     by_lt_z (pos 0) u (λ h. let p = positive_product ((s +ℤ t) *ℤ l) u m h in omega (arith, ints))
     (λ h. let more : pos 0 <ℤ v = omega (arith, ints) in let p = positive_product ((f +ℤ g) *ℤ k) v n more in omega (arith, ints))
 
@@ -93,8 +93,8 @@ parts_are_on a b c d p h g o =
     weight : (s f : ℤ) → pos 0 ≤ℤ s → pos 0 ≤ℤ f → pos 0 ≤ℤ (s *ℤ (g.k *ℤ o.s) +ℤ f *ℤ (h.k *ℤ o.t))
     weight s f hs hf =
         sum_at_least (s *ℤ (g.k *ℤ o.s)) (f *ℤ (h.k *ℤ o.t))
-        (at_least_mul s (g.k *ℤ o.s) hs (at_least_mul g.k o.s (weak g.k g.positive) o.first))
-        (at_least_mul f (h.k *ℤ o.t) hf (at_least_mul h.k o.t (weak h.k h.positive) o.second))
+        (at_least_mul s (g.k *ℤ o.s) hs (at_least_mul g.k o.s (at_most_of_less (pos 0) g.k g.positive) o.first))
+        (at_least_mul f (h.k *ℤ o.t) hf (at_least_mul h.k o.t (at_most_of_less (pos 0) h.k h.positive) o.second))
 
 -- ---- of the first or of the second part
 nearer_start : (k s t l f g x y m p : ℤ) → k *ℤ m ≡ s *ℤ x +ℤ t *ℤ y → l *ℤ p ≡ f *ℤ x +ℤ g *ℤ y → (t *ℤ l) *ℤ p ≡ (f *ℤ t -ℤ s *ℤ g) *ℤ x +ℤ (g *ℤ k) *ℤ m
@@ -124,7 +124,7 @@ module _ (a b m p : Point) (h : IsOn a b m) (g : IsOn a b p) where
   on_second o =
       let least : pos 0 ≤ℤ (g.s *ℤ h.t) = at_least_mul g.s h.t g.first h.second in
       let s_positive : pos 0 <ℤ h.s = first_positive h.s g.t h.first (omega (arith, ints)) in
-      let u_least : pos 0 ≤ℤ (g.s *ℤ h.k) = at_least_mul g.s h.k g.first (weak h.k h.positive) in
+      let u_least : pos 0 ≤ℤ (g.s *ℤ h.k) = at_least_mul g.s h.k g.first (at_most_of_less (pos 0) h.k h.positive) in
       record {
         k = h.s *ℤ g.k;
         s = g.s *ℤ h.k;
@@ -198,7 +198,7 @@ module _ (a b m p : Point) (h : IsOn a b m) (g : IsOn a b p) where
             t = g.t *ℤ h.k;
             positive = positive_product h.t g.k t g.positive;
             first = l;
-            second = at_least_mul g.t h.k g.second (weak h.k h.positive);
+            second = at_least_mul g.t h.k g.second (at_most_of_less (pos 0) h.k h.positive);
             some = some_weight t l;
             x = nearer_start h.k h.s h.t g.k g.s g.t a.x b.x m.x p.x h.x g.x;
             y = nearer_start h.k h.s h.t g.k g.s g.t a.y b.y m.y p.y h.y g.y;

@@ -4,7 +4,7 @@ use lib.IntN.{ℤ, pos, negsuc, ◌+ℤ◌, ◌-ℤ◌, ◌*ℤ◌}
 use lib.Signed.{◌<ℤ◌, ◌≤ℤ◌}
 use Rattle.std.proofs.lemmas.Int.{ints}
 use Rattle.std.proofs.lemmas.List.Elements.{recursion_from_All}
-use Rattle.scad_base.proofs.Integers.{gap_of_less, gap_of_at_most}
+use Rattle.scad_base.proofs.Integers.{gap_of_less, gap_of_at_most, at_most_of_less}
 use Rattle.scad_base.proofs.Products.{positive_product}
 use Rattle.scad_geom.specs.Point.{Point, whole, is_same_point}
 use Rattle.scad_geom.specs.Segment.{Segment, segments}
@@ -22,7 +22,6 @@ use Rattle.winding_laws.specs.Rounded.{rounded, rounded_edge, RoundingMovesByHal
 use Rattle.winding_laws.proofs.Sameness.{are_same, same_by}
 use Rattle.winding_laws.proofs.Squares.{near_by_close, far_segments, square_holds_origin}
 use Rattle.winding_laws.proofs.Moves.{moves_keep_balance, keep}
-use Rattle.winding_laws.proofs.Weights.{weak}
 
 pub nearest : (n d : ℤ) → pos 0 <ℤ d → IsNearest n d (half_down n d)
 nearest n (pos d) h = IsNearest-half_down n d (omega (arith, ints))
@@ -67,7 +66,7 @@ nearest_order n d r m e s dp ep h a b =
     let f : pos 0 <ℤ (pos 2 *ℤ (n *ℤ e) +ℤ d *ℤ e -ℤ pos 2 *ℤ (d *ℤ e) *ℤ r) =
     subst (λ (z : ℤ). pos 0 <ℤ z) (first_scaled n d r e) (positive_product (pos 2 *ℤ n +ℤ d -ℤ pos 2 *ℤ d *ℤ r) e below ep) in
     let g : pos 0 ≤ℤ (pos 2 *ℤ (d *ℤ e) *ℤ s -ℤ (pos 2 *ℤ (m *ℤ d) -ℤ d *ℤ e)) =
-    subst (λ (z : ℤ). pos 0 ≤ℤ z) (second_scaled m e s d) (at_least_mul (pos 2 *ℤ e *ℤ s -ℤ (pos 2 *ℤ m -ℤ e)) d above (weak d dp)) in
+    subst (λ (z : ℤ). pos 0 ≤ℤ z) (second_scaled m e s d) (at_least_mul (pos 2 *ℤ e *ℤ s -ℤ (pos 2 *ℤ m -ℤ e)) d above (at_most_of_less (pos 0) d dp)) in
     let k : pos 0 ≤ℤ (pos 2 *ℤ (d *ℤ e) *ℤ s -ℤ (pos 2 *ℤ (n *ℤ e) -ℤ d *ℤ e)) =
     subst (λ (z : ℤ). pos 0 ≤ℤ (pos 2 *ℤ (d *ℤ e) *ℤ s -ℤ (pos 2 *ℤ z -ℤ d *ℤ e))) (sym h) g in
     at_most_by r s

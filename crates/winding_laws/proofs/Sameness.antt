@@ -11,6 +11,7 @@ use Rattle.scad_geom.proofs.Points.{same_height, same_across}
 use Rattle.scad_geom.proofs.Ring.{ring, ◌⊖◌, ◌⊗◌, v0, v1, v2, v3, v4}
 use Rattle.winding_laws.specs.Nearness.{seen_from}
 use Rattle.winding_laws.proofs.Views.{turn_seen, IsAlong, swing_along, swing_to_along}
+use Rattle.scad_geom.proofs.Signs.{no_gap}
 
 -- ---- what the test says
 pub record AreSame (p q : Point) : Type 0 where
@@ -29,9 +30,6 @@ cancel_mul a b k h e =
     let z : (a -ℤ b) *ℤ k ≡ pos 0 = ring (a ∷ b ∷ k ∷ []) ((v0 ⊖ v1) ⊗ v2) (v0 ⊗ v2 ⊖ v1 ⊗ v2) refl ∙ no_gap (a *ℤ k) (b *ℤ k) e in
     let n = zero_factor (a -ℤ b) k h z in
     omega (arith, ints)
-  where
-    no_gap : (s t : ℤ) → s ≡ t → s -ℤ t ≡ pos 0
-    no_gap s t h = omega (arith, ints)
 
 -- one coordinate over three divisors
 chain : (x d y e z f : ℤ) → pos 0 <ℤ e → x *ℤ e ≡ y *ℤ d → y *ℤ f ≡ z *ℤ e → x *ℤ f ≡ z *ℤ d

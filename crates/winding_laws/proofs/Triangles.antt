@@ -8,7 +8,7 @@ use Rattle.scad_base.proofs.Products.{negative_product}
 use Rattle.scad_geom.specs.Point.{Point}
 use Rattle.scad_geom.specs.Winding.{is_beyond}
 use Rattle.scad_geom.proofs.Ring.{ring, num, ◌⊕◌, ◌⊖◌, ◌⊗◌, v0, v1, v2, v3, v4, v5}
-use Rattle.scad_geom.proofs.Signs.{at_most_mul, at_least_left}
+use Rattle.scad_geom.proofs.Signs.{at_most_mul, at_least_left, positive_as}
 use Rattle.winding_laws.proofs.Views.{cross, cross_turned, swing_by, swing}
 
 -- the origin lies in the triangle from a to b to c, or on its border: it lies to the left of each side or on it
@@ -210,9 +210,6 @@ turned_sum x y z = omega (arith, ints)
 
 abbrev Sum : Bool → Bool → Point → Point → Point → ℤ
 Sum above right a b c = swing above right a b +ℤ (swing above right b c +ℤ swing above right c a)
-
-positive_as : (s t : ℤ) → s ≡ t → pos 0 <ℤ s → pos 0 <ℤ t
-positive_as s t e h = omega (arith, ints)
 
 negative_as : (s t : ℤ) → s ≡ t → s <ℤ pos 0 → t <ℤ pos 0
 negative_as s t e h = omega (arith, ints)

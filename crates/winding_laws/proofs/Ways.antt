@@ -6,11 +6,11 @@ use Rattle.std.proofs.lemmas.Int.{ints, by_lt_z}
 use Rattle.scad_base.proofs.Products.{positive_product}
 use Rattle.scad_geom.specs.Point.{Point}
 use Rattle.scad_geom.proofs.Ring.{ring, num, ◌⊕◌, ◌⊖◌, ◌⊗◌, v0, v1, v2, v3, v4, v5, v6, v7}
-use Rattle.scad_geom.proofs.Signs.{at_least_mul}
+use Rattle.scad_geom.proofs.Signs.{at_least_mul, sum_at_least, square_at_least}
 use Rattle.winding_laws.specs.Region.{HalfPlane, Holds, HoldsOrigin}
 use Rattle.winding_laws.specs.Nearness.{seen_from, IsNear}
 use Rattle.winding_laws.proofs.Regions.{scaled, added, holds_scaled, holds_added, holds_left, holds_as}
-use Rattle.winding_laws.proofs.Weights.{sum_at_least, weak}
+use Rattle.scad_base.proofs.Integers.{at_most_of_less, gap_of_at_most}
 
 -- the cross product of p and d: 0 where p lies on the line from the origin through d
 abbrev off : Point → Point → ℤ
@@ -96,13 +96,6 @@ way_far : (d p : Point) → Holds (way d) p → (along d p *ℤ d.d) ≤ℤ (len
 way_far d p h = at_most_from _ _ _ _ (far_is p.x p.y d.x d.y d.d) refl h.1.1.1.0
 
 -- ---- its two ends
-square_at_least : (z : ℤ) → pos 0 ≤ℤ (z *ℤ z)
-square_at_least z = by_lt_z z (pos 0)
-    (λ q. let turned : (pos 0 -ℤ z) *ℤ (pos 0 -ℤ z) ≡ z *ℤ z = ring (z ∷ []) ((num (pos 0) ⊖ v0) ⊗ (num (pos 0) ⊖ v0)) (v0 ⊗ v0) refl in
-    let above : pos 0 ≤ℤ (pos 0 -ℤ z) = omega (arith, ints) in
-    subst (λ (y : ℤ). pos 0 ≤ℤ y) turned (at_least_mul (pos 0 -ℤ z) (pos 0 -ℤ z) above above))
-    (λ q. at_least_mul z z q q)
-
 length_at_least : (d : Point) → pos 0 ≤ℤ length d
 length_at_least d = sum_at_least (d.x *ℤ d.x) (d.y *ℤ d.y) (square_at_least d.x) (square_at_least d.y)
 
@@ -163,9 +156,6 @@ module _ (region : List HalfPlane) (c d o : Point) (ox : o.x ≡ pos 0) (oy : o.
   weights : (n m g e k f : ℤ) → (f *ℤ k) *ℤ (n *ℤ m -ℤ g *ℤ e) +ℤ (e *ℤ k) *ℤ (g *ℤ f) ≡ (m *ℤ k) *ℤ (f *ℤ n)
   weights n m g e k f = ring (n ∷ m ∷ g ∷ e ∷ k ∷ f ∷ []) ((v5 ⊗ v4) ⊗ (v0 ⊗ v1 ⊖ v2 ⊗ v3) ⊕ (v3 ⊗ v4) ⊗ (v2 ⊗ v5)) ((v1 ⊗ v4) ⊗ (v5 ⊗ v0)) refl
 
-  gap : (s t : ℤ) → s ≤ℤ t → pos 0 ≤ℤ (t -ℤ s)
-  gap s t h = omega (arith, ints)
-
   pub way_near : (p : Point) → Holds (way d) p → IsNear region c p
   way_near p h =
       let g : ℤ = along d p in
@@ -177,8 +167,8 @@ module _ (region : List HalfPlane) (c d o : Point) (ox : o.x ≡ pos 0) (oy : o.
       (holds_as region (added first second) (scaled (seen_from c p) (o.d *ℤ n))
       (one_axis n p.d g d.d c.d o.x c.x p.x d.x o.d ox (place_x d p (way_off d p h))) (one_axis n p.d g d.d c.d o.y c.y p.y d.y o.d oy (place_y d p (way_off d p h)))
       (weights n p.d g d.d c.d o.d)
-      (holds_added region first second (holds_scaled region (seen_from c o) u (gap (g *ℤ d.d) (n *ℤ p.d) (way_far d p h)) no)
-      (holds_scaled region (seen_from c d) (g *ℤ o.d) (at_least_mul g o.d (way_along d p h) (weak o.d od)) nd)))
+      (holds_added region first second (holds_scaled region (seen_from c o) u (gap_of_at_most (g *ℤ d.d) (n *ℤ p.d) (way_far d p h)) no)
+      (holds_scaled region (seen_from c d) (g *ℤ o.d) (at_least_mul g o.d (way_along d p h) (at_most_of_less (pos 0) o.d od)) nd)))
 
 -- ---- a way has a length or none
 positive_square : (z : ℤ) → (z ≡ pos 0 → ⊥) → pos 0 <ℤ (z *ℤ z)

@@ -6,13 +6,12 @@ use Rattle.std.specs.Vec.Iter.{into_iter_items}
 use Rattle.scad_ast.specs.Scope.{items}
 use Rattle.scad_ast.specs.View.{arguments}
 use Rattle.scad_value.specs.Datum.{Datum}
-use Rattle.scad_value.specs.View.{datum_of}
+use Rattle.scad_value.specs.View.{datum_of, data_of}
 use Rattle.scad_expr.specs.Answers.{Does}
 use Rattle.scad_expr.specs.State.{State, Outcome, gives}
 use Rattle.scad_expr.specs.Machine.{Held, held, env_in, along_in, state_of}
 use Rattle.scad_expr.specs.Portions.{numbers_left}
-use Rattle.scad_expr.specs.View.{data_of}
-use Rattle.scad_expr.proofs.Lists.{data-drop, data-drop_all}
+use Rattle.scad_value.proofs.Lists.{data-drop, data-drop_all}
 use Rattle.scad_expr.proofs.Loops.{nothing-left}
 use Rattle.scad_expr.proofs.RunsLeft.{items-range}
 use Rattle.scad_tree.specs.declared.node.Node.{Node}

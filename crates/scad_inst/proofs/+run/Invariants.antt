@@ -7,7 +7,7 @@ use Rattle.scad_value.specs.Datum.{range}
 use Rattle.scad_expr.specs.Machine.{held, env_in, along_in, state_of}
 use Rattle.scad_expr.specs.Portions.{numbers_left}
 use Rattle.scad_expr.specs.Runs.{items as run_over}
-use Rattle.scad_expr.specs.View.{data_of, data_in}
+use Rattle.scad_value.specs.View.{data_of, data_in}
 use Rattle.scad_inst.specs.Frames.{below_of}
 use Rattle.scad_inst.specs.Meaning.{members_from, for_variables, turns, children_by}
 use Rattle.scad_inst.specs.View.{trees_in}

@@ -6,7 +6,7 @@ use Rattle.scad_ast.specs.View.{arguments}
 use Rattle.scad_scope.specs.Stored.{env_at, envs}
 use Rattle.scad_scope.specs.View.{children_stored}
 use Rattle.scad_expr.specs.Machine.{held, along_in, state_of}
-use Rattle.scad_expr.specs.View.{data_in}
+use Rattle.scad_value.specs.View.{data_in}
 use Rattle.scad_expr.proofs.CallFrames.{bound-same, bind-opened, bind-gives}
 use Rattle.scad_expr.proofs.Loops.{same-state}
 use Rattle.scad_expr.proofs.call.bind.Goals as goal

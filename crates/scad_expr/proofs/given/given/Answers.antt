@@ -2,7 +2,7 @@ use Rattle.std.proofs.Common.{map, drop, ap, sym, ◌∙◌, arith}
 use Rattle.std.specs.Vec.Iter.{into_iter_items}
 use Rattle.scad_ast.specs.View.{arguments}
 use Rattle.scad_expr.specs.Given.{parameter_names, shown}
-use Rattle.scad_expr.specs.View.{data_of}
+use Rattle.scad_value.specs.View.{data_of}
 use Rattle.scad_expr.proofs.Giving.{given-end}
 use Rattle.scad_expr.proofs.Loops.{nothing-left}
 use Rattle.scad_expr.proofs.given.given.Goals as goal

@@ -3,7 +3,7 @@ use Rattle.std.specs.Vec.Iter.{into_iter_items}
 use Rattle.scad_ast.specs.View.{arguments}
 use Rattle.scad_expr.specs.Arguments.{given_from, given}
 use Rattle.scad_expr.specs.Given.{parameter_names, shown}
-use Rattle.scad_expr.specs.View.{data_of, data_in}
+use Rattle.scad_value.specs.View.{data_of, data_in}
 use Rattle.scad_expr.proofs.given.given.Given as goal
 
 abbrev pub invariant-values : goal.invariant-values

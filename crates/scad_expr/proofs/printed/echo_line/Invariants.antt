@@ -1,7 +1,7 @@
 use Rattle.std.proofs.Common.{◌≡◌, ◌++◌, drop, eqb}
 use Rattle.scad_ast.specs.View.{arguments}
 use Rattle.scad_expr.specs.Printed.{joined, echo_line}
-use Rattle.scad_expr.specs.View.{data_of}
+use Rattle.scad_value.specs.View.{data_of}
 use Rattle.scad_expr.proofs.printed.echo_line.Given as goal
 
 abbrev pub invariant-arguments : goal.invariant-arguments

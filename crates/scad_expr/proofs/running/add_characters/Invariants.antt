@@ -1,6 +1,6 @@
 use Rattle.std.proofs.Common.{◌≡◌, ◌++◌, [], ◌∷◌, map, drop}
 use Rattle.scad_value.specs.Datum.{string}
-use Rattle.scad_expr.specs.View.{data_in}
+use Rattle.scad_value.specs.View.{data_in}
 use Rattle.scad_expr.proofs.running.add_characters.Given as goal
 
 abbrev pub invariant-characters : goal.invariant-characters

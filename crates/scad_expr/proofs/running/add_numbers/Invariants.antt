@@ -1,6 +1,6 @@
 use Rattle.std.proofs.Common.{◌≡◌, ◌++◌, Some, length}
 use Rattle.scad_expr.specs.Portions.{numbers_left}
-use Rattle.scad_expr.specs.View.{data_in}
+use Rattle.scad_value.specs.View.{data_in}
 use Rattle.scad_expr.proofs.running.add_numbers.Given as goal
 
 abbrev pub invariant-numbers : goal.invariant-numbers

@@ -1,6 +1,6 @@
 use Rattle.std.proofs.Common.{◌≡◌, ◌++◌}
 use Rattle.std.specs.Vec.Iter.{into_iter_items}
-use Rattle.scad_expr.specs.View.{data_of, data_in}
+use Rattle.scad_value.specs.View.{data_of, data_in}
 use Rattle.scad_expr.proofs.running.add_values.Given as goal
 
 abbrev pub invariant-values : goal.invariant-values

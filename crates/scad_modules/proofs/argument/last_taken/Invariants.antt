@@ -1,7 +1,8 @@
 use Rattle.std.proofs.Common.{◌≡◌, ◌≤◌, drop, None}
 use Rattle.scad_ast.specs.View.{arguments}
 use Rattle.scad_modules.specs.Arguments.{taken_from}
-use Rattle.scad_modules.specs.View.{data_of, datum_in}
+use Rattle.scad_modules.specs.View.{datum_in}
+use Rattle.scad_value.specs.View.{data_of}
 use Rattle.scad_modules.proofs.argument.last_taken.Given as goal
 
 abbrev pub invariant-arguments : goal.invariant-arguments

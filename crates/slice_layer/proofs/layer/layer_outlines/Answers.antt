@@ -3,8 +3,9 @@ use Rattle.std.proofs.lemmas.Result.{IfOk-weaker}
 use Rattle.scad_geom.specs.Limits.{coordinate_limit}
 use Rattle.scad_geom.specs.Within.{IsEdgeWithin}
 use Rattle.scad_tree.specs.View.{solid_of}
+use Rattle.scad_tree.proofs.Numbering.{numbering_holds}
 use Rattle.slice_bool.specs.Outlines.{AreOutlinesOf}
-use Rattle.slice_layer.specs.Leaves.{AreSolids}
+use Rattle.slice_layer.specs.Outlines.{AreLayerOutlines}
 use Rattle.slice_layer.specs.Membership.{HoldCentres}
 use Rattle.slice_layer.specs.Border.{AreNearSectionBorder}
 use Rattle.slice_layer.proofs.Surfaces.{solids_closed, section_within}
@@ -15,17 +16,17 @@ use Rattle.slice_layer.proofs.layer.layer_outlines.Goals as goal
 pub outlines-requires-clause-within : goal.outlines-requires-clause-within
 outlines-requires-clause-within c =
     subst (All (λ e. IsEdgeWithin coordinate_limit e.edge)) (sym (c.deref.ensures.value ∙ c.in-Ok.ensures.edges))
-    (section_within c.args.layer c.args.h (solid_of c.args.tree.now) (subst (λ n. AreSolids (solid_of n)) c.as_node.ensures.same c.are_solids.ensures))
+    (section_within c.args.layer c.args.h (solid_of c.args.tree.now) c.are_solids.ensures)
 
 pub returns-clause-centres : goal.returns-clause-centres
 returns-clause-centres c =
     let layer = c.args.layer in
     let h = c.args.h in
     let solid = solid_of c.args.tree.now in
-    let solids = subst (λ n. AreSolids (solid_of n)) c.as_node.ensures.same c.are_solids.ensures in
+    let solids = c.are_solids.ensures in
     IfOk-weaker c.outlines.result (λ v. AreOutlinesOf c.deref.result.now c.in-Ok-shape.shape v.items) (λ v. HoldCentres layer h solid v.items)
     (λ v made. outlines_hold_centres layer h solid v.items (solids_closed solid solids)
-    (record { shape = c.in-Ok-shape.shape; numbered = c.in-Ok-shape.ensures; are_outlines = subst (λ es. AreOutlinesOf es c.in-Ok-shape.shape v.items) (c.deref.ensures.value ∙ c.in-Ok.ensures.edges) made }))
+    (record { shape = c.in-Ok-shape.shape; stands = λ inside. numbering_holds.shapes inside solid c.in-Ok-shape.shape c.in-Ok-shape.ensures; are_outlines = subst (λ es. AreOutlinesOf es c.in-Ok-shape.shape v.items) (c.deref.ensures.value ∙ c.in-Ok.ensures.edges) made }))
     c.outlines.ensures.outlines
 
 pub returns-clause-near : goal.returns-clause-near
@@ -35,5 +36,14 @@ returns-clause-near c =
     let solid = solid_of c.args.tree.now in
     IfOk-weaker c.outlines.result (λ v. AreOutlinesOf c.deref.result.now c.in-Ok-shape.shape v.items) (λ v. AreNearSectionBorder layer h solid v.items)
     (λ v made. outlines_are_near_border layer h solid v.items
-    (record { shape = c.in-Ok-shape.shape; numbered = c.in-Ok-shape.ensures; are_outlines = subst (λ es. AreOutlinesOf es c.in-Ok-shape.shape v.items) (c.deref.ensures.value ∙ c.in-Ok.ensures.edges) made }))
+    (record { shape = c.in-Ok-shape.shape; stands = λ inside. numbering_holds.shapes inside solid c.in-Ok-shape.shape c.in-Ok-shape.ensures; are_outlines = subst (λ es. AreOutlinesOf es c.in-Ok-shape.shape v.items) (c.deref.ensures.value ∙ c.in-Ok.ensures.edges) made }))
+    c.outlines.ensures.outlines
+
+pub returns-clause-outlines : goal.returns-clause-outlines
+returns-clause-outlines c =
+    let layer = c.args.layer in
+    let h = c.args.h in
+    let solid = solid_of c.args.tree.now in
+    IfOk-weaker c.outlines.result (λ v. AreOutlinesOf c.deref.result.now c.in-Ok-shape.shape v.items) (λ v. AreLayerOutlines layer h solid v.items)
+    (λ v made. record { shape = c.in-Ok-shape.shape; stands = λ inside. numbering_holds.shapes inside solid c.in-Ok-shape.shape c.in-Ok-shape.ensures; are_outlines = subst (λ es. AreOutlinesOf es c.in-Ok-shape.shape v.items) (c.deref.ensures.value ∙ c.in-Ok.ensures.edges) made })
     c.outlines.ensures.outlines
