@@ -102,6 +102,7 @@ module _ (below : Below) (w : Where) (env along : Env) (scope : Items) where
     where
       further : (t : ℤ) → n +ℤ (step +ℤ t) ≡ (n +ℤ step) +ℤ t
       further t = omega (arith, ints)
+
       here : n +ℤ pos 0 ≡ n
       here = omega (arith, ints)
 

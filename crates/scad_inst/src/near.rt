@@ -46,7 +46,11 @@ fn last_up(step: Num, end: Num, high: Num) -> Num
     requires { pos 0 <ℤ step }
     ensures { (scope : Items) → IsBehind scope high → IsEnough scope step end result }
 {
-    if high.millionths() < end.millionths() { high } else { end }
+    if high.millionths() < end.millionths() {
+        high
+    } else {
+        end
+    }
 }
 
 /// The end of steps downwards, at least -1.
