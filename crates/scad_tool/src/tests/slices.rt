@@ -45,13 +45,7 @@ fn begun(alloc: Global, told: u32, count: u32, layers: &str) -> Result<Vec<u8>, 
 
 fn lines_of(layers: &str, layer: u32) -> &str {
     match layers.split_once('|') {
-        Some((lowest, others)) => {
-            if layer == 1 {
-                lowest
-            } else {
-                others
-            }
-        }
+        Some((lowest, others)) => { if layer == 1 { lowest } else { others } }
         None => layers,
     }
 }
