@@ -96,6 +96,6 @@ one_more c line sides i d steps s1 s2 a b h all t p n q more k =
     let k' : AreSteps c line (drop (suc i) sides) more = rw add-one at k in
     let rest : AreSteps c line (drop i sides) (a ++ (b ++ more)) = subst (λ (es : List Edge). AreSteps c line es (a ++ (b ++ more))) (sym (drop-cons sides i d h)) (more_steps c line (get_or sides i d) (drop (suc i) sides) a b more t n k') in
     let same : s2 ++ more ≡ steps ++ (a ++ (b ++ more)) =
-        ap (λ (xs : List Step). xs ++ more) (q ∙ ap (λ (xs : List Step). xs ++ b) p)
-        ∙ append_assoc (steps ++ a) b more ∙ append_assoc steps a (b ++ more) in
+    ap (λ (xs : List Step). xs ++ more) (q ∙ ap (λ (xs : List Step). xs ++ b) p)
+    ∙ append_assoc (steps ++ a) b more ∙ append_assoc steps a (b ++ more) in
     subst (λ (xs : List Step). AreSteps c line sides xs) (sym same) (all (a ++ (b ++ more)) rest)

@@ -105,16 +105,16 @@ no_gap c a b =
 gaps : (c ax ay bx by : ℤ) → ax ≤ℤ bx → ay ≤ℤ by → PassesInside c ax ay bx by → Gaps c ax ay bx by
 gaps c ax ay bx by rx ry p = by_order (order (span ax ay bx by) (pos 0))
     (λ o.
-        let x : ax ≡ bx = omega (arith, ints) in
-        let y : ay ≡ by = omega (arith, ints) in
-        subst (λ (b : ℤ). Gaps c ax ay b by) x (subst (λ (b : ℤ). Gaps c ax ay ax b) y (no_gap c ax ay)))
+    let x : ax ≡ bx = omega (arith, ints) in
+    let y : ay ≡ by = omega (arith, ints) in
+    subst (λ (b : ℤ). Gaps c ax ay b by) x (subst (λ (b : ℤ). Gaps c ax ay ax b) y (no_gap c ax ay)))
     (λ o.
-        let m = p.most o in
-        let l = p.least o in
-        record {
-          most = more_than (c *ℤ span ax ay bx by -ℤ cross ax ay bx by) (span ax ay bx by) (omega (arith, ints)) (omega (arith, ints));
-          least = more_than (c *ℤ span ax ay bx by +ℤ cross ax ay bx by) (span ax ay bx by) (omega (arith, ints)) (omega (arith, ints));
-        })
+    let m = p.most o in
+    let l = p.least o in
+    record {
+      most = more_than (c *ℤ span ax ay bx by -ℤ cross ax ay bx by) (span ax ay bx by) (omega (arith, ints)) (omega (arith, ints));
+      least = more_than (c *ℤ span ax ay bx by +ℤ cross ax ay bx by) (span ax ay bx by) (omega (arith, ints)) (omega (arith, ints));
+    })
 
 -- a mean over K times the coordinates
 mean_scaled : (k s t a b : ℤ) → s *ℤ (k *ℤ a) +ℤ t *ℤ (k *ℤ b) ≡ (s *ℤ a +ℤ t *ℤ b) *ℤ k
@@ -207,7 +207,7 @@ passes_inside c ax ay bx by rx ry f =
     let k : ℤ = f.s +ℤ f.t in
     let h : pos 0 <ℤ k = f.some in
     let t = passes (scaled_width k c) (k *ℤ ax) (k *ℤ ay) (k *ℤ bx) (k *ℤ by) (up k ax bx h rx) (up k ay by h ry)
-        (record { s = f.s; t = f.t; from = f.from; to = f.to; some = f.some; x = lies_of_inside c f.s f.t ax bx f.some f.x; y = lies_of_inside c f.s f.t ay by f.some f.y }) in
+    (record { s = f.s; t = f.t; from = f.from; to = f.to; some = f.some; x = lies_of_inside c f.s f.t ax bx f.some f.x; y = lies_of_inside c f.s f.t ay by f.some f.y }) in
     let e = line_scaled k c ax ay bx by in
     let d = line_scaled_down k c ax ay bx by in
     let tm = t.most in

@@ -33,7 +33,6 @@ ceiling_is n d q h e =
     let s = negated q d in
     record { least = omega (arith, ints, s); most = omega (arith, ints, s) }
 
-
 split : (q d : ℤ) → q *ℤ (d -ℤ pos 1) ≡ q *ℤ d -ℤ q
 split q d = ring (q ∷ d ∷ []) (v0 ⊗ (v1 ⊖ num (pos 1))) (v0 ⊗ v1 ⊖ v0) refl
 

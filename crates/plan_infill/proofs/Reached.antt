@@ -170,12 +170,12 @@ record LineTests (c ax ay bx by : ℤ) : Type 0 where
 
 flat_tests : (c ax ay bx by : ℤ) → ay ≡ by → ay <ℤ c → (pos 0 -ℤ c) <ℤ ay → pos 0 <ℤ (bx -ℤ ax) → LineTests c ax ay bx by
 flat_tests c ax ay bx by e h k o = subst (LineTests c ax ay bx) e (
-  let m = positive_product (c -ℤ ay) (bx -ℤ ax) (omega (arith, ints, h)) o in
-  let n = positive_product (c +ℤ ay) (bx -ℤ ax) (omega (arith, ints, k)) o in
-  let p = under c ax ay bx in
-  let q = over c ax ay bx in
-  record { most = omega (arith, ints, m, p); least = omega (arith, ints, n, q) }
-)
+    let m = positive_product (c -ℤ ay) (bx -ℤ ax) (omega (arith, ints, h)) o in
+    let n = positive_product (c +ℤ ay) (bx -ℤ ax) (omega (arith, ints, k)) o in
+    let p = under c ax ay bx in
+    let q = over c ax ay bx in
+    record { most = omega (arith, ints, m, p); least = omega (arith, ints, n, q) }
+    )
   where
     under : (c ax ay bx : ℤ) → (c -ℤ ay) *ℤ (bx -ℤ ax) ≡ c *ℤ ((bx -ℤ ax) +ℤ (ay -ℤ ay)) -ℤ (bx *ℤ ay -ℤ ax *ℤ ay)
     under c ax ay bx = ring (c ∷ ax ∷ ay ∷ bx ∷ []) ((v0 ⊖ v2) ⊗ (v3 ⊖ v1)) (v0 ⊗ ((v3 ⊖ v1) ⊕ (v2 ⊖ v2)) ⊖ (v3 ⊗ v2 ⊖ v1 ⊗ v2)) refl
@@ -190,17 +190,17 @@ line_tests : (c : ℕ) (e : Edge) (x y ax ay bx by : ℤ) → ay ≡ (low e).y -
     → ay <ℤ pos c → (pos 0 -ℤ pos c) <ℤ by → IsInReach c y e x → pos 0 <ℤ span ax ay bx by → LineTests (pos c) ax ay bx by
 line_tests c e x y ax ay bx by ea eb k r o below over i s = by_order (order (rise e) (pos 0))
     (λ f.
-        let g = rise_at_least e in
-        let t = rise_is e in
-        let same : ay ≡ by = omega (arith, ints, ea, eb, f, g, t) in
-        flat_tests (pos c) ax ay bx by same below (omega (arith, ints, over, same)) (omega (arith, ints, s, same)))
+    let g = rise_at_least e in
+    let t = rise_is e in
+    let same : ay ≡ by = omega (arith, ints, ea, eb, f, g, t) in
+    flat_tests (pos c) ax ay bx by same below (omega (arith, ints, over, same)) (omega (arith, ints, s, same)))
     (λ f.
-        let l = i.line f in
-        let u = l.0 in
-        let v = l.1 in
-        by_order k
-        (λ q. record { most = omega (arith, ints, u, v, q, r); least = omega (arith, ints, u, v, q, r) })
-        (λ q. record { most = omega (arith, ints, u, v, q, r); least = omega (arith, ints, u, v, q, r) }))
+    let l = i.line f in
+    let u = l.0 in
+    let v = l.1 in
+    by_order k
+    (λ q. record { most = omega (arith, ints, u, v, q, r); least = omega (arith, ints, u, v, q, r) })
+    (λ q. record { most = omega (arith, ints, u, v, q, r); least = omega (arith, ints, u, v, q, r) }))
 
 -- what being beside says
 record Beside (c : ℕ) (y : ℤ) (e : Edge) : Type 0 where
@@ -252,38 +252,38 @@ found_of_reach c x y e h i =
     let t = rise_is e in
     by_order (order (low e).x (high e).x)
     (λ o.
-        let s = reach_right c e (span ((low e).x -ℤ x) ((low e).y -ℤ y) ((high e).x -ℤ x) ((high e).y -ℤ y)) o (omega (arith, ints, t)) in
-        let tests = line_tests c e x y ((low e).x -ℤ x) ((low e).y -ℤ y) ((high e).x -ℤ x) ((high e).y -ℤ y) refl refl (inl (cross_is x y e)) s (omega (arith, ints, o)) b.below b.over i in
-        let m : int_min (low e).x (high e).x ≡ (low e).x = min_first (low e).x (high e).x o in
-        let n : int_max (low e).x (high e).x ≡ (high e).x = max_last (low e).x (high e).x o in
-        let l' : ((low e).x -ℤ pos c) <ℤ x = subst (λ (z : ℤ). (z -ℤ pos c) <ℤ x) m l in
-        let r' : x <ℤ ((high e).x +ℤ pos c) = subst (λ (z : ℤ). x <ℤ (z +ℤ pos c)) n r in
-        found_inside (pos c) ((low e).x -ℤ x) ((low e).y -ℤ y) ((high e).x -ℤ x) ((high e).y -ℤ y) b.some (omega (arith, ints, o)) (omega (arith, ints, g, t)) (record {
-          left = omega (arith, ints, l');
-          right = omega (arith, ints, r');
-          below = b.below;
-          over = b.over;
-          most = λ q. (tests q).most;
-          least = λ q. (tests q).least;
-        }))
+    let s = reach_right c e (span ((low e).x -ℤ x) ((low e).y -ℤ y) ((high e).x -ℤ x) ((high e).y -ℤ y)) o (omega (arith, ints, t)) in
+    let tests = line_tests c e x y ((low e).x -ℤ x) ((low e).y -ℤ y) ((high e).x -ℤ x) ((high e).y -ℤ y) refl refl (inl (cross_is x y e)) s (omega (arith, ints, o)) b.below b.over i in
+    let m : int_min (low e).x (high e).x ≡ (low e).x = min_first (low e).x (high e).x o in
+    let n : int_max (low e).x (high e).x ≡ (high e).x = max_last (low e).x (high e).x o in
+    let l' : ((low e).x -ℤ pos c) <ℤ x = subst (λ (z : ℤ). (z -ℤ pos c) <ℤ x) m l in
+    let r' : x <ℤ ((high e).x +ℤ pos c) = subst (λ (z : ℤ). x <ℤ (z +ℤ pos c)) n r in
+    found_inside (pos c) ((low e).x -ℤ x) ((low e).y -ℤ y) ((high e).x -ℤ x) ((high e).y -ℤ y) b.some (omega (arith, ints, o)) (omega (arith, ints, g, t)) (record {
+      left = omega (arith, ints, l');
+      right = omega (arith, ints, r');
+      below = b.below;
+      over = b.over;
+      most = λ q. (tests q).most;
+      least = λ q. (tests q).least;
+    }))
     (λ o.
-        let s = reach_left c e (span (pos 0 -ℤ ((low e).x -ℤ x)) ((low e).y -ℤ y) (pos 0 -ℤ ((high e).x -ℤ x)) ((high e).y -ℤ y)) o (omega (arith, ints, t)) in
-        let k = mirrored_cross ((low e).x -ℤ x) ((low e).y -ℤ y) ((high e).x -ℤ x) ((high e).y -ℤ y) in
-        let k' = cross_is x y e in
-        let tests = line_tests c e x y (pos 0 -ℤ ((low e).x -ℤ x)) ((low e).y -ℤ y) (pos 0 -ℤ ((high e).x -ℤ x)) ((high e).y -ℤ y) refl refl (inr (omega (arith, ints, k, k'))) s (omega (arith, ints, o)) b.below b.over i in
-        let m : int_min (low e).x (high e).x ≡ (high e).x = min_last (low e).x (high e).x o in
-        let n : int_max (low e).x (high e).x ≡ (low e).x = max_first (low e).x (high e).x o in
-        let l' : ((high e).x -ℤ pos c) <ℤ x = subst (λ (z : ℤ). (z -ℤ pos c) <ℤ x) m l in
-        let r' : x <ℤ ((low e).x +ℤ pos c) = subst (λ (z : ℤ). x <ℤ (z +ℤ pos c)) n r in
-        found_mirrored (pos c) ((low e).x -ℤ x) ((low e).y -ℤ y) ((high e).x -ℤ x) ((high e).y -ℤ y) (
-          found_inside (pos c) (pos 0 -ℤ ((low e).x -ℤ x)) ((low e).y -ℤ y) (pos 0 -ℤ ((high e).x -ℤ x)) ((high e).y -ℤ y) b.some (omega (arith, ints, o)) (omega (arith, ints, g, t)) (record {
-            left = omega (arith, ints, r');
-            right = omega (arith, ints, l');
-            below = b.below;
-            over = b.over;
-            most = λ q. (tests q).most;
-            least = λ q. (tests q).least;
-          })))
+    let s = reach_left c e (span (pos 0 -ℤ ((low e).x -ℤ x)) ((low e).y -ℤ y) (pos 0 -ℤ ((high e).x -ℤ x)) ((high e).y -ℤ y)) o (omega (arith, ints, t)) in
+    let k = mirrored_cross ((low e).x -ℤ x) ((low e).y -ℤ y) ((high e).x -ℤ x) ((high e).y -ℤ y) in
+    let k' = cross_is x y e in
+    let tests = line_tests c e x y (pos 0 -ℤ ((low e).x -ℤ x)) ((low e).y -ℤ y) (pos 0 -ℤ ((high e).x -ℤ x)) ((high e).y -ℤ y) refl refl (inr (omega (arith, ints, k, k'))) s (omega (arith, ints, o)) b.below b.over i in
+    let m : int_min (low e).x (high e).x ≡ (high e).x = min_last (low e).x (high e).x o in
+    let n : int_max (low e).x (high e).x ≡ (low e).x = max_first (low e).x (high e).x o in
+    let l' : ((high e).x -ℤ pos c) <ℤ x = subst (λ (z : ℤ). (z -ℤ pos c) <ℤ x) m l in
+    let r' : x <ℤ ((low e).x +ℤ pos c) = subst (λ (z : ℤ). x <ℤ (z +ℤ pos c)) n r in
+    found_mirrored (pos c) ((low e).x -ℤ x) ((low e).y -ℤ y) ((high e).x -ℤ x) ((high e).y -ℤ y) (
+    found_inside (pos c) (pos 0 -ℤ ((low e).x -ℤ x)) ((low e).y -ℤ y) (pos 0 -ℤ ((high e).x -ℤ x)) ((high e).y -ℤ y) b.some (omega (arith, ints, o)) (omega (arith, ints, g, t)) (record {
+      left = omega (arith, ints, r');
+      right = omega (arith, ints, l');
+      below = b.below;
+      over = b.over;
+      most = λ q. (tests q).most;
+      least = λ q. (tests q).least;
+    })))
 
 -- a width within which something lies is above 0
 some_width : (c ax ay bx by : ℤ) → FoundInside c ax ay bx by → pos 0 <ℤ c
@@ -303,47 +303,47 @@ told_of_found c x y e f =
     let t = rise_is e in
     by_order (order (low e).x (high e).x)
     (λ o.
-        let s = reach_right c e (span ((low e).x -ℤ x) ((low e).y -ℤ y) ((high e).x -ℤ x) ((high e).y -ℤ y)) o (omega (arith, ints, t)) in
-        let p = passes_inside (pos c) ((low e).x -ℤ x) ((low e).y -ℤ y) ((high e).x -ℤ x) ((high e).y -ℤ y) (omega (arith, ints, o)) (omega (arith, ints, g, t)) f in
-        let k = cross_is x y e in
-        let m : int_min (low e).x (high e).x ≡ (low e).x = min_first (low e).x (high e).x o in
-        let n : int_max (low e).x (high e).x ≡ (high e).x = max_last (low e).x (high e).x o in
-        let l = p.left in
-        let r = p.right in
-        record {
-          beside = is_so c y e (record { some = some; below = p.below; over = p.over });
-          reach = record {
-            left = subst (λ (z : ℤ). (z -ℤ pos c) <ℤ x) (sym m) (omega (arith, ints, l));
-            right = subst (λ (z : ℤ). x <ℤ (z +ℤ pos c)) (sym n) (omega (arith, ints, r));
-            line = λ u.
-                let w : pos 0 <ℤ span ((low e).x -ℤ x) ((low e).y -ℤ y) ((high e).x -ℤ x) ((high e).y -ℤ y) = omega (arith, ints, u, o, t) in
-                let a = p.most w in
-                let b = p.least w in
-                (omega (arith, ints, b, k, s), omega (arith, ints, a, k, s));
-          };
-        })
+    let s = reach_right c e (span ((low e).x -ℤ x) ((low e).y -ℤ y) ((high e).x -ℤ x) ((high e).y -ℤ y)) o (omega (arith, ints, t)) in
+    let p = passes_inside (pos c) ((low e).x -ℤ x) ((low e).y -ℤ y) ((high e).x -ℤ x) ((high e).y -ℤ y) (omega (arith, ints, o)) (omega (arith, ints, g, t)) f in
+    let k = cross_is x y e in
+    let m : int_min (low e).x (high e).x ≡ (low e).x = min_first (low e).x (high e).x o in
+    let n : int_max (low e).x (high e).x ≡ (high e).x = max_last (low e).x (high e).x o in
+    let l = p.left in
+    let r = p.right in
+    record {
+      beside = is_so c y e (record { some = some; below = p.below; over = p.over });
+      reach = record {
+        left = subst (λ (z : ℤ). (z -ℤ pos c) <ℤ x) (sym m) (omega (arith, ints, l));
+        right = subst (λ (z : ℤ). x <ℤ (z +ℤ pos c)) (sym n) (omega (arith, ints, r));
+        line = λ u.
+            let w : pos 0 <ℤ span ((low e).x -ℤ x) ((low e).y -ℤ y) ((high e).x -ℤ x) ((high e).y -ℤ y) = omega (arith, ints, u, o, t) in
+            let a = p.most w in
+            let b = p.least w in
+            (omega (arith, ints, b, k, s), omega (arith, ints, a, k, s));
+      };
+    })
     (λ o.
-        let s = reach_left c e (span (pos 0 -ℤ ((low e).x -ℤ x)) ((low e).y -ℤ y) (pos 0 -ℤ ((high e).x -ℤ x)) ((high e).y -ℤ y)) o (omega (arith, ints, t)) in
-        let p = passes_inside (pos c) (pos 0 -ℤ ((low e).x -ℤ x)) ((low e).y -ℤ y) (pos 0 -ℤ ((high e).x -ℤ x)) ((high e).y -ℤ y) (omega (arith, ints, o)) (omega (arith, ints, g, t))
-            (mirrored_found (pos c) ((low e).x -ℤ x) ((low e).y -ℤ y) ((high e).x -ℤ x) ((high e).y -ℤ y) f) in
-        let k = mirrored_cross ((low e).x -ℤ x) ((low e).y -ℤ y) ((high e).x -ℤ x) ((high e).y -ℤ y) in
-        let k' = cross_is x y e in
-        let m : int_min (low e).x (high e).x ≡ (high e).x = min_last (low e).x (high e).x o in
-        let n : int_max (low e).x (high e).x ≡ (low e).x = max_first (low e).x (high e).x o in
-        let l = p.left in
-        let r = p.right in
-        record {
-          beside = is_so c y e (record { some = some; below = p.below; over = p.over });
-          reach = record {
-            left = subst (λ (z : ℤ). (z -ℤ pos c) <ℤ x) (sym m) (omega (arith, ints, r));
-            right = subst (λ (z : ℤ). x <ℤ (z +ℤ pos c)) (sym n) (omega (arith, ints, l));
-            line = λ u.
-                let w : pos 0 <ℤ span (pos 0 -ℤ ((low e).x -ℤ x)) ((low e).y -ℤ y) (pos 0 -ℤ ((high e).x -ℤ x)) ((high e).y -ℤ y) = omega (arith, ints, u, o, t) in
-                let a = p.most w in
-                let b = p.least w in
-                (omega (arith, ints, a, k, k', s), omega (arith, ints, b, k, k', s));
-          };
-        })
+    let s = reach_left c e (span (pos 0 -ℤ ((low e).x -ℤ x)) ((low e).y -ℤ y) (pos 0 -ℤ ((high e).x -ℤ x)) ((high e).y -ℤ y)) o (omega (arith, ints, t)) in
+    let p = passes_inside (pos c) (pos 0 -ℤ ((low e).x -ℤ x)) ((low e).y -ℤ y) (pos 0 -ℤ ((high e).x -ℤ x)) ((high e).y -ℤ y) (omega (arith, ints, o)) (omega (arith, ints, g, t))
+    (mirrored_found (pos c) ((low e).x -ℤ x) ((low e).y -ℤ y) ((high e).x -ℤ x) ((high e).y -ℤ y) f) in
+    let k = mirrored_cross ((low e).x -ℤ x) ((low e).y -ℤ y) ((high e).x -ℤ x) ((high e).y -ℤ y) in
+    let k' = cross_is x y e in
+    let m : int_min (low e).x (high e).x ≡ (high e).x = min_last (low e).x (high e).x o in
+    let n : int_max (low e).x (high e).x ≡ (low e).x = max_first (low e).x (high e).x o in
+    let l = p.left in
+    let r = p.right in
+    record {
+      beside = is_so c y e (record { some = some; below = p.below; over = p.over });
+      reach = record {
+        left = subst (λ (z : ℤ). (z -ℤ pos c) <ℤ x) (sym m) (omega (arith, ints, r));
+        right = subst (λ (z : ℤ). x <ℤ (z +ℤ pos c)) (sym n) (omega (arith, ints, l));
+        line = λ u.
+            let w : pos 0 <ℤ span (pos 0 -ℤ ((low e).x -ℤ x)) ((low e).y -ℤ y) (pos 0 -ℤ ((high e).x -ℤ x)) ((high e).y -ℤ y) = omega (arith, ints, u, o, t) in
+            let a = p.most w in
+            let b = p.least w in
+            (omega (arith, ints, a, k, k', s), omega (arith, ints, b, k, k', s));
+      };
+    })
 
 -- ---- the steps
 comes : (c : ℕ) (x y : ℤ) (e : Edge) → is_beside c y e ≡ true → IsInReach c y e x → ComesNearer (pos c) (whole (at x y)) (whole e.a) (whole e.b)

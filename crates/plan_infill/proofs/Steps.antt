@@ -65,7 +65,7 @@ row_turn e y z at a b k true q =
     let d = rise_above e y a b in
     let l = left_at e z y in
     let f : int_lt (pos 0) (left_of e z y (pos 1)) ≡ false = by_order (order (x_at e y (pos 1)) (z *ℤ rise e)) (λ o. sym (omega (arith, ints, l, o)))
-        (λ o. let m = before_quotient (x_at e y (pos 1)) (rise e) at z d k o in absurd (omega (arith, ints, m, q))) in
+    (λ o. let m = before_quotient (x_at e y (pos 1)) (rise e) at z d k o in absurd (omega (arith, ints, m, q))) in
     rw f (omega (arith, ints))
 row_turn e y z at a b k false q =
     let d = rise_above e y a b in
@@ -132,8 +132,8 @@ column_turn e x z part k =
     let u = k.part_of.until in
     by_order (order (low e).y z)
     (λ a. by_order (order (high e).y z)
-        (λ b. turn_above x z e b ∙ sym (rw (no_place_above part z (omega (arith, ints))) refl))
-        (λ b. turn_between x z e a b ∙ ap (λ (t : Bool). if t then heading e else pos 0) (ap (int_lt (pos 0)) (line_at e x z) ∙ sym (k.each z a b))))
+    (λ b. turn_above x z e b ∙ sym (rw (no_place_above part z (omega (arith, ints))) refl))
+    (λ b. turn_between x z e a b ∙ ap (λ (t : Bool). if t then heading e else pos 0) (ap (int_lt (pos 0)) (line_at e x z) ∙ sym (k.each z a b))))
     (λ a. turn_below x z e a ∙ sym (rw (no_place_below part z (omega (arith, ints))) refl))
 
 pub column_turns : (e : Edge) (x : ℤ) (part : Stretch) → IsEdgeWithin coordinate_limit e → IsPositivePart (heights_of e) (run e) (left_of e x (pos 0) (pos 1)) part
@@ -189,10 +189,10 @@ crossing_within limit e y at w a b k =
     let least : (pos 0 -ℤ m *ℤ rise e) ≤ℤ x_at e y (pos 1) = rw (x, r) (omega (arith, ints, s, t, v)) in
     let upper : at ≤ℤ m = by_order (order at m) (λ o. o) (λ o. let z = before_ceiling (x_at e y (pos 1)) (rise e) at m d k o in absurd (omega (arith, ints, z, most))) in
     let lower : (pos 0 -ℤ m) ≤ℤ at = by_order (order (pos 0 -ℤ m) at) (λ o. o) (λ o.
-        let z = at_most_times at (pos 0 -ℤ m -ℤ pos 1) (rise e) d (omega (arith, ints, o)) in
-        let i = less_limit m (rise e) in
-        let j = k.most in
-        absurd (omega (arith, ints, z, least, i, j, d))) in
+    let z = at_most_times at (pos 0 -ℤ m -ℤ pos 1) (rise e) d (omega (arith, ints, o)) in
+    let i = less_limit m (rise e) in
+    let j = k.most in
+    absurd (omega (arith, ints, z, least, i, j, d))) in
     omega (arith, ints, upper, lower)
 
 pub row_level : (limit : ℕ) (e : Edge) (y : ℤ) → IsEdgeWithin limit e → (low e).y ≤ℤ y → y <ℤ (high e).y → unsigned_abs y ≤ limit

@@ -49,8 +49,7 @@ module _ (test : ℤ → Bool) (least : ℕ) where
   deep_open : (place until : ℤ) (since : Option ℤ) → place <ℤ until → IsOneValue test true place until → IsOpen test place since → IsOpen test until (opened true since place)
   deep_open place until None h v o = (h, v, o)
   deep_open place until (Some from) h v o =
-      let a = o.0 in
-      (
+      let a = o.0 in (
         omega (arith, ints, a, h),
         (λ z p q. by_order (order place z) (λ k. v z k q) (λ k. o.1 z p k)),
         o.2,
@@ -64,8 +63,8 @@ module _ (test : ℤ → Bool) (least : ℕ) where
     ended = later place until rs h b.ended;
     all = λ r s e. by_order (order place (r.to +ℤ pos 1))
         (λ o. by_order (order place r.to)
-            (λ k. absurd (differ (s.holds r.to (in_order r s) (omega (arith, ints))) (v r.to k (omega (arith, ints, e)))))
-            (λ k. absurd (differ (s.holds (place -ℤ pos 1) (let i = in_order r s in omega (arith, ints, i, o, k)) (omega (arith, ints, o, k))) n)))
+        (λ k. absurd (differ (s.holds r.to (in_order r s) (omega (arith, ints))) (v r.to k (omega (arith, ints, e)))))
+        (λ k. absurd (differ (s.holds (place -ℤ pos 1) (let i = in_order r s in omega (arith, ints, i, o, k)) (omega (arith, ints, o, k))) n)))
         (λ o. b.all r s o);
   }
 
@@ -85,14 +84,14 @@ module _ (test : ℤ → Bool) (least : ℕ) where
     is_this r s p e =
         let i = in_order r s in
         let to : r.to ≡ place -ℤ pos 1 = by_order (order place r.to)
-            (λ k. absurd (differ (s.holds r.to i (omega (arith, ints))) (v r.to k (omega (arith, ints, e)))))
-            (λ k. omega (arith, ints, p, k)) in
+        (λ k. absurd (differ (s.holds r.to i (omega (arith, ints))) (v r.to k (omega (arith, ints, e)))))
+        (λ k. omega (arith, ints, p, k)) in
         let a = o.0 in
         let start : r.from ≡ from = by_order (order r.from from)
-            (λ k. by_order (order from r.from)
-                (λ m. omega (arith, ints, k, m))
-                (λ m. absurd (differ (s.holds (from -ℤ pos 1) (omega (arith, ints, m)) (omega (arith, ints, to, a))) o.2)))
-            (λ k. absurd (differ (o.1 (r.from -ℤ pos 1) (omega (arith, ints, k)) (omega (arith, ints, i, to))) s.before)) in
+        (λ k. by_order (order from r.from)
+        (λ m. omega (arith, ints, k, m))
+        (λ m. absurd (differ (s.holds (from -ℤ pos 1) (omega (arith, ints, m)) (omega (arith, ints, to, a))) o.2)))
+        (λ k. absurd (differ (o.1 (r.from -ℤ pos 1) (omega (arith, ints, k)) (omega (arith, ints, i, to))) s.before)) in
         λ j. record { from = start j; to = to j }
 
     this_one : pos least ≤ℤ ((place -ℤ pos 1) -ℤ from) → IsStretch test least ended_run

@@ -89,8 +89,8 @@ holds_within ss k e z h =
     let r = recursion_from_All IsStep ss k in
     by_order (order (pos 0 -ℤ pos coordinate_limit) z)
     (λ a. by_order (order (pos coordinate_limit) z)
-        (λ b. absurd (true_false h (no_turns ss z (high_sum z ss b r ∙ e))))
-        (λ b. omega (arith, ints, a, b)))
+    (λ b. absurd (true_false h (no_turns ss z (high_sum z ss b r ∙ e))))
+    (λ b. omega (arith, ints, a, b)))
     (λ a. absurd (true_false h (no_turns ss z (low_sum z ss a r))))
 
 -- ---- the sums so far
@@ -218,8 +218,7 @@ swept_last ss least i d turns near t n since since' runs runs' o w h m p q es er
     gone_on : (until : ℤ) → k.place <ℤ until → (suc i < length ss → until ≤ℤ (get_or ss (suc i) d).at) → AreStretchesBefore (is_deep_at ss) least until runs' × IsOpen (is_deep_at ss) until since'
     gone_on until a b =
         let v : IsOneValue (is_deep_at ss) (not (is_zero t) && is_zero n) k.place until = λ z f g. value_here ss i d t n z o h t_is n_is (omega (arith, ints, here, f)) (λ l. let c = b l in omega (arith, ints, c, g)) in
-        let r = goes_on (is_deep_at ss) least (not (is_zero t) && is_zero n) k.place until since runs a v k.open_there k.before in
-        (
+        let r = goes_on (is_deep_at ss) least (not (is_zero t) && is_zero n) k.place until since runs a v k.open_there k.before in (
           subst (AreStretchesBefore (is_deep_at ss) least until) (sym (er ∙ ap (λ (z : ℤ). runs ++ closed (not (is_zero t) && is_zero n) since z least) (sym here))) r.0,
           subst (IsOpen (is_deep_at ss) until) (sym (es ∙ ap (λ (z : ℤ). opened (not (is_zero t) && is_zero n) since z) (sym here))) r.1,
         )

@@ -8,13 +8,14 @@ mod infill;
 mod line;
 mod near_steps;
 mod quotient;
+#[cfg(test)]
+mod random_outlines;
 mod run;
-
 mod step;
 mod stretch;
 mod sweep;
 mod turn_steps;
 
+pub use infill::runs;
 pub use line::Line;
 pub use run::Run;
-pub use infill::runs;

@@ -51,10 +51,7 @@ fn crossing(e: &Edge, y: i32) -> i128
     ensures value { IsCeiling (x_at e.now y (pos 1)) (rise e.now) result }
     ensures size { unsigned_abs result ≤ coordinate_limit }
 {
-    let at = Level {
-        n: y as i128,
-        d: 1,
-    };
+    let at = Level { n: y as i128, d: 1 };
     ceiling(x_at(e, &at), rise(e))
 }
 

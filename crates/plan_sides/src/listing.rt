@@ -51,21 +51,30 @@ mod tests {
     fn sides_go_round(rt: HostRuntime) -> Result<(), Fail> {
         let alloc = rt.alloc();
         let mut outlines = Vec::new(alloc);
-        outlines.push(Loop::from_vec(Vec::from_slice(
-            alloc,
-            &[at(0, 0), at(5, 0), at(0, 5)],
-        )?))?;
+        outlines.push(Loop::from_vec(Vec::from_slice(alloc, &[at(0, 0), at(5, 0), at(0, 5)])?))?;
         outlines.push(Loop::from_vec(Vec::new(alloc)))?;
-        outlines.push(Loop::from_vec(Vec::from_slice(
-            alloc,
-            &[at(7, 7), at(9, 9)],
-        )?))?;
+        outlines.push(Loop::from_vec(Vec::from_slice(alloc, &[at(7, 7), at(9, 9)])?))?;
         let expected = [
-            Edge { a: at(0, 0), b: at(5, 0) },
-            Edge { a: at(5, 0), b: at(0, 5) },
-            Edge { a: at(0, 5), b: at(0, 0) },
-            Edge { a: at(7, 7), b: at(9, 9) },
-            Edge { a: at(9, 9), b: at(7, 7) },
+            Edge {
+                a: at(0, 0),
+                b: at(5, 0),
+            },
+            Edge {
+                a: at(5, 0),
+                b: at(0, 5),
+            },
+            Edge {
+                a: at(0, 5),
+                b: at(0, 0),
+            },
+            Edge {
+                a: at(7, 7),
+                b: at(9, 9),
+            },
+            Edge {
+                a: at(9, 9),
+                b: at(7, 7),
+            },
         ];
         assert_eq!(rt; sides(alloc, &outlines)?.as_slice(), expected.as_slice());
         crate::laws::sides_are_balanced();

@@ -31,9 +31,9 @@ stretches-requires-clause-behind c = none_behind c.args.c c.args.line c.args.out
 pub returns : goal.returns
 returns c =
     let k : AreSteps c.args.c c.args.line (flat_map sides c.args.outlines.now) c.in_ok-steps.steps.items =
-        subst (λ (es : List Edge). AreSteps c.args.c c.args.line es c.in_ok-steps.steps.items) (c.deref.ensures.value ∙ c.in_ok-sides.ensures) c.in_ok-steps.ensures in
+    subst (λ (es : List Edge). AreSteps c.args.c c.args.line es c.in_ok-steps.steps.items) (c.deref.ensures.value ∙ c.in_ok-sides.ensures) c.in_ok-steps.ensures in
     let p : IsPermutation c.in_ok-steps.steps.items c.deref-2.result.now =
-        subst (λ (ss : List Step). IsPermutation c.in_ok-steps.steps.items ss) (sym c.deref-2.ensures.value) c.in_ok-sort.ensures.permutation in
+    subst (λ (ss : List Step). IsPermutation c.in_ok-steps.steps.items ss) (sym c.deref-2.ensures.value) c.in_ok-sort.ensures.permutation in
     IfOk-weaker c.stretches.result _ _
     (λ v s. all_runs c.args.c c.args.line c.args.outlines.now c.in_ok-steps.steps.items c.deref-2.result.now k p c.args.least v.items s)
     c.stretches.ensures

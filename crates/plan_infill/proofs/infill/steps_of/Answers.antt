@@ -21,5 +21,5 @@ pub returns : goal.returns
 returns c =
     let none = drop_of_length-le c.args.sides.now c.sides-test.false in
     let start : AreSteps c.args.c c.args.line (drop c.sides.side-index c.args.sides.now) [] =
-        subst (λ (es : List Edge). AreSteps c.args.c c.args.line es []) (sym none) (no_steps c.args.c c.args.line) in
+    subst (λ (es : List Edge). AreSteps c.args.c c.args.line es []) (sym none) (no_steps c.args.c c.args.line) in
     subst (AreSteps c.args.c c.args.line c.args.sides.now) (append-nil c.sides.steps.items) (c.sides.invariant [] start)

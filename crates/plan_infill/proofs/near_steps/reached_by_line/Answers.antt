@@ -19,7 +19,7 @@ returns c x =
     let u : IsCeiling (x_at c.args.e.now c.args.y (pos 1) +ℤ reach c.args.c c.args.e.now) (rise c.args.e.now) c.ceiling.result = search (rules, casts) in
     let w = line_reached (x_at c.args.e.now c.args.y (pos 1) -ℤ reach c.args.c c.args.e.now) (x_at c.args.e.now c.args.y (pos 1) +ℤ reach c.args.c c.args.e.now) (rise c.args.e.now) c.floor.result c.ceiling.result x c.requires.rises f u in
     let v : ((c.plus.result ≤ℤ x) × (x <ℤ c.ceiling.result)) ↔ (((x_at c.args.e.now c.args.y (pos 1) -ℤ reach c.args.c c.args.e.now) <ℤ (x *ℤ rise c.args.e.now)) × ((x *ℤ rise c.args.e.now) <ℤ (x_at c.args.e.now c.args.y (pos 1) +ℤ reach c.args.c c.args.e.now)))
-        = subst (λ (z : ℤ). ((z ≤ℤ x) × (x <ℤ c.ceiling.result)) ↔ (((x_at c.args.e.now c.args.y (pos 1) -ℤ reach c.args.c c.args.e.now) <ℤ (x *ℤ rise c.args.e.now)) × ((x *ℤ rise c.args.e.now) <ℤ (x_at c.args.e.now c.args.y (pos 1) +ℤ reach c.args.c c.args.e.now)))) (sym (next c)) w in
+    = subst (λ (z : ℤ). ((z ≤ℤ x) × (x <ℤ c.ceiling.result)) ↔ (((x_at c.args.e.now c.args.y (pos 1) -ℤ reach c.args.c c.args.e.now) <ℤ (x *ℤ rise c.args.e.now)) × ((x *ℤ rise c.args.e.now) <ℤ (x_at c.args.e.now c.args.y (pos 1) +ℤ reach c.args.c c.args.e.now)))) (sym (next c)) w in
     let p_fits : FitsSigned w128 c.plus.result = record { sfits = c.plus.type_inv } in
     let c_fits : FitsSigned w128 c.ceiling.result = record { sfits = c.ceiling.type_inv } in
     simp to_z-of_z v

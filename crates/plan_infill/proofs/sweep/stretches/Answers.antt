@@ -33,8 +33,8 @@ unfolding no_step
 go_on-requires c =
     let k = c.steps.invariant in
     let w : IsOpenWithin coordinate_limit c.steps.since (get_or c.args.steps.now c.steps.i no_step).at =
-        subst (IsOpenWithin coordinate_limit c.steps.since) (k.next no_step c.steps-test.true)
-        (open_within (is_deep_at c.args.steps.now) c.args.least k.place c.steps.since (holds_within c.args.steps.now c.requires.each c.requires.behind) k.open_there) in
+    subst (IsOpenWithin coordinate_limit c.steps.since) (k.next no_step c.steps-test.true)
+    (open_within (is_deep_at c.args.steps.now) c.args.least k.place c.steps.since (holds_within c.args.steps.now c.requires.each c.requires.behind) k.open_there) in
     search (rules, casts)
 
 pub steps-preserved : goal.steps-preserved
@@ -48,13 +48,13 @@ steps-preserved c =
           let es : w.in_ok-since.since ≡ opened (not (is_zero sums.turns) && is_zero sums.near) c.steps.since place = search (rules, casts) in
           let er : w.go_on.new.out.items ≡ c.steps.out.items ++ closed (not (is_zero sums.turns) && is_zero sums.near) c.steps.since place c.args.least = search (rules, casts) in
           let k = swept_last steps c.args.least c.steps.i no_step c.steps.sums.turns c.steps.sums.near sums.turns sums.near c.steps.since w.in_ok-since.since c.steps.out.items w.go_on.new.out.items
-              c.requires.sorted c.requires.behind c.steps-test.true (c.is_last_there.ensures.last w.if-is_last_there.true) c.with_step-sums.ensures.turns c.with_step-sums.ensures.near es er c.steps.invariant in
+          c.requires.sorted c.requires.behind c.steps-test.true (c.is_last_there.ensures.last w.if-is_last_there.true) c.with_step-sums.ensures.turns c.with_step-sums.ensures.near es er c.steps.invariant in
           subst (λ (s : Option ℤ). Swept steps c.args.least (c.steps.i + 1) sums.turns sums.near s c.if-is_last_there.out.items) (sym w.since-is)
           (subst (λ (rs : List Run). Swept steps c.args.least (c.steps.i + 1) sums.turns sums.near w.in_ok-since.since rs) (sym (ap (λ v. v.items) w.out-is)) k)
       | else-is_last_there w ↦
           let sums = c.with_step-sums.result in
           let k = swept_more steps c.args.least c.steps.i no_step c.steps.sums.turns c.steps.sums.near c.with_step-sums.result.turns c.with_step-sums.result.near c.steps.since c.steps.out.items
-              c.requires.sorted c.steps-test.true (c.is_last_there.ensures.more w.if-is_last_there.false) c.with_step-sums.ensures.turns c.with_step-sums.ensures.near c.steps.invariant in
+          c.requires.sorted c.steps-test.true (c.is_last_there.ensures.more w.if-is_last_there.false) c.with_step-sums.ensures.turns c.with_step-sums.ensures.near c.steps.invariant in
           subst (λ (s : Option ℤ). Swept steps c.args.least (c.steps.i + 1) sums.turns sums.near s c.if-is_last_there.out.items) (sym w.since-is)
           (subst (λ (rs : List Run). Swept steps c.args.least (c.steps.i + 1) sums.turns sums.near c.steps.since rs) (sym (ap (λ v. v.items) w.out-is)) k)
     ]

@@ -22,10 +22,10 @@ returns-in_ok-push c =
 
 pub returns-else-low-y : goal.returns-else-low-y
 returns-else-low-y c = elim c.else-low-y.branch [
-      | else-low-y-via-then-low-y+else-y-high w ↦
-          let until : (high c.args.e.now).y ≤ℤ c.args.y = search (rules, casts) in
-          ([], row_above c.args.e.now c.args.y until, sym (append-nil c.args.steps.now.items))
-      | else-low-y-via-else-low-y w ↦
-          let from : c.args.y <ℤ (low c.args.e.now).y = search (rules, casts) in
-          ([], row_below c.args.e.now c.args.y from, sym (append-nil c.args.steps.now.items))
-    ]
+  | else-low-y-via-then-low-y+else-y-high w ↦
+      let until : (high c.args.e.now).y ≤ℤ c.args.y = search (rules, casts) in
+      ([], row_above c.args.e.now c.args.y until, sym (append-nil c.args.steps.now.items))
+  | else-low-y-via-else-low-y w ↦
+      let from : c.args.y <ℤ (low c.args.e.now).y = search (rules, casts) in
+      ([], row_below c.args.e.now c.args.y from, sym (append-nil c.args.steps.now.items))
+]
