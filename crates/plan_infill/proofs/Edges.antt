@@ -1,6 +1,5 @@
 -- The steps of edges one after another.
-use Rattle.std.proofs.Common.{◌≡◌, ◌⊎◌, inl, inr, ℕ, suc, ◌+◌, ◌<◌, length, get_or, drop, append_assoc, add-one, Bool, true, false, List, [], ◌∷◌, ◌++◌, refl, sym, ap, ◌∙◌, subst, arith, ℤ, pos, ◌+ℤ◌, ◌<ℤ◌, All}
-use lib.Signed.{◌≤ℤ◌}
+use Rattle.std.proofs.Common.{◌≡◌, ◌⊎◌, inl, inr, ℕ, suc, ◌+◌, ◌<◌, length, get_or, drop, append_assoc, add-one, Bool, true, false, List, [], ◌∷◌, ◌++◌, refl, sym, ap, ◌∙◌, subst, arith, ℤ, pos, ◌+ℤ◌, ◌<ℤ◌}
 use Rattle.std.specs.Prelude.{int_le, if◌then◌else◌}
 use Rattle.std.specs.List.{AllByRecursion}
 use Rattle.std.proofs.lemmas.Int.{ints}
@@ -9,13 +8,11 @@ use Rattle.std.proofs.Math.Seq.{drop-cons}
 use Rattle.scad_base.proofs.Lists.{AllByRecursion-append}
 use Rattle.scad_geom.specs.declared.point.Edge.{Edge}
 use Rattle.scad_geom.specs.Point.{whole}
-use Rattle.scad_geom.specs.Segment.{segments}
-use Rattle.scad_geom.specs.Winding.{wind}
 use Rattle.plan_infill.specs.declared.line.Line.{Line}
 use Rattle.plan_infill.specs.declared.step.Step.{Step}
 use Rattle.plan_infill.specs.Runs.{point_on}
 use Rattle.plan_infill.specs.Deep.{ComesNearer}
-use Rattle.plan_infill.specs.Steps.{up_to, all_of, turns_before, IsApart, IsStep, AreTurnSteps, AreNearSteps, AreSteps}
+use Rattle.plan_infill.specs.Steps.{up_to, all_of, IsApart, IsStep, AreTurnSteps, AreNearSteps, AreSteps}
 
 up_to-append : (f : Step → ℤ) (z : ℤ) (xs ys : List Step) → up_to f z (xs ++ ys) ≡ up_to f z xs +ℤ up_to f z ys
 up_to-append f z [] ys = omega (arith, ints)

@@ -4,10 +4,10 @@ use lib.Signed.{◌≤ℤ◌}
 use Rattle.std.specs.Prelude.{int_le}
 use Rattle.std.proofs.lemmas.Int.{ints}
 use Rattle.std.proofs.Math.IntN.{zero-*ℤ}
-use Rattle.scad_geom.proofs.Ring.{ring, num, ◌⊕◌, ◌⊖◌, ◌⊗◌, v0, v1, v2}
+use Rattle.scad_geom.proofs.Ring.{ring, num, ◌⊖◌, ◌⊗◌, v0, v1}
 use Rattle.plan_infill.specs.declared.stretch.Stretch.{Stretch}
 use Rattle.plan_infill.specs.Quotient.{IsFloor, IsCeiling}
-use Rattle.plan_infill.specs.Columns.{IsPart, has_place, IsPositivePart, IsLastPart, IsFirstPart, IsClamped}
+use Rattle.plan_infill.specs.Columns.{IsPositivePart, IsLastPart, IsFirstPart, IsClamped}
 use Rattle.plan_infill.proofs.Quotients.{after_floor, after_quotient, before_ceiling, before_quotient}
 
 is_le : (a b : ℤ) → a ≤ℤ b → int_le a b ≡ true

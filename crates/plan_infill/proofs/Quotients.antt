@@ -1,5 +1,5 @@
 -- What quotients rounded down and up tell of products.
-use Rattle.std.proofs.Common.{◌≡◌, ℕ, ◌<◌, ◌≤◌, [], ◌∷◌, arith, ℤ, pos, negsuc, neg_ℤ, ◌+ℤ◌, ◌-ℤ◌, ◌*ℤ◌, ◌<ℤ◌, refl, sym, subst, inl, inr}
+use Rattle.std.proofs.Common.{◌≡◌, ◌≤◌, [], ◌∷◌, arith, ℤ, pos, negsuc, ◌+ℤ◌, ◌-ℤ◌, ◌*ℤ◌, ◌<ℤ◌, refl, sym, subst, inl, inr}
 use lib.Signed.{◌≤ℤ◌}
 use Rattle.std.specs.Prelude.{unsigned_abs}
 use Rattle.std.specs.Int.{int_div_euclid}
@@ -9,17 +9,9 @@ use Rattle.scad_geom.proofs.Rising.{order}
 use Rattle.scad_geom.proofs.Ring.{ring, num, ◌⊕◌, ◌⊖◌, ◌⊗◌, v0, v1, v2}
 use Rattle.plan_infill.specs.Quotient.{IsFloor, IsCeiling}
 
-floor_low : (a : ℤ) (b : ℕ) → 0 < b → (int_div_euclid a (pos b) *ℤ pos b) ≤ℤ a
-floor_low (pos a) b h = omega (arith, ints)
-floor_low (negsuc a) b h = omega (arith, ints)
-
-floor_high : (a : ℤ) (b : ℕ) → 0 < b → a <ℤ (int_div_euclid a (pos b) *ℤ pos b +ℤ pos b)
-floor_high (pos a) b h = omega (arith, ints)
-floor_high (negsuc a) b h = omega (arith, ints)
-
 pub floor_is : (n d q : ℤ) → pos 0 <ℤ d → q ≡ int_div_euclid n d → IsFloor n d q
-floor_is n (pos d) q h e =
-    subst (IsFloor n (pos d)) (sym e) (record { least = floor_low n d (omega (arith, ints)); most = floor_high n d (omega (arith, ints)) })
+floor_is (pos a) (pos d) q h e = subst (IsFloor (pos a) (pos d)) (sym e) (record { least = omega (arith, ints); most = omega (arith, ints) })
+floor_is (negsuc a) (pos d) q h e = subst (IsFloor (negsuc a) (pos d)) (sym e) (record { least = omega (arith, ints); most = omega (arith, ints) })
 floor_is n (negsuc d) q h e = absurd (omega (arith, ints))
 
 negated : (q d : ℤ) → (pos 0 -ℤ q) *ℤ d ≡ pos 0 -ℤ q *ℤ d

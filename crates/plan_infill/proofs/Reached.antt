@@ -1,7 +1,7 @@
 -- An edge comes near to a point of a row exactly where it lies beside the row and the point is in its reach.
 use Rattle.std.proofs.Common.{◌≡◌, ◌⊎◌, inl, inr, ℕ, Bool, true, false, cond, ◌&&◌, [], ◌∷◌, refl, sym, subst, ◌∙◌, arith, ℤ, pos, negsuc, ◌+ℤ◌, ◌-ℤ◌, ◌*ℤ◌, ◌<ℤ◌, List}
 use lib.Signed.{◌≤ℤ◌}
-use Rattle.std.specs.Prelude.{int_lt, int_le, unsigned_abs, if◌then◌else◌, All, ◌↔◌, ◌≤◌}
+use Rattle.std.specs.Prelude.{int_lt, int_le, unsigned_abs, ◌↔◌}
 use Rattle.std.specs.Int.{int_min, int_max}
 use Rattle.std.proofs.lemmas.Int.{ints}
 use Rattle.std.proofs.lemmas.Bool.{and_parts}
@@ -11,7 +11,6 @@ use Rattle.scad_geom.specs.declared.point.Pt.{Pt}
 use Rattle.scad_geom.specs.declared.point.Edge.{Edge}
 use Rattle.scad_geom.specs.Line.{low, high, rise, run, x_at}
 use Rattle.scad_geom.specs.Point.{whole}
-use Rattle.scad_geom.specs.Near.{mean}
 use Rattle.scad_geom.proofs.Rising.{order}
 use Rattle.scad_geom.proofs.Signs.{pos_left}
 use Rattle.scad_geom.proofs.Bounds.{rise_at_least}
@@ -19,14 +18,14 @@ use Rattle.scad_geom.proofs.Ring.{ring, num, ◌⊕◌, ◌⊖◌, ◌⊗◌, v0
 use Rattle.plan_infill.specs.declared.line.Line.TheVariants.{Row, Column}
 use Rattle.plan_infill.specs.declared.step.Step.{Step}
 use Rattle.plan_infill.specs.declared.stretch.Stretch.{Stretch}
-use Rattle.plan_infill.specs.Deep.{IsLess, IsNearer, ComesNearer}
+use Rattle.plan_infill.specs.Deep.{IsLess, ComesNearer}
 use Rattle.plan_infill.specs.Quotient.{IsFloor, IsCeiling}
 use Rattle.plan_infill.specs.Reach.{reach, is_beside, exchanged, ends_reach, IsInReach, IsReached, IsReachedByLine}
 use Rattle.plan_infill.specs.Steps.{up_to, IsApart, IsStep, Counts, AreNearSteps}
 use Rattle.plan_infill.proofs.Quotients.{after_floor, after_quotient, before_ceiling, before_quotient}
 use Rattle.plan_infill.proofs.Turning.{at}
 use Rattle.plan_infill.proofs.Steps.{by_order, rise_is, x_at_weights}
-use Rattle.plan_infill.proofs.Nearer.{Inside, FoundInside, PassesInside, cross, span, found_inside, passes_inside}
+use Rattle.plan_infill.proofs.Nearer.{Inside, FoundInside, cross, span, found_inside, passes_inside}
 
 -- ---- of points
 axis_place : (s t a b x : ℤ) → (s *ℤ a +ℤ t *ℤ b) *ℤ pos 1 -ℤ x *ℤ (s *ℤ pos 1 +ℤ t *ℤ pos 1) ≡ s *ℤ (a -ℤ x) +ℤ t *ℤ (b -ℤ x)

@@ -1,23 +1,20 @@
 -- Sums over steps.
-use Rattle.std.proofs.Common.{◌≡◌, ◌⊎◌, inl, inr, Bool, true, false, List, [], ◌∷◌, ◌++◌, refl, sym, ap, ap₂, ◌∙◌, arith, ℕ, ℤ, pos, negsuc, ◌+ℤ◌, ◌-ℤ◌, ◌*ℤ◌, ◌<ℤ◌}
+use Rattle.std.proofs.Common.{◌≡◌, ◌⊎◌, inl, inr, Bool, true, false, [], ◌∷◌, refl, sym, ap, ◌∙◌, arith, ℕ, ℤ, pos, negsuc, ◌+ℤ◌, ◌-ℤ◌, ◌*ℤ◌, ◌<ℤ◌}
 use lib.Signed.{◌≤ℤ◌}
-use Rattle.std.specs.Prelude.{if◌then◌else◌, int_le, int_lt, All, unsigned_abs, ◌≤◌, ◌&&◌}
-use Rattle.std.specs.List.{AllByRecursion}
+use Rattle.std.specs.Prelude.{if◌then◌else◌, int_le, int_lt, unsigned_abs, ◌≤◌, ◌&&◌}
 use Rattle.std.proofs.lemmas.Int.{ints}
-use Rattle.std.proofs.lemmas.List.Elements.{recursion_from_All, All-from_recursion}
-use Rattle.scad_base.proofs.Lists.{AllByRecursion-append}
+use Rattle.std.proofs.lemmas.List.Elements.{All-from_recursion}
 use Rattle.scad_geom.specs.Limits.{coordinate_limit}
 use Rattle.scad_geom.specs.declared.point.Edge.{Edge}
 use Rattle.scad_geom.specs.Line.{low, high, rise, run, offset, x_at, left_of}
 use Rattle.scad_geom.specs.Within.{IsEdgeWithin}
-use Rattle.scad_geom.proofs.Sums.{sum_z, sum_z-permutation}
 use Rattle.plan_infill.specs.declared.line.Line.{Line}
 use Rattle.plan_infill.specs.declared.line.Line.TheVariants.{Row, Column}
 use Rattle.plan_infill.specs.declared.step.Step.{Step}
 use Rattle.plan_infill.specs.declared.stretch.Stretch.{Stretch}
 use Rattle.plan_infill.specs.Quotient.{IsCeiling}
-use Rattle.plan_infill.specs.Columns.{heading, heights_of, has_place, IsPart, IsPositivePart}
-use Rattle.plan_infill.specs.Steps.{up_to, all_of, GiveTurns, IsStep, AreTurnSteps}
+use Rattle.plan_infill.specs.Columns.{heading, heights_of, has_place, IsPositivePart}
+use Rattle.plan_infill.specs.Steps.{up_to, GiveTurns, IsStep, AreTurnSteps}
 use Rattle.plan_infill.proofs.Turning.{turn_at, turn_between, turn_below, turn_above, passage_between, passage_below, passage_above}
 use Rattle.plan_infill.proofs.Quotients.{before_ceiling, before_quotient}
 use Rattle.plan_infill.proofs.Quotients.{at_most_times}

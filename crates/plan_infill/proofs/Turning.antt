@@ -1,12 +1,12 @@
 -- The turn of an edge round a whole point, by the heights between its ends and the side of its line.
-use Rattle.std.proofs.Common.{◌≡◌, Bool, true, false, refl, sym, ap, ap₂, ◌∙◌, arith, ℤ, pos, negsuc, ◌+ℤ◌, ◌-ℤ◌, ◌*ℤ◌, ◌<ℤ◌, subst, cond}
+use Rattle.std.proofs.Common.{◌≡◌, Bool, true, false, refl, ap₂, ◌∙◌, arith, ℤ, pos, negsuc, ◌-ℤ◌, ◌<ℤ◌, cond}
 use lib.Signed.{◌≤ℤ◌}
-use Rattle.std.specs.Prelude.{int_lt, int_le, if◌then◌else◌}
+use Rattle.std.specs.Prelude.{int_lt, if◌then◌else◌}
 use Rattle.std.proofs.lemmas.Int.{ints}
 use Rattle.scad_geom.specs.declared.point.Pt.{Pt}
 use Rattle.scad_geom.specs.declared.point.Edge.{Edge}
 use Rattle.scad_geom.specs.Line.{low, high, rise, left_of}
-use Rattle.scad_geom.specs.Point.{Point, whole}
+use Rattle.scad_geom.specs.Point.{whole}
 use Rattle.scad_geom.specs.Level.{level_of}
 use Rattle.scad_geom.specs.Winding.{counted, is_over, passage_by, is_beyond, turn}
 use Rattle.scad_geom.proofs.Heights.{Reaches}

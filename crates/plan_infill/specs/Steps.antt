@@ -1,13 +1,11 @@
 -- What holds along a line, by steps.
-use Rattle.std.specs.Prelude.{◌≡◌, true, if◌then◌else◌, ◌⊎◌, ℕ, ◌+◌, ◌≤◌, List, [], ◌∷◌, ◌++◌, ℤ, pos, ◌+ℤ◌, ◌<ℤ◌, ◌≤ℤ◌, int_le, unsigned_abs, All}
+use Rattle.std.specs.Prelude.{◌≡◌, true, if◌then◌else◌, ◌⊎◌, ℕ, ◌≤◌, List, [], ◌∷◌, ◌++◌, ℤ, pos, ◌+ℤ◌, ◌<ℤ◌, ◌≤ℤ◌, int_le, unsigned_abs, All}
 use Rattle.std.specs.List.{AllByRecursion}
-use Rattle.scad_geom.specs.declared.point.Pt.{Pt}
 use Rattle.scad_geom.specs.declared.point.Edge.{Edge}
 use Rattle.scad_geom.specs.Limits.{coordinate_limit}
 use Rattle.scad_geom.specs.Point.{whole}
 use Rattle.scad_geom.specs.Segment.{segments}
 use Rattle.scad_geom.specs.Winding.{turn, passage_by, wind}
-use Rattle.scad_geom.specs.Sign.{is_zero}
 use Rattle.plan_infill.specs.declared.line.Line.{Line}
 use Rattle.plan_infill.specs.declared.line.Line.TheVariants.{Row, Column}
 use Rattle.plan_infill.specs.declared.step.Step.{Step}

@@ -1,4 +1,4 @@
-use Rattle.std.proofs.Common.{◌≡◌, List, sym, subst, ◌∙◌, flat_map, pos}
+use Rattle.std.proofs.Common.{List, sym, subst, ◌∙◌, flat_map}
 use Rattle.std.specs.Prelude.{All}
 use Rattle.std.specs.List.Sorted.{IsPermutation}
 use Rattle.std.proofs.lemmas.Result.{IfOk-weaker}
@@ -7,8 +7,7 @@ use Rattle.scad_geom.specs.Limits.{coordinate_limit}
 use Rattle.scad_geom.specs.Loop.{sides}
 use Rattle.scad_geom.specs.Within.{IsEdgeWithin}
 use Rattle.plan_infill.specs.declared.step.Step.{Step}
-use Rattle.plan_infill.specs.Steps.{AreSteps, all_of, IsStep}
-use Rattle.plan_infill.specs.Sweep.{is_deep_at, AreStretches}
+use Rattle.plan_infill.specs.Steps.{AreSteps}
 use Rattle.plan_infill.proofs.AllRuns.{edges_within, all_steps, none_behind, all_runs}
 use Rattle.plan_infill.proofs.infill.runs.Goals as goal
 

@@ -1,4 +1,4 @@
-use Rattle.std.proofs.Common.{◌≡◌, ◌≤◌, rules, sym, subst, ℤ, FitsSigned, unsigned_abs, arith}
+use Rattle.std.proofs.Common.{◌≤◌, sym, subst, ℤ, FitsSigned, unsigned_abs, arith}
 use Rattle.std.proofs.lemmas.Result.{on_ok_weaker}
 use Rattle.std.proofs.lemmas.Int.{ints, to_z-of_z}
 use Rattle.scad_geom.specs.declared.point.Edge.{Edge}

@@ -3,7 +3,6 @@ use Rattle.std.specs.Int.{int_min, int_max}
 use Rattle.std.proofs.lemmas.Int.{to_z-of_z}
 use Rattle.scad_geom.specs.Line.{low, high}
 use Rattle.scad_geom.proofs.Casts.{casts}
-use Rattle.plan_infill.specs.declared.stretch.Stretch.{Stretch}
 use Rattle.plan_infill.specs.Reach.{ends_reach}
 use Rattle.plan_infill.proofs.near_steps.reached_by_ends.Goals as goal
 use mir.Syntax.{w128}

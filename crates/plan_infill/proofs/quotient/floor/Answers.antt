@@ -1,5 +1,5 @@
-use Rattle.std.proofs.Common.{FitsSigned, arith}
-use Rattle.std.proofs.lemmas.Int.{ints, to_z-of_z}
+use Rattle.std.proofs.Common.{FitsSigned}
+use Rattle.std.proofs.lemmas.Int.{to_z-of_z}
 use Rattle.plan_infill.proofs.Quotients.{floor_is}
 use Rattle.plan_infill.proofs.quotient.floor.Goals as goal
 use mir.Syntax.{w128}

@@ -1,4 +1,4 @@
-use Rattle.std.proofs.Common.{◌≡◌, ◌+◌, ◌++◌, ◌<◌, ◌≤◌, unsigned_abs, arith, ◌&&◌, not, None, [], List, ℤ, Option, rules, sym, ap, ◌∙◌, subst, pos, get_or, length}
+use Rattle.std.proofs.Common.{◌≡◌, ◌+◌, ◌++◌, ◌≤◌, unsigned_abs, arith, ◌&&◌, not, None, List, ℤ, Option, rules, sym, ap, subst, pos, get_or}
 use Rattle.scad_geom.specs.Limits.{coordinate_limit}
 use Rattle.scad_geom.specs.Sign.{is_zero}
 use Rattle.scad_geom.proofs.Casts.{casts}

@@ -1,4 +1,4 @@
-use Rattle.std.proofs.Common.{◌≡◌, rules, sym, subst, arith, pos, ◌<ℤ◌, ◌≤◌, unsigned_abs}
+use Rattle.std.proofs.Common.{rules, sym, subst, arith, pos, ◌<ℤ◌, ◌≤◌, unsigned_abs}
 use Rattle.std.proofs.lemmas.Int.{ints}
 use Rattle.scad_geom.specs.Limits.{coordinate_limit}
 use Rattle.scad_geom.specs.Line.{rise, x_at}

@@ -1,4 +1,4 @@
-use Rattle.std.proofs.Common.{◌≡◌, rules, arith, [], ◌∷◌, ◌++◌, pos, ◌-ℤ◌, ◌∙◌, ap, List, append_assoc}
+use Rattle.std.proofs.Common.{◌≡◌, rules, [], ◌∷◌, ◌++◌, pos, ◌-ℤ◌, ◌∙◌, ap, List, append_assoc}
 use Rattle.scad_geom.specs.Line.{run, left_of}
 use Rattle.scad_geom.proofs.Casts.{casts}
 use Rattle.plan_infill.specs.declared.step.Step.{Step}

@@ -1,7 +1,6 @@
-use Rattle.std.proofs.Common.{◌≡◌, ◌≤◌, rules, arith, [], ◌∷◌, ◌∙◌, ap, pos, ◌-ℤ◌, ◌<ℤ◌, unsigned_abs, sym}
+use Rattle.std.proofs.Common.{◌≤◌, rules, [], ◌∷◌, pos, ◌-ℤ◌, ◌<ℤ◌, unsigned_abs, sym}
 use Rattle.std.proofs.lemmas.List.{append-nil}
 use lib.Signed.{◌≤ℤ◌}
-use Rattle.std.proofs.lemmas.Int.{ints}
 use Rattle.scad_geom.specs.Limits.{coordinate_limit}
 use Rattle.scad_geom.specs.Line.{low, high, rise, x_at}
 use Rattle.scad_geom.proofs.Casts.{casts}
