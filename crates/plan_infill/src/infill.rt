@@ -65,12 +65,16 @@ mod tests {
     use scad_geom::Pt;
     use std::test::Fail;
 
-    fn square(alloc: Global, from: i32, to: i32) -> Result<Loop, Fail> {
+    fn square(alloc: Global, size: u32) -> Result<Loop, AllocError>
+        requires { size ≤ 10000 }
+        ensures { IfOk result (λ l. All (IsWithin coordinate_limit) l) }
+    {
+        let to = size as i32;
         let corners = [
-            Pt { x: from, y: from },
-            Pt { x: to, y: from },
+            Pt { x: 0, y: 0 },
+            Pt { x: to, y: 0 },
             Pt { x: to, y: to },
-            Pt { x: from, y: to },
+            Pt { x: 0, y: to },
         ];
         Ok(Loop::from_vec(Vec::from_slice(alloc, &corners)?))
     }
@@ -79,15 +83,15 @@ mod tests {
     fn a_run_keeps_its_distance(rt: HostRuntime) -> Result<(), Fail> {
         let alloc = rt.alloc();
         let mut outlines = Vec::new(alloc);
-        outlines.push(square(alloc, 0, 3000)?)?;
+        outlines.push(square(alloc, 3000)?)?;
         let expected = [Run {
             from: 900,
             to: 2100,
         }];
-        for line in [Line::Row(2000), Line::Column(2000)] {
-            let found = runs(alloc, &outlines, 900, line, 450)?;
-            assert_eq!(rt; found.as_slice(), expected.as_slice(), "{line:?}");
-        }
+        let found = runs(alloc, &outlines, 900, Line::Row(2000), 450)?;
+        assert_eq!(rt; found.as_slice(), expected.as_slice());
+        let found = runs(alloc, &outlines, 900, Line::Column(2000), 450)?;
+        assert_eq!(rt; found.as_slice(), expected.as_slice());
         Ok(())
     }
 }

@@ -8,6 +8,8 @@ mod infill;
 mod line;
 mod near_steps;
 mod quotient;
+#[cfg(test)]
+mod random_outlines;
 mod run;
 mod step;
 mod stretch;

@@ -5,8 +5,8 @@ use std::process::Abort;
 use std::test::Fail;
 use std::thread::Threads;
 
-/// A source, how many layers and loops it has, and the polylines of its layers from the lowest upwards, whose layers `|`
-/// ends; those behind the last are like it.
+/// A source, how many layers and loops it has, and the polylines of each layer; `|` parts those of the lowest from those of
+/// each other.
 const SLICED: &str = r#"cube(1); ~ 5 ~ 5 ~ 1,1,5,0,0,1000,0,1000,1000,0,1000,0,0
  ~ 0 ~ 0 ~ none
 cube(a); a=3; a=2; ~ 10 ~ 10 ~ 1,1,5,0,0,2000,0,2000,2000,0,2000,0,0
@@ -35,17 +35,19 @@ fn begun(alloc: Global, told: u32, count: u32, layers: &str) -> Result<Vec<u8>, 
     text.extend_from_slice(b"$$HEADERSTART\n$$ASCII\n$$UNITS/0.001\n$$VERSION/200\n")?;
     text.extend_from_slice(format!(in alloc; "$$LAYERS/{told}\n")?.as_bytes())?;
     text.extend_from_slice(b"$$HEADEREND\n$$GEOMETRYSTART\n")?;
-    let mut kinds = layers.split('|');
-    let mut lines = "none";
     for layer in 1..=count {
-        if let Some(next) = kinds.next() {
-            lines = next;
-        }
         let z = layer.wrapping_mul(200);
         text.extend_from_slice(format!(in alloc; "$$LAYER/{z}\n")?.as_bytes())?;
-        push_polylines(alloc, &mut text, lines)?;
+        push_polylines(alloc, &mut text, lines_of(layers, layer))?;
     }
     Ok(text)
+}
+
+fn lines_of(layers: &str, layer: u32) -> &str {
+    match layers.split_once('|') {
+        Some((lowest, others)) => { if layer == 1 { lowest } else { others } }
+        None => layers,
+    }
 }
 
 fn push_polylines(alloc: Global, text: &mut Vec<u8>, lines: &str) -> Result<(), AllocError> {
