@@ -62,7 +62,10 @@ fn check_number(before: i64, runs: &[Run]) -> i64 {
     let mut number = before;
     'runs: for run in runs {
         let ends = run.from as i64 * 300 + run.to as i64 + 1;
-        number = number.wrapping_mul(10_007).wrapping_add(ends).rem_euclid(1_000_000_007);
+        number = number
+            .wrapping_mul(10_007)
+            .wrapping_add(ends)
+            .rem_euclid(1_000_000_007);
     }
     number
 }

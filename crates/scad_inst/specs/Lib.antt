@@ -11,3 +11,4 @@ pub mod Scopes
 pub mod View
 pub mod Where
 pub mod Model
+pub mod Near
