@@ -1,11 +1,11 @@
 -- Reading a text line by line, up to its end or to the first line with a fault.
 use Rattle.std.specs.Prelude.{◌≡◌, ◌≢◌, ℕ, ◌+◌, ◌-◌, ◌^◌, Bool, true, false, ◌&&◌, List, [], ◌∷◌, length, take, drop, slice_index_or, ◌==◌, nat_lt, nat_le, ℤ, pos, unsigned_abs, Option, Some, None, Result, Ok, Err, if◌then◌else◌, bytes_eq, codes}
 use Rattle.std.specs.Ordering.{int_eq}
-use Rattle.std.specs.List.{slice_split}
 use Rattle.std.specs.Fmt.{decimal, signed_decimal}
 use Rattle.std.specs.Str.Lines.{lines}
 use Rattle.std.specs.Str.Parse.{digits_value, signed_digits_value}
 use Rattle.scad_base.specs.Results.{and_then}
+use Rattle.text_scan.specs.Marks.{pieces}
 use Rattle.scad_geom.specs.declared.point.Pt.{Pt}
 use Rattle.cli_text.specs.Cli.{Layer, polyline_start, layer_start}
 use Rattle.cli_read.specs.declared.fault.CliFault.{CliFault}
@@ -35,7 +35,7 @@ comma = 44
 
 -- what stands between commas
 abbrev pub words : List ℕ → List (List ℕ)
-words text = slice_split (λ b. b == comma) text
+words text = pieces comma text
 
 -- the words behind a word, each behind a comma
 abbrev pub words_behind : List ℕ → List (List ℕ)
@@ -47,17 +47,22 @@ unfoldable pub behind : List ℕ → List ℕ → Option (List ℕ)
 behind start text =
     if bytes_eq (take (length start) text) start then Some (drop (length start) text) else None
 
+-- the number, where the word is its text
+abbrev pub if_count : ℕ → List ℕ → Option ℕ
+if_count n word = if bytes_eq (decimal n) word then Some n else None
+
 -- a number below 2 ^ 32, where the word is its text
 unfoldable pub count_of : List ℕ → Option ℕ
 count_of word =
-    if bytes_eq word (decimal (digits_value 10 word)) && nat_lt (digits_value 10 word) (2 ^ 32)
-    then Some (digits_value 10 word) else None
+    if nat_lt (digits_value 10 word) (2 ^ 32) then if_count (digits_value 10 word) word else None
+
+-- the coordinate, where the word is its text and it is within reach
+abbrev pub if_coordinate : ℤ → List ℕ → Option ℤ
+if_coordinate z word = if bytes_eq (signed_decimal z) word && nat_le (unsigned_abs z) reach then Some z else None
 
 -- a coordinate within reach, where the word is its text
 unfoldable pub coordinate_of : List ℕ → Option ℤ
-coordinate_of word =
-    if bytes_eq word (signed_decimal (signed_digits_value 10 word)) && nat_le (unsigned_abs (signed_digits_value 10 word)) reach
-    then Some (signed_digits_value 10 word) else None
+coordinate_of word = if_coordinate (signed_digits_value 10 word) word
 
 -- ---- outlines
 

@@ -100,9 +100,8 @@ fn ended(building: Building, n: u64, behind: &[u8]) -> Result<Vec<CliLayer>, Cli
     requires { n < 2 ^ 63 }
     ensures { Gives (and_then (ended_at n (lines behind.now)) (λ more. Ok (built building more))) (λ v. seen v.items) result }
 {
-    if behind.is_empty() {
-        Ok(closed(building)?)
-    } else {
-        Err(CliFault::BadLine(n + 1))
+    match first_line(behind) {
+        None => Ok(closed(building)?),
+        Some(_) => Err(CliFault::BadLine(n + 1)),
     }
 }

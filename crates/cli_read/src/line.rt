@@ -40,7 +40,7 @@ fn said_by(
     height: Option<&[u8]>,
     outline: Option<&[u8]>,
 ) -> Result<Said, CliFault>
-    ensures { Gives (said_by n last (option_map (λ t. t.now) height) (option_map (λ t. t.now) outline)) (λ s. s) result }
+    ensures { Gives (said_by n last (option_map (λ t. t.now) height.entry) (option_map (λ t. t.now) outline.entry)) (λ s. s) result }
 {
     match (height, outline, last) {
         (Some(text), _, _) => Ok(Said::Height(height_at(n, last, text)?)),

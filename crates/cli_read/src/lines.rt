@@ -1,24 +1,25 @@
 //! The lines of a text.
-ghost use Rattle.std.specs.Prelude.{◌≡◌, ◌<◌, ◌∷◌, ◌==◌, [], List, length, position, Some, None, MatchOption};
+ghost use Rattle.std.specs.Prelude.{◌≡◌, ◌<◌, ◌∷◌, ◌==◌, [], List, length, MatchOption};
 ghost use Rattle.std.specs.Str.Lines.{lines, strip_carriage_return};
 ghost use Rattle.cli_read.specs.Reading.{Gives, fixed_at};
 
 use crate::fault::CliFault;
+use text_scan::first_at;
 
 /// The first line, without its end (LF or CRLF; the last line may have neither), and the text behind it.
+#[tactic(auto, using(crate::proofs::TextLines::first_line, crate::proofs::TextLines::last_line))]
 pub fn first_line(text: &[u8]) -> Option<(&[u8], &[u8])>
     ensures line { MatchOption result (lines text.now ≡ []) (λ r. lines text.now ≡ r.0.now ∷ lines r.1.now) }
     ensures shorter { MatchOption result (text.now ≡ []) (λ r. length r.1.now < length text.now) }
 {
-    match text.iter().position(|b| *b == b'\n') {
-        Some(at) => Some((without_return(&text[..at]), &text[at + 1..])),
-        None => {
-            if text.is_empty() {
-                None
-            } else {
-                Some((text, &text[text.len()..]))
-            }
-        }
+    if text.is_empty() {
+        return None;
+    }
+    let at = first_at(text, b'\n');
+    if at < text.len() {
+        Some((without_return(&text[..at]), &text[at + 1..]))
+    } else {
+        Some((text, &text[at..]))
     }
 }
 

@@ -1,6 +1,6 @@
 //! Numbers, each of which is its decimal text.
 ghost use Rattle.std.specs.Prelude.{◌≡◌};
-ghost use Rattle.cli_read.specs.Reading.{Gives, or_bad, count_of, coordinate_of, direction_at};
+ghost use Rattle.cli_read.specs.Reading.{Gives, or_bad, if_count, count_of, if_coordinate, coordinate_of, direction_at};
 
 use crate::fault::CliFault;
 use itoa::Buffer;
@@ -13,8 +13,24 @@ const REACH: u32 = 1_100_000;
 pub fn count_of(word: &[u8]) -> Option<u32>
     ensures { result ≡ count_of word.now }
 {
-    let text = str::from_utf8(word).ok()?;
-    let n = text.parse::<u32>().ok()?;
+    match str::from_utf8(word) {
+        Ok(text) => count_in(text),
+        Err(_) => None,
+    }
+}
+
+fn count_in(text: &str) -> Option<u32>
+    ensures { result ≡ count_of text.now }
+{
+    match text.parse::<u32>() {
+        Ok(n) => if_count(n, text.as_bytes()),
+        Err(_) => None,
+    }
+}
+
+fn if_count(n: u32, word: &[u8]) -> Option<u32>
+    ensures { result ≡ if_count n word.now }
+{
     if Buffer::new().format(n).as_bytes() == word {
         Some(n)
     } else {
@@ -26,8 +42,24 @@ pub fn count_of(word: &[u8]) -> Option<u32>
 pub fn coordinate_of(word: &[u8]) -> Option<i32>
     ensures { result ≡ coordinate_of word.now }
 {
-    let text = str::from_utf8(word).ok()?;
-    let z = text.parse::<i32>().ok()?;
+    match str::from_utf8(word) {
+        Ok(text) => coordinate_in(text),
+        Err(_) => None,
+    }
+}
+
+fn coordinate_in(text: &str) -> Option<i32>
+    ensures { result ≡ coordinate_of text.now }
+{
+    match text.parse::<i32>() {
+        Ok(z) => if_coordinate(z, text.as_bytes()),
+        Err(_) => None,
+    }
+}
+
+fn if_coordinate(z: i32, word: &[u8]) -> Option<i32>
+    ensures { result ≡ if_coordinate z word.now }
+{
     if Buffer::new().format(z).as_bytes() == word && z.unsigned_abs() <= REACH {
         Some(z)
     } else {
