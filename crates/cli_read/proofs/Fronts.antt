@@ -9,7 +9,7 @@ use Rattle.cli_read.specs.declared.fault.CliFault.TheVariants.{BadLine}
 use Rattle.cli_read.specs.declared.line.Said.{Said}
 use Rattle.cli_read.specs.declared.line.Said.TheVariants.{Height, Outline}
 use Rattle.cli_read.specs.Form.{end_line}
-use Rattle.cli_read.specs.Reading.{◌>>=◌, Geometry, point_at, points_at, said_at, onto, last_height, ended_at, geometry_at}
+use Rattle.cli_read.specs.Reading.{◌>>=◌, Geometry, point_at, points_at, said_at, onto, last_height, ended_at, geometry_at, layers_at}
 use Rattle.cli_read.specs.View.{with_last}
 
 -- ---- points
@@ -60,6 +60,16 @@ same_made : (f g : Geometry → List Layer) (read : Result Geometry CliFault) (s
     made_of g (read >>= λ more. Ok (onto s more)) ≡ made_of f read
 same_made f g (Ok more) s same = ap (λ (ls : List Layer). Ok ls) (sym (same more))
 same_made f g (Err fault) s same = refl
+
+-- nothing was read before
+pub layers_begin : (f : Geometry → List Layer) (last : Option ℕ) (all : List (List ℕ)) → last ≡ None → ((more : Geometry) → f more ≡ more.layers) →
+    made_of f (geometry_at 7 last all) ≡ layers_at all
+unfolding layers_at
+layers_begin f last all none same = rw none (same_layers (geometry_at 7 None all))
+  where
+    same_layers : (read : Result Geometry CliFault) → made_of f read ≡ made_of (λ more. more.layers) read
+    same_layers (Ok more) = ap (λ (ls : List Layer). Ok ls) (same more)
+    same_layers (Err fault) = refl
 
 pub layers_go_on : (n : ℕ) (last next : Option ℕ) (f g : Geometry → List Layer) (s : Said) (line : List ℕ) (all rest : List (List ℕ)) (total : Result (List Layer) CliFault) →
     all ≡ line ∷ rest → bytes_eq line end_line ≡ false → said_at (n + 1) last line ≡ Ok s → next ≡ last_height s last → ((more : Geometry) → f more ≡ g (onto s more)) →

@@ -71,13 +71,15 @@ count_not_parsed word fault r failed parsed = sym (no_count word (λ n h is. abs
     none : (n : ℕ) → r ≡ Ok n → ⊥
     none n e = cc
 
-pub count_parsed : {E : Type 0} (word : List ℕ) (n : ℕ) (r : Result ℕ E) → n < 2 ^ 32 → r ≡ Ok n → ParsesUnsigned 32 10 word r → if_count n word ≡ count_of word
-count_parsed word n r small read parsed = by_test (bytes_eq (decimal n) word) refl
+pub count_parsed : {E : Type 0} (word : List ℕ) (n : ℕ) (r : Result ℕ E) → r ≡ Ok n → ParsesUnsigned 32 10 word r → if_count n word ≡ count_of word
+count_parsed {E} word n r read parsed = by_test (bytes_eq (decimal n) word) refl
   where
     same_number : (m : ℕ) → r ≡ Ok m → n ≡ m
     same_number m e = cc
     true_false : true ≡ false → ⊥
     true_false e = cc
+    small : n < 2 ^ 32
+    small = let number = subst (λ (x : Result ℕ E). ParsesUnsigned 32 10 word x) read parsed in omega (arith, number.0.1, number.1)
     other : bytes_eq (decimal n) word ≡ false → (m : ℕ) → m < 2 ^ 32 → word ≡ decimal m → ⊥
     other differs m h is =
         let same : n ≡ m = same_number m (parse-decimal 32 m word r h (omega arith) is parsed) in
@@ -132,6 +134,11 @@ coordinate_not_parsed word fault r failed parsed =
   where
     none : (z : ℤ) → r ≡ Ok z → ⊥
     none z e = cc
+
+pub parsed_fits : {E : Type 0} (word : List ℕ) (z : ℤ) (r : Result ℤ E) → r ≡ Ok z → ParsesSigned w32 10 word r → FitsSigned w32 z
+parsed_fits {E} word z r read parsed =
+    let number = subst (λ (x : Result ℤ E). ParsesSigned w32 10 word x) read parsed in
+    subst (FitsSigned w32) (sym number.1) number.0.1
 
 pub coordinate_parsed : {E : Type 0} (word : List ℕ) (z : ℤ) (r : Result ℤ E) → r ≡ Ok z → ParsesSigned w32 10 word r → if_coordinate z word ≡ coordinate_of word
 coordinate_parsed word z r read parsed = by_test (bytes_eq (signed_decimal z) word && nat_le (unsigned_abs z) reach) refl

@@ -1,9 +1,9 @@
 -- Lines of a text, one by one.
-use Rattle.std.proofs.Common.{◌≡◌, ℕ, Bool, false, cond, ◌+◌, ◌<◌, ◌≤◌, List, [], ◌∷◌, ◌++◌, length, take, drop, ◌==◌, refl, ap, ◌∙◌, sym, subst, arith}
+use Rattle.std.proofs.Common.{◌≡◌, ℕ, Bool, false, cond, ◌+◌, ◌-◌, ◌<◌, ◌≤◌, List, [], ◌∷◌, ◌++◌, length, take, drop, ◌==◌, refl, ap, ◌∙◌, sym, subst, arith}
 use Rattle.std.specs.Str.Lines.{lines, lines_of_parts, strip_carriage_return}
 use Rattle.std.proofs.lemmas.Bool.Decides.{nat_tests}
 use Rattle.std.proofs.lemmas.List.Splits.{length-slice_split, slice_split_at}
-use Rattle.std.proofs.lemmas.List.{take_all}
+use Rattle.std.proofs.lemmas.List.{take_all, length-drop}
 use Rattle.std.proofs.Math.ListN.{drop_of_length-le}
 use Rattle.text_scan.specs.Marks.{pieces, first_at}
 use Rattle.text_scan.proofs.Pieces.{one_piece, first_piece}
@@ -18,6 +18,10 @@ parts_more line (next ∷ parts) h = refl
 
 lines_more : (line rest : List ℕ) → lines_of_parts (line ∷ pieces feed rest) ≡ strip_carriage_return line ∷ lines rest
 lines_more line rest = parts_more line (pieces feed rest) (omega (arith, length-slice_split (λ (b : ℕ). b == feed) rest))
+
+-- a text from a place on, as code writes it
+pub rest_of : (at : ℕ) (text : List ℕ) → take (length text - at) (drop at text) ≡ drop at text
+rest_of at text = take_all (length text - at) (drop at text) (omega (arith, length-drop at text))
 
 -- the line in front of the first line feed
 pub first_line : (text : List ℕ) (at : ℕ) → at ≡ first_at feed text → at < length text → lines text ≡ strip_carriage_return (take at text) ∷ lines (drop (at + 1) text)

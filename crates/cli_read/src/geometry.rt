@@ -1,5 +1,5 @@
 //! The lines of all layers.
-ghost use Rattle.std.specs.Prelude.{◌≡◌, ◌<◌, ◌^◌, List, [], IfOk, bytes_eq};
+ghost use Rattle.std.specs.Prelude.{◌≡◌, ◌<◌, ◌+◌, ◌^◌, List, [], IfOk, bytes_eq};
 ghost use Rattle.std.specs.Str.Lines.{lines};
 ghost use Rattle.cli_read.specs.Form.{end_line};
 ghost use Rattle.scad_base.specs.Results.{and_then};
@@ -97,7 +97,7 @@ fn closed(building: Building) -> Result<Vec<CliLayer>, AllocError>
 
 // The end is line `n`.
 fn ended(building: Building, n: u64, behind: &[u8]) -> Result<Vec<CliLayer>, CliFault>
-    requires { n < 2 ^ 63 }
+    requires { n + 1 < 2 ^ 64 }
     ensures { Gives (and_then (ended_at n (lines behind.now)) (λ more. Ok (built building more))) (λ v. seen v.items) result }
 {
     match first_line(behind) {

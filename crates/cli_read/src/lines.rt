@@ -7,7 +7,6 @@ use crate::fault::CliFault;
 use text_scan::first_at;
 
 /// The first line, without its end (LF or CRLF; the last line may have neither), and the text behind it.
-#[tactic(auto, using(crate::proofs::TextLines::first_line, crate::proofs::TextLines::last_line))]
 pub fn first_line(text: &[u8]) -> Option<(&[u8], &[u8])>
     ensures line { MatchOption result (lines text.now ≡ []) (λ r. lines text.now ≡ r.0.now ∷ lines r.1.now) }
     ensures shorter { MatchOption result (text.now ≡ []) (λ r. length r.1.now < length text.now) }

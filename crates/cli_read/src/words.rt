@@ -8,7 +8,6 @@ ghost use Rattle.cli_read.specs.Form.{count_start};
 use text_scan::first_at;
 
 /// The first word of a text, and what stands behind it, from its comma on.
-#[tactic(auto, using(crate::proofs::CommaWords::first_word))]
 pub fn first_word(text: &[u8]) -> (&[u8], &[u8])
     ensures words { words text.now ≡ result.0.now ∷ words_behind result.1.now }
     ensures within { length result.1.now ≤ length text.now }
