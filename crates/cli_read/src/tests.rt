@@ -25,7 +25,11 @@ const LINES: [&str; 13] = [
 /// The number of a line of that text, what stands in its place, and what is read.
 const EDITS: [(usize, &str, &str); 89] = [
     (1, "$$HEADERSTART\r\n", "2 layers, 3 outlines"),
-    (9, "$$POLYLINE/1,1,5,0,0,1000,0,1000,1000,0,1000,0,0\r\n", "2 layers, 3 outlines"),
+    (
+        9,
+        "$$POLYLINE/1,1,5,0,0,1000,0,1000,1000,0,1000,0,0\r\n",
+        "2 layers, 3 outlines",
+    ),
     (13, "$$GEOMETRYEND", "2 layers, 3 outlines"),
     (13, "$$GEOMETRYEND\r\n", "2 layers, 3 outlines"),
     (13, "$$GEOMETRYEND\r", "BadLine 13"),
@@ -76,14 +80,46 @@ const EDITS: [(usize, &str, &str); 89] = [
     (11, "$$LAYER/300\n$$LAYER/400\n", "CountDiffers 2 3"),
     (11, "$$LAYERS/400\n", "BadLine 11"),
     (10, "", "2 layers, 2 outlines"),
-    (10, "$$POLYLINE/2,0,4,10,10,20,20,20,10,10,10\n", "BadLine 10"),
-    (10, "$$POLYLINE/1,2,4,10,10,20,20,20,10,10,10\n", "BadLine 10"),
-    (10, "$$POLYLINE/1,1,4,10,10,20,20,20,10,10,10\n", "2 layers, 3 outlines"),
-    (10, "$$POLYLINE/1,-0,4,10,10,20,20,20,10,10,10\n", "BadLine 10"),
-    (10, "$$POLYLINE/1,0,5,10,10,20,20,20,10,10,10\n", "CountDiffers 5 4"),
-    (10, "$$POLYLINE/1,0,3,10,10,20,20,20,10,10,11\n", "CountDiffers 3 4"),
-    (10, "$$POLYLINE/1,0,4,10,10,20,20,20,10,10,11\n", "OpenLoop 10"),
-    (10, "$$POLYLINE/1,0,4,10,10,20,20,20,10,11,10\n", "OpenLoop 10"),
+    (
+        10,
+        "$$POLYLINE/2,0,4,10,10,20,20,20,10,10,10\n",
+        "BadLine 10",
+    ),
+    (
+        10,
+        "$$POLYLINE/1,2,4,10,10,20,20,20,10,10,10\n",
+        "BadLine 10",
+    ),
+    (
+        10,
+        "$$POLYLINE/1,1,4,10,10,20,20,20,10,10,10\n",
+        "2 layers, 3 outlines",
+    ),
+    (
+        10,
+        "$$POLYLINE/1,-0,4,10,10,20,20,20,10,10,10\n",
+        "BadLine 10",
+    ),
+    (
+        10,
+        "$$POLYLINE/1,0,5,10,10,20,20,20,10,10,10\n",
+        "CountDiffers 5 4",
+    ),
+    (
+        10,
+        "$$POLYLINE/1,0,3,10,10,20,20,20,10,10,11\n",
+        "CountDiffers 3 4",
+    ),
+    (
+        10,
+        "$$POLYLINE/1,0,4,10,10,20,20,20,10,10,11\n",
+        "OpenLoop 10",
+    ),
+    (
+        10,
+        "$$POLYLINE/1,0,4,10,10,20,20,20,10,11,10\n",
+        "OpenLoop 10",
+    ),
     (10, "$$POLYLINE/1,0,3,10,10,20,20,10,10\n", "OpenLoop 10"),
     (10, "$$POLYLINE/1,0,2,10,10,10,10\n", "OpenLoop 10"),
     (10, "$$POLYLINE/1,0,1,10,10\n", "OpenLoop 10"),
@@ -92,22 +128,70 @@ const EDITS: [(usize, &str, &str); 89] = [
     (10, "$$POLYLINE/1,0\n", "BadLine 10"),
     (10, "$$POLYLINE/1,0,\n", "BadLine 10"),
     (10, "$$POLYLINE/1\n", "BadLine 10"),
-    (10, "$$POLYLINE/1,0,4,10,10,20,20,20,10,10,10,\n", "BadLine 10"),
+    (
+        10,
+        "$$POLYLINE/1,0,4,10,10,20,20,20,10,10,10,\n",
+        "BadLine 10",
+    ),
     (10, "$$POLYLINE/1,0,4,10,10,20,20,20,10,10\n", "BadLine 10"),
-    (10, "$$POLYLINE/1,0,4, 10,10,20,20,20,10,10,10\n", "BadLine 10"),
+    (
+        10,
+        "$$POLYLINE/1,0,4, 10,10,20,20,20,10,10,10\n",
+        "BadLine 10",
+    ),
     (10, "$$POLYLINE/1,0,4,10,10,,20,20,10,10,10\n", "BadLine 10"),
-    (10, "$$POLYLINE/1,0,4,-1100000,10,1100000,20,20,-1100000,-1100000,10\n", "2 layers, 3 outlines"),
-    (10, "$$POLYLINE/1,0,4,10,10,1100001,20,20,10,10,10\n", "BadLine 10"),
-    (10, "$$POLYLINE/1,0,4,10,10,20,-1100001,20,10,10,10\n", "BadLine 10"),
-    (10, "$$POLYLINE/1,0,4,-0,10,20,20,20,10,-0,10\n", "BadLine 10"),
-    (10, "$$POLYLINE/1,0,4,010,10,20,20,20,10,010,10\n", "BadLine 10"),
-    (10, "$$POLYLINE/1,0,4,+10,10,20,20,20,10,+10,10\n", "BadLine 10"),
-    (10, "$$POLYLINE/1,0,4294967296,10,10,20,20,20,10,10,10\n", "BadLine 10"),
-    (10, "$$POLYLINE/1,0,4294967295,10,10,20,20,20,10,10,10\n", "CountDiffers 4294967295 4"),
+    (
+        10,
+        "$$POLYLINE/1,0,4,-1100000,10,1100000,20,20,-1100000,-1100000,10\n",
+        "2 layers, 3 outlines",
+    ),
+    (
+        10,
+        "$$POLYLINE/1,0,4,10,10,1100001,20,20,10,10,10\n",
+        "BadLine 10",
+    ),
+    (
+        10,
+        "$$POLYLINE/1,0,4,10,10,20,-1100001,20,10,10,10\n",
+        "BadLine 10",
+    ),
+    (
+        10,
+        "$$POLYLINE/1,0,4,-0,10,20,20,20,10,-0,10\n",
+        "BadLine 10",
+    ),
+    (
+        10,
+        "$$POLYLINE/1,0,4,010,10,20,20,20,10,010,10\n",
+        "BadLine 10",
+    ),
+    (
+        10,
+        "$$POLYLINE/1,0,4,+10,10,20,20,20,10,+10,10\n",
+        "BadLine 10",
+    ),
+    (
+        10,
+        "$$POLYLINE/1,0,4294967296,10,10,20,20,20,10,10,10\n",
+        "BadLine 10",
+    ),
+    (
+        10,
+        "$$POLYLINE/1,0,4294967295,10,10,20,20,20,10,10,10\n",
+        "CountDiffers 4294967295 4",
+    ),
     (10, "$$HATCHES/1,1,0,0,5,0\n", "BadLine 10"),
-    (10, "$$POLYLINE/1,0,4,10,10,20,20,20,10,10,1x\n", "BadLine 10"),
+    (
+        10,
+        "$$POLYLINE/1,0,4,10,10,20,20,20,10,10,1x\n",
+        "BadLine 10",
+    ),
     (12, "", "2 layers, 2 outlines"),
-    (12, "$$POLYLINE/1,1,4,-5,-5,5,-5,0,5,-5,-5\n$$LAYER/400\n", "BadLine 13"),
+    (
+        12,
+        "$$POLYLINE/1,1,4,-5,-5,5,-5,0,5,-5,-5\n$$LAYER/400\n",
+        "BadLine 13",
+    ),
     (13, "", "BadLine 13"),
     (13, "$$GEOMETRYEN", "BadLine 13"),
     (13, "$$GEOMETRYEND\n$$LAYER/600\n", "BadLine 14"),
@@ -127,7 +211,9 @@ fn told(alloc: Global, answer: &Result<Cli, CliFault>) -> Result<String, AllocEr
             format!(in alloc; "{} layers, {} outlines", layers.len(), outlines)
         }
         Err(CliFault::BadLine(n)) => format!(in alloc; "BadLine {n}"),
-        Err(CliFault::CountDiffers(said, found)) => format!(in alloc; "CountDiffers {said} {found}"),
+        Err(CliFault::CountDiffers(said, found)) => format!(in alloc;
+            "CountDiffers {said} {found}"
+        ),
         Err(CliFault::OpenLoop(n)) => format!(in alloc; "OpenLoop {n}"),
         Err(CliFault::Memory) => format!(in alloc; "no memory"),
     }
