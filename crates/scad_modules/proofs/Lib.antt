@@ -2,3 +2,5 @@ pub mod Angles
 pub mod Faces
 pub mod Fragments
 pub mod Onto
+pub mod Paths
+pub mod Profiles

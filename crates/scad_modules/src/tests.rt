@@ -1,5 +1,5 @@
 use crate::{
-    ArgumentFault, Fineness, Module, Name, Primitive, Shape, Transform, matrix_of, meaning_of,
+    ArgumentFault, Fineness, Flat, Module, Name, Primitive, Shape, Transform, matrix_of, meaning_of,
     primitive_of, solid_of, taken, triangles_of,
 };
 use scad_ast::{Arg, Expr, Node};
@@ -39,7 +39,7 @@ fn arg(alloc: Global, name: &[u8]) -> Result<Arg, Fail> {
 fn names_have_meanings(rt: HostRuntime) {
     for (name, meaning) in [
         ("cube", Name::Known(Module::Shape(Shape::Cube))),
-        ("square", Name::Known(Module::Flat)),
+        ("square", Name::Known(Module::Flat(Flat::Square))),
         ("render", Name::Known(Module::Union)),
         ("for", Name::For),
         ("hull", Name::LeftOut),
