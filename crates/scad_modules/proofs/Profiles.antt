@@ -30,6 +30,6 @@ pub farthest-drop : (ring : List Pair) (i : ℕ) (p : Pair) → i < length ring 
 farthest-drop ring i p below is = ap farthest (next ring i p below is)
 
 pub farthest-drop_all : (ring : List Pair) (i : ℕ) → length ring ≤ i → farthest (drop i ring) ≡ 0
-farthest-drop_all i ring past = ap farthest (drop_all i ring past)
+farthest-drop_all ring i past = ap farthest (drop_all i ring past)
 
 pub ruleset distances = (farthest-drop, farthest-drop_all)

@@ -31,9 +31,12 @@ pub fn points_in(shape: &Outline) -> usize
 }
 
 /// The points of the outline in order.
+#[tactic(auto, using(crate::proofs::Outlines::lengths))]
 pub fn ring_of(alloc: Global, shape: &Outline) -> Result<Vec<(Num, Num)>, AllocError>
     requires { is_outline (outline shape.now) ≡ true }
-    ensures { IfOk result (λ v. v.items ≡ ring_of (outline shape.now)) }
+    ensures ring { IfOk result (λ v. v.items ≡ ring_of (outline shape.now)) }
+    ensures count { IfOk result (λ v. length v.items ≡ points_in (outline shape.now)) }
+    ensures some { IfOk result (λ v. 3 ≤ length v.items) }
 {
     match shape {
         Outline::Rectangle(x, y, center) => square_ring(alloc, *x, *y, *center),
