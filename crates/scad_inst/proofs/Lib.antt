@@ -14,6 +14,7 @@ pub mod KeptRound
 pub mod Levels
 pub mod OnLiterals
 pub mod ScopeFrames
+pub mod Sweeps
 pub mod Bodies
 pub mod Calls
 pub mod MadeTrees
