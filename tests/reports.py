@@ -1,25 +1,18 @@
 """Checks of the commands that only report, `check` and `tree`: statuses, streams, lines of `echo`."""
 
 from check import FrontOf
-from streams import CUBE, FULL_REPORT, READ_FAULT, SLOW_PIPE, SOURCE_LIMIT, SOURCE_LONG, UNREAD_PIPE, USAGE
-from streams import MemoryCheck, of_bytes, refused
+from streams import CUBE, FULL_REPORT, LINES, MANY_LINES, READ_FAULT, SLOW_PIPE, SOURCE_LIMIT, SOURCE_LONG
+from streams import UNREAD_PIPE, USAGE, MemoryCheck, of_bytes, refused, told
 
 # What each command tells of the cube.
 TOLD = {"check": b"ok: 1 leaves, 12 triangles, 5 layers\n", "tree": b"leaf 0: 12 triangles\n"}
 EMPTY = b"ok: 0 leaves, 0 triangles, 0 layers\n"
 STDIN = b"/dev/stdin"
-LINES = [b"%d" % number for number in range(1, 2001)]
-MANY_LINES = b"for (i = [1:2000]) echo(i);"
 
 
 def report_checks():
     of_both = (well, badly, usage, read, write)
     return [it for command in TOLD for checks in of_both for it in checks(command)] + long() + memory()
-
-
-def told(lines, last=b""):
-    """A report: lines of `echo` with these texts, and the last line."""
-    return b"".join(b"ECHO: %s\n" % it for it in lines) + last
 
 
 def asked(command, name, status, report, model=b"m.scad", source=None, **more):

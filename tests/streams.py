@@ -14,8 +14,10 @@ USAGE = b"usage: scadslice COMMAND\n"
 READ_FAULT = b"read fault\n"
 WRITE_FAULT = b"write fault\n"
 SOURCE_LONG = b"budget 1 SourceLong\n"
-NOT_BUILT = b"fault 15 NotBuilt at 1:1\n"
 OUT_OF_MEMORY = b"out of memory\n"
+
+LINES = [b"%d" % number for number in range(1, 2001)]
+MANY_LINES = b"for (i = [1:2000]) echo(i);"
 
 # A source, and an output of before that must stay where none is created.
 KEPT = {"m.scad": CUBE, "o.cli": b"kept\n"}
@@ -25,6 +27,11 @@ SLOW_PIPE = """{ printf cu; sleep 0.2; printf 'be(1);'; sleep 0.2; echo; } | "$@
 UNREAD_PIPE = """
     { until [ -e closed ]; do sleep 0.01; done; "$@"; echo $? >status; } | { exec <&-; >closed; }
     answer=$(cat status); rm closed status; exit "$answer" """
+
+
+def told(lines, last=b""):
+    """A report: lines of `echo` with these texts, and the last line."""
+    return b"".join(b"ECHO: %s\n" % it for it in lines) + last
 
 
 def outlines(size):
@@ -88,8 +95,22 @@ def done():
 
 
 def source():
-    cut = {"m.scad": b"cube(", "o.cli": b"kept\n"}
-    return [refused("a_source_of_another_form", 1, NOT_BUILT, given=cut)]
+    of = lambda source: {"m.scad": source, "o.cli": b"kept\n"}
+    lines = told([b"1", b"2"], b"fault 8 ZeroDivisor at 1:25\n")
+    depth = told([b"1"], b"budget 3 Depth at 1:21\n")
+    edges = told([b"1"], b"budget 7 LayerEdges layer 1 count 20002\n")
+    # The first layer is a cube's, and the second has an edge more than it may.
+    wide = b"echo(1); cube([1,1,0.2]); translate([0,0,0.2]) cylinder(h=0.2,r=50,$fn=10001);"
+    first = outlines(1).replace(b"LAYERS/5", b"LAYERS/2").partition(b"$$LAYER/400")[0]
+    return [
+        sliced("a_source_with_lines", 0, told([b"1", b'"b"'], DONE), given=of(b'echo(1); cube(1); echo("b");')),
+        sliced("a_source_of_nothing", 0, b"done: 0 layers, 0 loops\n", given=of(b""), left={"o.cli": outlines(0)}),
+        refused("a_source_of_a_fault", 1, b"fault 2 Syntax at 1:6\n", given=of(b"cube(")),
+        refused("a_source_of_a_fault_behind_lines", 1, lines,
+                given=of(b"echo(1); echo(2); echo(3/0); echo(4);")),
+        refused("a_source_of_a_budget_behind_lines", 6, depth, given=of(b"echo(1); module m() m(); m();")),
+        sliced("a_layer_past_a_budget", 6, edges, given=of(wide), left={"o.cli": first}),
+    ]
 
 
 def usage():
@@ -144,6 +165,7 @@ def write():
         "into_a_pipe_that_nobody_reads": UNREAD_PIPE,
         "that_is_closed": 'exec "$@" >&-',
     }
+    lines = {"m.scad": MANY_LINES + CUBE, "o.cli": b"kept\n"}
     # (the limit on the size of files doesn't hold for the report, which goes into a pipe)
     limited = {
         "given": {"m.scad": b"cube(100);"},
@@ -153,7 +175,9 @@ def write():
     return [
         *(refused(f"an_output_{name}", 5, WRITE_FAULT, cli=cli, folders=["written"])
           for name, cli in outputs.items()),
+        refused("an_output_behind_lines_on_a_full_device", 5, told(LINES, WRITE_FAULT), cli=b"/dev/full", given=lines),
         *(sliced(f"a_report_{name}", 5, b"", shell=shell) for name, shell in reports.items()),
+        *(refused(f"lines_{name}", 5, b"", given=lines, shell=shell) for name, shell in reports.items()),
         sliced("outlines_past_a_limit_on_files", 5, WRITE_FAULT, **limited),
         refused("both_outputs_on_a_full_device", 5, b"", cli=b"/dev/full", shell=FULL_REPORT),
         refused("usage_on_a_full_device", 5, b"", words=[], shell=FULL_REPORT),

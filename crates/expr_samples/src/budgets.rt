@@ -19,7 +19,13 @@ x=[for(i=[0:3000000]) i]; ~ budget 2 1:4
 x=[for(i=0;true;i=i+1) i]; ~ budget 2 1:19
 x=len([for(i=[0:99999]) i]); ~ 100000 @300007
 v=[for(i=[0:99999]) i]; x=[for(i=[0:9]) v[i*1000]]; ~ [0, 1000, 2000, 3000, 4000, 5000, 6000, 7000, 8000, 9000] @300082
-x=str([for(i=[0:999]) i])[5]; ~ \",\" @7899";
+x=str([for(i=[0:999]) i])[5]; ~ \",\" @7899
+x=len([each [1:4999993]]); ~ 4999993 @5000000
+x=len([each [1:4999994]]); ~ budget 2 1:7
+x=len([each [0:0.000001:1000000000]]); ~ budget 2 1:7
+x=[each each [0:0.000001:1000000000], each [1000000000:-0.000001:0]]; ~ budget 2 1:3
+x=[each [0:0.000001:1000000000], 1/0]; ~ fault 8 1:35 
+function n(k)=k==0?[]:[n(k-1)]; x=[each [0:0.000001:1000000000], n(199)]; ~ budget 3 1:35";
 
 #[test]
 fn budgets_are_passed_where_they_should(rt: HostRuntime) -> Result<(), Fail> {

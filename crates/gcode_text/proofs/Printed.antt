@@ -13,13 +13,12 @@ use Rattle.gcode_text.specs.Reading.{first_at, are_digits, whole_size, pointed_s
 use Rattle.std.proofs.lemmas.Bool.{and_parts}
 
 -- ---- digits
-
-is_digit : (c : ℕ) → digit_value c < 10 → is_ascii_digit c ≡ true
-is_digit c h = grind (arith, nat_tests)
-
 all_digits : (ds : List ℕ) → AllDigits 10 ds → list_all is_ascii_digit ds ≡ true
 all_digits [] h = refl
-all_digits (c ∷ cs) h = ap₂ (λ (a b : Bool). a && b) (is_digit c h.0) (all_digits cs h.1)
+all_digits (c ∷ cs) h =
+    let value = h.0 in
+    let digit : is_ascii_digit c ≡ true = grind (arith, nat_tests) in
+    ap₂ (λ (a b : Bool). a && b) digit (all_digits cs h.1)
 
 pub decimal_digits : (n : ℕ) → n < 10 ^ 64 → are_digits (decimal n) ≡ true
 unfolding are_digits

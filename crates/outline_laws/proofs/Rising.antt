@@ -8,8 +8,9 @@ use Rattle.scad_geom.specs.declared.level.Level.{Level}
 use Rattle.scad_geom.specs.declared.level.LeafEdge.{LeafEdge}
 use Rattle.scad_geom.specs.Level.{IsLower, IsAtMost, IsSameHeight}
 use Rattle.scad_geom.specs.Heights.{heights}
-use Rattle.scad_geom.proofs.Heights.{lower_then_at_most, at_most_then_lower, at_most_chain, lower_weak, heights_positive}
+use Rattle.scad_geom.proofs.Heights.{lower_then_at_most, at_most_then_lower, at_most_chain, heights_positive}
 use Rattle.slice_events.specs.Levels.{IsRising, HasHeight, AreLevels}
+use Rattle.outline_laws.proofs.Distinct.{lifted}
 
 abbrev pub HasDivisor : Level → Type 0
 HasDivisor l = pos 0 <ℤ l.d
@@ -39,17 +40,10 @@ module _ (p q r : Level) (dp : HasDivisor p) (dq : HasDivisor q) (dr : HasDiviso
   pub same_lower : IsSameHeight p q → IsLower q r → IsLower p r
   same_lower h k = at_most_then_lower p q r dp dq dr (up_to p q h) k
 
-  lower_chain : IsLower p q → IsLower q r → IsLower p r
-  lower_chain h k = lower_then_at_most p q r dp dq dr h (lower_weak q r k)
-
 -- ---- those after the first lie above it
-lifted : (l m : Level) (ls : List Level) → HasDivisor l → HasDivisor m → AllByRecursion HasDivisor ls → IsLower l m → AllByRecursion (IsLower m) ls → AllByRecursion (IsLower l) ls
-lifted l m [] dl dm ds o h = tt
-lifted l m (u ∷ ls) dl dm ds o h = (lower_chain l m u dl dm ds.0 o h.0, lifted l m ls dl dm ds.1 o h.1)
-
 above_first : (l : Level) (ls : List Level) → HasDivisor l → AllByRecursion HasDivisor ls → IsRising (l ∷ ls) → AllByRecursion (IsLower l) ls
 above_first l [] dl ds r = tt
-above_first l (m ∷ ls) dl ds r = (r.0, lifted l m ls dl ds.0 ds.1 r.0 (above_first m ls ds.0 ds.1 r.1))
+above_first l (m ∷ ls) dl ds r = (r.0, lifted (λ (l : Level). l) l m ls dl ds.0 ds.1 r.0 (above_first m ls ds.0 ds.1 r.1))
 
 rest_rises : (l : Level) (ls : List Level) → IsRising (l ∷ ls) → IsRising ls
 rest_rises l [] r = tt

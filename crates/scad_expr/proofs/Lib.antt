@@ -19,6 +19,7 @@ pub mod Loops
 pub mod Nodes
 pub mod OnLiterals
 pub mod OpenFrames
+pub mod Parts
 pub mod Rising
 pub mod RisingNodes
 pub mod RunsLeft

@@ -6,6 +6,7 @@ pub mod Laws
 pub mod Machine
 pub mod Meaning
 pub mod Opened
+pub mod Parts
 pub mod Places
 pub mod Portions
 pub mod Printed

@@ -4,16 +4,18 @@ ghost use Rattle.std.specs.Prelude.{◌≡◌, OnOk};
 ghost use Rattle.scad_ast.specs.Tree.{vector, item, each, for_each, let_element, if_element, if_else};
 ghost use Rattle.scad_ast.specs.View.{expression_of, arguments, element_of};
 ghost use Rattle.scad_ast.specs.View.{elements as tree_elements};
-ghost use Rattle.scad_value.specs.View.{datum_of, data_in};
+ghost use Rattle.scad_value.specs.View.{datum_of};
 ghost use Rattle.scad_expr.specs.Answers.{Does};
 ghost use Rattle.scad_expr.specs.Machine.{held, env_in, along_in, state_of};
 ghost use Rattle.scad_expr.specs.Meaning.{node, elements, element_node, meaning};
+ghost use Rattle.scad_expr.specs.Parts.{parts_in};
 ghost use Rattle.scad_expr.specs.Places.{element_place};
 
 use crate::fault::EvalFault;
+use crate::gathered::add_parts;
 use crate::judged::{judge_named, judge_variables};
 use crate::machine::Machine;
-use crate::running::add_items;
+use crate::part::Part;
 use crate::turn::{for_variables, loop_element};
 use crate::walk::{eval_at, stepped};
 use crate::within::bind_names;
@@ -37,20 +39,20 @@ pub(crate) fn vector_node<'p>(
     ensures kept { OnOk result (held m.new ≡ held m.old) }
 {
     let found = elements_at(alloc, all, depth, Vec::new(alloc), m)?;
-    m.vector(at, found)
+    m.vector(alloc, at, found)
 }
 
-/// The values so far, and behind them those of elements from left to right.
+/// The parts so far, and behind them those of elements from left to right.
 #[cycle(eval)]
 fn elements_at<'p>(
     alloc: Global,
     all: &'p [Elem],
     depth: u32,
-    before: Vec<Value>,
+    before: Vec<Part>,
     m: &mut Machine<'p>,
-) -> Result<Vec<Value>, EvalFault>
-    ensures does { Does data_in (elements (meaning depth) (env_in (held m.old))
-        (along_in (held m.old)) (tree_elements all.now) (data_in before) (state_of m.old))
+) -> Result<Vec<Part>, EvalFault>
+    ensures does { Does parts_in (elements (meaning depth) (env_in (held m.old))
+        (along_in (held m.old)) (tree_elements all.now) (parts_in before) (state_of m.old))
         result (state_of m.new) }
     ensures kept { OnOk result (held m.new ≡ held m.old) }
 {
@@ -61,18 +63,18 @@ fn elements_at<'p>(
     Ok(so_far)
 }
 
-/// The values so far, and behind them those of an element, with so many levels of depth left.
+/// The parts so far, and behind them those of an element, with so many levels of depth left.
 #[cycle(eval)]
 #[tactic(auto, using(crate::proofs::DepthLeft::elements), unfolding(crate::specs::State::over))]
 pub(crate) fn element_at<'p>(
     alloc: Global,
     e: &'p Elem,
     depth: u32,
-    so_far: Vec<Value>,
+    so_far: Vec<Part>,
     m: &mut Machine<'p>,
-) -> Result<Vec<Value>, EvalFault>
-    ensures does { Does data_in ((meaning depth).element (env_in (held m.old))
-        (along_in (held m.old)) (element_of e.now) (data_in so_far) (state_of m.old))
+) -> Result<Vec<Part>, EvalFault>
+    ensures does { Does parts_in ((meaning depth).element (env_in (held m.old))
+        (along_in (held m.old)) (element_of e.now) (parts_in so_far) (state_of m.old))
         result (state_of m.new) }
     ensures kept { OnOk result (held m.new ≡ held m.old) }
 {
@@ -89,11 +91,11 @@ fn element_node<'p>(
     alloc: Global,
     e: &'p Elem,
     depth: u32,
-    so_far: Vec<Value>,
+    so_far: Vec<Part>,
     m: &mut Machine<'p>,
-) -> Result<Vec<Value>, EvalFault>
-    ensures does { Does data_in (element_node (meaning depth) (env_in (held m.old))
-        (along_in (held m.old)) (element_of e.now) (data_in so_far) (state_of m.old))
+) -> Result<Vec<Part>, EvalFault>
+    ensures does { Does parts_in (element_node (meaning depth) (env_in (held m.old))
+        (along_in (held m.old)) (element_of e.now) (parts_in so_far) (state_of m.old))
         result (state_of m.new) }
     ensures kept { OnOk result (held m.new ≡ held m.old) }
 {
@@ -114,21 +116,21 @@ fn element_node<'p>(
 
 /// An expression, which stands where the element does.
 #[cycle(eval)]
-#[tactic(auto, unfolding(crate::specs::Meaning::element_node))]
+#[tactic(auto, using(crate::proofs::Parts::pushed), unfolding(crate::specs::Meaning::element_node))]
 fn item_element<'p>(
     alloc: Global,
     e: &'p Expr,
     depth: u32,
-    mut so_far: Vec<Value>,
+    mut so_far: Vec<Part>,
     m: &mut Machine<'p>,
-) -> Result<Vec<Value>, EvalFault>
-    ensures does { Does data_in (element_node (meaning depth) (env_in (held m.old))
-        (along_in (held m.old)) (item (expression_of e.now)) (data_in so_far) (state_of m.old))
+) -> Result<Vec<Part>, EvalFault>
+    ensures does { Does parts_in (element_node (meaning depth) (env_in (held m.old))
+        (along_in (held m.old)) (item (expression_of e.now)) (parts_in so_far) (state_of m.old))
         result (state_of m.new) }
     ensures kept { OnOk result (held m.new ≡ held m.old) }
 {
     let value = stepped(alloc, e, depth, m)?;
-    so_far.push(value)?;
+    so_far.push(Part::One(value))?;
     Ok(so_far)
 }
 
@@ -140,17 +142,17 @@ fn each_element<'p>(
     at: Place,
     e: &'p Elem,
     depth: u32,
-    so_far: Vec<Value>,
+    so_far: Vec<Part>,
     m: &mut Machine<'p>,
-) -> Result<Vec<Value>, EvalFault>
-    ensures does { Does data_in (element_node (meaning depth) (env_in (held m.old))
-        (along_in (held m.old)) (each at (element_of e.now)) (data_in so_far) (state_of m.old))
+) -> Result<Vec<Part>, EvalFault>
+    ensures does { Does parts_in (element_node (meaning depth) (env_in (held m.old))
+        (along_in (held m.old)) (each at (element_of e.now)) (parts_in so_far) (state_of m.old))
         result (state_of m.new) }
     ensures kept { OnOk result (held m.new ≡ held m.old) }
 {
     m.step(at)?;
     let found = element_at(alloc, e, depth, Vec::new(alloc), m)?;
-    Ok(add_items(alloc, so_far, found)?)
+    Ok(add_parts(alloc, so_far, found)?)
 }
 
 /// `for (variables) element`
@@ -162,12 +164,12 @@ fn for_element<'p>(
     args: &'p [Arg],
     e: &'p Elem,
     depth: u32,
-    so_far: Vec<Value>,
+    so_far: Vec<Part>,
     m: &mut Machine<'p>,
-) -> Result<Vec<Value>, EvalFault>
-    ensures does { Does data_in (element_node (meaning depth) (env_in (held m.old))
+) -> Result<Vec<Part>, EvalFault>
+    ensures does { Does parts_in (element_node (meaning depth) (env_in (held m.old))
         (along_in (held m.old)) (for_each at (arguments args.now) (element_of e.now))
-        (data_in so_far) (state_of m.old)) result (state_of m.new) }
+        (parts_in so_far) (state_of m.old)) result (state_of m.new) }
     ensures kept { OnOk result (held m.new ≡ held m.old) }
 {
     m.step(at)?;
@@ -184,12 +186,12 @@ fn let_element<'p>(
     args: &'p [Arg],
     e: &'p Elem,
     depth: u32,
-    so_far: Vec<Value>,
+    so_far: Vec<Part>,
     m: &mut Machine<'p>,
-) -> Result<Vec<Value>, EvalFault>
-    ensures does { Does data_in (element_node (meaning depth) (env_in (held m.old))
+) -> Result<Vec<Part>, EvalFault>
+    ensures does { Does parts_in (element_node (meaning depth) (env_in (held m.old))
         (along_in (held m.old)) (let_element at (arguments args.now) (element_of e.now))
-        (data_in so_far) (state_of m.old)) result (state_of m.new) }
+        (parts_in so_far) (state_of m.old)) result (state_of m.new) }
     ensures kept { OnOk result (held m.new ≡ held m.old) }
 {
     m.step(at)?;
@@ -209,12 +211,12 @@ fn if_element<'p>(
     test: &'p Expr,
     e: &'p Elem,
     depth: u32,
-    so_far: Vec<Value>,
+    so_far: Vec<Part>,
     m: &mut Machine<'p>,
-) -> Result<Vec<Value>, EvalFault>
-    ensures does { Does data_in (element_node (meaning depth) (env_in (held m.old))
+) -> Result<Vec<Part>, EvalFault>
+    ensures does { Does parts_in (element_node (meaning depth) (env_in (held m.old))
         (along_in (held m.old)) (if_element at (expression_of test.now) (element_of e.now))
-        (data_in so_far) (state_of m.old)) result (state_of m.new) }
+        (parts_in so_far) (state_of m.old)) result (state_of m.new) }
     ensures kept { OnOk result (held m.new ≡ held m.old) }
 {
     m.step(at)?;
@@ -236,12 +238,12 @@ fn if_else<'p>(
     e: &'p Elem,
     other: &'p Elem,
     depth: u32,
-    so_far: Vec<Value>,
+    so_far: Vec<Part>,
     m: &mut Machine<'p>,
-) -> Result<Vec<Value>, EvalFault>
-    ensures does { Does data_in (element_node (meaning depth) (env_in (held m.old))
+) -> Result<Vec<Part>, EvalFault>
+    ensures does { Does parts_in (element_node (meaning depth) (env_in (held m.old))
         (along_in (held m.old)) (if_else at (expression_of test.now) (element_of e.now)
-        (element_of other.now)) (data_in so_far) (state_of m.old)) result (state_of m.new) }
+        (element_of other.now)) (parts_in so_far) (state_of m.old)) result (state_of m.new) }
     ensures kept { OnOk result (held m.new ≡ held m.old) }
 {
     m.step(at)?;

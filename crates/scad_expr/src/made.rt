@@ -6,12 +6,15 @@ ghost use Rattle.scad_value.specs.Datum.{vector};
 ghost use Rattle.scad_value.specs.View.{datum_of, data_of};
 ghost use Rattle.scad_expr.specs.Answers.{Does, nothing};
 ghost use Rattle.scad_expr.specs.Machine.{held, state_of};
+ghost use Rattle.scad_expr.specs.Parts.{parts_in};
 ghost use Rattle.scad_expr.specs.Printed.{echo_line};
 ghost use Rattle.scad_expr.specs.Runs.{as_elements};
 ghost use Rattle.scad_expr.specs.State.{make, say};
 
 use crate::fault::EvalFault;
+use crate::gathered::values_of;
 use crate::machine::Machine;
+use crate::part::Part;
 use crate::printed::echo_line;
 use scad_ast::Arg;
 use scad_fault::Place;
@@ -19,13 +22,19 @@ use scad_value::Value;
 use std::alloc::Global;
 
 impl<'p> Machine<'p> {
-    /// The vector of these values.
-    pub(crate) fn vector(&mut self, at: Place, found: Vec<Value>) -> Result<Value, EvalFault>
-        ensures does { Does datum_of (make at (vector (as_elements (data_of found.items))) (state_of self.old))
+    /// The vector of these parts.
+    pub(crate) fn vector(
+        &mut self,
+        alloc: Global,
+        at: Place,
+        found: Vec<Part>,
+    ) -> Result<Value, EvalFault>
+        ensures does { Does datum_of (make at (vector (as_elements (parts_in found))) (state_of self.old))
             result (state_of self.new) }
         ensures kept { held self.new ≡ held self.old }
     {
-        self.make(at, Value::List(found))
+        let all = values_of(alloc, found)?;
+        self.make(at, Value::List(all))
     }
 
     /// The line of these arguments with their values.

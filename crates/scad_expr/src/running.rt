@@ -1,7 +1,6 @@
 //! What `for` and `each` run over: elements, characters and numbers.
 
 ghost use Rattle.std.specs.Prelude.{◌≡◌, ◌++◌, ◌∷◌, [], false, Some, IfOk, OnOk, MatchOption, map};
-ghost use Rattle.std.specs.List.{flat_map};
 ghost use Rattle.scad_value.specs.Datum.{number, string};
 ghost use Rattle.scad_value.specs.View.{datum_of, data_of, data_in};
 ghost use Rattle.scad_expr.specs.Portions.{is_past, numbers_left};
@@ -117,19 +116,4 @@ pub fn items_of(alloc: Global, value: Value) -> Result<Vec<Value>, AllocError>
     let mut all = Vec::new(alloc);
     add(alloc, &mut all, value)?;
     Ok(all)
-}
-
-/// What `each` puts in place of values, behind those so far.
-pub(crate) fn add_items(
-    alloc: Global,
-    before: Vec<Value>,
-    found: Vec<Value>,
-) -> Result<Vec<Value>, AllocError>
-    ensures { IfOk result (λ all. data_in all ≡ data_in before ++ flat_map items (data_in found)) }
-{
-    let mut out = before;
-    'values: for value in found {
-        add(alloc, &mut out, value)?;
-    }
-    Ok(out)
 }

@@ -9,6 +9,7 @@ ghost use Rattle.scad_expr.specs.Answers.{Does};
 ghost use Rattle.scad_expr.specs.Machine.{held, env_in, along_in, state_of};
 ghost use Rattle.scad_expr.specs.Meaning.{element_node, turns, for_variables, loop_turns, meaning};
 ghost use Rattle.scad_expr.specs.Opened.{bound_in, outer, IsInner};
+ghost use Rattle.scad_expr.specs.Parts.{parts_in};
 ghost use Rattle.scad_expr.specs.Portions.{turn, turn_on, holds};
 ghost use Rattle.scad_expr.specs.Runs.{items};
 ghost use Rattle.scad_expr.specs.State.{step_limit};
@@ -17,6 +18,7 @@ use crate::element::element_at;
 use crate::fault::EvalFault;
 use crate::judged::judge_named;
 use crate::machine::Machine;
+use crate::part::Part;
 use crate::running::{items_of, next_number};
 use crate::walk::eval_at;
 use crate::within::{bind_names, set_names};
@@ -35,11 +37,11 @@ pub(crate) fn for_variables<'p>(
     args: &'p [Arg],
     body: &'p Elem,
     depth: u32,
-    so_far: Vec<Value>,
+    so_far: Vec<Part>,
     m: &mut Machine<'p>,
-) -> Result<Vec<Value>, EvalFault>
-    ensures does { Does data_in (for_variables (meaning depth) at (arguments args.now)
-        (element_of body.now) (env_in (held m.old)) (along_in (held m.old)) (data_in so_far)
+) -> Result<Vec<Part>, EvalFault>
+    ensures does { Does parts_in (for_variables (meaning depth) at (arguments args.now)
+        (element_of body.now) (env_in (held m.old)) (along_in (held m.old)) (parts_in so_far)
         (state_of m.old)) result (state_of m.new) }
     ensures kept { OnOk result (held m.new ≡ held m.old) }
 {
@@ -75,12 +77,12 @@ fn turns<'p>(
     more: &'p [Arg],
     body: &'p Elem,
     depth: u32,
-    so_far: Vec<Value>,
+    so_far: Vec<Part>,
     m: &mut Machine<'p>,
-) -> Result<Vec<Value>, EvalFault>
-    ensures does { Does data_in (turns (meaning depth) at name.now
+) -> Result<Vec<Part>, EvalFault>
+    ensures does { Does parts_in (turns (meaning depth) at name.now
         (for_variables (meaning depth) at (arguments more.now) (element_of body.now))
-        (env_in (held m.old)) (along_in (held m.old)) (items (datum_of over)) (data_in so_far)
+        (env_in (held m.old)) (along_in (held m.old)) (items (datum_of over)) (parts_in so_far)
         (state_of m.old)) result (state_of m.new) }
     ensures kept { OnOk result (held m.new ≡ held m.old) }
 {
@@ -109,13 +111,13 @@ fn turns_in_range<'p>(
     more: &'p [Arg],
     body: &'p Elem,
     depth: u32,
-    before: Vec<Value>,
+    before: Vec<Part>,
     m: &mut Machine<'p>,
-) -> Result<Vec<Value>, EvalFault>
-    ensures does { Does data_in (turns (meaning depth) at name.now
+) -> Result<Vec<Part>, EvalFault>
+    ensures does { Does parts_in (turns (meaning depth) at name.now
         (for_variables (meaning depth) at (arguments more.now) (element_of body.now))
         (env_in (held m.old)) (along_in (held m.old)) (items (range start step end))
-        (data_in before) (state_of m.old)) result (state_of m.new) }
+        (parts_in before) (state_of m.old)) result (state_of m.new) }
     ensures kept { OnOk result (held m.new ≡ held m.old) }
 {
     let mut so_far = before;
@@ -147,12 +149,12 @@ fn turns_over<'p>(
     more: &'p [Arg],
     body: &'p Elem,
     depth: u32,
-    before: Vec<Value>,
+    before: Vec<Part>,
     m: &mut Machine<'p>,
-) -> Result<Vec<Value>, EvalFault>
-    ensures does { Does data_in (turns (meaning depth) at name.now
+) -> Result<Vec<Part>, EvalFault>
+    ensures does { Does parts_in (turns (meaning depth) at name.now
         (for_variables (meaning depth) at (arguments more.now) (element_of body.now))
-        (env_in (held m.old)) (along_in (held m.old)) (data_in all) (data_in before)
+        (env_in (held m.old)) (along_in (held m.old)) (data_in all) (parts_in before)
         (state_of m.old)) result (state_of m.new) }
     ensures kept { OnOk result (held m.new ≡ held m.old) }
 {
@@ -174,12 +176,12 @@ fn turn<'p>(
     more: &'p [Arg],
     body: &'p Elem,
     depth: u32,
-    so_far: Vec<Value>,
+    so_far: Vec<Part>,
     m: &mut Machine<'p>,
-) -> Result<Vec<Value>, EvalFault>
-    ensures does { Does data_in (turn at name.now
+) -> Result<Vec<Part>, EvalFault>
+    ensures does { Does parts_in (turn at name.now
         (for_variables (meaning depth) at (arguments more.now) (element_of body.now))
-        (env_in (held m.old)) (along_in (held m.old)) (datum_of value) (data_in so_far)
+        (env_in (held m.old)) (along_in (held m.old)) (datum_of value) (parts_in so_far)
         (state_of m.old)) result (state_of m.new) }
     ensures kept { OnOk result (held m.new ≡ held m.old) }
 {
@@ -201,12 +203,12 @@ pub(crate) fn loop_element<'p>(
     steps: &'p [Arg],
     body: &'p Elem,
     depth: u32,
-    so_far: Vec<Value>,
+    so_far: Vec<Part>,
     m: &mut Machine<'p>,
-) -> Result<Vec<Value>, EvalFault>
-    ensures does { Does data_in (element_node (meaning depth) (env_in (held m.old))
+) -> Result<Vec<Part>, EvalFault>
+    ensures does { Does parts_in (element_node (meaning depth) (env_in (held m.old))
         (along_in (held m.old)) (for_loop at (arguments starts.now) (expression_of test.now)
-        (arguments steps.now) (element_of body.now)) (data_in so_far) (state_of m.old))
+        (arguments steps.now) (element_of body.now)) (parts_in so_far) (state_of m.old))
         result (state_of m.new) }
     ensures kept { OnOk result (held m.new ≡ held m.old) }
 {
@@ -228,14 +230,14 @@ fn loop_turns<'p>(
     steps: &'p [Arg],
     body: &'p Elem,
     depth: u32,
-    before: Vec<Value>,
+    before: Vec<Part>,
     m: &mut Machine<'p>,
-) -> Result<Vec<Value>, EvalFault>
+) -> Result<Vec<Part>, EvalFault>
     requires { IsInner (held m.old) }
-    ensures does { Does data_in (loop_turns (meaning depth) (suc step_limit) at
+    ensures does { Does parts_in (loop_turns (meaning depth) (suc step_limit) at
         (expression_of test.now) (arguments steps.now) (element_of body.now)
         (env_in (outer (held m.old))) (along_in (outer (held m.old))) (bound_in (held m.old))
-        (data_in before) (state_of m.old)) result (state_of m.new) }
+        (parts_in before) (state_of m.old)) result (state_of m.new) }
     ensures outer { OnOk result (outer (held m.new) ≡ outer (held m.old)) }
 {
     let mut so_far = before;
@@ -275,13 +277,13 @@ fn turn_on<'p>(
     steps: &'p [Arg],
     body: &'p Elem,
     depth: u32,
-    so_far: Vec<Value>,
+    so_far: Vec<Part>,
     m: &mut Machine<'p>,
-) -> Result<Vec<Value>, EvalFault>
+) -> Result<Vec<Part>, EvalFault>
     requires { IsInner (held m.old) }
-    ensures does { Does (λ v. (bound_in (held m.new), data_in v)) (turn_on (meaning depth) at
+    ensures does { Does (λ v. (bound_in (held m.new), parts_in v)) (turn_on (meaning depth) at
         (arguments steps.now) (element_of body.now) (env_in (outer (held m.old)))
-        (along_in (outer (held m.old))) (bound_in (held m.old)) (data_in so_far)
+        (along_in (outer (held m.old))) (bound_in (held m.old)) (parts_in so_far)
         (state_of m.old)) result (state_of m.new) }
     ensures inner { OnOk result (IsInner (held m.new)) }
     ensures outer { OnOk result (outer (held m.new) ≡ outer (held m.old)) }

@@ -1,6 +1,6 @@
 -- Modules in memory, the environments where their definitions stand, and the children that frames keep.
 use Rattle.std.proofs.Common.{◌≡◌, ℕ, ◌<◌, ◌≤◌, List, length, take, Option, Some, None, option_map, if◌then◌else◌, Vec, Global, refl, sym, ap, ◌∙◌, arith}
-use Rattle.std.proofs.lemmas.List.{get_or_past, get_or_default}
+use Rattle.std.proofs.lemmas.List.{get_or_past}
 use Rattle.scad_fault.specs.declared.place.Place.{Place}
 use Rattle.scad_ast.specs.declared.expression.Expr.{Expr}
 use Rattle.scad_ast.specs.declared.statement.Param.{Param}
@@ -11,8 +11,8 @@ use Rattle.scad_ast.specs.Scope.{item_of, body_of}
 use Rattle.scad_ast.proofs.ScopeRows.{module_view}
 use Rattle.scad_scope.specs.Names.{is_same_name}
 use Rattle.scad_scope.specs.Env.{outside, or_else}
-use Rattle.scad_scope.specs.Stored.{Stored, pushed, stored_at, env_at, env_round, env_of, envs}
-use Rattle.scad_scope.proofs.Outwards.{env_at-number, length-envs, round-before, round-past}
+use Rattle.scad_scope.specs.Stored.{Stored, stored_at, env_at, env_round, env_of, envs}
+use Rattle.scad_scope.proofs.Outwards.{length-envs, round-before, round-past}
 use Rattle.scad_inst.specs.Modules.{found_in, defined, defined_in, module_named}
 use Rattle.scad_inst.specs.Modules.{Module as Definition}
 use Rattle.scad_inst.specs.View.{definition}

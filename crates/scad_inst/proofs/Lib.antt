@@ -19,4 +19,5 @@ pub mod Bodies
 pub mod Calls
 pub mod MadeTrees
 pub mod Fine
+pub mod NearRange
 pub mod Rounds

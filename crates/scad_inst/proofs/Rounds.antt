@@ -1,8 +1,8 @@
 -- One more turn of each loop over statements, values and children, and the end of it, in terms of what all of them give.
 use Rattle.std.proofs.Common.{◌≡◌, ℕ, ℤ, ◌+◌, ◌<◌, ◌≤◌, Bool, List, [], ◌∷◌, length, get_or, drop, map, Option, Some, refl, sym, ap, ap₂, ◌∙◌, arith}
-use Rattle.std.proofs.lemmas.List.{drop_more, drop_all}
+use Rattle.std.proofs.lemmas.List.{drop_all}
 use Rattle.scad_fault.specs.declared.place.Place.{Place}
-use Rattle.scad_ast.specs.Tree.{Expression, Arguments, argument, Items, no_items, entry}
+use Rattle.scad_ast.specs.Tree.{Expression, Arguments, argument, Items, no_items}
 use Rattle.scad_ast.specs.declared.statement.Item.{Item}
 use Rattle.scad_ast.specs.declared.expression.Arg.{Arg}
 use Rattle.scad_ast.specs.View.{expression_of, arguments}

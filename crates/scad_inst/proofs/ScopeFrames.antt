@@ -1,15 +1,13 @@
 -- What names mean in the frames of a scope.
-use Rattle.std.proofs.Common.{◌≡◌, ℕ, ◌-◌, Bool, true, false, List, [], ◌∷◌, ◌++◌, length, get_or, set, Some, None, if◌then◌else◌, refl, sym, ap, ap₂, ◌∙◌, arith}
-use Rattle.std.proofs.lemmas.List.{length-append, take_at}
-use Rattle.std.proofs.Math.Seq.{get_or-append_seam}
+use Rattle.std.proofs.Common.{◌≡◌, ℕ, Bool, true, false, List, [], ◌∷◌, ◌++◌, Some, None, if◌then◌else◌, refl, sym, ap, ap₂, ◌∙◌}
+use Rattle.std.proofs.lemmas.List.{take_at}
 use Rattle.scad_ast.specs.Tree.{Items}
 use Rattle.scad_value.specs.Datum.{Datum}
 use Rattle.scad_scope.specs.Names.{with_name}
-use Rattle.scad_scope.specs.Env.{outside, inside, frame, no_children}
-use Rattle.scad_scope.specs.Stored.{Stored, pushed, stored_at, with_name_in, with_name_in_last, env_at, env_round, env_of, envs}
-use Rattle.scad_scope.proofs.Outwards.{envs-push, length-envs}
+use Rattle.scad_scope.specs.Env.{inside, frame, no_children}
+use Rattle.scad_scope.specs.Stored.{Stored, with_name_in_last, env_at, envs}
 use Rattle.scad_expr.specs.Machine.{Held, env_in, along_in}
-use Rattle.scad_expr.specs.Opened.{last_of, set_in_last, left, last_frame, bound_in, opened_in}
+use Rattle.scad_expr.specs.Opened.{last_of, set_in_last, left, bound_in, opened_in}
 use Rattle.scad_expr.specs.Variables.{is_dollar, Bound, empty, within}
 use Rattle.scad_expr.specs.Variables.{set as set_name}
 use Rattle.scad_scope.specs.Assigned.{bindings}

@@ -12,3 +12,4 @@ pub mod Scopes
 pub mod View
 pub mod Where
 pub mod Model
+pub mod Near

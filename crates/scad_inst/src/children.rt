@@ -22,6 +22,7 @@ ghost use Rattle.scad_inst.specs.View.{trees_in};
 use crate::chosen::child_named;
 use crate::kept::kept_children;
 use crate::members::{member, members_from};
+use crate::near::near;
 use crate::operation::Operation;
 use crate::scopes::open_scope;
 use crate::space::Where;
@@ -149,9 +150,29 @@ fn children_by<'p>(
     Ok(so_far)
 }
 
-/// The members of the children that the numbers of a range name.
+/// The members of the children that the numbers of a range name, which are sought where children can be.
 #[cycle(run)]
 fn children_in_range<'p>(
+    alloc: Global,
+    w: &Where,
+    start: Num,
+    step: Num,
+    end: Num,
+    scope: &'p Scope,
+    m: &mut Machine<'p>,
+) -> Result<Vec<Tree>, EvalFault>
+    ensures does { Does trees_in (children_by (below_of (held m.old)) w.now (env_in (held m.old))
+        (along_in (held m.old)) (items scope.now.items) (run_over (range start step end)) [] (state_of m.old)) result
+        (state_of m.new) }
+    ensures kept { OnOk result (held m.new ≡ held m.old) }
+{
+    let (first, last) = near(scope, start, step, end);
+    children_near(alloc, w, first, step, last, scope, m)
+}
+
+/// The members of the children that the numbers of a range name, one by one.
+#[cycle(run)]
+fn children_near<'p>(
     alloc: Global,
     w: &Where,
     start: Num,

@@ -15,6 +15,7 @@ mod item;
 mod kept;
 mod leaves;
 mod members;
+mod near;
 mod operation;
 mod programs;
 mod refused;

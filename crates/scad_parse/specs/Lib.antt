@@ -1,3 +1,4 @@
+pub mod Heads
 pub mod JudgedFault
 pub mod Reading
 pub mod ReadingStatements

@@ -1,20 +1,48 @@
 -- What the answers of the descent say where it reads statements and definitions.
-use Rattle.std.specs.Prelude.{ℕ, suc, Bool, true, List, [], ◌∷◌, Option, None, Result, Err, option_map, if◌then◌else◌, codes}
+use Rattle.std.specs.Prelude.{ℕ, zero, suc, Bool, true, List, [], ◌∷◌, Option, Some, None, Ok, Err, option_map, map}
+use Rattle.std.specs.Prelude.{if◌then◌else◌, codes}
+use Rattle.std.specs.Global.{Vec}
 use Rattle.scad_fault.specs.declared.place.Place.{Place}
 use Rattle.scad_lex.specs.declared.token.Token.{Token}
-use Rattle.scad_lex.specs.declared.token.Sign.TheVariants.{Star, Percent, Hash}
-use Rattle.scad_lex.specs.declared.token.Key.TheVariants.{Include, Use}
+use Rattle.scad_lex.specs.declared.token.Sign.TheVariants.{Star, Percent, Hash, Bang, Assign}
+use Rattle.scad_lex.specs.declared.token.Key.TheVariants.{If, Else}
 use Rattle.scad_ast.specs.Tree.{Expression, Parameter, Items, no_items}
 use Rattle.scad_ast.specs.View.{expression_of}
+use Rattle.scad_ast.specs.Scope.{items, parameter}
+use Rattle.scad_ast.specs.declared.expression.Expr.{Expr}
+use Rattle.scad_ast.specs.declared.statement.Item.{Item}
 use Rattle.scad_ast.specs.declared.statement.Param.{Param}
 use Rattle.scad_parse.specs.declared.mark.Marked.{Marked}
-use Rattle.scad_grammar.specs.Tokens.{begins_with, begins_with_key}
-use Rattle.scad_grammar.specs.Lists.{with_parameter, Marks, no_marks, starred, percented, hashed}
-use Rattle.scad_grammar.specs.Behind.{Defined, a_module, a_function, BehindItems, module_body, BehindParameters, open_items, open_parameters}
-use Rattle.scad_grammar.specs.State.{State, want_statement, want_marked, want_assign}
+use Rattle.scad_grammar.specs.Tokens.{is_sign, is_key, word_of, begins_with}
+use Rattle.scad_grammar.specs.Lists.{Marks, starred, percented, hashed}
 use Rattle.scad_grammar.specs.StatementSteps.{callee}
-use Rattle.scad_grammar.specs.Machine.{Refusal, left_out_at, outcome}
-use Rattle.scad_parse.specs.Reading.{place_of}
+use Rattle.scad_grammar.specs.Machine.{syntax_at, left_out_at}
+use Rattle.scad_grammar.specs.Rules.{Read, then_read, Rules, expr_of}
+use Rattle.scad_grammar.specs.StatementRules.{StatementRules, above_statements, heading_of, choice_behind_of, call_by}
+use Rattle.scad_grammar.specs.StatementRules.{child_of}
+use Rattle.scad_parse.specs.Reading.{rules_at}
+
+-- the rules of statements for one construct less than these, where one may open
+unfoldable pub below_statements : Place → ℕ → Option StatementRules
+below_statements end zero = None
+below_statements end (suc room) = Some (above_statements end (rules_at end room) (below_statements end room))
+
+-- the rules of statements where so many more constructs may open
+abbrev pub statement_rules_at : Place → ℕ → StatementRules
+statement_rules_at end room = above_statements end (rules_at end room) (below_statements end room)
+
+-- a scope, and parameters, as they are seen
+abbrev pub scope_seen : Vec Item → Items
+scope_seen all = items all.items
+
+abbrev pub parameters_seen : Vec Param → List Parameter
+parameters_seen all = map parameter all.items
+
+abbrev pub default_seen : Option Expr → Option Expression
+default_seen e = option_map expression_of e
+
+abbrev pub heading_seen : List ℕ × Vec Param → List ℕ × List Parameter
+heading_seen h = (h.0, parameters_seen h.1)
 
 -- the marks that stand before a statement
 abbrev pub marks_of : Marked → Marks
@@ -30,60 +58,35 @@ abbrev pub with_first_mark : Marks → List Token → Marks
 with_first_mark m ts = if begins_with Star ts then starred m
     else (if begins_with Percent ts then percented m else hashed m)
 
--- the name that a call calls
-abbrev pub first_callee : List Token → Option (List ℕ)
-first_callee [] = None
-first_callee (t ∷ ts) = callee t
+-- behind the last mark
+unfoldable pub unmarked_of : Place → Rules → Option StatementRules → Marks → Items → List Token → Read Items
+unmarked_of end same lower m all [] = Err (syntax_at end)
+unmarked_of end same lower m all (t ∷ ts) =
+    if is_sign Bang t then Err (left_out_at t.at (codes "!"))
+    else (if is_key If t then choice_behind_of end same lower t.at m all ts
+    else call_by end same lower t (callee t) m all ts)
 
--- the outcome where a mark, a call or an `if` is to come
-abbrev pub outcome_first : Items → BehindItems → List Token → Place → Result Items Refusal
-outcome_first a k ts end =
-    if begins_with_key Include ts then Err (left_out_at (place_of end ts) (codes "include"))
-    else (if begins_with_key Use ts then Err (left_out_at (place_of end ts) (codes "use"))
-    else outcome (want_marked no_marks a k) ts end)
+-- ["else" child]
+unfoldable pub other_of : Place → Option StatementRules → List Token → Read Items
+other_of end lower [] = Ok (no_items, [])
+other_of end lower (t ∷ ts) = if is_key Else t then child_of end lower ts else Ok (no_items, t ∷ ts)
 
--- inside one more construct
-abbrev pub open_inside : BehindItems → ℕ
-open_inside k = suc (open_items k)
+-- WORD "(" params ")"
+unfoldable pub heading_read : Place → Option StatementRules → List Token → Read (List ℕ × List Parameter)
+heading_read end lower ts = heading_of end lower (λ w params us. Ok ((w, params), us)) ts
 
-abbrev pub open_in_parameters : BehindParameters → ℕ
-open_in_parameters k = suc (open_parameters k)
+-- ["=" expr]
+unfoldable pub default_of : Place → Option Rules → List Token → Read (Option Expression)
+default_of end lower [] = Err (syntax_at end)
+default_of end lower (t ∷ ts) =
+    if is_sign Assign t then then_read (expr_of end lower ts) (λ e us. Ok (Some e, us)) else Ok (None, t ∷ ts)
 
--- parameters so far, and what stands open behind them
-pub record Parametered : Type 0 where
-  pub all : List Parameter
-  pub behind : BehindParameters
+abbrev pub parameter_by : Place → Option Rules → Place → Option (List ℕ) → List Token → Read Parameter
+parameter_by end lower at None ts = Err (syntax_at at)
+parameter_by end lower at (Some w) ts =
+    then_read (default_of end lower ts) (λ d us. Ok (record { name = w; default = d }, us))
 
-abbrev pub open_parametered : Parametered → ℕ
-open_parametered m = suc (open_parameters m.behind)
-
--- a parameter as the list's last
-abbrev pub with_param : List Parameter → Param → List Parameter
-with_param all p = with_parameter all p.name (option_map expression_of p.default)
-
--- a definition that has begun, in a scope with these items
-pub record Heading : Type 0 where
-  pub what : Defined
-  pub at : Place
-  pub all : Items
-  pub behind : BehindItems
-
-abbrev pub open_heading : Heading → ℕ
-open_heading q = suc (open_items q.behind)
-
--- behind `)` of the parameters
-abbrev pub headed : Defined → Place → List ℕ → List Parameter → Items → BehindItems → State
-headed a_module at w params a k = want_statement true no_items (module_body at w params a k)
-headed a_function at w params a k = want_assign at w params a k
-
--- an `if` with its first child
-pub record Held : Type 0 where
-  pub at : Place
-  pub marks : Marks
-  pub test : Expression
-  pub held : Items
-  pub all : Items
-  pub behind : BehindItems
-
-abbrev pub open_held : Held → ℕ
-open_held q = suc (open_items q.behind)
+-- WORD ["=" expr]
+unfoldable pub parameter_of : Place → Option Rules → List Token → Read Parameter
+parameter_of end lower [] = Err (syntax_at end)
+parameter_of end lower (t ∷ ts) = parameter_by end lower t.at (word_of t) ts

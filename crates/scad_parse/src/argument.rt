@@ -1,16 +1,15 @@
 //! Arguments.
 
-ghost use Rattle.std.specs.Prelude.{◌≡◌, ◌<◌, ◌≤◌, length, MatchResult, true, false};
+ghost use Rattle.std.specs.Prelude.{◌≡◌, length};
 ghost use Rattle.scad_ast.specs.Tree.{no_arguments};
 ghost use Rattle.scad_ast.specs.View.{arguments};
-ghost use Rattle.scad_grammar.specs.Grammar.{at_end_of_arguments};
-ghost use Rattle.scad_grammar.specs.State.{want_arguments, in_arguments, after_argument, have_arguments};
-ghost use Rattle.scad_parse.specs.Reading.{Reads, Stops, open_closing_arguments, open_before_arguments, open_in_arguments, open_members, with_arg};
+ghost use Rattle.scad_grammar.specs.Rules.{args_of, args_closed_of, in_round_of};
+ghost use Rattle.scad_parse.specs.Reading.{Gives, below, argument_of, argument_seen, arguments_seen};
 
 use crate::expression::expression;
-use crate::fault::ParseFault;
-use crate::front::{behind, expect, expect_word, is_end_of_arguments, is_named};
-use crate::reading::{behind_argument, entered};
+use crate::front::{behind, expect, first_word, is_end_of_arguments, is_named, place};
+use crate::nesting::opened;
+use crate::reading::{Read, behind_argument};
 use scad_ast::{Arg, Args};
 use scad_fault::Place;
 use scad_lex::{Sign, Token};
@@ -18,134 +17,64 @@ use std::alloc::Global;
 
 // "(" args ")"
 #[cycle(expression)]
+#[tactic(auto, using(crate::proofs::rules::Room::rounds))]
 pub(crate) fn round_arguments<'a>(
     alloc: Global,
     ts: &'a [Token],
     end: Place,
-    depth: u32,
-) -> Result<(Args, &'a [Token]), ParseFault>
-    requires { depth ≤ 200 }
-    ensures { MatchResult result
-        (λ r. (length r.1.now < length ts.now)
-        × Reads open_before_arguments (λ q. want_arguments q.behind) (λ q. q.next (arguments r.0.items)) depth
-        ts.now r.1.now «end»)
-        (Stops open_before_arguments (λ q. want_arguments q.behind) depth ts.now «end») }
+    room: u32,
+) -> Read<'a, Args>
+    ensures { Gives (in_round_of «end» (below «end» room) (λ r us. r.args_closed us) ts.now) arguments_seen result }
 {
-    let inner = match entered(ts, end, depth) {
-        Ok(inner) => inner,
-        Err(fault) => return Err(fault),
-    };
-    let args = match closed_arguments(alloc, inner.1, end, inner.0) {
-        Ok(args) => args,
-        Err(fault) => return Err(fault),
-    };
-    Ok((args.0, args.1))
+    let rest = expect(Sign::OpenRound, ts, end)?;
+    let inner = opened(room, place(ts, end))?;
+    closed_arguments(alloc, rest, end, inner)
 }
 
 // args ")"
 #[cycle(expression)]
+#[tactic(auto, using(crate::proofs::rules::Room::signs))]
 pub(crate) fn closed_arguments<'a>(
     alloc: Global,
     ts: &'a [Token],
     end: Place,
-    depth: u32,
-) -> Result<(Args, &'a [Token]), ParseFault>
-    requires { depth ≤ 200 }
-    ensures { MatchResult result
-        (λ r. (length r.1.now < length ts.now)
-        × Reads open_closing_arguments (λ q. in_arguments no_arguments q.behind)
-        (λ q. q.next (arguments r.0.items)) depth ts.now r.1.now «end»)
-        (Stops open_closing_arguments (λ q. in_arguments no_arguments q.behind) depth ts.now «end») }
+    room: u32,
+) -> Read<'a, Args>
+    ensures { Gives (args_closed_of «end» (below «end» room) ts.now) arguments_seen result }
 {
-    let args = match arguments(alloc, ts, end, depth) {
-        Ok(args) => args,
-        Err(fault) => return Err(fault),
-    };
-    let rest = match expect(Sign::CloseRound, args.1, end) {
-        Ok(rest) => rest,
-        Err(fault) => return Err(fault),
-    };
-    Ok((args.0, rest))
+    let (args, left) = arguments(alloc, ts, end, room)?;
+    let rest = expect(Sign::CloseRound, left, end)?;
+    Ok((args, rest))
 }
 
 // args = list of [WORD "="] expr, up to a `)` or `;`, which stays
 #[cycle(expression)]
-pub(crate) fn arguments<'a>(
-    alloc: Global,
-    ts: &'a [Token],
-    end: Place,
-    depth: u32,
-) -> Result<(Args, &'a [Token]), ParseFault>
-    requires { depth ≤ 200 }
-    ensures { MatchResult result
-        (λ r. (length r.1.now ≤ length ts.now) × (at_end_of_arguments r.1.now ≡ true)
-        × Reads open_in_arguments (in_arguments no_arguments) (have_arguments (arguments r.0.items)) depth ts.now r.1.now «end»)
-        (Stops open_in_arguments (in_arguments no_arguments) depth ts.now «end») }
+pub(crate) fn arguments<'a>(alloc: Global, ts: &'a [Token], end: Place, room: u32) -> Read<'a, Args>
+    ensures { Gives (args_of «end» (below «end» room) (length ts.now) no_arguments ts.now) arguments_seen result }
 {
     let mut args = Args::new(alloc);
     let mut left = ts;
     'members: while !is_end_of_arguments(left) {
-        let arg = match argument(alloc, left, end, depth) {
-            Ok(arg) => arg,
-            Err(fault) => return Err(fault),
-        };
-        match args.push(arg.0) {
-            Ok(()) => {}
-            Err(_) => return Err(ParseFault::Memory),
-        }
-        left = match behind_argument(arg.1, end, depth) {
-            Ok(left) => left,
-            Err(fault) => return Err(fault),
-        };
+        let (arg, rest) = argument(alloc, left, end, room)?;
+        args.push(arg)?;
+        let (_, rest) = behind_argument(rest, end)?;
+        left = rest;
     }
     Ok((args, left))
 }
 
 // [WORD "="] expr
 #[cycle(expression)]
-fn argument<'a>(
-    alloc: Global,
-    ts: &'a [Token],
-    end: Place,
-    depth: u32,
-) -> Result<(Arg, &'a [Token]), ParseFault>
-    requires within { depth ≤ 200 }
-    requires some { at_end_of_arguments ts.now ≡ false }
-    ensures { MatchResult result
-        (λ r. (length r.1.now < length ts.now)
-        × Reads open_members (λ m. in_arguments m.all m.behind)
-        (λ m. after_argument (with_arg m.all r.0) m.behind) depth ts.now r.1.now «end»)
-        (Stops open_members (λ m. in_arguments m.all m.behind) depth ts.now «end») }
+#[tactic(auto, unfolding(crate::specs::Reading::argument_of))]
+fn argument<'a>(alloc: Global, ts: &'a [Token], end: Place, room: u32) -> Read<'a, Arg>
+    ensures { Gives (argument_of «end» (below «end» room) ts.now) argument_seen result }
 {
-    if is_named(ts) {
-        let word = match expect_word(alloc, ts, end) {
-            Ok(word) => word,
-            Err(fault) => return Err(fault),
-        };
-        let value = match expression(alloc, behind(behind(ts)), end, depth) {
-            Ok(value) => value,
-            Err(fault) => return Err(fault),
-        };
-        let name = Some(word);
-        Ok((
-            Arg {
-                name,
-                value: value.0,
-            },
-            value.1,
-        ))
-    } else {
-        let value = match expression(alloc, ts, end, depth) {
-            Ok(value) => value,
-            Err(fault) => return Err(fault),
-        };
+    if !is_named(ts) {
+        let (value, left) = expression(alloc, ts, end, room)?;
         let name = None;
-        Ok((
-            Arg {
-                name,
-                value: value.0,
-            },
-            value.1,
-        ))
+        return Ok((Arg { name, value }, left));
     }
+    let name = first_word(alloc, ts)?;
+    let (value, left) = expression(alloc, behind(behind(ts)), end, room)?;
+    Ok((Arg { name, value }, left))
 }

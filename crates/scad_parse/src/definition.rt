@@ -1,26 +1,28 @@
-//! Assignments, parameters and the definitions of functions.
+//! Parameters, and the definitions of modules and functions.
 
-ghost use Rattle.std.specs.Prelude.{◌≡◌, ◌+◌, ◌<◌, ◌≤◌, length, MatchResult, IfOk, map, [], Bool, true, false};
+ghost use Rattle.std.specs.Prelude.{◌≡◌, length, [], IfOk};
 ghost use Rattle.scad_ast.specs.Scope.{item_of, items, parameter};
-ghost use Rattle.scad_grammar.specs.Tokens.{begins_with, begins_with_key};
-ghost use Rattle.scad_grammar.specs.Grammar.{begins_named};
 ghost use Rattle.scad_grammar.specs.Lists.{with_item};
-ghost use Rattle.scad_grammar.specs.Behind.{open_items};
-ghost use Rattle.scad_grammar.specs.State.{want_statement, have_items, want_defined, in_parameters, have_parameter, after_parameter, have_parameters};
-ghost use Rattle.scad_parse.specs.Reading.{Reads, Stops};
-ghost use Rattle.scad_parse.specs.ReadingStatements.{Parametered, Heading, open_in_parameters, open_parametered, with_param, open_heading, headed};
+ghost use Rattle.scad_grammar.specs.Rules.{in_round_of};
+ghost use Rattle.scad_grammar.specs.StatementRules.{params_of};
+ghost use Rattle.scad_parse.specs.Reading.{Gives, below, rules_at};
+ghost use Rattle.scad_parse.specs.ReadingStatements.{below_statements, statement_rules_at, scope_seen};
+ghost use Rattle.scad_parse.specs.ReadingStatements.{parameters_seen, heading_seen, heading_read, parameter_of};
+ghost use Rattle.scad_parse.specs.ReadingStatements.{default_of, default_seen};
 
 use crate::expression::{closed, expression};
 use crate::fault::ParseFault;
-use crate::front::{behind, expect, expect_word, is_sign, place};
+use crate::front::{begins_with, behind, expect, is_sign, place, word};
 use crate::nesting::opened;
-use crate::reading::entered;
-use scad_ast::{Item, Param, Params, Scope};
+use crate::reading::{Read, behind_member};
+use crate::statement::statement;
+use scad_ast::{Expr, Item, Param, Params, Scope};
 use scad_fault::{Place, Text};
-use scad_lex::{Key, Sign, Token};
+use scad_lex::{Sign, Token};
 use std::alloc::{AllocError, Global};
 
 /// The scope with one more item.
+#[tactic(auto, using(crate::proofs::rules::Statements::items_push))]
 pub(crate) fn pushed(scope: Scope, item: Item) -> Result<Scope, AllocError>
     ensures { IfOk result (λ all. items all.items ≡ with_item (items scope.items) (item_of item)) }
 {
@@ -31,207 +33,109 @@ pub(crate) fn pushed(scope: Scope, item: Item) -> Result<Scope, AllocError>
     }
 }
 
-// assign = WORD "=" expr ";"
-pub(crate) fn assignment<'a>(
+// WORD "(" params ")" stmt, behind the "module"
+#[cycle(statement)]
+#[tactic(auto, using(crate::proofs::rules::Statements::headed))]
+pub(crate) fn module<'a>(
     alloc: Global,
+    at: Place,
     scope: Scope,
     ts: &'a [Token],
     end: Place,
-    depth: u32,
-) -> Result<(Scope, &'a [Token]), ParseFault>
-    requires within { depth ≤ 200 }
-    requires named { begins_named ts.now ≡ true }
-    ensures { MatchResult result
-        (λ r. (length r.1.now < length ts.now)
-        × ((d : Bool) → Reads open_items (want_statement d (items scope.items)) (have_items (items r.0.items)) depth ts.now r.1.now «end»))
-        (λ fault. (d : Bool) → Stops open_items (want_statement d (items scope.items)) depth ts.now «end» fault) }
+    room: u32,
+) -> Read<'a, Scope>
+    ensures { Gives ((statement_rules_at «end» room).module_behind at (items scope.items) ts.now) scope_seen result }
 {
-    let at = place(ts, end);
-    let inner = match opened(depth, at) {
-        Ok(inner) => inner,
-        Err(fault) => return Err(fault),
-    };
-    let name = match expect_word(alloc, ts, end) {
-        Ok(name) => name,
-        Err(fault) => return Err(fault),
-    };
-    let value = match closed(alloc, Sign::Semicolon, behind(behind(ts)), end, inner) {
-        Ok(value) => value,
-        Err(fault) => return Err(fault),
-    };
-    match pushed(scope, Item::Assign(name, value.0, at)) {
-        Ok(all) => Ok((all, value.1)),
-        Err(_) => Err(ParseFault::Memory),
-    }
+    let ((name, params), left) = heading(alloc, ts, end, room)?;
+    let (body, left) = statement(alloc, true, Scope::new(alloc), left, end, room)?;
+    Ok((pushed(scope, Item::Module(name, params, body, at))?, left))
 }
 
-// function = "function" WORD "(" params ")" "=" expr ";"
+// WORD "(" params ")" "=" expr ";", behind the "function"
+#[tactic(auto, using(crate::proofs::rules::Statements::heads))]
 pub(crate) fn function<'a>(
     alloc: Global,
+    at: Place,
     scope: Scope,
     ts: &'a [Token],
     end: Place,
-    depth: u32,
-) -> Result<(Scope, &'a [Token]), ParseFault>
-    requires within { depth ≤ 200 }
-    requires begun { begins_with_key Key.Function ts.now ≡ true }
-    ensures { MatchResult result
-        (λ r. (length r.1.now < length ts.now)
-        × Reads open_items (want_statement true (items scope.items)) (have_items (items r.0.items)) depth ts.now r.1.now «end»)
-        (Stops open_items (want_statement true (items scope.items)) depth ts.now «end») }
+    room: u32,
+) -> Read<'a, Scope>
+    ensures { Gives ((statement_rules_at «end» room).function_behind at (items scope.items) ts.now) scope_seen result }
 {
-    let at = place(ts, end);
-    let inner = match opened(depth, at) {
-        Ok(inner) => inner,
-        Err(fault) => return Err(fault),
-    };
-    let head = match heading(alloc, behind(ts), end, inner) {
-        Ok(head) => head,
-        Err(fault) => return Err(fault),
-    };
-    let rest = match expect(Sign::Assign, head.2, end) {
-        Ok(rest) => rest,
-        Err(fault) => return Err(fault),
-    };
-    let body = match closed(alloc, Sign::Semicolon, rest, end, inner) {
-        Ok(body) => body,
-        Err(fault) => return Err(fault),
-    };
-    match pushed(scope, Item::Function(head.0, head.1, body.0, at)) {
-        Ok(all) => Ok((all, body.1)),
-        Err(_) => Err(ParseFault::Memory),
-    }
+    let ((name, params), left) = heading(alloc, ts, end, room)?;
+    let rest = expect(Sign::Assign, left, end)?;
+    let (body, left) = closed(alloc, Sign::Semicolon, rest, end, room)?;
+    Ok((pushed(scope, Item::Function(name, params, body, at))?, left))
 }
 
 // WORD "(" params ")"
-pub(crate) fn heading<'a>(
-    alloc: Global,
-    ts: &'a [Token],
-    end: Place,
-    depth: u32,
-) -> Result<(Text, Params, &'a [Token]), ParseFault>
-    requires { depth ≤ 200 }
-    ensures { MatchResult result
-        (λ r. (length r.2.now < length ts.now)
-        × Reads open_heading (λ q. want_defined q.what q.at q.all q.behind)
-        (λ q. headed q.what q.at r.0 (map parameter r.1.items) q.all q.behind) depth ts.now r.2.now «end»)
-        (Stops open_heading (λ q. want_defined q.what q.at q.all q.behind) depth ts.now «end») }
+#[tactic(auto, unfolding(crate::specs::ReadingStatements::heading_read))]
+fn heading<'a>(alloc: Global, ts: &'a [Token], end: Place, room: u32) -> Read<'a, (Text, Params)>
+    ensures { Gives (heading_read «end» (below_statements «end» room) ts.now) heading_seen result }
 {
-    let name = match expect_word(alloc, ts, end) {
-        Ok(name) => name,
-        Err(fault) => return Err(fault),
+    let [token, rest @ ..] = ts else {
+        return Err(ParseFault::Syntax(end));
     };
-    let inner = match entered(behind(ts), end, depth) {
-        Ok(inner) => inner,
-        Err(fault) => return Err(fault),
+    let Some(name) = word(alloc, token)? else {
+        return Err(ParseFault::Syntax(token.at));
     };
-    let params = match parameters(alloc, inner.1, end, inner.0) {
-        Ok(params) => params,
-        Err(fault) => return Err(fault),
-    };
-    Ok((name, params.0, behind(params.1)))
+    let (params, left) = round_parameters(alloc, rest, end, room)?;
+    Ok(((name, params), left))
 }
 
-// params = list of WORD ["=" expr], up to the `)`, which stays
-fn parameters<'a>(
-    alloc: Global,
-    ts: &'a [Token],
-    end: Place,
-    depth: u32,
-) -> Result<(Params, &'a [Token]), ParseFault>
-    requires { depth ≤ 200 }
-    ensures { MatchResult result
-        (λ r. (length r.1.now ≤ length ts.now) × (begins_with Sign.CloseRound r.1.now ≡ true)
-        × Reads open_in_parameters (in_parameters []) (have_parameters (map parameter r.0.items)) depth ts.now r.1.now «end»)
-        (Stops open_in_parameters (in_parameters []) depth ts.now «end») }
+// "(" params ")"
+#[tactic(auto, using(crate::proofs::rules::Statements::rounds))]
+fn round_parameters<'a>(alloc: Global, ts: &'a [Token], end: Place, room: u32) -> Read<'a, Params>
+    ensures { Gives (in_round_of «end» (below_statements «end» room) (λ r us. r.params_closed us) ts.now)
+        parameters_seen result }
+{
+    let rest = expect(Sign::OpenRound, ts, end)?;
+    let inner = opened(room, place(ts, end))?;
+    parameters(alloc, rest, end, inner)
+}
+
+// params = list of WORD ["=" expr], and ")"
+fn parameters<'a>(alloc: Global, ts: &'a [Token], end: Place, room: u32) -> Read<'a, Params>
+    ensures { Gives (params_of «end» (rules_at «end» room) (length ts.now) [] ts.now) parameters_seen result }
 {
     let mut params = Params::new(alloc);
     let mut left = ts;
-    'members: while !is_sign(Sign::CloseRound, left) {
-        let param = match named_parameter(alloc, left, end, depth) {
-            Ok(param) => param,
-            Err(fault) => return Err(fault),
-        };
-        match params.push(param.0) {
-            Ok(()) => {}
-            Err(_) => return Err(ParseFault::Memory),
-        }
-        left = match behind_parameter(param.1, end, depth) {
-            Ok(left) => left,
-            Err(fault) => return Err(fault),
-        };
+    'members: while !begins_with(Sign::CloseRound, left) {
+        let (param, rest) = named_parameter(alloc, left, end, room)?;
+        params.push(param)?;
+        let (_, rest) = behind_member(Sign::CloseRound, rest, end)?;
+        left = rest;
     }
-    Ok((params, left))
+    Ok((params, behind(left)))
 }
 
 // WORD ["=" expr]
-fn named_parameter<'a>(
-    alloc: Global,
-    ts: &'a [Token],
-    end: Place,
-    depth: u32,
-) -> Result<(Param, &'a [Token]), ParseFault>
-    requires within { depth ≤ 200 }
-    requires some { begins_with Sign.CloseRound ts.now ≡ false }
-    ensures { MatchResult result
-        (λ r. (length r.1.now < length ts.now)
-        × Reads open_parametered (λ m. in_parameters m.all m.behind)
-        (λ m. after_parameter (with_param m.all r.0) m.behind) depth ts.now r.1.now «end»)
-        (Stops open_parametered (λ m. in_parameters m.all m.behind) depth ts.now «end») }
+#[tactic(auto, unfolding(crate::specs::ReadingStatements::parameter_of))]
+fn named_parameter<'a>(alloc: Global, ts: &'a [Token], end: Place, room: u32) -> Read<'a, Param>
+    ensures { Gives (parameter_of «end» (below «end» room) ts.now) parameter result }
 {
-    let name = match expect_word(alloc, ts, end) {
-        Ok(name) => name,
-        Err(fault) => return Err(fault),
+    let [token, rest @ ..] = ts else {
+        return Err(ParseFault::Syntax(end));
     };
-    let param = match with_default(alloc, name, behind(ts), end, depth) {
-        Ok(param) => param,
-        Err(fault) => return Err(fault),
+    let Some(name) = word(alloc, token)? else {
+        return Err(ParseFault::Syntax(token.at));
     };
-    Ok((param.0, param.1))
+    let (default, left) = default_of(alloc, rest, end, room)?;
+    Ok((Param { name, default }, left))
 }
 
 // ["=" expr] behind a parameter's word
-fn with_default<'a>(
-    alloc: Global,
-    name: Text,
-    ts: &'a [Token],
-    end: Place,
-    depth: u32,
-) -> Result<(Param, &'a [Token]), ParseFault>
-    requires { depth ≤ 200 }
-    ensures { MatchResult result
-        (λ r. (length r.1.now ≤ length ts.now)
-        × Reads open_parametered (λ m. have_parameter name m.all m.behind)
-        (λ m. after_parameter (with_param m.all r.0) m.behind) depth ts.now r.1.now «end»)
-        (Stops open_parametered (λ m. have_parameter name m.all m.behind) depth ts.now «end») }
+#[tactic(auto, unfolding(crate::specs::ReadingStatements::default_of))]
+fn default_of<'a>(alloc: Global, ts: &'a [Token], end: Place, room: u32) -> Read<'a, Option<Expr>>
+    ensures { Gives (default_of «end» (below «end» room) ts.now) default_seen result }
 {
-    if is_sign(Sign::Assign, ts) {
-        let value = match expression(alloc, behind(ts), end, depth) {
-            Ok(value) => value,
-            Err(fault) => return Err(fault),
-        };
-        let default = Some(value.0);
-        Ok((Param { name, default }, value.1))
-    } else {
-        let default = None;
-        Ok((Param { name, default }, ts))
+    let [token, rest @ ..] = ts else {
+        return Err(ParseFault::Syntax(end));
+    };
+    if !is_sign(Sign::Assign, token) {
+        return Ok((None, ts));
     }
-}
-
-/// What stands behind a parameter: a `,`, which is taken, or `)`, which stays.
-fn behind_parameter<'a>(ts: &'a [Token], end: Place, depth: u32) -> Result<&'a [Token], ParseFault>
-    requires { depth ≤ 200 }
-    ensures { MatchResult result
-        (λ rest. (length rest.now ≤ length ts.now)
-        × Reads open_parametered (λ m. after_parameter m.all m.behind) (λ m. in_parameters m.all m.behind) depth
-        ts.now rest.now «end»)
-        (λ fault. Stops open_parametered (λ m. after_parameter m.all m.behind) depth ts.now «end» fault) }
-{
-    if is_sign(Sign::Comma, ts) {
-        Ok(behind(ts))
-    } else if is_sign(Sign::CloseRound, ts) {
-        Ok(ts)
-    } else {
-        Err(ParseFault::Syntax(place(ts, end)))
-    }
+    let (value, left) = expression(alloc, rest, end, room)?;
+    Ok((Some(value), left))
 }

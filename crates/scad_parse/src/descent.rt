@@ -6,6 +6,7 @@ ghost use Rattle.scad_grammar.specs.Judged.{Judged};
 ghost use Rattle.scad_parse.specs.JudgedFault.{JudgedFault};
 
 use crate::fault::ParseFault;
+use crate::nesting::LIMIT;
 use crate::statement::statement;
 use scad_ast::{Program, Scope};
 use scad_lex::Tokens;
@@ -21,12 +22,9 @@ pub fn parse(alloc: Global, tokens: &Tokens) -> Result<Program, ParseFault>
     let mut scope = Scope::new(alloc);
     let mut left = tokens.list.as_slice();
     'statements: while !left.is_empty() {
-        let more = match statement(alloc, true, scope, left, tokens.end, 0) {
-            Ok(more) => more,
-            Err(fault) => return Err(fault),
-        };
-        scope = more.0;
-        left = more.1;
+        let (more, rest) = statement(alloc, true, scope, left, tokens.end, LIMIT)?;
+        scope = more;
+        left = rest;
     }
     Ok(Program { scope })
 }

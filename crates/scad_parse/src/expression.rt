@@ -1,20 +1,20 @@
-//! Expressions. Each function reads what its rule derives from the front of the tokens, where so many constructs
-//! are open, and gives the tree and what stands behind it.
+//! Expressions. Each function reads what its rule derives from the front of the tokens, where so many more constructs
+//! may open, and gives the tree and what stands behind it.
 
-ghost use Rattle.std.specs.Prelude.{◌≡◌, ◌<◌, ◌≤◌, length, MatchResult, Some, None, true, false};
+ghost use Rattle.std.specs.Prelude.{◌≡◌};
 ghost use Rattle.scad_ast.specs.View.{expression_of};
-ghost use Rattle.scad_grammar.specs.Tokens.{begins_with, begins_with_key};
-ghost use Rattle.scad_grammar.specs.Behind.{tested, open_expression};
-ghost use Rattle.scad_grammar.specs.State.{want_expression, have_expression, have_operand};
-ghost use Rattle.scad_parse.specs.Reading.{Reads, Stops, first_binder, open_closing};
+ghost use Rattle.scad_grammar.specs.Rules.{expr_of, keyed_of, choice_of, expr_to, in_round_of};
+ghost use Rattle.scad_parse.specs.Reading.{Gives, below, keyed};
 
 use crate::argument::round_arguments;
 use crate::fault::ParseFault;
-use crate::front::{behind, expect, is_key, is_sign, place};
+use crate::front::{expect, is_key, is_sign, place};
 use crate::nesting::{left_out, opened};
 use crate::node;
-use crate::operand::lines;
-use crate::operator::{Binder, LINES, first_binder};
+use crate::node::Binder;
+use crate::operand::operand;
+use crate::operator::LINES;
+use crate::reading::Read;
 use scad_ast::Expr;
 use scad_fault::Place;
 use scad_lex::{Key, Sign, Token};
@@ -23,155 +23,101 @@ use std::alloc::Global;
 // expr = "let" "(" args ")" expr | "assert" "(" args ")" expr | "echo" "(" args ")" expr
 //      | or ["?" expr ":" expr]
 #[cycle(expression)]
+#[tactic(auto, unfolding(scad_grammar::specs::Rules::expr_of))]
 pub(crate) fn expression<'a>(
     alloc: Global,
     ts: &'a [Token],
     end: Place,
-    depth: u32,
-) -> Result<(Expr, &'a [Token]), ParseFault>
-    requires { depth ≤ 200 }
-    ensures { MatchResult result
-        (λ r. (length r.1.now < length ts.now)
-        × Reads open_expression want_expression (have_expression (expression_of r.0)) depth ts.now r.1.now «end»)
-        (Stops open_expression want_expression depth ts.now «end») }
+    room: u32,
+) -> Read<'a, Expr>
+    ensures { Gives (expr_of «end» (below «end» room) ts.now) expression_of result }
 {
-    if is_key(Key::Function, ts) {
-        return Err(left_out(alloc, place(ts, end), b"function"));
+    let [token, rest @ ..] = ts else {
+        return Err(ParseFault::Syntax(end));
+    };
+    if is_key(Key::Function, token) {
+        return Err(left_out(alloc, token.at, b"function"));
     }
-    match first_binder(ts) {
-        Some(binder) => bound(alloc, binder, ts, end, depth),
-        None => choice(alloc, ts, end, depth),
+    if is_key(Key::Let, token) {
+        return bound(alloc, Binder::Let, token.at, rest, end, room);
     }
+    if is_key(Key::Assert, token) {
+        return bound(alloc, Binder::Assert, token.at, rest, end, room);
+    }
+    if is_key(Key::Echo, token) {
+        return bound(alloc, Binder::Echo, token.at, rest, end, room);
+    }
+    let (test, left) = operand(alloc, LINES, ts, end, room)?;
+    choice(alloc, test, left, end, room)
 }
 
-// ("let" | "assert" | "echo") "(" args ")" expr
+// ("let" | "assert" | "echo") "(" args ")" expr, behind the keyword
 #[cycle(expression)]
+#[tactic(auto, using(crate::proofs::rules::Room::room))]
 fn bound<'a>(
     alloc: Global,
     binder: Binder,
+    at: Place,
     ts: &'a [Token],
     end: Place,
-    depth: u32,
-) -> Result<(Expr, &'a [Token]), ParseFault>
-    requires within { depth ≤ 200 }
-    requires not_function { begins_with_key Key.Function ts.now ≡ false }
-    requires binder { first_binder ts.now ≡ Some binder }
-    ensures { MatchResult result
-        (λ r. (length r.1.now < length ts.now)
-        × Reads open_expression want_expression (have_expression (expression_of r.0)) depth ts.now r.1.now «end»)
-        (Stops open_expression want_expression depth ts.now «end») }
+    room: u32,
+) -> Read<'a, Expr>
+    ensures { Gives (keyed_of (below «end» room) (keyed binder) at ts.now) expression_of result }
 {
-    let at = place(ts, end);
-    let inner = match opened(depth, at) {
-        Ok(inner) => inner,
-        Err(fault) => return Err(fault),
-    };
-    let args = match round_arguments(alloc, behind(ts), end, inner) {
-        Ok(args) => args,
-        Err(fault) => return Err(fault),
-    };
-    let body = match expression(alloc, args.1, end, inner) {
-        Ok(body) => body,
-        Err(fault) => return Err(fault),
-    };
-    let whole = match node::bound(alloc, at, binder, args.0, body.0) {
-        Ok(whole) => whole,
-        Err(_) => return Err(ParseFault::Memory),
-    };
-    Ok((whole, body.1))
+    let inner = opened(room, at)?;
+    let (args, left) = round_arguments(alloc, ts, end, inner)?;
+    let (body, left) = expression(alloc, left, end, inner)?;
+    Ok((node::bound(alloc, at, binder, args, body)?, left))
 }
 
-// or ["?" expr ":" expr]
+// ["?" expr ":" expr], behind the test
 #[cycle(expression)]
-fn choice<'a>(
-    alloc: Global,
-    ts: &'a [Token],
-    end: Place,
-    depth: u32,
-) -> Result<(Expr, &'a [Token]), ParseFault>
-    requires within { depth ≤ 200 }
-    requires not_function { begins_with_key Key.Function ts.now ≡ false }
-    requires no_binder { first_binder ts.now ≡ None }
-    ensures { MatchResult result
-        (λ r. (length r.1.now < length ts.now)
-        × Reads open_expression want_expression (have_expression (expression_of r.0)) depth ts.now r.1.now «end»)
-        (Stops open_expression want_expression depth ts.now «end») }
+#[tactic(auto, using(crate::proofs::rules::Room::room), unfolding(scad_grammar::specs::Rules::choice_of))]
+fn choice<'a>(alloc: Global, test: Expr, ts: &'a [Token], end: Place, room: u32) -> Read<'a, Expr>
+    ensures { Gives (choice_of «end» (below «end» room) (expression_of test) ts.now) expression_of result }
 {
-    let test = match lines(alloc, LINES, ts, end, depth) {
-        Ok(test) => test,
-        Err(fault) => return Err(fault),
+    let [token, rest @ ..] = ts else {
+        return Ok((test, ts));
     };
-    if is_sign(Sign::Question, test.1) {
-        let whole = match chosen(alloc, test.0, test.1, end, depth) {
-            Ok(whole) => whole,
-            Err(fault) => return Err(fault),
-        };
-        Ok((whole.0, whole.1))
-    } else {
-        Ok((test.0, test.1))
+    if !is_sign(Sign::Question, token) {
+        return Ok((test, ts));
     }
-}
-
-// "?" expr ":" expr, behind the test
-#[cycle(expression)]
-fn chosen<'a>(
-    alloc: Global,
-    test: Expr,
-    ts: &'a [Token],
-    end: Place,
-    depth: u32,
-) -> Result<(Expr, &'a [Token]), ParseFault>
-    requires within { depth ≤ 200 }
-    requires question { begins_with Sign.Question ts.now ≡ true }
-    ensures { MatchResult result
-        (λ r. (length r.1.now < length ts.now)
-        × Reads open_expression (λ k. have_operand (expression_of test) (tested k))
-        (have_expression (expression_of r.0)) depth ts.now r.1.now «end»)
-        (Stops open_expression (λ k. have_operand (expression_of test) (tested k)) depth ts.now «end») }
-{
-    let at = place(ts, end);
-    let inner = match opened(depth, at) {
-        Ok(inner) => inner,
-        Err(fault) => return Err(fault),
-    };
-    let yes = match closed(alloc, Sign::Colon, behind(ts), end, inner) {
-        Ok(yes) => yes,
-        Err(fault) => return Err(fault),
-    };
-    let no = match expression(alloc, yes.1, end, inner) {
-        Ok(no) => no,
-        Err(fault) => return Err(fault),
-    };
-    let whole = match node::choose(alloc, at, test, yes.0, no.0) {
-        Ok(whole) => whole,
-        Err(_) => return Err(ParseFault::Memory),
-    };
-    Ok((whole, no.1))
+    let inner = opened(room, token.at)?;
+    let (yes, left) = closed(alloc, Sign::Colon, rest, end, inner)?;
+    let (no, left) = expression(alloc, left, end, inner)?;
+    Ok((node::choose(alloc, token.at, test, yes, no)?, left))
 }
 
 // expr, and behind it the sign
 #[cycle(expression)]
+#[tactic(auto, using(crate::proofs::rules::Room::signs))]
 pub(crate) fn closed<'a>(
     alloc: Global,
     sign: Sign,
     ts: &'a [Token],
     end: Place,
-    depth: u32,
-) -> Result<(Expr, &'a [Token]), ParseFault>
-    requires { depth ≤ 200 }
-    ensures { MatchResult result
-        (λ r. (length r.1.now < length ts.now)
-        × Reads (open_closing {s = sign}) (λ q. want_expression q.behind) (λ q. q.next (expression_of r.0)) depth
-        ts.now r.1.now «end»)
-        (Stops (open_closing {s = sign}) (λ q. want_expression q.behind) depth ts.now «end») }
+    room: u32,
+) -> Read<'a, Expr>
+    ensures { Gives (expr_to «end» sign (expr_of «end» (below «end» room)) ts.now) expression_of result }
 {
-    let value = match expression(alloc, ts, end, depth) {
-        Ok(value) => value,
-        Err(fault) => return Err(fault),
-    };
-    let rest = match expect(sign, value.1, end) {
-        Ok(rest) => rest,
-        Err(fault) => return Err(fault),
-    };
-    Ok((value.0, rest))
+    let (value, left) = expression(alloc, ts, end, room)?;
+    let rest = expect(sign, left, end)?;
+    Ok((value, rest))
+}
+
+// "(" expr ")"
+#[cycle(expression)]
+#[tactic(auto, using(crate::proofs::rules::Room::rounds))]
+pub(crate) fn round_expression<'a>(
+    alloc: Global,
+    ts: &'a [Token],
+    end: Place,
+    room: u32,
+) -> Read<'a, Expr>
+    ensures { Gives (in_round_of «end» (below «end» room) (λ r us. expr_to «end» Sign.CloseRound r.expr us) ts.now)
+        expression_of result }
+{
+    let rest = expect(Sign::OpenRound, ts, end)?;
+    let inner = opened(room, place(ts, end))?;
+    closed(alloc, Sign::CloseRound, rest, end, inner)
 }

@@ -1,8 +1,9 @@
-//! The token that stands at the front of what is left.
+//! A token, and the token that stands at the front of what is left.
 
-ghost use Rattle.std.specs.Prelude.{◌≡◌, ◌≢◌, ◌<◌, ◌≤◌, length, Some, None, true, false, is_some, IfOk, IfErr, MatchResult};
-ghost use Rattle.scad_grammar.specs.Tokens.{sign_number, key_number, is_sign_kind, is_key_kind, word_kind, begins_with, begins_with_key};
-ghost use Rattle.scad_grammar.specs.Grammar.{begins_named, at_end_of_arguments, ends_arguments_kind};
+ghost use Rattle.std.specs.Prelude.{◌≡◌, true, false, is_some, IfOk, OnOk, IfErr, OnErr};
+ghost use Rattle.scad_grammar.specs.Tokens.{sign_number, key_number, is_sign_kind, is_key_kind, word_kind, is_sign};
+ghost use Rattle.scad_grammar.specs.Tokens.{is_key, word_of, begins_with};
+ghost use Rattle.scad_grammar.specs.Grammar.{begins_named, at_end_of_arguments, ends_arguments_kind, ends_arguments};
 ghost use Rattle.scad_parse.specs.Reading.{place_of, behind, first_word};
 
 use crate::fault::ParseFault;
@@ -22,8 +23,7 @@ pub(crate) fn place(ts: &[Token], end: Place) -> Place
 
 /// What stands behind the first token.
 pub(crate) fn behind(ts: &[Token]) -> &[Token]
-    ensures value { result.now ≡ behind ts.now }
-    ensures shorter { 0 < length ts.now → length result.now < length ts.now }
+    ensures { result.now ≡ behind ts.now }
 {
     match ts {
         [] => ts,
@@ -61,24 +61,18 @@ fn is_key_kind(key: Key, kind: &TokenKind) -> bool
     }
 }
 
-/// The tokens begin with this sign.
-pub(crate) fn is_sign(sign: Sign, ts: &[Token]) -> bool
-    ensures { result ≡ begins_with sign ts.now }
+/// The token is this sign.
+pub(crate) fn is_sign(sign: Sign, token: &Token) -> bool
+    ensures { result ≡ is_sign sign token.now }
 {
-    match ts {
-        [] => false,
-        [token, ..] => is_sign_kind(sign, &token.kind),
-    }
+    is_sign_kind(sign, &token.kind)
 }
 
-/// The tokens begin with this keyword.
-pub(crate) fn is_key(key: Key, ts: &[Token]) -> bool
-    ensures { result ≡ begins_with_key key ts.now }
+/// The token is this keyword.
+pub(crate) fn is_key(key: Key, token: &Token) -> bool
+    ensures { result ≡ is_key key token.now }
 {
-    match ts {
-        [] => false,
-        [token, ..] => is_key_kind(key, &token.kind),
-    }
+    is_key_kind(key, &token.kind)
 }
 
 fn word_kind(alloc: Global, kind: &TokenKind) -> Result<Option<Text>, AllocError>
@@ -92,39 +86,44 @@ fn word_kind(alloc: Global, kind: &TokenKind) -> Result<Option<Text>, AllocError
     }
 }
 
+/// The word that the token is.
+pub(crate) fn word(alloc: Global, token: &Token) -> Result<Option<Text>, AllocError>
+    ensures { IfOk result (λ word. word ≡ word_of token.now) }
+{
+    word_kind(alloc, &token.kind)
+}
+
 /// The word with which the tokens begin.
 pub(crate) fn first_word(alloc: Global, ts: &[Token]) -> Result<Option<Text>, AllocError>
-    ensures { IfOk result (λ word. word ≡ first_word ts.now) }
+    ensures { IfOk result (λ found. found ≡ first_word ts.now) }
 {
     match ts {
         [] => Ok(None),
-        [token, ..] => word_kind(alloc, &token.kind),
+        [token, ..] => word(alloc, token),
+    }
+}
+
+/// The tokens begin with this sign.
+pub(crate) fn begins_with(sign: Sign, ts: &[Token]) -> bool
+    ensures { result ≡ begins_with sign ts.now }
+{
+    match ts {
+        [] => false,
+        [token, ..] => is_sign(sign, token),
     }
 }
 
 /// What stands behind the sign, which is to come.
 pub(crate) fn expect<'a>(sign: Sign, ts: &'a [Token], end: Place) -> Result<&'a [Token], ParseFault>
-    ensures found { IfOk result (λ rest. (begins_with sign ts.now ≡ true) × (rest.now ≡ behind ts.now)
-        × (length rest.now < length ts.now)) }
-    ensures missing { IfErr result (λ fault. (begins_with sign ts.now ≡ false)
-        × (fault ≡ ParseFault.Syntax (place_of «end» ts.now))) }
+    ensures here { OnOk result (begins_with sign ts.now ≡ true) }
+    ensures rest { IfOk result (λ rest. rest.now ≡ behind ts.now) }
+    ensures missing { OnErr result (begins_with sign ts.now ≡ false) }
+    ensures fault { IfErr result (λ fault. fault ≡ ParseFault.Syntax (place_of «end» ts.now)) }
 {
-    if is_sign(sign, ts) {
+    if begins_with(sign, ts) {
         Ok(behind(ts))
     } else {
         Err(ParseFault::Syntax(place(ts, end)))
-    }
-}
-
-/// The word that is to come.
-pub(crate) fn expect_word(alloc: Global, ts: &[Token], end: Place) -> Result<Text, ParseFault>
-    ensures found { IfOk result (λ word. first_word ts.now ≡ Some word) }
-    ensures missing { IfErr result (λ fault. fault ≢ ParseFault.Memory → (first_word ts.now ≡ None)
-        × (fault ≡ ParseFault.Syntax (place_of «end» ts.now))) }
-{
-    match first_word(alloc, ts)? {
-        Some(word) => Ok(word),
-        None => Err(ParseFault::Syntax(place(ts, end))),
     }
 }
 
@@ -143,7 +142,7 @@ pub(crate) fn is_named(ts: &[Token]) -> bool
 {
     match ts {
         [] => false,
-        [token, rest @ ..] => named_kind(&token.kind) && is_sign(Sign::Assign, rest),
+        [token, rest @ ..] => named_kind(&token.kind) && begins_with(Sign::Assign, rest),
     }
 }
 
@@ -156,12 +155,19 @@ fn ends_arguments_kind(kind: &TokenKind) -> bool
     }
 }
 
+/// The token is `)` or `;`, which ends arguments.
+pub(crate) fn ends_arguments(token: &Token) -> bool
+    ensures { result ≡ ends_arguments token.now }
+{
+    ends_arguments_kind(&token.kind)
+}
+
 /// The tokens begin with `)` or `;`, which ends arguments.
 pub(crate) fn is_end_of_arguments(ts: &[Token]) -> bool
     ensures { result ≡ at_end_of_arguments ts.now }
 {
     match ts {
         [] => false,
-        [token, ..] => ends_arguments_kind(&token.kind),
+        [token, ..] => ends_arguments(token),
     }
 }

@@ -1,133 +1,121 @@
 //! What a statement runs: marks, and a call with its child or an `if`.
 
-ghost use Rattle.std.specs.Prelude.{◌≡◌, ◌<◌, ◌≤◌, length, MatchResult, IfOk, false};
-ghost use Rattle.scad_ast.specs.Tree.{Items, choice};
+ghost use Rattle.std.specs.Prelude.{◌≡◌, IfOk};
+ghost use Rattle.scad_ast.specs.Tree.{choice, call_of};
+ghost use Rattle.scad_ast.specs.View.{expression_of, arguments};
 ghost use Rattle.scad_ast.specs.Scope.{items, body_of};
-ghost use Rattle.scad_grammar.specs.Lists.{with_statement, no_marks};
-ghost use Rattle.scad_grammar.specs.Behind.{BehindItems, held_child, of_statement, open_items};
-ghost use Rattle.scad_grammar.specs.State.{have_items, want_marked, want_arguments, want_choice, want_child};
-ghost use Rattle.scad_grammar.specs.Machine.{outcome};
-ghost use Rattle.scad_parse.specs.Reading.{Reads, Stops, Refuses};
-ghost use Rattle.scad_parse.specs.ReadingStatements.{marks_of, begins_with_mark, outcome_first, open_inside, open_held};
+ghost use Rattle.scad_grammar.specs.Lists.{with_statement};
+ghost use Rattle.scad_grammar.specs.StatementRules.{first_of, child_of, marked_of, call_behind_of, choice_behind_of};
+ghost use Rattle.scad_parse.specs.Reading.{Gives, rules_at};
+ghost use Rattle.scad_parse.specs.ReadingStatements.{below_statements, scope_seen, marks_of, unmarked_of, other_of};
 
 use crate::argument::round_arguments;
 use crate::definition::pushed;
-use crate::expression::closed;
+use crate::expression::round_expression;
 use crate::fault::ParseFault;
-use crate::front::{behind, is_key, is_sign, place};
-use crate::mark::{Marked, first_callee, is_mark, unmarked, with_mark};
+use crate::front::{behind, is_key, is_sign};
+use crate::mark::{Marked, callee, hashed, is_mark, percented, starred, unmarked, with_mark};
 use crate::nesting::{left_out, opened};
-use crate::reading::entered;
+use crate::reading::Read;
 use crate::statement::group;
-use scad_ast::{Item, Scope, Stmt, StmtBody};
+use scad_ast::{Args, Expr, Item, Scope, Stmt, StmtBody};
 use scad_fault::{Place, Text};
 use scad_lex::{Key, Sign, Token};
 use std::alloc::{AllocError, Global};
 
-// inst = mark* (call child | "if" "(" expr ")" child ["else" child])
+// inst = mark* (call child | "if" "(" expr ")" child ["else" child]), of which the first token is given apart
 #[cycle(statement)]
-pub(crate) fn instance<'a>(
+#[tactic(auto, using(crate::proofs::rules::Statements::room), unfolding(scad_grammar::specs::StatementRules::first_of, scad_grammar::specs::StatementRules::marked_first))]
+pub(crate) fn first<'a>(
     alloc: Global,
+    scope: Scope,
+    token: &Token,
+    ts: &'a [Token],
+    end: Place,
+    room: u32,
+) -> Read<'a, Scope>
+    ensures { Gives (first_of (below_statements «end» room) token.now (items scope.items) ts.now) scope_seen result }
+{
+    if is_key(Key::Include, token) {
+        return Err(left_out(alloc, token.at, b"include"));
+    }
+    if is_key(Key::Use, token) {
+        return Err(left_out(alloc, token.at, b"use"));
+    }
+    if is_sign(Sign::Star, token) {
+        let inner = opened(room, token.at)?;
+        return marked(alloc, starred(unmarked()), scope, ts, end, inner);
+    }
+    if is_sign(Sign::Percent, token) {
+        let inner = opened(room, token.at)?;
+        return marked(alloc, percented(unmarked()), scope, ts, end, inner);
+    }
+    if is_sign(Sign::Hash, token) {
+        let inner = opened(room, token.at)?;
+        return marked(alloc, hashed(unmarked()), scope, ts, end, inner);
+    }
+    if is_sign(Sign::Bang, token) {
+        return Err(left_out(alloc, token.at, b"!"));
+    }
+    if is_key(Key::If, token) {
+        let inner = opened(room, token.at)?;
+        return choice(alloc, token.at, unmarked(), scope, ts, end, inner);
+    }
+    let Some(name) = callee(alloc, token)? else {
+        return Err(ParseFault::Syntax(token.at));
+    };
+    let inner = opened(room, token.at)?;
+    call(alloc, token.at, unmarked(), name, scope, ts, end, inner)
+}
+
+// mark* (call child | "if" "(" expr ")" child ["else" child]), behind its first mark
+#[cycle(statement)]
+fn marked<'a>(
+    alloc: Global,
+    marks: Marked,
     scope: Scope,
     ts: &'a [Token],
     end: Place,
-    depth: u32,
-) -> Result<(Scope, &'a [Token]), ParseFault>
-    requires { depth ≤ 200 }
-    ensures { MatchResult result
-        (λ r. (length r.1.now < length ts.now)
-        × ((k : BehindItems) → open_items k ≡ depth
-        → outcome_first (items scope.items) k ts.now «end» ≡ outcome (have_items (items r.0.items) k) r.1.now «end»))
-        (λ fault. (k : BehindItems) → open_items k ≡ depth →
-        Refuses (outcome_first (items scope.items) k ts.now «end») fault) }
+    room: u32,
+) -> Read<'a, Scope>
+    ensures { Gives (marked_of «end» (rules_at «end» room) (below_statements «end» room) (marks_of marks)
+        (items scope.items) ts.now) scope_seen result }
 {
-    if is_key(Key::Include, ts) {
-        return Err(left_out(alloc, place(ts, end), b"include"));
-    }
-    if is_key(Key::Use, ts) {
-        return Err(left_out(alloc, place(ts, end), b"use"));
-    }
-    let found = match marks(ts, end, depth) {
-        Ok(found) => found,
-        Err(fault) => return Err(fault),
-    };
-    let all = match run(alloc, scope, found.0, found.1, end, depth) {
-        Ok(all) => all,
-        Err(fault) => return Err(fault),
-    };
-    Ok((all.0, all.1))
-}
-
-// mark*
-fn marks<'a>(ts: &'a [Token], end: Place, depth: u32) -> Result<(Marked, &'a [Token]), ParseFault>
-    requires { depth ≤ 200 }
-    ensures { MatchResult result
-        (λ r. (length r.1.now ≤ length ts.now) × (begins_with_mark r.1.now ≡ false)
-        × ((a : Items) → Reads open_items (want_marked no_marks a) (want_marked (marks_of r.0) a) depth ts.now r.1.now «end»))
-        (λ fault. (a : Items) → Stops open_items (want_marked no_marks a) depth ts.now «end» fault) }
-{
-    let mut all = unmarked();
+    let mut all = marks;
     let mut left = ts;
     'marks: while is_mark(left) {
-        match opened(depth, place(left, end)) {
-            Ok(_) => {}
-            Err(fault) => return Err(fault),
-        }
         all = with_mark(all, left);
         left = behind(left);
     }
-    Ok((all, left))
+    run(alloc, all, scope, left, end, room)
 }
 
 // call child | "if" "(" expr ")" child ["else" child], behind its marks
 #[cycle(statement)]
+#[tactic(auto, unfolding(crate::specs::ReadingStatements::unmarked_of))]
 fn run<'a>(
     alloc: Global,
-    scope: Scope,
     marks: Marked,
+    scope: Scope,
     ts: &'a [Token],
     end: Place,
-    depth: u32,
-) -> Result<(Scope, &'a [Token]), ParseFault>
-    requires within { depth ≤ 200 }
-    requires unmarked { begins_with_mark ts.now ≡ false }
-    ensures { MatchResult result
-        (λ r. (length r.1.now < length ts.now)
-        × Reads open_items (want_marked (marks_of marks) (items scope.items)) (have_items (items r.0.items)) depth ts.now r.1.now «end»)
-        (Stops open_items (want_marked (marks_of marks) (items scope.items)) depth ts.now «end») }
+    room: u32,
+) -> Read<'a, Scope>
+    ensures { Gives (unmarked_of «end» (rules_at «end» room) (below_statements «end» room) (marks_of marks)
+        (items scope.items) ts.now) scope_seen result }
 {
-    if is_sign(Sign::Bang, ts) {
-        return Err(left_out(alloc, place(ts, end), b"!"));
-    }
-    let at = place(ts, end);
-    if is_key(Key::If, ts) {
-        let inner = match opened(depth, at) {
-            Ok(inner) => inner,
-            Err(fault) => return Err(fault),
-        };
-        let all = match choice(alloc, scope, marks, at, behind(ts), end, inner) {
-            Ok(all) => all,
-            Err(fault) => return Err(fault),
-        };
-        return Ok((all.0, all.1));
-    }
-    let called = match first_callee(alloc, ts) {
-        Ok(called) => called,
-        Err(_) => return Err(ParseFault::Memory),
+    let [token, rest @ ..] = ts else {
+        return Err(ParseFault::Syntax(end));
     };
-    match called {
-        Some(name) => {
-            let inner = match opened(depth, at) {
-                Ok(inner) => inner,
-                Err(fault) => return Err(fault),
-            };
-            let all = match call(alloc, scope, marks, at, name, behind(ts), end, inner) {
-                Ok(all) => all,
-                Err(fault) => return Err(fault),
-            };
-            Ok((all.0, all.1))
-        }
-        None => Err(ParseFault::Syntax(at)),
+    if is_sign(Sign::Bang, token) {
+        return Err(left_out(alloc, token.at, b"!"));
+    }
+    if is_key(Key::If, token) {
+        return choice(alloc, token.at, marks, scope, rest, end, room);
+    }
+    match callee(alloc, token)? {
+        Some(name) => call(alloc, token.at, marks, name, scope, rest, end, room),
+        None => Err(ParseFault::Syntax(token.at)),
     }
 }
 
@@ -150,139 +138,107 @@ fn kept(scope: Scope, marks: Marked, at: Place, body: StmtBody) -> Result<Scope,
     )
 }
 
-// "(" args ")" child, behind the name that is called
-#[cycle(statement)]
-fn call<'a>(
-    alloc: Global,
+/// The scope with a call.
+fn called(
     scope: Scope,
     marks: Marked,
     at: Place,
     name: Text,
+    args: Args,
+    inside: Scope,
+) -> Result<Scope, AllocError>
+    ensures { IfOk result (λ all. items all.items ≡ with_statement (marks_of marks) (items scope.items)
+        (call_of at marks.percent marks.hash name (arguments args.items) (items inside.items))) }
+{
+    kept(scope, marks, at, StmtBody::Call(name, args, inside))
+}
+
+/// The scope with an `if`.
+fn chosen(
+    scope: Scope,
+    marks: Marked,
+    at: Place,
+    test: Expr,
+    held: Scope,
+    other: Scope,
+) -> Result<Scope, AllocError>
+    ensures { IfOk result (λ all. items all.items ≡ with_statement (marks_of marks) (items scope.items)
+        (choice at marks.percent marks.hash (expression_of test) (items held.items) (items other.items))) }
+{
+    kept(scope, marks, at, StmtBody::If(test, held, other))
+}
+
+// "(" args ")" child, behind the name that is called
+#[cycle(statement)]
+pub(crate) fn call<'a>(
+    alloc: Global,
+    at: Place,
+    marks: Marked,
+    name: Text,
+    scope: Scope,
     ts: &'a [Token],
     end: Place,
-    depth: u32,
-) -> Result<(Scope, &'a [Token]), ParseFault>
-    requires { depth ≤ 200 }
-    ensures { MatchResult result
-        (λ r. (length r.1.now < length ts.now)
-        × Reads open_inside (λ k. want_arguments (of_statement at (marks_of marks) name (items scope.items) k))
-        (have_items (items r.0.items)) depth ts.now r.1.now «end»)
-        (Stops open_inside (λ k. want_arguments (of_statement at (marks_of marks) name (items scope.items) k))
-        depth ts.now «end») }
+    room: u32,
+) -> Read<'a, Scope>
+    ensures { Gives (call_behind_of «end» (rules_at «end» room) (below_statements «end» room) at (marks_of marks) name
+        (items scope.items) ts.now) scope_seen result }
 {
-    let args = match round_arguments(alloc, ts, end, depth) {
-        Ok(args) => args,
-        Err(fault) => return Err(fault),
-    };
-    let inside = match child(alloc, args.1, end, depth) {
-        Ok(inside) => inside,
-        Err(fault) => return Err(fault),
-    };
-    match kept(scope, marks, at, StmtBody::Call(name, args.0, inside.0)) {
-        Ok(all) => Ok((all, inside.1)),
-        Err(_) => Err(ParseFault::Memory),
-    }
+    let (args, left) = round_arguments(alloc, ts, end, room)?;
+    let (inside, left) = child(alloc, left, end, room)?;
+    Ok((called(scope, marks, at, name, args, inside)?, left))
 }
 
 // "(" expr ")" child ["else" child], behind the "if"
 #[cycle(statement)]
+#[tactic(auto, using(crate::proofs::rules::Statements::otherwise_other))]
 fn choice<'a>(
     alloc: Global,
-    scope: Scope,
-    marks: Marked,
     at: Place,
+    marks: Marked,
+    scope: Scope,
     ts: &'a [Token],
     end: Place,
-    depth: u32,
-) -> Result<(Scope, &'a [Token]), ParseFault>
-    requires { depth ≤ 200 }
-    ensures { MatchResult result
-        (λ r. (length r.1.now < length ts.now)
-        × Reads open_inside (want_choice at (marks_of marks) (items scope.items)) (have_items (items r.0.items)) depth ts.now r.1.now «end»)
-        (Stops open_inside (want_choice at (marks_of marks) (items scope.items)) depth ts.now «end») }
+    room: u32,
+) -> Read<'a, Scope>
+    ensures { Gives (choice_behind_of «end» (rules_at «end» room) (below_statements «end» room) at (marks_of marks)
+        (items scope.items) ts.now) scope_seen result }
 {
-    let inner = match entered(ts, end, depth) {
-        Ok(inner) => inner,
-        Err(fault) => return Err(fault),
-    };
-    let test = match closed(alloc, Sign::CloseRound, inner.1, end, inner.0) {
-        Ok(test) => test,
-        Err(fault) => return Err(fault),
-    };
-    let held = match child(alloc, test.1, end, depth) {
-        Ok(held) => held,
-        Err(fault) => return Err(fault),
-    };
-    let other = match otherwise(alloc, held.1, end, depth) {
-        Ok(other) => other,
-        Err(fault) => return Err(fault),
-    };
-    match kept(scope, marks, at, StmtBody::If(test.0, held.0, other.0)) {
-        Ok(all) => Ok((all, other.1)),
-        Err(_) => Err(ParseFault::Memory),
-    }
+    let (test, left) = round_expression(alloc, ts, end, room)?;
+    let (held, left) = child(alloc, left, end, room)?;
+    let (other, left) = otherwise(alloc, left, end, room)?;
+    Ok((chosen(scope, marks, at, test, held, other)?, left))
 }
 
 // ["else" child]
 #[cycle(statement)]
-fn otherwise<'a>(
-    alloc: Global,
-    ts: &'a [Token],
-    end: Place,
-    depth: u32,
-) -> Result<(Scope, &'a [Token]), ParseFault>
-    requires { depth ≤ 200 }
-    ensures { MatchResult result
-        (λ r. (length r.1.now ≤ length ts.now)
-        × Reads open_held (λ q. have_items q.held (held_child q.at q.marks q.test q.all q.behind))
-        (λ q. have_items (with_statement q.marks q.all
-        (choice q.at q.marks.percent q.marks.hash q.test q.held (items r.0.items))) q.behind) depth ts.now
-        r.1.now «end»)
-        (Stops open_held (λ q. have_items q.held (held_child q.at q.marks q.test q.all q.behind)) depth ts.now «end») }
+#[tactic(auto, unfolding(crate::specs::ReadingStatements::other_of))]
+fn otherwise<'a>(alloc: Global, ts: &'a [Token], end: Place, room: u32) -> Read<'a, Scope>
+    ensures { Gives (other_of «end» (below_statements «end» room) ts.now) scope_seen result }
 {
-    if is_key(Key::Else, ts) {
-        let other = match child(alloc, behind(ts), end, depth) {
-            Ok(other) => other,
-            Err(fault) => return Err(fault),
-        };
-        Ok((other.0, other.1))
-    } else {
-        Ok((Scope::new(alloc), ts))
+    let [token, rest @ ..] = ts else {
+        return Ok((Scope::new(alloc), ts));
+    };
+    if !is_key(Key::Else, token) {
+        return Ok((Scope::new(alloc), ts));
     }
+    child(alloc, rest, end, room)
 }
 
 // child = ";" | "{" body* "}" | inst
 #[cycle(statement)]
-fn child<'a>(
-    alloc: Global,
-    ts: &'a [Token],
-    end: Place,
-    depth: u32,
-) -> Result<(Scope, &'a [Token]), ParseFault>
-    requires { depth ≤ 200 }
-    ensures { MatchResult result
-        (λ r. (length r.1.now < length ts.now)
-        × Reads open_items want_child (have_items (items r.0.items)) depth ts.now r.1.now «end»)
-        (Stops open_items want_child depth ts.now «end») }
+#[tactic(auto, using(crate::proofs::rules::Statements::room), unfolding(scad_grammar::specs::StatementRules::child_of))]
+fn child<'a>(alloc: Global, ts: &'a [Token], end: Place, room: u32) -> Read<'a, Scope>
+    ensures { Gives (child_of «end» (below_statements «end» room) ts.now) scope_seen result }
 {
-    let none = Scope::new(alloc);
-    if is_sign(Sign::Semicolon, ts) {
-        return Ok((none, behind(ts)));
-    }
-    if is_sign(Sign::OpenCurly, ts) {
-        let inner = match opened(depth, place(ts, end)) {
-            Ok(inner) => inner,
-            Err(fault) => return Err(fault),
-        };
-        let all = match group(alloc, false, none, behind(ts), end, inner) {
-            Ok(all) => all,
-            Err(fault) => return Err(fault),
-        };
-        return Ok((all.0, all.1));
-    }
-    let all = match instance(alloc, none, ts, end, depth) {
-        Ok(all) => all,
-        Err(fault) => return Err(fault),
+    let [token, rest @ ..] = ts else {
+        return Err(ParseFault::Syntax(end));
     };
-    Ok((all.0, all.1))
+    if is_sign(Sign::Semicolon, token) {
+        return Ok((Scope::new(alloc), rest));
+    }
+    if is_sign(Sign::OpenCurly, token) {
+        let inner = opened(room, token.at)?;
+        return group(alloc, false, Scope::new(alloc), rest, end, inner);
+    }
+    first(alloc, Scope::new(alloc), token, rest, end, room)
 }

@@ -16,6 +16,7 @@ mod statement;
 mod argument;
 mod element;
 mod expression;
+mod head;
 mod node;
 mod operand;
 mod operator;

@@ -1,12 +1,12 @@
 //! The marks before a statement, and the name that a call begins with.
 
 ghost use Rattle.std.specs.Prelude.{◌≡◌, Bool, true, false, Some, None, IfOk};
-ghost use Rattle.scad_grammar.specs.Lists.{no_marks};
-ghost use Rattle.scad_grammar.specs.StatementSteps.{callee_kind};
-ghost use Rattle.scad_parse.specs.ReadingStatements.{marks_of, begins_with_mark, with_first_mark, first_callee};
+ghost use Rattle.scad_grammar.specs.Lists.{no_marks, starred, percented, hashed};
+ghost use Rattle.scad_grammar.specs.StatementSteps.{callee_kind, callee};
+ghost use Rattle.scad_parse.specs.ReadingStatements.{marks_of, begins_with_mark, with_first_mark};
 ghost use Rattle.scad_lex.specs.declared.token.TokenKind.TheVariants.{Key as KeyKind};
 
-use crate::front::is_sign;
+use crate::front::begins_with;
 use scad_fault::Text;
 use scad_lex::{Key, Sign, Token, TokenKind};
 use std::alloc::{AllocError, Global};
@@ -29,17 +29,44 @@ pub(crate) fn unmarked() -> Marked
     }
 }
 
+pub(crate) fn starred(marks: Marked) -> Marked
+    ensures { marks_of result ≡ starred (marks_of marks) }
+{
+    Marked {
+        star: true,
+        ..marks
+    }
+}
+
+pub(crate) fn percented(marks: Marked) -> Marked
+    ensures { marks_of result ≡ percented (marks_of marks) }
+{
+    Marked {
+        percent: true,
+        ..marks
+    }
+}
+
+pub(crate) fn hashed(marks: Marked) -> Marked
+    ensures { marks_of result ≡ hashed (marks_of marks) }
+{
+    Marked {
+        hash: true,
+        ..marks
+    }
+}
+
 /// The tokens begin with a mark.
 // mark = "*" | "%" | "#"
 pub(crate) fn is_mark(ts: &[Token]) -> bool
     ensures { result ≡ begins_with_mark ts.now }
 {
-    if is_sign(Sign::Star, ts) {
+    if begins_with(Sign::Star, ts) {
         true
-    } else if is_sign(Sign::Percent, ts) {
+    } else if begins_with(Sign::Percent, ts) {
         true
     } else {
-        is_sign(Sign::Hash, ts)
+        begins_with(Sign::Hash, ts)
     }
 }
 
@@ -47,24 +74,12 @@ pub(crate) fn is_mark(ts: &[Token]) -> bool
 pub(crate) fn with_mark(marks: Marked, ts: &[Token]) -> Marked
     ensures { marks_of result ≡ with_first_mark (marks_of marks) ts.now }
 {
-    if is_sign(Sign::Star, ts) {
-        Marked {
-            star: true,
-            percent: marks.percent,
-            hash: marks.hash,
-        }
-    } else if is_sign(Sign::Percent, ts) {
-        Marked {
-            star: marks.star,
-            percent: true,
-            hash: marks.hash,
-        }
+    if begins_with(Sign::Star, ts) {
+        starred(marks)
+    } else if begins_with(Sign::Percent, ts) {
+        percented(marks)
     } else {
-        Marked {
-            star: marks.star,
-            percent: marks.percent,
-            hash: true,
-        }
+        hashed(marks)
     }
 }
 
@@ -91,13 +106,10 @@ fn callee_kind(alloc: Global, kind: &TokenKind) -> Result<Option<Text>, AllocErr
     }
 }
 
-/// The name that a call with which the tokens begin calls.
+/// The name that a call which begins with this token calls.
 // WORD | "for" | "let" | "echo" | "assert"
-pub(crate) fn first_callee(alloc: Global, ts: &[Token]) -> Result<Option<Text>, AllocError>
-    ensures { IfOk result (λ name. name ≡ first_callee ts.now) }
+pub(crate) fn callee(alloc: Global, token: &Token) -> Result<Option<Text>, AllocError>
+    ensures { IfOk result (λ name. name ≡ callee token.now) }
 {
-    match ts {
-        [] => Ok(None),
-        [token, ..] => callee_kind(alloc, &token.kind),
-    }
+    callee_kind(alloc, &token.kind)
 }

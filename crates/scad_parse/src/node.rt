@@ -1,17 +1,26 @@
 //! The nodes of the tree, with their parts in boxes.
 
 ghost use Rattle.std.specs.Prelude.{◌≡◌, IfOk};
-ghost use Rattle.scad_ast.specs.Tree.{number as number_tree, name as name_tree, call as call_tree, vector as vector_tree, string, unary, binary, choose, index, member, range, stepped, each, for_each, for_loop, if_element, if_else};
+ghost use Rattle.scad_ast.specs.Tree.{number as number_tree, name as name_tree, call as call_tree};
+ghost use Rattle.scad_ast.specs.Tree.{vector as vector_tree, string, unary, binary, choose, index, member, range};
+ghost use Rattle.scad_ast.specs.Tree.{stepped, each, for_each, for_loop, if_element, if_else};
 ghost use Rattle.scad_ast.specs.View.{expression_of, element_of, arguments, elements};
 ghost use Rattle.scad_grammar.specs.Behind.{keyed_tree};
 ghost use Rattle.scad_grammar.specs.Lists.{let_of};
 ghost use Rattle.scad_parse.specs.Reading.{keyed};
 
-use crate::operator::Binder;
 use scad_ast::{Args, BinOp, Elem, Elems, Expr, Node, UnOp};
 use scad_fault::{Chars, Place, Text};
 use scad_num::Num;
 use std::alloc::{AllocError, Global};
+
+/// A keyword that stands with arguments before an expression.
+#[derive(Clone, Copy, Debug, PartialEq, Eq)]
+pub(crate) enum Binder {
+    Let,
+    Assert,
+    Echo,
+}
 
 pub(crate) fn number(at: Place, number: Num) -> Expr
     ensures { expression_of result ≡ number_tree at number }

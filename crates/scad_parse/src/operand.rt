@@ -1,19 +1,19 @@
 //! The operands of an expression and the operators between, before and behind them.
 
-ghost use Rattle.std.specs.Prelude.{◌≡◌, suc, ◌+◌, ◌<◌, ◌≤◌, length, MatchResult, Some, true, false};
+ghost use Rattle.std.specs.Prelude.{◌≡◌};
 ghost use Rattle.scad_ast.specs.View.{expression_of};
-ghost use Rattle.scad_grammar.specs.Tokens.{begins_with};
-ghost use Rattle.scad_grammar.specs.Behind.{open_operand};
-ghost use Rattle.scad_grammar.specs.State.{want_operand, have_operand, want_unary, have_links, have_post};
-ghost use Rattle.scad_parse.specs.Reading.{Reads, Stops, first_prefix, open_counted};
+ghost use Rattle.scad_grammar.specs.Rules.{operand_of, links_of, unary_of, prefixed_of, posts_of, member_of, expr_to};
+ghost use Rattle.scad_grammar.specs.Rules.{above};
+ghost use Rattle.scad_parse.specs.Reading.{Gives, below};
 
 use crate::expression::closed;
 use crate::fault::ParseFault;
-use crate::front::{behind, expect_word, is_sign, place};
+use crate::front::{is_sign, word};
 use crate::nesting::{left_out, opened};
 use crate::node;
-use crate::operator::{first_operator, first_prefix};
+use crate::operator::operator;
 use crate::primary::primary;
+use crate::reading::Read;
 use scad_ast::{Expr, UnOp};
 use scad_fault::Place;
 use scad_lex::{Sign, Token};
@@ -22,79 +22,48 @@ use std::alloc::Global;
 // or = and ("||" and)*            and = eq ("&&" eq)*
 // eq = rel (("=="|"!=") rel)*     rel = add (("<"|"<="|">"|">=") add)*
 // add = mul (("+"|"-") mul)*      mul = unary (("*"|"/"|"%") unary)*
-// The so many tightest of these lines.
+// An operand of the so many tightest of these lines.
 #[cycle(expression)]
-pub(crate) fn lines<'a>(
+#[tactic(auto, using(crate::proofs::rules::Room::lines))]
+pub(crate) fn operand<'a>(
     alloc: Global,
-    count: u8,
+    lines: u8,
     ts: &'a [Token],
     end: Place,
-    depth: u32,
-) -> Result<(Expr, &'a [Token]), ParseFault>
-    requires within { depth ≤ 200 }
-    requires lines { count ≤ 6 }
-    ensures { MatchResult result
-        (λ r. (length r.1.now < length ts.now)
-        × Reads open_operand (want_operand count) (have_operand (expression_of r.0)) depth ts.now r.1.now «end»)
-        (Stops open_operand (want_operand count) depth ts.now «end») }
+    room: u32,
+) -> Read<'a, Expr>
+    ensures { Gives (operand_of «end» (below «end» room) lines ts.now) expression_of result }
 {
-    if count == 0 {
-        let whole = match unary(alloc, ts, end, depth) {
-            Ok(whole) => whole,
-            Err(fault) => return Err(fault),
-        };
-        return Ok((whole.0, whole.1));
+    if lines == 0 {
+        return unary(alloc, ts, end, room);
     }
-    let line = count - 1;
-    let left = match lines(alloc, line, ts, end, depth) {
-        Ok(left) => left,
-        Err(fault) => return Err(fault),
-    };
-    let whole = match operands(alloc, line, left.0, left.1, end, depth) {
-        Ok(whole) => whole,
-        Err(fault) => return Err(fault),
-    };
-    Ok((whole.0, whole.1))
+    let line = lines - 1;
+    let (left, rest) = operand(alloc, line, ts, end, room)?;
+    links(alloc, line, left, rest, end, room)
 }
 
 // (operator operand)*, behind the operands so far
 #[cycle(expression)]
-fn operands<'a>(
+#[tactic(auto, using(crate::proofs::rules::Room::room), unfolding(scad_grammar::specs::Rules::links_of))]
+fn links<'a>(
     alloc: Global,
     line: u8,
     left: Expr,
     ts: &'a [Token],
     end: Place,
-    depth: u32,
-) -> Result<(Expr, &'a [Token]), ParseFault>
-    requires within { depth ≤ 200 }
-    requires lines { line < 6 }
-    ensures { MatchResult result
-        (λ r. (length r.1.now ≤ length ts.now)
-        × Reads open_counted (λ c. have_links line c.count (expression_of left) c.behind)
-        (λ c. have_operand (expression_of r.0) c.behind) depth ts.now r.1.now «end»)
-        (Stops open_counted (λ c. have_links line c.count (expression_of left) c.behind) depth ts.now «end») }
+    room: u32,
+) -> Read<'a, Expr>
+    ensures { Gives (links_of (below «end» room) line (expression_of left) ts.now) expression_of result }
 {
-    match first_operator(line, ts) {
+    let [token, rest @ ..] = ts else {
+        return Ok((left, ts));
+    };
+    match operator(line, token) {
         Some(op) => {
-            let at = place(ts, end);
-            let inner = match opened(depth, at) {
-                Ok(inner) => inner,
-                Err(fault) => return Err(fault),
-            };
-            let right = match lines(alloc, line, behind(ts), end, inner) {
-                Ok(right) => right,
-                Err(fault) => return Err(fault),
-            };
-            let both = match node::binary(alloc, at, op, left, right.0) {
-                Ok(both) => both,
-                Err(_) => return Err(ParseFault::Memory),
-            };
-            let whole = match operands(alloc, line, both, right.1, end, inner) {
-                Ok(whole) => whole,
-                Err(fault) => return Err(fault),
-            };
-            Ok((whole.0, whole.1))
+            let inner = opened(room, token.at)?;
+            let (right, rest) = operand(alloc, line, rest, end, inner)?;
+            let both = node::binary(alloc, token.at, op, left, right)?;
+            links(alloc, line, both, rest, end, inner)
         }
         None => Ok((left, ts)),
     }
@@ -102,177 +71,100 @@ fn operands<'a>(
 
 // unary = ("!"|"+"|"-") unary | post
 #[cycle(expression)]
-fn unary<'a>(
-    alloc: Global,
-    ts: &'a [Token],
-    end: Place,
-    depth: u32,
-) -> Result<(Expr, &'a [Token]), ParseFault>
-    requires { depth ≤ 200 }
-    ensures { MatchResult result
-        (λ r. (length r.1.now < length ts.now)
-        × Reads open_operand want_unary (have_operand (expression_of r.0)) depth ts.now r.1.now «end»)
-        (Stops open_operand want_unary depth ts.now «end») }
+#[tactic(auto, unfolding(scad_grammar::specs::Rules::unary_of))]
+fn unary<'a>(alloc: Global, ts: &'a [Token], end: Place, room: u32) -> Read<'a, Expr>
+    ensures { Gives (unary_of «end» (below «end» room) ts.now) expression_of result }
 {
-    match first_prefix(ts) {
-        Some(op) => prefixed(alloc, op, ts, end, depth),
-        None => {
-            let value = match primary(alloc, ts, end, depth) {
-                Ok(value) => value,
-                Err(fault) => return Err(fault),
-            };
-            let whole = match postfix(alloc, value.0, value.1, end, depth) {
-                Ok(whole) => whole,
-                Err(fault) => return Err(fault),
-            };
-            Ok((whole.0, whole.1))
-        }
+    let [token, rest @ ..] = ts else {
+        return Err(ParseFault::Syntax(end));
+    };
+    if is_sign(Sign::Bang, token) {
+        return prefixed(alloc, token.at, UnOp::Not, rest, end, room);
     }
+    if is_sign(Sign::Plus, token) {
+        return prefixed(alloc, token.at, UnOp::Plus, rest, end, room);
+    }
+    if is_sign(Sign::Minus, token) {
+        return prefixed(alloc, token.at, UnOp::Minus, rest, end, room);
+    }
+    let (value, left) = primary(alloc, token, rest, end, room)?;
+    posts(alloc, value, left, end, room)
 }
 
-// ("!"|"+"|"-") unary
+// unary, behind a prefix operator
 #[cycle(expression)]
+#[tactic(auto, using(crate::proofs::rules::Room::room))]
 fn prefixed<'a>(
     alloc: Global,
+    at: Place,
     op: UnOp,
     ts: &'a [Token],
     end: Place,
-    depth: u32,
-) -> Result<(Expr, &'a [Token]), ParseFault>
-    requires within { depth ≤ 200 }
-    requires prefix { first_prefix ts.now ≡ Some op }
-    ensures { MatchResult result
-        (λ r. (length r.1.now < length ts.now)
-        × Reads open_operand want_unary (have_operand (expression_of r.0)) depth ts.now r.1.now «end»)
-        (Stops open_operand want_unary depth ts.now «end») }
+    room: u32,
+) -> Read<'a, Expr>
+    ensures { Gives (prefixed_of (below «end» room) at op ts.now) expression_of result }
 {
-    let at = place(ts, end);
-    let inner = match opened(depth, at) {
-        Ok(inner) => inner,
-        Err(fault) => return Err(fault),
-    };
-    let operand = match unary(alloc, behind(ts), end, inner) {
-        Ok(operand) => operand,
-        Err(fault) => return Err(fault),
-    };
-    let whole = match node::unary(alloc, at, op, operand.0) {
-        Ok(whole) => whole,
-        Err(_) => return Err(ParseFault::Memory),
-    };
-    Ok((whole, operand.1))
+    let inner = opened(room, at)?;
+    let (operand, left) = unary(alloc, ts, end, inner)?;
+    Ok((node::unary(alloc, at, op, operand)?, left))
 }
 
-// post = prim ("[" expr "]" | "." WORD)*, behind the prim
+// ("[" expr "]" | "." WORD)*, behind the prim of a post
 #[cycle(expression)]
-fn postfix<'a>(
-    alloc: Global,
-    value: Expr,
-    ts: &'a [Token],
-    end: Place,
-    depth: u32,
-) -> Result<(Expr, &'a [Token]), ParseFault>
-    requires { depth ≤ 200 }
-    ensures { MatchResult result
-        (λ r. (length r.1.now ≤ length ts.now)
-        × Reads open_counted (λ c. have_post c.count (expression_of value) c.behind)
-        (λ c. have_operand (expression_of r.0) c.behind) depth ts.now r.1.now «end»)
-        (Stops open_counted (λ c. have_post c.count (expression_of value) c.behind) depth ts.now «end») }
+#[tactic(auto, using(crate::proofs::rules::Room::room), unfolding(scad_grammar::specs::Rules::posts_of))]
+fn posts<'a>(alloc: Global, value: Expr, ts: &'a [Token], end: Place, room: u32) -> Read<'a, Expr>
+    ensures { Gives (posts_of «end» (below «end» room) (expression_of value) ts.now) expression_of result }
 {
-    if is_sign(Sign::OpenSquare, ts) {
-        let part = match indexed(alloc, value, ts, end, depth) {
-            Ok(part) => part,
-            Err(fault) => return Err(fault),
-        };
-        let whole = match postfix(alloc, part.1, part.2, end, part.0) {
-            Ok(whole) => whole,
-            Err(fault) => return Err(fault),
-        };
-        return Ok((whole.0, whole.1));
+    let [token, rest @ ..] = ts else {
+        return Ok((value, ts));
+    };
+    if is_sign(Sign::OpenSquare, token) {
+        let inner = opened(room, token.at)?;
+        let (i, left) = indexed(alloc, token.at, rest, end, inner)?;
+        let whole = node::index(alloc, token.at, value, i)?;
+        return posts(alloc, whole, left, end, inner);
     }
-    if is_sign(Sign::Dot, ts) {
-        let part = match member(alloc, value, ts, end, depth) {
-            Ok(part) => part,
-            Err(fault) => return Err(fault),
-        };
-        let whole = match postfix(alloc, part.1, part.2, end, part.0) {
-            Ok(whole) => whole,
-            Err(fault) => return Err(fault),
-        };
-        return Ok((whole.0, whole.1));
+    if is_sign(Sign::Dot, token) {
+        let inner = opened(room, token.at)?;
+        return member(alloc, token.at, value, rest, end, inner);
     }
-    if is_sign(Sign::Caret, ts) {
-        return Err(left_out(alloc, place(ts, end), b"^"));
+    if is_sign(Sign::Caret, token) {
+        return Err(left_out(alloc, token.at, b"^"));
     }
     Ok((value, ts))
 }
 
-// "[" expr "]", behind an operand
+// expr "]" behind the "[" of an index, which opens two constructs
 #[cycle(expression)]
-fn indexed<'a>(
-    alloc: Global,
-    value: Expr,
-    ts: &'a [Token],
-    end: Place,
-    depth: u32,
-) -> Result<(u32, Expr, &'a [Token]), ParseFault>
-    requires within { depth ≤ 200 }
-    requires bracket { begins_with Sign.OpenSquare ts.now ≡ true }
-    ensures { MatchResult result
-        (λ r. (r.0 ≡ depth + 1) × (r.0 ≤ 200) × (length r.2.now < length ts.now)
-        × Reads open_counted (λ c. have_post c.count (expression_of value) c.behind)
-        (λ c. have_post (suc c.count) (expression_of r.1) c.behind) depth ts.now r.2.now «end»)
-        (Stops open_counted (λ c. have_post c.count (expression_of value) c.behind) depth ts.now «end») }
+#[tactic(auto, using(crate::proofs::rules::Room::room))]
+fn indexed<'a>(alloc: Global, at: Place, ts: &'a [Token], end: Place, room: u32) -> Read<'a, Expr>
+    ensures { Gives ((above «end» (below «end» room)).indexed at ts.now) expression_of result }
 {
-    let at = place(ts, end);
-    let more = match opened(depth, at) {
-        Ok(more) => more,
-        Err(fault) => return Err(fault),
-    };
-    let inner = match opened(more, at) {
-        Ok(inner) => inner,
-        Err(fault) => return Err(fault),
-    };
-    let i = match closed(alloc, Sign::CloseSquare, behind(ts), end, inner) {
-        Ok(i) => i,
-        Err(fault) => return Err(fault),
-    };
-    let whole = match node::index(alloc, at, value, i.0) {
-        Ok(whole) => whole,
-        Err(_) => return Err(ParseFault::Memory),
-    };
-    Ok((more, whole, i.1))
+    let inner = opened(room, at)?;
+    closed(alloc, Sign::CloseSquare, ts, end, inner)
 }
 
-// "." WORD, behind an operand
+// WORD behind the ".", and what stands behind it
+#[cycle(expression)]
 fn member<'a>(
     alloc: Global,
+    at: Place,
     value: Expr,
     ts: &'a [Token],
     end: Place,
-    depth: u32,
-) -> Result<(u32, Expr, &'a [Token]), ParseFault>
-    requires within { depth ≤ 200 }
-    requires bracket { begins_with Sign.OpenSquare ts.now ≡ false }
-    requires dot { begins_with Sign.Dot ts.now ≡ true }
-    ensures { MatchResult result
-        (λ r. (r.0 ≡ depth + 1) × (r.0 ≤ 200) × (length r.2.now < length ts.now)
-        × Reads open_counted (λ c. have_post c.count (expression_of value) c.behind)
-        (λ c. have_post (suc c.count) (expression_of r.1) c.behind) depth ts.now r.2.now «end»)
-        (Stops open_counted (λ c. have_post c.count (expression_of value) c.behind) depth ts.now «end») }
+    room: u32,
+) -> Read<'a, Expr>
+    ensures { Gives (member_of «end» (above «end» (below «end» room)) at (expression_of value) ts.now)
+        expression_of result }
 {
-    let at = place(ts, end);
-    let more = match opened(depth, at) {
-        Ok(more) => more,
-        Err(fault) => return Err(fault),
+    let [token, rest @ ..] = ts else {
+        return Err(ParseFault::Syntax(end));
     };
-    let word_ts = behind(ts);
-    let name = match expect_word(alloc, word_ts, end) {
-        Ok(name) => name,
-        Err(fault) => return Err(fault),
-    };
-    let whole = match node::member(alloc, at, value, name) {
-        Ok(whole) => whole,
-        Err(_) => return Err(ParseFault::Memory),
-    };
-    Ok((more, whole, behind(word_ts)))
+    match word(alloc, token)? {
+        Some(name) => {
+            let whole = node::member(alloc, at, value, name)?;
+            posts(alloc, whole, rest, end, room)
+        }
+        None => Err(ParseFault::Syntax(token.at)),
+    }
 }

@@ -1,15 +1,13 @@
-//! Which tokens are operators, literals, and keywords before an expression.
+//! Which tokens are operators and literals.
 
 ghost use Rattle.std.specs.Prelude.{◌≡◌, Some, None, option_map, IfOk};
 ghost use Rattle.scad_ast.specs.View.{expression_of};
-ghost use Rattle.scad_grammar.specs.Tokens.{operator_sign, on_line, line_of, operator_kind, first_operator};
-ghost use Rattle.scad_grammar.specs.Steps.{literal_kind};
-ghost use Rattle.scad_parse.specs.Reading.{first_prefix, first_binder, first_literal};
+ghost use Rattle.scad_grammar.specs.Tokens.{operator_sign, on_line, line_of, operator_kind, operator};
+ghost use Rattle.scad_grammar.specs.Steps.{literal_kind, literal};
 ghost use Rattle.scad_lex.specs.declared.token.TokenKind.TheVariants.{Key as KeyKind};
 
-use crate::front::{is_key, is_sign};
 use crate::node;
-use scad_ast::{BinOp, Expr, Node, UnOp};
+use scad_ast::{BinOp, Expr, Node};
 use scad_fault::Place;
 use scad_lex::{Key, Sign, Token, TokenKind};
 use std::alloc::{AllocError, Global};
@@ -71,52 +69,11 @@ fn operator_kind(line: u8, kind: &TokenKind) -> Option<BinOp>
     }
 }
 
-/// The operator of this line with which tokens begin.
-pub(crate) fn first_operator(line: u8, ts: &[Token]) -> Option<BinOp>
-    ensures { result ≡ first_operator line ts.now }
+/// The operator of this line that a token is.
+pub(crate) fn operator(line: u8, token: &Token) -> Option<BinOp>
+    ensures { result ≡ operator line token.now }
 {
-    match ts {
-        [] => None,
-        [token, ..] => operator_kind(line, &token.kind),
-    }
-}
-
-/// The prefix operator with which tokens begin.
-pub(crate) fn first_prefix(ts: &[Token]) -> Option<UnOp>
-    ensures { result ≡ first_prefix ts.now }
-{
-    if is_sign(Sign::Bang, ts) {
-        Some(UnOp::Not)
-    } else if is_sign(Sign::Plus, ts) {
-        Some(UnOp::Plus)
-    } else if is_sign(Sign::Minus, ts) {
-        Some(UnOp::Minus)
-    } else {
-        None
-    }
-}
-
-/// A keyword that stands with arguments before an expression.
-#[derive(Clone, Copy, Debug, PartialEq, Eq)]
-pub(crate) enum Binder {
-    Let,
-    Assert,
-    Echo,
-}
-
-/// The keyword before an expression with which tokens begin.
-pub(crate) fn first_binder(ts: &[Token]) -> Option<Binder>
-    ensures { result ≡ first_binder ts.now }
-{
-    if is_key(Key::Let, ts) {
-        Some(Binder::Let)
-    } else if is_key(Key::Assert, ts) {
-        Some(Binder::Assert)
-    } else if is_key(Key::Echo, ts) {
-        Some(Binder::Echo)
-    } else {
-        None
-    }
+    operator_kind(line, &token.kind)
 }
 
 /// The constant that a keyword is.
@@ -151,12 +108,9 @@ fn literal_kind(alloc: Global, at: Place, kind: &TokenKind) -> Result<Option<Exp
     }
 }
 
-/// The number, string or constant with which tokens begin.
-pub(crate) fn first_literal(alloc: Global, ts: &[Token]) -> Result<Option<Expr>, AllocError>
-    ensures { IfOk result (λ e. option_map expression_of e ≡ first_literal ts.now) }
+/// The number, string or constant that a token is.
+pub(crate) fn literal(alloc: Global, token: &Token) -> Result<Option<Expr>, AllocError>
+    ensures { IfOk result (λ e. option_map expression_of e ≡ literal token.now) }
 {
-    match ts {
-        [] => Ok(None),
-        [token, ..] => literal_kind(alloc, token.at, &token.kind),
-    }
+    literal_kind(alloc, token.at, &token.kind)
 }

@@ -1,21 +1,21 @@
-//! Statements, where definitions may stand and where they may not, groups of them and modules.
+//! Statements, where definitions may stand and where they may not, and groups of them.
 
-ghost use Rattle.std.specs.Prelude.{◌≡◌, ◌<◌, ◌≤◌, length, MatchResult, true, false};
+ghost use Rattle.std.specs.Prelude.{◌≡◌, length, true};
 ghost use Rattle.scad_ast.specs.Scope.{items};
-ghost use Rattle.scad_grammar.specs.Tokens.{begins_with, begins_with_key};
-ghost use Rattle.scad_grammar.specs.Grammar.{begins_named};
-ghost use Rattle.scad_grammar.specs.Behind.{in_group, open_items};
-ghost use Rattle.scad_grammar.specs.State.{want_statement, have_items};
-ghost use Rattle.scad_parse.specs.Reading.{Reads, Stops};
-ghost use Rattle.scad_parse.specs.ReadingStatements.{open_inside};
+ghost use Rattle.scad_grammar.specs.StatementRules.{statement_of, group_of, word_behind_of, definition_of};
+ghost use Rattle.scad_parse.specs.Reading.{Gives, below, rules_at};
+ghost use Rattle.scad_parse.specs.ReadingStatements.{below_statements, scope_seen};
 
-use crate::definition::{assignment, function, heading, pushed};
+use crate::definition::{function, module, pushed};
+use crate::expression::closed;
 use crate::fault::ParseFault;
-use crate::front::{behind, is_key, is_named, is_sign, place};
-use crate::instance::instance;
+use crate::front::{begins_with, behind, is_key, is_sign, word};
+use crate::instance::{call, first};
+use crate::mark::unmarked;
 use crate::nesting::opened;
+use crate::reading::Read;
 use scad_ast::{Item, Scope};
-use scad_fault::Place;
+use scad_fault::{Place, Text};
 use scad_lex::{Key, Sign, Token};
 use std::alloc::Global;
 
@@ -23,53 +23,36 @@ use std::alloc::Global;
 // body = ";" | "{" body* "}" | assign | inst
 // Where definitions may not stand, it is a body.
 #[cycle(statement)]
+#[tactic(auto, using(crate::proofs::rules::Statements::room), unfolding(scad_grammar::specs::StatementRules::statement_of, scad_grammar::specs::StatementRules::definition_of))]
 pub(crate) fn statement<'a>(
     alloc: Global,
     definitions: bool,
     scope: Scope,
     ts: &'a [Token],
     end: Place,
-    depth: u32,
-) -> Result<(Scope, &'a [Token]), ParseFault>
-    requires { depth ≤ 200 }
-    ensures { MatchResult result
-        (λ r. (length r.1.now < length ts.now)
-        × Reads open_items (want_statement definitions (items scope.items)) (have_items (items r.0.items)) depth ts.now r.1.now «end»)
-        (Stops open_items (want_statement definitions (items scope.items)) depth ts.now «end») }
+    room: u32,
+) -> Read<'a, Scope>
+    ensures { Gives (statement_of «end» (below_statements «end» room) definitions (items scope.items) ts.now)
+        scope_seen result }
 {
-    if is_sign(Sign::Semicolon, ts) {
-        return Ok((scope, behind(ts)));
+    let [token, rest @ ..] = ts else {
+        return Err(ParseFault::Syntax(end));
+    };
+    if is_sign(Sign::Semicolon, token) {
+        return Ok((scope, rest));
     }
-    if is_sign(Sign::OpenCurly, ts) {
-        let inner = match opened(depth, place(ts, end)) {
-            Ok(inner) => inner,
-            Err(fault) => return Err(fault),
-        };
-        let all = match group(alloc, definitions, scope, behind(ts), end, inner) {
-            Ok(all) => all,
-            Err(fault) => return Err(fault),
-        };
-        return Ok((all.0, all.1));
+    if is_sign(Sign::OpenCurly, token) {
+        let inner = opened(room, token.at)?;
+        return group(alloc, definitions, scope, rest, end, inner);
     }
-    if is_named(ts) {
-        let all = match assignment(alloc, scope, ts, end, depth) {
-            Ok(all) => all,
-            Err(fault) => return Err(fault),
-        };
-        return Ok((all.0, all.1));
+    if let Some(name) = word(alloc, token)? {
+        let inner = opened(room, token.at)?;
+        return word_behind(alloc, token.at, name, scope, rest, end, inner);
     }
     if definitions {
-        let all = match definition(alloc, scope, ts, end, depth) {
-            Ok(all) => all,
-            Err(fault) => return Err(fault),
-        };
-        return Ok((all.0, all.1));
+        return definition(alloc, scope, token, rest, end, room);
     }
-    let all = match instance(alloc, scope, ts, end, depth) {
-        Ok(all) => all,
-        Err(fault) => return Err(fault),
-    };
-    Ok((all.0, all.1))
+    first(alloc, scope, token, rest, end, room)
 }
 
 // stmt* "}" or body* "}", behind the "{"
@@ -80,98 +63,66 @@ pub(crate) fn group<'a>(
     scope: Scope,
     ts: &'a [Token],
     end: Place,
-    depth: u32,
-) -> Result<(Scope, &'a [Token]), ParseFault>
-    requires { depth ≤ 200 }
-    ensures { MatchResult result
-        (λ r. (length r.1.now ≤ length ts.now)
-        × Reads open_inside (λ k. have_items (items scope.items) (in_group definitions k))
-        (have_items (items r.0.items)) depth ts.now r.1.now «end»)
-        (Stops open_inside (λ k. have_items (items scope.items) (in_group definitions k)) depth ts.now «end») }
+    room: u32,
+) -> Read<'a, Scope>
+    ensures { Gives (group_of «end» (below_statements «end» room) (length ts.now) definitions (items scope.items)
+        ts.now) scope_seen result }
 {
     let mut all = scope;
     let mut left = ts;
-    'statements: while !is_sign(Sign::CloseCurly, left) {
-        let more = match statement(alloc, definitions, all, left, end, depth) {
-            Ok(more) => more,
-            Err(fault) => return Err(fault),
-        };
-        all = more.0;
-        left = more.1;
+    'statements: while !begins_with(Sign::CloseCurly, left) {
+        let (more, rest) = statement(alloc, definitions, all, left, end, room)?;
+        all = more;
+        left = rest;
     }
     Ok((all, behind(left)))
 }
 
-// module | function | inst
+// assign = WORD "=" expr ";", or a call, behind the WORD
 #[cycle(statement)]
+fn word_behind<'a>(
+    alloc: Global,
+    at: Place,
+    name: Text,
+    scope: Scope,
+    ts: &'a [Token],
+    end: Place,
+    room: u32,
+) -> Read<'a, Scope>
+    ensures { Gives (word_behind_of «end» (rules_at «end» room) (below_statements «end» room) at name
+        (items scope.items) ts.now) scope_seen result }
+{
+    let [token, rest @ ..] = ts else {
+        return Err(ParseFault::Syntax(end));
+    };
+    if is_sign(Sign::Assign, token) {
+        let (value, left) = closed(alloc, Sign::Semicolon, rest, end, room)?;
+        return Ok((pushed(scope, Item::Assign(name, value, at))?, left));
+    }
+    call(alloc, at, unmarked(), name, scope, ts, end, room)
+}
+
+// module | function | inst, of which the first token is given apart
+#[cycle(statement)]
+#[tactic(auto, using(crate::proofs::rules::Statements::room), unfolding(scad_grammar::specs::StatementRules::definition_of))]
 fn definition<'a>(
     alloc: Global,
     scope: Scope,
+    token: &Token,
     ts: &'a [Token],
     end: Place,
-    depth: u32,
-) -> Result<(Scope, &'a [Token]), ParseFault>
-    requires within { depth ≤ 200 }
-    requires some { begins_with Sign.Semicolon ts.now ≡ false }
-    requires no_group { begins_with Sign.OpenCurly ts.now ≡ false }
-    requires no_name { begins_named ts.now ≡ false }
-    ensures { MatchResult result
-        (λ r. (length r.1.now < length ts.now)
-        × Reads open_items (want_statement true (items scope.items)) (have_items (items r.0.items)) depth ts.now r.1.now «end»)
-        (Stops open_items (want_statement true (items scope.items)) depth ts.now «end») }
+    room: u32,
+) -> Read<'a, Scope>
+    ensures { Gives (definition_of true (below_statements «end» room) token.now (items scope.items) ts.now)
+        scope_seen result }
 {
-    if is_key(Key::Module, ts) {
-        let all = match module(alloc, scope, ts, end, depth) {
-            Ok(all) => all,
-            Err(fault) => return Err(fault),
-        };
-        return Ok((all.0, all.1));
+    if is_key(Key::Module, token) {
+        let inner = opened(room, token.at)?;
+        return module(alloc, token.at, scope, ts, end, inner);
     }
-    if is_key(Key::Function, ts) {
-        let all = match function(alloc, scope, ts, end, depth) {
-            Ok(all) => all,
-            Err(fault) => return Err(fault),
-        };
-        return Ok((all.0, all.1));
+    if is_key(Key::Function, token) {
+        let inner = opened(room, token.at)?;
+        return function(alloc, token.at, scope, ts, end, inner);
     }
-    let all = match instance(alloc, scope, ts, end, depth) {
-        Ok(all) => all,
-        Err(fault) => return Err(fault),
-    };
-    Ok((all.0, all.1))
-}
-
-// module = "module" WORD "(" params ")" stmt
-#[cycle(statement)]
-fn module<'a>(
-    alloc: Global,
-    scope: Scope,
-    ts: &'a [Token],
-    end: Place,
-    depth: u32,
-) -> Result<(Scope, &'a [Token]), ParseFault>
-    requires within { depth ≤ 200 }
-    requires begun { begins_with_key Key.Module ts.now ≡ true }
-    ensures { MatchResult result
-        (λ r. (length r.1.now < length ts.now)
-        × Reads open_items (want_statement true (items scope.items)) (have_items (items r.0.items)) depth ts.now r.1.now «end»)
-        (Stops open_items (want_statement true (items scope.items)) depth ts.now «end») }
-{
-    let at = place(ts, end);
-    let inner = match opened(depth, at) {
-        Ok(inner) => inner,
-        Err(fault) => return Err(fault),
-    };
-    let head = match heading(alloc, behind(ts), end, inner) {
-        Ok(head) => head,
-        Err(fault) => return Err(fault),
-    };
-    let body = match statement(alloc, true, Scope::new(alloc), head.2, end, inner) {
-        Ok(body) => body,
-        Err(fault) => return Err(fault),
-    };
-    match pushed(scope, Item::Module(head.0, head.1, body.0, at)) {
-        Ok(all) => Ok((all, body.1)),
-        Err(_) => Err(ParseFault::Memory),
-    }
+    first(alloc, scope, token, ts, end, room)
 }

@@ -1,101 +1,57 @@
 //! What stands in brackets: ranges and vectors.
 
-ghost use Rattle.std.specs.Prelude.{◌≡◌, ◌<◌, ◌≤◌, length, MatchResult, None, true, false, option_map};
-ghost use Rattle.scad_ast.specs.View.{expression_of, element_of};
-ghost use Rattle.scad_grammar.specs.Tokens.{begins_with};
-ghost use Rattle.scad_grammar.specs.Behind.{open_operand, in_vector};
-ghost use Rattle.scad_grammar.specs.State.{want_unary, have_post, have_element, in_elements};
-ghost use Rattle.scad_parse.specs.Reading.{Reads, Stops, first_prefix, open_in_brackets};
-ghost use Rattle.scad_ast.specs.Tree.{no_elements, item};
+ghost use Rattle.std.specs.Prelude.{◌≡◌, length, option_map};
+ghost use Rattle.scad_ast.specs.View.{expression_of, element_of, elements};
+ghost use Rattle.scad_ast.specs.Tree.{no_elements};
+ghost use Rattle.scad_grammar.specs.Rules.{elements_of, range_by, range_end};
 ghost use Rattle.scad_grammar.specs.Steps.{range_start};
+ghost use Rattle.scad_parse.specs.Reading.{Gives, below, behind, place_of};
 
 use crate::element::element;
 use crate::expression::{closed, expression};
 use crate::fault::ParseFault;
-use crate::front::{behind, expect, is_sign, place};
-use crate::nesting::opened;
+use crate::front::{begins_with, behind, is_sign, place};
 use crate::node;
-use crate::reading::behind_element;
+use crate::reading::{Read, behind_member};
 use scad_ast::{Elem, Elems, Expr};
 use scad_fault::Place;
 use scad_lex::{Sign, Token};
 use std::alloc::Global;
 
-// range | vector
+// range | vector, behind the "["
+// vector = "[" list of elem "]"
 #[cycle(expression)]
-pub(crate) fn bracket<'a>(
-    alloc: Global,
-    ts: &'a [Token],
-    end: Place,
-    depth: u32,
-) -> Result<(Expr, &'a [Token]), ParseFault>
-    requires within { depth ≤ 200 }
-    requires no_prefix { first_prefix ts.now ≡ None }
-    requires no_round { begins_with Sign.OpenRound ts.now ≡ false }
-    requires square { begins_with Sign.OpenSquare ts.now ≡ true }
-    ensures { MatchResult result
-        (λ r. (length r.1.now < length ts.now)
-        × Reads open_operand want_unary (have_post 0 (expression_of r.0)) depth ts.now r.1.now «end»)
-        (Stops open_operand want_unary depth ts.now «end») }
-{
-    let at = place(ts, end);
-    let inner = match opened(depth, at) {
-        Ok(inner) => inner,
-        Err(fault) => return Err(fault),
-    };
-    let whole = match bracketed(alloc, at, behind(ts), end, inner) {
-        Ok(whole) => whole,
-        Err(fault) => return Err(fault),
-    };
-    Ok((whole.0, whole.1))
-}
-
-// what stands behind "[" in a range or a vector
-#[cycle(expression)]
-fn bracketed<'a>(
+pub(crate) fn brackets<'a>(
     alloc: Global,
     at: Place,
     ts: &'a [Token],
     end: Place,
-    depth: u32,
-) -> Result<(Expr, &'a [Token]), ParseFault>
-    requires { depth ≤ 200 }
-    ensures { MatchResult result
-        (λ r. (length r.1.now < length ts.now)
-        × Reads open_in_brackets (in_elements at no_elements) (have_post 0 (expression_of r.0)) depth ts.now r.1.now «end»)
-        (Stops open_in_brackets (in_elements at no_elements) depth ts.now «end») }
+    room: u32,
+) -> Read<'a, Expr>
+    ensures { Gives (elements_of «end» (below «end» room) (length ts.now) at no_elements ts.now) expression_of result }
 {
-    if is_sign(Sign::CloseSquare, ts) {
-        return Ok((node::vector(at, Elems::new(alloc)), behind(ts)));
-    }
-    let first = match element(alloc, ts, end, depth) {
-        Ok(first) => first,
-        Err(fault) => return Err(fault),
-    };
-    if is_sign(Sign::Colon, first.1) {
-        match range_start(first.0) {
-            Some(start) => {
-                let whole = match range(alloc, at, start, first.1, end, depth) {
-                    Ok(whole) => whole,
-                    Err(fault) => return Err(fault),
-                };
-                Ok((whole.0, whole.1))
-            }
-            None => Err(ParseFault::Syntax(place(first.1, end))),
+    let mut all = Elems::new(alloc);
+    let mut left = ts;
+    'members: while !begins_with(Sign::CloseSquare, left) {
+        let (elem, rest) = element(alloc, left, end, room)?;
+        if begins_with(Sign::Colon, rest) {
+            return range(alloc, at, all, elem, rest, end, room);
         }
-    } else {
-        let whole = match vector(alloc, at, first.0, first.1, end, depth) {
-            Ok(whole) => whole,
-            Err(fault) => return Err(fault),
-        };
-        Ok((whole.0, whole.1))
+        all.push(elem)?;
+        let (_, rest) = behind_member(Sign::CloseSquare, rest, end)?;
+        left = rest;
     }
+    Ok((node::vector(at, all), behind(left)))
 }
 
-/// The expression that an element is, with which a range may begin.
-fn range_start(first: Elem) -> Option<Expr>
-    ensures { option_map expression_of result ≡ range_start no_elements (element_of first) }
+/// The expression with which a range begins: the element, where it is the first.
+#[tactic(auto, using(crate::proofs::loops::Pushes::no_start))]
+fn range_start(all: &Elems, first: Elem) -> Option<Expr>
+    ensures { option_map expression_of result ≡ range_start (elements all.now.items) (element_of first) }
 {
+    if !all.is_empty() {
+        return None;
+    }
     match first {
         Elem::Item(start) => Some(start),
         _ => None,
@@ -107,89 +63,45 @@ fn range_start(first: Elem) -> Option<Expr>
 fn range<'a>(
     alloc: Global,
     at: Place,
-    start: Expr,
-    ts: &'a [Token],
-    end: Place,
-    depth: u32,
-) -> Result<(Expr, &'a [Token]), ParseFault>
-    requires within { depth ≤ 200 }
-    requires colon { begins_with Sign.Colon ts.now ≡ true }
-    ensures { MatchResult result
-        (λ r. (length r.1.now < length ts.now)
-        × Reads open_in_brackets (λ k. have_element (item (expression_of start)) (in_vector at no_elements k))
-        (have_post 0 (expression_of r.0)) depth ts.now r.1.now «end»)
-        (Stops open_in_brackets (λ k. have_element (item (expression_of start)) (in_vector at no_elements k))
-        depth ts.now «end») }
-{
-    let second = match expression(alloc, behind(ts), end, depth) {
-        Ok(second) => second,
-        Err(fault) => return Err(fault),
-    };
-    if is_sign(Sign::Colon, second.1) {
-        let third_ts = behind(second.1);
-        let last = match closed(alloc, Sign::CloseSquare, third_ts, end, depth) {
-            Ok(last) => last,
-            Err(fault) => return Err(fault),
-        };
-        let whole = match node::stepped(alloc, at, start, second.0, last.0) {
-            Ok(whole) => whole,
-            Err(_) => return Err(ParseFault::Memory),
-        };
-        Ok((whole, last.1))
-    } else {
-        let rest = match expect(Sign::CloseSquare, second.1, end) {
-            Ok(rest) => rest,
-            Err(fault) => return Err(fault),
-        };
-        let whole = match node::range(alloc, at, start, second.0) {
-            Ok(whole) => whole,
-            Err(_) => return Err(ParseFault::Memory),
-        };
-        Ok((whole, rest))
-    }
-}
-
-// vector = "[" list of elem "]", behind the first member
-#[cycle(expression)]
-fn vector<'a>(
-    alloc: Global,
-    at: Place,
+    all: Elems,
     first: Elem,
     ts: &'a [Token],
     end: Place,
-    depth: u32,
-) -> Result<(Expr, &'a [Token]), ParseFault>
-    requires within { depth ≤ 200 }
-    requires no_colon { begins_with Sign.Colon ts.now ≡ false }
-    ensures { MatchResult result
-        (λ r. (length r.1.now < length ts.now)
-        × Reads open_in_brackets (λ k. have_element (element_of first) (in_vector at no_elements k))
-        (have_post 0 (expression_of r.0)) depth ts.now r.1.now «end»)
-        (Stops open_in_brackets (λ k. have_element (element_of first) (in_vector at no_elements k)) depth ts.now
-        «end») }
+    room: u32,
+) -> Read<'a, Expr>
+    ensures { Gives (range_by «end» (below «end» room) at (place_of «end» ts.now)
+        (range_start (elements all.items) (element_of first)) (behind ts.now)) expression_of result }
 {
-    let mut elems = Elems::new(alloc);
-    match elems.push(first) {
-        Ok(()) => {}
-        Err(_) => return Err(ParseFault::Memory),
-    }
-    let mut left = match behind_element(ts, end, depth) {
-        Ok(left) => left,
-        Err(fault) => return Err(fault),
+    let Some(start) = range_start(&all, first) else {
+        return Err(ParseFault::Syntax(place(ts, end)));
     };
-    'members: while !is_sign(Sign::CloseSquare, left) {
-        let elem = match element(alloc, left, end, depth) {
-            Ok(elem) => elem,
-            Err(fault) => return Err(fault),
-        };
-        match elems.push(elem.0) {
-            Ok(()) => {}
-            Err(_) => return Err(ParseFault::Memory),
-        }
-        left = match behind_element(elem.1, end, depth) {
-            Ok(left) => left,
-            Err(fault) => return Err(fault),
-        };
+    let (second, left) = expression(alloc, behind(ts), end, room)?;
+    ranged(alloc, at, start, second, left, end, room)
+}
+
+// [":" expr] "]", behind the first two parts
+#[cycle(expression)]
+fn ranged<'a>(
+    alloc: Global,
+    at: Place,
+    start: Expr,
+    second: Expr,
+    ts: &'a [Token],
+    end: Place,
+    room: u32,
+) -> Read<'a, Expr>
+    ensures { Gives (range_end «end» (below «end» room) at (expression_of start) (expression_of second) ts.now)
+        expression_of result }
+{
+    let [token, rest @ ..] = ts else {
+        return Err(ParseFault::Syntax(end));
+    };
+    if is_sign(Sign::Colon, token) {
+        let (last, left) = closed(alloc, Sign::CloseSquare, rest, end, room)?;
+        return Ok((node::stepped(alloc, at, start, second, last)?, left));
     }
-    Ok((node::vector(at, elems), behind(left)))
+    if !is_sign(Sign::CloseSquare, token) {
+        return Err(ParseFault::Syntax(token.at));
+    }
+    Ok((node::range(alloc, at, start, second)?, rest))
 }

@@ -1,5 +1,5 @@
--- What each status says of the words, of the source and of the files.
-use Rattle.std.proofs.Common.{◌≡◌, ◌≢◌, ◌≤◌, List, [], ◌∷◌, ℕ, Bool, true, false, Option, Some, None, refl, sym, ap, ◌∙◌, subst, length, nat_lt, rules, arith}
+-- What each status says of the words and of the outlines.
+use Rattle.std.proofs.Common.{◌≡◌, ◌≢◌, ◌⊎◌, ◌≤◌, List, [], ◌∷◌, ℕ, Bool, true, false, Option, Some, None, inl, inr, refl, sym, ap, ◌∙◌, subst, length, nat_lt, rules, arith}
 use Rattle.std.specs.Prelude.{IsSomeAnd, option_map, unwrap_or, if◌then◌else◌}
 use Rattle.scad_fault.specs.declared.budget.Budget.{Budget}
 use Rattle.scad_fault.specs.declared.status.Status.{Status}
@@ -13,71 +13,73 @@ use Rattle.scad_script.specs.Script.{Script, Ending, Finishes, Refuses, Lacks, f
 use Rattle.scad_script.specs.Names.{Given}
 use Rattle.scad_script.specs.Promises.{Adds, IsAnswered, IsReadFault, IsWriteFault, IsMemoryLine, Promised}
 use Rattle.scad_expr.specs.declared.fault.EvalFault.{EvalFault}
-use Rattle.scad_expr.specs.State.{Outcome, gives, refuses}
+use Rattle.scad_expr.specs.State.{State, Outcome, gives, refuses}
 use Rattle.scad_tree.specs.Solid.{Solid}
 use Rattle.scad_tree.specs.Order.{leaves as leaf_count}
 use Rattle.scad_tree.specs.Sizes.{triangle_count}
-use Rattle.scad_tree.specs.Height.{layers}
 use Rattle.scad_tree.specs.Text.{text_of as tree_text}
-use Rattle.cli_text.specs.Cli.{cli}
+use Rattle.cli_text.specs.Cli.{cli as text_of_layers}
+use Rattle.scad_slice.specs.Budgets.{layer_count, layer_limit, layers_passed}
+use Rattle.scad_slice.specs.Drawing.{Drawing, layers_of, loop_count}
+use Rattle.scad_slice.specs.Script.{slice_script, done_line}
+use Rattle.scad_slice.proofs.Parted.{HasMany, IsWhole, IsCut, script_goes, whole_text}
+use Rattle.scad_slice.proofs.Holding.{drawings_hold}
 use Rattle.scad_tool.specs.Words.{Command, Check, Tree, Slice, model_of, command_of}
-use Rattle.scad_tool.specs.Source.{cube_size}
-use Rattle.scad_tool.specs.Cube.{layer_height, cube_layers}
 use Rattle.scad_tool.specs.Meaning.{source_means}
-use Rattle.scad_tool.specs.Told.{layer_limit, layers_passed, ok_line, check_end, told}
-use Rattle.scad_tool.specs.Answer.{source_limit, slice_script, source_script, input_script, command_script, script_of, IsRead, given_of, given_by}
-use Rattle.scad_tool.specs.Promises.{IsSource, IsAnswered as IsWholeAnswer, Answers, HoldsCube, JudgesWords, JudgesCommand}
-use Rattle.scad_tool.proofs.Cubes.{cube_text, cube_ending}
-use Rattle.scad_tool.proofs.Membership.{outlines_hold_cube}
+use Rattle.scad_tool.specs.Told.{ok_line, check_end, check_script, tree_script, echoed, told}
+use Rattle.scad_tool.specs.Answer.{source_limit, source_script, input_script, command_script, script_of, IsRead, IsDrawingOf, IsDrawn, given_of, given_by}
+use Rattle.scad_tool.specs.Playing.{DrawSolids}
+use Rattle.scad_tool.specs.Promises.{MeansTree, IsTreeOf, OutlinesHoldTree, JudgesWords, JudgesCommand}
 use Rattle.scad_tool.proofs.Working.{read_as}
 
--- The answer.
+-- The outlines of a source that was sliced to the end.
 
-told_answer : (words : List (List ℕ)) (files : Files) (input : Option Input) (status : Status) (old new : View) → IsRead words files input → IsAnswered (script_of words input) status old new → IsWholeAnswer words files status old new
-told_answer words None input status old new is answered = tt
-told_answer words (Some contents) input status old new is answered =
-    subst (λ (i : Option Input). IsAnswered (script_of words i) status old new) is answered
-
-pub answers : (words : List (List ℕ)) (files : Files) (input : Option Input) (status : Status) (old new : View) → IsRead words files input → Promised (given_by words) (script_of words input) status old new → Answers words files status old new
-answers words files input Done old new is promised = told_answer words files input Done old new is promised
-answers words files input (Source fault) old new is promised = told_answer words files input (Source fault) old new is promised
-answers words files input Usage old new is promised = told_answer words files input Usage old new is promised
-answers words files input (Settings fault) old new is promised = told_answer words files input (Settings fault) old new is promised
-answers words files input Read old new is promised = tt
-answers words files input Write old new is promised = tt
-answers words files input (Over budget) old new is promised = told_answer words files input (Over budget) old new is promised
-answers words files input Memory old new is promised = tt
-
--- The outlines of a source whose cube has this size.
-
--- the cube of a source, and its outlines
-pub record Drawn (input : Option Input) (old new : View) : Type 0 where
+-- the source, its tree, and its outlines
+pub record Drawn (drawing : Drawing) (input : Option Input) (old new : View) : Type 0 where
   pub source : List ℕ
   pub read : input ≡ Some (Whole source)
-  pub size : ℕ
-  pub cube : cube_size source ≡ Some size
-  pub outlines : Adds (cli (cube_layers size)) old.cli new.cli
+  pub tree : Solid
+  pub state : State
+  pub means : source_means source ≡ gives tree state
+  pub outlines : Adds (text_of_layers (layers_of drawing (layer_count tree))) old.cli new.cli
 
-sized_drawn : (model name source : List ℕ) (size : Option ℕ) (old new : View) → cube_size source ≡ size → IsAnswered (first (Reads model ∷ []) (slice_script name size)) Done old new → Drawn (Some (Whole source)) old new
-sized_drawn model name source None old new is answered = let same = answered.0 in let never : ⊥ = cc in absurd never
-sized_drawn model name source (Some size) old new is answered =
-    let steps = (first (Reads model ∷ []) (slice_script name (Some size))).steps in
-    let finished = subst (λ (e : Ending). IsAnswered (record { steps = steps; ending = e }) Done old new) (cube_ending size) answered in
+-- behind the reading stand the lines of `echo`, and then the script of the tree
+abbrev sliced : List ℕ → List (List ℕ) → Script → Script
+sliced model lines rest = first (Reads model ∷ []) (echoed lines rest)
+
+tree_drawn : (model cli source : List ℕ) (drawing : Drawing) (tree : Solid) (s : State) (old new : View) → source_means source ≡ gives tree s → HasMany cli drawing tree ⊎ (IsWhole cli drawing tree ⊎ IsCut cli drawing tree) → IsAnswered (sliced model s.echoes (slice_script cli drawing tree)) Done old new → Drawn drawing (Some (Whole source)) old new
+tree_drawn model cli source drawing tree s old new is (inl many) answered =
+    let refused = subst (λ (rest : Script). IsAnswered (sliced model s.echoes rest) Done old new) many.script answered in
+    let same = refused.0 in let never : ⊥ = cc in absurd never
+tree_drawn model cli source drawing tree s old new is (inr (inl whole)) answered =
+    let steps = (sliced model s.echoes (slice_script cli drawing tree)).steps in
+    let finished = subst (λ (e : Ending). IsAnswered (record { steps = steps; ending = e }) Done old new) (ap (λ r. r.ending) whole.script) answered in
     record {
       source = source;
       read = refl;
-      size = size;
-      cube = is;
-      outlines = subst (λ (text : List ℕ). Adds text old.cli new.cli) (cube_text size) finished.2;
+      tree = tree;
+      state = s;
+      means = is;
+      outlines = subst (λ (text : List ℕ). Adds text old.cli new.cli) (whole_text cli drawing tree whole) finished.2;
     }
+tree_drawn model cli source drawing tree s old new is (inr (inr cut)) answered =
+    let steps = (sliced model s.echoes (slice_script cli drawing tree)).steps in
+    let refused = subst (λ (e : Ending). IsAnswered (record { steps = steps; ending = e }) Done old new) (ap (λ r. r.ending) cut.script) answered in
+    let same = refused.0 in let never : ⊥ = cc in absurd never
 
-drawn : (model name : List ℕ) (input : Option Input) (old new : View) → IsAnswered (command_script (Some (Slice model name)) input) Done old new → Drawn input old new
-drawn model name None old new answered = absurd answered
-drawn model name (Some Long) old new answered = let same = answered.0 in let never : ⊥ = cc in absurd never
-drawn model name (Some (Whole source)) old new answered = sized_drawn model name source (cube_size source) old new refl answered
+source_drawn : (model cli source : List ℕ) (drawing : Drawing) (meaning : Outcome Solid) (old new : View) → source_means source ≡ meaning → IsAnswered (first (Reads model ∷ []) (told (slice_script cli drawing) meaning)) Done old new → Drawn drawing (Some (Whole source)) old new
+source_drawn model cli source drawing (gives tree s) old new is answered = tree_drawn model cli source drawing tree s old new is (script_goes cli drawing tree) answered
+source_drawn model cli source drawing (refuses (EvalFault.Fault fault) s) old new is answered = let same = answered.0 in let never : ⊥ = cc in absurd never
+source_drawn model cli source drawing (refuses (EvalFault.Over budget) s) old new is answered = let same = answered.0 in let never : ⊥ = cc in absurd never
+source_drawn model cli source drawing (refuses EvalFault.Memory s) old new is answered = absurd answered
+
+drawn : (model cli : List ℕ) (drawing : Drawing) (input : Option Input) (old new : View) → IsAnswered (command_script (Some (Slice model cli)) drawing input) Done old new → Drawn drawing input old new
+drawn model cli drawing None old new answered = absurd answered
+drawn model cli drawing (Some Long) old new answered = let same = answered.0 in let never : ⊥ = cc in absurd never
+drawn model cli drawing (Some (Whole source)) old new answered = source_drawn model cli source drawing (source_means source) old new refl answered
 
 -- the text of what was read whole
-abbrev text_in : Input → List ℕ
+abbrev pub text_in : Input → List ℕ
 text_in (Whole text) = text
 text_in Long = []
 
@@ -85,28 +87,32 @@ whole_if : (text source : List ℕ) (b : Bool) → nat_lt source_limit (length t
 whole_if text source true long same = let never : ⊥ = cc in absurd never
 whole_if text source false short same = (search (rules, arith), ap text_in same)
 
-source_there : (told : Option (List ℕ)) (source : List ℕ) (size : ℕ) → Some (Whole source) ≡ option_map (input_of (Some source_limit)) told → cube_size source ≡ Some size → IsSomeAnd told (λ text. (length text ≤ source_limit) × (cube_size text ≡ Some size))
-source_there None source size same cube = let never : ⊥ = cc in absurd never
-source_there (Some text) source size same cube =
+source_there : (told : Option (List ℕ)) (source : List ℕ) (tree : Solid) → Some (Whole source) ≡ option_map (input_of (Some source_limit)) told → MeansTree tree source → IsSomeAnd told (λ text. (length text ≤ source_limit) × MeansTree tree text)
+source_there None source tree same means = let never : ⊥ = cc in absurd never
+source_there (Some text) source tree same means =
     let whole = whole_if text source (nat_lt source_limit (length text)) refl (sym (ap (λ (o : Option Input). unwrap_or o Long) same)) in
-    (whole.0, ap cube_size whole.1 ∙ cube)
+    (whole.0, subst (MeansTree tree) (sym whole.1) means)
 
-source_is : (words : List (List ℕ)) (files : Files) (command : Command) (source : List ℕ) (size : ℕ) → command_of words ≡ Some command → IsRead words files (Some (Whole source)) → cube_size source ≡ Some size → IsSource files (model_of command) (Some size)
-source_is words None command source size form is cube = tt
-source_is words (Some contents) command source size form is cube =
-    source_there (contents (model_of command)) source size (is ∙ read_as words contents command form) cube
+source_is : (words : List (List ℕ)) (files : Files) (command : Command) (source : List ℕ) (tree : Solid) → command_of words ≡ Some command → IsRead words files (Some (Whole source)) → MeansTree tree source → IsTreeOf files (model_of command) tree
+source_is words None command source tree form is means = tt
+source_is words (Some contents) command source tree form is means =
+    source_there (contents (model_of command)) source tree (is ∙ read_as words contents command form) means
 
-pub holds_cube : (words : List (List ℕ)) (files : Files) (input : Option Input) (status : Status) (old new : View) → IsRead words files input → Promised (given_by words) (script_of words input) status old new → status ≡ Done → HoldsCube words files old new
-holds_cube words files input status old new is promised done model name form =
-    let answered : IsAnswered (script_of words input) Done old new =
-    subst (λ (s : Status). Promised (given_by words) (script_of words input) s old new) done promised
+pub holds_tree : (words : List (List ℕ)) (files : Files) (input : Option Input) (drawing : Drawing) (status : Status) (old new : View) → IsRead words files input → IsDrawn input drawing → Promised (given_by words) (script_of words drawing input) status old new → (status ≡ Done → DrawSolids (command_of words) input) → status ≡ Done → OutlinesHoldTree words files old new
+holds_tree words files input drawing status old new is is_drawn promised solid done model cli form =
+    let answered : IsAnswered (script_of words drawing input) Done old new =
+    subst (λ (s : Status). Promised (given_by words) (script_of words drawing input) s old new) done promised
     in
-    let d = drawn model name input old new (subst (λ (c : Option Command). IsAnswered (command_script c input) Done old new) form answered) in (
-      d.size,
-      cube_layers d.size,
-      source_is words files (Slice model name) d.source d.size form (subst (IsRead words files) d.read is) d.cube,
+    let d = drawn model cli drawing input old new (subst (λ (c : Option Command). IsAnswered (command_script c drawing input) Done old new) form answered) in
+    let of_source = subst (λ (i : Option Input). IsDrawn i drawing) d.read is_drawn in
+    let of_tree = subst (λ (m : Outcome Solid). IsDrawingOf m drawing) d.means of_source in
+    let known = subst (λ (i : Option Input). DrawSolids (Some (Slice model cli)) i) d.read (subst (λ (c : Option Command). DrawSolids c input) form (solid done)) in
+    let solids = known d.tree d.state d.means in (
+      d.tree,
+      layers_of drawing (layer_count d.tree),
+      source_is words files (Slice model cli) d.source d.tree form (subst (IsRead words files) d.read is) (d.state, d.means),
       d.outlines,
-      outlines_hold_cube d.size,
+      drawings_hold d.tree drawing solids of_tree,
     )
 
 -- The words.
@@ -123,7 +129,7 @@ usage_ends steps Lacks old new answered = absurd answered
 abbrev IsOther : Ending → Type 0
 IsOther ending = ending ≢ Refuses Refusal.Usage
 
-told_other : (follows : Solid → Ending) (meaning : Outcome Solid) → ((tree : Solid) → IsOther (follows tree)) → IsOther (told (λ tree. ends (follows tree)) meaning).ending
+told_other : (follows : Solid → Script) (meaning : Outcome Solid) → ((tree : Solid) → IsOther (follows tree).ending) → IsOther (told follows meaning).ending
 told_other follows (gives tree s) other = other tree
 told_other follows (refuses (EvalFault.Fault fault) s) other = λ same. let never : ⊥ = cc in absurd never
 told_other follows (refuses (EvalFault.Over budget) s) other = λ same. let never : ⊥ = cc in absurd never
@@ -133,49 +139,56 @@ other_if : (budget : Budget) (line : List ℕ) (b : Bool) → IsOther (if b then
 other_if budget line true = λ same. let never : ⊥ = cc in absurd never
 other_if budget line false = λ same. let never : ⊥ = cc in absurd never
 
-slice_other : (name : List ℕ) (size : Option ℕ) → IsOther (slice_script name size).ending
-slice_other name None = λ same. let never : ⊥ = cc in absurd never
-slice_other name (Some size) = λ same. let finishes = sym (cube_ending size) ∙ same in let never : ⊥ = cc in absurd never
+slice_other : (cli : List ℕ) (drawing : Drawing) (tree : Solid) → HasMany cli drawing tree ⊎ (IsWhole cli drawing tree ⊎ IsCut cli drawing tree) → IsOther (slice_script cli drawing tree).ending
+slice_other cli drawing tree (inl many) same =
+    let other : Refuses (Refusal.Over (layers_passed (layer_count tree))) ≡ Refuses Refusal.Usage = sym (ap (λ r. r.ending) many.script) ∙ same in
+    let never : ⊥ = cc in absurd never
+slice_other cli drawing tree (inr (inl whole)) same =
+    let other : Finishes (done_line (layer_count tree) (loop_count drawing (layer_count tree))) ≡ Refuses Refusal.Usage = sym (ap (λ r. r.ending) whole.script) ∙ same in
+    let never : ⊥ = cc in absurd never
+slice_other cli drawing tree (inr (inr cut)) same =
+    let other : Refuses (Refusal.Over cut.budget) ≡ Refuses Refusal.Usage = sym (ap (λ r. r.ending) cut.script) ∙ same in
+    let never : ⊥ = cc in absurd never
 
-source_other : (command : Command) (source : List ℕ) → IsOther (source_script command source).ending
-source_other (Check model) source =
-    told_other (λ tree. check_end (leaf_count tree) (triangle_count tree) (layers tree layer_height)) (source_means source)
-    (λ tree. other_if (layers_passed (layers tree layer_height)) (ok_line (leaf_count tree) (triangle_count tree) (layers tree layer_height))
-    (nat_lt layer_limit (layers tree layer_height)))
-source_other (Tree model) source =
-    told_other (λ tree. Finishes (tree_text tree)) (source_means source) (λ tree same. let never : ⊥ = cc in absurd never)
-source_other (Slice model name) source = slice_other name (cube_size source)
+source_other : (command : Command) (drawing : Drawing) (source : List ℕ) → IsOther (source_script command drawing source).ending
+source_other (Check model) drawing source =
+    told_other check_script (source_means source)
+    (λ tree. other_if (layers_passed (layer_count tree)) (ok_line (leaf_count tree) (triangle_count tree) (layer_count tree)) (nat_lt layer_limit (layer_count tree)))
+source_other (Tree model) drawing source =
+    told_other tree_script (source_means source) (λ tree same. let never : ⊥ = cc in absurd never)
+source_other (Slice model cli) drawing source =
+    told_other (slice_script cli drawing) (source_means source) (λ tree. slice_other cli drawing tree (script_goes cli drawing tree))
 
-input_other : (command : Command) (input : Option Input) → IsOther (input_script command input).ending
-input_other command None = λ same. let never : ⊥ = cc in absurd never
-input_other command (Some Long) = λ same. let never : ⊥ = cc in absurd never
-input_other command (Some (Whole source)) = source_other command source
+input_other : (command : Command) (drawing : Drawing) (input : Option Input) → IsOther (input_script command drawing input).ending
+input_other command drawing None = λ same. let never : ⊥ = cc in absurd never
+input_other command drawing (Some Long) = λ same. let never : ⊥ = cc in absurd never
+input_other command drawing (Some (Whole source)) = source_other command drawing source
 
-not_usage : (command : Command) (input : Option Input) (old new : View) → IsAnswered (command_script (Some command) input) Usage old new → ⊥
-not_usage command input old new answered =
-    input_other command input
-    (usage_ends (Reads (model_of command) ∷ (input_script command input).steps) (input_script command input).ending old new answered)
+not_usage : (command : Command) (drawing : Drawing) (input : Option Input) (old new : View) → IsAnswered (command_script (Some command) drawing input) Usage old new → ⊥
+not_usage command drawing input old new answered =
+    input_other command drawing input
+    (usage_ends (Reads (model_of command) ∷ (input_script command drawing input).steps) (input_script command drawing input).ending old new answered)
 
-judged : (command : Option Command) (input : Option Input) (status : Status) (old new : View) → Promised (given_of command) (command_script command input) status old new → JudgesCommand command status
-judged None input Done old new promised = let same = promised.0 in let never : ⊥ = cc in absurd never
-judged None input (Source fault) old new promised = let same = promised.0 in let never : ⊥ = cc in absurd never
-judged None input Usage old new promised = refl
-judged None input (Settings fault) old new promised = let same = promised.0 in let never : ⊥ = cc in absurd never
-judged None input Read old new promised = absurd promised.meant
-judged None input Write old new promised = tt
-judged None input (Over budget) old new promised = let same = promised.0 in let never : ⊥ = cc in absurd never
-judged None input Memory old new promised = tt
-judged (Some command) input Done old new promised = (command, refl)
-judged (Some command) input (Source fault) old new promised = (command, refl)
-judged (Some command) input Usage old new promised = absurd (not_usage command input old new promised)
-judged (Some command) input (Settings fault) old new promised = (command, refl)
-judged (Some command) input Read old new promised = (command, refl)
-judged (Some command) input Write old new promised = tt
-judged (Some command) input (Over budget) old new promised = (command, refl)
-judged (Some command) input Memory old new promised = tt
+judged : (command : Option Command) (drawing : Drawing) (input : Option Input) (status : Status) (old new : View) → Promised (given_of command) (command_script command drawing input) status old new → JudgesCommand command status
+judged None drawing input Done old new promised = let same = promised.0 in let never : ⊥ = cc in absurd never
+judged None drawing input (Source fault) old new promised = let same = promised.0 in let never : ⊥ = cc in absurd never
+judged None drawing input Usage old new promised = refl
+judged None drawing input (Settings fault) old new promised = let same = promised.0 in let never : ⊥ = cc in absurd never
+judged None drawing input Read old new promised = absurd promised.meant
+judged None drawing input Write old new promised = tt
+judged None drawing input (Over budget) old new promised = let same = promised.0 in let never : ⊥ = cc in absurd never
+judged None drawing input Memory old new promised = tt
+judged (Some command) drawing input Done old new promised = (command, refl)
+judged (Some command) drawing input (Source fault) old new promised = (command, refl)
+judged (Some command) drawing input Usage old new promised = absurd (not_usage command drawing input old new promised)
+judged (Some command) drawing input (Settings fault) old new promised = (command, refl)
+judged (Some command) drawing input Read old new promised = (command, refl)
+judged (Some command) drawing input Write old new promised = tt
+judged (Some command) drawing input (Over budget) old new promised = (command, refl)
+judged (Some command) drawing input Memory old new promised = tt
 
-pub judges : (words : List (List ℕ)) (input : Option Input) (status : Status) (old new : View) → Promised (given_by words) (script_of words input) status old new → JudgesWords words status
-judges words input status old new promised = judged (command_of words) input status old new promised
+pub judges : (words : List (List ℕ)) (drawing : Drawing) (input : Option Input) (status : Status) (old new : View) → Promised (given_by words) (script_of words drawing input) status old new → JudgesWords words status
+judges words drawing input status old new promised = judged (command_of words) drawing input status old new promised
 
 -- Faults.
 

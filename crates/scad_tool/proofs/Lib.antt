@@ -1,7 +1,6 @@
-mod Membership
-mod Cubes
 mod Orderly
 mod Working
+mod Answered
 mod Telling
 mod Judged
 mod Refused

@@ -1,5 +1,6 @@
 -- Telling what a source means plays its script.
-use Rattle.std.proofs.Common.{◌≡◌, ◌≢◌, List, [], ℕ, Some, None, Result, Ok, Err, refl, sym, ap, ◌∙◌, min, arith}
+use Rattle.std.proofs.Common.{◌≡◌, ◌≢◌, List, [], ℕ, Some, None, Result, Ok, Err, refl, sym, ap, ◌∙◌, min, arith, subst}
+use Rattle.std.specs.Prelude.{IfErr}
 use Rattle.scad_fault.specs.declared.place.Place.{Place}
 use Rattle.scad_io.specs.Desk.{View}
 use Rattle.scad_lex.specs.declared.token.Token.{Token}
@@ -14,13 +15,17 @@ use Rattle.scad_parse.specs.JudgedFault.{JudgedFault}
 use Rattle.scad_script.specs.declared.refusal.Refusal.{Refusal}
 use Rattle.scad_script.specs.declared.stop.Stop.{Stop}
 use Rattle.scad_script.specs.Script.{Script, Refuses, ends}
-use Rattle.scad_script.specs.Played.{Left, EndsIn}
+use Rattle.scad_script.specs.Steps.{Step}
+use Rattle.scad_script.specs.Played.{Left, Stops, EndsIn}
 use Rattle.scad_script.proofs.Layers.{as_left}
 use Rattle.scad_expr.specs.declared.fault.EvalFault.{EvalFault}
 use Rattle.scad_expr.specs.declared.fault.EvalFault.TheVariants.{Memory}
-use Rattle.scad_expr.specs.State.{Outcome, refuses, start}
+use Rattle.scad_expr.specs.State.{Outcome, gives, refuses, start}
 use Rattle.scad_tree.specs.Solid.{Solid}
+use Rattle.scad_tree.specs.declared.tree.Tree.{Tree}
+use Rattle.scad_tree.specs.Solids.{AreSolids}
 use Rattle.scad_tree.specs.View.{solid_of}
+use Rattle.scad_slice.specs.Drawing.{Drawing, IsDrawing}
 use Rattle.scad_inst.specs.declared.answers.Model.{Model}
 use Rattle.scad_inst.specs.declared.answers.ModelEnd.{ModelEnd}
 use Rattle.scad_inst.specs.Meaning.{means}
@@ -28,7 +33,10 @@ use Rattle.scad_inst.specs.Model.{Makes}
 use Rattle.scad_tool.specs.Meaning.{text_fault, tokens_fault, program_means, tokens_mean, source_means}
 use Rattle.scad_tool.specs.View.{parse_fault}
 use Rattle.scad_tool.specs.Told.{refusal_of, refusal_told, echoed, told}
-use Rattle.scad_tool.specs.Playing.{IsEnd}
+use Rattle.scad_tool.specs.Answer.{IsDrawingOf}
+use Rattle.scad_tool.specs.Playing.{Brings, IsEnd, IsRefusedBy, OnJudged, MeansSolids}
+use Rattle.scad_tool.specs.Promises.{MeansTree}
+use Rattle.scad_tool.proofs.Working.{StopsBefore, step_refuses}
 
 -- A text that has no tokens.
 
@@ -101,3 +109,58 @@ ended script (Err Stop.Silent) whole old now is left = absurd is
 -- a count that stands below its greatest value is exact
 pub counted : (count most found : ℕ) → found ≡ min count most → found ≢ most → found ≡ count
 counted count most found is other = omega (arith, is, other)
+
+-- What is known of the tree of a source.
+
+-- where its meaning is refused there is no tree
+pub refused_so_by : (meaning : Outcome Solid) (e : ModelEnd) (refusal : Refusal) → Makes meaning (Err e) → refusal_of e.fault ≡ Some refusal → IsRefusedBy meaning (Stop.Ends refusal)
+refused_so_by meaning e refusal makes is =
+    let made = makes (some_refusal e.fault refusal is) in (e.fault, made.0, made.1)
+
+abbrev tree_in : Solid → Outcome Solid → Solid
+tree_in other (gives tree s) = tree
+tree_in other (refuses fault s) = other
+
+-- a tree in memory is the one that the source means
+pub solids_meant : (source : List ℕ) (tree : Solid) → MeansTree tree source → AreSolids tree → MeansSolids source
+solids_meant source tree (s, is) solids other t same =
+    let one : tree ≡ other = ap (tree_in tree) (sym is ∙ same) in subst AreSolids one solids
+
+-- where it is refused, or evaluation stopped, none is known of
+pub none_meant : (source : List ℕ) (stop : Stop) → IsRefusedBy (source_means source) stop → OnJudged {T = List ℕ} (Err stop) (MeansSolids source)
+none_meant source (Stop.Ends refusal) (fault, s, is) =
+    λ tree t same. let never : refuses fault s ≡ gives tree t = sym is ∙ same in let no_way : ⊥ = cc in absurd no_way
+none_meant source Stop.Read refused = tt
+none_meant source Stop.Write refused = tt
+none_meant source Stop.Silent refused = tt
+none_meant source Stop.Memory refused = tt
+
+-- what is known is so for every end
+pub known_judged : {T : Type 0} (result : Result T Stop) (P : Type 0) → P → OnJudged result P
+known_judged (Ok v) P known = known
+known_judged (Err (Stop.Ends refusal)) P known = known
+known_judged (Err Stop.Read) P known = tt
+known_judged (Err Stop.Write) P known = tt
+known_judged (Err Stop.Silent) P known = tt
+known_judged (Err Stop.Memory) P known = tt
+
+-- a drawing of what a source means is one of its tree
+pub drawing_meant : (source : List ℕ) (tree : Solid) (drawing : Drawing) → MeansTree tree source → IsDrawingOf (source_means source) drawing → IsDrawing tree drawing
+drawing_meant source tree drawing (s, is) drawn = subst (λ (m : Outcome Solid). IsDrawingOf m drawing) is drawn
+
+-- An error of a call that goes up as it is.
+
+pub stops_bring : (follows : Solid → Script) (whole : Script) (result : Result Tree Stop) (stop : Stop) (old new : View) → result ≡ Err stop → Stops whole stop old new → Brings follows whole result old new
+stops_bring follows whole result stop old new is stops = subst (λ (r : Result Tree Stop). Brings follows whole r old new) (sym is) stops
+
+-- an output that failed is no refusal
+not_refused : (meaning : Outcome Solid) (step : Step) (stop : Stop) (old new : View) → StopsBefore step stop old new → IsRefusedBy meaning stop
+not_refused meaning step (Stop.Ends refusal) old new stops = absurd (step_refuses step refusal old new stops)
+not_refused meaning step Stop.Read old new stops = tt
+not_refused meaning step Stop.Write old new stops = tt
+not_refused meaning step Stop.Silent old new stops = tt
+not_refused meaning step Stop.Memory old new stops = tt
+
+pub stops_refuse : (meaning : Outcome Solid) (step : Step) (result : Result Tree Stop) (stop : Stop) (old new : View) → result ≡ Err stop → StopsBefore step stop old new → IfErr result (IsRefusedBy meaning)
+stops_refuse meaning step result stop old new is stops =
+    subst (λ (r : Result Tree Stop). IfErr r (IsRefusedBy meaning)) (sym is) (not_refused meaning step stop old new stops)

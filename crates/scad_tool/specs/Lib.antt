@@ -1,9 +1,8 @@
 pub mod Words
-pub mod Source
 pub mod Meaning
 pub mod View
-pub mod Cube
 pub mod Told
 pub mod Answer
 pub mod Playing
 pub mod Promises
+pub mod Laws

@@ -1,35 +1,42 @@
 -- What a run promises, one sentence each, where it isn't said of every script.
-use Rattle.std.specs.Prelude.{◌≡◌, ◌⊎◌, ◌++◌, ◌≤◌, List, ℕ, Option, Some, None, IfSome, IsSomeAnd, length}
+use Rattle.std.specs.Prelude.{◌≡◌, ◌⊎◌, ◌++◌, ◌<◌, ◌≤◌, List, ℕ, Option, Some, None, IfSome, IsSomeAnd, length}
+use Rattle.std.specs.List.{flat_map}
+use Rattle.scad_fault.specs.declared.budget.Budget.{Budget}
+use Rattle.scad_fault.specs.declared.budget.BudgetKind.TheVariants.{LayerEdges, LayerCrossings}
 use Rattle.scad_fault.specs.declared.status.Status.{Status}
 use Rattle.scad_fault.specs.declared.status.Status.TheVariants.{Done, Source, Usage, Settings, Read, Write, Over, Memory}
 use Rattle.scad_fault.specs.Line.{line_of}
 use Rattle.scad_io.specs.Desk.{Files, View}
 use Rattle.scad_script.specs.Script.{Script, expected_echoes}
 use Rattle.scad_script.specs.Promises.{Adds}
-use Rattle.cli_text.specs.Cli.{Layer, cli as text_of_layers}
-use Rattle.scad_tool.specs.Words.{Command, Check, Tree, Slice, model_of, command_of}
-use Rattle.scad_tool.specs.Source.{cube_size}
+use Rattle.cli_text.specs.Cli.{Layer, head, layer_text, cli as text_of_layers}
 use Rattle.scad_expr.specs.State.{State, gives}
 use Rattle.scad_tree.specs.Solid.{Solid}
-use Rattle.scad_tree.specs.Height.{layers}
-use Rattle.scad_tool.specs.Cube.{layer_height, OutlinesHoldCube}
+use Rattle.scad_slice.specs.Budgets.{layer_count, layer_limit, layer_budget}
+use Rattle.scad_slice.specs.Drawing.{Drawing}
+use Rattle.scad_slice.specs.Membership.{HoldTree}
+use Rattle.scad_tool.specs.Words.{Command, Check, Tree, Slice, model_of, command_of}
 use Rattle.scad_tool.specs.Meaning.{source_means}
-use Rattle.scad_tool.specs.Told.{layer_limit}
-use Rattle.scad_tool.specs.Answer.{source_limit, answer}
+use Rattle.scad_tool.specs.Answer.{source_limit, read_of, IsDrawn, answer}
 
 -- what a name contains has this property, where the contents are told
 abbrev pub Contains : Files → List ℕ → (List ℕ → Type 0) → Type 0
 Contains files name P = IfSome files (λ contents. IsSomeAnd (contents name) P)
 
--- the source is there and is within its limit, and its cube has this size
-abbrev pub IsSource : Files → List ℕ → Option ℕ → Type 0
-IsSource files model size =
-    Contains files model (λ source. (length source ≤ source_limit) × (cube_size source ≡ size))
+-- a source means this tree
+abbrev pub MeansTree : Solid → List ℕ → Type 0
+MeansTree tree source = (s : State) × (source_means source ≡ gives tree s)
 
--- Statuses 0, 1, 2, 3 and 6: the status and the bytes of all outputs are the answer for the words and the files.
+-- the source is there and is within its limit, and means this tree
+abbrev pub IsTreeOf : Files → List ℕ → Solid → Type 0
+IsTreeOf files model tree = Contains files model (λ source. (length source ≤ source_limit) × MeansTree tree source)
+
+-- Statuses 0, 1, 2, 3 and 6: the status and the bytes of all outputs are the answer for the words and the files, with
+-- every drawing of the model's tree.
 abbrev pub IsAnswered : List (List ℕ) → Files → Status → View → View → Type 0
 IsAnswered words files status old new =
-    IfSome files (λ contents. IsSomeAnd (answer words contents) (λ whole.
+    IfSome files (λ contents. (drawing : Drawing) → IsDrawn (read_of words contents) drawing
+    → IsSomeAnd (answer words contents drawing) (λ whole.
     (whole.status ≡ status) × Adds (whole.echoes ++ whole.line) old.report new.report
     × Adds whole.cli old.cli new.cli × Adds whole.gcode old.gcode new.gcode))
 
@@ -39,24 +46,39 @@ Answers words files Write old new = Unit {0}
 Answers words files Memory old new = Unit {0}
 Answers words files status old new = IsAnswered words files status old new
 
--- Status 0 of `slice`: the outlines that were written are the text of layers that hold what the cube of the source
--- holds.
-abbrev pub HoldsCube : List (List ℕ) → Files → View → View → Type 0
-HoldsCube words files old new =
+-- Status 0 of `slice`: the outlines that were written are the text of layers that hold what the tree of the source
+-- contains.
+abbrev pub OutlinesHoldTree : List (List ℕ) → Files → View → View → Type 0
+OutlinesHoldTree words files old new =
     (model cli : List ℕ) → command_of words ≡ Some (Slice model cli)
-    → (size : ℕ) × (layers : List Layer)
-    × IsSource files model (Some size) × Adds (text_of_layers layers) old.cli new.cli × OutlinesHoldCube layers size
+    → (tree : Solid) × (layers : List Layer)
+    × IsTreeOf files model tree × Adds (text_of_layers layers) old.cli new.cli × HoldTree tree layers
 
--- Statuses 1, 2, 3 and 6: the report is the lines of `echo` and the status's line, and no output is created.
+-- the report is the lines of `echo` and the status's line
+abbrev pub IsReported : Script → Status → View → View → Type 0
+IsReported whole status old new = Adds (expected_echoes whole ++ line_of status) old.report new.report
+
+-- no output is created
 abbrev pub IsRefused : Script → Status → View → View → Type 0
-IsRefused whole status old new =
-    Adds (expected_echoes whole ++ line_of status) old.report new.report × (new.cli ≡ old.cli) × (new.gcode ≡ old.gcode)
+IsRefused whole status old new = IsReported whole status old new × (new.cli ≡ old.cli) × (new.gcode ≡ old.gcode)
 
+-- a layer passed the budget: the outlines are the head and the layers before it, without an end
+pub record IsCutShort (whole : Script) (budget : Budget) (old new : View) : Type 0 where
+  pub kind : (budget.kind ≡ LayerEdges) ⊎ (budget.kind ≡ LayerCrossings)
+  pub reported : IsReported whole (Over budget) old new
+  pub count : ℕ
+  pub before : List Layer
+  pub number : length before ≡ budget.layer
+  pub inside : budget.layer < count
+  pub outlines : Adds (head count ++ flat_map layer_text before) old.cli new.cli
+
+-- Statuses 1, 2, 3 and 6: the report is the lines of `echo` and the status's line, and no output is created, unless a layer
+-- passed a budget.
 abbrev pub Refuses : Script → Status → View → View → Type 0
 Refuses whole (Source fault) old new = IsRefused whole (Source fault) old new
 Refuses whole Usage old new = IsRefused whole Usage old new
 Refuses whole (Settings fault) old new = IsRefused whole (Settings fault) old new
-Refuses whole (Over budget) old new = IsRefused whole (Over budget) old new
+Refuses whole (Over budget) old new = IsRefused whole (Over budget) old new ⊎ IsCutShort whole budget old new
 Refuses whole status old new = Unit {0}
 
 -- `check` and `tree` leave the outputs but the report as they were, at every status
@@ -75,13 +97,14 @@ JudgesCommand command status = (given : Command) × (command ≡ Some given)
 abbrev pub JudgesWords : List (List ℕ) → Status → Type 0
 JudgesWords words status = JudgesCommand (command_of words) status
 
--- what a command asks of its source: `check` and `tree` that it means a tree, `check` that this has no more layers than
--- the limit, `slice` that it is the form of a cube
+-- what a command asks of its source: that it means a tree; `check` and `slice`, that this has no more layers than the
+-- limit; `slice`, that none of them passes a budget
 abbrev pub IsAccepted : Command → List ℕ → Type 0
-IsAccepted (Check model) source =
-    (tree : Solid) × (s : State) × (source_means source ≡ gives tree s) × (layers tree layer_height ≤ layer_limit)
-IsAccepted (Tree model) source = (tree : Solid) × (s : State) × (source_means source ≡ gives tree s)
-IsAccepted (Slice model cli) source = (size : ℕ) × (cube_size source ≡ Some size)
+IsAccepted (Check model) source = (tree : Solid) × MeansTree tree source × (layer_count tree ≤ layer_limit)
+IsAccepted (Tree model) source = (tree : Solid) × MeansTree tree source
+IsAccepted (Slice model cli) source =
+    (tree : Solid) × MeansTree tree source × (layer_count tree ≤ layer_limit)
+    × ((i : ℕ) → i < layer_count tree → layer_budget tree i ≡ None)
 
 -- Where the words are of the form, the source is within its limit and accepted, and the count of faults doesn't rise,
 -- all is done, or memory is wanting.

@@ -1,7 +1,5 @@
 -- What a run tells of what a source means: the lines of `echo`, and then the end.
 use Rattle.std.specs.Prelude.{◌++◌, List, [], ◌∷◌, ℕ, Option, Some, None, codes, decimal, flat_map, nat_lt, if◌then◌else◌}
-use Rattle.scad_fault.specs.declared.budget.Budget.{Budget}
-use Rattle.scad_fault.specs.declared.budget.BudgetKind.TheVariants.{Layers}
 use Rattle.scad_io.specs.declared.desk.Out.TheVariants.{Report}
 use Rattle.scad_script.specs.declared.refusal.Refusal.{Refusal}
 use Rattle.scad_script.specs.declared.refusal.Refusal.TheVariants.{Source, Over as IsOver}
@@ -13,9 +11,8 @@ use Rattle.scad_expr.specs.State.{Outcome, gives, refuses}
 use Rattle.scad_tree.specs.Solid.{Solid}
 use Rattle.scad_tree.specs.Order.{leaves as leaf_count}
 use Rattle.scad_tree.specs.Sizes.{triangle_count}
-use Rattle.scad_tree.specs.Height.{layers}
 use Rattle.scad_tree.specs.Text.{text_of}
-use Rattle.scad_tool.specs.Cube.{layer_height}
+use Rattle.scad_slice.specs.Budgets.{layer_count, layer_limit, layers_passed}
 
 -- the lines of `echo`, each ended by a line feed
 unfoldable pub echo_text : List (List ℕ) → List ℕ
@@ -41,14 +38,6 @@ abbrev pub told : (Solid → Script) → Outcome Solid → Script
 told follows (gives tree s) = echoed s.echoes (follows tree)
 told follows (refuses fault s) = refusal_told (refusal_of fault) s.echoes
 
--- a tree has at most so many layers
-abbrev pub layer_limit : ℕ
-layer_limit = 20000
-
--- more layers than the limit
-abbrev pub layers_passed : ℕ → Budget
-layers_passed count = record { kind = Layers; at = record { line = 0; col = 0 }; layer = 0; count = count }
-
 -- `ok: L leaves, T triangles, N layers`
 unfoldable pub ok_line : ℕ → ℕ → ℕ → List ℕ
 ok_line leaves triangles count =
@@ -61,7 +50,7 @@ check_end leaves triangles count =
     if nat_lt layer_limit count then Refuses (IsOver (layers_passed count)) else Finishes (ok_line leaves triangles count)
 
 abbrev pub check_script : Solid → Script
-check_script tree = ends (check_end (leaf_count tree) (triangle_count tree) (layers tree layer_height))
+check_script tree = ends (check_end (leaf_count tree) (triangle_count tree) (layer_count tree))
 
 -- `tree`: the text of the tree
 abbrev pub tree_script : Solid → Script

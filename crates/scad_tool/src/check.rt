@@ -8,17 +8,14 @@ ghost use Rattle.scad_tool.specs.Meaning.{source_means};
 ghost use Rattle.scad_tool.specs.Told.{ok_line, check_end, check_script, tree_script, told};
 ghost use Rattle.scad_tool.specs.Playing.{IsEnd};
 
-use crate::cube::LAYER_HEIGHT;
 use crate::evaluation::evaluate;
 use itoa::Buffer;
 use scad_fault::{Budget, Text};
 use scad_io::Desk;
 use scad_script::{Refusal, Stop};
+use scad_slice::{LAYER_HEIGHT, LAYER_LIMIT};
 use scad_tree::Tree;
 use std::alloc::{AllocError, Global};
-
-/// The most layers of a tree.
-const LAYER_LIMIT: u32 = 20_000;
 
 /// Evaluates the source and writes its echo lines: the line with the tree's numbers.
 pub fn check<D: Desk>(alloc: Global, source: &[u8], desk: &mut D) -> Result<Text, Stop>
@@ -30,10 +27,8 @@ pub fn check<D: Desk>(alloc: Global, source: &[u8], desk: &mut D) -> Result<Text
     ensures later { D.faults desk.old ≤ D.faults desk.new }
     ensures cause { HasRisen result (D.faults desk.old) (D.faults desk.new) }
 {
-    match evaluate(alloc, source, desk) {
-        Ok(tree) => checked(alloc, &tree),
-        Err(stop) => Err(stop),
-    }
+    let tree = evaluate(alloc, source, desk)?;
+    checked(alloc, &tree)
 }
 
 /// Evaluates the source and writes its echo lines: the tree's text.
@@ -46,20 +41,16 @@ pub fn show<D: Desk>(alloc: Global, source: &[u8], desk: &mut D) -> Result<Text,
     ensures later { D.faults desk.old ≤ D.faults desk.new }
     ensures cause { HasRisen result (D.faults desk.old) (D.faults desk.new) }
 {
-    match evaluate(alloc, source, desk) {
-        Ok(tree) => shown(alloc, &tree),
-        Err(stop) => Err(stop),
-    }
+    let tree = evaluate(alloc, source, desk)?;
+    shown(alloc, &tree)
 }
 
 /// The tree's text.
 fn shown(alloc: Global, tree: &Tree) -> Result<Text, Stop>
     ensures { IsEnd (tree_script (solid_of tree.now)) result }
 {
-    match tree.print(alloc) {
-        Ok(text) => Ok(text),
-        Err(AllocError) => Err(Stop::Memory),
-    }
+    let text = tree.print(alloc)?;
+    Ok(text)
 }
 
 /// The line with the tree's numbers, or that it has too many layers. No memory holds a tree with more
@@ -82,10 +73,8 @@ fn numbers(alloc: Global, leaves: u64, triangles: u64, layers: u32) -> Result<Te
     if layers > LAYER_LIMIT {
         return Err(Stop::Ends(Refusal::Over(Budget::layers(u64::from(layers)))));
     }
-    match ok_line(alloc, leaves, triangles, layers) {
-        Ok(line) => Ok(Text::from_vec(line)),
-        Err(AllocError) => Err(Stop::Memory),
-    }
+    let line = ok_line(alloc, leaves, triangles, layers)?;
+    Ok(Text::from_vec(line))
 }
 
 /// `ok: L leaves, T triangles, N layers`

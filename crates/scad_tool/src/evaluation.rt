@@ -1,5 +1,5 @@
 //! Evaluation of a source, with its echo lines.
-ghost use Rattle.std.specs.Prelude.{◌≡◌, ◌-◌, ◌^◌, ◌<◌, ◌≤◌, ◌++◌, ◌∷◌, [], length, codes, flat_map, OnOk, IfOk};
+ghost use Rattle.std.specs.Prelude.{◌≡◌, ◌-◌, ◌^◌, ◌<◌, ◌≤◌, ◌++◌, ◌∷◌, [], length, codes, flat_map, OnOk, IfOk, IfErr};
 ghost use Rattle.scad_io.specs.Desk.{View};
 ghost use Rattle.scad_io.specs.declared.desk.Out.TheVariants.{Report};
 ghost use Rattle.scad_script.specs.Steps.{Sends};
@@ -7,9 +7,11 @@ ghost use Rattle.scad_script.specs.Script.{Script, first};
 ghost use Rattle.scad_script.specs.Played.{Left, Carries, HasRisen};
 ghost use Rattle.scad_script.specs.Run.{Sound, CreatesNone};
 ghost use Rattle.scad_tree.specs.Solid.{Solid};
+ghost use Rattle.scad_tree.specs.View.{solid_of};
 ghost use Rattle.scad_tool.specs.Meaning.{source_means};
 ghost use Rattle.scad_tool.specs.Told.{echo_text, refusal_of, told};
-ghost use Rattle.scad_tool.specs.Playing.{Tells};
+ghost use Rattle.scad_tool.specs.Playing.{Tells, IsRefusedBy};
+ghost use Rattle.scad_tool.specs.Promises.{MeansTree};
 
 use crate::meaning::made;
 use scad_expr::EvalFault;
@@ -26,6 +28,8 @@ pub fn evaluate<D: Desk>(alloc: Global, source: &[u8], desk: &mut D) -> Result<T
     requires sound { Sound (D.view desk.old) }
 
     ensures tells { Tells (source_means source.now) result (D.view desk.old) (D.view desk.new) }
+    ensures means { IfOk result (λ tree. MeansTree (solid_of tree) source.now) }
+    ensures refuses { IfErr result (IsRefusedBy (source_means source.now)) }
     ensures sound { OnOk result (Sound (D.view desk.new)) }
     ensures creates { OnOk result (CreatesNone (D.view desk.old) (D.view desk.new)) }
     ensures files { D.files desk.new ≡ D.files desk.old }
@@ -33,17 +37,17 @@ pub fn evaluate<D: Desk>(alloc: Global, source: &[u8], desk: &mut D) -> Result<T
     ensures cause { HasRisen result (D.faults desk.old) (D.faults desk.new) }
 {
     match made(alloc, source) {
-        Ok(Model { tree, echoes }) => match echo(alloc, &echoes, desk) {
-            Ok(()) => Ok(tree),
-            Err(stop) => Err(stop),
-        },
-        Err(ModelEnd { fault, echoes }) => match refusal_of(fault) {
-            Some(refusal) => match echo(alloc, &echoes, desk) {
-                Ok(()) => Err(Stop::Ends(refusal)),
-                Err(stop) => Err(stop),
-            },
-            None => Err(Stop::Memory),
-        },
+        Ok(Model { tree, echoes }) => {
+            echo(alloc, &echoes, desk)?;
+            Ok(tree)
+        }
+        Err(ModelEnd { fault, echoes }) => {
+            let Some(refusal) = refusal_of(fault) else {
+                return Err(Stop::Memory);
+            };
+            echo(alloc, &echoes, desk)?;
+            Err(Stop::Ends(refusal))
+        }
     }
 }
 
@@ -69,10 +73,8 @@ fn echo<D: Desk>(alloc: Global, lines: &[Text], desk: &mut D) -> Result<(), Stop
     ensures later { D.faults desk.old ≤ D.faults desk.new }
     ensures cause { HasRisen result (D.faults desk.old) (D.faults desk.new) }
 {
-    match echo_text(alloc, lines) {
-        Ok(text) => send(desk, Out::Report, &text),
-        Err(AllocError) => Err(Stop::Memory),
-    }
+    let text = echo_text(alloc, lines)?;
+    send(desk, Out::Report, &text)
 }
 
 /// The lines, each ended by a line feed.

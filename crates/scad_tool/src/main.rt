@@ -3,11 +3,10 @@
 #![tactic(auto)]
 
 mod check;
-mod cube;
 mod evaluation;
+mod laws;
 mod meaning;
 mod run;
-mod source;
 #[cfg(test)]
 mod tests;
 mod words;

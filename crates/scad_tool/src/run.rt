@@ -4,7 +4,7 @@ ghost use Rattle.scad_script.specs.Run.{IsReady, RunsTo};
 ghost use Rattle.scad_script.specs.Promises.{IsReadFault, IsWriteFault, IsMemoryLine, AreFronts, HandsIn, CreatesForBytes, FailedReportIsWrite};
 ghost use Rattle.scad_tool.specs.Answer.{OnScript, given_by};
 ghost use Rattle.scad_tool.specs.Words.{command_of};
-ghost use Rattle.scad_tool.specs.Promises.{Answers, HoldsCube, Refuses, LeavesOutputs, JudgesWords, IsComplete};
+ghost use Rattle.scad_tool.specs.Promises.{Answers, OutlinesHoldTree, Refuses, LeavesOutputs, JudgesWords, IsComplete};
 
 use crate::work::work;
 use scad_fault::Status;
@@ -27,17 +27,17 @@ pub fn run<R: Threads + Sync, D: Desk, G: Gate>(
 ) -> Status
     requires ready { IsReady (D.view desk.old) }
 
-    // The run plays the script of the words and of what was read of the model, to its end or until it
-    // stops, and then tries the last line. The clauses below follow from this one. It says what the desk
-    // shows, not how many calls were made.
+    // The run plays the script of the words, of what was read of the model and of a drawing of its tree, to
+    // its end or until it stops, and then tries the last line. The clauses below follow from this one. It
+    // says what the desk shows, not how many calls were made.
     ensures runs { OnScript (map string_bytes words.now) (D.files desk.old)
         (λ whole. RunsTo whole result (D.view desk.old) (D.view desk.new)) }
 
     // The status and all bytes are one function of the words and the files.
     ensures answer { Answers (map string_bytes words.now) (D.files desk.old) result (D.view desk.old) (D.view desk.new) }
 
-    // The outlines that `slice` wrote hold what the source's cube holds.
-    ensures outlines { result ≡ Status.Done → HoldsCube (map string_bytes words.now) (D.files desk.old) (D.view desk.old) (D.view desk.new) }
+    // The outlines that `slice` wrote hold what the source's tree contains.
+    ensures outlines { result ≡ Status.Done → OutlinesHoldTree (map string_bytes words.now) (D.files desk.old) (D.view desk.old) (D.view desk.new) }
 
     // When each other status comes, and how the files then stand.
     ensures words { JudgesWords (map string_bytes words.now) result }

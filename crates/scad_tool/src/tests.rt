@@ -2,8 +2,10 @@
 ghost use Rattle.std.specs.Prelude.{◌≡◌, Some, [], IfOk};
 ghost use Rattle.scad_io.specs.Desk.{unused};
 
+mod slices;
 mod sources;
 
+use crate::laws;
 use crate::run::run;
 use scad_fault::{Status, Text};
 use scad_io::{MemoryDesk, Open, Out};
@@ -90,72 +92,6 @@ fn expect(rt: &impl Abort, answer: &Answer, code: u8, report: &str, case: &str) 
     );
 }
 
-/// The outlines of a cube as the format has them, from its words.
-fn outlines(alloc: Global, layers: u32, square: &str) -> Result<Vec<u8>, AllocError> {
-    let mut text = Vec::new(alloc);
-    text.extend_from_slice(b"$$HEADERSTART\n$$ASCII\n$$UNITS/0.001\n$$VERSION/200\n")?;
-    text.extend_from_slice(format!(in alloc; "$$LAYERS/{layers}\n")?.as_bytes())?;
-    text.extend_from_slice(b"$$HEADEREND\n$$GEOMETRYSTART\n")?;
-    for layer in 1..=layers {
-        let z = layer.wrapping_mul(200);
-        text.extend_from_slice(format!(in alloc; "$$LAYER/{z}\n")?.as_bytes())?;
-        text.extend_from_slice(square.as_bytes())?;
-    }
-    text.extend_from_slice(b"$$GEOMETRYEND\n")?;
-    Ok(text)
-}
-
-fn cube_of_one(alloc: Global) -> Result<Vec<u8>, AllocError> {
-    outlines(
-        alloc,
-        5,
-        "$$POLYLINE/1,1,5,0,0,1000,0,1000,1000,0,1000,0,0\n",
-    )
-}
-
-#[test]
-fn cubes(rt: HostRuntime) -> Result<(), Fail> {
-    let alloc = rt.alloc();
-    let one = sliced(&rt, alloc, b"cube(1);")?;
-    expect(&rt, &one, 0, "done: 5 layers, 5 loops\n", "one");
-    assert!(rt; one.cli == cube_of_one(alloc)?);
-    let two = sliced(&rt, alloc, b"cube(0002);\n\n")?;
-    expect(&rt, &two, 0, "done: 10 layers, 10 loops\n", "two");
-    let square = "$$POLYLINE/1,1,5,0,0,2000,0,2000,2000,0,2000,0,0\n";
-    assert!(rt; two.cli == outlines(alloc, 10, square)?);
-    let most = sliced(&rt, alloc, b"cube(1000);")?;
-    expect(&rt, &most, 0, "done: 5000 layers, 5000 loops\n", "most");
-    let square = "$$POLYLINE/1,1,5,0,0,1000000,0,1000000,1000000,0,1000000,0,0\n";
-    assert!(rt; most.cli == outlines(alloc, 5000, square)?);
-    Ok(())
-}
-
-fn expect_not_built<R: Threads + Sync + Abort>(
-    rt: &R,
-    alloc: Global,
-    source: &str,
-) -> Result<(), AllocError> {
-    let answer = sliced(rt, alloc, source.as_bytes())?;
-    expect(rt, &answer, 1, "fault 15 NotBuilt at 1:1\n", source);
-    assert!(rt; answer.cli.is_empty() && answer.faults == 0);
-    Ok(())
-}
-
-#[test]
-fn sources_of_another_form(rt: HostRuntime) -> Result<(), Fail> {
-    let alloc = rt.alloc();
-    expect_not_built(&rt, alloc, "cube(0);")?;
-    expect_not_built(&rt, alloc, "cube(1001);")?;
-    expect_not_built(&rt, alloc, "cube([2,1,3]);")?;
-    expect_not_built(&rt, alloc, "cube( 1);")?;
-    expect_not_built(&rt, alloc, "")?;
-    expect_not_built(&rt, alloc, "cube(00001);")?;
-    expect_not_built(&rt, alloc, "cube(1)")?;
-    expect_not_built(&rt, alloc, "cube(1);\r\n")?;
-    expect_not_built(&rt, alloc, "cube();")?;
-    Ok(())
-}
-
 fn expect_usage<R: Threads + Sync + Abort>(
     rt: &R,
     alloc: Global,
@@ -191,65 +127,9 @@ fn unknown_model(rt: HostRuntime) -> Result<(), Fail> {
     Ok(())
 }
 
-/// A run in which the call of this number fails: whether it was done all the same.
-fn done_but_for<R: Threads + Sync + Abort>(
-    rt: &R,
-    alloc: Global,
-    call: u64,
-) -> Result<bool, AllocError> {
-    let words = ["slice", "m.scad", "o.cli"];
-    let fails = [call].to_vec(alloc)?;
-    let answer = answer_of(rt, alloc, &words, b"cube(1);", fails, ROOM)?;
-    let whole = cube_of_one(alloc)?;
-    assert!(rt; whole.starts_with(&answer.cli), "call {call}");
-    if answer.code == 0 {
-        assert!(rt; answer.cli.len() == whole.len() && answer.faults == 0);
-        return Ok(true);
-    }
-    assert!(rt; answer.faults == 1);
-    // The first three calls are those on the input.
-    assert!(rt; (answer.code == 4) == (call < 3), "call {call}");
-    match answer.code {
-        4 => expect(rt, &answer, 4, "read fault\n", "reading"),
-        // The report's own call is the last one.
-        _ if answer.cli.len() == whole.len() && answer.report.is_empty() => {
-            expect(rt, &answer, 5, "", "the report");
-        }
-        _ => expect(rt, &answer, 5, "write fault\n", "writing"),
-    }
-    Ok(false)
-}
-
-/// The input is opened once and read to its end once, and each piece goes out by one write.
 #[test]
-fn each_call_failing_in_turn(rt: HostRuntime) -> Result<(), Fail> {
-    let alloc = rt.alloc();
-    let mut call = 0;
-    for _ in 0..64 {
-        if done_but_for(&rt, alloc, call)? {
-            break;
-        }
-        call = call.wrapping_add(1);
-    }
-    // open, two reads, create, the head, five layers, the end, the report
-    assert!(rt; call == 12);
-    Ok(())
-}
-
-#[test]
-fn room_for_a_part(rt: HostRuntime) -> Result<(), Fail> {
-    let alloc = rt.alloc();
-    let whole = cube_of_one(alloc)?;
-    for room in 12..whole.len() {
-        let words = ["slice", "m.scad", "o.cli"];
-        let answer = answer_of(&rt, alloc, &words, b"cube(1);", Vec::new(alloc), room)?;
-        expect(&rt, &answer, 5, "write fault\n", "room");
-        assert!(rt;
-            answer.cli.len() == room && whole.starts_with(&answer.cli),
-            "room {room}"
-        );
-    }
-    Ok(())
+fn laws_are_called() {
+    laws::answers_are_one();
 }
 
 #[test]

@@ -1,19 +1,21 @@
 //! The work of a command, up to the report's last line.
-ghost use Rattle.std.specs.Prelude.{◌≡◌, ◌<◌, ◌≤◌, false, Some, map, string_bytes};
+ghost use Rattle.std.specs.Prelude.{◌≡◌, ◌<◌, ◌≤◌, ◌-◌, ◌^◌, false, Some, length, map, string_bytes};
 ghost use Rattle.scad_script.specs.Script.{IsWithin};
-ghost use Rattle.scad_script.specs.Played.{Completes, EndsIn, HasRisen};
+ghost use Rattle.scad_script.specs.Played.{Completes, HasRisen};
 ghost use Rattle.scad_script.specs.Run.{Sound};
-ghost use Rattle.scad_tool.specs.Source.{cube_size};
+ghost use Rattle.scad_slice.specs.Script.{slice_script};
 ghost use Rattle.scad_tool.specs.View.{meant};
-ghost use Rattle.scad_tool.specs.Answer.{source_limit, slice_script, input_script, OnScript};
+ghost use Rattle.scad_tool.specs.Meaning.{source_means};
+ghost use Rattle.scad_tool.specs.Told.{told};
+ghost use Rattle.scad_tool.specs.Answer.{source_limit, input_script, IsDrawingOf, IsDrawn};
+ghost use Rattle.scad_tool.specs.Playing.{OnJudged, MeansSolids, DrawsSolids, Works};
 
 use crate::check::{check, show};
-use crate::cube::draw_cube;
-use crate::source::read_cube;
+use crate::evaluation::evaluate;
 use crate::words::{Command, read_words};
-use scad_fault::{Budget, Fault, FaultKind, Place, Text};
-use scad_io::{Desk, Out};
-use scad_script::{Input, Refusal, Stop, load, make};
+use scad_fault::{Budget, Text};
+use scad_io::Desk;
+use scad_script::{Input, Refusal, Stop, load};
 use std::alloc::Global;
 
 /// The most bytes that a source may have.
@@ -24,8 +26,7 @@ pub fn work<D: Desk>(alloc: Global, words: &[String], desk: &mut D) -> Result<Te
     requires sound { Sound (D.view desk.old) }
     requires absent { (D.view desk.old).cli.created ≡ false }
 
-    ensures plays { OnScript (map string_bytes words.now) (D.files desk.old)
-        (λ whole. EndsIn whole result (D.view desk.old) (D.view desk.new)) }
+    ensures works { Works (map string_bytes words.now) (D.files desk.old) result (D.view desk.old) (D.view desk.new) }
     ensures files { D.files desk.new ≡ D.files desk.old }
     ensures later { D.faults desk.old ≤ D.faults desk.new }
     ensures cause { HasRisen result (D.faults desk.old) (D.faults desk.new) }
@@ -33,10 +34,8 @@ pub fn work<D: Desk>(alloc: Global, words: &[String], desk: &mut D) -> Result<Te
     let Some(command) = read_words(words) else {
         return Err(Stop::Ends(Refusal::Usage));
     };
-    match load(alloc, command.model(), Some(SOURCE_LIMIT), desk) {
-        Ok(input) => follow(alloc, command, input, desk),
-        Err(stop) => Err(stop),
-    }
+    let input = load(alloc, command.model(), Some(SOURCE_LIMIT), desk)?;
+    follow(alloc, command, input, desk)
 }
 
 /// Does with what was read what the command says.
@@ -50,8 +49,9 @@ fn follow<D: Desk>(
     requires sound { Sound (D.view desk.old) }
     requires absent { (D.view desk.old).cli.created ≡ false }
 
-    ensures completes { Completes (input_script (meant command.entry) (Some input))
-        result (D.view desk.old) (D.view desk.new) }
+    ensures completes { (drawing : _) → IsDrawn (Some input) drawing
+        → Completes (input_script (meant command.entry) drawing (Some input)) result (D.view desk.old) (D.view desk.new) }
+    ensures solids { OnJudged result (DrawsSolids (meant command.entry) input) }
     ensures files { D.files desk.new ≡ D.files desk.old }
     ensures later { D.faults desk.old ≤ D.faults desk.new }
     ensures cause { HasRisen result (D.faults desk.old) (D.faults desk.new) }
@@ -67,23 +67,20 @@ fn follow<D: Desk>(
     }
 }
 
-/// Judges the source, and writes the outlines.
+/// Evaluates the source and writes its echo lines, and then the outlines: the last line.
 fn slice<D: Desk>(alloc: Global, cli: &str, source: &[u8], desk: &mut D) -> Result<Text, Stop>
+    requires short { length source.now < 2 ^ 32 - 1 }
     requires sound { Sound (D.view desk.old) }
     requires absent { (D.view desk.old).cli.created ≡ false }
 
-    ensures completes { Completes (slice_script cli.now (cube_size source.now))
-        result (D.view desk.old) (D.view desk.new) }
+    ensures completes { (drawing : _) → IsDrawingOf (source_means source.now) drawing
+        → Completes (told (slice_script cli.now drawing) (source_means source.now)) result (D.view desk.old) (D.view desk.new) }
+    ensures solids { OnJudged result (MeansSolids source.now) }
     ensures files { D.files desk.new ≡ D.files desk.old }
     ensures later { D.faults desk.old ≤ D.faults desk.new }
     ensures cause { HasRisen result (D.faults desk.old) (D.faults desk.new) }
 {
-    let Some(size) = read_cube(source) else {
-        let fault = Fault::unnamed(alloc, FaultKind::NotBuilt, Place::START);
-        return Err(Stop::Ends(Refusal::Source(fault)));
-    };
-    match make(desk, Out::Cli, cli) {
-        Ok(()) => draw_cube(alloc, size, desk),
-        Err(stop) => Err(stop),
-    }
+    let tree = evaluate(alloc, source, desk)?;
+    tree.are_solids();
+    scad_slice::slice(alloc, &tree, cli, desk)
 }

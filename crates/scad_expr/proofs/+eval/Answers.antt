@@ -16,6 +16,7 @@ use Rattle.scad_expr.specs.Answers.{Does}
 use Rattle.scad_expr.specs.Machine.{held, env_in, along_in, state_of}
 use Rattle.scad_expr.specs.Meaning.{meaning, for_variables, node, element_node, values, turns}
 use Rattle.scad_expr.specs.Opened.{bound_in, outer}
+use Rattle.scad_expr.specs.Parts.{parts_in}
 use Rattle.scad_expr.specs.Portions.{numbers_left}
 use Rattle.scad_expr.specs.State.{Outcome, step_limit, gives, refuses, over}
 use Rattle.scad_expr.proofs.RunsLeft.{data-push, items-range}
@@ -83,33 +84,33 @@ call::values_at-returns-in_err-value-clause-does t c =
 
 pub element::element_node-returns-in-For-clause-does : goal.element::element_node-returns-in-For-clause-does
 element::element_node-returns-in-For-clause-does t c =
-    subst (λ (x : Element). Does data_in (element_node (meaning c.args.depth) (env_in (held c.args.m.now)) (along_in (held c.args.m.now)) x (data_in c.args.so_far) (state_of c.args.m.now)) c.for_element.result (state_of c.for_element.new.m))
+    subst (λ (x : Element). Does parts_in (element_node (meaning c.args.depth) (env_in (held c.args.m.now)) (along_in (held c.args.m.now)) x (parts_in c.args.so_far) (state_of c.args.m.now)) c.for_element.result (state_of c.for_element.new.m))
     (for_node c.args.e.now c.in-For.args c.in-For.e c.in-For.at c.deref-in-For.result.now c.deref-in-For-2.result.now c.in-For.is c.deref-in-For.ensures.value c.deref-in-For-2.ensures) c.for_element.ensures.does
 
 pub element::element_node-returns-in-Let-clause-does : goal.element::element_node-returns-in-Let-clause-does
 element::element_node-returns-in-Let-clause-does t c =
-    subst (λ (x : Element). Does data_in (element_node (meaning c.args.depth) (env_in (held c.args.m.now)) (along_in (held c.args.m.now)) x (data_in c.args.so_far) (state_of c.args.m.now)) c.let_element.result (state_of c.let_element.new.m))
+    subst (λ (x : Element). Does parts_in (element_node (meaning c.args.depth) (env_in (held c.args.m.now)) (along_in (held c.args.m.now)) x (parts_in c.args.so_far) (state_of c.args.m.now)) c.let_element.result (state_of c.let_element.new.m))
     (let_element_node c.args.e.now c.in-Let.args c.in-Let.e c.in-Let.at c.deref-in-Let.result.now c.deref-in-Let-2.result.now c.in-Let.is c.deref-in-Let.ensures.value c.deref-in-Let-2.ensures) c.let_element.ensures.does
 
 pub element::element_node-returns-in-Loop-clause-does : goal.element::element_node-returns-in-Loop-clause-does
 element::element_node-returns-in-Loop-clause-does t c =
-    subst (λ (x : Element). Does data_in (element_node (meaning c.args.depth) (env_in (held c.args.m.now)) (along_in (held c.args.m.now)) x (data_in c.args.so_far) (state_of c.args.m.now)) c.loop_element.result (state_of c.loop_element.new.m))
+    subst (λ (x : Element). Does parts_in (element_node (meaning c.args.depth) (env_in (held c.args.m.now)) (along_in (held c.args.m.now)) x (parts_in c.args.so_far) (state_of c.args.m.now)) c.loop_element.result (state_of c.loop_element.new.m))
     (loop_node c.args.e.now c.in-Loop.starts c.in-Loop.test c.in-Loop.steps c.in-Loop.e c.in-Loop.at c.deref-in-Loop.result.now c.deref-in-Loop-2.result.now c.deref-in-Loop-3.result.now c.in-Loop.is c.deref-in-Loop.ensures.value c.deref-in-Loop-2.ensures.value c.deref-in-Loop-3.ensures) c.loop_element.ensures.does
 
 pub element::elements_at-elements-preserved : goal.element::elements_at-elements-preserved
 element::elements_at-elements-preserved t c = (
-  element-goes (meaning c.args.depth) c.args.all.now c.elements.e-index c.e-item.result c.elements-test.true c.e-item.is (held c.elements.m) (held c.args.m.now) c.elements.invariant.1 (data_in c.elements.so_far) (state_of c.elements.m) _ c.elements.invariant.0 _ _ c.in_ok-so_far.ensures.does,
+  element-goes (meaning c.args.depth) c.args.all.now c.elements.e-index c.e-item.result c.elements-test.true c.e-item.is (held c.elements.m) (held c.args.m.now) c.elements.invariant.1 (parts_in c.elements.so_far) (state_of c.elements.m) _ c.elements.invariant.0 _ _ c.in_ok-so_far.ensures.does,
   c.in_ok-so_far.ensures.kept ∙ c.elements.invariant.1,
 )
 
 pub element::elements_at-returns-clause-does : goal.element::elements_at-returns-clause-does
 element::elements_at-returns-clause-does t c =
-    sym c.elements.invariant.0 ∙ elements-end (meaning c.args.depth) (env_in (held c.args.m.now)) (along_in (held c.args.m.now)) c.args.all.now c.elements.e-index (data_in c.elements.so_far) (state_of c.elements.m) c.elements-test.false
+    sym c.elements.invariant.0 ∙ elements-end (meaning c.args.depth) (env_in (held c.args.m.now)) (along_in (held c.args.m.now)) c.args.all.now c.elements.e-index (parts_in c.elements.so_far) (state_of c.elements.m) c.elements-test.false
 
 pub element::elements_at-returns-in_err-so_far-clause-does : goal.element::elements_at-returns-in_err-so_far-clause-does
 element::elements_at-returns-in_err-so_far-clause-does t c =
     let p = err_from_is_err_and c.from_residual.result c.from_residual.ensures.1 in
-    rw (p.1, p.2) (λ some. element-stops (meaning c.args.depth) c.args.all.now c.elements.e-index c.e-item.result c.elements-test.true c.e-item.is (held c.elements.m) (held c.args.m.now) c.elements.invariant.1 (data_in c.elements.so_far) (state_of c.elements.m) _ c.elements.invariant.0 _ _ (c.in_err-so_far.ensures.does some))
+    rw (p.1, p.2) (λ some. element-stops (meaning c.args.depth) c.args.all.now c.elements.e-index c.e-item.result c.elements-test.true c.e-item.is (held c.elements.m) (held c.args.m.now) c.elements.invariant.1 (parts_in c.elements.so_far) (state_of c.elements.m) _ c.elements.invariant.0 _ _ (c.in_err-so_far.ensures.does some))
 
 pub turn::loop_element-returns-clause-kept : goal.turn::loop_element-returns-clause-kept
 turn::loop_element-returns-clause-kept t c =
@@ -121,67 +122,67 @@ pub turn::loop_turns-returns-clause-does : goal.turn::loop_turns-returns-clause-
 unfolding over
 turn::loop_turns-returns-clause-does t c =
     λ some. sym c.turns.invariant.0
-    ∙ loop-over (meaning c.args.depth) c.args.at (expression_of c.args.test.now) (arguments c.args.steps.now) (element_of c.args.body.now) (env_in (outer (held c.args.m.now))) (along_in (outer (held c.args.m.now))) (bound_in (held c.turns.m)) (data_in c.turns.so_far) (state_of c.turns.m) (suc step_limit - c.turns._turn) (omega (arith, c.turns-test.false))
+    ∙ loop-over (meaning c.args.depth) c.args.at (expression_of c.args.test.now) (arguments c.args.steps.now) (element_of c.args.body.now) (env_in (outer (held c.args.m.now))) (along_in (outer (held c.args.m.now))) (bound_in (held c.turns.m)) (parts_in c.turns.so_far) (state_of c.turns.m) (suc step_limit - c.turns._turn) (omega (arith, c.turns-test.false))
     ∙ ap (λ b. refuses (Over b) (state_of c.turns.m)) (sym c.placed.ensures)
 
 pub turn::loop_turns-returns-in_err-holds-clause-does : goal.turn::loop_turns-returns-in_err-holds-clause-does
 turn::loop_turns-returns-in_err-holds-clause-does t c =
     let p = err_from_is_err_and c.from_residual.result c.from_residual.ensures.1 in
-    rw (p.1, p.2) (λ some. loop-stops (meaning c.args.depth) c.args.at (expression_of c.args.test.now) (arguments c.args.steps.now) (element_of c.args.body.now) (held c.turns.m) (outer (held c.args.m.now)) c.turns.invariant.1 c.turns.invariant.2 (data_in c.turns.so_far) (state_of c.turns.m) (suc step_limit - c.turns._turn) (suc step_limit - (c.turns._turn + 1)) (omega (arith, c.turns-test.true)) _ c.turns.invariant.0 _ _ (c.in_err-holds.ensures.does some))
+    rw (p.1, p.2) (λ some. loop-stops (meaning c.args.depth) c.args.at (expression_of c.args.test.now) (arguments c.args.steps.now) (element_of c.args.body.now) (held c.turns.m) (outer (held c.args.m.now)) c.turns.invariant.1 c.turns.invariant.2 (parts_in c.turns.so_far) (state_of c.turns.m) (suc step_limit - c.turns._turn) (suc step_limit - (c.turns._turn + 1)) (omega (arith, c.turns-test.true)) _ c.turns.invariant.0 _ _ (c.in_err-holds.ensures.does some))
 
 pub turn::loop_turns-returns-in_err-so_far-clause-does : goal.turn::loop_turns-returns-in_err-so_far-clause-does
 turn::loop_turns-returns-in_err-so_far-clause-does t c =
     let p = err_from_is_err_and c.from_residual-in_err-so_far.result c.from_residual-in_err-so_far.ensures.1 in
-    rw (p.1, p.2) (λ some. on-stops (meaning c.args.depth) c.args.at (expression_of c.args.test.now) (arguments c.args.steps.now) (element_of c.args.body.now) (held c.turns.m) (outer (held c.args.m.now)) c.turns.invariant.1 c.turns.invariant.2 (data_in c.turns.so_far) (state_of c.turns.m) (suc step_limit - c.turns._turn) (suc step_limit - (c.turns._turn + 1)) (omega (arith, c.turns-test.true)) _ c.turns.invariant.0 (held c.holds.new.m) c.in_ok-holds.ensures.kept c.in_ok-holds.field-0 c.if-not-branch.false (state_of c.holds.new.m) c.in_ok-holds.ensures.does _ _ (c.in_err-so_far.ensures.does some))
+    rw (p.1, p.2) (λ some. on-stops (meaning c.args.depth) c.args.at (expression_of c.args.test.now) (arguments c.args.steps.now) (element_of c.args.body.now) (held c.turns.m) (outer (held c.args.m.now)) c.turns.invariant.1 c.turns.invariant.2 (parts_in c.turns.so_far) (state_of c.turns.m) (suc step_limit - c.turns._turn) (suc step_limit - (c.turns._turn + 1)) (omega (arith, c.turns-test.true)) _ c.turns.invariant.0 (held c.holds.new.m) c.in_ok-holds.ensures.kept c.in_ok-holds.field-0 c.if-not-branch.false (state_of c.holds.new.m) c.in_ok-holds.ensures.does _ _ (c.in_err-so_far.ensures.does some))
 
 pub turn::loop_turns-returns-then-not-branch-clause-does : goal.turn::loop_turns-returns-then-not-branch-clause-does
 turn::loop_turns-returns-then-not-branch-clause-does t c =
-    loop-ends (meaning c.args.depth) c.args.at (expression_of c.args.test.now) (arguments c.args.steps.now) (element_of c.args.body.now) (held c.turns.m) (outer (held c.args.m.now)) c.turns.invariant.1 c.turns.invariant.2 (data_in c.turns.so_far) (state_of c.turns.m) (suc step_limit - c.turns._turn) (suc step_limit - (c.turns._turn + 1)) (omega (arith, c.turns-test.true)) _ c.turns.invariant.0 c.in_ok-holds.field-0 _ c.if-not-branch.true c.in_ok-holds.ensures.does
+    loop-ends (meaning c.args.depth) c.args.at (expression_of c.args.test.now) (arguments c.args.steps.now) (element_of c.args.body.now) (held c.turns.m) (outer (held c.args.m.now)) c.turns.invariant.1 c.turns.invariant.2 (parts_in c.turns.so_far) (state_of c.turns.m) (suc step_limit - c.turns._turn) (suc step_limit - (c.turns._turn + 1)) (omega (arith, c.turns-test.true)) _ c.turns.invariant.0 c.in_ok-holds.field-0 _ c.if-not-branch.true c.in_ok-holds.ensures.does
 
 pub turn::loop_turns-turns-preserved : goal.turn::loop_turns-turns-preserved
 turn::loop_turns-turns-preserved t c = (
-  on-goes (meaning c.args.depth) c.args.at (expression_of c.args.test.now) (arguments c.args.steps.now) (element_of c.args.body.now) (held c.turns.m) (outer (held c.args.m.now)) c.turns.invariant.1 c.turns.invariant.2 (data_in c.turns.so_far) (state_of c.turns.m) (suc step_limit - c.turns._turn) (suc step_limit - (c.turns._turn + 1)) (omega (arith, c.turns-test.true)) _ c.turns.invariant.0 (held c.holds.new.m) c.in_ok-holds.ensures.kept c.in_ok-holds.field-0 c.if-not-branch.false (state_of c.holds.new.m) c.in_ok-holds.ensures.does _ _ _ c.in_ok-so_far.ensures.does,
+  on-goes (meaning c.args.depth) c.args.at (expression_of c.args.test.now) (arguments c.args.steps.now) (element_of c.args.body.now) (held c.turns.m) (outer (held c.args.m.now)) c.turns.invariant.1 c.turns.invariant.2 (parts_in c.turns.so_far) (state_of c.turns.m) (suc step_limit - c.turns._turn) (suc step_limit - (c.turns._turn + 1)) (omega (arith, c.turns-test.true)) _ c.turns.invariant.0 (held c.holds.new.m) c.in_ok-holds.ensures.kept c.in_ok-holds.field-0 c.if-not-branch.false (state_of c.holds.new.m) c.in_ok-holds.ensures.does _ _ _ c.in_ok-so_far.ensures.does,
   c.in_ok-so_far.ensures.inner,
   c.in_ok-so_far.ensures.outer ∙ ap outer c.in_ok-holds.ensures.kept ∙ c.turns.invariant.2,
 )
 
 pub turn::turns_in_range-numbers-init : goal.turn::turns_in_range-numbers-init
 turn::turns_in_range-numbers-init t c = (
-  ap (λ (l : List Datum). turns (meaning c.args.depth) c.args.at c.args.name.now (for_variables (meaning c.args.depth) c.args.at (arguments c.args.more.now) (element_of c.args.body.now)) (env_in (held c.args.m.now)) (along_in (held c.args.m.now)) l (data_in c.args.before) (state_of c.args.m.now))
+  ap (λ (l : List Datum). turns (meaning c.args.depth) c.args.at c.args.name.now (for_variables (meaning c.args.depth) c.args.at (arguments c.args.more.now) (element_of c.args.body.now)) (env_in (held c.args.m.now)) (along_in (held c.args.m.now)) l (parts_in c.args.before) (state_of c.args.m.now))
       (sym (items-range c.args.start c.args.step c.args.end)),
   refl,
 )
 
 pub turn::turns_in_range-numbers-preserved : goal.turn::turns_in_range-numbers-preserved
 turn::turns_in_range-numbers-preserved t c = (
-  turn-goes (meaning c.args.depth) c.args.at c.args.name.now (for_variables (meaning c.args.depth) c.args.at (arguments c.args.more.now) (element_of c.args.body.now)) (held c.numbers.m) (held c.args.m.now) c.numbers.invariant.1 (numbers_left c.numbers.next c.args.step c.args.end) _ _ c.in-Some.ensures (data_in c.numbers.so_far) (state_of c.numbers.m) _ c.numbers.invariant.0 _ _ c.in_ok-so_far.ensures.does,
+  turn-goes (meaning c.args.depth) c.args.at c.args.name.now (for_variables (meaning c.args.depth) c.args.at (arguments c.args.more.now) (element_of c.args.body.now)) (held c.numbers.m) (held c.args.m.now) c.numbers.invariant.1 (numbers_left c.numbers.next c.args.step c.args.end) _ _ c.in-Some.ensures (parts_in c.numbers.so_far) (state_of c.numbers.m) _ c.numbers.invariant.0 _ _ c.in_ok-so_far.ensures.does,
   c.in_ok-so_far.ensures.kept ∙ c.numbers.invariant.1,
 )
 
 pub turn::turns_in_range-returns-clause-does : goal.turn::turns_in_range-returns-clause-does
 turn::turns_in_range-returns-clause-does t c =
     sym c.numbers.invariant.0
-    ∙ turns-end (meaning c.args.depth) c.args.at c.args.name.now (for_variables (meaning c.args.depth) c.args.at (arguments c.args.more.now) (element_of c.args.body.now)) (env_in (held c.args.m.now)) (along_in (held c.args.m.now)) (numbers_left c.numbers.next c.args.step c.args.end) (data_in c.numbers.so_far) (state_of c.numbers.m) c.in_default.ensures
+    ∙ turns-end (meaning c.args.depth) c.args.at c.args.name.now (for_variables (meaning c.args.depth) c.args.at (arguments c.args.more.now) (element_of c.args.body.now)) (env_in (held c.args.m.now)) (along_in (held c.args.m.now)) (numbers_left c.numbers.next c.args.step c.args.end) (parts_in c.numbers.so_far) (state_of c.numbers.m) c.in_default.ensures
 
 pub turn::turns_in_range-returns-in_err-so_far-clause-does : goal.turn::turns_in_range-returns-in_err-so_far-clause-does
 turn::turns_in_range-returns-in_err-so_far-clause-does t c =
     let p = err_from_is_err_and c.from_residual.result c.from_residual.ensures.1 in
-    rw (p.1, p.2) (λ some. turn-stops (meaning c.args.depth) c.args.at c.args.name.now (for_variables (meaning c.args.depth) c.args.at (arguments c.args.more.now) (element_of c.args.body.now)) (held c.numbers.m) (held c.args.m.now) c.numbers.invariant.1 (numbers_left c.numbers.next c.args.step c.args.end) _ _ c.in-Some.ensures (data_in c.numbers.so_far) (state_of c.numbers.m) _ c.numbers.invariant.0 _ _ (c.in_err-so_far.ensures.does some))
+    rw (p.1, p.2) (λ some. turn-stops (meaning c.args.depth) c.args.at c.args.name.now (for_variables (meaning c.args.depth) c.args.at (arguments c.args.more.now) (element_of c.args.body.now)) (held c.numbers.m) (held c.args.m.now) c.numbers.invariant.1 (numbers_left c.numbers.next c.args.step c.args.end) _ _ c.in-Some.ensures (parts_in c.numbers.so_far) (state_of c.numbers.m) _ c.numbers.invariant.0 _ _ (c.in_err-so_far.ensures.does some))
 
 pub turn::turns_over-returns-clause-does : goal.turn::turns_over-returns-clause-does
 turn::turns_over-returns-clause-does t c =
     sym c.values.invariant.0
-    ∙ turns-end (meaning c.args.depth) c.args.at c.args.name.now (for_variables (meaning c.args.depth) c.args.at (arguments c.args.more.now) (element_of c.args.body.now)) (env_in (held c.args.m.now)) (along_in (held c.args.m.now)) (data_of (into_iter_items c.values.value-iterator)) (data_in c.values.so_far) (state_of c.values.m)
+    ∙ turns-end (meaning c.args.depth) c.args.at c.args.name.now (for_variables (meaning c.args.depth) c.args.at (arguments c.args.more.now) (element_of c.args.body.now)) (env_in (held c.args.m.now)) (along_in (held c.args.m.now)) (data_of (into_iter_items c.values.value-iterator)) (parts_in c.values.so_far) (state_of c.values.m)
     (ap data_of (nothing-left (into_iter_items c.values.value-iterator) (omega (arith, c.in-None.ensures.steps))))
 
 pub turn::turns_over-returns-in_err-so_far-clause-does : goal.turn::turns_over-returns-in_err-so_far-clause-does
 turn::turns_over-returns-in_err-so_far-clause-does t c =
     let p = err_from_is_err_and c.from_residual.result c.from_residual.ensures.1 in
-    rw (p.1, p.2) (λ some. turn-stops (meaning c.args.depth) c.args.at c.args.name.now (for_variables (meaning c.args.depth) c.args.at (arguments c.args.more.now) (element_of c.args.body.now)) (held c.values.m) (held c.args.m.now) c.values.invariant.1 (data_of (into_iter_items c.values.value-iterator)) (data_of (into_iter_items c.next.new.self)) (datum_of c.in-Some.value) (ap data_of c.in-Some.ensures.steps.0) (data_in c.values.so_far) (state_of c.values.m) _ c.values.invariant.0 _ _ (c.in_err-so_far.ensures.does some))
+    rw (p.1, p.2) (λ some. turn-stops (meaning c.args.depth) c.args.at c.args.name.now (for_variables (meaning c.args.depth) c.args.at (arguments c.args.more.now) (element_of c.args.body.now)) (held c.values.m) (held c.args.m.now) c.values.invariant.1 (data_of (into_iter_items c.values.value-iterator)) (data_of (into_iter_items c.next.new.self)) (datum_of c.in-Some.value) (ap data_of c.in-Some.ensures.steps.0) (parts_in c.values.so_far) (state_of c.values.m) _ c.values.invariant.0 _ _ (c.in_err-so_far.ensures.does some))
 
 pub turn::turns_over-values-preserved : goal.turn::turns_over-values-preserved
 turn::turns_over-values-preserved t c = (
-  turn-goes (meaning c.args.depth) c.args.at c.args.name.now (for_variables (meaning c.args.depth) c.args.at (arguments c.args.more.now) (element_of c.args.body.now)) (held c.values.m) (held c.args.m.now) c.values.invariant.1 (data_of (into_iter_items c.values.value-iterator)) (data_of (into_iter_items c.next.new.self)) (datum_of c.in-Some.value) (ap data_of c.in-Some.ensures.steps.0) (data_in c.values.so_far) (state_of c.values.m) _ c.values.invariant.0 _ _ c.in_ok-so_far.ensures.does,
+  turn-goes (meaning c.args.depth) c.args.at c.args.name.now (for_variables (meaning c.args.depth) c.args.at (arguments c.args.more.now) (element_of c.args.body.now)) (held c.values.m) (held c.args.m.now) c.values.invariant.1 (data_of (into_iter_items c.values.value-iterator)) (data_of (into_iter_items c.next.new.self)) (datum_of c.in-Some.value) (ap data_of c.in-Some.ensures.steps.0) (parts_in c.values.so_far) (state_of c.values.m) _ c.values.invariant.0 _ _ c.in_ok-so_far.ensures.does,
   c.in_ok-so_far.ensures.kept ∙ c.values.invariant.1,
 )
 

@@ -10,6 +10,7 @@ use Rattle.scad_expr.specs.Machine.{held, env_in, along_in, state_of}
 use Rattle.scad_expr.specs.Meaning.{meaning, values, bound, bound_in_order, turns, for_variables, loop_turns}
 use Rattle.scad_expr.specs.Meaning.{elements as elements_given}
 use Rattle.scad_expr.specs.Opened.{opened, bound_in, outer, IsInner}
+use Rattle.scad_expr.specs.Parts.{parts_in}
 use Rattle.scad_expr.specs.Portions.{defaulted, numbers_left}
 use Rattle.scad_expr.specs.Runs.{items}
 use Rattle.scad_expr.specs.State.{step_limit}
@@ -157,8 +158,8 @@ invariant-call::values_at-arguments l =
 
 abbrev pub invariant-element::elements_at-elements : goal.invariant-element::elements_at-elements
 invariant-element::elements_at-elements l =
-    (elements_given (meaning l.depth) (env_in (held l.fn.m)) (along_in (held l.fn.m)) (elements (drop l.e-index l.all)) (data_in l.so_far) (state_of l.m)
-    ≡ elements_given (meaning l.depth) (env_in (held l.fn.m)) (along_in (held l.fn.m)) (elements l.all) (data_in l.fn.before) (state_of l.fn.m))
+    (elements_given (meaning l.depth) (env_in (held l.fn.m)) (along_in (held l.fn.m)) (elements (drop l.e-index l.all)) (parts_in l.so_far) (state_of l.m)
+    ≡ elements_given (meaning l.depth) (env_in (held l.fn.m)) (along_in (held l.fn.m)) (elements l.all) (parts_in l.fn.before) (state_of l.fn.m))
     × (held l.m ≡ held l.fn.m)
 
 abbrev pub invariant-within::set_names-names : goal.invariant-within::set_names-names
@@ -175,14 +176,14 @@ invariant-call::bind_at-missing l =
 
 abbrev pub invariant-turn::turns_over-values : goal.invariant-turn::turns_over-values
 invariant-turn::turns_over-values l =
-    (turns (meaning l.depth) l.at l.name (for_variables (meaning l.depth) l.at (arguments l.more) (element_of l.body)) (env_in (held l.fn.m)) (along_in (held l.fn.m)) (data_of (into_iter_items l.value-iterator)) (data_in l.so_far) (state_of l.m)
-    ≡ turns (meaning l.depth) l.at l.name (for_variables (meaning l.depth) l.at (arguments l.more) (element_of l.body)) (env_in (held l.fn.m)) (along_in (held l.fn.m)) (data_in l.fn.all) (data_in l.fn.before) (state_of l.fn.m))
+    (turns (meaning l.depth) l.at l.name (for_variables (meaning l.depth) l.at (arguments l.more) (element_of l.body)) (env_in (held l.fn.m)) (along_in (held l.fn.m)) (data_of (into_iter_items l.value-iterator)) (parts_in l.so_far) (state_of l.m)
+    ≡ turns (meaning l.depth) l.at l.name (for_variables (meaning l.depth) l.at (arguments l.more) (element_of l.body)) (env_in (held l.fn.m)) (along_in (held l.fn.m)) (data_in l.fn.all) (parts_in l.fn.before) (state_of l.fn.m))
     × (held l.m ≡ held l.fn.m)
 
 abbrev pub invariant-turn::turns_in_range-numbers : goal.invariant-turn::turns_in_range-numbers
 invariant-turn::turns_in_range-numbers l =
-    (turns (meaning l.depth) l.at l.name (for_variables (meaning l.depth) l.at (arguments l.more) (element_of l.body)) (env_in (held l.fn.m)) (along_in (held l.fn.m)) (numbers_left l.next l.step l.end) (data_in l.so_far) (state_of l.m)
-    ≡ turns (meaning l.depth) l.at l.name (for_variables (meaning l.depth) l.at (arguments l.more) (element_of l.body)) (env_in (held l.fn.m)) (along_in (held l.fn.m)) (items (range l.fn.start l.step l.end)) (data_in l.fn.before) (state_of l.fn.m))
+    (turns (meaning l.depth) l.at l.name (for_variables (meaning l.depth) l.at (arguments l.more) (element_of l.body)) (env_in (held l.fn.m)) (along_in (held l.fn.m)) (numbers_left l.next l.step l.end) (parts_in l.so_far) (state_of l.m)
+    ≡ turns (meaning l.depth) l.at l.name (for_variables (meaning l.depth) l.at (arguments l.more) (element_of l.body)) (env_in (held l.fn.m)) (along_in (held l.fn.m)) (items (range l.fn.start l.step l.end)) (parts_in l.fn.before) (state_of l.fn.m))
     × (held l.m ≡ held l.fn.m)
 
 abbrev pub decreases-turn::turns_in_range-numbers : goal.decreases-turn::turns_in_range-numbers
@@ -190,6 +191,6 @@ decreases-turn::turns_in_range-numbers l = length (numbers_left l.next l.step l.
 
 abbrev pub invariant-turn::loop_turns-turns : goal.invariant-turn::loop_turns-turns
 invariant-turn::loop_turns-turns l =
-    (loop_turns (meaning l.depth) (suc step_limit - l._turn) l.at (expression_of l.test) (arguments l.steps) (element_of l.body) (env_in (outer (held l.fn.m))) (along_in (outer (held l.fn.m))) (bound_in (held l.m)) (data_in l.so_far) (state_of l.m)
-    ≡ loop_turns (meaning l.depth) (suc step_limit) l.at (expression_of l.test) (arguments l.steps) (element_of l.body) (env_in (outer (held l.fn.m))) (along_in (outer (held l.fn.m))) (bound_in (held l.fn.m)) (data_in l.fn.before) (state_of l.fn.m))
+    (loop_turns (meaning l.depth) (suc step_limit - l._turn) l.at (expression_of l.test) (arguments l.steps) (element_of l.body) (env_in (outer (held l.fn.m))) (along_in (outer (held l.fn.m))) (bound_in (held l.m)) (parts_in l.so_far) (state_of l.m)
+    ≡ loop_turns (meaning l.depth) (suc step_limit) l.at (expression_of l.test) (arguments l.steps) (element_of l.body) (env_in (outer (held l.fn.m))) (along_in (outer (held l.fn.m))) (bound_in (held l.fn.m)) (parts_in l.fn.before) (state_of l.fn.m))
     × IsInner (held l.m) × (outer (held l.m) ≡ outer (held l.fn.m))

@@ -1,5 +1,5 @@
 -- One more turn of each loop, and its exits.
-use Rattle.std.proofs.Common.{◌≡◌, ◌+◌, List, drop, refl, sym, ap, ap₂, ◌∙◌, subst, arith}
+use Rattle.std.proofs.Common.{◌≡◌, ◌+◌, List, [], drop, refl, sym, ap, ap₂, ◌∙◌, subst, arith}
 use Rattle.std.proofs.lemmas.List.{take_rest}
 use Rattle.std.proofs.lemmas.Result.{err_from_is_err_and}
 use Rattle.std.specs.Vec.Iter.{into_iter_items}
@@ -87,21 +87,27 @@ children::children_by-returns-in_err-so_far-clause-does t c =
     let p = err_from_is_err_and c.from_residual.result c.from_residual.ensures.1 in
     rw (p.1, p.2) (λ some. child-stops c.args.w.now (items c.args.scope.now.items) (held c.values.m) (held c.args.m.now) c.values.invariant.1 (data_of (drop c.values.value-index c.args.all.now)) (data_of (drop (c.values.value-index + 1) c.args.all.now)) (datum_of c.value-item.result) (data-drop c.args.all.now c.values.value-index c.value-item.result c.values-test.true c.value-item.is) (trees_in c.values.so_far) (state_of c.values.m) _ c.values.invariant.0 _ _ (c.in_err-so_far.ensures.does some))
 
-pub children::children_in_range-numbers-init : goal.children::children_in_range-numbers-init
-children::children_in_range-numbers-init t c =
-    (ap₂ (λ (l : List Datum) (so_far : List Node). children_by (below_of (held c.args.m.now)) c.args.w.now (env_in (held c.args.m.now)) (along_in (held c.args.m.now)) (items c.args.scope.now.items) l (solids so_far) (state_of c.args.m.now)) (sym (items-range c.args.start c.args.step c.args.end)) c.new-so_far.ensures.items, refl)
-
-pub children::children_in_range-numbers-preserved : goal.children::children_in_range-numbers-preserved
-children::children_in_range-numbers-preserved t c =
-    (child-goes c.args.w.now (items c.args.scope.now.items) (held c.numbers.m) (held c.args.m.now) c.numbers.invariant.1 (numbers_left c.numbers.next c.args.step c.args.end) _ _ c.in-Some.ensures (trees_in c.numbers.so_far) (state_of c.numbers.m) _ c.numbers.invariant.0 _ _ c.in_ok-so_far.ensures.does, c.in_ok-so_far.ensures.kept ∙ c.numbers.invariant.1)
-
 pub children::children_in_range-returns-clause-does : goal.children::children_in_range-returns-clause-does
 children::children_in_range-returns-clause-does t c =
+    subst (λ (o : Outcome (List Solid)). Does trees_in o c.children_near.result (state_of c.children_near.new.m))
+    (c.near-first.ensures.alike (below_of (held c.args.m.now)) c.args.w.now (env_in (held c.args.m.now)) (along_in (held c.args.m.now)) [] (state_of c.args.m.now))
+    c.children_near.ensures.does
+
+pub children::children_near-numbers-init : goal.children::children_near-numbers-init
+children::children_near-numbers-init t c =
+    (ap₂ (λ (l : List Datum) (so_far : List Node). children_by (below_of (held c.args.m.now)) c.args.w.now (env_in (held c.args.m.now)) (along_in (held c.args.m.now)) (items c.args.scope.now.items) l (solids so_far) (state_of c.args.m.now)) (sym (items-range c.args.start c.args.step c.args.end)) c.new-so_far.ensures.items, refl)
+
+pub children::children_near-numbers-preserved : goal.children::children_near-numbers-preserved
+children::children_near-numbers-preserved t c =
+    (child-goes c.args.w.now (items c.args.scope.now.items) (held c.numbers.m) (held c.args.m.now) c.numbers.invariant.1 (numbers_left c.numbers.next c.args.step c.args.end) _ _ c.in-Some.ensures (trees_in c.numbers.so_far) (state_of c.numbers.m) _ c.numbers.invariant.0 _ _ c.in_ok-so_far.ensures.does, c.in_ok-so_far.ensures.kept ∙ c.numbers.invariant.1)
+
+pub children::children_near-returns-clause-does : goal.children::children_near-returns-clause-does
+children::children_near-returns-clause-does t c =
     sym c.numbers.invariant.0
     ∙ children-end (below_of (held c.args.m.now)) c.args.w.now (env_in (held c.args.m.now)) (along_in (held c.args.m.now)) (items c.args.scope.now.items) (numbers_left c.numbers.next c.args.step c.args.end) (trees_in c.numbers.so_far) (state_of c.numbers.m) c.in_default.ensures
 
-pub children::children_in_range-returns-in_err-so_far-clause-does : goal.children::children_in_range-returns-in_err-so_far-clause-does
-children::children_in_range-returns-in_err-so_far-clause-does t c =
+pub children::children_near-returns-in_err-so_far-clause-does : goal.children::children_near-returns-in_err-so_far-clause-does
+children::children_near-returns-in_err-so_far-clause-does t c =
     let p = err_from_is_err_and c.from_residual.result c.from_residual.ensures.1 in
     rw (p.1, p.2) (λ some. child-stops c.args.w.now (items c.args.scope.now.items) (held c.numbers.m) (held c.args.m.now) c.numbers.invariant.1 (numbers_left c.numbers.next c.args.step c.args.end) _ _ c.in-Some.ensures (trees_in c.numbers.so_far) (state_of c.numbers.m) _ c.numbers.invariant.0 _ _ (c.in_err-so_far.ensures.does some))
 

@@ -44,22 +44,25 @@ abbrev pub decreases-children::child_by : goal.decreases-children::child_by
 decreases-children::child_by l = 2 ^ 67 * (held l.m.now).depth + 2
 
 abbrev pub decreases-children::children : goal.decreases-children::children
-decreases-children::children l = 2 ^ 67 * (held l.m.now).depth + 7
+decreases-children::children l = 2 ^ 67 * (held l.m.now).depth + 8
 
 abbrev pub decreases-children::children_by : goal.decreases-children::children_by
 decreases-children::children_by l = 2 ^ 67 * (held l.m.now).depth + 3
 
 abbrev pub decreases-children::children_in_range : goal.decreases-children::children_in_range
-decreases-children::children_in_range l = 2 ^ 67 * (held l.m.now).depth + 3
+decreases-children::children_in_range l = 2 ^ 67 * (held l.m.now).depth + 4
+
+abbrev pub decreases-children::children_near : goal.decreases-children::children_near
+decreases-children::children_near l = 2 ^ 67 * (held l.m.now).depth + 3
 
 abbrev pub decreases-children::chosen : goal.decreases-children::chosen
-decreases-children::chosen l = 2 ^ 67 * (held l.m.now).depth + 5
+decreases-children::chosen l = 2 ^ 67 * (held l.m.now).depth + 6
 
 abbrev pub decreases-children::chosen_by : goal.decreases-children::chosen_by
-decreases-children::chosen_by l = 2 ^ 67 * (held l.m.now).depth + 4
+decreases-children::chosen_by l = 2 ^ 67 * (held l.m.now).depth + 5
 
 abbrev pub decreases-children::run_children : goal.decreases-children::run_children
-decreases-children::run_children l = 2 ^ 67 * (held l.m.now).depth + 6
+decreases-children::run_children l = 2 ^ 67 * (held l.m.now).depth + 7
 
 abbrev pub decreases-members::combined : goal.decreases-members::combined
 decreases-members::combined l = 2 ^ 67 * (held l.m.now).depth + 4
@@ -140,11 +143,11 @@ invariant-children::children_by-values l =
     ≡ children_by (below_of (held l.fn.m)) l.w (env_in (held l.fn.m)) (along_in (held l.fn.m)) (items l.scope.items) (data_of l.all) [] (state_of l.fn.m))
     × (held l.m ≡ held l.fn.m)
 
-abbrev pub invariant-children::children_in_range-numbers : goal.invariant-children::children_in_range-numbers
-invariant-children::children_in_range-numbers l =
+abbrev pub invariant-children::children_near-numbers : goal.invariant-children::children_near-numbers
+invariant-children::children_near-numbers l =
     (children_by (below_of (held l.fn.m)) l.w (env_in (held l.fn.m)) (along_in (held l.fn.m)) (items l.scope.items) (numbers_left l.next l.step l.end) (trees_in l.so_far) (state_of l.m)
     ≡ children_by (below_of (held l.fn.m)) l.w (env_in (held l.fn.m)) (along_in (held l.fn.m)) (items l.scope.items) (run_over (range l.fn.start l.step l.end)) [] (state_of l.fn.m))
     × (held l.m ≡ held l.fn.m)
 
-abbrev pub decreases-children::children_in_range-numbers : goal.decreases-children::children_in_range-numbers
-decreases-children::children_in_range-numbers l = length (numbers_left l.next l.step l.end)
+abbrev pub decreases-children::children_near-numbers : goal.decreases-children::children_near-numbers
+decreases-children::children_near-numbers l = length (numbers_left l.next l.step l.end)

@@ -1,43 +1,43 @@
-use Rattle.std.proofs.Common.{◌≡◌, ◌∙◌, sym, ap, refl, arith}
-use Rattle.std.specs.Prelude.{map}
+use Rattle.std.proofs.Common.{List, [], length, map, ap, sym, subst, ◌∙◌}
+use Rattle.std.proofs.lemmas.Result.{err_from_is_err_and}
+use Rattle.scad_ast.specs.Tree.{Parameter}
 use Rattle.scad_ast.specs.Scope.{parameter}
-use Rattle.scad_grammar.specs.State.{in_parameters, after_parameter}
-use Rattle.scad_grammar.specs.Machine.{outcome}
-use Rattle.scad_parse.specs.ReadingStatements.{Parametered, with_param}
-use Rattle.scad_parse.proofs.reader.Outcomes.{refused_by}
-use Rattle.scad_parse.proofs.reader.Parameters.{parameters_end, parameters_push}
+use Rattle.scad_parse.specs.Reading.{refusal}
+use Rattle.scad_parse.proofs.loops.Parameters.{params_at, parameters_push, params_go, params_fewer, params_stop}
+use Rattle.scad_parse.proofs.loops.Parameters.{params_stop_behind, params_end}
+use Rattle.scad_parse.proofs.loops.Turns.{Goes}
 use Rattle.scad_parse.proofs.definition.parameters.Goals as goal
-
-pub returns-in-Err : goal.returns-in-Err
-returns-in-Err c = λ k h.
-    refused_by c.in-Err.fault (c.members.invariant.1 k h)
-    (c.in-Err.ensures (record { all = map parameter c.members.params.items; behind = k }) h)
-
-pub returns-in-Err-behind_parameter : goal.returns-in-Err-behind_parameter
-returns-in-Err-behind_parameter c = λ k h.
-    let all = map parameter c.members.params.items in
-    refused_by c.in-Err-behind_parameter.fault
-    (c.members.invariant.1 k h ∙ c.in-Ok.ensures.1 (record { all = all; behind = k }) h)
-    (c.in-Err-behind_parameter.ensures (record { all = with_param all c.in-Ok.param.0; behind = k }) h)
 
 pub members-preserved : goal.members-preserved
 members-preserved c =
-    let all = map parameter c.members.params.items in (
-      omega (arith, c.members.invariant.0, c.in-Ok.ensures.0, c.in-Ok-behind_parameter.ensures.0),
-      λ k h.
-          c.members.invariant.1 k h
-          ∙ (c.in-Ok.ensures.1 (record { all = all; behind = k }) h
-          ∙ (c.in-Ok-behind_parameter.ensures.1 (record { all = with_param all c.in-Ok.param.0; behind = k }) h
-          ∙ ap (λ x. outcome (in_parameters x k) c.in-Ok-behind_parameter.left.now c.args.end)
-          (sym (ap (map parameter) c.in-Ok-push.ensures.items
-          ∙ parameters_push c.members.params.items c.in-Ok.param.0)))),
-    )
+    subst (λ (all : List Parameter). Goes (params_at c.args.end c.args.room)
+    (params_at c.args.end c.args.room (length c.args.ts.now) [] c.args.ts.now) all c.in_ok-rest.rest.now) (sym (ap
+    (map parameter) c.in_ok-push.ensures.items ∙ parameters_push c.members.params.items c.in_ok-param.param))
+    (params_go c.args.end c.args.room _ (map parameter c.members.params.items) c.members.left.now
+    (sym c.begins_with.ensures ∙ c.members-test.true) c.members.invariant c.in_ok-param.rest.now c.in_ok-rest.rest.now
+    (parameter c.in_ok-param.param) c.in_ok-param.ensures c.in_ok-rest.ensures)
+
+pub members-smaller : goal.members-smaller
+members-smaller c =
+    params_fewer c.args.end c.args.room c.members.left.now c.in_ok-param.rest.now c.in_ok-rest.rest.now
+    (parameter c.in_ok-param.param) c.in_ok-param.ensures c.in_ok-rest.ensures
+
+pub returns-in_err-param : goal.returns-in_err-param
+returns-in_err-param c =
+    let p = err_from_is_err_and c.from_residual.result c.from_residual.ensures.1 in
+    rw (p.1, p.2) (λ some. params_stop c.args.end c.args.room _ (map parameter c.members.params.items)
+    c.members.left.now (sym c.begins_with.ensures ∙ c.members-test.true) c.members.invariant
+    (refusal c.in_err-param.field-0.0) (c.in_err-param.ensures some))
+
+pub returns-in_err-rest : goal.returns-in_err-rest
+returns-in_err-rest c =
+    let p = err_from_is_err_and c.from_residual-in_err-rest.result c.from_residual-in_err-rest.ensures.1 in
+    rw (p.1, p.2) (λ some. params_stop_behind c.args.end c.args.room _ (map parameter c.members.params.items)
+    c.members.left.now (sym c.begins_with.ensures ∙ c.members-test.true) c.members.invariant c.in_ok-param.rest.now
+    (parameter c.in_ok-param.param) (refusal c.in_err-rest.field-0.0) c.in_ok-param.ensures
+    (c.in_err-rest.ensures some))
 
 pub returns : goal.returns
 returns c =
-    let closed = sym c.is_sign.ensures ∙ c.members-test.false in (
-      c.members.invariant.0,
-      closed,
-      λ k h. c.members.invariant.1 k h
-          ∙ parameters_end (map parameter c.members.params.items) k c.members.left.now c.args.end closed,
-    )
+    rw c.behind.ensures (params_end c.args.end c.args.room _ (map parameter c.members.params.items) c.members.left.now
+    (sym c.begins_with.ensures ∙ c.members-test.false) c.members.invariant)

@@ -1,7 +1,8 @@
 use Rattle.std.proofs.Common.{◌≡◌, ap, refl, ◌∙◌}
 use Rattle.scad_fault.specs.declared.place.Place.{Place}
 use Rattle.scad_ast.specs.declared.expression.Expr.{Expr}
-use Rattle.scad_ast.specs.declared.expression.Elem.{Elem, Item, Item', Each', For', Loop', Let', If', Elem-If-2-None', Elem-If-2-Some'}
+use Rattle.scad_ast.specs.declared.expression.Elem.{Elem, Item, Item', Each', For', Loop', Let', If', Elem-If-2-None'}
+use Rattle.scad_ast.specs.declared.expression.Elem.{Elem-If-2-Some'}
 use Rattle.scad_ast.specs.Tree.{Arguments, let_element}
 use Rattle.scad_ast.specs.View.{arguments, element_of}
 use Rattle.scad_ast.proofs.Rows.{let_element_view}

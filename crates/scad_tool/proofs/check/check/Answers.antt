@@ -1,11 +1,14 @@
+use Rattle.std.proofs.Common.{rules}
 use Rattle.scad_tree.specs.View.{solid_of}
+use Rattle.scad_slice.proofs.Stopping.{stops_all}
 use Rattle.scad_tool.specs.Told.{check_script}
 use Rattle.scad_tool.proofs.Telling.{ended}
 use Rattle.scad_tool.proofs.check.check.Goals as goal
 
-pub returns-in-Ok-clause-completes : goal.returns-in-Ok-clause-completes
-returns-in-Ok-clause-completes g c whole start left =
-    ended (check_script (solid_of c.in-Ok.tree)) c.checked.result whole start _ c.checked.ensures (c.in-Ok.ensures.tells check_script whole start left)
+pub returns-in_err-tree-clause-completes : goal.returns-in_err-tree-clause-completes
+returns-in_err-tree-clause-completes g c whole start left =
+    stops_all whole _ _ start _ (search rules) (c.in_err-tree.ensures.tells check_script whole start left)
 
-pub returns-in-Err-clause-completes : goal.returns-in-Err-clause-completes
-returns-in-Err-clause-completes g c whole start left = c.in-Err.ensures.tells check_script whole start left
+pub returns-clause-completes : goal.returns-clause-completes
+returns-clause-completes g c whole start left =
+    ended (check_script (solid_of c.in_ok-tree.tree)) c.checked.result whole start _ c.checked.ensures (c.in_ok-tree.ensures.tells check_script whole start left)

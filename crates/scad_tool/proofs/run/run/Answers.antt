@@ -2,15 +2,21 @@ use Rattle.std.proofs.Common.{rules, Global, ℕ, List, Option, map, string_byte
 use Rattle.scad_io.specs.Desk.{Files, View}
 use Rattle.scad_script.specs.declared.loading.Input.{Input}
 use Rattle.scad_script.specs.Run.{RunsTo}
-use Rattle.scad_script.specs.Promises.{Promised}
+use Rattle.scad_script.specs.Names.{IsOrderly}
+use Rattle.scad_script.specs.Script.{Script}
+use Rattle.scad_script.specs.Promises.{Promised, IsWriteFault, IsMemoryLine, AreFronts}
 use Rattle.scad_script.proofs.Promised.{statuses_keep_promises}
 use Rattle.scad_script.proofs.Faulted.{report_sound}
 use Rattle.scad_script.proofs.Fronts.{files_are_fronts}
 use Rattle.scad_script.proofs.Handed.{names_are_given}
 use Rattle.scad_script.proofs.Created.{created_for_bytes}
-use Rattle.scad_tool.specs.Answer.{script_of, given_by}
+use Rattle.scad_slice.specs.Drawing.{Drawing}
+use Rattle.scad_tool.specs.Answer.{script_of, IsDrawn, OnScript, given_by}
+use Rattle.scad_tool.specs.Playing.{Works}
+use Rattle.scad_tool.specs.Promises.{Refuses}
 use Rattle.scad_tool.proofs.Orderly.{orderly}
-use Rattle.scad_tool.proofs.Judged.{answers, holds_cube, judges, read_fault, write_fault, memory_line}
+use Rattle.scad_tool.proofs.Answered.{answers_are_there, PromisedOn, answers, done_solids}
+use Rattle.scad_tool.proofs.Judged.{holds_tree, judges, read_fault, write_fault, memory_line}
 use Rattle.scad_tool.proofs.Refused.{leaves, refuses_so}
 use Rattle.scad_tool.proofs.Completed.{completes}
 use Rattle.scad_tool.proofs.run.run.Given.{Over}
@@ -28,78 +34,104 @@ before g c = g.D.Desk.view c.args.desk.now
 abbrev after : (g : Over) → goal.After-report g → View
 after g c = g.D.Desk.view c.report.new.desk
 
+-- what the work has played
+abbrev played : (g : Over) (c : goal.After-report g) → Works (words g c) (files g c) c.work-ended.result (before g c) (g.D.Desk.view c.work-ended.new.desk)
+played g c = c.work-ended.ensures.works
+
 -- what was read of the model
 abbrev input : (g : Over) → goal.After-report g → Option Input
-input g c = c.work-ended.ensures.plays.0
+input g c = (played g c).input
 
--- the work, then the report
-runs : (g : Over) (c : goal.After-report g) → RunsTo (script_of (words g c) (input g c)) c.report.result (before g c) (after g c)
-runs g c = (c.work-ended.result, g.D.Desk.view c.work-ended.new.desk, c.work-ended.ensures.plays.2, c.report.ensures.reports)
+-- a drawing of its tree
+abbrev drawing : (g : Over) → goal.After-report g → Drawing
+drawing g c = (answers_are_there (input g c)).0
 
-promised : (g : Over) (c : goal.After-report g) → Promised (given_by (words g c)) (script_of (words g c) (input g c)) c.report.result (before g c) (after g c)
-promised g c = statuses_keep_promises (given_by (words g c)) (script_of (words g c) (input g c)) c.report.result (before g c) (after g c) (orderly (words g c) (input g c)) c.requires.ready (runs g c)
+-- the script of the run
+abbrev whole : (g : Over) → goal.After-report g → Script
+whole g c = script_of (words g c) (drawing g c) (input g c)
+
+-- with every drawing: the work, then the report
+runs_on : (g : Over) (c : goal.After-report g) (d : Drawing) → IsDrawn (input g c) d → RunsTo (script_of (words g c) d (input g c)) c.report.result (before g c) (after g c)
+runs_on g c d is = (c.work-ended.result, g.D.Desk.view c.work-ended.new.desk, (played g c).plays d is, c.report.ensures.reports)
+
+promised_on : (g : Over) (c : goal.After-report g) → PromisedOn (words g c) (input g c) c.report.result (before g c) (after g c)
+promised_on g c d is =
+    statuses_keep_promises (given_by (words g c)) (script_of (words g c) d (input g c)) c.report.result (before g c) (after g c)
+    (orderly (words g c) d (input g c)) c.requires.ready (runs_on g c d is)
+
+runs : (g : Over) (c : goal.After-report g) → RunsTo (whole g c) c.report.result (before g c) (after g c)
+runs g c = runs_on g c (drawing g c) (answers_are_there (input g c)).1
+
+promised : (g : Over) (c : goal.After-report g) → Promised (given_by (words g c)) (whole g c) c.report.result (before g c) (after g c)
+promised g c = promised_on g c (drawing g c) (answers_are_there (input g c)).1
+
+in_order : (g : Over) (c : goal.After-report g) → IsOrderly (given_by (words g c)) (whole g c)
+in_order g c = orderly (words g c) (drawing g c) (input g c)
+
+-- a property of the run's script
+on_script : (g : Over) (c : goal.After-report g) (Holds : Script → Type 0) → Holds (whole g c) → OnScript (words g c) (files g c) Holds
+on_script g c Holds holds = (input g c, drawing g c, (played g c).read, (answers_are_there (input g c)).1, holds)
 
 pub report-requires : goal.report-requires
 report-requires g c =
     let given = map (string_bytes {Z = Global}) c.args.words.now in
-    let was_read = c.work-ended.ensures.plays.0 in
+    let w = c.work-ended.ensures.works in
+    let drawn = answers_are_there w.input in
     record {
-      sound = λ said. report_sound (given_by given) (script_of given was_read) c.work-ended.result (g.D.Desk.view c.args.desk.now)
-          (g.D.Desk.view c.work-ended.new.desk) (orderly given was_read) c.requires.ready c.work-ended.ensures.plays.2 said;
+      sound = λ said. report_sound (given_by given) (script_of given drawn.0 w.input) c.work-ended.result (g.D.Desk.view c.args.desk.now)
+          (g.D.Desk.view c.work-ended.new.desk) (orderly given drawn.0 w.input) c.requires.ready (w.plays drawn.0 drawn.1) said;
     }
 
+pub returns-clause-runs : goal.returns-clause-runs
+returns-clause-runs g c = on_script g c (λ s. RunsTo s c.report.result (before g c) (after g c)) (runs g c)
+
 pub returns-clause-answer : goal.returns-clause-answer
-returns-clause-answer g c = answers (words g c) (files g c) (input g c) c.report.result (before g c) (after g c) c.work-ended.ensures.plays.1 (promised g c)
+returns-clause-answer g c = answers (words g c) (files g c) (input g c) c.report.result (before g c) (after g c) (played g c).read (promised_on g c)
 
 pub returns-clause-outlines : goal.returns-clause-outlines
-returns-clause-outlines g c = holds_cube (words g c) (files g c) (input g c) c.report.result (before g c) (after g c) c.work-ended.ensures.plays.1 (promised g c)
+returns-clause-outlines g c =
+    holds_tree (words g c) (files g c) (input g c) (drawing g c) c.report.result (before g c) (after g c) (played g c).read
+    (answers_are_there (input g c)).1 (promised g c)
+    (done_solids (words g c) (files g c) c.work-ended.result c.report.result (before g c) (g.D.Desk.view c.work-ended.new.desk) (after g c) (played g c) c.report.ensures.reports)
 
 pub returns-clause-words : goal.returns-clause-words
-returns-clause-words g c = judges (words g c) (input g c) c.report.result (before g c) (after g c) (promised g c)
+returns-clause-words g c = judges (words g c) (drawing g c) (input g c) c.report.result (before g c) (after g c) (promised g c)
 
 pub returns-clause-refusal : goal.returns-clause-refusal
-returns-clause-refusal g c = (
-  input g c,
-  c.work-ended.ensures.plays.1,
-  refuses_so (words g c) (input g c) c.report.result (before g c) (after g c) (runs g c) (promised g c),
-)
+returns-clause-refusal g c =
+    on_script g c (λ s. Refuses s c.report.result (before g c) (after g c))
+    (refuses_so (words g c) (drawing g c) (input g c) c.report.result (before g c) (after g c) (runs g c) (promised g c))
 
 pub returns-clause-leaves : goal.returns-clause-leaves
-returns-clause-leaves g c = leaves (words g c) (input g c) c.report.result (before g c) (after g c) (runs g c)
+returns-clause-leaves g c = leaves (words g c) (drawing g c) (input g c) c.report.result (before g c) (after g c) (runs g c)
 
 pub returns-clause-read_fault : goal.returns-clause-read_fault
-returns-clause-read_fault g c = read_fault (given_by (words g c)) (script_of (words g c) (input g c)) c.report.result (before g c) (after g c) (promised g c)
+returns-clause-read_fault g c = read_fault (given_by (words g c)) (whole g c) c.report.result (before g c) (after g c) (promised g c)
 
 pub returns-clause-write_fault : goal.returns-clause-write_fault
-returns-clause-write_fault g c same = (
-  input g c,
-  c.work-ended.ensures.plays.1,
-  write_fault (given_by (words g c)) (script_of (words g c) (input g c)) c.report.result (before g c) (after g c) (promised g c) same,
-)
+returns-clause-write_fault g c same =
+    on_script g c (λ s. IsWriteFault (given_by (words g c)) s (before g c) (after g c))
+    (write_fault (given_by (words g c)) (whole g c) c.report.result (before g c) (after g c) (promised g c) same)
 
 pub returns-clause-memory : goal.returns-clause-memory
-returns-clause-memory g c same = (
-  input g c,
-  c.work-ended.ensures.plays.1,
-  memory_line (given_by (words g c)) (script_of (words g c) (input g c)) c.report.result (before g c) (after g c) (promised g c) same,
-)
+returns-clause-memory g c same =
+    on_script g c (λ s. IsMemoryLine s (before g c) (after g c))
+    (memory_line (given_by (words g c)) (whole g c) c.report.result (before g c) (after g c) (promised g c) same)
 
 pub returns-clause-complete : goal.returns-clause-complete
 returns-clause-complete g c =
-    completes (words g c) (files g c) (input g c) c.report.result (before g c) (after g c) (g.D.Desk.faults c.args.desk.now)
-    (g.D.Desk.faults c.report.new.desk) c.work-ended.ensures.plays.1 (promised g c) (search rules) (search rules)
+    completes (words g c) (files g c) (drawing g c) (input g c) c.report.result (before g c) (after g c) (g.D.Desk.faults c.args.desk.now)
+    (g.D.Desk.faults c.report.new.desk) (played g c).read (promised g c) (search rules) (search rules)
 
 pub returns-clause-front : goal.returns-clause-front
-returns-clause-front g c = (
-  input g c,
-  c.work-ended.ensures.plays.1,
-  files_are_fronts (given_by (words g c)) (script_of (words g c) (input g c)) c.report.result (before g c) (after g c) (orderly (words g c) (input g c)) c.requires.ready (runs g c),
-)
+returns-clause-front g c =
+    on_script g c (λ s. AreFronts s (before g c) (after g c))
+    (files_are_fronts (given_by (words g c)) (whole g c) c.report.result (before g c) (after g c) (in_order g c) c.requires.ready (runs g c))
 
 pub returns-clause-created : goal.returns-clause-created
 returns-clause-created g c =
-    created_for_bytes (given_by (words g c)) (script_of (words g c) (input g c)) c.report.result (before g c) (after g c) (orderly (words g c) (input g c)) c.requires.ready (runs g c)
+    created_for_bytes (given_by (words g c)) (whole g c) c.report.result (before g c) (after g c) (in_order g c) c.requires.ready (runs g c)
 
 pub returns-clause-names : goal.returns-clause-names
 returns-clause-names g c =
-    names_are_given (given_by (words g c)) (script_of (words g c) (input g c)) c.report.result (before g c) (after g c) (orderly (words g c) (input g c)) c.requires.ready (runs g c)
+    names_are_given (given_by (words g c)) (whole g c) c.report.result (before g c) (after g c) (in_order g c) c.requires.ready (runs g c)

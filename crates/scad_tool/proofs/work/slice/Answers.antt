@@ -1,13 +1,15 @@
-use Rattle.std.proofs.Common.{◌≡◌, rules, [], ◌∷◌}
-use Rattle.scad_io.specs.declared.desk.Out.TheVariants.{Cli}
-use Rattle.scad_script.specs.Steps.{Makes}
-use Rattle.scad_script.specs.Script.{first}
-use Rattle.scad_script.proofs.Layers.{as_left}
-use Rattle.scad_tool.specs.Source.{cube_size}
-use Rattle.scad_tool.specs.Answer.{cube_script, slice_script}
+use Rattle.std.proofs.Common.{rules}
+use Rattle.scad_tree.specs.View.{solid_of}
+use Rattle.scad_slice.specs.Script.{slice_script}
+use Rattle.scad_slice.proofs.Stopping.{stops_all}
+use Rattle.scad_tool.proofs.Telling.{drawing_meant}
 use Rattle.scad_tool.proofs.work.slice.Goals as goal
 
-pub returns-in-Err-clause-completes : goal.returns-in-Err-clause-completes
-returns-in-Err-clause-completes g c whole start left =
-    let same : slice_script c.args.cli.now (cube_size c.args.source.now) ≡ first (Makes Cli c.args.cli.now ∷ []) (cube_script c.in-Some.size) = search rules in
-    c.in-Err.ensures.carries whole _ start (as_left same left)
+pub returns-in_err-tree-clause-completes : goal.returns-in_err-tree-clause-completes
+returns-in_err-tree-clause-completes g c drawing drawn whole start left =
+    stops_all whole _ _ start _ (search rules) (c.in_err-tree.ensures.tells (slice_script c.args.cli.now drawing) whole start left)
+
+pub returns-clause-completes : goal.returns-clause-completes
+returns-clause-completes g c drawing drawn whole start left =
+    c.slice.ensures.completes drawing (drawing_meant c.args.source.now (solid_of c.in_ok-tree.tree) drawing c.in_ok-tree.ensures.means drawn) whole start
+    (c.in_ok-tree.ensures.tells (slice_script c.args.cli.now drawing) whole start left)

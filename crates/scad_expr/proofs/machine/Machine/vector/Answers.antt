@@ -1,12 +1,14 @@
-use Rattle.std.proofs.Common.{subst}
+use Rattle.std.proofs.Common.{ap, ◌∙◌, subst}
 use Rattle.scad_value.specs.Datum.{Datum}
 use Rattle.scad_value.specs.View.{datum_of}
 use Rattle.scad_expr.specs.Answers.{Does}
 use Rattle.scad_expr.specs.Machine.{state_of}
-use Rattle.scad_expr.specs.State.{make}
+use Rattle.scad_expr.specs.State.{Outcome, make}
 use Rattle.scad_expr.proofs.Lists.{vector-data}
 use Rattle.scad_expr.proofs.machine.Machine.vector.Goals as goal
 
 pub returns-clause-does : goal.returns-clause-does
 returns-clause-does c =
-    subst (λ (d : Datum). Does datum_of (make c.args.at d (state_of c.args.self.now)) c.make.result (state_of c.make.new.self)) (vector-data c.args.found) c.make.ensures.does
+    subst (λ (o : Outcome Datum). Does datum_of o c.make.result (state_of c.make.new.self))
+    (ap (λ (d : Datum). make c.args.at d (state_of c.args.self.now)) (vector-data c.in_ok-all.all) ∙ c.in_ok-all.ensures.alike c.args.at (state_of c.args.self.now))
+    c.make.ensures.does

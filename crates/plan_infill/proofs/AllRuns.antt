@@ -1,0 +1,172 @@
+-- The stretches that sorted steps of all sides say are deep are the runs.
+use Rattle.std.proofs.Common.{◌≡◌, ◌≢◌, ◌⊎◌, inl, inr, ℕ, zero, suc, Bool, true, false, not, ◌&&◌, List, [], ◌∷◌, ◌++◌, refl, sym, ap, ap₂, ◌∙◌, subst, arith, flat_map, ℤ, pos, negsuc, ◌+ℤ◌, ◌-ℤ◌, ◌<ℤ◌}
+use lib.Signed.{◌≤ℤ◌}
+use Rattle.std.specs.Prelude.{int_le, if◌then◌else◌, All, Contains}
+use Rattle.std.specs.List.{AllByRecursion}
+use Rattle.std.specs.List.Sorted.{IsPermutation}
+use Rattle.std.proofs.lemmas.Int.{ints}
+use Rattle.std.proofs.lemmas.Bool.{and_parts}
+use Rattle.std.proofs.lemmas.List.Elements.{recursion_from_All, All-from_recursion, All-weaker}
+use Rattle.std.proofs.lemmas.List.Sorted.{All-permutation}
+use Rattle.scad_base.proofs.Lists.{AllByRecursion-append}
+use Rattle.scad_geom.specs.declared.point.Pt.{Pt}
+use Rattle.scad_geom.specs.declared.point.Edge.{Edge}
+use Rattle.scad_geom.specs.Loop.{path, sides}
+use Rattle.scad_geom.specs.Point.{Point, whole}
+use Rattle.scad_geom.specs.Sign.{is_zero}
+use Rattle.scad_geom.specs.Within.{IsWithin, IsEdgeWithin}
+use Rattle.scad_geom.specs.Winding.{counted, is_over, passage_by, wind}
+use Rattle.scad_geom.specs.Segment.{segments}
+use Rattle.scad_geom.proofs.Sums.{sum_z, sum_z-permutation}
+use Rattle.plan_infill.specs.declared.line.Line.{Line}
+use Rattle.plan_infill.specs.declared.line.Line.TheVariants.{Row, Column}
+use Rattle.plan_infill.specs.declared.run.Run.{Run}
+use Rattle.plan_infill.specs.declared.step.Step.{Step}
+use Rattle.plan_infill.specs.Deep.{IsDeep}
+use Rattle.plan_infill.specs.Runs.{point_on, IsRun, AreRuns}
+use Rattle.plan_infill.specs.Steps.{up_to, all_of, turns_before, IsApart, IsStep, AreSteps}
+use Rattle.plan_infill.specs.Sweep.{is_deep_at, IsStretch, AreStretches}
+
+-- ---- sides within a limit
+path_within : (limit : ℕ) (from last : Pt) (ps : List Pt) → IsWithin limit from → IsWithin limit last → AllByRecursion (IsWithin limit) ps → AllByRecursion (IsEdgeWithin limit) (path from ps last)
+path_within limit from last [] a b k = (record { a = a; b = b }, tt)
+path_within limit from last (p ∷ ps) a b k = (record { a = a; b = k.0 }, path_within limit p last ps k.0 b k.1)
+
+sides_within : (limit : ℕ) (l : List Pt) → AllByRecursion (IsWithin limit) l → AllByRecursion (IsEdgeWithin limit) (sides l)
+sides_within limit [] k = tt
+sides_within limit (p ∷ ps) k = path_within limit p p ps k.0 k.0 k.1
+
+all_sides_within : (limit : ℕ) (ls : List (List Pt)) → AllByRecursion (λ l. All (IsWithin limit) l) ls → AllByRecursion (IsEdgeWithin limit) (flat_map sides ls)
+all_sides_within limit [] k = tt
+all_sides_within limit (l ∷ ls) k = AllByRecursion-append (IsEdgeWithin limit) (sides l) (flat_map sides ls) (sides_within limit l (recursion_from_All (IsWithin limit) l k.0)) (all_sides_within limit ls k.1)
+
+pub edges_within : (limit : ℕ) (ls : List (List Pt)) → All (λ l. All (IsWithin limit) l) ls → All (IsEdgeWithin limit) (flat_map sides ls)
+edges_within limit ls k = All-from_recursion (IsEdgeWithin limit) (flat_map sides ls) (all_sides_within limit ls (recursion_from_All (λ l. All (IsWithin limit) l) ls k))
+
+-- ---- far before a line closed outlines don't turn
+over : ℤ → Pt → ℤ
+over y p = counted (is_over true (whole (point_on (Row y) (pos 0))) (whole p))
+
+passage_is : (y : ℤ) (e : Edge) → passage_by true (whole (point_on (Row y) (pos 0))) (whole e.a) (whole e.b) ≡ over y e.b -ℤ over y e.a
+unfolding passage_by over
+passage_is y e = refl
+
+path_before : (y : ℤ) (from : Pt) (ps : List Pt) (last : Pt) (es : List Edge) → turns_before (Row y) (path from ps last ++ es) ≡ (over y last -ℤ over y from) +ℤ turns_before (Row y) es
+path_before y from [] last es = let p = passage_is y (record { a = from; b = last }) in omega (arith, ints, p)
+path_before y from (q ∷ ps) last es = let p = passage_is y (record { a = from; b = q }) in let h = path_before y q ps last es in omega (arith, ints, p, h)
+
+none_before : (line : Line) (ls : List (List Pt)) → turns_before line (flat_map sides ls) ≡ pos 0
+none_before (Row y) [] = refl
+none_before (Row y) ([] ∷ ls) = none_before (Row y) ls
+none_before (Row y) ((p ∷ ps) ∷ ls) = let a = path_before y p ps p (flat_map sides ls) in let h = none_before (Row y) ls in omega (arith, ints, a, h)
+none_before (Column x) ls = by_edges (flat_map sides ls)
+  where
+    by_edges : (es : List Edge) → turns_before (Column x) es ≡ pos 0
+    by_edges [] = refl
+    by_edges (e ∷ es) = let h = by_edges es in omega (arith, ints, h)
+
+-- ---- sorted steps sum to the same
+as_sum : (f : Step → ℤ) (z : ℤ) (ss : List Step) → up_to f z ss ≡ sum_z (λ s. if int_le s.at z then f s else pos 0) ss
+as_sum f z [] = refl
+as_sum f z (s ∷ ss) = ap (λ (x : ℤ). (if int_le s.at z then f s else pos 0) +ℤ x) (as_sum f z ss)
+
+same_up_to : (f : Step → ℤ) (z : ℤ) (xs ys : List Step) → IsPermutation xs ys → up_to f z ys ≡ up_to f z xs
+same_up_to f z xs ys p = as_sum f z ys ∙ sum_z-permutation (λ s. if int_le s.at z then f s else pos 0) xs ys p ∙ sym (as_sum f z xs)
+
+all_as_sum : (f : Step → ℤ) (ss : List Step) → all_of f ss ≡ sum_z f ss
+all_as_sum f [] = refl
+all_as_sum f (s ∷ ss) = ap (λ (x : ℤ). f s +ℤ x) (all_as_sum f ss)
+
+same_all : (f : Step → ℤ) (xs ys : List Step) → IsPermutation xs ys → all_of f ys ≡ all_of f xs
+same_all f xs ys p = all_as_sum f ys ∙ sum_z-permutation f xs ys p ∙ sym (all_as_sum f xs)
+
+-- ---- what the steps say of a point
+zero_true : (z : ℤ) → is_zero z ≡ true → z ≡ pos 0
+zero_true (pos zero) h = refl
+zero_true (pos (suc n)) h = absurd (no h)
+  where
+    no : false ≡ true → ⊥
+    no p = cc
+zero_true (negsuc n) h = absurd (no h)
+  where
+    no : false ≡ true → ⊥
+    no p = cc
+
+not_zero : (z : ℤ) → not (is_zero z) ≡ true → z ≢ pos 0
+not_zero z h e = no (subst (λ (x : ℤ). not (is_zero x) ≡ true) e h)
+  where
+    no : false ≡ true → ⊥
+    no p = cc
+
+is_not_zero : (z : ℤ) → z ≢ pos 0 → not (is_zero z) ≡ true
+is_not_zero (pos zero) h = absurd (h refl)
+is_not_zero (pos (suc n)) h = refl
+is_not_zero (negsuc n) h = refl
+
+true_false : {b : Bool} → b ≡ true → b ≡ false → ⊥
+true_false p q = cc
+
+module _ (c : ℕ) (line : Line) (outlines : List (List Pt)) (steps sorted : List Step) (k : AreSteps c line (flat_map sides outlines) steps) (p : IsPermutation steps sorted) where
+  pub all_steps : All IsStep sorted
+  all_steps = All-permutation IsStep steps sorted p k.each
+
+  pub none_behind : all_of (λ s. s.turns) sorted ≡ pos 0
+  none_behind = let a = same_all (λ s. s.turns) steps sorted p in let b = k.behind in let z = none_before line outlines in omega (arith, ints, a, b, z)
+
+  turns_at : (z : ℤ) → up_to (λ s. s.turns) z sorted ≡ wind (whole (point_on line z)) (segments (flat_map sides outlines))
+  turns_at z = let a = same_up_to (λ s. s.turns) z steps sorted p in let b = k.turns z in let n = none_before line outlines in omega (arith, ints, a, b, n)
+
+  deep_if : (z : ℤ) → is_deep_at sorted z ≡ true → IsDeep outlines c (point_on line z)
+  deep_if z h =
+      let q = and_parts (not (is_zero (up_to (λ s. s.turns) z sorted))) (is_zero (up_to (λ s. s.near) z sorted)) h in
+      record {
+        inside = λ e. not_zero (up_to (λ s. s.turns) z sorted) q.0 (turns_at z ∙ e);
+        apart = by_near (sym (same_up_to (λ s. s.near) z steps sorted p) ∙ zero_true (up_to (λ s. s.near) z sorted) q.1) (k.near z);
+      }
+    where
+      by_near : up_to (λ s. s.near) z steps ≡ pos 0
+          → ((pos 0 <ℤ up_to (λ s. s.near) z steps) × (AllByRecursion (IsApart c line z) (flat_map sides outlines) → ⊥)) ⊎ ((up_to (λ s. s.near) z steps ≡ pos 0) × AllByRecursion (IsApart c line z) (flat_map sides outlines))
+          → All (IsApart c line z) (flat_map sides outlines)
+      by_near e (inl a) = absurd (let b = a.0 in omega (arith, ints, e, b))
+      by_near e (inr a) = All-from_recursion (IsApart c line z) (flat_map sides outlines) a.1
+
+  if_deep : (z : ℤ) → IsDeep outlines c (point_on line z) → is_deep_at sorted z ≡ true
+  if_deep z d =
+      let t = is_not_zero (up_to (λ s. s.turns) z sorted) (λ e. d.inside (sym (turns_at z) ∙ e)) in
+      let n : up_to (λ s. s.near) z sorted ≡ pos 0 = same_up_to (λ s. s.near) z steps sorted p ∙ by_near (k.near z) in
+      rw (t, n) refl
+    where
+      by_near : ((pos 0 <ℤ up_to (λ s. s.near) z steps) × (AllByRecursion (IsApart c line z) (flat_map sides outlines) → ⊥)) ⊎ ((up_to (λ s. s.near) z steps ≡ pos 0) × AllByRecursion (IsApart c line z) (flat_map sides outlines))
+          → up_to (λ s. s.near) z steps ≡ pos 0
+      by_near (inl a) = absurd (a.1 (recursion_from_All (IsApart c line z) (flat_map sides outlines) d.apart))
+      by_near (inr a) = a.0
+
+  not_deep : (z : ℤ) → (IsDeep outlines c (point_on line z) → ⊥) → is_deep_at sorted z ≡ false
+  not_deep z n = by_test (is_deep_at sorted z) refl
+    where
+      by_test : (b : Bool) → is_deep_at sorted z ≡ b → b ≡ false
+      by_test true e = absurd (n (deep_if z e))
+      by_test false e = refl
+
+  run_of : (least : ℕ) (r : Run) → IsStretch (is_deep_at sorted) least r → IsRun outlines c line least r
+  run_of least r s = record {
+    long = s.long;
+    deep = λ z a b. deep_if z (s.holds z a b);
+    before = λ d. true_false (if_deep (r.from -ℤ pos 1) d) s.before;
+    after = λ d. true_false (if_deep (r.to +ℤ pos 1) d) s.after;
+  }
+
+  of_run : (least : ℕ) (r : Run) → IsRun outlines c line least r → IsStretch (is_deep_at sorted) least r
+  of_run least r s = record {
+    long = s.long;
+    holds = λ z a b. if_deep z (s.deep z a b);
+    before = not_deep (r.from -ℤ pos 1) s.before;
+    after = not_deep (r.to +ℤ pos 1) s.after;
+  }
+
+  pub all_runs : (least : ℕ) (rs : List Run) → AreStretches (is_deep_at sorted) least rs → AreRuns outlines c line least rs
+  all_runs least rs s = record {
+    upwards = s.upwards;
+    each = All-weaker (IsStretch (is_deep_at sorted) least) (IsRun outlines c line least) (run_of least) rs s.each;
+    all = λ r i. s.all r (of_run least r i);
+  }

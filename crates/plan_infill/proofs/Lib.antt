@@ -1,0 +1,11 @@
+pub mod Quotients
+pub mod Turning
+pub mod Parts
+pub mod Steps
+pub mod Nearer
+pub mod Reached
+pub mod Ordered
+pub mod Edges
+pub mod Stretches
+pub mod Swept
+pub mod AllRuns

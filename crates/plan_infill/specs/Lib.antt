@@ -1,0 +1,7 @@
+pub mod Deep
+pub mod Runs
+pub mod Quotient
+pub mod Steps
+pub mod Sweep
+pub mod Columns
+pub mod Reach

@@ -1,0 +1,7 @@
+pub mod Arguments
+pub mod Elements
+pub mod Groups
+pub mod Parameters
+pub mod Program
+pub mod Pushes
+pub mod Turns

@@ -1,0 +1,4 @@
+pub mod Opened
+pub mod OpenedStatements
+pub mod Room
+pub mod Statements

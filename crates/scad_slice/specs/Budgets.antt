@@ -1,0 +1,51 @@
+-- The layers of a tree, what is counted of them, and the budgets that they may pass.
+use Rattle.std.specs.Prelude.{ℕ, Option, Some, None, length, nat_lt, if◌then◌else◌}
+use Rattle.scad_fault.specs.declared.budget.Budget.{Budget}
+use Rattle.scad_fault.specs.declared.budget.BudgetKind.TheVariants.{Layers, LayerEdges, LayerCrossings}
+use Rattle.scad_fault.specs.Place.{no_place}
+use Rattle.slice_events.specs.Limits.{crossing_limit}
+use Rattle.slice_events.specs.Levels.{crossings}
+use Rattle.scad_tree.specs.Solid.{Solid}
+use Rattle.scad_tree.specs.Height.{layers}
+use Rattle.scad_tree.specs.Sections.{tree_section}
+
+-- the layer height where no settings are given, in micrometres
+abbrev pub layer_height : ℕ
+layer_height = 200
+
+-- how many layers a tree has
+abbrev pub layer_count : Solid → ℕ
+layer_count tree = layers tree layer_height
+
+-- a tree has at most so many layers
+abbrev pub layer_limit : ℕ
+layer_limit = 20000
+
+-- a layer's section has at most so many edges
+abbrev pub edge_limit : ℕ
+edge_limit = 20000
+
+-- more layers than the limit
+abbrev pub layers_passed : ℕ → Budget
+layers_passed count = record { kind = Layers; at = no_place; layer = 0; count = count }
+
+-- more edges at a layer than the limit
+abbrev pub edges_passed : ℕ → ℕ → Budget
+edges_passed layer count = record { kind = LayerEdges; at = no_place; layer = layer; count = count }
+
+-- more crossings of edges at a layer than the limit
+abbrev pub crossings_passed : ℕ → ℕ → Budget
+crossings_passed layer count = record { kind = LayerCrossings; at = no_place; layer = layer; count = count }
+
+-- the budget that a layer passes whose section has so many edges and crossings; the edges are judged first
+abbrev pub budget_passed : ℕ → ℕ → ℕ → Option Budget
+budget_passed layer edges crossed =
+    if nat_lt edge_limit edges then Some (edges_passed layer edges)
+    else if nat_lt crossing_limit crossed then Some (crossings_passed layer crossed)
+    else None
+
+-- the budget that a layer of a tree passes, if any
+unfoldable pub layer_budget : Solid → ℕ → Option Budget
+layer_budget tree layer =
+    let section = tree_section layer layer_height tree in
+    budget_passed layer (length section) (crossings section)

@@ -1,0 +1,1 @@
+translate([0,0,0.4]) cylinder(h=0.2,r=50,$fn=10001); cube([1,1,2]); translate([0,0,1]) cylinder(h=0.2,r=50,$fn=10002);

@@ -1,0 +1,1 @@
+difference(){translate([0,0,4]) sphere(r=4,$fn=18); translate([0,0,5]) sphere(r=3.5,$fn=18); translate([-5,-5,4]) cube(10);}

@@ -1,0 +1,1 @@
+difference(){cube([20,14,6]); translate([1,1,1]) cube([18,12,6]);}

@@ -1,0 +1,1 @@
+difference(){union(){cube([20,3,10]); cube([20,12,3]);} translate([5,7,-1]) cylinder(h=5,r=2,$fn=16); translate([15,7,-1]) cylinder(h=5,r=2,$fn=16); translate([10,-1,6]) rotate([-90,0,0]) cylinder(h=5,r=2,$fn=16);}

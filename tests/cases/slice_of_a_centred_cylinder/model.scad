@@ -1,0 +1,1 @@
+cylinder(h=3,r=4,center=true,$fn=10);

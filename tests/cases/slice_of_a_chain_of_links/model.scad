@@ -1,0 +1,1 @@
+module link(){difference(){cube([6,4,1]); translate([1,1,-1]) cube([4,2,3]);}} for(i=[0:3]) translate([i*5,0,(i%2)*0.6]) link();

@@ -1,0 +1,1 @@
+difference(){cylinder(h=4,r1=8,r2=3,$fn=14); translate([0,0,-0.1]) cylinder(h=4.2,r1=6,r2=1,$fn=14);}

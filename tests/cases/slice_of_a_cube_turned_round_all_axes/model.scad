@@ -1,0 +1,1 @@
+translate([0,0,4]) rotate([10,20,30]) cube(3,center=true);

@@ -1,0 +1,1 @@
+difference(){cube(10); translate([2,2,-1]) cube([6,6,12]);}

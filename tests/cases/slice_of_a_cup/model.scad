@@ -1,0 +1,1 @@
+difference(){cylinder(h=8,r1=4,r2=6,$fn=24); translate([0,0,1]) cylinder(h=8,r1=3,r2=5.2,$fn=24);}

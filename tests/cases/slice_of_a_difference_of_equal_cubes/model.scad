@@ -1,0 +1,1 @@
+difference(){cube(2); cube(2);}

@@ -1,0 +1,1 @@
+difference(){cube([10,4,0.4]); translate([4,-1,-1]) cube([2,6,3]);}

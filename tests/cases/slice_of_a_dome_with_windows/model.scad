@@ -1,0 +1,1 @@
+difference(){sphere(r=8,$fn=20); sphere(r=7,$fn=20); for(a=[0:60:300]) rotate(a) translate([6,-1,1]) cube([4,2,3]); translate([-10,-10,-10]) cube([20,20,10]);}

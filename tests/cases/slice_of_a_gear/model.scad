@@ -1,0 +1,1 @@
+difference(){union(){cylinder(h=1,r=8,$fn=36); for(i=[0:11]) rotate(i*30) translate([7,-1,0]) cube([3,2,1]);} translate([0,0,-1]) cylinder(h=3,r=2,$fn=18);}

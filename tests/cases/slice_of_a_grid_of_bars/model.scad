@@ -1,0 +1,1 @@
+for(i=[0:4]){translate([i*3,0,0]) cube([1,13,0.4]); translate([0,i*3,0]) cube([13,1,0.4]);}

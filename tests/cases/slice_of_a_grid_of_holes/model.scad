@@ -1,0 +1,1 @@
+difference(){cube([13,13,0.4]); for(x=[0:2],y=[0:2]) translate([1+x*4,1+y*4,-1]) cube([3,3,2]);}

@@ -1,0 +1,1 @@
+cylinder(h=1,r=5,$fn=6);

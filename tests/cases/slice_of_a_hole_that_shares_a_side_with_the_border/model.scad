@@ -1,0 +1,1 @@
+difference(){cube([8,8,0.4]); translate([0,2,-1]) cube([3,3,2]);}

@@ -1,0 +1,1 @@
+translate([0,0,4]) difference(){sphere(r=4,$fn=14); sphere(r=3,$fn=14);}

@@ -1,0 +1,1 @@
+for(i=[0:3],j=[0:3]) translate([i*4,j*4,0]) cylinder(h=3,r=0.7,$fn=8); for(z=[0,2.4]) translate([-1,-1,z]) difference(){cube([14,14,0.6]); translate([1,1,-1]) cube([12,12,3]);}

@@ -1,0 +1,1 @@
+cylinder(h=0.2,r=400,$fn=10000); translate([900,0,0]) cylinder(h=0.2,r=1,$fn=3);

@@ -1,0 +1,1 @@
+translate([0,0,3]) rotate([90,0,0]) cylinder(h=8,r=3,$fn=12);

@@ -1,0 +1,1 @@
+difference(){cylinder(h=1,r=6,$fn=20); translate([0,0,-1]) cylinder(h=3,r=5,$fn=20);}

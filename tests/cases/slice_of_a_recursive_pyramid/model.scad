@@ -1,0 +1,1 @@
+module step(n,s){cube([s,s,0.4]); if(n>0) translate([s/8,s/8,0.4]) step(n-1,s*3/4);} step(5,16);

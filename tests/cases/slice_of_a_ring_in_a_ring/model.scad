@@ -1,0 +1,1 @@
+difference(){cylinder(h=0.4,r=10,$fn=24); translate([0,0,-1]) cylinder(h=2,r=8,$fn=24);} difference(){cylinder(h=0.4,r=6,$fn=24); translate([0,0,-1]) cylinder(h=2,r=4,$fn=24);}

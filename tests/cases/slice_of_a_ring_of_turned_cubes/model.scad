@@ -1,0 +1,1 @@
+for(a=[0:45:315]) rotate(a) translate([6,0,0]) cube([2,2,0.4],center=true);

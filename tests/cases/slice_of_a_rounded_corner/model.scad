@@ -1,0 +1,1 @@
+intersection(){cube(4); sphere(r=4,$fn=20);}

@@ -1,0 +1,1 @@
+translate([0,0,2]) scale([1.5,1,0.5]) sphere(r=4,$fn=12);

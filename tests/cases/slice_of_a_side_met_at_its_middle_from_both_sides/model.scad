@@ -1,0 +1,1 @@
+cube([4,4,0.4]); translate([4,1,0]) cube([1,2,0.4]); translate([3,1,0]) cube([1,2,0.4]);

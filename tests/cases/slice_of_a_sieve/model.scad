@@ -1,0 +1,1 @@
+difference(){cube([17,17,0.6]); for(x=[0:3],y=[0:3]) translate([2.5+x*4,2.5+y*4,-1]) cylinder(h=3,r=1.5,$fn=12);}

@@ -1,0 +1,1 @@
+rotate(0.01) cube([20,5,0.4]); rotate(-0.01) translate([0,-5,0]) cube([20,5,0.4]);

@@ -1,0 +1,1 @@
+translate([0,0,4]) difference(){sphere(r=4,$fn=16); cylinder(h=10,r=1.5,center=true,$fn=12);}

@@ -1,0 +1,1 @@
+for(i=[0:11]) rotate(i*30) translate([3+i*0.5,0,0]) cube([1,1,0.4]);

@@ -1,0 +1,1 @@
+translate([0,0,4]) rotate([30,40,50]) cube(3);

@@ -1,0 +1,1 @@
+for(i=[0:9]) translate([0,0,i*0.4]) rotate(i*9) translate([-3,-3,0]) cube([6,6,0.4]);

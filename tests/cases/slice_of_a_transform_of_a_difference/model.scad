@@ -1,0 +1,1 @@
+translate([5,5,0]) rotate(20) difference(){cube([6,6,0.4]); translate([2,2,-1]) cube([2,2,2]);}

@@ -1,0 +1,1 @@
+union(){cube([4,4,0.4]); translate([2,2,0]) cube([4,4,0.4]);}

@@ -1,0 +1,1 @@
+translate([0,0,3]) intersection(){sphere(r=3,$fn=12); translate([2,0,0]) sphere(r=3,$fn=12);}

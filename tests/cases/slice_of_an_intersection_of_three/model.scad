@@ -1,0 +1,1 @@
+intersection(){cube([6,6,0.4]); translate([1,1,0]) cube([6,6,0.4]); translate([2,0,0]) cube([3,6,0.4]);}

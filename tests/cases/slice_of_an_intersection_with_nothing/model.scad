@@ -1,0 +1,1 @@
+intersection(){cube(1); union(){}}

@@ -1,0 +1,1 @@
+difference(){cube([6,6,0.4]); translate([3,0,-1]) rotate(45) cube([2,2,2]); translate([3,6,-1]) rotate(-135) cube([2,2,2]);}

@@ -1,0 +1,1 @@
+module row(){for(i=[0:$children-1]) translate([i*2,0,0]) children(i);} row(){cube(1); cube(1);}

@@ -1,0 +1,1 @@
+translate([0,0,3]){rotate([90,0,0]) cylinder(h=8,r=2,center=true,$fn=10); rotate([0,90,0]) cylinder(h=8,r=2,center=true,$fn=10);}

@@ -1,0 +1,1 @@
+for(a=[0:30:150]) rotate(a) translate([-5,-0.5,0]) cube([10,1,0.4]);

@@ -1,0 +1,1 @@
+cube([4,4,0.4]); translate([1,4,0]) cube([2,2,0.4]); translate([2,4,0]) cube([3,3,0.4]);

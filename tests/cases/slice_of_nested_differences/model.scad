@@ -1,0 +1,1 @@
+difference(){cube([12,12,0.4]); difference(){translate([2,2,-1]) cube([8,8,2]); translate([4,4,-1]) cube([4,4,2]);}}

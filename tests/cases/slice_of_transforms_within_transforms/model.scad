@@ -1,0 +1,1 @@
+translate([1,0,0]) rotate(15) scale(1.5) translate([2,0,0]) rotate(15) cube([2,1,0.4]);

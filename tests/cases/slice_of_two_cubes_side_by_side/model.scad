@@ -1,0 +1,1 @@
+cube(1); translate([1,0,0]) cube(1);
