@@ -2,6 +2,8 @@ pub mod AssignedNames
 pub mod CallFrames
 pub mod ExampleWords
 pub mod ExamplesCalls
+pub mod ExamplesExtruded
+pub mod ExamplesFlat
 pub mod ExamplesOrder
 pub mod ExamplesPlaced
 pub mod ExamplesRefused
