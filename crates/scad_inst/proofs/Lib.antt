@@ -10,6 +10,7 @@ pub mod ExamplesRefused
 pub mod ExamplesScopes
 pub mod ExamplesTrees
 pub mod FirstFrames
+pub mod FlatRounds
 pub mod Homes
 pub mod Items
 pub mod KeptRound

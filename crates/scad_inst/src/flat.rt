@@ -180,6 +180,7 @@ fn leaf_in<'p>(
 }
 
 /// The leaves of outlines.
+#[tactic(auto, using(crate::proofs::FlatRounds::leaves))]
 pub(crate) fn flat_leaves<'p>(
     alloc: Global,
     at: Place,

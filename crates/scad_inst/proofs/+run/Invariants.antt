@@ -22,6 +22,12 @@ decreases-built_in::built_in l = 2 ^ 67 * (held l.m.now).depth + 2 ^ 66 + 1
 abbrev pub decreases-built_in::echo : goal.decreases-built_in::echo
 decreases-built_in::echo l = 2 ^ 67 * (held l.m.now).depth + 2 ^ 66
 
+abbrev pub decreases-built_in::linear_extrude : goal.decreases-built_in::linear_extrude
+decreases-built_in::linear_extrude l = 2 ^ 67 * (held l.m.now).depth + 2 ^ 66
+
+abbrev pub decreases-built_in::rotate_extrude : goal.decreases-built_in::rotate_extrude
+decreases-built_in::rotate_extrude l = 2 ^ 67 * (held l.m.now).depth + 2 ^ 66
+
 abbrev pub decreases-built_in::transformed : goal.decreases-built_in::transformed
 decreases-built_in::transformed l = 2 ^ 67 * (held l.m.now).depth + 2 ^ 66
 
