@@ -17,7 +17,9 @@ ghost use Rattle.scad_inst.specs.Portions.{primitive_made, flat_made};
 ghost use Rattle.scad_modules.specs.declared.module.Module.TheVariants.{Extrusion as IsExtrusion, Transform as IsTransform, Echo as IsEcho, Assert as IsAssert};
 ghost use Rattle.scad_modules.specs.declared.module.Extrusion.TheVariants.{Linear as IsLinear, Rotate as IsRotate};
 
-use crate::argued::{height_argued, matrix_argued, moved_by, outlines_argued, primitive_argued, resolution_argued};
+use crate::argued::{
+    height_argued, matrix_argued, moved_by, outlines_argued, primitive_argued, resolution_argued,
+};
 use crate::children::children;
 use crate::flat::flat_leaves;
 use crate::leaves::leaf;
@@ -29,7 +31,10 @@ use crate::trees::made;
 use scad_ast::{Args, Scope};
 use scad_expr::{EvalFault, Machine, asserted};
 use scad_fault::{FaultKind, Place};
-use scad_modules::{Extrusion, Fineness, Flat, Module, Shape, Transform, linear_by, matrix_of, outlines_of, primitive_of, turned_by};
+use scad_modules::{
+    Extrusion, Fineness, Flat, Module, Shape, Transform, linear_by, matrix_of, outlines_of,
+    primitive_of, turned_by,
+};
 use scad_tree::Tree;
 use scad_value::Value;
 use std::alloc::Global;

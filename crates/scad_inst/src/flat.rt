@@ -82,12 +82,7 @@ fn judge_sides(alloc: Global, word: Place, ring: &[(Num, Num)]) -> Result<(), Ev
     ensures { (s : State) → Does nothing (judge_sides word ring.now s) result s }
 {
     if crosses_axis(ring) {
-        return Err(named_fault(
-            alloc,
-            FaultKind::BadArgument,
-            word,
-            b"rotate_extrude",
-        ));
+        return Err(named_fault(alloc, FaultKind::BadArgument, word, b"rotate_extrude"));
     }
     Ok(())
 }

@@ -96,12 +96,7 @@ fn node<'p>(
 
 /// One arm for each kind of statement.
 #[cycle(run)]
-fn run<'p>(
-    alloc: Global,
-    w: &Where,
-    stmt: &'p Stmt,
-    m: &mut Machine<'p>,
-) -> Result<Tree, EvalFault>
+fn run<'p>(alloc: Global, w: &Where, stmt: &'p Stmt, m: &mut Machine<'p>) -> Result<Tree, EvalFault>
     ensures does { Does solid_of (node (below_of (held m.old)) w.now (env_in (held m.old))
         (along_in (held m.old)) (body_of stmt.now.at stmt.now.percent stmt.now.hash stmt.now.body)
         (state_of m.old)) result (state_of m.new) }

@@ -3,7 +3,9 @@
 ghost use Rattle.std.specs.Prelude.{◌≡◌};
 ghost use Rattle.scad_ast.specs.View.{arguments};
 ghost use Rattle.scad_value.specs.View.{datum_of, data_of, elements};
-ghost use Rattle.scad_modules.specs.Extrusions.{is_number, is_number_if_given, are_two_ones, is_one_scale, is_one_scale_if_given, isnt_given, extruded_height, height_and_center, is_plain, linear_by, turned_by};
+ghost use Rattle.scad_modules.specs.Extrusions.{is_number, is_number_if_given, are_two_ones, is_one_scale};
+ghost use Rattle.scad_modules.specs.Extrusions.{is_one_scale_if_given, isnt_given, extruded_height};
+ghost use Rattle.scad_modules.specs.Extrusions.{height_and_center, is_plain, linear_by, turned_by};
 ghost use Rattle.scad_modules.specs.View.{datum_in, fine_at};
 
 use crate::argument::taken;

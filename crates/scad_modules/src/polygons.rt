@@ -4,7 +4,9 @@ ghost use Rattle.std.specs.Prelude.{◌≡◌, [], true, length, IfOk, IsTrue};
 ghost use Rattle.std.specs.List.{list_all};
 ghost use Rattle.scad_solid.specs.Solid.{names_points};
 ghost use Rattle.scad_value.specs.View.{datum_of, elements};
-ghost use Rattle.scad_modules.specs.FlatShapes.{pairs_onto, some_pairs, points_at, path_in, paths_onto, some_paths, one_path, begins_with_number, given_paths, whole_path, paths_of, polygon_by};
+ghost use Rattle.scad_modules.specs.FlatShapes.{pairs_onto, some_pairs, points_at, path_in, paths_onto, some_paths};
+ghost use Rattle.scad_modules.specs.FlatShapes.{one_path, begins_with_number, given_paths, whole_path, paths_of};
+ghost use Rattle.scad_modules.specs.FlatShapes.{polygon_by};
 ghost use Rattle.scad_modules.specs.Outline.{is_outline, path};
 ghost use Rattle.scad_modules.specs.Primitive.{is_face};
 ghost use Rattle.scad_modules.specs.View.{datum_in, outline, outlines, Reads};
@@ -123,11 +125,7 @@ fn begins_with_number(all: &[Value]) -> bool
 }
 
 /// A vector of indices, or a vector of such.
-fn given_paths(
-    alloc: Global,
-    points: &[Pair],
-    all: &[Value],
-) -> Result<Vec<Outline>, ArgumentFault>
+fn given_paths(alloc: Global, points: &[Pair], all: &[Value]) -> Result<Vec<Outline>, ArgumentFault>
     ensures reads { Reads (λ v. outlines v.items) (given_paths points.now (elements all.now)) result }
     ensures outlines { IfOk result (λ v. list_all is_outline (outlines v.items) ≡ true) }
 {

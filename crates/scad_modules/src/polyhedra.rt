@@ -88,7 +88,11 @@ fn indices(alloc: Global, limit: usize, all: &[Value]) -> Result<Vec<u32>, Argum
 
 /// Three indices at least.
 #[tactic(auto, using(scad_value::proofs::Rows::counted))]
-pub(crate) fn three_indices(alloc: Global, limit: usize, all: &[Value]) -> Result<Face, ArgumentFault>
+pub(crate) fn three_indices(
+    alloc: Global,
+    limit: usize,
+    all: &[Value],
+) -> Result<Face, ArgumentFault>
     ensures reads { Reads (λ f. f) (three_indices limit (elements all.now)) result }
     ensures face { IfOk result (λ f. is_face limit f ≡ true) }
 {

@@ -4,7 +4,8 @@ ghost use Rattle.std.specs.Prelude.{◌≡◌, ◌≤◌, true, unsigned_abs, ma
 ghost use Rattle.std.specs.List.{list_any};
 ghost use Rattle.scad_num.specs.Number.{most};
 ghost use Rattle.scad_modules.specs.Primitive.{are_fragments};
-ghost use Rattle.scad_modules.specs.Profile.{profile_point, profile_of, is_left, is_right, crosses_axis, farthest, turns_of};
+ghost use Rattle.scad_modules.specs.Profile.{profile_point, profile_of, is_left, is_right, crosses_axis, farthest};
+ghost use Rattle.scad_modules.specs.Profile.{turns_of};
 ghost use Rattle.scad_modules.specs.View.{Reads};
 
 use crate::fault::ArgumentFault;

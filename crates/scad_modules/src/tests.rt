@@ -1,7 +1,7 @@
 use crate::{
-    ArgumentFault, Fineness, Flat, Module, Name, Primitive, Resolution, Shape, Transform, crosses_axis,
-    linear_by, matrix_of, meaning_of, outlines_of, points_in, primitive_of, profile_of, ring_of,
-    solid_of, taken, triangles_of, turned_by, turns_of,
+    ArgumentFault, Fineness, Flat, Module, Name, Primitive, Resolution, Shape, Transform,
+    crosses_axis, linear_by, matrix_of, meaning_of, outlines_of, points_in, primitive_of,
+    profile_of, ring_of, solid_of, taken, triangles_of, turned_by, turns_of,
 };
 use scad_ast::{Arg, Expr, Node};
 use scad_fault::{Place, Text};
@@ -144,10 +144,21 @@ fn arguments_give_heights_and_turns(rt: HostRuntime) -> Result<(), Fail> {
         fa: number(12),
         fs: number(2),
     };
-    assert_eq!(rt; turned_by(&fine, &args, &[value(3), value(1)]), Ok(resolution));
-    let ring = [(number(1), number(0)), (number(2), number(1)), (number(0), number(3))];
+    assert_eq!(rt;
+        turned_by(&fine, &args, &[value(3), value(1)]),
+        Ok(resolution)
+    );
+    let ring = [
+        (number(1), number(0)),
+        (number(2), number(1)),
+        (number(0), number(3)),
+    ];
     let profile = profile_of(alloc, &translate(number(1), number(0), number(9)), &ring)?;
-    let want = [(number(2), number(0)), (number(3), number(1)), (number(1), number(3))];
+    let want = [
+        (number(2), number(0)),
+        (number(3), number(1)),
+        (number(1), number(3)),
+    ];
     assert_eq!(rt; profile.as_slice(), want.as_slice());
     assert_eq!(rt; crosses_axis(&profile), false);
     assert_eq!(rt; turns_of(resolution, &profile), 7);
