@@ -1,5 +1,5 @@
 -- One more leaf of a flat shape, and the end of them, in terms of what all of them give.
-use Rattle.std.proofs.Common.{◌≡◌, ℕ, ◌+◌, ◌<◌, ◌≤◌, true, false, List, [], ◌∷◌, ◌++◌, length, get_or, drop, suc, refl, sym, ap, ◌∙◌, arith}
+use Rattle.std.proofs.Common.{◌≡◌, ℕ, zero, ◌+◌, ◌<◌, ◌≤◌, true, List, [], ◌∷◌, ◌++◌, length, get_or, drop, suc, refl, sym, ap, ◌∙◌, arith}
 use Rattle.std.specs.List.{list_all}
 use Rattle.std.proofs.lemmas.Bool.{and_parts}
 use Rattle.std.proofs.lemmas.List.{drop_more, drop_all}
@@ -24,7 +24,7 @@ next all i o below is = ap outlines (drop_more all i o below) ∙ ap (λ p. outl
 -- it is an outline
 outline-first : (all : List Outline) (o : Outline) (n : ℕ) → n < length all → o ≡ get_or all n o → list_all is_outline (outlines all) ≡ true → is_outline (outline o) ≡ true
 outline-first [] o n below is e = absurd (omega (arith, below))
-outline-first (p ∷ all) o 0 below is e = ap (λ q. is_outline (outline q)) is ∙ (and_parts (is_outline (outline p)) (list_all is_outline (outlines all)) e).0
+outline-first (p ∷ all) o zero below is e = ap (λ q. is_outline (outline q)) is ∙ (and_parts (is_outline (outline p)) (list_all is_outline (outlines all)) e).0
 outline-first (p ∷ all) o (suc n) below is e = outline-first all o n (omega (arith, below)) is (and_parts (is_outline (outline p)) (list_all is_outline (outlines all)) e).1
 
 pub outline-at : (all : List Outline) (n : ℕ) (o : Outline) → n < length all → o ≡ get_or all n o → list_all is_outline (outlines all) ≡ true → is_outline (outline o) ≡ true

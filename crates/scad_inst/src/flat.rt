@@ -152,6 +152,7 @@ fn turned_leaf<'p>(
 }
 
 /// The leaf of an outline.
+#[tactic(auto, unfolding(crate::specs::FlatLeaves::leaf_in, scad_expr::specs::State::fault))]
 fn leaf_in<'p>(
     alloc: Global,
     at: Place,
