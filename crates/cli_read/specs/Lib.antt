@@ -1,4 +1,0 @@
-pub mod Form
-pub mod Laws
-pub mod Reading
-pub mod View
