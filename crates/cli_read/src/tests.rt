@@ -120,9 +120,9 @@ fn told(alloc: Global, answer: &Result<Cli, CliFault>) -> Result<String, AllocEr
     match answer {
         Ok(cli) => {
             let layers = cli.layers.as_slice();
-            let mut outlines = 0;
+            let mut outlines: u64 = 0;
             for layer in layers {
-                outlines += layer.loops.as_slice().len() as u64;
+                outlines = outlines.wrapping_add(layer.loops.as_slice().len() as u64);
             }
             format!(in alloc; "{} layers, {} outlines", layers.len(), outlines)
         }
@@ -158,17 +158,19 @@ fn square(alloc: Global, low: i32, high: i32) -> Result<Loop, AllocError> {
     Ok(Loop::from_vec(Vec::from_slice(alloc, &corners)?))
 }
 
-/// A square frame in fifty layers of 0.2 mm.
-fn frame(alloc: Global) -> Result<Vec<u8>, AllocError> {
+/// A square frame in so many layers of 0.2 mm.
+fn frame(alloc: Global, layers: u32) -> Result<Vec<u8>, AllocError> {
     let mut hole = Vec::new(alloc);
     for (x, y) in [(2000, 2000), (2000, 8000), (8000, 8000), (8000, 2000)] {
         hole.push(Pt { x, y })?;
     }
     let loops = vec![in alloc; square(alloc, 0, 10000)?, Loop::from_vec(hole)]?;
     let mut out = Vec::new(alloc);
-    write_head(&mut out, 50)?;
-    for layer in 1..=50u32 {
-        write_layer(&mut out, layer * 200, &loops)?;
+    write_head(&mut out, layers)?;
+    let mut z: u32 = 0;
+    for _ in 0..layers {
+        z = z.wrapping_add(200);
+        write_layer(&mut out, z, &loops)?;
     }
     write_end(&mut out)?;
     Ok(out)
@@ -176,7 +178,7 @@ fn frame(alloc: Global) -> Result<Vec<u8>, AllocError> {
 
 #[test]
 fn what_was_written(rt: HostRuntime) -> Result<(), Fail> {
-    let text = frame(rt.alloc())?;
+    let text = frame(rt.alloc(), 50)?;
     let Ok(cli) = read(rt.alloc(), &text) else {
         return Err(Fail::new("the text was written so"));
     };
@@ -199,7 +201,7 @@ fn what_was_written(rt: HostRuntime) -> Result<(), Fail> {
 
 #[test]
 fn fronts_of_what_was_written(rt: HostRuntime) -> Result<(), Fail> {
-    let text = frame(rt.alloc())?;
+    let text = frame(rt.alloc(), 4)?;
     let whole = text.len() - 1;
     for len in 0..whole {
         let refused = matches!(
@@ -214,7 +216,7 @@ fn fronts_of_what_was_written(rt: HostRuntime) -> Result<(), Fail> {
 
 /// The frame's text with other bytes from a place on.
 fn changed(alloc: Global, old: &str, new: &str) -> Result<Vec<u8>, Fail> {
-    let text = frame(alloc)?;
+    let text = frame(alloc, 50)?;
     let text = std::str::from_utf8(&text).map_err(|_| Fail::new("ASCII was written"))?;
     let (front, behind) = text.split_once(old).ok_or("the text has it")?;
     let mut out = Vec::from_slice(alloc, front.as_bytes())?;
