@@ -1,5 +1,5 @@
 -- Worked examples of extruded shapes, each under its source. Expected values come from an independent program.
-use Rattle.std.proofs.Common.{◌≡◌, pos, negsuc, true, [], ◌∷◌, Some, None, refl}
+use Rattle.std.proofs.Common.{◌≡◌, pos, negsuc, true, false, [], ◌∷◌, Some, None, refl}
 use Rattle.std.specs.Prelude.{codes}
 use Rattle.scad_ast.specs.declared.operator.UnOp.TheVariants.{Minus}
 use Rattle.scad_ast.specs.Tree.{no_arguments, argument, no_elements, element, item, no_items, entry, call_of}

@@ -42,9 +42,9 @@ use Rattle.scad_inst.specs.FlatLeaves.{flat_leaves}
 use Rattle.scad_inst.specs.Made.{leaf, argued, placed_by, judge_solid, judge_flat, judged}
 use Rattle.scad_inst.specs.Modules.{Found, module_named, kept_children}
 use Rattle.scad_inst.specs.Scopes.{item_place, is_marked, item_at}
-use Rattle.scad_inst.specs.declared.space.Space.TheVariants.{Linear as InLinear, Turned as InTurned}
+use Rattle.scad_inst.specs.declared.space.Space.TheVariants.{Turned as InTurned}
 use Rattle.scad_inst.specs.declared.space.Where.{Where}
-use Rattle.scad_inst.specs.Where.{at_first, moved, stands, turned_at}
+use Rattle.scad_inst.specs.Where.{at_first, moved, stands, inside_linear, turned_at}
 
 -- ---- what stands one deeper
 pub record Below : Type 0 where
@@ -197,7 +197,7 @@ module _ (below : Below) where
   built_in (Extrusion Linear) at name w env along args found all = do
     judge_solid at w.space
     h ← argued at name (linear_by args found)
-    combined Unite at (stands w.whole (InLinear h.0 h.1)) all env along
+    combined Unite at (inside_linear w.whole h) all env along
   -- `rotate_extrude`: likewise; its turns are judged before the children run
   built_in (Extrusion Rotate) at name w env along args found all = do
     judge_solid at w.space

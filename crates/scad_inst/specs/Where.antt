@@ -1,6 +1,6 @@
 -- Where a statement's shapes stand: the matrix that places them, and whether they are solids or flat (OpenSCAD
 -- User Manual, "Transformations", "2D to 3D Extrusion").
-use Rattle.std.specs.Prelude.{Result, Ok, pos}
+use Rattle.std.specs.Prelude.{ℤ, Bool, Result, Ok, pos}
 use Rattle.scad_base.specs.Results.{and_then}
 use Rattle.scad_fault.specs.declared.place.Place.{Place}
 use Rattle.scad_matrix.specs.declared.matrix.Matrix.{Matrix}
@@ -27,6 +27,10 @@ at_first = stands unmoved Solid
 -- inside a `rotate_extrude` at a place, whose profile isn't moved yet
 abbrev pub turned_at : Place → Resolution → Turning
 turned_at word resolution = record { profile = unmoved; word = word; resolution = resolution }
+
+-- inside a `linear_extrude` of this height, centred or not
+unfoldable pub inside_linear : Matrix → ℤ × Bool → Where
+inside_linear whole h = stands whole (Linear h.0 h.1)
 
 abbrev pub turned_profile : Turning → Matrix → Turning
 turned_profile t profile = record { profile = profile; word = t.word; resolution = t.resolution }

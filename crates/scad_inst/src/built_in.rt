@@ -26,7 +26,7 @@ use crate::leaves::leaf;
 use crate::members::combined;
 use crate::operation::Operation;
 use crate::refused::fault;
-use crate::space::{Space, Where, turned_at};
+use crate::space::{Space, Where, inside_linear, turned_at};
 use crate::trees::made;
 use scad_ast::{Args, Scope};
 use scad_expr::{EvalFault, Machine, asserted};
@@ -190,11 +190,8 @@ fn linear_extrude<'p>(
     ensures kept { OnOk result (held m.new ≡ held m.old) }
 {
     judge_solid(alloc, at, w.space)?;
-    let (height, center) = height_argued(alloc, at, name, linear_by(args, found))?;
-    let inner = Where {
-        whole: w.whole,
-        space: Space::Linear(height, center),
-    };
+    let height = height_argued(alloc, at, name, linear_by(args, found))?;
+    let inner = inside_linear(&w.whole, height);
     combined(alloc, Operation::Unite, at, &inner, all, m)
 }
 

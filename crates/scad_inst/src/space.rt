@@ -1,7 +1,7 @@
 //! Where a statement's shapes stand.
 
 ghost use Rattle.std.specs.Prelude.{◌≡◌};
-ghost use Rattle.scad_inst.specs.Where.{unmoved, at_first, moved, moved_in, turned_at};
+ghost use Rattle.scad_inst.specs.Where.{unmoved, at_first, inside_linear, moved, moved_in, turned_at};
 
 use scad_fault::Place;
 use scad_matrix::{Matrix, MatrixFault, translate};
@@ -51,6 +51,17 @@ pub(crate) fn at_first() -> Where
     Where {
         whole: unmoved(),
         space: Space::Solid,
+    }
+}
+
+/// Inside a `linear_extrude` of this height, centred or not.
+#[tactic(auto, unfolding(crate::specs::Where::inside_linear))]
+pub(crate) fn inside_linear(whole: &Matrix, height: (Num, bool)) -> Where
+    ensures { result ≡ inside_linear whole.now height }
+{
+    Where {
+        whole: *whole,
+        space: Space::Linear(height.0, height.1),
     }
 }
 
