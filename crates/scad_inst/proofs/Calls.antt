@@ -13,7 +13,7 @@ use Rattle.scad_expr.specs.Meaning.{bound}
 use Rattle.scad_inst.specs.Modules.{Found}
 use Rattle.scad_inst.specs.Opened.{call_opened}
 use Rattle.scad_inst.specs.Portions.{called_with, own_opened}
-use Rattle.scad_inst.specs.Where.{Where}
+use Rattle.scad_inst.specs.declared.space.Where.{Where}
 use Rattle.scad_inst.proofs.Levels.{expressions-are}
 use Rattle.scad_inst.proofs.MadeTrees.{opened-env, opened-along}
 

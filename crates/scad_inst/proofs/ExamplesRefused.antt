@@ -1,7 +1,7 @@
 -- Worked examples of refused programs, each under its source. Expected values come from an independent program.
 use Rattle.std.proofs.Common.{◌≡◌, pos, false, [], ◌∷◌, Some, None, refl}
 use Rattle.std.specs.Prelude.{codes}
-use Rattle.scad_fault.specs.declared.fault.FaultKind.TheVariants.{LeftOut, UnknownModule, BadArgument, ZeroDivisor, NumberRange, AssertFailed, NotClosed, CoordinateRange, NotBuilt}
+use Rattle.scad_fault.specs.declared.fault.FaultKind.TheVariants.{LeftOut, UnknownModule, BadArgument, ZeroDivisor, NumberRange, AssertFailed, NotClosed, CoordinateRange}
 use Rattle.scad_fault.specs.declared.budget.BudgetKind.TheVariants.{Triangles}
 use Rattle.scad_ast.specs.declared.operator.UnOp.TheVariants.{Minus}
 use Rattle.scad_ast.specs.declared.operator.BinOp.TheVariants.{Div}
@@ -240,18 +240,3 @@ fault_before_children : shown (entry (call_of (at 1) false false (codes "transla
     faulted BadArgument (at 1) (codes "translate") []
 unfolding statements_on_literals
 fault_before_children = refl
-
--- square(1);
-square_isnt_built : shown (entry (call_of (at 1) false false (codes "square") (argument None (number_at
-    (at 8) (pos 1000000)) no_arguments) no_items) no_items) ≡ faulted NotBuilt (at 1) (codes "square")
-    []
-unfolding statements_on_literals
-square_isnt_built = refl
-
--- linear_extrude(v=1) echo(2);
-extrusion_isnt_built : shown (entry (call_of (at 1) false false (codes "linear_extrude") (argument (Some
-    (codes "v")) (number_at (at 18) (pos 1000000)) no_arguments) (entry (call_of (at 21) false false
-    (codes "echo") (argument None (number_at (at 26) (pos 2000000)) no_arguments) no_items) no_items))
-    no_items) ≡ faulted NotBuilt (at 1) (codes "linear_extrude") []
-unfolding statements_on_literals
-extrusion_isnt_built = refl

@@ -20,7 +20,7 @@ use Rattle.scad_inst.specs.Chosen.{child_of, child_named}
 use Rattle.scad_inst.specs.Meaning.{Below, child, children_by}
 use Rattle.scad_inst.specs.Near.{NameAlike, IsNobody, steps, IsReached, IsEnough, IsBehind}
 use Rattle.scad_inst.specs.Scopes.{child_at}
-use Rattle.scad_inst.specs.Where.{Where}
+use Rattle.scad_inst.specs.declared.space.Where.{Where}
 
 -- ---- numbers that name no child
 child_at-past : (all : Items) (n : ℕ) → statements all ≤ n → child_at all n ≡ None

@@ -26,7 +26,7 @@ use Rattle.scad_inst.specs.Frames.{below_of}
 use Rattle.scad_inst.specs.Meaning.{Below, statements_meaning, member, members_from, for_variables, turns, child, children_by}
 use Rattle.scad_inst.specs.Opened.{names_opened}
 use Rattle.scad_inst.specs.Portions.{turn}
-use Rattle.scad_inst.specs.Where.{Where}
+use Rattle.scad_inst.specs.declared.space.Where.{Where}
 use Rattle.scad_inst.proofs.Levels.{expressions-are}
 use Rattle.scad_inst.proofs.ScopeFrames.{depth-left}
 use Rattle.scad_expr.proofs.Homes.{items-drop}

@@ -1,4 +1,5 @@
 pub mod Chosen
+pub mod FlatLeaves
 pub mod Frames
 pub mod Made
 pub mod Meaning

@@ -5,7 +5,7 @@
 -- it, and `below` says what is given there.
 use Rattle.std.specs.Prelude.{ℕ, zero, suc, List, [], ◌∷◌, ◌++◌, Option, Some, None, if◌then◌else◌, codes}
 use Rattle.scad_fault.specs.declared.place.Place.{Place}
-use Rattle.scad_fault.specs.declared.fault.FaultKind.TheVariants.{LeftOut as IsLeftOut, UnknownModule, NotBuilt}
+use Rattle.scad_fault.specs.declared.fault.FaultKind.TheVariants.{LeftOut as IsLeftOut, UnknownModule}
 use Rattle.scad_fault.specs.declared.budget.BudgetKind.TheVariants.{Depth}
 use Rattle.scad_ast.specs.Tree.{Expression, Arguments, no_arguments, argument, Items, no_items, entry, Item, assignment, call_of, choice}
 use Rattle.scad_value.specs.Datum.{Datum, undef}
@@ -21,12 +21,15 @@ use Rattle.scad_expr.specs.Printed.{echo_line}
 use Rattle.scad_expr.specs.Meaning.{meaning, values, bound, bound_in_order, asserted, judge_named, judge_variables, Opened}
 use Rattle.scad_expr.specs.Meaning.{Below as Expressions}
 use Rattle.scad_tree.specs.Solid.{Solid, nothing}
-use Rattle.scad_tree.specs.Normal.{united}
+use Rattle.scad_tree.specs.Normal.{united, subtracted}
 use Rattle.scad_modules.specs.declared.module.Module.{Module}
-use Rattle.scad_modules.specs.declared.module.Module.TheVariants.{Shape, Flat, Transform, Union, Difference, Intersection, Children as ChildrenOf, Echo, Assert}
+use Rattle.scad_modules.specs.declared.module.Module.TheVariants.{Shape, Flat, Extrusion, Transform, Union, Difference, Intersection, Children as ChildrenOf, Echo, Assert}
+use Rattle.scad_modules.specs.declared.module.Extrusion.TheVariants.{Linear, Rotate}
 use Rattle.scad_modules.specs.declared.module.Name.{Name}
 use Rattle.scad_modules.specs.declared.module.Name.TheVariants.{Known, For, IntersectionFor, Let, LeftOut, Unknown}
 use Rattle.scad_modules.specs.Arguments.{taken}
+use Rattle.scad_modules.specs.Extrusions.{linear_by, turned_by}
+use Rattle.scad_modules.specs.FlatShapes.{outlines_of}
 use Rattle.scad_modules.specs.Names.{meaning_of}
 use Rattle.scad_modules.specs.Shapes.{primitive_of}
 use Rattle.scad_modules.specs.Transforms.{matrix_of}
@@ -35,10 +38,13 @@ use Rattle.scad_inst.specs.declared.operation.Operation.TheVariants.{Unite, Inte
 use Rattle.scad_inst.specs.Chosen.{child_named}
 use Rattle.scad_inst.specs.Opened.{scope_opened, names_opened, call_opened, dollars_of, fineness}
 use Rattle.scad_inst.specs.Operation.{operated}
-use Rattle.scad_inst.specs.Made.{leaf, argued, placed_by, judge_solid, judged}
+use Rattle.scad_inst.specs.FlatLeaves.{flat_leaves}
+use Rattle.scad_inst.specs.Made.{leaf, argued, placed_by, judge_solid, judge_flat, judged}
 use Rattle.scad_inst.specs.Modules.{Found, module_named, kept_children}
 use Rattle.scad_inst.specs.Scopes.{item_place, is_marked, item_at}
-use Rattle.scad_inst.specs.Where.{Where, at_first, moved}
+use Rattle.scad_inst.specs.declared.space.Space.TheVariants.{Turned as InTurned}
+use Rattle.scad_inst.specs.declared.space.Where.{Where}
+use Rattle.scad_inst.specs.Where.{at_first, moved, stands, inside_linear, turned_at}
 
 -- ---- what stands one deeper
 pub record Below : Type 0 where
@@ -181,8 +187,22 @@ module _ (below : Below) where
     judge_solid at w.space
     p ← argued at name (primitive_of s (fineness env along) args found)
     leaf at p w.whole
-  -- `square`, `circle`, `polygon`, `linear_extrude`, `rotate_extrude` aren't built yet
-  built_in Flat at name w env along args found all = fault_of NotBuilt at name
+  -- `square`, `circle`, `polygon`: a leaf for each outline, the first without the others; their children aren't run
+  built_in (Flat f) at name w env along args found all = do
+    judge_flat at w.space
+    os ← argued at name (outlines_of f (fineness env along) args found)
+    ss ← flat_leaves at name w os []
+    judged at (subtracted ss)
+  -- `linear_extrude`: the children, flat, united
+  built_in (Extrusion Linear) at name w env along args found all = do
+    judge_solid at w.space
+    h ← argued at name (linear_by args found)
+    combined Unite at (inside_linear w.whole h) all env along
+  -- `rotate_extrude`: likewise; its turns are judged before the children run
+  built_in (Extrusion Rotate) at name w env along args found all = do
+    judge_solid at w.space
+    r ← argued at name (turned_by (fineness env along) args found)
+    combined Unite at (stands w.whole (InTurned (turned_at at r))) all env along
   -- `translate`, `scale`, `rotate`, `mirror`, `multmatrix`: the children, placed by the matrix besides, and united
   built_in (Transform t) at name w env along args found all = do
     m ← argued at name (matrix_of t args found)

@@ -9,14 +9,18 @@ use Rattle.scad_expr.specs.State.{Action, pure, ◌>>=◌, ◌>>◌, step, fault
 use Rattle.scad_expr.specs.Variables.{set, empty}
 use Rattle.scad_expr.specs.Meaning.{values, bound, Opened}
 use Rattle.scad_tree.specs.Solid.{Solid}
+use Rattle.scad_tree.specs.Normal.{subtracted}
+use Rattle.scad_modules.specs.declared.module.Flat.{Flat}
 use Rattle.scad_modules.specs.declared.module.Module.{Module}
 use Rattle.scad_modules.specs.declared.module.Shape.{Shape}
+use Rattle.scad_modules.specs.FlatShapes.{outlines_of}
 use Rattle.scad_modules.specs.Shapes.{primitive_of}
 use Rattle.scad_inst.specs.Meaning.{Below, called_own, called_known}
-use Rattle.scad_inst.specs.Made.{leaf, argued, judge_solid}
+use Rattle.scad_inst.specs.FlatLeaves.{flat_leaves}
+use Rattle.scad_inst.specs.Made.{leaf, argued, judge_solid, judge_flat, judged}
 use Rattle.scad_inst.specs.Modules.{Found}
 use Rattle.scad_inst.specs.Opened.{names_opened, call_opened, fineness}
-use Rattle.scad_inst.specs.Where.{Where}
+use Rattle.scad_inst.specs.declared.space.Where.{Where}
 
 -- one turn of a variable of a `for`: its step, and what runs inside with the name set
 unfoldable pub turn : Place → List ℕ → (Env → Env → List Solid → Action (List Solid)) → Env → Env → Datum → List Solid
@@ -31,6 +35,14 @@ primitive_made s at name w env along args found = do
   judge_solid at w.space
   p ← argued at name (primitive_of s (fineness env along) args found)
   leaf at p w.whole
+
+-- a flat shape by the values of its arguments
+unfoldable pub flat_made : Flat → Place → List ℕ → Where → Env → Env → Arguments → List Datum → Action Solid
+flat_made f at name w env along args found = do
+  judge_flat at w.space
+  os ← argued at name (outlines_of f (fineness env along) args found)
+  ss ← flat_leaves at name w os []
+  judged at (subtracted ss)
 
 module _ (below : Below) where
   -- the frames of a call of a module of the program

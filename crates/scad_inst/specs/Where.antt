@@ -7,42 +7,42 @@ use Rattle.scad_matrix.specs.declared.matrix.Matrix.{Matrix}
 use Rattle.scad_matrix.specs.declared.matrix.MatrixFault.{MatrixFault}
 use Rattle.scad_matrix.specs.Makers.{translation}
 use Rattle.scad_matrix.specs.Matrix.{composed, flattened}
-use Rattle.scad_modules.specs.Shapes.{Fineness}
+use Rattle.scad_modules.specs.declared.fineness.Resolution.{Resolution}
+use Rattle.scad_inst.specs.declared.space.Space.{Space}
+use Rattle.scad_inst.specs.declared.space.Space.TheVariants.{Solid, Linear, Turned}
+use Rattle.scad_inst.specs.declared.space.Turning.{Turning}
+use Rattle.scad_inst.specs.declared.space.Where.{Where}
 
-pub data Space : Type 0 where
-  -- outside of every extrusion, where solids stand
-  solid : Space
-  -- inside `linear_extrude` of a height, centred or not, where flat shapes stand
-  linear : ℤ → Bool → Space
-  -- inside `rotate_extrude`, where flat shapes stand: the matrix that places a profile, the place of that word,
-  -- and the `$fn`, `$fa` and `$fs` of its call
-  turned : Matrix → Place → Fineness → Space
+abbrev pub stands : Matrix → Space → Where
+stands whole space = record { whole = whole; space = space }
 
--- the whole matrix, and the space
-pub record Where : Type 0 where
-  pub whole : Matrix
-  pub space : Space
-
--- a whole matrix outside of every extrusion
-abbrev pub in_space : Matrix → Where
-in_space whole = record { whole = whole; space = solid }
+-- the matrix that moves nothing
+abbrev pub unmoved : Matrix
+unmoved = translation (pos 0) (pos 0) (pos 0)
 
 -- where the statements of a program stand
 abbrev pub at_first : Where
-at_first = in_space (translation (pos 0) (pos 0) (pos 0))
+at_first = stands unmoved Solid
+
+-- inside a `rotate_extrude` at a place, whose profile isn't moved yet
+abbrev pub turned_at : Place → Resolution → Turning
+turned_at word resolution = record { profile = unmoved; word = word; resolution = resolution }
+
+-- inside a `linear_extrude` of this height, centred or not
+unfoldable pub inside_linear : Matrix → ℤ × Bool → Where
+inside_linear whole h = stands whole (Linear h.0 h.1)
+
+abbrev pub turned_profile : Turning → Matrix → Turning
+turned_profile t profile = record { profile = profile; word = t.word; resolution = t.resolution }
 
 -- a transformation by a matrix: the whole matrix times it. Inside `linear_extrude` it acts by its x and y rows and
 -- columns alone; inside `rotate_extrude` matrices so reduced are composed apart from the whole one
 abbrev pub moved_in : Matrix → Matrix → Space → Result Where MatrixFault
-moved_in whole m solid = and_then (composed whole m) (λ product. Ok (in_space product))
-moved_in whole m (linear height center) =
-    and_then (composed whole (flattened m)) (λ product. Ok (record { whole = product; space = linear height center }))
-moved_in whole m (turned profile at fine) =
-    and_then (composed profile (flattened m)) (λ product. Ok (record {
-      whole = whole;
-      space = turned product at
-          fine;
-    }))
+moved_in whole m Solid = and_then (composed whole m) (λ product. Ok (stands product Solid))
+moved_in whole m (Linear height center) =
+    and_then (composed whole (flattened m)) (λ product. Ok (stands product (Linear height center)))
+moved_in whole m (Turned t) =
+    and_then (composed t.profile (flattened m)) (λ product. Ok (stands whole (Turned (turned_profile t product))))
 
 unfoldable pub moved : Where → Matrix → Result Where MatrixFault
 moved w m = moved_in w.whole m w.space

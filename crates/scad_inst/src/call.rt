@@ -14,7 +14,6 @@ ghost use Rattle.scad_inst.specs.Meaning.{node, called};
 ghost use Rattle.scad_inst.specs.Modules.{module_named};
 ghost use Rattle.scad_inst.specs.Portions.{called_with, known_with, refused_with};
 ghost use Rattle.scad_inst.specs.View.{found_at};
-ghost use Rattle.scad_inst.specs.Where.{in_space};
 
 use crate::built_in::built_in;
 use crate::defined::DefinedAt;
@@ -23,11 +22,11 @@ use crate::members::combined;
 use crate::operation::Operation;
 use crate::refused::named_fault;
 use crate::sought::module_named;
+use crate::space::Where;
 use crate::turn::{let_in, looped};
 use scad_ast::{Args, Scope, Stmt};
 use scad_expr::{EvalFault, Machine, values};
 use scad_fault::{FaultKind, Place};
-use scad_matrix::Matrix;
 use scad_modules::{Module, Name, meaning_of};
 use scad_tree::Tree;
 use std::alloc::Global;
@@ -39,12 +38,12 @@ pub(crate) fn call<'p>(
     alloc: Global,
     stmt: &'p Stmt,
     name: &'p [u8],
-    w: &Matrix,
+    w: &Where,
     args: &'p Args,
     all: &'p Scope,
     m: &mut Machine<'p>,
 ) -> Result<Tree, EvalFault>
-    ensures does { Does solid_of (node (below_of (held m.old)) (in_space w.now) (env_in (held m.old))
+    ensures does { Does solid_of (node (below_of (held m.old)) w.now (env_in (held m.old))
         (along_in (held m.old)) (call_of stmt.now.at stmt.now.percent stmt.now.hash name.now
         (arguments args.now.items) (items all.now.items)) (state_of m.old)) result (state_of m.new) }
     ensures kept { OnOk result (held m.new ≡ held m.old) }
@@ -64,7 +63,7 @@ fn called<'p>(
     meaning: Name,
     at: Place,
     name: &'p [u8],
-    w: &Matrix,
+    w: &Where,
     args: &'p Args,
     all: &'p Scope,
     m: &mut Machine<'p>,
@@ -72,7 +71,7 @@ fn called<'p>(
     requires for_ { meaning ≢ For }
     requires let_ { meaning ≢ Let }
     ensures does { Does solid_of (called (below_of (held m.old)) meaning
-        (module_named name.now (env_in (held m.old))) at name.now (in_space w.now) (env_in (held m.old))
+        (module_named name.now (env_in (held m.old))) at name.now w.now (env_in (held m.old))
         (along_in (held m.old)) (arguments args.now.items) (items all.now.items) (state_of m.old)) result
         (state_of m.new) }
     ensures kept { OnOk result (held m.new ≡ held m.old) }
@@ -90,13 +89,13 @@ fn called_own<'p>(
     alloc: Global,
     own: DefinedAt<'p>,
     at: Place,
-    w: &Matrix,
+    w: &Where,
     args: &'p Args,
     all: &'p Scope,
     m: &mut Machine<'p>,
 ) -> Result<Tree, EvalFault>
     requires { own.home < length (held m.old).frames }
-    ensures does { Does solid_of (called_with (below_of (held m.old)) at (in_space w.now) (env_in (held m.old))
+    ensures does { Does solid_of (called_with (below_of (held m.old)) at w.now (env_in (held m.old))
         (along_in (held m.old)) (found_at (envs (held m.old).frames) own.entry) (arguments args.now.items)
         (items all.now.items) (state_of m.old)) result (state_of m.new) }
     ensures kept { OnOk result (held m.new ≡ held m.old) }
@@ -116,12 +115,12 @@ fn called_by<'p>(
     meaning: Name,
     at: Place,
     name: &'p [u8],
-    w: &Matrix,
+    w: &Where,
     args: &'p Args,
     all: &'p Scope,
     m: &mut Machine<'p>,
 ) -> Result<Tree, EvalFault>
-    ensures does { Does solid_of (called (below_of (held m.old)) meaning None at name.now (in_space w.now)
+    ensures does { Does solid_of (called (below_of (held m.old)) meaning None at name.now w.now
         (env_in (held m.old)) (along_in (held m.old)) (arguments args.now.items) (items all.now.items)
         (state_of m.old)) result (state_of m.new) }
     ensures kept { OnOk result (held m.new ≡ held m.old) }
@@ -162,12 +161,12 @@ fn called_known<'p>(
     known: Module,
     at: Place,
     name: &'p [u8],
-    w: &Matrix,
+    w: &Where,
     args: &'p Args,
     all: &'p Scope,
     m: &mut Machine<'p>,
 ) -> Result<Tree, EvalFault>
-    ensures does { Does solid_of (known_with (below_of (held m.old)) known at name.now (in_space w.now)
+    ensures does { Does solid_of (known_with (below_of (held m.old)) known at name.now w.now
         (env_in (held m.old)) (along_in (held m.old)) (arguments args.now.items) (items all.now.items)
         (state_of m.old)) result (state_of m.new) }
     ensures kept { OnOk result (held m.new ≡ held m.old) }

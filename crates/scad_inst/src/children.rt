@@ -18,7 +18,6 @@ ghost use Rattle.scad_inst.specs.Chosen.{child_named};
 ghost use Rattle.scad_inst.specs.Meaning.{child, children_by, chosen, run_children};
 ghost use Rattle.scad_inst.specs.Modules.{kept_children};
 ghost use Rattle.scad_inst.specs.View.{trees_in};
-ghost use Rattle.scad_inst.specs.Where.{in_space};
 
 use crate::chosen::child_named;
 use crate::kept::kept_children;
@@ -26,11 +25,11 @@ use crate::members::{member, members_from};
 use crate::near::near;
 use crate::operation::Operation;
 use crate::scopes::open_scope;
+use crate::space::Where;
 use crate::trees::made;
 use scad_ast::{Args, Item, Scope};
 use scad_expr::{EvalFault, Machine, next_number};
 use scad_fault::Place;
-use scad_matrix::Matrix;
 use scad_modules::taken;
 use scad_num::Num;
 use scad_scope::Kept;
@@ -44,12 +43,12 @@ use std::alloc::Global;
 pub(crate) fn children<'p>(
     alloc: Global,
     at: Place,
-    w: &Matrix,
+    w: &Where,
     args: &'p Args,
     found: &[Value],
     m: &mut Machine<'p>,
 ) -> Result<Tree, EvalFault>
-    ensures does { Does solid_of (run_children (below_of (held m.old)) at (in_space w.now) (along_in (held m.old))
+    ensures does { Does solid_of (run_children (below_of (held m.old)) at w.now (along_in (held m.old))
         (taken (Some 0) (codes "i") (arguments args.now.items) (data_of found.now))
         (kept_children (env_in (held m.old))) (state_of m.old)) result (state_of m.new) }
     ensures kept { OnOk result (held m.new ≡ held m.old) }
@@ -66,12 +65,12 @@ pub(crate) fn children<'p>(
 fn run_children<'p>(
     alloc: Global,
     at: Place,
-    w: &Matrix,
+    w: &Where,
     which: Option<&Value>,
     kept: Kept<'p>,
     m: &mut Machine<'p>,
 ) -> Result<Tree, EvalFault>
-    ensures does { Does solid_of (run_children (below_of (held m.old)) at (in_space w.now) (along_in (held m.old))
+    ensures does { Does solid_of (run_children (below_of (held m.old)) at w.now (along_in (held m.old))
         (datum_in which.entry) (children (items kept.entry.scope.now.items) (env_at (envs (held m.old).frames) kept.entry.home))
         (state_of m.old)) result (state_of m.new) }
     ensures kept { OnOk result (held m.new ≡ held m.old) }
@@ -87,12 +86,12 @@ fn run_children<'p>(
 #[tactic(auto, unfolding(crate::specs::Meaning::chosen))]
 fn chosen<'p>(
     alloc: Global,
-    w: &Matrix,
+    w: &Where,
     which: Option<&Value>,
     scope: &'p Scope,
     m: &mut Machine<'p>,
 ) -> Result<Vec<Tree>, EvalFault>
-    ensures does { Does trees_in (chosen (below_of (held m.old)) (in_space w.now) (env_in (held m.old))
+    ensures does { Does trees_in (chosen (below_of (held m.old)) w.now (env_in (held m.old))
         (along_in (held m.old)) (items scope.now.items) (datum_in which.entry) (state_of m.old)) result
         (state_of m.new) }
     ensures kept { OnOk result (held m.new ≡ held m.old) }
@@ -108,12 +107,12 @@ fn chosen<'p>(
 #[tactic(auto, using(crate::proofs::Rounds::kinds))]
 fn chosen_by<'p>(
     alloc: Global,
-    w: &Matrix,
+    w: &Where,
     value: &Value,
     scope: &'p Scope,
     m: &mut Machine<'p>,
 ) -> Result<Vec<Tree>, EvalFault>
-    ensures does { Does trees_in (children_by (below_of (held m.old)) (in_space w.now) (env_in (held m.old))
+    ensures does { Does trees_in (children_by (below_of (held m.old)) w.now (env_in (held m.old))
         (along_in (held m.old)) (items scope.now.items) (run_over (datum_of value.now)) [] (state_of m.old)) result
         (state_of m.new) }
     ensures kept { OnOk result (held m.new ≡ held m.old) }
@@ -134,12 +133,12 @@ fn chosen_by<'p>(
 #[cycle(run)]
 fn children_by<'p>(
     alloc: Global,
-    w: &Matrix,
+    w: &Where,
     all: &[Value],
     scope: &'p Scope,
     m: &mut Machine<'p>,
 ) -> Result<Vec<Tree>, EvalFault>
-    ensures does { Does trees_in (children_by (below_of (held m.old)) (in_space w.now) (env_in (held m.old))
+    ensures does { Does trees_in (children_by (below_of (held m.old)) w.now (env_in (held m.old))
         (along_in (held m.old)) (items scope.now.items) (data_of all.now) [] (state_of m.old)) result
         (state_of m.new) }
     ensures kept { OnOk result (held m.new ≡ held m.old) }
@@ -155,14 +154,14 @@ fn children_by<'p>(
 #[cycle(run)]
 fn children_in_range<'p>(
     alloc: Global,
-    w: &Matrix,
+    w: &Where,
     start: Num,
     step: Num,
     end: Num,
     scope: &'p Scope,
     m: &mut Machine<'p>,
 ) -> Result<Vec<Tree>, EvalFault>
-    ensures does { Does trees_in (children_by (below_of (held m.old)) (in_space w.now) (env_in (held m.old))
+    ensures does { Does trees_in (children_by (below_of (held m.old)) w.now (env_in (held m.old))
         (along_in (held m.old)) (items scope.now.items) (run_over (range start step end)) [] (state_of m.old)) result
         (state_of m.new) }
     ensures kept { OnOk result (held m.new ≡ held m.old) }
@@ -175,14 +174,14 @@ fn children_in_range<'p>(
 #[cycle(run)]
 fn children_near<'p>(
     alloc: Global,
-    w: &Matrix,
+    w: &Where,
     start: Num,
     step: Num,
     end: Num,
     scope: &'p Scope,
     m: &mut Machine<'p>,
 ) -> Result<Vec<Tree>, EvalFault>
-    ensures does { Does trees_in (children_by (below_of (held m.old)) (in_space w.now) (env_in (held m.old))
+    ensures does { Does trees_in (children_by (below_of (held m.old)) w.now (env_in (held m.old))
         (along_in (held m.old)) (items scope.now.items) (run_over (range start step end)) [] (state_of m.old)) result
         (state_of m.new) }
     ensures kept { OnOk result (held m.new ≡ held m.old) }
@@ -201,13 +200,13 @@ fn children_near<'p>(
 #[tactic(auto, unfolding(crate::specs::Meaning::child))]
 fn child_by<'p>(
     alloc: Global,
-    w: &Matrix,
+    w: &Where,
     value: &Value,
     scope: &'p Scope,
     so_far: Vec<Tree>,
     m: &mut Machine<'p>,
 ) -> Result<Vec<Tree>, EvalFault>
-    ensures does { Does trees_in (child (below_of (held m.old)) (in_space w.now) (env_in (held m.old))
+    ensures does { Does trees_in (child (below_of (held m.old)) w.now (env_in (held m.old))
         (along_in (held m.old)) (child_named (items scope.now.items) (datum_of value.now)) (trees_in so_far)
         (state_of m.old)) result (state_of m.new) }
     ensures kept { OnOk result (held m.new ≡ held m.old) }

@@ -1,8 +1,11 @@
 //! Leaves, with their budgets.
 
-ghost use Rattle.std.specs.Prelude.{◌≡◌, ◌≤◌, true, IfOk};
+ghost use Rattle.std.specs.Prelude.{◌≡◌, ◌<◌, ◌≤◌, true, List, length, Result, IfOk};
+ghost use Rattle.scad_base.specs.Memory.{UnlessMemory};
+ghost use Rattle.scad_solid.specs.declared.triangle.Triangle.{Triangle};
+ghost use Rattle.scad_shapes.specs.Faults.{is_memory};
 ghost use Rattle.scad_modules.specs.Primitive.{is_primitive};
-ghost use Rattle.scad_modules.specs.Primitive.{triangles_of as triangles_in, solid_of as solid_in};
+ghost use Rattle.scad_modules.specs.Primitive.{triangles_of as triangles_in};
 ghost use Rattle.scad_modules.specs.View.{primitive};
 ghost use Rattle.scad_tree.specs.View.{solid_of};
 ghost use Rattle.scad_expr.specs.Answers.{Does, nothing};
@@ -16,17 +19,18 @@ use scad_fault::{BudgetKind, FaultKind, Place};
 use scad_matrix::Matrix;
 use scad_modules::{Primitive, solid_of, triangles_of};
 use scad_shapes::ShapeFault;
+use scad_solid::Triangles;
 use scad_tree::Tree;
 use std::alloc::Global;
 
 /// The most leaves that a program makes.
 const LEAVES: u32 = 4096;
 /// The most triangles of all leaves together.
-const TRIANGLES: u64 = 200_000;
+pub(crate) const TRIANGLES: u64 = 200_000;
 
 /// Counts a leaf.
 #[tactic(auto, unfolding(crate::specs::Made::count_leaf, scad_expr::specs::State::over, scad_expr::specs::Machine::state_of, scad_expr::specs::Machine::held))]
-fn count_leaf<'p>(at: Place, m: &mut Machine<'p>) -> Result<(), EvalFault>
+pub(crate) fn count_leaf<'p>(at: Place, m: &mut Machine<'p>) -> Result<(), EvalFault>
     ensures does { Does nothing (count_leaf at (state_of m.old)) result (state_of m.new) }
     ensures kept { held m.new ≡ held m.old }
 {
@@ -37,16 +41,17 @@ fn count_leaf<'p>(at: Place, m: &mut Machine<'p>) -> Result<(), EvalFault>
     Ok(())
 }
 
-/// Counts the triangles of a leaf.
+/// Counts so many triangles of a leaf, also where they are 2^64 - 1 because they are more.
 #[tactic(auto, unfolding(crate::specs::Made::count_triangles, scad_expr::specs::State::over, scad_expr::specs::Machine::state_of, scad_expr::specs::Machine::held))]
-fn count_triangles<'p>(p: &Primitive, at: Place, m: &mut Machine<'p>) -> Result<(), EvalFault>
-    requires { is_primitive (primitive p.now) ≡ true }
-    ensures does { Does nothing (count_triangles (triangles_in (primitive p.now)) at (state_of m.old)) result
-        (state_of m.new) }
+pub(crate) fn count_triangles<'p>(
+    count: u64,
+    at: Place,
+    m: &mut Machine<'p>,
+) -> Result<(), EvalFault>
+    ensures does { Does nothing (count_triangles count at (state_of m.old)) result (state_of m.new) }
     ensures kept { held m.new ≡ held m.old }
-    ensures few { IfOk result (λ _. triangles_in (primitive p.now) ≤ 200000) }
+    ensures few { IfOk result (λ _. count ≤ 200000) }
 {
-    let count = triangles_of(p);
     if count > TRIANGLES || m.triangles > TRIANGLES - count {
         return Err(over(BudgetKind::Triangles, at));
     }
@@ -54,14 +59,30 @@ fn count_triangles<'p>(p: &Primitive, at: Place, m: &mut Machine<'p>) -> Result<
     Ok(())
 }
 
-/// A placed solid as a tree.
-#[tactic(auto, unfolding(crate::specs::Made::placed, scad_expr::specs::State::fault))]
-fn placed(alloc: Global, at: Place, p: &Primitive, m: &Matrix) -> Result<Tree, EvalFault>
-    requires primitive { is_primitive (primitive p.now) ≡ true }
-    requires few { triangles_in (primitive p.now) ≤ 200000 }
-    ensures { (s : State) → Does solid_of (placed at (solid_in (primitive p.now) m.now) s) result s }
+/// Counts the triangles of a primitive.
+#[tactic(auto, unfolding(crate::specs::Made::count_triangles, scad_expr::specs::State::over))]
+fn count_primitive<'p>(p: &Primitive, at: Place, m: &mut Machine<'p>) -> Result<(), EvalFault>
+    requires { is_primitive (primitive p.now) ≡ true }
+    ensures does { Does nothing (count_triangles (triangles_in (primitive p.now)) at (state_of m.old)) result
+        (state_of m.new) }
+    ensures kept { held m.new ≡ held m.old }
+    ensures few { IfOk result (λ _. triangles_in (primitive p.now) ≤ 200000) }
 {
-    match solid_of(alloc, p, m) {
+    count_triangles(triangles_of(p), at, m)
+}
+
+/// A placed solid as a tree, or why there is none.
+#[tactic(auto, unfolding(crate::specs::Made::placed, scad_expr::specs::State::fault))]
+pub(crate) fn placed(
+    alloc: Global,
+    at: Place,
+    solid: Result<Triangles, ShapeFault>,
+) -> Result<Tree, EvalFault>
+    requires { IfOk solid (λ t. 0 < length t) }
+    ensures { (rule : Result (List Triangle) ShapeFault) (s : State) → UnlessMemory is_memory solid (solid ≡ rule)
+        → Does solid_of (placed at rule s) result s }
+{
+    match solid {
         Ok(triangles) => Ok(Tree::leaf(triangles)),
         Err(ShapeFault::CoordinateRange) => Err(fault(alloc, FaultKind::CoordinateRange, at)),
         Err(ShapeFault::NotClosed) => Err(fault(alloc, FaultKind::NotClosed, at)),
@@ -75,14 +96,14 @@ pub(crate) fn leaf<'p>(
     alloc: Global,
     at: Place,
     p: &Primitive,
-    w: &Matrix,
+    whole: &Matrix,
     m: &mut Machine<'p>,
 ) -> Result<Tree, EvalFault>
     requires { is_primitive (primitive p.now) ≡ true }
-    ensures does { Does solid_of (leaf at (primitive p.now) w.now (state_of m.old)) result (state_of m.new) }
+    ensures does { Does solid_of (leaf at (primitive p.now) whole.now (state_of m.old)) result (state_of m.new) }
     ensures kept { held m.new ≡ held m.old }
 {
     count_leaf(at, m)?;
-    count_triangles(p, at, m)?;
-    placed(alloc, at, p, w)
+    count_primitive(p, at, m)?;
+    placed(alloc, at, solid_of(alloc, p, whole))
 }

@@ -9,18 +9,17 @@ ghost use Rattle.scad_expr.specs.State.{State, gives};
 ghost use Rattle.scad_inst.specs.Frames.{below_of};
 ghost use Rattle.scad_inst.specs.Meaning.{member, members_from, members, combined};
 ghost use Rattle.scad_inst.specs.View.{trees_in};
-ghost use Rattle.scad_inst.specs.Where.{in_space};
 
 use crate::frames::here;
 use crate::item::{is_marked, is_statement};
 use crate::operation::Operation;
 use crate::scopes::open_scope;
+use crate::space::Where;
 use crate::trees::made;
 use crate::walk::statement;
 use scad_ast::{Item, Scope};
 use scad_expr::{EvalFault, Machine};
 use scad_fault::Place;
-use scad_matrix::Matrix;
 use scad_tree::Tree;
 use std::alloc::Global;
 
@@ -29,12 +28,12 @@ use std::alloc::Global;
 #[tactic(auto, unfolding(crate::specs::Meaning::member))]
 pub(crate) fn member<'p>(
     alloc: Global,
-    w: &Matrix,
+    w: &Where,
     item: &'p Item,
     so_far: Vec<Tree>,
     m: &mut Machine<'p>,
 ) -> Result<Vec<Tree>, EvalFault>
-    ensures does { Does trees_in (member (below_of (held m.old)) (in_space w.now) (env_in (held m.old))
+    ensures does { Does trees_in (member (below_of (held m.old)) w.now (env_in (held m.old))
         (along_in (held m.old)) (item_of item.now) (trees_in so_far) (state_of m.old)) result (state_of m.new) }
     ensures kept { OnOk result (held m.new ≡ held m.old) }
 {
@@ -63,11 +62,11 @@ fn with_member(marked: bool, so_far: Vec<Tree>, tree: Tree) -> Result<Vec<Tree>,
 #[cycle(run)]
 pub(crate) fn members_from<'p>(
     alloc: Global,
-    w: &Matrix,
+    w: &Where,
     scope: &'p [Item],
     m: &mut Machine<'p>,
 ) -> Result<Vec<Tree>, EvalFault>
-    ensures does { Does trees_in (members_from (below_of (held m.old)) (in_space w.now) (env_in (held m.old))
+    ensures does { Does trees_in (members_from (below_of (held m.old)) w.now (env_in (held m.old))
         (along_in (held m.old)) (items scope.now) [] (state_of m.old)) result (state_of m.new) }
     ensures kept { OnOk result (held m.new ≡ held m.old) }
 {
@@ -83,11 +82,11 @@ pub(crate) fn members_from<'p>(
 #[tactic(auto, using(crate::proofs::MadeTrees::opened_names), unfolding(crate::specs::Meaning::members))]
 pub(crate) fn members<'p>(
     alloc: Global,
-    w: &Matrix,
+    w: &Where,
     scope: &'p Scope,
     m: &mut Machine<'p>,
 ) -> Result<Vec<Tree>, EvalFault>
-    ensures does { Does trees_in (members (below_of (held m.old)) (in_space w.now) (items scope.now.items)
+    ensures does { Does trees_in (members (below_of (held m.old)) w.now (items scope.now.items)
         (env_in (held m.old)) (along_in (held m.old)) (state_of m.old)) result (state_of m.new) }
     ensures kept { OnOk result (held m.new ≡ held m.old) }
 {
@@ -105,11 +104,11 @@ pub(crate) fn combined<'p>(
     alloc: Global,
     operation: Operation,
     at: Place,
-    w: &Matrix,
+    w: &Where,
     scope: &'p Scope,
     m: &mut Machine<'p>,
 ) -> Result<Tree, EvalFault>
-    ensures does { Does solid_of (combined (below_of (held m.old)) operation at (in_space w.now)
+    ensures does { Does solid_of (combined (below_of (held m.old)) operation at w.now
         (items scope.now.items) (env_in (held m.old)) (along_in (held m.old)) (state_of m.old)) result
         (state_of m.new) }
     ensures kept { OnOk result (held m.new ≡ held m.old) }

@@ -20,10 +20,10 @@ ghost use Rattle.scad_inst.specs.FirstFrames.{outermost};
 
 use crate::answers::{Model, ModelEnd};
 use crate::members::members;
+use crate::space::at_first;
 use scad_ast::Program;
 use scad_expr::{EvalFault, Machine};
 use scad_fault::Text;
-use scad_matrix::translate;
 use scad_num::Num;
 use scad_scope::Frames;
 use scad_tree::{Tree, unite};
@@ -108,9 +108,7 @@ fn tree_of<'p>(alloc: Global, program: &'p Program, m: &mut Machine<'p>) -> Resu
     requires depth { (held m.old).depth ≡ depth_limit }
     ensures { Does solid_of (outcome_of (program_of program.now) (state_of m.old)) result (state_of m.new) }
 {
-    let zero = Num::within(0);
-    let whole = translate(zero, zero, zero);
-    let members = members(alloc, &whole, &program.scope, m)?;
+    let members = members(alloc, &at_first(), &program.scope, m)?;
     Ok(unite(alloc, members)?)
 }
 

@@ -13,16 +13,15 @@ ghost use Rattle.scad_inst.specs.Frames.{below_of};
 ghost use Rattle.scad_inst.specs.Meaning.{for_variables, let_in, looped, turns};
 ghost use Rattle.scad_inst.specs.Portions.{turn};
 ghost use Rattle.scad_inst.specs.View.{trees_in};
-ghost use Rattle.scad_inst.specs.Where.{in_space};
 
 use crate::frames::open_names;
 use crate::members::combined;
 use crate::operation::Operation;
+use crate::space::Where;
 use crate::trees::made;
 use scad_ast::{Arg, Args, Scope};
 use scad_expr::{EvalFault, Machine, eval, items_of, judge_named, judge_variables, next_number};
 use scad_fault::Place;
-use scad_matrix::Matrix;
 use scad_num::Num;
 use scad_tree::Tree;
 use scad_value::Value;
@@ -36,12 +35,12 @@ pub(crate) fn looped<'p>(
     operation: Operation,
     at: Place,
     name: &'p [u8],
-    w: &Matrix,
+    w: &Where,
     args: &'p Args,
     all: &'p Scope,
     m: &mut Machine<'p>,
 ) -> Result<Tree, EvalFault>
-    ensures does { Does solid_of (looped (below_of (held m.old)) operation at name.now (in_space w.now)
+    ensures does { Does solid_of (looped (below_of (held m.old)) operation at name.now w.now
         (env_in (held m.old)) (along_in (held m.old)) (arguments args.now.items) (items all.now.items)
         (state_of m.old)) result (state_of m.new) }
     ensures kept { OnOk result (held m.new ≡ held m.old) }
@@ -57,12 +56,12 @@ pub(crate) fn looped<'p>(
 pub(crate) fn let_in<'p>(
     alloc: Global,
     at: Place,
-    w: &Matrix,
+    w: &Where,
     args: &'p Args,
     all: &'p Scope,
     m: &mut Machine<'p>,
 ) -> Result<Tree, EvalFault>
-    ensures does { Does solid_of (let_in (below_of (held m.old)) at (in_space w.now) (env_in (held m.old))
+    ensures does { Does solid_of (let_in (below_of (held m.old)) at w.now (env_in (held m.old))
         (along_in (held m.old)) (arguments args.now.items) (items all.now.items) (state_of m.old)) result
         (state_of m.new) }
     ensures kept { OnOk result (held m.new ≡ held m.old) }
@@ -80,13 +79,13 @@ pub(crate) fn let_in<'p>(
 fn for_variables<'p>(
     alloc: Global,
     at: Place,
-    w: &Matrix,
+    w: &Where,
     args: &'p [Arg],
     all: &'p Scope,
     so_far: Vec<Tree>,
     m: &mut Machine<'p>,
 ) -> Result<Vec<Tree>, EvalFault>
-    ensures does { Does trees_in (for_variables (below_of (held m.old)) at (in_space w.now) (arguments args.now)
+    ensures does { Does trees_in (for_variables (below_of (held m.old)) at w.now (arguments args.now)
         (items all.now.items) (env_in (held m.old)) (along_in (held m.old)) (trees_in so_far) (state_of m.old))
         result (state_of m.new) }
     ensures kept { OnOk result (held m.new ≡ held m.old) }
@@ -109,12 +108,12 @@ fn for_variables<'p>(
 fn one_turn<'p>(
     alloc: Global,
     at: Place,
-    w: &Matrix,
+    w: &Where,
     all: &'p Scope,
     so_far: Vec<Tree>,
     m: &mut Machine<'p>,
 ) -> Result<Vec<Tree>, EvalFault>
-    ensures does { Does trees_in (for_variables (below_of (held m.old)) at (in_space w.now) (arguments [])
+    ensures does { Does trees_in (for_variables (below_of (held m.old)) at w.now (arguments [])
         (items all.now.items) (env_in (held m.old)) (along_in (held m.old)) (trees_in so_far) (state_of m.old))
         result (state_of m.new) }
     ensures kept { OnOk result (held m.new ≡ held m.old) }
@@ -132,14 +131,14 @@ fn turns<'p>(
     at: Place,
     name: &'p [u8],
     over: Value,
-    w: &Matrix,
+    w: &Where,
     more: &'p [Arg],
     all: &'p Scope,
     so_far: Vec<Tree>,
     m: &mut Machine<'p>,
 ) -> Result<Vec<Tree>, EvalFault>
     ensures does { Does trees_in (turns (below_of (held m.old)) at name.now (for_variables (below_of (held m.old)) at
-        (in_space w.now) (arguments more.now) (items all.now.items)) (env_in (held m.old)) (along_in (held m.old))
+        w.now (arguments more.now) (items all.now.items)) (env_in (held m.old)) (along_in (held m.old))
         (run_over (datum_of over)) (trees_in so_far) (state_of m.old)) result (state_of m.new) }
     ensures kept { OnOk result (held m.new ≡ held m.old) }
 {
@@ -163,14 +162,14 @@ fn turns_in_range<'p>(
     start: Num,
     step: Num,
     end: Num,
-    w: &Matrix,
+    w: &Where,
     more: &'p [Arg],
     all: &'p Scope,
     before: Vec<Tree>,
     m: &mut Machine<'p>,
 ) -> Result<Vec<Tree>, EvalFault>
     ensures does { Does trees_in (turns (below_of (held m.old)) at name.now (for_variables (below_of (held m.old)) at
-        (in_space w.now) (arguments more.now) (items all.now.items)) (env_in (held m.old)) (along_in (held m.old))
+        w.now (arguments more.now) (items all.now.items)) (env_in (held m.old)) (along_in (held m.old))
         (run_over (range start step end)) (trees_in before) (state_of m.old)) result (state_of m.new) }
     ensures kept { OnOk result (held m.new ≡ held m.old) }
 {
@@ -190,14 +189,14 @@ fn turns_over<'p>(
     at: Place,
     name: &'p [u8],
     values: Vec<Value>,
-    w: &Matrix,
+    w: &Where,
     more: &'p [Arg],
     all: &'p Scope,
     before: Vec<Tree>,
     m: &mut Machine<'p>,
 ) -> Result<Vec<Tree>, EvalFault>
     ensures does { Does trees_in (turns (below_of (held m.old)) at name.now (for_variables (below_of (held m.old)) at
-        (in_space w.now) (arguments more.now) (items all.now.items)) (env_in (held m.old)) (along_in (held m.old))
+        w.now (arguments more.now) (items all.now.items)) (env_in (held m.old)) (along_in (held m.old))
         (data_in values) (trees_in before) (state_of m.old)) result (state_of m.new) }
     ensures kept { OnOk result (held m.new ≡ held m.old) }
 {
@@ -216,13 +215,13 @@ fn turn<'p>(
     at: Place,
     name: &'p [u8],
     value: Value,
-    w: &Matrix,
+    w: &Where,
     more: &'p [Arg],
     all: &'p Scope,
     so_far: Vec<Tree>,
     m: &mut Machine<'p>,
 ) -> Result<Vec<Tree>, EvalFault>
-    ensures does { Does trees_in (turn at name.now (for_variables (below_of (held m.old)) at (in_space w.now)
+    ensures does { Does trees_in (turn at name.now (for_variables (below_of (held m.old)) at w.now
         (arguments more.now) (items all.now.items)) (env_in (held m.old)) (along_in (held m.old)) (datum_of value)
         (trees_in so_far) (state_of m.old)) result (state_of m.new) }
     ensures kept { OnOk result (held m.new ≡ held m.old) }

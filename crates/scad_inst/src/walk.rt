@@ -10,7 +10,6 @@ ghost use Rattle.scad_expr.specs.Answers.{Does};
 ghost use Rattle.scad_expr.specs.Machine.{held, env_in, along_in, state_of};
 ghost use Rattle.scad_inst.specs.Frames.{below_of};
 ghost use Rattle.scad_inst.specs.Meaning.{node, statement_layer};
-ghost use Rattle.scad_inst.specs.Where.{in_space};
 
 use crate::call::call;
 use crate::frames::{depth, go_back, go_deeper};
@@ -18,10 +17,10 @@ use crate::item::{is_marked, item_place};
 use crate::members::combined;
 use crate::operation::Operation;
 use crate::refused::over;
+use crate::space::Where;
 use scad_ast::{Expr, Item, Scope, Stmt, StmtBody};
 use scad_expr::{EvalFault, Machine, eval};
 use scad_fault::BudgetKind;
-use scad_matrix::Matrix;
 use scad_tree::Tree;
 use scad_value::truth;
 use std::alloc::Global;
@@ -31,11 +30,11 @@ use std::alloc::Global;
 #[tactic(auto, using(crate::proofs::Levels::levels, crate::proofs::Levels::back), unfolding(scad_expr::specs::State::over))]
 pub(crate) fn statement<'p>(
     alloc: Global,
-    w: &Matrix,
+    w: &Where,
     item: &'p Item,
     m: &mut Machine<'p>,
 ) -> Result<Tree, EvalFault>
-    ensures does { Does solid_of ((below_of (held m.old)).statement (in_space w.now) (env_in (held m.old))
+    ensures does { Does solid_of ((below_of (held m.old)).statement w.now (env_in (held m.old))
         (along_in (held m.old)) (item_of item.now) (state_of m.old)) result (state_of m.new) }
     ensures kept { OnOk result (held m.new ≡ held m.old) }
 {
@@ -54,11 +53,11 @@ pub(crate) fn statement<'p>(
 #[tactic(auto, unfolding(crate::specs::Meaning::statement_layer))]
 fn layer<'p>(
     alloc: Global,
-    w: &Matrix,
+    w: &Where,
     item: &'p Item,
     m: &mut Machine<'p>,
 ) -> Result<Tree, EvalFault>
-    ensures does { Does solid_of (statement_layer (below_of (held m.old)) (in_space w.now) (env_in (held m.old))
+    ensures does { Does solid_of (statement_layer (below_of (held m.old)) w.now (env_in (held m.old))
         (along_in (held m.old)) (item_of item.now) (state_of m.old)) result (state_of m.new) }
     ensures kept { OnOk result (held m.new ≡ held m.old) }
 {
@@ -79,11 +78,11 @@ fn unless_marked(marked: bool, tree: Tree) -> Tree
 #[tactic(auto, using(crate::proofs::Items::kinds), unfolding(crate::specs::Meaning::node))]
 fn node<'p>(
     alloc: Global,
-    w: &Matrix,
+    w: &Where,
     item: &'p Item,
     m: &mut Machine<'p>,
 ) -> Result<Tree, EvalFault>
-    ensures does { Does solid_of (node (below_of (held m.old)) (in_space w.now) (env_in (held m.old))
+    ensures does { Does solid_of (node (below_of (held m.old)) w.now (env_in (held m.old))
         (along_in (held m.old)) (item_of item.now) (state_of m.old)) result (state_of m.new) }
     ensures kept { OnOk result (held m.new ≡ held m.old) }
 {
@@ -97,13 +96,8 @@ fn node<'p>(
 
 /// One arm for each kind of statement.
 #[cycle(run)]
-fn run<'p>(
-    alloc: Global,
-    w: &Matrix,
-    stmt: &'p Stmt,
-    m: &mut Machine<'p>,
-) -> Result<Tree, EvalFault>
-    ensures does { Does solid_of (node (below_of (held m.old)) (in_space w.now) (env_in (held m.old))
+fn run<'p>(alloc: Global, w: &Where, stmt: &'p Stmt, m: &mut Machine<'p>) -> Result<Tree, EvalFault>
+    ensures does { Does solid_of (node (below_of (held m.old)) w.now (env_in (held m.old))
         (along_in (held m.old)) (body_of stmt.now.at stmt.now.percent stmt.now.hash stmt.now.body)
         (state_of m.old)) result (state_of m.new) }
     ensures kept { OnOk result (held m.new ≡ held m.old) }
@@ -120,13 +114,13 @@ fn run<'p>(
 fn choice<'p>(
     alloc: Global,
     stmt: &'p Stmt,
-    w: &Matrix,
+    w: &Where,
     test: &'p Expr,
     held_scope: &'p Scope,
     other: &'p Scope,
     m: &mut Machine<'p>,
 ) -> Result<Tree, EvalFault>
-    ensures does { Does solid_of (node (below_of (held m.old)) (in_space w.now) (env_in (held m.old))
+    ensures does { Does solid_of (node (below_of (held m.old)) w.now (env_in (held m.old))
         (along_in (held m.old)) (choice stmt.now.at stmt.now.percent stmt.now.hash (expression_of test.now)
         (items held_scope.now.items) (items other.now.items)) (state_of m.old)) result (state_of m.new) }
     ensures kept { OnOk result (held m.new ≡ held m.old) }

@@ -2,3 +2,6 @@ pub mod Angles
 pub mod Faces
 pub mod Fragments
 pub mod Onto
+pub mod Outlines
+pub mod Paths
+pub mod Profiles

@@ -5,6 +5,8 @@ use Rattle.scad_value.specs.declared.value.Value.{Value}
 use Rattle.scad_value.specs.View.{datum_of, elements}
 use Rattle.scad_value.proofs.Rows.{elements-drop}
 use Rattle.scad_modules.specs.declared.fault.ArgumentFault.{ArgumentFault}
+use Rattle.scad_modules.specs.FlatShapes.{pair_of, pairs_onto}
+use Rattle.scad_modules.specs.Outline.{Pair}
 use Rattle.scad_modules.specs.Reading.{Triple, point_of, points_onto, index_of, indices_onto, face_of, faces_onto}
 
 -- the next of the points
@@ -17,6 +19,17 @@ points-stops so_far all i v e below is r =
     ap (points_onto so_far) (elements-drop all i v below is) ∙ ap (λ r. and_then r (λ q. points_onto (so_far ++ q ∷ []) (elements (drop (i + 1) all)))) (sym r)
 
 pub ruleset points = (points-goes, points-stops)
+
+-- the next of the points of a polygon
+pub pairs-goes : (so_far : List Pair) (all : List Value) (i : ℕ) (v : Value) (p : Pair) → i < length all → v ≡ get_or all i v → Ok p ≡ pair_of (datum_of v) → pairs_onto (so_far ++ p ∷ []) (elements (drop (i + 1) all)) ≡ pairs_onto so_far (elements (drop i all))
+pairs-goes so_far all i v p below is r =
+    sym (ap (pairs_onto so_far) (elements-drop all i v below is) ∙ ap (λ r. and_then r (λ q. pairs_onto (so_far ++ q ∷ []) (elements (drop (i + 1) all)))) (sym r))
+
+pub pairs-stops : (so_far : List Pair) (all : List Value) (i : ℕ) (v : Value) (e : ArgumentFault) → i < length all → v ≡ get_or all i v → Err e ≡ pair_of (datum_of v) → pairs_onto so_far (elements (drop i all)) ≡ Err e
+pairs-stops so_far all i v e below is r =
+    ap (pairs_onto so_far) (elements-drop all i v below is) ∙ ap (λ r. and_then r (λ q. pairs_onto (so_far ++ q ∷ []) (elements (drop (i + 1) all)))) (sym r)
+
+pub ruleset pairs = (pairs-goes, pairs-stops)
 
 -- the next of the indices
 pub indices-goes : (limit : ℕ) (so_far : List ℕ) (all : List Value) (i : ℕ) (v : Value) (p : ℕ) → i < length all → v ≡ get_or all i v → Ok p ≡ index_of limit (datum_of v) → indices_onto limit (so_far ++ p ∷ []) (elements (drop (i + 1) all)) ≡ indices_onto limit so_far (elements (drop i all))

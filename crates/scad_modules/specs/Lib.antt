@@ -1,6 +1,10 @@
 pub mod Arguments
+pub mod Extrusions
+pub mod FlatShapes
 pub mod Names
+pub mod Outline
 pub mod Primitive
+pub mod Profile
 pub mod Reading
 pub mod Shapes
 pub mod Transforms

@@ -5,9 +5,11 @@ use Rattle.std.specs.Prelude.{ℕ, List, [], ◌∷◌, ◌==◌, if◌then◌el
 use Rattle.std.specs.Option.{option_map_or}
 use Rattle.scad_table.specs.Table.{id_of}
 use Rattle.scad_modules.specs.declared.module.Shape.TheVariants.{Cube, Sphere, Cylinder, Polyhedron}
+use Rattle.scad_modules.specs.declared.module.Flat.TheVariants.{Square, Circle, Polygon}
+use Rattle.scad_modules.specs.declared.module.Extrusion.TheVariants.{Linear, Rotate as RotateExtrude}
 use Rattle.scad_modules.specs.declared.module.Transform.TheVariants.{Translate, Scale, Rotate, Mirror, Multmatrix}
-use Rattle.scad_modules.specs.declared.module.Module.TheVariants.{Shape, Flat, Transform, Union, Difference, Intersection, Children, Echo, Assert}
-use Rattle.scad_modules.specs.declared.id.TheConstants.{CUBE, SPHERE, CYLINDER, POLYHEDRON, FLAT, TRANSLATE, SCALE, ROTATE, MIRROR, MULTMATRIX, UNION, DIFFERENCE, INTERSECTION, FOR, INTERSECTION_FOR, LET, CHILDREN, ECHO, ASSERT, LEFT_OUT}
+use Rattle.scad_modules.specs.declared.module.Module.TheVariants.{Shape, Flat, Extrusion, Transform, Union, Difference, Intersection, Children, Echo, Assert}
+use Rattle.scad_modules.specs.declared.id.TheConstants.{CUBE, SPHERE, CYLINDER, POLYHEDRON, SQUARE, CIRCLE, POLYGON, LINEAR_EXTRUDE, ROTATE_EXTRUDE, TRANSLATE, SCALE, ROTATE, MIRROR, MULTMATRIX, UNION, DIFFERENCE, INTERSECTION, FOR, INTERSECTION_FOR, LET, CHILDREN, ECHO, ASSERT, LEFT_OUT}
 use Rattle.scad_modules.specs.declared.module.Name.{Name}
 use Rattle.scad_modules.specs.declared.module.Name.TheVariants.{Known, For, IntersectionFor, Let, LeftOut, Unknown}
 
@@ -15,16 +17,16 @@ use Rattle.scad_modules.specs.declared.module.Name.TheVariants.{Known, For, Inte
 abbrev pub name_table : List (List ℕ × ℕ)
 name_table =
     (codes "assert", ASSERT) ∷ (codes "assign", LEFT_OUT) ∷ (codes "child", LEFT_OUT)
-    ∷ (codes "children", CHILDREN) ∷ (codes "circle", FLAT) ∷ (codes "color", UNION) ∷ (codes "cube", CUBE)
+    ∷ (codes "children", CHILDREN) ∷ (codes "circle", CIRCLE) ∷ (codes "color", UNION) ∷ (codes "cube", CUBE)
     ∷ (codes "cylinder", CYLINDER) ∷ (codes "difference", DIFFERENCE) ∷ (codes "echo", ECHO)
     ∷ (codes "for", FOR) ∷ (codes "group", UNION) ∷ (codes "hull", LEFT_OUT) ∷ (codes "import", LEFT_OUT)
     ∷ (codes "intersection", INTERSECTION) ∷ (codes "intersection_for", INTERSECTION_FOR)
-    ∷ (codes "let", LET) ∷ (codes "linear_extrude", FLAT) ∷ (codes "minkowski", LEFT_OUT)
+    ∷ (codes "let", LET) ∷ (codes "linear_extrude", LINEAR_EXTRUDE) ∷ (codes "minkowski", LEFT_OUT)
     ∷ (codes "mirror", MIRROR) ∷ (codes "multmatrix", MULTMATRIX) ∷ (codes "offset", LEFT_OUT)
-    ∷ (codes "polygon", FLAT) ∷ (codes "polyhedron", POLYHEDRON) ∷ (codes "projection", LEFT_OUT)
+    ∷ (codes "polygon", POLYGON) ∷ (codes "polyhedron", POLYHEDRON) ∷ (codes "projection", LEFT_OUT)
     ∷ (codes "render", UNION) ∷ (codes "resize", LEFT_OUT) ∷ (codes "rotate", ROTATE)
-    ∷ (codes "rotate_extrude", FLAT) ∷ (codes "scale", SCALE) ∷ (codes "sphere", SPHERE)
-    ∷ (codes "square", FLAT) ∷ (codes "surface", LEFT_OUT) ∷ (codes "text", LEFT_OUT)
+    ∷ (codes "rotate_extrude", ROTATE_EXTRUDE) ∷ (codes "scale", SCALE) ∷ (codes "sphere", SPHERE)
+    ∷ (codes "square", SQUARE) ∷ (codes "surface", LEFT_OUT) ∷ (codes "text", LEFT_OUT)
     ∷ (codes "translate", TRANSLATE) ∷ (codes "union", UNION)
     ∷ []
 
@@ -35,7 +37,11 @@ numbered_name n =
     else (if n == SPHERE then Known (Shape Sphere)
     else (if n == CYLINDER then Known (Shape Cylinder)
     else (if n == POLYHEDRON then Known (Shape Polyhedron)
-    else (if n == FLAT then Known Flat
+    else (if n == SQUARE then Known (Flat Square)
+    else (if n == CIRCLE then Known (Flat Circle)
+    else (if n == POLYGON then Known (Flat Polygon)
+    else (if n == LINEAR_EXTRUDE then Known (Extrusion Linear)
+    else (if n == ROTATE_EXTRUDE then Known (Extrusion RotateExtrude)
     else (if n == TRANSLATE then Known (Transform Translate)
     else (if n == SCALE then Known (Transform Scale)
     else (if n == ROTATE then Known (Transform Rotate)
@@ -51,7 +57,7 @@ numbered_name n =
     else (if n == ECHO then Known Echo
     else (if n == ASSERT then Known Assert
     else (if n == LEFT_OUT then LeftOut
-    else Unknown)))))))))))))))))))
+    else Unknown)))))))))))))))))))))))
 
 -- what a name means where a module is called and the program defines none of this name
 unfoldable pub meaning_of : List ℕ → Name

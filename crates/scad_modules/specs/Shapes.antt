@@ -7,6 +7,7 @@ use Rattle.scad_ast.specs.Tree.{Arguments}
 use Rattle.scad_num.specs.Number.{one}
 use Rattle.scad_cos.specs.Circle.{fragments_of}
 use Rattle.scad_value.specs.Datum.{Datum, undef, boolean, number, string, vector, range}
+use Rattle.scad_modules.specs.declared.fineness.Resolution.{Resolution}
 use Rattle.scad_modules.specs.declared.module.Shape.{Shape}
 use Rattle.scad_modules.specs.declared.module.Shape.TheVariants.{Cube, Sphere, Cylinder, Polyhedron}
 use Rattle.scad_modules.specs.Arguments.{taken}
@@ -19,11 +20,15 @@ pub record Fineness : Type 0 where
   pub fa : Datum
   pub fs : Datum
 
--- the fragments of a circle of this radius; each of the three has to be a number
-abbrev pub fragments : Fineness → ℤ → Read ℕ
-fragments fine radius =
+-- the three numbers; each of the values has to be one
+abbrev pub resolution_of : Fineness → Read Resolution
+resolution_of fine =
     and_then (as_number fine.fn) (λ fn. and_then (as_number fine.fa) (λ fa. and_then (as_number fine.fs)
-    (λ fs. Ok (fragments_of radius fn fa fs))))
+    (λ fs. Ok (record { fn_ = fn; fa = fa; fs = fs }))))
+
+-- the fragments of a circle of this radius
+abbrev pub fragments : Fineness → ℤ → Read ℕ
+fragments fine radius = and_then (resolution_of fine) (λ r. Ok (fragments_of radius r.fn_ r.fa r.fs))
 
 -- each of three sizes
 abbrev pub all_sizes : Triple → Read Triple

@@ -10,6 +10,10 @@ use Rattle.scad_modules.specs.declared.fault.ArgumentFault.TheVariants.{Memory}
 use Rattle.scad_modules.specs.declared.primitive.Primitive.{Primitive}
 use Rattle.scad_modules.specs.declared.primitive.Primitive.TheVariants.{Cube, Sphere, Cylinder, Polyhedron}
 use Rattle.scad_modules.specs.declared.fineness.Fineness.{Fineness}
+use Rattle.scad_modules.specs.declared.outline.Outline.{Outline}
+use Rattle.scad_modules.specs.declared.outline.Outline.TheVariants.{Rectangle, Circle, Path}
+use Rattle.scad_modules.specs.Outline.{square, round, path}
+use Rattle.scad_modules.specs.Outline.{Outline as Flat}
 use Rattle.scad_modules.specs.Primitive.{cube, sphere, cylinder, polyhedron}
 use Rattle.scad_modules.specs.Primitive.{Primitive as Solid}
 use Rattle.scad_modules.specs.Reading.{Read}
@@ -24,6 +28,15 @@ primitive (Cube x y z center) = cube x y z center
 primitive (Sphere r n) = sphere r n
 primitive (Cylinder h bottom top n center) = cylinder h bottom top n center
 primitive (Polyhedron points faces) = polyhedron points.items faces.items
+
+abbrev pub outline : Outline → Flat
+outline (Rectangle x y center) = square x y center
+outline (Circle r n) = round r n
+outline (Path points) = path points.items
+
+-- the outlines that a list holds
+abbrev pub outlines : List Outline → List Flat
+outlines all = map outline all
 
 abbrev pub fine_at : Fineness → FineAt
 fine_at f = record { fn = datum_of f.fn_; fa = datum_of f.fa; fs = datum_of f.fs }

@@ -5,13 +5,18 @@
 #![tactic(auto)]
 
 mod argument;
+mod extrusions;
 mod fault;
 mod fineness;
+mod flat_shape;
 mod id;
 mod module;
 mod name;
+mod outline;
+mod polygons;
 mod polyhedra;
 mod primitive;
+mod profile;
 mod reading;
 mod shape;
 mod solid;
@@ -20,11 +25,15 @@ mod tests;
 mod transform;
 
 pub use argument::taken;
+pub use extrusions::{linear_by, turned_by};
 pub use fault::ArgumentFault;
-pub use fineness::Fineness;
-pub use module::{Module, Name, Shape, Transform};
+pub use fineness::{Fineness, Resolution};
+pub use flat_shape::outlines_of;
+pub use module::{Extrusion, Flat, Module, Name, Shape, Transform};
 pub use name::meaning_of;
+pub use outline::{Outline, points_in, ring_of};
 pub use primitive::Primitive;
+pub use profile::{crosses_axis, profile_of, turns_of};
 pub use shape::primitive_of;
 pub use solid::{solid_of, triangles_of};
 pub use transform::matrix_of;

@@ -9,6 +9,23 @@ pub enum Shape {
     Polyhedron,
 }
 
+/// A flat shape.
+#[derive(Clone, Copy, Debug, PartialEq, Eq)]
+pub enum Flat {
+    Square,
+    Circle,
+    Polygon,
+}
+
+/// A module that makes solids of the flat shapes among its children.
+#[derive(Clone, Copy, Debug, PartialEq, Eq)]
+pub enum Extrusion {
+    /// `linear_extrude`.
+    Linear,
+    /// `rotate_extrude`.
+    Rotate,
+}
+
 /// A module whose children are placed by a further matrix.
 #[derive(Clone, Copy, Debug, PartialEq, Eq)]
 pub enum Transform {
@@ -23,8 +40,8 @@ pub enum Transform {
 #[derive(Clone, Copy, Debug, PartialEq, Eq)]
 pub enum Module {
     Shape(Shape),
-    /// A flat shape or an extrusion.
-    Flat,
+    Flat(Flat),
+    Extrusion(Extrusion),
     Transform(Transform),
     /// `color`, `render`, `group` and `union`.
     Union,

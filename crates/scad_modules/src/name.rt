@@ -5,7 +5,7 @@ ghost use Rattle.scad_table.specs.Table.{entries, ascends};
 ghost use Rattle.scad_modules.specs.Names.{name_table, numbered_name, meaning_of};
 
 use crate::id::*;
-use crate::module::{Module, Name, Shape, Transform};
+use crate::module::{Extrusion, Flat, Module, Name, Shape, Transform};
 use scad_table::{Row, find};
 
 const NAMES: [Row; 36] = [
@@ -27,7 +27,7 @@ const NAMES: [Row; 36] = [
     },
     Row {
         name: "circle",
-        id: FLAT,
+        id: CIRCLE,
     },
     Row {
         name: "color",
@@ -79,7 +79,7 @@ const NAMES: [Row; 36] = [
     },
     Row {
         name: "linear_extrude",
-        id: FLAT,
+        id: LINEAR_EXTRUDE,
     },
     Row {
         name: "minkowski",
@@ -99,7 +99,7 @@ const NAMES: [Row; 36] = [
     },
     Row {
         name: "polygon",
-        id: FLAT,
+        id: POLYGON,
     },
     Row {
         name: "polyhedron",
@@ -123,7 +123,7 @@ const NAMES: [Row; 36] = [
     },
     Row {
         name: "rotate_extrude",
-        id: FLAT,
+        id: ROTATE_EXTRUDE,
     },
     Row {
         name: "scale",
@@ -135,7 +135,7 @@ const NAMES: [Row; 36] = [
     },
     Row {
         name: "square",
-        id: FLAT,
+        id: SQUARE,
     },
     Row {
         name: "surface",
@@ -172,7 +172,11 @@ fn numbered_name(number: u16) -> Name
         SPHERE => Name::Known(Module::Shape(Shape::Sphere)),
         CYLINDER => Name::Known(Module::Shape(Shape::Cylinder)),
         POLYHEDRON => Name::Known(Module::Shape(Shape::Polyhedron)),
-        FLAT => Name::Known(Module::Flat),
+        SQUARE => Name::Known(Module::Flat(Flat::Square)),
+        CIRCLE => Name::Known(Module::Flat(Flat::Circle)),
+        POLYGON => Name::Known(Module::Flat(Flat::Polygon)),
+        LINEAR_EXTRUDE => Name::Known(Module::Extrusion(Extrusion::Linear)),
+        ROTATE_EXTRUDE => Name::Known(Module::Extrusion(Extrusion::Rotate)),
         TRANSLATE => Name::Known(Module::Transform(Transform::Translate)),
         SCALE => Name::Known(Module::Transform(Transform::Scale)),
         ROTATE => Name::Known(Module::Transform(Transform::Rotate)),

@@ -88,7 +88,11 @@ fn indices(alloc: Global, limit: usize, all: &[Value]) -> Result<Vec<u32>, Argum
 
 /// Three indices at least.
 #[tactic(auto, using(scad_value::proofs::Rows::counted))]
-fn three_indices(alloc: Global, limit: usize, all: &[Value]) -> Result<Face, ArgumentFault>
+pub(crate) fn three_indices(
+    alloc: Global,
+    limit: usize,
+    all: &[Value],
+) -> Result<Face, ArgumentFault>
     ensures reads { Reads (λ f. f) (three_indices limit (elements all.now)) result }
     ensures face { IfOk result (λ f. is_face limit f ≡ true) }
 {
@@ -100,7 +104,7 @@ fn three_indices(alloc: Global, limit: usize, all: &[Value]) -> Result<Face, Arg
 }
 
 /// A face over so many points.
-fn face(alloc: Global, limit: usize, value: &Value) -> Result<Face, ArgumentFault>
+pub(crate) fn face(alloc: Global, limit: usize, value: &Value) -> Result<Face, ArgumentFault>
     ensures reads { Reads (λ f. f) (face_of limit (datum_of value.now)) result }
     ensures face { IfOk result (λ f. is_face limit f ≡ true) }
 {

@@ -6,6 +6,7 @@ ghost use Rattle.scad_num.specs.Rounding.{half_away};
 ghost use Rattle.scad_value.specs.View.{datum_of, elements};
 ghost use Rattle.scad_modules.specs.Reading.{as_number, as_vector, if_size, size_of, needed, truth_of, number_at, triple_at};
 ghost use Rattle.scad_modules.specs.Reading.{up_to_three, coordinates, exactly_three, point_of, half_or, radius_or};
+ghost use Rattle.scad_modules.specs.FlatShapes.{pair_at, exactly_two, pair_of};
 ghost use Rattle.scad_modules.specs.View.{datum_in};
 
 use crate::fault::ArgumentFault;
@@ -14,6 +15,9 @@ use scad_value::{Value, truth};
 
 /// A point, or a vector of three coordinates.
 pub(crate) type Triple = (Num, Num, Num);
+
+/// A point, or a vector of two coordinates.
+pub(crate) type Pair = (Num, Num);
 
 pub(crate) fn number(value: &Value) -> Result<Num, ArgumentFault>
     ensures { result ≡ as_number (datum_of value.now) }
@@ -127,6 +131,32 @@ pub(crate) fn point(value: &Value) -> Result<Triple, ArgumentFault>
     ensures { result ≡ point_of (datum_of value.now) }
 {
     exactly_three(vector(value)?)
+}
+
+fn pair_at(all: &[Value]) -> Result<Pair, ArgumentFault>
+    ensures { result ≡ pair_at (elements all.now) }
+{
+    let x = number_at(all, 0, Num::within(0))?;
+    let y = number_at(all, 1, Num::within(0))?;
+    Ok((x, y))
+}
+
+#[tactic(auto, using(scad_value::proofs::Rows::counted))]
+fn exactly_two(all: &[Value]) -> Result<Pair, ArgumentFault>
+    ensures { result ≡ exactly_two (elements all.now) }
+{
+    if all.len() == 2 {
+        pair_at(all)
+    } else {
+        Err(ArgumentFault::BadArgument)
+    }
+}
+
+/// Two numbers.
+pub(crate) fn pair(value: &Value) -> Result<Pair, ArgumentFault>
+    ensures { result ≡ pair_of (datum_of value.now) }
+{
+    exactly_two(vector(value)?)
 }
 
 /// Half of a diameter.

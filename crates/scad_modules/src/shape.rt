@@ -7,13 +7,13 @@ ghost use Rattle.scad_cos.specs.Circle.{fragments_of};
 ghost use Rattle.scad_value.specs.View.{datum_of, data_of};
 ghost use Rattle.scad_modules.specs.Arguments.{taken};
 ghost use Rattle.scad_modules.specs.Primitive.{are_fragments, is_primitive};
-ghost use Rattle.scad_modules.specs.Shapes.{fragments, all_sizes, one_size, three_sizes, given_sizes, sizes, height_of, common_radius, end_radius};
+ghost use Rattle.scad_modules.specs.Shapes.{resolution_of, fragments, all_sizes, one_size, three_sizes, given_sizes, sizes, height_of, common_radius, end_radius};
 ghost use Rattle.scad_modules.specs.Shapes.{cube_by, sphere_by, cylinder_of, cylinder_by, faces_over, polyhedron_by, primitive_of};
 ghost use Rattle.scad_modules.specs.View.{datum_in, fine_at, primitive, Reads};
 
 use crate::argument::taken;
 use crate::fault::ArgumentFault;
-use crate::fineness::Fineness;
+use crate::fineness::{Fineness, Resolution};
 use crate::module::Shape;
 use crate::polyhedra::{some_faces, some_points};
 use crate::primitive::Primitive;
@@ -27,20 +27,27 @@ use std::alloc::Global;
 
 const ONE: i64 = 1_000_000;
 
-/// The fragments of a circle of this radius.
-#[tactic(auto, using(crate::proofs::Fragments::fragments_few))]
-fn fragments(fine: &Fineness, radius: Num) -> Result<u32, ArgumentFault>
-    ensures value { result ≡ fragments (fine_at fine.now) radius }
-    ensures few { IfOk result (λ n. are_fragments n ≡ true) }
+/// The numbers of `$fn`, `$fa` and `$fs`.
+pub(crate) fn resolution_of(fine: &Fineness) -> Result<Resolution, ArgumentFault>
+    ensures { result ≡ resolution_of (fine_at fine.now) }
 {
     let fn_ = number(&fine.fn_)?;
     let fa = number(&fine.fa)?;
     let fs = number(&fine.fs)?;
-    Ok(few_fragments(radius, fn_, fa, fs))
+    Ok(Resolution { fn_, fa, fs })
+}
+
+/// The fragments of a circle of this radius.
+pub(crate) fn fragments(fine: &Fineness, radius: Num) -> Result<u32, ArgumentFault>
+    ensures value { result ≡ fragments (fine_at fine.now) radius }
+    ensures few { IfOk result (λ n. are_fragments n ≡ true) }
+{
+    let r = resolution_of(fine)?;
+    Ok(few_fragments(radius, r.fn_, r.fa, r.fs))
 }
 
 #[tactic(auto, using(crate::proofs::Fragments::fragments_few))]
-fn few_fragments(radius: Num, fn_: Num, fa: Num, fs: Num) -> u32
+pub(crate) fn few_fragments(radius: Num, fn_: Num, fa: Num, fs: Num) -> u32
     ensures value { result ≡ fragments_of radius fn_ fa fs }
     ensures few { are_fragments result ≡ true }
 {
@@ -102,7 +109,7 @@ fn height(given: Option<&Value>) -> Result<Num, ArgumentFault>
 }
 
 /// Half of `d`, else `r`, else 1.
-fn common_radius(d: Option<&Value>, r: Option<&Value>) -> Result<Num, ArgumentFault>
+pub(crate) fn common_radius(d: Option<&Value>, r: Option<&Value>) -> Result<Num, ArgumentFault>
     ensures { result ≡ common_radius (datum_in d.entry) (datum_in r.entry) }
 {
     half_or(d, radius_or(r, Ok(Num::within(ONE))))

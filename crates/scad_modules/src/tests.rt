@@ -1,6 +1,7 @@
 use crate::{
-    ArgumentFault, Fineness, Module, Name, Primitive, Shape, Transform, matrix_of, meaning_of,
-    primitive_of, solid_of, taken, triangles_of,
+    ArgumentFault, Fineness, Flat, Module, Name, Primitive, Resolution, Shape, Transform,
+    crosses_axis, linear_by, matrix_of, meaning_of, outlines_of, points_in, primitive_of,
+    profile_of, ring_of, solid_of, taken, triangles_of, turned_by, turns_of,
 };
 use scad_ast::{Arg, Expr, Node};
 use scad_fault::{Place, Text};
@@ -39,7 +40,7 @@ fn arg(alloc: Global, name: &[u8]) -> Result<Arg, Fail> {
 fn names_have_meanings(rt: HostRuntime) {
     for (name, meaning) in [
         ("cube", Name::Known(Module::Shape(Shape::Cube))),
-        ("square", Name::Known(Module::Flat)),
+        ("square", Name::Known(Module::Flat(Flat::Square))),
         ("render", Name::Known(Module::Union)),
         ("for", Name::For),
         ("hull", Name::LeftOut),
@@ -100,5 +101,66 @@ fn arguments_give_primitives_and_these_solids(rt: HostRuntime) -> Result<(), Fai
     }
     let none = primitive_of(alloc, Shape::Polyhedron, &fine, &args, &[value(3)]);
     assert_eq!(rt; matches!(&none, Err(ArgumentFault::BadArgument)), true);
+    Ok(())
+}
+
+#[test]
+fn arguments_give_outlines_and_their_points(rt: HostRuntime) -> Result<(), Fail> {
+    let alloc = rt.alloc();
+    let args = [arg(alloc, b"")?];
+    let fine = Fineness {
+        fn_: value(5),
+        fa: value(12),
+        fs: value(2),
+    };
+    for (flat, points) in [(Flat::Square, 4), (Flat::Circle, 5)] {
+        let outlines = outlines_of(alloc, flat, &fine, &args, &[value(3)])?;
+        assert_eq!(rt; outlines.len(), 1);
+        for outline in &outlines {
+            assert_eq!(rt; points_in(outline), points);
+            assert_eq!(rt; ring_of(alloc, outline)?.len(), points);
+        }
+    }
+    let none = outlines_of(alloc, Flat::Polygon, &fine, &args, &[value(3)]);
+    assert_eq!(rt; matches!(&none, Err(ArgumentFault::BadArgument)), true);
+    Ok(())
+}
+
+#[test]
+fn arguments_give_heights_and_turns(rt: HostRuntime) -> Result<(), Fail> {
+    let alloc = rt.alloc();
+    let args = [arg(alloc, b"height")?, arg(alloc, b"twist")?];
+    let plain = linear_by(&args, &[value(3), value(0)]);
+    assert_eq!(rt; plain, Ok((number(3), false)));
+    let twisted = linear_by(&args, &[value(3), value(1)]);
+    assert_eq!(rt; twisted, Err(ArgumentFault::LeftOut));
+    let fine = Fineness {
+        fn_: value(7),
+        fa: value(12),
+        fs: value(2),
+    };
+    let resolution = Resolution {
+        fn_: number(7),
+        fa: number(12),
+        fs: number(2),
+    };
+    assert_eq!(rt;
+        turned_by(&fine, &args, &[value(3), value(1)]),
+        Ok(resolution)
+    );
+    let ring = [
+        (number(1), number(0)),
+        (number(2), number(1)),
+        (number(0), number(3)),
+    ];
+    let profile = profile_of(alloc, &translate(number(1), number(0), number(9)), &ring)?;
+    let want = [
+        (number(2), number(0)),
+        (number(3), number(1)),
+        (number(1), number(3)),
+    ];
+    assert_eq!(rt; profile.as_slice(), want.as_slice());
+    assert_eq!(rt; crosses_axis(&profile), false);
+    assert_eq!(rt; turns_of(resolution, &profile), 7);
     Ok(())
 }

@@ -98,7 +98,7 @@ fn refused(rt: HostRuntime) -> Result<(), Fail> {
             "ECHO: 1\nfault 5 UnknownModule at 1:10 foo\n",
         ),
         ("cube(1", "fault 2 Syntax at 1:7\n"),
-        ("square(1);", "fault 15 NotBuilt at 1:1 square\n"),
+        ("square(1);", "fault 11 MixedDimensions at 1:1\n"),
     ] {
         let answer = sliced(&rt, alloc, source, Vec::new(alloc), ROOM)?;
         expect(&rt, &answer, 1, report, source);

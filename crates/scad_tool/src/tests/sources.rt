@@ -1,5 +1,4 @@
-//! What `check` and `tree` tell of sources. The answers come from an independent program, but for the shapes that
-//! aren't built.
+//! What `check` and `tree` tell of sources. The answers come from an independent program.
 use super::{Answer, ROOM, answer_of, expect};
 use std::alloc::{AllocError, Global};
 use std::process::Abort;
@@ -29,8 +28,12 @@ echo(g(1)); ~ 1 ~ fault 6 UnknownFunction at 1:6 g|
 cube(1 ~ 1 ~ fault 2 Syntax at 1:7|
 echo("ab ~ 1 ~ fault 1 BadText at 1:6|
 minkowski(){cube(1); cube(1);} ~ 1 ~ fault 4 LeftOut at 1:1 minkowski|
-square(1); ~ 1 ~ fault 15 NotBuilt at 1:1 square|
-echo(1); linear_extrude(2) square(1); ~ 1 ~ ECHO: 1|fault 15 NotBuilt at 1:10 linear_extrude|"#;
+square(1); ~ 1 ~ fault 11 MixedDimensions at 1:1|
+linear_extrude(height=1) cube(1); ~ 1 ~ fault 11 MixedDimensions at 1:26|
+rotate_extrude() translate([-0.5,0]) square(1); ~ 1 ~ fault 7 BadArgument at 1:1 rotate_extrude|
+rotate_extrude($fn=4) square(1); ~ 0 ~ ok: 1 leaves, 32 triangles, 5 layers|
+rotate_extrude($fn=4) translate([-1,0]) square(1); ~ 0 ~ ok: 1 leaves, 32 triangles, 5 layers|
+echo(1); linear_extrude(2) square(1); ~ 0 ~ ECHO: 1|ok: 1 leaves, 12 triangles, 10 layers|"#;
 
 /// The same for `tree`.
 const SHOWN: &str = r#" ~ 0 ~ empty|

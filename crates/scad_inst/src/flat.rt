@@ -1,0 +1,199 @@
+//! Leaves inside extrusions.
+
+ghost use Rattle.std.specs.Prelude.{◌≡◌, ◌≤◌, ◌-◌, ◌*◌, [], true, length, IfOk};
+ghost use Rattle.std.specs.List.{list_all};
+ghost use Rattle.scad_extrude.specs.Count.{triangles_of as triangles_in};
+ghost use Rattle.scad_extrude.specs.declared.count.FlatForm.TheVariants.{Linear as Prism, Turned as Sweep};
+ghost use Rattle.scad_modules.specs.Outline.{is_outline, points_in as count_of};
+ghost use Rattle.scad_modules.specs.Primitive.{are_fragments};
+ghost use Rattle.scad_modules.specs.View.{outline, outlines};
+ghost use Rattle.scad_tree.specs.View.{solid_of, solids};
+ghost use Rattle.scad_expr.specs.Answers.{Does, nothing};
+ghost use Rattle.scad_expr.specs.Machine.{held, state_of};
+ghost use Rattle.scad_expr.specs.State.{State};
+ghost use Rattle.scad_inst.specs.FlatLeaves.{linear_leaf, judge_points, judge_sides, swept, turned_leaf, leaf_in, flat_leaves};
+ghost use Rattle.scad_inst.specs.Made.{count_triangles};
+ghost use Rattle.scad_inst.specs.View.{trees_in};
+
+use crate::argued::profile_argued;
+use crate::leaves::{TRIANGLES, count_leaf, count_triangles, placed};
+use crate::refused::{fault, named_fault, over};
+use crate::space::{Space, Turning, Where};
+use scad_expr::{EvalFault, Machine};
+use scad_extrude::{FlatForm, linear, triangles_of, turned};
+use scad_fault::{BudgetKind, FaultKind, Place};
+use scad_matrix::Matrix;
+use scad_modules::{Outline, crosses_axis, points_in, profile_of, ring_of, turns_of};
+use scad_num::Num;
+use scad_tree::Tree;
+use std::alloc::Global;
+
+/// Counts the triangles of a prism over an outline of so many points.
+#[tactic(auto, unfolding(crate::specs::Made::count_triangles, scad_expr::specs::State::over, scad_expr::specs::Machine::state_of, scad_expr::specs::Machine::held))]
+fn count_prism<'p>(points: usize, at: Place, m: &mut Machine<'p>) -> Result<(), EvalFault>
+    requires { 3 ≤ points }
+    ensures does { Does nothing (count_triangles (triangles_in (Prism points)) at (state_of m.old)) result
+        (state_of m.new) }
+    ensures kept { held m.new ≡ held m.old }
+{
+    if points > 200_000 {
+        return Err(over(BudgetKind::Triangles, at));
+    }
+    count_triangles(triangles_of(&FlatForm::Linear(points as u32)), at, m)
+}
+
+/// A leaf inside `linear_extrude`: it is counted, then its triangles, and then it is placed.
+#[tactic(auto, unfolding(crate::specs::FlatLeaves::linear_leaf))]
+fn linear_leaf<'p>(
+    alloc: Global,
+    at: Place,
+    shape: &Outline,
+    height: Num,
+    center: bool,
+    whole: &Matrix,
+    m: &mut Machine<'p>,
+) -> Result<Tree, EvalFault>
+    requires { is_outline (outline shape.now) ≡ true }
+    ensures does { Does solid_of (linear_leaf at (outline shape.now) height center whole.now (state_of m.old)) result
+        (state_of m.new) }
+    ensures kept { held m.new ≡ held m.old }
+{
+    count_leaf(at, m)?;
+    count_prism(points_in(shape), at, m)?;
+    let ring = ring_of(alloc, shape)?;
+    placed(alloc, at, linear(alloc, &ring, height, center, whole))
+}
+
+/// The points of an outline are at most as many as all leaves have triangles.
+#[tactic(auto, unfolding(crate::specs::FlatLeaves::judge_points, scad_expr::specs::State::over))]
+fn judge_points(at: Place, points: usize) -> Result<(), EvalFault>
+    ensures does { (s : State) → Does nothing (judge_points at points s) result s }
+    ensures few { IfOk result (λ _. points ≤ 200000) }
+{
+    if points as u64 > TRIANGLES {
+        return Err(over(BudgetKind::Triangles, at));
+    }
+    Ok(())
+}
+
+/// A profile doesn't stand on both sides of the axis.
+#[tactic(auto, unfolding(crate::specs::FlatLeaves::judge_sides, scad_expr::specs::State::fault_of))]
+fn judge_sides(alloc: Global, word: Place, ring: &[(Num, Num)]) -> Result<(), EvalFault>
+    ensures { (s : State) → Does nothing (judge_sides word ring.now s) result s }
+{
+    if crosses_axis(ring) {
+        return Err(named_fault(alloc, FaultKind::BadArgument, word, b"rotate_extrude"));
+    }
+    Ok(())
+}
+
+/// Counts the triangles of a profile of so many points in so many turns.
+#[tactic(auto, using(crate::proofs::Sweeps::bounds))]
+fn count_sweep<'p>(
+    points: usize,
+    turns: u32,
+    at: Place,
+    m: &mut Machine<'p>,
+) -> Result<(), EvalFault>
+    requires some { 3 ≤ points }
+    requires few { points ≤ 200000 }
+    requires turns { are_fragments turns ≡ true }
+    ensures does { Does nothing (count_triangles (triangles_in (Sweep points turns)) at (state_of m.old)) result
+        (state_of m.new) }
+    ensures kept { held m.new ≡ held m.old }
+    ensures few { IfOk result (λ _. turns ≤ 200000) }
+{
+    count_triangles(triangles_of(&FlatForm::Turned(points as u32, turns)), at, m)
+}
+
+/// A profile is turned: its triangles are counted, and then it is placed.
+#[tactic(auto, using(crate::proofs::Sweeps::bounds), unfolding(crate::specs::FlatLeaves::swept))]
+fn swept<'p>(
+    alloc: Global,
+    at: Place,
+    ring: &[(Num, Num)],
+    t: &Turning,
+    whole: &Matrix,
+    m: &mut Machine<'p>,
+) -> Result<Tree, EvalFault>
+    requires some { 3 ≤ length ring.now }
+    requires few { length ring.now ≤ 200000 }
+    ensures does { Does solid_of (swept at ring.now t.now whole.now (state_of m.old)) result (state_of m.new) }
+    ensures kept { held m.new ≡ held m.old }
+{
+    let turns = turns_of(t.resolution, ring);
+    count_sweep(ring.len(), turns, at, m)?;
+    placed(alloc, at, turned(alloc, ring, turns, whole))
+}
+
+/// A leaf inside `rotate_extrude`: it is counted, then the points of its outline are judged; the outline is
+/// placed as a profile, which is judged in its turn, and turned.
+#[tactic(auto, unfolding(crate::specs::FlatLeaves::turned_leaf))]
+fn turned_leaf<'p>(
+    alloc: Global,
+    at: Place,
+    name: &[u8],
+    shape: &Outline,
+    t: &Turning,
+    whole: &Matrix,
+    m: &mut Machine<'p>,
+) -> Result<Tree, EvalFault>
+    requires { is_outline (outline shape.now) ≡ true }
+    ensures does { Does solid_of (turned_leaf at name.now (outline shape.now) t.now whole.now (state_of m.old)) result
+        (state_of m.new) }
+    ensures kept { held m.new ≡ held m.old }
+{
+    count_leaf(at, m)?;
+    judge_points(at, points_in(shape))?;
+    let ring = ring_of(alloc, shape)?;
+    let profile = profile_argued(alloc, at, name, profile_of(alloc, &t.profile, &ring))?;
+    judge_sides(alloc, t.word, &profile)?;
+    swept(alloc, at, &profile, t, whole, m)
+}
+
+/// The leaf of an outline.
+#[tactic(auto, unfolding(crate::specs::FlatLeaves::leaf_in, scad_expr::specs::State::fault))]
+fn leaf_in<'p>(
+    alloc: Global,
+    at: Place,
+    name: &[u8],
+    shape: &Outline,
+    w: &Where,
+    m: &mut Machine<'p>,
+) -> Result<Tree, EvalFault>
+    requires { is_outline (outline shape.now) ≡ true }
+    ensures does { Does solid_of (leaf_in at name.now (outline shape.now) w.now.whole w.now.space (state_of m.old))
+        result (state_of m.new) }
+    ensures kept { held m.new ≡ held m.old }
+{
+    match w.space {
+        Space::Solid => Err(fault(alloc, FaultKind::MixedDimensions, at)),
+        Space::Linear(height, center) => {
+            linear_leaf(alloc, at, shape, height, center, &w.whole, m)
+        }
+        Space::Turned(t) => turned_leaf(alloc, at, name, shape, &t, &w.whole, m),
+    }
+}
+
+/// The leaves of outlines.
+#[tactic(auto, using(crate::proofs::FlatRounds::leaves))]
+pub(crate) fn flat_leaves<'p>(
+    alloc: Global,
+    at: Place,
+    name: &[u8],
+    w: &Where,
+    shapes: &[Outline],
+    m: &mut Machine<'p>,
+) -> Result<Vec<Tree>, EvalFault>
+    requires { list_all is_outline (outlines shapes.now) ≡ true }
+    ensures does { Does trees_in (flat_leaves at name.now w.now (outlines shapes.now) [] (state_of m.old)) result
+        (state_of m.new) }
+    ensures kept { held m.new ≡ held m.old }
+{
+    let mut so_far = Vec::new(alloc);
+    'outlines: for shape in shapes {
+        let tree = leaf_in(alloc, at, name, shape, w, m)?;
+        so_far.push(tree)?;
+    }
+    Ok(so_far)
+}

@@ -1,0 +1,1 @@
+linear_extrude(1) circle(d=3,$fn=5);

@@ -1,0 +1,1 @@
+module m() children(); m() square(1);

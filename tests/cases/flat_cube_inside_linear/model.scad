@@ -1,0 +1,1 @@
+linear_extrude(height=1) cube(1);

@@ -1,0 +1,1 @@
+module m() linear_extrude(1) children(); m() cube(1);

@@ -1,0 +1,1 @@
+union(){ cube(1); circle(2); }

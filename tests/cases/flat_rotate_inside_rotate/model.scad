@@ -1,0 +1,1 @@
+rotate_extrude() rotate_extrude() square(1);

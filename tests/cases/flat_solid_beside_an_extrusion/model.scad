@@ -1,0 +1,1 @@
+linear_extrude(1) square(1); cube(2);

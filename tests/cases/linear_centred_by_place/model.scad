@@ -1,0 +1,1 @@
+linear_extrude(3,true) square(1);

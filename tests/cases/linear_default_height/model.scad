@@ -1,0 +1,1 @@
+linear_extrude() square(1);

@@ -1,0 +1,1 @@
+linear_extrude(3) square(1);

@@ -1,0 +1,1 @@
+linear_extrude(height=0) square(1);

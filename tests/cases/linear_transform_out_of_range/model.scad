@@ -1,0 +1,1 @@
+linear_extrude(1) scale(1000000000) scale(1000000000) square(1);

@@ -1,0 +1,1 @@
+linear_extrude(1) translate([0,0,5]) square(1);

@@ -1,0 +1,1 @@
+linear_extrude(1) polygon([[0,0],[1,1]]);

@@ -1,0 +1,1 @@
+rotate_extrude(angle=180) square(1);

@@ -1,0 +1,1 @@
+rotate_extrude(90,$fn=3) square(1);

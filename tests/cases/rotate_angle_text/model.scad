@@ -1,0 +1,1 @@
+rotate_extrude(angle="360") square(1);

@@ -1,0 +1,1 @@
+rotate_extrude(angle=undef,$fn=3) square(1);

@@ -1,0 +1,1 @@
+rotate_extrude($fn="x") square(1/0);

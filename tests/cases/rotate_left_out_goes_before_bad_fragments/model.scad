@@ -1,0 +1,1 @@
+rotate_extrude(angle=1,$fn="x") square(1);

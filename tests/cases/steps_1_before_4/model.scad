@@ -1,0 +1,1 @@
+for(i=[1:4096]) cube(0); rotate_extrude() square(1,center=true);

@@ -1,0 +1,1 @@
+rotate_extrude() circle(1,$fn=200001);

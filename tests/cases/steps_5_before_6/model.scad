@@ -1,0 +1,1 @@
+rotate_extrude($fn=25001) square(1001);

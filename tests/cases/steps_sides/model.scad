@@ -1,0 +1,1 @@
+rotate_extrude($fn=3) square(1,center=true);
