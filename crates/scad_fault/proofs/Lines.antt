@@ -1,15 +1,11 @@
 -- Lines in full: those that do not depend on what the run was given, and an example of each other form.
 use Rattle.std.proofs.Common.{◌≡◌, [], codes, refl, pos, negsuc}
 use Rattle.std.specs.Fmt.{digits}
-use Rattle.scad_fault.specs.declared.fault.FaultKind.TheVariants.{LeftOut, NotClosed, NotBuilt}
+use Rattle.scad_fault.specs.declared.fault.FaultKind.TheVariants.{LeftOut, NotClosed}
 use Rattle.scad_fault.specs.declared.budget.BudgetKind.TheVariants.{SourceLong, Depth, Layers, LayerEdges}
 use Rattle.scad_fault.specs.declared.settings.SetKind.TheVariants.{NotToml, OutOfRange}
 use Rattle.scad_fault.specs.Place.{no_place, first_place}
 use Rattle.scad_fault.specs.Line.{fault_line, settings_line, budget_line}
-
-pub not_built_line : fault_line (record { kind = NotBuilt; at = first_place; name = [] }) ≡ codes "fault 15 NotBuilt at 1:1\n"
-unfolding fault_line digits
-not_built_line = refl
 
 pub source_long_line :
     budget_line (record { kind = SourceLong; at = no_place; layer = 0; count = 0 }) ≡ codes "budget 1 SourceLong\n"

@@ -1,7 +1,7 @@
 -- The number and the name of each kind of fault, of budget and of settings fault.
 use Rattle.std.specs.Prelude.{ℕ, List, codes}
 use Rattle.scad_fault.specs.declared.fault.FaultKind.{FaultKind}
-use Rattle.scad_fault.specs.declared.fault.FaultKind.TheVariants.{BadText, Syntax, Nesting, LeftOut, UnknownModule, UnknownFunction, BadArgument, ZeroDivisor, NumberRange, AssertFailed, MixedDimensions, NotClosed, CoordinateRange, ZeroStep, NotBuilt}
+use Rattle.scad_fault.specs.declared.fault.FaultKind.TheVariants.{BadText, Syntax, Nesting, LeftOut, UnknownModule, UnknownFunction, BadArgument, ZeroDivisor, NumberRange, AssertFailed, MixedDimensions, NotClosed, CoordinateRange, ZeroStep}
 use Rattle.scad_fault.specs.declared.budget.BudgetKind.{BudgetKind}
 use Rattle.scad_fault.specs.declared.budget.BudgetKind.TheVariants.{SourceLong, Steps, Depth, Leaves, Triangles, Layers, LayerEdges, LayerCrossings, LayerMoves}
 use Rattle.scad_fault.specs.declared.settings.SetKind.{SetKind}
@@ -23,7 +23,6 @@ fault_number MixedDimensions = 11
 fault_number NotClosed = 12
 fault_number CoordinateRange = 13
 fault_number ZeroStep = 14
-fault_number NotBuilt = 15
 
 -- the name of a fault's kind
 abbrev pub fault_name : FaultKind → List ℕ
@@ -41,7 +40,6 @@ fault_name MixedDimensions = codes "MixedDimensions"
 fault_name NotClosed = codes "NotClosed"
 fault_name CoordinateRange = codes "CoordinateRange"
 fault_name ZeroStep = codes "ZeroStep"
-fault_name NotBuilt = codes "NotBuilt"
 
 -- the number of a budget
 abbrev pub budget_number : BudgetKind → ℕ

@@ -8,7 +8,7 @@ use Rattle.scad_fault.specs.declared.settings.SetFault.{SetFault}
 use Rattle.scad_fault.specs.declared.status.Status.{Status}
 use Rattle.scad_fault.specs.declared.status.Status.TheVariants.{Done, Source, Usage, Settings, Read, Write, Over, Memory}
 use Rattle.scad_fault.specs.declared.fault.FaultKind.{FaultKind}
-use Rattle.scad_fault.specs.declared.fault.FaultKind.TheVariants.{LeftOut, UnknownModule, UnknownFunction, BadArgument, NotBuilt}
+use Rattle.scad_fault.specs.declared.fault.FaultKind.TheVariants.{LeftOut, UnknownModule, UnknownFunction, BadArgument}
 use Rattle.scad_fault.specs.declared.budget.BudgetKind.{BudgetKind}
 use Rattle.scad_fault.specs.declared.budget.BudgetKind.TheVariants.{SourceLong, Steps, Depth, Leaves, Triangles, Layers, LayerEdges, LayerCrossings, LayerMoves}
 use Rattle.scad_fault.specs.declared.settings.SetKind.{SetKind}
@@ -35,15 +35,12 @@ count_text count = codes " count " ++ decimal count
 abbrev pub word_text : List ℕ → List ℕ
 word_text word = codes " " ++ word
 
--- the name of what was left out, is unknown or got a bad argument; a form that is not built yet
--- is named where it has a name; the other kinds of fault name nothing
+-- the name of what was left out, is unknown or got a bad argument; the other kinds of fault name nothing
 abbrev pub name_text : FaultKind → List ℕ → List ℕ
 name_text LeftOut name = word_text name
 name_text UnknownModule name = word_text name
 name_text UnknownFunction name = word_text name
 name_text BadArgument name = word_text name
-name_text NotBuilt [] = []
-name_text NotBuilt (b ∷ bs) = word_text (b ∷ bs)
 name_text kind name = []
 
 -- `fault N Name at L:C`, then the name where the kind has one

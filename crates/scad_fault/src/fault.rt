@@ -38,8 +38,6 @@ pub enum FaultKind {
     CoordinateRange = 13,
     /// A range that steps by zero.
     ZeroStep = 14,
-    /// A form of source that is not built yet, by its name where it has one.
-    NotBuilt = 15,
 }
 
 impl FaultKind {
@@ -67,7 +65,6 @@ impl FaultKind {
             FaultKind::NotClosed => "NotClosed",
             FaultKind::CoordinateRange => "CoordinateRange",
             FaultKind::ZeroStep => "ZeroStep",
-            FaultKind::NotBuilt => "NotBuilt",
         }
     }
 }
@@ -115,10 +112,6 @@ fn push_name(text: &mut Vec<u8>, kind: FaultKind, name: &[u8]) -> Result<(), All
         | FaultKind::UnknownModule
         | FaultKind::UnknownFunction
         | FaultKind::BadArgument => line::push_word(text, name),
-        FaultKind::NotBuilt => match name {
-            [] => Ok(()),
-            [_, ..] => line::push_word(text, name),
-        },
         _ => Ok(()),
     }
 }

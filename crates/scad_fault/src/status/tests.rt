@@ -54,19 +54,13 @@ fn faults_end_with_their_lines(rt: HostRuntime) -> Result<(), Fail> {
             "fault 13 CoordinateRange at 1:202\n",
         ),
         (Kind::ZeroStep, "", "fault 14 ZeroStep at 1:202\n"),
-        (Kind::NotBuilt, "", "fault 15 NotBuilt at 1:202\n"),
-        (
-            Kind::NotBuilt,
-            "square",
-            "fault 15 NotBuilt at 1:202 square\n",
-        ),
     ];
     for (kind, name, last_line) in cases {
         let name = Text::of(rt.alloc(), name.as_bytes())?;
         ends_with(&rt, Status::Source(Fault { kind, at, name }), last_line)?;
     }
-    let unnamed = Fault::unnamed(rt.alloc(), Kind::NotBuilt, Place::START);
-    ends_with(&rt, Status::Source(unnamed), "fault 15 NotBuilt at 1:1\n")
+    let unnamed = Fault::unnamed(rt.alloc(), Kind::MixedDimensions, Place::START);
+    ends_with(&rt, Status::Source(unnamed), "fault 11 MixedDimensions at 1:1\n")
 }
 
 #[test]
