@@ -3,7 +3,7 @@ pub mod CallFrames
 pub mod ExampleWords
 pub mod ExamplesCalls
 pub mod ExamplesExtruded
-pub mod ExamplesFlat
+pub mod ExamplesFlatRefused
 pub mod ExamplesOrder
 pub mod ExamplesPlaced
 pub mod ExamplesRefused
