@@ -11,6 +11,7 @@ pub mod ExamplesScopes
 pub mod ExamplesTrees
 pub mod FirstFrames
 pub mod FlatRounds
+pub mod Heights
 pub mod Homes
 pub mod Items
 pub mod KeptRound
