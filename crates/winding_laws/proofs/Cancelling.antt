@@ -15,9 +15,6 @@ use Rattle.winding_laws.specs.Joining.{turned, CancellingKeepsBalance, Cancellin
 use Rattle.winding_laws.proofs.Views.{swing_turned, turn_seen}
 use Rattle.winding_laws.proofs.Order.{order_keeps_balance, wind-permuted, wind-append}
 
-one : pos 0 <ℤ pos 1
-one = omega (arith, ints)
-
 segments-append : (es fs : List Edge) → segments (es ++ fs) ≡ segments es ++ segments fs
 segments-append [] fs = refl
 segments-append (e ∷ es) fs = ap (λ (ss : List Segment). segment_of e ∷ ss) (segments-append es fs)
@@ -111,7 +108,7 @@ module _ (above right : Bool) (q : Point) (d : pos 0 <ℤ q.d) where
   wind-turned [] = refl
   wind-turned (e ∷ es) =
       opposite (turn above right q (whole e.a) (whole e.b)) (turn above right q (whole e.b) (whole e.a)) (winding (map turned es)) (winding es)
-      (turn_turned above right q (whole e.a) (whole e.b) d one one) (wind-turned es)
+      (turn_turned above right q (whole e.a) (whole e.b) d (omega (arith, ints)) (omega (arith, ints))) (wind-turned es)
 
   nothing_more : (w v u x : ℤ) → x ≡ w +ℤ (v +ℤ u) → u ≡ pos 0 -ℤ v → w ≡ x
   nothing_more w v u x h k = omega (arith, ints)
