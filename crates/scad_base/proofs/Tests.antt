@@ -1,10 +1,11 @@
 -- What tests of whole numbers tell, and choices that don't matter.
 use Rattle.std.proofs.Common.{◌≡◌, ℤ, Bool, true, false, cond, refl, sym, arith, ◌<ℤ◌, int_lt, int_le}
 use Rattle.std.specs.Prelude.{◌≤ℤ◌}
-use Rattle.std.specs.Ordering.{int_cmp, int_eq, is_lt}
+use Rattle.std.specs.Ordering.{int_cmp, int_eq, is_lt, ordering_then}
 use Rattle.std.specs.declared.cmp.Ordering.TheVariants.{Less, Equal, Greater}
 use Rattle.std.proofs.lemmas.Int.{ints}
 use Rattle.std.specs.Cmp.{signed_Decides}
+use Rattle.std.specs.declared.cmp.Ordering.{Ordering}
 
 -- of two equal values it doesn't matter which
 pub cond_same : {A : Type 0} (b : Bool) (x : A) → cond b x x ≡ x
@@ -36,3 +37,9 @@ is_lt-int_cmp a b = by_tests (int_lt a b) (int_lt b a)
     by_tests true more = refl
     by_tests false true = refl
     by_tests false false = refl
+
+-- where one order after another tells nothing apart, neither does
+pub both_equal : (r s : Ordering) → ordering_then r s ≡ Equal → (r ≡ Equal) × (s ≡ Equal)
+both_equal Less s e = absurd (cc)
+both_equal Equal s e = (refl, e)
+both_equal Greater s e = absurd (cc)
