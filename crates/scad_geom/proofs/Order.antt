@@ -59,7 +59,7 @@ all_ends P (e ∷ es) zero d h l = (h.0, h.1.0)
 all_ends P (e ∷ es) (suc i) d h l = all_ends P es i d (back P (meetings e.edge es) (heights es) h.1.1) (omega arith)
 
 -- ---- no two edges meet between neighbouring heights
-apart_levels : (p q : Level) → IsLower p q → IsAtMost q p → ⊥
+pub apart_levels : (p q : Level) → IsLower p q → IsAtMost q p → ⊥
 apart_levels p q h k = omega (arith, ints)
 
 lean_self : (e : Edge) → pos 0 <ℤ lean e e → ⊥

@@ -61,6 +61,7 @@ alike above right q a b c e k l kp lp ha hb h = by_tests (is_over above q (whole
     by_tests false true hc he = rising_turn above right q (whole a) (whole b) (ha ∙ hc) (hb ∙ he) ∙ ap (λ (t : Bool). if t then pos 1 else pos 0) same ∙ sym (rising_turn above right q (whole c) (whole e) hc he)
     by_tests true false hc he = falling_turn above right q (whole a) (whole b) (ha ∙ hc) (hb ∙ he) ∙ ap (λ (t : Bool). if t then negsuc 0 else pos 0) same_turned ∙ sym (falling_turn above right q (whole c) (whole e) hc he)
 
+-- ---- of three points in one direction the middle one is neither the highest nor the lowest
 higher : (above : Bool) (q : Point) (a b : Pt) → pos 0 <ℤ q.d → is_over above q (whole a) ≡ false → is_over above q (whole b) ≡ true → pos 0 <ℤ (b.y -ℤ a.y)
 unfolding is_over
 higher true q a b d e f =
@@ -90,6 +91,7 @@ no_dip a m b h k p r = clash_above b.y a.y
     (climbs h.far h.near (b.y -ℤ a.y) (b.y -ℤ m.y) h.far_positive h.near_positive h.along r)
     (climbs k.far k.near (a.y -ℤ b.y) (a.y -ℤ m.y) k.far_positive k.near_positive k.along p)
 
+-- ---- the two parts
 pub parts_turn : (above right : Bool) (q : Point) → pos 0 <ℤ q.d → (a m b : Pt) → is_between a m b ≡ true → turn above right q (whole a) (whole m) +ℤ turn above right q (whole m) (whole b) ≡ turn above right q (whole a) (whole b)
 parts_turn above right q d a m b t = by_tests (is_over above q (whole a)) (is_over above q (whole m)) (is_over above q (whole b)) refl refl refl
   where

@@ -21,6 +21,7 @@ use Rattle.slice_loops.specs.Laws.{LoopsAreOne, OutlinesAreOne}
 use Rattle.slice_loops.proofs.Points.{edge_total}
 use Rattle.scad_base.proofs.Tests.{both_equal}
 
+-- ---- edges that the order doesn't tell apart are one
 point_exact : (p q : Pt) → point_cmp p q ≡ Equal → p ≡ q
 point_exact p q e =
     let both = both_equal (int_cmp p.y q.y) (int_cmp p.x q.x) e in

@@ -110,6 +110,7 @@ module _ (On : Point → Type 0) (k : Point → ℤ)
         (λ x. absurd (both_ways (is_same_point n b) v (same n b on ob (one_height (along n) (along b) nb x))))))
         (λ o. absurd (both_ways (is_same_point a m) u (same a m oa om (one_height (along a) (along m) o ma)))))
 
+-- ---- of pieces
 pub pieces_go_on : PiecesGoOn
 pieces_go_on limit e q r wq wr lq lr hq hr apart joint =
     let a : Point = point_of q.from in

@@ -15,6 +15,7 @@ use Rattle.scad_geom.proofs.Bounds.{rise_at_least}
 use Rattle.slice_snap.specs.Naming.{IsOnLine}
 use Rattle.scad_geom.proofs.Signs.{no_gap}
 use Rattle.scad_base.proofs.Integers.{equal_of_gap}
+use Rattle.std.proofs.lemmas.Bool.{true≢false}
 
 -- the rise times a gap across is the run times the gap upwards, for two points of the line
 across_gap : (r u o x y d x' y' d' : ℤ) → u *ℤ y +ℤ o *ℤ d -ℤ r *ℤ x ≡ pos 0 → u *ℤ y' +ℤ o *ℤ d' -ℤ r *ℤ x' ≡ pos 0
@@ -112,15 +113,12 @@ module _ (e : Edge) where
   unfolding rise run low high
   runs d r u = by_test (int_lt e.b.y e.a.y) r u
     where
-      differ : true ≡ false → ⊥
-      differ h = cc
-
       equal : (x y : ℤ) → x -ℤ y ≡ pos 0 → y *ℤ pos 1 ≡ x *ℤ pos 1
       equal x y h = ap (λ (z : ℤ). z *ℤ pos 1) (sym (equal_of_gap x y h))
 
       by_test : (t : Bool) → (cond t e.a e.b).y -ℤ (cond t e.b e.a).y ≡ pos 0 → (cond t e.a e.b).x -ℤ (cond t e.b e.a).x ≡ pos 0 → ⊥
-      by_test true r u = differ (sym (is_same (whole e.a) (whole e.b) (sym (equal e.a.y e.b.y r)) (sym (equal e.a.x e.b.x u))) ∙ d)
-      by_test false r u = differ (sym (is_same (whole e.a) (whole e.b) (equal e.b.y e.a.y r) (equal e.b.x e.a.x u)) ∙ d)
+      by_test true r u = true≢false (sym (is_same (whole e.a) (whole e.b) (sym (equal e.a.y e.b.y r)) (sym (equal e.a.x e.b.x u))) ∙ d)
+      by_test false r u = true≢false (sym (is_same (whole e.a) (whole e.b) (equal e.b.y e.a.y r) (equal e.b.x e.a.x u)) ∙ d)
 
   pub by_rise : {A : Type 0} → is_same_point (whole e.a) (whole e.b) ≡ false → (pos 0 <ℤ rise e → A) → (rise e ≡ pos 0 → (run e ≡ pos 0 → ⊥) → A) → A
   by_rise d f g = by_lt_z (pos 0) (rise e) f (λ h. let z = rise_at_least e in let r : rise e ≡ pos 0 = omega (arith, ints) in g r (runs d r))

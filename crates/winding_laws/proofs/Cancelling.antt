@@ -1,5 +1,5 @@
 -- Edges and their opposites may be left out together.
-use Rattle.std.proofs.Common.{◌≡◌, ℕ, ◌+◌, Bool, List, [], ◌∷◌, ◌++◌, map, refl, sym, ap, ◌∙◌, arith}
+use Rattle.std.proofs.Common.{◌≡◌, ℕ, ◌+◌, Bool, List, [], ◌∷◌, ◌++◌, map, refl, sym, ap, ◌∙◌, arith, zero-add}
 use lib.IntN.{ℤ, pos, ◌+ℤ◌, ◌-ℤ◌}
 use lib.Signed.{◌<ℤ◌}
 use Rattle.std.proofs.lemmas.Int.{ints}
@@ -28,10 +28,7 @@ module _ (p : Point) where
   assoc a x y = omega arith
 
   starts-append : (ss ts : List Segment) → starts_at p (ss ++ ts) ≡ starts_at p ss + starts_at p ts
-  starts-append [] ts = nothing (starts_at p ts)
-    where
-      nothing : (n : ℕ) → n ≡ 0 + n
-      nothing n = omega arith
+  starts-append [] ts = sym (zero-add (starts_at p ts))
   starts-append (s ∷ ss) ts =
       starts-cons p s (ss ++ ts)
       ∙ ap (λ (n : ℕ). once (is_same_point p s.from) + n) (starts-append ss ts)
@@ -39,10 +36,7 @@ module _ (p : Point) where
       ∙ ap (λ (n : ℕ). n + starts_at p ts) (sym (starts-cons p s ss))
 
   ends-append : (ss ts : List Segment) → ends_at p (ss ++ ts) ≡ ends_at p ss + ends_at p ts
-  ends-append [] ts = nothing (ends_at p ts)
-    where
-      nothing : (n : ℕ) → n ≡ 0 + n
-      nothing n = omega arith
+  ends-append [] ts = sym (zero-add (ends_at p ts))
   ends-append (s ∷ ss) ts =
       ends-cons p s (ss ++ ts)
       ∙ ap (λ (n : ℕ). once (is_same_point p s.to) + n) (ends-append ss ts)

@@ -40,6 +40,7 @@ not_through region o a b da db away s t hs ht more x y =
     (holds_as region (scaled (record { x = pos 0; y = pos 0; d = pos 1 }) w) (mean s t a b) (zero-*ℤ w ∙ sym x) (zero-*ℤ w ∙ sym y) (one-mul w)
     (holds_scaled region (record { x = pos 0; y = pos 0; d = pos 1 }) w (at_most_of_less (pos 0) w (some_weight s t a.d b.d hs ht more da db)) o))
 
+-- ---- tests
 -- hard by on the left and on the right a test differs at 0 alone
 beyond_forms : (right : Bool) (z : ℤ) → (z ≡ pos 0 → ⊥) → is_beyond right z ≡ is_beyond true z
 unfolding is_beyond
@@ -59,12 +60,12 @@ beyond_forms false z n = by_lt_z (pos 0) z
     both : (z : ℤ) → z ≤ℤ pos 0 → pos 0 ≤ℤ z → z ≡ pos 0
     both z h k = omega (arith, ints)
 
-beyond_above : (above : Bool) (z : ℤ) → pos 0 <ℤ z → is_beyond above z ≡ true
+pub beyond_above : (above : Bool) (z : ℤ) → pos 0 <ℤ z → is_beyond above z ≡ true
 unfolding is_beyond
 beyond_above true z h = sym (omega (arith, ints))
 beyond_above false z h = sym (omega (arith, ints))
 
-beyond_below : (above : Bool) (z : ℤ) → z <ℤ pos 0 → is_beyond above z ≡ false
+pub beyond_below : (above : Bool) (z : ℤ) → z <ℤ pos 0 → is_beyond above z ≡ false
 unfolding is_beyond
 beyond_below true z h = sym (omega (arith, ints))
 beyond_below false z h = sym (omega (arith, ints))
