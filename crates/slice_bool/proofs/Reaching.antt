@@ -20,6 +20,7 @@ use Rattle.scad_geom.proofs.Order.{all_ends}
 use Rattle.scad_geom.proofs.Turns.{level_at, Over, NotOver, Spans, over_up, not_over_down, heading, reaching_turn, under_turn, over_turn}
 use Rattle.slice_slab.proofs.Live.{reaches_is}
 use Rattle.scad_geom.proofs.Sums.{sum_z}
+use Rattle.std.proofs.lemmas.Bool.{true≢false}
 
 reaches_up : (e : Edge) (l u : Level) → pos 0 <ℤ l.d → pos 0 <ℤ u.d → IsLower l u → IsAtMost (level_of e.a.y) l → IsAtMost u (level_of e.b.y) → reaches e l u ≡ true
 unfolding reaches low high rise
@@ -58,16 +59,13 @@ still_turn above right p es l u n dp s i d li r =
     elim ends.0 [
       | inl a ↦ elim ends.1 [
         | inl b ↦ under_turn above right p e (down e.a.y a) (down e.b.y b)
-        | inr b ↦ absurd (differ (sym (reaches_up e l u n.lower_divisor n.upper_divisor n.in_order a b) ∙ r))
+        | inr b ↦ absurd (true≢false (sym (reaches_up e l u n.lower_divisor n.upper_divisor n.in_order a b) ∙ r))
       ]
       | inr a ↦ elim ends.1 [
-        | inl b ↦ absurd (differ (sym (reaches_down e l u n.lower_divisor n.upper_divisor n.in_order a b) ∙ r))
+        | inl b ↦ absurd (true≢false (sym (reaches_down e l u n.lower_divisor n.upper_divisor n.in_order a b) ∙ r))
         | inr b ↦ over_turn above right p e (top e.a.y a) (top e.b.y b)
       ]
     ]
-  where
-    differ : true ≡ false → ⊥
-    differ h = cc
 
 -- ---- the winding number as a sum over the numbers of the edges that reach the heights
 pub leaf_edge_at : List LeafEdge → ℕ → LeafEdge

@@ -27,6 +27,9 @@ use Rattle.winding_laws.proofs.Totals.{starts, ends, balanced_totals}
 use Rattle.winding_laws.proofs.Triangles.{flat}
 use Rattle.winding_laws.proofs.Weights.{some_weight}
 use Rattle.scad_base.proofs.Integers.{at_most_of_less}
+use Rattle.std.proofs.Math.IntN.{zero-*ℤ}
+use Rattle.scad_geom.proofs.Signs.{one-mul}
+use Rattle.std.specs.Cmp.{both_ways}
 
 -- ---- no mean of the ends lies at the origin
 not_through : (region : List HalfPlane) → HoldsOrigin region → (a b : Point) → IsPoint a → IsPoint b → IsAway region a b → (s t : ℤ) → pos 0 ≤ℤ s → pos 0 ≤ℤ t → pos 0 <ℤ (s +ℤ t)
@@ -34,21 +37,10 @@ not_through : (region : List HalfPlane) → HoldsOrigin region → (a b : Point)
 not_through region o a b da db away s t hs ht more x y =
     let w : ℤ = s *ℤ a.d +ℤ t *ℤ b.d in
     away s t hs ht more
-    (holds_as region (scaled (record { x = pos 0; y = pos 0; d = pos 1 }) w) (mean s t a b) (zero_times w ∙ sym x) (zero_times w ∙ sym y) (one_times w)
+    (holds_as region (scaled (record { x = pos 0; y = pos 0; d = pos 1 }) w) (mean s t a b) (zero-*ℤ w ∙ sym x) (zero-*ℤ w ∙ sym y) (one-mul w)
     (holds_scaled region (record { x = pos 0; y = pos 0; d = pos 1 }) w (at_most_of_less (pos 0) w (some_weight s t a.d b.d hs ht more da db)) o))
-  where
-    zero_times : (k : ℤ) → pos 0 *ℤ k ≡ pos 0
-    zero_times k = ring (k ∷ []) (num (pos 0) ⊗ v0) (num (pos 0)) refl
-
-    one_times : (k : ℤ) → pos 1 *ℤ k ≡ k
-    one_times k = omega (arith, ints)
 
 -- ---- tests
-test_equal : (b c : Bool) → (b ≡ true → c ≡ true) → (c ≡ true → b ≡ true) → b ≡ c
-test_equal true c f g = sym (f refl)
-test_equal false true f g = g refl
-test_equal false false f g = refl
-
 -- hard by on the left and on the right a test differs at 0 alone
 beyond_forms : (right : Bool) (z : ℤ) → (z ≡ pos 0 → ⊥) → is_beyond right z ≡ is_beyond true z
 unfolding is_beyond
@@ -68,12 +60,12 @@ beyond_forms false z n = by_lt_z (pos 0) z
     both : (z : ℤ) → z ≤ℤ pos 0 → pos 0 ≤ℤ z → z ≡ pos 0
     both z h k = omega (arith, ints)
 
-beyond_above : (above : Bool) (z : ℤ) → pos 0 <ℤ z → is_beyond above z ≡ true
+pub beyond_above : (above : Bool) (z : ℤ) → pos 0 <ℤ z → is_beyond above z ≡ true
 unfolding is_beyond
 beyond_above true z h = sym (omega (arith, ints))
 beyond_above false z h = sym (omega (arith, ints))
 
-beyond_below : (above : Bool) (z : ℤ) → z <ℤ pos 0 → is_beyond above z ≡ false
+pub beyond_below : (above : Bool) (z : ℤ) → z <ℤ pos 0 → is_beyond above z ≡ false
 unfolding is_beyond
 beyond_below true z h = sym (omega (arith, ints))
 beyond_below false z h = sym (omega (arith, ints))
@@ -107,9 +99,6 @@ apart false y z h k =
     let t : int_le (pos 0) z ≡ true = k in
     omega (arith, ints)
 
-one_mul : (z : ℤ) → pos 1 *ℤ z ≡ z
-one_mul z = omega (arith, ints)
-
 module _ (region : List HalfPlane) (o : HoldsOrigin region) where
   -- ---- right and left: a segment off the origin that passes its height passes it on one side
   crossing : (above : Bool) (a b : Point) → IsPoint a → IsPoint b → IsAway region a b → is_beyond above a.y ≡ false → is_beyond above b.y ≡ true → cross a b ≡ pos 0 → ⊥
@@ -127,7 +116,7 @@ module _ (region : List HalfPlane) (o : HoldsOrigin region) where
   rising above right a b da db away ha hb =
       rw (ha, hb)
       (ap (λ (u : Bool). if u then pos 1 else pos 0)
-      (ap (is_beyond right) (one_mul (cross a b)) ∙ beyond_forms right (cross a b) (crossing above a b da db away ha hb) ∙ sym (ap (is_beyond true) (one_mul (cross a b)))))
+      (ap (is_beyond right) (one-mul (cross a b)) ∙ beyond_forms right (cross a b) (crossing above a b da db away ha hb) ∙ sym (ap (is_beyond true) (one-mul (cross a b)))))
 
   level : (above right : Bool) (a b : Point) (s : Bool) → is_beyond above a.y ≡ s → is_beyond above b.y ≡ s → swing above right a b ≡ pos 0
   unfolding swing
@@ -161,7 +150,7 @@ module _ (region : List HalfPlane) (o : HoldsOrigin region) where
 
   rise_value : (above : Bool) (a b : Point) → is_beyond above a.y ≡ false → is_beyond above b.y ≡ true → swing above true a b ≡ counted (is_beyond true (cross a b))
   unfolding swing
-  rise_value above a b ha hb = rw (ha, hb) (ap (λ (z : ℤ). counted (is_beyond true z)) (one_mul (cross a b)))
+  rise_value above a b ha hb = rw (ha, hb) (ap (λ (z : ℤ). counted (is_beyond true z)) (one-mul (cross a b)))
 
   by_sign : {A : Type 0} (z : ℤ) → (z <ℤ pos 0 → A) → (z ≡ pos 0 → A) → (pos 0 <ℤ z → A) → A
   by_sign z neg zero more = by_lt_z z (pos 0) neg (λ h. by_lt_z (pos 0) z more (λ k. zero (omega (arith, ints))))
@@ -223,7 +212,7 @@ module _ (region : List HalfPlane) (o : HoldsOrigin region) where
   both_level : (a b : Point) → IsPoint a → IsPoint b → IsAway region a b → a.y ≡ pos 0 → b.y ≡ pos 0 → Steps a b
   both_level a b da db away ha hb =
       let same : is_beyond true a.x ≡ is_beyond true b.x =
-      test_equal (is_beyond true a.x) (is_beyond true b.x) (one_side a b da db away ha hb) (one_side b a db da (away_turned region a b away) hb ha) in
+      both_ways (is_beyond true a.x) (is_beyond true b.x) (one_side a b da db away ha hb) (one_side b a db da (away_turned region a b away) hb ha) in
       from_parts _ _ _ _ (pos 0) (pos 0) (counted (is_beyond true b.x)) (counted (is_beyond true b.x))
       (level true true a b false (at_zero_strict a.y ha) (at_zero_strict b.y hb)) (level false true a b true (at_zero_weak a.y ha) (at_zero_weak b.y hb))
       (ahead_level a ha ∙ ap counted same) (ahead_level b hb) (sym (itself (counted (is_beyond true b.x))))

@@ -25,8 +25,8 @@ use Rattle.winding_laws.proofs.Sameness.{are_same, along_seen}
 use Rattle.winding_laws.proofs.Squares.{near_by_close, far_segments}
 use Rattle.winding_laws.proofs.Totals.{starts, ends, balanced_totals}
 use Rattle.winding_laws.proofs.Ways.{length, way, way_holds_origin, near_moved_back, way_near, by_length}
-use Rattle.scad_base.proofs.Integers.{at_most_of_less}
-use Rattle.scad_geom.proofs.Signs.{no_gap, square_at_least}
+use Rattle.scad_base.proofs.Integers.{at_most_of_less, equal_of_gap}
+use Rattle.scad_geom.proofs.Signs.{no_gap, square_at_least, mul-one}
 
 module _ (region : List HalfPlane) (above right : Bool) (c q p : Point) (dc : pos 0 <ℤ c.d) (dq : pos 0 <ℤ q.d) (dp : pos 0 <ℤ p.d) (nq : IsNear region c q) (np : IsNear region c p) where
   qq : pos 0 <ℤ (q.d *ℤ q.d)
@@ -56,12 +56,9 @@ module _ (region : List HalfPlane) (above right : Bool) (c q p : Point) (dc : po
         l = pos 1;
         k_positive = qq;
         l_positive = omega (arith, ints);
-        x = axis_seen x.x x.d p.x p.d q.x q.d ∙ sym (times_one ((x.x *ℤ q.d -ℤ q.x *ℤ x.d) *ℤ (p.d *ℤ q.d) -ℤ (p.x *ℤ q.d -ℤ q.x *ℤ p.d) *ℤ (x.d *ℤ q.d)));
-        y = axis_seen x.y x.d p.y p.d q.y q.d ∙ sym (times_one ((x.y *ℤ q.d -ℤ q.y *ℤ x.d) *ℤ (p.d *ℤ q.d) -ℤ (p.y *ℤ q.d -ℤ q.y *ℤ p.d) *ℤ (x.d *ℤ q.d)));
+        x = axis_seen x.x x.d p.x p.d q.x q.d ∙ sym (mul-one ((x.x *ℤ q.d -ℤ q.x *ℤ x.d) *ℤ (p.d *ℤ q.d) -ℤ (p.x *ℤ q.d -ℤ q.x *ℤ p.d) *ℤ (x.d *ℤ q.d)));
+        y = axis_seen x.y x.d p.y p.d q.y q.d ∙ sym (mul-one ((x.y *ℤ q.d -ℤ q.y *ℤ x.d) *ℤ (p.d *ℤ q.d) -ℤ (p.y *ℤ q.d -ℤ q.y *ℤ p.d) *ℤ (x.d *ℤ q.d)));
       }
-    where
-      times_one : (z : ℤ) → z *ℤ pos 1 ≡ z
-      times_one z = omega (arith, ints)
 
   -- ---- where they are two points
   away : pos 0 <ℤ length far → (a b : Point) → IsFar region c a b → IsAway (way far) (seen_from q a) (seen_from q b)
@@ -94,13 +91,10 @@ module _ (region : List HalfPlane) (above right : Bool) (c q p : Point) (dc : po
   same_along : far.x ≡ pos 0 → far.y ≡ pos 0 → (x : Point) → IsAlong (seen_from p x) (seen_from q x)
   same_along hx hy x = record { k = q.d; l = p.d; k_positive = dq; l_positive = dp; x = one_axis x.x x.d p.x p.d q.x q.d hx; y = one_axis x.y x.d p.y p.d q.y q.d hy }
     where
-      equal : (s t : ℤ) → s -ℤ t ≡ pos 0 → s ≡ t
-      equal s t h = omega (arith, ints)
-
       one_axis : (x d y e z f : ℤ) → y *ℤ f -ℤ z *ℤ e ≡ pos 0 → (x *ℤ e -ℤ y *ℤ d) *ℤ f ≡ (x *ℤ f -ℤ z *ℤ d) *ℤ e
       one_axis x d y e z f h =
           ring (x ∷ d ∷ y ∷ e ∷ f ∷ []) ((v0 ⊗ v3 ⊖ v2 ⊗ v1) ⊗ v4) ((v0 ⊗ v4) ⊗ v3 ⊖ (v2 ⊗ v4) ⊗ v1) refl
-          ∙ ap (λ (u : ℤ). (x *ℤ f) *ℤ e -ℤ u *ℤ d) (equal (y *ℤ f) (z *ℤ e) h)
+          ∙ ap (λ (u : ℤ). (x *ℤ f) *ℤ e -ℤ u *ℤ d) (equal_of_gap (y *ℤ f) (z *ℤ e) h)
           ∙ ring (x ∷ d ∷ e ∷ z ∷ f ∷ []) ((v0 ⊗ v4) ⊗ v2 ⊖ (v3 ⊗ v2) ⊗ v1) ((v0 ⊗ v4 ⊖ v3 ⊗ v1) ⊗ v2) refl
 
   no_swing : (x : Point) → swing above right x x ≡ pos 0

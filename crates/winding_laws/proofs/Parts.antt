@@ -7,12 +7,10 @@ use Rattle.scad_base.proofs.Products.{positive_product}
 use Rattle.scad_geom.specs.Point.{Point}
 use Rattle.scad_geom.specs.Near.{mean}
 use Rattle.scad_geom.proofs.Ring.{ring, num, ◌⊕◌, ◌⊖◌, ◌⊗◌, v0, v1, v2, v3, v4, v5, v6, v7, v8, v9}
-use Rattle.scad_geom.proofs.Signs.{at_least_mul, sum_at_least}
+use Rattle.scad_geom.proofs.Signs.{at_least_mul, sum_at_least, one-mul}
 use Rattle.winding_laws.specs.Parts.{IsOn, PartsAreOn, PartsAreAll}
 use Rattle.scad_base.proofs.Integers.{at_most_of_less}
-
-one_times : (z : ℤ) → pos 1 *ℤ z ≡ z
-one_times z = omega (arith, ints)
+use Rattle.std.proofs.Math.IntN.{+ℤ_comm}
 
 -- a mean is a point of the segment
 pub mean_on : (s t : ℤ) → pos 0 ≤ℤ s → pos 0 ≤ℤ t → pos 0 <ℤ (s +ℤ t) → (a b : Point) → IsOn a b (mean s t a b)
@@ -25,9 +23,9 @@ mean_on s t hs ht o a b =
       first = hs;
       second = ht;
       some = o;
-      x = one_times (s *ℤ a.x +ℤ t *ℤ b.x);
-      y = one_times (s *ℤ a.y +ℤ t *ℤ b.y);
-      d = one_times (s *ℤ a.d +ℤ t *ℤ b.d);
+      x = one-mul (s *ℤ a.x +ℤ t *ℤ b.x);
+      y = one-mul (s *ℤ a.y +ℤ t *ℤ b.y);
+      d = one-mul (s *ℤ a.d +ℤ t *ℤ b.d);
     }
 
 -- read backwards
@@ -42,13 +40,10 @@ on_turned a b p h =
       first = h.second;
       second = h.first;
       some = omega (arith, ints);
-      x = h.x ∙ swap (h.s *ℤ a.x) (h.t *ℤ b.x);
-      y = h.y ∙ swap (h.s *ℤ a.y) (h.t *ℤ b.y);
-      d = h.d ∙ swap (h.s *ℤ a.d) (h.t *ℤ b.d);
+      x = h.x ∙ +ℤ_comm (h.s *ℤ a.x) (h.t *ℤ b.x);
+      y = h.y ∙ +ℤ_comm (h.s *ℤ a.y) (h.t *ℤ b.y);
+      d = h.d ∙ +ℤ_comm (h.s *ℤ a.d) (h.t *ℤ b.d);
     }
-  where
-    swap : (x y : ℤ) → x +ℤ y ≡ y +ℤ x
-    swap x y = omega (arith, ints)
 
 -- ---- of a part
 -- one number of a point by weights of points that are means by weights themselves

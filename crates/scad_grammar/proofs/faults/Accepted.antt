@@ -17,7 +17,7 @@ use Rattle.scad_grammar.proofs.faults.Faults.{standing, opens_once}
 use Rattle.scad_grammar.proofs.grammar.Loose.{loose_program}
 use Rattle.scad_grammar.proofs.grammar.Tight.{tight_program}
 use Rattle.scad_grammar.proofs.reader.Statements.{runs_program}
-use Rattle.scad_grammar.proofs.reader.Asked.{same_some}
+use Rattle.std.proofs.lemmas.Option.{same_Some}
 
 -- none of these tokens has a fault, where those stand before
 abbrev NoneRefused : List Token → List Token → Type 0
@@ -134,5 +134,5 @@ accepts_what_is_derived ts end p = (
     by_answer (Ok q) j none d =
         let r = accepted j in
         subst (λ (x : Items). Judged [] ts end (Ok x))
-        (same_some q p (sym (runs_program (r.derived q refl)) ∙ runs_program d)) j
+        (same_Some q p (sym (runs_program (r.derived q refl)) ∙ runs_program d)) j
     by_answer (Err f) j none d = absurd ((accepted j).refused f refl none p d)
