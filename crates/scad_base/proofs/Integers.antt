@@ -36,6 +36,9 @@ less_of_fall a b h = omega (arith, ints)
 pub equal_of_gap : (a b : ℤ) → a -ℤ b ≡ pos 0 → a ≡ b
 equal_of_gap a b h = omega (arith, ints)
 
+pub zero_between : (a : ℤ) → pos 0 ≤ℤ a → a ≤ℤ pos 0 → a ≡ pos 0
+zero_between a h k = omega (arith, ints)
+
 -- what is added to a positive number
 pub sum_above : (a b : ℤ) → pos 0 <ℤ a → pos 0 ≤ℤ b → pos 0 <ℤ (a +ℤ b)
 sum_above a b h k = omega (arith, ints)

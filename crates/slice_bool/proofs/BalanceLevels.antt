@@ -35,7 +35,7 @@ use Rattle.slice_snap.specs.Pieces.{ArePiecesBalanced}
 use Rattle.slice_bool.proofs.Passing.{IsLive, live_bundles}
 use Rattle.slice_bool.proofs.Middle.{size_of, half_point, lower_scaled, scaled_below}
 use Rattle.slice_snap.proofs.Ways.{wind_pieces-append}
-use Rattle.slice_bool.proofs.Winding.{stops_still}
+use Rattle.slice_bool.proofs.Winding.{stops_still, with_zero}
 use Rattle.slice_bool.proofs.Walk.{pieces_wind}
 use Rattle.slice_bool.proofs.BalanceTurns.{ahead, ahead_over, ahead_under, ahead_both, step_up, step_down}
 use Rattle.slice_bool.proofs.BalanceEdges.{IsAside, level_values}
@@ -126,10 +126,7 @@ module _ (es : List LeafEdge) (shape : Shape) (balanced : AreLeavesBalanced es) 
 
   last_level : (l : Level) (stops : List Spot) (pieces : List Piece) (k : ℤ) → AreStops es l stops → pieces ≡ flat_pieces es shape stops → aheads right p (flat_pieces es shape stops) ≡ k → aheads right p pieces ≡ steps right p pieces +ℤ k
   last_level l stops pieces k st is hk =
-      total (aheads right p pieces) (steps right p pieces) k (ap (aheads right p) is ∙ hk) (ap (steps right p) is ∙ flat_steps es shape right p l stops st)
-    where
-      total : (x y k : ℤ) → x ≡ k → y ≡ pos 0 → x ≡ y +ℤ k
-      total x y k h m = omega (arith, ints)
+      with_zero (aheads right p pieces) (steps right p pieces) k (ap (aheads right p) is ∙ hk) (ap (steps right p) is ∙ flat_steps es shape right p l stops st)
 
   no_more : (x y : ℤ) → x ≡ y +ℤ (pos 0 +ℤ pos 0) → x ≡ y +ℤ pos 0
   no_more x y h = omega (arith, ints)

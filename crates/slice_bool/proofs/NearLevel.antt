@@ -31,7 +31,7 @@ use Rattle.slice_bool.specs.Stops.{spots_in}
 use Rattle.slice_bool.specs.Near.{passing_at, flats_from, first_cover, IsNear}
 use Rattle.slice_bool.proofs.Middle.{lower_scaled, scaled_below}
 use Rattle.slice_bool.proofs.Stretches.{position_more, position_here}
-use Rattle.slice_bool.proofs.Winding.{IsSpotAt, stops_at}
+use Rattle.slice_bool.proofs.Winding.{IsSpotAt, stops_at, with_zero}
 use Rattle.std.proofs.lemmas.Bool.{and_left}
 
 -- ---- edges that don't pass the level of a spot
@@ -105,13 +105,10 @@ passing_wind above s runs d leaf (e ∷ es) = by_test (passes_at e.edge s.at) re
     nothing true h = h
     nothing false h = refl
 
-    without : (x y z : ℤ) → x ≡ pos 0 → y ≡ z → y ≡ x +ℤ z
-    without x y z h k = omega (arith, ints)
-
     by_test : (t : Bool) → passes_at e.edge s.at ≡ t → wind_leaf above true (point_of s) leaf (passing_at es s.at) ≡ wind_leaf above true (point_of s) leaf es
         → wind_leaf above true (point_of s) leaf (if t then e ∷ passing_at es s.at else passing_at es s.at) ≡ own +ℤ wind_leaf above true (point_of s) leaf es
     by_test true q h = ap (λ (z : ℤ). own +ℤ z) h
-    by_test false q h = without own _ _ (nothing (e.leaf == leaf) (still above s runs d e.edge q)) h
+    by_test false q h = with_zero _ own _ h (nothing (e.leaf == leaf) (still above s runs d e.edge q))
 
 pub passing_values : (above : Bool) (s : Spot) → pos 0 <ℤ pos s.run → pos 0 <ℤ s.at.d → (es : List LeafEdge) (shape : Shape)
     → is_in_by above true (passing_at es s.at) shape (point_of s) ≡ is_in_by above true es shape (point_of s)

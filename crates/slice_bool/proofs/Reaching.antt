@@ -21,6 +21,7 @@ use Rattle.scad_geom.proofs.Turns.{level_at, Over, NotOver, Spans, over_up, not_
 use Rattle.slice_slab.proofs.Live.{reaches_is}
 use Rattle.scad_geom.proofs.Sums.{sum_z}
 use Rattle.std.proofs.lemmas.Bool.{true≢false}
+use Rattle.scad_base.proofs.Tests.{cond_same}
 
 reaches_up : (e : Edge) (l u : Level) → pos 0 <ℤ l.d → pos 0 <ℤ u.d → IsLower l u → IsAtMost (level_of e.a.y) l → IsAtMost u (level_of e.b.y) → reaches e l u ≡ true
 unfolding reaches low high rise
@@ -114,9 +115,5 @@ wind_reaching above right p leaf es l u n dp s =
         ap (λ (z : ℤ). if (get_or es i no_edge).leaf == leaf then z else pos 0) (reaching_turn above right p (get_or es i no_edge).edge l u dp n.lower_divisor n.upper_divisor r s)
         ∙ swap ((get_or es i no_edge).leaf == leaf) (lies_left es right p i) (heading (get_or es i no_edge).edge)
 
-    nothing : (t : Bool) → (if t then pos 0 else pos 0) ≡ pos 0
-    nothing true = refl
-    nothing false = refl
-
     none : (i : ℕ) → turn above right p (whole (get_or es i no_edge).edge.a) (whole (get_or es i no_edge).edge.b) ≡ pos 0 → share above right p leaf (get_or es i no_edge) ≡ pos 0
-    none i h = ap (λ (z : ℤ). if (get_or es i no_edge).leaf == leaf then z else pos 0) h ∙ nothing ((get_or es i no_edge).leaf == leaf)
+    none i h = ap (λ (z : ℤ). if (get_or es i no_edge).leaf == leaf then z else pos 0) h ∙ cond_same ((get_or es i no_edge).leaf == leaf) (pos 0)

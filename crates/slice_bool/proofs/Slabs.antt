@@ -116,23 +116,24 @@ telescope true false = refl
 telescope false true = refl
 telescope false false = refl
 
+pub later_live : (es : List LeafEdge) (l u : Level) (before bs : List (List ℕ)) → AllByRecursion (IsLive es l u) (concat (before ++ bs))
+    → AllByRecursion (IsLive es l u) (concat bs)
+later_live es l u [] bs h = h
+later_live es l u (b ∷ before) bs h = later_live es l u before bs (back (IsLive es l u) b (concat (before ++ bs)) h)
+
+pub later_ranked : (es : List LeafEdge) (l : Level) (before bs : List (List ℕ)) → AreRanked es l (before ++ bs) → AreRanked es l bs
+later_ranked es l [] bs h = h
+later_ranked es l (b ∷ before) bs h = later_ranked es l before bs h.2
+
 module _ (es : List LeafEdge) (shape : Shape) (above right : Bool) (p : Point) (l u : Level) (a : Around es above right p l u) where
-  later_live : (before bs : List (List ℕ)) → AllByRecursion (IsLive es l u) (concat (before ++ bs)) → AllByRecursion (IsLive es l u) (concat bs)
-  later_live [] bs h = h
-  later_live (b ∷ before) bs h = later_live before bs (back (IsLive es l u) b (concat (before ++ bs)) h)
-
-  later_ranked : (before bs : List (List ℕ)) → AreRanked es l (before ++ bs) → AreRanked es l bs
-  later_ranked [] bs h = h
-  later_ranked (b ∷ before) bs h = later_ranked before bs h.2
-
   pub slab_wind : (before bs : List (List ℕ)) → AreBundles es l u (before ++ bs)
       → wind_pieces above right p (slab_pieces es shape l u bs) ≡ counted (value_of es shape (passing es right p bs))
   slab_wind before [] b = sym (ap counted (value_nothing es shape))
-  slab_wind before ([] ∷ bs) b = absurd (later_ranked before ([] ∷ bs) b.ranked).0
+  slab_wind before ([] ∷ bs) b = absurd (later_ranked es l before ([] ∷ bs) b.ranked).0
   slab_wind before ((k ∷ ks) ∷ bs) b =
       let shifted : before ++ ((k ∷ ks) ∷ bs) ≡ (before ++ ((k ∷ ks) ∷ [])) ++ bs = sym (append_assoc before ((k ∷ ks) ∷ []) bs) in
       let r = slab_wind (before ++ ((k ∷ ks) ∷ [])) bs (subst (AreBundles es l u) shifted b) in
-      let ls = later_live before ((k ∷ ks) ∷ bs) (live_bundles es l u (before ++ ((k ∷ ks) ∷ bs)) b) in
+      let ls = later_live es l u before ((k ∷ ks) ∷ bs) (live_bundles es l u (before ++ ((k ∷ ks) ∷ bs)) b) in
       let lk : IsLive es l u k = ls.0 in
       let n = a.neighbours in
       let one = wind_between above right p (lies_left es right p k) (is_in_by true false es shape (half_point es l u k)) (is_in_by true true es shape (half_point es l u k))
@@ -143,7 +144,7 @@ module _ (es : List LeafEdge) (shape : Shape) (above right : Bool) (p : Point) (
       let vr = value_right es l u n k lk shape ks before bs b in
       let one' = one ∙ ap₂ (λ (v w : Bool). if lies_left es right p k then counted v -ℤ counted w else pos 0) vl vr in
       let split = wind_pieces-append above right p (bundle_piece es shape l u (k ∷ ks)) (slab_pieces es shape l u bs) in
-      let ranked = later_ranked before ((k ∷ ks) ∷ bs) b.ranked in
+      let ranked = later_ranked es l before ((k ∷ ks) ∷ bs) b.ranked in
       split ∙ ap₂ (λ (y z : ℤ). y +ℤ z) one' r ∙ by_test (lies_left es right p k) (λ e. passing_all es right p bs (all_pass es above right p l u a k ks bs lk ranked.1 (back (IsLive es l u) (k ∷ ks) (concat bs) ls) e))
     where
       by_test : (t : Bool) → (t ≡ true → passing es right p bs ≡ bs)

@@ -1,7 +1,7 @@
 -- Points on the line of an edge: by height where the edge rises, else by x.
 use Rattle.std.proofs.Common.{◌≡◌, Bool, true, false, cond, [], ◌∷◌, refl, sym, ap, ap₂, ◌∙◌, arith, subst}
 use lib.IntN.{ℤ, pos, ◌+ℤ◌, ◌-ℤ◌, ◌*ℤ◌}
-use lib.Signed.{◌<ℤ◌, ◌≤ℤ◌}
+use lib.Signed.{◌<ℤ◌}
 use Rattle.std.specs.Prelude.{int_lt, ◌&&◌}
 use Rattle.std.specs.Cmp.{signed_Decides}
 use Rattle.std.proofs.lemmas.Int.{ints, by_lt_z}
@@ -14,7 +14,7 @@ use Rattle.scad_geom.proofs.Ring.{ring, num, ◌⊕◌, ◌⊖◌, ◌⊗◌, v0
 use Rattle.scad_geom.proofs.Bounds.{rise_at_least}
 use Rattle.slice_snap.specs.Naming.{IsOnLine}
 use Rattle.scad_geom.proofs.Signs.{no_gap}
-use Rattle.scad_base.proofs.Integers.{equal_of_gap}
+use Rattle.scad_base.proofs.Integers.{equal_of_gap, zero_between}
 use Rattle.std.proofs.lemmas.Bool.{true≢false}
 
 -- the rise times a gap across is the run times the gap upwards, for two points of the line
@@ -30,13 +30,10 @@ across_gap r u o x y d x' y' d' h k =
 
 cancel_any : (a r : ℤ) → (r ≡ pos 0 → ⊥) → a *ℤ r ≡ pos 0 → a ≡ pos 0
 cancel_any a r n h = by_lt_z (pos 0) r (λ p. zero_factor a r p h)
-    (λ p. by_lt_z r (pos 0) (λ q. zero_factor a (pos 0 -ℤ r) (turned r q) (turned_mul a r h)) (λ q. absurd (n (both r p q))))
+    (λ p. by_lt_z r (pos 0) (λ q. zero_factor a (pos 0 -ℤ r) (turned r q) (turned_mul a r h)) (λ q. absurd (n (zero_between r q p))))
   where
     turned : (r : ℤ) → r <ℤ pos 0 → pos 0 <ℤ (pos 0 -ℤ r)
     turned r h = omega (arith, ints)
-
-    both : (r : ℤ) → r ≤ℤ pos 0 → pos 0 ≤ℤ r → r ≡ pos 0
-    both r h k = omega (arith, ints)
 
     turned_mul : (a r : ℤ) → a *ℤ r ≡ pos 0 → a *ℤ (pos 0 -ℤ r) ≡ pos 0
     turned_mul a r h =

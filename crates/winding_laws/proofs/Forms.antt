@@ -16,17 +16,17 @@ use Rattle.scad_geom.proofs.Ring.{ring, num, ◌⊕◌, ◌⊖◌, ◌⊗◌, v0
 use Rattle.scad_geom.proofs.Sums.{sum_z}
 use Rattle.scad_geom.proofs.Turns.{beyond_mul}
 use Rattle.winding_laws.specs.Region.{HalfPlane, HoldsOrigin}
-use Rattle.winding_laws.specs.Nearness.{IsPoint, seen_from, IsProper, IsFarSegment}
+use Rattle.winding_laws.specs.Nearness.{IsPoint, seen_from, IsFarSegment}
 use Rattle.winding_laws.specs.OneWinding.{FormsWindAlike}
 use Rattle.winding_laws.proofs.Views.{cross, swing, swing_turned, turn_seen, IsAlong}
 use Rattle.winding_laws.proofs.Regions.{scaled, holds_scaled, holds_as}
 use Rattle.winding_laws.proofs.Corners.{IsAway, away_turned}
-use Rattle.winding_laws.proofs.Edges.{clear_seen}
+use Rattle.winding_laws.proofs.Edges.{clear_seen, far_proper}
 use Rattle.winding_laws.proofs.Sameness.{are_same, along_seen}
-use Rattle.winding_laws.proofs.Totals.{starts, ends, balanced_totals}
+use Rattle.winding_laws.proofs.Totals.{starts, ends, balanced_totals, sums_apart, equal_by_gaps}
 use Rattle.winding_laws.proofs.Triangles.{flat}
 use Rattle.winding_laws.proofs.Weights.{some_weight}
-use Rattle.scad_base.proofs.Integers.{at_most_of_less}
+use Rattle.scad_base.proofs.Integers.{at_most_of_less, zero_between}
 use Rattle.std.proofs.Math.IntN.{zero-*ℤ}
 use Rattle.scad_geom.proofs.Signs.{one-mul}
 use Rattle.std.specs.Cmp.{both_ways}
@@ -55,10 +55,7 @@ beyond_forms false z n = by_lt_z (pos 0) z
     let s : int_le (pos 0) z ≡ false = sym (omega (arith, ints)) in
     let t : int_lt (pos 0) z ≡ false = sym (omega (arith, ints)) in
     s ∙ sym t)
-    (λ k. absurd (n (both z h k))))
-  where
-    both : (z : ℤ) → z ≤ℤ pos 0 → pos 0 ≤ℤ z → z ≡ pos 0
-    both z h k = omega (arith, ints)
+    (λ k. absurd (n (zero_between z k h))))
 
 pub beyond_above : (above : Bool) (z : ℤ) → pos 0 <ℤ z → is_beyond above z ≡ true
 unfolding is_beyond
@@ -263,27 +260,17 @@ module _ (region : List HalfPlane) (o : HoldsOrigin region) where
         ap₂ (λ (y z : ℤ). y -ℤ z) (turn_seen true true q s.from s.to dq h.proper.from) (turn_seen false true q s.from s.to dq h.proper.from)
         ∙ steps (seen_from q s.from) (seen_from q s.to) (positive_product s.from.d q.d h.proper.from dq) (positive_product s.to.d q.d h.proper.to dq) (clear_seen region q s.from s.to h.far)
 
-    sums : (t f x y w v c e : ℤ) → t -ℤ f ≡ x -ℤ y → w -ℤ v ≡ c -ℤ e → (t +ℤ w) -ℤ (f +ℤ v) ≡ (x +ℤ c) -ℤ (y +ℤ e)
-    sums t f x y w v c e h k = omega (arith, ints)
-
     list_steps : (ss : List Segment) → AllByRecursion (IsFarSegment region q) ss → wind_by true true q ss -ℤ wind_by false true q ss ≡ sum_z ahead_of (starts ss) -ℤ sum_z ahead_of (ends ss)
     list_steps [] h = refl
     list_steps (s ∷ ss) h =
-        sums (turn true true q s.from s.to) (turn false true q s.from s.to) (ahead_of s.from) (ahead_of s.to) (wind_by true true q ss) (wind_by false true q ss) (sum_z ahead_of (starts ss)) (sum_z ahead_of (ends ss))
+        sums_apart (turn true true q s.from s.to) (turn false true q s.from s.to) (ahead_of s.from) (ahead_of s.to) (wind_by true true q ss) (wind_by false true q ss) (sum_z ahead_of (starts ss)) (sum_z ahead_of (ends ss))
         (edge_steps s h.0) (list_steps ss h.1)
-
-    proper : (ss : List Segment) → AllByRecursion (IsFarSegment region q) ss → AllByRecursion IsProper ss
-    proper [] h = tt
-    proper (s ∷ ss) h = (h.0.proper, proper ss h.1)
-
-    equal : (t f x y : ℤ) → t -ℤ f ≡ x -ℤ y → x ≡ y → f ≡ t
-    equal t f x y h k = omega (arith, ints)
 
     alike : (above right : Bool) (ss : List Segment) → IsBalanced ss → AllByRecursion (IsFarSegment region q) ss → wind_by above right q ss ≡ wind q ss
     alike true right ss b h = list_sideways true right ss h
     alike false right ss b h =
         list_sideways false right ss h
-        ∙ equal (wind_by true true q ss) (wind_by false true q ss) (sum_z ahead_of (starts ss)) (sum_z ahead_of (ends ss)) (list_steps ss h) (balanced_totals ahead_of ahead_same ss (proper ss h) b)
+        ∙ sym (equal_by_gaps (wind_by true true q ss) (wind_by false true q ss) (sum_z ahead_of (starts ss)) (sum_z ahead_of (ends ss)) (list_steps ss h) (balanced_totals ahead_of ahead_same ss (far_proper region q ss h) b))
 
 pub forms_wind_alike : FormsWindAlike
 forms_wind_alike region o above right q d ss b h = alike region o q d above right ss b (recursion_from_All (IsFarSegment region q) ss h)

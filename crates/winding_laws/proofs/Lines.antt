@@ -15,7 +15,7 @@ use Rattle.winding_laws.specs.Approach.{LinesAreAll}
 use Rattle.winding_laws.proofs.Parts.{on_turned, parts_are_on, parts_are_all}
 use Rattle.winding_laws.proofs.Between.{rise, bend, bend_side, bend_turned, rises, rises_on, exchanged, side_exchanged, on_exchanged}
 use Rattle.winding_laws.proofs.Weights.{some_weight}
-use Rattle.scad_base.proofs.Integers.{at_most_of_less, equal_of_gap}
+use Rattle.scad_base.proofs.Integers.{at_most_of_less, equal_of_gap, zero_between}
 
 -- ---- the ends
 only_first : (x y : ℤ) → pos 1 *ℤ x ≡ pos 1 *ℤ x +ℤ pos 0 *ℤ y
@@ -115,7 +115,7 @@ module _ (a m b p : Point) (da : IsPoint a) (dm : IsPoint m) (db : IsPoint b) (u
       let some : pos 0 <ℤ (rise m b +ℤ rise a m) =
       by_lt_z (pos 0) (rise m b) (λ g. omega (arith, ints))
       (λ g. by_lt_z (pos 0) (rise a m) (λ f. omega (arith, ints))
-      (λ f. absurd (none (rise m b) (rise a m) a.d b.d (both g h) (both f k) (subst (λ (z : ℤ). pos 0 <ℤ z) sum all)))) in
+      (λ f. absurd (none (rise m b) (rise a m) a.d b.d (zero_between _ h g) (zero_between _ k f) (subst (λ (z : ℤ). pos 0 <ℤ z) sum all)))) in
       parts_are_all a b m p
       (record {
         k = rise a b;
@@ -131,9 +131,6 @@ module _ (a m b p : Point) (da : IsPoint a) (dm : IsPoint m) (db : IsPoint b) (u
       })
       o
     where
-      both : {z : ℤ} → z ≤ℤ pos 0 → pos 0 ≤ℤ z → z ≡ pos 0
-      both h k = omega (arith, ints)
-
       none : (u v x y : ℤ) → u ≡ pos 0 → v ≡ pos 0 → pos 0 <ℤ (u *ℤ x +ℤ v *ℤ y) → ⊥
       none u v x y hu hv h =
           let z : u *ℤ x +ℤ v *ℤ y ≡ pos 0 = ap₂ (λ (s t : ℤ). s *ℤ x +ℤ t *ℤ y) hu hv ∙ ring (x ∷ y ∷ []) (num (pos 0) ⊗ v0 ⊕ num (pos 0) ⊗ v1) (num (pos 0)) refl in

@@ -15,15 +15,15 @@ use Rattle.scad_geom.specs.Near.{mean}
 use Rattle.scad_geom.proofs.Ring.{ring, ◌⊖◌, ◌⊗◌, v0, v1, v2, v3, v4}
 use Rattle.scad_geom.proofs.Sums.{sum_z}
 use Rattle.winding_laws.specs.Region.{HalfPlane, Holds, square}
-use Rattle.winding_laws.specs.Nearness.{IsPoint, seen_from, IsNear, IsFar, IsProper, IsFarSegment, IsClearSegment}
+use Rattle.winding_laws.specs.Nearness.{IsPoint, seen_from, IsNear, IsFar, IsFarSegment, IsClearSegment}
 use Rattle.winding_laws.specs.OneWinding.{RegionsHaveOneWinding, SquaresHaveOneWinding}
 use Rattle.winding_laws.proofs.Views.{swing, swing_turned, turn_seen, IsAlong, swing_along, swing_to_along}
 use Rattle.winding_laws.proofs.Regions.{near_itself, near_seen, near_unseen, axis_seen, mean_seen}
 use Rattle.winding_laws.proofs.Corners.{IsAway}
-use Rattle.winding_laws.proofs.Edges.{moved_swing}
+use Rattle.winding_laws.proofs.Edges.{moved_swing, far_proper}
 use Rattle.winding_laws.proofs.Sameness.{are_same, along_seen}
 use Rattle.winding_laws.proofs.Squares.{near_by_close, far_segments}
-use Rattle.winding_laws.proofs.Totals.{starts, ends, balanced_totals}
+use Rattle.winding_laws.proofs.Totals.{starts, ends, balanced_totals, sums_changed, equal_by_sums}
 use Rattle.winding_laws.proofs.Ways.{length, way, way_holds_origin, near_moved_back, way_near, by_length}
 use Rattle.scad_base.proofs.Integers.{at_most_of_less, equal_of_gap}
 use Rattle.scad_geom.proofs.Signs.{no_gap, square_at_least, mul-one}
@@ -121,27 +121,18 @@ module _ (region : List HalfPlane) (above right : Bool) (c q p : Point) (dc : po
   changed_turn a b da db f = by_length far (λ more. two_points more a b da db f) (λ hx hy. one_point hx hy a b da db)
 
   -- ---- of a list
-  proper : (ss : List Segment) → AllByRecursion (IsFarSegment region c) ss → AllByRecursion IsProper ss
-  proper [] h = tt
-  proper (s ∷ ss) h = (h.0.proper, proper ss h.1)
-
-  sums : (t u a b w v x y : ℤ) → t ≡ u +ℤ (b -ℤ a) → w +ℤ x ≡ v +ℤ y → (t +ℤ w) +ℤ (a +ℤ x) ≡ (u +ℤ v) +ℤ (b +ℤ y)
-  sums t u a b w v x y h k = omega (arith, ints)
 
   wind_changed : (ss : List Segment) → AllByRecursion (IsFarSegment region c) ss → wind_by above right p ss +ℤ sum_z change (starts ss) ≡ wind_by above right q ss +ℤ sum_z change (ends ss)
   wind_changed [] h = refl
   wind_changed (s ∷ ss) h =
-      sums (turn above right p s.from s.to) (turn above right q s.from s.to) (change s.from) (change s.to)
+      sums_changed (turn above right p s.from s.to) (turn above right q s.from s.to) (change s.from) (change s.to)
       (wind_by above right p ss) (wind_by above right q ss) (sum_z change (starts ss)) (sum_z change (ends ss))
       (changed_turn s.from s.to h.0.proper.from h.0.proper.to h.0.far) (wind_changed ss h.1)
 
-  cancel : (w v a b : ℤ) → w +ℤ a ≡ v +ℤ b → a ≡ b → w ≡ v
-  cancel w v a b h k = omega (arith, ints)
-
   pub one_winding : (ss : List Segment) → IsBalanced ss → AllByRecursion (IsFarSegment region c) ss → wind_by above right p ss ≡ wind_by above right q ss
   one_winding ss b h =
-      cancel (wind_by above right p ss) (wind_by above right q ss) (sum_z change (starts ss)) (sum_z change (ends ss))
-      (wind_changed ss h) (balanced_totals change change_same ss (proper ss h) b)
+      equal_by_sums (wind_by above right p ss) (wind_by above right q ss) (sum_z change (starts ss)) (sum_z change (ends ss))
+      (wind_changed ss h) (balanced_totals change change_same ss (far_proper region c ss h) b)
 
 pub regions_have_one_winding : RegionsHaveOneWinding
 regions_have_one_winding region above right c q p dc dq dp nq np ss b h = one_winding region above right c q p dc dq dp nq np ss b (recursion_from_All (IsFarSegment region c) ss h)

@@ -10,6 +10,7 @@ use Rattle.scad_geom.specs.Winding.{is_beyond}
 use Rattle.scad_geom.proofs.Ring.{ring, num, ◌⊕◌, ◌⊖◌, ◌⊗◌, v0, v1, v2, v3, v4, v5}
 use Rattle.scad_geom.proofs.Signs.{at_most_mul, at_least_left, positive_as, one-mul}
 use Rattle.winding_laws.proofs.Views.{cross, cross_turned, swing_by, swing}
+use Rattle.scad_base.proofs.Tests.{cond_same}
 
 -- the origin lies in the triangle from a to b to c, or on its border: it lies to the left of each side or on it
 pub record IsRound (a b c : Point) : Type 0 where
@@ -120,16 +121,8 @@ minus_mul : (z : ℤ) → negsuc 0 *ℤ z ≡ pos 0 -ℤ z
 minus_mul z = omega (arith, ints)
 
 pub flat : (right s : Bool) (z : ℤ) → swing_by right s s z ≡ pos 0
-flat right true z = nothing (is_beyond right (pos 0 *ℤ z))
-  where
-    nothing : (b : Bool) → (if b then pos 0 else pos 0) ≡ pos 0
-    nothing true = refl
-    nothing false = refl
-flat right false z = nothing (is_beyond right (pos 0 *ℤ z))
-  where
-    nothing : (b : Bool) → (if b then pos 0 else pos 0) ≡ pos 0
-    nothing true = refl
-    nothing false = refl
+flat right true z = cond_same (is_beyond right (pos 0 *ℤ z)) (pos 0)
+flat right false z = cond_same (is_beyond right (pos 0 *ℤ z)) (pos 0)
 
 up_and_down : (b : Bool) → (if b then pos 1 else pos 0) +ℤ (pos 0 +ℤ (if b then negsuc 0 else pos 0)) ≡ pos 0
 up_and_down true = refl

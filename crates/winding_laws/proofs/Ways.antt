@@ -10,7 +10,7 @@ use Rattle.scad_geom.proofs.Signs.{at_least_mul, sum_at_least, square_at_least, 
 use Rattle.winding_laws.specs.Region.{HalfPlane, Holds, HoldsOrigin}
 use Rattle.winding_laws.specs.Nearness.{seen_from, IsNear}
 use Rattle.winding_laws.proofs.Regions.{scaled, added, holds_scaled, holds_added, holds_left, holds_as}
-use Rattle.scad_base.proofs.Integers.{at_most_of_less, gap_of_at_most, sum_above}
+use Rattle.scad_base.proofs.Integers.{at_most_of_less, gap_of_at_most, sum_above, zero_between}
 use Rattle.std.proofs.Math.IntN.{zero-*ℤ}
 
 -- the cross product of p and d: 0 where p lies on the line from the origin through d
@@ -169,10 +169,7 @@ positive_square z n = by_lt_z (pos 0) z (λ h. positive_product z z h h)
     (λ k. let turned : (pos 0 -ℤ z) *ℤ (pos 0 -ℤ z) ≡ z *ℤ z = ring (z ∷ []) ((num (pos 0) ⊖ v0) ⊗ (num (pos 0) ⊖ v0)) (v0 ⊗ v0) refl in
     let above : pos 0 <ℤ (pos 0 -ℤ z) = omega (arith, ints) in
     subst (λ (y : ℤ). pos 0 <ℤ y) turned (positive_product (pos 0 -ℤ z) (pos 0 -ℤ z) above above))
-    (λ k. absurd (n (both z h k))))
-  where
-    both : (z : ℤ) → z ≤ℤ pos 0 → pos 0 ≤ℤ z → z ≡ pos 0
-    both z h k = omega (arith, ints)
+    (λ k. absurd (n (zero_between z k h))))
 
 pub by_length : {A : Type 0} (d : Point) → (pos 0 <ℤ length d → A) → (d.x ≡ pos 0 → d.y ≡ pos 0 → A) → A
 by_length {A = A} d f g =

@@ -34,23 +34,20 @@ no_fault before t n may o le (too_deep m other lt) =
 split_more : (front : List Token) (t : Token) (ts : List Token) → front ++ (t ∷ ts) ≡ (front ++ (t ∷ [])) ++ ts
 split_more front t ts = sym (append_assoc front (t ∷ []) ts)
 
+same_head : (t u : Token) (ts us : List Token) → t ∷ ts ≡ u ∷ us → t ≡ u
+same_head t u ts us e = cc
+
 none_refused-next : (front ts : List Token) (t : Token) → (HasFault front t → ⊥) →
     NoneRefused (front ++ (t ∷ [])) ts → NoneRefused front (t ∷ ts)
 none_refused-next front ts t first later [] behind u e f =
     first (subst (λ (x : Token). HasFault front x) (sym (same_head t u ts behind e))
     (subst (λ (xs : List Token). HasFault xs u) (append-nil front) f))
-  where
-    same_head : (t u : Token) (ts us : List Token) → t ∷ ts ≡ u ∷ us → t ≡ u
-    same_head t u ts us e = cc
 none_refused-next front ts t first later (b ∷ before) behind u e f =
     later before behind u (same_tail t b ts (before ++ (u ∷ behind)) e)
     (subst (λ (xs : List Token). HasFault xs u)
     (split_more front b before
     ∙ ap (λ (x : Token). (front ++ (x ∷ [])) ++ before) (sym (same_head t b ts (before ++ (u ∷ behind)) e))) f)
   where
-    same_head : (t u : Token) (ts us : List Token) → t ∷ ts ≡ u ∷ us → t ≡ u
-    same_head t u ts us e = cc
-
     same_tail : (t u : Token) (ts us : List Token) → t ∷ ts ≡ u ∷ us → ts ≡ us
     same_tail t u ts us e = cc
 
