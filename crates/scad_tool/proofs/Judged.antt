@@ -37,7 +37,7 @@ use Rattle.scad_tool.specs.Answer.{IsRead, IsDrawingOf, IsDrawn, settings_found}
 use Rattle.scad_tool.specs.Playing.{DrawsSolids, DrawSolids}
 use Rattle.scad_tool.specs.Promises.{MeansTree, IsTreeOf, GoBy, OutlinesHoldTree, JudgesWords, JudgesJob}
 use Rattle.scad_tool.proofs.Working.{model_read_as, settings_read_as}
-use Rattle.scad_tool.proofs.Settings.{settings_have}
+use Rattle.scad_tool.proofs.Following.{settings_have}
 use Rattle.scad_tool.proofs.Heights.{found_in_range}
 
 -- The outlines of a source that was sliced to the end.

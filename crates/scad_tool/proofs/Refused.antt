@@ -34,7 +34,7 @@ use Rattle.scad_tool.specs.Meaning.{source_means}
 use Rattle.scad_tool.specs.Told.{check_script, tree_script, echoed, told}
 use Rattle.scad_tool.specs.Answer.{Drawings, Inputs, input_script, model_script, job_script, script_of}
 use Rattle.scad_tool.specs.Promises.{IsReported, IsRefused, IsCutShort, Refuses, Leaves, LeavesOutputs}
-use Rattle.scad_tool.proofs.Settings.{settings_have}
+use Rattle.scad_tool.proofs.Following.{settings_have}
 
 -- Commands that only read and report.
 
