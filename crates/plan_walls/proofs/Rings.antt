@@ -134,7 +134,7 @@ module _ (q : Point) (some : pos 0 <ℤ q.d) (X Y : Pt → ℤ) (left : (a b : P
   grows from [] last h a b c = inl (left from last h.0)
   grows from (p ∷ ps) last h a b c = chain (X from) (Y from) (X p) (Y p) (X last) (Y last) a b.0 c (left from p h.0) (grows p ps last h.1 b.0 b.1 c)
 
-  pub no_way : (p : Pt) (ps : List Pt) → AllLeft q p ps p → pos 0 ≤ℤ Y p → AllByRecursion (λ p. pos 0 ≤ℤ Y p) ps → ⊥
+  no_way : (p : Pt) (ps : List Pt) → AllLeft q p ps p → pos 0 ≤ℤ Y p → AllByRecursion (λ p. pos 0 ≤ℤ Y p) ps → ⊥
   no_way p ps h a b = itself (X p) (Y p) (grows p ps p h a b a)
 
 -- ---- the turns
@@ -254,7 +254,7 @@ module _ (above right : Bool) (q : Point) (some : pos 0 <ℤ q.d) where
   all_down [] h = tt
   all_down (p ∷ ps) h = (over_down p h.0, all_down ps h.1)
 
-  pub way_turns : (p : Pt) (ps : List Pt) → AllLeft q p ps p → pos 0 <ℤ turns_of p ps p
+  way_turns : (p : Pt) (ps : List Pt) → AllLeft q p ps p → pos 0 <ℤ turns_of p ps p
   way_turns p ps h = by_order (order (turns_of p ps p) (pos 0)) (λ z. absurd (by_test (over p) refl z)) (λ z. z)
     where
       by_test : (t : Bool) → over p ≡ t → turns_of p ps p ≤ℤ pos 0 → ⊥
