@@ -55,17 +55,16 @@ abbrev round_it : ℤ → List HalfPlane
 round_it n = box n (n -ℤ pos 1)
 
 in_square : (n x y : ℤ) → pos 0 ≤ℤ n → x <ℤ n → (pos 0 -ℤ x) <ℤ n → y <ℤ n → (pos 0 -ℤ y) <ℤ n → Holds (round_it n) (record { x = x; y = y; d = n })
-in_square n x y some r l u d =
+in_square n x y some r l u d = (
+  along_first n x y some r,
+  (
+    along_back n x y some l,
     (
-      along_first n x y some r,
-      (
-        along_back n x y some l,
-        (
-          at_most_as _ _ _ (other_order (pos 0) x n y) (along_first n y x some u),
-          (at_most_as _ _ _ (other_order (pos 0) x (pos 0 -ℤ n) y) (along_back n y x some d), tt),
-        ),
-      ),
-    )
+      at_most_as _ _ _ (other_order (pos 0) x n y) (along_first n y x some u),
+      (at_most_as _ _ _ (other_order (pos 0) x (pos 0 -ℤ n) y) (along_back n y x some d), tt),
+    ),
+  ),
+)
 
 near_it : (q b : Point) → pos 0 <ℤ (q.d *ℤ b.d) → IsWithinOne q b → IsNear (round_it (q.d *ℤ b.d)) b q
 near_it q b some one =

@@ -50,30 +50,28 @@ module _ (c : ℕ) (most : c ≤ 100000) where
 
   module _ (p q : Pt) (hp : IsWithin point_limit p) (hq : IsWithin point_limit q) where
     right_within : Within (to_the_right (pos c) p q)
-    right_within =
+    right_within = (
+      record { x = low_by p.x hp.x; y = low_by p.y hp.y },
+      (
+        record { x = high_by p.x hp.x; y = low_by p.y hp.y },
         (
-          record { x = low_by p.x hp.x; y = low_by p.y hp.y },
-          (
-            record { x = high_by p.x hp.x; y = low_by p.y hp.y },
-            (
-              record { x = high_by q.x hq.x; y = low_by q.y hq.y },
-              (record { x = high_by q.x hq.x; y = high_by q.y hq.y }, (record { x = low_by q.x hq.x; y = high_by q.y hq.y }, (record { x = low_by p.x hp.x; y = high_by p.y hp.y }, tt))),
-            ),
-          ),
-        )
+          record { x = high_by q.x hq.x; y = low_by q.y hq.y },
+          (record { x = high_by q.x hq.x; y = high_by q.y hq.y }, (record { x = low_by q.x hq.x; y = high_by q.y hq.y }, (record { x = low_by p.x hp.x; y = high_by p.y hp.y }, tt))),
+        ),
+      ),
+    )
 
     left_within : Within (to_the_left (pos c) p q)
-    left_within =
+    left_within = (
+      record { x = low_by p.x hp.x; y = low_by p.y hp.y },
+      (
+        record { x = high_by p.x hp.x; y = low_by p.y hp.y },
         (
-          record { x = low_by p.x hp.x; y = low_by p.y hp.y },
-          (
-            record { x = high_by p.x hp.x; y = low_by p.y hp.y },
-            (
-              record { x = high_by p.x hp.x; y = high_by p.y hp.y },
-              (record { x = high_by q.x hq.x; y = high_by q.y hq.y }, (record { x = low_by q.x hq.x; y = high_by q.y hq.y }, (record { x = low_by q.x hq.x; y = low_by q.y hq.y }, tt))),
-            ),
-          ),
-        )
+          record { x = high_by p.x hp.x; y = high_by p.y hp.y },
+          (record { x = high_by q.x hq.x; y = high_by q.y hq.y }, (record { x = low_by q.x hq.x; y = high_by q.y hq.y }, (record { x = low_by q.x hq.x; y = low_by q.y hq.y }, tt))),
+        ),
+      ),
+    )
 
     corners_within : Within (corners_round (pos c) p q)
     corners_within = by_tests (int_lt p.y q.y) (int_lt p.x q.x) (int_lt q.x p.x)

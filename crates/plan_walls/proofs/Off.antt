@@ -44,11 +44,10 @@ module _ (c : ℕ) (some : 1 ≤ c) (above right : Bool) (b : Point) (db : pos 0
       → some_inside (is_inside above right b all) k (length es) ≡ false → AllByRecursion (IsOff c b) es
   rings_off all k [] same h = tt
   rings_off all k (e ∷ es) same h =
-      let parts = neither (is_inside above right b all k) (some_inside (is_inside above right b all) (k + 1) (length es)) h in
-      (
+      let parts = neither (is_inside above right b all k) (some_inside (is_inside above right b all) (k + 1) (length es)) h in (
         (λ near.
-        not_wound (wind_by above right b (segments (edges_of k all))) parts.0
-        (subst (λ (fs : List Edge). pos 0 <ℤ wind_by above right b (segments fs)) (sym (same k (omega arith) ∙ first_ring c k e es)) (ring_winds c some e b db near above right))),
+            not_wound (wind_by above right b (segments (edges_of k all))) parts.0
+            (subst (λ (fs : List Edge). pos 0 <ℤ wind_by above right b (segments fs)) (sym (same k (omega arith) ∙ first_ring c k e es)) (ring_winds c some e b db near above right))),
         rings_off all (k + 1) es (λ leaf least. same leaf (omega (arith, least)) ∙ later_ring c leaf k e es (omega (arith, least))) parts.1,
       )
 
@@ -58,8 +57,7 @@ module _ (c : ℕ) (some : 1 ≤ c) (above right : Bool) (b : Point) (db : pos 0
   unfolding is_in_by
   held_off es shape first held =
       let inside : ℕ → Bool = is_inside above right b (with_rings c es) in
-      let parts = and_parts (inside 0) (not (some_inside inside 1 (length es))) (sym (first inside) ∙ held) in
-      (
+      let parts = and_parts (inside 0) (not (some_inside inside 1 (length es))) (sym (first inside) ∙ held) in (
         subst (λ (fs : List Edge). not (is_zero (wind_by above right b (segments fs))) ≡ true) (outline_leaf c es) parts.0,
         rings_off (with_rings c es) 1 es (λ leaf least. ring_leaf c leaf es least) (not_true (some_inside inside 1 (length es)) parts.1),
       )
