@@ -1,6 +1,6 @@
 -- The sides of the outlines are closed and in range, and so the walls along them keep clear.
 use Rattle.std.proofs.Common.{◌≡◌, List, flat_map, sym, subst, ◌∙◌}
-use Rattle.std.specs.Prelude.{All, Vec}
+use Rattle.std.specs.Prelude.{All}
 use Rattle.std.proofs.lemmas.Result.{IfOk-weaker}
 use Rattle.scad_geom.specs.declared.point.Pt.{Pt}
 use Rattle.scad_geom.specs.declared.point.Edge.{Edge}
@@ -27,7 +27,7 @@ walls_along-requires-clause-balanced c = subst (λ (es : List Edge). IsBalanced 
 
 pub returns-in-Ok-clause-clear : goal.returns-in-Ok-clause-clear
 returns-in-Ok-clause-clear c =
-    IfOk-weaker c.walls_along.result
+    IfOk-weaker c.walls_along.result _ _
     (λ v h. walls_keep_clear c.args.c c.args.outlines.now v.items c.requires.positive
     (subst (λ (es : List Edge). AreWallsAlong c.args.c es v.items) (c.deref.ensures.value ∙ c.in-Ok.ensures) h))
     c.walls_along.ensures.walls
