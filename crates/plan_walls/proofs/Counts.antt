@@ -1,29 +1,23 @@
 -- How many edges a wall's shape has.
-use Rattle.std.proofs.Common.{◌≡◌, ℕ, suc, ◌+◌, ◌*◌, ◌≤◌, Bool, true, false, List, [], ◌∷◌, ◌++◌, length, refl, sym, ap, ap₂, ◌∙◌, arith, ℤ, pos}
-use Rattle.std.specs.Prelude.{int_lt, if◌then◌else◌, sum_by}
+use Rattle.std.proofs.Common.{◌≡◌, ℕ, suc, ◌+◌, ◌*◌, ◌≤◌, List, [], ◌∷◌, ◌++◌, length, refl, sym}
+use Rattle.std.proofs.Common.{ap, ap₂, ◌∙◌, arith, ℤ, pos}
+use Rattle.std.specs.Prelude.{sum_by}
 use Rattle.std.proofs.lemmas.List.{length-map, length-append}
 use Rattle.std.proofs.lemmas.List.Sums.{sum_by-cons}
 use Rattle.scad_geom.specs.declared.point.Pt.{Pt}
 use Rattle.scad_geom.specs.declared.point.Edge.{Edge}
 use Rattle.scad_geom.specs.Line.{low, high}
 use Rattle.scad_geom.specs.Loop.{path, sides}
-use Rattle.scad_ring.specs.Corners.{rectangle, to_the_right, to_the_left, corners_round, corners_of}
+use Rattle.scad_ring.specs.Corners.{corners_round, corners_of}
 use Rattle.plan_walls.specs.Walls.{of_leaf, rings_from, with_rings}
+use Rattle.plan_walls.proofs.Forms.{by_form}
 
 -- how many corners the ring round an edge has
 abbrev pub corner_count : ℕ → Edge → ℕ
 corner_count c e = length (corners_of c e)
 
 corners_few : (c : ℤ) (p q : Pt) → length (corners_round c p q) ≤ 6
-corners_few c p q = by_tests (int_lt p.y q.y) (int_lt p.x q.x) (int_lt q.x p.x)
-  where
-    by_tests : (s t u : Bool) → length (if s then (if t then to_the_right c p q else (if u then to_the_left c p q else rectangle c p.x p.y q.x q.y))
-        else (if u then rectangle c q.x q.y p.x p.y else rectangle c p.x p.y q.x q.y)) ≤ 6
-    by_tests true true u = omega arith
-    by_tests true false true = omega arith
-    by_tests true false false = omega arith
-    by_tests false t true = omega arith
-    by_tests false t false = omega arith
+corners_few c p q = by_form (λ l. length l ≤ 6) c p q (omega arith) (omega arith) (omega arith) (omega arith)
 
 pub corner_few : (c : ℕ) (e : Edge) → corner_count c e ≤ 6
 corner_few c e = corners_few (pos c) (low e) (high e)
@@ -41,7 +35,8 @@ length-rings : (c k : ℕ) (es : List Edge) → length (rings_from c k es) ≡ s
 length-rings c k [] = refl
 length-rings c k (e ∷ es) =
     length-append (of_leaf k (sides (corners_of c e))) (rings_from c (k + 1) es)
-    ∙ ap₂ (λ m n. m + n) (length-map (sides (corners_of c e)) (λ f. record { leaf = k; edge = f }) ∙ length-sides (corners_of c e)) (length-rings c (k + 1) es)
+    ∙ ap₂ (λ m n. m + n) (length-map (sides (corners_of c e)) (λ f. record { leaf = k; edge = f })
+    ∙ length-sides (corners_of c e)) (length-rings c (k + 1) es)
     ∙ sym (sum_by-cons (corner_count c) e es)
 
 pub count_is : (c : ℕ) (es : List Edge) → length (with_rings c es) ≡ length es + sum_by (corner_count c) es

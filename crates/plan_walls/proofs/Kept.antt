@@ -1,5 +1,5 @@
--- Walls keep their distance from the outlines that they follow: each of their points has a border point of their shape less than
--- one from it, and that is off each side by the distance.
+-- Walls keep their distance from the outlines that they follow: each of their points has a border point of their
+-- shape less than one from it, and that is off each side by the distance.
 use Rattle.std.proofs.Common.{◌≡◌, Bool, true, true≢false, not, List, get_or, flat_map, sym, ◌∙◌, subst, ℤ, pos}
 use Rattle.std.specs.Prelude.{All}
 use Rattle.std.proofs.lemmas.List.Elements.{All-from_recursion}
@@ -31,7 +31,8 @@ walls_keep_clear c outlines loops some h =
     let k = n.is_border in
     let held = held_off c some k.held_above k.held_right b n.positive es shape h.first_without k.held in
     let off : All (IsOff c b) es = All-from_recursion (IsOff c b) es held.1 in
-    let alike = wound_alike c some es (sides_balanced outlines) q b dq n.positive n.near off k.held_above k.held_right in
+    let alike = wound_alike c some es (sides_balanced outlines) q b dq n.positive n.near off k.held_above
+    k.held_right in
     record {
       clear = λ j f m. clear_of c q b dq n.positive n.near (get_or es j f) (off j f m);
       inside = λ e. no_zero _ held.0 (sym alike ∙ e);

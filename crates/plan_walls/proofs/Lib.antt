@@ -1,3 +1,5 @@
+pub mod Forms
+pub mod Angles
 pub mod Rings
 pub mod Within
 pub mod Round

@@ -1,6 +1,7 @@
--- What a wall's shape holds, hard by a point, the outlines wind round and no ring does: so no point of a side lies strictly within
--- the distance of it.
-use Rattle.std.proofs.Common.{◌≡◌, ℕ, zero, suc, ◌+◌, ◌≤◌, Bool, true, false, true≢false, not, ◌&&◌, ◌||◌, List, [], ◌∷◌, length, refl, sym, ◌∙◌, subst, arith, ℤ, pos, negsuc, ◌<ℤ◌}
+-- What a wall's shape holds, hard by a point, the outlines wind round and no ring does: so no point of a side lies
+-- strictly within the distance of it.
+use Rattle.std.proofs.Common.{◌≡◌, ℕ, zero, suc, ◌+◌, ◌≤◌, Bool, true, false, true≢false, not, ◌&&◌, ◌||◌, List, []}
+use Rattle.std.proofs.Common.{◌∷◌, length, refl, sym, ◌∙◌, subst, arith, ℤ, pos, negsuc, ◌<ℤ◌}
 use Rattle.std.specs.List.{AllByRecursion}
 use Rattle.std.proofs.lemmas.Int.{ints}
 use Rattle.std.proofs.lemmas.Bool.{and_parts}
@@ -40,24 +41,32 @@ not_true true h = absurd (true≢false (sym h))
 not_true false h = refl
 
 module _ (c : ℕ) (some : 1 ≤ c) (above right : Bool) (b : Point) (db : pos 0 <ℤ b.d) where
-  rings_off : (all : List LeafEdge) (k : ℕ) (es : List Edge) → ((leaf : ℕ) → k ≤ leaf → edges_of leaf all ≡ edges_of leaf (rings_from c k es))
+  rings_off : (all : List LeafEdge) (k : ℕ) (es : List Edge)
+      → ((leaf : ℕ) → k ≤ leaf → edges_of leaf all ≡ edges_of leaf (rings_from c k es))
       → some_inside (is_inside above right b all) k (length es) ≡ false → AllByRecursion (IsOff c b) es
   rings_off all k [] same h = tt
   rings_off all k (e ∷ es) same h =
-      let parts = neither (is_inside above right b all k) (some_inside (is_inside above right b all) (k + 1) (length es)) h in (
+      let parts = neither (is_inside above right b all k)
+      (some_inside (is_inside above right b all) (k + 1) (length es)) h in (
         (λ near.
             not_wound (wind_by above right b (segments (edges_of k all))) parts.0
-            (subst (λ (fs : List Edge). pos 0 <ℤ wind_by above right b (segments fs)) (sym (same k (omega arith) ∙ first_ring c k e es)) (ring_winds c some e b db near above right))),
-        rings_off all (k + 1) es (λ leaf least. same leaf (omega (arith, least)) ∙ later_ring c leaf k e es (omega (arith, least))) parts.1,
+            (subst (λ (fs : List Edge). pos 0 <ℤ wind_by above right b (segments fs))
+            (sym (same k (omega arith) ∙ first_ring c k e es)) (ring_winds c some e b db near above right))),
+        rings_off all (k + 1) es
+            (λ leaf least. same leaf (omega (arith, least)) ∙ later_ring c leaf k e es (omega (arith, least)))
+            parts.1,
       )
 
   -- what the shape holds, the outlines wind round, off each of their sides
-  pub held_off : (es : List Edge) (shape : Shape) → IsFirstWithout (length es) shape → is_in_by above right (with_rings c es) shape b ≡ true
+  pub held_off : (es : List Edge) (shape : Shape) → IsFirstWithout (length es) shape
+      → is_in_by above right (with_rings c es) shape b ≡ true
       → (not (is_zero (wind_by above right b (segments es))) ≡ true) × AllByRecursion (IsOff c b) es
   unfolding is_in_by
   held_off es shape first held =
       let inside : ℕ → Bool = is_inside above right b (with_rings c es) in
       let parts = and_parts (inside 0) (not (some_inside inside 1 (length es))) (sym (first inside) ∙ held) in (
-        subst (λ (fs : List Edge). not (is_zero (wind_by above right b (segments fs))) ≡ true) (outline_leaf c es) parts.0,
-        rings_off (with_rings c es) 1 es (λ leaf least. ring_leaf c leaf es least) (not_true (some_inside inside 1 (length es)) parts.1),
+        subst (λ (fs : List Edge). not (is_zero (wind_by above right b (segments fs))) ≡ true)
+            (outline_leaf c es) parts.0,
+        rings_off (with_rings c es) 1 es (λ leaf least. ring_leaf c leaf es least)
+            (not_true (some_inside inside 1 (length es)) parts.1),
       )

@@ -1,6 +1,8 @@
--- A closed way with a point to the left of each of its sides winds round it: along such a way, seen from the point, the angle
--- grows, so the way can't stay above the point's height or below it, and each side that passes the height upwards counts 1.
-use Rattle.std.proofs.Common.{◌≡◌, ◌⊎◌, inl, inr, Bool, true, false, List, [], ◌∷◌, refl, sym, subst, ◌∙◌, arith, ℤ, pos, negsuc, neg_ℤ, ◌+ℤ◌, ◌-ℤ◌, ◌*ℤ◌, ◌<ℤ◌}
+-- A closed way with a point to the left of each of its sides winds round it: along such a way, seen from the point,
+-- the angle grows, so the way can't stay above the point's height or below it, and each side that passes the height
+-- upwards counts 1.
+use Rattle.std.proofs.Common.{◌≡◌, ◌⊎◌, inl, inr, Bool, true, false, List, [], ◌∷◌, refl, sym, subst, ◌∙◌, arith, ℤ}
+use Rattle.std.proofs.Common.{pos, negsuc, neg_ℤ, ◌+ℤ◌, ◌-ℤ◌, ◌*ℤ◌, ◌<ℤ◌}
 use lib.Signed.{◌≤ℤ◌}
 use Rattle.std.specs.Prelude.{int_lt, int_le, if◌then◌else◌}
 use Rattle.std.specs.List.{AllByRecursion}
@@ -17,86 +19,7 @@ use Rattle.scad_geom.proofs.Signs.{at_least_mul, at_most_mul, pos_left}
 use Rattle.scad_geom.proofs.Turns.{flat_turn, rising_turn, falling_turn}
 use Rattle.scad_geom.proofs.Ring.{ring, num, ◌⊕◌, ◌⊖◌, ◌⊗◌, v0, v1, v2, v3, v4, v5, v6}
 use Rattle.plan_walls.specs.Rings.{IsStrictlyLeftOf, LeftIsWound}
-
-by_order : {P : Type 0} {A B : Type 0} → A ⊎ B → (A → P) → (B → P) → P
-by_order (inl a) f g = f a
-by_order (inr b) f g = g b
-
--- ---- angles in the upper half plane
-cross : ℤ → ℤ → ℤ → ℤ → ℤ
-cross ux uy wx wy = ux *ℤ wy -ℤ uy *ℤ wx
-
--- the angle of w is greater than that of u: by less than a half turn, or by just that along the axis
-Before : ℤ → ℤ → ℤ → ℤ → Type 0
-Before ux uy wx wy = (pos 0 <ℤ cross ux uy wx wy) ⊎ ((uy ≡ pos 0) × (wy ≡ pos 0) × (pos 0 <ℤ ux) × (wx <ℤ pos 0))
-
-between : (ux uy vx vy wx wy : ℤ) → (ux *ℤ wy -ℤ uy *ℤ wx) *ℤ vy ≡ wy *ℤ (ux *ℤ vy -ℤ uy *ℤ vx) +ℤ uy *ℤ (vx *ℤ wy -ℤ vy *ℤ wx)
-between ux uy vx vy wx wy = ring (ux ∷ uy ∷ vx ∷ vy ∷ wx ∷ wy ∷ []) ((v0 ⊗ v5 ⊖ v1 ⊗ v4) ⊗ v3) (v5 ⊗ (v0 ⊗ v3 ⊖ v1 ⊗ v2) ⊕ v1 ⊗ (v2 ⊗ v5 ⊖ v3 ⊗ v4)) refl
-
-flat_start : (ux vx vy : ℤ) → ux *ℤ vy -ℤ pos 0 *ℤ vx ≡ ux *ℤ vy
-flat_start ux vx vy = ring (ux ∷ vx ∷ vy ∷ []) (v0 ⊗ v2 ⊖ num (pos 0) ⊗ v1) (v0 ⊗ v2) refl
-
-flat_end : (vx vy wx : ℤ) → vx *ℤ pos 0 -ℤ vy *ℤ wx ≡ (pos 0 -ℤ wx) *ℤ vy
-flat_end vx vy wx = ring (vx ∷ vy ∷ wx ∷ []) (v0 ⊗ num (pos 0) ⊖ v1 ⊗ v2) ((num (pos 0) ⊖ v2) ⊗ v1) refl
-
--- a factor of a product that isn't above 0 is 0, where the other one is above 0
-no_factor : (a b : ℤ) → pos 0 ≤ℤ a → pos 0 <ℤ b → (a *ℤ b) ≤ℤ pos 0 → a ≡ pos 0
-no_factor a b h k m = by_order (order a (pos 0)) (λ o. omega (arith, ints, h, o)) (λ o. let p = positive_product a b o k in absurd (omega (arith, ints, p, m)))
-
-before_above : (ux uy vx vy wx wy : ℤ) → pos 0 ≤ℤ uy → pos 0 <ℤ vy → pos 0 ≤ℤ wy → pos 0 <ℤ cross ux uy vx vy → pos 0 <ℤ cross vx vy wx wy → Before ux uy wx wy
-unfolding cross Before
-before_above ux uy vx vy wx wy hu hv hw c d =
-    let i = between ux uy vx vy wx wy in
-    let m = at_least_mul wy (ux *ℤ vy -ℤ uy *ℤ vx) hw (omega (arith, ints, c)) in
-    let n = at_least_mul uy (vx *ℤ wy -ℤ vy *ℤ wx) hu (omega (arith, ints, d)) in
-    by_order (order (wy *ℤ (ux *ℤ vy -ℤ uy *ℤ vx) +ℤ uy *ℤ (vx *ℤ wy -ℤ vy *ℤ wx)) (pos 0))
-    (λ o.
-    let e : wy ≡ pos 0 = no_factor wy (ux *ℤ vy -ℤ uy *ℤ vx) hw c (omega (arith, ints, o, n)) in
-    let f : uy ≡ pos 0 = no_factor uy (vx *ℤ wy -ℤ vy *ℤ wx) hu d (omega (arith, ints, o, m)) in
-    let c' : pos 0 <ℤ (ux *ℤ vy -ℤ pos 0 *ℤ vx) = subst (λ (y : ℤ). pos 0 <ℤ (ux *ℤ vy -ℤ y *ℤ vx)) f c in
-    let d' : pos 0 <ℤ (vx *ℤ pos 0 -ℤ vy *ℤ wx) = subst (λ (y : ℤ). pos 0 <ℤ (vx *ℤ y -ℤ vy *ℤ wx)) e d in
-    let g = flat_start ux vx vy in
-    let h = flat_end vx vy wx in
-    let p = pos_left ux vy hv (omega (arith, ints, c', g)) in
-    let q = pos_left (pos 0 -ℤ wx) vy hv (omega (arith, ints, d', h)) in
-    inr (f, e, p, omega (arith, ints, q)))
-    (λ o. inl (pos_left (ux *ℤ wy -ℤ uy *ℤ wx) vy hv (omega (arith, ints, o, i))))
-
--- from a vector on the axis
-axis_end : (ux uy vx : ℤ) → ux *ℤ pos 0 -ℤ uy *ℤ vx ≡ uy *ℤ (pos 0 -ℤ vx)
-axis_end ux uy vx = ring (ux ∷ uy ∷ vx ∷ []) (v0 ⊗ num (pos 0) ⊖ v1 ⊗ v2) (v1 ⊗ (num (pos 0) ⊖ v2)) refl
-
-chain : (ux uy vx vy wx wy : ℤ) → pos 0 ≤ℤ uy → pos 0 ≤ℤ vy → pos 0 ≤ℤ wy → pos 0 <ℤ cross ux uy vx vy → Before vx vy wx wy → Before ux uy wx wy
-unfolding cross Before
-chain ux uy vx vy wx wy hu hv hw c b = by_order (order vy (pos 0))
-    (λ o.
-    let z : vy ≡ pos 0 = omega (arith, ints, hv, o) in
-    let c' : pos 0 <ℤ (ux *ℤ pos 0 -ℤ uy *ℤ vx) = subst (λ (y : ℤ). pos 0 <ℤ (ux *ℤ y -ℤ uy *ℤ vx)) z c in
-    let a = axis_end ux uy vx in
-    let left : vx <ℤ pos 0 = by_order (order (pos 0) vx)
-    (λ k. let m = at_least_mul uy vx hu k in let n = axis_back uy vx in absurd (omega (arith, ints, c', a, m, n)))
-    (λ k. k) in
-    absurd (by_order b
-    (λ d.
-    let d' : pos 0 <ℤ (vx *ℤ wy -ℤ pos 0 *ℤ wx) = subst (λ (y : ℤ). pos 0 <ℤ (vx *ℤ wy -ℤ y *ℤ wx)) z d in
-    let g = flat_start vx wx wy in
-    let m = at_most_mul vx wy (omega (arith, ints, left)) hw in
-    omega (arith, ints, d', g, m))
-    (λ d. let p = d.2 in omega (arith, ints, p, left))))
-    (λ o. by_order b
-    (λ d. before_above ux uy vx vy wx wy hu o hw c d)
-    (λ d. absurd (let e = d.0 in omega (arith, ints, o, e))))
-  where
-    axis_back : (y x : ℤ) → y *ℤ (pos 0 -ℤ x) ≡ pos 0 -ℤ y *ℤ x
-    axis_back y x = ring (y ∷ x ∷ []) (v0 ⊗ (num (pos 0) ⊖ v1)) (num (pos 0) ⊖ v0 ⊗ v1) refl
-
-itself : (x y : ℤ) → Before x y x y → ⊥
-unfolding cross Before
-itself x y (inl h) = let e = no_cross x y in omega (arith, ints, h, e)
-  where
-    no_cross : (x y : ℤ) → x *ℤ y -ℤ y *ℤ x ≡ pos 0
-    no_cross x y = ring (x ∷ y ∷ []) (v0 ⊗ v1 ⊖ v1 ⊗ v0) (num (pos 0)) refl
-itself x y (inr h) = let a = h.2 in let b = h.3 in omega (arith, ints, a, b)
+use Rattle.plan_walls.proofs.Angles.{by_order, cross, Before, chain, itself}
 
 -- ---- a way, seen from a point
 -- how far a vertex lies to the right of the point and above it, over its divisor
@@ -106,13 +29,17 @@ rightward q p = p.x *ℤ q.d -ℤ q.x
 upward : Point → Pt → ℤ
 upward q p = p.y *ℤ q.d -ℤ q.y
 
-side_seen : (ax ay bx by x y d : ℤ) → ((bx *ℤ pos 1 -ℤ ax *ℤ pos 1) *ℤ (y *ℤ pos 1 -ℤ ay *ℤ d) -ℤ (by *ℤ pos 1 -ℤ ay *ℤ pos 1) *ℤ (x *ℤ pos 1 -ℤ ax *ℤ d)) *ℤ d
+side_seen : (ax ay bx by x y d : ℤ)
+    → ((bx *ℤ pos 1 -ℤ ax *ℤ pos 1) *ℤ (y *ℤ pos 1 -ℤ ay *ℤ d) -ℤ (by *ℤ pos 1 -ℤ ay *ℤ pos 1) *ℤ
+    (x *ℤ pos 1 -ℤ ax *ℤ d)) *ℤ d
     ≡ (ax *ℤ d -ℤ x) *ℤ (by *ℤ d -ℤ y) -ℤ (ay *ℤ d -ℤ y) *ℤ (bx *ℤ d -ℤ x)
 side_seen ax ay bx by x y d = ring (ax ∷ ay ∷ bx ∷ by ∷ x ∷ y ∷ d ∷ [])
-    (((v2 ⊗ num (pos 1) ⊖ v0 ⊗ num (pos 1)) ⊗ (v5 ⊗ num (pos 1) ⊖ v1 ⊗ v6) ⊖ (v3 ⊗ num (pos 1) ⊖ v1 ⊗ num (pos 1)) ⊗ (v4 ⊗ num (pos 1) ⊖ v0 ⊗ v6)) ⊗ v6)
+    (((v2 ⊗ num (pos 1) ⊖ v0 ⊗ num (pos 1)) ⊗ (v5 ⊗ num (pos 1) ⊖ v1 ⊗ v6) ⊖ (v3 ⊗ num (pos 1) ⊖ v1 ⊗ num (pos 1)) ⊗
+    (v4 ⊗ num (pos 1) ⊖ v0 ⊗ v6)) ⊗ v6)
     ((v0 ⊗ v6 ⊖ v4) ⊗ (v3 ⊗ v6 ⊖ v5) ⊖ (v1 ⊗ v6 ⊖ v5) ⊗ (v2 ⊗ v6 ⊖ v4)) refl
 
-left_cross : (q : Point) (a b : Pt) → pos 0 <ℤ q.d → pos 0 <ℤ side_by q (whole a) (whole b) → pos 0 <ℤ cross (rightward q a) (upward q a) (rightward q b) (upward q b)
+left_cross : (q : Point) (a b : Pt) → pos 0 <ℤ q.d → pos 0 <ℤ side_by q (whole a) (whole b)
+    → pos 0 <ℤ cross (rightward q a) (upward q a) (rightward q b) (upward q b)
 unfolding side_by cross rightward upward
 left_cross q a b h k =
     let m = positive_product _ q.d k h in
@@ -122,17 +49,21 @@ left_cross q a b h k =
 -- seen from the other side, turned by a half turn
 turned_cross : (ux uy wx wy : ℤ) → cross (pos 0 -ℤ ux) (pos 0 -ℤ uy) (pos 0 -ℤ wx) (pos 0 -ℤ wy) ≡ cross ux uy wx wy
 unfolding cross
-turned_cross ux uy wx wy = ring (ux ∷ uy ∷ wx ∷ wy ∷ []) ((num (pos 0) ⊖ v0) ⊗ (num (pos 0) ⊖ v3) ⊖ (num (pos 0) ⊖ v1) ⊗ (num (pos 0) ⊖ v2)) (v0 ⊗ v3 ⊖ v1 ⊗ v2) refl
+turned_cross ux uy wx wy = ring (ux ∷ uy ∷ wx ∷ wy ∷ [])
+    ((num (pos 0) ⊖ v0) ⊗ (num (pos 0) ⊖ v3) ⊖ (num (pos 0) ⊖ v1) ⊗ (num (pos 0) ⊖ v2)) (v0 ⊗ v3 ⊖ v1 ⊗ v2) refl
 
 abbrev AllLeft : Point → Pt → List Pt → Pt → Type 0
 AllLeft q from ps last = AllByRecursion (IsStrictlyLeftOf q) (segments (path from ps last))
 
 -- along a way that stays in the half plane the angle grows
-module _ (q : Point) (some : pos 0 <ℤ q.d) (X Y : Pt → ℤ) (left : (a b : Pt) → pos 0 <ℤ side_by q (whole a) (whole b) → pos 0 <ℤ cross (X a) (Y a) (X b) (Y b)) where
-  grows : (from : Pt) (ps : List Pt) (last : Pt) → AllLeft q from ps last → pos 0 ≤ℤ Y from → AllByRecursion (λ p. pos 0 ≤ℤ Y p) ps → pos 0 ≤ℤ Y last → Before (X from) (Y from) (X last) (Y last)
+module _ (q : Point) (some : pos 0 <ℤ q.d) (X Y : Pt → ℤ)
+    (left : (a b : Pt) → pos 0 <ℤ side_by q (whole a) (whole b) → pos 0 <ℤ cross (X a) (Y a) (X b) (Y b)) where
+  grows : (from : Pt) (ps : List Pt) (last : Pt) → AllLeft q from ps last → pos 0 ≤ℤ Y from
+      → AllByRecursion (λ p. pos 0 ≤ℤ Y p) ps → pos 0 ≤ℤ Y last → Before (X from) (Y from) (X last) (Y last)
   unfolding Before
   grows from [] last h a b c = inl (left from last h.0)
-  grows from (p ∷ ps) last h a b c = chain (X from) (Y from) (X p) (Y p) (X last) (Y last) a b.0 c (left from p h.0) (grows p ps last h.1 b.0 b.1 c)
+  grows from (p ∷ ps) last h a b c = chain (X from) (Y from) (X p) (Y p) (X last) (Y last) a b.0 c (left from p h.0)
+      (grows p ps last h.1 b.0 b.1 c)
 
   no_way : (p : Pt) (ps : List Pt) → AllLeft q p ps p → pos 0 ≤ℤ Y p → AllByRecursion (λ p. pos 0 ≤ℤ Y p) ps → ⊥
   no_way p ps h a b = itself (X p) (Y p) (grows p ps p h a b a)
@@ -146,7 +77,8 @@ module _ (above right : Bool) (q : Point) (some : pos 0 <ℤ q.d) where
   unfolding is_over upward
   over_up p h = by_test above h
     where
-      by_test : (t : Bool) → (if t then int_lt (q.y *ℤ pos 1) (p.y *ℤ q.d) else int_le (q.y *ℤ pos 1) (p.y *ℤ q.d)) ≡ true → pos 0 ≤ℤ (p.y *ℤ q.d -ℤ q.y)
+      by_test : (t : Bool) → (if t then int_lt (q.y *ℤ pos 1) (p.y *ℤ q.d) else int_le (q.y *ℤ pos 1) (p.y *ℤ q.d))
+          ≡ true → pos 0 ≤ℤ (p.y *ℤ q.d -ℤ q.y)
       by_test true h = omega (arith, ints, h)
       by_test false h = omega (arith, ints, h)
 
@@ -154,7 +86,8 @@ module _ (above right : Bool) (q : Point) (some : pos 0 <ℤ q.d) where
   unfolding is_over upward
   over_down p h = by_test above h
     where
-      by_test : (t : Bool) → (if t then int_lt (q.y *ℤ pos 1) (p.y *ℤ q.d) else int_le (q.y *ℤ pos 1) (p.y *ℤ q.d)) ≡ false → pos 0 ≤ℤ (pos 0 -ℤ (p.y *ℤ q.d -ℤ q.y))
+      by_test : (t : Bool) → (if t then int_lt (q.y *ℤ pos 1) (p.y *ℤ q.d) else int_le (q.y *ℤ pos 1) (p.y *ℤ q.d))
+          ≡ false → pos 0 ≤ℤ (pos 0 -ℤ (p.y *ℤ q.d -ℤ q.y))
       by_test true h = omega (arith, ints, h)
       by_test false h = omega (arith, ints, h)
 
@@ -178,16 +111,20 @@ module _ (above right : Bool) (q : Point) (some : pos 0 <ℤ q.d) where
   turn_of a b = turn above right q (whole a) (whole b)
 
   -- a side with the point to its left counts 1 where it passes the height upwards, else 0
-  upward_turn : (a b : Pt) → pos 0 <ℤ side_by q (whole a) (whole b) → over a ≡ false → over b ≡ true → turn_of a b ≡ pos 1
-  upward_turn a b h p r = rising_turn above right q (whole a) (whole b) p r ∙ rw (beyond (side_by q (whole a) (whole b)) h) refl
+  upward_turn : (a b : Pt) → pos 0 <ℤ side_by q (whole a) (whole b) → over a ≡ false → over b ≡ true
+      → turn_of a b ≡ pos 1
+  upward_turn a b h p r = rising_turn above right q (whole a) (whole b) p r
+      ∙ rw (beyond (side_by q (whole a) (whole b)) h) refl
 
-  other_turn : (a b : Pt) → pos 0 <ℤ side_by q (whole a) (whole b) → (over a ≡ true) ⊎ (over b ≡ false) → turn_of a b ≡ pos 0
+  other_turn : (a b : Pt) → pos 0 <ℤ side_by q (whole a) (whole b) → (over a ≡ true) ⊎ (over b ≡ false)
+      → turn_of a b ≡ pos 0
   other_turn a b h k = by_tests (over a) (over b) refl refl k
     where
       by_tests : (s t : Bool) → over a ≡ s → over b ≡ t → (over a ≡ true) ⊎ (over b ≡ false) → turn_of a b ≡ pos 0
       by_tests true true p r k = flat_turn above right q (whole a) (whole b) (p ∙ sym r)
       by_tests false false p r k = flat_turn above right q (whole a) (whole b) (p ∙ sym r)
-      by_tests true false p r k = falling_turn above right q (whole a) (whole b) p r ∙ rw (not_beyond (side_by q (whole a) (whole b)) h) refl
+      by_tests true false p r k = falling_turn above right q (whole a) (whole b) p r
+          ∙ rw (not_beyond (side_by q (whole a) (whole b)) h) refl
       by_tests false true p r (inl k) = absurd (differ k p)
         where
           differ : {b : Bool} → b ≡ true → b ≡ false → ⊥
@@ -206,7 +143,8 @@ module _ (above right : Bool) (q : Point) (some : pos 0 <ℤ q.d) where
       by_tests false true p r = let e = upward_turn a b h p r in omega (arith, ints, e)
 
   -- where it doesn't turn it doesn't pass upwards
-  not_upward : (a b : Pt) → pos 0 <ℤ side_by q (whole a) (whole b) → turn_of a b ≤ℤ pos 0 → over a ≡ false → over b ≡ true → ⊥
+  not_upward : (a b : Pt) → pos 0 <ℤ side_by q (whole a) (whole b) → turn_of a b ≤ℤ pos 0 → over a ≡ false
+      → over b ≡ true → ⊥
   not_upward a b h z p r = let e = upward_turn a b h p r in omega (arith, ints, e, z)
 
   abbrev turns_of : Pt → List Pt → Pt → ℤ
@@ -214,10 +152,12 @@ module _ (above right : Bool) (q : Point) (some : pos 0 <ℤ q.d) where
 
   turns_at_least : (from : Pt) (ps : List Pt) (last : Pt) → AllLeft q from ps last → pos 0 ≤ℤ turns_of from ps last
   turns_at_least from [] last h = let a = turn_at_least from last h.0 in omega (arith, ints, a)
-  turns_at_least from (p ∷ ps) last h = let a = turn_at_least from p h.0 in let r = turns_at_least p ps last h.1 in omega (arith, ints, a, r)
+  turns_at_least from (p ∷ ps) last h = let a = turn_at_least from p h.0 in let r =
+      turns_at_least p ps last h.1 in omega (arith, ints, a, r)
 
   -- a way that doesn't turn and ends above stays above
-  stays_over : (from : Pt) (ps : List Pt) (last : Pt) → AllLeft q from ps last → turns_of from ps last ≤ℤ pos 0 → over last ≡ true → (over from ≡ true) × AllByRecursion (λ p. over p ≡ true) ps
+  stays_over : (from : Pt) (ps : List Pt) (last : Pt) → AllLeft q from ps last → turns_of from ps last ≤ℤ pos 0
+      → over last ≡ true → (over from ≡ true) × AllByRecursion (λ p. over p ≡ true) ps
   stays_over from [] last h z e = (by_test (over from) refl, tt)
     where
       by_test : (t : Bool) → over from ≡ t → over from ≡ true
@@ -234,7 +174,8 @@ module _ (above right : Bool) (q : Point) (some : pos 0 <ℤ q.d) where
       by_test false k z e = absurd (not_upward from p h.0 z k e)
 
   -- and one that starts below stays below
-  stays_under : (from : Pt) (ps : List Pt) (last : Pt) → AllLeft q from ps last → turns_of from ps last ≤ℤ pos 0 → over from ≡ false → AllByRecursion (λ p. over p ≡ false) ps
+  stays_under : (from : Pt) (ps : List Pt) (last : Pt) → AllLeft q from ps last → turns_of from ps last ≤ℤ pos 0
+      → over from ≡ false → AllByRecursion (λ p. over p ≡ false) ps
   stays_under from [] last h z e = tt
   stays_under from (p ∷ ps) last h z e =
       let a = turn_at_least from p h.0 in
@@ -250,7 +191,8 @@ module _ (above right : Bool) (q : Point) (some : pos 0 <ℤ q.d) where
   all_up [] h = tt
   all_up (p ∷ ps) h = (over_up p h.0, all_up ps h.1)
 
-  all_down : (ps : List Pt) → AllByRecursion (λ p. over p ≡ false) ps → AllByRecursion (λ p. pos 0 ≤ℤ (pos 0 -ℤ upward q p)) ps
+  all_down : (ps : List Pt) → AllByRecursion (λ p. over p ≡ false) ps
+      → AllByRecursion (λ p. pos 0 ≤ℤ (pos 0 -ℤ upward q p)) ps
   all_down [] h = tt
   all_down (p ∷ ps) h = (over_down p h.0, all_down ps h.1)
 
@@ -259,11 +201,15 @@ module _ (above right : Bool) (q : Point) (some : pos 0 <ℤ q.d) where
     where
       by_test : (t : Bool) → over p ≡ t → turns_of p ps p ≤ℤ pos 0 → ⊥
       by_test true e z =
-          no_way q some (rightward q) (upward q) (λ a b k. left_cross q a b some k) p ps h (over_up p e) (all_up ps (stays_over p ps p h z e).1)
+          no_way q some (rightward q) (upward q) (λ a b k. left_cross q a b some k) p ps h (over_up p e)
+          (all_up ps (stays_over p ps p h z e).1)
       by_test false e z =
           no_way q some (λ a. pos 0 -ℤ rightward q a) (λ a. pos 0 -ℤ upward q a)
-          (λ a b k. subst (λ (z : ℤ). pos 0 <ℤ z) (sym (turned_cross (rightward q a) (upward q a) (rightward q b) (upward q b))) (left_cross q a b some k))
+          (λ a b k. subst (λ (z : ℤ). pos 0 <ℤ z)
+          (sym (turned_cross (rightward q a) (upward q a) (rightward q b) (upward q b)))
+          (left_cross q a b some k))
           p ps h (over_down p e) (all_down ps (stays_under p ps p h z e))
 
 pub left_is_wound : LeftIsWound
-left_is_wound p ps q some h above right = way_turns above right q some p ps (recursion_from_All (IsStrictlyLeftOf q) (segments (path p ps p)) h)
+left_is_wound p ps q some h above right = way_turns above right q some p ps
+    (recursion_from_All (IsStrictlyLeftOf q) (segments (path p ps p)) h)

@@ -1,6 +1,7 @@
--- What lies strictly within a distance of an edge lies strictly to the left of each side of its ring: moved a little along each
--- axis it is still near, so it isn't on the line of a side.
-use Rattle.std.proofs.Common.{◌≡◌, ◌⊎◌, inl, inr, ℕ, ◌≤◌, List, [], ◌∷◌, ◌++◌, refl, subst, ap₂, ◌∙◌, arith, ℤ, pos, negsuc, ◌+ℤ◌, ◌-ℤ◌, ◌*ℤ◌, ◌<ℤ◌}
+-- What lies strictly within a distance of an edge lies strictly to the left of each side of its ring: moved a little
+-- along each axis it is still near, so it isn't on the line of a side.
+use Rattle.std.proofs.Common.{◌≡◌, ◌⊎◌, inl, inr, ℕ, ◌≤◌, List, [], ◌∷◌, ◌++◌, refl, subst, ap₂, ◌∙◌, arith, ℤ, pos}
+use Rattle.std.proofs.Common.{negsuc, ◌+ℤ◌, ◌-ℤ◌, ◌*ℤ◌, ◌<ℤ◌}
 use lib.Signed.{◌≤ℤ◌}
 use Rattle.std.specs.Prelude.{All}
 use Rattle.std.specs.List.{AllByRecursion}
@@ -46,7 +47,8 @@ pub record IsStep (u : ℤ) : Type 0 where
   pub from : (pos 0 -ℤ pos 1) ≤ℤ u
   pub to : u ≤ℤ pos 1
 
-by_step : (c px pd qx qd u : ℤ) → pos 0 ≤ℤ pd → IsStep u → (px *ℤ qd -ℤ qx *ℤ pd) <ℤ (c *ℤ (pd *ℤ qd)) → (qx *ℤ pd -ℤ px *ℤ qd) <ℤ (c *ℤ (pd *ℤ qd))
+by_step : (c px pd qx qd u : ℤ) → pos 0 ≤ℤ pd → IsStep u → (px *ℤ qd -ℤ qx *ℤ pd) <ℤ (c *ℤ (pd *ℤ qd))
+    → (qx *ℤ pd -ℤ px *ℤ qd) <ℤ (c *ℤ (pd *ℤ qd))
     → IsHalf (pos 2 *ℤ c) (px *ℤ (qd *ℤ pd) -ℤ (qx *ℤ pd +ℤ u) *ℤ pd) (pd *ℤ (qd *ℤ pd))
 by_step c px pd qx qd u some step r l =
     let f = step.from in
@@ -60,13 +62,15 @@ by_step c px pd qx qd u some step r l =
     let w = doubled c (pd *ℤ (qd *ℤ pd)) in
     record { from = omega (arith, ints, n, b, h, w); to = omega (arith, ints, m, a, g, w) }
   where
-    below_most : (c px pd qx qd u : ℤ) → ((c *ℤ (pd *ℤ qd) -ℤ pos 1) -ℤ (px *ℤ qd -ℤ qx *ℤ pd)) *ℤ pd +ℤ (pos 1 +ℤ u) *ℤ pd
+    below_most : (c px pd qx qd u : ℤ)
+        → ((c *ℤ (pd *ℤ qd) -ℤ pos 1) -ℤ (px *ℤ qd -ℤ qx *ℤ pd)) *ℤ pd +ℤ (pos 1 +ℤ u) *ℤ pd
         ≡ c *ℤ (pd *ℤ (qd *ℤ pd)) -ℤ (px *ℤ (qd *ℤ pd) -ℤ (qx *ℤ pd +ℤ u) *ℤ pd)
     below_most c px pd qx qd u = ring (c ∷ px ∷ pd ∷ qx ∷ qd ∷ u ∷ [])
         (((v0 ⊗ (v2 ⊗ v4) ⊖ num (pos 1)) ⊖ (v1 ⊗ v4 ⊖ v3 ⊗ v2)) ⊗ v2 ⊕ (num (pos 1) ⊕ v5) ⊗ v2)
         (v0 ⊗ (v2 ⊗ (v4 ⊗ v2)) ⊖ (v1 ⊗ (v4 ⊗ v2) ⊖ (v3 ⊗ v2 ⊕ v5) ⊗ v2)) refl
 
-    above_least : (c px pd qx qd u : ℤ) → ((c *ℤ (pd *ℤ qd) -ℤ pos 1) -ℤ (qx *ℤ pd -ℤ px *ℤ qd)) *ℤ pd +ℤ (pos 1 -ℤ u) *ℤ pd
+    above_least : (c px pd qx qd u : ℤ)
+        → ((c *ℤ (pd *ℤ qd) -ℤ pos 1) -ℤ (qx *ℤ pd -ℤ px *ℤ qd)) *ℤ pd +ℤ (pos 1 -ℤ u) *ℤ pd
         ≡ c *ℤ (pd *ℤ (qd *ℤ pd)) +ℤ (px *ℤ (qd *ℤ pd) -ℤ (qx *ℤ pd +ℤ u) *ℤ pd)
     above_least c px pd qx qd u = ring (c ∷ px ∷ pd ∷ qx ∷ qd ∷ u ∷ [])
         (((v0 ⊗ (v2 ⊗ v4) ⊖ num (pos 1)) ⊖ (v3 ⊗ v2 ⊖ v1 ⊗ v4)) ⊗ v2 ⊕ (num (pos 1) ⊖ v5) ⊗ v2)
@@ -81,7 +85,8 @@ weight s t = s *ℤ pos 1 +ℤ t *ℤ pos 1
 pub weight_positive : (s t : ℤ) → pos 0 <ℤ (s +ℤ t) → pos 0 <ℤ weight s t
 weight_positive s t h = omega (arith, ints, h)
 
-pub near_shifted : (c : ℕ) (q : Point) (e : Edge) (h : ComesWithin (pos c) q e) (u v : ℤ) → IsStep u → IsStep v → IsNear c e (shifted (weight h.s h.t) u v q)
+pub near_shifted : (c : ℕ) (q : Point) (e : Edge) (h : ComesWithin (pos c) q e) (u v : ℤ) → IsStep u → IsStep v
+    → IsNear c e (shifted (weight h.s h.t) u v q)
 near_shifted c q e h u v hu hv =
     let w = h.within in
     let some = weight_positive h.s h.t h.some in
@@ -92,8 +97,10 @@ near_shifted c q e h u v hu hv =
       to = h.to;
       some = h.some;
       close = record {
-        across = by_step (pos c) (h.s *ℤ e.a.x +ℤ h.t *ℤ e.b.x) (h.s *ℤ pos 1 +ℤ h.t *ℤ pos 1) q.x q.d u (omega (arith, ints, some)) hu w.right w.left;
-        along = by_step (pos c) (h.s *ℤ e.a.y +ℤ h.t *ℤ e.b.y) (h.s *ℤ pos 1 +ℤ h.t *ℤ pos 1) q.y q.d v (omega (arith, ints, some)) hv w.above w.below;
+        across = by_step (pos c) (h.s *ℤ e.a.x +ℤ h.t *ℤ e.b.x) (h.s *ℤ pos 1 +ℤ h.t *ℤ pos 1) q.x q.d u
+            (omega (arith, ints, some)) hu w.right w.left;
+        along = by_step (pos c) (h.s *ℤ e.a.y +ℤ h.t *ℤ e.b.y) (h.s *ℤ pos 1 +ℤ h.t *ℤ pos 1) q.y q.d v
+            (omega (arith, ints, some)) hv w.above w.below;
       };
     }
 
@@ -104,12 +111,17 @@ pub record TurnsAfter (e : Edge) : Type 0 where
   pub left : TurnsLeft e.a e.b next
 
 abbrev side_of : ℤ → ℤ → ℤ → ℤ → ℤ → ℤ → ℤ → ℤ
-side_of ax ay bx by x y d = (bx *ℤ pos 1 -ℤ ax *ℤ pos 1) *ℤ (y *ℤ pos 1 -ℤ ay *ℤ d) -ℤ (by *ℤ pos 1 -ℤ ay *ℤ pos 1) *ℤ (x *ℤ pos 1 -ℤ ax *ℤ d)
+side_of ax ay bx by x y d =
+    (bx *ℤ pos 1 -ℤ ax *ℤ pos 1) *ℤ (y *ℤ pos 1 -ℤ ay *ℤ d) -ℤ (by *ℤ pos 1 -ℤ ay *ℤ pos 1) *ℤ (x *ℤ pos 1 -ℤ ax *ℤ d)
 
-side_shifted : (ax ay bx by x y d k u v : ℤ) → side_of ax ay bx by (x *ℤ k +ℤ u) (y *ℤ k +ℤ v) (d *ℤ k) ≡ side_of ax ay bx by x y d *ℤ k -ℤ ((by -ℤ ay) *ℤ u -ℤ (bx -ℤ ax) *ℤ v)
+side_shifted : (ax ay bx by x y d k u v : ℤ)
+    → side_of ax ay bx by (x *ℤ k +ℤ u) (y *ℤ k +ℤ v) (d *ℤ k) ≡ side_of ax ay bx by x y d *ℤ k -ℤ
+    ((by -ℤ ay) *ℤ u -ℤ (bx -ℤ ax) *ℤ v)
 side_shifted ax ay bx by x y d k u v = ring (ax ∷ ay ∷ bx ∷ by ∷ x ∷ y ∷ d ∷ k ∷ u ∷ v ∷ [])
-    ((v2 ⊗ num (pos 1) ⊖ v0 ⊗ num (pos 1)) ⊗ ((v5 ⊗ v7 ⊕ v9) ⊗ num (pos 1) ⊖ v1 ⊗ (v6 ⊗ v7)) ⊖ (v3 ⊗ num (pos 1) ⊖ v1 ⊗ num (pos 1)) ⊗ ((v4 ⊗ v7 ⊕ v8) ⊗ num (pos 1) ⊖ v0 ⊗ (v6 ⊗ v7)))
-    (((v2 ⊗ num (pos 1) ⊖ v0 ⊗ num (pos 1)) ⊗ (v5 ⊗ num (pos 1) ⊖ v1 ⊗ v6) ⊖ (v3 ⊗ num (pos 1) ⊖ v1 ⊗ num (pos 1)) ⊗ (v4 ⊗ num (pos 1) ⊖ v0 ⊗ v6)) ⊗ v7 ⊖ ((v3 ⊖ v1) ⊗ v8 ⊖ (v2 ⊖ v0) ⊗ v9)) refl
+    ((v2 ⊗ num (pos 1) ⊖ v0 ⊗ num (pos 1)) ⊗ ((v5 ⊗ v7 ⊕ v9) ⊗ num (pos 1) ⊖ v1 ⊗ (v6 ⊗ v7)) ⊖
+    (v3 ⊗ num (pos 1) ⊖ v1 ⊗ num (pos 1)) ⊗ ((v4 ⊗ v7 ⊕ v8) ⊗ num (pos 1) ⊖ v0 ⊗ (v6 ⊗ v7)))
+    (((v2 ⊗ num (pos 1) ⊖ v0 ⊗ num (pos 1)) ⊗ (v5 ⊗ num (pos 1) ⊖ v1 ⊗ v6) ⊖ (v3 ⊗ num (pos 1) ⊖ v1 ⊗ num (pos 1)) ⊗
+    (v4 ⊗ num (pos 1) ⊖ v0 ⊗ v6)) ⊗ v7 ⊖ ((v3 ⊖ v1) ⊗ v8 ⊖ (v2 ⊖ v0) ⊗ v9)) refl
 
 zeros : (x y u v : ℤ) → x ≡ pos 0 → y ≡ pos 0 → pos 0 <ℤ (x *ℤ u -ℤ y *ℤ v) → ⊥
 zeros x y u v hx hy h =
@@ -127,9 +139,11 @@ unfolding side_by
 has_length e h x y = no_turn e.a.x e.a.y e.b.x e.b.y h.next.x h.next.y x y h.left
   where
     no_turn : (ax ay bx by nx ny : ℤ) → bx -ℤ ax ≡ pos 0 → by -ℤ ay ≡ pos 0
-        → pos 0 <ℤ ((bx *ℤ pos 1 -ℤ ax *ℤ pos 1) *ℤ (ny *ℤ pos 1 -ℤ ay *ℤ pos 1) -ℤ (by *ℤ pos 1 -ℤ ay *ℤ pos 1) *ℤ (nx *ℤ pos 1 -ℤ ax *ℤ pos 1)) → ⊥
+        → pos 0 <ℤ ((bx *ℤ pos 1 -ℤ ax *ℤ pos 1) *ℤ (ny *ℤ pos 1 -ℤ ay *ℤ pos 1) -ℤ (by *ℤ pos 1 -ℤ ay *ℤ pos 1) *ℤ
+        (nx *ℤ pos 1 -ℤ ax *ℤ pos 1)) → ⊥
     no_turn ax ay bx by nx ny x y h =
-        zeros (bx *ℤ pos 1 -ℤ ax *ℤ pos 1) (by *ℤ pos 1 -ℤ ay *ℤ pos 1) (ny *ℤ pos 1 -ℤ ay *ℤ pos 1) (nx *ℤ pos 1 -ℤ ax *ℤ pos 1) (omega (arith, ints, x)) (omega (arith, ints, y)) h
+        zeros (bx *ℤ pos 1 -ℤ ax *ℤ pos 1) (by *ℤ pos 1 -ℤ ay *ℤ pos 1) (ny *ℤ pos 1 -ℤ ay *ℤ pos 1)
+        (nx *ℤ pos 1 -ℤ ax *ℤ pos 1) (omega (arith, ints, x)) (omega (arith, ints, y)) h
 
 by_sign : {A : Type 0} (z : ℤ) → (z <ℤ pos 0 → A) → (z ≡ pos 0 → A) → (pos 0 <ℤ z → A) → A
 by_sign z less zero more = elim (order z (pos 0)) [
@@ -168,11 +182,16 @@ module _ (q : Point) (k : ℤ) (some : pos 0 <ℤ k) where
       let dx : ℤ = e.b.x -ℤ e.a.x in
       let dy : ℤ = e.b.y -ℤ e.a.y in
       let moved : (u v : ℤ) → ℤ = λ u v. side_of e.a.x e.a.y e.b.x e.b.y (q.x *ℤ k +ℤ u) (q.y *ℤ k +ℤ v) (q.d *ℤ k) in
-      let by : (u v : ℤ) → moved u v ≡ s *ℤ k -ℤ (dy *ℤ u -ℤ dx *ℤ v) = λ u v. side_shifted e.a.x e.a.y e.b.x e.b.y q.x q.y q.d k u v in
+      let by : (u v : ℤ) → moved u v ≡ s *ℤ k -ℤ (dy *ℤ u -ℤ dx *ℤ v) = λ u v. side_shifted e.a.x e.a.y e.b.x e.b.y
+      q.x q.y q.d k u v in
       by_sign dx
-      (λ m. left_by s (moved (pos 0) (pos 1)) k (dy *ℤ pos 0 -ℤ dx *ℤ pos 1) some (by (pos 0) (pos 1)) h.up (omega (arith, ints, m)))
+      (λ m. left_by s (moved (pos 0) (pos 1)) k (dy *ℤ pos 0 -ℤ dx *ℤ pos 1) some (by (pos 0) (pos 1)) h.up
+      (omega (arith, ints, m)))
       (λ m. by_sign dy
-      (λ n. left_by s (moved (negsuc 0) (pos 0)) k (dy *ℤ negsuc 0 -ℤ dx *ℤ pos 0) some (by (negsuc 0) (pos 0)) h.left (omega (arith, ints, n)))
+      (λ n. left_by s (moved (negsuc 0) (pos 0)) k (dy *ℤ negsuc 0 -ℤ dx *ℤ pos 0) some (by (negsuc 0) (pos 0)) h.left
+      (omega (arith, ints, n)))
       (λ n. absurd (has_length e t m n))
-      (λ n. left_by s (moved (pos 1) (pos 0)) k (dy *ℤ pos 1 -ℤ dx *ℤ pos 0) some (by (pos 1) (pos 0)) h.right (omega (arith, ints, n))))
-      (λ m. left_by s (moved (pos 0) (negsuc 0)) k (dy *ℤ pos 0 -ℤ dx *ℤ negsuc 0) some (by (pos 0) (negsuc 0)) h.down (omega (arith, ints, m)))
+      (λ n. left_by s (moved (pos 1) (pos 0)) k (dy *ℤ pos 1 -ℤ dx *ℤ pos 0) some (by (pos 1) (pos 0)) h.right
+      (omega (arith, ints, n))))
+      (λ m. left_by s (moved (pos 0) (negsuc 0)) k (dy *ℤ pos 0 -ℤ dx *ℤ negsuc 0) some (by (pos 0) (negsuc 0)) h.down
+      (omega (arith, ints, m)))

@@ -16,10 +16,13 @@ pub record KeepsWithin (outlines : List (List Pt)) (c : ℕ) (q : Point) : Type 
 
 -- so it is of each point of each side of loops
 abbrev pub KeepClear : List (List Pt) → ℕ → List (List Pt) → Type 0
-KeepClear outlines c loops = All (λ e. (q : Point) → pos 0 <ℤ q.d → IsOn (whole e.a) (whole e.b) q → KeepsWithin outlines c q) (flat_map sides loops)
+KeepClear outlines c loops = All
+    (λ e. (q : Point) → pos 0 <ℤ q.d → IsOn (whole e.a) (whole e.b) q → KeepsWithin outlines c q)
+    (flat_map sides loops)
 
 -- ---- the law
--- Each point of the walls keeps the distance c less one micrometre from each side of the outlines along both axes, and lies inside
--- them.
+-- Each point of the walls keeps the distance c less one micrometre from each side of the outlines along both axes,
+-- and lies inside them.
 abbrev pub WallsKeepClear : Type 0
-WallsKeepClear = (c : ℕ) (outlines loops : List (List Pt)) → 1 ≤ c → AreWalls c outlines loops → KeepClear outlines c loops
+WallsKeepClear = (c : ℕ) (outlines loops : List (List Pt)) → 1 ≤ c → AreWalls c outlines loops
+    → KeepClear outlines c loops

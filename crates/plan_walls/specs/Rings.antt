@@ -14,5 +14,6 @@ IsStrictlyLeftOf q s = pos 0 <ℤ side_by q s.from s.to
 -- A closed way with a point to the left of each of its sides winds round it counter-clockwise, hard by it on each side.
 abbrev pub LeftIsWound : Type 0
 LeftIsWound =
-    (corner : Pt) (corners : List Pt) (q : Point) → pos 0 <ℤ q.d → All (IsStrictlyLeftOf q) (segments (sides (corner ∷ corners)))
+    (corner : Pt) (corners : List Pt) (q : Point) → pos 0 <ℤ q.d
+    → All (IsStrictlyLeftOf q) (segments (sides (corner ∷ corners)))
     → (above right : Bool) → pos 0 <ℤ wind_by above right q (segments (sides (corner ∷ corners)))

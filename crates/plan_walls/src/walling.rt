@@ -20,12 +20,13 @@ use std::alloc::{AllocError, Global};
 /// The greatest number of edges, those of the outlines and of the rings round them.
 const EDGE_LIMIT: u32 = 140_000;
 
-/// The loops at the distance `c` micrometres from outlines, with the inside on their left: the outlines of what lies inside
-/// the given ones and outside of the ring round each of their sides, all that is within `c` of it along both axes. Each point
-/// of the loops keeps `c - 1` along both axes from every side of the outlines handed in, and they wind round it.
+/// The loops at the distance `c` micrometres from outlines, with the inside on their left: the outlines of what lies
+/// inside the given ones and outside of the ring round each of their sides, all that is within `c` of it along both
+/// axes. Each point of the loops keeps `c - 1` along both axes from every side of the outlines handed in, and they wind
+/// round it.
 ///
-/// They are refused exactly where the sides and the rings have more than 140,000 edges, and then where more than 2,000,000
-/// pairs of them cross.
+/// They are refused exactly where the sides and the rings have more than 140,000 edges, and then where more than
+/// 2,000,000 pairs of them cross.
 pub fn walls(alloc: Global, outlines: &[Loop], c: u32) -> Result<Vec<Loop>, BoolFault>
     requires within { All (λ l. All (IsWithin point_limit) l) outlines.now }
     requires positive { 1 ≤ c }
@@ -34,7 +35,8 @@ pub fn walls(alloc: Global, outlines: &[Loop], c: u32) -> Result<Vec<Loop>, Bool
     ensures clear { IfOk result (λ v. KeepClear outlines.now c v.items) }
     ensures few { IfOk result (λ v. length (wall_edges c outlines.now) ≤ 140000) }
     ensures accepted { IfOk result (λ v. crossings (wall_edges c outlines.now) ≤ crossing_limit) }
-    ensures refused { IfErr result (IsRefusal (length (wall_edges c outlines.now)) 140000 (crossings (wall_edges c outlines.now))) }
+    ensures refused { IfErr result
+        (IsRefusal (length (wall_edges c outlines.now)) 140000 (crossings (wall_edges c outlines.now))) }
 {
     match sides(alloc, outlines) {
         Ok(around) => walls_along(alloc, &around, c),
@@ -51,7 +53,8 @@ fn walls_along(alloc: Global, around: &[Edge], c: u32) -> Result<Vec<Loop>, Bool
     ensures walls { IfOk result (λ v. AreWallsAlong c around.now v.items) }
     ensures few { IfOk result (λ v. length (with_rings c around.now) ≤ 140000) }
     ensures accepted { IfOk result (λ v. crossings (with_rings c around.now) ≤ crossing_limit) }
-    ensures refused { IfErr result (IsRefusal (length (with_rings c around.now)) 140000 (crossings (with_rings c around.now))) }
+    ensures refused { IfErr result
+        (IsRefusal (length (with_rings c around.now)) 140000 (crossings (with_rings c around.now))) }
 {
     let count = edge_count(around, c);
     if count > EDGE_LIMIT as u64 {

@@ -5,4 +5,5 @@ use Rattle.plan_walls.proofs.edges.push_path.Given as goal
 
 abbrev pub invariant-points : goal.invariant-points
 invariant-points l =
-    l.edges.items ++ of_leaf l.leaf (path l.at (drop l.next-index l.rest) l.last) ≡ l.fn.edges.items ++ of_leaf l.leaf (path l.fn.first l.rest l.last)
+    l.edges.items ++ of_leaf l.leaf (path l.at (drop l.next-index l.rest) l.last) ≡ l.fn.edges.items ++ of_leaf l.leaf
+    (path l.fn.first l.rest l.last)

@@ -20,10 +20,12 @@ sides_are : (c : goal.After-deref) → c.deref.result.now ≡ flat_map sides c.a
 sides_are c = c.deref.ensures.value ∙ c.in-Ok.ensures
 
 pub walls_along-requires-clause-within : goal.walls_along-requires-clause-within
-walls_along-requires-clause-within c = subst (λ (es : List Edge). All (IsEdgeWithin point_limit) es) (sym (sides_are c)) (outlines_within point_limit c.args.outlines.now c.requires.within)
+walls_along-requires-clause-within c = subst (λ (es : List Edge). All (IsEdgeWithin point_limit) es)
+    (sym (sides_are c)) (outlines_within point_limit c.args.outlines.now c.requires.within)
 
 pub walls_along-requires-clause-balanced : goal.walls_along-requires-clause-balanced
-walls_along-requires-clause-balanced c = subst (λ (es : List Edge). IsBalanced (segments es)) (sym (sides_are c)) (sides_balanced c.args.outlines.now)
+walls_along-requires-clause-balanced c = subst (λ (es : List Edge). IsBalanced (segments es)) (sym (sides_are c))
+    (sides_balanced c.args.outlines.now)
 
 pub returns-in-Ok-clause-clear : goal.returns-in-Ok-clause-clear
 returns-in-Ok-clause-clear c =
