@@ -13,3 +13,14 @@ pub fn left_is_wound()
 pub fn walls_keep_clear()
     ensures { WallsKeepClear }
 {}
+
+#[cfg(test)]
+mod tests {
+    use super::*;
+
+    #[test]
+    fn laws_are_called() {
+        left_is_wound();
+        walls_keep_clear();
+    }
+}
