@@ -44,7 +44,6 @@ word_more word rest h = slice_split_at (λ (b : ℕ). b == comma) word comma res
 pub same_words : (a b : List ℕ) → words a ≡ words b → a ≡ b
 same_words a b e = sym (join_with_byte-slice_split comma a) ∙ ap (join_with_byte comma) e ∙ join_with_byte-slice_split comma b
 
-
 abbrev pub coordinate_words : List Pt → List (List ℕ)
 coordinate_words [] = []
 coordinate_words (p ∷ ps) = signed_decimal p.x ∷ signed_decimal p.y ∷ coordinate_words ps

@@ -157,6 +157,7 @@ geometry_stands n last (line ∷ rest) g e = by_end (bytes_eq line end_line) ref
       none = λ e. refl;
     })
     ended (next ∷ more) is e = absurd cc
+
     by_end : (b : Bool) → bytes_eq line end_line ≡ b → ((m : ℕ) (last : Option ℕ) (more : Geometry) → geometry_at m last rest ≡ Ok more → Stands last rest more) →
         cond b (ended_at (n + 1) rest) (said_at (n + 1) last line >>= λ said. geometry_at (n + 1) (last_height said last) rest >>= λ more. Ok (onto said more)) ≡ Ok g →
         Stands last (line ∷ rest) g

@@ -76,14 +76,18 @@ count_parsed {E} word n r read parsed = by_test (bytes_eq (decimal n) word) refl
   where
     same_number : (m : ℕ) → r ≡ Ok m → n ≡ m
     same_number m e = cc
+
     true_false : true ≡ false → ⊥
     true_false e = cc
+
     small : n < 2 ^ 32
     small = let number = subst (λ (x : Result ℕ E). ParsesUnsigned 32 10 word x) read parsed in omega (arith, number.0.1, number.1)
+
     other : bytes_eq (decimal n) word ≡ false → (m : ℕ) → m < 2 ^ 32 → word ≡ decimal m → ⊥
     other differs m h is =
         let same : n ≡ m = same_number m (parse-decimal 32 m word r h (omega arith) is parsed) in
         true_false (sym ((bytes_eq-Decides (decimal n) word).1 (ap decimal same ∙ sym is)) ∙ differs)
+
     by_test : (b : Bool) → bytes_eq (decimal n) word ≡ b → cond b (Some n) None ≡ count_of word
     by_test true e = sym (ap count_of (sym ((bytes_eq-Decides (decimal n) word).0 e)) ∙ count_back n small)
     by_test false e = sym (no_count word (other e))
@@ -145,8 +149,10 @@ coordinate_parsed word z r read parsed = by_test (bytes_eq (signed_decimal z) wo
   where
     same_number : (y : ℤ) → r ≡ Ok y → z ≡ y
     same_number y e = cc
+
     true_false : true ≡ false → ⊥
     true_false e = cc
+
     other : (bytes_eq (signed_decimal z) word && nat_le (unsigned_abs z) reach) ≡ false → (y : ℤ) → unsigned_abs y ≤ reach → word ≡ signed_decimal y → ⊥
     other differs y h is =
         let same : z ≡ y = same_number y (parse-signed_decimal w32 y word r (small_signed y h).1 (small_signed y h).0 is parsed) in
@@ -154,6 +160,7 @@ coordinate_parsed word z r read parsed = by_test (bytes_eq (signed_decimal z) wo
         let near : unsigned_abs z ≤ reach = rw same h in
         let small : nat_le (unsigned_abs z) reach ≡ true = grind (arith, nat_tests) in
         true_false (sym (ap₂ (λ (a b : Bool). a && b) text small) ∙ differs)
+
     by_test : (b : Bool) → (bytes_eq (signed_decimal z) word && nat_le (unsigned_abs z) reach) ≡ b → cond b (Some z) None ≡ coordinate_of word
     by_test true e =
         let p = and_parts (bytes_eq (signed_decimal z) word) (nat_le (unsigned_abs z) reach) e in

@@ -141,13 +141,16 @@ outline_are n (direction ∷ said ∷ rest) outline e =
     let direction_is = count_text direction d.0 (or_bad_ok n (count_of direction) d.0 d.1) in
     let said_is = count_text said b.0 (or_bad_ok n (count_of said) b.0 b.1) in
     let points = points_are n rest c.0 c.1 in
-    let whole = closed_are n b.0 c.0 outline c.2 in
-    (d.0, one, (λ i. direction_is.0 i ∷ (said_is.0 ∙ ap decimal whole.1) i ∷ (points.0 ∙ ap coordinate_words whole.0) i),
-    record {
-      several = whole.2;
-      count = omega (arith, said_is.1, whole.1);
-      near = first_near outline (subst (AllByRecursion IsNear) whole.0 points.1);
-    })
+    let whole = closed_are n b.0 c.0 outline c.2 in (
+      d.0,
+      one,
+      (λ i. direction_is.0 i ∷ (said_is.0 ∙ ap decimal whole.1) i ∷ (points.0 ∙ ap coordinate_words whole.0) i),
+      record {
+        several = whole.2;
+        count = omega (arith, said_is.1, whole.1);
+        near = first_near outline (subst (AllByRecursion IsNear) whole.0 points.1);
+      },
+    )
 
 outline_back : (n direction : ℕ) (outline : List Pt) → direction ≤ 1 → IsShape outline →
     outline_at n (decimal direction ∷ decimal (length outline + 1) ∷ coordinate_words (closed outline)) ≡ Ok outline

@@ -43,9 +43,6 @@ fn counted(said: u32, layers: Vec<CliLayer>) -> Result<Cli, CliFault>
             layers: CliLayers::from_vec(layers),
         })
     } else {
-        Err(CliFault::CountDiffers(
-            u64::from(said),
-            layers.len() as u64,
-        ))
+        Err(CliFault::CountDiffers(u64::from(said), layers.len() as u64))
     }
 }
