@@ -47,6 +47,17 @@ pub record AreFilled (outlines : List (List Pt)) (layer : ℕ) (s : Settings) (l
   pub each : All (IsFilled outlines layer s) lines
   pub all : (z : ℤ) (r : Run) → IsMultiple s.infill_spacing z → IsLayerRun outlines layer s z r → Contains (map (λ l. l.at) lines) z
 
+-- the line at a coordinate, where it has runs
+abbrev pub line_of : ℤ → List Run → List LineRuns
+line_of z [] = []
+line_of z (r ∷ rs) = record { at = z; runs = r ∷ rs } ∷ []
+
+-- to lines that one is added
+pub record AddsLine (outlines : List (List Pt)) (layer : ℕ) (s : Settings) (z : ℤ) (old new : List LineRuns) : Type 0 where
+  pub runs : List Run
+  pub are_runs : AreRuns outlines (depth s) (line_at layer z) s.line_width runs
+  pub added : new ≡ old ++ line_of z runs
+
 -- a run as a path, upwards or to the right, and the other way
 abbrev pub forwards : Line → Run → List Pt
 forwards line r = point_on line r.from ∷ point_on line r.to ∷ []

@@ -1,5 +1,5 @@
 -- When a plan is refused.
-use Rattle.std.specs.Prelude.{◌≡◌, ℕ, ◌<◌, ◌≤◌, List, length}
+use Rattle.std.specs.Prelude.{◌≡◌, ◌⊎◌, ℕ, ◌<◌, ◌≤◌, List, length}
 use Rattle.scad_geom.specs.declared.point.Pt.{Pt}
 use Rattle.slice_events.specs.Limits.{crossing_limit}
 use Rattle.slice_events.specs.Levels.{crossings}
@@ -40,17 +40,27 @@ pub record IsWallRefused (outlines : List (List Pt)) (s : Settings) (fault : Boo
   pub accepted : AreAccepted outlines s.line_width wall
   pub refused : of_walls.IsRefusal (length (wall_edges (distance s.line_width wall) outlines)) edge_limit (crossings (wall_edges (distance s.line_width wall) outlines)) fault
 
--- the plan has this many moves, more than the limit
-pub record HasManyMoves (outlines : List (List Pt)) (layer : ℕ) (s : Settings) (n : ℕ) : Type 0 where
+-- by the first wall that has a fault; want of memory may come before it is known
+abbrev pub IsWallsRefusal : List (List Pt) → Settings → PlanFault → Type 0
+IsWallsRefusal outlines s Memory = Unit {0}
+IsWallsRefusal outlines s (Edges n) = IsWallRefused outlines s (ManyEdges n)
+IsWallsRefusal outlines s (Crossings n) = IsWallRefused outlines s (ManyCrossings n)
+IsWallsRefusal outlines s (Moves n) = ⊥
+
+-- by the number of moves along paths, which passes the limit
+abbrev pub IsManyMoves : List (List Pt) → PlanFault → Type 0
+IsManyMoves paths Memory = Unit {0}
+IsManyMoves paths (Edges n) = ⊥
+IsManyMoves paths (Crossings n) = ⊥
+IsManyMoves paths (Moves n) = (n ≡ length (all_moves paths)) × (move_limit < n)
+
+-- the walls have no fault, but the plan has too many moves
+pub record HasManyMoves (outlines : List (List Pt)) (layer : ℕ) (s : Settings) (fault : PlanFault) : Type 0 where
   pub paths : List (List Pt)
   pub plan : IsPlan outlines layer s paths
   pub accepted : AreAccepted outlines s.line_width s.walls
-  pub count : n ≡ length (all_moves paths)
-  pub many : move_limit < n
+  pub many : IsManyMoves paths fault
 
--- by the first wall that has a fault, then by the number of moves; want of memory may come before either is known
+-- by the first wall that has a fault, then by the number of moves
 abbrev pub IsRefusal : List (List Pt) → ℕ → Settings → PlanFault → Type 0
-IsRefusal outlines layer s Memory = Unit {0}
-IsRefusal outlines layer s (Edges n) = IsWallRefused outlines s (ManyEdges n)
-IsRefusal outlines layer s (Crossings n) = IsWallRefused outlines s (ManyCrossings n)
-IsRefusal outlines layer s (Moves n) = HasManyMoves outlines layer s n
+IsRefusal outlines layer s fault = IsWallsRefusal outlines s fault ⊎ HasManyMoves outlines layer s fault

@@ -1,7 +1,8 @@
 -- The walls of a plan, from the outermost on, and their loops as paths.
-use Rattle.std.specs.Prelude.{ℕ, ◌+◌, ◌*◌, ◌/◌, List, [], ◌∷◌, ◌++◌, map, flat_map}
+use Rattle.std.specs.Prelude.{◌≡◌, ℕ, ◌+◌, ◌*◌, ◌/◌, List, [], ◌∷◌, ◌++◌, length, map, flat_map}
 use Rattle.scad_geom.specs.declared.point.Pt.{Pt}
 use Rattle.plan_walls.specs.Walls.{AreWalls}
+use Rattle.scad_words.specs.declared.settings.Settings.{Settings}
 
 -- how far wall k lies inside the outlines: half the width of a line, and k whole widths
 abbrev pub distance : ℕ → ℕ → ℕ
@@ -20,3 +21,10 @@ round (p ∷ ps) = (p ∷ ps) ++ p ∷ []
 -- the loops of walls as paths
 abbrev pub wall_paths : List (List (List Pt)) → List (List Pt)
 wall_paths walls = flat_map (λ loops. map round loops) walls
+
+-- paths are those of a number of walls
+pub record AreWallPaths (outlines : List (List Pt)) (s : Settings) (paths : List (List Pt)) : Type 0 where
+  pub walls : List (List (List Pt))
+  pub count : length walls ≡ s.walls
+  pub are_walls : AreWallsFrom s.line_width 0 outlines walls
+  pub paths_are : paths ≡ wall_paths walls

@@ -1,8 +1,9 @@
 //! Between which lines outlines lie.
-ghost use Rattle.std.specs.Prelude.{◌≡◌, ◌≤ℤ◌, ℤ, pos, negsuc, All};
+ghost use Rattle.std.specs.Prelude.{◌≡◌, ◌≤ℤ◌, ◌-ℤ◌, pos, All};
+ghost use Rattle.std.specs.Int.{int_min, int_max};
 ghost use Rattle.scad_geom.specs.Limits.{point_limit};
 ghost use Rattle.scad_geom.specs.Within.{IsEdgeWithin};
-ghost use Rattle.plan_layer.specs.Extent.{across, AreWithinExtent};
+ghost use Rattle.plan_layer.specs.Extent.{across, IsEdgeAmong};
 
 use scad_geom::{Edge, Pt};
 
@@ -14,7 +15,10 @@ pub(crate) struct Extent {
 }
 
 impl Extent {
-    fn with(self, at: i32) -> Extent {
+    fn with(self, at: i32) -> Extent
+        ensures low { result.low ≡ int_min self.low at }
+        ensures high { result.high ≡ int_max self.high at }
+    {
         Extent {
             low: self.low.min(at),
             high: self.high.max(at),
@@ -23,7 +27,12 @@ impl Extent {
 }
 
 /// Between which lines of a layer sides lie.
-pub(crate) fn extent_of(layer: u32, sides: &[Edge]) -> Extent {
+pub(crate) fn extent_of(layer: u32, sides: &[Edge]) -> Extent
+    requires { All (IsEdgeWithin point_limit) sides.now }
+    ensures among { All (IsEdgeAmong layer result.low result.high) sides.now }
+    ensures from { (pos 0 -ℤ pos point_limit) ≤ℤ result.low }
+    ensures to { result.high ≤ℤ pos point_limit }
+{
     let mut extent = Extent {
         low: i32::MAX,
         high: i32::MIN,

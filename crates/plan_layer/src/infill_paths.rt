@@ -1,5 +1,5 @@
 //! The runs of infill as paths.
-ghost use Rattle.std.specs.Prelude.{◌≡◌, true, false, ◌++◌, IfOk, OnOk};
+ghost use Rattle.std.specs.Prelude.{◌≡◌, true, [], ◌∷◌, ◌++◌, map, IfOk, OnOk};
 ghost use Rattle.plan_infill.specs.Runs.{point_on};
 ghost use Rattle.plan_layer.specs.Infill as spec;
 
@@ -38,7 +38,9 @@ fn push_line(
     if upwards {
         push_forwards(alloc, paths, line, runs)
     } else {
-        push_backwards(alloc, paths, line, runs)
+        let mut turned = Vec::from_slice(alloc, runs)?;
+        turned.reverse();
+        push_backwards(alloc, paths, line, &turned)
     }
 }
 
@@ -48,7 +50,7 @@ fn push_forwards(
     line: Line,
     runs: &[Run],
 ) -> Result<(), AllocError>
-    ensures { OnOk result (paths.new.items ≡ paths.old.items ++ spec.line_paths true line runs.now) }
+    ensures { OnOk result (paths.new.items ≡ paths.old.items ++ map (spec.forwards line) runs.now) }
 {
     'runs: for run in runs {
         paths.push(way(alloc, point_on(line, run.from), point_on(line, run.to))?)?;
@@ -62,9 +64,9 @@ fn push_backwards(
     line: Line,
     runs: &[Run],
 ) -> Result<(), AllocError>
-    ensures { OnOk result (paths.new.items ≡ paths.old.items ++ spec.line_paths false line runs.now) }
+    ensures { OnOk result (paths.new.items ≡ paths.old.items ++ map (spec.backwards line) runs.now) }
 {
-    'runs: for run in runs.iter().rev() {
+    'runs: for run in runs {
         paths.push(way(alloc, point_on(line, run.to), point_on(line, run.from))?)?;
     }
     Ok(())

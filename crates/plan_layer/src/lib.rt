@@ -11,6 +11,8 @@ pub mod laws;
 mod lines;
 mod planning;
 #[cfg(test)]
+mod random_outlines;
+#[cfg(test)]
 mod tests;
 mod wall_paths;
 

@@ -1,5 +1,5 @@
 //! The lines of infill that have runs.
-ghost use Rattle.std.specs.Prelude.{◌≡◌, ◌+◌, ◌<◌, ◌≤◌, ◌^◌, length, flat_map, IfOk, OnOk, All};
+ghost use Rattle.std.specs.Prelude.{◌≡◌, ◌<◌, ◌≤◌, ◌+ℤ◌, ◌<ℤ◌, ◌≤ℤ◌, pos, unsigned_abs, IfOk, OnOk, All};
 ghost use Rattle.scad_geom.specs.Limits.{point_limit};
 ghost use Rattle.scad_geom.specs.Within.{IsWithin};
 ghost use Rattle.scad_words.specs.Settings.{AreInRange};
@@ -54,23 +54,29 @@ pub(crate) fn filled_lines(
     ensures { IfOk result (λ v. spec.AreFilled outlines.now layer settings.now v.items) }
 {
     let mut lines = Vec::new(alloc);
-    let spacing = settings.infill_spacing as i64;
+    let spacing = settings.infill_spacing;
     if spacing == 0 {
         return Ok(lines);
     }
     let extent = extent_of(layer, &sides(alloc, outlines)?);
     let high = extent.high as i64;
-    let mut at = multiple_from(extent.low as i64, spacing);
+    let mut at = multiple_from(extent.low, spacing);
     'lines: while at <= high {
         push_filled(alloc, &mut lines, outlines, layer, settings, at as i32)?;
-        at += spacing;
+        at += spacing as i64;
     }
     Ok(lines)
 }
 
 // The least multiple of the spacing that isn't below a place.
-fn multiple_from(place: i64, spacing: i64) -> i64 {
-    place + (-place).rem_euclid(spacing)
+fn multiple_from(place: i32, spacing: u32) -> i64
+    requires { 0 < spacing }
+    ensures multiple { spec.IsMultiple spacing result }
+    ensures from { place ≤ℤ result }
+    ensures first { result <ℤ (place +ℤ pos spacing) }
+{
+    let place = place as i64;
+    place + (-place).rem_euclid(spacing as i64)
 }
 
 // Adds the line at a coordinate where it has runs.
@@ -81,11 +87,17 @@ fn push_filled(
     layer: u32,
     settings: &Settings,
     at: i32,
-) -> Result<(), AllocError> {
+) -> Result<(), AllocError>
+    requires within { All (λ l. All (IsWithin point_limit) l) outlines.now }
+    requires settings { AreInRange settings.now }
+    requires line { unsigned_abs at ≤ point_limit }
+    ensures { OnOk result (spec.AddsLine outlines.now layer settings.now at lines.old.items lines.new.items) }
+{
     let depth = settings.walls * settings.line_width;
-    let runs = runs(alloc, outlines, depth, line_at(layer, at), settings.line_width)?;
-    if !runs.is_empty() {
-        lines.push(LineRuns { at, runs })?;
+    let line = line_at(layer, at);
+    let found = runs(alloc, outlines, depth, line, settings.line_width)?;
+    if !found.is_empty() {
+        lines.push(LineRuns { at, runs: found })?;
     }
     Ok(())
 }

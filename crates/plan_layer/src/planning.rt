@@ -1,13 +1,12 @@
 //! The plan of a layer.
-ghost use Rattle.std.specs.Prelude.{◌≡◌, ◌+◌, ◌/◌, ◌<◌, ◌≤◌, ◌^◌, length, flat_map, IfOk, IfErr, IfSome, All};
+ghost use Rattle.std.specs.Prelude.{◌≡◌, ◌/◌, ◌≤◌, length, IfOk, IfErr, IfSome, All};
 ghost use Rattle.scad_geom.specs.Limits.{point_limit};
 ghost use Rattle.scad_geom.specs.Within.{IsWithin};
-ghost use Rattle.scad_geom.specs.Loop.{sides};
 ghost use Rattle.scad_words.specs.Settings.{AreInRange};
-ghost use Rattle.plan_layer.specs.Moves.{moves, all_moves, move_limit};
+ghost use Rattle.plan_layer.specs.Moves.{all_moves, move_limit};
 ghost use Rattle.plan_layer.specs.Plan.{IsPlan};
 ghost use Rattle.plan_layer.specs.Kept.{PathsKeepClear};
-ghost use Rattle.plan_layer.specs.Refusal.{AreAccepted, IsRefusal};
+ghost use Rattle.plan_layer.specs.Refusal.{AreAccepted, IsManyMoves, IsRefusal};
 
 use crate::fault::PlanFault;
 use crate::infill_paths::push_infill;
@@ -58,7 +57,11 @@ pub fn plan(
 }
 
 // Paths with too many moves are refused.
-fn judged(paths: Vec<Path>) -> Result<LayerPlan, PlanFault> {
+fn judged(paths: Vec<Path>) -> Result<LayerPlan, PlanFault>
+    ensures kept { IfOk result (λ p. p.paths.items ≡ paths.items) }
+    ensures few { IfOk result (λ p. length (all_moves p.paths.items) ≤ move_limit) }
+    ensures many { IfErr result (IsManyMoves paths.items) }
+{
     match count_of_moves(&paths) {
         Some(count) if count > MOVE_LIMIT => Err(PlanFault::Moves(count)),
         Some(_) => Ok(LayerPlan { paths }),

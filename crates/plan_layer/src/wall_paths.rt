@@ -1,10 +1,10 @@
 //! The loops of walls as paths.
-ghost use Rattle.std.specs.Prelude.{◌≡◌, ◌+◌, ◌*◌, ◌<◌, ◌≤◌, ◌^◌, ◌++◌, length, map, flat_map, IfOk, OnOk, All};
+ghost use Rattle.std.specs.Prelude.{◌≡◌, ◌<◌, ◌≤◌, ◌++◌, map, IfOk, IfErr, OnOk, All};
 ghost use Rattle.scad_geom.specs.Limits.{point_limit};
 ghost use Rattle.scad_geom.specs.Within.{IsWithin};
-ghost use Rattle.scad_geom.specs.Loop.{sides};
 ghost use Rattle.scad_words.specs.Settings.{AreInRange};
-ghost use Rattle.plan_layer.specs.Walls.{distance, round};
+ghost use Rattle.plan_layer.specs.Walls.{distance, round, AreWallPaths};
+ghost use Rattle.plan_layer.specs.Refusal.{AreAccepted, IsWallsRefusal};
 
 use crate::fault::PlanFault;
 use plan_walls::walls;
@@ -20,6 +20,9 @@ pub(crate) fn wall_paths(
 ) -> Result<Vec<Path>, PlanFault>
     requires within { All (λ l. All (IsWithin point_limit) l) outlines.now }
     requires settings { AreInRange settings.now }
+    ensures walls { IfOk result (λ v. AreWallPaths outlines.now settings.now v.items) }
+    ensures accepted { IfOk result (λ v. AreAccepted outlines.now settings.now.line_width settings.now.walls) }
+    ensures refused { IfErr result (IsWallsRefusal outlines.now settings.now) }
 {
     let mut paths = Vec::new(alloc);
     'walls: for wall in 0..settings.walls {
