@@ -1,13 +1,15 @@
 -- Whole multiples of a spacing.
 use Rattle.std.proofs.Common.{◌≡◌, ◌⊎◌, inl, inr, ℕ, ◌<◌, List, [], ◌∷◌, refl, ap, ◌∙◌, sym, arith, ℤ, pos, negsuc, ◌+ℤ◌, ◌-ℤ◌, ◌*ℤ◌, ◌<ℤ◌}
 use lib.Signed.{◌≤ℤ◌}
-use Rattle.std.specs.Int.{int_div_euclid, int_rem_euclid}
+use Rattle.std.specs.Prelude.{unsigned_abs}
+use Rattle.std.specs.Int.{int_div_euclid, int_rem_euclid, int_max}
 use Rattle.std.proofs.lemmas.Int.{ints}
 use Rattle.scad_base.proofs.Products.{negative_factor}
 use Rattle.scad_geom.proofs.Ring.{ring, num, ◌⊕◌, ◌⊖◌, ◌⊗◌, v0, v1, v2}
 use Rattle.scad_geom.proofs.Rising.{order}
 use Rattle.scad_geom.proofs.Signs.{at_least_mul, pos_left}
 use Rattle.plan_layer.specs.Infill.{IsMultiple}
+use Rattle.plan_layer.proofs.Extents.{greater}
 
 more : (j d : ℤ) → (j +ℤ pos 1) *ℤ d ≡ j *ℤ d +ℤ d
 more j d = ring (j ∷ d ∷ []) ((v0 ⊕ num (pos 1)) ⊗ v1) (v0 ⊗ v1 ⊕ v1) refl
@@ -52,3 +54,16 @@ least_multiple spacing place r h e = record {
 
     turned : (q d : ℤ) → (pos 0 -ℤ q) *ℤ d ≡ pos 0 -ℤ q *ℤ d
     turned q d = ring (q ∷ d ∷ []) ((num (pos 0) ⊖ v0) ⊗ v1) (num (pos 0) ⊖ v0 ⊗ v1) refl
+
+-- what is left up to a greatest place
+pub falls : (high z next : ℤ) → z ≤ℤ high → z <ℤ next → unsigned_abs (int_max (pos 0) (high +ℤ pos 1 -ℤ next)) < unsigned_abs (int_max (pos 0) (high +ℤ pos 1 -ℤ z))
+falls high z next h k =
+    let g = greater (pos 0) (high +ℤ pos 1 -ℤ next) (int_max (pos 0) (high +ℤ pos 1 -ℤ next)) refl in
+    let l = greater (pos 0) (high +ℤ pos 1 -ℤ z) (int_max (pos 0) (high +ℤ pos 1 -ℤ z)) refl in
+    let first = g.first in
+    let second = l.second in
+    let least = g.least (high -ℤ z) (omega (arith, ints)) (omega (arith, ints)) in
+    less (int_max (pos 0) (high +ℤ pos 1 -ℤ next)) (int_max (pos 0) (high +ℤ pos 1 -ℤ z)) first (omega (arith, ints))
+  where
+    less : (x y : ℤ) → pos 0 ≤ℤ x → x <ℤ y → unsigned_abs x < unsigned_abs y
+    less x y h k = omega (arith, ints)
