@@ -21,7 +21,7 @@ use Rattle.gcode_text.specs.Reading.{pieces, first_at, without_return, without_c
 use Rattle.gcode_text.specs.Machine.{State, any, command_of, takes, was_given, with_number, with_word, with_words, nothing_given, obeyed, counting, words_line, line_step}
 use Rattle.gcode_text.proofs.Words.{one_piece, kept_in_front}
 use Rattle.gcode_text.proofs.Printed.{list_all-weaken, no_mark, digits_alone, decimal_digits, three_digits, five_digits}
-use Rattle.std.proofs.lemmas.Bool.{and_parts}
+use Rattle.std.proofs.lemmas.Bool.{and_parts, not-true}
 
 -- ---- bytes
 
@@ -69,16 +69,12 @@ spaced_in_line (word ∷ next ∷ rest) h =
     list_all-append in_line word (32 ∷ spaced (next ∷ rest))
     ∙ ap₂ (λ (a b : Bool). a && b) (list_all-weaken in_word in_line line_from_word word h.1) (spaced_in_line (next ∷ rest) h.2)
 
-not_true : (b : Bool) → not b ≡ true → b ≡ false
-not_true true h = absurd (cc)
-not_true false h = refl
-
 words_more : (word rest : List ℕ) → nat_lt 0 (length word) ≡ true → list_all in_word word ≡ true → words (word ++ 32 ∷ rest) ≡ word ∷ words rest
 unfolding words
 words_more word rest some h =
     let none = AllPass-from_list_all (λ (b : ℕ). not (b == 32)) word (list_all-weaken in_word (λ b. not (b == 32)) no_space word h) in
     ap (filter (λ (w : List ℕ). nat_lt 0 (length w)))
-    (slice_split_at (λ (b : ℕ). b == 32) word 32 rest (λ k d l. not_true (get_or word k d == 32) (none k d l)) refl)
+    (slice_split_at (λ (b : ℕ). b == 32) word 32 rest (λ k d l. not-true (get_or word k d == 32) (none k d l)) refl)
     ∙ kept_in_front word (pieces 32 rest) some
 
 last_word : (word : List ℕ) → nat_lt 0 (length word) ≡ true → list_all in_word word ≡ true → words word ≡ word ∷ []

@@ -2,22 +2,20 @@
 use Rattle.std.proofs.Common.{◌≡◌, ℕ, zero, suc, ◌*◌, ◌^◌, ◌<◌, ◌≤◌, min, Bool, true, false, List, [], ◌∷◌, refl, ap, ◌∙◌, arith, ◌⊎◌, inl, inr, Option, Some, None}
 use Rattle.std.specs.Prelude.{ℤ, pos, negsuc, neg_ℤ, unsigned_abs, ◌&&◌, IsTrue}
 use Rattle.std.specs.Option.{option_map}
-use Rattle.std.specs.Char.{digit_value, is_ascii_digit}
+use Rattle.std.specs.Char.{is_ascii_digit}
 use Rattle.std.specs.List.{list_all}
 use Rattle.std.specs.Str.Parse.{AllDigits, digits_value_after}
 use Rattle.std.proofs.lemmas.Bool.{cases_lt}
 use Rattle.std.proofs.lemmas.Bool.Decides.{nat_tests}
 use Rattle.scad_num.proofs.Capped.{min-mul, ten_pow_pos}
-use Rattle.scad_num.proofs.Digits.{min-digits_value_after}
+use Rattle.scad_num.proofs.Digits.{min-digits_value_after, digit_value-lt}
 use Rattle.gcode_text.specs.declared.given.Given.{Given}
 use Rattle.gcode_text.specs.Cap.{cap, capped, capped_number}
 use Rattle.gcode_text.specs.Reading.{negative, are_digits}
 use Rattle.gcode_text.specs.Machine.{limited, with_number, ranged}
+use Rattle.scad_base.proofs.Integers.{unsigned_abs-neg}
 
 -- ---- digits
-
-digit_value-lt : (c : ℕ) → is_ascii_digit c ≡ true → digit_value c < 10
-digit_value-lt c e = grind (arith, nat_tests)
 
 pub AllDigits-from_test : (ds : List ℕ) → list_all is_ascii_digit ds ≡ true → AllDigits 10 ds
 AllDigits-from_test [] h = tt
@@ -66,13 +64,9 @@ capped_within : (z : ℤ) → unsigned_abs z ≤ cap → capped_number z ≡ z
 capped_within (pos n) h = let e : min n cap ≡ n = omega arith in ap pos e
 capped_within (negsuc n) h = let e : min (suc n) cap ≡ suc n = omega arith in ap (λ (m : ℕ). neg_ℤ (pos m)) e
 
-size_of_negative : (n : ℕ) → unsigned_abs (neg_ℤ (pos n)) ≡ n
-size_of_negative zero = refl
-size_of_negative (suc n) = refl
-
 capped_past : (z : ℤ) → cap < unsigned_abs z → unsigned_abs (capped_number z) ≡ cap
 capped_past (pos n) h = omega arith
-capped_past (negsuc n) h = size_of_negative (min (suc n) cap) ∙ omega arith
+capped_past (negsuc n) h = unsigned_abs-neg (pos (min (suc n) cap)) ∙ omega arith
 
 past : (n letter : ℕ) (given : Given) (y z : ℤ) → cap < unsigned_abs z → unsigned_abs y ≡ cap →
     ranged limited n letter given (Some y) ≡ ranged limited n letter given (Some z)

@@ -1,5 +1,5 @@
 -- Numbers that are written are read back.
-use Rattle.std.proofs.Common.{◌≡◌, ℕ, suc, ◌+◌, ◌-◌, ◌*◌, ◌/◌, ◌%◌, ◌^◌, ◌<◌, Bool, true, false, not, cond, nat_le, nat_lt, List, [], ◌∷◌, ◌++◌, length, drop, refl, ap, ap₂, sym, ◌∙◌, arith, append_assoc, Some}
+use Rattle.std.proofs.Common.{◌≡◌, ℕ, suc, ◌+◌, ◌-◌, ◌*◌, ◌/◌, ◌%◌, ◌^◌, ◌<◌, Bool, true, false, not, cond, nat_le, nat_lt, List, [], ◌∷◌, ◌++◌, length, refl, ap, ap₂, sym, ◌∙◌, arith, Some}
 use Rattle.std.specs.Prelude.{ℤ, pos, negsuc, neg_ℤ, unsigned_abs, ◌==◌, ◌&&◌, slice_index}
 use Rattle.std.specs.Char.{digit_value, is_ascii_digit}
 use Rattle.std.specs.Fmt.{decimal}
@@ -7,10 +7,11 @@ use Rattle.std.specs.List.{list_all}
 use Rattle.std.specs.Str.Parse.{AllDigits, digits_value, digits_value_after}
 use Rattle.std.proofs.lemmas.Bool.Decides.{nat_tests}
 use Rattle.std.proofs.lemmas.Fmt.{decimal_is_IsNumeral_wide}
-use Rattle.std.proofs.lemmas.List.{take_at, drop_at, length-append, append-nil}
+use Rattle.std.proofs.lemmas.List.{take_at, length-append, append-nil}
 use Rattle.gcode_text.specs.Numeral.{last_digits, fixed, millimetres}
 use Rattle.gcode_text.specs.Reading.{first_at, are_digits, whole_size, pointed_size, size_of, number}
 use Rattle.std.proofs.lemmas.Bool.{and_parts}
+use Rattle.std.proofs.Math.Seq.{drop-append-add}
 
 -- ---- digits
 all_digits : (ds : List ℕ) → AllDigits 10 ds → list_all is_ascii_digit ds ≡ true
@@ -85,16 +86,11 @@ no_point ds h = list_all-weaken is_ascii_digit (λ b. not (b == 46)) digit_no_po
 in_front : (xs ys : List ℕ) (c : ℕ) → nat_lt (length xs) (length (xs ++ c ∷ ys)) ≡ true
 in_front xs ys c = let e = length-append xs (c ∷ ys) in grind (arith, nat_tests)
 
-behind : (xs ys : List ℕ) (c : ℕ) → drop (length xs + 1) (xs ++ c ∷ ys) ≡ ys
-behind xs ys c =
-    ap (λ (zs : List ℕ). drop (length xs + 1) zs) (sym (append_assoc xs (c ∷ []) ys))
-    ∙ drop_at (xs ++ c ∷ []) ys (length xs + 1) (length-append xs (c ∷ []))
-
 pub size_pointed : (places : ℕ) (whole decimals : List ℕ) → are_digits whole ≡ true → size_of places (whole ++ 46 ∷ decimals) ≡ pointed_size places whole decimals
 unfolding size_of
 size_pointed places whole decimals h =
     let at = first_mark 46 whole decimals (no_point whole h) in
-    rw (at, in_front whole decimals 46, take_at whole (46 ∷ decimals) (length whole) refl, behind whole decimals 46) refl
+    rw (at, in_front whole decimals 46, take_at whole (46 ∷ decimals) (length whole) refl, drop-append-add whole (46 ∷ decimals) 1) refl
 
 pub size_whole : (places : ℕ) (whole : List ℕ) → are_digits whole ≡ true → size_of places whole ≡ Some (digits_value 10 whole * 10 ^ places)
 unfolding size_of whole_size

@@ -16,6 +16,7 @@ use Rattle.gcode_text.specs.Reading.{without_return, without_comment, words}
 use Rattle.gcode_text.specs.Machine.{State, origin, start, moves_of_lines, line_step}
 use Rattle.gcode_text.specs.Moves.{at_height, travel, printing, printing_moves, end_of, path_moves, behind_path, paths_moves, behind_paths, raised, surface, layer_moves, layers_moves, program_moves, IsShort, IsShortPoint, AreShortPaths, ProgramsMakeTheirMoves}
 use Rattle.gcode_text.proofs.Run.{Goes, standing, run, prefix, goes_head, goes_end, goes_nowhere, goes_on, goes_travel, goes_print, goes_height, goes_number}
+use Rattle.std.proofs.Common.{zero-add}
 
 -- ---- amounts
 
@@ -164,16 +165,13 @@ programs_make_their_moves rates hot_end bed layers w =
     ∙ ap (prefix (program_moves rates layers)) (nothing_more (standing (behind_layers rates 0 origin layers) (filament rates (0 + layers_volume rates layers)) last.0))
     ∙ ap Ok (append-nil (program_moves rates layers))
   where
-    zero_in_front : (n : ℕ) → 0 + n ≡ n
-    zero_in_front n = omega arith
-
     front : Goes origin 0 (head hot_end bed) [] origin (filament rates 0)
     front = subst (λ (e : ℕ). Goes origin 0 (head hot_end bed) [] origin e) (sym (no_filament rates)) (goes_head origin 0 hot_end bed w.temperatures.0 w.temperatures.1)
 
     middle : Goes origin (filament rates 0) (layers_text rates 0 0 layers) (program_moves rates layers) (behind_layers rates 0 origin layers) (filament rates (0 + layers_volume rates layers))
-    middle = goes_layers rates 0 0 origin layers w.area w.print_feed w.travel_feed w.points (subst (λ (k : ℕ). k < 10 ^ 64) (sym (zero_in_front (length layers))) w.count)
-        (subst (λ (k : ℕ). k * rates.layer_height < 10 ^ 64) (sym (zero_in_front (length layers))) w.height)
-        (subst (λ (k : ℕ). 100 * k < 10 ^ 64) (sym (zero_in_front (layers_volume rates layers))) w.volume)
+    middle = goes_layers rates 0 0 origin layers w.area w.print_feed w.travel_feed w.points (subst (λ (k : ℕ). k < 10 ^ 64) (sym (zero-add (length layers))) w.count)
+        (subst (λ (k : ℕ). k * rates.layer_height < 10 ^ 64) (sym (zero-add (length layers))) w.height)
+        (subst (λ (k : ℕ). 100 * k < 10 ^ 64) (sym (zero-add (layers_volume rates layers))) w.volume)
 
     whole : Goes origin 0 (gcode rates hot_end bed layers) (program_moves rates layers ++ []) (behind_layers rates 0 origin layers) (filament rates (0 + layers_volume rates layers))
     whole = goes_on (head hot_end bed ++ layers_text rates 0 0 layers) end (program_moves rates layers) []

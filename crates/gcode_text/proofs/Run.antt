@@ -22,6 +22,7 @@ use Rattle.gcode_text.specs.Machine.{State, After, any, origin, command_of, plai
 use Rattle.gcode_text.specs.Moves.{at_height, travel, raised}
 use Rattle.gcode_text.proofs.Printed.{millimetres_back, thousandths_back, amount_back, decimal_back}
 use Rattle.gcode_text.proofs.Lines.{AreWords, spaced, step_of, no_feed_in, driven_by, travel_words, travel_line_is, travel_are_words, travel_given, print_words, print_line_is, print_are_words, print_given, height_words, height_line_is, height_are_words, height_given, in_word, heat_words, heat_line_is, heat_are_words, heat_given, decimal_no_feed, comment_back}
+use Rattle.std.proofs.lemmas.Bool.{not-true}
 
 -- ---- stretches of a program
 
@@ -64,15 +65,11 @@ goes_on {at} {bt} {ct} {e} {f} {g} t u a b p q = record { goes = λ n rest. both
         let y : (m : ℕ) × (run (standing bt f x.0) (u ++ rest) ≡ prefix b (run (standing ct g m) rest)) = q.goes x.0 rest in
         (y.0, ap (run (standing at e n)) (append_assoc t u rest) ∙ x.1 ∙ ap (prefix a) y.1 ∙ prefix_on a b (run (standing ct g y.0) rest))
 
-not_true : (b : Bool) → not b ≡ true → b ≡ false
-not_true true h = absurd (cc)
-not_true false h = refl
-
 cut_line : (body rest : List ℕ) → list_all (λ b. not (b == 10)) body ≡ true → lines ((body ++ 10 ∷ []) ++ rest) ≡ body ∷ lines rest
 cut_line body rest h =
     let none = AllPass-from_list_all (λ (b : ℕ). not (b == 10)) body h in
     ap lines (append_assoc body (10 ∷ []) rest)
-    ∙ slice_split_at (λ (b : ℕ). b == 10) body 10 rest (λ k d l. not_true (get_or body k d == 10) (none k d l)) refl
+    ∙ slice_split_at (λ (b : ℕ). b == 10) body 10 rest (λ k d l. not-true (get_or body k d == 10) (none k d l)) refl
 
 abbrev pub next : ℕ → ℕ
 next n = min (n + 1) (2 ^ 32 - 1)

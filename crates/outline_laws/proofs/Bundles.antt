@@ -17,7 +17,7 @@ use Rattle.scad_geom.proofs.Order.{front, back}
 use Rattle.slice_slab.specs.Bundles.{edge_at, Ascends, Precedes, AreRanked}
 use Rattle.slice_slab.proofs.Bundling.{Rises, aligned_chain, aligned_before}
 use Rattle.slice_snap.proofs.Counts.{without_first}
-use Rattle.outline_laws.proofs.Rising.{same_chain, lower_same}
+use Rattle.scad_geom.proofs.Heights.{same_chain, lower_same}
 
 -- ---- lists in an order
 abbrev Sorted : (ℕ → ℕ → Type 0) → List ℕ → Type 0

@@ -1,9 +1,9 @@
 -- What an edge is at one height over two divisors: whether it lies there or passes it, and where.
-use Rattle.std.proofs.Common.{◌≡◌, Bool, true, false, ◌&&◌, [], ◌∷◌, refl, sym, ap, ap₂, ◌∙◌, arith}
+use Rattle.std.proofs.Common.{◌≡◌, Bool, true, ◌&&◌, [], ◌∷◌, refl, sym, ap, ap₂, ◌∙◌, arith}
 use lib.IntN.{ℤ, pos, ◌+ℤ◌, ◌*ℤ◌}
 use Rattle.std.specs.Prelude.{int_lt, int_le}
 use Rattle.std.specs.Ordering.{int_eq}
-use Rattle.std.specs.Cmp.{signed_Decides}
+use Rattle.std.specs.Cmp.{signed_Decides, both_ways}
 use Rattle.std.proofs.lemmas.Int.{ints}
 use Rattle.scad_geom.specs.declared.point.Edge.{Edge}
 use Rattle.scad_geom.specs.declared.level.Level.{Level}
@@ -13,12 +13,8 @@ use Rattle.scad_geom.specs.Level.{level_of, IsAtMost, IsSameHeight}
 use Rattle.scad_geom.proofs.Ring.{ring, ◌⊕◌, ◌⊗◌, v0, v1, v2, v3, v4}
 use Rattle.slice_slab.specs.Bundles.{reaches}
 use Rattle.slice_bool.specs.Pieces.{is_flat_at, passes_at}
-use Rattle.outline_laws.proofs.Rising.{HasDivisor, same_chain, at_most_same, same_at_most}
-
-pub both_ways : (a b : Bool) → (a ≡ true → b ≡ true) → (b ≡ true → a ≡ true) → a ≡ b
-both_ways true b f g = sym (f refl)
-both_ways false true f g = g refl
-both_ways false false f g = refl
+use Rattle.outline_laws.proofs.Rising.{HasDivisor, at_most_same, same_then_at_most}
+use Rattle.scad_geom.proofs.Heights.{same_chain}
 
 -- ---- tests of whole heights
 one : HasDivisor (level_of (pos 0))
@@ -46,13 +42,13 @@ module _ (p q : Level) (dp : HasDivisor p) (dq : HasDivisor q) (e : IsSameHeight
       forth : int_le p.n (y *ℤ p.d) ≡ true → int_le q.n (y *ℤ q.d) ≡ true
       forth h =
           let k : IsAtMost p (level_of y) = omega (arith, ints) in
-          let m = same_at_most q p (level_of y) dq dp one (sym e) k in
+          let m = same_then_at_most q p (level_of y) dq dp one (sym e) k in
           sym (omega (arith, ints))
 
       back : int_le q.n (y *ℤ q.d) ≡ true → int_le p.n (y *ℤ p.d) ≡ true
       back h =
           let k : IsAtMost q (level_of y) = omega (arith, ints) in
-          let m = same_at_most p q (level_of y) dp dq one e k in
+          let m = same_then_at_most p q (level_of y) dp dq one e k in
           sym (omega (arith, ints))
 
   pub level_test : (y : ℤ) → int_eq (y *ℤ p.d) p.n ≡ int_eq (y *ℤ q.d) q.n

@@ -1,9 +1,8 @@
 -- Pieces that are the same one by one are named alike.
-use Rattle.std.proofs.Common.{◌≡◌, ℕ, ◌<◌, ◌⊎◌, inl, inr, List, [], ◌∷◌, All, refl, sym, ap, ap₂, ◌∙◌, subst, arith}
+use Rattle.std.proofs.Common.{◌≡◌, ℕ, ◌<◌, ◌⊎◌, inl, inr, List, [], ◌∷◌, All, refl, sym, ap, ap₂, ◌∙◌, subst}
 use lib.IntN.{ℤ, pos, ◌+ℤ◌, ◌-ℤ◌, ◌*ℤ◌}
 use lib.Signed.{◌<ℤ◌}
 use Rattle.std.specs.List.{AllByRecursion}
-use Rattle.std.proofs.lemmas.Int.{ints}
 use Rattle.std.proofs.lemmas.List.Elements.{recursion_from_All, All-from_recursion}
 use Rattle.scad_base.proofs.Products.{zero_factor, positive_product}
 use Rattle.scad_geom.specs.declared.point.Edge.{Edge}
@@ -12,23 +11,21 @@ use Rattle.scad_geom.specs.Point.{Point}
 use Rattle.scad_geom.specs.Line.{rise, run, offset, x_at, left_of}
 use Rattle.scad_geom.specs.Winding.{side_by}
 use Rattle.scad_geom.proofs.Ring.{ring, ◌⊕◌, ◌⊖◌, ◌⊗◌, v0, v1, v2, v3, v4, v5, v6}
-use Rattle.winding_laws.proofs.Sameness.{AreSame, are_same}
+use Rattle.winding_laws.proofs.Sameness.{AreSame, are_same, one_axis}
 use Rattle.slice_snap.specs.declared.piece.Spot.{Spot}
 use Rattle.slice_snap.specs.declared.piece.Piece.{Piece}
 use Rattle.slice_snap.specs.Spots.{point_of}
 use Rattle.slice_snap.specs.Inside.{IsBelow, IsLeftOf, AreLevel, IsBetween, IsInside}
 use Rattle.slice_snap.specs.Naming.{IsOnLine, LiesAlong, HasLength, AreApartByName, AllPairs, AreNamed}
 use Rattle.outline_laws.specs.Sameness.{AreSameSpot, AreSamePiece, ArePiecesSame}
-use Rattle.outline_laws.proofs.Rising.{same_chain, lower_same, same_lower}
 use Rattle.outline_laws.proofs.Same.{pieces_turned}
 use Rattle.outline_laws.proofs.Merged.{test_same}
+use Rattle.scad_geom.proofs.Heights.{same_chain, lower_same, same_lower}
+use Rattle.std.proofs.Math.IntN.{zero-*ℤ}
 
 -- what is 0 over one divisor is so over the other
 still_zero : (x y d f : ℤ) → pos 0 <ℤ d → x *ℤ f ≡ y *ℤ d → x ≡ pos 0 → y ≡ pos 0
-still_zero x y d f h e z = zero_factor y d h (sym e ∙ ap (λ (w : ℤ). w *ℤ f) z ∙ nothing f)
-  where
-    nothing : (f : ℤ) → pos 0 *ℤ f ≡ pos 0
-    nothing f = omega (arith, ints)
+still_zero x y d f h e z = zero_factor y d h (sym e ∙ ap (λ (w : ℤ). w *ℤ f) z ∙ zero-*ℤ f)
 
 -- ---- points on a line
 module _ (a c : Point) (da : pos 0 <ℤ a.d) (e : AreSame a c) where
@@ -49,12 +46,6 @@ first_carried b k x d y f h =
     ring (b ∷ k ∷ x ∷ d ∷ f ∷ []) ((v0 ⊗ v3 ⊖ v2 ⊗ v1) ⊗ v4) ((v0 ⊗ v4) ⊗ v3 ⊖ (v2 ⊗ v4) ⊗ v1) refl
     ∙ ap (λ (z : ℤ). (b *ℤ f) *ℤ d -ℤ z *ℤ k) h
     ∙ ring (b ∷ k ∷ y ∷ d ∷ f ∷ []) ((v0 ⊗ v4) ⊗ v3 ⊖ (v2 ⊗ v3) ⊗ v1) ((v0 ⊗ v4 ⊖ v2 ⊗ v1) ⊗ v3) refl
-
-second_carried : (a k x d y f : ℤ) → x *ℤ f ≡ y *ℤ d → (x *ℤ k -ℤ a *ℤ d) *ℤ f ≡ (y *ℤ k -ℤ a *ℤ f) *ℤ d
-second_carried a k x d y f h =
-    ring (a ∷ k ∷ x ∷ d ∷ f ∷ []) ((v2 ⊗ v1 ⊖ v0 ⊗ v3) ⊗ v4) ((v2 ⊗ v4) ⊗ v1 ⊖ (v0 ⊗ v4) ⊗ v3) refl
-    ∙ ap (λ (z : ℤ). z *ℤ k -ℤ (a *ℤ f) *ℤ d) h
-    ∙ ring (a ∷ k ∷ y ∷ d ∷ f ∷ []) ((v2 ⊗ v3) ⊗ v1 ⊖ (v0 ⊗ v4) ⊗ v3) ((v2 ⊗ v1 ⊖ v0 ⊗ v4) ⊗ v3) refl
 
 both_carried : (s t u v s' t' u' v' d f : ℤ) → s *ℤ f ≡ s' *ℤ d → t *ℤ f ≡ t' *ℤ d → u *ℤ f ≡ u' *ℤ d → v *ℤ f ≡ v' *ℤ d → (s *ℤ t -ℤ u *ℤ v) *ℤ (f *ℤ f) ≡ (s' *ℤ t' -ℤ u' *ℤ v') *ℤ (d *ℤ d)
 both_carried s t u v s' t' u' v' d f hs ht hu hv =
@@ -79,7 +70,7 @@ end_moved : (c b d p : Point) → AreSame b d → side_by p c b *ℤ d.d ≡ sid
 unfolding side_by
 end_moved c b d p e =
     once_carried (b.x *ℤ c.d -ℤ c.x *ℤ b.d) (p.y *ℤ c.d -ℤ c.y *ℤ p.d) (b.y *ℤ c.d -ℤ c.y *ℤ b.d) (p.x *ℤ c.d -ℤ c.x *ℤ p.d)
-    (d.x *ℤ c.d -ℤ c.x *ℤ d.d) (d.y *ℤ c.d -ℤ c.y *ℤ d.d) b.d d.d (second_carried c.x c.d b.x b.d d.x d.d e.x) (second_carried c.y c.d b.y b.d d.y d.d e.y)
+    (d.x *ℤ c.d -ℤ c.x *ℤ d.d) (d.y *ℤ c.d -ℤ c.y *ℤ d.d) b.d d.d (one_axis b.x b.d d.x d.d c.x c.d e.x) (one_axis b.y b.d d.y d.d c.y c.d e.y)
 
 abbrev height : Point → Level
 height p = record { n = p.y; d = p.d }

@@ -27,7 +27,8 @@ use Rattle.outline_laws.proofs.Rising.{HasDivisor, levels_same}
 use Rattle.outline_laws.proofs.Lines.{below_test, above_test, flat_test}
 use Rattle.outline_laws.proofs.Ranks.{bundles_one, bundles_rise}
 use Rattle.outline_laws.proofs.Values.{value_same}
-use Rattle.outline_laws.proofs.Stops.{place, passing_same, stops_same, stops_here, IsSpotAt}
+use Rattle.outline_laws.proofs.Stops.{place, passing_same, stops_same}
+use Rattle.slice_bool.proofs.Winding.{IsSpotAt, stops_at}
 
 -- ---- a piece between two spots
 between_same : (left right : Bool) (s t s' t' : Spot) (k : ℕ) → AreSameSpot s s' → AreSameSpot t t' → ArePiecesSame (piece_between left right s t k) (piece_between left right s' t' k)
@@ -116,11 +117,11 @@ module _ (es : List LeafEdge) (shape other : Shape) (alike : HoldAlike es shape 
 module _ (es : List LeafEdge) (shape other : Shape) (alike : HoldAlike es shape other) where
   at_level : (l : Level) (ss : List Spot) → AllByRecursion (IsSpotAt l) ss → AllByRecursion (λ s. s.at ≡ l) ss
   at_level l [] h = tt
-  at_level l (s ∷ ss) h = (h.0.level, at_level l ss h.1)
+  at_level l (s ∷ ss) h = (h.0.at, at_level l ss h.1)
 
   level_same : (l m : Level) → HasDivisor l → HasDivisor m → IsSameHeight l m → (ss ts : List Spot) → AreStops es l ss → AreStops es m ts → ArePiecesSame (flat_pieces es shape ss) (flat_pieces es other ts)
   level_same l m dl dm e ss ts a b =
-      flat_same es shape other alike l m dl dm e ss ts (at_level l ss (stops_here l m dl dm e es ss a)) (at_level m ts (stops_here m l dm dl (sym e) es ts b)) (stops_same l m dl dm e es ss ts a b)
+      flat_same es shape other alike l m dl dm e ss ts (at_level l ss (stops_at es l ss a)) (at_level m ts (stops_at es m ts b)) (stops_same l m dl dm e es ss ts a b)
 
   levels_pieces : (ls ms : List Level) → AllByRecursion HasDivisor ls → AllByRecursion HasDivisor ms → AllZip IsSameHeight ls ms → (qs rs : List Piece)
       → AreLevelPieces es shape ls qs → AreLevelPieces es other ms rs → ArePiecesSame qs rs

@@ -8,37 +8,20 @@ use Rattle.scad_geom.specs.declared.level.Level.{Level}
 use Rattle.scad_geom.specs.declared.level.LeafEdge.{LeafEdge}
 use Rattle.scad_geom.specs.Level.{IsLower, IsAtMost, IsSameHeight}
 use Rattle.scad_geom.specs.Heights.{heights}
-use Rattle.scad_geom.proofs.Heights.{lower_then_at_most, at_most_then_lower, at_most_chain, heights_positive}
+use Rattle.scad_geom.proofs.Heights.{at_most_chain, heights_positive}
 use Rattle.slice_events.specs.Levels.{IsRising, HasHeight, AreLevels}
 use Rattle.outline_laws.proofs.Distinct.{lifted}
+use Rattle.scad_geom.proofs.Heights.{same_at_least, same_chain, lower_same}
 
 abbrev pub HasDivisor : Level → Type 0
 HasDivisor l = pos 0 <ℤ l.d
 
-up_to : (p q : Level) → IsSameHeight p q → IsAtMost p q
-up_to p q h = omega (arith, ints)
-
-down_to : (p q : Level) → IsSameHeight p q → IsAtMost q p
-down_to p q h = omega (arith, ints)
-
-one_height : (p q : Level) → IsAtMost p q → IsAtMost q p → IsSameHeight p q
-one_height p q h k = omega (arith, ints)
-
 module _ (p q r : Level) (dp : HasDivisor p) (dq : HasDivisor q) (dr : HasDivisor r) where
-  pub same_chain : IsSameHeight p q → IsSameHeight q r → IsSameHeight p r
-  same_chain h k = one_height p r (at_most_chain p q r dp dq dr (up_to p q h) (up_to q r k)) (at_most_chain r q p dr dq dp (down_to q r k) (down_to p q h))
-
   pub at_most_same : IsAtMost p q → IsSameHeight q r → IsAtMost p r
-  at_most_same h k = at_most_chain p q r dp dq dr h (up_to q r k)
+  at_most_same h k = at_most_chain p q r dp dq dr h (same_at_least q r k)
 
-  pub same_at_most : IsSameHeight p q → IsAtMost q r → IsAtMost p r
-  same_at_most h k = at_most_chain p q r dp dq dr (up_to p q h) k
-
-  pub lower_same : IsLower p q → IsSameHeight q r → IsLower p r
-  lower_same h k = lower_then_at_most p q r dp dq dr h (up_to q r k)
-
-  pub same_lower : IsSameHeight p q → IsLower q r → IsLower p r
-  same_lower h k = at_most_then_lower p q r dp dq dr (up_to p q h) k
+  pub same_then_at_most : IsSameHeight p q → IsAtMost q r → IsAtMost p r
+  same_then_at_most h k = at_most_chain p q r dp dq dr (same_at_least p q h) k
 
 -- ---- those after the first lie above it
 above_first : (l : Level) (ls : List Level) → HasDivisor l → AllByRecursion HasDivisor ls → IsRising (l ∷ ls) → AllByRecursion (IsLower l) ls

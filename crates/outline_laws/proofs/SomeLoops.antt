@@ -3,7 +3,6 @@ use Rattle.std.proofs.Common.{◌≡◌, ℕ, zero, suc, ◌<◌, ◌≤◌, Boo
 use Rattle.std.proofs.Common.{List, [], ◌∷◌, All, length, refl, sym, ap, ◌∙◌, arith}
 use Rattle.std.specs.Prelude.{IsPermutation}
 use Rattle.std.specs.Cmp.{IsStrictWeakOrder}
-use Rattle.std.proofs.lemmas.Bool.{false_from_ne_true}
 use Rattle.std.proofs.lemmas.List.Elements.{All-nil, All-cons, All-head, All-weaker}
 use Rattle.std.proofs.lemmas.List.Sorted.{All-permutation, IsPermutation-refl, IsPermutation-sym, IsPermutation-trans}
 use Rattle.std.proofs.lemmas.List.Sorted.{IsPermutation-cons, IsPermutation-middle, length_permutation}
@@ -17,13 +16,11 @@ use Rattle.slice_loops.specs.Drawing.{TakesLeastFrom, LeadsBack, IsLoop, AreDraw
 use Rattle.slice_loops.specs.Ascending.{NoneStarts}
 use Rattle.slice_loops.proofs.Points.{less_order}
 use Rattle.slice_loops.proofs.Closed.{edge, balanced_permuted, goes_on, comes_back, one_starts}
+use Rattle.slice_loops.proofs.Unique.{not_less_itself}
 
 -- ---- the least of the edges that pass a test
 less_is_strict : IsStrictWeakOrder is_less
 less_is_strict = less_order
-
-not_less_itself : (e : Edge) → is_less e e ≡ false
-not_less_itself e = false_from_ne_true (is_less e e) (λ h. true≢false (sym h ∙ less_is_strict.one_way e e h))
 
 module _ (test : Edge → Bool) where
   -- an edge that passes isn't less

@@ -1,8 +1,7 @@
 -- Pieces can be merged, whatever the pieces.
-use Rattle.std.proofs.Common.{◌≡◌, ℕ, zero, suc, ◌≤◌, Bool, true, false, true≢false, ◌==◌, ◌⊎◌, inl, inr}
+use Rattle.std.proofs.Common.{◌≡◌, ℕ, zero, suc, ◌≤◌, Bool, true, false, true≢false, ◌⊎◌, inl, inr}
 use Rattle.std.proofs.Common.{List, [], ◌∷◌, All, length, refl, sym, ◌∙◌, arith}
 use Rattle.std.specs.Prelude.{IsPermutation}
-use Rattle.std.specs.Cmp.{unsigned_Decides}
 use Rattle.std.proofs.lemmas.List.Elements.{All-nil, All-cons, All-head}
 use Rattle.std.proofs.lemmas.List.Sorted.{All-permutation, IsPermutation-refl, IsPermutation-sym, IsPermutation-trans}
 use Rattle.std.proofs.lemmas.List.Sorted.{IsPermutation-cons, IsPermutation-middle, length_permutation}
@@ -15,6 +14,7 @@ use Rattle.slice_snap.specs.Pieces.{ways_of}
 use Rattle.slice_snap.specs.Merging.{joined, MeetAlone, NoneMeetAlone, AreMerged, all_joined, two_join}
 use Rattle.slice_snap.specs.Joining.{GoesOn, IsPassedOnce, IsStuck}
 use Rattle.slice_snap.proofs.Stuck.{none_meet_alone}
+use Rattle.std.proofs.lemmas.Bool.{cases_eq}
 
 -- ---- one of a list that a fact holds of, where a search decides it
 record HasOne {A : Type 0} (P : A → Type 0) (xs : List A) : Type 0 where
@@ -42,17 +42,10 @@ module _ {A : Type 0} (P N : A → Type 0) (decide : (x : A) → P x ⊎ N x) wh
       by_cases (inr n) (inl h) = inl (behind x xs h)
       by_cases (inr n) (inr none) = inr (All-cons N x xs n none)
 
-equal_or_not : (m n : ℕ) → (m ≡ n) ⊎ (m ≡ n → ⊥)
-equal_or_not m n = by_test (m == n) refl
-  where
-    by_test : (b : Bool) → (m == n) ≡ b → (m ≡ n) ⊎ (m ≡ n → ⊥)
-    by_test true t = inl ((unsigned_Decides m n).0 t)
-    by_test false t = inr (λ h. true≢false (sym ((unsigned_Decides m n).1 h) ∙ t))
-
 -- ---- a piece goes on from another or not, and a spot is passed once or not
 module _ (q r : Piece) where
   goes_on_or_not : GoesOn q r ⊎ (GoesOn q r → ⊥)
-  goes_on_or_not = by_tests (equal_or_not q.edge r.edge) (is_same_spot q.to r.from) (is_same_spot q.to r.to) refl refl
+  goes_on_or_not = by_tests (cases_eq q.edge r.edge) (is_same_spot q.to r.from) (is_same_spot q.to r.to) refl refl
     where
       by_tests : (q.edge ≡ r.edge) ⊎ (q.edge ≡ r.edge → ⊥) → (b c : Bool) → is_same_spot q.to r.from ≡ b
           → is_same_spot q.to r.to ≡ c → GoesOn q r ⊎ (GoesOn q r → ⊥)
@@ -69,7 +62,7 @@ module _ (pieces : List Piece) (s : Spot) where
   starting = starts_at (point_of s) (ways_of pieces)
 
   passed_or_not : IsPassedOnce pieces s ⊎ (IsPassedOnce pieces s → ⊥)
-  passed_or_not = by_cases (equal_or_not ending 1) (equal_or_not starting 1)
+  passed_or_not = by_cases (cases_eq ending 1) (cases_eq starting 1)
     where
       by_cases : (ending ≡ 1) ⊎ (ending ≡ 1 → ⊥) → (starting ≡ 1) ⊎ (starting ≡ 1 → ⊥)
           → IsPassedOnce pieces s ⊎ (IsPassedOnce pieces s → ⊥)

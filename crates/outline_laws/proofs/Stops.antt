@@ -1,5 +1,5 @@
 -- The stops of one height, over two divisors, are the same one by one.
-use Rattle.std.proofs.Common.{◌≡◌, ℕ, ◌<◌, inl, inr, Bool, true, false, List, [], ◌∷◌, map, refl, sym, ap, ◌∙◌, subst, arith}
+use Rattle.std.proofs.Common.{◌≡◌, ◌<◌, inl, inr, Bool, true, false, List, [], ◌∷◌, map, refl, sym, ap, ◌∙◌, subst, arith}
 use lib.IntN.{ℤ, pos, ◌-ℤ◌, ◌*ℤ◌}
 use lib.Signed.{◌<ℤ◌}
 use Rattle.std.specs.Prelude.{int_lt, int_le, if◌then◌else◌, unsigned_abs, ◌&&◌}
@@ -7,75 +7,60 @@ use Rattle.std.specs.List.{AllByRecursion, AllZip}
 use Rattle.std.proofs.lemmas.Int.{ints}
 use Rattle.std.proofs.lemmas.Bool.{and_parts}
 use Rattle.scad_base.proofs.Products.{positive_product}
-use Rattle.scad_base.proofs.Lists.{AllByRecursion-append}
 use Rattle.scad_geom.specs.declared.point.Edge.{Edge}
 use Rattle.scad_geom.specs.declared.level.Level.{Level}
 use Rattle.scad_geom.specs.declared.level.LeafEdge.{LeafEdge}
 use Rattle.scad_geom.specs.Line.{low, high, rise, x_at}
 use Rattle.scad_geom.specs.Level.{IsLower, IsSameHeight}
-use Rattle.scad_geom.proofs.Ring.{ring, ◌⊖◌, ◌⊗◌, v0, v1, v2, v3}
+use Rattle.scad_geom.proofs.Ring.{ring, ◌⊖◌, ◌⊗◌, v0, v1, v2, v3, crossed}
 use Rattle.winding_laws.proofs.Sameness.{are_same, same_by}
 use Rattle.slice_events.specs.Levels.{IsRising, HasHeight}
 use Rattle.slice_snap.specs.declared.piece.Spot.{Spot}
 use Rattle.slice_snap.specs.Spots.{point_of}
 use Rattle.slice_bool.specs.Pieces.{spot_on, whole_spot, is_flat_at, passes_at, spots_at, GoRight, HasSpot, IsOneOf, AreStops, across}
-use Rattle.slice_bool.proofs.Winding.{of_stops}
+use Rattle.slice_bool.proofs.Winding.{of_stops, IsSpotAt, spots_are_at}
 use Rattle.outline_laws.specs.Sameness.{AreSameSpot}
 use Rattle.outline_laws.proofs.Zips.{zip_append, zip_turned}
 use Rattle.outline_laws.proofs.Same.{spot_turned}
 use Rattle.outline_laws.proofs.Rising.{HasDivisor, one_by_one, has_same}
 use Rattle.outline_laws.proofs.Lines.{flat_test, passes_test, x_same}
+use Rattle.slice_snap.proofs.SameSpots.{run_above, crossed_back, mul_beside}
+use Rattle.scad_geom.proofs.Integers.{mul_assoc}
+use Rattle.slice_bool.proofs.Within.{size_above}
 
 -- ---- spots at one height
-pub record IsSpotAt (l : Level) (s : Spot) : Type 0 where
-  pub level : s.at ≡ l
-  pub positive : 0 < s.run
-
-run_above : (n : ℕ) → 0 < n → pos 0 <ℤ pos n
-run_above n h = omega (arith, ints)
-
-crossed : (n r d s : ℤ) → (n *ℤ r) *ℤ (d *ℤ s) ≡ (n *ℤ d) *ℤ (r *ℤ s)
-crossed n r d s = ring (n ∷ r ∷ d ∷ s ∷ []) ((v0 ⊗ v1) ⊗ (v2 ⊗ v3)) ((v0 ⊗ v2) ⊗ (v1 ⊗ v3)) refl
-
-turned_round : (n r d s : ℤ) → (n *ℤ d) *ℤ (s *ℤ r) ≡ (n *ℤ r) *ℤ (d *ℤ s)
-turned_round n r d s = ring (n ∷ r ∷ d ∷ s ∷ []) ((v0 ⊗ v2) ⊗ (v3 ⊗ v1)) ((v0 ⊗ v1) ⊗ (v2 ⊗ v3)) refl
 
 -- where a spot lies along its height
 abbrev pub place : Spot → Level
 place s = record { n = s.x; d = s.at.d *ℤ pos s.run }
 
 -- two spots of one height at one place along it are one point
-pub same_placed : (s t : Spot) → pos 0 <ℤ s.at.d → 0 < s.run → pos 0 <ℤ t.at.d → 0 < t.run → IsSameHeight s.at t.at → IsSameHeight (place s) (place t) → AreSameSpot s t
+pub same_placed : (s t : Spot) → pos 0 <ℤ s.at.d → pos 0 <ℤ pos s.run → pos 0 <ℤ t.at.d → pos 0 <ℤ pos t.run → IsSameHeight s.at t.at → IsSameHeight (place s) (place t) → AreSameSpot s t
 same_placed s t ds rs dt rt e k = record {
-  first = positive_product s.at.d (pos s.run) ds (run_above s.run rs);
-  second = positive_product t.at.d (pos t.run) dt (run_above t.run rt);
+  first = positive_product s.at.d (pos s.run) ds rs;
+  second = positive_product t.at.d (pos t.run) dt rt;
   same = same_by (point_of s) (point_of t) (record {
     x = k;
-    y = crossed s.at.n (pos s.run) t.at.d (pos t.run) ∙ ap (λ (z : ℤ). z *ℤ (pos s.run *ℤ pos t.run)) e ∙ turned_round t.at.n (pos t.run) s.at.d (pos s.run);
+    y = crossed s.at.n (pos s.run) t.at.d (pos t.run) ∙ ap (λ (z : ℤ). z *ℤ (pos s.run *ℤ pos t.run)) e ∙ sym (crossed_back t.at.n s.at.d (pos s.run) (pos t.run));
   });
 }
 
 pub place_divisor : (l : Level) (s : Spot) → HasDivisor l → IsSpotAt l s → HasDivisor (place s)
-place_divisor l s d h = positive_product s.at.d (pos s.run) (subst HasDivisor (sym h.level) d) (run_above s.run h.positive)
+place_divisor l s d h = positive_product s.at.d (pos s.run) (subst HasDivisor (sym h.at) d) h.runs
 
 -- ---- where the edges meet the height
 module _ (p q : Level) (dp : HasDivisor p) (dq : HasDivisor q) (e : IsSameHeight p q) where
   pub whole_same : (x : ℤ) → AreSameSpot (whole_spot x p) (whole_spot x q)
   whole_same x =
-      same_placed (whole_spot x p) (whole_spot x q) dp (omega arith) dq (omega arith) e
+      same_placed (whole_spot x p) (whole_spot x q) dp (omega (arith, ints)) dq (omega (arith, ints)) e
       (ring (x ∷ p.d ∷ q.d ∷ pos 1 ∷ []) ((v0 ⊗ v1) ⊗ (v2 ⊗ v3)) ((v0 ⊗ v2) ⊗ (v1 ⊗ v3)) refl)
 
   pub passing_same : (f : Edge) → pos 0 <ℤ rise f → AreSameSpot (spot_on f p) (spot_on f q)
   passing_same f r =
       let n : ℤ = pos (unsigned_abs (rise f)) in
-      same_placed (spot_on f p) (spot_on f q) dp (size (rise f) r) dq (size (rise f) r) e
-      (beside (x_at f p.n p.d) q.d n ∙ ap (λ (z : ℤ). z *ℤ n) (x_same p q dp dq e f) ∙ sym (beside (x_at f q.n q.d) p.d n))
-    where
-      size : (z : ℤ) → pos 0 <ℤ z → 0 < unsigned_abs z
-      size z h = omega (arith, ints)
-
-      beside : (x d n : ℤ) → x *ℤ (d *ℤ n) ≡ (x *ℤ d) *ℤ n
-      beside x d n = ring (x ∷ d ∷ n ∷ []) (v0 ⊗ (v1 ⊗ v2)) ((v0 ⊗ v1) ⊗ v2) refl
+      let rises = run_above (unsigned_abs (rise f)) (size_above (rise f) r) in
+      same_placed (spot_on f p) (spot_on f q) dp rises dq rises e
+      (sym (mul_assoc (x_at f p.n p.d) q.d n) ∙ ap (λ (z : ℤ). z *ℤ n) (x_same p q dp dq e f) ∙ mul_assoc (x_at f q.n q.d) p.d n)
 
   abbrev own : Edge → Level → Bool → Bool → List Spot
   own f at flat passing = if flat then whole_spot f.a.x at ∷ (whole_spot f.b.x at ∷ []) else if passing then spot_on f at ∷ [] else []
@@ -99,33 +84,16 @@ module _ (p q : Level) (dp : HasDivisor p) (dq : HasDivisor q) (e : IsSameHeight
       (own_same f.edge (is_flat_at f.edge p) (passes_at f.edge p) (rises_passing f.edge p))))
       (spots_same es)
 
-  own_at : (f : Edge) (flat passing : Bool) → (passing ≡ true → pos 0 <ℤ rise f) → AllByRecursion (IsSpotAt p) (own f p flat passing)
-  own_at f true b r = (record { level = refl; positive = omega arith }, (record { level = refl; positive = omega arith }, tt))
-  own_at f false true r = (record { level = refl; positive = size (rise f) (r refl) }, tt)
-    where
-      size : (z : ℤ) → pos 0 <ℤ z → 0 < unsigned_abs z
-      size z h = omega (arith, ints)
-  own_at f false false r = tt
-
-  pub spots_here : (es : List LeafEdge) → AllByRecursion (IsSpotAt p) (spots_at es p)
-  spots_here [] = tt
-  spots_here (f ∷ es) =
-      AllByRecursion-append (IsSpotAt p) (own f.edge p (is_flat_at f.edge p) (passes_at f.edge p)) (spots_at es p)
-      (own_at f.edge (is_flat_at f.edge p) (passes_at f.edge p) (rises_passing f.edge p)) (spots_here es)
-
 -- ---- places of stops
 module _ (l : Level) (dl : HasDivisor l) where
   places_divided : (ss : List Spot) → AllByRecursion (IsSpotAt l) ss → AllByRecursion HasDivisor (map place ss)
   places_divided [] h = tt
   places_divided (s ∷ ss) h = (place_divisor l s dl h.0, places_divided ss h.1)
 
-  scaled : (x r d : ℤ) → x *ℤ (d *ℤ r) ≡ (x *ℤ r) *ℤ d
-  scaled x r d = ring (x ∷ r ∷ d ∷ []) (v0 ⊗ (v2 ⊗ v1)) ((v0 ⊗ v1) ⊗ v2) refl
-
   lower_places : (s t : Spot) → IsSpotAt l s → IsSpotAt l t → IsLower (across s) (across t) → IsLower (place s) (place t)
   lower_places s t h k o =
-      let a : s.x *ℤ (t.at.d *ℤ pos t.run) ≡ (s.x *ℤ pos t.run) *ℤ l.d = scaled s.x (pos t.run) t.at.d ∙ ap (λ (at : Level). (s.x *ℤ pos t.run) *ℤ at.d) k.level in
-      let b : t.x *ℤ (s.at.d *ℤ pos s.run) ≡ (t.x *ℤ pos s.run) *ℤ l.d = scaled t.x (pos s.run) s.at.d ∙ ap (λ (at : Level). (t.x *ℤ pos s.run) *ℤ at.d) h.level in
+      let a : s.x *ℤ (t.at.d *ℤ pos t.run) ≡ (s.x *ℤ pos t.run) *ℤ l.d = mul_beside s.x t.at.d (pos t.run) ∙ ap (λ (at : Level). (s.x *ℤ pos t.run) *ℤ at.d) k.at in
+      let b : t.x *ℤ (s.at.d *ℤ pos s.run) ≡ (t.x *ℤ pos s.run) *ℤ l.d = mul_beside t.x s.at.d (pos s.run) ∙ ap (λ (at : Level). (t.x *ℤ pos s.run) *ℤ at.d) h.at in
       subst (λ (z : ℤ). z <ℤ (t.x *ℤ (s.at.d *ℤ pos s.run))) (sym a) (subst (λ (z : ℤ). ((s.x *ℤ pos t.run) *ℤ l.d) <ℤ z) (sym b) (lower_mul (s.x *ℤ pos t.run) (t.x *ℤ pos s.run) l.d dl o))
     where
       lower_mul : (u v d : ℤ) → pos 0 <ℤ d → u <ℤ v → (u *ℤ d) <ℤ (v *ℤ d)
@@ -141,8 +109,8 @@ module _ (l : Level) (dl : HasDivisor l) where
 
   same_places : (s t : Spot) → IsSpotAt l s → IsSpotAt l t → IsSameHeight (across s) (across t) → IsSameHeight (place s) (place t)
   same_places s t h k e =
-      scaled s.x (pos t.run) t.at.d ∙ ap (λ (at : Level). (s.x *ℤ pos t.run) *ℤ at.d) k.level ∙ ap (λ (z : ℤ). z *ℤ l.d) e
-      ∙ sym (scaled t.x (pos s.run) s.at.d ∙ ap (λ (at : Level). (t.x *ℤ pos s.run) *ℤ at.d) h.level)
+      mul_beside s.x t.at.d (pos t.run) ∙ ap (λ (at : Level). (s.x *ℤ pos t.run) *ℤ at.d) k.at ∙ ap (λ (z : ℤ). z *ℤ l.d) e
+      ∙ sym (mul_beside t.x s.at.d (pos s.run) ∙ ap (λ (at : Level). (t.x *ℤ pos s.run) *ℤ at.d) h.at)
 
   has_place : (ss : List Spot) (t : Spot) → AllByRecursion (IsSpotAt l) ss → IsSpotAt l t → HasSpot ss t → HasHeight (map place ss) (place t)
   has_place [] t h k c = absurd c
@@ -173,20 +141,17 @@ module _ (p q : Level) (dp : HasDivisor p) (dq : HasDivisor q) (e : IsSameHeight
   from_places [] (t ∷ ts) h k z = absurd z
   from_places (s ∷ ss) [] h k z = absurd z
   from_places (s ∷ ss) (t ∷ ts) h k z = (
-    same_placed s t (subst HasDivisor (sym h.0.level) dp) h.0.positive (subst HasDivisor (sym k.0.level) dq) k.0.positive
-        (subst (λ (l : Level). IsSameHeight l t.at) (sym h.0.level) (subst (IsSameHeight p) (sym k.0.level) e)) z.0,
+    same_placed s t (subst HasDivisor (sym h.0.at) dp) h.0.runs (subst HasDivisor (sym k.0.at) dq) k.0.runs
+        (subst (λ (l : Level). IsSameHeight l t.at) (sym h.0.at) (subst (IsSameHeight p) (sym k.0.at) e)) z.0,
     from_places ss ts h.1 k.1 z.1,
   )
-
-  pub stops_here : (es : List LeafEdge) (ss : List Spot) → AreStops es p ss → AllByRecursion (IsSpotAt p) ss
-  stops_here es ss a = of_stops (IsSpotAt p) (spots_at es p) ss (spots_here p q dp dq e es) a.sound
 
   pub stops_same : (es : List LeafEdge) (ss ts : List Spot) → AreStops es p ss → AreStops es q ts → AllZip AreSameSpot ss ts
   stops_same es ss ts a b =
       let us : List Spot = spots_at es p in
       let vs : List Spot = spots_at es q in
-      let hu : AllByRecursion (IsSpotAt p) us = spots_here p q dp dq e es in
-      let hv : AllByRecursion (IsSpotAt q) vs = spots_here q p dq dp (sym e) es in
+      let hu : AllByRecursion (IsSpotAt p) us = spots_are_at es p in
+      let hv : AllByRecursion (IsSpotAt q) vs = spots_are_at es q in
       let hs : AllByRecursion (IsSpotAt p) ss = of_stops (IsSpotAt p) us ss hu a.sound in
       let ht : AllByRecursion (IsSpotAt q) ts = of_stops (IsSpotAt q) vs ts hv b.sound in
       let z : AllZip AreSameSpot us vs = spots_same p q dp dq e es in

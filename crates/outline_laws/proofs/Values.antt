@@ -11,25 +11,19 @@ use Rattle.scad_geom.specs.declared.shape.Shape.{Shape}
 use Rattle.scad_geom.specs.Point.{Point, whole, is_same_point}
 use Rattle.scad_geom.specs.Segment.{segments}
 use Rattle.scad_geom.specs.Winding.{counted, is_over, passage_by, side_by, is_beyond, turn, wind_by}
-use Rattle.scad_geom.specs.Level.{IsLower, IsAtMost, IsSameHeight}
+use Rattle.scad_geom.specs.Level.{IsLower, IsAtMost}
 use Rattle.scad_geom.specs.Leaves.{edges_of}
 use Rattle.scad_geom.specs.Shape.{shape_holds, is_in_by}
 use Rattle.scad_geom.specs.Sign.{is_zero}
-use Rattle.scad_geom.proofs.Heights.{at_most_then_lower, at_most_chain}
+use Rattle.scad_geom.proofs.Heights.{at_most_then_lower, at_most_chain, same_at_least, same_at_most}
 use Rattle.scad_geom.proofs.Ring.{ring, ◌⊖◌, ◌⊗◌, v0, v1, v2, v3, v4, v5, v6, v7, v8}
 use Rattle.winding_laws.proofs.Sameness.{AreSame, are_same}
 use Rattle.winding_laws.proofs.Views.{same_sign}
 use Rattle.outline_laws.specs.Sameness.{HoldAlike}
-use Rattle.outline_laws.proofs.Lines.{both_ways}
+use Rattle.std.specs.Cmp.{both_ways}
 
 abbrev height : Point → Level
 height p = record { n = p.y; d = p.d }
-
-up_to : (p q : Level) → IsSameHeight p q → IsAtMost p q
-up_to p q h = omega (arith, ints)
-
-down_to : (p q : Level) → IsSameHeight p q → IsAtMost q p
-down_to p q h = omega (arith, ints)
 
 side_carried : (bx ad ax bd qy pd py ay by qd qx px : ℤ) → py *ℤ qd ≡ qy *ℤ pd → px *ℤ qd ≡ qx *ℤ pd
     → ((bx *ℤ ad -ℤ ax *ℤ bd) *ℤ (py *ℤ ad -ℤ ay *ℤ pd) -ℤ (by *ℤ ad -ℤ ay *ℤ bd) *ℤ (px *ℤ ad -ℤ ax *ℤ pd)) *ℤ qd
@@ -62,13 +56,13 @@ module _ (p q : Point) (dp : pos 0 <ℤ p.d) (dq : pos 0 <ℤ q.d) (e : is_same_
       forth : int_lt (p.y *ℤ b.d) (b.y *ℤ p.d) ≡ true → int_lt (q.y *ℤ b.d) (b.y *ℤ q.d) ≡ true
       forth h =
           let k : IsLower (height p) (height b) = omega (arith, ints) in
-          let m : IsLower (height q) (height b) = at_most_then_lower (height q) (height p) (height b) dq dp db (down_to (height p) (height q) same.y) k in
+          let m : IsLower (height q) (height b) = at_most_then_lower (height q) (height p) (height b) dq dp db (same_at_most (height p) (height q) same.y) k in
           sym (omega (arith, ints))
 
       back : int_lt (q.y *ℤ b.d) (b.y *ℤ q.d) ≡ true → int_lt (p.y *ℤ b.d) (b.y *ℤ p.d) ≡ true
       back h =
           let k : IsLower (height q) (height b) = omega (arith, ints) in
-          let m : IsLower (height p) (height b) = at_most_then_lower (height p) (height q) (height b) dp dq db (up_to (height p) (height q) same.y) k in
+          let m : IsLower (height p) (height b) = at_most_then_lower (height p) (height q) (height b) dp dq db (same_at_least (height p) (height q) same.y) k in
           sym (omega (arith, ints))
   over_same false b w = both_ways (int_le (p.y *ℤ b.d) (b.y *ℤ p.d)) (int_le (q.y *ℤ b.d) (b.y *ℤ q.d)) forth back
     where
@@ -78,13 +72,13 @@ module _ (p q : Point) (dp : pos 0 <ℤ p.d) (dq : pos 0 <ℤ q.d) (e : is_same_
       forth : int_le (p.y *ℤ b.d) (b.y *ℤ p.d) ≡ true → int_le (q.y *ℤ b.d) (b.y *ℤ q.d) ≡ true
       forth h =
           let k : IsAtMost (height p) (height b) = omega (arith, ints) in
-          let m : IsAtMost (height q) (height b) = at_most_chain (height q) (height p) (height b) dq dp db (down_to (height p) (height q) same.y) k in
+          let m : IsAtMost (height q) (height b) = at_most_chain (height q) (height p) (height b) dq dp db (same_at_most (height p) (height q) same.y) k in
           sym (omega (arith, ints))
 
       back : int_le (q.y *ℤ b.d) (b.y *ℤ q.d) ≡ true → int_le (p.y *ℤ b.d) (b.y *ℤ p.d) ≡ true
       back h =
           let k : IsAtMost (height q) (height b) = omega (arith, ints) in
-          let m : IsAtMost (height p) (height b) = at_most_chain (height p) (height q) (height b) dp dq db (up_to (height p) (height q) same.y) k in
+          let m : IsAtMost (height p) (height b) = at_most_chain (height p) (height q) (height b) dp dq db (same_at_least (height p) (height q) same.y) k in
           sym (omega (arith, ints))
 
   passage_same : (above : Bool) (f : Edge) → passage_by above p (whole f.a) (whole f.b) ≡ passage_by above q (whole f.a) (whole f.b)

@@ -32,7 +32,10 @@ use Rattle.slice_bool.specs.Pieces.{flat_pieces, slab_pieces, AreLevelPieces, Ar
 use Rattle.slice_bool.proofs.Ends.{flat_ends, slab_ends, AtBoth, each_of}
 use Rattle.outline_laws.specs.Sameness.{AreSameSpot, ArePiecesSame}
 use Rattle.outline_laws.proofs.Rising.{HasDivisor}
-use Rattle.outline_laws.proofs.Stops.{IsSpotAt, stops_here, same_placed}
+use Rattle.outline_laws.proofs.Stops.{same_placed}
+use Rattle.slice_bool.proofs.Winding.{IsSpotAt, stops_at}
+use Rattle.slice_bool.proofs.Within.{size_above}
+use Rattle.slice_snap.proofs.SameSpots.{run_above}
 
 -- ---- the heights of edges in range
 times_within : (x y : ℤ) (m : ℕ) → unsigned_abs x ≤ m → unsigned_abs y ≤ m → unsigned_abs (x *ℤ y) ≤ m * m
@@ -105,25 +108,24 @@ pub record IsNearSpot (s : Spot) : Type 0 where
   pub positive : 0 < s.run
 
 near_spot : (l : Level) → IsNearHeight l → (s : Spot) → IsSpotAt l s → IsNearSpot s
-near_spot l n s h = record { level = subst IsNearHeight (sym h.level) n; positive = h.positive }
+near_spot l n s h =
+    let r = h.runs in
+    record { level = subst IsNearHeight (sym h.at) n; positive = omega (arith, ints) }
 
 stops_near : (l : Level) → IsNearHeight l → (ss : List Spot) → AllByRecursion (IsSpotAt l) ss → AllByRecursion IsNearSpot ss
 stops_near l n [] h = tt
 stops_near l n (s ∷ ss) h = (near_spot l n s h.0, stops_near l n ss h.1)
 
-size_above : (z : ℤ) → pos 0 <ℤ z → 0 < unsigned_abs z
-size_above z h = omega (arith, ints)
-
 ends_near : (es : List LeafEdge) (shape : Shape) (ls : List Level) (qs : List Piece) → AllByRecursion IsNearHeight ls → AreLevelPieces es shape ls qs → AllByRecursion IsNearSpot (ends_of qs)
 ends_near es shape [] qs n h = subst (λ (ps : List Piece). AllByRecursion IsNearSpot (ends_of ps)) (sym h) tt
 ends_near es shape (l ∷ []) qs n h =
     subst (λ (ps : List Piece). AllByRecursion IsNearSpot (ends_of ps)) (sym h.2)
-    (flat_ends IsNearSpot es shape h.0 (stops_near l n.0 h.0 (stops_here l l n.0.divisor n.0.divisor refl es h.0 h.1)))
+    (flat_ends IsNearSpot es shape h.0 (stops_near l n.0 h.0 (stops_at es l h.0 h.1)))
 ends_near es shape (l ∷ (u ∷ ls)) qs n h =
     subst (λ (ps : List Piece). AllByRecursion IsNearSpot (ends_of ps)) (sym h.6)
     (joined IsNearSpot (flat_pieces es shape h.0 ++ slab_pieces es shape l u h.1) h.2
     (joined IsNearSpot (flat_pieces es shape h.0) (slab_pieces es shape l u h.1)
-    (flat_ends IsNearSpot es shape h.0 (stops_near l n.0 h.0 (stops_here l l n.0.divisor n.0.divisor refl es h.0 h.3)))
+    (flat_ends IsNearSpot es shape h.0 (stops_near l n.0 h.0 (stops_at es l h.0 h.3)))
     (slab_ends IsNearSpot es shape l u h.1
     (each_of (IsLive es l u) (AtBoth IsNearSpot es l u)
     (λ k r. (record { level = n.0; positive = size_above (rise (edge_at es k)) r.reaches.rises }, record { level = n.1.0; positive = size_above (rise (edge_at es k)) r.reaches.rises }))
@@ -146,7 +148,7 @@ rewritten_same : (s : Spot) → (n : IsNearSpot s) → AreSameSpot s (rewritten 
 rewritten_same s n =
     let h : Level = n.level.near in
     let run : ℕ = unsigned_abs s.at.d * s.run in
-    same_placed s (rewritten s h) n.level.divisor n.positive n.level.within.positive (above_run s.at.d s.run n.level.divisor n.positive) (sym n.level.same)
+    same_placed s (rewritten s h) n.level.divisor (run_above s.run n.positive) n.level.within.positive (run_above _ (above_run s.at.d s.run n.level.divisor n.positive)) (sym n.level.same)
     (ap (λ (z : ℤ). s.x *ℤ (h.d *ℤ z)) (size_of s.at.d s.run n.level.divisor) ∙ ring (s.x ∷ h.d ∷ s.at.d ∷ pos s.run ∷ []) (v0 ⊗ (v1 ⊗ (v2 ⊗ v3))) ((v0 ⊗ v1) ⊗ (v2 ⊗ v3)) refl)
 
 -- it is within any limit that is great enough

@@ -4,7 +4,7 @@ use Rattle.std.specs.Prelude.{int_le, if◌then◌else◌, All}
 use Rattle.std.specs.List.{AllByRecursion}
 use Rattle.std.specs.List.Sorted.{IsPermutation}
 use Rattle.std.proofs.lemmas.Int.{ints}
-use Rattle.std.proofs.lemmas.Bool.{and_parts}
+use Rattle.std.proofs.lemmas.Bool.{and_parts, false≢true, both_ways}
 use Rattle.std.proofs.lemmas.List.Elements.{recursion_from_All, All-from_recursion, All-weaker}
 use Rattle.std.proofs.lemmas.List.Sorted.{All-permutation}
 use Rattle.scad_base.proofs.Lists.{AllByRecursion-append}
@@ -25,6 +25,7 @@ use Rattle.plan_infill.specs.Deep.{IsDeep}
 use Rattle.plan_infill.specs.Runs.{point_on, IsRun, AreRuns}
 use Rattle.plan_infill.specs.Steps.{up_to, all_of, turns_before, IsApart, IsStep, AreSteps}
 use Rattle.plan_infill.specs.Sweep.{is_deep_at, IsStretch, AreStretches}
+use Rattle.scad_geom.proofs.Signs.{zero_true}
 
 -- ---- sides within a limit
 path_within : (limit : ℕ) (from last : Pt) (ps : List Pt) → IsWithin limit from → IsWithin limit last → AllByRecursion (IsWithin limit) ps → AllByRecursion (IsEdgeWithin limit) (path from ps last)
@@ -80,30 +81,13 @@ same_all : (f : Step → ℤ) (xs ys : List Step) → IsPermutation xs ys → al
 same_all f xs ys p = all_as_sum f ys ∙ sum_z-permutation f xs ys p ∙ sym (all_as_sum f xs)
 
 -- ---- what the steps say of a point
-zero_true : (z : ℤ) → is_zero z ≡ true → z ≡ pos 0
-zero_true (pos zero) h = refl
-zero_true (pos (suc n)) h = absurd (no h)
-  where
-    no : false ≡ true → ⊥
-    no p = cc
-zero_true (negsuc n) h = absurd (no h)
-  where
-    no : false ≡ true → ⊥
-    no p = cc
-
 not_zero : (z : ℤ) → not (is_zero z) ≡ true → z ≢ pos 0
-not_zero z h e = no (subst (λ (x : ℤ). not (is_zero x) ≡ true) e h)
-  where
-    no : false ≡ true → ⊥
-    no p = cc
+not_zero z h e = false≢true (subst (λ (x : ℤ). not (is_zero x) ≡ true) e h)
 
 is_not_zero : (z : ℤ) → z ≢ pos 0 → not (is_zero z) ≡ true
 is_not_zero (pos zero) h = absurd (h refl)
 is_not_zero (pos (suc n)) h = refl
 is_not_zero (negsuc n) h = refl
-
-true_false : {b : Bool} → b ≡ true → b ≡ false → ⊥
-true_false p q = cc
 
 module _ (c : ℕ) (line : Line) (outlines : List (List Pt)) (steps sorted : List Step) (k : AreSteps c line (flat_map sides outlines) steps) (p : IsPermutation steps sorted) where
   pub all_steps : All IsStep sorted
@@ -151,8 +135,8 @@ module _ (c : ℕ) (line : Line) (outlines : List (List Pt)) (steps sorted : Lis
   run_of least r s = record {
     long = s.long;
     deep = λ z a b. deep_if z (s.holds z a b);
-    before = λ d. true_false (if_deep (r.from -ℤ pos 1) d) s.before;
-    after = λ d. true_false (if_deep (r.to +ℤ pos 1) d) s.after;
+    before = λ d. both_ways _ s.before (if_deep (r.from -ℤ pos 1) d);
+    after = λ d. both_ways _ s.after (if_deep (r.to +ℤ pos 1) d);
   }
 
   of_run : (least : ℕ) (r : Run) → IsRun outlines c line least r → IsStretch (is_deep_at sorted) least r

@@ -3,11 +3,13 @@
 use Rattle.std.proofs.Common.{◌≡◌, [], ◌∷◌, refl, arith, subst, ℤ, pos, ◌+ℤ◌, ◌-ℤ◌, ◌*ℤ◌, ◌<ℤ◌}
 use lib.Signed.{◌≤ℤ◌}
 use Rattle.std.proofs.lemmas.Int.{ints}
-use Rattle.scad_geom.proofs.Signs.{at_least_mul, at_least_left, pos_left}
+use Rattle.scad_geom.proofs.Signs.{at_least_mul, at_least_left, pos_left, sub_mul}
 use Rattle.scad_geom.proofs.Rising.{Lies, Passes, found, passes, order}
 use Rattle.scad_geom.proofs.Ring.{ring, num, ◌⊕◌, ◌⊖◌, ◌⊗◌, v0, v1, v2, v3, v4, v5}
-use Rattle.plan_infill.proofs.Quotients.{at_most_times}
+use Rattle.plan_infill.proofs.Quotients.{at_most_times, less_one_times}
 use Rattle.plan_infill.proofs.Steps.{by_order}
+use Rattle.scad_geom.proofs.Integers.{add_mul}
+use Rattle.std.proofs.Math.IntN.{*ℤ_comm}
 
 -- the mean of a and b by the weights s and t is less than c in size
 pub record Inside (c s t a b : ℤ) : Type 0 where
@@ -123,23 +125,25 @@ mean_scaled k s t a b = ring (k ∷ s ∷ t ∷ a ∷ b ∷ []) (v1 ⊗ (v0 ⊗ 
 width_scaled : (k c w : ℤ) → (k *ℤ c -ℤ pos 1) *ℤ w ≡ (c *ℤ w) *ℤ k -ℤ w
 width_scaled k c w = ring (k ∷ c ∷ w ∷ []) ((v0 ⊗ v1 ⊖ num (pos 1)) ⊗ v2) ((v1 ⊗ v2) ⊗ v0 ⊖ v2) refl
 
-apart_of : (a b k : ℤ) → (a -ℤ b) *ℤ k ≡ a *ℤ k -ℤ b *ℤ k
-apart_of a b k = ring (a ∷ b ∷ k ∷ []) ((v0 ⊖ v1) ⊗ v2) (v0 ⊗ v2 ⊖ v1 ⊗ v2) refl
-
-together : (a b k : ℤ) → (a +ℤ b) *ℤ k ≡ a *ℤ k +ℤ b *ℤ k
-together a b k = ring (a ∷ b ∷ k ∷ []) ((v0 ⊕ v1) ⊗ v2) (v0 ⊗ v2 ⊕ v1 ⊗ v2) refl
-
 inside_of_lies : (k c s t a b : ℤ) → pos 0 <ℤ k → pos 0 <ℤ (s +ℤ t) → Lies (scaled_width k c) s t (k *ℤ a) (k *ℤ b) → Inside c s t a b
 inside_of_lies k c s t a b h some l =
     let m = mean_scaled k s t a b in
     let w = width_scaled k c (s +ℤ t) in
     let f = l.from in
     let g = l.to in
-    let p = apart_of (c *ℤ (s +ℤ t)) (s *ℤ a +ℤ t *ℤ b) k in
-    let q = together (c *ℤ (s +ℤ t)) (s *ℤ a +ℤ t *ℤ b) k in
+    let p = sub_mul (c *ℤ (s +ℤ t)) (s *ℤ a +ℤ t *ℤ b) k in
+    let q = add_mul (c *ℤ (s +ℤ t)) (s *ℤ a +ℤ t *ℤ b) k in
     let u = pos_left (c *ℤ (s +ℤ t) -ℤ (s *ℤ a +ℤ t *ℤ b)) k h (omega (arith, ints, m, w, p, g, some)) in
     let v = pos_left (c *ℤ (s +ℤ t) +ℤ (s *ℤ a +ℤ t *ℤ b)) k h (omega (arith, ints, m, w, q, f, some)) in
     record { from = omega (arith, ints, v); to = omega (arith, ints, u) }
+
+-- an order is kept by a positive factor in front
+times_at_most : (k a b : ℤ) → pos 0 <ℤ k → a ≤ℤ b → (k *ℤ a) ≤ℤ (k *ℤ b)
+times_at_most k a b h o =
+    let m = at_most_times a b k h o in
+    let e = *ℤ_comm k a in
+    let f = *ℤ_comm k b in
+    omega (arith, ints, m, e, f)
 
 pub found_inside : (c ax ay bx by : ℤ) → pos 0 <ℤ c → ax ≤ℤ bx → ay ≤ℤ by → PassesInside c ax ay bx by → FoundInside c ax ay bx by
 found_inside c ax ay bx by some rx ry p =
@@ -159,14 +163,8 @@ found_inside c ax ay bx by some rx ry p =
       least = omega (arith, ints, n, d);
     } in
     let z = below_scaled k c (pos 0) h some in
-    let f = found (scaled_width k c) (k *ℤ ax) (k *ℤ ay) (k *ℤ bx) (k *ℤ by) (omega (arith, ints, z)) (up k ax bx h rx) (up k ay by h ry) t in
+    let f = found (scaled_width k c) (k *ℤ ax) (k *ℤ ay) (k *ℤ bx) (k *ℤ by) (omega (arith, ints, z)) (times_at_most k ax bx h rx) (times_at_most k ay by h ry) t in
     record { s = f.s; t = f.t; from = f.from; to = f.to; some = f.some; x = inside_of_lies k c f.s f.t ax bx h f.some f.x; y = inside_of_lies k c f.s f.t ay by h f.some f.y }
-  where
-    swap : (a b : ℤ) → a *ℤ b ≡ b *ℤ a
-    swap a b = ring (a ∷ b ∷ []) (v0 ⊗ v1) (v1 ⊗ v0) refl
-
-    up : (k a b : ℤ) → pos 0 <ℤ k → a ≤ℤ b → (k *ℤ a) ≤ℤ (k *ℤ b)
-    up k a b h o = let m = at_most_times a b k h o in let e = swap k a in let f = swap k b in omega (arith, ints, m, e, f)
 
 -- ---- and back, with K the sum of the weights
 lies_of_inside : (c s t a b : ℤ) → pos 0 <ℤ (s +ℤ t) → Inside c s t a b → Lies (scaled_width (s +ℤ t) c) s t ((s +ℤ t) *ℤ a) ((s +ℤ t) *ℤ b)
@@ -178,13 +176,10 @@ lies_of_inside c s t a b some i =
     let g = i.to in
     let u = at_most_times (s *ℤ a +ℤ t *ℤ b) (c *ℤ k -ℤ pos 1) k some (omega (arith, ints, g)) in
     let v = at_most_times (pos 1 -ℤ c *ℤ k) (s *ℤ a +ℤ t *ℤ b) k some (omega (arith, ints, f)) in
-    let p = less_one (c *ℤ k) k in
+    let p = less_one_times (c *ℤ k) k in
     let q = one_less (c *ℤ k) k in
     record { from = omega (arith, ints, m, w, v, q); to = omega (arith, ints, m, w, u, p) }
   where
-    less_one : (z k : ℤ) → (z -ℤ pos 1) *ℤ k ≡ z *ℤ k -ℤ k
-    less_one z k = ring (z ∷ k ∷ []) ((v0 ⊖ num (pos 1)) ⊗ v1) (v0 ⊗ v1 ⊖ v1) refl
-
     one_less : (z k : ℤ) → (pos 1 -ℤ z) *ℤ k ≡ k -ℤ z *ℤ k
     one_less z k = ring (z ∷ k ∷ []) ((num (pos 1) ⊖ v0) ⊗ v1) (v1 ⊖ v0 ⊗ v1) refl
 
@@ -206,7 +201,7 @@ pub passes_inside : (c ax ay bx by : ℤ) → ax ≤ℤ bx → ay ≤ℤ by → 
 passes_inside c ax ay bx by rx ry f =
     let k : ℤ = f.s +ℤ f.t in
     let h : pos 0 <ℤ k = f.some in
-    let t = passes (scaled_width k c) (k *ℤ ax) (k *ℤ ay) (k *ℤ bx) (k *ℤ by) (up k ax bx h rx) (up k ay by h ry)
+    let t = passes (scaled_width k c) (k *ℤ ax) (k *ℤ ay) (k *ℤ bx) (k *ℤ by) (times_at_most k ax bx h rx) (times_at_most k ay by h ry)
     (record { s = f.s; t = f.t; from = f.from; to = f.to; some = f.some; x = lies_of_inside c f.s f.t ax bx f.some f.x; y = lies_of_inside c f.s f.t ay by f.some f.y }) in
     let e = line_scaled k c ax ay bx by in
     let d = line_scaled_down k c ax ay bx by in
@@ -219,12 +214,6 @@ passes_inside c ax ay bx by rx ry f =
       right = more_back k c bx h t.right;
       below = less_back k c ay h t.below;
       over = more_back k c by h t.over;
-      most = λ o. let u = pos_left (c *ℤ span ax ay bx by -ℤ cross ax ay bx by) k h (omega (arith, ints, m, o, swap k (c *ℤ span ax ay bx by -ℤ cross ax ay bx by))) in omega (arith, ints, u);
-      least = λ o. let u = pos_left (c *ℤ span ax ay bx by +ℤ cross ax ay bx by) k h (omega (arith, ints, n, o, swap k (c *ℤ span ax ay bx by +ℤ cross ax ay bx by))) in omega (arith, ints, u);
+      most = λ o. let u = pos_left (c *ℤ span ax ay bx by -ℤ cross ax ay bx by) k h (omega (arith, ints, m, o, *ℤ_comm k (c *ℤ span ax ay bx by -ℤ cross ax ay bx by))) in omega (arith, ints, u);
+      least = λ o. let u = pos_left (c *ℤ span ax ay bx by +ℤ cross ax ay bx by) k h (omega (arith, ints, n, o, *ℤ_comm k (c *ℤ span ax ay bx by +ℤ cross ax ay bx by))) in omega (arith, ints, u);
     }
-  where
-    swap : (a b : ℤ) → a *ℤ b ≡ b *ℤ a
-    swap a b = ring (a ∷ b ∷ []) (v0 ⊗ v1) (v1 ⊗ v0) refl
-
-    up : (k a b : ℤ) → pos 0 <ℤ k → a ≤ℤ b → (k *ℤ a) ≤ℤ (k *ℤ b)
-    up k a b h o = let m = at_most_times a b k h o in let e = swap k a in let f = swap k b in omega (arith, ints, m, e, f)

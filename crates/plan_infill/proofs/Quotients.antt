@@ -4,9 +4,9 @@ use lib.Signed.{◌≤ℤ◌}
 use Rattle.std.specs.Prelude.{unsigned_abs}
 use Rattle.std.specs.Int.{int_div_euclid}
 use Rattle.std.proofs.lemmas.Int.{ints}
-use Rattle.scad_geom.proofs.Signs.{at_least_mul}
+use Rattle.scad_geom.proofs.Signs.{at_least_mul, sub_mul, minus_times}
 use Rattle.scad_geom.proofs.Rising.{order}
-use Rattle.scad_geom.proofs.Ring.{ring, num, ◌⊕◌, ◌⊖◌, ◌⊗◌, v0, v1, v2}
+use Rattle.scad_geom.proofs.Ring.{ring, num, ◌⊕◌, ◌⊖◌, ◌⊗◌, v0, v1}
 use Rattle.plan_infill.specs.Quotient.{IsFloor, IsCeiling}
 
 pub floor_is : (n d q : ℤ) → pos 0 <ℤ d → q ≡ int_div_euclid n d → IsFloor n d q
@@ -14,15 +14,12 @@ floor_is (pos a) (pos d) q h e = subst (IsFloor (pos a) (pos d)) (sym e) (record
 floor_is (negsuc a) (pos d) q h e = subst (IsFloor (negsuc a) (pos d)) (sym e) (record { least = omega (arith, ints); most = omega (arith, ints) })
 floor_is n (negsuc d) q h e = absurd (omega (arith, ints))
 
-negated : (q d : ℤ) → (pos 0 -ℤ q) *ℤ d ≡ pos 0 -ℤ q *ℤ d
-negated q d = ring (q ∷ d ∷ []) ((num (pos 0) ⊖ v0) ⊗ v1) (num (pos 0) ⊖ v0 ⊗ v1) refl
-
 pub ceiling_is : (n d q : ℤ) → pos 0 <ℤ d → q ≡ int_div_euclid (pos 0 -ℤ n) d → IsCeiling n d (pos 0 -ℤ q)
 ceiling_is n d q h e =
     let f = floor_is (pos 0 -ℤ n) d q h e in
     let l = f.least in
     let m = f.most in
-    let s = negated q d in
+    let s = minus_times q d in
     record { least = omega (arith, ints, s); most = omega (arith, ints, s) }
 
 split : (q d : ℤ) → q *ℤ (d -ℤ pos 1) ≡ q *ℤ d -ℤ q
@@ -41,21 +38,17 @@ floor_size n d q h f =
       | inr o ↦ let m = at_least_mul (pos 0 -ℤ (q +ℤ pos 1)) (d -ℤ pos 1) (omega (arith, ints)) (omega (arith, ints)) in let e = split_below q d in omega (arith, ints, m, e)
     ]
 
--- a product by a divisor above 0 keeps the order
-parted : (x r d : ℤ) → (x -ℤ r) *ℤ d ≡ x *ℤ d -ℤ r *ℤ d
-parted x r d = ring (x ∷ r ∷ d ∷ []) ((v0 ⊖ v1) ⊗ v2) (v0 ⊗ v2 ⊖ v1 ⊗ v2) refl
-
 pub at_most_times : (r x d : ℤ) → pos 0 <ℤ d → r ≤ℤ x → (r *ℤ d) ≤ℤ (x *ℤ d)
 at_most_times r x d h k =
     let m = at_least_mul (x -ℤ r) d (omega (arith, ints)) (omega (arith, ints)) in
-    let p = parted x r d in
+    let p = sub_mul x r d in
     omega (arith, ints, m, p)
 
 more : (r d : ℤ) → (r +ℤ pos 1) *ℤ d ≡ r *ℤ d +ℤ d
 more r d = ring (r ∷ d ∷ []) ((v0 ⊕ num (pos 1)) ⊗ v1) (v0 ⊗ v1 ⊕ v1) refl
 
-less : (r d : ℤ) → (r -ℤ pos 1) *ℤ d ≡ r *ℤ d -ℤ d
-less r d = ring (r ∷ d ∷ []) ((v0 ⊖ num (pos 1)) ⊗ v1) (v0 ⊗ v1 ⊖ v1) refl
+pub less_one_times : (r d : ℤ) → (r -ℤ pos 1) *ℤ d ≡ r *ℤ d -ℤ d
+less_one_times r d = ring (r ∷ d ∷ []) ((v0 ⊖ num (pos 1)) ⊗ v1) (v0 ⊗ v1 ⊖ v1) refl
 
 -- what comes after the quotient rounded down
 pub after_floor : (n d r x : ℤ) → pos 0 <ℤ d → IsFloor n d r → (r +ℤ pos 1) ≤ℤ x → n <ℤ (x *ℤ d)
@@ -77,7 +70,7 @@ after_quotient n d r x h f k =
 pub before_ceiling : (n d r x : ℤ) → pos 0 <ℤ d → IsCeiling n d r → x <ℤ r → (x *ℤ d) <ℤ n
 before_ceiling n d r x h f k =
     let m = at_most_times x (r -ℤ pos 1) d h (omega (arith, ints)) in
-    let e = less r d in
+    let e = less_one_times r d in
     let t = f.least in
     omega (arith, ints, m, e)
 

@@ -4,14 +4,14 @@ use lib.Signed.{◌≤ℤ◌}
 use Rattle.std.specs.Prelude.{int_lt, int_le, unsigned_abs, ◌↔◌}
 use Rattle.std.specs.Int.{int_min, int_max}
 use Rattle.std.proofs.lemmas.Int.{ints}
-use Rattle.std.proofs.lemmas.Bool.{and_parts}
+use Rattle.std.proofs.lemmas.Bool.{and_parts, both_ways}
 use Rattle.std.proofs.lemmas.List.Elements.{All-from_recursion}
 use Rattle.scad_base.proofs.Products.{positive_product}
 use Rattle.scad_geom.specs.declared.point.Pt.{Pt}
 use Rattle.scad_geom.specs.declared.point.Edge.{Edge}
 use Rattle.scad_geom.specs.Line.{low, high, rise, run, x_at}
 use Rattle.scad_geom.specs.Point.{whole}
-use Rattle.scad_geom.proofs.Rising.{order}
+use Rattle.scad_geom.proofs.Rising.{order, mirrored_mean}
 use Rattle.scad_geom.proofs.Signs.{pos_left}
 use Rattle.scad_geom.proofs.Bounds.{rise_at_least}
 use Rattle.scad_geom.proofs.Ring.{ring, num, ◌⊕◌, ◌⊖◌, ◌⊗◌, v0, v1, v2, v3, v4, v5}
@@ -118,21 +118,15 @@ mirrored_inside : (c s t a b : ℤ) → Inside c s t (pos 0 -ℤ a) (pos 0 -ℤ 
 mirrored_inside c s t a b i =
     let f = i.from in
     let g = i.to in
-    let m = mirrored s t a b in
+    let m = mirrored_mean s t a b in
     record { from = omega (arith, ints, g, m); to = omega (arith, ints, f, m) }
-  where
-    mirrored : (s t a b : ℤ) → s *ℤ (pos 0 -ℤ a) +ℤ t *ℤ (pos 0 -ℤ b) ≡ pos 0 -ℤ (s *ℤ a +ℤ t *ℤ b)
-    mirrored s t a b = ring (s ∷ t ∷ a ∷ b ∷ []) (v0 ⊗ (num (pos 0) ⊖ v2) ⊕ v1 ⊗ (num (pos 0) ⊖ v3)) (num (pos 0) ⊖ (v0 ⊗ v2 ⊕ v1 ⊗ v3)) refl
 
 inside_mirrored : (c s t a b : ℤ) → Inside c s t a b → Inside c s t (pos 0 -ℤ a) (pos 0 -ℤ b)
 inside_mirrored c s t a b i =
     let f = i.from in
     let g = i.to in
-    let m = mirrored s t a b in
+    let m = mirrored_mean s t a b in
     record { from = omega (arith, ints, g, m); to = omega (arith, ints, f, m) }
-  where
-    mirrored : (s t a b : ℤ) → s *ℤ (pos 0 -ℤ a) +ℤ t *ℤ (pos 0 -ℤ b) ≡ pos 0 -ℤ (s *ℤ a +ℤ t *ℤ b)
-    mirrored s t a b = ring (s ∷ t ∷ a ∷ b ∷ []) (v0 ⊗ (num (pos 0) ⊖ v2) ⊕ v1 ⊗ (num (pos 0) ⊖ v3)) (num (pos 0) ⊖ (v0 ⊗ v2 ⊕ v1 ⊗ v3)) refl
 
 found_mirrored : (c ax ay bx by : ℤ) → FoundInside c (pos 0 -ℤ ax) ay (pos 0 -ℤ bx) by → FoundInside c ax ay bx by
 found_mirrored c ax ay bx by f = record { s = f.s; t = f.t; from = f.from; to = f.to; some = f.some; x = mirrored_inside c f.s f.t ax bx f.x; y = f.y }
@@ -365,13 +359,10 @@ near_steps c y e s steps h r k = record { give = λ x. give x (order s.from x) (
 
 pub no_near_steps : (c : ℕ) (y : ℤ) (e : Edge) → is_beside c y e ≡ false → AreNearSteps c (Row y) e []
 no_near_steps c y e h = record {
-  give = λ x. inr (refl, λ f. differ (told c x y e f).beside h);
+  give = λ x. inr (refl, λ f. both_ways _ h ((told c x y e f).beside));
   each = All-from_recursion IsStep [] tt;
   other = All-from_recursion (λ t. t.turns ≡ pos 0) [] tt;
 }
-  where
-    differ : {b : Bool} → b ≡ true → b ≡ false → ⊥
-    differ p q = cc
 
 -- a column is a row of the plane with x and y exchanged
 exchange : (c : ℤ) (x z : ℤ) (e : Edge) → ComesNearer c (whole (at x z)) (whole (exchanged e).a) (whole (exchanged e).b) → ComesNearer c (whole (at z x)) (whole e.a) (whole e.b)

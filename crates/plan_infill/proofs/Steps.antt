@@ -23,6 +23,8 @@ use Rattle.scad_geom.proofs.Signs.{at_least_mul}
 use Rattle.scad_geom.proofs.Bounds.{low_within, high_within}
 use Rattle.scad_geom.proofs.Ring.{ring, num, ◌⊕◌, ◌⊖◌, ◌⊗◌, v0, v1, v2, v3, v4, v5}
 use lib.IntN.{+ℤ_idl}
+use Rattle.std.proofs.Math.IntN.{*ℤ_comm}
+use Rattle.std.proofs.Math.Bool.{and-false}
 
 abbrev pub step_of : ℤ → ℤ → Step
 step_of at turns = record { at = at; turns = turns; near = pos 0 }
@@ -30,9 +32,6 @@ step_of at turns = record { at = at; turns = turns; near = pos 0 }
 pub by_order : {P : Type 0} {A B : Type 0} → A ⊎ B → (A → P) → (B → P) → P
 by_order (inl a) f g = f a
 by_order (inr b) f g = g b
-
-times_swap : (a b : ℤ) → a *ℤ b ≡ b *ℤ a
-times_swap a b = ring (a ∷ b ∷ []) (v0 ⊗ v1) (v1 ⊗ v0) refl
 
 less_limit : (m r : ℤ) → (pos 0 -ℤ m -ℤ pos 1) *ℤ r ≡ (pos 0 -ℤ m *ℤ r) -ℤ r
 less_limit m r = ring (m ∷ r ∷ []) ((num (pos 0) ⊖ v0 ⊖ num (pos 1)) ⊗ v1) ((num (pos 0) ⊖ v0 ⊗ v1) ⊖ v1) refl
@@ -54,7 +53,7 @@ heading_size e = by_test (int_lt e.b.y e.a.y)
 -- ---- on a row
 left_at : (e : Edge) (x y : ℤ) → left_of e x y (pos 1) ≡ x_at e y (pos 1) -ℤ x *ℤ rise e
 unfolding left_of
-left_at e x y = let c = times_swap (rise e) x in omega (arith, ints, c)
+left_at e x y = let c = *ℤ_comm (rise e) x in omega (arith, ints, c)
 
 row_turn : (e : Edge) (y z at : ℤ) → (low e).y ≤ℤ y → y <ℤ (high e).y → IsCeiling (x_at e y (pos 1)) (rise e) at → (t : Bool) → int_le at z ≡ t
     → (if int_lt (pos 0) (left_of e z y (pos 1)) then heading e else pos 0) ≡ heading e +ℤ ((if t then pos 0 -ℤ heading e else pos 0) +ℤ pos 0)
@@ -112,11 +111,7 @@ no_place_below : (part : Stretch) (z : ℤ) → z <ℤ part.from → has_place p
 no_place_below part z h = let f : int_le part.from z ≡ false = sym (omega (arith, ints)) in rw f refl
 
 no_place_above : (part : Stretch) (z : ℤ) → part.until ≤ℤ z → has_place part z ≡ false
-no_place_above part z h = let f : int_lt z part.until ≡ false = sym (omega (arith, ints)) in rw f (and_no (int_le part.from z))
-  where
-    and_no : (b : Bool) → (b && false) ≡ false
-    and_no true = refl
-    and_no false = refl
+no_place_above part z h = let f : int_lt z part.until ≡ false = sym (omega (arith, ints)) in rw f (and-false (int_le part.from z))
 
 line_at : (e : Edge) (x y : ℤ) → left_of e x y (pos 1) ≡ run e *ℤ y +ℤ left_of e x (pos 0) (pos 1)
 unfolding left_of x_at

@@ -11,9 +11,7 @@ use Rattle.plan_infill.specs.declared.run.Run.{Run}
 use Rattle.plan_infill.specs.Runs.{GoUp}
 use Rattle.plan_infill.specs.Sweep.{IsStretch, AreStretches, AreStretchesBefore, IsOpen, IsOneValue, HoldsWithin, IsOpenWithin, opened, closed}
 use Rattle.plan_infill.proofs.Steps.{by_order}
-
-differ : {b : Bool} → b ≡ true → b ≡ false → ⊥
-differ p q = cc
+use Rattle.std.proofs.lemmas.Bool.{both_ways}
 
 module _ (test : ℤ → Bool) (least : ℕ) where
   -- the ends of a stretch
@@ -26,7 +24,7 @@ module _ (test : ℤ → Bool) (least : ℕ) where
     upwards = tt;
     each = All-nil (IsStretch test least);
     ended = All-nil (λ r. (r.to +ℤ pos 1) <ℤ place);
-    all = λ r s e. absurd (differ (s.holds r.to (in_order r s) (omega (arith, ints))) (h r.to (omega (arith, ints, e))));
+    all = λ r s e. absurd (both_ways _ (h r.to (omega (arith, ints, e))) (s.holds r.to (in_order r s) (omega (arith, ints))));
   }
 
   pub none_open : (place : ℤ) → ((z : ℤ) → z <ℤ place → test z ≡ false) → IsOpen test place None
@@ -42,7 +40,7 @@ module _ (test : ℤ → Bool) (least : ℕ) where
     each = b.each;
     ended = later place until rs h b.ended;
     all = λ r s e. by_order (order place (r.to +ℤ pos 1))
-        (λ o. absurd (differ (v (r.to +ℤ pos 1) o e) s.after))
+        (λ o. absurd (both_ways _ s.after (v (r.to +ℤ pos 1) o e)))
         (λ o. b.all r s o);
   }
 
@@ -63,8 +61,8 @@ module _ (test : ℤ → Bool) (least : ℕ) where
     ended = later place until rs h b.ended;
     all = λ r s e. by_order (order place (r.to +ℤ pos 1))
         (λ o. by_order (order place r.to)
-        (λ k. absurd (differ (s.holds r.to (in_order r s) (omega (arith, ints))) (v r.to k (omega (arith, ints, e)))))
-        (λ k. absurd (differ (s.holds (place -ℤ pos 1) (let i = in_order r s in omega (arith, ints, i, o, k)) (omega (arith, ints, o, k))) n)))
+        (λ k. absurd (both_ways _ (v r.to k (omega (arith, ints, e))) (s.holds r.to (in_order r s) (omega (arith, ints)))))
+        (λ k. absurd (both_ways _ n (s.holds (place -ℤ pos 1) (let i = in_order r s in omega (arith, ints, i, o, k)) (omega (arith, ints, o, k))))))
         (λ o. b.all r s o);
   }
 
@@ -76,7 +74,7 @@ module _ (test : ℤ → Bool) (least : ℕ) where
     -- the runs before it end before its start
     ends_before : (r : Run) → IsStretch test least r → (r.to +ℤ pos 1) <ℤ place → r.to <ℤ from
     ends_before r s e = by_order (order from r.to)
-        (λ k. absurd (differ (o.1 (r.to +ℤ pos 1) (omega (arith, ints, k)) e) s.after))
+        (λ k. absurd (both_ways _ s.after (o.1 (r.to +ℤ pos 1) (omega (arith, ints, k)) e)))
         (λ k. k)
 
     -- a stretch that has ended since is this one
@@ -84,14 +82,14 @@ module _ (test : ℤ → Bool) (least : ℕ) where
     is_this r s p e =
         let i = in_order r s in
         let to : r.to ≡ place -ℤ pos 1 = by_order (order place r.to)
-        (λ k. absurd (differ (s.holds r.to i (omega (arith, ints))) (v r.to k (omega (arith, ints, e)))))
+        (λ k. absurd (both_ways _ (v r.to k (omega (arith, ints, e))) (s.holds r.to i (omega (arith, ints)))))
         (λ k. omega (arith, ints, p, k)) in
         let a = o.0 in
         let start : r.from ≡ from = by_order (order r.from from)
         (λ k. by_order (order from r.from)
         (λ m. omega (arith, ints, k, m))
-        (λ m. absurd (differ (s.holds (from -ℤ pos 1) (omega (arith, ints, m)) (omega (arith, ints, to, a))) o.2)))
-        (λ k. absurd (differ (o.1 (r.from -ℤ pos 1) (omega (arith, ints, k)) (omega (arith, ints, i, to))) s.before)) in
+        (λ m. absurd (both_ways _ o.2 (s.holds (from -ℤ pos 1) (omega (arith, ints, m)) (omega (arith, ints, to, a))))))
+        (λ k. absurd (both_ways _ s.before (o.1 (r.from -ℤ pos 1) (omega (arith, ints, k)) (omega (arith, ints, i, to))))) in
         λ j. record { from = start j; to = to j }
 
     this_one : pos least ≤ℤ ((place -ℤ pos 1) -ℤ from) → IsStretch test least ended_run
@@ -151,7 +149,7 @@ module _ (test : ℤ → Bool) (least : ℕ) where
     upwards = b.upwards;
     each = b.each;
     all = λ r s. by_order (order (place -ℤ pos 1) r.to)
-        (λ k. absurd (differ (s.holds r.to (in_order r s) (omega (arith, ints))) (h r.to k)))
+        (λ k. absurd (both_ways _ (h r.to k) (s.holds r.to (in_order r s) (omega (arith, ints)))))
         (λ k. b.all r s (omega (arith, ints, k)));
   }
 

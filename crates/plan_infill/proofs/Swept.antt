@@ -5,7 +5,7 @@ use Rattle.std.specs.Prelude.{int_le, if◌then◌else◌, All}
 use Rattle.std.specs.List.{AllByRecursion}
 use Rattle.std.proofs.lemmas.Int.{ints}
 use Rattle.std.proofs.lemmas.List.Elements.{recursion_from_All}
-use Rattle.std.proofs.lemmas.Bool.{cases_lt}
+use Rattle.std.proofs.lemmas.Bool.{cases_lt, both_ways}
 use Rattle.scad_geom.specs.Limits.{coordinate_limit}
 use Rattle.scad_geom.specs.Sign.{is_zero}
 use Rattle.scad_geom.proofs.Rising.{order}
@@ -81,17 +81,14 @@ high_sum z (s ∷ ss) h k = let r = high_sum z ss h k.1 in let a = one k.0.place
 no_turns : (ss : List Step) (z : ℤ) → up_to (λ s. s.turns) z ss ≡ pos 0 → is_deep_at ss z ≡ false
 no_turns ss z e = rw e refl
 
-true_false : {b : Bool} → b ≡ true → b ≡ false → ⊥
-true_false p q = cc
-
 pub holds_within : (ss : List Step) → All IsStep ss → all_of (λ s. s.turns) ss ≡ pos 0 → HoldsWithin (is_deep_at ss)
 holds_within ss k e z h =
     let r = recursion_from_All IsStep ss k in
     by_order (order (pos 0 -ℤ pos coordinate_limit) z)
     (λ a. by_order (order (pos coordinate_limit) z)
-    (λ b. absurd (true_false h (no_turns ss z (high_sum z ss b r ∙ e))))
+    (λ b. absurd (both_ways _ (no_turns ss z (high_sum z ss b r ∙ e)) h))
     (λ b. omega (arith, ints, a, b)))
-    (λ a. absurd (true_false h (no_turns ss z (low_sum z ss a r))))
+    (λ a. absurd (both_ways _ (no_turns ss z (low_sum z ss a r)) h))
 
 -- ---- the sums so far
 all_of-size : (f : Step → ℤ) → ((s : Step) → IsStep s → unsigned_abs (f s) ≤ 1) → (ss : List Step) (i : ℕ) → AllByRecursion IsStep ss → unsigned_abs (all_of f (take i ss)) ≤ i

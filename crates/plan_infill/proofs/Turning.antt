@@ -8,21 +8,18 @@ use Rattle.scad_geom.specs.declared.point.Edge.{Edge}
 use Rattle.scad_geom.specs.Line.{low, high, rise, left_of}
 use Rattle.scad_geom.specs.Point.{whole}
 use Rattle.scad_geom.specs.Level.{level_of}
-use Rattle.scad_geom.specs.Winding.{counted, is_over, passage_by, is_beyond, turn}
+use Rattle.scad_geom.specs.Winding.{counted, is_over, passage_by, turn}
 use Rattle.scad_geom.proofs.Heights.{Reaches}
 use Rattle.scad_geom.proofs.Turns.{Over, NotOver, level_at, over_true, over_false, reaching_turn, under_turn, over_turn}
 use Rattle.scad_geom.proofs.Turns as turns
 use Rattle.plan_infill.specs.Columns.{heading}
+use Rattle.scad_geom.proofs.Doubled.{beyond_is}
 
 abbrev pub at : ℤ → ℤ → Pt
 at x y = record { x = x; y = y }
 
 abbrev pub turn_at : ℤ → ℤ → Edge → ℤ
 turn_at x y e = turn true true (whole (at x y)) (whole e.a) (whole e.b)
-
-beyond_is : (z : ℤ) → is_beyond true z ≡ int_lt (pos 0) z
-unfolding is_beyond
-beyond_is z = refl
 
 same_heading : (e : Edge) → turns.heading e ≡ heading e
 unfolding turns.heading

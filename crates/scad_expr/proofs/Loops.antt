@@ -39,7 +39,7 @@ goes o f a s e = ap (λ p. and_then p f) e
 pub stops : {A B : Type 0} (o : Outcome A) (f : A → Action B) (e : EvalFault) (s : State) → o ≡ refuses e s → and_then o f ≡ refuses e s
 stops o f e s is = ap (λ p. and_then p f) is
 
-same-then : {A B : Type 0} (o : Outcome A) (f g : A → Action B) → ((a : A) (s : State) → f a s ≡ g a s) → and_then o f ≡ and_then o g
+pub same-then : {A B : Type 0} (o : Outcome A) (f g : A → Action B) → ((a : A) (s : State) → f a s ≡ g a s) → and_then o f ≡ and_then o g
 same-then (gives a s) f g h = h a s
 same-then (refuses e s) f g h = refl
 

@@ -2,7 +2,6 @@
 use Rattle.std.proofs.Common.{◌≡◌, ℕ, ◌+◌, Bool, true, cond, ◌&&◌, List, [], ◌∷◌, refl, sym, ap, ap₂, ◌∙◌, arith}
 use Rattle.std.proofs.Math.Bool.{and_comm}
 use Rattle.std.proofs.lemmas.Bool.{and_parts}
-use lib.IntN.{ℤ, pos, ◌*ℤ◌}
 use Rattle.std.specs.Prelude.{count_by}
 use Rattle.std.specs.Ordering.{int_eq}
 use Rattle.std.specs.Cmp.{signed_Decides}
@@ -13,6 +12,7 @@ use Rattle.scad_geom.specs.declared.point.Edge.{Edge}
 use Rattle.scad_geom.specs.Point.{Point, whole, is_same_point}
 use Rattle.scad_geom.specs.Segment.{Segment, segments}
 use Rattle.scad_geom.specs.Balance.{starts_at, ends_at, IsBalanced}
+use Rattle.scad_geom.proofs.Signs.{mul-one}
 
 -- once, where a test holds
 abbrev pub once : Bool → ℕ
@@ -39,10 +39,7 @@ pub same_place-itself : (p : Pt) → same_place p p ≡ true
 same_place-itself p = ap₂ (λ (a b : Bool). a && b) ((signed_Decides p.x p.x).1 refl) ((signed_Decides p.y p.y).1 refl)
 
 pub same_whole : (p q : Pt) → is_same_point (whole p) (whole q) ≡ same_place p q
-same_whole p q = rw (one p.x, one p.y, one q.x, one q.y) (and_comm (int_eq p.y q.y) (int_eq p.x q.x))
-  where
-    one : (z : ℤ) → z *ℤ pos 1 ≡ z
-    one z = omega (arith, ints)
+same_whole p q = rw (mul-one p.x, mul-one p.y, mul-one q.x, mul-one q.y) (and_comm (int_eq p.y q.y) (int_eq p.x q.x))
 
 pub whole_starts : (p : Pt) (es : List Edge) → starts_at (whole p) (segments es) ≡ count_by (λ e. same_place p e.a) es
 whole_starts p [] = refl

@@ -17,6 +17,7 @@ use Rattle.scad_geom.specs.Meeting.{straddles, meets, meeting}
 use Rattle.scad_geom.proofs.Signs.{at_least_mul, at_most_mul}
 use Rattle.scad_geom.proofs.Lines.{low_by, high_by}
 use Rattle.scad_geom.proofs.Heights.{meeting_positive}
+use Rattle.scad_base.proofs.Tests.{int_le-true}
 
 one_is : (a b c d : Bool) → ((a && b) || (c && d)) ≡ true → ((a ≡ true) × (b ≡ true)) ⊎ ((c ≡ true) × (d ≡ true))
 one_is true true c d h = inl (refl, refl)
@@ -57,12 +58,9 @@ ends_apart e f h =
     let t : ℤ = left_of e (high f).x (high f).y (pos 1) in
     let r = rise_at_least f in
     elim (one_is (int_le s (pos 0)) (int_le (pos 0) t) (int_le (pos 0) s) (int_le t (pos 0)) h) [
-      | inl c ↦ inl (rw (← (low_by e f)) (at_most_mul s (rise f) (le_from s (pos 0) c.0) r), rw (← (high_by e f)) (at_least_mul t (rise f) (le_from (pos 0) t c.1) r))
-      | inr c ↦ inr (rw (← (low_by e f)) (at_least_mul s (rise f) (le_from (pos 0) s c.0) r), rw (← (high_by e f)) (at_most_mul t (rise f) (le_from t (pos 0) c.1) r))
+      | inl c ↦ inl (rw (← (low_by e f)) (at_most_mul s (rise f) (int_le-true s (pos 0) c.0) r), rw (← (high_by e f)) (at_least_mul t (rise f) (int_le-true (pos 0) t c.1) r))
+      | inr c ↦ inr (rw (← (low_by e f)) (at_least_mul s (rise f) (int_le-true (pos 0) s c.0) r), rw (← (high_by e f)) (at_most_mul t (rise f) (int_le-true t (pos 0) c.1) r))
     ]
-  where
-    le_from : (a b : ℤ) → int_le a b ≡ true → a ≤ℤ b
-    le_from a b h = omega (arith, ints)
 
 abs_le : (z : ℤ) (n : ℕ) → unsigned_abs z ≤ n → (z ≤ℤ pos n) × (neg_ℤ (pos n) ≤ℤ z)
 abs_le z n h = (omega (arith, ints), omega (arith, ints))

@@ -3,12 +3,14 @@ use Rattle.std.proofs.Common.{◌≡◌, Bool, true, false, cond, ◌&&◌, [], 
 use lib.Signed.{◌≤ℤ◌}
 use Rattle.std.specs.Prelude.{int_le}
 use Rattle.std.proofs.lemmas.Int.{ints}
-use Rattle.std.proofs.lemmas.Bool.{and_parts}
+use Rattle.std.proofs.lemmas.Bool.{and_parts, both_ways}
 use Rattle.scad_geom.specs.declared.point.Edge.{Edge}
 use Rattle.scad_geom.specs.Point.{whole, halves}
 use Rattle.scad_geom.specs.Near.{mean, IsHalf, IsClose, MeetsBox, IsClear}
 use Rattle.scad_geom.proofs.Rising.{Lies, Found, Passes, found, passes, mirrored_mean}
 use Rattle.scad_geom.proofs.Ring.{ring, num, ◌⊕◌, ◌⊖◌, ◌⊗◌, v0, v1, v2, v3, v4}
+use Rattle.scad_base.proofs.Integers.{zero_minus}
+use Rattle.scad_base.proofs.Tests.{int_le-at_most}
 
 -- the ends of a way, mirrored where it falls
 abbrev pub first_of : ℤ → ℤ → ℤ
@@ -25,10 +27,7 @@ rises a b = by_test (int_le a b) refl
     by_test false q = omega (arith, ints)
 
 negated_mean : (s t a b : ℤ) → s *ℤ neg_ℤ a +ℤ t *ℤ neg_ℤ b ≡ neg_ℤ (s *ℤ a +ℤ t *ℤ b)
-negated_mean s t a b = ap₂ (λ (x y : ℤ). s *ℤ x +ℤ t *ℤ y) (zero_minus a) (zero_minus b) ∙ mirrored_mean s t a b ∙ sym (zero_minus (s *ℤ a +ℤ t *ℤ b))
-  where
-    zero_minus : (z : ℤ) → neg_ℤ z ≡ pos 0 -ℤ z
-    zero_minus z = omega (arith, ints)
+negated_mean s t a b = ap₂ (λ (x y : ℤ). s *ℤ x +ℤ t *ℤ y) (sym (zero_minus a)) (sym (zero_minus b)) ∙ mirrored_mean s t a b ∙ zero_minus (s *ℤ a +ℤ t *ℤ b)
 
 -- a mean lies in the square where the mirrored one does
 mirrored : (w s t a b : ℤ) (u : Bool) → Lies w s t (cond u a (neg_ℤ a)) (cond u b (neg_ℤ b)) → Lies w s t a b
@@ -137,16 +136,13 @@ if_passes w ax ay bx by p =
     let m = p.most in
     let n = p.least in
     rw (
-      tell ax w l,
-      tell (neg_ℤ w) bx (omega (arith, ints)),
-      tell ay w b,
-      tell (neg_ℤ w) by (omega (arith, ints)),
-      tell (bx *ℤ ay -ℤ ax *ℤ by) (w *ℤ (bx -ℤ ax) +ℤ w *ℤ (by -ℤ ay)) m,
-      tell (neg_ℤ (bx *ℤ ay -ℤ ax *ℤ by)) (w *ℤ (bx -ℤ ax) +ℤ w *ℤ (by -ℤ ay)) (omega (arith, ints)),
+      int_le-at_most ax w l,
+      int_le-at_most (neg_ℤ w) bx (omega (arith, ints)),
+      int_le-at_most ay w b,
+      int_le-at_most (neg_ℤ w) by (omega (arith, ints)),
+      int_le-at_most (bx *ℤ ay -ℤ ax *ℤ by) (w *ℤ (bx -ℤ ax) +ℤ w *ℤ (by -ℤ ay)) m,
+      int_le-at_most (neg_ℤ (bx *ℤ ay -ℤ ax *ℤ by)) (w *ℤ (bx -ℤ ax) +ℤ w *ℤ (by -ℤ ay)) (omega (arith, ints)),
     ) refl
-  where
-    tell : (a b : ℤ) → a ≤ℤ b → int_le a b ≡ true
-    tell a b h = sym (omega (arith, ints))
 
 -- the tests of an edge, over a point in halves
 abbrev pub edge_passes : ℤ → ℤ → ℤ → Edge → Bool
@@ -158,7 +154,4 @@ pub edge_meets : (h x y : ℤ) (e : Edge) → pos 0 ≤ℤ h → edge_passes h x
 edge_meets h x y e some t = meets_if_found h x y e (found_by_tests h _ _ _ _ some (passes_if h _ _ _ _ t))
 
 pub edge_is_clear : (h x y : ℤ) (e : Edge) → edge_passes h x y e ≡ false → IsClear h (halves x y) (whole e.a) (whole e.b)
-edge_is_clear h x y e t r u from to some c = differ (if_passes h _ _ _ _ (tests_of_found h _ _ _ _ (found_if_close h x y e r u from to some c))) t
-  where
-    differ : {b : Bool} → b ≡ true → b ≡ false → ⊥
-    differ p q = cc
+edge_is_clear h x y e t r u from to some c = both_ways _ t (if_passes h _ _ _ _ (tests_of_found h _ _ _ _ (found_if_close h x y e r u from to some c)))

@@ -13,16 +13,14 @@ use Rattle.scad_geom.proofs.Crossing.{passage, side_of, crossing, crossings, sca
 use Rattle.scad_geom.proofs.Ring.{ring, num, ◌⊖◌, ◌⊗◌, v0, v1, v2, v3, v4, v5, v6}
 use Rattle.scad_geom.proofs.Integers.{mul_assoc}
 use Rattle.scad_geom.proofs.Turns.{beyond_mul}
-
-times_one : (y : ℤ) → y *ℤ pos 1 ≡ y
-times_one y = omega (arith, ints)
+use Rattle.scad_geom.proofs.Signs.{mul-one}
 
 -- the side of a whole point
 pub side_of_wholes : (p a b : Pt) → (b.x -ℤ a.x) *ℤ (p.y -ℤ a.y) -ℤ (b.y -ℤ a.y) *ℤ (p.x -ℤ a.x) ≡ side_by (whole p) (whole a) (whole b)
 unfolding side_by
-side_of_wholes p a b = sym (rw (times_one a.x, times_one a.y, times_one b.x, times_one b.y, times_one p.x, times_one p.y) refl)
+side_of_wholes p a b = sym (rw (mul-one a.x, mul-one a.y, mul-one b.x, mul-one b.y, mul-one p.x, mul-one p.y) refl)
 
-beyond_is : (z : ℤ) → is_beyond true z ≡ int_lt (pos 0) z
+pub beyond_is : (z : ℤ) → is_beyond true z ≡ int_lt (pos 0) z
 unfolding is_beyond
 beyond_is z = refl
 
@@ -44,7 +42,7 @@ scaled_side ax ay bx by x y d = ring (ax ∷ ay ∷ bx ∷ by ∷ x ∷ y ∷ d 
 
 over_scaled : (p : Point) (a : Pt) → is_over true p (whole a) ≡ int_lt p.y (p.d *ℤ a.y)
 unfolding is_over
-over_scaled p a = ap₂ int_lt (times_one p.y) (*ℤ_comm a.y p.d)
+over_scaled p a = ap₂ int_lt (mul-one p.y) (*ℤ_comm a.y p.d)
 
 side_scaled : (p : Point) (e : Edge) → side_of (scaled p.d e) p.x p.y ≡ side_by p (whole e.a) (whole e.b) *ℤ p.d
 unfolding side_by

@@ -21,6 +21,7 @@ use Rattle.scad_base.proofs.Products.{positive_product}
 use Rattle.scad_geom.proofs.Signs.{at_least_mul, pos_left, at_least_left}
 use Rattle.scad_geom.proofs.Lines.{low_by, high_by}
 use Rattle.scad_geom.proofs.Integers.{neg_mul}
+use Rattle.std.proofs.lemmas.Bool.{true≢false}
 
 chain : (a p b q c r : ℤ) → (c *ℤ p -ℤ a *ℤ r) *ℤ q ≡ (c *ℤ q -ℤ b *ℤ r) *ℤ p +ℤ (b *ℤ p -ℤ a *ℤ q) *ℤ r
 chain a p b q c r = ring (a ∷ p ∷ b ∷ q ∷ c ∷ r ∷ []) ((v4 ⊗ v1 ⊖ v0 ⊗ v5) ⊗ v3) ((v4 ⊗ v3 ⊖ v2 ⊗ v5) ⊗ v1 ⊕ (v2 ⊗ v1 ⊖ v0 ⊗ v3) ⊗ v5) refl
@@ -59,6 +60,21 @@ same_at_most p q h = omega (arith, ints)
 
 pub same_height : (p q : Level) → IsAtMost p q → IsAtMost q p → IsSameHeight p q
 same_height p q h k = omega (arith, ints)
+
+pub same_chain : (p q r : Level) → pos 0 <ℤ p.d → pos 0 <ℤ q.d → pos 0 <ℤ r.d → IsSameHeight p q → IsSameHeight q r → IsSameHeight p r
+same_chain p q r dp dq dr h k =
+    same_height p r
+    (at_most_chain p q r dp dq dr (same_at_least p q h) (same_at_least q r k))
+    (at_most_chain r q p dr dq dp (same_at_most q r k) (same_at_most p q h))
+
+pub same_lower : (p q r : Level) → pos 0 <ℤ p.d → pos 0 <ℤ q.d → pos 0 <ℤ r.d → IsSameHeight p q → IsLower q r → IsLower p r
+same_lower p q r dp dq dr h k = at_most_then_lower p q r dp dq dr (same_at_least p q h) k
+
+pub lower_same : (p q r : Level) → pos 0 <ℤ p.d → pos 0 <ℤ q.d → pos 0 <ℤ r.d → IsLower p q → IsSameHeight q r → IsLower p r
+lower_same p q r dp dq dr h k = lower_then_at_most p q r dp dq dr h (same_at_least q r k)
+
+pub lower_chain : (p q r : Level) → pos 0 <ℤ p.d → pos 0 <ℤ q.d → pos 0 <ℤ r.d → IsLower p q → IsLower q r → IsLower p r
+lower_chain p q r dp dq dr h k = lower_then_at_most p q r dp dq dr h (lower_weak q r k)
 
 -- ---- two edges that meet
 -- an edge that isn't flat and whose ends lie outside two heights or at them
@@ -178,10 +194,7 @@ meeting_turned e f a =
 
 -- ---- the divisors of heights are positive
 meeting_divisor : (a : ℤ) → (is_zero a ≡ false) → pos 0 <ℤ (cond (int_lt (pos 0) a) a (neg_ℤ a))
-meeting_divisor (pos zero) h = absurd (differ h)
-  where
-    differ : true ≡ false → ⊥
-    differ h = cc
+meeting_divisor (pos zero) h = absurd (true≢false h)
 meeting_divisor (pos (suc n)) h = let p : int_lt (pos 0) (pos (suc n)) ≡ true = sym (omega (arith, ints)) in rw p (omega (arith, ints))
 meeting_divisor (negsuc n) h = omega (arith, ints)
 

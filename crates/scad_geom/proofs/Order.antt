@@ -1,7 +1,7 @@
 -- Between two neighbouring heights the order of edges stays as it is.
 use Rattle.std.proofs.Common.{◌≡◌, ℕ, zero, suc, ◌<◌, ◌⊎◌, inl, inr, Bool, true, false, List, [], ◌∷◌, ◌++◌, length, get_or, refl, sym, ap, ◌∙◌, arith, subst}
 use Rattle.scad_base.proofs.Products.{negative_factor}
-use lib.IntN.{ℤ, pos, negsuc, ◌+ℤ◌, ◌-ℤ◌, ◌*ℤ◌, neg_ℤ, zero-*ℤ}
+use lib.IntN.{ℤ, pos, negsuc, ◌+ℤ◌, ◌-ℤ◌, ◌*ℤ◌, zero-*ℤ}
 use lib.Signed.{◌<ℤ◌, ◌≤ℤ◌}
 use Rattle.std.specs.Prelude.{if◌then◌else◌}
 use Rattle.std.specs.List.{AllByRecursion}
@@ -16,8 +16,8 @@ use Rattle.scad_geom.specs.Meeting.{meets, meeting}
 use Rattle.scad_geom.specs.Heights.{meetings, heights, AreNeighbours}
 use Rattle.scad_geom.specs.EdgeOrder.{IsBefore, AreAligned}
 use Rattle.scad_geom.proofs.Ring.{ring, ◌⊕◌, ◌⊖◌, ◌⊗◌, v0, v1, v2, v3, v4, v5}
-use Rattle.scad_base.proofs.Products.{positive_product, negative_product}
-use Rattle.scad_geom.proofs.Signs.{at_least_mul, pos_left, at_least_left, at_most_mul}
+use Rattle.scad_base.proofs.Products.{positive_product, negative_product, zero_factor}
+use Rattle.scad_geom.proofs.Signs.{at_least_mul, pos_left, at_most_mul}
 use Rattle.scad_geom.proofs.Integers.{neg_mul}
 use Rattle.scad_geom.proofs.Lines.{gap_is}
 use Rattle.scad_geom.proofs.Heights.{Reaches, meeting_up, meets_between, meets_turned, meeting_is, meeting_turned, lower_then_at_most, at_most_then_lower}
@@ -59,7 +59,7 @@ all_ends P (e ∷ es) zero d h l = (h.0, h.1.0)
 all_ends P (e ∷ es) (suc i) d h l = all_ends P es i d (back P (meetings e.edge es) (heights es) h.1.1) (omega arith)
 
 -- ---- no two edges meet between neighbouring heights
-apart_levels : (p q : Level) → IsLower p q → IsAtMost q p → ⊥
+pub apart_levels : (p q : Level) → IsLower p q → IsAtMost q p → ⊥
 apart_levels p q h k = omega (arith, ints)
 
 lean_self : (e : Edge) → pos 0 <ℤ lean e e → ⊥
@@ -197,7 +197,7 @@ aligned_all l dl e f a n d =
     let a1 = a.1 in
     let z : lean e f ≡ pos 0 = omega (arith, ints) in
     let w : apart e f *ℤ l.d ≡ pos 0 = zero_then (lean e f) l.n (apart e f *ℤ l.d) z (omega (arith, ints)) in
-    let v : apart e f ≡ pos 0 = cancel (apart e f) l.d dl w in
+    let v : apart e f ≡ pos 0 = zero_factor (apart e f) l.d dl w in
     let t : lean e f *ℤ n +ℤ apart e f *ℤ d ≡ pos 0 = both_zero (lean e f) (apart e f) n d z v in
     omega (arith, ints)
   where
@@ -206,10 +206,3 @@ aligned_all l dl e f a n d =
 
     both_zero : (a b n d : ℤ) → a ≡ pos 0 → b ≡ pos 0 → a *ℤ n +ℤ b *ℤ d ≡ pos 0
     both_zero a b n d h k = rw (h, k, zero-*ℤ n, zero-*ℤ d)
-
-    cancel : (a r : ℤ) → pos 0 <ℤ r → a *ℤ r ≡ pos 0 → a ≡ pos 0
-    cancel a r p h =
-        let x = at_least_left a r p (omega (arith, ints)) in
-        let y : pos 0 ≤ℤ (neg_ℤ a *ℤ r) = rw neg_mul (omega (arith, ints)) in
-        let z = at_least_left (neg_ℤ a) r p y in
-        omega (arith, ints)

@@ -1,29 +1,10 @@
 -- Identities of polynomials over whole numbers, by a normal form that computes.
-use Rattle.std.proofs.Common.{◌≡◌, ℕ, zero, suc, ◌+◌, ◌*◌, Bool, true, false, List, [], ◌∷◌, ℤ, pos, negsuc, neg_ℤ, ◌+ℤ◌, ◌-ℤ◌, ◌*ℤ◌, arith, refl, ap, sym, ◌∙◌, ap₂, nat_lt, ◌==◌, cond}
+use Rattle.std.proofs.Common.{◌≡◌, ℕ, zero, suc, Bool, true, false, List, [], ◌∷◌, ℤ, pos, negsuc, ◌+ℤ◌, ◌-ℤ◌, ◌*ℤ◌, arith, refl, ap, sym, ◌∙◌, ap₂, nat_lt, ◌==◌, cond}
 use Rattle.std.proofs.lemmas.Int.{ints}
 use Rattle.std.proofs.Math.IntN.{+ℤ_assoc, *ℤ_comm}
-use borrow.Author.Differences.{up, down}
 use borrow.Author.Tests.{eqb-true}
-
--- a sum and a product, told by differences of natural numbers
-sum_rel : (a b : ℤ) → up (a +ℤ b) + (down a + down b) ≡ down (a +ℤ b) + (up a + up b)
-sum_rel a b = omega (arith, ints)
-
-product_rel : (a b : ℤ) → up (a *ℤ b) + (up a * down b + down a * up b) ≡ down (a *ℤ b) + (up a * up b + down a * down b)
-product_rel a b = omega (arith, ints)
-
-pub *ℤ-+ℤ : (a b c : ℤ) → (a +ℤ b) *ℤ c ≡ a *ℤ c +ℤ b *ℤ c
-*ℤ-+ℤ a b c = omega (arith, ints, ap (λ n. n * up c) (sum_rel a b), ap (λ n. n * down c) (sum_rel a b))
-
-pub *ℤ_assoc : (a b c : ℤ) → (a *ℤ b) *ℤ c ≡ a *ℤ (b *ℤ c)
-*ℤ_assoc a b c = omega (arith, ints, ap (λ n. n * up c) (product_rel a b), ap (λ n. n * down c) (product_rel a b), ap (λ n. up a * n) (product_rel b c), ap (λ n. down a * n) (product_rel b c))
-
-pub neg-*ℤ : (a b : ℤ) → neg_ℤ a *ℤ b ≡ neg_ℤ (a *ℤ b)
-neg-*ℤ (pos zero) b = omega (arith, ints)
-neg-*ℤ (pos (suc a)) (pos b) = omega (arith, ints)
-neg-*ℤ (pos (suc a)) (negsuc b) = omega (arith, ints)
-neg-*ℤ (negsuc a) (pos b) = omega (arith, ints)
-neg-*ℤ (negsuc a) (negsuc b) = omega (arith, ints)
+use Rattle.scad_geom.proofs.Integers.{add_mul, mul_assoc}
+use Rattle.scad_geom.specs.Sign.{is_zero}
 
 -- an expression over numbered variables
 pub data Term : Type 0 where
@@ -79,11 +60,6 @@ is_before [] ks = true
 is_before (j ∷ js) [] = false
 is_before (j ∷ js) (k ∷ ks) = cond (nat_lt j k) true (cond (nat_lt k j) false (is_before js ks))
 
-abbrev pub is_zero : ℤ → Bool
-is_zero (pos zero) = true
-is_zero (pos (suc n)) = false
-is_zero (negsuc n) = false
-
 abbrev pub kept : ℤ → List ℕ → Sum → Sum
 kept c ks s = cond (is_zero c) s (more c ks s)
 
@@ -117,19 +93,22 @@ swap_terms a b c = omega (arith, ints)
 minus_once : (a b : ℤ) → a +ℤ (negsuc 0 *ℤ pos 1) *ℤ b ≡ a -ℤ b
 minus_once a b = omega (arith, ints)
 
+pub crossed : (a b c d : ℤ) → (a *ℤ b) *ℤ (c *ℤ d) ≡ (a *ℤ c) *ℤ (b *ℤ d)
+crossed a b c d =
+    mul_assoc a b (c *ℤ d)
+    ∙ ap (λ z. a *ℤ z) (sym (mul_assoc b c d) ∙ ap (λ z. z *ℤ d) (*ℤ_comm b c) ∙ mul_assoc c b d)
+    ∙ sym (mul_assoc a c (b *ℤ d))
+
 spread : (c x d y s : ℤ) → (c *ℤ d) *ℤ (x *ℤ y) +ℤ (c *ℤ x) *ℤ s ≡ (c *ℤ x) *ℤ (d *ℤ y +ℤ s)
 spread c x d y s =
     ap (λ z. z +ℤ (c *ℤ x) *ℤ s) (crossed c d x y)
     ∙ sym (ap₂ (λ u v. u +ℤ v) (*ℤ_comm (d *ℤ y) (c *ℤ x)) (*ℤ_comm s (c *ℤ x)))
-    ∙ sym (*ℤ-+ℤ (d *ℤ y) s (c *ℤ x))
+    ∙ sym (add_mul (d *ℤ y) s (c *ℤ x))
     ∙ *ℤ_comm (d *ℤ y +ℤ s) (c *ℤ x)
-  where
-    crossed : (a b d' e : ℤ) → (a *ℤ b) *ℤ (d' *ℤ e) ≡ (a *ℤ d') *ℤ (b *ℤ e)
-    crossed a b d' e = *ℤ_assoc a b (d' *ℤ e) ∙ ap (λ z. a *ℤ z) (sym (*ℤ_assoc b d' e) ∙ ap (λ z. z *ℤ e) (*ℤ_comm b d') ∙ *ℤ_assoc d' b e) ∙ sym (*ℤ_assoc a d' (b *ℤ e))
 
 module _ (xs : List ℤ) where
   swap_factors : (a b c : ℤ) → a *ℤ (b *ℤ c) ≡ b *ℤ (a *ℤ c)
-  swap_factors a b c = sym (*ℤ_assoc a b c) ∙ ap (λ z. z *ℤ c) (*ℤ_comm a b) ∙ *ℤ_assoc b a c
+  swap_factors a b c = sym (mul_assoc a b c) ∙ ap (λ z. z *ℤ c) (*ℤ_comm a b) ∙ mul_assoc b a c
 
   with_factor-worth : (j : ℕ) (ks : List ℕ) → factors_worth xs (with_factor j ks) ≡ value_at xs j *ℤ factors_worth xs ks
   with_factor-worth j [] = refl
@@ -144,7 +123,7 @@ module _ (xs : List ℤ) where
   with_factors-worth (j ∷ js) ks =
       with_factor-worth j (with_factors js ks)
       ∙ ap (λ z. value_at xs j *ℤ z) (with_factors-worth js ks)
-      ∙ sym (*ℤ_assoc (value_at xs j) (factors_worth xs js) (factors_worth xs ks))
+      ∙ sym (mul_assoc (value_at xs j) (factors_worth xs js) (factors_worth xs ks))
 
   same_factors : (js ks : List ℕ) → is_same js ks ≡ true → factors_worth xs js ≡ factors_worth xs ks
   same_factors [] [] h = refl
@@ -166,7 +145,7 @@ module _ (xs : List ℤ) where
   with_product-worth c js (more d ks s) =
       let tail = with_product-worth c js s in
       elim (is_same js ks) as (λ b. (is_same js ks ≡ b) → sum_worth xs (cond b (kept (c +ℤ d) ks s) (cond (is_before js ks) (more c js (more d ks s)) (more d ks (with_product c js s)))) ≡ c *ℤ factors_worth xs js +ℤ (d *ℤ factors_worth xs ks +ℤ sum_worth xs s)) [
-        | true ↦ (λ e. kept-worth (c +ℤ d) ks s ∙ ap (λ z. z +ℤ sum_worth xs s) (*ℤ-+ℤ c d (factors_worth xs ks)) ∙ +ℤ_assoc (c *ℤ factors_worth xs ks) (d *ℤ factors_worth xs ks) (sum_worth xs s) ∙ ap (λ z. c *ℤ z +ℤ (d *ℤ factors_worth xs ks +ℤ sum_worth xs s)) (sym (same_factors js ks e)))
+        | true ↦ (λ e. kept-worth (c +ℤ d) ks s ∙ ap (λ z. z +ℤ sum_worth xs s) (add_mul c d (factors_worth xs ks)) ∙ +ℤ_assoc (c *ℤ factors_worth xs ks) (d *ℤ factors_worth xs ks) (sum_worth xs s) ∙ ap (λ z. c *ℤ z +ℤ (d *ℤ factors_worth xs ks +ℤ sum_worth xs s)) (sym (same_factors js ks e)))
         | false ↦ (λ e. elim (is_before js ks) as (λ b. sum_worth xs (cond b (more c js (more d ks s)) (more d ks (with_product c js s))) ≡ c *ℤ factors_worth xs js +ℤ (d *ℤ factors_worth xs ks +ℤ sum_worth xs s)) [
           | true ↦ refl
           | false ↦ ap (λ z. d *ℤ factors_worth xs ks +ℤ z) tail ∙ swap_terms (d *ℤ factors_worth xs ks) (c *ℤ factors_worth xs js) (sum_worth xs s)
@@ -192,7 +171,7 @@ module _ (xs : List ℤ) where
   product_of-worth (more c js s) t =
       sum_of-worth (scaled c js t) (product_of s t)
       ∙ ap₂ (λ y z. y +ℤ z) (scaled-worth c js t) (product_of-worth s t)
-      ∙ sym (*ℤ-+ℤ (c *ℤ factors_worth xs js) (sum_worth xs s) (sum_worth xs t))
+      ∙ sym (add_mul (c *ℤ factors_worth xs js) (sum_worth xs s) (sum_worth xs t))
 
   normal-worth : (a : Term) → sum_worth xs (normal a) ≡ worth xs a
   normal-worth (num z) = kept-worth z [] none ∙ (omega (arith, ints))
@@ -205,8 +184,8 @@ module _ (xs : List ℤ) where
   normal-worth (times a b) = product_of-worth (normal a) (normal b) ∙ ap₂ (λ y z. y *ℤ z) (normal-worth a) (normal-worth b)
 
   -- expressions that are the same when multiplied out are worth the same
-  pub solve : (a b : Term) → normal a ≡ normal b → worth xs a ≡ worth xs b
-  solve a b e = sym (normal-worth a) ∙ ap (sum_worth xs) e ∙ normal-worth b
+  pub ring : (a b : Term) → normal a ≡ normal b → worth xs a ≡ worth xs b
+  ring a b e = sym (normal-worth a) ∙ ap (sum_worth xs) e ∙ normal-worth b
 
 -- the same in symbols, for identities over many variables
 infixl 65 ◌⊕◌
@@ -220,9 +199,6 @@ a ⊖ b = less a b
 
 abbrev pub ◌⊗◌ : Term → Term → Term
 a ⊗ b = times a b
-
-pub ring : (xs : List ℤ) (a b : Term) → normal a ≡ normal b → worth xs a ≡ worth xs b
-ring = solve
 
 abbrev pub v0 : Term
 v0 = var 0

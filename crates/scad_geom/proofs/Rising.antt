@@ -66,6 +66,9 @@ order a b = by_test (int_le a b) refl
     by_test true q = inl (omega (arith, ints))
     by_test false q = inr (omega (arith, ints))
 
+swapped : (ax ay bx by : ℤ) → by *ℤ ax -ℤ ay *ℤ bx ≡ pos 0 -ℤ (bx *ℤ ay -ℤ ax *ℤ by)
+swapped ax ay bx by = ring (ax ∷ ay ∷ bx ∷ by ∷ []) (v3 ⊗ v0 ⊖ v1 ⊗ v2) (num (pos 0) ⊖ (v2 ⊗ v1 ⊖ v0 ⊗ v3)) refl
+
 -- where the way is left of the square at its start, it enters at the left side, or else at the lower one
 past_left : (w ax ay bx by : ℤ) → pos 0 ≤ℤ w → ax ≤ℤ bx → ay ≤ℤ by → Passes w ax ay bx by → ax <ℤ (pos 0 -ℤ w) → Found w ax ay bx by
 past_left w ax ay bx by some rx ry p out =
@@ -98,9 +101,6 @@ past_left w ax ay bx by some rx ry p out =
           }
     ]
   where
-    swapped : (ax ay bx by : ℤ) → by *ℤ ax -ℤ ay *ℤ bx ≡ pos 0 -ℤ (bx *ℤ ay -ℤ ax *ℤ by)
-    swapped ax ay bx by = ring (ax ∷ ay ∷ bx ∷ by ∷ []) (v3 ⊗ v0 ⊖ v1 ⊗ v2) (num (pos 0) ⊖ (v2 ⊗ v1 ⊖ v0 ⊗ v3)) refl
-
     rest_is : (w ax ay bx by : ℤ) → (ay +ℤ w) *ℤ (bx -ℤ ax) ≡ ((bx *ℤ ay -ℤ ax *ℤ by) -ℤ w *ℤ (by -ℤ ay)) +ℤ w *ℤ (bx -ℤ ax) -ℤ ((pos 0 -ℤ w) -ℤ ax) *ℤ (by -ℤ ay)
     rest_is w ax ay bx by = ring (w ∷ ax ∷ ay ∷ bx ∷ by ∷ []) ((v2 ⊕ v0) ⊗ (v3 ⊖ v1)) (((v3 ⊗ v2 ⊖ v1 ⊗ v4) ⊖ v0 ⊗ (v4 ⊖ v2)) ⊕ v0 ⊗ (v3 ⊖ v1) ⊖ ((num (pos 0) ⊖ v0) ⊖ v1) ⊗ (v4 ⊖ v2)) refl
 
@@ -132,9 +132,6 @@ past_below w ax ay bx by some rx ry p inside out =
       y = at_side w ay by ny;
     }
   where
-    swapped : (ax ay bx by : ℤ) → by *ℤ ax -ℤ ay *ℤ bx ≡ pos 0 -ℤ (bx *ℤ ay -ℤ ax *ℤ by)
-    swapped ax ay bx by = ring (ax ∷ ay ∷ bx ∷ by ∷ []) (v3 ⊗ v0 ⊖ v1 ⊗ v2) (num (pos 0) ⊖ (v2 ⊗ v1 ⊖ v0 ⊗ v3)) refl
-
     parts_are : (w ax ay bx by : ℤ) → (ax +ℤ w) *ℤ (by -ℤ ay) +ℤ ((pos 0 -ℤ w) -ℤ ay) *ℤ (bx -ℤ ax) ≡ (pos 0 -ℤ (bx *ℤ ay -ℤ ax *ℤ by)) -ℤ w *ℤ (bx -ℤ ax) +ℤ w *ℤ (by -ℤ ay)
     parts_are w ax ay bx by = ring (w ∷ ax ∷ ay ∷ bx ∷ by ∷ []) ((v1 ⊕ v0) ⊗ (v4 ⊖ v2) ⊕ ((num (pos 0) ⊖ v0) ⊖ v2) ⊗ (v3 ⊖ v1)) ((num (pos 0) ⊖ (v3 ⊗ v2 ⊖ v1 ⊗ v4)) ⊖ v0 ⊗ (v3 ⊖ v1) ⊕ v0 ⊗ (v4 ⊖ v2)) refl
 

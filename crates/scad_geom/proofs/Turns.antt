@@ -14,7 +14,7 @@ use Rattle.scad_geom.specs.Winding.{counted, is_over, passage_by, side_by, is_be
 use Rattle.scad_geom.specs.Level.{level_of, IsLower, IsAtMost}
 use Rattle.scad_geom.proofs.Ring.{ring, num, ◌⊕◌, ◌⊖◌, ◌⊗◌, v0, v1, v2, v3, v4, v5, v6}
 use Rattle.scad_base.proofs.Products.{positive_product, negative_product}
-use Rattle.scad_geom.proofs.Signs.{at_least_mul, at_most_mul}
+use Rattle.scad_geom.proofs.Signs.{at_least_mul, at_most_mul, one-mul, minus_one-mul}
 use Rattle.scad_geom.proofs.Heights.{Reaches, lower_then_at_most, at_most_then_lower, at_most_chain}
 
 -- the height of a point
@@ -63,19 +63,13 @@ flat_turn above right p a b e = rw e (by_both (is_over above p b) (is_beyond rig
     by_both false true = refl
     by_both false false = refl
 
-one_mul : (z : ℤ) → pos 1 *ℤ z ≡ z
-one_mul z = omega (arith, ints)
-
-minus_mul : (z : ℤ) → negsuc 0 *ℤ z ≡ neg_ℤ z
-minus_mul z = omega (arith, ints)
-
 pub rising_turn : (above right : Bool) (p a b : Point) → is_over above p a ≡ false → is_over above p b ≡ true → turn above right p a b ≡ (if is_beyond right (side_by p a b) then pos 1 else pos 0)
 unfolding turn passage_by
-rising_turn above right p a b e f = rw (e, f, one_mul (side_by p a b))
+rising_turn above right p a b e f = rw (e, f, one-mul (side_by p a b))
 
 pub falling_turn : (above right : Bool) (p a b : Point) → is_over above p a ≡ true → is_over above p b ≡ false → turn above right p a b ≡ (if is_beyond right (neg_ℤ (side_by p a b)) then negsuc 0 else pos 0)
 unfolding turn passage_by
-falling_turn above right p a b e f = rw (e, f, minus_mul (side_by p a b))
+falling_turn above right p a b e f = rw (e, f, minus_one-mul (side_by p a b))
 
 -- a positive factor doesn't matter
 pub beyond_mul : (right : Bool) (k z : ℤ) → pos 0 <ℤ k → is_beyond right (z *ℤ k) ≡ is_beyond right z

@@ -7,7 +7,6 @@ use Rattle.scad_grammar.specs.PrintedItems.{items_onto}
 use Rattle.scad_grammar.specs.Promises.{OneProgram, ReadsWhatIsDerived, StandsWhereAProgramBegins, JudgesAsTheGrammar}
 use Rattle.scad_grammar.specs.Promises.{EndsExcludeNothing, PrintedTokensDerive, PrintedTextDerives}
 use Rattle.scad_grammar.specs.Promises.{PrintedSourceDerives}
-use Rattle.scad_grammar.proofs.reader.Asked.{same_some}
 use Rattle.scad_grammar.proofs.reader.Statements.{runs_program}
 use Rattle.scad_grammar.proofs.reader.Sound.{sound_program}
 use Rattle.scad_grammar.proofs.reader.Prefix.{reached_begins, begins_reached}
@@ -20,9 +19,10 @@ use Rattle.scad_grammar.proofs.printing.Alike.{alike_of_kinds}
 use Rattle.scad_grammar.proofs.printing.AlikeItems.{derives_alike}
 use Rattle.scad_grammar.proofs.printing.Reread.{printed_text_read}
 use Rattle.scad_grammar.proofs.printing.Unplaced.{unplaced_twice}
+use Rattle.std.proofs.lemmas.Option.{same_Some}
 
 pub one_program : OneProgram
-one_program ts p q d e = same_some p q (sym (runs_program d) ∙ runs_program e)
+one_program ts p q d e = same_Some p q (sym (runs_program d) ∙ runs_program e)
 
 pub reads_what_is_derived : ReadsWhatIsDerived
 reads_what_is_derived ts p = (sound_program ts p, runs_program)

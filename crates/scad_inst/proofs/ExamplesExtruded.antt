@@ -1,129 +1,97 @@
--- Worked examples of flat shapes and extrusions that are refused, each under its source. Expected values come from an
--- independent program.
-use Rattle.std.proofs.Common.{◌≡◌, pos, true, false, [], ◌∷◌, Some, None, refl}
+-- Worked examples of extruded shapes, each under its source. Expected values come from an independent program.
+use Rattle.std.proofs.Common.{◌≡◌, pos, negsuc, true, false, [], ◌∷◌, Some, None, refl}
 use Rattle.std.specs.Prelude.{codes}
-use Rattle.scad_fault.specs.declared.fault.FaultKind.TheVariants.{BadArgument, CoordinateRange, LeftOut, MixedDimensions, NumberRange}
-use Rattle.scad_fault.specs.declared.budget.BudgetKind.TheVariants.{Triangles}
 use Rattle.scad_ast.specs.declared.operator.UnOp.TheVariants.{Minus}
 use Rattle.scad_ast.specs.Tree.{no_arguments, argument, no_elements, element, item, no_items, entry, call_of}
-use Rattle.scad_ast.specs.Tree.{boolean as boolean_at, number as number_at, string as string_at, vector as vector_at, unary as unary_at}
+use Rattle.scad_ast.specs.Tree.{boolean as boolean_at, number as number_at, vector as vector_at, unary as unary_at}
 use Rattle.scad_inst.proofs.OnLiterals.{statements_on_literals}
-use Rattle.scad_inst.proofs.ExampleWords.{at, faulted, passed, shown}
+use Rattle.scad_inst.proofs.ExampleWords.{at, point, Leaf, Difference, made, shown}
 
--- square(1);
-square_outside : shown (entry (call_of (at 1) false false (codes "square") (argument None (number_at (at 8)
-    (pos 1000000)) no_arguments) no_items) no_items) ≡ faulted MixedDimensions (at 1) [] []
+-- linear_extrude(2) square([3,4],center=true);
+a_prism : shown (entry (call_of (at 1) false false (codes "linear_extrude") (argument None (number_at (at 16)
+    (pos 2000000)) no_arguments) (entry (call_of (at 19) false false (codes "square") (argument None (vector_at
+    (at 26) (element (item (number_at (at 27) (pos 3000000))) (element (item (number_at (at 29) (pos 4000000)))
+    no_elements))) (argument (Some (codes "center")) (boolean_at (at 39) true) no_arguments)) no_items) no_items))
+    no_items) ≡ made 9 1 12 [] ((Leaf 0 12 (point (negsuc 1499) (negsuc 1999) (pos 0)) (point (pos 1500) (pos
+    2000) (pos 2000))) ∷ [])
 unfolding statements_on_literals
-square_outside = refl
+a_prism = refl
 
--- linear_extrude(1) cube(1);
-cube_inside : shown (entry (call_of (at 1) false false (codes "linear_extrude") (argument None (number_at (at
-    16) (pos 1000000)) no_arguments) (entry (call_of (at 19) false false (codes "cube") (argument None (number_at
-    (at 24) (pos 1000000)) no_arguments) no_items) no_items)) no_items) ≡ faulted MixedDimensions (at 19) [] []
+-- linear_extrude(height=3.000001,center=true) circle(1,$fn=3);
+a_prism_downwards_and_upwards : shown (entry (call_of (at 1) false false (codes "linear_extrude") (argument
+    (Some (codes "height")) (number_at (at 23) (pos 3000001)) (argument (Some (codes "center")) (boolean_at (at
+    39) true) no_arguments)) (entry (call_of (at 45) false false (codes "circle") (argument None (number_at (at
+    52) (pos 1000000)) (argument (Some (codes "$fn")) (number_at (at 58) (pos 3000000)) no_arguments)) no_items)
+    no_items)) no_items) ≡ made 6 1 8 [] ((Leaf 0 8 (point (negsuc 499) (negsuc 865) (negsuc 1499)) (point (pos
+    1000) (pos 866) (pos 1500))) ∷ [])
 unfolding statements_on_literals
-cube_inside = refl
+a_prism_downwards_and_upwards = refl
 
--- rotate_extrude() linear_extrude(v=1) square(1);
-extrusion_inside : shown (entry (call_of (at 1) false false (codes "rotate_extrude") no_arguments (entry
-    (call_of (at 18) false false (codes "linear_extrude") (argument (Some (codes "v")) (number_at (at 35) (pos
-    1000000)) no_arguments) (entry (call_of (at 38) false false (codes "square") (argument None (number_at (at 45)
-    (pos 1000000)) no_arguments) no_items) no_items)) no_items)) no_items) ≡ faulted MixedDimensions (at 18) [] []
+-- linear_extrude(1) translate([1,2,9]) square(1);
+z_stays_inside_linear_extrude : shown (entry (call_of (at 1) false false (codes "linear_extrude") (argument
+    None (number_at (at 16) (pos 1000000)) no_arguments) (entry (call_of (at 19) false false (codes "translate")
+    (argument None (vector_at (at 29) (element (item (number_at (at 30) (pos 1000000))) (element (item (number_at
+    (at 32) (pos 2000000))) (element (item (number_at (at 34) (pos 9000000))) no_elements)))) no_arguments) (entry
+    (call_of (at 38) false false (codes "square") (argument None (number_at (at 45) (pos 1000000)) no_arguments)
+    no_items) no_items)) no_items)) no_items) ≡ made 12 1 12 [] ((Leaf 0 12 (point (pos 1000) (pos 2000) (pos 0))
+    (point (pos 2000) (pos 3000) (pos 1000))) ∷ [])
 unfolding statements_on_literals
-extrusion_inside = refl
+z_stays_inside_linear_extrude = refl
 
--- square("a");
-mixed_before_bad_argument : shown (entry (call_of (at 1) false false (codes "square") (argument None
-    (string_at (at 8) (codes "a")) no_arguments) no_items) no_items) ≡ faulted MixedDimensions (at 1) [] []
-unfolding statements_on_literals
-mixed_before_bad_argument = refl
-
--- linear_extrude(height=-1,twist=1) square(1);
-twisted_before_bad_height : shown (entry (call_of (at 1) false false (codes "linear_extrude") (argument (Some
-    (codes "height")) (unary_at (at 23) Minus (number_at (at 24) (pos 1000000))) (argument (Some (codes "twist"))
-    (number_at (at 32) (pos 1000000)) no_arguments)) (entry (call_of (at 35) false false (codes "square")
-    (argument None (number_at (at 42) (pos 1000000)) no_arguments) no_items) no_items)) no_items) ≡ faulted
-    LeftOut (at 1) (codes "linear_extrude") []
-unfolding statements_on_literals
-twisted_before_bad_height = refl
-
--- rotate_extrude(angle=1,$fn="x");
-angle_before_bad_fragments : shown (entry (call_of (at 1) false false (codes "rotate_extrude") (argument (Some
-    (codes "angle")) (number_at (at 22) (pos 1000000)) (argument (Some (codes "$fn")) (string_at (at 28) (codes
-    "x")) no_arguments)) no_items) no_items) ≡ faulted LeftOut (at 1) (codes "rotate_extrude") []
-unfolding statements_on_literals
-angle_before_bad_fragments = refl
-
--- rotate_extrude($fn="x") square("a");
-turns_before_children : shown (entry (call_of (at 1) false false (codes "rotate_extrude") (argument (Some
-    (codes "$fn")) (string_at (at 20) (codes "x")) no_arguments) (entry (call_of (at 25) false false (codes
-    "square") (argument None (string_at (at 32) (codes "a")) no_arguments) no_items) no_items)) no_items) ≡
-    faulted BadArgument (at 1) (codes "rotate_extrude") []
-unfolding statements_on_literals
-turns_before_children = refl
-
--- linear_extrude(1) polygon([[0,0],[1,0],[0,1]],[0,1,3]);
-path_past_the_points : shown (entry (call_of (at 1) false false (codes "linear_extrude") (argument None
+-- linear_extrude(1) polygon([[0,0],[9,0],[9,9],[1,1],[2,1],[2,2]],[[0,1,2],[3,4,5]]);
+a_polygon_with_a_hole : shown (entry (call_of (at 1) false false (codes "linear_extrude") (argument None
     (number_at (at 16) (pos 1000000)) no_arguments) (entry (call_of (at 19) false false (codes "polygon")
     (argument None (vector_at (at 27) (element (item (vector_at (at 28) (element (item (number_at (at 29) (pos
     0))) (element (item (number_at (at 31) (pos 0))) no_elements)))) (element (item (vector_at (at 34) (element
-    (item (number_at (at 35) (pos 1000000))) (element (item (number_at (at 37) (pos 0))) no_elements)))) (element
-    (item (vector_at (at 40) (element (item (number_at (at 41) (pos 0))) (element (item (number_at (at 43) (pos
-    1000000))) no_elements)))) no_elements)))) (argument None (vector_at (at 47) (element (item (number_at (at 48)
-    (pos 0))) (element (item (number_at (at 50) (pos 1000000))) (element (item (number_at (at 52) (pos 3000000)))
-    no_elements)))) no_arguments)) no_items) no_items)) no_items) ≡ faulted BadArgument (at 19) (codes "polygon")
-    []
+    (item (number_at (at 35) (pos 9000000))) (element (item (number_at (at 37) (pos 0))) no_elements)))) (element
+    (item (vector_at (at 40) (element (item (number_at (at 41) (pos 9000000))) (element (item (number_at (at 43)
+    (pos 9000000))) no_elements)))) (element (item (vector_at (at 46) (element (item (number_at (at 47) (pos
+    1000000))) (element (item (number_at (at 49) (pos 1000000))) no_elements)))) (element (item (vector_at (at 52)
+    (element (item (number_at (at 53) (pos 2000000))) (element (item (number_at (at 55) (pos 1000000)))
+    no_elements)))) (element (item (vector_at (at 58) (element (item (number_at (at 59) (pos 2000000))) (element
+    (item (number_at (at 61) (pos 2000000))) no_elements)))) no_elements))))))) (argument None (vector_at (at 65)
+    (element (item (vector_at (at 66) (element (item (number_at (at 67) (pos 0))) (element (item (number_at (at
+    69) (pos 1000000))) (element (item (number_at (at 71) (pos 2000000))) no_elements))))) (element (item
+    (vector_at (at 74) (element (item (number_at (at 75) (pos 3000000))) (element (item (number_at (at 77) (pos
+    4000000))) (element (item (number_at (at 79) (pos 5000000))) no_elements))))) no_elements))) no_arguments))
+    no_items) no_items)) no_items) ≡ made 75 2 16 [] ((Difference 0) ∷ (Leaf 1 8 (point (pos 0) (pos 0) (pos 0))
+    (point (pos 9000) (pos 9000) (pos 1000))) ∷ (Leaf 1 8 (point (pos 1000) (pos 1000) (pos 0)) (point (pos 2000)
+    (pos 2000) (pos 1000))) ∷ [])
 unfolding statements_on_literals
-path_past_the_points = refl
+a_polygon_with_a_hole = refl
 
--- rotate_extrude() translate([-0.5,0]) square(1);
-across_the_axis : shown (entry (call_of (at 1) false false (codes "rotate_extrude") no_arguments (entry
-    (call_of (at 18) false false (codes "translate") (argument None (vector_at (at 28) (element (item (unary_at
-    (at 29) Minus (number_at (at 30) (pos 500000)))) (element (item (number_at (at 34) (pos 0))) no_elements)))
-    no_arguments) (entry (call_of (at 38) false false (codes "square") (argument None (number_at (at 45) (pos
-    1000000)) no_arguments) no_items) no_items)) no_items)) no_items) ≡ faulted BadArgument (at 1) (codes
-    "rotate_extrude") []
+-- rotate_extrude($fn=3) translate([2,1]) square([1,2]);
+a_ring : shown (entry (call_of (at 1) false false (codes "rotate_extrude") (argument (Some (codes "$fn"))
+    (number_at (at 20) (pos 3000000)) no_arguments) (entry (call_of (at 23) false false (codes "translate")
+    (argument None (vector_at (at 33) (element (item (number_at (at 34) (pos 2000000))) (element (item (number_at
+    (at 36) (pos 1000000))) no_elements))) no_arguments) (entry (call_of (at 40) false false (codes "square")
+    (argument None (vector_at (at 47) (element (item (number_at (at 48) (pos 1000000))) (element (item (number_at
+    (at 50) (pos 2000000))) no_elements))) no_arguments) no_items) no_items)) no_items)) no_items) ≡ made 14 1 24
+    [] ((Leaf 0 24 (point (negsuc 1499) (negsuc 2597) (pos 1000)) (point (pos 3000) (pos 2598) (pos 3000))) ∷ [])
 unfolding statements_on_literals
-across_the_axis = refl
+a_ring = refl
 
--- rotate_extrude() scale(1000000000) circle(10,$fn=200001);
-points_before_range : shown (entry (call_of (at 1) false false (codes "rotate_extrude") no_arguments (entry
-    (call_of (at 18) false false (codes "scale") (argument None (number_at (at 24) (pos 1000000000000000))
-    no_arguments) (entry (call_of (at 36) false false (codes "circle") (argument None (number_at (at 43) (pos
-    10000000)) (argument (Some (codes "$fn")) (number_at (at 50) (pos 200001000000)) no_arguments)) no_items)
-    no_items)) no_items)) no_items) ≡ passed Triangles (at 36) []
+-- rotate_extrude($fn=3) translate([-1,0]) square(1);
+a_ring_left_of_the_axis : shown (entry (call_of (at 1) false false (codes "rotate_extrude") (argument (Some
+    (codes "$fn")) (number_at (at 20) (pos 3000000)) no_arguments) (entry (call_of (at 23) false false (codes
+    "translate") (argument None (vector_at (at 33) (element (item (unary_at (at 34) Minus (number_at (at 35) (pos
+    1000000)))) (element (item (number_at (at 37) (pos 0))) no_elements))) no_arguments) (entry (call_of (at 41)
+    false false (codes "square") (argument None (number_at (at 48) (pos 1000000)) no_arguments) no_items)
+    no_items)) no_items)) no_items) ≡ made 11 1 24 [] ((Leaf 0 24 (point (negsuc 999) (negsuc 865) (pos 0)) (point
+    (pos 500) (pos 866) (pos 1000))) ∷ [])
 unfolding statements_on_literals
-points_before_range = refl
+a_ring_left_of_the_axis = refl
 
--- rotate_extrude() scale(1000000000) square(10,center=true);
-range_before_sides : shown (entry (call_of (at 1) false false (codes "rotate_extrude") no_arguments (entry
-    (call_of (at 18) false false (codes "scale") (argument None (number_at (at 24) (pos 1000000000000000))
-    no_arguments) (entry (call_of (at 36) false false (codes "square") (argument None (number_at (at 43) (pos
-    10000000)) (argument (Some (codes "center")) (boolean_at (at 53) true) no_arguments)) no_items) no_items))
-    no_items)) no_items) ≡ faulted NumberRange (at 36) [] []
+-- translate([5,0,0]) rotate_extrude($fn=3) translate([1,0,7]) square(1);
+profiles_are_placed_apart : shown (entry (call_of (at 1) false false (codes "translate") (argument None
+    (vector_at (at 11) (element (item (number_at (at 12) (pos 5000000))) (element (item (number_at (at 14) (pos
+    0))) (element (item (number_at (at 16) (pos 0))) no_elements)))) no_arguments) (entry (call_of (at 20) false
+    false (codes "rotate_extrude") (argument (Some (codes "$fn")) (number_at (at 39) (pos 3000000)) no_arguments)
+    (entry (call_of (at 42) false false (codes "translate") (argument None (vector_at (at 52) (element (item
+    (number_at (at 53) (pos 1000000))) (element (item (number_at (at 55) (pos 0))) (element (item (number_at (at
+    57) (pos 7000000))) no_elements)))) no_arguments) (entry (call_of (at 61) false false (codes "square")
+    (argument None (number_at (at 68) (pos 1000000)) no_arguments) no_items) no_items)) no_items)) no_items))
+    no_items) ≡ made 20 1 24 [] ((Leaf 0 24 (point (pos 4000) (negsuc 1731) (pos 0)) (point (pos 7000) (pos 1732)
+    (pos 1000))) ∷ [])
 unfolding statements_on_literals
-range_before_sides = refl
-
--- rotate_extrude($fn=25001) square(1,center=true);
-sides_before_triangles : shown (entry (call_of (at 1) false false (codes "rotate_extrude") (argument (Some
-    (codes "$fn")) (number_at (at 20) (pos 25001000000)) no_arguments) (entry (call_of (at 27) false false (codes
-    "square") (argument None (number_at (at 34) (pos 1000000)) (argument (Some (codes "center")) (boolean_at (at
-    43) true) no_arguments)) no_items) no_items)) no_items) ≡ faulted BadArgument (at 1) (codes "rotate_extrude")
-    []
-unfolding statements_on_literals
-sides_before_triangles = refl
-
--- rotate_extrude($fn=25001) square(1001);
-triangles_before_coordinates : shown (entry (call_of (at 1) false false (codes "rotate_extrude") (argument
-    (Some (codes "$fn")) (number_at (at 20) (pos 25001000000)) no_arguments) (entry (call_of (at 27) false false
-    (codes "square") (argument None (number_at (at 34) (pos 1001000000)) no_arguments) no_items) no_items))
-    no_items) ≡ passed Triangles (at 27) []
-unfolding statements_on_literals
-triangles_before_coordinates = refl
-
--- rotate_extrude($fn=3) square(1001);
-coordinates_last : shown (entry (call_of (at 1) false false (codes "rotate_extrude") (argument (Some (codes
-    "$fn")) (number_at (at 20) (pos 3000000)) no_arguments) (entry (call_of (at 23) false false (codes "square")
-    (argument None (number_at (at 30) (pos 1001000000)) no_arguments) no_items) no_items)) no_items) ≡ faulted
-    CoordinateRange (at 23) [] []
-unfolding statements_on_literals
-coordinates_last = refl
+profiles_are_placed_apart = refl

@@ -3,7 +3,7 @@ pub mod CallFrames
 pub mod ExampleWords
 pub mod ExamplesCalls
 pub mod ExamplesExtruded
-pub mod ExamplesFlat
+pub mod ExamplesFlatRefused
 pub mod ExamplesOrder
 pub mod ExamplesPlaced
 pub mod ExamplesRefused
@@ -11,6 +11,7 @@ pub mod ExamplesScopes
 pub mod ExamplesTrees
 pub mod FirstFrames
 pub mod FlatRounds
+pub mod Heights
 pub mod Homes
 pub mod Items
 pub mod KeptRound

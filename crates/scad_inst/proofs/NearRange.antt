@@ -16,6 +16,7 @@ use Rattle.scad_expr.specs.State.{State, Outcome, gives, refuses, and_then}
 use Rattle.scad_expr.proofs.Loops.{nothing-left}
 use Rattle.scad_expr.proofs.RunsLeft.{items-range, left-past, left-next}
 use Rattle.scad_tree.specs.Solid.{Solid}
+use Rattle.scad_expr.proofs.Loops.{same-then}
 use Rattle.scad_inst.specs.Chosen.{child_of, child_named}
 use Rattle.scad_inst.specs.Meaning.{Below, child, children_by}
 use Rattle.scad_inst.specs.Near.{NameAlike, IsNobody, steps, IsReached, IsEnough, IsBehind}
@@ -76,11 +77,8 @@ module _ (below : Below) (w : Where) (env along : Env) (scope : Items) where
 
   run-same : (z : ℤ) (few all : List Datum) (so_far : List Solid) (s : State) → ((now : List Solid) (t : State) → run few now t ≡ run all now t) → run (number z ∷ few) so_far s ≡ run (number z ∷ all) so_far s
   unfolding children_by
-  run-same z few all so_far s same = by (child below w env along (child_named scope (number z)) so_far s)
-    where
-      by : (o : Outcome (List Solid)) → and_then o (λ now. run few now) ≡ and_then o (λ now. run all now)
-      by (gives now t) = same now t
-      by (refuses e t) = refl
+  run-same z few all so_far s same =
+      same-then (child below w env along (child_named scope (number z)) so_far s) (λ now. run few now) (λ now. run all now) same
 
   skip-first : (n step end : ℤ) (so_far : List Solid) (s : State) → step ≢ pos 0 → IsNobody scope n → run (numbers_left (Some (n +ℤ step)) step end) so_far s ≡ run (numbers_left (Some n) step end) so_far s
   skip-first n step end so_far s some none = by (is_past n step end) refl

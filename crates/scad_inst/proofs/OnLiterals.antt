@@ -4,6 +4,7 @@ use Rattle.scad_cos.specs.Circle.{least_step, fragments_by_steps, fragments_of, 
 use Rattle.scad_cos.specs.Cosine.{cosines, first_quarter, half_turn, full_turn, cosine, sine}
 use Rattle.scad_solid.specs.Stack.{stacked}
 use Rattle.scad_solid.specs.Surface.{is_closed}
+use Rattle.scad_solid.specs.Wrap.{wrapped}
 use Rattle.scad_matrix.specs.Makers.{reflection}
 use Rattle.scad_tree.specs.Normal.{united, intersected, subtracted}
 use Rattle.scad_modules.specs.Extrusions.{linear_by, turned_by}
@@ -21,5 +22,5 @@ use Rattle.scad_inst.specs.Opened.{dollars_of}
 use Rattle.scad_inst.specs.Meaning.{assigned_value, assigned, opened_scope, member, members_from, members, combined, called_own, turns, for_variables, looped, let_in, child, children_by, chosen, run_children, built_in, called_known, called, node, statement_layer, statements_meaning, program_of, means}
 
 unfoldable pub statements_on_literals : ⊤
-unfolding expressions_on_literals least_step fragments_by_steps fragments_of vertex_angle_of cosines first_quarter half_turn full_turn cosine sine stacked is_closed reflection united intersected subtracted numbered_name meaning_of taken linear_by turned_by outlines_of primitive_of first_three matrix_of moved inside_linear module_named kept_children count_leaf count_triangles placed leaf argued placed_by judge_solid judge_flat judged linear_leaf judge_points judge_sides swept turned_leaf leaf_in flat_leaves dollars_of assigned_value assigned opened_scope member members_from members combined called_own turns for_variables looped let_in child children_by chosen run_children built_in called_known called node statement_layer statements_meaning program_of means
+unfolding expressions_on_literals least_step fragments_by_steps fragments_of vertex_angle_of cosines first_quarter half_turn full_turn cosine sine stacked wrapped is_closed reflection united intersected subtracted numbered_name meaning_of taken linear_by turned_by outlines_of primitive_of first_three matrix_of moved inside_linear module_named kept_children count_leaf count_triangles placed leaf argued placed_by judge_solid judge_flat judged linear_leaf judge_points judge_sides swept turned_leaf leaf_in flat_leaves dollars_of assigned_value assigned opened_scope member members_from members combined called_own turns for_variables looped let_in child children_by chosen run_children built_in called_known called node statement_layer statements_meaning program_of means
 statements_on_literals = tt

@@ -32,21 +32,21 @@ input-put Gcode s v = refl
 
 -- Bytes after bytes.
 
+pub appended-nothing : (bytes : Option (List ℕ)) → option_map (λ before. before ++ []) bytes ≡ bytes
+appended-nothing None = refl
+appended-nothing (Some bs) = ap Some (append-nil bs)
+
+pub appended-twice : (a b : List ℕ) (bytes : Option (List ℕ))
+    → option_map (λ before. before ++ b) (option_map (λ before. before ++ a) bytes)
+    ≡ option_map (λ before. before ++ (a ++ b)) bytes
+appended-twice a b None = refl
+appended-twice a b (Some bs) = ap Some (append_assoc bs a b)
+
 added-nothing : (s : Side) → s.failed ≡ false → added [] false s ≡ s
-added-nothing s sound = rw (all s.bytes, ← sound) refl
-  where
-    all : (bytes : Option (List ℕ)) → option_map (λ before. before ++ []) bytes ≡ bytes
-    all None = refl
-    all (Some bs) = ap Some (append-nil bs)
+added-nothing s sound = rw (appended-nothing s.bytes, ← sound) refl
 
 added-twice : (a b : List ℕ) (m n : Bool) (s : Side) → added b n (added a m s) ≡ added (a ++ b) n s
-added-twice a b m n s = ap (λ bytes. record s { bytes = bytes; failed = n }) (both s.bytes)
-  where
-    both : (bytes : Option (List ℕ))
-        → option_map (λ before. before ++ b) (option_map (λ before. before ++ a) bytes)
-        ≡ option_map (λ before. before ++ (a ++ b)) bytes
-    both None = refl
-    both (Some bs) = ap Some (append_assoc bs a b)
+added-twice a b m n s = ap (λ bytes. record s { bytes = bytes; failed = n }) (appended-twice a b s.bytes)
 
 pub sent-nothing : (out : Out) (v : View) → (side out v).failed ≡ false → sent out [] false v ≡ v
 sent-nothing out v sound = ap (λ s. put out s v) (added-nothing (side out v) sound) ∙ put-side out v

@@ -3,9 +3,9 @@ use Rattle.std.proofs.Common.{◌≡◌, ℕ, suc, ◌+◌, ◌<◌, Bool, true,
 use Rattle.std.proofs.Common.{take, drop, refl, ap, sym, subst, ◌∙◌, arith}
 use Rattle.std.specs.Prelude.{slice_index}
 use Rattle.std.specs.List.{prefix_len}
-use Rattle.std.proofs.lemmas.Bool.Decides.{nat_tests}
 use Rattle.std.proofs.lemmas.List.Folds.{length-prefix_len}
 use Rattle.scad_lex.specs.Words.{begins_word, goes_on_word, word_len}
+use Rattle.scad_lex.proofs.Longest.{begins-goes_on}
 
 prefix_len-whole : (f : ℕ → Bool) (xs : List ℕ) → prefix_len f (take (prefix_len f xs) xs) ≡ prefix_len f xs
 prefix_len-whole f [] = refl
@@ -22,9 +22,6 @@ prefix_len-whole f (x ∷ xs) = by_test (f x) refl (prefix_len-whole f xs)
 
 abbrev len_from : ℕ → List ℕ → ℕ
 len_from d bytes = cond (begins_word (slice_index bytes d)) (d + prefix_len goes_on_word (drop d bytes)) 0
-
-begins_goes : (b : ℕ) → begins_word b ≡ true → goes_on_word b ≡ true
-begins_goes b h = grind (arith, nat_tests)
 
 abbrev pub IsName : List ℕ → Type 0
 IsName word = (0 < length word) × (word_len word ≡ length word)
@@ -70,7 +67,7 @@ name_from false c cs plain some = by_letter (begins_word c) refl some
         IsName (take (len_from 0 (c ∷ cs)) (c ∷ cs))
     by_letter false letter fact = absurd (omega (arith, fact))
     by_letter true letter fact =
-        let goes : goes_on_word c ≡ true = begins_goes c letter in
+        let goes : goes_on_word c ≡ true = begins-goes_on c letter in
         let long : len_from 0 (c ∷ cs) ≡ prefix_len goes_on_word (c ∷ cs) =
         ap (λ t. cond t (0 + prefix_len goes_on_word (c ∷ cs)) 0) letter ∙ omega arith in
         subst IsName (sym (ap (λ n. take n (c ∷ cs)) long ∙ first_kept c cs goes))
@@ -82,7 +79,7 @@ name_from true c (e ∷ es) dollar some = by_letter (begins_word e) refl some
         IsName (take (len_from 1 (c ∷ e ∷ es)) (c ∷ e ∷ es))
     by_letter false letter fact = absurd (omega (arith, fact))
     by_letter true letter fact =
-        let goes : goes_on_word e ≡ true = begins_goes e letter in
+        let goes : goes_on_word e ≡ true = begins-goes_on e letter in
         let long : len_from 1 (c ∷ e ∷ es) ≡ suc (prefix_len goes_on_word (e ∷ es)) =
         ap (λ t. cond t (1 + prefix_len goes_on_word (e ∷ es)) 0) letter ∙ omega arith in
         subst IsName (sym (ap (λ n. take n (c ∷ e ∷ es)) long ∙ ap (λ w. c ∷ w) (first_kept e es goes)))

@@ -1,5 +1,5 @@
 -- What stands at the front of a text by its first bytes.
-use Rattle.std.proofs.Common.{◌≡◌, ℕ, suc, ◌+◌, ◌≤◌, Bool, true, false, cond, ◌&&◌, ◌==◌, List, [], ◌∷◌, length, take}
+use Rattle.std.proofs.Common.{◌≡◌, ℕ, suc, ◌+◌, ◌≤◌, Bool, true, false, cond, ◌&&◌, ◌||◌, ◌==◌, List, [], ◌∷◌, length, take}
 use Rattle.std.proofs.Common.{drop, take_while, ap, ◌∙◌, arith}
 use Rattle.std.specs.Prelude.{slice_index, nat_lt}
 use Rattle.std.specs.Char.{is_ascii_digit}
@@ -15,7 +15,7 @@ use Rattle.scad_lex.specs.Front.{front_of, comment_of, string_of, numeral_of, wo
 use Rattle.scad_lex.specs.Keys.{key_of}
 use Rattle.scad_lex.specs.Quoted.{quoted}
 use Rattle.scad_lex.specs.Signs.{two_byte_sign, one_byte_sign}
-use Rattle.scad_lex.specs.Words.{word_len}
+use Rattle.scad_lex.specs.Words.{word_len, begins_word}
 
 -- neither a digit nor a point begins a number
 no_mantissa : (c : ℕ) (rest : List ℕ) → is_ascii_digit c ≡ false → (c == 46) ≡ false → mantissa_len (c ∷ rest) ≡ 0
@@ -60,6 +60,15 @@ front_plain c rest plain =
     ap (λ t. front_by (c ∷ rest) t (c == 47) (c == 34) (literal_len (c ∷ rest)) (word_len (c ∷ rest))) plain.blank
     ∙ ap (λ t. front_by (c ∷ rest) false t (c == 34) (literal_len (c ∷ rest)) (word_len (c ∷ rest))) plain.slash
     ∙ ap (λ t. front_by (c ∷ rest) false false t (literal_len (c ∷ rest)) (word_len (c ∷ rest))) plain.quote
+
+-- what a name begins with
+pub name_plain : (c : ℕ) → (c == 36 || begins_word c) ≡ true → IsPlain c × (is_ascii_digit c ≡ false)
+    × ((c == 46) ≡ false)
+name_plain c h = (
+  record { blank = grind (arith, nat_tests); slash = grind (arith, nat_tests); quote = grind (arith, nat_tests) },
+  grind (arith, nat_tests),
+  grind (arith, nat_tests),
+)
 
 is_plain : (c : ℕ) → 48 ≤ c → IsPlain c
 is_plain c low = record

@@ -46,7 +46,7 @@ runs_are_longest class bytes = record {
 begins-no_dollar : (b : ℕ) → begins_word b ≡ true → (b == 36) ≡ false
 begins-no_dollar b e = grind (arith, nat_tests)
 
-begins-goes_on : (b : ℕ) → begins_word b ≡ true → goes_on_word b ≡ true
+pub begins-goes_on : (b : ℕ) → begins_word b ≡ true → goes_on_word b ≡ true
 begins-goes_on b e = grind (arith, nat_tests)
 
 dollar-is : (b : ℕ) → (b == 36) ≡ true → b ≡ 36

@@ -34,7 +34,7 @@ use Rattle.scad_lex.specs.Words.{begins_word, word_len}
 use Rattle.scad_lex.specs.Longest.{AreOf, IsClosed, IsName, IsQuoted, IsPiece, blanks, line_comment, comment, string}
 use Rattle.scad_lex.specs.Longest.{number, name, sign}
 use Rattle.scad_lex.proofs.Closed.{comments_are_longest, closes-next, closes-within}
-use Rattle.scad_lex.proofs.Fronts.{IsPlain, front_by, front_plain, no_literal, given}
+use Rattle.scad_lex.proofs.Fronts.{IsPlain, front_by, front_plain, no_literal, given, name_plain}
 use Rattle.scad_lex.proofs.Longest.{front-longest, name-longest, names_are_longest}
 use Rattle.scad_lex.proofs.LongestString.{quoted-read}
 
@@ -160,14 +160,6 @@ name-first : (c : ℕ) (cs : List ℕ) → IsName (c ∷ cs) → (c == 36 || beg
 name-first c cs (inl is) = let t = is.0 in grind (arith, nat_tests)
 name-first c cs (inr is) = let t = is.0 in grind (arith, nat_tests)
 
-name-plain : (c : ℕ) → (c == 36 || begins_word c) ≡ true → IsPlain c × (is_ascii_digit c ≡ false)
-    × ((c == 46) ≡ false)
-name-plain c h = (
-  record { blank = grind (arith, nat_tests); slash = grind (arith, nat_tests); quote = grind (arith, nat_tests) },
-  grind (arith, nat_tests),
-  grind (arith, nat_tests),
-)
-
 word-fits : (bytes : List ℕ) (m w : ℕ) (k : Option KeyName) → w ≤ length bytes → m ≤ w →
     Fits bytes m (word_of (take w bytes) k)
 unfolding word_of
@@ -178,7 +170,7 @@ name-fits : (c : ℕ) (cs ys : List ℕ) → IsName (c ∷ cs) →
     Fits (c ∷ (cs ++ ys)) (suc (length cs)) (front_of (c ∷ (cs ++ ys)))
 name-fits c cs ys is =
     let zs : List ℕ = c ∷ (cs ++ ys) in
-    let plain = name-plain c (name-first c cs is) in
+    let plain = name_plain c (name-first c cs is) in
     let h : suc (length cs) ≤ word_len (c ∷ (cs ++ ys)) =
     name-longest (c ∷ (cs ++ ys)) (suc (length cs)) (omega (arith, length-append cs ys))
     (subst IsName (sym (take-append_seam (c ∷ cs) ys)) is) in

@@ -1,5 +1,5 @@
 -- A number before a blank is cut as it is spelled.
-use Rattle.std.proofs.Common.{◌≡◌, ◌≢◌, ℕ, zero, suc, ◌+◌, ◌*◌, ◌/◌, ◌%◌, ◌^◌, ◌<◌, ◌≤◌, Bool, true, false, cond}
+use Rattle.std.proofs.Common.{◌≡◌, ◌≢◌, ℕ, ◌+◌, ◌*◌, ◌/◌, ◌%◌, ◌^◌, ◌<◌, ◌≤◌, Bool, true, false, cond}
 use Rattle.std.proofs.Common.{◌==◌, List, [], ◌∷◌, ◌++◌, length, drop, take_while, Ok, Err, refl, ap, sym}
 use Rattle.std.proofs.Common.{subst, ◌∙◌, arith, ◌⊎◌, inl, inr, append_assoc, length-append}
 use Rattle.std.specs.Prelude.{ℤ, pos, slice_index, nat_le}
@@ -7,7 +7,6 @@ use Rattle.std.specs.Char.{is_ascii_digit}
 use Rattle.std.specs.Fmt.{decimal}
 use Rattle.std.specs.Str.Parse.{IsNumeral, digits_value}
 use Rattle.std.proofs.Math.Seq.{take-append_seam, drop-append_seam, drop-append-add}
-use Rattle.std.proofs.Math.Nat.{pow-suc}
 use Rattle.std.proofs.lemmas.Bool.{cases_eq, ne_eqb}
 use Rattle.std.proofs.lemmas.Bool.Decides.{nat_tests}
 use Rattle.std.proofs.lemmas.Fmt.{decimal_is_IsNumeral}
@@ -27,6 +26,7 @@ use Rattle.scad_lex.specs.Spelling.{blank_behind}
 use Rattle.scad_lex.proofs.Fronts.{front_number}
 use Rattle.scad_lex.proofs.Decimals.{AreDigits, digits_len-before, take_digits, are_digits, end_in_six, decimals_are}
 use Rattle.scad_lex.proofs.Decimals.{decimals_value}
+use Rattle.scad_num.proofs.Capped.{ten_pow_pos}
 
 -- ---- what may stand behind a number
 record Ends (more : List ℕ) : Type 0 where
@@ -132,10 +132,6 @@ half_up-exact n d h =
     let top : 2 * (n * d) + d ≡ n * (2 * d) + d = omega arith in
     ap (λ t. t / (2 * d)) top ∙ div-mul-add n (2 * d) d (omega arith)
 
-ten_pow : (k : ℕ) → 0 < 10 ^ k
-ten_pow zero = omega arith
-ten_pow (suc k) = omega (arith, ten_pow k, pow-suc 10 k)
-
 abbrev millionths_by : List ℕ → List ℕ → List ℕ → ℕ
 millionths_by whole decimals exponent =
     half_up (digits_value 10 (whole ++ decimals) * 10 ^ (6 + tens_up exponent))
@@ -168,7 +164,7 @@ value_of whole ds w p n is_whole is_part is =
     ap (λ x. half_up x (10 ^ length ds))
     (joined_value (digits_value 10 (whole ++ ds)) (digits_value 10 whole) (digits_value 10 ds) w p n (10 ^ length ds)
     (digits_value-append whole ds) is_whole is_part is)
-    ∙ half_up-exact n (10 ^ length ds) (ten_pow (length ds))
+    ∙ half_up-exact n (10 ^ length ds) (ten_pow_pos (length ds))
 
 number_small : (n : ℕ) → n ≤ most → number_of (pos n) ≡ Ok (pos n)
 unfolding number_of

@@ -2,17 +2,15 @@
 use Rattle.std.proofs.Common.{◌≡◌, ℕ, suc, ◌+◌, ◌<◌, Bool, true, false, cond, ◌==◌, ◌||◌, List, [], ◌∷◌, ◌++◌, length}
 use Rattle.std.proofs.Common.{drop, None, refl, ap, ◌∙◌, arith}
 use Rattle.std.specs.Prelude.{slice_index}
-use Rattle.std.specs.Char.{is_ascii_digit}
 use Rattle.std.specs.List.{prefix_len}
 use Rattle.std.proofs.Math.Seq.{take-append_seam}
-use Rattle.std.proofs.lemmas.Bool.Decides.{nat_tests}
 use Rattle.scad_lex.specs.declared.token.TokenKind.TheVariants.{Word}
 use Rattle.scad_lex.specs.declared.front.Front.TheVariants.{Cut}
 use Rattle.scad_lex.specs.Front.{front_of, word_of}
 use Rattle.scad_lex.specs.Keys.{key_of}
 use Rattle.scad_lex.specs.Words.{begins_word, goes_on_word, word_len}
 use Rattle.scad_lex.specs.Spelling.{blank_behind}
-use Rattle.scad_lex.proofs.Fronts.{IsPlain, front_word}
+use Rattle.scad_lex.proofs.Fronts.{front_word, name_plain}
 
 counted : (t : Bool) (p q n : ℕ) → cond t (1 + p) 0 ≡ suc n → (p ≡ n → q ≡ n) → cond t (1 + q) 0 ≡ suc n
 counted true p q n h same = let e : p ≡ n = omega (arith, h) in let f : q ≡ n = same e in omega (arith, f)
@@ -75,21 +73,13 @@ first_of c rest n whole = by_dollar (c == 36) whole
     by_dollar true h = refl
     by_dollar false h = by_letter (begins_word c) (0 + prefix_len goes_on_word (c ∷ rest)) h
 
-first_plain : (c : ℕ) → (c == 36 || begins_word c) ≡ true → IsPlain c × (is_ascii_digit c ≡ false)
-    × ((c == 46) ≡ false)
-first_plain c h = (
-  record { blank = grind (arith, nat_tests); slash = grind (arith, nat_tests); quote = grind (arith, nat_tests) },
-  grind (arith, nat_tests),
-  grind (arith, nat_tests),
-)
-
 pub word_front : (word : List ℕ) (b : Bool) (rest : List ℕ) → 0 < length word → word_len word ≡ length word →
     key_of word ≡ None
     → front_of (word ++ blank_behind b ∷ rest) ≡ Cut (Word word) (length word)
 unfolding word_of
 word_front [] b rest some whole other = absurd (omega (arith, some))
 word_front (c ∷ cs) b rest some whole other =
-    let plain = first_plain c (first_of c cs (length cs) whole) in
+    let plain = name_plain c (first_of c cs (length cs) whole) in
     front_word c (cs ++ blank_behind b ∷ rest) (length cs) plain.0 plain.1 plain.2 (word_len-before c cs b rest whole)
     ∙ ap (λ w. word_of w (key_of w)) (take-append_seam (c ∷ cs) (blank_behind b ∷ rest))
     ∙ ap (word_of (c ∷ cs)) other

@@ -1,15 +1,11 @@
 -- Products and powers of ten that are read up to a cap.
 use Rattle.std.proofs.Common.{◌≡◌, ℕ, suc, ◌-◌, ◌*◌, ◌^◌, ◌<◌, ◌≤◌, min, ◌∙◌, ap, arith, ◌⊎◌, inl, inr}
 use Rattle.std.proofs.lemmas.Bool.{cases_lt}
-use Rattle.std.proofs.Math.Nat.{mul_assoc, pow-suc, one-le-pow}
+use Rattle.std.proofs.Math.Nat.{mul_assoc, pow-suc, one-le-pow, le-mul_of_pos_right}
 
 -- a power of ten is above 0
 pub ten_pow_pos : (k : ℕ) → 0 < 10 ^ k
 ten_pow_pos k = grind (arith, one-le-pow)
-
--- a factor above 0 makes no number smaller
-pub le-mul_pos : (n m : ℕ) → 0 < m → n ≤ n * m
-le-mul_pos n m h = grind arith
 
 -- a number past the cap may be cut to it before it is multiplied
 pub min-mul : (cap n m : ℕ) → 0 < m → min (min n cap * m) cap ≡ min (n * m) cap
@@ -17,8 +13,8 @@ min-mul cap n m h = capped cap n m h (cases_lt cap n)
   where
     capped : (cap n m : ℕ) → 0 < m → (cap < n) ⊎ (n ≤ cap) → min (min n cap * m) cap ≡ min (n * m) cap
     capped cap n m h (inl p) =
-        let whole = le-mul_pos n m h in
-        let cut = le-mul_pos (min n cap) m h in
+        let whole = le-mul_of_pos_right n h in
+        let cut = le-mul_of_pos_right (min n cap) h in
         omega arith
     capped cap n m h (inr p) = let e : min n cap ≡ n = omega arith in ap (λ x. min (x * m) cap) e
 
@@ -31,4 +27,4 @@ min-tens cap n k h = min-mul cap (n * 10) (10 ^ (k - 1)) (ten_pow_pos (k - 1)) �
 
 -- what has met the cap stays there
 pub min-tens_past : (cap n k : ℕ) → cap ≤ n → min (n * 10 ^ k) cap ≡ cap
-min-tens_past cap n k h = let more = le-mul_pos n (10 ^ k) (ten_pow_pos k) in omega arith
+min-tens_past cap n k h = let more = le-mul_of_pos_right n (ten_pow_pos k) in omega arith

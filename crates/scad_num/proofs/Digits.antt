@@ -7,11 +7,11 @@ use Rattle.std.proofs.lemmas.List.{drop_more}
 use Rattle.std.proofs.lemmas.List.Sums.{take_while-cons}
 use Rattle.std.proofs.lemmas.Bool.Decides.{nat_tests}
 
+pub digit_value-lt : (c : ℕ) → is_ascii_digit c ≡ true → digit_value c < 10
+digit_value-lt c e = grind (arith, nat_tests)
+
 AllDigits-front : (b : Bool) (c : ℕ) (cs : List ℕ) → is_ascii_digit c ≡ b → AllDigits 10 cs → AllDigits 10 (cond b (c ∷ cs) [])
 AllDigits-front true c cs e h = (digit_value-lt c e, h)
-  where
-    digit_value-lt : (c : ℕ) → is_ascii_digit c ≡ true → digit_value c < 10
-    digit_value-lt c e = grind (arith, nat_tests)
 AllDigits-front false c cs e h = tt
 
 -- what bytes begin with, as long as they are digits, is digits

@@ -9,6 +9,7 @@ use Rattle.std.proofs.lemmas.List.{length-take, length-drop, get_or_at, get_or_p
 use Rattle.scad_num.specs.Laws.{LiteralsAreLongest, LiteralsAreRecognised}
 use Rattle.scad_num.specs.Literal.{point, AreDigits, Mantissa, whole, pointed, IsMark, IsSign, Exponent, unsigned, signed, Literal, plain, scaled, IsLongestLiteral, digits_len, has_point, mantissa_len, sign_len, exponent_len, literal_len, is_literal}
 use Rattle.scad_num.proofs.LongestLiteral.{decimals_len, len_of, mantissa_len-by_digits, has_mark, power_len, exponent_of, exponent_len-by_parts, exponent_of-parts, exponent_len-nil, literal_of-parts}
+use Rattle.std.proofs.Math.Seq.{drop-append-add}
 
 -- ---- a literal in front is no longer than what is cut off
 
@@ -24,10 +25,6 @@ digits_len-other c rest e = ap (λ b. cond b (1 + digits_len rest) 0) e
 -- digits up to another byte
 digits_len-upto : (ds : List ℕ) (c : ℕ) (rest : List ℕ) → AreDigits ds → is_ascii_digit c ≡ false → digits_len (ds ++ c ∷ rest) ≡ length ds
 digits_len-upto ds c rest h e = omega (arith, digits_len-append ds (c ∷ rest) h, digits_len-other c rest e)
-
-drop_behind : (ds : List ℕ) (c : ℕ) (rest : List ℕ) → drop (length ds + 1) (ds ++ c ∷ rest) ≡ rest
-drop_behind [] c rest = refl
-drop_behind (d ∷ ds) c rest = let e : suc (length ds) + 1 ≡ suc (length ds + 1) = omega arith in ap (λ n. drop n (d ∷ ds ++ c ∷ rest)) e ∙ drop_behind ds c rest
 
 len_of-whole : (w d : ℕ) (p : Bool) → w ≤ len_of w p d
 len_of-whole w d true = grind (arith, nat_tests)
@@ -47,7 +44,7 @@ pointed-len ds es rest d e some =
     let w : digits_len bytes ≡ length ds = digits_len-upto ds point (es ++ rest) d refl in
     let here : slice_index bytes (length ds) ≡ point = get_or_at ds point (es ++ rest) 0 (length ds) refl in
     let p : has_point bytes ≡ true = ap (λ k. slice_index bytes k == point) w ∙ ap (λ c. c == point) here in
-    let rest_of : drop (digits_len bytes + 1) bytes ≡ es ++ rest = ap (λ k. drop (k + 1) bytes) w ∙ drop_behind ds point (es ++ rest) in
+    let rest_of : drop (digits_len bytes + 1) bytes ≡ es ++ rest = ap (λ k. drop (k + 1) bytes) w ∙ drop-append-add ds (point ∷ es ++ rest) 1 in
     let t : decimals_len bytes ≡ length es + digits_len rest = ap (λ b. cond b (digits_len (drop (digits_len bytes + 1) bytes)) 0) p ∙ ap digits_len rest_of ∙ digits_len-append es rest e in
     mantissa_len-by_digits bytes
     ∙ ap (λ k. len_of k (has_point bytes) (decimals_len bytes)) w

@@ -8,8 +8,9 @@ use Rattle.std.proofs.lemmas.List.{take-append-drop, length-drop, take_all}
 use Rattle.std.proofs.lemmas.Nat.{div-mul-add}
 use Rattle.std.proofs.Math.Nat.{mul_assoc, mul_comm, pow-suc, div-div-eq-div-mul, mul-div-mul_left, mul-div_cancel, add-mul-div_right, div-eq_of_lt, pow-le-pow_right}
 use Rattle.scad_num.specs.Rounding.{half_up}
-use Rattle.scad_num.proofs.Capped.{ten_pow_pos, le-mul_pos, min-mul}
+use Rattle.scad_num.proofs.Capped.{ten_pow_pos, min-mul}
 use Rattle.scad_num.proofs.Digits.{min-digits_value_after}
+use Rattle.std.proofs.Math.Nat.{le-mul_of_pos_right}
 
 -- rounding half up is cutting at one digit more, and rounding at that digit
 pub half_up-by_digit : (n d : ℕ) → 0 < d → half_up n d ≡ (10 * n / d + 5) / 10
@@ -144,7 +145,7 @@ leading_past ds wanted h =
     past : (n k : ℕ) → 0 < k → min (n * (10 ^ 17 * k)) 10000000000000010 ≡ min (n * 10 ^ 17) 10000000000000010
     past zero k h = omega arith
     past (suc n) k h =
-        let more = le-mul_pos (suc n * 10 ^ 17) k h in
+        let more = le-mul_of_pos_right (suc n * 10 ^ 17) h in
         let same : suc n * (10 ^ 17 * k) ≡ suc n * 10 ^ 17 * k = sym (mul_assoc (suc n) (10 ^ 17) k) in
         omega arith
 

@@ -34,6 +34,9 @@ rest_of [] = []
 rest_of (k ∷ ks) = ks
 
 module _ (c : ℤ) (some : pos 0 <ℤ c) (p r : Pt) where
+  weak : pos 0 ≤ℤ c
+  weak = omega (arith, ints)
+
   pub right_round : p.x <ℤ r.x → p.y <ℤ r.y → IsRound c p r (to_the_right c p r)
   right_round rx ry = record {
     holds = λ q d.
@@ -97,9 +100,6 @@ module _ (c : ℤ) (some : pos 0 <ℤ c) (p r : Pt) where
       ),
     );
   }
-    where
-      weak : pos 0 ≤ℤ c
-      weak = omega (arith, ints)
 
   pub left_round : r.x <ℤ p.x → p.y <ℤ r.y → IsRound c p r (to_the_left c p r)
   left_round rx ry = record {
@@ -165,9 +165,6 @@ module _ (c : ℤ) (some : pos 0 <ℤ c) (p r : Pt) where
       ),
     );
   }
-    where
-      weak : pos 0 ≤ℤ c
-      weak = omega (arith, ints)
 
   pub rectangle_round : p.x ≤ℤ r.x → p.y ≤ℤ r.y → (p.x ≡ r.x) ⊎ (p.y ≡ r.y) → IsRound c p r (rectangle c p.x p.y r.x r.y)
   rectangle_round rx ry flat = record {
@@ -203,9 +200,6 @@ module _ (c : ℤ) (some : pos 0 <ℤ c) (p r : Pt) where
     );
   }
     where
-      weak : pos 0 ≤ℤ c
-      weak = omega (arith, ints)
-
       by_lower : (x y : ℤ) → x ≡ y → IsBy c (x -ℤ c) y
       by_lower x y e = record { from = omega (arith, ints); to = omega (arith, ints) }
 

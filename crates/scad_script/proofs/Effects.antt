@@ -1,7 +1,7 @@
 -- What one step does to one output.
-use Rattle.std.proofs.Common.{◌≡◌, ◌+◌, ◌≤◌, ◌<◌, ◌++◌, List, [], ℕ, Bool, true, false, Option, Some, None, Result, Ok, Err, is_ok, is_err, refl, sym, ap, ◌∙◌, subst, length, take, arith, append_assoc, length-append}
+use Rattle.std.proofs.Common.{◌≡◌, ◌+◌, ◌≤◌, ◌<◌, ◌++◌, List, [], ℕ, Bool, true, false, Option, Result, Ok, Err, is_ok, is_err, refl, sym, ap, ◌∙◌, subst, length, take, arith, length-append}
 use Rattle.std.specs.Prelude.{if◌then◌else◌, option_map}
-use Rattle.std.proofs.lemmas.List.{append-nil, take-append-le}
+use Rattle.std.proofs.lemmas.List.{take-append-le}
 use Rattle.std.proofs.Math.Seq.{take-append-add}
 use Rattle.scad_io.specs.Desk.{Side, View, side, added, sent, Creates}
 use Rattle.scad_io.specs.declared.desk.Failed.{Failed}
@@ -10,6 +10,7 @@ use Rattle.scad_io.specs.declared.desk.Out.TheVariants.{Report, Cli, Gcode}
 use Rattle.scad_script.specs.Steps.{Step, Reads, Makes, Sends, is_same, piece_for}
 use Rattle.scad_script.specs.Played.{UsesInput, Takes, Fails}
 use Rattle.scad_script.specs.Promises.{Adds, IsFront}
+use Rattle.scad_io.proofs.Sent.{appended-nothing, appended-twice}
 
 pub same_is : (o out : Out) → is_same o out ≡ true → o ≡ out
 same_is Report Report same = refl
@@ -57,19 +58,11 @@ read_each Gcode uses = ap (λ v. v.gcode) uses.only
 
 -- Bytes after bytes.
 
-nothing_more : (bytes : Option (List ℕ)) → bytes ≡ option_map (λ before. before ++ []) bytes
-nothing_more None = refl
-nothing_more (Some bs) = ap Some (sym (append-nil bs))
-
-both : (a b : List ℕ) (bytes : Option (List ℕ)) → option_map (λ before. before ++ b) (option_map (λ before. before ++ a) bytes) ≡ option_map (λ before. before ++ (a ++ b)) bytes
-both a b None = refl
-both a b (Some bs) = ap Some (append_assoc bs a b)
-
 pub adds_nothing : (old new : Side) → new.bytes ≡ old.bytes → Adds [] old new
-adds_nothing old new same = same ∙ nothing_more old.bytes
+adds_nothing old new same = same ∙ sym (appended-nothing old.bytes)
 
 pub adds_then : (a b : List ℕ) (old mid new : Side) → Adds a old mid → Adds b mid new → Adds (a ++ b) old new
-adds_then a b old mid new first next = next ∙ ap (option_map (λ before. before ++ b)) first ∙ both a b old.bytes
+adds_then a b old mid new first next = next ∙ ap (option_map (λ before. before ++ b)) first ∙ appended-twice a b old.bytes
 
 adds_if : (b : Bool) (piece : List ℕ) (failed : Bool) (s new : Side) → new ≡ (if b then added piece failed s else s) → Adds (if b then piece else []) s new
 adds_if true piece failed s new same = ap (λ x. x.bytes) same

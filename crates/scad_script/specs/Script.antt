@@ -47,10 +47,12 @@ layers layer i (suc n) rest = layer_then (layer i) (layers layer (i + 1) n rest)
 abbrev pub input_of : Option ℕ → List ℕ → Input
 input_of limit text = if option_map_or (λ most. nat_lt most (length text)) limit false then Long else Whole text
 
--- what was read whole is within the limit
+-- what was read whole is within the limit; where there is none, all is read
 abbrev pub IsWithin : Option ℕ → Input → Type 0
 IsWithin (Some most) (Whole text) = length text ≤ most
-IsWithin limit input = Unit {0}
+IsWithin (Some most) Long = Unit {0}
+IsWithin None (Whole text) = Unit {0}
+IsWithin None Long = ⊥
 
 -- the status of a refusal
 abbrev pub refused : Refusal → Status

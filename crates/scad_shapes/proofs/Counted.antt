@@ -4,7 +4,7 @@ use Rattle.std.specs.List.{range_with_len}
 use Rattle.std.proofs.lemmas.Bool.Decides.{nat_tests}
 use Rattle.std.proofs.lemmas.List.{length-map}
 use Rattle.std.proofs.lemmas.List.Sums.{sum_by-cons}
-use Rattle.std.proofs.lemmas.List.FromFn.{length-range_with_len, length-map-range_with_len}
+use Rattle.std.proofs.lemmas.List.FromFn.{length-map-range_with_len}
 use Rattle.scad_geom.specs.declared.point3.Pt3.{Pt3}
 use Rattle.scad_solid.specs.Solid.{fan, fans, corners}
 use Rattle.scad_solid.specs.Stack.{stacked}
@@ -13,7 +13,7 @@ use Rattle.scad_matrix.specs.declared.matrix.Matrix.{Matrix}
 use Rattle.scad_shapes.specs.Outline.{sphere_rings}
 use Rattle.scad_shapes.specs.Rings.{placed_ring, two_rings, sphere_ring_at, sphere_rings_of}
 use Rattle.scad_shapes.specs.Count.{prism_triangles, sphere_triangles, face_triangles}
-use Rattle.scad_shapes.proofs.Solids.{alike-map}
+use Rattle.scad_shapes.proofs.Solids.{alike-map, length-sphere_ring}
 
 pub prism_count : (m : Matrix) (bottom top : List (ℤ × ℤ)) (low high : ℤ) → length bottom ≡ length top → 3 ≤ length top → length (stacked (two_rings m bottom top low high)) ≡ prism_triangles (length top)
 prism_count m bottom top low high same some =
@@ -27,13 +27,10 @@ prism_count m bottom top low high same some =
 pub sphere_count : (r : ℤ) (n : ℕ) (m : Matrix) → 3 ≤ n → length (stacked (sphere_rings_of r n m)) ≡ sphere_triangles n
 sphere_count r n m some = counted (sphere_rings n) (omega arith)
   where
-    length-ring : (i : ℕ) → length (sphere_ring_at r n m i) ≡ n
-    length-ring i = simp (length-map, length-range_with_len)
-
     counted : (k : ℕ) → 0 < k → length (stacked (map (sphere_ring_at r n m) (range_with_len 0 k))) ≡ 2 * (n - 2) + 2 * n * (k - 1)
     counted zero some = absurd (omega arith)
     counted (suc k) some =
-        length-stacked n (sphere_ring_at r n m 0) (map (sphere_ring_at r n m) (range_with_len 1 k)) (length-ring 0) (alike-map (sphere_ring_at r n m) n 1 k length-ring)
+        length-stacked n (sphere_ring_at r n m 0) (map (sphere_ring_at r n m) (range_with_len 1 k)) (length-sphere_ring r n m 0) (alike-map (sphere_ring_at r n m) n 1 k (length-sphere_ring r n m))
         ∙ ap (λ l. 2 * (n - 2) + 2 * n * l) (length-map-range_with_len (sphere_ring_at r n m) 1 k ∙ omega arith)
 
 pub polyhedron_count : (points : List Pt3) (faces : List (List ℕ)) → length (fans (map (corners points) faces)) ≡ face_triangles faces

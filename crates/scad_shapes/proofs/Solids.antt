@@ -130,12 +130,12 @@ alike-map f m a (suc n) long = ap₂ (λ k b. (k == m) && b) (long a) (alike-map
     same : (m : ℕ) → (m == m) && true ≡ true
     same m = grind (arith, nat_tests)
 
-pub alike-sphere : (r : ℤ) (n : ℕ) (m : Matrix) → are_alike (sphere_rings_of r n m) ≡ true
-alike-sphere r n m = alike_of (sphere_rings n) (λ i. length-ring i)
-  where
-    length-ring : (i : ℕ) → length (sphere_ring_at r n m i) ≡ n
-    length-ring i = simp (length-map, length-range_with_len)
+pub length-sphere_ring : (r : ℤ) (n : ℕ) (m : Matrix) (i : ℕ) → length (sphere_ring_at r n m i) ≡ n
+length-sphere_ring r n m i = simp (length-map, length-range_with_len)
 
+pub alike-sphere : (r : ℤ) (n : ℕ) (m : Matrix) → are_alike (sphere_rings_of r n m) ≡ true
+alike-sphere r n m = alike_of (sphere_rings n) (λ i. length-sphere_ring r n m i)
+  where
     alike_of : (k : ℕ) → ((i : ℕ) → length (sphere_ring_at r n m i) ≡ n) → are_alike (map (sphere_ring_at r n m) (range_with_len 0 k)) ≡ true
     alike_of zero long = refl
     alike_of (suc k) long = ap (λ l. list_all (λ ring. length ring == l) (map (sphere_ring_at r n m) (range_with_len 1 k))) (long 0) ∙ alike-map (sphere_ring_at r n m) n 1 k long

@@ -1,5 +1,5 @@
 -- Every tree has a drawing, and a tree of solids has one.
-use Rattle.std.proofs.Common.{◌≡◌, ◌⊎◌, inl, inr, refl, List, [], ◌∷◌, Bool, true, false}
+use Rattle.std.proofs.Common.{ℕ, ◌≡◌, ◌⊎◌, inl, inr, refl, List, [], ◌∷◌, Bool, true, false}
 use Rattle.std.specs.List.{AllByRecursion, list_all}
 use Rattle.std.proofs.lemmas.List.Elements.{recursion_from_All, All-from_recursion}
 use Rattle.scad_solid.specs.declared.triangle.Triangle.{Triangle}
@@ -11,7 +11,6 @@ use Rattle.scad_tree.specs.Order.{surfaces}
 use Rattle.scad_tree.specs.Solids.{AreSolids}
 use Rattle.outline_laws.proofs.OneLayer.{layers_have_one_outlines}
 use Rattle.outline_laws.proofs.SomeLayer.{layers_have_outlines}
-use Rattle.scad_slice.specs.Budgets.{layer_height}
 use Rattle.scad_slice.specs.Drawing.{Drawing, IsDrawing}
 use Rattle.scad_slice.specs.Laws.{TreesHaveDrawings, DrawingsAreOne}
 
@@ -38,13 +37,13 @@ are_solids_or_not tree =
       | inr never ↦ inr (λ solids. never (recursion_from_All IsSolid (surfaces tree) solids))
     ]
 
-drawing_by : (tree : Solid) → AreSolids tree ⊎ (AreSolids tree → ⊥) → (drawing : Drawing) × IsDrawing tree drawing
-drawing_by tree (inl solids) = (λ i. (layers_have_outlines i layer_height tree solids).outlines, λ again i. (layers_have_outlines i layer_height tree solids).are_outlines)
-drawing_by tree (inr never) = (λ i. [], λ solids. absurd (never solids))
+drawing_by : (h : ℕ) (tree : Solid) → AreSolids tree ⊎ (AreSolids tree → ⊥) → (drawing : Drawing) × IsDrawing h tree drawing
+drawing_by h tree (inl solids) = (λ i. (layers_have_outlines i h tree solids).outlines, λ again i. (layers_have_outlines i h tree solids).are_outlines)
+drawing_by h tree (inr never) = (λ i. [], λ solids. absurd (never solids))
 
 pub trees_have_drawings : TreesHaveDrawings
-trees_have_drawings tree = drawing_by tree (are_solids_or_not tree)
+trees_have_drawings h tree = drawing_by h tree (are_solids_or_not tree)
 
 pub drawings_are_one : DrawingsAreOne
-drawings_are_one tree a b solids of_a of_b =
-    λ k i. layers_have_one_outlines i layer_height tree solids (a i) (b i) (of_a solids i) (of_b solids i) k
+drawings_are_one h tree a b solids of_a of_b =
+    λ k i. layers_have_one_outlines i h tree solids (a i) (b i) (of_a solids i) (of_b solids i) k

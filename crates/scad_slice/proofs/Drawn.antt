@@ -21,20 +21,20 @@ use Rattle.slice_layer.specs.Outlines.{AreLayerOutlines}
 use Rattle.outline_laws.proofs.OneLayer.{layers_have_one_outlines}
 use Rattle.slice_events.specs.Limits.{crossing_limit}
 use Rattle.cli_text.specs.Cli.{head, layer_text}
-use Rattle.scad_slice.specs.Budgets.{layer_height, layer_count, layer_limit, layers_passed, edge_limit, edges_passed, crossings_passed, budget_passed, layer_budget}
+use Rattle.scad_slice.specs.Budgets.{layer_count, layer_limit, layers_passed, edge_limit, edges_passed, crossings_passed, budget_passed, layer_budget}
 use Rattle.scad_slice.specs.Drawing.{Drawing, IsDrawing, layer_at, loop_count}
 use Rattle.scad_slice.specs.Script.{done_line, written_unless, layer_steps, drawing_end, layers_script, drawing_script, slice_script}
 use Rattle.scad_slice.specs.Playing.{EndsLayer}
 
 -- outlines of a layer are the drawing's
-pub drawn_so : (tree : Solid) (drawing : Drawing) (i : ℕ) (loops : List (List Pt)) → AreSolids tree → IsDrawing tree drawing → AreLayerOutlines i layer_height tree loops → loops ≡ drawing i
-drawn_so tree drawing i loops solids of_tree outlines =
-    layers_have_one_outlines i layer_height tree solids loops (drawing i) outlines (of_tree solids i)
+pub drawn_so : (h : ℕ) (tree : Solid) (drawing : Drawing) (i : ℕ) (loops : List (List Pt)) → AreSolids tree → IsDrawing h tree drawing → AreLayerOutlines i h tree loops → loops ≡ drawing i
+drawn_so h tree drawing i loops solids of_tree outlines =
+    layers_have_one_outlines i h tree solids loops (drawing i) outlines (of_tree solids i)
 
 -- a layer within the limits is written
-pub written_next : (tree : Solid) (drawing : Drawing) (i z : ℕ) (loops : List (List Pt)) (rest : Script) → layer_budget tree i ≡ None → z ≡ layer_height * (i + 1) → loops ≡ drawing i → layer_then (layer_steps tree drawing i) rest ≡ first (Sends Cli (layer_text (record { z = z; loops = loops })) ∷ []) rest
-written_next tree drawing i z loops rest within upper same =
-    ap (λ b. layer_then (written_unless b (layer_at drawing i)) rest) within
+pub written_next : (h : ℕ) (tree : Solid) (drawing : Drawing) (i z : ℕ) (loops : List (List Pt)) (rest : Script) → layer_budget h tree i ≡ None → z ≡ h * (i + 1) → loops ≡ drawing i → layer_then (layer_steps h tree drawing i) rest ≡ first (Sends Cli (layer_text (record { z = z; loops = loops })) ∷ []) rest
+written_next h tree drawing i z loops rest within upper same =
+    ap (λ b. layer_then (written_unless b (layer_at h drawing i)) rest) within
     ∙ (λ k. first (Sends Cli (layer_text (record { z = sym upper k; loops = sym same k })) ∷ []) rest)
 
 -- The budget, by what is counted.
@@ -69,14 +69,14 @@ crossings_ended i edges crossed count stop (few, same, many) is =
     (subst (EndsLayer (Some (crossings_passed i crossed))) (sym is) (λ k. Over (crossings_passed i (same k))))
 
 -- a layer that passes a budget ends the script
-pub layer_stops : (tree : Solid) (drawing : Drawing) (i : ℕ) (rest whole : Script) (start old : View) (passed : Option Budget) (stop : Stop) → layer_budget tree i ≡ passed → EndsLayer passed stop → Left whole (layer_then (layer_steps tree drawing i) rest) start old → Stops whole stop start old
-layer_stops tree drawing i rest whole start old (Some budget) (Stop.Ends refusal) is same left =
-    as_left (ap (λ b. layer_then (written_unless b (layer_at drawing i)) rest) is ∙ ap (λ r. ends (Refuses r)) (sym same)) left
-layer_stops tree drawing i rest whole start old None (Stop.Ends refusal) is same left = absurd same
-layer_stops tree drawing i rest whole start old passed Stop.Memory is same left = (layer_then (layer_steps tree drawing i) rest, left)
-layer_stops tree drawing i rest whole start old passed Stop.Read is same left = absurd same
-layer_stops tree drawing i rest whole start old passed Stop.Write is same left = absurd same
-layer_stops tree drawing i rest whole start old passed Stop.Silent is same left = absurd same
+pub layer_stops : (h : ℕ) (tree : Solid) (drawing : Drawing) (i : ℕ) (rest whole : Script) (start old : View) (passed : Option Budget) (stop : Stop) → layer_budget h tree i ≡ passed → EndsLayer passed stop → Left whole (layer_then (layer_steps h tree drawing i) rest) start old → Stops whole stop start old
+layer_stops h tree drawing i rest whole start old (Some budget) (Stop.Ends refusal) is same left =
+    as_left (ap (λ b. layer_then (written_unless b (layer_at h drawing i)) rest) is ∙ ap (λ r. ends (Refuses r)) (sym same)) left
+layer_stops h tree drawing i rest whole start old None (Stop.Ends refusal) is same left = absurd same
+layer_stops h tree drawing i rest whole start old passed Stop.Memory is same left = (layer_then (layer_steps h tree drawing i) rest, left)
+layer_stops h tree drawing i rest whole start old passed Stop.Read is same left = absurd same
+layer_stops h tree drawing i rest whole start old passed Stop.Write is same left = absurd same
+layer_stops h tree drawing i rest whole start old passed Stop.Silent is same left = absurd same
 
 one_layer_more : (drawing : Drawing) (i : ℕ) → loop_count drawing (i + 1) ≡ loop_count drawing i + length (drawing i)
 one_layer_more drawing i = sum_by-map-range_with_len_more length drawing 0 i i (omega arith)
@@ -87,13 +87,13 @@ counted_so drawing i before drawn sum is earlier here = is ∙ ap₂ (λ a b. a 
 
 -- The script of a tree, by its number of layers and of loops.
 
-pub within_limit : (cli : List ℕ) (drawing : Drawing) (tree : Solid) → layer_count tree ≤ layer_limit → slice_script cli drawing tree ≡ first (Makes Cli cli ∷ []) (drawing_script tree drawing)
-within_limit cli drawing tree few =
-    let within : nat_lt layer_limit (layer_count tree) ≡ false = grind (arith, nat_tests) in
-    ap (λ b. if b then ends (Refuses (Over (layers_passed (layer_count tree)))) else first (Makes Cli cli ∷ []) (drawing_script tree drawing)) within
+pub within_limit : (h : ℕ) (cli : List ℕ) (drawing : Drawing) (tree : Solid) → layer_count h tree ≤ layer_limit → slice_script h cli drawing tree ≡ first (Makes Cli cli ∷ []) (drawing_script h tree drawing)
+within_limit h cli drawing tree few =
+    let within : nat_lt layer_limit (layer_count h tree) ≡ false = grind (arith, nat_tests) in
+    ap (λ b. if b then ends (Refuses (Over (layers_passed (layer_count h tree)))) else first (Makes Cli cli ∷ []) (drawing_script h tree drawing)) within
 
-pub begins_by : (tree : Solid) (drawing : Drawing) (count : ℕ) → count ≡ layer_count tree → drawing_script tree drawing ≡ first (Sends Cli (head count) ∷ []) (layers (layer_steps tree drawing) 0 count (drawing_end drawing count))
-begins_by tree drawing count number = ap (λ n. first (Sends Cli (head n) ∷ []) (layers_script tree drawing n)) (sym number)
+pub begins_by : (h : ℕ) (tree : Solid) (drawing : Drawing) (count : ℕ) → count ≡ layer_count h tree → drawing_script h tree drawing ≡ first (Sends Cli (head count) ∷ []) (layers (layer_steps h tree drawing) 0 count (drawing_end drawing count))
+begins_by h tree drawing count number = ap (λ n. first (Sends Cli (head n) ∷ []) (layers_script h tree drawing n)) (sym number)
 
 pub ends_by : (drawing : Drawing) (count loops : ℕ) (line : List ℕ) → loops ≡ loop_count drawing count → line ≡ done_line count loops → ends (Finishes (done_line count (loop_count drawing count))) ≡ ends (Finishes line)
 ends_by drawing count loops line number is = ap (λ text. ends (Finishes text)) (ap (done_line count) (sym number) ∙ sym is)

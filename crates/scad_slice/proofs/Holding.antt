@@ -8,7 +8,7 @@ use Rattle.scad_tree.proofs.Above.{layers_hold}
 use Rattle.scad_tree.specs.Solids.{AreSolids}
 use Rattle.slice_layer.proofs.Surfaces.{solids_closed}
 use Rattle.slice_layer.proofs.Membership.{outlines_hold_centres}
-use Rattle.scad_slice.specs.Budgets.{layer_height, layer_count}
+use Rattle.scad_slice.specs.Budgets.{layer_count}
 use Rattle.scad_slice.specs.Drawing.{Drawing, IsDrawing, layer_at, layers_of}
 use Rattle.scad_slice.specs.Membership.{IsLayerOf}
 use Rattle.scad_slice.specs.Laws.{DrawingsHold}
@@ -21,23 +21,23 @@ made_at f a (suc n) (suc i) below =
     let less : i < n = omega (arith, below) in
     made_at f (a + 1) n i less ∙ ap (λ k. Some (f k)) (omega arith)
 
-layer_holds : (tree : Solid) (drawing : Drawing) → AreSolids tree → IsDrawing tree drawing → (i : ℕ) → IsLayerOf tree i (layer_at drawing i)
-layer_holds tree drawing solids of_tree i =
+layer_holds : (h : ℕ) (tree : Solid) (drawing : Drawing) → AreSolids tree → IsDrawing h tree drawing → (i : ℕ) → IsLayerOf h tree i (layer_at h drawing i)
+layer_holds h tree drawing solids of_tree i =
     record {
       z = refl;
-      centres = outlines_hold_centres i layer_height tree (drawing i) (solids_closed tree solids) (of_tree solids i);
+      centres = outlines_hold_centres i h tree (drawing i) (solids_closed tree solids) (of_tree solids i);
     }
 
 pub drawings_hold : DrawingsHold
-drawings_hold tree drawing solids of_tree =
-    let number : length (layers_of drawing (layer_count tree)) ≡ layer_count tree = length-map-range_with_len (layer_at drawing) 0 (layer_count tree) in
+drawings_hold h tree drawing some solids of_tree =
+    let number : length (layers_of h drawing (layer_count h tree)) ≡ layer_count h tree = length-map-range_with_len (layer_at h drawing) 0 (layer_count h tree) in
     record {
       number = number;
       each = λ i inside.
-          let within : i < layer_count tree = omega (arith, inside, number) in
-          let there : slice_get (layers_of drawing (layer_count tree)) i ≡ Some (layer_at drawing i) = made_at (layer_at drawing) 0 (layer_count tree) i within ∙ ap (λ k. Some (layer_at drawing k)) (omega arith) in
-          subst (λ found. IsSomeAnd found (IsLayerOf tree i)) (sym there) (layer_holds tree drawing solids of_tree i);
+          let within : i < layer_count h tree = omega (arith, inside, number) in
+          let there : slice_get (layers_of h drawing (layer_count h tree)) i ≡ Some (layer_at h drawing i) = made_at (layer_at h drawing) 0 (layer_count h tree) i within ∙ ap (λ k. Some (layer_at h drawing k)) (omega arith) in
+          subst (λ found. IsSomeAnd found (IsLayerOf h tree i)) (sym there) (layer_holds h tree drawing solids of_tree i);
       above = λ i q more.
-          let past : layer_count tree ≤ i = omega (arith, more, number) in
-          layers_hold.above tree layer_height i q (omega arith) past;
+          let past : layer_count h tree ≤ i = omega (arith, more, number) in
+          layers_hold.above tree h i q some past;
     }

@@ -24,15 +24,15 @@ only_sends : (passed : Option Budget) (layer : Layer) → IfOk (written_unless p
 only_sends None layer = tt
 only_sends (Some budget) layer = tt
 
-drawing_draws : (given : Given) (tree : Solid) (drawing : Drawing) → Draws given (drawing_script tree drawing).steps
-drawing_draws given tree drawing =
-    piece_draws given Cli (head (layer_count tree)) _ tt
-    (layers_draw given (layer_steps tree drawing) 0 (layer_count tree) (drawing_end drawing (layer_count tree)) (λ k. only_sends (layer_budget tree k) (layer_at drawing k))
+drawing_draws : (h : ℕ) (given : Given) (tree : Solid) (drawing : Drawing) → Draws given (drawing_script h tree drawing).steps
+drawing_draws h given tree drawing =
+    piece_draws given Cli (head (layer_count h tree)) _ tt
+    (layers_draw given (layer_steps h tree drawing) 0 (layer_count h tree) (drawing_end drawing (layer_count h tree)) (λ k. only_sends (layer_budget h tree k) (layer_at h drawing k))
     (piece_draws given Cli geometry_end [] tt (record { order = tt; stand = tt })))
 
-drawing_there : (tree : Solid) (drawing : Drawing) → (drawing_script tree drawing).ending ≢ Lacks
-drawing_there tree drawing =
-    layers_lack (layer_steps tree drawing) 0 (layer_count tree) (drawing_end drawing (layer_count tree)) (λ same. let never : ⊥ = cc in absurd never)
+drawing_there : (h : ℕ) (tree : Solid) (drawing : Drawing) → (drawing_script h tree drawing).ending ≢ Lacks
+drawing_there h tree drawing =
+    layers_lack (layer_steps h tree drawing) 0 (layer_count h tree) (drawing_end drawing (layer_count h tree)) (λ same. let never : ⊥ = cc in absurd never)
 
 -- a file of outlines is never empty
 head_some : (count : ℕ) (rest : List ℕ) → head count ++ rest ≢ []
@@ -43,18 +43,18 @@ from_later : (steps : List Step) → AllFrom drawing_stage steps → AllFrom ech
 from_later [] all = tt
 from_later (s ∷ ss) all = let late = all.0 in (omega (arith, late), from_later ss all.1)
 
-made_draws : (given : Given) (cli : List ℕ) (drawing : Drawing) (tree : Solid) → given.cli ≡ Some cli → DrawsInOrder given (first (Makes Cli cli ∷ []) (drawing_script tree drawing))
-made_draws given cli drawing tree named =
-    let draws = drawing_draws given tree drawing in
+made_draws : (h : ℕ) (given : Given) (cli : List ℕ) (drawing : Drawing) (tree : Solid) → given.cli ≡ Some cli → DrawsInOrder given (first (Makes Cli cli ∷ []) (drawing_script h tree drawing))
+made_draws h given cli drawing tree named =
+    let draws = drawing_draws h given tree drawing in
     record {
-      order = (omega arith, from_later (drawing_script tree drawing).steps draws.order);
-      stand = (record { order = draws.order; name = named; filled = head_some (layer_count tree) _ }, draws.stand);
-      there = drawing_there tree drawing;
+      order = (omega arith, from_later (drawing_script h tree drawing).steps draws.order);
+      stand = (record { order = draws.order; name = named; filled = head_some (layer_count h tree) _ }, draws.stand);
+      there = drawing_there h tree drawing;
     }
 
-draws_if : (given : Given) (cli : List ℕ) (drawing : Drawing) (tree : Solid) (many : Bool) → given.cli ≡ Some cli → DrawsInOrder given (if many then ends (Refuses (Over (layers_passed (layer_count tree)))) else first (Makes Cli cli ∷ []) (drawing_script tree drawing))
-draws_if given cli drawing tree true named = record { order = tt; stand = tt; there = λ same. let never : ⊥ = cc in absurd never }
-draws_if given cli drawing tree false named = made_draws given cli drawing tree named
+draws_if : (h : ℕ) (given : Given) (cli : List ℕ) (drawing : Drawing) (tree : Solid) (many : Bool) → given.cli ≡ Some cli → DrawsInOrder given (if many then ends (Refuses (Over (layers_passed (layer_count h tree)))) else first (Makes Cli cli ∷ []) (drawing_script h tree drawing))
+draws_if h given cli drawing tree true named = record { order = tt; stand = tt; there = λ same. let never : ⊥ = cc in absurd never }
+draws_if h given cli drawing tree false named = made_draws h given cli drawing tree named
 
-pub slice_draws : (given : Given) (cli : List ℕ) (drawing : Drawing) (tree : Solid) → given.cli ≡ Some cli → DrawsInOrder given (slice_script cli drawing tree)
-slice_draws given cli drawing tree named = draws_if given cli drawing tree (nat_lt layer_limit (layer_count tree)) named
+pub slice_draws : (h : ℕ) (given : Given) (cli : List ℕ) (drawing : Drawing) (tree : Solid) → given.cli ≡ Some cli → DrawsInOrder given (slice_script h cli drawing tree)
+slice_draws h given cli drawing tree named = draws_if h given cli drawing tree (nat_lt layer_limit (layer_count h tree)) named

@@ -1,4 +1,5 @@
--- The layers of a tree, what is counted of them, and the budgets that they may pass.
+-- The layers of a tree, what is counted of them, and the budgets that they may pass; h is the height of a layer in
+-- micrometres.
 use Rattle.std.specs.Prelude.{ℕ, Option, Some, None, length, nat_lt, if◌then◌else◌}
 use Rattle.scad_fault.specs.declared.budget.Budget.{Budget}
 use Rattle.scad_fault.specs.declared.budget.BudgetKind.TheVariants.{Layers, LayerEdges, LayerCrossings}
@@ -9,13 +10,9 @@ use Rattle.scad_tree.specs.Solid.{Solid}
 use Rattle.scad_tree.specs.Height.{layers}
 use Rattle.scad_tree.specs.Sections.{tree_section}
 
--- the layer height where no settings are given, in micrometres
-abbrev pub layer_height : ℕ
-layer_height = 200
-
 -- how many layers a tree has
-abbrev pub layer_count : Solid → ℕ
-layer_count tree = layers tree layer_height
+abbrev pub layer_count : ℕ → Solid → ℕ
+layer_count h tree = layers tree h
 
 -- a tree has at most so many layers
 abbrev pub layer_limit : ℕ
@@ -45,7 +42,7 @@ budget_passed layer edges crossed =
     else None
 
 -- the budget that a layer of a tree passes, if any
-unfoldable pub layer_budget : Solid → ℕ → Option Budget
-layer_budget tree layer =
-    let section = tree_section layer layer_height tree in
+unfoldable pub layer_budget : ℕ → Solid → ℕ → Option Budget
+layer_budget h tree layer =
+    let section = tree_section layer h tree in
     budget_passed layer (length section) (crossings section)

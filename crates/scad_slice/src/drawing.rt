@@ -21,22 +21,29 @@ use scad_script::{Stop, send};
 use scad_tree::Tree;
 use std::alloc::{AllocError, Global};
 
-/// Writes the outlines of a tree that has so many layers, and gives the last line.
-pub fn draw<D: Desk>(alloc: Global, tree: &Tree, count: u32, desk: &mut D) -> Result<Text, Stop>
-    requires number { count ≡ layer_count (solid_of tree.now) }
+/// Writes the outlines of a tree that has so many layers of this height, and gives the last line.
+pub fn draw<D: Desk>(
+    alloc: Global,
+    tree: &Tree,
+    height: u32,
+    count: u32,
+    desk: &mut D,
+) -> Result<Text, Stop>
+    requires thin { height ≤ 100000 }
+    requires number { count ≡ layer_count height (solid_of tree.now) }
     requires few { count ≤ layer_limit }
     requires solids { AreSolids (solid_of tree.now) }
     requires sound { Sound (D.view desk.old) }
     requires made { (D.view desk.old).cli.created ≡ true }
 
-    ensures completes { (drawing : _) → IsDrawing (solid_of tree.now) drawing
-        → Completes (drawing_script (solid_of tree.now) drawing) result (D.view desk.old) (D.view desk.new) }
+    ensures completes { (drawing : _) → IsDrawing height (solid_of tree.now) drawing
+        → Completes (drawing_script height (solid_of tree.now) drawing) result (D.view desk.old) (D.view desk.new) }
     ensures files { D.files desk.new ≡ D.files desk.old }
     ensures later { D.faults desk.old ≤ D.faults desk.new }
     ensures cause { HasRisen result (D.faults desk.old) (D.faults desk.new) }
 {
     send_head(alloc, count, desk)?;
-    let loops = draw_layers(alloc, tree, count, desk)?;
+    let loops = draw_layers(alloc, tree, height, count, desk)?;
     send_end(alloc, desk)?;
     let line = done_line(alloc, count, loops)?;
     Ok(Text::from_vec(line))
@@ -60,15 +67,22 @@ fn send_head<D: Desk>(alloc: Global, count: u32, desk: &mut D) -> Result<(), Sto
 
 /// Writes so many layers from the lowest upwards: how many outlines they have together. No memory holds more than a number
 /// can count.
-fn draw_layers<D: Desk>(alloc: Global, tree: &Tree, count: u32, desk: &mut D) -> Result<u64, Stop>
+fn draw_layers<D: Desk>(
+    alloc: Global,
+    tree: &Tree,
+    height: u32,
+    count: u32,
+    desk: &mut D,
+) -> Result<u64, Stop>
+    requires thin { height ≤ 100000 }
     requires few { count ≤ layer_limit }
     requires solids { AreSolids (solid_of tree.now) }
     requires sound { Sound (D.view desk.old) }
     requires made { (D.view desk.old).cli.created ≡ true }
 
-    ensures carries { (drawing : _) → IsDrawing (solid_of tree.now) drawing
-        → Carries (layers (layer_steps (solid_of tree.now) drawing) 0 count) result (D.view desk.old) (D.view desk.new) }
-    ensures loops { IfOk result (λ loops. (drawing : _) → IsDrawing (solid_of tree.now) drawing → loops ≡ loop_count drawing count) }
+    ensures carries { (drawing : _) → IsDrawing height (solid_of tree.now) drawing
+        → Carries (layers (layer_steps height (solid_of tree.now) drawing) 0 count) result (D.view desk.old) (D.view desk.new) }
+    ensures loops { IfOk result (λ loops. (drawing : _) → IsDrawing height (solid_of tree.now) drawing → loops ≡ loop_count drawing count) }
     ensures sound { OnOk result (Sound (D.view desk.new)) }
     ensures creates { OnOk result (CreatesNone (D.view desk.old) (D.view desk.new)) }
     ensures files { D.files desk.new ≡ D.files desk.old }
@@ -77,7 +91,7 @@ fn draw_layers<D: Desk>(alloc: Global, tree: &Tree, count: u32, desk: &mut D) ->
 {
     let mut loops: u64 = 0;
     'layers: for layer in 0..count {
-        let drawn = draw_layer(alloc, tree, layer, desk)?;
+        let drawn = draw_layer(alloc, tree, height, layer, desk)?;
         loops = match loops.checked_add(drawn) {
             Some(sum) => sum,
             None => return Err(Stop::Memory),

@@ -11,4 +11,4 @@ mod slicing;
 #[cfg(test)]
 mod tests;
 
-pub use slicing::{LAYER_HEIGHT, LAYER_LIMIT, slice};
+pub use slicing::{LAYER_LIMIT, slice};

@@ -14,31 +14,37 @@ use scad_script::{Refusal, Stop, make};
 use scad_tree::Tree;
 use std::alloc::Global;
 
-/// The layer height where no settings are given, in micrometres.
-pub const LAYER_HEIGHT: u32 = 200;
-
 /// The most layers of a tree.
 pub const LAYER_LIMIT: u32 = 20_000;
 
-/// Writes the outlines of a tree to the file of this name, a layer at a time: the last line, or why it stopped.
+/// Writes the outlines of a tree to the file of this name, a layer of this height in micrometres at a time: the last line,
+/// or why it stopped.
 ///
 /// More than 20,000 layers are refused before the file is created. A layer whose section has more than 20,000 edges, or
 /// then more than 2,000,000 crossings of edges, ends the file before its own bytes.
-pub fn slice<D: Desk>(alloc: Global, tree: &Tree, cli: &str, desk: &mut D) -> Result<Text, Stop>
+pub fn slice<D: Desk>(
+    alloc: Global,
+    tree: &Tree,
+    height: u32,
+    cli: &str,
+    desk: &mut D,
+) -> Result<Text, Stop>
+    requires some { 1 ≤ height }
+    requires thin { height ≤ 100000 }
     requires solids { AreSolids (solid_of tree.now) }
     requires sound { Sound (D.view desk.old) }
     requires absent { (D.view desk.old).cli.created ≡ false }
 
-    ensures completes { (drawing : _) → IsDrawing (solid_of tree.now) drawing
-        → Completes (slice_script cli.now drawing (solid_of tree.now)) result (D.view desk.old) (D.view desk.new) }
+    ensures completes { (drawing : _) → IsDrawing height (solid_of tree.now) drawing
+        → Completes (slice_script height cli.now drawing (solid_of tree.now)) result (D.view desk.old) (D.view desk.new) }
     ensures files { D.files desk.new ≡ D.files desk.old }
     ensures later { D.faults desk.old ≤ D.faults desk.new }
     ensures cause { HasRisen result (D.faults desk.old) (D.faults desk.new) }
 {
-    let layers = tree.layers(LAYER_HEIGHT);
+    let layers = tree.layers(height);
     if layers > LAYER_LIMIT {
         return Err(Stop::Ends(Refusal::Over(Budget::layers(u64::from(layers)))));
     }
     make(desk, Out::Cli, cli)?;
-    draw(alloc, tree, layers, desk)
+    draw(alloc, tree, height, layers, desk)
 }

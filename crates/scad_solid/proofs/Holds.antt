@@ -1,11 +1,11 @@
 -- What prisms and boxes contain, from how their cuts wind.
 use Rattle.std.proofs.Common.{◌≡◌, ◌≢◌, inl, inr, ℕ, zero, suc, ◌+◌, ◌*◌, ◌/◌, Bool, true, false, not, ◌&&◌, List, ℤ, pos, negsuc, neg_ℤ, ◌+ℤ◌, ◌*ℤ◌, ◌<ℤ◌, arith, refl, ap, ap₂, sym, ◌∙◌, subst}
-use Rattle.scad_base.proofs.Tests.{int_lt-true}
+use Rattle.scad_base.proofs.Tests.{int_lt-true, int_lt-less}
 use Rattle.std.specs.Prelude.{int_lt}
 use Rattle.std.specs.Bool.{Decides}
 use Rattle.std.specs.Ordering.{int_eq}
 use Rattle.std.proofs.lemmas.Int.{ints}
-use Rattle.std.proofs.lemmas.Bool.Decides.{Decides-at, Decides-int_eq, Decides-not, same_from_decides}
+use Rattle.std.proofs.lemmas.Bool.Decides.{Decides-at, Decides-int_eq, Decides-not, same_from_decides, Decides-and}
 use Rattle.scad_geom.specs.declared.point.Pt.{Pt}
 use Rattle.scad_geom.specs.declared.point3.Pt3.{Pt3}
 use Rattle.scad_geom.specs.declared.half.Half.TheVariants.{Cell}
@@ -19,6 +19,7 @@ use Rattle.scad_solid.specs.Cut.{plane_of, contains, is_above, is_below}
 use Rattle.scad_solid.specs.Laws.{prism, rectangle, box, IsBetween, IsCentreBetween, HoldBetween, HoldInside, PrismsHold, BoxesHold}
 use Rattle.scad_solid.proofs.Prism.{winds, prism_wind}
 use Rattle.scad_solid.proofs.Rectangle.{boxed, rectangle_wind}
+use Rattle.std.proofs.lemmas.Bool.{not-true, false_from_ne_true}
 
 -- exactly one of two tests holds
 abbrev differ : Bool → Bool → Bool
@@ -29,15 +30,8 @@ differ false b = b
 odd_apart : (k z : ℤ) → int_lt (pos 2 *ℤ z) (pos 2 *ℤ k +ℤ pos 1) ≡ not (int_lt (pos 2 *ℤ k +ℤ pos 1) (pos 2 *ℤ z))
 odd_apart k z = grind (arith, ints)
 
-is_less : (a b : ℤ) → a <ℤ b → int_lt a b ≡ true
-is_less a b l = grind (arith, ints)
-
 never : {P : Type 0} → false ≡ true → P
 never e = absurd (cc)
-
-below_not : (t : Bool) → not t ≡ true → t ≡ false
-below_not true e = sym e
-below_not false e = refl
 
 -- an odd number lies strictly between two even ones exactly where it lies below one of the two
 module _ (k a b : ℤ) where
@@ -51,17 +45,17 @@ module _ (k a b : ℤ) where
   between true false ea eb e = inr (int_lt-true (pos 2 *ℤ b) odd (odd_apart k b ∙ ap not eb), int_lt-true odd (pos 2 *ℤ a) ea)
 
   below_one : int_lt (pos 2 *ℤ a) odd ≡ true → int_lt odd (pos 2 *ℤ b) ≡ true → differ (int_lt odd (pos 2 *ℤ a)) (int_lt odd (pos 2 *ℤ b)) ≡ true
-  below_one ea eb = ap₂ differ (below_not (int_lt odd (pos 2 *ℤ a)) (sym (odd_apart k a) ∙ ea)) eb
+  below_one ea eb = ap₂ differ (not-true (int_lt odd (pos 2 *ℤ a)) (sym (odd_apart k a) ∙ ea)) eb
 
   below_other : int_lt odd (pos 2 *ℤ a) ≡ true → int_lt (pos 2 *ℤ b) odd ≡ true → differ (int_lt odd (pos 2 *ℤ a)) (int_lt odd (pos 2 *ℤ b)) ≡ true
-  below_other ea eb = ap₂ differ ea (below_not (int_lt odd (pos 2 *ℤ b)) (sym (odd_apart k b) ∙ eb))
+  below_other ea eb = ap₂ differ ea (not-true (int_lt odd (pos 2 *ℤ b)) (sym (odd_apart k b) ∙ eb))
 
   between_told : Decides (differ (int_lt odd (pos 2 *ℤ a)) (int_lt odd (pos 2 *ℤ b))) (IsBetween odd a b)
   between_told = (between (int_lt odd (pos 2 *ℤ a)) (int_lt odd (pos 2 *ℤ b)) refl refl, told)
     where
       told : IsBetween odd a b → differ (int_lt odd (pos 2 *ℤ a)) (int_lt odd (pos 2 *ℤ b)) ≡ true
-      told (inl (la, lb)) = below_one (is_less (pos 2 *ℤ a) odd la) (is_less odd (pos 2 *ℤ b) lb)
-      told (inr (lb, la)) = below_other (is_less odd (pos 2 *ℤ a) la) (is_less (pos 2 *ℤ b) odd lb)
+      told (inl (la, lb)) = below_one (int_lt-less (pos 2 *ℤ a) odd la) (int_lt-less odd (pos 2 *ℤ b) lb)
+      told (inr (lb, la)) = below_other (int_lt-less odd (pos 2 *ℤ a) la) (int_lt-less (pos 2 *ℤ b) odd lb)
 
 -- the whole height just below the plane of a layer; twice the plane's own height is an odd number
 abbrev middle : ℕ → ℕ → ℤ
@@ -69,10 +63,6 @@ middle layer h = pos (layer * h + h / 2)
 
 plane_odd : (layer h : ℕ) → plane_of layer h ≡ pos 2 *ℤ middle layer h +ℤ pos 1
 plane_odd layer h = omega (arith, ints)
-
-both_Decides : {P Q : Type 0} (a b : Bool) → Decides a P → Decides b Q → Decides (a && b) (P × Q)
-both_Decides true b da db = ((λ e. (da.0 refl, db.0 e)), (λ pq. db.1 pq.1))
-both_Decides false b da db = ((λ e. never e), (λ pq. da.1 pq.0))
 
 -- whether cuts wind at all, by the tests on which that depends
 neg_is_zero : (c : ℤ) → neg_ℤ c ≡ pos 0 → c ≡ pos 0
@@ -92,13 +82,9 @@ winds_some true false c = ap not (is_zero-neg c)
 winds_some false true c = refl
 winds_some false false c = refl
 
-not_true : (b : Bool) → (b ≡ true → ⊥) → false ≡ b
-not_true true none = absurd (none refl)
-not_true false none = refl
-
 is_zero-eq : (c : ℤ) → is_zero c ≡ int_eq c (pos 0)
 is_zero-eq (pos zero) = refl
-is_zero-eq (pos (suc n)) = let some = Decides-int_eq (pos (suc n)) (pos 0) in not_true (int_eq (pos (suc n)) (pos 0)) (λ e. absurd (omega (arith, ints, some.0 e)))
+is_zero-eq (pos (suc n)) = let some = Decides-int_eq (pos (suc n)) (pos 0) in sym (false_from_ne_true (int_eq (pos (suc n)) (pos 0)) (λ e. absurd (omega (arith, ints, some.0 e))))
 is_zero-eq (negsuc n) = refl
 
 boxed_some : (a b c d : Bool) → not (int_eq (boxed a b c d) (pos 0)) ≡ differ c d && differ a b
@@ -120,34 +106,34 @@ boxed_some false false false true = refl
 boxed_some false false false false = refl
 
 module _ (layer h : ℕ) where
-  apart : (z : ℤ) → is_below (plane_of layer h) z ≡ not (is_above (plane_of layer h) z)
-  apart z = ap (λ p. int_lt (pos 2 *ℤ z) p) (plane_odd layer h) ∙ odd_apart (middle layer h) z ∙ ap (λ p. not (int_lt p (pos 2 *ℤ z))) (sym (plane_odd layer h))
+  pub below_or_above : (z : ℤ) → is_below (plane_of layer h) z ≡ not (is_above (plane_of layer h) z)
+  below_or_above z = ap (λ p. int_lt (pos 2 *ℤ z) p) (plane_odd layer h) ∙ odd_apart (middle layer h) z ∙ ap (λ p. not (int_lt p (pos 2 *ℤ z))) (sym (plane_odd layer h))
 
   plane_between : (a b : ℤ) → Decides (differ (is_above (plane_of layer h) a) (is_above (plane_of layer h) b)) (IsBetween (plane_of layer h) a b)
   plane_between a b = subst (λ p. Decides (differ (int_lt p (pos 2 *ℤ a)) (int_lt p (pos 2 *ℤ b))) (IsBetween p a b)) (sym (plane_odd layer h)) (between_told (middle layer h) a b)
 
   prism_contains : (upper lower : ℤ) (ring : List Pt) (p : Point) → pos 0 <ℤ p.d → contains (plane_of layer h) (prism upper lower ring) p ≡ differ (is_above (plane_of layer h) upper) (is_above (plane_of layer h) lower) && not (int_eq (wind p (segments (sides ring))) (pos 0))
   prism_contains upper lower ring p some =
-      ap (λ w. not (is_zero w)) (prism_wind (plane_of layer h) upper lower (apart upper) (apart lower) ring p some)
+      ap (λ w. not (is_zero w)) (prism_wind (plane_of layer h) upper lower (below_or_above upper) (below_or_above lower) ring p some)
       ∙ ap not (is_zero-eq (winds (is_above (plane_of layer h) upper) (is_above (plane_of layer h) lower) (wind p (segments (sides ring)))))
       ∙ winds_some (is_above (plane_of layer h) upper) (is_above (plane_of layer h) lower) (wind p (segments (sides ring)))
 
   prism_Decides : (upper lower : ℤ) (ring : List Pt) (p : Point) → pos 0 <ℤ p.d → Decides (contains (plane_of layer h) (prism upper lower ring) p) (IsBetween (plane_of layer h) upper lower × (wind p (segments (sides ring)) ≢ pos 0))
   prism_Decides upper lower ring p some =
       Decides-at _ _ (prism_contains upper lower ring p some)
-      (both_Decides _ _ (plane_between upper lower) (Decides-not (int_eq (wind p (segments (sides ring))) (pos 0)) (Decides-int_eq (wind p (segments (sides ring))) (pos 0))))
+      (Decides-and _ _ (plane_between upper lower) (Decides-not (int_eq (wind p (segments (sides ring))) (pos 0)) (Decides-int_eq (wind p (segments (sides ring))) (pos 0))))
 
   rectangle_Decides : (x0 y0 x1 y1 i j : ℤ) → Decides (not (int_eq (wind (centre i j) (segments (sides (rectangle x0 y0 x1 y1)))) (pos 0))) (IsBetween (doubled Cell i) x0 x1 × IsBetween (doubled Cell j) y0 y1)
   rectangle_Decides x0 y0 x1 y1 i j =
       Decides-at _ _
       (ap (λ w. not (int_eq w (pos 0))) (rectangle_wind x0 y0 x1 y1 (doubled Cell i) (doubled Cell j))
       ∙ boxed_some (int_lt (doubled Cell j) (pos 2 *ℤ y0)) (int_lt (doubled Cell j) (pos 2 *ℤ y1)) (int_lt (doubled Cell i) (pos 2 *ℤ x0)) (int_lt (doubled Cell i) (pos 2 *ℤ x1)))
-      (both_Decides _ _ (between_told i x0 x1) (between_told j y0 y1))
+      (Decides-and _ _ (between_told i x0 x1) (between_told j y0 y1))
 
   box_Decides : (p q : Pt3) (i j : ℤ) → Decides (contains (plane_of layer h) (box p q) (centre i j)) (IsCentreBetween p q layer h i j)
   box_Decides p q i j =
       let whole = Decides-at _ _ (prism_contains q.z p.z (rectangle p.x p.y q.x q.y) (centre i j) (omega (arith, ints)))
-      (both_Decides _ _ (plane_between q.z p.z) (rectangle_Decides p.x p.y q.x q.y i j)) in (
+      (Decides-and _ _ (plane_between q.z p.z) (rectangle_Decides p.x p.y q.x q.y i j)) in (
         (λ t. let all = whole.0 t in record { across = all.1.0; along = all.1.1; upwards = turned (plane_of layer h) q.z p.z all.0 }),
         (λ c. whole.1 (turned (plane_of layer h) p.z q.z c.upwards, (c.across, c.along))),
       )

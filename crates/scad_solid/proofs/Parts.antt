@@ -6,7 +6,7 @@ use Rattle.scad_geom.specs.declared.point.Pt.{Pt}
 use Rattle.scad_geom.specs.declared.point.Edge.{Edge}
 use Rattle.scad_geom.specs.Winding.{counted}
 use Rattle.scad_geom.proofs.Crossing.{side_of, crossing, scaled, times_point}
-use Rattle.scad_geom.proofs.Ring.{solve, var, plus, less, times}
+use Rattle.scad_geom.proofs.Ring.{ring, var, plus, less, times}
 use Rattle.scad_base.proofs.Tests.{cond_same}
 
 -- the crossing by whether each end lies above, and on which side the point lies
@@ -42,7 +42,7 @@ gap_sign a b = grind (arith, ints)
 side_of-scaled : (k : ℤ) (e : Edge) (x y : ℤ) → side_of (scaled k e) (k *ℤ x) (k *ℤ y) ≡ k *ℤ (k *ℤ side_of e x y)
 side_of-scaled k e x y =
     let K = var 0 in let AX = var 1 in let AY = var 2 in let BX = var 3 in let BY = var 4 in let X = var 5 in let Y = var 6 in
-    solve (k ∷ e.a.x ∷ e.a.y ∷ e.b.x ∷ e.b.y ∷ x ∷ y ∷ [])
+    ring (k ∷ e.a.x ∷ e.a.y ∷ e.b.x ∷ e.b.y ∷ x ∷ y ∷ [])
     (less (times (less (times K BX) (times K AX)) (less (times K Y) (times K AY))) (times (less (times K BY) (times K AY)) (less (times K X) (times K AX))))
     (times K (times K (less (times (less BX AX) (less Y AY)) (times (less BY AY) (less X AX))))) refl
 
@@ -55,7 +55,7 @@ crossing-scaled k e x y =
   where
     height : (h : ℤ) → int_lt (pos (suc k) *ℤ y) (pos (suc k) *ℤ h) ≡ int_lt y h
     height h =
-        let factor : pos (suc k) *ℤ h -ℤ pos (suc k) *ℤ y ≡ pos (suc k) *ℤ (h -ℤ y) = solve (pos (suc k) ∷ h ∷ y ∷ []) (less (times (var 0) (var 1)) (times (var 0) (var 2))) (times (var 0) (less (var 1) (var 2))) refl in
+        let factor : pos (suc k) *ℤ h -ℤ pos (suc k) *ℤ y ≡ pos (suc k) *ℤ (h -ℤ y) = ring (pos (suc k) ∷ h ∷ y ∷ []) (less (times (var 0) (var 1)) (times (var 0) (var 2))) (times (var 0) (less (var 1) (var 2))) refl in
         gap_sign (pos (suc k) *ℤ y) (pos (suc k) *ℤ h) ∙ ap (int_lt (pos 0)) factor ∙ sign_up k (h -ℤ y) ∙ sym (gap_sign y h)
 
     left : int_lt (pos 0) (side_of (scaled (pos (suc k)) e) (pos (suc k) *ℤ x) (pos (suc k) *ℤ y)) ≡ int_lt (pos 0) (side_of e x y)
@@ -89,7 +89,7 @@ side_of-first : (u v ax ay bx by x y : ℤ) →
 side_of-first u v ax ay bx by x y =
     let U = var 0 in let V = var 1 in let AX = var 2 in let AY = var 3 in let BX = var 4 in let BY = var 5 in let X = var 6 in let Y = var 7 in
     let W = plus U V in
-    solve (u ∷ v ∷ ax ∷ ay ∷ bx ∷ by ∷ x ∷ y ∷ [])
+    ring (u ∷ v ∷ ax ∷ ay ∷ bx ∷ by ∷ x ∷ y ∷ [])
     (less (times (less (plus (times U AX) (times V BX)) (times W AX)) (less (times W Y) (times W AY))) (times (less (plus (times U AY) (times V BY)) (times W AY)) (less (times W X) (times W AX))))
     (times W (times V (less (times (less BX AX) (less Y AY)) (times (less BY AY) (less X AX))))) refl
 
@@ -99,7 +99,7 @@ side_of-second : (u v ax ay bx by x y : ℤ) →
 side_of-second u v ax ay bx by x y =
     let U = var 0 in let V = var 1 in let AX = var 2 in let AY = var 3 in let BX = var 4 in let BY = var 5 in let X = var 6 in let Y = var 7 in
     let W = plus U V in
-    solve (u ∷ v ∷ ax ∷ ay ∷ bx ∷ by ∷ x ∷ y ∷ [])
+    ring (u ∷ v ∷ ax ∷ ay ∷ bx ∷ by ∷ x ∷ y ∷ [])
     (less (times (less (times W BX) (plus (times U AX) (times V BX))) (less (times W Y) (plus (times U AY) (times V BY)))) (times (less (times W BY) (plus (times U AY) (times V BY))) (less (times W X) (plus (times U AX) (times V BX)))))
     (times W (times U (less (times (less BX AX) (less Y AY)) (times (less BY AY) (less X AX))))) refl
 
@@ -126,12 +126,12 @@ module _ (u v : ℤ) (some_u : pos 0 <ℤ u) (some_v : pos 0 <ℤ v) (e : Edge) 
 
   height : (h : ℤ) → int_lt ((u +ℤ v) *ℤ y) ((u +ℤ v) *ℤ h) ≡ int_lt y h
   height h =
-      let factor : (u +ℤ v) *ℤ h -ℤ (u +ℤ v) *ℤ y ≡ (u +ℤ v) *ℤ (h -ℤ y) = solve (u ∷ v ∷ h ∷ y ∷ []) (less (times (plus (var 0) (var 1)) (var 2)) (times (plus (var 0) (var 1)) (var 3))) (times (plus (var 0) (var 1)) (less (var 2) (var 3))) refl in
+      let factor : (u +ℤ v) *ℤ h -ℤ (u +ℤ v) *ℤ y ≡ (u +ℤ v) *ℤ (h -ℤ y) = ring (u ∷ v ∷ h ∷ y ∷ []) (less (times (plus (var 0) (var 1)) (var 2)) (times (plus (var 0) (var 1)) (var 3))) (times (plus (var 0) (var 1)) (less (var 2) (var 3))) refl in
       gap_sign ((u +ℤ v) *ℤ y) ((u +ℤ v) *ℤ h) ∙ ap (int_lt (pos 0)) factor ∙ sign_up_by (u +ℤ v) (h -ℤ y) whole_some ∙ sym (gap_sign y h)
 
   middle : int_lt ((u +ℤ v) *ℤ y) (u *ℤ e.a.y +ℤ v *ℤ e.b.y) ≡ int_lt (pos 0) (u *ℤ (e.a.y -ℤ y) +ℤ v *ℤ (e.b.y -ℤ y))
   middle =
-      let factor : (u *ℤ e.a.y +ℤ v *ℤ e.b.y) -ℤ (u +ℤ v) *ℤ y ≡ u *ℤ (e.a.y -ℤ y) +ℤ v *ℤ (e.b.y -ℤ y) = solve (u ∷ v ∷ e.a.y ∷ e.b.y ∷ y ∷ []) (less (plus (times (var 0) (var 2)) (times (var 1) (var 3))) (times (plus (var 0) (var 1)) (var 4))) (plus (times (var 0) (less (var 2) (var 4))) (times (var 1) (less (var 3) (var 4)))) refl in
+      let factor : (u *ℤ e.a.y +ℤ v *ℤ e.b.y) -ℤ (u +ℤ v) *ℤ y ≡ u *ℤ (e.a.y -ℤ y) +ℤ v *ℤ (e.b.y -ℤ y) = ring (u ∷ v ∷ e.a.y ∷ e.b.y ∷ y ∷ []) (less (plus (times (var 0) (var 2)) (times (var 1) (var 3))) (times (plus (var 0) (var 1)) (var 4))) (plus (times (var 0) (less (var 2) (var 4))) (times (var 1) (less (var 3) (var 4)))) refl in
       gap_sign ((u +ℤ v) *ℤ y) (u *ℤ e.a.y +ℤ v *ℤ e.b.y) ∙ ap (int_lt (pos 0)) factor
 
   weighted_sign : (k h : ℤ) → pos 0 <ℤ k → int_lt (pos 0) (k *ℤ (h -ℤ y)) ≡ int_lt y h

@@ -15,7 +15,7 @@ use Rattle.scad_geom.specs.Segment.{Segment, segments}
 use Rattle.scad_geom.specs.Winding.{turn, wind}
 use Rattle.scad_geom.proofs.Crossing.{side_of, crossing, scaled, times_point}
 use Rattle.scad_geom.proofs.Doubled.{turn_scaled}
-use Rattle.scad_geom.proofs.Ring.{Term, solve, var, num, plus, less, times}
+use Rattle.scad_geom.proofs.Ring.{Term, ring, var, num, plus, less, times}
 use Rattle.scad_solid.specs.declared.triangle.Triangle.{Triangle}
 use Rattle.scad_solid.specs.Cut.{is_above, is_below, point_between, cut_between, cut_of, cuts_of}
 use Rattle.scad_solid.specs.Solid.{fan, fan_around, fans}
@@ -47,7 +47,7 @@ flip_down s = grind (arith, ints)
 
 pub crossing-turned : (p q : Pt) (x y : ℤ) → crossing (edge q p) x y ≡ neg_ℤ (crossing (edge p q) x y)
 crossing-turned p q x y =
-    let side : side_of (edge q p) x y ≡ pos 0 -ℤ side_of (edge p q) x y = solve (p.x ∷ p.y ∷ q.x ∷ q.y ∷ x ∷ y ∷ [])
+    let side : side_of (edge q p) x y ≡ pos 0 -ℤ side_of (edge p q) x y = ring (p.x ∷ p.y ∷ q.x ∷ q.y ∷ x ∷ y ∷ [])
     (less (times (less (var 0) (var 2)) (less (var 5) (var 3))) (times (less (var 1) (var 3)) (less (var 4) (var 2))))
     (less (num (pos 0)) (less (times (less (var 2) (var 0)) (less (var 5) (var 1))) (times (less (var 3) (var 1)) (less (var 4) (var 0))))) refl in
     let turned = side ∙ zero_minus (side_of (edge p q) x y) in
@@ -87,7 +87,7 @@ module _ (low high plane : ℤ) (above : (pos 2 *ℤ low) <ℤ plane) (below : p
   between = point_between (at low p) (at high q) plane
 
   weights : d ≡ u +ℤ v
-  weights = solve (high ∷ low ∷ plane ∷ []) (less (times (num (pos 2)) (var 0)) (times (num (pos 2)) (var 1))) (plus (less (times (num (pos 2)) (var 0)) (var 2)) (less (var 2) (times (num (pos 2)) (var 1)))) refl
+  weights = ring (high ∷ low ∷ plane ∷ []) (less (times (num (pos 2)) (var 0)) (times (num (pos 2)) (var 1))) (plus (less (times (num (pos 2)) (var 0)) (var 2)) (less (var 2) (times (num (pos 2)) (var 1)))) refl
 
   some_u : pos 0 <ℤ u
   some_u = omega (arith, ints)
@@ -99,7 +99,7 @@ module _ (low high plane : ℤ) (above : (pos 2 *ℤ low) <ℤ plane) (below : p
   some_d = omega (arith, ints)
 
   upright : (c : ℤ) → o.d *ℤ d *ℤ (c *ℤ u +ℤ c *ℤ v) ≡ d *ℤ ((u +ℤ v) *ℤ (o.d *ℤ c))
-  upright c = solve (high ∷ low ∷ plane ∷ c ∷ o.d ∷ [])
+  upright c = ring (high ∷ low ∷ plane ∷ c ∷ o.d ∷ [])
       (times (times (var 4) D) (plus (times (var 3) U) (times (var 3) V)))
       (times D (times (plus U V) (times (var 4) (var 3)))) refl
     where
@@ -113,7 +113,7 @@ module _ (low high plane : ℤ) (above : (pos 2 *ℤ low) <ℤ plane) (below : p
       D = less (times (num (pos 2)) (var 0)) (times (num (pos 2)) (var 1))
 
   slanted : (b c : ℤ) → o.d *ℤ d *ℤ (b *ℤ u +ℤ c *ℤ v) ≡ d *ℤ (u *ℤ (o.d *ℤ b) +ℤ v *ℤ (o.d *ℤ c))
-  slanted b c = solve (high ∷ low ∷ plane ∷ b ∷ c ∷ o.d ∷ [])
+  slanted b c = ring (high ∷ low ∷ plane ∷ b ∷ c ∷ o.d ∷ [])
       (times (times (var 5) D) (plus (times (var 3) U) (times (var 4) V)))
       (times D (plus (times U (times (var 5) (var 3))) (times V (times (var 5) (var 4))))) refl
     where
@@ -127,7 +127,7 @@ module _ (low high plane : ℤ) (above : (pos 2 *ℤ low) <ℤ plane) (below : p
       D = less (times (num (pos 2)) (var 0)) (times (num (pos 2)) (var 1))
 
   point : (c : ℤ) → d *ℤ d *ℤ c ≡ d *ℤ ((u +ℤ v) *ℤ c)
-  point c = solve (high ∷ low ∷ plane ∷ c ∷ [])
+  point c = ring (high ∷ low ∷ plane ∷ c ∷ [])
       (times (times D D) (var 3)) (times D (times (plus U V) (var 3))) refl
     where
       U : Term

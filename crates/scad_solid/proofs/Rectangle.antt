@@ -10,7 +10,7 @@ use Rattle.scad_geom.specs.Winding.{counted, wind}
 use Rattle.scad_geom.proofs.Crossing.{side_of, crossing, doubled_edge}
 use Rattle.scad_geom.proofs.Doubled.{wind_halves}
 use Rattle.scad_geom.specs.Loop.{sides}
-use Rattle.scad_geom.proofs.Ring.{Term, solve, var, num, less, times}
+use Rattle.scad_geom.proofs.Ring.{Term, ring, var, num, less, times}
 use Rattle.scad_solid.specs.Laws.{rectangle}
 use Rattle.scad_solid.proofs.Parts.{told, crossing-told, sign_up_by, gap_sign}
 
@@ -41,7 +41,7 @@ sinks a b y high low = grind (arith, ints)
 
 module _ (c y0 y1 x y : ℤ) where
   upright_side : side_of (doubled_edge (edge (point c y0) (point c y1))) x y ≡ (pos 2 *ℤ y1 -ℤ pos 2 *ℤ y0) *ℤ (pos 2 *ℤ c -ℤ x)
-  upright_side = solve (c ∷ y0 ∷ y1 ∷ x ∷ y ∷ [])
+  upright_side = ring (c ∷ y0 ∷ y1 ∷ x ∷ y ∷ [])
       (less (times (less C C) (less (var 4) Y0)) (times (less Y1 Y0) (less (var 3) C)))
       (times (less Y1 Y0) (less C (var 3))) refl
     where

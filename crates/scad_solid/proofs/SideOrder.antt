@@ -4,13 +4,14 @@ use Rattle.std.proofs.lemmas.Bool.{and_parts}
 use Rattle.std.specs.Bool.{Decides}
 use Rattle.std.specs.Ordering.{int_cmp, int_eq, ordering_then}
 use Rattle.std.specs.declared.cmp.Ordering.{Ordering}
-use Rattle.std.specs.declared.cmp.Ordering.TheVariants.{Less, Equal, Greater}
+use Rattle.std.specs.declared.cmp.Ordering.TheVariants.{Equal}
 use Rattle.std.specs.Cmp.{IsTotalOrder, signed_Decides}
 use Rattle.std.proofs.lemmas.Cmp.{int_cmp_total, then_total, on_total}
 use Rattle.std.proofs.lemmas.Map.Lookups.{exact_signed}
 use Rattle.scad_geom.specs.declared.point3.Pt3.{Pt3}
 use Rattle.scad_solid.specs.declared.side.Side.{Side}
 use Rattle.scad_solid.specs.Side.{same_point, same_side}
+use Rattle.scad_base.proofs.Tests.{both_equal}
 
 abbrev pub point_cmp : Pt3 → Pt3 → Ordering
 point_cmp p q = ordering_then (int_cmp p.x q.x) (ordering_then (int_cmp p.y q.y) (int_cmp p.z q.z))
@@ -23,12 +24,6 @@ point_total = then_total (on_total (λ (p : Pt3). p.x) int_cmp_total) (then_tota
 
 pub side_total : IsTotalOrder side_cmp
 side_total = then_total (on_total (λ (s : Side). s.from) point_total) (on_total (λ (s : Side). s.to) point_total)
-
--- both parts are equal where one after the other tells nothing apart
-both_equal : (a b : Ordering) → ordering_then a b ≡ Equal → (a ≡ Equal) × (b ≡ Equal)
-both_equal Less b e = absurd (cc)
-both_equal Equal b e = (refl, e)
-both_equal Greater b e = absurd (cc)
 
 point_exact : (p q : Pt3) → point_cmp p q ≡ Equal → p ≡ q
 point_exact p q e =

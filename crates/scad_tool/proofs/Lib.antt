@@ -5,3 +5,6 @@ mod Telling
 mod Judged
 mod Refused
 mod Completed
+mod Settings
+mod Heights
+mod Settling

@@ -2,12 +2,17 @@
 use Rattle.std.proofs.Common.{◌≡◌, ◌≢◌, ◌⊎◌, ◌++◌, List, [], ◌∷◌, ℕ, Bool, true, false, Option, Some, None, inl, inr, refl, sym, subst, arith, nat_lt}
 use Rattle.std.specs.Prelude.{if◌then◌else◌}
 use Rattle.scad_io.specs.declared.desk.Out.TheVariants.{Report}
+use Rattle.scad_words.specs.declared.job.Command.{Command}
+use Rattle.scad_words.specs.declared.job.Command.TheVariants.{Check, Tree, Slice}
+use Rattle.scad_words.specs.declared.job.Job.{Job}
+use Rattle.scad_words.specs.declared.settings.Settings.{Settings as SettingsOfRun}
+use Rattle.scad_words.specs.Job.{job_of}
 use Rattle.scad_script.specs.declared.refusal.Refusal.{Refusal}
 use Rattle.scad_script.specs.declared.refusal.Refusal.TheVariants.{Source, Over as IsOver}
 use Rattle.scad_script.specs.declared.loading.Input.{Input}
 use Rattle.scad_script.specs.declared.loading.Input.TheVariants.{Whole, Long}
 use Rattle.scad_script.specs.Steps.{Step, Reads, Sends, reading, echoing}
-use Rattle.scad_script.specs.Script.{Script, Ending, Finishes, Refuses, Lacks, ends}
+use Rattle.scad_script.specs.Script.{Script, Ending, Finishes, Refuses, Lacks, first, ends}
 use Rattle.scad_script.specs.Names.{Given, UsesGiven, AllFrom, OnlyReads, IsOrderly}
 use Rattle.scad_script.proofs.Layers.{lacks_nothing}
 use Rattle.scad_expr.specs.declared.fault.EvalFault.TheVariants.{Fault, Over, Memory}
@@ -17,13 +22,13 @@ use Rattle.scad_tree.specs.Order.{leaves as leaf_count}
 use Rattle.scad_tree.specs.Sizes.{triangle_count}
 use Rattle.scad_tree.specs.Text.{text_of as tree_text}
 use Rattle.scad_slice.specs.Budgets.{layer_count, layer_limit, layers_passed}
-use Rattle.scad_slice.specs.Drawing.{Drawing}
 use Rattle.scad_slice.specs.Script.{slice_script}
 use Rattle.scad_slice.proofs.Orderly.{DrawsInOrder, slice_draws}
-use Rattle.scad_tool.specs.Words.{Command, Check, Tree, Slice, model_of, command_of}
+use Rattle.scad_tool.specs.Words.{model_of, given_names, given_of, given_by}
 use Rattle.scad_tool.specs.Meaning.{source_means}
 use Rattle.scad_tool.specs.Told.{echo_text, echoed, ok_line, check_end, check_script, tree_script, told}
-use Rattle.scad_tool.specs.Answer.{source_script, input_script, command_script, given_of, given_by, script_of}
+use Rattle.scad_tool.specs.Answer.{Drawings, Inputs, source_script, input_script, model_script, job_script, script_of}
+use Rattle.scad_tool.proofs.Settings.{settings_have}
 
 -- steps that only read or draw may stand behind a reading
 from_reading : (steps : List Step) → AllFrom reading steps
@@ -54,22 +59,26 @@ end_if : (refusal : Refusal) (line : List ℕ) (b : Bool) → (if b then Refuses
 end_if refusal line true same = let never : ⊥ = cc in absurd never
 end_if refusal line false same = let never : ⊥ = cc in absurd never
 
-source_orderly : (command : Command) (drawing : Drawing) (source : List ℕ) → IsOrderly (given_of (Some command)) (source_script command drawing source)
-source_orderly (Check model) drawing source =
-    told_orderly (given_of (Some (Check model))) check_script (source_means source)
-    (λ tree. ends_in_order _ (check_end (leaf_count tree) (triangle_count tree) (layer_count tree))
-    (end_if (IsOver (layers_passed (layer_count tree))) (ok_line (leaf_count tree) (triangle_count tree) (layer_count tree)) (nat_lt layer_limit (layer_count tree))))
-source_orderly (Tree model) drawing source =
-    told_orderly (given_of (Some (Tree model))) tree_script (source_means source)
+source_orderly : (command : Command) (name : Option (List ℕ)) (settings : SettingsOfRun) (drawings : Drawings) (source : List ℕ)
+    → IsOrderly (given_names command name) (source_script command settings drawings source)
+source_orderly (Check model) name settings drawings source =
+    let h = settings.layer_height in
+    told_orderly (given_names (Check model) name) (check_script h) (source_means source)
+    (λ tree. ends_in_order _ (check_end (leaf_count tree) (triangle_count tree) (layer_count h tree))
+    (end_if (IsOver (layers_passed (layer_count h tree))) (ok_line (leaf_count tree) (triangle_count tree) (layer_count h tree)) (nat_lt layer_limit (layer_count h tree))))
+source_orderly (Tree model) name settings drawings source =
+    told_orderly (given_names (Tree model) name) tree_script (source_means source)
     (λ tree. ends_in_order _ (Finishes (tree_text tree)) (λ same. let never : ⊥ = cc in absurd never))
-source_orderly (Slice model cli) drawing source =
-    told_orderly (given_of (Some (Slice model cli))) (slice_script cli drawing) (source_means source)
-    (λ tree. slice_draws (given_of (Some (Slice model cli))) cli drawing tree refl)
+source_orderly (Slice model cli) name settings drawings source =
+    let h = settings.layer_height in
+    told_orderly (given_names (Slice model cli) name) (slice_script h cli (drawings h)) (source_means source)
+    (λ tree. slice_draws h (given_names (Slice model cli) name) cli (drawings h) tree refl)
 
-input_orderly : (command : Command) (drawing : Drawing) (input : Option Input) → IsOrderly (given_of (Some command)) (input_script command drawing input)
-input_orderly command drawing None = record { steps = tt; lacks = tt }
-input_orderly command drawing (Some Long) = record { steps = tt; lacks = tt }
-input_orderly command drawing (Some (Whole source)) = source_orderly command drawing source
+input_orderly : (command : Command) (name : Option (List ℕ)) (settings : SettingsOfRun) (drawings : Drawings) (input : Option Input)
+    → IsOrderly (given_names command name) (input_script command settings drawings input)
+input_orderly command name settings drawings None = record { steps = tt; lacks = tt }
+input_orderly command name settings drawings (Some Long) = record { steps = tt; lacks = tt }
+input_orderly command name settings drawings (Some (Whole source)) = source_orderly command name settings drawings source
 
 -- one reading more
 reads_more : (name : List ℕ) (steps : List Step) (ending : Ending) → OnlyReads steps ending → OnlyReads (Reads name ∷ steps) ending
@@ -77,21 +86,32 @@ reads_more name steps (Finishes line) only = tt
 reads_more name steps (Refuses refusal) only = tt
 reads_more name steps Lacks only = (omega arith, only)
 
--- the model is among the names that the words give
-model_given : (command : Command) → UsesGiven (given_of (Some command)) (Reads (model_of command))
-model_given (Check model) = inl refl
-model_given (Tree model) = inl refl
-model_given (Slice model cli) = inl refl
-
-command_orderly : (command : Option Command) (drawing : Drawing) (input : Option Input) → IsOrderly (given_of command) (command_script command drawing input)
-command_orderly None drawing input = record { steps = tt; lacks = tt }
-command_orderly (Some command) drawing input =
-    let rest = input_script command drawing input in
-    let behind = input_orderly command drawing input in
+reads_first : (given : Given) (name : List ℕ) (rest : Script) → UsesGiven given (Reads name) → IsOrderly given rest
+    → IsOrderly given (first (Reads name ∷ []) rest)
+reads_first given name rest named behind =
     record {
-      steps = (record { order = from_reading rest.steps; name = model_given command; filled = tt }, behind.steps);
-      lacks = reads_more (model_of command) rest.steps rest.ending behind.lacks;
+      steps = (record { order = from_reading rest.steps; name = named; filled = tt }, behind.steps);
+      lacks = reads_more name rest.steps rest.ending behind.lacks;
     }
 
-pub orderly : (words : List (List ℕ)) (drawing : Drawing) (input : Option Input) → IsOrderly (given_by words) (script_of words drawing input)
-orderly words drawing input = command_orderly (command_of words) drawing input
+-- the model and the settings are among the names that the words give
+model_given : (command : Command) (name : Option (List ℕ)) → UsesGiven (given_names command name) (Reads (model_of command))
+model_given command None = inl refl
+model_given command (Some file) = inr (inl refl)
+
+settings_given : (command : Command) (name : Option (List ℕ)) (file : List ℕ) → name ≡ Some file → UsesGiven (given_names command name) (Reads file)
+settings_given command name file is =
+    subst (λ (n : Option (List ℕ)). UsesGiven (given_names command n) (Reads file)) (sym is) (inl refl)
+
+job_orderly : (job : Option Job) (drawings : Drawings) (inputs : Inputs) → IsOrderly (given_of job) (job_script job drawings inputs)
+job_orderly None drawings inputs = record { steps = tt; lacks = tt }
+job_orderly (Some job) drawings inputs =
+    let given = given_names job.command job.settings in
+    settings_have (IsOrderly given) job.settings inputs.settings (model_script job.command drawings inputs.model)
+    (λ settings found. reads_first given (model_of job.command) _ (model_given job.command job.settings)
+    (input_orderly job.command job.settings settings drawings inputs.model))
+    (λ file rest is behind. reads_first given file rest (settings_given job.command job.settings file is) behind)
+    (record { steps = tt; lacks = tt }) (λ fault. record { steps = tt; lacks = tt })
+
+pub orderly : (words : List (List ℕ)) (drawings : Drawings) (inputs : Inputs) → IsOrderly (given_by words) (script_of words drawings inputs)
+orderly words drawings inputs = job_orderly (job_of words) drawings inputs

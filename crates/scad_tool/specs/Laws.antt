@@ -1,18 +1,17 @@
 -- That the answer is one.
 use Rattle.std.specs.Prelude.{◌≡◌, List, ℕ, Option}
 use Rattle.scad_script.specs.declared.loading.Input.{Input}
-use Rattle.scad_slice.specs.Drawing.{Drawing}
-use Rattle.scad_tool.specs.Words.{command_of}
-use Rattle.scad_tool.specs.Answer.{script_of, IsDrawn}
+use Rattle.scad_words.specs.Job.{job_of}
+use Rattle.scad_tool.specs.Answer.{Drawings, Inputs, script_of, IsDrawn}
 use Rattle.scad_tool.specs.Playing.{DrawSolids}
 
--- there is a drawing of the tree that what was read means
+-- there are drawings of the tree that what was read means
 abbrev pub AnswersAreThere : Type 0
-AnswersAreThere = (input : Option Input) → (drawing : Drawing) × IsDrawn input drawing
+AnswersAreThere = (input : Option Input) → (drawings : Drawings) × IsDrawn input drawings
 
--- two drawings give one script, and so one answer, where a tree that is drawn is of solids
+-- all drawings give one script, and so one answer, where a tree that is drawn is of solids
 abbrev pub AnswersAreOne : Type 0
 AnswersAreOne =
-    (words : List (List ℕ)) (input : Option Input) (a b : Drawing)
-    → DrawSolids (command_of words) input → IsDrawn input a → IsDrawn input b
-    → script_of words a input ≡ script_of words b input
+    (words : List (List ℕ)) (inputs : Inputs) (a b : Drawings)
+    → DrawSolids (job_of words) inputs → IsDrawn inputs.model a → IsDrawn inputs.model b
+    → script_of words a inputs ≡ script_of words b inputs

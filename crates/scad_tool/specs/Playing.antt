@@ -1,8 +1,16 @@
 -- What the calls that play a source's script leave of it.
-use Rattle.std.specs.Prelude.{◌≡◌, List, ℕ, Option, Some, None, Result, Ok, Err}
+use Rattle.std.specs.Prelude.{◌≡◌, List, ℕ, Option, Some, None, IfSome, Result, Ok, Err}
+use Rattle.std.specs.Option.{option_and_then}
+use Rattle.scad_fault.specs.declared.settings.SetFault.{SetFault}
 use Rattle.scad_io.specs.Desk.{Files, View}
+use Rattle.scad_words.specs.declared.job.Command.{Command}
+use Rattle.scad_words.specs.declared.job.Command.TheVariants.{Slice}
+use Rattle.scad_words.specs.declared.job.Job.{Job}
+use Rattle.scad_words.specs.declared.settings.Settings.{Settings}
+use Rattle.scad_words.specs.Job.{job_of}
 use Rattle.scad_script.specs.declared.loading.Input.{Input}
-use Rattle.scad_script.specs.declared.loading.Input.TheVariants.{Whole, Long}
+use Rattle.scad_script.specs.declared.loading.Input.TheVariants.{Whole}
+use Rattle.scad_script.specs.declared.refusal.Refusal.TheVariants.{Usage, Settings as IsSettings}
 use Rattle.scad_script.specs.declared.stop.Stop.{Stop}
 use Rattle.scad_script.specs.Script.{Script, Finishes, Refuses, ends}
 use Rattle.scad_script.specs.Played.{Left, Stops, EndsIn}
@@ -12,11 +20,9 @@ use Rattle.scad_tree.specs.declared.tree.Tree.{Tree as TreeInMemory}
 use Rattle.scad_tree.specs.Solid.{Solid}
 use Rattle.scad_tree.specs.View.{solid_of}
 use Rattle.scad_tree.specs.Solids.{AreSolids}
-use Rattle.scad_slice.specs.Drawing.{Drawing}
-use Rattle.scad_tool.specs.Words.{Command, Check, Tree, Slice, command_of}
 use Rattle.scad_tool.specs.Meaning.{source_means}
 use Rattle.scad_tool.specs.Told.{told}
-use Rattle.scad_tool.specs.Answer.{script_of, IsRead, IsDrawn}
+use Rattle.scad_tool.specs.Answer.{Drawings, Inputs, settings_script, script_of, IsRead, IsDrawn, settings_found}
 
 -- what follows the tree is left, or the script stopped
 abbrev pub Brings : (Solid → Script) → Script → Result TreeInMemory Stop → View → View → Type 0
@@ -52,18 +58,53 @@ abbrev pub MeansSolids : List ℕ → Type 0
 MeansSolids source = (tree : Solid) (s : State) → source_means source ≡ gives tree s → AreSolids tree
 
 -- that of a command that draws it is
-abbrev pub DrawsSolids : Command → Input → Type 0
-DrawsSolids (Slice model cli) (Whole source) = MeansSolids source
+abbrev pub DrawsSolids : Command → Option Input → Type 0
+DrawsSolids (Slice model cli) (Some (Whole source)) = MeansSolids source
 DrawsSolids command input = Unit {0}
 
-abbrev pub DrawSolids : Option Command → Option Input → Type 0
-DrawSolids (Some command) (Some input) = DrawsSolids command input
-DrawSolids command input = Unit {0}
+-- so it is where the job's settings are accepted, and its model is read then
+abbrev pub DrawSolids : Option Job → Inputs → Type 0
+DrawSolids None inputs = Unit {0}
+DrawSolids (Some job) inputs =
+    (settings : Settings) → settings_found job.settings inputs.settings ≡ Some settings
+    → DrawsSolids job.command inputs.model
 
--- with every drawing of the model's tree, the script of the words and of what was read was played; where it was so to its
+-- the words ask for nothing, or memory was wanting
+abbrev pub AsksNothing : Option Job → Stop → Type 0
+AsksNothing job (Stop.Ends refusal) = (refusal ≡ Usage) × (job ≡ None)
+AsksNothing job Stop.Memory = Unit {0}
+AsksNothing job stop = ⊥
+
+-- a text's settings are these, or their fault, or memory was wanting
+abbrev pub IsJudged : Result Settings SetFault → Result Settings Stop → Type 0
+IsJudged meant (Ok settings) = meant ≡ Ok settings
+IsJudged meant (Err (Stop.Ends refusal)) = (fault : SetFault) × (refusal ≡ IsSettings fault) × (meant ≡ Err fault)
+IsJudged meant (Err Stop.Memory) = Unit {0}
+IsJudged meant (Err stop) = ⊥
+
+-- after the settings of a job what follows them comes next, or the script stopped
+abbrev pub Settled : (Settings → Script) → Script → Result Settings Stop → View → View → Type 0
+Settled follows whole (Ok settings) old new = Left whole (follows settings) old new
+Settled follows whole (Err stop) old new = Stops whole stop old new
+
+-- this is known of a text of settings where the script goes on, or is refused
+abbrev pub IsFound : Option Settings → Result Settings Stop → Type 0
+IsFound found (Ok settings) = found ≡ Some settings
+IsFound found (Err (Stop.Ends refusal)) = found ≡ None
+IsFound found (Err stop) = Unit {0}
+
+-- in every script in which the settings of this name come next they were read and judged
+pub record Settles (name : Option (List ℕ)) (files : Files) (result : Result Settings Stop) (old new : View) : Type 0 where
+  pub read : Option (List ℕ)
+  pub told : IfSome files (λ contents. read ≡ option_and_then contents name)
+  pub goes : (follows : Settings → Script) (whole : Script) (start : View) → Left whole (settings_script name read follows) start old
+      → Settled follows whole result start new
+  pub found : IsFound (settings_found name read) result
+
+-- with all drawings of the model's tree, the script of the words and of what was read was played; where it was so to its
 -- end or to its refusal, a tree that it draws is of solids
 pub record Works (words : List (List ℕ)) (files : Files) (result : Result (List ℕ) Stop) (old new : View) : Type 0 where
-  pub input : Option Input
-  pub read : IsRead words files input
-  pub plays : (drawing : Drawing) → IsDrawn input drawing → EndsIn (script_of words drawing input) result old new
-  pub solids : OnJudged result (DrawSolids (command_of words) input)
+  pub inputs : Inputs
+  pub read : IsRead words files inputs
+  pub plays : (drawings : Drawings) → IsDrawn inputs.model drawings → EndsIn (script_of words drawings inputs) result old new
+  pub solids : OnJudged result (DrawSolids (job_of words) inputs)

@@ -44,13 +44,13 @@ ok_line leaves triangles count =
     codes "ok: " ++ decimal leaves ++ codes " leaves, " ++ decimal triangles ++ codes " triangles, " ++ decimal count
     ++ codes " layers\n"
 
--- `check`: the numbers of the tree's leaves, of their triangles and of its layers
+-- `check`: the numbers of the tree's leaves, of their triangles and of its layers of the height h in micrometres
 abbrev pub check_end : ℕ → ℕ → ℕ → Ending
 check_end leaves triangles count =
     if nat_lt layer_limit count then Refuses (IsOver (layers_passed count)) else Finishes (ok_line leaves triangles count)
 
-abbrev pub check_script : Solid → Script
-check_script tree = ends (check_end (leaf_count tree) (triangle_count tree) (layer_count tree))
+abbrev pub check_script : ℕ → Solid → Script
+check_script h tree = ends (check_end (leaf_count tree) (triangle_count tree) (layer_count h tree))
 
 -- `tree`: the text of the tree
 abbrev pub tree_script : Solid → Script

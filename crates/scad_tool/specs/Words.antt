@@ -1,11 +1,10 @@
--- The command line: the words behind the program's name, each as its bytes.
-use Rattle.std.specs.Prelude.{◌&&◌, not, List, [], ◌∷◌, ℕ, Option, Some, None, codes, bytes_eq, if◌then◌else◌}
-
--- a command with the names of its files: the source, and behind it the outlines
-pub data Command : Type 0 where
-  Check : List ℕ → Command
-  Tree : List ℕ → Command
-  Slice : List ℕ → List ℕ → Command
+-- The files that a job of the command line names.
+use Rattle.std.specs.Prelude.{◌++◌, List, [], ◌∷◌, ℕ, Option, Some, None}
+use Rattle.scad_script.specs.Names.{Given, nothing_given}
+use Rattle.scad_words.specs.declared.job.Command.{Command}
+use Rattle.scad_words.specs.declared.job.Command.TheVariants.{Check, Tree, Slice}
+use Rattle.scad_words.specs.declared.job.Job.{Job}
+use Rattle.scad_words.specs.Job.{job_of, named}
 
 -- the name of the source
 abbrev pub model_of : Command → List ℕ
@@ -13,22 +12,21 @@ model_of (Check model) = model
 model_of (Tree model) = model
 model_of (Slice model cli) = model
 
--- `check MODEL`, `tree MODEL`
-abbrev pub of_two : List ℕ → List ℕ → Option Command
-of_two name model =
-    if bytes_eq name (codes "check") then Some (Check model)
-    else if bytes_eq name (codes "tree") then Some (Tree model)
-    else None
+-- the name of the outlines
+abbrev pub cli_of : Command → Option (List ℕ)
+cli_of (Check model) = None
+cli_of (Tree model) = None
+cli_of (Slice model cli) = Some cli
 
--- `slice MODEL CLI`, with two different names
-abbrev pub of_three : List ℕ → List ℕ → List ℕ → Option Command
-of_three name model cli =
-    if bytes_eq name (codes "slice") && not (bytes_eq model cli) then Some (Slice model cli) else None
+-- the names that a command and its settings give
+abbrev pub given_names : Command → Option (List ℕ) → Given
+given_names command settings =
+    record { input = named settings ++ (model_of command ∷ []); cli = cli_of command; gcode = None }
 
--- no other words are of the form
-abbrev pub command_of : List (List ℕ) → Option Command
-command_of [] = None
-command_of (name ∷ []) = None
-command_of (name ∷ model ∷ []) = of_two name model
-command_of (name ∷ model ∷ cli ∷ []) = of_three name model cli
-command_of (name ∷ model ∷ cli ∷ more ∷ rest) = None
+abbrev pub given_of : Option Job → Given
+given_of None = nothing_given
+given_of (Some job) = given_names job.command job.settings
+
+-- the names that the words give
+abbrev pub given_by : List (List ℕ) → Given
+given_by words = given_of (job_of words)

@@ -13,22 +13,28 @@ use itoa::Buffer;
 use scad_fault::{Budget, Text};
 use scad_io::Desk;
 use scad_script::{Refusal, Stop};
-use scad_slice::{LAYER_HEIGHT, LAYER_LIMIT};
+use scad_slice::LAYER_LIMIT;
 use scad_tree::Tree;
 use std::alloc::{AllocError, Global};
 
-/// Evaluates the source and writes its echo lines: the line with the tree's numbers.
-pub fn check<D: Desk>(alloc: Global, source: &[u8], desk: &mut D) -> Result<Text, Stop>
+/// Evaluates the source and writes its echo lines: the line with the tree's numbers, for layers of this height in micrometres.
+pub fn check<D: Desk>(
+    alloc: Global,
+    source: &[u8],
+    height: u32,
+    desk: &mut D,
+) -> Result<Text, Stop>
+    requires some { 1 ≤ height }
     requires short { length source.now < 2 ^ 32 - 1 }
     requires sound { Sound (D.view desk.old) }
 
-    ensures completes { Completes (told check_script (source_means source.now)) result (D.view desk.old) (D.view desk.new) }
+    ensures completes { Completes (told (check_script height) (source_means source.now)) result (D.view desk.old) (D.view desk.new) }
     ensures files { D.files desk.new ≡ D.files desk.old }
     ensures later { D.faults desk.old ≤ D.faults desk.new }
     ensures cause { HasRisen result (D.faults desk.old) (D.faults desk.new) }
 {
     let tree = evaluate(alloc, source, desk)?;
-    checked(alloc, &tree)
+    checked(alloc, &tree, height)
 }
 
 /// Evaluates the source and writes its echo lines: the tree's text.
@@ -55,15 +61,16 @@ fn shown(alloc: Global, tree: &Tree) -> Result<Text, Stop>
 
 /// The line with the tree's numbers, or that it has too many layers. No memory holds a tree with more
 /// leaves or triangles than a number can count.
-fn checked(alloc: Global, tree: &Tree) -> Result<Text, Stop>
-    ensures { IsEnd (check_script (solid_of tree.now)) result }
+fn checked(alloc: Global, tree: &Tree, height: u32) -> Result<Text, Stop>
+    requires { 1 ≤ height }
+    ensures { IsEnd (check_script height (solid_of tree.now)) result }
 {
     let leaves = tree.leaves();
     let triangles = tree.triangles();
     if leaves == u64::MAX || triangles == u64::MAX {
         return Err(Stop::Memory);
     }
-    numbers(alloc, leaves, triangles, tree.layers(LAYER_HEIGHT))
+    numbers(alloc, leaves, triangles, tree.layers(height))
 }
 
 /// The end of `check` with these numbers.

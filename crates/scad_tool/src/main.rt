@@ -7,9 +7,9 @@ mod evaluation;
 mod laws;
 mod meaning;
 mod run;
+mod settings;
 #[cfg(test)]
 mod tests;
-mod words;
 mod work;
 
 use run::run;

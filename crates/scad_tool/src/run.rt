@@ -2,8 +2,9 @@
 ghost use Rattle.std.specs.Prelude.{◌≡◌, ◌<◌, ◌≤◌, map, string_bytes};
 ghost use Rattle.scad_script.specs.Run.{IsReady, RunsTo};
 ghost use Rattle.scad_script.specs.Promises.{IsReadFault, IsWriteFault, IsMemoryLine, AreFronts, HandsIn, CreatesForBytes, FailedReportIsWrite};
-ghost use Rattle.scad_tool.specs.Answer.{OnScript, given_by};
-ghost use Rattle.scad_tool.specs.Words.{command_of};
+ghost use Rattle.scad_words.specs.Job.{job_of};
+ghost use Rattle.scad_tool.specs.Words.{given_by};
+ghost use Rattle.scad_tool.specs.Answer.{OnScript};
 ghost use Rattle.scad_tool.specs.Promises.{Answers, OutlinesHoldTree, Refuses, LeavesOutputs, JudgesWords, IsComplete};
 
 use crate::work::work;
@@ -27,8 +28,8 @@ pub fn run<R: Threads + Sync, D: Desk, G: Gate>(
 ) -> Status
     requires ready { IsReady (D.view desk.old) }
 
-    // The run plays the script of the words, of what was read of the model and of a drawing of its tree, to
-    // its end or until it stops, and then tries the last line. The clauses below follow from this one. It
+    // The run plays the script of the words, of what was read of the settings and the model and of drawings of
+    // its tree, to its end or until it stops, and then tries the last line. The clauses below follow from this one. It
     // says what the desk shows, not how many calls were made.
     ensures runs { OnScript (map string_bytes words.now) (D.files desk.old)
         (λ whole. RunsTo whole result (D.view desk.old) (D.view desk.new)) }
@@ -60,7 +61,7 @@ pub fn run<R: Threads + Sync, D: Desk, G: Gate>(
     ensures created { CreatesForBytes result (D.view desk.old) (D.view desk.new) }
 
     // `check` and `tree` write to nothing but the report.
-    ensures leaves { LeavesOutputs (command_of (map string_bytes words.now)) (D.view desk.old) (D.view desk.new) }
+    ensures leaves { LeavesOutputs (job_of (map string_bytes words.now)) (D.view desk.old) (D.view desk.new) }
 
     // At every status.
     ensures names { HandsIn (given_by (map string_bytes words.now)) (D.view desk.old) (D.view desk.new) }

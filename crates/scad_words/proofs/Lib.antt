@@ -1,1 +1,3 @@
 pub mod Subcommands
+pub mod Documents
+pub mod Ranges

@@ -1,7 +1,7 @@
 -- What a settings text gives: a TOML table with whole numbers, each under a key of the settings and in its range. The members
 -- of a table stand in byte order of their keys.
-use Rattle.std.specs.Prelude.{◌≡◌, ◌⊎◌, ℕ, ◌≤◌, if◌then◌else◌, List, [], codes, Option, Some, None, option_and_then, Result, Ok, Err, ℤ, pos, unsigned_abs}
-use Rattle.std.specs.Str.{IsUtf8}
+use Rattle.std.specs.Prelude.{◌≡◌, ℕ, ◌≤◌, if◌then◌else◌, List, [], codes, Option, Some, None, option_and_then, Result, Ok, Err, ℤ, pos, unsigned_abs}
+use Rattle.std.specs.Str.{is_utf8}
 use Rattle.toml.specs.Data.{Data, Members, no_members, member, as_integer, get_member}
 use Rattle.toml.specs.Parse.{parse_document}
 use Rattle.scad_fault.specs.declared.settings.SetKind.{SetKind}
@@ -15,11 +15,6 @@ use Rattle.scad_words.specs.Rows.{bed, filament_area, hot_end, infill_spacing, l
 
 abbrev pub set_fault : SetKind → List ℕ → ℤ → SetFault
 set_fault kind key value = record { kind = kind; key = key; value = value }
-
--- the bytes are UTF-8 text and TOML with these members
-pub record IsDocument (bytes : List ℕ) (ms : Members) : Type 0 where
-  pub text : IsUtf8 bytes
-  pub toml : parse_document bytes ≡ Some ms
 
 -- a whole number under a key is judged by the key's row
 abbrev pub number_fault : List ℕ → Row → Option ℤ → Option SetFault
@@ -64,23 +59,32 @@ settings_in ms = record {
   walls = setting ms (codes "walls") walls;
 }
 
--- the answer to a table; want of memory is free
-abbrev pub Judges : Members → Result Settings SetError → Type 0
-Judges ms (Ok settings) = (first_fault ms ≡ None) × (settings ≡ settings_in ms)
-Judges ms (Err (Refused fault)) = first_fault ms ≡ Some fault
-Judges ms (Err Memory) = Unit {0}
+-- the settings of a table, unless a key of it has a fault
+abbrev pub settings_unless : Option SetFault → Members → Result Settings SetFault
+settings_unless None ms = Ok (settings_in ms)
+settings_unless (Some fault) ms = Err fault
 
--- the fault comes exactly from the bytes: they are no TOML, or the first fault of their table
-abbrev pub IsRefusedBy : List ℕ → SetFault → Type 0
-IsRefusedBy bytes fault =
-    ((fault ≡ set_fault NotToml [] (pos 0)) × ((ms : Members) → ¬ IsDocument bytes ms))
-    ⊎ ((ms : Members) × IsDocument bytes ms × Judges ms (Err (Refused fault)))
+-- the members of a text that is UTF-8 and TOML
+unfoldable pub document : List ℕ → Option Members
+document bytes = if is_utf8 bytes then parse_document bytes else None
 
--- the answer to the bytes; want of memory is free
-abbrev pub Answers : List ℕ → Result Settings SetError → Type 0
-Answers bytes (Ok settings) = (ms : Members) × IsDocument bytes ms × Judges ms (Ok settings)
-Answers bytes (Err (Refused fault)) = IsRefusedBy bytes fault
-Answers bytes (Err Memory) = Unit {0}
+abbrev pub settings_by : Option Members → Result Settings SetFault
+settings_by None = Err (set_fault NotToml [] (pos 0))
+settings_by (Some ms) = settings_unless (first_fault ms) ms
+
+-- the settings that a text gives, or its fault
+abbrev pub settings_of : List ℕ → Result Settings SetFault
+settings_of bytes = settings_by (document bytes)
+
+-- the settings where no text is given
+abbrev pub default_settings : Settings
+default_settings = settings_in no_members
+
+-- the answer is this; want of memory is free
+abbrev pub Answers : Result Settings SetFault → Result Settings SetError → Type 0
+Answers meant (Ok settings) = meant ≡ Ok settings
+Answers meant (Err (Refused fault)) = meant ≡ Err fault
+Answers meant (Err Memory) = Unit {0}
 
 -- a value lies in its row's range
 pub record IsWithin (row : Row) (n : ℕ) : Type 0 where

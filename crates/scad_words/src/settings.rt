@@ -33,6 +33,26 @@ pub struct Settings {
     pub walls: u32,
 }
 
+impl Settings {
+    /// The settings where no text is given.
+    pub fn defaults() -> Settings
+        ensures value { result ≡ spec.default_settings }
+        ensures in_range { spec.AreInRange result }
+    {
+        Settings {
+            bed: rows::BED.default,
+            filament_area: rows::FILAMENT_AREA.default,
+            hot_end: rows::HOT_END.default,
+            infill_spacing: rows::INFILL_SPACING.default,
+            layer_height: rows::LAYER_HEIGHT.default,
+            line_width: rows::LINE_WIDTH.default,
+            print_feed: rows::PRINT_FEED.default,
+            travel_feed: rows::TRAVEL_FEED.default,
+            walls: rows::WALLS.default,
+        }
+    }
+}
+
 /// Why a text gives no settings.
 #[derive(Debug, Drop, Error)]
 pub enum SetError {
@@ -46,7 +66,7 @@ pub enum SetError {
 /// fault of the first key in byte order that has one is answered: a key that no setting has, a value that is no whole number
 /// (so no float, as 5.0), a number out of range.
 pub fn read_settings(alloc: Global, bytes: &[u8]) -> Result<Settings, SetError>
-    ensures answers { spec.Answers bytes.now result }
+    ensures answers { spec.Answers (spec.settings_of bytes.now) result }
     ensures in_range { IfOk result spec.AreInRange }
 {
     match toml::table_from_slice(alloc, bytes) {
@@ -62,7 +82,7 @@ pub fn read_settings(alloc: Global, bytes: &[u8]) -> Result<Settings, SetError>
 
 // The settings of a table, or the fault of its first key that has one.
 fn judged(alloc: Global, table: &Table) -> Result<Settings, SetError>
-    ensures judges { spec.Judges (table_view table.now) result }
+    ensures answers { spec.Answers (spec.settings_unless (spec.first_fault (table_view table.now)) (table_view table.now)) result }
     ensures in_range { IfOk result spec.AreInRange }
 {
     match first_fault(table) {

@@ -15,8 +15,8 @@ use Rattle.scad_geom.specs.Level.{IsLower, IsAtMost}
 use Rattle.scad_geom.specs.EdgeOrder.{IsBefore}
 use Rattle.scad_geom.specs.Heights.{heights}
 use Rattle.scad_geom.specs.Shape.{is_in_by}
-use Rattle.scad_geom.proofs.Heights.{at_most_chain, at_most_then_lower, lower_weak, heights_positive}
-use Rattle.scad_geom.proofs.Order.{back}
+use Rattle.scad_geom.proofs.Heights.{at_most_chain, at_most_then_lower, lower_weak, heights_positive, same_at_least}
+use Rattle.scad_geom.proofs.Order.{back, apart_levels}
 use Rattle.scad_geom.proofs.Turns.{level_at}
 use Rattle.slice_events.specs.Levels.{IsRising, AreLevels}
 use Rattle.slice_slab.specs.Bundles.{edge_at, Precedes, AreRanked}
@@ -32,12 +32,14 @@ use Rattle.slice_bool.proofs.Middle.{half_point}
 use Rattle.slice_bool.proofs.Winding.{IsSpotAt, stops_at}
 use Rattle.slice_bool.proofs.Walk.{UpTo, at_first, at_next, neighbours_next}
 use Rattle.slice_bool.proofs.BalanceTurns.{is_right}
-use Rattle.slice_bool.proofs.BalanceSpots.{IsAt, up_to, down_to}
+use Rattle.slice_bool.proofs.BalanceSpots.{IsAt}
 use Rattle.slice_bool.specs.Pieces.{across}
 use Rattle.slice_bool.proofs.BalanceStops.{nearer}
 use Rattle.slice_bool.proofs.BalanceFlat.{spot_divisor}
 use Rattle.slice_bool.proofs.BorderPoints.{inside_turned, inside_slab, inside_stretch, high_divisor}
 use Rattle.scad_geom.specs.Heights.{AreNeighbours}
+use Rattle.scad_geom.proofs.Heights.{same_at_most}
+use Rattle.std.proofs.lemmas.Bool.{both_ways}
 
 -- ---- pairs of two lists
 pairs-append : (R : Piece → Piece → Type 0) (qs rs : List Piece) → AllPairs R qs → AllPairs R rs → AllByRecursion (λ q. AllByRecursion (R q) rs) qs → AllPairs R (qs ++ rs)
@@ -157,17 +159,13 @@ module _ (es : List LeafEdge) (shape : Shape) where
         (λ p dp i. let x = inside_stretch es shape l dl s t hs.0 hs.1.0 r.0 p dp i in (x.0, x.1)))
         (weaker (Past l t) (Past l s) (λ p dp h. (h.0, nearer l true p dp t s hs.1.0 hs.0 (lower_weak (across s) (across t) r.0) h.1)) (flat_pieces es shape (t ∷ ss)) (past_all t ss hs.1 r.1))
 
-    differ : (b : Bool) → b ≡ true → b ≡ false → ⊥
-    differ true h k = cc
-    differ false h k = cc
-
     walk_apart : (s : Spot) (ss : List Spot) → AllByRecursion (IsSpotAt l) (s ∷ ss) → GoRight (s ∷ ss) → AllPairs AreApartByName (flat_pieces es shape (s ∷ ss))
     walk_apart s [] hs r = tt
     walk_apart s (t ∷ ss) hs r =
         pairs-append AreApartByName (stretch_piece es shape s t (position (covers s t) es)) (flat_pieces es shape (t ∷ ss))
         (stretch_alone s t (position (covers s t) es))
         (walk_apart t ss hs.1 r.1)
-        (all_apart (Ahead t) (Past l t) (λ p dp h k. differ (is_right true p (point_of t)) h k.1)
+        (all_apart (Ahead t) (Past l t) (λ p dp h k. both_ways (is_right true p (point_of t)) k.1 h)
         (stretch_piece es shape s t (position (covers s t) es)) (flat_pieces es shape (t ∷ ss))
         (stretch_inside (Ahead t) s t (position (covers s t) es) (spot_divisor l t dl hs.1.0)
         (λ p dp i. let x = inside_stretch es shape l dl s t hs.0 hs.1.0 r.0 p dp i in x.2))
@@ -188,17 +186,14 @@ module _ (es : List LeafEdge) (shape : Shape) where
   abbrev Under : Level → Point → Type 0
   Under u p = IsLower (level_at p) u
 
-  apart_heights : (p q : Level) → IsLower p q → IsAtMost q p → ⊥
-  apart_heights p q h k = omega (arith, ints)
-
   from_all : (l : Level) (ls : List Level) (pieces : List Piece) → AllByRecursion (λ (l : Level). pos 0 <ℤ l.d) (l ∷ ls) → IsRising (l ∷ ls) → AllByRecursion (UpTo l ls) (heights es)
       → AreLevelPieces es shape (l ∷ ls) pieces → AllByRecursion (AllInside (From l)) pieces
-  from_all l [] pieces d r h a = subst (AllByRecursion (AllInside (From l))) (sym a.2) (weaker (IsAt l) (From l) (λ p dp k. down_to (level_at p) l k) (flat_pieces es shape a.0) (flat_inside l d.0 a.0 a.1))
+  from_all l [] pieces d r h a = subst (AllByRecursion (AllInside (From l))) (sym a.2) (weaker (IsAt l) (From l) (λ p dp k. same_at_most (level_at p) l k) (flat_pieces es shape a.0) (flat_inside l d.0 a.0 a.1))
   from_all l (u ∷ ls) pieces d r h a =
       subst (AllByRecursion (AllInside (From l))) (sym a.6)
       (AllByRecursion-append (AllInside (From l)) (flat_pieces es shape a.0 ++ slab_pieces es shape l u a.1) a.2
       (AllByRecursion-append (AllInside (From l)) (flat_pieces es shape a.0) (slab_pieces es shape l u a.1)
-      (weaker (IsAt l) (From l) (λ p dp k. down_to (level_at p) l k) (flat_pieces es shape a.0) (flat_inside l d.0 a.0 a.3))
+      (weaker (IsAt l) (From l) (λ p dp k. same_at_most (level_at p) l k) (flat_pieces es shape a.0) (flat_inside l d.0 a.0 a.3))
       (weaker (Between l u) (From l) (λ p dp k. lower_weak l (level_at p) k.0) (slab_pieces es shape l u a.1)
       (slab_inside l u (neighbours_next es l u ls d r h) a.1 a.4.ranked (live_bundles es l u a.1 a.4))))
       (weaker (From u) (From l) (λ p dp k. at_most_chain l u (level_at p) d.0 d.1.0 dp (lower_weak l u r.0) k) a.2
@@ -215,11 +210,11 @@ module _ (es : List LeafEdge) (shape : Shape) where
       (pairs-append AreApartByName (flat_pieces es shape a.0 ++ slab_pieces es shape l u a.1) a.2
       (pairs-append AreApartByName (flat_pieces es shape a.0) (slab_pieces es shape l u a.1)
       (flat_apart l d.0 a.0 a.3) (slab_apart l u a.1 a.4.ranked)
-      (all_apart (IsAt l) (Between l u) (λ p dp i k. apart_heights l (level_at p) k.0 (up_to (level_at p) l i)) (flat_pieces es shape a.0) (slab_pieces es shape l u a.1) flats slabs))
+      (all_apart (IsAt l) (Between l u) (λ p dp i k. apart_levels l (level_at p) k.0 (same_at_least (level_at p) l i)) (flat_pieces es shape a.0) (slab_pieces es shape l u a.1) flats slabs))
       (levels_apart u ls a.2 d.1 r.1 above a.5)
-      (all_apart (Under u) (From u) (λ p dp i k. apart_heights (level_at p) u i k) (flat_pieces es shape a.0 ++ slab_pieces es shape l u a.1) a.2
+      (all_apart (Under u) (From u) (λ p dp i k. apart_levels (level_at p) u i k) (flat_pieces es shape a.0 ++ slab_pieces es shape l u a.1) a.2
       (AllByRecursion-append (AllInside (Under u)) (flat_pieces es shape a.0) (slab_pieces es shape l u a.1)
-      (weaker (IsAt l) (Under u) (λ p dp k. at_most_then_lower (level_at p) l u dp d.0 d.1.0 (up_to (level_at p) l k) r.0) (flat_pieces es shape a.0) flats)
+      (weaker (IsAt l) (Under u) (λ p dp k. at_most_then_lower (level_at p) l u dp d.0 d.1.0 (same_at_least (level_at p) l k) r.0) (flat_pieces es shape a.0) flats)
       (weaker (Between l u) (Under u) (λ p dp k. k.1) (slab_pieces es shape l u a.1) slabs))
       (from_all u ls a.2 d.1 r.1 above a.5)))
 

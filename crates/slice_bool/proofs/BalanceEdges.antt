@@ -24,6 +24,7 @@ use Rattle.scad_geom.specs.Shape.{is_in_by}
 use Rattle.scad_geom.proofs.Turns.{level_turn}
 use Rattle.scad_geom.specs.Leaves.{edges_of, AreLeavesBalanced}
 use Rattle.slice_bool.proofs.BalanceTurns.{ahead, step_up, step_down}
+use Rattle.winding_laws.proofs.Totals.{sum_with, sums_apart, equal_by_gaps}
 
 -- ---- where as many edges start at each point as end there, sums over starts are sums over ends
 abbrev starts : List Edge → List Pt
@@ -66,12 +67,9 @@ total-without : (f : Pt → ℤ) (x : Pt) (qs : List Pt) → 1 ≤ tally x qs �
 total-without f x [] h = absurd (omega arith)
 total-without f x (q ∷ qs) h = by_test (same_place x q) refl h (total-without f x qs)
   where
-    swap : (a b c d : ℤ) → b ≡ c +ℤ d → a +ℤ b ≡ c +ℤ (a +ℤ d)
-    swap a b c d h = omega (arith, ints)
-
     by_test : (t : Bool) → same_place x q ≡ t → 1 ≤ once t + tally x qs → (1 ≤ tally x qs → total f qs ≡ f x +ℤ total f (without x qs)) → f q +ℤ total f qs ≡ f x +ℤ total f (cond t qs (q ∷ without x qs))
     by_test true e h r = ap (λ (r : Pt). f r +ℤ total f qs) (sym (same_place-is x q e))
-    by_test false e h r = swap (f q) (total f qs) (f x) (total f (without x qs)) (r (omega arith))
+    by_test false e h r = sum_with (f q) (total f qs) (f x) (total f (without x qs)) (r (omega arith))
 
 total-same : (f : Pt → ℤ) (ps qs : List Pt) → ((p : Pt) → tally p ps ≡ tally p qs) → total f ps ≡ total f qs
 total-same f [] [] h = refl
@@ -112,10 +110,7 @@ edge_step right p dp e h =
 by_leaf : (t : Bool) (f : Pt → ℤ) (e : LeafEdge) (fs : List LeafEdge) (a b x y : ℤ) → a -ℤ b ≡ f e.edge.a -ℤ f e.edge.b
     → x -ℤ y ≡ total f (starts (map (λ d. d.edge) fs)) -ℤ total f (ends (map (λ d. d.edge) fs))
     → ((if t then a else pos 0) +ℤ x) -ℤ ((if t then b else pos 0) +ℤ y) ≡ total f (starts (map (λ d. d.edge) (cond t (e ∷ fs) fs))) -ℤ total f (ends (map (λ d. d.edge) (cond t (e ∷ fs) fs)))
-by_leaf true f e fs a b x y h k = more a b (f e.edge.a) (f e.edge.b) x y (total f (starts (map (λ d. d.edge) fs))) (total f (ends (map (λ d. d.edge) fs))) h k
-  where
-    more : (t f x y a b c d : ℤ) → t -ℤ f ≡ x -ℤ y → a -ℤ b ≡ c -ℤ d → (t +ℤ a) -ℤ (f +ℤ b) ≡ (x +ℤ c) -ℤ (y +ℤ d)
-    more t f x y a b c d h k = omega (arith, ints)
+by_leaf true f e fs a b x y h k = sums_apart a b (f e.edge.a) (f e.edge.b) x y (total f (starts (map (λ d. d.edge) fs))) (total f (ends (map (λ d. d.edge) fs))) h k
 by_leaf false f e fs a b x y h k = same x y (total f (starts (map (λ d. d.edge) fs))) (total f (ends (map (λ d. d.edge) fs))) k
   where
     same : (a b c d : ℤ) → a -ℤ b ≡ c -ℤ d → (pos 0 +ℤ a) -ℤ (pos 0 +ℤ b) ≡ c -ℤ d
@@ -133,11 +128,8 @@ leaf_step right p dp leaf (e ∷ es) h =
 leaf_same : (right : Bool) (p : Point) → pos 0 <ℤ p.d → (leaf : ℕ) (es : List LeafEdge) → IsBalanced (segments (edges_of leaf es)) → AllByRecursion (IsAside right p) es
     → wind_leaf true right p leaf es ≡ wind_leaf false right p leaf es
 leaf_same right p dp leaf es b h =
-    equal (wind_leaf true right p leaf es) (wind_leaf false right p leaf es) (total (λ q. ahead right p (whole q)) (starts (edges_of leaf es))) (total (λ q. ahead right p (whole q)) (ends (edges_of leaf es)))
+    equal_by_gaps (wind_leaf true right p leaf es) (wind_leaf false right p leaf es) (total (λ q. ahead right p (whole q)) (starts (edges_of leaf es))) (total (λ q. ahead right p (whole q)) (ends (edges_of leaf es)))
     (leaf_step right p dp leaf es h) (balanced_totals (λ q. ahead right p (whole q)) (edges_of leaf es) b)
-  where
-    equal : (t f x y : ℤ) → t -ℤ f ≡ x -ℤ y → x ≡ y → t ≡ f
-    equal t f x y h k = omega (arith, ints)
 
 -- a shape's values hard above and hard below are one, where no flat edge lies hard by
 pub level_values : (right : Bool) (p : Point) → pos 0 <ℤ p.d → (es : List LeafEdge) (shape : Shape) → AreLeavesBalanced es → AllByRecursion (IsAside right p) es

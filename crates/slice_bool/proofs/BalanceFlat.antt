@@ -31,6 +31,8 @@ use Rattle.slice_bool.proofs.BalanceEdges.{level_values}
 use Rattle.slice_bool.proofs.BalanceSpots.{IsAt, own_spots, flat_spots, IsAlike, values_alike, IsOneSided, asides, all_one_sided}
 use Rattle.slice_bool.specs.Pieces.{across}
 use Rattle.slice_bool.proofs.BalanceStops.{aheads, aheads-append, between_apart, stretch_alike, flat_alike, IsUpTo, from_stop, first_up_to, next_up_to, IsBeside, beside, further, nearer, all_further, all_nearer}
+use Rattle.std.proofs.lemmas.Bool.{true≢false}
+use Rattle.slice_snap.proofs.SameSpots.{mul_beside}
 
 -- ---- a flat edge with one end at the left stop or before it, and one at the right stop or after it, covers the stretch
 left_reach : (s : Spot) (l : Level) (x : ℤ) → s.at ≡ l → IsAtMost (across (whole_spot x l)) (across s) → int_le (x *ℤ (s.at.d *ℤ pos s.run)) s.x ≡ true
@@ -85,17 +87,11 @@ none_covers p es h = none_passes p es (by_test (nat_lt (position_or_len p es) (l
     by_test false n h = refl
 
 -- ---- spots beside a stretch
-differ : true ≡ false → ⊥
-differ h = cc
-
 on_height : (l : Level) (x : ℤ) → IsSpotAt l (whole_spot x l)
 on_height l x = record { at = refl; runs = omega (arith, ints) }
 
-spot_point : (n d r : ℤ) → (n *ℤ r) *ℤ d ≡ n *ℤ (d *ℤ r)
-spot_point n d r = ring (n ∷ d ∷ r ∷ []) ((v0 ⊗ v2) ⊗ v1) (v0 ⊗ (v1 ⊗ v2)) refl
-
 pub spot_is_at : (l : Level) (s : Spot) → IsSpotAt l s → IsAt l (point_of s)
-spot_is_at l s h = subst (λ (m : Level). (m.n *ℤ pos s.run) *ℤ l.d ≡ l.n *ℤ (m.d *ℤ pos s.run)) (sym h.at) (spot_point l.n l.d (pos s.run))
+spot_is_at l s h = subst (λ (m : Level). (m.n *ℤ pos s.run) *ℤ l.d ≡ l.n *ℤ (m.d *ℤ pos s.run)) (sym h.at) (sym (mul_beside l.n l.d (pos s.run)))
 
 pub spot_divisor : (l : Level) (s : Spot) → pos 0 <ℤ l.d → IsSpotAt l s → pos 0 <ℤ (point_of s).d
 spot_divisor l s dl h = positive_product s.at.d (pos s.run) (subst (λ (m : Level). pos 0 <ℤ m.d) (sym h.at) dl) h.runs
@@ -137,10 +133,10 @@ module _ (l : Level) (dl : pos 0 <ℤ l.d) (right : Bool) (p : Point) (dp : pos 
       elim ab.0 [
         | inl a ↦ elim ab.1 [
           | inl b ↦ nearer l right p dp s (whole_spot e.edge.a.x l) hs ha a left ∙ sym (nearer l right p dp s (whole_spot e.edge.b.x l) hs hb b left)
-          | inr b ↦ absurd (differ (sym (covers_rightwards l s t hs.at ht.at e flat a b) ∙ c))
+          | inr b ↦ absurd (true≢false (sym (covers_rightwards l s t hs.at ht.at e flat a b) ∙ c))
         ]
         | inr a ↦ elim ab.1 [
-          | inl b ↦ absurd (differ (sym (covers_leftwards l s t hs.at ht.at e flat b a) ∙ c))
+          | inl b ↦ absurd (true≢false (sym (covers_leftwards l s t hs.at ht.at e flat b a) ∙ c))
           | inr b ↦ further l right p dp t (whole_spot e.edge.a.x l) ht ha a beyond ∙ sym (further l right p dp t (whole_spot e.edge.b.x l) ht hb b beyond)
         ]
       ]
@@ -240,9 +236,10 @@ module _ (es : List LeafEdge) (shape : Shape) (balanced : AreLeavesBalanced es) 
   impossible [] b h = tt
   impossible (w ∷ ws) b h = absurd h.0
 
-  from_stops : (stops : List Spot) → AreStops es l stops → aheads right p (flat_pieces es shape stops) ≡ counted (is_in_by false right es shape p) -ℤ counted (is_in_by true right es shape p)
-  from_stops [] a = unchanged false (impossible (spots_at es l) false a.complete)
-  from_stops (s ∷ ss) a = by_test (is_right right p (point_of s)) refl
+  -- ahead of a point at the height of a level, its flat pieces make up for what changes from above to below
+  pub flat_change : (stops : List Spot) → AreStops es l stops → aheads right p (flat_pieces es shape stops) ≡ counted (is_in_by false right es shape p) -ℤ counted (is_in_by true right es shape p)
+  flat_change [] a = unchanged false (impossible (spots_at es l) false a.complete)
+  flat_change (s ∷ ss) a = by_test (is_right right p (point_of s)) refl
     where
       by_test : (b : Bool) → is_right right p (point_of s) ≡ b → aheads right p (flat_pieces es shape (s ∷ ss)) ≡ counted (is_in_by false right es shape p) -ℤ counted (is_in_by true right es shape p)
       by_test true h =
@@ -250,11 +247,6 @@ module _ (es : List LeafEdge) (shape : Shape) (balanced : AreLeavesBalanced es) 
           none_counts s ss hs a.rightwards h
           ∙ unchanged true (all_further l right p dp s (spots_at es l) hs.0 (spots_are_at es l) (after_first s ss (spots_at es l) hs (spots_are_at es l) a.rightwards a.complete) h)
       by_test false h = walk s ss (stops_at es l (s ∷ ss) a) a.rightwards (first_up_to s ss (spots_at es l) a.complete) h
-
--- ahead of a point at the height of a level, its flat pieces make up for what changes from above to below
-pub flat_change : (es : List LeafEdge) (shape : Shape) → AreLeavesBalanced es → (l : Level) → pos 0 <ℤ l.d → (right : Bool) (p : Point) → pos 0 <ℤ p.d → IsAt l p → (stops : List Spot) → AreStops es l stops
-    → aheads right p (flat_pieces es shape stops) ≡ counted (is_in_by false right es shape p) -ℤ counted (is_in_by true right es shape p)
-flat_change es shape balanced l dl right p dp at stops a = from_stops es shape balanced l dl right p dp at stops a
 
 -- the flat pieces of other levels don't count
 all_over : (l : Level) (right : Bool) (p : Point) (ws : List Spot) → IsLower (level_at p) l → AllByRecursion (IsSpotAt l) ws → AllByRecursion (λ w. ahead right p (point_of w) ≡ pos 0) ws

@@ -18,7 +18,7 @@ use Rattle.scad_geom.specs.Shape.{is_in_by}
 use Rattle.scad_geom.specs.Level.{level_of, IsLower}
 use Rattle.scad_geom.specs.Heights.{heights, meetings}
 use Rattle.scad_base.proofs.Products.{positive_product}
-use Rattle.scad_geom.proofs.Heights.{lower_then_at_most, at_most_then_lower, lower_weak}
+use Rattle.scad_geom.proofs.Heights.{lower_then_at_most, at_most_then_lower, lower_weak, same_at_least, same_at_most}
 use Rattle.scad_geom.proofs.Order.{back}
 use Rattle.scad_geom.proofs.Turns.{level_at}
 use Rattle.slice_events.specs.Levels.{IsRising, HasHeight}
@@ -35,11 +35,10 @@ use Rattle.slice_snap.specs.Pieces.{ArePiecesBalanced}
 use Rattle.slice_bool.proofs.Passing.{IsLive, live_bundles}
 use Rattle.slice_bool.proofs.Middle.{size_of, half_point, lower_scaled, scaled_below}
 use Rattle.slice_snap.proofs.Ways.{wind_pieces-append}
-use Rattle.slice_bool.proofs.Winding.{stops_still}
+use Rattle.slice_bool.proofs.Winding.{stops_still, with_zero}
 use Rattle.slice_bool.proofs.Walk.{pieces_wind}
 use Rattle.slice_bool.proofs.BalanceTurns.{ahead, ahead_over, ahead_under, ahead_both, step_up, step_down}
 use Rattle.slice_bool.proofs.BalanceEdges.{IsAside, level_values}
-use Rattle.slice_bool.proofs.BalanceSpots.{up_to, down_to}
 use Rattle.slice_bool.proofs.BalanceStops.{aheads, aheads-append}
 use Rattle.slice_bool.proofs.BalanceFlat.{flat_change, flat_over, flat_under}
 
@@ -127,10 +126,7 @@ module _ (es : List LeafEdge) (shape : Shape) (balanced : AreLeavesBalanced es) 
 
   last_level : (l : Level) (stops : List Spot) (pieces : List Piece) (k : ℤ) → AreStops es l stops → pieces ≡ flat_pieces es shape stops → aheads right p (flat_pieces es shape stops) ≡ k → aheads right p pieces ≡ steps right p pieces +ℤ k
   last_level l stops pieces k st is hk =
-      total (aheads right p pieces) (steps right p pieces) k (ap (aheads right p) is ∙ hk) (ap (steps right p) is ∙ flat_steps es shape right p l stops st)
-    where
-      total : (x y k : ℤ) → x ≡ k → y ≡ pos 0 → x ≡ y +ℤ k
-      total x y k h m = omega (arith, ints)
+      with_zero (aheads right p pieces) (steps right p pieces) k (ap (aheads right p) is ∙ hk) (ap (steps right p) is ∙ flat_steps es shape right p l stops st)
 
   no_more : (x y : ℤ) → x ≡ y +ℤ (pos 0 +ℤ pos 0) → x ≡ y +ℤ pos 0
   no_more x y h = omega (arith, ints)
@@ -171,7 +167,7 @@ module _ (es : List LeafEdge) (shape : Shape) (balanced : AreLeavesBalanced es) 
       three_ways (p.y *ℤ l.d) (l.n *ℤ p.d)
       (λ o. inr (below l (u ∷ ls) pieces d r o a))
       (λ at.
-      let ou : IsLower (level_at p) u = at_most_then_lower (level_at p) l u dp d.0 d.1.0 (up_to (level_at p) l at) r.0 in
+      let ou : IsLower (level_at p) u = at_most_then_lower (level_at p) l u dp d.0 d.1.0 (same_at_least (level_at p) l at) r.0 in
       inl (only_first (aheads right p pieces) (steps right p pieces) _
       (one_level l u a.0 a.1 a.2 pieces _ (pos 0) d.0 d.1.0 r.0 a.3 a.4 a.6 (flat_change es shape balanced l d.0 right p dp at a.0 a.3) (below u ls a.2 d.1 r.1 ou a.5).0)))
       (λ o.
@@ -184,8 +180,8 @@ module _ (es : List LeafEdge) (shape : Shape) (balanced : AreLeavesBalanced es) 
   -- ---- where no level has the point's height, no edge ends there
   elsewhere : (ls : List Level) (h : Level) → pos 0 <ℤ h.d → AllByRecursion (λ (l : Level). pos 0 <ℤ l.d) ls → AllByRecursion (IsElsewhere p) ls → HasHeight ls h → IsElsewhere p h
   elsewhere [] h dh d a k = absurd k
-  elsewhere (l ∷ ls) h dh d (inl o, a) (inl e) = inl (lower_then_at_most (level_at p) l h dp d.0 dh o (up_to l h e))
-  elsewhere (l ∷ ls) h dh d (inr o, a) (inl e) = inr (at_most_then_lower h l (level_at p) dh d.0 dp (down_to l h e) o)
+  elsewhere (l ∷ ls) h dh d (inl o, a) (inl e) = inl (lower_then_at_most (level_at p) l h dp d.0 dh o (same_at_least l h e))
+  elsewhere (l ∷ ls) h dh d (inr o, a) (inl e) = inr (at_most_then_lower h l (level_at p) dh d.0 dp (same_at_most l h e) o)
   elsewhere (l ∷ ls) h dh d a (inr k) = elsewhere ls h dh d.1 a.1 k
 
   aside : (e : LeafEdge) → IsElsewhere p (level_of e.edge.a.y) → IsAside right p e

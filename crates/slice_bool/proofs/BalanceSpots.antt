@@ -22,7 +22,7 @@ use Rattle.scad_geom.specs.Shape.{is_in_by}
 use Rattle.scad_geom.specs.Sign.{is_zero}
 use Rattle.scad_geom.specs.Level.{level_of, IsLower, IsAtMost, IsSameHeight}
 use Rattle.scad_geom.proofs.Ring.{ring, ◌⊕◌, ◌⊖◌, ◌⊗◌, v0, v1, v2, v3, v4, v5, v6, v7}
-use Rattle.scad_geom.proofs.Heights.{lower_then_at_most, at_most_then_lower, at_most_chain, lower_weak}
+use Rattle.scad_geom.proofs.Heights.{lower_then_at_most, at_most_then_lower, at_most_chain, lower_weak, same_at_least}
 use Rattle.scad_geom.proofs.Order.{front, back}
 use Rattle.scad_geom.proofs.Turns.{level_at, Over, NotOver, under_turn, over_turn, heading, reaching_turn, beyond_mul}
 use Rattle.slice_snap.specs.declared.piece.Spot.{Spot}
@@ -32,26 +32,21 @@ use Rattle.slice_bool.proofs.Middle.{size_of}
 use Rattle.slice_bool.proofs.Winding.{either_over}
 use Rattle.slice_bool.proofs.BalanceTurns.{gap, is_right, ahead_level, ahead_over, ahead_under, drop_zero}
 use Rattle.slice_bool.proofs.BalanceEdges.{IsAside}
-use Rattle.scad_geom.proofs.Signs.{no_gap}
+use Rattle.scad_geom.proofs.Signs.{no_gap, mul-one}
 use Rattle.std.specs.Cmp.{signed_Decides}
+use Rattle.scad_geom.proofs.Heights.{same_at_most}
 
 -- a point at a height
 abbrev pub IsAt : Level → Point → Type 0
 IsAt l p = IsSameHeight (level_at p) l
 
-pub up_to : (p l : Level) → IsSameHeight p l → IsAtMost p l
-up_to p l h = omega (arith, ints)
-
-pub down_to : (p l : Level) → IsSameHeight p l → IsAtMost l p
-down_to p l h = omega (arith, ints)
-
 over_at : (above : Bool) (p l h : Level) → pos 0 <ℤ p.d → pos 0 <ℤ l.d → pos 0 <ℤ h.d → IsSameHeight p l → Over above l h → Over above p h
-over_at true p l h dp dl dh e o = at_most_then_lower p l h dp dl dh (up_to p l e) o
-over_at false p l h dp dl dh e o = at_most_chain p l h dp dl dh (up_to p l e) o
+over_at true p l h dp dl dh e o = at_most_then_lower p l h dp dl dh (same_at_least p l e) o
+over_at false p l h dp dl dh e o = at_most_chain p l h dp dl dh (same_at_least p l e) o
 
 not_over_at : (above : Bool) (p l h : Level) → pos 0 <ℤ p.d → pos 0 <ℤ l.d → pos 0 <ℤ h.d → IsSameHeight p l → NotOver above l h → NotOver above p h
-not_over_at true p l h dp dl dh e o = at_most_chain h l p dh dl dp o (down_to p l e)
-not_over_at false p l h dp dl dh e o = lower_then_at_most h l p dh dl dp o (down_to p l e)
+not_over_at true p l h dp dl dh e o = at_most_chain h l p dh dl dp o (same_at_most p l e)
+not_over_at false p l h dp dl dh e o = lower_then_at_most h l p dh dl dp o (same_at_most p l e)
 
 over_weak : (above : Bool) (l h : Level) → Over above l h → IsAtMost l h
 over_weak true l h o = lower_weak l h o
@@ -204,13 +199,10 @@ abbrev pub IsOneSided : Level → Bool → Point → LeafEdge → Type 0
 IsOneSided l right p e = is_flat_at e.edge l ≡ true → is_right right p (point_of (whole_spot e.edge.a.x l)) ≡ is_right right p (point_of (whole_spot e.edge.b.x l))
 
 whole_gap : (x px d k : ℤ) → (x *ℤ k) *ℤ d -ℤ px *ℤ (k *ℤ pos 1) ≡ (x *ℤ d -ℤ px *ℤ pos 1) *ℤ k
-whole_gap x px d k = two x px d k ∙ ap (λ (z : ℤ). z *ℤ k) (ap (λ (z : ℤ). x *ℤ d -ℤ z) (times_one px))
+whole_gap x px d k = two x px d k ∙ ap (λ (z : ℤ). z *ℤ k) (ap (λ (z : ℤ). x *ℤ d -ℤ z) (sym (mul-one px)))
   where
-    times_one : (z : ℤ) → z ≡ z *ℤ pos 1
-    times_one z = omega (arith, ints)
-
     two : (x px d k : ℤ) → (x *ℤ k) *ℤ d -ℤ px *ℤ (k *ℤ pos 1) ≡ (x *ℤ d -ℤ px) *ℤ k
-    two x px d k = ap (λ (z : ℤ). (x *ℤ k) *ℤ d -ℤ px *ℤ z) (sym (times_one k)) ∙ ring (x ∷ px ∷ d ∷ k ∷ []) ((v0 ⊗ v3) ⊗ v2 ⊖ v1 ⊗ v3) ((v0 ⊗ v2 ⊖ v1) ⊗ v3) refl
+    two x px d k = ap (λ (z : ℤ). (x *ℤ k) *ℤ d -ℤ px *ℤ z) (mul-one k) ∙ ring (x ∷ px ∷ d ∷ k ∷ []) ((v0 ⊗ v3) ⊗ v2 ⊖ v1 ⊗ v3) ((v0 ⊗ v2 ⊖ v1) ⊗ v3) refl
 
 whole_right : (right : Bool) (p : Point) (l : Level) (a : Pt) → pos 0 <ℤ l.d → is_right right p (point_of (whole_spot a.x l)) ≡ is_right right p (whole a)
 whole_right right p l a dl = ap (is_beyond right) (whole_gap a.x p.x p.d l.d) ∙ beyond_mul right l.d (gap p (whole a)) dl
@@ -228,18 +220,18 @@ one_sided l dl right p dp at e h flat =
     by_lt_z (e.edge.a.y *ℤ l.d) l.n
     (λ o.
     let u : IsLower (level_of e.edge.a.y) l = omega (arith, ints) in
-    let v = lower_then_at_most (level_of e.edge.a.y) l (level_at p) one dl dp u (down_to (level_at p) l at) in
+    let v = lower_then_at_most (level_of e.edge.a.y) l (level_at p) one dl dp u (same_at_most (level_at p) l at) in
     ahead_under right p (whole e.edge.a) v ∙ sym (ahead_under right p (whole e.edge.b) (subst (λ (y : ℤ). IsLower (level_of y) (level_at p)) flat v)))
     (λ n. by_lt_z l.n (e.edge.a.y *ℤ l.d)
     (λ o.
     let u : IsLower l (level_of e.edge.a.y) = omega (arith, ints) in
-    let v = at_most_then_lower (level_at p) l (level_of e.edge.a.y) dp dl one (up_to (level_at p) l at) u in
+    let v = at_most_then_lower (level_at p) l (level_of e.edge.a.y) dp dl one (same_at_least (level_at p) l at) u in
     ahead_over right p (whole e.edge.a) v ∙ sym (ahead_over right p (whole e.edge.b) (subst (λ (y : ℤ). IsLower (level_at p) (level_of y)) flat v)))
     (λ m.
     let level : e.edge.a.y *ℤ l.d ≡ l.n = omega (arith, ints) in
     let same : IsSameHeight (level_of e.edge.a.y) l = omega (arith, ints) in
-    let a = at_most_chain (level_at p) l (level_of e.edge.a.y) dp dl one (up_to (level_at p) l at) (down_to (level_of e.edge.a.y) l same) in
-    let b = at_most_chain (level_of e.edge.a.y) l (level_at p) one dl dp (up_to (level_of e.edge.a.y) l same) (down_to (level_at p) l at) in
+    let a = at_most_chain (level_at p) l (level_of e.edge.a.y) dp dl one (same_at_least (level_at p) l at) (same_at_most (level_of e.edge.a.y) l same) in
+    let b = at_most_chain (level_of e.edge.a.y) l (level_at p) one dl dp (same_at_least (level_of e.edge.a.y) l same) (same_at_most (level_at p) l at) in
     let here : p.y *ℤ pos 1 ≡ e.edge.a.y *ℤ p.d = omega (arith, ints) in
     let k : is_flat_at e.edge l ≡ true = rw (is_zero-rise e.edge flat) ((signed_Decides (e.edge.a.y *ℤ l.d) l.n).1 level) in
     ahead_level right p (whole e.edge.a) here

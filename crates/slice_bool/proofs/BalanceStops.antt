@@ -10,12 +10,11 @@ use Rattle.scad_geom.specs.declared.level.LeafEdge.{LeafEdge}
 use Rattle.scad_geom.specs.declared.shape.Shape.{Shape}
 use Rattle.scad_geom.specs.Winding.{counted}
 use Rattle.scad_geom.specs.Point.{Point}
-use Rattle.scad_geom.specs.Winding.{is_beyond}
 use Rattle.scad_geom.specs.Shape.{is_in_by}
 use Rattle.scad_geom.specs.Level.{IsAtMost}
 use Rattle.scad_geom.proofs.Ring.{ring, ◌⊕◌, ◌⊖◌, ◌⊗◌, v0, v1, v2, v3, v4, v5, v6}
 use Rattle.scad_geom.proofs.Signs.{at_least_mul}
-use Rattle.scad_geom.proofs.Heights.{at_most_chain, lower_weak}
+use Rattle.scad_geom.proofs.Heights.{at_most_chain, lower_weak, same_at_least, same_at_most}
 use Rattle.scad_geom.proofs.Turns.{beyond_mul}
 use Rattle.scad_base.proofs.Integers.{at_most_of_less, gap_of_at_most}
 use Rattle.slice_snap.specs.declared.piece.Spot.{Spot}
@@ -24,7 +23,7 @@ use Rattle.slice_snap.specs.Spots.{point_of}
 use Rattle.slice_bool.specs.Pieces.{piece_between, IsLeft, GoRight, HasSpot, covers, stretch_piece, flat_pieces, across}
 use Rattle.slice_bool.proofs.Winding.{IsSpotAt}
 use Rattle.slice_bool.proofs.BalanceTurns.{gap, is_right, ahead}
-use Rattle.slice_bool.proofs.BalanceSpots.{up_to, down_to}
+use Rattle.slice_bool.proofs.Passing.{beyond_more}
 
 -- ---- what lies ahead of a point, of the ends of pieces: starts less ends
 abbrev pub aheads : Bool → Point → List Piece → ℤ
@@ -78,9 +77,9 @@ abbrev pub IsUpTo : Spot → List Spot → Spot → Type 0
 IsUpTo s ss w = IsAtMost (across w) (across s) ⊎ HasSpot ss w
 
 pub from_stop : (t : Spot) (ss : List Spot) (l : Level) (w : Spot) → AllByRecursion (IsSpotAt l) (t ∷ ss) → pos 0 <ℤ pos w.run → GoRight (t ∷ ss) → HasSpot (t ∷ ss) w → IsAtMost (across t) (across w)
-from_stop t [] l w at dw r (inl e) = up_to (across t) (across w) e
+from_stop t [] l w at dw r (inl e) = same_at_least (across t) (across w) e
 from_stop t [] l w at dw r (inr e) = absurd e
-from_stop t (u ∷ ss) l w at dw r (inl e) = up_to (across t) (across w) e
+from_stop t (u ∷ ss) l w at dw r (inl e) = same_at_least (across t) (across w) e
 from_stop t (u ∷ ss) l w at dw r (inr e) = at_most_chain (across t) (across u) (across w) at.0.runs at.1.0.runs dw (lower_weak (across t) (across u) r.0) (from_stop u ss l w at.1 dw r.1 e)
 
 pub first_up_to : (s : Spot) (ss ws : List Spot) → AllByRecursion (HasSpot (s ∷ ss)) ws → AllByRecursion (IsUpTo s ss) ws
@@ -88,7 +87,7 @@ first_up_to s ss [] h = tt
 first_up_to s ss (w ∷ ws) h = (one w h.0, first_up_to s ss ws h.1)
   where
     one : (w : Spot) → HasSpot (s ∷ ss) w → IsUpTo s ss w
-    one w (inl e) = inl (down_to (across s) (across w) e)
+    one w (inl e) = inl (same_at_most (across s) (across w) e)
     one w (inr r) = inr r
 
 pub next_up_to : (l : Level) (s t : Spot) (ss ws : List Spot) → IsSpotAt l s → IsSpotAt l t → AllByRecursion (IsSpotAt l) ws → IsLeft s t → AllByRecursion (IsUpTo s (t ∷ ss)) ws → AllByRecursion (IsUpTo t ss) ws
@@ -97,7 +96,7 @@ next_up_to l s t ss (w ∷ ws) hs ht hw o h = (one w hw.0 h.0, next_up_to l s t 
   where
     one : (w : Spot) → IsSpotAt l w → IsUpTo s (t ∷ ss) w → IsUpTo t ss w
     one w hw (inl e) = inl (at_most_chain (across w) (across s) (across t) hw.runs hs.runs ht.runs e (lower_weak (across s) (across t) o))
-    one w hw (inr (inl e)) = inl (down_to (across t) (across w) e)
+    one w hw (inr (inl e)) = inl (same_at_most (across t) (across w) e)
     one w hw (inr (inr r)) = inr r
 
 -- no spot lies between two neighbouring stops
@@ -115,11 +114,6 @@ beside l s t ss (w ∷ ws) at aw r h = (one w aw.0 h.0, beside l s t ss ws at aw
 -- ---- a spot further to the right lies on the right where the first does
 further_identity : (sx sr wx wr px pd k : ℤ) → (wx *ℤ pd -ℤ px *ℤ (k *ℤ wr)) *ℤ sr ≡ (sx *ℤ pd -ℤ px *ℤ (k *ℤ sr)) *ℤ wr +ℤ (wx *ℤ sr -ℤ sx *ℤ wr) *ℤ pd
 further_identity sx sr wx wr px pd k = ring (sx ∷ sr ∷ wx ∷ wr ∷ px ∷ pd ∷ k ∷ []) ((v2 ⊗ v5 ⊖ v4 ⊗ (v6 ⊗ v3)) ⊗ v1) ((v0 ⊗ v5 ⊖ v4 ⊗ (v6 ⊗ v1)) ⊗ v3 ⊕ (v2 ⊗ v1 ⊖ v0 ⊗ v3) ⊗ v5) refl
-
-beyond_more : (right : Bool) (y z : ℤ) → y ≤ℤ z → is_beyond right y ≡ true → is_beyond right z ≡ true
-unfolding is_beyond
-beyond_more true y z h k = sym (omega (arith, ints))
-beyond_more false y z h k = sym (omega (arith, ints))
 
 more_of : (a b c : ℤ) → a ≡ b +ℤ c → pos 0 ≤ℤ c → b ≤ℤ a
 more_of a b c h k = omega (arith, ints)

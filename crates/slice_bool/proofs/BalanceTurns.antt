@@ -14,7 +14,7 @@ use Rattle.scad_base.proofs.Products.{positive_product}
 use Rattle.scad_geom.proofs.Integers.{mul_assoc, neg_mul}
 use Rattle.scad_geom.proofs.Heights.{lower_then_at_most, at_most_then_lower, lower_weak}
 use Rattle.scad_geom.proofs.Turns.{level_at, over_true, over_false, flat_turn, rising_turn, beyond_mul}
-use Rattle.scad_base.proofs.Integers.{gap_of_less}
+use Rattle.scad_base.proofs.Integers.{gap_of_less, minus_self}
 use Rattle.scad_geom.proofs.Signs.{no_gap}
 use Rattle.std.specs.Cmp.{signed_Decides}
 
@@ -78,9 +78,6 @@ end_side right p a b da db o h =
     ∙ beyond_mul right (a.d *ℤ (b.y *ℤ a.d -ℤ a.y *ℤ b.d)) (gap p b) (positive_product a.d (b.y *ℤ a.d -ℤ a.y *ℤ b.d) da (gap_of_less (a.y *ℤ b.d) (b.y *ℤ a.d) o))
 
 -- ---- upwards
-not_both : (z : ℤ) → z -ℤ z ≡ pos 0
-not_both z = omega (arith, ints)
-
 module _ (right : Bool) (p a b : Point) (dp : pos 0 <ℤ p.d) (da : pos 0 <ℤ a.d) (db : pos 0 <ℤ b.d) (o : IsLower (level_at a) (level_at b)) where
   Steps : Type 0
   Steps = turn true right p a b -ℤ turn false right p a b ≡ ahead right p a -ℤ ahead right p b
@@ -115,7 +112,7 @@ module _ (right : Bool) (p a b : Point) (dp : pos 0 <ℤ p.d) (da : pos 0 <ℤ a
       from_parts (counted (is_beyond right (side_by p a b))) (counted (is_beyond right (side_by p a b))) (pos 0) (pos 0)
       (rising_turn true right p a b (over_false true p a (lower_weak (level_at a) (level_at p) h)) (over_true true p b k))
       (rising_turn false right p a b (over_false false p a h) (over_true false p b (lower_weak (level_at p) (level_at b) k)))
-      (ahead_under right p a h) (ahead_over right p b k) (not_both (counted (is_beyond right (side_by p a b))))
+      (ahead_under right p a h) (ahead_over right p b k) (minus_self (counted (is_beyond right (side_by p a b))))
 
   at_end : IsLower (level_at a) (level_at p) → p.y *ℤ b.d ≡ b.y *ℤ p.d → Steps
   at_end h k =

@@ -3,7 +3,7 @@ use Rattle.std.proofs.Common.{◌≡◌, ◌≢◌, ℕ, inl, inr, Bool, true, f
 use lib.IntN.{ℤ, pos, ◌-ℤ◌, ◌*ℤ◌, neg_ℤ}
 use lib.Signed.{◌<ℤ◌}
 use Rattle.std.specs.Prelude.{Option, Some, None, unsigned_abs}
-use Rattle.std.specs.List.{AllByRecursion, All, concat, position}
+use Rattle.std.specs.List.{AllByRecursion, All, position}
 use Rattle.std.proofs.lemmas.Int.{ints}
 use Rattle.std.proofs.lemmas.List.Elements.{All-from_recursion}
 use Rattle.scad_base.proofs.Products.{zero_factor, positive_product}
@@ -14,14 +14,14 @@ use Rattle.scad_geom.specs.Line.{rise, left_of}
 use Rattle.scad_geom.specs.Point.{Point}
 use Rattle.scad_geom.specs.Winding.{side_by, is_beyond}
 use Rattle.scad_geom.specs.Shape.{is_in_by}
-use Rattle.scad_geom.specs.Level.{IsLower, IsAtMost, IsSameHeight}
+use Rattle.scad_geom.specs.Level.{IsLower, IsAtMost}
 use Rattle.scad_geom.specs.Heights.{AreNeighbours, heights}
 use Rattle.scad_geom.proofs.Integers.{neg_mul}
-use Rattle.scad_geom.proofs.Heights.{lower_then_at_most, at_most_then_lower, at_most_chain, lower_weak, heights_positive}
-use Rattle.scad_geom.proofs.Order.{back}
+use Rattle.scad_geom.proofs.Heights.{lower_then_at_most, at_most_then_lower, lower_weak, heights_positive}
+use Rattle.scad_geom.proofs.Order.{apart_levels}
 use Rattle.scad_geom.proofs.Turns.{level_at}
 use Rattle.slice_events.specs.Levels.{IsRising, AreLevels}
-use Rattle.slice_slab.specs.Bundles.{edge_at, AreRanked, AreBundles}
+use Rattle.slice_slab.specs.Bundles.{edge_at, AreBundles}
 use Rattle.slice_slab.proofs.Live.{IsLive, live_bundles}
 use Rattle.slice_snap.specs.declared.piece.Spot.{Spot}
 use Rattle.slice_snap.specs.declared.piece.Piece.{Piece}
@@ -31,15 +31,17 @@ use Rattle.slice_bool.specs.BorderPoints.{IsBorderPoint}
 use Rattle.slice_snap.specs.Inside.{IsBelow, IsLeftOf, AreLevel, IsBetween, IsInside}
 use Rattle.scad_base.proofs.Integers.{gap_of_less}
 use Rattle.slice_bool.proofs.Middle.{size_of, half_point, lower_scaled, scaled_below, value_right_at, value_left_at, value_right, value_left}
-use Rattle.slice_bool.proofs.Slabs.{side_up_is}
+use Rattle.slice_bool.proofs.Slabs.{side_up_is, later_live, later_ranked}
 use Rattle.slice_bool.proofs.Winding.{IsSpotAt, stops_at, spots_are_at}
 use Rattle.scad_base.proofs.Lists.{AllByRecursion-append}
 use Rattle.slice_bool.proofs.Walk.{UpTo, at_first, at_next, neighbours_next}
 use Rattle.slice_bool.proofs.BalanceTurns.{is_right, side_turned}
-use Rattle.slice_bool.proofs.BalanceSpots.{IsAt, up_to, down_to, values_alike}
+use Rattle.slice_bool.proofs.BalanceSpots.{IsAt, values_alike}
 use Rattle.slice_bool.specs.Pieces.{across}
 use Rattle.slice_bool.proofs.BalanceStops.{IsUpTo, first_up_to, next_up_to, IsBeside, beside, further}
 use Rattle.slice_bool.proofs.BalanceFlat.{spot_is_at, spot_divisor, alike_beside}
+use Rattle.scad_geom.proofs.Heights.{same_at_least, same_at_most, same_chain}
+use Rattle.std.proofs.lemmas.Bool.{true≢false}
 
 nothing : (z d : ℤ) → z ≡ pos 0 → neg_ℤ z *ℤ d ≡ pos 0
 nothing z d h = let t : z *ℤ d ≡ pos 0 = rw h (omega (arith, ints)) in rw neg_mul (omega (arith, ints))
@@ -116,12 +118,12 @@ module _ (es : List LeafEdge) (shape : Shape) where
 
     over_low : (p : Point) → pos 0 <ℤ p.d → IsBelow (point_of (spot_on (edge_at es k) l)) p → IsLower l (level_at p)
     over_low p dp h =
-        let same = down_to (level_at (point_of (spot_on (edge_at es k) l))) l (spot_is_at l (spot_on (edge_at es k) l) low_spot) in
+        let same = same_at_most (level_at (point_of (spot_on (edge_at es k) l))) l (spot_is_at l (spot_on (edge_at es k) l) low_spot) in
         at_most_then_lower l (level_at (point_of (spot_on (edge_at es k) l))) (level_at p) n.lower_divisor low_divisor dp same h
 
     under_high : (p : Point) → pos 0 <ℤ p.d → IsBelow p (point_of (spot_on (edge_at es k) u)) → IsLower (level_at p) u
     under_high p dp h =
-        let same = up_to (level_at (point_of (spot_on (edge_at es k) u))) u (spot_is_at u (spot_on (edge_at es k) u) high_spot) in
+        let same = same_at_least (level_at (point_of (spot_on (edge_at es k) u))) u (spot_is_at u (spot_on (edge_at es k) u) high_spot) in
         lower_then_at_most (level_at p) (level_at (point_of (spot_on (edge_at es k) u))) u dp high_divisor n.upper_divisor h same
 
     pub inside_slab : (p : Point) → pos 0 <ℤ p.d → IsInside (point_of (spot_on (edge_at es k) l)) (point_of (spot_on (edge_at es k) u)) p → IsLower l (level_at p) × IsLower (level_at p) u
@@ -145,30 +147,17 @@ module _ (es : List LeafEdge) (shape : Shape) where
         (value_right_at es l u n k lk p dp o.0 o.1 on shape ks before rest b ∙ sym (value_right es l u n k lk shape ks before rest b) ∙ hw)
         apart)
 
-  later_live : (l u : Level) (before bs : List (List ℕ)) → AllByRecursion (IsLive es l u) (concat (before ++ bs)) → AllByRecursion (IsLive es l u) (concat bs)
-  later_live l u [] bs h = h
-  later_live l u (b ∷ before) bs h = later_live l u before bs (back (IsLive es l u) b (concat (before ++ bs)) h)
-
-  later_ranked : (l : Level) (before bs : List (List ℕ)) → AreRanked es l (before ++ bs) → AreRanked es l bs
-  later_ranked l [] bs h = h
-  later_ranked l (b ∷ before) bs h = later_ranked l before bs h.2
-
   slab_borders : (l u : Level) → AreNeighbours es l u → (before bs : List (List ℕ)) → AreBundles es l u (before ++ bs) → AllBorder (slab_pieces es shape l u bs)
   slab_borders l u n before [] b = tt
-  slab_borders l u n before ([] ∷ bs) b = absurd (later_ranked l before ([] ∷ bs) b.ranked).0
+  slab_borders l u n before ([] ∷ bs) b = absurd (later_ranked es l before ([] ∷ bs) b.ranked).0
   slab_borders l u n before ((k ∷ ks) ∷ bs) b =
       let shifted : before ++ ((k ∷ ks) ∷ bs) ≡ (before ++ ((k ∷ ks) ∷ [])) ++ bs = sym (append_assoc before ((k ∷ ks) ∷ []) bs) in
-      let live = later_live l u before ((k ∷ ks) ∷ bs) (live_bundles es l u (before ++ ((k ∷ ks) ∷ bs)) b) in
+      let live = later_live es l u before ((k ∷ ks) ∷ bs) (live_bundles es l u (before ++ ((k ∷ ks) ∷ bs)) b) in
       AllByRecursion-append (λ q. Borders q.from q.to) (bundle_piece es shape l u (k ∷ ks)) (slab_pieces es shape l u bs)
       (bundle_borders l u n k live.0 ks before bs b)
       (slab_borders l u n (before ++ ((k ∷ ks) ∷ [])) bs (subst (AreBundles es l u) shifted b))
 
   -- ---- on a level
-  same_chain : (p q r : Level) → pos 0 <ℤ p.d → pos 0 <ℤ q.d → pos 0 <ℤ r.d → IsSameHeight p q → IsSameHeight q r → IsSameHeight p r
-  same_chain p q r dp dq dr h k =
-      let a = at_most_chain p q r dp dq dr (up_to p q h) (up_to q r k) in
-      let b = at_most_chain r q p dr dq dp (down_to q r k) (down_to p q h) in
-      omega (arith, ints)
 
   not_beyond : (p b : Point) → IsLeftOf b p → is_right true p b ≡ false
   unfolding is_beyond
@@ -178,27 +167,18 @@ module _ (es : List LeafEdge) (shape : Shape) where
   unfolding is_beyond
   is_beyond_it p b h = sym (omega (arith, ints))
 
-  differ : true ≡ false → ⊥
-  differ h = cc
-
   module _ (l : Level) (dl : pos 0 <ℤ l.d) (s t : Spot) (hs : IsSpotAt l s) (ht : IsSpotAt l t) (o : IsLeft s t) where
     ends_level : (p : Point) → pos 0 <ℤ p.d → IsBelow (point_of s) p → IsBelow p (point_of t) → ⊥
     ends_level p dp h k =
-        let a = at_most_then_lower l (level_at (point_of s)) (level_at p) dl (spot_divisor l s dl hs) dp (down_to (level_at (point_of s)) l (spot_is_at l s hs)) h in
-        let b = lower_then_at_most (level_at p) (level_at (point_of t)) l dp (spot_divisor l t dl ht) dl k (up_to (level_at (point_of t)) l (spot_is_at l t ht)) in
-        both_lower l (level_at p) a b
-      where
-        both_lower : (p q : Level) → IsLower p q → IsLower q p → ⊥
-        both_lower p q h k = omega (arith, ints)
+        let a = at_most_then_lower l (level_at (point_of s)) (level_at p) dl (spot_divisor l s dl hs) dp (same_at_most (level_at (point_of s)) l (spot_is_at l s hs)) h in
+        let b = lower_then_at_most (level_at p) (level_at (point_of t)) l dp (spot_divisor l t dl ht) dl k (same_at_least (level_at (point_of t)) l (spot_is_at l t ht)) in
+        apart_levels l (level_at p) a (lower_weak (level_at p) l b)
 
     ends_level_down : (p : Point) → pos 0 <ℤ p.d → IsBelow (point_of t) p → IsBelow p (point_of s) → ⊥
     ends_level_down p dp h k =
-        let a = at_most_then_lower l (level_at (point_of t)) (level_at p) dl (spot_divisor l t dl ht) dp (down_to (level_at (point_of t)) l (spot_is_at l t ht)) h in
-        let b = lower_then_at_most (level_at p) (level_at (point_of s)) l dp (spot_divisor l s dl hs) dl k (up_to (level_at (point_of s)) l (spot_is_at l s hs)) in
-        both_lower l (level_at p) a b
-      where
-        both_lower : (p q : Level) → IsLower p q → IsLower q p → ⊥
-        both_lower p q h k = omega (arith, ints)
+        let a = at_most_then_lower l (level_at (point_of t)) (level_at p) dl (spot_divisor l t dl ht) dp (same_at_most (level_at (point_of t)) l (spot_is_at l t ht)) h in
+        let b = lower_then_at_most (level_at p) (level_at (point_of s)) l dp (spot_divisor l s dl hs) dl k (same_at_least (level_at (point_of s)) l (spot_is_at l s hs)) in
+        apart_levels l (level_at p) a (lower_weak (level_at p) l b)
 
     -- a point inside the stretch lies at the height, with the one stop to its left and the other to its right
     pub inside_stretch : (p : Point) → pos 0 <ℤ p.d → IsInside (point_of s) (point_of t) p → IsAt l p × (is_right true p (point_of s) ≡ false) × (is_right true p (point_of t) ≡ true)
@@ -209,7 +189,7 @@ module _ (es : List LeafEdge) (shape : Shape) where
       ]
       | inr h ↦ elim h.2 [
         | inl k ↦ (at h.0, not_beyond p (point_of s) k.0, is_beyond_it p (point_of t) k.1)
-        | inr k ↦ absurd (differ (sym (further l true p dp s t hs ht (lower_weak (across s) (across t) o) (is_beyond_it p (point_of s) k.1)) ∙ not_beyond p (point_of t) k.0))
+        | inr k ↦ absurd (true≢false (sym (further l true p dp s t hs ht (lower_weak (across s) (across t) o) (is_beyond_it p (point_of s) k.1)) ∙ not_beyond p (point_of t) k.0))
       ]
     ]
       where

@@ -1,5 +1,5 @@
 -- The shape's values beside bundles, by the headings of the edges to the right.
-use Rattle.std.proofs.Common.{◌≡◌, ℕ, zero, suc, ◌+◌, ◌-◌, ◌<◌, ◌≤◌, ◌⊎◌, inl, inr, Bool, true, false, not, List, [], ◌∷◌, ◌++◌, length, get_or, take, drop, refl, sym, ap, ap₂, ◌∙◌, arith, subst, length-append}
+use Rattle.std.proofs.Common.{◌≡◌, ℕ, zero, suc, ◌+◌, ◌-◌, ◌<◌, ◌≤◌, inl, inr, Bool, true, false, not, List, [], ◌∷◌, ◌++◌, length, get_or, take, drop, refl, sym, ap, ap₂, ◌∙◌, arith, subst, length-append}
 use mathlib.Core.Path.{fun_ext}
 use lib.IntN.{ℤ, pos, negsuc, ◌+ℤ◌, +ℤ_idl, +ℤ_assoc}
 use Rattle.std.specs.Prelude.{int_lt, unsigned_abs, ◌==◌, if◌then◌else◌}
@@ -28,6 +28,8 @@ use Rattle.slice_bool.proofs.Reaching.{heading_for}
 use Rattle.slice_bool.proofs.Passing.{IsLive, live_bundles}
 use Rattle.slice_bool.proofs.Values.{value_of}
 use Rattle.slice_bool.proofs.Middle.{value_right, value_left}
+use Rattle.std.proofs.Math.IntN.{+ℤ_comm}
+use Rattle.std.proofs.lemmas.Bool.{cases_lt}
 
 -- ---- sums of headings
 headings_are : (es : List LeafEdge) (leaf : ℕ) (ks : List ℕ) → headings es leaf ks ≡ sum_z (heading_for es leaf) ks
@@ -115,11 +117,8 @@ left_more es leaf bs i d h =
     ap (λ (k : ℕ). headings es leaf (concat (drop k bs))) p
     ∙ at_drop_more (λ (bs : List (List ℕ)). headings es leaf (concat bs)) bs j d (omega arith)
     ∙ headings-append es leaf (get_or bs j d) (concat (drop (j + 1) bs))
-    ∙ swap (headings es leaf (get_or bs j d)) (headings es leaf (concat (drop (j + 1) bs)))
+    ∙ +ℤ_comm (headings es leaf (get_or bs j d)) (headings es leaf (concat (drop (j + 1) bs)))
     ∙ ap (λ (k : ℕ). headings es leaf (concat (drop k bs)) +ℤ headings es leaf (get_or bs j d)) (sym q)
-  where
-    swap : (y z : ℤ) → y +ℤ z ≡ z +ℤ y
-    swap y z = omega (arith, ints)
 
 pub tally_more : (es : List LeafEdge) (bs : List (List ℕ)) (i : ℕ) (d : List ℕ) (old new : List ℤ) → i < length bs → IsTally old (λ leaf. headings es leaf (concat (drop (length bs - i) bs)))
     → IsTally new (λ leaf. get_or old leaf (pos 0) +ℤ headings es leaf (get_or bs (length bs - 1 - i) d)) → IsTally new (λ leaf. headings es leaf (concat (drop (length bs - (i + 1)) bs)))
@@ -139,11 +138,6 @@ drop_all (b ∷ bs) = drop_all bs
 pub all_dropped : (bs : List (List ℕ)) → drop (length bs - 0) bs ≡ []
 all_dropped bs = let q : length bs - 0 ≡ length bs = omega arith in rw q (drop_all bs)
 
-decide : (k i : ℕ) → (k ≤ i) ⊎ (i < k)
-decide zero i = inl (omega arith)
-decide (suc k) zero = inr (omega arith)
-decide (suc k) (suc i) = elim (decide k i) [ inl h ↦ inl (omega arith) | inr h ↦ inr (omega arith) ]
-
 at_end : (vs : List Bool) (v : Bool) (k : ℕ) → length vs ≡ k → get_or (vs ++ (v ∷ [])) k false ≡ v
 at_end [] v zero l = refl
 at_end [] v (suc k) l = absurd (omega arith)
@@ -156,9 +150,9 @@ before_end (w ∷ vs) v zero l = refl
 before_end (w ∷ vs) v (suc k) l = before_end vs v k (omega arith)
 
 pub one_more : (P : ℕ → Bool) (vs : List Bool) (v : Bool) (i : ℕ) → length vs ≡ i + 1 → ((k : ℕ) → k ≤ i → get_or vs k false ≡ P k) → v ≡ P (i + 1) → (k : ℕ) → k ≤ i + 1 → get_or (vs ++ (v ∷ [])) k false ≡ P k
-one_more P vs v i l h e k b = elim (decide k i) [
-  | inl q ↦ before_end vs v k (omega arith) ∙ h k q
-  | inr q ↦ let r : i + 1 ≡ k = omega arith in at_end vs v k (l ∙ r) ∙ e ∙ ap P r
+one_more P vs v i l h e k b = elim (cases_lt i k) [
+  | inr q ↦ before_end vs v k (omega arith) ∙ h k q
+  | inl q ↦ let r : i + 1 ≡ k = omega arith in at_end vs v k (l ∙ r) ∙ e ∙ ap P r
 ]
 
 -- ---- the pieces

@@ -19,23 +19,21 @@ use Rattle.scad_geom.proofs.Leaves.{wind_leaf, wind_leaf-is}
 use Rattle.scad_geom.specs.Shape.{shape_holds, is_in_by}
 use Rattle.scad_geom.specs.Sign.{is_zero}
 use Rattle.slice_bool.specs.Tally.{IsTally, is_held}
-
-one_mul : (z : ℤ) → z *ℤ pos 1 ≡ z
-one_mul z = omega (arith, ints)
+use Rattle.scad_geom.proofs.Signs.{mul-one}
 
 -- whether a whole point lies above a height
 pub over_whole : (p : Point) (b : Pt) → is_over true p (whole b) ≡ int_lt p.y (b.y *ℤ p.d)
 unfolding is_over
-over_whole p b = ap (λ (z : ℤ). int_lt z (b.y *ℤ p.d)) (one_mul p.y)
+over_whole p b = ap (λ (z : ℤ). int_lt z (b.y *ℤ p.d)) (mul-one p.y)
 
 pub from_whole : (p : Point) (b : Pt) → is_over false p (whole b) ≡ int_le p.y (b.y *ℤ p.d)
 unfolding is_over
-from_whole p b = ap (λ (z : ℤ). int_le z (b.y *ℤ p.d)) (one_mul p.y)
+from_whole p b = ap (λ (z : ℤ). int_le z (b.y *ℤ p.d)) (mul-one p.y)
 
 -- on which side of an edge between whole points a point lies
 pub side_whole : (p : Point) (a b : Pt) → side_by p (whole a) (whole b) ≡ (b.x -ℤ a.x) *ℤ (p.y -ℤ a.y *ℤ p.d) -ℤ (b.y -ℤ a.y) *ℤ (p.x -ℤ a.x *ℤ p.d)
 unfolding side_by
-side_whole p a b = rw (one_mul a.x, one_mul b.x, one_mul a.y, one_mul b.y, one_mul p.x, one_mul p.y) refl
+side_whole p a b = rw (mul-one a.x, mul-one b.x, mul-one a.y, mul-one b.y, mul-one p.x, mul-one p.y) refl
 
 -- one more edge
 pub wind_more : (above : Bool) (p : Point) (leaf : ℕ) (es : List LeafEdge) (i : ℕ) (d : LeafEdge) → i < length es

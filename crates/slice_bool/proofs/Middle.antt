@@ -32,6 +32,7 @@ use Rattle.slice_snap.specs.Spots.{point_of}
 use Rattle.std.specs.Prelude.{unsigned_abs}
 use Rattle.slice_bool.proofs.Passing.{IsLive, live_bundles, passing, Around}
 use Rattle.slice_bool.proofs.Values.{value_of, is_in_passing}
+use Rattle.winding_laws.proofs.Forms.{beyond_below, beyond_above}
 
 low_middle : (ln ld un ud : ℤ) → (ln *ℤ ud +ℤ un *ℤ ld) *ℤ ld -ℤ ln *ℤ (pos 2 *ℤ (ld *ℤ ud)) ≡ (un *ℤ ld -ℤ ln *ℤ ud) *ℤ ld
 low_middle ln ld un ud = ring (ln ∷ ld ∷ un ∷ ud ∷ []) ((v0 ⊗ v3 ⊕ v2 ⊗ v1) ⊗ v1 ⊖ v0 ⊗ (num (pos 2) ⊗ (v1 ⊗ v3))) ((v2 ⊗ v1 ⊖ v0 ⊗ v3) ⊗ v1) refl
@@ -118,16 +119,6 @@ module _ (es : List LeafEdge) (l u : Level) (n : AreNeighbours es l u) (k : ℕ)
           let w : b *ℤ s ≡ pos 0 = rw z (zero-*ℤ s) in
           pos_left a r pr (omega (arith, ints))
 
-  is_false_at : (right : Bool) (z : ℤ) → z <ℤ pos 0 → is_beyond right z ≡ false
-  unfolding is_beyond
-  is_false_at true z h = sym (omega (arith, ints))
-  is_false_at false z h = sym (omega (arith, ints))
-
-  is_true_at : (right : Bool) (z : ℤ) → pos 0 <ℤ z → is_beyond right z ≡ true
-  unfolding is_beyond
-  is_true_at true z h = sym (omega (arith, ints))
-  is_true_at false z h = sym (omega (arith, ints))
-
   itself : (right : Bool) (z : ℤ) → z ≡ pos 0 → is_beyond right z ≡ not right
   unfolding is_beyond
   itself true z h = rw h refl
@@ -140,7 +131,7 @@ module _ (es : List LeafEdge) (l u : Level) (n : AreNeighbours es l u) (k : ℕ)
   skipped right ks ([] ∷ before) rest r ls = absurd r.0
   skipped right ks ((j ∷ js) ∷ before) rest r ls =
       let o : IsBefore l (edge_at es j) (edge_at es k) = (back (Precedes es l (j ∷ js)) before ((k ∷ ks) ∷ rest) r.1).0 in
-      let f : lies_left es right p j ≡ false = is_false_at right (left_of (edge_at es j) p.x p.y p.d) (left_before j ls.0 o) in
+      let f : lies_left es right p j ≡ false = beyond_below right (left_of (edge_at es j) p.x p.y p.d) (left_before j ls.0 o) in
       rw f (skipped right ks before rest r.2 (back (IsLive es l u) (j ∷ js) (concat (before ++ ((k ∷ ks) ∷ rest))) ls))
 
   -- those after it do
@@ -148,7 +139,7 @@ module _ (es : List LeafEdge) (l u : Level) (n : AreNeighbours es l u) (k : ℕ)
   after_pass right ks [] r ls = refl
   after_pass right ks ([] ∷ rest) r ls = absurd r.0
   after_pass right ks ((j ∷ js) ∷ rest) r ls =
-      let t : lies_left es right p j ≡ true = is_true_at right (left_of (edge_at es j) p.x p.y p.d) (right_after j ls.0 r.0) in
+      let t : lies_left es right p j ≡ true = beyond_above right (left_of (edge_at es j) p.x p.y p.d) (right_after j ls.0 r.0) in
       rw t refl
 
   from_here : (ks : List ℕ) (before rest : List (List ℕ)) → AreRanked es l (before ++ ((k ∷ ks) ∷ rest)) → AreRanked es l ((k ∷ ks) ∷ rest)

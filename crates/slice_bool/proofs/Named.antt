@@ -1,12 +1,11 @@
 -- Each piece has a length and lies along the edge of its name.
 use Rattle.std.proofs.Common.{◌≡◌, ℕ, zero, suc, ◌+◌, ◌<◌, Bool, true, false, cond, List, [], ◌∷◌, ◌++◌, length, get_or, refl, sym, ◌∙◌, arith, subst}
 use Rattle.std.proofs.lemmas.Bool.{and_parts, false_from_ne_true}
-use lib.IntN.{ℤ, pos, negsuc, ◌+ℤ◌, ◌-ℤ◌, ◌*ℤ◌}
-use lib.Signed.{◌<ℤ◌, ◌≤ℤ◌}
+use lib.IntN.{ℤ, pos, ◌+ℤ◌, ◌-ℤ◌, ◌*ℤ◌}
+use lib.Signed.{◌<ℤ◌}
 use Rattle.std.specs.Prelude.{Option, Some, None, ◌&&◌, ◌||◌, int_lt, int_le, unsigned_abs}
 use Rattle.std.specs.List.{AllByRecursion, concat, position, position_from}
 use Rattle.std.specs.Ordering.{int_eq}
-use Rattle.std.specs.Cmp.{signed_Decides}
 use Rattle.std.proofs.lemmas.Int.{ints}
 use Rattle.std.proofs.lemmas.Iterator.Adapters.{position_from-zero}
 use Rattle.std.proofs.lemmas.List.Elements.{All-from_recursion}
@@ -21,7 +20,7 @@ use Rattle.scad_geom.specs.Heights.{heights, AreNeighbours}
 use Rattle.scad_geom.specs.Shape.{is_in_by}
 use Rattle.scad_geom.proofs.Ring.{ring, num, ◌⊕◌, ◌⊖◌, ◌⊗◌, v0, v1, v2, v3, v4, v5}
 use Rattle.scad_base.proofs.Products.{positive_product}
-use Rattle.scad_geom.proofs.Signs.{at_least_mul}
+use Rattle.scad_geom.proofs.Signs.{at_least_mul, zero_true, mul-one}
 use Rattle.scad_geom.proofs.Points.{same_height, same_across}
 use Rattle.scad_geom.proofs.Heights.{heights_positive}
 use Rattle.scad_geom.proofs.Order.{back}
@@ -43,9 +42,7 @@ use Rattle.slice_bool.proofs.BalanceTurns.{gap}
 use Rattle.slice_bool.proofs.BalanceFlat.{spot_gap}
 use Rattle.slice_bool.proofs.BorderPoints.{rises}
 use Rattle.slice_bool.proofs.Apart.{pieces_are_apart}
-
-pub equal : (x y : ℤ) → int_eq x y ≡ true → x ≡ y
-equal x y h = (signed_Decides x y).0 h
+use Rattle.scad_base.proofs.Tests.{int_le-true, int_eq-true}
 
 less_not_equal : (x y : ℤ) → x <ℤ y → x ≡ y → ⊥
 less_not_equal x y h k = omega (arith, ints)
@@ -78,11 +75,8 @@ between_part es false true s t k o d d' e a b = (record { there = o; some = d'; 
 between_part es false false s t k o d d' e a b = tt
 
 -- ---- between two levels
-times_one : (y : ℤ) → y *ℤ pos 1 ≡ y
-times_one y = omega (arith, ints)
-
 same_whole_height : (a b : ℤ) → a *ℤ pos 1 ≡ b *ℤ pos 1 → a ≡ b
-same_whole_height a b h = sym (times_one a) ∙ h ∙ times_one b
+same_whole_height a b h = sym (mul-one a) ∙ h ∙ mul-one b
 
 level_rise : (e : Edge) → e.a.y ≡ e.b.y → rise e ≡ pos 0
 unfolding rise low high
@@ -136,11 +130,6 @@ flat_low e h = by_test (int_lt e.b.y e.a.y) h
     by_test true h = omega (arith, ints)
     by_test false h = refl
 
-pub zero_of : (z : ℤ) → is_zero z ≡ true → z ≡ pos 0
-zero_of (pos zero) h = refl
-zero_of (pos (suc n)) h = cc
-zero_of (negsuc n) h = cc
-
 -- a flat edge's line at its height
 flat_line : (u y d x r s : ℤ) → u *ℤ ((y *ℤ d) *ℤ r) +ℤ (pos 0 *ℤ x -ℤ u *ℤ y) *ℤ (d *ℤ r) -ℤ pos 0 *ℤ s ≡ pos 0
 flat_line u y d x r s = ring (u ∷ y ∷ d ∷ x ∷ r ∷ s ∷ []) (v0 ⊗ ((v1 ⊗ v2) ⊗ v4) ⊕ (num (pos 0) ⊗ v3 ⊖ v0 ⊗ v1) ⊗ (v2 ⊗ v4) ⊖ num (pos 0) ⊗ v5) (num (pos 0)) refl
@@ -158,13 +147,10 @@ on_flat e l s q r h =
 spanned : (sx sr tx tr z k : ℤ) → (sx -ℤ z *ℤ (k *ℤ sr)) *ℤ tr +ℤ (z *ℤ (k *ℤ tr) -ℤ tx) *ℤ sr ≡ sx *ℤ tr -ℤ tx *ℤ sr
 spanned sx sr tx tr z k = ring (sx ∷ sr ∷ tx ∷ tr ∷ z ∷ k ∷ []) ((v0 ⊖ v4 ⊗ (v5 ⊗ v1)) ⊗ v3 ⊕ (v4 ⊗ (v5 ⊗ v3) ⊖ v2) ⊗ v1) (v0 ⊗ v3 ⊖ v2 ⊗ v1) refl
 
-pub from_test : (a b : ℤ) → int_le a b ≡ true → a ≤ℤ b
-from_test a b h = omega (arith, ints)
-
 no_room : (l : Level) (s t : Spot) (z : ℤ) → IsSpotAt l s → IsSpotAt l t → IsLeft s t → int_le (z *ℤ (l.d *ℤ pos s.run)) s.x ≡ true → int_le t.x (z *ℤ (l.d *ℤ pos t.run)) ≡ true → ⊥
 no_room l s t z hs ht o h k =
-    let a = at_least_mul (s.x -ℤ z *ℤ (l.d *ℤ pos s.run)) (pos t.run) (gap_of_at_most (z *ℤ (l.d *ℤ pos s.run)) s.x (from_test (z *ℤ (l.d *ℤ pos s.run)) s.x h)) (at_most_of_less (pos 0) (pos t.run) ht.runs) in
-    let b = at_least_mul (z *ℤ (l.d *ℤ pos t.run) -ℤ t.x) (pos s.run) (gap_of_at_most t.x (z *ℤ (l.d *ℤ pos t.run)) (from_test t.x (z *ℤ (l.d *ℤ pos t.run)) k)) (at_most_of_less (pos 0) (pos s.run) hs.runs) in
+    let a = at_least_mul (s.x -ℤ z *ℤ (l.d *ℤ pos s.run)) (pos t.run) (gap_of_at_most (z *ℤ (l.d *ℤ pos s.run)) s.x (int_le-true (z *ℤ (l.d *ℤ pos s.run)) s.x h)) (at_most_of_less (pos 0) (pos t.run) ht.runs) in
+    let b = at_least_mul (z *ℤ (l.d *ℤ pos t.run) -ℤ t.x) (pos s.run) (gap_of_at_most t.x (z *ℤ (l.d *ℤ pos t.run)) (int_le-true t.x (z *ℤ (l.d *ℤ pos t.run)) k)) (at_most_of_less (pos 0) (pos s.run) hs.runs) in
     let c = spanned s.x (pos s.run) t.x (pos t.run) z l.d in
     omega (arith, ints)
 
@@ -199,8 +185,8 @@ module _ (es : List LeafEdge) (shape : Shape) (l : Level) (dl : pos 0 <ℤ l.d) 
       let f = found (covers s t) es k h in
       let e : LeafEdge = get_or es k no_edge in
       let flat = (and_parts (is_flat_at e.edge s.at) _ f.1).0 in
-      let r = zero_of (rise e.edge) (and_parts (is_zero (rise e.edge)) _ flat).0 in
-      let n = equal (e.edge.a.y *ℤ s.at.d) s.at.n (and_parts (is_zero (rise e.edge)) (int_eq (e.edge.a.y *ℤ s.at.d) s.at.n) flat).1 in
+      let r = zero_true (rise e.edge) (and_parts (is_zero (rise e.edge)) _ flat).0 in
+      let n = int_eq-true (e.edge.a.y *ℤ s.at.d) s.at.n (and_parts (is_zero (rise e.edge)) (int_eq (e.edge.a.y *ℤ s.at.d) s.at.n) flat).1 in
       let n' : e.edge.a.y *ℤ l.d ≡ l.n = subst (λ (m : Level). e.edge.a.y *ℤ m.d ≡ m.n) hs.at n in
       let z = left_differ (point_of s) (point_of t) (stop_left l s t dl hs ht o) in
       between_part es (is_in_by true true es shape (point_of s)) (is_in_by false true es shape (point_of s)) s t k f.0 z.0 z.1

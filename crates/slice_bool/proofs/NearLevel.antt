@@ -31,7 +31,8 @@ use Rattle.slice_bool.specs.Stops.{spots_in}
 use Rattle.slice_bool.specs.Near.{passing_at, flats_from, first_cover, IsNear}
 use Rattle.slice_bool.proofs.Middle.{lower_scaled, scaled_below}
 use Rattle.slice_bool.proofs.Stretches.{position_more, position_here}
-use Rattle.slice_bool.proofs.Winding.{IsSpotAt, stops_at}
+use Rattle.slice_bool.proofs.Winding.{IsSpotAt, stops_at, with_zero}
+use Rattle.std.proofs.lemmas.Bool.{and_left}
 
 -- ---- edges that don't pass the level of a spot
 over_of : (above : Bool) (p h : Level) → IsLower p h → Over above p h
@@ -104,22 +105,16 @@ passing_wind above s runs d leaf (e ∷ es) = by_test (passes_at e.edge s.at) re
     nothing true h = h
     nothing false h = refl
 
-    without : (x y z : ℤ) → x ≡ pos 0 → y ≡ z → y ≡ x +ℤ z
-    without x y z h k = omega (arith, ints)
-
     by_test : (t : Bool) → passes_at e.edge s.at ≡ t → wind_leaf above true (point_of s) leaf (passing_at es s.at) ≡ wind_leaf above true (point_of s) leaf es
         → wind_leaf above true (point_of s) leaf (if t then e ∷ passing_at es s.at else passing_at es s.at) ≡ own +ℤ wind_leaf above true (point_of s) leaf es
     by_test true q h = ap (λ (z : ℤ). own +ℤ z) h
-    by_test false q h = without own _ _ (nothing (e.leaf == leaf) (still above s runs d e.edge q)) h
+    by_test false q h = with_zero _ own _ h (nothing (e.leaf == leaf) (still above s runs d e.edge q))
 
 pub passing_values : (above : Bool) (s : Spot) → pos 0 <ℤ pos s.run → pos 0 <ℤ s.at.d → (es : List LeafEdge) (shape : Shape)
     → is_in_by above true (passing_at es s.at) shape (point_of s) ≡ is_in_by above true es shape (point_of s)
 passing_values above s runs d es shape = held_alike above true (point_of s) (passing_at es s.at) above true (point_of s) es shape (λ leaf. passing_wind above s runs d leaf es)
 
 -- ---- only flat edges on the level cover a stretch
-by_flat : (f c : Bool) → f ≡ false → (f && c) ≡ false
-by_flat f c h = rw h refl
-
 flats_cover_from : (n : ℕ) (es : List LeafEdge) (s t : Spot) (i : ℕ) → n + i ≡ length es → first_cover es s t (flats_from i (drop i es) s.at) ≡ position_from (covers s t) i (drop i es)
 flats_cover_from zero es s t i h = ap (λ (xs : List LeafEdge). first_cover es s t (flats_from i xs s.at)) (drop_all i es (omega arith)) ∙ sym (ap (position_from (covers s t) i) (drop_all i es (omega arith)))
 flats_cover_from (suc n) es s t i h =
@@ -136,7 +131,7 @@ flats_cover_from (suc n) es s t i h =
         → first_cover es s t (if f then i ∷ rest else rest) ≡ position_from (covers s t) i (drop i es)
     by_tests true true q r k = ap (λ (b : Bool). if b then Some i else first_cover es s t rest) r ∙ sym (position_here (covers s t) es i no_edge (omega arith) r)
     by_tests true false q r k = ap (λ (b : Bool). if b then Some i else first_cover es s t rest) r ∙ k ∙ sym (position_more (covers s t) es i no_edge (omega arith) r)
-    by_tests false c q r k = k ∙ sym (position_more (covers s t) es i no_edge (omega arith) (by_flat (is_flat_at e.edge s.at) _ q))
+    by_tests false c q r k = k ∙ sym (position_more (covers s t) es i no_edge (omega arith) (and_left (is_flat_at e.edge s.at) _ q))
 
 pub flats_cover : (es : List LeafEdge) (s t : Spot) → first_cover es s t (flats_from 0 es s.at) ≡ position (covers s t) es
 flats_cover es s t = flats_cover_from (length es) es s t 0 (omega arith) ∙ sym (position_from-zero (covers s t) es)

@@ -8,7 +8,7 @@ use Rattle.std.specs.Ordering.{int_eq}
 use Rattle.std.proofs.lemmas.Int.{ints}
 use Rattle.std.proofs.lemmas.List.Elements.{All-from_recursion}
 use Rattle.std.proofs.lemmas.Bool.{and_parts}
-use Rattle.scad_base.proofs.Integers.{gap_of_less, gap_of_at_most, less_of_gap, at_most_of_less}
+use Rattle.scad_base.proofs.Integers.{gap_of_less, gap_of_at_most, less_of_gap, at_most_of_less, sum_above}
 use Rattle.scad_base.proofs.Lists.{AllByRecursion-append}
 use Rattle.scad_base.proofs.Products.{positive_product}
 use Rattle.scad_geom.specs.declared.point.Edge.{Edge}
@@ -22,7 +22,7 @@ use Rattle.scad_geom.specs.Level.{level_of, IsAtMost}
 use Rattle.scad_geom.specs.Heights.{heights, AreNeighbours}
 use Rattle.scad_geom.specs.Shape.{is_in_by}
 use Rattle.scad_geom.proofs.Ring.{ring, num, ◌⊕◌, ◌⊖◌, ◌⊗◌, v0, v1, v2, v3, v4, v5}
-use Rattle.scad_geom.proofs.Signs.{at_least_mul, pos_left, positive_as}
+use Rattle.scad_geom.proofs.Signs.{at_least_mul, pos_left, positive_as, zero_true, one-mul, sub_mul}
 use Rattle.scad_geom.proofs.Heights.{heights_positive, Reaches, at_most_chain}
 use Rattle.scad_geom.proofs.Order.{back}
 use Rattle.winding_laws.specs.Parts.{IsOn}
@@ -39,7 +39,8 @@ use Rattle.slice_bool.proofs.Middle.{size_of, half_point}
 use Rattle.slice_bool.proofs.Winding.{IsSpotAt, stops_at}
 use Rattle.slice_bool.proofs.Within.{by_weights, weights_add}
 use Rattle.slice_bool.proofs.Walk.{UpTo, at_first, at_next, neighbours_next}
-use Rattle.slice_bool.proofs.Named.{found, zero_of, equal, from_test}
+use Rattle.slice_bool.proofs.Named.{found}
+use Rattle.scad_base.proofs.Tests.{int_eq-true, int_le-true}
 
 -- a spot stands for a point of an edge
 abbrev Lies : Edge → Spot → Type 0
@@ -49,16 +50,10 @@ abbrev LiesOnName : List LeafEdge → Piece → Type 0
 LiesOnName es q = EndsLieOn (edge_at es q.edge) q
 
 -- ---- where an edge that isn't flat passes a height
-one_times : (z : ℤ) → pos 1 *ℤ z ≡ z
-one_times z = omega (arith, ints)
-
-times_one : (z : ℤ) → z *ℤ pos 1 ≡ z
-times_one z = omega (arith, ints)
-
 passing_x : (e : Edge) (l : Level) → pos 1 *ℤ x_at e l.n l.d ≡ ((high e).y *ℤ l.d -ℤ l.n) *ℤ (low e).x +ℤ (l.n -ℤ (low e).y *ℤ l.d) *ℤ (high e).x
 unfolding x_at run offset rise
 passing_x e l =
-    one_times _
+    one-mul _
     ∙ by_weights (low e).x (low e).y (high e).x (high e).y l.n l.d
     ∙ ring ((low e).x ∷ ((high e).y *ℤ l.d -ℤ l.n) ∷ (high e).x ∷ (l.n -ℤ (low e).y *ℤ l.d) ∷ []) (v0 ⊗ v1 ⊕ v2 ⊗ v3) (v1 ⊗ v0 ⊕ v3 ⊗ v2) refl
 
@@ -142,15 +137,12 @@ module _ (e : Edge) (l : Level) (level : e.a.y ≡ e.b.y) (at : e.a.y *ℤ l.d �
         positive = long;
         first = gap_of_at_most s.x (e.b.x *ℤ w) t;
         second = gap_of_at_most (e.a.x *ℤ w) s.x f;
-        some = positive_as _ _ (sum e.a.x e.b.x w s.x) (positive_product (e.b.x -ℤ e.a.x) w long dp);
+        some = positive_as _ _ (sym (weights_add e.a.x e.b.x s.x w)) (positive_product (e.b.x -ℤ e.a.x) w long dp);
         x = ring (e.a.x ∷ e.b.x ∷ w ∷ s.x ∷ []) ((v1 ⊖ v0) ⊗ v3) ((v1 ⊗ v2 ⊖ v3) ⊗ v0 ⊕ (v3 ⊖ v0 ⊗ v2) ⊗ v1) refl;
         y = height (e.b.x -ℤ e.a.x) l.n l.d (pos s.run) e.a.y at ∙ heights e.a.x e.b.x w s.x e.a.y e.b.y level;
         d = ring (e.a.x ∷ e.b.x ∷ w ∷ s.x ∷ []) ((v1 ⊖ v0) ⊗ v2) ((v1 ⊗ v2 ⊖ v3) ⊗ num (pos 1) ⊕ (v3 ⊖ v0 ⊗ v2) ⊗ num (pos 1)) refl;
       })
     where
-      sum : (a b w x : ℤ) → (b -ℤ a) *ℤ w ≡ (b *ℤ w -ℤ x) +ℤ (x -ℤ a *ℤ w)
-      sum a b w x = ring (a ∷ b ∷ w ∷ x ∷ []) ((v1 ⊖ v0) ⊗ v2) ((v1 ⊗ v2 ⊖ v3) ⊕ (v3 ⊖ v0 ⊗ v2)) refl
-
       height : (k n d r y : ℤ) → y *ℤ d ≡ n → k *ℤ (n *ℤ r) ≡ (k *ℤ (d *ℤ r)) *ℤ y
       height k n d r y h = ap (λ (z : ℤ). k *ℤ (z *ℤ r)) (sym h) ∙ ring (k ∷ y ∷ d ∷ r ∷ []) (v0 ⊗ ((v1 ⊗ v2) ⊗ v3)) ((v0 ⊗ (v2 ⊗ v3)) ⊗ v1) refl
 
@@ -173,14 +165,11 @@ left_on l s t z hs ht o h =
     less_of_gap s.x (z *ℤ (l.d *ℤ pos s.run))
     (pos_left (z *ℤ (l.d *ℤ pos s.run) -ℤ s.x) (pos t.run) ht
     (positive_as _ _ (steps s.x (pos s.run) t.x (pos t.run) z l.d)
-    (more (t.x *ℤ pos s.run -ℤ s.x *ℤ pos t.run) ((z *ℤ (l.d *ℤ pos t.run) -ℤ t.x) *ℤ pos s.run) (gap_of_less (s.x *ℤ pos t.run) (t.x *ℤ pos s.run) o)
+    (sum_above (t.x *ℤ pos s.run -ℤ s.x *ℤ pos t.run) ((z *ℤ (l.d *ℤ pos t.run) -ℤ t.x) *ℤ pos s.run) (gap_of_less (s.x *ℤ pos t.run) (t.x *ℤ pos s.run) o)
     (at_least_mul (z *ℤ (l.d *ℤ pos t.run) -ℤ t.x) (pos s.run) (gap_of_at_most t.x (z *ℤ (l.d *ℤ pos t.run)) h) (at_most_of_less (pos 0) (pos s.run) hs)))))
   where
     steps : (sx sr tx tr z d : ℤ) → (tx *ℤ sr -ℤ sx *ℤ tr) +ℤ (z *ℤ (d *ℤ tr) -ℤ tx) *ℤ sr ≡ (z *ℤ (d *ℤ sr) -ℤ sx) *ℤ tr
     steps sx sr tx tr z d = ring (sx ∷ sr ∷ tx ∷ tr ∷ z ∷ d ∷ []) ((v2 ⊗ v1 ⊖ v0 ⊗ v3) ⊕ (v4 ⊗ (v5 ⊗ v3) ⊖ v2) ⊗ v1) ((v4 ⊗ (v5 ⊗ v1) ⊖ v0) ⊗ v3) refl
-
-    more : (s t : ℤ) → pos 0 <ℤ s → pos 0 ≤ℤ t → pos 0 <ℤ (s +ℤ t)
-    more s t h k = omega (arith, ints)
 
 -- where t lies right of s and s not left of z, t lies right of z
 right_on : (l : Level) (s t : Spot) (z : ℤ) → pos 0 <ℤ pos s.run → pos 0 <ℤ pos t.run → IsLeft s t → (z *ℤ (l.d *ℤ pos s.run)) ≤ℤ s.x → (z *ℤ (l.d *ℤ pos t.run)) <ℤ t.x
@@ -188,14 +177,11 @@ right_on l s t z hs ht o h =
     less_of_gap (z *ℤ (l.d *ℤ pos t.run)) t.x
     (pos_left (t.x -ℤ z *ℤ (l.d *ℤ pos t.run)) (pos s.run) hs
     (positive_as _ _ (steps s.x (pos s.run) t.x (pos t.run) z l.d)
-    (more (t.x *ℤ pos s.run -ℤ s.x *ℤ pos t.run) ((s.x -ℤ z *ℤ (l.d *ℤ pos s.run)) *ℤ pos t.run) (gap_of_less (s.x *ℤ pos t.run) (t.x *ℤ pos s.run) o)
+    (sum_above (t.x *ℤ pos s.run -ℤ s.x *ℤ pos t.run) ((s.x -ℤ z *ℤ (l.d *ℤ pos s.run)) *ℤ pos t.run) (gap_of_less (s.x *ℤ pos t.run) (t.x *ℤ pos s.run) o)
     (at_least_mul (s.x -ℤ z *ℤ (l.d *ℤ pos s.run)) (pos t.run) (gap_of_at_most (z *ℤ (l.d *ℤ pos s.run)) s.x h) (at_most_of_less (pos 0) (pos t.run) ht)))))
   where
     steps : (sx sr tx tr z d : ℤ) → (tx *ℤ sr -ℤ sx *ℤ tr) +ℤ (sx -ℤ z *ℤ (d *ℤ sr)) *ℤ tr ≡ (tx -ℤ z *ℤ (d *ℤ tr)) *ℤ sr
     steps sx sr tx tr z d = ring (sx ∷ sr ∷ tx ∷ tr ∷ z ∷ d ∷ []) ((v2 ⊗ v1 ⊖ v0 ⊗ v3) ⊕ (v0 ⊖ v4 ⊗ (v5 ⊗ v1)) ⊗ v3) ((v2 ⊖ v4 ⊗ (v5 ⊗ v3)) ⊗ v1) refl
-
-    more : (s t : ℤ) → pos 0 <ℤ s → pos 0 ≤ℤ t → pos 0 <ℤ (s +ℤ t)
-    more s t h k = omega (arith, ints)
 
 module _ (l : Level) (dl : pos 0 <ℤ l.d) (s t : Spot) (hs : IsSpotAt l s) (ht : IsSpotAt l t) (o : IsLeft s t) where
   -- an edge from the left of the stretch to its right
@@ -205,14 +191,11 @@ module _ (l : Level) (dl : pos 0 <ℤ l.d) (s t : Spot) (hs : IsSpotAt l s) (ht 
       let dt : pos 0 <ℤ (l.d *ℤ pos t.run) = positive_product l.d (pos t.run) dl ht.runs in
       let sb = left_on l s t e.b.x hs.runs ht.runs o g in
       let ta = right_on l s t e.a.x hs.runs ht.runs o f in
-      let long : pos 0 <ℤ (e.b.x -ℤ e.a.x) = pos_left (e.b.x -ℤ e.a.x) (l.d *ℤ pos s.run) ds (positive_as _ _ (spread e.a.x e.b.x (l.d *ℤ pos s.run)) (gap_of_less (e.a.x *ℤ (l.d *ℤ pos s.run)) (e.b.x *ℤ (l.d *ℤ pos s.run)) (at_most_less _ _ _ f sb))) in (
+      let long : pos 0 <ℤ (e.b.x -ℤ e.a.x) = pos_left (e.b.x -ℤ e.a.x) (l.d *ℤ pos s.run) ds (positive_as _ _ (sym (sub_mul e.b.x e.a.x (l.d *ℤ pos s.run))) (gap_of_less (e.a.x *ℤ (l.d *ℤ pos s.run)) (e.b.x *ℤ (l.d *ℤ pos s.run)) (at_most_less _ _ _ f sb))) in (
         flat_lies e l level at s hs.at long ds f (at_most_of_less s.x (e.b.x *ℤ (l.d *ℤ pos s.run)) sb),
         flat_lies e l level at t ht.at long dt (at_most_of_less (e.a.x *ℤ (l.d *ℤ pos t.run)) t.x ta) g,
       )
     where
-      spread : (a b w : ℤ) → b *ℤ w -ℤ a *ℤ w ≡ (b -ℤ a) *ℤ w
-      spread a b w = ring (a ∷ b ∷ w ∷ []) (v1 ⊗ v2 ⊖ v0 ⊗ v2) ((v1 ⊖ v0) ⊗ v2) refl
-
       at_most_less : (x y z : ℤ) → x ≤ℤ y → y <ℤ z → x <ℤ z
       at_most_less x y z h k = omega (arith, ints)
 
@@ -223,16 +206,16 @@ module _ (l : Level) (dl : pos 0 <ℤ l.d) (s t : Spot) (hs : IsSpotAt l s) (ht 
       flat = (and_parts (is_flat_at e.edge s.at) _ h).0
 
       level : e.edge.a.y ≡ e.edge.b.y
-      level = flat_ends e.edge (zero_of (rise e.edge) (and_parts (is_zero (rise e.edge)) _ flat).0)
+      level = flat_ends e.edge (zero_true (rise e.edge) (and_parts (is_zero (rise e.edge)) _ flat).0)
 
       at : e.edge.a.y *ℤ l.d ≡ l.n
-      at = subst (λ (m : Level). e.edge.a.y *ℤ m.d ≡ m.n) hs.at (equal (e.edge.a.y *ℤ s.at.d) s.at.n (and_parts (is_zero (rise e.edge)) (int_eq (e.edge.a.y *ℤ s.at.d) s.at.n) flat).1)
+      at = subst (λ (m : Level). e.edge.a.y *ℤ m.d ≡ m.n) hs.at (int_eq-true (e.edge.a.y *ℤ s.at.d) s.at.n (and_parts (is_zero (rise e.edge)) (int_eq (e.edge.a.y *ℤ s.at.d) s.at.n) flat).1)
 
       first : (x y : ℤ) → (int_le (x *ℤ (s.at.d *ℤ pos s.run)) s.x && int_le t.x (y *ℤ (t.at.d *ℤ pos t.run))) ≡ true → (x *ℤ (l.d *ℤ pos s.run)) ≤ℤ s.x
-      first x y w = subst (λ (m : Level). (x *ℤ (m.d *ℤ pos s.run)) ≤ℤ s.x) hs.at (from_test (x *ℤ (s.at.d *ℤ pos s.run)) s.x (and_parts (int_le (x *ℤ (s.at.d *ℤ pos s.run)) s.x) _ w).0)
+      first x y w = subst (λ (m : Level). (x *ℤ (m.d *ℤ pos s.run)) ≤ℤ s.x) hs.at (int_le-true (x *ℤ (s.at.d *ℤ pos s.run)) s.x (and_parts (int_le (x *ℤ (s.at.d *ℤ pos s.run)) s.x) _ w).0)
 
       last : (x y : ℤ) → (int_le (x *ℤ (s.at.d *ℤ pos s.run)) s.x && int_le t.x (y *ℤ (t.at.d *ℤ pos t.run))) ≡ true → t.x ≤ℤ (y *ℤ (l.d *ℤ pos t.run))
-      last x y w = subst (λ (m : Level). t.x ≤ℤ (y *ℤ (m.d *ℤ pos t.run))) ht.at (from_test t.x (y *ℤ (t.at.d *ℤ pos t.run)) (and_parts (int_le (x *ℤ (s.at.d *ℤ pos s.run)) s.x) (int_le t.x (y *ℤ (t.at.d *ℤ pos t.run))) w).1)
+      last x y w = subst (λ (m : Level). t.x ≤ℤ (y *ℤ (m.d *ℤ pos t.run))) ht.at (int_le-true t.x (y *ℤ (t.at.d *ℤ pos t.run)) (and_parts (int_le (x *ℤ (s.at.d *ℤ pos s.run)) s.x) (int_le t.x (y *ℤ (t.at.d *ℤ pos t.run))) w).1)
 
       rightwards : (int_le (e.edge.a.x *ℤ (s.at.d *ℤ pos s.run)) s.x && int_le t.x (e.edge.b.x *ℤ (t.at.d *ℤ pos t.run))) ≡ true → Lies e.edge s × Lies e.edge t
       rightwards w = spans e.edge level at (first e.edge.a.x e.edge.b.x w) (last e.edge.a.x e.edge.b.x w)

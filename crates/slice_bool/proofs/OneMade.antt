@@ -1,5 +1,5 @@
 -- The outlines that pieces make are one list of outlines.
-use Rattle.std.proofs.Common.{◌≡◌, ℕ, ◌+◌, Bool, true, false, cond, true≢false, List, [], ◌∷◌, refl, sym, ap, ap₂, ◌∙◌, arith}
+use Rattle.std.proofs.Common.{◌≡◌, ℕ, ◌+◌, Bool, true, false, cond, true≢false, List, [], ◌∷◌, refl, sym, ap, ap₂, ◌∙◌}
 use Rattle.std.specs.Prelude.{IsPermutation, map, filter}
 use Rattle.std.proofs.lemmas.List.Sorted.{IsPermutation-refl, IsPermutation-map}
 use Rattle.scad_geom.specs.declared.point.Edge.{Edge}
@@ -15,9 +15,7 @@ use Rattle.slice_snap.proofs.OneMerging.{merged_are_one}
 use Rattle.slice_snap.proofs.OneLeft.{many, many-cons, cancelled_are_one}
 use Rattle.slice_loops.proofs.Unique.{outlines_are_one}
 use Rattle.slice_bool.specs.OneMade.{MadeAreOne}
-
-nothing : (n : ℕ) → 0 + n ≡ n
-nothing n = omega arith
+use Rattle.std.proofs.Common.{zero-add}
 
 -- how often an edge is kept
 kept : (p : Edge → Bool) (e : Edge) → p e ≡ true → (es : List Edge) → many e (filter p es) ≡ many e es
@@ -27,7 +25,7 @@ kept p e t (f ∷ fs) = by_tests (kept p e t fs) (p f) (same_edge e f) refl refl
     by_tests : many e (filter p fs) ≡ many e fs → (b c : Bool) → p f ≡ b → same_edge e f ≡ c → many e (cond b (f ∷ filter p fs) (filter p fs)) ≡ many e (f ∷ fs)
     by_tests h true c k l = many-cons e f (filter p fs) ∙ ap (λ (n : ℕ). once (same_edge e f) + n) h ∙ sym (many-cons e f fs)
     by_tests h false true k l = absurd (true≢false (sym t ∙ ap p (same_edge_then_equal e f l) ∙ k))
-    by_tests h false false k l = h ∙ sym (many-cons e f fs ∙ ap (λ (d : Bool). once d + many e fs) l ∙ nothing (many e fs))
+    by_tests h false false k l = h ∙ sym (many-cons e f fs ∙ ap (λ (d : Bool). once d + many e fs) l ∙ zero-add (many e fs))
 
 dropped : (p : Edge → Bool) (e : Edge) → p e ≡ false → (es : List Edge) → many e (filter p es) ≡ 0
 dropped p e t [] = refl

@@ -29,7 +29,7 @@ same_side l dl right p e f re rf a =
     let s : left_of f p.x p.y p.d *ℤ rise e ≡ left_of e p.x p.y p.d *ℤ rise f = t ∙ omega (arith, ints) in
     sym (beyond_mul right (rise e) (left_of f p.x p.y p.d) re) ∙ ap (is_beyond right) s ∙ beyond_mul right (rise f) (left_of e p.x p.y p.d) rf
 
-beyond_more : (right : Bool) (y z : ℤ) → y ≤ℤ z → is_beyond right y ≡ true → is_beyond right z ≡ true
+pub beyond_more : (right : Bool) (y z : ℤ) → y ≤ℤ z → is_beyond right y ≡ true → is_beyond right z ≡ true
 unfolding is_beyond
 beyond_more true y z h k = sym (omega (arith, ints))
 beyond_more false y z h k = sym (omega (arith, ints))

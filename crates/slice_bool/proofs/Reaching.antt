@@ -20,6 +20,8 @@ use Rattle.scad_geom.proofs.Order.{all_ends}
 use Rattle.scad_geom.proofs.Turns.{level_at, Over, NotOver, Spans, over_up, not_over_down, heading, reaching_turn, under_turn, over_turn}
 use Rattle.slice_slab.proofs.Live.{reaches_is}
 use Rattle.scad_geom.proofs.Sums.{sum_z}
+use Rattle.std.proofs.lemmas.Bool.{true≢false}
+use Rattle.scad_base.proofs.Tests.{cond_same}
 
 reaches_up : (e : Edge) (l u : Level) → pos 0 <ℤ l.d → pos 0 <ℤ u.d → IsLower l u → IsAtMost (level_of e.a.y) l → IsAtMost u (level_of e.b.y) → reaches e l u ≡ true
 unfolding reaches low high rise
@@ -58,16 +60,13 @@ still_turn above right p es l u n dp s i d li r =
     elim ends.0 [
       | inl a ↦ elim ends.1 [
         | inl b ↦ under_turn above right p e (down e.a.y a) (down e.b.y b)
-        | inr b ↦ absurd (differ (sym (reaches_up e l u n.lower_divisor n.upper_divisor n.in_order a b) ∙ r))
+        | inr b ↦ absurd (true≢false (sym (reaches_up e l u n.lower_divisor n.upper_divisor n.in_order a b) ∙ r))
       ]
       | inr a ↦ elim ends.1 [
-        | inl b ↦ absurd (differ (sym (reaches_down e l u n.lower_divisor n.upper_divisor n.in_order a b) ∙ r))
+        | inl b ↦ absurd (true≢false (sym (reaches_down e l u n.lower_divisor n.upper_divisor n.in_order a b) ∙ r))
         | inr b ↦ over_turn above right p e (top e.a.y a) (top e.b.y b)
       ]
     ]
-  where
-    differ : true ≡ false → ⊥
-    differ h = cc
 
 -- ---- the winding number as a sum over the numbers of the edges that reach the heights
 pub leaf_edge_at : List LeafEdge → ℕ → LeafEdge
@@ -116,9 +115,5 @@ wind_reaching above right p leaf es l u n dp s =
         ap (λ (z : ℤ). if (get_or es i no_edge).leaf == leaf then z else pos 0) (reaching_turn above right p (get_or es i no_edge).edge l u dp n.lower_divisor n.upper_divisor r s)
         ∙ swap ((get_or es i no_edge).leaf == leaf) (lies_left es right p i) (heading (get_or es i no_edge).edge)
 
-    nothing : (t : Bool) → (if t then pos 0 else pos 0) ≡ pos 0
-    nothing true = refl
-    nothing false = refl
-
     none : (i : ℕ) → turn above right p (whole (get_or es i no_edge).edge.a) (whole (get_or es i no_edge).edge.b) ≡ pos 0 → share above right p leaf (get_or es i no_edge) ≡ pos 0
-    none i h = ap (λ (z : ℤ). if (get_or es i no_edge).leaf == leaf then z else pos 0) h ∙ nothing ((get_or es i no_edge).leaf == leaf)
+    none i h = ap (λ (z : ℤ). if (get_or es i no_edge).leaf == leaf then z else pos 0) h ∙ cond_same ((get_or es i no_edge).leaf == leaf) (pos 0)

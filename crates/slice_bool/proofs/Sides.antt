@@ -13,7 +13,7 @@ use Rattle.scad_geom.specs.Point.{Point, whole}
 use Rattle.scad_geom.specs.Loop.{path, sides}
 use Rattle.scad_geom.proofs.Order.{front, back}
 use Rattle.scad_geom.proofs.Ring.{ring, num, ◌⊕◌, ◌⊖◌, ◌⊗◌, v0, v1, v2, v3, v4, v5}
-use Rattle.scad_geom.proofs.Signs.{at_least_mul, square_at_least}
+use Rattle.scad_geom.proofs.Signs.{at_least_mul, square_at_least, add_times_zero, sub_times_zero}
 use Rattle.winding_laws.specs.Parts.{IsOn}
 use Rattle.winding_laws.proofs.Parts.{parts_are_all}
 use Rattle.slice_loops.specs.Drawing.{IsLoop, AreDrawn}
@@ -22,6 +22,7 @@ use Rattle.slice_loops.specs.Outlines.{outlines_of, AreOutlines}
 use Rattle.slice_loops.proofs.Straight.{IsAhead, ahead_itself, ahead_on, still_between, straight}
 use Rattle.slice_loops.proofs.Least.{IsAtLeast, least_is_corner, loop_at_least, itself_at_least, last_at_least}
 use Rattle.slice_loops.proofs.Rearranged.{sides_are_edges}
+use Rattle.scad_base.proofs.Integers.{both_positive}
 
 -- ---- a vertex between its neighbours is a point of the way from one to the other
 -- the dot product of a way and the whole way, which is made of it and of the other
@@ -49,10 +50,7 @@ place_x ax ay px py bx by h =
     ((((v4 ⊖ v2) ⊗ (v4 ⊖ v0) ⊕ (v5 ⊖ v3) ⊗ (v5 ⊖ v1)) ⊕ ((v2 ⊖ v0) ⊗ (v4 ⊖ v0) ⊕ (v3 ⊖ v1) ⊗ (v5 ⊖ v1))) ⊗ v2)
     ((((v4 ⊖ v2) ⊗ (v4 ⊖ v0) ⊕ (v5 ⊖ v3) ⊗ (v5 ⊖ v1)) ⊗ v0 ⊕ ((v2 ⊖ v0) ⊗ (v4 ⊖ v0) ⊕ (v3 ⊖ v1) ⊗ (v5 ⊖ v1)) ⊗ v4) ⊕ (v5 ⊖ v1) ⊗ ((v2 ⊖ v0) ⊗ (v5 ⊖ v3) ⊖ (v3 ⊖ v1) ⊗ (v4 ⊖ v2))) refl
     ∙ ap (λ (z : ℤ). (((bx -ℤ px) *ℤ (bx -ℤ ax) +ℤ (by -ℤ py) *ℤ (by -ℤ ay)) *ℤ ax +ℤ ((px -ℤ ax) *ℤ (bx -ℤ ax) +ℤ (py -ℤ ay) *ℤ (by -ℤ ay)) *ℤ bx) +ℤ (by -ℤ ay) *ℤ z) h
-    ∙ nothing (((bx -ℤ px) *ℤ (bx -ℤ ax) +ℤ (by -ℤ py) *ℤ (by -ℤ ay)) *ℤ ax +ℤ ((px -ℤ ax) *ℤ (bx -ℤ ax) +ℤ (py -ℤ ay) *ℤ (by -ℤ ay)) *ℤ bx) (by -ℤ ay)
-  where
-    nothing : (s t : ℤ) → s +ℤ t *ℤ pos 0 ≡ s
-    nothing s t = ring (s ∷ t ∷ []) (v0 ⊕ v1 ⊗ num (pos 0)) v0 refl
+    ∙ add_times_zero (((bx -ℤ px) *ℤ (bx -ℤ ax) +ℤ (by -ℤ py) *ℤ (by -ℤ ay)) *ℤ ax +ℤ ((px -ℤ ax) *ℤ (bx -ℤ ax) +ℤ (py -ℤ ay) *ℤ (by -ℤ ay)) *ℤ bx) (by -ℤ ay)
 
 place_y : (ax ay px py bx by : ℤ) → (px -ℤ ax) *ℤ (by -ℤ py) -ℤ (py -ℤ ay) *ℤ (bx -ℤ px) ≡ pos 0
     → (((bx -ℤ px) *ℤ (bx -ℤ ax) +ℤ (by -ℤ py) *ℤ (by -ℤ ay)) +ℤ ((px -ℤ ax) *ℤ (bx -ℤ ax) +ℤ (py -ℤ ay) *ℤ (by -ℤ ay))) *ℤ py
@@ -62,10 +60,7 @@ place_y ax ay px py bx by h =
     ((((v4 ⊖ v2) ⊗ (v4 ⊖ v0) ⊕ (v5 ⊖ v3) ⊗ (v5 ⊖ v1)) ⊕ ((v2 ⊖ v0) ⊗ (v4 ⊖ v0) ⊕ (v3 ⊖ v1) ⊗ (v5 ⊖ v1))) ⊗ v3)
     ((((v4 ⊖ v2) ⊗ (v4 ⊖ v0) ⊕ (v5 ⊖ v3) ⊗ (v5 ⊖ v1)) ⊗ v1 ⊕ ((v2 ⊖ v0) ⊗ (v4 ⊖ v0) ⊕ (v3 ⊖ v1) ⊗ (v5 ⊖ v1)) ⊗ v5) ⊖ (v4 ⊖ v0) ⊗ ((v2 ⊖ v0) ⊗ (v5 ⊖ v3) ⊖ (v3 ⊖ v1) ⊗ (v4 ⊖ v2))) refl
     ∙ ap (λ (z : ℤ). (((bx -ℤ px) *ℤ (bx -ℤ ax) +ℤ (by -ℤ py) *ℤ (by -ℤ ay)) *ℤ ay +ℤ ((px -ℤ ax) *ℤ (bx -ℤ ax) +ℤ (py -ℤ ay) *ℤ (by -ℤ ay)) *ℤ by) -ℤ (bx -ℤ ax) *ℤ z) h
-    ∙ nothing (((bx -ℤ px) *ℤ (bx -ℤ ax) +ℤ (by -ℤ py) *ℤ (by -ℤ ay)) *ℤ ay +ℤ ((px -ℤ ax) *ℤ (bx -ℤ ax) +ℤ (py -ℤ ay) *ℤ (by -ℤ ay)) *ℤ by) (bx -ℤ ax)
-  where
-    nothing : (s t : ℤ) → s -ℤ t *ℤ pos 0 ≡ s
-    nothing s t = ring (s ∷ t ∷ []) (v0 ⊖ v1 ⊗ num (pos 0)) v0 refl
+    ∙ sub_times_zero (((bx -ℤ px) *ℤ (bx -ℤ ax) +ℤ (by -ℤ py) *ℤ (by -ℤ ay)) *ℤ ay +ℤ ((px -ℤ ax) *ℤ (bx -ℤ ax) +ℤ (py -ℤ ay) *ℤ (by -ℤ ay)) *ℤ by) (bx -ℤ ax)
 
 between_on : (a p b : Pt) → is_between a p b ≡ true → IsOn (whole a) (whole b) (whole p)
 unfolding bend advance
@@ -79,10 +74,10 @@ between_on a p b t =
       k = first +ℤ second;
       s = first;
       t = second;
-      positive = both first second f g;
+      positive = both_positive first second f g;
       first = weak first f;
       second = weak second g;
-      some = both first second f g;
+      some = both_positive first second f g;
       x = place_x a.x a.y p.x p.y b.x b.y s.0;
       y = place_y a.x a.y p.x p.y b.x b.y s.0;
       d = ring (first ∷ second ∷ []) ((v0 ⊕ v1) ⊗ num (pos 1)) (v0 ⊗ num (pos 1) ⊕ v1 ⊗ num (pos 1)) refl;
@@ -90,9 +85,6 @@ between_on a p b t =
   where
     way : (a p b : ℤ) → b -ℤ a ≡ (p -ℤ a) +ℤ (b -ℤ p)
     way a p b = omega (arith, ints)
-
-    both : (s t : ℤ) → pos 0 <ℤ s → pos 0 <ℤ t → pos 0 <ℤ (s +ℤ t)
-    both s t h k = omega (arith, ints)
 
     weak : (z : ℤ) → pos 0 <ℤ z → pos 0 ≤ℤ z
     weak z h = omega (arith, ints)

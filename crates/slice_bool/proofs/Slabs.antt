@@ -1,10 +1,9 @@
 -- The pieces between two neighbouring heights wind once round the points inside the shape, and not round the others.
-use Rattle.std.proofs.Common.{◌≡◌, ℕ, Bool, true, false, List, [], ◌∷◌, ◌++◌, refl, sym, ap, ap₂, ◌∙◌, arith, subst}
+use Rattle.std.proofs.Common.{◌≡◌, ℕ, Bool, true, false, List, [], ◌∷◌, ◌++◌, refl, sym, ap, ap₂, ◌∙◌, subst}
 use lib.IntN.{ℤ, pos, negsuc, ◌+ℤ◌, ◌-ℤ◌, ◌*ℤ◌, neg_ℤ, +ℤ_idl}
 use lib.Signed.{◌<ℤ◌}
 use Rattle.std.specs.Prelude.{if◌then◌else◌}
 use Rattle.std.specs.List.{AllByRecursion, concat}
-use Rattle.std.proofs.lemmas.Int.{ints}
 use Rattle.slice_snap.proofs.Ways.{wind_pieces-append}
 use Rattle.scad_geom.specs.declared.point.Edge.{Edge}
 use Rattle.scad_geom.specs.declared.level.Level.{Level}
@@ -34,7 +33,7 @@ use Rattle.slice_snap.specs.Pieces.{wind_pieces}
 use Rattle.std.specs.Prelude.{unsigned_abs}
 use Rattle.slice_bool.proofs.Passing.{IsLive, live_bundles, passing, HeadPasses, Around}
 use Rattle.slice_bool.proofs.Values.{all_pass, value_of, is_in_passing}
-use Rattle.scad_base.proofs.Integers.{gap_of_less}
+use Rattle.scad_base.proofs.Integers.{gap_of_less, zero_minus}
 use Rattle.slice_bool.proofs.Middle.{scaled, lower_scaled, at_most_scaled, scaled_below, scaled_at_most, size_of, half_point, value_right, value_left}
 
 side_up : (u c r x y d n1 d1 n2 d2 : ℤ) → ((u *ℤ n2 +ℤ c *ℤ d2) *ℤ (d1 *ℤ r) -ℤ (u *ℤ n1 +ℤ c *ℤ d1) *ℤ (d2 *ℤ r)) *ℤ (y *ℤ (d1 *ℤ r) -ℤ n1 *ℤ r *ℤ d) -ℤ (n2 *ℤ r *ℤ (d1 *ℤ r) -ℤ n1 *ℤ r *ℤ (d2 *ℤ r)) *ℤ (x *ℤ (d1 *ℤ r) -ℤ (u *ℤ n1 +ℤ c *ℤ d1) *ℤ d) ≡ (u *ℤ y +ℤ c *ℤ d -ℤ r *ℤ x) *ℤ (r *ℤ r *ℤ (d1 *ℤ (n2 *ℤ d1 -ℤ n1 *ℤ d2)))
@@ -64,14 +63,11 @@ pub side_up_is : (p : Point) (e : Edge) (l u : Level) (r : ℤ) → r ≡ rise e
 unfolding side_by left_of x_at
 side_up_is p e l u r q = rw q (side_up (run e) (offset e) (rise e) p.x p.y p.d l.n l.d u.n u.d)
 
-no_minus : (z : ℤ) → neg_ℤ z ≡ pos 0 -ℤ z
-no_minus z = omega (arith, ints)
-
 side_down_is : (p : Point) (e : Edge) (l u : Level) (r : ℤ) → r ≡ rise e
     → neg_ℤ (side_by p (record { x = x_at e u.n u.d; y = u.n *ℤ r; d = u.d *ℤ r }) (record { x = x_at e l.n l.d; y = l.n *ℤ r; d = l.d *ℤ r }))
     ≡ left_of e p.x p.y p.d *ℤ ((rise e *ℤ rise e) *ℤ (u.d *ℤ (u.n *ℤ l.d -ℤ l.n *ℤ u.d)))
 unfolding side_by left_of x_at
-side_down_is p e l u r q = rw q (no_minus _ ∙ side_down (run e) (offset e) (rise e) p.x p.y p.d l.n l.d u.n u.d)
+side_down_is p e l u r q = rw q (sym (zero_minus _) ∙ side_down (run e) (offset e) (rise e) p.x p.y p.d l.n l.d u.n u.d)
 
 module _ (above right : Bool) (p : Point) (e : Edge) (l u : Level) (re : pos 0 <ℤ rise e) (dl : pos 0 <ℤ l.d) (du : pos 0 <ℤ u.d) (o : IsLower l u) (s : Spans above (level_at p) l u) where
   run_positive : pos 0 <ℤ pos (unsigned_abs (rise e))
@@ -120,23 +116,24 @@ telescope true false = refl
 telescope false true = refl
 telescope false false = refl
 
+pub later_live : (es : List LeafEdge) (l u : Level) (before bs : List (List ℕ)) → AllByRecursion (IsLive es l u) (concat (before ++ bs))
+    → AllByRecursion (IsLive es l u) (concat bs)
+later_live es l u [] bs h = h
+later_live es l u (b ∷ before) bs h = later_live es l u before bs (back (IsLive es l u) b (concat (before ++ bs)) h)
+
+pub later_ranked : (es : List LeafEdge) (l : Level) (before bs : List (List ℕ)) → AreRanked es l (before ++ bs) → AreRanked es l bs
+later_ranked es l [] bs h = h
+later_ranked es l (b ∷ before) bs h = later_ranked es l before bs h.2
+
 module _ (es : List LeafEdge) (shape : Shape) (above right : Bool) (p : Point) (l u : Level) (a : Around es above right p l u) where
-  later_live : (before bs : List (List ℕ)) → AllByRecursion (IsLive es l u) (concat (before ++ bs)) → AllByRecursion (IsLive es l u) (concat bs)
-  later_live [] bs h = h
-  later_live (b ∷ before) bs h = later_live before bs (back (IsLive es l u) b (concat (before ++ bs)) h)
-
-  later_ranked : (before bs : List (List ℕ)) → AreRanked es l (before ++ bs) → AreRanked es l bs
-  later_ranked [] bs h = h
-  later_ranked (b ∷ before) bs h = later_ranked before bs h.2
-
   pub slab_wind : (before bs : List (List ℕ)) → AreBundles es l u (before ++ bs)
       → wind_pieces above right p (slab_pieces es shape l u bs) ≡ counted (value_of es shape (passing es right p bs))
   slab_wind before [] b = sym (ap counted (value_nothing es shape))
-  slab_wind before ([] ∷ bs) b = absurd (later_ranked before ([] ∷ bs) b.ranked).0
+  slab_wind before ([] ∷ bs) b = absurd (later_ranked es l before ([] ∷ bs) b.ranked).0
   slab_wind before ((k ∷ ks) ∷ bs) b =
       let shifted : before ++ ((k ∷ ks) ∷ bs) ≡ (before ++ ((k ∷ ks) ∷ [])) ++ bs = sym (append_assoc before ((k ∷ ks) ∷ []) bs) in
       let r = slab_wind (before ++ ((k ∷ ks) ∷ [])) bs (subst (AreBundles es l u) shifted b) in
-      let ls = later_live before ((k ∷ ks) ∷ bs) (live_bundles es l u (before ++ ((k ∷ ks) ∷ bs)) b) in
+      let ls = later_live es l u before ((k ∷ ks) ∷ bs) (live_bundles es l u (before ++ ((k ∷ ks) ∷ bs)) b) in
       let lk : IsLive es l u k = ls.0 in
       let n = a.neighbours in
       let one = wind_between above right p (lies_left es right p k) (is_in_by true false es shape (half_point es l u k)) (is_in_by true true es shape (half_point es l u k))
@@ -147,7 +144,7 @@ module _ (es : List LeafEdge) (shape : Shape) (above right : Bool) (p : Point) (
       let vr = value_right es l u n k lk shape ks before bs b in
       let one' = one ∙ ap₂ (λ (v w : Bool). if lies_left es right p k then counted v -ℤ counted w else pos 0) vl vr in
       let split = wind_pieces-append above right p (bundle_piece es shape l u (k ∷ ks)) (slab_pieces es shape l u bs) in
-      let ranked = later_ranked before ((k ∷ ks) ∷ bs) b.ranked in
+      let ranked = later_ranked es l before ((k ∷ ks) ∷ bs) b.ranked in
       split ∙ ap₂ (λ (y z : ℤ). y +ℤ z) one' r ∙ by_test (lies_left es right p k) (λ e. passing_all es right p bs (all_pass es above right p l u a k ks bs lk ranked.1 (back (IsLive es l u) (k ∷ ks) (concat bs) ls) e))
     where
       by_test : (t : Bool) → (t ≡ true → passing es right p bs ≡ bs)

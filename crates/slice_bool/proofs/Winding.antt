@@ -112,6 +112,9 @@ stretch_still es shape above right p s t (Some name) h = between_still above rig
 pub two_zeros : (y z : ℤ) → y ≡ pos 0 → z ≡ pos 0 → y +ℤ z ≡ pos 0
 two_zeros y z h k = rw (h, k) refl
 
+pub with_zero : (x y k : ℤ) → x ≡ k → y ≡ pos 0 → x ≡ y +ℤ k
+with_zero x y k h m = omega (arith, ints)
+
 flat_still : (es : List LeafEdge) (shape : Shape) (above right : Bool) (p : Point) (l : Level) (stops : List Spot) → AllByRecursion (IsSpotAt l) stops → wind_pieces above right p (flat_pieces es shape stops) ≡ pos 0
 flat_still es shape above right p l [] h = refl
 flat_still es shape above right p l (s ∷ []) h = refl

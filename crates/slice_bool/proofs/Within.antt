@@ -76,13 +76,13 @@ rise_within limit e w =
     let k = (high_within limit e w).y in
     omega (arith, ints)
 
-above_zero : (z : ℤ) → pos 0 <ℤ z → 0 < unsigned_abs z
-above_zero z h = omega (arith, ints)
+pub size_above : (z : ℤ) → pos 0 <ℤ z → 0 < unsigned_abs z
+size_above z h = omega (arith, ints)
 
 module _ (limit : ℕ) (lp : 0 < limit) where
   passing_spot : (e : Edge) (l : Level) → IsEdgeWithin limit e → IsLevelWithin limit l → pos 0 <ℤ rise e → ((low e).y *ℤ l.d) ≤ℤ l.n → l.n ≤ℤ ((high e).y *ℤ l.d)
       → IsSpotWithin limit (spot_on e l)
-  passing_spot e l w v r h k = record { level = v; positive = above_zero (rise e) r; run = rise_within limit e w; size = x_within limit e l w h k }
+  passing_spot e l w v r h k = record { level = v; positive = size_above (rise e) r; run = rise_within limit e w; size = x_within limit e l w h k }
 
   end_spot : (x : ℤ) (l : Level) → unsigned_abs x ≤ limit → IsLevelWithin limit l → IsSpotWithin limit (whole_spot x l)
   end_spot x l h v =

@@ -1,12 +1,10 @@
 -- When the outlines of a layer are refused.
-use Rattle.std.specs.Prelude.{ℕ, ◌≡◌, ◌<◌, ◌≤◌}
-use Rattle.slice_events.specs.Limits.{crossing_limit}
+use Rattle.std.specs.Prelude.{ℕ}
 use Rattle.slice_bool.specs.declared.fault.BoolFault.{BoolFault}
-use Rattle.slice_bool.specs.declared.fault.BoolFault.TheVariants.{Memory, Edges, Crossings}
+use Rattle.slice_bool.specs.declared.fault.BoolFault.TheVariants.{Memory}
+use Rattle.slice_bool.specs.Fault.{IsRefusal as IsBorderRefusal}
 
--- by the number of the section's edges, which passes the limit, then by the number of their crossings, which passes theirs;
--- want of memory may come before either is known
+-- as a border is, of which the section's edges are the edges; but want of memory may come before their number is known
 abbrev pub IsRefusal : ℕ → ℕ → ℕ → BoolFault → Type 0
 IsRefusal count limit crossings Memory = Unit {0}
-IsRefusal count limit crossings (Edges c) = (c ≡ count) × (limit < count)
-IsRefusal count limit crossings (Crossings c) = (count ≤ limit) × (c ≡ crossings) × (crossing_limit < crossings)
+IsRefusal count limit crossings fault = IsBorderRefusal count limit crossings fault

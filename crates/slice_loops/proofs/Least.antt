@@ -17,9 +17,9 @@ use Rattle.scad_geom.proofs.Ring.{ring, num, ◌⊕◌, ◌⊗◌, v0, v1}
 use Rattle.slice_loops.specs.Order.{point_cmp, is_less}
 use Rattle.slice_loops.specs.Drawing.{TakesLeastFrom, LeadsBack, IsLoop}
 use Rattle.slice_loops.specs.Corners.{advance, is_between, last}
-use Rattle.slice_loops.proofs.Straight.{IsAhead, ahead_itself, ahead_on, between_turned, straight, falls, climbs}
-use Rattle.scad_base.proofs.Integers.{gap_of_less}
-use Rattle.scad_geom.proofs.Signs.{no_gap}
+use Rattle.slice_loops.proofs.Straight.{IsAhead, ahead_itself, ahead_on, between_turned, straight, flipped}
+use Rattle.scad_base.proofs.Integers.{gap_of_less, less_of_fall}
+use Rattle.scad_geom.proofs.Signs.{no_gap, falls, climbs}
 
 -- v isn't less than p
 abbrev pub IsAtLeast : Pt → Pt → Type 0
@@ -44,17 +44,12 @@ pub start_at_least : (e f : Edge) → is_less f e ≡ false → IsAtLeast e.a f.
 start_at_least e f h = at_least e.a f.a (first_part (point_cmp f.a e.a) (point_cmp f.b e.b) h)
 
 -- ---- between two that aren't less there isn't the least
-flipped : (s t : ℤ) → pos 0 <ℤ (s -ℤ t) → (t -ℤ s) <ℤ pos 0
-flipped s t h = omega (arith, ints)
-
-less_of_gap : (s t : ℤ) → (s -ℤ t) <ℤ pos 0 → s <ℤ t
-less_of_gap s t h = omega (arith, ints)
 
 -- where the way goes on upwards from p to b, it comes from below
 from_below : (k l m n a p b : ℤ) → pos 0 <ℤ k → pos 0 <ℤ l → pos 0 <ℤ m → pos 0 <ℤ n → k *ℤ (b -ℤ a) ≡ l *ℤ (b -ℤ p) → m *ℤ (a -ℤ b) ≡ n *ℤ (a -ℤ p) → p <ℤ b → a <ℤ p
 from_below k l m n a p b kp lp mp np h e r =
     let up : pos 0 <ℤ (b -ℤ a) = climbs k l (b -ℤ a) (b -ℤ p) kp lp h (gap_of_less p b r) in
-    less_of_gap a p (falls n m (a -ℤ p) (a -ℤ b) np mp (sym e) (flipped b a up))
+    less_of_fall a p (falls n m (a -ℤ p) (a -ℤ b) np mp (sym e) (flipped b a up))
 
 zeros : (s t : ℤ) → s *ℤ pos 0 +ℤ t *ℤ pos 0 ≡ pos 0
 zeros s t = ring (s ∷ t ∷ []) (v0 ⊗ num (pos 0) ⊕ v1 ⊗ num (pos 0)) (num (pos 0)) refl

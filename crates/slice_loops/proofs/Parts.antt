@@ -7,11 +7,13 @@ use Rattle.std.proofs.lemmas.Int.{ints}
 use Rattle.scad_geom.specs.declared.point.Pt.{Pt}
 use Rattle.scad_geom.specs.Point.{Point, whole}
 use Rattle.scad_geom.specs.Winding.{is_over, side_by, is_beyond, turn}
-use Rattle.scad_geom.proofs.Ring.{ring, num, neg-*ℤ, ◌⊖◌, ◌⊗◌, v0, v1, v2, v3, v4, v5, v6}
-use Rattle.scad_geom.proofs.Signs.{pos_left}
+use Rattle.scad_geom.proofs.Ring.{ring, num, ◌⊖◌, ◌⊗◌, v0, v1, v2, v3, v4, v5, v6}
+use Rattle.scad_geom.proofs.Signs.{pos_left, falls, climbs, minus_times, sub_mul}
 use Rattle.scad_geom.proofs.Turns.{flat_turn, rising_turn, falling_turn, beyond_mul}
 use Rattle.slice_loops.specs.Corners.{is_between}
-use Rattle.slice_loops.proofs.Straight.{IsAhead, ahead_itself, ahead_on, between_turned, scaled_bend, falls, climbs}
+use Rattle.slice_loops.proofs.Straight.{IsAhead, ahead_itself, ahead_on, between_turned, scaled_bend, flipped}
+use Rattle.scad_geom.proofs.Integers.{neg_mul}
+use Rattle.std.proofs.Math.IntN.{+ℤ_idr, +ℤ_comm}
 
 -- ---- the side of a point, from the end of the segment and from its start
 from_end : (ax ay bx by x y d : ℤ) → (bx *ℤ pos 1 -ℤ ax *ℤ pos 1) *ℤ (y *ℤ pos 1 -ℤ ay *ℤ d) -ℤ (by *ℤ pos 1 -ℤ ay *ℤ pos 1) *ℤ (x *ℤ pos 1 -ℤ ax *ℤ d) ≡ (bx -ℤ ax) *ℤ (y -ℤ by *ℤ d) -ℤ (by -ℤ ay) *ℤ (x -ℤ bx *ℤ d)
@@ -19,9 +21,6 @@ from_end ax ay bx by x y d = ring (ax ∷ ay ∷ bx ∷ by ∷ x ∷ y ∷ d ∷
 
 from_start : (ax ay bx by x y d : ℤ) → (bx *ℤ pos 1 -ℤ ax *ℤ pos 1) *ℤ (y *ℤ pos 1 -ℤ ay *ℤ d) -ℤ (by *ℤ pos 1 -ℤ ay *ℤ pos 1) *ℤ (x *ℤ pos 1 -ℤ ax *ℤ d) ≡ pos 0 -ℤ ((ax -ℤ bx) *ℤ (y -ℤ ay *ℤ d) -ℤ (ay -ℤ by) *ℤ (x -ℤ ax *ℤ d))
 from_start ax ay bx by x y d = ring (ax ∷ ay ∷ bx ∷ by ∷ x ∷ y ∷ d ∷ []) ((v2 ⊗ num (pos 1) ⊖ v0 ⊗ num (pos 1)) ⊗ (v5 ⊗ num (pos 1) ⊖ v1 ⊗ v6) ⊖ (v3 ⊗ num (pos 1) ⊖ v1 ⊗ num (pos 1)) ⊗ (v4 ⊗ num (pos 1) ⊖ v0 ⊗ v6)) (num (pos 0) ⊖ ((v0 ⊖ v2) ⊗ (v5 ⊖ v1 ⊗ v6) ⊖ (v1 ⊖ v3) ⊗ (v4 ⊖ v0 ⊗ v6))) refl
-
-minus_times : (s k : ℤ) → (pos 0 -ℤ s) *ℤ k ≡ pos 0 -ℤ s *ℤ k
-minus_times s k = ring (s ∷ k ∷ []) ((num (pos 0) ⊖ v0) ⊗ v1) (num (pos 0) ⊖ v0 ⊗ v1) refl
 
 -- the part before the end of a segment, and the one behind its start, see a point on the same side
 last_side : (q : Point) (a m b : Pt) (h : IsAhead a m b) → side_by q (whole a) (whole b) *ℤ h.far ≡ side_by q (whole m) (whole b) *ℤ h.near
@@ -53,7 +52,7 @@ alike above right q a b c e k l kp lp ha hb h = by_tests (is_over above q (whole
     same_turned : is_beyond right (neg_ℤ (side_by q (whole a) (whole b))) ≡ is_beyond right (neg_ℤ (side_by q (whole c) (whole e)))
     same_turned =
         sym (beyond_mul right k (neg_ℤ (side_by q (whole a) (whole b))) kp)
-        ∙ ap (is_beyond right) (neg-*ℤ (side_by q (whole a) (whole b)) k ∙ ap neg_ℤ h ∙ sym (neg-*ℤ (side_by q (whole c) (whole e)) l))
+        ∙ ap (is_beyond right) (neg_mul (side_by q (whole a) (whole b)) k ∙ ap neg_ℤ h ∙ sym (neg_mul (side_by q (whole c) (whole e)) l))
         ∙ beyond_mul right l (neg_ℤ (side_by q (whole c) (whole e))) lp
 
     by_tests : (s t : Bool) → is_over above q (whole c) ≡ s → is_over above q (whole e) ≡ t → turn above right q (whole a) (whole b) ≡ turn above right q (whole c) (whole e)
@@ -63,24 +62,18 @@ alike above right q a b c e k l kp lp ha hb h = by_tests (is_over above q (whole
     by_tests true false hc he = falling_turn above right q (whole a) (whole b) (ha ∙ hc) (hb ∙ he) ∙ ap (λ (t : Bool). if t then negsuc 0 else pos 0) same_turned ∙ sym (falling_turn above right q (whole c) (whole e) hc he)
 
 -- ---- of three points in one direction the middle one is neither the highest nor the lowest
-spread : (a b d : ℤ) → (b -ℤ a) *ℤ d ≡ b *ℤ d -ℤ a *ℤ d
-spread a b d = ring (a ∷ b ∷ d ∷ []) ((v1 ⊖ v0) ⊗ v2) (v1 ⊗ v2 ⊖ v0 ⊗ v2) refl
-
 higher : (above : Bool) (q : Point) (a b : Pt) → pos 0 <ℤ q.d → is_over above q (whole a) ≡ false → is_over above q (whole b) ≡ true → pos 0 <ℤ (b.y -ℤ a.y)
 unfolding is_over
 higher true q a b d e f =
-    let s = spread a.y b.y q.d in
+    let s = sub_mul b.y a.y q.d in
     let low : int_lt (q.y *ℤ pos 1) (a.y *ℤ q.d) ≡ false = e in
     let high : int_lt (q.y *ℤ pos 1) (b.y *ℤ q.d) ≡ true = f in
     pos_left (b.y -ℤ a.y) q.d d (omega (arith, ints))
 higher false q a b d e f =
-    let s = spread a.y b.y q.d in
+    let s = sub_mul b.y a.y q.d in
     let low : int_le (q.y *ℤ pos 1) (a.y *ℤ q.d) ≡ false = e in
     let high : int_le (q.y *ℤ pos 1) (b.y *ℤ q.d) ≡ true = f in
     pos_left (b.y -ℤ a.y) q.d d (omega (arith, ints))
-
-flipped : (s t : ℤ) → pos 0 <ℤ (s -ℤ t) → (t -ℤ s) <ℤ pos 0
-flipped s t h = omega (arith, ints)
 
 clash : (s t : ℤ) → (s -ℤ t) <ℤ pos 0 → (t -ℤ s) <ℤ pos 0 → ⊥
 clash s t h k = omega (arith, ints)
@@ -99,9 +92,6 @@ no_dip a m b h k p r = clash_above b.y a.y
     (climbs k.far k.near (a.y -ℤ b.y) (a.y -ℤ m.y) k.far_positive k.near_positive k.along p)
 
 -- ---- the two parts
-zero_right : (z : ℤ) → z +ℤ pos 0 ≡ z
-zero_right z = omega (arith, ints)
-
 pub parts_turn : (above right : Bool) (q : Point) → pos 0 <ℤ q.d → (a m b : Pt) → is_between a m b ≡ true → turn above right q (whole a) (whole m) +ℤ turn above right q (whole m) (whole b) ≡ turn above right q (whole a) (whole b)
 parts_turn above right q d a m b t = by_tests (is_over above q (whole a)) (is_over above q (whole m)) (is_over above q (whole b)) refl refl refl
   where
@@ -116,7 +106,7 @@ parts_turn above right q d a m b t = by_tests (is_over above q (whole a)) (is_ov
         ap₂ (λ (s t : ℤ). s +ℤ t)
         (sym (alike above right q a b a m back.far back.near back.far_positive back.near_positive refl (sym h) (first_side q a m b back)))
         (flat_turn above right q (whole m) (whole b) h)
-        ∙ zero_right (turn above right q (whole a) (whole b))
+        ∙ +ℤ_idr (turn above right q (whole a) (whole b))
 
     with_start : is_over above q (whole a) ≡ is_over above q (whole m) → turn above right q (whole a) (whole m) +ℤ turn above right q (whole m) (whole b) ≡ turn above right q (whole a) (whole b)
     with_start h =
@@ -149,9 +139,6 @@ opposite : (t : Bool) → (if t then pos 1 else pos 0) +ℤ (if t then negsuc 0 
 opposite true = refl
 opposite false = refl
 
-sum_comm : (s t : ℤ) → s +ℤ t ≡ t +ℤ s
-sum_comm s t = omega (arith, ints)
-
 there_and_back : (above right : Bool) (q : Point) (a b : Pt) → is_over above q (whole a) ≡ false → is_over above q (whole b) ≡ true → turn above right q (whole a) (whole b) +ℤ turn above right q (whole b) (whole a) ≡ pos 0
 there_and_back above right q a b ha hb =
     ap₂ (λ (s t : ℤ). s +ℤ t)
@@ -169,4 +156,4 @@ opposites_cancel above right q a b = by_tests (is_over above q (whole a)) (is_ov
     by_tests true true ha hb = flat (ha ∙ sym hb)
     by_tests false false ha hb = flat (ha ∙ sym hb)
     by_tests false true ha hb = there_and_back above right q a b ha hb
-    by_tests true false ha hb = sum_comm (turn above right q (whole a) (whole b)) (turn above right q (whole b) (whole a)) ∙ there_and_back above right q b a hb ha
+    by_tests true false ha hb = +ℤ_comm (turn above right q (whole a) (whole b)) (turn above right q (whole b) (whole a)) ∙ there_and_back above right q b a hb ha

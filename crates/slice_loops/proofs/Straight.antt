@@ -1,19 +1,21 @@
 -- Points straight ahead: on one line, in one direction.
 use Rattle.std.proofs.Common.{◌≡◌, Bool, true, ◌&&◌, [], ◌∷◌, refl, sym, ap, ap₂, ◌∙◌, subst, arith}
-use lib.IntN.{ℤ, pos, ◌+ℤ◌, ◌-ℤ◌, ◌*ℤ◌, *ℤ_comm}
-use lib.Signed.{◌<ℤ◌, ◌≤ℤ◌}
+use lib.IntN.{ℤ, pos, ◌+ℤ◌, ◌-ℤ◌, ◌*ℤ◌}
+use lib.Signed.{◌<ℤ◌}
 use Rattle.std.specs.Prelude.{int_lt}
 use Rattle.std.specs.Ordering.{int_eq}
 use Rattle.std.specs.Cmp.{signed_Decides}
 use Rattle.std.proofs.lemmas.Int.{ints, by_lt_z}
-use Rattle.scad_base.proofs.Products.{positive_product, negative_product, negative_factor, zero_factor}
+use Rattle.scad_base.proofs.Products.{positive_product, zero_factor}
 use Rattle.scad_base.proofs.Tests.{int_lt-true}
 use Rattle.std.proofs.lemmas.Bool.{and_parts}
 use Rattle.scad_geom.specs.declared.point.Pt.{Pt}
 use Rattle.scad_geom.proofs.Ring.{ring, num, ◌⊕◌, ◌⊖◌, ◌⊗◌, v0, v1, v2, v3, v4, v5, v6}
-use Rattle.scad_geom.proofs.Signs.{at_least_mul, pos_left, sum_at_least, square_at_least}
+use Rattle.scad_geom.proofs.Signs.{at_least_mul, pos_left, sum_at_least, square_at_least, add_times_zero}
 use Rattle.slice_loops.specs.Corners.{bend, advance, is_between}
-use Rattle.scad_base.proofs.Integers.{at_most_of_less}
+use Rattle.scad_base.proofs.Integers.{at_most_of_less, sum_above}
+use Rattle.std.proofs.Math.IntN.{zero-*ℤ}
+use Rattle.scad_geom.proofs.Signs.{sub_times_zero}
 
 -- p lies from x in the direction from a to p
 pub record IsAhead (x a p : Pt) : Type 0 where
@@ -52,15 +54,6 @@ scaled_advance k l wx wy ux uy vx vy h e =
     ∙ ap₂ (λ (s t : ℤ). s *ℤ vx +ℤ t *ℤ vy) h e
     ∙ ring (l ∷ ux ∷ uy ∷ vx ∷ vy ∷ []) ((v0 ⊗ v1) ⊗ v3 ⊕ (v0 ⊗ v2) ⊗ v4) ((v1 ⊗ v3 ⊕ v2 ⊗ v4) ⊗ v0) refl
 
-zero_times : (z : ℤ) → pos 0 *ℤ z ≡ pos 0
-zero_times z = ring (z ∷ []) (num (pos 0) ⊗ v0) (num (pos 0)) refl
-
-nothing : (s t : ℤ) → s +ℤ t *ℤ pos 0 ≡ s
-nothing s t = ring (s ∷ t ∷ []) (v0 ⊕ v1 ⊗ num (pos 0)) v0 refl
-
-no_less : (s t : ℤ) → s -ℤ t *ℤ pos 0 ≡ s
-no_less s t = ring (s ∷ t ∷ []) (v0 ⊖ v1 ⊗ num (pos 0)) v0 refl
-
 further_across : (k l w ux uy vx vy : ℤ) → k *ℤ w ≡ l *ℤ ux → ux *ℤ vy -ℤ uy *ℤ vx ≡ pos 0
     → ((ux *ℤ vx +ℤ uy *ℤ vy) *ℤ k) *ℤ (vx +ℤ w) ≡ (k *ℤ (ux *ℤ vx +ℤ uy *ℤ vy) +ℤ l *ℤ (ux *ℤ ux +ℤ uy *ℤ uy)) *ℤ vx
 further_across k l w ux uy vx vy h e =
@@ -69,7 +62,7 @@ further_across k l w ux uy vx vy h e =
     ∙ ring (k ∷ l ∷ w ∷ ux ∷ uy ∷ vx ∷ vy ∷ []) ((v3 ⊗ v5 ⊕ v4 ⊗ v6) ⊗ (v0 ⊗ v5) ⊕ (v3 ⊗ v5 ⊕ v4 ⊗ v6) ⊗ (v1 ⊗ v3))
     ((v0 ⊗ (v3 ⊗ v5 ⊕ v4 ⊗ v6) ⊕ v1 ⊗ (v3 ⊗ v3 ⊕ v4 ⊗ v4)) ⊗ v5 ⊕ (v1 ⊗ v4) ⊗ (v3 ⊗ v6 ⊖ v4 ⊗ v5)) refl
     ∙ ap (λ (z : ℤ). (k *ℤ (ux *ℤ vx +ℤ uy *ℤ vy) +ℤ l *ℤ (ux *ℤ ux +ℤ uy *ℤ uy)) *ℤ vx +ℤ (l *ℤ uy) *ℤ z) e
-    ∙ nothing ((k *ℤ (ux *ℤ vx +ℤ uy *ℤ vy) +ℤ l *ℤ (ux *ℤ ux +ℤ uy *ℤ uy)) *ℤ vx) (l *ℤ uy)
+    ∙ add_times_zero ((k *ℤ (ux *ℤ vx +ℤ uy *ℤ vy) +ℤ l *ℤ (ux *ℤ ux +ℤ uy *ℤ uy)) *ℤ vx) (l *ℤ uy)
 
 further_along : (k l w ux uy vx vy : ℤ) → k *ℤ w ≡ l *ℤ uy → ux *ℤ vy -ℤ uy *ℤ vx ≡ pos 0
     → ((ux *ℤ vx +ℤ uy *ℤ vy) *ℤ k) *ℤ (vy +ℤ w) ≡ (k *ℤ (ux *ℤ vx +ℤ uy *ℤ vy) +ℤ l *ℤ (ux *ℤ ux +ℤ uy *ℤ uy)) *ℤ vy
@@ -79,10 +72,7 @@ further_along k l w ux uy vx vy h e =
     ∙ ring (k ∷ l ∷ w ∷ ux ∷ uy ∷ vx ∷ vy ∷ []) ((v3 ⊗ v5 ⊕ v4 ⊗ v6) ⊗ (v0 ⊗ v6) ⊕ (v3 ⊗ v5 ⊕ v4 ⊗ v6) ⊗ (v1 ⊗ v4))
     ((v0 ⊗ (v3 ⊗ v5 ⊕ v4 ⊗ v6) ⊕ v1 ⊗ (v3 ⊗ v3 ⊕ v4 ⊗ v4)) ⊗ v6 ⊖ (v1 ⊗ v3) ⊗ (v3 ⊗ v6 ⊖ v4 ⊗ v5)) refl
     ∙ ap (λ (z : ℤ). (k *ℤ (ux *ℤ vx +ℤ uy *ℤ vy) +ℤ l *ℤ (ux *ℤ ux +ℤ uy *ℤ uy)) *ℤ vy -ℤ (l *ℤ ux) *ℤ z) e
-    ∙ no_less ((k *ℤ (ux *ℤ vx +ℤ uy *ℤ vy) +ℤ l *ℤ (ux *ℤ ux +ℤ uy *ℤ uy)) *ℤ vy) (l *ℤ ux)
-
-added : (s t : ℤ) → pos 0 <ℤ s → pos 0 ≤ℤ t → pos 0 <ℤ (s +ℤ t)
-added s t h k = omega (arith, ints)
+    ∙ sub_times_zero ((k *ℤ (ux *ℤ vx +ℤ uy *ℤ vy) +ℤ l *ℤ (ux *ℤ ux +ℤ uy *ℤ uy)) *ℤ vy) (l *ℤ ux)
 
 way : (b p x : ℤ) → (b -ℤ p) +ℤ (p -ℤ x) ≡ b -ℤ x
 way b p x = omega (arith, ints)
@@ -98,7 +88,7 @@ still_between x a p b h t =
     let vy = b.y -ℤ p.y in
     let wx = p.x -ℤ x.x in
     let wy = p.y -ℤ x.y in
-    let flat : (wx *ℤ vy -ℤ wy *ℤ vx) *ℤ h.far ≡ pos 0 = scaled_bend h.far h.near wx wy ux uy vx vy h.across h.along ∙ ap (λ (z : ℤ). z *ℤ h.near) s.0 ∙ zero_times h.near in
+    let flat : (wx *ℤ vy -ℤ wy *ℤ vx) *ℤ h.far ≡ pos 0 = scaled_bend h.far h.near wx wy ux uy vx vy h.across h.along ∙ ap (λ (z : ℤ). z *ℤ h.near) s.0 ∙ zero-*ℤ h.near in
     let on : pos 0 <ℤ ((wx *ℤ vx +ℤ wy *ℤ vy) *ℤ h.far) = subst (λ (z : ℤ). pos 0 <ℤ z) (sym (scaled_advance h.far h.near wx wy ux uy vx vy h.across h.along)) (positive_product (ux *ℤ vx +ℤ uy *ℤ vy) h.near s.1 h.near_positive) in
     between_by x p b (zero_factor (wx *ℤ vy -ℤ wy *ℤ vx) h.far h.far_positive flat) (pos_left (wx *ℤ vx +ℤ wy *ℤ vy) h.far h.far_positive on)
 
@@ -118,7 +108,7 @@ ahead_on x a p b h t =
       far = far;
       near = near;
       far_positive = positive_product (ux *ℤ vx +ℤ uy *ℤ vy) h.far s.1 h.far_positive;
-      near_positive = added (h.far *ℤ (ux *ℤ vx +ℤ uy *ℤ vy)) (h.near *ℤ (ux *ℤ ux +ℤ uy *ℤ uy))
+      near_positive = sum_above (h.far *ℤ (ux *ℤ vx +ℤ uy *ℤ vy)) (h.near *ℤ (ux *ℤ ux +ℤ uy *ℤ uy))
           (positive_product h.far (ux *ℤ vx +ℤ uy *ℤ vy) h.far_positive s.1)
           (at_least_mul h.near (ux *ℤ ux +ℤ uy *ℤ uy) (at_most_of_less (pos 0) h.near h.near_positive) (sum_at_least (ux *ℤ ux) (uy *ℤ uy) (square_at_least ux) (square_at_least uy)));
       across = ap (λ (z : ℤ). far *ℤ z) (sym (way b.x p.x x.x)) ∙ further_across h.far h.near wx ux uy vx vy h.across s.0;
@@ -135,6 +125,9 @@ advance_turned ax ay px py bx by = ring (ax ∷ ay ∷ px ∷ py ∷ bx ∷ by �
 zero_less : (z : ℤ) → z ≡ pos 0 → pos 0 -ℤ z ≡ pos 0
 zero_less z h = omega (arith, ints)
 
+pub flipped : (a b : ℤ) → pos 0 <ℤ (a -ℤ b) → (b -ℤ a) <ℤ pos 0
+flipped a b h = omega (arith, ints)
+
 pub between_turned : (a p b : Pt) → is_between a p b ≡ true → is_between b p a ≡ true
 unfolding bend advance
 between_turned a p b t =
@@ -142,10 +135,3 @@ between_turned a p b t =
     between_by b p a
     (bend_turned a.x a.y p.x p.y b.x b.y ∙ zero_less (bend a p b) s.0)
     (subst (λ (z : ℤ). pos 0 <ℤ z) (sym (advance_turned a.x a.y p.x p.y b.x b.y)) s.1)
-
--- ---- signs along one direction
-pub falls : (k l w v : ℤ) → pos 0 <ℤ k → pos 0 <ℤ l → k *ℤ w ≡ l *ℤ v → v <ℤ pos 0 → w <ℤ pos 0
-falls k l w v kp lp h n = negative_factor w k kp (subst (λ (z : ℤ). z <ℤ pos 0) (sym (*ℤ_comm w k ∙ h ∙ *ℤ_comm l v)) (negative_product v l lp n))
-
-pub climbs : (k l w v : ℤ) → pos 0 <ℤ k → pos 0 <ℤ l → k *ℤ w ≡ l *ℤ v → pos 0 <ℤ v → pos 0 <ℤ w
-climbs k l w v kp lp h n = pos_left w k kp (subst (λ (z : ℤ). pos 0 <ℤ z) (sym (*ℤ_comm w k ∙ h ∙ *ℤ_comm l v)) (positive_product v l n lp))

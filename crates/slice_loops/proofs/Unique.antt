@@ -1,7 +1,7 @@
 -- The loops that are drawn from edges are one list of loops, in whatever order the edges stand.
 use Rattle.std.proofs.Common.{◌≡◌, ℕ, ◌+◌, ◌<◌, Bool, true, false, ◌&&◌, List, [], ◌∷◌, refl, sym, ap, ap₂, ◌∙◌, subst, arith, All}
 use Rattle.std.specs.Prelude.{⊤, IsPermutation, sum_by}
-use Rattle.std.specs.Ordering.{is_lt, int_cmp, ordering_then, ordering_reverse}
+use Rattle.std.specs.Ordering.{is_lt, int_cmp, ordering_reverse}
 use Rattle.std.specs.declared.cmp.Ordering.{Ordering}
 use Rattle.std.specs.declared.cmp.Ordering.TheVariants.{Less, Equal, Greater}
 use Rattle.std.proofs.lemmas.Map.Lookups.{exact_signed}
@@ -19,13 +19,9 @@ use Rattle.slice_loops.specs.Drawing.{TakesLeastFrom, LeadsBack, IsLoop, AreDraw
 use Rattle.slice_loops.specs.Outlines.{outlines_of}
 use Rattle.slice_loops.specs.Laws.{LoopsAreOne, OutlinesAreOne}
 use Rattle.slice_loops.proofs.Points.{edge_total}
+use Rattle.scad_base.proofs.Tests.{both_equal}
 
 -- ---- edges that the order doesn't tell apart are one
-both_equal : (r s : Ordering) → ordering_then r s ≡ Equal → (r ≡ Equal) × (s ≡ Equal)
-both_equal Less s e = absurd (cc)
-both_equal Equal s e = (refl, e)
-both_equal Greater s e = absurd (cc)
-
 point_exact : (p q : Pt) → point_cmp p q ≡ Equal → p ≡ q
 point_exact p q e =
     let both = both_equal (int_cmp p.y q.y) (int_cmp p.x q.x) e in
@@ -47,7 +43,7 @@ tied Greater Less h k l = absurd (cc)
 tied Greater Equal h k l = absurd (cc)
 tied Greater Greater h k l = absurd (cc)
 
-not_less_itself : (e : Edge) → is_less e e ≡ false
+pub not_less_itself : (e : Edge) → is_less e e ≡ false
 not_less_itself e = ap is_lt (tied_itself edge_total e)
 
 neither_less : (e f : Edge) → is_less e f ≡ false → is_less f e ≡ false → e ≡ f

@@ -4,7 +4,6 @@ use lib.IntN.{ℤ, pos, ◌+ℤ◌, +ℤ_idl, +ℤ_assoc}
 use lib.Signed.{◌<ℤ◌}
 use Rattle.std.specs.Prelude.{IsPermutation}
 use Rattle.std.specs.List.{AllByRecursion}
-use Rattle.std.proofs.lemmas.Int.{ints}
 use Rattle.scad_geom.specs.declared.point.Pt.{Pt}
 use Rattle.scad_geom.specs.declared.point.Edge.{Edge}
 use Rattle.scad_geom.specs.Point.{Point, whole}
@@ -21,9 +20,7 @@ use Rattle.slice_loops.proofs.Parts.{parts_turn, opposites_cancel}
 use Rattle.slice_loops.proofs.Least.{IsAtLeast, least_is_corner, loop_at_least, itself_at_least, last_at_least}
 use Rattle.scad_geom.proofs.Sums.{sum_z, sum_z-permutation}
 use Rattle.slice_loops.proofs.Rearranged.{sides_are_edges}
-
-zero_right : (z : ℤ) → z +ℤ pos 0 ≡ z
-zero_right z = omega (arith, ints)
+use Rattle.std.proofs.Math.IntN.{+ℤ_idr}
 
 module _ (above right : Bool) (q : Point) where
   -- the winding number of edges, and the turn of one
@@ -81,8 +78,8 @@ module _ (above right : Bool) (q : Point) where
     -- fewer than three corners don't wind
     few : (c : List Pt) → nat_le 3 (length c) ≡ false → winding (sides c) ≡ pos 0
     few [] h = refl
-    few (a ∷ []) h = zero_right (turn above right q (whole a) (whole a)) ∙ flat_turn above right q (whole a) (whole a) refl
-    few (a ∷ (b ∷ [])) h = ap (λ (z : ℤ). turn above right q (whole a) (whole b) +ℤ z) (zero_right (turn above right q (whole b) (whole a))) ∙ opposites_cancel above right q a b
+    few (a ∷ []) h = +ℤ_idr (turn above right q (whole a) (whole a)) ∙ flat_turn above right q (whole a) (whole a) refl
+    few (a ∷ (b ∷ [])) h = ap (λ (z : ℤ). turn above right q (whole a) (whole b) +ℤ z) (+ℤ_idr (turn above right q (whole b) (whole a))) ∙ opposites_cancel above right q a b
     few (a ∷ (b ∷ (c ∷ cs))) h = let t = leb-false 3 (length (a ∷ (b ∷ (c ∷ cs)))) h in absurd (omega arith)
 
     -- ---- all loops

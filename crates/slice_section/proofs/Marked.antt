@@ -1,8 +1,6 @@
 -- The cuts of a closed surface are balanced: whatever points count, at their starts as much is counted as at their ends.
-use Rattle.std.proofs.Common.{◌≡◌, ℕ, ◌+◌, ◌*◌, ◌/◌, Bool, true, false, cond, ◌&&◌, not, List, [], ◌∷◌, map, Some, None, Option, ℤ, pos, ◌*ℤ◌, refl, ap₂, sym, ◌∙◌, subst, arith}
-use Rattle.std.specs.Prelude.{int_lt}
+use Rattle.std.proofs.Common.{◌≡◌, ℕ, ◌+◌, Bool, true, false, cond, ◌&&◌, not, List, [], ◌∷◌, map, Some, None, Option, ℤ, refl, ap₂, sym, ◌∙◌, subst, arith}
 use Rattle.std.specs.List.{cons_option, sum_by}
-use Rattle.std.proofs.lemmas.Int.{ints}
 use Rattle.std.proofs.lemmas.List.Sums.{sum_by-cons, sum_by-append}
 use Rattle.scad_geom.specs.Point.{Point, is_same_point}
 use Rattle.scad_geom.specs.Segment.{Segment}
@@ -14,13 +12,7 @@ use Rattle.scad_solid.specs.Side.{reversed}
 use Rattle.scad_solid.specs.Surface.{sides_of, sides, is_closed}
 use Rattle.scad_solid.specs.Cut.{is_above, is_below, cut_between, cut_of, cuts_of, plane_of, point_between}
 use Rattle.scad_solid.proofs.ClosedSides.{sum_by-reversed}
-
--- the plane of a layer has no corner in it
-below_or_above : (layer h : ℕ) (z : ℤ) → is_below (plane_of layer h) z ≡ not (is_above (plane_of layer h) z)
-below_or_above layer h z = apart (layer * h + h / 2) z
-  where
-    apart : (n : ℕ) (z : ℤ) → int_lt (pos 2 *ℤ z) (pos (2 * n + 1)) ≡ not (int_lt (pos (2 * n + 1)) (pos 2 *ℤ z))
-    apart n z = grind (arith, ints)
+use Rattle.scad_solid.proofs.Holds.{below_or_above}
 
 module _ (mark : Point → ℕ) (plane : ℤ) where
   abbrev starts : List Segment → ℕ

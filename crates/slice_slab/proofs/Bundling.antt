@@ -1,6 +1,6 @@
 -- Sorted passages give the bundles.
 use Rattle.std.proofs.Common.{◌≡◌, ℕ, zero, suc, ◌+◌, ◌<◌, ◌≤◌, ◌⊎◌, inl, inr, Bool, true, false, not, ◌&&◌, ◌||◌, cond, List, [], ◌∷◌, length, get_or, refl, sym, ap, ◌∙◌, arith, subst, add-one}
-use Rattle.std.proofs.lemmas.Bool.{and_parts}
+use Rattle.std.proofs.lemmas.Bool.{and_parts, true≢false}
 use lib.IntN.{ℤ, pos, ◌*ℤ◌}
 use lib.Signed.{◌<ℤ◌}
 use Rattle.std.specs.Prelude.{int_lt, nat_lt, if◌then◌else◌}
@@ -14,29 +14,13 @@ use Rattle.scad_geom.specs.declared.level.Level.{Level}
 use Rattle.scad_geom.specs.declared.level.LeafEdge.{LeafEdge}
 use Rattle.scad_geom.specs.declared.point.Edge.{Edge}
 use Rattle.scad_geom.specs.Line.{rise, run, x_at}
-use Rattle.scad_geom.specs.Level.{IsLower, IsAtMost, IsSameHeight}
 use Rattle.scad_geom.specs.EdgeOrder.{IsBefore, AreAligned}
-use Rattle.scad_geom.proofs.Heights.{at_most_chain, at_most_then_lower, lower_then_at_most}
+use Rattle.scad_geom.proofs.Heights.{same_chain, same_lower}
 use Rattle.slice_slab.specs.declared.passage.Passage.{Passage}
 use Rattle.slice_slab.specs.Bundles.{edge_at, Precedes, AreRanked}
 use Rattle.slice_slab.specs.Passages.{is_left, leans_left, comes_first, IsPassageOf, numbers_of, is_aligned, joined, bundles_of, AreSorted}
 use Rattle.std.specs.Cmp.{signed_Decides}
-
--- ---- fractions that are the same, or one below the other
-same_chain : (p q r : Level) → pos 0 <ℤ p.d → pos 0 <ℤ q.d → pos 0 <ℤ r.d → IsSameHeight p q → IsSameHeight q r → IsSameHeight p r
-same_chain p q r dp dq dr h k =
-    let a : IsAtMost p r = at_most_chain p q r dp dq dr (omega (arith, ints)) (omega (arith, ints)) in
-    let b : IsAtMost r p = at_most_chain r q p dr dq dp (omega (arith, ints)) (omega (arith, ints)) in
-    omega (arith, ints)
-
-same_lower : (p q r : Level) → pos 0 <ℤ p.d → pos 0 <ℤ q.d → pos 0 <ℤ r.d → IsSameHeight p q → IsLower q r → IsLower p r
-same_lower p q r dp dq dr h k = at_most_then_lower p q r dp dq dr (omega (arith, ints)) k
-
-lower_same : (p q r : Level) → pos 0 <ℤ p.d → pos 0 <ℤ q.d → pos 0 <ℤ r.d → IsLower p q → IsSameHeight q r → IsLower p r
-lower_same p q r dp dq dr h k = lower_then_at_most p q r dp dq dr h (omega (arith, ints))
-
-lower_chain : (p q r : Level) → pos 0 <ℤ p.d → pos 0 <ℤ q.d → pos 0 <ℤ r.d → IsLower p q → IsLower q r → IsLower p r
-lower_chain p q r dp dq dr h k = lower_then_at_most p q r dp dq dr h (omega (arith, ints))
+use Rattle.scad_geom.proofs.Heights.{lower_same, lower_chain}
 
 x_of : Level → Edge → Level
 x_of at e = record { n = x_at e at.n at.d; d = rise e }
@@ -153,10 +137,7 @@ module _ (es : List LeafEdge) (at : Level) (p q : Passage) (hp : Rises es p.numb
   precede_before a ks ((j ∷ js) ∷ bs) r h = (before_chain at (edge_at es p.number) (edge_at es q.number) (edge_at es j) hp hq r.0 a h.0, precede_before a ks bs r.1 h.1)
 
 not_aligned : (p q : Passage) → p.x *ℤ q.rise ≡ q.x *ℤ p.rise → p.run *ℤ q.rise ≡ q.run *ℤ p.rise → is_aligned p q ≡ false → ⊥
-not_aligned p q h k e = let a = (signed_Decides (p.x *ℤ q.rise) (q.x *ℤ p.rise)).1 h in let b = (signed_Decides (p.run *ℤ q.rise) (q.run *ℤ p.rise)).1 k in differ (sym (rw (a, b) refl) ∙ e)
-  where
-    differ : true ≡ false → ⊥
-    differ h = cc
+not_aligned p q h k e = let a = (signed_Decides (p.x *ℤ q.rise) (q.x *ℤ p.rise)).1 h in let b = (signed_Decides (p.run *ℤ q.rise) (q.run *ℤ p.rise)).1 k in true≢false (sym (rw (a, b) refl) ∙ e)
 
 bundled : (es : List LeafEdge) (at : Level) (p : Passage) (ps : List Passage) → AllByRecursion (IsPassageOf es at) (p ∷ ps) → AreSorted (p ∷ ps) → Bundled es at p ps
 bundled es at p [] h s = record { ks = []; bs = []; are = refl; ranked = (((tt, tt), tt), tt, tt); rise_ks = tt; rise_bs = tt }

@@ -18,7 +18,7 @@ use Rattle.slice_snap.specs.Pieces.{way_of, ways_of, IsPieceWithin, ArePiecesBal
 use Rattle.slice_snap.specs.Merging.{joined, AreMerged, all_joined, two_join}
 use Rattle.slice_snap.specs.Rounding.{rounded_edges}
 use Rattle.slice_snap.specs.Cancelling.{AreCancelled}
-use Rattle.slice_snap.proofs.Pairs.{divisor_above}
+use Rattle.slice_snap.proofs.SameSpots.{divisor_above}
 
 pub proper_within : (limit : ℕ) (q : Piece) → IsPieceWithin limit q → IsProper (way_of q)
 proper_within limit q w = record { from = divisor_above limit q.from w.from; to = divisor_above limit q.to w.to }

@@ -10,8 +10,7 @@ use Rattle.std.proofs.lemmas.List.Elements.{All-contains, All-get_or, All-from_r
 use Rattle.std.proofs.lemmas.List.Sorted.{Contains-permutation, IsPermutation-sym}
 use Rattle.scad_geom.specs.declared.level.Level.{Level}
 use Rattle.scad_geom.specs.Point.{Point, is_same_point}
-use Rattle.scad_geom.specs.Level.{IsLower, IsAtMost, IsSameHeight}
-use Rattle.scad_geom.proofs.Heights.{lower_then_at_most, at_most_then_lower, at_most_chain, lower_weak, same_at_least, same_at_most, same_height as one_height}
+use Rattle.scad_geom.specs.Level.{IsAtMost}
 use Rattle.scad_geom.proofs.Points.{same_height, same_across}
 use Rattle.winding_laws.specs.Nearness.{IsProper}
 use Rattle.winding_laws.proofs.Sameness.{are_same, same_by, are_same_turned}
@@ -24,20 +23,7 @@ use Rattle.slice_snap.specs.Merging.{joined, MeetAlone}
 use Rattle.slice_snap.proofs.GoingOn.{pieces_go_on}
 use Rattle.slice_snap.proofs.Balanced.{proper_within}
 use Rattle.scad_geom.specs.declared.point.Edge.{Edge}
-
--- ---- the order of heights
-module _ (p q r : Level) (dp : pos 0 <ℤ p.d) (dq : pos 0 <ℤ q.d) (dr : pos 0 <ℤ r.d) where
-  lower_lower : IsLower p q → IsLower q r → IsLower p r
-  lower_lower h k = lower_then_at_most p q r dp dq dr h (lower_weak q r k)
-
-  lower_same : IsLower p q → IsSameHeight q r → IsLower p r
-  lower_same h k = lower_then_at_most p q r dp dq dr h (same_at_least q r k)
-
-  same_lower : IsSameHeight p q → IsLower q r → IsLower p r
-  same_lower h k = at_most_then_lower p q r dp dq dr (same_at_least p q h) k
-
-  same_same : IsSameHeight p q → IsSameHeight q r → IsSameHeight p r
-  same_same h k = one_height p r (at_most_chain p q r dp dq dr (same_at_least p q h) (same_at_least q r k)) (at_most_chain r q p dr dq dp (same_at_most q r k) (same_at_most p q h))
+use Rattle.scad_geom.proofs.Heights.{lower_chain, lower_same, same_lower, same_chain}
 
 -- ---- the order of points: by height, then from left to right
 abbrev pub IsBefore : Point → Point → Type 0
@@ -51,18 +37,18 @@ across p = record { n = p.x; d = p.d }
 
 module _ (a b c : Point) (da : pos 0 <ℤ a.d) (db : pos 0 <ℤ b.d) (dc : pos 0 <ℤ c.d) where
   before_through : IsBefore a b → IsBefore b c → IsBefore a c
-  before_through (inl h) (inl k) = inl (lower_lower (height a) (height b) (height c) da db dc h k)
+  before_through (inl h) (inl k) = inl (lower_chain (height a) (height b) (height c) da db dc h k)
   before_through (inl h) (inr k) = inl (lower_same (height a) (height b) (height c) da db dc h k.0)
   before_through (inr h) (inl k) = inl (same_lower (height a) (height b) (height c) da db dc h.0 k)
-  before_through (inr h) (inr k) = inr (same_same (height a) (height b) (height c) da db dc h.0 k.0, lower_lower (across a) (across b) (across c) da db dc h.1 k.1)
+  before_through (inr h) (inr k) = inr (same_chain (height a) (height b) (height c) da db dc h.0 k.0, lower_chain (across a) (across b) (across c) da db dc h.1 k.1)
 
   before_same : IsBefore a b → is_same_point b c ≡ true → IsBefore a c
   before_same (inl h) e = inl (lower_same (height a) (height b) (height c) da db dc h (same_height b c e))
-  before_same (inr h) e = inr (same_same (height a) (height b) (height c) da db dc h.0 (same_height b c e), lower_same (across a) (across b) (across c) da db dc h.1 (same_across b c e))
+  before_same (inr h) e = inr (same_chain (height a) (height b) (height c) da db dc h.0 (same_height b c e), lower_same (across a) (across b) (across c) da db dc h.1 (same_across b c e))
 
   same_before : is_same_point a b ≡ true → IsBefore b c → IsBefore a c
   same_before e (inl k) = inl (same_lower (height a) (height b) (height c) da db dc (same_height a b e) k)
-  same_before e (inr k) = inr (same_same (height a) (height b) (height c) da db dc (same_height a b e) k.0, same_lower (across a) (across b) (across c) da db dc (same_across a b e) k.1)
+  same_before e (inr k) = inr (same_chain (height a) (height b) (height c) da db dc (same_height a b e) k.0, same_lower (across a) (across b) (across c) da db dc (same_across a b e) k.1)
 
 not_itself : (a : Point) → IsBefore a a → ⊥
 not_itself a (inl h) = omega (arith, ints)

@@ -1,23 +1,22 @@
 -- Two pieces along one edge that don't overlap, one ending where the other starts, go on in one direction.
-use Rattle.std.proofs.Common.{◌≡◌, ℕ, ◌<◌, inl, inr, Bool, true, false, refl, sym, arith, subst}
+use Rattle.std.proofs.Common.{◌≡◌, ◌<◌, inl, inr, Bool, true, false, refl, sym, subst}
 use lib.IntN.{ℤ, pos, ◌+ℤ◌, ◌-ℤ◌, ◌*ℤ◌}
 use lib.Signed.{◌<ℤ◌}
 use Rattle.std.specs.Prelude.{[], ◌∷◌}
-use Rattle.std.proofs.lemmas.Int.{ints, by_lt_z}
-use Rattle.scad_base.proofs.Integers.{gap_of_less, less_of_gap}
+use Rattle.std.proofs.lemmas.Int.{by_lt_z}
+use Rattle.scad_base.proofs.Integers.{gap_of_less, less_of_gap, both_positive}
 use Rattle.scad_geom.specs.declared.level.Level.{Level}
 use Rattle.scad_geom.specs.Point.{Point, is_same_point}
 use Rattle.scad_geom.specs.Level.{IsLower, IsAtMost}
 use Rattle.scad_geom.proofs.Heights.{lower_then_at_most, at_most_then_lower, lower_weak, same_at_least, same_at_most, same_height as one_height}
 use Rattle.scad_geom.proofs.Points.{same_height, same_across}
 use Rattle.scad_geom.proofs.Ring.{ring, ◌⊕◌, ◌⊖◌, ◌⊗◌, v0, v1, v2, v3}
-use Rattle.scad_base.proofs.Products.{positive_product}
-use Rattle.slice_snap.specs.declared.piece.Spot.{Spot}
-use Rattle.slice_snap.specs.Spots.{point_of, IsSpotWithin}
+use Rattle.slice_snap.specs.Spots.{point_of}
 use Rattle.slice_snap.specs.Inside.{IsBetween, IsInside}
 use Rattle.slice_snap.specs.Naming.{IsOnLine, PiecesGoOn}
 use Rattle.slice_snap.proofs.OneLine.{mean, mean_on, side_rising, same_rising, all_level, side_flat, same_flat, by_rise}
-use Rattle.winding_laws.proofs.Amid.{not_both}
+use Rattle.slice_snap.proofs.SameSpots.{divisor_above}
+use Rattle.std.proofs.lemmas.Bool.{both_ways}
 
 -- ---- between two numbers lies the one whose numerator and divisor are the sums of theirs
 abbrev mean_level : Level → Level → Level
@@ -34,9 +33,6 @@ first_below p q h = less_of_gap (p.n *ℤ (p.d +ℤ q.d)) ((p.n +ℤ q.n) *ℤ p
 
 below_second : (p q : Level) → IsLower p q → IsLower (mean_level p q) q
 below_second p q h = less_of_gap ((p.n +ℤ q.n) *ℤ q.d) (q.n *ℤ (p.d +ℤ q.d)) (rw (over_mean p.n p.d q.n q.d) (gap_of_less (p.n *ℤ q.d) (q.n *ℤ p.d) h))
-
-both_positive : (x y : ℤ) → pos 0 <ℤ x → pos 0 <ℤ y → pos 0 <ℤ (x +ℤ y)
-both_positive x y h k = omega (arith, ints)
 
 -- ---- points that are told apart by one number
 module _ (On : Point → Type 0) (k : Point → ℤ)
@@ -106,21 +102,15 @@ module _ (On : Point → Type 0) (k : Point → ℤ)
         (λ am. by_lt_z (k n *ℤ b.d) (k b *ℤ n.d)
         (λ nb. inside a m b oa om ob (inl (am, at_most_then_lower (along m) (along n) (along b) dm dn db mn nb)))
         (λ bn. by_lt_z (k b *ℤ n.d) (k n *ℤ b.d) (λ o. absurd (peak am o))
-        (λ o. absurd (not_both (is_same_point n b) (same n b on ob (one_height (along n) (along b) o bn)) v))))
+        (λ o. absurd (both_ways (is_same_point n b) v (same n b on ob (one_height (along n) (along b) o bn))))))
         (λ ma. by_lt_z (k m *ℤ a.d) (k a *ℤ m.d)
         (λ o. by_lt_z (k b *ℤ n.d) (k n *ℤ b.d)
         (λ bn. inside a m b oa om ob (inr (lower_then_at_most (along b) (along n) (along m) db dn dm bn nm, o)))
         (λ nb. by_lt_z (k n *ℤ b.d) (k b *ℤ n.d) (λ x. absurd (valley o x))
-        (λ x. absurd (not_both (is_same_point n b) (same n b on ob (one_height (along n) (along b) nb x)) v))))
-        (λ o. absurd (not_both (is_same_point a m) (same a m oa om (one_height (along a) (along m) o ma)) u)))
+        (λ x. absurd (both_ways (is_same_point n b) v (same n b on ob (one_height (along n) (along b) nb x))))))
+        (λ o. absurd (both_ways (is_same_point a m) u (same a m oa om (one_height (along a) (along m) o ma)))))
 
 -- ---- of pieces
-above_zero : (n : ℕ) → 0 < n → pos 0 <ℤ pos n
-above_zero n h = omega (arith, ints)
-
-divisor : (limit : ℕ) (s : Spot) → IsSpotWithin limit s → pos 0 <ℤ (point_of s).d
-divisor limit s w = positive_product s.at.d (pos s.run) w.level.positive (above_zero s.run w.positive)
-
 pub pieces_go_on : PiecesGoOn
 pieces_go_on limit e q r wq wr lq lr hq hr apart joint =
     let a : Point = point_of q.from in
@@ -129,9 +119,9 @@ pieces_go_on limit e q r wq wr lq lr hq hr apart joint =
     let b : Point = point_of r.to in
     by_rise e lq.length
     (λ up. go_on (IsOnLine e) (λ p. p.y) (same_rising e up) (λ x p y hx hp hy h. record { on_line = side_rising e up p x y hp hx hy; between = inl h }) (mean_on e) (λ p q. refl)
-    a m n b (divisor limit q.from wq.from) (divisor limit q.to wq.to) (divisor limit r.from wr.from) (divisor limit r.to wr.to) lq.from lq.to lr.from lr.to
+    a m n b (divisor_above limit q.from wq.from) (divisor_above limit q.to wq.to) (divisor_above limit r.from wr.from) (divisor_above limit r.to wr.to) lq.from lq.to lr.from lr.to
     (same_height m n joint) apart hq hr)
     (λ flat long. go_on (IsOnLine e) (λ p. p.x) (same_flat e flat long)
     (λ x p y hx hp hy h. record { on_line = side_flat e flat long p x y hp hx hy; between = inr (all_level e flat long x p hx hp, all_level e flat long p y hp hy, h) }) (mean_on e) (λ p q. refl)
-    a m n b (divisor limit q.from wq.from) (divisor limit q.to wq.to) (divisor limit r.from wr.from) (divisor limit r.to wr.to) lq.from lq.to lr.from lr.to
+    a m n b (divisor_above limit q.from wq.from) (divisor_above limit q.to wq.to) (divisor_above limit r.from wr.from) (divisor_above limit r.to wr.to) lq.from lq.to lr.from lr.to
     (same_across m n joint) apart hq hr)

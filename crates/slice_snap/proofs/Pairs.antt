@@ -1,25 +1,22 @@
 -- Joining one pair of pieces after another.
 use Rattle.std.proofs.Common.{◌≡◌, ℕ, suc, ◌+◌, ◌-◌, ◌*◌, ◌<◌, ◌≤◌, inl, inr, List, [], ◌∷◌, All, length, get_or, sym, ◌∙◌, subst, arith}
-use lib.IntN.{pos}
-use lib.Signed.{◌<ℤ◌}
 use Rattle.std.specs.Prelude.{IsPermutation}
 use Rattle.std.specs.List.{AllByRecursion}
 use Rattle.std.proofs.lemmas.Bool.{cases_lt}
 use Rattle.std.proofs.lemmas.List.{get_or_default}
 use Rattle.std.proofs.lemmas.List.Elements.{All-cons, All-head, All-tail, All-weaker, All-get_or, All-from_recursion, recursion_from_All}
 use Rattle.std.proofs.lemmas.List.Sorted.{All-permutation, IsPermutation-sym, IsPermutation-refl, IsPermutation-trans, length_permutation}
-use Rattle.scad_base.proofs.Products.{positive_product}
-use Rattle.std.proofs.lemmas.Int.{ints}
 use Rattle.scad_geom.specs.Point.{Point}
 use Rattle.scad_geom.specs.Balance.{starts_at, ends_at}
 use Rattle.scad_geom.specs.Limits.{coordinate_limit}
 use Rattle.slice_snap.specs.declared.piece.Spot.{Spot}
 use Rattle.slice_snap.specs.declared.piece.Piece.{Piece}
-use Rattle.slice_snap.specs.Spots.{point_of, IsSpotWithin}
+use Rattle.slice_snap.specs.Spots.{point_of}
 use Rattle.slice_snap.specs.Pieces.{ends_of, ways_of, HaveOneLevel, IsPieceWithin}
 use Rattle.slice_snap.specs.Merging.{joined, MeetAlone, AreMerged, all_joined, two_join}
 use Rattle.slice_snap.specs.Joining.{AreOfOneLevel, IsComparable, GoesOn, IsPassedOnce, IsStuck, IsNext, IsJoint, IsJoined}
 use Rattle.slice_snap.proofs.Stuck.{starts_permuted, ends_permuted, stays_stuck, none_meet_alone}
+use Rattle.slice_snap.proofs.SameSpots.{divisor_above}
 
 -- ---- what holds of all ends holds of both ends of each piece
 both_ends : (P : Spot → Type 0) (qs : List Piece) → AllByRecursion P (ends_of qs) → AllByRecursion (λ q. P q.from × P q.to) qs
@@ -45,12 +42,6 @@ comparable pieces i d l within levels =
     (of_pieces (λ s. All (AreOfOneLevel s) (ends_of pieces)) pieces levels.each) in
     let one = of_pieces (AreOfOneLevel q.to) pieces own.1 in
     λ k e m. record { within = within k e m; from = (one k e m).0; to = (one k e m).1 }
-
-pub divisor_above : (limit : ℕ) (s : Spot) → IsSpotWithin limit s → pos 0 <ℤ (point_of s).d
-divisor_above limit s w = positive_product s.at.d (pos s.run) w.level.positive (let h = w.positive in run_above s.run h)
-  where
-    run_above : (n : ℕ) → 0 < n → pos 0 <ℤ pos n
-    run_above n h = omega (arith, ints)
 
 -- ---- a pair is joined
 module _ (old new : List Piece) (f s : Piece) (others : List Piece) (m : MeetAlone old f s others) (r : IsPermutation new (joined f s ∷ others)) where

@@ -15,6 +15,7 @@ use Rattle.slice_snap.specs.Pieces.{way_of, ways_of}
 use Rattle.slice_snap.specs.Merging.{joined, MeetAlone, NoneMeetAlone}
 use Rattle.slice_snap.specs.Joining.{GoesOn, IsPassedOnce, IsStuck}
 use Rattle.winding_laws.proofs.Sameness.{are_same, same_by, are_same_on, are_same_turned, same_itself, same_through}
+use Rattle.std.specs.Cmp.{both_ways}
 
 -- ---- counts of pieces in another order
 pub starts_permuted : (p : Point) (qs rs : List Piece) → IsPermutation qs rs → starts_at p (ways_of qs) ≡ starts_at p (ways_of rs)
@@ -50,15 +51,10 @@ module _ (old new : List Piece) (f s : Piece) (others : List Piece) (m : MeetAlo
       ∙ ap (λ (n : ℕ). once (is_same_point p (point_of f.to)) + n) (sym (ends_permuted p new (joined f s ∷ others) r ∙ ends-cons p (way_of (joined f s)) (ways_of others)))
 
 -- ---- ends at the same point
-alike : (x y : Bool) → (x ≡ true → y ≡ true) → (y ≡ true → x ≡ true) → x ≡ y
-alike true y f g = sym (f refl)
-alike false true f g = g refl
-alike false false f g = refl
-
 point_alike : (p q r : Point) → pos 0 <ℤ p.d → pos 0 <ℤ q.d → is_same_point p q ≡ true → is_same_point p r ≡ is_same_point q r
 point_alike p q r dp dq h =
     let same = are_same p q h in
-    alike (is_same_point p r) (is_same_point q r)
+    both_ways (is_same_point p r) (is_same_point q r)
     (λ k. same_by q r (are_same_on q p r dp (are_same_turned p q same) (are_same p r k)))
     (λ k. same_by p r (are_same_on p q r dq same (are_same q r k)))
 

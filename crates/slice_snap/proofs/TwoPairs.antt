@@ -34,23 +34,20 @@ pub out : (x : Piece) (xs : List Piece) → Contains xs x → (rest : List Piece
 out x xs c = (remove xs c.0, IsPermutation-remove xs c.0 x c.1 (sym c.2))
 
 -- ---- one ends at a point
+too_many : (m n : ℕ) → m ≡ 1 + (1 + n) → m ≡ 1 → ⊥
+too_many m n h k = omega arith
+
 two_ends : (p : Point) (x y : Piece) (xs : List Piece) → ends_at p (ways_of (x ∷ xs)) ≡ 1 → is_same_point p (point_of x.to) ≡ true → Contains xs y → is_same_point p (point_of y.to) ≡ true → ⊥
 two_ends p x y xs one hx c hy =
     let o = out y xs c in
     let split = ends-cons p (way_of x) (ways_of xs) ∙ ap₂ (λ (b : Bool) (n : ℕ). once b + n) hx (ends_permuted p xs (y ∷ o.0) o.1 ∙ ends-cons p (way_of y) (ways_of o.0) ∙ ap (λ (b : Bool). once b + ends_at p (ways_of o.0)) hy) in
     too_many (ends_at p (ways_of (x ∷ xs))) (ends_at p (ways_of o.0)) split one
-  where
-    too_many : (m n : ℕ) → m ≡ 1 + (1 + n) → m ≡ 1 → ⊥
-    too_many m n h k = omega arith
 
 two_starts : (p : Point) (x y : Piece) (xs : List Piece) → starts_at p (ways_of (x ∷ xs)) ≡ 1 → is_same_point p (point_of x.from) ≡ true → Contains xs y → is_same_point p (point_of y.from) ≡ true → ⊥
 two_starts p x y xs one hx c hy =
     let o = out y xs c in
     let split = starts-cons p (way_of x) (ways_of xs) ∙ ap₂ (λ (b : Bool) (n : ℕ). once b + n) hx (starts_permuted p xs (y ∷ o.0) o.1 ∙ starts-cons p (way_of y) (ways_of o.0) ∙ ap (λ (b : Bool). once b + starts_at p (ways_of o.0)) hy) in
     too_many (starts_at p (ways_of (x ∷ xs))) (starts_at p (ways_of o.0)) split one
-  where
-    too_many : (m n : ℕ) → m ≡ 1 + (1 + n) → m ≡ 1 → ⊥
-    too_many m n h k = omega arith
 
 -- ---- two pairs that meet alone, at two points
 module _ (old : List Piece) (course : KeepCourse old) (f s : Piece) (others : List Piece) (m : MeetAlone old f s others) (g t : Piece) (more : List Piece) (n : MeetAlone old g t more) where

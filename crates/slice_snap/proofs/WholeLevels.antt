@@ -1,8 +1,6 @@
 -- Ends over the divisor 1 have one level where their heights are equal.
 use Rattle.std.proofs.Common.{◌≡◌, List, All, ap, ◌∙◌, sym}
 use lib.IntN.{ℤ, pos, ◌*ℤ◌}
-use Rattle.std.proofs.Common.{arith}
-use Rattle.std.proofs.lemmas.Int.{ints}
 use Rattle.std.proofs.lemmas.List.Elements.{All-weaker}
 use Rattle.scad_geom.specs.declared.level.Level.{Level}
 use Rattle.scad_geom.specs.Level.{IsSameHeight}
@@ -10,15 +8,13 @@ use Rattle.slice_snap.specs.declared.piece.Spot.{Spot}
 use Rattle.slice_snap.specs.declared.piece.Piece.{Piece}
 use Rattle.slice_snap.specs.Pieces.{ends_of, HaveOneLevel}
 use Rattle.slice_snap.proofs.Pairs.{of_ends}
+use Rattle.scad_geom.proofs.Signs.{mul-one}
 
 one_level : (p q : Level) → p.d ≡ pos 1 → q.d ≡ pos 1 → IsSameHeight p q → p ≡ q
 one_level p q h k e =
-    let n : p.n ≡ q.n = sym (one p.n) ∙ ap (λ (d : ℤ). p.n *ℤ d) (sym k) ∙ e ∙ ap (λ (d : ℤ). q.n *ℤ d) h ∙ one q.n in
+    let n : p.n ≡ q.n = sym (mul-one p.n) ∙ ap (λ (d : ℤ). p.n *ℤ d) (sym k) ∙ e ∙ ap (λ (d : ℤ). q.n *ℤ d) h ∙ mul-one q.n in
     let d : p.d ≡ q.d = h ∙ sym k in
     λ i. record { n = n i; d = d i }
-  where
-    one : (z : ℤ) → z *ℤ pos 1 ≡ z
-    one z = omega (arith, ints)
 
 pub whole_levels : (pieces : List Piece) → All (λ q. q.from.at.d ≡ pos 1) pieces → All (λ q. q.to.at.d ≡ pos 1) pieces → HaveOneLevel pieces
 whole_levels pieces starts ends =

@@ -1,18 +1,20 @@
 -- A point amid a segment lies on its line, strictly between the ends.
-use Rattle.std.proofs.Common.{◌≡◌, inl, inr, Bool, true, false, [], ◌∷◌, refl, sym, ap, ap₂, ◌∙◌, subst, arith}
+use Rattle.std.proofs.Common.{◌≡◌, inl, inr, [], ◌∷◌, refl, sym, ap, ap₂, ◌∙◌, arith}
 use lib.IntN.{ℤ, pos, ◌+ℤ◌, ◌-ℤ◌, ◌*ℤ◌, *ℤ_comm}
 use lib.Signed.{◌<ℤ◌}
 use Rattle.std.proofs.lemmas.Int.{ints, by_lt_z}
-use Rattle.scad_base.proofs.Products.{negative_factor, negative_product, positive_product, zero_factor}
+use Rattle.scad_base.proofs.Products.{positive_product, zero_factor}
 use Rattle.scad_geom.specs.Point.{Point, is_same_point}
 use Rattle.scad_geom.specs.Winding.{side_by}
 use Rattle.scad_geom.proofs.Ring.{ring, num, ◌⊕◌, ◌⊖◌, ◌⊗◌, v0, v1, v2, v3, v4, v5, v6, v7, v8, v9, v10, v11}
-use Rattle.scad_geom.proofs.Signs.{pos_left}
+use Rattle.scad_geom.proofs.Signs.{climbs, falls}
 use Rattle.winding_laws.specs.Nearness.{IsPoint}
 use Rattle.winding_laws.specs.Parts.{IsOn, IsBetween}
 use Rattle.winding_laws.specs.Approach.{IsAmid, AmidIsBetween}
 use Rattle.winding_laws.proofs.Sameness.{same_by}
 use Rattle.winding_laws.proofs.Between.{rise, bend, bend_side, exchanged}
+use Rattle.scad_base.proofs.Integers.{less_of_gap, less_of_fall, equal_of_gap}
+use Rattle.std.proofs.lemmas.Bool.{both_ways}
 
 -- ---- a point amid a segment lies between the ends
 rise_first : (a b p : Point) (o : IsOn a b p) → o.k *ℤ rise a p ≡ o.t *ℤ rise a b
@@ -40,23 +42,8 @@ on_line a b p da o =
     ∙ ap (λ (z : ℤ). z *ℤ a.d) (zero_factor (bend a b p) o.k o.positive (bend_none a b p o))
     ∙ ring (a.d ∷ []) (num (pos 0) ⊗ v0) (num (pos 0)) refl
 
-climbs : (k r t z : ℤ) → pos 0 <ℤ k → pos 0 <ℤ t → k *ℤ r ≡ t *ℤ z → pos 0 <ℤ z → pos 0 <ℤ r
-climbs k r t z kp tp e h = pos_left r k kp (subst (λ (y : ℤ). pos 0 <ℤ y) (sym (*ℤ_comm r k ∙ e)) (positive_product t z tp h))
-
-falls : (k r t z : ℤ) → pos 0 <ℤ k → pos 0 <ℤ t → k *ℤ r ≡ t *ℤ z → z <ℤ pos 0 → r <ℤ pos 0
-falls k r t z kp tp e h = negative_factor r k kp (subst (λ (y : ℤ). y <ℤ pos 0) (sym (*ℤ_comm r k ∙ e ∙ *ℤ_comm t z)) (negative_product z t tp h))
-
 stays : (k r t z : ℤ) → pos 0 <ℤ k → k *ℤ r ≡ t *ℤ z → z ≡ pos 0 → r ≡ pos 0
 stays k r t z kp e h = zero_factor r k kp (*ℤ_comm r k ∙ e ∙ ap (λ (y : ℤ). t *ℤ y) h ∙ ring (t ∷ []) (v0 ⊗ num (pos 0)) (num (pos 0)) refl)
-
-less_of_gap : (s t : ℤ) → pos 0 <ℤ (t -ℤ s) → s <ℤ t
-less_of_gap s t h = omega (arith, ints)
-
-more_of_gap : (s t : ℤ) → (t -ℤ s) <ℤ pos 0 → t <ℤ s
-more_of_gap s t h = omega (arith, ints)
-
-equal_of_gap : (s t : ℤ) → t -ℤ s ≡ pos 0 → s ≡ t
-equal_of_gap s t h = omega (arith, ints)
 
 -- by height, where the ends differ in height
 by_height : {A : Type 0} (a b p : Point) → IsAmid a b p → (IsBetween (λ q. q.y) a p b → A) → (rise a b ≡ pos 0 → A) → A
@@ -64,13 +51,13 @@ by_height {A = A} a b p h found level =
     let o = h.on in
     by_lt_z (pos 0) (rise a b)
     (λ up. found (inl (
-      less_of_gap (a.y *ℤ p.d) (p.y *ℤ a.d) (climbs o.k (rise a p) o.t (rise a b) o.positive h.second (rise_first a b p o) up),
-      less_of_gap (p.y *ℤ b.d) (b.y *ℤ p.d) (climbs o.k (rise p b) o.s (rise a b) o.positive h.first (rise_second a b p o) up),
+      less_of_gap (a.y *ℤ p.d) (p.y *ℤ a.d) (climbs o.k o.t (rise a p) (rise a b) o.positive h.second (rise_first a b p o) up),
+      less_of_gap (p.y *ℤ b.d) (b.y *ℤ p.d) (climbs o.k o.s (rise p b) (rise a b) o.positive h.first (rise_second a b p o) up),
     )))
     (λ m. by_lt_z (rise a b) (pos 0)
     (λ down. found (inr (
-      more_of_gap (p.y *ℤ b.d) (b.y *ℤ p.d) (falls o.k (rise p b) o.s (rise a b) o.positive h.first (rise_second a b p o) down),
-      more_of_gap (a.y *ℤ p.d) (p.y *ℤ a.d) (falls o.k (rise a p) o.t (rise a b) o.positive h.second (rise_first a b p o) down),
+      less_of_fall (b.y *ℤ p.d) (p.y *ℤ b.d) (falls o.k o.s (rise p b) (rise a b) o.positive h.first (rise_second a b p o) down),
+      less_of_fall (p.y *ℤ a.d) (a.y *ℤ p.d) (falls o.k o.t (rise a p) (rise a b) o.positive h.second (rise_first a b p o) down),
     )))
     (λ l. level (omega (arith, ints))))
 
@@ -83,23 +70,21 @@ amid_exchanged a b p h =
       second = h.second;
     }
 
--- nothing is true and false
-pub not_both : (b : Bool) → b ≡ true → b ≡ false → ⊥
-not_both true h k = cc
-not_both false h k = cc
-
 pub amid_is_between : AmidIsBetween
 amid_is_between a b p da db differ h = (
   on_line a b p da h.on,
   by_height a b p h (λ f. inl f)
       (λ level. by_height (exchanged a) (exchanged b) (exchanged p) (amid_exchanged a b p h)
       (λ f. inr (
-        equal_of_gap (a.y *ℤ p.d) (p.y *ℤ a.d) (stays h.on.k (rise a p) h.on.t (rise a b) h.on.positive (rise_first a b p h.on) level),
-        equal_of_gap (p.y *ℤ b.d) (b.y *ℤ p.d) (stays h.on.k (rise p b) h.on.s (rise a b) h.on.positive (rise_second a b p h.on) level),
+        sym (equal_of_gap (p.y *ℤ a.d) (a.y *ℤ p.d) (stays h.on.k (rise a p) h.on.t (rise a b) h.on.positive (rise_first a b p h.on) level)),
+        sym (equal_of_gap (b.y *ℤ p.d) (p.y *ℤ b.d) (stays h.on.k (rise p b) h.on.s (rise a b) h.on.positive (rise_second a b p h.on) level)),
         f,
       ))
-      (λ place. absurd (not_both (is_same_point a b)
-      (same_by a b (record { x = equal_of_gap (a.x *ℤ b.d) (b.x *ℤ a.d) place; y = equal_of_gap (a.y *ℤ b.d) (b.y *ℤ a.d) level })) differ))),
+      (λ place. absurd (both_ways (is_same_point a b) differ
+      (same_by a b (record {
+        x = sym (equal_of_gap (b.x *ℤ a.d) (a.x *ℤ b.d) place);
+        y = sym (equal_of_gap (b.y *ℤ a.d) (a.y *ℤ b.d) level);
+      }))))),
 )
 
 -- ---- three points of one segment lie on one line

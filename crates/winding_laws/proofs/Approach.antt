@@ -13,7 +13,7 @@ use Rattle.winding_laws.specs.Nearness.{seen_from, IsNear, IsPoint}
 use Rattle.winding_laws.specs.Parts.{IsOn}
 use Rattle.winding_laws.specs.Approach.{HasAmid, AmidIsAnywhere}
 use Rattle.winding_laws.proofs.Regions.{holds_as}
-use Rattle.scad_base.proofs.Integers.{at_most_of_less}
+use Rattle.scad_base.proofs.Integers.{at_most_of_less, both_positive}
 
 -- ---- boxes
 across_is : (n x y : ℤ) → n *ℤ x +ℤ pos 0 *ℤ y ≡ n *ℤ x
@@ -137,9 +137,6 @@ module _ (n : ℤ) (np : pos 0 <ℤ n) (a b p : Point) (da : IsPoint a) (db : Is
   above : (s e : ℤ) → pos 0 ≤ℤ s → pos 0 <ℤ e → pos 0 <ℤ (weight *ℤ s +ℤ o.k *ℤ e)
   above s e h g = let m = at_least_mul weight s weight_least h in let q = positive_product o.k e o.positive g in omega (arith, ints)
 
-  sum_above : (s t : ℤ) → pos 0 <ℤ s → pos 0 <ℤ t → pos 0 <ℤ (s +ℤ t)
-  sum_above s t h k = omega (arith, ints)
-
   has_amid : HasAmid n a b p
   has_amid =
       let hs : pos 0 <ℤ (weight *ℤ o.s +ℤ o.k *ℤ b.d) = above o.s b.d o.first db in
@@ -155,7 +152,7 @@ module _ (n : ℤ) (np : pos 0 <ℤ n) (a b p : Point) (da : IsPoint a) (db : Is
             positive = o.positive;
             first = at_most_of_less (pos 0) (weight *ℤ o.s +ℤ o.k *ℤ b.d) hs;
             second = at_most_of_less (pos 0) (weight *ℤ o.t +ℤ o.k *ℤ a.d) ht;
-            some = sum_above (weight *ℤ o.s +ℤ o.k *ℤ b.d) (weight *ℤ o.t +ℤ o.k *ℤ a.d) hs ht;
+            some = both_positive (weight *ℤ o.s +ℤ o.k *ℤ b.d) (weight *ℤ o.t +ℤ o.k *ℤ a.d) hs ht;
             x = one_number weight o.k o.s o.t a.d b.d p.x a.x b.x o.x;
             y = one_number weight o.k o.s o.t a.d b.d p.y a.y b.y o.y;
             d = one_number weight o.k o.s o.t a.d b.d p.d a.d b.d o.d;

@@ -1,8 +1,7 @@
 -- A point on the line of a segment, strictly between the ends, is a point of the segment.
-use Rattle.std.proofs.Common.{◌≡◌, inl, inr, [], ◌∷◌, refl, sym, ap, ◌∙◌, subst, arith}
+use Rattle.std.proofs.Common.{◌≡◌, inl, inr, [], ◌∷◌, refl, sym, ap, ◌∙◌, subst}
 use lib.IntN.{ℤ, pos, ◌+ℤ◌, ◌-ℤ◌, ◌*ℤ◌}
 use lib.Signed.{◌<ℤ◌}
-use Rattle.std.proofs.lemmas.Int.{ints}
 use Rattle.scad_base.proofs.Products.{positive_product, zero_factor}
 use Rattle.scad_geom.specs.Point.{Point}
 use Rattle.scad_geom.specs.Winding.{side_by}
@@ -10,7 +9,7 @@ use Rattle.scad_geom.proofs.Ring.{ring, num, ◌⊕◌, ◌⊖◌, ◌⊗◌, v0
 use Rattle.scad_geom.proofs.Signs.{pos_left}
 use Rattle.winding_laws.specs.Parts.{IsOn, IsBetween, BetweenIsOn}
 use Rattle.winding_laws.proofs.Parts.{on_turned}
-use Rattle.scad_base.proofs.Integers.{at_most_of_less, gap_of_less}
+use Rattle.scad_base.proofs.Integers.{at_most_of_less, gap_of_less, both_positive, equal_of_gap}
 
 -- how far p lies above a, over the product of the divisors
 abbrev pub rise : Point → Point → ℤ
@@ -33,12 +32,6 @@ bend_turned a b p =
     ((v1 ⊗ v8 ⊖ v7 ⊗ v2) ⊗ v3 ⊕ (v7 ⊗ v5 ⊖ v4 ⊗ v8) ⊗ v0 ⊖ (v1 ⊗ v5 ⊖ v4 ⊗ v2) ⊗ v6)
     (num (pos 0) ⊖ ((v4 ⊗ v8 ⊖ v7 ⊗ v5) ⊗ v0 ⊕ (v7 ⊗ v2 ⊖ v1 ⊗ v8) ⊗ v3 ⊖ (v4 ⊗ v2 ⊖ v1 ⊗ v5) ⊗ v6)) refl
 
-both : (s t : ℤ) → pos 0 <ℤ s → pos 0 <ℤ t → pos 0 <ℤ (s +ℤ t)
-both s t h k = omega (arith, ints)
-
-equal : (s t : ℤ) → s -ℤ t ≡ pos 0 → t ≡ s
-equal s t h = omega (arith, ints)
-
 pub rises : (a b p : Point) → rise a b *ℤ p.d ≡ rise p b *ℤ a.d +ℤ rise a p *ℤ b.d
 rises a b p = ring (a.y ∷ a.d ∷ b.y ∷ b.d ∷ p.y ∷ p.d ∷ []) ((v2 ⊗ v1 ⊖ v0 ⊗ v3) ⊗ v5) ((v2 ⊗ v5 ⊖ v4 ⊗ v3) ⊗ v1 ⊕ (v4 ⊗ v1 ⊖ v0 ⊗ v5) ⊗ v3) refl
 
@@ -53,11 +46,11 @@ on_way_up a b p da db dp e h g =
       k = rise a b;
       s = rise p b;
       t = rise a p;
-      positive = pos_left (rise a b) p.d dp (subst (λ (z : ℤ). pos 0 <ℤ z) (sym (rises a b p)) (both (rise p b *ℤ a.d) (rise a p *ℤ b.d) (positive_product (rise p b) a.d s da) (positive_product (rise a p) b.d t db)));
+      positive = pos_left (rise a b) p.d dp (subst (λ (z : ℤ). pos 0 <ℤ z) (sym (rises a b p)) (both_positive (rise p b *ℤ a.d) (rise a p *ℤ b.d) (positive_product (rise p b) a.d s da) (positive_product (rise a p) b.d t db)));
       first = at_most_of_less (pos 0) (rise p b) s;
       second = at_most_of_less (pos 0) (rise a p) t;
-      some = both (rise p b) (rise a p) s t;
-      x = equal (rise p b *ℤ a.x +ℤ rise a p *ℤ b.x) (rise a b *ℤ p.x) e;
+      some = both_positive (rise p b) (rise a p) s t;
+      x = sym (equal_of_gap (rise p b *ℤ a.x +ℤ rise a p *ℤ b.x) (rise a b *ℤ p.x) e);
       y = rises_on a b p;
       d = rises a b p;
     }

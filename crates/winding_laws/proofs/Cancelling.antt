@@ -1,5 +1,5 @@
 -- Edges and their opposites may be left out together.
-use Rattle.std.proofs.Common.{◌≡◌, ℕ, ◌+◌, Bool, List, [], ◌∷◌, ◌++◌, map, refl, sym, ap, ◌∙◌, arith}
+use Rattle.std.proofs.Common.{◌≡◌, ℕ, ◌+◌, Bool, List, [], ◌∷◌, ◌++◌, map, refl, sym, ap, ◌∙◌, arith, zero-add}
 use lib.IntN.{ℤ, pos, ◌+ℤ◌, ◌-ℤ◌}
 use lib.Signed.{◌<ℤ◌}
 use Rattle.std.proofs.lemmas.Int.{ints}
@@ -15,9 +15,6 @@ use Rattle.winding_laws.specs.Joining.{turned, CancellingKeepsBalance, Cancellin
 use Rattle.winding_laws.proofs.Views.{swing_turned, turn_seen}
 use Rattle.winding_laws.proofs.Order.{order_keeps_balance, wind-permuted, wind-append}
 
-one : pos 0 <ℤ pos 1
-one = omega (arith, ints)
-
 segments-append : (es fs : List Edge) → segments (es ++ fs) ≡ segments es ++ segments fs
 segments-append [] fs = refl
 segments-append (e ∷ es) fs = ap (λ (ss : List Segment). segment_of e ∷ ss) (segments-append es fs)
@@ -31,10 +28,7 @@ module _ (p : Point) where
   assoc a x y = omega arith
 
   starts-append : (ss ts : List Segment) → starts_at p (ss ++ ts) ≡ starts_at p ss + starts_at p ts
-  starts-append [] ts = nothing (starts_at p ts)
-    where
-      nothing : (n : ℕ) → n ≡ 0 + n
-      nothing n = omega arith
+  starts-append [] ts = sym (zero-add (starts_at p ts))
   starts-append (s ∷ ss) ts =
       starts-cons p s (ss ++ ts)
       ∙ ap (λ (n : ℕ). once (is_same_point p s.from) + n) (starts-append ss ts)
@@ -42,10 +36,7 @@ module _ (p : Point) where
       ∙ ap (λ (n : ℕ). n + starts_at p ts) (sym (starts-cons p s ss))
 
   ends-append : (ss ts : List Segment) → ends_at p (ss ++ ts) ≡ ends_at p ss + ends_at p ts
-  ends-append [] ts = nothing (ends_at p ts)
-    where
-      nothing : (n : ℕ) → n ≡ 0 + n
-      nothing n = omega arith
+  ends-append [] ts = sym (zero-add (ends_at p ts))
   ends-append (s ∷ ss) ts =
       ends-cons p s (ss ++ ts)
       ∙ ap (λ (n : ℕ). once (is_same_point p s.to) + n) (ends-append ss ts)
@@ -111,7 +102,7 @@ module _ (above right : Bool) (q : Point) (d : pos 0 <ℤ q.d) where
   wind-turned [] = refl
   wind-turned (e ∷ es) =
       opposite (turn above right q (whole e.a) (whole e.b)) (turn above right q (whole e.b) (whole e.a)) (winding (map turned es)) (winding es)
-      (turn_turned above right q (whole e.a) (whole e.b) d one one) (wind-turned es)
+      (turn_turned above right q (whole e.a) (whole e.b) d (omega (arith, ints)) (omega (arith, ints))) (wind-turned es)
 
   nothing_more : (w v u x : ℤ) → x ≡ w +ℤ (v +ℤ u) → u ≡ pos 0 -ℤ v → w ≡ x
   nothing_more w v u x h k = omega (arith, ints)

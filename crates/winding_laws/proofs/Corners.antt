@@ -7,7 +7,7 @@ use Rattle.std.proofs.lemmas.Int.{ints}
 use Rattle.scad_base.proofs.Products.{positive_product}
 use Rattle.scad_geom.specs.Point.{Point}
 use Rattle.scad_geom.proofs.Ring.{ring, num, ◌⊕◌, ◌⊖◌, ◌⊗◌, v0, v1, v2, v3, v4, v5, v6, v7, v8, v9, v10, v11, v12}
-use Rattle.scad_geom.proofs.Signs.{at_least_mul, sum_at_least}
+use Rattle.scad_geom.proofs.Signs.{at_least_mul, sum_at_least, sub_times_zero}
 use Rattle.winding_laws.specs.Region.{HalfPlane, Holds}
 use Rattle.winding_laws.specs.Nearness.{seen_from, IsNear}
 use Rattle.scad_geom.specs.Near.{mean}
@@ -16,6 +16,7 @@ use Rattle.winding_laws.proofs.Triangles.{IsRound}
 use Rattle.winding_laws.proofs.Regions.{scaled, added, holds_scaled, holds_added, holds_as}
 use Rattle.winding_laws.proofs.Weights.{some_of_three}
 use Rattle.scad_base.proofs.Integers.{at_most_of_less}
+use Rattle.std.proofs.Math.IntN.{+ℤ_comm}
 
 -- no point of the segment from a to b is one of the region's
 abbrev pub IsAway : List HalfPlane → Point → Point → Type 0
@@ -24,11 +25,8 @@ IsAway region a b = (s t : ℤ) → pos 0 ≤ℤ s → pos 0 ≤ℤ t → pos 0 
 -- turned round
 pub away_turned : (region : List HalfPlane) (a b : Point) → IsAway region a b → IsAway region b a
 away_turned region a b n s t hs ht o h =
-    n t s ht hs (swapped s t o) (holds_as region (mean s t b a) (mean t s a b) (sums (s *ℤ b.x) (t *ℤ a.x)) (sums (s *ℤ b.y) (t *ℤ a.y)) (sums (s *ℤ b.d) (t *ℤ a.d)) h)
+    n t s ht hs (swapped s t o) (holds_as region (mean s t b a) (mean t s a b) (+ℤ_comm (s *ℤ b.x) (t *ℤ a.x)) (+ℤ_comm (s *ℤ b.y) (t *ℤ a.y)) (+ℤ_comm (s *ℤ b.d) (t *ℤ a.d)) h)
   where
-    sums : (x y : ℤ) → x +ℤ y ≡ y +ℤ x
-    sums x y = omega (arith, ints)
-
     swapped : (s t : ℤ) → pos 0 <ℤ (s +ℤ t) → pos 0 <ℤ (t +ℤ s)
     swapped s t o = omega (arith, ints)
 
@@ -42,10 +40,7 @@ module _ (region : List HalfPlane) (a b p q r : Point) (da : pos 0 <ℤ a.d) (db
       ((v9 ⊗ v6 ⊖ v3 ⊗ v10) ⊗ (v0 ⊗ v12) ⊕ ((v11 ⊗ v7 ⊖ v4 ⊗ v12) ⊗ (v1 ⊗ v10) ⊕ (v11 ⊗ v8 ⊖ v5 ⊗ v12) ⊗ (v2 ⊗ v10)))
       (((v0 ⊗ (v6 ⊗ v12)) ⊗ v9 ⊕ (v1 ⊗ (v7 ⊗ v10) ⊕ v2 ⊗ (v8 ⊗ v10)) ⊗ v11) ⊖ (v10 ⊗ v12) ⊗ (v0 ⊗ v3 ⊕ (v1 ⊗ v4 ⊕ v2 ⊗ v5))) refl
       ∙ ap (λ (s : ℤ). ((u *ℤ (f *ℤ k)) *ℤ c +ℤ (v *ℤ (g *ℤ e) +ℤ w *ℤ (h *ℤ e)) *ℤ d) -ℤ (e *ℤ k) *ℤ s) o
-      ∙ nothing ((u *ℤ (f *ℤ k)) *ℤ c +ℤ (v *ℤ (g *ℤ e) +ℤ w *ℤ (h *ℤ e)) *ℤ d) (e *ℤ k)
-    where
-      nothing : (s t : ℤ) → s -ℤ t *ℤ pos 0 ≡ s
-      nothing s t = ring (s ∷ t ∷ []) (v0 ⊖ v1 ⊗ num (pos 0)) v0 refl
+      ∙ sub_times_zero ((u *ℤ (f *ℤ k)) *ℤ c +ℤ (v *ℤ (g *ℤ e) +ℤ w *ℤ (h *ℤ e)) *ℤ d) (e *ℤ k)
 
   weights : (u v w f g h e k : ℤ) → (e *ℤ f) *ℤ (u *ℤ k) +ℤ ((k *ℤ g) *ℤ (v *ℤ e) +ℤ (k *ℤ h) *ℤ (w *ℤ e)) ≡ (u *ℤ (f *ℤ k)) *ℤ e +ℤ (v *ℤ (g *ℤ e) +ℤ w *ℤ (h *ℤ e)) *ℤ k
   weights u v w f g h e k =

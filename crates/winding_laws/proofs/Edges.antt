@@ -1,5 +1,5 @@
 -- How the turn of a segment changes where its ends are moved.
-use Rattle.std.proofs.Common.{◌≡◌, Bool, List, sym, ap₂, ◌∙◌, subst, arith}
+use Rattle.std.proofs.Common.{◌≡◌, Bool, List, [], ◌∷◌, sym, ap₂, ◌∙◌, subst, arith}
 use lib.IntN.{ℤ, pos, ◌+ℤ◌, ◌-ℤ◌}
 use lib.Signed.{◌<ℤ◌}
 use Rattle.std.proofs.lemmas.Int.{ints}
@@ -7,16 +7,23 @@ use Rattle.scad_base.proofs.Products.{positive_product}
 use Rattle.scad_geom.specs.Point.{Point}
 use Rattle.scad_geom.specs.Winding.{turn}
 use Rattle.winding_laws.specs.Region.{HalfPlane, Holds, HoldsOrigin}
-use Rattle.winding_laws.specs.Nearness.{seen_from, IsNear, IsFar}
+use Rattle.winding_laws.specs.Nearness.{seen_from, IsNear, IsFar, IsProper, IsFarSegment}
 use Rattle.winding_laws.proofs.Views.{swing, swing_turned, turn_seen}
 use Rattle.winding_laws.proofs.Triangles.{triangle}
 use Rattle.winding_laws.proofs.Regions.{near_itself, near_seen, mean_seen}
 use Rattle.winding_laws.proofs.Corners.{IsAway, away_turned, not_round}
 use Rattle.scad_geom.proofs.Signs.{square_at_least}
+use Rattle.std.specs.List.{AllByRecursion}
+use Rattle.scad_geom.specs.Segment.{Segment}
 
 -- what is clear of a point is away from the origin as the point sees it
 pub clear_seen : (region : List HalfPlane) (q a b : Point) → IsFar region q a b → IsAway region (seen_from q a) (seen_from q b)
 clear_seen region q a b n s t hs ht o h = n s t hs ht o (subst (Holds region) (mean_seen q a b s t) h)
+
+-- far segments have positive divisors
+pub far_proper : (region : List HalfPlane) (q : Point) (ss : List Segment) → AllByRecursion (IsFarSegment region q) ss → AllByRecursion IsProper ss
+far_proper region q [] h = tt
+far_proper region q (s ∷ ss) h = (h.0.proper, far_proper region q ss h.1)
 
 by_triangles : (ab bc ca cd da ad dc : ℤ) → ab +ℤ (bc +ℤ ca) ≡ pos 0 → dc +ℤ (da +ℤ ad) ≡ pos 0 → ca ≡ pos 0 -ℤ ad → dc ≡ pos 0 -ℤ cd → cd ≡ ab +ℤ (bc +ℤ da)
 by_triangles ab bc ca cd da ad dc h k e f = omega (arith, ints)

@@ -16,17 +16,20 @@ use Rattle.scad_geom.proofs.Ring.{ring, num, ◌⊕◌, ◌⊖◌, ◌⊗◌, v0
 use Rattle.scad_geom.proofs.Sums.{sum_z}
 use Rattle.scad_geom.proofs.Turns.{beyond_mul}
 use Rattle.winding_laws.specs.Region.{HalfPlane, HoldsOrigin}
-use Rattle.winding_laws.specs.Nearness.{IsPoint, seen_from, IsProper, IsFarSegment}
+use Rattle.winding_laws.specs.Nearness.{IsPoint, seen_from, IsFarSegment}
 use Rattle.winding_laws.specs.OneWinding.{FormsWindAlike}
 use Rattle.winding_laws.proofs.Views.{cross, swing, swing_turned, turn_seen, IsAlong}
 use Rattle.winding_laws.proofs.Regions.{scaled, holds_scaled, holds_as}
 use Rattle.winding_laws.proofs.Corners.{IsAway, away_turned}
-use Rattle.winding_laws.proofs.Edges.{clear_seen}
+use Rattle.winding_laws.proofs.Edges.{clear_seen, far_proper}
 use Rattle.winding_laws.proofs.Sameness.{are_same, along_seen}
-use Rattle.winding_laws.proofs.Totals.{starts, ends, balanced_totals}
+use Rattle.winding_laws.proofs.Totals.{starts, ends, balanced_totals, sums_apart, equal_by_gaps}
 use Rattle.winding_laws.proofs.Triangles.{flat}
 use Rattle.winding_laws.proofs.Weights.{some_weight}
-use Rattle.scad_base.proofs.Integers.{at_most_of_less}
+use Rattle.scad_base.proofs.Integers.{at_most_of_less, zero_between}
+use Rattle.std.proofs.Math.IntN.{zero-*ℤ}
+use Rattle.scad_geom.proofs.Signs.{one-mul}
+use Rattle.std.specs.Cmp.{both_ways}
 
 -- ---- no mean of the ends lies at the origin
 not_through : (region : List HalfPlane) → HoldsOrigin region → (a b : Point) → IsPoint a → IsPoint b → IsAway region a b → (s t : ℤ) → pos 0 ≤ℤ s → pos 0 ≤ℤ t → pos 0 <ℤ (s +ℤ t)
@@ -34,21 +37,10 @@ not_through : (region : List HalfPlane) → HoldsOrigin region → (a b : Point)
 not_through region o a b da db away s t hs ht more x y =
     let w : ℤ = s *ℤ a.d +ℤ t *ℤ b.d in
     away s t hs ht more
-    (holds_as region (scaled (record { x = pos 0; y = pos 0; d = pos 1 }) w) (mean s t a b) (zero_times w ∙ sym x) (zero_times w ∙ sym y) (one_times w)
+    (holds_as region (scaled (record { x = pos 0; y = pos 0; d = pos 1 }) w) (mean s t a b) (zero-*ℤ w ∙ sym x) (zero-*ℤ w ∙ sym y) (one-mul w)
     (holds_scaled region (record { x = pos 0; y = pos 0; d = pos 1 }) w (at_most_of_less (pos 0) w (some_weight s t a.d b.d hs ht more da db)) o))
-  where
-    zero_times : (k : ℤ) → pos 0 *ℤ k ≡ pos 0
-    zero_times k = ring (k ∷ []) (num (pos 0) ⊗ v0) (num (pos 0)) refl
-
-    one_times : (k : ℤ) → pos 1 *ℤ k ≡ k
-    one_times k = omega (arith, ints)
 
 -- ---- tests
-test_equal : (b c : Bool) → (b ≡ true → c ≡ true) → (c ≡ true → b ≡ true) → b ≡ c
-test_equal true c f g = sym (f refl)
-test_equal false true f g = g refl
-test_equal false false f g = refl
-
 -- hard by on the left and on the right a test differs at 0 alone
 beyond_forms : (right : Bool) (z : ℤ) → (z ≡ pos 0 → ⊥) → is_beyond right z ≡ is_beyond true z
 unfolding is_beyond
@@ -63,17 +55,14 @@ beyond_forms false z n = by_lt_z (pos 0) z
     let s : int_le (pos 0) z ≡ false = sym (omega (arith, ints)) in
     let t : int_lt (pos 0) z ≡ false = sym (omega (arith, ints)) in
     s ∙ sym t)
-    (λ k. absurd (n (both z h k))))
-  where
-    both : (z : ℤ) → z ≤ℤ pos 0 → pos 0 ≤ℤ z → z ≡ pos 0
-    both z h k = omega (arith, ints)
+    (λ k. absurd (n (zero_between z k h))))
 
-beyond_above : (above : Bool) (z : ℤ) → pos 0 <ℤ z → is_beyond above z ≡ true
+pub beyond_above : (above : Bool) (z : ℤ) → pos 0 <ℤ z → is_beyond above z ≡ true
 unfolding is_beyond
 beyond_above true z h = sym (omega (arith, ints))
 beyond_above false z h = sym (omega (arith, ints))
 
-beyond_below : (above : Bool) (z : ℤ) → z <ℤ pos 0 → is_beyond above z ≡ false
+pub beyond_below : (above : Bool) (z : ℤ) → z <ℤ pos 0 → is_beyond above z ≡ false
 unfolding is_beyond
 beyond_below true z h = sym (omega (arith, ints))
 beyond_below false z h = sym (omega (arith, ints))
@@ -107,9 +96,6 @@ apart false y z h k =
     let t : int_le (pos 0) z ≡ true = k in
     omega (arith, ints)
 
-one_mul : (z : ℤ) → pos 1 *ℤ z ≡ z
-one_mul z = omega (arith, ints)
-
 module _ (region : List HalfPlane) (o : HoldsOrigin region) where
   -- ---- right and left: a segment off the origin that passes its height passes it on one side
   crossing : (above : Bool) (a b : Point) → IsPoint a → IsPoint b → IsAway region a b → is_beyond above a.y ≡ false → is_beyond above b.y ≡ true → cross a b ≡ pos 0 → ⊥
@@ -127,7 +113,7 @@ module _ (region : List HalfPlane) (o : HoldsOrigin region) where
   rising above right a b da db away ha hb =
       rw (ha, hb)
       (ap (λ (u : Bool). if u then pos 1 else pos 0)
-      (ap (is_beyond right) (one_mul (cross a b)) ∙ beyond_forms right (cross a b) (crossing above a b da db away ha hb) ∙ sym (ap (is_beyond true) (one_mul (cross a b)))))
+      (ap (is_beyond right) (one-mul (cross a b)) ∙ beyond_forms right (cross a b) (crossing above a b da db away ha hb) ∙ sym (ap (is_beyond true) (one-mul (cross a b)))))
 
   level : (above right : Bool) (a b : Point) (s : Bool) → is_beyond above a.y ≡ s → is_beyond above b.y ≡ s → swing above right a b ≡ pos 0
   unfolding swing
@@ -161,7 +147,7 @@ module _ (region : List HalfPlane) (o : HoldsOrigin region) where
 
   rise_value : (above : Bool) (a b : Point) → is_beyond above a.y ≡ false → is_beyond above b.y ≡ true → swing above true a b ≡ counted (is_beyond true (cross a b))
   unfolding swing
-  rise_value above a b ha hb = rw (ha, hb) (ap (λ (z : ℤ). counted (is_beyond true z)) (one_mul (cross a b)))
+  rise_value above a b ha hb = rw (ha, hb) (ap (λ (z : ℤ). counted (is_beyond true z)) (one-mul (cross a b)))
 
   by_sign : {A : Type 0} (z : ℤ) → (z <ℤ pos 0 → A) → (z ≡ pos 0 → A) → (pos 0 <ℤ z → A) → A
   by_sign z neg zero more = by_lt_z z (pos 0) neg (λ h. by_lt_z (pos 0) z more (λ k. zero (omega (arith, ints))))
@@ -223,7 +209,7 @@ module _ (region : List HalfPlane) (o : HoldsOrigin region) where
   both_level : (a b : Point) → IsPoint a → IsPoint b → IsAway region a b → a.y ≡ pos 0 → b.y ≡ pos 0 → Steps a b
   both_level a b da db away ha hb =
       let same : is_beyond true a.x ≡ is_beyond true b.x =
-      test_equal (is_beyond true a.x) (is_beyond true b.x) (one_side a b da db away ha hb) (one_side b a db da (away_turned region a b away) hb ha) in
+      both_ways (is_beyond true a.x) (is_beyond true b.x) (one_side a b da db away ha hb) (one_side b a db da (away_turned region a b away) hb ha) in
       from_parts _ _ _ _ (pos 0) (pos 0) (counted (is_beyond true b.x)) (counted (is_beyond true b.x))
       (level true true a b false (at_zero_strict a.y ha) (at_zero_strict b.y hb)) (level false true a b true (at_zero_weak a.y ha) (at_zero_weak b.y hb))
       (ahead_level a ha ∙ ap counted same) (ahead_level b hb) (sym (itself (counted (is_beyond true b.x))))
@@ -274,27 +260,17 @@ module _ (region : List HalfPlane) (o : HoldsOrigin region) where
         ap₂ (λ (y z : ℤ). y -ℤ z) (turn_seen true true q s.from s.to dq h.proper.from) (turn_seen false true q s.from s.to dq h.proper.from)
         ∙ steps (seen_from q s.from) (seen_from q s.to) (positive_product s.from.d q.d h.proper.from dq) (positive_product s.to.d q.d h.proper.to dq) (clear_seen region q s.from s.to h.far)
 
-    sums : (t f x y w v c e : ℤ) → t -ℤ f ≡ x -ℤ y → w -ℤ v ≡ c -ℤ e → (t +ℤ w) -ℤ (f +ℤ v) ≡ (x +ℤ c) -ℤ (y +ℤ e)
-    sums t f x y w v c e h k = omega (arith, ints)
-
     list_steps : (ss : List Segment) → AllByRecursion (IsFarSegment region q) ss → wind_by true true q ss -ℤ wind_by false true q ss ≡ sum_z ahead_of (starts ss) -ℤ sum_z ahead_of (ends ss)
     list_steps [] h = refl
     list_steps (s ∷ ss) h =
-        sums (turn true true q s.from s.to) (turn false true q s.from s.to) (ahead_of s.from) (ahead_of s.to) (wind_by true true q ss) (wind_by false true q ss) (sum_z ahead_of (starts ss)) (sum_z ahead_of (ends ss))
+        sums_apart (turn true true q s.from s.to) (turn false true q s.from s.to) (ahead_of s.from) (ahead_of s.to) (wind_by true true q ss) (wind_by false true q ss) (sum_z ahead_of (starts ss)) (sum_z ahead_of (ends ss))
         (edge_steps s h.0) (list_steps ss h.1)
-
-    proper : (ss : List Segment) → AllByRecursion (IsFarSegment region q) ss → AllByRecursion IsProper ss
-    proper [] h = tt
-    proper (s ∷ ss) h = (h.0.proper, proper ss h.1)
-
-    equal : (t f x y : ℤ) → t -ℤ f ≡ x -ℤ y → x ≡ y → f ≡ t
-    equal t f x y h k = omega (arith, ints)
 
     alike : (above right : Bool) (ss : List Segment) → IsBalanced ss → AllByRecursion (IsFarSegment region q) ss → wind_by above right q ss ≡ wind q ss
     alike true right ss b h = list_sideways true right ss h
     alike false right ss b h =
         list_sideways false right ss h
-        ∙ equal (wind_by true true q ss) (wind_by false true q ss) (sum_z ahead_of (starts ss)) (sum_z ahead_of (ends ss)) (list_steps ss h) (balanced_totals ahead_of ahead_same ss (proper ss h) b)
+        ∙ sym (equal_by_gaps (wind_by true true q ss) (wind_by false true q ss) (sum_z ahead_of (starts ss)) (sum_z ahead_of (ends ss)) (list_steps ss h) (balanced_totals ahead_of ahead_same ss (far_proper region q ss h) b))
 
 pub forms_wind_alike : FormsWindAlike
 forms_wind_alike region o above right q d ss b h = alike region o q d above right ss b (recursion_from_All (IsFarSegment region q) ss h)

@@ -15,6 +15,7 @@ use Rattle.winding_laws.proofs.Views.{cross, swing, swing_turned, turn_seen}
 use Rattle.winding_laws.proofs.Triangles.{IsRound, triangle}
 use Rattle.winding_laws.proofs.Sameness.{same_itself, same_through, turn_same}
 use Rattle.winding_laws.proofs.Weights.{some_of_three}
+use Rattle.std.proofs.Math.IntN.{zero-*ℤ}
 
 -- ---- balance
 counts : (a m n b x y s t : ℕ) → s ≡ a + (n + x) → t ≡ m + (b + y) → s ≡ t → m ≡ n → a + x ≡ b + y
@@ -51,9 +52,6 @@ area_seen q a m b =
     ⊕ ((v0 ⊗ v11 ⊖ v9 ⊗ v2) ⊗ (v4 ⊗ v11 ⊖ v10 ⊗ v5) ⊖ (v1 ⊗ v11 ⊖ v10 ⊗ v2) ⊗ (v3 ⊗ v11 ⊖ v9 ⊗ v5)) ⊗ (v8 ⊗ v11))) ⊗ v2)
     (((v6 ⊗ v2 ⊖ v0 ⊗ v8) ⊗ (v4 ⊗ v2 ⊖ v1 ⊗ v5) ⊖ (v7 ⊗ v2 ⊖ v1 ⊗ v8) ⊗ (v3 ⊗ v2 ⊖ v0 ⊗ v5)) ⊗ (num (pos 0) ⊖ v11 ⊗ (v11 ⊗ v11))) refl
 
-zero_times : (k : ℤ) → pos 0 *ℤ k ≡ pos 0
-zero_times k = ring (k ∷ []) (num (pos 0) ⊗ v0) (num (pos 0)) refl
-
 by_triangle : (am mb ba ab : ℤ) → am +ℤ (mb +ℤ ba) ≡ pos 0 → ba ≡ pos 0 -ℤ ab → am +ℤ mb ≡ ab
 by_triangle am mb ba ab h e = omega (arith, ints)
 
@@ -77,7 +75,7 @@ line_turn above right q a m b dq da dm db h =
     let eb : pos 0 <ℤ sb.d = positive_product b.d q.d db dq in
     let none : cross sm sb *ℤ sa.d +ℤ (cross sb sa *ℤ sm.d +ℤ cross sa sm *ℤ sb.d) ≡ pos 0 =
     zero_factor (cross sm sb *ℤ sa.d +ℤ (cross sb sa *ℤ sm.d +ℤ cross sa sm *ℤ sb.d)) a.d da
-    (area_seen q a m b ∙ ap (λ (s : ℤ). s *ℤ (pos 0 -ℤ q.d *ℤ (q.d *ℤ q.d))) h ∙ zero_times (pos 0 -ℤ q.d *ℤ (q.d *ℤ q.d))) in
+    (area_seen q a m b ∙ ap (λ (s : ℤ). s *ℤ (pos 0 -ℤ q.d *ℤ (q.d *ℤ q.d))) h ∙ zero-*ℤ (pos 0 -ℤ q.d *ℤ (q.d *ℤ q.d))) in
     ap₂ (λ (s t : ℤ). s +ℤ t) (turn_seen above right q a m dq da) (turn_seen above right q m b dq dm)
     ∙ by_triangle (swing above right sa sm) (swing above right sm sb) (swing above right sb sa) (swing above right sa sb)
     (triangle above right sa sm sb (flat_not_round sa sm sb ea em eb none) (flat_not_round sa sb sm ea eb em (turned_area sa sm sb none)))

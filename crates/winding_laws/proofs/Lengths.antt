@@ -14,9 +14,6 @@ use Rattle.scad_geom.proofs.Turns.{flat_turn}
 use Rattle.winding_laws.specs.Rounded.{has_length, LengthsKeepBalance, LengthsKeepWinding}
 use Rattle.winding_laws.proofs.Sameness.{same_itself, same_through, turn_same}
 
-one : pos 0 <ℤ pos 1
-one = omega (arith, ints)
-
 -- ---- balance
 module _ (p : Point) (d : pos 0 <ℤ p.d) where
   abbrev started : List Edge → ℕ
@@ -43,7 +40,7 @@ module _ (p : Point) (d : pos 0 <ℤ p.d) where
       by_test true t more =
           more m n
           (dropped m n (once (is_same_point p (whole e.a))) (once (is_same_point p (whole e.b))) (started es) (ended es) (started (e ∷ es)) (ended (e ∷ es))
-          (starts-cons p (segment_of e) (segments es)) (ends-cons p (segment_of e) (segments es)) (ap once (same_through p (whole e.a) (whole e.b) one one t)) h)
+          (starts-cons p (segment_of e) (segments es)) (ends-cons p (segment_of e) (segments es)) (ap once (same_through p (whole e.a) (whole e.b) (omega (arith, ints)) (omega (arith, ints)) t)) h)
       by_test false t more =
           back m n (once (is_same_point p (whole e.a))) (once (is_same_point p (whole e.b))) (started (filter has_length es)) (ended (filter has_length es)) (started (e ∷ filter has_length es)) (ended (e ∷ filter has_length es))
           (starts-cons p (segment_of e) (segments (filter has_length es))) (ends-cons p (segment_of e) (segments (filter has_length es)))
@@ -75,5 +72,5 @@ lengths_keep_winding (e ∷ es) above right q d = by_test (is_same_point (whole 
         → wind_by above right q (segments (cond (not t) (e ∷ filter has_length es) (filter has_length es))) ≡ wind_by above right q (segments (e ∷ es))
     by_test true t h =
         h ∙ sym (+ℤ_idl (wind_by above right q (segments es)))
-        ∙ ap (λ (z : ℤ). z +ℤ wind_by above right q (segments es)) (sym (empty_turn above right q (whole e.a) (whole e.b) d one one t))
+        ∙ ap (λ (z : ℤ). z +ℤ wind_by above right q (segments es)) (sym (empty_turn above right q (whole e.a) (whole e.b) d (omega (arith, ints)) (omega (arith, ints)) t))
     by_test false t h = ap (λ (z : ℤ). turn above right q (whole e.a) (whole e.b) +ℤ z) h

@@ -15,7 +15,7 @@ use Rattle.winding_laws.specs.Approach.{LinesAreAll}
 use Rattle.winding_laws.proofs.Parts.{on_turned, parts_are_on, parts_are_all}
 use Rattle.winding_laws.proofs.Between.{rise, bend, bend_side, bend_turned, rises, rises_on, exchanged, side_exchanged, on_exchanged}
 use Rattle.winding_laws.proofs.Weights.{some_weight}
-use Rattle.scad_base.proofs.Integers.{at_most_of_less}
+use Rattle.scad_base.proofs.Integers.{at_most_of_less, equal_of_gap, zero_between}
 
 -- ---- the ends
 only_first : (x y : ℤ) → pos 1 *ℤ x ≡ pos 1 *ℤ x +ℤ pos 0 *ℤ y
@@ -45,16 +45,10 @@ Either a m b p = IsOn a m p ⊎ IsOn m b p
 
 -- one number of three points on one line, with one of them alone
 alone_last : (u v w x y z : ℤ) → u *ℤ x +ℤ v *ℤ y -ℤ w *ℤ z ≡ pos 0 → v *ℤ y ≡ (pos 0 -ℤ u) *ℤ x +ℤ w *ℤ z
-alone_last u v w x y z h = equal (v *ℤ y) ((pos 0 -ℤ u) *ℤ x +ℤ w *ℤ z) (ring (u ∷ v ∷ w ∷ x ∷ y ∷ z ∷ []) (v1 ⊗ v4 ⊖ ((num (pos 0) ⊖ v0) ⊗ v3 ⊕ v2 ⊗ v5)) (v0 ⊗ v3 ⊕ v1 ⊗ v4 ⊖ v2 ⊗ v5) refl ∙ h)
-  where
-    equal : (s t : ℤ) → s -ℤ t ≡ pos 0 → s ≡ t
-    equal s t h = omega (arith, ints)
+alone_last u v w x y z h = equal_of_gap (v *ℤ y) ((pos 0 -ℤ u) *ℤ x +ℤ w *ℤ z) (ring (u ∷ v ∷ w ∷ x ∷ y ∷ z ∷ []) (v1 ⊗ v4 ⊖ ((num (pos 0) ⊖ v0) ⊗ v3 ⊕ v2 ⊗ v5)) (v0 ⊗ v3 ⊕ v1 ⊗ v4 ⊖ v2 ⊗ v5) refl ∙ h)
 
 alone_first : (u v w x y z : ℤ) → u *ℤ x +ℤ v *ℤ y -ℤ w *ℤ z ≡ pos 0 → u *ℤ x ≡ w *ℤ z +ℤ (pos 0 -ℤ v) *ℤ y
-alone_first u v w x y z h = equal (u *ℤ x) (w *ℤ z +ℤ (pos 0 -ℤ v) *ℤ y) (ring (u ∷ v ∷ w ∷ x ∷ y ∷ z ∷ []) (v0 ⊗ v3 ⊖ (v2 ⊗ v5 ⊕ (num (pos 0) ⊖ v1) ⊗ v4)) (v0 ⊗ v3 ⊕ v1 ⊗ v4 ⊖ v2 ⊗ v5) refl ∙ h)
-  where
-    equal : (s t : ℤ) → s -ℤ t ≡ pos 0 → s ≡ t
-    equal s t h = omega (arith, ints)
+alone_first u v w x y z h = equal_of_gap (u *ℤ x) (w *ℤ z +ℤ (pos 0 -ℤ v) *ℤ y) (ring (u ∷ v ∷ w ∷ x ∷ y ∷ z ∷ []) (v0 ⊗ v3 ⊖ (v2 ⊗ v5 ⊕ (num (pos 0) ⊖ v1) ⊗ v4)) (v0 ⊗ v3 ⊕ v1 ⊗ v4 ⊖ v2 ⊗ v5) refl ∙ h)
 
 alone_middle : (u v w x y z : ℤ) → u *ℤ x +ℤ v *ℤ y -ℤ w *ℤ z ≡ pos 0 → w *ℤ z ≡ u *ℤ x +ℤ v *ℤ y
 alone_middle u v w x y z h = omega (arith, ints)
@@ -121,7 +115,7 @@ module _ (a m b p : Point) (da : IsPoint a) (dm : IsPoint m) (db : IsPoint b) (u
       let some : pos 0 <ℤ (rise m b +ℤ rise a m) =
       by_lt_z (pos 0) (rise m b) (λ g. omega (arith, ints))
       (λ g. by_lt_z (pos 0) (rise a m) (λ f. omega (arith, ints))
-      (λ f. absurd (none (rise m b) (rise a m) a.d b.d (both g h) (both f k) (subst (λ (z : ℤ). pos 0 <ℤ z) sum all)))) in
+      (λ f. absurd (none (rise m b) (rise a m) a.d b.d (zero_between _ h g) (zero_between _ k f) (subst (λ (z : ℤ). pos 0 <ℤ z) sum all)))) in
       parts_are_all a b m p
       (record {
         k = rise a b;
@@ -137,9 +131,6 @@ module _ (a m b p : Point) (da : IsPoint a) (dm : IsPoint m) (db : IsPoint b) (u
       })
       o
     where
-      both : {z : ℤ} → z ≤ℤ pos 0 → pos 0 ≤ℤ z → z ≡ pos 0
-      both h k = omega (arith, ints)
-
       none : (u v x y : ℤ) → u ≡ pos 0 → v ≡ pos 0 → pos 0 <ℤ (u *ℤ x +ℤ v *ℤ y) → ⊥
       none u v x y hu hv h =
           let z : u *ℤ x +ℤ v *ℤ y ≡ pos 0 = ap₂ (λ (s t : ℤ). s *ℤ x +ℤ t *ℤ y) hu hv ∙ ring (x ∷ y ∷ []) (num (pos 0) ⊗ v0 ⊕ num (pos 0) ⊗ v1) (num (pos 0)) refl in
@@ -185,15 +176,12 @@ at_one a m b p da db h g o =
     same : (d e : ℤ) → e *ℤ d -ℤ d *ℤ e ≡ pos 0
     same d e = ring (d ∷ e ∷ []) (v1 ⊗ v0 ⊖ v0 ⊗ v1) (num (pos 0)) refl
 
-    equal : (s t : ℤ) → s -ℤ t ≡ pos 0 → s ≡ t
-    equal s t h = omega (arith, ints)
-
     one_number : (k s t d e x y p m : ℤ) → y *ℤ d -ℤ x *ℤ e ≡ pos 0 → k *ℤ p ≡ s *ℤ x +ℤ t *ℤ y → (d *ℤ k) *ℤ p ≡ (s *ℤ d +ℤ t *ℤ e) *ℤ x +ℤ pos 0 *ℤ m
     one_number k s t d e x y p m h q =
         ring (d ∷ k ∷ p ∷ []) ((v0 ⊗ v1) ⊗ v2) (v0 ⊗ (v1 ⊗ v2)) refl
         ∙ ap (λ (z : ℤ). d *ℤ z) q
         ∙ ring (d ∷ s ∷ x ∷ t ∷ y ∷ []) (v0 ⊗ (v1 ⊗ v2 ⊕ v3 ⊗ v4)) ((v1 ⊗ v0) ⊗ v2 ⊕ v3 ⊗ (v4 ⊗ v0)) refl
-        ∙ ap (λ (z : ℤ). (s *ℤ d) *ℤ x +ℤ t *ℤ z) (equal (y *ℤ d) (x *ℤ e) h)
+        ∙ ap (λ (z : ℤ). (s *ℤ d) *ℤ x +ℤ t *ℤ z) (equal_of_gap (y *ℤ d) (x *ℤ e) h)
         ∙ ring (s ∷ d ∷ x ∷ t ∷ e ∷ m ∷ []) ((v0 ⊗ v1) ⊗ v2 ⊕ v3 ⊗ (v2 ⊗ v4)) ((v0 ⊗ v1 ⊕ v3 ⊗ v4) ⊗ v2 ⊕ num (pos 0) ⊗ v5) refl
 
 pub lines_are_all : LinesAreAll

@@ -1,6 +1,6 @@
 -- Moving the ends of a balanced list.
 use Rattle.std.proofs.Common.{◌≡◌, ℕ, ◌+◌, Bool, true, List, [], ◌∷◌, map, refl, sym, ap, ◌∙◌, arith}
-use lib.IntN.{ℤ, pos, ◌+ℤ◌, ◌-ℤ◌}
+use lib.IntN.{ℤ, pos, ◌+ℤ◌}
 use lib.Signed.{◌<ℤ◌}
 use Rattle.std.specs.List.{AllByRecursion}
 use Rattle.std.proofs.lemmas.Int.{ints}
@@ -15,8 +15,8 @@ use Rattle.winding_laws.specs.Region.{HalfPlane, HoldsOrigin}
 use Rattle.winding_laws.specs.Nearness.{IsPoint, IsProper, IsFarSegment}
 use Rattle.winding_laws.specs.Moves.{IsMove, MovesWithin, moved, MovesKeepBalance, MovesKeepWinding}
 use Rattle.winding_laws.proofs.Sameness.{same_through, turn_same}
-use Rattle.winding_laws.proofs.Edges.{moved_turn}
-use Rattle.winding_laws.proofs.Totals.{starts, ends, balanced_totals}
+use Rattle.winding_laws.proofs.Edges.{moved_turn, far_proper}
+use Rattle.winding_laws.proofs.Totals.{starts, ends, balanced_totals, sums_changed, equal_by_sums}
 
 -- ---- balance
 starts-moved : (r : Point → Point) (p : Point) (ss : List Segment) → pos (starts_at p (map (moved r) ss)) ≡ sum_z (λ q. pos (once (is_same_point p (r q)))) (starts ss)
@@ -63,30 +63,20 @@ module _ (region : List HalfPlane) (o : HoldsOrigin region) (above right : Bool)
   abbrev IsFarHere : Segment → Type 0
   IsFarHere s = IsFarSegment region q s
 
-  proper : (ss : List Segment) → AllByRecursion IsFarHere ss → AllByRecursion IsProper ss
-  proper [] h = tt
-  proper (s ∷ ss) h = (h.0.proper, proper ss h.1)
-
-  sums : (t u a b w v c d : ℤ) → t ≡ u +ℤ (b -ℤ a) → w +ℤ c ≡ v +ℤ d → (t +ℤ w) +ℤ (a +ℤ c) ≡ (u +ℤ v) +ℤ (b +ℤ d)
-  sums t u a b w v c d h k = omega (arith, ints)
-
   wind-moved : (ss : List Segment) → AllByRecursion IsFarHere ss → wind_by above right q (map (moved r) ss) +ℤ sum_z way (starts ss) ≡ wind_by above right q ss +ℤ sum_z way (ends ss)
   wind-moved [] h = refl
   wind-moved (s ∷ ss) h =
       let c = h.0 in
       let d = c.proper in
-      sums (turn above right q (r s.from) (r s.to)) (turn above right q s.from s.to) (way s.from) (way s.to)
+      sums_changed (turn above right q (r s.from) (r s.to)) (turn above right q s.from s.to) (way s.from) (way s.to)
       (wind_by above right q (map (moved r) ss)) (wind_by above right q ss) (sum_z way (starts ss)) (sum_z way (ends ss))
       (moved_turn region above right o q s.from s.to (r s.from) (r s.to) dq d.from d.to (m.move.positive s.from d.from) (m.move.positive s.to d.to) c.far (m.near s.from d.from) (m.near s.to d.to))
       (wind-moved ss h.1)
 
-  cancel : (w v a b : ℤ) → w +ℤ a ≡ v +ℤ b → a ≡ b → w ≡ v
-  cancel w v a b h k = omega (arith, ints)
-
   pub keep : (ss : List Segment) → IsBalanced ss → AllByRecursion IsFarHere ss → wind_by above right q (map (moved r) ss) ≡ wind_by above right q ss
   keep ss b h =
-      cancel (wind_by above right q (map (moved r) ss)) (wind_by above right q ss) (sum_z way (starts ss)) (sum_z way (ends ss))
-      (wind-moved ss h) (balanced_totals way way_same ss (proper ss h) b)
+      equal_by_sums (wind_by above right q (map (moved r) ss)) (wind_by above right q ss) (sum_z way (starts ss)) (sum_z way (ends ss))
+      (wind-moved ss h) (balanced_totals way way_same ss (far_proper region q ss h) b)
 
 pub moves_keep_winding : MovesKeepWinding
 moves_keep_winding region o above right q dq r m ss b h = keep region o above right q dq r m ss b (recursion_from_All (IsFarSegment region q) ss h)

@@ -15,18 +15,18 @@ use Rattle.scad_geom.specs.Near.{mean}
 use Rattle.scad_geom.proofs.Ring.{ring, ◌⊖◌, ◌⊗◌, v0, v1, v2, v3, v4}
 use Rattle.scad_geom.proofs.Sums.{sum_z}
 use Rattle.winding_laws.specs.Region.{HalfPlane, Holds, square}
-use Rattle.winding_laws.specs.Nearness.{IsPoint, seen_from, IsNear, IsFar, IsProper, IsFarSegment, IsClearSegment}
+use Rattle.winding_laws.specs.Nearness.{IsPoint, seen_from, IsNear, IsFar, IsFarSegment, IsClearSegment}
 use Rattle.winding_laws.specs.OneWinding.{RegionsHaveOneWinding, SquaresHaveOneWinding}
 use Rattle.winding_laws.proofs.Views.{swing, swing_turned, turn_seen, IsAlong, swing_along, swing_to_along}
 use Rattle.winding_laws.proofs.Regions.{near_itself, near_seen, near_unseen, axis_seen, mean_seen}
 use Rattle.winding_laws.proofs.Corners.{IsAway}
-use Rattle.winding_laws.proofs.Edges.{moved_swing}
+use Rattle.winding_laws.proofs.Edges.{moved_swing, far_proper}
 use Rattle.winding_laws.proofs.Sameness.{are_same, along_seen}
 use Rattle.winding_laws.proofs.Squares.{near_by_close, far_segments}
-use Rattle.winding_laws.proofs.Totals.{starts, ends, balanced_totals}
+use Rattle.winding_laws.proofs.Totals.{starts, ends, balanced_totals, sums_changed, equal_by_sums}
 use Rattle.winding_laws.proofs.Ways.{length, way, way_holds_origin, near_moved_back, way_near, by_length}
-use Rattle.scad_base.proofs.Integers.{at_most_of_less}
-use Rattle.scad_geom.proofs.Signs.{no_gap, square_at_least}
+use Rattle.scad_base.proofs.Integers.{at_most_of_less, equal_of_gap}
+use Rattle.scad_geom.proofs.Signs.{no_gap, square_at_least, mul-one}
 
 module _ (region : List HalfPlane) (above right : Bool) (c q p : Point) (dc : pos 0 <ℤ c.d) (dq : pos 0 <ℤ q.d) (dp : pos 0 <ℤ p.d) (nq : IsNear region c q) (np : IsNear region c p) where
   qq : pos 0 <ℤ (q.d *ℤ q.d)
@@ -56,12 +56,9 @@ module _ (region : List HalfPlane) (above right : Bool) (c q p : Point) (dc : po
         l = pos 1;
         k_positive = qq;
         l_positive = omega (arith, ints);
-        x = axis_seen x.x x.d p.x p.d q.x q.d ∙ sym (times_one ((x.x *ℤ q.d -ℤ q.x *ℤ x.d) *ℤ (p.d *ℤ q.d) -ℤ (p.x *ℤ q.d -ℤ q.x *ℤ p.d) *ℤ (x.d *ℤ q.d)));
-        y = axis_seen x.y x.d p.y p.d q.y q.d ∙ sym (times_one ((x.y *ℤ q.d -ℤ q.y *ℤ x.d) *ℤ (p.d *ℤ q.d) -ℤ (p.y *ℤ q.d -ℤ q.y *ℤ p.d) *ℤ (x.d *ℤ q.d)));
+        x = axis_seen x.x x.d p.x p.d q.x q.d ∙ sym (mul-one ((x.x *ℤ q.d -ℤ q.x *ℤ x.d) *ℤ (p.d *ℤ q.d) -ℤ (p.x *ℤ q.d -ℤ q.x *ℤ p.d) *ℤ (x.d *ℤ q.d)));
+        y = axis_seen x.y x.d p.y p.d q.y q.d ∙ sym (mul-one ((x.y *ℤ q.d -ℤ q.y *ℤ x.d) *ℤ (p.d *ℤ q.d) -ℤ (p.y *ℤ q.d -ℤ q.y *ℤ p.d) *ℤ (x.d *ℤ q.d)));
       }
-    where
-      times_one : (z : ℤ) → z *ℤ pos 1 ≡ z
-      times_one z = omega (arith, ints)
 
   -- ---- where they are two points
   away : pos 0 <ℤ length far → (a b : Point) → IsFar region c a b → IsAway (way far) (seen_from q a) (seen_from q b)
@@ -94,13 +91,10 @@ module _ (region : List HalfPlane) (above right : Bool) (c q p : Point) (dc : po
   same_along : far.x ≡ pos 0 → far.y ≡ pos 0 → (x : Point) → IsAlong (seen_from p x) (seen_from q x)
   same_along hx hy x = record { k = q.d; l = p.d; k_positive = dq; l_positive = dp; x = one_axis x.x x.d p.x p.d q.x q.d hx; y = one_axis x.y x.d p.y p.d q.y q.d hy }
     where
-      equal : (s t : ℤ) → s -ℤ t ≡ pos 0 → s ≡ t
-      equal s t h = omega (arith, ints)
-
       one_axis : (x d y e z f : ℤ) → y *ℤ f -ℤ z *ℤ e ≡ pos 0 → (x *ℤ e -ℤ y *ℤ d) *ℤ f ≡ (x *ℤ f -ℤ z *ℤ d) *ℤ e
       one_axis x d y e z f h =
           ring (x ∷ d ∷ y ∷ e ∷ f ∷ []) ((v0 ⊗ v3 ⊖ v2 ⊗ v1) ⊗ v4) ((v0 ⊗ v4) ⊗ v3 ⊖ (v2 ⊗ v4) ⊗ v1) refl
-          ∙ ap (λ (u : ℤ). (x *ℤ f) *ℤ e -ℤ u *ℤ d) (equal (y *ℤ f) (z *ℤ e) h)
+          ∙ ap (λ (u : ℤ). (x *ℤ f) *ℤ e -ℤ u *ℤ d) (equal_of_gap (y *ℤ f) (z *ℤ e) h)
           ∙ ring (x ∷ d ∷ e ∷ z ∷ f ∷ []) ((v0 ⊗ v4) ⊗ v2 ⊖ (v3 ⊗ v2) ⊗ v1) ((v0 ⊗ v4 ⊖ v3 ⊗ v1) ⊗ v2) refl
 
   no_swing : (x : Point) → swing above right x x ≡ pos 0
@@ -127,27 +121,18 @@ module _ (region : List HalfPlane) (above right : Bool) (c q p : Point) (dc : po
   changed_turn a b da db f = by_length far (λ more. two_points more a b da db f) (λ hx hy. one_point hx hy a b da db)
 
   -- ---- of a list
-  proper : (ss : List Segment) → AllByRecursion (IsFarSegment region c) ss → AllByRecursion IsProper ss
-  proper [] h = tt
-  proper (s ∷ ss) h = (h.0.proper, proper ss h.1)
-
-  sums : (t u a b w v x y : ℤ) → t ≡ u +ℤ (b -ℤ a) → w +ℤ x ≡ v +ℤ y → (t +ℤ w) +ℤ (a +ℤ x) ≡ (u +ℤ v) +ℤ (b +ℤ y)
-  sums t u a b w v x y h k = omega (arith, ints)
 
   wind_changed : (ss : List Segment) → AllByRecursion (IsFarSegment region c) ss → wind_by above right p ss +ℤ sum_z change (starts ss) ≡ wind_by above right q ss +ℤ sum_z change (ends ss)
   wind_changed [] h = refl
   wind_changed (s ∷ ss) h =
-      sums (turn above right p s.from s.to) (turn above right q s.from s.to) (change s.from) (change s.to)
+      sums_changed (turn above right p s.from s.to) (turn above right q s.from s.to) (change s.from) (change s.to)
       (wind_by above right p ss) (wind_by above right q ss) (sum_z change (starts ss)) (sum_z change (ends ss))
       (changed_turn s.from s.to h.0.proper.from h.0.proper.to h.0.far) (wind_changed ss h.1)
 
-  cancel : (w v a b : ℤ) → w +ℤ a ≡ v +ℤ b → a ≡ b → w ≡ v
-  cancel w v a b h k = omega (arith, ints)
-
   pub one_winding : (ss : List Segment) → IsBalanced ss → AllByRecursion (IsFarSegment region c) ss → wind_by above right p ss ≡ wind_by above right q ss
   one_winding ss b h =
-      cancel (wind_by above right p ss) (wind_by above right q ss) (sum_z change (starts ss)) (sum_z change (ends ss))
-      (wind_changed ss h) (balanced_totals change change_same ss (proper ss h) b)
+      equal_by_sums (wind_by above right p ss) (wind_by above right q ss) (sum_z change (starts ss)) (sum_z change (ends ss))
+      (wind_changed ss h) (balanced_totals change change_same ss (far_proper region c ss h) b)
 
 pub regions_have_one_winding : RegionsHaveOneWinding
 regions_have_one_winding region above right c q p dc dq dp nq np ss b h = one_winding region above right c q p dc dq dp nq np ss b (recursion_from_All (IsFarSegment region c) ss h)

@@ -7,12 +7,10 @@ use Rattle.scad_base.proofs.Products.{positive_product}
 use Rattle.scad_geom.specs.Point.{Point}
 use Rattle.scad_geom.specs.Near.{mean}
 use Rattle.scad_geom.proofs.Ring.{ring, num, ◌⊕◌, ◌⊖◌, ◌⊗◌, v0, v1, v2, v3, v4, v5, v6, v7, v8, v9}
-use Rattle.scad_geom.proofs.Signs.{at_least_mul, sum_at_least}
+use Rattle.scad_geom.proofs.Signs.{at_least_mul, sum_at_least, one-mul}
 use Rattle.winding_laws.specs.Parts.{IsOn, PartsAreOn, PartsAreAll}
-use Rattle.scad_base.proofs.Integers.{at_most_of_less}
-
-one_times : (z : ℤ) → pos 1 *ℤ z ≡ z
-one_times z = omega (arith, ints)
+use Rattle.scad_base.proofs.Integers.{at_most_of_less, zero_between}
+use Rattle.std.proofs.Math.IntN.{+ℤ_comm}
 
 -- a mean is a point of the segment
 pub mean_on : (s t : ℤ) → pos 0 ≤ℤ s → pos 0 ≤ℤ t → pos 0 <ℤ (s +ℤ t) → (a b : Point) → IsOn a b (mean s t a b)
@@ -25,9 +23,9 @@ mean_on s t hs ht o a b =
       first = hs;
       second = ht;
       some = o;
-      x = one_times (s *ℤ a.x +ℤ t *ℤ b.x);
-      y = one_times (s *ℤ a.y +ℤ t *ℤ b.y);
-      d = one_times (s *ℤ a.d +ℤ t *ℤ b.d);
+      x = one-mul (s *ℤ a.x +ℤ t *ℤ b.x);
+      y = one-mul (s *ℤ a.y +ℤ t *ℤ b.y);
+      d = one-mul (s *ℤ a.d +ℤ t *ℤ b.d);
     }
 
 -- read backwards
@@ -42,13 +40,10 @@ on_turned a b p h =
       first = h.second;
       second = h.first;
       some = omega (arith, ints);
-      x = h.x ∙ swap (h.s *ℤ a.x) (h.t *ℤ b.x);
-      y = h.y ∙ swap (h.s *ℤ a.y) (h.t *ℤ b.y);
-      d = h.d ∙ swap (h.s *ℤ a.d) (h.t *ℤ b.d);
+      x = h.x ∙ +ℤ_comm (h.s *ℤ a.x) (h.t *ℤ b.x);
+      y = h.y ∙ +ℤ_comm (h.s *ℤ a.y) (h.t *ℤ b.y);
+      d = h.d ∙ +ℤ_comm (h.s *ℤ a.d) (h.t *ℤ b.d);
     }
-  where
-    swap : (x y : ℤ) → x +ℤ y ≡ y +ℤ x
-    swap x y = omega (arith, ints)
 
 -- ---- of a part
 -- one number of a point by weights of points that are means by weights themselves
@@ -139,11 +134,8 @@ module _ (a b m p : Point) (h : IsOn a b m) (g : IsOn a b p) where
       }
     where
       first_positive : (s t : ℤ) → pos 0 ≤ℤ s → pos 0 <ℤ (s *ℤ t) → pos 0 <ℤ s
-      first_positive s t l o = by_lt_z (pos 0) s (λ k. k) (λ k. absurd (none s t (least_is_zero s l k) o))
+      first_positive s t l o = by_lt_z (pos 0) s (λ k. k) (λ k. absurd (none s t (zero_between s l k) o))
         where
-          least_is_zero : (s : ℤ) → pos 0 ≤ℤ s → s ≤ℤ pos 0 → s ≡ pos 0
-          least_is_zero s l k = omega (arith, ints)
-
           none : (s t : ℤ) → s ≡ pos 0 → pos 0 <ℤ (s *ℤ t) → ⊥
           none s t e o =
               let z : s *ℤ t ≡ pos 0 = ap (λ (y : ℤ). y *ℤ t) e ∙ ring (t ∷ []) (num (pos 0) ⊗ v0) (num (pos 0)) refl in
@@ -153,15 +145,12 @@ module _ (a b m p : Point) (h : IsOn a b m) (g : IsOn a b p) where
   on_first o =
       by_lt_z (pos 0) h.t inner
       (λ n.
-      let t_zero : h.t ≡ pos 0 = least_is_zero h.t h.second n in
+      let t_zero : h.t ≡ pos 0 = zero_between h.t h.second n in
       let hs = h.some in
       let s_positive : pos 0 <ℤ h.s = omega (arith, ints) in
       let none : g.s *ℤ h.t ≡ pos 0 = ap (λ (z : ℤ). g.s *ℤ z) t_zero ∙ ring (g.s ∷ []) (v0 ⊗ num (pos 0)) (num (pos 0)) refl in
-      by_lt_z (pos 0) g.t (λ k. let q = positive_product h.s g.t s_positive k in absurd (omega (arith, ints))) (λ k. same_start (least_is_zero g.t g.second k)))
+      by_lt_z (pos 0) g.t (λ k. let q = positive_product h.s g.t s_positive k in absurd (omega (arith, ints))) (λ k. same_start (zero_between g.t g.second k)))
     where
-      least_is_zero : (s : ℤ) → pos 0 ≤ℤ s → s ≤ℤ pos 0 → s ≡ pos 0
-      least_is_zero s l k = omega (arith, ints)
-
       same_start : g.t ≡ pos 0 → IsOn a m p
       same_start e =
           let o = g.some in
@@ -181,7 +170,7 @@ module _ (a b m p : Point) (h : IsOn a b m) (g : IsOn a b p) where
       some_weight : pos 0 <ℤ h.t → pos 0 ≤ℤ (g.s *ℤ h.t -ℤ h.s *ℤ g.t) → pos 0 <ℤ ((g.s *ℤ h.t -ℤ h.s *ℤ g.t) +ℤ g.t *ℤ h.k)
       some_weight t l = by_lt_z (pos 0) g.t (λ k. let q = positive_product g.t h.k k h.positive in omega (arith, ints))
           (λ k.
-          let e : g.t ≡ pos 0 = least_is_zero g.t g.second k in
+          let e : g.t ≡ pos 0 = zero_between g.t g.second k in
           let o = g.some in
           let s_positive : pos 0 <ℤ g.s = omega (arith, ints) in
           let q = positive_product g.s h.t s_positive t in

@@ -5,11 +5,12 @@ use lib.Signed.{◌<ℤ◌, ◌≤ℤ◌}
 use Rattle.std.proofs.lemmas.Int.{ints}
 use Rattle.scad_base.proofs.Integers.{gap_of_at_most, at_most_of_gap}
 use Rattle.scad_geom.specs.Point.{Point}
-use Rattle.scad_geom.proofs.Ring.{ring, num, ◌⊕◌, ◌⊖◌, ◌⊗◌, v0, v1, v2, v3, v4, v5, v6, v7, v8}
-use Rattle.scad_geom.proofs.Signs.{at_least_mul, at_least_left, sum_at_least, no_gap}
+use Rattle.scad_geom.proofs.Ring.{ring, ◌⊕◌, ◌⊖◌, ◌⊗◌, v0, v1, v2, v3, v4, v5, v6, v7, v8}
+use Rattle.scad_geom.proofs.Signs.{at_least_mul, at_least_left, sum_at_least, no_gap, one-mul}
 use Rattle.winding_laws.specs.Region.{HalfPlane, Bounds, Holds, HoldsOrigin}
 use Rattle.winding_laws.specs.Nearness.{seen_from, IsNear}
 use Rattle.scad_geom.specs.Near.{mean}
+use Rattle.std.proofs.Math.IntN.{zero-*ℤ}
 
 -- the numbers of a point times a factor, and the sums of two points' numbers
 abbrev pub scaled : Point → ℤ → Point
@@ -66,17 +67,11 @@ holds_added (b ∷ bs) p q h g = (bounds_added p q b h.0 g.0, holds_added bs p q
 pub holds_as : (region : List HalfPlane) (p q : Point) → p.x ≡ q.x → p.y ≡ q.y → p.d ≡ q.d → Holds region p → Holds region q
 holds_as region p q x y d h = subst (Holds region) (same_point p q x y d) h
 
-zero_times : (k : ℤ) → pos 0 *ℤ k ≡ pos 0
-zero_times k = ring (k ∷ []) (num (pos 0) ⊗ v0) (num (pos 0)) refl
-
-one_times : (k : ℤ) → pos 1 *ℤ k ≡ k
-one_times k = omega (arith, ints)
-
 -- a point is near to itself where the region holds the origin
 pub near_itself : (region : List HalfPlane) → HoldsOrigin region → (p : Point) → pos 0 ≤ℤ (p.d *ℤ p.d) → IsNear region p p
 near_itself region o p least =
     holds_as region (scaled (record { x = pos 0; y = pos 0; d = pos 1 }) (p.d *ℤ p.d)) (seen_from p p)
-    (zero_times (p.d *ℤ p.d) ∙ sym (no_gap (p.x *ℤ p.d) (p.x *ℤ p.d) refl)) (zero_times (p.d *ℤ p.d) ∙ sym (no_gap (p.y *ℤ p.d) (p.y *ℤ p.d) refl)) (one_times (p.d *ℤ p.d))
+    (zero-*ℤ (p.d *ℤ p.d) ∙ sym (no_gap (p.x *ℤ p.d) (p.x *ℤ p.d) refl)) (zero-*ℤ (p.d *ℤ p.d) ∙ sym (no_gap (p.y *ℤ p.d) (p.y *ℤ p.d) refl)) (one-mul (p.d *ℤ p.d))
     (holds_scaled region (record { x = pos 0; y = pos 0; d = pos 1 }) (p.d *ℤ p.d) least o)
 
 -- ---- seen from a third point

@@ -1,8 +1,8 @@
 -- Points that are the same over other divisors, and that they turn alike.
-use Rattle.std.proofs.Common.{◌≡◌, Bool, true, false, ◌&&◌, [], ◌∷◌, refl, sym, ap, ap₂, ◌∙◌, arith}
+use Rattle.std.proofs.Common.{◌≡◌, Bool, true, ◌&&◌, [], ◌∷◌, refl, sym, ap, ap₂, ◌∙◌, arith}
 use lib.IntN.{ℤ, pos, ◌-ℤ◌, ◌*ℤ◌}
 use lib.Signed.{◌<ℤ◌}
-use Rattle.std.specs.Cmp.{signed_Decides}
+use Rattle.std.specs.Cmp.{signed_Decides, both_ways}
 use Rattle.std.proofs.lemmas.Int.{ints}
 use Rattle.scad_base.proofs.Products.{zero_factor}
 use Rattle.scad_geom.specs.Point.{Point, is_same_point}
@@ -53,11 +53,6 @@ are_same_on p q r h k l = record { x = chain p.x p.d q.x q.d r.x r.d h k.x l.x; 
 pub same_itself : (p : Point) → is_same_point p p ≡ true
 same_itself p = same_by p p (are_same_itself p)
 
-both_ways : (a b : Bool) → (a ≡ true → b ≡ true) → (b ≡ true → a ≡ true) → a ≡ b
-both_ways true b f g = sym (f refl)
-both_ways false true f g = g refl
-both_ways false false f g = refl
-
 -- the same points are the same as any third
 pub same_through : (p q r : Point) → pos 0 <ℤ q.d → pos 0 <ℤ r.d → is_same_point q r ≡ true → is_same_point p q ≡ is_same_point p r
 same_through p q r dq dr h =
@@ -67,15 +62,15 @@ same_through p q r dq dr h =
     (λ k. same_by p q (are_same_on p r q dr (are_same p r k) (are_same_turned q r s)))
 
 -- ---- the same points turn alike
+pub one_axis : (x d y e z f : ℤ) → x *ℤ e ≡ y *ℤ d → (x *ℤ f -ℤ z *ℤ d) *ℤ e ≡ (y *ℤ f -ℤ z *ℤ e) *ℤ d
+one_axis x d y e z f h =
+    ring (x ∷ d ∷ e ∷ z ∷ f ∷ []) ((v0 ⊗ v4 ⊖ v3 ⊗ v1) ⊗ v2) ((v0 ⊗ v2) ⊗ v4 ⊖ (v3 ⊗ v1) ⊗ v2) refl
+    ∙ ap (λ (s : ℤ). s *ℤ f -ℤ (z *ℤ d) *ℤ e) h
+    ∙ ring (y ∷ d ∷ e ∷ z ∷ f ∷ []) ((v0 ⊗ v1) ⊗ v4 ⊖ (v3 ⊗ v1) ⊗ v2) ((v0 ⊗ v4 ⊖ v3 ⊗ v2) ⊗ v1) refl
+
 pub along_seen : (q a b : Point) → pos 0 <ℤ a.d → pos 0 <ℤ b.d → AreSame a b → IsAlong (seen_from q a) (seen_from q b)
 along_seen q a b da db h =
     record { k = b.d; l = a.d; k_positive = db; l_positive = da; x = one_axis a.x a.d b.x b.d q.x q.d h.x; y = one_axis a.y a.d b.y b.d q.y q.d h.y }
-  where
-    one_axis : (x d y e z f : ℤ) → x *ℤ e ≡ y *ℤ d → (x *ℤ f -ℤ z *ℤ d) *ℤ e ≡ (y *ℤ f -ℤ z *ℤ e) *ℤ d
-    one_axis x d y e z f h =
-        ring (x ∷ d ∷ e ∷ z ∷ f ∷ []) ((v0 ⊗ v4 ⊖ v3 ⊗ v1) ⊗ v2) ((v0 ⊗ v2) ⊗ v4 ⊖ (v3 ⊗ v1) ⊗ v2) refl
-        ∙ ap (λ (s : ℤ). s *ℤ f -ℤ (z *ℤ d) *ℤ e) h
-        ∙ ring (y ∷ d ∷ e ∷ z ∷ f ∷ []) ((v0 ⊗ v1) ⊗ v4 ⊖ (v3 ⊗ v1) ⊗ v2) ((v0 ⊗ v4 ⊖ v3 ⊗ v2) ⊗ v1) refl
 
 pub turn_same : (above right : Bool) (q a b c e : Point) → pos 0 <ℤ q.d → pos 0 <ℤ a.d → pos 0 <ℤ b.d → pos 0 <ℤ c.d → pos 0 <ℤ e.d
     → is_same_point a c ≡ true → is_same_point b e ≡ true → turn above right q a b ≡ turn above right q c e

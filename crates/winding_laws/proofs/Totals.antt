@@ -1,6 +1,6 @@
 -- Where as many segments start at each point as end there, sums over starts are sums over ends.
 use Rattle.std.proofs.Common.{◌≡◌, ℕ, ◌+◌, ◌≤◌, Bool, true, false, cond, List, [], ◌∷◌, refl, sym, ap, ◌∙◌, arith}
-use lib.IntN.{ℤ, ◌+ℤ◌}
+use lib.IntN.{ℤ, ◌+ℤ◌, ◌-ℤ◌}
 use Rattle.std.specs.List.{AllByRecursion}
 use Rattle.std.proofs.lemmas.Int.{ints}
 use Rattle.scad_geom.specs.Point.{Point, is_same_point}
@@ -19,6 +19,23 @@ abbrev pub ends : List Segment → List Point
 ends [] = []
 ends (s ∷ ss) = s.to ∷ ends ss
 
+-- ---- sums and their differences
+pub sum_with : (a b c d : ℤ) → b ≡ c +ℤ d → a +ℤ b ≡ c +ℤ (a +ℤ d)
+sum_with a b c d h = omega (arith, ints)
+
+pub sums_apart : (a b c d w x y z : ℤ) → a -ℤ b ≡ c -ℤ d → w -ℤ x ≡ y -ℤ z → (a +ℤ w) -ℤ (b +ℤ x) ≡ (c +ℤ y) -ℤ (d +ℤ z)
+sums_apart a b c d w x y z h k = omega (arith, ints)
+
+pub equal_by_gaps : (a b c d : ℤ) → a -ℤ b ≡ c -ℤ d → c ≡ d → a ≡ b
+equal_by_gaps a b c d h k = omega (arith, ints)
+
+pub sums_changed : (a b c d w x y z : ℤ) → a ≡ b +ℤ (d -ℤ c) → w +ℤ y ≡ x +ℤ z → (a +ℤ w) +ℤ (c +ℤ y) ≡ (b +ℤ x) +ℤ (d +ℤ z)
+sums_changed a b c d w x y z h k = omega (arith, ints)
+
+pub equal_by_sums : (a b c d : ℤ) → a +ℤ c ≡ b +ℤ d → c ≡ d → a ≡ b
+equal_by_sums a b c d h k = omega (arith, ints)
+
+-- ---- how often points stand in a list
 -- how often a point stands in a list
 abbrev tally : Point → List Point → ℕ
 tally p [] = 0
@@ -59,13 +76,10 @@ module _ (f : Point → ℤ) (same : (p q : Point) → IsPoint p → IsPoint q �
   total-without x dx [] d h = absurd (omega arith)
   total-without x dx (q ∷ qs) d h = by_test (is_same_point x q) refl h (total-without x dx qs d.1)
     where
-      swap : (a b c d : ℤ) → b ≡ c +ℤ d → a +ℤ b ≡ c +ℤ (a +ℤ d)
-      swap a b c d h = omega (arith, ints)
-
       by_test : (t : Bool) → is_same_point x q ≡ t → 1 ≤ once t + tally x qs → (1 ≤ tally x qs → sum_z f qs ≡ f x +ℤ sum_z f (without x qs))
           → f q +ℤ sum_z f qs ≡ f x +ℤ sum_z f (cond t qs (q ∷ without x qs))
       by_test true e h r = ap (λ (z : ℤ). z +ℤ sum_z f qs) (sym (same x q dx d.0 e))
-      by_test false e h r = swap (f q) (sum_z f qs) (f x) (sum_z f (without x qs)) (r (omega arith))
+      by_test false e h r = sum_with (f q) (sum_z f qs) (f x) (sum_z f (without x qs)) (r (omega arith))
 
   total-same : (ps qs : List Point) → AllByRecursion IsPoint ps → AllByRecursion IsPoint qs → ((p : Point) → IsPoint p → tally p ps ≡ tally p qs) → sum_z f ps ≡ sum_z f qs
   total-same [] [] dp dq h = refl

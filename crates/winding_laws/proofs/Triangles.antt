@@ -8,8 +8,9 @@ use Rattle.scad_base.proofs.Products.{negative_product}
 use Rattle.scad_geom.specs.Point.{Point}
 use Rattle.scad_geom.specs.Winding.{is_beyond}
 use Rattle.scad_geom.proofs.Ring.{ring, num, ◌⊕◌, ◌⊖◌, ◌⊗◌, v0, v1, v2, v3, v4, v5}
-use Rattle.scad_geom.proofs.Signs.{at_most_mul, at_least_left, positive_as}
+use Rattle.scad_geom.proofs.Signs.{at_most_mul, at_least_left, positive_as, one-mul}
 use Rattle.winding_laws.proofs.Views.{cross, cross_turned, swing_by, swing}
+use Rattle.scad_base.proofs.Tests.{cond_same}
 
 -- the origin lies in the triangle from a to b to c, or on its border: it lies to the left of each side or on it
 pub record IsRound (a b c : Point) : Type 0 where
@@ -119,20 +120,9 @@ module _ (x y z p q r : ℤ) (none_left : pos 0 ≤ℤ x → pos 0 ≤ℤ y → 
 minus_mul : (z : ℤ) → negsuc 0 *ℤ z ≡ pos 0 -ℤ z
 minus_mul z = omega (arith, ints)
 
-one_mul : (z : ℤ) → pos 1 *ℤ z ≡ z
-one_mul z = omega (arith, ints)
-
 pub flat : (right s : Bool) (z : ℤ) → swing_by right s s z ≡ pos 0
-flat right true z = nothing (is_beyond right (pos 0 *ℤ z))
-  where
-    nothing : (b : Bool) → (if b then pos 0 else pos 0) ≡ pos 0
-    nothing true = refl
-    nothing false = refl
-flat right false z = nothing (is_beyond right (pos 0 *ℤ z))
-  where
-    nothing : (b : Bool) → (if b then pos 0 else pos 0) ≡ pos 0
-    nothing true = refl
-    nothing false = refl
+flat right true z = cond_same (is_beyond right (pos 0 *ℤ z)) (pos 0)
+flat right false z = cond_same (is_beyond right (pos 0 *ℤ z)) (pos 0)
 
 up_and_down : (b : Bool) → (if b then pos 1 else pos 0) +ℤ (pos 0 +ℤ (if b then negsuc 0 else pos 0)) ≡ pos 0
 up_and_down true = refl
@@ -144,14 +134,14 @@ down_and_up false = refl
 
 under_alone : (right : Bool) (x y z : ℤ) → is_beyond right z ≡ is_beyond right (pos 0 -ℤ y) → swing_by right false true z +ℤ (swing_by right true true x +ℤ swing_by right true false y) ≡ pos 0
 under_alone right x y z h =
-    ap₂ (λ (s t : ℤ). s +ℤ t) (ap (λ (w : ℤ). if is_beyond right w then pos 1 else pos 0) (one_mul z) ∙ ap (λ (b : Bool). if b then pos 1 else pos 0) h)
+    ap₂ (λ (s t : ℤ). s +ℤ t) (ap (λ (w : ℤ). if is_beyond right w then pos 1 else pos 0) (one-mul z) ∙ ap (λ (b : Bool). if b then pos 1 else pos 0) h)
     (ap₂ (λ (s t : ℤ). s +ℤ t) (flat right true x) (ap (λ (w : ℤ). if is_beyond right w then negsuc 0 else pos 0) (minus_mul y)))
     ∙ up_and_down (is_beyond right (pos 0 -ℤ y))
 
 over_alone : (right : Bool) (x y z : ℤ) → is_beyond right y ≡ is_beyond right (pos 0 -ℤ z) → swing_by right true false z +ℤ (swing_by right false false x +ℤ swing_by right false true y) ≡ pos 0
 over_alone right x y z h =
     ap₂ (λ (s t : ℤ). s +ℤ t) (ap (λ (w : ℤ). if is_beyond right w then negsuc 0 else pos 0) (minus_mul z))
-    (ap₂ (λ (s t : ℤ). s +ℤ t) (flat right false x) (ap (λ (w : ℤ). if is_beyond right w then pos 1 else pos 0) (one_mul y) ∙ ap (λ (b : Bool). if b then pos 1 else pos 0) h))
+    (ap₂ (λ (s t : ℤ). s +ℤ t) (flat right false x) (ap (λ (w : ℤ). if is_beyond right w then pos 1 else pos 0) (one-mul y) ∙ ap (λ (b : Bool). if b then pos 1 else pos 0) h))
     ∙ down_and_up (is_beyond right (pos 0 -ℤ z))
 
 apart_over : (above : Bool) (p q r : ℤ) → is_beyond above p ≡ true → is_beyond above q ≡ false → is_beyond above r ≡ false → Apart p q r

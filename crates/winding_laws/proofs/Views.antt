@@ -6,9 +6,10 @@ use Rattle.std.specs.Prelude.{int_lt, int_le, if◌then◌else◌}
 use Rattle.std.proofs.lemmas.Int.{ints, by_lt_z}
 use Rattle.scad_geom.specs.Point.{Point}
 use Rattle.scad_geom.specs.Winding.{counted, is_over, passage_by, side_by, is_beyond, turn}
-use Rattle.scad_geom.proofs.Ring.{ring, num, *ℤ_assoc, ◌⊖◌, ◌⊗◌, v0, v1, v2, v3, v4, v5, v6, v7, v8}
+use Rattle.scad_geom.proofs.Ring.{ring, num, ◌⊖◌, ◌⊗◌, v0, v1, v2, v3, v4, v5, v6, v7, v8}
 use Rattle.scad_geom.proofs.Turns.{beyond_mul}
 use Rattle.winding_laws.specs.Nearness.{seen_from}
+use Rattle.scad_geom.proofs.Integers.{mul_assoc}
 
 -- twice the signed area of the triangle from the origin to a and b, over the product of the divisors
 unfoldable pub cross : Point → Point → ℤ
@@ -58,7 +59,7 @@ side_seen q a b =
 pub same_sign : (right : Bool) (p x y k l : ℤ) → pos 0 <ℤ k → pos 0 <ℤ l → x *ℤ k ≡ y *ℤ l → is_beyond right (p *ℤ x) ≡ is_beyond right (p *ℤ y)
 same_sign right p x y k l kp lp e =
     sym (beyond_mul right k (p *ℤ x) kp)
-    ∙ ap (is_beyond right) (*ℤ_assoc p x k ∙ ap (λ (z : ℤ). p *ℤ z) e ∙ sym (*ℤ_assoc p y l))
+    ∙ ap (is_beyond right) (mul_assoc p x k ∙ ap (λ (z : ℤ). p *ℤ z) e ∙ sym (mul_assoc p y l))
     ∙ beyond_mul right l (p *ℤ y) lp
 
 pub turn_seen : (above right : Bool) (q a b : Point) → pos 0 <ℤ q.d → pos 0 <ℤ a.d → turn above right q a b ≡ swing above right (seen_from q a) (seen_from q b)

@@ -6,11 +6,12 @@ use Rattle.std.proofs.lemmas.Int.{ints, by_lt_z}
 use Rattle.scad_base.proofs.Products.{positive_product}
 use Rattle.scad_geom.specs.Point.{Point}
 use Rattle.scad_geom.proofs.Ring.{ring, num, ◌⊕◌, ◌⊖◌, ◌⊗◌, v0, v1, v2, v3, v4, v5, v6, v7}
-use Rattle.scad_geom.proofs.Signs.{at_least_mul, sum_at_least, square_at_least}
+use Rattle.scad_geom.proofs.Signs.{at_least_mul, sum_at_least, square_at_least, mul-one, no_gap}
 use Rattle.winding_laws.specs.Region.{HalfPlane, Holds, HoldsOrigin}
 use Rattle.winding_laws.specs.Nearness.{seen_from, IsNear}
 use Rattle.winding_laws.proofs.Regions.{scaled, added, holds_scaled, holds_added, holds_left, holds_as}
-use Rattle.scad_base.proofs.Integers.{at_most_of_less, gap_of_at_most}
+use Rattle.scad_base.proofs.Integers.{at_most_of_less, gap_of_at_most, sum_above, zero_between}
+use Rattle.std.proofs.Math.IntN.{zero-*ℤ}
 
 -- the cross product of p and d: 0 where p lies on the line from the origin through d
 abbrev off : Point → Point → ℤ
@@ -49,9 +50,6 @@ back_is x y u v = ring (x ∷ y ∷ u ∷ v ∷ []) ((num (pos 0) ⊖ v2) ⊗ v0
 far_is : (x y u v w : ℤ) → (u *ℤ w) *ℤ x +ℤ (v *ℤ w) *ℤ y ≡ (x *ℤ u +ℤ y *ℤ v) *ℤ w
 far_is x y u v w = ring (x ∷ y ∷ u ∷ v ∷ w ∷ []) ((v2 ⊗ v4) ⊗ v0 ⊕ (v3 ⊗ v4) ⊗ v1) ((v0 ⊗ v2 ⊕ v1 ⊗ v3) ⊗ v4) refl
 
-nothing : (w : ℤ) → pos 0 *ℤ w ≡ pos 0
-nothing w = ring (w ∷ []) (num (pos 0) ⊗ v0) (num (pos 0)) refl
-
 at_most_as : (s t u v : ℤ) → s ≡ u → t ≡ v → u ≤ℤ v → s ≤ℤ t
 at_most_as s t u v e f h = omega (arith, ints)
 
@@ -66,11 +64,11 @@ behind_at_most z h = omega (arith, ints)
 
 on_way : (d p : Point) → off d p ≡ pos 0 → pos 0 ≤ℤ along d p → (along d p *ℤ d.d) ≤ℤ (length d *ℤ p.d) → Holds (way d) p
 on_way d p o a f = (
-  at_most_as _ _ _ _ (left_is p.x p.y d.x d.y) (nothing p.d) (zero_at_most (off d p) o),
+  at_most_as _ _ _ _ (left_is p.x p.y d.x d.y) (zero-*ℤ p.d) (zero_at_most (off d p) o),
   (
-    at_most_as _ _ _ _ (right_is p.x p.y d.x d.y) (nothing p.d) (turned_at_most (off d p) o),
+    at_most_as _ _ _ _ (right_is p.x p.y d.x d.y) (zero-*ℤ p.d) (turned_at_most (off d p) o),
     (
-      at_most_as _ _ _ _ (back_is p.x p.y d.x d.y) (nothing p.d) (behind_at_most (along d p) a),
+      at_most_as _ _ _ _ (back_is p.x p.y d.x d.y) (zero-*ℤ p.d) (behind_at_most (along d p) a),
       (at_most_as _ _ _ _ (far_is p.x p.y d.x d.y d.d) refl f, tt),
     ),
   ),
@@ -87,10 +85,10 @@ ahead z h = omega (arith, ints)
 
 way_off : (d p : Point) → Holds (way d) p → off d p ≡ pos 0
 way_off d p h =
-    between_zeros (off d p) (at_most_from _ _ _ _ (left_is p.x p.y d.x d.y) (nothing p.d) h.0) (at_most_from _ _ _ _ (right_is p.x p.y d.x d.y) (nothing p.d) h.1.0)
+    between_zeros (off d p) (at_most_from _ _ _ _ (left_is p.x p.y d.x d.y) (zero-*ℤ p.d) h.0) (at_most_from _ _ _ _ (right_is p.x p.y d.x d.y) (zero-*ℤ p.d) h.1.0)
 
 way_along : (d p : Point) → Holds (way d) p → pos 0 ≤ℤ along d p
-way_along d p h = ahead (along d p) (at_most_from _ _ _ _ (back_is p.x p.y d.x d.y) (nothing p.d) h.1.1.0)
+way_along d p h = ahead (along d p) (at_most_from _ _ _ _ (back_is p.x p.y d.x d.y) (zero-*ℤ p.d) h.1.1.0)
 
 way_far : (d p : Point) → Holds (way d) p → (along d p *ℤ d.d) ≤ℤ (length d *ℤ p.d)
 way_far d p h = at_most_from _ _ _ _ (far_is p.x p.y d.x d.y d.d) refl h.1.1.1.0
@@ -104,17 +102,11 @@ way_holds_origin d =
     on_way d (record { x = pos 0; y = pos 0; d = pos 1 })
     (ring (d.x ∷ d.y ∷ []) (num (pos 0) ⊗ v1 ⊖ num (pos 0) ⊗ v0) (num (pos 0)) refl)
     (at_most_as _ _ _ _ refl (ring (d.x ∷ d.y ∷ []) (num (pos 0) ⊗ v0 ⊕ num (pos 0) ⊗ v1) (num (pos 0)) refl) (omega (arith, ints)))
-    (at_most_as _ _ _ _ (ring (d.x ∷ d.y ∷ d.d ∷ []) ((num (pos 0) ⊗ v0 ⊕ num (pos 0) ⊗ v1) ⊗ v2) (num (pos 0)) refl) (times_one (length d)) (length_at_least d))
-  where
-    times_one : (z : ℤ) → z *ℤ pos 1 ≡ z
-    times_one z = omega (arith, ints)
+    (at_most_as _ _ _ _ (ring (d.x ∷ d.y ∷ d.d ∷ []) ((num (pos 0) ⊗ v0 ⊕ num (pos 0) ⊗ v1) ⊗ v2) (num (pos 0)) refl) (mul-one (length d)) (length_at_least d))
 
 way_holds_end : (d : Point) → Holds (way d) d
-way_holds_end d = on_way d d (itself (d.x *ℤ d.y) (d.y *ℤ d.x) (ring (d.x ∷ d.y ∷ []) (v0 ⊗ v1) (v1 ⊗ v0) refl)) (length_at_least d) (at_most_itself (length d *ℤ d.d))
+way_holds_end d = on_way d d (no_gap (d.x *ℤ d.y) (d.y *ℤ d.x) (ring (d.x ∷ d.y ∷ []) (v0 ⊗ v1) (v1 ⊗ v0) refl)) (length_at_least d) (at_most_itself (length d *ℤ d.d))
   where
-    itself : (s t : ℤ) → s ≡ t → s -ℤ t ≡ pos 0
-    itself s t h = omega (arith, ints)
-
     at_most_itself : (z : ℤ) → z ≤ℤ z
     at_most_itself z = omega (arith, ints)
 
@@ -177,21 +169,15 @@ positive_square z n = by_lt_z (pos 0) z (λ h. positive_product z z h h)
     (λ k. let turned : (pos 0 -ℤ z) *ℤ (pos 0 -ℤ z) ≡ z *ℤ z = ring (z ∷ []) ((num (pos 0) ⊖ v0) ⊗ (num (pos 0) ⊖ v0)) (v0 ⊗ v0) refl in
     let above : pos 0 <ℤ (pos 0 -ℤ z) = omega (arith, ints) in
     subst (λ (y : ℤ). pos 0 <ℤ y) turned (positive_product (pos 0 -ℤ z) (pos 0 -ℤ z) above above))
-    (λ k. absurd (n (both z h k))))
-  where
-    both : (z : ℤ) → z ≤ℤ pos 0 → pos 0 ≤ℤ z → z ≡ pos 0
-    both z h k = omega (arith, ints)
+    (λ k. absurd (n (zero_between z k h))))
 
 pub by_length : {A : Type 0} (d : Point) → (pos 0 <ℤ length d → A) → (d.x ≡ pos 0 → d.y ≡ pos 0 → A) → A
 by_length {A = A} d f g =
     by_zero d.x (λ x. by_zero d.y (λ y. g x y) (λ n. f (more (d.x *ℤ d.x) (d.y *ℤ d.y) (square_at_least d.x) (positive_square d.y n))))
-    (λ n. f (some (d.x *ℤ d.x) (d.y *ℤ d.y) (positive_square d.x n) (square_at_least d.y)))
+    (λ n. f (sum_above (d.x *ℤ d.x) (d.y *ℤ d.y) (positive_square d.x n) (square_at_least d.y)))
   where
     more : (s t : ℤ) → pos 0 ≤ℤ s → pos 0 <ℤ t → pos 0 <ℤ (s +ℤ t)
     more s t h k = omega (arith, ints)
-
-    some : (s t : ℤ) → pos 0 <ℤ s → pos 0 ≤ℤ t → pos 0 <ℤ (s +ℤ t)
-    some s t h k = omega (arith, ints)
 
     by_zero : (z : ℤ) → (z ≡ pos 0 → A) → ((z ≡ pos 0 → ⊥) → A) → A
     by_zero z zero other = by_lt_z (pos 0) z (λ h. other (λ e. omega (arith, ints))) (λ h. by_lt_z z (pos 0) (λ k. other (λ e. omega (arith, ints))) (λ k. zero (omega (arith, ints))))

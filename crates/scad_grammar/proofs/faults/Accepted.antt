@@ -17,7 +17,7 @@ use Rattle.scad_grammar.proofs.faults.Faults.{standing, opens_once}
 use Rattle.scad_grammar.proofs.grammar.Loose.{loose_program}
 use Rattle.scad_grammar.proofs.grammar.Tight.{tight_program}
 use Rattle.scad_grammar.proofs.reader.Statements.{runs_program}
-use Rattle.scad_grammar.proofs.reader.Asked.{same_some}
+use Rattle.std.proofs.lemmas.Option.{same_Some}
 
 -- none of these tokens has a fault, where those stand before
 abbrev NoneRefused : List Token → List Token → Type 0
@@ -34,23 +34,20 @@ no_fault before t n may o le (too_deep m other lt) =
 split_more : (front : List Token) (t : Token) (ts : List Token) → front ++ (t ∷ ts) ≡ (front ++ (t ∷ [])) ++ ts
 split_more front t ts = sym (append_assoc front (t ∷ []) ts)
 
+same_head : (t u : Token) (ts us : List Token) → t ∷ ts ≡ u ∷ us → t ≡ u
+same_head t u ts us e = cc
+
 none_refused-next : (front ts : List Token) (t : Token) → (HasFault front t → ⊥) →
     NoneRefused (front ++ (t ∷ [])) ts → NoneRefused front (t ∷ ts)
 none_refused-next front ts t first later [] behind u e f =
     first (subst (λ (x : Token). HasFault front x) (sym (same_head t u ts behind e))
     (subst (λ (xs : List Token). HasFault xs u) (append-nil front) f))
-  where
-    same_head : (t u : Token) (ts us : List Token) → t ∷ ts ≡ u ∷ us → t ≡ u
-    same_head t u ts us e = cc
 none_refused-next front ts t first later (b ∷ before) behind u e f =
     later before behind u (same_tail t b ts (before ++ (u ∷ behind)) e)
     (subst (λ (xs : List Token). HasFault xs u)
     (split_more front b before
     ∙ ap (λ (x : Token). (front ++ (x ∷ [])) ++ before) (sym (same_head t b ts (before ++ (u ∷ behind)) e))) f)
   where
-    same_head : (t u : Token) (ts us : List Token) → t ∷ ts ≡ u ∷ us → t ≡ u
-    same_head t u ts us e = cc
-
     same_tail : (t u : Token) (ts us : List Token) → t ∷ ts ≡ u ∷ us → ts ≡ us
     same_tail t u ts us e = cc
 
@@ -134,5 +131,5 @@ accepts_what_is_derived ts end p = (
     by_answer (Ok q) j none d =
         let r = accepted j in
         subst (λ (x : Items). Judged [] ts end (Ok x))
-        (same_some q p (sym (runs_program (r.derived q refl)) ∙ runs_program d)) j
+        (same_Some q p (sym (runs_program (r.derived q refl)) ∙ runs_program d)) j
     by_answer (Err f) j none d = absurd ((accepted j).refused f refl none p d)

@@ -17,7 +17,6 @@ use Rattle.scad_grammar.specs.Nesting.{Opens}
 use Rattle.scad_grammar.specs.Judged.{MayStand, Judged, is_program, ends_early, is_left_out, is_misplaced, is_nested}
 use Rattle.scad_grammar.specs.Judged.{stands}
 use Rattle.scad_grammar.proofs.reader.Runs.{follow, by_move}
-use Rattle.scad_grammar.proofs.reader.Asked.{same_some, none_is_no_some}
 use Rattle.scad_grammar.proofs.reader.Statements.{runs_program}
 use Rattle.scad_grammar.proofs.reader.Sound.{sound_finish, into_program}
 use Rattle.scad_grammar.proofs.reader.Prefix.{reach_by, by_reach, reached_goes, reached_begins, goes_next}
@@ -25,18 +24,19 @@ use Rattle.scad_grammar.proofs.reader.Prefix.{stuck_begins_nothing}
 use Rattle.scad_grammar.proofs.nesting.Open.{counts_what_is_open}
 use Rattle.scad_grammar.proofs.faults.Leaves.{leaves}
 use Rattle.scad_grammar.proofs.faults.Forms.{left_is, left_step}
+use Rattle.std.proofs.lemmas.Option.{same_Some, none-some}
 
 -- a run ends where the reader stands
 run_behind_move : (m : Move) (ts : List Token) (s : State) →
     ((s₀ : State) → reach s₀ ts ≡ Some s → run s₀ ts ≡ finish s) →
     reach_by m ts ≡ Some s → follow m ts ≡ finish s
 run_behind_move (go next) ts s f h = f next h
-run_behind_move (left_out w) ts s f h = absurd (none_is_no_some h)
-run_behind_move stuck ts s f h = absurd (none_is_no_some h)
+run_behind_move (left_out w) ts s f h = absurd (none-some _ h)
+run_behind_move stuck ts s f h = absurd (none-some _ h)
 
 run_behind : (ts : List Token) (s s₀ : State) → reach s₀ ts ≡ Some s → run s₀ ts ≡ finish s
 unfolding reach run
-run_behind [] s s₀ h = ap finish (same_some s₀ s h)
+run_behind [] s s₀ h = ap finish (same_Some s₀ s h)
 run_behind (t ∷ ts) s s₀ h =
     by_move s₀ t ts ∙ run_behind_move (step s₀ t) ts s (run_behind ts s) (sym (by_reach s₀ t ts) ∙ h)
 
@@ -84,7 +84,7 @@ at_end : (before : List Token) (s : State) (end : Place) → reach start before 
     Judged before [] end (judge_end end o)
 unfolding judge_end
 at_end before s end h (Some p) e = is_program (finish_derives before s p h e)
-at_end before s end h None e = ends_early (λ p d. none_is_no_some (sym e ∙ derives_finish before s p h d))
+at_end before s end h None e = ends_early (λ p d. none-some _ (sym e ∙ derives_finish before s p h d))
 
 at_count : (before ts : List Token) (t : Token) (s next : State) (end : Place) → reach start before ≡ Some s →
     step s t ≡ go next →

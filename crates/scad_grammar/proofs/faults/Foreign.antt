@@ -120,18 +120,18 @@ no_operator n foreign_dot = refl
 no_operator n foreign_function = refl
 no_operator n foreign_echo = refl
 
-never : {b : Bool} (s : State) → b ≡ false → only b s ≡ stuck
-never s h = ap (λ (b : Bool). only b s) h
+pub only_false : {b : Bool} (s : State) → b ≡ false → only b s ≡ stuck
+only_false s h = ap (λ (b : Bool). only b s) h
 
 pub stuck_end_arguments : (all : Arguments) (k : BehindArguments) {t : Token} → Foreign t →
     end_arguments all k t ≡ stuck
 unfolding end_arguments
-stuck_end_arguments all (of_call at n k) f = never _ (no_round f)
-stuck_end_arguments all (of_keyed what at k) f = never _ (no_round f)
-stuck_end_arguments all (of_for at k) f = cond-false _ _ _ (no_round f) ∙ never _ (no_semicolon f)
-stuck_end_arguments all (of_steps at starts e k) f = never _ (no_round f)
-stuck_end_arguments all (of_let at k) f = never _ (no_round f)
-stuck_end_arguments all (of_statement at m n a k) f = never _ (no_round f)
+stuck_end_arguments all (of_call at n k) f = only_false _ (no_round f)
+stuck_end_arguments all (of_keyed what at k) f = only_false _ (no_round f)
+stuck_end_arguments all (of_for at k) f = cond-false _ _ _ (no_round f) ∙ only_false _ (no_semicolon f)
+stuck_end_arguments all (of_steps at starts e k) f = only_false _ (no_round f)
+stuck_end_arguments all (of_let at k) f = only_false _ (no_round f)
+stuck_end_arguments all (of_statement at m n a k) f = only_false _ (no_round f)
 
 pub stuck_argument : (all : Arguments) (k : BehindArguments) {t : Token} → Foreign t →
     after_argument_step all k t ≡ stuck
@@ -141,8 +141,8 @@ stuck_argument all k f = cond-false _ _ _ (no_comma f) ∙ stuck_end_arguments a
 pub stuck_end_parameters : (all : List Parameter) (k : BehindParameters) {t : Token} → Foreign t →
     end_parameters all k t ≡ stuck
 unfolding end_parameters
-stuck_end_parameters all (defined a_module at n a k) f = never _ (no_round f)
-stuck_end_parameters all (defined a_function at n a k) f = never _ (no_round f)
+stuck_end_parameters all (defined a_module at n a k) f = only_false _ (no_round f)
+stuck_end_parameters all (defined a_function at n a k) f = only_false _ (no_round f)
 
 pub stuck_parameter : (all : List Parameter) (k : BehindParameters) {t : Token} → Foreign t →
     after_parameter_step all k t ≡ stuck
@@ -152,7 +152,7 @@ stuck_parameter all k f = cond-false _ _ _ (no_comma f) ∙ stuck_end_parameters
 pub stuck_one : (at : Place) (a : Elements) (k : BehindOperand) {t : Token} → Foreign t →
     after_one_step at a k t ≡ stuck
 unfolding after_one_step
-stuck_one at a k f = cond-false _ _ _ (no_comma f) ∙ never _ (no_square f)
+stuck_one at a k f = cond-false _ _ _ (no_comma f) ∙ only_false _ (no_square f)
 
 pub stuck_member : (at : Place) (a : Elements) (el : Element) (k : BehindOperand) {t : Token} → Foreign t →
     member_step at a el k t ≡ stuck
@@ -172,21 +172,21 @@ stuck_element el (other_element at e held k) f = stuck_element (if_else at e hel
 pub stuck_expression : (e : Expression) (k : BehindExpression) {t : Token} → Foreign t → after_expression e k t
     ≡ stuck
 unfolding after_expression
-stuck_expression e (in_round k) f = never _ (no_round f)
-stuck_expression e (in_index at a count k) f = never _ (no_square f)
-stuck_expression e (chosen at a k) f = never _ (no_colon f)
+stuck_expression e (in_round k) f = only_false _ (no_round f)
+stuck_expression e (in_index at a count k) f = only_false _ (no_square f)
+stuck_expression e (chosen at a k) f = only_false _ (no_colon f)
 stuck_expression e (other at a b k) f = stuck_expression (choose at a b e) k f
 stuck_expression e (body_of what at all k) f = stuck_expression (keyed_tree what at all e) k f
 stuck_expression e (argument_of o all k) f = stuck_argument (with_argument all o e) k f
 stuck_expression e (plain_item k) f = stuck_element (item e) k f
-stuck_expression e (range_second at a k) f = cond-false _ _ _ (no_colon f) ∙ never _ (no_square f)
-stuck_expression e (range_third at a b k) f = never _ (no_square f)
-stuck_expression e (loop_test at all k) f = never _ (no_semicolon f)
-stuck_expression e (element_test at k) f = never _ (no_round f)
+stuck_expression e (range_second at a k) f = cond-false _ _ _ (no_colon f) ∙ only_false _ (no_square f)
+stuck_expression e (range_third at a b k) f = only_false _ (no_square f)
+stuck_expression e (loop_test at all k) f = only_false _ (no_semicolon f)
+stuck_expression e (element_test at k) f = only_false _ (no_round f)
 stuck_expression e (default_of n all k) f = stuck_parameter (with_parameter all n (Some e)) k f
-stuck_expression e (assigned_to at n a k) f = never _ (no_semicolon f)
-stuck_expression e (function_body at n all a k) f = never _ (no_semicolon f)
-stuck_expression e (statement_test at m a k) f = never _ (no_round f)
+stuck_expression e (assigned_to at n a k) f = only_false _ (no_semicolon f)
+stuck_expression e (function_body at n all a k) f = only_false _ (no_semicolon f)
+stuck_expression e (statement_test at m a k) f = only_false _ (no_round f)
 
 pub stuck_tested : (e : Expression) (k : BehindExpression) {t : Token} → Foreign t → tested_step e k t ≡ stuck
 unfolding tested_step

@@ -10,7 +10,6 @@ use Rattle.scad_grammar.specs.LeftOut.{IsLeftOut, left_include, left_use, left_m
 use Rattle.scad_grammar.specs.State.{State}
 use Rattle.scad_grammar.specs.Move.{Move, go, left_out, stuck}
 use Rattle.scad_grammar.specs.Machine.{step, start, reach}
-use Rattle.scad_grammar.proofs.reader.Asked.{none_is_no_some}
 use Rattle.scad_grammar.proofs.reader.Prefix.{reach_by, reached_begins, begins_reached, reached_next, goes_next}
 use Rattle.scad_grammar.proofs.reader.Prefix.{stuck_begins_nothing}
 use Rattle.scad_grammar.proofs.faults.Leaves.{Form, form_include, form_use, form_mark, form_operator, form_function}
@@ -19,6 +18,7 @@ use Rattle.scad_grammar.proofs.faults.LeavesStatements.{left_form}
 use Rattle.scad_grammar.proofs.faults.Pairs.{Pair, pair_include, pair_use, pair_mark, pair_operator, left_part}
 use Rattle.scad_grammar.proofs.faults.Pairs.{told, told_only}
 use Rattle.scad_grammar.proofs.faults.Standins.{paired, paired_function}
+use Rattle.std.proofs.lemmas.Option.{none-some}
 
 record Goes (m : Move) : Type 0 where
   next : State
@@ -75,8 +75,8 @@ left_is before t s w h e = left_by before s (left_form s t w e) h e
 goes_by : (m : Move) (s' : State) → reach_by m [] ≡ Some s' → Goes m
 unfolding reach
 goes_by (go next) s' h = record { next = next; is = refl }
-goes_by (left_out w) s' h = absurd (none_is_no_some h)
-goes_by stuck s' h = absurd (none_is_no_some h)
+goes_by (left_out w) s' h = absurd (none-some _ h)
+goes_by stuck s' h = absurd (none-some _ h)
 
 begins_goes : (before : List Token) (u : Token) (s : State) → reach start before ≡ Some s →
     Begins (before ++ (u ∷ [])) → Goes (step s u)

@@ -13,7 +13,7 @@ use Rattle.scad_ast.specs.declared.operator.BinOp.{BinOp}
 use Rattle.scad_grammar.specs.Tokens.{sign, is_sign_kind, operator_sign, line_of, on_line, operator_kind, operator}
 use Rattle.scad_grammar.specs.Tokens.{first_operator, begins_with}
 use Rattle.scad_grammar.specs.Grammar.{ends_arguments_kind, at_end_of_arguments}
-use Rattle.scad_grammar.proofs.reader.Asked.{none_is_no_some}
+use Rattle.std.proofs.lemmas.Option.{none-some}
 
 -- a token behind an expression
 abbrev pub closing_kind : TokenKind → Bool
@@ -71,31 +71,31 @@ closing_no_assign _ h = refl
 
 operator_no_square : (n : ℕ) (op : BinOp) (kind : TokenKind) → operator_kind n kind ≡ Some op →
     is_sign_kind OpenSquare kind ≡ false
-operator_no_square n op (Sign OpenSquare) h = absurd (none_is_no_some h)
+operator_no_square n op (Sign OpenSquare) h = absurd (none-some _ h)
 operator_no_square n op (Sign _) h = refl
 operator_no_square n op _ h = refl
 
 operator_no_dot : (n : ℕ) (op : BinOp) (kind : TokenKind) → operator_kind n kind ≡ Some op →
     is_sign_kind Dot kind ≡ false
-operator_no_dot n op (Sign Dot) h = absurd (none_is_no_some h)
+operator_no_dot n op (Sign Dot) h = absurd (none-some _ h)
 operator_no_dot n op (Sign _) h = refl
 operator_no_dot n op _ h = refl
 
 operator_no_caret : (n : ℕ) (op : BinOp) (kind : TokenKind) → operator_kind n kind ≡ Some op →
     is_sign_kind Caret kind ≡ false
-operator_no_caret n op (Sign Caret) h = absurd (none_is_no_some h)
+operator_no_caret n op (Sign Caret) h = absurd (none-some _ h)
 operator_no_caret n op (Sign _) h = refl
 operator_no_caret n op _ h = refl
 
 operator_no_round : (n : ℕ) (op : BinOp) (kind : TokenKind) → operator_kind n kind ≡ Some op →
     is_sign_kind OpenRound kind ≡ false
-operator_no_round n op (Sign OpenRound) h = absurd (none_is_no_some h)
+operator_no_round n op (Sign OpenRound) h = absurd (none-some _ h)
 operator_no_round n op (Sign _) h = refl
 operator_no_round n op _ h = refl
 
 operator_no_assign : (n : ℕ) (op : BinOp) (kind : TokenKind) → operator_kind n kind ≡ Some op →
     is_sign_kind Assign kind ≡ false
-operator_no_assign n op (Sign Assign) h = absurd (none_is_no_some h)
+operator_no_assign n op (Sign Assign) h = absurd (none-some _ h)
 operator_no_assign n op (Sign _) h = refl
 operator_no_assign n op _ h = refl
 
@@ -146,7 +146,7 @@ one_line n m x op lt true h e =
     let at_m : line_of x ≡ m = eqb-true (line_of x) m h in
     let at_n : line_of x ≡ n = eqb-true (line_of x) n k in
     omega (arith, at_m, at_n, lt)))
-one_line n m x op lt false h e = absurd (none_is_no_some e)
+one_line n m x op lt false h e = absurd (none-some _ e)
 
 other_line : (n m : ℕ) (o : Option BinOp) (op : BinOp) → n < m → on_line m o ≡ Some op → on_line n o ≡ None
 other_line n m (Some x) op lt h = one_line n m x op lt (line_of x == m) refl h

@@ -12,8 +12,8 @@ use Rattle.scad_grammar.specs.Move.{Move, go, left_out, stuck}
 use Rattle.scad_grammar.specs.Machine.{step, reach}
 use Rattle.scad_grammar.specs.Nesting.{Construct, is_open, open_at}
 use Rattle.scad_grammar.proofs.reader.Prefix.{reach_by, by_reach}
-use Rattle.scad_grammar.proofs.reader.Asked.{same_some, none_is_no_some}
 use Rattle.scad_grammar.proofs.nesting.Kept.{kept}
+use Rattle.std.proofs.lemmas.Option.{same_Some, none-some}
 
 -- how many constructs stay open where the reader has gone on until so many tokens are left
 unfoldable pub kept_at : State → List Token → ℕ → ℕ
@@ -133,7 +133,7 @@ pub kept_reached : (ts more : List Token) (s reached : State) → reach s ts ≡
     kept_at s (ts ++ more) (length more) ≡ kept reached more
 unfolding reach
 kept_reached [] more s reached e = at_start s more (length more) (omega arith)
-    ∙ ap (λ (x : State). kept x more) (same_some s reached e)
+    ∙ ap (λ (x : State). kept x more) (same_Some s reached e)
 kept_reached (t ∷ ts) more s reached e =
     past s t (ts ++ more) (length more) (omega (arith, length-append ts more))
     ∙ by_step (step s t) (sym (by_reach s t ts) ∙ e) (λ next. kept_reached ts more next reached)
@@ -143,5 +143,5 @@ kept_reached (t ∷ ts) more s reached e =
         kept_at next (ts ++ more) (length more) ≡ kept reached more) →
         kept_by m (ts ++ more) (length more) ≡ kept reached more
     by_step (go next) f go_on = go_on next f
-    by_step (left_out w) f go_on = absurd (none_is_no_some f)
-    by_step stuck f go_on = absurd (none_is_no_some f)
+    by_step (left_out w) f go_on = absurd (none-some _ f)
+    by_step stuck f go_on = absurd (none-some _ f)

@@ -26,12 +26,12 @@ use Rattle.scad_grammar.specs.StatementSteps.{statement_step, word_statement, ch
 use Rattle.scad_grammar.specs.StatementSteps.{parameter_step, parameters_step}
 use Rattle.scad_grammar.specs.Machine.{step, reach}
 use Rattle.scad_grammar.proofs.reader.Prefix.{reach_by, by_reach}
-use Rattle.scad_grammar.proofs.reader.Asked.{same_some, none_is_no_some}
 use Rattle.scad_grammar.proofs.nesting.Real.{IsReal, GoesReal, either, unary_real, expression_real, element_real}
 use Rattle.scad_grammar.proofs.nesting.Real.{end_arguments_real, after_argument_real, arguments_real}
 use Rattle.scad_grammar.proofs.nesting.Real.{end_parameters_real, after_parameter_real, after_one_real}
 use Rattle.scad_grammar.proofs.nesting.Real.{after_element_real, after_expression_real, link_real, after_operand_real}
 use Rattle.scad_grammar.proofs.nesting.Real.{post_real, name_real, word_argument_real, member_name_real}
+use Rattle.std.proofs.lemmas.Option.{same_Some, none-some}
 
 call_real : (t : Token) (o : Option (List ℕ)) (m : Marks) (a : Items) (k : BehindItems) →
     GoesReal (call_step t o m a k)
@@ -134,12 +134,12 @@ step_real (want_assign at w all a k) t = either (is_sign Assign t) _ _ tt tt
 -- so what is reached from where a reader may stand is such a place
 pub reached_real : (ts : List Token) (s reached : State) → IsReal s → reach s ts ≡ Some reached → IsReal reached
 unfolding reach
-reached_real [] s reached real e = subst IsReal (same_some s reached e) real
+reached_real [] s reached real e = subst IsReal (same_Some s reached e) real
 reached_real (t ∷ ts) s reached real e =
     by_move (step s t) (step_real s t) (sym (by_reach s t ts) ∙ e) (λ next. reached_real ts next reached)
   where
     by_move : (m : Move) → GoesReal m → reach_by m ts ≡ Some reached →
         ((next : State) → IsReal next → reach next ts ≡ Some reached → IsReal reached) → IsReal reached
     by_move (go next) h f go_on = go_on next h f
-    by_move (left_out w) h f go_on = absurd (none_is_no_some f)
-    by_move stuck h f go_on = absurd (none_is_no_some f)
+    by_move (left_out w) h f go_on = absurd (none-some _ f)
+    by_move stuck h f go_on = absurd (none-some _ f)

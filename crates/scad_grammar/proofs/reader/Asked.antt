@@ -1,5 +1,5 @@
 -- A token that passes a test is the token that the test asks for.
-use Rattle.std.proofs.Common.{◌≡◌, ℕ, Bool, true, false, List, Option, Some, None, ◌==◌, if◌then◌else◌, refl, ap, sym}
+use Rattle.std.proofs.Common.{◌≡◌, ℕ, true, List, Some, ◌==◌, if◌then◌else◌, refl, ap, sym}
 use Rattle.std.proofs.Common.{◌∙◌}
 use Rattle.scad_lex.specs.declared.token.Token.{Token}
 use Rattle.scad_lex.specs.declared.token.TokenKind.{TokenKind}
@@ -16,6 +16,7 @@ use Rattle.scad_lex.specs.declared.token.Key.TheVariants.{True, False, Undef, In
 use Rattle.std.proofs.lemmas.Bool.{eqb-true, false≢true}
 use Rattle.scad_grammar.specs.Tokens.{sign_number, key_number, is_sign_kind, is_key_kind, word_kind, is_sign, is_key}
 use Rattle.scad_grammar.specs.Tokens.{word_of, sign, key, word}
+use Rattle.std.proofs.lemmas.Option.{same_Some, none-some}
 
 -- the sign, the key of a number
 abbrev sign_from : ℕ → SignName
@@ -141,28 +142,12 @@ is_the_sign s t h = ap (λ kind. let u : Token = record { kind = kind; at = t.at
 pub is_the_key : (k : KeyName) (t : Token) → is_key k t ≡ true → t ≡ key k t.at
 is_the_key k t h = ap (λ kind. let u : Token = record { kind = kind; at = t.at } in u) (key_kind k t.kind h)
 
-value_or : {A : Type 0} → A → Option A → A
-value_or a None = a
-value_or a (Some x) = x
-
-pub same_some : {A : Type 0} (x y : A) → Some x ≡ Some y → x ≡ y
-unfolding value_or
-same_some x y h = ap (value_or x) h
-
-is_some : {A : Type 0} → Option A → Bool
-is_some None = false
-is_some (Some x) = true
-
-pub none_is_no_some : {A : Type 0} {x : A} → None ≡ Some x → ⊥
-unfolding is_some
-none_is_no_some h = false≢true (ap is_some h)
-
 word_is : (w : List ℕ) (kind : TokenKind) → word_kind kind ≡ Some w → kind ≡ Word w
-word_is w (Word found) h = ap Word (same_some found w h)
-word_is w (Number z) h = absurd (none_is_no_some h)
-word_is w (Str chars) h = absurd (none_is_no_some h)
-word_is w (Sign s) h = absurd (none_is_no_some h)
-word_is w (Key k) h = absurd (none_is_no_some h)
+word_is w (Word found) h = ap Word (same_Some found w h)
+word_is w (Number z) h = absurd (none-some _ h)
+word_is w (Str chars) h = absurd (none-some _ h)
+word_is w (Sign s) h = absurd (none-some _ h)
+word_is w (Key k) h = absurd (none-some _ h)
 
 pub is_the_word : (w : List ℕ) (t : Token) → word_of t ≡ Some w → t ≡ word w t.at
 is_the_word w t h = ap (λ kind. let u : Token = record { kind = kind; at = t.at } in u) (word_is w t.kind h)

@@ -30,21 +30,21 @@ use Rattle.scad_grammar.proofs.reader.Goes.{wants_defined, wants_parameters, wan
 use Rattle.scad_grammar.proofs.reader.Goes.{wants_assign, is_in_parameters, is_after_parameter, ItemsGoes}
 use Rattle.scad_grammar.proofs.reader.Goes.{goes_program, goes_group, goes_module, goes_child, goes_held, goes_other}
 use Rattle.scad_grammar.proofs.reader.Goes.{ParametersGoes, goes_defined, goes_function, goes_choice, goes_statement}
-use Rattle.scad_grammar.proofs.reader.Asked.{same_some, none_is_no_some}
 use Rattle.scad_grammar.proofs.reader.Tests.{MoveGoes, by_sign, by_key, by_only, by_word}
+use Rattle.std.proofs.lemmas.Option.{same_Some, none-some}
 
 -- a call begins
 callee_is : (kind : TokenKind) (at : Place) (w : List ℕ) → callee_kind kind ≡ Some w →
     let t : Token = record { kind = kind; at = at } in Callee t w
-callee_is (Word found) at w h = subst (Callee (word found at)) (same_some _ w h) call_word
-callee_is (Key For) at w h = subst (Callee (key For at)) (same_some _ w h) call_for
-callee_is (Key Let) at w h = subst (Callee (key Let at)) (same_some _ w h) call_let
-callee_is (Key Echo) at w h = subst (Callee (key Echo at)) (same_some _ w h) call_echo
-callee_is (Key Assert) at w h = subst (Callee (key Assert at)) (same_some _ w h) call_assert
-callee_is (Key _) at w h = absurd (none_is_no_some h)
-callee_is (Number z) at w h = absurd (none_is_no_some h)
-callee_is (Str chars) at w h = absurd (none_is_no_some h)
-callee_is (Sign s) at w h = absurd (none_is_no_some h)
+callee_is (Word found) at w h = subst (Callee (word found at)) (same_Some _ w h) call_word
+callee_is (Key For) at w h = subst (Callee (key For at)) (same_Some _ w h) call_for
+callee_is (Key Let) at w h = subst (Callee (key Let at)) (same_Some _ w h) call_let
+callee_is (Key Echo) at w h = subst (Callee (key Echo at)) (same_Some _ w h) call_echo
+callee_is (Key Assert) at w h = subst (Callee (key Assert at)) (same_Some _ w h) call_assert
+callee_is (Key _) at w h = absurd (none-some _ h)
+callee_is (Number z) at w h = absurd (none-some _ h)
+callee_is (Str chars) at w h = absurd (none-some _ h)
+callee_is (Sign s) at w h = absurd (none-some _ h)
 
 from_star : {m : Marks} {a : Items} {k : BehindItems} {q : Place} {ts : List Token} {p : Items} →
     Goes (want_marked (starred m) a k) ts p → Goes (want_marked m a k) (sign Star q ∷ ts) p

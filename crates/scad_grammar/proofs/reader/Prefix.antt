@@ -8,11 +8,11 @@ use Rattle.scad_grammar.specs.Move.{Move, go, left_out, stuck}
 use Rattle.scad_grammar.specs.Machine.{step, start, reach, run}
 use Rattle.scad_grammar.proofs.reader.Runs.{follow, by_move}
 use Rattle.scad_grammar.proofs.reader.Goes.{Goes}
-use Rattle.scad_grammar.proofs.reader.Asked.{same_some, none_is_no_some}
 use Rattle.scad_grammar.proofs.reader.Tests.{MoveGoes}
 use Rattle.scad_grammar.proofs.reader.Statements.{runs_program}
 use Rattle.scad_grammar.proofs.reader.Sound.{sound, into_program}
 use Rattle.scad_grammar.proofs.reader.Viable.{viable}
+use Rattle.std.proofs.lemmas.Option.{same_Some, none-some}
 
 -- where a reader stands behind a move and further tokens
 abbrev pub reach_by : Move → List Token → Option State
@@ -35,13 +35,13 @@ goes_on : (m : Move) (ts more : List Token) (p : Items) →
     ((s s' : State) → reach s ts ≡ Some s' → Goes s' more p → Goes s (ts ++ more) p) →
     (s' : State) → reach_by m ts ≡ Some s' → Goes s' more p → MoveGoes m (ts ++ more) p
 goes_on (go next) ts more p f s' h g = f next s' h g
-goes_on (left_out w) ts more p f s' h g = none_is_no_some h
-goes_on stuck ts more p f s' h g = none_is_no_some h
+goes_on (left_out w) ts more p f s' h g = none-some _ h
+goes_on stuck ts more p f s' h g = none-some _ h
 
 pub reached_goes : (ts more : List Token) (p : Items) (s s' : State) → reach s ts ≡ Some s' → Goes s' more p →
     Goes s (ts ++ more) p
 unfolding reach
-reached_goes [] more p s s' h g = subst (λ (x : State). Goes x more p) (sym (same_some s s' h)) g
+reached_goes [] more p s s' h g = subst (λ (x : State). Goes x more p) (sym (same_Some s s' h)) g
 reached_goes (t ∷ ts) more p s s' h g =
     sound s t (ts ++ more) p (goes_on (step s t) ts more p (reached_goes ts more p) s' (sym (by_reach s t ts) ∙ h) g)
 
@@ -59,8 +59,8 @@ runs_on : (m : Move) (ts more : List Token) (p : Items) →
     ((s : State) → run s (ts ++ more) ≡ Some p → Reached s ts) →
     follow m (ts ++ more) ≡ Some p → (s' : State) × (reach_by m ts ≡ Some s')
 runs_on (go next) ts more p f h = let r = f next h in (r.at, r.is)
-runs_on (left_out w) ts more p f h = absurd (none_is_no_some h)
-runs_on stuck ts more p f h = absurd (none_is_no_some h)
+runs_on (left_out w) ts more p f h = absurd (none-some _ h)
+runs_on stuck ts more p f h = absurd (none-some _ h)
 
 run_reached : (ts more : List Token) (p : Items) (s : State) → run s (ts ++ more) ≡ Some p → Reached s ts
 unfolding reach
@@ -78,13 +78,13 @@ reach_more : (m : Move) (ts : List Token) (t : Token) (s' : State) →
     ((s s' : State) → reach s ts ≡ Some s' → reach s (ts ++ (t ∷ [])) ≡ reach_by (step s' t) []) →
     reach_by m ts ≡ Some s' → reach_by m (ts ++ (t ∷ [])) ≡ reach_by (step s' t) []
 reach_more (go next) ts t s' f h = f next s' h
-reach_more (left_out w) ts t s' f h = absurd (none_is_no_some h)
-reach_more stuck ts t s' f h = absurd (none_is_no_some h)
+reach_more (left_out w) ts t s' f h = absurd (none-some _ h)
+reach_more stuck ts t s' f h = absurd (none-some _ h)
 
 pub reach_one : (ts : List Token) (t : Token) (s s' : State) → reach s ts ≡ Some s' → reach s (ts ++ (t ∷ []))
     ≡ reach_by (step s' t) []
 unfolding reach
-reach_one [] t s s' h = by_reach s t [] ∙ ap (λ (x : State). reach_by (step x t) []) (same_some s s' h)
+reach_one [] t s s' h = by_reach s t [] ∙ ap (λ (x : State). reach_by (step x t) []) (same_Some s s' h)
 reach_one (u ∷ ts) t s s' h =
     by_reach s u (ts ++ (t ∷ [])) ∙ reach_more (step s u) ts t s' (reach_one ts t) (sym (by_reach s u ts) ∙ h)
 
@@ -104,4 +104,4 @@ pub stuck_begins_nothing : (before : List Token) (t : Token) (s : State) (m : Mo
     ≡ Some s → step s t ≡ m →
     reach_by m [] ≡ None → Begins (before ++ (t ∷ [])) → ⊥
 stuck_begins_nothing before t s m h e none b =
-    none_is_no_some (sym none ∙ (sym (reached_next before t s m h e) ∙ (begins_reached (before ++ (t ∷ [])) b).1))
+    none-some _ (sym none ∙ (sym (reached_next before t s m h e) ∙ (begins_reached (before ++ (t ∷ [])) b).1))

@@ -33,7 +33,6 @@ use Rattle.scad_grammar.proofs.reader.Goes.{wants_defined, wants_parameters, is_
 use Rattle.scad_grammar.proofs.reader.Goes.{is_after_parameter, has_parameters, wants_assign, ItemsGoes, goes_program}
 use Rattle.scad_grammar.proofs.reader.Goes.{goes_module, goes_child, goes_held, goes_other, goes_default}
 use Rattle.scad_grammar.proofs.reader.Goes.{goes_assigned, goes_result, goes_statement}
-use Rattle.scad_grammar.proofs.reader.Asked.{same_some, none_is_no_some}
 use Rattle.scad_grammar.proofs.reader.Tests.{MoveGoes, by_test, by_sign, by_only, by_word}
 use Rattle.scad_grammar.proofs.reader.Ends.{by_marked, by_statement, by_child, by_items, by_end_parameters}
 use Rattle.scad_grammar.proofs.reader.Ends.{into_parameters, by_parameter}
@@ -42,6 +41,7 @@ use Rattle.scad_grammar.proofs.reader.BackwardElements.{by_end_arguments, by_arg
 use Rattle.scad_grammar.proofs.reader.Backward.{by_links, by_operand}
 use Rattle.scad_grammar.proofs.reader.Starts.{by_unary, by_want_expression, by_want_element, by_elements, by_post}
 use Rattle.scad_grammar.proofs.reader.Starts.{by_name, by_word_argument, by_arguments, by_member_name}
+use Rattle.std.proofs.lemmas.Option.{same_Some, none-some}
 
 from_round : {q : Place} {k : BehindArguments} {ts : List Token} {p : Items} →
     Goes (in_arguments no_arguments k) ts p → Goes (want_arguments k) (sign OpenRound q ∷ ts) p
@@ -170,8 +170,8 @@ sound (want_assign at w all a k) t ts p m =
 finishes : (a : Items) (k : BehindItems) (p : Items) → finish_items a k ≡ Some p → ItemsGoes a k [] p
 unfolding finish_items
 finishes a in_program p h =
-    subst (λ (x : Items). ItemsGoes a in_program [] x) (same_some a p h) (goes_program no_statement)
-finishes a (in_group d k) p h = absurd (none_is_no_some h)
+    subst (λ (x : Items). ItemsGoes a in_program [] x) (same_Some a p h) (goes_program no_statement)
+finishes a (in_group d k) p h = absurd (none-some _ h)
 finishes a (module_body at w all outer k) p h = goes_module (finishes (with_item outer (module_of at w all a)) k p h)
 finishes a (child_of at m w all outer k) p h =
     goes_child (finishes (with_statement m outer (call_of at m.percent m.hash w all a)) k p h)
@@ -183,14 +183,14 @@ finishes a (other_child at m e held outer k) p h =
 pub sound_finish : (s : State) (p : Items) → finish s ≡ Some p → Goes s [] p
 unfolding finish
 sound_finish (have_items a k) p h = has_items (finishes a k p h)
-sound_finish _ p h = absurd (none_is_no_some h)
+sound_finish _ p h = absurd (none-some _ h)
 
 sound_follow : (m : Move) (ts : List Token) (p : Items) →
     ((s : State) (p : Items) → run s ts ≡ Some p → Goes s ts p) →
     follow m ts ≡ Some p → MoveGoes m ts p
 sound_follow (go s) ts p f h = f s p h
-sound_follow (left_out w) ts p f h = none_is_no_some h
-sound_follow stuck ts p f h = none_is_no_some h
+sound_follow (left_out w) ts p f h = none-some _ h
+sound_follow stuck ts p f h = none-some _ h
 
 pub sound_run : (ts : List Token) (s : State) (p : Items) → run s ts ≡ Some p → Goes s ts p
 unfolding run

@@ -34,23 +34,23 @@ use Rattle.scad_grammar.proofs.reader.Goes.{is_in_elements, is_in_range, Operand
 use Rattle.scad_grammar.proofs.reader.Goes.{goes_tested, goes_round, goes_index, goes_argument, goes_item, goes_test}
 use Rattle.scad_grammar.proofs.reader.Goes.{ElementGoes, goes_member, goes_range, goes_each, goes_call, goes_keyed}
 use Rattle.scad_grammar.proofs.reader.Goes.{goes_for_each, goes_for_loop, goes_let_args}
-use Rattle.scad_grammar.proofs.reader.Asked.{same_some, none_is_no_some}
 use Rattle.scad_grammar.proofs.reader.Tests.{MoveGoes, by_test, by_sign, by_key, by_word}
 use Rattle.scad_grammar.proofs.reader.Backward.{opened_from, by_operand}
 use Rattle.scad_grammar.proofs.reader.BackwardElements.{by_end_arguments}
 use Rattle.scad_grammar.proofs.reader.Expressions.{comp_let}
+use Rattle.std.proofs.lemmas.Option.{same_Some, none-some}
 
 -- NUMBER, STRING, "true", "false", "undef"
 literal_is : (kind : TokenKind) (at : Place) (e : Expression) (ts : List Token) → literal_kind at kind ≡ Some e →
     let t : Token = record { kind = kind; at = at } in Prim (t ∷ ts) ts e
-literal_is (Number z) at e ts h = subst (Prim (numeral z at ∷ ts) ts) (same_some _ e h) a_number
-literal_is (Str chars) at e ts h = subst (Prim (quoted chars at ∷ ts) ts) (same_some _ e h) a_string
-literal_is (Key True) at e ts h = subst (Prim (key True at ∷ ts) ts) (same_some _ e h) a_true
-literal_is (Key False) at e ts h = subst (Prim (key False at ∷ ts) ts) (same_some _ e h) a_false
-literal_is (Key Undef) at e ts h = subst (Prim (key Undef at ∷ ts) ts) (same_some _ e h) an_undef
-literal_is (Key _) at e ts h = absurd (none_is_no_some h)
-literal_is (Word w) at e ts h = absurd (none_is_no_some h)
-literal_is (Sign s) at e ts h = absurd (none_is_no_some h)
+literal_is (Number z) at e ts h = subst (Prim (numeral z at ∷ ts) ts) (same_Some _ e h) a_number
+literal_is (Str chars) at e ts h = subst (Prim (quoted chars at ∷ ts) ts) (same_Some _ e h) a_string
+literal_is (Key True) at e ts h = subst (Prim (key True at ∷ ts) ts) (same_Some _ e h) a_true
+literal_is (Key False) at e ts h = subst (Prim (key False at ∷ ts) ts) (same_Some _ e h) a_false
+literal_is (Key Undef) at e ts h = subst (Prim (key Undef at ∷ ts) ts) (same_Some _ e h) an_undef
+literal_is (Key _) at e ts h = absurd (none-some _ h)
+literal_is (Word w) at e ts h = absurd (none-some _ h)
+literal_is (Sign s) at e ts h = absurd (none-some _ h)
 
 from_literal : {e : Expression} {k : BehindOperand} {us ts : List Token} {p : Items} → Prim us ts e →
     Goes (have_post 0 e k) ts p → Goes (want_unary k) us p

@@ -26,6 +26,7 @@ use Rattle.scad_grammar.proofs.rules.Turns.{then_gives, sign_gives}
 use Rattle.scad_grammar.proofs.rules.Fewer.{Leaves, BelowFewer, expr_leaves}
 use Rattle.scad_grammar.proofs.rules.Linked.{Below}
 use Rattle.scad_grammar.proofs.rules.Operands.{over_expr}
+use Rattle.scad_grammar.proofs.faults.Foreign.{only_false}
 
 -- one rule and another behind it, which has fewer tokens
 pub then_gives_on : {A B : Type 0} (n : ℕ) (x : Result Items Refusal) (r : Read A) (f : A → List Token → Read B)
@@ -48,19 +49,16 @@ no_semicolon (Sign Semicolon) h = h
 no_semicolon (Sign _) h = refl
 no_semicolon _ h = refl
 
-passed_by : (b : Bool) (s : State) → b ≡ false → only b s ≡ stuck
-passed_by b s h = ap (λ (b : Bool). only b s) h
-
 no_end : (all : Arguments) (k : BehindArguments) (t : Token) → ends_arguments t ≡ false →
     end_arguments all k t ≡ stuck
 unfolding end_arguments
-no_end all (of_call at w k) t h = passed_by (is_sign CloseRound t) _ (no_round t.kind h)
-no_end all (of_keyed what at k) t h = passed_by (is_sign CloseRound t) _ (no_round t.kind h)
+no_end all (of_call at w k) t h = only_false _ (no_round t.kind h)
+no_end all (of_keyed what at k) t h = only_false _ (no_round t.kind h)
 no_end all (of_for at k) t h =
-    cond-false _ _ _ (no_round t.kind h) ∙ passed_by (is_sign Semicolon t) _ (no_semicolon t.kind h)
-no_end all (of_steps at starts e k) t h = passed_by (is_sign CloseRound t) _ (no_round t.kind h)
-no_end all (of_let at k) t h = passed_by (is_sign CloseRound t) _ (no_round t.kind h)
-no_end all (of_statement at m w a k) t h = passed_by (is_sign CloseRound t) _ (no_round t.kind h)
+    cond-false _ _ _ (no_round t.kind h) ∙ only_false _ (no_semicolon t.kind h)
+no_end all (of_steps at starts e k) t h = only_false _ (no_round t.kind h)
+no_end all (of_let at k) t h = only_false _ (no_round t.kind h)
+no_end all (of_statement at m w a k) t h = only_false _ (no_round t.kind h)
 
 module _ (end : Place) (n : ℕ) (below : Option Rules) (linked : Below end n below) (few : BelowFewer below) where
   -- behind `,` or at the end of the arguments

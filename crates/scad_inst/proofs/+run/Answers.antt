@@ -1,5 +1,5 @@
 -- One more turn of each loop, and its exits.
-use Rattle.std.proofs.Common.{◌≡◌, ◌+◌, List, [], drop, refl, sym, ap, ap₂, ◌∙◌, subst, arith}
+use Rattle.std.proofs.Common.{◌≡◌, ◌+◌, ℤ, Bool, List, [], drop, refl, sym, ap, ap₂, ◌∙◌, subst, arith}
 use Rattle.std.proofs.lemmas.List.{take_rest}
 use Rattle.std.proofs.lemmas.Result.{err_from_is_err_and}
 use Rattle.std.specs.Vec.Iter.{into_iter_items}
@@ -19,7 +19,15 @@ use Rattle.scad_tree.specs.Solid.{Solid}
 use Rattle.scad_tree.specs.View.{solids}
 use Rattle.scad_inst.specs.Frames.{below_of}
 use Rattle.scad_ast.specs.Tree.{Item}
-use Rattle.scad_inst.specs.Meaning.{for_variables, turns, children_by, node}
+use Rattle.scad_inst.specs.Meaning.{for_variables, turns, children_by, node, combined, built_in}
+use Rattle.scad_inst.specs.Made.{argued}
+use Rattle.scad_inst.specs.declared.operation.Operation.TheVariants.{Unite}
+use Rattle.scad_inst.specs.declared.space.Where.{Where}
+use Rattle.scad_inst.specs.Where.{inside_linear}
+use Rattle.scad_ast.specs.declared.expression.Arg.{Arg}
+use Rattle.scad_modules.specs.Extrusions.{linear_by}
+use Rattle.scad_modules.specs.Reading.{Read}
+use Rattle.scad_inst.proofs.Heights.{height-stops, height-goes}
 use Rattle.scad_tree.specs.View.{solid_of}
 use Rattle.scad_inst.proofs.Bodies.{call_statement, choice_statement}
 use Rattle.scad_inst.specs.View.{trees_in}
@@ -143,3 +151,27 @@ pub walk::run-returns-in-If-clause-does : goal.walk::run-returns-in-If-clause-do
 walk::run-returns-in-If-clause-does t c =
     subst (λ (x : Item). Does solid_of (node (below_of (held c.args.m.now)) c.args.w.now (env_in (held c.args.m.now)) (along_in (held c.args.m.now)) x (state_of c.args.m.now)) c.choice.result (state_of c.choice.new.m))
     (choice_statement c.args.stmt.now c.in-If.test c.in-If.held c.in-If.other c.in-If.is) c.choice.ensures.does
+
+pub built_in::linear_extrude-returns-in_err-height-clause-does : goal.built_in::linear_extrude-returns-in_err-height-clause-does
+unfolding built_in
+built_in::linear_extrude-returns-in_err-height-clause-does t c =
+    let s = state_of c.args.m.now in
+    let said : c.linear_by.result ≡ linear_by (arguments c.args.args.now.items) (data_of c.args.found.now) = c.linear_by.ensures ∙ ap (λ (l : List Arg). linear_by (arguments l) (data_of c.args.found.now)) c.deref.ensures.value in
+    let p = err_from_is_err_and c.from_residual-in_err-height.result c.from_residual-in_err-height.ensures.1 in
+    rw (p.1, p.2) (λ some. height-stops c.args.at c.args.w.now.space
+    (argued c.args.at c.args.name.now (linear_by (arguments c.args.args.now.items) (data_of c.args.found.now)))
+    (λ (h : ℤ × Bool). combined (below_of (held c.args.m.now)) Unite c.args.at (inside_linear c.args.w.now.whole h) (items c.args.all.now.items) (env_in (held c.args.m.now)) (along_in (held c.args.m.now)))
+    s (c.in_ok-judge_solid.ensures s) _ (ap (λ (r : Read (ℤ × Bool)). argued c.args.at c.args.name.now r s) (sym said) ∙ c.in_err-height.ensures s some))
+
+pub built_in::linear_extrude-returns-clause-does : goal.built_in::linear_extrude-returns-clause-does
+unfolding built_in
+built_in::linear_extrude-returns-clause-does t c =
+    let s = state_of c.args.m.now in
+    let said : c.linear_by.result ≡ linear_by (arguments c.args.args.now.items) (data_of c.args.found.now) = c.linear_by.ensures ∙ ap (λ (l : List Arg). linear_by (arguments l) (data_of c.args.found.now)) c.deref.ensures.value in
+    subst (λ (o : Outcome Solid). Does solid_of o c.combined.result (state_of c.combined.new.m))
+    (ap (λ (w : Where). combined (below_of (held c.args.m.now)) Unite c.args.at w (items c.args.all.now.items) (env_in (held c.args.m.now)) (along_in (held c.args.m.now)) s) c.inside_linear-inner.ensures
+    ∙ sym (height-goes c.args.at c.args.w.now.space
+    (argued c.args.at c.args.name.now (linear_by (arguments c.args.args.now.items) (data_of c.args.found.now)))
+    (λ (h : ℤ × Bool). combined (below_of (held c.args.m.now)) Unite c.args.at (inside_linear c.args.w.now.whole h) (items c.args.all.now.items) (env_in (held c.args.m.now)) (along_in (held c.args.m.now)))
+    s (c.in_ok-judge_solid.ensures s) c.in_ok-height.height (ap (λ (r : Read (ℤ × Bool)). argued c.args.at c.args.name.now r s) (sym said) ∙ c.in_ok-height.ensures s)))
+    c.combined.ensures.does

@@ -9,18 +9,13 @@ use Rattle.scad_ast.specs.Tree.{Items, no_items}
 use Rattle.scad_ast.specs.Scope.{items}
 use Rattle.scad_ast.specs.declared.statement.Item.{Item}
 use Rattle.scad_grammar.specs.Tokens.{is_sign, word_of}
-use Rattle.scad_grammar.specs.Rules.{Read, deeper}
+use Rattle.scad_grammar.specs.Rules.{deeper}
 use Rattle.scad_grammar.specs.StatementRules.{StatementRules, child_of, statement_of, start_of, group_of}
 use Rattle.scad_grammar.specs.StatementRules.{word_behind_of}
 use Rattle.scad_parse.specs.Reading.{rules_at}
 use Rattle.scad_parse.specs.ReadingStatements.{below_statements, statement_rules_at}
-use Rattle.scad_parse.proofs.rules.Opened.{rest, front}
+use Rattle.scad_parse.proofs.rules.Opened.{rest, front, deep}
 use Rattle.scad_parse.proofs.rules.Statements.{below_more_statements}
-
-deep : {A : Type 0} (end : Place) (room inner : ℕ) → room ≢ 0 → inner ≡ room - 1 → (at : Place)
-    (f : StatementRules → Read A) → deeper (below_statements end room) at f ≡ f (statement_rules_at end inner)
-deep end room inner some less at f =
-    ap (λ b. deeper b at f) (below_more_statements end room some) ∙ ap (λ n. f (statement_rules_at end n)) (sym less)
 
 module _ (end : Place) (room inner : ℕ) (some : room ≢ 0) (less : inner ≡ room - 1) (t : Token) (ts : List Token)
     (long : 1 ≤ length ts) (first : t ≡ get_or ts 0 t) where
@@ -31,7 +26,7 @@ module _ (end : Place) (room inner : ℕ) (some : room ≢ 0) (less : inner ≡ 
   unfolding child_of
   group_child inside empty a h =
       ap (child_of end (below_statements end room)) (front ts t long first) ∙ (cond-false _ _ _ a ∙ (cond-true _ _ _ h
-      ∙ (deep end room inner some less t.at (λ r. r.group false no_items (rest ts))
+      ∙ (deep _ (statement_rules_at end) room inner (below_more_statements end room some) less t.at (λ r. r.group false no_items (rest ts))
       ∙ ap
       (λ xs. group_of end (below_statements end inner) (length (rest ts)) false (items xs) (rest ts)) (sym empty))))
 
@@ -42,7 +37,7 @@ module _ (end : Place) (room inner : ℕ) (some : room ≢ 0) (less : inner ≡ 
   group_here d all a h =
       ap (statement_of end (below_statements end room) d all) (front ts t long first) ∙ (cond-false _ _ _ a
       ∙ (cond-true _ _ _ h
-      ∙ deep end room inner some less t.at (λ r. r.group d all (rest ts))))
+      ∙ deep _ (statement_rules_at end) room inner (below_more_statements end room some) less t.at (λ r. r.group d all (rest ts))))
 
   pub word_here : (d : Bool) (all : Items) (w : List ℕ) → is_sign Semicolon t ≡ false → is_sign OpenCurly t ≡ false →
       word_of t ≡ Some w → statement_of end (below_statements end room) d all ts
@@ -52,4 +47,4 @@ module _ (end : Place) (room inner : ℕ) (some : room ≢ 0) (less : inner ≡ 
       ap (statement_of end (below_statements end room) d all) (front ts t long first) ∙ (cond-false _ _ _ a
       ∙ (cond-false _ _ _ b
       ∙ (ap (λ o. start_of d (below_statements end room) t o all (rest ts)) h
-      ∙ deep end room inner some less t.at (λ r. r.word_behind t.at w all (rest ts)))))
+      ∙ deep _ (statement_rules_at end) room inner (below_more_statements end room some) less t.at (λ r. r.word_behind t.at w all (rest ts)))))

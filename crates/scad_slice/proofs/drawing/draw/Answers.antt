@@ -9,20 +9,20 @@ use Rattle.scad_slice.proofs.drawing.draw.Goals as goal
 pub returns-in_err-send_head-clause-completes : goal.returns-in_err-send_head-clause-completes
 returns-in_err-send_head-clause-completes g c drawing of_tree whole start left =
     stops_all whole _ _ start _ (search rules)
-    (c.in_err-send_head.ensures.carries whole _ start (as_left (begins_by (solid_of c.args.tree.now) drawing c.args.count c.requires.number) left))
+    (c.in_err-send_head.ensures.carries whole _ start (as_left (begins_by c.args.height (solid_of c.args.tree.now) drawing c.args.count c.requires.number) left))
 
 pub returns-in_err-loops-clause-completes : goal.returns-in_err-loops-clause-completes
 returns-in_err-loops-clause-completes g c drawing of_tree whole start left =
     stops_all whole _ _ start _ (search rules)
     (c.in_err-loops.ensures.carries drawing of_tree whole _ start
-    (c.in_ok-send_head.ensures.carries whole _ start (as_left (begins_by (solid_of c.args.tree.now) drawing c.args.count c.requires.number) left)))
+    (c.in_ok-send_head.ensures.carries whole _ start (as_left (begins_by c.args.height (solid_of c.args.tree.now) drawing c.args.count c.requires.number) left)))
 
 pub returns-in_err-send_end-clause-completes : goal.returns-in_err-send_end-clause-completes
 returns-in_err-send_end-clause-completes g c drawing of_tree whole start left =
     stops_all whole _ _ start _ (search rules)
     (c.in_err-send_end.ensures.carries whole _ start
     (c.in_ok-loops.ensures.carries drawing of_tree whole _ start
-    (c.in_ok-send_head.ensures.carries whole _ start (as_left (begins_by (solid_of c.args.tree.now) drawing c.args.count c.requires.number) left))))
+    (c.in_ok-send_head.ensures.carries whole _ start (as_left (begins_by c.args.height (solid_of c.args.tree.now) drawing c.args.count c.requires.number) left))))
 
 pub returns-in_err-line-clause-completes : goal.returns-in_err-line-clause-completes
 returns-in_err-line-clause-completes g c drawing of_tree whole start left =
@@ -30,7 +30,7 @@ returns-in_err-line-clause-completes g c drawing of_tree whole start left =
       _,
       c.in_ok-send_end.ensures.carries whole _ start
           (c.in_ok-loops.ensures.carries drawing of_tree whole _ start
-          (c.in_ok-send_head.ensures.carries whole _ start (as_left (begins_by (solid_of c.args.tree.now) drawing c.args.count c.requires.number) left))),
+          (c.in_ok-send_head.ensures.carries whole _ start (as_left (begins_by c.args.height (solid_of c.args.tree.now) drawing c.args.count c.requires.number) left))),
     )
 
 pub returns-clause-completes : goal.returns-clause-completes
@@ -38,4 +38,4 @@ returns-clause-completes g c drawing of_tree whole start left =
     as_left (ends_by drawing c.args.count _ _ (c.in_ok-loops.ensures.loops drawing of_tree) (search rules))
     (c.in_ok-send_end.ensures.carries whole _ start
     (c.in_ok-loops.ensures.carries drawing of_tree whole _ start
-    (c.in_ok-send_head.ensures.carries whole _ start (as_left (begins_by (solid_of c.args.tree.now) drawing c.args.count c.requires.number) left))))
+    (c.in_ok-send_head.ensures.carries whole _ start (as_left (begins_by c.args.height (solid_of c.args.tree.now) drawing c.args.count c.requires.number) left))))

@@ -9,25 +9,25 @@ pub returns-in_err-send_layer-clause-carries : goal.returns-in_err-send_layer-cl
 returns-in_err-send_layer-clause-carries g c drawing of_tree whole rest start left =
     let tree = solid_of c.args.tree.now in
     let same : c.deref.result.now ≡ drawing c.args.layer =
-    c.deref.ensures.value ∙ drawn_so tree drawing c.args.layer c.in_ok-loops.loops.items c.requires.solids of_tree c.in_ok-loops.ensures.outlines
+    c.deref.ensures.value ∙ drawn_so c.args.height tree drawing c.args.layer c.in_ok-loops.loops.items c.requires.solids of_tree c.in_ok-loops.ensures.outlines
     in
     stops_part whole rest _ _ start _ (search rules)
     (c.in_err-send_layer.ensures.carries whole rest start
-    (as_left (written_next tree drawing c.args.layer _ _ rest c.in_ok-loops.ensures.within refl same) left))
+    (as_left (written_next c.args.height tree drawing c.args.layer _ _ rest c.in_ok-loops.ensures.within refl same) left))
 
 pub returns-clause-carries : goal.returns-clause-carries
 returns-clause-carries g c drawing of_tree whole rest start left =
     let tree = solid_of c.args.tree.now in
     let same : c.deref.result.now ≡ drawing c.args.layer =
-    c.deref.ensures.value ∙ drawn_so tree drawing c.args.layer c.in_ok-loops.loops.items c.requires.solids of_tree c.in_ok-loops.ensures.outlines
+    c.deref.ensures.value ∙ drawn_so c.args.height tree drawing c.args.layer c.in_ok-loops.loops.items c.requires.solids of_tree c.in_ok-loops.ensures.outlines
     in
     c.in_ok-send_layer.ensures.carries whole rest start
-    (as_left (written_next tree drawing c.args.layer _ _ rest c.in_ok-loops.ensures.within refl same) left)
+    (as_left (written_next c.args.height tree drawing c.args.layer _ _ rest c.in_ok-loops.ensures.within refl same) left)
 
 pub returns-clause-loops : goal.returns-clause-loops
 returns-clause-loops g c drawing of_tree =
     let tree = solid_of c.args.tree.now in
     let same : c.in_ok-loops.loops.items ≡ drawing c.args.layer =
-    drawn_so tree drawing c.args.layer c.in_ok-loops.loops.items c.requires.solids of_tree c.in_ok-loops.ensures.outlines
+    drawn_so c.args.height tree drawing c.args.layer c.in_ok-loops.loops.items c.requires.solids of_tree c.in_ok-loops.ensures.outlines
     in
     search rules ∙ ap length same

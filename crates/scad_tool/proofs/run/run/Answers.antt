@@ -1,6 +1,5 @@
-use Rattle.std.proofs.Common.{rules, Global, ℕ, List, Option, map, string_bytes}
+use Rattle.std.proofs.Common.{rules, Global, ℕ, List, map, string_bytes}
 use Rattle.scad_io.specs.Desk.{Files, View}
-use Rattle.scad_script.specs.declared.loading.Input.{Input}
 use Rattle.scad_script.specs.Run.{RunsTo}
 use Rattle.scad_script.specs.Names.{IsOrderly}
 use Rattle.scad_script.specs.Script.{Script}
@@ -10,8 +9,8 @@ use Rattle.scad_script.proofs.Faulted.{report_sound}
 use Rattle.scad_script.proofs.Fronts.{files_are_fronts}
 use Rattle.scad_script.proofs.Handed.{names_are_given}
 use Rattle.scad_script.proofs.Created.{created_for_bytes}
-use Rattle.scad_slice.specs.Drawing.{Drawing}
-use Rattle.scad_tool.specs.Answer.{script_of, IsDrawn, OnScript, given_by}
+use Rattle.scad_tool.specs.Words.{given_by}
+use Rattle.scad_tool.specs.Answer.{Drawings, Inputs, script_of, IsDrawn, OnScript}
 use Rattle.scad_tool.specs.Playing.{Works}
 use Rattle.scad_tool.specs.Promises.{Refuses}
 use Rattle.scad_tool.proofs.Orderly.{orderly}
@@ -38,72 +37,72 @@ after g c = g.D.Desk.view c.report.new.desk
 abbrev played : (g : Over) (c : goal.After-report g) → Works (words g c) (files g c) c.work-ended.result (before g c) (g.D.Desk.view c.work-ended.new.desk)
 played g c = c.work-ended.ensures.works
 
--- what was read of the model
-abbrev input : (g : Over) → goal.After-report g → Option Input
-input g c = (played g c).input
+-- what was read of the files
+abbrev inputs : (g : Over) → goal.After-report g → Inputs
+inputs g c = (played g c).inputs
 
--- a drawing of its tree
-abbrev drawing : (g : Over) → goal.After-report g → Drawing
-drawing g c = (answers_are_there (input g c)).0
+-- drawings of the model's tree
+abbrev drawings : (g : Over) → goal.After-report g → Drawings
+drawings g c = (answers_are_there (inputs g c).model).0
 
 -- the script of the run
 abbrev whole : (g : Over) → goal.After-report g → Script
-whole g c = script_of (words g c) (drawing g c) (input g c)
+whole g c = script_of (words g c) (drawings g c) (inputs g c)
 
--- with every drawing: the work, then the report
-runs_on : (g : Over) (c : goal.After-report g) (d : Drawing) → IsDrawn (input g c) d → RunsTo (script_of (words g c) d (input g c)) c.report.result (before g c) (after g c)
+-- with all drawings: the work, then the report
+runs_on : (g : Over) (c : goal.After-report g) (d : Drawings) → IsDrawn (inputs g c).model d → RunsTo (script_of (words g c) d (inputs g c)) c.report.result (before g c) (after g c)
 runs_on g c d is = (c.work-ended.result, g.D.Desk.view c.work-ended.new.desk, (played g c).plays d is, c.report.ensures.reports)
 
-promised_on : (g : Over) (c : goal.After-report g) → PromisedOn (words g c) (input g c) c.report.result (before g c) (after g c)
+promised_on : (g : Over) (c : goal.After-report g) → PromisedOn (words g c) (inputs g c) c.report.result (before g c) (after g c)
 promised_on g c d is =
-    statuses_keep_promises (given_by (words g c)) (script_of (words g c) d (input g c)) c.report.result (before g c) (after g c)
-    (orderly (words g c) d (input g c)) c.requires.ready (runs_on g c d is)
+    statuses_keep_promises (given_by (words g c)) (script_of (words g c) d (inputs g c)) c.report.result (before g c) (after g c)
+    (orderly (words g c) d (inputs g c)) c.requires.ready (runs_on g c d is)
 
 runs : (g : Over) (c : goal.After-report g) → RunsTo (whole g c) c.report.result (before g c) (after g c)
-runs g c = runs_on g c (drawing g c) (answers_are_there (input g c)).1
+runs g c = runs_on g c (drawings g c) (answers_are_there (inputs g c).model).1
 
 promised : (g : Over) (c : goal.After-report g) → Promised (given_by (words g c)) (whole g c) c.report.result (before g c) (after g c)
-promised g c = promised_on g c (drawing g c) (answers_are_there (input g c)).1
+promised g c = promised_on g c (drawings g c) (answers_are_there (inputs g c).model).1
 
 in_order : (g : Over) (c : goal.After-report g) → IsOrderly (given_by (words g c)) (whole g c)
-in_order g c = orderly (words g c) (drawing g c) (input g c)
+in_order g c = orderly (words g c) (drawings g c) (inputs g c)
 
 -- a property of the run's script
 on_script : (g : Over) (c : goal.After-report g) (Holds : Script → Type 0) → Holds (whole g c) → OnScript (words g c) (files g c) Holds
-on_script g c Holds holds = (input g c, drawing g c, (played g c).read, (answers_are_there (input g c)).1, holds)
+on_script g c Holds holds = (input g c, drawing g c, (played g c).read, (answers_are_there (inputs g c).model).1, holds)
 
 pub report-requires : goal.report-requires
 report-requires g c =
     let given = map (string_bytes {Z = Global}) c.args.words.now in
     let w = c.work-ended.ensures.works in
-    let drawn = answers_are_there w.input in
+    let drawn = answers_are_there w.inputs.model in
     record {
-      sound = λ said. report_sound (given_by given) (script_of given drawn.0 w.input) c.work-ended.result (g.D.Desk.view c.args.desk.now)
-          (g.D.Desk.view c.work-ended.new.desk) (orderly given drawn.0 w.input) c.requires.ready (w.plays drawn.0 drawn.1) said;
+      sound = λ said. report_sound (given_by given) (script_of given drawn.0 w.inputs) c.work-ended.result (g.D.Desk.view c.args.desk.now)
+          (g.D.Desk.view c.work-ended.new.desk) (orderly given drawn.0 w.inputs) c.requires.ready (w.plays drawn.0 drawn.1) said;
     }
 
 pub returns-clause-runs : goal.returns-clause-runs
 returns-clause-runs g c = on_script g c (λ s. RunsTo s c.report.result (before g c) (after g c)) (runs g c)
 
 pub returns-clause-answer : goal.returns-clause-answer
-returns-clause-answer g c = answers (words g c) (files g c) (input g c) c.report.result (before g c) (after g c) (played g c).read (promised_on g c)
+returns-clause-answer g c = answers (words g c) (files g c) (inputs g c) c.report.result (before g c) (after g c) (played g c).read (promised_on g c)
 
 pub returns-clause-outlines : goal.returns-clause-outlines
 returns-clause-outlines g c =
-    holds_tree (words g c) (files g c) (input g c) (drawing g c) c.report.result (before g c) (after g c) (played g c).read
-    (answers_are_there (input g c)).1 (promised g c)
+    holds_tree (words g c) (files g c) (inputs g c) (drawings g c) c.report.result (before g c) (after g c) (played g c).read
+    (answers_are_there (inputs g c).model).1 (promised g c)
     (done_solids (words g c) (files g c) c.work-ended.result c.report.result (before g c) (g.D.Desk.view c.work-ended.new.desk) (after g c) (played g c) c.report.ensures.reports)
 
 pub returns-clause-words : goal.returns-clause-words
-returns-clause-words g c = judges (words g c) (drawing g c) (input g c) c.report.result (before g c) (after g c) (promised g c)
+returns-clause-words g c = judges (words g c) (drawings g c) (inputs g c) c.report.result (before g c) (after g c) (promised g c)
 
 pub returns-clause-refusal : goal.returns-clause-refusal
 returns-clause-refusal g c =
     on_script g c (λ s. Refuses s c.report.result (before g c) (after g c))
-    (refuses_so (words g c) (drawing g c) (input g c) c.report.result (before g c) (after g c) (runs g c) (promised g c))
+    (refuses_so (words g c) (drawings g c) (inputs g c) c.report.result (before g c) (after g c) (runs g c) (promised g c))
 
 pub returns-clause-leaves : goal.returns-clause-leaves
-returns-clause-leaves g c = leaves (words g c) (drawing g c) (input g c) c.report.result (before g c) (after g c) (runs g c)
+returns-clause-leaves g c = leaves (words g c) (drawings g c) (inputs g c) c.report.result (before g c) (after g c) (runs g c)
 
 pub returns-clause-read_fault : goal.returns-clause-read_fault
 returns-clause-read_fault g c = read_fault (given_by (words g c)) (whole g c) c.report.result (before g c) (after g c) (promised g c)
@@ -120,7 +119,7 @@ returns-clause-memory g c same =
 
 pub returns-clause-complete : goal.returns-clause-complete
 returns-clause-complete g c =
-    completes (words g c) (files g c) (drawing g c) (input g c) c.report.result (before g c) (after g c) (g.D.Desk.faults c.args.desk.now)
+    completes (words g c) (files g c) (drawings g c) (inputs g c) c.report.result (before g c) (after g c) (g.D.Desk.faults c.args.desk.now)
     (g.D.Desk.faults c.report.new.desk) (played g c).read (promised g c) (search rules) (search rules)
 
 pub returns-clause-front : goal.returns-clause-front

@@ -1,0 +1,1 @@
+difference() { cube(2); sphere(1,$fn=5); }
