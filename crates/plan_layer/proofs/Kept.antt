@@ -64,8 +64,13 @@ move_keeps_less outlines b c e o k q hd on = keeps_less outlines b c q o hd (k q
 -- ---- a move the other way
 other_way : (a b q : Point) → IsOn a b q → IsOn b a q
 other_way a b q on = record {
-  k = on.k; s = on.t; t = on.s;
-  positive = on.positive; first = on.second; second = on.first; some = swapped on.s on.t on.some;
+  k = on.k;
+  s = on.t;
+  t = on.s;
+  positive = on.positive;
+  first = on.second;
+  second = on.first;
+  some = swapped on.s on.t on.some;
   x = on.x ∙ commute (on.s *ℤ a.x) (on.t *ℤ b.x);
   y = on.y ∙ commute (on.s *ℤ a.y) (on.t *ℤ b.y);
   d = on.d ∙ commute (on.s *ℤ a.d) (on.t *ℤ b.d);

@@ -8,3 +8,4 @@ pub mod Filled
 pub mod Walled
 pub mod Counted
 pub mod Pushed
+pub mod Points

@@ -94,7 +94,11 @@ module _ (outlines : List (List Pt)) (c : ℕ) (p : Pt) (q : Point) (hd : pos 0 
       let m : Point = mean s t (whole e.a) (whole e.b) in
       let hw : pos 0 <ℤ m.d = omega (arith, ints) in
       apart (record {
-        s = s; t = t; from = hs; to = ht; some = o;
+        s = s;
+        t = t;
+        from = hs;
+        to = ht;
+        some = o;
         nearer = record {
           across = nearer_axis (pos c) p.x q.x q.d m.x m.d hd hw under.x close.across;
           along = nearer_axis (pos c) p.y q.y q.d m.y m.d hd hw under.y close.along;
@@ -109,7 +113,11 @@ module _ (outlines : List (List Pt)) (c : ℕ) (p : Pt) (q : Point) (hd : pos 0 
           let m : Point = mean s t (whole e.a) (whole e.b) in
           let hw : pos 0 <ℤ (m.d *ℤ pos 1) = omega (arith, ints) in
           apart (record {
-            s = s; t = t; from = hs; to = ht; some = o;
+            s = s;
+            t = t;
+            from = hs;
+            to = ht;
+            some = o;
             nearer = record {
               across = small (pos c) (m.x *ℤ pos 1 -ℤ p.x *ℤ m.d) (m.d *ℤ pos 1) (omega (arith, ints)) hw close.across;
               along = small (pos c) (m.y *ℤ pos 1 -ℤ p.y *ℤ m.d) (m.d *ℤ pos 1) (omega (arith, ints)) hw close.along;

@@ -38,7 +38,9 @@ pub(crate) fn extent_of(layer: u32, sides: &[Edge]) -> Extent
         high: i32::MIN,
     };
     'sides: for side in sides {
-        extent = extent.with(across(layer, side.a)).with(across(layer, side.b));
+        extent = extent
+            .with(across(layer, side.a))
+            .with(across(layer, side.b));
     }
     extent
 }

@@ -1,5 +1,6 @@
 //! The plan of a layer.
-ghost use Rattle.std.specs.Prelude.{◌≡◌, ◌/◌, ◌≤◌, length, IfOk, IfErr, IfSome, All};
+ghost use Rattle.std.specs.Prelude.{◌≡◌, ◌*◌, ◌/◌, ◌≤◌, length, IfOk, IfErr, IfSome, All};
+ghost use Rattle.std.specs.List.{sum_by};
 ghost use Rattle.scad_geom.specs.Limits.{point_limit};
 ghost use Rattle.scad_geom.specs.Within.{IsWithin};
 ghost use Rattle.scad_words.specs.Settings.{AreInRange};
@@ -31,7 +32,7 @@ pub struct LayerPlan {
 /// spacing; on the first line with runs, the third and so on they go upwards, on the others downwards.
 ///
 /// Each point of each move keeps half the width of a line, less one micrometre, from each side of the outlines along both axes,
-/// and they wind round it.
+/// and they wind round it. Each path has at least two points, and all together have at most 400,000.
 ///
 /// It is refused exactly where a wall is, with the fault of the outermost such wall, and then where the plan has more than
 /// 200,000 extruding moves.
@@ -47,6 +48,8 @@ pub fn plan(
     ensures clear { IfOk result (λ p. PathsKeepClear outlines.now (settings.now.line_width / 2) p.paths.items) }
     ensures accepted { IfOk result (λ p. AreAccepted outlines.now settings.now.line_width settings.now.walls) }
     ensures moves { IfOk result (λ p. length (all_moves p.paths.items) ≤ move_limit) }
+    ensures ways { IfOk result (λ p. All (λ path. 2 ≤ length path) p.paths.items) }
+    ensures points { IfOk result (λ p. sum_by length p.paths.items ≤ 2 * move_limit) }
     ensures refused { IfErr result (IsRefusal outlines.now layer settings.now) }
 {
     let mut paths = wall_paths(alloc, outlines, settings)?;

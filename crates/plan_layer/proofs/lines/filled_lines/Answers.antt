@@ -32,8 +32,8 @@ lines-init c =
     let first = simp to_z-of_z at c.multiple_from-at.ensures.first in
     let low = c.extent_of-extent.ensures.from in
     let filled = subst (λ (ls : List LineRuns). FilledBefore c.args.outlines.now c.args.layer c.args.settings.now c.multiple_from-at.result ls) (sym c.new-lines.ensures.items)
-        (before_none c.args.outlines.now c.args.layer c.args.settings.now c.requires.within c.extent_of-extent.result.low c.extent_of-extent.result.high (among c)
-        c.multiple_from-at.result c.multiple_from-at.ensures.multiple first) in
+    (before_none c.args.outlines.now c.args.layer c.args.settings.now c.requires.within c.extent_of-extent.result.low c.extent_of-extent.result.high (among c)
+    c.multiple_from-at.result c.multiple_from-at.ensures.multiple first) in
     simp to_z-of_z (record { filled = filled; multiple = c.multiple_from-at.ensures.multiple; from = omega (arith, ints) })
 
 pub lines-smaller : goal.lines-smaller
@@ -65,7 +65,7 @@ lines-preserved c =
     let next_fits : FitsSigned w64 (to_z w64 c.lines.at-bits +ℤ pos c.args.settings.now.infill_spacing) = omega (arith, ints) in
     let added : AddsLine c.args.outlines.now c.args.layer c.args.settings.now (to_z w64 c.lines.at-bits) c.lines.lines.items c.push_filled.new.lines.items = simp to_z-of_z at c.in_ok-push_filled.ensures in
     let filled = subst (λ (ls : List LineRuns). FilledBefore c.args.outlines.now c.args.layer c.args.settings.now (to_z w64 c.lines.at-bits +ℤ pos c.args.settings.now.infill_spacing) ls) (sym added.added)
-        (before_more c.args.outlines.now c.args.layer c.args.settings.now (to_z w64 c.lines.at-bits) c.lines.lines.items c.lines.invariant.multiple c.lines.invariant.filled added.runs added.are_runs) in
+    (before_more c.args.outlines.now c.args.layer c.args.settings.now (to_z w64 c.lines.at-bits) c.lines.lines.items c.lines.invariant.multiple c.lines.invariant.filled added.runs added.are_runs) in
     let multiple = next_multiple c.args.settings.now.infill_spacing (to_z w64 c.lines.at-bits) c.lines.invariant.multiple in
     simp (spaced, to_z-of_z) (record { filled = filled; multiple = multiple; from = omega (arith, ints) })
 
