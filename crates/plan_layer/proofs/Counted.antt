@@ -1,5 +1,6 @@
 -- How many moves paths have.
-use Rattle.std.proofs.Common.{◌≡◌, ◌+◌, ◌-◌, ◌<◌, ℕ, List, [], ◌∷◌, ◌++◌, length, take, get_or, refl, ap, ◌∙◌, sym, arith, length-append}
+use Rattle.std.proofs.Common.{◌≡◌, ◌+◌, ◌-◌, ◌<◌, ℕ, List, [], ◌∷◌, ◌++◌, length, take, get_or, refl, ap, ◌∙◌, sym}
+use Rattle.std.proofs.Common.{arith, length-append}
 use Rattle.std.proofs.lemmas.Grind.{flat_map-append}
 use Rattle.std.proofs.lemmas.List.{take_more}
 use Rattle.scad_geom.specs.declared.point.Pt.{Pt}
@@ -19,7 +20,8 @@ pub moves_more : (paths : List (List Pt)) (i : ℕ) (d : List Pt) → i < length
 moves_more paths i d h =
     let path : List Pt = get_or paths i d in
     let e : length (all_moves (take (i + 1) paths)) ≡ length (all_moves (take i paths) ++ all_moves (path ∷ [])) =
-    ap (λ (ps : List (List Pt)). length (all_moves ps)) (take_more paths i d h) ∙ ap length (flat_map-append moves (take i paths) (path ∷ [])) in
+    ap (λ (ps : List (List Pt)). length (all_moves ps)) (take_more paths i d h)
+    ∙ ap length (flat_map-append moves (take i paths) (path ∷ [])) in
     let l = length-append (all_moves (take i paths)) (all_moves (path ∷ [])) in
     let m = length-append (moves path) [] in
     let n = length-moves path in

@@ -1,5 +1,6 @@
 -- The least and the greatest coordinate of sides, found one side after another.
-use Rattle.std.proofs.Common.{◌≡◌, ◌<◌, ◌≤◌, ◌+◌, ◌%◌, ℕ, Bool, true, false, cond, List, length, take, get_or, refl, sym, subst, arith, ℤ, pos, negsuc, ◌-ℤ◌}
+use Rattle.std.proofs.Common.{◌≡◌, ◌<◌, ◌≤◌, ◌+◌, ◌%◌, ℕ, Bool, true, false, cond, List, length, take, get_or, refl}
+use Rattle.std.proofs.Common.{sym, subst, arith, ℤ, pos, negsuc, ◌-ℤ◌}
 use lib.Signed.{◌≤ℤ◌}
 use Rattle.std.specs.Prelude.{All, int_lt, unsigned_abs, ◌==◌, if◌then◌else◌}
 use Rattle.std.specs.Int.{int_min, int_max}
@@ -37,7 +38,8 @@ greater x y m e = subst (IsGreater x y) (sym e) (by_test (int_lt y x) refl)
     by_test false q = record { first = omega (arith, ints); second = omega (arith, ints); least = λ z h k. k }
 
 -- the extent with one more side
-pub extent_more : (layer : ℕ) (sides : List Edge) (i : ℕ) (d : Edge) (low high low1 high1 low2 high2 a b : ℤ) → i < length sides
+pub extent_more : (layer : ℕ) (sides : List Edge) (i : ℕ) (d : Edge) (low high low1 high1 low2 high2 a b : ℤ)
+    → i < length sides
     → a ≡ across layer (get_or sides i d).a → b ≡ across layer (get_or sides i d).b
     → IsLesser low a low1 → IsGreater high a high1 → IsLesser low1 b low2 → IsGreater high1 b high2
     → All (IsEdgeAmong layer low high) (take i sides) → All (IsEdgeAmong layer low2 high2) (take (i + 1) sides)

@@ -1,5 +1,6 @@
 -- Whole multiples of a spacing.
-use Rattle.std.proofs.Common.{◌≡◌, ◌⊎◌, inl, inr, ℕ, ◌<◌, List, [], ◌∷◌, refl, ap, ◌∙◌, sym, arith, ℤ, pos, negsuc, ◌+ℤ◌, ◌-ℤ◌, ◌*ℤ◌, ◌<ℤ◌}
+use Rattle.std.proofs.Common.{◌≡◌, ◌⊎◌, inl, inr, ℕ, ◌<◌, List, [], ◌∷◌, refl, ap, ◌∙◌, sym, arith, ℤ, pos, negsuc}
+use Rattle.std.proofs.Common.{◌+ℤ◌, ◌-ℤ◌, ◌*ℤ◌, ◌<ℤ◌}
 use lib.Signed.{◌≤ℤ◌}
 use Rattle.std.specs.Prelude.{unsigned_abs}
 use Rattle.std.specs.Int.{int_div_euclid, int_rem_euclid, int_max}
@@ -29,7 +30,8 @@ less_gap : (i j d : ℤ) → (i -ℤ j -ℤ pos 1) *ℤ d ≡ (i *ℤ d -ℤ j *
 less_gap i j d = ring (i ∷ j ∷ d ∷ []) ((v0 ⊖ v1 ⊖ num (pos 1)) ⊗ v2) ((v0 ⊗ v2 ⊖ v1 ⊗ v2) ⊖ v2) refl
 
 -- two of them that differ lie apart by the spacing
-pub multiples_apart : (spacing : ℕ) (y z : ℤ) → IsMultiple spacing y → IsMultiple spacing z → y <ℤ z → (y +ℤ pos spacing) ≤ℤ z
+pub multiples_apart : (spacing : ℕ) (y z : ℤ) → IsMultiple spacing y → IsMultiple spacing z → y <ℤ z
+    → (y +ℤ pos spacing) ≤ℤ z
 multiples_apart spacing y z m n h =
     let d : pos 0 <ℤ pos spacing = let s = m.spaced in omega (arith, ints) in
     let ym = m.is in
@@ -41,11 +43,13 @@ multiples_apart spacing y z m n h =
     omega (arith, ints, k, l)
 
 -- the remainder of the negated place leads to the next multiple
-pub least_multiple : (spacing : ℕ) (place r : ℤ) → 0 < spacing → r ≡ int_rem_euclid (pos 0 -ℤ place) (pos spacing) → IsMultiple spacing (place +ℤ r)
+pub least_multiple : (spacing : ℕ) (place r : ℤ) → 0 < spacing → r ≡ int_rem_euclid (pos 0 -ℤ place) (pos spacing)
+    → IsMultiple spacing (place +ℤ r)
 least_multiple spacing place r h e = record {
   spaced = h;
   times = pos 0 -ℤ int_div_euclid (pos 0 -ℤ place) (pos spacing);
-  is = let d = divided (pos 0 -ℤ place) spacing h in let t = turned (int_div_euclid (pos 0 -ℤ place) (pos spacing)) (pos spacing) in omega (arith, ints, d, t, e);
+  is = let d = divided (pos 0 -ℤ place) spacing h in let t = turned (int_div_euclid (pos 0 -ℤ place) (pos spacing))
+      (pos spacing) in omega (arith, ints, d, t, e);
 }
   where
     divided : (n : ℤ) (d : ℕ) → 0 < d → n ≡ int_div_euclid n (pos d) *ℤ pos d +ℤ int_rem_euclid n (pos d)
@@ -56,7 +60,8 @@ least_multiple spacing place r h e = record {
     turned q d = ring (q ∷ d ∷ []) ((num (pos 0) ⊖ v0) ⊗ v1) (num (pos 0) ⊖ v0 ⊗ v1) refl
 
 -- what is left up to a greatest place
-pub falls : (high z next : ℤ) → z ≤ℤ high → z <ℤ next → unsigned_abs (int_max (pos 0) (high +ℤ pos 1 -ℤ next)) < unsigned_abs (int_max (pos 0) (high +ℤ pos 1 -ℤ z))
+pub falls : (high z next : ℤ) → z ≤ℤ high → z <ℤ next
+    → unsigned_abs (int_max (pos 0) (high +ℤ pos 1 -ℤ next)) < unsigned_abs (int_max (pos 0) (high +ℤ pos 1 -ℤ z))
 falls high z next h k =
     let g = greater (pos 0) (high +ℤ pos 1 -ℤ next) (int_max (pos 0) (high +ℤ pos 1 -ℤ next)) refl in
     let l = greater (pos 0) (high +ℤ pos 1 -ℤ z) (int_max (pos 0) (high +ℤ pos 1 -ℤ z)) refl in

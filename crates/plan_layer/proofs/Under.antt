@@ -1,5 +1,7 @@
--- An exact point and the whole point below and to the left of it: what keeps far from this one keeps nearly as far from the other.
-use Rattle.std.proofs.Common.{◌≡◌, ◌≤◌, ◌≢◌, ℕ, List, [], ◌∷◌, refl, ◌∙◌, sym, flat_map, arith, true, ℤ, pos, ◌+ℤ◌, ◌-ℤ◌, ◌*ℤ◌, ◌<ℤ◌}
+-- An exact point and the whole point below and to the left of it: what keeps far from this one keeps nearly as far from
+-- the other.
+use Rattle.std.proofs.Common.{◌≡◌, ◌≤◌, ◌≢◌, ℕ, List, [], ◌∷◌, refl, ◌∙◌, sym, flat_map, arith, true, ℤ, pos, ◌+ℤ◌}
+use Rattle.std.proofs.Common.{◌-ℤ◌, ◌*ℤ◌, ◌<ℤ◌}
 use lib.Signed.{◌≤ℤ◌}
 use Rattle.std.specs.Prelude.{All}
 use Rattle.std.proofs.lemmas.Int.{ints}
@@ -29,7 +31,8 @@ pub record IsUnder (p : Pt) (q : Point) : Type 0 where
 -- ---- along one axis
 -- twice (c - 1), times a weight
 reach : (c g : ℤ) → (pos 2 *ℤ (c -ℤ pos 1)) *ℤ g ≡ pos 2 *ℤ (c *ℤ g) -ℤ pos 2 *ℤ g
-reach c g = ring (c ∷ g ∷ []) ((num (pos 2) ⊗ (v0 ⊖ num (pos 1))) ⊗ v1) (num (pos 2) ⊗ (v0 ⊗ v1) ⊖ num (pos 2) ⊗ v1) refl
+reach c g =
+    ring (c ∷ g ∷ []) ((num (pos 2) ⊗ (v0 ⊖ num (pos 1))) ⊗ v1) (num (pos 2) ⊗ (v0 ⊗ v1) ⊖ num (pos 2) ⊗ v1) refl
 
 -- m / w, n / d and z: the gaps, over w d
 over : (z n d w : ℤ) → (n -ℤ z *ℤ d) *ℤ w ≡ n *ℤ w -ℤ z *ℤ (w *ℤ d)
@@ -38,14 +41,21 @@ over z n d w = ring (z ∷ n ∷ d ∷ w ∷ []) ((v1 ⊖ v0 ⊗ v2) ⊗ v3) (v1
 under_next : (z n d w : ℤ) → ((z *ℤ d +ℤ d) -ℤ n) *ℤ w ≡ (z *ℤ (w *ℤ d) +ℤ w *ℤ d) -ℤ n *ℤ w
 under_next z n d w = ring (z ∷ n ∷ d ∷ w ∷ []) (((v0 ⊗ v2 ⊕ v2) ⊖ v1) ⊗ v3) ((v0 ⊗ (v3 ⊗ v2) ⊕ v3 ⊗ v2) ⊖ v1 ⊗ v3) refl
 
-gap_above : (c z m w d : ℤ) → (c *ℤ (w *ℤ pos 1) -ℤ (m *ℤ pos 1 -ℤ z *ℤ w)) *ℤ d ≡ (c *ℤ (w *ℤ d) -ℤ m *ℤ d) +ℤ z *ℤ (w *ℤ d)
-gap_above c z m w d = ring (c ∷ z ∷ m ∷ w ∷ d ∷ []) ((v0 ⊗ (v3 ⊗ num (pos 1)) ⊖ (v2 ⊗ num (pos 1) ⊖ v1 ⊗ v3)) ⊗ v4) ((v0 ⊗ (v3 ⊗ v4) ⊖ v2 ⊗ v4) ⊕ v1 ⊗ (v3 ⊗ v4)) refl
+gap_above : (c z m w d : ℤ)
+    → (c *ℤ (w *ℤ pos 1) -ℤ (m *ℤ pos 1 -ℤ z *ℤ w)) *ℤ d ≡ (c *ℤ (w *ℤ d) -ℤ m *ℤ d) +ℤ z *ℤ (w *ℤ d)
+gap_above c z m w d =
+    ring (c ∷ z ∷ m ∷ w ∷ d ∷ []) ((v0 ⊗ (v3 ⊗ num (pos 1)) ⊖ (v2 ⊗ num (pos 1) ⊖ v1 ⊗ v3)) ⊗ v4)
+    ((v0 ⊗ (v3 ⊗ v4) ⊖ v2 ⊗ v4) ⊕ v1 ⊗ (v3 ⊗ v4)) refl
 
-gap_below : (c z m w d : ℤ) → ((m *ℤ pos 1 -ℤ z *ℤ w) +ℤ c *ℤ (w *ℤ pos 1)) *ℤ d ≡ (m *ℤ d -ℤ z *ℤ (w *ℤ d)) +ℤ c *ℤ (w *ℤ d)
-gap_below c z m w d = ring (c ∷ z ∷ m ∷ w ∷ d ∷ []) (((v2 ⊗ num (pos 1) ⊖ v1 ⊗ v3) ⊕ v0 ⊗ (v3 ⊗ num (pos 1))) ⊗ v4) ((v2 ⊗ v4 ⊖ v1 ⊗ (v3 ⊗ v4)) ⊕ v0 ⊗ (v3 ⊗ v4)) refl
+gap_below : (c z m w d : ℤ)
+    → ((m *ℤ pos 1 -ℤ z *ℤ w) +ℤ c *ℤ (w *ℤ pos 1)) *ℤ d ≡ (m *ℤ d -ℤ z *ℤ (w *ℤ d)) +ℤ c *ℤ (w *ℤ d)
+gap_below c z m w d =
+    ring (c ∷ z ∷ m ∷ w ∷ d ∷ []) (((v2 ⊗ num (pos 1) ⊖ v1 ⊗ v3) ⊕ v0 ⊗ (v3 ⊗ num (pos 1))) ⊗ v4)
+    ((v2 ⊗ v4 ⊖ v1 ⊗ (v3 ⊗ v4)) ⊕ v0 ⊗ (v3 ⊗ v4)) refl
 
 -- where m / w is at most c - 1 from n / d, it is less than c from the whole number z at n / d or below it
-nearer_axis : (c z n d m w : ℤ) → pos 0 <ℤ d → pos 0 <ℤ w → IsFloor n d z → IsHalf (pos 2 *ℤ (c -ℤ pos 1)) (m *ℤ d -ℤ n *ℤ w) (w *ℤ d) → IsLess c (m *ℤ pos 1 -ℤ z *ℤ w) (w *ℤ pos 1)
+nearer_axis : (c z n d m w : ℤ) → pos 0 <ℤ d → pos 0 <ℤ w → IsFloor n d z
+    → IsHalf (pos 2 *ℤ (c -ℤ pos 1)) (m *ℤ d -ℤ n *ℤ w) (w *ℤ d) → IsLess c (m *ℤ pos 1 -ℤ z *ℤ w) (w *ℤ pos 1)
 nearer_axis c z n d m w hd hw f h =
     let l = f.least in
     let t = f.most in
@@ -79,17 +89,20 @@ small c x g hc hg h =
 
 -- n / d is at most 1 from z
 within_one : (z n d : ℤ) → pos 0 <ℤ d → IsFloor n d z → IsHalf (pos 2) (n *ℤ pos 1 -ℤ z *ℤ d) (d *ℤ pos 1)
-within_one z n d hd f = let l = f.least in let t = f.most in record { from = omega (arith, ints); to = omega (arith, ints) }
+within_one z n d hd f =
+    let l = f.least in let t = f.most in record { from = omega (arith, ints); to = omega (arith, ints) }
 
 no_way : (z : ℤ) → IsHalf (pos 2) (z *ℤ pos 1 -ℤ z *ℤ pos 1) (pos 1 *ℤ pos 1)
 no_way z = record { from = omega (arith, ints); to = omega (arith, ints) }
 
 -- ---- of points
-module _ (outlines : List (List Pt)) (c : ℕ) (p : Pt) (q : Point) (hd : pos 0 <ℤ q.d) (under : IsUnder p q) (deep : IsDeep outlines c p) where
+module _ (outlines : List (List Pt)) (c : ℕ) (p : Pt) (q : Point) (hd : pos 0 <ℤ q.d) (under : IsUnder p q)
+    (deep : IsDeep outlines c p) where
   Apart : Edge → Type 0
   Apart e = ComesNearer (pos c) (whole p) (whole e.a) (whole e.b) → ⊥
 
-  clear_side : (e : Edge) → (ComesNearer (pos c) (whole p) (whole e.a) (whole e.b) → ⊥) → IsClear (pos 2 *ℤ (pos c -ℤ pos 1)) q (whole e.a) (whole e.b)
+  clear_side : (e : Edge) → (ComesNearer (pos c) (whole p) (whole e.a) (whole e.b) → ⊥)
+      → IsClear (pos 2 *ℤ (pos c -ℤ pos 1)) q (whole e.a) (whole e.b)
   clear_side e apart s t hs ht o close =
       let m : Point = mean s t (whole e.a) (whole e.b) in
       let hw : pos 0 <ℤ m.d = omega (arith, ints) in
@@ -106,7 +119,8 @@ module _ (outlines : List (List Pt)) (c : ℕ) (p : Pt) (q : Point) (hd : pos 0 
       })
 
   module _ (two : 2 ≤ c) where
-    clear_square : (e : Edge) → (ComesNearer (pos c) (whole p) (whole e.a) (whole e.b) → ⊥) → IsClearSegment (pos 2) (whole p) (segment_of e)
+    clear_square : (e : Edge) → (ComesNearer (pos c) (whole p) (whole e.a) (whole e.b) → ⊥)
+        → IsClearSegment (pos 2) (whole p) (segment_of e)
     clear_square e apart = record {
       proper = record { from = omega (arith, ints); to = omega (arith, ints) };
       clear = λ s t hs ht o close.
@@ -132,10 +146,13 @@ module _ (outlines : List (List Pt)) (c : ℕ) (p : Pt) (q : Point) (hd : pos 0 
         (record { across = within_one p.x q.x q.d hd under.x; along = within_one p.y q.y q.d hd under.y })
         (segments (flat_map sides outlines)) (sides_balanced outlines)
         (All-map (IsClearSegment (pos 2) (whole p)) segment_of (flat_map sides outlines)
-        (All-weaker (λ e. ComesNearer (pos c) (whole p) (whole e.a) (whole e.b) → ⊥) (λ e. IsClearSegment (pos 2) (whole p) (segment_of e)) clear_square (flat_map sides outlines) deep.apart))
+        (All-weaker (λ e. ComesNearer (pos c) (whole p) (whole e.a) (whole e.b) → ⊥)
+        (λ e. IsClearSegment (pos 2) (whole p) (segment_of e)) clear_square (flat_map sides outlines) deep.apart))
 
     pub deep_keeps : KeepsWithin outlines c q
     deep_keeps = record {
-      clear = All-weaker (λ e. ComesNearer (pos c) (whole p) (whole e.a) (whole e.b) → ⊥) (λ e. IsClear (pos 2 *ℤ (pos c -ℤ pos 1)) q (whole e.a) (whole e.b)) clear_side (flat_map sides outlines) deep.apart;
+      clear = All-weaker (λ e. ComesNearer (pos c) (whole p) (whole e.a) (whole e.b) → ⊥)
+          (λ e. IsClear (pos 2 *ℤ (pos c -ℤ pos 1)) q (whole e.a) (whole e.b)) clear_side (flat_map sides outlines)
+          deep.apart;
       inside = λ e. deep.inside (sym same_winding ∙ e);
     }

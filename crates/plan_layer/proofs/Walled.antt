@@ -1,5 +1,6 @@
 -- The paths of walls, made one wall after another.
-use Rattle.std.proofs.Common.{◌≡◌, ◌⊎◌, inl, inr, ◌≤◌, ◌<◌, ◌+◌, ℕ, List, [], ◌∷◌, ◌++◌, length, map, refl, ap, ◌∙◌, sym, subst, arith, length-append}
+use Rattle.std.proofs.Common.{◌≡◌, ◌⊎◌, inl, inr, ◌≤◌, ◌<◌, ◌+◌, ℕ, List, [], ◌∷◌, ◌++◌, length, map, refl, ap, ◌∙◌}
+use Rattle.std.proofs.Common.{sym, subst, arith, length-append}
 use Rattle.std.proofs.lemmas.Grind.{flat_map-append}
 use Rattle.std.proofs.lemmas.List.{append-nil}
 use Rattle.scad_geom.specs.declared.point.Pt.{Pt}
@@ -22,15 +23,22 @@ pub record Walled (outlines : List (List Pt)) (width n : ℕ) (paths : List (Lis
   pub accepted : AreAccepted outlines width n
 
 pub walled_none : (outlines : List (List Pt)) (width : ℕ) → Walled outlines width 0 []
-walled_none outlines width = record { walls = []; count = refl; are_walls = tt; paths_are = refl; accepted = λ k h. absurd (omega arith) }
+walled_none outlines width =
+    record { walls = []; count = refl; are_walls = tt; paths_are = refl; accepted = λ k h. absurd (omega arith) }
 
-walls_push : (outlines : List (List Pt)) (width k n : ℕ) (walls : List (List (List Pt))) (loops : List (List Pt)) → n ≡ k + length walls
-    → AreWallsFrom width k outlines walls → AreWalls (distance width n) outlines loops → AreWallsFrom width k outlines (walls ++ loops ∷ [])
-walls_push outlines width k n [] loops e h w = (subst (λ (m : ℕ). AreWalls (distance width m) outlines loops) (omega (arith, e)) w, tt)
-walls_push outlines width k n (first ∷ walls) loops e h w = (h.0, walls_push outlines width (k + 1) n walls loops (omega (arith, e)) h.1 w)
+walls_push : (outlines : List (List Pt)) (width k n : ℕ) (walls : List (List (List Pt))) (loops : List (List Pt))
+    → n ≡ k + length walls
+    → AreWallsFrom width k outlines walls → AreWalls (distance width n) outlines loops → AreWallsFrom width k outlines
+    (walls ++ loops ∷ [])
+walls_push outlines width k n [] loops e h w =
+    (subst (λ (m : ℕ). AreWalls (distance width m) outlines loops) (omega (arith, e)) w, tt)
+walls_push outlines width k n (first ∷ walls) loops e h w =
+    (h.0, walls_push outlines width (k + 1) n walls loops (omega (arith, e)) h.1 w)
 
-pub walled_more : (outlines : List (List Pt)) (width n : ℕ) (paths loops : List (List Pt)) → Walled outlines width n paths → AreWalls (distance width n) outlines loops
-    → length (wall_edges (distance width n) outlines) ≤ edge_limit → crossings (wall_edges (distance width n) outlines) ≤ crossing_limit
+pub walled_more : (outlines : List (List Pt)) (width n : ℕ) (paths loops : List (List Pt))
+    → Walled outlines width n paths → AreWalls (distance width n) outlines loops
+    → length (wall_edges (distance width n) outlines) ≤ edge_limit → crossings
+    (wall_edges (distance width n) outlines) ≤ crossing_limit
     → Walled outlines width (n + 1) (paths ++ map round loops)
 walled_more outlines width n paths loops h w few met = record {
   walls = h.walls ++ loops ∷ [];
@@ -48,19 +56,26 @@ walled_more outlines width n paths loops h w few met = record {
     below_or_same : (k n : ℕ) → k < n + 1 → (k < n) ⊎ (k ≡ n)
     below_or_same k n o = grind arith
 
-    by_order : (k : ℕ) → k < n + 1 → IsWallAccepted outlines (distance width n) → IsWallAccepted outlines (distance width k)
+    by_order : (k : ℕ) → k < n + 1 → IsWallAccepted outlines (distance width n)
+        → IsWallAccepted outlines (distance width k)
     by_order k o a = elim (below_or_same k n o) [
       | inl p ↦ h.accepted k p
       | inr e ↦ subst (λ (m : ℕ). IsWallAccepted outlines (distance width m)) (sym e) a
     ]
 
-pub all_walled : (outlines : List (List Pt)) (s : Settings) (paths : List (List Pt)) → Walled outlines s.line_width s.walls paths → AreWallPaths outlines s paths
-all_walled outlines s paths h = record { walls = h.walls; count = h.count; are_walls = h.are_walls; paths_are = h.paths_are }
+pub all_walled : (outlines : List (List Pt)) (s : Settings) (paths : List (List Pt))
+    → Walled outlines s.line_width s.walls paths → AreWallPaths outlines s paths
+all_walled outlines s paths h =
+    record { walls = h.walls; count = h.count; are_walls = h.are_walls; paths_are = h.paths_are }
 
 -- a wall that is refused refuses the plan
-pub wall_refused : (outlines : List (List Pt)) (s : Settings) (k : ℕ) (fault : BoolFault) → k < s.walls → AreAccepted outlines s.line_width k
-    → IsRefusal (length (wall_edges (distance s.line_width k) outlines)) edge_limit (crossings (wall_edges (distance s.line_width k) outlines)) fault
+pub wall_refused : (outlines : List (List Pt)) (s : Settings) (k : ℕ) (fault : BoolFault) → k < s.walls
+    → AreAccepted outlines s.line_width k
+    → IsRefusal (length (wall_edges (distance s.line_width k) outlines)) edge_limit
+    (crossings (wall_edges (distance s.line_width k) outlines)) fault
     → IsWallsRefusal outlines s (fault_of fault)
 wall_refused outlines s k Memory there accepted h = tt
-wall_refused outlines s k (Edges n) there accepted h = record { wall = k; there = there; accepted = accepted; refused = h }
-wall_refused outlines s k (Crossings n) there accepted h = record { wall = k; there = there; accepted = accepted; refused = h }
+wall_refused outlines s k (Edges n) there accepted h =
+    record { wall = k; there = there; accepted = accepted; refused = h }
+wall_refused outlines s k (Crossings n) there accepted h =
+    record { wall = k; there = there; accepted = accepted; refused = h }

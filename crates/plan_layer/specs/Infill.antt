@@ -1,5 +1,6 @@
 -- The infill of a layer: the runs of its lines, in the order and the direction in which they are printed.
-use Rattle.std.specs.Prelude.{◌≡◌, ◌≢◌, Bool, true, false, not, ◌==◌, if◌then◌else◌, ℕ, ◌*◌, ◌%◌, ◌<◌, List, [], ◌∷◌, ◌++◌, map, reverse, All, Contains, ℤ, pos, ◌*ℤ◌, ◌<ℤ◌}
+use Rattle.std.specs.Prelude.{◌≡◌, ◌≢◌, Bool, true, false, not, ◌==◌, if◌then◌else◌, ℕ, ◌*◌, ◌%◌, ◌<◌, List, [], ◌∷◌}
+use Rattle.std.specs.Prelude.{◌++◌, map, reverse, All, Contains, ℤ, pos, ◌*ℤ◌, ◌<ℤ◌}
 use Rattle.scad_geom.specs.declared.point.Pt.{Pt}
 use Rattle.plan_infill.specs.declared.line.Line.{Line}
 use Rattle.plan_infill.specs.declared.line.Line.TheVariants.{Row, Column}
@@ -45,7 +46,8 @@ AreUpwards (l ∷ ls) = All (λ m. l.at <ℤ m.at) ls × AreUpwards ls
 pub record AreFilled (outlines : List (List Pt)) (layer : ℕ) (s : Settings) (lines : List LineRuns) : Type 0 where
   pub upwards : AreUpwards lines
   pub each : All (IsFilled outlines layer s) lines
-  pub all : (z : ℤ) (r : Run) → IsMultiple s.infill_spacing z → IsLayerRun outlines layer s z r → Contains (map (λ l. l.at) lines) z
+  pub all : (z : ℤ) (r : Run) → IsMultiple s.infill_spacing z → IsLayerRun outlines layer s z r
+      → Contains (map (λ l. l.at) lines) z
 
 -- the line at a coordinate, where it has runs
 abbrev pub line_of : ℤ → List Run → List LineRuns
@@ -53,10 +55,11 @@ line_of z [] = []
 line_of z (r ∷ rs) = record { at = z; runs = r ∷ rs } ∷ []
 
 -- to lines that one is added
-pub record AddsLine (outlines : List (List Pt)) (layer : ℕ) (s : Settings) (z : ℤ) (old new : List LineRuns) : Type 0 where
-  pub runs : List Run
-  pub are_runs : AreRuns outlines (depth s) (line_at layer z) s.line_width runs
-  pub added : new ≡ old ++ line_of z runs
+pub record AddsLine (outlines : List (List Pt)) (layer : ℕ) (s : Settings) (z : ℤ) (old new : List LineRuns) : Type 0
+  where
+    pub runs : List Run
+    pub are_runs : AreRuns outlines (depth s) (line_at layer z) s.line_width runs
+    pub added : new ≡ old ++ line_of z runs
 
 -- a run as a path, upwards or to the right, and the other way
 abbrev pub forwards : Line → Run → List Pt

@@ -13,7 +13,8 @@ use Rattle.scad_words.specs.Settings.{AreInRange}
 use Rattle.plan_layer.specs.Moves.{all_moves}
 use Rattle.plan_layer.specs.Plan.{IsPlan}
 
--- each point of a move keeps the distance c less one micrometre from each side of outlines along both axes, and they wind round it
+-- each point of a move keeps the distance c less one micrometre from each side of outlines along both axes, and they
+-- wind round it
 abbrev pub KeepsClear : List (List Pt) → ℕ → Edge → Type 0
 KeepsClear outlines c e = (q : Point) → pos 0 <ℤ q.d → IsOn (whole e.a) (whole e.b) q → KeepsWithin outlines c q
 
@@ -22,7 +23,8 @@ abbrev pub PathsKeepClear : List (List Pt) → ℕ → List (List Pt) → Type 0
 PathsKeepClear outlines c paths = All (KeepsClear outlines c) (all_moves paths)
 
 -- ---- the laws
--- The whole points of a run are deep inside outlines by the distance c; each exact point of it keeps c less one micrometre.
+-- The whole points of a run are deep inside outlines by the distance c; each exact point of it keeps c less one
+-- micrometre.
 abbrev pub RunsKeepClear : Type 0
 RunsKeepClear =
     (outlines : List (List Pt)) (c least : ℕ) (line : Line) (r : Run) → 2 ≤ c → IsRun outlines c line least r
@@ -31,5 +33,6 @@ RunsKeepClear =
 -- Each point of each move of a plan keeps half the width of a line, less one micrometre.
 abbrev pub PlansKeepClear : Type 0
 PlansKeepClear =
-    (outlines : List (List Pt)) (layer : ℕ) (s : Settings) (paths : List (List Pt)) → AreInRange s → IsPlan outlines layer s paths
+    (outlines : List (List Pt)) (layer : ℕ) (s : Settings) (paths : List (List Pt)) → AreInRange s → IsPlan outlines
+    layer s paths
     → PathsKeepClear outlines (s.line_width / 2) paths

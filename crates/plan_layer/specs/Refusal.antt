@@ -4,7 +4,8 @@ use Rattle.scad_geom.specs.declared.point.Pt.{Pt}
 use Rattle.slice_events.specs.Limits.{crossing_limit}
 use Rattle.slice_events.specs.Levels.{crossings}
 use Rattle.slice_bool.specs.declared.fault.BoolFault.{BoolFault}
-use Rattle.slice_bool.specs.declared.fault.BoolFault.TheVariants.{Memory as NoMemory, Edges as ManyEdges, Crossings as ManyCrossings}
+use Rattle.slice_bool.specs.declared.fault.BoolFault.TheVariants.{Memory as NoMemory, Edges as ManyEdges}
+use Rattle.slice_bool.specs.declared.fault.BoolFault.TheVariants.{Crossings as ManyCrossings}
 use Rattle.plan_walls.specs.Walls.{wall_edges}
 use Rattle.plan_walls.specs.Refusal as of_walls
 use Rattle.scad_words.specs.declared.settings.Settings.{Settings}
@@ -38,7 +39,8 @@ pub record IsWallRefused (outlines : List (List Pt)) (s : Settings) (fault : Boo
   pub wall : ℕ
   pub there : wall < s.walls
   pub accepted : AreAccepted outlines s.line_width wall
-  pub refused : of_walls.IsRefusal (length (wall_edges (distance s.line_width wall) outlines)) edge_limit (crossings (wall_edges (distance s.line_width wall) outlines)) fault
+  pub refused : of_walls.IsRefusal (length (wall_edges (distance s.line_width wall) outlines)) edge_limit
+      (crossings (wall_edges (distance s.line_width wall) outlines)) fault
 
 -- by the first wall that has a fault; want of memory may come before it is known
 abbrev pub IsWallsRefusal : List (List Pt) → Settings → PlanFault → Type 0

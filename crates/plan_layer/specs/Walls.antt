@@ -11,7 +11,8 @@ distance width k = width / 2 + k * width
 -- the loops of walls one inside of another, wall k first
 abbrev pub AreWallsFrom : ℕ → ℕ → List (List Pt) → List (List (List Pt)) → Type 0
 AreWallsFrom width k outlines [] = Unit {0}
-AreWallsFrom width k outlines (loops ∷ walls) = AreWalls (distance width k) outlines loops × AreWallsFrom width (k + 1) outlines walls
+AreWallsFrom width k outlines (loops ∷ walls) =
+    AreWalls (distance width k) outlines loops × AreWallsFrom width (k + 1) outlines walls
 
 -- a loop as a path: from its first vertex round to it again
 abbrev pub round : List Pt → List Pt

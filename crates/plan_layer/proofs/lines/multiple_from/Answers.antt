@@ -14,9 +14,11 @@ returns-clause-multiple c =
     let turned : FitsSigned w64 (pos 0 -ℤ c.args.place) = omega (arith, ints) in
     let spaced : to_z w64 c.args.spacing ≡ pos c.args.spacing = omega (arith, ints) in
     let r_fits : FitsSigned w64 c.rem_euclid.result = record { sfits = c.rem_euclid.type_inv } in
-    let told : c.rem_euclid.result ≡ int_rem_euclid (pos 0 -ℤ c.args.place) (pos c.args.spacing) = simp (to_z-of_z, spaced) at c.rem_euclid.ensures.value in
+    let told : c.rem_euclid.result ≡ int_rem_euclid (pos 0 -ℤ c.args.place) (pos c.args.spacing) =
+    simp (to_z-of_z, spaced) at c.rem_euclid.ensures.value in
     let low = c.rem_euclid.ensures.lower_bound in
     let below = simp spaced at c.rem_euclid.ensures.upper_bound in
     let sum_fits : FitsSigned w64 (c.args.place +ℤ c.rem_euclid.result) = omega (arith, ints) in
-    let is : IsMultiple c.args.spacing (c.args.place +ℤ c.rem_euclid.result) = least_multiple c.args.spacing c.args.place c.rem_euclid.result c.requires told in
+    let is : IsMultiple c.args.spacing (c.args.place +ℤ c.rem_euclid.result) =
+    least_multiple c.args.spacing c.args.place c.rem_euclid.result c.requires told in
     simp to_z-of_z is

@@ -14,7 +14,8 @@ walls-preserved c =
     let loops : List (List Pt) = c.in_ok-loops.loops.items in
     let at : c.distance.result ≡ distance c.args.settings.now.line_width c.walls.wall = c.distance.ensures.value in
     let pushed : c.push_rounds.new.paths.items ≡ c.walls.paths.items ++ map round loops =
-    c.in_ok-push_rounds.ensures ∙ ap (λ (ls : List (List Pt)). c.walls.paths.items ++ map round ls) c.deref.ensures.value in
+    c.in_ok-push_rounds.ensures ∙ ap (λ (ls : List (List Pt)). c.walls.paths.items ++ map round ls)
+    c.deref.ensures.value in
     subst (λ (ps : List (List Pt)). Walled outlines c.args.settings.now.line_width (c.walls.wall + 1) ps) (sym pushed)
     (walled_more outlines c.args.settings.now.line_width c.walls.wall c.walls.paths.items loops c.walls.invariant
     (subst (λ (d : ℕ). AreWalls d outlines loops) at c.in_ok-loops.ensures.walls)
