@@ -128,9 +128,6 @@ far_up x es h =
     (λ e k. let f = k.a.y in let g = k.b.y in (omega (arith, ints, f), omega (arith, ints, g))) es h)
 
 module _ (outlines : List (List Pt)) (within : All (λ l. All (IsWithin point_limit) l) outlines) where
-  abbrev es : List Edge
-  es = flat_map sides outlines
-
   left_of_all : (x y low : ℤ) → x <ℤ low → All (λ e. (low ≤ℤ e.a.x) × (low ≤ℤ e.b.x)) (flat_map sides outlines)
       → wind (whole (at x y)) (segments (flat_map sides outlines)) ≡ pos 0
   left_of_all x y low h k =
@@ -161,9 +158,6 @@ module _ (outlines : List (List Pt)) (within : All (λ l. All (IsWithin point_li
 
   abbrev line_by : Bool → ℤ → Line
   line_by rows z = if rows then Row z else Column z
-
-  Among : Bool → ℤ → ℤ → Edge → Type 0
-  Among rows low high e = IsAmong low high (across_by rows e.a) × IsAmong low high (across_by rows e.b)
 
   no_winding : (rows : Bool) (low high z t : ℤ) → (z <ℤ low) ⊎ (high <ℤ z)
       → All (λ e. IsAmong low high (across_by rows e.a) × IsAmong low high (across_by rows e.b))

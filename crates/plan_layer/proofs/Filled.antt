@@ -74,9 +74,6 @@ module _ (outlines : List (List Pt)) (layer : ℕ) (s : Settings) where
   -- one more line
   module _ (place : ℤ) (lines : List LineRuns) (m : IsMultiple s.infill_spacing place)
       (f : FilledBefore outlines layer s place lines) where
-    abbrev next : ℤ
-    next = place +ℤ pos s.infill_spacing
-
     before_next : All (λ l. l.at <ℤ (place +ℤ pos s.infill_spacing)) lines
     before_next = All-weaker (λ l. l.at <ℤ place) (λ l. l.at <ℤ (place +ℤ pos s.infill_spacing))
         (λ l h. omega (arith, ints)) lines f.before

@@ -105,12 +105,6 @@ rounds_moves [] = refl
 rounds_moves (l ∷ ls) = ap₂ (λ (x y : List Edge). x ++ y) (round_moves l) (rounds_moves ls)
 
 module _ (outlines : List (List Pt)) (layer : ℕ) (s : Settings) (range : AreInRange s) where
-  abbrev kept : ℕ
-  kept = s.line_width / 2
-
-  Keeps : List Edge → Type 0
-  Keeps es = All (KeepsClear outlines (s.line_width / 2)) es
-
   -- ---- walls
   wall_keeps : WallsKeepClear → (k : ℕ) (walls : List (List (List Pt))) → AreWallsFrom s.line_width k outlines walls
       → All (KeepsClear outlines (s.line_width / 2)) (all_moves (wall_paths walls))

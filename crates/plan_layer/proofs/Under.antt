@@ -98,9 +98,6 @@ no_way z = record { from = omega (arith, ints); to = omega (arith, ints) }
 -- ---- of points
 module _ (outlines : List (List Pt)) (c : ℕ) (p : Pt) (q : Point) (hd : pos 0 <ℤ q.d) (under : IsUnder p q)
     (deep : IsDeep outlines c p) where
-  Apart : Edge → Type 0
-  Apart e = ComesNearer (pos c) (whole p) (whole e.a) (whole e.b) → ⊥
-
   clear_side : (e : Edge) → (ComesNearer (pos c) (whole p) (whole e.a) (whole e.b) → ⊥)
       → IsClear (pos 2 *ℤ (pos c -ℤ pos 1)) q (whole e.a) (whole e.b)
   clear_side e apart s t hs ht o close =

@@ -7,7 +7,8 @@ ghost use Rattle.plan_layer.specs.Extent.{across, IsEdgeAmong};
 
 use scad_geom::{Edge, Pt};
 
-/// The least and the greatest coordinate across the lines of a layer; where there is none the greatest lies below the least.
+/// The least and the greatest coordinate across the lines of a layer; where there is none the greatest lies below the
+/// least.
 #[derive(Clone, Copy, Debug)]
 pub(crate) struct Extent {
     pub(crate) low: i32,

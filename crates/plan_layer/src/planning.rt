@@ -27,15 +27,16 @@ pub struct LayerPlan {
     pub paths: Vec<Path>,
 }
 
-/// The plan of a layer over its outlines: the loops of its walls, from the outermost on, each from its first vertex round to it
-/// again, and then the runs of infill. On even layers these lie in rows, on odd ones in columns, at the whole multiples of the
-/// spacing; on the first line with runs, the third and so on they go upwards, on the others downwards.
+/// The plan of a layer over its outlines: the loops of its walls, from the outermost on, each from its first vertex
+/// round to it again, and then the runs of infill. On even layers these lie in rows, on odd ones in columns, at the
+/// whole multiples of the spacing; on the first line with runs, the third and so on they go upwards, on the others
+/// downwards.
 ///
-/// Each point of each move keeps half the width of a line, less one micrometre, from each side of the outlines along both axes,
-/// and they wind round it. Each path has at least two points, and all together have at most 400,000.
+/// Each point of each move keeps half the width of a line, less one micrometre, from each side of the outlines along
+/// both axes, and they wind round it. Each path has at least two points, and all together have at most 400,000.
 ///
-/// It is refused exactly where a wall is, with the fault of the outermost such wall, and then where the plan has more than
-/// 200,000 extruding moves.
+/// It is refused exactly where a wall is, with the fault of the outermost such wall, and then where the plan has more
+/// than 200,000 extruding moves.
 pub fn plan(
     alloc: Global,
     outlines: &[Loop],
