@@ -9,8 +9,9 @@ use Rattle.std.proofs.lemmas.Bool.Decides.{nat_tests}
 use Rattle.std.proofs.lemmas.Fmt.{decimal_is_IsNumeral_wide}
 use Rattle.std.proofs.lemmas.List.{take_at, length-append, append-nil}
 use Rattle.gcode_text.specs.Numeral.{last_digits, fixed, millimetres}
-use Rattle.gcode_text.specs.Reading.{first_at, are_digits, whole_size, pointed_size, size_of, number}
-use Rattle.std.proofs.lemmas.Bool.{and_parts}
+use Rattle.text_scan.specs.Marks.{first_at}
+use Rattle.gcode_text.specs.Reading.{are_digits, whole_size, pointed_size, size_of, number}
+use Rattle.std.proofs.lemmas.Bool.{and_parts, eq-eqb}
 use Rattle.std.proofs.Math.Seq.{drop-append-add}
 
 -- ---- digits
@@ -35,11 +36,8 @@ list_all-weaken p q f [] h = refl
 list_all-weaken p q f (x ∷ xs) h =
     ap₂ (λ (a b : Bool). a && b) (f x (and_parts (p x) (list_all p xs) h).0) (list_all-weaken p q f xs (and_parts (p x) (list_all p xs) h).1)
 
-equal_itself : (c : ℕ) → (c == c) ≡ true
-equal_itself c = grind (arith, nat_tests)
-
 pub first_mark : (mark : ℕ) (xs rest : List ℕ) → list_all (λ b. not (b == mark)) xs ≡ true → first_at mark (xs ++ mark ∷ rest) ≡ length xs
-first_mark mark [] rest h = ap (λ (b : Bool). cond (not b) (1 + first_at mark rest) 0) (equal_itself mark)
+first_mark mark [] rest h = ap (λ (b : Bool). cond (not b) (1 + first_at mark rest) 0) (eq-eqb mark mark refl)
 first_mark mark (x ∷ xs) rest h =
     let next : first_at mark (xs ++ mark ∷ rest) ≡ length xs = first_mark mark xs rest ((and_parts (not (x == mark)) (list_all (λ b. not (b == mark)) xs) h).1) in
     ap (λ (b : Bool). cond b (1 + first_at mark (xs ++ mark ∷ rest)) 0) ((and_parts (not (x == mark)) (list_all (λ b. not (b == mark)) xs) h).0) ∙ omega arith

@@ -1,9 +1,8 @@
 -- The bundles between two heights are one list of bundles.
-use Rattle.std.proofs.Common.{◌≡◌, ℕ, zero, suc, ◌<◌, ◌≤◌, ◌⊎◌, inl, inr, Bool, true, List, [], ◌∷◌, ◌++◌, length, refl, sym, ap, ap₂, subst, arith}
+use Rattle.std.proofs.Common.{◌≡◌, ℕ, zero, suc, ◌<◌, ◌≤◌, ◌⊎◌, inl, inr, Bool, List, [], ◌∷◌, ◌++◌, length, refl, sym, ap, ap₂, subst, arith}
 use lib.IntN.{pos}
 use lib.Signed.{◌<ℤ◌}
 use Rattle.std.specs.Prelude.{IsPermutation, Contains, ◌==◌, slice_index_or, drop}
-use Rattle.std.specs.Cmp.{unsigned_Decides}
 use Rattle.std.specs.List.{AllByRecursion, concat}
 use Rattle.std.proofs.lemmas.Int.{ints}
 use Rattle.std.proofs.lemmas.List.Elements.{All-contains, All-from_recursion}
@@ -18,6 +17,7 @@ use Rattle.slice_slab.specs.Bundles.{edge_at, Ascends, Precedes, AreRanked}
 use Rattle.slice_slab.proofs.Bundling.{Rises, aligned_chain, aligned_before}
 use Rattle.slice_snap.proofs.Counts.{without_first}
 use Rattle.scad_geom.proofs.Heights.{same_chain, lower_same}
+use Rattle.std.proofs.lemmas.Bool.{eq-eqb, eqb-true}
 
 -- ---- lists in an order
 abbrev Sorted : (ℕ → ℕ → Type 0) → List ℕ → Type 0
@@ -34,12 +34,6 @@ sorted_both R (x ∷ xs) ys h k c = (all_both (R x) xs ys h.0 c.0, sorted_both R
 
 abbrev equal : ℕ → ℕ → Bool
 equal m n = m == n
-
-same_number : (m n : ℕ) → equal m n ≡ true → m ≡ n
-same_number m n h = (unsigned_Decides m n).0 h
-
-number_itself : (m : ℕ) → equal m m ≡ true
-number_itself m = (unsigned_Decides m m).1 refl
 
 -- two lists of the same numbers, in an order of which no two numbers stand in both ways, are one
 module _ (R : ℕ → ℕ → Type 0) (P : ℕ → Type 0) (antisymmetric : (x y : ℕ) → P x → P y → R x y → R y x → x ≡ y) where
@@ -71,7 +65,8 @@ module _ (R : ℕ → ℕ → Type 0) (P : ℕ → Type 0) (antisymmetric : (x y
   sorted_one (x ∷ xs) (y ∷ ys) p q h k m =
       let e : x ≡ y = first_is x y xs ys p.0 q.0 h.0 k.0 m in
       let rest : IsPermutation xs ys =
-      without_first equal number_itself same_number y xs ys (subst (λ (z : ℕ). IsPermutation (z ∷ xs) (y ∷ ys)) e m) in
+      without_first equal (λ m. eq-eqb m m refl) eqb-true y xs ys
+      (subst (λ (z : ℕ). IsPermutation (z ∷ xs) (y ∷ ys)) e m) in
       ap₂ (λ (z : ℕ) (zs : List ℕ). z ∷ zs) e (sorted_one xs ys p.1 q.1 h.1 k.1 rest)
 
 -- ---- the order of edges at a height, by number where they coincide

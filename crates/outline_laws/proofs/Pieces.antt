@@ -1,10 +1,8 @@
 -- Two lists of pieces of one border are the same one by one.
-use Rattle.std.proofs.Common.{◌≡◌, ℕ, Bool, true, false, ◌&&◌, ◌||◌, List, [], ◌∷◌, ◌++◌, Option, None, Some, refl, sym, ap₂, ◌∙◌, subst, arith}
+use Rattle.std.proofs.Common.{◌≡◌, ℕ, Bool, true, false, ◌&&◌, ◌||◌, List, [], ◌∷◌, ◌++◌, Option, None, Some, refl, sym, ap₂, ◌∙◌, subst}
 use mathlib.Core.Path.{fun_ext}
 use lib.IntN.{ℤ, pos, ◌+ℤ◌, ◌*ℤ◌}
 use Rattle.std.specs.List.{AllByRecursion, AllZip, concat, position}
-use Rattle.std.proofs.lemmas.Int.{ints}
-use Rattle.scad_base.proofs.Products.{positive_product}
 use Rattle.scad_geom.specs.declared.point.Edge.{Edge}
 use Rattle.scad_geom.specs.declared.level.Level.{Level}
 use Rattle.scad_geom.specs.declared.level.LeafEdge.{LeafEdge}
@@ -29,6 +27,7 @@ use Rattle.outline_laws.proofs.Ranks.{bundles_one, bundles_rise}
 use Rattle.outline_laws.proofs.Values.{value_same}
 use Rattle.outline_laws.proofs.Stops.{place, passing_same, stops_same}
 use Rattle.slice_bool.proofs.Winding.{IsSpotAt, stops_at}
+use Rattle.slice_bool.proofs.Middle.{middle_positive}
 
 -- ---- a piece between two spots
 between_same : (left right : Bool) (s t s' t' : Spot) (k : ℕ) → AreSameSpot s s' → AreSameSpot t t' → ArePiecesSame (piece_between left right s t k) (piece_between left right s' t' k)
@@ -78,9 +77,6 @@ module _ (es : List LeafEdge) (shape other : Shape) (alike : HoldAlike es shape 
 
   -- ---- between two levels
   module _ (l l' u u' : Level) (dl : HasDivisor l) (dl' : HasDivisor l') (du : HasDivisor u) (du' : HasDivisor u') (e : IsSameHeight l l') (g : IsSameHeight u u') where
-    middle_divisor : (p q : Level) → HasDivisor p → HasDivisor q → HasDivisor (middle p q)
-    middle_divisor p q dp dq = positive_product (pos 2) (p.d *ℤ q.d) (omega (arith, ints)) (positive_product p.d q.d dp dq)
-
     middle_same : IsSameHeight (middle l u) (middle l' u')
     middle_same =
         spread l.n l.d u.n u.d l'.d u'.d
@@ -100,7 +96,7 @@ module _ (es : List LeafEdge) (shape other : Shape) (alike : HoldAlike es shape 
         let f : Edge = edge_at es k in
         let s : Spot = spot_on f (middle l u) in
         let t : Spot = spot_on f (middle l' u') in
-        let m : AreSameSpot s t = passing_same (middle l u) (middle l' u') (middle_divisor l u dl du) (middle_divisor l' u' dl' du') middle_same f r in
+        let m : AreSameSpot s t = passing_same (middle l u) (middle l' u') (middle_positive l u dl du) (middle_positive l' u' dl' du') middle_same f r in
         subst (λ (b : Bool). ArePiecesSame (bundle_piece es shape l u (k ∷ ks)) (piece_between b (is_in_by true true es other (point_of t)) (spot_on f l') (spot_on f u') k)) (value true false s t m)
         (subst (λ (b : Bool). ArePiecesSame (bundle_piece es shape l u (k ∷ ks)) (piece_between (is_in_by true false es shape (point_of s)) b (spot_on f l') (spot_on f u') k)) (value true true s t m)
         (between_same (is_in_by true false es shape (point_of s)) (is_in_by true true es shape (point_of s)) (spot_on f l) (spot_on f u) (spot_on f l') (spot_on f u') k

@@ -89,7 +89,8 @@ module _ (test : ℤ → Bool) (least : ℕ) where
         (λ k. by_order (order from r.from)
         (λ m. omega (arith, ints, k, m))
         (λ m. absurd (both_ways _ o.2 (s.holds (from -ℤ pos 1) (omega (arith, ints, m)) (omega (arith, ints, to, a))))))
-        (λ k. absurd (both_ways _ s.before (o.1 (r.from -ℤ pos 1) (omega (arith, ints, k)) (omega (arith, ints, i, to))))) in
+        (λ k. absurd (both_ways _ s.before
+        (o.1 (r.from -ℤ pos 1) (omega (arith, ints, k)) (omega (arith, ints, i, to))))) in
         λ j. record { from = start j; to = to j }
 
     this_one : pos least ≤ℤ ((place -ℤ pos 1) -ℤ from) → IsStretch test least ended_run

@@ -9,7 +9,7 @@ use Rattle.scad_geom.specs.Near.{IsClear}
 use Rattle.scad_geom.proofs.Signs.{at_least_mul, pos_left}
 use Rattle.scad_geom.proofs.Ring.{ring, num, ◌⊕◌, ◌⊖◌, ◌⊗◌, v0, v1, v2, v3, v4, v5, v6}
 use Rattle.slice_bool.specs.NearBorder.{IsWithinOne}
-use Rattle.plan_walls.proofs.Within.{ComesWithin, weight, weight_positive}
+use Rattle.plan_walls.proofs.Within.{weight_positive}
 use Rattle.plan_walls.proofs.Off.{IsOff}
 
 -- a distance counted in halves

@@ -1,12 +1,11 @@
 -- Walls keep their distance from the outlines that they follow: each of their points has a border point of their
 -- shape less than one from it, and that is off each side by the distance.
-use Rattle.std.proofs.Common.{◌≡◌, Bool, true, true≢false, not, List, get_or, flat_map, sym, ◌∙◌, subst, ℤ, pos}
+use Rattle.std.proofs.Common.{◌≡◌, true, true≢false, not, List, get_or, flat_map, sym, ◌∙◌, subst, ℤ, pos}
 use Rattle.std.specs.Prelude.{All}
 use Rattle.std.proofs.lemmas.List.Elements.{All-from_recursion}
 use Rattle.scad_geom.specs.declared.point.Edge.{Edge}
 use Rattle.scad_geom.specs.declared.shape.Shape.{Shape}
 use Rattle.scad_geom.specs.Point.{Point}
-use Rattle.scad_geom.specs.Segment.{segments}
 use Rattle.scad_geom.specs.Loop.{sides}
 use Rattle.scad_geom.specs.Sign.{is_zero}
 use Rattle.plan_sides.proofs.Closed.{sides_balanced}

@@ -1,5 +1,5 @@
 -- The edges of a wall's shape are within the limit of a layer's coordinates.
-use Rattle.std.proofs.Common.{ℕ, ◌+◌, ◌≤◌, List, [], ◌∷◌, ◌++◌, flat_map, arith, ℤ, pos, ◌+ℤ◌, ◌-ℤ◌}
+use Rattle.std.proofs.Common.{ℕ, ◌+◌, ◌≤◌, List, [], ◌∷◌, flat_map, arith, ℤ, pos, ◌+ℤ◌, ◌-ℤ◌}
 use Rattle.std.specs.Prelude.{All, unsigned_abs}
 use Rattle.std.specs.List.{AllByRecursion}
 use Rattle.std.proofs.lemmas.Int.{ints}

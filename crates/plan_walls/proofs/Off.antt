@@ -1,6 +1,6 @@
 -- What a wall's shape holds, hard by a point, the outlines wind round and no ring does: so no point of a side lies
 -- strictly within the distance of it.
-use Rattle.std.proofs.Common.{◌≡◌, ℕ, zero, suc, ◌+◌, ◌≤◌, Bool, true, false, true≢false, not, ◌&&◌, ◌||◌, List, []}
+use Rattle.std.proofs.Common.{◌≡◌, ℕ, zero, suc, ◌+◌, ◌≤◌, Bool, true, false, true≢false, not, ◌||◌, List, []}
 use Rattle.std.proofs.Common.{◌∷◌, length, refl, sym, ◌∙◌, subst, arith, ℤ, pos, negsuc, ◌<ℤ◌}
 use Rattle.std.specs.List.{AllByRecursion}
 use Rattle.std.proofs.lemmas.Int.{ints}

@@ -2,22 +2,21 @@
 -- the angle grows, so the way can't stay above the point's height or below it, and each side that passes the height
 -- upwards counts 1.
 use Rattle.std.proofs.Common.{◌≡◌, ◌⊎◌, inl, inr, Bool, true, false, List, [], ◌∷◌, refl, sym, subst, ◌∙◌, arith, ℤ}
-use Rattle.std.proofs.Common.{pos, negsuc, neg_ℤ, ◌+ℤ◌, ◌-ℤ◌, ◌*ℤ◌, ◌<ℤ◌}
+use Rattle.std.proofs.Common.{pos, neg_ℤ, ◌-ℤ◌, ◌*ℤ◌, ◌<ℤ◌}
 use lib.Signed.{◌≤ℤ◌}
 use Rattle.std.specs.Prelude.{int_lt, int_le, if◌then◌else◌}
 use Rattle.std.specs.List.{AllByRecursion}
 use Rattle.std.proofs.lemmas.Int.{ints}
 use Rattle.std.proofs.lemmas.List.Elements.{recursion_from_All}
-use Rattle.scad_base.proofs.Products.{positive_product, negative_factor}
+use Rattle.scad_base.proofs.Products.{positive_product}
 use Rattle.scad_geom.specs.declared.point.Pt.{Pt}
-use Rattle.scad_geom.specs.Loop.{path, sides}
+use Rattle.scad_geom.specs.Loop.{path}
 use Rattle.scad_geom.specs.Point.{Point, whole}
 use Rattle.scad_geom.specs.Segment.{segments}
 use Rattle.scad_geom.specs.Winding.{is_over, side_by, is_beyond, turn, wind_by}
 use Rattle.scad_geom.proofs.Rising.{order}
-use Rattle.scad_geom.proofs.Signs.{at_least_mul, at_most_mul, pos_left}
 use Rattle.scad_geom.proofs.Turns.{flat_turn, rising_turn, falling_turn}
-use Rattle.scad_geom.proofs.Ring.{ring, num, ◌⊕◌, ◌⊖◌, ◌⊗◌, v0, v1, v2, v3, v4, v5, v6}
+use Rattle.scad_geom.proofs.Ring.{ring, num, ◌⊖◌, ◌⊗◌, v0, v1, v2, v3, v4, v5, v6}
 use Rattle.plan_walls.specs.Rings.{IsStrictlyLeftOf, LeftIsWound}
 use Rattle.plan_walls.proofs.Angles.{by_order, cross, Before, chain, itself}
 

@@ -1,26 +1,23 @@
 -- The ring round an edge winds round each point that lies strictly within its distance of the edge.
-use Rattle.std.proofs.Common.{◌≡◌, ℕ, ◌≤◌, Bool, List, [], ◌∷◌, ◌++◌, arith, ℤ, pos, negsuc, ◌+ℤ◌, ◌<ℤ◌}
-use lib.Signed.{◌≤ℤ◌}
-use Rattle.std.specs.Prelude.{All}
+use Rattle.std.proofs.Common.{ℕ, ◌≤◌, Bool, List, [], ◌∷◌, ◌++◌, ℤ, pos, negsuc, ◌<ℤ◌}
 use Rattle.std.specs.List.{AllByRecursion}
-use Rattle.std.proofs.lemmas.Int.{ints}
 use Rattle.std.proofs.lemmas.List.Elements.{recursion_from_All, All-from_recursion}
 use Rattle.scad_base.proofs.Products.{positive_product}
 use Rattle.scad_geom.specs.declared.point.Pt.{Pt}
 use Rattle.scad_geom.specs.declared.point.Edge.{Edge}
-use Rattle.scad_geom.specs.Point.{Point, whole}
+use Rattle.scad_geom.specs.Point.{Point}
 use Rattle.scad_geom.specs.Line.{low, high}
 use Rattle.scad_geom.specs.Segment.{segments}
 use Rattle.scad_geom.specs.Loop.{path, sides}
 use Rattle.scad_geom.specs.Winding.{wind_by}
-use Rattle.scad_ring.specs.Ring.{IsNear, IsLeftOf, AllTurnLeft, round, IsRing}
+use Rattle.scad_ring.specs.Ring.{IsLeftOf, AllTurnLeft, IsRing}
 use Rattle.scad_ring.specs.Corners.{corners_round, corners_of}
 use Rattle.scad_ring.proofs.Whole.{ring_is}
 use Rattle.plan_walls.specs.Rings.{IsStrictlyLeftOf}
 use Rattle.plan_walls.proofs.Forms.{by_form}
 use Rattle.plan_walls.proofs.Rings.{left_is_wound}
 use Rattle.plan_walls.proofs.Within.{ComesWithin, TurnsAfter, IsStep, step_0, step_1, step_back, shifted, weight}
-use Rattle.plan_walls.proofs.Within.{weight_positive, near_shifted, StaysLeft, strictly_left}
+use Rattle.plan_walls.proofs.Within.{weight_positive, near_shifted, strictly_left}
 
 -- along a way that turns left at each point, on to a next one, each side is followed by a turn
 all_turn : (from last next : Pt) (ps : List Pt) → AllTurnLeft (from ∷ (ps ++ last ∷ next ∷ []))

@@ -1,25 +1,18 @@
 -- What lies strictly within a distance of an edge lies strictly to the left of each side of its ring: moved a little
 -- along each axis it is still near, so it isn't on the line of a side.
-use Rattle.std.proofs.Common.{◌≡◌, ◌⊎◌, inl, inr, ℕ, ◌≤◌, List, [], ◌∷◌, ◌++◌, refl, subst, ap₂, ◌∙◌, arith, ℤ, pos}
+use Rattle.std.proofs.Common.{◌≡◌, inl, inr, ℕ, [], ◌∷◌, refl, subst, arith, ℤ, pos}
 use Rattle.std.proofs.Common.{negsuc, ◌+ℤ◌, ◌-ℤ◌, ◌*ℤ◌, ◌<ℤ◌}
 use lib.Signed.{◌≤ℤ◌}
-use Rattle.std.specs.Prelude.{All}
-use Rattle.std.specs.List.{AllByRecursion}
 use Rattle.std.proofs.lemmas.Int.{ints}
-use Rattle.std.proofs.lemmas.List.Elements.{recursion_from_All, All-from_recursion}
-use Rattle.scad_base.proofs.Products.{positive_product}
 use Rattle.scad_geom.specs.declared.point.Pt.{Pt}
 use Rattle.scad_geom.specs.declared.point.Edge.{Edge}
 use Rattle.scad_geom.specs.Point.{Point, whole}
 use Rattle.scad_geom.specs.Near.{mean, IsHalf}
-use Rattle.scad_geom.specs.Segment.{segments}
-use Rattle.scad_geom.specs.Loop.{path, sides}
 use Rattle.scad_geom.specs.Winding.{side_by}
 use Rattle.scad_geom.proofs.Signs.{at_least_mul, pos_left}
 use Rattle.scad_geom.proofs.Rising.{order}
 use Rattle.scad_geom.proofs.Ring.{ring, num, ◌⊕◌, ◌⊖◌, ◌⊗◌, v0, v1, v2, v3, v4, v5, v6, v7, v8, v9}
-use Rattle.scad_ring.specs.Ring.{IsNear, IsLeftOf, TurnsLeft, AllTurnLeft, IsRing}
-use Rattle.plan_walls.specs.Rings.{IsStrictlyLeftOf}
+use Rattle.scad_ring.specs.Ring.{IsNear, TurnsLeft}
 
 -- p lies strictly within c of q along both axes
 pub record IsStrictlyWithin (c : ℤ) (q p : Point) : Type 0 where

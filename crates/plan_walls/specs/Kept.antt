@@ -1,5 +1,5 @@
 -- The distance that walls keep from the outlines that they follow.
-use Rattle.std.specs.Prelude.{◌≢◌, ℕ, ◌≤◌, List, flat_map, ℤ, pos, ◌-ℤ◌, ◌*ℤ◌, ◌<ℤ◌, All}
+use Rattle.std.specs.Prelude.{◌≢◌, ℕ, ◌≤◌, List, flat_map, pos, ◌-ℤ◌, ◌*ℤ◌, ◌<ℤ◌, All}
 use Rattle.scad_geom.specs.declared.point.Pt.{Pt}
 use Rattle.scad_geom.specs.Point.{Point, whole}
 use Rattle.scad_geom.specs.Segment.{segments}

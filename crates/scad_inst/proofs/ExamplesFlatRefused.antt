@@ -1,6 +1,6 @@
 -- Worked examples of flat shapes and extrusions that are refused, each under its source. Expected values come from an
 -- independent program.
-use Rattle.std.proofs.Common.{◌≡◌, pos, true, false, [], ◌∷◌, Some, None, refl}
+use Rattle.std.proofs.Common.{◌≡◌, pos, true, false, [], Some, None, refl}
 use Rattle.std.specs.Prelude.{codes}
 use Rattle.scad_fault.specs.declared.fault.FaultKind.TheVariants.{BadArgument, CoordinateRange, LeftOut, MixedDimensions, NumberRange}
 use Rattle.scad_fault.specs.declared.budget.BudgetKind.TheVariants.{Triangles}

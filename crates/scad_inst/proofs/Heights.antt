@@ -2,7 +2,7 @@
 use Rattle.std.proofs.Common.{◌≡◌, ℤ, Bool, ◌∙◌}
 use Rattle.scad_fault.specs.declared.place.Place.{Place}
 use Rattle.scad_expr.specs.declared.fault.EvalFault.{EvalFault}
-use Rattle.scad_expr.specs.State.{State, Action, gives, refuses, and_then, ◌>>=◌, ◌>>◌}
+use Rattle.scad_expr.specs.State.{State, Action, gives, refuses, ◌>>=◌, ◌>>◌}
 use Rattle.scad_expr.proofs.Loops.{goes, stops}
 use Rattle.scad_tree.specs.Solid.{Solid}
 use Rattle.scad_inst.specs.Made.{judge_solid}

@@ -1,5 +1,5 @@
 -- Counts of triangles.
-use Rattle.std.proofs.Common.{◌≡◌, ℕ, ◌+◌, ◌-◌, ◌*◌, ◌/◌, ◌<◌, ◌≤◌, true, ◌&&◌, List, [], ◌∷◌, length, get_or, drop, refl, ap, sym, ◌∙◌, arith}
+use Rattle.std.proofs.Common.{◌≡◌, ℕ, ◌+◌, ◌-◌, ◌<◌, ◌≤◌, true, ◌&&◌, List, [], ◌∷◌, length, get_or, drop, refl, ap, sym, ◌∙◌, arith}
 use Rattle.std.specs.Prelude.{nat_le}
 use Rattle.std.specs.List.{list_all}
 use Rattle.std.proofs.lemmas.Bool.{true≢false, and_from}
@@ -9,7 +9,6 @@ use Rattle.std.proofs.lemmas.List.Sums.{sum_by-cons, sum_by-drop_more}
 use Rattle.scad_solid.specs.Solid.{names_points}
 use Rattle.scad_shapes.specs.Polyhedron.{name_points}
 use Rattle.scad_modules.specs.Primitive.{is_face}
-use Rattle.scad_shapes.specs.Outline.{sphere_rings}
 use Rattle.scad_shapes.specs.Count.{face_triangles, sphere_triangles, prism_triangles}
 use Rattle.std.specs.Cmp.{first_so, second_so}
 

@@ -1,5 +1,5 @@
 -- A circle has at most 10^9 fragments.
-use Rattle.std.proofs.Common.{◌≡◌, ℕ, ◌+◌, ◌*◌, ◌/◌, ◌%◌, ◌<◌, ◌≤◌, Bool, true, false, ℤ, pos, negsuc, if◌then◌else◌, refl, arith, max, min}
+use Rattle.std.proofs.Common.{ℕ, ◌+◌, ◌*◌, ◌/◌, ◌<◌, ◌≤◌, Bool, true, false, ℤ, pos, negsuc, if◌then◌else◌, arith, max, min}
 use Rattle.std.specs.Prelude.{int_lt, unsigned_abs}
 use Rattle.std.specs.Int.{div_ceil}
 use Rattle.std.proofs.lemmas.Bool.Decides.{nat_tests}

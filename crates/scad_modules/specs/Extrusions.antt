@@ -1,11 +1,11 @@
 -- What the arguments of an extrusion say (OpenSCAD User Manual, "linear_extrude", "rotate_extrude"). A form that the
 -- language leaves out goes before a bad argument.
-use Rattle.std.specs.Prelude.{codes, List, ◌*◌, ◌==◌, ℤ, pos, Bool, true, false, ◌&&◌, Option, Some, None, Result, Ok, Err, if◌then◌else◌}
+use Rattle.std.specs.Prelude.{codes, List, ◌*◌, ◌==◌, ℤ, pos, Bool, true, false, ◌&&◌, Option, Some, None, Ok, Err, if◌then◌else◌}
 use Rattle.std.specs.Ordering.{int_eq}
 use Rattle.scad_base.specs.Results.{and_then}
 use Rattle.scad_ast.specs.Tree.{Arguments}
 use Rattle.scad_num.specs.Number.{one}
-use Rattle.scad_value.specs.Datum.{Datum, undef, boolean, number, string, vector, range, Elements}
+use Rattle.scad_value.specs.Datum.{Datum, number, vector, Elements}
 use Rattle.scad_value.specs.Products.{nth, count}
 use Rattle.scad_modules.specs.declared.fault.ArgumentFault.TheVariants.{LeftOut}
 use Rattle.scad_modules.specs.declared.fineness.Resolution.{Resolution}

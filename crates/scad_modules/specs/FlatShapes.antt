@@ -1,10 +1,10 @@
 -- What the arguments of a flat shape say (OpenSCAD User Manual, "square", "circle", "polygon").
-use Rattle.std.specs.Prelude.{ℕ, codes, List, [], ◌∷◌, ◌++◌, length, map, ◌==◌, nat_le, ℤ, pos, Bool, true, false, Option, Some, None, Result, Ok, Err, if◌then◌else◌}
+use Rattle.std.specs.Prelude.{ℕ, codes, List, [], ◌∷◌, ◌++◌, length, map, ◌==◌, nat_le, ℤ, pos, Bool, true, false, Option, Some, None, Ok, Err, if◌then◌else◌}
 use Rattle.std.specs.List.{slice_index_or}
 use Rattle.scad_base.specs.Results.{and_then}
 use Rattle.scad_ast.specs.Tree.{Arguments}
 use Rattle.scad_num.specs.Number.{one}
-use Rattle.scad_value.specs.Datum.{Datum, undef, boolean, number, string, vector, range, Elements, no_elements, element}
+use Rattle.scad_value.specs.Datum.{Datum, number, Elements, no_elements, element}
 use Rattle.scad_value.specs.Products.{count}
 use Rattle.scad_modules.specs.declared.fault.ArgumentFault.TheVariants.{BadArgument}
 use Rattle.scad_modules.specs.declared.module.Flat.{Flat}

@@ -1,5 +1,5 @@
 -- Profiles that are turned round the z axis (OpenSCAD User Manual, "rotate_extrude").
-use Rattle.std.specs.Prelude.{ℕ, ℤ, pos, int_lt, unsigned_abs, max, Bool, ◌&&◌, List, [], ◌∷◌, ◌++◌, Result, Ok, Err}
+use Rattle.std.specs.Prelude.{ℕ, pos, int_lt, unsigned_abs, max, Bool, ◌&&◌, List, [], ◌∷◌, ◌++◌, Result, Ok, Err}
 use Rattle.std.specs.List.{list_any}
 use Rattle.scad_base.specs.Results.{and_then}
 use Rattle.scad_cos.specs.Circle.{fragments_of}

@@ -4,7 +4,7 @@ use Rattle.std.specs.Prelude.{ℕ, ◌/◌, ◌%◌, ◌==◌, ◌&&◌, nat_le,
 use Rattle.scad_base.specs.Results.{and_then}
 use Rattle.scad_num.specs.Number.{one}
 use Rattle.scad_num.specs.Rounding.{half_away}
-use Rattle.scad_value.specs.Datum.{Datum, undef, boolean, number, string, vector, range, Elements, no_elements, element}
+use Rattle.scad_value.specs.Datum.{Datum, number, vector, Elements, no_elements, element}
 use Rattle.scad_value.specs.Comparison.{truth}
 use Rattle.scad_value.specs.Products.{nth, count}
 use Rattle.scad_modules.specs.declared.fault.ArgumentFault.{ArgumentFault}

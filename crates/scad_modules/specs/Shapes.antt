@@ -1,12 +1,12 @@
 -- What the arguments of a primitive say (OpenSCAD User Manual, "cube", "sphere", "cylinder", "polyhedron", "$fa,
 -- $fs and $fn").
-use Rattle.std.specs.Prelude.{ℕ, codes, List, ℤ, pos, int_lt, length, Option, Some, None, Ok, if◌then◌else◌}
+use Rattle.std.specs.Prelude.{ℕ, codes, List, ℤ, pos, length, Option, Some, None, Ok}
 use Rattle.std.specs.Int.{int_max}
 use Rattle.scad_base.specs.Results.{and_then}
 use Rattle.scad_ast.specs.Tree.{Arguments}
 use Rattle.scad_num.specs.Number.{one}
 use Rattle.scad_cos.specs.Circle.{fragments_of}
-use Rattle.scad_value.specs.Datum.{Datum, undef, boolean, number, string, vector, range}
+use Rattle.scad_value.specs.Datum.{Datum, number}
 use Rattle.scad_modules.specs.declared.fineness.Resolution.{Resolution}
 use Rattle.scad_modules.specs.declared.module.Shape.{Shape}
 use Rattle.scad_modules.specs.declared.module.Shape.TheVariants.{Cube, Sphere, Cylinder, Polyhedron}

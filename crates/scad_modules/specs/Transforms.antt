@@ -1,12 +1,12 @@
 -- The matrices of the transformations by their arguments (OpenSCAD User Manual, "translate", "scale", "rotate",
 -- "mirror", "multmatrix").
-use Rattle.std.specs.Prelude.{ℕ, codes, List, [], ◌∷◌, ◌==◌, ◌&&◌, nat_le, ℤ, pos, neg_ℤ, int_lt, Option, Some, None, Result, Ok, Err, Bool, true, false, if◌then◌else◌}
+use Rattle.std.specs.Prelude.{codes, List, ◌==◌, ◌&&◌, nat_le, ℤ, pos, neg_ℤ, int_lt, Option, Some, None, Result, Ok, Err, if◌then◌else◌}
 use Rattle.std.specs.Ordering.{int_eq}
 use Rattle.scad_base.specs.Results.{and_then}
 use Rattle.scad_ast.specs.Tree.{Arguments}
 use Rattle.scad_num.specs.Number.{one}
 use Rattle.scad_num.specs.Rounding.{half_away}
-use Rattle.scad_value.specs.Datum.{Datum, undef, boolean, number, string, vector, range, Elements}
+use Rattle.scad_value.specs.Datum.{Datum, number, Elements}
 use Rattle.scad_value.specs.Products.{nth, count}
 use Rattle.scad_matrix.specs.declared.makers.Axis.{Axis}
 use Rattle.scad_matrix.specs.declared.makers.Axis.TheVariants.{X, Y, Z}
@@ -18,7 +18,6 @@ use Rattle.scad_matrix.specs.Makers.{row, translation, scaling, rotation, reflec
 use Rattle.scad_matrix.specs.Matrix.{composed}
 use Rattle.scad_modules.specs.declared.module.Transform.{Transform}
 use Rattle.scad_modules.specs.declared.module.Transform.TheVariants.{Translate, Scale, Rotate, Mirror, Multmatrix}
-use Rattle.scad_modules.specs.declared.fault.ArgumentFault.{ArgumentFault}
 use Rattle.scad_modules.specs.declared.fault.ArgumentFault.TheVariants.{BadArgument, LeftOut, NumberRange}
 use Rattle.scad_modules.specs.Arguments.{taken}
 use Rattle.scad_modules.specs.Reading.{Read, Triple, needed, number_at, as_vector, coordinates, point_of}

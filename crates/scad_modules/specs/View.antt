@@ -1,7 +1,6 @@
 -- What values in memory are to the definitions, and how code answers them.
 use Rattle.std.specs.Prelude.{◌≡◌, ◌≢◌, List, map, Option, option_map, Result, Ok, Err}
 use Rattle.std.specs.Borrow.{Bor}
-use Rattle.scad_ast.specs.declared.expression.Arg.{Arg}
 use Rattle.scad_value.specs.Datum.{Datum}
 use Rattle.scad_value.specs.View.{datum_of}
 use Rattle.scad_value.specs.declared.value.Value.{Value}

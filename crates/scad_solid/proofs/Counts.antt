@@ -1,9 +1,8 @@
 -- How many triangles faces and stacked rings have.
 use Rattle.std.proofs.Common.{◌≡◌, ℕ, suc, ◌+◌, ◌-◌, ◌*◌, ◌==◌, true, List, [], ◌∷◌, ◌++◌, length, map, reverse, arith, refl, ap, ap₂, sym, ◌∙◌, length-append}
-use Rattle.std.proofs.lemmas.Bool.{and_parts}
+use Rattle.std.proofs.lemmas.Bool.{and_parts, eqb-true}
 use Rattle.std.specs.List.{zip, list_all, sum_by}
 use Rattle.std.proofs.lemmas.Grind.{flat_map-append}
-use Rattle.std.proofs.lemmas.Bool.Decides.{nat_tests}
 use Rattle.std.proofs.lemmas.List.{length-reverse}
 use Rattle.std.proofs.lemmas.List.Sums.{sum_by-cons}
 use Rattle.scad_geom.specs.declared.point3.Pt3.{Pt3}
@@ -43,14 +42,11 @@ pub length-band : (upper lower : List Pt3) → length upper ≡ length lower →
 length-band upper lower e =
     length-quads (ring_sides upper) (ring_sides lower) (length-ring_sides upper ∙ e ∙ sym (length-ring_sides lower)) ∙ ap (λ n. 2 * n) (length-ring_sides upper)
 
-equal : (a m : ℕ) → (a == m) ≡ true → a ≡ m
-equal a m e = grind (arith, nat_tests)
-
 length-below : (m : ℕ) (ring : List Pt3) (rings : List (List Pt3)) → length ring ≡ m → list_all (λ r. length r == m) rings ≡ true → length (fans (faces_below ring rings)) ≡ 2 * m * length rings + (m - 2)
 length-below m ring [] e all = length-append (fan ring) [] ∙ omega (arith, length-fan ring)
 length-below m ring (next ∷ rings) e all =
     let parts = and_parts (length next == m) (list_all (λ r. length r == m) rings) all in
-    let same = equal (length next) m parts.0 in
+    let same = eqb-true (length next) m parts.0 in
     let here = length-band ring next (e ∙ sym same) in
     let below = length-below m next rings same parts.1 in
     length-fans-more (band ring next) (faces_below next rings) ∙ ap₂ (λ a b. a + b) (here ∙ ap (λ n. 2 * n) e) below ∙ omega arith
@@ -68,7 +64,7 @@ length-bands m ring last [] e f all =
     length-fans-more (band ring last) [] ∙ ap (λ n. n + 0) (length-band ring last (e ∙ sym f) ∙ ap (λ n. 2 * n) e) ∙ omega arith
 length-bands m ring last (next ∷ rings) e f all =
     let parts = and_parts (length next == m) (list_all (λ r. length r == m) rings) all in
-    let same = equal (length next) m parts.0 in
+    let same = eqb-true (length next) m parts.0 in
     let here = length-band ring next (e ∙ sym same) in
     let rest = length-bands m next last rings same f parts.1 in
     length-fans-more (band ring next) (bands next (rings ++ last ∷ [])) ∙ ap₂ (λ a b. a + b) (here ∙ ap (λ n. 2 * n) e) rest ∙ omega arith

@@ -27,7 +27,7 @@ use Rattle.scad_tool.specs.Answer.{Drawings, Inputs, input_script, model_script,
 use Rattle.scad_tool.specs.Playing.{OnJudged, DrawsSolids, DrawSolids, Works}
 use Rattle.scad_tool.specs.Promises.{IsAnswered as IsWholeAnswer, Answers}
 use Rattle.scad_tool.specs.Laws.{AnswersAreThere, AnswersAreOne}
-use Rattle.scad_tool.proofs.Settings.{settings_one}
+use Rattle.scad_tool.proofs.Following.{settings_one}
 
 -- There are drawings.
 

@@ -28,7 +28,7 @@ use Rattle.scad_tool.specs.Told.{ok_line, check_script, tree_script, told}
 use Rattle.scad_tool.specs.Answer.{Drawings, Inputs, source_limit, source_script, model_script, job_script, script_of, IsRead, settings_found}
 use Rattle.scad_tool.specs.Promises.{GoBy, IsAccepted, IsComplete}
 use Rattle.scad_tool.proofs.Working.{model_read_as, settings_read_as}
-use Rattle.scad_tool.proofs.Settings.{settings_end}
+use Rattle.scad_tool.proofs.Following.{settings_end}
 
 finishes_if : (refusal : Refusal) (line : List ℕ) (count most : ℕ) (b : Bool) → nat_lt most count ≡ b → count ≤ most → (if b then Refuses refusal else Finishes line) ≡ Finishes line
 finishes_if refusal line count most true is few = let never : ⊥ = search (rules, arith) in absurd never

@@ -1,6 +1,6 @@
 -- What each status says of the words and of the outlines.
 use Rattle.std.proofs.Common.{◌≡◌, ◌≢◌, ◌⊎◌, ◌≤◌, List, [], ◌∷◌, ℕ, Bool, true, false, Option, Some, None, inl, inr, refl, sym, ap, ◌∙◌, subst, length, nat_lt, rules, arith}
-use Rattle.std.specs.Prelude.{IsSomeAnd, option_map, unwrap_or, if◌then◌else◌}
+use Rattle.std.specs.Prelude.{IfSome, IsSomeAnd, option_map, unwrap_or, if◌then◌else◌}
 use Rattle.scad_fault.specs.declared.budget.Budget.{Budget}
 use Rattle.scad_fault.specs.declared.status.Status.{Status}
 use Rattle.scad_fault.specs.declared.status.Status.TheVariants.{Done, Source, Usage, Settings, Read, Write, Over, Memory}
@@ -37,7 +37,7 @@ use Rattle.scad_tool.specs.Answer.{IsRead, IsDrawingOf, IsDrawn, settings_found}
 use Rattle.scad_tool.specs.Playing.{DrawsSolids, DrawSolids}
 use Rattle.scad_tool.specs.Promises.{MeansTree, IsTreeOf, GoBy, OutlinesHoldTree, JudgesWords, JudgesJob}
 use Rattle.scad_tool.proofs.Working.{model_read_as, settings_read_as}
-use Rattle.scad_tool.proofs.Settings.{settings_have}
+use Rattle.scad_tool.proofs.Following.{settings_have}
 use Rattle.scad_tool.proofs.Heights.{found_in_range}
 
 -- The outlines of a source that was sliced to the end.

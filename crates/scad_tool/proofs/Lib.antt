@@ -5,6 +5,6 @@ mod Telling
 mod Judged
 mod Refused
 mod Completed
-mod Settings
+mod Following
 mod Heights
 mod Settling

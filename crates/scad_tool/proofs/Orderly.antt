@@ -28,7 +28,7 @@ use Rattle.scad_tool.specs.Words.{model_of, given_names, given_of, given_by}
 use Rattle.scad_tool.specs.Meaning.{source_means}
 use Rattle.scad_tool.specs.Told.{echo_text, echoed, ok_line, check_end, check_script, tree_script, told}
 use Rattle.scad_tool.specs.Answer.{Drawings, Inputs, source_script, input_script, model_script, job_script, script_of}
-use Rattle.scad_tool.proofs.Settings.{settings_have}
+use Rattle.scad_tool.proofs.Following.{settings_have}
 
 -- steps that only read or draw may stand behind a reading
 from_reading : (steps : List Step) → AllFrom reading steps

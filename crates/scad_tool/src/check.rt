@@ -18,12 +18,7 @@ use scad_tree::Tree;
 use std::alloc::{AllocError, Global};
 
 /// Evaluates the source and writes its echo lines: the line with the tree's numbers, for layers of this height in micrometres.
-pub fn check<D: Desk>(
-    alloc: Global,
-    source: &[u8],
-    height: u32,
-    desk: &mut D,
-) -> Result<Text, Stop>
+pub fn check<D: Desk>(alloc: Global, source: &[u8], height: u32, desk: &mut D) -> Result<Text, Stop>
     requires some { 1 ≤ height }
     requires short { length source.now < 2 ^ 32 - 1 }
     requires sound { Sound (D.view desk.old) }

@@ -94,17 +94,14 @@ module _ (es : List LeafEdge) (shape : Shape) where
     run_positive : pos 0 <ℤ pos (unsigned_abs (rise (edge_at es k)))
     run_positive = subst (λ (z : ℤ). pos 0 <ℤ z) (sym (size_of (rise (edge_at es k)) lk.reaches.rises)) lk.reaches.rises
 
-    low_spot : IsSpotAt l (spot_on (edge_at es k) l)
-    low_spot = record { at = refl; runs = run_positive }
-
-    high_spot : IsSpotAt u (spot_on (edge_at es k) u)
-    high_spot = record { at = refl; runs = run_positive }
+    spot_there : (m : Level) → IsSpotAt m (spot_on (edge_at es k) m)
+    spot_there m = record { at = refl; runs = run_positive }
 
     low_divisor : pos 0 <ℤ (point_of (spot_on (edge_at es k) l)).d
-    low_divisor = spot_divisor l (spot_on (edge_at es k) l) n.lower_divisor low_spot
+    low_divisor = spot_divisor l (spot_on (edge_at es k) l) n.lower_divisor (spot_there l)
 
     pub high_divisor : pos 0 <ℤ (point_of (spot_on (edge_at es k) u)).d
-    high_divisor = spot_divisor u (spot_on (edge_at es k) u) n.upper_divisor high_spot
+    high_divisor = spot_divisor u (spot_on (edge_at es k) u) n.upper_divisor (spot_there u)
 
     pub rises : IsBelow (point_of (spot_on (edge_at es k) l)) (point_of (spot_on (edge_at es k) u))
     rises = scaled_below (level_at (point_of (spot_on (edge_at es k) u))) l (pos (unsigned_abs (rise (edge_at es k)))) run_positive (lower_scaled l u (pos (unsigned_abs (rise (edge_at es k)))) run_positive n.in_order)
@@ -118,12 +115,12 @@ module _ (es : List LeafEdge) (shape : Shape) where
 
     over_low : (p : Point) → pos 0 <ℤ p.d → IsBelow (point_of (spot_on (edge_at es k) l)) p → IsLower l (level_at p)
     over_low p dp h =
-        let same = same_at_most (level_at (point_of (spot_on (edge_at es k) l))) l (spot_is_at l (spot_on (edge_at es k) l) low_spot) in
+        let same = same_at_most (level_at (point_of (spot_on (edge_at es k) l))) l (spot_is_at l (spot_on (edge_at es k) l) (spot_there l)) in
         at_most_then_lower l (level_at (point_of (spot_on (edge_at es k) l))) (level_at p) n.lower_divisor low_divisor dp same h
 
     under_high : (p : Point) → pos 0 <ℤ p.d → IsBelow p (point_of (spot_on (edge_at es k) u)) → IsLower (level_at p) u
     under_high p dp h =
-        let same = same_at_least (level_at (point_of (spot_on (edge_at es k) u))) u (spot_is_at u (spot_on (edge_at es k) u) high_spot) in
+        let same = same_at_least (level_at (point_of (spot_on (edge_at es k) u))) u (spot_is_at u (spot_on (edge_at es k) u) (spot_there u)) in
         lower_then_at_most (level_at p) (level_at (point_of (spot_on (edge_at es k) u))) u dp high_divisor n.upper_divisor h same
 
     pub inside_slab : (p : Point) → pos 0 <ℤ p.d → IsInside (point_of (spot_on (edge_at es k) l)) (point_of (spot_on (edge_at es k) u)) p → IsLower l (level_at p) × IsLower (level_at p) u
@@ -167,25 +164,23 @@ module _ (es : List LeafEdge) (shape : Shape) where
   unfolding is_beyond
   is_beyond_it p b h = sym (omega (arith, ints))
 
+  -- no point lies between two spots of one height by its own
+  ends_level : (l : Level) → pos 0 <ℤ l.d → (s t : Spot) → IsSpotAt l s → IsSpotAt l t → (p : Point) → pos 0 <ℤ p.d
+      → IsBelow (point_of s) p → IsBelow p (point_of t) → ⊥
+  ends_level l dl s t hs ht p dp h k =
+      let from = same_at_most (level_at (point_of s)) l (spot_is_at l s hs) in
+      let to = same_at_least (level_at (point_of t)) l (spot_is_at l t ht) in
+      let a = at_most_then_lower l (level_at (point_of s)) (level_at p) dl (spot_divisor l s dl hs) dp from h in
+      let b = lower_then_at_most (level_at p) (level_at (point_of t)) l dp (spot_divisor l t dl ht) dl k to in
+      apart_levels l (level_at p) a (lower_weak (level_at p) l b)
+
   module _ (l : Level) (dl : pos 0 <ℤ l.d) (s t : Spot) (hs : IsSpotAt l s) (ht : IsSpotAt l t) (o : IsLeft s t) where
-    ends_level : (p : Point) → pos 0 <ℤ p.d → IsBelow (point_of s) p → IsBelow p (point_of t) → ⊥
-    ends_level p dp h k =
-        let a = at_most_then_lower l (level_at (point_of s)) (level_at p) dl (spot_divisor l s dl hs) dp (same_at_most (level_at (point_of s)) l (spot_is_at l s hs)) h in
-        let b = lower_then_at_most (level_at p) (level_at (point_of t)) l dp (spot_divisor l t dl ht) dl k (same_at_least (level_at (point_of t)) l (spot_is_at l t ht)) in
-        apart_levels l (level_at p) a (lower_weak (level_at p) l b)
-
-    ends_level_down : (p : Point) → pos 0 <ℤ p.d → IsBelow (point_of t) p → IsBelow p (point_of s) → ⊥
-    ends_level_down p dp h k =
-        let a = at_most_then_lower l (level_at (point_of t)) (level_at p) dl (spot_divisor l t dl ht) dp (same_at_most (level_at (point_of t)) l (spot_is_at l t ht)) h in
-        let b = lower_then_at_most (level_at p) (level_at (point_of s)) l dp (spot_divisor l s dl hs) dl k (same_at_least (level_at (point_of s)) l (spot_is_at l s hs)) in
-        apart_levels l (level_at p) a (lower_weak (level_at p) l b)
-
     -- a point inside the stretch lies at the height, with the one stop to its left and the other to its right
     pub inside_stretch : (p : Point) → pos 0 <ℤ p.d → IsInside (point_of s) (point_of t) p → IsAt l p × (is_right true p (point_of s) ≡ false) × (is_right true p (point_of t) ≡ true)
     inside_stretch p dp i = elim i.between [
       | inl h ↦ elim h [
-        | inl k ↦ absurd (ends_level p dp k.0 k.1)
-        | inr k ↦ absurd (ends_level_down p dp k.0 k.1)
+        | inl k ↦ absurd (ends_level l dl s t hs ht p dp k.0 k.1)
+        | inr k ↦ absurd (ends_level l dl t s ht hs p dp k.0 k.1)
       ]
       | inr h ↦ elim h.2 [
         | inl k ↦ (at h.0, not_beyond p (point_of s) k.0, is_beyond_it p (point_of t) k.1)

@@ -62,7 +62,7 @@ scaled_below p h r pr o = let m = positive_product (p.n *ℤ h.d -ℤ h.n *ℤ p
 pub scaled_at_most : (p h : Level) (r : ℤ) → pos 0 <ℤ r → IsAtMost h p → IsAtMost (scaled h r) p
 scaled_at_most p h r pr o = let m = at_least_mul (p.n *ℤ h.d -ℤ h.n *ℤ p.d) r (gap_of_at_most (h.n *ℤ p.d) (p.n *ℤ h.d) o) (at_most_of_less (pos 0) r pr) in at_most_of_gap ((h.n *ℤ r) *ℤ p.d) (p.n *ℤ (h.d *ℤ r)) (rw (scaled_upper p.n p.d h.n h.d r) m)
 
-middle_positive : (l u : Level) → pos 0 <ℤ l.d → pos 0 <ℤ u.d → pos 0 <ℤ (middle l u).d
+pub middle_positive : (l u : Level) → pos 0 <ℤ l.d → pos 0 <ℤ u.d → pos 0 <ℤ (middle l u).d
 middle_positive l u dl du = positive_product (pos 2) (l.d *ℤ u.d) (omega (arith, ints)) (positive_product l.d u.d dl du)
 
 above_low : (l u : Level) → pos 0 <ℤ l.d → IsLower l u → IsLower l (middle l u)

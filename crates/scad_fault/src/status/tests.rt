@@ -60,7 +60,11 @@ fn faults_end_with_their_lines(rt: HostRuntime) -> Result<(), Fail> {
         ends_with(&rt, Status::Source(Fault { kind, at, name }), last_line)?;
     }
     let unnamed = Fault::unnamed(rt.alloc(), Kind::MixedDimensions, Place::START);
-    ends_with(&rt, Status::Source(unnamed), "fault 11 MixedDimensions at 1:1\n")
+    ends_with(
+        &rt,
+        Status::Source(unnamed),
+        "fault 11 MixedDimensions at 1:1\n",
+    )
 }
 
 #[test]

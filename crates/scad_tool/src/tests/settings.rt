@@ -23,8 +23,16 @@ fn settings_are_judged(rt: HostRuntime) -> Result<(), Fail> {
     let alloc = rt.alloc();
     for (settings, code, report) in [
         ("", 0, "ok: 1 leaves, 12 triangles, 5 layers\n"),
-        ("layer_height = 1000", 0, "ok: 1 leaves, 12 triangles, 1 layers\n"),
-        ("layer_height = 5", 3, "settings 4 OutOfRange layer_height 5\n"),
+        (
+            "layer_height = 1000",
+            0,
+            "ok: 1 leaves, 12 triangles, 1 layers\n",
+        ),
+        (
+            "layer_height = 5",
+            3,
+            "settings 4 OutOfRange layer_height 5\n",
+        ),
         ("speed = 1", 3, "settings 2 UnknownKey speed\n"),
         ("walls = \"2\"", 3, "settings 3 NotWhole walls\n"),
         ("walls = ", 3, "settings 1 NotToml\n"),
@@ -40,10 +48,22 @@ fn settings_are_judged(rt: HostRuntime) -> Result<(), Fail> {
 fn settings_go_before_the_source(rt: HostRuntime) -> Result<(), Fail> {
     let alloc = rt.alloc();
     for (words, code, report) in [
-        (["check", "m.scad", "--settings=s.toml"], 3, "settings 1 NotToml\n"),
-        (["check", "n.scad", "--settings=s.toml"], 3, "settings 1 NotToml\n"),
+        (
+            ["check", "m.scad", "--settings=s.toml"],
+            3,
+            "settings 1 NotToml\n",
+        ),
+        (
+            ["check", "n.scad", "--settings=s.toml"],
+            3,
+            "settings 1 NotToml\n",
+        ),
         (["check", "m.scad", "--settings=t.toml"], 4, "read fault\n"),
-        (["check", "m.scad", "--settings=m.scad"], 2, "usage: scadslice COMMAND\n"),
+        (
+            ["check", "m.scad", "--settings=m.scad"],
+            2,
+            "usage: scadslice COMMAND\n",
+        ),
     ] {
         let answer = settled(&rt, alloc, &words, b"walls", b"cube(")?;
         expect(&rt, &answer, code, report, words[2]);
@@ -57,7 +77,8 @@ fn layers_are_of_the_given_height(rt: HostRuntime) -> Result<(), Fail> {
     let words = ["slice", "--settings", "s.toml", "m.scad", "o.cli"];
     let answer = settled(&rt, alloc, &words, b"layer_height = 500", b"cube(1);")?;
     expect(&rt, &answer, 0, "done: 2 layers, 2 loops\n", "two layers");
-    let text = "$$HEADERSTART\n$$ASCII\n$$UNITS/0.001\n$$VERSION/200\n$$LAYERS/2\n$$HEADEREND\n$$GEOMETRYSTART\n\
+    let text =
+        "$$HEADERSTART\n$$ASCII\n$$UNITS/0.001\n$$VERSION/200\n$$LAYERS/2\n$$HEADEREND\n$$GEOMETRYSTART\n\
         $$LAYER/500\n$$POLYLINE/1,1,5,0,0,1000,0,1000,1000,0,1000,0,0\n\
         $$LAYER/1000\n$$POLYLINE/1,1,5,0,0,1000,0,1000,1000,0,1000,0,0\n$$GEOMETRYEND\n";
     assert_eq!(rt; answer.cli.as_slice(), text.as_bytes());

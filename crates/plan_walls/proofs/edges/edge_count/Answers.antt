@@ -1,6 +1,6 @@
 -- The count is that of the sides and of the corners of all rings, at most seven for each side.
-use Rattle.std.proofs.Common.{◌≡◌, ℕ, ◌+◌, ◌*◌, ◌≤◌, ◌<◌, ◌^◌, List, [], length, drop, get_or, arith, sym, ap, ◌∙◌}
-use Rattle.std.proofs.Common.{subst, Fits, w64}
+use Rattle.std.proofs.Common.{◌≡◌, ◌+◌, ◌≤◌, List, [], length, drop, arith, sym, ◌∙◌}
+use Rattle.std.proofs.Common.{subst}
 use Rattle.std.specs.Prelude.{sum_by}
 use Rattle.std.proofs.Math.ListN.{drop_of_length-le}
 use Rattle.scad_geom.specs.declared.point.Pt.{Pt}

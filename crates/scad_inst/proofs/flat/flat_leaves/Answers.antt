@@ -1,5 +1,5 @@
 use Rattle.std.proofs.lemmas.Result.{err_from_is_err_and}
-use Rattle.scad_expr.specs.Machine.{held, state_of}
+use Rattle.scad_expr.specs.Machine.{state_of}
 use Rattle.scad_inst.proofs.FlatRounds.{leaf-stops}
 use Rattle.scad_inst.proofs.flat.flat_leaves.Goals as goal
 

@@ -1,4 +1,4 @@
-use Rattle.std.proofs.Common.{◌≢◌, ◌<ℤ◌, ℤ, pos, ◌*◌, ◌≤◌, arith}
+use Rattle.std.proofs.Common.{◌≢◌, ◌<ℤ◌, pos, ◌*◌, ◌≤◌, arith}
 use Rattle.std.proofs.lemmas.Int.{ints}
 use Rattle.scad_ast.specs.Scope.{items}
 use Rattle.scad_expr.specs.Arguments.{statements}

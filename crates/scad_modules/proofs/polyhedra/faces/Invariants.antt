@@ -1,6 +1,5 @@
 use Rattle.std.proofs.Common.{◌≡◌, [], drop, length, true}
 use Rattle.std.specs.List.{list_all}
-use Rattle.scad_solid.specs.Solid.{names_points}
 use Rattle.scad_value.specs.View.{elements}
 use Rattle.scad_modules.specs.Primitive.{is_face}
 use Rattle.scad_modules.specs.Reading.{faces_onto}
