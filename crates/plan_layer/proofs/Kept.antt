@@ -18,7 +18,7 @@ use Rattle.scad_geom.specs.Loop.{path, sides}
 use Rattle.scad_geom.specs.Near.{mean, IsHalf, IsClear}
 use Rattle.scad_geom.proofs.Ring.{ring, num, ◌⊕◌, ◌⊖◌, ◌⊗◌, v0, v1, v2}
 use Rattle.scad_geom.proofs.Signs.{at_least_mul}
-use Rattle.winding_laws.specs.Parts.{IsOn}
+use Rattle.winding_laws.proofs.Parts.{on_turned}
 use Rattle.plan_infill.specs.declared.line.Line.{Line}
 use Rattle.plan_infill.specs.declared.run.Run.{Run}
 use Rattle.plan_infill.specs.Runs.{point_on, IsRun}
@@ -69,27 +69,6 @@ keeps_less outlines b c q o hd k = record {
 move_keeps_less : (outlines : List (List Pt)) (b c : ℕ) (e : Edge) → b ≤ c → KeepsClear outlines c e
     → KeepsClear outlines b e
 move_keeps_less outlines b c e o k q hd on = keeps_less outlines b c q o hd (k q hd on)
-
--- ---- a move the other way
-other_way : (a b q : Point) → IsOn a b q → IsOn b a q
-other_way a b q on = record {
-  k = on.k;
-  s = on.t;
-  t = on.s;
-  positive = on.positive;
-  first = on.second;
-  second = on.first;
-  some = swapped on.s on.t on.some;
-  x = on.x ∙ commute (on.s *ℤ a.x) (on.t *ℤ b.x);
-  y = on.y ∙ commute (on.s *ℤ a.y) (on.t *ℤ b.y);
-  d = on.d ∙ commute (on.s *ℤ a.d) (on.t *ℤ b.d);
-}
-  where
-    commute : (x y : ℤ) → x +ℤ y ≡ y +ℤ x
-    commute x y = omega (arith, ints)
-
-    swapped : (x y : ℤ) → pos 0 <ℤ (x +ℤ y) → pos 0 <ℤ (y +ℤ x)
-    swapped x y h = omega (arith, ints)
 
 -- ---- the moves of a loop are its sides
 pub moves_back : (from : Pt) (ps : List Pt) (last : Pt) → moves_from from (ps ++ last ∷ []) ≡ path from ps last
@@ -145,7 +124,7 @@ module _ (outlines : List (List Pt)) (layer : ℕ) (s : Settings) (range : AreIn
       → KeepsClear outlines (s.line_width / 2)
       (record { a = point_on (line_at layer z) r.to; b = point_on (line_at layer z) r.from })
   backwards_keeps z r is q hd on =
-      forwards_keeps z r is q hd (other_way (whole (point_on (line_at layer z) r.to))
+      forwards_keeps z r is q hd (on_turned (whole (point_on (line_at layer z) r.to))
       (whole (point_on (line_at layer z) r.from)) q on)
 
   line_keeps : (up : Bool) (z : ℤ) (rs : List Run) → AllByRecursion (IsLayerRun outlines layer s z) rs
