@@ -1,6 +1,6 @@
 -- What walls and runs keep, the moves of a plan keep.
-use Rattle.std.proofs.Common.{◌≡◌, ◌≤◌, ◌+◌, ◌*◌, ◌/◌, ◌<◌, ℕ, zero, suc, Bool, true, false, not, List, [], ◌∷◌, ◌++◌}
-use Rattle.std.proofs.Common.{map, reverse, refl, ap, ap₂, ◌∙◌, sym, subst, flat_map, arith, ℤ, pos, ◌+ℤ◌, ◌-ℤ◌, ◌*ℤ◌}
+use Rattle.std.proofs.Common.{◌≡◌, ◌≤◌, ◌+◌, ◌*◌, ◌/◌, ℕ, Bool, true, false, not, List, [], ◌∷◌, ◌++◌}
+use Rattle.std.proofs.Common.{map, reverse, refl, ap, ap₂, ◌∙◌, sym, subst, flat_map, arith, ℤ, pos, ◌-ℤ◌, ◌*ℤ◌}
 use Rattle.std.proofs.Common.{◌<ℤ◌}
 use lib.Signed.{◌≤ℤ◌}
 use Rattle.std.specs.Prelude.{All}
@@ -8,7 +8,7 @@ use Rattle.std.specs.List.{AllByRecursion}
 use Rattle.std.proofs.lemmas.Int.{ints}
 use Rattle.std.proofs.lemmas.Grind.{reverse_onto, flat_map-append}
 use Rattle.std.proofs.lemmas.List.{map-append}
-use Rattle.std.proofs.lemmas.List.Elements.{All-nil, All-cons, All-head, All-tail, All-append, All-weaker}
+use Rattle.std.proofs.lemmas.List.Elements.{All-nil, All-cons, All-append, All-weaker}
 use Rattle.std.proofs.lemmas.List.Elements.{recursion_from_All}
 use Rattle.scad_base.proofs.Products.{positive_product}
 use Rattle.scad_geom.specs.declared.point.Pt.{Pt}
@@ -16,18 +16,17 @@ use Rattle.scad_geom.specs.declared.point.Edge.{Edge}
 use Rattle.scad_geom.specs.Point.{Point, whole}
 use Rattle.scad_geom.specs.Loop.{path, sides}
 use Rattle.scad_geom.specs.Near.{mean, IsHalf, IsClear}
-use Rattle.scad_geom.proofs.Ring.{ring, num, ◌⊕◌, ◌⊖◌, ◌⊗◌, v0, v1, v2}
+use Rattle.scad_geom.proofs.Ring.{ring, ◌⊖◌, ◌⊗◌, v0, v1, v2}
 use Rattle.scad_geom.proofs.Signs.{at_least_mul}
 use Rattle.winding_laws.proofs.Parts.{on_turned}
-use Rattle.plan_infill.specs.declared.line.Line.{Line}
 use Rattle.plan_infill.specs.declared.run.Run.{Run}
-use Rattle.plan_infill.specs.Runs.{point_on, IsRun}
+use Rattle.plan_infill.specs.Runs.{point_on}
 use Rattle.plan_walls.specs.Kept.{KeepsWithin, WallsKeepClear}
 use Rattle.scad_words.specs.declared.settings.Settings.{Settings}
 use Rattle.scad_words.specs.Settings.{AreInRange}
 use Rattle.plan_layer.specs.Moves.{moves_from, moves, all_moves}
 use Rattle.plan_layer.specs.Walls.{distance, AreWallsFrom, round, wall_paths}
-use Rattle.plan_layer.specs.Infill.{line_at, depth, IsLayerRun, LineRuns, IsFilled, forwards, backwards, line_paths}
+use Rattle.plan_layer.specs.Infill.{line_at, depth, IsLayerRun, LineRuns, IsFilled, backwards, line_paths}
 use Rattle.plan_layer.specs.Infill.{infill_paths}
 use Rattle.plan_layer.specs.Plan.{IsPlan}
 use Rattle.plan_layer.specs.Kept.{KeepsClear, PathsKeepClear, PlansKeepClear}
