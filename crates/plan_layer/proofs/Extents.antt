@@ -1,8 +1,8 @@
 -- The least and the greatest coordinate of sides, found one side after another.
-use Rattle.std.proofs.Common.{◌≡◌, ◌<◌, ◌≤◌, ◌+◌, ◌%◌, ℕ, Bool, true, false, cond, List, length, take, get_or, refl}
-use Rattle.std.proofs.Common.{sym, subst, arith, ℤ, pos, negsuc, ◌-ℤ◌}
+use Rattle.std.proofs.Common.{◌≡◌, ◌<◌, ◌+◌, ◌%◌, ℕ, Bool, true, false, cond, List, length, take, get_or, refl}
+use Rattle.std.proofs.Common.{sym, subst, arith, ℤ, pos, ◌-ℤ◌}
 use lib.Signed.{◌≤ℤ◌}
-use Rattle.std.specs.Prelude.{All, int_lt, unsigned_abs, ◌==◌, if◌then◌else◌}
+use Rattle.std.specs.Prelude.{All, int_lt, ◌==◌, if◌then◌else◌}
 use Rattle.std.specs.Int.{int_min, int_max}
 use Rattle.std.proofs.lemmas.Int.{ints}
 use Rattle.std.proofs.lemmas.List.Elements.{All-more, All-weaker}

@@ -1,25 +1,23 @@
 -- The lines with runs, found one after another.
-use Rattle.std.proofs.Common.{◌≡◌, ◌≢◌, ◌⊎◌, inl, inr, ℕ, ◌<◌, List, [], ◌∷◌, ◌++◌, map, refl, ap, ◌∙◌, sym, subst}
-use Rattle.std.proofs.Common.{flat_map, arith, ℤ, pos, ◌+ℤ◌, ◌-ℤ◌, ◌<ℤ◌}
-use lib.Signed.{◌≤ℤ◌}
+use Rattle.std.proofs.Common.{◌≡◌, ◌⊎◌, inl, inr, ℕ, List, [], ◌∷◌, ◌++◌, map, sym, subst}
+use Rattle.std.proofs.Common.{flat_map, arith, ℤ, pos, ◌+ℤ◌, ◌<ℤ◌}
 use Rattle.std.specs.Prelude.{All, Contains}
 use Rattle.std.proofs.lemmas.Int.{ints}
 use Rattle.std.proofs.lemmas.List.{map-append, append-nil}
 use Rattle.std.proofs.lemmas.List.Elements.{All-nil, All-head, All-tail, All-push, All-weaker, Contains-append_left}
 use Rattle.std.proofs.lemmas.List.Elements.{Contains-push}
 use Rattle.scad_geom.specs.declared.point.Pt.{Pt}
-use Rattle.scad_geom.specs.declared.point.Edge.{Edge}
 use Rattle.scad_geom.specs.Limits.{point_limit}
 use Rattle.scad_geom.specs.Within.{IsWithin}
 use Rattle.scad_geom.specs.Loop.{sides}
 use Rattle.scad_geom.proofs.Rising.{order}
 use Rattle.plan_infill.specs.declared.run.Run.{Run}
-use Rattle.plan_infill.specs.Runs.{AreRuns, IsRun}
+use Rattle.plan_infill.specs.Runs.{AreRuns}
 use Rattle.scad_words.specs.declared.settings.Settings.{Settings}
 use Rattle.plan_layer.specs.Extent.{IsEdgeAmong}
 use Rattle.plan_layer.specs.Infill.{line_at, IsMultiple, depth, IsLayerRun, LineRuns, IsFilled, AreUpwards, AreFilled}
 use Rattle.plan_layer.specs.Infill.{line_of}
-use Rattle.plan_layer.proofs.Multiples.{multiples_apart, next_multiple}
+use Rattle.plan_layer.proofs.Multiples.{multiples_apart}
 use Rattle.plan_layer.proofs.Beyond.{nothing_beyond}
 
 -- those that lie before a coordinate

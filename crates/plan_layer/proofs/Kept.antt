@@ -1,6 +1,6 @@
 -- What walls and runs keep, the moves of a plan keep.
-use Rattle.std.proofs.Common.{◌≡◌, ◌≤◌, ◌+◌, ◌*◌, ◌/◌, ◌<◌, ℕ, zero, suc, Bool, true, false, not, List, [], ◌∷◌, ◌++◌}
-use Rattle.std.proofs.Common.{map, reverse, refl, ap, ap₂, ◌∙◌, sym, subst, flat_map, arith, ℤ, pos, ◌+ℤ◌, ◌-ℤ◌, ◌*ℤ◌}
+use Rattle.std.proofs.Common.{◌≡◌, ◌≤◌, ◌+◌, ◌*◌, ◌/◌, ℕ, Bool, true, false, not, List, [], ◌∷◌, ◌++◌}
+use Rattle.std.proofs.Common.{map, reverse, refl, ap, ap₂, ◌∙◌, sym, subst, flat_map, arith, ℤ, pos, ◌-ℤ◌, ◌*ℤ◌}
 use Rattle.std.proofs.Common.{◌<ℤ◌}
 use lib.Signed.{◌≤ℤ◌}
 use Rattle.std.specs.Prelude.{All}
@@ -8,7 +8,7 @@ use Rattle.std.specs.List.{AllByRecursion}
 use Rattle.std.proofs.lemmas.Int.{ints}
 use Rattle.std.proofs.lemmas.Grind.{reverse_onto, flat_map-append}
 use Rattle.std.proofs.lemmas.List.{map-append}
-use Rattle.std.proofs.lemmas.List.Elements.{All-nil, All-cons, All-head, All-tail, All-append, All-weaker}
+use Rattle.std.proofs.lemmas.List.Elements.{All-nil, All-cons, All-append, All-weaker}
 use Rattle.std.proofs.lemmas.List.Elements.{recursion_from_All}
 use Rattle.scad_base.proofs.Products.{positive_product}
 use Rattle.scad_geom.specs.declared.point.Pt.{Pt}
@@ -16,18 +16,17 @@ use Rattle.scad_geom.specs.declared.point.Edge.{Edge}
 use Rattle.scad_geom.specs.Point.{Point, whole}
 use Rattle.scad_geom.specs.Loop.{path, sides}
 use Rattle.scad_geom.specs.Near.{mean, IsHalf, IsClear}
-use Rattle.scad_geom.proofs.Ring.{ring, num, ◌⊕◌, ◌⊖◌, ◌⊗◌, v0, v1, v2}
+use Rattle.scad_geom.proofs.Ring.{ring, ◌⊖◌, ◌⊗◌, v0, v1, v2}
 use Rattle.scad_geom.proofs.Signs.{at_least_mul}
-use Rattle.winding_laws.specs.Parts.{IsOn}
-use Rattle.plan_infill.specs.declared.line.Line.{Line}
+use Rattle.winding_laws.proofs.Parts.{on_turned}
 use Rattle.plan_infill.specs.declared.run.Run.{Run}
-use Rattle.plan_infill.specs.Runs.{point_on, IsRun}
+use Rattle.plan_infill.specs.Runs.{point_on}
 use Rattle.plan_walls.specs.Kept.{KeepsWithin, WallsKeepClear}
 use Rattle.scad_words.specs.declared.settings.Settings.{Settings}
 use Rattle.scad_words.specs.Settings.{AreInRange}
 use Rattle.plan_layer.specs.Moves.{moves_from, moves, all_moves}
 use Rattle.plan_layer.specs.Walls.{distance, AreWallsFrom, round, wall_paths}
-use Rattle.plan_layer.specs.Infill.{line_at, depth, IsLayerRun, LineRuns, IsFilled, forwards, backwards, line_paths}
+use Rattle.plan_layer.specs.Infill.{line_at, depth, IsLayerRun, LineRuns, IsFilled, backwards, line_paths}
 use Rattle.plan_layer.specs.Infill.{infill_paths}
 use Rattle.plan_layer.specs.Plan.{IsPlan}
 use Rattle.plan_layer.specs.Kept.{KeepsClear, PathsKeepClear, PlansKeepClear}
@@ -69,27 +68,6 @@ keeps_less outlines b c q o hd k = record {
 move_keeps_less : (outlines : List (List Pt)) (b c : ℕ) (e : Edge) → b ≤ c → KeepsClear outlines c e
     → KeepsClear outlines b e
 move_keeps_less outlines b c e o k q hd on = keeps_less outlines b c q o hd (k q hd on)
-
--- ---- a move the other way
-other_way : (a b q : Point) → IsOn a b q → IsOn b a q
-other_way a b q on = record {
-  k = on.k;
-  s = on.t;
-  t = on.s;
-  positive = on.positive;
-  first = on.second;
-  second = on.first;
-  some = swapped on.s on.t on.some;
-  x = on.x ∙ commute (on.s *ℤ a.x) (on.t *ℤ b.x);
-  y = on.y ∙ commute (on.s *ℤ a.y) (on.t *ℤ b.y);
-  d = on.d ∙ commute (on.s *ℤ a.d) (on.t *ℤ b.d);
-}
-  where
-    commute : (x y : ℤ) → x +ℤ y ≡ y +ℤ x
-    commute x y = omega (arith, ints)
-
-    swapped : (x y : ℤ) → pos 0 <ℤ (x +ℤ y) → pos 0 <ℤ (y +ℤ x)
-    swapped x y h = omega (arith, ints)
 
 -- ---- the moves of a loop are its sides
 pub moves_back : (from : Pt) (ps : List Pt) (last : Pt) → moves_from from (ps ++ last ∷ []) ≡ path from ps last
@@ -145,7 +123,7 @@ module _ (outlines : List (List Pt)) (layer : ℕ) (s : Settings) (range : AreIn
       → KeepsClear outlines (s.line_width / 2)
       (record { a = point_on (line_at layer z) r.to; b = point_on (line_at layer z) r.from })
   backwards_keeps z r is q hd on =
-      forwards_keeps z r is q hd (other_way (whole (point_on (line_at layer z) r.to))
+      forwards_keeps z r is q hd (on_turned (whole (point_on (line_at layer z) r.to))
       (whole (point_on (line_at layer z) r.from)) q on)
 
   line_keeps : (up : Bool) (z : ℤ) (rs : List Run) → AllByRecursion (IsLayerRun outlines layer s z) rs

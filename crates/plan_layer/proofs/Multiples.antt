@@ -1,13 +1,11 @@
 -- Whole multiples of a spacing.
-use Rattle.std.proofs.Common.{◌≡◌, ◌⊎◌, inl, inr, ℕ, ◌<◌, List, [], ◌∷◌, refl, ap, ◌∙◌, sym, arith, ℤ, pos, negsuc}
+use Rattle.std.proofs.Common.{◌≡◌, ℕ, ◌<◌, [], ◌∷◌, refl, ap, ◌∙◌, sym, arith, ℤ, pos, negsuc}
 use Rattle.std.proofs.Common.{◌+ℤ◌, ◌-ℤ◌, ◌*ℤ◌, ◌<ℤ◌}
 use lib.Signed.{◌≤ℤ◌}
 use Rattle.std.specs.Prelude.{unsigned_abs}
 use Rattle.std.specs.Int.{int_div_euclid, int_rem_euclid, int_max}
 use Rattle.std.proofs.lemmas.Int.{ints}
-use Rattle.scad_base.proofs.Products.{negative_factor}
 use Rattle.scad_geom.proofs.Ring.{ring, num, ◌⊕◌, ◌⊖◌, ◌⊗◌, v0, v1, v2}
-use Rattle.scad_geom.proofs.Rising.{order}
 use Rattle.scad_geom.proofs.Signs.{at_least_mul, pos_left}
 use Rattle.plan_layer.specs.Infill.{IsMultiple}
 use Rattle.plan_layer.proofs.Extents.{greater}

@@ -1,24 +1,19 @@
 -- Each exact point of a run has a whole point of the run under it.
-use Rattle.std.proofs.Common.{◌≡◌, ◌≤◌, ℕ, List, [], ◌∷◌, refl, ap, ap₂, ◌∙◌, sym, arith, inl, inr, ℤ, pos, ◌+ℤ◌, ◌-ℤ◌}
+use Rattle.std.proofs.Common.{◌≡◌, [], ◌∷◌, refl, ap₂, ◌∙◌, arith, inl, inr, ℤ, pos, ◌+ℤ◌, ◌-ℤ◌}
 use Rattle.std.proofs.Common.{◌*ℤ◌, ◌<ℤ◌}
 use lib.Signed.{◌≤ℤ◌}
 use Rattle.std.specs.Int.{int_div_euclid}
 use Rattle.std.proofs.lemmas.Int.{ints}
 use Rattle.scad_base.proofs.Products.{zero_factor}
-use Rattle.scad_geom.specs.declared.point.Pt.{Pt}
-use Rattle.scad_geom.specs.Point.{Point, whole}
-use Rattle.scad_geom.proofs.Ring.{ring, num, ◌⊕◌, ◌⊖◌, ◌⊗◌, v0, v1, v2, v3, v4}
+use Rattle.scad_geom.proofs.Ring.{ring, num, ◌⊕◌, ◌⊖◌, ◌⊗◌, v0, v1, v2, v3}
 use Rattle.scad_geom.proofs.Rising.{order}
-use Rattle.scad_geom.proofs.Signs.{at_least_mul, at_least_left, no_gap}
-use Rattle.winding_laws.specs.Parts.{IsOn}
-use Rattle.plan_infill.specs.declared.line.Line.{Line}
+use Rattle.scad_geom.proofs.Signs.{at_least_mul, at_least_left}
 use Rattle.plan_infill.specs.declared.line.Line.TheVariants.{Row, Column}
-use Rattle.plan_infill.specs.declared.run.Run.{Run}
 use Rattle.plan_infill.specs.Quotient.{IsFloor}
-use Rattle.plan_infill.specs.Runs.{point_on, IsRun}
+use Rattle.plan_infill.specs.Runs.{point_on}
 use Rattle.plan_infill.proofs.Quotients.{floor_is, after_floor, at_most_times}
 use Rattle.plan_layer.specs.Kept.{RunsKeepClear}
-use Rattle.plan_layer.proofs.Under.{IsUnder, deep_keeps}
+use Rattle.plan_layer.proofs.Under.{deep_keeps}
 
 -- ---- along one axis, for a point k (n, d) = s (a, 1) + t (b, 1)
 level_mean : (k s t n d a : ℤ) → k *ℤ n ≡ s *ℤ a +ℤ t *ℤ a → k *ℤ d ≡ s *ℤ pos 1 +ℤ t *ℤ pos 1

@@ -1,9 +1,8 @@
 -- An exact point and the whole point below and to the left of it: what keeps far from this one keeps nearly as far from
 -- the other.
-use Rattle.std.proofs.Common.{◌≡◌, ◌≤◌, ◌≢◌, ℕ, List, [], ◌∷◌, refl, ◌∙◌, sym, flat_map, arith, true, ℤ, pos, ◌+ℤ◌}
+use Rattle.std.proofs.Common.{◌≡◌, ◌≤◌, ℕ, List, [], ◌∷◌, refl, ◌∙◌, sym, flat_map, arith, true, ℤ, pos, ◌+ℤ◌}
 use Rattle.std.proofs.Common.{◌-ℤ◌, ◌*ℤ◌, ◌<ℤ◌}
 use lib.Signed.{◌≤ℤ◌}
-use Rattle.std.specs.Prelude.{All}
 use Rattle.std.proofs.lemmas.Int.{ints}
 use Rattle.std.proofs.lemmas.List.Elements.{All-map, All-weaker}
 use Rattle.scad_base.proofs.Products.{positive_product}
@@ -12,15 +11,15 @@ use Rattle.scad_geom.specs.declared.point.Edge.{Edge}
 use Rattle.scad_geom.specs.Point.{Point, whole}
 use Rattle.scad_geom.specs.Segment.{segment_of, segments}
 use Rattle.scad_geom.specs.Loop.{sides}
-use Rattle.scad_geom.specs.Near.{mean, IsHalf, IsClose, IsClear}
+use Rattle.scad_geom.specs.Near.{mean, IsHalf, IsClear}
 use Rattle.scad_geom.specs.Winding.{wind}
-use Rattle.scad_geom.proofs.Ring.{ring, num, ◌⊕◌, ◌⊖◌, ◌⊗◌, v0, v1, v2, v3, v4, v5}
+use Rattle.scad_geom.proofs.Ring.{ring, num, ◌⊕◌, ◌⊖◌, ◌⊗◌, v0, v1, v2, v3, v4}
 use Rattle.scad_geom.proofs.Signs.{at_least_mul, pos_left}
 use Rattle.winding_laws.specs.Nearness.{IsClearSegment}
 use Rattle.winding_laws.proofs.OneWinding.{squares_have_one_winding}
 use Rattle.plan_sides.proofs.Closed.{sides_balanced}
 use Rattle.plan_infill.specs.Quotient.{IsFloor}
-use Rattle.plan_infill.specs.Deep.{IsLess, IsNearer, ComesNearer, IsDeep}
+use Rattle.plan_infill.specs.Deep.{IsLess, ComesNearer, IsDeep}
 use Rattle.plan_walls.specs.Kept.{KeepsWithin}
 
 -- p is the whole point below and to the left of q, or q itself

@@ -1,5 +1,5 @@
 -- The extruding moves along paths.
-use Rattle.std.specs.Prelude.{ℕ, List, [], ◌∷◌, length, flat_map}
+use Rattle.std.specs.Prelude.{ℕ, List, [], ◌∷◌, flat_map}
 use Rattle.scad_geom.specs.declared.point.Pt.{Pt}
 use Rattle.scad_geom.specs.declared.point.Edge.{Edge}
 

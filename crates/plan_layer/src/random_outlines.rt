@@ -85,7 +85,7 @@ fn check_number(before: i64, paths: &[Path]) -> i64 {
                 .wrapping_add(p.x as i64 * 4000 + p.y as i64 + 1)
                 .rem_euclid(1_000_000_007);
         }
-        number = (number + 7).rem_euclid(1_000_000_007);
+        number = number.wrapping_add(7).rem_euclid(1_000_000_007);
     }
     number
 }

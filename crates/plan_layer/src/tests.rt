@@ -33,7 +33,12 @@ fn square(alloc: Global, from: u32, to: u32) -> Result<Loop, AllocError>
 {
     let low = from as i32;
     let high = to as i32;
-    let corners = [at(low, low), at(high, low), at(high, high), at(low, high)];
+    let corners = [
+        Pt { x: low, y: low },
+        Pt { x: high, y: low },
+        Pt { x: high, y: high },
+        Pt { x: low, y: high },
+    ];
     Ok(Loop::from_vec(Vec::from_slice(alloc, &corners)?))
 }
 
@@ -45,7 +50,12 @@ fn hole(alloc: Global, from: u32, to: u32) -> Result<Loop, AllocError>
 {
     let low = from as i32;
     let high = to as i32;
-    let corners = [at(low, low), at(low, high), at(high, high), at(high, low)];
+    let corners = [
+        Pt { x: low, y: low },
+        Pt { x: low, y: high },
+        Pt { x: high, y: high },
+        Pt { x: high, y: low },
+    ];
     Ok(Loop::from_vec(Vec::from_slice(alloc, &corners)?))
 }
 

@@ -1,4 +1,4 @@
-use Rattle.std.proofs.Common.{FitsSigned, ◌≡◌, List, take, get_or, subst, sym, ℤ, pos, ◌-ℤ◌}
+use Rattle.std.proofs.Common.{FitsSigned, ◌≡◌, List, get_or, subst, sym, ℤ, pos, ◌-ℤ◌}
 use lib.Signed.{◌≤ℤ◌}
 use Rattle.std.specs.Prelude.{All}
 use Rattle.std.proofs.lemmas.Int.{to_z-of_z}

@@ -1,6 +1,4 @@
-use Rattle.std.proofs.Common.{◌≡◌, FitsSigned, to_z, of_z, List, [], flat_map, sym, subst, ◌∙◌, arith, rules, pos, ◌+ℤ◌}
-use Rattle.std.proofs.Common.{◌-ℤ◌, ◌<ℤ◌}
-use lib.Signed.{◌≤ℤ◌}
+use Rattle.std.proofs.Common.{◌≡◌, FitsSigned, to_z, of_z, List, flat_map, sym, subst, ◌∙◌, arith, rules, pos, ◌+ℤ◌}
 use Rattle.std.specs.Prelude.{All}
 use Rattle.std.proofs.lemmas.Int.{ints, to_z-of_z}
 use Rattle.scad_geom.specs.declared.point.Edge.{Edge}
@@ -10,7 +8,7 @@ use Rattle.scad_geom.specs.Within.{IsEdgeWithin}
 use Rattle.scad_geom.proofs.Casts.{casts}
 use Rattle.plan_infill.proofs.AllRuns.{edges_within}
 use Rattle.plan_layer.specs.Extent.{IsEdgeAmong}
-use Rattle.plan_layer.specs.Infill.{IsMultiple, LineRuns, AddsLine}
+use Rattle.plan_layer.specs.Infill.{LineRuns, AddsLine}
 use Rattle.plan_layer.proofs.Filled.{FilledBefore, before_none, before_more, before_all}
 use Rattle.plan_layer.proofs.Multiples.{next_multiple, falls}
 use Rattle.plan_layer.proofs.lines.filled_lines.Goals as goal

@@ -4,7 +4,7 @@ use Rattle.std.specs.Int.{int_rem_euclid}
 use Rattle.plan_layer.specs.Infill.{IsMultiple}
 use Rattle.plan_layer.proofs.Multiples.{least_multiple}
 use Rattle.plan_layer.proofs.lines.multiple_from.Goals as goal
-use mir.Syntax.{w32, w64}
+use mir.Syntax.{w64}
 
 pub returns-clause-multiple : goal.returns-clause-multiple
 returns-clause-multiple c =
