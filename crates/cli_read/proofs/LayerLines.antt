@@ -16,7 +16,7 @@ use Rattle.cli_read.specs.Reading.{◌>>=◌, Geometry, or_bad, words, behind, c
 use Rattle.cli_read.proofs.Results.{bind_ok, ok_is, passed, or_bad_ok}
 use Rattle.cli_read.proofs.Numbers.{count_text, count_back, same_bytes}
 use Rattle.cli_read.proofs.CommaWords.{points_text, behind_is, behind_back}
-use Rattle.cli_read.proofs.Outlines.{outline_text_is, outline_text_back}
+use Rattle.cli_read.proofs.Outlines.{outline_grouped, outline_text_is, outline_text_back}
 
 -- ---- one line
 
@@ -69,9 +69,6 @@ said_is n last line s e = said_by_is n last line (behind layer_start line) (behi
 no_height : (rest : List ℕ) → behind layer_start (polyline_start ++ rest) ≡ None
 unfolding behind layer_start polyline_start
 no_height rest = refl
-
-outline_grouped : (a b c d : List ℕ) → a ++ b ++ codes "," ++ c ++ d ≡ a ++ (b ++ codes "," ++ c ++ d)
-outline_grouped a b c d = simp append_assoc
 
 said_back : (n : ℕ) (last : Option ℕ) (line : List ℕ) (s : Said) → Says last line s → said_at n last line ≡ Ok s
 unfolding said_at

@@ -7,7 +7,7 @@ use Rattle.std.specs.List.{All, list_all}
 use Rattle.std.specs.Str.{IsUtf8}
 use Rattle.std.specs.Str.Parse.{digits_value, signed_digits_value, starts_with_minus, without_leading_plus, AllDigits, ParsesUnsigned, ParsesSigned}
 use Rattle.std.specs.Int.Signed.{mag}
-use Rattle.std.proofs.lemmas.Bool.{and_parts, ltb-true, lt-ltb}
+use Rattle.std.proofs.lemmas.Bool.{and_parts, not-true, ltb-true, lt-ltb}
 use Rattle.std.proofs.lemmas.Bool.Decides.{nat_tests}
 use Rattle.std.proofs.lemmas.Fmt.{decimal_is_IsNumeral, decimal_nonempty, parse-decimal, parse-signed_decimal, IsAscii-decimal, IsAscii-signed}
 use Rattle.std.proofs.lemmas.List.Elements.{All-cons}
@@ -174,11 +174,7 @@ abbrev pub Lacks : ℕ → List ℕ → Type 0
 Lacks mark bs = All (λ b. (b == mark) ≡ false) bs
 
 pub lacks_from_test : (mark : ℕ) (bs : List ℕ) → list_all (λ b. not (b == mark)) bs ≡ true → Lacks mark bs
-lacks_from_test mark bs h k d l = not_true (get_or bs k d == mark) (AllPass-from_list_all (λ (b : ℕ). not (b == mark)) bs h k d l)
-  where
-    not_true : (b : Bool) → not b ≡ true → b ≡ false
-    not_true true e = absurd cc
-    not_true false e = refl
+lacks_from_test mark bs h k d l = not-true (get_or bs k d == mark) (AllPass-from_list_all (λ (b : ℕ). not (b == mark)) bs h k d l)
 
 pub decimal_lacks : (mark n : ℕ) → mark < 48 → n < 2 ^ 64 → Lacks mark (decimal n)
 decimal_lacks mark n m h = lacks_from_test mark (decimal n) (decimal_passes (λ b. not (b == mark)) (other mark m) n h)

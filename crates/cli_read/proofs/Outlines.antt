@@ -160,6 +160,9 @@ outline_back n direction outline either shape =
     rw (count_back direction (omega arith), one, count_back (length outline + 1) shape.count, points_back n (closed outline) (closed_near outline shape.near))
     (closed_back n outline shape.several)
 
+pub outline_grouped : (a b c d : List ℕ) → a ++ b ++ codes "," ++ c ++ d ≡ a ++ (b ++ codes "," ++ c ++ d)
+outline_grouped a b c d = simp append_assoc
+
 -- what stands behind the start of the line
 pub outline_text_is : (n : ℕ) (text : List ℕ) (outline : List Pt) → outline_at n (words text) ≡ Ok outline → IsOutline (polyline_start ++ text) outline
 outline_text_is n text outline e =
@@ -171,12 +174,9 @@ outline_text_is n text outline e =
     record {
       direction = w.0;
       either = w.1;
-      is = ap (λ (t : List ℕ). polyline_start ++ t) is ∙ grouped polyline_start (decimal w.0) (decimal (length outline + 1)) (points_text (closed outline));
+      is = ap (λ (t : List ℕ). polyline_start ++ t) is ∙ sym (outline_grouped polyline_start (decimal w.0) (decimal (length outline + 1)) (points_text (closed outline)));
       shape = w.3;
     }
-  where
-    grouped : (a b c d : List ℕ) → a ++ (b ++ codes "," ++ c ++ d) ≡ a ++ b ++ codes "," ++ c ++ d
-    grouped a b c d = simp append_assoc
 
 pub outline_text_back : (n : ℕ) (direction : ℕ) (outline : List Pt) → direction ≤ 1 → IsShape outline →
     outline_at n (words (decimal direction ++ codes "," ++ decimal (length outline + 1) ++ points_text (closed outline))) ≡ Ok outline

@@ -4,10 +4,9 @@ use Rattle.std.proofs.Common.{◌≡◌, [], ◌∷◌, refl, arith, subst, ℤ,
 use lib.Signed.{◌≤ℤ◌}
 use Rattle.std.proofs.lemmas.Int.{ints}
 use Rattle.scad_geom.proofs.Signs.{at_least_mul, at_least_left, pos_left, sub_mul}
-use Rattle.scad_geom.proofs.Rising.{Lies, Passes, found, passes, order}
+use Rattle.scad_geom.proofs.Rising.{Lies, Passes, found, passes, by_order, order}
 use Rattle.scad_geom.proofs.Ring.{ring, num, ◌⊕◌, ◌⊖◌, ◌⊗◌, v0, v1, v2, v3, v4, v5}
 use Rattle.plan_infill.proofs.Quotients.{at_most_times, less_one_times}
-use Rattle.plan_infill.proofs.Steps.{by_order}
 use Rattle.scad_geom.proofs.Integers.{add_mul}
 use Rattle.std.proofs.Math.IntN.{*ℤ_comm}
 

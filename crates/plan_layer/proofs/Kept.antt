@@ -17,7 +17,7 @@ use Rattle.scad_geom.specs.Point.{Point, whole}
 use Rattle.scad_geom.specs.Loop.{path, sides}
 use Rattle.scad_geom.specs.Near.{mean, IsHalf, IsClear}
 use Rattle.scad_geom.proofs.Ring.{ring, ◌⊖◌, ◌⊗◌, v0, v1, v2}
-use Rattle.scad_geom.proofs.Signs.{at_least_mul}
+use Rattle.scad_geom.proofs.Signs.{at_least_mul, sub_mul}
 use Rattle.winding_laws.proofs.Parts.{on_turned}
 use Rattle.plan_infill.specs.declared.run.Run.{Run}
 use Rattle.plan_infill.specs.Runs.{point_on}
@@ -33,15 +33,12 @@ use Rattle.plan_layer.specs.Kept.{KeepsClear, PathsKeepClear, PlansKeepClear}
 use Rattle.plan_layer.proofs.Runs.{runs_keep_clear}
 
 -- ---- a smaller distance is kept too
-times : (h k w : ℤ) → (k -ℤ h) *ℤ w ≡ k *ℤ w -ℤ h *ℤ w
-times h k w = ring (h ∷ k ∷ w ∷ []) ((v1 ⊖ v0) ⊗ v2) (v1 ⊗ v2 ⊖ v0 ⊗ v2) refl
-
 half_wider : (h k x w : ℤ) → h ≤ℤ k → pos 0 ≤ℤ w → IsHalf h x w → IsHalf k x w
 half_wider h k x w o hw i =
     let f = i.from in
     let t = i.to in
     let m = at_least_mul (k -ℤ h) w (omega (arith, ints)) hw in
-    let e = times h k w in
+    let e = sub_mul k h w in
     record { from = omega (arith, ints, m, e); to = omega (arith, ints, m, e) }
 
 clear_nearer : (h k : ℤ) (q : Point) (e : Edge) → h ≤ℤ k → pos 0 <ℤ q.d → IsClear k q (whole e.a) (whole e.b)

@@ -6,23 +6,17 @@ use Rattle.std.specs.Prelude.{unsigned_abs}
 use Rattle.std.specs.Int.{int_div_euclid, int_rem_euclid, int_max}
 use Rattle.std.proofs.lemmas.Int.{ints}
 use Rattle.scad_geom.proofs.Ring.{ring, num, ◌⊕◌, ◌⊖◌, ◌⊗◌, v0, v1, v2}
-use Rattle.scad_geom.proofs.Signs.{at_least_mul, pos_left}
+use Rattle.scad_geom.proofs.Signs.{at_least_mul, pos_left, sub_mul, minus_times, one_more_times}
 use Rattle.plan_layer.specs.Infill.{IsMultiple}
 use Rattle.plan_layer.proofs.Extents.{greater}
-
-more : (j d : ℤ) → (j +ℤ pos 1) *ℤ d ≡ j *ℤ d +ℤ d
-more j d = ring (j ∷ d ∷ []) ((v0 ⊕ num (pos 1)) ⊗ v1) (v0 ⊗ v1 ⊕ v1) refl
 
 -- the next one
 pub next_multiple : (spacing : ℕ) (z : ℤ) → IsMultiple spacing z → IsMultiple spacing (z +ℤ pos spacing)
 next_multiple spacing z m = record {
   spaced = m.spaced;
   times = m.times +ℤ pos 1;
-  is = ap (λ (x : ℤ). x +ℤ pos spacing) m.is ∙ sym (more m.times (pos spacing));
+  is = ap (λ (x : ℤ). x +ℤ pos spacing) m.is ∙ sym (one_more_times m.times (pos spacing));
 }
-
-gap : (i j d : ℤ) → (i -ℤ j) *ℤ d ≡ i *ℤ d -ℤ j *ℤ d
-gap i j d = ring (i ∷ j ∷ d ∷ []) ((v0 ⊖ v1) ⊗ v2) (v0 ⊗ v2 ⊖ v1 ⊗ v2) refl
 
 less_gap : (i j d : ℤ) → (i -ℤ j -ℤ pos 1) *ℤ d ≡ (i *ℤ d -ℤ j *ℤ d) -ℤ d
 less_gap i j d = ring (i ∷ j ∷ d ∷ []) ((v0 ⊖ v1 ⊖ num (pos 1)) ⊗ v2) ((v0 ⊗ v2 ⊖ v1 ⊗ v2) ⊖ v2) refl
@@ -34,7 +28,7 @@ multiples_apart spacing y z m n h =
     let d : pos 0 <ℤ pos spacing = let s = m.spaced in omega (arith, ints) in
     let ym = m.is in
     let zn = n.is in
-    let g = gap n.times m.times (pos spacing) in
+    let g = sub_mul n.times m.times (pos spacing) in
     let o = pos_left (n.times -ℤ m.times) (pos spacing) d (omega (arith, ints, g)) in
     let k = at_least_mul (n.times -ℤ m.times -ℤ pos 1) (pos spacing) (omega (arith, ints, o)) (omega (arith, ints)) in
     let l = less_gap n.times m.times (pos spacing) in
@@ -46,16 +40,13 @@ pub least_multiple : (spacing : ℕ) (place r : ℤ) → 0 < spacing → r ≡ i
 least_multiple spacing place r h e = record {
   spaced = h;
   times = pos 0 -ℤ int_div_euclid (pos 0 -ℤ place) (pos spacing);
-  is = let d = divided (pos 0 -ℤ place) spacing h in let t = turned (int_div_euclid (pos 0 -ℤ place) (pos spacing))
+  is = let d = divided (pos 0 -ℤ place) spacing h in let t = minus_times (int_div_euclid (pos 0 -ℤ place) (pos spacing))
       (pos spacing) in omega (arith, ints, d, t, e);
 }
   where
     divided : (n : ℤ) (d : ℕ) → 0 < d → n ≡ int_div_euclid n (pos d) *ℤ pos d +ℤ int_rem_euclid n (pos d)
     divided (pos a) d h = omega (arith, ints)
     divided (negsuc a) d h = omega (arith, ints)
-
-    turned : (q d : ℤ) → (pos 0 -ℤ q) *ℤ d ≡ pos 0 -ℤ q *ℤ d
-    turned q d = ring (q ∷ d ∷ []) ((num (pos 0) ⊖ v0) ⊗ v1) (num (pos 0) ⊖ v0 ⊗ v1) refl
 
 -- what is left up to a greatest place
 pub falls : (high z next : ℤ) → z ≤ℤ high → z <ℤ next

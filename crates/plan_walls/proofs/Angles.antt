@@ -4,13 +4,9 @@ use Rattle.std.proofs.Common.{◌+ℤ◌, ◌-ℤ◌, ◌*ℤ◌, ◌<ℤ◌}
 use lib.Signed.{◌≤ℤ◌}
 use Rattle.std.proofs.lemmas.Int.{ints}
 use Rattle.scad_base.proofs.Products.{positive_product}
-use Rattle.scad_geom.proofs.Rising.{order}
+use Rattle.scad_geom.proofs.Rising.{by_order, order}
 use Rattle.scad_geom.proofs.Signs.{at_least_mul, at_most_mul, pos_left}
 use Rattle.scad_geom.proofs.Ring.{ring, num, ◌⊕◌, ◌⊖◌, ◌⊗◌, v0, v1, v2, v3, v4, v5}
-
-pub by_order : {P : Type 0} {A B : Type 0} → A ⊎ B → (A → P) → (B → P) → P
-by_order (inl a) f g = f a
-by_order (inr b) f g = g b
 
 unfoldable pub cross : ℤ → ℤ → ℤ → ℤ → ℤ
 cross ux uy wx wy = ux *ℤ wy -ℤ uy *ℤ wx

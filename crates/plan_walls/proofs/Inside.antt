@@ -13,11 +13,12 @@ use Rattle.scad_geom.specs.Segment.{segment_of, segments}
 use Rattle.scad_geom.specs.Balance.{IsBalanced}
 use Rattle.scad_geom.specs.Winding.{wind_by, wind}
 use Rattle.scad_geom.specs.Near.{mean}
-use Rattle.scad_geom.proofs.Signs.{at_least_mul, square_at_least}
+use Rattle.scad_geom.proofs.Signs.{at_least_mul, square_at_least, one_less_times}
 use Rattle.scad_geom.proofs.Rising.{order}
 use Rattle.scad_geom.proofs.Ring.{ring, num, ◌⊕◌, ◌⊖◌, ◌⊗◌, v0, v1, v2, v3}
 use Rattle.winding_laws.specs.Region.{HalfPlane, Holds, HoldsOrigin, box}
 use Rattle.winding_laws.specs.Nearness.{IsNear, IsFarSegment}
+use Rattle.winding_laws.proofs.Approach.{at_most_as}
 use Rattle.winding_laws.proofs.Regions.{near_itself}
 use Rattle.winding_laws.proofs.Forms.{forms_wind_alike}
 use Rattle.winding_laws.proofs.OneWinding.{regions_have_one_winding}
@@ -49,9 +50,6 @@ along_back n x y some h =
 
 other_order : (k x l y : ℤ) → k *ℤ x +ℤ l *ℤ y ≡ l *ℤ y +ℤ k *ℤ x
 other_order k x l y = omega (arith, ints)
-
-at_most_as : (x y z : ℤ) → x ≡ y → y ≤ℤ z → x ≤ℤ z
-at_most_as x y z e h = omega (arith, ints, e, h)
 
 -- the square round b that is less than one wide on each side, by the divisor n
 abbrev round_it : ℤ → List HalfPlane
@@ -107,11 +105,8 @@ less_back n x y w some more h = less_first n (pos 0 -ℤ x) y w some more (at_mo
 widened : (c : ℕ) (x w : ℤ) → 1 ≤ c → pos 0 <ℤ w → x <ℤ w → x <ℤ (pos c *ℤ w)
 widened c x w some more h =
     let m = at_least_mul (pos c -ℤ pos 1) w (omega (arith, ints, some)) (omega (arith, ints, more)) in
-    let e = split (pos c) w in
+    let e = one_less_times (pos c) w in
     omega (arith, ints, m, e, h)
-  where
-    split : (c w : ℤ) → (c -ℤ pos 1) *ℤ w ≡ c *ℤ w -ℤ w
-    split c w = ring (c ∷ w ∷ []) ((v0 ⊖ num (pos 1)) ⊗ v1) (v0 ⊗ v1 ⊖ v1) refl
 
 strictly_within : (c : ℕ) → 1 ≤ c → (n : ℤ) → pos 0 ≤ℤ n → (b p : Point) → pos 0 <ℤ (p.d *ℤ b.d)
     → IsNear (round_it n) b p → IsStrictlyWithin (pos c) b p

@@ -14,16 +14,12 @@ use Rattle.scad_geom.specs.Segment.{Segment, segment_of, segments}
 use Rattle.scad_geom.specs.Loop.{sides}
 use Rattle.scad_geom.specs.Balance.{IsBalanced}
 use Rattle.scad_geom.specs.Leaves.{edges_of, AreLeavesBalanced}
-use Rattle.scad_geom.proofs.Balanced.{once}
+use Rattle.scad_geom.proofs.LeafEdges.{edges_of-append, both_balanced, none_balanced, chosen_balanced}
 use Rattle.scad_ring.specs.Corners.{corners_of}
 use Rattle.plan_sides.proofs.Closed.{sides_balanced}
 use Rattle.plan_walls.specs.Walls.{of_leaf, rings_from, with_rings}
 
 -- ---- which edges are a leaf's
-edges_of-append : (leaf : ℕ) (es fs : List LeafEdge) → edges_of leaf (es ++ fs) ≡ edges_of leaf es ++ edges_of leaf fs
-edges_of-append leaf es fs = ap (map (λ e. e.edge)) (filter-append (λ e. e.leaf == leaf) es fs)
-    ∙ map-append (λ e. e.edge) (filter (λ e. e.leaf == leaf) es) (filter (λ e. e.leaf == leaf) fs)
-
 -- the edges of one leaf are another's only where they are the same leaf
 edges_of-leaf : (leaf k : ℕ) (es : List Edge) (b : Bool) → (k == leaf) ≡ b → edges_of leaf (of_leaf k es) ≡ cond b es []
 edges_of-leaf leaf k [] true is = refl
@@ -88,21 +84,6 @@ module _ (c : ℕ) where
       (edges_of-leaf leaf 0 es false (other_number 0 leaf (λ e. omega (arith, h, e))))
 
 -- ---- they are closed
-both : (ss ts : List Segment) → IsBalanced ss → IsBalanced ts → IsBalanced (ss ++ ts)
-both ss ts a b = record {
-  each = λ p some.
-      sum_by-append (λ s. once (is_same_point p s.from)) ss ts
-      ∙ ap₂ (λ m n. m + n) (a.each p some) (b.each p some)
-      ∙ sym (sum_by-append (λ s. once (is_same_point p s.to)) ss ts);
-}
-
-none_balanced : IsBalanced []
-none_balanced = record { each = λ p some. refl }
-
-chosen : (b : Bool) (es : List Edge) → IsBalanced (segments es) → IsBalanced (segments (cond b es []))
-chosen true es balanced = balanced
-chosen false es balanced = none_balanced
-
 -- before a list whose leaf is balanced
 more_balanced : (leaf k : ℕ) (es : List Edge) (rest : List LeafEdge) → IsBalanced (segments es)
     → IsBalanced (segments (edges_of leaf rest))
@@ -112,7 +93,7 @@ more_balanced leaf k es rest balanced b =
     edges_of-append leaf (of_leaf k es) rest
     ∙ ap (λ fs. fs ++ edges_of leaf rest) (edges_of-leaf leaf k es (k == leaf) refl) in
     subst IsBalanced (sym (ap segments apart ∙ map-append segment_of (cond (k == leaf) es []) (edges_of leaf rest)))
-    (both (segments (cond (k == leaf) es [])) (segments (edges_of leaf rest)) (chosen (k == leaf) es balanced) b)
+    (both_balanced (segments (cond (k == leaf) es [])) (segments (edges_of leaf rest)) (chosen_balanced (k == leaf) es balanced) b)
 
 way_balanced : (l : List Pt) → IsBalanced (segments (sides l))
 way_balanced l = subst (λ (es : List Edge). IsBalanced (segments es)) (append-nil (sides l)) (sides_balanced (l ∷ []))

@@ -4,7 +4,7 @@ use Rattle.std.proofs.Common.{◌≡◌, ℕ, zero, suc, ◌+◌, ◌≤◌, Boo
 use Rattle.std.proofs.Common.{◌∷◌, length, refl, sym, ◌∙◌, subst, arith, ℤ, pos, negsuc, ◌<ℤ◌}
 use Rattle.std.specs.List.{AllByRecursion}
 use Rattle.std.proofs.lemmas.Int.{ints}
-use Rattle.std.proofs.lemmas.Bool.{and_parts}
+use Rattle.std.proofs.lemmas.Bool.{and_parts, not-true}
 use Rattle.scad_geom.specs.declared.point.Edge.{Edge}
 use Rattle.scad_geom.specs.declared.level.LeafEdge.{LeafEdge}
 use Rattle.scad_geom.specs.declared.shape.Shape.{Shape}
@@ -36,10 +36,6 @@ neither : (a b : Bool) → (a || b) ≡ false → (a ≡ false) × (b ≡ false)
 neither true b h = absurd (true≢false h)
 neither false b h = (refl, h)
 
-not_true : (b : Bool) → not b ≡ true → b ≡ false
-not_true true h = absurd (true≢false (sym h))
-not_true false h = refl
-
 module _ (c : ℕ) (some : 1 ≤ c) (above right : Bool) (b : Point) (db : pos 0 <ℤ b.d) where
   rings_off : (all : List LeafEdge) (k : ℕ) (es : List Edge)
       → ((leaf : ℕ) → k ≤ leaf → edges_of leaf all ≡ edges_of leaf (rings_from c k es))
@@ -68,5 +64,5 @@ module _ (c : ℕ) (some : 1 ≤ c) (above right : Bool) (b : Point) (db : pos 0
         subst (λ (fs : List Edge). not (is_zero (wind_by above right b (segments fs))) ≡ true)
             (outline_leaf c es) parts.0,
         rings_off (with_rings c es) 1 es (λ leaf least. ring_leaf c leaf es least)
-            (not_true (some_inside inside 1 (length es)) parts.1),
+            (not-true (some_inside inside 1 (length es)) parts.1),
       )

@@ -14,11 +14,12 @@ use Rattle.scad_geom.specs.Loop.{path}
 use Rattle.scad_geom.specs.Point.{Point, whole}
 use Rattle.scad_geom.specs.Segment.{segments}
 use Rattle.scad_geom.specs.Winding.{is_over, side_by, is_beyond, turn, wind_by}
-use Rattle.scad_geom.proofs.Rising.{order}
+use Rattle.scad_geom.proofs.Rising.{by_order, order}
 use Rattle.scad_geom.proofs.Turns.{flat_turn, rising_turn, falling_turn}
 use Rattle.scad_geom.proofs.Ring.{ring, num, ◌⊖◌, ◌⊗◌, v0, v1, v2, v3, v4, v5, v6}
+use Rattle.winding_laws.proofs.Forms.{beyond_above}
 use Rattle.plan_walls.specs.Rings.{IsStrictlyLeftOf, LeftIsWound}
-use Rattle.plan_walls.proofs.Angles.{by_order, cross, Before, chain, itself}
+use Rattle.plan_walls.proofs.Angles.{cross, Before, chain, itself}
 
 -- ---- a way, seen from a point
 -- how far a vertex lies to the right of the point and above it, over its divisor
@@ -90,14 +91,6 @@ module _ (above right : Bool) (q : Point) (some : pos 0 <ℤ q.d) where
       by_test true h = omega (arith, ints, h)
       by_test false h = omega (arith, ints, h)
 
-  beyond : (z : ℤ) → pos 0 <ℤ z → is_beyond right z ≡ true
-  unfolding is_beyond
-  beyond z h = by_test right
-    where
-      by_test : (t : Bool) → (if t then int_lt (pos 0) z else int_le (pos 0) z) ≡ true
-      by_test true = sym (omega (arith, ints, h))
-      by_test false = sym (omega (arith, ints, h))
-
   not_beyond : (z : ℤ) → pos 0 <ℤ z → is_beyond right (neg_ℤ z) ≡ false
   unfolding is_beyond
   not_beyond z h = by_test right
@@ -113,7 +106,7 @@ module _ (above right : Bool) (q : Point) (some : pos 0 <ℤ q.d) where
   upward_turn : (a b : Pt) → pos 0 <ℤ side_by q (whole a) (whole b) → over a ≡ false → over b ≡ true
       → turn_of a b ≡ pos 1
   upward_turn a b h p r = rising_turn above right q (whole a) (whole b) p r
-      ∙ rw (beyond (side_by q (whole a) (whole b)) h) refl
+      ∙ rw (beyond_above right (side_by q (whole a) (whole b)) h) refl
 
   other_turn : (a b : Pt) → pos 0 <ℤ side_by q (whole a) (whole b) → (over a ≡ true) ⊎ (over b ≡ false)
       → turn_of a b ≡ pos 0

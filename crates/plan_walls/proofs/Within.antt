@@ -10,7 +10,7 @@ use Rattle.scad_geom.specs.Point.{Point, whole}
 use Rattle.scad_geom.specs.Near.{mean, IsHalf}
 use Rattle.scad_geom.specs.Winding.{side_by}
 use Rattle.scad_geom.proofs.Signs.{at_least_mul, pos_left}
-use Rattle.scad_geom.proofs.Rising.{order}
+use Rattle.winding_laws.proofs.Forms.{by_sign}
 use Rattle.scad_geom.proofs.Ring.{ring, num, ◌⊕◌, ◌⊖◌, ◌⊗◌, v0, v1, v2, v3, v4, v5, v6, v7, v8, v9}
 use Rattle.scad_ring.specs.Ring.{IsNear, TurnsLeft}
 
@@ -137,15 +137,6 @@ has_length e h x y = no_turn e.a.x e.a.y e.b.x e.b.y h.next.x h.next.y x y h.lef
     no_turn ax ay bx by nx ny x y h =
         zeros (bx *ℤ pos 1 -ℤ ax *ℤ pos 1) (by *ℤ pos 1 -ℤ ay *ℤ pos 1) (ny *ℤ pos 1 -ℤ ay *ℤ pos 1)
         (nx *ℤ pos 1 -ℤ ax *ℤ pos 1) (omega (arith, ints, x)) (omega (arith, ints, y)) h
-
-by_sign : {A : Type 0} (z : ℤ) → (z <ℤ pos 0 → A) → (z ≡ pos 0 → A) → (pos 0 <ℤ z → A) → A
-by_sign z less zero more = elim (order z (pos 0)) [
-  | inl h ↦ elim (order (pos 0) z) [
-    | inl k ↦ zero (omega (arith, ints, h, k))
-    | inr k ↦ less k
-  ]
-  | inr h ↦ more h
-]
 
 -- where a point moved towards the right of a side isn't right of it, the point is left of it
 left_by : (s z k g : ℤ) → pos 0 <ℤ k → z ≡ s *ℤ k -ℤ g → pos 0 ≤ℤ z → pos 0 <ℤ g → pos 0 <ℤ s

@@ -11,7 +11,7 @@ use Rattle.scad_geom.specs.Loop.{sides}
 use Rattle.plan_sides.proofs.Closed.{sides_balanced}
 use Rattle.plan_walls.specs.Walls.{AreWallsAlong}
 use Rattle.plan_walls.proofs.Kept.{walls_keep_clear}
-use Rattle.plan_walls.proofs.Limits.{outlines_within}
+use Rattle.plan_sides.proofs.Within.{outlines_within}
 use Rattle.plan_walls.proofs.walling.walls.Goals as goal
 
 -- the call saw the sides of the outlines
