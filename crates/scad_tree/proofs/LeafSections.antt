@@ -10,7 +10,7 @@ use Rattle.scad_geom.specs.Point.{is_same_point}
 use Rattle.scad_geom.specs.Segment.{Segment, segment_of, segments}
 use Rattle.scad_geom.specs.Balance.{IsBalanced}
 use Rattle.scad_geom.specs.Leaves.{edges_of, AreLeavesBalanced}
-use Rattle.scad_geom.proofs.LeafEdges.{edges_of-append, both_balanced, chosen_balanced}
+use Rattle.scad_geom.proofs.LeafEdges.{edges_of-append, both_balanced, none_balanced, chosen_balanced}
 use Rattle.scad_solid.specs.declared.triangle.Triangle.{Triangle}
 use Rattle.scad_tree.specs.declared.node.Node.{Node}
 use Rattle.scad_tree.specs.Order.{surfaces, all_surfaces, leaves}
