@@ -13,7 +13,7 @@ path_within : (limit : ℕ) (from last : Pt) (ps : List Pt) → IsWithin limit f
 path_within limit from last [] a b k = (record { a = a; b = b }, tt)
 path_within limit from last (p ∷ ps) a b k = (record { a = a; b = k.0 }, path_within limit p last ps k.0 b k.1)
 
-sides_within : (limit : ℕ) (l : List Pt) → AllByRecursion (IsWithin limit) l
+pub sides_within : (limit : ℕ) (l : List Pt) → AllByRecursion (IsWithin limit) l
     → AllByRecursion (IsEdgeWithin limit) (sides l)
 sides_within limit [] k = tt
 sides_within limit (p ∷ ps) k = path_within limit p p ps k.0 k.0 k.1

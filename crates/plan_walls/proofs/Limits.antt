@@ -13,6 +13,7 @@ use Rattle.scad_geom.specs.Limits.{point_limit, coordinate_limit}
 use Rattle.scad_geom.specs.Within.{IsWithin, IsEdgeWithin}
 use Rattle.scad_geom.specs.Loop.{path, sides}
 use Rattle.scad_geom.proofs.Bounds.{low_within, high_within}
+use Rattle.plan_sides.proofs.Within.{sides_within}
 use Rattle.scad_ring.specs.Corners.{rectangle, to_the_right, to_the_left, corners_round, corners_of}
 use Rattle.plan_walls.specs.Walls.{of_leaf, rings_from, with_rings}
 use Rattle.plan_walls.proofs.Forms.{by_form}
