@@ -25,7 +25,7 @@ use Rattle.plan_infill.specs.declared.line.Line.{Line}
 use Rattle.plan_infill.specs.declared.line.Line.TheVariants.{Row, Column}
 use Rattle.plan_infill.specs.Deep.{IsDeep}
 use Rattle.plan_infill.specs.Runs.{point_on}
-use Rattle.plan_infill.proofs.AllRuns.{edges_within}
+use Rattle.plan_sides.proofs.Within.{outlines_within}
 use Rattle.plan_layer.specs.Extent.{IsAmong, IsEdgeAmong}
 use Rattle.plan_layer.specs.Infill.{line_at}
 
@@ -137,7 +137,7 @@ module _ (outlines : List (List Pt)) (within : All (λ l. All (IsWithin point_li
       (All-weaker (λ e. (low ≤ℤ e.a.x) × (low ≤ℤ e.b.x)) (λ e. IsFarSegment left (whole (at x y)) (segment_of e))
       (λ e a. let f = a.0 in let g = a.1 in far_after x y e (omega (arith, ints), omega (arith, ints)))
       (flat_map sides outlines) k))
-      ∙ far_up x (flat_map sides outlines) (edges_within point_limit outlines within)
+      ∙ far_up x (flat_map sides outlines) (outlines_within point_limit outlines within)
 
   right_of_all : (x y high : ℤ) → high <ℤ x → All (λ e. (e.a.x ≤ℤ high) × (e.b.x ≤ℤ high)) (flat_map sides outlines)
       → wind (whole (at x y)) (segments (flat_map sides outlines)) ≡ pos 0
@@ -149,7 +149,7 @@ module _ (outlines : List (List Pt)) (within : All (λ l. All (IsWithin point_li
       (All-weaker (λ e. (e.a.x ≤ℤ high) × (e.b.x ≤ℤ high)) (λ e. IsFarSegment right (whole (at x y)) (segment_of e))
       (λ e a. let f = a.0 in let g = a.1 in far_before x y e (omega (arith, ints), omega (arith, ints)))
       (flat_map sides outlines) k))
-      ∙ far_up x (flat_map sides outlines) (edges_within point_limit outlines within)
+      ∙ far_up x (flat_map sides outlines) (outlines_within point_limit outlines within)
 
   -- ---- of the lines of a layer
   abbrev across_by : Bool → Pt → ℤ

@@ -6,7 +6,7 @@ use Rattle.scad_geom.specs.Limits.{point_limit}
 use Rattle.scad_geom.specs.Loop.{sides}
 use Rattle.scad_geom.specs.Within.{IsEdgeWithin}
 use Rattle.scad_geom.proofs.Casts.{casts}
-use Rattle.plan_infill.proofs.AllRuns.{edges_within}
+use Rattle.plan_sides.proofs.Within.{outlines_within}
 use Rattle.plan_layer.specs.Extent.{IsEdgeAmong}
 use Rattle.plan_layer.specs.Infill.{LineRuns, AddsLine}
 use Rattle.plan_layer.proofs.Filled.{FilledBefore, before_none, before_more, before_all}
@@ -17,7 +17,7 @@ use mir.Syntax.{w32, w64}
 pub extent_of-extent-requires : goal.extent_of-extent-requires
 extent_of-extent-requires c =
     subst (λ (es : List Edge). All (IsEdgeWithin point_limit) es) (sym (c.deref.ensures.value ∙ c.in_ok-sides.ensures))
-    (edges_within point_limit c.args.outlines.now c.requires.within)
+    (outlines_within point_limit c.args.outlines.now c.requires.within)
 
 among : (c : goal.After-multiple_from-at)
     → All (IsEdgeAmong c.args.layer c.extent_of-extent.result.low c.extent_of-extent.result.high)
