@@ -8,7 +8,7 @@
     outlines.cli         the outlines that must be written, or their checksum: outlines.cli.sha256
     print.gcode          the printing program that must be written, or print.gcode.sha256
 
-The words name these files. A file that isn't there must not be written.
+The words name these files. A file that isn't there must not be written. The parts in `examples/` are checked too.
 """
 
 import os
@@ -16,7 +16,9 @@ import re
 
 from check import Check, Checksum, Exactly
 
-FOLDER = os.path.join(os.path.dirname(os.path.realpath(__file__)), "cases")
+TESTS = os.path.dirname(os.path.realpath(__file__))
+FOLDER = os.path.join(TESTS, "cases")
+EXAMPLES = os.path.join(os.path.dirname(TESTS), "examples")
 GIVEN = ("model.scad", "settings.toml")
 WRITTEN = ("outlines.cli", "print.gcode")
 KNOWN = {"words", "report", "status", *GIVEN, *WRITTEN, *(f"{name}.sha256" for name in WRITTEN)}
@@ -35,6 +37,22 @@ class BadCase:
 def golden_cases():
     """All cases, by their names."""
     return [golden_case(name) for name in sorted(os.listdir(FOLDER))]
+
+
+def example_checks():
+    """`check` of each part in `examples/`, with the report that stands beside it."""
+    names = sorted(it[:-5] for it in os.listdir(EXAMPLES) if it.endswith(".scad"))
+    return [
+        Check(
+            name=f"example_{name}",
+            words=[b"check", b"model.scad"],
+            status=0,
+            report=content(os.path.join(EXAMPLES, f"{name}.report")),
+            given={"model.scad": content(os.path.join(EXAMPLES, f"{name}.scad"))},
+            left={},
+        )
+        for name in names
+    ]
 
 
 def golden_case(name):

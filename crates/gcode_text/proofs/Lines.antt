@@ -17,9 +17,11 @@ use Rattle.gcode_text.specs.declared.given.Given.{Given}
 use Rattle.gcode_text.specs.declared.rates.Rates.{Rates}
 use Rattle.gcode_text.specs.Numeral.{last_digits, fixed, millimetres}
 use Rattle.gcode_text.specs.Gcode.{feed_end, target, amount, travel_line, print_line, height_line, heat_line}
-use Rattle.gcode_text.specs.Reading.{pieces, first_at, without_return, without_comment, words, line_words, number}
+use Rattle.text_scan.specs.Marks.{pieces, first_at}
+use Rattle.text_scan.proofs.Pieces.{one_piece}
+use Rattle.gcode_text.specs.Reading.{without_return, without_comment, words, line_words, number}
 use Rattle.gcode_text.specs.Machine.{State, any, command_of, takes, was_given, with_number, with_word, with_words, nothing_given, obeyed, counting, words_line, line_step}
-use Rattle.gcode_text.proofs.Words.{one_piece, kept_in_front}
+use Rattle.gcode_text.proofs.Words.{kept_in_front}
 use Rattle.gcode_text.proofs.Printed.{list_all-weaken, no_mark, digits_alone, decimal_digits, three_digits, five_digits}
 use Rattle.std.proofs.lemmas.Bool.{and_parts, not-true}
 
@@ -81,7 +83,7 @@ last_word : (word : List ℕ) → nat_lt 0 (length word) ≡ true → list_all i
 unfolding words
 last_word word some h =
     let none : first_at 32 word ≡ length word = no_mark 32 word (list_all-weaken in_word (λ b. not (b == 32)) no_space word h) in
-    ap (filter (λ (w : List ℕ). nat_lt 0 (length w))) (one_piece word (omega arith)) ∙ kept_in_front word [] some
+    ap (filter (λ (w : List ℕ). nat_lt 0 (length w))) (one_piece 32 word (omega arith)) ∙ kept_in_front word [] some
 
 words_back : (ws : List (List ℕ)) → AreWords ws → words (spaced ws) ≡ ws
 unfolding words

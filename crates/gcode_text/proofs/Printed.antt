@@ -9,7 +9,8 @@ use Rattle.std.proofs.lemmas.Bool.Decides.{nat_tests}
 use Rattle.std.proofs.lemmas.Fmt.{decimal_is_IsNumeral_wide}
 use Rattle.std.proofs.lemmas.List.{take_at, length-append, append-nil}
 use Rattle.gcode_text.specs.Numeral.{last_digits, fixed, millimetres}
-use Rattle.gcode_text.specs.Reading.{first_at, are_digits, whole_size, pointed_size, size_of, number}
+use Rattle.text_scan.specs.Marks.{first_at}
+use Rattle.gcode_text.specs.Reading.{are_digits, whole_size, pointed_size, size_of, number}
 use Rattle.std.proofs.lemmas.Bool.{and_parts, eq-eqb}
 use Rattle.std.proofs.Math.Seq.{drop-append-add}
 

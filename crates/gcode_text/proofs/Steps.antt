@@ -19,10 +19,6 @@ begins_more {a} x p e = record { rest = p.rest ++ x; is = e ∙ ap (λ (ys : Lis
 pub begins_on : {a b c : List ℕ} → BeginsWith a b → BeginsWith b c → BeginsWith a c
 begins_on p q = begins_more q.rest p q.is
 
-pub on_err : {A E : Type 0} (r : Result A E) {P : Type 0} → P → OnErr r P
-on_err (Ok x) p = tt
-on_err (Err e) p = p
-
 -- ---- digits
 
 pub last_digits_more : (out : List ℕ) (places n : ℕ) → 0 < places →

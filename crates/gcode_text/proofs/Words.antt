@@ -5,13 +5,14 @@ use Rattle.std.proofs.lemmas.Bool.{cases_lt}
 use Rattle.std.proofs.lemmas.Bool.Decides.{nat_tests}
 use Rattle.std.proofs.lemmas.List.{drop_more, length-take, take_all}
 use Rattle.std.proofs.Math.ListN.{drop_of_length-le}
-use Rattle.std.proofs.lemmas.List.Splits.{slice_split-cons_yes, slice_split_first, slice_split_none}
-use Rattle.std.proofs.lemmas.List.Sums.{passes_at_first, fails_before_first}
+use Rattle.std.proofs.lemmas.List.Splits.{slice_split-cons_yes}
 use Rattle.scad_base.specs.Results.{and_then}
 use Rattle.gcode_text.specs.declared.command.Command.{Command}
 use Rattle.gcode_text.specs.declared.fault.GFault.{GFault}
 use Rattle.gcode_text.specs.declared.given.Given.{Given}
-use Rattle.gcode_text.specs.Reading.{pieces, first_at, words, line_words}
+use Rattle.text_scan.specs.Marks.{pieces, first_at}
+use Rattle.text_scan.proofs.Pieces.{one_piece, first_piece, mark_there}
+use Rattle.gcode_text.specs.Reading.{words, line_words}
 use Rattle.gcode_text.specs.Machine.{Range, State, After, with_word, with_words, command_of, command_line, words_line, line_step, counting}
 
 pub words_of_nothing : words [] ≡ []
@@ -34,17 +35,10 @@ word_in_front (c ∷ cs) h l = grind (arith, nat_tests)
 nonempty : (text : List ℕ) (n : ℕ) → 0 < n → n ≤ length text → nat_lt 0 (length (take n text)) ≡ true
 nonempty text n p h = let e = length-take n text in grind (arith, nat_tests)
 
--- without a mark there is one piece
-pub one_piece : (text : List ℕ) → length text ≤ first_at 32 text → pieces 32 text ≡ text ∷ []
-one_piece text h = slice_split_none (λ (b : ℕ). b == 32) text (λ k d l. fails_before_first (λ (b : ℕ). b == 32) text k d (omega arith))
-
 -- a word in front stays
 pub kept_in_front : (word : List ℕ) (rest : List (List ℕ)) → nat_lt 0 (length word) ≡ true →
     filter (λ (w : List ℕ). nat_lt 0 (length w)) (word ∷ rest) ≡ word ∷ filter (λ (w : List ℕ). nat_lt 0 (length w)) rest
 kept_in_front word rest e = ap (λ (b : Bool). cond b (word ∷ filter (λ (w : List ℕ). nat_lt 0 (length w)) rest) (filter (λ (w : List ℕ). nat_lt 0 (length w)) rest)) e
-
-is_space : (text : List ℕ) → first_at 32 text < length text → get_or text (first_at 32 text) 0 ≡ 32
-is_space text h = let e = passes_at_first (λ (b : ℕ). b == 32) text 0 h in grind (arith, nat_tests)
 
 -- where a space stands, the words go on behind it
 words_from_space : (text : List ℕ) (at : ℕ) → at < length text → get_or text at 0 ≡ 32 → words (drop (at + 1) text) ≡ words (drop at text)
@@ -61,11 +55,11 @@ first_word text l p = by_size (cases_lt (first_at 32 text) (length text))
   where
     by_size : (first_at 32 text < length text) ⊎ (length text ≤ first_at 32 text) → words text ≡ take (first_at 32 text) text ∷ words (drop (first_at 32 text) text)
     by_size (inl h) =
-        ap (filter (λ (w : List ℕ). nat_lt 0 (length w))) (slice_split_first (λ (b : ℕ). b == 32) text 0 h)
+        ap (filter (λ (w : List ℕ). nat_lt 0 (length w))) (first_piece 32 text h)
         ∙ kept_in_front (take (first_at 32 text) text) (pieces 32 (drop (first_at 32 text + 1) text)) (nonempty text (first_at 32 text) p (omega arith))
-        ∙ ap (λ (ws : List (List ℕ)). take (first_at 32 text) text ∷ ws) (words_from_space text (first_at 32 text) h (is_space text h))
+        ∙ ap (λ (ws : List (List ℕ)). take (first_at 32 text) text ∷ ws) (words_from_space text (first_at 32 text) h (mark_there 32 text h))
     by_size (inr h) =
-        ap (filter (λ (w : List ℕ). nat_lt 0 (length w))) (one_piece text h)
+        ap (filter (λ (w : List ℕ). nat_lt 0 (length w))) (one_piece 32 text h)
         ∙ kept_in_front text [] (grind (arith, nat_tests))
         ∙ ap₂ (λ (w : List ℕ) (ws : List (List ℕ)). w ∷ ws) (sym (take_all (first_at 32 text) text h)) (sym (ap words (drop_of_length-le text h) ∙ words_of_nothing))
 

@@ -1,10 +1,11 @@
 -- How lines, words and numbers are read.
 use Rattle.std.specs.Prelude.{ℕ, ◌+◌, ◌-◌, ◌*◌, ◌^◌, Bool, ◌&&◌, List, length, take, drop, slice_index, ◌==◌, nat_lt, nat_le, ℤ, pos, neg_ℤ, Option, Some, None, if◌then◌else◌}
 use Rattle.std.specs.Char.{is_ascii_digit}
-use Rattle.std.specs.List.{slice_split, filter, list_all, position_or_len}
+use Rattle.std.specs.List.{filter, list_all}
 use Rattle.std.specs.Option.{option_map}
 use Rattle.std.specs.Str.Parse.{digits_value, digits_value_after}
 use Rattle.scad_base.specs.Characters.{point, minus}
+use Rattle.text_scan.specs.Marks.{pieces, first_at}
 
 abbrev pub line_feed : ℕ
 line_feed = 10
@@ -19,14 +20,6 @@ abbrev pub semicolon : ℕ
 semicolon = 59
 
 -- ---- lines and words
-
--- what stands between the marks, perhaps nothing
-abbrev pub pieces : ℕ → List ℕ → List (List ℕ)
-pieces mark bytes = slice_split (λ b. b == mark) bytes
-
--- where the first mark stands, or the length where there is none
-abbrev pub first_at : ℕ → List ℕ → ℕ
-first_at mark bytes = position_or_len (λ b. b == mark) bytes
 
 -- the lines of a text: what stands behind its last line feed is a line too
 abbrev pub lines : List ℕ → List (List ℕ)

@@ -1,15 +1,17 @@
 //! The machine that a printing program drives.
 ghost use Rattle.std.specs.Prelude.{◌≡◌, ◌<◌, length, IfOk, IfErr, Ok, Err};
-ghost use Rattle.gcode_text.specs.Reading.{words, first_at};
+ghost use Rattle.text_scan.specs.Marks.{first_at};
+ghost use Rattle.gcode_text.specs.Reading.{words};
 ghost use Rattle.gcode_text.specs.Machine.{State, After, start, counting, line_step, words_line, command_line, limited, obeyed, driven, homed, counted_as, stays, extrudes, move_between};
 
 use crate::command::{Command, command_of};
 use crate::fault::GFault;
 use crate::given::Given;
-use crate::scan::{code_of, first_at, skip_spaces};
+use crate::scan::{code_of, skip_spaces};
 use crate::statement::with_words;
 use scad_geom::Pt3;
 use std::marker::Model;
+use text_scan::first_at;
 
 /// A move: axes in micrometres, amounts of filament in hundred-thousandths of a millimetre.
 #[derive(Clone, Copy, Debug, PartialEq, Eq)]

@@ -7,7 +7,8 @@ ghost use Rattle.std.specs.Str.Parse.{AllDigits, digits_value_after};
 ghost use Rattle.gcode_text.specs.Cap.{cap, capped, capped_number, fits_cap};
 ghost use Rattle.gcode_text.specs.Reading.{negative, are_digits, whole_size, pointed_size, size_of, number};
 
-use crate::scan::{behind_first, byte_at, first_at};
+use crate::scan::{behind_first, byte_at};
+use text_scan::first_at;
 
 /// No accepted number is greater.
 const CAP: u128 = 4_000_000_000_000_000_000;

@@ -1,19 +1,9 @@
 //! Places in bytes.
 ghost use Rattle.std.specs.Prelude.{◌≡◌, ◌+◌, ◌<◌, ◌≤◌, ◌==◌, ◌-◌, length, take, drop, slice_index};
-ghost use Rattle.gcode_text.specs.Reading.{first_at, without_return, without_comment, words, space};
+ghost use Rattle.text_scan.specs.Marks.{first_at};
+ghost use Rattle.gcode_text.specs.Reading.{without_return, without_comment, words, space};
 
-/// Where the first mark stands, or the length where there is none.
-pub(crate) fn first_at(bytes: &[u8], mark: u8) -> usize
-    ensures value { result ≡ first_at mark bytes.now }
-    ensures within { result ≤ length bytes.now }
-{
-    for (i, b) in bytes.iter().enumerate() {
-        if *b == mark {
-            return i;
-        }
-    }
-    bytes.len()
-}
+use text_scan::first_at;
 
 /// The byte at a place, or 0.
 pub(crate) fn byte_at(bytes: &[u8], at: usize) -> u8

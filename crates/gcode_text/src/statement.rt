@@ -9,7 +9,8 @@ use crate::command::{Command, takes};
 use crate::fault::GFault;
 use crate::given::{Given, is_limited};
 use crate::number::number;
-use crate::scan::{behind_first, byte_at, first_at, skip_spaces};
+use crate::scan::{behind_first, byte_at, skip_spaces};
+use text_scan::first_at;
 
 /// The numbers that the words of line `n` name behind its command, or the first refusal.
 pub(crate) fn with_words(n: u32, command: Command, text: &[u8]) -> Result<Given, GFault>

@@ -65,7 +65,8 @@ module _ (R : ℕ → ℕ → Type 0) (P : ℕ → Type 0) (antisymmetric : (x y
   sorted_one (x ∷ xs) (y ∷ ys) p q h k m =
       let e : x ≡ y = first_is x y xs ys p.0 q.0 h.0 k.0 m in
       let rest : IsPermutation xs ys =
-      without_first equal (λ m. eq-eqb m m refl) eqb-true y xs ys (subst (λ (z : ℕ). IsPermutation (z ∷ xs) (y ∷ ys)) e m) in
+      without_first equal (λ m. eq-eqb m m refl) eqb-true y xs ys
+      (subst (λ (z : ℕ). IsPermutation (z ∷ xs) (y ∷ ys)) e m) in
       ap₂ (λ (z : ℕ) (zs : List ℕ). z ∷ zs) e (sorted_one xs ys p.1 q.1 h.1 k.1 rest)
 
 -- ---- the order of edges at a height, by number where they coincide

@@ -3,11 +3,10 @@
 use Rattle.std.proofs.Common.{◌≡◌, [], ◌∷◌, refl, arith, subst, ℤ, pos, ◌+ℤ◌, ◌-ℤ◌, ◌*ℤ◌, ◌<ℤ◌}
 use lib.Signed.{◌≤ℤ◌}
 use Rattle.std.proofs.lemmas.Int.{ints}
-use Rattle.scad_geom.proofs.Signs.{at_least_mul, at_least_left, pos_left, sub_mul}
-use Rattle.scad_geom.proofs.Rising.{Lies, Passes, found, passes, order}
+use Rattle.scad_geom.proofs.Signs.{at_least_mul, at_least_left, pos_left, sub_mul, one_less_times}
+use Rattle.scad_geom.proofs.Rising.{Lies, Passes, found, passes, by_order, order}
 use Rattle.scad_geom.proofs.Ring.{ring, num, ◌⊕◌, ◌⊖◌, ◌⊗◌, v0, v1, v2, v3, v4, v5}
-use Rattle.plan_infill.proofs.Quotients.{at_most_times, less_one_times}
-use Rattle.plan_infill.proofs.Steps.{by_order}
+use Rattle.plan_infill.proofs.Quotients.{at_most_times}
 use Rattle.scad_geom.proofs.Integers.{add_mul}
 use Rattle.std.proofs.Math.IntN.{*ℤ_comm}
 
@@ -176,7 +175,7 @@ lies_of_inside c s t a b some i =
     let g = i.to in
     let u = at_most_times (s *ℤ a +ℤ t *ℤ b) (c *ℤ k -ℤ pos 1) k some (omega (arith, ints, g)) in
     let v = at_most_times (pos 1 -ℤ c *ℤ k) (s *ℤ a +ℤ t *ℤ b) k some (omega (arith, ints, f)) in
-    let p = less_one_times (c *ℤ k) k in
+    let p = one_less_times (c *ℤ k) k in
     let q = one_less (c *ℤ k) k in
     record { from = omega (arith, ints, m, w, v, q); to = omega (arith, ints, m, w, u, p) }
   where

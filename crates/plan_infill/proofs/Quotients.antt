@@ -4,7 +4,7 @@ use lib.Signed.{◌≤ℤ◌}
 use Rattle.std.specs.Prelude.{unsigned_abs}
 use Rattle.std.specs.Int.{int_div_euclid}
 use Rattle.std.proofs.lemmas.Int.{ints}
-use Rattle.scad_geom.proofs.Signs.{at_least_mul, sub_mul, minus_times}
+use Rattle.scad_geom.proofs.Signs.{at_least_mul, sub_mul, minus_times, one_more_times, one_less_times}
 use Rattle.scad_geom.proofs.Rising.{order}
 use Rattle.scad_geom.proofs.Ring.{ring, num, ◌⊕◌, ◌⊖◌, ◌⊗◌, v0, v1}
 use Rattle.plan_infill.specs.Quotient.{IsFloor, IsCeiling}
@@ -44,17 +44,11 @@ at_most_times r x d h k =
     let p = sub_mul x r d in
     omega (arith, ints, m, p)
 
-more : (r d : ℤ) → (r +ℤ pos 1) *ℤ d ≡ r *ℤ d +ℤ d
-more r d = ring (r ∷ d ∷ []) ((v0 ⊕ num (pos 1)) ⊗ v1) (v0 ⊗ v1 ⊕ v1) refl
-
-pub less_one_times : (r d : ℤ) → (r -ℤ pos 1) *ℤ d ≡ r *ℤ d -ℤ d
-less_one_times r d = ring (r ∷ d ∷ []) ((v0 ⊖ num (pos 1)) ⊗ v1) (v0 ⊗ v1 ⊖ v1) refl
-
 -- what comes after the quotient rounded down
 pub after_floor : (n d r x : ℤ) → pos 0 <ℤ d → IsFloor n d r → (r +ℤ pos 1) ≤ℤ x → n <ℤ (x *ℤ d)
 after_floor n d r x h f k =
     let m = at_most_times (r +ℤ pos 1) x d h k in
-    let e = more r d in
+    let e = one_more_times r d in
     let t = f.most in
     omega (arith, ints, m, e)
 
@@ -70,7 +64,7 @@ after_quotient n d r x h f k =
 pub before_ceiling : (n d r x : ℤ) → pos 0 <ℤ d → IsCeiling n d r → x <ℤ r → (x *ℤ d) <ℤ n
 before_ceiling n d r x h f k =
     let m = at_most_times x (r -ℤ pos 1) d h (omega (arith, ints)) in
-    let e = less_one_times r d in
+    let e = one_less_times r d in
     let t = f.least in
     omega (arith, ints, m, e)
 

@@ -11,7 +11,7 @@ use Rattle.scad_geom.specs.declared.point.Pt.{Pt}
 use Rattle.scad_geom.specs.declared.point.Edge.{Edge}
 use Rattle.scad_geom.specs.Line.{low, high, rise, run, x_at}
 use Rattle.scad_geom.specs.Point.{whole}
-use Rattle.scad_geom.proofs.Rising.{order, mirrored_mean}
+use Rattle.scad_geom.proofs.Rising.{by_order, order, mirrored_mean}
 use Rattle.scad_geom.proofs.Signs.{pos_left}
 use Rattle.scad_geom.proofs.Bounds.{rise_at_least}
 use Rattle.scad_geom.proofs.Ring.{ring, num, ◌⊕◌, ◌⊖◌, ◌⊗◌, v0, v1, v2, v3, v4, v5}
@@ -24,7 +24,7 @@ use Rattle.plan_infill.specs.Reach.{reach, is_beside, exchanged, ends_reach, IsI
 use Rattle.plan_infill.specs.Steps.{up_to, IsApart, IsStep, Counts, AreNearSteps}
 use Rattle.plan_infill.proofs.Quotients.{after_floor, after_quotient, before_ceiling, before_quotient}
 use Rattle.plan_infill.proofs.Turning.{at}
-use Rattle.plan_infill.proofs.Steps.{by_order, rise_is, x_at_weights}
+use Rattle.plan_infill.proofs.Steps.{rise_is, x_at_weights}
 use Rattle.plan_infill.proofs.Nearer.{Inside, FoundInside, cross, span, found_inside, passes_inside}
 
 -- ---- of points

@@ -18,7 +18,7 @@ use Rattle.plan_infill.specs.Steps.{up_to, GiveTurns, IsStep, AreTurnSteps}
 use Rattle.plan_infill.proofs.Turning.{turn_at, turn_between, turn_below, turn_above, passage_between, passage_below, passage_above}
 use Rattle.plan_infill.proofs.Quotients.{before_ceiling, before_quotient}
 use Rattle.plan_infill.proofs.Quotients.{at_most_times}
-use Rattle.scad_geom.proofs.Rising.{order}
+use Rattle.scad_geom.proofs.Rising.{by_order, order}
 use Rattle.scad_geom.proofs.Signs.{at_least_mul}
 use Rattle.scad_geom.proofs.Bounds.{low_within, high_within}
 use Rattle.scad_geom.proofs.Ring.{ring, num, ◌⊕◌, ◌⊖◌, ◌⊗◌, v0, v1, v2, v3, v4, v5}
@@ -28,10 +28,6 @@ use Rattle.std.proofs.Math.Bool.{and-false}
 
 abbrev pub step_of : ℤ → ℤ → Step
 step_of at turns = record { at = at; turns = turns; near = pos 0 }
-
-pub by_order : {P : Type 0} {A B : Type 0} → A ⊎ B → (A → P) → (B → P) → P
-by_order (inl a) f g = f a
-by_order (inr b) f g = g b
 
 less_limit : (m r : ℤ) → (pos 0 -ℤ m -ℤ pos 1) *ℤ r ≡ (pos 0 -ℤ m *ℤ r) -ℤ r
 less_limit m r = ring (m ∷ r ∷ []) ((num (pos 0) ⊖ v0 ⊖ num (pos 1)) ⊗ v1) ((num (pos 0) ⊖ v0 ⊗ v1) ⊖ v1) refl

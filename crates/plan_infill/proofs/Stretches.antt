@@ -6,11 +6,10 @@ use Rattle.std.proofs.lemmas.Int.{ints}
 use Rattle.std.proofs.lemmas.List.Elements.{All-nil, All-head, All-tail, All-push, All-weaker, Contains-append_left, Contains-push}
 use Rattle.std.proofs.lemmas.List.{append-nil}
 use Rattle.scad_geom.specs.Limits.{coordinate_limit}
-use Rattle.scad_geom.proofs.Rising.{order}
+use Rattle.scad_geom.proofs.Rising.{by_order, order}
 use Rattle.plan_infill.specs.declared.run.Run.{Run}
 use Rattle.plan_infill.specs.Runs.{GoUp}
 use Rattle.plan_infill.specs.Sweep.{IsStretch, AreStretches, AreStretchesBefore, IsOpen, IsOneValue, HoldsWithin, IsOpenWithin, opened, closed}
-use Rattle.plan_infill.proofs.Steps.{by_order}
 use Rattle.std.proofs.lemmas.Bool.{both_ways}
 
 module _ (test : ℤ → Bool) (least : ℕ) where
@@ -89,7 +88,8 @@ module _ (test : ℤ → Bool) (least : ℕ) where
         (λ k. by_order (order from r.from)
         (λ m. omega (arith, ints, k, m))
         (λ m. absurd (both_ways _ o.2 (s.holds (from -ℤ pos 1) (omega (arith, ints, m)) (omega (arith, ints, to, a))))))
-        (λ k. absurd (both_ways _ s.before (o.1 (r.from -ℤ pos 1) (omega (arith, ints, k)) (omega (arith, ints, i, to))))) in
+        (λ k. absurd (both_ways _ s.before
+        (o.1 (r.from -ℤ pos 1) (omega (arith, ints, k)) (omega (arith, ints, i, to))))) in
         λ j. record { from = start j; to = to j }
 
     this_one : pos least ≤ℤ ((place -ℤ pos 1) -ℤ from) → IsStretch test least ended_run

@@ -8,12 +8,11 @@ use Rattle.std.proofs.lemmas.List.Elements.{recursion_from_All}
 use Rattle.std.proofs.lemmas.Bool.{cases_lt, both_ways}
 use Rattle.scad_geom.specs.Limits.{coordinate_limit}
 use Rattle.scad_geom.specs.Sign.{is_zero}
-use Rattle.scad_geom.proofs.Rising.{order}
+use Rattle.scad_geom.proofs.Rising.{by_order, order}
 use Rattle.plan_infill.specs.declared.run.Run.{Run}
 use Rattle.plan_infill.specs.declared.step.Step.{Step}
 use Rattle.plan_infill.specs.Steps.{up_to, all_of, IsStep, AreInOrder}
 use Rattle.plan_infill.specs.Sweep.{is_deep_at, AreStretchesBefore, IsOpen, IsOneValue, HoldsWithin, opened, closed}
-use Rattle.plan_infill.proofs.Steps.{by_order}
 use Rattle.plan_infill.proofs.Stretches.{none_before, none_open, goes_on}
 
 counted : (f : Step → ℤ) (z : ℤ) (s : Step) → s.at ≤ℤ z → (if int_le s.at z then f s else pos 0) ≡ f s

@@ -4,3 +4,4 @@ pub mod Memories
 pub mod Products
 pub mod Tests
 mod Examples
+pub mod Results

@@ -22,12 +22,9 @@ none-some (a ∷ all) e = refl
 pub ruleset some = (none-empty, none-some)
 
 -- ---- the elements of a vector
-elements-data : (all : List Value) → elements all ≡ as_elements (data_of all)
-elements-data [] = refl
-elements-data (v ∷ all) = ap (element (datum_of v)) (elements-data all)
+pub called_elements : (all : List Value) → as_elements (data_of all) ≡ elements all
+called_elements [] = refl
+called_elements (v ∷ all) = ap (element (datum_of v)) (called_elements all)
 
 pub vector-data : (all : Vec Value Global) → datum_of (ListValue all) ≡ vector (as_elements (data_of all.items))
-vector-data all = vector_view all ∙ ap vector (elements-data all.items)
-
-pub called_elements : (all : List Value) → as_elements (data_of all) ≡ elements all
-called_elements all = sym (elements-data all)
+vector-data all = vector_view all ∙ ap vector (sym (called_elements all.items))

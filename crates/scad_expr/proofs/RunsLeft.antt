@@ -34,18 +34,14 @@ items-range a s b = refl
 pub ruleset kinds = (items-vector, items-range, data-push)
 
 -- ---- how many numbers of a range are left
+abs-neg : (n : ℕ) → unsigned_abs (neg_ℤ (pos n)) ≡ n
+abs-neg zero = refl
+abs-neg (suc n) = refl
+
 abs-quotient : (x y : ℤ) → unsigned_abs (int_div x y) ≡ unsigned_abs x / unsigned_abs y
 abs-quotient (pos a) (pos b) = refl
-abs-quotient (pos a) (negsuc b) = turned (a / suc b)
-  where
-    turned : (n : ℕ) → unsigned_abs (neg_ℤ (pos n)) ≡ n
-    turned zero = refl
-    turned (suc n) = refl
-abs-quotient (negsuc a) (pos b) = turned (suc a / b)
-  where
-    turned : (n : ℕ) → unsigned_abs (neg_ℤ (pos n)) ≡ n
-    turned zero = refl
-    turned (suc n) = refl
+abs-quotient (pos a) (negsuc b) = abs-neg (a / suc b)
+abs-quotient (negsuc a) (pos b) = abs-neg (suc a / b)
 abs-quotient (negsuc a) (negsuc b) = refl
 
 count-past : (n s b : ℤ) → is_past n s b ≡ true → count_of_range n s b ≡ 0

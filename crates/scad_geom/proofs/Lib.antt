@@ -24,3 +24,4 @@ pub mod Sums
 pub mod Removed
 pub mod Rising
 mod Boxes
+pub mod LeafEdges

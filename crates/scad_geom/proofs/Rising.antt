@@ -59,6 +59,10 @@ beside w a b c d h k =
     let f = entry_weight w a b in
     record { from = omega (arith, ints, e, f); to = omega (arith, ints, e, f) }
 
+pub by_order : {P : Type 0} {A B : Type 0} → A ⊎ B → (A → P) → (B → P) → P
+by_order (inl a) f g = f a
+by_order (inr b) f g = g b
+
 pub order : (a b : ℤ) → (a ≤ℤ b) ⊎ (b <ℤ a)
 order a b = by_test (int_le a b) refl
   where

@@ -32,6 +32,12 @@ sub_mul a b c = ring (a ∷ b ∷ c ∷ []) ((v0 ⊖ v1) ⊗ v2) (v0 ⊗ v2 ⊖ 
 pub minus_times : (a b : ℤ) → (pos 0 -ℤ a) *ℤ b ≡ pos 0 -ℤ a *ℤ b
 minus_times a b = ring (a ∷ b ∷ []) ((num (pos 0) ⊖ v0) ⊗ v1) (num (pos 0) ⊖ v0 ⊗ v1) refl
 
+pub one_more_times : (a b : ℤ) → (a +ℤ pos 1) *ℤ b ≡ a *ℤ b +ℤ b
+one_more_times a b = ring (a ∷ b ∷ []) ((v0 ⊕ num (pos 1)) ⊗ v1) (v0 ⊗ v1 ⊕ v1) refl
+
+pub one_less_times : (a b : ℤ) → (a -ℤ pos 1) *ℤ b ≡ a *ℤ b -ℤ b
+one_less_times a b = ring (a ∷ b ∷ []) ((v0 ⊖ num (pos 1)) ⊗ v1) (v0 ⊗ v1 ⊖ v1) refl
+
 pub add_times_zero : (a b : ℤ) → a +ℤ b *ℤ pos 0 ≡ a
 add_times_zero a b = ring (a ∷ b ∷ []) (v0 ⊕ v1 ⊗ num (pos 0)) v0 refl
 

@@ -22,13 +22,10 @@ next : (all : List Outline) (i : ℕ) (o : Outline) → i < length all → o ≡
 next all i o below is = ap outlines (drop_more all i o below) ∙ ap (λ p. outline p ∷ outlines (drop (i + 1) all)) (sym is)
 
 -- it is an outline
-outline-first : (all : List Outline) (o : Outline) (n : ℕ) → n < length all → o ≡ get_or all n o → list_all is_outline (outlines all) ≡ true → is_outline (outline o) ≡ true
-outline-first [] o n below is e = absurd (omega (arith, below))
-outline-first (p ∷ all) o zero below is e = ap (λ q. is_outline (outline q)) is ∙ (and_parts (is_outline (outline p)) (list_all is_outline (outlines all)) e).0
-outline-first (p ∷ all) o (suc n) below is e = outline-first all o n (omega (arith, below)) is (and_parts (is_outline (outline p)) (list_all is_outline (outlines all)) e).1
-
 pub outline-at : (all : List Outline) (n : ℕ) (o : Outline) → n < length all → o ≡ get_or all n o → list_all is_outline (outlines all) ≡ true → is_outline (outline o) ≡ true
-outline-at all n o below is e = outline-first all o n below is e
+outline-at [] n o below is e = absurd (omega (arith, below))
+outline-at (p ∷ all) zero o below is e = ap (λ q. is_outline (outline q)) is ∙ (and_parts (is_outline (outline p)) (list_all is_outline (outlines all)) e).0
+outline-at (p ∷ all) (suc n) o below is e = outline-at all n o (omega (arith, below)) is (and_parts (is_outline (outline p)) (list_all is_outline (outlines all)) e).1
 
 module _ (at : Place) (name : List ℕ) (w : Where) (all : List Outline) (i : ℕ) (o : Outline) (there : i < length all) (is : o ≡ get_or all i o) (so_far : List Node) (s : State) (given : Outcome (List Solid)) (left : flat_leaves at name w (outlines (drop i all)) (solids so_far) s ≡ given) where
   abbrev rest : Solid → Action (List Solid)

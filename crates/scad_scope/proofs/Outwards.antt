@@ -44,11 +44,6 @@ pub stored-same : (fs : List Frame) (i : ℕ) (old new : Frame) → i < length f
 stored-same fs i old new below is same =
     map-set frame_stored fs i new ∙ ap (set (map frame_stored fs) i) (same ∙ ap frame_stored is ∙ sym (get_or-map frame_stored fs i old (frame_stored old) below)) ∙ set-get_or (map frame_stored fs) i (frame_stored old)
 
--- what holds anyway holds at a refusal
-pub on_err : {A E P : Type 0} (r : Result A E) → P → OnErr r P
-on_err (Ok a) p = tt
-on_err (Err e) p = p
-
 -- a value that is lent is a value
 pub lent : (r : Option (Bor Value)) → option_map (λ v. datum_of v.now) r ≡ option_map datum_of (option_copied r)
 lent None = refl

@@ -114,7 +114,8 @@ module _ (layer h : ℕ) where
 
   prism_contains : (upper lower : ℤ) (ring : List Pt) (p : Point) → pos 0 <ℤ p.d → contains (plane_of layer h) (prism upper lower ring) p ≡ differ (is_above (plane_of layer h) upper) (is_above (plane_of layer h) lower) && not (int_eq (wind p (segments (sides ring))) (pos 0))
   prism_contains upper lower ring p some =
-      ap (λ w. not (is_zero w)) (prism_wind (plane_of layer h) upper lower (below_or_above upper) (below_or_above lower) ring p some)
+      ap (λ w. not (is_zero w))
+      (prism_wind (plane_of layer h) upper lower (below_or_above upper) (below_or_above lower) ring p some)
       ∙ ap not (is_zero-eq (winds (is_above (plane_of layer h) upper) (is_above (plane_of layer h) lower) (wind p (segments (sides ring)))))
       ∙ winds_some (is_above (plane_of layer h) upper) (is_above (plane_of layer h) lower) (wind p (segments (sides ring)))
 

@@ -1,6 +1,6 @@
 -- What each status says of the words and of the outlines.
 use Rattle.std.proofs.Common.{◌≡◌, ◌≢◌, ◌⊎◌, ◌≤◌, List, [], ◌∷◌, ℕ, Bool, true, false, Option, Some, None, inl, inr, refl, sym, ap, ◌∙◌, subst, length, nat_lt, rules, arith}
-use Rattle.std.specs.Prelude.{IsSomeAnd, option_map, unwrap_or, if◌then◌else◌}
+use Rattle.std.specs.Prelude.{IfSome, IsSomeAnd, option_map, unwrap_or, if◌then◌else◌}
 use Rattle.scad_fault.specs.declared.budget.Budget.{Budget}
 use Rattle.scad_fault.specs.declared.status.Status.{Status}
 use Rattle.scad_fault.specs.declared.status.Status.TheVariants.{Done, Source, Usage, Settings, Read, Write, Over, Memory}

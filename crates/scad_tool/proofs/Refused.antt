@@ -1,5 +1,5 @@
 -- Refusals, and commands that leave both files as they were.
-use Rattle.std.proofs.Common.{◌≡◌, ◌≢◌, ◌⊎◌, ◌++◌, ◌<◌, List, [], ◌∷◌, ℕ, Option, Some, None, inl, inr, sym, ap, ◌∙◌, subst, arith}
+use Rattle.std.proofs.Common.{◌≡◌, ◌≢◌, ◌⊎◌, ◌++◌, ◌<◌, List, [], ◌∷◌, ℕ, Option, Some, None, inl, inr, refl, sym, ap, ◌∙◌, subst, arith}
 use Rattle.std.proofs.lemmas.List.FromFn.{length-map-range_with_len}
 use Rattle.scad_fault.specs.declared.budget.Budget.{Budget}
 use Rattle.scad_fault.specs.declared.status.Status.{Status}
@@ -26,10 +26,10 @@ use Rattle.scad_expr.specs.State.{State, Outcome, gives, refuses}
 use Rattle.scad_tree.specs.Solid.{Solid}
 use Rattle.scad_tree.specs.Text.{text_of as tree_text}
 use Rattle.scad_slice.specs.Budgets.{layer_count}
-use Rattle.scad_slice.specs.Drawing.{layer_at, layers_of}
+use Rattle.scad_slice.specs.Drawing.{Drawing, layer_at, layers_of}
 use Rattle.scad_slice.specs.Script.{slice_script}
 use Rattle.scad_slice.proofs.Parted.{HasMany, IsWhole, IsCut, script_goes, cut_text, budget_of_layer}
-use Rattle.scad_tool.specs.Words.{given_by}
+use Rattle.scad_tool.specs.Words.{model_of, given_by}
 use Rattle.scad_tool.specs.Meaning.{source_means}
 use Rattle.scad_tool.specs.Told.{check_script, tree_script, echoed, told}
 use Rattle.scad_tool.specs.Answer.{Drawings, Inputs, input_script, model_script, job_script, script_of}

@@ -19,20 +19,6 @@ use Rattle.scad_tool.specs.Answer.{settings_script, judged_script, read_script, 
 use Rattle.scad_tool.specs.Playing.{IsJudged, Settled, IsFound, Settles}
 use Rattle.scad_tool.proofs.Working.{StopsBefore, step_refuses}
 
--- no file is named
-pub settles_by_default : (files : Files) (settings : Settings) (v : View) → settings ≡ default_settings → Settles None files (Ok settings) v v
-settles_by_default files settings v is =
-    record {
-      read = None;
-      told = told_none files;
-      goes = λ follows whole start left. as_left (ap follows (sym is)) left;
-      found = ap Some (sym is);
-    }
-  where
-    told_none : (fs : Files) → IfSome fs (λ contents. None ≡ option_and_then contents None)
-    told_none None = tt
-    told_none (Some contents) = refl
-
 -- A file is named.
 
 told_text : (files : Files) (name text : List ℕ) (input : Input) → input ≡ Whole text

@@ -134,7 +134,7 @@ module _ (words : List (List ℕ)) (files : Files) (job : Job) (form : job_of wo
       → ((drawings : Drawings) → IsDrawn (Some input) drawings → Completes (input_script job.command settings drawings (Some input)) result mid new)
       → OnJudged result (DrawsSolids job.command (Some input)) → Works words files result old new
   works model settings input result later old here mid new settles same unmoved told reads completes solids =
-      let inputs = record { settings = settles.read; model = Some input } in
+      let inputs : Inputs = record { settings = settles.read; model = Some input } in
       let there = subst (λ (name : List ℕ). IsToldOf files name input) same (subst (λ (fs : Files). IsToldOf fs model input) unmoved told) in
       record {
         inputs = inputs;
@@ -154,7 +154,7 @@ module _ (words : List (List ℕ)) (files : Files) (job : Job) (form : job_of wo
       → Settles job.settings files (Ok settings) old here → model ≡ model_of job.command → StopsBefore (Reads model) stop here new
       → result ≡ Err stop → Works words files result old new
   stops_loading model settings result stop old here new settles same stops is =
-      let inputs = record { settings = settles.read; model = (unread words files).model } in
+      let inputs : Inputs = record { settings = settles.read; model = (unread words files).model } in
       subst (λ (r : Result (List ℕ) Stop). Works words files r old new) (sym is)
       (record {
         inputs = inputs;
@@ -172,7 +172,7 @@ module _ (words : List (List ℕ)) (files : Files) (job : Job) (form : job_of wo
   pub stops_settling : (result : Result (List ℕ) Stop) (stop : Stop) (old new : View) → Settles job.settings files (Err stop) old new
       → result ≡ Err stop → Works words files result old new
   stops_settling result stop old new settles is =
-      let inputs = record { settings = settles.read; model = (unread words files).model } in
+      let inputs : Inputs = record { settings = settles.read; model = (unread words files).model } in
       subst (λ (r : Result (List ℕ) Stop). Works words files r old new) (sym is)
       (record {
         inputs = inputs;
@@ -203,9 +203,9 @@ asks_nothing words files Stop.Memory old free =
       plays = λ drawings drawn. let whole = script_of words drawings (unread words files) in (whole, begun whole old);
       solids = tt;
     }
-asks_nothing words files Stop.Read old no = absurd no
-asks_nothing words files Stop.Write old no = absurd no
-asks_nothing words files Stop.Silent old no = absurd no
+asks_nothing words files Stop.Read old impossible = absurd impossible
+asks_nothing words files Stop.Write old impossible = absurd impossible
+asks_nothing words files Stop.Silent old impossible = absurd impossible
 
 pub refuses_words : (words : List (List ℕ)) (files : Files) (result : Result (List ℕ) Stop) (stop : Stop) (old : View)
     → AsksNothing (job_of words) stop → result ≡ Err stop → Works words files result old old

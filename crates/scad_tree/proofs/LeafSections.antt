@@ -10,7 +10,7 @@ use Rattle.scad_geom.specs.Point.{is_same_point}
 use Rattle.scad_geom.specs.Segment.{Segment, segment_of, segments}
 use Rattle.scad_geom.specs.Balance.{IsBalanced}
 use Rattle.scad_geom.specs.Leaves.{edges_of, AreLeavesBalanced}
-use Rattle.scad_geom.proofs.Balanced.{once}
+use Rattle.scad_geom.proofs.LeafEdges.{edges_of-append, both_balanced, none_balanced, chosen_balanced}
 use Rattle.scad_solid.specs.declared.triangle.Triangle.{Triangle}
 use Rattle.scad_tree.specs.declared.node.Node.{Node}
 use Rattle.scad_tree.specs.Order.{surfaces, all_surfaces, leaves}
@@ -26,9 +26,6 @@ sections_append layer h leaf (ts ∷ us) vs =
     ap (λ es. leaf_section layer h leaf ts ++ es) (sections_append layer h (leaf + 1) us vs ∙ ap (λ k. sections_from layer h (leaf + 1) us ++ sections_from layer h k vs) (omega arith))
     ∙ sym (append_assoc (leaf_section layer h leaf ts) (sections_from layer h (leaf + 1) us) (sections_from layer h (leaf + length (ts ∷ us)) vs))
 
-pub edges_of-append : (leaf : ℕ) (es fs : List LeafEdge) → edges_of leaf (es ++ fs) ≡ edges_of leaf es ++ edges_of leaf fs
-edges_of-append leaf es fs = ap (map (λ e. e.edge)) (filter-append (λ e. e.leaf == leaf) es fs) ∙ map-append (λ e. e.edge) (filter (λ e. e.leaf == leaf) es) (filter (λ e. e.leaf == leaf) fs)
-
 -- the edges of one leaf are another's only where they are the same leaf
 pub of_leaf : (leaf k : ℕ) (es : List Edge) (b : Bool) → (k == leaf) ≡ b → edges_of leaf (map (leaf_edge k) es) ≡ cond b es []
 of_leaf leaf k [] true is = refl
@@ -40,21 +37,6 @@ of_leaf leaf k (e ∷ es) false is =
     let rest : List LeafEdge = filter (λ x. x.leaf == leaf) (map (leaf_edge k) es) in
     ap (λ t. map (λ x. x.edge) (cond t (leaf_edge k e ∷ rest) rest)) is ∙ of_leaf leaf k es false is
 
-both : (ss ts : List Segment) → IsBalanced ss → IsBalanced ts → IsBalanced (ss ++ ts)
-both ss ts a b = record {
-  each = λ p some.
-      sum_by-append (λ s. once (is_same_point p s.from)) ss ts
-      ∙ ap₂ (λ m n. m + n) (a.each p some) (b.each p some)
-      ∙ sym (sum_by-append (λ s. once (is_same_point p s.to)) ss ts);
-}
-
-none_balanced : IsBalanced []
-none_balanced = record { each = λ p some. refl }
-
-chosen : (b : Bool) (es : List Edge) → IsBalanced (segments es) → IsBalanced (segments (cond b es []))
-chosen true es balanced = balanced
-chosen false es balanced = none_balanced
-
 -- one more leaf's balanced edges
 pub balanced_more : (old new : List LeafEdge) (k : ℕ) (es : List Edge) → IsBalanced (segments es) → new ≡ old ++ map (leaf_edge k) es → AreLeavesBalanced old → AreLeavesBalanced new
 balanced_more old new k es balanced is so_far = record {
@@ -62,7 +44,7 @@ balanced_more old new k es balanced is so_far = record {
       let apart : edges_of leaf new ≡ edges_of leaf old ++ cond (k == leaf) es [] =
       ap (edges_of leaf) is ∙ edges_of-append leaf old (map (leaf_edge k) es) ∙ ap (λ fs. edges_of leaf old ++ fs) (of_leaf leaf k es (k == leaf) refl) in
       subst IsBalanced (sym (ap segments apart ∙ map-append segment_of (edges_of leaf old) (cond (k == leaf) es [])))
-      (both (segments (edges_of leaf old)) (segments (cond (k == leaf) es [])) (so_far.each leaf) (chosen (k == leaf) es balanced));
+      (both_balanced (segments (edges_of leaf old)) (segments (cond (k == leaf) es [])) (so_far.each leaf) (chosen_balanced (k == leaf) es balanced));
 }
 
 pub none_leaf : AreLeavesBalanced []

@@ -180,8 +180,10 @@ module _ (es : List LeafEdge) (shape : Shape) (balanced : AreLeavesBalanced es) 
   -- ---- where no level has the point's height, no edge ends there
   elsewhere : (ls : List Level) (h : Level) → pos 0 <ℤ h.d → AllByRecursion (λ (l : Level). pos 0 <ℤ l.d) ls → AllByRecursion (IsElsewhere p) ls → HasHeight ls h → IsElsewhere p h
   elsewhere [] h dh d a k = absurd k
-  elsewhere (l ∷ ls) h dh d (inl o, a) (inl e) = inl (lower_then_at_most (level_at p) l h dp d.0 dh o (same_at_least l h e))
-  elsewhere (l ∷ ls) h dh d (inr o, a) (inl e) = inr (at_most_then_lower h l (level_at p) dh d.0 dp (same_at_most l h e) o)
+  elsewhere (l ∷ ls) h dh d (inl o, a) (inl e) =
+      inl (lower_then_at_most (level_at p) l h dp d.0 dh o (same_at_least l h e))
+  elsewhere (l ∷ ls) h dh d (inr o, a) (inl e) =
+      inr (at_most_then_lower h l (level_at p) dh d.0 dp (same_at_most l h e) o)
   elsewhere (l ∷ ls) h dh d a (inr k) = elsewhere ls h dh d.1 a.1 k
 
   aside : (e : LeafEdge) → IsElsewhere p (level_of e.edge.a.y) → IsAside right p e

@@ -121,7 +121,8 @@ pub later_live : (es : List LeafEdge) (l u : Level) (before bs : List (List ℕ)
 later_live es l u [] bs h = h
 later_live es l u (b ∷ before) bs h = later_live es l u before bs (back (IsLive es l u) b (concat (before ++ bs)) h)
 
-pub later_ranked : (es : List LeafEdge) (l : Level) (before bs : List (List ℕ)) → AreRanked es l (before ++ bs) → AreRanked es l bs
+pub later_ranked : (es : List LeafEdge) (l : Level) (before bs : List (List ℕ))
+    → AreRanked es l (before ++ bs) → AreRanked es l bs
 later_ranked es l [] bs h = h
 later_ranked es l (b ∷ before) bs h = later_ranked es l before bs h.2
 

@@ -17,7 +17,8 @@ use Rattle.slice_section.proofs.Balanced.{IsBalanced-section_of}
 use Rattle.scad_tree.specs.Solid.{Solid}
 use Rattle.scad_tree.specs.Order.{surfaces}
 use Rattle.scad_tree.specs.Numbered.{surface_at}
-use Rattle.scad_tree.proofs.LeafSections.{edges_of-append, of_leaf}
+use Rattle.scad_geom.proofs.LeafEdges.{edges_of-append}
+use Rattle.scad_tree.proofs.LeafSections.{of_leaf}
 use Rattle.scad_tree.specs.Sections.{leaf_edge, leaf_section, sections_from, tree_section}
 
 -- ---- the edges of one leaf

@@ -49,7 +49,8 @@ module _ (s t : Spot) (ds : pos 0 <ℤ s.at.d) (rs : 0 < s.run) (dt : pos 0 <ℤ
       let at : s.at ≡ t.at = one height in
       let d : s.at.d ≡ t.at.d = ap (λ (l : Level). l.d) at in
       let across : (s.x *ℤ b) *ℤ t.at.d ≡ (t.x *ℤ a) *ℤ t.at.d =
-      sym (mul_beside s.x t.at.d b) ∙ int_eq-true _ _ parts.1 ∙ mul_beside t.x s.at.d a ∙ ap (λ (e : ℤ). (t.x *ℤ a) *ℤ e) d in
+      sym (mul_beside s.x t.at.d b) ∙ int_eq-true _ _ parts.1 ∙ mul_beside t.x s.at.d a
+      ∙ ap (λ (e : ℤ). (t.x *ℤ a) *ℤ e) d in
       and_from (levels_equal s t) (places_equal s t)
       (and_from (int_eq s.at.n t.at.n) (int_eq s.at.d t.at.d) (to_eq s.at.n t.at.n (ap (λ (l : Level). l.n) at)) (to_eq s.at.d t.at.d d))
       (to_eq (s.x *ℤ b) (t.x *ℤ a) (cancel_mul (s.x *ℤ b) (t.x *ℤ a) t.at.d dt across))

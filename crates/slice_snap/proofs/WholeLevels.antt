@@ -12,7 +12,8 @@ use Rattle.scad_geom.proofs.Signs.{mul-one}
 
 one_level : (p q : Level) → p.d ≡ pos 1 → q.d ≡ pos 1 → IsSameHeight p q → p ≡ q
 one_level p q h k e =
-    let n : p.n ≡ q.n = sym (mul-one p.n) ∙ ap (λ (d : ℤ). p.n *ℤ d) (sym k) ∙ e ∙ ap (λ (d : ℤ). q.n *ℤ d) h ∙ mul-one q.n in
+    let n : p.n ≡ q.n = sym (mul-one p.n) ∙ ap (λ (d : ℤ). p.n *ℤ d) (sym k) ∙ e
+    ∙ ap (λ (d : ℤ). q.n *ℤ d) h ∙ mul-one q.n in
     let d : p.d ≡ q.d = h ∙ sym k in
     λ i. record { n = n i; d = d i }
 

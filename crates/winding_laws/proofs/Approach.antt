@@ -28,7 +28,7 @@ along_is n x y = ring (n ∷ x ∷ y ∷ []) (num (pos 0) ⊗ v1 ⊕ v0 ⊗ v2) 
 along_back : (n x y : ℤ) → pos 0 *ℤ x +ℤ (pos 0 -ℤ n) *ℤ y ≡ n *ℤ (pos 0 -ℤ y)
 along_back n x y = ring (n ∷ x ∷ y ∷ []) (num (pos 0) ⊗ v1 ⊕ (num (pos 0) ⊖ v0) ⊗ v2) (v0 ⊗ (num (pos 0) ⊖ v2)) refl
 
-at_most_as : (s t u : ℤ) → s ≡ u → u ≤ℤ t → s ≤ℤ t
+pub at_most_as : (s t u : ℤ) → s ≡ u → u ≤ℤ t → s ≤ℤ t
 at_most_as s t u e h = omega (arith, ints)
 
 in_box : (n h : ℤ) (p : Point) → (n *ℤ p.x) ≤ℤ (h *ℤ p.d) → (n *ℤ (pos 0 -ℤ p.x)) ≤ℤ (h *ℤ p.d) → (n *ℤ p.y) ≤ℤ (h *ℤ p.d) → (n *ℤ (pos 0 -ℤ p.y)) ≤ℤ (h *ℤ p.d) → Holds (box n h) p

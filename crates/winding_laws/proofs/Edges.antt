@@ -21,7 +21,8 @@ pub clear_seen : (region : List HalfPlane) (q a b : Point) → IsFar region q a 
 clear_seen region q a b n s t hs ht o h = n s t hs ht o (subst (Holds region) (mean_seen q a b s t) h)
 
 -- far segments have positive divisors
-pub far_proper : (region : List HalfPlane) (q : Point) (ss : List Segment) → AllByRecursion (IsFarSegment region q) ss → AllByRecursion IsProper ss
+pub far_proper : (region : List HalfPlane) (q : Point) (ss : List Segment)
+    → AllByRecursion (IsFarSegment region q) ss → AllByRecursion IsProper ss
 far_proper region q [] h = tt
 far_proper region q (s ∷ ss) h = (h.0.proper, far_proper region q ss h.1)
 

@@ -96,6 +96,9 @@ apart false y z h k =
     let t : int_le (pos 0) z ≡ true = k in
     omega (arith, ints)
 
+pub by_sign : {A : Type 0} (z : ℤ) → (z <ℤ pos 0 → A) → (z ≡ pos 0 → A) → (pos 0 <ℤ z → A) → A
+by_sign z neg zero more = by_lt_z z (pos 0) neg (λ h. by_lt_z (pos 0) z more (λ k. zero (omega (arith, ints))))
+
 module _ (region : List HalfPlane) (o : HoldsOrigin region) where
   -- ---- right and left: a segment off the origin that passes its height passes it on one side
   crossing : (above : Bool) (a b : Point) → IsPoint a → IsPoint b → IsAway region a b → is_beyond above a.y ≡ false → is_beyond above b.y ≡ true → cross a b ≡ pos 0 → ⊥
@@ -148,9 +151,6 @@ module _ (region : List HalfPlane) (o : HoldsOrigin region) where
   rise_value : (above : Bool) (a b : Point) → is_beyond above a.y ≡ false → is_beyond above b.y ≡ true → swing above true a b ≡ counted (is_beyond true (cross a b))
   unfolding swing
   rise_value above a b ha hb = rw (ha, hb) (ap (λ (z : ℤ). counted (is_beyond true z)) (one-mul (cross a b)))
-
-  by_sign : {A : Type 0} (z : ℤ) → (z <ℤ pos 0 → A) → (z ≡ pos 0 → A) → (pos 0 <ℤ z → A) → A
-  by_sign z neg zero more = by_lt_z z (pos 0) neg (λ h. by_lt_z (pos 0) z more (λ k. zero (omega (arith, ints))))
 
   abbrev Steps : Point → Point → Type 0
   Steps a b = swing true true a b -ℤ swing false true a b ≡ ahead a -ℤ ahead b

@@ -131,7 +131,8 @@ module _ (region : List HalfPlane) (above right : Bool) (c q p : Point) (dc : po
 
   pub one_winding : (ss : List Segment) → IsBalanced ss → AllByRecursion (IsFarSegment region c) ss → wind_by above right p ss ≡ wind_by above right q ss
   one_winding ss b h =
-      equal_by_sums (wind_by above right p ss) (wind_by above right q ss) (sum_z change (starts ss)) (sum_z change (ends ss))
+      equal_by_sums (wind_by above right p ss) (wind_by above right q ss)
+      (sum_z change (starts ss)) (sum_z change (ends ss))
       (wind_changed ss h) (balanced_totals change change_same ss (far_proper region c ss h) b)
 
 pub regions_have_one_winding : RegionsHaveOneWinding

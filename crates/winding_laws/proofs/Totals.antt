@@ -29,7 +29,8 @@ sums_apart a b c d w x y z h k = omega (arith, ints)
 pub equal_by_gaps : (a b c d : ℤ) → a -ℤ b ≡ c -ℤ d → c ≡ d → a ≡ b
 equal_by_gaps a b c d h k = omega (arith, ints)
 
-pub sums_changed : (a b c d w x y z : ℤ) → a ≡ b +ℤ (d -ℤ c) → w +ℤ y ≡ x +ℤ z → (a +ℤ w) +ℤ (c +ℤ y) ≡ (b +ℤ x) +ℤ (d +ℤ z)
+pub sums_changed : (a b c d w x y z : ℤ) → a ≡ b +ℤ (d -ℤ c) → w +ℤ y ≡ x +ℤ z
+    → (a +ℤ w) +ℤ (c +ℤ y) ≡ (b +ℤ x) +ℤ (d +ℤ z)
 sums_changed a b c d w x y z h k = omega (arith, ints)
 
 pub equal_by_sums : (a b c d : ℤ) → a +ℤ c ≡ b +ℤ d → c ≡ d → a ≡ b

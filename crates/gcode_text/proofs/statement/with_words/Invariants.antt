@@ -1,5 +1,6 @@
 use Rattle.std.proofs.Common.{◌≡◌, ◌<◌, length}
-use Rattle.gcode_text.specs.Reading.{words, first_at}
+use Rattle.text_scan.specs.Marks.{first_at}
+use Rattle.gcode_text.specs.Reading.{words}
 use Rattle.gcode_text.specs.Machine.{limited, with_words, nothing_given}
 use Rattle.gcode_text.proofs.statement.with_words.Given as goal
 

@@ -8,12 +8,13 @@ use Rattle.scad_geom.specs.Loop.{sides}
 use Rattle.scad_geom.specs.Within.{IsEdgeWithin}
 use Rattle.plan_infill.specs.declared.step.Step.{Step}
 use Rattle.plan_infill.specs.Steps.{AreSteps}
-use Rattle.plan_infill.proofs.AllRuns.{edges_within, all_steps, none_behind, all_runs}
+use Rattle.plan_sides.proofs.Within.{outlines_within}
+use Rattle.plan_infill.proofs.AllRuns.{all_steps, none_behind, all_runs}
 use Rattle.plan_infill.proofs.infill.runs.Goals as goal
 
 pub steps_of-requires-clause-edges : goal.steps_of-requires-clause-edges
 steps_of-requires-clause-edges c =
-    subst (λ (es : List Edge). All (IsEdgeWithin coordinate_limit) es) (sym (c.deref.ensures.value ∙ c.in_ok-sides.ensures)) (edges_within coordinate_limit c.args.outlines.now c.requires.within)
+    subst (λ (es : List Edge). All (IsEdgeWithin coordinate_limit) es) (sym (c.deref.ensures.value ∙ c.in_ok-sides.ensures)) (outlines_within coordinate_limit c.args.outlines.now c.requires.within)
 
 steps_are : (c : goal.After-deref-2) → AreSteps c.args.c c.args.line (flat_map sides c.args.outlines.now) c.in_ok-steps.steps.items
 steps_are c = subst (λ (es : List Edge). AreSteps c.args.c c.args.line es c.in_ok-steps.steps.items) (c.deref.ensures.value ∙ c.in_ok-sides.ensures) c.in_ok-steps.ensures

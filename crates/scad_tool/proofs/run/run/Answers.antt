@@ -69,7 +69,7 @@ in_order g c = orderly (words g c) (drawings g c) (inputs g c)
 
 -- a property of the run's script
 on_script : (g : Over) (c : goal.After-report g) (Holds : Script → Type 0) → Holds (whole g c) → OnScript (words g c) (files g c) Holds
-on_script g c Holds holds = (input g c, drawing g c, (played g c).read, (answers_are_there (inputs g c).model).1, holds)
+on_script g c Holds holds = (inputs g c, drawings g c, (played g c).read, (answers_are_there (inputs g c).model).1, holds)
 
 pub report-requires : goal.report-requires
 report-requires g c =

@@ -1,6 +1,7 @@
 use Rattle.std.proofs.Common.{ap, ◌∙◌, map}
 use Rattle.scad_scope.specs.View.{named, frame_stored}
-use Rattle.scad_scope.proofs.Outwards.{on_err, named-insert}
+use Rattle.scad_base.proofs.Results.{on_err}
+use Rattle.scad_scope.proofs.Outwards.{named-insert}
 use Rattle.scad_scope.proofs.frame.Frame.set.Goals as goal
 
 pub returns-in_err-insert-clause-refused : goal.returns-in_err-insert-clause-refused

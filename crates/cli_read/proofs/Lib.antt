@@ -1,0 +1,9 @@
+pub mod CommaWords
+pub mod Fronts
+pub mod LayerLines
+pub mod Numbers
+pub mod Outlines
+pub mod Results
+pub mod TextLines
+pub mod Texts
+pub mod Written

@@ -1,0 +1,5 @@
+use Rattle.cli_read.proofs.Numbers.{coordinate_not_text}
+use Rattle.cli_read.proofs.number.coordinate_of.Goals as goal
+
+pub returns-in-Err : goal.returns-in-Err
+returns-in-Err c = coordinate_not_text c.args.word.now c.in-Err.ensures.cases.0

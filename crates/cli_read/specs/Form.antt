@@ -1,0 +1,80 @@
+-- What a text in the ASCII form of the Common Layer Interface 2.0 says, in units of a micrometre: which lines are those
+-- of a list of layers. Numbers are decimal, without leading zeros, with `-` before negative ones.
+use Rattle.std.specs.Prelude.{◌≡◌, ℕ, ◌+◌, ◌^◌, ◌<◌, ◌≤◌, List, [], ◌∷◌, ◌++◌, length, Option, Some, None, IfSome, unsigned_abs, codes}
+use Rattle.std.specs.List.{flat_map, AllByRecursion, AllZip}
+use Rattle.std.specs.Fmt.{decimal}
+use Rattle.std.specs.Str.Lines.{lines}
+use Rattle.scad_geom.specs.declared.point.Pt.{Pt}
+use Rattle.cli_text.specs.Cli.{Layer, polyline_start, layer_start, point_text, closed}
+
+-- ---- lines
+
+-- the line of an outline: part 1, the direction that it says, the number of its points with the first repeated, and
+-- these points
+abbrev pub outline_line : ℕ → List Pt → List ℕ
+outline_line direction points =
+    polyline_start ++ decimal direction ++ codes "," ++ decimal (length points + 1) ++ flat_map point_text (closed points)
+
+abbrev pub height_line : ℕ → List ℕ
+height_line z = layer_start ++ decimal z
+
+unfoldable pub count_start : List ℕ
+count_start = codes "$$LAYERS/"
+
+-- the lines in front of the layers, of which there are so many
+abbrev pub head_lines : ℕ → List (List ℕ)
+head_lines count =
+    codes "$$HEADERSTART"
+    ∷ codes "$$ASCII"
+    ∷ codes "$$UNITS/0.001"
+    ∷ codes "$$VERSION/200"
+    ∷ (count_start ++ decimal count)
+    ∷ codes "$$HEADEREND"
+    ∷ codes "$$GEOMETRYSTART"
+    ∷ []
+
+unfoldable pub end_line : List ℕ
+end_line = codes "$$GEOMETRYEND"
+
+-- ---- layers
+
+-- the greatest size of a coordinate, in micrometres
+abbrev pub reach : ℕ
+reach = 1100000
+
+abbrev pub IsNear : Pt → Type 0
+IsNear p = (unsigned_abs p.x ≤ reach) × (unsigned_abs p.y ≤ reach)
+
+-- an outline has three vertices at least, all within reach
+pub record IsShape (points : List Pt) : Type 0 where
+  pub several : 3 ≤ length points
+  pub count : length points + 1 < 2 ^ 32
+  pub near : AllByRecursion IsNear points
+
+-- the line is that of the outline, whichever direction it says
+pub record IsOutline (line : List ℕ) (points : List Pt) : Type 0 where
+  pub direction : ℕ
+  pub either : direction ≤ 1
+  pub is : line ≡ outline_line direction points
+  pub shape : IsShape points
+
+-- the lines are those of the layer: its height, then its outlines
+pub record IsLayer (ls : List (List ℕ)) (layer : Layer) : Type 0 where
+  pub outlines : List (List ℕ)
+  pub are : ls ≡ height_line layer.z ∷ outlines
+  pub each : AllZip IsOutline outlines layer.loops
+  pub height : layer.z < 2 ^ 32
+
+-- each layer is above the one before it, and above this height where there is one
+abbrev pub AreAbove : Option ℕ → List Layer → Type 0
+AreAbove last [] = Unit {0}
+AreAbove last (layer ∷ layers) = IfSome last (λ z. z < layer.z) × AreAbove (Some layer.z) layers
+
+-- the text says these layers: its lines, each ended by LF or CRLF, the last perhaps by neither, are the head, those of
+-- each layer, and the end
+pub record Reads (bytes : List ℕ) (layers : List Layer) : Type 0 where
+  pub parts : List (List (List ℕ))
+  pub are : lines bytes ≡ head_lines (length layers) ++ flat_map (λ ls. ls) parts ++ end_line ∷ []
+  pub each : AllZip IsLayer parts layers
+  pub above : AreAbove None layers
+  pub count : length layers < 2 ^ 32

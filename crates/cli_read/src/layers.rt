@@ -1,0 +1,82 @@
+//! Layers that were read.
+ghost use Rattle.std.specs.Prelude.{◌≡◌, List};
+ghost use Rattle.scad_geom.specs.declared.point.Pt.{Pt};
+ghost use Rattle.cli_read.specs.declared.layers.CliLayer.{CliLayer};
+
+use scad_geom::Loop;
+use std::marker::Model;
+
+/// The outlines of a layer.
+#[derive(Debug, Drop)]
+pub struct Loops {
+    loops: Vec<Loop>,
+}
+
+impl Model for Loops {
+    ghost use Rattle.std.specs.Prelude.{List};
+    ghost use Rattle.scad_geom.specs.declared.point.Pt.{Pt};
+
+    ghost Value = { List (List Pt) };
+
+    ghost view = { λ l. l.loops.items };
+}
+
+impl Loops {
+    ghost use Rattle.std.specs.Prelude.{◌≡◌};
+
+    pub fn from_vec(loops: Vec<Loop>) -> Self
+        ensures { result ≡ loops.items }
+    {
+        Loops { loops }
+    }
+
+    pub fn as_slice(&self) -> &[Loop]
+        ensures { result.now ≡ self.now }
+    {
+        self.loops.as_slice()
+    }
+}
+
+/// A layer: the height of its upper surface in micrometres, and its outlines, each without its first point repeated.
+#[derive(Debug, Drop)]
+pub struct CliLayer {
+    pub z: u32,
+    pub loops: Loops,
+}
+
+/// The layers of a file, upwards.
+#[derive(Debug, Drop)]
+pub struct CliLayers {
+    layers: Vec<CliLayer>,
+}
+
+impl Model for CliLayers {
+    ghost use Rattle.std.specs.Prelude.{List};
+    ghost use Rattle.cli_read.specs.declared.layers.CliLayer.{CliLayer};
+
+    ghost Value = { List CliLayer };
+
+    ghost view = { λ l. l.layers.items };
+}
+
+impl CliLayers {
+    ghost use Rattle.std.specs.Prelude.{◌≡◌};
+
+    pub fn from_vec(layers: Vec<CliLayer>) -> Self
+        ensures { result ≡ layers.items }
+    {
+        CliLayers { layers }
+    }
+
+    pub fn as_slice(&self) -> &[CliLayer]
+        ensures { result.now ≡ self.now }
+    {
+        self.layers.as_slice()
+    }
+}
+
+/// What a text says.
+#[derive(Debug, Drop)]
+pub struct Cli {
+    pub layers: CliLayers,
+}

@@ -1,0 +1,11 @@
+pub mod Under
+pub mod Runs
+pub mod Beyond
+pub mod Kept
+pub mod Extents
+pub mod Multiples
+pub mod Filled
+pub mod Walled
+pub mod Counted
+pub mod Pushed
+pub mod Points

@@ -1,0 +1,51 @@
+use Rattle.std.proofs.Common.{◌≡◌, ◌≤◌, ◌*◌, List, length, true, ◌++◌, ap, ◌∙◌, arith}
+use Rattle.std.specs.Prelude.{Result, Ok, Err, IfOk}
+use Rattle.std.specs.List.{sum_by}
+use Rattle.std.proofs.lemmas.Result.{IfOk-weaker}
+use Rattle.scad_geom.specs.declared.point.Pt.{Pt}
+use Rattle.plan_layer.specs.Infill.{LineRuns, infill_paths}
+use Rattle.plan_layer.specs.Moves.{all_moves, move_limit}
+use Rattle.plan_layer.specs.Plan.{IsPlan}
+use Rattle.plan_layer.proofs.Points.{plan_ways, few_points}
+use Rattle.plan_layer.proofs.planning.plan.Goals as goal
+
+both : {T E : Type 0} (r : Result T E) (P Q R : T → Type 0) → ((x : T) → P x → Q x → R x) → IfOk r P → IfOk r Q
+    → IfOk r R
+both (Ok x) P Q R f h k = f x h k
+both (Err e) P Q R f h k = h
+
+is_plan : (c : goal.After-drop-lines-2) (paths : List (List Pt)) → paths ≡ c.push_infill.new.paths.items
+    → IsPlan c.args.outlines.now c.args.layer c.args.settings.now paths
+is_plan c paths kept = record {
+  walls = c.in_ok-paths.paths.items;
+  lines = c.in_ok-lines.lines.items;
+  are_walls = c.in_ok-paths.ensures.walls;
+  are_filled = c.in_ok-lines.ensures;
+  paths_are = kept ∙ c.in_ok-push_infill.ensures
+      ∙ ap (λ (ls : List LineRuns). c.in_ok-paths.paths.items ++ infill_paths c.args.layer true ls)
+      c.deref.ensures.value;
+}
+
+pub returns-clause-clear : goal.returns-clause-clear
+returns-clause-clear c =
+    IfOk-weaker c.judged.result _ _
+    (λ p kept. c.plans_keep_clear.ensures c.args.outlines.now c.args.layer c.args.settings.now p.paths.items
+    c.requires.settings (is_plan c p.paths.items kept))
+    c.judged.ensures.kept
+
+pub returns-clause-ways : goal.returns-clause-ways
+returns-clause-ways c =
+    IfOk-weaker c.judged.result _ _
+    (λ p kept. plan_ways c.args.outlines.now c.args.layer c.args.settings.now p.paths.items
+    (is_plan c p.paths.items kept))
+    c.judged.ensures.kept
+
+pub returns-clause-points : goal.returns-clause-points
+returns-clause-points c =
+    both c.judged.result (λ p. p.paths.items ≡ c.push_infill.new.paths.items)
+    (λ p. length (all_moves p.paths.items) ≤ move_limit) (λ p. sum_by length p.paths.items ≤ 2 * move_limit)
+    (λ p kept few.
+    let n = few_points p.paths.items (plan_ways c.args.outlines.now c.args.layer c.args.settings.now p.paths.items
+    (is_plan c p.paths.items kept)) in
+    omega (arith, n, few))
+    c.judged.ensures.kept c.judged.ensures.few

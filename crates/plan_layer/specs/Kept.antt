@@ -1,0 +1,38 @@
+-- The distance that the moves of a plan keep from the outlines.
+use Rattle.std.specs.Prelude.{ℕ, ◌/◌, ◌≤◌, List, pos, ◌<ℤ◌, All}
+use Rattle.scad_geom.specs.declared.point.Pt.{Pt}
+use Rattle.scad_geom.specs.declared.point.Edge.{Edge}
+use Rattle.scad_geom.specs.Point.{Point, whole}
+use Rattle.winding_laws.specs.Parts.{IsOn}
+use Rattle.plan_infill.specs.declared.line.Line.{Line}
+use Rattle.plan_infill.specs.declared.run.Run.{Run}
+use Rattle.plan_infill.specs.Runs.{point_on, IsRun}
+use Rattle.plan_walls.specs.Kept.{KeepsWithin}
+use Rattle.scad_words.specs.declared.settings.Settings.{Settings}
+use Rattle.scad_words.specs.Settings.{AreInRange}
+use Rattle.plan_layer.specs.Moves.{all_moves}
+use Rattle.plan_layer.specs.Plan.{IsPlan}
+
+-- each point of a move keeps the distance c less one micrometre from each side of outlines along both axes, and they
+-- wind round it
+abbrev pub KeepsClear : List (List Pt) → ℕ → Edge → Type 0
+KeepsClear outlines c e = (q : Point) → pos 0 <ℤ q.d → IsOn (whole e.a) (whole e.b) q → KeepsWithin outlines c q
+
+-- so does each point of each move along paths
+abbrev pub PathsKeepClear : List (List Pt) → ℕ → List (List Pt) → Type 0
+PathsKeepClear outlines c paths = All (KeepsClear outlines c) (all_moves paths)
+
+-- ---- the laws
+-- The whole points of a run are deep inside outlines by the distance c; each exact point of it keeps c less one
+-- micrometre.
+abbrev pub RunsKeepClear : Type 0
+RunsKeepClear =
+    (outlines : List (List Pt)) (c least : ℕ) (line : Line) (r : Run) → 2 ≤ c → IsRun outlines c line least r
+    → KeepsClear outlines c (record { a = point_on line r.from; b = point_on line r.to })
+
+-- Each point of each move of a plan keeps half the width of a line, less one micrometre.
+abbrev pub PlansKeepClear : Type 0
+PlansKeepClear =
+    (outlines : List (List Pt)) (layer : ℕ) (s : Settings) (paths : List (List Pt)) → AreInRange s → IsPlan outlines
+    layer s paths
+    → PathsKeepClear outlines (s.line_width / 2) paths

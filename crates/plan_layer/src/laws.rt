@@ -1,0 +1,18 @@
+//! Laws of the definitions, each carried by the contract of a function that does nothing.
+ghost use Rattle.plan_layer.specs.Kept.{RunsKeepClear, PlansKeepClear};
+
+use plan_walls::laws::walls_keep_clear;
+
+/// Each exact point of a run of infill keeps its distance, less one micrometre, from each side of the outlines along
+/// both axes, and they wind round it.
+pub fn runs_keep_clear()
+    ensures { RunsKeepClear }
+{}
+
+/// Each exact point of each move of a plan keeps half the width of a line, less one micrometre, from each side of the
+/// outlines along both axes, and they wind round it.
+pub fn plans_keep_clear()
+    ensures { PlansKeepClear }
+{
+    walls_keep_clear();
+}

@@ -1,0 +1,20 @@
+//! The plan of a layer: the paths along which it is printed, walls first and then infill.
+//!
+//! The contract promises exactly the paths of the definition, that each point of each move keeps half the width of a
+//! line, less one micrometre, from the layer's outlines and lies inside them, and each refusal with its cause.
+#![tactic(auto, using(scad_geom::proofs::Casts::casts))]
+
+mod extent;
+mod fault;
+mod infill_paths;
+pub mod laws;
+mod lines;
+mod planning;
+#[cfg(test)]
+mod random_outlines;
+#[cfg(test)]
+mod tests;
+mod wall_paths;
+
+pub use fault::PlanFault;
+pub use planning::{LayerPlan, MOVE_LIMIT, plan};

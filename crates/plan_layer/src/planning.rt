@@ -1,0 +1,86 @@
+//! The plan of a layer.
+ghost use Rattle.std.specs.Prelude.{◌≡◌, ◌*◌, ◌/◌, ◌≤◌, length, IfOk, IfErr, IfSome, All};
+ghost use Rattle.std.specs.List.{sum_by};
+ghost use Rattle.scad_geom.specs.Limits.{point_limit};
+ghost use Rattle.scad_geom.specs.Within.{IsWithin};
+ghost use Rattle.scad_words.specs.Settings.{AreInRange};
+ghost use Rattle.plan_layer.specs.Moves.{all_moves, move_limit};
+ghost use Rattle.plan_layer.specs.Plan.{IsPlan};
+ghost use Rattle.plan_layer.specs.Kept.{PathsKeepClear};
+ghost use Rattle.plan_layer.specs.Refusal.{AreAccepted, IsManyMoves, IsRefusal};
+
+use crate::fault::PlanFault;
+use crate::infill_paths::push_infill;
+use crate::laws::plans_keep_clear;
+use crate::lines::filled_lines;
+use crate::wall_paths::wall_paths;
+use scad_geom::{Loop, Path};
+use scad_words::Settings;
+use std::alloc::Global;
+
+/// The most extruding moves of a layer.
+pub const MOVE_LIMIT: u64 = 200_000;
+
+/// The paths of a layer, in the order in which they are printed. Each side of a path is one extruding move.
+#[derive(Debug, Drop)]
+pub struct LayerPlan {
+    pub paths: Vec<Path>,
+}
+
+/// The plan of a layer over its outlines: the loops of its walls, from the outermost on, each from its first vertex
+/// round to it again, and then the runs of infill. On even layers these lie in rows, on odd ones in columns, at the
+/// whole multiples of the spacing; on the first line with runs, the third and so on they go upwards, on the others
+/// downwards.
+///
+/// Each point of each move keeps half the width of a line, less one micrometre, from each side of the outlines along
+/// both axes, and they wind round it. Each path has at least two points, and all together have at most 400,000.
+///
+/// It is refused exactly where a wall is, with the fault of the outermost such wall, and then where the plan has more
+/// than 200,000 extruding moves.
+pub fn plan(
+    alloc: Global,
+    outlines: &[Loop],
+    layer: u32,
+    settings: &Settings,
+) -> Result<LayerPlan, PlanFault>
+    requires within { All (λ l. All (IsWithin point_limit) l) outlines.now }
+    requires settings { AreInRange settings.now }
+    ensures plan { IfOk result (λ p. IsPlan outlines.now layer settings.now p.paths.items) }
+    ensures clear { IfOk result (λ p. PathsKeepClear outlines.now (settings.now.line_width / 2) p.paths.items) }
+    ensures accepted { IfOk result (λ p. AreAccepted outlines.now settings.now.line_width settings.now.walls) }
+    ensures moves { IfOk result (λ p. length (all_moves p.paths.items) ≤ move_limit) }
+    ensures ways { IfOk result (λ p. All (λ path. 2 ≤ length path) p.paths.items) }
+    ensures points { IfOk result (λ p. sum_by length p.paths.items ≤ 2 * move_limit) }
+    ensures refused { IfErr result (IsRefusal outlines.now layer settings.now) }
+{
+    let mut paths = wall_paths(alloc, outlines, settings)?;
+    let lines = filled_lines(alloc, outlines, layer, settings)?;
+    push_infill(alloc, &mut paths, layer, &lines)?;
+    plans_keep_clear();
+    judged(paths)
+}
+
+// Paths with too many moves are refused.
+fn judged(paths: Vec<Path>) -> Result<LayerPlan, PlanFault>
+    ensures kept { IfOk result (λ p. p.paths.items ≡ paths.items) }
+    ensures few { IfOk result (λ p. length (all_moves p.paths.items) ≤ move_limit) }
+    ensures many { IfErr result (IsManyMoves paths.items) }
+{
+    match count_of_moves(&paths) {
+        Some(count) if count > MOVE_LIMIT => Err(PlanFault::Moves(count)),
+        Some(_) => Ok(LayerPlan { paths }),
+        None => Err(PlanFault::Memory),
+    }
+}
+
+// How many moves paths have; none where the number has more than 64 bits, for which there is no memory.
+fn count_of_moves(paths: &[Path]) -> Option<u64>
+    ensures { IfSome result (λ n. n ≡ length (all_moves paths.now)) }
+{
+    let mut count: u64 = 0;
+    'paths: for path in paths {
+        let moves = path.as_slice().len().saturating_sub(1);
+        count = count.checked_add(moves as u64)?;
+    }
+    Some(count)
+}

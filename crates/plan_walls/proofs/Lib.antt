@@ -1,0 +1,13 @@
+pub mod Forms
+pub mod Angles
+pub mod Rings
+pub mod Within
+pub mod Round
+pub mod Leaves
+pub mod Limits
+pub mod Counts
+pub mod Members
+pub mod Off
+pub mod Clear
+pub mod Inside
+pub mod Kept

@@ -1,0 +1,4 @@
+pub mod Rings
+pub mod Walls
+pub mod Kept
+pub mod Refusal

@@ -1,0 +1,26 @@
+//! Laws of the definitions, each carried by the contract of a function that does nothing.
+ghost use Rattle.plan_walls.specs.Rings.{LeftIsWound};
+ghost use Rattle.plan_walls.specs.Kept.{WallsKeepClear};
+
+/// A closed way with a point to the left of each of its sides winds round the point counter-clockwise, hard by it on
+/// each side.
+pub fn left_is_wound()
+    ensures { LeftIsWound }
+{}
+
+/// Each point of the walls at a distance keeps that distance less one micrometre from each side of the outlines along
+/// both axes, and the outlines wind round it.
+pub fn walls_keep_clear()
+    ensures { WallsKeepClear }
+{}
+
+#[cfg(test)]
+mod tests {
+    use super::*;
+
+    #[test]
+    fn laws_are_called() {
+        left_is_wound();
+        walls_keep_clear();
+    }
+}
