@@ -1,6 +1,6 @@
 -- The words of the line of an outline.
-use Rattle.std.proofs.Common.{◌≡◌, ℕ, ◌+◌, ◌^◌, ◌<◌, ◌≤◌, Bool, true, false, List, [], ◌∷◌, ◌++◌, length, take, drop, get_or, refl, ap, ap₂, sym, subst, ◌∙◌, arith, append_assoc, Option, Some, None, ◌⊎◌, inl, inr}
-use Rattle.std.specs.Prelude.{unsigned_abs, bytes_eq, ◌==◌, codes}
+use Rattle.std.proofs.Common.{◌≡◌, ℕ, ◌+◌, ◌^◌, ◌<◌, ◌≤◌, List, [], ◌∷◌, ◌++◌, length, take, drop, get_or, refl, ap, ap₂, sym, subst, ◌∙◌, arith, append_assoc, Some, ◌⊎◌, inl, inr}
+use Rattle.std.specs.Prelude.{bytes_eq, ◌==◌, codes}
 use Rattle.std.specs.Fmt.{decimal, signed_decimal}
 use Rattle.std.specs.List.{flat_map, join_with_byte, AllByRecursion}
 use Rattle.std.proofs.Math.ListN.{drop_of_length-le}

@@ -1,5 +1,5 @@
 -- Layers are read of their lines, and of no others.
-use Rattle.std.proofs.Common.{◌≡◌, ℕ, suc, zero, ◌+◌, ◌^◌, ◌<◌, ◌≤◌, Bool, true, false, cond, List, [], ◌∷◌, ◌++◌, length, nat_lt, refl, ap, ap₂, sym, subst, ◌∙◌, arith, append_assoc, Option, Some, None, Result, Ok, Err}
+use Rattle.std.proofs.Common.{◌≡◌, ℕ, ◌+◌, ◌^◌, ◌<◌, Bool, true, false, cond, List, [], ◌∷◌, ◌++◌, length, refl, ap, sym, subst, ◌∙◌, append_assoc, Option, Some, None, Ok, Err}
 use Rattle.std.specs.Prelude.{IfSome, bytes_eq, codes}
 use Rattle.std.specs.Fmt.{decimal}
 use Rattle.std.specs.List.{flat_map, AllZip}
@@ -8,11 +8,10 @@ use Rattle.std.proofs.lemmas.List.Concat.{flat_map-cons}
 use Rattle.std.proofs.lemmas.Slice.Eq.{bytes_eq-Decides}
 use Rattle.scad_geom.specs.declared.point.Pt.{Pt}
 use Rattle.cli_text.specs.Cli.{Layer, layer_start, polyline_start, closed}
-use Rattle.cli_read.specs.declared.fault.CliFault.{CliFault}
 use Rattle.cli_read.specs.declared.fault.CliFault.TheVariants.{BadLine}
 use Rattle.cli_read.specs.declared.line.Said.{Said}
 use Rattle.cli_read.specs.declared.line.Said.TheVariants.{Height, Outline}
-use Rattle.cli_read.specs.Form.{IsOutline, IsLayer, AreAbove, height_line, outline_line, end_line}
+use Rattle.cli_read.specs.Form.{IsOutline, IsLayer, AreAbove, height_line, end_line}
 use Rattle.cli_read.specs.Reading.{◌>>=◌, Geometry, or_bad, words, behind, count_of, outline_at, is_above, height_at, said_by, said_at, onto, last_height, ended_at, geometry_at}
 use Rattle.cli_read.proofs.Results.{bind_ok, ok_is, passed, or_bad_ok}
 use Rattle.cli_read.proofs.Numbers.{count_text, count_back, same_bytes}

@@ -1,6 +1,6 @@
 -- An outline is read of its line, and of no other.
-use Rattle.std.proofs.Common.{◌≡◌, ℕ, suc, zero, ◌+◌, ◌-◌, ◌^◌, ◌<◌, ◌≤◌, Bool, true, false, cond, List, [], ◌∷◌, ◌++◌, length, take, drop, get_or, nat_le, refl, ap, ap₂, sym, subst, ◌∙◌, arith, append_assoc, Option, Some, None, Result, Ok, Err}
-use Rattle.std.specs.Prelude.{ℤ, unsigned_abs, ◌==◌, ◌&&◌, codes}
+use Rattle.std.proofs.Common.{◌≡◌, ℕ, suc, ◌+◌, ◌-◌, ◌≤◌, Bool, true, false, cond, List, [], ◌∷◌, ◌++◌, length, take, get_or, nat_le, refl, ap, sym, subst, ◌∙◌, arith, append_assoc, Result, Ok, Err}
+use Rattle.std.specs.Prelude.{◌==◌, ◌&&◌, codes}
 use Rattle.std.specs.Ordering.{int_eq}
 use Rattle.std.specs.Fmt.{decimal, signed_decimal}
 use Rattle.std.specs.List.{AllByRecursion}
@@ -13,7 +13,7 @@ use Rattle.scad_geom.specs.declared.point.Pt.{Pt}
 use Rattle.cli_text.specs.Cli.{closed, polyline_start}
 use Rattle.cli_read.specs.declared.fault.CliFault.{CliFault}
 use Rattle.cli_read.specs.declared.fault.CliFault.TheVariants.{BadLine, CountDiffers, OpenLoop}
-use Rattle.cli_read.specs.Form.{reach, IsNear, IsShape, IsOutline, outline_line}
+use Rattle.cli_read.specs.Form.{IsNear, IsShape, IsOutline}
 use Rattle.cli_read.specs.Reading.{◌>>=◌, or_bad, origin, same_point, ends_meet, words, count_of, coordinate_of, point_at, points_at, joined_at, closed_at, direction_at, outline_at}
 use Rattle.cli_read.proofs.Results.{bind_ok, ok_is, passed, or_bad_ok}
 use Rattle.cli_read.proofs.Numbers.{count_text, count_back, coordinate_text, coordinate_back}

@@ -1,5 +1,5 @@
 -- A text is read as what it says, and what it says is read.
-use Rattle.std.proofs.Common.{◌≡◌, ℕ, ◌+◌, ◌^◌, ◌<◌, Bool, true, false, cond, List, [], ◌∷◌, ◌++◌, length, refl, ap, ap₂, sym, subst, ◌∙◌, arith, append_assoc, Option, Some, None, Result, Ok, Err}
+use Rattle.std.proofs.Common.{◌≡◌, ℕ, ◌^◌, ◌<◌, true, List, [], ◌∷◌, ◌++◌, length, refl, ap, sym, subst, ◌∙◌, arith, append_assoc, Option, Some, None, Result, Ok, Err}
 use Rattle.std.specs.Prelude.{IfOk, bytes_eq, ◌==◌, codes}
 use Rattle.std.specs.Fmt.{decimal}
 use Rattle.std.specs.List.{AllZip}
@@ -14,12 +14,12 @@ use Rattle.cli_read.specs.declared.fault.CliFault.TheVariants.{BadLine, CountDif
 use Rattle.cli_read.specs.declared.layers.Cli.{Cli}
 use Rattle.cli_read.specs.Form.{Reads, IsLayer, IsOutline, AreAbove, head_lines, count_start, end_line}
 use Rattle.cli_read.specs.Laws.{TextsSayOneList}
-use Rattle.cli_read.specs.Reading.{◌>>=◌, Gives, or_bad, behind, count_of, geometry_at, fixed_at, count_in, count_at, head_at, layers_at, counted, reading}
+use Rattle.cli_read.specs.Reading.{◌>>=◌, Gives, behind, count_of, geometry_at, fixed_at, count_in, count_at, head_at, layers_at, counted, reading}
 use Rattle.cli_read.specs.View.{layers_of}
 use Rattle.cli_read.proofs.Results.{bind_ok, ok_is, passed, or_bad_ok}
-use Rattle.cli_read.proofs.Numbers.{count_text, count_back, same_bytes}
+use Rattle.cli_read.proofs.Numbers.{count_text, count_back}
 use Rattle.cli_read.proofs.CommaWords.{behind_is, behind_back}
-use Rattle.cli_read.proofs.LayerLines.{joined, Stands, geometry_stands, parts_back}
+use Rattle.cli_read.proofs.LayerLines.{joined, geometry_stands, parts_back}
 
 -- ---- the head
 

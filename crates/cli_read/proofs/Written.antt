@@ -1,6 +1,6 @@
 -- The lines of a text that was written are those of its layers.
-use Rattle.std.proofs.Common.{◌≡◌, ℕ, suc, zero, ◌+◌, ◌-◌, ◌^◌, ◌<◌, ◌≤◌, Bool, true, false, cond, List, [], ◌∷◌, ◌++◌, length, take, get_or, nat_le, refl, ap, ap₂, sym, ◌∙◌, arith, append_assoc, Option, Some, None}
-use Rattle.std.specs.Prelude.{ℤ, pos, negsuc, unsigned_abs, int_lt, codes, map, ◌&&◌, ◌==◌, slice_index}
+use Rattle.std.proofs.Common.{◌≡◌, ℕ, suc, zero, ◌+◌, ◌-◌, ◌^◌, ◌<◌, ◌≤◌, Bool, true, false, cond, List, [], ◌∷◌, ◌++◌, length, take, get_or, nat_le, refl, ap, ap₂, sym, ◌∙◌, arith, append_assoc}
+use Rattle.std.specs.Prelude.{ℤ, pos, negsuc, unsigned_abs, int_lt, codes, map, ◌&&◌, ◌==◌}
 use Rattle.std.specs.Fmt.{decimal, signed_decimal}
 use Rattle.std.specs.List.{flat_map, list_all, AllByRecursion, AllZip}
 use Rattle.std.specs.Str.Lines.{lines, strip_carriage_return}
@@ -12,9 +12,9 @@ use Rattle.std.proofs.lemmas.List.Folds.{list_all-append}
 use Rattle.std.proofs.lemmas.List.Sums.{AllPass-from_list_all}
 use Rattle.scad_geom.specs.declared.point.Pt.{Pt}
 use Rattle.scad_geom.specs.Area.{twice_area}
-use Rattle.cli_text.specs.Cli.{Layer, head_start, head_end, head, direction, point_text, closed, polyline_start, polyline_text, layer_start, layer_text, geometry_end, cli}
-use Rattle.cli_read.specs.Form.{reach, count_start, head_lines, end_line, height_line, outline_line, IsNear, IsShape, IsOutline, IsLayer, AreAbove, Reads}
-use Rattle.cli_read.specs.Laws.{IsReadable, WrittenTextsSayTheirLayers}
+use Rattle.cli_text.specs.Cli.{Layer, head_start, head_end, direction, point_text, closed, polyline_start, polyline_text, layer_start, layer_text, geometry_end}
+use Rattle.cli_read.specs.Form.{reach, count_start, head_lines, end_line, height_line, outline_line, IsNear, IsShape, IsOutline, IsLayer}
+use Rattle.cli_read.specs.Laws.{WrittenTextsSayTheirLayers}
 use Rattle.cli_read.proofs.Numbers.{Lacks, decimal_passes}
 use Rattle.cli_read.proofs.TextLines.{feed, line_fed}
 use Rattle.cli_read.proofs.CommaWords.{points_text}

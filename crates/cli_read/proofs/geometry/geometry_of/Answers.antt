@@ -1,10 +1,8 @@
-use Rattle.std.proofs.Common.{◌≡◌, true, false, List, ◌∷◌, Result, sym, subst, ◌∙◌, arith}
-use Rattle.std.specs.Prelude.{bytes_eq}
+use Rattle.std.proofs.Common.{List, Result, sym, subst, ◌∙◌, arith}
 use Rattle.std.specs.Str.Lines.{lines}
 use Rattle.std.proofs.lemmas.Result.{err_from_is_err_and}
 use Rattle.cli_text.specs.Cli.{Layer}
 use Rattle.cli_read.specs.declared.fault.CliFault.{CliFault}
-use Rattle.cli_read.specs.Form.{end_line}
 use Rattle.cli_read.specs.Reading.{Gives}
 use Rattle.cli_read.specs.View.{seen, built}
 use Rattle.cli_read.proofs.Fronts.{layers_begin, layers_go_on, layers_stop, layers_end, layers_wanting}
