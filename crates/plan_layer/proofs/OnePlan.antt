@@ -22,7 +22,8 @@ use Rattle.plan_infill.specs.declared.line.Line.{Line}
 use Rattle.plan_infill.specs.declared.run.Run.{Run}
 use Rattle.plan_infill.specs.Runs.{IsRun, GoUp, AreRuns}
 use Rattle.plan_walls.specs.Walls.{with_rings, IsFirstWithout, AreWalls}
-use Rattle.plan_walls.proofs.Limits.{outlines_within, edges_within}
+use Rattle.plan_sides.proofs.Within.{outlines_within}
+use Rattle.plan_walls.proofs.Limits.{edges_within}
 use Rattle.scad_words.specs.declared.settings.Settings.{Settings}
 use Rattle.plan_layer.specs.Walls.{distance, AreWallsFrom, wall_paths}
 use Rattle.plan_layer.specs.Infill.{line_at, depth, LineRuns, IsFilled, AreUpwards, AreFilled, infill_paths}
