@@ -9,3 +9,5 @@ pub mod Walled
 pub mod Counted
 pub mod Pushed
 pub mod Points
+pub mod Ascending
+pub mod OnePlan

@@ -5,3 +5,4 @@ pub mod Extent
 pub mod Plan
 pub mod Kept
 pub mod Refusal
+pub mod One

@@ -1,5 +1,6 @@
 //! Laws of the definitions, each carried by the contract of a function that does nothing.
 ghost use Rattle.plan_layer.specs.Kept.{RunsKeepClear, PlansKeepClear};
+ghost use Rattle.plan_layer.specs.One.{PlansAreOne};
 
 use plan_walls::laws::walls_keep_clear;
 
@@ -16,3 +17,8 @@ pub fn plans_keep_clear()
 {
     walls_keep_clear();
 }
+
+/// A layer has one plan over its outlines.
+pub fn plans_are_one()
+    ensures { PlansAreOne }
+{}

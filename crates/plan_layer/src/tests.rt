@@ -142,4 +142,5 @@ fn lines_alternate(rt: HostRuntime) -> Result<(), Fail> {
 fn laws_are_called() {
     laws::runs_keep_clear();
     laws::plans_keep_clear();
+    laws::plans_are_one();
 }
