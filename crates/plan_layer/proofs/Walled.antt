@@ -12,7 +12,8 @@ use Rattle.plan_walls.specs.Walls.{wall_edges, AreWalls}
 use Rattle.plan_walls.specs.Refusal.{IsRefusal}
 use Rattle.scad_words.specs.declared.settings.Settings.{Settings}
 use Rattle.plan_layer.specs.Walls.{distance, AreWallsFrom, round, wall_paths, AreWallPaths}
-use Rattle.plan_layer.specs.Refusal.{edge_limit, fault_of, IsWallAccepted, AreAccepted, IsWallsRefusal}
+use Rattle.plan_walls.specs.Refusal.{edge_limit}
+use Rattle.plan_layer.specs.Refusal.{fault_of, IsWallAccepted, AreAccepted, IsWallsRefusal}
 
 -- paths of the first n walls, which pass no limit
 pub record Walled (outlines : List (List Pt)) (width n : ℕ) (paths : List (List Pt)) : Type 0 where

@@ -8,16 +8,13 @@ use Rattle.slice_bool.specs.declared.fault.BoolFault.TheVariants.{Memory as NoMe
 use Rattle.slice_bool.specs.declared.fault.BoolFault.TheVariants.{Crossings as ManyCrossings}
 use Rattle.plan_walls.specs.Walls.{wall_edges}
 use Rattle.plan_walls.specs.Refusal as of_walls
+use Rattle.plan_walls.specs.Refusal.{edge_limit}
 use Rattle.scad_words.specs.declared.settings.Settings.{Settings}
 use Rattle.plan_layer.specs.declared.fault.PlanFault.{PlanFault}
 use Rattle.plan_layer.specs.declared.fault.PlanFault.TheVariants.{Memory, Edges, Crossings, Moves}
 use Rattle.plan_layer.specs.Moves.{all_moves, move_limit}
 use Rattle.plan_layer.specs.Walls.{distance}
 use Rattle.plan_layer.specs.Plan.{IsPlan}
-
--- the most edges of a wall's shape
-abbrev pub edge_limit : ℕ
-edge_limit = 140000
 
 -- the fault of a wall, as that of a plan
 abbrev pub fault_of : BoolFault → PlanFault
