@@ -1,0 +1,55 @@
+-- The script of layers, written layer by layer and round by round.
+use Rattle.std.proofs.Common.{◌≡◌, ◌≢◌, ◌<◌, ◌≤◌, ◌+◌, ◌-◌, ℕ, zero, suc, List, [], ◌∷◌, Result, Ok, Err, sym, refl, ap, ◌∙◌, arith}
+use Rattle.scad_fault.specs.declared.budget.Budget.{Budget}
+use Rattle.scad_io.specs.declared.desk.Out.{Out}
+use Rattle.scad_io.specs.declared.desk.Out.TheVariants.{Report, Cli, Gcode}
+use Rattle.scad_script.specs.declared.refusal.Refusal.TheVariants.{Over}
+use Rattle.scad_script.specs.Steps.{Step, Sends, stage, drawing}
+use Rattle.scad_script.specs.Script.{Script, Refuses, first, ends, layer_then, layers}
+use Rattle.gcode_text.specs.declared.rates.Rates.{Rates}
+use Rattle.slice_work.specs.declared.want.Want.{Want}
+use Rattle.slice_work.specs.Part.{Layout, Part}
+use Rattle.slice_work.specs.Script.{volume_below, written, written_unless, layer_steps}
+
+-- a piece for an output that isn't the report is drawn
+pub draws_piece : (out : Out) (piece : List ℕ) → out ≢ Report → stage (Sends out piece) ≡ drawing
+draws_piece Report piece other = absurd (other refl)
+draws_piece Cli piece other = refl
+draws_piece Gcode piece other = refl
+
+-- m layers, and then n more
+pub layers_parted : (layer : ℕ → Result (List Step) Budget) (i m n : ℕ) (rest : Script) → layers layer i (m + n) rest ≡ layers layer i m (layers layer (i + m) n rest)
+layers_parted layer i zero n rest =
+    let here : i ≡ i + 0 = omega arith in
+    let none : 0 + n ≡ n = omega arith in
+    ap (λ k. layers layer i k rest) none ∙ ap (λ k. layers layer k n rest) here
+layers_parted layer i (suc m) n rest =
+    let behind : (i + 1) + m ≡ i + suc m = omega arith in
+    let more : suc m + n ≡ suc (m + n) = omega arith in
+    ap (λ k. layers layer i k rest) more
+    ∙ ap (layer_then (layer i)) (layers_parted layer (i + 1) m n rest ∙ ap (λ k. layers layer (i + 1) m (layers layer k n rest)) behind)
+
+-- the layers of a round, and those behind it
+pub round_parted : (layer : ℕ → Result (List Step) Budget) (i count all : ℕ) (rest : Script) → i + count ≤ all
+    → layers layer i (all - i) rest ≡ layers layer i count (layers layer (i + count) (all - (i + count)) rest)
+round_parted layer i count all rest within =
+    let parts : all - i ≡ count + (all - (i + count)) = omega arith in
+    ap (λ k. layers layer i k rest) parts ∙ layers_parted layer i count (all - (i + count)) rest
+
+module _ (want : Want) (rates : Rates) (part : Part) where
+  -- the next layer is laid out so
+  pub laid_next : (i n : ℕ) (volume : ℕ) (layout : Layout) (rest : Script) → 0 < n → volume ≡ volume_below want rates part i → part i ≡ Ok layout
+      → layers (layer_steps want rates part) i n rest ≡ first (written want rates volume i layout) (layers (layer_steps want rates part) (i + 1) (n - 1) rest)
+  laid_next i n volume layout rest some volume_is laid =
+      let more : n ≡ suc (n - 1) = omega arith in
+      ap (λ k. layers (layer_steps want rates part) i k rest) more
+      ∙ ap (λ it. layer_then (written_unless want rates (volume_below want rates part i) i it) (layers (layer_steps want rates part) (i + 1) (n - 1) rest)) laid
+      ∙ ap (λ v. first (written want rates v i layout) (layers (layer_steps want rates part) (i + 1) (n - 1) rest)) (sym volume_is)
+
+  -- the next layer passes a budget
+  pub over_next : (i n : ℕ) (budget : Budget) (rest : Script) → 0 < n → part i ≡ Err budget
+      → layers (layer_steps want rates part) i n rest ≡ ends (Refuses (Over budget))
+  over_next i n budget rest some over =
+      let more : n ≡ suc (n - 1) = omega arith in
+      ap (λ k. layers (layer_steps want rates part) i k rest) more
+      ∙ ap (λ it. layer_then (written_unless want rates (volume_below want rates part i) i it) (layers (layer_steps want rates part) (i + 1) (n - 1) rest)) over

@@ -1,0 +1,6 @@
+mod Noting
+mod Joined
+mod Sought
+mod Layers
+mod Counting
+mod Stopping

@@ -1,0 +1,6 @@
+pub mod Part
+pub mod Shares
+pub mod Pools
+pub mod Rounds
+pub mod Script
+pub mod Sums

@@ -1,0 +1,43 @@
+-- What is drawn of a part, layer by layer.
+use Rattle.std.specs.Prelude.{◌≡◌, ℕ, ◌-◌, List, [], length, sum_by, Result, Ok, Err}
+use Rattle.scad_fault.specs.declared.budget.Budget.{Budget}
+use Rattle.scad_geom.specs.declared.point.Pt.{Pt}
+use Rattle.slice_work.specs.declared.want.Want.{Want}
+use Rattle.slice_work.specs.declared.want.Want.TheVariants.{Outlines, Plan}
+use Rattle.slice_work.specs.declared.layer.LayerEnd.{LayerEnd}
+use Rattle.slice_work.specs.declared.layer.LayerEnd.TheVariants.{Made, Over}
+
+-- a layer: its outlines, and the paths along which it is printed
+pub record Layout : Type 0 where
+  pub outlines : List (List Pt)
+  pub paths : List (List Pt)
+
+-- each layer is laid out so, or passes this budget
+abbrev pub Part : Type 0
+Part = ℕ → Result Layout Budget
+
+-- the outlines of a layer, none where it passes a budget
+abbrev pub outlines_of : Result Layout Budget → List (List Pt)
+outlines_of (Ok layout) = layout.outlines
+outlines_of (Err budget) = []
+
+-- the paths of a layer, none where it passes a budget, and none where they aren't wanted
+abbrev pub paths_of : Want → Result Layout Budget → List (List Pt)
+paths_of Outlines layer = []
+paths_of Plan (Ok layout) = layout.paths
+paths_of Plan (Err budget) = []
+
+-- the moves along paths: one from each point to the next
+abbrev pub move_count : List (List Pt) → ℕ
+move_count paths = sum_by (λ path. length path - 1) paths
+
+-- the work on a layer ends so
+abbrev pub Ends : Result Layout Budget → LayerEnd → Type 0
+Ends (Ok layout) (Made loops plan) = (loops.items ≡ layout.outlines) × (plan.paths.items ≡ layout.paths)
+Ends (Ok layout) (Over passed) = ⊥
+Ends (Err budget) (Made loops plan) = ⊥
+Ends (Err budget) (Over passed) = passed ≡ budget
+
+-- a part has at most so many layers
+abbrev pub layer_limit : ℕ
+layer_limit = 20000

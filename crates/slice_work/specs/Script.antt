@@ -1,0 +1,80 @@
+-- What is written of a part.
+use Rattle.std.specs.Prelude.{◌≡◌, ℕ, ◌+◌, ◌*◌, ◌≤◌, true, List, [], ◌∷◌, map, sum_by, Result, Ok, Err}
+use Rattle.std.specs.List.{range_with_len}
+use Rattle.scad_fault.specs.declared.budget.Budget.{Budget}
+use Rattle.scad_geom.specs.declared.point.Pt.{Pt}
+use Rattle.scad_io.specs.Desk.{View}
+use Rattle.scad_io.specs.declared.desk.Out.TheVariants.{Cli, Gcode}
+use Rattle.scad_script.specs.Steps.{Step, Sends}
+use Rattle.scad_script.specs.declared.stop.Stop.{Stop}
+use Rattle.scad_script.specs.declared.refusal.Refusal.TheVariants.{Over}
+use Rattle.scad_words.specs.declared.settings.Settings.{Settings}
+use Rattle.cli_text.specs.Cli as cli
+use Rattle.gcode_text.specs.declared.rates.Rates.{Rates}
+use Rattle.gcode_text.specs.Amount.{paths_volume}
+use Rattle.gcode_text.specs.Gcode as gcode
+use Rattle.slice_work.specs.declared.want.Want.{Want}
+use Rattle.slice_work.specs.declared.want.Want.TheVariants.{Outlines, Plan}
+use Rattle.slice_work.specs.declared.fault.WorkFault.{WorkFault}
+use Rattle.slice_work.specs.Part.{Layout, Part, paths_of}
+
+-- the measures and speeds that settings give
+abbrev pub rates_of : Settings → Rates
+rates_of s = record {
+  line_width = s.line_width;
+  layer_height = s.layer_height;
+  filament_area = s.filament_area;
+  print_feed = s.print_feed;
+  travel_feed = s.travel_feed;
+}
+
+-- the volume of all moves of the first n layers
+abbrev pub volume_below : Want → Rates → Part → ℕ → ℕ
+volume_below want rates part n = sum_by (λ layer. paths_volume rates (paths_of want layer)) (map part (range_with_len 0 n))
+
+-- these lines can be written
+pub record AreRates (rates : Rates) : Type 0 where
+  pub width : rates.line_width ≤ 2000
+  pub height : rates.layer_height ≤ 2000
+  pub area : 1 ≤ rates.filament_area
+
+-- the outputs that are written to were created
+abbrev pub AreThere : Want → View → Type 0
+AreThere Outlines v = v.cli.created ≡ true
+AreThere Plan v = (v.cli.created ≡ true) × (v.gcode.created ≡ true)
+
+-- the lines of a layer's outlines, under the height of its upper surface
+abbrev pub outline_lines : ℕ → ℕ → List (List Pt) → List ℕ
+outline_lines height i outlines = cli.layer_text (record { z = height * (i + 1); loops = outlines })
+
+-- the lines of a layer's moves, behind moves of this volume
+abbrev pub move_lines : Rates → ℕ → ℕ → List (List Pt) → List ℕ
+move_lines rates volume i paths = gcode.layer_text rates volume i paths
+
+abbrev pub laid_out : List (List Pt) → List (List Pt) → Layout
+laid_out outlines paths = record { outlines = outlines; paths = paths }
+
+-- the steps that write a layer which is laid out so, behind moves of this volume: its outlines, and then its moves, where they
+-- are wanted
+abbrev pub written : Want → Rates → ℕ → ℕ → Layout → List Step
+written Outlines rates volume i layout = Sends Cli (outline_lines rates.layer_height i layout.outlines) ∷ []
+written Plan rates volume i layout =
+    Sends Cli (outline_lines rates.layer_height i layout.outlines) ∷ Sends Gcode (move_lines rates volume i layout.paths) ∷ []
+
+abbrev pub written_unless : Want → Rates → ℕ → ℕ → Result Layout Budget → Result (List Step) Budget
+written_unless want rates volume i (Ok layout) = Ok (written want rates volume i layout)
+written_unless want rates volume i (Err budget) = Err budget
+
+-- layer i of a part
+abbrev pub layer_steps : Want → Rates → Part → ℕ → Result (List Step) Budget
+layer_steps want rates part i = written_unless want rates (volume_below want rates part i) i (part i)
+
+-- why a script stops where the work does
+abbrev pub stop_of : WorkFault → Stop
+stop_of WorkFault.Memory = Stop.Memory
+stop_of WorkFault.Write = Stop.Write
+stop_of (WorkFault.Over budget) = Stop.Ends (Over budget)
+
+abbrev pub stopped : {T : Type 0} → Result T WorkFault → Result T Stop
+stopped (Ok t) = Ok t
+stopped (Err fault) = Err (stop_of fault)

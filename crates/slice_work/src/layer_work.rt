@@ -1,0 +1,17 @@
+//! The work on one layer.
+ghost use Rattle.std.specs.Prelude.{◌<◌, ℕ, IfOk};
+ghost use Rattle.slice_work.specs.Part.{Part, Ends, layer_limit};
+
+use crate::layer::LayerEnd;
+use std::alloc::{AllocError, Global};
+
+/// The work on any one layer of a part. What it ends with depends on the layer alone.
+pub trait LayerWork: Sync {
+    /// The part is drawn so.
+    ghost draws: { Self → Part → Type 0 };
+
+    /// Works a layer.
+    fn draw(&self, alloc: Global, layer: u32) -> Result<LayerEnd, AllocError>
+        requires within { layer < layer_limit }
+        ensures end { IfOk result (λ end. (part : Part) → draws self.now part → Ends (part layer) end) };
+}

@@ -1,0 +1,29 @@
+//! The layers of a part, worked by several workers and written in order.
+//!
+//! The contracts promise that each layer below the first that passes a budget is worked and written once, in order, with the bytes
+//! that one worker alone would write, and that the first such budget is answered.
+#![tactic(auto)]
+
+mod fault;
+mod finding;
+mod layer;
+mod layer_work;
+mod pooling;
+mod round;
+mod sharing;
+mod sums;
+mod summary;
+#[cfg(test)]
+mod tests;
+mod want;
+mod working;
+mod writing;
+
+pub use fault::WorkFault;
+pub use layer::{Drawn, LayerEnd, LayerPlan};
+pub use layer_work::LayerWork;
+pub use pooling::Share;
+pub use sharing::share;
+pub use summary::Summary;
+pub use want::Want;
+pub use working::{LAYER_LIMIT, ROUND, work};

@@ -1,0 +1,8 @@
+//! What is wanted of a part.
+
+/// What is wanted of a part: its outlines, or its outlines and its printing program.
+#[derive(Clone, Copy, Debug, PartialEq, Eq)]
+pub enum Want {
+    Outlines,
+    Plan,
+}

@@ -1,0 +1,124 @@
+//! All layers of a part.
+ghost use Rattle.std.specs.Prelude.{◌≡◌, ◌+◌, ◌<◌, ◌≤◌, IfOk, OnOk};
+ghost use Rattle.scad_script.specs.Script.{layers};
+ghost use Rattle.scad_script.specs.Played.{Carries, HasRisen};
+ghost use Rattle.scad_script.specs.Run.{Sound, CreatesNone};
+ghost use Rattle.scad_words.specs.Settings.{AreInRange};
+ghost use Rattle.slice_work.specs.Part.{Part, layer_limit};
+ghost use Rattle.slice_work.specs.Shares.{AreDrawnOf};
+ghost use Rattle.slice_work.specs.Rounds.{IsWhole};
+ghost use Rattle.slice_work.specs.Script.{AreRates, AreThere, rates_of, layer_steps, stopped};
+ghost use Rattle.slice_work.specs.Sums.{AreSums, IsSummary};
+
+use crate::fault::WorkFault;
+use crate::finding::{budget_of, layout_of};
+use crate::layer_work::LayerWork;
+use crate::round::{Round, work_round};
+use crate::summary::Summary;
+use crate::sums::Sums;
+use crate::want::Want;
+use crate::writing::send_layer;
+use gcode_text::Rates;
+use scad_io::{Desk, Gate};
+use scad_words::Settings;
+use std::alloc::Global;
+use std::thread::Threads;
+
+/// The most layers of a part.
+pub const LAYER_LIMIT: u32 = 20_000;
+
+/// The most layers of a round.
+pub const ROUND: u32 = 64;
+
+/// Works so many layers of a part and writes them in order.
+///
+/// The layers go in rounds of 64. In a round the workers draw the layers from one board, each in a thread of its own; then the
+/// round's layers are written, each output of a layer by one write, up to the first layer that passes a budget, which is answered.
+/// The bytes and the answer are the same for every number of workers.
+pub fn work<R: Threads + Sync, W: LayerWork, D: Desk, G: Gate>(
+    rt: &R,
+    alloc: Global,
+    count: u32,
+    work: &W,
+    settings: &Settings,
+    want: Want,
+    workers: u32,
+    desk: &mut D,
+    gate: &G,
+) -> Result<Summary, WorkFault>
+    requires few { count ≤ layer_limit }
+    requires settings { AreInRange settings.now }
+    requires some { 1 ≤ workers }
+    requires most { workers ≤ 64 }
+    requires sound { Sound (D.view desk.old) }
+    requires there { AreThere want (D.view desk.old) }
+
+    ensures carries { (part : Part) → W.draws work.now part
+        → Carries (layers (layer_steps want (rates_of settings.now) part) 0 count) (stopped result) (D.view desk.old) (D.view desk.new) }
+    ensures summary { IfOk result (λ s. (part : Part) → W.draws work.now part → IsSummary want (rates_of settings.now) part count s) }
+    ensures sound { OnOk result (Sound (D.view desk.new)) }
+    ensures creates { OnOk result (CreatesNone (D.view desk.old) (D.view desk.new)) }
+    ensures files { D.files desk.new ≡ D.files desk.old }
+    ensures later { D.faults desk.old ≤ D.faults desk.new }
+    ensures cause { HasRisen (stopped result) (D.faults desk.old) (D.faults desk.new) }
+{
+    let rates = rates_of(settings);
+    let mut sums = Sums::NONE;
+    let mut first = 0;
+    'rounds: while first < count {
+        let size = ROUND.min(count - first);
+        let round = work_round(rt, alloc, first, size, workers, work, gate)?;
+        sums = send_round(alloc, want, &rates, &round, sums, desk)?;
+        first += size;
+    }
+    match sums.summary(count, &rates) {
+        Some(summary) => Ok(summary),
+        None => Err(WorkFault::Memory),
+    }
+}
+
+// Writes the layers of a round, up to the first that passes a budget.
+fn send_round<D: Desk>(
+    alloc: Global,
+    want: Want,
+    rates: &Rates,
+    round: &Round,
+    sums: Sums,
+    desk: &mut D,
+) -> Result<Sums, WorkFault>
+    requires rates { AreRates rates.now }
+    requires round { IsWhole round.now }
+    requires sound { Sound (D.view desk.old) }
+    requires there { AreThere want (D.view desk.old) }
+
+    ensures carries { (part : Part) → AreDrawnOf part round.now.done.items → AreSums want rates.now part round.now.first sums
+        → Carries (layers (layer_steps want rates.now part) round.now.first round.now.count) (stopped result) (D.view desk.old) (D.view desk.new) }
+    ensures sums { IfOk result (λ s. (part : Part) → AreDrawnOf part round.now.done.items → AreSums want rates.now part round.now.first sums
+        → AreSums want rates.now part (round.now.first + round.now.count) s) }
+    ensures sound { OnOk result (Sound (D.view desk.new)) }
+    ensures creates { OnOk result (CreatesNone (D.view desk.old) (D.view desk.new)) }
+    ensures files { D.files desk.new ≡ D.files desk.old }
+    ensures later { D.faults desk.old ≤ D.faults desk.new }
+    ensures cause { HasRisen (stopped result) (D.faults desk.old) (D.faults desk.new) }
+{
+    let mut sums = sums;
+    'layers: for n in 0..round.least {
+        sums = send_layer(alloc, want, rates, round.first + n, layout_of(round, n), sums, desk)?;
+    }
+    if round.least < round.count {
+        return Err(WorkFault::Over(budget_of(round)));
+    }
+    Ok(sums)
+}
+
+fn rates_of(settings: &Settings) -> Rates
+    ensures { result ≡ rates_of settings.now }
+{
+    Rates {
+        line_width: settings.line_width,
+        layer_height: settings.layer_height,
+        filament_area: settings.filament_area,
+        print_feed: settings.print_feed,
+        travel_feed: settings.travel_feed,
+    }
+}
