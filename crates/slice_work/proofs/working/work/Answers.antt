@@ -1,0 +1,33 @@
+use Rattle.std.proofs.Common.{◌≡◌, ◌<◌, ◌≤◌, ◌+◌, ◌-◌, Ok, Err, refl, sym, ap, ◌∙◌, arith, rules}
+use Rattle.slice_work.specs.declared.fault.WorkFault.{WorkFault}
+use Rattle.slice_work.specs.declared.sums.Sums.{Sums}
+use Rattle.slice_work.specs.Script.{rates_of, stopped}
+use Rattle.slice_work.proofs.Layers.{round_played}
+use Rattle.slice_work.proofs.Rounds.{sums_as, steps_as}
+use Rattle.slice_work.proofs.Stopping.{stops_work}
+use Rattle.slice_work.proofs.Written.{still_there}
+use Rattle.slice_work.proofs.working.work.Goals as goal
+
+pub returns-in_err-round-clause-carries : goal.returns-in_err-round-clause-carries
+returns-in_err-round-clause-carries g c part draws whole rest start left =
+    stops_work whole rest _ WorkFault.Memory start _ (search rules) (_, c.rounds.invariant.carries part draws whole rest start left)
+
+pub returns-in_err-sums-clause-carries : goal.returns-in_err-sums-clause-carries
+returns-in_err-sums-clause-carries g c part draws whole rest start left =
+    let round = c.in_ok-round.round in
+    let is = c.in_ok-round.ensures.round in
+    let kept = c.rounds.invariant in
+    let rates = rates_of c.args.settings.now in
+    let within : c.rounds.first + round.count ≤ c.args.count = search rules in
+    stops_work whole rest _ _ start _ (search rules)
+    (round_played {T = Sums} c.args.want rates part c.rounds.first round.count c.args.count (c.rounds.first + round.count) (stopped (Err c.in_err-sums.field-0))
+    (g.D.Desk.view c.rounds.desk) (g.D.Desk.view c.send_round.new.desk) within refl
+    (steps_as {T = Sums} c.args.want rates _ part c.rounds.first round.first round.count (stopped (Err c.in_err-sums.field-0)) _ _ kept.rates is.start
+    (c.in_err-sums.ensures.carries part (c.in_ok-round.ensures.drawn part draws) (sums_as c.args.want rates _ part c.rounds.first round.first c.rounds.sums kept.rates is.start (kept.sums part draws))))
+    whole rest start (kept.carries part draws whole rest start left))
+
+pub rounds-preserved : goal.rounds-preserved
+rounds-preserved g c = ?
+
+pub returns-in-None-clause-carries : goal.returns-in-None-clause-carries
+returns-in-None-clause-carries g c part draws whole rest start left = (_, c.rounds.invariant.carries part draws whole rest start left)
