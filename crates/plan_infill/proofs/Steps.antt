@@ -1,5 +1,5 @@
 -- Sums over steps.
-use Rattle.std.proofs.Common.{◌≡◌, ◌⊎◌, inl, inr, Bool, true, false, [], ◌∷◌, refl, sym, ap, ◌∙◌, arith, ℕ, ℤ, pos, negsuc, ◌+ℤ◌, ◌-ℤ◌, ◌*ℤ◌, ◌<ℤ◌}
+use Rattle.std.proofs.Common.{◌≡◌, inr, Bool, true, false, [], ◌∷◌, refl, sym, ap, ◌∙◌, arith, ℕ, ℤ, pos, negsuc, ◌+ℤ◌, ◌-ℤ◌, ◌*ℤ◌, ◌<ℤ◌}
 use lib.Signed.{◌≤ℤ◌}
 use Rattle.std.specs.Prelude.{if◌then◌else◌, int_le, int_lt, unsigned_abs, ◌≤◌, ◌&&◌}
 use Rattle.std.proofs.lemmas.Int.{ints}
