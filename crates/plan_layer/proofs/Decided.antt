@@ -77,7 +77,7 @@ module _ (outlines : List (List Pt)) where
           refused = record {
             known = λ e. cc;
             refusal = inl
-                (record { wall = f.wall; there = f.there; accepted = f.accepted; refused = (h.0, (refl, h.1)) });
+                (record { wall = f.wall; there = f.there; accepted = f.accepted; refused = (h.0, refl, h.1) });
           };
         }
 

@@ -89,7 +89,9 @@ module _ (outlines : List (List Pt)) (layer : ℕ) (s : Settings) where
         }
 
     found : (k : ℕ) → AreFound (low +ℤ pos (k * s.infill_spacing))
-    found zero = none_found
+    found zero =
+        let e : 0 ≡ 0 * s.infill_spacing = omega arith in
+        subst (λ (m : ℕ). AreFound (low +ℤ pos m)) e none_found
     found (suc k) =
         let t = one_more_time k s.infill_spacing in
         let e : (low +ℤ pos (k * s.infill_spacing)) +ℤ pos s.infill_spacing ≡ low +ℤ pos (suc k * s.infill_spacing) =
