@@ -21,7 +21,7 @@ use Rattle.print_laws.specs.Program.{rates_of, moves_of, PlansArePrintable}
 use Rattle.print_laws.specs.Extruded.{SidesAreExtruded}
 use Rattle.print_laws.specs.Inside.{StaysInside, MovesStayInside, PrintsStayInside}
 use Rattle.print_laws.proofs.Points.{all_front, all_back}
-use Rattle.print_laws.proofs.Numbered.{AreFrom, from_each}
+use Rattle.print_laws.proofs.Numbered.{AreFrom, from_first}
 
 module _ (s : Settings) (outlines : List (List (List Pt))) where
   abbrev Inside : Move → Type 0
@@ -97,8 +97,9 @@ module _ (s : Settings) (outlines : List (List (List Pt))) where
 pub moves_stay_inside : PlansKeepClear → MovesStayInside
 moves_stay_inside law s layers range p =
     All-from_recursion (λ (m : Move). m.extruding ≡ true → StaysInside s (outlines_of layers) m) (moves_of s layers)
-    (layers_inside s (outlines_of layers) law range 0 0 origin layers (λ k. refl)
-    (from_each (IsPlanned s) 0 layers p.each))
+    (layers_inside s (outlines_of layers) law range 0 0 origin layers
+    (λ k. let e : 0 + k ≡ k = omega arith in ap (slice_get (outlines_of layers)) e)
+    (from_first (IsPlanned s) layers p.each))
 
 pub prints_stay_inside : PlansArePrintable → SidesAreExtruded → MovesStayInside → ProgramsMakeTheirMoves
     → PrintsStayInside

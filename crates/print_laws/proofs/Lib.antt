@@ -5,3 +5,4 @@ pub mod Numbered
 pub mod Printable
 pub mod Extruded
 pub mod Inside
+pub mod ByNumber

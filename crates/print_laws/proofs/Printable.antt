@@ -16,7 +16,7 @@ use Rattle.gcode_text.specs.Amount.{paths_volume, layers_volume}
 use Rattle.gcode_text.specs.Moves.{IsShortPoint, AreShortPaths}
 use Rattle.print_laws.specs.Planned.{PlannedLayer, IsPlanned, ArePlanned, paths_of}
 use Rattle.print_laws.specs.Program.{rates_of, PlansArePrintable}
-use Rattle.print_laws.proofs.Numbered.{AreFrom, from_each}
+use Rattle.print_laws.proofs.Numbered.{AreFrom, from_first}
 use Rattle.print_laws.proofs.Points.{plan_within}
 use Rattle.print_laws.proofs.Volume.{move_limit, paths_most}
 use Rattle.print_laws.proofs.Wound.{moves_within}
@@ -70,9 +70,9 @@ module _ (law : PlansKeepClear) (s : Settings) (range : AreInRange s) where
 
 pub plans_are_printable : PlansKeepClear → PlansArePrintable
 plans_are_printable law s layers range p =
-    let each = from_each (IsPlanned s) 0 layers p.each in
+    let each = from_first (IsPlanned s) layers p.each in
     let number = p.number in
-    let long = length-map (λ (l : PlannedLayer). l.paths) layers in
+    let long = length-map layers (λ (l : PlannedLayer). l.paths) in
     let area = range.filament_area.least in
     let print = range.print_feed.most in
     let travel = range.travel_feed.most in
