@@ -1,5 +1,5 @@
 -- Layers that are given by their numbers.
-use Rattle.std.proofs.Common.{◌≡◌, ◌<◌, ◌≤◌, ◌+◌, ℕ, List, length, map, refl, ◌∙◌, ap, sym, subst, arith, Some}
+use Rattle.std.proofs.Common.{◌≡◌, ◌<◌, ◌≤◌, ℕ, map, ◌∙◌, ap, sym, subst, arith, Some}
 use Rattle.std.specs.Prelude.{slice_get, IsSomeAnd, Option}
 use Rattle.std.specs.List.{range_with_len}
 use Rattle.std.proofs.lemmas.List.FromFn.{length-map-range_with_len, get_or-map-range_with_len}

@@ -1,5 +1,5 @@
 -- Which moves of a program extrude.
-use Rattle.std.proofs.Common.{◌≡◌, ◌+◌, ◌*◌, ℕ, Bool, true, false, not, cond, List, [], ◌∷◌, ◌++◌, map, refl, ap, ap₂}
+use Rattle.std.proofs.Common.{◌≡◌, ◌+◌, ℕ, Bool, true, false, not, cond, List, [], ◌∷◌, ◌++◌, map, refl, ap, ap₂}
 use Rattle.std.proofs.Common.{◌∙◌, sym, ℤ, pos, ◌*ℤ◌, arith}
 use Rattle.std.specs.Prelude.{◌&&◌}
 use Rattle.std.specs.List.{filter}
@@ -14,9 +14,9 @@ use Rattle.winding_laws.specs.Rounded.{has_length}
 use Rattle.plan_layer.specs.Moves.{moves_from, moves, all_moves}
 use Rattle.gcode_text.specs.declared.machine.Move.{Move}
 use Rattle.gcode_text.specs.declared.rates.Rates.{Rates}
-use Rattle.gcode_text.specs.Amount.{move_volume, path_volume, paths_volume, filament}
+use Rattle.gcode_text.specs.Amount.{move_volume, path_volume, paths_volume}
 use Rattle.gcode_text.specs.Machine.{stays, origin}
-use Rattle.gcode_text.specs.Moves.{at_height, travel, printing, printing_moves, path_moves, behind_path, paths_moves}
+use Rattle.gcode_text.specs.Moves.{at_height, printing, printing_moves, path_moves, behind_path, paths_moves}
 use Rattle.gcode_text.specs.Moves.{behind_paths, raised, surface, layer_moves, layers_moves}
 use Rattle.print_laws.specs.Extruded.{way, extruded, way_along, ways_along, ways_from, SidesAreExtruded}
 

@@ -1,7 +1,7 @@
 -- The extruding moves along planned paths stay inside.
-use Rattle.std.proofs.Common.{◌≡◌, ◌+◌, ◌*◌, ◌/◌, ℕ, zero, suc, true, List, [], ◌∷◌, ◌++◌, map, refl, ap, sym, subst}
+use Rattle.std.proofs.Common.{◌≡◌, ◌+◌, ◌/◌, ℕ, suc, true, List, [], ◌∷◌, refl, ap, sym, subst}
 use Rattle.std.proofs.Common.{◌∙◌, arith, Some}
-use Rattle.std.specs.Prelude.{All, slice_get, IsSomeAnd, Option}
+use Rattle.std.specs.Prelude.{slice_get, IsSomeAnd, Option}
 use Rattle.std.specs.List.{AllByRecursion}
 use Rattle.std.proofs.lemmas.List.Elements.{All-from_recursion, recursion_from_All}
 use Rattle.scad_base.proofs.Lists.{AllByRecursion-append}
@@ -14,9 +14,9 @@ use Rattle.plan_layer.specs.Moves.{moves_from, moves, all_moves}
 use Rattle.gcode_text.specs.declared.machine.Move.{Move}
 use Rattle.gcode_text.specs.Amount.{move_volume, path_volume, paths_volume, filament}
 use Rattle.gcode_text.specs.Machine.{origin}
-use Rattle.gcode_text.specs.Moves.{at_height, travel, printing, printing_moves, path_moves, behind_path, paths_moves}
+use Rattle.gcode_text.specs.Moves.{at_height, travel, printing_moves, path_moves, behind_path, paths_moves}
 use Rattle.gcode_text.specs.Moves.{behind_paths, raised, surface, layer_moves, layers_moves, ProgramsMakeTheirMoves}
-use Rattle.print_laws.specs.Planned.{PlannedLayer, IsPlanned, ArePlanned, outlines_of, paths_of}
+use Rattle.print_laws.specs.Planned.{PlannedLayer, IsPlanned, outlines_of, paths_of}
 use Rattle.print_laws.specs.Program.{rates_of, moves_of, PlansArePrintable}
 use Rattle.print_laws.specs.Extruded.{SidesAreExtruded}
 use Rattle.print_laws.specs.Inside.{StaysInside, MovesStayInside, PrintsStayInside}
@@ -87,12 +87,14 @@ module _ (s : Settings) (outlines : List (List (List Pt))) where
       let first : i + 0 ≡ i = omega arith in
       let there : slice_get outlines i ≡ Some l.outlines = ap (slice_get outlines) (sym first) ∙ are 0 in
       AllByRecursion-append Inside (layer_moves (rates_of s) v i here l.paths)
-      (layers_moves (rates_of s) w (i + 1) next (paths_of ls))
-      (travels here up (filament (rates_of s) v), paths_inside i l.outlines there v up l.paths
-      (recursion_from_All (KeepsClear l.outlines (s.line_width / 2)) (all_moves l.paths)
-      (law l.outlines i s l.paths range h.0.plan)))
+      (layers_moves (rates_of s) w (i + 1) next (paths_of ls)) (
+        travels here up (filament (rates_of s) v),
+        paths_inside i l.outlines there v up l.paths
+            (recursion_from_All (KeepsClear l.outlines (s.line_width / 2)) (all_moves l.paths)
+            (law l.outlines i s l.paths range h.0.plan)),
+      )
       (layers_inside law range w (i + 1) next ls (λ k.
-          let e : (i + 1) + k ≡ i + suc k = omega arith in ap (slice_get outlines) e ∙ are (suc k)) h.1)
+      let e : (i + 1) + k ≡ i + suc k = omega arith in ap (slice_get outlines) e ∙ are (suc k)) h.1)
 
 pub moves_stay_inside : PlansKeepClear → MovesStayInside
 moves_stay_inside law s layers range p =

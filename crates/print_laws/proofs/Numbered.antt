@@ -22,4 +22,4 @@ module _ {X : Type 0} (P : ℕ → X → Type 0) where
   pub from_first : (xs : List X) → ((k : ℕ) → k < length xs → IsSomeAnd (slice_get xs k) (P k)) → AreFrom P 0 xs
   from_first xs h =
       from_each 0 xs (λ k there.
-          let e : k ≡ 0 + k = omega arith in subst (λ (n : ℕ). IsSomeAnd (slice_get xs k) (P n)) e (h k there))
+      let e : k ≡ 0 + k = omega arith in subst (λ (n : ℕ). IsSomeAnd (slice_get xs k) (P n)) e (h k there))

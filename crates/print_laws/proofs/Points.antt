@@ -1,5 +1,5 @@
 -- Each point of a plan's paths is an end of one of their moves.
-use Rattle.std.proofs.Common.{◌≡◌, ℕ, Bool, true, false, not, List, [], ◌∷◌, ◌++◌, map, reverse, flat_map, ap, ◌∙◌, sym}
+use Rattle.std.proofs.Common.{ℕ, Bool, true, false, not, List, [], ◌∷◌, ◌++◌, map, reverse, ap, ◌∙◌, sym}
 use Rattle.std.proofs.Common.{subst}
 use Rattle.std.specs.Prelude.{All}
 use Rattle.std.specs.List.{AllByRecursion}
@@ -45,7 +45,8 @@ no_points : (outlines : List (List Pt)) (layer : ℕ) (s : Settings) (paths : Li
     → IsPlan outlines layer s paths → All NoPoint paths
 no_points outlines layer s paths p =
     let w = p.are_walls in
-    subst (All NoPoint) (sym (p.paths_are ∙ ap (λ (ps : List (List Pt)). ps ++ infill_paths layer true p.lines) w.paths_are))
+    subst (All NoPoint)
+    (sym (p.paths_are ∙ ap (λ (ps : List (List Pt)). ps ++ infill_paths layer true p.lines) w.paths_are))
     (All-append NoPoint (wall_paths w.walls) (infill_paths layer true p.lines) (walls_no_points w.walls)
     (infill_no_points layer true p.lines))
 

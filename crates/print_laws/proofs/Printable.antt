@@ -1,6 +1,5 @@
 -- The numbers of the program of planned layers can be written.
-use Rattle.std.proofs.Common.{◌≡◌, ◌≤◌, ◌<◌, ◌+◌, ◌*◌, ◌/◌, ◌^◌, ℕ, List, [], ◌∷◌, length, map, subst, sym, arith}
-use Rattle.std.specs.Prelude.{All}
+use Rattle.std.proofs.Common.{◌≤◌, ◌<◌, ◌+◌, ◌*◌, ◌/◌, ◌^◌, ℕ, List, [], ◌∷◌, length, subst, sym, arith}
 use Rattle.std.specs.List.{AllByRecursion}
 use Rattle.std.proofs.lemmas.List.{length-map}
 use Rattle.std.proofs.lemmas.List.Elements.{All-from_recursion, recursion_from_All}
@@ -14,7 +13,7 @@ use Rattle.plan_layer.specs.Kept.{PlansKeepClear}
 use Rattle.plan_layer.specs.Moves.{all_moves}
 use Rattle.gcode_text.specs.Amount.{paths_volume, layers_volume}
 use Rattle.gcode_text.specs.Moves.{IsShortPoint, AreShortPaths}
-use Rattle.print_laws.specs.Planned.{PlannedLayer, IsPlanned, ArePlanned, paths_of}
+use Rattle.print_laws.specs.Planned.{PlannedLayer, IsPlanned, paths_of}
 use Rattle.print_laws.specs.Program.{rates_of, PlansArePrintable}
 use Rattle.print_laws.proofs.Numbered.{AreFrom, from_first}
 use Rattle.print_laws.proofs.Points.{plan_within}

@@ -1,6 +1,5 @@
 -- Points round which outlines wind lie no farther than the outlines' points do.
-use Rattle.std.proofs.Common.{◌≤◌, ◌⊎◌, inl, inr, ◌≢◌, ℕ, List, flat_map, arith, ℤ, pos, ◌-ℤ◌, ◌<ℤ◌}
-use lib.Signed.{◌≤ℤ◌}
+use Rattle.std.proofs.Common.{◌≤◌, inl, inr, ◌≢◌, ℕ, List, flat_map, arith, ℤ, pos, ◌-ℤ◌}
 use Rattle.std.specs.Prelude.{All, unsigned_abs}
 use Rattle.std.proofs.lemmas.Int.{ints}
 use Rattle.std.proofs.lemmas.List.Elements.{All-weaker}

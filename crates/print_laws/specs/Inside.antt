@@ -15,9 +15,9 @@ use Rattle.print_laws.specs.Extruded.{extruded, ways_from}
 abbrev pub from_above : Move → Edge
 from_above m = record { a = record { x = m.from.x; y = m.from.y }; b = record { x = m.to.x; y = m.to.y } }
 
--- a move lies at the upper surface of a layer, and each point of it keeps half the width of a line, less one micrometre,
--- from each side of that layer's outlines along both axes, and they wind round it; the outlines are those of all layers,
--- from the lowest upwards
+-- a move lies at the upper surface of a layer, and each point of it keeps half the width of a line, less one
+-- micrometre, from each side of that layer's outlines along both axes, and they wind round it; the outlines are those
+-- of all layers, from the lowest upwards
 pub record StaysInside (s : Settings) (outlines : List (List (List Pt))) (m : Move) : Type 0 where
   pub layer : ℕ
   pub from : m.from.z ≡ pos ((layer + 1) * s.layer_height)
@@ -28,8 +28,8 @@ pub record StaysInside (s : Settings) (outlines : List (List (List Pt))) (m : Mo
 abbrev pub StayInside : Settings → List (List (List Pt)) → List Move → Type 0
 StayInside s outlines moves = All (λ m. m.extruding ≡ true → StaysInside s outlines m) moves
 
--- along a program the machine makes the moves of the layers' paths; those that extrude go along the sides of these paths in
--- order, and stay inside the layers' outlines
+-- along a program the machine makes the moves of the layers' paths; those that extrude go along the sides of these
+-- paths in order, and stay inside the layers' outlines
 pub record PrintsInside (s : Settings) (layers : List PlannedLayer) (program : List ℕ) : Type 0 where
   pub moves : List Move
   pub made : machine program ≡ Ok moves
