@@ -1,0 +1,91 @@
+-- The numbers of the program of planned layers can be written.
+use Rattle.std.proofs.Common.{◌≤◌, ◌<◌, ◌+◌, ◌*◌, ◌/◌, ◌^◌, ℕ, List, [], ◌∷◌, length, subst, sym, arith}
+use Rattle.std.specs.List.{AllByRecursion}
+use Rattle.std.proofs.lemmas.List.{length-map}
+use Rattle.std.proofs.lemmas.List.Elements.{All-from_recursion, recursion_from_All}
+use Rattle.std.proofs.lemmas.Nat.{mul-le}
+use Rattle.scad_geom.specs.declared.point.Pt.{Pt}
+use Rattle.scad_geom.specs.Limits.{point_limit}
+use Rattle.scad_geom.specs.Within.{IsWithin, IsEdgeWithin}
+use Rattle.scad_words.specs.declared.settings.Settings.{Settings}
+use Rattle.scad_words.specs.Settings.{AreInRange}
+use Rattle.plan_layer.specs.Kept.{PlansKeepClear}
+use Rattle.plan_layer.specs.Moves.{all_moves}
+use Rattle.gcode_text.specs.Amount.{paths_volume, layers_volume}
+use Rattle.gcode_text.specs.Moves.{IsShortPoint, AreShortPaths}
+use Rattle.print_laws.specs.Planned.{PlannedLayer, IsPlanned, paths_of}
+use Rattle.print_laws.specs.Program.{rates_of, PlansArePrintable}
+use Rattle.print_laws.proofs.Numbered.{AreFrom, from_first}
+use Rattle.print_laws.proofs.Points.{plan_within}
+use Rattle.print_laws.proofs.Volume.{move_limit, paths_most}
+use Rattle.print_laws.proofs.Wound.{moves_within}
+
+-- ---- points
+short : (p : Pt) → IsWithin point_limit p → IsShortPoint p
+short p h = let x = h.x in let y = h.y in (omega (arith, x), omega (arith, y))
+
+path_short : (ps : List Pt) → AllByRecursion (IsWithin point_limit) ps → AllByRecursion IsShortPoint ps
+path_short [] h = tt
+path_short (p ∷ ps) h = (short p h.0, path_short ps h.1)
+
+paths_short : (paths : List (List Pt)) → AllByRecursion (λ path. AllByRecursion (IsWithin point_limit) path) paths
+    → AreShortPaths paths
+paths_short [] h = tt
+paths_short (path ∷ paths) h = (path_short path h.0, paths_short paths h.1)
+
+-- ---- layers
+-- the volume of a layer is at most this
+abbrev layer_volume : ℕ
+layer_volume = 200000 * move_limit
+
+module _ (law : PlansKeepClear) (s : Settings) (range : AreInRange s) where
+  ends_within : (i : ℕ) (l : PlannedLayer) → IsPlanned s i l
+      → AllByRecursion (IsEdgeWithin point_limit) (all_moves l.paths)
+  ends_within i l h =
+      recursion_from_All (IsEdgeWithin point_limit) (all_moves l.paths)
+      (moves_within l.outlines h.within (s.line_width / 2) l.paths (law l.outlines i s l.paths range h.plan))
+
+  layer_short : (i : ℕ) (l : PlannedLayer) → IsPlanned s i l → AreShortPaths l.paths
+  layer_short i l h =
+      paths_short l.paths (plan_within point_limit l.outlines i s l.paths h.plan
+      (All-from_recursion (IsEdgeWithin point_limit) (all_moves l.paths) (ends_within i l h)))
+
+  layers_short : (i : ℕ) (layers : List PlannedLayer) → AreFrom (IsPlanned s) i layers
+      → AllByRecursion AreShortPaths (paths_of layers)
+  layers_short i [] h = tt
+  layers_short i (l ∷ ls) h = (layer_short i l h.0, layers_short (i + 1) ls h.1)
+
+  layer_most : (i : ℕ) (l : PlannedLayer) → IsPlanned s i l → paths_volume (rates_of s) l.paths ≤ layer_volume
+  layer_most i l h =
+      let v = paths_most (rates_of s) range.line_width.most range.layer_height.most l.paths (ends_within i l h) in
+      let n = h.moves in
+      omega (arith, v, n)
+
+  layers_most : (i : ℕ) (layers : List PlannedLayer) → AreFrom (IsPlanned s) i layers
+      → layers_volume (rates_of s) (paths_of layers) ≤ length layers * layer_volume
+  unfolding layers_volume
+  layers_most i [] h = omega arith
+  layers_most i (l ∷ ls) h = let a = layer_most i l h.0 in let b = layers_most (i + 1) ls h.1 in omega (arith, a, b)
+
+pub plans_are_printable : PlansKeepClear → PlansArePrintable
+plans_are_printable law s layers range p =
+    let each = from_first (IsPlanned s) layers p.each in
+    let number = p.number in
+    let long = length-map layers (λ (l : PlannedLayer). l.paths) in
+    let area = range.filament_area.least in
+    let print = range.print_feed.most in
+    let travel = range.travel_feed.most in
+    let hot_end = range.hot_end.most in
+    let bed = range.bed.most in
+    let h = mul-le (length layers) s.layer_height 20000 1000 number range.layer_height.most in
+    let v = layers_most law s range 0 layers each in
+    record {
+      area = omega (arith, area);
+      print_feed = omega (arith, print);
+      travel_feed = omega (arith, travel);
+      temperatures = (omega (arith, hot_end), omega (arith, bed));
+      points = layers_short law s range 0 layers each;
+      count = omega (arith, long, number);
+      height = subst (λ (n : ℕ). n * s.layer_height < 10 ^ 64) (sym long) (omega (arith, h));
+      volume = omega (arith, v, number);
+    }

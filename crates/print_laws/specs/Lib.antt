@@ -1,0 +1,4 @@
+pub mod Planned
+pub mod Program
+pub mod Extruded
+pub mod Inside

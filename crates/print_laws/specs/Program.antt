@@ -1,0 +1,34 @@
+-- The printing program of layers that are planned by settings.
+use Rattle.std.specs.Prelude.{ℕ, List}
+use Rattle.scad_words.specs.declared.settings.Settings.{Settings}
+use Rattle.scad_words.specs.Settings.{AreInRange}
+use Rattle.gcode_text.specs.declared.machine.Move.{Move}
+use Rattle.gcode_text.specs.declared.rates.Rates.{Rates}
+use Rattle.gcode_text.specs.Gcode.{gcode}
+use Rattle.gcode_text.specs.Moves.{program_moves, IsWritable}
+use Rattle.print_laws.specs.Planned.{PlannedLayer, ArePlanned, paths_of}
+
+-- the measures and speeds that settings give
+abbrev pub rates_of : Settings → Rates
+rates_of s = record {
+  line_width = s.line_width;
+  layer_height = s.layer_height;
+  filament_area = s.filament_area;
+  print_feed = s.print_feed;
+  travel_feed = s.travel_feed;
+}
+
+-- the text
+abbrev pub program_of : Settings → List PlannedLayer → List ℕ
+program_of s layers = gcode (rates_of s) s.hot_end s.bed (paths_of layers)
+
+-- the moves along the paths
+abbrev pub moves_of : Settings → List PlannedLayer → List Move
+moves_of s layers = program_moves (rates_of s) (paths_of layers)
+
+-- ---- the law
+-- The numbers of such a program can be written.
+abbrev pub PlansArePrintable : Type 0
+PlansArePrintable =
+    (s : Settings) (layers : List PlannedLayer) → AreInRange s → ArePlanned s layers
+    → IsWritable (rates_of s) s.hot_end s.bed (paths_of layers)
