@@ -5,7 +5,8 @@ use Rattle.std.specs.List.{range_with_len}
 use Rattle.std.proofs.lemmas.List.FromFn.{length-map-range_with_len, get_or-map-range_with_len}
 use Rattle.std.proofs.lemmas.Option.{slice_get-get_or}
 use Rattle.scad_words.specs.declared.settings.Settings.{Settings}
-use Rattle.print_laws.specs.Planned.{PlannedLayer, IsPlanned, ArePlanned, layer_limit}
+use Rattle.slice_work.specs.Part.{layer_limit}
+use Rattle.print_laws.specs.Planned.{PlannedLayer, IsPlanned, ArePlanned}
 
 made_at : (f : ℕ → PlannedLayer) (n i : ℕ) → i < n → slice_get (map f (range_with_len 0 n)) i ≡ Some (f i)
 made_at f n i h =

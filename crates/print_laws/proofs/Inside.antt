@@ -17,7 +17,8 @@ use Rattle.gcode_text.specs.Machine.{origin}
 use Rattle.gcode_text.specs.Moves.{at_height, travel, printing_moves, path_moves, behind_path, paths_moves}
 use Rattle.gcode_text.specs.Moves.{behind_paths, raised, surface, layer_moves, layers_moves, ProgramsMakeTheirMoves}
 use Rattle.print_laws.specs.Planned.{PlannedLayer, IsPlanned, outlines_of, paths_of}
-use Rattle.print_laws.specs.Program.{rates_of, moves_of, PlansArePrintable}
+use Rattle.slice_work.specs.Script.{rates_of}
+use Rattle.print_laws.specs.Program.{moves_of, PlansArePrintable}
 use Rattle.print_laws.specs.Extruded.{SidesAreExtruded}
 use Rattle.print_laws.specs.Inside.{StaysInside, MovesStayInside, PrintsStayInside}
 use Rattle.print_laws.proofs.Points.{all_front, all_back}

@@ -14,7 +14,8 @@ use Rattle.plan_layer.specs.Moves.{all_moves}
 use Rattle.gcode_text.specs.Amount.{paths_volume, layers_volume}
 use Rattle.gcode_text.specs.Moves.{IsShortPoint, AreShortPaths}
 use Rattle.print_laws.specs.Planned.{PlannedLayer, IsPlanned, paths_of}
-use Rattle.print_laws.specs.Program.{rates_of, PlansArePrintable}
+use Rattle.slice_work.specs.Script.{rates_of}
+use Rattle.print_laws.specs.Program.{PlansArePrintable}
 use Rattle.print_laws.proofs.Numbered.{AreFrom, from_first}
 use Rattle.print_laws.proofs.Points.{plan_within}
 use Rattle.print_laws.proofs.Volume.{move_limit, paths_most}

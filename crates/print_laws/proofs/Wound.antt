@@ -77,9 +77,9 @@ module _ (outlines : List (List Pt)) (within : All (λ l. All (IsWithin point_li
 
   not_beyond : (layer : ℕ) (z t : ℤ) → IsDeep outlines 0 (point_on (line_at layer z) t) → unsigned_abs z ≤ point_limit
   not_beyond layer z t d = elim (order least z) [
-    | inr o ↦ absurd (nothing_beyond outlines within layer least most z t (inl o) (among layer) 0 d)
+    | inr o ↦ absurd (nothing_beyond outlines layer least most z t (inl o) (among layer) 0 d)
     | inl o ↦ elim (order z most) [
-      | inr k ↦ absurd (nothing_beyond outlines within layer least most z t (inr k) (among layer) 0 d)
+      | inr k ↦ absurd (nothing_beyond outlines layer least most z t (inr k) (among layer) 0 d)
       | inl k ↦ omega (arith, ints, o, k)
     ]
   ]

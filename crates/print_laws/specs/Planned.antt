@@ -6,6 +6,7 @@ use Rattle.scad_geom.specs.Within.{IsWithin}
 use Rattle.scad_words.specs.declared.settings.Settings.{Settings}
 use Rattle.plan_layer.specs.Moves.{all_moves, move_limit}
 use Rattle.plan_layer.specs.Plan.{IsPlan}
+use Rattle.slice_work.specs.Part.{layer_limit}
 
 -- a layer: its outlines, and the paths along which it is printed
 pub record PlannedLayer : Type 0 where
@@ -17,10 +18,6 @@ pub record IsPlanned (s : Settings) (i : ℕ) (layer : PlannedLayer) : Type 0 wh
   pub within : All (λ l. All (IsWithin point_limit) l) layer.outlines
   pub plan : IsPlan layer.outlines i s layer.paths
   pub moves : length (all_moves layer.paths) ≤ move_limit
-
--- a print has at most so many layers
-abbrev pub layer_limit : ℕ
-layer_limit = 20000
 
 -- each of the layers, and not too many of them
 pub record ArePlanned (s : Settings) (layers : List PlannedLayer) : Type 0 where

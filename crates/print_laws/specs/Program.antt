@@ -3,20 +3,10 @@ use Rattle.std.specs.Prelude.{ℕ, List}
 use Rattle.scad_words.specs.declared.settings.Settings.{Settings}
 use Rattle.scad_words.specs.Settings.{AreInRange}
 use Rattle.gcode_text.specs.declared.machine.Move.{Move}
-use Rattle.gcode_text.specs.declared.rates.Rates.{Rates}
 use Rattle.gcode_text.specs.Gcode.{gcode}
 use Rattle.gcode_text.specs.Moves.{program_moves, IsWritable}
+use Rattle.slice_work.specs.Script.{rates_of}
 use Rattle.print_laws.specs.Planned.{PlannedLayer, ArePlanned, paths_of}
-
--- the measures and speeds that settings give
-abbrev pub rates_of : Settings → Rates
-rates_of s = record {
-  line_width = s.line_width;
-  layer_height = s.layer_height;
-  filament_area = s.filament_area;
-  print_feed = s.print_feed;
-  travel_feed = s.travel_feed;
-}
 
 -- the text
 abbrev pub program_of : Settings → List PlannedLayer → List ℕ
