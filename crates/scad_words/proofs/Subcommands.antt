@@ -27,14 +27,12 @@ met : (m : ArgMatches) (name : Text) (rows : List Row) → subcommand_name_of m 
     → subcommand_rows_of m ≡ Some (name, rows)
 met m name rows h k = both (out-ArgMatches m).subcommand _ _ name rows h k
 
--- the job of a parse that met a subcommand, by the values that it gives
-pub given_is : (m : ArgMatches) (name : Text) (f : Found) (model cli settings : Option Text) → subcommand_name_of m ≡ Some name
+-- the job of a parse that met a subcommand, by what it was given
+pub given_is : (m : ArgMatches) (name : Text) (f : Found) → subcommand_name_of m ≡ Some name
     → option_map (λ (p : Text × List Row). p.1) (subcommand_rows_of m) ≡ Some (rows_of f)
-    → model ≡ first_value f (codes "model") → cli ≡ first_value f (codes "cli") → settings ≡ first_value f (codes "settings")
-    → option_and_then job_from (subcommand_rows_of m) ≡ job_given name model cli settings
-given_is m name f model cli settings named rows is_model is_cli is_settings =
+    → option_and_then job_from (subcommand_rows_of m) ≡ job_given name (rows_of f)
+given_is m name f named rows =
     ap (λ (o : Option (Text × List Row)). option_and_then job_from o) (met m name (rows_of f) named rows)
-    ∙ sym (rw (is_model ∙ first_value-rows f (codes "model"), is_cli ∙ first_value-rows f (codes "cli"), is_settings ∙ first_value-rows f (codes "settings")) refl)
 
 -- the words have a job where clap takes them, and none where it finds a fault
 taken : (words : List Text) → fault_of command_set words ≡ [] → job_of words ≡ option_and_then job_from (subcommand_of command_set words)
