@@ -1,0 +1,2 @@
+mod Holes
+mod Length

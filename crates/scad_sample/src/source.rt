@@ -1,5 +1,5 @@
 //! The text of a sample.
-ghost use Rattle.std.specs.Prelude.{◌≡◌, ◌++◌, ◌+◌, ◌*◌, ◌/◌, ◌%◌, ◌<◌, ◌≤◌, ◌^◌, IfOk, OnOk};
+ghost use Rattle.std.specs.Prelude.{◌≡◌, [], ◌∷◌, ◌++◌, ◌+◌, ◌*◌, ◌/◌, ◌%◌, ◌<◌, ◌≤◌, ◌^◌, length, IfOk, OnOk};
 ghost use Rattle.std.specs.List.{flat_map, range_with_len};
 ghost use Rattle.std.specs.Fmt.{decimal};
 ghost use Rattle.gcode_text.specs.Numeral.{last_digits, fixed};
@@ -11,9 +11,10 @@ use scad_fault::Text;
 use std::alloc::{AllocError, Global};
 
 /// The sample of this number, as the text of a source: a plate of 100 by 100 by 2 millimetres with 36 holes in six rows,
-/// of radii from 2 to 6 millimetres.
+/// of radii from 2 to 6 millimetres. It has at most 8,192 bytes.
 pub fn sample_source(alloc: Global, n: u32) -> Result<Text, AllocError>
-    ensures { IfOk result (λ text. text ≡ sample_text n) }
+    ensures text { IfOk result (λ text. text ≡ sample_text n) }
+    ensures short { IfOk result (λ text. length text ≤ 8192) }
 {
     let mut out = Vec::new(alloc);
     push_plate_start(&mut out)?;
@@ -104,7 +105,8 @@ fn push_three_digits(out: &mut Vec<u8>, n: u32) -> Result<(), AllocError>
 fn push_digit(out: &mut Vec<u8>, n: u32) -> Result<(), AllocError>
     ensures { OnOk result (out.new.items ≡ out.old.items ++ (48 + n % 10) ∷ []) }
 {
-    out.push(b'0' + (n % 10) as u8)
+    out.push(b'0' + (n % 10) as u8)?;
+    Ok(())
 }
 
 fn push_number(out: &mut Vec<u8>, n: u32) -> Result<(), AllocError>

@@ -1,5 +1,5 @@
 //! What a command was given: its files, its number and its options.
-ghost use Rattle.std.specs.Prelude.{◌≡◌, ◌≢◌, Some, None, IfOk, IfErr, Err, codes, option_map, option_and_then};
+ghost use Rattle.std.specs.Prelude.{◌≡◌, ◌≢◌, ◌≤◌, Some, None, IfSome, IfOk, IfErr, Err, codes, option_map, option_and_then};
 ghost use Rattle.clap.specs.Matches.{found_of};
 ghost use Rattle.clap.specs.Walk.{rows_of, first_of};
 ghost use Rattle.scad_words.specs.Numbers.{sample_of};
@@ -84,7 +84,8 @@ pub(crate) fn settings(
 
 /// How many workers are asked for: one where no number is given.
 pub(crate) fn workers(given: &ArgMatches<'_>) -> Option<u32>
-    ensures { result ≡ workers_in (rows_of (found_of given.now)) }
+    ensures number { result ≡ workers_in (rows_of (found_of given.now)) }
+    ensures range { IfSome result (λ w. (1 ≤ w) × (w ≤ 64)) }
 {
     match value(given, "workers") {
         Some(text) => workers_of(text),

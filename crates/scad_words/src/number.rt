@@ -6,13 +6,15 @@ ghost use Rattle.scad_words.specs.Numbers.{is_number, number_of, if_workers, wor
 
 /// How many workers a text says: from 1 to 64, in at most nine digits.
 pub(crate) fn workers_of(text: &str) -> Option<u32>
-    ensures { result ≡ workers_of text.now }
+    ensures number { result ≡ workers_of text.now }
+    ensures range { IfSome result (λ w. (1 ≤ w) × (w ≤ 64)) }
 {
     if_workers(number_of(text, 9)?)
 }
 
 fn if_workers(n: u64) -> Option<u32>
-    ensures { result ≡ if_workers n }
+    ensures number { result ≡ if_workers n }
+    ensures range { IfSome result (λ w. (1 ≤ w) × (w ≤ 64)) }
 {
     if 1 <= n && n <= 64 {
         Some(n as u32)

@@ -1,5 +1,5 @@
 //! The job that the words ask for.
-ghost use Rattle.std.specs.Prelude.{◌≡◌, map, Some, None, option_and_then, IfOk, Err, ◌≢◌, string_bytes, not, bytes_eq, ◌++◌, [], ◌∷◌};
+ghost use Rattle.std.specs.Prelude.{◌≡◌, ◌≤◌, map, Some, None, option_and_then, IfOk, Err, ◌≢◌, string_bytes, not, bytes_eq, ◌++◌, [], ◌∷◌};
 ghost use Rattle.std.specs.List.{list_any};
 ghost use Rattle.clap.specs.Matches.{found_of};
 ghost use Rattle.clap.specs.Simple.{app_of, subcommand_rows_of};
@@ -22,6 +22,7 @@ use std::alloc::{AllocError, Global};
 /// of no such form the answer is `Usage`.
 pub fn read_words(alloc: Global, words: &[String]) -> Result<Job, WordFault>
     ensures job { IfOk result (λ job. job_of (map string_bytes words.now) ≡ Some job) }
+    ensures workers { IfOk result (λ job. (1 ≤ job.workers) × (job.workers ≤ 64)) }
     ensures usage { (result ≡ Err WordFault.Usage) → (job_of (map string_bytes words.now) ≡ None) }
 {
     match command_set(alloc) {
@@ -38,6 +39,7 @@ fn asked<'a>(
 ) -> Result<Job, WordFault>
     requires { app_of commands ≡ command_set }
     ensures job { IfOk result (λ job. job_of (map string_bytes words.now) ≡ Some job) }
+    ensures workers { IfOk result (λ job. (1 ≤ job.workers) × (job.workers ≤ 64)) }
     ensures usage { (result ≡ Err WordFault.Usage) → (job_of (map string_bytes words.now) ≡ None) }
 {
     match commands.try_get_matches_from(words) {
@@ -61,6 +63,7 @@ fn refusal(kind: ErrorKind) -> WordFault
 // The job of the command that the words name.
 fn job_met(alloc: Global, matches: &ArgMatches<'_>) -> Result<Job, WordFault>
     ensures job { IfOk result (λ job. option_and_then job_from (subcommand_rows_of matches.now) ≡ Some job) }
+    ensures workers { IfOk result (λ job. (1 ≤ job.workers) × (job.workers ≤ 64)) }
     ensures usage { (result ≡ Err WordFault.Usage) → (option_and_then job_from (subcommand_rows_of matches.now) ≡ None) }
 {
     match matches.subcommand() {
@@ -72,6 +75,7 @@ fn job_met(alloc: Global, matches: &ArgMatches<'_>) -> Result<Job, WordFault>
 // The job of a command's name and of what it was given.
 fn job_given(alloc: Global, name: &str, given: &ArgMatches<'_>) -> Result<Job, WordFault>
     ensures job { IfOk result (λ job. job_given name.now (rows_of (found_of given.now)) ≡ Some job) }
+    ensures workers { IfOk result (λ job. (1 ≤ job.workers) × (job.workers ≤ 64)) }
     ensures usage { (result ≡ Err WordFault.Usage) → (job_given name.now (rows_of (found_of given.now)) ≡ None) }
 {
     let command = command_of(alloc, name, given)?;
