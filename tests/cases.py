@@ -3,6 +3,8 @@
     words                the words behind the program's name, one a line
     model.scad           the source, where there is one
     settings.toml        the settings, where there are some
+    workers              numbers of workers, one a line, where there are some: with each of them, by the
+                         option behind the words, the same must come
     report               what must stand on standard output
     status               the exit status, where it isn't 0
     outlines.cli         the outlines that must be written, or their checksum: outlines.cli.sha256
@@ -13,15 +15,16 @@ The words name these files. A file that isn't there must not be written. The par
 
 import os
 import re
+from dataclasses import replace
 
-from check import Check, Checksum, Exactly
+from check import Check, Checksum, Each, Exactly
 
 TESTS = os.path.dirname(os.path.realpath(__file__))
 FOLDER = os.path.join(TESTS, "cases")
 EXAMPLES = os.path.join(os.path.dirname(TESTS), "examples")
 GIVEN = ("model.scad", "settings.toml")
 WRITTEN = ("outlines.cli", "print.gcode")
-KNOWN = {"words", "report", "status", *GIVEN, *WRITTEN, *(f"{name}.sha256" for name in WRITTEN)}
+KNOWN = {"words", "report", "status", "workers", *GIVEN, *WRITTEN, *(f"{name}.sha256" for name in WRITTEN)}
 
 
 class BadCase:
@@ -71,7 +74,7 @@ def read_case(name):
         raise ValueError(f"the file {file} has no meaning")
     for file in {"words", "report"} - files.keys():
         raise ValueError(f"the file {file} is missing")
-    return Check(
+    check = Check(
         name=name,
         words=lines_of(files["words"]),
         status=status_of(files.get("status", b"0")),
@@ -79,6 +82,13 @@ def read_case(name):
         given={it: files[it] for it in GIVEN if it in files},
         left={it: written for it in WRITTEN if (written := written_in(files, it))},
     )
+    return Each(name, checks_by_workers(check, files["workers"])) if "workers" in files else check
+
+
+def checks_by_workers(check, numbers):
+    """The check with the option behind its words, for each of these numbers of workers."""
+    told = [(number.decode(), [*check.words, b"--workers", number]) for number in lines_of(numbers)]
+    return {f"{number} workers": replace(check, words=words) for number, words in told}
 
 
 def written_in(files, name):
@@ -95,7 +105,7 @@ def written_in(files, name):
 def lines_of(text):
     *lines, rest = text.split(b"\n")
     if rest:
-        raise ValueError("the last line of words has no end")
+        raise ValueError("the last line of words or workers has no end")
     return lines
 
 

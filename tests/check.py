@@ -71,6 +71,17 @@ class Check:
         return compared(self, run(self, program))
 
 
+class Each:
+    """Several checks under one name, each by what tells it apart; they are tried in turn."""
+
+    def __init__(self, name, checks):
+        self.name, self.checks = name, checks
+
+    def tried(self, program):
+        """What differs, with what tells the check apart before it."""
+        return [f"{which}: {why}" for which, check in self.checks.items() for why in check.tried(program)]
+
+
 @dataclass
 class Outcome:
     status: int

@@ -1,6 +1,6 @@
-"""Checks of each exit status and of the streams: standard output, standard error and the files.
+"""Checks of `slice`, its exit statuses and the streams: standard output, standard error and the files.
 
-Status 3, faulty settings, can't be brought about: no word names settings yet.
+Status 3, refused settings, is brought about by golden cases.
 """
 
 import shlex
@@ -34,14 +34,14 @@ def told(lines, last=b""):
     return b"".join(b"ECHO: %s\n" % it for it in lines) + last
 
 
-def outlines(size):
-    """The outlines of a cube of so many millimetres."""
-    layers, side = 5 * size, 1000 * size
+def outlines(size, layers=None, thick=200):
+    """The outlines of a cube of so many millimetres, or of another number of layers as thick as said."""
+    layers, side = layers or 5 * size, 1000 * size
     square = f"$$POLYLINE/1,1,5,0,0,{side},0,{side},{side},0,{side},0,0"
     lines = ["$$HEADERSTART", "$$ASCII", "$$UNITS/0.001", "$$VERSION/200", f"$$LAYERS/{layers}"]
     lines += ["$$HEADEREND", "$$GEOMETRYSTART"]
     for layer in range(1, layers + 1):
-        lines += [f"$$LAYER/{200 * layer}", square]
+        lines += [f"$$LAYER/{thick * layer}", square]
     return "\n".join([*lines, "$$GEOMETRYEND", ""]).encode()
 
 

@@ -1,0 +1,1 @@
+echo("wide"); cube([2,2,0.4]); translate([0,0,0.2]) cylinder(h=0.2,r=50,$fn=10001);

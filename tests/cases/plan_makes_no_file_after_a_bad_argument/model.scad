@@ -1,0 +1,1 @@
+echo("first"); cube("10");

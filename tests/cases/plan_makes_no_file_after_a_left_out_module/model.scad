@@ -1,0 +1,1 @@
+echo(1); minkowski(){cube(1); cube(1);}

@@ -1,0 +1,1 @@
+cube(width(2));

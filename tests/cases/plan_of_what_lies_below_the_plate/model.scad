@@ -1,0 +1,1 @@
+translate([0,0,-3]) cube(2);

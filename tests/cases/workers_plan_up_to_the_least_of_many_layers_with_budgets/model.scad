@@ -1,0 +1,1 @@
+cube([1,1,4]); translate([0,0,0.6]) cylinder(h=0.2,r=50,$fn=10001);translate([0,0,1]) cylinder(h=0.2,r=50,$fn=10001);translate([0,0,1.2]) cylinder(h=0.2,r=50,$fn=10001);translate([0,0,3]) cylinder(h=0.2,r=50,$fn=10001);
