@@ -2,7 +2,6 @@
 use Rattle.std.proofs.Common.{◌≡◌, ◌+◌, ◌<◌, ◌≤◌, List, [], ◌∷◌, ℕ, Option, Some, None, Result, Ok, Err, refl, sym, ap, ap₂, ◌∙◌, subst, arith}
 use Rattle.std.specs.Prelude.{IsSomeAnd, map, length, slice_get, All}
 use Rattle.std.specs.List.{range_with_len}
-use Rattle.std.proofs.lemmas.List.FromFn.{length-map-range_with_len}
 use Rattle.scad_fault.specs.declared.budget.Budget.{Budget}
 use Rattle.scad_geom.specs.declared.point.Pt.{Pt}
 use Rattle.scad_geom.specs.Limits.{point_limit}
@@ -20,7 +19,7 @@ use Rattle.gcode_text.specs.Gcode.{gcode}
 use Rattle.slice_work.specs.Script.{rates_of}
 use Rattle.scad_slice.specs.Budgets.{layer_budget}
 use Rattle.scad_slice.specs.Parts.{IsLaidOut, IsLayerUnless, IsLayer, IsPart, AreMade, layer_at, layers_of, plans_of}
-use Rattle.scad_slice.proofs.Holding.{made_at}
+use Rattle.print_laws.proofs.ByNumber.{planned_by_number}
 use Rattle.slice_layer.proofs.Within.{outlines_are_within}
 use Rattle.scad_tool.specs.Headline.{planned_of}
 
@@ -55,19 +54,9 @@ layer_planned s tree i layout None solids (outlines, are, (same, accepted)) =
 pub are_planned : (s : SettingsOfRun) (tree : Solid) (part : Part) (n : ℕ) → AreSolids tree → AreInRange s → IsPart IsPlan s tree part → n ≤ layer_limit
     → AreMade part n → ArePlanned s (planned_of part n)
 are_planned s tree part n solids in_range is_part few made =
-    let number : length (planned_of part n) ≡ n = length-map-range_with_len (planned_at part) 0 n in
-    record {
-      number = omega (arith, number, few);
-      each = λ i inside.
-          let within : i < n = omega (arith, inside, number) in
-          let layout = made i within in
-          let layer = subst (IsLayer IsPlan s tree i) layout.1 (is_part solids in_range i) in
-          let planned = layer_planned s tree i layout.0 (layer_budget s.layer_height tree i) solids layer in
-          let is : record { outlines = layout.0.outlines; paths = layout.0.paths } ≡ planned_at part i =
-          ap (λ (l : Result Layout Budget). record { outlines = outlines_of l; paths = paths_of IsPlan l }) (sym layout.1)
-          in
-          let there : slice_get (planned_of part n) i ≡ Some (planned_at part i) =
-          made_at (planned_at part) 0 n i within ∙ ap (λ k. Some (planned_at part k)) (omega arith)
-          in
-          subst (λ (found : Option PlannedLayer). IsSomeAnd found (IsPlanned s i)) (sym there) (subst (IsPlanned s i) is planned);
-    }
+    planned_by_number s (planned_at part) n few
+    (λ i within.
+    let layout = made i within in
+    let layer = subst (IsLayer IsPlan s tree i) layout.1 (is_part solids in_range i) in
+    let planned = layer_planned s tree i layout.0 (layer_budget s.layer_height tree i) solids layer in
+    subst (λ (l : Result Layout Budget). IsPlanned s i (record { outlines = outlines_of l; paths = paths_of IsPlan l })) (sym layout.1) planned)

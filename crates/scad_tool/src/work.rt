@@ -1,5 +1,5 @@
 //! The work of a command, up to the report's last line.
-ghost use Rattle.std.specs.Prelude.{◌≡◌, ◌×◌, ◌<◌, ◌≤◌, ◌-◌, ◌^◌, false, Some, length, map, string_bytes, IfOk, IfErr, OnOk};
+ghost use Rattle.std.specs.Prelude.{◌≡◌, ◌<◌, ◌≤◌, ◌-◌, ◌^◌, false, Some, length, map, string_bytes, IfOk, IfErr, OnOk};
 ghost use Rattle.scad_script.specs.Script.{IsWithin};
 ghost use Rattle.scad_script.specs.Played.{Carries, Completes, HasRisen};
 ghost use Rattle.scad_script.specs.Run.{Sound, CreatesNone};
