@@ -11,19 +11,21 @@ use Rattle.scad_tool.specs.Answer.{judged_script, settings_script, accepted, set
 
 judged_has : (P : Script → Type 0) (meant : Result Settings SetFault) (follows : Settings → Script)
     → ((settings : Settings) → accepted meant ≡ Some settings → P (follows settings))
-    → ((fault : SetFault) → P (ends (Refuses (IsSettings fault)))) → P (judged_script meant follows)
+    → ((fault : SetFault) → meant ≡ Err fault → P (ends (Refuses (IsSettings fault)))) → P (judged_script meant follows)
 judged_has P (Ok settings) follows found refused = found settings refl
-judged_has P (Err fault) follows found refused = refused fault
+judged_has P (Err fault) follows found refused = refused fault refl
 
 -- what holds where the settings are found, where they are refused or missing, and with one reading more
 pub settings_have : (P : Script → Type 0) (name read : Option (List ℕ)) (follows : Settings → Script)
     → ((settings : Settings) → settings_found name read ≡ Some settings → P (follows settings))
-    → ((file : List ℕ) (rest : Script) → name ≡ Some file → P rest → P (first (Reads file ∷ []) rest))
-    → P (ends Lacks) → ((fault : SetFault) → P (ends (Refuses (IsSettings fault)))) → P (settings_script name read follows)
+    → ((file : List ℕ) (rest : Script) → name ≡ Some file → P rest → P (first (Reads file ∷ []) rest)) → P (ends Lacks)
+    → ((file text : List ℕ) (fault : SetFault) → name ≡ Some file → read ≡ Some text → settings_of text ≡ Err fault → P (ends (Refuses (IsSettings fault))))
+    → P (settings_script name read follows)
 settings_have P None read follows found reads lacks refused = found default_settings refl
 settings_have P (Some file) None follows found reads lacks refused = reads file (ends Lacks) refl lacks
 settings_have P (Some file) (Some text) follows found reads lacks refused =
-    reads file (judged_script (settings_of text) follows) refl (judged_has P (settings_of text) follows found refused)
+    reads file (judged_script (settings_of text) follows) refl
+    (judged_has P (settings_of text) follows found (λ fault is. refused file text fault refl refl is))
 
 judged_one : (meant : Result Settings SetFault) (f g : Settings → Script)
     → ((settings : Settings) → accepted meant ≡ Some settings → f settings ≡ g settings) → judged_script meant f ≡ judged_script meant g

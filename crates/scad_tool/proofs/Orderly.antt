@@ -1,9 +1,9 @@
--- The script of every words, every source and every drawing is orderly.
+-- The script of all words, every source and all parts is orderly.
 use Rattle.std.proofs.Common.{◌≡◌, ◌≢◌, ◌⊎◌, ◌++◌, List, [], ◌∷◌, ℕ, Bool, true, false, Option, Some, None, inl, inr, refl, sym, subst, arith, nat_lt}
 use Rattle.std.specs.Prelude.{if◌then◌else◌}
 use Rattle.scad_io.specs.declared.desk.Out.TheVariants.{Report}
 use Rattle.scad_words.specs.declared.job.Command.{Command}
-use Rattle.scad_words.specs.declared.job.Command.TheVariants.{Check, Tree, Slice}
+use Rattle.scad_words.specs.declared.job.Command.TheVariants.{Check, Tree, Slice, Plan, Sample}
 use Rattle.scad_words.specs.declared.job.Job.{Job}
 use Rattle.scad_words.specs.declared.settings.Settings.{Settings as SettingsOfRun}
 use Rattle.scad_words.specs.Job.{job_of}
@@ -13,7 +13,7 @@ use Rattle.scad_script.specs.declared.loading.Input.{Input}
 use Rattle.scad_script.specs.declared.loading.Input.TheVariants.{Whole, Long}
 use Rattle.scad_script.specs.Steps.{Step, Reads, Sends, reading, echoing}
 use Rattle.scad_script.specs.Script.{Script, Ending, Finishes, Refuses, Lacks, first, ends}
-use Rattle.scad_script.specs.Names.{Given, UsesGiven, AllFrom, OnlyReads, IsOrderly}
+use Rattle.scad_script.specs.Names.{Given, UsesGiven, IsAmong, AllFrom, OnlyReads, IsOrderly}
 use Rattle.scad_script.proofs.Layers.{lacks_nothing}
 use Rattle.scad_expr.specs.declared.fault.EvalFault.TheVariants.{Fault, Over, Memory}
 use Rattle.scad_expr.specs.State.{Outcome, gives, refuses}
@@ -21,13 +21,16 @@ use Rattle.scad_tree.specs.Solid.{Solid}
 use Rattle.scad_tree.specs.Order.{leaves as leaf_count}
 use Rattle.scad_tree.specs.Sizes.{triangle_count}
 use Rattle.scad_tree.specs.Text.{text_of as tree_text}
-use Rattle.scad_slice.specs.Budgets.{layer_count, layer_limit, layers_passed}
-use Rattle.scad_slice.specs.Script.{slice_script}
-use Rattle.scad_slice.proofs.Orderly.{DrawsInOrder, slice_draws}
+use Rattle.slice_work.specs.declared.want.Want.TheVariants.{Outlines as IsOutlines, Plan as IsPlan}
+use Rattle.slice_work.specs.Part.{Part, layer_limit}
+use Rattle.scad_slice.specs.Budgets.{layer_count, layers_passed}
+use Rattle.scad_slice.specs.Script.{plan_script}
+use Rattle.scad_slice.proofs.Orderly.{DrawsInOrder, slice_draws, plan_draws}
+use Rattle.scad_words.specs.Job.{named}
 use Rattle.scad_tool.specs.Words.{model_of, given_names, given_of, given_by}
 use Rattle.scad_tool.specs.Meaning.{source_means}
-use Rattle.scad_tool.specs.Told.{echo_text, echoed, ok_line, check_end, check_script, tree_script, told}
-use Rattle.scad_tool.specs.Answer.{Drawings, Inputs, source_script, input_script, model_script, job_script, script_of}
+use Rattle.scad_tool.specs.Told.{echo_text, echoed, ok_line, check_end, with_line, told}
+use Rattle.scad_tool.specs.Answer.{Parts, Inputs, follows, input_script, model_read_first, model_script, source_of, job_script, script_of}
 use Rattle.scad_tool.proofs.Following.{settings_have}
 
 -- steps that only read or draw may stand behind a reading
@@ -59,26 +62,39 @@ end_if : (refusal : Refusal) (line : List ℕ) (b : Bool) → (if b then Refuses
 end_if refusal line true same = let never : ⊥ = cc in absurd never
 end_if refusal line false same = let never : ⊥ = cc in absurd never
 
-source_orderly : (command : Command) (name : Option (List ℕ)) (settings : SettingsOfRun) (drawings : Drawings) (source : List ℕ)
-    → IsOrderly (given_names command name) (source_script command settings drawings source)
-source_orderly (Check model) name settings drawings source =
-    let h = settings.layer_height in
-    told_orderly (given_names (Check model) name) (check_script h) (source_means source)
-    (λ tree. ends_in_order _ (check_end (leaf_count tree) (triangle_count tree) (layer_count h tree))
-    (end_if (IsOver (layers_passed (layer_count h tree))) (ok_line (leaf_count tree) (triangle_count tree) (layer_count h tree)) (nat_lt layer_limit (layer_count h tree))))
-source_orderly (Tree model) name settings drawings source =
-    told_orderly (given_names (Tree model) name) tree_script (source_means source)
-    (λ tree. ends_in_order _ (Finishes (tree_text tree)) (λ same. let never : ⊥ = cc in absurd never))
-source_orderly (Slice model cli) name settings drawings source =
-    let h = settings.layer_height in
-    told_orderly (given_names (Slice model cli) name) (slice_script h cli (drawings h)) (source_means source)
-    (λ tree. slice_draws h (given_names (Slice model cli) name) cli (drawings h) tree refl)
+-- a plan's script lacks nothing, and so does that of a sample
+plan_there : (settings : SettingsOfRun) (part : Part) (tree : Solid) → (plan_script settings [] [] part tree).ending ≢ Lacks
+plan_there settings part tree =
+    (plan_draws settings (record { input = []; cli = Some []; gcode = Some [] }) [] [] part tree refl refl).there
 
-input_orderly : (command : Command) (name : Option (List ℕ)) (settings : SettingsOfRun) (drawings : Drawings) (input : Option Input)
-    → IsOrderly (given_names command name) (input_script command settings drawings input)
-input_orderly command name settings drawings None = record { steps = tt; lacks = tt }
-input_orderly command name settings drawings (Some Long) = record { steps = tt; lacks = tt }
-input_orderly command name settings drawings (Some (Whole source)) = source_orderly command name settings drawings source
+line_there : (line : List ℕ) (ending : Ending) → ending ≢ Lacks → with_line line ending ≢ Lacks
+line_there line (Finishes other) there same = let never : ⊥ = cc in absurd never
+line_there line (Refuses refusal) there same = let never : ⊥ = cc in absurd never
+line_there line Lacks there same = there refl
+
+-- what follows a tree draws in order
+follows_draws : (command : Command) (name : Option (List ℕ)) (settings : SettingsOfRun) (parts : Parts) (tree : Solid)
+    → DrawsInOrder (given_names command name) (follows command settings parts tree)
+follows_draws (Check model) name settings parts tree =
+    let count = layer_count settings.layer_height tree in
+    ends_in_order _ (check_end (leaf_count tree) (triangle_count tree) count)
+    (end_if (IsOver (layers_passed count)) (ok_line (leaf_count tree) (triangle_count tree) count) (nat_lt layer_limit count))
+follows_draws (Tree model) name settings parts tree =
+    ends_in_order _ (Finishes (tree_text tree)) (λ same. let never : ⊥ = cc in absurd never)
+follows_draws (Slice model cli) name settings parts tree =
+    slice_draws settings (given_names (Slice model cli) name) cli (parts IsOutlines settings) tree refl
+follows_draws (Plan model cli gcode) name settings parts tree =
+    plan_draws settings (given_names (Plan model cli gcode) name) cli gcode (parts IsPlan settings) tree refl refl
+follows_draws (Sample n) name settings parts tree =
+    ends_in_order _ _ (line_there _ _ (plan_there settings (parts IsPlan settings) tree))
+
+input_orderly : (command : Command) (name : Option (List ℕ)) (settings : SettingsOfRun) (parts : Parts) (input : Option Input)
+    → IsOrderly (given_names command name) (input_script command settings parts input)
+input_orderly command name settings parts None = record { steps = tt; lacks = tt }
+input_orderly command name settings parts (Some Long) = record { steps = tt; lacks = tt }
+input_orderly command name settings parts (Some (Whole source)) =
+    told_orderly (given_names command name) (follows command settings parts) (source_means source)
+    (λ tree. follows_draws command name settings parts tree)
 
 -- one reading more
 reads_more : (name : List ℕ) (steps : List Step) (ending : Ending) → OnlyReads steps ending → OnlyReads (Reads name ∷ steps) ending
@@ -95,23 +111,31 @@ reads_first given name rest named behind =
     }
 
 -- the model and the settings are among the names that the words give
-model_given : (command : Command) (name : Option (List ℕ)) → UsesGiven (given_names command name) (Reads (model_of command))
-model_given command None = inl refl
-model_given command (Some file) = inr (inl refl)
+model_given : (command : Command) (name : Option (List ℕ)) (model : List ℕ) → model_of command ≡ Some model
+    → UsesGiven (given_names command name) (Reads model)
+model_given command None model is = subst (λ (m : Option (List ℕ)). IsAmong model (named m)) (sym is) (inl refl)
+model_given command (Some file) model is = inr (subst (λ (m : Option (List ℕ)). IsAmong model (named m)) (sym is) (inl refl))
 
 settings_given : (command : Command) (name : Option (List ℕ)) (file : List ℕ) → name ≡ Some file → UsesGiven (given_names command name) (Reads file)
 settings_given command name file is =
     subst (λ (n : Option (List ℕ)). UsesGiven (given_names command n) (Reads file)) (sym is) (inl refl)
 
-job_orderly : (job : Option Job) (drawings : Drawings) (inputs : Inputs) → IsOrderly (given_of job) (job_script job drawings inputs)
-job_orderly None drawings inputs = record { steps = tt; lacks = tt }
-job_orderly (Some job) drawings inputs =
-    let given = given_names job.command job.settings in
-    settings_have (IsOrderly given) job.settings inputs.settings (model_script job.command drawings inputs.model)
-    (λ settings found. reads_first given (model_of job.command) _ (model_given job.command job.settings)
-    (input_orderly job.command job.settings settings drawings inputs.model))
-    (λ file rest is behind. reads_first given file rest (settings_given job.command job.settings file is) behind)
-    (record { steps = tt; lacks = tt }) (λ fault. record { steps = tt; lacks = tt })
+-- a model is read first, where there is one
+model_first : (command : Command) (name model : Option (List ℕ)) (rest : Script) → model_of command ≡ model
+    → IsOrderly (given_names command name) rest → IsOrderly (given_names command name) (model_read_first model rest)
+model_first command name None rest is behind = behind
+model_first command name (Some model) rest is behind =
+    reads_first (given_names command name) model rest (model_given command name model is) behind
 
-pub orderly : (words : List (List ℕ)) (drawings : Drawings) (inputs : Inputs) → IsOrderly (given_by words) (script_of words drawings inputs)
-orderly words drawings inputs = job_orderly (job_of words) drawings inputs
+job_orderly : (job : Option Job) (parts : Parts) (inputs : Inputs) → IsOrderly (given_of job) (job_script job parts inputs)
+job_orderly None parts inputs = record { steps = tt; lacks = tt }
+job_orderly (Some job) parts inputs =
+    let given = given_names job.command job.settings in
+    settings_have (IsOrderly given) job.settings inputs.settings (model_script job.command parts inputs.model)
+    (λ settings found. model_first job.command job.settings (model_of job.command) _ refl
+    (input_orderly job.command job.settings settings parts (source_of job.command inputs.model)))
+    (λ file rest is behind. reads_first given file rest (settings_given job.command job.settings file is) behind)
+    (record { steps = tt; lacks = tt }) (λ file text fault named there is. record { steps = tt; lacks = tt })
+
+pub orderly : (words : List (List ℕ)) (parts : Parts) (inputs : Inputs) → IsOrderly (given_by words) (script_of words parts inputs)
+orderly words parts inputs = job_orderly (job_of words) parts inputs

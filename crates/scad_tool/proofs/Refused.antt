@@ -1,68 +1,53 @@
 -- Refusals, and commands that leave both files as they were.
-use Rattle.std.proofs.Common.{◌≡◌, ◌≢◌, ◌⊎◌, ◌++◌, ◌<◌, List, [], ◌∷◌, ℕ, Option, Some, None, inl, inr, refl, sym, ap, ◌∙◌, subst, arith}
+use Rattle.std.proofs.Common.{◌≡◌, ◌≢◌, ◌⊎◌, ⊎_elim, ◌++◌, ◌<◌, ◌≤◌, List, [], ◌∷◌, ℕ, Bool, true, false, Option, Some, None, Result, Ok, Err, inl, inr, refl, sym, ap, ◌∙◌, subst, length, flat_map, nat_lt, rules, arith}
+use Rattle.std.specs.Prelude.{if◌then◌else◌}
 use Rattle.std.proofs.lemmas.List.FromFn.{length-map-range_with_len}
 use Rattle.scad_fault.specs.declared.budget.Budget.{Budget}
+use Rattle.scad_fault.specs.declared.budget.BudgetKind.{BudgetKind}
+use Rattle.scad_fault.specs.declared.budget.BudgetKind.TheVariants.{LayerEdges, LayerCrossings, LayerMoves}
 use Rattle.scad_fault.specs.declared.status.Status.{Status}
 use Rattle.scad_fault.specs.declared.status.Status.TheVariants.{Done, Source, Usage, Settings, Read, Write, Over, Memory}
 use Rattle.scad_fault.specs.Line.{line_of}
 use Rattle.scad_io.specs.Desk.{View}
+use Rattle.scad_io.specs.declared.desk.Out.TheVariants.{Report, Cli, Gcode}
 use Rattle.scad_words.specs.declared.job.Command.{Command}
-use Rattle.scad_words.specs.declared.job.Command.TheVariants.{Check, Tree, Slice}
+use Rattle.scad_words.specs.declared.job.Command.TheVariants.{Check, Tree, Slice, Plan, Sample}
 use Rattle.scad_words.specs.declared.job.Job.{Job}
 use Rattle.scad_words.specs.declared.settings.Settings.{Settings as SettingsOfRun}
+use Rattle.scad_words.specs.Settings.{AreInRange}
 use Rattle.scad_words.specs.Job.{job_of}
-use Rattle.scad_io.specs.declared.desk.Out.TheVariants.{Report, Cli, Gcode}
 use Rattle.scad_script.specs.declared.loading.Input.{Input}
-use Rattle.scad_script.specs.declared.loading.Input.TheVariants.{Whole, Long}
-use Rattle.scad_script.specs.Steps.{Step, Reads, echoing, text_of}
-use Rattle.scad_script.specs.Script.{Script, Ending, Finishes, Refuses as IsRefusal, Lacks, first, ends, expected_echoes}
+use Rattle.scad_script.specs.declared.refusal.Refusal.{Refusal}
+use Rattle.scad_script.specs.Steps.{Step, echoing, text_of}
+use Rattle.scad_script.specs.Script.{Script, Ending, Finishes, Refuses as IsRefusal, Lacks, ends, expected_echoes}
 use Rattle.scad_script.specs.Names.{AllUpTo}
 use Rattle.scad_script.specs.Run.{RunsTo}
 use Rattle.scad_script.specs.Promises.{Adds, IsAnswered, Promised}
 use Rattle.scad_script.proofs.Fronts.{reports_only}
 use Rattle.scad_script.proofs.Quiet.{ends_quietly}
-use Rattle.scad_expr.specs.declared.fault.EvalFault.{EvalFault}
-use Rattle.scad_expr.specs.State.{State, Outcome, gives, refuses}
 use Rattle.scad_tree.specs.Solid.{Solid}
-use Rattle.scad_tree.specs.Text.{text_of as tree_text}
+use Rattle.scad_tree.specs.Solids.{AreSolids}
+use Rattle.slice_work.specs.declared.want.Want.{Want}
+use Rattle.slice_work.specs.declared.want.Want.TheVariants.{Outlines as IsOutlines, Plan as IsPlan}
+use Rattle.slice_work.specs.Part.{Part, paths_of, layer_limit}
+use Rattle.cli_text.specs.Cli.{Layer, head, layer_text}
 use Rattle.scad_slice.specs.Budgets.{layer_count}
-use Rattle.scad_slice.specs.Drawing.{Drawing, layer_at, layers_of}
-use Rattle.scad_slice.specs.Script.{slice_script}
-use Rattle.scad_slice.proofs.Parted.{HasMany, IsWhole, IsCut, script_goes, cut_text, budget_of_layer}
-use Rattle.scad_tool.specs.Words.{model_of, given_by}
-use Rattle.scad_tool.specs.Meaning.{source_means}
-use Rattle.scad_tool.specs.Told.{check_script, tree_script, echoed, told}
-use Rattle.scad_tool.specs.Answer.{Drawings, Inputs, input_script, model_script, job_script, script_of}
-use Rattle.scad_tool.specs.Promises.{IsReported, IsRefused, IsCutShort, Refuses, Leaves, LeavesOutputs}
-use Rattle.scad_tool.proofs.Following.{settings_have}
+use Rattle.scad_slice.specs.Parts.{IsPart, layer_at, layers_of, plans_of}
+use Rattle.scad_slice.proofs.Parted.{IsKind, budget_of_layer}
+use Rattle.scad_slice.proofs.Texts.{slice_cut, plan_cut, program_cut}
+use Rattle.scad_tool.proofs.Silent.{slice_is_silent}
+use Rattle.scad_tool.specs.Words.{given_by}
+use Rattle.scad_tool.specs.Answer.{Parts, Inputs, follows, source_in, job_script, script_of, ArePartsOfTree, AreDrawn, AreParts}
+use Rattle.scad_tool.specs.Playing.{InputMeansSolids, JobMeansSolids}
+use Rattle.scad_tool.specs.Promises.{IsReported, IsRefused, IsProgramFront, IsCutShort, Refuses, Leaves, LeavesOutputs}
+use Rattle.scad_tool.specs.Causes.{HasManyLayers}
+use Rattle.scad_tool.proofs.Working.{parts_meant}
+use Rattle.scad_tool.proofs.Heights.{found_in_range}
+use Rattle.scad_tool.proofs.Answered.{IsJudgement}
+use Rattle.scad_tool.proofs.Reached.{IsStopped, IsFollowed, reached}
+use Rattle.scad_tool.proofs.Ends.{Cuts, IsDone, IsOver, EndsBy, follows_end}
 
 -- Commands that only read and report.
-
-told_quiet : (follows : Solid → Script) (meaning : Outcome Solid) → ((tree : Solid) → AllUpTo echoing (follows tree).steps) → AllUpTo echoing (told follows meaning).steps
-told_quiet follows (gives tree s) quiet = (omega arith, quiet tree)
-told_quiet follows (refuses (EvalFault.Fault fault) s) quiet = (omega arith, tt)
-told_quiet follows (refuses (EvalFault.Over budget) s) quiet = (omega arith, tt)
-told_quiet follows (refuses EvalFault.Memory s) quiet = tt
-
--- a command whose trees are followed by nothing but an end
-abbrev IsQuiet : Command → Type 0
-IsQuiet command =
-    (settings : SettingsOfRun) (drawings : Drawings) (input : Option Input) → AllUpTo echoing (input_script command settings drawings input).steps
-
-check_quiet : (model : List ℕ) → IsQuiet (Check model)
-check_quiet model settings drawings None = tt
-check_quiet model settings drawings (Some Long) = tt
-check_quiet model settings drawings (Some (Whole source)) = told_quiet (check_script settings.layer_height) (source_means source) (λ tree. tt)
-
-tree_quiet : (model : List ℕ) → IsQuiet (Tree model)
-tree_quiet model settings drawings None = tt
-tree_quiet model settings drawings (Some Long) = tt
-tree_quiet model settings drawings (Some (Whole source)) = told_quiet tree_script (source_means source) (λ tree. tt)
-
-job_quiet : (job : Job) (drawings : Drawings) (inputs : Inputs) → IsQuiet job.command → AllUpTo echoing (job_script (Some job) drawings inputs).steps
-job_quiet job drawings inputs quiet =
-    settings_have (λ s. AllUpTo echoing s.steps) job.settings inputs.settings (model_script job.command drawings inputs.model)
-    (λ settings found. (omega arith, quiet settings drawings inputs.model)) (λ file rest is behind. (omega arith, behind)) tt (λ fault. tt)
 
 -- both files stand as they were
 abbrev FilesStand : View → View → Type 0
@@ -75,22 +60,41 @@ files_stand whole status old new all (ended, mid, ends, reports) =
       ap (λ v. v.gcode) only ∙ ends_quietly Gcode whole ended old mid tt all ends,
     )
 
-leaves_by : (command : Command) (name : Option (List ℕ)) (drawings : Drawings) (inputs : Inputs) (status : Status) (old new : View)
-    → RunsTo (job_script (Some (record { command = command; settings = name })) drawings inputs) status old new → Leaves command old new
-leaves_by (Check model) name drawings inputs status old new runs =
-    files_stand _ status old new (job_quiet (record { command = Check model; settings = name }) drawings inputs (check_quiet model)) runs
-leaves_by (Tree model) name drawings inputs status old new runs =
-    files_stand _ status old new (job_quiet (record { command = Tree model; settings = name }) drawings inputs (tree_quiet model)) runs
-leaves_by (Slice model cli) name drawings inputs status old new runs = tt
+-- a command whose trees are followed by nothing but an end
+abbrev IsQuiet : Command → Type 0
+IsQuiet command = (settings : SettingsOfRun) (parts : Parts) (tree : Solid) → AllUpTo echoing (follows command settings parts tree).steps
 
-job_leaves : (job : Option Job) (drawings : Drawings) (inputs : Inputs) (status : Status) (old new : View)
-    → RunsTo (job_script job drawings inputs) status old new → LeavesOutputs job old new
-job_leaves None drawings inputs status old new runs = tt
-job_leaves (Some job) drawings inputs status old new runs = leaves_by job.command job.settings drawings inputs status old new runs
+job_quiet : (job : Job) (parts : Parts) (inputs : Inputs) (whole : Script) → IsQuiet job.command
+    → IsStopped job inputs whole ⊎ IsFollowed job inputs parts whole → AllUpTo echoing whole.steps
+job_quiet job parts inputs whole quiet (inl stopped) = stopped.quiet
+job_quiet job parts inputs whole quiet (inr f) = f.quiet (quiet f.settings parts f.tree)
 
-pub leaves : (words : List (List ℕ)) (drawings : Drawings) (inputs : Inputs) (status : Status) (old new : View)
-    → RunsTo (script_of words drawings inputs) status old new → LeavesOutputs (job_of words) old new
-leaves words drawings inputs status old new runs = job_leaves (job_of words) drawings inputs status old new runs
+ends_quiet_if : (b : Bool) (x y : Ending) → AllUpTo echoing (if b then ends x else ends y).steps
+ends_quiet_if true x y = tt
+ends_quiet_if false x y = tt
+
+sample_quiet : (n : ℕ) → IsQuiet (Sample n)
+sample_quiet n settings parts tree = ends_quiet_if (nat_lt layer_limit (layer_count settings.layer_height tree)) _ _
+
+command_leaves : (job : Job) (command : Command) (parts : Parts) (inputs : Inputs) (status : Status) (old new : View) → job.command ≡ command
+    → RunsTo (job_script (Some job) parts inputs) status old new → Leaves command old new
+command_leaves job (Check model) parts inputs status old new is runs =
+    files_stand _ status old new (job_quiet job parts inputs _ (subst IsQuiet (sym is) (λ settings ps tree. tt)) (reached job inputs parts)) runs
+command_leaves job (Tree model) parts inputs status old new is runs =
+    files_stand _ status old new (job_quiet job parts inputs _ (subst IsQuiet (sym is) (λ settings ps tree. tt)) (reached job inputs parts)) runs
+command_leaves job (Slice model cli) parts inputs status old new is runs = tt
+command_leaves job (Plan model cli gcode) parts inputs status old new is runs = tt
+command_leaves job (Sample n) parts inputs status old new is runs =
+    files_stand _ status old new (job_quiet job parts inputs _ (subst IsQuiet (sym is) (sample_quiet n)) (reached job inputs parts)) runs
+
+job_leaves : (job : Option Job) (parts : Parts) (inputs : Inputs) (status : Status) (old new : View)
+    → RunsTo (job_script job parts inputs) status old new → LeavesOutputs job old new
+job_leaves None parts inputs status old new runs = tt
+job_leaves (Some job) parts inputs status old new runs = command_leaves job job.command parts inputs status old new refl runs
+
+pub leaves : (words : List (List ℕ)) (parts : Parts) (inputs : Inputs) (status : Status) (old new : View)
+    → RunsTo (script_of words parts inputs) status old new → LeavesOutputs (job_of words) old new
+leaves words parts inputs status old new runs = job_leaves (job_of words) parts inputs status old new runs
 
 -- Refusals.
 
@@ -110,83 +114,127 @@ quiet_refused whole status old new all runs answered other =
     let stand = files_stand whole status old new all runs in
     inl (refused_line whole.steps whole.ending status old new answered other, stand.0, stand.1)
 
--- Behind the settings and the model.
+-- ---- behind the tree
 
--- a whole script that ends as this one and writes what it writes
-pub record IsWholeOf (whole part : Script) : Type 0 where
-  pub ending : whole.ending ≡ part.ending
-  pub outlines : text_of Cli whole.steps ≡ text_of Cli part.steps
-  pub quiet : AllUpTo echoing part.steps → AllUpTo echoing whole.steps
+-- what a command writes behind its tree where a layer passes a budget
+pub record IsCutAt (count : ℕ) (budget : Budget) (cli gcode : List ℕ) : Type 0 where
+  pub kind : (budget.kind ≡ LayerEdges) ⊎ ((budget.kind ≡ LayerCrossings) ⊎ (budget.kind ≡ LayerMoves))
+  pub before : List Layer
+  pub number : length before ≡ budget.layer
+  pub inside : budget.layer < count
+  pub outlines : cli ≡ head count ++ flat_map layer_text before
+  pub program : (gcode ≡ []) ⊎ IsProgramFront budget.layer gcode
 
--- where a whole script of this one is refused, no output is created or a layer passed a budget
-abbrev EndsRefused : Status → View → View → Script → Type 0
-EndsRefused status old new part =
-    (whole : Script) → IsWholeOf whole part → RunsTo whole status old new → IsAnswered whole status old new → status ≢ Done
+-- of one of these kinds
+abbrev IsOne : BudgetKind → Type 0
+IsOne kind = (kind ≡ LayerEdges) ⊎ ((kind ≡ LayerCrossings) ⊎ (kind ≡ LayerMoves))
+
+one_of : (want : Want) (kind : BudgetKind) → IsKind want kind → IsOne kind
+one_of IsOutlines kind is = ⊎_elim (λ edges. inl edges) (λ crossed. inr (inl crossed)) is
+one_of IsPlan kind is = is
+
+module _ (settings : SettingsOfRun) (tree : Solid) (in_range : AreInRange settings) (solids : AreSolids tree) where
+  abbrev count : ℕ
+  count = layer_count settings.layer_height tree
+
+  -- the cut of a part's files
+  cut_at : (want : Want) (creates : List Step) (line : List ℕ) (part : Part) (budget : Budget) (cli gcode : List ℕ) → IsPart want settings tree part
+      → (c : Cuts want settings creates line part tree budget)
+      → cli ≡ head count ++ flat_map layer_text (layers_of settings.layer_height part c.cut.layer)
+      → ((gcode ≡ []) ⊎ IsProgramFront c.cut.layer gcode) → IsCutAt count budget cli gcode
+  cut_at want creates line part budget cli gcode is_part c outlines program =
+      let of_layer = budget_of_layer want settings tree part c.cut.layer budget solids in_range is_part (c.cut.passed ∙ ap Err c.this) in
+      record {
+        kind = one_of want budget.kind of_layer.kind;
+        before = layers_of settings.layer_height part c.cut.layer;
+        number = length-map-range_with_len (layer_at settings.layer_height part) 0 c.cut.layer ∙ sym of_layer.layer;
+        inside = subst (λ (i : ℕ). i < count) (sym of_layer.layer) c.cut.inside;
+        outlines = outlines;
+        program = subst (λ (i : ℕ). (gcode ≡ []) ⊎ IsProgramFront i gcode) (sym of_layer.layer) program;
+      }
+
+  many_quiet : (budget : Budget) (b : Bool) (x : Ending) (rest : Script) → nat_lt layer_limit count ≡ b → HasManyLayers settings tree budget
+      → AllUpTo echoing (if b then ends x else rest).steps
+  many_quiet budget true x rest is has = tt
+  many_quiet budget false x rest is (many, same) = let never : ⊥ = search (rules, arith) in absurd never
+
+  -- it is quiet, or cuts the files short
+  behind : (command : Command) (parts : Parts) (budget : Budget) → ArePartsOfTree tree parts → IsOver command settings parts tree budget
+      → AllUpTo echoing (follows command settings parts tree).steps
+      ⊎ IsCutAt count budget (text_of Cli (follows command settings parts tree).steps) (text_of Gcode (follows command settings parts tree).steps)
+  behind (Check model) parts budget of_tree over = inl tt
+  behind (Tree model) parts budget of_tree over = inl tt
+  behind (Slice model cli) parts budget of_tree (inl many) = inl (many_quiet budget _ _ _ refl many)
+  behind (Slice model cli) parts budget of_tree (inr c) =
+      let part = parts IsOutlines settings in
+      inr (cut_at IsOutlines _ _ part budget _ _ (of_tree IsOutlines settings) c (slice_cut settings cli part tree c.cut)
+      (inl (slice_is_silent settings cli part tree c.cut)))
+  behind (Plan model cli gcode) parts budget of_tree (inl many) = inl (many_quiet budget _ _ _ refl many)
+  behind (Plan model cli gcode) parts budget of_tree (inr c) =
+      let part = parts IsPlan settings in
+      inr (cut_at IsPlan _ _ part budget _ _ (of_tree IsPlan settings) c (plan_cut settings cli gcode part tree c.cut)
+      (inr (record {
+        settings = settings;
+        paths = plans_of part c.cut.layer;
+        count = length-map-range_with_len (λ i. paths_of IsPlan (part i)) 0 c.cut.layer;
+        is = program_cut settings cli gcode part tree c.cut;
+      })))
+  behind (Sample n) parts budget of_tree over = inl (sample_quiet n settings parts tree)
+
+-- ---- a refused run
+
+cut_or_quiet : (whole : Script) (status : Status) (budget : Budget) (old new : View) (count : ℕ) (cli gcode : List ℕ) → whole.ending ≡ IsRefusal (Refusal.Over budget)
+    → text_of Cli whole.steps ≡ cli → text_of Gcode whole.steps ≡ gcode → RunsTo whole status old new → IsAnswered whole status old new → status ≢ Done
+    → AllUpTo echoing whole.steps ⊎ IsCutAt count budget cli gcode → RefusedOrCut whole status old new
+cut_or_quiet whole status budget old new count cli gcode ending to_cli to_gcode runs answered other (inl quiet) =
+    quiet_refused whole status old new quiet runs answered other
+cut_or_quiet whole status budget old new count cli gcode ending to_cli to_gcode runs answered other (inr cut) =
+    let refused = subst (λ (e : Ending). IsAnswered (record { steps = whole.steps; ending = e }) status old new) ending answered in
+    let is : status ≡ Over budget = sym refused.0 in
+    inr (
+      budget,
+      is,
+      record {
+        kind = cut.kind;
+        reported = subst (λ (s : Status). IsReported whole s old new) is (refused_line whole.steps whole.ending status old new answered other);
+        count = count;
+        before = cut.before;
+        number = cut.number;
+        inside = cut.inside;
+        outlines = subst (λ (text : List ℕ). Adds text old.cli new.cli) (to_cli ∙ cut.outlines) refused.2;
+        program = (gcode, cut.program, subst (λ (text : List ℕ). Adds text old.gcode new.gcode) to_gcode refused.3);
+      },
+    )
+
+followed_refused : (job : Job) (parts : Parts) (inputs : Inputs) (whole : Script) (status : Status) (old new : View) → (f : IsFollowed job inputs parts whole)
+    → JobMeansSolids (Some job) inputs → AreDrawn (source_in (Some job) inputs) parts → RunsTo whole status old new → IsAnswered whole status old new → status ≢ Done
+    → EndsBy (IsDone job.command f.settings parts f.tree) (IsOver job.command f.settings parts f.tree) (follows job.command f.settings parts f.tree).ending
     → RefusedOrCut whole status old new
+followed_refused job parts inputs whole status old new f solids drawn runs answered other (inl (line, is, done)) =
+    let finished = subst (λ (e : Ending). IsAnswered (record { steps = whole.steps; ending = e }) status old new) (f.ending ∙ is) answered in
+    absurd (other (sym finished.0))
+followed_refused job parts inputs whole status old new f solids drawn runs answered other (inr (budget, is, over)) =
+    let of_source = subst (λ (i : Option Input). AreDrawn i parts) f.there drawn in
+    let of_tree = parts_meant f.source f.tree parts (f.state, f.means) of_source in
+    let are_solids = subst InputMeansSolids f.there (solids f.settings f.found) f.tree f.state f.means in
+    let in_range = found_in_range job.settings inputs.settings f.settings f.found in
+    cut_or_quiet whole status budget old new (layer_count f.settings.layer_height f.tree) _ _ (f.ending ∙ is) f.cli f.gcode runs answered other
+    (⊎_elim (λ quiet. inl (f.quiet quiet)) (λ cut. inr cut) (behind f.settings f.tree in_range are_solids job.command parts budget of_tree over))
 
-module _ (status : Status) (old new : View) where
-  quiet_ends : (part : Script) → AllUpTo echoing part.steps → EndsRefused status old new part
-  quiet_ends part quiet whole of_part runs answered other = quiet_refused whole status old new (of_part.quiet quiet) runs answered other
+job_refused : (job : Job) (parts : Parts) (inputs : Inputs) (whole : Script) (status : Status) (old new : View)
+    → IsStopped job inputs whole ⊎ IsFollowed job inputs parts whole → JobMeansSolids (Some job) inputs → AreDrawn (source_in (Some job) inputs) parts
+    → RunsTo whole status old new → IsAnswered whole status old new → status ≢ Done → RefusedOrCut whole status old new
+job_refused job parts inputs whole status old new (inl stopped) solids drawn runs answered other =
+    quiet_refused whole status old new stopped.quiet runs answered other
+job_refused job parts inputs whole status old new (inr f) solids drawn runs answered other =
+    followed_refused job parts inputs whole status old new f solids drawn runs answered other (follows_end job.command f.settings parts f.tree)
 
-  reads_more : (file : List ℕ) (rest : Script) → EndsRefused status old new rest → EndsRefused status old new (first (Reads file ∷ []) rest)
-  reads_more file rest behind whole of_part runs answered other =
-      behind whole (record { ending = of_part.ending; outlines = of_part.outlines; quiet = λ all. of_part.quiet (omega arith, all) }) runs answered other
-
-  -- the lines of `echo`, and then the script of the tree
-  module _ (h : ℕ) (cli : List ℕ) (lines : List (List ℕ)) (drawing : Drawing) (tree : Solid) where
-    abbrev drawn : Script
-    drawn = echoed lines (slice_script h cli drawing tree)
-
-    tree_ends : HasMany h cli drawing tree ⊎ (IsWhole h cli drawing tree ⊎ IsCut h cli drawing tree) → EndsRefused status old new drawn
-    tree_ends (inl many) whole of_part runs answered other =
-        quiet_ends drawn (subst (λ (rest : Script). AllUpTo echoing (echoed lines rest).steps) (sym many.script) (omega arith, tt)) whole of_part runs answered other
-    tree_ends (inr (inl all)) whole of_part runs answered other =
-        let finished = subst (λ (e : Ending). IsAnswered (record { steps = whole.steps; ending = e }) status old new) (of_part.ending ∙ ap (λ r. r.ending) all.script) answered in
-        absurd (other (sym finished.0))
-    tree_ends (inr (inr cut)) whole of_part runs answered other =
-        let refused = subst (λ (e : Ending). IsAnswered (record { steps = whole.steps; ending = e }) status old new) (of_part.ending ∙ ap (λ r. r.ending) cut.script) answered in
-        let is : status ≡ Over cut.budget = sym refused.0 in
-        let of_layer = budget_of_layer h tree cut.layer cut.budget cut.passed in
-        inr (
-          cut.budget,
-          is,
-          record {
-            kind = of_layer.0;
-            reported = subst (λ (s : Status). IsReported whole s old new) is (refused_line whole.steps whole.ending status old new answered other);
-            count = layer_count h tree;
-            before = layers_of h drawing cut.layer;
-            number = length-map-range_with_len (layer_at h drawing) 0 cut.layer ∙ sym of_layer.1;
-            inside = subst (λ (i : ℕ). i < layer_count h tree) (sym of_layer.1) cut.inside;
-            outlines = subst (λ (text : List ℕ). Adds text old.cli new.cli) (of_part.outlines ∙ cut_text h cli drawing tree cut) refused.2;
-          },
-        )
-
-  told_ends : (h : ℕ) (cli : List ℕ) (drawing : Drawing) (meaning : Outcome Solid) → EndsRefused status old new (told (slice_script h cli drawing) meaning)
-  told_ends h cli drawing (gives tree s) = tree_ends h cli s.echoes drawing tree (script_goes h cli drawing tree)
-  told_ends h cli drawing (refuses (EvalFault.Fault fault) s) = quiet_ends _ (omega arith, tt)
-  told_ends h cli drawing (refuses (EvalFault.Over budget) s) = quiet_ends _ (omega arith, tt)
-  told_ends h cli drawing (refuses EvalFault.Memory s) = quiet_ends _ tt
-
-  input_ends : (command : Command) (settings : SettingsOfRun) (drawings : Drawings) (input : Option Input) → EndsRefused status old new (input_script command settings drawings input)
-  input_ends (Check model) settings drawings input = quiet_ends _ (check_quiet model settings drawings input)
-  input_ends (Tree model) settings drawings input = quiet_ends _ (tree_quiet model settings drawings input)
-  input_ends (Slice model cli) settings drawings None = quiet_ends _ tt
-  input_ends (Slice model cli) settings drawings (Some Long) = quiet_ends _ tt
-  input_ends (Slice model cli) settings drawings (Some (Whole source)) =
-      told_ends settings.layer_height cli (drawings settings.layer_height) (source_means source)
-
-  job_ends : (job : Option Job) (drawings : Drawings) (inputs : Inputs) → EndsRefused status old new (job_script job drawings inputs)
-  job_ends None drawings inputs = quiet_ends _ tt
-  job_ends (Some job) drawings inputs =
-      settings_have (EndsRefused status old new) job.settings inputs.settings (model_script job.command drawings inputs.model)
-      (λ settings found. reads_more (model_of job.command) _ (input_ends job.command settings drawings inputs.model))
-      (λ file rest is behind. reads_more file rest behind) (quiet_ends _ tt) (λ fault. quiet_ends _ tt)
-
-refused_by : (job : Option Job) (drawings : Drawings) (inputs : Inputs) (status : Status) (old new : View)
-    → RunsTo (job_script job drawings inputs) status old new → IsAnswered (job_script job drawings inputs) status old new → status ≢ Done
-    → RefusedOrCut (job_script job drawings inputs) status old new
-refused_by job drawings inputs status old new runs answered other =
-    job_ends status old new job drawings inputs (job_script job drawings inputs) (record { ending = refl; outlines = refl; quiet = λ all. all }) runs answered other
+refused_by : (job : Option Job) (parts : Parts) (inputs : Inputs) (status : Status) (old new : View)
+    → RunsTo (job_script job parts inputs) status old new → IsAnswered (job_script job parts inputs) status old new
+    → AreDrawn (source_in job inputs) parts → JobMeansSolids job inputs → status ≢ Done → RefusedOrCut (job_script job parts inputs) status old new
+refused_by None parts inputs status old new runs answered drawn solids other = quiet_refused _ status old new tt runs answered other
+refused_by (Some job) parts inputs status old new runs answered drawn solids other =
+    job_refused job parts inputs (job_script (Some job) parts inputs) status old new (reached job inputs parts) solids drawn runs answered other
 
 -- a status other than a budget's is no budget's
 no_budget : (whole : Script) (status : Status) (old new : View) → ((budget : Budget) → status ≢ Over budget) → RefusedOrCut whole status old new → IsRefused whole status old new
@@ -203,20 +251,23 @@ this_budget whole budget old new (inl refused) = inl refused
 this_budget whole budget old new (inr (passed, same, cut)) =
     inr (subst (λ (b : Budget). IsCutShort whole b old new) (sym (ap (budget_in budget) same)) cut)
 
-pub refuses_so : (words : List (List ℕ)) (drawings : Drawings) (inputs : Inputs) (status : Status) (old new : View) → RunsTo (script_of words drawings inputs) status old new → Promised (given_by words) (script_of words drawings inputs) status old new → Refuses (script_of words drawings inputs) status old new
-refuses_so words drawings inputs Done old new runs promised = tt
-refuses_so words drawings inputs (Source fault) old new runs promised =
+pub refuses_so : (words : List (List ℕ)) (parts : Parts) (inputs : Inputs) (status : Status) (old new : View)
+    → RunsTo (script_of words parts inputs) status old new → Promised (given_by words) (script_of words parts inputs) status old new
+    → AreParts words inputs parts → (IsJudgement status → JobMeansSolids (job_of words) inputs)
+    → Refuses (script_of words parts inputs) status old new
+refuses_so words parts inputs Done old new runs promised drawn solids = tt
+refuses_so words parts inputs (Source fault) old new runs promised drawn solids =
     no_budget _ (Source fault) old new (λ budget same. let never : ⊥ = cc in absurd never)
-    (refused_by (job_of words) drawings inputs (Source fault) old new runs promised (λ same. let never : ⊥ = cc in absurd never))
-refuses_so words drawings inputs Usage old new runs promised =
+    (refused_by (job_of words) parts inputs (Source fault) old new runs promised drawn (solids tt) (λ same. let never : ⊥ = cc in absurd never))
+refuses_so words parts inputs Usage old new runs promised drawn solids =
     no_budget _ Usage old new (λ budget same. let never : ⊥ = cc in absurd never)
-    (refused_by (job_of words) drawings inputs Usage old new runs promised (λ same. let never : ⊥ = cc in absurd never))
-refuses_so words drawings inputs (Settings fault) old new runs promised =
+    (refused_by (job_of words) parts inputs Usage old new runs promised drawn (solids tt) (λ same. let never : ⊥ = cc in absurd never))
+refuses_so words parts inputs (Settings fault) old new runs promised drawn solids =
     no_budget _ (Settings fault) old new (λ budget same. let never : ⊥ = cc in absurd never)
-    (refused_by (job_of words) drawings inputs (Settings fault) old new runs promised (λ same. let never : ⊥ = cc in absurd never))
-refuses_so words drawings inputs Read old new runs promised = tt
-refuses_so words drawings inputs Write old new runs promised = tt
-refuses_so words drawings inputs (Over budget) old new runs promised =
+    (refused_by (job_of words) parts inputs (Settings fault) old new runs promised drawn (solids tt) (λ same. let never : ⊥ = cc in absurd never))
+refuses_so words parts inputs Read old new runs promised drawn solids = tt
+refuses_so words parts inputs Write old new runs promised drawn solids = tt
+refuses_so words parts inputs (Over budget) old new runs promised drawn solids =
     this_budget _ budget old new
-    (refused_by (job_of words) drawings inputs (Over budget) old new runs promised (λ same. let never : ⊥ = cc in absurd never))
-refuses_so words drawings inputs Memory old new runs promised = tt
+    (refused_by (job_of words) parts inputs (Over budget) old new runs promised drawn (solids tt) (λ same. let never : ⊥ = cc in absurd never))
+refuses_so words parts inputs Memory old new runs promised drawn solids = tt

@@ -25,7 +25,6 @@ use Rattle.scad_tree.specs.Solid.{Solid}
 use Rattle.scad_tree.specs.declared.tree.Tree.{Tree}
 use Rattle.scad_tree.specs.Solids.{AreSolids}
 use Rattle.scad_tree.specs.View.{solid_of}
-use Rattle.scad_slice.specs.Drawing.{IsDrawing}
 use Rattle.scad_inst.specs.declared.answers.Model.{Model}
 use Rattle.scad_inst.specs.declared.answers.ModelEnd.{ModelEnd}
 use Rattle.scad_inst.specs.Meaning.{means}
@@ -33,7 +32,6 @@ use Rattle.scad_inst.specs.Model.{Makes}
 use Rattle.scad_tool.specs.Meaning.{text_fault, tokens_fault, program_means, tokens_mean, source_means}
 use Rattle.scad_tool.specs.View.{parse_fault}
 use Rattle.scad_tool.specs.Told.{refusal_of, refusal_told, echoed, told}
-use Rattle.scad_tool.specs.Answer.{Drawings, IsDrawingOf}
 use Rattle.scad_tool.specs.Playing.{Brings, IsEnd, IsRefusedBy, OnJudged, MeansSolids}
 use Rattle.scad_tool.specs.Promises.{MeansTree}
 use Rattle.scad_tool.proofs.Working.{StopsBefore, step_refuses}
@@ -143,11 +141,6 @@ known_judged (Err Stop.Read) P known = tt
 known_judged (Err Stop.Write) P known = tt
 known_judged (Err Stop.Silent) P known = tt
 known_judged (Err Stop.Memory) P known = tt
-
--- drawings of what a source means are those of its tree
-pub drawing_meant : (h : ℕ) (source : List ℕ) (tree : Solid) (drawings : Drawings) → MeansTree tree source
-    → IsDrawingOf (source_means source) drawings → IsDrawing h tree (drawings h)
-drawing_meant h source tree drawings (s, is) drawn = (subst (λ (m : Outcome Solid). IsDrawingOf m drawings) is drawn) h
 
 -- An error of a call that goes up as it is.
 

@@ -5,4 +5,6 @@ pub mod Told
 pub mod Answer
 pub mod Playing
 pub mod Promises
+pub mod Causes
+pub mod Headline
 pub mod Laws

@@ -4,7 +4,6 @@ use Rattle.std.specs.Option.{option_and_then}
 use Rattle.scad_fault.specs.declared.settings.SetFault.{SetFault}
 use Rattle.scad_io.specs.Desk.{Files, View}
 use Rattle.scad_words.specs.declared.job.Command.{Command}
-use Rattle.scad_words.specs.declared.job.Command.TheVariants.{Slice}
 use Rattle.scad_words.specs.declared.job.Job.{Job}
 use Rattle.scad_words.specs.declared.settings.Settings.{Settings}
 use Rattle.scad_words.specs.Job.{job_of}
@@ -22,7 +21,8 @@ use Rattle.scad_tree.specs.View.{solid_of}
 use Rattle.scad_tree.specs.Solids.{AreSolids}
 use Rattle.scad_tool.specs.Meaning.{source_means}
 use Rattle.scad_tool.specs.Told.{told}
-use Rattle.scad_tool.specs.Answer.{Drawings, Inputs, settings_script, script_of, IsRead, IsDrawn, settings_found}
+use Rattle.scad_tool.specs.Words.{model_of}
+use Rattle.scad_tool.specs.Answer.{Parts, Inputs, settings_script, script_of, source_of, text_read, IsRead, AreParts, settings_found}
 
 -- what follows the tree is left, or the script stopped
 abbrev pub Brings : (Solid → Script) → Script → Result TreeInMemory Stop → View → View → Type 0
@@ -57,17 +57,17 @@ OnJudged (Err stop) P = Unit {0}
 abbrev pub MeansSolids : List ℕ → Type 0
 MeansSolids source = (tree : Solid) (s : State) → source_means source ≡ gives tree s → AreSolids tree
 
--- that of a command that draws it is
-abbrev pub DrawsSolids : Command → Option Input → Type 0
-DrawsSolids (Slice model cli) (Some (Whole source)) = MeansSolids source
-DrawsSolids command input = Unit {0}
+-- that of a source that is there is
+abbrev pub InputMeansSolids : Option Input → Type 0
+InputMeansSolids (Some (Whole source)) = MeansSolids source
+InputMeansSolids input = Unit {0}
 
--- so it is where the job's settings are accepted, and its model is read then
-abbrev pub DrawSolids : Option Job → Inputs → Type 0
-DrawSolids None inputs = Unit {0}
-DrawSolids (Some job) inputs =
+-- so it is where the job's settings are accepted, and its source is reached then
+abbrev pub JobMeansSolids : Option Job → Inputs → Type 0
+JobMeansSolids None inputs = Unit {0}
+JobMeansSolids (Some job) inputs =
     (settings : Settings) → settings_found job.settings inputs.settings ≡ Some settings
-    → DrawsSolids job.command inputs.model
+    → InputMeansSolids (source_of job.command inputs.model)
 
 -- the words ask for nothing, or memory was wanting
 abbrev pub AsksNothing : Option Job → Stop → Type 0
@@ -101,10 +101,16 @@ pub record Settles (name : Option (List ℕ)) (files : Files) (result : Result S
       → Settled follows whole result start new
   pub found : IsFound (settings_found name read) result
 
--- with all drawings of the model's tree, the script of the words and of what was read was played; where it was so to its
--- end or to its refusal, a tree that it draws is of solids
+-- this source of a command was read, or made
+pub record Gets (command : Command) (files : Files) (input : Input) : Type 0 where
+  pub read : Option Input
+  pub told : IfSome files (λ contents. read ≡ text_read (model_of command) contents)
+  pub gives : source_of command read ≡ Some input
+
+-- with all parts of the source's tree, the script of the words and of what was read was played; where it was so to its
+-- end or to its refusal, the tree is of solids
 pub record Works (words : List (List ℕ)) (files : Files) (result : Result (List ℕ) Stop) (old new : View) : Type 0 where
   pub inputs : Inputs
   pub read : IsRead words files inputs
-  pub plays : (drawings : Drawings) → IsDrawn inputs.model drawings → EndsIn (script_of words drawings inputs) result old new
-  pub solids : OnJudged result (DrawSolids (job_of words) inputs)
+  pub plays : (parts : Parts) → AreParts words inputs parts → EndsIn (script_of words parts inputs) result old new
+  pub solids : OnJudged result (JobMeansSolids (job_of words) inputs)

@@ -1,6 +1,6 @@
 -- What a run tells of what a source means: the lines of `echo`, and then the end.
 use Rattle.std.specs.Prelude.{◌++◌, List, [], ◌∷◌, ℕ, Option, Some, None, codes, decimal, flat_map, nat_lt, if◌then◌else◌}
-use Rattle.scad_io.specs.declared.desk.Out.TheVariants.{Report}
+use Rattle.scad_io.specs.declared.desk.Out.TheVariants.{Report, Cli, Gcode}
 use Rattle.scad_script.specs.declared.refusal.Refusal.{Refusal}
 use Rattle.scad_script.specs.declared.refusal.Refusal.TheVariants.{Source, Over as IsOver}
 use Rattle.scad_script.specs.Steps.{Sends}
@@ -12,7 +12,13 @@ use Rattle.scad_tree.specs.Solid.{Solid}
 use Rattle.scad_tree.specs.Order.{leaves as leaf_count}
 use Rattle.scad_tree.specs.Sizes.{triangle_count}
 use Rattle.scad_tree.specs.Text.{text_of}
-use Rattle.scad_slice.specs.Budgets.{layer_count, layer_limit, layers_passed}
+use Rattle.scad_words.specs.declared.settings.Settings.{Settings}
+use Rattle.gcode_text.specs.Numeral.{fixed}
+use Rattle.slice_work.specs.declared.want.Want.TheVariants.{Plan}
+use Rattle.slice_work.specs.Part.{Part, layer_limit}
+use Rattle.slice_work.specs.Sums.{loop_count, moves_below}
+use Rattle.scad_slice.specs.Budgets.{layer_count, layers_passed}
+use Rattle.scad_slice.specs.Script.{files, file_size, amount_below, unless_many}
 
 -- the lines of `echo`, each ended by a line feed
 unfoldable pub echo_text : List (List ℕ) → List ℕ
@@ -55,3 +61,26 @@ check_script h tree = ends (check_end (leaf_count tree) (triangle_count tree) (l
 -- `tree`: the text of the tree
 abbrev pub tree_script : Solid → Script
 tree_script tree = ends (Finishes (text_of tree))
+
+-- `sample N: L layers, K loops, M moves, E e, C cli bytes, G gcode bytes`
+unfoldable pub sample_line : ℕ → ℕ → ℕ → ℕ → ℕ → ℕ → ℕ → List ℕ
+sample_line n count loops moves e cli gcode =
+    codes "sample " ++ decimal n ++ codes ": " ++ decimal count ++ codes " layers, " ++ decimal loops ++ codes " loops, "
+    ++ decimal moves ++ codes " moves, E " ++ fixed 5 e ++ codes ", " ++ decimal cli ++ codes " cli bytes, " ++ decimal gcode
+    ++ codes " gcode bytes\n"
+
+-- what is told of so many layers, and of the sizes of both files
+abbrev pub sample_end : ℕ → Settings → Part → ℕ → Script
+sample_end n s part count =
+    ends (Finishes (sample_line n count (loop_count part count) (moves_below Plan part count) (amount_below s part count)
+    (file_size Cli Plan s part count) (file_size Gcode Plan s part count)))
+
+-- a script's ending, without its steps
+abbrev pub unwritten : Script → Script
+unwritten script = ends script.ending
+
+-- `sample`: it ends as the files of the tree's plan, which are not written
+abbrev pub sample_script : ℕ → Settings → Part → Solid → Script
+sample_script n s part tree =
+    let count = layer_count s.layer_height tree in
+    unless_many count (unwritten (files Plan s part count (sample_end n s part count)))

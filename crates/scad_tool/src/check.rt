@@ -1,62 +1,28 @@
-//! The commands that tell what a source means: `check` and `tree`.
-ghost use Rattle.std.specs.Prelude.{◌≡◌, ◌-◌, ◌^◌, ◌<◌, ◌≤◌, length, IfOk};
+//! The ends of the commands that tell what a source means: `check` and `tree`.
+ghost use Rattle.std.specs.Prelude.{◌≡◌, ◌≤◌, IfOk};
 ghost use Rattle.scad_script.specs.Script.{ends};
-ghost use Rattle.scad_script.specs.Played.{Completes, HasRisen};
-ghost use Rattle.scad_script.specs.Run.{Sound};
 ghost use Rattle.scad_tree.specs.View.{solid_of};
-ghost use Rattle.scad_tool.specs.Meaning.{source_means};
-ghost use Rattle.scad_tool.specs.Told.{ok_line, check_end, check_script, tree_script, told};
+ghost use Rattle.scad_tool.specs.Told.{ok_line, check_end, check_script, tree_script};
 ghost use Rattle.scad_tool.specs.Playing.{IsEnd};
 
-use crate::evaluation::evaluate;
 use itoa::Buffer;
 use scad_fault::{Budget, Text};
-use scad_io::Desk;
 use scad_script::{Refusal, Stop};
-use scad_slice::LAYER_LIMIT;
 use scad_tree::Tree;
+use slice_work::LAYER_LIMIT;
 use std::alloc::{AllocError, Global};
 
-/// Evaluates the source and writes its echo lines: the line with the tree's numbers, for layers of this height in micrometres.
-pub fn check<D: Desk>(alloc: Global, source: &[u8], height: u32, desk: &mut D) -> Result<Text, Stop>
-    requires some { 1 ≤ height }
-    requires short { length source.now < 2 ^ 32 - 1 }
-    requires sound { Sound (D.view desk.old) }
-
-    ensures completes { Completes (told (check_script height) (source_means source.now)) result (D.view desk.old) (D.view desk.new) }
-    ensures files { D.files desk.new ≡ D.files desk.old }
-    ensures later { D.faults desk.old ≤ D.faults desk.new }
-    ensures cause { HasRisen result (D.faults desk.old) (D.faults desk.new) }
-{
-    let tree = evaluate(alloc, source, desk)?;
-    checked(alloc, &tree, height)
-}
-
-/// Evaluates the source and writes its echo lines: the tree's text.
-pub fn show<D: Desk>(alloc: Global, source: &[u8], desk: &mut D) -> Result<Text, Stop>
-    requires short { length source.now < 2 ^ 32 - 1 }
-    requires sound { Sound (D.view desk.old) }
-
-    ensures completes { Completes (told tree_script (source_means source.now)) result (D.view desk.old) (D.view desk.new) }
-    ensures files { D.files desk.new ≡ D.files desk.old }
-    ensures later { D.faults desk.old ≤ D.faults desk.new }
-    ensures cause { HasRisen result (D.faults desk.old) (D.faults desk.new) }
-{
-    let tree = evaluate(alloc, source, desk)?;
-    shown(alloc, &tree)
-}
-
 /// The tree's text.
-fn shown(alloc: Global, tree: &Tree) -> Result<Text, Stop>
+pub fn shown(alloc: Global, tree: &Tree) -> Result<Text, Stop>
     ensures { IsEnd (tree_script (solid_of tree.now)) result }
 {
     let text = tree.print(alloc)?;
     Ok(text)
 }
 
-/// The line with the tree's numbers, or that it has too many layers. No memory holds a tree with more
-/// leaves or triangles than a number can count.
-fn checked(alloc: Global, tree: &Tree, height: u32) -> Result<Text, Stop>
+/// The line with the tree's numbers, for layers of this height in micrometres, or that it has too many layers. No memory holds
+/// a tree with more leaves or triangles than a number can count.
+pub fn checked(alloc: Global, tree: &Tree, height: u32) -> Result<Text, Stop>
     requires { 1 ≤ height }
     ensures { IsEnd (check_script height (solid_of tree.now)) result }
 {

@@ -1,12 +1,14 @@
-//! The program: reads a part, tells what it means, or writes its layers' outlines. `run` has the promise; `main` hands it
-//! the real files.
+//! The program: reads a part, tells what it means, or writes its layers' outlines and the program that prints it. `run` has
+//! the promise; `main` hands it the real files.
 #![tactic(auto)]
 
 mod check;
 mod evaluation;
+mod finish;
 mod laws;
 mod meaning;
 mod run;
+mod sample;
 mod settings;
 #[cfg(test)]
 mod tests;

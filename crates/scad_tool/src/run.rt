@@ -5,6 +5,7 @@ ghost use Rattle.scad_script.specs.Promises.{IsReadFault, IsWriteFault, IsMemory
 ghost use Rattle.scad_words.specs.Job.{job_of};
 ghost use Rattle.scad_tool.specs.Words.{given_by};
 ghost use Rattle.scad_tool.specs.Answer.{OnScript};
+ghost use Rattle.scad_tool.specs.Headline.{Headline};
 ghost use Rattle.scad_tool.specs.Promises.{Answers, OutlinesHoldTree, Refuses, LeavesOutputs, JudgesWords, IsComplete};
 
 use crate::work::work;
@@ -14,21 +15,26 @@ use scad_script::report;
 use std::alloc::Global;
 use std::thread::Threads;
 
-/// Runs the command of these words, those behind the program's name, over a desk.
+/// Runs the command of these words, those behind the program's name, over a desk. The layers of a part are shared among as many
+/// workers as the words say, each in a thread of its own.
 ///
 /// What is said of bytes and names holds where the desk tells them. A desk that doesn't tell what the
 /// files contain leaves open which of the statuses Done, Source and Over comes. Want of memory may come
 /// at any point that takes memory; every other status has a clause that says when it comes.
 pub fn run<R: Threads + Sync, D: Desk, G: Gate>(
-    _rt: &R,
+    rt: &R,
     alloc: Global,
     words: &[String],
     desk: &mut D,
-    _gate: &G,
+    gate: &G,
 ) -> Status
     requires ready { IsReady (D.view desk.old) }
 
-    // The run plays the script of the words, of what was read of the settings and the model and of drawings of
+    // The headline.
+    ensures headline { Headline (map string_bytes words.now) (D.files desk.old) result (D.view desk.old) (D.view desk.new)
+        (D.faults desk.old) (D.faults desk.new) }
+
+    // The run plays the script of the words, of what was read of the settings and the model and of what is drawn of
     // its tree, to its end or until it stops, and then tries the last line. The clauses below follow from this one. It
     // says what the desk shows, not how many calls were made.
     ensures runs { OnScript (map string_bytes words.now) (D.files desk.old)
@@ -37,7 +43,7 @@ pub fn run<R: Threads + Sync, D: Desk, G: Gate>(
     // The status and all bytes are one function of the words and the files.
     ensures answer { Answers (map string_bytes words.now) (D.files desk.old) result (D.view desk.old) (D.view desk.new) }
 
-    // The outlines that `slice` wrote hold what the source's tree contains.
+    // The outlines that `slice` or `plan` wrote hold what the source's tree contains.
     ensures outlines { result ≡ Status.Done → OutlinesHoldTree (map string_bytes words.now) (D.files desk.old) (D.view desk.old) (D.view desk.new) }
 
     // When each other status comes, and how the files then stand.
@@ -60,7 +66,7 @@ pub fn run<R: Threads + Sync, D: Desk, G: Gate>(
         (λ whole. AreFronts whole (D.view desk.old) (D.view desk.new)) }
     ensures created { CreatesForBytes result (D.view desk.old) (D.view desk.new) }
 
-    // `check` and `tree` write to nothing but the report.
+    // `check`, `tree` and `sample` write to nothing but the report.
     ensures leaves { LeavesOutputs (job_of (map string_bytes words.now)) (D.view desk.old) (D.view desk.new) }
 
     // At every status.
@@ -68,6 +74,6 @@ pub fn run<R: Threads + Sync, D: Desk, G: Gate>(
     ensures files { D.files desk.new ≡ D.files desk.old }
     ensures faults { D.faults desk.old ≤ D.faults desk.new }
 {
-    let ended = work(alloc, words, desk);
+    let ended = work(rt, alloc, words, desk, gate);
     report(alloc, ended, desk)
 }

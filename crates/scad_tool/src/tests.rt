@@ -2,6 +2,7 @@
 ghost use Rattle.std.specs.Prelude.{◌≡◌, Some, [], IfOk};
 ghost use Rattle.scad_io.specs.Desk.{unused};
 
+mod plans;
 mod settings;
 mod slices;
 mod sources;
@@ -115,6 +116,9 @@ fn words_of_another_form(rt: HostRuntime) -> Result<(), Fail> {
     expect_usage(&rt, alloc, &["Check", "a"])?;
     expect_usage(&rt, alloc, &[])?;
     expect_usage(&rt, alloc, &["slice", "m.scad", "o.cli", "more"])?;
+    expect_usage(&rt, alloc, &["plan", "a", "b", "b"])?;
+    expect_usage(&rt, alloc, &["check", "a", "--workers", "65"])?;
+    expect_usage(&rt, alloc, &["sample", "2147483648"])?;
     Ok(())
 }
 

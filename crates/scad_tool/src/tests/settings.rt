@@ -2,7 +2,7 @@
 use super::*;
 
 /// Runs these words over a desk that has settings as `s.toml` and a source as `m.scad`.
-fn settled<R: Threads + Sync>(
+pub fn settled<R: Threads + Sync>(
     rt: &R,
     alloc: Global,
     words: &[&str],

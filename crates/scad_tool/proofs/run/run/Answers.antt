@@ -10,12 +10,14 @@ use Rattle.scad_script.proofs.Fronts.{files_are_fronts}
 use Rattle.scad_script.proofs.Handed.{names_are_given}
 use Rattle.scad_script.proofs.Created.{created_for_bytes}
 use Rattle.scad_tool.specs.Words.{given_by}
-use Rattle.scad_tool.specs.Answer.{Drawings, Inputs, script_of, IsDrawn, OnScript}
-use Rattle.scad_tool.specs.Playing.{Works}
+use Rattle.scad_words.specs.Job.{job_of}
+use Rattle.scad_tool.specs.Answer.{Parts, Inputs, script_of, source_in, AreParts, OnScript}
+use Rattle.scad_tool.specs.Playing.{JobMeansSolids, Works}
 use Rattle.scad_tool.specs.Promises.{Refuses}
 use Rattle.scad_tool.proofs.Orderly.{orderly}
-use Rattle.scad_tool.proofs.Answered.{answers_are_there, PromisedOn, answers, done_solids}
-use Rattle.scad_tool.proofs.Judged.{holds_tree, judges, read_fault, write_fault, memory_line}
+use Rattle.scad_tool.proofs.Answered.{answers_are_there, PromisedOn, answers, IsJudgement, known_solids}
+use Rattle.scad_tool.proofs.Judged.{judges, read_fault, write_fault, memory_line}
+use Rattle.scad_tool.proofs.Printed.{holds_tree, headline}
 use Rattle.scad_tool.proofs.Refused.{leaves, refuses_so}
 use Rattle.scad_tool.proofs.Completed.{completes}
 use Rattle.scad_tool.proofs.run.run.Given.{Over}
@@ -41,16 +43,19 @@ played g c = c.work-ended.ensures.works
 abbrev inputs : (g : Over) → goal.After-report g → Inputs
 inputs g c = (played g c).inputs
 
--- drawings of the model's tree
-abbrev drawings : (g : Over) → goal.After-report g → Drawings
-drawings g c = (answers_are_there (inputs g c).model).0
+-- parts of the source's tree
+abbrev parts : (g : Over) → goal.After-report g → Parts
+parts g c = (answers_are_there (source_in (job_of (words g c)) (inputs g c))).0
+
+are_parts : (g : Over) (c : goal.After-report g) → AreParts (words g c) (inputs g c) (parts g c)
+are_parts g c = (answers_are_there (source_in (job_of (words g c)) (inputs g c))).1
 
 -- the script of the run
 abbrev whole : (g : Over) → goal.After-report g → Script
-whole g c = script_of (words g c) (drawings g c) (inputs g c)
+whole g c = script_of (words g c) (parts g c) (inputs g c)
 
--- with all drawings: the work, then the report
-runs_on : (g : Over) (c : goal.After-report g) (d : Drawings) → IsDrawn (inputs g c).model d → RunsTo (script_of (words g c) d (inputs g c)) c.report.result (before g c) (after g c)
+-- with all parts: the work, then the report
+runs_on : (g : Over) (c : goal.After-report g) (d : Parts) → AreParts (words g c) (inputs g c) d → RunsTo (script_of (words g c) d (inputs g c)) c.report.result (before g c) (after g c)
 runs_on g c d is = (c.work-ended.result, g.D.Desk.view c.work-ended.new.desk, (played g c).plays d is, c.report.ensures.reports)
 
 promised_on : (g : Over) (c : goal.After-report g) → PromisedOn (words g c) (inputs g c) c.report.result (before g c) (after g c)
@@ -59,23 +64,29 @@ promised_on g c d is =
     (orderly (words g c) d (inputs g c)) c.requires.ready (runs_on g c d is)
 
 runs : (g : Over) (c : goal.After-report g) → RunsTo (whole g c) c.report.result (before g c) (after g c)
-runs g c = runs_on g c (drawings g c) (answers_are_there (inputs g c).model).1
+runs g c = runs_on g c (parts g c) (are_parts g c)
 
 promised : (g : Over) (c : goal.After-report g) → Promised (given_by (words g c)) (whole g c) c.report.result (before g c) (after g c)
-promised g c = promised_on g c (drawings g c) (answers_are_there (inputs g c).model).1
+promised g c = promised_on g c (parts g c) (are_parts g c)
 
 in_order : (g : Over) (c : goal.After-report g) → IsOrderly (given_by (words g c)) (whole g c)
-in_order g c = orderly (words g c) (drawings g c) (inputs g c)
+in_order g c = orderly (words g c) (parts g c) (inputs g c)
 
 -- a property of the run's script
 on_script : (g : Over) (c : goal.After-report g) (Holds : Script → Type 0) → Holds (whole g c) → OnScript (words g c) (files g c) Holds
-on_script g c Holds holds = (inputs g c, drawings g c, (played g c).read, (answers_are_there (inputs g c).model).1, holds)
+on_script g c Holds holds = (inputs g c, parts g c, (played g c).read, are_parts g c, holds)
+
+-- with a judgement the tree of the source is of solids
+solids : (g : Over) (c : goal.After-report g) → IsJudgement c.report.result → JobMeansSolids (job_of (words g c)) (inputs g c)
+solids g c judges =
+    known_solids (words g c) (files g c) c.work-ended.result c.report.result (before g c) (g.D.Desk.view c.work-ended.new.desk) (after g c) (played g c)
+    c.report.ensures.reports judges
 
 pub report-requires : goal.report-requires
 report-requires g c =
     let given = map (string_bytes {Z = Global}) c.args.words.now in
     let w = c.work-ended.ensures.works in
-    let drawn = answers_are_there w.inputs.model in
+    let drawn = answers_are_there (source_in (job_of given) w.inputs) in
     record {
       sound = λ said. report_sound (given_by given) (script_of given drawn.0 w.inputs) c.work-ended.result (g.D.Desk.view c.args.desk.now)
           (g.D.Desk.view c.work-ended.new.desk) (orderly given drawn.0 w.inputs) c.requires.ready (w.plays drawn.0 drawn.1) said;
@@ -89,20 +100,24 @@ returns-clause-answer g c = answers (words g c) (files g c) (inputs g c) c.repor
 
 pub returns-clause-outlines : goal.returns-clause-outlines
 returns-clause-outlines g c =
-    holds_tree (words g c) (files g c) (inputs g c) (drawings g c) c.report.result (before g c) (after g c) (played g c).read
-    (answers_are_there (inputs g c).model).1 (promised g c)
-    (done_solids (words g c) (files g c) c.work-ended.result c.report.result (before g c) (g.D.Desk.view c.work-ended.new.desk) (after g c) (played g c) c.report.ensures.reports)
+    holds_tree (words g c) (files g c) (inputs g c) (parts g c) c.report.result (before g c) (after g c) (played g c).read (are_parts g c)
+    (promised g c) (solids g c)
+
+pub returns-clause-headline : goal.returns-clause-headline
+returns-clause-headline g c =
+    headline (words g c) (files g c) (inputs g c) (parts g c) c.report.result (before g c) (after g c) (g.D.Desk.faults c.args.desk.now)
+    (g.D.Desk.faults c.report.new.desk) (played g c).read (are_parts g c) (promised g c) (solids g c) (search rules) (search rules)
 
 pub returns-clause-words : goal.returns-clause-words
-returns-clause-words g c = judges (words g c) (drawings g c) (inputs g c) c.report.result (before g c) (after g c) (promised g c)
+returns-clause-words g c = judges (words g c) (parts g c) (inputs g c) c.report.result (before g c) (after g c) (promised g c)
 
 pub returns-clause-refusal : goal.returns-clause-refusal
 returns-clause-refusal g c =
     on_script g c (λ s. Refuses s c.report.result (before g c) (after g c))
-    (refuses_so (words g c) (drawings g c) (inputs g c) c.report.result (before g c) (after g c) (runs g c) (promised g c))
+    (refuses_so (words g c) (parts g c) (inputs g c) c.report.result (before g c) (after g c) (runs g c) (promised g c) (are_parts g c) (solids g c))
 
 pub returns-clause-leaves : goal.returns-clause-leaves
-returns-clause-leaves g c = leaves (words g c) (drawings g c) (inputs g c) c.report.result (before g c) (after g c) (runs g c)
+returns-clause-leaves g c = leaves (words g c) (parts g c) (inputs g c) c.report.result (before g c) (after g c) (runs g c)
 
 pub returns-clause-read_fault : goal.returns-clause-read_fault
 returns-clause-read_fault g c = read_fault (given_by (words g c)) (whole g c) c.report.result (before g c) (after g c) (promised g c)
@@ -119,8 +134,8 @@ returns-clause-memory g c same =
 
 pub returns-clause-complete : goal.returns-clause-complete
 returns-clause-complete g c =
-    completes (words g c) (files g c) (drawings g c) (inputs g c) c.report.result (before g c) (after g c) (g.D.Desk.faults c.args.desk.now)
-    (g.D.Desk.faults c.report.new.desk) (played g c).read (promised g c) (search rules) (search rules)
+    completes (words g c) (files g c) (parts g c) (inputs g c) c.report.result (before g c) (after g c) (g.D.Desk.faults c.args.desk.now)
+    (g.D.Desk.faults c.report.new.desk) (played g c).read (are_parts g c) (promised g c) (solids g c) (search rules) (search rules)
 
 pub returns-clause-front : goal.returns-clause-front
 returns-clause-front g c =

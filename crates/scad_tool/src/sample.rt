@@ -1,0 +1,71 @@
+//! The end of `sample`: its tree is planned, and nothing is kept of the files but their sizes.
+ghost use Rattle.std.specs.Prelude.{◌≡◌, ◌≤◌, IfOk};
+ghost use Rattle.scad_words.specs.Settings.{AreInRange};
+ghost use Rattle.slice_work.specs.declared.want.Want.TheVariants.{Plan};
+ghost use Rattle.slice_work.specs.declared.summary.Summary.{Summary};
+ghost use Rattle.scad_tree.specs.View.{solid_of};
+ghost use Rattle.scad_slice.specs.Parts.{IsPart};
+ghost use Rattle.scad_slice.specs.declared.written.Written.{Written};
+ghost use Rattle.scad_tool.specs.Told.{sample_line, sample_script};
+ghost use Rattle.scad_tool.specs.Playing.{IsEnd};
+
+use gcode_text::push_hundred_thousandths;
+use itoa::Buffer;
+use scad_fault::Text;
+use scad_io::{Gate, NullDesk, Out};
+use scad_script::{Stop, make};
+use scad_slice::{Want, Written, count_layers, draw};
+use scad_tree::Tree;
+use scad_words::Settings;
+use std::alloc::{AllocError, Global};
+use std::thread::Threads;
+
+/// The line with what the plan of the sample of this number has, or the budget that it passes.
+pub fn sampled<R: Threads + Sync, G: Gate>(
+    rt: &R,
+    alloc: Global,
+    n: u32,
+    tree: &Tree,
+    settings: &Settings,
+    workers: u32,
+    gate: &G,
+) -> Result<Text, Stop>
+    requires settings { AreInRange settings.now }
+    requires some { 1 ≤ workers }
+    requires most { workers ≤ 64 }
+
+    ensures { (part : _) → IsPart Plan settings.now (solid_of tree.now) part → IsEnd (sample_script n settings.now part (solid_of tree.now)) result }
+{
+    count_layers(tree, settings.layer_height)?;
+    let mut desk = NullDesk::new();
+    make(&mut desk, Out::Cli, "")?;
+    make(&mut desk, Out::Gcode, "")?;
+    let written = draw(rt, alloc, tree, settings, Want::Plan, workers, &mut desk, gate)?;
+    let line = sample_line(alloc, n, &written)?;
+    Ok(Text::from_vec(line))
+}
+
+/// `sample N: L layers, K loops, M moves, E e, C cli bytes, G gcode bytes`
+#[tactic(auto, unfolding(crate::specs::Told::sample_line))]
+fn sample_line(alloc: Global, n: u32, told: &Written) -> Result<Vec<u8>, AllocError>
+    ensures { IfOk result (λ line. line.items ≡ sample_line n told.now.summary.layers told.now.summary.loops told.now.summary.moves
+        told.now.summary.e told.now.cli told.now.gcode) }
+{
+    let mut number = Buffer::new();
+    let mut line = Vec::from_slice(alloc, b"sample ")?;
+    line.extend_from_slice(number.format(n).as_bytes())?;
+    line.extend_from_slice(b": ")?;
+    line.extend_from_slice(number.format(told.summary.layers).as_bytes())?;
+    line.extend_from_slice(b" layers, ")?;
+    line.extend_from_slice(number.format(told.summary.loops).as_bytes())?;
+    line.extend_from_slice(b" loops, ")?;
+    line.extend_from_slice(number.format(told.summary.moves).as_bytes())?;
+    line.extend_from_slice(b" moves, E ")?;
+    push_hundred_thousandths(&mut line, u128::from(told.summary.e))?;
+    line.extend_from_slice(b", ")?;
+    line.extend_from_slice(number.format(told.cli).as_bytes())?;
+    line.extend_from_slice(b" cli bytes, ")?;
+    line.extend_from_slice(number.format(told.gcode).as_bytes())?;
+    line.extend_from_slice(b" gcode bytes\n")?;
+    Ok(line)
+}
