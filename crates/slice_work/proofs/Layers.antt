@@ -17,12 +17,6 @@ use Rattle.slice_work.specs.declared.sums.Sums.{Sums}
 use Rattle.slice_work.specs.Script.{volume_below, written, written_unless, layer_steps}
 use Rattle.slice_work.specs.Sums.{AreSums}
 
--- a piece for an output that isn't the report is drawn
-pub draws_piece : (out : Out) (piece : List ℕ) → out ≢ Report → stage (Sends out piece) ≡ drawing
-draws_piece Report piece other = absurd (other refl)
-draws_piece Cli piece other = refl
-draws_piece Gcode piece other = refl
-
 -- m layers, and then n more
 pub layers_parted : (layer : ℕ → Result (List Step) Budget) (i m n : ℕ) (rest : Script) → layers layer i (m + n) rest ≡ layers layer i m (layers layer (i + m) n rest)
 layers_parted layer i zero n rest =
@@ -76,6 +70,6 @@ module _ (want : Want) (rates : Rates) (part : Part) where
       → Plays whole (layers (layer_steps want rates part) j (all - j) rest) result start new
   round_played {T = T} i count all j result old new within next carries whole rest start left =
       let here = carries whole (layers (layer_steps want rates part) (i + count) (all - (i + count)) rest) start
-          (as_left (round_parted (layer_steps want rates part) i count all rest within) left)
+      (as_left (round_parted (layer_steps want rates part) i count all rest within) left)
       in
       rw next here

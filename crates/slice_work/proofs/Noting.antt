@@ -112,16 +112,16 @@ pub settled_before : (n : ℕ) (end : LayerEnd) (v : View) → IsDrawnBefore v �
 settled_before n (Made loops plan) v before k there =
     ⊎_elim
     (λ finished. ⊎_elim
-        (λ old. drawn_still n k v before (Contains-append_left v.finished v.failed k old))
-        (λ now. drawn_now n k v now)
-        (Contains-push_cases v.finished n k finished))
+    (λ old. drawn_still n k v before (Contains-append_left v.finished v.failed k old))
+    (λ now. drawn_now n k v now)
+    (Contains-push_cases v.finished n k finished))
     (λ failed. drawn_still n k v before (Contains-append_right v.finished v.failed k failed))
     (Contains-append_cases (v.finished ++ n ∷ []) v.failed k there)
 settled_before n (Over passed) v before k there =
     ⊎_elim
     (λ finished. drawn_still n k v before (Contains-append_left v.finished v.failed k finished))
     (λ failed. ⊎_elim
-        (λ old. drawn_still n k v before (Contains-append_right v.finished v.failed k old))
-        (λ now. drawn_now n k v now)
-        (Contains-push_cases v.failed n k failed))
+    (λ old. drawn_still n k v before (Contains-append_right v.finished v.failed k old))
+    (λ now. drawn_now n k v now)
+    (Contains-push_cases v.failed n k failed))
     (Contains-append_cases v.finished (v.failed ++ n ∷ []) k there)

@@ -42,16 +42,5 @@ module _ (first n : ℕ) (ds : List Drawn) (i : ℕ) (d : Drawn) (from : All (λ
   pub made_behind : d.layer ≢ first + n → Contains (made_numbers first (drop i ds)) n → Contains (made_numbers first (drop (i + 1) ds)) n
   made_behind other = passed_over (λ e. if_made (e.layer - first) e.end) n ds i d inside is (made_elsewhere first n d.layer d.end at_least other)
 
-  pub made_behind_over : (passed : Budget) → d.end ≡ Over passed → Contains (made_numbers first (drop i ds)) n → Contains (made_numbers first (drop (i + 1) ds)) n
-  made_behind_over passed over =
-      passed_over (λ e. if_made (e.layer - first) e.end) n ds i d inside is
-      (λ here. none_here n (subst (λ (end : LayerEnd). Contains (if_made (d.layer - first) end) n) over here))
-
   pub over_behind : d.layer ≢ first + n → Contains (over_numbers first (drop i ds)) n → Contains (over_numbers first (drop (i + 1) ds)) n
   over_behind other = passed_over (λ e. if_over (e.layer - first) e.end) n ds i d inside is (over_elsewhere first n d.layer d.end at_least other)
-
-  pub over_behind_made : (loops : Vec Loop Global) (plan : LayerPlan) → d.end ≡ Made loops plan
-      → Contains (over_numbers first (drop i ds)) n → Contains (over_numbers first (drop (i + 1) ds)) n
-  over_behind_made loops plan made =
-      passed_over (λ e. if_over (e.layer - first) e.end) n ds i d inside is
-      (λ here. none_here n (subst (λ (end : LayerEnd). Contains (if_over (d.layer - first) end) n) made here))

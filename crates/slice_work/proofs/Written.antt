@@ -22,15 +22,11 @@ behind Plan rates volume i layout rest = first (Sends Gcode (move_lines rates vo
 
 pub outlines_first : (want : Want) (rates : Rates) (volume i : ℕ) (layout : Layout) (rest : Script)
     → first (written want rates volume i layout) rest
-        ≡ first (Sends Cli (outline_lines rates.layer_height i layout.outlines) ∷ []) (behind want rates volume i layout rest)
+    ≡ first (Sends Cli (outline_lines rates.layer_height i layout.outlines) ∷ []) (behind want rates volume i layout rest)
 outlines_first Outlines rates volume i layout rest = refl
 outlines_first Plan rates volume i layout rest = refl
 
 -- ---- the outputs that are wanted
-
-pub cli_there : (want : Want) (v : View) → AreThere want v → v.cli.created ≡ true
-cli_there Outlines v there = there
-cli_there Plan v there = there.0
 
 pub still_there : (want : Want) (old new : View) → CreatesNone old new → AreThere want old → AreThere want new
 still_there Outlines old new none there = none.cli ∙ there
@@ -43,40 +39,39 @@ none_more n = omega arith
 
 pub counts_outlines : (rates : Rates) (i : ℕ) (layout : Layout) (s : Sums)
     → with_layer Outlines rates i layout s
-        ≡ record s { loops = s.loops + length layout.outlines; cli = s.cli + length (outline_lines rates.layer_height i layout.outlines) }
+    ≡ record s { loops = s.loops + length layout.outlines; cli = s.cli + length (outline_lines rates.layer_height i layout.outlines) }
 unfolding paths_volume
 counts_outlines rates i layout s =
     let lines = outline_lines rates.layer_height i layout.outlines in
     ap (λ (m : ℕ). record {
-      loops = s.loops + length layout.outlines; moves = m; volume = s.volume + 0; cli = s.cli + length (lines ++ []); gcode = s.gcode + 0 })
+      loops = s.loops + length layout.outlines;
+      moves = m;
+      volume = s.volume + 0;
+      cli = s.cli + length (lines ++ []);
+      gcode = s.gcode + 0;
+    })
     (none_more s.moves)
     ∙ ap (λ (v : ℕ). record {
-      loops = s.loops + length layout.outlines; moves = s.moves; volume = v; cli = s.cli + length (lines ++ []); gcode = s.gcode + 0 })
+      loops = s.loops + length layout.outlines;
+      moves = s.moves;
+      volume = v;
+      cli = s.cli + length (lines ++ []);
+      gcode = s.gcode + 0;
+    })
     (none_more s.volume)
     ∙ ap (λ (c : List ℕ). record {
-      loops = s.loops + length layout.outlines; moves = s.moves; volume = s.volume; cli = s.cli + length c; gcode = s.gcode + 0 })
+      loops = s.loops + length layout.outlines;
+      moves = s.moves;
+      volume = s.volume;
+      cli = s.cli + length c;
+      gcode = s.gcode + 0;
+    })
     (append-nil lines)
     ∙ ap (λ (g : ℕ). record {
-      loops = s.loops + length layout.outlines; moves = s.moves; volume = s.volume; cli = s.cli + length lines; gcode = g })
-    (none_more s.gcode)
-
-pub counts_moves : (rates : Rates) (i : ℕ) (layout : Layout) (s : Sums)
-    → with_layer Plan rates i layout s
-        ≡ record {
-          loops = s.loops + length layout.outlines;
-          moves = s.moves + move_count layout.paths;
-          volume = s.volume + paths_volume rates layout.paths;
-          cli = s.cli + length (outline_lines rates.layer_height i layout.outlines);
-          gcode = s.gcode + length (move_lines rates s.volume i layout.paths);
-        }
-counts_moves rates i layout s =
-    let lines = outline_lines rates.layer_height i layout.outlines in
-    let moves = move_lines rates s.volume i layout.paths in
-    ap₂ (λ (c g : List ℕ). record {
       loops = s.loops + length layout.outlines;
-      moves = s.moves + move_count layout.paths;
-      volume = s.volume + paths_volume rates layout.paths;
-      cli = s.cli + length c;
-      gcode = s.gcode + length g;
+      moves = s.moves;
+      volume = s.volume;
+      cli = s.cli + length lines;
+      gcode = g;
     })
-    (append-nil lines) (append-nil moves)
+    (none_more s.gcode)

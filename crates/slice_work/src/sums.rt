@@ -56,12 +56,12 @@ impl Sums {
     pub fn summary(self, layers: u32, rates: &Rates) -> Option<Summary>
         requires { 1 ≤ rates.now.filament_area }
         ensures { IfSome result (λ s. s ≡ record {
-            layers = layers;
-            loops = self.loops;
-            moves = self.moves;
-            e = filament rates.now self.volume;
-            cli = self.cli;
-            gcode = self.gcode;
+          layers = layers;
+          loops = self.loops;
+          moves = self.moves;
+          e = filament rates.now self.volume;
+          cli = self.cli;
+          gcode = self.gcode;
         }) }
     {
         let e = self.volume.checked_mul(100)? / u128::from(rates.filament_area);

@@ -103,7 +103,15 @@ fn send_round<D: Desk>(
 {
     let mut sums = sums;
     'layers: for n in 0..round.least {
-        sums = send_layer(alloc, want, rates, round.first + n, layout_of(round, n), sums, desk)?;
+        sums = send_layer(
+            alloc,
+            want,
+            rates,
+            round.first + n,
+            layout_of(round, n),
+            sums,
+            desk,
+        )?;
     }
     if round.least < round.count {
         return Err(WorkFault::Over(budget_of(round)));

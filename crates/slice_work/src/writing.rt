@@ -103,9 +103,9 @@ fn send_moves<D: Desk>(
     ensures carries { Carries (first (Sends Out.Gcode (move_lines rates.now sums.volume layer paths.now) ∷ []))
         (stopped result) (D.view desk.old) (D.view desk.new) }
     ensures sums { IfOk result (λ s. s ≡ record sums {
-        moves = sums.moves + move_count paths.now;
-        volume = sums.volume + paths_volume rates.now paths.now;
-        gcode = sums.gcode + length (move_lines rates.now sums.volume layer paths.now);
+      moves = sums.moves + move_count paths.now;
+      volume = sums.volume + paths_volume rates.now paths.now;
+      gcode = sums.gcode + length (move_lines rates.now sums.volume layer paths.now);
     }) }
     ensures sound { OnOk result (Sound (D.view desk.new)) }
     ensures creates { OnOk result (CreatesNone (D.view desk.old) (D.view desk.new)) }

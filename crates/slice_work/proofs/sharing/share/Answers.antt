@@ -43,8 +43,8 @@ layers-preserved g c =
     let now : view c.settle.new.pass ≡ settled end (draws n v) = c.settle.ensures.settled ∙ ap (settled end) (looked ∙ drawn) in
     let more : c.push.new.self.items ≡ c.layers.done.items ++ d ∷ [] = search rules in
     let none = none_failed n v kept.before c.in-Layer.ensures.ascends (λ m there less.
-        let here = subst (λ (w : View). Contains w.failed m) (sym drawn) there in
-        sym c.if-look.false ∙ c.look.ensures.failed m here less)
+    let here = subst (λ (w : View). Contains w.failed m) (sym drawn) there in
+    sym c.if-look.false ∙ c.look.ensures.failed m here less)
     in
     record {
       «of» = c.settle.ensures.of;
