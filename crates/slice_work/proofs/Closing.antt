@@ -17,7 +17,8 @@ use Rattle.slice_work.specs.Shares.{if_made, if_over, made_numbers, over_numbers
 use Rattle.slice_work.specs.Pools.{IsPool}
 use Rattle.slice_work.specs.Rounds.{IsWhole}
 
-pub round_whole : (r : Round) (v : View) → r.first + r.count ≤ layer_limit → r.least ≤ r.count → Closed r.count r.least v → IsNoted r.first v r.done.items → IsWhole r
+pub round_whole : (r : Round) (v : View) → r.first + r.count ≤ layer_limit → r.least ≤ r.count
+    → Closed r.count r.least v → IsNoted r.first v r.done.items → IsWhole r
 round_whole r v limit within closed noted =
     record {
       within = within;

@@ -22,7 +22,8 @@ behind Plan rates volume i layout rest = first (Sends Gcode (move_lines rates vo
 
 pub outlines_first : (want : Want) (rates : Rates) (volume i : ℕ) (layout : Layout) (rest : Script)
     → first (written want rates volume i layout) rest
-    ≡ first (Sends Cli (outline_lines rates.layer_height i layout.outlines) ∷ []) (behind want rates volume i layout rest)
+    ≡ first (Sends Cli (outline_lines rates.layer_height i layout.outlines) ∷ [])
+    (behind want rates volume i layout rest)
 outlines_first Outlines rates volume i layout rest = refl
 outlines_first Plan rates volume i layout rest = refl
 
@@ -39,7 +40,11 @@ none_more n = omega arith
 
 pub counts_outlines : (rates : Rates) (i : ℕ) (layout : Layout) (s : Sums)
     → with_layer Outlines rates i layout s
-    ≡ record s { loops = s.loops + length layout.outlines; cli = s.cli + length (outline_lines rates.layer_height i layout.outlines) }
+    ≡ record s {
+      loops = s.loops + length layout.outlines;
+      cli = s.cli + length
+          (outline_lines rates.layer_height i layout.outlines);
+    }
 unfolding paths_volume
 counts_outlines rates i layout s =
     let lines = outline_lines rates.layer_height i layout.outlines in

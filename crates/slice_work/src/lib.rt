@@ -1,7 +1,7 @@
 //! The layers of a part, worked by several workers and written in order.
 //!
-//! The contracts promise that each layer below the first that passes a budget is worked and written once, in order, with the bytes
-//! that one worker alone would write, and that the first such budget is answered.
+//! The contracts promise that each layer below the first that passes a budget is worked and written once, in order,
+//! with the bytes that one worker alone would write, and that the first such budget is answered.
 #![tactic(auto)]
 
 mod fault;
