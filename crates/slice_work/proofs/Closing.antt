@@ -1,20 +1,12 @@
 -- What a board is closed with makes a whole round.
-use Rattle.std.proofs.Common.{◌≡◌, ◌<◌, ◌≤◌, ◌+◌, ◌-◌, ℕ, true, false, List, ◌++◌, length, None, All, Contains, flat_map, sym, ap, ap₂, ◌∙◌, subst, arith, length-append}
-use Rattle.std.proofs.lemmas.Grind.{flat_map-append}
-use Rattle.std.proofs.lemmas.List.Elements.{All-append, All-same}
+use Rattle.std.proofs.Common.{◌≡◌, ◌≤◌, ◌+◌, ℕ, List, Contains, sym, subst, arith}
 use Rattle.layer_board.specs.declared.view.View.{View}
-use Rattle.layer_board.specs.declared.board.Board.{Board}
-use Rattle.layer_board.specs.declared.board.Pass.{Pass}
 use Rattle.layer_board.specs.Numbers.{lowest}
-use Rattle.layer_board.specs.Pass.{joins}
-use Rattle.layer_board.specs.Calls.{view, IsFresh, Closed}
+use Rattle.layer_board.specs.Calls.{Closed}
 use Rattle.layer_board.proofs.Counts.{lowest_among}
-use Rattle.slice_work.specs.declared.layer.Drawn.{Drawn}
-use Rattle.slice_work.specs.declared.pooling.Share.{Share}
 use Rattle.slice_work.specs.declared.round.Round.{Round}
-use Rattle.slice_work.specs.Part.{Part, Ends, layer_limit}
-use Rattle.slice_work.specs.Shares.{if_made, if_over, made_numbers, over_numbers, IsNoted, IsThrough, IsShare, AreDrawnOf}
-use Rattle.slice_work.specs.Pools.{IsPool}
+use Rattle.slice_work.specs.Part.{layer_limit}
+use Rattle.slice_work.specs.Shares.{IsNoted}
 use Rattle.slice_work.specs.Rounds.{IsWhole}
 
 pub round_whole : (r : Round) (v : View) → r.first + r.count ≤ layer_limit → r.least ≤ r.count

@@ -1,8 +1,7 @@
 -- What is counted of layers, with one more.
-use Rattle.std.proofs.Common.{◌≡◌, ◌+◌, ◌-◌, ◌≤◌, ◌<◌, ℕ, List, [], ◌∷◌, ◌++◌, length, Result, Ok, Err, sym, refl, ap, ap₂, ◌∙◌, subst, arith}
+use Rattle.std.proofs.Common.{◌≡◌, ◌+◌, ℕ, length, Ok, sym, ap, ap₂, ◌∙◌, subst, arith}
 use Rattle.std.proofs.lemmas.List.FromFn.{sum_by-map-range_with_len_more}
 use Rattle.scad_io.specs.declared.desk.Out.TheVariants.{Cli, Gcode}
-use Rattle.scad_script.specs.Steps.{text_of}
 use Rattle.gcode_text.specs.declared.rates.Rates.{Rates}
 use Rattle.gcode_text.specs.Amount.{paths_volume}
 use Rattle.slice_work.specs.declared.want.Want.{Want}

@@ -1,11 +1,9 @@
 -- The script of layers, written layer by layer and round by round.
-use Rattle.std.proofs.Common.{◌≡◌, ◌≢◌, ◌<◌, ◌≤◌, ◌+◌, ◌-◌, ℕ, zero, suc, List, [], ◌∷◌, Result, Ok, Err, sym, refl, ap, ◌∙◌, arith}
+use Rattle.std.proofs.Common.{◌≡◌, ◌<◌, ◌≤◌, ◌+◌, ◌-◌, ℕ, zero, suc, List, Result, Ok, Err, sym, ap, ◌∙◌, arith}
 use Rattle.scad_fault.specs.declared.budget.Budget.{Budget}
 use Rattle.scad_io.specs.Desk.{View}
-use Rattle.scad_io.specs.declared.desk.Out.{Out}
-use Rattle.scad_io.specs.declared.desk.Out.TheVariants.{Report, Cli, Gcode}
 use Rattle.scad_script.specs.declared.refusal.Refusal.TheVariants.{Over}
-use Rattle.scad_script.specs.Steps.{Step, Sends, stage, drawing}
+use Rattle.scad_script.specs.Steps.{Step}
 use Rattle.scad_script.specs.Script.{Script, Refuses, first, ends, layer_then, layers}
 use Rattle.scad_script.specs.Played.{Left, Plays, Carries}
 use Rattle.scad_script.specs.declared.stop.Stop.{Stop}

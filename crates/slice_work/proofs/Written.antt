@@ -1,5 +1,5 @@
 -- The steps of one layer, and what is counted of them.
-use Rattle.std.proofs.Common.{◌≡◌, ◌+◌, ◌++◌, ℕ, List, [], ◌∷◌, true, length, refl, sym, ap, ap₂, ◌∙◌, arith}
+use Rattle.std.proofs.Common.{◌≡◌, ◌+◌, ◌++◌, ℕ, List, [], ◌∷◌, length, refl, ap, ◌∙◌, arith}
 use Rattle.std.proofs.lemmas.List.{append-nil}
 use Rattle.scad_io.specs.Desk.{View}
 use Rattle.scad_io.specs.declared.desk.Out.TheVariants.{Cli, Gcode}
@@ -11,7 +11,7 @@ use Rattle.gcode_text.specs.Amount.{paths_volume}
 use Rattle.slice_work.specs.declared.want.Want.{Want}
 use Rattle.slice_work.specs.declared.want.Want.TheVariants.{Outlines, Plan}
 use Rattle.slice_work.specs.declared.sums.Sums.{Sums}
-use Rattle.slice_work.specs.Part.{Layout, move_count}
+use Rattle.slice_work.specs.Part.{Layout}
 use Rattle.slice_work.specs.Script.{AreThere, outline_lines, move_lines, written}
 use Rattle.slice_work.specs.Sums.{with_layer}
 

@@ -1,5 +1,4 @@
-use Rattle.std.proofs.Common.{◌≡◌, ◌≤◌, ℕ, refl, subst, rules}
-use Rattle.layer_board.specs.declared.board.Pass.{Pass}
+use Rattle.std.proofs.Common.{◌≡◌, ◌≤◌, ℕ, refl, subst}
 use Rattle.layer_board.specs.Calls.{view, layers_of, Closed}
 use Rattle.slice_work.specs.declared.round.Round.{Round}
 use Rattle.slice_work.proofs.Closing.{round_whole}

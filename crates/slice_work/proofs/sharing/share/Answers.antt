@@ -1,10 +1,10 @@
-use Rattle.std.proofs.Common.{◌≡◌, ◌+◌, ◌++◌, ◌∷◌, [], ℕ, false, sym, refl, ap, ◌∙◌, subst, rules, Contains}
+use Rattle.std.proofs.Common.{◌≡◌, ◌+◌, ◌++◌, ◌∷◌, [], sym, refl, ap, ◌∙◌, subst, rules, Contains}
 use Rattle.std.proofs.lemmas.List.Elements.{All-push, All-same}
 use Rattle.layer_board.specs.declared.view.View.{View}
 use Rattle.layer_board.specs.Pass.{draws, skips}
 use Rattle.layer_board.specs.Calls.{view, Looks}
 use Rattle.slice_work.specs.declared.layer.Drawn.{Drawn}
-use Rattle.slice_work.specs.Part.{Part, Ends}
+use Rattle.slice_work.specs.Part.{Ends}
 use Rattle.slice_work.specs.Shares.{IsNoted, SkipsAbove, settled}
 use Rattle.slice_work.proofs.Noting.{IsDrawnBefore, noted_layer, drawn_notes, skipped_notes, none_failed, settled_skips, skipped_before, settled_before, settled_free, settled_members}
 use Rattle.slice_work.proofs.sharing.share.Goals as goal

@@ -1,4 +1,4 @@
-use Rattle.std.proofs.Common.{◌≡◌, ◌<◌, ◌≤◌, ◌+◌, ◌-◌, Ok, Err, refl, sym, ap, ap₂, ◌∙◌, arith, rules}
+use Rattle.std.proofs.Common.{◌≡◌, ◌≤◌, ◌+◌, Ok, Err, refl, sym, ap, ap₂, rules}
 use Rattle.slice_work.specs.declared.fault.WorkFault.{WorkFault}
 use Rattle.slice_work.specs.declared.sums.Sums.{Sums}
 use Rattle.slice_work.specs.Script.{rates_of, stopped}

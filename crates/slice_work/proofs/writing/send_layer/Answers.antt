@@ -1,8 +1,6 @@
-use Rattle.std.proofs.Common.{◌≡◌, sym, ap, ◌∙◌, rules}
+use Rattle.std.proofs.Common.{sym, rules}
 use Rattle.scad_script.proofs.Layers.{as_left}
-use Rattle.slice_work.specs.declared.want.Want.{Want}
 use Rattle.slice_work.specs.Script.{laid_out}
-use Rattle.slice_work.specs.Sums.{with_layer}
 use Rattle.slice_work.proofs.Stopping.{stops_work}
 use Rattle.slice_work.proofs.Written.{outlines_first, counts_outlines}
 use Rattle.slice_work.proofs.writing.send_layer.Goals as goal
