@@ -7,7 +7,7 @@ use Rattle.std.proofs.lemmas.List.{length-append}
 use Rattle.itoa.proofs.Decimal.{length_wide}
 use Rattle.scad_base.specs.Characters.{point, digit_zero}
 use Rattle.gcode_text.specs.Numeral.{last_digits, fixed}
-use Rattle.scad_sample.specs.Sample.{plate_start, hole_start, hole_middle, hole_end, plate_end, across, along, after, radius, hole_text, hole, sample_text}
+use Rattle.scad_sample.specs.Sample.{plate_start, hole_start, hole_middle, hole_end, plate_end, across, along, after, radius, hole_text, hole, holes, sample_text}
 
 last_length : (places n : ℕ) → length (last_digits places n) ≡ places
 unfolding last_digits
@@ -73,9 +73,12 @@ holes_short n i (suc count) within =
     let here = hole_short i (radius (after n (i + 1))) (omega (arith, within)) (radius_low (after n (i + 1))) in
     let behind = holes_short n (i + 1) count (omega (arith, within)) in omega (arith, both, here, behind)
 
+all_short : (n : ℕ) → length (holes n 36) ≤ 5940
+unfolding holes
+all_short n = let lines = holes_short n 0 36 (omega arith) in omega (arith, lines)
+
 pub sample_is_short : (n : ℕ) → length (sample_text n) ≤ 8192
 sample_is_short n =
-    let holes = flat_map (hole n) (range_with_len 0 36) in
-    let a : length (sample_text n) ≡ length (plate_start ++ holes) + length plate_end = length-append (plate_start ++ holes) plate_end in
-    let b : length (plate_start ++ holes) ≡ length plate_start + length holes = length-append plate_start holes in
-    let c = holes_short n 0 36 (omega arith) in omega (arith, a, b, c, plate_start_length, plate_end_length)
+    let a : length (sample_text n) ≡ length (plate_start ++ holes n 36) + length plate_end = length-append (plate_start ++ holes n 36) plate_end in
+    let b : length (plate_start ++ holes n 36) ≡ length plate_start + length (holes n 36) = length-append plate_start (holes n 36) in
+    let c = all_short n in omega (arith, a, b, c, plate_start_length, plate_end_length)

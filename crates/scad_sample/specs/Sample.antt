@@ -47,12 +47,17 @@ plate_end = codes "}\n"
 
 -- the line of a hole: its place, and its radius in millimetres with three decimals
 abbrev pub hole_text : ℕ → ℕ → List ℕ
-hole_text k r = hole_start ++ decimal (across k) ++ codes "," ++ decimal (along k) ++ hole_middle ++ fixed 3 r ++ hole_end
+hole_text k r =
+    hole_start ++ decimal (across k) ++ codes "," ++ decimal (along k) ++ hole_middle ++ fixed 3 r ++ hole_end
 
 -- the line of hole k of the sample of n
 abbrev pub hole : ℕ → ℕ → List ℕ
 hole n k = hole_text k (radius (after n (k + 1)))
 
+-- the lines of so many holes, from the first on
+unfoldable pub holes : ℕ → ℕ → List ℕ
+holes n count = flat_map (hole n) (range_with_len 0 count)
+
 -- the sample of n
 abbrev pub sample_text : ℕ → List ℕ
-sample_text n = plate_start ++ flat_map (hole n) (range_with_len 0 36) ++ plate_end
+sample_text n = plate_start ++ holes n 36 ++ plate_end

@@ -1,17 +1,18 @@
 //! The text of a sample.
-ghost use Rattle.std.specs.Prelude.{◌≡◌, [], ◌∷◌, ◌++◌, ◌+◌, ◌*◌, ◌/◌, ◌%◌, ◌<◌, ◌≤◌, ◌^◌, length, IfOk, OnOk};
-ghost use Rattle.std.specs.List.{flat_map, range_with_len};
+ghost use Rattle.std.specs.Prelude.{◌≡◌, [], ◌∷◌, ◌++◌, ◌+◌, ◌%◌, ◌<◌, ◌≤◌, length, IfOk, OnOk};
 ghost use Rattle.std.specs.Fmt.{decimal};
+ghost use Rattle.scad_base.specs.Characters.{digit_zero};
 ghost use Rattle.gcode_text.specs.Numeral.{last_digits, fixed};
-ghost use Rattle.scad_sample.specs.Sample.{plate_start, hole_start, hole_middle, hole_end, plate_end, across, along, hole_text, hole, sample_text};
+ghost use Rattle.scad_sample.specs.Sample.{plate_start, hole_start, hole_middle, hole_end, plate_end, hole_text, holes, sample_text};
 
 use crate::radius::{next, radius};
 use itoa::Buffer;
 use scad_fault::Text;
 use std::alloc::{AllocError, Global};
 
-/// The sample of this number, as the text of a source: a plate of 100 by 100 by 2 millimetres with 36 holes in six rows,
-/// of radii from 2 to 6 millimetres. It has at most 8,192 bytes.
+/// The sample of this number, as the text of a source: a plate of 100 by 100 by 2 millimetres with 36 holes in six
+/// rows, of radii from 2 to 6 millimetres. It has at most 8,192 bytes.
+#[tactic(auto, using(crate::proofs::Length::sample_is_short))]
 pub fn sample_source(alloc: Global, n: u32) -> Result<Text, AllocError>
     ensures text { IfOk result (λ text. text ≡ sample_text n) }
     ensures short { IfOk result (λ text. length text ≤ 8192) }
@@ -37,8 +38,9 @@ fn push_plate_end(out: &mut Vec<u8>) -> Result<(), AllocError>
     out.extend_from_slice(b"}\n")
 }
 
+#[tactic(auto, using(crate::proofs::Holes::no_holes, crate::proofs::Holes::holes_more))]
 fn push_holes(out: &mut Vec<u8>, n: u32) -> Result<(), AllocError>
-    ensures { OnOk result (out.new.items ≡ out.old.items ++ flat_map (hole n) (range_with_len 0 36)) }
+    ensures { OnOk result (out.new.items ≡ out.old.items ++ holes n 36) }
 {
     let mut s = n;
     'holes: for k in 0..36 {
@@ -103,7 +105,7 @@ fn push_three_digits(out: &mut Vec<u8>, n: u32) -> Result<(), AllocError>
 }
 
 fn push_digit(out: &mut Vec<u8>, n: u32) -> Result<(), AllocError>
-    ensures { OnOk result (out.new.items ≡ out.old.items ++ (48 + n % 10) ∷ []) }
+    ensures { OnOk result (out.new.items ≡ out.old.items ++ (digit_zero + n % 10) ∷ []) }
 {
     out.push(b'0' + (n % 10) as u8)?;
     Ok(())

@@ -1,4 +1,5 @@
-//! Whole samples, and the radii of others. The expected texts are those of a program that was written apart from this one.
+//! A whole sample, and the radii of others. The expected texts are those of a program that was written apart from this
+//! one.
 use crate::sample_source;
 use std::alloc::Global;
 use std::str;
