@@ -2,3 +2,4 @@ mod Files
 mod Pieces
 pub mod Sent
 mod Taken
+pub mod Unfailing

@@ -6,6 +6,7 @@ mod desk;
 mod gate;
 mod handle;
 mod memory;
+mod null;
 mod reading;
 mod real;
 #[cfg(test)]
@@ -15,6 +16,7 @@ mod writing;
 pub use desk::{Desk, Failed, Out};
 pub use gate::{Gate, Open};
 pub use memory::MemoryDesk;
+pub use null::NullDesk;
 pub use reading::{ReadEnd, read_all};
 pub use real::RealDesk;
 pub use writing::write_all;

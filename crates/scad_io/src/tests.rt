@@ -197,6 +197,20 @@ fn a_piece_is_written_whole_or_in_part(rt: HostRuntime) {
     assert_eq!(rt; desk.faults(), 1);
 }
 
+#[test]
+fn a_desk_that_keeps_nothing_takes_all(rt: HostRuntime) {
+    let mut desk = NullDesk::new();
+    assert!(rt; desk.open("a.scad").is_ok());
+    let text = read_all(rt.alloc(), &mut desk, None).expect(&rt, "a text");
+    assert!(rt; text.as_slice().is_empty());
+    assert!(rt; desk.create(Out::Gcode, "o.gcode").is_ok());
+    assert!(rt; desk.create(Out::Cli, "o.cli").is_ok());
+    let piece = [b'x'; LONG];
+    assert_eq!(rt; desk.write(Out::Report, &piece).ok(), Some(LONG));
+    assert_eq!(rt; desk.write(Out::Gcode, &piece).ok(), Some(LONG));
+    assert!(rt; write_all(&mut desk, Out::Cli, b"$$HEADERSTART\n").is_ok());
+}
+
 fn write_file<R: Files + Print + Abort>(rt: &R, name: &str) {
     let mut desk = RealDesk::new(rt);
     desk.create(Out::Cli, name).expect(rt, "a new file");
