@@ -1,3 +1,4 @@
 pub mod Subcommands
 pub mod Documents
 pub mod Ranges
+pub mod Numerals

@@ -1,8 +1,8 @@
 -- The subcommand that a parse met, with its matches, and the job that they give.
-use Rattle.std.proofs.Common.{◌≡◌, true, List, [], ◌∷◌, Option, Some, None, option_map, refl, sym, ap, subst, ◌∙◌, codes}
+use Rattle.std.proofs.Common.{◌≡◌, true, List, [], ◌∷◌, Option, Some, None, option_map, refl, sym, ap, subst, ◌∙◌}
 use Rattle.std.specs.Prelude.{option_and_then, if◌then◌else◌}
-use Rattle.clap.specs.Walk.{Row, Text, first_of, rows_of}
-use Rattle.clap.specs.Matches.{subcommand_name_of, first_value}
+use Rattle.clap.specs.Walk.{Row, Text, rows_of}
+use Rattle.clap.specs.Matches.{subcommand_name_of}
 use Rattle.clap.specs.Simple.{App, subcommand_rows_of, subcommand_of, is_simple}
 use Rattle.clap.specs.Kinds.{Kinds, IsAmong}
 use Rattle.clap.specs.Faults.{fault_of, is_simple_and_free}
@@ -10,7 +10,6 @@ use Rattle.clap.specs.declared.error.kind.ErrorKind.{ErrorKind}
 use Rattle.clap.specs.declared.parser.matches.Found.{Found}
 use Rattle.clap.specs.declared.parser.matches.ArgMatches.{ArgMatches}
 use Rattle.clap.specs.declared.parser.matches.ArgMatches.TheViews.{out-ArgMatches}
-use Rattle.clap.proofs.WalkLemmas.{first_value-rows}
 use Rattle.clap.proofs.OnLiterals.{clap_on_literals}
 use Rattle.scad_words.specs.CommandSet.{command_set}
 use Rattle.scad_words.specs.Job.{are_none, job_given, job_from, job_of}
@@ -27,14 +26,12 @@ met : (m : ArgMatches) (name : Text) (rows : List Row) → subcommand_name_of m 
     → subcommand_rows_of m ≡ Some (name, rows)
 met m name rows h k = both (out-ArgMatches m).subcommand _ _ name rows h k
 
--- the job of a parse that met a subcommand, by the values that it gives
-pub given_is : (m : ArgMatches) (name : Text) (f : Found) (model cli settings : Option Text) → subcommand_name_of m ≡ Some name
+-- the job of a parse that met a subcommand, by what it was given
+pub given_is : (m : ArgMatches) (name : Text) (f : Found) → subcommand_name_of m ≡ Some name
     → option_map (λ (p : Text × List Row). p.1) (subcommand_rows_of m) ≡ Some (rows_of f)
-    → model ≡ first_value f (codes "model") → cli ≡ first_value f (codes "cli") → settings ≡ first_value f (codes "settings")
-    → option_and_then job_from (subcommand_rows_of m) ≡ job_given name model cli settings
-given_is m name f model cli settings named rows is_model is_cli is_settings =
+    → option_and_then job_from (subcommand_rows_of m) ≡ job_given name (rows_of f)
+given_is m name f named rows =
     ap (λ (o : Option (Text × List Row)). option_and_then job_from o) (met m name (rows_of f) named rows)
-    ∙ sym (rw (is_model ∙ first_value-rows f (codes "model"), is_cli ∙ first_value-rows f (codes "cli"), is_settings ∙ first_value-rows f (codes "settings")) refl)
 
 -- the words have a job where clap takes them, and none where it finds a fault
 taken : (words : List Text) → fault_of command_set words ≡ [] → job_of words ≡ option_and_then job_from (subcommand_of command_set words)

@@ -1,6 +1,6 @@
--- The commands, as a simple command of clap: each with its positionals in order, all required, and the option
--- `--settings` with one value. Help and version are off, and one of the commands is required.
-use Rattle.std.specs.Prelude.{true, [], ◌∷◌, Some, codes}
+-- The commands, as a simple command of clap: each with its positionals in order, all required, and the options
+-- `--settings` and `--workers` with one value each. Help and version are off, and one of the commands is required.
+use Rattle.std.specs.Prelude.{true, Some, codes}
 use Rattle.clap.specs.Walk.{Rule, Text}
 use Rattle.clap.specs.Simple.{App, new_rule, new_app, on_top, with_rule, with_subcommand}
 
@@ -12,13 +12,27 @@ positional id = record (new_rule id) { required = true }
 abbrev pub option : Text → Rule
 option id = record (new_rule id) { long = Some id }
 
+-- a command with the options of every command
+abbrev pub with_options : App → App
+with_options command = with_rule (with_rule command (option (codes "settings"))) (option (codes "workers"))
+
 -- a command over one model: `NAME MODEL`
 abbrev pub model_app : Text → App
-model_app name = with_rule (with_rule (new_app name) (positional (codes "model"))) (option (codes "settings"))
+model_app name = with_options (with_rule (new_app name) (positional (codes "model")))
 
 -- `slice MODEL CLI`
 abbrev pub slice_app : App
-slice_app = with_rule (with_rule (with_rule (new_app (codes "slice")) (positional (codes "model"))) (positional (codes "cli"))) (option (codes "settings"))
+slice_app = with_options (with_rule (with_rule (new_app (codes "slice")) (positional (codes "model")))
+    (positional (codes "cli")))
+
+-- `plan MODEL CLI GCODE`
+abbrev pub plan_app : App
+plan_app = with_options (with_rule (with_rule (with_rule (new_app (codes "plan")) (positional (codes "model")))
+    (positional (codes "cli"))) (positional (codes "gcode")))
+
+-- `sample N`
+abbrev pub sample_app : App
+sample_app = with_options (with_rule (new_app (codes "sample")) (positional (codes "number")))
 
 -- the program without its commands
 abbrev pub program : App
@@ -30,5 +44,9 @@ program = on_top (λ s. record s {
   subcommand_required = true;
 }) (new_app (codes "scadslice"))
 
+-- those that read a model alone
+abbrev pub reading_set : App
+reading_set = with_subcommand (with_subcommand program (model_app (codes "check")).top) (model_app (codes "tree")).top
+
 abbrev pub command_set : App
-command_set = with_subcommand (with_subcommand (with_subcommand program (model_app (codes "check")).top) (model_app (codes "tree")).top) slice_app.top
+command_set = with_subcommand (with_subcommand (with_subcommand reading_set slice_app.top) plan_app.top) sample_app.top

@@ -1,4 +1,5 @@
 pub mod CommandSet
 pub mod Job
+pub mod Numbers
 pub mod Rows
 pub mod Settings

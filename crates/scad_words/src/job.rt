@@ -3,7 +3,7 @@
 use scad_fault::FileName;
 use thiserror::Error;
 
-/// A command with the files that it names.
+/// A command with the files or the number that it names.
 #[derive(Debug, Drop)]
 pub enum Command {
     /// Reads a model and reports its size.
@@ -12,13 +12,18 @@ pub enum Command {
     Tree(FileName),
     /// Reads a model, the first, and writes its outlines, the second.
     Slice(FileName, FileName),
+    /// Reads a model, the first, and writes its outlines, the second, and its printing program, the third.
+    Plan(FileName, FileName, FileName),
+    /// Plans the sample of this number.
+    Sample(u32),
 }
 
-/// A command and the file of its settings, where one is named.
+/// A command, the file of its settings, where one is named, and how many workers share the layers.
 #[derive(Debug, Drop)]
 pub struct Job {
     pub command: Command,
     pub settings: Option<FileName>,
+    pub workers: u32,
 }
 
 /// Why words give no job.

@@ -5,7 +5,9 @@
 #![tactic(auto)]
 
 mod command_set;
+mod given;
 mod job;
+mod number;
 mod rows;
 mod settings;
 #[cfg(test)]

@@ -12,41 +12,74 @@ fn split(alloc: Global, line: &str) -> Result<Vec<String>, AllocError> {
     Ok(words)
 }
 
-// The command, its files and the settings file; where there is none, nothing.
-fn parts(job: &Result<Job, WordFault>) -> [&str; 4] {
-    match job {
-        Ok(job) => {
-            let settings = match &job.settings {
-                Some(name) => name.as_str(),
-                None => "",
-            };
-            match &job.command {
-                Command::Check(model) => ["check", model.as_str(), "", settings],
-                Command::Tree(model) => ["tree", model.as_str(), "", settings],
-                Command::Slice(model, cli) => ["slice", model.as_str(), cli.as_str(), settings],
-            }
+// The command with its names, the settings file and the number of workers; where there is none, nothing.
+fn told(alloc: Global, job: &Result<Job, WordFault>) -> Result<String, Fail> {
+    let job = match job {
+        Ok(job) => job,
+        Err(WordFault::Usage) => return Ok(String::from_str(alloc, "usage")?),
+        Err(WordFault::Memory) => return Ok(String::from_str(alloc, "memory")?),
+    };
+    let settings = match &job.settings {
+        Some(name) => name.as_str(),
+        None => "",
+    };
+    let command = match &job.command {
+        Command::Check(model) => format!(in alloc; "check {}", model.as_str())?,
+        Command::Tree(model) => format!(in alloc; "tree {}", model.as_str())?,
+        Command::Slice(model, cli) => format!(in alloc;
+            "slice {} {}",
+            model.as_str(),
+            cli.as_str()
+        )?,
+        Command::Plan(model, cli, gcode) => {
+            format!(in alloc;
+                "plan {} {} {}",
+                model.as_str(),
+                cli.as_str(),
+                gcode.as_str()
+            )?
         }
-        Err(WordFault::Usage) => ["usage", "", "", ""],
-        Err(WordFault::Memory) => ["memory", "", "", ""],
-    }
+        Command::Sample(number) => format!(in alloc; "sample {number}")?,
+    };
+    Ok(format!(in alloc; "{command} by {settings} with {}", job.workers)?)
 }
 
 #[test]
 fn words_of_the_form_give_a_job(rt: HostRuntime) -> Result<(), Fail> {
     for (line, want) in [
-        ("check a", ["check", "a", "", ""]),
-        ("tree a", ["tree", "a", "", ""]),
-        ("slice a b", ["slice", "a", "b", ""]),
-        ("slice --settings s a b", ["slice", "a", "b", "s"]),
-        ("slice a --settings=s b", ["slice", "a", "b", "s"]),
-        ("slice a b --settings s", ["slice", "a", "b", "s"]),
-        ("check a --settings=s=t", ["check", "a", "", "s=t"]),
-        ("slice -- --settings b", ["slice", "--settings", "b", ""]),
-        ("slice a -- -b", ["slice", "a", "-b", ""]),
-        ("check -", ["check", "-", "", ""]),
+        ("check a", "check a by  with 1"),
+        ("tree a", "tree a by  with 1"),
+        ("slice a b", "slice a b by  with 1"),
+        ("slice --settings s a b", "slice a b by s with 1"),
+        ("slice a --settings=s b", "slice a b by s with 1"),
+        ("slice a b --settings s", "slice a b by s with 1"),
+        ("check a --settings=s=t", "check a by s=t with 1"),
+        ("slice -- --settings b", "slice --settings b by  with 1"),
+        ("slice a -- -b", "slice a -b by  with 1"),
+        ("check -", "check - by  with 1"),
+        ("plan a b c", "plan a b c by  with 1"),
+        (
+            "plan --workers 3 a b c --settings s",
+            "plan a b c by s with 3",
+        ),
+        ("plan a --workers=3 b c", "plan a b c by  with 3"),
+        ("sample 7", "sample 7 by  with 1"),
+        ("sample 007", "sample 7 by  with 1"),
+        ("sample 0", "sample 0 by  with 1"),
+        ("sample 2147483647", "sample 2147483647 by  with 1"),
+        ("sample 0000000001 --settings 1", "sample 1 by 1 with 1"),
+        ("sample 7 --workers 2 --settings s", "sample 7 by s with 2"),
+        ("check a --workers 1", "check a by  with 1"),
+        ("tree a --workers 64", "tree a by  with 64"),
+        ("slice a b --workers=000000064", "slice a b by  with 64"),
+        ("check --workers 2 -- a", "check a by  with 2"),
+        ("check 7", "check 7 by  with 1"),
+        ("plan -- a --workers 2", "plan a --workers 2 by  with 1"),
+        ("sample -- 12", "sample 12 by  with 1"),
     ] {
         let words = split(rt.alloc(), line)?;
-        assert_eq!(rt; parts(&read_words(rt.alloc(), &words)), want, "{line}");
+        let job = told(rt.alloc(), &read_words(rt.alloc(), &words))?;
+        assert_eq!(rt; job.as_str(), want, "{line}");
     }
     Ok(())
 }
@@ -67,22 +100,58 @@ fn other_words_are_a_usage_fault(rt: HostRuntime) -> Result<(), Fail> {
         "check a --settings",
         "check a --settings s --settings t",
         "--settings s check a",
-        "check a --workers 2",
+        "--workers 2 check a",
         "check a --help",
         "check -h",
         "help",
         "--version",
         "check -a",
         "Check a",
-        "plan a b c",
         "-- check a",
+        "plan a b",
+        "plan a b c d",
+        "plan a b b",
+        "plan a b a",
+        "plan a a b",
+        "plan a b c --settings a",
+        "plan a b c --settings b",
+        "plan a b c --settings c",
+        "check a --workers 0",
+        "check a --workers 65",
+        "check a --workers 000000000",
+        "check a --workers 0000000001",
+        "check a --workers 4294967297",
+        "check a --workers",
+        "check a --workers=",
+        "check a --workers +2",
+        "check a --workers -2",
+        "check a --workers 2.0",
+        "check a --workers x",
+        "check a --workers 0x2",
+        "check a --workers 2 --workers 2",
+        "check a --workers=2 --workers=3",
+        "check a --worker 2",
+        "check a -w 2",
+        "sample",
+        "sample a",
+        "sample 7 8",
+        "sample 2147483648",
+        "sample 9999999999",
+        "sample 00000000007",
+        "sample -- -1",
+        "sample -1",
+        "sample +7",
+        "sample 7.0",
+        "sample 1e3",
+        "sample 7 --workers 0",
+        "sample 7 --settings s --settings s",
+        "sample --number 7",
+        "verify a b",
+        "plan a --gcode c b",
     ] {
         let words = split(rt.alloc(), line)?;
-        assert_eq!(rt;
-            parts(&read_words(rt.alloc(), &words))[0],
-            "usage",
-            "{line}"
-        );
+        let job = told(rt.alloc(), &read_words(rt.alloc(), &words))?;
+        assert_eq!(rt; job.as_str(), "usage", "{line}");
     }
     Ok(())
 }

@@ -1,4 +1,4 @@
-use Rattle.std.proofs.Common.{◌≡◌, ap, ap₂, ◌∙◌}
+use Rattle.std.proofs.Common.{ap, ap₂, ◌∙◌}
 use Rattle.std.proofs.lemmas.Result.{IfOk-weaker}
 use Rattle.clap.specs.Simple.{App, with_subcommand}
 use Rattle.scad_words.proofs.command_set.command_set.Goals as goal
@@ -9,5 +9,9 @@ returns c =
     ∙ ap₂ with_subcommand c.program.ensures (ap (λ (a : App). a.top) c.in_ok-check.ensures.app) in
     let two = c.in_ok-subcommand-2.ensures.shape c.in_ok-tree.ensures.local
     ∙ ap₂ with_subcommand one (ap (λ (a : App). a.top) c.in_ok-tree.ensures.app) in
-    IfOk-weaker c.subcommand-3.result _ _
-    (λ r h. h.shape c.in_ok-slice.ensures.local ∙ ap₂ with_subcommand two (ap (λ (a : App). a.top) c.in_ok-slice.ensures.app)) c.subcommand-3.ensures
+    let three = c.in_ok-subcommand-3.ensures.shape c.in_ok-slice.ensures.local
+    ∙ ap₂ with_subcommand two (ap (λ (a : App). a.top) c.in_ok-slice.ensures.app) in
+    let four = c.in_ok-subcommand-4.ensures.shape c.in_ok-plan.ensures.local
+    ∙ ap₂ with_subcommand three (ap (λ (a : App). a.top) c.in_ok-plan.ensures.app) in
+    IfOk-weaker c.subcommand-5.result _ _ (λ r h. h.shape c.in_ok-sample.ensures.local
+    ∙ ap₂ with_subcommand four (ap (λ (a : App). a.top) c.in_ok-sample.ensures.app)) c.subcommand-5.ensures
