@@ -1,6 +1,6 @@
 -- The commands, as a simple command of clap: each with its positionals in order, all required, and the options
 -- `--settings` and `--workers` with one value each. Help and version are off, and one of the commands is required.
-use Rattle.std.specs.Prelude.{true, [], ◌∷◌, Some, codes}
+use Rattle.std.specs.Prelude.{true, Some, codes}
 use Rattle.clap.specs.Walk.{Rule, Text}
 use Rattle.clap.specs.Simple.{App, new_rule, new_app, on_top, with_rule, with_subcommand}
 

@@ -1,8 +1,7 @@
 //! What a command was given: its files, its number and its options.
-ghost use Rattle.std.specs.Prelude.{◌≡◌, ◌≢◌, ◌≤◌, Some, None, IfSome, IfOk, IfErr, Err, codes, option_map, option_and_then};
+ghost use Rattle.std.specs.Prelude.{◌≡◌, ◌≢◌, ◌≤◌, Some, None, IfSome, IfOk, IfErr, Err, option_map};
 ghost use Rattle.clap.specs.Matches.{found_of};
 ghost use Rattle.clap.specs.Walk.{rows_of, first_of};
-ghost use Rattle.scad_words.specs.Numbers.{sample_of};
 ghost use Rattle.scad_words.specs.Job.{slice_in, plan_in, sample_in, command_of, settings_in, workers_in};
 
 use crate::job::{Command, WordFault};
@@ -69,10 +68,7 @@ fn sample(given: &ArgMatches<'_>) -> Result<Command, WordFault>
 }
 
 /// The file of the settings, where one is named.
-pub(crate) fn settings(
-    alloc: Global,
-    given: &ArgMatches<'_>,
-) -> Result<Option<FileName>, WordFault>
+pub(crate) fn settings(alloc: Global, given: &ArgMatches<'_>) -> Result<Option<FileName>, WordFault>
     ensures name { IfOk result (λ f. f ≡ settings_in (rows_of (found_of given.now))) }
     ensures memory { IfErr result (λ fault. fault ≡ WordFault.Memory) }
 {

@@ -26,9 +26,18 @@ fn told(alloc: Global, job: &Result<Job, WordFault>) -> Result<String, Fail> {
     let command = match &job.command {
         Command::Check(model) => format!(in alloc; "check {}", model.as_str())?,
         Command::Tree(model) => format!(in alloc; "tree {}", model.as_str())?,
-        Command::Slice(model, cli) => format!(in alloc; "slice {} {}", model.as_str(), cli.as_str())?,
+        Command::Slice(model, cli) => format!(in alloc;
+            "slice {} {}",
+            model.as_str(),
+            cli.as_str()
+        )?,
         Command::Plan(model, cli, gcode) => {
-            format!(in alloc; "plan {} {} {}", model.as_str(), cli.as_str(), gcode.as_str())?
+            format!(in alloc;
+                "plan {} {} {}",
+                model.as_str(),
+                cli.as_str(),
+                gcode.as_str()
+            )?
         }
         Command::Sample(number) => format!(in alloc; "sample {number}")?,
     };
@@ -49,7 +58,10 @@ fn words_of_the_form_give_a_job(rt: HostRuntime) -> Result<(), Fail> {
         ("slice a -- -b", "slice a -b by  with 1"),
         ("check -", "check - by  with 1"),
         ("plan a b c", "plan a b c by  with 1"),
-        ("plan --workers 3 a b c --settings s", "plan a b c by s with 3"),
+        (
+            "plan --workers 3 a b c --settings s",
+            "plan a b c by s with 3",
+        ),
         ("plan a --workers=3 b c", "plan a b c by  with 3"),
         ("sample 7", "sample 7 by  with 1"),
         ("sample 007", "sample 7 by  with 1"),
@@ -143,6 +155,7 @@ fn other_words_are_a_usage_fault(rt: HostRuntime) -> Result<(), Fail> {
     }
     Ok(())
 }
+
 #[test]
 fn a_text_gives_the_keys_that_it_has(rt: HostRuntime) -> Result<(), Fail> {
     for (text, walls, layer_height) in [

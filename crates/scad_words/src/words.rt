@@ -1,5 +1,5 @@
 //! The job that the words ask for.
-ghost use Rattle.std.specs.Prelude.{◌≡◌, ◌≤◌, map, Some, None, option_and_then, IfOk, Err, ◌≢◌, string_bytes, not, bytes_eq, ◌++◌, [], ◌∷◌};
+ghost use Rattle.std.specs.Prelude.{◌≡◌, ◌≢◌, ◌≤◌, not, map, ◌++◌, ◌∷◌, Some, None, option_and_then, IfOk, Err, string_bytes, bytes_eq};
 ghost use Rattle.std.specs.List.{list_any};
 ghost use Rattle.clap.specs.Matches.{found_of};
 ghost use Rattle.clap.specs.Simple.{app_of, subcommand_rows_of};
@@ -15,11 +15,12 @@ use clap::error::ErrorKind;
 use scad_fault::FileName;
 use std::alloc::{AllocError, Global};
 
-/// The job that the words behind the program's name ask for. They are `check MODEL`, `tree MODEL`, `slice MODEL CLI`,
-/// `plan MODEL CLI GCODE` or `sample N`, with `--settings FILE` and `--workers W` each at most once before, between or
-/// after these, also as `--settings=FILE`; after `--` each word is a name. N is below 2^31 in at most ten digits, W from 1
-/// to 64 in at most nine, and 1 where it isn't given. No two of the named files may have equal names. Where the words are
-/// of no such form the answer is `Usage`.
+/// The job that the words behind the program's name ask for.
+///
+/// They are `check MODEL`, `tree MODEL`, `slice MODEL CLI`, `plan MODEL CLI GCODE` or `sample N`, with `--settings FILE`
+/// and `--workers W` each at most once before, between or after these, also as `--settings=FILE`; after `--` each word
+/// is a name. N is below 2^31 in at most ten digits, W from 1 to 64 in at most nine, and 1 where it isn't given. No two
+/// of the named files may have equal names. Where the words are of no such form the answer is `Usage`.
 pub fn read_words(alloc: Global, words: &[String]) -> Result<Job, WordFault>
     ensures job { IfOk result (λ job. job_of (map string_bytes words.now) ≡ Some job) }
     ensures workers { IfOk result (λ job. (1 ≤ job.workers) × (job.workers ≤ 64)) }
@@ -64,7 +65,8 @@ fn refusal(kind: ErrorKind) -> WordFault
 fn job_met(alloc: Global, matches: &ArgMatches<'_>) -> Result<Job, WordFault>
     ensures job { IfOk result (λ job. option_and_then job_from (subcommand_rows_of matches.now) ≡ Some job) }
     ensures workers { IfOk result (λ job. (1 ≤ job.workers) × (job.workers ≤ 64)) }
-    ensures usage { (result ≡ Err WordFault.Usage) → (option_and_then job_from (subcommand_rows_of matches.now) ≡ None) }
+    ensures usage { (result ≡ Err WordFault.Usage)
+        → (option_and_then job_from (subcommand_rows_of matches.now) ≡ None) }
 {
     match matches.subcommand() {
         Some((name, given)) => job_given(alloc, name, given),

@@ -1,5 +1,4 @@
-use Rattle.std.proofs.Common.{rules, ◌≡◌, true, Ok, Some, ap, ◌∙◌}
-use Rattle.std.specs.Str.Parse.{digits_value}
+use Rattle.std.proofs.Common.{rules, ◌≡◌, true}
 use Rattle.scad_words.specs.Numbers.{is_number}
 use Rattle.scad_words.proofs.Numerals.{number_read}
 use Rattle.scad_words.proofs.number.number_of.Goals as goal

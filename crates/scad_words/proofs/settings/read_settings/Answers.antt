@@ -1,4 +1,4 @@
-use Rattle.std.proofs.Common.{rules, Option, Some, Err, sym, ap, ◌∙◌, subst}
+use Rattle.std.proofs.Common.{rules, Option, Err, sym, ap, ◌∙◌, subst}
 use Rattle.toml.specs.Data.{Members}
 use Rattle.toml.specs.View.{table_view}
 use Rattle.scad_fault.specs.declared.settings.SetKind.TheVariants.{NotToml}

@@ -1,12 +1,8 @@
-use Rattle.std.proofs.Common.{rules, ◌≡◌, ◌⊎◌, inl, inr, [], map, string_bytes, Option, sym, ap, ◌∙◌, List}
-use Rattle.std.specs.Prelude.{option_and_then}
+use Rattle.std.proofs.Common.{◌≡◌, inl, inr, map, string_bytes, ap, ◌∙◌}
 use Rattle.std.proofs.lemmas.Result.{IfOk-weaker}
-use Rattle.clap.specs.Walk.{Row, Text}
-use Rattle.clap.specs.Simple.{App, app_of, is_simple, subcommand_of, subcommand_rows_of}
-use Rattle.clap.specs.Faults.{fault_of, is_simple_and_free}
+use Rattle.clap.specs.Simple.{app_of, subcommand_rows_of}
+use Rattle.clap.specs.Faults.{is_simple_and_free}
 use Rattle.clap.specs.Values.{kind_of}
-use Rattle.scad_words.specs.CommandSet.{command_set}
-use Rattle.scad_words.specs.Job.{job_from, job_of}
 use Rattle.scad_words.specs.declared.job.WordFault.TheVariants.{Usage}
 use Rattle.scad_words.proofs.Subcommands.{refused_by, set_is_simple, whole_is}
 use Rattle.scad_words.proofs.words.asked.Goals as goal
