@@ -26,5 +26,6 @@ mod writer;
 pub use fault::GFault;
 pub use layer::are_few;
 pub use machine::{Machine, Move};
+pub use numeral::push_hundred_thousandths;
 pub use rates::Rates;
 pub use writer::{write_end, write_head, write_layer};

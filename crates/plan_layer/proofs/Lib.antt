@@ -11,3 +11,4 @@ pub mod Pushed
 pub mod Points
 pub mod Ascending
 pub mod OnePlan
+pub mod OneAnswer

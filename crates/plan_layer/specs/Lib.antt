@@ -5,4 +5,5 @@ pub mod Extent
 pub mod Plan
 pub mod Kept
 pub mod Refusal
+pub mod There
 pub mod One

@@ -1,16 +1,33 @@
--- That a plan leaves nothing open.
+-- That a plan, and a refusal, leave nothing open.
 use Rattle.std.specs.Prelude.{◌≡◌, ℕ, List, All}
 use Rattle.scad_geom.specs.declared.point.Pt.{Pt}
 use Rattle.scad_geom.specs.Limits.{point_limit}
 use Rattle.scad_geom.specs.Within.{IsWithin}
 use Rattle.scad_words.specs.declared.settings.Settings.{Settings}
 use Rattle.scad_words.specs.Settings.{AreInRange}
+use Rattle.plan_layer.specs.declared.fault.PlanFault.{PlanFault}
 use Rattle.plan_layer.specs.Plan.{IsPlan}
+use Rattle.plan_layer.specs.There.{IsAccepted, IsRefused}
 
--- ---- the law
+-- ---- the laws
 -- A layer has one plan over its outlines.
 abbrev pub PlansAreOne : Type 0
 PlansAreOne =
     (outlines : List (List Pt)) → All (λ l. All (IsWithin point_limit) l) outlines → (layer : ℕ) (s : Settings)
     → AreInRange s
     → (a b : List (List Pt)) → IsPlan outlines layer s a → IsPlan outlines layer s b → a ≡ b
+
+-- It is refused by one fault.
+abbrev pub RefusalsAreOne : Type 0
+RefusalsAreOne =
+    (outlines : List (List Pt)) → All (λ l. All (IsWithin point_limit) l) outlines → (layer : ℕ) (s : Settings)
+    → AreInRange s
+    → (a b : PlanFault) → IsRefused outlines layer s a → IsRefused outlines layer s b → a ≡ b
+
+-- Where a plan passes no limit it isn't refused.
+abbrev pub AcceptedIsNotRefused : Type 0
+AcceptedIsNotRefused =
+    (outlines : List (List Pt)) → All (λ l. All (IsWithin point_limit) l) outlines → (layer : ℕ) (s : Settings)
+    → AreInRange s
+    → (paths : List (List Pt)) (fault : PlanFault) → IsAccepted outlines layer s paths
+    → IsRefused outlines layer s fault → ⊥

@@ -1,6 +1,5 @@
 pub mod Budgets
-pub mod Drawing
+pub mod Parts
 pub mod Script
-pub mod Playing
 pub mod Membership
 pub mod Laws

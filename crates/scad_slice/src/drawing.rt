@@ -1,131 +1,130 @@
-//! The head, the layers and the end of a tree's outlines.
-ghost use Rattle.std.specs.Prelude.{◌≡◌, ◌≤◌, ◌<◌, ◌∷◌, [], true, IfOk, OnOk};
-ghost use Rattle.scad_io.specs.declared.desk.Out.TheVariants.{Cli};
-ghost use Rattle.scad_script.specs.Steps.{Sends};
-ghost use Rattle.scad_script.specs.Script.{first, layers};
-ghost use Rattle.scad_script.specs.Played.{Carries, Completes, HasRisen};
+//! The files of a tree.
+ghost use Rattle.std.specs.Prelude.{◌≡◌, ◌+◌, ◌≤◌, ◌<◌, IfOk, IfSome, OnOk};
+ghost use Rattle.scad_script.specs.Script.{layers};
+ghost use Rattle.scad_script.specs.Played.{Carries, HasRisen};
 ghost use Rattle.scad_script.specs.Run.{Sound, CreatesNone};
 ghost use Rattle.scad_tree.specs.View.{solid_of};
-ghost use Rattle.scad_tree.specs.Solids.{AreSolids};
-ghost use Rattle.cli_text.specs.Cli.{head, geometry_end};
-ghost use Rattle.scad_slice.specs.Budgets.{layer_count, layer_limit};
-ghost use Rattle.scad_slice.specs.Drawing.{IsDrawing, loop_count};
-ghost use Rattle.scad_slice.specs.Script.{done_line, layer_steps, drawing_script};
+ghost use Rattle.scad_words.specs.Settings.{AreInRange};
+ghost use Rattle.slice_work.specs.Part.{layer_limit};
+ghost use Rattle.slice_work.specs.Script.{AreThere, rates_of, layer_steps, stop_of};
+ghost use Rattle.slice_work.specs.Sums.{IsSummary};
+ghost use Rattle.scad_slice.specs.Budgets.{layer_count};
+ghost use Rattle.scad_slice.specs.Parts.{IsPart};
+ghost use Rattle.scad_slice.specs.Script.{files, IsWritten};
 
-use crate::layer::draw_layer;
-use cli_text::{write_end, write_head};
-use itoa::Buffer;
-use scad_fault::Text;
-use scad_io::{Desk, Out};
-use scad_script::{Stop, send};
+use crate::pieces::{send_heads, send_tails};
+use crate::tree_work::TreeWork;
+use crate::written::{Sizes, Written};
+use scad_io::{Desk, Gate};
+use scad_script::{Refusal, Stop};
 use scad_tree::Tree;
-use std::alloc::{AllocError, Global};
+use scad_words::Settings;
+use slice_work::{Summary, Want, WorkFault, work};
+use std::alloc::Global;
+use std::thread::Threads;
 
-/// Writes the outlines of a tree that has so many layers of this height, and gives the last line.
-pub fn draw<D: Desk>(
+/// Writes the files of a tree to outputs that are created: the heads, the layers from the lowest upwards, and the ends. The work
+/// on the layers is done by so many workers; the bytes and the answer are the same for every number of them.
+///
+/// Where the outlines alone are wanted, the printing program isn't written. A layer whose section has more than 20,000 edges, or
+/// then more than 2,000,000 crossings of edges, ends the files before its own bytes; with a plan so does one whose walls have
+/// too many edges or crossings, or then whose plan has too many moves. The answer is the budget of the lowest such layer.
+pub fn draw<R: Threads + Sync, D: Desk, G: Gate>(
+    rt: &R,
     alloc: Global,
     tree: &Tree,
-    height: u32,
-    count: u32,
+    settings: &Settings,
+    want: Want,
+    workers: u32,
     desk: &mut D,
-) -> Result<Text, Stop>
-    requires thin { height ≤ 100000 }
-    requires number { count ≡ layer_count height (solid_of tree.now) }
-    requires few { count ≤ layer_limit }
-    requires solids { AreSolids (solid_of tree.now) }
+    gate: &G,
+) -> Result<Written, Stop>
+    requires few { layer_count settings.now.layer_height (solid_of tree.now) ≤ layer_limit }
+    requires settings { AreInRange settings.now }
+    requires some { 1 ≤ workers }
+    requires most { workers ≤ 64 }
     requires sound { Sound (D.view desk.old) }
-    requires made { (D.view desk.old).cli.created ≡ true }
+    requires there { AreThere want (D.view desk.old) }
 
-    ensures completes { (drawing : _) → IsDrawing height (solid_of tree.now) drawing
-        → Completes (drawing_script height (solid_of tree.now) drawing) result (D.view desk.old) (D.view desk.new) }
-    ensures files { D.files desk.new ≡ D.files desk.old }
-    ensures later { D.faults desk.old ≤ D.faults desk.new }
-    ensures cause { HasRisen result (D.faults desk.old) (D.faults desk.new) }
-{
-    send_head(alloc, count, desk)?;
-    let loops = draw_layers(alloc, tree, height, count, desk)?;
-    send_end(alloc, desk)?;
-    let line = done_line(alloc, count, loops)?;
-    Ok(Text::from_vec(line))
-}
-
-fn send_head<D: Desk>(alloc: Global, count: u32, desk: &mut D) -> Result<(), Stop>
-    requires sound { Sound (D.view desk.old) }
-    requires made { (D.view desk.old).cli.created ≡ true }
-
-    ensures carries { Carries (first (Sends Cli (head count) ∷ [])) result (D.view desk.old) (D.view desk.new) }
+    ensures carries { (part : _) → IsPart want settings.now (solid_of tree.now) part
+        → Carries (files want settings.now part (layer_count settings.now.layer_height (solid_of tree.now))) result (D.view desk.old) (D.view desk.new) }
+    ensures written { IfOk result (λ w. (part : _) → IsPart want settings.now (solid_of tree.now) part
+        → IsWritten want settings.now part (layer_count settings.now.layer_height (solid_of tree.now)) w) }
     ensures sound { OnOk result (Sound (D.view desk.new)) }
     ensures creates { OnOk result (CreatesNone (D.view desk.old) (D.view desk.new)) }
     ensures files { D.files desk.new ≡ D.files desk.old }
     ensures later { D.faults desk.old ≤ D.faults desk.new }
     ensures cause { HasRisen result (D.faults desk.old) (D.faults desk.new) }
 {
-    let mut text = Vec::new(alloc);
-    write_head(&mut text, count)?;
-    send(desk, Out::Cli, &text)
-}
-
-/// Writes so many layers from the lowest upwards: how many outlines they have together. No memory holds more than a number
-/// can count.
-fn draw_layers<D: Desk>(
-    alloc: Global,
-    tree: &Tree,
-    height: u32,
-    count: u32,
-    desk: &mut D,
-) -> Result<u64, Stop>
-    requires thin { height ≤ 100000 }
-    requires few { count ≤ layer_limit }
-    requires solids { AreSolids (solid_of tree.now) }
-    requires sound { Sound (D.view desk.old) }
-    requires made { (D.view desk.old).cli.created ≡ true }
-
-    ensures carries { (drawing : _) → IsDrawing height (solid_of tree.now) drawing
-        → Carries (layers (layer_steps height (solid_of tree.now) drawing) 0 count) result (D.view desk.old) (D.view desk.new) }
-    ensures loops { IfOk result (λ loops. (drawing : _) → IsDrawing height (solid_of tree.now) drawing → loops ≡ loop_count drawing count) }
-    ensures sound { OnOk result (Sound (D.view desk.new)) }
-    ensures creates { OnOk result (CreatesNone (D.view desk.old) (D.view desk.new)) }
-    ensures files { D.files desk.new ≡ D.files desk.old }
-    ensures later { D.faults desk.old ≤ D.faults desk.new }
-    ensures cause { HasRisen result (D.faults desk.old) (D.faults desk.new) }
-{
-    let mut loops: u64 = 0;
-    'layers: for layer in 0..count {
-        let drawn = draw_layer(alloc, tree, height, layer, desk)?;
-        loops = match loops.checked_add(drawn) {
-            Some(sum) => sum,
-            None => return Err(Stop::Memory),
-        };
+    let count = tree.layers(settings.layer_height);
+    let heads = send_heads(alloc, settings, want, count, desk)?;
+    let told = send_layers(rt, alloc, tree, settings, want, count, workers, desk, gate)?;
+    let tails = send_tails(alloc, want, desk)?;
+    match written(told, heads, tails) {
+        Some(written) => Ok(written),
+        None => Err(Stop::Memory),
     }
-    Ok(loops)
 }
 
-fn send_end<D: Desk>(alloc: Global, desk: &mut D) -> Result<(), Stop>
+fn send_layers<R: Threads + Sync, D: Desk, G: Gate>(
+    rt: &R,
+    alloc: Global,
+    tree: &Tree,
+    settings: &Settings,
+    want: Want,
+    count: u32,
+    workers: u32,
+    desk: &mut D,
+    gate: &G,
+) -> Result<Summary, Stop>
+    requires few { count ≤ layer_limit }
+    requires settings { AreInRange settings.now }
+    requires some { 1 ≤ workers }
+    requires most { workers ≤ 64 }
     requires sound { Sound (D.view desk.old) }
-    requires made { (D.view desk.old).cli.created ≡ true }
+    requires there { AreThere want (D.view desk.old) }
 
-    ensures carries { Carries (first (Sends Cli geometry_end ∷ [])) result (D.view desk.old) (D.view desk.new) }
+    ensures carries { (part : _) → IsPart want settings.now (solid_of tree.now) part
+        → Carries (layers (layer_steps want (rates_of settings.now) part) 0 count) result (D.view desk.old) (D.view desk.new) }
+    ensures told { IfOk result (λ s. (part : _) → IsPart want settings.now (solid_of tree.now) part → IsSummary want (rates_of settings.now) part count s) }
     ensures sound { OnOk result (Sound (D.view desk.new)) }
     ensures creates { OnOk result (CreatesNone (D.view desk.old) (D.view desk.new)) }
     ensures files { D.files desk.new ≡ D.files desk.old }
     ensures later { D.faults desk.old ≤ D.faults desk.new }
     ensures cause { HasRisen result (D.faults desk.old) (D.faults desk.new) }
 {
-    let mut text = Vec::new(alloc);
-    write_end(&mut text)?;
-    send(desk, Out::Cli, &text)
+    let layers = TreeWork {
+        tree,
+        settings: *settings,
+        want,
+    };
+    match work(rt, alloc, count, &layers, settings, want, workers, desk, gate) {
+        Ok(told) => Ok(told),
+        Err(fault) => Err(stop_of(fault)),
+    }
 }
 
-/// `done: N layers, L loops`
-#[tactic(auto, unfolding(crate::specs::Script::done_line))]
-fn done_line(alloc: Global, count: u32, loops: u64) -> Result<Vec<u8>, AllocError>
-    ensures { IfOk result (λ line. line.items ≡ done_line count loops) }
+fn stop_of(fault: WorkFault) -> Stop
+    ensures { result ≡ stop_of fault }
 {
-    let mut number = Buffer::new();
-    let mut line = Vec::from_slice(alloc, b"done: ")?;
-    line.extend_from_slice(number.format(count).as_bytes())?;
-    line.extend_from_slice(b" layers, ")?;
-    line.extend_from_slice(number.format(loops).as_bytes())?;
-    line.extend_from_slice(b" loops\n")?;
-    Ok(line)
+    match fault {
+        WorkFault::Memory => Stop::Memory,
+        WorkFault::Write => Stop::Write,
+        WorkFault::Over(budget) => Stop::Ends(Refusal::Over(budget)),
+    }
+}
+
+// What is told of the layers, with the bytes of heads and ends. No memory holds more than the numbers count.
+fn written(told: Summary, heads: Sizes, tails: Sizes) -> Option<Written>
+    ensures { IfSome result (λ w. w ≡ record {
+        summary = told;
+        cli = heads.cli + told.cli + tails.cli;
+        gcode = heads.gcode + told.gcode + tails.gcode;
+    }) }
+{
+    Some(Written {
+        summary: told,
+        cli: heads.cli.checked_add(told.cli)?.checked_add(tails.cli)?,
+        gcode: heads.gcode.checked_add(told.gcode)?.checked_add(tails.gcode)?,
+    })
 }

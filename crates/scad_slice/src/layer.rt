@@ -1,95 +1,103 @@
-//! One layer: its outlines, and their lines.
-ghost use Rattle.std.specs.Prelude.{◌≡◌, ◌≤◌, ◌<◌, ◌∷◌, [], true, None, length, IfOk, IfErr, OnOk};
+//! The work on one layer of a tree.
+ghost use Rattle.std.specs.Prelude.{◌≡◌, ◌<◌, ◌≤◌, All, Result, IfOk};
 ghost use Rattle.scad_fault.specs.Place.{no_place};
-ghost use Rattle.scad_io.specs.declared.desk.Out.TheVariants.{Cli};
-ghost use Rattle.scad_script.specs.Steps.{Sends};
-ghost use Rattle.scad_script.specs.Script.{first, layer_then};
-ghost use Rattle.scad_script.specs.Played.{Carries, HasRisen};
-ghost use Rattle.scad_script.specs.Run.{Sound, CreatesNone};
+ghost use Rattle.scad_fault.specs.declared.budget.Budget.{Budget};
+ghost use Rattle.scad_geom.specs.Limits.{point_limit};
+ghost use Rattle.scad_geom.specs.Within.{IsWithin};
 ghost use Rattle.scad_tree.specs.View.{solid_of};
 ghost use Rattle.scad_tree.specs.Solids.{AreSolids};
-ghost use Rattle.slice_layer.specs.Outlines.{AreLayerOutlines};
-ghost use Rattle.cli_text.specs.Cli.{Layer, layer_text};
-ghost use Rattle.scad_slice.specs.Budgets.{layer_limit, layer_budget, budget_passed};
-ghost use Rattle.scad_slice.specs.Drawing.{IsDrawing};
-ghost use Rattle.scad_slice.specs.Script.{layer_steps};
-ghost use Rattle.scad_slice.specs.Playing.{EndsLayer};
+ghost use Rattle.scad_words.specs.Settings.{AreInRange};
+ghost use Rattle.slice_work.specs.declared.layer.LayerEnd.TheVariants.{Over};
+ghost use Rattle.slice_work.specs.declared.want.Want.TheVariants.{Plan};
+ghost use Rattle.slice_work.specs.Part.{Layout, Ends};
+ghost use Rattle.scad_slice.specs.Parts.{IsLaidOut, IsLayer, IsPart};
 
-use cli_text::write_layer;
+use crate::tree_work::TreeWork;
+use plan_layer::{PlanFault, plan};
 use scad_fault::{Budget, BudgetKind};
 use scad_geom::Loop;
-use scad_io::{Desk, Out};
-use scad_script::{Refusal, Stop, send};
 use scad_tree::Tree;
+use scad_words::Settings;
 use slice_bool::BoolFault;
 use slice_layer::layer_outlines;
-use std::alloc::Global;
+use slice_work::{LayerEnd, LayerPlan, LayerWork, Want};
+use std::alloc::{AllocError, Global};
 
 /// The most edges of a layer's section.
 const EDGE_LIMIT: u32 = 20_000;
 
-/// Writes one layer of a tree by one write, unless it passes a budget: how many outlines it has.
-pub fn draw_layer<D: Desk>(
-    alloc: Global,
-    tree: &Tree,
-    height: u32,
-    layer: u32,
-    desk: &mut D,
-) -> Result<u64, Stop>
-    requires thin { height ≤ 100000 }
-    requires within { layer < layer_limit }
-    requires solids { AreSolids (solid_of tree.now) }
-    requires sound { Sound (D.view desk.old) }
-    requires made { (D.view desk.old).cli.created ≡ true }
+impl LayerWork for TreeWork<'_> {
+    ghost draws = { λ work part. IsPart work.want work.settings (solid_of work.tree.now) part };
 
-    ensures carries { (drawing : _) → IsDrawing height (solid_of tree.now) drawing
-        → Carries (layer_then (layer_steps height (solid_of tree.now) drawing layer)) result (D.view desk.old) (D.view desk.new) }
-    ensures loops { IfOk result (λ loops. (drawing : _) → IsDrawing height (solid_of tree.now) drawing → loops ≡ length (drawing layer)) }
-    ensures sound { OnOk result (Sound (D.view desk.new)) }
-    ensures creates { OnOk result (CreatesNone (D.view desk.old) (D.view desk.new)) }
-    ensures files { D.files desk.new ≡ D.files desk.old }
-    ensures later { D.faults desk.old ≤ D.faults desk.new }
-    ensures cause { HasRisen result (D.faults desk.old) (D.faults desk.new) }
-{
-    let loops = outlines(alloc, tree, height, layer)?;
-    send_layer(alloc, height * (layer + 1), &loops, desk)?;
-    Ok(loops.len() as u64)
-}
-
-/// The outlines of a layer, or why it ends the script.
-fn outlines(alloc: Global, tree: &Tree, height: u32, layer: u32) -> Result<Vec<Loop>, Stop>
-    ensures outlines { IfOk result (λ v. AreLayerOutlines layer height (solid_of tree.now) v.items) }
-    ensures within { OnOk result (layer_budget height (solid_of tree.now) layer ≡ None) }
-    ensures ends { IfErr result (EndsLayer (layer_budget height (solid_of tree.now) layer)) }
-{
-    match layer_outlines(alloc, tree, layer, height, EDGE_LIMIT) {
-        Ok(loops) => Ok(loops),
-        Err(BoolFault::Edges(count)) => Err(passed(BudgetKind::LayerEdges, layer, count)),
-        Err(BoolFault::Crossings(count)) => Err(passed(BudgetKind::LayerCrossings, layer, count)),
-        Err(BoolFault::Memory) => Err(Stop::Memory),
+    fn draw(&self, alloc: Global, layer: u32) -> Result<LayerEnd, AllocError> {
+        self.tree.are_solids();
+        draw_layer(alloc, self.tree, &self.settings, self.want, layer)
     }
 }
 
-fn passed(kind: BudgetKind, layer: u32, count: u64) -> Stop
-    ensures { result ≡ Stop.Ends (Refusal.Over (record { kind = kind; at = no_place; layer = layer; count = count })) }
+/// The outlines of a layer and, where it is wanted, the plan over them, or the first budget that the layer passes.
+fn draw_layer(
+    alloc: Global,
+    tree: &Tree,
+    settings: &Settings,
+    want: Want,
+    layer: u32,
+) -> Result<LayerEnd, AllocError>
+    requires settings { AreInRange settings.now }
+    requires solids { AreSolids (solid_of tree.now) }
+
+    ensures { IfOk result (λ end. (layout : Result Layout Budget) × IsLayer want settings.now (solid_of tree.now) layer layout × Ends layout end) }
 {
-    Stop::Ends(Refusal::Over(Budget::of_layer(kind, layer, count)))
+    match layer_outlines(alloc, tree, layer, settings.layer_height, EDGE_LIMIT) {
+        Ok(loops) => lay_out(alloc, loops, settings, want, layer),
+        Err(BoolFault::Edges(count)) => Ok(over(BudgetKind::LayerEdges, layer, count)),
+        Err(BoolFault::Crossings(count)) => Ok(over(BudgetKind::LayerCrossings, layer, count)),
+        Err(BoolFault::Memory) => Err(AllocError),
+    }
 }
 
-/// Writes the lines of a layer by one write.
-fn send_layer<D: Desk>(alloc: Global, z: u32, loops: &[Loop], desk: &mut D) -> Result<(), Stop>
-    requires sound { Sound (D.view desk.old) }
-    requires made { (D.view desk.old).cli.created ≡ true }
+// What is wanted over the outlines of a layer.
+fn lay_out(
+    alloc: Global,
+    loops: Vec<Loop>,
+    settings: &Settings,
+    want: Want,
+    layer: u32,
+) -> Result<LayerEnd, AllocError>
+    requires settings { AreInRange settings.now }
+    requires within { All (λ l. All (IsWithin point_limit) l) loops.items }
 
-    ensures carries { Carries (first (Sends Cli (layer_text (record { z = z; loops = loops.now })) ∷ []))
-        result (D.view desk.old) (D.view desk.new) }
-    ensures sound { OnOk result (Sound (D.view desk.new)) }
-    ensures creates { OnOk result (CreatesNone (D.view desk.old) (D.view desk.new)) }
-    ensures files { D.files desk.new ≡ D.files desk.old }
-    ensures later { D.faults desk.old ≤ D.faults desk.new }
-    ensures cause { HasRisen result (D.faults desk.old) (D.faults desk.new) }
+    ensures { IfOk result (λ end. (layout : Result Layout Budget) × IsLaidOut want settings.now layer loops.items layout × Ends layout end) }
 {
-    let mut text = Vec::new(alloc);
-    write_layer(&mut text, z, loops)?;
-    send(desk, Out::Cli, &text)
+    match want {
+        Want::Outlines => Ok(LayerEnd::Made(loops, LayerPlan { paths: Vec::new(alloc) })),
+        Want::Plan => plan_out(alloc, loops, settings, layer),
+    }
+}
+
+// The plan over the outlines of a layer.
+fn plan_out(
+    alloc: Global,
+    loops: Vec<Loop>,
+    settings: &Settings,
+    layer: u32,
+) -> Result<LayerEnd, AllocError>
+    requires settings { AreInRange settings.now }
+    requires within { All (λ l. All (IsWithin point_limit) l) loops.items }
+
+    ensures { IfOk result (λ end. (layout : Result Layout Budget) × IsLaidOut Plan settings.now layer loops.items layout × Ends layout end) }
+{
+    match plan(alloc, &loops, layer, settings) {
+        Ok(plan) => Ok(LayerEnd::Made(loops, LayerPlan { paths: plan.paths })),
+        Err(PlanFault::Edges(count)) => Ok(over(BudgetKind::LayerEdges, layer, count)),
+        Err(PlanFault::Crossings(count)) => Ok(over(BudgetKind::LayerCrossings, layer, count)),
+        Err(PlanFault::Moves(count)) => Ok(over(BudgetKind::LayerMoves, layer, count)),
+        Err(PlanFault::Memory) => Err(AllocError),
+    }
+}
+
+fn over(kind: BudgetKind, layer: u32, count: u64) -> LayerEnd
+    ensures { result ≡ Over (record { kind = kind; at = no_place; layer = layer; count = count }) }
+{
+    LayerEnd::Over(Budget::of_layer(kind, layer, count))
 }

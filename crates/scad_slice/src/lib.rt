@@ -1,14 +1,21 @@
-//! The outlines of a whole tree, written layer by layer: the part of `slice` that follows evaluation.
+//! The files of a whole tree, written layer by layer: the part of `slice`, `plan` and `sample` that follows evaluation.
 //!
-//! The contracts promise that the script of every drawing of the tree is played, and the laws that a tree of solids has one
-//! drawing, whose layers hold what the tree contains.
+//! The contracts promise that the script of what is drawn of the tree is played, and the laws that a tree of solids has one such
+//! part, whose layers hold what the tree contains.
 #![tactic(auto)]
 
+mod commands;
 mod drawing;
-pub mod laws;
 mod layer;
-mod slicing;
+pub mod laws;
+mod lines;
+mod pieces;
 #[cfg(test)]
 mod tests;
+mod tree_work;
+mod written;
 
-pub use slicing::{LAYER_LIMIT, slice};
+pub use commands::{count_layers, plan, slice};
+pub use drawing::draw;
+pub use slice_work::{LAYER_LIMIT, Summary, Want};
+pub use written::Written;
