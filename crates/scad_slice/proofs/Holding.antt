@@ -1,17 +1,29 @@
--- The layers of a drawing hold what the tree contains.
-use Rattle.std.proofs.Common.{◌≡◌, ◌+◌, ◌<◌, ◌≤◌, ℕ, zero, suc, Some, ap, sym, ◌∙◌, refl, subst, length, arith}
-use Rattle.std.specs.Prelude.{map, slice_get, IsSomeAnd}
+-- The layers of a part hold what the tree contains.
+use Rattle.std.proofs.Common.{◌≡◌, ◌+◌, ◌<◌, ◌≤◌, ℕ, zero, suc, Option, Some, None, Result, Ok, Err, ap, sym, ◌∙◌, refl, subst, length, arith}
+use Rattle.std.specs.Prelude.{List, map, slice_get, IsSomeAnd}
 use Rattle.std.specs.List.{range_with_len}
 use Rattle.std.proofs.lemmas.List.FromFn.{length-map-range_with_len}
+use Rattle.scad_fault.specs.declared.budget.Budget.{Budget}
+use Rattle.scad_geom.specs.declared.point.Pt.{Pt}
+use Rattle.scad_words.specs.declared.settings.Settings.{Settings}
+use Rattle.scad_words.specs.Settings.{AreInRange}
+use Rattle.slice_work.specs.declared.want.Want.{Want}
+use Rattle.slice_work.specs.declared.want.Want.TheVariants.{Outlines, Plan}
+use Rattle.slice_work.specs.Part.{Layout, Part, outlines_of}
+use Rattle.slice_layer.specs.Outlines.{AreLayerOutlines}
 use Rattle.scad_tree.specs.Solid.{Solid}
 use Rattle.scad_tree.proofs.Above.{layers_hold}
 use Rattle.scad_tree.specs.Solids.{AreSolids}
 use Rattle.slice_layer.proofs.Surfaces.{solids_closed}
 use Rattle.slice_layer.proofs.Membership.{outlines_hold_centres}
-use Rattle.scad_slice.specs.Budgets.{layer_count}
-use Rattle.scad_slice.specs.Drawing.{Drawing, IsDrawing, layer_at, layers_of}
+use Rattle.scad_slice.specs.Budgets.{layer_count, layer_budget}
+use Rattle.scad_slice.specs.Parts.{IsLaidOut, IsLayerUnless, IsLayer, IsPart, layer_at, layers_of}
 use Rattle.scad_slice.specs.Membership.{IsLayerOf}
-use Rattle.scad_slice.specs.Laws.{DrawingsHold}
+use Rattle.scad_slice.specs.Laws.{PartsHold}
+
+-- layers in range have a height
+some_height : (s : Settings) → AreInRange s → 1 ≤ s.layer_height
+some_height s range = let least = range.layer_height.least in omega (arith, least)
 
 -- the element at a place in what a function makes of n numbers from a on
 made_at : {X : Type 0} (f : ℕ → X) (a n i : ℕ) → i < n → slice_get (map f (range_with_len a n)) i ≡ Some (f (a + i))
@@ -21,23 +33,43 @@ made_at f a (suc n) (suc i) below =
     let less : i < n = omega (arith, below) in
     made_at f (a + 1) n i less ∙ ap (λ k. Some (f k)) (omega arith)
 
-layer_holds : (h : ℕ) (tree : Solid) (drawing : Drawing) → AreSolids tree → IsDrawing h tree drawing → (i : ℕ) → IsLayerOf h tree i (layer_at h drawing i)
-layer_holds h tree drawing solids of_tree i =
+-- a layer that passes no budget is over the tree's outlines
+has_outlines : (want : Want) (s : Settings) (i : ℕ) (outlines : List (List Pt)) (layout : Layout) → IsLaidOut want s i outlines (Ok layout) → layout.outlines ≡ outlines
+has_outlines Outlines s i outlines layout same = ap outlines_of same
+has_outlines Plan s i outlines layout laid = laid.0
+
+outlines_by : (passed : Option Budget) (want : Want) (s : Settings) (tree : Solid) (i : ℕ) (layout : Layout) → IsLayerUnless passed want s tree i (Ok layout) → AreLayerOutlines i s.layer_height tree layout.outlines
+outlines_by (Some budget) want s tree i layout same = let never : ⊥ = cc in absurd never
+outlines_by None want s tree i layout (outlines, of_tree, laid) =
+    subst (AreLayerOutlines i s.layer_height tree) (sym (has_outlines want s i outlines layout laid)) of_tree
+
+layer_outlines : (want : Want) (s : Settings) (tree : Solid) (part : Part) (i : ℕ) (layout : Layout) → AreSolids tree → AreInRange s → IsPart want s tree part → part i ≡ Ok layout → AreLayerOutlines i s.layer_height tree (outlines_of (part i))
+layer_outlines want s tree part i layout solids range of_part is =
+    subst (λ (l : Result Layout Budget). AreLayerOutlines i s.layer_height tree (outlines_of l)) (sym is)
+    (outlines_by (layer_budget s.layer_height tree i) want s tree i layout
+    (subst (λ (l : Result Layout Budget). IsLayer want s tree i l) is (of_part solids range i)))
+
+layer_holds : (want : Want) (s : Settings) (tree : Solid) (part : Part) (i : ℕ) (layout : Layout) → AreSolids tree → AreInRange s → IsPart want s tree part → part i ≡ Ok layout → IsLayerOf s.layer_height tree i (layer_at s.layer_height part i)
+layer_holds want s tree part i layout solids range of_part is =
     record {
       z = refl;
-      centres = outlines_hold_centres i h tree (drawing i) (solids_closed tree solids) (of_tree solids i);
+      centres = outlines_hold_centres i s.layer_height tree (outlines_of (part i)) (solids_closed tree solids) (layer_outlines want s tree part i layout solids range of_part is);
     }
 
-pub drawings_hold : DrawingsHold
-drawings_hold h tree drawing some solids of_tree =
-    let number : length (layers_of h drawing (layer_count h tree)) ≡ layer_count h tree = length-map-range_with_len (layer_at h drawing) 0 (layer_count h tree) in
+pub parts_hold : PartsHold
+parts_hold want s tree part solids range of_part made =
+    let h = s.layer_height in
+    let n = layer_count h tree in
+    let some : 1 ≤ h = some_height s range in
+    let number : length (layers_of h part n) ≡ n = length-map-range_with_len (layer_at h part) 0 n in
     record {
       number = number;
       each = λ i inside.
-          let within : i < layer_count h tree = omega (arith, inside, number) in
-          let there : slice_get (layers_of h drawing (layer_count h tree)) i ≡ Some (layer_at h drawing i) = made_at (layer_at h drawing) 0 (layer_count h tree) i within ∙ ap (λ k. Some (layer_at h drawing k)) (omega arith) in
-          subst (λ found. IsSomeAnd found (IsLayerOf h tree i)) (sym there) (layer_holds h tree drawing solids of_tree i);
+          let within : i < n = omega (arith, inside, number) in
+          let found = made i within in
+          let there : slice_get (layers_of h part n) i ≡ Some (layer_at h part i) = made_at (layer_at h part) 0 n i within ∙ ap (λ k. Some (layer_at h part k)) (omega arith) in
+          subst (λ found. IsSomeAnd found (IsLayerOf h tree i)) (sym there) (layer_holds want s tree part i found.0 solids range of_part found.1);
       above = λ i q more.
-          let past : layer_count h tree ≤ i = omega (arith, more, number) in
+          let past : n ≤ i = omega (arith, more, number) in
           layers_hold.above tree h i q some past;
     }

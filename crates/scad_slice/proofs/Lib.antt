@@ -1,6 +1,9 @@
-pub mod Drawings
-pub mod Holding
-pub mod Parted
+pub mod OneLayer
 pub mod Drawn
+pub mod Holding
+pub mod Layers
+pub mod Parted
+pub mod Files
+pub mod Texts
 pub mod Stopping
 pub mod Orderly

@@ -1,18 +1,24 @@
--- The script of a drawing only draws, and keeps what holds of every command's steps.
-use Rattle.std.proofs.Common.{◌≡◌, ◌≢◌, ◌++◌, List, [], ◌∷◌, ℕ, Bool, true, false, Option, Some, None, nat_lt, arith}
+-- The scripts of both commands only draw, and keep what holds of every command's steps.
+use Rattle.std.proofs.Common.{◌≡◌, ◌≢◌, ◌++◌, List, [], ◌∷◌, ℕ, Bool, true, false, Option, Some, None, Result, Ok, Err, nat_lt, arith}
 use Rattle.std.specs.Prelude.{IfOk, if◌then◌else◌}
-use Rattle.cli_text.specs.Cli.{Layer, head, head_start, geometry_end}
+use Rattle.cli_text.specs.Cli as outline
+use Rattle.gcode_text.specs.Gcode as program
+use Rattle.gcode_text.specs.declared.rates.Rates.{Rates}
 use Rattle.scad_fault.specs.declared.budget.Budget.{Budget}
-use Rattle.scad_io.specs.declared.desk.Out.TheVariants.{Cli}
+use Rattle.scad_io.specs.declared.desk.Out.TheVariants.{Cli, Gcode}
 use Rattle.scad_script.specs.declared.refusal.Refusal.TheVariants.{Over}
 use Rattle.scad_script.specs.Steps.{Step, Makes, echoing, drawing as drawing_stage}
-use Rattle.scad_script.specs.Script.{Script, Refuses, Lacks, first, ends}
+use Rattle.scad_script.specs.Script.{Script, Refuses, Finishes, Lacks, first, ends, layers}
 use Rattle.scad_script.specs.Names.{Given, AllFrom, AllStand}
 use Rattle.scad_script.proofs.Layers.{OnlySends, Draws, piece_draws, layers_draw, layers_lack}
 use Rattle.scad_tree.specs.Solid.{Solid}
-use Rattle.scad_slice.specs.Budgets.{layer_count, layer_limit, layers_passed, layer_budget}
-use Rattle.scad_slice.specs.Drawing.{Drawing, layer_at}
-use Rattle.scad_slice.specs.Script.{written_unless, layer_steps, drawing_end, drawing_script, slice_script}
+use Rattle.scad_words.specs.declared.settings.Settings.{Settings}
+use Rattle.slice_work.specs.declared.want.Want.{Want}
+use Rattle.slice_work.specs.declared.want.Want.TheVariants.{Outlines, Plan}
+use Rattle.slice_work.specs.Part.{Layout, Part, layer_limit}
+use Rattle.slice_work.specs.Script.{rates_of, written_unless, layer_steps, volume_below}
+use Rattle.scad_slice.specs.Budgets.{layer_count, layers_passed}
+use Rattle.scad_slice.specs.Script.{tails, files, unless_many, slice_end, plan_end, slice_script, plan_script}
 
 -- a script that may stand behind the lines of `echo`
 pub record DrawsInOrder (given : Given) (s : Script) : Type 0 where
@@ -20,41 +26,88 @@ pub record DrawsInOrder (given : Given) (s : Script) : Type 0 where
   pub stand : AllStand given s.steps
   pub there : s.ending ≢ Lacks
 
-only_sends : (passed : Option Budget) (layer : Layer) → IfOk (written_unless passed layer) OnlySends
-only_sends None layer = tt
-only_sends (Some budget) layer = tt
+-- a script that only draws, and ends
+record DrawsOn (given : Given) (s : Script) : Type 0 where
+  draws : Draws given s.steps
+  there : s.ending ≢ Lacks
 
-drawing_draws : (h : ℕ) (given : Given) (tree : Solid) (drawing : Drawing) → Draws given (drawing_script h tree drawing).steps
-drawing_draws h given tree drawing =
-    piece_draws given Cli (head (layer_count h tree)) _ tt
-    (layers_draw given (layer_steps h tree drawing) 0 (layer_count h tree) (drawing_end drawing (layer_count h tree)) (λ k. only_sends (layer_budget h tree k) (layer_at h drawing k))
-    (piece_draws given Cli geometry_end [] tt (record { order = tt; stand = tt })))
+only_sends : (want : Want) (rates : Rates) (volume i : ℕ) (layer : Result Layout Budget) → IfOk (written_unless want rates volume i layer) OnlySends
+only_sends Outlines rates volume i (Ok layout) = tt
+only_sends Plan rates volume i (Ok layout) = tt
+only_sends Outlines rates volume i (Err budget) = tt
+only_sends Plan rates volume i (Err budget) = tt
 
-drawing_there : (h : ℕ) (tree : Solid) (drawing : Drawing) → (drawing_script h tree drawing).ending ≢ Lacks
-drawing_there h tree drawing =
-    layers_lack (layer_steps h tree drawing) 0 (layer_count h tree) (drawing_end drawing (layer_count h tree)) (λ same. let never : ⊥ = cc in absurd never)
+module _ (given : Given) (s : Settings) (part : Part) (count : ℕ) (line : List ℕ) where
+  tails_draw : (want : Want) → DrawsOn given (first (tails want) (ends (Finishes line)))
+  tails_draw Outlines = record {
+    draws = piece_draws given Cli outline.geometry_end [] tt (record { order = tt; stand = tt });
+    there = λ same. let never : ⊥ = cc in absurd never;
+  }
+  tails_draw Plan = record {
+    draws = piece_draws given Cli outline.geometry_end _ tt (piece_draws given Gcode program.end [] tt (record { order = tt; stand = tt }));
+    there = λ same. let never : ⊥ = cc in absurd never;
+  }
 
--- a file of outlines is never empty
-head_some : (count : ℕ) (rest : List ℕ) → head count ++ rest ≢ []
-unfolding head_start
-head_some count rest none = let never : ⊥ = cc in absurd never
+  all_draw : (want : Want) → DrawsOn given (layers (layer_steps want (rates_of s) part) 0 count (first (tails want) (ends (Finishes line))))
+  all_draw want =
+      let end = tails_draw want in
+      record {
+        draws = layers_draw given (layer_steps want (rates_of s) part) 0 count (first (tails want) (ends (Finishes line)))
+            (λ k. only_sends want (rates_of s) (volume_below want (rates_of s) part k) k (part k)) end.draws;
+        there = layers_lack (layer_steps want (rates_of s) part) 0 count (first (tails want) (ends (Finishes line))) end.there;
+      }
+
+  files_draw : (want : Want) → DrawsOn given (files want s part count (ends (Finishes line)))
+  files_draw Outlines =
+      let behind = all_draw Outlines in
+      record { draws = piece_draws given Cli (outline.head count) _ tt behind.draws; there = behind.there }
+  files_draw Plan =
+      let behind = all_draw Plan in
+      record {
+        draws = piece_draws given Cli (outline.head count) _ tt (piece_draws given Gcode (program.head s.hot_end s.bed) _ tt behind.draws);
+        there = behind.there;
+      }
+
+-- neither file is ever empty
+outlines_some : (count : ℕ) (rest : List ℕ) → outline.head count ++ rest ≢ []
+unfolding outline.head_start
+outlines_some count rest none = let never : ⊥ = cc in absurd never
+
+program_some : (hot_end bed : ℕ) (rest : List ℕ) → program.head hot_end bed ++ rest ≢ []
+unfolding program.setup
+program_some hot_end bed rest none = let never : ⊥ = cc in absurd never
 
 from_later : (steps : List Step) → AllFrom drawing_stage steps → AllFrom echoing steps
 from_later [] all = tt
 from_later (s ∷ ss) all = let late = all.0 in (omega (arith, late), from_later ss all.1)
 
-made_draws : (h : ℕ) (given : Given) (cli : List ℕ) (drawing : Drawing) (tree : Solid) → given.cli ≡ Some cli → DrawsInOrder given (first (Makes Cli cli ∷ []) (drawing_script h tree drawing))
-made_draws h given cli drawing tree named =
-    let draws = drawing_draws h given tree drawing in
-    record {
-      order = (omega arith, from_later (drawing_script h tree drawing).steps draws.order);
-      stand = (record { order = draws.order; name = named; filled = head_some (layer_count h tree) _ }, draws.stand);
-      there = drawing_there h tree drawing;
-    }
+in_order : (given : Given) (s : Script) → DrawsOn given s → DrawsInOrder given s
+in_order given s on = record { order = from_later s.steps on.draws.order; stand = on.draws.stand; there = on.there }
 
-draws_if : (h : ℕ) (given : Given) (cli : List ℕ) (drawing : Drawing) (tree : Solid) (many : Bool) → given.cli ≡ Some cli → DrawsInOrder given (if many then ends (Refuses (Over (layers_passed (layer_count h tree)))) else first (Makes Cli cli ∷ []) (drawing_script h tree drawing))
-draws_if h given cli drawing tree true named = record { order = tt; stand = tt; there = λ same. let never : ⊥ = cc in absurd never }
-draws_if h given cli drawing tree false named = made_draws h given cli drawing tree named
+unless_many_draws : (given : Given) (count : ℕ) (script : Script) (many : Bool) → DrawsInOrder given script
+    → DrawsInOrder given (if many then ends (Refuses (Over (layers_passed count))) else script)
+unless_many_draws given count script true draws = record { order = tt; stand = tt; there = λ same. let never : ⊥ = cc in absurd never }
+unless_many_draws given count script false draws = draws
 
-pub slice_draws : (h : ℕ) (given : Given) (cli : List ℕ) (drawing : Drawing) (tree : Solid) → given.cli ≡ Some cli → DrawsInOrder given (slice_script h cli drawing tree)
-slice_draws h given cli drawing tree named = draws_if h given cli drawing tree (nat_lt layer_limit (layer_count h tree)) named
+pub slice_draws : (s : Settings) (given : Given) (cli : List ℕ) (part : Part) (tree : Solid) → given.cli ≡ Some cli → DrawsInOrder given (slice_script s cli part tree)
+slice_draws s given cli part tree named =
+    let count = layer_count s.layer_height tree in
+    let behind = files_draw given s part count _ Outlines in
+    unless_many_draws given count (first (Makes Cli cli ∷ []) (files Outlines s part count (slice_end part count))) (nat_lt layer_limit count)
+    (in_order given _ (record {
+      draws = record { order = (omega arith, behind.draws.order); stand = (record { order = behind.draws.order; name = named; filled = outlines_some count _ }, behind.draws.stand) };
+      there = behind.there;
+    }))
+
+pub plan_draws : (s : Settings) (given : Given) (cli gcode : List ℕ) (part : Part) (tree : Solid) → given.cli ≡ Some cli → given.gcode ≡ Some gcode → DrawsInOrder given (plan_script s cli gcode part tree)
+plan_draws s given cli gcode part tree named called =
+    let count = layer_count s.layer_height tree in
+    let behind = files_draw given s part count _ Plan in
+    let program : Draws given (first (Makes Gcode gcode ∷ []) (files Plan s part count (plan_end s part count))).steps =
+    record { order = (omega arith, behind.draws.order); stand = (record { order = behind.draws.order; name = called; filled = program_some s.hot_end s.bed _ }, behind.draws.stand) }
+    in
+    unless_many_draws given count (first (Makes Cli cli ∷ []) (first (Makes Gcode gcode ∷ []) (files Plan s part count (plan_end s part count)))) (nat_lt layer_limit count)
+    (in_order given _ (record {
+      draws = record { order = (omega arith, program.order); stand = (record { order = program.order; name = named; filled = outlines_some count _ }, program.stand) };
+      there = behind.there;
+    }))

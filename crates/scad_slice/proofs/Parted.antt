@@ -1,155 +1,181 @@
--- How the script of a drawing goes: it is refused for its number of layers, or a layer ends it, or it goes to its end.
-use Rattle.std.proofs.Common.{◌≡◌, ◌⊎◌, inl, inr, ◌+◌, ◌<◌, ◌++◌, List, [], ◌∷◌, ℕ, zero, suc, Bool, true, false, Option, Some, None, refl, sym, ap, ◌∙◌, nat_lt, rules, arith, append_assoc}
-use Rattle.std.specs.Prelude.{map, flat_map, unwrap_or, if◌then◌else◌}
-use Rattle.std.specs.List.{range_with_len}
-use Rattle.std.proofs.lemmas.List.{append-nil}
-use Rattle.std.proofs.lemmas.List.FromFn.{length-map-range_with_len}
+-- How the script of a command goes: it is refused for the tree's number of layers, or a layer ends it, or it goes to its end.
+use Rattle.std.proofs.Common.{◌≡◌, ◌⊎◌, inl, inr, ◌<◌, ◌≤◌, ◌+◌, List, [], ◌∷◌, ℕ, Bool, true, false, Option, Some, None, Result, Ok, Err, refl, sym, ap, ◌∙◌, subst, nat_lt, rules, arith}
+use Rattle.std.specs.Prelude.{unwrap_or, if◌then◌else◌}
 use Rattle.scad_fault.specs.declared.budget.Budget.{Budget}
-use Rattle.scad_fault.specs.declared.budget.BudgetKind.TheVariants.{LayerEdges, LayerCrossings}
-use Rattle.scad_io.specs.declared.desk.Out.TheVariants.{Cli}
+use Rattle.scad_fault.specs.declared.budget.BudgetKind.{BudgetKind}
+use Rattle.scad_fault.specs.declared.budget.BudgetKind.TheVariants.{LayerEdges, LayerCrossings, LayerMoves}
+use Rattle.scad_io.specs.declared.desk.Out.TheVariants.{Cli, Gcode}
 use Rattle.scad_script.specs.declared.refusal.Refusal.TheVariants.{Over}
-use Rattle.scad_script.specs.Steps.{Step, Makes, Sends, text_of}
-use Rattle.scad_script.specs.Script.{Script, Refuses, first, ends, layer_then, layers}
+use Rattle.scad_script.specs.Steps.{Step, Makes}
+use Rattle.scad_script.specs.Script.{Script, Ending, Finishes, Refuses, first, ends, layers}
+use Rattle.scad_geom.specs.declared.point.Pt.{Pt}
 use Rattle.scad_tree.specs.Solid.{Solid}
-use Rattle.cli_text.specs.Cli.{head, layer_text, geometry_end, cli as text_of_layers}
-use Rattle.scad_slice.specs.Budgets.{layer_count, layer_limit, layers_passed, edges_passed, crossings_passed, layer_budget}
-use Rattle.scad_slice.specs.Drawing.{Drawing, layer_at, layers_of}
-use Rattle.scad_slice.specs.Script.{written_unless, layer_steps, drawing_end, drawing_script, slice_script}
+use Rattle.scad_tree.specs.Solids.{AreSolids}
+use Rattle.scad_words.specs.declared.settings.Settings.{Settings}
+use Rattle.scad_words.specs.Settings.{AreInRange}
+use Rattle.plan_layer.specs.declared.fault.PlanFault.{PlanFault}
+use Rattle.plan_layer.specs.declared.fault.PlanFault.TheVariants.{Memory, Edges, Crossings, Moves}
+use Rattle.slice_work.specs.declared.want.Want.{Want}
+use Rattle.slice_work.specs.declared.want.Want.TheVariants.{Outlines, Plan}
+use Rattle.slice_work.specs.Part.{Layout, Part, layer_limit}
+use Rattle.slice_work.specs.Script.{rates_of, layer_steps}
+use Rattle.slice_work.specs.Sums.{loop_count, moves_below}
+use Rattle.scad_slice.specs.Budgets.{layer_count, layers_passed, edges_passed, crossings_passed, moves_passed, layer_budget, plan_budget}
+use Rattle.scad_slice.specs.Parts.{IsLaidOut, IsLayerUnless, IsPart, AreMade}
+use Rattle.scad_slice.specs.Script.{heads, tails, files, unless_many, done_line, plan_line, amount_below, slice_script, plan_script}
+use Rattle.scad_slice.specs.Laws.{IsWhole}
+use Rattle.scad_slice.proofs.Layers.{written_from, Goes, goes, made_all, all_go, made_from}
 
--- Layers one after another.
+-- the outputs are created, and the heads and n layers written
+abbrev pub begun : Want → Settings → List Step → Part → Solid → ℕ → Script → Script
+begun want s creates part tree n rest =
+    first creates (first (heads want s (layer_count s.layer_height tree)) (first (written_from want (rates_of s) part 0 n) rest))
 
--- a layer that is written
-abbrev pub layer_written : ℕ → Drawing → ℕ → Step
-layer_written h drawing i = Sends Cli (layer_text (layer_at h drawing i))
+-- the script that creates these outputs and ends with this line
+abbrev pub command_script : Want → Settings → List Step → List ℕ → Part → Solid → Script
+command_script want s creates line part tree =
+    let count = layer_count s.layer_height tree in
+    unless_many count (first creates (files want s part count (ends (Finishes line))))
 
--- so many layers from one on, and then a script
-abbrev pub after_layers : ℕ → Drawing → ℕ → ℕ → Script → Script
-after_layers h drawing i n rest = first (map (layer_written h drawing) (range_with_len i n)) rest
+module _ (want : Want) (s : Settings) (creates : List Step) (line : List ℕ) (part : Part) (tree : Solid) where
+  -- the tree has too many layers
+  pub record HasMany : Type 0 where
+    pub many : layer_limit < layer_count s.layer_height tree
+    pub script : command_script want s creates line part tree ≡ ends (Refuses (Over (layers_passed (layer_count s.layer_height tree))))
 
--- behind so many layers one passes a budget
-pub record Passes (h : ℕ) (tree : Solid) (i n : ℕ) : Type 0 where
-  pub count : ℕ
-  pub inside : count < n
-  pub budget : Budget
-  pub passed : layer_budget h tree (i + count) ≡ Some budget
+  -- all layers are written
+  pub record IsDone : Type 0 where
+    pub whole : IsWhole s part tree
+    pub script : command_script want s creates line part tree
+        ≡ begun want s creates part tree (layer_count s.layer_height tree) (first (tails want) (ends (Finishes line)))
 
--- the layers are written, and then comes the rest or a budget
-abbrev Goes : ℕ → Solid → Drawing → ℕ → ℕ → Script → Type 0
-Goes h tree drawing i n rest =
-    (layers (layer_steps h tree drawing) i n rest ≡ after_layers h drawing i n rest)
-    ⊎ ((p : Passes h tree i n) × (layers (layer_steps h tree drawing) i n rest ≡ after_layers h drawing i p.count (ends (Refuses (Over p.budget)))))
+  -- a layer passes a budget
+  pub record IsCut : Type 0 where
+    pub few : layer_count s.layer_height tree ≤ layer_limit
+    pub layer : ℕ
+    pub inside : layer < layer_count s.layer_height tree
+    pub made : AreMade part layer
+    pub budget : Budget
+    pub passed : part layer ≡ Err budget
+    pub script : command_script want s creates line part tree ≡ begun want s creates part tree layer (ends (Refuses (Over budget)))
 
--- one layer and those behind it
-goes_next : (h : ℕ) (tree : Solid) (drawing : Drawing) (i n : ℕ) (rest : Script) (budget : Option Budget) → layer_budget h tree i ≡ budget → Goes h tree drawing (i + 1) n rest → Goes h tree drawing i (suc n) rest
-goes_next h tree drawing i n rest (Some budget) is behind = inr (
-  record { count = 0; inside = omega arith; budget = budget; passed = ap (layer_budget h tree) (omega arith) ∙ is },
-  ap (λ b. layer_then (written_unless b (layer_at h drawing i)) (layers (layer_steps h tree drawing) (i + 1) n rest)) is,
-)
-goes_next h tree drawing i n rest None is (inl same) = inl (
-    ap (λ b. layer_then (written_unless b (layer_at h drawing i)) (layers (layer_steps h tree drawing) (i + 1) n rest)) is
-    ∙ ap (λ s. first (layer_written h drawing i ∷ []) s) same
-    )
-goes_next h tree drawing i n rest None is (inr (p, same)) =
-    let within : p.count < n = p.inside in
-    inr (
-      record { count = suc p.count; inside = omega (arith, within); budget = p.budget; passed = ap (layer_budget h tree) (omega arith) ∙ p.passed },
-      ap (λ b. layer_then (written_unless b (layer_at h drawing i)) (layers (layer_steps h tree drawing) (i + 1) n rest)) is
-          ∙ ap (λ s. first (layer_written h drawing i ∷ []) s) same,
-    )
+  -- where there are not too many layers they are written
+  within_limit : nat_lt layer_limit (layer_count s.layer_height tree) ≡ false → command_script want s creates line part tree ≡ first creates (files want s part (layer_count s.layer_height tree) (ends (Finishes line)))
+  within_limit is =
+      ap (λ b. if b then ends (Refuses (Over (layers_passed (layer_count s.layer_height tree)))) else first creates (files want s part (layer_count s.layer_height tree) (ends (Finishes line)))) is
 
-goes : (h : ℕ) (tree : Solid) (drawing : Drawing) (i n : ℕ) (rest : Script) → Goes h tree drawing i n rest
-goes h tree drawing i zero rest = inl refl
-goes h tree drawing i (suc n) rest = goes_next h tree drawing i n rest (layer_budget h tree i) refl (goes h tree drawing (i + 1) n rest)
+  then_layers : (n : ℕ) (steps : List Step) (end : Script) → layers (layer_steps want (rates_of s) part) 0 n (first (tails want) (ends (Finishes line))) ≡ first steps end
+      → first creates (files want s part n (ends (Finishes line))) ≡ first creates (first (heads want s n) (first steps end))
+  then_layers n steps end same = ap (λ rest. first creates (first (heads want s n) rest)) same
 
--- The script of a tree.
+  script_by : (many : Bool) → nat_lt layer_limit (layer_count s.layer_height tree) ≡ many
+      → Goes want (rates_of s) part 0 (layer_count s.layer_height tree) (first (tails want) (ends (Finishes line)))
+      → HasMany ⊎ (IsDone ⊎ IsCut)
+  script_by true is go =
+      inl (record {
+        many = search (rules, arith);
+        script = ap (λ b. if b then ends (Refuses (Over (layers_passed (layer_count s.layer_height tree)))) else first creates (files want s part (layer_count s.layer_height tree) (ends (Finishes line)))) is;
+      })
+  script_by false is (inl (made, same)) =
+      inr (inl (record {
+        whole = record { few = search (rules, arith); made = made_all part (layer_count s.layer_height tree) made };
+        script = within_limit is ∙ then_layers (layer_count s.layer_height tree) (written_from want (rates_of s) part 0 (layer_count s.layer_height tree)) (first (tails want) (ends (Finishes line))) same;
+      }))
+  script_by false is (inr (p, same)) =
+      inr (inr (record {
+        few = search (rules, arith);
+        layer = p.count;
+        inside = p.inside;
+        made = made_all part p.count p.made;
+        budget = p.budget;
+        passed = ap part (omega arith) ∙ p.passed;
+        script = within_limit is ∙ then_layers (layer_count s.layer_height tree) (written_from want (rates_of s) part 0 p.count) (ends (Refuses (Over p.budget))) same;
+      }))
 
--- the outlines are created, and the head and so many layers written
-abbrev pub begun_drawing : ℕ → List ℕ → Drawing → Solid → ℕ → Script → Script
-begun_drawing h cli drawing tree n rest =
-    first (Makes Cli cli ∷ []) (first (Sends Cli (head (layer_count h tree)) ∷ []) (after_layers h drawing 0 n rest))
+  pub script_goes : HasMany ⊎ (IsDone ⊎ IsCut)
+  script_goes =
+      script_by (nat_lt layer_limit (layer_count s.layer_height tree)) refl
+      (goes want (rates_of s) part 0 (layer_count s.layer_height tree) (first (tails want) (ends (Finishes line))))
 
--- the tree has too many layers
-pub record HasMany (h : ℕ) (cli : List ℕ) (drawing : Drawing) (tree : Solid) : Type 0 where
-  pub many : layer_limit < layer_count h tree
-  pub script : slice_script h cli drawing tree ≡ ends (Refuses (Over (layers_passed (layer_count h tree))))
+  pub whole_goes : IsWhole s part tree → command_script want s creates line part tree
+      ≡ begun want s creates part tree (layer_count s.layer_height tree) (first (tails want) (ends (Finishes line)))
+  whole_goes whole =
+      let few = whole.few in
+      let n = layer_count s.layer_height tree in
+      within_limit (search (rules, arith))
+      ∙ then_layers n (written_from want (rates_of s) part 0 n) (first (tails want) (ends (Finishes line)))
+      (all_go want (rates_of s) part 0 n (first (tails want) (ends (Finishes line))) (made_from part n whole.made))
 
--- all layers are written
-pub record IsWhole (h : ℕ) (cli : List ℕ) (drawing : Drawing) (tree : Solid) : Type 0 where
-  pub script : slice_script h cli drawing tree ≡ begun_drawing h cli drawing tree (layer_count h tree) (drawing_end drawing (layer_count h tree))
+-- ---- the two commands
 
--- a layer passes a budget
-pub record IsCut (h : ℕ) (cli : List ℕ) (drawing : Drawing) (tree : Solid) : Type 0 where
-  pub layer : ℕ
-  pub inside : layer < layer_count h tree
-  pub budget : Budget
-  pub passed : layer_budget h tree layer ≡ Some budget
-  pub script : slice_script h cli drawing tree ≡ begun_drawing h cli drawing tree layer (ends (Refuses (Over budget)))
+abbrev pub slice_creates : List ℕ → List Step
+slice_creates cli = Makes Cli cli ∷ []
 
-script_by : (h : ℕ) (cli : List ℕ) (drawing : Drawing) (tree : Solid) (many : Bool) → nat_lt layer_limit (layer_count h tree) ≡ many → Goes h tree drawing 0 (layer_count h tree) (drawing_end drawing (layer_count h tree)) → HasMany h cli drawing tree ⊎ (IsWhole h cli drawing tree ⊎ IsCut h cli drawing tree)
-script_by h cli drawing tree true is go =
-    inl (record {
-      many = search (rules, arith);
-      script = ap (λ b. if b then ends (Refuses (Over (layers_passed (layer_count h tree)))) else first (Makes Cli cli ∷ []) (drawing_script h tree drawing)) is;
-    })
-script_by h cli drawing tree false is (inl same) =
-    inr (inl (record {
-      script = ap (λ b. if b then ends (Refuses (Over (layers_passed (layer_count h tree)))) else first (Makes Cli cli ∷ []) (drawing_script h tree drawing)) is
-          ∙ ap (λ s. first (Makes Cli cli ∷ []) (first (Sends Cli (head (layer_count h tree)) ∷ []) s)) same;
-    }))
-script_by h cli drawing tree false is (inr (p, same)) =
-    inr (inr (record {
-      layer = p.count;
-      inside = p.inside;
-      budget = p.budget;
-      passed = ap (layer_budget h tree) (omega arith) ∙ p.passed;
-      script = ap (λ b. if b then ends (Refuses (Over (layers_passed (layer_count h tree)))) else first (Makes Cli cli ∷ []) (drawing_script h tree drawing)) is
-          ∙ ap (λ s. first (Makes Cli cli ∷ []) (first (Sends Cli (head (layer_count h tree)) ∷ []) s)) same;
-    }))
+abbrev pub plan_creates : List ℕ → List ℕ → List Step
+plan_creates cli gcode = Makes Cli cli ∷ Makes Gcode gcode ∷ []
 
-pub script_goes : (h : ℕ) (cli : List ℕ) (drawing : Drawing) (tree : Solid) → HasMany h cli drawing tree ⊎ (IsWhole h cli drawing tree ⊎ IsCut h cli drawing tree)
-script_goes h cli drawing tree =
-    script_by h cli drawing tree (nat_lt layer_limit (layer_count h tree)) refl
-    (goes h tree drawing 0 (layer_count h tree) (drawing_end drawing (layer_count h tree)))
+abbrev pub slice_line : Settings → Part → Solid → List ℕ
+slice_line s part tree = let n = layer_count s.layer_height tree in done_line n (loop_count part n)
 
--- What it writes.
+abbrev pub line_of_plan : Settings → Part → Solid → List ℕ
+line_of_plan s part tree =
+    let n = layer_count s.layer_height tree in plan_line n (loop_count part n) (moves_below Plan part n) (amount_below s part n)
 
-layers_text : (h : ℕ) (drawing : Drawing) (is : List ℕ) (rest : List Step) → text_of Cli (map (layer_written h drawing) is ++ rest) ≡ flat_map layer_text (map (layer_at h drawing) is) ++ text_of Cli rest
-layers_text h drawing [] rest = refl
-layers_text h drawing (i ∷ is) rest =
-    ap (λ text. layer_text (layer_at h drawing i) ++ text) (layers_text h drawing is rest)
-    ∙ sym (append_assoc (layer_text (layer_at h drawing i)) (flat_map layer_text (map (layer_at h drawing) is)) (text_of Cli rest))
+pub slice_is : (s : Settings) (cli : List ℕ) (part : Part) (tree : Solid) → slice_script s cli part tree ≡ command_script Outlines s (slice_creates cli) (slice_line s part tree) part tree
+slice_is s cli part tree = refl
 
--- the text of a whole file
-pub whole_text : (h : ℕ) (cli : List ℕ) (drawing : Drawing) (tree : Solid) → IsWhole h cli drawing tree → text_of Cli (slice_script h cli drawing tree).steps ≡ text_of_layers (layers_of h drawing (layer_count h tree))
-whole_text h cli drawing tree whole =
-    let n = layer_count h tree in
-    let some = flat_map layer_text (layers_of h drawing n) in
-    ap (λ s. text_of Cli s.steps) whole.script
-    ∙ ap (λ text. head n ++ text) (layers_text h drawing (range_with_len 0 n) (Sends Cli geometry_end ∷ []) ∙ ap (λ text. some ++ text) (append-nil geometry_end))
-    ∙ sym (append_assoc (head n) some geometry_end)
-    ∙ ap (λ k. (head k ++ some) ++ geometry_end) (sym (length-map-range_with_len (layer_at h drawing) 0 n))
+pub plan_is : (s : Settings) (cli gcode : List ℕ) (part : Part) (tree : Solid) → plan_script s cli gcode part tree ≡ command_script Plan s (plan_creates cli gcode) (line_of_plan s part tree) part tree
+plan_is s cli gcode part tree = refl
 
--- the text that a budget ends
-pub cut_text : (h : ℕ) (cli : List ℕ) (drawing : Drawing) (tree : Solid) (cut : IsCut h cli drawing tree) → text_of Cli (slice_script h cli drawing tree).steps ≡ head (layer_count h tree) ++ flat_map layer_text (layers_of h drawing cut.layer)
-cut_text h cli drawing tree cut =
-    ap (λ s. text_of Cli s.steps) cut.script
-    ∙ ap (λ text. head (layer_count h tree) ++ text) (layers_text h drawing (range_with_len 0 cut.layer) [] ∙ append-nil (flat_map layer_text (layers_of h drawing cut.layer)))
+-- ---- the budget that a layer passes
 
--- The budget that a layer passes.
+-- with a plan the moves may be too many too
+abbrev pub IsKind : Want → BudgetKind → Type 0
+IsKind Outlines kind = (kind ≡ LayerEdges) ⊎ (kind ≡ LayerCrossings)
+IsKind Plan kind = (kind ≡ LayerEdges) ⊎ ((kind ≡ LayerCrossings) ⊎ (kind ≡ LayerMoves))
 
 -- it is of one layer, and of this one
-abbrev pub IsOfLayer : ℕ → Budget → Type 0
-IsOfLayer i budget = ((budget.kind ≡ LayerEdges) ⊎ (budget.kind ≡ LayerCrossings)) × (budget.layer ≡ i)
+pub record IsOfLayer (want : Want) (i : ℕ) (budget : Budget) : Type 0 where
+  pub kind : IsKind want budget.kind
+  pub layer : budget.layer ≡ i
 
-of_layer_by : (i edges crossed : ℕ) (a b : Bool) (budget : Budget) → (if a then Some (edges_passed i edges) else if b then Some (crossings_passed i crossed) else None) ≡ Some budget → IsOfLayer i budget
-of_layer_by i edges crossed true b budget same =
-    let is : edges_passed i edges ≡ budget = ap (λ o. unwrap_or o (edges_passed i edges)) same in
-    (inl (ap (λ x. x.kind) (sym is)), ap (λ x. x.layer) (sym is))
-of_layer_by i edges crossed false true budget same =
-    let is : crossings_passed i crossed ≡ budget = ap (λ o. unwrap_or o (crossings_passed i crossed)) same in
-    (inr (ap (λ x. x.kind) (sym is)), ap (λ x. x.layer) (sym is))
-of_layer_by i edges crossed false false budget same = let never : ⊥ = cc in absurd never
+of_edges : (want : Want) (i edges : ℕ) → IsOfLayer want i (edges_passed i edges)
+of_edges Outlines i edges = record { kind = inl refl; layer = refl }
+of_edges Plan i edges = record { kind = inl refl; layer = refl }
 
-pub budget_of_layer : (h : ℕ) (tree : Solid) (i : ℕ) (budget : Budget) → layer_budget h tree i ≡ Some budget → IsOfLayer i budget
+of_crossings : (want : Want) (i crossed : ℕ) → IsOfLayer want i (crossings_passed i crossed)
+of_crossings Outlines i crossed = record { kind = inr refl; layer = refl }
+of_crossings Plan i crossed = record { kind = inr (inl refl); layer = refl }
+
+held : (want : Want) (i : ℕ) (found budget : Budget) → Some found ≡ Some budget → IsOfLayer want i found → IsOfLayer want i budget
+held want i found budget same is = subst (IsOfLayer want i) (ap (λ o. unwrap_or o found) same) is
+
+outlines_by : (want : Want) (i edges crossed : ℕ) (a b : Bool) (budget : Budget) → (if a then Some (edges_passed i edges) else if b then Some (crossings_passed i crossed) else None) ≡ Some budget → IsOfLayer want i budget
+outlines_by want i edges crossed true b budget same = held want i (edges_passed i edges) budget same (of_edges want i edges)
+outlines_by want i edges crossed false true budget same = held want i (crossings_passed i crossed) budget same (of_crossings want i crossed)
+outlines_by want i edges crossed false false budget same = let never : ⊥ = cc in absurd never
+
+outlines_budget : (want : Want) (h : ℕ) (tree : Solid) (i : ℕ) (budget : Budget) → layer_budget h tree i ≡ Some budget → IsOfLayer want i budget
 unfolding layer_budget
-budget_of_layer h tree i budget passed = of_layer_by i _ _ _ _ budget passed
+outlines_budget want h tree i budget passed = outlines_by want i _ _ _ _ budget passed
+
+of_plan : (i : ℕ) (fault : PlanFault) (budget : Budget) → plan_budget i fault ≡ Some budget → IsOfLayer Plan i budget
+of_plan i Memory budget passed = let never : ⊥ = cc in absurd never
+of_plan i (Edges n) budget passed = held Plan i (edges_passed i n) budget passed (of_edges Plan i n)
+of_plan i (Crossings n) budget passed = held Plan i (crossings_passed i n) budget passed (of_crossings Plan i n)
+of_plan i (Moves n) budget passed = held Plan i (moves_passed i n) budget passed (record { kind = inr (inr refl); layer = refl })
+
+laid_out_by : (want : Want) (s : Settings) (i : ℕ) (outlines : List (List Pt)) (budget : Budget) → IsLaidOut want s i outlines (Err budget) → IsOfLayer want i budget
+laid_out_by Outlines s i outlines budget same = let never : ⊥ = cc in absurd never
+laid_out_by Plan s i outlines budget refused = of_plan i refused.fault budget refused.passed
+
+layer_by : (want : Want) (s : Settings) (tree : Solid) (i : ℕ) (budget : Budget) (passed : Option Budget) → layer_budget s.layer_height tree i ≡ passed → IsLayerUnless passed want s tree i (Err budget) → IsOfLayer want i budget
+layer_by want s tree i budget (Some other) is same =
+    let one : other ≡ budget = sym (ap (λ (l : Result Layout Budget). elim l [ Ok layout ↦ budget | Err b ↦ b ]) same) in
+    subst (IsOfLayer want i) one (outlines_budget want s.layer_height tree i other is)
+layer_by want s tree i budget None is (outlines, of_tree, laid) = laid_out_by want s i outlines budget laid
+
+pub budget_of_layer : (want : Want) (s : Settings) (tree : Solid) (part : Part) (i : ℕ) (budget : Budget) → AreSolids tree → AreInRange s → IsPart want s tree part → part i ≡ Err budget → IsOfLayer want i budget
+budget_of_layer want s tree part i budget solids range of_part passed =
+    layer_by want s tree i budget (layer_budget s.layer_height tree i) refl
+    (subst (λ (l : Result Layout Budget). IsLayerUnless (layer_budget s.layer_height tree i) want s tree i l) passed (of_part solids range i))

@@ -6,6 +6,7 @@ use scad_words::Settings;
 use slice_work::Want;
 
 /// A tree, and what is wanted of each of its layers by which settings.
+#[derive(Drop)]
 pub struct TreeWork<'a> {
     pub tree: &'a Tree,
     pub settings: Settings,

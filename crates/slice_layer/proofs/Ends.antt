@@ -6,7 +6,7 @@ use Rattle.std.specs.Prelude.{IfSome, int_lt}
 use Rattle.std.specs.Int.{int_div_euclid}
 use Rattle.std.specs.List.{find, list_all, cons_option, AllByRecursion}
 use Rattle.scad_geom.specs.declared.point3.Pt3.{Pt3}
-use Rattle.scad_geom.specs.Limits.{coordinate_limit, point_limit}
+use Rattle.scad_geom.specs.Limits.{point_limit}
 use Rattle.scad_geom.specs.Rounding.{half_down}
 use Rattle.scad_geom.specs.Segment.{Segment}
 use Rattle.scad_geom.specs.Within.{IsWithin, IsEdgeWithin}
@@ -54,25 +54,25 @@ half_down_within m n d above small =
     subst (λ (z : ℤ). unsigned_abs z ≤ m) r.value r.size
 
 coordinate_within : (lower upper low high plane : ℤ) → unsigned_abs lower ≤ point_limit → unsigned_abs upper ≤ point_limit → (pos 2 *ℤ low) <ℤ plane → plane <ℤ (pos 2 *ℤ high)
-    → unsigned_abs (half_down (weighted lower upper low high plane) (pos 2 *ℤ high -ℤ pos 2 *ℤ low)) ≤ coordinate_limit
+    → unsigned_abs (half_down (weighted lower upper low high plane) (pos 2 *ℤ high -ℤ pos 2 *ℤ low)) ≤ point_limit
 coordinate_within lower upper low high plane small_lower small_upper above below =
     let spread : (pos 2 *ℤ high -ℤ plane) +ℤ (plane -ℤ pos 2 *ℤ low) ≡ pos 2 *ℤ high -ℤ pos 2 *ℤ low = omega (arith, ints) in
-    let mean = weighted_range coordinate_limit lower upper (pos 2 *ℤ high -ℤ plane) (plane -ℤ pos 2 *ℤ low) (omega arith) (omega arith) (omega (arith, ints)) (omega (arith, ints)) in
-    half_down_within coordinate_limit (weighted lower upper low high plane) (pos 2 *ℤ high -ℤ pos 2 *ℤ low) (omega (arith, ints))
-    (subst (λ (d : ℤ). unsigned_abs (weighted lower upper low high plane) ≤ coordinate_limit * unsigned_abs d) spread mean)
+    let mean = weighted_range point_limit lower upper (pos 2 *ℤ high -ℤ plane) (plane -ℤ pos 2 *ℤ low) (omega arith) (omega arith) (omega (arith, ints)) (omega (arith, ints)) in
+    half_down_within point_limit (weighted lower upper low high plane) (pos 2 *ℤ high -ℤ pos 2 *ℤ low) (omega (arith, ints))
+    (subst (λ (d : ℤ). unsigned_abs (weighted lower upper low high plane) ≤ point_limit * unsigned_abs d) spread mean)
 
-end_within : (plane : ℤ) (lower upper : Pt3) → IsThrough plane lower upper → IsWithin coordinate_limit (nearest_point (point_between lower upper plane))
+end_within : (plane : ℤ) (lower upper : Pt3) → IsThrough plane lower upper → IsWithin point_limit (nearest_point (point_between lower upper plane))
 end_within plane lower upper h = record {
   x = coordinate_within lower.x upper.x lower.z upper.z plane h.lower_x h.upper_x h.heights.above h.heights.below;
   y = coordinate_within lower.y upper.y lower.z upper.z plane h.lower_y h.upper_y h.heights.above h.heights.below;
 }
 
-between_within : (plane : ℤ) (f r : Option Side) → IfSome f (λ s. IsThrough plane s.to s.from) → IfSome r (λ s. IsThrough plane s.from s.to) → IfSome (cut_between plane f r) (λ c. IsEdgeWithin coordinate_limit (rounded c))
+between_within : (plane : ℤ) (f r : Option Side) → IfSome f (λ s. IsThrough plane s.to s.from) → IfSome r (λ s. IsThrough plane s.from s.to) → IfSome (cut_between plane f r) (λ c. IsEdgeWithin point_limit (rounded c))
 between_within plane None r falling rising = tt
 between_within plane (Some f) None falling rising = tt
 between_within plane (Some f) (Some r) falling rising = record { a = end_within plane f.to f.from falling; b = end_within plane r.from r.to rising }
 
-cut_within : (plane : ℤ) (t : Triangle) → is_triangle_in_range t ≡ true → IfSome (cut_of plane t) (λ c. IsEdgeWithin coordinate_limit (rounded c))
+cut_within : (plane : ℤ) (t : Triangle) → is_triangle_in_range t ≡ true → IfSome (cut_of plane t) (λ c. IsEdgeWithin point_limit (rounded c))
 cut_within plane t h =
     between_within plane (find (falls plane) (sides_of t)) (find (rises plane) (sides_of t)) (falls_through_if plane t (find (falls plane) (sides_of t)) h refl)
     (rises_through_if plane t (find (rises plane) (sides_of t)) h refl)
@@ -98,5 +98,5 @@ anything (x ∷ xs) = (tt, anything xs)
 pub cuts_proper : (plane : ℤ) (ts : List Triangle) → AllByRecursion IsProper (cuts_of plane ts)
 cuts_proper plane ts = cuts_have plane IsProper (λ t. Unit {0}) (λ t h. cut_proper plane t) ts (anything ts)
 
-pub cuts_within : (plane : ℤ) (ts : List Triangle) → list_all is_triangle_in_range ts ≡ true → AllByRecursion (λ c. IsEdgeWithin coordinate_limit (rounded c)) (cuts_of plane ts)
-cuts_within plane ts h = cuts_have plane (λ c. IsEdgeWithin coordinate_limit (rounded c)) (λ t. is_triangle_in_range t ≡ true) (cut_within plane) ts (all_pass is_triangle_in_range ts h)
+pub cuts_within : (plane : ℤ) (ts : List Triangle) → list_all is_triangle_in_range ts ≡ true → AllByRecursion (λ c. IsEdgeWithin point_limit (rounded c)) (cuts_of plane ts)
+cuts_within plane ts h = cuts_have plane (λ c. IsEdgeWithin point_limit (rounded c)) (λ t. is_triangle_in_range t ≡ true) (cut_within plane) ts (all_pass is_triangle_in_range ts h)

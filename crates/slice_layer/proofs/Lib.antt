@@ -4,3 +4,4 @@ pub mod Clear
 pub mod Membership
 pub mod Border
 pub mod Surfaces
+pub mod Within

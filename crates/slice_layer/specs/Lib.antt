@@ -2,4 +2,5 @@ pub mod Cuts
 pub mod Outlines
 pub mod Membership
 pub mod Border
+pub mod Within
 pub mod Refusal

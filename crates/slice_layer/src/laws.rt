@@ -1,6 +1,7 @@
 //! Laws of the definitions, each carried by the contract of a function that does nothing.
 ghost use Rattle.slice_layer.specs.Membership.{OutlinesHoldPoints, OutlinesHoldCentres};
 ghost use Rattle.slice_layer.specs.Border.{OutlinesAreNearBorder};
+ghost use Rattle.slice_layer.specs.Within.{OutlinesAreWithin};
 
 /// At every layer the outlines of a tree of closed surfaces wind once round each point that the tree contains by its exact
 /// cuts, and not at all round any other, where no point of a cut lies within one micrometre of the point along both axes;
@@ -14,4 +15,9 @@ pub fn outlines_hold()
 /// tree's section holds on one side and not on another.
 pub fn outlines_are_near_border()
     ensures { OutlinesAreNearBorder }
+{}
+
+/// The outlines of a tree of solids are within the limit of points.
+pub fn outlines_are_within()
+    ensures { OutlinesAreWithin }
 {}

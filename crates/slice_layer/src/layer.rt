@@ -1,5 +1,7 @@
 //! The outlines of a layer.
-ghost use Rattle.std.specs.Prelude.{◌≤◌, length, IfOk, IfErr};
+ghost use Rattle.std.specs.Prelude.{◌≤◌, length, All, IfOk, IfErr};
+ghost use Rattle.scad_geom.specs.Limits.{point_limit};
+ghost use Rattle.scad_geom.specs.Within.{IsWithin};
 ghost use Rattle.slice_events.specs.Limits.{crossing_limit};
 ghost use Rattle.slice_events.specs.Levels.{crossings};
 ghost use Rattle.scad_tree.specs.Sections.{tree_section};
@@ -19,7 +21,7 @@ use std::alloc::Global;
 /// Where no point of a cut of the tree at the layer's plane lies within one micrometre of a cell centre along both axes, they
 /// wind once round the centre if the tree contains it, and not at all round it if it doesn't. Each point of each of their
 /// sides lies less than one micrometre along both axes from a point hard by which the tree's section holds on one side and
-/// not on another.
+/// not on another. No coordinate of theirs is greater in size than 1,000,000.
 ///
 /// They are refused exactly where the section has more edges than the limit, and then where more than 2,000,000 pairs of
 /// them cross.
@@ -33,6 +35,7 @@ pub fn layer_outlines(
     ensures outlines { IfOk result (λ v. AreLayerOutlines layer h (solid_of tree.now) v.items) }
     ensures centres { IfOk result (λ v. HoldCentres layer h (solid_of tree.now) v.items) }
     ensures near { IfOk result (λ v. AreNearSectionBorder layer h (solid_of tree.now) v.items) }
+    ensures within { IfOk result (λ v. All (λ l. All (IsWithin point_limit) l) v.items) }
     ensures few { IfOk result (λ v. length (tree_section layer h (solid_of tree.now)) ≤ limit) }
     ensures accepted { IfOk result (λ v. crossings (tree_section layer h (solid_of tree.now)) ≤ crossing_limit) }
     ensures refused { IfErr result (IsRefusal (length (tree_section layer h (solid_of tree.now))) limit (crossings (tree_section layer h (solid_of tree.now)))) }

@@ -1,14 +1,15 @@
 use Rattle.std.proofs.Common.{All, sym, ◌∙◌, subst}
 use Rattle.std.proofs.lemmas.Result.{IfOk-weaker}
-use Rattle.scad_geom.specs.Limits.{coordinate_limit}
-use Rattle.scad_geom.specs.Within.{IsEdgeWithin}
+use Rattle.scad_geom.specs.Limits.{coordinate_limit, point_limit}
+use Rattle.scad_geom.specs.Within.{IsWithin, IsEdgeWithin}
 use Rattle.scad_tree.specs.View.{solid_of}
 use Rattle.scad_tree.proofs.Numbering.{numbering_holds}
 use Rattle.slice_bool.specs.Outlines.{AreOutlinesOf}
 use Rattle.slice_layer.specs.Outlines.{AreLayerOutlines}
 use Rattle.slice_layer.specs.Membership.{HoldCentres}
 use Rattle.slice_layer.specs.Border.{AreNearSectionBorder}
-use Rattle.slice_layer.proofs.Surfaces.{solids_closed, section_within}
+use Rattle.slice_layer.proofs.Surfaces.{solids_closed, section_in_range, section_within}
+use Rattle.slice_layer.proofs.Within.{shapes_within}
 use Rattle.slice_layer.proofs.Membership.{outlines_hold_centres}
 use Rattle.slice_layer.proofs.Border.{outlines_are_near_border}
 use Rattle.slice_layer.proofs.layer.layer_outlines.Goals as goal
@@ -46,4 +47,13 @@ returns-clause-outlines c =
     let solid = solid_of c.args.tree.now in
     IfOk-weaker c.outlines.result (λ v. AreOutlinesOf c.deref.result.now c.in-Ok-shape.shape v.items) (λ v. AreLayerOutlines layer h solid v.items)
     (λ v made. record { shape = c.in-Ok-shape.shape; stands = λ inside. numbering_holds.shapes inside solid c.in-Ok-shape.shape c.in-Ok-shape.ensures; are_outlines = subst (λ es. AreOutlinesOf es c.in-Ok-shape.shape v.items) (c.deref.ensures.value ∙ c.in-Ok.ensures.edges) made })
+    c.outlines.ensures.outlines
+
+pub returns-clause-within : goal.returns-clause-within
+returns-clause-within c =
+    let solid = solid_of c.args.tree.now in
+    IfOk-weaker c.outlines.result (λ v. AreOutlinesOf c.deref.result.now c.in-Ok-shape.shape v.items) (λ v. All (λ l. All (IsWithin point_limit) l) v.items)
+    (λ v made. shapes_within c.deref.result.now
+    (subst (All (λ e. IsEdgeWithin point_limit e.edge)) (sym (c.deref.ensures.value ∙ c.in-Ok.ensures.edges)) (section_in_range c.args.layer c.args.h solid c.are_solids.ensures))
+    c.in-Ok-shape.shape v.items made)
     c.outlines.ensures.outlines
