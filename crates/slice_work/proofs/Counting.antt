@@ -30,3 +30,9 @@ one_more want rates part i layout s laid sums =
       gcode = ap₂ (λ a b. a + b) sums.gcode (ap (step_size Gcode) (sym steps))
           ∙ sym (sum_by-map-range_with_len_more (step_size Gcode) (layer_steps want rates part) 0 i i (omega arith));
     }
+
+pub next_counted : (want : Want) (rates : Rates) (part : Part) (i j : ℕ) (layout : Layout) (s t : Sums) → j ≡ i + 1 → t ≡ with_layer want rates i layout s
+    → part i ≡ Ok layout → AreSums want rates part i s → AreSums want rates part j t
+next_counted want rates part i j layout s t next is laid sums =
+    subst (λ (k : ℕ). AreSums want rates part k t) (sym next)
+    (subst (AreSums want rates part (i + 1)) (sym is) (one_more want rates part i layout s laid sums))

@@ -1,15 +1,21 @@
 -- The script of layers, written layer by layer and round by round.
 use Rattle.std.proofs.Common.{◌≡◌, ◌≢◌, ◌<◌, ◌≤◌, ◌+◌, ◌-◌, ℕ, zero, suc, List, [], ◌∷◌, Result, Ok, Err, sym, refl, ap, ◌∙◌, arith}
 use Rattle.scad_fault.specs.declared.budget.Budget.{Budget}
+use Rattle.scad_io.specs.Desk.{View}
 use Rattle.scad_io.specs.declared.desk.Out.{Out}
 use Rattle.scad_io.specs.declared.desk.Out.TheVariants.{Report, Cli, Gcode}
 use Rattle.scad_script.specs.declared.refusal.Refusal.TheVariants.{Over}
 use Rattle.scad_script.specs.Steps.{Step, Sends, stage, drawing}
 use Rattle.scad_script.specs.Script.{Script, Refuses, first, ends, layer_then, layers}
+use Rattle.scad_script.specs.Played.{Left, Plays, Carries}
+use Rattle.scad_script.specs.declared.stop.Stop.{Stop}
+use Rattle.scad_script.proofs.Layers.{as_left}
 use Rattle.gcode_text.specs.declared.rates.Rates.{Rates}
 use Rattle.slice_work.specs.declared.want.Want.{Want}
 use Rattle.slice_work.specs.Part.{Layout, Part}
+use Rattle.slice_work.specs.declared.sums.Sums.{Sums}
 use Rattle.slice_work.specs.Script.{volume_below, written, written_unless, layer_steps}
+use Rattle.slice_work.specs.Sums.{AreSums}
 
 -- a piece for an output that isn't the report is drawn
 pub draws_piece : (out : Out) (piece : List ℕ) → out ≢ Report → stage (Sends out piece) ≡ drawing
@@ -53,3 +59,23 @@ module _ (want : Want) (rates : Rates) (part : Part) where
       let more : n ≡ suc (n - 1) = omega arith in
       ap (λ k. layers (layer_steps want rates part) i k rest) more
       ∙ ap (λ it. layer_then (written_unless want rates (volume_below want rates part i) i it) (layers (layer_steps want rates part) (i + 1) (n - 1) rest)) over
+
+  -- the next layer is played by what writes it
+  pub next_written : {T : Type 0} (i n j m : ℕ) (sums : Sums) (layout : Layout) (result : Result T Stop) (old new : View) → 0 < n → j ≡ i + 1 → m ≡ n - 1
+      → AreSums want rates part i sums → part i ≡ Ok layout → Carries (first (written want rates sums.volume i layout)) result old new
+      → (whole rest : Script) (start : View) → Left whole (layers (layer_steps want rates part) i n rest) start old
+      → Plays whole (layers (layer_steps want rates part) j m rest) result start new
+  next_written {T = T} i n j m sums layout result old new some next fewer are laid carries whole rest start left =
+      let here = carries whole (layers (layer_steps want rates part) (i + 1) (n - 1) rest) start (as_left (laid_next i n sums.volume layout rest some are.volume laid) left) in
+      rw (next, fewer) here
+
+  -- the next layers are played by what plays a round of them
+  pub round_played : {T : Type 0} (i count all j : ℕ) (result : Result T Stop) (old new : View) → i + count ≤ all → j ≡ i + count
+      → Carries (layers (layer_steps want rates part) i count) result old new
+      → (whole rest : Script) (start : View) → Left whole (layers (layer_steps want rates part) i (all - i) rest) start old
+      → Plays whole (layers (layer_steps want rates part) j (all - j) rest) result start new
+  round_played {T = T} i count all j result old new within next carries whole rest start left =
+      let here = carries whole (layers (layer_steps want rates part) (i + count) (all - (i + count)) rest) start
+          (as_left (round_parted (layer_steps want rates part) i count all rest within) left)
+      in
+      rw next here

@@ -4,6 +4,10 @@ use Rattle.slice_work.specs.declared.round.Round.{Round}
 use Rattle.slice_work.specs.Part.{layer_limit}
 use Rattle.slice_work.specs.Shares.{made_numbers, over_numbers}
 
+-- a round has at most so many layers
+abbrev pub round_limit : ℕ
+round_limit = 64
+
 -- the layers below the least one that passes a budget were made, and that one, if any, passes one
 pub record IsWhole (r : Round) : Type 0 where
   pub within : r.least ≤ r.count

@@ -19,10 +19,12 @@ pub fn layout_of(round: &Round, n: u32) -> (&[Loop], &[Path])
 {
     let layer = round.first + n;
     'layers: for drawn in &round.done {
-        if drawn.layer == layer {
-            if let LayerEnd::Made(loops, plan) = &drawn.end {
-                return (loops.as_slice(), plan.paths.as_slice());
-            }
+        if drawn.layer != layer {
+            continue;
+        }
+        match &drawn.end {
+            LayerEnd::Made(loops, plan) => return (loops.as_slice(), plan.paths.as_slice()),
+            LayerEnd::Over(_) => {}
         }
     }
     unreachable!()
@@ -36,12 +38,14 @@ pub fn budget_of(round: &Round) -> Budget
     ensures { (part : Part) → AreDrawnOf part round.now.done.items
         → part (round.now.first + round.now.least) ≡ Err result }
 {
-    let layer = round.first + round.least;
+    let least = round.first + round.least;
     'layers: for drawn in &round.done {
-        if drawn.layer == layer {
-            if let LayerEnd::Over(budget) = &drawn.end {
-                return *budget;
-            }
+        if drawn.layer != least {
+            continue;
+        }
+        match &drawn.end {
+            LayerEnd::Made(..) => {}
+            LayerEnd::Over(budget) => return *budget,
         }
     }
     unreachable!()

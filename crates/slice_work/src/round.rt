@@ -2,7 +2,7 @@
 ghost use Rattle.std.specs.Prelude.{◌≡◌, ◌+◌, ◌<◌, ◌≤◌, IfOk};
 ghost use Rattle.slice_work.specs.Part.{Part, layer_limit};
 ghost use Rattle.slice_work.specs.Shares.{AreDrawnOf};
-ghost use Rattle.slice_work.specs.Rounds.{IsRound};
+ghost use Rattle.slice_work.specs.Rounds.{IsRound, round_limit};
 
 use crate::layer::Drawn;
 use crate::layer_work::LayerWork;
@@ -34,6 +34,7 @@ pub fn work_round<R: Threads + Sync, W: LayerWork, G: Gate>(
 ) -> Result<Round, AllocError>
     requires some { 1 ≤ workers }
     requires few { workers ≤ 64 }
+    requires size { count ≤ round_limit }
     requires within { first + count ≤ layer_limit }
 
     ensures round { IfOk result (IsRound first count) }

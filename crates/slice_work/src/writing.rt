@@ -50,17 +50,12 @@ pub fn send_layer<D: Desk>(
 {
     let (loops, paths) = layout;
     let cli = send_outlines(alloc, rates, layer, loops, desk)?;
-    let sums = counted(sums.with_outlines(loops.len(), cli))?;
+    let Some(sums) = sums.with_outlines(loops.len(), cli) else {
+        return Err(WorkFault::Memory);
+    };
     match want {
         Want::Outlines => Ok(sums),
         Want::Plan => send_moves(alloc, rates, layer, paths, sums, desk),
-    }
-}
-
-fn counted(sums: Option<Sums>) -> Result<Sums, WorkFault> {
-    match sums {
-        Some(sums) => Ok(sums),
-        None => Err(WorkFault::Memory),
     }
 }
 
@@ -128,7 +123,10 @@ fn send_moves<D: Desk>(
     let Some(moves) = moves_of(paths) else {
         return Err(WorkFault::Memory);
     };
-    counted(sums.with_moves(moves, volume, text.len()))
+    match sums.with_moves(moves, volume, text.len()) {
+        Some(sums) => Ok(sums),
+        None => Err(WorkFault::Memory),
+    }
 }
 
 // Writes a piece to an output that isn't the report.
