@@ -20,5 +20,6 @@ pub mod SomeMerged
 pub mod SomeLeft
 pub mod SomeLoops
 pub mod SomeOutlines
+pub mod Pairs
 pub mod Standing
 pub mod SomeLayer

@@ -1,64 +1,17 @@
 -- Each tree has a shape that stands for it: one of operations on two members.
-use Rattle.std.proofs.Common.{◌≡◌, ℕ, ◌+◌, Bool, not, ◌&&◌, ◌||◌, List, [], ◌∷◌, ◌++◌, Vec, Box, Global}
+use Rattle.std.proofs.Common.{◌≡◌, ℕ, ◌+◌, Bool, not, ◌&&◌, ◌||◌, List, [], ◌∷◌, ◌++◌}
 use Rattle.std.proofs.Common.{length, refl, sym, ap, ap₂, ◌∙◌, arith, append_assoc, append-nil, length-append}
-use Rattle.std.proofs.Math.Bool.{or-false, and-true, and_assoc}
-use denote.RawPtr.{null_ptr}
+use Rattle.std.proofs.Math.Bool.{and-true, and_assoc}
 use lib.Seq.{get_or-append_seam}
-use Rattle.scad_geom.specs.declared.shape.Shape.{Shape, Empty, Leaf, Union, Inter, Diff}
+use Rattle.scad_geom.specs.declared.shape.Shape.{Shape, Empty, Leaf}
 use Rattle.scad_geom.specs.Shape.{shape_holds}
-use Rattle.scad_geom.proofs.Shapes.{holds_union, holds_inter, holds_diff}
 use Rattle.scad_solid.specs.declared.triangle.Triangle.{Triangle}
 use Rattle.scad_tree.specs.Solid.{Solid, Solids, nothing, surface, union, intersection, difference, none, member}
 use Rattle.scad_tree.specs.Member.{holds, some_hold, all_hold}
 use Rattle.scad_tree.specs.Order.{surfaces, all_surfaces}
 use Rattle.scad_tree.specs.Numbered.{surface_at}
 use Rattle.slice_layer.specs.Outlines.{StandsFor}
-
--- ---- shapes of two members, as values
-heap : Global
-heap = record { memory = record { seal = tt } }
-
-pair : Shape → Shape → Vec Shape Global
-pair s t = record {
-  ptr = null_ptr;
-  len = 2;
-  cap = 2;
-  alloc = heap;
-  items = s ∷ (t ∷ []);
-  ok = (refl, omega arith);
-  small = omega arith;
-}
-
-boxed : Shape → Box Shape Global
-boxed s = record { ptr = null_ptr; alloc = heap; value = s }
-
-either : Shape → Shape → Shape
-either s t = Union (pair s t)
-
-both : Shape → Shape → Shape
-both s t = Inter (pair s t)
-
-without : Shape → Shape → Shape
-without s t = Diff (boxed s) (pair t Empty)
-
-module _ (inside : ℕ → Bool) (s t : Shape) where
-  abbrev first : Bool
-  first = shape_holds inside s
-
-  abbrev second : Bool
-  second = shape_holds inside t
-
-  either_holds : shape_holds inside (either s t) ≡ (first || second)
-  unfolding either pair
-  either_holds = holds_union inside (pair s t) ∙ ap (λ (b : Bool). first || b) (or-false second)
-
-  both_hold : shape_holds inside (both s t) ≡ (first && second)
-  unfolding both pair
-  both_hold = holds_inter inside (pair s t) ∙ ap (λ (b : Bool). first && b) (and-true second)
-
-  first_holds : shape_holds inside (without s t) ≡ (first && not second)
-  unfolding without pair boxed
-  first_holds = holds_diff inside (boxed s) (pair t Empty) ∙ ap (λ (b : Bool). first && not b) (or-false second)
+use Rattle.outline_laws.proofs.Pairs.{either, both, without, either_holds, both_hold, first_holds}
 
 -- ---- a tree whose first leaf has a number
 abbrev mutual

@@ -1,19 +1,17 @@
 -- The stretches that sorted steps of all sides say are deep are the runs.
-use Rattle.std.proofs.Common.{◌≡◌, ◌≢◌, ◌⊎◌, inl, inr, ℕ, zero, suc, Bool, true, false, not, List, [], ◌∷◌, ◌++◌, refl, sym, ap, ◌∙◌, subst, arith, flat_map, ℤ, pos, negsuc, ◌+ℤ◌, ◌-ℤ◌, ◌<ℤ◌}
+use Rattle.std.proofs.Common.{◌≡◌, ◌≢◌, ◌⊎◌, inl, inr, ℕ, zero, suc, true, not, List, [], ◌∷◌, ◌++◌, refl, sym, ap, ◌∙◌, subst, arith, flat_map, ℤ, pos, negsuc, ◌+ℤ◌, ◌-ℤ◌, ◌<ℤ◌}
 use Rattle.std.specs.Prelude.{int_le, if◌then◌else◌, All}
 use Rattle.std.specs.List.{AllByRecursion}
 use Rattle.std.specs.List.Sorted.{IsPermutation}
 use Rattle.std.proofs.lemmas.Int.{ints}
-use Rattle.std.proofs.lemmas.Bool.{and_parts, false≢true, both_ways}
-use Rattle.std.proofs.lemmas.List.Elements.{recursion_from_All, All-from_recursion, All-weaker}
+use Rattle.std.proofs.lemmas.Bool.{and_parts, false≢true}
+use Rattle.std.proofs.lemmas.List.Elements.{recursion_from_All, All-from_recursion}
 use Rattle.std.proofs.lemmas.List.Sorted.{All-permutation}
-use Rattle.scad_base.proofs.Lists.{AllByRecursion-append}
 use Rattle.scad_geom.specs.declared.point.Pt.{Pt}
 use Rattle.scad_geom.specs.declared.point.Edge.{Edge}
 use Rattle.scad_geom.specs.Loop.{path, sides}
 use Rattle.scad_geom.specs.Point.{whole}
 use Rattle.scad_geom.specs.Sign.{is_zero}
-use Rattle.scad_geom.specs.Within.{IsWithin, IsEdgeWithin}
 use Rattle.scad_geom.specs.Winding.{counted, is_over, passage_by, wind}
 use Rattle.scad_geom.specs.Segment.{segments}
 use Rattle.scad_geom.proofs.Sums.{sum_z, sum_z-permutation}
@@ -22,10 +20,11 @@ use Rattle.plan_infill.specs.declared.line.Line.TheVariants.{Row, Column}
 use Rattle.plan_infill.specs.declared.run.Run.{Run}
 use Rattle.plan_infill.specs.declared.step.Step.{Step}
 use Rattle.plan_infill.specs.Deep.{IsDeep}
-use Rattle.plan_infill.specs.Runs.{point_on, IsRun, AreRuns}
+use Rattle.plan_infill.specs.Runs.{point_on, AreRuns}
 use Rattle.plan_infill.specs.Steps.{up_to, all_of, turns_before, IsApart, IsStep, AreSteps}
-use Rattle.plan_infill.specs.Sweep.{is_deep_at, IsStretch, AreStretches}
+use Rattle.plan_infill.specs.Sweep.{is_deep_at, AreStretches}
 use Rattle.scad_geom.proofs.Signs.{zero_true}
+use Rattle.plan_infill.proofs.Tested.{are_runs}
 
 -- ---- far before a line closed outlines don't turn
 over : ℤ → Pt → ℤ
@@ -39,7 +38,7 @@ path_before : (y : ℤ) (from : Pt) (ps : List Pt) (last : Pt) (es : List Edge) 
 path_before y from [] last es = let p = passage_is y (record { a = from; b = last }) in omega (arith, ints, p)
 path_before y from (q ∷ ps) last es = let p = passage_is y (record { a = from; b = q }) in let h = path_before y q ps last es in omega (arith, ints, p, h)
 
-none_before : (line : Line) (ls : List (List Pt)) → turns_before line (flat_map sides ls) ≡ pos 0
+pub none_before : (line : Line) (ls : List (List Pt)) → turns_before line (flat_map sides ls) ≡ pos 0
 none_before (Row y) [] = refl
 none_before (Row y) ([] ∷ ls) = none_before (Row y) ls
 none_before (Row y) ((p ∷ ps) ∷ ls) = let a = path_before y p ps p (flat_map sides ls) in let h = none_before (Row y) ls in omega (arith, ints, a, h)
@@ -108,32 +107,5 @@ module _ (c : ℕ) (line : Line) (outlines : List (List Pt)) (steps sorted : Lis
       by_near (inl a) = absurd (a.1 (recursion_from_All (IsApart c line z) (flat_map sides outlines) d.apart))
       by_near (inr a) = a.0
 
-  not_deep : (z : ℤ) → (IsDeep outlines c (point_on line z) → ⊥) → is_deep_at sorted z ≡ false
-  not_deep z n = by_test (is_deep_at sorted z) refl
-    where
-      by_test : (b : Bool) → is_deep_at sorted z ≡ b → b ≡ false
-      by_test true e = absurd (n (deep_if z e))
-      by_test false e = refl
-
-  run_of : (least : ℕ) (r : Run) → IsStretch (is_deep_at sorted) least r → IsRun outlines c line least r
-  run_of least r s = record {
-    long = s.long;
-    deep = λ z a b. deep_if z (s.holds z a b);
-    before = λ d. both_ways _ s.before (if_deep (r.from -ℤ pos 1) d);
-    after = λ d. both_ways _ s.after (if_deep (r.to +ℤ pos 1) d);
-  }
-
-  of_run : (least : ℕ) (r : Run) → IsRun outlines c line least r → IsStretch (is_deep_at sorted) least r
-  of_run least r s = record {
-    long = s.long;
-    holds = λ z a b. if_deep z (s.deep z a b);
-    before = not_deep (r.from -ℤ pos 1) s.before;
-    after = not_deep (r.to +ℤ pos 1) s.after;
-  }
-
   pub all_runs : (least : ℕ) (rs : List Run) → AreStretches (is_deep_at sorted) least rs → AreRuns outlines c line least rs
-  all_runs least rs s = record {
-    upwards = s.upwards;
-    each = All-weaker (IsStretch (is_deep_at sorted) least) (IsRun outlines c line least) (run_of least) rs s.each;
-    all = λ r i. s.all r (of_run least r i);
-  }
+  all_runs least rs s = are_runs outlines c line (is_deep_at sorted) deep_if if_deep least rs s

@@ -8,4 +8,9 @@ pub mod Ordered
 pub mod Edges
 pub mod Stretches
 pub mod Swept
+pub mod Tested
 pub mod AllRuns
+pub mod Beyond
+pub mod Deciding
+pub mod Searched
+pub mod SomeRuns

@@ -285,7 +285,7 @@ some_width c ax ay bx by f =
     let v = f.x.to in
     pos_left c (f.s +ℤ f.t) f.some (omega (arith, ints, u, v))
 
-record Told (c : ℕ) (x y : ℤ) (e : Edge) : Type 0 where
+pub record Told (c : ℕ) (x y : ℤ) (e : Edge) : Type 0 where
   pub beside : is_beside c y e ≡ true
   pub reach : IsInReach c y e x
 
@@ -339,10 +339,10 @@ told_of_found c x y e f =
     })
 
 -- ---- the steps
-comes : (c : ℕ) (x y : ℤ) (e : Edge) → is_beside c y e ≡ true → IsInReach c y e x → ComesNearer (pos c) (whole (at x y)) (whole e.a) (whole e.b)
+pub comes : (c : ℕ) (x y : ℤ) (e : Edge) → is_beside c y e ≡ true → IsInReach c y e x → ComesNearer (pos c) (whole (at x y)) (whole e.a) (whole e.b)
 comes c x y e h i = comes_if_found (pos c) x y e.a e.b (found_of_ends (pos c) x y e (found_of_reach c x y e h i))
 
-told : (c : ℕ) (x y : ℤ) (e : Edge) → ComesNearer (pos c) (whole (at x y)) (whole e.a) (whole e.b) → Told c x y e
+pub told : (c : ℕ) (x y : ℤ) (e : Edge) → ComesNearer (pos c) (whole (at x y)) (whole e.a) (whole e.b) → Told c x y e
 told c x y e f = told_of_found c x y e (ends_of_found (pos c) x y e (found_if_comes (pos c) x y e.a e.b f))
 
 pub near_steps : (c : ℕ) (y : ℤ) (e : Edge) (s : Stretch) (steps : List Step) → is_beside c y e ≡ true → IsReached c y e s → Counts s steps → AreNearSteps c (Row y) e steps
@@ -365,10 +365,10 @@ no_near_steps c y e h = record {
 }
 
 -- a column is a row of the plane with x and y exchanged
-exchange : (c : ℤ) (x z : ℤ) (e : Edge) → ComesNearer c (whole (at x z)) (whole (exchanged e).a) (whole (exchanged e).b) → ComesNearer c (whole (at z x)) (whole e.a) (whole e.b)
+pub exchange : (c : ℤ) (x z : ℤ) (e : Edge) → ComesNearer c (whole (at x z)) (whole (exchanged e).a) (whole (exchanged e).b) → ComesNearer c (whole (at z x)) (whole e.a) (whole e.b)
 exchange c x z e f = record { s = f.s; t = f.t; from = f.from; to = f.to; some = f.some; nearer = record { across = f.nearer.along; along = f.nearer.across } }
 
-exchange_back : (c : ℤ) (x z : ℤ) (e : Edge) → ComesNearer c (whole (at z x)) (whole e.a) (whole e.b) → ComesNearer c (whole (at x z)) (whole (exchanged e).a) (whole (exchanged e).b)
+pub exchange_back : (c : ℤ) (x z : ℤ) (e : Edge) → ComesNearer c (whole (at z x)) (whole e.a) (whole e.b) → ComesNearer c (whole (at x z)) (whole (exchanged e).a) (whole (exchanged e).b)
 exchange_back c x z e f = record { s = f.s; t = f.t; from = f.from; to = f.to; some = f.some; nearer = record { across = f.nearer.along; along = f.nearer.across } }
 
 pub exchanged_steps : (c : ℕ) (x : ℤ) (e : Edge) (steps : List Step) → AreNearSteps c (Row x) (exchanged e) steps → AreNearSteps c (Column x) e steps

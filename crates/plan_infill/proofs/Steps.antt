@@ -1,5 +1,5 @@
 -- Sums over steps.
-use Rattle.std.proofs.Common.{◌≡◌, ◌⊎◌, inl, inr, Bool, true, false, [], ◌∷◌, refl, sym, ap, ◌∙◌, arith, ℕ, ℤ, pos, negsuc, ◌+ℤ◌, ◌-ℤ◌, ◌*ℤ◌, ◌<ℤ◌}
+use Rattle.std.proofs.Common.{◌≡◌, inr, Bool, true, false, [], ◌∷◌, refl, sym, ap, ◌∙◌, arith, ℕ, ℤ, pos, negsuc, ◌+ℤ◌, ◌-ℤ◌, ◌*ℤ◌, ◌<ℤ◌}
 use lib.Signed.{◌≤ℤ◌}
 use Rattle.std.specs.Prelude.{if◌then◌else◌, int_le, int_lt, unsigned_abs, ◌≤◌, ◌&&◌}
 use Rattle.std.proofs.lemmas.Int.{ints}
@@ -47,7 +47,7 @@ heading_size e = by_test (int_lt e.b.y e.a.y)
     by_test false = omega arith
 
 -- ---- on a row
-left_at : (e : Edge) (x y : ℤ) → left_of e x y (pos 1) ≡ x_at e y (pos 1) -ℤ x *ℤ rise e
+pub left_at : (e : Edge) (x y : ℤ) → left_of e x y (pos 1) ≡ x_at e y (pos 1) -ℤ x *ℤ rise e
 unfolding left_of
 left_at e x y = let c = *ℤ_comm (rise e) x in omega (arith, ints, c)
 
@@ -153,7 +153,7 @@ pub x_at_weights : (e : Edge) (y : ℤ) → x_at e y (pos 1) ≡ (low e).x *ℤ 
 unfolding x_at run offset rise
 x_at_weights e y = weights (low e).x (low e).y y (high e).x (high e).y
 
-above_limit : (m a b y c d : ℤ) → (m -ℤ a) *ℤ (d -ℤ y) +ℤ (m -ℤ c) *ℤ (y -ℤ b) ≡ m *ℤ (d -ℤ b) -ℤ (a *ℤ (d -ℤ y) +ℤ c *ℤ (y -ℤ b))
+pub above_limit : (m a b y c d : ℤ) → (m -ℤ a) *ℤ (d -ℤ y) +ℤ (m -ℤ c) *ℤ (y -ℤ b) ≡ m *ℤ (d -ℤ b) -ℤ (a *ℤ (d -ℤ y) +ℤ c *ℤ (y -ℤ b))
 above_limit m a b y c d = ring (m ∷ a ∷ b ∷ y ∷ c ∷ d ∷ []) ((v0 ⊖ v1) ⊗ (v5 ⊖ v3) ⊕ (v0 ⊖ v4) ⊗ (v3 ⊖ v2)) (v0 ⊗ (v5 ⊖ v2) ⊖ (v1 ⊗ (v5 ⊖ v3) ⊕ v4 ⊗ (v3 ⊖ v2))) refl
 
 below_limit : (m a b y c d : ℤ) → (a +ℤ m) *ℤ (d -ℤ y) +ℤ (c +ℤ m) *ℤ (y -ℤ b) ≡ m *ℤ (d -ℤ b) +ℤ (a *ℤ (d -ℤ y) +ℤ c *ℤ (y -ℤ b))

@@ -5,3 +5,4 @@ pub mod Steps
 pub mod Sweep
 pub mod Columns
 pub mod Reach
+pub mod There

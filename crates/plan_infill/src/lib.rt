@@ -5,6 +5,7 @@
 #![tactic(auto, using(scad_geom::proofs::Casts::casts))]
 
 mod infill;
+pub mod laws;
 mod line;
 mod near_steps;
 mod quotient;

@@ -7,8 +7,6 @@ use Rattle.std.proofs.lemmas.List.{map-append, append-nil}
 use Rattle.std.proofs.lemmas.List.Elements.{All-nil, All-head, All-tail, All-push, All-weaker, Contains-append_left}
 use Rattle.std.proofs.lemmas.List.Elements.{Contains-push}
 use Rattle.scad_geom.specs.declared.point.Pt.{Pt}
-use Rattle.scad_geom.specs.Limits.{point_limit}
-use Rattle.scad_geom.specs.Within.{IsWithin}
 use Rattle.scad_geom.specs.Loop.{sides}
 use Rattle.scad_geom.proofs.Rising.{order}
 use Rattle.plan_infill.specs.declared.run.Run.{Run}
@@ -39,11 +37,10 @@ upwards_push (k ∷ ks) l u b = (
 )
 
 module _ (outlines : List (List Pt)) (layer : ℕ) (s : Settings) where
-  module _ (within : All (λ l. All (IsWithin point_limit) l) outlines) (low high : ℤ)
-      (among : All (IsEdgeAmong layer low high) (flat_map sides outlines)) where
+  module _ (low high : ℤ) (among : All (IsEdgeAmong layer low high) (flat_map sides outlines)) where
     run_beyond : (z : ℤ) (r : Run) → (z <ℤ low) ⊎ (high <ℤ z) → IsLayerRun outlines layer s z r → ⊥
     run_beyond z r o is =
-        let long = is.long in nothing_beyond outlines within layer low high z r.from o among (depth s)
+        let long = is.long in nothing_beyond outlines layer low high z r.from o among (depth s)
         (is.deep r.from (omega (arith, ints)) (omega (arith, ints)))
 
     -- before the first multiple from the least coordinate on there is no line

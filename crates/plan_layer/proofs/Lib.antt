@@ -11,4 +11,8 @@ pub mod Pushed
 pub mod Points
 pub mod Ascending
 pub mod OnePlan
+pub mod SomeWalls
+pub mod SomeLines
+pub mod SomePlans
+pub mod Decided
 pub mod OneAnswer

@@ -37,7 +37,7 @@ same_fault count limit met (ManyEdges m) (ManyCrossings n) a b h k =
 same_fault count limit met (ManyCrossings m) NoMemory a b h k = absurd (b refl)
 same_fault count limit met (ManyCrossings m) (ManyEdges n) a b h k =
     absurd (let i = h.0 in let j = k.1 in omega (arith, i, j))
-same_fault count limit met (ManyCrossings m) (ManyCrossings n) a b h k = ap ManyCrossings (h.1.0 ∙ sym k.1.0)
+same_fault count limit met (ManyCrossings m) (ManyCrossings n) a b h k = ap ManyCrossings (h.1 ∙ sym k.1)
 
 module _ (outlines : List (List Pt)) where
   abbrev IsFault : ℕ → BoolFault → Type 0
@@ -47,7 +47,7 @@ module _ (outlines : List (List Pt)) where
   no_fault : (c : ℕ) (f : BoolFault) → f ≢ NoMemory → IsWallAccepted outlines c → IsFault c f → ⊥
   no_fault c NoMemory n a h = n refl
   no_fault c (ManyEdges m) n a h = let few = a.few_edges in let many = h.1 in omega (arith, few, many)
-  no_fault c (ManyCrossings m) n a h = let few = a.few_crossings in let many = h.1.1 in omega (arith, few, many)
+  no_fault c (ManyCrossings m) n a h = let few = a.few_crossings in let many = h.2 in omega (arith, few, many)
 
   -- ---- the first wall
   one_wall : (s : Settings) (f g : BoolFault) → f ≢ NoMemory → g ≢ NoMemory → IsWallRefused outlines s f

@@ -35,6 +35,17 @@ walls_push outlines width k n [] loops e h w =
 walls_push outlines width k n (first ∷ walls) loops e h w =
     (h.0, walls_push outlines width (k + 1) n walls loops (omega (arith, e)) h.1 w)
 
+-- one wall more
+pub accepted_more : (outlines : List (List Pt)) (width n : ℕ) → AreAccepted outlines width n
+    → IsWallAccepted outlines (distance width n) → AreAccepted outlines width (n + 1)
+accepted_more outlines width n all last k o = elim (below_or_same k n o) [
+  | inl p ↦ all k p
+  | inr e ↦ subst (λ (m : ℕ). IsWallAccepted outlines (distance width m)) (sym e) last
+]
+  where
+    below_or_same : (k n : ℕ) → k < n + 1 → (k < n) ⊎ (k ≡ n)
+    below_or_same k n o = grind arith
+
 pub walled_more : (outlines : List (List Pt)) (width n : ℕ) (paths loops : List (List Pt))
     → Walled outlines width n paths → AreWalls (distance width n) outlines loops
     → length (wall_edges (distance width n) outlines) ≤ edge_limit → crossings
@@ -47,21 +58,11 @@ walled_more outlines width n paths loops h w few met = record {
   paths_are = ap (λ (ps : List (List Pt)). ps ++ map round loops) h.paths_are
       ∙ ap (λ (ps : List (List Pt)). wall_paths h.walls ++ ps) (sym (append-nil (map round loops)))
       ∙ sym (flat_map-append (λ (l : List (List Pt)). map round l) h.walls (loops ∷ []));
-  accepted = λ k o. by_order k o (record { few_edges = few; few_crossings = met });
+  accepted = accepted_more outlines width n h.accepted (record { few_edges = few; few_crossings = met });
 }
   where
     pushed : (ws : List (List (List Pt))) → length ws ≡ n → length (ws ++ loops ∷ []) ≡ n + 1
     pushed ws e = omega (arith, length-append ws (loops ∷ []), e)
-
-    below_or_same : (k n : ℕ) → k < n + 1 → (k < n) ⊎ (k ≡ n)
-    below_or_same k n o = grind arith
-
-    by_order : (k : ℕ) → k < n + 1 → IsWallAccepted outlines (distance width n)
-        → IsWallAccepted outlines (distance width k)
-    by_order k o a = elim (below_or_same k n o) [
-      | inl p ↦ h.accepted k p
-      | inr e ↦ subst (λ (m : ℕ). IsWallAccepted outlines (distance width m)) (sym e) a
-    ]
 
 pub all_walled : (outlines : List (List Pt)) (s : Settings) (paths : List (List Pt))
     → Walled outlines s.line_width s.walls paths → AreWallPaths outlines s paths

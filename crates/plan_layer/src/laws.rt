@@ -1,6 +1,7 @@
 //! Laws of the definitions, each carried by the contract of a function that does nothing.
 ghost use Rattle.plan_layer.specs.Kept.{RunsKeepClear, PlansKeepClear};
-ghost use Rattle.plan_layer.specs.One.{PlansAreOne};
+ghost use Rattle.plan_layer.specs.There.{WallsAreThere, PlansAreThere, PlansAreDecided};
+ghost use Rattle.plan_layer.specs.One.{PlansAreOne, RefusalsAreOne, AcceptedIsNotRefused};
 
 use plan_walls::laws::walls_keep_clear;
 
@@ -21,4 +22,21 @@ pub fn plans_keep_clear()
 /// A layer has one plan over its outlines.
 pub fn plans_are_one()
     ensures { PlansAreOne }
+{}
+
+/// Outlines have walls at each distance, and a layer has a plan over its outlines.
+pub fn plans_are_there()
+    ensures walls { WallsAreThere }
+    ensures plans { PlansAreThere }
+{}
+
+/// A layer has a plan that passes no limit, or a fault by which it is refused.
+pub fn plans_are_decided()
+    ensures { PlansAreDecided }
+{}
+
+/// A layer is refused by one fault, want of memory aside, and by none where it has a plan that passes no limit.
+pub fn answers_are_one()
+    ensures refusals { RefusalsAreOne }
+    ensures either { AcceptedIsNotRefused }
 {}

@@ -143,4 +143,7 @@ fn laws_are_called() {
     laws::runs_keep_clear();
     laws::plans_keep_clear();
     laws::plans_are_one();
+    laws::plans_are_there();
+    laws::plans_are_decided();
+    laws::answers_are_one();
 }

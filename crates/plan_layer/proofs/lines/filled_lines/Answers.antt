@@ -36,7 +36,7 @@ lines-init c =
     let low = c.extent_of-extent.ensures.from in
     let filled = subst (λ (ls : List LineRuns). FilledBefore c.args.outlines.now c.args.layer c.args.settings.now
     c.multiple_from-at.result ls) (sym c.new-lines.ensures.items)
-    (before_none c.args.outlines.now c.args.layer c.args.settings.now c.requires.within c.extent_of-extent.result.low
+    (before_none c.args.outlines.now c.args.layer c.args.settings.now c.extent_of-extent.result.low
     c.extent_of-extent.result.high (among c)
     c.multiple_from-at.result c.multiple_from-at.ensures.multiple first) in
     simp to_z-of_z (record {
@@ -96,7 +96,7 @@ returns c =
     let high : to_z w64 (of_z w64 (to_z w32 (of_z w32 c.extent_of-extent.result.high)))
     ≡ c.extent_of-extent.result.high = search (rules, casts) in
     let behind = c.lines-test.false in
-    before_all c.args.outlines.now c.args.layer c.args.settings.now c.requires.within c.extent_of-extent.result.low
+    before_all c.args.outlines.now c.args.layer c.args.settings.now c.extent_of-extent.result.low
     c.extent_of-extent.result.high
     (subst (λ (es : List Edge). All (IsEdgeAmong c.args.layer c.extent_of-extent.result.low
     c.extent_of-extent.result.high) es)

@@ -1,0 +1,116 @@
+-- Whether a whole point of a line is deep inside outlines is decided.
+use Rattle.std.proofs.Common.{◌≡◌, ◌≢◌, ◌⊎◌, inl, inr, ℕ, Bool, true, false, List, [], ◌∷◌, refl, sym, ap, ◌∙◌}
+use Rattle.std.proofs.Common.{flat_map, arith, ℤ, pos, ◌+ℤ◌, ◌-ℤ◌, ◌*ℤ◌, ◌<ℤ◌}
+use lib.Signed.{◌≤ℤ◌}
+use Rattle.std.specs.Int.{int_min, int_max}
+use Rattle.std.specs.List.{AllByRecursion}
+use Rattle.std.proofs.lemmas.Int.{ints}
+use Rattle.std.proofs.lemmas.Bool.{false≢true, both_ways}
+use Rattle.std.proofs.lemmas.List.Elements.{recursion_from_All, All-from_recursion}
+use Rattle.scad_geom.specs.declared.point.Pt.{Pt}
+use Rattle.scad_geom.specs.declared.point.Edge.{Edge}
+use Rattle.scad_geom.specs.Line.{low, high, rise, x_at}
+use Rattle.scad_geom.specs.Point.{whole}
+use Rattle.scad_geom.specs.Segment.{segments}
+use Rattle.scad_geom.specs.Loop.{sides}
+use Rattle.scad_geom.specs.Sign.{is_zero}
+use Rattle.scad_geom.specs.Winding.{wind}
+use Rattle.scad_geom.proofs.Rising.{order}
+use Rattle.scad_geom.proofs.Signs.{zero_true}
+use Rattle.plan_infill.specs.declared.line.Line.{Line}
+use Rattle.plan_infill.specs.declared.line.Line.TheVariants.{Row, Column}
+use Rattle.plan_infill.specs.Deep.{ComesNearer, IsDeep}
+use Rattle.plan_infill.specs.Reach.{reach, is_beside, exchanged, IsInReach}
+use Rattle.plan_infill.specs.Runs.{point_on}
+use Rattle.plan_infill.specs.Steps.{IsApart}
+use Rattle.plan_infill.proofs.Turning.{at}
+use Rattle.plan_infill.proofs.Reached.{comes, told, exchange, exchange_back}
+
+-- it holds, or it doesn't
+abbrev pub IsDecided : Type 0 → Type 0
+IsDecided P = P ⊎ (P → ⊥)
+
+-- ---- one edge
+abbrev IsOnLine : ℕ → ℤ → Edge → ℤ → Type 0
+IsOnLine c y e x =
+    pos 0 <ℤ rise e
+    → ((x_at e y (pos 1) -ℤ reach c e) <ℤ (x *ℤ rise e)) × ((x *ℤ rise e) <ℤ (x_at e y (pos 1) +ℤ reach c e))
+
+on_line : (c : ℕ) (y : ℤ) (e : Edge) (x : ℤ) → IsDecided (IsOnLine c y e x)
+on_line c y e x =
+    by_cases (order (rise e) (pos 0)) (order (x *ℤ rise e) (x_at e y (pos 1) -ℤ reach c e))
+    (order (x_at e y (pos 1) +ℤ reach c e) (x *ℤ rise e))
+  where
+    by_cases : (rise e ≤ℤ pos 0) ⊎ (pos 0 <ℤ rise e)
+        → ((x *ℤ rise e) ≤ℤ (x_at e y (pos 1) -ℤ reach c e)) ⊎ ((x_at e y (pos 1) -ℤ reach c e) <ℤ (x *ℤ rise e))
+        → ((x_at e y (pos 1) +ℤ reach c e) ≤ℤ (x *ℤ rise e)) ⊎ ((x *ℤ rise e) <ℤ (x_at e y (pos 1) +ℤ reach c e))
+        → IsDecided (IsOnLine c y e x)
+    by_cases (inl flat) a b = inl (λ rises. absurd (omega (arith, ints, flat, rises)))
+    by_cases (inr rises) (inl a) b = inr (λ h. let f = (h rises).0 in omega (arith, ints, f, a))
+    by_cases (inr rises) (inr a) (inl b) = inr (λ h. let f = (h rises).1 in omega (arith, ints, f, b))
+    by_cases (inr rises) (inr a) (inr b) = inl (λ h. (a, b))
+
+in_reach : (c : ℕ) (y : ℤ) (e : Edge) (x : ℤ) → IsDecided (IsInReach c y e x)
+in_reach c y e x =
+    by_cases (order x (int_min (low e).x (high e).x -ℤ pos c)) (order (int_max (low e).x (high e).x +ℤ pos c) x)
+    (on_line c y e x)
+  where
+    by_cases : (x ≤ℤ (int_min (low e).x (high e).x -ℤ pos c)) ⊎ ((int_min (low e).x (high e).x -ℤ pos c) <ℤ x)
+        → ((int_max (low e).x (high e).x +ℤ pos c) ≤ℤ x) ⊎ (x <ℤ (int_max (low e).x (high e).x +ℤ pos c))
+        → IsDecided (IsOnLine c y e x) → IsDecided (IsInReach c y e x)
+    by_cases (inl a) b l = inr (λ i. let f = i.left in omega (arith, ints, f, a))
+    by_cases (inr a) (inl b) l = inr (λ i. let f = i.right in omega (arith, ints, f, b))
+    by_cases (inr a) (inr b) (inl l) = inl (record { left = a; right = b; line = l })
+    by_cases (inr a) (inr b) (inr n) = inr (λ i. n i.line)
+
+near_on_row : (c : ℕ) (y : ℤ) (e : Edge) (x : ℤ)
+    → IsDecided (ComesNearer (pos c) (whole (at x y)) (whole e.a) (whole e.b))
+near_on_row c y e x = by_test (is_beside c y e) refl (in_reach c y e x)
+  where
+    by_test : (t : Bool) → is_beside c y e ≡ t → IsDecided (IsInReach c y e x)
+        → IsDecided (ComesNearer (pos c) (whole (at x y)) (whole e.a) (whole e.b))
+    by_test true b (inl i) = inl (comes c x y e b i)
+    by_test true b (inr n) = inr (λ f. n ((told c x y e f).reach))
+    by_test false b i = inr (λ f. both_ways _ b ((told c x y e f).beside))
+
+-- a column is a row of the plane with x and y exchanged
+near_on : (c : ℕ) (line : Line) (z : ℤ) (e : Edge)
+    → IsDecided (ComesNearer (pos c) (whole (point_on line z)) (whole e.a) (whole e.b))
+near_on c (Row y) z e = near_on_row c y e z
+near_on c (Column x) z e = elim (near_on_row c x (exchanged e) z) [
+  | inl f ↦ inl (exchange (pos c) z x e f)
+  | inr n ↦ inr (λ f. n (exchange_back (pos c) z x e f))
+]
+
+-- ---- all edges
+all_apart : (c : ℕ) (line : Line) (z : ℤ) (es : List Edge) → IsDecided (AllByRecursion (IsApart c line z) es)
+all_apart c line z [] = inl tt
+all_apart c line z (e ∷ es) = by_cases (near_on c line z e) (all_apart c line z es)
+  where
+    by_cases : IsDecided (ComesNearer (pos c) (whole (point_on line z)) (whole e.a) (whole e.b))
+        → IsDecided (AllByRecursion (IsApart c line z) es) → IsDecided (AllByRecursion (IsApart c line z) (e ∷ es))
+    by_cases (inl near) r = inr (λ h. h.0 near)
+    by_cases (inr apart) (inl r) = inl (apart, r)
+    by_cases (inr apart) (inr n) = inr (λ h. n h.1)
+
+zero_or_not : (z : ℤ) → IsDecided (z ≢ pos 0)
+zero_or_not z = by_test (is_zero z) refl
+  where
+    by_test : (t : Bool) → is_zero z ≡ t → IsDecided (z ≢ pos 0)
+    by_test true q = inr (λ n. n (zero_true z q))
+    by_test false q = inl (λ e. false≢true (sym q ∙ ap is_zero e))
+
+pub deep_or_not : (outlines : List (List Pt)) (c : ℕ) (line : Line) (z : ℤ)
+    → IsDecided (IsDeep outlines c (point_on line z))
+deep_or_not outlines c line z =
+    by_cases (zero_or_not (wind (whole (point_on line z)) (segments (flat_map sides outlines))))
+    (all_apart c line z (flat_map sides outlines))
+  where
+    by_cases : IsDecided (wind (whole (point_on line z)) (segments (flat_map sides outlines)) ≢ pos 0)
+        → IsDecided (AllByRecursion (IsApart c line z) (flat_map sides outlines))
+        → IsDecided (IsDeep outlines c (point_on line z))
+    by_cases (inl w) (inl a) =
+        inl (record { inside = w; apart = All-from_recursion (IsApart c line z) (flat_map sides outlines) a })
+    by_cases (inl w) (inr n) =
+        inr (λ d. n (recursion_from_All (IsApart c line z) (flat_map sides outlines) d.apart))
+    by_cases (inr n) a = inr (λ d. n d.inside)

@@ -1,0 +1,5 @@
+use Rattle.plan_layer.proofs.Decided.{plans_are_decided}
+use Rattle.plan_layer.proofs.laws.plans_are_decided.Goals as goal
+
+pub returns : goal.returns
+returns c = plans_are_decided
