@@ -1,4 +1,5 @@
 pub mod OneLayer
+pub mod SomeParts
 pub mod Drawn
 pub mod Holding
 pub mod Layers

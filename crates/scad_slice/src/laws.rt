@@ -1,5 +1,10 @@
 //! Laws of the definitions, each carried by the contract of a function that does nothing.
-ghost use Rattle.scad_slice.specs.Laws.{PartsAreOne, PartsHold, SlicesAreWhole, PlansAreWhole, ProgramsAreWhole};
+ghost use Rattle.scad_slice.specs.Laws.{PartsAreThere, PartsAreOne, PartsHold, SlicesAreWhole, PlansAreWhole, ProgramsAreWhole};
+
+/// Every tree has a part, whatever is wanted and by whatever settings.
+pub fn parts_are_there()
+    ensures { PartsAreThere }
+{}
 
 /// A tree of solids has one by settings in range.
 pub fn parts_are_one()

@@ -4,18 +4,22 @@
 //! part, whose layers hold what the tree contains.
 #![tactic(auto)]
 
-mod commands;
+mod counting;
 mod drawing;
 mod layer;
 pub mod laws;
 mod lines;
 mod pieces;
+mod planning;
+mod slicing;
 #[cfg(test)]
 mod tests;
 mod tree_work;
 mod written;
 
-pub use commands::{count_layers, plan, slice};
+pub use counting::count_layers;
 pub use drawing::draw;
+pub use planning::plan;
+pub use slicing::slice;
 pub use slice_work::{LAYER_LIMIT, Summary, Want};
 pub use written::Written;

@@ -198,6 +198,7 @@ fn each_call_fails_in_turn(rt: HostRuntime) -> Result<(), Fail> {
 
 #[test]
 fn laws_are_called() {
+    laws::parts_are_there();
     laws::parts_are_one();
     laws::parts_hold();
     laws::texts_are_whole();
