@@ -5,7 +5,7 @@ use lib.Signed.{◌≤ℤ◌}
 use Rattle.std.specs.Prelude.{unsigned_abs}
 use Rattle.std.specs.Int.{int_div_euclid, int_rem_euclid, int_max}
 use Rattle.std.proofs.lemmas.Int.{ints}
-use Rattle.scad_geom.proofs.Ring.{ring, num, ◌⊕◌, ◌⊖◌, ◌⊗◌, v0, v1, v2}
+use Rattle.scad_geom.proofs.Ring.{ring, num, ◌⊖◌, ◌⊗◌, v0, v1, v2}
 use Rattle.scad_geom.proofs.Signs.{at_least_mul, pos_left, sub_mul, minus_times, one_more_times}
 use Rattle.plan_layer.specs.Infill.{IsMultiple}
 use Rattle.plan_layer.proofs.Extents.{greater}

@@ -5,7 +5,6 @@ use Rattle.std.proofs.lemmas.Bool.{cases_lt}
 use Rattle.scad_geom.specs.declared.point.Pt.{Pt}
 use Rattle.scad_geom.specs.Limits.{point_limit}
 use Rattle.scad_geom.specs.Within.{IsWithin}
-use Rattle.slice_events.specs.Limits.{crossing_limit}
 use Rattle.slice_events.specs.Levels.{crossings}
 use Rattle.slice_bool.specs.declared.fault.BoolFault.{BoolFault}
 use Rattle.slice_bool.specs.declared.fault.BoolFault.TheVariants.{Memory as NoMemory, Edges as ManyEdges}
@@ -20,8 +19,8 @@ use Rattle.plan_layer.specs.declared.fault.PlanFault.TheVariants.{Memory, Edges,
 use Rattle.plan_layer.specs.Moves.{all_moves, move_limit}
 use Rattle.plan_layer.specs.Walls.{distance}
 use Rattle.plan_layer.specs.Refusal.{fault_of, IsWallAccepted, AreAccepted, IsWallRefused, IsWallsRefusal, IsManyMoves}
-use Rattle.plan_layer.specs.Refusal.{HasManyMoves, IsRefusal}
-use Rattle.plan_layer.specs.There.{IsAccepted, IsRefused}
+use Rattle.plan_layer.specs.Refusal.{IsRefusal}
+use Rattle.plan_layer.specs.There.{IsAccepted}
 use Rattle.plan_layer.specs.One.{RefusalsAreOne, AcceptedIsNotRefused}
 use Rattle.plan_layer.proofs.OnePlan.{plans_are_one}
 
