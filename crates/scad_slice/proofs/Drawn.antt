@@ -1,8 +1,10 @@
 -- A layer that the code has drawn is the part's.
-use Rattle.std.proofs.Common.{◌≡◌, ◌<◌, ◌≤◌, List, ℕ, true, false, Option, Some, None, Result, Ok, Err, refl, sym, ap, ◌∙◌, subst, length, nat_lt, arith}
+use Rattle.std.proofs.Common.{◌≡◌, ◌≢◌, ◌<◌, ◌≤◌, List, [], ℕ, true, false, Vec, Option, Some, None, Result, Ok, Err, refl, sym, ap, ◌∙◌, subst, length, nat_lt, arith}
 use Rattle.std.specs.Prelude.{if◌then◌else◌}
 use Rattle.std.proofs.lemmas.Bool.Decides.{nat_tests}
+use Rattle.std.specs.Global.{Global}
 use Rattle.scad_fault.specs.declared.budget.Budget.{Budget}
+use Rattle.scad_geom.specs.declared.loops.Loop.{Loop}
 use Rattle.scad_geom.specs.declared.point.Pt.{Pt}
 use Rattle.scad_tree.specs.Solid.{Solid}
 use Rattle.scad_tree.specs.Solids.{AreSolids}
@@ -14,11 +16,20 @@ use Rattle.slice_layer.specs.Refusal.{IsRefusal}
 use Rattle.slice_layer.specs.Outlines.{AreLayerOutlines}
 use Rattle.slice_events.specs.Limits.{crossing_limit}
 use Rattle.slice_events.specs.Levels.{crossings}
+use Rattle.plan_layer.specs.declared.fault.PlanFault.{PlanFault}
+use Rattle.plan_layer.specs.declared.fault.PlanFault.TheVariants.{Memory}
+use Rattle.plan_layer.specs.Moves.{all_moves, move_limit}
+use Rattle.plan_layer.specs.Plan.{IsPlan}
+use Rattle.plan_layer.specs.Refusal.{AreAccepted, IsRefusal as IsPlanRefusal}
+use Rattle.plan_layer.specs.There.{IsAccepted}
 use Rattle.slice_work.specs.declared.want.Want.{Want}
+use Rattle.slice_work.specs.declared.want.Want.TheVariants.{Outlines, Plan}
+use Rattle.slice_work.specs.declared.layer.LayerPlan.{LayerPlan}
 use Rattle.slice_work.specs.declared.layer.LayerEnd.{LayerEnd}
-use Rattle.slice_work.specs.declared.layer.LayerEnd.TheVariants.{Over}
+use Rattle.slice_work.specs.declared.layer.LayerEnd.TheVariants.{Made, Over}
 use Rattle.slice_work.specs.Part.{Layout, Part, Ends}
-use Rattle.scad_slice.specs.Budgets.{edge_limit, edges_passed, crossings_passed, budget_passed, layer_budget}
+use Rattle.slice_work.specs.Script.{laid_out}
+use Rattle.scad_slice.specs.Budgets.{edge_limit, edges_passed, crossings_passed, budget_passed, layer_budget, plan_budget}
 use Rattle.scad_slice.specs.Parts.{IsLaidOut, IsLayerUnless, IsLayer, IsPart}
 use Rattle.scad_slice.proofs.OneLayer.{layer_is_one}
 
@@ -78,7 +89,40 @@ draws_crossings want s tree i count end (few, same, many) is = (
   subst (Ends (Err (crossings_passed i count))) (sym is) refl,
 )
 
--- a tree has one part
+-- ---- a plan
+
+-- the work on a layer ends with what is wanted over its outlines
+abbrev pub LaysOut : Want → Settings → ℕ → List (List Pt) → LayerEnd → Type 0
+LaysOut want s i outlines end = (layout : Result Layout Budget) × IsLaidOut want s i outlines layout × Ends layout end
+
+-- no plan is wanted
+pub lays_none : (want : Want) (s : Settings) (i : ℕ) (loops : Vec Loop Global) (plan : LayerPlan) → want ≡ Outlines → plan.paths.items ≡ [] → LaysOut want s i loops.items (Made loops plan)
+lays_none want s i loops plan is none = (
+  Ok (laid_out loops.items []),
+  subst (λ (w : Want). IsLaidOut w s i loops.items (Ok (laid_out loops.items []))) (sym is) refl,
+  (refl, none),
+)
+
+pub lays_plan : (s : Settings) (i : ℕ) (given : List (List Pt)) (loops : Vec Loop Global) (plan : LayerPlan) → given ≡ loops.items → IsPlan given i s plan.paths.items → AreAccepted given s.line_width s.walls → length (all_moves plan.paths.items) ≤ move_limit → LaysOut Plan s i loops.items (Made loops plan)
+lays_plan s i given loops plan same is_plan accepted few = (
+  Ok (laid_out loops.items plan.paths.items),
+  (refl, subst (λ (outlines : List (List Pt)). IsAccepted outlines i s plan.paths.items) same (record { plan = is_plan; walls = accepted; moves = few })),
+  (refl, refl),
+)
+
+-- the plan is refused
+pub lays_refused : (s : Settings) (i : ℕ) (given outlines : List (List Pt)) (found fault : PlanFault) (budget : Budget) (end : LayerEnd) → given ≡ outlines → IsPlanRefusal given i s found → found ≡ fault → fault ≢ Memory → plan_budget i fault ≡ Some budget → end ≡ Over budget → LaysOut Plan s i outlines end
+lays_refused s i given outlines found fault budget end same refused is known passed over = (
+  Err budget,
+  record {
+    fault = fault;
+    refused = record { known = known; refusal = subst (IsPlanRefusal outlines i s) is (subst (λ (os : List (List Pt)). IsPlanRefusal os i s found) same refused) };
+    passed = passed;
+  },
+  subst (Ends (Err budget)) (sym over) refl,
+)
+
+-- ---- a tree has one part
 pub ends_so : (want : Want) (s : Settings) (tree : Solid) (i : ℕ) (part : Part) (end : LayerEnd) → AreSolids tree → AreInRange s → IsPart want s tree part → DrawsLayer want s tree i end → Ends (part i) end
 ends_so want s tree i part end solids range of_part (layout, layer, ends) =
     subst (λ (l : Result Layout Budget). Ends l end) (layer_is_one want s tree i solids range layout (part i) layer (of_part solids range i)) ends

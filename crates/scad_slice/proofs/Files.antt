@@ -3,6 +3,7 @@ use Rattle.std.proofs.Common.{◌≡◌, ◌+◌, ◌++◌, List, [], ◌∷◌,
 use Rattle.std.specs.Prelude.{map, length}
 use Rattle.std.specs.List.{range_with_len, sum_by}
 use Rattle.std.proofs.lemmas.List.{append-nil}
+use Rattle.std.proofs.lemmas.List.Sums.{sum_by-cons}
 use Rattle.scad_fault.specs.declared.budget.Budget.{Budget}
 use Rattle.scad_io.specs.Desk.{View}
 use Rattle.scad_io.specs.declared.desk.Out.{Out}
@@ -37,8 +38,13 @@ module _ (out : Out) (layer : ℕ → Result (List Step) Budget) (line : List �
 
   layers_size : (i n : ℕ) (rest : Script) → (layers layer i n rest).ending ≡ Finishes line
       → length (text_of out (layers layer i n rest).steps) ≡ sum_by (step_size out) (map layer (range_with_len i n)) + length (text_of out rest.steps)
-  layers_size i zero rest finishes = refl
-  layers_size i (suc n) rest finishes = layer_size i n rest (layer i) finishes (layers_size (i + 1) n rest)
+  layers_size i zero rest finishes = omega arith
+  layers_size i (suc n) rest finishes =
+      let behind = layer_size i n rest (layer i) finishes (layers_size (i + 1) n rest) in
+      let counted : sum_by (step_size out) (layer i ∷ map layer (range_with_len (i + 1) n)) ≡ step_size out (layer i) + sum_by (step_size out) (map layer (range_with_len (i + 1) n)) =
+      sum_by-cons (step_size out) (layer i) (map layer (range_with_len (i + 1) n))
+      in
+      omega (arith, behind, counted)
 
 -- a script that was played to its last line ends with it
 pub finishes_so : (whole : Script) (line : List ℕ) (old now : View) → Left whole (ends (Finishes line)) old now → whole.ending ≡ Finishes line

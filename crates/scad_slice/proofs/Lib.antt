@@ -1,10 +1,12 @@
 pub mod OneLayer
 pub mod SomeParts
 pub mod Drawn
+pub mod Heads
 pub mod Holding
 pub mod Layers
 pub mod Parted
 pub mod Files
+pub mod Ending
 pub mod Texts
 pub mod Stopping
 pub mod Orderly

@@ -1,5 +1,6 @@
 -- How the script of a command goes: it is refused for the tree's number of layers, or a layer ends it, or it goes to its end.
 use Rattle.std.proofs.Common.{◌≡◌, ◌⊎◌, inl, inr, ◌<◌, ◌≤◌, ◌+◌, List, [], ◌∷◌, ℕ, Bool, true, false, Option, Some, None, Result, Ok, Err, refl, sym, ap, ◌∙◌, subst, nat_lt, rules, arith}
+use Rattle.std.proofs.lemmas.Bool.Decides.{nat_tests}
 use Rattle.std.specs.Prelude.{unwrap_or, if◌then◌else◌}
 use Rattle.scad_fault.specs.declared.budget.Budget.{Budget}
 use Rattle.scad_fault.specs.declared.budget.BudgetKind.{BudgetKind}
@@ -22,7 +23,7 @@ use Rattle.slice_work.specs.Script.{rates_of, layer_steps}
 use Rattle.slice_work.specs.Sums.{loop_count, moves_below}
 use Rattle.scad_slice.specs.Budgets.{layer_count, layers_passed, edges_passed, crossings_passed, moves_passed, layer_budget, plan_budget}
 use Rattle.scad_slice.specs.Parts.{IsLaidOut, IsLayerUnless, IsPart, AreMade}
-use Rattle.scad_slice.specs.Script.{heads, tails, files, unless_many, done_line, plan_line, amount_below, slice_script, plan_script}
+use Rattle.scad_slice.specs.Script.{heads, tails, files, unless_many, done_line, plan_line, amount_below, slice_end, plan_end, slice_script, plan_script}
 use Rattle.scad_slice.specs.Laws.{IsWhole}
 use Rattle.scad_slice.proofs.Layers.{written_from, Goes, goes, made_all, all_go, made_from}
 
@@ -36,6 +37,12 @@ abbrev pub command_script : Want → Settings → List Step → List ℕ → Par
 command_script want s creates line part tree =
     let count = layer_count s.layer_height tree in
     unless_many count (first creates (files want s part count (ends (Finishes line))))
+
+-- not too many layers are not refused
+pub unless_few : (count : ℕ) (script : Script) → count ≤ layer_limit → unless_many count script ≡ script
+unless_few count script few =
+    let within : nat_lt layer_limit count ≡ false = grind (arith, nat_tests) in
+    ap (λ b. if b then ends (Refuses (Over (layers_passed count))) else script) within
 
 module _ (want : Want) (s : Settings) (creates : List Step) (line : List ℕ) (part : Part) (tree : Solid) where
   -- the tree has too many layers
@@ -100,9 +107,8 @@ module _ (want : Want) (s : Settings) (creates : List Step) (line : List ℕ) (p
   pub whole_goes : IsWhole s part tree → command_script want s creates line part tree
       ≡ begun want s creates part tree (layer_count s.layer_height tree) (first (tails want) (ends (Finishes line)))
   whole_goes whole =
-      let few = whole.few in
       let n = layer_count s.layer_height tree in
-      within_limit (search (rules, arith))
+      unless_few n (first creates (files want s part n (ends (Finishes line)))) whole.few
       ∙ then_layers n (written_from want (rates_of s) part 0 n) (first (tails want) (ends (Finishes line)))
       (all_go want (rates_of s) part 0 n (first (tails want) (ends (Finishes line))) (made_from part n whole.made))
 
@@ -126,6 +132,15 @@ slice_is s cli part tree = refl
 
 pub plan_is : (s : Settings) (cli gcode : List ℕ) (part : Part) (tree : Solid) → plan_script s cli gcode part tree ≡ command_script Plan s (plan_creates cli gcode) (line_of_plan s part tree) part tree
 plan_is s cli gcode part tree = refl
+
+pub slice_few : (s : Settings) (cli : List ℕ) (part : Part) (tree : Solid) → layer_count s.layer_height tree ≤ layer_limit
+    → slice_script s cli part tree ≡ first (Makes Cli cli ∷ []) (files Outlines s part (layer_count s.layer_height tree) (slice_end part (layer_count s.layer_height tree)))
+slice_few s cli part tree few = unless_few (layer_count s.layer_height tree) _ few
+
+pub plan_few : (s : Settings) (cli gcode : List ℕ) (part : Part) (tree : Solid) → layer_count s.layer_height tree ≤ layer_limit
+    → plan_script s cli gcode part tree
+    ≡ first (Makes Cli cli ∷ []) (first (Makes Gcode gcode ∷ []) (files Plan s part (layer_count s.layer_height tree) (plan_end s part (layer_count s.layer_height tree))))
+plan_few s cli gcode part tree few = unless_few (layer_count s.layer_height tree) _ few
 
 -- ---- the budget that a layer passes
 

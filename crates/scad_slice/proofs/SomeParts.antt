@@ -36,9 +36,9 @@ both (inl a) (inl b) = inl (a, b)
 both (inl a) (inr never) = inr (λ two. never two.1)
 both (inr never) b = inr (λ two. never two.0)
 
-as : {A B : Type 0} → (A → B) → (B → A) → A ⊎ (A → ⊥) → B ⊎ (B → ⊥)
-as to back (inl a) = inl (to a)
-as to back (inr never) = inr (λ b. never (back b))
+decided_as : {A B : Type 0} → (A → B) → (B → A) → A ⊎ (A → ⊥) → B ⊎ (B → ⊥)
+decided_as to back (inl a) = inl (to a)
+decided_as to back (inr never) = inr (λ b. never (back b))
 
 -- whether the surfaces of a tree bound solids
 solid_by : (ts : List Triangle) (closed within : Bool) → is_closed ts ≡ closed → list_all is_triangle_in_range ts ≡ within → IsSolid ts ⊎ (IsSolid ts → ⊥)
@@ -51,7 +51,7 @@ solids_by [] = inl tt
 solids_by (ts ∷ all) = both (solid_by ts (is_closed ts) (list_all is_triangle_in_range ts) refl refl) (solids_by all)
 
 solids_or_not : (tree : Solid) → AreSolids tree ⊎ (AreSolids tree → ⊥)
-solids_or_not tree = as (All-from_recursion IsSolid (surfaces tree)) (recursion_from_All IsSolid (surfaces tree)) (solids_by (surfaces tree))
+solids_or_not tree = decided_as (All-from_recursion IsSolid (surfaces tree)) (recursion_from_All IsSolid (surfaces tree)) (solids_by (surfaces tree))
 
 -- whether settings are in range
 at_most_by : (a b : ℕ) (found : Bool) → nat_le a b ≡ found → (a ≤ b) ⊎ ((a ≤ b) → ⊥)
@@ -60,12 +60,12 @@ at_most_by a b false is = inr (λ most. let no_way : ⊥ = grind (arith, nat_tes
 
 within_or_not : (r : Row) (n : ℕ) → IsWithin r n ⊎ (IsWithin r n → ⊥)
 within_or_not r n =
-    as (λ both. record { least = both.0; most = both.1 }) (λ w. (w.least, w.most))
+    decided_as (λ two. record { least = two.0; most = two.1 }) (λ w. (w.least, w.most))
     (both (at_most_by r.least n (nat_le r.least n) refl) (at_most_by n r.most (nat_le n r.most) refl))
 
 range_or_not : (s : Settings) → AreInRange s ⊎ (AreInRange s → ⊥)
 range_or_not s =
-    as
+    decided_as
     (λ all. record {
       bed = all.0;
       filament_area = all.1.0;

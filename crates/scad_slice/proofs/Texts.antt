@@ -82,15 +82,16 @@ module _ (want : Want) (s : Settings) (part : Part) where
   outlines_whole n =
       let some = flat_map outline.layer_text (layers_of s.layer_height part n) in
       ap (λ text. outline.head n ++ (some ++ text)) (append-nil outline.geometry_end)
-      ∙ ap (λ k. outline.head k ++ (some ++ outline.geometry_end)) (sym (length-map-range_with_len (layer_at s.layer_height part) 0 n))
+      ∙ sym (append_assoc (outline.head n) some outline.geometry_end)
+      ∙ ap (λ k. (outline.head k ++ some) ++ outline.geometry_end) (sym (length-map-range_with_len (layer_at s.layer_height part) 0 n))
 
 -- ---- the printing program
 
 module _ (s : Settings) (part : Part) where
-  volume : ℕ → ℕ
+  abbrev volume : ℕ → ℕ
   volume n = volume_below Plan (rates_of s) part n
 
-  paths_at : ℕ → List (List Pt)
+  abbrev paths_at : ℕ → List (List Pt)
   paths_at i = paths_of Plan (part i)
 
   volume_next : (i : ℕ) → volume (i + 1) ≡ volume i + paths_volume (rates_of s) (paths_at i)
@@ -116,7 +117,10 @@ module _ (s : Settings) (part : Part) where
       ∙ ap (λ v. (program.layer_text (rates_of s) (volume i) i (paths_at i) ++ program.layers_text (rates_of s) v (i + 1) (map paths_at (range_with_len (i + 1) n))) ++ text_of Gcode rest) (volume_next i)
 
   program_whole : (n : ℕ) → program.head s.hot_end s.bed ++ (program.layers_text (rates_of s) (volume 0) 0 (plans_of part n) ++ (program.end ++ [])) ≡ program.gcode (rates_of s) s.hot_end s.bed (plans_of part n)
-  program_whole n = ap (λ text. program.head s.hot_end s.bed ++ (program.layers_text (rates_of s) 0 0 (plans_of part n) ++ text)) (append-nil program.end)
+  program_whole n =
+      let some = program.layers_text (rates_of s) 0 0 (plans_of part n) in
+      ap (λ text. program.head s.hot_end s.bed ++ (some ++ text)) (append-nil program.end)
+      ∙ sym (append_assoc (program.head s.hot_end s.bed) some program.end)
 
 -- ---- the laws
 

@@ -1,33 +1,36 @@
-use Rattle.std.proofs.Common.{◌≡◌, length, ap, ◌∙◌, refl, rules}
-use Rattle.scad_script.proofs.Layers.{as_left}
+use Rattle.std.proofs.Common.{length, ap, ◌∙◌, subst}
+use Rattle.std.proofs.lemmas.Result.{IfOk-weaker}
+use Rattle.slice_events.specs.Levels.{crossings}
+use Rattle.scad_tree.specs.Sections.{tree_section}
 use Rattle.scad_tree.specs.View.{solid_of}
-use Rattle.scad_slice.proofs.Drawn.{drawn_so, written_next}
-use Rattle.scad_slice.proofs.Stopping.{stops_part}
+use Rattle.slice_layer.specs.Refusal.{IsRefusal}
+use Rattle.slice_work.specs.declared.layer.LayerEnd.TheVariants.{Over}
+use Rattle.scad_slice.specs.Budgets.{edge_limit, edges_passed, crossings_passed}
+use Rattle.scad_slice.proofs.Drawn.{DrawsLayer, LaysOut, draws_within, draws_edges, draws_crossings}
 use Rattle.scad_slice.proofs.layer.draw_layer.Goals as goal
 
-pub returns-in_err-send_layer-clause-carries : goal.returns-in_err-send_layer-clause-carries
-returns-in_err-send_layer-clause-carries g c drawing of_tree whole rest start left =
+pub returns-in-Ok : goal.returns-in-Ok
+returns-in-Ok c =
+    let settings = c.args.settings.now in
     let tree = solid_of c.args.tree.now in
-    let same : c.deref.result.now ≡ drawing c.args.layer =
-    c.deref.ensures.value ∙ drawn_so c.args.height tree drawing c.args.layer c.in_ok-loops.loops.items c.requires.solids of_tree c.in_ok-loops.ensures.outlines
-    in
-    stops_part whole rest _ _ start _ (search rules)
-    (c.in_err-send_layer.ensures.carries whole rest start
-    (as_left (written_next c.args.height tree drawing c.args.layer _ _ rest c.in_ok-loops.ensures.within refl same) left))
+    IfOk-weaker c.lay_out.result (LaysOut c.args.want settings c.args.layer c.in-Ok.loops.items) (DrawsLayer c.args.want settings tree c.args.layer)
+    (λ end lays. draws_within c.args.want settings tree c.args.layer c.in-Ok.loops.items end c.in-Ok.ensures.outlines c.in-Ok.ensures.few c.in-Ok.ensures.accepted lays)
+    c.lay_out.ensures
 
-pub returns-clause-carries : goal.returns-clause-carries
-returns-clause-carries g c drawing of_tree whole rest start left =
+pub returns-in-Err-Edges : goal.returns-in-Err-Edges
+returns-in-Err-Edges c =
+    let settings = c.args.settings.now in
     let tree = solid_of c.args.tree.now in
-    let same : c.deref.result.now ≡ drawing c.args.layer =
-    c.deref.ensures.value ∙ drawn_so c.args.height tree drawing c.args.layer c.in_ok-loops.loops.items c.requires.solids of_tree c.in_ok-loops.ensures.outlines
-    in
-    c.in_ok-send_layer.ensures.carries whole rest start
-    (as_left (written_next c.args.height tree drawing c.args.layer _ _ rest c.in_ok-loops.ensures.within refl same) left)
+    let section = tree_section c.args.layer settings.layer_height tree in
+    draws_edges c.args.want settings tree c.args.layer c.in-Err-Edges.count c.over.result
+    (subst (IsRefusal (length section) edge_limit (crossings section)) c.in-Err-Edges.field-0-is c.in-Err-Edges.ensures.refused)
+    (c.over.ensures ∙ ap (λ n. Over (edges_passed c.args.layer n)) c.in-Err-Edges.count-is)
 
-pub returns-clause-loops : goal.returns-clause-loops
-returns-clause-loops g c drawing of_tree =
+pub returns-in-Err-Crossings : goal.returns-in-Err-Crossings
+returns-in-Err-Crossings c =
+    let settings = c.args.settings.now in
     let tree = solid_of c.args.tree.now in
-    let same : c.in_ok-loops.loops.items ≡ drawing c.args.layer =
-    drawn_so c.args.height tree drawing c.args.layer c.in_ok-loops.loops.items c.requires.solids of_tree c.in_ok-loops.ensures.outlines
-    in
-    search rules ∙ ap length same
+    let section = tree_section c.args.layer settings.layer_height tree in
+    draws_crossings c.args.want settings tree c.args.layer c.in-Err-Crossings.count c.over-in-Err-Crossings.result
+    (subst (IsRefusal (length section) edge_limit (crossings section)) c.in-Err-Crossings.field-0-is c.in-Err-Crossings.ensures.refused)
+    (c.over-in-Err-Crossings.ensures ∙ ap (λ n. Over (crossings_passed c.args.layer n)) c.in-Err-Crossings.count-is)
