@@ -15,4 +15,6 @@ mod Caused
 mod Planned
 mod Printed
 mod Silent
+mod Sampled
+mod Finished
 mod Refused

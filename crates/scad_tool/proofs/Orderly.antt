@@ -1,6 +1,7 @@
 -- The script of all words, every source and all parts is orderly.
-use Rattle.std.proofs.Common.{◌≡◌, ◌≢◌, ◌⊎◌, ◌++◌, List, [], ◌∷◌, ℕ, Bool, true, false, Option, Some, None, inl, inr, refl, sym, subst, arith, nat_lt}
+use Rattle.std.proofs.Common.{◌≡◌, ◌≢◌, ◌⊎◌, ◌++◌, List, [], ◌∷◌, ℕ, Bool, true, false, Option, Some, None, inl, inr, refl, sym, ◌∙◌, subst, arith, nat_lt}
 use Rattle.std.specs.Prelude.{if◌then◌else◌}
+use Rattle.scad_fault.specs.declared.budget.Budget.{Budget}
 use Rattle.scad_io.specs.declared.desk.Out.TheVariants.{Report}
 use Rattle.scad_words.specs.declared.job.Command.{Command}
 use Rattle.scad_words.specs.declared.job.Command.TheVariants.{Check, Tree, Slice, Plan, Sample}
@@ -22,16 +23,16 @@ use Rattle.scad_tree.specs.Order.{leaves as leaf_count}
 use Rattle.scad_tree.specs.Sizes.{triangle_count}
 use Rattle.scad_tree.specs.Text.{text_of as tree_text}
 use Rattle.slice_work.specs.declared.want.Want.TheVariants.{Outlines as IsOutlines, Plan as IsPlan}
-use Rattle.slice_work.specs.Part.{Part, layer_limit}
+use Rattle.slice_work.specs.Part.{layer_limit}
 use Rattle.scad_slice.specs.Budgets.{layer_count, layers_passed}
-use Rattle.scad_slice.specs.Script.{plan_script}
 use Rattle.scad_slice.proofs.Orderly.{DrawsInOrder, slice_draws, plan_draws}
 use Rattle.scad_words.specs.Job.{named}
 use Rattle.scad_tool.specs.Words.{model_of, given_names, given_of, given_by}
 use Rattle.scad_tool.specs.Meaning.{source_means}
-use Rattle.scad_tool.specs.Told.{echo_text, echoed, ok_line, check_end, with_line, told}
+use Rattle.scad_tool.specs.Told.{echo_text, echoed, ok_line, check_end, told}
 use Rattle.scad_tool.specs.Answer.{Parts, Inputs, follows, input_script, model_read_first, model_script, source_of, job_script, script_of}
 use Rattle.scad_tool.proofs.Following.{settings_have}
+use Rattle.scad_tool.proofs.Ends.{IsDone, IsOver as IsOverBy, EndsBy, follows_end}
 
 -- steps that only read or draw may stand behind a reading
 from_reading : (steps : List Step) → AllFrom reading steps
@@ -62,15 +63,17 @@ end_if : (refusal : Refusal) (line : List ℕ) (b : Bool) → (if b then Refuses
 end_if refusal line true same = let never : ⊥ = cc in absurd never
 end_if refusal line false same = let never : ⊥ = cc in absurd never
 
--- a plan's script lacks nothing, and so does that of a sample
-plan_there : (settings : SettingsOfRun) (part : Part) (tree : Solid) → (plan_script settings [] [] part tree).ending ≢ Lacks
-plan_there settings part tree =
-    (plan_draws settings (record { input = []; cli = Some []; gcode = Some [] }) [] [] part tree refl refl).there
+-- an end of one of two kinds
+ends_if : (given : Given) (b : Bool) (x y : Ending) → (if b then ends x else ends y).ending ≢ Lacks → DrawsInOrder given (if b then ends x else ends y)
+ends_if given true x y there = ends_in_order given x there
+ends_if given false x y there = ends_in_order given y there
 
-line_there : (line : List ℕ) (ending : Ending) → ending ≢ Lacks → with_line line ending ≢ Lacks
-line_there line (Finishes other) there same = let never : ⊥ = cc in absurd never
-line_there line (Refuses refusal) there same = let never : ⊥ = cc in absurd never
-line_there line Lacks there same = there refl
+-- what ends with a line or by a budget lacks nothing
+ends_there : (Whole : Type 0) (Passes : Budget → Type 0) (ending : Ending) → EndsBy Whole Passes ending → ending ≢ Lacks
+ends_there Whole Passes ending (inl (line, is, done)) same =
+    let other : Finishes line ≡ Lacks = sym is ∙ same in let never : ⊥ = cc in absurd never
+ends_there Whole Passes ending (inr (budget, is, passes)) same =
+    let other : Refuses (IsOver budget) ≡ Lacks = sym is ∙ same in let never : ⊥ = cc in absurd never
 
 -- what follows a tree draws in order
 follows_draws : (command : Command) (name : Option (List ℕ)) (settings : SettingsOfRun) (parts : Parts) (tree : Solid)
@@ -86,7 +89,9 @@ follows_draws (Slice model cli) name settings parts tree =
 follows_draws (Plan model cli gcode) name settings parts tree =
     plan_draws settings (given_names (Plan model cli gcode) name) cli gcode (parts IsPlan settings) tree refl refl
 follows_draws (Sample n) name settings parts tree =
-    ends_in_order _ _ (line_there _ _ (plan_there settings (parts IsPlan settings) tree))
+    ends_if (given_names (Sample n) name) (nat_lt layer_limit (layer_count settings.layer_height tree)) _ _
+    (ends_there (IsDone (Sample n) settings parts tree) (IsOverBy (Sample n) settings parts tree) (follows (Sample n) settings parts tree).ending
+    (follows_end (Sample n) settings parts tree))
 
 input_orderly : (command : Command) (name : Option (List ℕ)) (settings : SettingsOfRun) (parts : Parts) (input : Option Input)
     → IsOrderly (given_names command name) (input_script command settings parts input)

@@ -14,7 +14,7 @@ use Rattle.slice_layer.specs.Outlines.{AreLayerOutlines}
 use Rattle.slice_work.specs.declared.want.Want.TheVariants.{Plan as IsPlan}
 use Rattle.slice_work.specs.Part.{Layout, Part, outlines_of, paths_of, layer_limit}
 use Rattle.print_laws.specs.Planned.{PlannedLayer, IsPlanned, ArePlanned, outlines_of as outlines_in, paths_of as paths_in}
-use Rattle.print_laws.specs.Program.{program_of, rates_of as print_rates}
+use Rattle.print_laws.specs.Program.{program_of}
 use Rattle.gcode_text.specs.Gcode.{gcode}
 use Rattle.slice_work.specs.Script.{rates_of}
 use Rattle.scad_slice.specs.Budgets.{layer_budget}

@@ -28,7 +28,7 @@ use Rattle.slice_work.specs.declared.want.Want.TheVariants.{Outlines as IsOutlin
 use Rattle.slice_work.specs.Part.{Layout, Part, outlines_of, paths_of, layer_limit}
 use Rattle.print_laws.specs.Planned.{PlannedLayer, ArePlanned, outlines_of as outlines_in}
 use Rattle.print_laws.specs.Program.{program_of}
-use Rattle.print_laws.proofs.Inside.{prints_stay_inside}
+use Rattle.print_laws.specs.Inside.{PrintsStayInside}
 use Rattle.scad_slice.specs.Budgets.{layer_count}
 use Rattle.scad_slice.specs.Parts.{IsPart, AreMade, layer_at, layers_of, plans_of}
 use Rattle.scad_slice.specs.Script.{slice_script, plan_script}
@@ -192,21 +192,21 @@ module _ (settings : SettingsOfRun) (tree : Solid) (in_range : AreInRange settin
             );
       }
 
-  print_is : count ≤ layer_limit → AreMade part count → IsPrint settings tree cli_bytes gcode_bytes
-  print_is few made =
+  print_is : PrintsStayInside → count ≤ layer_limit → AreMade part count → IsPrint settings tree cli_bytes gcode_bytes
+  print_is stay_inside few made =
       record {
         layers = layers_of settings.layer_height part count;
         written = refl;
         holds = parts_hold IsPlan settings tree part solids in_range is_part made;
         planned = planned_of part count;
         same = planned_outlines settings.layer_height part count;
-        inside = prints_stay_inside settings (planned_of part count) in_range (are_planned settings tree part count solids in_range is_part few made);
+        inside = stay_inside settings (planned_of part count) in_range (are_planned settings tree part count solids in_range is_part few made);
       }
 
-prints : (words : List (List ℕ)) (files : Files) (inputs : Inputs) (parts : Parts) (status : Status) (old new : View)
+prints : PrintsStayInside → (words : List (List ℕ)) (files : Files) (inputs : Inputs) (parts : Parts) (status : Status) (old new : View)
     → IsRead words files inputs → AreParts words inputs parts → Promised (given_by words) (script_of words parts inputs) status old new
     → (IsJudgement status → JobMeansSolids (job_of words) inputs) → status ≡ Done → Prints words files old new
-prints words files inputs parts status old new is drawn promised solids done model cli gcode name workers form =
+prints stay_inside words files inputs parts status old new is drawn promised solids done model cli gcode name workers form =
     let job : Job = record { command = Plan model cli gcode; settings = name; workers = workers } in
     let f = words_finished words inputs parts status old new job drawn promised solids done form in
     let part = parts IsPlan f.settings in
@@ -221,15 +221,15 @@ prints words files inputs parts status old new is drawn promised solids done mod
       subst (λ (text : List ℕ). Adds text old.cli new.cli) (plans_are_whole f.settings cli gcode part f.tree f.done) f.cli,
       subst (λ (text : List ℕ). Adds text old.gcode new.gcode) program f.gcode,
       bytes_one f.settings f.tree f.in_range f.solids part (f.of_tree IsPlan f.settings),
-      print_is f.settings f.tree f.in_range f.solids part (f.of_tree IsPlan f.settings) f.done.few f.done.made,
+      print_is f.settings f.tree f.in_range f.solids part (f.of_tree IsPlan f.settings) stay_inside f.done.few f.done.made,
     )
 
-pub headline : (words : List (List ℕ)) (files : Files) (inputs : Inputs) (parts : Parts) (status : Status) (old new : View) (before now : ℕ)
+pub headline : PrintsStayInside → (words : List (List ℕ)) (files : Files) (inputs : Inputs) (parts : Parts) (status : Status) (old new : View) (before now : ℕ)
     → IsRead words files inputs → AreParts words inputs parts → Promised (given_by words) (script_of words parts inputs) status old new
     → (IsJudgement status → JobMeansSolids (job_of words) inputs) → (status ≡ Read → before < now) → (status ≡ Write → before < now)
     → Headline words files status old new before now
-headline words files inputs parts status old new before now is drawn promised solids read write =
+headline stay_inside words files inputs parts status old new before now is drawn promised solids read write =
     record {
-      prints = prints words files inputs parts status old new is drawn promised solids;
+      prints = prints stay_inside words files inputs parts status old new is drawn promised solids;
       cause = has_cause words files inputs parts status old new before now is drawn promised solids read write;
     }

@@ -9,6 +9,7 @@ ghost use Rattle.scad_tool.specs.Headline.{Headline};
 ghost use Rattle.scad_tool.specs.Promises.{Answers, OutlinesHoldTree, Refuses, LeavesOutputs, JudgesWords, IsComplete};
 
 use crate::work::work;
+use print_laws::laws::prints_stay_inside;
 use scad_fault::Status;
 use scad_io::{Desk, Gate};
 use scad_script::report;
@@ -74,6 +75,7 @@ pub fn run<R: Threads + Sync, D: Desk, G: Gate>(
     ensures files { D.files desk.new ≡ D.files desk.old }
     ensures faults { D.faults desk.old ≤ D.faults desk.new }
 {
+    prints_stay_inside();
     let ended = work(rt, alloc, words, desk, gate);
     report(alloc, ended, desk)
 }

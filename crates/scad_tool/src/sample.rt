@@ -1,5 +1,5 @@
 //! The end of `sample`: its tree is planned, and nothing is kept of the files but their sizes.
-ghost use Rattle.std.specs.Prelude.{◌≡◌, ◌≤◌, IfOk};
+ghost use Rattle.std.specs.Prelude.{◌≡◌, ◌≤◌, ◌++◌, decimal, IfOk, OnOk};
 ghost use Rattle.scad_words.specs.Settings.{AreInRange};
 ghost use Rattle.slice_work.specs.declared.want.Want.TheVariants.{Plan};
 ghost use Rattle.slice_work.specs.declared.summary.Summary.{Summary};
@@ -51,21 +51,27 @@ fn sample_line(alloc: Global, n: u32, told: &Written) -> Result<Vec<u8>, AllocEr
     ensures { IfOk result (λ line. line.items ≡ sample_line n told.now.summary.layers told.now.summary.loops told.now.summary.moves
         told.now.summary.e told.now.cli told.now.gcode) }
 {
-    let mut number = Buffer::new();
     let mut line = Vec::from_slice(alloc, b"sample ")?;
-    line.extend_from_slice(number.format(n).as_bytes())?;
+    push_number(&mut line, u64::from(n))?;
     line.extend_from_slice(b": ")?;
-    line.extend_from_slice(number.format(told.summary.layers).as_bytes())?;
+    push_number(&mut line, u64::from(told.summary.layers))?;
     line.extend_from_slice(b" layers, ")?;
-    line.extend_from_slice(number.format(told.summary.loops).as_bytes())?;
+    push_number(&mut line, told.summary.loops)?;
     line.extend_from_slice(b" loops, ")?;
-    line.extend_from_slice(number.format(told.summary.moves).as_bytes())?;
+    push_number(&mut line, told.summary.moves)?;
     line.extend_from_slice(b" moves, E ")?;
     push_hundred_thousandths(&mut line, u128::from(told.summary.e))?;
     line.extend_from_slice(b", ")?;
-    line.extend_from_slice(number.format(told.cli).as_bytes())?;
+    push_number(&mut line, told.cli)?;
     line.extend_from_slice(b" cli bytes, ")?;
-    line.extend_from_slice(number.format(told.gcode).as_bytes())?;
+    push_number(&mut line, told.gcode)?;
     line.extend_from_slice(b" gcode bytes\n")?;
     Ok(line)
+}
+
+fn push_number(line: &mut Vec<u8>, number: u64) -> Result<(), AllocError>
+    ensures { OnOk result (line.new.items ≡ line.old.items ++ decimal number) }
+{
+    let mut buffer = Buffer::new();
+    line.extend_from_slice(buffer.format(number).as_bytes())
 }

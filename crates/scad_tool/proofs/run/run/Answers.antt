@@ -105,7 +105,7 @@ returns-clause-outlines g c =
 
 pub returns-clause-headline : goal.returns-clause-headline
 returns-clause-headline g c =
-    headline (words g c) (files g c) (inputs g c) (parts g c) c.report.result (before g c) (after g c) (g.D.Desk.faults c.args.desk.now)
+    headline c.prints_stay_inside.ensures (words g c) (files g c) (inputs g c) (parts g c) c.report.result (before g c) (after g c) (g.D.Desk.faults c.args.desk.now)
     (g.D.Desk.faults c.report.new.desk) (played g c).read (are_parts g c) (promised g c) (solids g c) (search rules) (search rules)
 
 pub returns-clause-words : goal.returns-clause-words

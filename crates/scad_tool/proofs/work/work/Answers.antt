@@ -16,12 +16,12 @@ returns-in_err-settings-clause-works g c =
 pub returns-in_err-input-clause-works : goal.returns-in_err-input-clause-works
 returns-in_err-input-clause-works g c =
     stops_loading (map (string_bytes {Z = Global}) c.args.words.now) (g.D.Desk.files c.args.desk.now) c.in_ok-job.job c.in_ok-job.ensures.job
-    _ _ _ _ (g.D.Desk.view c.args.desk.now) (g.D.Desk.view c.settle.new.desk) (g.D.Desk.view c.load.new.desk) c.in_ok-settings.ensures.settles
-    c.model.ensures c.in_err-input.ensures.carries (search rules)
+    _ _ _ (g.D.Desk.view c.args.desk.now) (g.D.Desk.view c.settle.new.desk) (g.D.Desk.view c.source.new.desk) c.in_ok-settings.ensures.settles
+    c.in_err-input.ensures.carries (search rules)
 
 pub returns-clause-works : goal.returns-clause-works
 returns-clause-works g c =
     works (map (string_bytes {Z = Global}) c.args.words.now) (g.D.Desk.files c.args.desk.now) c.in_ok-job.job c.in_ok-job.ensures.job
-    _ _ c.in_ok-input.input c.follow.result (g.D.Desk.files c.settle.new.desk) (g.D.Desk.view c.args.desk.now) (g.D.Desk.view c.settle.new.desk)
-    (g.D.Desk.view c.load.new.desk) (g.D.Desk.view c.follow.new.desk) c.in_ok-settings.ensures.settles c.model.ensures c.settle.ensures.files
-    c.in_ok-input.ensures.told c.in_ok-input.ensures.carries c.follow.ensures.completes c.follow.ensures.solids
+    _ c.in_ok-input.input c.follow.result (g.D.Desk.files c.settle.new.desk) (g.D.Desk.view c.args.desk.now) (g.D.Desk.view c.settle.new.desk)
+    (g.D.Desk.view c.source.new.desk) (g.D.Desk.view c.follow.new.desk) c.in_ok-settings.ensures.settles c.settle.ensures.files
+    c.in_ok-input.ensures.gets c.in_ok-input.ensures.carries c.follow.ensures.completes c.follow.ensures.solids
