@@ -21,7 +21,7 @@ use Rattle.scad_tree.specs.Solids.{AreSolids}
 use Rattle.slice_work.specs.declared.want.Want.TheVariants.{Outlines as IsOutlines, Plan as IsPlan}
 use Rattle.slice_work.specs.Part.{Part}
 use Rattle.scad_slice.specs.Script.{slice_script, plan_script}
-use Rattle.scad_slice.proofs.There.{parts_are_there}
+use Rattle.scad_slice.proofs.SomeParts.{parts_are_there}
 use Rattle.scad_slice.proofs.OneLayer.{parts_are_one}
 use Rattle.scad_tool.specs.Words.{model_of, given_by}
 use Rattle.scad_tool.specs.Meaning.{source_means}

@@ -31,10 +31,10 @@ usage_ends steps Lacks old new answered = absurd answered
 abbrev IsOther : Ending → Type 0
 IsOther ending = ending ≢ Refuses Refusal.Usage
 
-ends_other : (Whole : Type 0) (Passes : Budget → Type 0) (ending : Ending) → EndsBy Whole Passes ending → IsOther ending
-ends_other Whole Passes ending (inl (line, is, done)) same =
+ends_other : (Found : Type 0) (Passes : Budget → Type 0) (ending : Ending) → EndsBy Found Passes ending → IsOther ending
+ends_other Found Passes ending (inl (line, is, done)) same =
     let other : Finishes line ≡ Refuses Refusal.Usage = sym is ∙ same in let never : ⊥ = cc in absurd never
-ends_other Whole Passes ending (inr (budget, is, passes)) same =
+ends_other Found Passes ending (inr (budget, is, passes)) same =
     let other : Refuses (Refusal.Over budget) ≡ Refuses Refusal.Usage = sym is ∙ same in let never : ⊥ = cc in absurd never
 
 job_other : (job : Job) (parts : Parts) (inputs : Inputs) (whole : Script) → IsStopped job inputs whole ⊎ IsFollowed job inputs parts whole

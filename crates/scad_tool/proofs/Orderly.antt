@@ -69,10 +69,10 @@ ends_if given true x y there = ends_in_order given x there
 ends_if given false x y there = ends_in_order given y there
 
 -- what ends with a line or by a budget lacks nothing
-ends_there : (Whole : Type 0) (Passes : Budget → Type 0) (ending : Ending) → EndsBy Whole Passes ending → ending ≢ Lacks
-ends_there Whole Passes ending (inl (line, is, done)) same =
+ends_there : (Found : Type 0) (Passes : Budget → Type 0) (ending : Ending) → EndsBy Found Passes ending → ending ≢ Lacks
+ends_there Found Passes ending (inl (line, is, done)) same =
     let other : Finishes line ≡ Lacks = sym is ∙ same in let never : ⊥ = cc in absurd never
-ends_there Whole Passes ending (inr (budget, is, passes)) same =
+ends_there Found Passes ending (inr (budget, is, passes)) same =
     let other : Refuses (IsOver budget) ≡ Lacks = sym is ∙ same in let never : ⊥ = cc in absurd never
 
 -- what follows a tree draws in order

@@ -186,9 +186,9 @@ module _ (settings : SettingsOfRun) (tree : Solid) (in_range : AreInRange settin
 cut_or_quiet : (whole : Script) (status : Status) (budget : Budget) (old new : View) (count : ℕ) (cli gcode : List ℕ) → whole.ending ≡ IsRefusal (Refusal.Over budget)
     → text_of Cli whole.steps ≡ cli → text_of Gcode whole.steps ≡ gcode → RunsTo whole status old new → IsAnswered whole status old new → status ≢ Done
     → AllUpTo echoing whole.steps ⊎ IsCutAt count budget cli gcode → RefusedOrCut whole status old new
-cut_or_quiet whole status budget old new count cli gcode ending to_cli to_gcode runs answered other (inl quiet) =
+cut_or_quiet whole status budget old new number cli gcode ending to_cli to_gcode runs answered other (inl quiet) =
     quiet_refused whole status old new quiet runs answered other
-cut_or_quiet whole status budget old new count cli gcode ending to_cli to_gcode runs answered other (inr cut) =
+cut_or_quiet whole status budget old new number cli gcode ending to_cli to_gcode runs answered other (inr cut) =
     let refused = subst (λ (e : Ending). IsAnswered (record { steps = whole.steps; ending = e }) status old new) ending answered in
     let is : status ≡ Over budget = sym refused.0 in
     inr (
@@ -197,7 +197,7 @@ cut_or_quiet whole status budget old new count cli gcode ending to_cli to_gcode 
       record {
         kind = cut.kind;
         reported = subst (λ (s : Status). IsReported whole s old new) is (refused_line whole.steps whole.ending status old new answered other);
-        count = count;
+        count = number;
         before = cut.before;
         number = cut.number;
         inside = cut.inside;

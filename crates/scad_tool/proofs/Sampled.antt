@@ -37,19 +37,21 @@ module _ (n : ℕ) (s : SettingsOfRun) (part : Part) (tree : Solid) where
   script_is few = script_if (nat_lt layer_limit count) refl few
 
   -- the work on the files stopped
-  pub sample_stops : (old new : View) (result : Result Written Stop) (stop : Stop) → count ≤ layer_limit → result ≡ Err stop
-      → Carries (files IsPlan s part count) result old new → HasRisen result 0 0 → IsEnd (sample_script n s part tree) (Err stop)
-  sample_stops old new result (Stop.Ends refusal) few fails carries rises =
-      let stopped = subst (λ (r : Result Written Stop). Carries (files IsPlan s part count) r old new) fails carries in
-      let left = stopped whole (sample_end n s part count) old (begun whole old) in
+  stopped_so : (old new : View) (stop : Stop) → count ≤ layer_limit → Carries {T = Written} (files IsPlan s part count) (Err stop) old new
+      → HasRisen {T = Written} (Err stop) 0 0 → IsEnd (sample_script n s part tree) (Err stop)
+  stopped_so old new (Stop.Ends refusal) few carries rises =
+      let left = carries whole (sample_end n s part count) old (begun whole old) in
       script_is few ∙ ap (λ (r : Script). ends r.ending) (sym left.parts)
-  sample_stops old new result Stop.Memory few fails carries rises = tt
-  sample_stops old new result Stop.Read few fails carries rises =
-      let less : 0 < 0 = subst (λ (r : Result Written Stop). HasRisen r 0 0) fails rises refl in omega (arith, less)
-  sample_stops old new result Stop.Write few fails carries rises =
-      let less : 0 < 0 = subst (λ (r : Result Written Stop). HasRisen r 0 0) fails rises refl in omega (arith, less)
-  sample_stops old new result Stop.Silent few fails carries rises =
-      let less : 0 < 0 = subst (λ (r : Result Written Stop). HasRisen r 0 0) fails rises refl in omega (arith, less)
+  stopped_so old new Stop.Memory few carries rises = tt
+  stopped_so old new Stop.Read few carries rises = let less : 0 < 0 = rises refl in omega (arith, less)
+  stopped_so old new Stop.Write few carries rises = let less : 0 < 0 = rises refl in omega (arith, less)
+  stopped_so old new Stop.Silent few carries rises = let less : 0 < 0 = rises refl in omega (arith, less)
+
+  pub sample_stops : (old new : View) (stop : Stop) (result : Result (List ℕ) Stop) → count ≤ layer_limit
+      → Carries {T = Written} (files IsPlan s part count) (Err stop) old new → HasRisen {T = Written} (Err stop) 0 0 → result ≡ Err stop
+      → IsEnd (sample_script n s part tree) result
+  sample_stops old new stop result few carries rises is =
+      subst (IsEnd (sample_script n s part tree)) (sym is) (stopped_so old new stop few carries rises)
 
   -- the line of what was written
   line_is : (w : Written) → IsWritten IsPlan s part count w
@@ -60,13 +62,12 @@ module _ (n : ℕ) (s : SettingsOfRun) (part : Part) (tree : Solid) where
       λ k. sample_line n (told.summary.layers k) (told.summary.loops k) (told.summary.moves k) (told.summary.e k) (told.cli k) (told.gcode k)
 
   -- all was done
-  pub sample_done : (old new : View) (result : Result Written Stop) (w : Written) (line : List ℕ) → count ≤ layer_limit → result ≡ Ok w
-      → Carries (files IsPlan s part count) result old new → IsWritten IsPlan s part count w
+  pub sample_done : (old new : View) (w : Written) (line : List ℕ) → count ≤ layer_limit
+      → Carries (files IsPlan s part count) (Ok w) old new → IsWritten IsPlan s part count w
       → line ≡ sample_line n w.summary.layers w.summary.loops w.summary.moves w.summary.e w.cli w.gcode
       → IsEnd (sample_script n s part tree) (Ok line)
-  sample_done old new result w line few done carries told is =
-      let through = subst (λ (r : Result Written Stop). Carries (files IsPlan s part count) r old new) done carries in
-      let left = through whole (sample_end n s part count) old (begun whole old) in
+  sample_done old new w line few carries told is =
+      let left = carries whole (sample_end n s part count) old (begun whole old) in
       script_is few ∙ ap (λ (r : Script). ends r.ending) (sym left.parts) ∙ ap (λ l. ends (Finishes l)) (sym (is ∙ line_is w told))
 
 -- an end is no fault

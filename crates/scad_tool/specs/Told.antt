@@ -62,12 +62,19 @@ check_script h tree = ends (check_end (leaf_count tree) (triangle_count tree) (l
 abbrev pub tree_script : Solid → Script
 tree_script tree = ends (Finishes (text_of tree))
 
+-- `L layers, K loops, M moves, E e`
+unfoldable pub counts_text : ℕ → ℕ → ℕ → ℕ → List ℕ
+counts_text count loops moves e =
+    decimal count ++ codes " layers, " ++ decimal loops ++ codes " loops, " ++ decimal moves ++ codes " moves, E " ++ fixed 5 e
+
+-- `, C cli bytes, G gcode bytes`
+unfoldable pub sizes_text : ℕ → ℕ → List ℕ
+sizes_text cli gcode = codes ", " ++ decimal cli ++ codes " cli bytes, " ++ decimal gcode ++ codes " gcode bytes\n"
+
 -- `sample N: L layers, K loops, M moves, E e, C cli bytes, G gcode bytes`
 unfoldable pub sample_line : ℕ → ℕ → ℕ → ℕ → ℕ → ℕ → ℕ → List ℕ
 sample_line n count loops moves e cli gcode =
-    codes "sample " ++ decimal n ++ codes ": " ++ decimal count ++ codes " layers, " ++ decimal loops ++ codes " loops, "
-    ++ decimal moves ++ codes " moves, E " ++ fixed 5 e ++ codes ", " ++ decimal cli ++ codes " cli bytes, " ++ decimal gcode
-    ++ codes " gcode bytes\n"
+    codes "sample " ++ decimal n ++ codes ": " ++ counts_text count loops moves e ++ sizes_text cli gcode
 
 -- what is told of so many layers, and of the sizes of both files
 abbrev pub sample_end : ℕ → Settings → Part → ℕ → Script

@@ -2,11 +2,11 @@
 ghost use Rattle.std.specs.Prelude.{◌≡◌, ◌≤◌, ◌++◌, decimal, IfOk, OnOk};
 ghost use Rattle.scad_words.specs.Settings.{AreInRange};
 ghost use Rattle.slice_work.specs.declared.want.Want.TheVariants.{Plan};
-ghost use Rattle.slice_work.specs.declared.summary.Summary.{Summary};
+
 ghost use Rattle.scad_tree.specs.View.{solid_of};
 ghost use Rattle.scad_slice.specs.Parts.{IsPart};
-ghost use Rattle.scad_slice.specs.declared.written.Written.{Written};
-ghost use Rattle.scad_tool.specs.Told.{sample_line, sample_script};
+
+ghost use Rattle.scad_tool.specs.Told.{counts_text, sizes_text, sample_line, sample_script};
 ghost use Rattle.scad_tool.specs.Playing.{IsEnd};
 
 use gcode_text::push_hundred_thousandths;
@@ -14,7 +14,7 @@ use itoa::Buffer;
 use scad_fault::Text;
 use scad_io::{Gate, NullDesk, Out};
 use scad_script::{Stop, make};
-use scad_slice::{Want, Written, count_layers, draw};
+use scad_slice::{Summary, Want, Written, count_layers, draw};
 use scad_tree::Tree;
 use scad_words::Settings;
 use std::alloc::{AllocError, Global};
@@ -54,19 +54,35 @@ fn sample_line(alloc: Global, n: u32, told: &Written) -> Result<Vec<u8>, AllocEr
     let mut line = Vec::from_slice(alloc, b"sample ")?;
     push_number(&mut line, u64::from(n))?;
     line.extend_from_slice(b": ")?;
-    push_number(&mut line, u64::from(told.summary.layers))?;
-    line.extend_from_slice(b" layers, ")?;
-    push_number(&mut line, told.summary.loops)?;
-    line.extend_from_slice(b" loops, ")?;
-    push_number(&mut line, told.summary.moves)?;
-    line.extend_from_slice(b" moves, E ")?;
-    push_hundred_thousandths(&mut line, u128::from(told.summary.e))?;
-    line.extend_from_slice(b", ")?;
-    push_number(&mut line, told.cli)?;
-    line.extend_from_slice(b" cli bytes, ")?;
-    push_number(&mut line, told.gcode)?;
-    line.extend_from_slice(b" gcode bytes\n")?;
+    push_counts(&mut line, &told.summary)?;
+    push_sizes(&mut line, told.cli, told.gcode)?;
     Ok(line)
+}
+
+/// `L layers, K loops, M moves, E e`
+#[tactic(auto, unfolding(crate::specs::Told::counts_text))]
+fn push_counts(line: &mut Vec<u8>, told: &Summary) -> Result<(), AllocError>
+    ensures { OnOk result (line.new.items ≡ line.old.items ++ counts_text told.now.layers told.now.loops told.now.moves told.now.e) }
+{
+    push_number(line, u64::from(told.layers))?;
+    line.extend_from_slice(b" layers, ")?;
+    push_number(line, told.loops)?;
+    line.extend_from_slice(b" loops, ")?;
+    push_number(line, told.moves)?;
+    line.extend_from_slice(b" moves, E ")?;
+    push_hundred_thousandths(line, u128::from(told.e))
+}
+
+/// `, C cli bytes, G gcode bytes`
+#[tactic(auto, unfolding(crate::specs::Told::sizes_text))]
+fn push_sizes(line: &mut Vec<u8>, cli: u64, gcode: u64) -> Result<(), AllocError>
+    ensures { OnOk result (line.new.items ≡ line.old.items ++ sizes_text cli gcode) }
+{
+    line.extend_from_slice(b", ")?;
+    push_number(line, cli)?;
+    line.extend_from_slice(b" cli bytes, ")?;
+    push_number(line, gcode)?;
+    line.extend_from_slice(b" gcode bytes\n")
 }
 
 fn push_number(line: &mut Vec<u8>, number: u64) -> Result<(), AllocError>

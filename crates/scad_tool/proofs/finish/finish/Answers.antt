@@ -20,7 +20,7 @@ returns-in-Plan-clause-completes g c =
 pub returns-in-Sample-clause-completes : goal.returns-in-Sample-clause-completes
 returns-in-Sample-clause-completes g c =
     sample_finishes c.args.job.now.command c.args.settings.now (solid_of c.args.tree.now) c.sampled.result (g.D.Desk.view c.args.desk.now)
-    c.in-Sample.field-0 (search rules) c.sampled.ensures
+    _ (search rules) c.sampled.ensures
 
 pub returns-in-Sample-clause-cause : goal.returns-in-Sample-clause-cause
 returns-in-Sample-clause-cause g c =
