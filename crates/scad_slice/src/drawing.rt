@@ -98,7 +98,9 @@ fn send_layers<R: Threads + Sync, D: Desk, G: Gate>(
         settings: *settings,
         want,
     };
-    match work(rt, alloc, count, &layers, settings, want, workers, desk, gate) {
+    match work(
+        rt, alloc, count, &layers, settings, want, workers, desk, gate,
+    ) {
         Ok(told) => Ok(told),
         Err(fault) => Err(stop_of(fault)),
     }
@@ -117,14 +119,17 @@ fn stop_of(fault: WorkFault) -> Stop
 // What is told of the layers, with the bytes of heads and ends. No memory holds more than the numbers count.
 fn written(told: Summary, heads: Sizes, tails: Sizes) -> Option<Written>
     ensures { IfSome result (λ w. w ≡ record {
-        summary = told;
-        cli = heads.cli + told.cli + tails.cli;
-        gcode = heads.gcode + told.gcode + tails.gcode;
+      summary = told;
+      cli = heads.cli + told.cli + tails.cli;
+      gcode = heads.gcode + told.gcode + tails.gcode;
     }) }
 {
     Some(Written {
         summary: told,
         cli: heads.cli.checked_add(told.cli)?.checked_add(tails.cli)?,
-        gcode: heads.gcode.checked_add(told.gcode)?.checked_add(tails.gcode)?,
+        gcode: heads
+            .gcode
+            .checked_add(told.gcode)?
+            .checked_add(tails.gcode)?,
     })
 }

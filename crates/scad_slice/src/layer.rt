@@ -70,7 +70,12 @@ fn lay_out(
     ensures { IfOk result (λ end. (layout : Result Layout Budget) × IsLaidOut want settings.now layer loops.items layout × Ends layout end) }
 {
     match want {
-        Want::Outlines => Ok(LayerEnd::Made(loops, LayerPlan { paths: Vec::new(alloc) })),
+        Want::Outlines => Ok(LayerEnd::Made(
+            loops,
+            LayerPlan {
+                paths: Vec::new(alloc),
+            },
+        )),
         Want::Plan => plan_out(alloc, loops, settings, layer),
     }
 }

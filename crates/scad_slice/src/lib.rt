@@ -6,8 +6,8 @@
 
 mod counting;
 mod drawing;
-mod layer;
 pub mod laws;
+mod layer;
 mod lines;
 mod pieces;
 mod planning;
@@ -20,6 +20,6 @@ mod written;
 pub use counting::count_layers;
 pub use drawing::draw;
 pub use planning::plan;
-pub use slicing::slice;
 pub use slice_work::{LAYER_LIMIT, Summary, Want};
+pub use slicing::slice;
 pub use written::Written;

@@ -48,7 +48,16 @@ pub fn slice<R: Threads + Sync, D: Desk, G: Gate>(
 {
     count_layers(tree, settings.layer_height)?;
     make(desk, Out::Cli, cli)?;
-    let written = draw(rt, alloc, tree, settings, Want::Outlines, workers, desk, gate)?;
+    let written = draw(
+        rt,
+        alloc,
+        tree,
+        settings,
+        Want::Outlines,
+        workers,
+        desk,
+        gate,
+    )?;
     let line = done_line(alloc, &written.summary)?;
     Ok(Text::from_vec(line))
 }

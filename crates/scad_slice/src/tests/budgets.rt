@@ -27,7 +27,9 @@ fn too_many_layers_create_nothing(rt: HostRuntime) -> Result<(), Fail> {
     let mut desk = desk(alloc, &[0])?;
     let ended = slice(&rt, alloc, &tree, &settings, "o.cli", 1, &mut desk, &Open);
     assert!(rt; is_over(&ended, many));
-    let ended = plan(&rt, alloc, &tree, &settings, "o.cli", "o.gcode", 1, &mut desk, &Open);
+    let ended = plan(
+        &rt, alloc, &tree, &settings, "o.cli", "o.gcode", 1, &mut desk, &Open,
+    );
     assert!(rt; is_over(&ended, many));
     assert_eq!(rt; desk.faults(), 0);
     assert!(rt; matches!(count_layers(&tree, 21), Ok(19_049)));
