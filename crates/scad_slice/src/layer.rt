@@ -93,7 +93,7 @@ fn plan_out(
     ensures { IfOk result (λ end. (layout : Result Layout Budget) × IsLaidOut Plan settings.now layer loops.items layout × Ends layout end) }
 {
     match plan(alloc, &loops, layer, settings) {
-        Ok(plan) => Ok(LayerEnd::Made(loops, LayerPlan { paths: plan.paths })),
+        Ok(plan) => Ok(LayerEnd::Made(loops, plan)),
         Err(PlanFault::Edges(count)) => Ok(over(BudgetKind::LayerEdges, layer, count)),
         Err(PlanFault::Crossings(count)) => Ok(over(BudgetKind::LayerCrossings, layer, count)),
         Err(PlanFault::Moves(count)) => Ok(over(BudgetKind::LayerMoves, layer, count)),

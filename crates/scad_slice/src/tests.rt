@@ -1,12 +1,12 @@
 //! Files of small trees, byte for byte.
-ghost use Rattle.std.specs.Prelude.{◌≡◌, Some, [], true, IfOk};
+ghost use Rattle.std.specs.Prelude.{◌≡◌, ◌≤◌, Some, [], true, IfOk};
 ghost use Rattle.scad_io.specs.Desk.{unused};
 ghost use Rattle.scad_script.specs.Run.{Sound};
 
 mod budgets;
 mod texts;
 
-use crate::{Want, draw, laws, plan, slice};
+use crate::{Want, count_layers, draw, laws, plan, slice};
 use scad_fault::Text;
 use scad_geom::Pt3;
 use scad_io::{MemoryDesk, Open, Out};
@@ -182,17 +182,12 @@ fn files_are_as_long_as_is_told(rt: HostRuntime) -> Result<(), Fail> {
     if make(&mut desk, Out::Gcode, "o.gcode").is_err() {
         return Err(Fail::new("a call failed"));
     }
+    let cube = cube(alloc)?;
     let settings = Settings::defaults();
-    let told = draw(
-        &rt,
-        alloc,
-        &cube(alloc)?,
-        &settings,
-        Want::Plan,
-        2,
-        &mut desk,
-        &Open,
-    );
+    if count_layers(&cube, settings.layer_height).is_err() {
+        return Err(Fail::new("a cube has few layers"));
+    }
+    let told = draw(&rt, alloc, &cube, &settings, Want::Plan, 2, &mut desk, &Open);
     let Ok(told) = told else {
         return Err(Fail::new("a cube is drawn"));
     };

@@ -1,8 +1,7 @@
 -- What is counted of layers, with one more.
-use Rattle.std.proofs.Common.{◌≡◌, ◌+◌, ◌-◌, ◌≤◌, ◌<◌, ℕ, List, [], ◌∷◌, ◌++◌, length, Result, Ok, Err, sym, refl, ap, ap₂, ◌∙◌, subst, arith}
+use Rattle.std.proofs.Common.{◌≡◌, ◌+◌, ℕ, length, Ok, sym, ap, ap₂, ◌∙◌, subst, arith}
 use Rattle.std.proofs.lemmas.List.FromFn.{sum_by-map-range_with_len_more}
 use Rattle.scad_io.specs.declared.desk.Out.TheVariants.{Cli, Gcode}
-use Rattle.scad_script.specs.Steps.{text_of}
 use Rattle.gcode_text.specs.declared.rates.Rates.{Rates}
 use Rattle.gcode_text.specs.Amount.{paths_volume}
 use Rattle.slice_work.specs.declared.want.Want.{Want}
@@ -12,11 +11,13 @@ use Rattle.slice_work.specs.Script.{volume_below, written, written_unless, layer
 use Rattle.slice_work.specs.Sums.{step_size, with_layer, AreSums}
 
 -- the layer i, which is laid out so, is counted
-pub one_more : (want : Want) (rates : Rates) (part : Part) (i : ℕ) (layout : Layout) (s : Sums) → part i ≡ Ok layout → AreSums want rates part i s
+pub one_more : (want : Want) (rates : Rates) (part : Part) (i : ℕ) (layout : Layout) (s : Sums) → part i ≡ Ok layout
+    → AreSums want rates part i s
     → AreSums want rates part (i + 1) (with_layer want rates i layout s)
 one_more want rates part i layout s laid sums =
     let steps : layer_steps want rates part i ≡ Ok (written want rates s.volume i layout) =
-    ap (written_unless want rates (volume_below want rates part i) i) laid ∙ ap (λ v. Ok (written want rates v i layout)) (sym sums.volume)
+    ap (written_unless want rates (volume_below want rates part i) i) laid
+    ∙ ap (λ v. Ok (written want rates v i layout)) (sym sums.volume)
     in
     record {
       loops = ap₂ (λ a b. a + b) sums.loops (ap (λ it. length (outlines_of it)) (sym laid))
@@ -31,7 +32,8 @@ one_more want rates part i layout s laid sums =
           ∙ sym (sum_by-map-range_with_len_more (step_size Gcode) (layer_steps want rates part) 0 i i (omega arith));
     }
 
-pub next_counted : (want : Want) (rates : Rates) (part : Part) (i j : ℕ) (layout : Layout) (s t : Sums) → j ≡ i + 1 → t ≡ with_layer want rates i layout s
+pub next_counted : (want : Want) (rates : Rates) (part : Part) (i j : ℕ) (layout : Layout) (s t : Sums) → j ≡ i + 1
+    → t ≡ with_layer want rates i layout s
     → part i ≡ Ok layout → AreSums want rates part i s → AreSums want rates part j t
 next_counted want rates part i j layout s t next is laid sums =
     subst (λ (k : ℕ). AreSums want rates part k t) (sym next)

@@ -1,5 +1,5 @@
 mod Noting
-mod Joined
+mod Closing
 mod Sought
 mod Layers
 mod Rounds

@@ -11,12 +11,16 @@ use Rattle.slice_work.specs.Part.{Part}
 use Rattle.slice_work.specs.Script.{layer_steps}
 use Rattle.slice_work.specs.Sums.{AreSums}
 
-pub sums_as : (want : Want) (rates given : Rates) (part : Part) (i j : ℕ) (s : Sums) → given ≡ rates → j ≡ i → AreSums want rates part i s → AreSums want given part j s
+pub sums_as : (want : Want) (rates given : Rates) (part : Part) (i j : ℕ) (s : Sums) → given ≡ rates → j ≡ i
+    → AreSums want rates part i s → AreSums want given part j s
 sums_as want rates given part i j s same here are =
-    subst (λ (r : Rates). AreSums want r part j s) (sym same) (subst (λ (k : ℕ). AreSums want rates part k s) (sym here) are)
+    subst (λ (r : Rates). AreSums want r part j s) (sym same)
+    (subst (λ (k : ℕ). AreSums want rates part k s) (sym here) are)
 
-pub steps_as : {T : Type 0} (want : Want) (rates given : Rates) (part : Part) (i j n : ℕ) (result : Result T Stop) (old new : View) → given ≡ rates → j ≡ i
-    → Carries (layers (layer_steps want given part) j n) result old new → Carries (layers (layer_steps want rates part) i n) result old new
+pub steps_as : {T : Type 0} (want : Want) (rates given : Rates) (part : Part) (i j n : ℕ) (result : Result T Stop)
+    (old new : View) → given ≡ rates → j ≡ i
+    → Carries (layers (layer_steps want given part) j n) result old new
+    → Carries (layers (layer_steps want rates part) i n) result old new
 steps_as {T = T} want rates given part i j n result old new same here carries =
     subst (λ (k : ℕ). Carries {T = T} (layers (layer_steps want rates part) k n) result old new) here
     (subst (λ (r : Rates). Carries {T = T} (layers (layer_steps want r part) j n) result old new) same carries)

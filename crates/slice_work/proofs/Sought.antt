@@ -1,10 +1,7 @@
 -- A layer that the numbers of a list name is found in it.
-use Rattle.std.proofs.Common.{◌≡◌, ◌≢◌, ◌<◌, ◌≤◌, ◌+◌, ◌-◌, ℕ, List, [], ◌∷◌, ◌++◌, length, drop, get_or, All, Contains, flat_map, Vec, Global, sym, ap, ◌∙◌, subst, ⊎_elim, arith}
+use Rattle.std.proofs.Common.{◌≡◌, ◌≢◌, ◌<◌, ◌≤◌, ◌+◌, ◌-◌, ℕ, List, [], ◌∷◌, ◌++◌, length, drop, get_or, All, Contains, flat_map, sym, ap, ◌∙◌, subst, ⊎_elim, arith}
 use Rattle.std.proofs.lemmas.List.{drop_more}
 use Rattle.std.proofs.lemmas.List.Elements.{Contains-append_cases, Contains-push_cases}
-use Rattle.scad_fault.specs.declared.budget.Budget.{Budget}
-use Rattle.scad_geom.specs.declared.loops.Loop.{Loop}
-use Rattle.slice_work.specs.declared.layer.LayerPlan.{LayerPlan}
 use Rattle.slice_work.specs.declared.layer.LayerEnd.{LayerEnd}
 use Rattle.slice_work.specs.declared.layer.LayerEnd.TheVariants.{Made, Over}
 use Rattle.slice_work.specs.declared.layer.Drawn.{Drawn}
@@ -17,41 +14,41 @@ only_here : (m n : ℕ) → Contains (m ∷ []) n → m ≡ n
 only_here m n there = ⊎_elim (λ none. absurd (none_here n none)) (λ same. same) (Contains-push_cases [] m n there)
 
 -- a layer of another number isn't the one sought
-made_elsewhere : (first n layer : ℕ) (end : LayerEnd) → first ≤ layer → layer ≢ first + n → Contains (if_made (layer - first) end) n → ⊥
+made_elsewhere : (first n layer : ℕ) (end : LayerEnd) → first ≤ layer → layer ≢ first + n
+    → Contains (if_made (layer - first) end) n → ⊥
 made_elsewhere first n layer (Made loops plan) from other there =
     let same : layer - first ≡ n = only_here (layer - first) n there in other (omega arith)
 made_elsewhere first n layer (Over passed) from other there = none_here n there
 
-over_elsewhere : (first n layer : ℕ) (end : LayerEnd) → first ≤ layer → layer ≢ first + n → Contains (if_over (layer - first) end) n → ⊥
+over_elsewhere : (first n layer : ℕ) (end : LayerEnd) → first ≤ layer → layer ≢ first + n
+    → Contains (if_over (layer - first) end) n → ⊥
 over_elsewhere first n layer (Made loops plan) from other there = none_here n there
 over_elsewhere first n layer (Over passed) from other there =
     let same : layer - first ≡ n = only_here (layer - first) n there in other (omega arith)
 
 -- the layer at a place, which isn't the one sought, is passed over
-passed_over : (f : Drawn → List ℕ) (n : ℕ) (ds : List Drawn) (i : ℕ) (d : Drawn) → i < length ds → d ≡ get_or ds i d → (Contains (f d) n → ⊥)
+passed_over : (f : Drawn → List ℕ) (n : ℕ) (ds : List Drawn) (i : ℕ) (d : Drawn) → i < length ds → d ≡ get_or ds i d
+    → (Contains (f d) n → ⊥)
     → Contains (flat_map f (drop i ds)) n → Contains (flat_map f (drop (i + 1) ds)) n
 passed_over f n ds i d inside is other there =
-    let next : drop i ds ≡ d ∷ drop (i + 1) ds = drop_more ds i d inside ∙ ap (λ (e : Drawn). e ∷ drop (i + 1) ds) (sym is) in
-    let cases : Contains (f d ++ flat_map f (drop (i + 1) ds)) n = subst (λ (l : List Drawn). Contains (flat_map f l) n) next there in
-    ⊎_elim (λ here. absurd (other here)) (λ behind. behind) (Contains-append_cases (f d) (flat_map f (drop (i + 1) ds)) n cases)
+    let next : drop i ds ≡ d ∷ drop (i + 1) ds = drop_more ds i d inside
+    ∙ ap (λ (e : Drawn). e ∷ drop (i + 1) ds) (sym is) in
+    let cases : Contains (f d ++ flat_map f (drop (i + 1) ds)) n = subst
+    (λ (l : List Drawn). Contains (flat_map f l) n) next there in
+    ⊎_elim (λ here. absurd (other here)) (λ behind. behind) (Contains-append_cases (f d)
+    (flat_map f (drop (i + 1) ds)) n cases)
 
-module _ (first n : ℕ) (ds : List Drawn) (i : ℕ) (d : Drawn) (from : All (λ e. first ≤ e.layer) ds) (inside : i < length ds) (is : d ≡ get_or ds i d) where
+module _ (first n : ℕ) (ds : List Drawn) (i : ℕ) (d : Drawn) (from : All (λ e. first ≤ e.layer) ds)
+    (inside : i < length ds) (is : d ≡ get_or ds i d) where
   at_least : first ≤ d.layer
   at_least = subst (λ (e : Drawn). first ≤ e.layer) (sym is) (from i d inside)
 
-  pub made_behind : d.layer ≢ first + n → Contains (made_numbers first (drop i ds)) n → Contains (made_numbers first (drop (i + 1) ds)) n
-  made_behind other = passed_over (λ e. if_made (e.layer - first) e.end) n ds i d inside is (made_elsewhere first n d.layer d.end at_least other)
+  pub made_behind : d.layer ≢ first + n → Contains (made_numbers first (drop i ds)) n
+      → Contains (made_numbers first (drop (i + 1) ds)) n
+  made_behind other = passed_over (λ e. if_made (e.layer - first) e.end) n ds i d inside is
+      (made_elsewhere first n d.layer d.end at_least other)
 
-  pub made_behind_over : (passed : Budget) → d.end ≡ Over passed → Contains (made_numbers first (drop i ds)) n → Contains (made_numbers first (drop (i + 1) ds)) n
-  made_behind_over passed over =
-      passed_over (λ e. if_made (e.layer - first) e.end) n ds i d inside is
-      (λ here. none_here n (subst (λ (end : LayerEnd). Contains (if_made (d.layer - first) end) n) over here))
-
-  pub over_behind : d.layer ≢ first + n → Contains (over_numbers first (drop i ds)) n → Contains (over_numbers first (drop (i + 1) ds)) n
-  over_behind other = passed_over (λ e. if_over (e.layer - first) e.end) n ds i d inside is (over_elsewhere first n d.layer d.end at_least other)
-
-  pub over_behind_made : (loops : Vec Loop Global) (plan : LayerPlan) → d.end ≡ Made loops plan
-      → Contains (over_numbers first (drop i ds)) n → Contains (over_numbers first (drop (i + 1) ds)) n
-  over_behind_made loops plan made =
-      passed_over (λ e. if_over (e.layer - first) e.end) n ds i d inside is
-      (λ here. none_here n (subst (λ (end : LayerEnd). Contains (if_over (d.layer - first) end) n) made here))
+  pub over_behind : d.layer ≢ first + n → Contains (over_numbers first (drop i ds)) n
+      → Contains (over_numbers first (drop (i + 1) ds)) n
+  over_behind other = passed_over (λ e. if_over (e.layer - first) e.end) n ds i d inside is
+      (over_elsewhere first n d.layer d.end at_least other)

@@ -1,5 +1,5 @@
 -- The steps of one layer, and what is counted of them.
-use Rattle.std.proofs.Common.{◌≡◌, ◌+◌, ◌++◌, ℕ, List, [], ◌∷◌, true, length, refl, sym, ap, ap₂, ◌∙◌, arith}
+use Rattle.std.proofs.Common.{◌≡◌, ◌+◌, ◌++◌, ℕ, List, [], ◌∷◌, length, refl, ap, ◌∙◌, arith}
 use Rattle.std.proofs.lemmas.List.{append-nil}
 use Rattle.scad_io.specs.Desk.{View}
 use Rattle.scad_io.specs.declared.desk.Out.TheVariants.{Cli, Gcode}
@@ -11,7 +11,7 @@ use Rattle.gcode_text.specs.Amount.{paths_volume}
 use Rattle.slice_work.specs.declared.want.Want.{Want}
 use Rattle.slice_work.specs.declared.want.Want.TheVariants.{Outlines, Plan}
 use Rattle.slice_work.specs.declared.sums.Sums.{Sums}
-use Rattle.slice_work.specs.Part.{Layout, move_count}
+use Rattle.slice_work.specs.Part.{Layout}
 use Rattle.slice_work.specs.Script.{AreThere, outline_lines, move_lines, written}
 use Rattle.slice_work.specs.Sums.{with_layer}
 
@@ -22,15 +22,12 @@ behind Plan rates volume i layout rest = first (Sends Gcode (move_lines rates vo
 
 pub outlines_first : (want : Want) (rates : Rates) (volume i : ℕ) (layout : Layout) (rest : Script)
     → first (written want rates volume i layout) rest
-        ≡ first (Sends Cli (outline_lines rates.layer_height i layout.outlines) ∷ []) (behind want rates volume i layout rest)
+    ≡ first (Sends Cli (outline_lines rates.layer_height i layout.outlines) ∷ [])
+    (behind want rates volume i layout rest)
 outlines_first Outlines rates volume i layout rest = refl
 outlines_first Plan rates volume i layout rest = refl
 
 -- ---- the outputs that are wanted
-
-pub cli_there : (want : Want) (v : View) → AreThere want v → v.cli.created ≡ true
-cli_there Outlines v there = there
-cli_there Plan v there = there.0
 
 pub still_there : (want : Want) (old new : View) → CreatesNone old new → AreThere want old → AreThere want new
 still_there Outlines old new none there = none.cli ∙ there
@@ -43,40 +40,43 @@ none_more n = omega arith
 
 pub counts_outlines : (rates : Rates) (i : ℕ) (layout : Layout) (s : Sums)
     → with_layer Outlines rates i layout s
-        ≡ record s { loops = s.loops + length layout.outlines; cli = s.cli + length (outline_lines rates.layer_height i layout.outlines) }
+    ≡ record s {
+      loops = s.loops + length layout.outlines;
+      cli = s.cli + length
+          (outline_lines rates.layer_height i layout.outlines);
+    }
 unfolding paths_volume
 counts_outlines rates i layout s =
     let lines = outline_lines rates.layer_height i layout.outlines in
     ap (λ (m : ℕ). record {
-      loops = s.loops + length layout.outlines; moves = m; volume = s.volume + 0; cli = s.cli + length (lines ++ []); gcode = s.gcode + 0 })
+      loops = s.loops + length layout.outlines;
+      moves = m;
+      volume = s.volume + 0;
+      cli = s.cli + length (lines ++ []);
+      gcode = s.gcode + 0;
+    })
     (none_more s.moves)
     ∙ ap (λ (v : ℕ). record {
-      loops = s.loops + length layout.outlines; moves = s.moves; volume = v; cli = s.cli + length (lines ++ []); gcode = s.gcode + 0 })
+      loops = s.loops + length layout.outlines;
+      moves = s.moves;
+      volume = v;
+      cli = s.cli + length (lines ++ []);
+      gcode = s.gcode + 0;
+    })
     (none_more s.volume)
     ∙ ap (λ (c : List ℕ). record {
-      loops = s.loops + length layout.outlines; moves = s.moves; volume = s.volume; cli = s.cli + length c; gcode = s.gcode + 0 })
+      loops = s.loops + length layout.outlines;
+      moves = s.moves;
+      volume = s.volume;
+      cli = s.cli + length c;
+      gcode = s.gcode + 0;
+    })
     (append-nil lines)
     ∙ ap (λ (g : ℕ). record {
-      loops = s.loops + length layout.outlines; moves = s.moves; volume = s.volume; cli = s.cli + length lines; gcode = g })
-    (none_more s.gcode)
-
-pub counts_moves : (rates : Rates) (i : ℕ) (layout : Layout) (s : Sums)
-    → with_layer Plan rates i layout s
-        ≡ record {
-          loops = s.loops + length layout.outlines;
-          moves = s.moves + move_count layout.paths;
-          volume = s.volume + paths_volume rates layout.paths;
-          cli = s.cli + length (outline_lines rates.layer_height i layout.outlines);
-          gcode = s.gcode + length (move_lines rates s.volume i layout.paths);
-        }
-counts_moves rates i layout s =
-    let lines = outline_lines rates.layer_height i layout.outlines in
-    let moves = move_lines rates s.volume i layout.paths in
-    ap₂ (λ (c g : List ℕ). record {
       loops = s.loops + length layout.outlines;
-      moves = s.moves + move_count layout.paths;
-      volume = s.volume + paths_volume rates layout.paths;
-      cli = s.cli + length c;
-      gcode = s.gcode + length g;
+      moves = s.moves;
+      volume = s.volume;
+      cli = s.cli + length lines;
+      gcode = g;
     })
-    (append-nil lines) (append-nil moves)
+    (none_more s.gcode)

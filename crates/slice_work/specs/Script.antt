@@ -30,7 +30,8 @@ rates_of s = record {
 
 -- the volume of all moves of the first n layers
 abbrev pub volume_below : Want → Rates → Part → ℕ → ℕ
-volume_below want rates part n = sum_by (λ layer. paths_volume rates (paths_of want layer)) (map part (range_with_len 0 n))
+volume_below want rates part n = sum_by (λ layer. paths_volume rates (paths_of want layer))
+    (map part (range_with_len 0 n))
 
 -- these lines can be written
 pub record AreRates (rates : Rates) : Type 0 where
@@ -54,12 +55,13 @@ move_lines rates volume i paths = gcode.layer_text rates volume i paths
 abbrev pub laid_out : List (List Pt) → List (List Pt) → Layout
 laid_out outlines paths = record { outlines = outlines; paths = paths }
 
--- the steps that write a layer which is laid out so, behind moves of this volume: its outlines, and then its moves, where they
--- are wanted
+-- the steps that write a layer which is laid out so, behind moves of this volume: its outlines, and then its moves,
+-- where they are wanted
 abbrev pub written : Want → Rates → ℕ → ℕ → Layout → List Step
 written Outlines rates volume i layout = Sends Cli (outline_lines rates.layer_height i layout.outlines) ∷ []
 written Plan rates volume i layout =
-    Sends Cli (outline_lines rates.layer_height i layout.outlines) ∷ Sends Gcode (move_lines rates volume i layout.paths) ∷ []
+    Sends Cli (outline_lines rates.layer_height i layout.outlines) ∷ Sends Gcode
+    (move_lines rates volume i layout.paths) ∷ []
 
 abbrev pub written_unless : Want → Rates → ℕ → ℕ → Result Layout Budget → Result (List Step) Budget
 written_unless want rates volume i (Ok layout) = Ok (written want rates volume i layout)

@@ -2,7 +2,6 @@
 use Rattle.std.specs.Prelude.{◌≡◌, ℕ, ◌+◌, List, length, map, sum_by, Result, Ok, Err}
 use Rattle.std.specs.List.{range_with_len}
 use Rattle.scad_fault.specs.declared.budget.Budget.{Budget}
-use Rattle.scad_geom.specs.declared.point.Pt.{Pt}
 use Rattle.scad_io.specs.declared.desk.Out.{Out}
 use Rattle.scad_io.specs.declared.desk.Out.TheVariants.{Cli, Gcode}
 use Rattle.scad_script.specs.Steps.{Step, text_of}

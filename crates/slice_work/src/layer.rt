@@ -1,13 +1,8 @@
 //! What the work on a layer ends with.
 
+use plan_layer::LayerPlan;
 use scad_fault::Budget;
-use scad_geom::{Loop, Path};
-
-/// The paths of a layer, in the order in which they are printed.
-#[derive(Debug, Drop)]
-pub struct LayerPlan {
-    pub paths: Vec<Path>,
-}
+use scad_geom::Loop;
 
 /// What the work on a layer ends with.
 #[derive(Debug, Drop)]

@@ -1,7 +1,7 @@
 //! The layers of a part, worked by several workers and written in order.
 //!
-//! The contracts promise that each layer below the first that passes a budget is worked and written once, in order, with the bytes
-//! that one worker alone would write, and that the first such budget is answered.
+//! The contracts promise that each layer below the first that passes a budget is worked and written once, in order,
+//! with the bytes that one worker alone would write, and that the first such budget is answered.
 #![tactic(auto)]
 
 mod fault;
@@ -11,8 +11,8 @@ mod layer_work;
 mod pooling;
 mod round;
 mod sharing;
-mod sums;
 mod summary;
+mod sums;
 #[cfg(test)]
 mod tests;
 mod want;
@@ -20,8 +20,9 @@ mod working;
 mod writing;
 
 pub use fault::WorkFault;
-pub use layer::{Drawn, LayerEnd, LayerPlan};
+pub use layer::{Drawn, LayerEnd};
 pub use layer_work::LayerWork;
+pub use plan_layer::LayerPlan;
 pub use pooling::Share;
 pub use sharing::share;
 pub use summary::Summary;

@@ -50,12 +50,16 @@ pub fn pool<R: Threads + Sync, W: LayerWork, G: Gate>(
     let (a, b) = join(
         rt,
         move || -> Result<Share, AllocError>
-            requires { IsSync R.row × IsSync W.row × IsSync G.row × (0 < vec_len low) × All (IsFresh board.now) low.items × (first + layers_of board.now ≤ layer_limit) }
-            ensures { IfOk result (λ s. IsPool board.entry.now first (vec_len low) s × ((part : Part) → W.draws work.entry.now part → AreDrawnOf part s.done.items)) }
+            requires { IsSync R.row × IsSync W.row × IsSync G.row × (0 < vec_len low)
+                × All (IsFresh board.now) low.items × (first + layers_of board.now ≤ layer_limit) }
+            ensures { IfOk result (λ s. IsPool board.entry.now first (vec_len low) s
+                × ((part : Part) → W.draws work.entry.now part → AreDrawnOf part s.done.items)) }
         { pool(rt, alloc, board, low, first, work, gate) },
         move || -> Result<Share, AllocError>
-            requires { IsSync R.row × IsSync W.row × IsSync G.row × (0 < vec_len high) × All (IsFresh board.now) high.items × (first + layers_of board.now ≤ layer_limit) }
-            ensures { IfOk result (λ s. IsPool board.entry.now first (vec_len high) s × ((part : Part) → W.draws work.entry.now part → AreDrawnOf part s.done.items)) }
+            requires { IsSync R.row × IsSync W.row × IsSync G.row × (0 < vec_len high)
+                × All (IsFresh board.now) high.items × (first + layers_of board.now ≤ layer_limit) }
+            ensures { IfOk result (λ s. IsPool board.entry.now first (vec_len high) s
+                × ((part : Part) → W.draws work.entry.now part → AreDrawnOf part s.done.items)) }
         { pool(rt, alloc, board, high, first, work, gate) },
     );
     together(board, a?, b?)

@@ -12,8 +12,8 @@ use scad_io::Gate;
 use std::alloc::{AllocError, Global};
 use std::thread::Threads;
 
-/// So many layers from the first one on, and what those ended with that weren't skipped. The least number in the round of a layer
-/// that passes a budget is their number where none does.
+/// So many layers from the first one on, and what those ended with that weren't skipped. The least number in the
+/// round of a layer that passes a budget is their number where none does.
 #[derive(Drop)]
 pub struct Round {
     pub first: u32,

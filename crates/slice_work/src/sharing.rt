@@ -13,8 +13,8 @@ use layer_board::{Board, Claim, Pass};
 use scad_io::Gate;
 use std::alloc::{AllocError, Global};
 
-/// One worker's part of a round whose layers start at `first`: draws layers from the board until the end is told, skips those
-/// above a failed one, and works the others, each between the gate's calls.
+/// One worker's part of a round whose layers start at `first`: draws layers from the board until the end is told,
+/// skips those above a failed one, and works the others, each between the gate's calls.
 pub fn share<W: LayerWork, G: Gate>(
     alloc: Global,
     board: &Board,

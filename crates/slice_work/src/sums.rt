@@ -7,8 +7,8 @@ use crate::summary::Summary;
 use gcode_text::Rates;
 use scad_geom::Path;
 
-/// What is counted of layers that were written: outlines, moves, the volume of the moves in cubic micrometres, and the bytes of
-/// both outputs. No memory holds more than these numbers count.
+/// What is counted of layers that were written: outlines, moves, the volume of the moves in cubic micrometres, and
+/// the bytes of both outputs. No memory holds more than these numbers count.
 #[derive(Clone, Copy, Debug, PartialEq, Eq)]
 pub struct Sums {
     pub loops: u64,
@@ -41,7 +41,11 @@ impl Sums {
 
     /// So many moves more, up to this volume, whose lines have so many bytes.
     pub fn with_moves(self, moves: u64, volume: u128, bytes: usize) -> Option<Sums>
-        ensures { IfSome result (λ s. s ≡ record self { moves = self.moves + moves; volume = volume; gcode = self.gcode + bytes }) }
+        ensures { IfSome result (λ s. s ≡ record self {
+          moves = self.moves + moves;
+          volume = volume;
+          gcode = self.gcode + bytes;
+        }) }
     {
         Some(Sums {
             moves: self.moves.checked_add(moves)?,
@@ -56,12 +60,12 @@ impl Sums {
     pub fn summary(self, layers: u32, rates: &Rates) -> Option<Summary>
         requires { 1 ≤ rates.now.filament_area }
         ensures { IfSome result (λ s. s ≡ record {
-            layers = layers;
-            loops = self.loops;
-            moves = self.moves;
-            e = filament rates.now self.volume;
-            cli = self.cli;
-            gcode = self.gcode;
+          layers = layers;
+          loops = self.loops;
+          moves = self.moves;
+          e = filament rates.now self.volume;
+          cli = self.cli;
+          gcode = self.gcode;
         }) }
     {
         let e = self.volume.checked_mul(100)? / u128::from(rates.filament_area);

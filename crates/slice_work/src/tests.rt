@@ -79,7 +79,9 @@ fn written(alloc: Global, layers: u32) -> Result<(Vec<u8>, Vec<u8>), AllocError>
     let mut gcode = Vec::new(alloc);
     for layer in 0..layers {
         let z = layer.wrapping_add(1).wrapping_mul(200);
-        let text = format!(in alloc; "$$LAYER/{z}\n$$POLYLINE/1,1,5,0,0,3000,0,3000,3000,0,3000,0,0\n")?;
+        let text = format!(in alloc;
+            "$$LAYER/{z}\n$$POLYLINE/1,1,5,0,0,3000,0,3000,3000,0,3000,0,0\n"
+        )?;
         cli.extend_from_slice(text.as_bytes())?;
     }
     for layer in 0..layers {
@@ -87,11 +89,23 @@ fn written(alloc: Global, layers: u32) -> Result<(Vec<u8>, Vec<u8>), AllocError>
         let first = 100u64.wrapping_mul(below.wrapping_add(270_000_000)) / 2_405_282;
         let second = 100u64.wrapping_mul(below.wrapping_add(540_000_000)) / 2_405_282;
         let z = layer.wrapping_add(1).wrapping_mul(200);
-        let text = format!(in alloc; "; layer {layer}\nG1 Z{}.{:03} F7200\nG1 X0.000 Y0.000 F7200\n", z / 1000, z % 1000)?;
+        let text = format!(in alloc;
+            "; layer {layer}\nG1 Z{}.{:03} F7200\nG1 X0.000 Y0.000 F7200\n",
+            z / 1000,
+            z % 1000
+        )?;
         gcode.extend_from_slice(text.as_bytes())?;
-        let text = format!(in alloc; "G1 X3.000 Y0.000 E{}.{:05} F1800\n", first / 100_000, first % 100_000)?;
+        let text = format!(in alloc;
+            "G1 X3.000 Y0.000 E{}.{:05} F1800\n",
+            first / 100_000,
+            first % 100_000
+        )?;
         gcode.extend_from_slice(text.as_bytes())?;
-        let text = format!(in alloc; "G1 X3.000 Y3.000 E{}.{:05} F1800\n", second / 100_000, second % 100_000)?;
+        let text = format!(in alloc;
+            "G1 X3.000 Y3.000 E{}.{:05} F1800\n",
+            second / 100_000,
+            second % 100_000
+        )?;
         gcode.extend_from_slice(text.as_bytes())?;
     }
     Ok((cli, gcode))
@@ -103,7 +117,17 @@ fn layers_are_written_in_order(rt: HostRuntime) -> Result<(), Fail> {
     let (cli, gcode) = written(alloc, 130)?;
     for workers in [1, 3, 64] {
         let mut desk = desk(alloc, &[])?;
-        let told = work(&rt, alloc, 130, &Squares { over: 130 }, &USUAL, Want::Plan, workers, &mut desk, &Open);
+        let told = work(
+            &rt,
+            alloc,
+            130,
+            &Squares { over: 130 },
+            &USUAL,
+            Want::Plan,
+            workers,
+            &mut desk,
+            &Open,
+        );
         let Ok(told) = told else {
             return Err(Fail::new("all layers are made"));
         };
@@ -125,11 +149,24 @@ fn the_least_layer_over_a_budget_is_answered(rt: HostRuntime) -> Result<(), Fail
     let (cli, _gcode) = written(alloc, 70)?;
     for workers in [1, 2, 64] {
         let mut desk = desk(alloc, &[])?;
-        let told = work(&rt, alloc, 130, &Squares { over: 69 }, &USUAL, Want::Outlines, workers, &mut desk, &Open);
+        let told = work(
+            &rt,
+            alloc,
+            130,
+            &Squares { over: 69 },
+            &USUAL,
+            Want::Outlines,
+            workers,
+            &mut desk,
+            &Open,
+        );
         let Err(WorkFault::Over(budget)) = told else {
             return Err(Fail::new("layer 70 passes a budget"));
         };
-        assert_eq!(rt; budget, Budget::of_layer(BudgetKind::LayerEdges, 70, 20_010));
+        assert_eq!(rt;
+            budget,
+            Budget::of_layer(BudgetKind::LayerEdges, 70, 20_010)
+        );
         assert_eq!(rt; desk.written(Out::Cli), cli.as_slice());
         assert_eq!(rt; desk.written(Out::Gcode), b"".as_slice());
     }
@@ -139,11 +176,31 @@ fn the_least_layer_over_a_budget_is_answered(rt: HostRuntime) -> Result<(), Fail
 #[test]
 fn a_part_without_layers_writes_nothing(rt: HostRuntime) -> Result<(), Fail> {
     let mut desk = desk(rt.alloc(), &[])?;
-    let told = work(&rt, rt.alloc(), 0, &Squares { over: 0 }, &USUAL, Want::Plan, 5, &mut desk, &Open);
+    let told = work(
+        &rt,
+        rt.alloc(),
+        0,
+        &Squares { over: 0 },
+        &USUAL,
+        Want::Plan,
+        5,
+        &mut desk,
+        &Open,
+    );
     let Ok(told) = told else {
         return Err(Fail::new("nothing is to be done"));
     };
-    assert_eq!(rt; told, Summary { layers: 0, loops: 0, moves: 0, e: 0, cli: 0, gcode: 0 });
+    assert_eq!(rt;
+        told,
+        Summary {
+            layers: 0,
+            loops: 0,
+            moves: 0,
+            e: 0,
+            cli: 0,
+            gcode: 0
+        }
+    );
     assert_eq!(rt; desk.faults(), 0);
     Ok(())
 }
@@ -154,7 +211,17 @@ fn each_write_fails_in_turn(rt: HostRuntime) -> Result<(), Fail> {
     let (cli, gcode) = written(alloc, 3)?;
     for call in 2..8 {
         let mut desk = desk(alloc, &[call])?;
-        let told = work(&rt, alloc, 3, &Squares { over: 3 }, &USUAL, Want::Plan, 3, &mut desk, &Open);
+        let told = work(
+            &rt,
+            alloc,
+            3,
+            &Squares { over: 3 },
+            &USUAL,
+            Want::Plan,
+            3,
+            &mut desk,
+            &Open,
+        );
         assert!(rt; matches!(told, Err(WorkFault::Write)));
         assert!(rt; cli.starts_with(desk.written(Out::Cli)));
         assert!(rt; gcode.starts_with(desk.written(Out::Gcode)));
@@ -202,9 +269,23 @@ fn two_at_once(rt: HostRuntime) -> Result<(), Fail> {
             met: AtomicU64::new(0),
         };
         let mut desk = desk(alloc, &[])?;
-        let told = work(&rt, alloc, 5, &Squares { over: 5 }, &USUAL, Want::Outlines, 2, &mut desk, &gate);
+        let told = work(
+            &rt,
+            alloc,
+            5,
+            &Squares { over: 5 },
+            &USUAL,
+            Want::Outlines,
+            2,
+            &mut desk,
+            &gate,
+        );
         assert!(rt; told.is_ok());
-        assert_eq!(rt; gate.met.load(Ordering::SeqCst), 1, "layer {layer} is held until all others are done");
+        assert_eq!(rt;
+            gate.met.load(Ordering::SeqCst),
+            1,
+            "layer {layer} is held until all others are done"
+        );
     }
     Ok(())
 }

@@ -32,9 +32,9 @@ pub const ROUND: u32 = 64;
 
 /// Works so many layers of a part and writes them in order.
 ///
-/// The layers go in rounds of 64. In a round the workers draw the layers from one board, each in a thread of its own; then the
-/// round's layers are written, each output of a layer by one write, up to the first layer that passes a budget, which is answered.
-/// The bytes and the answer are the same for every number of workers.
+/// The layers go in rounds of 64. In a round the workers draw the layers from one board, each in a thread of its own;
+/// then the round's layers are written, each output of a layer by one write, up to the first layer that passes a
+/// budget, which is answered. The bytes and the answer are the same for every number of workers.
 pub fn work<R: Threads + Sync, W: LayerWork, D: Desk, G: Gate>(
     rt: &R,
     alloc: Global,
@@ -54,8 +54,10 @@ pub fn work<R: Threads + Sync, W: LayerWork, D: Desk, G: Gate>(
     requires there { AreThere want (D.view desk.old) }
 
     ensures carries { (part : Part) → W.draws work.now part
-        → Carries (layers (layer_steps want (rates_of settings.now) part) 0 count) (stopped result) (D.view desk.old) (D.view desk.new) }
-    ensures summary { IfOk result (λ s. (part : Part) → W.draws work.now part → IsSummary want (rates_of settings.now) part count s) }
+        → Carries (layers (layer_steps want (rates_of settings.now) part) 0 count) (stopped result) (D.view desk.old)
+        (D.view desk.new) }
+    ensures summary { IfOk result (λ s. (part : Part) → W.draws work.now part
+        → IsSummary want (rates_of settings.now) part count s) }
     ensures sound { OnOk result (Sound (D.view desk.new)) }
     ensures creates { OnOk result (CreatesNone (D.view desk.old) (D.view desk.new)) }
     ensures files { D.files desk.new ≡ D.files desk.old }
@@ -91,9 +93,12 @@ fn send_round<D: Desk>(
     requires sound { Sound (D.view desk.old) }
     requires there { AreThere want (D.view desk.old) }
 
-    ensures carries { (part : Part) → AreDrawnOf part round.now.done.items → AreSums want rates.now part round.now.first sums
-        → Carries (layers (layer_steps want rates.now part) round.now.first round.now.count) (stopped result) (D.view desk.old) (D.view desk.new) }
-    ensures sums { IfOk result (λ s. (part : Part) → AreDrawnOf part round.now.done.items → AreSums want rates.now part round.now.first sums
+    ensures carries { (part : Part) → AreDrawnOf part round.now.done.items
+        → AreSums want rates.now part round.now.first sums
+        → Carries (layers (layer_steps want rates.now part) round.now.first round.now.count) (stopped result)
+        (D.view desk.old) (D.view desk.new) }
+    ensures sums { IfOk result (λ s. (part : Part) → AreDrawnOf part round.now.done.items
+        → AreSums want rates.now part round.now.first sums
         → AreSums want rates.now part (round.now.first + round.now.count) s) }
     ensures sound { OnOk result (Sound (D.view desk.new)) }
     ensures creates { OnOk result (CreatesNone (D.view desk.old) (D.view desk.new)) }
@@ -103,7 +108,15 @@ fn send_round<D: Desk>(
 {
     let mut sums = sums;
     'layers: for n in 0..round.least {
-        sums = send_layer(alloc, want, rates, round.first + n, layout_of(round, n), sums, desk)?;
+        sums = send_layer(
+            alloc,
+            want,
+            rates,
+            round.first + n,
+            layout_of(round, n),
+            sums,
+            desk,
+        )?;
     }
     if round.least < round.count {
         return Err(WorkFault::Over(budget_of(round)));

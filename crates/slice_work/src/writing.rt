@@ -19,12 +19,12 @@ use scad_geom::{Loop, Path};
 use scad_io::{Desk, Failed, Out, write_all};
 use std::alloc::Global;
 
-/// The greatest volume of all moves so far behind which a layer is written, in cubic micrometres. It is more than 10^12 cubic
-/// metres.
+/// The greatest volume of all moves so far behind which a layer is written, in cubic micrometres. It is more than
+/// 10^12 cubic metres.
 const VOLUME_LIMIT: u128 = 1_000_000_000_000_000_000_000_000_000_000;
 
-/// Writes a layer: the lines of its outlines, and then those of its moves, where they are wanted. What is counted of the layers so
-/// far then counts this one too.
+/// Writes a layer: the lines of its outlines, and then those of its moves, where they are wanted. What is counted of
+/// the layers so far then counts this one too.
 pub fn send_layer<D: Desk>(
     alloc: Global,
     want: Want,
@@ -39,9 +39,11 @@ pub fn send_layer<D: Desk>(
     requires sound { Sound (D.view desk.old) }
     requires there { AreThere want (D.view desk.old) }
 
-    ensures carries { Carries (first (written want rates.now sums.volume layer (laid_out layout.entry.0.now layout.entry.1.now)))
+    ensures carries { Carries (first (written want rates.now sums.volume layer
+        (laid_out layout.entry.0.now layout.entry.1.now)))
         (stopped result) (D.view desk.old) (D.view desk.new) }
-    ensures sums { IfOk result (λ s. s ≡ with_layer want rates.now layer (laid_out layout.entry.0.now layout.entry.1.now) sums) }
+    ensures sums { IfOk result (λ s. s ≡ with_layer want rates.now layer
+        (laid_out layout.entry.0.now layout.entry.1.now) sums) }
     ensures sound { OnOk result (Sound (D.view desk.new)) }
     ensures creates { OnOk result (CreatesNone (D.view desk.old) (D.view desk.new)) }
     ensures files { D.files desk.new ≡ D.files desk.old }
@@ -87,7 +89,8 @@ fn send_outlines<D: Desk>(
     Ok(text.len())
 }
 
-// Writes the lines of a layer's moves. No memory holds so many points, or is so far through a part, that they can't be written.
+// Writes the lines of a layer's moves. No memory holds so many points, or is so far through a part, that they can't
+// be written.
 fn send_moves<D: Desk>(
     alloc: Global,
     rates: &Rates,
@@ -103,9 +106,9 @@ fn send_moves<D: Desk>(
     ensures carries { Carries (first (Sends Out.Gcode (move_lines rates.now sums.volume layer paths.now) ∷ []))
         (stopped result) (D.view desk.old) (D.view desk.new) }
     ensures sums { IfOk result (λ s. s ≡ record sums {
-        moves = sums.moves + move_count paths.now;
-        volume = sums.volume + paths_volume rates.now paths.now;
-        gcode = sums.gcode + length (move_lines rates.now sums.volume layer paths.now);
+      moves = sums.moves + move_count paths.now;
+      volume = sums.volume + paths_volume rates.now paths.now;
+      gcode = sums.gcode + length (move_lines rates.now sums.volume layer paths.now);
     }) }
     ensures sound { OnOk result (Sound (D.view desk.new)) }
     ensures creates { OnOk result (CreatesNone (D.view desk.old) (D.view desk.new)) }

@@ -6,7 +6,7 @@ use Rattle.scad_slice.proofs.layer.plan_out.Goals as goal
 
 pub returns-in-Ok : goal.returns-in-Ok
 returns-in-Ok c =
-    lays_plan c.args.settings.now c.args.layer c.deref.result.now c.args.loops (record { paths = c.in-Ok.plan.paths }) c.deref.ensures.value
+    lays_plan c.args.settings.now c.args.layer c.deref.result.now c.args.loops c.in-Ok.plan c.deref.ensures.value
     c.in-Ok.ensures.plan c.in-Ok.ensures.accepted c.in-Ok.ensures.moves
 
 pub returns-in-Err-Edges : goal.returns-in-Err-Edges

@@ -7,5 +7,6 @@ layers-preserved-then-drawn-least c =
     let round = c.args.round.now in
     let inside : c.layers.drawn-index < length round.done.items = search rules in
     let is : c.drawn-item.result ≡ get_or round.done.items c.layers.drawn-index c.drawn-item.result = search rules in
-    over_behind round.first c.args.round.now.least round.done.items c.layers.drawn-index c.drawn-item.result c.requires.whole.from inside is
+    over_behind round.first c.args.round.now.least round.done.items c.layers.drawn-index c.drawn-item.result
+    c.requires.whole.from inside is
     c.if-drawn-least.true c.layers.invariant

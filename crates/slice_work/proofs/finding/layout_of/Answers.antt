@@ -7,5 +7,6 @@ layers-preserved-then-drawn-layer c =
     let round = c.args.round.now in
     let inside : c.layers.drawn-index < length round.done.items = search rules in
     let is : c.drawn-item.result ≡ get_or round.done.items c.layers.drawn-index c.drawn-item.result = search rules in
-    made_behind round.first c.args.n round.done.items c.layers.drawn-index c.drawn-item.result c.requires.whole.from inside is
+    made_behind round.first c.args.n round.done.items c.layers.drawn-index c.drawn-item.result
+    c.requires.whole.from inside is
     c.if-drawn-layer.true c.layers.invariant

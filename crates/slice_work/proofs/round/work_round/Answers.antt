@@ -1,8 +1,7 @@
-use Rattle.std.proofs.Common.{◌≡◌, ◌≤◌, ℕ, refl, subst, rules}
-use Rattle.layer_board.specs.declared.board.Pass.{Pass}
+use Rattle.std.proofs.Common.{◌≡◌, ◌≤◌, ℕ, refl, subst}
 use Rattle.layer_board.specs.Calls.{view, layers_of, Closed}
 use Rattle.slice_work.specs.declared.round.Round.{Round}
-use Rattle.slice_work.proofs.Joined.{round_whole}
+use Rattle.slice_work.proofs.Closing.{round_whole}
 use Rattle.slice_work.proofs.round.work_round.Goals as goal
 
 pub returns-clause-round : goal.returns-clause-round

@@ -17,7 +17,8 @@ returns-in_err-sums-clause-carries g c part drawn sums whole rest start left =
     let below : c.layers.n < round.least = search rules in
     let within : round.least ≤ round.count = c.requires.round.within in
     stops_work whole rest _ _ start _ (search rules)
-    (next_written c.args.want c.args.rates.now part {T = Sums} i n (i + 1) (n - 1) c.layers.sums layout (stopped (Err c.in_err-sums.field-0.0))
+    (next_written c.args.want c.args.rates.now part {T = Sums} i n (i + 1)
+    (n - 1) c.layers.sums layout (stopped (Err c.in_err-sums.field-0.0))
     (g.D.Desk.view c.layers.desk) (g.D.Desk.view c.send_layer.new.desk) (omega arith) refl refl
     (c.layers.invariant.sums part drawn sums) (c.layout_of.ensures part drawn) c.in_err-sums.ensures.carries
     whole rest start (c.layers.invariant.carries part drawn sums whole rest start left))
@@ -34,15 +35,18 @@ layers-preserved g c =
     let within : round.least ≤ round.count = c.requires.round.within in
     record {
       carries = λ part drawn sums whole rest start left.
-          next_written c.args.want c.args.rates.now part {T = Sums} i n j (round.count - (c.layers.n + 1)) c.layers.sums layout (stopped (Ok c.in_ok-sums.sums))
+          next_written c.args.want c.args.rates.now part {T = Sums} i n j (round.count - (c.layers.n + 1))
+          c.layers.sums layout (stopped (Ok c.in_ok-sums.sums))
           (g.D.Desk.view c.layers.desk) (g.D.Desk.view c.send_layer.new.desk) (omega arith) (omega arith) (omega arith)
           (kept.sums part drawn sums) (c.layout_of.ensures part drawn) c.in_ok-sums.ensures.carries
           whole rest start (kept.carries part drawn sums whole rest start left);
       sums = λ part drawn sums.
-          next_counted c.args.want c.args.rates.now part i j layout c.layers.sums c.in_ok-sums.sums (omega arith) c.in_ok-sums.ensures.sums
+          next_counted c.args.want c.args.rates.now part i j layout c.layers.sums c.in_ok-sums.sums (omega arith)
+          c.in_ok-sums.ensures.sums
           (c.layout_of.ensures part drawn) (kept.sums part drawn sums);
       sound = search rules;
-      there = still_there c.args.want (g.D.Desk.view c.layers.desk) (g.D.Desk.view c.send_layer.new.desk) c.in_ok-sums.ensures.creates kept.there;
+      there = still_there c.args.want (g.D.Desk.view c.layers.desk)
+          (g.D.Desk.view c.send_layer.new.desk) c.in_ok-sums.ensures.creates kept.there;
       creates = search rules;
       files = search rules;
       later = search rules;
@@ -56,5 +60,6 @@ returns-then-round-clause-carries g c part drawn sums whole rest start left =
     let over : part (round.first + c.layers.n) ≡ Err c.budget_of.result =
     ap (λ k. part (round.first + k)) last ∙ c.budget_of.ensures part drawn
     in
-    as_left (over_next c.args.want c.args.rates.now part (round.first + c.layers.n) (round.count - c.layers.n) c.budget_of.result rest (omega arith) over)
+    as_left (over_next c.args.want c.args.rates.now part (round.first + c.layers.n)
+    (round.count - c.layers.n) c.budget_of.result rest (omega arith) over)
     (c.layers.invariant.carries part drawn sums whole rest start left)

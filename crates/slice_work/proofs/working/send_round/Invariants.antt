@@ -13,8 +13,10 @@ abbrev pub invariant-layers : goal.invariant-layers
 invariant-layers g l = record {
   carries : (part : Part) → AreDrawnOf part l.round.done.items → AreSums l.want l.rates part l.round.first l.fn.sums
       → (whole rest : Script) (start : View)
-      → Left whole (layers (layer_steps l.want l.rates part) l.round.first l.round.count rest) start (g.D.Desk.view l.fn.desk)
-      → Left whole (layers (layer_steps l.want l.rates part) (l.round.first + l.n) (l.round.count - l.n) rest) start (g.D.Desk.view l.desk);
+      → Left whole (layers (layer_steps l.want l.rates part) l.round.first l.round.count rest) start
+      (g.D.Desk.view l.fn.desk)
+      → Left whole (layers (layer_steps l.want l.rates part) (l.round.first + l.n) (l.round.count - l.n) rest) start
+      (g.D.Desk.view l.desk);
   sums : (part : Part) → AreDrawnOf part l.round.done.items → AreSums l.want l.rates part l.round.first l.fn.sums
       → AreSums l.want l.rates part (l.round.first + l.n) l.sums;
   sound : Sound (g.D.Desk.view l.desk);

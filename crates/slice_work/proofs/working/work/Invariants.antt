@@ -13,8 +13,10 @@ invariant-rounds g l = record {
   within : l.first ≤ l.count;
   rates : l.rates ≡ rates_of l.settings;
   carries : (part : Part) → g.W.LayerWork.draws l.work part → (whole rest : Script) (start : View)
-      → Left whole (layers (layer_steps l.want (rates_of l.settings) part) 0 l.count rest) start (g.D.Desk.view l.fn.desk)
-      → Left whole (layers (layer_steps l.want (rates_of l.settings) part) l.first (l.count - l.first) rest) start (g.D.Desk.view l.desk);
+      → Left whole (layers (layer_steps l.want (rates_of l.settings) part) 0 l.count rest) start
+      (g.D.Desk.view l.fn.desk)
+      → Left whole (layers (layer_steps l.want (rates_of l.settings) part) l.first (l.count - l.first) rest) start
+      (g.D.Desk.view l.desk);
   sums : (part : Part) → g.W.LayerWork.draws l.work part → AreSums l.want (rates_of l.settings) part l.first l.sums;
   sound : Sound (g.D.Desk.view l.desk);
   there : AreThere l.want (g.D.Desk.view l.desk);

@@ -9,6 +9,8 @@ use Rattle.slice_work.proofs.writing.send_moves.Goals as goal
 
 pub returns-in_err-send-clause-carries : goal.returns-in_err-send-clause-carries
 returns-in_err-send-clause-carries g c whole rest start left =
-    let same : c.deref.result.now ≡ move_lines c.args.rates.now c.args.sums.volume c.args.layer c.args.paths.now = search rules in
+    let same : c.deref.result.now ≡ move_lines c.args.rates.now c.args.sums.volume c.args.layer
+    c.args.paths.now = search rules in
     stops_work whole rest _ _ start _ (search rules)
-    (c.in_err-send.ensures.carries whole rest start (as_left (ap (λ (p : List ℕ). first (Sends Gcode p ∷ []) rest) (sym same)) left))
+    (c.in_err-send.ensures.carries whole rest start (as_left
+    (ap (λ (p : List ℕ). first (Sends Gcode p ∷ []) rest) (sym same)) left))
