@@ -46,7 +46,8 @@ fn draw_layer(
     requires settings { AreInRange settings.now }
     requires solids { AreSolids (solid_of tree.now) }
 
-    ensures { IfOk result (λ end. (layout : Result Layout Budget) × IsLayer want settings.now (solid_of tree.now) layer layout × Ends layout end) }
+    ensures { IfOk result (λ end. (layout : Result Layout Budget)
+        × IsLayer want settings.now (solid_of tree.now) layer layout × Ends layout end) }
 {
     match layer_outlines(alloc, tree, layer, settings.layer_height, EDGE_LIMIT) {
         Ok(loops) => lay_out(alloc, loops, settings, want, layer),
@@ -67,7 +68,8 @@ fn lay_out(
     requires settings { AreInRange settings.now }
     requires within { All (λ l. All (IsWithin point_limit) l) loops.items }
 
-    ensures { IfOk result (λ end. (layout : Result Layout Budget) × IsLaidOut want settings.now layer loops.items layout × Ends layout end) }
+    ensures { IfOk result (λ end. (layout : Result Layout Budget)
+        × IsLaidOut want settings.now layer loops.items layout × Ends layout end) }
 {
     match want {
         Want::Outlines => Ok(LayerEnd::Made(
@@ -90,7 +92,8 @@ fn plan_out(
     requires settings { AreInRange settings.now }
     requires within { All (λ l. All (IsWithin point_limit) l) loops.items }
 
-    ensures { IfOk result (λ end. (layout : Result Layout Budget) × IsLaidOut Plan settings.now layer loops.items layout × Ends layout end) }
+    ensures { IfOk result (λ end. (layout : Result Layout Budget)
+        × IsLaidOut Plan settings.now layer loops.items layout × Ends layout end) }
 {
     match plan(alloc, &loops, layer, settings) {
         Ok(plan) => Ok(LayerEnd::Made(loops, plan)),

@@ -1,7 +1,8 @@
-//! The files of a whole tree, written layer by layer: the part of `slice`, `plan` and `sample` that follows evaluation.
+//! The files of a whole tree, written layer by layer: the part of `slice`, `plan` and `sample` that follows
+//! evaluation.
 //!
-//! The contracts promise that the script of what is drawn of the tree is played, and the laws that a tree of solids has one such
-//! part, whose layers hold what the tree contains.
+//! The contracts promise that the script of what is drawn of the tree is played, and the laws that a tree of solids
+//! has one such part, whose layers hold what the tree contains.
 #![tactic(auto)]
 
 mod counting;

@@ -187,7 +187,16 @@ fn files_are_as_long_as_is_told(rt: HostRuntime) -> Result<(), Fail> {
     if count_layers(&cube, settings.layer_height).is_err() {
         return Err(Fail::new("a cube has few layers"));
     }
-    let told = draw(&rt, alloc, &cube, &settings, Want::Plan, 2, &mut desk, &Open);
+    let told = draw(
+        &rt,
+        alloc,
+        &cube,
+        &settings,
+        Want::Plan,
+        2,
+        &mut desk,
+        &Open,
+    );
     let Ok(told) = told else {
         return Err(Fail::new("a cube is drawn"));
     };

@@ -25,11 +25,30 @@ fn too_many_layers_create_nothing(rt: HostRuntime) -> Result<(), Fail> {
     let many = Budget::layers(20_001);
     assert!(rt; is_over(&count_layers(&tree, 20), many));
     let mut unsliced = desk(alloc, &[0])?;
-    let ended = slice(&rt, alloc, &tree, &settings, "o.cli", 1, &mut unsliced, &Open);
+    let ended = slice(
+        &rt,
+        alloc,
+        &tree,
+        &settings,
+        "o.cli",
+        1,
+        &mut unsliced,
+        &Open,
+    );
     assert!(rt; is_over(&ended, many));
     assert_eq!(rt; unsliced.faults(), 0);
     let mut unplanned = desk(alloc, &[0])?;
-    let ended = plan(&rt, alloc, &tree, &settings, "o.cli", "o.gcode", 1, &mut unplanned, &Open);
+    let ended = plan(
+        &rt,
+        alloc,
+        &tree,
+        &settings,
+        "o.cli",
+        "o.gcode",
+        1,
+        &mut unplanned,
+        &Open,
+    );
     assert!(rt; is_over(&ended, many));
     assert_eq!(rt; unplanned.faults(), 0);
     assert!(rt; matches!(count_layers(&tree, 21), Ok(19_049)));

@@ -37,7 +37,8 @@ returns-in_err-line-clause-completes g c part of_part whole start left =
 pub returns-clause-completes : goal.returns-clause-completes
 returns-clause-completes g c part of_part whole start left =
     as_left
-    (slice_ends c.args.settings.now part (layer_count c.args.settings.now.layer_height (solid_of c.args.tree.now)) c.in_ok-written.written c.from_vec.result
+    (slice_ends c.args.settings.now part (layer_count c.args.settings.now.layer_height (solid_of c.args.tree.now))
+    c.in_ok-written.written c.from_vec.result
     (c.in_ok-written.ensures.written part of_part) (search rules))
     (c.in_ok-written.ensures.carries part of_part whole _ start
     (c.in_ok-make.ensures.carries whole _ start
