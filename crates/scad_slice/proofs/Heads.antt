@@ -13,7 +13,8 @@ use Rattle.slice_work.specs.declared.want.Want.TheVariants.{Outlines, Plan}
 use Rattle.scad_slice.specs.Script.{heads, tails}
 
 -- the head of the outlines
-pub head_first : (want : Want) (s : Settings) (count : ℕ) (whole rest : Script) (old now : View) → Left whole (first (heads want s count) rest) old now
+pub head_first : (want : Want) (s : Settings) (count : ℕ) (whole rest : Script) (old now : View)
+    → Left whole (first (heads want s count) rest) old now
     → (behind : Script) × Left whole (first (Sends Cli (outline.head count) ∷ []) behind) old now
 head_first Outlines s count whole rest old now left = (rest, left)
 head_first Plan s count whole rest old now left = (first (Sends Gcode (program.head s.hot_end s.bed) ∷ []) rest, left)

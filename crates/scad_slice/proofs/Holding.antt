@@ -1,5 +1,6 @@
 -- The layers of a part hold what the tree contains.
-use Rattle.std.proofs.Common.{◌≡◌, ◌+◌, ◌<◌, ◌≤◌, ℕ, zero, suc, Option, Some, None, Result, Ok, Err, ap, sym, ◌∙◌, refl, subst, length, arith}
+use Rattle.std.proofs.Common.{◌≡◌, ◌+◌, ◌<◌, ◌≤◌, ℕ, zero, suc, Option, Some, None, Result, Ok, Err, ap, sym, ◌∙◌, refl}
+use Rattle.std.proofs.Common.{subst, length, arith}
 use Rattle.std.specs.Prelude.{List, map, slice_get, IsSomeAnd}
 use Rattle.std.specs.List.{range_with_len}
 use Rattle.std.proofs.lemmas.List.FromFn.{length-map-range_with_len}
@@ -34,26 +35,34 @@ made_at f a (suc n) (suc i) below =
     made_at f (a + 1) n i less ∙ ap (λ k. Some (f k)) (omega arith)
 
 -- a layer that passes no budget is over the tree's outlines
-has_outlines : (want : Want) (s : Settings) (i : ℕ) (outlines : List (List Pt)) (layout : Layout) → IsLaidOut want s i outlines (Ok layout) → layout.outlines ≡ outlines
+has_outlines : (want : Want) (s : Settings) (i : ℕ) (outlines : List (List Pt)) (layout : Layout)
+    → IsLaidOut want s i outlines (Ok layout) → layout.outlines ≡ outlines
 has_outlines Outlines s i outlines layout same = ap outlines_of same
 has_outlines Plan s i outlines layout laid = laid.0
 
-outlines_by : (passed : Option Budget) (want : Want) (s : Settings) (tree : Solid) (i : ℕ) (layout : Layout) → IsLayerUnless passed want s tree i (Ok layout) → AreLayerOutlines i s.layer_height tree layout.outlines
+outlines_by : (passed : Option Budget) (want : Want) (s : Settings) (tree : Solid) (i : ℕ) (layout : Layout)
+    → IsLayerUnless passed want s tree i (Ok layout) → AreLayerOutlines i s.layer_height tree layout.outlines
 outlines_by (Some budget) want s tree i layout same = let never : ⊥ = cc in absurd never
 outlines_by None want s tree i layout (outlines, of_tree, laid) =
     subst (AreLayerOutlines i s.layer_height tree) (sym (has_outlines want s i outlines layout laid)) of_tree
 
-layer_outlines : (want : Want) (s : Settings) (tree : Solid) (part : Part) (i : ℕ) (layout : Layout) → AreSolids tree → AreInRange s → IsPart want s tree part → part i ≡ Ok layout → AreLayerOutlines i s.layer_height tree (outlines_of (part i))
+layer_outlines : (want : Want) (s : Settings) (tree : Solid) (part : Part) (i : ℕ) (layout : Layout) → AreSolids tree
+    → AreInRange s → IsPart want s tree part → part i ≡ Ok layout
+    → AreLayerOutlines i s.layer_height tree (outlines_of (part i))
 layer_outlines want s tree part i layout solids range of_part is =
     subst (λ (l : Result Layout Budget). AreLayerOutlines i s.layer_height tree (outlines_of l)) (sym is)
     (outlines_by (layer_budget s.layer_height tree i) want s tree i layout
     (subst (λ (l : Result Layout Budget). IsLayer want s tree i l) is (of_part solids range i)))
 
-layer_holds : (want : Want) (s : Settings) (tree : Solid) (part : Part) (i : ℕ) (layout : Layout) → AreSolids tree → AreInRange s → IsPart want s tree part → part i ≡ Ok layout → IsLayerOf s.layer_height tree i (layer_at s.layer_height part i)
+layer_holds : (want : Want) (s : Settings) (tree : Solid) (part : Part) (i : ℕ) (layout : Layout) → AreSolids tree
+    → AreInRange s → IsPart want s tree part → part i ≡ Ok layout
+    → IsLayerOf s.layer_height tree i (layer_at s.layer_height part i)
 layer_holds want s tree part i layout solids range of_part is =
     record {
       z = refl;
-      centres = outlines_hold_centres i s.layer_height tree (outlines_of (part i)) (solids_closed tree solids) (layer_outlines want s tree part i layout solids range of_part is);
+      centres =
+          outlines_hold_centres i s.layer_height tree (outlines_of (part i)) (solids_closed tree solids)
+          (layer_outlines want s tree part i layout solids range of_part is);
     }
 
 pub parts_hold : PartsHold
@@ -67,8 +76,10 @@ parts_hold want s tree part solids range of_part made =
       each = λ i inside.
           let within : i < n = omega (arith, inside, number) in
           let found = made i within in
-          let there : slice_get (layers_of h part n) i ≡ Some (layer_at h part i) = made_at (layer_at h part) 0 n i within ∙ ap (λ k. Some (layer_at h part k)) (omega arith) in
-          subst (λ found. IsSomeAnd found (IsLayerOf h tree i)) (sym there) (layer_holds want s tree part i found.0 solids range of_part found.1);
+          let there : slice_get (layers_of h part n) i ≡ Some (layer_at h part i) =
+          made_at (layer_at h part) 0 n i within ∙ ap (λ k. Some (layer_at h part k)) (omega arith) in
+          subst (λ found. IsSomeAnd found (IsLayerOf h tree i)) (sym there)
+          (layer_holds want s tree part i found.0 solids range of_part found.1);
       above = λ i q more.
           let past : n ≤ i = omega (arith, more, number) in
           layers_hold.above tree h i q some past;

@@ -1,5 +1,6 @@
 -- Layers one after another: all are written, or one passes a budget.
-use Rattle.std.proofs.Common.{◌≡◌, ◌⊎◌, inl, inr, ◌+◌, ◌<◌, ◌++◌, List, [], ◌∷◌, ℕ, zero, suc, Result, Ok, Err, refl, sym, ap, ◌∙◌, arith, append_assoc}
+use Rattle.std.proofs.Common.{◌≡◌, ◌⊎◌, inl, inr, ◌+◌, ◌<◌, ◌++◌, List, [], ◌∷◌, ℕ, zero, suc, Result, Ok, Err, refl}
+use Rattle.std.proofs.Common.{sym, ap, ◌∙◌, arith, append_assoc}
 use Rattle.std.specs.Prelude.{flat_map}
 use Rattle.std.specs.List.{range_with_len}
 use Rattle.scad_fault.specs.declared.budget.Budget.{Budget}
@@ -14,7 +15,8 @@ use Rattle.scad_slice.specs.Parts.{AreMade}
 
 -- these steps and those, and then a script
 pub first_of_both : (a b : List Step) (rest : Script) → first a (first b rest) ≡ first (a ++ b) rest
-first_of_both a b rest = ap (λ steps. record { steps = steps; ending = rest.ending }) (sym (append_assoc a b rest.steps))
+first_of_both a b rest =
+    ap (λ steps. record { steps = steps; ending = rest.ending }) (sym (append_assoc a b rest.steps))
 
 -- the steps of a layer, none where it passes a budget
 abbrev pub steps_of : Result (List Step) Budget → List Step
@@ -33,7 +35,8 @@ pub record Passes (part : Part) (i n : ℕ) : Type 0 where
   pub budget : Budget
   pub passed : part (i + count) ≡ Err budget
 
-made_next : (part : Part) (i n : ℕ) (layout : Layout) → part i ≡ Ok layout → AreMadeFrom part (i + 1) n → AreMadeFrom part i (suc n)
+made_next : (part : Part) (i n : ℕ) (layout : Layout) → part i ≡ Ok layout → AreMadeFrom part (i + 1) n
+    → AreMadeFrom part i (suc n)
 made_next part i n layout is behind zero inside = (layout, ap part (omega arith) ∙ is)
 made_next part i n layout is behind (suc k) inside =
     let less : k < n = omega (arith, inside) in
@@ -55,21 +58,38 @@ module _ (want : Want) (rates : Rates) (part : Part) where
   abbrev pub Goes : ℕ → ℕ → Script → Type 0
   Goes i n rest =
       (AreMadeFrom part i n × (layers (layer_steps want rates part) i n rest ≡ first (written_from i n) rest))
-      ⊎ ((p : Passes part i n) × (layers (layer_steps want rates part) i n rest ≡ first (written_from i p.count) (ends (Refuses (Over p.budget)))))
+      ⊎ ((p : Passes part i n)
+      × (layers (layer_steps want rates part) i n rest
+      ≡ first (written_from i p.count) (ends (Refuses (Over p.budget)))))
 
   -- one layer and those behind it
-  one_more : (i n : ℕ) (rest end : Script) (layout : Layout) (steps : List Step) → part i ≡ Ok layout → layers (layer_steps want rates part) (i + 1) n rest ≡ first steps end
-      → layers (layer_steps want rates part) i (suc n) rest ≡ first (steps_of (layer_steps want rates part i) ++ steps) end
+  one_more : (i n : ℕ) (rest end : Script) (layout : Layout) (steps : List Step) → part i ≡ Ok layout
+      → layers (layer_steps want rates part) (i + 1) n rest ≡ first steps end
+      → layers (layer_steps want rates part) i (suc n) rest
+      ≡ first (steps_of (layer_steps want rates part i) ++ steps) end
   one_more i n rest end layout steps is same =
-      ap (λ l. layer_then (written_unless want rates (volume_below want rates part i) i l) (layers (layer_steps want rates part) (i + 1) n rest)) is
-      ∙ ap (λ l. first (steps_of (written_unless want rates (volume_below want rates part i) i l)) (layers (layer_steps want rates part) (i + 1) n rest)) (sym is)
+      ap (λ l. layer_then (written_unless want rates (volume_below want rates part i) i l)
+      (layers (layer_steps want rates part) (i + 1) n rest)) is
+      ∙ ap (λ l. first (steps_of (written_unless want rates (volume_below want rates part i) i l))
+      (layers (layer_steps want rates part) (i + 1) n rest)) (sym is)
       ∙ ap (λ s. first (steps_of (layer_steps want rates part i)) s) same
       ∙ first_of_both (steps_of (layer_steps want rates part i)) steps end
 
-  goes_next : (i n : ℕ) (rest : Script) (found : Result Layout Budget) → part i ≡ found → Goes (i + 1) n rest → Goes i (suc n) rest
+  goes_next : (i n : ℕ) (rest : Script) (found : Result Layout Budget) → part i ≡ found → Goes (i + 1) n rest
+      → Goes i (suc n) rest
   goes_next i n rest (Err budget) is behind = inr (
-    record { count = 0; inside = omega arith; made = λ k less. absurd (omega (arith, less)); budget = budget; passed = ap part (omega arith) ∙ is },
-    ap (λ l. layer_then (written_unless want rates (volume_below want rates part i) i l) (layers (layer_steps want rates part) (i + 1) n rest)) is,
+    record {
+      count =
+          0;
+      inside =
+          omega arith;
+      made =
+          λ k less. absurd (omega (arith, less));
+      budget = budget;
+      passed = ap part (omega arith) ∙ is;
+    },
+    ap (λ l. layer_then (written_unless want rates (volume_below want rates part i) i l)
+        (layers (layer_steps want rates part) (i + 1) n rest)) is,
   )
   goes_next i n rest (Ok layout) is (inl (made, same)) = inl (
     made_next part i n layout is made,
@@ -93,7 +113,8 @@ module _ (want : Want) (rates : Rates) (part : Part) where
   goes i (suc n) rest = goes_next i n rest (part i) refl (goes (i + 1) n rest)
 
   -- where none passes a budget all are written
-  pub all_go : (i n : ℕ) (rest : Script) → AreMadeFrom part i n → layers (layer_steps want rates part) i n rest ≡ first (written_from i n) rest
+  pub all_go : (i n : ℕ) (rest : Script) → AreMadeFrom part i n
+      → layers (layer_steps want rates part) i n rest ≡ first (written_from i n) rest
   all_go i n rest made = by_either (goes i n rest)
     where
       by_either : Goes i n rest → layers (layer_steps want rates part) i n rest ≡ first (written_from i n) rest

@@ -1,5 +1,6 @@
 -- The scripts of both commands only draw, and keep what holds of every command's steps.
-use Rattle.std.proofs.Common.{◌≡◌, ◌≢◌, ◌++◌, List, [], ◌∷◌, ℕ, Bool, true, false, Option, Some, None, Result, Ok, Err, nat_lt, arith}
+use Rattle.std.proofs.Common.{◌≡◌, ◌≢◌, ◌++◌, List, [], ◌∷◌, ℕ, Bool, true, false, Option, Some, None, Result, Ok, Err}
+use Rattle.std.proofs.Common.{nat_lt, arith}
 use Rattle.std.specs.Prelude.{IfOk, if◌then◌else◌}
 use Rattle.cli_text.specs.Cli as outline
 use Rattle.gcode_text.specs.Gcode as program
@@ -31,7 +32,8 @@ record DrawsOn (given : Given) (s : Script) : Type 0 where
   draws : Draws given s.steps
   there : s.ending ≢ Lacks
 
-only_sends : (want : Want) (rates : Rates) (volume i : ℕ) (layer : Result Layout Budget) → IfOk (written_unless want rates volume i layer) OnlySends
+only_sends : (want : Want) (rates : Rates) (volume i : ℕ) (layer : Result Layout Budget)
+    → IfOk (written_unless want rates volume i layer) OnlySends
 only_sends Outlines rates volume i (Ok layout) = tt
 only_sends Plan rates volume i (Ok layout) = tt
 only_sends Outlines rates volume i (Err budget) = tt
@@ -44,17 +46,23 @@ module _ (given : Given) (s : Settings) (part : Part) (count : ℕ) (line : List
     there = λ same. let never : ⊥ = cc in absurd never;
   }
   tails_draw Plan = record {
-    draws = piece_draws given Cli outline.geometry_end _ tt (piece_draws given Gcode program.end [] tt (record { order = tt; stand = tt }));
+    draws =
+        piece_draws given Cli outline.geometry_end _ tt
+        (piece_draws given Gcode program.end [] tt (record { order = tt; stand = tt }));
     there = λ same. let never : ⊥ = cc in absurd never;
   }
 
-  all_draw : (want : Want) → DrawsOn given (layers (layer_steps want (rates_of s) part) 0 count (first (tails want) (ends (Finishes line))))
+  all_draw : (want : Want) → DrawsOn given
+      (layers (layer_steps want (rates_of s) part) 0 count (first (tails want) (ends (Finishes line))))
   all_draw want =
       let end = tails_draw want in
       record {
-        draws = layers_draw given (layer_steps want (rates_of s) part) 0 count (first (tails want) (ends (Finishes line)))
+        draws =
+            layers_draw given (layer_steps want (rates_of s) part) 0 count (first (tails want) (ends (Finishes line)))
             (λ k. only_sends want (rates_of s) (volume_below want (rates_of s) part k) k (part k)) end.draws;
-        there = layers_lack (layer_steps want (rates_of s) part) 0 count (first (tails want) (ends (Finishes line))) end.there;
+        there =
+            layers_lack (layer_steps want (rates_of s) part) 0 count (first (tails want) (ends (Finishes line)))
+            end.there;
       }
 
   files_draw : (want : Want) → DrawsOn given (files want s part count (ends (Finishes line)))
@@ -64,7 +72,9 @@ module _ (given : Given) (s : Settings) (part : Part) (count : ℕ) (line : List
   files_draw Plan =
       let behind = all_draw Plan in
       record {
-        draws = piece_draws given Cli (outline.head count) _ tt (piece_draws given Gcode (program.head s.hot_end s.bed) _ tt behind.draws);
+        draws =
+            piece_draws given Cli (outline.head count) _ tt
+            (piece_draws given Gcode (program.head s.hot_end s.bed) _ tt behind.draws);
         there = behind.there;
       }
 
@@ -86,28 +96,53 @@ in_order given s on = record { order = from_later s.steps on.draws.order; stand 
 
 unless_many_draws : (given : Given) (count : ℕ) (script : Script) (many : Bool) → DrawsInOrder given script
     → DrawsInOrder given (if many then ends (Refuses (Over (layers_passed count))) else script)
-unless_many_draws given count script true draws = record { order = tt; stand = tt; there = λ same. let never : ⊥ = cc in absurd never }
+unless_many_draws given count script true draws =
+    record { order = tt; stand = tt; there = λ same. let never : ⊥ = cc in absurd never }
 unless_many_draws given count script false draws = draws
 
-pub slice_draws : (s : Settings) (given : Given) (cli : List ℕ) (part : Part) (tree : Solid) → given.cli ≡ Some cli → DrawsInOrder given (slice_script s cli part tree)
+pub slice_draws : (s : Settings) (given : Given) (cli : List ℕ) (part : Part) (tree : Solid) → given.cli ≡ Some cli
+    → DrawsInOrder given (slice_script s cli part tree)
 slice_draws s given cli part tree named =
     let count = layer_count s.layer_height tree in
     let behind = files_draw given s part count _ Outlines in
-    unless_many_draws given count (first (Makes Cli cli ∷ []) (files Outlines s part count (slice_end part count))) (nat_lt layer_limit count)
+    unless_many_draws given count (first (Makes Cli cli ∷ []) (files Outlines s part count (slice_end part count)))
+    (nat_lt layer_limit count)
     (in_order given _ (record {
-      draws = record { order = (omega arith, behind.draws.order); stand = (record { order = behind.draws.order; name = named; filled = outlines_some count _ }, behind.draws.stand) };
+      draws =
+          record {
+            order =
+                (omega arith, behind.draws.order);
+            stand =
+                (record { order = behind.draws.order; name = named; filled = outlines_some count _ }, behind.draws.stand);
+          };
       there = behind.there;
     }))
 
-pub plan_draws : (s : Settings) (given : Given) (cli gcode : List ℕ) (part : Part) (tree : Solid) → given.cli ≡ Some cli → given.gcode ≡ Some gcode → DrawsInOrder given (plan_script s cli gcode part tree)
+pub plan_draws : (s : Settings) (given : Given) (cli gcode : List ℕ) (part : Part) (tree : Solid) → given.cli ≡ Some cli
+    → given.gcode ≡ Some gcode → DrawsInOrder given (plan_script s cli gcode part tree)
 plan_draws s given cli gcode part tree named called =
     let count = layer_count s.layer_height tree in
     let behind = files_draw given s part count _ Plan in
     let program : Draws given (first (Makes Gcode gcode ∷ []) (files Plan s part count (plan_end s part count))).steps =
-    record { order = (omega arith, behind.draws.order); stand = (record { order = behind.draws.order; name = called; filled = program_some s.hot_end s.bed _ }, behind.draws.stand) }
+    record {
+      order =
+          (omega arith, behind.draws.order);
+      stand = (
+        record { order = behind.draws.order; name = called; filled = program_some s.hot_end s.bed _ },
+        behind.draws.stand,
+      );
+    }
     in
-    unless_many_draws given count (first (Makes Cli cli ∷ []) (first (Makes Gcode gcode ∷ []) (files Plan s part count (plan_end s part count)))) (nat_lt layer_limit count)
+    unless_many_draws given count
+    (first (Makes Cli cli ∷ []) (first (Makes Gcode gcode ∷ []) (files Plan s part count (plan_end s part count))))
+    (nat_lt layer_limit count)
     (in_order given _ (record {
-      draws = record { order = (omega arith, program.order); stand = (record { order = program.order; name = named; filled = outlines_some count _ }, program.stand) };
+      draws =
+          record {
+            order =
+                (omega arith, program.order);
+            stand =
+                (record { order = program.order; name = named; filled = outlines_some count _ }, program.stand);
+          };
       there = behind.there;
     }))

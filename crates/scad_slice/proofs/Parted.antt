@@ -1,5 +1,7 @@
--- How the script of a command goes: it is refused for the tree's number of layers, or a layer ends it, or it goes to its end.
-use Rattle.std.proofs.Common.{◌≡◌, ◌⊎◌, inl, inr, ◌<◌, ◌≤◌, ◌+◌, List, [], ◌∷◌, ℕ, Bool, true, false, Option, Some, None, Result, Ok, Err, refl, sym, ap, ◌∙◌, subst, nat_lt, rules, arith}
+-- How the script of a command goes: it is refused for the tree's number of layers, or a layer ends it, or it goes to
+-- its end.
+use Rattle.std.proofs.Common.{◌≡◌, ◌⊎◌, inl, inr, ◌<◌, ◌≤◌, ◌+◌, List, [], ◌∷◌, ℕ, Bool, true, false, Option, Some}
+use Rattle.std.proofs.Common.{None, Result, Ok, Err, refl, sym, ap, ◌∙◌, subst, nat_lt, rules, arith}
 use Rattle.std.proofs.lemmas.Bool.Decides.{nat_tests}
 use Rattle.std.specs.Prelude.{unwrap_or, if◌then◌else◌}
 use Rattle.scad_fault.specs.declared.budget.Budget.{Budget}
@@ -21,16 +23,19 @@ use Rattle.slice_work.specs.declared.want.Want.TheVariants.{Outlines, Plan}
 use Rattle.slice_work.specs.Part.{Layout, Part, layer_limit}
 use Rattle.slice_work.specs.Script.{rates_of, layer_steps}
 use Rattle.slice_work.specs.Sums.{loop_count, moves_below}
-use Rattle.scad_slice.specs.Budgets.{layer_count, layers_passed, edges_passed, crossings_passed, moves_passed, layer_budget, plan_budget}
+use Rattle.scad_slice.specs.Budgets.{layer_count, layers_passed, edges_passed, crossings_passed, moves_passed}
+use Rattle.scad_slice.specs.Budgets.{layer_budget, plan_budget}
 use Rattle.scad_slice.specs.Parts.{IsLaidOut, IsLayerUnless, IsPart, AreMade}
-use Rattle.scad_slice.specs.Script.{heads, tails, files, unless_many, done_line, plan_line, amount_below, slice_end, plan_end, slice_script, plan_script}
+use Rattle.scad_slice.specs.Script.{heads, tails, files, unless_many, done_line, plan_line, amount_below, slice_end}
+use Rattle.scad_slice.specs.Script.{plan_end, slice_script, plan_script}
 use Rattle.scad_slice.specs.Laws.{IsWhole}
 use Rattle.scad_slice.proofs.Layers.{written_from, Goes, goes, made_all, all_go, made_from}
 
 -- the outputs are created, and the heads and n layers written
 abbrev pub begun : Want → Settings → List Step → Part → Solid → ℕ → Script → Script
 begun want s creates part tree n rest =
-    first creates (first (heads want s (layer_count s.layer_height tree)) (first (written_from want (rates_of s) part 0 n) rest))
+    first creates
+    (first (heads want s (layer_count s.layer_height tree)) (first (written_from want (rates_of s) part 0 n) rest))
 
 -- the script that creates these outputs and ends with this line
 abbrev pub command_script : Want → Settings → List Step → List ℕ → Part → Solid → Script
@@ -48,7 +53,8 @@ module _ (want : Want) (s : Settings) (creates : List Step) (line : List ℕ) (p
   -- the tree has too many layers
   pub record HasMany : Type 0 where
     pub many : layer_limit < layer_count s.layer_height tree
-    pub script : command_script want s creates line part tree ≡ ends (Refuses (Over (layers_passed (layer_count s.layer_height tree))))
+    pub script : command_script want s creates line part tree
+        ≡ ends (Refuses (Over (layers_passed (layer_count s.layer_height tree))))
 
   -- all layers are written
   pub record IsDone : Type 0 where
@@ -64,15 +70,21 @@ module _ (want : Want) (s : Settings) (creates : List Step) (line : List ℕ) (p
     pub made : AreMade part layer
     pub budget : Budget
     pub passed : part layer ≡ Err budget
-    pub script : command_script want s creates line part tree ≡ begun want s creates part tree layer (ends (Refuses (Over budget)))
+    pub script : command_script want s creates line part tree
+        ≡ begun want s creates part tree layer (ends (Refuses (Over budget)))
 
   -- where there are not too many layers they are written
-  within_limit : nat_lt layer_limit (layer_count s.layer_height tree) ≡ false → command_script want s creates line part tree ≡ first creates (files want s part (layer_count s.layer_height tree) (ends (Finishes line)))
+  within_limit : nat_lt layer_limit (layer_count s.layer_height tree) ≡ false
+      → command_script want s creates line part tree ≡ first creates
+      (files want s part (layer_count s.layer_height tree) (ends (Finishes line)))
   within_limit is =
-      ap (λ b. if b then ends (Refuses (Over (layers_passed (layer_count s.layer_height tree)))) else first creates (files want s part (layer_count s.layer_height tree) (ends (Finishes line)))) is
+      ap (λ b. if b then ends (Refuses (Over (layers_passed (layer_count s.layer_height tree)))) else first creates
+      (files want s part (layer_count s.layer_height tree) (ends (Finishes line)))) is
 
-  then_layers : (n : ℕ) (steps : List Step) (end : Script) → layers (layer_steps want (rates_of s) part) 0 n (first (tails want) (ends (Finishes line))) ≡ first steps end
-      → first creates (files want s part n (ends (Finishes line))) ≡ first creates (first (heads want s n) (first steps end))
+  then_layers : (n : ℕ) (steps : List Step) (end : Script)
+      → layers (layer_steps want (rates_of s) part) 0 n (first (tails want) (ends (Finishes line))) ≡ first steps end
+      → first creates (files want s part n (ends (Finishes line)))
+      ≡ first creates (first (heads want s n) (first steps end))
   then_layers n steps end same = ap (λ rest. first creates (first (heads want s n) rest)) same
 
   script_by : (many : Bool) → nat_lt layer_limit (layer_count s.layer_height tree) ≡ many
@@ -81,12 +93,17 @@ module _ (want : Want) (s : Settings) (creates : List Step) (line : List ℕ) (p
   script_by true is go =
       inl (record {
         many = search (rules, arith);
-        script = ap (λ b. if b then ends (Refuses (Over (layers_passed (layer_count s.layer_height tree)))) else first creates (files want s part (layer_count s.layer_height tree) (ends (Finishes line)))) is;
+        script =
+            ap (λ b. if b then ends (Refuses (Over (layers_passed (layer_count s.layer_height tree)))) else first
+            creates (files want s part (layer_count s.layer_height tree) (ends (Finishes line)))) is;
       })
   script_by false is (inl (made, same)) =
       inr (inl (record {
         whole = record { few = search (rules, arith); made = made_all part (layer_count s.layer_height tree) made };
-        script = within_limit is ∙ then_layers (layer_count s.layer_height tree) (written_from want (rates_of s) part 0 (layer_count s.layer_height tree)) (first (tails want) (ends (Finishes line))) same;
+        script =
+            within_limit is ∙ then_layers (layer_count s.layer_height tree)
+            (written_from want (rates_of s) part 0 (layer_count s.layer_height tree))
+            (first (tails want) (ends (Finishes line))) same;
       }))
   script_by false is (inr (p, same)) =
       inr (inr (record {
@@ -96,7 +113,9 @@ module _ (want : Want) (s : Settings) (creates : List Step) (line : List ℕ) (p
         made = made_all part p.count p.made;
         budget = p.budget;
         passed = ap part (omega arith) ∙ p.passed;
-        script = within_limit is ∙ then_layers (layer_count s.layer_height tree) (written_from want (rates_of s) part 0 p.count) (ends (Refuses (Over p.budget))) same;
+        script =
+            within_limit is ∙ then_layers (layer_count s.layer_height tree)
+            (written_from want (rates_of s) part 0 p.count) (ends (Refuses (Over p.budget))) same;
       }))
 
   pub script_goes : HasMany ⊎ (IsDone ⊎ IsCut)
@@ -125,21 +144,31 @@ slice_line s part tree = let n = layer_count s.layer_height tree in done_line n 
 
 abbrev pub line_of_plan : Settings → Part → Solid → List ℕ
 line_of_plan s part tree =
-    let n = layer_count s.layer_height tree in plan_line n (loop_count part n) (moves_below Plan part n) (amount_below s part n)
+    let n =
+    layer_count s.layer_height tree in plan_line n (loop_count part n) (moves_below Plan part n)
+    (amount_below s part n)
 
-pub slice_is : (s : Settings) (cli : List ℕ) (part : Part) (tree : Solid) → slice_script s cli part tree ≡ command_script Outlines s (slice_creates cli) (slice_line s part tree) part tree
+pub slice_is : (s : Settings) (cli : List ℕ) (part : Part) (tree : Solid)
+    → slice_script s cli part tree ≡ command_script Outlines s (slice_creates cli) (slice_line s part tree) part tree
 slice_is s cli part tree = refl
 
-pub plan_is : (s : Settings) (cli gcode : List ℕ) (part : Part) (tree : Solid) → plan_script s cli gcode part tree ≡ command_script Plan s (plan_creates cli gcode) (line_of_plan s part tree) part tree
+pub plan_is : (s : Settings) (cli gcode : List ℕ) (part : Part) (tree : Solid)
+    → plan_script s cli gcode part tree ≡ command_script Plan s (plan_creates cli gcode) (line_of_plan s part tree) part
+    tree
 plan_is s cli gcode part tree = refl
 
-pub slice_few : (s : Settings) (cli : List ℕ) (part : Part) (tree : Solid) → layer_count s.layer_height tree ≤ layer_limit
-    → slice_script s cli part tree ≡ first (Makes Cli cli ∷ []) (files Outlines s part (layer_count s.layer_height tree) (slice_end part (layer_count s.layer_height tree)))
+pub slice_few : (s : Settings) (cli : List ℕ) (part : Part) (tree : Solid)
+    → layer_count s.layer_height tree ≤ layer_limit
+    → slice_script s cli part tree ≡ first (Makes Cli cli ∷ [])
+    (files Outlines s part (layer_count s.layer_height tree) (slice_end part (layer_count s.layer_height tree)))
 slice_few s cli part tree few = unless_few (layer_count s.layer_height tree) _ few
 
-pub plan_few : (s : Settings) (cli gcode : List ℕ) (part : Part) (tree : Solid) → layer_count s.layer_height tree ≤ layer_limit
+pub plan_few : (s : Settings) (cli gcode : List ℕ) (part : Part) (tree : Solid)
+    → layer_count s.layer_height tree ≤ layer_limit
     → plan_script s cli gcode part tree
-    ≡ first (Makes Cli cli ∷ []) (first (Makes Gcode gcode ∷ []) (files Plan s part (layer_count s.layer_height tree) (plan_end s part (layer_count s.layer_height tree))))
+    ≡ first (Makes Cli cli ∷ [])
+    (first (Makes Gcode gcode ∷ [])
+    (files Plan s part (layer_count s.layer_height tree) (plan_end s part (layer_count s.layer_height tree))))
 plan_few s cli gcode part tree few = unless_few (layer_count s.layer_height tree) _ few
 
 -- ---- the budget that a layer passes
@@ -162,15 +191,21 @@ of_crossings : (want : Want) (i crossed : ℕ) → IsOfLayer want i (crossings_p
 of_crossings Outlines i crossed = record { kind = inr refl; layer = refl }
 of_crossings Plan i crossed = record { kind = inr (inl refl); layer = refl }
 
-held : (want : Want) (i : ℕ) (found budget : Budget) → Some found ≡ Some budget → IsOfLayer want i found → IsOfLayer want i budget
+held : (want : Want) (i : ℕ) (found budget : Budget) → Some found ≡ Some budget → IsOfLayer want i found
+    → IsOfLayer want i budget
 held want i found budget same is = subst (IsOfLayer want i) (ap (λ o. unwrap_or o found) same) is
 
-outlines_by : (want : Want) (i edges crossed : ℕ) (a b : Bool) (budget : Budget) → (if a then Some (edges_passed i edges) else if b then Some (crossings_passed i crossed) else None) ≡ Some budget → IsOfLayer want i budget
-outlines_by want i edges crossed true b budget same = held want i (edges_passed i edges) budget same (of_edges want i edges)
-outlines_by want i edges crossed false true budget same = held want i (crossings_passed i crossed) budget same (of_crossings want i crossed)
+outlines_by : (want : Want) (i edges crossed : ℕ) (a b : Bool) (budget : Budget)
+    → (if a then Some (edges_passed i edges) else if b then Some (crossings_passed i crossed) else None) ≡ Some budget
+    → IsOfLayer want i budget
+outlines_by want i edges crossed true b budget same =
+    held want i (edges_passed i edges) budget same (of_edges want i edges)
+outlines_by want i edges crossed false true budget same =
+    held want i (crossings_passed i crossed) budget same (of_crossings want i crossed)
 outlines_by want i edges crossed false false budget same = let never : ⊥ = cc in absurd never
 
-outlines_budget : (want : Want) (h : ℕ) (tree : Solid) (i : ℕ) (budget : Budget) → layer_budget h tree i ≡ Some budget → IsOfLayer want i budget
+outlines_budget : (want : Want) (h : ℕ) (tree : Solid) (i : ℕ) (budget : Budget) → layer_budget h tree i ≡ Some budget
+    → IsOfLayer want i budget
 unfolding layer_budget
 outlines_budget want h tree i budget passed = outlines_by want i _ _ _ _ budget passed
 
@@ -178,19 +213,26 @@ of_plan : (i : ℕ) (fault : PlanFault) (budget : Budget) → plan_budget i faul
 of_plan i Memory budget passed = let never : ⊥ = cc in absurd never
 of_plan i (Edges n) budget passed = held Plan i (edges_passed i n) budget passed (of_edges Plan i n)
 of_plan i (Crossings n) budget passed = held Plan i (crossings_passed i n) budget passed (of_crossings Plan i n)
-of_plan i (Moves n) budget passed = held Plan i (moves_passed i n) budget passed (record { kind = inr (inr refl); layer = refl })
+of_plan i (Moves n) budget passed =
+    held Plan i (moves_passed i n) budget passed (record { kind = inr (inr refl); layer = refl })
 
-laid_out_by : (want : Want) (s : Settings) (i : ℕ) (outlines : List (List Pt)) (budget : Budget) → IsLaidOut want s i outlines (Err budget) → IsOfLayer want i budget
+laid_out_by : (want : Want) (s : Settings) (i : ℕ) (outlines : List (List Pt)) (budget : Budget)
+    → IsLaidOut want s i outlines (Err budget) → IsOfLayer want i budget
 laid_out_by Outlines s i outlines budget same = let never : ⊥ = cc in absurd never
 laid_out_by Plan s i outlines budget refused = of_plan i refused.fault budget refused.passed
 
-layer_by : (want : Want) (s : Settings) (tree : Solid) (i : ℕ) (budget : Budget) (passed : Option Budget) → layer_budget s.layer_height tree i ≡ passed → IsLayerUnless passed want s tree i (Err budget) → IsOfLayer want i budget
+layer_by : (want : Want) (s : Settings) (tree : Solid) (i : ℕ) (budget : Budget) (passed : Option Budget)
+    → layer_budget s.layer_height tree i ≡ passed → IsLayerUnless passed want s tree i (Err budget)
+    → IsOfLayer want i budget
 layer_by want s tree i budget (Some other) is same =
-    let one : other ≡ budget = sym (ap (λ (l : Result Layout Budget). elim l [ Ok layout ↦ budget | Err b ↦ b ]) same) in
+    let one : other ≡ budget =
+    sym (ap (λ (l : Result Layout Budget). elim l [ Ok layout ↦ budget | Err b ↦ b ]) same) in
     subst (IsOfLayer want i) one (outlines_budget want s.layer_height tree i other is)
 layer_by want s tree i budget None is (outlines, of_tree, laid) = laid_out_by want s i outlines budget laid
 
-pub budget_of_layer : (want : Want) (s : Settings) (tree : Solid) (part : Part) (i : ℕ) (budget : Budget) → AreSolids tree → AreInRange s → IsPart want s tree part → part i ≡ Err budget → IsOfLayer want i budget
+pub budget_of_layer : (want : Want) (s : Settings) (tree : Solid) (part : Part) (i : ℕ) (budget : Budget)
+    → AreSolids tree → AreInRange s → IsPart want s tree part → part i ≡ Err budget → IsOfLayer want i budget
 budget_of_layer want s tree part i budget solids range of_part passed =
     layer_by want s tree i budget (layer_budget s.layer_height tree i) refl
-    (subst (λ (l : Result Layout Budget). IsLayerUnless (layer_budget s.layer_height tree i) want s tree i l) passed (of_part solids range i))
+    (subst (λ (l : Result Layout Budget). IsLayerUnless (layer_budget s.layer_height tree i) want s tree i l) passed
+    (of_part solids range i))

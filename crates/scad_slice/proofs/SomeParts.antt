@@ -1,5 +1,6 @@
 -- Every tree has a part.
-use Rattle.std.proofs.Common.{◌≡◌, ◌≢◌, ◌⊎◌, ◌≤◌, inl, inr, refl, ap, sym, ℕ, List, [], ◌∷◌, Bool, true, false, Option, Some, None, Result, Ok, Err, rules, arith}
+use Rattle.std.proofs.Common.{◌≡◌, ◌≢◌, ◌⊎◌, ◌≤◌, inl, inr, refl, ap, sym, ℕ, List, [], ◌∷◌, Bool, true, false, Option}
+use Rattle.std.proofs.Common.{Some, None, Result, Ok, Err, rules, arith}
 use Rattle.std.specs.Prelude.{nat_le}
 use Rattle.std.specs.List.{AllByRecursion, list_all}
 use Rattle.std.proofs.lemmas.List.Elements.{recursion_from_All, All-from_recursion}
@@ -41,7 +42,8 @@ decided_as to back (inl a) = inl (to a)
 decided_as to back (inr never) = inr (λ b. never (back b))
 
 -- whether the surfaces of a tree bound solids
-solid_by : (ts : List Triangle) (closed within : Bool) → is_closed ts ≡ closed → list_all is_triangle_in_range ts ≡ within → IsSolid ts ⊎ (IsSolid ts → ⊥)
+solid_by : (ts : List Triangle) (closed within : Bool) → is_closed ts ≡ closed
+    → list_all is_triangle_in_range ts ≡ within → IsSolid ts ⊎ (IsSolid ts → ⊥)
 solid_by ts true true c w = inl (record { closed = c; in_range = w })
 solid_by ts true false c w = inr (λ solid. let yes = solid.in_range in let no_way : ⊥ = cc in absurd no_way)
 solid_by ts false within c w = inr (λ solid. let yes = solid.closed in let no_way : ⊥ = cc in absurd no_way)
@@ -51,7 +53,9 @@ solids_by [] = inl tt
 solids_by (ts ∷ all) = both (solid_by ts (is_closed ts) (list_all is_triangle_in_range ts) refl refl) (solids_by all)
 
 solids_or_not : (tree : Solid) → AreSolids tree ⊎ (AreSolids tree → ⊥)
-solids_or_not tree = decided_as (All-from_recursion IsSolid (surfaces tree)) (recursion_from_All IsSolid (surfaces tree)) (solids_by (surfaces tree))
+solids_or_not tree =
+    decided_as (All-from_recursion IsSolid (surfaces tree)) (recursion_from_All IsSolid (surfaces tree))
+    (solids_by (surfaces tree))
 
 -- whether settings are in range
 at_most_by : (a b : ℕ) (found : Bool) → nat_le a b ≡ found → (a ≤ b) ⊎ ((a ≤ b) → ⊥)
@@ -77,39 +81,54 @@ range_or_not s =
       travel_feed = all.1.1.1.1.1.1.1.0;
       walls = all.1.1.1.1.1.1.1.1;
     })
-    (λ r. (r.bed, (r.filament_area, (r.hot_end, (r.infill_spacing, (r.layer_height, (r.line_width, (r.print_feed, (r.travel_feed, r.walls)))))))))
+    (λ r. (
+      r.bed,
+      (
+        r.filament_area,
+        (r.hot_end, (r.infill_spacing, (r.layer_height, (r.line_width, (r.print_feed, (r.travel_feed, r.walls)))))),
+      ),
+    ))
     (both (within_or_not row.bed s.bed)
     (both (within_or_not row.filament_area s.filament_area)
     (both (within_or_not row.hot_end s.hot_end)
     (both (within_or_not row.infill_spacing s.infill_spacing)
     (both (within_or_not row.layer_height s.layer_height)
     (both (within_or_not row.line_width s.line_width)
-    (both (within_or_not row.print_feed s.print_feed) (both (within_or_not row.travel_feed s.travel_feed) (within_or_not row.walls s.walls)))))))))
+    (both (within_or_not row.print_feed s.print_feed)
+    (both (within_or_not row.travel_feed s.travel_feed) (within_or_not row.walls s.walls)))))))))
 
 -- ---- a layer
 
-refused_out : (s : Settings) (i : ℕ) (outlines : List (List Pt)) (fault : PlanFault) → IsRefused outlines i s fault → (layer : Result Layout Budget) × IsLaidOut Plan s i outlines layer
+refused_out : (s : Settings) (i : ℕ) (outlines : List (List Pt)) (fault : PlanFault) → IsRefused outlines i s fault
+    → (layer : Result Layout Budget) × IsLaidOut Plan s i outlines layer
 refused_out s i outlines Memory refused = absurd (refused.known refl)
-refused_out s i outlines (Edges n) refused = (Err (edges_passed i n), record { fault = Edges n; refused = refused; passed = refl })
-refused_out s i outlines (Crossings n) refused = (Err (crossings_passed i n), record { fault = Crossings n; refused = refused; passed = refl })
-refused_out s i outlines (Moves n) refused = (Err (moves_passed i n), record { fault = Moves n; refused = refused; passed = refl })
+refused_out s i outlines (Edges n) refused =
+    (Err (edges_passed i n), record { fault = Edges n; refused = refused; passed = refl })
+refused_out s i outlines (Crossings n) refused =
+    (Err (crossings_passed i n), record { fault = Crossings n; refused = refused; passed = refl })
+refused_out s i outlines (Moves n) refused =
+    (Err (moves_passed i n), record { fault = Moves n; refused = refused; passed = refl })
 
-planned_out : (s : Settings) (i : ℕ) (outlines : List (List Pt)) → HasAccepted outlines i s ⊎ HasRefusal outlines i s → (layer : Result Layout Budget) × IsLaidOut Plan s i outlines layer
+planned_out : (s : Settings) (i : ℕ) (outlines : List (List Pt)) → HasAccepted outlines i s ⊎ HasRefusal outlines i s
+    → (layer : Result Layout Budget) × IsLaidOut Plan s i outlines layer
 planned_out s i outlines (inl has) = (Ok (record { outlines = outlines; paths = has.paths }), (refl, has.accepted))
 planned_out s i outlines (inr has) = refused_out s i outlines has.fault has.refused
 
-laid_out : (want : Want) (s : Settings) (i : ℕ) (outlines : List (List Pt)) → (layer : Result Layout Budget) × IsLaidOut want s i outlines layer
+laid_out : (want : Want) (s : Settings) (i : ℕ) (outlines : List (List Pt)) → (layer : Result Layout Budget)
+    × IsLaidOut want s i outlines layer
 laid_out Outlines s i outlines = (Ok (record { outlines = outlines; paths = [] }), refl)
 laid_out Plan s i outlines = planned_out s i outlines (plans_are_decided outlines i s)
 
-layer_unless : (passed : Option Budget) (want : Want) (s : Settings) (tree : Solid) (i : ℕ) → AreSolids tree → (layer : Result Layout Budget) × IsLayerUnless passed want s tree i layer
+layer_unless : (passed : Option Budget) (want : Want) (s : Settings) (tree : Solid) (i : ℕ) → AreSolids tree
+    → (layer : Result Layout Budget) × IsLayerUnless passed want s tree i layer
 layer_unless (Some budget) want s tree i solids = (Err budget, refl)
 layer_unless None want s tree i solids =
     let has = layers_have_outlines i s.layer_height tree solids in
     let laid = laid_out want s i has.outlines in
     (laid.0, (has.outlines, has.are_outlines, laid.1))
 
-some_layer : (want : Want) (s : Settings) (tree : Solid) → AreSolids tree → (i : ℕ) → (layer : Result Layout Budget) × IsLayer want s tree i layer
+some_layer : (want : Want) (s : Settings) (tree : Solid) → AreSolids tree → (i : ℕ) → (layer : Result Layout Budget)
+    × IsLayer want s tree i layer
 some_layer want s tree solids i = layer_unless (layer_budget s.layer_height tree i) want s tree i solids
 
 -- ---- a part
@@ -117,8 +136,10 @@ some_layer want s tree solids i = layer_unless (layer_budget s.layer_height tree
 no_layout : Layout
 no_layout = record { outlines = []; paths = [] }
 
-part_by : (want : Want) (s : Settings) (tree : Solid) → AreSolids tree ⊎ (AreSolids tree → ⊥) → AreInRange s ⊎ (AreInRange s → ⊥) → (part : Part) × IsPart want s tree part
-part_by want s tree (inl solids) (inl range) = ((λ i. (some_layer want s tree solids i).0), (λ again within i. (some_layer want s tree solids i).1))
+part_by : (want : Want) (s : Settings) (tree : Solid) → AreSolids tree ⊎ (AreSolids tree → ⊥) → AreInRange s
+    ⊎ (AreInRange s → ⊥) → (part : Part) × IsPart want s tree part
+part_by want s tree (inl solids) (inl range) =
+    ((λ i. (some_layer want s tree solids i).0), (λ again within i. (some_layer want s tree solids i).1))
 part_by want s tree (inl solids) (inr never) = ((λ i. Ok no_layout), (λ again range. absurd (never range)))
 part_by want s tree (inr never) range = ((λ i. Ok no_layout), (λ solids. absurd (never solids)))
 

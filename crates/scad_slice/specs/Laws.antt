@@ -42,13 +42,15 @@ pub record IsWhole (s : Settings) (part : Part) (tree : Solid) : Type 0 where
 abbrev pub SlicesAreWhole : Type 0
 SlicesAreWhole =
     (s : Settings) (cli : List ℕ) (part : Part) (tree : Solid) → IsWhole s part tree
-    → text_of Cli (slice_script s cli part tree).steps ≡ outline.cli (layers_of s.layer_height part (layer_count s.layer_height tree))
+    → text_of Cli (slice_script s cli part tree).steps
+    ≡ outline.cli (layers_of s.layer_height part (layer_count s.layer_height tree))
 
 -- so does `plan`,
 abbrev pub PlansAreWhole : Type 0
 PlansAreWhole =
     (s : Settings) (cli gcode : List ℕ) (part : Part) (tree : Solid) → IsWhole s part tree
-    → text_of Cli (plan_script s cli gcode part tree).steps ≡ outline.cli (layers_of s.layer_height part (layer_count s.layer_height tree))
+    → text_of Cli (plan_script s cli gcode part tree).steps
+    ≡ outline.cli (layers_of s.layer_height part (layer_count s.layer_height tree))
 
 -- and the printing program of all plans
 abbrev pub ProgramsAreWhole : Type 0

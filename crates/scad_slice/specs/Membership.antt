@@ -7,8 +7,8 @@ use Rattle.slice_layer.specs.Membership.{HoldCentres}
 use Rattle.cli_text.specs.Cli.{Layer}
 use Rattle.scad_slice.specs.Budgets.{layer_count}
 
--- layer i: its upper surface, and at each cell centre that is clear of the tree's exact cuts by one micrometre, outlines
--- that wind once round the centre where the tree contains it, and not at all elsewhere
+-- layer i: its upper surface, and at each cell centre that is clear of the tree's exact cuts by one micrometre,
+-- outlines that wind once round the centre where the tree contains it, and not at all elsewhere
 pub record IsLayerOf (h : ℕ) (tree : Solid) (i : ℕ) (layer : Layer) : Type 0 where
   pub z : layer.z ≡ h * (i + 1)
   pub centres : HoldCentres i h tree layer.loops

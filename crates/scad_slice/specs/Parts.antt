@@ -1,5 +1,5 @@
--- What is drawn of a tree by settings: the outlines of each of its layers and, where it is wanted, the plan over them, or the
--- first budget that the layer passes.
+-- What is drawn of a tree by settings: the outlines of each of its layers and, where it is wanted, the plan over
+-- them, or the first budget that the layer passes.
 use Rattle.std.specs.Prelude.{◌≡◌, ◌<◌, ◌+◌, ◌*◌, ℕ, List, [], map, Option, Some, None, Result, Ok, Err}
 use Rattle.std.specs.List.{range_with_len}
 use Rattle.scad_fault.specs.declared.budget.Budget.{Budget}
@@ -39,7 +39,8 @@ IsLayerUnless None want s tree i layer =
 abbrev pub IsLayer : Want → Settings → Solid → ℕ → Result Layout Budget → Type 0
 IsLayer want s tree i layer = IsLayerUnless (layer_budget s.layer_height tree i) want s tree i layer
 
--- Each layer is the tree's, where its leaves bound solids and the settings are in range. Then a tree has one part (the laws).
+-- Each layer is the tree's, where its leaves bound solids and the settings are in range. Then a tree has one part
+-- (the laws).
 abbrev pub IsPart : Want → Settings → Solid → Part → Type 0
 IsPart want s tree part = AreSolids tree → AreInRange s → (i : ℕ) → IsLayer want s tree i (part i)
 

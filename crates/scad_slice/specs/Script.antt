@@ -32,8 +32,8 @@ abbrev pub tails : Want → List Step
 tails Outlines = Sends Cli outline.geometry_end ∷ []
 tails Plan = Sends Cli outline.geometry_end ∷ Sends Gcode program.end ∷ []
 
--- Heads, so many layers from the lowest upwards and ends, and then a script; the first layer that passes a budget ends both
--- files before its bytes.
+-- Heads, so many layers from the lowest upwards and ends, and then a script; the first layer that passes a budget
+-- ends both files before its bytes.
 abbrev pub files : Want → Settings → Part → ℕ → Script → Script
 files want s part count rest =
     first (heads want s count) (layers (layer_steps want (rates_of s) part) 0 count (first (tails want) rest))
@@ -66,7 +66,8 @@ done_line count loops = codes "done: " ++ decimal count ++ codes " layers, " ++ 
 -- `done: N layers, K loops, M moves, E e`, the amount of filament in millimetres
 unfoldable pub plan_line : ℕ → ℕ → ℕ → ℕ → List ℕ
 plan_line count loops moves e =
-    codes "done: " ++ decimal count ++ codes " layers, " ++ decimal loops ++ codes " loops, " ++ decimal moves ++ codes " moves, E "
+    codes "done: " ++ decimal count ++ codes " layers, " ++ decimal loops ++ codes " loops, " ++ decimal moves
+    ++ codes " moves, E "
     ++ fixed 5 e ++ codes "\n"
 
 -- the amount of filament behind the first n layers, in hundred-thousandths of a millimetre
@@ -78,7 +79,8 @@ abbrev pub slice_end : Part → ℕ → Script
 slice_end part count = ends (Finishes (done_line count (loop_count part count)))
 
 abbrev pub plan_end : Settings → Part → ℕ → Script
-plan_end s part count = ends (Finishes (plan_line count (loop_count part count) (moves_below Plan part count) (amount_below s part count)))
+plan_end s part count =
+    ends (Finishes (plan_line count (loop_count part count) (moves_below Plan part count) (amount_below s part count)))
 
 -- what follows the tree in `slice`: the file is created by its name and written
 abbrev pub slice_script : Settings → List ℕ → Part → Solid → Script
@@ -90,4 +92,5 @@ slice_script s cli part tree =
 abbrev pub plan_script : Settings → List ℕ → List ℕ → Part → Solid → Script
 plan_script s cli gcode part tree =
     let count = layer_count s.layer_height tree in
-    unless_many count (first (Makes Cli cli ∷ []) (first (Makes Gcode gcode ∷ []) (files Plan s part count (plan_end s part count))))
+    unless_many count
+    (first (Makes Cli cli ∷ []) (first (Makes Gcode gcode ∷ []) (files Plan s part count (plan_end s part count))))

@@ -17,7 +17,8 @@ pub fn count_layers(tree: &Tree, height: u32) -> Result<u32, Stop>
     ensures count { IfOk result (λ n. n ≡ layer_count height (solid_of tree.now)) }
     ensures few { IfOk result (λ n. n ≤ layer_limit) }
     ensures many { IfErr result (λ stop. layer_limit < layer_count height (solid_of tree.now)) }
-    ensures refused { IfErr result (λ stop. stop ≡ Stop.Ends (Over (layers_passed (layer_count height (solid_of tree.now))))) }
+    ensures refused { IfErr result (λ stop.
+        stop ≡ Stop.Ends (Over (layers_passed (layer_count height (solid_of tree.now))))) }
 {
     let layers = tree.layers(height);
     if layers > LAYER_LIMIT {

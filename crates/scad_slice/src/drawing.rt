@@ -23,12 +23,14 @@ use slice_work::{Summary, Want, WorkFault, work};
 use std::alloc::Global;
 use std::thread::Threads;
 
-/// Writes the files of a tree to outputs that are created: the heads, the layers from the lowest upwards, and the ends. The work
-/// on the layers is done by so many workers; the bytes and the answer are the same for every number of them.
+/// Writes the files of a tree to outputs that are created: the heads, the layers from the lowest upwards, and the
+/// ends. The work on the layers is done by so many workers; the bytes and the answer are the same for every number of
+/// them.
 ///
-/// Where the outlines alone are wanted, the printing program isn't written. A layer whose section has more than 20,000 edges, or
-/// then more than 2,000,000 crossings of edges, ends the files before its own bytes; with a plan so does one whose walls have
-/// too many edges or crossings, or then whose plan has too many moves. The answer is the budget of the lowest such layer.
+/// Where the outlines alone are wanted, the printing program isn't written. A layer whose section has more than
+/// 20,000 edges, or then more than 2,000,000 crossings of edges, ends the files before its own bytes; with a plan so
+/// does one whose walls have too many edges or crossings, or then whose plan has too many moves. The answer is the
+/// budget of the lowest such layer.
 pub fn draw<R: Threads + Sync, D: Desk, G: Gate>(
     rt: &R,
     alloc: Global,
@@ -47,7 +49,8 @@ pub fn draw<R: Threads + Sync, D: Desk, G: Gate>(
     requires there { AreThere want (D.view desk.old) }
 
     ensures carries { (part : _) → IsPart want settings.now (solid_of tree.now) part
-        → Carries (files want settings.now part (layer_count settings.now.layer_height (solid_of tree.now))) result (D.view desk.old) (D.view desk.new) }
+        → Carries (files want settings.now part (layer_count settings.now.layer_height (solid_of tree.now)))
+        result (D.view desk.old) (D.view desk.new) }
     ensures written { IfOk result (λ w. (part : _) → IsPart want settings.now (solid_of tree.now) part
         → IsWritten want settings.now part (layer_count settings.now.layer_height (solid_of tree.now)) w) }
     ensures sound { OnOk result (Sound (D.view desk.new)) }
@@ -85,8 +88,10 @@ fn send_layers<R: Threads + Sync, D: Desk, G: Gate>(
     requires there { AreThere want (D.view desk.old) }
 
     ensures carries { (part : _) → IsPart want settings.now (solid_of tree.now) part
-        → Carries (layers (layer_steps want (rates_of settings.now) part) 0 count) result (D.view desk.old) (D.view desk.new) }
-    ensures told { IfOk result (λ s. (part : _) → IsPart want settings.now (solid_of tree.now) part → IsSummary want (rates_of settings.now) part count s) }
+        → Carries (layers (layer_steps want (rates_of settings.now) part) 0 count)
+        result (D.view desk.old) (D.view desk.new) }
+    ensures told { IfOk result (λ s. (part : _) → IsPart want settings.now (solid_of tree.now) part
+        → IsSummary want (rates_of settings.now) part count s) }
     ensures sound { OnOk result (Sound (D.view desk.new)) }
     ensures creates { OnOk result (CreatesNone (D.view desk.old) (D.view desk.new)) }
     ensures files { D.files desk.new ≡ D.files desk.old }
@@ -98,7 +103,9 @@ fn send_layers<R: Threads + Sync, D: Desk, G: Gate>(
         settings: *settings,
         want,
     };
-    match work(rt, alloc, count, &layers, settings, want, workers, desk, gate) {
+    match work(
+        rt, alloc, count, &layers, settings, want, workers, desk, gate,
+    ) {
         Ok(told) => Ok(told),
         Err(fault) => Err(stop_of(fault)),
     }
@@ -117,14 +124,17 @@ fn stop_of(fault: WorkFault) -> Stop
 // What is told of the layers, with the bytes of heads and ends. No memory holds more than the numbers count.
 fn written(told: Summary, heads: Sizes, tails: Sizes) -> Option<Written>
     ensures { IfSome result (λ w. w ≡ record {
-        summary = told;
-        cli = heads.cli + told.cli + tails.cli;
-        gcode = heads.gcode + told.gcode + tails.gcode;
+      summary = told;
+      cli = heads.cli + told.cli + tails.cli;
+      gcode = heads.gcode + told.gcode + tails.gcode;
     }) }
 {
     Some(Written {
         summary: told,
         cli: heads.cli.checked_add(told.cli)?.checked_add(tails.cli)?,
-        gcode: heads.gcode.checked_add(told.gcode)?.checked_add(tails.gcode)?,
+        gcode: heads
+            .gcode
+            .checked_add(told.gcode)?
+            .checked_add(tails.gcode)?,
     })
 }

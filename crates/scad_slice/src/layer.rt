@@ -46,7 +46,8 @@ fn draw_layer(
     requires settings { AreInRange settings.now }
     requires solids { AreSolids (solid_of tree.now) }
 
-    ensures { IfOk result (λ end. (layout : Result Layout Budget) × IsLayer want settings.now (solid_of tree.now) layer layout × Ends layout end) }
+    ensures { IfOk result (λ end. (layout : Result Layout Budget)
+        × IsLayer want settings.now (solid_of tree.now) layer layout × Ends layout end) }
 {
     match layer_outlines(alloc, tree, layer, settings.layer_height, EDGE_LIMIT) {
         Ok(loops) => lay_out(alloc, loops, settings, want, layer),
@@ -67,10 +68,16 @@ fn lay_out(
     requires settings { AreInRange settings.now }
     requires within { All (λ l. All (IsWithin point_limit) l) loops.items }
 
-    ensures { IfOk result (λ end. (layout : Result Layout Budget) × IsLaidOut want settings.now layer loops.items layout × Ends layout end) }
+    ensures { IfOk result (λ end. (layout : Result Layout Budget)
+        × IsLaidOut want settings.now layer loops.items layout × Ends layout end) }
 {
     match want {
-        Want::Outlines => Ok(LayerEnd::Made(loops, LayerPlan { paths: Vec::new(alloc) })),
+        Want::Outlines => Ok(LayerEnd::Made(
+            loops,
+            LayerPlan {
+                paths: Vec::new(alloc),
+            },
+        )),
         Want::Plan => plan_out(alloc, loops, settings, layer),
     }
 }
@@ -85,10 +92,11 @@ fn plan_out(
     requires settings { AreInRange settings.now }
     requires within { All (λ l. All (IsWithin point_limit) l) loops.items }
 
-    ensures { IfOk result (λ end. (layout : Result Layout Budget) × IsLaidOut Plan settings.now layer loops.items layout × Ends layout end) }
+    ensures { IfOk result (λ end. (layout : Result Layout Budget)
+        × IsLaidOut Plan settings.now layer loops.items layout × Ends layout end) }
 {
     match plan(alloc, &loops, layer, settings) {
-        Ok(plan) => Ok(LayerEnd::Made(loops, LayerPlan { paths: plan.paths })),
+        Ok(plan) => Ok(LayerEnd::Made(loops, plan)),
         Err(PlanFault::Edges(count)) => Ok(over(BudgetKind::LayerEdges, layer, count)),
         Err(PlanFault::Crossings(count)) => Ok(over(BudgetKind::LayerCrossings, layer, count)),
         Err(PlanFault::Moves(count)) => Ok(over(BudgetKind::LayerMoves, layer, count)),

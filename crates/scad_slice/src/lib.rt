@@ -1,13 +1,14 @@
-//! The files of a whole tree, written layer by layer: the part of `slice`, `plan` and `sample` that follows evaluation.
+//! The files of a whole tree, written layer by layer: the part of `slice`, `plan` and `sample` that follows
+//! evaluation.
 //!
-//! The contracts promise that the script of what is drawn of the tree is played, and the laws that a tree of solids has one such
-//! part, whose layers hold what the tree contains.
+//! The contracts promise that the script of what is drawn of the tree is played, and the laws that a tree of solids
+//! has one such part, whose layers hold what the tree contains.
 #![tactic(auto)]
 
 mod counting;
 mod drawing;
-mod layer;
 pub mod laws;
+mod layer;
 mod lines;
 mod pieces;
 mod planning;
@@ -20,6 +21,6 @@ mod written;
 pub use counting::count_layers;
 pub use drawing::draw;
 pub use planning::plan;
-pub use slicing::slice;
 pub use slice_work::{LAYER_LIMIT, Summary, Want};
+pub use slicing::slice;
 pub use written::Written;

@@ -86,11 +86,7 @@ fn send_outline_head<D: Desk>(alloc: Global, count: u32, desk: &mut D) -> Result
     send_text(desk, Out::Cli, &text)
 }
 
-fn send_program_head<D: Desk>(
-    alloc: Global,
-    settings: &Settings,
-    desk: &mut D,
-) -> Result<u64, Stop>
+fn send_program_head<D: Desk>(alloc: Global, settings: &Settings, desk: &mut D) -> Result<u64, Stop>
     requires sound { Sound (D.view desk.old) }
     requires made { (D.view desk.old).gcode.created ≡ true }
 

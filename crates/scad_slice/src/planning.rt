@@ -20,11 +20,11 @@ use slice_work::Want;
 use std::alloc::Global;
 use std::thread::Threads;
 
-/// Writes the outlines of a tree and its printing program to the files of these names, a layer at a time: the last line, or why it
-/// stopped.
+/// Writes the outlines of a tree and its printing program to the files of these names, a layer at a time: the last
+/// line, or why it stopped.
 ///
-/// More than 20,000 layers are refused before a file is created. The outlines are created first. The work on the layers is done by
-/// so many workers, and a layer that passes a budget ends both files, as `draw` says.
+/// More than 20,000 layers are refused before a file is created. The outlines are created first. The work on the
+/// layers is done by so many workers, and a layer that passes a budget ends both files, as `draw` says.
 pub fn plan<R: Threads + Sync, D: Desk, G: Gate>(
     rt: &R,
     alloc: Global,
@@ -44,7 +44,8 @@ pub fn plan<R: Threads + Sync, D: Desk, G: Gate>(
     requires missing { (D.view desk.old).gcode.created ≡ false }
 
     ensures completes { (part : _) → IsPart Plan settings.now (solid_of tree.now) part
-        → Completes (plan_script settings.now cli.now gcode.now part (solid_of tree.now)) result (D.view desk.old) (D.view desk.new) }
+        → Completes (plan_script settings.now cli.now gcode.now part (solid_of tree.now))
+        result (D.view desk.old) (D.view desk.new) }
     ensures files { D.files desk.new ≡ D.files desk.old }
     ensures later { D.faults desk.old ≤ D.faults desk.new }
     ensures cause { HasRisen result (D.faults desk.old) (D.faults desk.new) }

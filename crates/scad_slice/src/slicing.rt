@@ -22,8 +22,8 @@ use std::thread::Threads;
 
 /// Writes the outlines of a tree to the file of this name: the last line, or why it stopped.
 ///
-/// More than 20,000 layers are refused before the file is created. The work on the layers is done by so many workers, and a layer
-/// that passes a budget ends the file, as `draw` says.
+/// More than 20,000 layers are refused before the file is created. The work on the layers is done by so many workers,
+/// and a layer that passes a budget ends the file, as `draw` says.
 pub fn slice<R: Threads + Sync, D: Desk, G: Gate>(
     rt: &R,
     alloc: Global,
@@ -41,14 +41,24 @@ pub fn slice<R: Threads + Sync, D: Desk, G: Gate>(
     requires absent { (D.view desk.old).cli.created ≡ false }
 
     ensures completes { (part : _) → IsPart Outlines settings.now (solid_of tree.now) part
-        → Completes (slice_script settings.now cli.now part (solid_of tree.now)) result (D.view desk.old) (D.view desk.new) }
+        → Completes (slice_script settings.now cli.now part (solid_of tree.now))
+        result (D.view desk.old) (D.view desk.new) }
     ensures files { D.files desk.new ≡ D.files desk.old }
     ensures later { D.faults desk.old ≤ D.faults desk.new }
     ensures cause { HasRisen result (D.faults desk.old) (D.faults desk.new) }
 {
     count_layers(tree, settings.layer_height)?;
     make(desk, Out::Cli, cli)?;
-    let written = draw(rt, alloc, tree, settings, Want::Outlines, workers, desk, gate)?;
+    let written = draw(
+        rt,
+        alloc,
+        tree,
+        settings,
+        Want::Outlines,
+        workers,
+        desk,
+        gate,
+    )?;
     let line = done_line(alloc, &written.summary)?;
     Ok(Text::from_vec(line))
 }

@@ -1,12 +1,12 @@
 //! Files of small trees, byte for byte.
-ghost use Rattle.std.specs.Prelude.{◌≡◌, Some, [], true, IfOk};
+ghost use Rattle.std.specs.Prelude.{◌≡◌, ◌≤◌, Some, [], true, IfOk};
 ghost use Rattle.scad_io.specs.Desk.{unused};
 ghost use Rattle.scad_script.specs.Run.{Sound};
 
 mod budgets;
 mod texts;
 
-use crate::{Want, draw, laws, plan, slice};
+use crate::{Want, count_layers, draw, laws, plan, slice};
 use scad_fault::Text;
 use scad_geom::Pt3;
 use scad_io::{MemoryDesk, Open, Out};
@@ -87,7 +87,11 @@ struct Answer {
     faults: u64,
 }
 
-fn answer(alloc: Global, ended: Result<Text, Stop>, desk: &MemoryDesk) -> Result<Answer, AllocError> {
+fn answer_on(
+    alloc: Global,
+    ended: Result<Text, Stop>,
+    desk: &MemoryDesk,
+) -> Result<Answer, AllocError> {
     Ok(Answer {
         ended,
         cli: desk.written(Out::Cli).to_vec(alloc)?,
@@ -108,8 +112,10 @@ fn sliced<R: Threads + Sync>(
 {
     let mut desk = desk(alloc, fails)?;
     let settings = Settings::defaults();
-    let ended = slice(rt, alloc, tree, &settings, "o.cli", workers, &mut desk, &Open);
-    answer(alloc, ended, &desk)
+    let ended = slice(
+        rt, alloc, tree, &settings, "o.cli", workers, &mut desk, &Open,
+    );
+    answer_on(alloc, ended, &desk)
 }
 
 fn planned<R: Threads + Sync>(
@@ -124,14 +130,25 @@ fn planned<R: Threads + Sync>(
 {
     let mut desk = desk(alloc, fails)?;
     let settings = Settings::defaults();
-    let ended = plan(rt, alloc, tree, &settings, "o.cli", "o.gcode", workers, &mut desk, &Open);
-    answer(alloc, ended, &desk)
+    let ended = plan(
+        rt, alloc, tree, &settings, "o.cli", "o.gcode", workers, &mut desk, &Open,
+    );
+    answer_on(alloc, ended, &desk)
 }
 
 fn expect(rt: &impl Abort, answer: &Answer, line: &str, cli: &str, gcode: &str) {
-    assert!(rt; matches!(&answer.ended, Ok(text) if text.as_slice() == line.as_bytes()), "{line}");
-    assert!(rt; answer.cli.as_slice() == cli.as_bytes(), "outlines of {line}");
-    assert!(rt; answer.gcode.as_slice() == gcode.as_bytes(), "program of {line}");
+    assert!(rt;
+        matches!(&answer.ended, Ok(text) if text.as_slice() == line.as_bytes()),
+        "{line}"
+    );
+    assert!(rt;
+        answer.cli.as_slice() == cli.as_bytes(),
+        "outlines of {line}"
+    );
+    assert!(rt;
+        answer.gcode.as_slice() == gcode.as_bytes(),
+        "program of {line}"
+    );
     assert!(rt; answer.faults == 0);
 }
 
@@ -165,8 +182,21 @@ fn files_are_as_long_as_is_told(rt: HostRuntime) -> Result<(), Fail> {
     if make(&mut desk, Out::Gcode, "o.gcode").is_err() {
         return Err(Fail::new("a call failed"));
     }
+    let cube = cube(alloc)?;
     let settings = Settings::defaults();
-    let told = draw(&rt, alloc, &cube(alloc)?, &settings, Want::Plan, 2, &mut desk, &Open);
+    if count_layers(&cube, settings.layer_height).is_err() {
+        return Err(Fail::new("a cube has few layers"));
+    }
+    let told = draw(
+        &rt,
+        alloc,
+        &cube,
+        &settings,
+        Want::Plan,
+        2,
+        &mut desk,
+        &Open,
+    );
     let Ok(told) = told else {
         return Err(Fail::new("a cube is drawn"));
     };
@@ -185,8 +215,14 @@ fn each_call_fails_in_turn(rt: HostRuntime) -> Result<(), Fail> {
     for call in 0..10 {
         let answer = planned(&rt, alloc, &plate, 3, &[call])?;
         assert!(rt; matches!(&answer.ended, Err(Stop::Write)), "call {call}");
-        assert!(rt; PLATE_CLI.as_bytes().starts_with(&answer.cli), "call {call}");
-        assert!(rt; PLATE_GCODE.as_bytes().starts_with(&answer.gcode), "call {call}");
+        assert!(rt;
+            PLATE_CLI.as_bytes().starts_with(&answer.cli),
+            "call {call}"
+        );
+        assert!(rt;
+            PLATE_GCODE.as_bytes().starts_with(&answer.gcode),
+            "call {call}"
+        );
         assert_eq!(rt; answer.faults, 1);
         assert_eq!(rt; answer.cli.is_empty(), call <= 2);
         assert_eq!(rt; answer.gcode.is_empty(), call <= 3);

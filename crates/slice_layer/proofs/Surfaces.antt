@@ -26,14 +26,17 @@ solids_closed s h = All-weaker IsSolid (λ ts. IsTrue (is_closed ts)) (λ ts k. 
 
 -- and the edges of their section are within the limit of points
 surfaces_within : (layer h : ℕ) (all : List (List Triangle)) → AllByRecursion IsSolid all
-    → AllByRecursion (λ ts. AllByRecursion (λ c. IsEdgeWithin point_limit (rounded c)) (cuts_of (plane_of layer h) ts)) all
+    → AllByRecursion (λ ts. AllByRecursion (λ c. IsEdgeWithin point_limit (rounded c)) (cuts_of (plane_of layer h) ts))
+    all
 surfaces_within layer h [] k = tt
 surfaces_within layer h (ts ∷ all) k = (cuts_within (plane_of layer h) ts k.0.in_range, surfaces_within layer h all k.1)
 
-pub section_in_range : (layer h : ℕ) (s : Solid) → AreSolids s → All (λ e. IsEdgeWithin point_limit e.edge) (tree_section layer h s)
+pub section_in_range : (layer h : ℕ) (s : Solid) → AreSolids s
+    → All (λ e. IsEdgeWithin point_limit e.edge) (tree_section layer h s)
 section_in_range layer h s k =
     All-from_recursion (λ e. IsEdgeWithin point_limit e.edge) (tree_section layer h s)
-    (sections_have layer h (IsEdgeWithin point_limit) 0 (surfaces s) (surfaces_within layer h (surfaces s) (recursion_from_All IsSolid (surfaces s) k)))
+    (sections_have layer h (IsEdgeWithin point_limit) 0 (surfaces s)
+    (surfaces_within layer h (surfaces s) (recursion_from_All IsSolid (surfaces s) k)))
 
 -- so they are within that of coordinates
 below : (n : ℕ) → n ≤ point_limit → n ≤ coordinate_limit
@@ -45,7 +48,9 @@ wider p h = record { x = below (unsigned_abs p.x) h.x; y = below (unsigned_abs p
 wider_edge : (e : LeafEdge) → IsEdgeWithin point_limit e.edge → IsEdgeWithin coordinate_limit e.edge
 wider_edge e h = record { a = wider e.edge.a h.a; b = wider e.edge.b h.b }
 
-pub section_within : (layer h : ℕ) (s : Solid) → AreSolids s → All (λ e. IsEdgeWithin coordinate_limit e.edge) (tree_section layer h s)
+pub section_within : (layer h : ℕ) (s : Solid) → AreSolids s
+    → All (λ e. IsEdgeWithin coordinate_limit e.edge) (tree_section layer h s)
 section_within layer h s k =
-    All-weaker (λ e. IsEdgeWithin point_limit e.edge) (λ e. IsEdgeWithin coordinate_limit e.edge) wider_edge (tree_section layer h s)
+    All-weaker (λ e. IsEdgeWithin point_limit e.edge) (λ e. IsEdgeWithin coordinate_limit e.edge) wider_edge
+    (tree_section layer h s)
     (section_in_range layer h s k)

@@ -18,13 +18,13 @@ use std::alloc::Global;
 
 /// The closed outlines of a tree at a layer of height `h` micrometres, with the inside on their left.
 ///
-/// Where no point of a cut of the tree at the layer's plane lies within one micrometre of a cell centre along both axes, they
-/// wind once round the centre if the tree contains it, and not at all round it if it doesn't. Each point of each of their
-/// sides lies less than one micrometre along both axes from a point hard by which the tree's section holds on one side and
-/// not on another. No coordinate of theirs is greater in size than 1,000,000.
+/// Where no point of a cut of the tree at the layer's plane lies within one micrometre of a cell centre along both
+/// axes, they wind once round the centre if the tree contains it, and not at all round it if it doesn't. Each point
+/// of each of their sides lies less than one micrometre along both axes from a point hard by which the tree's section
+/// holds on one side and not on another. No coordinate of theirs is greater in size than 1,000,000.
 ///
-/// They are refused exactly where the section has more edges than the limit, and then where more than 2,000,000 pairs of
-/// them cross.
+/// They are refused exactly where the section has more edges than the limit, and then where more than 2,000,000 pairs
+/// of them cross.
 pub fn layer_outlines(
     alloc: Global,
     tree: &Tree,

@@ -224,4 +224,5 @@ fn edges_past_the_limit_are_refused(rt: HostRuntime) -> Result<(), Fail> {
 fn laws_are_called() {
     laws::outlines_hold();
     laws::outlines_are_near_border();
+    laws::outlines_are_within();
 }

@@ -4,7 +4,7 @@ ghost use Rattle.std.specs.Prelude.{◌≡◌, ◌≤◌};
 use super::{block, desk, planned, polyhedron, pt, sliced};
 use crate::{count_layers, plan, slice};
 use scad_fault::{Budget, BudgetKind};
-use scad_io::{Open, Out};
+use scad_io::Open;
 use scad_script::{Refusal, Stop};
 use scad_solid::Face;
 use scad_tree::{Tree, unite};
@@ -24,12 +24,33 @@ fn too_many_layers_create_nothing(rt: HostRuntime) -> Result<(), Fail> {
     settings.layer_height = 20;
     let many = Budget::layers(20_001);
     assert!(rt; is_over(&count_layers(&tree, 20), many));
-    let mut desk = desk(alloc, &[0])?;
-    let ended = slice(&rt, alloc, &tree, &settings, "o.cli", 1, &mut desk, &Open);
+    let mut unsliced = desk(alloc, &[0])?;
+    let ended = slice(
+        &rt,
+        alloc,
+        &tree,
+        &settings,
+        "o.cli",
+        1,
+        &mut unsliced,
+        &Open,
+    );
     assert!(rt; is_over(&ended, many));
-    let ended = plan(&rt, alloc, &tree, &settings, "o.cli", "o.gcode", 1, &mut desk, &Open);
+    assert_eq!(rt; unsliced.faults(), 0);
+    let mut unplanned = desk(alloc, &[0])?;
+    let ended = plan(
+        &rt,
+        alloc,
+        &tree,
+        &settings,
+        "o.cli",
+        "o.gcode",
+        1,
+        &mut unplanned,
+        &Open,
+    );
     assert!(rt; is_over(&ended, many));
-    assert_eq!(rt; desk.faults(), 0);
+    assert_eq!(rt; unplanned.faults(), 0);
     assert!(rt; matches!(count_layers(&tree, 21), Ok(19_049)));
     Ok(())
 }
@@ -65,15 +86,13 @@ fn the_lowest_layer_with_too_many_edges(rt: HostRuntime) -> Result<(), Fail> {
     members.push(prism(alloc, 400, 800)?)?;
     let tree = unite(alloc, members)?;
     let passed = Budget::of_layer(BudgetKind::LayerEdges, 2, 20_018);
-    for workers in [1, 3] {
-        let answer = sliced(&rt, alloc, &tree, workers, &[])?;
-        assert!(rt; is_over(&answer.ended, passed));
-        assert!(rt; answer.cli.as_slice() == BEFORE.as_bytes());
-        let answer = planned(&rt, alloc, &tree, workers, &[])?;
-        assert!(rt; is_over(&answer.ended, passed));
-        assert!(rt; answer.cli.as_slice() == BEFORE.as_bytes());
-        assert!(rt; !answer.gcode.ends_with(b"M84\n"));
-    }
+    let answer = sliced(&rt, alloc, &tree, 1, &[])?;
+    assert!(rt; is_over(&answer.ended, passed));
+    assert!(rt; answer.cli.as_slice() == BEFORE.as_bytes());
+    let answer = planned(&rt, alloc, &tree, 3, &[])?;
+    assert!(rt; is_over(&answer.ended, passed));
+    assert!(rt; answer.cli.as_slice() == BEFORE.as_bytes());
+    assert!(rt; !answer.gcode.ends_with(b"M84\n"));
     Ok(())
 }
 

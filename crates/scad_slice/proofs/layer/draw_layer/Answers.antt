@@ -13,8 +13,10 @@ pub returns-in-Ok : goal.returns-in-Ok
 returns-in-Ok c =
     let settings = c.args.settings.now in
     let tree = solid_of c.args.tree.now in
-    IfOk-weaker c.lay_out.result (LaysOut c.args.want settings c.args.layer c.in-Ok.loops.items) (DrawsLayer c.args.want settings tree c.args.layer)
-    (λ end lays. draws_within c.args.want settings tree c.args.layer c.in-Ok.loops.items end c.in-Ok.ensures.outlines c.in-Ok.ensures.few c.in-Ok.ensures.accepted lays)
+    IfOk-weaker c.lay_out.result (LaysOut c.args.want settings c.args.layer c.in-Ok.loops.items)
+    (DrawsLayer c.args.want settings tree c.args.layer)
+    (λ end lays. draws_within c.args.want settings tree c.args.layer c.in-Ok.loops.items end c.in-Ok.ensures.outlines
+    c.in-Ok.ensures.few c.in-Ok.ensures.accepted lays)
     c.lay_out.ensures
 
 pub returns-in-Err-Edges : goal.returns-in-Err-Edges
@@ -23,7 +25,8 @@ returns-in-Err-Edges c =
     let tree = solid_of c.args.tree.now in
     let section = tree_section c.args.layer settings.layer_height tree in
     draws_edges c.args.want settings tree c.args.layer c.in-Err-Edges.count c.over.result
-    (subst (IsRefusal (length section) edge_limit (crossings section)) c.in-Err-Edges.field-0-is c.in-Err-Edges.ensures.refused)
+    (subst (IsRefusal (length section) edge_limit (crossings section)) c.in-Err-Edges.field-0-is
+    c.in-Err-Edges.ensures.refused)
     (c.over.ensures ∙ ap (λ n. Over (edges_passed c.args.layer n)) c.in-Err-Edges.count-is)
 
 pub returns-in-Err-Crossings : goal.returns-in-Err-Crossings
@@ -32,5 +35,6 @@ returns-in-Err-Crossings c =
     let tree = solid_of c.args.tree.now in
     let section = tree_section c.args.layer settings.layer_height tree in
     draws_crossings c.args.want settings tree c.args.layer c.in-Err-Crossings.count c.over-in-Err-Crossings.result
-    (subst (IsRefusal (length section) edge_limit (crossings section)) c.in-Err-Crossings.field-0-is c.in-Err-Crossings.ensures.refused)
+    (subst (IsRefusal (length section) edge_limit (crossings section)) c.in-Err-Crossings.field-0-is
+    c.in-Err-Crossings.ensures.refused)
     (c.over-in-Err-Crossings.ensures ∙ ap (λ n. Over (crossings_passed c.args.layer n)) c.in-Err-Crossings.count-is)

@@ -15,4 +15,5 @@ pub returns-in_err-gcode-in-Plan-clause-carries : goal.returns-in_err-gcode-in-P
 returns-in_err-gcode-in-Plan-clause-carries g c whole rest start left =
     stops_part whole rest _ _ start _ (search rules)
     (c.in_err-gcode-in-Plan.ensures.carries whole rest start
-    (c.in_ok-cli.ensures.carries whole _ start (as_left (λ k. first (heads (c.in-Plan.is k) c.args.settings.now c.args.count) rest) left)))
+    (c.in_ok-cli.ensures.carries whole _ start
+    (as_left (λ k. first (heads (c.in-Plan.is k) c.args.settings.now c.args.count) rest) left)))

@@ -38,16 +38,17 @@ returns-in_err-line-clause-completes g c part of_part whole start left =
     stops_all whole _ Stop.Memory start _ (search rules) (
       _,
       c.in_ok-written.ensures.carries part of_part whole _ start
-    (c.in_ok-make-2.ensures.carries whole _ start
-    (c.in_ok-make.ensures.carries whole _ start
-    (as_left (plan_few c.args.settings.now c.args.cli.now c.args.gcode.now part (solid_of c.args.tree.now)
-    (subst (λ n. n ≤ layer_limit) c.in_ok-count_layers.ensures.count c.in_ok-count_layers.ensures.few)) left))),
+          (c.in_ok-make-2.ensures.carries whole _ start
+          (c.in_ok-make.ensures.carries whole _ start
+          (as_left (plan_few c.args.settings.now c.args.cli.now c.args.gcode.now part (solid_of c.args.tree.now)
+          (subst (λ n. n ≤ layer_limit) c.in_ok-count_layers.ensures.count c.in_ok-count_layers.ensures.few)) left))),
     )
 
 pub returns-clause-completes : goal.returns-clause-completes
 returns-clause-completes g c part of_part whole start left =
     as_left
-    (plan_ends c.args.settings.now part (layer_count c.args.settings.now.layer_height (solid_of c.args.tree.now)) c.in_ok-written.written c.from_vec.result
+    (plan_ends c.args.settings.now part (layer_count c.args.settings.now.layer_height (solid_of c.args.tree.now))
+    c.in_ok-written.written c.from_vec.result
     (c.in_ok-written.ensures.written part of_part) (search rules))
     (c.in_ok-written.ensures.carries part of_part whole _ start
     (c.in_ok-make-2.ensures.carries whole _ start
