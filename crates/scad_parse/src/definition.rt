@@ -27,10 +27,8 @@ pub(crate) fn pushed(scope: Scope, item: Item) -> Result<Scope, AllocError>
     ensures { IfOk result (λ all. items all.items ≡ with_item (items scope.items) (item_of item)) }
 {
     let mut all = scope;
-    match all.push(item) {
-        Ok(()) => Ok(all),
-        Err(_) => Err(AllocError),
-    }
+    all.push(item)?;
+    Ok(all)
 }
 
 // WORD "(" params ")" stmt, behind the "module"

@@ -40,8 +40,9 @@ pub(crate) fn element<'a>(alloc: Global, ts: &'a [Token], end: Place, room: u32)
     if is_key(Key::If, token) {
         let inner = opened(room, token.at)?;
         let (test, left) = round_expression(alloc, rest, end, inner)?;
+        let tested = Box::new(alloc, test)?;
         let (held, left) = element(alloc, left, end, inner)?;
-        return otherwise(alloc, token.at, test, held, left, end, inner);
+        return otherwise(alloc, token.at, tested, held, left, end, inner);
     }
     if is_key(Key::Let, token) {
         let inner = opened(room, token.at)?;
@@ -59,19 +60,21 @@ pub(crate) fn element<'a>(alloc: Global, ts: &'a [Token], end: Place, room: u32)
 fn otherwise<'a>(
     alloc: Global,
     at: Place,
-    test: Expr,
+    test: Box<Expr>,
     held: Elem,
     ts: &'a [Token],
     end: Place,
     room: u32,
 ) -> Read<'a, Elem>
-    ensures { Gives (else_of (below «end» room) at (expression_of test) (element_of held) ts.now) element_of result }
+    ensures { Gives (else_of (below «end» room) at (expression_of test.value) (element_of held) ts.now)
+        element_of result }
 {
+    let held = Box::new(alloc, held)?;
     let [token, rest @ ..] = ts else {
-        return Ok((node::if_element(alloc, at, test, held)?, ts));
+        return Ok((node::if_element(at, test, held), ts));
     };
     if !is_key(Key::Else, token) {
-        return Ok((node::if_element(alloc, at, test, held)?, ts));
+        return Ok((node::if_element(at, test, held), ts));
     }
     let inner = opened(room, token.at)?;
     let (other, left) = element(alloc, rest, end, inner)?;
@@ -112,7 +115,8 @@ fn for_head<'a>(alloc: Global, ts: &'a [Token], end: Place, room: u32) -> Read<'
     if !is_sign(Sign::Semicolon, token) {
         return Err(ParseFault::Syntax(token.at));
     }
-    let (test, left) = closed(alloc, Sign::Semicolon, rest, end, room)?;
+    let (value, left) = closed(alloc, Sign::Semicolon, rest, end, room)?;
+    let test = Box::new(alloc, value)?;
     let (step, left) = closed_arguments(alloc, left, end, room)?;
     Ok((Head::Steps(args, test, step), left))
 }

@@ -8,7 +8,7 @@ ghost use Rattle.scad_parse.specs.Reading.{Gives, below, keyed};
 
 use crate::argument::round_arguments;
 use crate::fault::ParseFault;
-use crate::front::{expect, is_key, is_sign, place};
+use crate::front::{begins_with, behind, expect, is_key, is_sign, place};
 use crate::nesting::{left_out, opened};
 use crate::node;
 use crate::node::Binder;
@@ -82,10 +82,12 @@ fn choice<'a>(alloc: Global, test: Expr, ts: &'a [Token], end: Place, room: u32)
     if !is_sign(Sign::Question, token) {
         return Ok((test, ts));
     }
+    let test = Box::new(alloc, test)?;
     let inner = opened(room, token.at)?;
     let (yes, left) = closed(alloc, Sign::Colon, rest, end, inner)?;
+    let chosen = Box::new(alloc, yes)?;
     let (no, left) = expression(alloc, left, end, inner)?;
-    Ok((node::choose(alloc, token.at, test, yes, no)?, left))
+    Ok((node::choose(alloc, token.at, test, chosen, no)?, left))
 }
 
 // expr, and behind it the sign
@@ -101,8 +103,11 @@ pub(crate) fn closed<'a>(
     ensures { Gives (expr_to «end» sign (expr_of «end» (below «end» room)) ts.now) expression_of result }
 {
     let (value, left) = expression(alloc, ts, end, room)?;
-    let rest = expect(sign, left, end)?;
-    Ok((value, rest))
+    if !begins_with(sign, left) {
+        drop(value);
+        return Err(ParseFault::Syntax(place(left, end)));
+    }
+    Ok((value, behind(left)))
 }
 
 // "(" expr ")"

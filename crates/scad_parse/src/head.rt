@@ -14,7 +14,7 @@ use std::alloc::{AllocError, Global};
 #[derive(Debug, Drop)]
 pub(crate) enum Head {
     All(Args),
-    Steps(Args, Expr, Args),
+    Steps(Args, Box<Expr>, Args),
 }
 
 /// The `for` with this head and this element.

@@ -125,6 +125,7 @@ fn kept(scope: Scope, marks: Marked, at: Place, body: StmtBody) -> Result<Scope,
         ≡ with_statement (marks_of marks) (items scope.items) (body_of at marks.percent marks.hash body)) }
 {
     if marks.star {
+        drop(body);
         return Ok(scope);
     }
     pushed(
@@ -158,14 +159,19 @@ fn chosen(
     scope: Scope,
     marks: Marked,
     at: Place,
-    test: Expr,
+    test: Box<Expr>,
     held: Scope,
     other: Scope,
 ) -> Result<Scope, AllocError>
     ensures { IfOk result (λ all. items all.items ≡ with_statement (marks_of marks) (items scope.items)
-        (choice at marks.percent marks.hash (expression_of test) (items held.items) (items other.items))) }
+        (choice at marks.percent marks.hash (expression_of test.value) (items held.items) (items other.items))) }
 {
-    kept(scope, marks, at, StmtBody::If(test, held, other))
+    kept(
+        scope,
+        marks,
+        at,
+        StmtBody::If(Box::into_inner(test), held, other),
+    )
 }
 
 // "(" args ")" child, behind the name that is called
@@ -203,7 +209,8 @@ fn choice<'a>(
     ensures { Gives (choice_behind_of «end» (rules_at «end» room) (below_statements «end» room) at (marks_of marks)
         (items scope.items) ts.now) scope_seen result }
 {
-    let (test, left) = round_expression(alloc, ts, end, room)?;
+    let (value, left) = round_expression(alloc, ts, end, room)?;
+    let test = Box::new(alloc, value)?;
     let (held, left) = child(alloc, left, end, room)?;
     let (other, left) = otherwise(alloc, left, end, room)?;
     Ok((chosen(scope, marks, at, test, held, other)?, left))

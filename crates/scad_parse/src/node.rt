@@ -1,4 +1,5 @@
-//! The nodes of the tree, with their parts in boxes.
+//! The nodes of the tree, with their parts in boxes. What is read before another part comes in its box: where the other
+//! fails, letting a box go is one call, and letting an expression go is a case for each of its forms.
 
 ghost use Rattle.std.specs.Prelude.{◌≡◌, IfOk};
 ghost use Rattle.scad_ast.specs.Tree.{number as number_tree, name as name_tree, call as call_tree};
@@ -82,12 +83,11 @@ pub(crate) fn binary(
     alloc: Global,
     at: Place,
     op: BinOp,
-    left: Expr,
+    left: Box<Expr>,
     right: Expr,
 ) -> Result<Expr, AllocError>
-    ensures { IfOk result (λ e. expression_of e ≡ binary at op (expression_of left) (expression_of right)) }
+    ensures { IfOk result (λ e. expression_of e ≡ binary at op (expression_of left.value) (expression_of right)) }
 {
-    let left = Box::new(alloc, left)?;
     let right = Box::new(alloc, right)?;
     Ok(Expr {
         at,
@@ -98,15 +98,13 @@ pub(crate) fn binary(
 pub(crate) fn choose(
     alloc: Global,
     at: Place,
-    test: Expr,
-    chosen: Expr,
+    test: Box<Expr>,
+    chosen: Box<Expr>,
     other: Expr,
 ) -> Result<Expr, AllocError>
     ensures { IfOk result (λ e. expression_of e
-        ≡ choose at (expression_of test) (expression_of chosen) (expression_of other)) }
+        ≡ choose at (expression_of test.value) (expression_of chosen.value) (expression_of other)) }
 {
-    let test = Box::new(alloc, test)?;
-    let chosen = Box::new(alloc, chosen)?;
     let other = Box::new(alloc, other)?;
     Ok(Expr {
         at,
@@ -114,10 +112,9 @@ pub(crate) fn choose(
     })
 }
 
-pub(crate) fn index(alloc: Global, at: Place, value: Expr, i: Expr) -> Result<Expr, AllocError>
-    ensures { IfOk result (λ e. expression_of e ≡ index at (expression_of value) (expression_of i)) }
+pub(crate) fn index(alloc: Global, at: Place, value: Box<Expr>, i: Expr) -> Result<Expr, AllocError>
+    ensures { IfOk result (λ e. expression_of e ≡ index at (expression_of value.value) (expression_of i)) }
 {
-    let value = Box::new(alloc, value)?;
     let i = Box::new(alloc, i)?;
     Ok(Expr {
         at,
@@ -125,14 +122,13 @@ pub(crate) fn index(alloc: Global, at: Place, value: Expr, i: Expr) -> Result<Ex
     })
 }
 
-pub(crate) fn member(alloc: Global, at: Place, value: Expr, name: Text) -> Result<Expr, AllocError>
-    ensures { IfOk result (λ e. expression_of e ≡ member at (expression_of value) name) }
+pub(crate) fn member(at: Place, value: Box<Expr>, name: Text) -> Expr
+    ensures { expression_of result ≡ member at (expression_of value.value) name }
 {
-    let value = Box::new(alloc, value)?;
-    Ok(Expr {
+    Expr {
         at,
         node: Node::Member(value, name),
-    })
+    }
 }
 
 pub(crate) fn bound(
@@ -163,30 +159,26 @@ pub(crate) fn bound(
 }
 
 /// The range from start to end.
-pub(crate) fn range(alloc: Global, at: Place, start: Expr, last: Expr) -> Result<Expr, AllocError>
-    ensures { IfOk result (λ e. expression_of e ≡ range at (expression_of start) (expression_of last)) }
+pub(crate) fn range(at: Place, start: Box<Expr>, last: Box<Expr>) -> Expr
+    ensures { expression_of result ≡ range at (expression_of start.value) (expression_of last.value) }
 {
-    let start = Box::new(alloc, start)?;
-    let last = Box::new(alloc, last)?;
-    Ok(Expr {
+    Expr {
         at,
         node: Node::Range(start, None, last),
-    })
+    }
 }
 
 /// The range from start to end by a step.
 pub(crate) fn stepped(
     alloc: Global,
     at: Place,
-    start: Expr,
-    step: Expr,
+    start: Box<Expr>,
+    step: Box<Expr>,
     last: Expr,
 ) -> Result<Expr, AllocError>
     ensures { IfOk result (λ e. expression_of e
-        ≡ stepped at (expression_of start) (expression_of step) (expression_of last)) }
+        ≡ stepped at (expression_of start.value) (expression_of step.value) (expression_of last)) }
 {
-    let start = Box::new(alloc, start)?;
-    let step = Box::new(alloc, step)?;
     let last = Box::new(alloc, last)?;
     Ok(Expr {
         at,
@@ -212,15 +204,15 @@ pub(crate) fn for_loop(
     alloc: Global,
     at: Place,
     init: Args,
-    test: Expr,
+    test: Box<Expr>,
     step: Args,
     e: Elem,
 ) -> Result<Elem, AllocError>
     ensures { IfOk result (λ node. element_of node
-        ≡ for_loop at (arguments init.items) (expression_of test) (arguments step.items) (element_of e)) }
+        ≡ for_loop at (arguments init.items) (expression_of test.value) (arguments step.items) (element_of e)) }
 {
     let e = Box::new(alloc, e)?;
-    Ok(Elem::Loop(init, test, step, e, at))
+    Ok(Elem::Loop(init, Box::into_inner(test), step, e, at))
 }
 
 /// Behind `let (..)` in a vector: an expression with these bindings, or a comprehension.
@@ -236,29 +228,22 @@ pub(crate) fn let_element(alloc: Global, at: Place, args: Args, e: Elem) -> Resu
     }
 }
 
-pub(crate) fn if_element(
-    alloc: Global,
-    at: Place,
-    test: Expr,
-    held: Elem,
-) -> Result<Elem, AllocError>
-    ensures { IfOk result (λ node. element_of node ≡ if_element at (expression_of test) (element_of held)) }
+pub(crate) fn if_element(at: Place, test: Box<Expr>, held: Box<Elem>) -> Elem
+    ensures { element_of result ≡ if_element at (expression_of test.value) (element_of held.value) }
 {
-    let held = Box::new(alloc, held)?;
-    Ok(Elem::If(test, held, None, at))
+    Elem::If(Box::into_inner(test), held, None, at)
 }
 
 pub(crate) fn if_else(
     alloc: Global,
     at: Place,
-    test: Expr,
-    held: Elem,
+    test: Box<Expr>,
+    held: Box<Elem>,
     other: Elem,
 ) -> Result<Elem, AllocError>
     ensures { IfOk result (λ node. element_of node
-        ≡ if_else at (expression_of test) (element_of held) (element_of other)) }
+        ≡ if_else at (expression_of test.value) (element_of held.value) (element_of other)) }
 {
-    let held = Box::new(alloc, held)?;
     let other = Box::new(alloc, other)?;
-    Ok(Elem::If(test, held, Some(other), at))
+    Ok(Elem::If(Box::into_inner(test), held, Some(other), at))
 }

@@ -60,6 +60,7 @@ fn links<'a>(
     };
     match operator(line, token) {
         Some(op) => {
+            let left = Box::new(alloc, left)?;
             let inner = opened(room, token.at)?;
             let (right, rest) = operand(alloc, line, rest, end, inner)?;
             let both = node::binary(alloc, token.at, op, left, right)?;
@@ -119,16 +120,19 @@ fn posts<'a>(alloc: Global, value: Expr, ts: &'a [Token], end: Place, room: u32)
         return Ok((value, ts));
     };
     if is_sign(Sign::OpenSquare, token) {
+        let value = Box::new(alloc, value)?;
         let inner = opened(room, token.at)?;
         let (i, left) = indexed(alloc, token.at, rest, end, inner)?;
         let whole = node::index(alloc, token.at, value, i)?;
         return posts(alloc, whole, left, end, inner);
     }
     if is_sign(Sign::Dot, token) {
+        let value = Box::new(alloc, value)?;
         let inner = opened(room, token.at)?;
         return member(alloc, token.at, value, rest, end, inner);
     }
     if is_sign(Sign::Caret, token) {
+        drop(value);
         return Err(left_out(alloc, token.at, b"^"));
     }
     Ok((value, ts))
@@ -149,12 +153,12 @@ fn indexed<'a>(alloc: Global, at: Place, ts: &'a [Token], end: Place, room: u32)
 fn member<'a>(
     alloc: Global,
     at: Place,
-    value: Expr,
+    value: Box<Expr>,
     ts: &'a [Token],
     end: Place,
     room: u32,
 ) -> Read<'a, Expr>
-    ensures { Gives (member_of «end» (above «end» (below «end» room)) at (expression_of value) ts.now)
+    ensures { Gives (member_of «end» (above «end» (below «end» room)) at (expression_of value.value) ts.now)
         expression_of result }
 {
     let [token, rest @ ..] = ts else {
@@ -162,7 +166,7 @@ fn member<'a>(
     };
     match word(alloc, token)? {
         Some(name) => {
-            let whole = node::member(alloc, at, value, name)?;
+            let whole = node::member(at, value, name);
             posts(alloc, whole, rest, end, room)
         }
         None => Err(ParseFault::Syntax(token.at)),

@@ -50,11 +50,15 @@ fn range_start(all: &Elems, first: Elem) -> Option<Expr>
     ensures { option_map expression_of result ≡ range_start (elements all.now.items) (element_of first) }
 {
     if !all.is_empty() {
+        drop(first);
         return None;
     }
     match first {
         Elem::Item(start) => Some(start),
-        _ => None,
+        other => {
+            drop(other);
+            None
+        }
     }
 }
 
@@ -75,7 +79,9 @@ fn range<'a>(
     let Some(start) = range_start(&all, first) else {
         return Err(ParseFault::Syntax(place(ts, end)));
     };
-    let (second, left) = expression(alloc, behind(ts), end, room)?;
+    let start = Box::new(alloc, start)?;
+    let (part, left) = expression(alloc, behind(ts), end, room)?;
+    let second = Box::new(alloc, part)?;
     ranged(alloc, at, start, second, left, end, room)
 }
 
@@ -84,14 +90,14 @@ fn range<'a>(
 fn ranged<'a>(
     alloc: Global,
     at: Place,
-    start: Expr,
-    second: Expr,
+    start: Box<Expr>,
+    second: Box<Expr>,
     ts: &'a [Token],
     end: Place,
     room: u32,
 ) -> Read<'a, Expr>
-    ensures { Gives (range_end «end» (below «end» room) at (expression_of start) (expression_of second) ts.now)
-        expression_of result }
+    ensures { Gives (range_end «end» (below «end» room) at (expression_of start.value) (expression_of second.value)
+        ts.now) expression_of result }
 {
     let [token, rest @ ..] = ts else {
         return Err(ParseFault::Syntax(end));
@@ -103,5 +109,5 @@ fn ranged<'a>(
     if !is_sign(Sign::CloseSquare, token) {
         return Err(ParseFault::Syntax(token.at));
     }
-    Ok((node::range(alloc, at, start, second)?, rest))
+    Ok((node::range(at, start, second), rest))
 }

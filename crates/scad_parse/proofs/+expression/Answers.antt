@@ -93,7 +93,7 @@ element::element-returns-then-is_key-3 t c =
     c.in_ok-inner-3.ensures.less c.token-item.result c.args.ts.now c.in-len1-up.len_at_least c.token-item.is
     (sym c.is_key.ensures ∙ c.if-is_key.false) (sym c.is_key-2.ensures ∙ c.if-is_key-2.false)
     (sym c.is_key-3.ensures ∙ c.if-is_key-3.true) in
-    rw (here, c.in_ok-test.ensures, c.in_ok-held.ensures) c.otherwise.ensures
+    rw (here, c.in_ok-test.ensures, c.in_ok-held.ensures, ← c.in_ok-tested.ensures.ok) c.otherwise.ensures
 
 pub element::element-returns-in_err-args : goal.element::element-returns-in_err-args
 element::element-returns-in_err-args t c =
@@ -125,7 +125,7 @@ pub element::otherwise-returns-in_err-other : goal.element::otherwise-returns-in
 element::otherwise-returns-in_err-other t c =
     let here = else_here c.args.end c.args.room c.in_ok-inner.inner c.in_ok-inner.ensures.some
     c.in_ok-inner.ensures.less c.token-item.result c.args.ts.now c.in-len1-up.len_at_least c.token-item.is c.args.at
-    (expression_of c.args.test) (element_of c.args.held) (sym c.is_key.ensures ∙ c.if-not-is_key.false) in
+    (expression_of c.args.test.value) (element_of c.args.held) (sym c.is_key.ensures ∙ c.if-not-is_key.false) in
     let p = err_from_is_err_and c.from_residual-in_err-other.result c.from_residual-in_err-other.ensures.1 in
     rw (p.1, p.2) (λ some. rw (here, c.in_err-other.ensures some))
 
@@ -133,8 +133,8 @@ pub element::otherwise-returns : goal.element::otherwise-returns
 element::otherwise-returns t c =
     let here = else_here c.args.end c.args.room c.in_ok-inner.inner c.in_ok-inner.ensures.some
     c.in_ok-inner.ensures.less c.token-item.result c.args.ts.now c.in-len1-up.len_at_least c.token-item.is c.args.at
-    (expression_of c.args.test) (element_of c.args.held) (sym c.is_key.ensures ∙ c.if-not-is_key.false) in
-    rw (here, c.in_ok-other.ensures, c.in_ok-if_else.ensures)
+    (expression_of c.args.test.value) (element_of c.args.held) (sym c.is_key.ensures ∙ c.if-not-is_key.false) in
+    rw (here, c.in_ok-other.ensures, c.in_ok-if_else.ensures, c.in_ok-held.ensures.ok)
 
 pub expression::choice-returns-in_err-yes : goal.expression::choice-returns-in_err-yes
 expression::choice-returns-in_err-yes t c =
@@ -157,7 +157,14 @@ expression::choice-returns t c =
     let here = choice_here c.args.end c.args.room c.in_ok-inner.inner c.in_ok-inner.ensures.some
     c.in_ok-inner.ensures.less c.token-item.result c.args.ts.now c.in-len1-up.len_at_least c.token-item.is
     (expression_of c.args.test) (sym c.is_sign.ensures ∙ c.if-not-is_sign.false) in
-    rw (here, c.in_ok-yes.ensures, c.in_ok-no.ensures, c.in_ok-choose.ensures)
+    rw (
+      here,
+      c.in_ok-yes.ensures,
+      c.in_ok-no.ensures,
+      c.in_ok-choose.ensures,
+      c.in_ok-test.ensures.ok,
+      c.in_ok-chosen.ensures.ok,
+    )
 
 pub operand::links-returns-in_err-right-in-Some : goal.operand::links-returns-in_err-right-in-Some
 operand::links-returns-in_err-right-in-Some t c =
@@ -173,7 +180,8 @@ operand::links-returns-in_ok-both-in-Some t c =
     let here = link_here c.args.end c.args.room c.in_ok-inner-in-Some.inner c.in_ok-inner-in-Some.ensures.some
     c.in_ok-inner-in-Some.ensures.less c.token-item.result c.args.ts.now c.in-len1-up.len_at_least c.token-item.is
     c.args.line (expression_of c.args.left) c.in-Some.op (sym c.in-Some.ensures) in
-    rw (here, c.in_ok-right-in-Some.ensures, ← c.in_ok-both-in-Some.ensures) c.links.ensures
+    rw (here, c.in_ok-right-in-Some.ensures, ← c.in_ok-left-in-Some.ensures.ok, ← c.in_ok-both-in-Some.ensures)
+    c.links.ensures
 
 pub operand::posts-returns-in_err-i : goal.operand::posts-returns-in_err-i
 operand::posts-returns-in_err-i t c =
@@ -188,7 +196,7 @@ operand::posts-returns-then-is_sign t c =
     let here = index_here c.args.end c.args.room c.in_ok-inner.inner c.in_ok-inner.ensures.some
     c.in_ok-inner.ensures.less c.token-item.result c.args.ts.now c.in-len1-up.len_at_least c.token-item.is
     (expression_of c.args.value) (sym c.is_sign.ensures ∙ c.if-is_sign.true) in
-    rw (here, c.in_ok-i.ensures, ← c.in_ok-whole.ensures) c.posts.ensures
+    rw (here, c.in_ok-i.ensures, ← c.in_ok-value.ensures.ok, ← c.in_ok-whole.ensures) c.posts.ensures
 
 pub operand::posts-returns-then-is_sign-2 : goal.operand::posts-returns-then-is_sign-2
 operand::posts-returns-then-is_sign-2 t c =
@@ -196,7 +204,7 @@ operand::posts-returns-then-is_sign-2 t c =
     c.in_ok-inner-2.ensures.less c.token-item.result c.args.ts.now c.in-len1-up.len_at_least c.token-item.is
     (expression_of c.args.value) (sym c.is_sign.ensures ∙ c.if-is_sign.false)
     (sym c.is_sign-2.ensures ∙ c.if-is_sign-2.true) in
-    rw here c.member.ensures
+    rw (here, ← c.in_ok-value-2.ensures.ok) c.member.ensures
 
 pub primary::named-returns-in_err-args : goal.primary::named-returns-in_err-args
 primary::named-returns-in_err-args t c =
