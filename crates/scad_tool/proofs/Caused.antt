@@ -91,16 +91,19 @@ cause_behind job inputs parts whole refusal f solids drawn (inr (budget, is, ove
     let are_solids = subst InputMeansSolids f.there (solids f.settings f.found) f.tree f.state f.means in
     let in_range = found_in_range job.settings inputs.settings f.settings f.found in
     let one : refusal ≡ Refusal.Over budget = ap (refusal_in (Refusal.Over budget)) (sym same ∙ f.ending ∙ is) in
-    subst (λ (r : Refusal). IsCause (Some job) inputs (refused r)) (sym one)
-    (job, refl, inr (inr (record {
-      source = f.source;
-      whole = f.there;
-      settings = f.settings;
-      found = f.found;
-      tree = f.tree;
-      means = (f.state, f.means);
-      passes = passes_drawing f.settings f.tree in_range are_solids job.command parts budget of_tree over;
-    })))
+    subst (λ (r : Refusal). IsCause (Some job) inputs (refused r)) (sym one) (
+      job,
+      refl,
+      inr (inr (record {
+        source = f.source;
+        whole = f.there;
+        settings = f.settings;
+        found = f.found;
+        tree = f.tree;
+        means = (f.state, f.means);
+        passes = passes_drawing f.settings f.tree in_range are_solids job.command parts budget of_tree over;
+      })),
+    )
   where
     refusal_in : Refusal → Ending → Refusal
     refusal_in other (Refuses r) = r

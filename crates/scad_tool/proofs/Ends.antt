@@ -82,7 +82,7 @@ EndsBy Done Passes ending =
 
 check_ends : (settings : SettingsOfRun) (tree : Solid) (line : List ℕ) (b : Bool) → nat_lt layer_limit (layer_count settings.layer_height tree) ≡ b
     → EndsBy (layer_count settings.layer_height tree ≤ layer_limit) (HasManyLayers settings tree)
-        (if b then Refuses (Over (layers_passed (layer_count settings.layer_height tree))) else Finishes line)
+    (if b then Refuses (Over (layers_passed (layer_count settings.layer_height tree))) else Finishes line)
 check_ends settings tree line true is = inr (layers_passed (layer_count settings.layer_height tree), refl, (search (rules, arith), refl))
 check_ends settings tree line false is = inl (line, refl, search (rules, arith))
 

@@ -57,7 +57,7 @@ module _ (n : ℕ) (s : SettingsOfRun) (part : Part) (tree : Solid) where
   line_is : (w : Written) → IsWritten IsPlan s part count w
       → sample_line n w.summary.layers w.summary.loops w.summary.moves w.summary.e w.cli w.gcode
       ≡ sample_line n count (loop_count part count) (moves_below IsPlan part count) (amount_below s part count) (file_size Cli IsPlan s part count)
-          (file_size Gcode IsPlan s part count)
+      (file_size Gcode IsPlan s part count)
   line_is w told =
       λ k. sample_line n (told.summary.layers k) (told.summary.loops k) (told.summary.moves k) (told.summary.e k) (told.cli k) (told.gcode k)
 

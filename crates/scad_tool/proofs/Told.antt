@@ -50,4 +50,3 @@ settings_are words None inputs job settings form is found = tt
 settings_are words (Some contents) inputs job settings form is found =
     let text = ap (λ i. i.settings) is ∙ settings_read_as words contents job form in
     sym (ap (settings_found job.settings) text) ∙ found
-

@@ -45,8 +45,27 @@ pub fn finish<R: Threads + Sync, D: Desk, G: Gate>(
     match &job.command {
         Command::Check(_) => checked(alloc, tree, settings.layer_height),
         Command::Tree(_) => shown(alloc, tree),
-        Command::Slice(_, cli) => slice(rt, alloc, tree, settings, cli.as_str(), job.workers, desk, gate),
-        Command::Plan(_, cli, gcode) => plan(rt, alloc, tree, settings, cli.as_str(), gcode.as_str(), job.workers, desk, gate),
+        Command::Slice(_, cli) => slice(
+            rt,
+            alloc,
+            tree,
+            settings,
+            cli.as_str(),
+            job.workers,
+            desk,
+            gate,
+        ),
+        Command::Plan(_, cli, gcode) => plan(
+            rt,
+            alloc,
+            tree,
+            settings,
+            cli.as_str(),
+            gcode.as_str(),
+            job.workers,
+            desk,
+            gate,
+        ),
         Command::Sample(n) => sampled(rt, alloc, *n, tree, settings, job.workers, gate),
     }
 }

@@ -2,10 +2,8 @@
 ghost use Rattle.std.specs.Prelude.{◌≡◌, ◌≤◌, ◌++◌, decimal, IfOk, OnOk};
 ghost use Rattle.scad_words.specs.Settings.{AreInRange};
 ghost use Rattle.slice_work.specs.declared.want.Want.TheVariants.{Plan};
-
 ghost use Rattle.scad_tree.specs.View.{solid_of};
 ghost use Rattle.scad_slice.specs.Parts.{IsPart};
-
 ghost use Rattle.scad_tool.specs.Told.{counts_text, sizes_text, sample_line, sample_script};
 ghost use Rattle.scad_tool.specs.Playing.{IsEnd};
 
@@ -40,7 +38,16 @@ pub fn sampled<R: Threads + Sync, G: Gate>(
     let mut desk = NullDesk::new();
     make(&mut desk, Out::Cli, "")?;
     make(&mut desk, Out::Gcode, "")?;
-    let written = draw(rt, alloc, tree, settings, Want::Plan, workers, &mut desk, gate)?;
+    let written = draw(
+        rt,
+        alloc,
+        tree,
+        settings,
+        Want::Plan,
+        workers,
+        &mut desk,
+        gate,
+    )?;
     let line = sample_line(alloc, n, &written)?;
     Ok(Text::from_vec(line))
 }

@@ -1,5 +1,9 @@
 //! What `plan` and `sample` write and report. The texts come from an independent program.
-use super::{Answer, ROOM, answer_of};
+use super::{Answer, ROOM, answer_of, desk_with};
+use crate::evaluation::evaluate;
+use crate::sample::sampled;
+use scad_io::Open;
+use scad_words::Settings;
 use std::alloc::{AllocError, Global};
 use std::process::Abort;
 use std::test::Fail;
@@ -74,7 +78,13 @@ fn a_plate_is_planned(rt: HostRuntime) -> Result<(), Fail> {
     let alloc = rt.alloc();
     for workers in ["1", "3"] {
         let answer = planned(&rt, alloc, PLATE, workers, Vec::new(alloc), ROOM)?;
-        expect_report(&rt, &answer, 0, "done: 1 layers, 1 loops, 9 moves, E 0.67351\n", workers);
+        expect_report(
+            &rt,
+            &answer,
+            0,
+            "done: 1 layers, 1 loops, 9 moves, E 0.67351\n",
+            workers,
+        );
         assert!(rt; answer.cli.as_slice() == PLATE_OUTLINES.as_bytes());
         assert!(rt; answer.gcode.as_slice() == PLATE_PROGRAM.as_bytes());
     }
@@ -89,8 +99,14 @@ fn done_but_for<R: Threads + Sync + Abort>(
 ) -> Result<bool, AllocError> {
     let fails = [call].to_vec(alloc)?;
     let answer = planned(rt, alloc, PLATE, "3", fails, ROOM)?;
-    assert!(rt; PLATE_OUTLINES.as_bytes().starts_with(&answer.cli), "call {call}");
-    assert!(rt; PLATE_PROGRAM.as_bytes().starts_with(&answer.gcode), "call {call}");
+    assert!(rt;
+        PLATE_OUTLINES.as_bytes().starts_with(&answer.cli),
+        "call {call}"
+    );
+    assert!(rt;
+        PLATE_PROGRAM.as_bytes().starts_with(&answer.gcode),
+        "call {call}"
+    );
     match call {
         // open and two reads
         0..3 => expect_report(rt, &answer, 4, "read fault\n", "reading"),
@@ -124,29 +140,49 @@ fn each_call_of_a_plan_failing_in_turn(rt: HostRuntime) -> Result<(), Fail> {
 #[test]
 fn the_least_layer_with_a_budget_is_answered(rt: HostRuntime) -> Result<(), Fail> {
     let alloc = rt.alloc();
-    let source = "cube([1,1,3]); translate([0,0,0.8]) cylinder(h=0.2,r=50,$fn=10001); translate([0,0,1.8]) cylinder(h=0.2,r=50,$fn=10001);";
+    let source =
+        "cube([1,1,3]); translate([0,0,0.8]) cylinder(h=0.2,r=50,$fn=10001); translate([0,0,1.8]) cylinder(h=0.2,r=50,$fn=10001);";
     for workers in ["1", "2", "64"] {
         let words = ["slice", "m.scad", "o.cli", "--workers", workers];
         let answer = answer_of(&rt, alloc, &words, source.as_bytes(), Vec::new(alloc), ROOM)?;
-        expect_report(&rt, &answer, 6, "budget 7 LayerEdges layer 4 count 20010\n", workers);
+        expect_report(
+            &rt,
+            &answer,
+            6,
+            "budget 7 LayerEdges layer 4 count 20010\n",
+            workers,
+        );
         let layers = answer.cli.as_slice();
-        assert!(rt; layers.starts_with(b"$$HEADERSTART\n$$ASCII\n$$UNITS/0.001\n$$VERSION/200\n$$LAYERS/15\n"));
-        assert!(rt; layers.ends_with(b"$$LAYER/800\n$$POLYLINE/1,1,5,0,0,1000,0,1000,1000,0,1000,0,0\n"));
+        assert!(rt;
+            layers.starts_with(
+                b"$$HEADERSTART\n$$ASCII\n$$UNITS/0.001\n$$VERSION/200\n$$LAYERS/15\n"
+            )
+        );
+        assert!(rt;
+            layers.ends_with(b"$$LAYER/800\n$$POLYLINE/1,1,5,0,0,1000,0,1000,1000,0,1000,0,0\n")
+        );
         assert!(rt; answer.gcode.is_empty());
     }
     Ok(())
 }
 
+/// The end of a sample, over the plate in the place of its own tree: its numbers, and the sizes of both files.
 #[test]
-fn a_sample_is_planned(rt: HostRuntime) -> Result<(), Fail> {
+fn a_sample_tells_sizes(rt: HostRuntime) -> Result<(), Fail> {
     let alloc = rt.alloc();
-    for workers in ["1", "2", "64"] {
-        let words = ["sample", "7", "--workers", workers];
-        let answer = answer_of(&rt, alloc, &words, b"", Vec::new(alloc), ROOM)?;
-        let line = "sample 7: 10 layers, 370 loops, 39786 moves, E 2278.70079, 215756 cli bytes, 1519446 gcode bytes\n";
-        expect_report(&rt, &answer, 0, line, workers);
-        assert!(rt; answer.cli.is_empty() && answer.gcode.is_empty());
-    }
+    let mut desk = desk_with(alloc, b"", Vec::new(alloc), ROOM)?;
+    let Ok(tree) = evaluate(alloc, PLATE.as_bytes(), &mut desk) else {
+        return Err(Fail::new("the plate has a tree"));
+    };
+    let settings = Settings::defaults();
+    let Ok(line) = sampled(&rt, alloc, 7, &tree, &settings, 3, &Open) else {
+        return Err(Fail::new("the plate is planned"));
+    };
+    let (cli, gcode) = (PLATE_OUTLINES.len(), PLATE_PROGRAM.len());
+    let wanted = format!(in alloc;
+        "sample 7: 1 layers, 1 loops, 9 moves, E 0.67351, {cli} cli bytes, {gcode} gcode bytes\n"
+    )?;
+    assert!(rt; line.as_slice() == wanted.as_bytes());
     Ok(())
 }
 
@@ -162,6 +198,12 @@ fn plans_of_settings(rt: HostRuntime) -> Result<(), Fail> {
         b"walls = 1\ninfill_spacing = 0\n",
         source.as_bytes(),
     )?;
-    expect_report(&rt, &answer, 0, "done: 1 layers, 2 loops, 8 moves, E 1.79604\n", source);
+    expect_report(
+        &rt,
+        &answer,
+        0,
+        "done: 1 layers, 2 loops, 8 moves, E 1.79604\n",
+        source,
+    );
     Ok(())
 }
