@@ -9,9 +9,8 @@ use Rattle.scad_fault.specs.declared.budget.Budget.{Budget}
 use Rattle.scad_io.specs.Desk.{View}
 use Rattle.scad_io.specs.declared.desk.Out.{Out}
 use Rattle.scad_io.specs.declared.desk.Out.TheVariants.{Cli, Gcode}
-use Rattle.scad_script.specs.declared.stop.Stop.{Stop}
 use Rattle.scad_script.specs.Steps.{Step, text_of}
-use Rattle.scad_script.specs.Script.{Script, Ending, Finishes, Refuses, first, ends, layer_then, layers}
+use Rattle.scad_script.specs.Script.{Script, Ending, Finishes, first, ends, layer_then, layers}
 use Rattle.scad_script.specs.Played.{Left, Carries}
 use Rattle.scad_words.specs.declared.settings.Settings.{Settings}
 use Rattle.slice_work.specs.declared.want.Want.{Want}
@@ -21,7 +20,7 @@ use Rattle.slice_work.specs.Script.{rates_of, layer_steps}
 use Rattle.slice_work.specs.Sums.{step_size, size_below, IsSummary}
 use Rattle.scad_slice.specs.declared.written.Sizes.{Sizes}
 use Rattle.scad_slice.specs.declared.written.Written.{Written}
-use Rattle.scad_slice.specs.Script.{heads, tails, files, file_size, HaveSizes, IsWritten}
+use Rattle.scad_slice.specs.Script.{heads, tails, file_size, HaveSizes, IsWritten}
 use Rattle.scad_slice.proofs.Texts.{text_append}
 
 -- layers that go to their end
