@@ -1,6 +1,6 @@
 -- A layer that the code has drawn is the part's.
 use Rattle.std.proofs.Common.{◌≡◌, ◌≢◌, ◌<◌, ◌≤◌, List, [], ℕ, true, false, Vec, Option, Some, None, Result, Ok, Err}
-use Rattle.std.proofs.Common.{refl, sym, ap, ◌∙◌, subst, length, nat_lt, arith}
+use Rattle.std.proofs.Common.{refl, sym, subst, length, nat_lt, arith}
 use Rattle.std.specs.Prelude.{if◌then◌else◌}
 use Rattle.std.proofs.lemmas.Bool.Decides.{nat_tests}
 use Rattle.std.specs.Global.{Global}

@@ -9,9 +9,8 @@ use Rattle.scad_fault.specs.declared.budget.Budget.{Budget}
 use Rattle.scad_io.specs.Desk.{View}
 use Rattle.scad_io.specs.declared.desk.Out.{Out}
 use Rattle.scad_io.specs.declared.desk.Out.TheVariants.{Cli, Gcode}
-use Rattle.scad_script.specs.declared.stop.Stop.{Stop}
 use Rattle.scad_script.specs.Steps.{Step, text_of}
-use Rattle.scad_script.specs.Script.{Script, Ending, Finishes, Refuses, first, ends, layer_then, layers}
+use Rattle.scad_script.specs.Script.{Script, Ending, Finishes, first, ends, layer_then, layers}
 use Rattle.scad_script.specs.Played.{Left, Carries}
 use Rattle.scad_words.specs.declared.settings.Settings.{Settings}
 use Rattle.slice_work.specs.declared.want.Want.{Want}
@@ -21,7 +20,7 @@ use Rattle.slice_work.specs.Script.{rates_of, layer_steps}
 use Rattle.slice_work.specs.Sums.{step_size, size_below, IsSummary}
 use Rattle.scad_slice.specs.declared.written.Sizes.{Sizes}
 use Rattle.scad_slice.specs.declared.written.Written.{Written}
-use Rattle.scad_slice.specs.Script.{heads, tails, files, file_size, HaveSizes, IsWritten}
+use Rattle.scad_slice.specs.Script.{heads, tails, file_size, HaveSizes, IsWritten}
 use Rattle.scad_slice.proofs.Texts.{text_append}
 
 -- layers that go to their end
@@ -56,10 +55,10 @@ module _ (out : Out) (layer : ℕ → Result (List Step) Budget) (line : List �
       in
       omega (arith, behind, counted)
 
--- a script that was played to its last line ends with it
-pub finishes_so : (whole : Script) (line : List ℕ) (old now : View) → Left whole (ends (Finishes line)) old now
-    → whole.ending ≡ Finishes line
-finishes_so whole line old now left = ap (λ s. s.ending) (sym left.parts)
+-- a script that was played to its end has this end
+pub ends_so : (whole : Script) (ending : Ending) (old now : View) → Left whole (ends ending) old now
+    → whole.ending ≡ ending
+ends_so whole ending old now left = ap (λ s. s.ending) (sym left.parts)
 
 pub from_start : (whole : Script) (old : View) → Left whole whole old old
 from_start whole old = record { done = []; parts = refl; went = refl }
@@ -68,7 +67,7 @@ from_start whole old = record { done = []; parts = refl; went = refl }
 pub carried_through : {T : Type 0} (part : Script → Script) (t : T) (old new : View) → Carries part (Ok t) old new
     → (part (ends (Finishes []))).ending ≡ Finishes []
 carried_through part t old new carries =
-    finishes_so (part (ends (Finishes []))) [] old new
+    ends_so (part (ends (Finishes []))) (Finishes []) old new
     (carries (part (ends (Finishes []))) (ends (Finishes [])) old (from_start (part (ends (Finishes []))) old))
 
 module _ (want : Want) (s : Settings) (part : Part) (count : ℕ) where

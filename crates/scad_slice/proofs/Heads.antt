@@ -1,5 +1,5 @@
 -- What comes first of heads and ends.
-use Rattle.std.proofs.Common.{ℕ, List, [], ◌∷◌, refl}
+use Rattle.std.proofs.Common.{ℕ, [], ◌∷◌}
 use Rattle.scad_io.specs.Desk.{View}
 use Rattle.scad_io.specs.declared.desk.Out.TheVariants.{Cli, Gcode}
 use Rattle.scad_script.specs.Steps.{Sends}

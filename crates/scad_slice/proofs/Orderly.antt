@@ -1,5 +1,5 @@
 -- The scripts of both commands only draw, and keep what holds of every command's steps.
-use Rattle.std.proofs.Common.{◌≡◌, ◌≢◌, ◌++◌, List, [], ◌∷◌, ℕ, Bool, true, false, Option, Some, None, Result, Ok, Err}
+use Rattle.std.proofs.Common.{◌≡◌, ◌≢◌, ◌++◌, List, [], ◌∷◌, ℕ, Bool, true, false, Some, Result, Ok, Err}
 use Rattle.std.proofs.Common.{nat_lt, arith}
 use Rattle.std.specs.Prelude.{IfOk, if◌then◌else◌}
 use Rattle.cli_text.specs.Cli as outline
@@ -19,7 +19,7 @@ use Rattle.slice_work.specs.declared.want.Want.TheVariants.{Outlines, Plan}
 use Rattle.slice_work.specs.Part.{Layout, Part, layer_limit}
 use Rattle.slice_work.specs.Script.{rates_of, written_unless, layer_steps, volume_below}
 use Rattle.scad_slice.specs.Budgets.{layer_count, layers_passed}
-use Rattle.scad_slice.specs.Script.{tails, files, unless_many, slice_end, plan_end, slice_script, plan_script}
+use Rattle.scad_slice.specs.Script.{tails, files, slice_end, plan_end, slice_script, plan_script}
 
 -- a script that may stand behind the lines of `echo`
 pub record DrawsInOrder (given : Given) (s : Script) : Type 0 where

@@ -1,6 +1,6 @@
 -- How the script of a command goes: it is refused for the tree's number of layers, or a layer ends it, or it goes to
 -- its end.
-use Rattle.std.proofs.Common.{◌≡◌, ◌⊎◌, inl, inr, ◌<◌, ◌≤◌, ◌+◌, List, [], ◌∷◌, ℕ, Bool, true, false, Option, Some}
+use Rattle.std.proofs.Common.{◌≡◌, ◌⊎◌, inl, inr, ◌<◌, ◌≤◌, List, [], ◌∷◌, ℕ, Bool, true, false, Option, Some}
 use Rattle.std.proofs.Common.{None, Result, Ok, Err, refl, sym, ap, ◌∙◌, subst, nat_lt, rules, arith}
 use Rattle.std.proofs.lemmas.Bool.Decides.{nat_tests}
 use Rattle.std.specs.Prelude.{unwrap_or, if◌then◌else◌}
@@ -10,7 +10,7 @@ use Rattle.scad_fault.specs.declared.budget.BudgetKind.TheVariants.{LayerEdges, 
 use Rattle.scad_io.specs.declared.desk.Out.TheVariants.{Cli, Gcode}
 use Rattle.scad_script.specs.declared.refusal.Refusal.TheVariants.{Over}
 use Rattle.scad_script.specs.Steps.{Step, Makes}
-use Rattle.scad_script.specs.Script.{Script, Ending, Finishes, Refuses, first, ends, layers}
+use Rattle.scad_script.specs.Script.{Script, Finishes, Refuses, first, ends, layers}
 use Rattle.scad_geom.specs.declared.point.Pt.{Pt}
 use Rattle.scad_tree.specs.Solid.{Solid}
 use Rattle.scad_tree.specs.Solids.{AreSolids}

@@ -1,12 +1,11 @@
 -- What the layers write to each file.
-use Rattle.std.proofs.Common.{◌≡◌, ◌+◌, ◌*◌, ◌<◌, ◌++◌, List, [], ◌∷◌, ℕ, zero, suc, Result, Ok, Err, refl, sym, ap}
+use Rattle.std.proofs.Common.{◌≡◌, ◌+◌, ◌*◌, ◌<◌, ◌++◌, List, [], ℕ, zero, suc, Ok, refl, sym, ap}
 use Rattle.std.proofs.Common.{◌∙◌, arith, append_assoc}
-use Rattle.std.specs.Prelude.{map, flat_map, length}
-use Rattle.std.specs.List.{range_with_len, sum_by}
+use Rattle.std.specs.Prelude.{map, flat_map}
+use Rattle.std.specs.List.{range_with_len}
 use Rattle.std.proofs.lemmas.List.{append-nil}
 use Rattle.std.proofs.lemmas.Grind.{flat_map-append}
 use Rattle.std.proofs.lemmas.List.FromFn.{length-map-range_with_len, sum_by-map-range_with_len_more}
-use Rattle.scad_fault.specs.declared.budget.Budget.{Budget}
 use Rattle.scad_geom.specs.declared.point.Pt.{Pt}
 use Rattle.scad_io.specs.declared.desk.Out.{Out}
 use Rattle.scad_io.specs.declared.desk.Out.TheVariants.{Cli, Gcode}
@@ -24,7 +23,7 @@ use Rattle.slice_work.specs.Script.{rates_of, written_unless, layer_steps, volum
 use Rattle.scad_slice.specs.Budgets.{layer_count}
 use Rattle.scad_slice.specs.Parts.{layer_at, layers_of, plans_of}
 use Rattle.scad_slice.specs.Script.{slice_script, plan_script}
-use Rattle.scad_slice.specs.Laws.{IsWhole, SlicesAreWhole, PlansAreWhole, ProgramsAreWhole}
+use Rattle.scad_slice.specs.Laws.{SlicesAreWhole, PlansAreWhole, ProgramsAreWhole}
 use Rattle.scad_slice.proofs.Layers.{steps_of, AreMadeFrom, written_from, made_from}
 use Rattle.scad_slice.proofs.Parted.{IsCut, slice_creates, plan_creates, slice_line, line_of_plan, whole_goes}
 

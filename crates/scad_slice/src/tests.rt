@@ -152,23 +152,29 @@ fn expect(rt: &impl Abort, answer: &Answer, line: &str, cli: &str, gcode: &str) 
     assert!(rt; answer.faults == 0);
 }
 
+fn expect_files<R: Threads + Sync + Abort>(rt: &R, alloc: Global, workers: u32) -> Result<(), Fail>
+    requires some { 1 ≤ workers }
+    requires most { workers ≤ 64 }
+{
+    let cube = cube(alloc)?;
+    let answer = sliced(rt, alloc, &cube, workers, &[])?;
+    expect(rt, &answer, "done: 1 layers, 1 loops\n", CUBE_CLI, "");
+    let answer = planned(rt, alloc, &cube, workers, &[])?;
+    let line = "done: 1 layers, 1 loops, 9 moves, E 0.67351\n";
+    expect(rt, &answer, line, CUBE_CLI, CUBE_GCODE);
+    let plate = plate(alloc)?;
+    let answer = sliced(rt, alloc, &plate, workers, &[])?;
+    expect(rt, &answer, "done: 2 layers, 4 loops\n", PLATE_CLI, "");
+    let answer = planned(rt, alloc, &plate, workers, &[])?;
+    let line = "done: 2 layers, 4 loops, 16 moves, E 1.79604\n";
+    expect(rt, &answer, line, PLATE_CLI, PLATE_GCODE);
+    Ok(())
+}
+
 #[test]
 fn trees_are_sliced_and_planned(rt: HostRuntime) -> Result<(), Fail> {
-    let alloc = rt.alloc();
-    let cube = cube(alloc)?;
-    let plate = plate(alloc)?;
-    for workers in [1, 3] {
-        let answer = sliced(&rt, alloc, &cube, workers, &[])?;
-        expect(&rt, &answer, "done: 1 layers, 1 loops\n", CUBE_CLI, "");
-        let answer = planned(&rt, alloc, &cube, workers, &[])?;
-        let line = "done: 1 layers, 1 loops, 9 moves, E 0.67351\n";
-        expect(&rt, &answer, line, CUBE_CLI, CUBE_GCODE);
-        let answer = sliced(&rt, alloc, &plate, workers, &[])?;
-        expect(&rt, &answer, "done: 2 layers, 4 loops\n", PLATE_CLI, "");
-        let answer = planned(&rt, alloc, &plate, workers, &[])?;
-        let line = "done: 2 layers, 4 loops, 16 moves, E 1.79604\n";
-        expect(&rt, &answer, line, PLATE_CLI, PLATE_GCODE);
-    }
+    expect_files(&rt, rt.alloc(), 1)?;
+    expect_files(&rt, rt.alloc(), 3)?;
     Ok(())
 }
 

@@ -5,7 +5,6 @@ use Rattle.std.proofs.lemmas.List.Elements.{All-weaker, All-from_recursion, recu
 use Rattle.scad_geom.specs.Limits.{coordinate_limit, point_limit}
 use Rattle.scad_geom.specs.declared.level.LeafEdge.{LeafEdge}
 use Rattle.scad_geom.specs.declared.point.Pt.{Pt}
-use Rattle.scad_geom.specs.declared.point.Edge.{Edge}
 use Rattle.scad_geom.specs.Within.{IsWithin, IsEdgeWithin}
 use Rattle.scad_solid.specs.declared.triangle.Triangle.{Triangle}
 use Rattle.scad_solid.specs.Solid.{IsSolid}

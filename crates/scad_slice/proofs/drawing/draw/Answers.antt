@@ -1,9 +1,7 @@
 use Rattle.std.proofs.Common.{rules, sym, subst}
 use Rattle.scad_script.specs.Script.{layers}
 use Rattle.scad_script.proofs.Layers.{as_left}
-use Rattle.scad_tree.specs.View.{solid_of}
 use Rattle.slice_work.specs.Script.{rates_of, layer_steps}
-use Rattle.scad_slice.specs.Budgets.{layer_count}
 use Rattle.scad_slice.specs.Script.{files, IsWritten}
 use Rattle.scad_slice.proofs.Files.{carried_through, written_so}
 use Rattle.scad_slice.proofs.Stopping.{stops_part}
