@@ -69,7 +69,7 @@ holes_short : (n i count : ℕ) → i + count ≤ 36 → length (flat_map (hole 
 holes_short n i zero within = omega arith
 holes_short n i (suc count) within =
     let both : length (flat_map (hole n) (range_with_len i (suc count))) ≡ length (hole n i) + length (flat_map (hole n) (range_with_len (i + 1) count))
-        = length-append (hole n i) (flat_map (hole n) (range_with_len (i + 1) count)) in
+    = length-append (hole n i) (flat_map (hole n) (range_with_len (i + 1) count)) in
     let here = hole_short i (radius (after n (i + 1))) (omega (arith, within)) (radius_low (after n (i + 1))) in
     let behind = holes_short n (i + 1) count (omega (arith, within)) in omega (arith, both, here, behind)
 
