@@ -1,6 +1,6 @@
 -- Each tree has a shape that stands for it: one of operations on two members.
 use Rattle.std.proofs.Common.{◌≡◌, ℕ, ◌+◌, Bool, not, ◌&&◌, ◌||◌, List, [], ◌∷◌, ◌++◌}
-use Rattle.std.proofs.Common.{length, refl, sym, ap, ap₂, ◌∙◌, arith, append_assoc, append-nil, length-append}
+use Rattle.std.proofs.Common.{length, refl, sym, ap, ap₂, ◌∙◌, append_assoc, append-nil, length-append}
 use Rattle.std.proofs.Math.Bool.{and-true, and_assoc}
 use lib.Seq.{get_or-append_seam}
 use Rattle.scad_geom.specs.declared.shape.Shape.{Shape, Empty, Leaf}

@@ -24,8 +24,8 @@ use Rattle.plan_infill.specs.declared.line.Line.TheVariants.{Row, Column}
 use Rattle.plan_infill.specs.Columns.{heading}
 use Rattle.plan_infill.specs.Runs.{point_on}
 use Rattle.plan_infill.specs.Steps.{turn_before, turns_before}
-use Rattle.plan_infill.proofs.Turning.{at, turn_at, turn_between, turn_below, turn_above, passage_between, passage_below}
-use Rattle.plan_infill.proofs.Turning.{passage_above}
+use Rattle.plan_infill.proofs.Turning.{at, turn_at, turn_between, turn_below, turn_above, passage_between}
+use Rattle.plan_infill.proofs.Turning.{passage_below, passage_above}
 use Rattle.plan_infill.proofs.Steps.{rise_is, left_at, x_at_weights, above_limit}
 use Rattle.plan_infill.proofs.AllRuns.{none_before}
 
