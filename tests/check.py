@@ -8,7 +8,7 @@ import tempfile
 from dataclasses import dataclass, field
 
 # Seconds that a run may take.
-TIME_LIMIT = 60
+TIME_LIMIT = 300
 
 # The shell's line that starts the program where a check says nothing else.
 PLAIN = 'exec "$@"'
