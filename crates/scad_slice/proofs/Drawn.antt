@@ -144,21 +144,14 @@ lays_plan s i given loops plan same is_plan accepted few = (
 pub lays_refused : (s : Settings) (i : ℕ) (given outlines : List (List Pt)) (found fault : PlanFault) (budget : Budget)
     (end : LayerEnd) → given ≡ outlines → IsPlanRefusal given i s found → found ≡ fault → fault ≢ Memory
     → plan_budget i fault ≡ Some budget → end ≡ Over budget → LaysOut Plan s i outlines end
-lays_refused s i given outlines found fault budget end same refused is known passed over = (
-  Err budget,
-  record {
-    fault = fault;
-    refused =
-        record {
-          known =
-              known;
-          refusal =
-              subst (IsPlanRefusal outlines i s) is (subst (λ (os : List (List Pt)). IsPlanRefusal os i s found) same refused);
-        };
-    passed = passed;
-  },
-  subst (Ends (Err budget)) (sym over) refl,
-)
+lays_refused s i given outlines found fault budget end same refused is known passed over =
+    let refusal : IsPlanRefusal outlines i s fault =
+    subst (IsPlanRefusal outlines i s) is (subst (λ (os : List (List Pt)). IsPlanRefusal os i s found) same refused)
+    in (
+      Err budget,
+      record { fault = fault; refused = record { known = known; refusal = refusal }; passed = passed },
+      subst (Ends (Err budget)) (sym over) refl,
+    )
 
 -- ---- a tree has one part
 pub ends_so : (want : Want) (s : Settings) (tree : Solid) (i : ℕ) (part : Part) (end : LayerEnd) → AreSolids tree

@@ -6,11 +6,12 @@ use Rattle.cli_text.specs.Cli as outline
 use Rattle.gcode_text.specs.Gcode as program
 use Rattle.gcode_text.specs.declared.rates.Rates.{Rates}
 use Rattle.scad_fault.specs.declared.budget.Budget.{Budget}
+use Rattle.scad_io.specs.declared.desk.Out.{Out}
 use Rattle.scad_io.specs.declared.desk.Out.TheVariants.{Cli, Gcode}
 use Rattle.scad_script.specs.declared.refusal.Refusal.TheVariants.{Over}
-use Rattle.scad_script.specs.Steps.{Step, Makes, echoing, drawing as drawing_stage}
+use Rattle.scad_script.specs.Steps.{Step, Makes, text_of, echoing, drawing as drawing_stage}
 use Rattle.scad_script.specs.Script.{Script, Refuses, Finishes, Lacks, first, ends, layers}
-use Rattle.scad_script.specs.Names.{Given, AllFrom, AllStand}
+use Rattle.scad_script.specs.Names.{Given, name_for, AllFrom, Stands, AllStand}
 use Rattle.scad_script.proofs.Layers.{OnlySends, Draws, piece_draws, layers_draw, layers_lack}
 use Rattle.scad_tree.specs.Solid.{Solid}
 use Rattle.scad_words.specs.declared.settings.Settings.{Settings}
@@ -100,49 +101,35 @@ unless_many_draws given count script true draws =
     record { order = tt; stand = tt; there = λ same. let never : ⊥ = cc in absurd never }
 unless_many_draws given count script false draws = draws
 
+-- an output that gets bytes is created first
+made_first : (given : Given) (o : Out) (name : List ℕ) (rest : Script) → name_for o given ≡ Some name
+    → text_of o rest.steps ≢ [] → DrawsOn given rest → DrawsOn given (first (Makes o name ∷ []) rest)
+made_first given o name rest named filled behind =
+    let stands : Stands given (Makes o name) rest.steps =
+    record { order = behind.draws.order; name = named; filled = filled }
+    in
+    record {
+      draws = record { order = (omega arith, behind.draws.order); stand = (stands, behind.draws.stand) };
+      there = behind.there;
+    }
+
 pub slice_draws : (s : Settings) (given : Given) (cli : List ℕ) (part : Part) (tree : Solid) → given.cli ≡ Some cli
     → DrawsInOrder given (slice_script s cli part tree)
 slice_draws s given cli part tree named =
     let count = layer_count s.layer_height tree in
-    let behind = files_draw given s part count _ Outlines in
-    unless_many_draws given count (first (Makes Cli cli ∷ []) (files Outlines s part count (slice_end part count)))
-    (nat_lt layer_limit count)
-    (in_order given _ (record {
-      draws =
-          record {
-            order =
-                (omega arith, behind.draws.order);
-            stand =
-                (record { order = behind.draws.order; name = named; filled = outlines_some count _ }, behind.draws.stand);
-          };
-      there = behind.there;
-    }))
+    let drawn = files Outlines s part count (slice_end part count) in
+    let drawn_on = files_draw given s part count _ Outlines in
+    let begun = made_first given Cli cli drawn named (outlines_some count _) drawn_on in
+    unless_many_draws given count (first (Makes Cli cli ∷ []) drawn) (nat_lt layer_limit count) (in_order given _ begun)
 
-pub plan_draws : (s : Settings) (given : Given) (cli gcode : List ℕ) (part : Part) (tree : Solid) → given.cli ≡ Some cli
-    → given.gcode ≡ Some gcode → DrawsInOrder given (plan_script s cli gcode part tree)
+pub plan_draws : (s : Settings) (given : Given) (cli gcode : List ℕ) (part : Part) (tree : Solid)
+    → given.cli ≡ Some cli → given.gcode ≡ Some gcode → DrawsInOrder given (plan_script s cli gcode part tree)
 plan_draws s given cli gcode part tree named called =
     let count = layer_count s.layer_height tree in
-    let behind = files_draw given s part count _ Plan in
-    let program : Draws given (first (Makes Gcode gcode ∷ []) (files Plan s part count (plan_end s part count))).steps =
-    record {
-      order =
-          (omega arith, behind.draws.order);
-      stand = (
-        record { order = behind.draws.order; name = called; filled = program_some s.hot_end s.bed _ },
-        behind.draws.stand,
-      );
-    }
-    in
-    unless_many_draws given count
-    (first (Makes Cli cli ∷ []) (first (Makes Gcode gcode ∷ []) (files Plan s part count (plan_end s part count))))
-    (nat_lt layer_limit count)
-    (in_order given _ (record {
-      draws =
-          record {
-            order =
-                (omega arith, program.order);
-            stand =
-                (record { order = program.order; name = named; filled = outlines_some count _ }, program.stand);
-          };
-      there = behind.there;
-    }))
+    let drawn = files Plan s part count (plan_end s part count) in
+    let program = first (Makes Gcode gcode ∷ []) drawn in
+    let drawn_on = files_draw given s part count _ Plan in
+    let behind = made_first given Gcode gcode drawn called (program_some s.hot_end s.bed _) drawn_on in
+    let begun = made_first given Cli cli program named (outlines_some count _) behind in
+    unless_many_draws given count (first (Makes Cli cli ∷ []) program) (nat_lt layer_limit count)
+    (in_order given _ begun)

@@ -55,7 +55,7 @@ fn too_many_layers_create_nothing(rt: HostRuntime) -> Result<(), Fail> {
     Ok(())
 }
 
-/// A prism over 10,005 points of a parabola.
+/// A prism over 10,005 points of a parabola, ten micrometres apart.
 fn prism(alloc: Global, low: i32, high: i32) -> Result<Tree, Fail> {
     let count: u32 = 10_005;
     let mut corners = Vec::new(alloc);
@@ -65,8 +65,8 @@ fn prism(alloc: Global, low: i32, high: i32) -> Result<Tree, Fail> {
     for n in 0..count {
         let x = n as i32;
         let y = (x as i64 * x as i64 / 200) as i32;
-        corners.push(pt(x, y, low))?;
-        corners.push(pt(x, y, high))?;
+        corners.push(pt(10 * x, y, low))?;
+        corners.push(pt(10 * x, y, high))?;
         let next = (n + 1) % count;
         bottom.push(2 * n)?;
         top.push(2 * (count - 1 - n) + 1)?;
