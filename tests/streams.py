@@ -233,7 +233,7 @@ def launcher_checks(launcher):
 
     It doesn't find `rt` on this path, and so never builds here.
     """
-    start = f"shift; export PATH=/usr/bin:/bin; exec {shlex.quote(launcher)}"
+    start = f"shift; export PATH=/usr/bin:/bin SCADSLICE_QUIET=1; exec {shlex.quote(launcher)}"
     by = lambda redirected="": f'{start} "$@" {redirected}'
     more = [b"slice", b"m.scad", b"o.cli"]
     return [

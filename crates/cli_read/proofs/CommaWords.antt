@@ -25,12 +25,18 @@ unfolding behind
 behind_is start text rest e =
     let c = cond_some (bytes_eq (take (length start) text) start) (drop (length start) text) rest e in
     sym (take-append-drop (length start) text)
-    ∙ ap (λ (front : List ℕ). front ++ drop (length start) text) ((bytes_eq-Decides (take (length start) text) start).0 c.0)
+    ∙ ap (λ (front : List ℕ). front ++ drop (length start) text) ((bytes_eq-Decides (take (length start) text) start).0
+    c.0)
     ∙ ap (λ (back : List ℕ). start ++ back) c.1
 
 pub behind_back : (start rest : List ℕ) → behind start (start ++ rest) ≡ Some rest
 unfolding behind
-behind_back start rest = rw (take_at start rest (length start) refl, drop_at start rest (length start) refl, same_bytes start) refl
+behind_back start rest = rw (
+  take_at start rest (length start) refl,
+  drop_at start rest (length start) refl,
+  same_bytes
+      start,
+) refl
 
 -- ---- words
 
@@ -42,7 +48,8 @@ word_more word rest h = slice_split_at (λ (b : ℕ). b == comma) word comma res
 
 -- texts of the same words are one
 pub same_words : (a b : List ℕ) → words a ≡ words b → a ≡ b
-same_words a b e = sym (join_with_byte-slice_split comma a) ∙ ap (join_with_byte comma) e ∙ join_with_byte-slice_split comma b
+same_words a b e = sym (join_with_byte-slice_split comma a) ∙ ap (join_with_byte comma) e ∙ join_with_byte-slice_split
+    comma b
 
 abbrev pub coordinate_words : List Pt → List (List ℕ)
 coordinate_words [] = []
@@ -54,24 +61,30 @@ points_text ps = flat_map point_text ps
 regrouped : (x y rest : List ℕ) → (codes "," ++ x ++ codes "," ++ y) ++ rest ≡ comma ∷ (x ++ comma ∷ (y ++ rest))
 regrouped x y rest = simp append_assoc
 
-points_text_is : (p : Pt) (ps : List Pt) → points_text (p ∷ ps) ≡ comma ∷ (signed_decimal p.x ++ comma ∷ (signed_decimal p.y ++ points_text ps))
-points_text_is p ps = flat_map-cons point_text p ps ∙ regrouped (signed_decimal p.x) (signed_decimal p.y) (points_text ps)
+points_text_is : (p : Pt) (ps : List Pt) → points_text (p ∷ ps)
+    ≡ comma ∷ (signed_decimal p.x ++ comma ∷ (signed_decimal p.y ++ points_text ps))
+points_text_is p ps = flat_map-cons point_text p ps ∙ regrouped (signed_decimal p.x) (signed_decimal p.y)
+    (points_text ps)
 
 -- the first word, and those behind it
-pub first_word : (text : List ℕ) (at : ℕ) → at ≡ first_at comma text → at ≤ length text → words text ≡ take at text ∷ words_behind (drop at text)
+pub first_word : (text : List ℕ) (at : ℕ) → at ≡ first_at comma text → at ≤ length text
+    → words text ≡ take at text ∷ words_behind (drop at text)
 first_word text at is within = by_size (cases_lt at (length text))
   where
     by_size : (at < length text) ⊎ (length text ≤ at) → words text ≡ take at text ∷ words_behind (drop at text)
     by_size (inl h) =
         let there : drop at text ≡ get_or text at 0 ∷ drop (at + 1) text = drop_more text at 0 h in
-        subst (λ (k : ℕ). words text ≡ take k text ∷ words (drop (k + 1) text)) (sym is) (first_piece comma text (omega arith))
+        subst (λ (k : ℕ). words text ≡ take k text ∷ words (drop (k + 1) text)) (sym is)
+        (first_piece comma text (omega arith))
         ∙ ap (λ (rest : List ℕ). take at text ∷ words_behind rest) (sym there)
     by_size (inr h) =
         one_piece comma text (omega arith)
-        ∙ ap₂ (λ (w : List ℕ) (ws : List (List ℕ)). w ∷ ws) (sym (take_all at text h)) (sym (ap words_behind (drop_of_length-le text h)))
+        ∙ ap₂ (λ (w : List ℕ) (ws : List (List ℕ)). w ∷ ws) (sym (take_all at text h))
+        (sym (ap words_behind (drop_of_length-le text h)))
 
 -- the words of a word and points behind it
-pub words_of_points : (word : List ℕ) (ps : List Pt) → Lacks comma word → AllByRecursion IsNear ps → words (word ++ points_text ps) ≡ word ∷ coordinate_words ps
+pub words_of_points : (word : List ℕ) (ps : List Pt) → Lacks comma word → AllByRecursion IsNear ps
+    → words (word ++ points_text ps) ≡ word ∷ coordinate_words ps
 words_of_points word [] h near = ap words (append-nil word) ∙ one_word word h
 words_of_points word (p ∷ ps) h near =
     let x = signed_lacks comma p.x (omega arith) near.0.0 in
@@ -85,9 +98,13 @@ outline_regrouped : (a b c : List ℕ) → a ++ codes "," ++ b ++ c ≡ a ++ com
 outline_regrouped a b c = simp append_assoc
 
 -- the words of an outline: its direction, the number of its points, and these
-pub words_of_outline : (direction count : ℕ) (ps : List Pt) → direction < 2 ^ 32 → count < 2 ^ 32 → AllByRecursion IsNear ps →
-    words (decimal direction ++ codes "," ++ decimal count ++ points_text ps) ≡ decimal direction ∷ decimal count ∷ coordinate_words ps
+pub words_of_outline : (direction count : ℕ) (ps : List Pt) → direction < 2 ^ 32 → count < 2 ^ 32
+    → AllByRecursion IsNear ps →
+    words (decimal direction ++ codes "," ++ decimal count ++ points_text ps) ≡ decimal direction ∷ decimal count
+    ∷ coordinate_words ps
 words_of_outline direction count ps d c near =
     ap words (outline_regrouped (decimal direction) (decimal count) (points_text ps))
-    ∙ word_more (decimal direction) (decimal count ++ points_text ps) (decimal_lacks comma direction (omega arith) (omega arith))
-    ∙ ap (λ (ws : List (List ℕ)). decimal direction ∷ ws) (words_of_points (decimal count) ps (decimal_lacks comma count (omega arith) (omega arith)) near)
+    ∙ word_more (decimal direction) (decimal count ++ points_text ps) (decimal_lacks comma direction (omega arith)
+    (omega arith))
+    ∙ ap (λ (ws : List (List ℕ)). decimal direction ∷ ws) (words_of_points (decimal count) ps
+    (decimal_lacks comma count (omega arith) (omega arith)) near)

@@ -18,18 +18,23 @@ use Rattle.cli_read.specs.View.{with_last}
 abbrev pub with_front : List Pt → Result (List Pt) CliFault → Result (List Pt) CliFault
 with_front front read = read >>= λ points. Ok (front ++ points)
 
-one_more : (front : List Pt) (p : Pt) (read : Result (List Pt) CliFault) → with_front front (read >>= λ points. Ok (p ∷ points)) ≡ with_front (front ++ p ∷ []) read
+one_more : (front : List Pt) (p : Pt) (read : Result (List Pt) CliFault)
+    → with_front front (read >>= λ points. Ok (p ∷ points)) ≡ with_front (front ++ p ∷ []) read
 one_more front p (Ok points) = ap (λ (ps : List Pt). Ok ps) (sym (append_assoc front (p ∷ []) points))
 one_more front p (Err fault) = refl
 
-pub points_go_on : (n : ℕ) (front : List Pt) (p : Pt) (x y : List ℕ) (words rest : List (List ℕ)) (total : Result (List Pt) CliFault) →
-    words ≡ x ∷ y ∷ rest → point_at n x y ≡ Ok p → with_front front (points_at n words) ≡ total → with_front (front ++ p ∷ []) (points_at n rest) ≡ total
+pub points_go_on : (n : ℕ) (front : List Pt) (p : Pt) (x y : List ℕ) (words rest : List (List ℕ))
+    (total : Result (List Pt) CliFault) →
+    words ≡ x ∷ y ∷ rest → point_at n x y ≡ Ok p → with_front front (points_at n words) ≡ total
+    → with_front (front ++ p ∷ []) (points_at n rest) ≡ total
 unfolding points_at
 points_go_on n front p x y words rest total are read so_far =
-    let one : with_front front (points_at n words) ≡ with_front (front ++ p ∷ []) (points_at n rest) = rw (are, read) (one_more front p (points_at n rest)) in
+    let one : with_front front (points_at n words) ≡ with_front (front ++ p ∷ []) (points_at n rest) = rw (are, read)
+    (one_more front p (points_at n rest)) in
     sym one ∙ so_far
 
-pub points_stop : (n : ℕ) (front : List Pt) (x y : List ℕ) (words rest : List (List ℕ)) (total : Result (List Pt) CliFault) (fault : CliFault) →
+pub points_stop : (n : ℕ) (front : List Pt) (x y : List ℕ) (words rest : List (List ℕ))
+    (total : Result (List Pt) CliFault) (fault : CliFault) →
     words ≡ x ∷ y ∷ rest → point_at n x y ≡ Err fault → with_front front (points_at n words) ≡ total → total ≡ Err fault
 unfolding points_at
 points_stop n front x y words rest total fault are read so_far =
@@ -47,7 +52,8 @@ pub points_end : (n : ℕ) (front : List Pt) (words : List (List ℕ)) (total : 
     words ≡ [] → with_front front (points_at n words) ≡ total → total ≡ Ok front
 unfolding points_at
 points_end n front words total are so_far =
-    let one : with_front front (points_at n words) ≡ Ok front = rw are (ap (λ (ps : List Pt). Ok ps) (append-nil front)) in
+    let one : with_front front (points_at n words) ≡ Ok front = rw are (ap (λ (ps : List Pt). Ok ps) (append-nil front))
+    in
     sym so_far ∙ one
 
 -- ---- layers
@@ -56,13 +62,15 @@ points_end n front words total are so_far =
 abbrev pub made_of : (Geometry → List Layer) → Result Geometry CliFault → Result (List Layer) CliFault
 made_of make read = read >>= λ more. Ok (make more)
 
-same_made : (f g : Geometry → List Layer) (read : Result Geometry CliFault) (s : Said) → ((more : Geometry) → f more ≡ g (onto s more)) →
+same_made : (f g : Geometry → List Layer) (read : Result Geometry CliFault) (s : Said)
+    → ((more : Geometry) → f more ≡ g (onto s more)) →
     made_of g (read >>= λ more. Ok (onto s more)) ≡ made_of f read
 same_made f g (Ok more) s same = ap (λ (ls : List Layer). Ok ls) (sym (same more))
 same_made f g (Err fault) s same = refl
 
 -- nothing was read before
-pub layers_begin : (f : Geometry → List Layer) (last : Option ℕ) (all : List (List ℕ)) → last ≡ None → ((more : Geometry) → f more ≡ more.layers) →
+pub layers_begin : (f : Geometry → List Layer) (last : Option ℕ) (all : List (List ℕ)) → last ≡ None
+    → ((more : Geometry) → f more ≡ more.layers) →
     made_of f (geometry_at 7 last all) ≡ layers_at all
 unfolding layers_at
 layers_begin f last all none same = rw none (same_layers (geometry_at 7 None all))
@@ -71,8 +79,10 @@ layers_begin f last all none same = rw none (same_layers (geometry_at 7 None all
     same_layers (Ok more) = ap (λ (ls : List Layer). Ok ls) (same more)
     same_layers (Err fault) = refl
 
-pub layers_go_on : (n : ℕ) (last next : Option ℕ) (f g : Geometry → List Layer) (s : Said) (line : List ℕ) (all rest : List (List ℕ)) (total : Result (List Layer) CliFault) →
-    all ≡ line ∷ rest → bytes_eq line end_line ≡ false → said_at (n + 1) last line ≡ Ok s → next ≡ last_height s last → ((more : Geometry) → f more ≡ g (onto s more)) →
+pub layers_go_on : (n : ℕ) (last next : Option ℕ) (f g : Geometry → List Layer) (s : Said) (line : List ℕ)
+    (all rest : List (List ℕ)) (total : Result (List Layer) CliFault) →
+    all ≡ line ∷ rest → bytes_eq line end_line ≡ false → said_at (n + 1) last line ≡ Ok s → next ≡ last_height s last
+    → ((more : Geometry) → f more ≡ g (onto s more)) →
     made_of g (geometry_at n last all) ≡ total → made_of f (geometry_at (n + 1) next rest) ≡ total
 unfolding geometry_at
 layers_go_on n last next f g s line all rest total are goes read is same so_far =
@@ -80,21 +90,26 @@ layers_go_on n last next f g s line all rest total are goes read is same so_far 
     rw (are, goes, read, is) (same_made f g (geometry_at (n + 1) (last_height s last) rest) s same) in
     sym one ∙ so_far
 
-pub layers_stop : (n : ℕ) (last : Option ℕ) (g : Geometry → List Layer) (line : List ℕ) (all rest : List (List ℕ)) (total : Result (List Layer) CliFault) (fault : CliFault) →
-    all ≡ line ∷ rest → bytes_eq line end_line ≡ false → said_at (n + 1) last line ≡ Err fault → made_of g (geometry_at n last all) ≡ total → total ≡ Err fault
+pub layers_stop : (n : ℕ) (last : Option ℕ) (g : Geometry → List Layer) (line : List ℕ) (all rest : List (List ℕ))
+    (total : Result (List Layer) CliFault) (fault : CliFault) →
+    all ≡ line ∷ rest → bytes_eq line end_line ≡ false → said_at (n + 1) last line ≡ Err fault
+    → made_of g (geometry_at n last all) ≡ total → total ≡ Err fault
 unfolding geometry_at
 layers_stop n last g line all rest total fault are goes read so_far =
     let one : made_of g (geometry_at n last all) ≡ Err fault = rw (are, goes, read) refl in
     sym so_far ∙ one
 
-pub layers_end : (n : ℕ) (last : Option ℕ) (g : Geometry → List Layer) (line : List ℕ) (all rest : List (List ℕ)) (total : Result (List Layer) CliFault) →
-    all ≡ line ∷ rest → bytes_eq line end_line ≡ true → made_of g (geometry_at n last all) ≡ total → total ≡ made_of g (ended_at (n + 1) rest)
+pub layers_end : (n : ℕ) (last : Option ℕ) (g : Geometry → List Layer) (line : List ℕ) (all rest : List (List ℕ))
+    (total : Result (List Layer) CliFault) →
+    all ≡ line ∷ rest → bytes_eq line end_line ≡ true → made_of g (geometry_at n last all) ≡ total
+    → total ≡ made_of g (ended_at (n + 1) rest)
 unfolding geometry_at
 layers_end n last g line all rest total are ends so_far =
     let one : made_of g (geometry_at n last all) ≡ made_of g (ended_at (n + 1) rest) = rw (are, ends) refl in
     sym so_far ∙ one
 
-pub layers_wanting : (n : ℕ) (last : Option ℕ) (g : Geometry → List Layer) (all : List (List ℕ)) (total : Result (List Layer) CliFault) →
+pub layers_wanting : (n : ℕ) (last : Option ℕ) (g : Geometry → List Layer) (all : List (List ℕ))
+    (total : Result (List Layer) CliFault) →
     all ≡ [] → made_of g (geometry_at n last all) ≡ total → total ≡ Err (BadLine (n + 1))
 unfolding geometry_at
 layers_wanting n last g all total are so_far =
@@ -111,11 +126,14 @@ begun_next closed whole None outlines z more is =
     ap (λ (ls : List Layer). ls ++ record { z = z; loops = more.outlines } ∷ more.layers) (is ∙ append-nil whole)
 begun_next closed whole (Some y) outlines z more is =
     ap (λ (ls : List Layer). ls ++ record { z = z; loops = more.outlines } ∷ more.layers) is
-    ∙ append_assoc whole (record { z = y; loops = outlines ++ [] } ∷ []) (record { z = z; loops = more.outlines } ∷ more.layers)
+    ∙ append_assoc whole (record { z = y; loops = outlines ++ [] } ∷ []) (record { z = z; loops = more.outlines }
+    ∷ more.layers)
 
 -- one outline more
-pub one_outline : (whole : List Layer) (last : Option ℕ) (outlines : List (List Pt)) (points : List Pt) (more : Geometry) →
+pub one_outline : (whole : List Layer) (last : Option ℕ) (outlines : List (List Pt)) (points : List Pt)
+    (more : Geometry) →
     with_last whole last (outlines ++ points ∷ []) more ≡ with_last whole last outlines (onto (Outline points) more)
 one_outline whole None outlines points more = refl
 one_outline whole (Some z) outlines points more =
-    ap (λ (os : List (List Pt)). whole ++ record { z = z; loops = os } ∷ more.layers) (append_assoc outlines (points ∷ []) more.outlines)
+    ap (λ (os : List (List Pt)). whole ++ record { z = z; loops = os } ∷ more.layers)
+    (append_assoc outlines (points ∷ []) more.outlines)

@@ -33,27 +33,37 @@ above_back : (last : Option ℕ) (z : ℕ) → IfSome last (λ low. low < z) →
 above_back None z h = refl
 above_back (Some low) z h = lt-ltb low z h
 
-height_is : (n : ℕ) (last : Option ℕ) (text : List ℕ) (z : ℕ) → height_at n last text ≡ Ok z → (text ≡ decimal z) × (z < 2 ^ 32) × IfSome last (λ low. low < z)
+height_is : (n : ℕ) (last : Option ℕ) (text : List ℕ) (z : ℕ) → height_at n last text ≡ Ok z → (text ≡ decimal z)
+    × (z < 2 ^ 32) × IfSome last (λ low. low < z)
 unfolding height_at
 height_is n last text z e =
     let a = bind_ok (or_bad n (count_of text)) (λ z. cond (is_above last z) (Ok z) (Err (BadLine n))) z e in
     let b = passed (is_above last a.0) (BadLine n) a.0 z a.2 in
     let is = count_text text a.0 (or_bad_ok n (count_of text) a.0 a.1) in
-    subst (λ (y : ℕ). (text ≡ decimal y) × (y < 2 ^ 32) × IfSome last (λ low. low < y)) b.1 (is.0, is.1, above_is last a.0 b.0)
+    subst (λ (y : ℕ). (text ≡ decimal y) × (y < 2 ^ 32) × IfSome last (λ low. low < y)) b.1
+    (is.0, is.1, above_is last a.0 b.0)
 
-height_back : (n : ℕ) (last : Option ℕ) (z : ℕ) → z < 2 ^ 32 → IfSome last (λ low. low < z) → height_at n last (decimal z) ≡ Ok z
+height_back : (n : ℕ) (last : Option ℕ) (z : ℕ) → z < 2 ^ 32 → IfSome last (λ low. low < z)
+    → height_at n last (decimal z) ≡ Ok z
 unfolding height_at
 height_back n last z h above = rw (count_back z h, above_back last z above) refl
 
 said_by_is : (n : ℕ) (last : Option ℕ) (line : List ℕ) (height outline : Option (List ℕ)) (s : Said) →
-    behind layer_start line ≡ height → behind polyline_start line ≡ outline → said_by n last height outline ≡ Ok s → Says last line s
+    behind layer_start line ≡ height → behind polyline_start line ≡ outline → said_by n last height outline ≡ Ok s
+    → Says last line s
 said_by_is n last line (Some text) outline s h o e =
     let a = bind_ok (height_at n last text) (λ z. Ok (Height z)) s e in
     let is = height_is n last text a.0 a.1 in
-    subst (Says last line) (ok_is (Height a.0) s a.2) (behind_is layer_start line text h ∙ ap (λ (t : List ℕ). layer_start ++ t) is.0, is.1, is.2)
+    subst (Says last line) (ok_is (Height a.0) s a.2) (
+      behind_is layer_start line text h ∙ ap
+          (λ (t : List ℕ). layer_start ++ t) is.0,
+      is.1,
+      is.2,
+    )
 said_by_is n (Some z) line None (Some text) s h o e =
     let a = bind_ok (outline_at n (words text)) (λ points. Ok (Outline points)) s e in
-    let is = subst (λ (l : List ℕ). IsOutline l a.0) (sym (behind_is polyline_start line text o)) (outline_text_is n text a.0 a.1) in
+    let is = subst (λ (l : List ℕ). IsOutline l a.0) (sym (behind_is polyline_start line text o))
+    (outline_text_is n text a.0 a.1) in
     subst (Says (Some z) line) (ok_is (Outline a.0) s a.2) (is, (z, refl))
 said_by_is n None line None (Some text) s h o e = absurd cc
 said_by_is n last line None None s h o e = absurd (nothing last e)
@@ -75,8 +85,16 @@ unfolding said_at
 said_back n last line (Height z) h = rw (h.0, behind_back layer_start (decimal z), height_back n last z h.1 h.2) refl
 said_back n last line (Outline points) h =
     let rest = decimal h.0.direction ++ codes "," ++ decimal (length points + 1) ++ points_text (closed points) in
-    let is : line ≡ polyline_start ++ rest = h.0.is ∙ outline_grouped polyline_start (decimal h.0.direction) (decimal (length points + 1)) (points_text (closed points)) in
-    rw (is, no_height rest, behind_back polyline_start rest, h.1.1, outline_text_back n h.0.direction points h.0.either h.0.shape) refl
+    let is : line ≡ polyline_start ++ rest = h.0.is ∙ outline_grouped polyline_start (decimal h.0.direction)
+    (decimal (length points + 1)) (points_text (closed points)) in
+    rw (
+      is,
+      no_height rest,
+      behind_back polyline_start rest,
+      h.1.1,
+      outline_text_back n h.0.direction points h.0.either
+          h.0.shape,
+    ) refl
 
 no_end_height : (rest : List ℕ) → bytes_eq (layer_start ++ rest) end_line ≡ false
 unfolding layer_start end_line
@@ -90,7 +108,8 @@ no_end : (last : Option ℕ) (line : List ℕ) (s : Said) → Says last line s �
 no_end last line (Height z) h = rw h.0 (no_end_height (decimal z))
 no_end last line (Outline points) h =
     let rest = decimal h.0.direction ++ codes "," ++ decimal (length points + 1) ++ points_text (closed points) in
-    rw (h.0.is ∙ outline_grouped polyline_start (decimal h.0.direction) (decimal (length points + 1)) (points_text (closed points))) (no_end_outline rest)
+    rw (h.0.is ∙ outline_grouped polyline_start (decimal h.0.direction) (decimal (length points + 1))
+    (points_text (closed points))) (no_end_outline rest)
 
 -- ---- all lines
 
@@ -107,7 +126,8 @@ pub record Stands (last : Option ℕ) (ls : List (List ℕ)) (g : Geometry) : Ty
   pub above : AreAbove last g.layers
   pub none : last ≡ None → g.outlines ≡ []
 
-part_grouped : (line : List ℕ) (os rest «end» : List (List ℕ)) → line ∷ (os ++ (rest ++ «end»)) ≡ ((line ∷ os) ++ rest) ++ «end»
+part_grouped : (line : List ℕ) (os rest «end» : List (List ℕ)) → line ∷ (os ++ (rest ++ «end»)) ≡ ((line ∷ os) ++ rest)
+    ++ «end»
 part_grouped line os rest «end» = ap (λ (ls : List (List ℕ)). line ∷ ls) (sym (append_assoc os rest «end»))
 
 stands_more : (last : Option ℕ) (line : List ℕ) (rest : List (List ℕ)) (s : Said) (more : Geometry) →
@@ -118,9 +138,19 @@ stands_more last line rest (Height z) more h below = record {
   are =
       ap (λ (ls : List (List ℕ)). line ∷ ls) below.are
       ∙ part_grouped line below.outlines (joined below.parts) (end_line ∷ [])
-      ∙ ap (λ (ls : List (List ℕ)). ls ++ end_line ∷ []) (sym (flat_map-cons (λ (ls : List (List ℕ)). ls) (line ∷ below.outlines) below.parts));
+      ∙ ap (λ (ls : List (List ℕ)). ls ++ end_line ∷ [])
+      (sym (flat_map-cons (λ (ls : List (List ℕ)). ls) (line ∷ below.outlines) below.parts));
   front = tt;
-  each = (record { outlines = below.outlines; are = ap (λ (l : List ℕ). l ∷ below.outlines) h.0; each = below.front; height = h.1 }, below.each);
+  each = (
+    record {
+      outlines = below.outlines;
+      are = ap (λ (l : List ℕ). l ∷ below.outlines) h.0;
+      each =
+          below.front;
+      height = h.1;
+    },
+    below.each,
+  );
   above = (h.2, below.above);
   none = λ e. refl;
 }
@@ -137,10 +167,12 @@ stands_more last line rest (Outline points) more h below = record {
     no_some : (z : ℕ) → None ≡ Some z → ⊥
     no_some z e = cc
 
-pub geometry_stands : (n : ℕ) (last : Option ℕ) (ls : List (List ℕ)) (g : Geometry) → geometry_at n last ls ≡ Ok g → Stands last ls g
+pub geometry_stands : (n : ℕ) (last : Option ℕ) (ls : List (List ℕ)) (g : Geometry) → geometry_at n last ls ≡ Ok g
+    → Stands last ls g
 unfolding geometry_at
 geometry_stands n last [] g e = absurd cc
-geometry_stands n last (line ∷ rest) g e = by_end (bytes_eq line end_line) refl (λ m last more e. geometry_stands m last rest more e) e
+geometry_stands n last (line ∷ rest) g e = by_end (bytes_eq line end_line) refl (λ m last more e. geometry_stands m last
+    rest more e) e
   where
     ended : (ls : List (List ℕ)) → line ≡ end_line → ended_at (n + 1) ls ≡ Ok g → Stands last (line ∷ ls) g
     ended [] is e = subst (Stands last (line ∷ [])) (ok_is (record { outlines = []; layers = [] }) g e) (record {
@@ -154,18 +186,23 @@ geometry_stands n last (line ∷ rest) g e = by_end (bytes_eq line end_line) ref
     })
     ended (next ∷ more) is e = absurd cc
 
-    by_end : (b : Bool) → bytes_eq line end_line ≡ b → ((m : ℕ) (last : Option ℕ) (more : Geometry) → geometry_at m last rest ≡ Ok more → Stands last rest more) →
-        cond b (ended_at (n + 1) rest) (said_at (n + 1) last line >>= λ said. geometry_at (n + 1) (last_height said last) rest >>= λ more. Ok (onto said more)) ≡ Ok g →
+    by_end : (b : Bool) → bytes_eq line end_line ≡ b → ((m : ℕ) (last : Option ℕ) (more : Geometry)
+        → geometry_at m last rest ≡ Ok more → Stands last rest more) →
+        cond b (ended_at (n + 1) rest) (said_at (n + 1) last line >>= λ said. geometry_at (n + 1)
+        (last_height said last) rest >>= λ more. Ok (onto said more)) ≡ Ok g →
         Stands last (line ∷ rest) g
     by_end true is below e = ended rest ((bytes_eq-Decides line end_line).0 is) e
     by_end false is below e =
-        let a = bind_ok (said_at (n + 1) last line) (λ said. geometry_at (n + 1) (last_height said last) rest >>= λ more. Ok (onto said more)) g e in
+        let a = bind_ok (said_at (n + 1) last line) (λ said. geometry_at (n + 1) (last_height said last) rest >>=
+        λ more. Ok (onto said more)) g e in
         let b = bind_ok (geometry_at (n + 1) (last_height a.0 last) rest) (λ more. Ok (onto a.0 more)) g a.2 in
         subst (Stands last (line ∷ rest)) (ok_is (onto a.0 b.0) g b.2)
-        (stands_more last line rest a.0 b.0 (said_is (n + 1) last line a.0 a.1) (below (n + 1) (last_height a.0 last) b.0 b.1))
+        (stands_more last line rest a.0 b.0 (said_is (n + 1) last line a.0 a.1) (below (n + 1) (last_height a.0 last)
+        b.0 b.1))
 
 line_back : (n : ℕ) (last : Option ℕ) (line : List ℕ) (rest : List (List ℕ)) (s : Said) (more : Geometry) →
-    Says last line s → geometry_at (n + 1) (last_height s last) rest ≡ Ok more → geometry_at n last (line ∷ rest) ≡ Ok (onto s more)
+    Says last line s → geometry_at (n + 1) (last_height s last) rest ≡ Ok more → geometry_at n last (line ∷ rest)
+    ≡ Ok (onto s more)
 unfolding geometry_at
 line_back n last line rest s more h e = rw (no_end last line s h, said_back (n + 1) last line s h, e) refl
 
@@ -176,13 +213,16 @@ Gives last ls g = (n : ℕ) → geometry_at n last ls ≡ Ok g
 abbrev only : List (List Pt) → List Layer → Geometry
 only outlines layers = record { outlines = outlines; layers = layers }
 
-outlines_back : (z : ℕ) (lines : List (List ℕ)) (outlines : List (List Pt)) (rest : List (List ℕ)) (layers : List Layer) →
-    AllZip IsOutline lines outlines → Gives (Some z) rest (only [] layers) → Gives (Some z) (lines ++ rest) (only outlines layers)
+outlines_back : (z : ℕ) (lines : List (List ℕ)) (outlines : List (List Pt)) (rest : List (List ℕ)) (layers : List Layer)
+    →
+    AllZip IsOutline lines outlines → Gives (Some z) rest (only [] layers) → Gives (Some z) (lines ++ rest)
+    (only outlines layers)
 outlines_back z [] [] rest layers h below n = below n
 outlines_back z [] (o ∷ os) rest layers h below n = absurd h
 outlines_back z (l ∷ ls) [] rest layers h below n = absurd h
 outlines_back z (l ∷ ls) (o ∷ os) rest layers h below n =
-    line_back n (Some z) l (ls ++ rest) (Outline o) (only os layers) (h.0, (z, refl)) (outlines_back z ls os rest layers h.1 below (n + 1))
+    line_back n (Some z) l (ls ++ rest) (Outline o) (only os layers) (h.0, (z, refl)) (outlines_back z ls os rest layers
+    h.1 below (n + 1))
 
 end_back : (last : Option ℕ) (n : ℕ) → geometry_at n last (end_line ∷ []) ≡ Ok (only [] [])
 unfolding geometry_at
@@ -195,9 +235,12 @@ parts_back last [] (l ∷ ls) h above n = absurd h
 parts_back last (p ∷ ps) [] h above n = absurd h
 parts_back last (part ∷ parts) (layer ∷ layers) h above n =
     let below = parts_back (Some layer.z) parts layers h.1 above.1 in
-    let lines : joined (part ∷ parts) ++ end_line ∷ [] ≡ height_line layer.z ∷ (h.0.outlines ++ (joined parts ++ end_line ∷ [])) =
-    ap (λ (ls : List (List ℕ)). ls ++ end_line ∷ []) (flat_map-cons (λ (ls : List (List ℕ)). ls) part parts ∙ ap (λ (ls : List (List ℕ)). ls ++ joined parts) h.0.are)
+    let lines : joined (part ∷ parts) ++ end_line ∷ [] ≡ height_line layer.z
+    ∷ (h.0.outlines ++ (joined parts ++ end_line ∷ [])) =
+    ap (λ (ls : List (List ℕ)). ls ++ end_line ∷ []) (flat_map-cons (λ (ls : List (List ℕ)). ls) part parts ∙ ap
+    (λ (ls : List (List ℕ)). ls ++ joined parts) h.0.are)
     ∙ sym (part_grouped (height_line layer.z) h.0.outlines (joined parts) (end_line ∷ [])) in
     ap (geometry_at n last) lines
-    ∙ line_back n last (height_line layer.z) (h.0.outlines ++ (joined parts ++ end_line ∷ [])) (Height layer.z) (only layer.loops layers) (refl, h.0.height, above.0)
+    ∙ line_back n last (height_line layer.z) (h.0.outlines ++ (joined parts ++ end_line ∷ [])) (Height layer.z)
+    (only layer.loops layers) (refl, h.0.height, above.0)
     (outlines_back layer.z h.0.outlines layer.loops (joined parts ++ end_line ∷ []) layers h.0.each below (n + 1))

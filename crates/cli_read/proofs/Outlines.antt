@@ -21,23 +21,28 @@ use Rattle.cli_read.proofs.CommaWords.{coordinate_words, points_text, same_words
 
 -- ---- points
 
-point_text_is : (n : ℕ) (x y : List ℕ) (p : Pt) → point_at n x y ≡ Ok p → (x ≡ signed_decimal p.x) × (y ≡ signed_decimal p.y) × IsNear p
+point_text_is : (n : ℕ) (x y : List ℕ) (p : Pt) → point_at n x y ≡ Ok p → (x ≡ signed_decimal p.x)
+    × (y ≡ signed_decimal p.y) × IsNear p
 unfolding point_at
 point_text_is n x y p e =
-    let a = bind_ok (or_bad n (coordinate_of x)) (λ left. or_bad n (coordinate_of y) >>= λ up. Ok (record { x = left; y = up })) p e in
+    let a = bind_ok (or_bad n (coordinate_of x)) (λ left. or_bad n (coordinate_of y) >>=
+    λ up. Ok (record { x = left; y = up })) p e in
     let b = bind_ok (or_bad n (coordinate_of y)) (λ up. Ok (record { x = a.0; y = up })) p a.2 in
     let left = coordinate_text x a.0 (or_bad_ok n (coordinate_of x) a.0 a.1) in
     let up = coordinate_text y b.0 (or_bad_ok n (coordinate_of y) b.0 b.1) in
     let point : Pt = record { x = a.0; y = b.0 } in
-    subst (λ (q : Pt). (x ≡ signed_decimal q.x) × (y ≡ signed_decimal q.y) × IsNear q) (ok_is point p b.2) (left.0, up.0, (left.1, up.1))
+    subst (λ (q : Pt). (x ≡ signed_decimal q.x) × (y ≡ signed_decimal q.y) × IsNear q) (ok_is point p b.2)
+    (left.0, up.0, (left.1, up.1))
 
 point_back : (n : ℕ) (p : Pt) → IsNear p → point_at n (signed_decimal p.x) (signed_decimal p.y) ≡ Ok p
 unfolding point_at
 point_back n p near = rw (coordinate_back p.x near.0, coordinate_back p.y near.1) refl
 
-points_are : (n : ℕ) (ws : List (List ℕ)) (ps : List Pt) → points_at n ws ≡ Ok ps → (ws ≡ coordinate_words ps) × AllByRecursion IsNear ps
+points_are : (n : ℕ) (ws : List (List ℕ)) (ps : List Pt) → points_at n ws ≡ Ok ps → (ws ≡ coordinate_words ps)
+    × AllByRecursion IsNear ps
 unfolding points_at
-points_are n [] ps e = subst (λ (qs : List Pt). ([] ≡ coordinate_words qs) × AllByRecursion IsNear qs) (ok_is [] ps e) (refl, tt)
+points_are n [] ps e = subst (λ (qs : List Pt). ([] ≡ coordinate_words qs) × AllByRecursion IsNear qs) (ok_is [] ps e)
+    (refl, tt)
 points_are n (x ∷ []) ps e = absurd cc
 points_are n (x ∷ y ∷ rest) ps e =
     let a = bind_ok (point_at n x y) (λ p. points_at n rest >>= λ qs. Ok (p ∷ qs)) ps e in
@@ -66,37 +71,45 @@ same_point_itself : (p : Pt) → same_point p p ≡ true
 same_point_itself p = rw ((Decides-int_eq p.x p.x).1 refl, (Decides-int_eq p.y p.y).1 refl) refl
 
 -- without its last point, which is the first, and with the first again
-closed_again : (points : List Pt) → 2 ≤ length points → ends_meet points ≡ true → closed (take (length points - 1) points) ≡ points
+closed_again : (points : List Pt) → 2 ≤ length points → ends_meet points ≡ true
+    → closed (take (length points - 1) points) ≡ points
 closed_again [] h e = absurd (omega arith)
 closed_again (p ∷ []) h e = absurd (omega arith)
 closed_again (p ∷ q ∷ ps) h e =
     let all : List Pt = q ∷ ps in
     let index : length (p ∷ all) - 1 ≡ suc (length ps) = omega arith in
     let same : p ≡ get_or all (length ps) origin =
-    same_point_is p (get_or (p ∷ all) (length (p ∷ all) - 1) origin) e ∙ ap (λ (k : ℕ). get_or (p ∷ all) k origin) index in
+    same_point_is p (get_or (p ∷ all) (length (p ∷ all) - 1) origin) e ∙ ap (λ (k : ℕ). get_or (p ∷ all) k origin) index
+    in
     ap (λ (k : ℕ). closed (take k (p ∷ all))) index
     ∙ ap (λ (r : Pt). p ∷ (take (length ps) all ++ r ∷ [])) same
-    ∙ ap (λ (rs : List Pt). p ∷ rs) (sym (take-suc all (length ps) origin (omega arith)) ∙ take_all (suc (length ps)) all (omega arith))
+    ∙ ap (λ (rs : List Pt). p ∷ rs) (sym (take-suc all (length ps) origin (omega arith)) ∙ take_all (suc (length ps))
+    all (omega arith))
 
 abbrev IsClosed : List Pt → ℕ → List Pt → Type 0
 IsClosed points said outline = (points ≡ closed outline) × (said ≡ length outline + 1) × (3 ≤ length outline)
 
-closed_are : (n said : ℕ) (points outline : List Pt) → closed_at n said points ≡ Ok outline → IsClosed points said outline
+closed_are : (n said : ℕ) (points outline : List Pt) → closed_at n said points ≡ Ok outline
+    → IsClosed points said outline
 unfolding closed_at
 closed_are n said points outline e =
     let a = passed_then (said == length points) (CountDiffers said (length points)) (joined_at n points) outline e in
-    let b = passed (nat_le 4 (length points) && ends_meet points) (OpenLoop n) (take (length points - 1) points) outline a.1 in
+    let b = passed (nat_le 4 (length points) && ends_meet points) (OpenLoop n) (take (length points - 1) points) outline
+    a.1 in
     let both = and_parts (nat_le 4 (length points)) (ends_meet points) b.0 in
     let four : 4 ≤ length points = grind (arith, nat_tests) in
     let said_is : said ≡ length points = eqb-true said (length points) a.0 in
-    let len : length (take (length points - 1) points) ≡ length points - 1 = length-take (length points - 1) points ∙ omega arith in
+    let len : length (take (length points - 1) points) ≡ length points - 1 = length-take (length points - 1) points ∙
+    omega arith in
     subst (IsClosed points said) b.1 (sym (closed_again points (omega arith) both.1), omega arith, omega arith)
   where
-    passed_then : {A : Type 0} (b : Bool) (d : CliFault) (r : Result A CliFault) (y : A) → cond b r (Err d) ≡ Ok y → (b ≡ true) × (r ≡ Ok y)
+    passed_then : {A : Type 0} (b : Bool) (d : CliFault) (r : Result A CliFault) (y : A) → cond b r (Err d) ≡ Ok y
+        → (b ≡ true) × (r ≡ Ok y)
     passed_then true d r y e = (refl, e)
     passed_then false d r y e = absurd cc
 
-closed_back : (n : ℕ) (outline : List Pt) → 3 ≤ length outline → closed_at n (length outline + 1) (closed outline) ≡ Ok outline
+closed_back : (n : ℕ) (outline : List Pt) → 3 ≤ length outline → closed_at n (length outline + 1) (closed outline)
+    ≡ Ok outline
 unfolding closed_at
 closed_back n [] h = absurd (omega arith)
 closed_back n (p ∷ ps) h =
@@ -105,15 +118,18 @@ closed_back n (p ∷ ps) h =
     let counted : length all + 1 == length (all ++ p ∷ []) ≡ true = grind (arith, nat_tests) in
     let four : nat_le 4 (length (all ++ p ∷ [])) ≡ true = grind (arith, nat_tests) in
     let index : length (all ++ p ∷ []) - 1 ≡ length all = omega arith in
-    let last : get_or (all ++ p ∷ []) (length (all ++ p ∷ []) - 1) origin ≡ p = ap (λ (k : ℕ). get_or (all ++ p ∷ []) k origin) index ∙ get_or-append_seam all p [] origin in
-    let front : take (length (all ++ p ∷ []) - 1) (all ++ p ∷ []) ≡ all = take_at all (p ∷ []) (length (all ++ p ∷ []) - 1) (omega arith) in
+    let last : get_or (all ++ p ∷ []) (length (all ++ p ∷ []) - 1) origin ≡ p =
+    ap (λ (k : ℕ). get_or (all ++ p ∷ []) k origin) index ∙ get_or-append_seam all p [] origin in
+    let front : take (length (all ++ p ∷ []) - 1) (all ++ p ∷ []) ≡ all = take_at all (p ∷ [])
+    (length (all ++ p ∷ []) - 1) (omega arith) in
     rw (counted, four, last, same_point_itself p, front) refl
 
 -- ---- lines of outlines
 
 abbrev OutlineWords : List (List ℕ) → List Pt → Type 0
 OutlineWords ws points =
-    (direction : ℕ) × (direction ≤ 1) × (ws ≡ decimal direction ∷ decimal (length points + 1) ∷ coordinate_words (closed points)) × IsShape points
+    (direction : ℕ) × (direction ≤ 1) × (ws ≡ decimal direction ∷ decimal (length points + 1) ∷ coordinate_words
+    (closed points)) × IsShape points
 
 first_near : (points : List Pt) → AllByRecursion IsNear (closed points) → AllByRecursion IsNear points
 first_near [] near = tt
@@ -132,8 +148,10 @@ unfolding outline_at
 outline_are n [] outline e = absurd cc
 outline_are n (direction ∷ []) outline e = absurd cc
 outline_are n (direction ∷ said ∷ rest) outline e =
-    let a = bind_ok (direction_at n direction) (λ _. or_bad n (count_of said) >>= λ count. points_at n rest >>= λ points. closed_at n count points) outline e in
-    let b = bind_ok (or_bad n (count_of said)) (λ count. points_at n rest >>= λ points. closed_at n count points) outline a.2 in
+    let a = bind_ok (direction_at n direction) (λ _. or_bad n (count_of said) >>= λ count. points_at n rest >>=
+    λ points. closed_at n count points) outline e in
+    let b = bind_ok (or_bad n (count_of said)) (λ count. points_at n rest >>= λ points. closed_at n count points)
+    outline a.2 in
     let c = bind_ok (points_at n rest) (λ points. closed_at n b.0 points) outline b.2 in
     let d = bind_ok (or_bad n (count_of direction)) (λ d. cond (nat_le d 1) (Ok d) (Err (BadLine n))) a.0 a.1 in
     let either = passed (nat_le d.0 1) (BadLine n) d.0 a.0 d.2 in
@@ -157,14 +175,21 @@ outline_back : (n direction : ℕ) (outline : List Pt) → direction ≤ 1 → I
 unfolding outline_at
 outline_back n direction outline either shape =
     let one : nat_le direction 1 ≡ true = grind (arith, nat_tests) in
-    rw (count_back direction (omega arith), one, count_back (length outline + 1) shape.count, points_back n (closed outline) (closed_near outline shape.near))
+    rw (
+      count_back direction (omega arith),
+      one,
+      count_back (length outline + 1) shape.count,
+      points_back n
+          (closed outline) (closed_near outline shape.near),
+    )
     (closed_back n outline shape.several)
 
 pub outline_grouped : (a b c d : List ℕ) → a ++ b ++ codes "," ++ c ++ d ≡ a ++ (b ++ codes "," ++ c ++ d)
 outline_grouped a b c d = simp append_assoc
 
 -- what stands behind the start of the line
-pub outline_text_is : (n : ℕ) (text : List ℕ) (outline : List Pt) → outline_at n (words text) ≡ Ok outline → IsOutline (polyline_start ++ text) outline
+pub outline_text_is : (n : ℕ) (text : List ℕ) (outline : List Pt) → outline_at n (words text) ≡ Ok outline
+    → IsOutline (polyline_start ++ text) outline
 outline_text_is n text outline e =
     let w = outline_are n (words text) outline e in
     let near = closed_near outline w.3.near in
@@ -174,12 +199,15 @@ outline_text_is n text outline e =
     record {
       direction = w.0;
       either = w.1;
-      is = ap (λ (t : List ℕ). polyline_start ++ t) is ∙ sym (outline_grouped polyline_start (decimal w.0) (decimal (length outline + 1)) (points_text (closed outline)));
+      is = ap (λ (t : List ℕ). polyline_start ++ t) is ∙ sym (outline_grouped polyline_start (decimal w.0)
+          (decimal (length outline + 1)) (points_text (closed outline)));
       shape = w.3;
     }
 
 pub outline_text_back : (n : ℕ) (direction : ℕ) (outline : List Pt) → direction ≤ 1 → IsShape outline →
-    outline_at n (words (decimal direction ++ codes "," ++ decimal (length outline + 1) ++ points_text (closed outline))) ≡ Ok outline
+    outline_at n (words (decimal direction ++ codes "," ++ decimal (length outline + 1) ++ points_text
+    (closed outline))) ≡ Ok outline
 outline_text_back n direction outline either shape =
-    ap (outline_at n) (words_of_outline direction (length outline + 1) (closed outline) (omega arith) shape.count (closed_near outline shape.near))
+    ap (outline_at n) (words_of_outline direction (length outline + 1) (closed outline) (omega arith) shape.count
+    (closed_near outline shape.near))
     ∙ outline_back n direction outline either shape

@@ -4,7 +4,8 @@ use Rattle.cli_read.specs.declared.fault.CliFault.{CliFault}
 use Rattle.cli_read.specs.Reading.{◌>>=◌, or_bad}
 
 -- the value of a step that didn't fail
-pub bind_ok : {A B : Type 0} (r : Result A CliFault) (f : A → Result B CliFault) (y : B) → (r >>= f) ≡ Ok y → (x : A) × (r ≡ Ok x) × (f x ≡ Ok y)
+pub bind_ok : {A B : Type 0} (r : Result A CliFault) (f : A → Result B CliFault) (y : B) → (r >>= f) ≡ Ok y
+    → (x : A) × (r ≡ Ok x) × (f x ≡ Ok y)
 bind_ok (Ok x) f y e = (x, refl, e)
 bind_ok (Err d) f y e = absurd cc
 

@@ -33,29 +33,42 @@ fixed_is n wanted (line ∷ more) rest e =
     let is = (bytes_eq-Decides line wanted).0 p.0 in
     λ i. is i ∷ p.1 i
 
-count_line_is : (n : ℕ) (line : List ℕ) (o : Option (List ℕ)) (count : ℕ) → behind count_start line ≡ o → count_in n o ≡ Ok count → (line ≡ count_start ++ decimal count) × (count < 2 ^ 32)
+count_line_is : (n : ℕ) (line : List ℕ) (o : Option (List ℕ)) (count : ℕ) → behind count_start line ≡ o
+    → count_in n o ≡ Ok count → (line ≡ count_start ++ decimal count) × (count < 2 ^ 32)
 count_line_is n line None count b e = absurd cc
 count_line_is n line (Some text) count b e =
     let is = count_text text count (or_bad_ok n (count_of text) count e) in
     (behind_is count_start line text b ∙ ap (λ (t : List ℕ). count_start ++ t) is.0, is.1)
 
-count_is : (n : ℕ) (ls : List (List ℕ)) (c : Counted) → count_at n ls ≡ Ok c → (ls ≡ (count_start ++ decimal c.0) ∷ c.1) × (c.0 < 2 ^ 32)
+count_is : (n : ℕ) (ls : List (List ℕ)) (c : Counted) → count_at n ls ≡ Ok c → (ls ≡ (count_start ++ decimal c.0) ∷ c.1)
+    × (c.0 < 2 ^ 32)
 count_is n [] c e = absurd cc
 count_is n (line ∷ rest) c e =
     let a = bind_ok (count_in n (behind count_start line)) (λ count. Ok (count, rest)) c e in
     let is = count_line_is n line (behind count_start line) a.0 refl a.1 in
     let found : Counted = (a.0, rest) in
-    subst (λ (d : Counted). (line ∷ rest ≡ (count_start ++ decimal d.0) ∷ d.1) × (d.0 < 2 ^ 32)) (ok_is found c a.2) (ap (λ (l : List ℕ). l ∷ rest) is.0, is.1)
+    subst (λ (d : Counted). (line ∷ rest ≡ (count_start ++ decimal d.0) ∷ d.1) × (d.0 < 2 ^ 32)) (ok_is found c a.2)
+    (ap (λ (l : List ℕ). l ∷ rest) is.0, is.1)
 
 head_is : (ls : List (List ℕ)) (h : Counted) → head_at ls ≡ Ok h → (ls ≡ head_lines h.0 ++ h.1) × (h.0 < 2 ^ 32)
 unfolding head_at
 head_is ls h e =
-    let a = bind_ok (fixed_at 1 (codes "$$HEADERSTART") ls) (λ x. fixed_at 2 (codes "$$ASCII") x >>= λ x. fixed_at 3 (codes "$$UNITS/0.001") x >>= λ x. fixed_at 4 (codes "$$VERSION/200") x >>= λ x. count_at 5 x >>= λ c. fixed_at 6 (codes "$$HEADEREND") c.1 >>= λ x. fixed_at 7 (codes "$$GEOMETRYSTART") x >>= λ x. Ok (c.0, x)) h e in
-    let b = bind_ok (fixed_at 2 (codes "$$ASCII") a.0) (λ x. fixed_at 3 (codes "$$UNITS/0.001") x >>= λ x. fixed_at 4 (codes "$$VERSION/200") x >>= λ x. count_at 5 x >>= λ c. fixed_at 6 (codes "$$HEADEREND") c.1 >>= λ x. fixed_at 7 (codes "$$GEOMETRYSTART") x >>= λ x. Ok (c.0, x)) h a.2 in
-    let c = bind_ok (fixed_at 3 (codes "$$UNITS/0.001") b.0) (λ x. fixed_at 4 (codes "$$VERSION/200") x >>= λ x. count_at 5 x >>= λ c. fixed_at 6 (codes "$$HEADEREND") c.1 >>= λ x. fixed_at 7 (codes "$$GEOMETRYSTART") x >>= λ x. Ok (c.0, x)) h b.2 in
-    let d = bind_ok (fixed_at 4 (codes "$$VERSION/200") c.0) (λ x. count_at 5 x >>= λ c. fixed_at 6 (codes "$$HEADEREND") c.1 >>= λ x. fixed_at 7 (codes "$$GEOMETRYSTART") x >>= λ x. Ok (c.0, x)) h c.2 in
-    let s = bind_ok (count_at 5 d.0) (λ c. fixed_at 6 (codes "$$HEADEREND") c.1 >>= λ x. fixed_at 7 (codes "$$GEOMETRYSTART") x >>= λ x. Ok (c.0, x)) h d.2 in
-    let f = bind_ok (fixed_at 6 (codes "$$HEADEREND") s.0.1) (λ x. fixed_at 7 (codes "$$GEOMETRYSTART") x >>= λ x. Ok (s.0.0, x)) h s.2 in
+    let a = bind_ok (fixed_at 1 (codes "$$HEADERSTART") ls) (λ x. fixed_at 2 (codes "$$ASCII") x >>= λ x. fixed_at 3
+    (codes "$$UNITS/0.001") x >>= λ x. fixed_at 4 (codes "$$VERSION/200") x >>= λ x. count_at 5 x >>=
+    λ c. fixed_at 6 (codes "$$HEADEREND") c.1 >>= λ x. fixed_at 7 (codes "$$GEOMETRYSTART") x >>=
+    λ x. Ok (c.0, x)) h e in
+    let b = bind_ok (fixed_at 2 (codes "$$ASCII") a.0) (λ x. fixed_at 3 (codes "$$UNITS/0.001") x >>= λ x. fixed_at 4
+    (codes "$$VERSION/200") x >>= λ x. count_at 5 x >>= λ c. fixed_at 6 (codes "$$HEADEREND") c.1 >>=
+    λ x. fixed_at 7 (codes "$$GEOMETRYSTART") x >>= λ x. Ok (c.0, x)) h a.2 in
+    let c = bind_ok (fixed_at 3 (codes "$$UNITS/0.001") b.0) (λ x. fixed_at 4 (codes "$$VERSION/200") x >>=
+    λ x. count_at 5 x >>= λ c. fixed_at 6 (codes "$$HEADEREND") c.1 >>= λ x. fixed_at 7
+    (codes "$$GEOMETRYSTART") x >>= λ x. Ok (c.0, x)) h b.2 in
+    let d = bind_ok (fixed_at 4 (codes "$$VERSION/200") c.0) (λ x. count_at 5 x >>= λ c. fixed_at 6
+    (codes "$$HEADEREND") c.1 >>= λ x. fixed_at 7 (codes "$$GEOMETRYSTART") x >>= λ x. Ok (c.0, x)) h c.2 in
+    let s = bind_ok (count_at 5 d.0) (λ c. fixed_at 6 (codes "$$HEADEREND") c.1 >>= λ x. fixed_at 7
+    (codes "$$GEOMETRYSTART") x >>= λ x. Ok (c.0, x)) h d.2 in
+    let f = bind_ok (fixed_at 6 (codes "$$HEADEREND") s.0.1) (λ x. fixed_at 7 (codes "$$GEOMETRYSTART") x >>=
+    λ x. Ok (s.0.0, x)) h s.2 in
     let g = bind_ok (fixed_at 7 (codes "$$GEOMETRYSTART") f.0) (λ x. Ok (s.0.0, x)) h f.2 in
     let count = count_is 5 d.0 s.0 s.1 in
     let lines_are : ls ≡ head_lines s.0.0 ++ g.0 =
@@ -92,10 +105,12 @@ reading_is bytes layers e =
     let same : g.0.layers ≡ layers = ok_is g.0.layers b.0 g.2 ∙ c.1 in
     let outlines : stands.outlines ≡ [] = no_lines stands.outlines g.0.outlines stands.front (stands.none refl) in
     let are : lines bytes ≡ head_lines a.0.0 ++ (joined stands.parts ++ end_line ∷ []) =
-    head.0 ∙ ap (λ (ls : List (List ℕ)). head_lines a.0.0 ++ ls) (stands.are ∙ ap (λ (ls : List (List ℕ)). ls ++ (joined stands.parts ++ end_line ∷ [])) outlines) in
+    head.0 ∙ ap (λ (ls : List (List ℕ)). head_lines a.0.0 ++ ls)
+    (stands.are ∙ ap (λ (ls : List (List ℕ)). ls ++ (joined stands.parts ++ end_line ∷ [])) outlines) in
     record {
       parts = stands.parts;
-      are = are ∙ ap (λ (n : ℕ). head_lines n ++ (joined stands.parts ++ end_line ∷ [])) (count ∙ ap length c.1) ∙ sym (grouped (length layers) stands.parts);
+      are = are ∙ ap (λ (n : ℕ). head_lines n ++ (joined stands.parts ++ end_line ∷ [])) (count ∙ ap length c.1) ∙ sym
+          (grouped (length layers) stands.parts);
       each = subst (λ (ls : List Layer). AllZip IsLayer stands.parts ls) same stands.each;
       above = subst (AreAbove None) same stands.above;
       count = omega (arith, head.1, count, ap length c.1);
@@ -109,7 +124,8 @@ reading_is bytes layers e =
 pub reading_back : (bytes : List ℕ) (layers : List Layer) → Reads bytes layers → reading bytes ≡ Ok layers
 unfolding reading layers_at
 reading_back bytes layers r =
-    let are : lines bytes ≡ head_lines (length layers) ++ (joined r.parts ++ end_line ∷ []) = r.are ∙ grouped (length layers) r.parts in
+    let are : lines bytes ≡ head_lines (length layers) ++ (joined r.parts ++ end_line ∷ []) = r.are ∙ grouped
+    (length layers) r.parts in
     let head = head_back (length layers) (joined r.parts ++ end_line ∷ []) r.count in
     let body = parts_back None r.parts layers r.each r.above 7 in
     let same : length layers == length layers ≡ true = grind (arith, nat_tests) in
@@ -120,9 +136,12 @@ one_list bytes some others a b = ok_is some others (sym (reading_back bytes some
 
 -- ---- what `read` answers
 
-pub said : (bytes : List ℕ) (r : Result Cli CliFault) → Gives (reading bytes) layers_of r → IfOk r (λ cli. Reads bytes (layers_of cli))
+pub said : (bytes : List ℕ) (r : Result Cli CliFault) → Gives (reading bytes) layers_of r
+    → IfOk r (λ cli. Reads bytes (layers_of cli))
 said bytes (Ok cli) e = reading_is bytes (layers_of cli) e
 said bytes (Err fault) e = tt
 
-pub whole : (bytes : List ℕ) (r : Result Cli CliFault) → Gives (reading bytes) layers_of r → (layers : List Layer) → Reads bytes layers → Gives (Ok layers) layers_of r
-whole bytes r e layers reads = subst (λ (x : Result (List Layer) CliFault). Gives x layers_of r) (reading_back bytes layers reads) e
+pub whole : (bytes : List ℕ) (r : Result Cli CliFault) → Gives (reading bytes) layers_of r → (layers : List Layer)
+    → Reads bytes layers → Gives (Ok layers) layers_of r
+whole bytes r e layers reads = subst (λ (x : Result (List Layer) CliFault). Gives x layers_of r)
+    (reading_back bytes layers reads) e

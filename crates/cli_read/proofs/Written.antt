@@ -67,7 +67,8 @@ point_printed p near =
 points_printed : (ps : List Pt) → AllByRecursion IsNear ps → IsPrinted (points_text ps)
 points_printed [] near = refl
 points_printed (p ∷ ps) near =
-    ap (list_all is_printed) (flat_map-cons point_text p ps) ∙ both_printed (point_text p) (points_text ps) (point_printed p near.0) (points_printed ps near.1)
+    ap (list_all is_printed) (flat_map-cons point_text p ps) ∙ both_printed (point_text p) (points_text ps)
+    (point_printed p near.0) (points_printed ps near.1)
 
 -- ---- lines
 
@@ -89,14 +90,18 @@ written_printed : (points : List Pt) → IsShape points → IsPrinted (written p
 written_printed points shape =
     let d = decimal (direction points) in
     let n = decimal (length points + 1) in
-    let start = both_printed polyline_start d start_printed (decimal_printed (direction points) (omega (arith, direction_is points))) in
-    let count = both_printed (polyline_start ++ d ++ codes ",") n (both_printed (polyline_start ++ d) (codes ",") start refl) (decimal_printed (length points + 1) (omega (arith, shape.count))) in
-    both_printed (polyline_start ++ d ++ codes "," ++ n) (points_text (closed points)) count (points_printed (closed points) (closed_near points shape.near))
+    let start = both_printed polyline_start d start_printed (decimal_printed (direction points)
+    (omega (arith, direction_is points))) in
+    let count = both_printed (polyline_start ++ d ++ codes ",") n (both_printed (polyline_start ++ d) (codes ",") start
+    refl) (decimal_printed (length points + 1) (omega (arith, shape.count))) in
+    both_printed (polyline_start ++ d ++ codes "," ++ n) (points_text (closed points)) count
+    (points_printed (closed points) (closed_near points shape.near))
 
 abbrev AreShapes : List (List Pt) → Type 0
 AreShapes loops = AllByRecursion IsShape loops
 
-outlines_lines : (loops : List (List Pt)) (rest : List ℕ) → AreShapes loops → lines (flat_map polyline_text loops ++ rest) ≡ map written loops ++ lines rest
+outlines_lines : (loops : List (List Pt)) (rest : List ℕ) → AreShapes loops
+    → lines (flat_map polyline_text loops ++ rest) ≡ map written loops ++ lines rest
 outlines_lines [] rest h = refl
 outlines_lines (points ∷ loops) rest h =
     ap (λ (t : List ℕ). lines (t ++ rest)) (flat_map-cons polyline_text points loops)
@@ -114,7 +119,8 @@ height_printed z h = decimal_printed z (omega arith)
 abbrev part_of : Layer → List (List ℕ)
 part_of layer = height_line layer.z ∷ map written layer.loops
 
-layer_lines : (layer : Layer) (rest : List ℕ) → layer.z < 2 ^ 32 → AreShapes layer.loops → lines (layer_text layer ++ rest) ≡ part_of layer ++ lines rest
+layer_lines : (layer : Layer) (rest : List ℕ) → layer.z < 2 ^ 32 → AreShapes layer.loops
+    → lines (layer_text layer ++ rest) ≡ part_of layer ++ lines rest
 layer_lines layer rest h shapes =
     ap lines (grouped (height_line layer.z) (flat_map polyline_text layer.loops) rest)
     ∙ line_printed (height_line layer.z) (flat_map polyline_text layer.loops ++ rest) (height_printed layer.z h)
@@ -129,7 +135,8 @@ AreLow layers = AllByRecursion (λ layer. layer.z < 2 ^ 32) layers
 abbrev AreShaped : List Layer → Type 0
 AreShaped layers = AllByRecursion (λ layer. AreShapes layer.loops) layers
 
-layers_lines : (layers : List Layer) (rest : List ℕ) → AreLow layers → AreShaped layers → lines (flat_map layer_text layers ++ rest) ≡ joined (map part_of layers) ++ lines rest
+layers_lines : (layers : List Layer) (rest : List ℕ) → AreLow layers → AreShaped layers
+    → lines (flat_map layer_text layers ++ rest) ≡ joined (map part_of layers) ++ lines rest
 layers_lines [] rest low shapes = refl
 layers_lines (layer ∷ layers) rest low shapes =
     ap (λ (t : List ℕ). lines (t ++ rest)) (flat_map-cons layer_text layer layers)
@@ -137,7 +144,8 @@ layers_lines (layer ∷ layers) rest low shapes =
     ∙ layer_lines layer (flat_map layer_text layers ++ rest) low.0 shapes.0
     ∙ ap (λ (ls : List (List ℕ)). part_of layer ++ ls) (layers_lines layers rest low.1 shapes.1)
     ∙ sym (append_assoc (part_of layer) (joined (map part_of layers)) (lines rest))
-    ∙ ap (λ (ls : List (List ℕ)). ls ++ lines rest) (sym (flat_map-cons (λ (ls : List (List ℕ)). ls) (part_of layer) (map part_of layers)))
+    ∙ ap (λ (ls : List (List ℕ)). ls ++ lines rest) (sym (flat_map-cons (λ (ls : List (List ℕ)). ls) (part_of layer)
+    (map part_of layers)))
 
 end_lines : lines geometry_end ≡ end_line ∷ []
 unfolding geometry_end end_line
@@ -148,15 +156,19 @@ unfolding count_start
 count_printed n h = decimal_printed n (omega arith)
 
 start_of : (n : ℕ) (rest : List ℕ) → head_start ++ (decimal n ++ rest) ≡
-    codes "$$HEADERSTART" ++ feed ∷ (codes "$$ASCII" ++ feed ∷ (codes "$$UNITS/0.001" ++ feed ∷ (codes "$$VERSION/200" ++ feed ∷ ((count_start ++ decimal n) ++ rest))))
+    codes "$$HEADERSTART" ++ feed
+    ∷ (codes "$$ASCII" ++ feed ∷ (codes "$$UNITS/0.001" ++ feed ∷ (codes "$$VERSION/200" ++ feed
+    ∷ ((count_start ++ decimal n) ++ rest))))
 unfolding head_start count_start
 start_of n rest = refl
 
-behind_count : (rest : List ℕ) → head_end ++ rest ≡ feed ∷ (codes "$$HEADEREND" ++ feed ∷ (codes "$$GEOMETRYSTART" ++ feed ∷ rest))
+behind_count : (rest : List ℕ) → head_end ++ rest
+    ≡ feed ∷ (codes "$$HEADEREND" ++ feed ∷ (codes "$$GEOMETRYSTART" ++ feed ∷ rest))
 unfolding head_end
 behind_count rest = refl
 
-head_are : (n : ℕ) (rest : List ℕ) → n < 2 ^ 32 → lines (head_start ++ (decimal n ++ (head_end ++ rest))) ≡ head_lines n ++ lines rest
+head_are : (n : ℕ) (rest : List ℕ) → n < 2 ^ 32 → lines (head_start ++ (decimal n ++ (head_end ++ rest))) ≡ head_lines n
+    ++ lines rest
 head_are n rest h =
     let geometry = codes "$$GEOMETRYSTART" ++ feed ∷ rest in
     let «end» = codes "$$HEADEREND" ++ feed ∷ geometry in
@@ -164,12 +176,15 @@ head_are n rest h =
     let version = codes "$$VERSION/200" ++ feed ∷ count in
     let units = codes "$$UNITS/0.001" ++ feed ∷ version in
     let ascii = codes "$$ASCII" ++ feed ∷ units in
-    ap lines (start_of n (head_end ++ rest) ∙ ap (λ (t : List ℕ). codes "$$HEADERSTART" ++ feed ∷ (codes "$$ASCII" ++ feed ∷ (codes "$$UNITS/0.001" ++ feed ∷ (codes "$$VERSION/200" ++ feed ∷ ((count_start ++ decimal n) ++ t))))) (behind_count rest))
+    ap lines (start_of n (head_end ++ rest) ∙ ap (λ (t : List ℕ). codes "$$HEADERSTART" ++ feed
+    ∷ (codes "$$ASCII" ++ feed ∷ (codes "$$UNITS/0.001" ++ feed ∷ (codes "$$VERSION/200" ++ feed
+    ∷ ((count_start ++ decimal n) ++ t))))) (behind_count rest))
     ∙ line_printed (codes "$$HEADERSTART") ascii refl
     ∙ ap (λ (ls : List (List ℕ)). codes "$$HEADERSTART" ∷ ls) (line_printed (codes "$$ASCII") units refl
     ∙ ap (λ (ls : List (List ℕ)). codes "$$ASCII" ∷ ls) (line_printed (codes "$$UNITS/0.001") version refl
     ∙ ap (λ (ls : List (List ℕ)). codes "$$UNITS/0.001" ∷ ls) (line_printed (codes "$$VERSION/200") count refl
-    ∙ ap (λ (ls : List (List ℕ)). codes "$$VERSION/200" ∷ ls) (line_printed (count_start ++ decimal n) «end» (count_printed n h)
+    ∙ ap (λ (ls : List (List ℕ)). codes "$$VERSION/200" ∷ ls) (line_printed (count_start ++ decimal n) «end»
+    (count_printed n h)
     ∙ ap (λ (ls : List (List ℕ)). (count_start ++ decimal n) ∷ ls) (line_printed (codes "$$HEADEREND") geometry refl
     ∙ ap (λ (ls : List (List ℕ)). codes "$$HEADEREND" ∷ ls) (line_printed (codes "$$GEOMETRYSTART") rest refl))))))
 
@@ -177,12 +192,23 @@ head_are n rest h =
 
 loops_are : (loops : List (List Pt)) → AreShapes loops → AllZip IsOutline (map written loops) loops
 loops_are [] h = tt
-loops_are (points ∷ loops) h = (record { direction = direction points; either = direction_is points; is = refl; shape = h.0 }, loops_are loops h.1)
+loops_are (points ∷ loops) h = (
+  record {
+    direction = direction points;
+    either = direction_is points;
+    is = refl;
+    shape =
+        h.0;
+  },
+  loops_are loops h.1,
+)
 
 layers_are : (layers : List Layer) → AreLow layers → AreShaped layers → AllZip IsLayer (map part_of layers) layers
 layers_are [] low shapes = tt
-layers_are (layer ∷ layers) low shapes =
-    (record { outlines = map written layer.loops; are = refl; each = loops_are layer.loops shapes.0; height = low.0 }, layers_are layers low.1 shapes.1)
+layers_are (layer ∷ layers) low shapes = (
+  record { outlines = map written layer.loops; are = refl; each = loops_are layer.loops shapes.0; height = low.0 },
+  layers_are layers low.1 shapes.1,
+)
 
 text_grouped : (a b c d e : List ℕ) → (a ++ b ++ c) ++ d ++ e ≡ a ++ (b ++ (c ++ (d ++ e)))
 text_grouped a b c d e = simp append_assoc
@@ -196,7 +222,8 @@ written_texts layers h = record {
   are =
       ap lines (text_grouped head_start (decimal (length layers)) head_end (flat_map layer_text layers) geometry_end)
       ∙ head_are (length layers) (flat_map layer_text layers ++ geometry_end) h.count
-      ∙ ap (λ (ls : List (List ℕ)). head_lines (length layers) ++ ls) (layers_lines layers geometry_end h.heights h.shapes ∙ ap (λ (ls : List (List ℕ)). joined (map part_of layers) ++ ls) end_lines)
+      ∙ ap (λ (ls : List (List ℕ)). head_lines (length layers) ++ ls) (layers_lines layers geometry_end h.heights
+      h.shapes ∙ ap (λ (ls : List (List ℕ)). joined (map part_of layers) ++ ls) end_lines)
       ∙ lines_grouped (head_lines (length layers)) (joined (map part_of layers)) (end_line ∷ []);
   each = layers_are layers h.heights h.shapes;
   above = h.above;

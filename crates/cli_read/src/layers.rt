@@ -24,12 +24,14 @@ impl Model for Loops {
 impl Loops {
     ghost use Rattle.std.specs.Prelude.{◌≡◌};
 
+    /// The outlines of the vector, without taking memory.
     pub fn from_vec(loops: Vec<Loop>) -> Self
         ensures { result ≡ loops.items }
     {
         Loops { loops }
     }
 
+    /// The outlines, in the order of the text.
     pub fn as_slice(&self) -> &[Loop]
         ensures { result.now ≡ self.now }
     {
@@ -62,12 +64,14 @@ impl Model for CliLayers {
 impl CliLayers {
     ghost use Rattle.std.specs.Prelude.{◌≡◌};
 
+    /// The layers of the vector, without taking memory.
     pub fn from_vec(layers: Vec<CliLayer>) -> Self
         ensures { result ≡ layers.items }
     {
         CliLayers { layers }
     }
 
+    /// The layers, in the order of the text.
     pub fn as_slice(&self) -> &[CliLayer]
         ensures { result.now ≡ self.now }
     {

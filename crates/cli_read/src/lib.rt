@@ -14,8 +14,6 @@ mod number;
 mod outline;
 mod points;
 mod reading;
-#[cfg(test)]
-mod tests;
 mod words;
 
 pub use fault::CliFault;

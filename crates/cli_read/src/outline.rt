@@ -10,6 +10,7 @@ use scad_geom::Loop;
 use std::alloc::Global;
 
 // dir,n,x1,y1,..
+/// The outline that the words of a polyline in line `n` give, or the fault of that line.
 #[tactic(auto, unfolding(crate::specs::Reading::outline_at))]
 pub fn outline_at(alloc: Global, n: u64, text: &[u8]) -> Result<Loop, CliFault>
     ensures { Gives (outline_at n (words text.now)) (λ l. l) result }

@@ -28,6 +28,7 @@ pub fn next_word(rest: &[u8]) -> Option<(&[u8], &[u8])>
     }
 }
 
+/// What stands behind the start of a layer's line, or none where it is another line.
 #[tactic(auto, unfolding(cli_text::specs::Cli::layer_start, crate::specs::Reading::behind))]
 pub fn behind_layer_start(line: &[u8]) -> Option<&[u8]>
     ensures { option_map (λ r. r.now) result ≡ behind layer_start line.now }
@@ -35,6 +36,7 @@ pub fn behind_layer_start(line: &[u8]) -> Option<&[u8]>
     line.strip_prefix(b"$$LAYER/".as_slice())
 }
 
+/// What stands behind the start of a polyline of part 1, or none where it is another line.
 #[tactic(auto, unfolding(cli_text::specs::Cli::polyline_start, crate::specs::Reading::behind))]
 pub fn behind_polyline_start(line: &[u8]) -> Option<&[u8]>
     ensures { option_map (λ r. r.now) result ≡ behind polyline_start line.now }
@@ -42,6 +44,7 @@ pub fn behind_polyline_start(line: &[u8]) -> Option<&[u8]>
     line.strip_prefix(b"$$POLYLINE/1,".as_slice())
 }
 
+/// What stands behind the start of the line with the number of layers, or none where it is another line.
 #[tactic(auto, unfolding(crate::specs::Form::count_start, crate::specs::Reading::behind))]
 pub fn behind_count_start(line: &[u8]) -> Option<&[u8]>
     ensures { option_map (λ r. r.now) result ≡ behind count_start line.now }

@@ -9,7 +9,8 @@ abbrev layer : ℕ → List (List Pt) → Layer
 layer z loops = record { z = z; loops = loops }
 
 -- a cube of 1 mm in five layers of 0.2 mm
-cli-cube : cli (layer 200 (square 1000 ∷ []) ∷ layer 400 (square 1000 ∷ []) ∷ layer 600 (square 1000 ∷ []) ∷ layer 800 (square 1000 ∷ []) ∷ layer 1000 (square 1000 ∷ []) ∷ [])
+cli-cube : cli (layer 200 (square 1000 ∷ []) ∷ layer 400 (square 1000 ∷ []) ∷ layer 600 (square 1000 ∷ []) ∷ layer 800
+    (square 1000 ∷ []) ∷ layer 1000 (square 1000 ∷ []) ∷ [])
     ≡ codes "$$HEADERSTART\n$$ASCII\n$$UNITS/0.001\n$$VERSION/200\n$$LAYERS/5\n$$HEADEREND\n$$GEOMETRYSTART\n$$LAYER/200\n$$POLYLINE/1,1,5,0,0,1000,0,1000,1000,0,1000,0,0\n$$LAYER/400\n$$POLYLINE/1,1,5,0,0,1000,0,1000,1000,0,1000,0,0\n$$LAYER/600\n$$POLYLINE/1,1,5,0,0,1000,0,1000,1000,0,1000,0,0\n$$LAYER/800\n$$POLYLINE/1,1,5,0,0,1000,0,1000,1000,0,1000,0,0\n$$LAYER/1000\n$$POLYLINE/1,1,5,0,0,1000,0,1000,1000,0,1000,0,0\n$$GEOMETRYEND\n"
 unfolding head_start head_end layer_start polyline_start geometry_end digits
 cli-cube = refl
@@ -19,13 +20,15 @@ unfolding head_start head_end geometry_end digits
 cli-no_layers = refl
 
 -- a hole, clockwise, at negative coordinates
-polyline-hole : polyline_text (record { x = negsuc 9; y = negsuc 9 } ∷ record { x = negsuc 9; y = pos 5 } ∷ record { x = pos 5; y = negsuc 9 } ∷ [])
+polyline-hole : polyline_text (record { x = negsuc 9; y = negsuc 9 } ∷ record { x = negsuc 9; y = pos 5 } ∷ record
+    { x = pos 5; y = negsuc 9 } ∷ [])
     ≡ codes "$$POLYLINE/1,0,4,-10,-10,-10,5,5,-10,-10,-10\n"
 unfolding polyline_start digits
 polyline-hole = refl
 
 -- two points enclose no area
-polyline-two_points : polyline_text (record { x = pos 0; y = pos 0 } ∷ record { x = pos 7; y = pos 3 } ∷ []) ≡ codes "$$POLYLINE/1,0,3,0,0,7,3,0,0\n"
+polyline-two_points : polyline_text (record { x = pos 0; y = pos 0 } ∷ record { x = pos 7; y = pos 3 } ∷ [])
+    ≡ codes "$$POLYLINE/1,0,3,0,0,7,3,0,0\n"
 unfolding polyline_start digits
 polyline-two_points = refl
 

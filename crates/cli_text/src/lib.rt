@@ -6,8 +6,6 @@
 
 mod number;
 mod polyline;
-#[cfg(test)]
-mod tests;
 mod writer;
 
 pub use writer::{write_end, write_head, write_layer};

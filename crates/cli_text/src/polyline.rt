@@ -9,6 +9,7 @@ use scad_geom::{Pt, twice_area};
 use std::alloc::AllocError;
 
 // `$$POLYLINE/1,dir,n,x1,y1,..`
+/// Appends the line of an outline, with its direction and its first point again at the end.
 pub fn push_polyline(out: &mut Vec<u8>, points: &[Pt]) -> Result<(), AllocError>
     ensures ok { OnOk result (out.new.items ≡ out.old.items ++ polyline_text points.now) }
     ensures err { OnErr result (BeginsWith out.old.items out.new.items) }

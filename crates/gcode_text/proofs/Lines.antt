@@ -69,12 +69,15 @@ spaced_in_line [] h = refl
 spaced_in_line (word ∷ []) h = list_all-weaken in_word in_line line_from_word word h.1
 spaced_in_line (word ∷ next ∷ rest) h =
     list_all-append in_line word (32 ∷ spaced (next ∷ rest))
-    ∙ ap₂ (λ (a b : Bool). a && b) (list_all-weaken in_word in_line line_from_word word h.1) (spaced_in_line (next ∷ rest) h.2)
+    ∙ ap₂ (λ (a b : Bool). a && b) (list_all-weaken in_word in_line line_from_word word h.1)
+    (spaced_in_line (next ∷ rest) h.2)
 
-words_more : (word rest : List ℕ) → nat_lt 0 (length word) ≡ true → list_all in_word word ≡ true → words (word ++ 32 ∷ rest) ≡ word ∷ words rest
+words_more : (word rest : List ℕ) → nat_lt 0 (length word) ≡ true → list_all in_word word ≡ true
+    → words (word ++ 32 ∷ rest) ≡ word ∷ words rest
 unfolding words
 words_more word rest some h =
-    let none = AllPass-from_list_all (λ (b : ℕ). not (b == 32)) word (list_all-weaken in_word (λ b. not (b == 32)) no_space word h) in
+    let none = AllPass-from_list_all (λ (b : ℕ). not (b == 32)) word (list_all-weaken in_word (λ b. not (b == 32))
+    no_space word h) in
     ap (filter (λ (w : List ℕ). nat_lt 0 (length w)))
     (slice_split_at (λ (b : ℕ). b == 32) word 32 rest (λ k d l. not-true (get_or word k d == 32) (none k d l)) refl)
     ∙ kept_in_front word (pieces 32 rest) some
@@ -82,14 +85,16 @@ words_more word rest some h =
 last_word : (word : List ℕ) → nat_lt 0 (length word) ≡ true → list_all in_word word ≡ true → words word ≡ word ∷ []
 unfolding words
 last_word word some h =
-    let none : first_at 32 word ≡ length word = no_mark 32 word (list_all-weaken in_word (λ b. not (b == 32)) no_space word h) in
+    let none : first_at 32 word ≡ length word = no_mark 32 word (list_all-weaken in_word (λ b. not (b == 32)) no_space
+    word h) in
     ap (filter (λ (w : List ℕ). nat_lt 0 (length w))) (one_piece 32 word (omega arith)) ∙ kept_in_front word [] some
 
 words_back : (ws : List (List ℕ)) → AreWords ws → words (spaced ws) ≡ ws
 unfolding words
 words_back [] h = refl
 words_back (word ∷ []) h = last_word word h.0 h.1
-words_back (word ∷ next ∷ rest) h = words_more word (spaced (next ∷ rest)) h.0 h.1 ∙ ap (λ (ws : List (List ℕ)). word ∷ ws) (words_back (next ∷ rest) h.2)
+words_back (word ∷ next ∷ rest) h = words_more word (spaced (next ∷ rest)) h.0 h.1 ∙ ap
+    (λ (ws : List (List ℕ)). word ∷ ws) (words_back (next ∷ rest) h.2)
 
 byte_in_line : (text : List ℕ) (k : ℕ) → list_all in_line text ≡ true → (get_or text k 0 == 13) ≡ false
 byte_in_line [] k h = refl
@@ -100,34 +105,39 @@ code_back : (text : List ℕ) → list_all in_line text ≡ true → without_com
 unfolding without_comment without_return
 code_back text h =
     let last = byte_in_line text (length text - 1) h in
-    let none : first_at 59 text ≡ length text = no_mark 59 text (list_all-weaken in_line (λ b. not (b == 59)) no_semicolon text h) in
+    let none : first_at 59 text ≡ length text = no_mark 59 text (list_all-weaken in_line (λ b. not (b == 59))
+    no_semicolon text h) in
     rw last (take_all (first_at 59 text) text (omega arith))
 
 pub line_back : (ws : List (List ℕ)) → AreWords ws → line_words (spaced ws) ≡ ws
 line_back ws h = ap words (code_back (spaced ws) (spaced_in_line ws h)) ∙ words_back ws h
 
-pub step_of : (s : State) (ws : List (List ℕ)) → AreWords ws → line_step any s (spaced ws) ≡ words_line any (counting s) ws
+pub step_of : (s : State) (ws : List (List ℕ)) → AreWords ws → line_step any s (spaced ws) ≡ words_line any (counting s)
+    ws
 unfolding line_step
 step_of s ws h = ap (words_line any (counting s)) (line_back ws h)
 
 -- ---- numbers are words
 
 decimal_in_word : (n : ℕ) → n < 10 ^ 64 → list_all in_word (decimal n) ≡ true
-decimal_in_word n h = list_all-weaken is_ascii_digit in_word word_from_digit (decimal n) (digits_alone (decimal n) (decimal_digits n h))
+decimal_in_word n h = list_all-weaken is_ascii_digit in_word word_from_digit (decimal n)
+    (digits_alone (decimal n) (decimal_digits n h))
 
 three_in_word : (n : ℕ) → n < 10 ^ 64 → list_all in_word (fixed 3 n) ≡ true
 unfolding fixed
 three_in_word n h =
     list_all-append in_word (decimal (n / 1000)) (46 ∷ last_digits 3 (n % 1000))
     ∙ ap₂ (λ (a b : Bool). a && b) (decimal_in_word (n / 1000) (omega arith))
-    (list_all-weaken is_ascii_digit in_word word_from_digit (last_digits 3 (n % 1000)) (digits_alone (last_digits 3 (n % 1000)) (three_digits (n % 1000))))
+    (list_all-weaken is_ascii_digit in_word word_from_digit (last_digits 3 (n % 1000))
+    (digits_alone (last_digits 3 (n % 1000)) (three_digits (n % 1000))))
 
 five_in_word : (n : ℕ) → n < 10 ^ 64 → list_all in_word (fixed 5 n) ≡ true
 unfolding fixed
 five_in_word n h =
     list_all-append in_word (decimal (n / 100000)) (46 ∷ last_digits 5 (n % 100000))
     ∙ ap₂ (λ (a b : Bool). a && b) (decimal_in_word (n / 100000) (omega arith))
-    (list_all-weaken is_ascii_digit in_word word_from_digit (last_digits 5 (n % 100000)) (digits_alone (last_digits 5 (n % 100000)) (five_digits (n % 100000))))
+    (list_all-weaken is_ascii_digit in_word word_from_digit (last_digits 5 (n % 100000))
+    (digits_alone (last_digits 5 (n % 100000)) (five_digits (n % 100000))))
 
 millimetres_in_word : (z : ℤ) → unsigned_abs z < 10 ^ 64 → list_all in_word (millimetres z) ≡ true
 unfolding millimetres
@@ -136,10 +146,12 @@ millimetres_in_word (negsuc n) h = three_in_word (suc n) h
 
 -- ---- lines
 
-travel_regrouped : (a x b y c f d : List ℕ) → a ++ x ++ b ++ y ++ (c ++ f ++ d) ≡ (a ++ (x ++ (b ++ (y ++ (c ++ f))))) ++ d
+travel_regrouped : (a x b y c f d : List ℕ) → a ++ x ++ b ++ y ++ (c ++ f ++ d) ≡ (a ++ (x ++ (b ++ (y ++ (c ++ f)))))
+    ++ d
 travel_regrouped a x b y c f d = simp append_assoc
 
-print_regrouped : (a x b y c e g f d : List ℕ) → a ++ x ++ b ++ y ++ (c ++ e) ++ (g ++ f ++ d) ≡ (a ++ (x ++ (b ++ (y ++ (c ++ (e ++ (g ++ f))))))) ++ d
+print_regrouped : (a x b y c e g f d : List ℕ) → a ++ x ++ b ++ y ++ (c ++ e) ++ (g ++ f ++ d)
+    ≡ (a ++ (x ++ (b ++ (y ++ (c ++ (e ++ (g ++ f))))))) ++ d
 print_regrouped a x b y c e g f d = simp append_assoc
 
 heat_regrouped : (a b f d : List ℕ) → a ++ b ++ f ++ d ≡ (a ++ (b ++ f)) ++ d
@@ -149,20 +161,24 @@ more : (c : ℕ) (xs : List ℕ) → nat_lt 0 (length (c ∷ xs)) ≡ true
 more c xs = grind (arith, nat_tests)
 
 abbrev pub travel_words : Rates → Pt → List (List ℕ)
-travel_words rates p = codes "G1" ∷ (88 ∷ millimetres p.x) ∷ (89 ∷ millimetres p.y) ∷ (70 ∷ decimal rates.travel_feed) ∷ []
+travel_words rates p = codes "G1" ∷ (88 ∷ millimetres p.x) ∷ (89 ∷ millimetres p.y) ∷ (70 ∷ decimal rates.travel_feed)
+    ∷ []
 
 pub travel_line_is : (rates : Rates) (p : Pt) → travel_line rates p ≡ spaced (travel_words rates p) ++ 10 ∷ []
 unfolding travel_line target feed_end
 travel_line_is rates p =
-    travel_regrouped (codes "G1 X") (millimetres p.x) (codes " Y") (millimetres p.y) (codes " F") (decimal rates.travel_feed) (codes "\n")
+    travel_regrouped (codes "G1 X") (millimetres p.x) (codes " Y") (millimetres p.y) (codes " F")
+    (decimal rates.travel_feed) (codes "\n")
 
 abbrev pub print_words : Rates → Pt → ℕ → List (List ℕ)
-print_words rates p e = codes "G1" ∷ (88 ∷ millimetres p.x) ∷ (89 ∷ millimetres p.y) ∷ (69 ∷ fixed 5 e) ∷ (70 ∷ decimal rates.print_feed) ∷ []
+print_words rates p e = codes "G1" ∷ (88 ∷ millimetres p.x) ∷ (89 ∷ millimetres p.y) ∷ (69 ∷ fixed 5 e)
+    ∷ (70 ∷ decimal rates.print_feed) ∷ []
 
 pub print_line_is : (rates : Rates) (p : Pt) (e : ℕ) → print_line rates p e ≡ spaced (print_words rates p e) ++ 10 ∷ []
 unfolding print_line target amount feed_end
 print_line_is rates p e =
-    print_regrouped (codes "G1 X") (millimetres p.x) (codes " Y") (millimetres p.y) (codes " E") (fixed 5 e) (codes " F") (decimal rates.print_feed) (codes "\n")
+    print_regrouped (codes "G1 X") (millimetres p.x) (codes " Y") (millimetres p.y) (codes " E") (fixed 5 e)
+    (codes " F") (decimal rates.print_feed) (codes "\n")
 
 abbrev pub height_words : Rates → ℕ → List (List ℕ)
 height_words rates z = codes "G1" ∷ (90 ∷ fixed 3 z) ∷ (70 ∷ decimal rates.travel_feed) ∷ []
@@ -172,13 +188,15 @@ unfolding height_line feed_end
 height_line_is rates z = simp append_assoc
 
 -- what such words name
-pub travel_given : (n : ℕ) (tx ty tf : List ℕ) (x y f : ℤ) → number 3 tx ≡ Some x → number 3 ty ≡ Some y → number 5 tf ≡ Some f →
+pub travel_given : (n : ℕ) (tx ty tf : List ℕ) (x y f : ℤ) → number 3 tx ≡ Some x → number 3 ty ≡ Some y
+    → number 5 tf ≡ Some f →
     with_words any n Drive ((88 ∷ tx) ∷ (89 ∷ ty) ∷ (70 ∷ tf) ∷ []) nothing_given
     ≡ Ok (record { x = Some x; y = Some y; z = None; e = None; feed = true; setting = false })
 unfolding with_words with_word takes was_given with_number
 travel_given n tx ty tf x y f ex ey ef = rw (ex, ey, ef) refl
 
-pub print_given : (n : ℕ) (tx ty te tf : List ℕ) (x y e f : ℤ) → number 3 tx ≡ Some x → number 3 ty ≡ Some y → number 5 te ≡ Some e → number 5 tf ≡ Some f →
+pub print_given : (n : ℕ) (tx ty te tf : List ℕ) (x y e f : ℤ) → number 3 tx ≡ Some x → number 3 ty ≡ Some y
+    → number 5 te ≡ Some e → number 5 tf ≡ Some f →
     with_words any n Drive ((88 ∷ tx) ∷ (89 ∷ ty) ∷ (69 ∷ te) ∷ (70 ∷ tf) ∷ []) nothing_given
     ≡ Ok (record { x = Some x; y = Some y; z = None; e = Some e; feed = true; setting = false })
 unfolding with_words with_word takes was_given with_number
@@ -190,40 +208,93 @@ pub height_given : (n : ℕ) (tz tf : List ℕ) (z f : ℤ) → number 3 tz ≡ 
 unfolding with_words with_word takes was_given with_number
 height_given n tz tf z f ez ef = rw (ez, ef) refl
 
-pub driven_by : (s : State) (rest : List (List ℕ)) (given : Given) → with_words any s.lines Drive rest nothing_given ≡ Ok given →
+pub driven_by : (s : State) (rest : List (List ℕ)) (given : Given) → with_words any s.lines Drive rest nothing_given
+    ≡ Ok given →
     words_line any s (codes "G1" ∷ rest) ≡ Ok (obeyed s Drive given)
 unfolding command_of
 driven_by s rest given e = ap (λ (it : Result Given GFault). and_then it (λ given. Ok (obeyed s Drive given))) e
 
-pub travel_are_words : (rates : Rates) (p : Pt) → unsigned_abs p.x < 10 ^ 64 → unsigned_abs p.y < 10 ^ 64 → rates.travel_feed < 10 ^ 64 → AreWords (travel_words rates p)
-travel_are_words rates p hx hy hf =
-    (refl, refl, (more 88 (millimetres p.x), millimetres_in_word p.x hx, (more 89 (millimetres p.y), millimetres_in_word p.y hy, (more 70 (decimal rates.travel_feed), decimal_in_word rates.travel_feed hf, tt))))
+pub travel_are_words : (rates : Rates) (p : Pt) → unsigned_abs p.x < 10 ^ 64 → unsigned_abs p.y < 10 ^ 64
+    → rates.travel_feed < 10 ^ 64 → AreWords (travel_words rates p)
+travel_are_words rates p hx hy hf = (
+  refl,
+  refl,
+  (
+    more 88 (millimetres p.x),
+    millimetres_in_word p.x hx,
+    (
+      more 89 (millimetres p.y),
+      millimetres_in_word
+          p.y hy,
+      (more 70 (decimal rates.travel_feed), decimal_in_word rates.travel_feed hf, tt),
+    ),
+  ),
+)
 
-pub print_are_words : (rates : Rates) (p : Pt) (e : ℕ) → unsigned_abs p.x < 10 ^ 64 → unsigned_abs p.y < 10 ^ 64 → e < 10 ^ 64 → rates.print_feed < 10 ^ 64 → AreWords (print_words rates p e)
-print_are_words rates p e hx hy he hf =
-    (refl, refl, (more 88 (millimetres p.x), millimetres_in_word p.x hx, (more 89 (millimetres p.y), millimetres_in_word p.y hy, (more 69 (fixed 5 e), five_in_word e he, (more 70 (decimal rates.print_feed), decimal_in_word rates.print_feed hf, tt)))))
+pub print_are_words : (rates : Rates) (p : Pt) (e : ℕ) → unsigned_abs p.x < 10 ^ 64 → unsigned_abs p.y < 10 ^ 64
+    → e < 10 ^ 64 → rates.print_feed < 10 ^ 64 → AreWords (print_words rates p e)
+print_are_words rates p e hx hy he hf = (
+  refl,
+  refl,
+  (
+    more 88 (millimetres p.x),
+    millimetres_in_word p.x hx,
+    (
+      more 89 (millimetres p.y),
+      millimetres_in_word
+          p.y hy,
+      (
+        more 69 (fixed 5 e),
+        five_in_word e he,
+        (
+          more 70 (decimal rates.print_feed),
+          decimal_in_word
+              rates.print_feed hf,
+          tt,
+        ),
+      ),
+    ),
+  ),
+)
 
-pub height_are_words : (rates : Rates) (z : ℕ) → z < 10 ^ 64 → rates.travel_feed < 10 ^ 64 → AreWords (height_words rates z)
-height_are_words rates z hz hf =
-    (refl, refl, (more 90 (fixed 3 z), three_in_word z hz, (more 70 (decimal rates.travel_feed), decimal_in_word rates.travel_feed hf, tt)))
+pub height_are_words : (rates : Rates) (z : ℕ) → z < 10 ^ 64 → rates.travel_feed < 10 ^ 64
+    → AreWords (height_words rates z)
+height_are_words rates z hz hf = (
+  refl,
+  refl,
+  (
+    more 90 (fixed 3 z),
+    three_in_word z hz,
+    (
+      more 70 (decimal rates.travel_feed),
+      decimal_in_word
+          rates.travel_feed hf,
+      tt,
+    ),
+  ),
+)
 
 abbrev pub heat_words : List ℕ → ℕ → List (List ℕ)
 heat_words command degrees = command ∷ (83 ∷ decimal degrees) ∷ []
 
-pub heat_line_is : (command : List ℕ) (degrees : ℕ) → heat_line command degrees ≡ spaced (heat_words command degrees) ++ 10 ∷ []
+pub heat_line_is : (command : List ℕ) (degrees : ℕ) → heat_line command degrees ≡ spaced (heat_words command degrees) ++
+    10 ∷ []
 unfolding heat_line
 heat_line_is command degrees = heat_regrouped command (codes " S") (decimal degrees) (codes "\n")
 
-pub heat_are_words : (command : List ℕ) (degrees : ℕ) → nat_lt 0 (length command) ≡ true → list_all in_word command ≡ true → degrees < 10 ^ 64 → AreWords (heat_words command degrees)
+pub heat_are_words : (command : List ℕ) (degrees : ℕ) → nat_lt 0 (length command) ≡ true → list_all in_word command
+    ≡ true → degrees < 10 ^ 64 → AreWords (heat_words command degrees)
 heat_are_words command degrees a b h = (a, b, (more 83 (decimal degrees), decimal_in_word degrees h, tt))
 
 pub heat_given : (n : ℕ) (t : List ℕ) (v : ℤ) → number 5 t ≡ Some v →
-    with_words any n Plain ((83 ∷ t) ∷ []) nothing_given ≡ Ok (record { x = None; y = None; z = None; e = None; feed = false; setting = true })
+    with_words any n Plain ((83 ∷ t) ∷ []) nothing_given
+    ≡ Ok (record { x = None; y = None; z = None; e = None; feed = false; setting = true })
 unfolding with_words with_word takes was_given with_number
 heat_given n t v e = rw e refl
 
 pub decimal_no_feed : (n : ℕ) → n < 10 ^ 64 → list_all (λ b. not (b == 10)) (decimal n) ≡ true
-decimal_no_feed n h = list_all-weaken is_ascii_digit (λ b. not (b == 10)) digit_no_feed (decimal n) (digits_alone (decimal n) (decimal_digits n h))
+decimal_no_feed n h = list_all-weaken is_ascii_digit (λ b. not (b == 10)) digit_no_feed (decimal n)
+    (digits_alone (decimal n) (decimal_digits n h))
   where
     digit_no_feed : (b : ℕ) → is_ascii_digit b ≡ true → not (b == 10) ≡ true
     digit_no_feed b h = grind (arith, nat_tests)
@@ -243,4 +314,5 @@ comment_back rest = ap words (by_test (slice_index (59 ∷ rest) (length (59 ∷
   where
     by_test : (b : Bool) → without_comment (cond b (take (length (59 ∷ rest) - 1) (59 ∷ rest)) (59 ∷ rest)) ≡ []
     by_test true = front_semicolon (length (59 ∷ rest) - 1) rest
-    by_test false = ap without_comment (sym (take_all (length (59 ∷ rest)) (59 ∷ rest) (omega arith))) ∙ front_semicolon (length (59 ∷ rest)) rest
+    by_test false = ap without_comment (sym (take_all (length (59 ∷ rest)) (59 ∷ rest) (omega arith))) ∙ front_semicolon
+        (length (59 ∷ rest)) rest

@@ -21,7 +21,8 @@ pub AllDigits-from_test : (ds : List ℕ) → list_all is_ascii_digit ds ≡ tru
 AllDigits-from_test [] h = tt
 AllDigits-from_test (c ∷ cs) h = both (is_ascii_digit c) refl h (AllDigits-from_test cs)
   where
-    both : (b : Bool) → is_ascii_digit c ≡ b → (b && list_all is_ascii_digit cs) ≡ true → (list_all is_ascii_digit cs ≡ true → AllDigits 10 cs) → AllDigits 10 (c ∷ cs)
+    both : (b : Bool) → is_ascii_digit c ≡ b → (b && list_all is_ascii_digit cs) ≡ true
+        → (list_all is_ascii_digit cs ≡ true → AllDigits 10 cs) → AllDigits 10 (c ∷ cs)
     both true e g rest = (digit_value-lt c e, rest g)
     both false e g rest = absurd (cc)
 
@@ -38,7 +39,8 @@ pub pointed_capped : (n places : ℕ) (decimals : List ℕ) →
     min (min (digits_value_after 10 (min n cap) decimals) cap * 10 ^ places) cap
     ≡ min (digits_value_after 10 n decimals * 10 ^ places) cap
 pointed_capped n places decimals =
-    ap (λ (m : ℕ). min (m * 10 ^ places) cap) (min-digits_value_after cap n decimals) ∙ whole_capped (digits_value_after 10 n decimals) places
+    ap (λ (m : ℕ). min (m * 10 ^ places) cap) (min-digits_value_after cap n decimals) ∙ whole_capped
+    (digits_value_after 10 n decimals) places
 
 pub ruleset sizes = (whole_capped, pointed_capped)
 
@@ -48,11 +50,13 @@ capped_negative : (n : ℕ) → negative (min n cap) ≡ capped_number (negative
 capped_negative zero = refl
 capped_negative (suc n) = refl
 
-pub negative_sizes : (size : Option ℕ) → option_map negative (option_map capped size) ≡ option_map capped_number (option_map negative size)
+pub negative_sizes : (size : Option ℕ) → option_map negative (option_map capped size) ≡ option_map capped_number
+    (option_map negative size)
 negative_sizes None = refl
 negative_sizes (Some n) = ap Some (capped_negative n)
 
-pub positive_sizes : (size : Option ℕ) → option_map pos (option_map capped size) ≡ option_map capped_number (option_map pos size)
+pub positive_sizes : (size : Option ℕ) → option_map pos (option_map capped size) ≡ option_map capped_number
+    (option_map pos size)
 positive_sizes None = refl
 positive_sizes (Some n) = refl
 
@@ -82,6 +86,7 @@ pub ranges : (n letter : ℕ) (given : Given) (number : Option ℤ) →
 ranges n letter given None = refl
 ranges n letter given (Some z) = by_size (cases_lt cap (unsigned_abs z))
   where
-    by_size : (cap < unsigned_abs z) ⊎ (unsigned_abs z ≤ cap) → ranged limited n letter given (Some (capped_number z)) ≡ ranged limited n letter given (Some z)
+    by_size : (cap < unsigned_abs z) ⊎ (unsigned_abs z ≤ cap) → ranged limited n letter given (Some (capped_number z))
+        ≡ ranged limited n letter given (Some z)
     by_size (inl h) = past n letter given (capped_number z) z h (capped_past z h)
     by_size (inr h) = ap (λ (y : ℤ). ranged limited n letter given (Some y)) (capped_within z h)

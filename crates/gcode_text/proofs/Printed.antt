@@ -31,22 +31,29 @@ decimal_digits n h =
     some : (k : ℕ) → 0 < k → nat_lt 0 k ≡ true
     some k h = grind (arith, nat_tests)
 
-pub list_all-weaken : (p q : ℕ → Bool) → ((b : ℕ) → p b ≡ true → q b ≡ true) → (xs : List ℕ) → list_all p xs ≡ true → list_all q xs ≡ true
+pub list_all-weaken : (p q : ℕ → Bool) → ((b : ℕ) → p b ≡ true → q b ≡ true) → (xs : List ℕ) → list_all p xs ≡ true
+    → list_all q xs ≡ true
 list_all-weaken p q f [] h = refl
 list_all-weaken p q f (x ∷ xs) h =
-    ap₂ (λ (a b : Bool). a && b) (f x (and_parts (p x) (list_all p xs) h).0) (list_all-weaken p q f xs (and_parts (p x) (list_all p xs) h).1)
+    ap₂ (λ (a b : Bool). a && b) (f x (and_parts (p x) (list_all p xs) h).0)
+    (list_all-weaken p q f xs (and_parts (p x) (list_all p xs) h).1)
 
-pub first_mark : (mark : ℕ) (xs rest : List ℕ) → list_all (λ b. not (b == mark)) xs ≡ true → first_at mark (xs ++ mark ∷ rest) ≡ length xs
+pub first_mark : (mark : ℕ) (xs rest : List ℕ) → list_all (λ b. not (b == mark)) xs ≡ true
+    → first_at mark (xs ++ mark ∷ rest) ≡ length xs
 first_mark mark [] rest h = ap (λ (b : Bool). cond (not b) (1 + first_at mark rest) 0) (eq-eqb mark mark refl)
 first_mark mark (x ∷ xs) rest h =
-    let next : first_at mark (xs ++ mark ∷ rest) ≡ length xs = first_mark mark xs rest ((and_parts (not (x == mark)) (list_all (λ b. not (b == mark)) xs) h).1) in
-    ap (λ (b : Bool). cond b (1 + first_at mark (xs ++ mark ∷ rest)) 0) ((and_parts (not (x == mark)) (list_all (λ b. not (b == mark)) xs) h).0) ∙ omega arith
+    let next : first_at mark (xs ++ mark ∷ rest) ≡ length xs = first_mark mark xs rest
+    ((and_parts (not (x == mark)) (list_all (λ b. not (b == mark)) xs) h).1) in
+    ap (λ (b : Bool). cond b (1 + first_at mark (xs ++ mark ∷ rest)) 0)
+    ((and_parts (not (x == mark)) (list_all (λ b. not (b == mark)) xs) h).0) ∙ omega arith
 
 pub no_mark : (mark : ℕ) (xs : List ℕ) → list_all (λ b. not (b == mark)) xs ≡ true → first_at mark xs ≡ length xs
 no_mark mark [] h = refl
 no_mark mark (x ∷ xs) h =
-    let next : first_at mark xs ≡ length xs = no_mark mark xs ((and_parts (not (x == mark)) (list_all (λ b. not (b == mark)) xs) h).1) in
-    ap (λ (b : Bool). cond b (1 + first_at mark xs) 0) ((and_parts (not (x == mark)) (list_all (λ b. not (b == mark)) xs) h).0) ∙ omega arith
+    let next : first_at mark xs ≡ length xs = no_mark mark xs
+    ((and_parts (not (x == mark)) (list_all (λ b. not (b == mark)) xs) h).1) in
+    ap (λ (b : Bool). cond b (1 + first_at mark xs) 0)
+    ((and_parts (not (x == mark)) (list_all (λ b. not (b == mark)) xs) h).0) ∙ omega arith
 
 digit_back : (d : ℕ) → d < 10 → digit_value (48 + d) ≡ d
 digit_back d h = grind (arith, nat_tests)
@@ -84,21 +91,31 @@ no_point ds h = list_all-weaken is_ascii_digit (λ b. not (b == 46)) digit_no_po
 in_front : (xs ys : List ℕ) (c : ℕ) → nat_lt (length xs) (length (xs ++ c ∷ ys)) ≡ true
 in_front xs ys c = let e = length-append xs (c ∷ ys) in grind (arith, nat_tests)
 
-pub size_pointed : (places : ℕ) (whole decimals : List ℕ) → are_digits whole ≡ true → size_of places (whole ++ 46 ∷ decimals) ≡ pointed_size places whole decimals
+pub size_pointed : (places : ℕ) (whole decimals : List ℕ) → are_digits whole ≡ true
+    → size_of places (whole ++ 46 ∷ decimals) ≡ pointed_size places whole decimals
 unfolding size_of
 size_pointed places whole decimals h =
     let at = first_mark 46 whole decimals (no_point whole h) in
-    rw (at, in_front whole decimals 46, take_at whole (46 ∷ decimals) (length whole) refl, drop-append-add whole (46 ∷ decimals) 1) refl
+    rw (
+      at,
+      in_front whole decimals 46,
+      take_at whole (46 ∷ decimals) (length whole) refl,
+      drop-append-add whole
+          (46 ∷ decimals) 1,
+    ) refl
 
-pub size_whole : (places : ℕ) (whole : List ℕ) → are_digits whole ≡ true → size_of places whole ≡ Some (digits_value 10 whole * 10 ^ places)
+pub size_whole : (places : ℕ) (whole : List ℕ) → are_digits whole ≡ true → size_of places whole
+    ≡ Some (digits_value 10 whole * 10 ^ places)
 unfolding size_of whole_size
 size_whole places whole h =
     let at = no_mark 46 whole (no_point whole h) in
     let not_below : nat_lt (length whole) (length whole) ≡ false = grind (arith, nat_tests) in
     rw (at, not_below, h) refl
 
-pub pointed_is : (places : ℕ) (whole decimals : List ℕ) → are_digits whole ≡ true → are_digits decimals ≡ true → nat_le (length decimals) places ≡ true →
-    pointed_size places whole decimals ≡ Some (digits_value_after 10 (digits_value 10 whole) decimals * 10 ^ (places - length decimals))
+pub pointed_is : (places : ℕ) (whole decimals : List ℕ) → are_digits whole ≡ true → are_digits decimals ≡ true
+    → nat_le (length decimals) places ≡ true →
+    pointed_size places whole decimals ≡ Some (digits_value_after 10 (digits_value 10 whole) decimals * 10 ^
+    (places - length decimals))
 unfolding pointed_size
 pointed_is places whole decimals a b c = rw (a, b, c) refl
 
@@ -111,7 +128,14 @@ three_digits m = rw (glyph (m / 10 / 10), glyph (m / 10), glyph m) refl
 
 pub five_digits : (m : ℕ) → are_digits (last_digits 5 m) ≡ true
 unfolding last_digits are_digits
-five_digits m = rw (glyph (m / 10 / 10 / 10 / 10), glyph (m / 10 / 10 / 10), glyph (m / 10 / 10), glyph (m / 10), glyph m) refl
+five_digits m = rw (
+  glyph (m / 10 / 10 / 10 / 10),
+  glyph (m / 10 / 10 / 10),
+  glyph (m / 10 / 10),
+  glyph (m / 10),
+  glyph
+      m,
+) refl
 
 three_long : (m : ℕ) → length (last_digits 3 m) ≡ 3
 unfolding last_digits
@@ -127,8 +151,10 @@ size_three n h =
     let digits = decimal_digits (n / 1000) (omega arith) in
     let value = (decimal_is_IsNumeral_wide (n / 1000) (omega arith)).1 in
     size_pointed 3 (decimal (n / 1000)) (last_digits 3 (n % 1000)) digits
-    ∙ pointed_is 3 (decimal (n / 1000)) (last_digits 3 (n % 1000)) digits (three_digits (n % 1000)) (ap (λ (k : ℕ). nat_le k 3) (three_long (n % 1000)))
-    ∙ ap (λ (k : ℕ). Some (digits_value_after 10 (digits_value 10 (decimal (n / 1000))) (last_digits 3 (n % 1000)) * 10 ^ (3 - k))) (three_long (n % 1000))
+    ∙ pointed_is 3 (decimal (n / 1000)) (last_digits 3 (n % 1000)) digits (three_digits (n % 1000))
+    (ap (λ (k : ℕ). nat_le k 3) (three_long (n % 1000)))
+    ∙ ap (λ (k : ℕ). Some (digits_value_after 10 (digits_value 10 (decimal (n / 1000))) (last_digits 3 (n % 1000)) * 10
+    ^ (3 - k))) (three_long (n % 1000))
     ∙ ap Some (omega (arith, three (digits_value 10 (decimal (n / 1000))) (n % 1000) (omega arith), value))
 
 pub size_five : (n : ℕ) → n < 10 ^ 64 → size_of 5 (fixed 5 n) ≡ Some n
@@ -137,8 +163,10 @@ size_five n h =
     let digits = decimal_digits (n / 100000) (omega arith) in
     let value = (decimal_is_IsNumeral_wide (n / 100000) (omega arith)).1 in
     size_pointed 5 (decimal (n / 100000)) (last_digits 5 (n % 100000)) digits
-    ∙ pointed_is 5 (decimal (n / 100000)) (last_digits 5 (n % 100000)) digits (five_digits (n % 100000)) (ap (λ (k : ℕ). nat_le k 5) (five_long (n % 100000)))
-    ∙ ap (λ (k : ℕ). Some (digits_value_after 10 (digits_value 10 (decimal (n / 100000))) (last_digits 5 (n % 100000)) * 10 ^ (5 - k))) (five_long (n % 100000))
+    ∙ pointed_is 5 (decimal (n / 100000)) (last_digits 5 (n % 100000)) digits (five_digits (n % 100000))
+    (ap (λ (k : ℕ). nat_le k 5) (five_long (n % 100000)))
+    ∙ ap (λ (k : ℕ). Some (digits_value_after 10 (digits_value 10 (decimal (n / 100000))) (last_digits 5 (n % 100000)) *
+    10 ^ (5 - k))) (five_long (n % 100000))
     ∙ ap Some (omega (arith, five (digits_value 10 (decimal (n / 100000))) (n % 100000) (omega arith), value))
 
 -- ---- numbers
@@ -146,22 +174,27 @@ size_five n h =
 pub no_minus : (ds rest : List ℕ) → are_digits ds ≡ true → (slice_index (ds ++ rest) 0 == 45) ≡ false
 unfolding are_digits
 no_minus [] rest h = absurd (cc)
-no_minus (c ∷ cs) rest h = digit_no_minus c ((and_parts (is_ascii_digit c) (list_all is_ascii_digit cs) ((and_parts (nat_lt 0 (length (c ∷ cs))) (list_all is_ascii_digit (c ∷ cs)) h).1)).0)
+no_minus (c ∷ cs) rest h = digit_no_minus c
+    ((and_parts (is_ascii_digit c) (list_all is_ascii_digit cs)
+    ((and_parts (nat_lt 0 (length (c ∷ cs))) (list_all is_ascii_digit (c ∷ cs)) h).1)).0)
   where
     digit_no_minus : (c : ℕ) → is_ascii_digit c ≡ true → (c == 45) ≡ false
     digit_no_minus c h = grind (arith, nat_tests)
 
-pub positive_number : (places : ℕ) (text : List ℕ) (n : ℕ) → (slice_index text 0 == 45) ≡ false → size_of places text ≡ Some n → number places text ≡ Some (pos n)
+pub positive_number : (places : ℕ) (text : List ℕ) (n : ℕ) → (slice_index text 0 == 45) ≡ false → size_of places text
+    ≡ Some n → number places text ≡ Some (pos n)
 unfolding number
 positive_number places text n m e = rw (m, e) refl
 
-pub negative_number : (places : ℕ) (text : List ℕ) (n : ℕ) → size_of places text ≡ Some n → number places (45 ∷ text) ≡ Some (neg_ℤ (pos n))
+pub negative_number : (places : ℕ) (text : List ℕ) (n : ℕ) → size_of places text ≡ Some n → number places (45 ∷ text)
+    ≡ Some (neg_ℤ (pos n))
 unfolding number
 negative_number places text n e = rw e refl
 
 fixed_no_minus : (places n : ℕ) → n / 10 ^ places < 10 ^ 64 → (slice_index (fixed places n) 0 == 45) ≡ false
 unfolding fixed
-fixed_no_minus places n h = no_minus (decimal (n / 10 ^ places)) (46 ∷ last_digits places (n % 10 ^ places)) (decimal_digits (n / 10 ^ places) h)
+fixed_no_minus places n h = no_minus (decimal (n / 10 ^ places)) (46 ∷ last_digits places (n % 10 ^ places))
+    (decimal_digits (n / 10 ^ places) h)
 
 pub millimetres_back : (z : ℤ) → unsigned_abs z < 10 ^ 64 → number 3 (millimetres z) ≡ Some z
 unfolding millimetres
@@ -178,5 +211,6 @@ pub decimal_back : (n : ℕ) → n < 10 ^ 64 → number 5 (decimal n) ≡ Some (
 decimal_back n h =
     let digits = decimal_digits n h in
     let value = (decimal_is_IsNumeral_wide n h).1 in
-    positive_number 5 (decimal n) (n * 10 ^ 5) (ap (λ (xs : List ℕ). slice_index xs 0 == 45) (sym (append-nil (decimal n))) ∙ no_minus (decimal n) [] digits)
+    positive_number 5 (decimal n) (n * 10 ^ 5) (ap (λ (xs : List ℕ). slice_index xs 0 == 45)
+    (sym (append-nil (decimal n))) ∙ no_minus (decimal n) [] digits)
     (size_whole 5 (decimal n) digits ∙ ap (λ (v : ℕ). Some (v * 10 ^ 5)) value)

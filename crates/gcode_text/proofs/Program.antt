@@ -42,37 +42,46 @@ filament_short rates v h = let e = div-le_self (100 * v) rates.filament_area in 
 
 -- ---- paths
 
-pub goes_moves : (rates : Rates) (z v : ℕ) (from : Pt) (ps : List Pt) → 1 ≤ rates.filament_area → IsShort rates.print_feed →
+pub goes_moves : (rates : Rates) (z v : ℕ) (from : Pt) (ps : List Pt) → 1 ≤ rates.filament_area
+    → IsShort rates.print_feed →
     AllByRecursion IsShortPoint ps → 100 * (v + moves_volume rates from ps) < 10 ^ 64 →
     Goes (at_height from z) (filament rates v) (moves_text rates v from ps) (printing_moves rates z v from ps)
     (at_height (end_of from ps) z) (filament rates (v + moves_volume rates from ps))
 unfolding moves_text printing_moves end_of moves_volume
 goes_moves rates z v from [] ha hf hp hv =
     let e : v ≡ v + 0 = omega arith in
-    subst (λ (w : ℕ). Goes (at_height from z) (filament rates v) [] [] (at_height from z) (filament rates w)) e (goes_nowhere (at_height from z) (filament rates v))
+    subst (λ (w : ℕ). Goes (at_height from z) (filament rates v) [] [] (at_height from z) (filament rates w)) e
+    (goes_nowhere (at_height from z) (filament rates v))
 goes_moves rates z v from (to ∷ ps) ha hf hp hv =
     let w : ℕ = v + move_volume rates from to in
-    let e : (v + move_volume rates from to) + moves_volume rates to ps ≡ v + (move_volume rates from to + moves_volume rates to ps) = omega arith in
+    let e : (v + move_volume rates from to) + moves_volume rates to ps ≡ v + (move_volume rates from to + moves_volume
+    rates to ps) = omega arith in
     subst (λ (sum : ℕ). Goes (at_height from z) (filament rates v)
-    (print_line rates to (filament rates (v + move_volume rates from to)) ++ moves_text rates (v + move_volume rates from to) to ps)
+    (print_line rates to (filament rates (v + move_volume rates from to)) ++ moves_text rates
+    (v + move_volume rates from to) to ps)
     (printing rates z v from to ∷ printing_moves rates z (v + move_volume rates from to) to ps)
     (at_height (end_of to ps) z) (filament rates sum)) e
-    (goes_on (print_line rates to (filament rates (v + move_volume rates from to))) (moves_text rates (v + move_volume rates from to) to ps)
+    (goes_on (print_line rates to (filament rates (v + move_volume rates from to)))
+    (moves_text rates (v + move_volume rates from to) to ps)
     (printing rates z v from to ∷ []) (printing_moves rates z (v + move_volume rates from to) to ps)
     (goes_print rates z (filament rates v) (filament rates (v + move_volume rates from to)) from to
     (filament_rises rates v (v + move_volume rates from to) ha (omega arith)) hp.0.0 hp.0.1
     (filament_short rates (v + move_volume rates from to) (omega arith)) hf)
     (goes_moves rates z (v + move_volume rates from to) to ps ha hf hp.1 (omega arith)))
 
-pub goes_path : (rates : Rates) (z v : ℕ) (here : Pt3) (path : List Pt) → here.z ≡ pos z → 1 ≤ rates.filament_area → IsShort rates.print_feed → IsShort rates.travel_feed →
+pub goes_path : (rates : Rates) (z v : ℕ) (here : Pt3) (path : List Pt) → here.z ≡ pos z → 1 ≤ rates.filament_area
+    → IsShort rates.print_feed → IsShort rates.travel_feed →
     AllByRecursion IsShortPoint path → 100 * (v + path_volume rates path) < 10 ^ 64 →
-    Goes here (filament rates v) (path_text rates v path) (path_moves rates z v here path) (behind_path z here path) (filament rates (v + path_volume rates path))
+    Goes here (filament rates v) (path_text rates v path) (path_moves rates z v here path) (behind_path z here path)
+    (filament rates (v + path_volume rates path))
 unfolding path_text path_moves behind_path path_volume
 goes_path rates z v here [] hz ha hf ht hp hv =
     let e : v ≡ v + 0 = omega arith in
-    subst (λ (w : ℕ). Goes here (filament rates v) [] [] here (filament rates w)) e (goes_nowhere here (filament rates v))
+    subst (λ (w : ℕ). Goes here (filament rates v) [] [] here (filament rates w)) e
+    (goes_nowhere here (filament rates v))
 goes_path rates z v here (p ∷ ps) hz ha hf ht hp hv =
-    goes_on (travel_line rates p) (moves_text rates v p ps) (travel here (at_height p z) (filament rates v) ∷ []) (printing_moves rates z v p ps)
+    goes_on (travel_line rates p) (moves_text rates v p ps) (travel here (at_height p z) (filament rates v) ∷ [])
+    (printing_moves rates z v p ps)
     (goes_travel rates here z (filament rates v) p hz hp.0.0 hp.0.1 ht)
     (goes_moves rates z v p ps ha hf hp.1 hv)
 
@@ -81,15 +90,19 @@ unfolding behind_path
 stays_at_height z here [] h = h
 stays_at_height z here (p ∷ ps) h = refl
 
-pub goes_paths : (rates : Rates) (z v : ℕ) (here : Pt3) (paths : List (List Pt)) → here.z ≡ pos z → 1 ≤ rates.filament_area → IsShort rates.print_feed → IsShort rates.travel_feed →
+pub goes_paths : (rates : Rates) (z v : ℕ) (here : Pt3) (paths : List (List Pt)) → here.z ≡ pos z
+    → 1 ≤ rates.filament_area → IsShort rates.print_feed → IsShort rates.travel_feed →
     AreShortPaths paths → 100 * (v + paths_volume rates paths) < 10 ^ 64 →
-    Goes here (filament rates v) (paths_text rates v paths) (paths_moves rates z v here paths) (behind_paths z here paths) (filament rates (v + paths_volume rates paths))
+    Goes here (filament rates v) (paths_text rates v paths) (paths_moves rates z v here paths)
+    (behind_paths z here paths) (filament rates (v + paths_volume rates paths))
 unfolding paths_text paths_moves behind_paths paths_volume
 goes_paths rates z v here [] hz ha hf ht hp hv =
     let e : v ≡ v + 0 = omega arith in
-    subst (λ (w : ℕ). Goes here (filament rates v) [] [] here (filament rates w)) e (goes_nowhere here (filament rates v))
+    subst (λ (w : ℕ). Goes here (filament rates v) [] [] here (filament rates w)) e
+    (goes_nowhere here (filament rates v))
 goes_paths rates z v here (path ∷ paths) hz ha hf ht hp hv =
-    let e : (v + path_volume rates path) + paths_volume rates paths ≡ v + (path_volume rates path + paths_volume rates paths) = omega arith in
+    let e : (v + path_volume rates path) + paths_volume rates paths ≡ v + (path_volume rates path + paths_volume rates
+    paths) = omega arith in
     subst (λ (sum : ℕ). Goes here (filament rates v)
     (path_text rates v path ++ paths_text rates (v + path_volume rates path) paths)
     (path_moves rates z v here path ++ paths_moves rates z (v + path_volume rates path) (behind_path z here path) paths)
@@ -97,23 +110,28 @@ goes_paths rates z v here (path ∷ paths) hz ha hf ht hp hv =
     (goes_on (path_text rates v path) (paths_text rates (v + path_volume rates path) paths)
     (path_moves rates z v here path) (paths_moves rates z (v + path_volume rates path) (behind_path z here path) paths)
     (goes_path rates z v here path hz ha hf ht hp.0 (omega arith))
-    (goes_paths rates z (v + path_volume rates path) (behind_path z here path) paths (stays_at_height z here path hz) ha hf ht hp.1 (omega arith)))
+    (goes_paths rates z (v + path_volume rates path) (behind_path z here path) paths (stays_at_height z here path hz) ha
+    hf ht hp.1 (omega arith)))
 
 -- ---- layers
 
 rest_of_height : (layer count h : ℕ) → (layer + (1 + count)) * h < 10 ^ 64 → (layer + 1) * h < 10 ^ 64
 rest_of_height layer count h s = let m = mul-le (layer + 1) h (layer + (1 + count)) h (omega arith) (omega arith) in omega arith
 
-pub goes_layer : (rates : Rates) (v layer : ℕ) (here : Pt3) (paths : List (List Pt)) → 1 ≤ rates.filament_area → IsShort rates.print_feed → IsShort rates.travel_feed →
-    AreShortPaths paths → IsShort layer → IsShort (surface rates layer) → 100 * (v + paths_volume rates paths) < 10 ^ 64 →
+pub goes_layer : (rates : Rates) (v layer : ℕ) (here : Pt3) (paths : List (List Pt)) → 1 ≤ rates.filament_area
+    → IsShort rates.print_feed → IsShort rates.travel_feed →
+    AreShortPaths paths → IsShort layer → IsShort (surface rates layer) → 100 * (v + paths_volume rates paths) < 10 ^ 64
+    →
     Goes here (filament rates v) (layer_text rates v layer paths) (layer_moves rates v layer here paths)
-    (behind_paths (surface rates layer) (raised here (surface rates layer)) paths) (filament rates (v + paths_volume rates paths))
+    (behind_paths (surface rates layer) (raised here (surface rates layer)) paths)
+    (filament rates (v + paths_volume rates paths))
 unfolding layer_moves
 goes_layer rates v layer here paths ha hf ht hp hl hs hv =
     goes_on (number_line layer ++ height_line rates (surface rates layer)) (paths_text rates v paths)
     (travel here (raised here (surface rates layer)) (filament rates v) ∷ [])
     (paths_moves rates (surface rates layer) v (raised here (surface rates layer)) paths)
-    (goes_on (number_line layer) (height_line rates (surface rates layer)) [] (travel here (raised here (surface rates layer)) (filament rates v) ∷ [])
+    (goes_on (number_line layer) (height_line rates (surface rates layer)) []
+    (travel here (raised here (surface rates layer)) (filament rates v) ∷ [])
     (goes_number here (filament rates v) layer hl)
     (goes_height rates here (surface rates layer) (filament rates v) hs ht))
     (goes_paths rates (surface rates layer) v (raised here (surface rates layer)) paths refl ha hf ht hp hv)
@@ -122,31 +140,41 @@ goes_layer rates v layer here paths ha hf ht hp hl hs hv =
 abbrev pub behind_layers : Rates → ℕ → Pt3 → List (List (List Pt)) → Pt3
 behind_layers rates layer here [] = here
 behind_layers rates layer here (paths ∷ layers) =
-    behind_layers rates (layer + 1) (behind_paths (surface rates layer) (raised here (surface rates layer)) paths) layers
+    behind_layers rates (layer + 1) (behind_paths (surface rates layer) (raised here (surface rates layer)) paths)
+    layers
 
-pub goes_layers : (rates : Rates) (v layer : ℕ) (here : Pt3) (layers : List (List (List Pt))) → 1 ≤ rates.filament_area → IsShort rates.print_feed → IsShort rates.travel_feed →
-    AllByRecursion AreShortPaths layers → IsShort (layer + length layers) → IsShort ((layer + length layers) * rates.layer_height) → 100 * (v + layers_volume rates layers) < 10 ^ 64 →
-    Goes here (filament rates v) (layers_text rates v layer layers) (layers_moves rates v layer here layers) (behind_layers rates layer here layers)
+pub goes_layers : (rates : Rates) (v layer : ℕ) (here : Pt3) (layers : List (List (List Pt))) → 1 ≤ rates.filament_area
+    → IsShort rates.print_feed → IsShort rates.travel_feed →
+    AllByRecursion AreShortPaths layers → IsShort (layer + length layers)
+    → IsShort ((layer + length layers) * rates.layer_height) → 100 * (v + layers_volume rates layers) < 10 ^ 64 →
+    Goes here (filament rates v) (layers_text rates v layer layers) (layers_moves rates v layer here layers)
+    (behind_layers rates layer here layers)
     (filament rates (v + layers_volume rates layers))
 unfolding layers_text layers_moves layers_volume
 goes_layers rates v layer here [] ha hf ht hp hl hs hv =
     let e : v ≡ v + 0 = omega arith in
-    subst (λ (w : ℕ). Goes here (filament rates v) [] [] here (filament rates w)) e (goes_nowhere here (filament rates v))
+    subst (λ (w : ℕ). Goes here (filament rates v) [] [] here (filament rates w)) e
+    (goes_nowhere here (filament rates v))
 goes_layers rates v layer here (paths ∷ layers) ha hf ht hp hl hs hv =
-    let e : (v + paths_volume rates paths) + layers_volume rates layers ≡ v + (paths_volume rates paths + layers_volume rates layers) = omega arith in
+    let e : (v + paths_volume rates paths) + layers_volume rates layers ≡ v + (paths_volume rates paths + layers_volume
+    rates layers) = omega arith in
     let n : layer + length (paths ∷ layers) ≡ layer + 1 + length layers = omega arith in
     let m : layer + length (paths ∷ layers) ≡ layer + (1 + length layers) = omega arith in
     subst (λ (sum : ℕ). Goes here (filament rates v)
     (layer_text rates v layer paths ++ layers_text rates (v + paths_volume rates paths) (layer + 1) layers)
     (layer_moves rates v layer here paths ++ layers_moves rates (v + paths_volume rates paths) (layer + 1)
     (behind_paths (surface rates layer) (raised here (surface rates layer)) paths) layers)
-    (behind_layers rates (layer + 1) (behind_paths (surface rates layer) (raised here (surface rates layer)) paths) layers) (filament rates sum)) e
+    (behind_layers rates (layer + 1) (behind_paths (surface rates layer) (raised here (surface rates layer)) paths)
+    layers) (filament rates sum)) e
     (goes_on (layer_text rates v layer paths) (layers_text rates (v + paths_volume rates paths) (layer + 1) layers)
     (layer_moves rates v layer here paths)
-    (layers_moves rates (v + paths_volume rates paths) (layer + 1) (behind_paths (surface rates layer) (raised here (surface rates layer)) paths) layers)
+    (layers_moves rates (v + paths_volume rates paths) (layer + 1) (behind_paths (surface rates layer)
+    (raised here (surface rates layer)) paths) layers)
     (goes_layer rates v layer here paths ha hf ht hp.0 (omega arith)
-    (rest_of_height layer (length layers) rates.layer_height (subst (λ (k : ℕ). k * rates.layer_height < 10 ^ 64) m hs)) (omega arith))
-    (goes_layers rates (v + paths_volume rates paths) (layer + 1) (behind_paths (surface rates layer) (raised here (surface rates layer)) paths) layers ha hf ht hp.1
+    (rest_of_height layer (length layers) rates.layer_height (subst (λ (k : ℕ). k * rates.layer_height < 10 ^ 64) m hs))
+    (omega arith))
+    (goes_layers rates (v + paths_volume rates paths) (layer + 1) (behind_paths (surface rates layer)
+    (raised here (surface rates layer)) paths) layers ha hf ht hp.1
     (omega arith) (subst (λ (k : ℕ). k * rates.layer_height < 10 ^ 64) n hs) (omega arith)))
 
 -- ---- the law
@@ -162,22 +190,32 @@ no_filament rates = let e = div-le_self (100 * 0) rates.filament_area in omega a
 pub programs_make_their_moves : ProgramsMakeTheirMoves
 programs_make_their_moves rates hot_end bed layers w =
     ap (run start) (sym (append-nil (gcode rates hot_end bed layers))) ∙ last.1
-    ∙ ap (prefix (program_moves rates layers)) (nothing_more (standing (behind_layers rates 0 origin layers) (filament rates (0 + layers_volume rates layers)) last.0))
+    ∙ ap (prefix (program_moves rates layers))
+    (nothing_more (standing (behind_layers rates 0 origin layers) (filament rates (0 + layers_volume rates layers))
+    last.0))
     ∙ ap Ok (append-nil (program_moves rates layers))
   where
     front : Goes origin 0 (head hot_end bed) [] origin (filament rates 0)
-    front = subst (λ (e : ℕ). Goes origin 0 (head hot_end bed) [] origin e) (sym (no_filament rates)) (goes_head origin 0 hot_end bed w.temperatures.0 w.temperatures.1)
+    front = subst (λ (e : ℕ). Goes origin 0 (head hot_end bed) [] origin e) (sym (no_filament rates))
+        (goes_head origin 0 hot_end bed w.temperatures.0 w.temperatures.1)
 
-    middle : Goes origin (filament rates 0) (layers_text rates 0 0 layers) (program_moves rates layers) (behind_layers rates 0 origin layers) (filament rates (0 + layers_volume rates layers))
-    middle = goes_layers rates 0 0 origin layers w.area w.print_feed w.travel_feed w.points (subst (λ (k : ℕ). k < 10 ^ 64) (sym (zero-add (length layers))) w.count)
+    middle : Goes origin (filament rates 0) (layers_text rates 0 0 layers) (program_moves rates layers)
+        (behind_layers rates 0 origin layers) (filament rates (0 + layers_volume rates layers))
+    middle = goes_layers rates 0 0 origin layers w.area w.print_feed w.travel_feed w.points
+        (subst (λ (k : ℕ). k < 10 ^ 64) (sym (zero-add (length layers))) w.count)
         (subst (λ (k : ℕ). k * rates.layer_height < 10 ^ 64) (sym (zero-add (length layers))) w.height)
         (subst (λ (k : ℕ). 100 * k < 10 ^ 64) (sym (zero-add (layers_volume rates layers))) w.volume)
 
-    whole : Goes origin 0 (gcode rates hot_end bed layers) (program_moves rates layers ++ []) (behind_layers rates 0 origin layers) (filament rates (0 + layers_volume rates layers))
+    whole : Goes origin 0 (gcode rates hot_end bed layers) (program_moves rates layers ++ [])
+        (behind_layers rates 0 origin layers) (filament rates (0 + layers_volume rates layers))
     whole = goes_on (head hot_end bed ++ layers_text rates 0 0 layers) end (program_moves rates layers) []
         (goes_on (head hot_end bed) (layers_text rates 0 0 layers) [] (program_moves rates layers) front middle)
         (goes_end (behind_layers rates 0 origin layers) (filament rates (0 + layers_volume rates layers)))
 
-    last : (m : ℕ) × (run (standing origin 0 0) (gcode rates hot_end bed layers ++ []) ≡ prefix (program_moves rates layers) (run (standing (behind_layers rates 0 origin layers) (filament rates (0 + layers_volume rates layers)) m) []))
-    last = subst (λ (moves : List Move). (m : ℕ) × (run (standing origin 0 0) (gcode rates hot_end bed layers ++ []) ≡ prefix moves (run (standing (behind_layers rates 0 origin layers) (filament rates (0 + layers_volume rates layers)) m) [])))
+    last : (m : ℕ) × (run (standing origin 0 0) (gcode rates hot_end bed layers ++ [])
+        ≡ prefix (program_moves rates layers)
+        (run (standing (behind_layers rates 0 origin layers) (filament rates (0 + layers_volume rates layers)) m) []))
+    last = subst (λ (moves : List Move). (m : ℕ) × (run (standing origin 0 0) (gcode rates hot_end bed layers ++ [])
+        ≡ prefix moves (run (standing (behind_layers rates 0 origin layers)
+        (filament rates (0 + layers_volume rates layers)) m) [])))
         (append-nil (program_moves rates layers)) (whole.goes 0 [])

@@ -37,7 +37,8 @@ prefix moves rest = and_then rest (λ more. Ok (moves ++ more))
 
 -- along this text the machine goes from one place and amount to another, by these moves, whatever follows
 pub record Goes (at : Pt3) (e : ℕ) (text : List ℕ) (moves : List Move) (to : Pt3) (f : ℕ) : Type 0 where
-  pub goes : (n : ℕ) (rest : List ℕ) → (m : ℕ) × (run (standing at e n) (text ++ rest) ≡ prefix moves (run (standing to f m) rest))
+  pub goes : (n : ℕ) (rest : List ℕ) → (m : ℕ) × (run (standing at e n) (text ++ rest) ≡ prefix moves
+      (run (standing to f m) rest))
 
 prefix_nothing : (r : Result (List Move) GFault) → r ≡ prefix [] r
 prefix_nothing (Ok moves) = refl
@@ -47,7 +48,8 @@ prefix_on : (a b : List Move) (r : Result (List Move) GFault) → prefix a (pref
 prefix_on a b (Ok moves) = ap Ok (sym (append_assoc a b moves))
 prefix_on a b (Err fault) = refl
 
-onto_prefix : (move : Option Move) (r : Result (List Move) GFault) → and_then r (λ moves. Ok (onto_moves move moves)) ≡ prefix (onto_moves move []) r
+onto_prefix : (move : Option Move) (r : Result (List Move) GFault) → and_then r (λ moves. Ok (onto_moves move moves))
+    ≡ prefix (onto_moves move []) r
 onto_prefix None (Ok moves) = refl
 onto_prefix None (Err fault) = refl
 onto_prefix (Some move) (Ok moves) = refl
@@ -56,16 +58,23 @@ onto_prefix (Some move) (Err fault) = refl
 pub goes_nowhere : (at : Pt3) (e : ℕ) → Goes at e [] [] at e
 goes_nowhere at e = record { goes = λ n rest. (n, prefix_nothing (run (standing at e n) rest)) }
 
-pub goes_on : {at bt ct : Pt3} {e f g : ℕ} (t u : List ℕ) (a b : List Move) → Goes at e t a bt f → Goes bt f u b ct g → Goes at e (t ++ u) (a ++ b) ct g
+pub goes_on : {at bt ct : Pt3} {e f g : ℕ} (t u : List ℕ) (a b : List Move) → Goes at e t a bt f → Goes bt f u b ct g
+    → Goes at e (t ++ u) (a ++ b) ct g
 goes_on {at} {bt} {ct} {e} {f} {g} t u a b p q = record { goes = λ n rest. both n rest (p.goes n (u ++ rest)) }
   where
-    both : (n : ℕ) (rest : List ℕ) → (m : ℕ) × (run (standing at e n) (t ++ (u ++ rest)) ≡ prefix a (run (standing bt f m) (u ++ rest))) →
+    both : (n : ℕ) (rest : List ℕ) → (m : ℕ) × (run (standing at e n) (t ++ (u ++ rest))
+        ≡ prefix a (run (standing bt f m) (u ++ rest))) →
         (m : ℕ) × (run (standing at e n) ((t ++ u) ++ rest) ≡ prefix (a ++ b) (run (standing ct g m) rest))
     both n rest x =
-        let y : (m : ℕ) × (run (standing bt f x.0) (u ++ rest) ≡ prefix b (run (standing ct g m) rest)) = q.goes x.0 rest in
-        (y.0, ap (run (standing at e n)) (append_assoc t u rest) ∙ x.1 ∙ ap (prefix a) y.1 ∙ prefix_on a b (run (standing ct g y.0) rest))
+        let y : (m : ℕ) × (run (standing bt f x.0) (u ++ rest) ≡ prefix b (run (standing ct g m) rest)) =
+        q.goes x.0 rest in (
+          y.0,
+          ap (run (standing at e n)) (append_assoc t u rest) ∙ x.1 ∙ ap (prefix a) y.1 ∙ prefix_on a b
+              (run (standing ct g y.0) rest),
+        )
 
-cut_line : (body rest : List ℕ) → list_all (λ b. not (b == 10)) body ≡ true → lines ((body ++ 10 ∷ []) ++ rest) ≡ body ∷ lines rest
+cut_line : (body rest : List ℕ) → list_all (λ b. not (b == 10)) body ≡ true → lines ((body ++ 10 ∷ []) ++ rest)
+    ≡ body ∷ lines rest
 cut_line body rest h =
     let none = AllPass-from_list_all (λ (b : ℕ). not (b == 10)) body h in
     ap lines (append_assoc body (10 ∷ []) rest)
@@ -75,7 +84,8 @@ abbrev pub next : ℕ → ℕ
 next n = min (n + 1) (2 ^ 32 - 1)
 
 -- one line
-pub goes_line : (at : Pt3) (e : ℕ) (body : List ℕ) (move : Option Move) (to : Pt3) (f : ℕ) → list_all (λ b. not (b == 10)) body ≡ true →
+pub goes_line : (at : Pt3) (e : ℕ) (body : List ℕ) (move : Option Move) (to : Pt3) (f : ℕ)
+    → list_all (λ b. not (b == 10)) body ≡ true →
     ((n : ℕ) → line_step any (standing at e n) body ≡ Ok (record { state = standing to f (next n); move = move })) →
     Goes at e (body ++ 10 ∷ []) (onto_moves move []) to f
 unfolding moves_of_lines
@@ -83,7 +93,8 @@ goes_line at e body move to f h step = record {
   goes = λ n rest. (
     next n,
     ap (moves_of_lines any (standing at e n)) (cut_line body rest h)
-        ∙ ap (λ (it : Result After GFault). and_then it (λ after. and_then (moves_of_lines any after.state (lines rest)) (λ moves. Ok (onto_moves after.move moves)))) (step n)
+        ∙ ap (λ (it : Result After GFault). and_then it (λ after. and_then (moves_of_lines any after.state (lines rest))
+        (λ moves. Ok (onto_moves after.move moves)))) (step n)
         ∙ onto_prefix move (run (standing to f (next n)) rest),
   );
 }
@@ -92,7 +103,8 @@ goes_line at e body move to f h step = record {
 pub goes_words : (at : Pt3) (e : ℕ) (ws : List (List ℕ)) (move : Option Move) (to : Pt3) (f : ℕ) → AreWords ws →
     ((n : ℕ) → words_line any (standing at e n) ws ≡ Ok (record { state = standing to f n; move = move })) →
     Goes at e (spaced ws ++ 10 ∷ []) (onto_moves move []) to f
-goes_words at e ws move to f h step = goes_line at e (spaced ws) move to f (no_feed_in ws h) (λ n. step_of (standing at e n) ws h ∙ step (next n))
+goes_words at e ws move to f h step = goes_line at e (spaced ws) move to f (no_feed_in ws h)
+    (λ n. step_of (standing at e n) ws h ∙ step (next n))
 
 -- ---- the moves' lines
 
@@ -101,23 +113,41 @@ pub goes_travel : (rates : Rates) (here : Pt3) (z e : ℕ) (p : Pt) → here.z �
     Goes here e (travel_line rates p) (travel here (at_height p z) e ∷ []) (at_height p z) e
 unfolding extrudes
 goes_travel rates here z e p hz hx hy hf =
-    subst (λ (text : List ℕ). Goes here e text (travel here (at_height p z) e ∷ []) (at_height p z) e) (sym (travel_line_is rates p))
-    (goes_words here e (travel_words rates p) (Some (travel here (at_height p z) e)) (at_height p z) e (travel_are_words rates p hx hy hf) step)
+    subst (λ (text : List ℕ). Goes here e text (travel here (at_height p z) e ∷ []) (at_height p z) e)
+    (sym (travel_line_is rates p))
+    (goes_words here e (travel_words rates p) (Some (travel here (at_height p z) e)) (at_height p z) e
+    (travel_are_words rates p hx hy hf) step)
   where
     step : (n : ℕ) → words_line any (standing here e n) (travel_words rates p)
         ≡ Ok (record { state = standing (at_height p z) e n; move = Some (travel here (at_height p z) e) })
     step n =
-        driven_by (standing here e n) ((88 ∷ millimetres p.x) ∷ (89 ∷ millimetres p.y) ∷ (70 ∷ decimal rates.travel_feed) ∷ [])
+        driven_by (standing here e n) ((88 ∷ millimetres p.x) ∷ (89 ∷ millimetres p.y)
+        ∷ (70 ∷ decimal rates.travel_feed) ∷ [])
         (record { x = Some p.x; y = Some p.y; z = None; e = None; feed = true; setting = false })
-        (travel_given n (millimetres p.x) (millimetres p.y) (decimal rates.travel_feed) p.x p.y (pos (rates.travel_feed * 10 ^ 5))
+        (travel_given n (millimetres p.x) (millimetres p.y) (decimal rates.travel_feed) p.x p.y
+        (pos (rates.travel_feed * 10 ^ 5))
         (millimetres_back p.x hx) (millimetres_back p.y hy) (decimal_back rates.travel_feed hf))
         ∙ ap (λ (it : ℤ). Ok (record {
           state = record { at = record { x = p.x; y = p.y; z = it }; e = pos e; lines = n };
-          move = Some (record { from = here; to = record { x = p.x; y = p.y; z = it }; from_e = pos e; to_e = pos e; extruding = false });
+          move = Some (record {
+            from = here;
+            to = record { x = p.x; y = p.y; z = it };
+            from_e = pos e;
+            to_e =
+                pos e;
+            extruding = false;
+          });
         })) hz
 
 abbrev pub printed : ℕ → ℕ → ℕ → Pt → Pt → Move
-printed z e f from to = record { from = at_height from z; to = at_height to z; from_e = pos e; to_e = pos f; extruding = not (stays (at_height from z) (at_height to z)) }
+printed z e f from to = record {
+  from = at_height from z;
+  to = at_height to z;
+  from_e = pos e;
+  to_e = pos f;
+  extruding =
+      not (stays (at_height from z) (at_height to z));
+}
 
 rising : (e f : ℕ) → e ≤ f → int_le (pos e) (pos f) ≡ true
 rising e f h = grind (arith, nat_tests)
@@ -133,27 +163,40 @@ pub goes_print : (rates : Rates) (z e f : ℕ) (from to : Pt) → e ≤ f →
     (at_height to z) f
 unfolding extrudes
 goes_print rates z e f from to rises hx hy he hf =
-    subst (λ (text : List ℕ). Goes (at_height from z) e text (printed z e f from to ∷ []) (at_height to z) f) (sym (print_line_is rates to f))
-    (goes_words (at_height from z) e (print_words rates to f) (Some (printed z e f from to)) (at_height to z) f (print_are_words rates to f hx hy he hf) step)
+    subst (λ (text : List ℕ). Goes (at_height from z) e text (printed z e f from to ∷ []) (at_height to z) f)
+    (sym (print_line_is rates to f))
+    (goes_words (at_height from z) e (print_words rates to f) (Some (printed z e f from to)) (at_height to z) f
+    (print_are_words rates to f hx hy he hf) step)
   where
     step : (n : ℕ) → words_line any (standing (at_height from z) e n) (print_words rates to f)
         ≡ Ok (record { state = standing (at_height to z) f n; move = Some (printed z e f from to) })
     step n =
-        driven_by (standing (at_height from z) e n) ((88 ∷ millimetres to.x) ∷ (89 ∷ millimetres to.y) ∷ (69 ∷ fixed 5 f) ∷ (70 ∷ decimal rates.print_feed) ∷ [])
+        driven_by (standing (at_height from z) e n) ((88 ∷ millimetres to.x) ∷ (89 ∷ millimetres to.y)
+        ∷ (69 ∷ fixed 5 f) ∷ (70 ∷ decimal rates.print_feed) ∷ [])
         (record { x = Some to.x; y = Some to.y; z = None; e = Some (pos f); feed = true; setting = false })
-        (print_given n (millimetres to.x) (millimetres to.y) (fixed 5 f) (decimal rates.print_feed) to.x to.y (pos f) (pos (rates.print_feed * 10 ^ 5))
+        (print_given n (millimetres to.x) (millimetres to.y) (fixed 5 f) (decimal rates.print_feed) to.x to.y (pos f)
+        (pos (rates.print_feed * 10 ^ 5))
         (millimetres_back to.x hx) (millimetres_back to.y hy) (amount_back f he) (decimal_back rates.print_feed hf))
         ∙ ap (λ (it : Bool). Ok (record {
           state = standing (at_height to z) f n;
-          move = Some (record { from = at_height from z; to = at_height to z; from_e = pos e; to_e = pos f; extruding = it });
+          move = Some (record {
+            from = at_height from z;
+            to = at_height to z;
+            from_e = pos e;
+            to_e = pos f;
+            extruding =
+                it;
+          });
         })) (extruding_by (not (stays (at_height from z) (at_height to z))) (int_le (pos e) (pos f)) (rising e f rises))
 
 pub goes_height : (rates : Rates) (here : Pt3) (z e : ℕ) → z < 10 ^ 64 → rates.travel_feed < 10 ^ 64 →
     Goes here e (height_line rates z) (travel here (raised here z) e ∷ []) (raised here z) e
 unfolding extrudes
 goes_height rates here z e hz hf =
-    subst (λ (text : List ℕ). Goes here e text (travel here (raised here z) e ∷ []) (raised here z) e) (sym (height_line_is rates z))
-    (goes_words here e (height_words rates z) (Some (travel here (raised here z) e)) (raised here z) e (height_are_words rates z hz hf) step)
+    subst (λ (text : List ℕ). Goes here e text (travel here (raised here z) e ∷ []) (raised here z) e)
+    (sym (height_line_is rates z))
+    (goes_words here e (height_words rates z) (Some (travel here (raised here z) e)) (raised here z) e
+    (height_are_words rates z hz hf) step)
   where
     step : (n : ℕ) → words_line any (standing here e n) (height_words rates z)
         ≡ Ok (record { state = standing (raised here z) e n; move = Some (travel here (raised here z) e) })
@@ -172,13 +215,15 @@ goes_number at e layer h =
 
 -- ---- the head and the end
 
-pub goes_heat : (at : Pt3) (e : ℕ) (command : List ℕ) (degrees : ℕ) → command_of command ≡ Some Plain → nat_lt 0 (length command) ≡ true → list_all in_word command ≡ true →
+pub goes_heat : (at : Pt3) (e : ℕ) (command : List ℕ) (degrees : ℕ) → command_of command ≡ Some Plain
+    → nat_lt 0 (length command) ≡ true → list_all in_word command ≡ true →
     degrees < 10 ^ 64 → Goes at e (heat_line command degrees) [] at e
 goes_heat at e command degrees plain a b h =
     subst (λ (text : List ℕ). Goes at e text [] at e) (sym (heat_line_is command degrees))
     (goes_words at e (heat_words command degrees) None at e (heat_are_words command degrees a b h) step)
   where
-    step : (n : ℕ) → words_line any (standing at e n) (heat_words command degrees) ≡ Ok (record { state = standing at e n; move = None })
+    step : (n : ℕ) → words_line any (standing at e n) (heat_words command degrees)
+        ≡ Ok (record { state = standing at e n; move = None })
     step n =
         ap (λ (it : Option Command). command_line any (standing at e n) it ((83 ∷ decimal degrees) ∷ [])) plain
         ∙ ap (λ (it : Result Given GFault). and_then it (λ given. Ok (obeyed (standing at e n) Plain given)))
@@ -198,14 +243,16 @@ goes_setup at e =
     (goes_line at e (codes "M107") None at e refl (λ n. refl))
 
 pub goes_home : (at : Pt3) (e : ℕ) → Goes at e home [] origin 0
-unfolding home line_step without_return without_comment words command_of with_words with_word takes was_given with_number number size_of whole_size are_digits
+unfolding home line_step without_return without_comment words command_of with_words with_word takes was_given
+    with_number number size_of whole_size are_digits
 goes_home at e =
     goes_on (codes "G28\n") (codes "G92 E0\n") [] []
     (goes_line at e (codes "G28") None origin e refl (λ n. refl))
     (goes_line origin e (codes "G92 E0") None origin 0 refl (λ n. refl))
 
 pub goes_end : (at : Pt3) (e : ℕ) → Goes at e end [] at e
-unfolding end line_step without_return without_comment words command_of plain_commands with_words with_word takes was_given with_number number size_of whole_size are_digits
+unfolding end line_step without_return without_comment words command_of plain_commands with_words with_word takes
+    was_given with_number number size_of whole_size are_digits
 goes_end at e =
     goes_on (codes "M104 S0\n" ++ codes "M140 S0\n") (codes "M84\n") [] []
     (goes_on (codes "M104 S0\n") (codes "M140 S0\n") [] []
@@ -213,12 +260,16 @@ goes_end at e =
     (goes_line at e (codes "M140 S0") None at e refl (λ n. refl)))
     (goes_line at e (codes "M84") None at e refl (λ n. refl))
 
-pub goes_head : (at : Pt3) (e hot_end bed : ℕ) → hot_end < 10 ^ 64 → bed < 10 ^ 64 → Goes at e (head hot_end bed) [] origin 0
+pub goes_head : (at : Pt3) (e hot_end bed : ℕ) → hot_end < 10 ^ 64 → bed < 10 ^ 64 → Goes at e (head hot_end bed) []
+    origin 0
 unfolding command_of plain_commands
 goes_head at e hot_end bed hh hb =
-    goes_on (setup ++ heat_line (codes "M140") bed ++ heat_line (codes "M104") hot_end ++ heat_line (codes "M190") bed ++ heat_line (codes "M109") hot_end) home [] []
-    (goes_on (setup ++ heat_line (codes "M140") bed ++ heat_line (codes "M104") hot_end ++ heat_line (codes "M190") bed) (heat_line (codes "M109") hot_end) [] []
-    (goes_on (setup ++ heat_line (codes "M140") bed ++ heat_line (codes "M104") hot_end) (heat_line (codes "M190") bed) [] []
+    goes_on (setup ++ heat_line (codes "M140") bed ++ heat_line (codes "M104") hot_end ++ heat_line (codes "M190") bed
+    ++ heat_line (codes "M109") hot_end) home [] []
+    (goes_on (setup ++ heat_line (codes "M140") bed ++ heat_line (codes "M104") hot_end ++ heat_line (codes "M190") bed)
+    (heat_line (codes "M109") hot_end) [] []
+    (goes_on (setup ++ heat_line (codes "M140") bed ++ heat_line (codes "M104") hot_end) (heat_line (codes "M190") bed)
+    [] []
     (goes_on (setup ++ heat_line (codes "M140") bed) (heat_line (codes "M104") hot_end) [] []
     (goes_on setup (heat_line (codes "M140") bed) [] []
     (goes_setup at e)

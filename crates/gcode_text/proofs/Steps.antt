@@ -14,7 +14,11 @@ use Rattle.gcode_text.specs.Gcode.{print_line, moves_text, path_text, paths_text
 -- ---- what a text begins with
 
 pub begins_more : {a b c : List ℕ} (x : List ℕ) → BeginsWith a b → c ≡ b ++ x → BeginsWith a c
-begins_more {a} x p e = record { rest = p.rest ++ x; is = e ∙ ap (λ (ys : List ℕ). ys ++ x) p.is ∙ append_assoc a p.rest x }
+begins_more {a} x p e = record {
+  rest = p.rest ++ x;
+  is = e ∙ ap (λ (ys : List ℕ). ys ++ x) p.is ∙ append_assoc a p.rest
+      x;
+}
 
 pub begins_on : {a b c : List ℕ} → BeginsWith a b → BeginsWith b c → BeginsWith a c
 begins_on p q = begins_more q.rest p q.is
@@ -44,7 +48,8 @@ moves_volume_at rates from ps i d h = ap (moves_volume rates from) (drop-cons ps
 
 pub paths_text_at : (rates : Rates) (v : ℕ) (paths : List (List Pt)) (i : ℕ) (d : List Pt) → i < length paths →
     paths_text rates v (drop i paths)
-    ≡ path_text rates v (get_or paths i d) ++ paths_text rates (v + path_volume rates (get_or paths i d)) (drop (suc i) paths)
+    ≡ path_text rates v (get_or paths i d) ++ paths_text rates (v + path_volume rates (get_or paths i d))
+    (drop (suc i) paths)
 unfolding paths_text
 paths_text_at rates v paths i d h = ap (paths_text rates v) (drop-cons paths i d h)
 
@@ -56,9 +61,11 @@ paths_volume_at rates paths i d h = ap (paths_volume rates) (drop-cons paths i d
 
 pub points_at : (paths : List (List Pt)) (i : ℕ) (d : List Pt) → i < length paths →
     sum_by length (drop i paths) ≡ length (get_or paths i d) + sum_by length (drop (suc i) paths)
-points_at paths i d h = ap (sum_by length) (drop-cons paths i d h) ∙ sum_by-cons length (get_or paths i d) (drop (suc i) paths)
+points_at paths i d h = ap (sum_by length) (drop-cons paths i d h) ∙ sum_by-cons length (get_or paths i d)
+    (drop (suc i) paths)
 
-pub next_move_text : (out more all : List ℕ) (rates : Rates) (v w : ℕ) (from : Pt) (ps : List Pt) (i : ℕ) (d : Pt) → i < length ps →
+pub next_move_text : (out more all : List ℕ) (rates : Rates) (v w : ℕ) (from : Pt) (ps : List Pt) (i : ℕ) (d : Pt)
+    → i < length ps →
     out ++ moves_text rates v from (drop i ps) ≡ all →
     w ≡ v + move_volume rates from (get_or ps i d) →
     more ≡ out ++ print_line rates (get_or ps i d) (filament rates (v + move_volume rates from (get_or ps i d))) →
@@ -83,11 +90,13 @@ pub no_more_volume : (rates : Rates) (v all : ℕ) (from : Pt) (ps : List Pt) (i
     v + moves_volume rates from (drop i ps) ≡ all → v ≡ all
 unfolding moves_volume
 no_more_volume rates v all from ps i h k =
-    let e : moves_volume rates from (drop i ps) ≡ 0 = ap (moves_volume rates from) (drop_of_length-le ps h) in omega arith
+    let e : moves_volume rates from (drop i ps) ≡ 0 = ap (moves_volume rates from) (drop_of_length-le ps h) in omega
+    arith
 
 -- ---- paths
 
-pub next_path_text : (out more all : List ℕ) (rates : Rates) (v w : ℕ) (paths : List (List Pt)) (i : ℕ) (path d : List Pt) → i < length paths → path ≡ get_or paths i d →
+pub next_path_text : (out more all : List ℕ) (rates : Rates) (v w : ℕ) (paths : List (List Pt)) (i : ℕ)
+    (path d : List Pt) → i < length paths → path ≡ get_or paths i d →
     out ++ paths_text rates v (drop i paths) ≡ all →
     w ≡ v + path_volume rates path →
     more ≡ out ++ path_text rates v path →
@@ -95,7 +104,8 @@ pub next_path_text : (out more all : List ℕ) (rates : Rates) (v w : ℕ) (path
 next_path_text out more all rates v w paths i path d h e k ev eo =
     let at = paths_text_at rates v paths i d h in rw (eo, ev, e, add-one, append_assoc, ← at) k
 
-pub next_path_volume : (rates : Rates) (v w all : ℕ) (paths : List (List Pt)) (i : ℕ) (path d : List Pt) → i < length paths → path ≡ get_or paths i d →
+pub next_path_volume : (rates : Rates) (v w all : ℕ) (paths : List (List Pt)) (i : ℕ) (path d : List Pt)
+    → i < length paths → path ≡ get_or paths i d →
     v + paths_volume rates (drop i paths) ≡ all →
     w ≡ v + path_volume rates path →
     w + paths_volume rates (drop (i + 1) paths) ≡ all
@@ -106,7 +116,8 @@ pub no_more_paths : (out all : List ℕ) (rates : Rates) (v : ℕ) (paths : List
     out ++ paths_text rates v (drop i paths) ≡ all → out ≡ all
 unfolding paths_text
 no_more_paths out all rates v paths i h k =
-    sym (append-nil out) ∙ ap (λ (xs : List (List Pt)). out ++ paths_text rates v xs) (sym (drop_of_length-le paths h)) ∙ k
+    sym (append-nil out) ∙ ap (λ (xs : List (List Pt)). out ++ paths_text rates v xs) (sym (drop_of_length-le paths h))
+    ∙ k
 
 pub no_more_paths_volume : (rates : Rates) (v all : ℕ) (paths : List (List Pt)) (i : ℕ) → length paths ≤ i →
     v + paths_volume rates (drop i paths) ≡ all → v ≡ all
@@ -115,7 +126,8 @@ no_more_paths_volume rates v all paths i h k =
     let e : paths_volume rates (drop i paths) ≡ 0 = ap (paths_volume rates) (drop_of_length-le paths h) in omega arith
 
 -- the room that a path takes
-pub next_path_room : (v w all : ℕ) (paths : List (List Pt)) (i : ℕ) (path d : List Pt) → i < length paths → path ≡ get_or paths i d →
+pub next_path_room : (v w all : ℕ) (paths : List (List Pt)) (i : ℕ) (path d : List Pt) → i < length paths
+    → path ≡ get_or paths i d →
     v + 36028797018963968 * sum_by length (drop i paths) ≤ all →
     w ≤ v + 36028797018963968 * length path →
     w + 36028797018963968 * sum_by length (drop (i + 1) paths) ≤ all
@@ -126,7 +138,8 @@ pub no_more_points : (paths : List (List Pt)) (i : ℕ) → length paths ≤ i �
 no_more_points paths i h = ap (sum_by length) (drop_of_length-le paths h)
 
 -- the points counted so far, up to a limit
-pub next_points : (p q : ℕ) (paths : List (List Pt)) (i : ℕ) (path d : List Pt) → i < length paths → path ≡ get_or paths i d →
+pub next_points : (p q : ℕ) (paths : List (List Pt)) (i : ℕ) (path d : List Pt) → i < length paths
+    → path ≡ get_or paths i d →
     q ≡ min (p + length path) 4294967296 →
     min (q + sum_by length (drop (i + 1) paths)) 4294967296 ≡ min (p + sum_by length (drop i paths)) 4294967296
 next_points p q paths i path d h e step =

@@ -14,6 +14,7 @@ pub(crate) struct Given {
 }
 
 impl Given {
+    /// No letter was given.
     pub fn nothing() -> Given
         ensures { result ≡ nothing_given }
     {
@@ -27,6 +28,7 @@ impl Given {
         }
     }
 
+    /// Whether the letter was given a number.
     #[tactic(auto, unfolding(crate::specs::Machine::was_given))]
     pub fn has(&self, letter: u8) -> bool
         ensures { result ≡ was_given letter self.now }
@@ -41,6 +43,7 @@ impl Given {
         }
     }
 
+    /// With the number of one letter more.
     #[tactic(auto, unfolding(crate::specs::Machine::with_number, crate::specs::Machine::limited))]
     pub fn with(self, letter: u8, number: i64) -> Given
         requires { IsTrue (limited letter number) }
@@ -76,6 +79,7 @@ impl Given {
         }
     }
 
+    /// Whether no axis was given.
     pub fn names_none(&self) -> bool
         ensures { result ≡ names_none self.now }
     {

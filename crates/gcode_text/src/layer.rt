@@ -30,6 +30,7 @@ fn points_of(paths: &[Path]) -> u64
     points
 }
 
+/// Appends the lines of a layer: its number, its height in thousandths of a millimetre, its paths.
 pub fn push_layer(
     out: &mut Vec<u8>,
     layer: u32,

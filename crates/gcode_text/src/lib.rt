@@ -18,8 +18,6 @@ mod path;
 mod rates;
 mod scan;
 mod statement;
-#[cfg(test)]
-mod tests;
 mod word;
 mod writer;
 

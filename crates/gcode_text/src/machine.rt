@@ -39,6 +39,7 @@ impl Model for Machine {
 }
 
 impl Machine {
+    /// A machine at the origin with no filament used.
     pub fn new() -> Machine
         ensures { result ≡ start }
     {
@@ -178,6 +179,3 @@ fn stays(from: Pt3, to: Pt3) -> bool
 {
     from.x == to.x && from.y == to.y
 }
-
-#[cfg(test)]
-mod tests;

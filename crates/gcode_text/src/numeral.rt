@@ -8,6 +8,7 @@ ghost use Rattle.scad_base.specs.Appends.{BeginsWith};
 use itoa::Buffer;
 use std::alloc::AllocError;
 
+/// Appends a number in decimal.
 pub fn push_unsigned(out: &mut Vec<u8>, n: u32) -> Result<(), AllocError>
     ensures ok { OnOk result (out.new.items ≡ out.old.items ++ decimal n) }
     ensures err { OnErr result (out.new.items ≡ out.old.items) }
@@ -41,6 +42,7 @@ fn push_last_digits(out: &mut Vec<u8>, places: u32, n: u32) -> Result<(), AllocE
 }
 
 // Micrometres in millimetres.
+/// Appends thousandths as a decimal number of three places.
 #[tactic(auto, unfolding(crate::specs::Numeral::fixed))]
 pub fn push_thousandths(out: &mut Vec<u8>, n: u64) -> Result<(), AllocError>
     ensures ok { OnOk result (out.new.items ≡ out.old.items ++ fixed 3 n) }
@@ -51,6 +53,7 @@ pub fn push_thousandths(out: &mut Vec<u8>, n: u64) -> Result<(), AllocError>
     push_last_digits(out, 3, (n % 1000) as u32)
 }
 
+/// Appends hundred-thousandths as a decimal number of five places.
 #[tactic(auto, unfolding(crate::specs::Numeral::fixed))]
 pub fn push_hundred_thousandths(out: &mut Vec<u8>, n: u128) -> Result<(), AllocError>
     ensures ok { OnOk result (out.new.items ≡ out.old.items ++ fixed 5 n) }
@@ -61,6 +64,7 @@ pub fn push_hundred_thousandths(out: &mut Vec<u8>, n: u128) -> Result<(), AllocE
     push_last_digits(out, 5, (n % 100_000) as u32)
 }
 
+/// Appends micrometres as millimetres of three places, with `-` before negative ones.
 #[tactic(auto, unfolding(crate::specs::Numeral::millimetres))]
 pub fn push_millimetres(out: &mut Vec<u8>, z: i32) -> Result<(), AllocError>
     ensures ok { OnOk result (out.new.items ≡ out.old.items ++ millimetres z) }

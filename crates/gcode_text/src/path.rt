@@ -11,6 +11,7 @@ use scad_geom::Pt;
 use std::alloc::AllocError;
 
 // A travel to the first point, and a move to each further one.
+/// Appends the lines of a path: a travel to its first point, then its moves; the volume grows by theirs.
 #[tactic(auto, unfolding(crate::specs::Gcode::path_text, crate::specs::Amount::path_volume))]
 pub fn push_path(
     out: &mut Vec<u8>,

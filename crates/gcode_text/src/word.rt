@@ -32,6 +32,7 @@ fn push_feed(out: &mut Vec<u8>, feed: u32) -> Result<(), AllocError>
     Ok(())
 }
 
+/// Appends the line of a move that doesn't extrude.
 #[tactic(auto, unfolding(crate::specs::Gcode::travel_line))]
 pub fn push_travel(out: &mut Vec<u8>, rates: &Rates, to: Pt) -> Result<(), AllocError>
     ensures ok { OnOk result (out.new.items ≡ out.old.items ++ travel_line rates.now to) }
@@ -51,6 +52,7 @@ fn push_amount(out: &mut Vec<u8>, e: u128) -> Result<(), AllocError>
     push_hundred_thousandths(out, e)
 }
 
+/// Appends the line of a move that extrudes up to the amount `e`, in hundred-thousandths of a millimetre.
 #[tactic(auto, unfolding(crate::specs::Gcode::print_line))]
 pub fn push_print(out: &mut Vec<u8>, rates: &Rates, to: Pt, e: u128) -> Result<(), AllocError>
     ensures ok { OnOk result (out.new.items ≡ out.old.items ++ print_line rates.now to e) }
@@ -61,6 +63,7 @@ pub fn push_print(out: &mut Vec<u8>, rates: &Rates, to: Pt, e: u128) -> Result<(
     push_feed(out, rates.print_feed)
 }
 
+/// Appends the line that goes to a height in micrometres.
 #[tactic(auto, unfolding(crate::specs::Gcode::height_line))]
 pub fn push_height(out: &mut Vec<u8>, rates: &Rates, z: u64) -> Result<(), AllocError>
     ensures ok { OnOk result (out.new.items ≡ out.old.items ++ height_line rates.now z) }
@@ -71,6 +74,7 @@ pub fn push_height(out: &mut Vec<u8>, rates: &Rates, z: u64) -> Result<(), Alloc
     push_feed(out, rates.travel_feed)
 }
 
+/// Appends a command of a temperature in degrees Celsius.
 #[tactic(auto, unfolding(crate::specs::Gcode::heat_line))]
 pub fn push_heat(out: &mut Vec<u8>, command: &[u8], degrees: u32) -> Result<(), AllocError>
     ensures ok { OnOk result (out.new.items ≡ out.old.items ++ heat_line command.now degrees) }
@@ -84,6 +88,7 @@ pub fn push_heat(out: &mut Vec<u8>, command: &[u8], degrees: u32) -> Result<(), 
 }
 
 // The comment in front of a layer.
+/// Appends the comment with a layer's number.
 #[tactic(auto, unfolding(crate::specs::Gcode::number_line))]
 pub fn push_layer_number(out: &mut Vec<u8>, layer: u32) -> Result<(), AllocError>
     ensures ok { OnOk result (out.new.items ≡ out.old.items ++ number_line layer) }

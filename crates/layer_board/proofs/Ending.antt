@@ -39,12 +39,15 @@ module _ (c n l : ℕ) (vs : List View) (i : ℕ) (v : View) (e : get_elem? vs i
     pub alone_sum : (f : View → ℕ) → f spent ≡ 0 → sum_by f vs ≡ f v
     alone_sum f z =
         let p = sum_out f spent z vs i v e in
-        let q = sum_none f (set vs i spent) (All-weaker (λ u. u ≡ spent) (λ u. f u ≡ 0) (λ u h. ap f h ∙ z) (set vs i spent) alone) in omega arith
+        let q = sum_none f (set vs i spent) (All-weaker (λ u. u ≡ spent) (λ u. f u ≡ 0) (λ u h. ap f h ∙ z)
+        (set vs i spent) alone) in omega arith
 
     alone_least : l ≡ lowest c v.failed
     alone_least =
         let p = lowest_out c (λ (u : View). u.failed) spent refl vs i v e in
-        let q = lowest_none c (λ (u : View). u.failed) (set vs i spent) (All-weaker (λ u. u ≡ spent) (λ u. u.failed ≡ []) (λ u h. ap (λ (x : View). x.failed) h) (set vs i spent) alone) in
+        let q = lowest_none c (λ (u : View). u.failed) (set vs i spent)
+        (All-weaker (λ u. u ≡ spent) (λ u. u.failed ≡ []) (λ u h. ap (λ (x : View). x.failed) h)
+        (set vs i spent) alone) in
         let r = k.least in
         let s = lowest_le c v.failed in omega arith
 
@@ -52,10 +55,12 @@ module _ (c n l : ℕ) (vs : List View) (i : ℕ) (v : View) (e : get_elem? vs i
     alone_drawn h =
         let t = sound_v.ended ended in
         let past = t.0 in
-        sym (alone_sum (λ u. sum_by h u.drawn) refl) ∙ drawn_sum c (board n l vs) k h ∙ same_below h (min n c) c (omega arith)
+        sym (alone_sum (λ u. sum_by h u.drawn) refl) ∙ drawn_sum c (board n l vs) k h ∙ same_below h (min n c) c
+        (omega arith)
 
     alone_parts : Rearranged v.drawn (v.finished ++ (v.failed ++ v.skipped))
-    alone_parts h = sound_v.parts h ∙ ap (λ o. sum_by h (option_to_list o ++ (v.finished ++ (v.failed ++ v.skipped)))) (sound_v.ended ended).1
+    alone_parts h = sound_v.parts h ∙ ap (λ o. sum_by h (option_to_list o ++ (v.finished ++ (v.failed ++ v.skipped))))
+        (sound_v.ended ended).1
 
     alone_finished : (m : ℕ) → m < l → Contains v.finished m
     alone_finished m small =
@@ -69,7 +74,11 @@ module _ (c n l : ℕ) (vs : List View) (i : ℕ) (v : View) (e : get_elem? vs i
         (λ none. ⊎_elim
         (λ h. let t = lowest_at c m v.failed (contains_counted m v.failed h) in absurd (omega arith))
         (λ none'. let t = All-contains (λ x. l < x) v.skipped m sound_v.skipped
-        (contains_counted m v.skipped (omega (arith, sum_by-append (is m) v.finished (v.failed ++ v.skipped), sum_by-append (is m) v.failed v.skipped))) in absurd (omega arith))
+        (contains_counted m v.skipped (omega (
+          arith,
+          sum_by-append (is m) v.finished (v.failed ++ v.skipped),
+          sum_by-append (is m) v.failed v.skipped,
+        ))) in absurd (omega arith))
         (cases_lt 0 (sum_by (is m) v.failed)))
         (cases_lt 0 (sum_by (is m) v.finished)))
 

@@ -16,7 +16,13 @@ use Rattle.layer_board.proofs.Counts.{below_more, same_below}
 use Rattle.layer_board.proofs.Steps.{board, ended_of, lowest_changed, Moves, moved, stays}
 
 pub spent_sound : (c n l : ℕ) → IsSoundPass c n l spent
-spent_sound c n l = record { live = inl refl; parts = λ h. refl; skipped = All-nil (λ m. l < m); ended = λ t. absurd (false≢true t) }
+spent_sound c n l = record {
+  live = inl refl;
+  parts = λ h. refl;
+  skipped = All-nil (λ m. l < m);
+  ended =
+      λ t. absurd (false≢true t);
+}
 
 -- a pass with members has the board's number of layers
 pub counted : (c n l : ℕ) (v : View) → IsLive v → IsSoundPass c n l v → v.count ≡ c
@@ -24,11 +30,13 @@ counted c n l v live s = ⊎_elim
     (λ e. let p : length v.members ≡ 0 = ap (λ (u : View). length u.members) e in absurd (omega arith))
     (λ t. t.1) s.live
 
-pub sound_at : (c n l : ℕ) (vs : List View) (i : ℕ) (v : View) → get_elem? vs i ≡ some v → IsSound c (board n l vs) → IsSoundPass c n l v
+pub sound_at : (c n l : ℕ) (vs : List View) (i : ℕ) (v : View) → get_elem? vs i ≡ some v → IsSound c (board n l vs)
+    → IsSoundPass c n l v
 sound_at c n l vs i v e k = All-at (IsSoundPass c n l) vs i v e k.passes
 
 -- a step that fails no layer leaves the least number
-same_least : (c n l : ℕ) (vs : List View) (i : ℕ) (v w : View) → get_elem? vs i ≡ some v → w.failed ≡ v.failed → IsSound c (board n l vs)
+same_least : (c n l : ℕ) (vs : List View) (i : ℕ) (v w : View) → get_elem? vs i ≡ some v → w.failed ≡ v.failed
+    → IsSound c (board n l vs)
     → l ≡ lowest c (flat_map (λ u. u.failed) (set vs i w))
 same_least c n l vs i v w e f k =
     let t = lowest_changed c vs i v w e in
@@ -40,7 +48,8 @@ claims_layer n v h = ap (λ b. if b then draws n v else ends v) (lt-ltb n v.coun
 pub claims_end : (n : ℕ) (v : View) → v.count ≤ n → claims n v ≡ ends v
 claims_end n v h = ap (λ b. if b then draws n v else ends v) (le-ltb n v.count h)
 
-draws_moves : (c n l : ℕ) (v : View) → n < c → v.count ≡ c → IsLive v → v.pending ≡ None → v.ended ≡ false → IsSoundPass c n l v → Moves c n l (n + 1) l v (draws n v)
+draws_moves : (c n l : ℕ) (v : View) → n < c → v.count ≡ c → IsLive v → v.pending ≡ None → v.ended ≡ false
+    → IsSoundPass c n l v → Moves c n l (n + 1) l v (draws n v)
 draws_moves c n l v small e live free going s = record {
   up = omega arith;
   down = omega arith;
@@ -48,7 +57,8 @@ draws_moves c n l v small e live free going s = record {
   given = refl;
   drawn = λ h.
       let a : sum_by h (below (min n c)) ≡ sum_by h (below n) = same_below h (min n c) n (omega arith) in
-      let b : sum_by h (below (min (n + 1) c)) ≡ sum_by h (below (n + 1)) = same_below h (min (n + 1) c) (n + 1) (omega arith) in
+      let b : sum_by h (below (min (n + 1) c)) ≡ sum_by h (below (n + 1)) = same_below h (min (n + 1) c) (n + 1)
+      (omega arith) in
       omega (arith, below_more h n, sum_by_push h v.drawn n);
   most = inr (omega arith);
   pass = record {
@@ -62,7 +72,8 @@ draws_moves c n l v small e live free going s = record {
   };
 }
 
-ends_moves : (c n l : ℕ) (v : View) → c ≤ n → v.count ≡ c → IsLive v → v.pending ≡ None → v.ended ≡ false → IsSoundPass c n l v → Moves c n l (n + 1) l v (ends v)
+ends_moves : (c n l : ℕ) (v : View) → c ≤ n → v.count ≡ c → IsLive v → v.pending ≡ None → v.ended ≡ false
+    → IsSoundPass c n l v → Moves c n l (n + 1) l v (ends v)
 ends_moves c n l v big e live free going s = record {
   up = omega arith;
   down = omega arith;
@@ -78,16 +89,21 @@ ends_moves c n l v big e live free going s = record {
   };
 }
 
-pub claimed : (c n l : ℕ) (vs : List View) (i : ℕ) (v : View) → get_elem? vs i ≡ some v → IsLive v → v.pending ≡ None → v.ended ≡ false
+pub claimed : (c n l : ℕ) (vs : List View) (i : ℕ) (v : View) → get_elem? vs i ≡ some v → IsLive v → v.pending ≡ None
+    → v.ended ≡ false
     → IsSound c (board n l vs) → IsSound c (board (n + 1) l (set vs i (claims n v)))
 claimed c n l vs i v e live free going k =
     let s = sound_at c n l vs i v e k in
     let same = counted c n l v live s in
     ⊎_elim
-    (λ small. subst (λ w. IsSound c (board (n + 1) l (set vs i w))) (sym (claims_layer n v (subst (λ m. n < m) (sym same) small)))
-    (moved c n l (n + 1) l vs i v (draws n v) e (draws_moves c n l v small same live free going s) (same_least c n l vs i v (draws n v) e refl k) k))
-    (λ big. subst (λ w. IsSound c (board (n + 1) l (set vs i w))) (sym (claims_end n v (subst (λ m. m ≤ n) (sym same) big)))
-    (moved c n l (n + 1) l vs i v (ends v) e (ends_moves c n l v big same live free going s) (same_least c n l vs i v (ends v) e refl k) k))
+    (λ small. subst (λ w. IsSound c (board (n + 1) l (set vs i w)))
+    (sym (claims_layer n v (subst (λ m. n < m) (sym same) small)))
+    (moved c n l (n + 1) l vs i v (draws n v) e (draws_moves c n l v small same live free going s)
+    (same_least c n l vs i v (draws n v) e refl k) k))
+    (λ big. subst (λ w. IsSound c (board (n + 1) l (set vs i w)))
+    (sym (claims_end n v (subst (λ m. m ≤ n) (sym same) big)))
+    (moved c n l (n + 1) l vs i v (ends v) e (ends_moves c n l v big same live free going s)
+    (same_least c n l vs i v (ends v) e refl k) k))
     (cases_lt n c)
 
 -- a pass that has something pending isn't spent
@@ -96,7 +112,8 @@ pending_lives c n l v m p s = ⊎_elim
     (λ e. let q : Some m ≡ None = sym p ∙ ap (λ (u : View). u.pending) e in cc)
     (λ t. t) s.live
 
-skips_moves : (c n l : ℕ) (v : View) (m : ℕ) → v.pending ≡ Some m → l < m → IsSoundPass c n l v → Moves c n l n l v (skips v)
+skips_moves : (c n l : ℕ) (v : View) (m : ℕ) → v.pending ≡ Some m → l < m → IsSoundPass c n l v
+    → Moves c n l n l v (skips v)
 skips_moves c n l v m p above s = record {
   up = omega arith;
   down = omega arith;
@@ -116,12 +133,14 @@ skips_moves c n l v m p above s = record {
       sum_by-append h v.skipped (option_to_list v.pending),
     );
     skipped = All-append (λ k. l < k) v.skipped (option_to_list v.pending) s.skipped
-        (subst (λ o. All (λ k. l < k) (option_to_list o)) (sym p) (All-cons (λ k. l < k) m [] above (All-nil (λ k. l < k))));
+        (subst (λ o. All (λ k. l < k) (option_to_list o)) (sym p) (All-cons (λ k. l < k) m [] above
+        (All-nil (λ k. l < k))));
     ended = λ t. ((s.ended t).0, refl);
   };
 }
 
-finishes_moves : (c n l : ℕ) (v : View) (m : ℕ) → v.pending ≡ Some m → IsSoundPass c n l v → Moves c n l n l v (finishes v)
+finishes_moves : (c n l : ℕ) (v : View) (m : ℕ) → v.pending ≡ Some m → IsSoundPass c n l v
+    → Moves c n l n l v (finishes v)
 finishes_moves c n l v m p s = record {
   up = omega arith;
   down = omega arith;
@@ -143,7 +162,8 @@ finishes_moves c n l v m p s = record {
   };
 }
 
-fails_moves : (c n l l' : ℕ) (v : View) (m : ℕ) → v.pending ≡ Some m → l' ≤ l → IsSoundPass c n l v → IsSoundPass c n l' v → Moves c n l n l' v (fails v)
+fails_moves : (c n l l' : ℕ) (v : View) (m : ℕ) → v.pending ≡ Some m → l' ≤ l → IsSoundPass c n l v
+    → IsSoundPass c n l' v → Moves c n l n l' v (fails v)
 fails_moves c n l l' v m p down s s' = record {
   up = omega arith;
   down = down;
@@ -184,14 +204,17 @@ looked c n l vs i v m e p k =
     let s = sound_at c n l vs i v e k in
     ⊎_elim
     (λ above. subst (λ w. IsSound c (board n l (set vs i w))) (sym (looks_skip l m v p above))
-    (moved c n l n l vs i v (skips v) e (skips_moves c n l v m p above s) (same_least c n l vs i v (skips v) e refl k) k))
-    (λ most. subst (λ us. IsSound c (board n l us)) (sym (ap (set vs i) (looks_stay l m v p most) ∙ set_again vs i v e)) k)
+    (moved c n l n l vs i v (skips v) e (skips_moves c n l v m p above s) (same_least c n l vs i v (skips v) e refl k)
+    k))
+    (λ most. subst (λ us. IsSound c (board n l us)) (sym (ap (set vs i) (looks_stay l m v p most) ∙ set_again vs i v e))
+    k)
     (cases_lt l m)
 
 pub finished : (c n l : ℕ) (vs : List View) (i : ℕ) (v : View) (m : ℕ) → get_elem? vs i ≡ some v → v.pending ≡ Some m
     → IsSound c (board n l vs) → IsSound c (board n l (set vs i (finishes v)))
 finished c n l vs i v m e p k =
-    moved c n l n l vs i v (finishes v) e (finishes_moves c n l v m p (sound_at c n l vs i v e k)) (same_least c n l vs i v (finishes v) e refl k) k
+    moved c n l n l vs i v (finishes v) e (finishes_moves c n l v m p (sound_at c n l vs i v e k))
+    (same_least c n l vs i v (finishes v) e refl k) k
 
 -- Fail lowers the least number as the pass's failed layers grow
 fewer_least : (c n l : ℕ) (vs : List View) (i : ℕ) (v : View) → get_elem? vs i ≡ some v → IsSound c (board n l vs)
@@ -200,7 +223,8 @@ fewer_least c n l vs i v e k =
     let t = lowest_changed c vs i v (fails v) e in
     let rest : ℕ = t.0 in
     let was : lowest c (flat_map (λ u. u.failed) vs) ≡ min (lowest c v.failed) rest = t.1 in
-    let is_now : lowest c (flat_map (λ u. u.failed) (set vs i (fails v))) ≡ min (lowest c (v.failed ++ option_to_list v.pending)) rest = t.2 in
+    let is_now : lowest c (flat_map (λ u. u.failed) (set vs i (fails v)))
+    ≡ min (lowest c (v.failed ++ option_to_list v.pending)) rest = t.2 in
     let small = lowest_le c (flat_map (λ (u : View). u.failed) vs) in
     let same = k.least in
     let within : l ≤ c = omega arith in
@@ -214,4 +238,5 @@ failed c n l vs i v m e p k =
     let l' : ℕ = lowest l (option_to_list v.pending) in
     let s = sound_at c n l vs i v e k in
     let down : l' ≤ l = lowest_le l (option_to_list v.pending) in
-    moved c n l n l' vs i v (fails v) e (fails_moves c n l l' v m p down s (stays c n l n l' (omega arith) down v s)) (fewer_least c n l vs i v e k) k
+    moved c n l n l' vs i v (fails v) e (fails_moves c n l l' v m p down s (stays c n l n l' (omega arith) down v s))
+    (fewer_least c n l vs i v e k) k

@@ -27,7 +27,8 @@ one_fails : after_all (Claim 0 ∷ Look 0 ∷ Fail 0 ∷ Claim 0 ∷ Look 0 ∷ 
 one_fails = refl
 
 -- two passes, two layers: the second pass fails layer 1 before the first finishes layer 0, and is joined to it
-one_joins : after_all (Split 0 ∷ Claim 0 ∷ Claim 1 ∷ Look 1 ∷ Fail 1 ∷ Look 0 ∷ Finish 0 ∷ Claim 1 ∷ Join 0 1 ∷ []) (opening 2)
+one_joins : after_all (Split 0 ∷ Claim 0 ∷ Claim 1 ∷ Look 1 ∷ Fail 1 ∷ Look 0 ∷ Finish 0 ∷ Claim 1 ∷ Join 0 1 ∷ [])
+    (opening 2)
     ≡ record {
       next = 3;
       least = 1;

@@ -23,7 +23,8 @@ module _ (c n l : ℕ) (vs : List View) (i j : ℕ) (v w : View) (apart : j ≢ 
   within : i < length vs
   within = (at_there vs i v at_i).0
 
-  pub sum_joined : (f : View → ℕ) → f spent ≡ 0 → sum_by f (set (set vs i (joins v w)) j spent) + f v + f w ≡ sum_by f vs + f (joins v w)
+  pub sum_joined : (f : View → ℕ) → f spent ≡ 0 → sum_by f (set (set vs i (joins v w)) j spent) + f v + f w
+      ≡ sum_by f vs + f (joins v w)
   sum_joined f z =
       let p = sum_changed f z vs i v (joins v w) at_i in
       let q = sum_changed f z (set vs i (joins v w)) j w spent (second (joins v w)) in omega arith
@@ -35,16 +36,23 @@ module _ (c n l : ℕ) (vs : List View) (i j : ℕ) (v w : View) (apart : j ≢ 
       let q = part_le_sum f (set vs i spent) j w (second spent) in omega arith
 
   same_rest : set (set (set vs i (joins v w)) j spent) i spent ≡ set (set vs i spent) j spent
-  same_rest = set_comm (set vs i (joins v w)) j i spent spent apart ∙ ap (λ us. set us j spent) (set-set vs i (joins v w) spent)
+  same_rest = set_comm (set vs i (joins v w)) j i spent spent apart ∙ ap (λ us. set us j spent)
+      (set-set vs i (joins v w) spent)
 
-  pub lowest_joined : lowest c (flat_map (λ u. u.failed) (set (set vs i (joins v w)) j spent)) ≡ lowest c (flat_map (λ u. u.failed) vs)
+  pub lowest_joined : lowest c (flat_map (λ u. u.failed) (set (set vs i (joins v w)) j spent))
+      ≡ lowest c (flat_map (λ u. u.failed) vs)
   lowest_joined =
       let failed : View → List ℕ = λ u. u.failed in
       let rest : ℕ = lowest c (flat_map (λ u. u.failed) (set (set vs i spent) j spent)) in
-      let a : lowest c (flat_map (λ u. u.failed) vs) ≡ min (lowest c v.failed) (lowest c (flat_map (λ u. u.failed) (set vs i spent))) = lowest_out c (λ (u : View). u.failed) spent refl vs i v at_i in
-      let b : lowest c (flat_map (λ u. u.failed) (set vs i spent)) ≡ min (lowest c w.failed) rest = lowest_out c (λ (u : View). u.failed) spent refl (set vs i spent) j w (second spent) in
-      let here : get_elem? (set (set vs i (joins v w)) j spent) i ≡ some (joins v w) = set_else (set vs i (joins v w)) j i spent (λ e. apart (sym e)) ∙ set_here vs i (joins v w) within in
-      let d : lowest c (flat_map (λ u. u.failed) (set (set vs i (joins v w)) j spent)) ≡ min (lowest c (v.failed ++ w.failed)) rest =
+      let a : lowest c (flat_map (λ u. u.failed) vs) ≡ min (lowest c v.failed)
+      (lowest c (flat_map (λ u. u.failed) (set vs i spent))) = lowest_out c (λ (u : View). u.failed) spent refl
+      vs i v at_i in
+      let b : lowest c (flat_map (λ u. u.failed) (set vs i spent)) ≡ min (lowest c w.failed) rest =
+      lowest_out c (λ (u : View). u.failed) spent refl (set vs i spent) j w (second spent) in
+      let here : get_elem? (set (set vs i (joins v w)) j spent) i ≡ some (joins v w) = set_else (set vs i (joins v w)) j
+      i spent (λ e. apart (sym e)) ∙ set_here vs i (joins v w) within in
+      let d : lowest c (flat_map (λ u. u.failed) (set (set vs i (joins v w)) j spent))
+      ≡ min (lowest c (v.failed ++ w.failed)) rest =
       lowest_out c (λ (u : View). u.failed) spent refl (set (set vs i (joins v w)) j spent) i (joins v w) here
       ∙ ap (λ us. min (lowest c (v.failed ++ w.failed)) (lowest c (flat_map (λ u. u.failed) us))) same_rest in
       let e = lowest_both c v.failed w.failed in omega arith
@@ -67,12 +75,15 @@ module _ (c n l : ℕ) (vs : List View) (i j : ℕ) (v w : View) (apart : j ≢ 
       (λ b. let q = All-at (λ u. Contains u.members 0 → u.given ≡ given_of vs) vs j w at_j k.counts b in omega arith)
       (Contains-append_cases v.members w.members 0 t)
 
-  without_pending : (u : View) → u.pending ≡ None → IsSoundPass c n l u → (h : ℕ → ℕ) → sum_by h u.drawn ≡ sum_by h u.finished + sum_by h u.failed + sum_by h u.skipped
+  without_pending : (u : View) → u.pending ≡ None → IsSoundPass c n l u → (h : ℕ → ℕ) → sum_by h u.drawn
+      ≡ sum_by h u.finished + sum_by h u.failed + sum_by h u.skipped
   without_pending u free s h =
-      let p : sum_by h u.drawn ≡ sum_by h (u.finished ++ (u.failed ++ u.skipped)) = s.parts h ∙ ap (λ o. sum_by h (option_to_list o ++ (u.finished ++ (u.failed ++ u.skipped)))) free in
+      let p : sum_by h u.drawn ≡ sum_by h (u.finished ++ (u.failed ++ u.skipped)) = s.parts h ∙ ap
+      (λ o. sum_by h (option_to_list o ++ (u.finished ++ (u.failed ++ u.skipped)))) free in
       omega (arith, sum_by-append h u.finished (u.failed ++ u.skipped), sum_by-append h u.failed u.skipped)
 
-  pass_joined : IsLive v → v.pending ≡ None → w.pending ≡ None → IsSoundPass c n l v → IsSoundPass c n l w → IsSoundPass c n l (joins v w)
+  pass_joined : IsLive v → v.pending ≡ None → w.pending ≡ None → IsSoundPass c n l v → IsSoundPass c n l w
+      → IsSoundPass c n l (joins v w)
   pass_joined live free_v free_w sv sw = record {
     live = inr (omega (arith, length-append v.members w.members), counted c n l v live sv);
     parts = λ h.
@@ -91,7 +102,8 @@ module _ (c n l : ℕ) (vs : List View) (i j : ℕ) (v w : View) (apart : j ≢ 
     ended = either_ended v.ended w.ended _ (λ e. ((sv.ended e).0, refl)) (λ e. ((sw.ended e).0, refl));
   }
 
-  pub joined : IsLive v → IsLive w → v.pending ≡ None → w.pending ≡ None → IsSound c (board n l vs) → IsSound c (board n l (set (set vs i (joins v w)) j spent))
+  pub joined : IsLive v → IsLive w → v.pending ≡ None → w.pending ≡ None → IsSound c (board n l vs)
+      → IsSound c (board n l (set (set vs i (joins v w)) j spent))
   joined live_v live_w free_v free_w k =
       let sv = sound_at c n l vs i v at_i k in
       let sw = sound_at c n l vs j w at_j k in
@@ -104,7 +116,8 @@ module _ (c n l : ℕ) (vs : List View) (i j : ℕ) (v w : View) (apart : j ≢ 
             flat_sum h (λ (u : View). u.members) (set (set vs i (joins v w)) j spent)
             ∙ (let goal : sum_by (λ u. sum_by h u.members) (set (set vs i (joins v w)) j spent) ≡ sum_by h (below (given_of vs)) = omega arith in goal)
             ∙ ap (λ g. sum_by h (below g)) (sym same_given);
-        counts = subst (λ g. All (λ u. Contains u.members 0 → u.given ≡ g) (set (set vs i (joins v w)) j spent)) (sym same_given)
+        counts = subst (λ g. All (λ u. Contains u.members 0 → u.given ≡ g) (set (set vs i (joins v w)) j spent))
+            (sym same_given)
             (All-set (λ u. Contains u.members 0 → u.given ≡ given_of vs) (set vs i (joins v w)) j spent (λ t. let none = t.1 in absurd (omega arith))
             (All-set (λ u. Contains u.members 0 → u.given ≡ given_of vs) vs i (joins v w) (counts_both k) k.counts));
         drawn = λ h.
@@ -118,7 +131,9 @@ module _ (c n l : ℕ) (vs : List View) (i j : ℕ) (v w : View) (apart : j ≢ 
             let p = sum_joined ended_of refl in
             let q = k.most in
             let r = ended_joined v.ended w.ended (length v.members) (length w.members) in
-            let s : ended_of (joins v w) ≡ (if v.ended || w.ended then length v.members + length w.members else 0) = ap (λ x. if v.ended || w.ended then x else 0) (length-append v.members w.members) in
+            let s : ended_of (joins v w) ≡ (if v.ended || w.ended then length v.members + length w.members else 0) =
+            ap (λ x. if v.ended || w.ended then x else 0) (length-append v.members w.members) in
             omega arith;
-        passes = All-set (IsSoundPass c n l) (set vs i (joins v w)) j spent (spent_sound c n l) (All-set (IsSoundPass c n l) vs i (joins v w) (pass_joined live_v free_v free_w sv sw) k.passes);
+        passes = All-set (IsSoundPass c n l) (set vs i (joins v w)) j spent (spent_sound c n l)
+            (All-set (IsSoundPass c n l) vs i (joins v w) (pass_joined live_v free_v free_w sv sw) k.passes);
       }

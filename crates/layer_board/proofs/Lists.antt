@@ -1,4 +1,5 @@
--- Lists of passes, read at a place by `get_elem?`, with one pass taken out of sums, of the least number and of what holds of each.
+-- Lists of passes, read at a place by `get_elem?`, with one pass taken out of sums, of the least number and of what
+-- holds of each.
 use Rattle.std.proofs.Common.{◌≡◌, ℕ, zero, suc, ◌+◌, ◌<◌, ◌≤◌, min, List, [], ◌∷◌, ◌++◌, length, get_or, set, sym, refl, ap, subst, arith, All, sum_by, flat_map}
 use Rattle.std.proofs.lemmas.List.Sums.{sum_by-cons, sum_by-append}
 use mathlib.Core.Option.{some, some-injective, some-ne-none}
@@ -15,12 +16,14 @@ module _ {A : Type 0} where
   All-at P l i a e h = let t = at_there l i a e in subst P (t.1 a) (h i a t.0)
 
   -- a place whose element isn't the default is in the list
-  pub at_live : (f : A → ℕ) (d : A) → f d ≡ 0 → (l : List A) (i : ℕ) → 0 < f (get_or l i d) → get_elem? l i ≡ some (get_or l i d)
+  pub at_live : (f : A → ℕ) (d : A) → f d ≡ 0 → (l : List A) (i : ℕ) → 0 < f (get_or l i d)
+      → get_elem? l i ≡ some (get_or l i d)
   at_live f d z [] i h = absurd (omega arith)
   at_live f d z (x ∷ xs) zero h = refl
   at_live f d z (x ∷ xs) (suc i) h = at_live f d z xs i h
 
-  pub sum_out : (f : A → ℕ) (b : A) → f b ≡ 0 → (l : List A) (i : ℕ) (a : A) → get_elem? l i ≡ some a → sum_by f l ≡ f a + sum_by f (set l i b)
+  pub sum_out : (f : A → ℕ) (b : A) → f b ≡ 0 → (l : List A) (i : ℕ) (a : A) → get_elem? l i ≡ some a
+      → sum_by f l ≡ f a + sum_by f (set l i b)
   sum_out f b z [] i a e = absurd (some-ne-none a (sym e))
   sum_out f b z (x ∷ xs) zero a e = let p : f x ≡ f a = ap f (some-injective x a e) in omega (arith, sum_by-cons f x xs, sum_by-cons f b xs)
   sum_out f b z (x ∷ xs) (suc i) a e = let ih = sum_out f b z xs i a e in omega (arith, sum_by-cons f x xs, sum_by-cons f x (set xs i b))

@@ -1,4 +1,5 @@
--- Every event keeps a board sound, and its failed and finished layers true to the verdicts; so all orders of events end alike.
+-- Every event keeps a board sound, and its failed and finished layers true to the verdicts; so all orders of events end
+-- alike.
 use Rattle.std.proofs.Common.{◌≡◌, ℕ, Bool, true, false, if◌then◌else◌, nat_lt, List, [], ◌∷◌, length, get_or, set, sym, refl, ap, ◌∙◌, subst, arith, All, Contains, Option, Some, None, IfSome, option_to_list, get_or-set_same, get_or-set_other, length-set}
 use Rattle.std.specs.List.{position_or_len}
 use Rattle.std.proofs.lemmas.List.Sums.{position_or_len_is}
@@ -38,8 +39,10 @@ after_sound c (Split i) s a k = let live = first_lives (pass_at s i) a.0 in spli
 after_sound c (Claim i) s a k = claimed c s.next s.least s.passes i (pass_at s i) (live_there s i a.0) a.0 a.1 a.2 k
 after_sound c (Look i) s a k = looked c s.next s.least s.passes i (pass_at s i) a.0 (pending_there s i a.0 a.1) a.1 k
 after_sound c (Fail i) s a k = failed c s.next s.least s.passes i (pass_at s i) a.0 (pending_there s i a.0 a.1) a.1 k
-after_sound c (Finish i) s a k = finished c s.next s.least s.passes i (pass_at s i) a.0 (pending_there s i a.0 a.1) a.1 k
-after_sound c (Join i j) s a k = joined c s.next s.least s.passes i j (pass_at s i) (pass_at s j) a.0 (live_there s i a.1) (live_there s j a.2) a.1 a.2 a.3 a.4 k
+after_sound c (Finish i) s a k = finished c s.next s.least s.passes i (pass_at s i) a.0 (pending_there s i a.0 a.1) a.1
+    k
+after_sound c (Join i j) s a k = joined c s.next s.least s.passes i j (pass_at s i) (pass_at s j) a.0
+    (live_there s i a.1) (live_there s j a.2) a.1 a.2 a.3 a.4 k
 
 pub runs_sound : (c : ℕ) (es : List Event) (s t : BoardState) → Runs es s t → IsSound c s → IsSound c t
 runs_sound c [] s t e k = subst (IsSound c) (sym e) k
@@ -55,58 +58,78 @@ module _ (verdicts : List Bool) where
     finished : All (λ n. verdict verdicts n ≡ false) v.finished
 
   spent_fair : Fair spent
-  spent_fair = record { failed = All-nil (λ n. verdict verdicts n ≡ true); finished = All-nil (λ n. verdict verdicts n ≡ false) }
+  spent_fair = record {
+    failed = All-nil (λ n. verdict verdicts n ≡ true);
+    finished = All-nil (λ n. verdict verdicts n
+        ≡ false);
+  }
 
   by_pending : (P : ℕ → Type 0) (o : Option ℕ) → IfSome o P → All P (option_to_list o)
   by_pending P None h = All-nil P
   by_pending P (Some n) h = All-cons P n [] h (All-nil P)
 
-  fair_at : (s : BoardState) (i : ℕ) → get_elem? s.passes i ≡ some (pass_at s i) → All Fair s.passes → Fair (pass_at s i)
+  fair_at : (s : BoardState) (i : ℕ) → get_elem? s.passes i ≡ some (pass_at s i) → All Fair s.passes
+      → Fair (pass_at s i)
   fair_at s i e f = All-at Fair s.passes i (pass_at s i) e f
 
   fair_choice : (b : Bool) (v w : View) → Fair v → Fair w → Fair (if b then v else w)
   fair_choice true v w f g = f
   fair_choice false v w f g = g
 
-  after_fair : (e : Event) (s : BoardState) → Allowed e s → IsJudged verdicts e s → All Fair s.passes → All Fair (after e s).passes
+  after_fair : (e : Event) (s : BoardState) → Allowed e s → IsJudged verdicts e s → All Fair s.passes
+      → All Fair (after e s).passes
   after_fair (Split i) s a j f =
       let v = fair_at s i (live_there s i (first_lives (pass_at s i) a.0)) f in
-      All-push Fair (put i (gives (pass_at s i)) s.passes) (given (pass_at s i)) (All-set Fair s.passes i (gives (pass_at s i)) (record { failed = v.failed; finished = v.finished }) f)
-      (record { failed = All-nil (λ n. verdict verdicts n ≡ true); finished = All-nil (λ n. verdict verdicts n ≡ false) })
+      All-push Fair (put i (gives (pass_at s i)) s.passes) (given (pass_at s i))
+      (All-set Fair s.passes i (gives (pass_at s i)) (record { failed = v.failed; finished = v.finished }) f)
+      (record {
+        failed = All-nil (λ n. verdict verdicts n ≡ true);
+        finished = All-nil (λ n. verdict verdicts n ≡ false);
+      })
   after_fair (Claim i) s a j f =
       let v = fair_at s i (live_there s i a.0) f in
-      All-set Fair s.passes i (claims s.next (pass_at s i)) (fair_choice (nat_lt s.next (pass_at s i).count) (draws s.next (pass_at s i)) (ends (pass_at s i))
+      All-set Fair s.passes i (claims s.next (pass_at s i)) (fair_choice (nat_lt s.next (pass_at s i).count)
+      (draws s.next (pass_at s i)) (ends (pass_at s i))
       (record { failed = v.failed; finished = v.finished }) (record { failed = v.failed; finished = v.finished })) f
   after_fair (Look i) s a j f =
       let v = fair_at s i (pending_there s i a.0 a.1) f in
-      All-set Fair s.passes i (looks s.least (pass_at s i)) (fair_choice (is_above s.least (pass_at s i).pending) (skips (pass_at s i)) (pass_at s i)
+      All-set Fair s.passes i (looks s.least (pass_at s i)) (fair_choice (is_above s.least (pass_at s i).pending)
+      (skips (pass_at s i)) (pass_at s i)
       (record { failed = v.failed; finished = v.finished }) v) f
   after_fair (Fail i) s a j f =
       let v = fair_at s i (pending_there s i a.0 a.1) f in
       All-set Fair s.passes i (fails (pass_at s i)) (record {
-        failed = All-append (λ n. verdict verdicts n ≡ true) (pass_at s i).failed (option_to_list (pass_at s i).pending) v.failed (by_pending (λ n. verdict verdicts n ≡ true) (pass_at s i).pending j);
+        failed = All-append (λ n. verdict verdicts n ≡ true) (pass_at s i).failed (option_to_list (pass_at s i).pending)
+            v.failed (by_pending (λ n. verdict verdicts n ≡ true) (pass_at s i).pending j);
         finished = v.finished;
       }) f
   after_fair (Finish i) s a j f =
       let v = fair_at s i (pending_there s i a.0 a.1) f in
       All-set Fair s.passes i (finishes (pass_at s i)) (record {
         failed = v.failed;
-        finished = All-append (λ n. verdict verdicts n ≡ false) (pass_at s i).finished (option_to_list (pass_at s i).pending) v.finished (by_pending (λ n. verdict verdicts n ≡ false) (pass_at s i).pending j);
+        finished = All-append (λ n. verdict verdicts n ≡ false) (pass_at s i).finished
+            (option_to_list (pass_at s i).pending) v.finished (by_pending (λ n. verdict verdicts n ≡ false)
+            (pass_at s i).pending j);
       }) f
   after_fair (Join i j) s a g f =
       let v = fair_at s i (live_there s i a.1) f in
       let w = fair_at s j (live_there s j a.2) f in
-      All-set Fair (put i (joins (pass_at s i) (pass_at s j)) s.passes) j spent spent_fair (All-set Fair s.passes i (joins (pass_at s i) (pass_at s j)) (record {
-        failed = All-append (λ n. verdict verdicts n ≡ true) (pass_at s i).failed (pass_at s j).failed v.failed w.failed;
-        finished = All-append (λ n. verdict verdicts n ≡ false) (pass_at s i).finished (pass_at s j).finished v.finished w.finished;
+      All-set Fair (put i (joins (pass_at s i) (pass_at s j)) s.passes) j spent spent_fair
+      (All-set Fair s.passes i (joins (pass_at s i) (pass_at s j)) (record {
+        failed = All-append (λ n. verdict verdicts n ≡ true) (pass_at s i).failed (pass_at s j).failed v.failed
+            w.failed;
+        finished = All-append (λ n. verdict verdicts n ≡ false) (pass_at s i).finished (pass_at s j).finished v.finished
+            w.finished;
       }) f)
 
-  runs_fair : (es : List Event) (s t : BoardState) → Runs es s t → AreJudged verdicts es s → All Fair s.passes → All Fair t.passes
+  runs_fair : (es : List Event) (s t : BoardState) → Runs es s t → AreJudged verdicts es s → All Fair s.passes
+      → All Fair t.passes
   runs_fair [] s t e j f = subst (λ u. All Fair u.passes) (sym e) f
   runs_fair (e ∷ es) s t r j f = runs_fair es (after e s) t r.1 j.1 (after_fair e s r.0 j.0 f)
 
   -- what a board is closed with, where its layers failed and finished by their verdicts
-  pub least_is_first : (l : ℕ) (v : View) → Closed (length verdicts) l v → All (λ n. verdict verdicts n ≡ true) v.failed → All (λ n. verdict verdicts n ≡ false) v.finished
+  pub least_is_first : (l : ℕ) (v : View) → Closed (length verdicts) l v → All (λ n. verdict verdicts n ≡ true) v.failed
+      → All (λ n. verdict verdicts n ≡ false) v.finished
       → l ≡ position_or_len (λ failed. failed) verdicts
   least_is_first l v k f g =
       let e = k.is_lowest in
@@ -114,19 +137,28 @@ module _ (verdicts : List Bool) where
       sym (position_or_len_is (λ (failed : Bool). failed) verdicts l false (omega arith)
       (λ m h. All-contains (λ n. verdict verdicts n ≡ false) v.finished m g (k.finished m h))
       (λ h. subst (λ m. verdict verdicts m ≡ true) (sym e)
-      (All-contains (λ n. verdict verdicts n ≡ true) v.failed (lowest (length verdicts) v.failed) f (lowest_among (length verdicts) v.failed (omega arith)))))
+      (All-contains (λ n. verdict verdicts n ≡ true) v.failed (lowest (length verdicts) v.failed) f
+      (lowest_among (length verdicts) v.failed (omega arith)))))
 
 others : (s : BoardState) (i : ℕ) → IsLast s i → All (λ u. u ≡ spent) (set s.passes i spent)
 others s i t k d h = dite (ℕ_discrete k i)
-    (λ e. ap (λ m. get_or (set s.passes i spent) m d) e ∙ get_or-set_same s.passes i spent d (omega (arith, length-set s.passes i spent)))
-    (λ ne. get_or-set_other s.passes i k spent d ne ∙ get_or_default s.passes k d spent (omega (arith, length-set s.passes i spent)) ∙ t.others k ne)
+    (λ e. ap (λ m. get_or (set s.passes i spent) m d) e ∙ get_or-set_same s.passes i spent d
+    (omega (arith, length-set s.passes i spent)))
+    (λ ne. get_or-set_other s.passes i k spent d ne ∙ get_or_default s.passes k d spent
+    (omega (arith, length-set s.passes i spent)) ∙ t.others k ne)
 
 pub orders_agree : OrdersAgree
 orders_agree verdicts events end last r j t =
     let k = runs_sound (length verdicts) events (opening (length verdicts)) end r (opens (length verdicts)) in
     let f = runs_fair verdicts events (opening (length verdicts)) end r j
-    (All-cons (Fair verdicts) (opened (length verdicts)) [] (record { failed = All-nil (λ n. verdict verdicts n ≡ true); finished = All-nil (λ n. verdict verdicts n ≡ false) }) (All-nil (Fair verdicts))) in
+    (All-cons (Fair verdicts) (opened (length verdicts)) []
+    (record {
+      failed = All-nil (λ n. verdict verdicts n ≡ true);
+      finished = All-nil (λ n. verdict verdicts n
+          ≡ false);
+    }) (All-nil (Fair verdicts))) in
     let there = live_there end last t.live in
     let v = fair_at verdicts end last there f in
     least_is_first verdicts end.least (pass_at end last)
-    (closes (length verdicts) end.next end.least end.passes last (pass_at end last) there t.ended k (others end last t)) v.failed v.finished
+    (closes (length verdicts) end.next end.least end.passes last (pass_at end last) there t.ended k (others end last t))
+    v.failed v.finished

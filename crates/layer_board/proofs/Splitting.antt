@@ -21,7 +21,8 @@ abbrev first_of : View → ℕ
 first_of v = sum_by (is 0) v.members
 
 -- no pass but that at the place has member 0
-pub only_first : (c n l : ℕ) (vs : List View) (i : ℕ) (v : View) → get_elem? vs i ≡ some v → Contains v.members 0 → IsSound c (board n l vs)
+pub only_first : (c n l : ℕ) (vs : List View) (i : ℕ) (v : View) → get_elem? vs i ≡ some v → Contains v.members 0
+    → IsSound c (board n l vs)
     → All (λ u. ¬ Contains u.members 0) (set vs i spent)
 only_first c n l vs i v e t k =
     let a = sum_out first_of spent refl vs i v e in
@@ -32,7 +33,8 @@ only_first c n l vs i v e t k =
     All-weaker (λ u. first_of u ≡ 0) (λ u. ¬ Contains u.members 0) (λ u h x. let p = counts_contained 0 u.members x in omega arith) (set vs i spent) z
 
 module _ (c n l : ℕ) (vs : List View) (i : ℕ) (v : View) (e : get_elem? vs i ≡ some v) (first : Contains v.members 0) (k : IsSound c (board n l vs)) where
-  sum_split : (f : View → ℕ) → f spent ≡ 0 → sum_by f (set vs i (gives v) ++ given v ∷ []) + f v ≡ sum_by f vs + f (gives v) + f (given v)
+  sum_split : (f : View → ℕ) → f spent ≡ 0 → sum_by f (set vs i (gives v) ++ given v ∷ []) + f v ≡ sum_by f vs + f
+      (gives v) + f (given v)
   sum_split f z = let p = sum_changed f z vs i v (gives v) e in omega (arith, sum_by_push f (set vs i (gives v)) (given v))
 
   pub more_given : given_of (set vs i (gives v) ++ given v ∷ []) ≡ given_of vs + 1
@@ -49,9 +51,12 @@ module _ (c n l : ℕ) (vs : List View) (i : ℕ) (v : View) (e : get_elem? vs i
       ⊎_elim (λ h. h) (λ h. let z = counts_past 0 (given_of vs) h in absurd (omega arith)) (cases_lt 0 (given_of vs))
 
   counts_new : All (λ u. Contains u.members 0 → u.given ≡ given_of vs + 1) (set vs i (gives v))
-  counts_new = subst (λ us. All (λ u. Contains u.members 0 → u.given ≡ given_of vs + 1) us) (set-set vs i spent (gives v))
-      (All-set (λ u. Contains u.members 0 → u.given ≡ given_of vs + 1) (set vs i spent) i (gives v) (λ t. ap (λ g. g + 1) counts_all)
-      (All-weaker (λ u. ¬ Contains u.members 0) (λ u. Contains u.members 0 → u.given ≡ given_of vs + 1) (λ u h t. absurd (h t)) (set vs i spent) (only_first c n l vs i v e first k)))
+  counts_new = subst (λ us. All (λ u. Contains u.members 0 → u.given ≡ given_of vs + 1) us)
+      (set-set vs i spent (gives v))
+      (All-set (λ u. Contains u.members 0 → u.given ≡ given_of vs + 1) (set vs i spent) i (gives v)
+      (λ t. ap (λ g. g + 1) counts_all)
+      (All-weaker (λ u. ¬ Contains u.members 0) (λ u. Contains u.members 0 → u.given ≡ given_of vs + 1)
+      (λ u h t. absurd (h t)) (set vs i spent) (only_first c n l vs i v e first k)))
 
   not_first : ¬ Contains (v.given ∷ []) 0
   not_first t =
@@ -76,8 +81,10 @@ module _ (c n l : ℕ) (vs : List View) (i : ℕ) (v : View) (e : get_elem? vs i
         flat_sum h (λ (u : View). u.members) (set vs i (gives v) ++ given v ∷ [])
         ∙ (let goal : sum_by (λ u. sum_by h u.members) (set vs i (gives v) ++ given v ∷ []) ≡ sum_by h (below (given_of vs + 1)) = omega arith in goal)
         ∙ ap (λ g. sum_by h (below g)) (sym more_given);
-    counts = subst (λ g. All (λ u. Contains u.members 0 → u.given ≡ g) (set vs i (gives v) ++ given v ∷ [])) (sym more_given)
-        (All-push (λ u. Contains u.members 0 → u.given ≡ given_of vs + 1) (set vs i (gives v)) (given v) counts_new (λ t. absurd (not_first t)));
+    counts = subst (λ g. All (λ u. Contains u.members 0 → u.given ≡ g) (set vs i (gives v) ++ given v ∷ []))
+        (sym more_given)
+        (All-push (λ u. Contains u.members 0 → u.given ≡ given_of vs + 1) (set vs i (gives v)) (given v) counts_new
+        (λ t. absurd (not_first t)));
     drawn = λ h.
         let p = sum_split (λ u. sum_by h u.drawn) refl in
         let r = drawn_sum c (board n l vs) k h in
@@ -85,18 +92,32 @@ module _ (c n l : ℕ) (vs : List View) (i : ℕ) (v : View) (e : get_elem? vs i
         ∙ (let goal : sum_by (λ u. sum_by h u.drawn) (set vs i (gives v) ++ given v ∷ []) ≡ sum_by h (below (min n c)) = omega arith in goal);
     least =
         let t = lowest_changed c vs i v (gives v) e in
-        k.least ∙ t.1 ∙ sym t.2 ∙ ap (lowest c) (sym (flat_push (λ (u : View). u.failed) (set vs i (gives v)) (given v) refl));
+        k.least ∙ t.1 ∙ sym t.2 ∙ ap (lowest c) (sym (flat_push (λ (u : View). u.failed) (set vs i (gives v)) (given v)
+        refl));
     most = let p = sum_split ended_of refl in let q = k.most in omega arith;
     passes = All-push (IsSoundPass c n l) (set vs i (gives v)) (given v)
-        (All-set (IsSoundPass c n l) vs i (gives v) (record { live = inr (live, counted c n l v live sound_v); parts = sound_v.parts; skipped = sound_v.skipped; ended = sound_v.ended }) k.passes)
-        (record { live = inr (omega arith, counted c n l v live sound_v); parts = λ h. refl; skipped = All-nil (λ m. l < m); ended = λ t. absurd (false≢true t) });
+        (All-set (IsSoundPass c n l) vs i (gives v) (record {
+          live = inr (live, counted c n l v live sound_v);
+          parts =
+              sound_v.parts;
+          skipped = sound_v.skipped;
+          ended = sound_v.ended;
+        }) k.passes)
+        (record {
+          live = inr (omega arith, counted c n l v live sound_v);
+          parts = λ h. refl;
+          skipped =
+              All-nil (λ m. l < m);
+          ended = λ t. absurd (false≢true t);
+        });
   }
 
 -- a board opens sound
 pub opens : (c : ℕ) → IsSound c (opening c)
 opens c = record {
   members = λ h. refl;
-  counts = All-cons (λ u. Contains u.members 0 → u.given ≡ 1) (opened c) [] (λ t. refl) (All-nil (λ u. Contains u.members 0 → u.given ≡ 1));
+  counts = All-cons (λ u. Contains u.members 0 → u.given ≡ 1) (opened c) [] (λ t. refl)
+      (All-nil (λ u. Contains u.members 0 → u.given ≡ 1));
   drawn = λ h. ap (λ m. sum_by h (below m)) (let goal : 0 ≡ min 0 c = omega arith in goal);
   least = refl;
   most = omega arith;

@@ -28,7 +28,8 @@ stays c n l n' l' up down v s = record {
 }
 
 -- the sum over all passes, with one of them changed
-pub sum_changed : (f : View → ℕ) → f spent ≡ 0 → (vs : List View) (i : ℕ) (v w : View) → get_elem? vs i ≡ some v → sum_by f (set vs i w) + f v ≡ sum_by f vs + f w
+pub sum_changed : (f : View → ℕ) → f spent ≡ 0 → (vs : List View) (i : ℕ) (v w : View) → get_elem? vs i ≡ some v
+    → sum_by f (set vs i w) + f v ≡ sum_by f vs + f w
 sum_changed f z vs i v w e =
     let t = at_there vs i v e in
     let p = sum_out f spent z vs i v e in
@@ -38,7 +39,8 @@ sum_changed f z vs i v w e =
 
 -- the least number of all passes, with one of them changed
 pub lowest_changed : (c : ℕ) (vs : List View) (i : ℕ) (v w : View) → get_elem? vs i ≡ some v
-    → (rest : ℕ) × (lowest c (flat_map (λ u. u.failed) vs) ≡ min (lowest c v.failed) rest) × (lowest c (flat_map (λ u. u.failed) (set vs i w)) ≡ min (lowest c w.failed) rest)
+    → (rest : ℕ) × (lowest c (flat_map (λ u. u.failed) vs) ≡ min (lowest c v.failed) rest)
+    × (lowest c (flat_map (λ u. u.failed) (set vs i w)) ≡ min (lowest c w.failed) rest)
 lowest_changed c vs i v w e =
     let t = at_there vs i v e in (
       lowest c (flat_map (λ u. u.failed) (set vs i spent)),
@@ -48,10 +50,12 @@ lowest_changed c vs i v w e =
     )
 
 -- the members, the numbers given and the layers drawn, as sums
-pub members_sum : (c : ℕ) (s : BoardState) → IsSound c s → (h : ℕ → ℕ) → sum_by (λ v. sum_by h v.members) s.passes ≡ sum_by h (below (given_of s.passes))
+pub members_sum : (c : ℕ) (s : BoardState) → IsSound c s → (h : ℕ → ℕ) → sum_by (λ v. sum_by h v.members) s.passes
+    ≡ sum_by h (below (given_of s.passes))
 members_sum c s k h = sym (flat_sum h (λ (v : View). v.members) s.passes) ∙ k.members h
 
-pub drawn_sum : (c : ℕ) (s : BoardState) → IsSound c s → (h : ℕ → ℕ) → sum_by (λ v. sum_by h v.drawn) s.passes ≡ sum_by h (below (min s.next c))
+pub drawn_sum : (c : ℕ) (s : BoardState) → IsSound c s → (h : ℕ → ℕ) → sum_by (λ v. sum_by h v.drawn) s.passes
+    ≡ sum_by h (below (min s.next c))
 drawn_sum c s k h = sym (flat_sum h (λ (v : View). v.drawn) s.passes) ∙ k.drawn h
 
 -- what a step of one pass keeps
@@ -60,7 +64,8 @@ pub record Moves (c n l n' l' : ℕ) (v w : View) : Type 0 where
   pub down : l' ≤ l
   pub members : w.members ≡ v.members
   pub given : w.given ≡ v.given
-  pub drawn : (h : ℕ → ℕ) → sum_by h w.drawn + sum_by h (below (min n c)) ≡ sum_by h v.drawn + sum_by h (below (min n' c))
+  pub drawn : (h : ℕ → ℕ) → sum_by h w.drawn + sum_by h (below (min n c)) ≡ sum_by h v.drawn + sum_by h
+      (below (min n' c))
   pub most : n' + ended_of v ≤ n + ended_of w ⊎ (n' + ended_of v ≤ c + ended_of w)
   pub pass : IsSoundPass c n' l' w
 
@@ -79,7 +84,8 @@ moved c n l n' l' vs i v w e m least k =
           flat_sum h (λ (u : View). u.members) (set vs i w) ∙ (let goal : sum_by (λ u. sum_by h u.members) (set vs i w) ≡ sum_by h (below (given_of vs)) = omega arith in goal) ∙ ap (λ g. sum_by h (below g)) (sym same_given);
       counts = subst (λ g. All (λ u. Contains u.members 0 → u.given ≡ g) (set vs i w)) (sym same_given)
           (All-set (λ u. Contains u.members 0 → u.given ≡ given_of vs) vs i w
-          (λ t. m.given ∙ All-at (λ u. Contains u.members 0 → u.given ≡ given_of vs) vs i v e counts (subst (λ ms. Contains ms 0) m.members t)) counts);
+          (λ t. m.given ∙ All-at (λ u. Contains u.members 0 → u.given ≡ given_of vs) vs i v e counts
+          (subst (λ ms. Contains ms 0) m.members t)) counts);
       drawn = λ h.
           let p = sum_changed (λ u. sum_by h u.drawn) refl vs i v w e in
           let q = m.drawn h in
@@ -91,5 +97,6 @@ moved c n l n' l' vs i v w e m least k =
           let q = k.most in
           let r = part_le_sum ended_of vs i v e in
           ⊎_elim (λ h. omega arith) (λ h. omega arith) m.most;
-      passes = All-set (IsSoundPass c n' l') vs i w m.pass (All-weaker (IsSoundPass c n l) (IsSoundPass c n' l') (stays c n l n' l' m.up m.down) vs passes);
+      passes = All-set (IsSoundPass c n' l') vs i w m.pass (All-weaker (IsSoundPass c n l) (IsSoundPass c n' l')
+          (stays c n l n' l' m.up m.down) vs passes);
     }

@@ -29,10 +29,12 @@ sum_mono f g le (x ∷ xs) = let ih = sum_mono f g le xs in let p = le x in omeg
 
 ended_few : (v : View) → ended_of v ≤ sum_by (λ _. 1) v.members
 ended_few v = let p = length_is_sum v.members in
-    elim v.ended as (λ b. (if b then length v.members else 0) ≤ sum_by (λ _. 1) v.members) [ true ↦ omega arith | false ↦ omega arith ]
+    elim v.ended as (λ b. (if b then length v.members else 0) ≤ sum_by (λ _. 1) v.members)
+    [ true ↦ omega arith | false ↦ omega arith ]
 
 -- a board has given at least as many numbers as it has members
-members_given : (c : ℕ) (s : BoardState) → IsSound c s → sum_by (λ v. sum_by (λ _. 1) v.members) s.passes ≡ given_of s.passes
+members_given : (c : ℕ) (s : BoardState) → IsSound c s → sum_by (λ v. sum_by (λ _. 1) v.members) s.passes
+    ≡ given_of s.passes
 members_given c s k = members_sum c s k (λ _. 1) ∙ length-below (given_of s.passes)
 
 -- next lies within 64 of the number of layers
@@ -44,7 +46,8 @@ next_within size s b =
     let t = b.given in
     let u = b.workers in omega arith
 
-pub members_few : (size : Size) (s : State (Unit {0}) View) (i : ℕ) (v : View) → get_elem? s.views i ≡ some v → IsBoard size s → length v.members ≤ 64
+pub members_few : (size : Size) (s : State (Unit {0}) View) (i : ℕ) (v : View) → get_elem? s.views i ≡ some v
+    → IsBoard size s → length v.members ≤ 64
 members_few size s i v e b =
     let p = members_given size.count (board_of s) b.sound in
     let q = part_le_sum (λ (u : View). sum_by (λ _. 1) u.members) s.views i v e in
@@ -53,7 +56,8 @@ members_few size s i v e b =
     let u = b.workers in omega arith
 
 -- a layer that is drawn next lies above all that were drawn
-pub draws_ascend : (c n l : ℕ) (vs : List View) (i : ℕ) (v : View) → get_elem? vs i ≡ some v → IsSound c (board n l vs) → All (λ d. d < n) v.drawn
+pub draws_ascend : (c n l : ℕ) (vs : List View) (i : ℕ) (v : View) → get_elem? vs i ≡ some v → IsSound c (board n l vs)
+    → All (λ d. d < n) v.drawn
 draws_ascend c n l vs i v e k q d h =
     let x : ℕ = get_or v.drawn q d in
     let a = counts_contained x v.drawn (Contains-get_or v.drawn q d h) in
@@ -62,7 +66,8 @@ draws_ascend c n l vs i v e k q d h =
     ⊎_elim (λ small. small) (λ big. let z = counts_past x (min n c) (omega arith) in absurd (omega arith)) (cases_lt x n)
 
 -- a pass has drawn no more layers than there are
-pub draws_few : (c n l : ℕ) (vs : List View) (i : ℕ) (v : View) → get_elem? vs i ≡ some v → IsSound c (board n l vs) → length v.drawn ≤ c
+pub draws_few : (c n l : ℕ) (vs : List View) (i : ℕ) (v : View) → get_elem? vs i ≡ some v → IsSound c (board n l vs)
+    → length v.drawn ≤ c
 draws_few c n l vs i v e k =
     let a = length_is_sum v.drawn in
     let b = part_le_sum (λ (u : View). sum_by (λ _. 1) u.drawn) vs i v e in
@@ -70,9 +75,11 @@ draws_few c n l vs i v e k =
     let d = length-below (min n c) in omega arith
 
 -- a step of one pass that changes a word and keeps the numbers given
-board_after : (size : Size) (s : State (Unit {0}) View) (word m n' l' id : ℕ) (c : List (ℕ × Unit {0})) (v w : View) → get_elem? s.views id ≡ some v → w.given ≡ v.given
+board_after : (size : Size) (s : State (Unit {0}) View) (word m n' l' id : ℕ) (c : List (ℕ × Unit {0})) (v w : View)
+    → get_elem? s.views id ≡ some v → w.given ≡ v.given
     → slice_index (slice_set s.words word m) 0 ≡ n' → slice_index (slice_set s.words word m) 1 ≡ l'
-    → IsBoard size s → IsSound size.count (board n' l' (slice_set s.views id w)) → IsBoard size (stepped s word m id c w keeps)
+    → IsBoard size s → IsSound size.count (board n' l' (slice_set s.views id w))
+    → IsBoard size (stepped s word m id c w keeps)
 board_after size s word m n' l' id c v w e g p q b k = record {
   words = length-set s.words word m ∙ b.words;
   layers = b.layers;
@@ -81,10 +88,12 @@ board_after size s word m n' l' id c v w e g p q b k = record {
   sound = subst₂ (λ n l. IsSound size.count (board n l (slice_set s.views id w))) (sym p) (sym q) k;
 }
 
-next_set : (s : State (Unit {0}) View) (m : ℕ) → length s.words ≡ 2 → (slice_index (slice_set s.words 0 m) 0 ≡ m) × (slice_index (slice_set s.words 0 m) 1 ≡ slice_index s.words 1)
+next_set : (s : State (Unit {0}) View) (m : ℕ) → length s.words ≡ 2 → (slice_index (slice_set s.words 0 m) 0 ≡ m)
+    × (slice_index (slice_set s.words 0 m) 1 ≡ slice_index s.words 1)
 next_set s m e = (get_or-set_same s.words 0 m 0 (omega arith), get_or-set_other s.words 0 1 m 0 (omega arith))
 
-least_set : (s : State (Unit {0}) View) (m : ℕ) → length s.words ≡ 2 → (slice_index (slice_set s.words 1 m) 0 ≡ slice_index s.words 0) × (slice_index (slice_set s.words 1 m) 1 ≡ m)
+least_set : (s : State (Unit {0}) View) (m : ℕ) → length s.words ≡ 2
+    → (slice_index (slice_set s.words 1 m) 0 ≡ slice_index s.words 0) × (slice_index (slice_set s.words 1 m) 1 ≡ m)
 least_set s m e = (get_or-set_other s.words 1 0 m 0 (omega arith), get_or-set_same s.words 1 m 0 (omega arith))
 
 given_by : (b : Bool) (v x y : View) → x.given ≡ v.given → y.given ≡ v.given → (if b then x else y).given ≡ v.given
@@ -98,7 +107,8 @@ looks_given : (l : ℕ) (v : View) → (looks l v).given ≡ v.given
 looks_given l v = given_by (is_above l v.pending) v (skips v) v refl refl
 
 module _ (size : Size) (slots id : ℕ) (me : Me (Unit {0}) View) where
-  pub claims_step : 0 < length me.0.members → me.0.pending ≡ None → me.0.ended ≡ false → Allows (IsBoard size) slots id me 0 (λ n. (n + 1) % 2 ^ 64) (Claimed (step slots 0 1 0 none) me)
+  pub claims_step : 0 < length me.0.members → me.0.pending ≡ None → me.0.ended ≡ false → Allows (IsBoard size) slots id
+      me 0 (λ n. (n + 1) % 2 ^ 64) (Claimed (step slots 0 1 0 none) me)
   claims_step live free going s b homes e fits =
       let v : View = me.0 in
       let n : ℕ = slice_index s.words 0 in
@@ -112,7 +122,8 @@ module _ (size : Size) (slots id : ℕ) (me : Me (Unit {0}) View) where
         claims n v,
         keeps,
         tt,
-        board_after size s 0 ((n + 1) % 2 ^ 64) (n + 1) l id me.1 v (claims n v) e (claims_given n v) (t.0 ∙ plus) t.1 b k',
+        board_after size s 0 ((n + 1) % 2 ^ 64) (n + 1) l id me.1 v (claims n v) e (claims_given n v) (t.0 ∙ plus) t.1 b
+            k',
         record {
           event = refl;
           ascends = draws_ascend size.count n l s.views id v e k;
@@ -121,7 +132,8 @@ module _ (size : Size) (slots id : ℕ) (me : Me (Unit {0}) View) where
         },
       )
 
-  pub looks_step : (m : ℕ) → me.0.pending ≡ Some m → 0 < length me.0.members → Allows (IsBoard size) slots id me 1 (λ n. n) (Looked (step slots 1 0 0 none) me)
+  pub looks_step : (m : ℕ) → me.0.pending ≡ Some m → 0 < length me.0.members → Allows (IsBoard size) slots id me 1
+      (λ n. n) (Looked (step slots 1 0 0 none) me)
   looks_step m p live s b homes e fits =
       let v : View = me.0 in
       let n : ℕ = slice_index s.words 0 in
@@ -133,14 +145,16 @@ module _ (size : Size) (slots id : ℕ) (me : Me (Unit {0}) View) where
         looks l v,
         keeps,
         tt,
-        board_after size s 1 l n l id me.1 v (looks l v) e (looks_given l v) t.0 t.1 b (looked size.count n l s.views id v m e p k),
+        board_after size s 1 l n l id me.1 v (looks l v) e (looks_given l v) t.0 t.1 b (looked size.count n l s.views id
+            v m e p k),
         record {
           event = refl;
           failed = let a = k.least in let c = u.1 in let d : lowest v.count v.failed ≡ lowest size.count v.failed = ap (λ x. lowest x v.failed) same in omega arith;
         },
       )
 
-  pub fails_step : (m : ℕ) → me.0.pending ≡ Some m → Allows (IsBoard size) slots id me 1 (λ n. min n m) (Failed (step slots 1 m 0 none) me)
+  pub fails_step : (m : ℕ) → me.0.pending ≡ Some m → Allows (IsBoard size) slots id me 1 (λ n. min n m)
+      (Failed (step slots 1 m 0 none) me)
   fails_step m p s b homes e fits =
       let v : View = me.0 in
       let n : ℕ = slice_index s.words 0 in
@@ -155,7 +169,8 @@ module _ (size : Size) (slots id : ℕ) (me : Me (Unit {0}) View) where
         refl,
       )
 
-  pub finishes_step : (m : ℕ) → me.0.pending ≡ Some m → Allows (IsBoard size) slots id me 0 (λ n. n) (Finished (step slots 0 0 0 none) me)
+  pub finishes_step : (m : ℕ) → me.0.pending ≡ Some m → Allows (IsBoard size) slots id me 0 (λ n. n)
+      (Finished (step slots 0 0 0 none) me)
   finishes_step m p s b homes e fits =
       let v : View = me.0 in
       let n : ℕ = slice_index s.words 0 in
@@ -165,7 +180,8 @@ module _ (size : Size) (slots id : ℕ) (me : Me (Unit {0}) View) where
         finishes v,
         keeps,
         tt,
-        board_after size s 0 n n l id me.1 v (finishes v) e refl t.0 t.1 b (finished size.count n l s.views id v m e p k),
+        board_after size s 0 n n l id me.1 v (finishes v) e refl t.0 t.1 b (finished size.count n l s.views id v m e p
+            k),
         refl,
       )
 
@@ -179,11 +195,13 @@ module _ (size : Size) (slots id : ℕ) (me : Me (Unit {0}) View) where
         v,
         keeps,
         tt,
-        board_after size s 0 n n l id me.1 v v e refl t.0 t.1 b (subst (λ us. IsSound size.count (board n l us)) (sym (set_again s.views id v e)) k),
+        board_after size s 0 n n l id me.1 v v e refl t.0 t.1 b (subst (λ us. IsSound size.count (board n l us))
+            (sym (set_again s.views id v e)) k),
         record { event = refl; few = members_few size s id v e b },
       )
 
-pub splits_step : (size : Size) (id : ℕ) (v : View) → Contains v.members 0 → v.given < size.workers → Splits (IsBoard size) id v (gives v) (given v)
+pub splits_step : (size : Size) (id : ℕ) (v : View) → Contains v.members 0 → v.given < size.workers
+    → Splits (IsBoard size) id v (gives v) (given v)
 splits_step size id v first room s b e =
     let n : ℕ = slice_index s.words 0 in
     let l : ℕ = slice_index s.words 1 in
@@ -191,9 +209,17 @@ splits_step size id v first room s b e =
     let live : 0 < length v.members = let x = first.1 in omega arith in
     let g = more_given size.count n l s.views id v e first k in
     let h = counts_all size.count n l s.views id v e first k in
-    record { words = b.words; layers = b.layers; workers = b.workers; given = omega arith; sound = split_sound size.count n l s.views id v e first k live }
+    record {
+      words = b.words;
+      layers = b.layers;
+      workers = b.workers;
+      given = omega arith;
+      sound =
+          split_sound size.count n l s.views id v e first k live;
+    }
 
-pub joins_step : (size : Size) (id other : ℕ) (v w : View) → IsLive v → IsLive w → v.pending ≡ None → w.pending ≡ None → Joins (IsBoard size) id v other w (joins v w) spent
+pub joins_step : (size : Size) (id other : ℕ) (v w : View) → IsLive v → IsLive w → v.pending ≡ None → w.pending ≡ None
+    → Joins (IsBoard size) id v other w (joins v w) spent
 joins_step size id other v w live_v live_w free_v free_w s b e apart f =
     let n : ℕ = slice_index s.words 0 in
     let l : ℕ = slice_index s.words 1 in
@@ -201,15 +227,31 @@ joins_step size id other v w live_v live_w free_v free_w s b e apart f =
     let there : get_elem? s.views other ≡ some w = sym (set_else s.views id other (joins v w) apart) ∙ f in
     let g = sum_joined size.count n l s.views id other v w apart e there (λ u. u.given) refl in
     let h = b.given in
-    record { words = b.words; layers = b.layers; workers = b.workers; given = omega arith; sound = joined size.count n l s.views id other v w apart e there live_v live_w free_v free_w k }
+    record {
+      words = b.words;
+      layers = b.layers;
+      workers = b.workers;
+      given = omega arith;
+      sound = joined size.count n l
+          s.views id other v w apart e there live_v live_w free_v free_w k;
+    }
 
 pub opens_board : (size : Size) → 0 < size.workers → size.workers ≤ 64 → size.count < 4294967296
     → IsBoard size (record { words = 0 ∷ size.count ∷ []; homes = []; views = opened size.count ∷ [] })
-opens_board size some_worker few layers = record { words = refl; layers = layers; workers = few; given = omega arith; sound = opens size.count }
+opens_board size some_worker few layers = record {
+  words = refl;
+  layers = layers;
+  workers = few;
+  given =
+      omega arith;
+  sound = opens size.count;
+}
 
 -- what the words of a table that is closed say
-pub closes_table : (size : Size) (id : ℕ) (v : View) (words : List ℕ) (slots : List (Unit {0})) (least : ℕ) → Final (Seen (IsBoard size) id v) words slots → get_elem? words 1 ≡ some least
-    → v.ended ≡ true → length v.members ≡ size.workers → Closed size.count least v × (least ≤ size.count) × (size.count < 4294967296)
+pub closes_table : (size : Size) (id : ℕ) (v : View) (words : List ℕ) (slots : List (Unit {0})) (least : ℕ)
+    → Final (Seen (IsBoard size) id v) words slots → get_elem? words 1 ≡ some least
+    → v.ended ≡ true → length v.members ≡ size.workers → Closed size.count least v × (least ≤ size.count)
+    × (size.count < 4294967296)
 closes_table size id v words slots least f e ended all =
     let s : State (Unit {0}) View = f.0 in
     let b : IsBoard size s = f.1.0 in
@@ -219,7 +261,8 @@ closes_table size id v words slots least f e ended all =
     let k : IsSound size.count (board n l s.views) = b.sound in
     let same : l ≡ least = ap (λ ws. slice_index ws 1) f.2 ∙ (at_there words 1 least e).1 0 in
     let given = b.given in
-    let closed = subst (λ x. Closed size.count x v) same (closes size.count n l s.views id v there ended k (others_spent size.count n l s.views id v there ended k (omega arith))) in
+    let closed = subst (λ x. Closed size.count x v) same (closes size.count n l s.views id v there ended k
+    (others_spent size.count n l s.views id v there ended k (omega arith))) in
     let small = lowest_le size.count v.failed in
     let is = closed.is_lowest in
     (closed, omega arith, b.layers)

@@ -7,8 +7,6 @@
 mod board;
 pub mod laws;
 mod rule;
-#[cfg(test)]
-mod tests;
 mod view;
 
 pub use board::{Board, Claim, Outcome, Pass};

@@ -11,6 +11,7 @@ pub const NEXT: usize = 0;
 /// The word of the least failed layer, or else the number of layers.
 pub const LEAST: usize = 1;
 
+/// The rule of the board's table: between any two steps it is a board.
 pub struct Sharing;
 
 impl TableRule<(), View, Size> for Sharing {
@@ -19,6 +20,7 @@ impl TableRule<(), View, Size> for Sharing {
     ghost first = { λ size. opened size.count };
 }
 
+/// A pass parted from the first one.
 pub struct Gives;
 
 impl Split<View> for Gives {
@@ -27,6 +29,7 @@ impl Split<View> for Gives {
     ghost right = { given };
 }
 
+/// Two passes taken together.
 pub struct Joins;
 
 impl Join<View> for Joins {
@@ -35,24 +38,28 @@ impl Join<View> for Joins {
     ghost spent = { spent };
 }
 
+/// The step of `claim`.
 pub struct Claims;
 
 impl Play<(), View> for Claims {
     ghost then = { Claimed };
 }
 
+/// The step of `look`.
 pub struct Looks;
 
 impl Play<(), View> for Looks {
     ghost then = { Looked };
 }
 
+/// The step of `fail`.
 pub struct Fails;
 
 impl Play<(), View> for Fails {
     ghost then = { Failed };
 }
 
+/// The step of `finish`.
 pub struct Finishes;
 
 impl Play<(), View> for Finishes {

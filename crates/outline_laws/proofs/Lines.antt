@@ -73,7 +73,8 @@ module _ (p q : Level) (dp : HasDivisor p) (dq : HasDivisor q) (e : IsSameHeight
   flat_test f = ap (λ (b : Bool). is_zero (rise f) && b) (level_test f.a.y)
 
   pub passes_test : (f : Edge) → passes_at f p ≡ passes_at f q
-  passes_test f = ap₂ (λ (a b : Bool). int_lt (pos 0) (rise f) && (a && b)) (below_test (low f).y) (above_test (high f).y)
+  passes_test f = ap₂ (λ (a b : Bool). int_lt (pos 0) (rise f) && (a && b)) (below_test (low f).y)
+      (above_test (high f).y)
 
   -- the line of an edge passes the height at one place
   pub x_same : (f : Edge) → x_at f p.n p.d *ℤ q.d ≡ x_at f q.n q.d *ℤ p.d
@@ -83,7 +84,9 @@ module _ (p q : Level) (dp : HasDivisor p) (dq : HasDivisor q) (e : IsSameHeight
       ∙ ap (λ (z : ℤ). run f *ℤ z +ℤ (offset f *ℤ q.d) *ℤ p.d) e
       ∙ ring (run f ∷ q.n ∷ offset f ∷ q.d ∷ p.d ∷ []) (v0 ⊗ (v1 ⊗ v4) ⊕ (v2 ⊗ v3) ⊗ v4) ((v0 ⊗ v1 ⊕ v2 ⊗ v3) ⊗ v4) refl
 
-pub reaches_test : (l l' u u' : Level) → HasDivisor l → HasDivisor l' → HasDivisor u → HasDivisor u' → IsSameHeight l l' → IsSameHeight u u' → (f : Edge) → reaches f l u ≡ reaches f l' u'
+pub reaches_test : (l l' u u' : Level) → HasDivisor l → HasDivisor l' → HasDivisor u → HasDivisor u' → IsSameHeight l l'
+    → IsSameHeight u u' → (f : Edge) → reaches f l u ≡ reaches f l' u'
 unfolding reaches
 reaches_test l l' u u' dl dl' du du' e g f =
-    ap₂ (λ (a b : Bool). int_lt (pos 0) (rise f) && (a && b)) (below_test l l' dl dl' e (low f).y) (above_test u u' du du' g (high f).y)
+    ap₂ (λ (a b : Bool). int_lt (pos 0) (rise f) && (a && b)) (below_test l l' dl dl' e (low f).y)
+    (above_test u u' du du' g (high f).y)

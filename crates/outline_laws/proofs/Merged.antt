@@ -34,7 +34,8 @@ test_same s t u v h k =
     by_first false true x y = back y ∙ sym y
     by_first false false x y = x ∙ sym y
 
-starts_same : (s t : Spot) → AreSameSpot s t → (qs rs : List Piece) → ArePiecesSame qs rs → starts_at (point_of s) (ways_of qs) ≡ starts_at (point_of t) (ways_of rs)
+starts_same : (s t : Spot) → AreSameSpot s t → (qs rs : List Piece) → ArePiecesSame qs rs
+    → starts_at (point_of s) (ways_of qs) ≡ starts_at (point_of t) (ways_of rs)
 starts_same s t h [] [] k = refl
 starts_same s t h [] (r ∷ rs) k = absurd k
 starts_same s t h (q ∷ qs) [] k = absurd k
@@ -43,7 +44,8 @@ starts_same s t h (q ∷ qs) (r ∷ rs) k =
     ∙ ap₂ (λ (b : Bool) (n : ℕ). once b + n) (test_same s t q.from r.from h k.0.from) (starts_same s t h qs rs k.1)
     ∙ sym (starts-cons (point_of t) (way_of r) (ways_of rs))
 
-ends_same : (s t : Spot) → AreSameSpot s t → (qs rs : List Piece) → ArePiecesSame qs rs → ends_at (point_of s) (ways_of qs) ≡ ends_at (point_of t) (ways_of rs)
+ends_same : (s t : Spot) → AreSameSpot s t → (qs rs : List Piece) → ArePiecesSame qs rs
+    → ends_at (point_of s) (ways_of qs) ≡ ends_at (point_of t) (ways_of rs)
 ends_same s t h [] [] k = refl
 ends_same s t h [] (r ∷ rs) k = absurd k
 ends_same s t h (q ∷ qs) [] k = absurd k
@@ -62,7 +64,8 @@ record MeetToo (rs : List Piece) (f s : Piece) (others : List Piece) : Type 0 wh
   second_same : AreSamePiece s second
   rest_same : ArePiecesSame others rest
 
-meet_too : (qs rs : List Piece) → ArePiecesSame qs rs → (f s : Piece) (others : List Piece) → MeetAlone qs f s others → MeetToo rs f s others
+meet_too : (qs rs : List Piece) → ArePiecesSame qs rs → (f s : Piece) (others : List Piece) → MeetAlone qs f s others
+    → MeetToo rs f s others
 meet_too qs rs h f s others m = by_order (zip_permuted AreSamePiece qs rs (f ∷ (s ∷ others)) h m.two)
   where
     found : (vs : List Piece) → IsPermutation rs vs → ArePiecesSame (f ∷ (s ∷ others)) vs → MeetToo rs f s others
@@ -94,16 +97,19 @@ joined_same f s g t h k = record { name = h.name; from = h.from; to = k.to }
 abbrev MergeToo : List Piece → List Piece → Type 0
 MergeToo rs merged = (more : List Piece) × AreMerged rs more × ArePiecesSame merged more
 
-merged_too : (qs merged : List Piece) → AreMerged qs merged → (rs : List Piece) → ArePiecesSame qs rs → MergeToo rs merged
+merged_too : (qs merged : List Piece) → AreMerged qs merged → (rs : List Piece) → ArePiecesSame qs rs
+    → MergeToo rs merged
 merged_too qs merged (all_joined none p) rs h =
     let r = zip_permuted AreSamePiece qs rs merged h p in
     (r.0, all_joined (λ f s others m. let t = meet_too rs qs (pieces_turned qs rs h) f s others m in none t.first t.second t.rest t.meet) r.1, r.2)
 merged_too qs merged (two_join f s others m a) rs h =
     let t = meet_too qs rs h f s others m in
-    let r = merged_too (joined f s ∷ others) merged a (joined t.first t.second ∷ t.rest) (joined_same f s t.first t.second t.first_same t.second_same, t.rest_same) in
+    let r = merged_too (joined f s ∷ others) merged a (joined t.first t.second ∷ t.rest)
+    (joined_same f s t.first t.second t.first_same t.second_same, t.rest_same) in
     (r.0, two_join t.first t.second t.rest t.meet r.1, r.2)
 
-pub made_too : (qs rs : List Piece) → ArePiecesSame qs rs → (outlines : List (List Pt)) → AreMadeOf qs outlines → AreMadeOf rs outlines
+pub made_too : (qs rs : List Piece) → ArePiecesSame qs rs → (outlines : List (List Pt)) → AreMadeOf qs outlines
+    → AreMadeOf rs outlines
 made_too qs rs h outlines a =
     let r = merged_too qs a.merged a.are_merged rs h in
     record {

@@ -48,15 +48,24 @@ module _ (es : List LeafEdge) (l m : Level) (dl : HasDivisor l) (dm : HasDivisor
 
   before_same : (f g : Edge) → IsBefore m f g → IsBefore l f g
   before_same f g (inl h) =
-      inl (scaled_lower (x_at f l.n l.d *ℤ rise g) (x_at g l.n l.d *ℤ rise f) (x_at f m.n m.d *ℤ rise g) (x_at g m.n m.d *ℤ rise f) l.d m.d dl dm (times_same f (rise g)) (times_same g (rise f)) h)
+      inl (scaled_lower (x_at f l.n l.d *ℤ rise g) (x_at g l.n l.d *ℤ rise f) (x_at f m.n m.d *ℤ rise g)
+      (x_at g m.n m.d *ℤ rise f) l.d m.d dl dm (times_same f (rise g)) (times_same g (rise f)) h)
   before_same f g (inr h) =
-      inr (scaled_equal (x_at f l.n l.d *ℤ rise g) (x_at g l.n l.d *ℤ rise f) (x_at f m.n m.d *ℤ rise g) (x_at g m.n m.d *ℤ rise f) l.d m.d dl dm (times_same f (rise g)) (times_same g (rise f)) h.0, h.1)
+      inr (
+        scaled_equal (x_at f l.n l.d *ℤ rise g) (x_at g l.n l.d *ℤ rise f) (x_at f m.n m.d *ℤ rise g)
+            (x_at g m.n m.d *ℤ rise f) l.d m.d dl dm (times_same f (rise g)) (times_same g (rise f)) h.0,
+        h.1,
+      )
 
   aligned_same : (f g : Edge) → AreAligned m f g → AreAligned l f g
-  aligned_same f g h =
-      (scaled_equal (x_at f l.n l.d *ℤ rise g) (x_at g l.n l.d *ℤ rise f) (x_at f m.n m.d *ℤ rise g) (x_at g m.n m.d *ℤ rise f) l.d m.d dl dm (times_same f (rise g)) (times_same g (rise f)) h.0, h.1)
+  aligned_same f g h = (
+    scaled_equal (x_at f l.n l.d *ℤ rise g) (x_at g l.n l.d *ℤ rise f) (x_at f m.n m.d *ℤ rise g)
+        (x_at g m.n m.d *ℤ rise f) l.d m.d dl dm (times_same f (rise g)) (times_same g (rise f)) h.0,
+    h.1,
+  )
 
-  all_aligned : (k : ℕ) (ks : List ℕ) → AllByRecursion (λ j. AreAligned m (edge_at es k) (edge_at es j)) ks → AllByRecursion (λ j. AreAligned l (edge_at es k) (edge_at es j)) ks
+  all_aligned : (k : ℕ) (ks : List ℕ) → AllByRecursion (λ j. AreAligned m (edge_at es k) (edge_at es j)) ks
+      → AllByRecursion (λ j. AreAligned l (edge_at es k) (edge_at es j)) ks
   all_aligned k [] h = tt
   all_aligned k (j ∷ ks) h = (aligned_same (edge_at es k) (edge_at es j) h.0, all_aligned k ks h.1)
 
@@ -69,7 +78,8 @@ module _ (es : List LeafEdge) (l m : Level) (dl : HasDivisor l) (dm : HasDivisor
   precedes_same (k ∷ ks) [] h = h
   precedes_same (k ∷ ks) (j ∷ js) h = before_same (edge_at es k) (edge_at es j) h
 
-  all_precede : (b : List ℕ) (cs : List (List ℕ)) → AllByRecursion (Precedes es m b) cs → AllByRecursion (Precedes es l b) cs
+  all_precede : (b : List ℕ) (cs : List (List ℕ)) → AllByRecursion (Precedes es m b) cs
+      → AllByRecursion (Precedes es l b) cs
   all_precede b [] h = tt
   all_precede b (c ∷ cs) h = (precedes_same b c h.0, all_precede b cs h.1)
 
@@ -77,21 +87,29 @@ module _ (es : List LeafEdge) (l m : Level) (dl : HasDivisor l) (dm : HasDivisor
   ranked_same [] h = tt
   ranked_same (b ∷ bs) h = (bundle_ranked b h.0, all_precede b bs h.1, ranked_same bs h.2)
 
-  numbers_same : (u v : Level) → HasDivisor u → HasDivisor v → IsSameHeight u v → (k : ℕ) (fs : List LeafEdge) → reaching k fs l u ≡ reaching k fs m v
+  numbers_same : (u v : Level) → HasDivisor u → HasDivisor v → IsSameHeight u v → (k : ℕ) (fs : List LeafEdge)
+      → reaching k fs l u ≡ reaching k fs m v
   numbers_same u v du dv g k [] = refl
   numbers_same u v du dv g k (f ∷ fs) =
-      ap₂ (λ (b : Bool) (ns : List ℕ). if b then k ∷ ns else ns) (reaches_test l m u v dl dm du dv e g f.edge) (numbers_same u v du dv g (k + 1) fs)
+      ap₂ (λ (b : Bool) (ns : List ℕ). if b then k ∷ ns else ns) (reaches_test l m u v dl dm du dv e g f.edge)
+      (numbers_same u v du dv g (k + 1) fs)
 
-all_rise : (es : List LeafEdge) (l u : Level) (ks : List ℕ) → AllByRecursion (IsLive es l u) ks → AllByRecursion (Rises es) ks
+all_rise : (es : List LeafEdge) (l u : Level) (ks : List ℕ) → AllByRecursion (IsLive es l u) ks
+    → AllByRecursion (Rises es) ks
 all_rise es l u [] h = tt
 all_rise es l u (k ∷ ks) h = (h.0.reaches.rises, all_rise es l u ks h.1)
 
-pub bundles_rise : (es : List LeafEdge) (l u : Level) (bs : List (List ℕ)) → AreBundles es l u bs → AllByRecursion (Rises es) (concat bs)
+pub bundles_rise : (es : List LeafEdge) (l u : Level) (bs : List (List ℕ)) → AreBundles es l u bs
+    → AllByRecursion (Rises es) (concat bs)
 bundles_rise es l u bs a = all_rise es l u (concat bs) (live_bundles es l u bs a)
 
-pub bundles_one : (es : List LeafEdge) (l m : Level) (dl : HasDivisor l) (dm : HasDivisor m) (e : IsSameHeight l m) (u v : Level) → HasDivisor u → HasDivisor v → IsSameHeight u v → (bs cs : List (List ℕ))
+pub bundles_one : (es : List LeafEdge) (l m : Level) (dl : HasDivisor l) (dm : HasDivisor m) (e : IsSameHeight l m)
+    (u v : Level) → HasDivisor u → HasDivisor v → IsSameHeight u v → (bs cs : List (List ℕ))
     → AreBundles es l u bs → AreBundles es m v cs → bs ≡ cs
 bundles_one es l m dl dm e u v du dv g bs cs a b =
-    ranked_one es l bs cs (bundles_rise es l u bs a) (bundles_rise es m v cs b) a.ranked (ranked_same es l m dl dm e cs b.ranked)
-    (IsPermutation-trans (concat bs) (reaching 0 es l u) (concat cs) (IsPermutation-sym (reaching 0 es l u) (concat bs) a.members)
-    (subst (λ (ns : List ℕ). IsPermutation ns (concat cs)) (sym (numbers_same es l m dl dm e u v du dv g 0 es)) b.members))
+    ranked_one es l bs cs (bundles_rise es l u bs a) (bundles_rise es m v cs b) a.ranked
+    (ranked_same es l m dl dm e cs b.ranked)
+    (IsPermutation-trans (concat bs) (reaching 0 es l u) (concat cs) (IsPermutation-sym (reaching 0 es l u) (concat bs)
+    a.members)
+    (subst (λ (ns : List ℕ). IsPermutation ns (concat cs)) (sym (numbers_same es l m dl dm e u v du dv g 0 es))
+    b.members))

@@ -24,27 +24,36 @@ module _ (p q r : Level) (dp : HasDivisor p) (dq : HasDivisor q) (dr : HasDiviso
   same_then_at_most h k = at_most_chain p q r dp dq dr (same_at_least p q h) k
 
 -- ---- those after the first lie above it
-above_first : (l : Level) (ls : List Level) → HasDivisor l → AllByRecursion HasDivisor ls → IsRising (l ∷ ls) → AllByRecursion (IsLower l) ls
+above_first : (l : Level) (ls : List Level) → HasDivisor l → AllByRecursion HasDivisor ls → IsRising (l ∷ ls)
+    → AllByRecursion (IsLower l) ls
 above_first l [] dl ds r = tt
-above_first l (m ∷ ls) dl ds r = (r.0, lifted (λ (l : Level). l) l m ls dl ds.0 ds.1 r.0 (above_first m ls ds.0 ds.1 r.1))
+above_first l (m ∷ ls) dl ds r = (
+  r.0,
+  lifted (λ (l : Level). l) l m ls dl ds.0 ds.1 r.0
+      (above_first m ls ds.0 ds.1 r.1),
+)
 
 rest_rises : (l : Level) (ls : List Level) → IsRising (l ∷ ls) → IsRising ls
 rest_rises l [] r = tt
 rest_rises l (m ∷ ls) r = r.1
 
 -- ---- heights among levels
-below_found : (q p : Level) (ms : List Level) → HasDivisor q → HasDivisor p → AllByRecursion HasDivisor ms → AllByRecursion (IsLower q) ms → HasHeight ms p → IsLower q p
+below_found : (q p : Level) (ms : List Level) → HasDivisor q → HasDivisor p → AllByRecursion HasDivisor ms
+    → AllByRecursion (IsLower q) ms → HasHeight ms p → IsLower q p
 below_found q p [] dq dp ds a h = absurd h
 below_found q p (m ∷ ms) dq dp ds a (inl e) = lower_same q m p dq ds.0 dp a.0 e
 below_found q p (m ∷ ms) dq dp ds a (inr h) = below_found q p ms dq dp ds.1 a.1 h
 
-pub has_same : (ms : List Level) (p q : Level) → AllByRecursion HasDivisor ms → HasDivisor p → HasDivisor q → HasHeight ms p → IsSameHeight p q → HasHeight ms q
+pub has_same : (ms : List Level) (p q : Level) → AllByRecursion HasDivisor ms → HasDivisor p → HasDivisor q
+    → HasHeight ms p → IsSameHeight p q → HasHeight ms q
 has_same [] p q ds dp dq h e = absurd h
 has_same (m ∷ ms) p q ds dp dq (inl k) e = inl (same_chain m p q ds.0 dp dq k e)
 has_same (m ∷ ms) p q ds dp dq (inr h) e = inr (has_same ms p q ds.1 dp dq h e)
 
-first_same : (l m : Level) (ls ms : List Level) → HasDivisor l → HasDivisor m → AllByRecursion HasDivisor ls → AllByRecursion HasDivisor ms
-    → AllByRecursion (IsLower l) ls → AllByRecursion (IsLower m) ms → HasHeight (m ∷ ms) l → HasHeight (l ∷ ls) m → IsSameHeight l m
+first_same : (l m : Level) (ls ms : List Level) → HasDivisor l → HasDivisor m → AllByRecursion HasDivisor ls
+    → AllByRecursion HasDivisor ms
+    → AllByRecursion (IsLower l) ls → AllByRecursion (IsLower m) ms → HasHeight (m ∷ ms) l → HasHeight (l ∷ ls) m
+    → IsSameHeight l m
 first_same l m ls ms dl dm ds es a b (inl e) k = sym e
 first_same l m ls ms dl dm ds es a b (inr h) (inl e) = e
 first_same l m ls ms dl dm ds es a b (inr h) (inr k) =
@@ -52,7 +61,9 @@ first_same l m ls ms dl dm ds es a b (inr h) (inr k) =
     let down : IsLower l m = below_found l m ls dl dm ds a k in
     absurd (omega (arith, ints))
 
-without_first : (l m : Level) (ls ms : List Level) → IsSameHeight l m → AllByRecursion (IsLower l) ls → HasDivisor l → HasDivisor m → AllByRecursion HasDivisor ls → AllByRecursion (HasHeight (m ∷ ms)) ls → AllByRecursion (HasHeight ms) ls
+without_first : (l m : Level) (ls ms : List Level) → IsSameHeight l m → AllByRecursion (IsLower l) ls → HasDivisor l
+    → HasDivisor m → AllByRecursion HasDivisor ls → AllByRecursion (HasHeight (m ∷ ms)) ls
+    → AllByRecursion (HasHeight ms) ls
 without_first l m [] ms e a dl dm ds h = tt
 without_first l m (u ∷ ls) ms e a dl dm ds h = (later h.0, without_first l m ls ms e a.1 dl dm ds.1 h.1)
   where
@@ -63,7 +74,8 @@ without_first l m (u ∷ ls) ms e a dl dm ds h = (later h.0, without_first l m l
         absurd (omega (arith, ints))
     later (inr k) = k
 
-pub one_by_one : (ls ms : List Level) → AllByRecursion HasDivisor ls → AllByRecursion HasDivisor ms → IsRising ls → IsRising ms
+pub one_by_one : (ls ms : List Level) → AllByRecursion HasDivisor ls → AllByRecursion HasDivisor ms → IsRising ls
+    → IsRising ms
     → AllByRecursion (HasHeight ms) ls → AllByRecursion (HasHeight ls) ms → AllZip IsSameHeight ls ms
 one_by_one [] [] dl dm r s h k = tt
 one_by_one [] (m ∷ ms) dl dm r s h k = absurd k.0
@@ -79,16 +91,19 @@ one_by_one (l ∷ ls) (m ∷ ms) dl dm r s h k =
 
 -- ---- levels of one list of edges
 module _ (ms : List Level) (dm : AllByRecursion HasDivisor ms) where
-  carried : (hs : List Level) (p : Level) → AllByRecursion HasDivisor hs → HasDivisor p → AllByRecursion (HasHeight ms) hs → HasHeight hs p → HasHeight ms p
+  carried : (hs : List Level) (p : Level) → AllByRecursion HasDivisor hs → HasDivisor p → AllByRecursion (HasHeight ms)
+      hs → HasHeight hs p → HasHeight ms p
   carried [] p dh dp c h = absurd h
   carried (u ∷ hs) p dh dp c (inl e) = has_same ms u p dm dh.0 dp c.0 e
   carried (u ∷ hs) p dh dp c (inr h) = carried hs p dh.1 dp c.1 h
 
-  all_carried : (hs ls : List Level) → AllByRecursion HasDivisor hs → AllByRecursion HasDivisor ls → AllByRecursion (HasHeight ms) hs → AllByRecursion (HasHeight hs) ls → AllByRecursion (HasHeight ms) ls
+  all_carried : (hs ls : List Level) → AllByRecursion HasDivisor hs → AllByRecursion HasDivisor ls
+      → AllByRecursion (HasHeight ms) hs → AllByRecursion (HasHeight hs) ls → AllByRecursion (HasHeight ms) ls
   all_carried hs [] dh dl c h = tt
   all_carried hs (l ∷ ls) dh dl c h = (carried hs l dh dl.0 c h.0, all_carried hs ls dh dl.1 c h.1)
 
-pub levels_same : (es : List LeafEdge) (ls ms : List Level) → AreLevels es ls → AreLevels es ms → AllZip IsSameHeight ls ms
+pub levels_same : (es : List LeafEdge) (ls ms : List Level) → AreLevels es ls → AreLevels es ms
+    → AllZip IsSameHeight ls ms
 levels_same es ls ms a b =
     one_by_one ls ms a.divisors b.divisors a.rising b.rising
     (all_carried ms b.divisors (heights es) ls (heights_positive es) a.divisors b.complete a.sound)

@@ -30,9 +30,11 @@ side_carried : (bx ad ax bd qy pd py ay by qd qx px : ℤ) → py *ℤ qd ≡ qy
     ≡ ((bx *ℤ ad -ℤ ax *ℤ bd) *ℤ (qy *ℤ ad -ℤ ay *ℤ qd) -ℤ (by *ℤ ad -ℤ ay *ℤ bd) *ℤ (qx *ℤ ad -ℤ ax *ℤ qd)) *ℤ pd
 side_carried bx ad ax bd qy pd py ay by qd qx px h k = two (bx *ℤ ad -ℤ ax *ℤ bd) (by *ℤ ad -ℤ ay *ℤ bd)
   where
-    two : (u v : ℤ) → (u *ℤ (py *ℤ ad -ℤ ay *ℤ pd) -ℤ v *ℤ (px *ℤ ad -ℤ ax *ℤ pd)) *ℤ qd ≡ (u *ℤ (qy *ℤ ad -ℤ ay *ℤ qd) -ℤ v *ℤ (qx *ℤ ad -ℤ ax *ℤ qd)) *ℤ pd
+    two : (u v : ℤ) → (u *ℤ (py *ℤ ad -ℤ ay *ℤ pd) -ℤ v *ℤ (px *ℤ ad -ℤ ax *ℤ pd)) *ℤ qd
+        ≡ (u *ℤ (qy *ℤ ad -ℤ ay *ℤ qd) -ℤ v *ℤ (qx *ℤ ad -ℤ ax *ℤ qd)) *ℤ pd
     two u v =
-        ring (u ∷ v ∷ py ∷ px ∷ ad ∷ ay ∷ ax ∷ pd ∷ qd ∷ []) ((v0 ⊗ (v2 ⊗ v4 ⊖ v5 ⊗ v7) ⊖ v1 ⊗ (v3 ⊗ v4 ⊖ v6 ⊗ v7)) ⊗ v8)
+        ring (u ∷ v ∷ py ∷ px ∷ ad ∷ ay ∷ ax ∷ pd ∷ qd ∷ []) ((v0 ⊗ (v2 ⊗ v4 ⊖ v5 ⊗ v7) ⊖ v1 ⊗ (v3 ⊗ v4 ⊖ v6 ⊗ v7)) ⊗
+        v8)
         (v0 ⊗ ((v2 ⊗ v8) ⊗ v4 ⊖ v5 ⊗ (v7 ⊗ v8)) ⊖ v1 ⊗ ((v3 ⊗ v8) ⊗ v4 ⊖ v6 ⊗ (v7 ⊗ v8))) refl
         ∙ ap₂ (λ (s t : ℤ). u *ℤ (s *ℤ ad -ℤ ay *ℤ (pd *ℤ qd)) -ℤ v *ℤ (t *ℤ ad -ℤ ax *ℤ (pd *ℤ qd))) h k
         ∙ ring (u ∷ v ∷ qy ∷ qx ∷ ad ∷ ay ∷ ax ∷ pd ∷ qd ∷ [])
@@ -56,13 +58,15 @@ module _ (p q : Point) (dp : pos 0 <ℤ p.d) (dq : pos 0 <ℤ q.d) (e : is_same_
       forth : int_lt (p.y *ℤ b.d) (b.y *ℤ p.d) ≡ true → int_lt (q.y *ℤ b.d) (b.y *ℤ q.d) ≡ true
       forth h =
           let k : IsLower (height p) (height b) = omega (arith, ints) in
-          let m : IsLower (height q) (height b) = at_most_then_lower (height q) (height p) (height b) dq dp db (same_at_most (height p) (height q) same.y) k in
+          let m : IsLower (height q) (height b) = at_most_then_lower (height q) (height p) (height b) dq dp db
+          (same_at_most (height p) (height q) same.y) k in
           sym (omega (arith, ints))
 
       back : int_lt (q.y *ℤ b.d) (b.y *ℤ q.d) ≡ true → int_lt (p.y *ℤ b.d) (b.y *ℤ p.d) ≡ true
       back h =
           let k : IsLower (height q) (height b) = omega (arith, ints) in
-          let m : IsLower (height p) (height b) = at_most_then_lower (height p) (height q) (height b) dp dq db (same_at_least (height p) (height q) same.y) k in
+          let m : IsLower (height p) (height b) = at_most_then_lower (height p) (height q) (height b) dp dq db
+          (same_at_least (height p) (height q) same.y) k in
           sym (omega (arith, ints))
   over_same false b w = both_ways (int_le (p.y *ℤ b.d) (b.y *ℤ p.d)) (int_le (q.y *ℤ b.d) (b.y *ℤ q.d)) forth back
     where
@@ -72,24 +76,29 @@ module _ (p q : Point) (dp : pos 0 <ℤ p.d) (dq : pos 0 <ℤ q.d) (e : is_same_
       forth : int_le (p.y *ℤ b.d) (b.y *ℤ p.d) ≡ true → int_le (q.y *ℤ b.d) (b.y *ℤ q.d) ≡ true
       forth h =
           let k : IsAtMost (height p) (height b) = omega (arith, ints) in
-          let m : IsAtMost (height q) (height b) = at_most_chain (height q) (height p) (height b) dq dp db (same_at_most (height p) (height q) same.y) k in
+          let m : IsAtMost (height q) (height b) = at_most_chain (height q) (height p) (height b) dq dp db
+          (same_at_most (height p) (height q) same.y) k in
           sym (omega (arith, ints))
 
       back : int_le (q.y *ℤ b.d) (b.y *ℤ q.d) ≡ true → int_le (p.y *ℤ b.d) (b.y *ℤ p.d) ≡ true
       back h =
           let k : IsAtMost (height q) (height b) = omega (arith, ints) in
-          let m : IsAtMost (height p) (height b) = at_most_chain (height p) (height q) (height b) dp dq db (same_at_least (height p) (height q) same.y) k in
+          let m : IsAtMost (height p) (height b) = at_most_chain (height p) (height q) (height b) dp dq db
+          (same_at_least (height p) (height q) same.y) k in
           sym (omega (arith, ints))
 
-  passage_same : (above : Bool) (f : Edge) → passage_by above p (whole f.a) (whole f.b) ≡ passage_by above q (whole f.a) (whole f.b)
+  passage_same : (above : Bool) (f : Edge) → passage_by above p (whole f.a) (whole f.b) ≡ passage_by above q (whole f.a)
+      (whole f.b)
   unfolding passage_by
-  passage_same above f = ap₂ (λ (s t : Bool). counted s -ℤ counted t) (over_same above (whole f.b) refl) (over_same above (whole f.a) refl)
+  passage_same above f = ap₂ (λ (s t : Bool). counted s -ℤ counted t) (over_same above (whole f.b) refl)
+      (over_same above (whole f.a) refl)
 
   side_same : (a b : Point) → side_by p a b *ℤ q.d ≡ side_by q a b *ℤ p.d
   unfolding side_by
   side_same a b = side_carried b.x a.d a.x b.d q.y p.d p.y a.y b.y q.d q.x p.x same.y same.x
 
-  turn_same : (above right : Bool) (f : Edge) → turn above right p (whole f.a) (whole f.b) ≡ turn above right q (whole f.a) (whole f.b)
+  turn_same : (above right : Bool) (f : Edge) → turn above right p (whole f.a) (whole f.b) ≡ turn above right q
+      (whole f.a) (whole f.b)
   unfolding turn
   turn_same above right f =
       let a : Point = whole f.a in
@@ -99,11 +108,13 @@ module _ (p q : Point) (dp : pos 0 <ℤ p.d) (dq : pos 0 <ℤ q.d) (e : is_same_
       ∙ ap (λ (z : ℤ). is_beyond right (z *ℤ side_by q a b)) (passage_same above f))
       (passage_same above f)
 
-  wind_same : (above right : Bool) (fs : List Edge) → wind_by above right p (segments fs) ≡ wind_by above right q (segments fs)
+  wind_same : (above right : Bool) (fs : List Edge) → wind_by above right p (segments fs) ≡ wind_by above right q
+      (segments fs)
   wind_same above right [] = refl
   wind_same above right (f ∷ fs) = ap₂ (λ (y z : ℤ). y +ℤ z) (turn_same above right f) (wind_same above right fs)
 
-  pub value_same : (above right : Bool) (es : List LeafEdge) (s t : Shape) → HoldAlike es s t → is_in_by above right es s p ≡ is_in_by above right es t q
+  pub value_same : (above right : Bool) (es : List LeafEdge) (s t : Shape) → HoldAlike es s t
+      → is_in_by above right es s p ≡ is_in_by above right es t q
   unfolding is_in_by
   value_same above right es s t h =
       (λ i. shape_holds (λ leaf. not (is_zero (wind_same above right (edges_of leaf es) i))) s)

@@ -24,16 +24,3 @@ pub fn layers_are_one()
 pub fn layers_have_outlines()
     ensures { LayersHaveOutlines }
 {}
-
-#[cfg(test)]
-mod tests {
-    use super::*;
-
-    #[test]
-    fn laws_are_called() {
-        pieces_are_same();
-        outlines_are_one();
-        layers_are_one();
-        layers_have_outlines();
-    }
-}

@@ -14,3 +14,4 @@ pub mod Beyond
 pub mod Deciding
 pub mod Searched
 pub mod SomeRuns
+pub mod Lengths

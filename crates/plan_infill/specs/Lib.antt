@@ -6,3 +6,4 @@ pub mod Sweep
 pub mod Columns
 pub mod Reach
 pub mod There
+pub mod Lengths

@@ -1,17 +1,13 @@
 //! Laws of the definitions, each carried by the contract of a function that does nothing.
 ghost use Rattle.plan_infill.specs.There.{RunsAreThere};
+ghost use Rattle.plan_infill.specs.Lengths.{RunsHaveLengths};
 
 /// Each line has its runs, whatever the outlines, the distance and the least length.
 pub fn runs_are_there()
     ensures { RunsAreThere }
 {}
 
-#[cfg(test)]
-mod tests {
-    use super::*;
-
-    #[test]
-    fn laws_are_called() {
-        runs_are_there();
-    }
-}
+/// The ends of a run differ where it has to have some length.
+pub fn runs_have_lengths()
+    ensures { RunsHaveLengths }
+{}

@@ -9,8 +9,6 @@ pub mod laws;
 mod line;
 mod near_steps;
 mod quotient;
-#[cfg(test)]
-mod random_outlines;
 mod run;
 mod step;
 mod stretch;

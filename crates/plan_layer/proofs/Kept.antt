@@ -20,6 +20,7 @@ use Rattle.scad_geom.proofs.Signs.{at_least_mul, sub_mul}
 use Rattle.winding_laws.proofs.Parts.{on_turned}
 use Rattle.plan_infill.specs.declared.run.Run.{Run}
 use Rattle.plan_infill.specs.Runs.{point_on}
+use Rattle.plan_walls.specs.Walls.{AreWalls}
 use Rattle.plan_walls.specs.Kept.{KeepsWithin, WallsKeepClear}
 use Rattle.scad_words.specs.declared.settings.Settings.{Settings}
 use Rattle.scad_words.specs.Settings.{AreInRange}
@@ -30,6 +31,7 @@ use Rattle.plan_layer.specs.Infill.{infill_paths}
 use Rattle.plan_layer.specs.Plan.{IsPlan}
 use Rattle.plan_layer.specs.Kept.{KeepsClear, PathsKeepClear, PlansKeepClear}
 use Rattle.plan_layer.proofs.Runs.{runs_keep_clear}
+use Rattle.plan_layer.proofs.Each.{plan_holds}
 
 -- ---- a smaller distance is kept too
 half_wider : (h k x w : ℤ) → h ≤ℤ k → pos 0 ≤ℤ w → IsHalf h x w → IsHalf k x w
@@ -65,34 +67,15 @@ move_keeps_less : (outlines : List (List Pt)) (b c : ℕ) (e : Edge) → b ≤ c
     → KeepsClear outlines b e
 move_keeps_less outlines b c e o k q hd on = keeps_less outlines b c q o hd (k q hd on)
 
--- ---- the moves of a loop are its sides
-pub moves_back : (from : Pt) (ps : List Pt) (last : Pt) → moves_from from (ps ++ last ∷ []) ≡ path from ps last
-moves_back from [] last = refl
-moves_back from (p ∷ ps) last = ap (λ (es : List Edge). record { a = from; b = p } ∷ es) (moves_back p ps last)
-
-pub round_moves : (l : List Pt) → moves (round l) ≡ sides l
-round_moves [] = refl
-round_moves (p ∷ ps) = moves_back p ps p
-
-rounds_moves : (loops : List (List Pt)) → all_moves (map round loops) ≡ flat_map sides loops
-rounds_moves [] = refl
-rounds_moves (l ∷ ls) = ap₂ (λ (x y : List Edge). x ++ y) (round_moves l) (rounds_moves ls)
-
 module _ (outlines : List (List Pt)) (layer : ℕ) (s : Settings) (range : AreInRange s) where
   -- ---- walls
-  wall_keeps : WallsKeepClear → (k : ℕ) (walls : List (List (List Pt))) → AreWallsFrom s.line_width k outlines walls
-      → All (KeepsClear outlines (s.line_width / 2)) (all_moves (wall_paths walls))
-  wall_keeps law k [] h = All-nil (KeepsClear outlines (s.line_width / 2))
-  wall_keeps law k (loops ∷ walls) h =
+  walls_keep : WallsKeepClear → (k : ℕ) (loops : List (List Pt)) → AreWalls (distance s.line_width k) outlines loops
+      → All (KeepsClear outlines (s.line_width / 2)) (flat_map sides loops)
+  walls_keep law k loops are =
       let least = range.line_width.least in
-      subst (λ (es : List Edge). All (KeepsClear outlines (s.line_width / 2)) es)
-      (sym (flat_map-append moves (map round loops) (wall_paths walls)
-      ∙ ap (λ (es : List Edge). es ++ all_moves (wall_paths walls)) (rounds_moves loops)))
-      (All-append (KeepsClear outlines (s.line_width / 2)) (flat_map sides loops) (all_moves (wall_paths walls))
-      (All-weaker (KeepsClear outlines (distance s.line_width k)) (KeepsClear outlines (s.line_width / 2))
+      All-weaker (KeepsClear outlines (distance s.line_width k)) (KeepsClear outlines (s.line_width / 2))
       (λ e m. move_keeps_less outlines (s.line_width / 2) (distance s.line_width k) e (omega arith) m)
-      (flat_map sides loops) (law (distance s.line_width k) outlines loops (omega arith) h.0))
-      (wall_keeps law (k + 1) walls h.1))
+      (flat_map sides loops) (law (distance s.line_width k) outlines loops (omega arith) are)
 
   -- ---- infill
   -- infill lies at least one width of a line deep
@@ -122,53 +105,12 @@ module _ (outlines : List (List Pt)) (layer : ℕ) (s : Settings) (range : AreIn
       forwards_keeps z r is q hd (on_turned (whole (point_on (line_at layer z) r.to))
       (whole (point_on (line_at layer z) r.from)) q on)
 
-  line_keeps : (up : Bool) (z : ℤ) (rs : List Run) → AllByRecursion (IsLayerRun outlines layer s z) rs
-      → All (KeepsClear outlines (s.line_width / 2)) (all_moves (line_paths up (line_at layer z) rs))
-  line_keeps true z [] h = All-nil (KeepsClear outlines (s.line_width / 2))
-  line_keeps true z (r ∷ rs) h =
-      All-cons (KeepsClear outlines (s.line_width / 2)) (record {
-        a =
-            point_on (line_at layer z) r.from;
-        b = point_on (line_at layer z) r.to;
-      })
-      (all_moves (line_paths true (line_at layer z) rs))
-      (forwards_keeps z r h.0) (line_keeps true z rs h.1)
-  line_keeps false z [] h = All-nil (KeepsClear outlines (s.line_width / 2))
-  line_keeps false z (r ∷ rs) h =
-      subst (λ (es : List Edge). All (KeepsClear outlines (s.line_width / 2)) es)
-      (sym (ap (λ (xs : List Run). all_moves (map (backwards (line_at layer z)) xs)) (reverse_onto rs r [])
-      ∙ ap all_moves (map-append (backwards (line_at layer z)) (reverse rs) (r ∷ []))
-      ∙ flat_map-append moves (map (backwards (line_at layer z)) (reverse rs)) (backwards (line_at layer z) r ∷ [])))
-      (All-append (KeepsClear outlines (s.line_width / 2)) (all_moves (line_paths false (line_at layer z) rs))
-      (all_moves (backwards (line_at layer z) r ∷ []))
-      (line_keeps false z rs h.1)
-      (All-cons (KeepsClear outlines (s.line_width / 2))
-      (record { a = point_on (line_at layer z) r.to; b = point_on (line_at layer z) r.from }) []
-      (backwards_keeps z r h.0) (All-nil (KeepsClear outlines (s.line_width / 2)))))
-
-  infill_keeps : (up : Bool) (lines : List LineRuns) → AllByRecursion (IsFilled outlines layer s) lines
-      → All (KeepsClear outlines (s.line_width / 2)) (all_moves (infill_paths layer up lines))
-  infill_keeps up [] h = All-nil (KeepsClear outlines (s.line_width / 2))
-  infill_keeps up (l ∷ ls) h =
-      subst (λ (es : List Edge). All (KeepsClear outlines (s.line_width / 2)) es)
-      (sym (flat_map-append moves (line_paths up (line_at layer l.at) l.runs) (infill_paths layer (not up) ls)))
-      (All-append (KeepsClear outlines (s.line_width / 2)) (all_moves (line_paths up (line_at layer l.at) l.runs))
-      (all_moves (infill_paths layer (not up) ls))
-      (line_keeps up l.at l.runs (recursion_from_All (IsLayerRun outlines layer s l.at) l.runs h.0.runs.each))
-      (infill_keeps (not up) ls h.1))
-
-  pub plan_keeps : WallsKeepClear → (paths : List (List Pt)) → IsPlan outlines layer s paths
-      → PathsKeepClear outlines (s.line_width / 2) paths
-  plan_keeps law paths p =
-      let w = p.are_walls in
-      subst (λ (ps : List (List Pt)). PathsKeepClear outlines (s.line_width / 2) ps)
-      (sym (p.paths_are ∙ ap (λ (ps : List (List Pt)). ps ++ infill_paths layer true p.lines) w.paths_are))
-      (subst (λ (es : List Edge). All (KeepsClear outlines (s.line_width / 2)) es)
-      (sym (flat_map-append moves (wall_paths w.walls) (infill_paths layer true p.lines)))
-      (All-append (KeepsClear outlines (s.line_width / 2)) (all_moves (wall_paths w.walls))
-      (all_moves (infill_paths layer true p.lines))
-      (wall_keeps law 0 w.walls w.are_walls)
-      (infill_keeps true p.lines (recursion_from_All (IsFilled outlines layer s) p.lines p.are_filled.each))))
-
 pub plans_keep_clear : WallsKeepClear → PlansKeepClear
-plans_keep_clear law outlines layer s paths range p = plan_keeps outlines layer s range law paths p
+plans_keep_clear law outlines layer s paths range p =
+    plan_holds (KeepsClear outlines (s.line_width / 2)) outlines layer s
+    (record {
+      walls = walls_keep outlines layer s range law;
+      there = forwards_keeps outlines layer s range;
+      back = backwards_keeps outlines layer s range;
+    })
+    paths p

@@ -1,7 +1,9 @@
 pub mod Under
 pub mod Runs
 pub mod Beyond
+pub mod Each
 pub mod Kept
+pub mod Lengths
 pub mod Extents
 pub mod Multiples
 pub mod Filled

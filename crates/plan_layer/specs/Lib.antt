@@ -4,6 +4,7 @@ pub mod Infill
 pub mod Extent
 pub mod Plan
 pub mod Kept
+pub mod Lengths
 pub mod Refusal
 pub mod There
 pub mod One

@@ -1,5 +1,6 @@
 //! Laws of the definitions, each carried by the contract of a function that does nothing.
 ghost use Rattle.plan_layer.specs.Kept.{RunsKeepClear, PlansKeepClear};
+ghost use Rattle.plan_layer.specs.Lengths.{PlansHaveLengths};
 ghost use Rattle.plan_layer.specs.There.{WallsAreThere, PlansAreThere, PlansAreDecided};
 ghost use Rattle.plan_layer.specs.One.{PlansAreOne, RefusalsAreOne, AcceptedIsNotRefused};
 
@@ -18,6 +19,11 @@ pub fn plans_keep_clear()
 {
     walls_keep_clear();
 }
+
+/// Each move of a plan has a length.
+pub fn plans_have_lengths()
+    ensures { PlansHaveLengths }
+{}
 
 /// A layer has one plan over its outlines.
 pub fn plans_are_one()

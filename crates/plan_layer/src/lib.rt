@@ -10,10 +10,6 @@ mod infill_paths;
 pub mod laws;
 mod lines;
 mod planning;
-#[cfg(test)]
-mod random_outlines;
-#[cfg(test)]
-mod tests;
 mod wall_paths;
 
 pub use fault::PlanFault;

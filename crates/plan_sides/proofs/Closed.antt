@@ -32,6 +32,7 @@ round q (p ∷ ps) es h = let a = along q p ps p es in omega (arith, a, h)
 pub sides_balanced : SidesAreBalanced
 sides_balanced outlines = record { each = λ q some. all q outlines }
   where
-    all : (q : Point) (outlines : List (List Pt)) → starts_at q (segments (flat_map sides outlines)) ≡ ends_at q (segments (flat_map sides outlines))
+    all : (q : Point) (outlines : List (List Pt)) → starts_at q (segments (flat_map sides outlines))
+        ≡ ends_at q (segments (flat_map sides outlines))
     all q [] = refl
     all q (l ∷ ls) = round q l (flat_map sides ls) (all q ls)

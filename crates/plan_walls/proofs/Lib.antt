@@ -11,3 +11,4 @@ pub mod Off
 pub mod Clear
 pub mod Inside
 pub mod Kept
+pub mod Lengths

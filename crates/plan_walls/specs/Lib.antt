@@ -1,4 +1,5 @@
 pub mod Rings
 pub mod Walls
 pub mod Kept
+pub mod Lengths
 pub mod Refusal

@@ -1,6 +1,7 @@
 //! Laws of the definitions, each carried by the contract of a function that does nothing.
 ghost use Rattle.plan_walls.specs.Rings.{LeftIsWound};
 ghost use Rattle.plan_walls.specs.Kept.{WallsKeepClear};
+ghost use Rattle.plan_walls.specs.Lengths.{WallsHaveLengths};
 
 /// A closed way with a point to the left of each of its sides winds round the point counter-clockwise, hard by it on
 /// each side.
@@ -14,13 +15,7 @@ pub fn walls_keep_clear()
     ensures { WallsKeepClear }
 {}
 
-#[cfg(test)]
-mod tests {
-    use super::*;
-
-    #[test]
-    fn laws_are_called() {
-        left_is_wound();
-        walls_keep_clear();
-    }
-}
+/// Each side of the loops of walls has a length.
+pub fn walls_have_lengths()
+    ensures { WallsHaveLengths }
+{}

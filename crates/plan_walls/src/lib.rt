@@ -6,8 +6,6 @@
 
 mod edges;
 pub mod laws;
-#[cfg(test)]
-mod random_outlines;
 mod shape;
 mod walling;
 

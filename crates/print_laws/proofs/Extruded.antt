@@ -1,101 +1,159 @@
 -- Which moves of a program extrude.
 use Rattle.std.proofs.Common.{◌≡◌, ◌+◌, ℕ, Bool, true, false, not, cond, List, [], ◌∷◌, ◌++◌, map, refl, ap, ap₂}
-use Rattle.std.proofs.Common.{◌∙◌, sym, ℤ, pos, ◌*ℤ◌, arith}
-use Rattle.std.specs.Prelude.{◌&&◌}
-use Rattle.std.specs.List.{filter}
+use Rattle.std.proofs.Common.{◌∙◌, sym, pos, arith}
+use Rattle.std.specs.Prelude.{All}
+use Rattle.std.specs.List.{filter, AllByRecursion}
 use Rattle.std.specs.Ordering.{int_eq}
-use Rattle.std.proofs.lemmas.Int.{ints}
+use Rattle.std.proofs.lemmas.Bool.{and_parts}
 use Rattle.std.proofs.lemmas.List.{map-append}
-use Rattle.std.proofs.lemmas.List.Elements.{filter-append}
+use Rattle.std.proofs.lemmas.List.Elements.{filter-append, recursion_from_All}
+use Rattle.scad_base.proofs.Tests.{int_eq-true}
 use Rattle.scad_geom.specs.declared.point.Pt.{Pt}
 use Rattle.scad_geom.specs.declared.point.Edge.{Edge}
 use Rattle.scad_geom.specs.declared.point3.Pt3.{Pt3}
-use Rattle.winding_laws.specs.Rounded.{has_length}
+use Rattle.slice_loops.specs.Lengths.{HasLength}
 use Rattle.plan_layer.specs.Moves.{moves_from, moves, all_moves}
 use Rattle.gcode_text.specs.declared.machine.Move.{Move}
 use Rattle.gcode_text.specs.declared.rates.Rates.{Rates}
-use Rattle.gcode_text.specs.Amount.{move_volume, path_volume, paths_volume}
+use Rattle.gcode_text.specs.Amount.{move_volume, moves_volume, path_volume, paths_volume, filament}
 use Rattle.gcode_text.specs.Machine.{stays, origin}
-use Rattle.gcode_text.specs.Moves.{at_height, printing, printing_moves, path_moves, behind_path, paths_moves}
+use Rattle.gcode_text.specs.Moves.{at_height, printing_moves, path_moves, behind_path, paths_moves}
 use Rattle.gcode_text.specs.Moves.{behind_paths, raised, surface, layer_moves, layers_moves}
-use Rattle.print_laws.specs.Extruded.{way, extruded, way_along, ways_along, ways_from, SidesAreExtruded}
+use Rattle.print_laws.specs.Extruded.{extruding, Side, sides_from, move_along, moves_along}
+use Rattle.print_laws.specs.Laws.{SidesAreExtruded}
+use Rattle.print_laws.proofs.Points.{all_front, all_back}
 
-extruded_behind : (ms ns : List Move) → extruded (ms ++ ns) ≡ extruded ms ++ extruded ns
-extruded_behind ms ns =
-    ap (map way) (filter-append (λ (m : Move). m.extruding) ms ns)
-    ∙ map-append way (filter (λ (m : Move). m.extruding) ms) (filter (λ (m : Move). m.extruding) ns)
+-- ---- which extrude
+extruding_behind : (ms ns : List Move) → extruding (ms ++ ns) ≡ extruding ms ++ extruding ns
+extruding_behind ms ns = filter-append (λ (m : Move). m.extruding) ms ns
 
-ways_behind : (z : ℕ) (es fs : List Edge)
-    → map (way_along z) (filter has_length (es ++ fs))
-    ≡ map (way_along z) (filter has_length es) ++ map (way_along z) (filter has_length fs)
-ways_behind z es fs =
-    ap (map (way_along z)) (filter-append has_length es fs)
-    ∙ map-append (way_along z) (filter has_length es) (filter has_length fs)
+-- where the ends of a side differ, so do those of the move
+stays_same : (z : ℕ) (a b : Pt) → stays (at_height a z) (at_height b z) ≡ true → a ≡ b
+stays_same z a b h =
+    let both = and_parts (int_eq a.x b.x) (int_eq a.y b.y) h in
+    let x = int_eq-true a.x b.x both.0 in
+    let y = int_eq-true a.y b.y both.1 in
+    λ k. record { x = x k; y = y k }
 
--- a printing move extrudes where its side has a length
-and_turned : (a b : Bool) → (a && b) ≡ (b && a)
-and_turned true true = refl
-and_turned true false = refl
-and_turned false true = refl
-and_turned false false = refl
+extrudes : (z : ℕ) (a b : Pt) → HasLength (record { a = a; b = b }) → not (stays (at_height a z) (at_height b z)) ≡ true
+extrudes z a b long = by_test (stays (at_height a z) (at_height b z)) refl
+  where
+    by_test : (t : Bool) → stays (at_height a z) (at_height b z) ≡ t → not t ≡ true
+    by_test true h = absurd (long (stays_same z a b h))
+    by_test false h = refl
 
-once : (z : ℤ) → z ≡ z *ℤ pos 1
-once z = omega (arith, ints)
-
-extrudes : (z : ℕ) (a b : Pt)
-    → not (stays (at_height a z) (at_height b z)) ≡ has_length (record { a = a; b = b })
-extrudes z a b =
-    ap not (and_turned (int_eq a.x b.x) (int_eq a.y b.y)
-    ∙ ap₂ (λ (p q : Bool). p && q) (ap₂ int_eq (once a.y) (once b.y)) (ap₂ int_eq (once a.x) (once b.x)))
-
--- with one move more, and one side
-with_first : (b : Bool) (z : ℕ) (m : Move) (e : Edge) (ms : List Move) (es : List Edge) → way m ≡ way_along z e
-    → map way ms ≡ map (way_along z) es → map way (cond b (m ∷ ms) ms) ≡ map (way_along z) (cond b (e ∷ es) es)
-with_first true z m e ms es h k = ap₂ (λ (w : Pt3 × Pt3) (ws : List (Pt3 × Pt3)). w ∷ ws) h k
-with_first false z m e ms es h k = k
+-- ---- sides at a height
+abbrev side_at : ℕ → Edge → Side
+side_at z e = record { z = z; edge = e }
 
 module _ (rates : Rates) where
-  printing_ways : (z v : ℕ) (from : Pt) (ps : List Pt)
-      → extruded (printing_moves rates z v from ps) ≡ map (way_along z) (filter has_length (moves_from from ps))
-  unfolding printing_moves
-  printing_ways z v from [] = refl
-  printing_ways z v from (to ∷ ps) =
-      let e : Edge = record { a = from; b = to } in
-      let m : Move = printing rates z v from to in
-      let ms : List Move = printing_moves rates z (v + move_volume rates from to) to ps in
-      let rest : List Move = filter (λ (n : Move). n.extruding) ms in
-      ap (λ (b : Bool). map way (cond b (m ∷ rest) rest)) (extrudes z from to)
-      ∙ with_first (has_length e) z m e rest (filter has_length (moves_from to ps)) refl
-      (printing_ways z (v + move_volume rates from to) to ps)
+  -- the volume of sides
+  volume_of : List Side → ℕ
+  volume_of [] = 0
+  volume_of (side ∷ sides) = move_volume rates side.edge.a side.edge.b + volume_of sides
 
-  path_ways : (z v : ℕ) (here : Pt3) (path : List Pt)
-      → extruded (path_moves rates z v here path) ≡ map (way_along z) (filter has_length (moves path))
+  along_behind : (v : ℕ) (ss ts : List Side)
+      → moves_along rates v (ss ++ ts) ≡ moves_along rates v ss ++ moves_along rates (v + volume_of ss) ts
+  unfolding volume_of
+  along_behind v [] ts = let e : v ≡ v + 0 = omega arith in ap (λ (n : ℕ). moves_along rates n ts) e
+  along_behind v (s ∷ ss) ts =
+      let here : ℕ = move_volume rates s.edge.a s.edge.b in
+      let e : (v + here) + volume_of ss ≡ v + (here + volume_of ss) = omega arith in
+      ap (λ (ms : List Move). move_along rates v s ∷ ms)
+      (along_behind (v + here) ss ts
+      ∙ ap (λ (n : ℕ). moves_along rates (v + here) ss ++ moves_along rates n ts) e)
+
+  volume_behind : (ss ts : List Side) → volume_of (ss ++ ts) ≡ volume_of ss + volume_of ts
+  unfolding volume_of
+  volume_behind [] ts = omega arith
+  volume_behind (s ∷ ss) ts = let more = volume_behind ss ts in omega (arith, more)
+
+  -- the volume of a path is that of its sides
+  from_volume : (z : ℕ) (from : Pt) (ps : List Pt) → volume_of (map (side_at z) (moves_from from ps)) ≡ moves_volume
+      rates from ps
+  unfolding volume_of moves_volume
+  from_volume z from [] = refl
+  from_volume z from (to ∷ ps) = ap (λ (n : ℕ). move_volume rates from to + n) (from_volume z to ps)
+
+  one_volume : (z : ℕ) (path : List Pt) → volume_of (map (side_at z) (moves path)) ≡ path_volume rates path
+  unfolding volume_of path_volume
+  one_volume z [] = refl
+  one_volume z (p ∷ ps) = from_volume z p ps
+
+  all_volume : (z : ℕ) (paths : List (List Pt)) → volume_of (map (side_at z) (all_moves paths)) ≡ paths_volume rates
+      paths
+  unfolding volume_of paths_volume
+  all_volume z [] = refl
+  all_volume z (path ∷ paths) =
+      ap volume_of (map-append (side_at z) (moves path) (all_moves paths))
+      ∙ volume_behind (map (side_at z) (moves path)) (map (side_at z) (all_moves paths))
+      ∙ ap₂ (λ (m n : ℕ). m + n) (one_volume z path) (all_volume z paths)
+
+  -- ---- the moves that extrude
+  marked : ℕ → ℕ → Pt → Pt → Bool → Move
+  marked z v from to extrudes = record {
+    from = at_height from z;
+    to = at_height to z;
+    from_e = pos (filament rates v);
+    to_e = pos (filament rates (v + move_volume rates from to));
+    extruding = extrudes;
+  }
+
+  printing_along : (z v : ℕ) (from : Pt) (ps : List Pt) → AllByRecursion HasLength (moves_from from ps)
+      → extruding (printing_moves rates z v from ps) ≡ moves_along rates v (map (side_at z) (moves_from from ps))
+  unfolding printing_moves marked
+  printing_along z v from [] long = refl
+  printing_along z v from (to ∷ ps) long =
+      let rest : List Move = extruding (printing_moves rates z (v + move_volume rates from to) to ps) in
+      ap (λ (b : Bool). cond b (marked z v from to b ∷ rest) rest) (extrudes z from to long.0)
+      ∙ ap (λ (ms : List Move). marked z v from to true ∷ ms) (printing_along z (v + move_volume rates from to) to ps
+      long.1)
+
+  path_along : (z v : ℕ) (here : Pt3) (path : List Pt) → AllByRecursion HasLength (moves path)
+      → extruding (path_moves rates z v here path) ≡ moves_along rates v (map (side_at z) (moves path))
   unfolding path_moves
-  path_ways z v here [] = refl
-  path_ways z v here (p ∷ ps) = printing_ways z v p ps
+  path_along z v here [] long = refl
+  path_along z v here (p ∷ ps) long = printing_along z v p ps long
 
-  paths_ways : (z v : ℕ) (here : Pt3) (paths : List (List Pt))
-      → extruded (paths_moves rates z v here paths) ≡ ways_along z paths
+  paths_along : (z v : ℕ) (here : Pt3) (paths : List (List Pt)) → AllByRecursion HasLength (all_moves paths)
+      → extruding (paths_moves rates z v here paths) ≡ moves_along rates v (map (side_at z) (all_moves paths))
   unfolding paths_moves
-  paths_ways z v here [] = refl
-  paths_ways z v here (path ∷ paths) =
+  paths_along z v here [] long = refl
+  paths_along z v here (path ∷ paths) long =
       let w : ℕ = v + path_volume rates path in
-      extruded_behind (path_moves rates z v here path) (paths_moves rates z w (behind_path z here path) paths)
-      ∙ ap₂ (λ (x y : List (Pt3 × Pt3)). x ++ y) (path_ways z v here path)
-      (paths_ways z w (behind_path z here path) paths)
-      ∙ sym (ways_behind z (moves path) (all_moves paths))
+      let first : List Side = map (side_at z) (moves path) in
+      let rest : List Side = map (side_at z) (all_moves paths) in
+      extruding_behind (path_moves rates z v here path) (paths_moves rates z w (behind_path z here path) paths)
+      ∙ ap₂ (λ (x y : List Move). x ++ y) (path_along z v here path (all_front HasLength (moves path) (all_moves paths)
+      long))
+      (paths_along z w (behind_path z here path) paths (all_back HasLength (moves path) (all_moves paths) long))
+      ∙ ap (λ (n : ℕ). moves_along rates v first ++ moves_along rates (v + n) rest) (sym (one_volume z path))
+      ∙ sym (along_behind v first rest)
+      ∙ ap (moves_along rates v) (sym (map-append (side_at z) (moves path) (all_moves paths)))
 
-  layers_ways : (v i : ℕ) (here : Pt3) (layers : List (List (List Pt)))
-      → extruded (layers_moves rates v i here layers) ≡ ways_from rates.layer_height i layers
+  layers_along : (v i : ℕ) (here : Pt3) (layers : List (List (List Pt)))
+      → AllByRecursion (λ paths. AllByRecursion HasLength (all_moves paths)) layers
+      → extruding (layers_moves rates v i here layers) ≡ moves_along rates v (sides_from rates.layer_height i layers)
   unfolding layers_moves layer_moves
-  layers_ways v i here [] = refl
-  layers_ways v i here (paths ∷ layers) =
-      let up : Pt3 = raised here (surface rates i) in
-      let next : Pt3 = behind_paths (surface rates i) up paths in
+  layers_along v i here [] long = refl
+  layers_along v i here (paths ∷ layers) long =
+      let z : ℕ = surface rates i in
+      let up : Pt3 = raised here z in
+      let next : Pt3 = behind_paths z up paths in
       let w : ℕ = v + paths_volume rates paths in
-      extruded_behind (paths_moves rates (surface rates i) v up paths) (layers_moves rates w (i + 1) next layers)
-      ∙ ap₂ (λ (x y : List (Pt3 × Pt3)). x ++ y) (paths_ways (surface rates i) v up paths)
-      (layers_ways w (i + 1) next layers)
+      let first : List Side = map (side_at z) (all_moves paths) in
+      let rest : List Side = sides_from rates.layer_height (i + 1) layers in
+      extruding_behind (paths_moves rates z v up paths) (layers_moves rates w (i + 1) next layers)
+      ∙ ap₂ (λ (x y : List Move). x ++ y) (paths_along z v up paths long.0) (layers_along w (i + 1) next layers long.1)
+      ∙ ap (λ (n : ℕ). moves_along rates v first ++ moves_along rates (v + n) rest) (sym (all_volume z paths))
+      ∙ sym (along_behind v first rest)
+
+each_length : (paths : List (List (List Pt))) → AllByRecursion (λ p. (All HasLength (all_moves p))) paths
+    → AllByRecursion (λ p. AllByRecursion HasLength (all_moves p)) paths
+each_length [] h = tt
+each_length (p ∷ ps) h = (recursion_from_All HasLength (all_moves p) h.0, each_length ps h.1)
 
 pub sides_are_extruded : SidesAreExtruded
-sides_are_extruded rates layers = layers_ways rates 0 0 origin layers
+sides_are_extruded rates layers long =
+    layers_along rates 0 0 origin layers
+    (each_length layers (recursion_from_All (λ paths. All HasLength (all_moves paths)) layers long))

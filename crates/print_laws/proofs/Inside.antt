@@ -15,12 +15,13 @@ use Rattle.gcode_text.specs.declared.machine.Move.{Move}
 use Rattle.gcode_text.specs.Amount.{move_volume, path_volume, paths_volume, filament}
 use Rattle.gcode_text.specs.Machine.{origin}
 use Rattle.gcode_text.specs.Moves.{at_height, travel, printing_moves, path_moves, behind_path, paths_moves}
-use Rattle.gcode_text.specs.Moves.{behind_paths, raised, surface, layer_moves, layers_moves, ProgramsMakeTheirMoves}
-use Rattle.print_laws.specs.Planned.{PlannedLayer, IsPlanned, outlines_of, paths_of}
+use Rattle.gcode_text.specs.Moves.{behind_paths, raised, surface, layer_moves, layers_moves}
+use Rattle.print_laws.specs.Planned.{IsPlanned}
+use Rattle.slice_work.specs.Part.{Layout}
 use Rattle.slice_work.specs.Script.{rates_of}
-use Rattle.print_laws.specs.Program.{moves_of, PlansArePrintable}
-use Rattle.print_laws.specs.Extruded.{SidesAreExtruded}
-use Rattle.print_laws.specs.Inside.{StaysInside, MovesStayInside, PrintsStayInside}
+use Rattle.print_laws.specs.Program.{outlines_of, paths_of, moves_of}
+use Rattle.print_laws.specs.Inside.{StaysInside}
+use Rattle.print_laws.specs.Laws.{MovesStayInside}
 use Rattle.print_laws.proofs.Points.{all_front, all_back}
 use Rattle.print_laws.proofs.Numbered.{AreFrom, from_first}
 
@@ -75,7 +76,7 @@ module _ (s : Settings) (outlines : List (List (List Pt))) where
         (all_back (KeepsClear loops (s.line_width / 2)) (moves path) (all_moves paths) h))
 
   -- ---- of the layers from number i on
-  layers_inside : PlansKeepClear → AreInRange s → (v i : ℕ) (here : Pt3) (layers : List PlannedLayer)
+  layers_inside : PlansKeepClear → AreInRange s → (v i : ℕ) (here : Pt3) (layers : List Layout)
       → ((k : ℕ) → slice_get outlines (i + k) ≡ slice_get (outlines_of layers) k) → AreFrom (IsPlanned s) i layers
       → AllByRecursion Inside (layers_moves (rates_of s) v i here (paths_of layers))
   unfolding layers_moves layer_moves
@@ -103,13 +104,3 @@ moves_stay_inside law s layers range p =
     (layers_inside s (outlines_of layers) law range 0 0 origin layers
     (λ k. let e : 0 + k ≡ k = omega arith in ap (slice_get (outlines_of layers)) e)
     (from_first (IsPlanned s) layers p.each))
-
-pub prints_stay_inside : PlansArePrintable → SidesAreExtruded → MovesStayInside → ProgramsMakeTheirMoves
-    → PrintsStayInside
-prints_stay_inside printable extruded inside made s layers range p = record {
-  moves = moves_of s layers;
-  made = made (rates_of s) s.hot_end s.bed (paths_of layers) (printable s layers range p);
-  all = refl;
-  sides = extruded (rates_of s) (paths_of layers);
-  inside = inside s layers range p;
-}

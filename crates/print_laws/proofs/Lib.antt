@@ -6,3 +6,7 @@ pub mod Printable
 pub mod Extruded
 pub mod Inside
 pub mod ByNumber
+pub mod Printed
+pub mod Layers
+pub mod Prints
+pub mod Examples

@@ -1,5 +1,5 @@
 -- What holds of each layer by its number, layer after layer.
-use Rattle.std.proofs.Common.{◌≡◌, ◌<◌, ◌+◌, ℕ, suc, List, [], ◌∷◌, length, subst, arith}
+use Rattle.std.proofs.Common.{◌≡◌, ◌<◌, ◌+◌, ℕ, zero, suc, List, [], ◌∷◌, length, subst, arith}
 use Rattle.std.specs.Prelude.{slice_get, IsSomeAnd}
 
 -- P holds of the elements of a list, the first of which has the number i
@@ -23,3 +23,16 @@ module _ {X : Type 0} (P : ℕ → X → Type 0) where
   from_first xs h =
       from_each 0 xs (λ k there.
       let e : k ≡ 0 + k = omega arith in subst (λ (n : ℕ). IsSomeAnd (slice_get xs k) (P n)) e (h k there))
+
+  -- and back
+  each_from : (i : ℕ) (xs : List X) → AreFrom P i xs → (k : ℕ) → k < length xs → IsSomeAnd (slice_get xs k) (P (i + k))
+  each_from i [] h k there = absurd (omega (arith, there))
+  each_from i (x ∷ xs) h zero there = let e : i ≡ i + 0 = omega arith in subst (λ (n : ℕ). P n x) e h.0
+  each_from i (x ∷ xs) h (suc k) there =
+      let e : (i + 1) + k ≡ i + suc k = omega arith in
+      subst (λ (n : ℕ). IsSomeAnd (slice_get xs k) (P n)) e (each_from (i + 1) xs h.1 k (omega (arith, there)))
+
+  pub first_each : (xs : List X) → AreFrom P 0 xs → (k : ℕ) → k < length xs → IsSomeAnd (slice_get xs k) (P k)
+  first_each xs h k there =
+      let e : 0 + k ≡ k = omega arith in subst (λ (n : ℕ). IsSomeAnd (slice_get xs k) (P n)) e
+      (each_from 0 xs h k there)

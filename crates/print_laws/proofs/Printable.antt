@@ -13,9 +13,11 @@ use Rattle.plan_layer.specs.Kept.{PlansKeepClear}
 use Rattle.plan_layer.specs.Moves.{all_moves}
 use Rattle.gcode_text.specs.Amount.{paths_volume, layers_volume}
 use Rattle.gcode_text.specs.Moves.{IsShortPoint, AreShortPaths}
-use Rattle.print_laws.specs.Planned.{PlannedLayer, IsPlanned, paths_of}
+use Rattle.print_laws.specs.Planned.{IsPlanned}
+use Rattle.print_laws.specs.Program.{paths_of}
+use Rattle.slice_work.specs.Part.{Layout}
 use Rattle.slice_work.specs.Script.{rates_of}
-use Rattle.print_laws.specs.Program.{PlansArePrintable}
+use Rattle.print_laws.specs.Laws.{PlansArePrintable}
 use Rattle.print_laws.proofs.Numbered.{AreFrom, from_first}
 use Rattle.print_laws.proofs.Points.{plan_within}
 use Rattle.print_laws.proofs.Volume.{move_limit, paths_most}
@@ -40,29 +42,29 @@ abbrev layer_volume : ℕ
 layer_volume = 200000 * move_limit
 
 module _ (law : PlansKeepClear) (s : Settings) (range : AreInRange s) where
-  ends_within : (i : ℕ) (l : PlannedLayer) → IsPlanned s i l
+  ends_within : (i : ℕ) (l : Layout) → IsPlanned s i l
       → AllByRecursion (IsEdgeWithin point_limit) (all_moves l.paths)
   ends_within i l h =
       recursion_from_All (IsEdgeWithin point_limit) (all_moves l.paths)
       (moves_within l.outlines h.within (s.line_width / 2) l.paths (law l.outlines i s l.paths range h.plan))
 
-  layer_short : (i : ℕ) (l : PlannedLayer) → IsPlanned s i l → AreShortPaths l.paths
+  layer_short : (i : ℕ) (l : Layout) → IsPlanned s i l → AreShortPaths l.paths
   layer_short i l h =
       paths_short l.paths (plan_within point_limit l.outlines i s l.paths h.plan
       (All-from_recursion (IsEdgeWithin point_limit) (all_moves l.paths) (ends_within i l h)))
 
-  layers_short : (i : ℕ) (layers : List PlannedLayer) → AreFrom (IsPlanned s) i layers
+  layers_short : (i : ℕ) (layers : List Layout) → AreFrom (IsPlanned s) i layers
       → AllByRecursion AreShortPaths (paths_of layers)
   layers_short i [] h = tt
   layers_short i (l ∷ ls) h = (layer_short i l h.0, layers_short (i + 1) ls h.1)
 
-  layer_most : (i : ℕ) (l : PlannedLayer) → IsPlanned s i l → paths_volume (rates_of s) l.paths ≤ layer_volume
+  layer_most : (i : ℕ) (l : Layout) → IsPlanned s i l → paths_volume (rates_of s) l.paths ≤ layer_volume
   layer_most i l h =
       let v = paths_most (rates_of s) range.line_width.most range.layer_height.most l.paths (ends_within i l h) in
       let n = h.moves in
       omega (arith, v, n)
 
-  layers_most : (i : ℕ) (layers : List PlannedLayer) → AreFrom (IsPlanned s) i layers
+  layers_most : (i : ℕ) (layers : List Layout) → AreFrom (IsPlanned s) i layers
       → layers_volume (rates_of s) (paths_of layers) ≤ length layers * layer_volume
   unfolding layers_volume
   layers_most i [] h = omega arith
@@ -72,7 +74,7 @@ pub plans_are_printable : PlansKeepClear → PlansArePrintable
 plans_are_printable law s layers range p =
     let each = from_first (IsPlanned s) layers p.each in
     let number = p.number in
-    let long = length-map layers (λ (l : PlannedLayer). l.paths) in
+    let long = length-map layers (λ (l : Layout). l.paths) in
     let area = range.filament_area.least in
     let print = range.print_feed.most in
     let travel = range.travel_feed.most in

@@ -1,38 +1,41 @@
 -- Which moves of a program extrude.
-use Rattle.std.specs.Prelude.{◌≡◌, ℕ, ◌+◌, ◌*◌, List, [], ◌∷◌, ◌++◌, map, filter}
+use Rattle.std.specs.Prelude.{ℕ, ◌+◌, ◌*◌, true, List, [], ◌∷◌, ◌++◌, map, filter, pos}
 use Rattle.scad_geom.specs.declared.point.Pt.{Pt}
 use Rattle.scad_geom.specs.declared.point.Edge.{Edge}
-use Rattle.scad_geom.specs.declared.point3.Pt3.{Pt3}
-use Rattle.winding_laws.specs.Rounded.{has_length}
 use Rattle.plan_layer.specs.Moves.{all_moves}
 use Rattle.gcode_text.specs.declared.machine.Move.{Move}
 use Rattle.gcode_text.specs.declared.rates.Rates.{Rates}
-use Rattle.gcode_text.specs.Moves.{at_height, program_moves}
+use Rattle.gcode_text.specs.Amount.{move_volume, filament}
+use Rattle.gcode_text.specs.Moves.{at_height}
 
--- from where to where a move goes
-abbrev pub way : Move → Pt3 × Pt3
-way m = (m.from, m.to)
+-- those that do
+abbrev pub extruding : List Move → List Move
+extruding moves = filter (λ m. m.extruding) moves
 
--- the ways of the moves that extrude
-abbrev pub extruded : List Move → List (Pt3 × Pt3)
-extruded moves = map way (filter (λ m. m.extruding) moves)
+-- a side of a path, at the height of its layer's upper surface
+pub record Side : Type 0 where
+  pub z : ℕ
+  pub edge : Edge
 
--- the way along an edge at a height
-abbrev pub way_along : ℕ → Edge → Pt3 × Pt3
-way_along z e = (at_height e.a z, at_height e.b z)
+-- the sides of the paths of layers of the height h in order, the first of which has the number i
+abbrev pub sides_from : ℕ → ℕ → List (List (List Pt)) → List Side
+sides_from h i [] = []
+sides_from h i (paths ∷ layers) =
+    map (λ e. record { z = (i + 1) * h; edge = e }) (all_moves paths) ++ sides_from h (i + 1) layers
 
--- the ways along the sides of paths at a height, without those whose ends coincide
-abbrev pub ways_along : ℕ → List (List Pt) → List (Pt3 × Pt3)
-ways_along z paths = map (way_along z) (filter has_length (all_moves paths))
+-- the move along a side, behind moves of this volume, with the filament that its own volume takes
+abbrev pub move_along : Rates → ℕ → Side → Move
+move_along rates volume side = record {
+  from = at_height side.edge.a side.z;
+  to = at_height side.edge.b side.z;
+  from_e = pos (filament rates volume);
+  to_e = pos (filament rates (volume + move_volume rates side.edge.a side.edge.b));
+  extruding = true;
+}
 
--- those of layers of the height h, each at its upper surface, the first of which has the number i
-abbrev pub ways_from : ℕ → ℕ → List (List (List Pt)) → List (Pt3 × Pt3)
-ways_from h i [] = []
-ways_from h i (paths ∷ layers) = ways_along ((i + 1) * h) paths ++ ways_from h (i + 1) layers
-
--- ---- the law
--- The moves that extrude go along the sides of the paths of layer 0, of layer 1 and so on, in order.
-abbrev pub SidesAreExtruded : Type 0
-SidesAreExtruded =
-    (rates : Rates) (layers : List (List (List Pt))) → extruded (program_moves rates layers)
-    ≡ ways_from rates.layer_height 0 layers
+-- the moves along sides one after another, behind moves of this volume
+abbrev pub moves_along : Rates → ℕ → List Side → List Move
+moves_along rates volume [] = []
+moves_along rates volume (side ∷ sides) =
+    move_along rates volume side
+    ∷ moves_along rates (volume + move_volume rates side.edge.a side.edge.b) sides

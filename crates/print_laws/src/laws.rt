@@ -1,10 +1,10 @@
 //! Laws of the definitions, each carried by the contract of a function that does nothing.
-ghost use Rattle.print_laws.specs.Program.{PlansArePrintable};
-ghost use Rattle.print_laws.specs.Extruded.{SidesAreExtruded};
-ghost use Rattle.print_laws.specs.Inside.{MovesStayInside, PrintsStayInside};
+ghost use Rattle.print_laws.specs.Laws.{PlansArePrintable, SidesAreExtruded, MovesStayInside, PlansArePrinted};
+ghost use Rattle.print_laws.specs.Laws.{LayersArePrinted, PrintsAreOne};
 
+use cli_read::laws::written_texts_say_their_layers;
 use gcode_text::laws::programs_make_their_moves;
-use plan_layer::laws::plans_keep_clear;
+use plan_layer::laws::{plans_have_lengths, plans_keep_clear};
 
 /// The numbers of the program of at most 20,000 planned layers can be written, for settings in their ranges.
 pub fn plans_are_printable()
@@ -14,7 +14,7 @@ pub fn plans_are_printable()
 }
 
 /// The moves of a program that extrude go along the sides of the paths of its layers in order, at the layers' upper
-/// surfaces, without those whose ends coincide.
+/// surfaces and with their filament, where each side has a length.
 pub fn sides_are_extruded()
     ensures { SidesAreExtruded }
 {}
@@ -27,25 +27,27 @@ pub fn moves_stay_inside()
     plans_keep_clear();
 }
 
-/// Along the text of the program of planned layers the machine makes such moves.
-pub fn prints_stay_inside()
-    ensures { PrintsStayInside }
+/// Along the text of the program of planned layers the machine makes such moves, and those that extrude are exactly the
+/// plans' moves.
+pub fn plans_are_printed()
+    ensures { PlansArePrinted }
 {
     plans_are_printable();
     sides_are_extruded();
     moves_stay_inside();
+    plans_have_lengths();
     programs_make_their_moves();
 }
 
-#[cfg(test)]
-mod tests {
-    use super::*;
-
-    #[test]
-    fn laws_are_called() {
-        plans_are_printable();
-        sides_are_extruded();
-        moves_stay_inside();
-        prints_stay_inside();
-    }
+/// The layers of a tree of solids, where none passes a limit, have a print.
+pub fn layers_are_printed()
+    ensures { LayersArePrinted }
+{
+    plans_are_printed();
+    written_texts_say_their_layers();
 }
+
+/// No other bytes are a print of the same tree by the same settings.
+pub fn prints_are_one()
+    ensures { PrintsAreOne }
+{}

@@ -8,20 +8,26 @@ use Rattle.scad_ast.specs.declared.expression.Expr.{Expr}
 use Rattle.scad_ast.specs.Tree.{binary, choose, index, range, stepped, if_else}
 use Rattle.scad_ast.specs.View.{expression_at, expression_of, element_of}
 
-pub binary_view : (at : Place) (op : BinOp) (a b : Box Expr Global) → expression_at at (Binary op a b) ≡ binary at op (expression_of a.value) (expression_of b.value)
+pub binary_view : (at : Place) (op : BinOp) (a b : Box Expr Global) → expression_at at (Binary op a b) ≡ binary at op
+    (expression_of a.value) (expression_of b.value)
 binary_view at op a b = refl
 
-pub choose_view : (at : Place) (test chosen other : Box Expr Global) → expression_at at (Choose test chosen other) ≡ choose at (expression_of test.value) (expression_of chosen.value) (expression_of other.value)
+pub choose_view : (at : Place) (test chosen other : Box Expr Global) → expression_at at (Choose test chosen other)
+    ≡ choose at (expression_of test.value) (expression_of chosen.value) (expression_of other.value)
 choose_view at test chosen other = refl
 
-pub index_view : (at : Place) (a i : Box Expr Global) → expression_at at (Index a i) ≡ index at (expression_of a.value) (expression_of i.value)
+pub index_view : (at : Place) (a i : Box Expr Global) → expression_at at (Index a i) ≡ index at (expression_of a.value)
+    (expression_of i.value)
 index_view at a i = refl
 
-pub range_view : (at : Place) (start end : Box Expr Global) → expression_at at (Range start None end) ≡ range at (expression_of start.value) (expression_of end.value)
+pub range_view : (at : Place) (start end : Box Expr Global) → expression_at at (Range start None end)
+    ≡ range at (expression_of start.value) (expression_of end.value)
 range_view at start end = refl
 
-pub stepped_view : (at : Place) (start step end : Box Expr Global) → expression_at at (Range start (Some step) end) ≡ stepped at (expression_of start.value) (expression_of step.value) (expression_of end.value)
+pub stepped_view : (at : Place) (start step end : Box Expr Global) → expression_at at (Range start (Some step) end)
+    ≡ stepped at (expression_of start.value) (expression_of step.value) (expression_of end.value)
 stepped_view at start step end = refl
 
-pub if_else_view : (test : Expr) (held other : Box Elem Global) (at : Place) → element_of (If test held (Some other) at) ≡ if_else at (expression_of test) (element_of held.value) (element_of other.value)
+pub if_else_view : (test : Expr) (held other : Box Elem Global) (at : Place) → element_of (If test held (Some other) at)
+    ≡ if_else at (expression_of test) (element_of held.value) (element_of other.value)
 if_else_view test held other at = refl

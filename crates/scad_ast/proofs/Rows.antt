@@ -18,22 +18,28 @@ pub elements_rows : (m : _) (r : Row_of-Elem m) → elements_of r ≡ elements (
 elements_rows m end_of-Elem = refl
 elements_rows m (more_of-Elem e rest) = ap (element (element_of e)) (elements_rows _ rest)
 
-pub call_view : (at : Place) (word : List ℕ) (args : Vec Arg Global) → expression_at at (Call word args) ≡ call at word (arguments args.items)
+pub call_view : (at : Place) (word : List ℕ) (args : Vec Arg Global) → expression_at at (Call word args) ≡ call at word
+    (arguments args.items)
 call_view at word args = search (rules, the_lemmas, arguments_rows)
 
-pub vector_view : (at : Place) (all : Vec Elem Global) → expression_at at (ListNode all) ≡ vector at (elements all.items)
+pub vector_view : (at : Place) (all : Vec Elem Global) → expression_at at (ListNode all)
+    ≡ vector at (elements all.items)
 vector_view at all = search (rules, the_lemmas, elements_rows)
 
-pub let_view : (at : Place) (args : Vec Arg Global) (body : Box Expr Global) → expression_at at (Let args body) ≡ let_in at (arguments args.items) (expression_of body.value)
+pub let_view : (at : Place) (args : Vec Arg Global) (body : Box Expr Global) → expression_at at (Let args body)
+    ≡ let_in at (arguments args.items) (expression_of body.value)
 let_view at args body = search (rules, the_lemmas, arguments_rows)
 
-pub assert_view : (at : Place) (args : Vec Arg Global) (body : Box Expr Global) → expression_at at (Assert args body) ≡ assert_in at (arguments args.items) (expression_of body.value)
+pub assert_view : (at : Place) (args : Vec Arg Global) (body : Box Expr Global) → expression_at at (Assert args body)
+    ≡ assert_in at (arguments args.items) (expression_of body.value)
 assert_view at args body = search (rules, the_lemmas, arguments_rows)
 
-pub echo_view : (at : Place) (args : Vec Arg Global) (body : Box Expr Global) → expression_at at (Echo args body) ≡ echo_in at (arguments args.items) (expression_of body.value)
+pub echo_view : (at : Place) (args : Vec Arg Global) (body : Box Expr Global) → expression_at at (Echo args body)
+    ≡ echo_in at (arguments args.items) (expression_of body.value)
 echo_view at args body = search (rules, the_lemmas, arguments_rows)
 
-pub for_view : (args : Vec Arg Global) (body : Box Elem Global) (at : Place) → element_of (For args body at) ≡ for_each at (arguments args.items) (element_of body.value)
+pub for_view : (args : Vec Arg Global) (body : Box Elem Global) (at : Place) → element_of (For args body at)
+    ≡ for_each at (arguments args.items) (element_of body.value)
 for_view args body at = search (rules, the_lemmas, arguments_rows)
 
 -- the arguments of a plain `for`
@@ -41,9 +47,13 @@ abbrev arguments_in : Element → Arguments
 arguments_in (for_each at args e) = args
 arguments_in other = no_arguments
 
-pub loop_view : (init : Vec Arg Global) (test : Expr) (step : Vec Arg Global) (body : Box Elem Global) (at : Place) → element_of (Loop init test step body at) ≡ for_loop at (arguments init.items) (expression_of test) (arguments step.items) (element_of body.value)
+pub loop_view : (init : Vec Arg Global) (test : Expr) (step : Vec Arg Global) (body : Box Elem Global) (at : Place)
+    → element_of (Loop init test step body at) ≡ for_loop at (arguments init.items) (expression_of test)
+    (arguments step.items) (element_of body.value)
 loop_view init test step body at =
-    ap₂ (λ a b. for_loop at a (expression_of test) b (element_of body.value)) (ap arguments_in (for_view init body at)) (ap arguments_in (for_view step body at))
+    ap₂ (λ a b. for_loop at a (expression_of test) b (element_of body.value)) (ap arguments_in (for_view init body at))
+    (ap arguments_in (for_view step body at))
 
-pub let_element_view : (args : Vec Arg Global) (body : Box Elem Global) (at : Place) → element_of (ElemLet args body at) ≡ let_element at (arguments args.items) (element_of body.value)
+pub let_element_view : (args : Vec Arg Global) (body : Box Elem Global) (at : Place) → element_of (ElemLet args body at)
+    ≡ let_element at (arguments args.items) (element_of body.value)
 let_element_view args body at = search (rules, the_lemmas, arguments_rows)

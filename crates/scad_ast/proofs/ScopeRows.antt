@@ -18,13 +18,18 @@ pub items_rows : (m : _) (r : Row_of-Item m) → items_of r ≡ items (items-the
 items_rows m end_of-Item = refl
 items_rows m (more_of-Item i rest) = ap (entry (item_of i)) (items_rows _ rest)
 
-pub module_view : (name : List ℕ) (params : Vec Param Global) (scope : Vec Item Global) (at : Place) → item_of (Module name params scope at) ≡ module_of at name (map parameter params.items) (items scope.items)
+pub module_view : (name : List ℕ) (params : Vec Param Global) (scope : Vec Item Global) (at : Place)
+    → item_of (Module name params scope at) ≡ module_of at name (map parameter params.items) (items scope.items)
 module_view name params scope at = search (rules, the_lemmas, items_rows)
 
-pub call_view : (at : Place) (percent hash : Bool) (name : List ℕ) (args : Vec Arg Global) (children : Vec Item Global) → body_of at percent hash (Call name args children) ≡ call_of at percent hash name (arguments args.items) (items children.items)
+pub call_view : (at : Place) (percent hash : Bool) (name : List ℕ) (args : Vec Arg Global) (children : Vec Item Global)
+    → body_of at percent hash (Call name args children) ≡ call_of at percent hash name (arguments args.items)
+    (items children.items)
 call_view at percent hash name args children = search (rules, the_lemmas, items_rows)
 
-pub choice_view : (at : Place) (percent hash : Bool) (test : Expr) (held other : Vec Item Global) → body_of at percent hash (If test held other) ≡ choice at percent hash (expression_of test) (items held.items) (items other.items)
+pub choice_view : (at : Place) (percent hash : Bool) (test : Expr) (held other : Vec Item Global)
+    → body_of at percent hash (If test held other) ≡ choice at percent hash (expression_of test) (items held.items)
+    (items other.items)
 choice_view at percent hash test held other = search (rules, the_lemmas, items_rows)
 
 -- a scope of one item or more has items

@@ -18,6 +18,7 @@ pub struct Expr {
     pub node: Node,
 }
 
+/// What an expression is (OpenSCAD manual, expressions).
 #[cycle(expression)]
 #[derive(Debug, Drop)]
 pub enum Node {

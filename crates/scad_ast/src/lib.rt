@@ -11,6 +11,3 @@ pub use expression::{Arg, Args, Elem, Elems, Expr, Node};
 pub use operator::{BinOp, UnOp};
 pub use printing::print;
 pub use statement::{Item, Param, Params, Program, Scope, Stmt, StmtBody};
-
-#[cfg(test)]
-mod tests;

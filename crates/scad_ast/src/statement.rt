@@ -9,6 +9,7 @@ pub type Scope = Vec<Item>;
 /// The parameters of a module or a function.
 pub type Params = Vec<Param>;
 
+/// A program: its items in order.
 #[derive(Debug, Drop)]
 pub struct Program {
     pub scope: Scope,
@@ -43,6 +44,7 @@ pub struct Stmt {
     pub body: StmtBody,
 }
 
+/// What a statement does.
 #[cycle(statement)]
 #[derive(Debug, Drop)]
 pub enum StmtBody {

@@ -24,7 +24,8 @@ last_of_all = refl
 past_all : is_scalar 0x11_0000 ≡ false
 past_all = refl
 
-names : quote ∷ plus ∷ minus ∷ point ∷ digit_zero ∷ upper_e ∷ open_square ∷ backslash ∷ close_square ∷ lower_e ∷ [] ≡ codes "\"+-.0E[\\]e"
+names : quote ∷ plus ∷ minus ∷ point ∷ digit_zero ∷ upper_e ∷ open_square ∷ backslash ∷ close_square ∷ lower_e ∷ []
+    ≡ codes "\"+-.0E[\\]e"
 names = refl
 
 -- ---- results

@@ -26,11 +26,14 @@ pub negative_factor : (a r : ℤ) → pos 0 <ℤ r → (a *ℤ r) <ℤ pos 0 →
 negative_factor (negsuc m) r p q = omega (arith, ints)
 negative_factor (pos zero) r p q = absurd (omega (arith, ints))
 negative_factor (pos (suc m)) r p q =
-    let up : pos 0 <ℤ pos (suc m) = omega (arith, ints) in absurd (omega (arith, ints, positive_product (pos (suc m)) r up p))
+    let up : pos 0 <ℤ pos (suc m) = omega (arith, ints) in absurd
+    (omega (arith, ints, positive_product (pos (suc m)) r up p))
 
 pub zero_factor : (a r : ℤ) → pos 0 <ℤ r → a *ℤ r ≡ pos 0 → a ≡ pos 0
 zero_factor (pos zero) r p e = refl
 zero_factor (pos (suc m)) r p e =
-    let up : pos 0 <ℤ pos (suc m) = omega (arith, ints) in absurd (omega (arith, ints, positive_product (pos (suc m)) r up p, e))
+    let up : pos 0 <ℤ pos (suc m) = omega (arith, ints) in absurd
+    (omega (arith, ints, positive_product (pos (suc m)) r up p, e))
 zero_factor (negsuc m) r p e =
-    let down : negsuc m <ℤ pos 0 = omega (arith, ints) in absurd (omega (arith, ints, negative_product (negsuc m) r p down, e))
+    let down : negsuc m <ℤ pos 0 = omega (arith, ints) in absurd
+    (omega (arith, ints, negative_product (negsuc m) r p down, e))

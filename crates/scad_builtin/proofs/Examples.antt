@@ -110,20 +110,24 @@ unfolding half_away half_up number_of
 cross_of_two = refl
 
 -- cross([1, 2, 3], [4, 1, 2])
-cross_of_three : value_of Cross (two (vector (three n1 n2 n3)) (vector (three n4 n1 n2))) ≡ Ok (vector (three n1 (number (pos 10000000)) (number (negsuc 6999999))))
+cross_of_three : value_of Cross (two (vector (three n1 n2 n3)) (vector (three n4 n1 n2)))
+    ≡ Ok (vector (three n1 (number (pos 10000000)) (number (negsuc 6999999))))
 unfolding half_away half_up number_of
 cross_of_three = refl
 
 -- concat([1], 2, [[3]])
-one_list : value_of Concat (three (vector (one n1)) n2 (vector (one (vector (one n3))))) ≡ Ok (vector (three n1 n2 (vector (one n3))))
+one_list : value_of Concat (three (vector (one n1)) n2 (vector (one (vector (one n3)))))
+    ≡ Ok (vector (three n1 n2 (vector (one n3))))
 one_list = refl
 
 -- what stands behind the arguments of a function isn't read
-number_functions_read_one : (f : ℤ → ℤ) (d : Datum) (more : Elements) → of_number f (element d more) ≡ of_number f (one d)
+number_functions_read_one : (f : ℤ → ℤ) (d : Datum) (more : Elements) → of_number f (element d more) ≡ of_number f
+    (one d)
 number_functions_read_one f d more = refl
 
 tests_read_one : (f : Datum → Bool) (d : Datum) (more : Elements) → of_test f (element d more) ≡ of_test f (one d)
 tests_read_one f d more = refl
 
-cross_reads_two : (d e : Datum) (more : Elements) → value_of Cross (element d (element e more)) ≡ value_of Cross (two d e)
+cross_reads_two : (d e : Datum) (more : Elements) → value_of Cross (element d (element e more)) ≡ value_of Cross
+    (two d e)
 cross_reads_two d e more = refl

@@ -16,12 +16,15 @@ pub length_numbers : (xs : List Value) → length (numbers (elements xs)) ≡ le
 length_numbers xs = ap length (numbers_elements xs) ∙ length-map xs (λ v. amount (datum_of v))
 
 -- the number at a place is that of the value there
-pub number_at : (xs : List Value) (k : ℕ) (x : Value) → k < length xs → x ≡ get_or xs k x → get_or (numbers (elements xs)) k (pos 0) ≡ amount (datum_of x)
+pub number_at : (xs : List Value) (k : ℕ) (x : Value) → k < length xs → x ≡ get_or xs k x
+    → get_or (numbers (elements xs)) k (pos 0) ≡ amount (datum_of x)
 number_at xs k x within is =
-    ap (λ zs. get_or zs k (pos 0)) (numbers_elements xs) ∙ get_or-map (λ v. amount (datum_of v)) xs k x (pos 0) within ∙ ap (λ v. amount (datum_of v)) (sym is)
+    ap (λ zs. get_or zs k (pos 0)) (numbers_elements xs) ∙ get_or-map (λ v. amount (datum_of v)) xs k x (pos 0) within ∙
+    ap (λ v. amount (datum_of v)) (sym is)
 
 -- one value more at the end
-pub appended_push : (xs : List Value) (x : Value) (rest : Elements) → appended (elements (xs ++ x ∷ [])) rest ≡ appended (elements xs) (element (datum_of x) rest)
+pub appended_push : (xs : List Value) (x : Value) (rest : Elements) → appended (elements (xs ++ x ∷ [])) rest
+    ≡ appended (elements xs) (element (datum_of x) rest)
 appended_push [] x rest = refl
 appended_push (y ∷ xs) x rest = ap (element (datum_of y)) (appended_push xs x rest)
 

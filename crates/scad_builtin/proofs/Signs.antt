@@ -16,7 +16,8 @@ unfolding number_of
 number_sign z h = chosen_sign (nat_le (unsigned_abs z) most) z h
 
 pub sum_sign : (a b : ℤ) (r : Result ℤ NumFault) → pos 0 ≤ℤ a → pos 0 ≤ℤ b → r ≡ sum_of a b → IfOk r (λ s. pos 0 ≤ℤ s)
-sum_sign a b r ha hb is = subst (λ (r : Result ℤ NumFault). IfOk r (λ s. pos 0 ≤ℤ s)) (sym is) (number_sign (a +ℤ b) (omega (arith, ints)))
+sum_sign a b r ha hb is = subst (λ (r : Result ℤ NumFault). IfOk r (λ s. pos 0 ≤ℤ s)) (sym is)
+    (number_sign (a +ℤ b) (omega (arith, ints)))
 
 rounded_sign : (n : ℕ) → pos 0 ≤ℤ half_away (pos n) one
 unfolding half_away
@@ -27,4 +28,5 @@ square_sign_at (pos n) = rounded_sign (n * n)
 square_sign_at (negsuc n) = rounded_sign (suc n * suc n)
 
 pub square_sign : (a : ℤ) (r : Result ℤ NumFault) → r ≡ product_of a a → IfOk r (λ s. pos 0 ≤ℤ s)
-square_sign a r is = subst (λ (r : Result ℤ NumFault). IfOk r (λ s. pos 0 ≤ℤ s)) (sym is) (number_sign (half_away (a *ℤ a) one) (square_sign_at a))
+square_sign a r is = subst (λ (r : Result ℤ NumFault). IfOk r (λ s. pos 0 ≤ℤ s)) (sym is)
+    (number_sign (half_away (a *ℤ a) one) (square_sign_at a))

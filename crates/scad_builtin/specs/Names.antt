@@ -1,6 +1,7 @@
 -- The names of functions (OpenSCAD User Manual, "Mathematical Functions", "String Functions", "List Concatenation",
 -- "Type Test Functions"): those of the language, and those of the manual that the language leaves out.
-use Rattle.std.specs.Prelude.{ℕ, List, [], ◌∷◌, if◌then◌else◌, codes, bytes_eq}
+use Rattle.std.specs.Prelude.{ℕ, List, [], ◌∷◌, codes}
+use Rattle.scad_table.specs.Meanings.{found_in}
 use Rattle.scad_builtin.specs.declared.function.Function.TheVariants.{Abs, Sign, Floor, Ceil, Round, Sqrt, Sin, Cos, Tan, Min, Max, Len, Concat, Str, Chr, Ord, Norm, Cross, IsUndef, IsBool, IsNum, IsString, IsList}
 use Rattle.scad_builtin.specs.declared.function.Name.{Name}
 use Rattle.scad_builtin.specs.declared.function.Name.TheVariants.{Known, LeftOut, Unknown}
@@ -24,11 +25,6 @@ meanings =
     ∷ (codes "version_num", LeftOut)
     ∷ []
 
--- the meaning that stands beside a name in a table of meanings
-abbrev pub found_in : List (List ℕ × Name) → List ℕ → Name
-found_in [] name = Unknown
-found_in (entry ∷ rest) name = if bytes_eq entry.0 name then entry.1 else found_in rest name
-
 -- what a name means where a function is called
 unfoldable pub meaning_of : List ℕ → Name
-meaning_of name = found_in meanings name
+meaning_of name = found_in meanings Unknown name

@@ -20,6 +20,3 @@ mod string;
 
 pub use dispatch::call;
 pub use fault::BuiltinFault;
-
-#[cfg(test)]
-mod tests;

@@ -55,8 +55,10 @@ half_turn-opposite a h = by_quarter (cases_lt a 90000) (cases_lt 90000 a)
     by_quarter : (a < 90000) ⊎ (90000 ≤ a) → (90000 < a) ⊎ (a ≤ 90000) → half_turn (180000 - a) ≡ neg_ℤ (half_turn a)
     by_quarter (inl low) s =
         let back : 180000 - (180000 - a) ≡ a = omega arith in
-        half_turn-high (180000 - a) (omega arith) ∙ ap (λ b. neg_ℤ (pos (first_quarter b))) back ∙ ap neg_ℤ (sym (half_turn-low a (omega arith)))
-    by_quarter (inr r) (inl high) = half_turn-low (180000 - a) (omega arith) ∙ sym (neg_ℤ-neg_ℤ (pos (first_quarter (180000 - a)))) ∙ ap neg_ℤ (sym (half_turn-high a high))
+        half_turn-high (180000 - a) (omega arith) ∙ ap (λ b. neg_ℤ (pos (first_quarter b))) back ∙ ap neg_ℤ
+        (sym (half_turn-low a (omega arith)))
+    by_quarter (inr r) (inl high) = half_turn-low (180000 - a) (omega arith) ∙ sym
+        (neg_ℤ-neg_ℤ (pos (first_quarter (180000 - a)))) ∙ ap neg_ℤ (sym (half_turn-high a high))
     by_quarter (inr r) (inr s) =
         let same : a ≡ 90000 = omega arith in
         let other : 180000 - a ≡ 90000 = omega arith in
@@ -79,12 +81,14 @@ residue-neg : (angle : ℤ) → (residue (neg_ℤ angle) ≡ residue angle) ⊎ 
 residue-neg (pos zero) = inl refl
 residue-neg (pos (suc n)) = by_rest (cases_lt (suc n % 360000) 1)
   where
-    by_rest : (suc n % 360000 < 1) ⊎ (1 ≤ suc n % 360000) → (360000 - 1 - n % 360000 ≡ suc n % 360000) ⊎ (360000 - 1 - n % 360000 ≡ 360000 - suc n % 360000)
+    by_rest : (suc n % 360000 < 1) ⊎ (1 ≤ suc n % 360000) → (360000 - 1 - n % 360000 ≡ suc n % 360000) ⊎
+        (360000 - 1 - n % 360000 ≡ 360000 - suc n % 360000)
     by_rest (inl h) = inl (omega arith)
     by_rest (inr h) = inr (omega arith)
 residue-neg (negsuc n) = by_rest (cases_lt (suc n % 360000) 1)
   where
-    by_rest : (suc n % 360000 < 1) ⊎ (1 ≤ suc n % 360000) → (suc n % 360000 ≡ 360000 - 1 - n % 360000) ⊎ (suc n % 360000 ≡ 360000 - (360000 - 1 - n % 360000))
+    by_rest : (suc n % 360000 < 1) ⊎ (1 ≤ suc n % 360000) → (suc n % 360000 ≡ 360000 - 1 - n % 360000) ⊎
+        (suc n % 360000 ≡ 360000 - (360000 - 1 - n % 360000))
     by_rest (inl h) = inl (omega arith)
     by_rest (inr h) = inr (omega arith)
 
@@ -97,7 +101,8 @@ pub cosine_is_even : CosineIsEven
 unfolding cosine
 cosine_is_even angle = by_rest (residue-neg angle)
   where
-    by_rest : (residue (neg_ℤ angle) ≡ residue angle) ⊎ (residue (neg_ℤ angle) ≡ 360000 - residue angle) → full_turn (residue (neg_ℤ angle)) ≡ full_turn (residue angle)
+    by_rest : (residue (neg_ℤ angle) ≡ residue angle) ⊎ (residue (neg_ℤ angle) ≡ 360000 - residue angle)
+        → full_turn (residue (neg_ℤ angle)) ≡ full_turn (residue angle)
     by_rest (inl e) = ap full_turn e
     by_rest (inr e) = ap full_turn e ∙ full_turn-mirror (residue angle) (le_of_lt (residue-lt angle))
 
@@ -128,10 +133,12 @@ full_turn-opposite a h = by_half (cases_lt 180000 a)
     by_half (inl high) =
         let there : (540000 - a) % 360000 ≡ 540000 - a = omega arith in
         let back : 360000 - (540000 - a) ≡ 180000 - (360000 - a) = omega arith in
-        ap full_turn there ∙ full_turn-high (540000 - a) (omega arith) ∙ ap half_turn back ∙ half_turn-opposite (360000 - a) (omega arith) ∙ ap neg_ℤ (sym (full_turn-high a high))
+        ap full_turn there ∙ full_turn-high (540000 - a) (omega arith) ∙ ap half_turn back ∙ half_turn-opposite
+        (360000 - a) (omega arith) ∙ ap neg_ℤ (sym (full_turn-high a high))
     by_half (inr low) =
         let there : (540000 - a) % 360000 ≡ 180000 - a = omega arith in
-        ap full_turn there ∙ full_turn-low (180000 - a) (omega arith) ∙ half_turn-opposite a low ∙ ap neg_ℤ (sym (full_turn-low a low))
+        ap full_turn there ∙ full_turn-low (180000 - a) (omega arith) ∙ half_turn-opposite a low ∙ ap neg_ℤ
+        (sym (full_turn-low a low))
 
 -- at 180 degrees less the angle it is the opposite
 pub cosine_is_opposite : CosineIsOpposite

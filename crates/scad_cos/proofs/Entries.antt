@@ -29,5 +29,10 @@ cosines-le i = within-get_or 1000000 cosines i entries_within
 pub ruleset entries = (cosines-le)
 
 -- a point between two such entries is one, times 1000
-pub between-le : (a b part : ℕ) → a ≤ 1000000 → b ≤ 1000000 → part < 1000 → (a * (1000 - part) ≤ 1000000 * (1000 - part)) × (b * part ≤ 1000000 * part)
-between-le a b part h g s = (mul-le a (1000 - part) 1000000 (1000 - part) h (omega arith), mul-le b part 1000000 part g (omega arith))
+pub between-le : (a b part : ℕ) → a ≤ 1000000 → b ≤ 1000000 → part < 1000
+    → (a * (1000 - part) ≤ 1000000 * (1000 - part)) × (b * part ≤ 1000000 * part)
+between-le a b part h g s = (
+  mul-le a (1000 - part) 1000000 (1000 - part) h (omega arith),
+  mul-le b part 1000000 part g
+      (omega arith),
+)

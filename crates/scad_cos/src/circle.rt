@@ -1,3 +1,4 @@
+//! Circles: how many sides stand for one, and the angles of its vertices (OpenSCAD manual, `$fa`, `$fs` and `$fn`).
 ghost use Rattle.std.specs.Prelude.{◌≡◌, ◌<◌, ◌≤◌, pos, ◌<ℤ◌, ◌≤ℤ◌, unsigned_abs};
 ghost use Rattle.scad_cos.specs.Circle.{least_step, fragments_by_steps, fragments_of, vertex_angle_of};
 
@@ -71,6 +72,3 @@ pub fn vertex_angle(i: i64, n: i64) -> i64
 {
     rounded_share(i as u64, n as u64) as i64
 }
-
-#[cfg(test)]
-mod tests;

@@ -1,3 +1,4 @@
+//! Cosines and sines of thousandths of a degree, straight between the entries of a table of whole degrees.
 ghost use Rattle.std.specs.Prelude.{◌≡◌, ◌+◌, ◌-◌, ◌*◌, ◌/◌, ◌^◌, ◌<◌, ◌≤◌, slice_index, unsigned_abs};
 ghost use Rattle.scad_cos.specs.Cosine.{cosines, first_quarter, half_turn, full_turn, cosine, sine};
 

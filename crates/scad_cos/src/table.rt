@@ -1,3 +1,5 @@
+//! The table of cosines.
+
 /// The cosines of 0 to 90 whole degrees, in millionths.
 pub(crate) const COSINES: [u64; 91] = [
     1_000_000, 999_848, 999_391, 998_630, 997_564, 996_195, 994_522, 992_546, 990_268, 987_688,

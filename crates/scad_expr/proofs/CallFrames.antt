@@ -13,7 +13,9 @@ use Rattle.scad_expr.specs.State.{State, Outcome, gives, and_then}
 use Rattle.scad_expr.specs.Variables.{Bound}
 use Rattle.scad_expr.proofs.OpenFrames.{opened-bound, opened-again, call-env, call-along, call-set}
 
-pub bound-same : (depth depth0 : ℕ) (home along : Env) (ps ps0 : List Parameter) (args args0 : Arguments) (found : List Datum) (s : State) → depth0 ≡ depth → ps0 ≡ ps → args0 ≡ args → bound (meaning depth) home along ps args found s ≡ bound (meaning depth0) home along ps0 args0 found s
+pub bound-same : (depth depth0 : ℕ) (home along : Env) (ps ps0 : List Parameter) (args args0 : Arguments)
+    (found : List Datum) (s : State) → depth0 ≡ depth → ps0 ≡ ps → args0 ≡ args → bound (meaning depth) home along ps
+    args found s ≡ bound (meaning depth0) home along ps0 args0 found s
 bound-same depth depth0 home along ps ps0 args args0 found s d p a =
     ap (λ e. bound (meaning e) home along ps args found s) (sym d)
     ∙ ap₂ (λ q b. bound (meaning depth0) home along q b found s) (sym p) (sym a)
@@ -24,18 +26,27 @@ module _ (kept : Option StoredChildren) (home : ℕ) (h n o : Held) (was : h ≡
   unfolding with_children
   counted = by kept was made
     where
-      by : (k : Option StoredChildren) → h ≡ opened k (length o.frames) home (bound_in h) o → n ≡ with_count k h → n ≡ opened k (length o.frames) home (with_children (children_in (envs o.frames) k) (bound_in h)) o
+      by : (k : Option StoredChildren) → h ≡ opened k (length o.frames) home (bound_in h) o → n ≡ with_count k h
+          → n ≡ opened k (length o.frames) home (with_children (children_in (envs o.frames) k) (bound_in h)) o
       by None w m = m ∙ w
-      by (Some c) w m = call-set (Some c) (length o.frames) home (codes "$children") (number_of_children c.statements) h n o w m
+      by (Some c) w m = call-set (Some c) (length o.frames) home (codes "$children") (number_of_children c.statements) h
+          n o w m
 
   pub bind-opened : n ≡ opened kept (length o.frames) home (bound_in n) o
-  bind-opened = opened-again kept (length o.frames) home (with_children (children_in (envs o.frames) kept) (bound_in h)) n o counted
+  bind-opened = opened-again kept (length o.frames) home (with_children (children_in (envs o.frames) kept) (bound_in h))
+      n o counted
 
-  pub bind-gives : (depth : ℕ) (ps : List Parameter) (args : Arguments) (found : List Datum) (s s2 s3 : State) → bound (meaning depth) (env_at (envs o.frames) home) (along_in o) ps args found s ≡ gives (bound_in h) s2 → s2 ≡ s3 → bind depth (env_at (envs o.frames) home) (along_in o) ps args found (children_in (envs o.frames) kept) s ≡ gives (opened_in n) s3
+  pub bind-gives : (depth : ℕ) (ps : List Parameter) (args : Arguments) (found : List Datum) (s s2 s3 : State)
+      → bound (meaning depth) (env_at (envs o.frames) home) (along_in o) ps args found s ≡ gives (bound_in h) s2
+      → s2 ≡ s3 → bind depth (env_at (envs o.frames) home) (along_in o) ps args found (children_in (envs o.frames) kept)
+      s ≡ gives (opened_in n) s3
   unfolding opened_in
   bind-gives depth ps args found s s2 s3 e done =
-      ap (λ (r : Outcome Bound). and_then r (λ b t. gives (opens (env_at (envs o.frames) home) (along_in o) (children_in (envs o.frames) kept) (with_children (children_in (envs o.frames) kept) b)) t)) e
-      ∙ ap₂ (λ (b : Bound) (t : State). gives (opens (env_at (envs o.frames) home) (along_in o) (children_in (envs o.frames) kept) b) t)
-      (sym (opened-bound kept (length o.frames) home (with_children (children_in (envs o.frames) kept) (bound_in h)) n o counted)) done
+      ap (λ (r : Outcome Bound). and_then r (λ b t. gives (opens (env_at (envs o.frames) home) (along_in o)
+      (children_in (envs o.frames) kept) (with_children (children_in (envs o.frames) kept) b)) t)) e
+      ∙ ap₂ (λ (b : Bound) (t : State). gives (opens (env_at (envs o.frames) home) (along_in o)
+      (children_in (envs o.frames) kept) b) t)
+      (sym (opened-bound kept (length o.frames) home (with_children (children_in (envs o.frames) kept) (bound_in h)) n o
+      counted)) done
       ∙ ap₂ (λ x y. gives (record { env = x; along = y }) s3)
       (sym (call-env kept home n o bind-opened)) (sym (call-along kept (length o.frames) home n o bind-opened))

@@ -13,13 +13,15 @@ use Rattle.scad_expr.specs.Places.{place, element_place}
 use Rattle.scad_expr.specs.Meaning.{meaning, value, value_layer, element_node}
 
 -- past the limit of depth
-pub value_none : (d : ℕ) (env along : Env) (e : Expression) (s : State) → d ≡ 0 → value d env along e s ≡ over Depth (place e) s
+pub value_none : (d : ℕ) (env along : Env) (e : Expression) (s : State) → d ≡ 0 → value d env along e s
+    ≡ over Depth (place e) s
 unfolding meaning
 value_none zero env along e s none = refl
 value_none (suc d) env along e s none = absurd (let no : ⊥ = omega (arith, none) in no)
 
 -- one level deeper
-pub value_more : (d : ℕ) (env along : Env) (e : Expression) (s : State) → d ≢ 0 → value d env along e s ≡ value_layer (meaning (d - 1)) env along e s
+pub value_more : (d : ℕ) (env along : Env) (e : Expression) (s : State) → d ≢ 0 → value d env along e s ≡ value_layer
+    (meaning (d - 1)) env along e s
 unfolding meaning
 value_more zero env along e s some = absurd (some refl)
 value_more (suc d) env along e s some = ap (λ n. value_layer (meaning n) env along e s) (omega arith)
@@ -49,12 +51,14 @@ place_of e = place_at e.at e.node
 pub ruleset depths = (value_none, value_more, place_of)
 
 -- the same of elements
-pub element_none : (d : ℕ) (env along : Env) (e : Element) (so_far : List Datum) (s : State) → d ≡ 0 → (meaning d).element env along e so_far s ≡ over Depth (element_place e) s
+pub element_none : (d : ℕ) (env along : Env) (e : Element) (so_far : List Datum) (s : State) → d ≡ 0
+    → (meaning d).element env along e so_far s ≡ over Depth (element_place e) s
 unfolding meaning
 element_none zero env along e so_far s none = refl
 element_none (suc d) env along e so_far s none = absurd (let no : ⊥ = omega (arith, none) in no)
 
-pub element_more : (d : ℕ) (env along : Env) (e : Element) (so_far : List Datum) (s : State) → d ≢ 0 → (meaning d).element env along e so_far s ≡ element_node (meaning (d - 1)) env along e so_far s
+pub element_more : (d : ℕ) (env along : Env) (e : Element) (so_far : List Datum) (s : State) → d ≢ 0
+    → (meaning d).element env along e so_far s ≡ element_node (meaning (d - 1)) env along e so_far s
 unfolding meaning
 element_more zero env along e so_far s some = absurd (some refl)
 element_more (suc d) env along e so_far s some = ap (λ n. element_node (meaning n) env along e so_far s) (omega arith)

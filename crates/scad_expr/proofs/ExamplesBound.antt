@@ -1,4 +1,5 @@
--- Worked examples of `let`, `assert` and `echo`, each under its source. Expected values come from an independent program.
+-- Worked examples of `let`, `assert` and `echo`, each under its source. Expected values come from an independent
+-- program.
 use Rattle.std.proofs.Common.{◌≡◌, pos, true, false, [], ◌∷◌, ◌++◌, Some, None, refl}
 use Rattle.std.specs.Prelude.{codes}
 use Rattle.scad_fault.specs.declared.fault.FaultKind.TheVariants.{BadArgument, ZeroDivisor, AssertFailed}

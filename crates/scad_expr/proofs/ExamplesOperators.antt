@@ -1,4 +1,5 @@
--- Worked examples of literals, names and operators, each under its source. Expected values come from an independent program.
+-- Worked examples of literals, names and operators, each under its source. Expected values come from an independent
+-- program.
 use Rattle.std.proofs.Common.{◌≡◌, pos, negsuc, true, false, [], ◌∷◌, refl}
 use Rattle.std.specs.Prelude.{codes}
 use Rattle.scad_fault.specs.declared.fault.FaultKind.TheVariants.{ZeroDivisor, NumberRange}

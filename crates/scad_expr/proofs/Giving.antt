@@ -22,19 +22,24 @@ use Rattle.scad_expr.proofs.Homes.{items-drop, items-drop_all}
 use Rattle.scad_value.proofs.Lists.{arguments-drop, arguments-drop_all}
 
 -- ---- the parameters that are left in a loop
-pub names-drop : (all : List Param) (i : ℕ) (p : Param) → i < length all → p ≡ get_or all i p → parameter_names (drop i all) ≡ p.name ∷ parameter_names (drop (i + 1) all)
-names-drop all i p below is = ap parameter_names (drop_more all i p below) ∙ ap (λ q. q.name ∷ parameter_names (drop (i + 1) all)) (sym is)
+pub names-drop : (all : List Param) (i : ℕ) (p : Param) → i < length all → p ≡ get_or all i p
+    → parameter_names (drop i all) ≡ p.name ∷ parameter_names (drop (i + 1) all)
+names-drop all i p below is = ap parameter_names (drop_more all i p below) ∙ ap
+    (λ q. q.name ∷ parameter_names (drop (i + 1) all)) (sym is)
 
 pub names-drop_all : (all : List Param) (i : ℕ) → length all ≤ i → parameter_names (drop i all) ≡ []
 names-drop_all all i past = ap parameter_names (drop_all i all past)
 
-pub parameters-drop : (all : List Param) (i : ℕ) (p : Param) → i < length all → p ≡ get_or all i p → map parameter (drop i all) ≡ parameter p ∷ map parameter (drop (i + 1) all)
-parameters-drop all i p below is = ap (map parameter) (drop_more all i p below) ∙ ap (λ q. parameter q ∷ map parameter (drop (i + 1) all)) (sym is)
+pub parameters-drop : (all : List Param) (i : ℕ) (p : Param) → i < length all → p ≡ get_or all i p
+    → map parameter (drop i all) ≡ parameter p ∷ map parameter (drop (i + 1) all)
+parameters-drop all i p below is = ap (map parameter) (drop_more all i p below) ∙ ap (λ q. parameter q ∷ map parameter
+    (drop (i + 1) all)) (sym is)
 
 pub parameters-drop_all : (all : List Param) (i : ℕ) → length all ≤ i → map parameter (drop i all) ≡ []
 parameters-drop_all all i past = ap (map parameter) (drop_all i all past)
 
-pub name_there : (all : List Param) (i : ℕ) (p : Param) → i < length all → p ≡ get_or all i p → slice_get (parameter_names all) i ≡ Some p.name
+pub name_there : (all : List Param) (i : ℕ) (p : Param) → i < length all → p ≡ get_or all i p
+    → slice_get (parameter_names all) i ≡ Some p.name
 name_there [] i p below is = absurd (omega arith)
 name_there (q ∷ all) zero p below is = ap (λ x. Some x.name) (sym is)
 name_there (q ∷ all) (suc i) p below is = name_there all i p (omega arith) is
@@ -49,44 +54,64 @@ names-parameters [] = refl
 names-parameters (p ∷ all) = ap (λ l. p.name ∷ l) (names-parameters all)
 
 -- ---- names in a map
-pub shown_insert : (key : Bor (List ℕ)) (v : Value) (es : List (Bor (List ℕ) × Value)) → map shown (insert_entry (λ a b. pointwise nat_eq a.now b.now) es key v) ≡ with_name key.now (datum_of v) (map shown es)
+pub shown_insert : (key : Bor (List ℕ)) (v : Value) (es : List (Bor (List ℕ) × Value))
+    → map shown (insert_entry (λ a b. pointwise nat_eq a.now b.now) es key v) ≡ with_name key.now (datum_of v)
+    (map shown es)
 shown_insert key v [] = refl
 shown_insert key v (e ∷ es) = by (shown_insert key v es) (pointwise nat_eq key.now e.0.now)
   where
-    by : map shown (insert_entry (λ a b. pointwise nat_eq a.now b.now) es key v) ≡ with_name key.now (datum_of v) (map shown es) → (b : Bool) → map shown (if b then (e.0, v) ∷ es else e ∷ insert_entry (λ a b. pointwise nat_eq a.now b.now) es key v) ≡ (if b then (e.0.now, datum_of v) ∷ map shown es else shown e ∷ with_name key.now (datum_of v) (map shown es))
+    by : map shown (insert_entry (λ a b. pointwise nat_eq a.now b.now) es key v) ≡ with_name key.now (datum_of v)
+        (map shown es) → (b : Bool)
+        → map shown (if b then (e.0, v) ∷ es else e ∷ insert_entry (λ a b. pointwise nat_eq a.now b.now) es key v)
+        ≡ (if b then (e.0.now, datum_of v) ∷ map shown es else shown e ∷ with_name key.now (datum_of v) (map shown es))
     by rest true = refl
     by rest false = ap (λ l. shown e ∷ l) rest
 
-pub given_lookup : (name : List ℕ) (es : List (Bor (List ℕ) × Value)) → is_some (lookup (λ k. pointwise nat_eq name k.now) es) ≡ is_given name (map shown es)
+pub given_lookup : (name : List ℕ) (es : List (Bor (List ℕ) × Value))
+    → is_some (lookup (λ k. pointwise nat_eq name k.now) es) ≡ is_given name (map shown es)
 given_lookup name [] = refl
 given_lookup name (e ∷ es) = by (given_lookup name es) (pointwise nat_eq name e.0.now)
   where
-    by : is_some (lookup (λ k. pointwise nat_eq name k.now) es) ≡ is_given name (map shown es) → (b : Bool) → is_some (if b then Some e.1 else lookup (λ k. pointwise nat_eq name k.now) es) ≡ is_some (if b then Some (datum_of e.1) else value_of_name name (map shown es))
+    by : is_some (lookup (λ k. pointwise nat_eq name k.now) es) ≡ is_given name (map shown es) → (b : Bool)
+        → is_some (if b then Some e.1 else lookup (λ k. pointwise nat_eq name k.now) es)
+        ≡ is_some (if b then Some (datum_of e.1) else value_of_name name (map shown es))
     by rest true = refl
     by rest false = rest
 
 -- ---- the arguments that are left
-taken-argument : (names : List (List ℕ)) (i : ℕ) (word : Option (List ℕ)) (e : _) (more : Arguments) (d : Datum) (values : List Datum) (so_far : Names) → given_from names i (argument word e more) (d ∷ values) so_far ≡ given_from names (counted_on word i) more values (taken names i word d so_far)
+taken-argument : (names : List (List ℕ)) (i : ℕ) (word : Option (List ℕ)) (e : _) (more : Arguments) (d : Datum)
+    (values : List Datum) (so_far : Names) → given_from names i (argument word e more) (d ∷ values) so_far
+    ≡ given_from names (counted_on word i) more values (taken names i word d so_far)
 taken-argument names i None e more d values so_far = refl
 taken-argument names i (Some name) e more d values so_far = refl
 
-pub given-next : (names : List (List ℕ)) (i : ℕ) (all : List Arg) (at : ℕ) (a : Arg) (d : Datum) (values : List Datum) (so_far : Names) → at < length all → a ≡ get_or all at a → given_from names i (arguments (drop at all)) (d ∷ values) so_far ≡ given_from names (counted_on a.name i) (arguments (drop (at + 1) all)) values (taken names i a.name d so_far)
+pub given-next : (names : List (List ℕ)) (i : ℕ) (all : List Arg) (at : ℕ) (a : Arg) (d : Datum) (values : List Datum)
+    (so_far : Names) → at < length all → a ≡ get_or all at a → given_from names i (arguments (drop at all)) (d ∷ values)
+    so_far ≡ given_from names (counted_on a.name i) (arguments (drop (at + 1) all)) values
+    (taken names i a.name d so_far)
 given-next names i all at a d values so_far below is =
     ap (λ args. given_from names i args (d ∷ values) so_far) (arguments-drop all at a below is)
     ∙ taken-argument names i a.name (expression_of a.value) (arguments (drop (at + 1) all)) d values so_far
 
-pub given-past : (names : List (List ℕ)) (i : ℕ) (all : List Arg) (at : ℕ) (values : List Datum) (so_far : Names) → length all ≤ at → given_from names i (arguments (drop at all)) values so_far ≡ so_far
-given-past names i all at values so_far past = ap (λ args. given_from names i args values so_far) (arguments-drop_all all at past)
+pub given-past : (names : List (List ℕ)) (i : ℕ) (all : List Arg) (at : ℕ) (values : List Datum) (so_far : Names)
+    → length all ≤ at → given_from names i (arguments (drop at all)) values so_far ≡ so_far
+given-past names i all at values so_far past = ap (λ args. given_from names i args values so_far)
+    (arguments-drop_all all at past)
 
-no_values : (names : List (List ℕ)) (i : ℕ) (args : Arguments) (so_far : Names) → given_from names i args [] so_far ≡ so_far
+no_values : (names : List (List ℕ)) (i : ℕ) (args : Arguments) (so_far : Names) → given_from names i args [] so_far
+    ≡ so_far
 no_values names i no_arguments so_far = refl
 no_values names i (argument word e more) so_far = refl
 
-pub given-end : (names : List (List ℕ)) (i : ℕ) (args : Arguments) (values : List Datum) (so_far : Names) → values ≡ [] → given_from names i args values so_far ≡ so_far
-given-end names i args values so_far none = ap (λ vs. given_from names i args vs so_far) none ∙ no_values names i args so_far
+pub given-end : (names : List (List ℕ)) (i : ℕ) (args : Arguments) (values : List Datum) (so_far : Names) → values ≡ []
+    → given_from names i args values so_far ≡ so_far
+given-end names i args values so_far none = ap (λ vs. given_from names i args vs so_far) none ∙ no_values names i args
+    so_far
 
 -- ---- child statements that are left
-pub statements-next : (all : List Item) (i : ℕ) (v : Item) → i < length all → v ≡ get_or all i v → statements (items (drop i all)) ≡ (if is_statement (item_of v) then 1 else 0) + statements (items (drop (i + 1) all))
+pub statements-next : (all : List Item) (i : ℕ) (v : Item) → i < length all → v ≡ get_or all i v
+    → statements (items (drop i all)) ≡ (if is_statement (item_of v) then 1 else 0) + statements
+    (items (drop (i + 1) all))
 statements-next all i v below is = ap statements (items-drop all i v below is)
 
 pub statements-end : (all : List Item) (i : ℕ) → length all ≤ i → statements (items (drop i all)) ≡ 0

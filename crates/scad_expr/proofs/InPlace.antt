@@ -41,7 +41,8 @@ pub member-undef : (word : List ℕ) → member_of word undef ≡ undef
 unfolding member_of
 member-undef word = by (is_same_name word (codes "x")) (is_same_name word (codes "y")) (is_same_name word (codes "z"))
   where
-    by : (x y z : Bool) → (if x then indexed undef (number (pos 0)) else (if y then indexed undef (number (pos 1000000)) else (if z then indexed undef (number (pos 2000000)) else undef))) ≡ undef
+    by : (x y z : Bool) → (if x then indexed undef (number (pos 0)) else (if y then indexed undef (number (pos 1000000))
+        else (if z then indexed undef (number (pos 2000000)) else undef))) ≡ undef
     by true y z = indexed-undef (number (pos 0))
     by false true z = indexed-undef (number (pos 1000000))
     by false false true = indexed-undef (number (pos 2000000))
@@ -50,41 +51,52 @@ member-undef word = by (is_same_name word (codes "x")) (is_same_name word (codes
 pub ruleset undefined = (indexed-undef, member-undef)
 
 -- ---- a name that is evaluated
-pub name-none : (d : ℕ) (env along : Env) (at : Place) (word : List ℕ) (s : State) → d ≡ 0 → value d env along (name at word) s ≡ over Depth at s
+pub name-none : (d : ℕ) (env along : Env) (at : Place) (word : List ℕ) (s : State) → d ≡ 0
+    → value d env along (name at word) s ≡ over Depth at s
 name-none d env along at word s none = value_none d env along (name at word) s none
 
-pub name-more : (d : ℕ) (env along : Env) (at : Place) (word : List ℕ) (s : State) → d ≢ 0 → value d env along (name at word) s ≡ and_then (step at s) (λ _ t. gives (variable word env along) t)
+pub name-more : (d : ℕ) (env along : Env) (at : Place) (word : List ℕ) (s : State) → d ≢ 0
+    → value d env along (name at word) s ≡ and_then (step at s) (λ _ t. gives (variable word env along) t)
 unfolding value_layer node
 name-more d env along at word s some = value_more d env along (name at word) s some
 
 pub ruleset names = (name-none, name-more)
 
 -- ---- a function of the language that refuses
-pub refused : (at : Place) (word : List ℕ) (answer : Result Datum BuiltinFault) (e : BuiltinFault) (f : EvalFault) (s : State) → Refuses answer e → ((t : State) → f ≢ NoMemory → called_builtin at word (Err e) t ≡ refuses f t) → (e ≡ Memory → f ≡ NoMemory) → f ≢ NoMemory → called_builtin at word answer s ≡ refuses f s
+pub refused : (at : Place) (word : List ℕ) (answer : Result Datum BuiltinFault) (e : BuiltinFault) (f : EvalFault)
+    (s : State) → Refuses answer e → ((t : State) → f ≢ NoMemory → called_builtin at word (Err e) t ≡ refuses f t)
+    → (e ≡ Memory → f ≡ NoMemory) → f ≢ NoMemory → called_builtin at word answer s ≡ refuses f s
 refused at word answer e f s r told memory some =
     ap (λ a. called_builtin at word a s) (r (λ is. some (memory is))) ∙ told s some
 
 -- ---- a call of one argument
-pub values-lone : (below : Below) (env along : Env) (args : Arguments) (e : Expression) (s : State) → lone args ≡ Some e → values below env along args [] s ≡ and_then (below.value env along e s) (λ d. gives (d ∷ []))
+pub values-lone : (below : Below) (env along : Env) (args : Arguments) (e : Expression) (s : State) → lone args ≡ Some e
+    → values below env along args [] s ≡ and_then (below.value env along e s) (λ d. gives (d ∷ []))
 unfolding values
 values-lone below env along no_arguments e s is = cc
 values-lone below env along (argument word f no_arguments) e s is = ap (λ x. and_then (below.value env along x s) (λ d. gives (d ∷ []))) (let same : f ≡ e = cc in same)
 values-lone below env along (argument word f (argument word2 f2 more)) e s is = cc
 
-pub node-lone : (below : Below) (env along : Env) (at : Place) (word : List ℕ) (args : Arguments) (e : Expression) (s : State) → lone args ≡ Some e → function_named word env ≡ None → node below env along (call at word args) s ≡ called_of below at word env along e s
+pub node-lone : (below : Below) (env along : Env) (at : Place) (word : List ℕ) (args : Arguments) (e : Expression)
+    (s : State) → lone args ≡ Some e → function_named word env ≡ None → node below env along (call at word args) s
+    ≡ called_of below at word env along e s
 unfolding node called called_of
 node-lone below env along at word args e s is own =
-    ap (λ o. and_then o (λ found. called below at word (function_named word env) along args found)) (values-lone below env along args e s is)
-    ∙ ap (λ f. and_then (and_then (below.value env along e s) (λ d. gives (d ∷ []))) (λ found. called below at word f along args found)) own
+    ap (λ o. and_then o (λ found. called below at word (function_named word env) along args found))
+    (values-lone below env along args e s is)
+    ∙ ap (λ f. and_then (and_then (below.value env along e s) (λ d. gives (d ∷ []))) (λ found. called below at word f
+    along args found)) own
     ∙ by (below.value env along e s)
   where
-    by : (o : Outcome Datum) → and_then (and_then o (λ d. gives (d ∷ []))) (λ found. called below at word None along args found) ≡ and_then o (λ d. called_builtin at word (builtin word (element d no_elements)))
+    by : (o : Outcome Datum) → and_then (and_then o (λ d. gives (d ∷ []))) (λ found. called below at word None along
+        args found) ≡ and_then o (λ d. called_builtin at word (builtin word (element d no_elements)))
     by (gives d t) = refl
     by (refuses f t) = refl
 
 pub alone : (a : Arg) → lone (arguments (a ∷ [])) ≡ Some (expression_of a.value)
 alone a = refl
 
-pub none-named : {A B : Type 0} (g : A → B) (r : Option A) (o : Option B) → is_some r ≡ false → option_map g r ≡ o → o ≡ None
+pub none-named : {A B : Type 0} (g : A → B) (r : Option A) (o : Option B) → is_some r ≡ false → option_map g r ≡ o
+    → o ≡ None
 none-named g None o no_one e = sym e
 none-named g (Some a) o no_one e = cc

@@ -36,131 +36,181 @@ nothing-left (a ∷ all) none = absurd (let no : ⊥ = omega arith in no)
 pub goes : {A B : Type 0} (o : Outcome A) (f : A → Action B) (a : A) (s : State) → o ≡ gives a s → and_then o f ≡ f a s
 goes o f a s e = ap (λ p. and_then p f) e
 
-pub stops : {A B : Type 0} (o : Outcome A) (f : A → Action B) (e : EvalFault) (s : State) → o ≡ refuses e s → and_then o f ≡ refuses e s
+pub stops : {A B : Type 0} (o : Outcome A) (f : A → Action B) (e : EvalFault) (s : State) → o ≡ refuses e s
+    → and_then o f ≡ refuses e s
 stops o f e s is = ap (λ p. and_then p f) is
 
-pub same-then : {A B : Type 0} (o : Outcome A) (f g : A → Action B) → ((a : A) (s : State) → f a s ≡ g a s) → and_then o f ≡ and_then o g
+pub same-then : {A B : Type 0} (o : Outcome A) (f g : A → Action B) → ((a : A) (s : State) → f a s ≡ g a s)
+    → and_then o f ≡ and_then o g
 same-then (gives a s) f g h = h a s
 same-then (refuses e s) f g h = refl
 
-pub twice : {A B C : Type 0} (o : Outcome A) (f : A → Action B) (g : B → Action C) → and_then (and_then o f) g ≡ and_then o (λ a s. and_then (f a s) g)
+pub twice : {A B C : Type 0} (o : Outcome A) (f : A → Action B) (g : B → Action C) → and_then (and_then o f) g
+    ≡ and_then o (λ a s. and_then (f a s) g)
 twice (gives a s) f g = refl
 twice (refuses e s) f g = refl
 
 -- ---- arguments
 module _ (below : Below) (all : List Arg) (i : ℕ) (a : Arg) (there : i < length all) (is : a ≡ get_or all i a) (h h0 : Held) (same : h ≡ h0) (so_far : List Datum) (s : State) (w : Outcome (List Datum)) (left : values below (env_in h0) (along_in h0) (arguments (drop i all)) so_far s ≡ w) where
-  value-next : w ≡ and_then (below.value (env_in h) (along_in h) (expression_of a.value) s) (λ d. values below (env_in h0) (along_in h0) (arguments (drop (i + 1) all)) (so_far ++ d ∷ []))
+  value-next : w ≡ and_then (below.value (env_in h) (along_in h) (expression_of a.value) s)
+      (λ d. values below (env_in h0) (along_in h0) (arguments (drop (i + 1) all)) (so_far ++ d ∷ []))
   unfolding values
   value-next =
       sym left ∙ ap (λ args. values below (env_in h0) (along_in h0) args so_far s) (arguments-drop all i a there is)
-      ∙ ap (λ g. and_then (below.value (env_in g) (along_in g) (expression_of a.value) s) (λ d. values below (env_in h0) (along_in h0) (arguments (drop (i + 1) all)) (so_far ++ d ∷ []))) (sym same)
+      ∙ ap (λ g. and_then (below.value (env_in g) (along_in g) (expression_of a.value) s)
+      (λ d. values below (env_in h0) (along_in h0) (arguments (drop (i + 1) all)) (so_far ++ d ∷ []))) (sym same)
 
-  pub value-goes : (d : Datum) (s2 : State) → below.value (env_in h) (along_in h) (expression_of a.value) s ≡ gives d s2 → values below (env_in h0) (along_in h0) (arguments (drop (i + 1) all)) (so_far ++ d ∷ []) s2 ≡ w
+  pub value-goes : (d : Datum) (s2 : State) → below.value (env_in h) (along_in h) (expression_of a.value) s ≡ gives d s2
+      → values below (env_in h0) (along_in h0) (arguments (drop (i + 1) all)) (so_far ++ d ∷ []) s2 ≡ w
   value-goes d s2 e = sym (value-next ∙ goes _ _ d s2 e)
 
-  pub value-stops : (f : EvalFault) (s2 : State) → below.value (env_in h) (along_in h) (expression_of a.value) s ≡ refuses f s2 → w ≡ refuses f s2
+  pub value-stops : (f : EvalFault) (s2 : State) → below.value (env_in h) (along_in h) (expression_of a.value) s
+      ≡ refuses f s2 → w ≡ refuses f s2
   value-stops f s2 e = value-next ∙ stops _ _ f s2 e
 
-pub values-end : (below : Below) (env along : Env) (all : List Arg) (i : ℕ) (so_far : List Datum) (s : State) → length all ≤ i → values below env along (arguments (drop i all)) so_far s ≡ gives so_far s
+pub values-end : (below : Below) (env along : Env) (all : List Arg) (i : ℕ) (so_far : List Datum) (s : State)
+    → length all ≤ i → values below env along (arguments (drop i all)) so_far s ≡ gives so_far s
 unfolding values
-values-end below env along all i so_far s past = ap (λ args. values below env along args so_far s) (arguments-drop_all all i past)
+values-end below env along all i so_far s past = ap (λ args. values below env along args so_far s)
+    (arguments-drop_all all i past)
 
 -- ---- elements
-element-drop : (all : List Elem) (i : ℕ) (e : Elem) → i < length all → e ≡ get_or all i e → elements (drop i all) ≡ element (element_of e) (elements (drop (i + 1) all))
-element-drop all i e below is = ap elements (drop_more all i e below) ∙ ap (λ x. element (element_of x) (elements (drop (i + 1) all))) (sym is)
+element-drop : (all : List Elem) (i : ℕ) (e : Elem) → i < length all → e ≡ get_or all i e → elements (drop i all)
+    ≡ element (element_of e) (elements (drop (i + 1) all))
+element-drop all i e below is = ap elements (drop_more all i e below) ∙ ap
+    (λ x. element (element_of x) (elements (drop (i + 1) all))) (sym is)
 
 module _ (below : Below) (all : List Elem) (i : ℕ) (a : Elem) (there : i < length all) (is : a ≡ get_or all i a) (h h0 : Held) (same : h ≡ h0) (so_far : List Datum) (s : State) (w : Outcome (List Datum)) (left : elements_given below (env_in h0) (along_in h0) (elements (drop i all)) so_far s ≡ w) where
-  element-next : w ≡ and_then (below.element (env_in h) (along_in h) (element_of a) so_far s) (λ now. elements_given below (env_in h0) (along_in h0) (elements (drop (i + 1) all)) now)
+  element-next : w ≡ and_then (below.element (env_in h) (along_in h) (element_of a) so_far s)
+      (λ now. elements_given below (env_in h0) (along_in h0) (elements (drop (i + 1) all)) now)
   unfolding elements_given
   element-next =
       sym left ∙ ap (λ es. elements_given below (env_in h0) (along_in h0) es so_far s) (element-drop all i a there is)
-      ∙ ap (λ g. and_then (below.element (env_in g) (along_in g) (element_of a) so_far s) (λ now. elements_given below (env_in h0) (along_in h0) (elements (drop (i + 1) all)) now)) (sym same)
+      ∙ ap (λ g. and_then (below.element (env_in g) (along_in g) (element_of a) so_far s)
+      (λ now. elements_given below (env_in h0) (along_in h0) (elements (drop (i + 1) all)) now)) (sym same)
 
-  pub element-goes : (now : List Datum) (s2 : State) → below.element (env_in h) (along_in h) (element_of a) so_far s ≡ gives now s2 → elements_given below (env_in h0) (along_in h0) (elements (drop (i + 1) all)) now s2 ≡ w
+  pub element-goes : (now : List Datum) (s2 : State) → below.element (env_in h) (along_in h) (element_of a) so_far s
+      ≡ gives now s2 → elements_given below (env_in h0) (along_in h0) (elements (drop (i + 1) all)) now s2 ≡ w
   element-goes now s2 e = sym (element-next ∙ goes _ _ now s2 e)
 
-  pub element-stops : (f : EvalFault) (s2 : State) → below.element (env_in h) (along_in h) (element_of a) so_far s ≡ refuses f s2 → w ≡ refuses f s2
+  pub element-stops : (f : EvalFault) (s2 : State) → below.element (env_in h) (along_in h) (element_of a) so_far s
+      ≡ refuses f s2 → w ≡ refuses f s2
   element-stops f s2 e = element-next ∙ stops _ _ f s2 e
 
-pub elements-end : (below : Below) (env along : Env) (all : List Elem) (i : ℕ) (so_far : List Datum) (s : State) → length all ≤ i → elements_given below env along (elements (drop i all)) so_far s ≡ gives so_far s
+pub elements-end : (below : Below) (env along : Env) (all : List Elem) (i : ℕ) (so_far : List Datum) (s : State)
+    → length all ≤ i → elements_given below env along (elements (drop i all)) so_far s ≡ gives so_far s
 unfolding elements_given
 elements-end below env along all i so_far s past =
     let none : elements (drop i all) ≡ no_elements = ap elements (drop_all {X = Elem} i all past) in
     ap (λ es. elements_given below env along es so_far s) none
 
 -- ---- names
-bound-next : (below : Below) (env along : Env) (word : Option (List ℕ)) (e : Expression) (more : Arguments) (b : Bound) (s : State) → bound_in_order below env along (argument word e more) b s ≡ and_then (bind_one below env along word e b s) (λ next. bound_in_order below env along more next)
+bound-next : (below : Below) (env along : Env) (word : Option (List ℕ)) (e : Expression) (more : Arguments) (b : Bound)
+    (s : State) → bound_in_order below env along (argument word e more) b s
+    ≡ and_then (bind_one below env along word e b s) (λ next. bound_in_order below env along more next)
 unfolding bound_in_order bind_one
 bound-next below env along None e more b s = refl
-bound-next below env along (Some name) e more b s = sym (twice (below.value (within env b.names) (within along b.dollars) e s) (λ d. pure (set name d b)) (λ next. bound_in_order below env along more next))
+bound-next below env along (Some name) e more b s =
+    sym (twice (below.value (within env b.names) (within along b.dollars) e s) (λ d. pure (set name d b))
+    (λ next. bound_in_order below env along more next))
 
 module _ (below : Below) (all : List Arg) (i : ℕ) (a : Arg) (there : i < length all) (is : a ≡ get_or all i a) (o o0 : Held) (same : o ≡ o0) (b : Bound) (s : State) (w : Outcome Bound) (left : bound_in_order below (env_in o0) (along_in o0) (arguments (drop i all)) b s ≡ w) where
-  name-next : w ≡ and_then (bind_one below (env_in o) (along_in o) a.name (expression_of a.value) b s) (λ next. bound_in_order below (env_in o0) (along_in o0) (arguments (drop (i + 1) all)) next)
+  name-next : w ≡ and_then (bind_one below (env_in o) (along_in o) a.name (expression_of a.value) b s)
+      (λ next. bound_in_order below (env_in o0) (along_in o0) (arguments (drop (i + 1) all)) next)
   name-next =
       sym left ∙ ap (λ args. bound_in_order below (env_in o0) (along_in o0) args b s) (arguments-drop all i a there is)
       ∙ bound-next below (env_in o0) (along_in o0) a.name (expression_of a.value) (arguments (drop (i + 1) all)) b s
-      ∙ ap (λ g. and_then (bind_one below (env_in g) (along_in g) a.name (expression_of a.value) b s) (λ next. bound_in_order below (env_in o0) (along_in o0) (arguments (drop (i + 1) all)) next)) (sym same)
+      ∙ ap (λ g. and_then (bind_one below (env_in g) (along_in g) a.name (expression_of a.value) b s)
+      (λ next. bound_in_order below (env_in o0) (along_in o0) (arguments (drop (i + 1) all)) next)) (sym same)
 
-  pub name-goes : (next : Bound) (s2 : State) → bind_one below (env_in o) (along_in o) a.name (expression_of a.value) b s ≡ gives next s2 → bound_in_order below (env_in o0) (along_in o0) (arguments (drop (i + 1) all)) next s2 ≡ w
+  pub name-goes : (next : Bound) (s2 : State) → bind_one below (env_in o) (along_in o) a.name (expression_of a.value) b
+      s ≡ gives next s2 → bound_in_order below (env_in o0) (along_in o0) (arguments (drop (i + 1) all)) next s2 ≡ w
   name-goes next s2 e = sym (name-next ∙ goes _ _ next s2 e)
 
-  pub name-stops : (f : EvalFault) (s2 : State) → bind_one below (env_in o) (along_in o) a.name (expression_of a.value) b s ≡ refuses f s2 → w ≡ refuses f s2
+  pub name-stops : (f : EvalFault) (s2 : State) → bind_one below (env_in o) (along_in o) a.name (expression_of a.value)
+      b s ≡ refuses f s2 → w ≡ refuses f s2
   name-stops f s2 e = name-next ∙ stops _ _ f s2 e
 
-pub names-end : (below : Below) (env along : Env) (all : List Arg) (i : ℕ) (b : Bound) (s : State) → length all ≤ i → bound_in_order below env along (arguments (drop i all)) b s ≡ gives b s
+pub names-end : (below : Below) (env along : Env) (all : List Arg) (i : ℕ) (b : Bound) (s : State) → length all ≤ i
+    → bound_in_order below env along (arguments (drop i all)) b s ≡ gives b s
 unfolding bound_in_order
-names-end below env along all i b s past = ap (λ args. bound_in_order below env along args b s) (arguments-drop_all all i past)
+names-end below env along all i b s past = ap (λ args. bound_in_order below env along args b s)
+    (arguments-drop_all all i past)
 
 -- ---- turns of a variable
-turn-next : (below : Below) (at : Place) (name : List ℕ) (inner : Env → Env → List Datum → Action (List Datum)) (env along : Env) (d : Datum) (more so_far : List Datum) (s : State) → turns below at name inner env along (d ∷ more) so_far s ≡ and_then (turn at name inner env along d so_far s) (λ now. turns below at name inner env along more now)
+turn-next : (below : Below) (at : Place) (name : List ℕ) (inner : Env → Env → List Datum → Action (List Datum))
+    (env along : Env) (d : Datum) (more so_far : List Datum) (s : State) → turns below at name inner env along
+    (d ∷ more) so_far s ≡ and_then (turn at name inner env along d so_far s) (λ now. turns below at name inner env along
+    more now)
 unfolding turns turn
 turn-next below at name inner env along d more so_far s =
-    sym (twice (step at s) (λ _. inner (within env (set name d empty).names) (within along (set name d empty).dollars) so_far) (λ now. turns below at name inner env along more now))
+    sym (twice (step at s) (λ _. inner (within env (set name d empty).names) (within along (set name d empty).dollars)
+    so_far) (λ now. turns below at name inner env along more now))
 
 module _ (below : Below) (at : Place) (name : List ℕ) (inner : Env → Env → List Datum → Action (List Datum)) (h h0 : Held) (same : h ≡ h0) (all more : List Datum) (d : Datum) (is : all ≡ d ∷ more) (so_far : List Datum) (s : State) (w : Outcome (List Datum)) (left : turns below at name inner (env_in h0) (along_in h0) all so_far s ≡ w) where
-  turned : w ≡ and_then (turn at name inner (env_in h) (along_in h) d so_far s) (λ now. turns below at name inner (env_in h0) (along_in h0) more now)
+  turned : w ≡ and_then (turn at name inner (env_in h) (along_in h) d so_far s) (λ now. turns below at name inner
+      (env_in h0) (along_in h0) more now)
   turned =
       sym left ∙ ap (λ l. turns below at name inner (env_in h0) (along_in h0) l so_far s) is
       ∙ turn-next below at name inner (env_in h0) (along_in h0) d more so_far s
-      ∙ ap (λ g. and_then (turn at name inner (env_in g) (along_in g) d so_far s) (λ now. turns below at name inner (env_in h0) (along_in h0) more now)) (sym same)
+      ∙ ap (λ g. and_then (turn at name inner (env_in g) (along_in g) d so_far s) (λ now. turns below at name inner
+      (env_in h0) (along_in h0) more now)) (sym same)
 
-  pub turn-goes : (now : List Datum) (s2 : State) → turn at name inner (env_in h) (along_in h) d so_far s ≡ gives now s2 → turns below at name inner (env_in h0) (along_in h0) more now s2 ≡ w
+  pub turn-goes : (now : List Datum) (s2 : State) → turn at name inner (env_in h) (along_in h) d so_far s ≡ gives now s2
+      → turns below at name inner (env_in h0) (along_in h0) more now s2 ≡ w
   turn-goes now s2 e = sym (turned ∙ goes _ _ now s2 e)
 
-  pub turn-stops : (f : EvalFault) (s2 : State) → turn at name inner (env_in h) (along_in h) d so_far s ≡ refuses f s2 → w ≡ refuses f s2
+  pub turn-stops : (f : EvalFault) (s2 : State) → turn at name inner (env_in h) (along_in h) d so_far s ≡ refuses f s2
+      → w ≡ refuses f s2
   turn-stops f s2 e = turned ∙ stops _ _ f s2 e
 
-pub turns-end : (below : Below) (at : Place) (name : List ℕ) (inner : Env → Env → List Datum → Action (List Datum)) (env along : Env) (all so_far : List Datum) (s : State) → all ≡ [] → turns below at name inner env along all so_far s ≡ gives so_far s
+pub turns-end : (below : Below) (at : Place) (name : List ℕ) (inner : Env → Env → List Datum → Action (List Datum))
+    (env along : Env) (all so_far : List Datum) (s : State) → all ≡ [] → turns below at name inner env along all so_far
+    s ≡ gives so_far s
 unfolding turns
-turns-end below at name inner env along all so_far s none = ap (λ l. turns below at name inner env along l so_far s) none
+turns-end below at name inner env along all so_far s none = ap (λ l. turns below at name inner env along l so_far s)
+    none
 
 -- ---- defaults
-pub defaults-missing : (below : Below) (home along : Env) (got : Names) (all : List Parameter) (b : Bound) (s : State) → defaults below home along got all b s ≡ defaulted below home along (missing got all) b s
+pub defaults-missing : (below : Below) (home along : Env) (got : Names) (all : List Parameter) (b : Bound) (s : State)
+    → defaults below home along got all b s ≡ defaulted below home along (missing got all) b s
 unfolding defaults defaulted
 defaults-missing below home along got [] b s = refl
-defaults-missing below home along got (p ∷ all) b s = by (defaults-missing below home along got all) (is_given p.name got)
+defaults-missing below home along got (p ∷ all) b s = by (defaults-missing below home along got all)
+    (is_given p.name got)
   where
-    by : ((c : Bound) (t : State) → defaults below home along got all c t ≡ defaulted below home along (missing got all) c t) → (c : Bool) → (if c then defaults below home along got all b else (default_value below home (within along b.dollars) p.default >>= λ d. defaults below home along got all (set p.name d b))) s ≡ defaulted below home along (if not c then p ∷ missing got all else missing got all) b s
+    by : ((c : Bound) (t : State) → defaults below home along got all c t ≡ defaulted below home along (missing got all)
+        c t) → (c : Bool) → (if c then defaults below home along got all b else
+        (default_value below home (within along b.dollars) p.default >>= λ d. defaults below home along got all
+        (set p.name d b))) s ≡ defaulted below home along (if not c then p ∷ missing got all else missing got all) b s
     by more true = more b s
-    by more false = same-then (default_value below home (within along b.dollars) p.default s) _ _ (λ d s2. more (set p.name d b) s2)
+    by more false = same-then (default_value below home (within along b.dollars) p.default s) _ _
+        (λ d s2. more (set p.name d b) s2)
 
 module _ (below : Below) (home along : Env) (p : Parameter) (all more : List Parameter) (is : all ≡ p ∷ more) (b : Bound) (s : State) (w : Outcome Bound) (left : defaulted below home along all b s ≡ w) where
-  defaulted-next : w ≡ and_then (default_value below home (within along b.dollars) p.default s) (λ d. defaulted below home along more (set p.name d b))
+  defaulted-next : w ≡ and_then (default_value below home (within along b.dollars) p.default s)
+      (λ d. defaulted below home along more (set p.name d b))
   unfolding defaulted
   defaulted-next = sym left ∙ ap (λ l. defaulted below home along l b s) is
 
-  pub default-goes : (d : Datum) (s2 : State) → default_value below home (within along b.dollars) p.default s ≡ gives d s2 → defaulted below home along more (set p.name d b) s2 ≡ w
+  pub default-goes : (d : Datum) (s2 : State) → default_value below home (within along b.dollars) p.default s
+      ≡ gives d s2 → defaulted below home along more (set p.name d b) s2 ≡ w
   default-goes d s2 e = sym (defaulted-next ∙ goes _ _ d s2 e)
 
-  pub default-stops : (f : EvalFault) (s2 : State) → default_value below home (within along b.dollars) p.default s ≡ refuses f s2 → w ≡ refuses f s2
+  pub default-stops : (f : EvalFault) (s2 : State) → default_value below home (within along b.dollars) p.default s
+      ≡ refuses f s2 → w ≡ refuses f s2
   default-stops f s2 e = defaulted-next ∙ stops _ _ f s2 e
 
 module _ (below : Below) (kept : Option StoredChildren) (home : ℕ) (o : Held) (there : home < length o.frames) (h : Held) (was : h ≡ opened kept home home (bound_in h) o) (p : Parameter) (all more : List Parameter) (is : all ≡ p ∷ more) (s : State) (w : Outcome Bound) (left : defaulted below (env_at (envs o.frames) home) (along_in o) all (bound_in h) s ≡ w) where
-  there_default : default_value below (env_in h) (along_in h) p.default s ≡ default_value below (env_at (envs o.frames) home) (within (along_in o) (bound_in h).dollars) p.default s
-  there_default = ap₂ (λ x y. default_value below x y p.default s) (call-home kept home h o was there) (call-along kept home home h o was)
+  there_default : default_value below (env_in h) (along_in h) p.default s ≡ default_value below
+      (env_at (envs o.frames) home) (within (along_in o) (bound_in h).dollars) p.default s
+  there_default = ap₂ (λ x y. default_value below x y p.default s) (call-home kept home h o was there)
+      (call-along kept home home h o was)
 
-  pub call-stops : (f : EvalFault) (s2 : State) → default_value below (env_in h) (along_in h) p.default s ≡ refuses f s2 → w ≡ refuses f s2
-  call-stops f s2 e = default-stops below (env_at (envs o.frames) home) (along_in o) p all more is (bound_in h) s w left f s2 (sym there_default ∙ e)
+  pub call-stops : (f : EvalFault) (s2 : State) → default_value below (env_in h) (along_in h) p.default s ≡ refuses f s2
+      → w ≡ refuses f s2
+  call-stops f s2 e = default-stops below (env_at (envs o.frames) home) (along_in o) p all more is (bound_in h) s w left
+      f s2 (sym there_default ∙ e)
 
   module _ (d : Datum) (s2 s3 : State) (e : default_value below (env_in h) (along_in h) p.default s ≡ gives d s2) (h2 n : Held) (same : h2 ≡ h) (name : List ℕ) (named : name ≡ p.name) (made : n ≡ set_in_last name d h2) (done : s2 ≡ s3) where
     opened_next : n ≡ opened kept home home (set p.name d (bound_in h)) o
@@ -175,22 +225,30 @@ module _ (below : Below) (kept : Option StoredChildren) (home : ℕ) (o : Held) 
     call-goes =
         ap₂ (λ b t. defaulted below (env_at (envs o.frames) home) (along_in o) more b t)
         (opened-bound kept home home (set p.name d (bound_in h)) n o opened_next) (sym done)
-        ∙ default-goes below (env_at (envs o.frames) home) (along_in o) p all more is (bound_in h) s w left d s2 (sym there_default ∙ e)
+        ∙ default-goes below (env_at (envs o.frames) home) (along_in o) p all more is (bound_in h) s w left d s2
+        (sym there_default ∙ e)
 
 -- a call's names before its defaults
-pub call-begins : (below : Below) (home along : Env) (params : List Param) (args : Arguments) (found : List Datum) (rest : List Parameter) (b : Bound) (s t : State) → rest ≡ missing (given (parameter_names params) args found) (map parameter params) → b ≡ set_all (given (parameter_names params) args found) empty → s ≡ t → defaulted below home along rest b t ≡ bound below home along (map parameter params) args found s
+pub call-begins : (below : Below) (home along : Env) (params : List Param) (args : Arguments) (found : List Datum)
+    (rest : List Parameter) (b : Bound) (s t : State) → rest ≡ missing (given (parameter_names params) args found)
+    (map parameter params) → b ≡ set_all (given (parameter_names params) args found) empty → s ≡ t
+    → defaulted below home along rest b t ≡ bound below home along (map parameter params) args found s
 unfolding bound
 call-begins below home along params args found rest b s t is names done =
     ap₂ (λ l c. defaulted below home along l c t) is names
-    ∙ ap (λ u. defaulted below home along (missing (given (parameter_names params) args found) (map parameter params)) (set_all (given (parameter_names params) args found) empty) u) (sym done)
-    ∙ sym (defaults-missing below home along (given (parameter_names params) args found) (map parameter params) (set_all (given (parameter_names params) args found) empty) s)
-    ∙ ap (λ names. defaults below home along (given names args found) (map parameter params) (set_all (given names args found) empty) s) (sym (names-parameters params))
+    ∙ ap (λ u. defaulted below home along (missing (given (parameter_names params) args found) (map parameter params))
+    (set_all (given (parameter_names params) args found) empty) u) (sym done)
+    ∙ sym (defaults-missing below home along (given (parameter_names params) args found) (map parameter params)
+    (set_all (given (parameter_names params) args found) empty) s)
+    ∙ ap (λ names. defaults below home along (given names args found) (map parameter params)
+    (set_all (given names args found) empty) s) (sym (names-parameters params))
 
 -- the state after what was done
 pub same-state : {A : Type 0} (a b : A) (s t : State) → gives a s ≡ gives b t → s ≡ t
 same-state a b s t e = cc
 
-pub defaulted-end : (below : Below) (home along : Env) (all : List Parameter) (b : Bound) (s : State) → all ≡ [] → defaulted below home along all b s ≡ gives b s
+pub defaulted-end : (below : Below) (home along : Env) (all : List Parameter) (b : Bound) (s : State) → all ≡ []
+    → defaulted below home along all b s ≡ gives b s
 unfolding defaulted
 defaulted-end below home along all b s none = ap (λ l. defaulted below home along l b s) none
 
@@ -205,15 +263,21 @@ module _ (below : Below) (at : Place) (test : Expression) (steps : Arguments) (b
   abbrev element_then : Action (Bound × List Datum)
   element_then = below.element (within env b.names) (within along b.dollars) body so_far >>= bound_then
 
-  after_names : (now : List Datum) (s : State) → and_then (bound_in_order below env along steps b s) (λ next. loop_turns below n at test steps body env along next now) ≡ and_then (bound_then now s) rest
+  after_names : (now : List Datum) (s : State) → and_then (bound_in_order below env along steps b s)
+      (λ next. loop_turns below n at test steps body env along next now) ≡ and_then (bound_then now s) rest
   after_names now s = sym (twice (bound_in_order below env along steps b s) (λ next. pure (next, now)) rest)
 
-  after_element : (s : State) → and_then (below.element (within env b.names) (within along b.dollars) body so_far s) (λ now. bound_in_order below env along steps b >>= λ next. loop_turns below n at test steps body env along next now) ≡ and_then (element_then s) rest
+  after_element : (s : State) → and_then (below.element (within env b.names) (within along b.dollars) body so_far s)
+      (λ now. bound_in_order below env along steps b >>= λ next. loop_turns below n at test steps body env along next
+      now) ≡ and_then (element_then s) rest
   after_element s =
-      same-then (below.element (within env b.names) (within along b.dollars) body so_far s) _ _ (λ now s2. after_names now s2)
+      same-then (below.element (within env b.names) (within along b.dollars) body so_far s) _ _
+      (λ now s2. after_names now s2)
       ∙ sym (twice (below.element (within env b.names) (within along b.dollars) body so_far s) bound_then rest)
 
-  after_step : (s : State) → and_then (step at s) (λ _. below.element (within env b.names) (within along b.dollars) body so_far >>= λ now. bound_in_order below env along steps b >>= λ next. loop_turns below n at test steps body env along next now) ≡ and_then (turn_on below at steps body env along b so_far s) rest
+  after_step : (s : State) → and_then (step at s) (λ _. below.element (within env b.names) (within along b.dollars) body
+      so_far >>= λ now. bound_in_order below env along steps b >>= λ next. loop_turns below n at test steps body env
+      along next now) ≡ and_then (turn_on below at steps body env along b so_far s) rest
   unfolding turn_on
   after_step s =
       same-then (step at s) _ _ (λ u s2. after_element s2)
@@ -222,13 +286,17 @@ module _ (below : Below) (at : Place) (test : Expression) (steps : Arguments) (b
   abbrev on : Bool → Action (List Datum)
   on c = if c then (turn_on below at steps body env along b so_far >>= rest) else pure so_far
 
-  loop-next : (s : State) → loop_turns below (suc n) at test steps body env along b so_far s ≡ and_then (holds below (within env b.names) (within along b.dollars) test s) on
+  loop-next : (s : State) → loop_turns below (suc n) at test steps body env along b so_far s
+      ≡ and_then (holds below (within env b.names) (within along b.dollars) test s) on
   unfolding loop_turns holds
   loop-next s =
       same-then (below.value (within env b.names) (within along b.dollars) test s) _ _ (λ d s2. by (truth d) s2)
       ∙ sym (twice (below.value (within env b.names) (within along b.dollars) test s) (λ d. pure (truth d)) on)
     where
-      by : (c : Bool) (s2 : State) → (if c then (step at >>= λ _. below.element (within env b.names) (within along b.dollars) body so_far >>= λ now. bound_in_order below env along steps b >>= λ next. loop_turns below n at test steps body env along next now) else pure so_far) s2 ≡ on c s2
+      by : (c : Bool) (s2 : State)
+          → (if c then (step at >>= λ _. below.element (within env b.names) (within along b.dollars) body so_far >>=
+          λ now. bound_in_order below env along steps b >>= λ next. loop_turns below n at test steps body env along next
+          now) else pure so_far) s2 ≡ on c s2
       by true s2 = after_step s2
       by false s2 = refl
 
@@ -244,28 +312,39 @@ module _ (below : Below) (at : Place) (test : Expression) (steps : Arguments) (b
       (sym (inner-env h inside ∙ ap (λ p. within (env_in p) (bound_in h).names) out))
       (sym (inner-along h inside ∙ ap (λ p. within (along_in p) (bound_in h).dollars) out))
 
-  pub loop-stops : (f : EvalFault) (s2 : State) → holds below (env_in h) (along_in h) test s ≡ refuses f s2 → w ≡ refuses f s2
+  pub loop-stops : (f : EvalFault) (s2 : State) → holds below (env_in h) (along_in h) test s ≡ refuses f s2
+      → w ≡ refuses f s2
   loop-stops f s2 e = looped ∙ stops _ _ f s2 e
 
-  pub loop-ends : (c : Bool) (s2 : State) → c ≡ false → holds below (env_in h) (along_in h) test s ≡ gives c s2 → w ≡ gives so_far s2
+  pub loop-ends : (c : Bool) (s2 : State) → c ≡ false → holds below (env_in h) (along_in h) test s ≡ gives c s2
+      → w ≡ gives so_far s2
   loop-ends c s2 ended e = looped ∙ goes _ _ c s2 e ∙ ap (λ b. going b s2) ended
 
   module _ (h2 : Held) (same : h2 ≡ h) (c : Bool) (yes : c ≡ true) (s2 : State) (test_holds : holds below (env_in h) (along_in h) test s ≡ gives c s2) where
-    on_turn : w ≡ and_then (turn_on below at steps body (env_in (outer h2)) (along_in (outer h2)) (bound_in h2) so_far s2) (rest below at test steps body (env_in o) (along_in o) (bound_in h) so_far k)
+    on_turn : w ≡ and_then (turn_on below at steps body (env_in (outer h2)) (along_in (outer h2)) (bound_in h2) so_far
+        s2) (rest below at test steps body (env_in o) (along_in o) (bound_in h) so_far k)
     on_turn =
         looped ∙ goes _ _ c s2 test_holds ∙ ap (λ b. going b s2) yes
-        ∙ ap (λ p. and_then (turn_on below at steps body (env_in p) (along_in p) (bound_in h) so_far s2) (rest below at test steps body (env_in o) (along_in o) (bound_in h) so_far k)) (sym out)
-        ∙ ap (λ g. and_then (turn_on below at steps body (env_in (outer g)) (along_in (outer g)) (bound_in g) so_far s2) (rest below at test steps body (env_in o) (along_in o) (bound_in h) so_far k)) (sym same)
+        ∙ ap (λ p. and_then (turn_on below at steps body (env_in p) (along_in p) (bound_in h) so_far s2)
+        (rest below at test steps body (env_in o) (along_in o) (bound_in h) so_far k)) (sym out)
+        ∙ ap (λ g. and_then (turn_on below at steps body (env_in (outer g)) (along_in (outer g)) (bound_in g) so_far s2)
+        (rest below at test steps body (env_in o) (along_in o) (bound_in h) so_far k)) (sym same)
 
-    pub on-stops : (f : EvalFault) (s3 : State) → turn_on below at steps body (env_in (outer h2)) (along_in (outer h2)) (bound_in h2) so_far s2 ≡ refuses f s3 → w ≡ refuses f s3
+    pub on-stops : (f : EvalFault) (s3 : State) → turn_on below at steps body (env_in (outer h2)) (along_in (outer h2))
+        (bound_in h2) so_far s2 ≡ refuses f s3 → w ≡ refuses f s3
     on-stops f s3 e = on_turn ∙ stops _ _ f s3 e
 
-    pub on-goes : (next : Bound) (now : List Datum) (s3 : State) → turn_on below at steps body (env_in (outer h2)) (along_in (outer h2)) (bound_in h2) so_far s2 ≡ gives (next, now) s3 → loop_turns below k at test steps body (env_in o) (along_in o) next now s3 ≡ w
+    pub on-goes : (next : Bound) (now : List Datum) (s3 : State) → turn_on below at steps body (env_in (outer h2))
+        (along_in (outer h2)) (bound_in h2) so_far s2 ≡ gives (next, now) s3 → loop_turns below k at test steps body
+        (env_in o) (along_in o) next now s3 ≡ w
     on-goes next now s3 e = sym (on_turn ∙ goes _ _ (next, now) s3 e)
 
-pub loop-over : (below : Below) (at : Place) (test : Expression) (steps : Arguments) (body : Element) (env along : Env) (b : Bound) (so_far : List Datum) (s : State) (n : ℕ) → n ≡ 0 → loop_turns below n at test steps body env along b so_far s ≡ over Steps at s
+pub loop-over : (below : Below) (at : Place) (test : Expression) (steps : Arguments) (body : Element) (env along : Env)
+    (b : Bound) (so_far : List Datum) (s : State) (n : ℕ) → n ≡ 0 → loop_turns below n at test steps body env along b
+    so_far s ≡ over Steps at s
 unfolding loop_turns
-loop-over below at test steps body env along b so_far s n none = ap (λ m. loop_turns below m at test steps body env along b so_far s) none
+loop-over below at test steps body env along b so_far s n none = ap (λ m. loop_turns below m at test steps body env
+    along b so_far s) none
 
 -- where the loops end
 pub ruleset loop_ends = (values-end, elements-end, names-end)

@@ -14,5 +14,9 @@ use Rattle.scad_expr.specs.Printed.{echo_line}
 use Rattle.scad_expr.specs.Meaning.{operated, called_builtin, ranged, ranged_by_one, member_of, asserted, judge_named, judge_variables, values, default_value, defaults, bound, called_own, called, bound_in_order, elements, turns, for_variables, loop_turns, truth_of, right_side, node, value_layer, element_node, meaning}
 
 unfoldable pub expressions_on_literals : ⊤
-unfolding digits number_of quotient_of remainder_of half_up half_away root root_in_steps root_after sqrt_of meaning_of fault fault_of over take step make say variable set function_named items given set_all with_children echo_line operated called_builtin ranged ranged_by_one member_of asserted judge_named judge_variables values default_value defaults bound called_own called bound_in_order elements turns for_variables loop_turns truth_of right_side node value_layer element_node meaning
+unfolding digits number_of quotient_of remainder_of half_up half_away root root_in_steps root_after sqrt_of meaning_of
+    fault fault_of over take step make say variable set function_named items given set_all with_children echo_line
+    operated called_builtin ranged ranged_by_one member_of asserted judge_named judge_variables values default_value
+    defaults bound called_own called bound_in_order elements turns for_variables loop_turns truth_of right_side node
+    value_layer element_node meaning
 expressions_on_literals = tt

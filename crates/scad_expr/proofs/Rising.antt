@@ -26,11 +26,13 @@ pub within-lower : {A : Type 0} (n k : ℕ) (o : Outcome A) → n ≤ k → With
 within-lower n k (gives a s) less w = let low = w.0 in (omega (arith, low, less), w.1)
 within-lower n k (refuses e s) less w = tt
 
-pub within-then : {A B : Type 0} (n : ℕ) (o : Outcome A) (f : A → Action B) → Within n o → ((a : A) → Rising (f a)) → Within n (and_then o f)
+pub within-then : {A B : Type 0} (n : ℕ) (o : Outcome A) (f : A → Action B) → Within n o → ((a : A) → Rising (f a))
+    → Within n (and_then o f)
 within-then n (gives a s) f w r = within-lower n s.steps (f a s) w.0 (r a s w.1)
 within-then n (refuses e s) f w r = tt
 
-pub rising-then : {A B : Type 0} (m : Action A) (f : A → Action B) → Rising m → ((a : A) → Rising (f a)) → Rising (m >>= f)
+pub rising-then : {A B : Type 0} (m : Action A) (f : A → Action B) → Rising m → ((a : A) → Rising (f a))
+    → Rising (m >>= f)
 rising-then m f r q s low = within-then s.steps (m s) f (r s low) q
 
 pub rising-if : {A : Type 0} (b : Bool) (m n : Action A) → Rising m → Rising n → Rising (if b then m else n)
@@ -45,7 +47,8 @@ pub rising-take : (count : ℕ) (at : Place) → Rising (take count at)
 unfolding take over
 rising-take count at s low = by (nat_lt step_limit (s.steps + count)) refl
   where
-    by : (b : Bool) → nat_lt step_limit (s.steps + count) ≡ b → Within s.steps (if b then over Steps at s else gives (tt {0}) (record s { steps = s.steps + count }))
+    by : (b : Bool) → nat_lt step_limit (s.steps + count) ≡ b
+        → Within s.steps (if b then over Steps at s else gives (tt {0}) (record s { steps = s.steps + count }))
     by true e = tt
     by false e = (omega arith, ltb-false step_limit (s.steps + count) e)
 
@@ -58,7 +61,8 @@ pub step-counts : (at : Place) (s : State) → s.steps ≤ step_limit → Within
 unfolding step take over
 step-counts at s low = by (nat_lt step_limit (s.steps + 1)) refl
   where
-    by : (b : Bool) → nat_lt step_limit (s.steps + 1) ≡ b → Within (s.steps + 1) (if b then over Steps at s else gives (tt {0}) (record s { steps = s.steps + 1 }))
+    by : (b : Bool) → nat_lt step_limit (s.steps + 1) ≡ b
+        → Within (s.steps + 1) (if b then over Steps at s else gives (tt {0}) (record s { steps = s.steps + 1 }))
     by true e = tt
     by false e = (omega arith, ltb-false step_limit (s.steps + 1) e)
 
@@ -78,7 +82,8 @@ rising-make at d =
 
 pub rising-say : (at : Place) (line : List ℕ) → Rising (say at line)
 unfolding say
-rising-say at line s low = rising-take (length line) at (record s { echoes = s.echoes ++ encode_utf8_all line ∷ [] }) low
+rising-say at line s low = rising-take (length line) at (record s { echoes = s.echoes ++ encode_utf8_all line ∷ [] })
+    low
 
 -- ---- faults
 pub rising-operated : (at : Place) (r : Result Datum ValueFault) → Rising (operated at r)
@@ -100,7 +105,8 @@ rising-builtin at name (Err Memory) = λ s low. tt
 
 pub rising-ranged : (at : Place) (a s b : Datum) → Rising (ranged at a s b)
 unfolding ranged fault
-rising-ranged at (number a) (number s) (number b) = rising-if (int_eq s (pos 0)) _ _ (λ s low. tt) (rising-pure (range a s b))
+rising-ranged at (number a) (number s) (number b) = rising-if (int_eq s (pos 0)) _ _ (λ s low. tt)
+    (rising-pure (range a s b))
 rising-ranged at (number a) (number s) undef = rising-pure undef
 rising-ranged at (number a) (number s) (boolean b) = rising-pure undef
 rising-ranged at (number a) (number s) (string b) = rising-pure undef
@@ -129,7 +135,8 @@ rising-tested at (Some (range a s b)) = rising-pure (tt {0})
 
 pub rising-asserted : (at : Place) (args : Arguments) (found : List Datum) → Rising (asserted at args found)
 unfolding asserted
-rising-asserted at args found = rising-tested at (value_of_name (codes "test") (given (codes "test" ∷ codes "text" ∷ []) args found))
+rising-asserted at args found = rising-tested at (value_of_name (codes "test") (given (codes "test" ∷ codes "text" ∷ [])
+    args found))
 
 pub rising-judged : (at : Place) (word : List ℕ) (args : Arguments) → Rising (judge_named at word args)
 unfolding judge_named fault_of

@@ -47,51 +47,64 @@ abs-quotient (negsuc a) (negsuc b) = refl
 count-past : (n s b : ℤ) → is_past n s b ≡ true → count_of_range n s b ≡ 0
 count-past n s b past = by (int_lt s (pos 0)) past
   where
-    by : (c : Bool) → (if c then int_lt n b else int_lt b n) ≡ true → (if c then count_down n s b else count_up n s b) ≡ 0
+    by : (c : Bool) → (if c then int_lt n b else int_lt b n) ≡ true → (if c then count_down n s b else count_up n s b)
+        ≡ 0
     by true e = ap (λ t. if t then 0 else (1 + unsigned_abs (int_div (b -ℤ n) s))) e
     by false e = ap (λ t. if t then 0 else (1 + unsigned_abs (int_div (b -ℤ n) s))) e
 
 count-within : (n s b : ℤ) → is_past n s b ≡ false → count_of_range n s b ≡ 1 + unsigned_abs (b -ℤ n) / unsigned_abs s
 count-within n s b within = by (int_lt s (pos 0)) within
   where
-    by : (c : Bool) → (if c then int_lt n b else int_lt b n) ≡ false → (if c then count_down n s b else count_up n s b) ≡ 1 + unsigned_abs (b -ℤ n) / unsigned_abs s
-    by true e = ap (λ t. if t then 0 else (1 + unsigned_abs (int_div (b -ℤ n) s))) e ∙ ap (λ q. 1 + q) (abs-quotient (b -ℤ n) s)
-    by false e = ap (λ t. if t then 0 else (1 + unsigned_abs (int_div (b -ℤ n) s))) e ∙ ap (λ q. 1 + q) (abs-quotient (b -ℤ n) s)
+    by : (c : Bool) → (if c then int_lt n b else int_lt b n) ≡ false → (if c then count_down n s b else count_up n s b)
+        ≡ 1 + unsigned_abs (b -ℤ n) / unsigned_abs s
+    by true e = ap (λ t. if t then 0 else (1 + unsigned_abs (int_div (b -ℤ n) s))) e ∙ ap (λ q. 1 + q)
+        (abs-quotient (b -ℤ n) s)
+    by false e = ap (λ t. if t then 0 else (1 + unsigned_abs (int_div (b -ℤ n) s))) e ∙ ap (λ q. 1 + q)
+        (abs-quotient (b -ℤ n) s)
 
 -- a step on: past the end where less than a step is left, else a step nearer
 step-past : (n s b : ℤ) → is_past n s b ≡ false → unsigned_abs (b -ℤ n) < unsigned_abs s → is_past (n +ℤ s) s b ≡ true
 step-past n s b within less = by (int_lt s (pos 0)) refl within
   where
-    by : (c : Bool) → int_lt s (pos 0) ≡ c → (if c then int_lt n b else int_lt b n) ≡ false → (if c then int_lt (n +ℤ s) b else int_lt b (n +ℤ s)) ≡ true
+    by : (c : Bool) → int_lt s (pos 0) ≡ c → (if c then int_lt n b else int_lt b n) ≡ false
+        → (if c then int_lt (n +ℤ s) b else int_lt b (n +ℤ s)) ≡ true
     by true e w = grind (arith, ints)
     by false e w = grind (arith, ints)
 
-step-within : (n s b : ℤ) → is_past n s b ≡ false → unsigned_abs s ≤ unsigned_abs (b -ℤ n) → is_past (n +ℤ s) s b ≡ false
+step-within : (n s b : ℤ) → is_past n s b ≡ false → unsigned_abs s ≤ unsigned_abs (b -ℤ n) → is_past (n +ℤ s) s b
+    ≡ false
 step-within n s b within more = by (int_lt s (pos 0)) refl within
   where
-    by : (c : Bool) → int_lt s (pos 0) ≡ c → (if c then int_lt n b else int_lt b n) ≡ false → (if c then int_lt (n +ℤ s) b else int_lt b (n +ℤ s)) ≡ false
+    by : (c : Bool) → int_lt s (pos 0) ≡ c → (if c then int_lt n b else int_lt b n) ≡ false
+        → (if c then int_lt (n +ℤ s) b else int_lt b (n +ℤ s)) ≡ false
     by true e w = grind (arith, ints)
     by false e w = grind (arith, ints)
 
-step-nearer : (n s b : ℤ) → is_past n s b ≡ false → unsigned_abs s ≤ unsigned_abs (b -ℤ n) → unsigned_abs (b -ℤ (n +ℤ s)) ≡ unsigned_abs (b -ℤ n) - unsigned_abs s
+step-nearer : (n s b : ℤ) → is_past n s b ≡ false → unsigned_abs s ≤ unsigned_abs (b -ℤ n)
+    → unsigned_abs (b -ℤ (n +ℤ s)) ≡ unsigned_abs (b -ℤ n) - unsigned_abs s
 step-nearer n s b within more = by (int_lt s (pos 0)) refl within
   where
-    by : (c : Bool) → int_lt s (pos 0) ≡ c → (if c then int_lt n b else int_lt b n) ≡ false → unsigned_abs (b -ℤ (n +ℤ s)) ≡ unsigned_abs (b -ℤ n) - unsigned_abs s
+    by : (c : Bool) → int_lt s (pos 0) ≡ c → (if c then int_lt n b else int_lt b n) ≡ false
+        → unsigned_abs (b -ℤ (n +ℤ s)) ≡ unsigned_abs (b -ℤ n) - unsigned_abs s
     by true e w = grind (arith, ints)
     by false e w = grind (arith, ints)
 
 -- a number that is out of range is past the end
-pub low-past : (n s b : ℤ) → is_past n s b ≡ false → unsigned_abs n ≤ most → unsigned_abs b ≤ most → (n +ℤ s) <ℤ negsuc 999999999999999 → is_past (n +ℤ s) s b ≡ true
+pub low-past : (n s b : ℤ) → is_past n s b ≡ false → unsigned_abs n ≤ most → unsigned_abs b ≤ most
+    → (n +ℤ s) <ℤ negsuc 999999999999999 → is_past (n +ℤ s) s b ≡ true
 low-past n s b within in_n in_b low = by (int_lt s (pos 0)) refl within
   where
-    by : (c : Bool) → int_lt s (pos 0) ≡ c → (if c then int_lt n b else int_lt b n) ≡ false → (if c then int_lt (n +ℤ s) b else int_lt b (n +ℤ s)) ≡ true
+    by : (c : Bool) → int_lt s (pos 0) ≡ c → (if c then int_lt n b else int_lt b n) ≡ false
+        → (if c then int_lt (n +ℤ s) b else int_lt b (n +ℤ s)) ≡ true
     by true e w = grind (arith, ints)
     by false e w = grind (arith, ints)
 
-pub high-past : (n s b : ℤ) → is_past n s b ≡ false → unsigned_abs n ≤ most → unsigned_abs b ≤ most → pos 1000000000000000 <ℤ (n +ℤ s) → is_past (n +ℤ s) s b ≡ true
+pub high-past : (n s b : ℤ) → is_past n s b ≡ false → unsigned_abs n ≤ most → unsigned_abs b ≤ most
+    → pos 1000000000000000 <ℤ (n +ℤ s) → is_past (n +ℤ s) s b ≡ true
 high-past n s b within in_n in_b high = by (int_lt s (pos 0)) refl within
   where
-    by : (c : Bool) → int_lt s (pos 0) ≡ c → (if c then int_lt n b else int_lt b n) ≡ false → (if c then int_lt (n +ℤ s) b else int_lt b (n +ℤ s)) ≡ true
+    by : (c : Bool) → int_lt s (pos 0) ≡ c → (if c then int_lt n b else int_lt b n) ≡ false
+        → (if c then int_lt (n +ℤ s) b else int_lt b (n +ℤ s)) ≡ true
     by true e w = grind (arith, ints)
     by false e w = grind (arith, ints)
 
@@ -108,26 +121,32 @@ pub left-past : (n s b : ℤ) → is_past n s b ≡ true → numbers_left (Some 
 left-past n s b past = ap (numbers_from n s) (count-past n s b past)
 
 -- a step on the same is left but for the first number
-pub left-next : (n s b : ℤ) → is_past n s b ≡ false → s ≢ pos 0 → numbers_left (Some n) s b ≡ number n ∷ numbers_left (Some (n +ℤ s)) s b
-left-next n s b within some = from-count n s (count_of_range (n +ℤ s) s b) (count_of_range n s b) (count-within n s b within ∙ by (cases_lt (unsigned_abs (b -ℤ n)) (unsigned_abs s)))
+pub left-next : (n s b : ℤ) → is_past n s b ≡ false → s ≢ pos 0 → numbers_left (Some n) s b ≡ number n ∷ numbers_left
+    (Some (n +ℤ s)) s b
+left-next n s b within some = from-count n s (count_of_range (n +ℤ s) s b) (count_of_range n s b)
+    (count-within n s b within ∙ by (cases_lt (unsigned_abs (b -ℤ n)) (unsigned_abs s)))
   where
-    by : (unsigned_abs (b -ℤ n) < unsigned_abs s) ⊎ (unsigned_abs s ≤ unsigned_abs (b -ℤ n)) → 1 + unsigned_abs (b -ℤ n) / unsigned_abs s ≡ suc (count_of_range (n +ℤ s) s b)
+    by : (unsigned_abs (b -ℤ n) < unsigned_abs s) ⊎ (unsigned_abs s ≤ unsigned_abs (b -ℤ n))
+        → 1 + unsigned_abs (b -ℤ n) / unsigned_abs s ≡ suc (count_of_range (n +ℤ s) s b)
     by (inl less) =
         let none = count-past (n +ℤ s) s b (step-past n s b within less) in
         let quotient = div-eq_of_lt less in
         omega (arith, none, quotient)
     by (inr more) =
-        let rest = count-within (n +ℤ s) s b (step-within n s b within more) ∙ ap (λ d. 1 + d / unsigned_abs s) (step-nearer n s b within more) in
+        let rest = count-within (n +ℤ s) s b (step-within n s b within more) ∙ ap (λ d. 1 + d / unsigned_abs s)
+        (step-nearer n s b within more) in
         let quotient = div-eq-sub-div (abs-some s some) more in
         omega (arith, rest, quotient)
 
 -- it is the last one where a step on is past the end, or there is no step
-pub left-last : (n s b : ℤ) → is_past n s b ≡ false → is_past (n +ℤ s) s b ≡ true → s ≢ pos 0 → numbers_left (Some n) s b ≡ number n ∷ []
+pub left-last : (n s b : ℤ) → is_past n s b ≡ false → is_past (n +ℤ s) s b ≡ true → s ≢ pos 0
+    → numbers_left (Some n) s b ≡ number n ∷ []
 left-last n s b within past some = left-next n s b within some ∙ ap (λ l. number n ∷ l) (left-past (n +ℤ s) s b past)
 
 pub left-alone : (n s b : ℤ) → is_past n s b ≡ false → s ≡ pos 0 → numbers_left (Some n) s b ≡ number n ∷ []
 left-alone n s b within none =
-    let count : count_of_range n s b ≡ suc 0 = count-within n s b within ∙ ap (λ k. 1 + unsigned_abs (b -ℤ n) / unsigned_abs k) none ∙ ap (λ q. 1 + q) (div-zero (unsigned_abs (b -ℤ n))) in
+    let count : count_of_range n s b ≡ suc 0 = count-within n s b within ∙ ap (λ k. 1 + unsigned_abs (b -ℤ n) /
+    unsigned_abs k) none ∙ ap (λ q. 1 + q) (div-zero (unsigned_abs (b -ℤ n))) in
     from-count n s 0 (count_of_range n s b) count
 
 pub ruleset past_end = (left-past)

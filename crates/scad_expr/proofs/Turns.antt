@@ -12,21 +12,31 @@ use Rattle.scad_expr.specs.Laws.{Within, StepsRise, TurnsDontEnd}
 use Rattle.scad_expr.proofs.Rising.{Rising, rising-over, step-counts}
 use Rattle.scad_expr.proofs.RisingNodes.{rising-bound_in_order, rising-layer, rising-element}
 
-rising : (depth : ℕ) → ((env along : Env) (e : Expression) → Rising (value depth env along e)) × ((env along : Env) (e : Element) (so_far : List Datum) → Rising ((meaning depth).element env along e so_far))
+rising : (depth : ℕ) → ((env along : Env) (e : Expression) → Rising (value depth env along e))
+    × ((env along : Env) (e : Element) (so_far : List Datum) → Rising ((meaning depth).element env along e so_far))
 unfolding meaning
-rising zero = ((λ env along e. rising-over Datum (place e)), (λ env along e so_far. rising-over (List Datum) (element_place e)))
-rising (suc depth) =
-    (rising-layer (meaning depth) (rising depth).0 (rising depth).1, rising-element (meaning depth) (rising depth).0 (rising depth).1)
+rising zero = (
+  (λ env along e. rising-over Datum (place e)),
+  (λ env along e so_far. rising-over (List Datum)
+      (element_place e)),
+)
+rising (suc depth) = (
+  rising-layer (meaning depth) (rising depth).0 (rising depth).1,
+  rising-element (meaning depth) (rising depth).0
+      (rising depth).1,
+)
 
 pub steps_rise : StepsRise
 steps_rise depth env along e s low = (rising depth).0 env along e s low
 
 -- what follows the same outcome is the same, where it is from each state that the outcome may have
-same-then : {A B : Type 0} (n : ℕ) (o : Outcome A) (f g : A → Action B) → Within n o → ((a : A) (s : State) → n ≤ s.steps → s.steps ≤ step_limit → f a s ≡ g a s) → and_then o f ≡ and_then o g
+same-then : {A B : Type 0} (n : ℕ) (o : Outcome A) (f g : A → Action B) → Within n o
+    → ((a : A) (s : State) → n ≤ s.steps → s.steps ≤ step_limit → f a s ≡ g a s) → and_then o f ≡ and_then o g
 same-then n (gives a s) f g w h = h a s w.0 w.1
 same-then n (refuses e s) f g w h = refl
 
-same-if : {A : Type 0} (c : Bool) (m n k : Action A) (s : State) → m s ≡ n s → (if c then m else k) s ≡ (if c then n else k) s
+same-if : {A : Type 0} (c : Bool) (m n k : Action A) (s : State) → m s ≡ n s → (if c then m else k) s
+    ≡ (if c then n else k) s
 same-if true m n k s e = e
 same-if false m n k s e = refl
 
@@ -40,6 +50,9 @@ turns_dont_end depth (suc n) (suc m) at test steps body env along b so_far s low
     same-then s.steps (value depth inside calls test s) _ _ ((rising depth).0 inside calls test s low)
     (λ holds s1 up1 low1. same-if (truth holds) _ _ _ s1
     (same-then (s1.steps + 1) (step at s1) _ _ (step-counts at s1 low1)
-    (λ u s2 up2 low2. same-then s2.steps ((meaning depth).element inside calls body so_far s2) _ _ ((rising depth).1 inside calls body so_far s2 low2)
-    (λ now s3 up3 low3. same-then s3.steps (bound_in_order (meaning depth) env along steps b s3) _ _ (rising-bound_in_order (meaning depth) (rising depth).0 (rising depth).1 env along steps b s3 low3)
-    (λ next s4 up4 low4. turns_dont_end depth n m at test steps body env along next now s4 low4 (omega (arith, past, up1, up2, up3, up4)) (omega (arith, other, up1, up2, up3, up4)))))))
+    (λ u s2 up2 low2. same-then s2.steps ((meaning depth).element inside calls body so_far s2) _ _
+    ((rising depth).1 inside calls body so_far s2 low2)
+    (λ now s3 up3 low3. same-then s3.steps (bound_in_order (meaning depth) env along steps b s3) _ _
+    (rising-bound_in_order (meaning depth) (rising depth).0 (rising depth).1 env along steps b s3 low3)
+    (λ next s4 up4 low4. turns_dont_end depth n m at test steps body env along next now s4 low4
+    (omega (arith, past, up1, up2, up3, up4)) (omega (arith, other, up1, up2, up3, up4)))))))

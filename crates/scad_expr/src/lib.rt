@@ -30,7 +30,7 @@ mod within;
 pub use call::{bind, values};
 pub use fault::EvalFault;
 pub use judged::{asserted, judge_named, judge_variables};
-pub use machine::Machine;
+pub use machine::{DEPTH_LIMIT, Machine, STEP_LIMIT};
 pub use running::{items_of, next_number};
 pub use walk::eval;
 pub use within::let_names;

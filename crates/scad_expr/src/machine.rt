@@ -1,9 +1,16 @@
 //! The state of an evaluation.
 
 ghost use Rattle.std.specs.Prelude.{◌≤◌};
+ghost use Rattle.scad_expr.specs.State.{step_limit};
 
 use scad_fault::Text;
 use scad_scope::Frames;
+
+/// The most steps that a program takes.
+pub const STEP_LIMIT: u32 = 5_000_000;
+
+/// The greatest depth of a node.
+pub const DEPTH_LIMIT: u32 = 2_000;
 
 /// The frames and counts of an evaluation, and the lines of `echo` so far.
 #[derive(Drop)]
@@ -19,5 +26,5 @@ pub struct Machine<'p> {
     pub leaves: u32,
     pub triangles: u64,
     pub echoes: Vec<Text>,
-    ghost within: { steps_left ≤ 5000000 },
+    ghost within: { steps_left ≤ step_limit },
 }

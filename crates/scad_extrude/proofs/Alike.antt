@@ -11,12 +11,14 @@ module _ (outline : List (ℤ × ℤ)) (n : ℕ) (m : Matrix) where
   pub length-turn : (j : ℕ) → length (turned_ring_at outline n m j) ≡ length outline
   length-turn j = simp length-map
 
-  pub alike-later : (k : ℕ) → list_all (λ ring. length ring == length outline) (map (turned_ring_at outline n m) (range_with_len 1 k)) ≡ true
+  pub alike-later : (k : ℕ) → list_all (λ ring. length ring == length outline) (map (turned_ring_at outline n m)
+      (range_with_len 1 k)) ≡ true
   alike-later k = alike-map (turned_ring_at outline n m) (length outline) 1 k length-turn
 
   alike_of : (k : ℕ) → are_alike (map (turned_ring_at outline n m) (range_with_len 0 k)) ≡ true
   alike_of zero = refl
-  alike_of (suc k) = ap (λ l. list_all (λ ring. length ring == l) (map (turned_ring_at outline n m) (range_with_len 1 k))) (length-turn 0) ∙ alike-later k
+  alike_of (suc k) = ap (λ l. list_all (λ ring. length ring == l) (map (turned_ring_at outline n m)
+      (range_with_len 1 k))) (length-turn 0) ∙ alike-later k
 
   pub alike-turns : are_alike (turned_rings outline n m) ≡ true
   alike-turns = alike_of n

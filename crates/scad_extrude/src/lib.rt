@@ -7,8 +7,6 @@
 mod count;
 mod outlines;
 mod prisms;
-#[cfg(test)]
-mod tests;
 mod turns;
 
 pub use count::{FlatForm, triangles_of};

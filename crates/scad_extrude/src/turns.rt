@@ -1,5 +1,6 @@
 //! Outlines turned round the z axis.
 ghost use Rattle.std.specs.Prelude.{◌≡◌, ◌<◌, ◌≤◌, ◌++◌, ◌∷◌, [], Ok, pos, unsigned_abs, length, IfOk, IsTrue};
+ghost use Rattle.scad_shapes.specs.Limits.{triangle_limit};
 ghost use Rattle.scad_base.specs.Memory.{UnlessMemory};
 ghost use Rattle.scad_geom.specs.PointRange.{is_in_range};
 ghost use Rattle.scad_num.specs.Number.{one};
@@ -30,7 +31,7 @@ pub fn turned(
     n: u32,
     m: &Matrix,
 ) -> Result<Triangles, ShapeFault>
-    requires { n ≤ 200000 }
+    requires { n ≤ triangle_limit }
     ensures solid { UnlessMemory is_memory result (result ≡ turned_of ring.now n m.now) }
     ensures count { IfOk result (λ t. length t ≡ triangles_of (Turned (length ring.now) n)) }
 {
@@ -50,7 +51,7 @@ fn solid(alloc: Global, rings: &[Ring]) -> Result<Triangles, ShapeFault>
 }
 
 fn turns(alloc: Global, ring: &[(Num, Num)], n: u32, m: &Matrix) -> Result<Vec<Ring>, ShapeFault>
-    requires { n ≤ 200000 }
+    requires { n ≤ triangle_limit }
     ensures { Collects ring_in_range result (λ v. v.items) (turned_rings ring.now n m.now) }
 {
     let mut rings = Vec::new(alloc);
@@ -72,7 +73,7 @@ fn push_turn(
     j: u32,
 ) -> Result<(), ShapeFault>
     requires below { j < n }
-    requires few { n ≤ 200000 }
+    requires few { n ≤ triangle_limit }
     ensures { Pushes ring_in_range out.old.items (turned_ring_at ring.now n m.now j) out.new.items result }
 {
     let angle = vertex_angle(i64::from(j), i64::from(n));

@@ -23,7 +23,8 @@ left_out_line :
 unfolding fault_line digits
 left_out_line = refl
 
-not_closed_line : fault_line (record { kind = NotClosed; at = first_place; name = [] }) ≡ codes "fault 12 NotClosed at 1:1\n"
+not_closed_line : fault_line (record { kind = NotClosed; at = first_place; name = [] })
+    ≡ codes "fault 12 NotClosed at 1:1\n"
 unfolding fault_line digits
 not_closed_line = refl
 
@@ -34,7 +35,8 @@ unfolding settings_line digits
 out_of_range_line = refl
 
 below_range_line :
-    settings_line (record { kind = OutOfRange; key = codes "bed"; value = negsuc 9 }) ≡ codes "settings 4 OutOfRange bed -10\n"
+    settings_line (record { kind = OutOfRange; key = codes "bed"; value = negsuc 9 })
+    ≡ codes "settings 4 OutOfRange bed -10\n"
 unfolding settings_line digits
 below_range_line = refl
 
@@ -45,7 +47,8 @@ unfolding budget_line digits
 depth_line = refl
 
 layers_line :
-    budget_line (record { kind = Layers; at = no_place; layer = 0; count = 50000 }) ≡ codes "budget 6 Layers count 50000\n"
+    budget_line (record { kind = Layers; at = no_place; layer = 0; count = 50000 })
+    ≡ codes "budget 6 Layers count 50000\n"
 unfolding budget_line digits
 layers_line = refl
 

@@ -1,3 +1,4 @@
+//! Budgets: what a run keeps within a limit, and which one was passed where.
 ghost use Rattle.std.specs.Prelude.{◌≡◌, ◌++◌, IfOk, OnOk};
 ghost use Rattle.scad_fault.specs.Kinds.{budget_number, budget_name};
 ghost use Rattle.scad_fault.specs.Line.{budget_line, passed_text};

@@ -1,3 +1,4 @@
+//! A list of characters.
 ghost use Rattle.std.specs.Prelude.{◌≡◌, ℕ, List, [], IfOk};
 
 use std::alloc::{AllocError, Global};
@@ -48,25 +49,10 @@ impl Chars {
         self.chars
     }
 
+    /// The characters.
     pub fn as_slice(&self) -> &[char]
         ensures { result.now ≡ self.now }
     {
         self.chars.as_slice()
-    }
-}
-
-#[cfg(test)]
-mod tests {
-    use super::*;
-    use std::test::Fail;
-
-    #[test]
-    fn characters_are_lent_and_given_back(rt: HostRuntime) -> Result<(), Fail> {
-        let chars = Chars::of(rt.alloc(), &['a', 'é', '\u{10ffff}'])?;
-        assert_eq!(rt; chars.as_slice(), ['a', 'é', '\u{10ffff}'].as_slice());
-        let same = Chars::from_vec(chars.into_vec());
-        assert_eq!(rt; same.as_slice(), ['a', 'é', '\u{10ffff}'].as_slice());
-        assert!(rt; Chars::empty(rt.alloc()).as_slice().is_empty());
-        Ok(())
     }
 }

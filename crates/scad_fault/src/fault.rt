@@ -1,3 +1,4 @@
+//! Faults of a source, with their place and name.
 ghost use Rattle.std.specs.Prelude.{◌≡◌, [], IfOk, OnOk, ◌++◌};
 ghost use Rattle.scad_fault.specs.Kinds.{fault_number, fault_name};
 ghost use Rattle.scad_fault.specs.Line.{fault_line, name_text};

@@ -1,3 +1,4 @@
+//! The name of a file.
 ghost use Rattle.std.specs.Prelude.{◌≡◌, ℕ, List, IfOk, string_bytes};
 
 use std::alloc::{AllocError, Global};
@@ -39,24 +40,10 @@ impl FileName {
         self.name
     }
 
+    /// The name.
     pub fn as_str(&self) -> &str
         ensures { result.now ≡ self.now }
     {
         self.name.as_str()
-    }
-}
-
-#[cfg(test)]
-mod tests {
-    use super::*;
-    use std::test::Fail;
-
-    #[test]
-    fn a_file_name_is_lent_and_given_back(rt: HostRuntime) -> Result<(), Fail> {
-        let name = FileName::of(rt.alloc(), "é.scad")?;
-        assert_eq!(rt; name.as_str(), "é.scad");
-        let same = FileName::from_string(name.into_string());
-        assert_eq!(rt; same.as_str(), "é.scad");
-        Ok(())
     }
 }

@@ -1,3 +1,4 @@
+//! Places in a source.
 ghost use Rattle.std.specs.Prelude.{◌≡◌};
 ghost use Rattle.scad_fault.specs.Place.{no_place, first_place};
 

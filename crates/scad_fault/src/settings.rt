@@ -1,3 +1,4 @@
+//! Faults of the settings.
 ghost use Rattle.std.specs.Prelude.{◌≡◌, ◌++◌, IfOk, OnOk};
 ghost use Rattle.scad_fault.specs.Kinds.{set_number, set_name};
 ghost use Rattle.scad_fault.specs.Line.{settings_line, setting_text};

@@ -1,3 +1,4 @@
+//! How a run ended, and the last line of its report.
 ghost use Rattle.std.specs.Prelude.{◌≡◌, ◌≢◌, IfOk};
 ghost use Rattle.scad_fault.specs.Line.{line_of};
 ghost use Rattle.scad_fault.specs.Status.{code_of};
@@ -79,6 +80,3 @@ pub fn constant_lines()
     ensures write { WRITE_FAULT.now ≡ line_of Status.Write }
     ensures memory { OUT_OF_MEMORY.now ≡ line_of Status.Memory }
 {}
-
-#[cfg(test)]
-mod tests;

@@ -1,3 +1,4 @@
+//! A list of bytes.
 ghost use Rattle.std.specs.Prelude.{◌≡◌, ℕ, List, [], IfOk};
 
 use std::alloc::{AllocError, Global};
@@ -48,25 +49,10 @@ impl Text {
         self.bytes
     }
 
+    /// The bytes.
     pub fn as_slice(&self) -> &[u8]
         ensures { result.now ≡ self.now }
     {
         self.bytes.as_slice()
-    }
-}
-
-#[cfg(test)]
-mod tests {
-    use super::*;
-    use std::test::Fail;
-
-    #[test]
-    fn a_text_lends_and_gives_back_its_bytes(rt: HostRuntime) -> Result<(), Fail> {
-        let text = Text::of(rt.alloc(), b"a\xff")?;
-        assert_eq!(rt; text.as_slice(), b"a\xff".as_slice());
-        let same = Text::from_vec(text.into_vec());
-        assert_eq!(rt; same.as_slice(), b"a\xff".as_slice());
-        assert!(rt; Text::empty(rt.alloc()).as_slice().is_empty());
-        Ok(())
     }
 }

@@ -18,10 +18,12 @@ use Rattle.scad_geom.proofs.Signs.{mul-one}
 abbrev pub once : Bool → ℕ
 once b = cond b 1 0
 
-pub starts-cons : (p : Point) (s : Segment) (ss : List Segment) → starts_at p (s ∷ ss) ≡ once (is_same_point p s.from) + starts_at p ss
+pub starts-cons : (p : Point) (s : Segment) (ss : List Segment) → starts_at p (s ∷ ss) ≡ once (is_same_point p s.from) +
+    starts_at p ss
 starts-cons p s ss = sum_by-cons (λ x. once (is_same_point p x.from)) s ss
 
-pub ends-cons : (p : Point) (s : Segment) (ss : List Segment) → ends_at p (s ∷ ss) ≡ once (is_same_point p s.to) + ends_at p ss
+pub ends-cons : (p : Point) (s : Segment) (ss : List Segment) → ends_at p (s ∷ ss) ≡ once (is_same_point p s.to) +
+    ends_at p ss
 ends-cons p s ss = sum_by-cons (λ x. once (is_same_point p x.to)) s ss
 
 -- two points in whole micrometres are the same
@@ -55,5 +57,6 @@ whole_ends p (e ∷ es) =
     ∙ ap₂ (λ (m n : ℕ). m + n) (ap once (same_whole p e.b)) (whole_ends p es)
     ∙ sym (sum_by-cons (λ x. once (same_place p x.b)) e es)
 
-pub whole_balance : (es : List Edge) → IsBalanced (segments es) → (p : Pt) → count_by (λ e. same_place p e.a) es ≡ count_by (λ e. same_place p e.b) es
+pub whole_balance : (es : List Edge) → IsBalanced (segments es) → (p : Pt) → count_by (λ e. same_place p e.a) es
+    ≡ count_by (λ e. same_place p e.b) es
 whole_balance es b p = sym (whole_starts p es) ∙ b.each (whole p) (omega (arith, ints)) ∙ whole_ends p es

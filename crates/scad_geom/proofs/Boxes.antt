@@ -27,7 +27,8 @@ rises a b = by_test (int_le a b) refl
     by_test false q = omega (arith, ints)
 
 negated_mean : (s t a b : ℤ) → s *ℤ neg_ℤ a +ℤ t *ℤ neg_ℤ b ≡ neg_ℤ (s *ℤ a +ℤ t *ℤ b)
-negated_mean s t a b = ap₂ (λ (x y : ℤ). s *ℤ x +ℤ t *ℤ y) (sym (zero_minus a)) (sym (zero_minus b)) ∙ mirrored_mean s t a b ∙ zero_minus (s *ℤ a +ℤ t *ℤ b)
+negated_mean s t a b = ap₂ (λ (x y : ℤ). s *ℤ x +ℤ t *ℤ y) (sym (zero_minus a)) (sym (zero_minus b)) ∙ mirrored_mean s t
+    a b ∙ zero_minus (s *ℤ a +ℤ t *ℤ b)
 
 -- a mean lies in the square where the mirrored one does
 mirrored : (w s t a b : ℤ) (u : Bool) → Lies w s t (cond u a (neg_ℤ a)) (cond u b (neg_ℤ b)) → Lies w s t a b
@@ -47,25 +48,50 @@ mirrored_back w s t a b false l =
     record { from = omega (arith, ints, e); to = omega (arith, ints, e) }
 
 -- the tests of the mirrored segment decide
-pub found_by_tests : (w ax ay bx by : ℤ) → pos 0 ≤ℤ w → Passes w (first_of ax bx) (first_of ay by) (last_of ax bx) (last_of ay by) → Found w ax ay bx by
+pub found_by_tests : (w ax ay bx by : ℤ) → pos 0 ≤ℤ w → Passes w (first_of ax bx) (first_of ay by) (last_of ax bx)
+    (last_of ay by) → Found w ax ay bx by
 found_by_tests w ax ay bx by some p =
-    let f = found w (first_of ax bx) (first_of ay by) (last_of ax bx) (last_of ay by) some (rises ax bx) (rises ay by) p in
-    record { s = f.s; t = f.t; from = f.from; to = f.to; some = f.some; x = mirrored w f.s f.t ax bx (int_le ax bx) f.x; y = mirrored w f.s f.t ay by (int_le ay by) f.y }
+    let f = found w (first_of ax bx) (first_of ay by) (last_of ax bx) (last_of ay by) some (rises ax bx) (rises ay by) p
+    in
+    record {
+      s = f.s;
+      t = f.t;
+      from = f.from;
+      to = f.to;
+      some = f.some;
+      x = mirrored w f.s f.t ax bx (int_le ax bx) f.x;
+      y = mirrored w f.s f.t ay by (int_le ay by) f.y;
+    }
 
-pub tests_of_found : (w ax ay bx by : ℤ) → Found w ax ay bx by → Passes w (first_of ax bx) (first_of ay by) (last_of ax bx) (last_of ay by)
+pub tests_of_found : (w ax ay bx by : ℤ) → Found w ax ay bx by → Passes w (first_of ax bx) (first_of ay by)
+    (last_of ax bx) (last_of ay by)
 tests_of_found w ax ay bx by f =
     passes w (first_of ax bx) (first_of ay by) (last_of ax bx) (last_of ay by) (rises ax bx) (rises ay by)
-    (record { s = f.s; t = f.t; from = f.from; to = f.to; some = f.some; x = mirrored_back w f.s f.t ax bx (int_le ax bx) f.x; y = mirrored_back w f.s f.t ay by (int_le ay by) f.y })
+    (record {
+      s = f.s;
+      t = f.t;
+      from = f.from;
+      to = f.to;
+      some = f.some;
+      x = mirrored_back w f.s f.t ax bx
+          (int_le ax bx) f.x;
+      y = mirrored_back w f.s f.t ay by (int_le ay by) f.y;
+    })
 
 -- ---- of points
 -- along one axis, over the divisor of a point in halves
-axis_place : (s t a b x : ℤ) → pos 2 *ℤ ((s *ℤ a +ℤ t *ℤ b) *ℤ pos 2 -ℤ x *ℤ (s *ℤ pos 1 +ℤ t *ℤ pos 1)) ≡ pos 2 *ℤ (s *ℤ (pos 2 *ℤ a -ℤ x) +ℤ t *ℤ (pos 2 *ℤ b -ℤ x))
-axis_place s t a b x = ring (s ∷ t ∷ a ∷ b ∷ x ∷ []) (num (pos 2) ⊗ ((v0 ⊗ v2 ⊕ v1 ⊗ v3) ⊗ num (pos 2) ⊖ v4 ⊗ (v0 ⊗ num (pos 1) ⊕ v1 ⊗ num (pos 1)))) (num (pos 2) ⊗ (v0 ⊗ (num (pos 2) ⊗ v2 ⊖ v4) ⊕ v1 ⊗ (num (pos 2) ⊗ v3 ⊖ v4))) refl
+axis_place : (s t a b x : ℤ) → pos 2 *ℤ ((s *ℤ a +ℤ t *ℤ b) *ℤ pos 2 -ℤ x *ℤ (s *ℤ pos 1 +ℤ t *ℤ pos 1))
+    ≡ pos 2 *ℤ (s *ℤ (pos 2 *ℤ a -ℤ x) +ℤ t *ℤ (pos 2 *ℤ b -ℤ x))
+axis_place s t a b x = ring (s ∷ t ∷ a ∷ b ∷ x ∷ [])
+    (num (pos 2) ⊗ ((v0 ⊗ v2 ⊕ v1 ⊗ v3) ⊗ num (pos 2) ⊖ v4 ⊗ (v0 ⊗ num (pos 1) ⊕ v1 ⊗ num (pos 1))))
+    (num (pos 2) ⊗ (v0 ⊗ (num (pos 2) ⊗ v2 ⊖ v4) ⊕ v1 ⊗ (num (pos 2) ⊗ v3 ⊖ v4))) refl
 
 axis_weight : (h s t : ℤ) → h *ℤ ((s *ℤ pos 1 +ℤ t *ℤ pos 1) *ℤ pos 2) ≡ pos 2 *ℤ (h *ℤ (s +ℤ t))
-axis_weight h s t = ring (h ∷ s ∷ t ∷ []) (v0 ⊗ ((v1 ⊗ num (pos 1) ⊕ v2 ⊗ num (pos 1)) ⊗ num (pos 2))) (num (pos 2) ⊗ (v0 ⊗ (v1 ⊕ v2))) refl
+axis_weight h s t = ring (h ∷ s ∷ t ∷ []) (v0 ⊗ ((v1 ⊗ num (pos 1) ⊕ v2 ⊗ num (pos 1)) ⊗ num (pos 2)))
+    (num (pos 2) ⊗ (v0 ⊗ (v1 ⊕ v2))) refl
 
-half_of_lies : (h s t a b x : ℤ) → Lies h s t (pos 2 *ℤ a -ℤ x) (pos 2 *ℤ b -ℤ x) → IsHalf h ((s *ℤ a +ℤ t *ℤ b) *ℤ pos 2 -ℤ x *ℤ (s *ℤ pos 1 +ℤ t *ℤ pos 1)) ((s *ℤ pos 1 +ℤ t *ℤ pos 1) *ℤ pos 2)
+half_of_lies : (h s t a b x : ℤ) → Lies h s t (pos 2 *ℤ a -ℤ x) (pos 2 *ℤ b -ℤ x)
+    → IsHalf h ((s *ℤ a +ℤ t *ℤ b) *ℤ pos 2 -ℤ x *ℤ (s *ℤ pos 1 +ℤ t *ℤ pos 1)) ((s *ℤ pos 1 +ℤ t *ℤ pos 1) *ℤ pos 2)
 half_of_lies h s t a b x l =
     let f = l.from in
     let g = l.to in
@@ -73,7 +99,8 @@ half_of_lies h s t a b x l =
     let w = axis_weight h s t in
     record { from = omega (arith, ints, p, w); to = omega (arith, ints, p, w) }
 
-lies_of_half : (h s t a b x : ℤ) → IsHalf h ((s *ℤ a +ℤ t *ℤ b) *ℤ pos 2 -ℤ x *ℤ (s *ℤ pos 1 +ℤ t *ℤ pos 1)) ((s *ℤ pos 1 +ℤ t *ℤ pos 1) *ℤ pos 2) → Lies h s t (pos 2 *ℤ a -ℤ x) (pos 2 *ℤ b -ℤ x)
+lies_of_half : (h s t a b x : ℤ) → IsHalf h ((s *ℤ a +ℤ t *ℤ b) *ℤ pos 2 -ℤ x *ℤ (s *ℤ pos 1 +ℤ t *ℤ pos 1))
+    ((s *ℤ pos 1 +ℤ t *ℤ pos 1) *ℤ pos 2) → Lies h s t (pos 2 *ℤ a -ℤ x) (pos 2 *ℤ b -ℤ x)
 lies_of_half h s t a b x l =
     let f = l.from in
     let g = l.to in
@@ -91,17 +118,31 @@ meets_if_found h x y e f = record {
   from = f.from;
   to = f.to;
   some = f.some;
-  close = record { across = half_of_lies h f.s f.t e.a.x e.b.x x f.x; along = half_of_lies h f.s f.t e.a.y e.b.y y f.y };
+  close = record {
+    across = half_of_lies h f.s f.t e.a.x e.b.x x f.x;
+    along = half_of_lies h f.s f.t e.a.y e.b.y y f.y;
+  };
 }
 
-found_if_close : (h x y : ℤ) (e : Edge) (s t : ℤ) → pos 0 ≤ℤ s → pos 0 ≤ℤ t → pos 0 <ℤ (s +ℤ t) → IsClose h (halves x y) (mean s t (whole e.a) (whole e.b)) → FoundFor h x y e
+found_if_close : (h x y : ℤ) (e : Edge) (s t : ℤ) → pos 0 ≤ℤ s → pos 0 ≤ℤ t → pos 0 <ℤ (s +ℤ t)
+    → IsClose h (halves x y) (mean s t (whole e.a) (whole e.b)) → FoundFor h x y e
 found_if_close h x y e s t from to some c =
-    record { s = s; t = t; from = from; to = to; some = some; x = lies_of_half h s t e.a.x e.b.x x c.across; y = lies_of_half h s t e.a.y e.b.y y c.along }
+    record {
+      s = s;
+      t = t;
+      from = from;
+      to = to;
+      some = some;
+      x = lies_of_half h s t e.a.x e.b.x x c.across;
+      y =
+          lies_of_half h s t e.a.y e.b.y y c.along;
+    }
 
 -- the tests as they stand in code
 abbrev pub passes_tests : ℤ → ℤ → ℤ → ℤ → ℤ → Bool
 passes_tests w ax ay bx by = (int_le ax w && int_le (neg_ℤ w) bx) && ((int_le ay w && int_le (neg_ℤ w) by)
-    && (int_le (bx *ℤ ay -ℤ ax *ℤ by) (w *ℤ (bx -ℤ ax) +ℤ w *ℤ (by -ℤ ay)) && int_le (neg_ℤ (bx *ℤ ay -ℤ ax *ℤ by)) (w *ℤ (bx -ℤ ax) +ℤ w *ℤ (by -ℤ ay))))
+    && (int_le (bx *ℤ ay -ℤ ax *ℤ by) (w *ℤ (bx -ℤ ax) +ℤ w *ℤ (by -ℤ ay)) && int_le (neg_ℤ (bx *ℤ ay -ℤ ax *ℤ by))
+    (w *ℤ (bx -ℤ ax) +ℤ w *ℤ (by -ℤ ay))))
 
 passes_if : (w ax ay bx by : ℤ) → passes_tests w ax ay bx by ≡ true → Passes w ax ay bx by
 passes_if w ax ay bx by h =
@@ -118,7 +159,8 @@ passes_if w ax ay bx by h =
       least = omega (arith, ints, u);
     })
   where
-    by_parts : {P : Type 0} (a b c d e f : Bool) → ((a && b) && ((c && d) && (e && f))) ≡ true → (a ≡ true → b ≡ true → c ≡ true → d ≡ true → e ≡ true → f ≡ true → P) → P
+    by_parts : {P : Type 0} (a b c d e f : Bool) → ((a && b) && ((c && d) && (e && f))) ≡ true
+        → (a ≡ true → b ≡ true → c ≡ true → d ≡ true → e ≡ true → f ≡ true → P) → P
     by_parts a b c d e f h k =
         let p = and_parts (a && b) ((c && d) && (e && f)) h in
         let q = and_parts a b p.0 in
@@ -150,8 +192,11 @@ edge_passes h x y e = passes_tests h
     (first_of (pos 2 *ℤ e.a.x -ℤ x) (pos 2 *ℤ e.b.x -ℤ x)) (first_of (pos 2 *ℤ e.a.y -ℤ y) (pos 2 *ℤ e.b.y -ℤ y))
     (last_of (pos 2 *ℤ e.a.x -ℤ x) (pos 2 *ℤ e.b.x -ℤ x)) (last_of (pos 2 *ℤ e.a.y -ℤ y) (pos 2 *ℤ e.b.y -ℤ y))
 
-pub edge_meets : (h x y : ℤ) (e : Edge) → pos 0 ≤ℤ h → edge_passes h x y e ≡ true → MeetsBox h (halves x y) (whole e.a) (whole e.b)
+pub edge_meets : (h x y : ℤ) (e : Edge) → pos 0 ≤ℤ h → edge_passes h x y e ≡ true → MeetsBox h (halves x y) (whole e.a)
+    (whole e.b)
 edge_meets h x y e some t = meets_if_found h x y e (found_by_tests h _ _ _ _ some (passes_if h _ _ _ _ t))
 
-pub edge_is_clear : (h x y : ℤ) (e : Edge) → edge_passes h x y e ≡ false → IsClear h (halves x y) (whole e.a) (whole e.b)
-edge_is_clear h x y e t r u from to some c = both_ways _ t (if_passes h _ _ _ _ (tests_of_found h _ _ _ _ (found_if_close h x y e r u from to some c)))
+pub edge_is_clear : (h x y : ℤ) (e : Edge) → edge_passes h x y e ≡ false → IsClear h (halves x y) (whole e.a)
+    (whole e.b)
+edge_is_clear h x y e t r u from to some c = both_ways _ t
+    (if_passes h _ _ _ _ (tests_of_found h _ _ _ _ (found_if_close h x y e r u from to some c)))

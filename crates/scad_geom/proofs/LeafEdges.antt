@@ -12,8 +12,10 @@ use Rattle.scad_geom.specs.Balance.{IsBalanced}
 use Rattle.scad_geom.specs.Leaves.{edges_of}
 use Rattle.scad_geom.proofs.Balanced.{once}
 
-pub edges_of-append : (leaf : ℕ) (es fs : List LeafEdge) → edges_of leaf (es ++ fs) ≡ edges_of leaf es ++ edges_of leaf fs
-edges_of-append leaf es fs = ap (map (λ e. e.edge)) (filter-append (λ e. e.leaf == leaf) es fs) ∙ map-append (λ e. e.edge) (filter (λ e. e.leaf == leaf) es) (filter (λ e. e.leaf == leaf) fs)
+pub edges_of-append : (leaf : ℕ) (es fs : List LeafEdge) → edges_of leaf (es ++ fs) ≡ edges_of leaf es ++ edges_of leaf
+    fs
+edges_of-append leaf es fs = ap (map (λ e. e.edge)) (filter-append (λ e. e.leaf == leaf) es fs) ∙ map-append
+    (λ e. e.edge) (filter (λ e. e.leaf == leaf) es) (filter (λ e. e.leaf == leaf) fs)
 
 pub both_balanced : (ss ts : List Segment) → IsBalanced ss → IsBalanced ts → IsBalanced (ss ++ ts)
 both_balanced ss ts a b = record {

@@ -17,7 +17,8 @@ quotient_high (pos a) b h = omega (arith, ints)
 quotient_high (negsuc a) b h = omega (arith, ints)
 
 -- the quotient of d - 2 n by 2 d, turned round
-nearest : (n : ℤ) (d : ℕ) (q : ℤ) → (pos (2 * d) *ℤ q) ≤ℤ (pos d -ℤ pos 2 *ℤ n) → (pos d -ℤ pos 2 *ℤ n) <ℤ (pos (2 * d) *ℤ q +ℤ pos (2 * d)) → IsNearest n (pos d) (neg_ℤ q)
+nearest : (n : ℤ) (d : ℕ) (q : ℤ) → (pos (2 * d) *ℤ q) ≤ℤ (pos d -ℤ pos 2 *ℤ n)
+    → (pos d -ℤ pos 2 *ℤ n) <ℤ (pos (2 * d) *ℤ q +ℤ pos (2 * d)) → IsNearest n (pos d) (neg_ℤ q)
 nearest n d (pos zero) low high = record { below = omega (arith, ints); above = omega (arith, ints) }
 nearest n d (pos (suc q)) low high = record { below = omega (arith, ints); above = omega (arith, ints) }
 nearest n d (negsuc q) low high = record { below = omega (arith, ints); above = omega (arith, ints) }
@@ -30,7 +31,8 @@ IsNearest-half_down n d h =
     (quotient_high (pos d -ℤ pos 2 *ℤ n) (2 * d) (omega arith))
 
 -- what is nearest to a quotient of at most m in size has itself at most m
-pub size-IsNearest : (n : ℤ) (d m : ℕ) (r : ℤ) → 0 < d → unsigned_abs n ≤ d * m → IsNearest n (pos d) r → unsigned_abs r ≤ m
+pub size-IsNearest : (n : ℤ) (d m : ℕ) (r : ℤ) → 0 < d → unsigned_abs n ≤ d * m → IsNearest n (pos d) r
+    → unsigned_abs r ≤ m
 size-IsNearest n d m (pos r) h small near =
     elim (cases_lt m r) [ inl more ↦ (let larger : d * suc m ≤ d * r = mul-le-mul_left d more in omega (arith, ints, near.below)) | inr most ↦ most ]
 size-IsNearest n d m (negsuc r) h small near =
@@ -42,10 +44,18 @@ pub record Rounds (n d r : ℤ) (m : ℕ) : Type 0 where
   pub nearest : IsNearest n d r
   pub size : unsigned_abs r ≤ m
 
-pub rounds : (n d q : ℤ) (m : ℕ) → pos 0 <ℤ d → unsigned_abs n ≤ m * unsigned_abs d → q ≡ int_div_euclid (d -ℤ pos 2 *ℤ n) (pos 2 *ℤ d) → Rounds n d (pos 0 -ℤ q) m
+pub rounds : (n d q : ℤ) (m : ℕ) → pos 0 <ℤ d → unsigned_abs n ≤ m * unsigned_abs d
+    → q ≡ int_div_euclid (d -ℤ pos 2 *ℤ n) (pos 2 *ℤ d) → Rounds n d (pos 0 -ℤ q) m
 unfolding half_down
 rounds n (pos d) q m above small e =
-    let same : pos 0 -ℤ q ≡ half_down n (pos d) = ap (λ z. pos 0 -ℤ z) e ∙ zero_minus (int_div_euclid (pos d -ℤ pos 2 *ℤ n) (pos 2 *ℤ pos d)) in
-    let is : IsNearest n (pos d) (pos 0 -ℤ q) = subst (IsNearest n (pos d)) (sym same) (IsNearest-half_down n d (omega (arith, ints))) in
-    record { value = same; nearest = is; size = size-IsNearest n d m (pos 0 -ℤ q) (omega (arith, ints)) (subst (λ k. unsigned_abs n ≤ k) (mul_comm m d) small) is }
+    let same : pos 0 -ℤ q ≡ half_down n (pos d) = ap (λ z. pos 0 -ℤ z) e ∙ zero_minus
+    (int_div_euclid (pos d -ℤ pos 2 *ℤ n) (pos 2 *ℤ pos d)) in
+    let is : IsNearest n (pos d) (pos 0 -ℤ q) = subst (IsNearest n (pos d)) (sym same)
+    (IsNearest-half_down n d (omega (arith, ints))) in
+    record {
+      value = same;
+      nearest = is;
+      size = size-IsNearest n d m (pos 0 -ℤ q) (omega (arith, ints))
+          (subst (λ k. unsigned_abs n ≤ k) (mul_comm m d) small) is;
+    }
 rounds n (negsuc d) q m above small e = absurd (omega (arith, ints))

@@ -6,7 +6,9 @@ use Rattle.std.proofs.lemmas.Bool.{and_parts}
 use Rattle.scad_geom.specs.Point.{Point, is_same_point}
 
 pub same_height : (p q : Point) → is_same_point p q ≡ true → p.y *ℤ q.d ≡ q.y *ℤ p.d
-same_height p q h = (signed_Decides (p.y *ℤ q.d) (q.y *ℤ p.d)).0 (and_parts (int_eq (p.y *ℤ q.d) (q.y *ℤ p.d)) (int_eq (p.x *ℤ q.d) (q.x *ℤ p.d)) h).0
+same_height p q h = (signed_Decides (p.y *ℤ q.d) (q.y *ℤ p.d)).0 (and_parts (int_eq (p.y *ℤ q.d) (q.y *ℤ p.d))
+    (int_eq (p.x *ℤ q.d) (q.x *ℤ p.d)) h).0
 
 pub same_across : (p q : Point) → is_same_point p q ≡ true → p.x *ℤ q.d ≡ q.x *ℤ p.d
-same_across p q h = (signed_Decides (p.x *ℤ q.d) (q.x *ℤ p.d)).0 (and_parts (int_eq (p.y *ℤ q.d) (q.y *ℤ p.d)) (int_eq (p.x *ℤ q.d) (q.x *ℤ p.d)) h).1
+same_across p q h = (signed_Decides (p.x *ℤ q.d) (q.x *ℤ p.d)).0 (and_parts (int_eq (p.y *ℤ q.d) (q.y *ℤ p.d))
+    (int_eq (p.x *ℤ q.d) (q.x *ℤ p.d)) h).1

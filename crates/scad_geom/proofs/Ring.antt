@@ -65,7 +65,8 @@ kept c ks s = cond (is_zero c) s (more c ks s)
 
 abbrev pub with_product : ℤ → List ℕ → Sum → Sum
 with_product c js none = more c js none
-with_product c js (more d ks s) = cond (is_same js ks) (kept (c +ℤ d) ks s) (cond (is_before js ks) (more c js (more d ks s)) (more d ks (with_product c js s)))
+with_product c js (more d ks s) = cond (is_same js ks) (kept (c +ℤ d) ks s)
+    (cond (is_before js ks) (more c js (more d ks s)) (more d ks (with_product c js s)))
 
 abbrev pub sum_of : Sum → Sum → Sum
 sum_of none t = t
@@ -113,12 +114,15 @@ module _ (xs : List ℤ) where
   with_factor-worth : (j : ℕ) (ks : List ℕ) → factors_worth xs (with_factor j ks) ≡ value_at xs j *ℤ factors_worth xs ks
   with_factor-worth j [] = refl
   with_factor-worth j (k ∷ ks) =
-      elim (nat_lt k j) as (λ b. factors_worth xs (cond b (k ∷ with_factor j ks) (j ∷ k ∷ ks)) ≡ value_at xs j *ℤ (value_at xs k *ℤ factors_worth xs ks)) [
-        | true ↦ ap (λ z. value_at xs k *ℤ z) (with_factor-worth j ks) ∙ swap_factors (value_at xs k) (value_at xs j) (factors_worth xs ks)
+      elim (nat_lt k j) as (λ b. factors_worth xs (cond b (k ∷ with_factor j ks) (j ∷ k ∷ ks)) ≡ value_at xs j *ℤ
+      (value_at xs k *ℤ factors_worth xs ks)) [
+        | true ↦ ap (λ z. value_at xs k *ℤ z) (with_factor-worth j ks) ∙ swap_factors (value_at xs k) (value_at xs j)
+            (factors_worth xs ks)
         | false ↦ refl
       ]
 
-  with_factors-worth : (js ks : List ℕ) → factors_worth xs (with_factors js ks) ≡ factors_worth xs js *ℤ factors_worth xs ks
+  with_factors-worth : (js ks : List ℕ) → factors_worth xs (with_factors js ks) ≡ factors_worth xs js *ℤ factors_worth
+      xs ks
   with_factors-worth [] ks = omega (arith, ints)
   with_factors-worth (j ∷ js) ks =
       with_factor-worth j (with_factors js ks)
@@ -130,7 +134,8 @@ module _ (xs : List ℤ) where
   same_factors [] (k ∷ ks) h = cc
   same_factors (j ∷ js) [] h = cc
   same_factors (j ∷ js) (k ∷ ks) h =
-      elim (j == k) as (λ b. (j == k ≡ b) → cond b (is_same js ks) false ≡ true → value_at xs j *ℤ factors_worth xs js ≡ value_at xs k *ℤ factors_worth xs ks) [
+      elim (j == k) as (λ b. (j == k ≡ b) → cond b (is_same js ks) false ≡ true → value_at xs j *ℤ factors_worth xs js
+      ≡ value_at xs k *ℤ factors_worth xs ks) [
         | true ↦ (λ e g. let f = same_factors js ks g in ap₂ (λ i z. value_at xs i *ℤ z) (eqb-true j k e) f)
         | false ↦ (λ e g. cc)
       ] refl h
@@ -140,16 +145,25 @@ module _ (xs : List ℤ) where
   kept-worth (pos (suc n)) ks s = refl
   kept-worth (negsuc n) ks s = refl
 
-  with_product-worth : (c : ℤ) (js : List ℕ) (s : Sum) → sum_worth xs (with_product c js s) ≡ c *ℤ factors_worth xs js +ℤ sum_worth xs s
+  with_product-worth : (c : ℤ) (js : List ℕ) (s : Sum) → sum_worth xs (with_product c js s) ≡ c *ℤ factors_worth xs js
+      +ℤ sum_worth xs s
   with_product-worth c js none = refl
   with_product-worth c js (more d ks s) =
       let tail = with_product-worth c js s in
-      elim (is_same js ks) as (λ b. (is_same js ks ≡ b) → sum_worth xs (cond b (kept (c +ℤ d) ks s) (cond (is_before js ks) (more c js (more d ks s)) (more d ks (with_product c js s)))) ≡ c *ℤ factors_worth xs js +ℤ (d *ℤ factors_worth xs ks +ℤ sum_worth xs s)) [
-        | true ↦ (λ e. kept-worth (c +ℤ d) ks s ∙ ap (λ z. z +ℤ sum_worth xs s) (add_mul c d (factors_worth xs ks)) ∙ +ℤ_assoc (c *ℤ factors_worth xs ks) (d *ℤ factors_worth xs ks) (sum_worth xs s) ∙ ap (λ z. c *ℤ z +ℤ (d *ℤ factors_worth xs ks +ℤ sum_worth xs s)) (sym (same_factors js ks e)))
-        | false ↦ (λ e. elim (is_before js ks) as (λ b. sum_worth xs (cond b (more c js (more d ks s)) (more d ks (with_product c js s))) ≡ c *ℤ factors_worth xs js +ℤ (d *ℤ factors_worth xs ks +ℤ sum_worth xs s)) [
-          | true ↦ refl
-          | false ↦ ap (λ z. d *ℤ factors_worth xs ks +ℤ z) tail ∙ swap_terms (d *ℤ factors_worth xs ks) (c *ℤ factors_worth xs js) (sum_worth xs s)
-        ])
+      elim (is_same js ks) as (λ b. (is_same js ks ≡ b)
+      → sum_worth xs (cond b (kept (c +ℤ d) ks s) (cond (is_before js ks) (more c js (more d ks s))
+      (more d ks (with_product c js s)))) ≡ c *ℤ factors_worth xs js +ℤ (d *ℤ factors_worth xs ks +ℤ sum_worth xs
+      s)) [
+        | true ↦ (λ e. kept-worth (c +ℤ d) ks s ∙ ap (λ z. z +ℤ sum_worth xs s) (add_mul c d (factors_worth xs ks)) ∙
+            +ℤ_assoc (c *ℤ factors_worth xs ks) (d *ℤ factors_worth xs ks) (sum_worth xs s) ∙ ap
+            (λ z. c *ℤ z +ℤ (d *ℤ factors_worth xs ks +ℤ sum_worth xs s)) (sym (same_factors js ks e)))
+        | false ↦ (λ e. elim (is_before js ks) as
+            (λ b. sum_worth xs (cond b (more c js (more d ks s)) (more d ks (with_product c js s))) ≡ c *ℤ factors_worth
+            xs js +ℤ (d *ℤ factors_worth xs ks +ℤ sum_worth xs s)) [
+              | true ↦ refl
+              | false ↦ ap (λ z. d *ℤ factors_worth xs ks +ℤ z) tail ∙ swap_terms (d *ℤ factors_worth xs ks)
+                  (c *ℤ factors_worth xs js) (sum_worth xs s)
+            ])
       ] refl
 
   sum_of-worth : (s t : Sum) → sum_worth xs (sum_of s t) ≡ sum_worth xs s +ℤ sum_worth xs t
@@ -159,7 +173,8 @@ module _ (xs : List ℤ) where
       ∙ ap (λ z. c *ℤ factors_worth xs ks +ℤ z) (sum_of-worth s t)
       ∙ sym (+ℤ_assoc (c *ℤ factors_worth xs ks) (sum_worth xs s) (sum_worth xs t))
 
-  scaled-worth : (c : ℤ) (js : List ℕ) (s : Sum) → sum_worth xs (scaled c js s) ≡ (c *ℤ factors_worth xs js) *ℤ sum_worth xs s
+  scaled-worth : (c : ℤ) (js : List ℕ) (s : Sum) → sum_worth xs (scaled c js s) ≡ (c *ℤ factors_worth xs js) *ℤ
+      sum_worth xs s
   scaled-worth c js none = omega (arith, ints)
   scaled-worth c js (more d ks s) =
       with_product-worth (c *ℤ d) (with_factors js ks) (scaled c js s)
@@ -179,9 +194,11 @@ module _ (xs : List ℤ) where
   normal-worth (plus a b) = sum_of-worth (normal a) (normal b) ∙ ap₂ (λ y z. y +ℤ z) (normal-worth a) (normal-worth b)
   normal-worth (less a b) =
       sum_of-worth (normal a) (scaled (negsuc 0) [] (normal b))
-      ∙ ap₂ (λ y z. y +ℤ z) (normal-worth a) (scaled-worth (negsuc 0) [] (normal b) ∙ ap (λ z. (negsuc 0 *ℤ pos 1) *ℤ z) (normal-worth b))
+      ∙ ap₂ (λ y z. y +ℤ z) (normal-worth a) (scaled-worth (negsuc 0) [] (normal b) ∙ ap (λ z. (negsuc 0 *ℤ pos 1) *ℤ z)
+      (normal-worth b))
       ∙ minus_once (worth xs a) (worth xs b)
-  normal-worth (times a b) = product_of-worth (normal a) (normal b) ∙ ap₂ (λ y z. y *ℤ z) (normal-worth a) (normal-worth b)
+  normal-worth (times a b) = product_of-worth (normal a) (normal b) ∙ ap₂ (λ y z. y *ℤ z) (normal-worth a)
+      (normal-worth b)
 
   -- expressions that are the same when multiplied out are worth the same
   pub ring : (a b : Term) → normal a ≡ normal b → worth xs a ≡ worth xs b

@@ -1,4 +1,5 @@
--- Where a segment meets the square of the points at most w from the origin along both axes: exactly where it isn't wholly
+-- Where a segment meets the square of the points at most w from the origin along both axes: exactly where it isn't
+-- wholly
 -- beyond a side of the square and the square's corners aren't all strictly on one side of its line.
 use Rattle.std.proofs.Common.{◌≡◌, ◌⊎◌, inl, inr, Bool, true, false, [], ◌∷◌, refl, arith, ℤ, pos, ◌+ℤ◌, ◌-ℤ◌, ◌*ℤ◌, ◌<ℤ◌}
 use lib.Signed.{◌≤ℤ◌}
@@ -37,14 +38,16 @@ start w a b h k = record { from = omega (arith, ints); to = omega (arith, ints) 
 
 -- where the way from a to b, a below -w, reaches -w
 entry : (w a b : ℤ) → (b +ℤ w) *ℤ a +ℤ ((pos 0 -ℤ w) -ℤ a) *ℤ b ≡ pos 0 -ℤ w *ℤ ((b +ℤ w) +ℤ ((pos 0 -ℤ w) -ℤ a))
-entry w a b = ring (w ∷ a ∷ b ∷ []) ((v2 ⊕ v0) ⊗ v1 ⊕ ((num (pos 0) ⊖ v0) ⊖ v1) ⊗ v2) (num (pos 0) ⊖ v0 ⊗ ((v2 ⊕ v0) ⊕ ((num (pos 0) ⊖ v0) ⊖ v1))) refl
+entry w a b = ring (w ∷ a ∷ b ∷ []) ((v2 ⊕ v0) ⊗ v1 ⊕ ((num (pos 0) ⊖ v0) ⊖ v1) ⊗ v2)
+    (num (pos 0) ⊖ v0 ⊗ ((v2 ⊕ v0) ⊕ ((num (pos 0) ⊖ v0) ⊖ v1))) refl
 
 entry_weight : (w a b : ℤ) → w *ℤ ((b +ℤ w) +ℤ ((pos 0 -ℤ w) -ℤ a)) ≡ w *ℤ (b -ℤ a)
 entry_weight w a b = ring (w ∷ a ∷ b ∷ []) (v0 ⊗ ((v2 ⊕ v0) ⊕ ((num (pos 0) ⊖ v0) ⊖ v1))) (v0 ⊗ (v2 ⊖ v1)) refl
 
 -- how far along the other axis the way is there
 entry_other : (w a b c d : ℤ) → (b +ℤ w) *ℤ c +ℤ ((pos 0 -ℤ w) -ℤ a) *ℤ d ≡ (b *ℤ c -ℤ a *ℤ d) -ℤ w *ℤ (d -ℤ c)
-entry_other w a b c d = ring (w ∷ a ∷ b ∷ c ∷ d ∷ []) ((v2 ⊕ v0) ⊗ v3 ⊕ ((num (pos 0) ⊖ v0) ⊖ v1) ⊗ v4) ((v2 ⊗ v3 ⊖ v1 ⊗ v4) ⊖ v0 ⊗ (v4 ⊖ v3)) refl
+entry_other w a b c d = ring (w ∷ a ∷ b ∷ c ∷ d ∷ []) ((v2 ⊕ v0) ⊗ v3 ⊕ ((num (pos 0) ⊖ v0) ⊖ v1) ⊗ v4)
+    ((v2 ⊗ v3 ⊖ v1 ⊗ v4) ⊖ v0 ⊗ (v4 ⊖ v3)) refl
 
 at_side : (w a b : ℤ) → pos 0 ≤ℤ (w *ℤ (b -ℤ a)) → Lies w (b +ℤ w) ((pos 0 -ℤ w) -ℤ a) a b
 at_side w a b h =
@@ -52,7 +55,8 @@ at_side w a b h =
     let f = entry_weight w a b in
     record { from = omega (arith, ints, e); to = omega (arith, ints, e, f) }
 
-beside : (w a b c d : ℤ) → (pos 0 -ℤ w *ℤ (b -ℤ a)) ≤ℤ ((b *ℤ c -ℤ a *ℤ d) -ℤ w *ℤ (d -ℤ c)) → ((b *ℤ c -ℤ a *ℤ d) -ℤ w *ℤ (d -ℤ c)) ≤ℤ (w *ℤ (b -ℤ a))
+beside : (w a b c d : ℤ) → (pos 0 -ℤ w *ℤ (b -ℤ a)) ≤ℤ ((b *ℤ c -ℤ a *ℤ d) -ℤ w *ℤ (d -ℤ c))
+    → ((b *ℤ c -ℤ a *ℤ d) -ℤ w *ℤ (d -ℤ c)) ≤ℤ (w *ℤ (b -ℤ a))
     → Lies w (b +ℤ w) ((pos 0 -ℤ w) -ℤ a) c d
 beside w a b c d h k =
     let e = entry_other w a b c d in
@@ -74,7 +78,8 @@ swapped : (ax ay bx by : ℤ) → by *ℤ ax -ℤ ay *ℤ bx ≡ pos 0 -ℤ (bx 
 swapped ax ay bx by = ring (ax ∷ ay ∷ bx ∷ by ∷ []) (v3 ⊗ v0 ⊖ v1 ⊗ v2) (num (pos 0) ⊖ (v2 ⊗ v1 ⊖ v0 ⊗ v3)) refl
 
 -- where the way is left of the square at its start, it enters at the left side, or else at the lower one
-past_left : (w ax ay bx by : ℤ) → pos 0 ≤ℤ w → ax ≤ℤ bx → ay ≤ℤ by → Passes w ax ay bx by → ax <ℤ (pos 0 -ℤ w) → Found w ax ay bx by
+past_left : (w ax ay bx by : ℤ) → pos 0 ≤ℤ w → ax ≤ℤ bx → ay ≤ℤ by → Passes w ax ay bx by → ax <ℤ (pos 0 -ℤ w)
+    → Found w ax ay bx by
 past_left w ax ay bx by some rx ry p out =
     let nx : pos 0 ≤ℤ (w *ℤ (bx -ℤ ax)) = at_least_mul w (bx -ℤ ax) some (omega (arith, ints)) in
     let ny : pos 0 ≤ℤ (w *ℤ (by -ℤ ay)) = at_least_mul w (by -ℤ ay) some (omega (arith, ints)) in
@@ -100,15 +105,19 @@ past_left w ax ay bx by some rx ry p out =
             from = omega (arith, ints);
             to = omega (arith, ints);
             some = omega (arith, ints);
-            x = beside w ay by ax bx (omega (arith, ints, swapped ax ay bx by)) (omega (arith, ints, swapped ax ay bx by));
+            x = beside w ay by ax bx (omega (arith, ints, swapped ax ay bx by))
+                (omega (arith, ints, swapped ax ay bx by));
             y = at_side w ay by ny;
           }
     ]
   where
-    rest_is : (w ax ay bx by : ℤ) → (ay +ℤ w) *ℤ (bx -ℤ ax) ≡ ((bx *ℤ ay -ℤ ax *ℤ by) -ℤ w *ℤ (by -ℤ ay)) +ℤ w *ℤ (bx -ℤ ax) -ℤ ((pos 0 -ℤ w) -ℤ ax) *ℤ (by -ℤ ay)
-    rest_is w ax ay bx by = ring (w ∷ ax ∷ ay ∷ bx ∷ by ∷ []) ((v2 ⊕ v0) ⊗ (v3 ⊖ v1)) (((v3 ⊗ v2 ⊖ v1 ⊗ v4) ⊖ v0 ⊗ (v4 ⊖ v2)) ⊕ v0 ⊗ (v3 ⊖ v1) ⊖ ((num (pos 0) ⊖ v0) ⊖ v1) ⊗ (v4 ⊖ v2)) refl
+    rest_is : (w ax ay bx by : ℤ) → (ay +ℤ w) *ℤ (bx -ℤ ax) ≡ ((bx *ℤ ay -ℤ ax *ℤ by) -ℤ w *ℤ (by -ℤ ay)) +ℤ w *ℤ
+        (bx -ℤ ax) -ℤ ((pos 0 -ℤ w) -ℤ ax) *ℤ (by -ℤ ay)
+    rest_is w ax ay bx by = ring (w ∷ ax ∷ ay ∷ bx ∷ by ∷ []) ((v2 ⊕ v0) ⊗ (v3 ⊖ v1))
+        (((v3 ⊗ v2 ⊖ v1 ⊗ v4) ⊖ v0 ⊗ (v4 ⊖ v2)) ⊕ v0 ⊗ (v3 ⊖ v1) ⊖ ((num (pos 0) ⊖ v0) ⊖ v1) ⊗ (v4 ⊖ v2)) refl
 
-    lower : (w ax ay bx by : ℤ) → ay ≤ℤ by → ax <ℤ (pos 0 -ℤ w) → ax ≤ℤ bx → ((bx *ℤ ay -ℤ ax *ℤ by) -ℤ w *ℤ (by -ℤ ay)) <ℤ (pos 0 -ℤ w *ℤ (bx -ℤ ax)) → ay <ℤ (pos 0 -ℤ w)
+    lower : (w ax ay bx by : ℤ) → ay ≤ℤ by → ax <ℤ (pos 0 -ℤ w) → ax ≤ℤ bx → ((bx *ℤ ay -ℤ ax *ℤ by) -ℤ w *ℤ (by -ℤ ay))
+        <ℤ (pos 0 -ℤ w *ℤ (bx -ℤ ax)) → ay <ℤ (pos 0 -ℤ w)
     lower w ax ay bx by ry out rx h =
         let m = at_least_mul ((pos 0 -ℤ w) -ℤ ax) (by -ℤ ay) (omega (arith, ints)) (omega (arith, ints)) in
         let e = rest_is w ax ay bx by in
@@ -118,7 +127,8 @@ past_left w ax ay bx by some rx ry p out =
         ]
 
 -- where it is within the width of the square at its start but below it, it enters at the lower side
-past_below : (w ax ay bx by : ℤ) → pos 0 ≤ℤ w → ax ≤ℤ bx → ay ≤ℤ by → Passes w ax ay bx by → (pos 0 -ℤ w) ≤ℤ ax → ay <ℤ (pos 0 -ℤ w) → Found w ax ay bx by
+past_below : (w ax ay bx by : ℤ) → pos 0 ≤ℤ w → ax ≤ℤ bx → ay ≤ℤ by → Passes w ax ay bx by → (pos 0 -ℤ w) ≤ℤ ax
+    → ay <ℤ (pos 0 -ℤ w) → Found w ax ay bx by
 past_below w ax ay bx by some rx ry p inside out =
     let ny : pos 0 ≤ℤ (w *ℤ (by -ℤ ay)) = at_least_mul w (by -ℤ ay) some (omega (arith, ints)) in
     let over = p.over in
@@ -132,25 +142,38 @@ past_below w ax ay bx by some rx ry p inside out =
       from = omega (arith, ints);
       to = omega (arith, ints);
       some = omega (arith, ints);
-      x = beside w ay by ax bx (omega (arith, ints, m, n, e, swapped ax ay bx by)) (omega (arith, ints, swapped ax ay bx by));
+      x = beside w ay by ax bx (omega (arith, ints, m, n, e, swapped ax ay bx by))
+          (omega (arith, ints, swapped ax ay bx by));
       y = at_side w ay by ny;
     }
   where
-    parts_are : (w ax ay bx by : ℤ) → (ax +ℤ w) *ℤ (by -ℤ ay) +ℤ ((pos 0 -ℤ w) -ℤ ay) *ℤ (bx -ℤ ax) ≡ (pos 0 -ℤ (bx *ℤ ay -ℤ ax *ℤ by)) -ℤ w *ℤ (bx -ℤ ax) +ℤ w *ℤ (by -ℤ ay)
-    parts_are w ax ay bx by = ring (w ∷ ax ∷ ay ∷ bx ∷ by ∷ []) ((v1 ⊕ v0) ⊗ (v4 ⊖ v2) ⊕ ((num (pos 0) ⊖ v0) ⊖ v2) ⊗ (v3 ⊖ v1)) ((num (pos 0) ⊖ (v3 ⊗ v2 ⊖ v1 ⊗ v4)) ⊖ v0 ⊗ (v3 ⊖ v1) ⊕ v0 ⊗ (v4 ⊖ v2)) refl
+    parts_are : (w ax ay bx by : ℤ) → (ax +ℤ w) *ℤ (by -ℤ ay) +ℤ ((pos 0 -ℤ w) -ℤ ay) *ℤ (bx -ℤ ax)
+        ≡ (pos 0 -ℤ (bx *ℤ ay -ℤ ax *ℤ by)) -ℤ w *ℤ (bx -ℤ ax) +ℤ w *ℤ (by -ℤ ay)
+    parts_are w ax ay bx by = ring (w ∷ ax ∷ ay ∷ bx ∷ by ∷ []) ((v1 ⊕ v0) ⊗ (v4 ⊖ v2) ⊕ ((num (pos 0) ⊖ v0) ⊖ v2) ⊗
+        (v3 ⊖ v1)) ((num (pos 0) ⊖ (v3 ⊗ v2 ⊖ v1 ⊗ v4)) ⊖ v0 ⊗ (v3 ⊖ v1) ⊕ v0 ⊗ (v4 ⊖ v2)) refl
 
 pub found : (w ax ay bx by : ℤ) → pos 0 ≤ℤ w → ax ≤ℤ bx → ay ≤ℤ by → Passes w ax ay bx by → Found w ax ay bx by
 found w ax ay bx by some rx ry p =
     elim (order (pos 0 -ℤ w) ax) [
       | inl h ↦ elim (order (pos 0 -ℤ w) ay) [
-        | inl k ↦ record { s = pos 1; t = pos 0; from = omega (arith, ints); to = omega (arith, ints); some = omega (arith, ints); x = start w ax bx h p.left; y = start w ay by k p.below }
+        | inl k ↦ record {
+          s = pos 1;
+          t = pos 0;
+          from = omega (arith, ints);
+          to = omega (arith, ints);
+          some =
+              omega (arith, ints);
+          x = start w ax bx h p.left;
+          y = start w ay by k p.below;
+        }
         | inr k ↦ past_below w ax ay bx by some rx ry p h k
       ]
       | inr h ↦ past_left w ax ay bx by some rx ry p h
     ]
 
 -- ---- the tests from a mean
-sides_of : (w s t a b : ℤ) → pos 0 ≤ℤ s → pos 0 ≤ℤ t → pos 0 <ℤ (s +ℤ t) → a ≤ℤ b → Lies w s t a b → (a ≤ℤ w) × ((pos 0 -ℤ w) ≤ℤ b)
+sides_of : (w s t a b : ℤ) → pos 0 ≤ℤ s → pos 0 ≤ℤ t → pos 0 <ℤ (s +ℤ t) → a ≤ℤ b → Lies w s t a b
+    → (a ≤ℤ w) × ((pos 0 -ℤ w) ≤ℤ b)
 sides_of w s t a b from to some h l =
     let lf = l.from in
     let lt = l.to in
@@ -161,10 +184,12 @@ sides_of w s t a b from to some h l =
     (omega (arith, ints, p), omega (arith, ints, q))
   where
     first : (w -ℤ a) *ℤ (s +ℤ t) ≡ (w *ℤ (s +ℤ t) -ℤ (s *ℤ a +ℤ t *ℤ b)) +ℤ t *ℤ (b -ℤ a)
-    first = ring (w ∷ s ∷ t ∷ a ∷ b ∷ []) ((v0 ⊖ v3) ⊗ (v1 ⊕ v2)) ((v0 ⊗ (v1 ⊕ v2) ⊖ (v1 ⊗ v3 ⊕ v2 ⊗ v4)) ⊕ v2 ⊗ (v4 ⊖ v3)) refl
+    first = ring (w ∷ s ∷ t ∷ a ∷ b ∷ []) ((v0 ⊖ v3) ⊗ (v1 ⊕ v2)) ((v0 ⊗ (v1 ⊕ v2) ⊖ (v1 ⊗ v3 ⊕ v2 ⊗ v4)) ⊕ v2 ⊗
+        (v4 ⊖ v3)) refl
 
     second : (b +ℤ w) *ℤ (s +ℤ t) ≡ ((s *ℤ a +ℤ t *ℤ b) +ℤ w *ℤ (s +ℤ t)) +ℤ s *ℤ (b -ℤ a)
-    second = ring (w ∷ s ∷ t ∷ a ∷ b ∷ []) ((v4 ⊕ v0) ⊗ (v1 ⊕ v2)) (((v1 ⊗ v3 ⊕ v2 ⊗ v4) ⊕ v0 ⊗ (v1 ⊕ v2)) ⊕ v1 ⊗ (v4 ⊖ v3)) refl
+    second = ring (w ∷ s ∷ t ∷ a ∷ b ∷ []) ((v4 ⊕ v0) ⊗ (v1 ⊕ v2)) (((v1 ⊗ v3 ⊕ v2 ⊗ v4) ⊕ v0 ⊗ (v1 ⊕ v2)) ⊕ v1 ⊗
+        (v4 ⊖ v3)) refl
 
 pub passes : (w ax ay bx by : ℤ) → ax ≤ℤ bx → ay ≤ℤ by → Found w ax ay bx by → Passes w ax ay bx by
 passes w ax ay bx by rx ry f =
@@ -176,24 +201,41 @@ passes w ax ay bx by rx ry f =
     let xt = f.x.to in
     let yf = f.y.from in
     let yt = f.y.to in
-    let m = at_least_mul (bx -ℤ ax) (w *ℤ (s +ℤ t) -ℤ (s *ℤ ay +ℤ t *ℤ by)) (omega (arith, ints)) (omega (arith, ints)) in
-    let n = at_least_mul (by -ℤ ay) (w *ℤ (s +ℤ t) +ℤ (s *ℤ ax +ℤ t *ℤ bx)) (omega (arith, ints)) (omega (arith, ints)) in
-    let o = at_least_mul (bx -ℤ ax) (w *ℤ (s +ℤ t) +ℤ (s *ℤ ay +ℤ t *ℤ by)) (omega (arith, ints)) (omega (arith, ints)) in
-    let q = at_least_mul (by -ℤ ay) (w *ℤ (s +ℤ t) -ℤ (s *ℤ ax +ℤ t *ℤ bx)) (omega (arith, ints)) (omega (arith, ints)) in
-    let u = at_least_left ((w *ℤ (bx -ℤ ax) +ℤ w *ℤ (by -ℤ ay)) -ℤ (bx *ℤ ay -ℤ ax *ℤ by)) (s +ℤ t) f.some (omega (arith, ints, m, n, most_is w s t ax ay bx by)) in
-    let v = at_least_left ((w *ℤ (bx -ℤ ax) +ℤ w *ℤ (by -ℤ ay)) +ℤ (bx *ℤ ay -ℤ ax *ℤ by)) (s +ℤ t) f.some (omega (arith, ints, o, q, least_is w s t ax ay bx by)) in
-    record { left = x.0; right = x.1; below = y.0; over = y.1; most = omega (arith, ints, u); least = omega (arith, ints, v) }
+    let m = at_least_mul (bx -ℤ ax) (w *ℤ (s +ℤ t) -ℤ (s *ℤ ay +ℤ t *ℤ by)) (omega (arith, ints)) (omega (arith, ints))
+    in
+    let n = at_least_mul (by -ℤ ay) (w *ℤ (s +ℤ t) +ℤ (s *ℤ ax +ℤ t *ℤ bx)) (omega (arith, ints)) (omega (arith, ints))
+    in
+    let o = at_least_mul (bx -ℤ ax) (w *ℤ (s +ℤ t) +ℤ (s *ℤ ay +ℤ t *ℤ by)) (omega (arith, ints)) (omega (arith, ints))
+    in
+    let q = at_least_mul (by -ℤ ay) (w *ℤ (s +ℤ t) -ℤ (s *ℤ ax +ℤ t *ℤ bx)) (omega (arith, ints)) (omega (arith, ints))
+    in
+    let u = at_least_left ((w *ℤ (bx -ℤ ax) +ℤ w *ℤ (by -ℤ ay)) -ℤ (bx *ℤ ay -ℤ ax *ℤ by)) (s +ℤ t) f.some
+    (omega (arith, ints, m, n, most_is w s t ax ay bx by)) in
+    let v = at_least_left ((w *ℤ (bx -ℤ ax) +ℤ w *ℤ (by -ℤ ay)) +ℤ (bx *ℤ ay -ℤ ax *ℤ by)) (s +ℤ t) f.some
+    (omega (arith, ints, o, q, least_is w s t ax ay bx by)) in
+    record {
+      left = x.0;
+      right = x.1;
+      below = y.0;
+      over = y.1;
+      most = omega (arith, ints, u);
+      least =
+          omega (arith, ints, v);
+    }
   where
     most_is : (w s t ax ay bx by : ℤ) → ((w *ℤ (bx -ℤ ax) +ℤ w *ℤ (by -ℤ ay)) -ℤ (bx *ℤ ay -ℤ ax *ℤ by)) *ℤ (s +ℤ t)
         ≡ (bx -ℤ ax) *ℤ (w *ℤ (s +ℤ t) -ℤ (s *ℤ ay +ℤ t *ℤ by)) +ℤ (by -ℤ ay) *ℤ (w *ℤ (s +ℤ t) +ℤ (s *ℤ ax +ℤ t *ℤ bx))
-    most_is w s t ax ay bx by = ring (w ∷ s ∷ t ∷ ax ∷ ay ∷ bx ∷ by ∷ []) (((v0 ⊗ (v5 ⊖ v3) ⊕ v0 ⊗ (v6 ⊖ v4)) ⊖ (v5 ⊗ v4 ⊖ v3 ⊗ v6)) ⊗ (v1 ⊕ v2))
+    most_is w s t ax ay bx by = ring (w ∷ s ∷ t ∷ ax ∷ ay ∷ bx ∷ by ∷ [])
+        (((v0 ⊗ (v5 ⊖ v3) ⊕ v0 ⊗ (v6 ⊖ v4)) ⊖ (v5 ⊗ v4 ⊖ v3 ⊗ v6)) ⊗ (v1 ⊕ v2))
         ((v5 ⊖ v3) ⊗ (v0 ⊗ (v1 ⊕ v2) ⊖ (v1 ⊗ v4 ⊕ v2 ⊗ v6)) ⊕ (v6 ⊖ v4) ⊗ (v0 ⊗ (v1 ⊕ v2) ⊕ (v1 ⊗ v3 ⊕ v2 ⊗ v5))) refl
 
     least_is : (w s t ax ay bx by : ℤ) → ((w *ℤ (bx -ℤ ax) +ℤ w *ℤ (by -ℤ ay)) +ℤ (bx *ℤ ay -ℤ ax *ℤ by)) *ℤ (s +ℤ t)
         ≡ (bx -ℤ ax) *ℤ (w *ℤ (s +ℤ t) +ℤ (s *ℤ ay +ℤ t *ℤ by)) +ℤ (by -ℤ ay) *ℤ (w *ℤ (s +ℤ t) -ℤ (s *ℤ ax +ℤ t *ℤ bx))
-    least_is w s t ax ay bx by = ring (w ∷ s ∷ t ∷ ax ∷ ay ∷ bx ∷ by ∷ []) (((v0 ⊗ (v5 ⊖ v3) ⊕ v0 ⊗ (v6 ⊖ v4)) ⊕ (v5 ⊗ v4 ⊖ v3 ⊗ v6)) ⊗ (v1 ⊕ v2))
+    least_is w s t ax ay bx by = ring (w ∷ s ∷ t ∷ ax ∷ ay ∷ bx ∷ by ∷ [])
+        (((v0 ⊗ (v5 ⊖ v3) ⊕ v0 ⊗ (v6 ⊖ v4)) ⊕ (v5 ⊗ v4 ⊖ v3 ⊗ v6)) ⊗ (v1 ⊕ v2))
         ((v5 ⊖ v3) ⊗ (v0 ⊗ (v1 ⊕ v2) ⊕ (v1 ⊗ v4 ⊕ v2 ⊗ v6)) ⊕ (v6 ⊖ v4) ⊗ (v0 ⊗ (v1 ⊕ v2) ⊖ (v1 ⊗ v3 ⊕ v2 ⊗ v5))) refl
 
 -- ---- mirrored segments
 pub mirrored_mean : (s t a b : ℤ) → s *ℤ (pos 0 -ℤ a) +ℤ t *ℤ (pos 0 -ℤ b) ≡ pos 0 -ℤ (s *ℤ a +ℤ t *ℤ b)
-mirrored_mean s t a b = ring (s ∷ t ∷ a ∷ b ∷ []) (v0 ⊗ (num (pos 0) ⊖ v2) ⊕ v1 ⊗ (num (pos 0) ⊖ v3)) (num (pos 0) ⊖ (v0 ⊗ v2 ⊕ v1 ⊗ v3)) refl
+mirrored_mean s t a b = ring (s ∷ t ∷ a ∷ b ∷ []) (v0 ⊗ (num (pos 0) ⊖ v2) ⊕ v1 ⊗ (num (pos 0) ⊖ v3))
+    (num (pos 0) ⊖ (v0 ⊗ v2 ⊕ v1 ⊗ v3)) refl

@@ -24,11 +24,13 @@ mutual
   not_all_held (more_of-Shape member rest) = rw (nothing_held member) refl
 
 -- ---- members as a list
-pub any_row : (inside : ℕ → Bool) (m : _) (r : Row_of-Shape m) → some_hold inside r ≡ any_holds inside (items-the_row-Shape m r)
+pub any_row : (inside : ℕ → Bool) (m : _) (r : Row_of-Shape m) → some_hold inside r ≡ any_holds inside
+    (items-the_row-Shape m r)
 any_row inside m end_of-Shape = refl
 any_row inside m (more_of-Shape member rest) = ap (λ (b : Bool). shape_holds inside member || b) (any_row inside _ rest)
 
-pub all_row : (inside : ℕ → Bool) (m : _) (r : Row_of-Shape m) → all_hold inside r ≡ all_holds inside (items-the_row-Shape m r)
+pub all_row : (inside : ℕ → Bool) (m : _) (r : Row_of-Shape m) → all_hold inside r ≡ all_holds inside
+    (items-the_row-Shape m r)
 all_row inside m end_of-Shape = refl
 all_row inside m (more_of-Shape member rest) = ap (λ (b : Bool). shape_holds inside member && b) (all_row inside _ rest)
 
@@ -39,8 +41,10 @@ has_row m (more_of-Shape member rest) = refl
 pub holds_union : (inside : ℕ → Bool) (v : Vec Shape Global) → shape_holds inside (Union v) ≡ any_holds inside v.items
 holds_union inside v = search (rules, the_lemmas, any_row)
 
-pub holds_inter : (inside : ℕ → Bool) (v : Vec Shape Global) → shape_holds inside (Inter v) ≡ (has_items v.items && all_holds inside v.items)
+pub holds_inter : (inside : ℕ → Bool) (v : Vec Shape Global) → shape_holds inside (Inter v)
+    ≡ (has_items v.items && all_holds inside v.items)
 holds_inter inside v = search (rules, the_lemmas, all_row, has_row)
 
-pub holds_diff : (inside : ℕ → Bool) (b : Box Shape Global) (v : Vec Shape Global) → shape_holds inside (Diff b v) ≡ (shape_holds inside b.value && not (any_holds inside v.items))
+pub holds_diff : (inside : ℕ → Bool) (b : Box Shape Global) (v : Vec Shape Global) → shape_holds inside (Diff b v)
+    ≡ (shape_holds inside b.value && not (any_holds inside v.items))
 holds_diff inside b v = search (rules, the_lemmas, any_row)

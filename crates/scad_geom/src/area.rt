@@ -38,39 +38,3 @@ fn cross(a: Pt, b: Pt) -> i128
         times::<31, 31>(b.x as i128, a.y as i128),
     )
 }
-
-#[cfg(test)]
-mod tests {
-    use super::*;
-
-    const fn at(x: i32, y: i32) -> Pt {
-        Pt { x, y }
-    }
-
-    #[test]
-    fn counter_clockwise_is_above_zero(rt: HostRuntime) {
-        assert_eq!(rt; twice_area(&[]), 0);
-        assert_eq!(rt; twice_area(&[at(7, 5)]), 0);
-        assert_eq!(rt; twice_area(&[at(3, 1), at(-7, 5)]), 0);
-        assert_eq!(rt;
-            twice_area(&[at(0, 0), at(10, 0), at(10, 10), at(0, 10)]),
-            200
-        );
-        assert_eq!(rt;
-            twice_area(&[at(0, 0), at(0, 10), at(10, 10), at(10, 0)]),
-            -200
-        );
-        assert_eq!(rt;
-            twice_area(&[at(0, 10), at(-6, -8), at(9, 3), at(-9, 3), at(6, -8)]),
-            282
-        );
-        let (least, most) = (i32::MIN, i32::MAX);
-        let widest = [
-            at(least, least),
-            at(most, least),
-            at(most, most),
-            at(least, most),
-        ];
-        assert_eq!(rt; twice_area(&widest), 36_893_488_130_239_234_050);
-    }
-}

@@ -17,14 +17,3 @@ pub fn limits()
     ensures point { POINT_LIMIT ≡ point_limit }
     ensures coordinate { COORDINATE_LIMIT ≡ coordinate_limit }
 {}
-
-#[cfg(test)]
-mod tests {
-    use super::*;
-
-    #[test]
-    fn laws_are_called() {
-        square_winds_once();
-        limits();
-    }
-}

@@ -48,6 +48,7 @@ pub fn run(e: &Edge) -> i128
 }
 
 // What places the line of an edge: its points have rise * x = run * y + offset.
+/// The offset of an edge's line: rise times x less run times y, of each of its points.
 #[tactic(auto, using(crate::proofs::Casts::casts), unfolding(crate::specs::Line::offset))]
 pub fn offset(e: &Edge) -> i128
     requires { IsEdgeWithin coordinate_limit e.now }
@@ -89,27 +90,4 @@ pub fn x_at(e: &Edge, at: &Level) -> i128
     let slant = times::<22, 64>(run(e), at.n);
     let start = times::<44, 44>(offset(e), at.d);
     plus(slant, start)
-}
-
-#[cfg(test)]
-mod tests {
-    use super::*;
-
-    #[test]
-    fn an_edge_reaches_the_heights_of_its_ends(rt: HostRuntime) {
-        let e = Edge {
-            a: Pt { x: 0, y: 3 },
-            b: Pt { x: 9, y: 0 },
-        };
-        for (n, starts, ends) in [
-            (-1, false, true),
-            (0, true, true),
-            (6, true, true),
-            (7, true, false),
-        ] {
-            let at = Level { n, d: 2 };
-            assert_eq!(rt; starts_by(&e, &at), starts, "at {n} / 2");
-            assert_eq!(rt; ends_from(&e, &at), ends, "at {n} / 2");
-        }
-    }
 }

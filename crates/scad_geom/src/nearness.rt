@@ -129,32 +129,3 @@ fn doubled_width(width: u32) -> i64
 {
     2 * width as i64
 }
-
-#[cfg(test)]
-mod tests {
-    use super::*;
-
-    const SLANTED: Edge = Edge {
-        a: Pt { x: 0, y: 10 },
-        b: Pt { x: 10, y: 0 },
-    };
-
-    #[test]
-    fn squares_meet_edges_that_touch_them(rt: HostRuntime) {
-        for (x, y, half, width, meets) in [
-            (0, 0, Half::Whole, 5, true),
-            (0, 0, Half::Whole, 4, false),
-            (0, 0, Half::Cell, 4, false),
-            (0, 1, Half::Cell, 4, true),
-            (-1, 14, Half::Whole, 4, true),
-            (-1, 14, Half::Whole, 3, false),
-            (4, 6, Half::Whole, 0, true),
-        ] {
-            assert_eq!(rt;
-                box_meets(&SLANTED, Pt { x, y }, half, width),
-                meets,
-                "at {x}, {y}, {half:?}, {width}"
-            );
-        }
-    }
-}

@@ -15,21 +15,3 @@ pub fn round_half_down(n: i128, d: i128) -> i32
 {
     -(d - 2 * n).div_euclid(2 * d) as i32
 }
-
-#[cfg(test)]
-mod tests {
-    use super::*;
-
-    #[test]
-    fn rounds_halves_downwards(rt: HostRuntime) {
-        for (n, d, want) in [
-            (1001, 2, 500),
-            (-1001, 2, -501),
-            (-1, 3, 0),
-            (2, 3, 1),
-            (1_100_000, 1, 1_100_000),
-        ] {
-            assert_eq!(rt; round_half_down(n, d), want, "at {n} / {d}");
-        }
-    }
-}

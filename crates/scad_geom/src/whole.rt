@@ -48,17 +48,3 @@ pub fn times<const M: u32, const N: u32>(a: i64, b: i64) -> i64
 {
     product(a, b)
 }
-
-#[cfg(test)]
-mod tests {
-    use super::*;
-
-    #[test]
-    fn values_past_32_bits_are_exact(rt: HostRuntime) {
-        assert_eq!(rt; span(i32::MAX, i32::MIN), -4_294_967_295);
-        assert_eq!(rt; plus(4_000_000_000, -7_000_000_000), -3_000_000_000);
-        assert_eq!(rt; minus(-4_000_000_000, 7_000_000_000), -11_000_000_000);
-        assert_eq!(rt; product(-1_000_003, 1_000_000_000), -1_000_003_000_000_000);
-        assert_eq!(rt; times::<21, 22>(-1_100_000, 2_200_000), -2_420_000_000_000);
-    }
-}

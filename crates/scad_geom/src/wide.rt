@@ -48,29 +48,3 @@ pub fn times<const M: u32, const N: u32>(a: i128, b: i128) -> i128
 {
     product(a, b)
 }
-
-#[cfg(test)]
-mod tests {
-    use super::*;
-
-    #[test]
-    fn values_past_64_bits_are_exact(rt: HostRuntime) {
-        assert_eq!(rt; span(i32::MAX, i32::MIN), -4_294_967_295);
-        assert_eq!(rt;
-            plus(1 << 100, 1),
-            1_267_650_600_228_229_401_496_703_205_377
-        );
-        assert_eq!(rt;
-            minus(1, 1 << 100),
-            -1_267_650_600_228_229_401_496_703_205_375
-        );
-        assert_eq!(rt;
-            product(-1_000_000_007, 10_000_000_000),
-            -10_000_000_070_000_000_000
-        );
-        assert_eq!(rt;
-            times::<64, 44>(-11_000_000_000_000_000_000, 10_000_000_000_000),
-            -110_000_000_000_000_000_000_000_000_000_000
-        );
-    }
-}

@@ -55,22 +55,3 @@ pub fn printed_text_derives()
     ensures tokens { PrintedTextDerives }
     ensures source { PrintedSourceDerives }
 {}
-
-#[cfg(test)]
-mod tests {
-    use super::*;
-
-    #[test]
-    fn laws_are_called() {
-        ends_exclude_nothing();
-        one_program();
-        reads_what_is_derived();
-        stands_where_a_program_begins();
-        counts_what_is_open();
-        judges_as_the_grammar();
-        accepts_what_is_derived();
-        descent_is_the_reader();
-        printed_tokens_derive();
-        printed_text_derives();
-    }
-}

@@ -10,28 +10,37 @@ use Rattle.scad_expr.specs.Variables.{Bound, set}
 use Rattle.scad_inst.specs.Meaning.{Below, assigned}
 
 -- what comes behind a value
-goes : {A B : Type 0} (o : Outcome A) (f : A → B) (g : B → State → Outcome B) (b : B) (t : State) → and_then o (λ a. pure (f a)) ≡ gives b t → and_then o (λ a. g (f a)) ≡ g b t
+goes : {A B : Type 0} (o : Outcome A) (f : A → B) (g : B → State → Outcome B) (b : B) (t : State)
+    → and_then o (λ a. pure (f a)) ≡ gives b t → and_then o (λ a. g (f a)) ≡ g b t
 goes (gives a s) f g b t e = cc
 goes (refuses x s) f g b t e = absurd (cc)
 
-stops : {A B : Type 0} (o : Outcome A) (f : A → B) (g : B → State → Outcome B) (x : EvalFault) (t : State) → and_then o (λ a. pure (f a)) ≡ refuses x t → and_then o (λ a. g (f a)) ≡ refuses x t
+stops : {A B : Type 0} (o : Outcome A) (f : A → B) (g : B → State → Outcome B) (x : EvalFault) (t : State)
+    → and_then o (λ a. pure (f a)) ≡ refuses x t → and_then o (λ a. g (f a)) ≡ refuses x t
 stops (gives a s) f g x t e = absurd (cc)
 stops (refuses y s) f g x t e = cc
 
 module _ (below : Below) (scope : Items) (env along : Env) where
-  pub names-goes : (all : List Binding) (i : ℕ) (p : Binding) (b c : Bound) (s t : State) → i < length all → p ≡ get_or all i p → assigned below scope env along (p ∷ []) b s ≡ gives c t → assigned below scope env along (drop (i + 1) all) c t ≡ assigned below scope env along (drop i all) b s
+  pub names-goes : (all : List Binding) (i : ℕ) (p : Binding) (b c : Bound) (s t : State) → i < length all
+      → p ≡ get_or all i p → assigned below scope env along (p ∷ []) b s ≡ gives c t → assigned below scope env along
+      (drop (i + 1) all) c t ≡ assigned below scope env along (drop i all) b s
   unfolding assigned
   names-goes all i p b c s t inside is e =
-      sym (ap (λ l. assigned below scope env along l b s) (drop_more all i p inside ∙ ap (λ q. q ∷ drop (i + 1) all) (sym is))
+      sym (ap (λ l. assigned below scope env along l b s) (drop_more all i p inside ∙ ap (λ q. q ∷ drop (i + 1) all)
+      (sym is))
       ∙ goes _ (λ d. set p.name d b) (assigned below scope env along (drop (i + 1) all)) c t e)
 
-  pub names-stops : (all : List Binding) (i : ℕ) (p : Binding) (b : Bound) (s t : State) (x : EvalFault) → i < length all → p ≡ get_or all i p → assigned below scope env along (p ∷ []) b s ≡ refuses x t → assigned below scope env along (drop i all) b s ≡ refuses x t
+  pub names-stops : (all : List Binding) (i : ℕ) (p : Binding) (b : Bound) (s t : State) (x : EvalFault)
+      → i < length all → p ≡ get_or all i p → assigned below scope env along (p ∷ []) b s ≡ refuses x t
+      → assigned below scope env along (drop i all) b s ≡ refuses x t
   unfolding assigned
   names-stops all i p b s t x inside is e =
-      ap (λ l. assigned below scope env along l b s) (drop_more all i p inside ∙ ap (λ q. q ∷ drop (i + 1) all) (sym is))
+      ap (λ l. assigned below scope env along l b s) (drop_more all i p inside ∙ ap (λ q. q ∷ drop (i + 1) all)
+      (sym is))
       ∙ stops _ (λ d. set p.name d b) (assigned below scope env along (drop (i + 1) all)) x t e
 
-  pub names-end : (all : List Binding) (i : ℕ) (b : Bound) (s : State) → length all ≤ i → assigned below scope env along (drop i all) b s ≡ gives b s
+  pub names-end : (all : List Binding) (i : ℕ) (b : Bound) (s : State) → length all ≤ i → assigned below scope env along
+      (drop i all) b s ≡ gives b s
   unfolding assigned
   names-end all i b s past = ap (λ l. assigned below scope env along l b s) (drop_all i all past)
 

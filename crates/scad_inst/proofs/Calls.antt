@@ -18,7 +18,8 @@ use Rattle.scad_inst.proofs.Levels.{expressions-are}
 use Rattle.scad_inst.proofs.MadeTrees.{opened-env, opened-along}
 
 module _ (below : Below) (at : Place) (word : List ℕ) (w : Where) (env along : Env) (args : Arguments) (all : Items) (s : State) where
-  pub called-for : (n : Name) (own : Option Found) → n ≡ For → called below n own at word w env along args all s ≡ looped below Unite at word w env along args all s
+  pub called-for : (n : Name) (own : Option Found) → n ≡ For → called below n own at word w env along args all s
+      ≡ looped below Unite at word w env along args all s
   unfolding called
   called-for n own is = ap (λ m. called below m own at word w env along args all s) is
 
@@ -26,7 +27,8 @@ module _ (below : Below) (at : Place) (word : List ℕ) (w : Where) (env along :
   unfolding called
   called-let n own is = ap (λ m. called below m own at word w env along args all s) is
 
-  pub called-own : (n : Name) (m : Found) → n ≢ For → n ≢ Let → called below n (Some m) at word w env along args all s ≡ called_with below at w env along m args all s
+  pub called-own : (n : Name) (m : Found) → n ≢ For → n ≢ Let → called below n (Some m) at word w env along args all s
+      ≡ called_with below at w env along m args all s
   unfolding called called_with
   called-own (Known k) m other another = refl
   called-own For m other another = absurd (other refl)
@@ -35,15 +37,20 @@ module _ (below : Below) (at : Place) (word : List ℕ) (w : Where) (env along :
   called-own LeftOut m other another = refl
   called-own Unknown m other another = refl
 
-behind-pure : {A B C : Type 0} (o : Outcome A) (f : A → B) (g : B → Action C) → and_then o (λ a. g (f a)) ≡ and_then (and_then o (λ a. pure (f a))) g
+behind-pure : {A B C : Type 0} (o : Outcome A) (f : A → B) (g : B → Action C) → and_then o (λ a. g (f a))
+    ≡ and_then (and_then o (λ a. pure (f a))) g
 behind-pure (gives a s) f g = refl
 behind-pure (refuses e s) f g = refl
 
 -- a call of a module of the program is its frames, and then its body
-pub own-call : (below : Below) (at : Place) (w : Where) (env along : Env) (m : Found) (args : Arguments) (found : List Datum) (all : Items) (s : State) → called_own below at w env along m args found all s ≡ and_then (own_opened below env along m args found all s) (λ o. combined below Unite at w m.definition.body o.env o.along)
+pub own-call : (below : Below) (at : Place) (w : Where) (env along : Env) (m : Found) (args : Arguments)
+    (found : List Datum) (all : Items) (s : State) → called_own below at w env along m args found all s
+    ≡ and_then (own_opened below env along m args found all s) (λ o. combined below Unite at w m.definition.body o.env
+    o.along)
 unfolding called_own own_opened
 own-call below at w env along m args found all s =
-    behind-pure (bound below.expressions m.home along m.definition.parameters args found s) (λ b. call_opened m.home along all env b) (λ o. combined below Unite at w m.definition.body o.env o.along)
+    behind-pure (bound below.expressions m.home along m.definition.parameters args found s)
+    (λ b. call_opened m.home along all env b) (λ o. combined below Unite at w m.definition.body o.env o.along)
 
 pub ruleset meanings = (called-for, called-let)
 

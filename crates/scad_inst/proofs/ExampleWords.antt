@@ -84,7 +84,9 @@ abbrev pub made : ℕ → ℕ → ℕ → List (List ℕ) → List Node → Seen
 made steps leaves triangles lines all = seen steps leaves triangles (map encode_utf8_all lines) all
 
 abbrev pub faulted : FaultKind → Place → List ℕ → List (List ℕ) → Seen
-faulted kind place name lines = refused (Fault (record { kind = kind; at = place; name = name })) (map encode_utf8_all lines)
+faulted kind place name lines = refused (Fault (record { kind = kind; at = place; name = name }))
+    (map encode_utf8_all lines)
 
 abbrev pub passed : BudgetKind → Place → List (List ℕ) → Seen
-passed kind place lines = refused (Over (record { kind = kind; at = place; layer = 0; count = 0 })) (map encode_utf8_all lines)
+passed kind place lines = refused (Over (record { kind = kind; at = place; layer = 0; count = 0 }))
+    (map encode_utf8_all lines)

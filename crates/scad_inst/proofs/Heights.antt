@@ -9,10 +9,13 @@ use Rattle.scad_inst.specs.Made.{judge_solid}
 use Rattle.scad_inst.specs.declared.space.Space.{Space}
 
 module _ (at : Place) (space : Space) (height : Action (ℤ × Bool)) (rest : ℤ × Bool → Action Solid) (s : State) (outside : judge_solid at space s ≡ gives (tt {0}) s) where
-  pub height-stops : (e : EvalFault) → height s ≡ refuses e s → (judge_solid at space >> (height >>= rest)) s ≡ refuses e s
+  pub height-stops : (e : EvalFault) → height s ≡ refuses e s → (judge_solid at space >> (height >>= rest)) s
+      ≡ refuses e s
   height-stops e refused =
-      goes (judge_solid at space s) (λ (u : Unit {0}). height >>= rest) (tt {0}) s outside ∙ stops (height s) rest e s refused
+      goes (judge_solid at space s) (λ (u : Unit {0}). height >>= rest) (tt {0}) s outside ∙ stops (height s) rest e s
+      refused
 
   pub height-goes : (h : ℤ × Bool) → height s ≡ gives h s → (judge_solid at space >> (height >>= rest)) s ≡ rest h s
   height-goes h given =
-      goes (judge_solid at space s) (λ (u : Unit {0}). height >>= rest) (tt {0}) s outside ∙ goes (height s) rest h s given
+      goes (judge_solid at space s) (λ (u : Unit {0}). height >>= rest) (tt {0}) s outside ∙ goes (height s) rest h s
+      given

@@ -33,7 +33,8 @@ module _ (s : Stmt) where
 pub ruleset kinds = (place-run, marked-run, statement-run, module_view)
 
 -- ---- items by their places
-pub item-at : (all : List Item) (n : ℕ) (i : Item) → n < length all → i ≡ get_or all n i → item_at (items all) n ≡ Some (item_of i)
+pub item-at : (all : List Item) (n : ℕ) (i : Item) → n < length all → i ≡ get_or all n i → item_at (items all) n
+    ≡ Some (item_of i)
 item-at [] n i below is = absurd (let no : ⊥ = omega (arith, below) in no)
 item-at (j ∷ all) zero i below is = ap (λ k. Some (item_of k)) (sym is)
 item-at (j ∷ all) (suc n) i below is = item-at all n i (omega arith) is

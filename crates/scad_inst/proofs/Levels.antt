@@ -13,12 +13,14 @@ use Rattle.scad_inst.specs.Scopes.{item_place}
 use Rattle.scad_inst.specs.declared.space.Where.{Where}
 
 -- where no level is left
-pub assignment-none : (d : ℕ) (env along : Env) (at : Place) (e : Expression) (s : State) → d ≡ 0 → (statements_meaning d).assignment env along at e s ≡ over Depth at s
+pub assignment-none : (d : ℕ) (env along : Env) (at : Place) (e : Expression) (s : State) → d ≡ 0
+    → (statements_meaning d).assignment env along at e s ≡ over Depth at s
 unfolding statements_meaning
 assignment-none zero env along at e s is = refl
 assignment-none (suc d) env along at e s is = absurd (let no : ⊥ = omega (arith, is) in no)
 
-pub statement-none : (d : ℕ) (w : Where) (env along : Env) (i : Item) (s : State) → d ≡ 0 → (statements_meaning d).statement w env along i s ≡ over Depth (item_place i) s
+pub statement-none : (d : ℕ) (w : Where) (env along : Env) (i : Item) (s : State) → d ≡ 0
+    → (statements_meaning d).statement w env along i s ≡ over Depth (item_place i) s
 unfolding statements_meaning
 statement-none zero w env along i s is = refl
 statement-none (suc d) w env along i s is = absurd (let no : ⊥ = omega (arith, is) in no)
@@ -27,15 +29,18 @@ pub less : (d : ℕ) → suc d - 1 ≡ d
 less d = omega arith
 
 -- where some are
-pub assignment-some : (d : ℕ) (env along : Env) (at : Place) (e : Expression) (s : State) → d ≢ 0 → (statements_meaning d).assignment env along at e s ≡ (step at >> (meaning (d - 1)).value env along e) s
+pub assignment-some : (d : ℕ) (env along : Env) (at : Place) (e : Expression) (s : State) → d ≢ 0
+    → (statements_meaning d).assignment env along at e s ≡ (step at >> (meaning (d - 1)).value env along e) s
 unfolding statements_meaning
 assignment-some zero env along at e s some = absurd (some refl)
 assignment-some (suc d) env along at e s some = ap (λ n. (step at >> (meaning n).value env along e) s) (sym (less d))
 
-pub statement-some : (d : ℕ) (w : Where) (env along : Env) (i : Item) (s : State) → d ≢ 0 → (statements_meaning d).statement w env along i s ≡ statement_layer (statements_meaning (d - 1)) w env along i s
+pub statement-some : (d : ℕ) (w : Where) (env along : Env) (i : Item) (s : State) → d ≢ 0
+    → (statements_meaning d).statement w env along i s ≡ statement_layer (statements_meaning (d - 1)) w env along i s
 unfolding statements_meaning
 statement-some zero w env along i s some = absurd (some refl)
-statement-some (suc d) w env along i s some = ap (λ n. statement_layer (statements_meaning n) w env along i s) (sym (less d))
+statement-some (suc d) w env along i s some = ap (λ n. statement_layer (statements_meaning n) w env along i s)
+    (sym (less d))
 
 pub expressions-are : (d : ℕ) → (statements_meaning d).expressions ≡ meaning d
 unfolding statements_meaning

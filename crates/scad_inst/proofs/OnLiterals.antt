@@ -9,7 +9,7 @@ use Rattle.scad_matrix.specs.Makers.{reflection}
 use Rattle.scad_tree.specs.Normal.{united, intersected, subtracted}
 use Rattle.scad_modules.specs.Extrusions.{linear_by, turned_by}
 use Rattle.scad_modules.specs.FlatShapes.{outlines_of}
-use Rattle.scad_modules.specs.Names.{numbered_name, meaning_of}
+use Rattle.scad_modules.specs.Names.{meaning_of}
 use Rattle.scad_modules.specs.Arguments.{taken}
 use Rattle.scad_modules.specs.Shapes.{primitive_of}
 use Rattle.scad_modules.specs.Transforms.{first_three, matrix_of}
@@ -22,5 +22,10 @@ use Rattle.scad_inst.specs.Opened.{dollars_of}
 use Rattle.scad_inst.specs.Meaning.{assigned_value, assigned, opened_scope, member, members_from, members, combined, called_own, turns, for_variables, looped, let_in, child, children_by, chosen, run_children, built_in, called_known, called, node, statement_layer, statements_meaning, program_of, means}
 
 unfoldable pub statements_on_literals : ⊤
-unfolding expressions_on_literals least_step fragments_by_steps fragments_of vertex_angle_of cosines first_quarter half_turn full_turn cosine sine stacked wrapped is_closed reflection united intersected subtracted numbered_name meaning_of taken linear_by turned_by outlines_of primitive_of first_three matrix_of moved inside_linear module_named kept_children count_leaf count_triangles placed leaf argued placed_by judge_solid judge_flat judged linear_leaf judge_points judge_sides swept turned_leaf leaf_in flat_leaves dollars_of assigned_value assigned opened_scope member members_from members combined called_own turns for_variables looped let_in child children_by chosen run_children built_in called_known called node statement_layer statements_meaning program_of means
+unfolding expressions_on_literals least_step fragments_by_steps fragments_of vertex_angle_of cosines first_quarter
+    half_turn full_turn cosine sine stacked wrapped is_closed reflection united intersected subtracted meaning_of taken linear_by turned_by outlines_of primitive_of first_three matrix_of moved inside_linear module_named
+    kept_children count_leaf count_triangles placed leaf argued placed_by judge_solid judge_flat judged linear_leaf
+    judge_points judge_sides swept turned_leaf leaf_in flat_leaves dollars_of assigned_value assigned opened_scope
+    member members_from members combined called_own turns for_variables looped let_in child children_by chosen
+    run_children built_in called_known called node statement_layer statements_meaning program_of means
 statements_on_literals = tt

@@ -21,7 +21,8 @@ use Rattle.scad_expr.proofs.OpenFrames.{env_at-last, less-one, round-last, last-
 
 -- ---- the frames of a scope
 module _ (scope : Items) (home : ℕ) (b : Bound) (h : Held) where
-  pub env_in-scope : env_in (scope_held scope home b h) ≡ inside (frame b.names (Some scope) no_children) (env_at (envs h.frames) home)
+  pub env_in-scope : env_in (scope_held scope home b h) ≡ inside (frame b.names (Some scope) no_children)
+      (env_at (envs h.frames) home)
   unfolding env_in scope_held
   env_in-scope = env_at-last h.frames (record { names = b.names; parent = Some home; scope = Some scope; kept = None })
 
@@ -50,13 +51,31 @@ module _ (scope : Items) (home : ℕ) (b : Bound) (h : Held) where
       let d : Stored = record { names = b.dollars; parent = last_of h.along; scope = None; kept = None } in
       ap₂ (λ x y. record { names = x.names; dollars = y.names }) (last-frame h.frames f) (last-frame h.along d)
 
-  pub set-scope : (name : List ℕ) (d : Datum) → set_in_last name d (scope_held scope home b h) ≡ scope_held scope home (set_name name d b) h
+  pub set-scope : (name : List ℕ) (d : Datum) → set_in_last name d (scope_held scope home b h) ≡ scope_held scope home
+      (set_name name d b) h
   unfolding set_name scope_held
   set-scope name d = by (is_dollar name)
     where
-      by : (c : Bool) → (if c then record (scope_held scope home b h) { along = with_name_in_last name d (scope_held scope home b h).along } else record (scope_held scope home b h) { frames = with_name_in_last name d (scope_held scope home b h).frames }) ≡ scope_held scope home (if c then record b { dollars = with_name name d b.dollars } else record b { names = with_name name d b.names }) h
-      by true = ap (λ l. record (scope_held scope home b h) { along = l }) (last-named name d h.along (record { names = b.dollars; parent = last_of h.along; scope = None; kept = None }))
-      by false = ap (λ l. record (scope_held scope home b h) { frames = l }) (last-named name d h.frames (record { names = b.names; parent = Some home; scope = Some scope; kept = None }))
+      by : (c : Bool) → (if c then record (scope_held scope home b h) {
+        along = with_name_in_last name d
+            (scope_held scope home b h).along;
+      } else record (scope_held scope home b h) {
+        frames = with_name_in_last name
+            d (scope_held scope home b h).frames;
+      }) ≡ scope_held scope home
+          (if c then record b { dollars = with_name name d b.dollars } else record b {
+            names = with_name name d b.names;
+          }) h
+      by true = ap (λ l. record (scope_held scope home b h) { along = l })
+          (last-named name d h.along (record {
+            names = b.dollars;
+            parent = last_of h.along;
+            scope = None;
+            kept =
+                None;
+          }))
+      by false = ap (λ l. record (scope_held scope home b h) { frames = l })
+          (last-named name d h.frames (record { names = b.names; parent = Some home; scope = Some scope; kept = None }))
 
   pub depth-scope : (scope_held scope home b h).depth ≡ h.depth
   unfolding scope_held
@@ -69,7 +88,8 @@ depth-left back h o e = ap (λ (x : Held). x.depth) e
 
 -- ---- frames that are known to be those of a scope
 -- frames that were just opened
-pub scope-opened : (scope : Items) (home back : ℕ) (h o : Held) → h ≡ scope_held scope home empty o → back ≡ o.here → IsScope scope home back h × (bound_in h ≡ empty) × (left back h ≡ o)
+pub scope-opened : (scope : Items) (home back : ℕ) (h o : Held) → h ≡ scope_held scope home empty o → back ≡ o.here
+    → IsScope scope home back h × (bound_in h ≡ empty) × (left back h ≡ o)
 scope-opened scope home back h o e is =
     let out : left back h ≡ o = ap (left back) e ∙ left-scope scope home empty o back is in
     let names : bound_in h ≡ empty = ap bound_in e ∙ bound_in-scope scope home empty o in
@@ -77,7 +97,8 @@ scope-opened scope home back h o e is =
 
 module _ (scope : Items) (home back : ℕ) (h : Held) (i : IsScope scope home back h) where
   -- a name that is set
-  set-is : (name : List ℕ) (d : Datum) (n : Held) → n ≡ set_in_last name d h → n ≡ scope_held scope home (set_name name d (bound_in h)) (left back h)
+  set-is : (name : List ℕ) (d : Datum) (n : Held) → n ≡ set_in_last name d h
+      → n ≡ scope_held scope home (set_name name d (bound_in h)) (left back h)
   set-is name d n e = e ∙ ap (set_in_last name d) i.is ∙ set-scope scope home (bound_in h) (left back h) name d
 
   here-is : back ≡ (left back h).here
@@ -85,31 +106,43 @@ module _ (scope : Items) (home back : ℕ) (h : Held) (i : IsScope scope home ba
   here-is = refl
 
   pub set-left : (name : List ℕ) (d : Datum) (n : Held) → n ≡ set_in_last name d h → left back n ≡ left back h
-  set-left name d n e = ap (left back) (set-is name d n e) ∙ left-scope scope home (set_name name d (bound_in h)) (left back h) back here-is
+  set-left name d n e = ap (left back) (set-is name d n e) ∙ left-scope scope home (set_name name d (bound_in h))
+      (left back h) back here-is
 
-  pub set-bound : (name : List ℕ) (d : Datum) (n : Held) → n ≡ set_in_last name d h → bound_in n ≡ set_name name d (bound_in h)
-  set-bound name d n e = ap bound_in (set-is name d n e) ∙ bound_in-scope scope home (set_name name d (bound_in h)) (left back h)
+  pub set-bound : (name : List ℕ) (d : Datum) (n : Held) → n ≡ set_in_last name d h
+      → bound_in n ≡ set_name name d (bound_in h)
+  set-bound name d n e = ap bound_in (set-is name d n e) ∙ bound_in-scope scope home (set_name name d (bound_in h))
+      (left back h)
 
   pub set-kept : (name : List ℕ) (d : Datum) (n : Held) → n ≡ set_in_last name d h → IsScope scope home back n
-  set-kept name d n e = record { is = set-is name d n e ∙ ap₂ (scope_held scope home) (sym (set-bound name d n e)) (sym (set-left name d n e)) }
+  set-kept name d n e = record {
+    is = set-is name d n e ∙ ap₂ (scope_held scope home) (sym (set-bound name d n e))
+        (sym (set-left name d n e));
+  }
 
-  pub env-is : env_in h ≡ (scope_opened scope (env_at (envs (left back h).frames) home) (along_in (left back h)) (bound_in h)).env
+  pub env-is : env_in h ≡ (scope_opened scope (env_at (envs (left back h).frames) home) (along_in (left back h))
+      (bound_in h)).env
   env-is = ap env_in i.is ∙ env_in-scope scope home (bound_in h) (left back h)
 
-  pub along-is : along_in h ≡ (scope_opened scope (env_at (envs (left back h).frames) home) (along_in (left back h)) (bound_in h)).along
+  pub along-is : along_in h ≡ (scope_opened scope (env_at (envs (left back h).frames) home) (along_in (left back h))
+      (bound_in h)).along
   along-is = ap along_in i.is ∙ along_in-scope scope home (bound_in h) (left back h)
 
-  pub opened-is : opened_in h ≡ scope_opened scope (env_at (envs (left back h).frames) home) (along_in (left back h)) (bound_in h)
+  pub opened-is : opened_in h ≡ scope_opened scope (env_at (envs (left back h).frames) home) (along_in (left back h))
+      (bound_in h)
   unfolding opened_in
   opened-is = ap₂ (λ e a. record { env = e; along = a }) env-is along-is
 
-pub open-is : (scope : Items) (home back : ℕ) (h o : Held) → h ≡ scope_held scope home empty o → back ≡ o.here → IsScope scope home back h
+pub open-is : (scope : Items) (home back : ℕ) (h o : Held) → h ≡ scope_held scope home empty o → back ≡ o.here
+    → IsScope scope home back h
 open-is scope home back h o e is = (scope-opened scope home back h o e is).0
 
-pub open-bound : (scope : Items) (home back : ℕ) (h o : Held) → h ≡ scope_held scope home empty o → back ≡ o.here → bound_in h ≡ empty
+pub open-bound : (scope : Items) (home back : ℕ) (h o : Held) → h ≡ scope_held scope home empty o → back ≡ o.here
+    → bound_in h ≡ empty
 open-bound scope home back h o e is = (scope-opened scope home back h o e is).1
 
-pub open-left : (scope : Items) (home back : ℕ) (h o : Held) → h ≡ scope_held scope home empty o → back ≡ o.here → left back h ≡ o
+pub open-left : (scope : Items) (home back : ℕ) (h o : Held) → h ≡ scope_held scope home empty o → back ≡ o.here
+    → left back h ≡ o
 open-left scope home back h o e is = (scope-opened scope home back h o e is).2
 
 pub ruleset opening = (open-is, open-bound, open-left)
@@ -123,24 +156,39 @@ depth-same back h o e = ap (λ (x : Held). x.depth) e
 pub ruleset depths = (depth-left, depth-same)
 
 -- the frames of a scope whose names are all set
-pub opened-all : (scope : Items) (home back : ℕ) (h o : Held) → IsScope scope home back h → left back h ≡ o → opened_in h ≡ scope_opened scope (env_at (envs o.frames) home) (along_in o) (bound_in h)
-opened-all scope home back h o i same = opened-is scope home back h i ∙ ap (λ x. scope_opened scope (env_at (envs x.frames) home) (along_in x) (bound_in h)) same
+pub opened-all : (scope : Items) (home back : ℕ) (h o : Held) → IsScope scope home back h → left back h ≡ o
+    → opened_in h ≡ scope_opened scope (env_at (envs o.frames) home) (along_in o) (bound_in h)
+opened-all scope home back h o i same = opened-is scope home back h i ∙ ap
+    (λ x. scope_opened scope (env_at (envs x.frames) home) (along_in x) (bound_in h)) same
 
 pub ruleset all_opened = (opened-all, depths)
 
 -- ---- the frames of a scope with its names
 module _ (scope : Items) (home back : ℕ) (o h : Held) (out : left back h ≡ o) (s t u : State) (same : s ≡ t) (names : List Binding) (are : names ≡ bindings scope) (none : bound_in h ≡ empty) where
-  all-assigned : assigned (below_of o) scope (env_at (envs o.frames) home) (along_in o) (bindings scope) empty s ≡ assigned (below_of h) scope (env_at (envs (left back h).frames) home) (along_in (left back h)) names (bound_in h) t
+  all-assigned : assigned (below_of o) scope (env_at (envs o.frames) home) (along_in o) (bindings scope) empty s
+      ≡ assigned (below_of h) scope (env_at (envs (left back h).frames) home) (along_in (left back h)) names
+      (bound_in h) t
   all-assigned =
-      ap (λ d. assigned (statements_meaning d) scope (env_at (envs o.frames) home) (along_in o) (bindings scope) empty s) (sym (depth-left back h o out))
-      ∙ ap (λ p. assigned (below_of h) scope (env_at (envs p.frames) home) (along_in p) (bindings scope) empty s) (sym out)
-      ∙ ap₂ (λ l b. assigned (below_of h) scope (env_at (envs (left back h).frames) home) (along_in (left back h)) l b s) (sym are) (sym none)
-      ∙ ap (λ x. assigned (below_of h) scope (env_at (envs (left back h).frames) home) (along_in (left back h)) names (bound_in h) x) same
+      ap (λ d. assigned (statements_meaning d) scope (env_at (envs o.frames) home) (along_in o) (bindings scope) empty
+      s) (sym (depth-left back h o out))
+      ∙ ap (λ p. assigned (below_of h) scope (env_at (envs p.frames) home) (along_in p) (bindings scope) empty s)
+      (sym out)
+      ∙ ap₂ (λ l b. assigned (below_of h) scope (env_at (envs (left back h).frames) home) (along_in (left back h)) l b
+      s) (sym are) (sym none)
+      ∙ ap (λ x. assigned (below_of h) scope (env_at (envs (left back h).frames) home) (along_in (left back h)) names
+      (bound_in h) x) same
 
-  pub scope-opens : (b : Bound) → assigned (below_of h) scope (env_at (envs (left back h).frames) home) (along_in (left back h)) names (bound_in h) t ≡ gives b u → opened_scope (below_of o) scope (env_at (envs o.frames) home) (along_in o) s ≡ gives (scope_opened scope (env_at (envs o.frames) home) (along_in o) b) u
+  pub scope-opens : (b : Bound) → assigned (below_of h) scope (env_at (envs (left back h).frames) home)
+      (along_in (left back h)) names (bound_in h) t ≡ gives b u → opened_scope (below_of o) scope
+      (env_at (envs o.frames) home) (along_in o) s ≡ gives (scope_opened scope (env_at (envs o.frames) home)
+      (along_in o) b) u
   unfolding opened_scope
-  scope-opens b e = ap (λ q. and_then q (λ b. pure (scope_opened scope (env_at (envs o.frames) home) (along_in o) b))) (all-assigned ∙ e)
+  scope-opens b e = ap (λ q. and_then q (λ b. pure (scope_opened scope (env_at (envs o.frames) home) (along_in o) b)))
+      (all-assigned ∙ e)
 
-  pub scope-stops : (x : EvalFault) → assigned (below_of h) scope (env_at (envs (left back h).frames) home) (along_in (left back h)) names (bound_in h) t ≡ refuses x u → opened_scope (below_of o) scope (env_at (envs o.frames) home) (along_in o) s ≡ refuses x u
+  pub scope-stops : (x : EvalFault) → assigned (below_of h) scope (env_at (envs (left back h).frames) home)
+      (along_in (left back h)) names (bound_in h) t ≡ refuses x u → opened_scope (below_of o) scope
+      (env_at (envs o.frames) home) (along_in o) s ≡ refuses x u
   unfolding opened_scope
-  scope-stops x e = ap (λ q. and_then q (λ b. pure (scope_opened scope (env_at (envs o.frames) home) (along_in o) b))) (all-assigned ∙ e)
+  scope-stops x e = ap (λ q. and_then q (λ b. pure (scope_opened scope (env_at (envs o.frames) home) (along_in o) b)))
+      (all-assigned ∙ e)

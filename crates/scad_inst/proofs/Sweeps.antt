@@ -3,6 +3,7 @@ use Rattle.std.proofs.Common.{◌≡◌, ℕ, ◌*◌, ◌<◌, ◌≤◌, true,
 use Rattle.std.specs.Prelude.{nat_le}
 use Rattle.std.proofs.lemmas.Bool.{leb-true, and_parts}
 use Rattle.std.proofs.lemmas.Nat.{mul-le}
+use Rattle.scad_shapes.specs.Limits.{triangle_limit}
 use Rattle.scad_modules.specs.Primitive.{are_fragments}
 
 pub turns-some : (turns : ℕ) → are_fragments turns ≡ true → 3 ≤ turns
@@ -11,7 +12,7 @@ turns-some turns e = leb-true 3 turns (and_parts (nat_le 3 turns) (nat_le turns 
 pub turns-few : (turns : ℕ) → are_fragments turns ≡ true → turns ≤ 1000000000
 turns-few turns e = leb-true turns 1000000000 (and_parts (nat_le 3 turns) (nat_le turns 1000000000) e).1
 
-pub sweep-few : (points turns : ℕ) → 3 ≤ points → 2 * turns * points ≤ 200000 → turns ≤ 200000
+pub sweep-few : (points turns : ℕ) → 3 ≤ points → 2 * turns * points ≤ triangle_limit → turns ≤ triangle_limit
 sweep-few points turns some few =
     let least : 2 * turns * 3 ≤ 2 * turns * points = mul-le (2 * turns) 3 (2 * turns) points (omega arith) some in
     omega (arith, least, few)

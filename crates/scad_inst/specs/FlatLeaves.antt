@@ -17,7 +17,8 @@ use Rattle.scad_inst.specs.declared.space.Space.{Space}
 use Rattle.scad_inst.specs.declared.space.Space.TheVariants.{Solid as Outside, Linear, Turned}
 use Rattle.scad_inst.specs.declared.space.Turning.{Turning}
 use Rattle.scad_inst.specs.declared.space.Where.{Where}
-use Rattle.scad_inst.specs.Made.{triangle_limit, count_leaf, count_triangles, placed, argued}
+use Rattle.scad_shapes.specs.Limits.{triangle_limit}
+use Rattle.scad_inst.specs.Made.{count_leaf, count_triangles, placed, argued}
 
 -- ---- inside `linear_extrude`
 -- a leaf is counted, then its triangles, and then it is placed

@@ -7,6 +7,7 @@ use Rattle.scad_solid.specs.declared.triangle.Triangle.{Triangle}
 use Rattle.scad_matrix.specs.declared.matrix.Matrix.{Matrix}
 use Rattle.scad_matrix.specs.declared.matrix.MatrixFault.{MatrixFault}
 use Rattle.scad_matrix.specs.declared.matrix.MatrixFault.TheVariants.{Range}
+use Rattle.scad_shapes.specs.Limits.{triangle_limit}
 use Rattle.scad_shapes.specs.declared.fault.ShapeFault.{ShapeFault}
 use Rattle.scad_shapes.specs.declared.fault.ShapeFault.TheVariants.{CoordinateRange, NotClosed, Memory}
 use Rattle.scad_modules.specs.declared.fault.ArgumentFault.{ArgumentFault}
@@ -26,10 +27,6 @@ use Rattle.scad_inst.specs.declared.space.Where.{Where}
 -- a program makes at most so many leaves
 abbrev pub leaf_limit : ℕ
 leaf_limit = 4096
-
--- they have at most so many triangles together
-abbrev pub triangle_limit : ℕ
-triangle_limit = 200000
 
 -- the parts of a tree lie at most so deep in one another
 abbrev pub tree_limit : ℕ

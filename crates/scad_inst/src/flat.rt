@@ -1,6 +1,7 @@
 //! Leaves inside extrusions.
 
 ghost use Rattle.std.specs.Prelude.{◌≡◌, ◌≤◌, ◌-◌, ◌*◌, [], true, length, IfOk};
+ghost use Rattle.scad_shapes.specs.Limits.{triangle_limit};
 ghost use Rattle.std.specs.List.{list_all};
 ghost use Rattle.scad_extrude.specs.Count.{triangles_of as triangles_in};
 ghost use Rattle.scad_extrude.specs.declared.count.FlatForm.TheVariants.{Linear as Prism, Turned as Sweep};
@@ -16,7 +17,7 @@ ghost use Rattle.scad_inst.specs.Made.{count_triangles};
 ghost use Rattle.scad_inst.specs.View.{trees_in};
 
 use crate::argued::profile_argued;
-use crate::leaves::{TRIANGLES, count_leaf, count_triangles, placed};
+use crate::leaves::{TRIANGLE_LIMIT, count_leaf, count_triangles, placed};
 use crate::refused::{fault, named_fault, over};
 use crate::space::{Space, Turning, Where};
 use scad_expr::{EvalFault, Machine};
@@ -36,7 +37,7 @@ fn count_prism<'p>(points: usize, at: Place, m: &mut Machine<'p>) -> Result<(), 
         (state_of m.new) }
     ensures kept { held m.new ≡ held m.old }
 {
-    if points > 200_000 {
+    if points > TRIANGLE_LIMIT as usize {
         return Err(over(BudgetKind::Triangles, at));
     }
     count_triangles(triangles_of(&FlatForm::Linear(points as u32)), at, m)
@@ -68,9 +69,9 @@ fn linear_leaf<'p>(
 #[tactic(auto, unfolding(crate::specs::FlatLeaves::judge_points, scad_expr::specs::State::over))]
 fn judge_points(at: Place, points: usize) -> Result<(), EvalFault>
     ensures does { (s : State) → Does nothing (judge_points at points s) result s }
-    ensures few { IfOk result (λ _. points ≤ 200000) }
+    ensures few { IfOk result (λ _. points ≤ triangle_limit) }
 {
-    if points as u64 > TRIANGLES {
+    if points as u64 > TRIANGLE_LIMIT {
         return Err(over(BudgetKind::Triangles, at));
     }
     Ok(())
@@ -96,12 +97,12 @@ fn count_sweep<'p>(
     m: &mut Machine<'p>,
 ) -> Result<(), EvalFault>
     requires some { 3 ≤ points }
-    requires few { points ≤ 200000 }
+    requires few { points ≤ triangle_limit }
     requires turns { are_fragments turns ≡ true }
     ensures does { Does nothing (count_triangles (triangles_in (Sweep points turns)) at (state_of m.old)) result
         (state_of m.new) }
     ensures kept { held m.new ≡ held m.old }
-    ensures few { IfOk result (λ _. turns ≤ 200000) }
+    ensures few { IfOk result (λ _. turns ≤ triangle_limit) }
 {
     count_triangles(triangles_of(&FlatForm::Turned(points as u32, turns)), at, m)
 }
@@ -117,7 +118,7 @@ fn swept<'p>(
     m: &mut Machine<'p>,
 ) -> Result<Tree, EvalFault>
     requires some { 3 ≤ length ring.now }
-    requires few { length ring.now ≤ 200000 }
+    requires few { length ring.now ≤ triangle_limit }
     ensures does { Does solid_of (swept at ring.now t.now whole.now (state_of m.old)) result (state_of m.new) }
     ensures kept { held m.new ≡ held m.old }
 {

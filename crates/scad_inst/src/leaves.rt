@@ -1,6 +1,7 @@
 //! Leaves, with their budgets.
 
 ghost use Rattle.std.specs.Prelude.{◌≡◌, ◌<◌, ◌≤◌, true, List, length, Result, IfOk};
+ghost use Rattle.scad_shapes.specs.Limits.{triangle_limit};
 ghost use Rattle.scad_base.specs.Memory.{UnlessMemory};
 ghost use Rattle.scad_solid.specs.declared.triangle.Triangle.{Triangle};
 ghost use Rattle.scad_shapes.specs.Faults.{is_memory};
@@ -24,9 +25,9 @@ use scad_tree::Tree;
 use std::alloc::Global;
 
 /// The most leaves that a program makes.
-const LEAVES: u32 = 4096;
+const LEAF_LIMIT: u32 = 4096;
 /// The most triangles of all leaves together.
-pub(crate) const TRIANGLES: u64 = 200_000;
+pub(crate) const TRIANGLE_LIMIT: u64 = 200_000;
 
 /// Counts a leaf.
 #[tactic(auto, unfolding(crate::specs::Made::count_leaf, scad_expr::specs::State::over, scad_expr::specs::Machine::state_of, scad_expr::specs::Machine::held))]
@@ -34,7 +35,7 @@ pub(crate) fn count_leaf<'p>(at: Place, m: &mut Machine<'p>) -> Result<(), EvalF
     ensures does { Does nothing (count_leaf at (state_of m.old)) result (state_of m.new) }
     ensures kept { held m.new ≡ held m.old }
 {
-    if m.leaves >= LEAVES {
+    if m.leaves >= LEAF_LIMIT {
         return Err(over(BudgetKind::Leaves, at));
     }
     m.leaves += 1;
@@ -50,9 +51,9 @@ pub(crate) fn count_triangles<'p>(
 ) -> Result<(), EvalFault>
     ensures does { Does nothing (count_triangles count at (state_of m.old)) result (state_of m.new) }
     ensures kept { held m.new ≡ held m.old }
-    ensures few { IfOk result (λ _. count ≤ 200000) }
+    ensures few { IfOk result (λ _. count ≤ triangle_limit) }
 {
-    if count > TRIANGLES || m.triangles > TRIANGLES - count {
+    if count > TRIANGLE_LIMIT || m.triangles > TRIANGLE_LIMIT - count {
         return Err(over(BudgetKind::Triangles, at));
     }
     m.triangles += count;
@@ -66,7 +67,7 @@ fn count_primitive<'p>(p: &Primitive, at: Place, m: &mut Machine<'p>) -> Result<
     ensures does { Does nothing (count_triangles (triangles_in (primitive p.now)) at (state_of m.old)) result
         (state_of m.new) }
     ensures kept { held m.new ≡ held m.old }
-    ensures few { IfOk result (λ _. triangles_in (primitive p.now) ≤ 200000) }
+    ensures few { IfOk result (λ _. triangles_in (primitive p.now) ≤ triangle_limit) }
 {
     count_triangles(triangles_of(p), at, m)
 }

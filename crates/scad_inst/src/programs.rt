@@ -22,7 +22,7 @@ use crate::answers::{Model, ModelEnd};
 use crate::members::members;
 use crate::space::at_first;
 use scad_ast::Program;
-use scad_expr::{EvalFault, Machine};
+use scad_expr::{DEPTH_LIMIT, EvalFault, Machine, STEP_LIMIT};
 use scad_fault::Text;
 use scad_num::Num;
 use scad_scope::Frames;
@@ -92,8 +92,8 @@ pub(crate) fn first_machine<'p>(alloc: Global) -> Result<Machine<'p>, EvalFault>
         frames,
         along,
         here: 0,
-        steps_left: 5_000_000,
-        depth_left: 2_000,
+        steps_left: STEP_LIMIT,
+        depth_left: DEPTH_LIMIT,
         leaves: 0,
         triangles: 0,
         echoes: Vec::new(alloc),

@@ -1,3 +1,4 @@
+//! The desk: everything outside the process as one input and three outputs.
 ghost use Rattle.std.specs.Prelude.{◌≡◌, ◌≢◌, ◌<◌, ◌≤◌, ℕ, true, false, length, IfOk, IfSome};
 ghost use Rattle.scad_io.specs.Desk.{Files, View, side, Gives, Opens, Creates, after_read, after_write, HasCause, WriteHasCause};
 

@@ -1,3 +1,5 @@
+//! The gate round the work on a layer, by which a test can hold a worker.
+
 /// What stands before and after the work on each layer, in the worker that does it.
 /// Its calls change nothing that a contract speaks of.
 pub trait Gate: Sync {

@@ -1,3 +1,4 @@
+//! A file of the real desk, with the mark of its failure.
 ghost use Rattle.std.specs.Prelude.{◌≡◌, ◌≤◌, true, false, length, Some, is_some, is_ok, is_err, IfOk, MatchOption, MatchResult};
 ghost use Rattle.std.specs.Option.{option_and_then};
 ghost use Rattle.std.specs.Io.KnownBytes.{ReadConsumes, WriteAppends};

@@ -2,6 +2,7 @@
 //! A desk's contract says which bytes each call moves, and that a fault is counted where one fails.
 #![tactic(auto)]
 
+mod claims;
 mod desk;
 mod gate;
 mod handle;
@@ -9,8 +10,6 @@ mod memory;
 mod null;
 mod reading;
 mod real;
-#[cfg(test)]
-mod tests;
 mod writing;
 
 pub use desk::{Desk, Failed, Out};

@@ -1,3 +1,4 @@
+//! The desk in memory.
 ghost use Rattle.std.specs.Prelude.{◌≡◌, Some, IfOk};
 ghost use Rattle.scad_io.specs.Desk.{side, failed_count};
 ghost use Rattle.scad_io.specs.Memory.{made_of};

@@ -1,3 +1,4 @@
+//! The desk that keeps nothing.
 ghost use Rattle.std.specs.Prelude.{◌≡◌, ◌≢◌, ◌<◌, true, false, length, Ok};
 ghost use Rattle.scad_io.specs.Desk.{side, Opens, Creates, after_read, after_write};
 ghost use Rattle.scad_io.specs.Null.{blank, empty_files, null_view};

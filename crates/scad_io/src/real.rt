@@ -1,9 +1,10 @@
+//! The desk of real files and the standard output, the trusted edge.
 ghost use Rattle.std.specs.Prelude.{◌≡◌, None};
 ghost use Rattle.scad_io.specs.Desk.{unused};
 
+use crate::claims::Claims;
 use crate::handle::{Handle, note_write};
 use crate::{Desk, Failed, Out};
-use std::fs;
 use std::marker::Model;
 use std::rt::Files;
 
@@ -14,6 +15,7 @@ use std::rt::Files;
 #[derive(Drop)]
 pub struct RealDesk<'a, R: Files + Print> {
     rt: &'a R,
+    claims: Claims,
     input: Handle<R::File>,
     report_failed: bool,
     cli: Handle<R::File>,
@@ -41,6 +43,7 @@ impl<'a, R: Files + Print> RealDesk<'a, R> {
     {
         RealDesk {
             rt,
+            claims: Claims::none(),
             input: Handle::new(),
             report_failed: false,
             cli: Handle::new(),
@@ -60,7 +63,7 @@ impl<'a, R: Files + Print> Desk for RealDesk<'a, R> {
     ghost faults = { failed_count };
 
     fn open(&mut self, name: &str) -> Result<(), Failed> {
-        self.input.keep(fs::open(self.rt, name))
+        self.input.keep(self.claims.open(self.rt, name))
     }
 
     fn read(&mut self, into: &mut [u8]) -> Result<usize, Failed> {
@@ -68,7 +71,7 @@ impl<'a, R: Files + Print> Desk for RealDesk<'a, R> {
     }
 
     fn create(&mut self, out: Out, name: &str) -> Result<(), Failed> {
-        let created = fs::create(self.rt, name);
+        let created = self.claims.create(self.rt, name);
         match out {
             Out::Report => unreachable!(),
             Out::Cli => self.cli.keep(created),

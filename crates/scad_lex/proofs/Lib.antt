@@ -11,6 +11,7 @@ mod PieceFits
 mod PieceFormed
 mod Pieces
 mod Quotes
+pub mod Refusals
 pub mod Spelled
 mod SpelledNumbers
 mod SpelledSigns

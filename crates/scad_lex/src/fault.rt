@@ -1,3 +1,4 @@
+//! Why a text is refused.
 use scad_fault::Place;
 use std::alloc::{AllocError, AllocFailed};
 

@@ -85,6 +85,3 @@ pub fn lex(alloc: Global, bytes: &[u8]) -> Result<Tokens, LexFault>
     }
     Ok(Tokens { list, end: at })
 }
-
-#[cfg(test)]
-mod tests;

@@ -10,6 +10,7 @@ pub struct Token {
     pub at: Place,
 }
 
+/// What a token is.
 #[derive(Debug, Drop)]
 pub enum TokenKind {
     Number(Num),
@@ -26,6 +27,7 @@ pub struct Tokens {
     pub end: Place,
 }
 
+/// The signs of the language.
 #[derive(Clone, Copy, Debug, PartialEq, Eq)]
 pub enum Sign {
     OpenRound,

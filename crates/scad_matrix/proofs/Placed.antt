@@ -34,6 +34,8 @@ pub in_range-none : (z : ℤ) (f : NumFault) → number_of z ≡ Err f → in_ra
 unfolding number_of
 in_range-none z f e = entry_err (nat_le (unsigned_abs z) most) z f e
 
-pub placed-in_range : (m : Matrix) (x y z : ℤ) (p : Pt3) → p ≡ placed_point m x y z → is_in_range p ≡ true → placed m x y z ≡ Ok p
+pub placed-in_range : (m : Matrix) (x y z : ℤ) (p : Pt3) → p ≡ placed_point m x y z → is_in_range p ≡ true
+    → placed m x y z ≡ Ok p
 placed-in_range m x y z p is all =
-    ap (λ b. if b then Ok (placed_point m x y z) else Err Range) (ap is_in_range (sym is) ∙ all) ∙ ap (λ q. Ok q) (sym is)
+    ap (λ b. if b then Ok (placed_point m x y z) else Err Range) (ap is_in_range (sym is) ∙ all) ∙ ap (λ q. Ok q)
+    (sym is)

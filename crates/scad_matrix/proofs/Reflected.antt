@@ -18,7 +18,8 @@ half_up-small n d m some small =
       | inr most ↦ most
     ]
 
-pub half_away-below : (n : ℤ) (d : ℕ) → int_lt n (pos 0) ≡ true → half_away n d ≡ neg_ℤ (pos (half_up (unsigned_abs n) d))
+pub half_away-below : (n : ℤ) (d : ℕ) → int_lt n (pos 0) ≡ true
+    → half_away n d ≡ neg_ℤ (pos (half_up (unsigned_abs n) d))
 unfolding half_away
 half_away-below (pos n) d below = absurd (omega (arith, ltb-true n 0 below))
 half_away-below (negsuc n) d below = refl
@@ -35,7 +36,8 @@ twice_apart p k = omega arith
 twice_product : (p q : ℕ) → 2 * (p * q) ≤ p * p + q * q
 twice_product p q =
     elim (cases_lt p q) [
-      | inl less ↦ subst (λ r. 2 * (p * r) ≤ p * p + r * r) {x = p + (q - p)} {y = q} (omega arith) (twice_apart p (q - p))
+      | inl less ↦ subst (λ r. 2 * (p * r) ≤ p * p + r * r) {x = p + (q - p)} {y = q} (omega arith)
+          (twice_apart p (q - p))
       | inr most ↦ (let other : 2 * (q * p) ≤ q * q + p * p = subst (λ r. 2 * (q * r) ≤ q * q + r * r) {x = q + (p - q)} {y = p} (omega arith) (twice_apart q (p - q)) in omega arith)
     ]
 
@@ -43,15 +45,19 @@ square-pos : (z : ℤ) → z *ℤ z ≡ pos (unsigned_abs z * unsigned_abs z)
 square-pos (pos n) = refl
 square-pos (negsuc n) = refl
 
-sum_of_squares : (x y z : ℤ) → square_of x y z ≡ pos (unsigned_abs x * unsigned_abs x + unsigned_abs y * unsigned_abs y + unsigned_abs z * unsigned_abs z)
+sum_of_squares : (x y z : ℤ) → square_of x y z ≡ pos (unsigned_abs x * unsigned_abs x + unsigned_abs y * unsigned_abs y
+    + unsigned_abs z * unsigned_abs z)
 sum_of_squares x y z = ap₂ (λ a b. a +ℤ b) (ap₂ (λ a b. a +ℤ b) (square-pos x) (square-pos y)) (square-pos z)
 
 -- so for any two coordinates of a normal
 pub twice-xy : (x y z s : ℤ) → s ≡ square_of x y z → 2 * unsigned_abs (x *ℤ y) ≤ unsigned_abs s
-twice-xy x y z s is = subst (λ t. 2 * unsigned_abs (x *ℤ y) ≤ unsigned_abs t) (sym (is ∙ sum_of_squares x y z)) (omega (arith, unsigned_abs-mul x y, twice_product (unsigned_abs x) (unsigned_abs y)))
+twice-xy x y z s is = subst (λ t. 2 * unsigned_abs (x *ℤ y) ≤ unsigned_abs t) (sym (is ∙ sum_of_squares x y z))
+    (omega (arith, unsigned_abs-mul x y, twice_product (unsigned_abs x) (unsigned_abs y)))
 
 pub twice-yz : (x y z s : ℤ) → s ≡ square_of x y z → 2 * unsigned_abs (y *ℤ z) ≤ unsigned_abs s
-twice-yz x y z s is = subst (λ t. 2 * unsigned_abs (y *ℤ z) ≤ unsigned_abs t) (sym (is ∙ sum_of_squares x y z)) (omega (arith, unsigned_abs-mul y z, twice_product (unsigned_abs y) (unsigned_abs z)))
+twice-yz x y z s is = subst (λ t. 2 * unsigned_abs (y *ℤ z) ≤ unsigned_abs t) (sym (is ∙ sum_of_squares x y z))
+    (omega (arith, unsigned_abs-mul y z, twice_product (unsigned_abs y) (unsigned_abs z)))
 
 pub twice-zx : (x y z s : ℤ) → s ≡ square_of x y z → 2 * unsigned_abs (z *ℤ x) ≤ unsigned_abs s
-twice-zx x y z s is = subst (λ t. 2 * unsigned_abs (z *ℤ x) ≤ unsigned_abs t) (sym (is ∙ sum_of_squares x y z)) (omega (arith, unsigned_abs-mul z x, twice_product (unsigned_abs z) (unsigned_abs x)))
+twice-zx x y z s is = subst (λ t. 2 * unsigned_abs (z *ℤ x) ≤ unsigned_abs t) (sym (is ∙ sum_of_squares x y z))
+    (omega (arith, unsigned_abs-mul z x, twice_product (unsigned_abs z) (unsigned_abs x)))

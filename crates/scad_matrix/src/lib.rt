@@ -11,8 +11,6 @@ mod matrix;
 mod mirroring;
 mod placing;
 mod products;
-#[cfg(test)]
-mod tests;
 
 pub use makers::{Axis, of_rows, scale, translate, turn};
 pub use matrix::{Matrix, MatrixFault, Row};

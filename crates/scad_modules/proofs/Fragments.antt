@@ -16,7 +16,8 @@ ten-thousand (negsuc n) = omega arith
 by_angle-few : (fa : ℕ) → 10000 ≤ fa → half_up (360 * one * one) fa ≤ 36000000001
 unfolding half_up
 by_angle-few fa step =
-    let below : (2 * (360 * one * one) + fa) / (2 * fa) < 36000000002 = div_below (2 * (360 * one * one) + fa) (2 * fa) 36000000002 (omega arith) (omega arith) in
+    let below : (2 * (360 * one * one) + fa) / (2 * fa) < 36000000002 = div_below (2 * (360 * one * one) + fa) (2 * fa)
+    36000000002 (omega arith) (omega arith) in
     omega arith
 
 rounded-few : (a b : ℕ) → a ≤ 36000000001 → div_ceil (max (min a b) (5 * one)) one ≤ 1000000000
@@ -30,7 +31,8 @@ pub fragments_few : (r fn fa fs : ℤ) → unsigned_abs fn ≤ most → fragment
 unfolding fragments_of
 fragments_few r fn fa fs small = by (int_lt r (pos least_radius)) (int_lt (pos 0) fn)
   where
-    by : (b c : Bool) → (if b then 3 else (if c then max 3 (unsigned_abs fn / one) else fragments_by_steps (unsigned_abs r) (least_step fa) (least_step fs))) ≤ 1000000000
+    by : (b c : Bool) → (if b then 3 else (if c then max 3 (unsigned_abs fn / one) else fragments_by_steps
+        (unsigned_abs r) (least_step fa) (least_step fs))) ≤ 1000000000
     by true c = omega arith
     by false true = omega arith
     by false false = by_steps-few (unsigned_abs r) (least_step fa) (least_step fs) (ten-thousand fa)

@@ -5,3 +5,4 @@ pub mod Onto
 pub mod Outlines
 pub mod Paths
 pub mod Profiles
+mod Meanings

@@ -9,24 +9,32 @@ use Rattle.scad_modules.specs.Outline.{Pair}
 use Rattle.scad_modules.specs.Profile.{profile_point, profile_onto, farthest}
 
 -- the point of a place, and those behind it
-next : (ring : List Pair) (i : ℕ) (p : Pair) → i < length ring → p ≡ get_or ring i p → drop i ring ≡ p ∷ drop (i + 1) ring
+next : (ring : List Pair) (i : ℕ) (p : Pair) → i < length ring → p ≡ get_or ring i p → drop i ring ≡ p ∷ drop (i + 1)
+    ring
 next ring i p below is = drop_more ring i p below ∙ ap (λ q. q ∷ drop (i + 1) ring) (sym is)
 
-pub profile-goes : (m : Matrix) (so_far ring : List Pair) (i : ℕ) (p q : Pair) → i < length ring → p ≡ get_or ring i p → Ok q ≡ profile_point m p → profile_onto m (so_far ++ q ∷ []) (drop (i + 1) ring) ≡ profile_onto m so_far (drop i ring)
+pub profile-goes : (m : Matrix) (so_far ring : List Pair) (i : ℕ) (p q : Pair) → i < length ring → p ≡ get_or ring i p
+    → Ok q ≡ profile_point m p → profile_onto m (so_far ++ q ∷ []) (drop (i + 1) ring) ≡ profile_onto m so_far
+    (drop i ring)
 profile-goes m so_far ring i p q below is r =
-    sym (ap (profile_onto m so_far) (next ring i p below is) ∙ ap (λ r. and_then r (λ q. profile_onto m (so_far ++ q ∷ []) (drop (i + 1) ring))) (sym r))
+    sym (ap (profile_onto m so_far) (next ring i p below is) ∙ ap
+    (λ r. and_then r (λ q. profile_onto m (so_far ++ q ∷ []) (drop (i + 1) ring))) (sym r))
 
-pub profile-stops : (m : Matrix) (so_far ring : List Pair) (i : ℕ) (p : Pair) (e : ArgumentFault) → i < length ring → p ≡ get_or ring i p → Err e ≡ profile_point m p → profile_onto m so_far (drop i ring) ≡ Err e
+pub profile-stops : (m : Matrix) (so_far ring : List Pair) (i : ℕ) (p : Pair) (e : ArgumentFault) → i < length ring
+    → p ≡ get_or ring i p → Err e ≡ profile_point m p → profile_onto m so_far (drop i ring) ≡ Err e
 profile-stops m so_far ring i p e below is r =
-    ap (profile_onto m so_far) (next ring i p below is) ∙ ap (λ r. and_then r (λ q. profile_onto m (so_far ++ q ∷ []) (drop (i + 1) ring))) (sym r)
+    ap (profile_onto m so_far) (next ring i p below is) ∙ ap
+    (λ r. and_then r (λ q. profile_onto m (so_far ++ q ∷ []) (drop (i + 1) ring))) (sym r)
 
-pub profile-ends : (m : Matrix) (so_far ring : List Pair) (i : ℕ) → length ring ≤ i → profile_onto m so_far (drop i ring) ≡ Ok so_far
+pub profile-ends : (m : Matrix) (so_far ring : List Pair) (i : ℕ) → length ring ≤ i
+    → profile_onto m so_far (drop i ring) ≡ Ok so_far
 profile-ends m so_far ring i past = ap (profile_onto m so_far) (drop_all i ring past)
 
 pub ruleset points = (profile-goes, profile-stops, profile-ends)
 
 -- how far the points left are from the axis
-pub farthest-drop : (ring : List Pair) (i : ℕ) (p : Pair) → i < length ring → p ≡ get_or ring i p → farthest (drop i ring) ≡ max (unsigned_abs p.0) (farthest (drop (i + 1) ring))
+pub farthest-drop : (ring : List Pair) (i : ℕ) (p : Pair) → i < length ring → p ≡ get_or ring i p
+    → farthest (drop i ring) ≡ max (unsigned_abs p.0) (farthest (drop (i + 1) ring))
 farthest-drop ring i p below is = ap farthest (next ring i p below is)
 
 pub farthest-drop_all : (ring : List Pair) (i : ℕ) → length ring ≤ i → farthest (drop i ring) ≡ 0

@@ -2,6 +2,7 @@ pub mod Arguments
 pub mod Extrusions
 pub mod FlatShapes
 pub mod Names
+pub mod Ids
 pub mod Outline
 pub mod Primitive
 pub mod Profile

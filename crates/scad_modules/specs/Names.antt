@@ -1,64 +1,37 @@
 -- The names of modules (OpenSCAD User Manual, "Primitive Solids", "Transformations", "CSG Modelling", "Conditional
 -- and Iterator Functions", "User-Defined Functions and Modules"): those of the language, and those of the manual
 -- that it leaves out.
-use Rattle.std.specs.Prelude.{ℕ, List, [], ◌∷◌, ◌==◌, if◌then◌else◌, codes}
-use Rattle.std.specs.Option.{option_map_or}
-use Rattle.scad_table.specs.Table.{id_of}
+use Rattle.std.specs.Prelude.{ℕ, List, [], ◌∷◌, codes}
+use Rattle.scad_table.specs.Meanings.{found_in}
 use Rattle.scad_modules.specs.declared.module.Shape.TheVariants.{Cube, Sphere, Cylinder, Polyhedron}
 use Rattle.scad_modules.specs.declared.module.Flat.TheVariants.{Square, Circle, Polygon}
 use Rattle.scad_modules.specs.declared.module.Extrusion.TheVariants.{Linear, Rotate as RotateExtrude}
 use Rattle.scad_modules.specs.declared.module.Transform.TheVariants.{Translate, Scale, Rotate, Mirror, Multmatrix}
 use Rattle.scad_modules.specs.declared.module.Module.TheVariants.{Shape, Flat, Extrusion, Transform, Union, Difference, Intersection, Children, Echo, Assert}
-use Rattle.scad_modules.specs.declared.id.TheConstants.{CUBE, SPHERE, CYLINDER, POLYHEDRON, SQUARE, CIRCLE, POLYGON, LINEAR_EXTRUDE, ROTATE_EXTRUDE, TRANSLATE, SCALE, ROTATE, MIRROR, MULTMATRIX, UNION, DIFFERENCE, INTERSECTION, FOR, INTERSECTION_FOR, LET, CHILDREN, ECHO, ASSERT, LEFT_OUT}
 use Rattle.scad_modules.specs.declared.module.Name.{Name}
 use Rattle.scad_modules.specs.declared.module.Name.TheVariants.{Known, For, IntersectionFor, Let, LeftOut, Unknown}
 
--- each name with its id
-abbrev pub name_table : List (List ℕ × ℕ)
-name_table =
-    (codes "assert", ASSERT) ∷ (codes "assign", LEFT_OUT) ∷ (codes "child", LEFT_OUT)
-    ∷ (codes "children", CHILDREN) ∷ (codes "circle", CIRCLE) ∷ (codes "color", UNION) ∷ (codes "cube", CUBE)
-    ∷ (codes "cylinder", CYLINDER) ∷ (codes "difference", DIFFERENCE) ∷ (codes "echo", ECHO)
-    ∷ (codes "for", FOR) ∷ (codes "group", UNION) ∷ (codes "hull", LEFT_OUT) ∷ (codes "import", LEFT_OUT)
-    ∷ (codes "intersection", INTERSECTION) ∷ (codes "intersection_for", INTERSECTION_FOR)
-    ∷ (codes "let", LET) ∷ (codes "linear_extrude", LINEAR_EXTRUDE) ∷ (codes "minkowski", LEFT_OUT)
-    ∷ (codes "mirror", MIRROR) ∷ (codes "multmatrix", MULTMATRIX) ∷ (codes "offset", LEFT_OUT)
-    ∷ (codes "polygon", POLYGON) ∷ (codes "polyhedron", POLYHEDRON) ∷ (codes "projection", LEFT_OUT)
-    ∷ (codes "render", UNION) ∷ (codes "resize", LEFT_OUT) ∷ (codes "rotate", ROTATE)
-    ∷ (codes "rotate_extrude", ROTATE_EXTRUDE) ∷ (codes "scale", SCALE) ∷ (codes "sphere", SPHERE)
-    ∷ (codes "square", SQUARE) ∷ (codes "surface", LEFT_OUT) ∷ (codes "text", LEFT_OUT)
-    ∷ (codes "translate", TRANSLATE) ∷ (codes "union", UNION)
+-- what each name means
+abbrev pub meanings : List (List ℕ × Name)
+meanings =
+    (codes "assert", Known Assert) ∷ (codes "assign", LeftOut) ∷ (codes "child", LeftOut)
+    ∷ (codes "children", Known Children) ∷ (codes "circle", Known (Flat Circle))
+    ∷ (codes "color", Known Union) ∷ (codes "cube", Known (Shape Cube))
+    ∷ (codes "cylinder", Known (Shape Cylinder)) ∷ (codes "difference", Known Difference)
+    ∷ (codes "echo", Known Echo) ∷ (codes "for", For) ∷ (codes "group", Known Union)
+    ∷ (codes "hull", LeftOut) ∷ (codes "import", LeftOut) ∷ (codes "intersection", Known Intersection)
+    ∷ (codes "intersection_for", IntersectionFor) ∷ (codes "let", Let)
+    ∷ (codes "linear_extrude", Known (Extrusion Linear)) ∷ (codes "minkowski", LeftOut)
+    ∷ (codes "mirror", Known (Transform Mirror)) ∷ (codes "multmatrix", Known (Transform Multmatrix))
+    ∷ (codes "offset", LeftOut) ∷ (codes "polygon", Known (Flat Polygon))
+    ∷ (codes "polyhedron", Known (Shape Polyhedron)) ∷ (codes "projection", LeftOut)
+    ∷ (codes "render", Known Union) ∷ (codes "resize", LeftOut) ∷ (codes "rotate", Known (Transform Rotate))
+    ∷ (codes "rotate_extrude", Known (Extrusion RotateExtrude)) ∷ (codes "scale", Known (Transform Scale))
+    ∷ (codes "sphere", Known (Shape Sphere)) ∷ (codes "square", Known (Flat Square))
+    ∷ (codes "surface", LeftOut) ∷ (codes "text", LeftOut)
+    ∷ (codes "translate", Known (Transform Translate)) ∷ (codes "union", Known Union)
     ∷ []
-
--- what the name of an id means
-unfoldable pub numbered_name : ℕ → Name
-numbered_name n =
-    if n == CUBE then Known (Shape Cube)
-    else (if n == SPHERE then Known (Shape Sphere)
-    else (if n == CYLINDER then Known (Shape Cylinder)
-    else (if n == POLYHEDRON then Known (Shape Polyhedron)
-    else (if n == SQUARE then Known (Flat Square)
-    else (if n == CIRCLE then Known (Flat Circle)
-    else (if n == POLYGON then Known (Flat Polygon)
-    else (if n == LINEAR_EXTRUDE then Known (Extrusion Linear)
-    else (if n == ROTATE_EXTRUDE then Known (Extrusion RotateExtrude)
-    else (if n == TRANSLATE then Known (Transform Translate)
-    else (if n == SCALE then Known (Transform Scale)
-    else (if n == ROTATE then Known (Transform Rotate)
-    else (if n == MIRROR then Known (Transform Mirror)
-    else (if n == MULTMATRIX then Known (Transform Multmatrix)
-    else (if n == UNION then Known Union
-    else (if n == DIFFERENCE then Known Difference
-    else (if n == INTERSECTION then Known Intersection
-    else (if n == FOR then For
-    else (if n == INTERSECTION_FOR then IntersectionFor
-    else (if n == LET then Let
-    else (if n == CHILDREN then Known Children
-    else (if n == ECHO then Known Echo
-    else (if n == ASSERT then Known Assert
-    else (if n == LEFT_OUT then LeftOut
-    else Unknown)))))))))))))))))))))))
 
 -- what a name means where a module is called and the program defines none of this name
 unfoldable pub meaning_of : List ℕ → Name
-meaning_of name = option_map_or numbered_name (id_of name_table name) Unknown
+meaning_of name = found_in meanings Unknown name

@@ -20,8 +20,6 @@ mod profile;
 mod reading;
 mod shape;
 mod solid;
-#[cfg(test)]
-mod tests;
 mod transform;
 
 pub use argument::taken;

@@ -2,7 +2,8 @@
 
 ghost use Rattle.std.specs.Prelude.{◌≡◌, IsTrue};
 ghost use Rattle.scad_table.specs.Table.{entries, ascends};
-ghost use Rattle.scad_modules.specs.Names.{name_table, numbered_name, meaning_of};
+ghost use Rattle.scad_modules.specs.Ids.{name_table, numbered_name};
+ghost use Rattle.scad_modules.specs.Names.{meaning_of};
 
 use crate::id::*;
 use crate::module::{Extrusion, Flat, Module, Name, Shape, Transform};
@@ -163,7 +164,7 @@ fn names() -> &'static [Row]
     &NAMES
 }
 
-#[tactic(auto, unfolding(crate::specs::Names::numbered_name))]
+#[tactic(auto, unfolding(crate::specs::Ids::numbered_name))]
 fn numbered_name(number: u16) -> Name
     ensures { result ≡ numbered_name number }
 {
@@ -197,7 +198,6 @@ fn numbered_name(number: u16) -> Name
 }
 
 /// What a name means where a module is called and the program defines none of this name.
-#[tactic(auto, unfolding(crate::specs::Names::meaning_of))]
 pub fn meaning_of(name: &[u8]) -> Name
     ensures { result ≡ meaning_of name.now }
 {

@@ -1,6 +1,7 @@
 //! Placed primitives.
 
 ghost use Rattle.std.specs.Prelude.{◌≡◌, ◌<◌, ◌≤◌, ◌-◌, ◌^◌, min, length, IfOk, true};
+ghost use Rattle.scad_shapes.specs.Limits.{triangle_limit};
 ghost use Rattle.scad_shapes.specs.Count.{face_triangles};
 ghost use Rattle.scad_base.specs.Memory.{UnlessMemory};
 ghost use Rattle.scad_shapes.specs.Faults.{is_memory};
@@ -43,7 +44,7 @@ pub fn triangles_of(p: &Primitive) -> u64
 #[tactic(auto, using(crate::proofs::Faces::bounds, crate::proofs::Faces::polyhedra))]
 pub fn solid_of(alloc: Global, p: &Primitive, m: &Matrix) -> Result<Triangles, ShapeFault>
     requires primitive { is_primitive (primitive p.now) ≡ true }
-    requires few { triangles_of (primitive p.now) ≤ 200000 }
+    requires few { triangles_of (primitive p.now) ≤ triangle_limit }
     ensures solid { UnlessMemory is_memory result (result ≡ solid_of (primitive p.now) m.now) }
     ensures some { IfOk result (λ t. 0 < length t) }
 {

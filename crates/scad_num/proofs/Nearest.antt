@@ -33,8 +33,10 @@ pub rounds_to_nearest : RoundsToNearest
 rounds_to_nearest n d h = IsNearest-half_up n d h
 
 pub rounds_away_from_zero : RoundsAwayFromZero
-rounds_away_from_zero z d h =
-    (subst (IsNearest (unsigned_abs z) d) (sym (unsigned_abs-half_away z d)) (IsNearest-half_up (unsigned_abs z) d h), half_away-neg z d h)
+rounds_away_from_zero z d h = (
+  subst (IsNearest (unsigned_abs z) d) (sym (unsigned_abs-half_away z d)) (IsNearest-half_up (unsigned_abs z) d h),
+  half_away-neg z d h,
+)
 
 -- floor_of z ≤ z < floor_of z + 1
 floor_of-le : (z : ℤ) → floor_of z ≤ℤ z

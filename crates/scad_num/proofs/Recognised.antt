@@ -16,14 +16,16 @@ use Rattle.std.proofs.Math.Seq.{drop-append-add}
 -- digits in front, and those behind them
 digits_len-append : (ds rest : List ℕ) → AreDigits ds → digits_len (ds ++ rest) ≡ length ds + digits_len rest
 digits_len-append [] rest h = omega arith
-digits_len-append (d ∷ ds) rest h = ap (λ b. cond b (1 + digits_len (ds ++ rest)) 0) h.0 ∙ omega (arith, digits_len-append ds rest h.1)
+digits_len-append (d ∷ ds) rest h = ap (λ b. cond b (1 + digits_len (ds ++ rest)) 0) h.0 ∙ omega
+    (arith, digits_len-append ds rest h.1)
 
 -- no digit stands in front
 digits_len-other : (c : ℕ) (rest : List ℕ) → is_ascii_digit c ≡ false → digits_len (c ∷ rest) ≡ 0
 digits_len-other c rest e = ap (λ b. cond b (1 + digits_len rest) 0) e
 
 -- digits up to another byte
-digits_len-upto : (ds : List ℕ) (c : ℕ) (rest : List ℕ) → AreDigits ds → is_ascii_digit c ≡ false → digits_len (ds ++ c ∷ rest) ≡ length ds
+digits_len-upto : (ds : List ℕ) (c : ℕ) (rest : List ℕ) → AreDigits ds → is_ascii_digit c ≡ false
+    → digits_len (ds ++ c ∷ rest) ≡ length ds
 digits_len-upto ds c rest h e = omega (arith, digits_len-append ds (c ∷ rest) h, digits_len-other c rest e)
 
 len_of-whole : (w d : ℕ) (p : Bool) → w ≤ len_of w p d
@@ -44,8 +46,11 @@ pointed-len ds es rest d e some =
     let w : digits_len bytes ≡ length ds = digits_len-upto ds point (es ++ rest) d refl in
     let here : slice_index bytes (length ds) ≡ point = get_or_at ds point (es ++ rest) 0 (length ds) refl in
     let p : has_point bytes ≡ true = ap (λ k. slice_index bytes k == point) w ∙ ap (λ c. c == point) here in
-    let rest_of : drop (digits_len bytes + 1) bytes ≡ es ++ rest = ap (λ k. drop (k + 1) bytes) w ∙ drop-append-add ds (point ∷ es ++ rest) 1 in
-    let t : decimals_len bytes ≡ length es + digits_len rest = ap (λ b. cond b (digits_len (drop (digits_len bytes + 1) bytes)) 0) p ∙ ap digits_len rest_of ∙ digits_len-append es rest e in
+    let rest_of : drop (digits_len bytes + 1) bytes ≡ es ++ rest = ap (λ k. drop (k + 1) bytes) w ∙ drop-append-add ds
+    (point ∷ es ++ rest) 1 in
+    let t : decimals_len bytes ≡ length es + digits_len rest =
+    ap (λ b. cond b (digits_len (drop (digits_len bytes + 1) bytes)) 0) p ∙ ap digits_len rest_of ∙
+    digits_len-append es rest e in
     mantissa_len-by_digits bytes
     ∙ ap (λ k. len_of k (has_point bytes) (decimals_len bytes)) w
     ∙ ap (λ b. len_of (length ds) b (decimals_len bytes)) p
@@ -55,13 +60,20 @@ pointed-len ds es rest d e some =
 -- what stands in front as a mantissa is no longer than the longest
 mantissa-le : {m : List ℕ} (rest : List ℕ) → Mantissa m → length m ≤ mantissa_len (m ++ rest)
 mantissa-le rest (whole ds d some) =
-    omega (arith, mantissa_len-by_digits (ds ++ rest), digits_len-append ds rest d, len_of-whole (digits_len (ds ++ rest)) (decimals_len (ds ++ rest)) (has_point (ds ++ rest)))
+    omega (
+      arith,
+      mantissa_len-by_digits (ds ++ rest),
+      digits_len-append ds rest d,
+      len_of-whole
+          (digits_len (ds ++ rest)) (decimals_len (ds ++ rest)) (has_point (ds ++ rest)),
+    )
 mantissa-le rest (pointed ds es d e some) =
     let all = append_assoc ds (point ∷ es) rest in
     omega (arith, ap mantissa_len all, pointed-len ds es rest d e some, length-append ds (point ∷ es))
 
 -- before a byte that goes on no mantissa it is the longest
-mantissa-is : {m : List ℕ} (c : ℕ) (rest : List ℕ) → is_ascii_digit c ≡ false → (c == point) ≡ false → Mantissa m → mantissa_len (m ++ c ∷ rest) ≡ length m
+mantissa-is : {m : List ℕ} (c : ℕ) (rest : List ℕ) → is_ascii_digit c ≡ false → (c == point) ≡ false → Mantissa m
+    → mantissa_len (m ++ c ∷ rest) ≡ length m
 mantissa-is c rest no_digit no_point (whole ds d some) =
     let bytes = ds ++ c ∷ rest in
     let w : digits_len bytes ≡ length ds = digits_len-upto ds c rest d no_digit in
@@ -112,7 +124,8 @@ exponent-le rest (unsigned mark (c ∷ ds) m d some) =
     let power : power_len bytes ≡ k = ap (λ n. digits_len (drop (1 + n) bytes)) sign in
     let long : exponent_len bytes ≡ 1 + 0 + k =
     exponent_len-by_parts bytes ∙ ap (λ b. exponent_of b (sign_len bytes) (power_len bytes)) (mark-is mark m)
-    ∙ ap (λ n. exponent_of true n (power_len bytes)) sign ∙ ap (exponent_of true 0) power ∙ exponent_of-some 0 k (omega arith) in
+    ∙ ap (λ n. exponent_of true n (power_len bytes)) sign ∙ ap (exponent_of true 0) power ∙ exponent_of-some 0 k
+    (omega arith) in
     omega arith
 exponent-le rest (signed mark sign ds m s d some) =
     let bytes = mark ∷ sign ∷ ds ++ rest in
@@ -122,7 +135,8 @@ exponent-le rest (signed mark sign ds m s d some) =
     let power : power_len bytes ≡ k = ap (λ n. digits_len (drop (1 + n) bytes)) one in
     let long : exponent_len bytes ≡ 1 + 1 + k =
     exponent_len-by_parts bytes ∙ ap (λ b. exponent_of b (sign_len bytes) (power_len bytes)) (mark-is mark m)
-    ∙ ap (λ n. exponent_of true n (power_len bytes)) one ∙ ap (exponent_of true 1) power ∙ exponent_of-some 1 k (omega arith) in
+    ∙ ap (λ n. exponent_of true n (power_len bytes)) one ∙ ap (exponent_of true 1) power ∙ exponent_of-some 1 k
+    (omega arith) in
     omega arith
 
 -- an exponent begins with its mark
@@ -163,7 +177,8 @@ digits-front : (bytes : List ℕ) → AreDigits (take (digits_len bytes) bytes)
 digits-front [] = tt
 digits-front (c ∷ cs) = by_digit (is_ascii_digit c) refl (digits-front cs)
   where
-    by_digit : (b : Bool) → is_ascii_digit c ≡ b → AreDigits (take (digits_len cs) cs) → AreDigits (take (cond b (1 + digits_len cs) 0) (c ∷ cs))
+    by_digit : (b : Bool) → is_ascii_digit c ≡ b → AreDigits (take (digits_len cs) cs)
+        → AreDigits (take (cond b (1 + digits_len cs) 0) (c ∷ cs))
     by_digit true e h = let up : suc (digits_len cs) ≡ 1 + digits_len cs = omega arith in subst (λ n. AreDigits (take n (c ∷ cs))) up (e, h)
     by_digit false e h = tt
 
@@ -176,13 +191,15 @@ digits_len-le (c ∷ cs) = by_digit (is_ascii_digit c) (digits_len-le cs)
     by_digit false h = omega arith
 
 -- bytes in front, a byte, and bytes behind it
-take-parts : (w d : ℕ) (bytes : List ℕ) (c : ℕ) → w < length bytes → slice_index bytes w ≡ c → take (w + 1 + d) bytes ≡ take w bytes ++ c ∷ take d (drop (w + 1) bytes)
+take-parts : (w d : ℕ) (bytes : List ℕ) (c : ℕ) → w < length bytes → slice_index bytes w ≡ c → take (w + 1 + d) bytes
+    ≡ take w bytes ++ c ∷ take d (drop (w + 1) bytes)
 take-parts w d [] c h e = absurd (omega arith)
 take-parts zero d (b ∷ bytes) c h e = let n : 0 + 1 + d ≡ suc d = omega arith in ap (λ k. take k (b ∷ bytes)) n ∙ ap (λ x. x ∷ take d bytes) e
 take-parts (suc w) d (b ∷ bytes) c h e =
     let n : suc w + 1 + d ≡ suc (w + 1 + d) = omega arith in
     let k : suc (w + 1) ≡ suc w + 1 = omega arith in
-    ap (λ j. take j (b ∷ bytes)) n ∙ ap (λ l. b ∷ l) (take-parts w d bytes c (omega arith) e) ∙ ap (λ j. b ∷ take w bytes ++ c ∷ take d (drop j (b ∷ bytes))) k
+    ap (λ j. take j (b ∷ bytes)) n ∙ ap (λ l. b ∷ l) (take-parts w d bytes c (omega arith) e) ∙ ap
+    (λ j. b ∷ take w bytes ++ c ∷ take d (drop j (b ∷ bytes))) k
 
 take-none : (n : ℕ) (l : List ℕ) → l ≡ [] → take n l ≡ []
 take-none zero l e = refl
@@ -204,7 +221,8 @@ within bytes i c e = by_order (cases_lt i (length bytes))
 point-is : (c : ℕ) → (c == point) ≡ true → c ≡ 46
 point-is c e = grind (arith, nat_tests)
 
-mantissa-front : (bytes : List ℕ) → 0 < mantissa_len bytes → (mantissa_len bytes ≤ length bytes) × Mantissa (take (mantissa_len bytes) bytes)
+mantissa-front : (bytes : List ℕ) → 0 < mantissa_len bytes → (mantissa_len bytes ≤ length bytes)
+    × Mantissa (take (mantissa_len bytes) bytes)
 mantissa-front bytes some = by_point (cases_Bool (has_point bytes))
   where
     w : ℕ
@@ -222,23 +240,31 @@ mantissa-front bytes some = by_point (cases_Bool (has_point bytes))
     zero_sum : (w d : ℕ) → w + d ≡ 0 → len_of w true d ≡ 0
     zero_sum w d e = grind (arith, nat_tests)
 
-    by_point : (has_point bytes ≡ true) ⊎ (has_point bytes ≡ false) → (mantissa_len bytes ≤ length bytes) × Mantissa (take (mantissa_len bytes) bytes)
+    by_point : (has_point bytes ≡ true) ⊎ (has_point bytes ≡ false) → (mantissa_len bytes ≤ length bytes)
+        × Mantissa (take (mantissa_len bytes) bytes)
     by_point (inr p) = by_whole (cases_lt 0 (digits_len bytes))
       where
         told : mantissa_len bytes ≡ len_of (digits_len bytes) false (decimals_len bytes)
         told = by_digits ∙ ap (λ b. len_of (digits_len bytes) b (decimals_len bytes)) p
 
-        by_whole : (0 < digits_len bytes) ⊎ (digits_len bytes ≤ 0) → (mantissa_len bytes ≤ length bytes) × Mantissa (take (mantissa_len bytes) bytes)
+        by_whole : (0 < digits_len bytes) ⊎ (digits_len bytes ≤ 0) → (mantissa_len bytes ≤ length bytes)
+            × Mantissa (take (mantissa_len bytes) bytes)
         by_whole (inl h) =
-            let long : mantissa_len bytes ≡ digits_len bytes = told ∙ len_of-plain (digits_len bytes) (decimals_len bytes) h in
+            let long : mantissa_len bytes ≡ digits_len bytes = told ∙ len_of-plain (digits_len bytes)
+            (decimals_len bytes) h in
             let inside = digits_len-le bytes in (
               omega arith,
               subst (λ n. Mantissa (take n bytes)) (sym long)
-                  (whole (take (digits_len bytes) bytes) (digits-front bytes) (omega (arith, length-take (digits_len bytes) bytes))),
+                  (whole (take (digits_len bytes) bytes) (digits-front bytes)
+                  (omega (arith, length-take (digits_len bytes) bytes))),
             )
         by_whole (inr h) =
             let nothing : digits_len bytes ≡ 0 = omega arith in
-            absurd (omega (arith, told ∙ ap (λ n. len_of n false (decimals_len bytes)) nothing ∙ none (decimals_len bytes)))
+            absurd (omega (
+              arith,
+              told ∙ ap (λ n. len_of n false (decimals_len bytes)) nothing ∙ none
+                  (decimals_len bytes),
+            ))
     by_point (inl p) = by_some (cases_lt 0 (digits_len bytes + digits_len (drop (digits_len bytes + 1) bytes)))
       where
         d : ℕ
@@ -252,20 +278,29 @@ mantissa-front bytes some = by_point (cases_Bool (has_point bytes))
         here : slice_index bytes (digits_len bytes) ≡ 46
         here = point-is (slice_index bytes (digits_len bytes)) p
 
-        by_some : (0 < digits_len bytes + digits_len (drop (digits_len bytes + 1) bytes)) ⊎ (digits_len bytes + digits_len (drop (digits_len bytes + 1) bytes) ≤ 0)
+        by_some : (0 < digits_len bytes + digits_len (drop (digits_len bytes + 1) bytes)) ⊎
+            (digits_len bytes + digits_len (drop (digits_len bytes + 1) bytes) ≤ 0)
             → (mantissa_len bytes ≤ length bytes) × Mantissa (take (mantissa_len bytes) bytes)
         by_some (inl h) =
-            let long : mantissa_len bytes ≡ digits_len bytes + 1 + digits_len (drop (digits_len bytes + 1) bytes) = told ∙ len_of-pointed (digits_len bytes) (digits_len (drop (digits_len bytes + 1) bytes)) h in
+            let long : mantissa_len bytes ≡ digits_len bytes + 1 + digits_len (drop (digits_len bytes + 1) bytes) =
+            told ∙ len_of-pointed (digits_len bytes) (digits_len (drop (digits_len bytes + 1) bytes)) h in
             let rest = drop (digits_len bytes + 1) bytes in
             let inside = within bytes (digits_len bytes) 45 here in
             let behind = digits_len-le rest in
             let left = length-drop (digits_len bytes + 1) bytes in (
               omega arith,
-              subst Mantissa (sym (ap (λ n. take n bytes) long ∙ take-parts (digits_len bytes) (digits_len rest) bytes point inside here))
-                  (pointed (take (digits_len bytes) bytes) (take (digits_len rest) rest) (digits-front bytes) (digits-front rest)
+              subst Mantissa (sym (ap (λ n. take n bytes) long ∙ take-parts (digits_len bytes) (digits_len rest) bytes
+                  point inside here))
+                  (pointed (take (digits_len bytes) bytes) (take (digits_len rest) rest) (digits-front bytes)
+                  (digits-front rest)
                   (omega (arith, length-take (digits_len bytes) bytes, length-take (digits_len rest) rest))),
             )
-        by_some (inr h) = absurd (omega (arith, told ∙ zero_sum (digits_len bytes) (digits_len (drop (digits_len bytes + 1) bytes)) (omega arith)))
+        by_some (inr h) = absurd
+            (omega (
+              arith,
+              told ∙ zero_sum (digits_len bytes) (digits_len (drop (digits_len bytes + 1) bytes))
+                  (omega arith),
+            ))
 
 mark-from : (c : ℕ) → (c == 101 || c == 69) ≡ true → IsMark c
 mark-from c e = by_first (c == 101) (c == 69) refl refl e
@@ -290,7 +325,8 @@ mark-true false sign digits h = absurd (omega arith)
 cond_at : {b c : Bool} → b ≡ c → ◌≡◌ {A = ℕ} (if b then 1 else 0) (if c then 1 else 0)
 cond_at e = ap (λ b. if b then 1 else 0) e
 
-exponent-front : (bytes : List ℕ) → 0 < exponent_len bytes → (exponent_len bytes ≤ length bytes) × Exponent (take (exponent_len bytes) bytes)
+exponent-front : (bytes : List ℕ) → 0 < exponent_len bytes → (exponent_len bytes ≤ length bytes)
+    × Exponent (take (exponent_len bytes) bytes)
 exponent-front [] some = absurd (omega (arith, exponent_len-nil))
 exponent-front (c ∷ bytes) some = by_sign (cases_Bool (slice_index bytes 0 == 43 || slice_index bytes 0 == 45))
   where
@@ -300,23 +336,27 @@ exponent-front (c ∷ bytes) some = by_sign (cases_Bool (slice_index bytes 0 == 
     mark : IsMark c
     mark = mark-from c (mark-true (has_mark (c ∷ bytes)) (sign_len (c ∷ bytes)) (power_len (c ∷ bytes)) above)
 
-    parts : (exponent_of (has_mark (c ∷ bytes)) (sign_len (c ∷ bytes)) (power_len (c ∷ bytes)) ≡ 1 + sign_len (c ∷ bytes) + power_len (c ∷ bytes)) × (0 < power_len (c ∷ bytes))
+    parts : (exponent_of (has_mark (c ∷ bytes)) (sign_len (c ∷ bytes)) (power_len (c ∷ bytes)) ≡ 1 + sign_len
+        (c ∷ bytes) + power_len (c ∷ bytes)) × (0 < power_len (c ∷ bytes))
     parts = exponent_of-parts (has_mark (c ∷ bytes)) (sign_len (c ∷ bytes)) (power_len (c ∷ bytes)) above
 
     long : exponent_len (c ∷ bytes) ≡ 1 + sign_len (c ∷ bytes) + power_len (c ∷ bytes)
     long = exponent_len-by_parts (c ∷ bytes) ∙ parts.0
 
-    with_sign : (rest : List ℕ) → bytes ≡ slice_index bytes 0 ∷ rest → sign_len (c ∷ bytes) ≡ 1 → IsSign (slice_index bytes 0)
+    with_sign : (rest : List ℕ) → bytes ≡ slice_index bytes 0 ∷ rest → sign_len (c ∷ bytes) ≡ 1
+        → IsSign (slice_index bytes 0)
         → (exponent_len (c ∷ bytes) ≤ suc (length bytes)) × Exponent (take (exponent_len (c ∷ bytes)) (c ∷ bytes))
     with_sign rest is one sign =
-        let power : power_len (c ∷ bytes) ≡ digits_len rest = ap (λ n. digits_len (drop (1 + n) (c ∷ bytes))) one ∙ ap (λ l. digits_len (drop 1 l)) is in
+        let power : power_len (c ∷ bytes) ≡ digits_len rest = ap (λ n. digits_len (drop (1 + n) (c ∷ bytes))) one ∙ ap
+        (λ l. digits_len (drop 1 l)) is in
         let n : exponent_len (c ∷ bytes) ≡ suc (suc (digits_len rest)) = omega (arith, long, power, one) in
         let inside = digits_len-le rest in
         let size = ap length is in
         let cut : take (exponent_len (c ∷ bytes)) (c ∷ bytes) ≡ c ∷ slice_index bytes 0 ∷ take (digits_len rest) rest =
         ap (λ k. take k (c ∷ bytes)) n ∙ ap (λ l. c ∷ take (suc (digits_len rest)) l) is in (
           omega arith,
-          subst Exponent (sym cut) (signed c (slice_index bytes 0) (take (digits_len rest) rest) mark sign (digits-front rest) (omega (arith, parts.1, power, length-take (digits_len rest) rest))),
+          subst Exponent (sym cut) (signed c (slice_index bytes 0) (take (digits_len rest) rest) mark sign
+              (digits-front rest) (omega (arith, parts.1, power, length-take (digits_len rest) rest))),
         )
 
     split : (l : List ℕ) → 0 < length l → (rest : List ℕ) × (l ≡ slice_index l 0 ∷ rest)
@@ -331,7 +371,8 @@ exponent-front (c ∷ bytes) some = by_sign (cases_Bool (slice_index bytes 0 == 
     some_byte [] h = absurd (omega arith)
     some_byte (b ∷ l) h = omega arith
 
-    by_sign : ((slice_index bytes 0 == 43 || slice_index bytes 0 == 45) ≡ true) ⊎ ((slice_index bytes 0 == 43 || slice_index bytes 0 == 45) ≡ false)
+    by_sign : ((slice_index bytes 0 == 43 || slice_index bytes 0 == 45) ≡ true) ⊎
+        ((slice_index bytes 0 == 43 || slice_index bytes 0 == 45) ≡ false)
         → (exponent_len (c ∷ bytes) ≤ suc (length bytes)) × Exponent (take (exponent_len (c ∷ bytes)) (c ∷ bytes))
     by_sign (inl s) =
         let sign = sign-from (slice_index bytes 0) s in
@@ -342,16 +383,19 @@ exponent-front (c ∷ bytes) some = by_sign (cases_Bool (slice_index bytes 0 == 
         let power : power_len (c ∷ bytes) ≡ digits_len bytes = ap (λ n. digits_len (drop (1 + n) (c ∷ bytes))) none in
         let n : exponent_len (c ∷ bytes) ≡ suc (digits_len bytes) = omega (arith, long, power, none) in
         let inside = digits_len-le bytes in
-        let cut : take (exponent_len (c ∷ bytes)) (c ∷ bytes) ≡ c ∷ take (digits_len bytes) bytes = ap (λ k. take k (c ∷ bytes)) n in (
+        let cut : take (exponent_len (c ∷ bytes)) (c ∷ bytes) ≡ c ∷ take (digits_len bytes) bytes =
+        ap (λ k. take k (c ∷ bytes)) n in (
           omega arith,
-          subst Exponent (sym cut) (unsigned c (take (digits_len bytes) bytes) mark (digits-front bytes) (omega (arith, parts.1, power, length-take (digits_len bytes) bytes))),
+          subst Exponent (sym cut) (unsigned c (take (digits_len bytes) bytes) mark (digits-front bytes)
+              (omega (arith, parts.1, power, length-take (digits_len bytes) bytes))),
         )
 
 cut-some : (m e : ℕ) → 0 < cond (eqb m 0) 0 (m + e) → 0 < m
 cut-some m e h = grind (arith, nat_tests)
 
 -- what is cut off is a literal, within the bytes
-literal-front : (bytes : List ℕ) → 0 < literal_len bytes → (literal_len bytes ≤ length bytes) × Literal (take (literal_len bytes) bytes)
+literal-front : (bytes : List ℕ) → 0 < literal_len bytes → (literal_len bytes ≤ length bytes)
+    × Literal (take (literal_len bytes) bytes)
 unfolding literal_len
 literal-front bytes some = by_exponent (cases_lt 0 (exponent_len (drop (mantissa_len bytes) bytes)))
   where
@@ -361,12 +405,16 @@ literal-front bytes some = by_exponent (cases_lt 0 (exponent_len (drop (mantissa
     front : (mantissa_len bytes ≤ length bytes) × Mantissa (take (mantissa_len bytes) bytes)
     front = mantissa-front bytes m
 
-    long : cond (eqb (mantissa_len bytes) 0) 0 (mantissa_len bytes + exponent_len (drop (mantissa_len bytes) bytes)) ≡ mantissa_len bytes + exponent_len (drop (mantissa_len bytes) bytes)
+    long : cond (eqb (mantissa_len bytes) 0) 0 (mantissa_len bytes + exponent_len (drop (mantissa_len bytes) bytes))
+        ≡ mantissa_len bytes + exponent_len (drop (mantissa_len bytes) bytes)
     long = cut-is (mantissa_len bytes) (exponent_len (drop (mantissa_len bytes) bytes)) m
 
-    by_exponent : (0 < exponent_len (drop (mantissa_len bytes) bytes)) ⊎ (exponent_len (drop (mantissa_len bytes) bytes) ≤ 0)
-        → (cond (eqb (mantissa_len bytes) 0) 0 (mantissa_len bytes + exponent_len (drop (mantissa_len bytes) bytes)) ≤ length bytes)
-        × Literal (take (cond (eqb (mantissa_len bytes) 0) 0 (mantissa_len bytes + exponent_len (drop (mantissa_len bytes) bytes))) bytes)
+    by_exponent : (0 < exponent_len (drop (mantissa_len bytes) bytes)) ⊎ (exponent_len (drop (mantissa_len bytes) bytes)
+        ≤ 0)
+        → (cond (eqb (mantissa_len bytes) 0) 0 (mantissa_len bytes + exponent_len (drop (mantissa_len bytes) bytes)) ≤
+        length bytes)
+        × Literal (take (cond (eqb (mantissa_len bytes) 0) 0 (mantissa_len bytes + exponent_len
+        (drop (mantissa_len bytes) bytes))) bytes)
     by_exponent (inl e) =
         let rest = drop (mantissa_len bytes) bytes in
         let back = exponent-front rest e in
@@ -376,8 +424,12 @@ literal-front bytes some = by_exponent (cases_lt 0 (exponent_len (drop (mantissa
               (scaled (take (mantissa_len bytes) bytes) (take (exponent_len rest) rest) front.1 back.1),
         )
     by_exponent (inr e) =
-        let alone : cond (eqb (mantissa_len bytes) 0) 0 (mantissa_len bytes + exponent_len (drop (mantissa_len bytes) bytes)) ≡ mantissa_len bytes = omega (arith, long) in
-        (omega (arith, alone, front.0), subst (λ n. Literal (take n bytes)) (sym alone) (plain (take (mantissa_len bytes) bytes) front.1))
+        let alone : cond (eqb (mantissa_len bytes) 0) 0 (mantissa_len bytes + exponent_len
+        (drop (mantissa_len bytes) bytes)) ≡ mantissa_len bytes = omega (arith, long) in (
+          omega (arith, alone, front.0),
+          subst (λ n. Literal (take n bytes)) (sym alone)
+              (plain (take (mantissa_len bytes) bytes) front.1),
+        )
 
 literal_len-le : (bytes : List ℕ) → literal_len bytes ≤ length bytes
 literal_len-le bytes = by_some (cases_lt 0 (literal_len bytes))
@@ -416,7 +468,8 @@ literals_are_recognised bytes = (recognised, is_one)
     recognised : (nat_lt 0 (literal_len bytes) && literal_len bytes == length bytes) ≡ true → Literal bytes
     recognised e =
         let told = tested (literal_len bytes) (length bytes) e in
-        subst Literal (ap (λ n. take n bytes) told.1 ∙ take_all (length bytes) bytes (omega arith)) (literal-front bytes told.0).1
+        subst Literal (ap (λ n. take n bytes) told.1 ∙ take_all (length bytes) bytes (omega arith))
+        (literal-front bytes told.0).1
 
     is_one : Literal bytes → (nat_lt 0 (literal_len bytes) && literal_len bytes == length bytes) ≡ true
     is_one is =

@@ -31,7 +31,8 @@ IsRoot-root_after n r p = by_test (nat_le ((2 * r + 1) * (2 * r + 1)) n) refl
 IsRoot-in_steps : (steps n : ℕ) → n < 4 ^ steps → IsRoot n (root_in_steps steps n)
 unfolding root_in_steps
 IsRoot-in_steps zero n h = record { square_le = omega arith; next_square_gt = omega arith }
-IsRoot-in_steps (suc steps) n h = IsRoot-root_after n (root_in_steps steps (n / 4)) (IsRoot-in_steps steps (n / 4) (omega (arith, pow-suc 4 steps)))
+IsRoot-in_steps (suc steps) n h = IsRoot-root_after n (root_in_steps steps (n / 4))
+    (IsRoot-in_steps steps (n / 4) (omega (arith, pow-suc 4 steps)))
 
 -- `root` is the square root
 pub IsRoot-root : (n : ℕ) → n < 2 ^ 128 → IsRoot n (root n)

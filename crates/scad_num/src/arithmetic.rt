@@ -1,3 +1,4 @@
+//! Sums, products, quotients and remainders of numbers, each rounded once.
 ghost use Rattle.std.specs.Prelude.{◌≡◌, neg_ℤ};
 ghost use Rattle.scad_num.specs.Number.{sum_of, difference_of, product_of, quotient_of, remainder_of};
 
@@ -59,6 +60,3 @@ impl Num {
         Num::within(-self.millionths())
     }
 }
-
-#[cfg(test)]
-mod tests;

@@ -1,3 +1,4 @@
+//! Decimal digits as whole numbers, capped just past the range.
 ghost use Rattle.std.specs.Prelude.{◌≡◌, ◌+◌, ◌*◌, ◌/◌, ◌^◌, ◌<◌, ◌≤◌, ◌++◌, length, take, min};
 ghost use Rattle.std.specs.Str.Parse.{AllDigits, digits_value, digits_value_after};
 

@@ -1,3 +1,5 @@
+//! Why there is no number.
+
 /// Why an operation has no number as its result.
 #[derive(Clone, Copy, Debug, PartialEq, Eq, Hash)]
 pub enum NumFault {

@@ -1,3 +1,4 @@
+//! Numbers in whole millionths.
 ghost use Rattle.std.specs.Prelude.{◌≡◌, ◌≤◌, unsigned_abs};
 ghost use Rattle.scad_num.specs.Number.{most, number_of};
 

@@ -1,3 +1,4 @@
+//! Number literals and their values.
 ghost use Rattle.std.specs.Prelude.{◌≡◌, ◌+◌, ◌*◌, ◌^◌, ◌<◌, ◌≤◌, ◌++◌, length, take, drop, min, true, pos};
 ghost use Rattle.std.specs.Str.Parse.{AllDigits, digits_value};
 ghost use Rattle.scad_num.specs.Literal.{mantissa_len, exponent_len, literal_len, is_literal, literal_number, whole_digits, decimal_digits, tens_up, tens_down};
@@ -79,6 +80,3 @@ pub fn parse_decimal(text: &[u8]) -> Result<Num, NumFault>
     let millionths = rounded_millionths(mantissa.whole, mantissa.decimals, power.up, power.down);
     Num::of(millionths as i64)
 }
-
-#[cfg(test)]
-mod tests;

@@ -1,3 +1,4 @@
+//! Square roots.
 ghost use Rattle.std.specs.Prelude.{◌≡◌, ◌*◌, ◌≤◌, pos, ◌≤ℤ◌};
 ghost use Rattle.scad_num.specs.Number.{one, most};
 ghost use Rattle.scad_num.specs.Root.{root, sqrt_of};

@@ -1,3 +1,4 @@
+//! Quotients rounded to the nearest whole number.
 ghost use Rattle.std.specs.Prelude.{◌≡◌, ◌+◌, ◌*◌, ◌^◌, ◌<◌, ◌≤◌, unsigned_abs};
 ghost use Rattle.scad_num.specs.Rounding.{half_up, half_away};
 

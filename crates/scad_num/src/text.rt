@@ -27,6 +27,7 @@ impl Model for NumText {
 }
 
 impl NumText {
+    /// The text's bytes.
     pub fn as_slice(&self) -> &[u8]
         ensures { result.now ≡ self.now }
     {
@@ -98,34 +99,5 @@ fn push_decimals(out: &mut Digits, places: u32, parts: u64)
     if places > 0 && parts > 0 {
         out.push(b'0' + (parts * 10 / ONE_PART) as u8);
         push_decimals(out, places - 1, parts * 10 % ONE_PART);
-    }
-}
-
-#[cfg(test)]
-mod tests {
-    use super::*;
-    use std::test::Fail;
-
-    #[test]
-    fn texts_have_no_ending_zeros(rt: HostRuntime) -> Result<(), Fail> {
-        for (millionths, wanted) in [
-            (0, "0"),
-            (1_000_000, "1"),
-            (-500_000, "-0.5"),
-            (1, "0.000001"),
-            (-1_200_030, "-1.20003"),
-            (1_000_000_000_000_000, "1000000000"),
-            (-999_999_999_999_999, "-999999999.999999"),
-        ] {
-            let mut out = Vec::new(rt.alloc());
-            out.push(b'=')?;
-            Num::within(millionths).write_to(&mut out)?;
-            assert_eq!(rt; &out.as_slice()[1..], wanted.as_bytes());
-            assert_eq!(rt;
-                Num::within(millionths).text().as_slice(),
-                wanted.as_bytes()
-            );
-        }
-        Ok(())
     }
 }

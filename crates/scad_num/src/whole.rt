@@ -1,3 +1,4 @@
+//! Floors, ceilings, roundings, and millionths as micrometres.
 ghost use Rattle.std.specs.Prelude.{◌≡◌, ◌*◌, ◌≤◌};
 ghost use Rattle.scad_num.specs.Number.{one, most, floor_of, ceil_of, round_of, micrometres_of};
 ghost use Rattle.scad_num.specs.Rounding.{half_up};

@@ -1,3 +1,4 @@
+//! Exact products of two numbers, and quotients of them.
 ghost use Rattle.std.specs.Prelude.{◌≡◌, ◌*◌, ◌^◌, ◌<◌, ◌≤◌, ◌≢◌, pos, ◌*ℤ◌, unsigned_abs};
 ghost use Rattle.scad_num.specs.Number.{number_of, half_away_over};
 

@@ -14,6 +14,8 @@ use std::alloc::Global;
 
 /// The program that the tokens derive, or the first token that has a fault.
 // program = stmt*
+/// The one program that the tokens derive, or the fault of the first token that has one: `Syntax`, `Nesting` or
+/// `LeftOut`.
 pub fn parse(alloc: Global, tokens: &Tokens) -> Result<Program, ParseFault>
     ensures { MatchResult result
         (λ p. Judged [] tokens.now.list.items tokens.now.end (Ok (program_of p)))

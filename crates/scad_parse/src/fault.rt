@@ -1,3 +1,4 @@
+//! Why tokens are refused.
 use scad_fault::{Place, Text};
 use std::alloc::{AllocError, AllocFailed};
 

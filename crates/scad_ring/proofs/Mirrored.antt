@@ -19,7 +19,25 @@ mirrored_back w s t a b l =
 
 -- a segment that rises to the left meets the square where its mirror image does
 pub found_mirrored : (w ax ay bx by : ℤ) → Found w (pos 0 -ℤ ax) ay (pos 0 -ℤ bx) by → Found w ax ay bx by
-found_mirrored w ax ay bx by f = record { s = f.s; t = f.t; from = f.from; to = f.to; some = f.some; x = mirrored w f.s f.t ax bx f.x; y = f.y }
+found_mirrored w ax ay bx by f = record {
+  s = f.s;
+  t = f.t;
+  from = f.from;
+  to = f.to;
+  some = f.some;
+  x = mirrored w f.s
+      f.t ax bx f.x;
+  y = f.y;
+}
 
 pub mirrored_found : (w ax ay bx by : ℤ) → Found w ax ay bx by → Found w (pos 0 -ℤ ax) ay (pos 0 -ℤ bx) by
-mirrored_found w ax ay bx by f = record { s = f.s; t = f.t; from = f.from; to = f.to; some = f.some; x = mirrored_back w f.s f.t ax bx f.x; y = f.y }
+mirrored_found w ax ay bx by f = record {
+  s = f.s;
+  t = f.t;
+  from = f.from;
+  to = f.to;
+  some = f.some;
+  x = mirrored_back w
+      f.s f.t ax bx f.x;
+  y = f.y;
+}

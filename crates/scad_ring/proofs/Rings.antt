@@ -24,7 +24,8 @@ IsNearWay c p r k = MeetsBox (pos 2 *ℤ c) (whole k) (whole p) (whole r)
 
 -- these are the corners of the ring round the way from p to r
 pub record IsRound (c : ℤ) (p r : Pt) (corners : List Pt) : Type 0 where
-  pub holds : (q : Point) → pos 0 <ℤ q.d → MeetsBox (pos 2 *ℤ c) q (whole p) (whole r) ↔ All (IsLeftOf q) (segments (sides corners))
+  pub holds : (q : Point) → pos 0 <ℤ q.d → MeetsBox (pos 2 *ℤ c) q (whole p) (whole r) ↔ All (IsLeftOf q)
+      (segments (sides corners))
   pub near : All (IsNearWay c p r) corners
   pub turns : AllTurnLeft (round corners)
   pub starts : StartsLowest corners
@@ -42,8 +43,10 @@ module _ (c : ℤ) (some : pos 0 <ℤ c) (p r : Pt) where
     holds = λ q d.
         let ox = scaled_order p.x r.x q.x q.d (omega (arith, ints)) d in
         let oy = scaled_order p.y r.y q.y q.d (omega (arith, ints)) d in (
-          (λ m. right_sides c some p r q d (passes (w c some p r q d) (ax c some p r q d) (ay c some p r q d) (bx c some p r q d) (by c some p r q d) ox oy (found_if_meets c q p r m))),
-          (λ h. meets_if_found c q p r (found (w c some p r q d) (ax c some p r q d) (ay c some p r q d) (bx c some p r q d) (by c some p r q d) (wide c some p r q d) ox oy (right_passes c some p r q d h))),
+          (λ m. right_sides c some p r q d (passes (w c some p r q d) (ax c some p r q d) (ay c some p r q d)
+              (bx c some p r q d) (by c some p r q d) ox oy (found_if_meets c q p r m))),
+          (λ h. meets_if_found c q p r (found (w c some p r q d) (ax c some p r q d) (ay c some p r q d)
+              (bx c some p r q d) (by c some p r q d) (wide c some p r q d) ox oy (right_passes c some p r q d h))),
         );
     near = All-from_recursion (IsNearWay c p r) (to_the_right c p r) (
       near_first c p r (at (p.x -ℤ c) (p.y -ℤ c)) (lower c p.x weak) (lower c p.y weak),
@@ -65,17 +68,23 @@ module _ (c : ℤ) (some : pos 0 <ℤ c) (p r : Pt) where
       ),
     );
     turns = (
-      right_then-turns (at (p.x -ℤ c) (p.y -ℤ c)) (at (p.x +ℤ c) (p.y -ℤ c)) (at (r.x +ℤ c) (r.y -ℤ c)) (omega (arith, ints)) (omega (arith, ints)) (omega (arith, ints)),
+      right_then-turns (at (p.x -ℤ c) (p.y -ℤ c)) (at (p.x +ℤ c) (p.y -ℤ c)) (at (r.x +ℤ c) (r.y -ℤ c))
+          (omega (arith, ints)) (omega (arith, ints)) (omega (arith, ints)),
       (
-        slanted_up-turns (at (p.x +ℤ c) (p.y -ℤ c)) (at (r.x +ℤ c) (r.y -ℤ c)) (at (r.x +ℤ c) (r.y +ℤ c)) (omega (arith, ints)) (omega (arith, ints)) (omega (arith, ints)),
+        slanted_up-turns (at (p.x +ℤ c) (p.y -ℤ c)) (at (r.x +ℤ c) (r.y -ℤ c)) (at (r.x +ℤ c) (r.y +ℤ c))
+            (omega (arith, ints)) (omega (arith, ints)) (omega (arith, ints)),
         (
-          up_then-turns (at (r.x +ℤ c) (r.y -ℤ c)) (at (r.x +ℤ c) (r.y +ℤ c)) (at (r.x -ℤ c) (r.y +ℤ c)) (omega (arith, ints)) (omega (arith, ints)) (omega (arith, ints)),
+          up_then-turns (at (r.x +ℤ c) (r.y -ℤ c)) (at (r.x +ℤ c) (r.y +ℤ c)) (at (r.x -ℤ c) (r.y +ℤ c))
+              (omega (arith, ints)) (omega (arith, ints)) (omega (arith, ints)),
           (
-            left_then-turns (at (r.x +ℤ c) (r.y +ℤ c)) (at (r.x -ℤ c) (r.y +ℤ c)) (at (p.x -ℤ c) (p.y +ℤ c)) (omega (arith, ints)) (omega (arith, ints)) (omega (arith, ints)),
+            left_then-turns (at (r.x +ℤ c) (r.y +ℤ c)) (at (r.x -ℤ c) (r.y +ℤ c)) (at (p.x -ℤ c) (p.y +ℤ c))
+                (omega (arith, ints)) (omega (arith, ints)) (omega (arith, ints)),
             (
-              slanted_down-turns (at (r.x -ℤ c) (r.y +ℤ c)) (at (p.x -ℤ c) (p.y +ℤ c)) (at (p.x -ℤ c) (p.y -ℤ c)) (omega (arith, ints)) (omega (arith, ints)) (omega (arith, ints)),
+              slanted_down-turns (at (r.x -ℤ c) (r.y +ℤ c)) (at (p.x -ℤ c) (p.y +ℤ c)) (at (p.x -ℤ c) (p.y -ℤ c))
+                  (omega (arith, ints)) (omega (arith, ints)) (omega (arith, ints)),
               (
-                down_then-turns (at (p.x -ℤ c) (p.y +ℤ c)) (at (p.x -ℤ c) (p.y -ℤ c)) (at (p.x +ℤ c) (p.y -ℤ c)) (omega (arith, ints)) (omega (arith, ints)) (omega (arith, ints)),
+                down_then-turns (at (p.x -ℤ c) (p.y +ℤ c)) (at (p.x -ℤ c) (p.y -ℤ c)) (at (p.x +ℤ c) (p.y -ℤ c))
+                    (omega (arith, ints)) (omega (arith, ints)) (omega (arith, ints)),
                 tt,
               ),
             ),
@@ -107,8 +116,14 @@ module _ (c : ℤ) (some : pos 0 <ℤ c) (p r : Pt) where
         let ox = scaled_order r.x p.x q.x q.d (omega (arith, ints)) d in
         let oy = scaled_order p.y r.y q.y q.d (omega (arith, ints)) d in
         let mx : (pos 0 -ℤ ax c some p r q d) ≤ℤ (pos 0 -ℤ bx c some p r q d) = omega (arith, ints, ox) in (
-          (λ m. left_sides c some p r q d (passes (w c some p r q d) (pos 0 -ℤ ax c some p r q d) (ay c some p r q d) (pos 0 -ℤ bx c some p r q d) (by c some p r q d) mx oy (mirrored_found (w c some p r q d) (ax c some p r q d) (ay c some p r q d) (bx c some p r q d) (by c some p r q d) (found_if_meets c q p r m)))),
-          (λ h. meets_if_found c q p r (found_mirrored (w c some p r q d) (ax c some p r q d) (ay c some p r q d) (bx c some p r q d) (by c some p r q d) (found (w c some p r q d) (pos 0 -ℤ ax c some p r q d) (ay c some p r q d) (pos 0 -ℤ bx c some p r q d) (by c some p r q d) (wide c some p r q d) mx oy (left_passes c some p r q d h)))),
+          (λ m. left_sides c some p r q d (passes (w c some p r q d) (pos 0 -ℤ ax c some p r q d) (ay c some p r q d)
+              (pos 0 -ℤ bx c some p r q d) (by c some p r q d) mx oy (mirrored_found (w c some p r q d)
+              (ax c some p r q d) (ay c some p r q d) (bx c some p r q d) (by c some p r q d)
+              (found_if_meets c q p r m)))),
+          (λ h. meets_if_found c q p r (found_mirrored (w c some p r q d) (ax c some p r q d) (ay c some p r q d)
+              (bx c some p r q d) (by c some p r q d) (found (w c some p r q d) (pos 0 -ℤ ax c some p r q d)
+              (ay c some p r q d) (pos 0 -ℤ bx c some p r q d) (by c some p r q d) (wide c some p r q d) mx oy
+              (left_passes c some p r q d h)))),
         );
     near = All-from_recursion (IsNearWay c p r) (to_the_left c p r) (
       near_first c p r (at (p.x -ℤ c) (p.y -ℤ c)) (lower c p.x weak) (lower c p.y weak),
@@ -130,17 +145,23 @@ module _ (c : ℤ) (some : pos 0 <ℤ c) (p r : Pt) where
       ),
     );
     turns = (
-      right_then-turns (at (p.x -ℤ c) (p.y -ℤ c)) (at (p.x +ℤ c) (p.y -ℤ c)) (at (p.x +ℤ c) (p.y +ℤ c)) (omega (arith, ints)) (omega (arith, ints)) (omega (arith, ints)),
+      right_then-turns (at (p.x -ℤ c) (p.y -ℤ c)) (at (p.x +ℤ c) (p.y -ℤ c)) (at (p.x +ℤ c) (p.y +ℤ c))
+          (omega (arith, ints)) (omega (arith, ints)) (omega (arith, ints)),
       (
-        up_then-turns (at (p.x +ℤ c) (p.y -ℤ c)) (at (p.x +ℤ c) (p.y +ℤ c)) (at (r.x +ℤ c) (r.y +ℤ c)) (omega (arith, ints)) (omega (arith, ints)) (omega (arith, ints)),
+        up_then-turns (at (p.x +ℤ c) (p.y -ℤ c)) (at (p.x +ℤ c) (p.y +ℤ c)) (at (r.x +ℤ c) (r.y +ℤ c))
+            (omega (arith, ints)) (omega (arith, ints)) (omega (arith, ints)),
         (
-          slanted_left-turns (at (p.x +ℤ c) (p.y +ℤ c)) (at (r.x +ℤ c) (r.y +ℤ c)) (at (r.x -ℤ c) (r.y +ℤ c)) (omega (arith, ints)) (omega (arith, ints)) (omega (arith, ints)),
+          slanted_left-turns (at (p.x +ℤ c) (p.y +ℤ c)) (at (r.x +ℤ c) (r.y +ℤ c)) (at (r.x -ℤ c) (r.y +ℤ c))
+              (omega (arith, ints)) (omega (arith, ints)) (omega (arith, ints)),
           (
-            left_then-turns (at (r.x +ℤ c) (r.y +ℤ c)) (at (r.x -ℤ c) (r.y +ℤ c)) (at (r.x -ℤ c) (r.y -ℤ c)) (omega (arith, ints)) (omega (arith, ints)) (omega (arith, ints)),
+            left_then-turns (at (r.x +ℤ c) (r.y +ℤ c)) (at (r.x -ℤ c) (r.y +ℤ c)) (at (r.x -ℤ c) (r.y -ℤ c))
+                (omega (arith, ints)) (omega (arith, ints)) (omega (arith, ints)),
             (
-              down_then-turns (at (r.x -ℤ c) (r.y +ℤ c)) (at (r.x -ℤ c) (r.y -ℤ c)) (at (p.x -ℤ c) (p.y -ℤ c)) (omega (arith, ints)) (omega (arith, ints)) (omega (arith, ints)),
+              down_then-turns (at (r.x -ℤ c) (r.y +ℤ c)) (at (r.x -ℤ c) (r.y -ℤ c)) (at (p.x -ℤ c) (p.y -ℤ c))
+                  (omega (arith, ints)) (omega (arith, ints)) (omega (arith, ints)),
               (
-                slanted_right-turns (at (r.x -ℤ c) (r.y -ℤ c)) (at (p.x -ℤ c) (p.y -ℤ c)) (at (p.x +ℤ c) (p.y -ℤ c)) (omega (arith, ints)) (omega (arith, ints)) (omega (arith, ints)),
+                slanted_right-turns (at (r.x -ℤ c) (r.y -ℤ c)) (at (p.x -ℤ c) (p.y -ℤ c)) (at (p.x +ℤ c) (p.y -ℤ c))
+                    (omega (arith, ints)) (omega (arith, ints)) (omega (arith, ints)),
                 tt,
               ),
             ),
@@ -166,23 +187,31 @@ module _ (c : ℤ) (some : pos 0 <ℤ c) (p r : Pt) where
     );
   }
 
-  pub rectangle_round : p.x ≤ℤ r.x → p.y ≤ℤ r.y → (p.x ≡ r.x) ⊎ (p.y ≡ r.y) → IsRound c p r (rectangle c p.x p.y r.x r.y)
+  pub rectangle_round : p.x ≤ℤ r.x → p.y ≤ℤ r.y → (p.x ≡ r.x) ⊎ (p.y ≡ r.y)
+      → IsRound c p r (rectangle c p.x p.y r.x r.y)
   rectangle_round rx ry flat = record {
     holds = λ q d.
         let ox = scaled_order p.x r.x q.x q.d rx d in
         let oy = scaled_order p.y r.y q.y q.d ry d in (
-          (λ m. rectangle_sides c some p r q d rx ry (passes (w c some p r q d) (ax c some p r q d) (ay c some p r q d) (bx c some p r q d) (by c some p r q d) ox oy (found_if_meets c q p r m))),
-          (λ h. meets_if_found c q p r (found (w c some p r q d) (ax c some p r q d) (ay c some p r q d) (bx c some p r q d) (by c some p r q d) (wide c some p r q d) ox oy (rectangle_passes c some p r q d rx ry flat h))),
+          (λ m. rectangle_sides c some p r q d rx ry (passes (w c some p r q d) (ax c some p r q d) (ay c some p r q d)
+              (bx c some p r q d) (by c some p r q d) ox oy (found_if_meets c q p r m))),
+          (λ h. meets_if_found c q p r (found (w c some p r q d) (ax c some p r q d) (ay c some p r q d)
+              (bx c some p r q d) (by c some p r q d) (wide c some p r q d) ox oy (rectangle_passes c some p r q d rx ry
+              flat h))),
         );
     near = near_corners flat;
     turns = (
-      right_then-turns (at (p.x -ℤ c) (p.y -ℤ c)) (at (r.x +ℤ c) (p.y -ℤ c)) (at (r.x +ℤ c) (r.y +ℤ c)) (omega (arith, ints)) (omega (arith, ints)) (omega (arith, ints)),
+      right_then-turns (at (p.x -ℤ c) (p.y -ℤ c)) (at (r.x +ℤ c) (p.y -ℤ c)) (at (r.x +ℤ c) (r.y +ℤ c))
+          (omega (arith, ints)) (omega (arith, ints)) (omega (arith, ints)),
       (
-        up_then-turns (at (r.x +ℤ c) (p.y -ℤ c)) (at (r.x +ℤ c) (r.y +ℤ c)) (at (p.x -ℤ c) (r.y +ℤ c)) (omega (arith, ints)) (omega (arith, ints)) (omega (arith, ints)),
+        up_then-turns (at (r.x +ℤ c) (p.y -ℤ c)) (at (r.x +ℤ c) (r.y +ℤ c)) (at (p.x -ℤ c) (r.y +ℤ c))
+            (omega (arith, ints)) (omega (arith, ints)) (omega (arith, ints)),
         (
-          left_then-turns (at (r.x +ℤ c) (r.y +ℤ c)) (at (p.x -ℤ c) (r.y +ℤ c)) (at (p.x -ℤ c) (p.y -ℤ c)) (omega (arith, ints)) (omega (arith, ints)) (omega (arith, ints)),
+          left_then-turns (at (r.x +ℤ c) (r.y +ℤ c)) (at (p.x -ℤ c) (r.y +ℤ c)) (at (p.x -ℤ c) (p.y -ℤ c))
+              (omega (arith, ints)) (omega (arith, ints)) (omega (arith, ints)),
           (
-            down_then-turns (at (p.x -ℤ c) (r.y +ℤ c)) (at (p.x -ℤ c) (p.y -ℤ c)) (at (r.x +ℤ c) (p.y -ℤ c)) (omega (arith, ints)) (omega (arith, ints)) (omega (arith, ints)),
+            down_then-turns (at (p.x -ℤ c) (r.y +ℤ c)) (at (p.x -ℤ c) (p.y -ℤ c)) (at (r.x +ℤ c) (p.y -ℤ c))
+                (omega (arith, ints)) (omega (arith, ints)) (omega (arith, ints)),
             tt,
           ),
         ),

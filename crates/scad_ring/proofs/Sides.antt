@@ -17,32 +17,40 @@ use Rattle.scad_ring.proofs.Places.{scaled_order}
 use Rattle.scad_ring.proofs.Lines.{lower_holds, lower_gap, upper_holds, upper_gap, right_holds, right_gap, left_holds, left_gap, below_holds, below_gap, above_holds, above_gap, above_left_holds, above_left_gap, below_left_holds, below_left_gap}
 
 -- of a flat or an upright way the sides alone decide
-straight : (w a b e f : ℤ) → a ≤ℤ e → b ≤ℤ f → (a ≡ e) ⊎ (b ≡ f) → a ≤ℤ w → (pos 0 -ℤ w) ≤ℤ e → b ≤ℤ w → (pos 0 -ℤ w) ≤ℤ f
-    → ((e *ℤ b -ℤ a *ℤ f) ≤ℤ (w *ℤ (e -ℤ a) +ℤ w *ℤ (f -ℤ b))) × ((pos 0 -ℤ (e *ℤ b -ℤ a *ℤ f)) ≤ℤ (w *ℤ (e -ℤ a) +ℤ w *ℤ (f -ℤ b)))
+straight : (w a b e f : ℤ) → a ≤ℤ e → b ≤ℤ f → (a ≡ e) ⊎ (b ≡ f) → a ≤ℤ w → (pos 0 -ℤ w) ≤ℤ e → b ≤ℤ w
+    → (pos 0 -ℤ w) ≤ℤ f
+    → ((e *ℤ b -ℤ a *ℤ f) ≤ℤ (w *ℤ (e -ℤ a) +ℤ w *ℤ (f -ℤ b)))
+    × ((pos 0 -ℤ (e *ℤ b -ℤ a *ℤ f)) ≤ℤ (w *ℤ (e -ℤ a) +ℤ w *ℤ (f -ℤ b)))
 straight w a b e f h k flat l g u o = elim flat [
   | inl z ↦
       let m = at_least_mul (w +ℤ a) (f -ℤ b) (omega (arith, ints)) (omega (arith, ints)) in
       let n = at_least_mul (w -ℤ a) (f -ℤ b) (omega (arith, ints)) (omega (arith, ints)) in
-      subst (λ (x : ℤ). ((x *ℤ b -ℤ a *ℤ f) ≤ℤ (w *ℤ (x -ℤ a) +ℤ w *ℤ (f -ℤ b))) × ((pos 0 -ℤ (x *ℤ b -ℤ a *ℤ f)) ≤ℤ (w *ℤ (x -ℤ a) +ℤ w *ℤ (f -ℤ b)))) z
+      subst (λ (x : ℤ). ((x *ℤ b -ℤ a *ℤ f) ≤ℤ (w *ℤ (x -ℤ a) +ℤ w *ℤ (f -ℤ b)))
+      × ((pos 0 -ℤ (x *ℤ b -ℤ a *ℤ f)) ≤ℤ (w *ℤ (x -ℤ a) +ℤ w *ℤ (f -ℤ b)))) z
       (omega (arith, ints, m, upright_plus), omega (arith, ints, n, upright_minus))
   | inr z ↦
       let m = at_least_mul (w -ℤ b) (e -ℤ a) (omega (arith, ints)) (omega (arith, ints)) in
       let n = at_least_mul (w +ℤ b) (e -ℤ a) (omega (arith, ints)) (omega (arith, ints)) in
-      subst (λ (y : ℤ). ((e *ℤ b -ℤ a *ℤ y) ≤ℤ (w *ℤ (e -ℤ a) +ℤ w *ℤ (y -ℤ b))) × ((pos 0 -ℤ (e *ℤ b -ℤ a *ℤ y)) ≤ℤ (w *ℤ (e -ℤ a) +ℤ w *ℤ (y -ℤ b)))) z
+      subst (λ (y : ℤ). ((e *ℤ b -ℤ a *ℤ y) ≤ℤ (w *ℤ (e -ℤ a) +ℤ w *ℤ (y -ℤ b)))
+      × ((pos 0 -ℤ (e *ℤ b -ℤ a *ℤ y)) ≤ℤ (w *ℤ (e -ℤ a) +ℤ w *ℤ (y -ℤ b)))) z
       (omega (arith, ints, m, flat_minus), omega (arith, ints, n, flat_plus))
 ]
   where
     upright_plus : (w +ℤ a) *ℤ (f -ℤ b) ≡ (w *ℤ (a -ℤ a) +ℤ w *ℤ (f -ℤ b)) -ℤ (a *ℤ b -ℤ a *ℤ f)
-    upright_plus = ring (w ∷ a ∷ b ∷ f ∷ []) ((v0 ⊕ v1) ⊗ (v3 ⊖ v2)) ((v0 ⊗ (v1 ⊖ v1) ⊕ v0 ⊗ (v3 ⊖ v2)) ⊖ (v1 ⊗ v2 ⊖ v1 ⊗ v3)) refl
+    upright_plus = ring (w ∷ a ∷ b ∷ f ∷ []) ((v0 ⊕ v1) ⊗ (v3 ⊖ v2)) ((v0 ⊗ (v1 ⊖ v1) ⊕ v0 ⊗ (v3 ⊖ v2)) ⊖
+        (v1 ⊗ v2 ⊖ v1 ⊗ v3)) refl
 
     upright_minus : (w -ℤ a) *ℤ (f -ℤ b) ≡ (w *ℤ (a -ℤ a) +ℤ w *ℤ (f -ℤ b)) +ℤ (a *ℤ b -ℤ a *ℤ f)
-    upright_minus = ring (w ∷ a ∷ b ∷ f ∷ []) ((v0 ⊖ v1) ⊗ (v3 ⊖ v2)) ((v0 ⊗ (v1 ⊖ v1) ⊕ v0 ⊗ (v3 ⊖ v2)) ⊕ (v1 ⊗ v2 ⊖ v1 ⊗ v3)) refl
+    upright_minus = ring (w ∷ a ∷ b ∷ f ∷ []) ((v0 ⊖ v1) ⊗ (v3 ⊖ v2)) ((v0 ⊗ (v1 ⊖ v1) ⊕ v0 ⊗ (v3 ⊖ v2)) ⊕
+        (v1 ⊗ v2 ⊖ v1 ⊗ v3)) refl
 
     flat_minus : (w -ℤ b) *ℤ (e -ℤ a) ≡ (w *ℤ (e -ℤ a) +ℤ w *ℤ (b -ℤ b)) -ℤ (e *ℤ b -ℤ a *ℤ b)
-    flat_minus = ring (w ∷ a ∷ b ∷ e ∷ []) ((v0 ⊖ v2) ⊗ (v3 ⊖ v1)) ((v0 ⊗ (v3 ⊖ v1) ⊕ v0 ⊗ (v2 ⊖ v2)) ⊖ (v3 ⊗ v2 ⊖ v1 ⊗ v2)) refl
+    flat_minus = ring (w ∷ a ∷ b ∷ e ∷ []) ((v0 ⊖ v2) ⊗ (v3 ⊖ v1)) ((v0 ⊗ (v3 ⊖ v1) ⊕ v0 ⊗ (v2 ⊖ v2)) ⊖
+        (v3 ⊗ v2 ⊖ v1 ⊗ v2)) refl
 
     flat_plus : (w +ℤ b) *ℤ (e -ℤ a) ≡ (w *ℤ (e -ℤ a) +ℤ w *ℤ (b -ℤ b)) +ℤ (e *ℤ b -ℤ a *ℤ b)
-    flat_plus = ring (w ∷ a ∷ b ∷ e ∷ []) ((v0 ⊕ v2) ⊗ (v3 ⊖ v1)) ((v0 ⊗ (v3 ⊖ v1) ⊕ v0 ⊗ (v2 ⊖ v2)) ⊕ (v3 ⊗ v2 ⊖ v1 ⊗ v2)) refl
+    flat_plus = ring (w ∷ a ∷ b ∷ e ∷ []) ((v0 ⊕ v2) ⊗ (v3 ⊖ v1)) ((v0 ⊗ (v3 ⊖ v1) ⊕ v0 ⊗ (v2 ⊖ v2)) ⊕
+        (v3 ⊗ v2 ⊖ v1 ⊗ v2)) refl
 
 module _ (c : ℤ) (some : pos 0 <ℤ c) (p r : Pt) where
   module _ (q : Point) (d : pos 0 <ℤ q.d) where
@@ -110,7 +118,8 @@ module _ (c : ℤ) (some : pos 0 <ℤ c) (p r : Pt) where
         }
 
     -- ---- to the left
-    pub left_sides : Passes w (pos 0 -ℤ ax) ay (pos 0 -ℤ bx) by → All (IsLeftOf q) (segments (sides (to_the_left c p r)))
+    pub left_sides : Passes w (pos 0 -ℤ ax) ay (pos 0 -ℤ bx) by
+        → All (IsLeftOf q) (segments (sides (to_the_left c p r)))
     left_sides t =
         let l = t.left in
         let g = t.right in
@@ -136,7 +145,8 @@ module _ (c : ℤ) (some : pos 0 <ℤ c) (p r : Pt) where
           ),
         )
 
-    pub left_passes : All (IsLeftOf q) (segments (sides (to_the_left c p r))) → Passes w (pos 0 -ℤ ax) ay (pos 0 -ℤ bx) by
+    pub left_passes : All (IsLeftOf q) (segments (sides (to_the_left c p r))) → Passes w (pos 0 -ℤ ax) ay (pos 0 -ℤ bx)
+        by
     left_passes h =
         let s = recursion_from_All (IsLeftOf q) (segments (sides (to_the_left c p r))) h in
         let s1 = lower_gap c q p.x p.x p.y (omega (arith, ints)) s.0 in
@@ -155,7 +165,8 @@ module _ (c : ℤ) (some : pos 0 <ℤ c) (p r : Pt) where
         }
 
     -- ---- a rectangle
-    pub rectangle_sides : p.x ≤ℤ r.x → p.y ≤ℤ r.y → Passes w ax ay bx by → All (IsLeftOf q) (segments (sides (rectangle c p.x p.y r.x r.y)))
+    pub rectangle_sides : p.x ≤ℤ r.x → p.y ≤ℤ r.y → Passes w ax ay bx by
+        → All (IsLeftOf q) (segments (sides (rectangle c p.x p.y r.x r.y)))
     rectangle_sides rx ry t =
         let l = t.left in
         let g = t.right in
@@ -175,7 +186,8 @@ module _ (c : ℤ) (some : pos 0 <ℤ c) (p r : Pt) where
           ),
         )
 
-    pub rectangle_passes : p.x ≤ℤ r.x → p.y ≤ℤ r.y → (p.x ≡ r.x) ⊎ (p.y ≡ r.y) → All (IsLeftOf q) (segments (sides (rectangle c p.x p.y r.x r.y))) → Passes w ax ay bx by
+    pub rectangle_passes : p.x ≤ℤ r.x → p.y ≤ℤ r.y → (p.x ≡ r.x) ⊎ (p.y ≡ r.y)
+        → All (IsLeftOf q) (segments (sides (rectangle c p.x p.y r.x r.y))) → Passes w ax ay bx by
     rectangle_passes rx ry flat h =
         let s = recursion_from_All (IsLeftOf q) (segments (sides (rectangle c p.x p.y r.x r.y))) h in
         let s1 = lower_gap c q p.x r.x p.y (omega (arith, ints)) s.0 in
@@ -186,7 +198,8 @@ module _ (c : ℤ) (some : pos 0 <ℤ c) (p r : Pt) where
         let g : (pos 0 -ℤ w) ≤ℤ bx = omega (arith, ints, s2) in
         let b : ay ≤ℤ w = omega (arith, ints, s1) in
         let o : (pos 0 -ℤ w) ≤ℤ by = omega (arith, ints, s3) in
-        let t = straight w ax ay bx by (scaled_order p.x r.x q.x q.d rx d) (scaled_order p.y r.y q.y q.d ry d) (scaled_flat flat) l g b o in
+        let t = straight w ax ay bx by (scaled_order p.x r.x q.x q.d rx d) (scaled_order p.y r.y q.y q.d ry d)
+        (scaled_flat flat) l g b o in
         record { left = l; right = g; below = b; over = o; most = t.0; least = t.1 }
       where
         scaled_flat : (p.x ≡ r.x) ⊎ (p.y ≡ r.y) → (ax ≡ bx) ⊎ (ay ≡ by)

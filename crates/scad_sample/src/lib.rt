@@ -5,7 +5,5 @@
 
 mod radius;
 mod source;
-#[cfg(test)]
-mod tests;
 
 pub use source::sample_source;

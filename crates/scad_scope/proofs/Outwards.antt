@@ -19,30 +19,43 @@ use Rattle.scad_scope.specs.View.{named, frame_stored}
 abbrev same_key : Vec ℕ Global → Vec ℕ Global → Bool
 same_key a b = pointwise nat_eq a.items b.items
 
-pub named-insert : (es : List (Vec ℕ Global × Value)) (key : Vec ℕ Global) (v : Value) → map named (insert_entry same_key es key v) ≡ with_name key.items (datum_of v) (map named es)
+pub named-insert : (es : List (Vec ℕ Global × Value)) (key : Vec ℕ Global) (v : Value)
+    → map named (insert_entry same_key es key v) ≡ with_name key.items (datum_of v) (map named es)
 named-insert [] key v = refl
 named-insert (e ∷ es) key v = by (named-insert es key v) (same_key key e.0)
   where
-    by : map named (insert_entry same_key es key v) ≡ with_name key.items (datum_of v) (map named es) → (b : Bool) → map named (if b then (e.0, v) ∷ es else e ∷ insert_entry same_key es key v) ≡ (if b then (e.0.items, datum_of v) ∷ map named es else named e ∷ with_name key.items (datum_of v) (map named es))
+    by : map named (insert_entry same_key es key v) ≡ with_name key.items (datum_of v) (map named es) → (b : Bool)
+        → map named (if b then (e.0, v) ∷ es else e ∷ insert_entry same_key es key v)
+        ≡ (if b then (e.0.items, datum_of v) ∷ map named es else named e ∷ with_name key.items (datum_of v)
+        (map named es))
     by rest true = refl
     by rest false = ap (λ l. named e ∷ l) rest
 
-pub value_of_name-named : (name : List ℕ) (es : List (Vec ℕ Global × Value)) → option_map datum_of (lookup (λ k. pointwise nat_eq name k.items) es) ≡ value_of_name name (map named es)
+pub value_of_name-named : (name : List ℕ) (es : List (Vec ℕ Global × Value))
+    → option_map datum_of (lookup (λ k. pointwise nat_eq name k.items) es) ≡ value_of_name name (map named es)
 value_of_name-named name [] = refl
 value_of_name-named name (e ∷ es) = by (value_of_name-named name es) (pointwise nat_eq name e.0.items)
   where
-    by : option_map datum_of (lookup (λ k. pointwise nat_eq name k.items) es) ≡ value_of_name name (map named es) → (b : Bool) → option_map datum_of (if b then Some e.1 else lookup (λ k. pointwise nat_eq name k.items) es) ≡ (if b then Some (datum_of e.1) else value_of_name name (map named es))
+    by : option_map datum_of (lookup (λ k. pointwise nat_eq name k.items) es) ≡ value_of_name name (map named es)
+        → (b : Bool) → option_map datum_of (if b then Some e.1 else lookup (λ k. pointwise nat_eq name k.items) es)
+        ≡ (if b then Some (datum_of e.1) else value_of_name name (map named es))
     by rest true = refl
     by rest false = rest
 
 -- ---- one frame of a list is written
-pub stored-written : (fs : List Frame) (i : ℕ) (old new : Frame) (d : Stored) (f : Stored → Stored) → i < length fs → old ≡ get_or fs i old → frame_stored new ≡ f (frame_stored old) → map frame_stored (set fs i new) ≡ set (map frame_stored fs) i (f (get_or (map frame_stored fs) i d))
+pub stored-written : (fs : List Frame) (i : ℕ) (old new : Frame) (d : Stored) (f : Stored → Stored) → i < length fs
+    → old ≡ get_or fs i old → frame_stored new ≡ f (frame_stored old) → map frame_stored (set fs i new)
+    ≡ set (map frame_stored fs) i (f (get_or (map frame_stored fs) i d))
 stored-written fs i old new d f below is made =
-    map-set frame_stored fs i new ∙ ap (set (map frame_stored fs) i) (made ∙ ap f (ap frame_stored is ∙ sym (get_or-map frame_stored fs i old d below)))
+    map-set frame_stored fs i new ∙ ap (set (map frame_stored fs) i)
+    (made ∙ ap f (ap frame_stored is ∙ sym (get_or-map frame_stored fs i old d below)))
 
-pub stored-same : (fs : List Frame) (i : ℕ) (old new : Frame) → i < length fs → old ≡ get_or fs i old → frame_stored new ≡ frame_stored old → map frame_stored (set fs i new) ≡ map frame_stored fs
+pub stored-same : (fs : List Frame) (i : ℕ) (old new : Frame) → i < length fs → old ≡ get_or fs i old → frame_stored new
+    ≡ frame_stored old → map frame_stored (set fs i new) ≡ map frame_stored fs
 stored-same fs i old new below is same =
-    map-set frame_stored fs i new ∙ ap (set (map frame_stored fs) i) (same ∙ ap frame_stored is ∙ sym (get_or-map frame_stored fs i old (frame_stored old) below)) ∙ set-get_or (map frame_stored fs) i (frame_stored old)
+    map-set frame_stored fs i new ∙ ap (set (map frame_stored fs) i) (same ∙ ap frame_stored is ∙ sym
+    (get_or-map frame_stored fs i old (frame_stored old) below)) ∙ set-get_or (map frame_stored fs) i
+    (frame_stored old)
 
 -- a value that is lent is a value
 pub lent : (r : Option (Bor Value)) → option_map (λ v. datum_of v.now) r ≡ option_map datum_of (option_copied r)
@@ -50,14 +63,19 @@ lent None = refl
 lent (Some v) = refl
 
 -- a frame of a list, as it is stored
-pub stored-index : (fs : List Frame) (n : ℕ) (f : Frame) → n < length fs → f ≡ get_or fs n f → frame_stored f ≡ get_or (map frame_stored fs) n (frame_stored f)
+pub stored-index : (fs : List Frame) (n : ℕ) (f : Frame) → n < length fs → f ≡ get_or fs n f
+    → frame_stored f ≡ get_or (map frame_stored fs) n (frame_stored f)
 stored-index fs n f below is = ap frame_stored is ∙ sym (get_or-map frame_stored fs n f (frame_stored f) below)
 
 -- the name is set in the last frame
-pub stored-last : (fs : List Frame) (i : ℕ) (key name : List ℕ) (d : Datum) (old new : Frame) → i ≡ length fs - 1 → i < length fs → key ≡ name → old ≡ get_or fs i old → frame_stored new ≡ with_name_in key d (frame_stored old) → map frame_stored (set fs i new) ≡ with_name_in_last name d (map frame_stored fs)
+pub stored-last : (fs : List Frame) (i : ℕ) (key name : List ℕ) (d : Datum) (old new : Frame) → i ≡ length fs - 1
+    → i < length fs → key ≡ name → old ≡ get_or fs i old → frame_stored new ≡ with_name_in key d (frame_stored old)
+    → map frame_stored (set fs i new) ≡ with_name_in_last name d (map frame_stored fs)
 stored-last fs i key name d old new last below same is made =
-    stored-written fs i old new (pushed None None None) (with_name_in name d) below is (made ∙ ap (λ n. with_name_in n d (frame_stored old)) same)
-    ∙ ap (λ j. set (map frame_stored fs) j (with_name_in name d (stored_at (map frame_stored fs) j))) (last ∙ ap (λ m. m - 1) (sym (length-map fs frame_stored)))
+    stored-written fs i old new (pushed None None None) (with_name_in name d) below is
+    (made ∙ ap (λ n. with_name_in n d (frame_stored old)) same)
+    ∙ ap (λ j. set (map frame_stored fs) j (with_name_in name d (stored_at (map frame_stored fs) j)))
+    (last ∙ ap (λ m. m - 1) (sym (length-map fs frame_stored)))
 
 pub ruleset writes = (stored-written, stored-same, length-map)
 
@@ -92,7 +110,8 @@ module _ (all : List Stored) (n : ℕ) (f : Stored) (below : n < length all) (is
   first = envs (take n all)
 
   parts : all ≡ take n all ++ f ∷ drop (n + 1) all
-  parts = sym (take-append-drop n all) ∙ ap (λ l. take n all ++ l) (drop_more all n f below ∙ ap (λ g. g ∷ drop (n + 1) all) (sym is))
+  parts = sym (take-append-drop n all) ∙ ap (λ l. take n all ++ l)
+      (drop_more all n f below ∙ ap (λ g. g ∷ drop (n + 1) all) (sym is))
 
   later : List Env
   later = (grows (envs (take n all) ++ env_of (envs (take n all)) f ∷ []) (drop (n + 1) all)).0
@@ -119,20 +138,27 @@ module _ (all : List Stored) (n : ℕ) (f : Stored) (below : n < length all) (is
       ∙ ap (λ l. env_of l f) (sym front)
 
   -- a name that the frame has
-  pub sought-there : (name : List ℕ) (d : Datum) → value_of_name name f.names ≡ Some d → sought name (env_at (envs all) n) ≡ Some d
-  sought-there name d found = ap (sought name) env_at-number ∙ ap (λ o. or_else o (sought name (env_round (take n (envs all)) f.parent))) found
+  pub sought-there : (name : List ℕ) (d : Datum) → value_of_name name f.names ≡ Some d
+      → sought name (env_at (envs all) n) ≡ Some d
+  sought-there name d found = ap (sought name) env_at-number ∙ ap
+      (λ o. or_else o (sought name (env_round (take n (envs all)) f.parent))) found
 
   -- a name that the frame doesn't have
-  pub sought-round : (name : List ℕ) → value_of_name name f.names ≡ None → sought name (env_at (envs all) n) ≡ sought name (env_round (take n (envs all)) f.parent)
-  sought-round name found = ap (sought name) env_at-number ∙ ap (λ o. or_else o (sought name (env_round (take n (envs all)) f.parent))) found
+  pub sought-round : (name : List ℕ) → value_of_name name f.names ≡ None → sought name (env_at (envs all) n)
+      ≡ sought name (env_round (take n (envs all)) f.parent)
+  sought-round name found = ap (sought name) env_at-number ∙ ap
+      (λ o. or_else o (sought name (env_round (take n (envs all)) f.parent))) found
 
 -- the environments before a number
-pub round-before : (es : List Env) (parent : Option ℕ) (n p : ℕ) → parent ≡ Some p → p < n → env_round (take n es) parent ≡ env_at es p
+pub round-before : (es : List Env) (parent : Option ℕ) (n p : ℕ) → parent ≡ Some p → p < n
+    → env_round (take n es) parent ≡ env_at es p
 round-before es parent n p is before = ap (env_round (take n es)) is ∙ get_or-take n es p outside before
 
-pub round-past : (es : List Env) (parent : Option ℕ) (n p : ℕ) → parent ≡ Some p → n ≤ p → env_round (take n es) parent ≡ outside
+pub round-past : (es : List Env) (parent : Option ℕ) (n p : ℕ) → parent ≡ Some p → n ≤ p → env_round (take n es) parent
+    ≡ outside
 round-past es parent n p is past = ap (env_round (take n es)) is ∙ get_or_past (take n es) p outside (let some = length-take n es in omega (arith, some))
 
 -- no frame has the number
-pub sought-past : (all : List Stored) (n : ℕ) (name : List ℕ) → length all ≤ n → sought name (env_at (envs all) n) ≡ None
+pub sought-past : (all : List Stored) (n : ℕ) (name : List ℕ) → length all ≤ n → sought name (env_at (envs all) n)
+    ≡ None
 sought-past all n name past = ap (sought name) (get_or_past (envs all) n outside (let many = length-envs all in omega (arith, many)))

@@ -10,8 +10,10 @@ abbrev pub assigned_in : List Item → List (Option (List ℕ))
 assigned_in all = assigned_by (items all)
 
 -- the next item of what is left
-pub assigned-drop : (all : List Item) (i : ℕ) (v : Item) → i < length all → v ≡ get_or all i v → assigned_in (drop i all) ≡ assigned (item_of v) ∷ assigned_in (drop (i + 1) all)
-assigned-drop all i v below is = ap assigned_in (drop_more all i v below) ∙ ap (λ w. assigned (item_of w) ∷ assigned_in (drop (i + 1) all)) (sym is)
+pub assigned-drop : (all : List Item) (i : ℕ) (v : Item) → i < length all → v ≡ get_or all i v
+    → assigned_in (drop i all) ≡ assigned (item_of v) ∷ assigned_in (drop (i + 1) all)
+assigned-drop all i v below is = ap assigned_in (drop_more all i v below) ∙ ap (λ w. assigned (item_of w) ∷ assigned_in
+    (drop (i + 1) all)) (sym is)
 
 pub assigned-drop_all : (all : List Item) (i : ℕ) → length all ≤ i → assigned_in (drop i all) ≡ []
 assigned-drop_all all i past = ap assigned_in (drop_all i all past)

@@ -35,6 +35,7 @@ impl Bindings {
         Bindings { list }
     }
 
+    /// The bindings, in the order of first assignment.
     pub fn as_slice(&self) -> &[Binding]
         ensures { result.now ≡ self.now }
     {

@@ -13,6 +13,3 @@ pub use assigned::bindings;
 pub use binding::{Binding, Bindings};
 pub use frames::Frames;
 pub use kept::Kept;
-
-#[cfg(test)]
-mod tests;

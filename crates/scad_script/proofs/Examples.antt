@@ -1,4 +1,5 @@
--- Three runs by the definitions: a budget in the middle of a file, a report cut within its echo lines, and two outputs of
+-- Three runs by the definitions: a budget in the middle of a file, a report cut within its echo lines, and two outputs
+-- of
 -- which the second fails.
 use Rattle.std.proofs.Common.{◌≡◌, ◌==◌, List, [], ◌∷◌, ℕ, true, false, Option, Some, None, Result, Ok, Err, inl, refl, codes, decimal, pos, arith}
 use Rattle.std.specs.Prelude.{if◌then◌else◌}
@@ -56,7 +57,9 @@ after_reading = record (unused (Some [])) { input = told (codes "m.scad") [] }
 -- the report failed after four bytes of its echo line
 abbrev after_cut : View
 after_cut =
-    record after_reading { report = record { name = None; bytes = Some (codes "ECHO"); created = false; failed = true } }
+    record after_reading {
+      report = record { name = None; bytes = Some (codes "ECHO"); created = false; failed = true };
+    }
 
 echo_line_cut : RunsTo budgeted Write (unused (Some [])) after_cut
 echo_line_cut = (
@@ -67,7 +70,12 @@ echo_line_cut = (
     _,
     after_reading,
     refl,
-    record { done = Reads (codes "m.scad") ∷ []; parts = refl; went = (after_reading, record { only = refl; named = refl }, refl) },
+    record {
+      done = Reads (codes "m.scad") ∷ [];
+      parts = refl;
+      went =
+          (after_reading, record { only = refl; named = refl }, refl);
+    },
     (λ drawn. absurd (drawn refl), record { count = 4; proper = omega arith; view = refl }),
   ),
   (refl, refl),
@@ -76,9 +84,11 @@ echo_line_cut = (
 -- a file of outlines and one for the printing program, both created before their heads are written
 abbrev two_outputs : Script
 two_outputs =
-    first (Reads (codes "m.scad") ∷ []) (first (Makes Cli (codes "o.cli") ∷ []) (first (Makes Gcode (codes "o.gcode") ∷ [])
+    first (Reads (codes "m.scad") ∷ []) (first (Makes Cli (codes "o.cli") ∷ [])
+    (first (Makes Gcode (codes "o.gcode") ∷ [])
     (first (Sends Cli (codes "HEAD") ∷ []) (first (Sends Gcode (codes "head") ∷ [])
-    (first (Sends Cli (codes "END") ∷ []) (first (Sends Gcode (codes "end") ∷ []) (ends (Finishes (codes "done\n")))))))))
+    (first (Sends Cli (codes "END") ∷ []) (first (Sends Gcode (codes "end") ∷ [])
+    (ends (Finishes (codes "done\n")))))))))
 
 both_in_full :
     answer_of two_outputs ≡ Some (record {
@@ -119,7 +129,8 @@ second_output_fails = (
     with_head,
     refl,
     record {
-      done = Reads (codes "m.scad") ∷ Makes Cli (codes "o.cli") ∷ Makes Gcode (codes "o.gcode") ∷ Sends Cli (codes "HEAD") ∷ [];
+      done = Reads (codes "m.scad") ∷ Makes Cli (codes "o.cli") ∷ Makes Gcode (codes "o.gcode") ∷ Sends Cli
+          (codes "HEAD") ∷ [];
       parts = refl;
       went = (
         after_reading,
@@ -158,7 +169,8 @@ with_settings settings source =
     (first (Reads (codes "m.scad") ∷ []) (after_file source (λ text. ends (Finishes (codes "done\n")))))))
 
 -- where the settings are refused the source isn't opened, whatever it holds
-settings_before_source : (source : Option Input) → with_settings (Some (Whole (codes "="))) source ≡ record { steps = Reads (codes "s.toml") ∷ []; ending = Refuses (Settings no_settings) }
+settings_before_source : (source : Option Input) → with_settings (Some (Whole (codes "="))) source
+    ≡ record { steps = Reads (codes "s.toml") ∷ []; ending = Refuses (Settings no_settings) }
 settings_before_source source = refl
 
 -- without a source there is no answer

@@ -13,7 +13,8 @@ use Rattle.scad_script.specs.Names.{Given, AllFrom, AllStand, OnlyReads}
 use Rattle.scad_script.specs.Played.{Left}
 
 -- the next layer, and those behind it
-pub next_layer : (layer : ℕ → Result (List Step) Budget) (i n : ℕ) (rest : Script) → i < n → layers layer i (n - i) rest ≡ layer_then (layer i) (layers layer (i + 1) (n - (i + 1)) rest)
+pub next_layer : (layer : ℕ → Result (List Step) Budget) (i n : ℕ) (rest : Script) → i < n → layers layer i (n - i) rest
+    ≡ layer_then (layer i) (layers layer (i + 1) (n - (i + 1)) rest)
 next_layer layer i n rest inside =
     let more : n - i ≡ suc (n - (i + 1)) = omega (arith, inside) in
     ap (λ k. layers layer i k rest) more
@@ -48,33 +49,52 @@ sends_draw given (Makes o name ∷ ss) rest only draws = absurd only
 sends_draw given (Sends Report piece ∷ ss) rest only draws = absurd only
 sends_draw given (Sends Cli piece ∷ ss) rest only draws =
     let behind = sends_draw given ss rest only draws in
-    record { order = (omega arith, behind.order); stand = (record { order = behind.order; name = tt; filled = tt }, behind.stand) }
+    record {
+      order = (omega arith, behind.order);
+      stand = (
+        record { order = behind.order; name = tt; filled = tt },
+        behind.stand,
+      );
+    }
 sends_draw given (Sends Gcode piece ∷ ss) rest only draws =
     let behind = sends_draw given ss rest only draws in
-    record { order = (omega arith, behind.order); stand = (record { order = behind.order; name = tt; filled = tt }, behind.stand) }
+    record {
+      order = (omega arith, behind.order);
+      stand = (
+        record { order = behind.order; name = tt; filled = tt },
+        behind.stand,
+      );
+    }
 
 -- a piece for an output that is drawn, before steps that draw
-pub piece_draws : (given : Given) (o : Out) (piece : List ℕ) (rest : List Step) → OnlySends (Sends o piece ∷ []) → Draws given rest → Draws given (Sends o piece ∷ rest)
+pub piece_draws : (given : Given) (o : Out) (piece : List ℕ) (rest : List Step) → OnlySends (Sends o piece ∷ [])
+    → Draws given rest → Draws given (Sends o piece ∷ rest)
 piece_draws given Report piece rest only draws = absurd only
 piece_draws given Cli piece rest only draws = sends_draw given (Sends Cli piece ∷ []) rest tt draws
 piece_draws given Gcode piece rest only draws = sends_draw given (Sends Gcode piece ∷ []) rest tt draws
 
-then_draws : (given : Given) (layer : Result (List Step) Budget) (rest : Script) → IfOk layer OnlySends → Draws given rest.steps → Draws given (layer_then layer rest).steps
+then_draws : (given : Given) (layer : Result (List Step) Budget) (rest : Script) → IfOk layer OnlySends
+    → Draws given rest.steps → Draws given (layer_then layer rest).steps
 then_draws given (Ok steps) rest only draws = sends_draw given steps rest.steps only draws
 then_draws given (Err budget) rest only draws = record { order = tt; stand = tt }
 
-pub layers_draw : (given : Given) (layer : ℕ → Result (List Step) Budget) (i n : ℕ) (rest : Script) → ((k : ℕ) → IfOk (layer k) OnlySends) → Draws given rest.steps → Draws given (layers layer i n rest).steps
+pub layers_draw : (given : Given) (layer : ℕ → Result (List Step) Budget) (i n : ℕ) (rest : Script)
+    → ((k : ℕ) → IfOk (layer k) OnlySends) → Draws given rest.steps → Draws given (layers layer i n rest).steps
 layers_draw given layer i zero rest only draws = draws
-layers_draw given layer i (suc n) rest only draws = then_draws given (layer i) (layers layer (i + 1) n rest) (only i) (layers_draw given layer (i + 1) n rest only draws)
+layers_draw given layer i (suc n) rest only draws = then_draws given (layer i) (layers layer (i + 1) n rest) (only i)
+    (layers_draw given layer (i + 1) n rest only draws)
 
 -- a script with layers lacks a file only where the rest does
-then_lacks : (layer : Result (List Step) Budget) (rest : Script) → rest.ending ≢ Lacks → (layer_then layer rest).ending ≢ Lacks
+then_lacks : (layer : Result (List Step) Budget) (rest : Script) → rest.ending ≢ Lacks → (layer_then layer rest).ending
+    ≢ Lacks
 then_lacks (Ok steps) rest there = there
 then_lacks (Err budget) rest there = λ same. let never : ⊥ = cc in absurd never
 
-pub layers_lack : (layer : ℕ → Result (List Step) Budget) (i n : ℕ) (rest : Script) → rest.ending ≢ Lacks → (layers layer i n rest).ending ≢ Lacks
+pub layers_lack : (layer : ℕ → Result (List Step) Budget) (i n : ℕ) (rest : Script) → rest.ending ≢ Lacks
+    → (layers layer i n rest).ending ≢ Lacks
 layers_lack layer i zero rest there = there
-layers_lack layer i (suc n) rest there = then_lacks (layer i) (layers layer (i + 1) n rest) (layers_lack layer (i + 1) n rest there)
+layers_lack layer i (suc n) rest there = then_lacks (layer i) (layers layer (i + 1) n rest)
+    (layers_lack layer (i + 1) n rest there)
 
 pub lacks_nothing : (steps : List Step) (ending : Ending) → ending ≢ Lacks → OnlyReads steps ending
 lacks_nothing steps (Finishes line) there = tt
@@ -83,13 +103,17 @@ lacks_nothing steps Lacks there = absurd (there refl)
 
 -- Layers of which none passes a budget.
 
-pub layers_text : (out : Out) (layer : ℕ → List Step) (i n : ℕ) (rest : Script) → text_of out (layers (λ k. Ok (layer k)) i n rest).steps ≡ flat_map (λ k. text_of out (layer k)) (range_with_len i n) ++ text_of out rest.steps
+pub layers_text : (out : Out) (layer : ℕ → List Step) (i n : ℕ) (rest : Script)
+    → text_of out (layers (λ k. Ok (layer k)) i n rest).steps ≡ flat_map (λ k. text_of out (layer k))
+    (range_with_len i n) ++ text_of out rest.steps
 layers_text out layer i zero rest = refl
 layers_text out layer i (suc n) rest =
     flat_map-append (piece_for out) (layer i) (layers (λ k. Ok (layer k)) (i + 1) n rest).steps
     ∙ ap (λ text. text_of out (layer i) ++ text) (layers_text out layer (i + 1) n rest)
-    ∙ sym (append_assoc (text_of out (layer i)) (flat_map (λ k. text_of out (layer k)) (range_with_len (i + 1) n)) (text_of out rest.steps))
+    ∙ sym (append_assoc (text_of out (layer i)) (flat_map (λ k. text_of out (layer k)) (range_with_len (i + 1) n))
+    (text_of out rest.steps))
 
-pub layers_ending : (layer : ℕ → List Step) (i n : ℕ) (rest : Script) → (layers (λ k. Ok (layer k)) i n rest).ending ≡ rest.ending
+pub layers_ending : (layer : ℕ → List Step) (i n : ℕ) (rest : Script) → (layers (λ k. Ok (layer k)) i n rest).ending
+    ≡ rest.ending
 layers_ending layer i zero rest = refl
 layers_ending layer i (suc n) rest = layers_ending layer (i + 1) n rest

@@ -10,17 +10,24 @@ use Rattle.scad_script.specs.Script.{Script, first}
 use Rattle.scad_script.specs.Played.{Fails, Went, Left, StopsAt, EndsIn}
 use Rattle.scad_script.proofs.Effects.{read_each}
 
-from_each : (least : ℕ) (steps : List Step) (step : Step) (rest : List Step) → AllFrom least (steps ++ step ∷ rest) → least ≤ stage step
+from_each : (least : ℕ) (steps : List Step) (step : Step) (rest : List Step) → AllFrom least (steps ++ step ∷ rest)
+    → least ≤ stage step
 from_each least [] step rest all = all.0
 from_each least (s ∷ ss) step rest all = from_each least ss step rest all.1
 
 -- the steps before a step belong no later
-pub all_before : (given : Given) (done : List Step) (step : Step) (rest : List Step) → AllStand given (done ++ step ∷ rest) → AllUpTo (stage step) done
+pub all_before : (given : Given) (done : List Step) (step : Step) (rest : List Step)
+    → AllStand given (done ++ step ∷ rest) → AllUpTo (stage step) done
 all_before given [] step rest all = tt
-all_before given (d ∷ ds) step rest all = (from_each (stage d) ds step rest all.0.order, all_before given ds step rest all.1)
+all_before given (d ∷ ds) step rest all = (
+  from_each (stage d) ds step rest all.0.order,
+  all_before given ds step rest
+      all.1,
+)
 
 -- a step stands before those behind it
-pub stands_at : (given : Given) (done : List Step) (step : Step) (rest : List Step) → AllStand given (done ++ step ∷ rest) → Stands given step rest
+pub stands_at : (given : Given) (done : List Step) (step : Step) (rest : List Step)
+    → AllStand given (done ++ step ∷ rest) → Stands given step rest
 stands_at given [] step rest all = all.0
 stands_at given (d ∷ ds) step rest all = stands_at given ds step rest all.1
 
@@ -52,9 +59,11 @@ reading_text out (Sends Cli piece ∷ ss) all = let late = all.0 in absurd (omeg
 reading_text out (Sends Gcode piece ∷ ss) all = let late = all.0 in absurd (omega (arith, late))
 
 -- and leave the outputs as they were
-pub reading_stands : (out : Out) (steps : List Step) (old now : View) → AllUpTo reading steps → Went steps old now → side out now ≡ side out old
+pub reading_stands : (out : Out) (steps : List Step) (old now : View) → AllUpTo reading steps → Went steps old now
+    → side out now ≡ side out old
 reading_stands out [] old now all same = ap (side out) same
-reading_stands out (Reads name ∷ ss) old now all (mid, uses, went) = reading_stands out ss mid now all.1 went ∙ read_each out uses
+reading_stands out (Reads name ∷ ss) old now all (mid, uses, went) = reading_stands out ss mid now all.1 went ∙
+    read_each out uses
 reading_stands out (Makes o name ∷ ss) old now all went = let late = all.0 in absurd (omega (arith, late))
 reading_stands out (Sends Report piece ∷ ss) old now all went = let late = all.0 in absurd (omega (arith, late))
 reading_stands out (Sends Cli piece ∷ ss) old now all went = let late = all.0 in absurd (omega (arith, late))
@@ -66,29 +75,34 @@ reads_front : (done rest : List Step) → AllUpTo reading (done ++ rest) → All
 reads_front [] rest all = tt
 reads_front (d ∷ ds) rest all = (all.0, reads_front ds rest all.1)
 
-reads_here : (done : List Step) (step : Step) (rest : List Step) → AllUpTo reading (done ++ step ∷ rest) → stage step ≤ reading
+reads_here : (done : List Step) (step : Step) (rest : List Step) → AllUpTo reading (done ++ step ∷ rest)
+    → stage step ≤ reading
 reads_here [] step rest all = all.0
 reads_here (d ∷ ds) step rest all = reads_here ds step rest all.1
 
-fails_reading : (out : Out) (step : Step) (old now : View) → stage step ≤ reading → Fails step old now → side out now ≡ side out old
+fails_reading : (out : Out) (step : Step) (old now : View) → stage step ≤ reading → Fails step old now
+    → side out now ≡ side out old
 fails_reading out (Reads name) old now early fails = read_each out fails
 fails_reading out (Makes o name) old now early fails = absurd (omega (arith, early))
 fails_reading out (Sends Report piece) old now early fails = absurd (omega (arith, early))
 fails_reading out (Sends Cli piece) old now early fails = absurd (omega (arith, early))
 fails_reading out (Sends Gcode piece) old now early fails = absurd (omega (arith, early))
 
-left_reading : (out : Out) (whole rest : Script) (old now : View) → AllUpTo reading whole.steps → Left whole rest old now → side out now ≡ side out old
+left_reading : (out : Out) (whole rest : Script) (old now : View) → AllUpTo reading whole.steps
+    → Left whole rest old now → side out now ≡ side out old
 left_reading out whole rest old now all left =
     reading_stands out left.done old now
     (reads_front left.done rest.steps (subst (λ (s : Script). AllUpTo reading s.steps) (sym left.parts) all)) left.went
 
-stops_only_reading : (out : Out) (at : ℕ) (whole : Script) (old now : View) → AllUpTo reading whole.steps → StopsAt at whole old now → side out now ≡ side out old
+stops_only_reading : (out : Out) (at : ℕ) (whole : Script) (old now : View) → AllUpTo reading whole.steps
+    → StopsAt at whole old now → side out now ≡ side out old
 stops_only_reading out at whole old now all (step, rest, mid, same, left, fails) =
     let mine = subst (λ (s : Script). AllUpTo reading s.steps) (sym left.parts) all in
     fails_reading out step mid now (reads_here left.done step rest.steps mine) fails
     ∙ left_reading out whole (first (step ∷ []) rest) old mid all left
 
-pub ends_reading : (out : Out) (whole : Script) (ended : Result (List ℕ) Stop) (old now : View) → AllUpTo reading whole.steps → EndsIn whole ended old now → side out now ≡ side out old
+pub ends_reading : (out : Out) (whole : Script) (ended : Result (List ℕ) Stop) (old now : View)
+    → AllUpTo reading whole.steps → EndsIn whole ended old now → side out now ≡ side out old
 ends_reading out whole (Ok line) old now all left = left_reading out whole _ old now all left
 ends_reading out whole (Err (Stop.Ends why)) old now all left = left_reading out whole _ old now all left
 ends_reading out whole (Err Stop.Read) old now all stops = stops_only_reading out _ whole old now all stops

@@ -6,17 +6,20 @@ use Rattle.scad_script.specs.Script.{Script, first}
 use Rattle.scad_script.specs.Played.{Takes, Went, Left}
 
 -- one more step behind those that were taken
-pub then_takes : (done : List Step) (step : Step) (old mid new : View) → Went done old mid → Takes step mid new → Went (done ++ step ∷ []) old new
+pub then_takes : (done : List Step) (step : Step) (old mid new : View) → Went done old mid → Takes step mid new
+    → Went (done ++ step ∷ []) old new
 then_takes [] step old mid new same takes =
     (new, subst (λ (v : View). Takes step v new) same takes, refl)
 then_takes (d ∷ ds) step old mid new (next, took, went) takes = (next, took, then_takes ds step next mid new went takes)
 
 -- the step that comes next was taken
-pub goes_on : {whole rest : Script} (step : Step) {old mid : View} (new : View) → Left whole (first (step ∷ []) rest) old mid → Takes step mid new → Left whole rest old new
+pub goes_on : {whole rest : Script} (step : Step) {old mid : View} (new : View) → Left whole (first (step ∷ []) rest)
+    old mid → Takes step mid new → Left whole rest old new
 goes_on {rest = rest} step {old = old} {mid = mid} new left takes =
     record {
       done = left.done ++ step ∷ [];
-      parts = ap (λ steps. record { steps = steps; ending = rest.ending }) (append_assoc left.done (step ∷ []) rest.steps) ∙ left.parts;
+      parts = ap (λ steps. record { steps = steps; ending = rest.ending }) (append_assoc left.done (step ∷ [])
+          rest.steps) ∙ left.parts;
       went = then_takes left.done step old mid new left.went takes;
     }
 

@@ -28,17 +28,3 @@ pub fn created_for_bytes()
 pub fn failed_reports_are_write()
     ensures { FailedReportsAreWrite }
 {}
-
-#[cfg(test)]
-mod tests {
-    use super::*;
-
-    #[test]
-    fn laws_are_called() {
-        statuses_keep_promises();
-        files_are_fronts();
-        names_are_given();
-        created_for_bytes();
-        failed_reports_are_write();
-    }
-}

@@ -8,8 +8,6 @@ mod loading;
 mod refusal;
 mod reporting;
 mod stop;
-#[cfg(test)]
-mod tests;
 
 pub use calls::{make, send};
 pub use laws::{

@@ -15,11 +15,13 @@ use Rattle.scad_shapes.specs.Rings.{placed_ring, two_rings, sphere_ring_at, sphe
 use Rattle.scad_shapes.specs.Count.{prism_triangles, sphere_triangles, face_triangles}
 use Rattle.scad_shapes.proofs.Solids.{alike-map, length-sphere_ring}
 
-pub prism_count : (m : Matrix) (bottom top : List (ℤ × ℤ)) (low high : ℤ) → length bottom ≡ length top → 3 ≤ length top → length (stacked (two_rings m bottom top low high)) ≡ prism_triangles (length top)
+pub prism_count : (m : Matrix) (bottom top : List (ℤ × ℤ)) (low high : ℤ) → length bottom ≡ length top → 3 ≤ length top
+    → length (stacked (two_rings m bottom top low high)) ≡ prism_triangles (length top)
 prism_count m bottom top low high same some =
     let upper : length (placed_ring m high top) ≡ length top = simp length-map in
     let lower : length (placed_ring m low bottom) ≡ length top = simp length-map same in
-    length-stacked (length top) (placed_ring m high top) (placed_ring m low bottom ∷ []) upper (alone (length (placed_ring m low bottom)) (length top) lower) ∙ omega arith
+    length-stacked (length top) (placed_ring m high top) (placed_ring m low bottom ∷ []) upper
+    (alone (length (placed_ring m low bottom)) (length top) lower) ∙ omega arith
   where
     alone : (a b : ℕ) → a ≡ b → (a == b) && true ≡ true
     alone a b e = grind (arith, nat_tests)
@@ -27,13 +29,16 @@ prism_count m bottom top low high same some =
 pub sphere_count : (r : ℤ) (n : ℕ) (m : Matrix) → 3 ≤ n → length (stacked (sphere_rings_of r n m)) ≡ sphere_triangles n
 sphere_count r n m some = counted (sphere_rings n) (omega arith)
   where
-    counted : (k : ℕ) → 0 < k → length (stacked (map (sphere_ring_at r n m) (range_with_len 0 k))) ≡ 2 * (n - 2) + 2 * n * (k - 1)
+    counted : (k : ℕ) → 0 < k → length (stacked (map (sphere_ring_at r n m) (range_with_len 0 k))) ≡ 2 * (n - 2) + 2 * n
+        * (k - 1)
     counted zero some = absurd (omega arith)
     counted (suc k) some =
-        length-stacked n (sphere_ring_at r n m 0) (map (sphere_ring_at r n m) (range_with_len 1 k)) (length-sphere_ring r n m 0) (alike-map (sphere_ring_at r n m) n 1 k (length-sphere_ring r n m))
+        length-stacked n (sphere_ring_at r n m 0) (map (sphere_ring_at r n m) (range_with_len 1 k))
+        (length-sphere_ring r n m 0) (alike-map (sphere_ring_at r n m) n 1 k (length-sphere_ring r n m))
         ∙ ap (λ l. 2 * (n - 2) + 2 * n * l) (length-map-range_with_len (sphere_ring_at r n m) 1 k ∙ omega arith)
 
-pub polyhedron_count : (points : List Pt3) (faces : List (List ℕ)) → length (fans (map (corners points) faces)) ≡ face_triangles faces
+pub polyhedron_count : (points : List Pt3) (faces : List (List ℕ)) → length (fans (map (corners points) faces))
+    ≡ face_triangles faces
 polyhedron_count points [] = refl
 polyhedron_count points (face ∷ faces) =
     length-append (fan (corners points face)) (fans (map (corners points) faces))

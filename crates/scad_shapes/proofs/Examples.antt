@@ -28,8 +28,10 @@ straight = translation (pos 0) (pos 0) (pos 0)
 
 -- the corners of a cube of 10 by 10 by 1, turned by 45 degrees
 turned_cube : cube_rings (pos 10000000) (pos 10000000) (pos 1000000) false (rotation Z (pos 45000)) ≡
-    (at (pos 0) (pos 0) (pos 1000) ∷ at (pos 7071) (pos 7071) (pos 1000) ∷ at (pos 0) (pos 14142) (pos 1000) ∷ at (negsuc 7070) (pos 7071) (pos 1000) ∷ []) ∷
-    (at (pos 0) (pos 0) (pos 0) ∷ at (pos 7071) (pos 7071) (pos 0) ∷ at (pos 0) (pos 14142) (pos 0) ∷ at (negsuc 7070) (pos 7071) (pos 0) ∷ []) ∷ []
+    (at (pos 0) (pos 0) (pos 1000) ∷ at (pos 7071) (pos 7071) (pos 1000) ∷ at (pos 0) (pos 14142) (pos 1000) ∷ at
+    (negsuc 7070) (pos 7071) (pos 1000) ∷ []) ∷
+    (at (pos 0) (pos 0) (pos 0) ∷ at (pos 7071) (pos 7071) (pos 0) ∷ at (pos 0) (pos 14142) (pos 0) ∷ at (negsuc 7070)
+    (pos 7071) (pos 0) ∷ []) ∷ []
 unfolding half_away half_up cosine sine full_turn half_turn first_quarter cosines vertex_angle_of
 turned_cube = refl
 
@@ -54,14 +56,19 @@ hexagon = refl
 
 centred_cone : cylinder_rings (pos 2001000) (pos 1500000) (pos 0) 3 true straight ≡
     (at (pos 0) (pos 0) (pos 1001) ∷ at (pos 0) (pos 0) (pos 1001) ∷ at (pos 0) (pos 0) (pos 1001) ∷ []) ∷
-    (at (pos 1500) (pos 0) (negsuc 1000) ∷ at (negsuc 749) (pos 1299) (negsuc 1000) ∷ at (negsuc 749) (negsuc 1298) (negsuc 1000) ∷ []) ∷ []
+    (at (pos 1500) (pos 0) (negsuc 1000) ∷ at (negsuc 749) (pos 1299) (negsuc 1000) ∷ at (negsuc 749) (negsuc 1298)
+    (negsuc 1000) ∷ []) ∷ []
 unfolding half_away half_up cosine sine full_turn half_turn first_quarter cosines vertex_angle_of
 centred_cone = refl
 
 small_sphere : sphere_rings_of (pos 2500000) 5 straight ≡
-    (at (pos 1250) (pos 0) (pos 2165) ∷ at (pos 386) (pos 1189) (pos 2165) ∷ at (negsuc 1010) (pos 735) (pos 2165) ∷ at (negsuc 1010) (negsuc 734) (pos 2165) ∷ at (pos 386) (negsuc 1188) (pos 2165) ∷ []) ∷
-    (at (pos 2500) (pos 0) (pos 0) ∷ at (pos 773) (pos 2378) (pos 0) ∷ at (negsuc 2022) (pos 1469) (pos 0) ∷ at (negsuc 2022) (negsuc 1468) (pos 0) ∷ at (pos 773) (negsuc 2377) (pos 0) ∷ []) ∷
-    (at (pos 1250) (pos 0) (negsuc 2164) ∷ at (pos 386) (pos 1189) (negsuc 2164) ∷ at (negsuc 1010) (pos 735) (negsuc 2164) ∷ at (negsuc 1010) (negsuc 734) (negsuc 2164) ∷ at (pos 386) (negsuc 1188) (negsuc 2164) ∷ []) ∷ []
+    (at (pos 1250) (pos 0) (pos 2165) ∷ at (pos 386) (pos 1189) (pos 2165) ∷ at (negsuc 1010) (pos 735) (pos 2165) ∷ at
+    (negsuc 1010) (negsuc 734) (pos 2165) ∷ at (pos 386) (negsuc 1188) (pos 2165) ∷ []) ∷
+    (at (pos 2500) (pos 0) (pos 0) ∷ at (pos 773) (pos 2378) (pos 0) ∷ at (negsuc 2022) (pos 1469) (pos 0) ∷ at
+    (negsuc 2022) (negsuc 1468) (pos 0) ∷ at (pos 773) (negsuc 2377) (pos 0) ∷ []) ∷
+    (at (pos 1250) (pos 0) (negsuc 2164) ∷ at (pos 386) (pos 1189) (negsuc 2164) ∷ at (negsuc 1010) (pos 735)
+    (negsuc 2164) ∷ at (negsuc 1010) (negsuc 734) (negsuc 2164) ∷ at (pos 386) (negsuc 1188) (negsuc 2164) ∷ [])
+    ∷ []
 unfolding half_away half_up cosine sine full_turn half_turn first_quarter cosines vertex_angle_of
 small_sphere = refl
 
@@ -91,7 +98,8 @@ abbrev tetrahedron : List (ℤ × ℤ × ℤ)
 tetrahedron =
     (pos 0, pos 0, pos 0) ∷ (pos 1000000, pos 0, pos 0) ∷ (pos 0, pos 1000000, pos 0) ∷ (pos 0, pos 0, pos 1000000) ∷ []
 
-closed_faces : polyhedron_of tetrahedron ((0 ∷ 1 ∷ 2 ∷ []) ∷ (0 ∷ 3 ∷ 1 ∷ []) ∷ (1 ∷ 3 ∷ 2 ∷ []) ∷ (0 ∷ 2 ∷ 3 ∷ []) ∷ []) straight ≡ Ok (
+closed_faces : polyhedron_of tetrahedron ((0 ∷ 1 ∷ 2 ∷ []) ∷ (0 ∷ 3 ∷ 1 ∷ []) ∷ (1 ∷ 3 ∷ 2 ∷ []) ∷ (0 ∷ 2 ∷ 3 ∷ [])
+    ∷ []) straight ≡ Ok (
     tri (at (pos 0) (pos 0) (pos 0)) (at (pos 1000) (pos 0) (pos 0)) (at (pos 0) (pos 1000) (pos 0)) ∷
     tri (at (pos 0) (pos 0) (pos 0)) (at (pos 0) (pos 0) (pos 1000)) (at (pos 1000) (pos 0) (pos 0)) ∷
     tri (at (pos 1000) (pos 0) (pos 0)) (at (pos 0) (pos 0) (pos 1000)) (at (pos 0) (pos 1000) (pos 0)) ∷
@@ -99,7 +107,8 @@ closed_faces : polyhedron_of tetrahedron ((0 ∷ 1 ∷ 2 ∷ []) ∷ (0 ∷ 3 �
 unfolding half_away half_up is_closed
 closed_faces = refl
 
-turned_face : polyhedron_of tetrahedron ((0 ∷ 1 ∷ 2 ∷ []) ∷ (0 ∷ 3 ∷ 1 ∷ []) ∷ (1 ∷ 3 ∷ 2 ∷ []) ∷ (0 ∷ 3 ∷ 2 ∷ []) ∷ []) straight ≡ Err NotClosed
+turned_face : polyhedron_of tetrahedron ((0 ∷ 1 ∷ 2 ∷ []) ∷ (0 ∷ 3 ∷ 1 ∷ []) ∷ (1 ∷ 3 ∷ 2 ∷ []) ∷ (0 ∷ 3 ∷ 2 ∷ []) ∷ [])
+    straight ≡ Err NotClosed
 unfolding half_away half_up is_closed
 turned_face = refl
 

@@ -44,10 +44,13 @@ module _ (count : ℕ) where
       ∙ name_points-none faces parts.1
 
 -- the solid of such faces over points in range
-pub solid_of-named : (points : List Pt3) (faces : List (List ℕ)) → list_all is_in_range points ≡ true → name_points (length points) faces ≡ true → solid_of points faces ≡ closed_or_not None (fans (map (corners points) faces))
+pub solid_of-named : (points : List Pt3) (faces : List (List ℕ)) → list_all is_in_range points ≡ true
+    → name_points (length points) faces ≡ true → solid_of points faces ≡ closed_or_not None
+    (fans (map (corners points) faces))
 unfolding solid_of
 solid_of-named points faces ranged named =
-    ap (λ b. cond b (closed_or_not (first_bad (length points) faces) (fans (map (corners points) faces))) (Err solid.CoordinateRange)) ranged
+    ap (λ b. cond b (closed_or_not (first_bad (length points) faces) (fans (map (corners points) faces)))
+    (Err solid.CoordinateRange)) ranged
     ∙ ap (λ o. closed_or_not o (fans (map (corners points) faces))) (name_points-none (length points) faces named)
 
 -- the two crates' answers by the test of the surface
@@ -108,7 +111,8 @@ module _ {X : Type 0} (p : X → Bool) (f : ℕ → X) (i n : ℕ) (inside : i <
   front = ap (map f) (range-front i n inside)
 
   pub made-more : (old new all : List X) → old ++ left ≡ all → new ≡ old ++ f i ∷ [] → new ++ rest ≡ all
-  made-more old new all so_far more = ap (λ xs. xs ++ rest) more ∙ append_assoc old (f i ∷ []) rest ∙ ap (λ xs. old ++ xs) (sym front) ∙ so_far
+  made-more old new all so_far more = ap (λ xs. xs ++ rest) more ∙ append_assoc old (f i ∷ []) rest ∙ ap
+      (λ xs. old ++ xs) (sym front) ∙ so_far
 
   pub ranged-more : (all : Bool) → all ≡ list_all p left → p (f i) ≡ true → all ≡ list_all p rest
   ranged-more all so_far here = so_far ∙ ap (list_all p) front ∙ ap (λ b. b && list_all p rest) here
@@ -117,13 +121,16 @@ module _ {X : Type 0} (p : X → Bool) (f : ℕ → X) (i n : ℕ) (inside : i <
   ranged-fails all so_far here = so_far ∙ ap (list_all p) front ∙ ap (λ b. b && list_all p rest) here
 
 -- what isn't pushed isn't collected
-pub fails : (B : Type 0) → {X : Type 0} → (ranged : X → Bool) (old new all : List X) (x : X) (e : ShapeFault) (items : B → List X) → Pushes {A = Unit {0}} ranged old x new (Err e) → (ranged x ≡ false → list_all ranged all ≡ false) → Collects {A = B} ranged (Err e) items all
+pub fails : (B : Type 0) → {X : Type 0} → (ranged : X → Bool) (old new all : List X) (x : X) (e : ShapeFault) (items : B
+    → List X) → Pushes {A = Unit {0}} ranged old x new (Err e) → (ranged x ≡ false → list_all ranged all ≡ false)
+    → Collects {A = B} ranged (Err e) items all
 fails B ranged old new all x CoordinateRange items why so = so why
 fails B ranged old new all x NotClosed items why so = absurd why
 fails B ranged old new all x Memory items why so = tt
 
 -- rings of equal length are alike
-pub alike-map : (f : ℕ → List Pt3) (m a n : ℕ) → ((i : ℕ) → length (f i) ≡ m) → list_all (λ ring. length ring == m) (map f (range_with_len a n)) ≡ true
+pub alike-map : (f : ℕ → List Pt3) (m a n : ℕ) → ((i : ℕ) → length (f i) ≡ m) → list_all (λ ring. length ring == m)
+    (map f (range_with_len a n)) ≡ true
 alike-map f m a zero long = refl
 alike-map f m a (suc n) long = ap₂ (λ k b. (k == m) && b) (long a) (alike-map f m (a + 1) n long) ∙ same m
   where
@@ -136,6 +143,8 @@ length-sphere_ring r n m i = simp (length-map, length-range_with_len)
 pub alike-sphere : (r : ℤ) (n : ℕ) (m : Matrix) → are_alike (sphere_rings_of r n m) ≡ true
 alike-sphere r n m = alike_of (sphere_rings n) (λ i. length-sphere_ring r n m i)
   where
-    alike_of : (k : ℕ) → ((i : ℕ) → length (sphere_ring_at r n m i) ≡ n) → are_alike (map (sphere_ring_at r n m) (range_with_len 0 k)) ≡ true
+    alike_of : (k : ℕ) → ((i : ℕ) → length (sphere_ring_at r n m i) ≡ n)
+        → are_alike (map (sphere_ring_at r n m) (range_with_len 0 k)) ≡ true
     alike_of zero long = refl
-    alike_of (suc k) long = ap (λ l. list_all (λ ring. length ring == l) (map (sphere_ring_at r n m) (range_with_len 1 k))) (long 0) ∙ alike-map (sphere_ring_at r n m) n 1 k long
+    alike_of (suc k) long = ap (λ l. list_all (λ ring. length ring == l)
+        (map (sphere_ring_at r n m) (range_with_len 1 k))) (long 0) ∙ alike-map (sphere_ring_at r n m) n 1 k long

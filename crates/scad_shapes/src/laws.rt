@@ -20,15 +20,3 @@ pub fn placed_prisms_hold()
 pub fn cylinders_hold()
     ensures { CylindersHold }
 {}
-
-#[cfg(test)]
-mod tests {
-    use super::*;
-
-    #[test]
-    fn laws_are_called() {
-        cubes_hold();
-        placed_prisms_hold();
-        cylinders_hold();
-    }
-}

@@ -14,8 +14,6 @@ mod placing;
 mod polyhedra;
 mod prisms;
 mod spheres;
-#[cfg(test)]
-mod tests;
 
 pub use count::{Form, triangles_of};
 pub use fault::ShapeFault;

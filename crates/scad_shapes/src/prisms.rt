@@ -1,5 +1,6 @@
 //! Cubes and cylinders.
 ghost use Rattle.std.specs.Prelude.{◌≡◌, ◌≤◌, ◌+ℤ◌, length, IfOk};
+ghost use Rattle.scad_shapes.specs.Limits.{triangle_limit};
 ghost use Rattle.scad_base.specs.Memory.{UnlessMemory};
 ghost use Rattle.scad_shapes.specs.Faults.{is_memory};
 ghost use Rattle.scad_solid.specs.Laws.{HoldBetween, HoldInside};
@@ -48,7 +49,7 @@ pub fn cylinder(
     m: &Matrix,
 ) -> Result<Triangles, ShapeFault>
     requires some { 3 ≤ n }
-    requires few { n ≤ 200000 }
+    requires few { n ≤ triangle_limit }
     ensures solid { UnlessMemory is_memory result (result ≡ solid_of_rings (cylinder_rings h r1 r2 n center m.now)) }
     ensures count { IfOk result (λ t. length t ≡ triangles_of (Cylinder n)) }
     ensures holds { IsUpright m.now → r1 ≡ r2 → IfOk result (λ t. HoldInside (placed_outline m.now (circle r1 n)) (placed_height m.now (start_of h center +ℤ h)) (placed_height m.now (start_of h center)) t) }

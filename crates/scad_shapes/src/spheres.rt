@@ -1,5 +1,6 @@
 //! Spheres.
 ghost use Rattle.std.specs.Prelude.{◌≡◌, ◌<◌, ◌≤◌, ◌++◌, ◌∷◌, [], pos, unsigned_abs, length, IfOk};
+ghost use Rattle.scad_shapes.specs.Limits.{triangle_limit};
 ghost use Rattle.scad_base.specs.Memory.{UnlessMemory};
 ghost use Rattle.scad_shapes.specs.Faults.{is_memory};
 ghost use Rattle.scad_shapes.specs.declared.count.Form.TheVariants.{Sphere};
@@ -21,7 +22,7 @@ use std::alloc::Global;
 #[tactic(auto, using(crate::proofs::Counted::sphere_count, scad_geom::proofs::Casts::casts))]
 pub fn sphere(alloc: Global, r: Num, n: u32, m: &Matrix) -> Result<Triangles, ShapeFault>
     requires some { 3 ≤ n }
-    requires few { n ≤ 200000 }
+    requires few { n ≤ triangle_limit }
     ensures solid { UnlessMemory is_memory result (result ≡ solid_of_rings (sphere_rings_of r n m.now)) }
     ensures count { IfOk result (λ t. length t ≡ triangles_of (Sphere n)) }
 {
@@ -30,7 +31,7 @@ pub fn sphere(alloc: Global, r: Num, n: u32, m: &Matrix) -> Result<Triangles, Sh
 }
 
 fn rings(alloc: Global, r: Num, n: u32, m: &Matrix) -> Result<Vec<Ring>, ShapeFault>
-    requires { n ≤ 200000 }
+    requires { n ≤ triangle_limit }
     ensures { Collects ring_in_range result (λ v. v.items) (sphere_rings_of r n m.now) }
 {
     let count = (n + 1) / 2;
@@ -53,7 +54,7 @@ fn push_ring(
     i: u32,
 ) -> Result<(), ShapeFault>
     requires below { i < sphere_rings n }
-    requires few { n ≤ 200000 }
+    requires few { n ≤ triangle_limit }
     ensures { Pushes ring_in_range out.old.items (sphere_ring_at r n m.now i) out.new.items result }
 {
     let ring = ring(alloc, r, n, m, polar_angle((n + 1) / 2, i))?;
@@ -83,7 +84,7 @@ fn rounded_angle(rings: u64, i: u64) -> u64
 
 // The placed ring at a polar angle.
 fn ring(alloc: Global, r: Num, n: u32, m: &Matrix, angle: i64) -> Result<Ring, ShapeFault>
-    requires few { n ≤ 200000 }
+    requires few { n ≤ triangle_limit }
     requires angle { unsigned_abs angle ≤ 360000 }
     ensures { UnlessMemory is_memory result (result ≡ ring_if_in_range (sphere_ring r n m.now angle)) }
 {

@@ -17,6 +17,7 @@ use Rattle.scad_tree.proofs.Above.{layers_hold}
 use Rattle.scad_tree.specs.Solids.{AreSolids}
 use Rattle.slice_layer.proofs.Surfaces.{solids_closed}
 use Rattle.slice_layer.proofs.Membership.{outlines_hold_centres}
+use Rattle.slice_layer.proofs.Border.{outlines_are_near_border}
 use Rattle.scad_slice.specs.Budgets.{layer_count, layer_budget}
 use Rattle.scad_slice.specs.Parts.{IsLaidOut, IsLayerUnless, IsLayer, IsPart, layer_at, layers_of}
 use Rattle.scad_slice.specs.Membership.{IsLayerOf}
@@ -58,11 +59,13 @@ layer_holds : (want : Want) (s : Settings) (tree : Solid) (part : Part) (i : ℕ
     → AreInRange s → IsPart want s tree part → part i ≡ Ok layout
     → IsLayerOf s.layer_height tree i (layer_at s.layer_height part i)
 layer_holds want s tree part i layout solids range of_part is =
+    let h = s.layer_height in
+    let loops = outlines_of (part i) in
+    let are = layer_outlines want s tree part i layout solids range of_part is in
     record {
       z = refl;
-      centres =
-          outlines_hold_centres i s.layer_height tree (outlines_of (part i)) (solids_closed tree solids)
-          (layer_outlines want s tree part i layout solids range of_part is);
+      centres = outlines_hold_centres i h tree loops (solids_closed tree solids) are;
+      near = outlines_are_near_border i h tree loops are;
     }
 
 pub parts_hold : PartsHold

@@ -8,7 +8,9 @@ ghost use Rattle.scad_slice.specs.Budgets.{layer_count, layers_passed};
 use scad_fault::Budget;
 use scad_script::{Refusal, Stop};
 use scad_tree::Tree;
-use slice_work::LAYER_LIMIT;
+
+/// The most layers of a part.
+pub const LAYER_LIMIT: u32 = 20_000;
 
 /// How many layers of this height in micrometres a tree has. More than 20,000 are refused.
 pub fn count_layers(tree: &Tree, height: u32) -> Result<u32, Stop>

@@ -15,8 +15,12 @@ module _ (plane : ℤ) where
   -- the cut of a triangle by which of its corners lie above and below the plane
   abbrev cut_by : Triangle → Bool → Bool → Bool → Bool → Bool → Bool → Option Segment
   cut_by t up_a up_b up_c down_a down_b down_c = cut_between plane
-      (cond (up_a && down_b) (Some (record { from = t.a; to = t.b })) (cond (up_b && down_c) (Some (record { from = t.b; to = t.c })) (cond (up_c && down_a) (Some (record { from = t.c; to = t.a })) None)))
-      (cond (down_a && up_b) (Some (record { from = t.a; to = t.b })) (cond (down_b && up_c) (Some (record { from = t.b; to = t.c })) (cond (down_c && up_a) (Some (record { from = t.c; to = t.a })) None)))
+      (cond (up_a && down_b) (Some (record { from = t.a; to = t.b }))
+      (cond (up_b && down_c) (Some (record { from = t.b; to = t.c }))
+      (cond (up_c && down_a) (Some (record { from = t.c; to = t.a })) None)))
+      (cond (down_a && up_b) (Some (record { from = t.a; to = t.b }))
+      (cond (down_b && up_c) (Some (record { from = t.b; to = t.c }))
+      (cond (down_c && up_a) (Some (record { from = t.c; to = t.a })) None)))
 
   none_up : (t : Triangle) (a b c : Bool) → cut_by t false false false a b c ≡ None
   none_up t true true true = refl
@@ -48,17 +52,20 @@ module _ (plane : ℤ) where
       (λ i. cut_by t (a i) (b i) (c i) (is_below plane t.a.z) (is_below plane t.b.z) (is_below plane t.c.z))
       ∙ none_up t (is_below plane t.a.z) (is_below plane t.b.z) (is_below plane t.c.z)
 
-  higher_first : (z : ℤ) (h : Option ℤ) → IfSome (higher_of (Some z) h) (λ w. (pos 2 *ℤ w) ≤ℤ plane) → (pos 2 *ℤ z) ≤ℤ plane
+  higher_first : (z : ℤ) (h : Option ℤ) → IfSome (higher_of (Some z) h) (λ w. (pos 2 *ℤ w) ≤ℤ plane)
+      → (pos 2 *ℤ z) ≤ℤ plane
   higher_first z None l = l
   higher_first z (Some w) l = omega (arith, ints, clamps)
 
-  higher_rest : (z : ℤ) (h : Option ℤ) → IfSome (higher_of (Some z) h) (λ w. (pos 2 *ℤ w) ≤ℤ plane) → IfSome h (λ w. (pos 2 *ℤ w) ≤ℤ plane)
+  higher_rest : (z : ℤ) (h : Option ℤ) → IfSome (higher_of (Some z) h) (λ w. (pos 2 *ℤ w) ≤ℤ plane)
+      → IfSome h (λ w. (pos 2 *ℤ w) ≤ℤ plane)
   higher_rest z None l = tt
   higher_rest z (Some w) l = let m : (pos 2 *ℤ int_max z w) ≤ℤ plane = l in omega (arith, ints, clamps)
 
   all_uncut : (ts : List Triangle) → IfSome (highest_of ts) (λ z. (pos 2 *ℤ z) ≤ℤ plane) → cuts_of plane ts ≡ []
   all_uncut [] l = refl
-  all_uncut (t ∷ ts) l = ap₂ cons_option (uncut t (higher_first (top_of t) (highest_of ts) l)) (all_uncut ts (higher_rest (top_of t) (highest_of ts) l))
+  all_uncut (t ∷ ts) l = ap₂ cons_option (uncut t (higher_first (top_of t) (highest_of ts) l))
+      (all_uncut ts (higher_rest (top_of t) (highest_of ts) l))
 
 pub nothing_above : NothingAbove
 nothing_above = record { each = λ plane ts p l. ap (λ cs. not (is_zero (wind p cs))) (all_uncut plane ts l) }

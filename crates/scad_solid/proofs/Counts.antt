@@ -38,39 +38,49 @@ length-quads [] vs e = refl
 length-quads (a ∷ us) [] e = absurd (omega arith)
 length-quads (a ∷ us) (b ∷ vs) e = let more = length-quads us vs (omega arith) in omega arith
 
-pub length-band : (upper lower : List Pt3) → length upper ≡ length lower → length (fans (band upper lower)) ≡ 2 * length upper
+pub length-band : (upper lower : List Pt3) → length upper ≡ length lower → length (fans (band upper lower))
+    ≡ 2 * length upper
 length-band upper lower e =
-    length-quads (ring_sides upper) (ring_sides lower) (length-ring_sides upper ∙ e ∙ sym (length-ring_sides lower)) ∙ ap (λ n. 2 * n) (length-ring_sides upper)
+    length-quads (ring_sides upper) (ring_sides lower) (length-ring_sides upper ∙ e ∙ sym (length-ring_sides lower)) ∙
+    ap (λ n. 2 * n) (length-ring_sides upper)
 
-length-below : (m : ℕ) (ring : List Pt3) (rings : List (List Pt3)) → length ring ≡ m → list_all (λ r. length r == m) rings ≡ true → length (fans (faces_below ring rings)) ≡ 2 * m * length rings + (m - 2)
+length-below : (m : ℕ) (ring : List Pt3) (rings : List (List Pt3)) → length ring ≡ m → list_all (λ r. length r == m)
+    rings ≡ true → length (fans (faces_below ring rings)) ≡ 2 * m * length rings + (m - 2)
 length-below m ring [] e all = length-append (fan ring) [] ∙ omega (arith, length-fan ring)
 length-below m ring (next ∷ rings) e all =
     let parts = and_parts (length next == m) (list_all (λ r. length r == m) rings) all in
     let same = eqb-true (length next) m parts.0 in
     let here = length-band ring next (e ∙ sym same) in
     let below = length-below m next rings same parts.1 in
-    length-fans-more (band ring next) (faces_below next rings) ∙ ap₂ (λ a b. a + b) (here ∙ ap (λ n. 2 * n) e) below ∙ omega arith
+    length-fans-more (band ring next) (faces_below next rings) ∙ ap₂ (λ a b. a + b) (here ∙ ap (λ n. 2 * n) e) below ∙
+    omega arith
 
 -- the triangles of rings of m points each: top and bottom, and 2 m between each two
-pub length-stacked : (m : ℕ) (top : List Pt3) (rings : List (List Pt3)) → length top ≡ m → list_all (λ r. length r == m) rings ≡ true → length (stacked (top ∷ rings)) ≡ 2 * (m - 2) + 2 * m * length rings
+pub length-stacked : (m : ℕ) (top : List Pt3) (rings : List (List Pt3)) → length top ≡ m → list_all (λ r. length r == m)
+    rings ≡ true → length (stacked (top ∷ rings)) ≡ 2 * (m - 2) + 2 * m * length rings
 unfolding stacked
 length-stacked m top rings e all =
     let turned = length-fan (reverse top) ∙ ap (λ n. n - 2) (length-reverse top ∙ e) in
     let below = length-below m top rings e all in
     length-append (fan (reverse top)) (fans (faces_below top rings)) ∙ ap₂ (λ a b. a + b) turned below ∙ omega arith
 
-length-bands : (m : ℕ) (ring last : List Pt3) (rings : List (List Pt3)) → length ring ≡ m → length last ≡ m → list_all (λ r. length r == m) rings ≡ true → length (fans (bands ring (rings ++ last ∷ []))) ≡ 2 * m * (length rings + 1)
+length-bands : (m : ℕ) (ring last : List Pt3) (rings : List (List Pt3)) → length ring ≡ m → length last ≡ m
+    → list_all (λ r. length r == m) rings ≡ true → length (fans (bands ring (rings ++ last ∷ [])))
+    ≡ 2 * m * (length rings + 1)
 length-bands m ring last [] e f all =
-    length-fans-more (band ring last) [] ∙ ap (λ n. n + 0) (length-band ring last (e ∙ sym f) ∙ ap (λ n. 2 * n) e) ∙ omega arith
+    length-fans-more (band ring last) [] ∙ ap (λ n. n + 0) (length-band ring last (e ∙ sym f) ∙ ap (λ n. 2 * n) e) ∙
+    omega arith
 length-bands m ring last (next ∷ rings) e f all =
     let parts = and_parts (length next == m) (list_all (λ r. length r == m) rings) all in
     let same = eqb-true (length next) m parts.0 in
     let here = length-band ring next (e ∙ sym same) in
     let rest = length-bands m next last rings same f parts.1 in
-    length-fans-more (band ring next) (bands next (rings ++ last ∷ [])) ∙ ap₂ (λ a b. a + b) (here ∙ ap (λ n. 2 * n) e) rest ∙ omega arith
+    length-fans-more (band ring next) (bands next (rings ++ last ∷ [])) ∙ ap₂ (λ a b. a + b) (here ∙ ap (λ n. 2 * n) e)
+    rest ∙ omega arith
 
 -- the triangles of rings on a way that comes back to its start: 2 m from each to the next
-pub length-wrapped : (m : ℕ) (first : List Pt3) (rings : List (List Pt3)) → length first ≡ m → list_all (λ r. length r == m) rings ≡ true → length (wrapped (first ∷ rings)) ≡ 2 * m * (length rings + 1)
+pub length-wrapped : (m : ℕ) (first : List Pt3) (rings : List (List Pt3)) → length first ≡ m
+    → list_all (λ r. length r == m) rings ≡ true → length (wrapped (first ∷ rings)) ≡ 2 * m * (length rings + 1)
 unfolding wrapped
 length-wrapped m first rings e all = length-bands m first first rings e e all
 
@@ -78,4 +88,5 @@ length-wrapped m first rings e all = length-bands m first first rings e e all
 pub length-fans : (faces : List (List Pt3)) → length (fans faces) ≡ sum_by (λ face. length face - 2) faces
 length-fans [] = refl
 length-fans (face ∷ faces) =
-    length-append (fan face) (fans faces) ∙ ap₂ (λ a b. a + b) (length-fan face) (length-fans faces) ∙ sym (sum_by-cons (λ f. length f - 2) face faces)
+    length-append (fan face) (fans faces) ∙ ap₂ (λ a b. a + b) (length-fan face) (length-fans faces) ∙ sym
+    (sum_by-cons (λ f. length f - 2) face faces)

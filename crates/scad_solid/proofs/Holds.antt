@@ -38,16 +38,27 @@ module _ (k a b : ℤ) where
   abbrev odd : ℤ
   odd = pos 2 *ℤ k +ℤ pos 1
 
-  between : (below_a below_b : Bool) → int_lt odd (pos 2 *ℤ a) ≡ below_a → int_lt odd (pos 2 *ℤ b) ≡ below_b → differ below_a below_b ≡ true → IsBetween odd a b
+  between : (below_a below_b : Bool) → int_lt odd (pos 2 *ℤ a) ≡ below_a → int_lt odd (pos 2 *ℤ b) ≡ below_b
+      → differ below_a below_b ≡ true → IsBetween odd a b
   between true true ea eb e = never e
   between false false ea eb e = never e
-  between false true ea eb e = inl (int_lt-true (pos 2 *ℤ a) odd (odd_apart k a ∙ ap not ea), int_lt-true odd (pos 2 *ℤ b) eb)
-  between true false ea eb e = inr (int_lt-true (pos 2 *ℤ b) odd (odd_apart k b ∙ ap not eb), int_lt-true odd (pos 2 *ℤ a) ea)
+  between false true ea eb e = inl (
+    int_lt-true (pos 2 *ℤ a) odd (odd_apart k a ∙ ap not ea),
+    int_lt-true odd
+        (pos 2 *ℤ b) eb,
+  )
+  between true false ea eb e = inr (
+    int_lt-true (pos 2 *ℤ b) odd (odd_apart k b ∙ ap not eb),
+    int_lt-true odd
+        (pos 2 *ℤ a) ea,
+  )
 
-  below_one : int_lt (pos 2 *ℤ a) odd ≡ true → int_lt odd (pos 2 *ℤ b) ≡ true → differ (int_lt odd (pos 2 *ℤ a)) (int_lt odd (pos 2 *ℤ b)) ≡ true
+  below_one : int_lt (pos 2 *ℤ a) odd ≡ true → int_lt odd (pos 2 *ℤ b) ≡ true → differ (int_lt odd (pos 2 *ℤ a))
+      (int_lt odd (pos 2 *ℤ b)) ≡ true
   below_one ea eb = ap₂ differ (not-true (int_lt odd (pos 2 *ℤ a)) (sym (odd_apart k a) ∙ ea)) eb
 
-  below_other : int_lt odd (pos 2 *ℤ a) ≡ true → int_lt (pos 2 *ℤ b) odd ≡ true → differ (int_lt odd (pos 2 *ℤ a)) (int_lt odd (pos 2 *ℤ b)) ≡ true
+  below_other : int_lt odd (pos 2 *ℤ a) ≡ true → int_lt (pos 2 *ℤ b) odd ≡ true → differ (int_lt odd (pos 2 *ℤ a))
+      (int_lt odd (pos 2 *ℤ b)) ≡ true
   below_other ea eb = ap₂ differ ea (not-true (int_lt odd (pos 2 *ℤ b)) (sym (odd_apart k b) ∙ eb))
 
   between_told : Decides (differ (int_lt odd (pos 2 *ℤ a)) (int_lt odd (pos 2 *ℤ b))) (IsBetween odd a b)
@@ -74,7 +85,10 @@ zero_is_neg c e = omega (arith, ints)
 is_zero-neg : (c : ℤ) → int_eq (neg_ℤ c) (pos 0) ≡ int_eq c (pos 0)
 is_zero-neg c =
     let some = Decides-int_eq (neg_ℤ c) (pos 0) in
-    same_from_decides (int_eq (neg_ℤ c) (pos 0)) (int_eq c (pos 0)) ((λ t. neg_is_zero c (some.0 t)), (λ e. some.1 (zero_is_neg c e))) (Decides-int_eq c (pos 0))
+    same_from_decides (int_eq (neg_ℤ c) (pos 0)) (int_eq c (pos 0)) (
+      (λ t. neg_is_zero c (some.0 t)),
+      (λ e. some.1 (zero_is_neg c e)),
+    ) (Decides-int_eq c (pos 0))
 
 winds_some : (a b : Bool) (c : ℤ) → not (int_eq (winds a b c) (pos 0)) ≡ differ a b && not (int_eq c (pos 0))
 winds_some true true c = refl
@@ -107,31 +121,45 @@ boxed_some false false false false = refl
 
 module _ (layer h : ℕ) where
   pub below_or_above : (z : ℤ) → is_below (plane_of layer h) z ≡ not (is_above (plane_of layer h) z)
-  below_or_above z = ap (λ p. int_lt (pos 2 *ℤ z) p) (plane_odd layer h) ∙ odd_apart (middle layer h) z ∙ ap (λ p. not (int_lt p (pos 2 *ℤ z))) (sym (plane_odd layer h))
+  below_or_above z = ap (λ p. int_lt (pos 2 *ℤ z) p) (plane_odd layer h) ∙ odd_apart (middle layer h) z ∙ ap
+      (λ p. not (int_lt p (pos 2 *ℤ z))) (sym (plane_odd layer h))
 
-  plane_between : (a b : ℤ) → Decides (differ (is_above (plane_of layer h) a) (is_above (plane_of layer h) b)) (IsBetween (plane_of layer h) a b)
-  plane_between a b = subst (λ p. Decides (differ (int_lt p (pos 2 *ℤ a)) (int_lt p (pos 2 *ℤ b))) (IsBetween p a b)) (sym (plane_odd layer h)) (between_told (middle layer h) a b)
+  plane_between : (a b : ℤ) → Decides (differ (is_above (plane_of layer h) a) (is_above (plane_of layer h) b))
+      (IsBetween (plane_of layer h) a b)
+  plane_between a b = subst (λ p. Decides (differ (int_lt p (pos 2 *ℤ a)) (int_lt p (pos 2 *ℤ b))) (IsBetween p a b))
+      (sym (plane_odd layer h)) (between_told (middle layer h) a b)
 
-  prism_contains : (upper lower : ℤ) (ring : List Pt) (p : Point) → pos 0 <ℤ p.d → contains (plane_of layer h) (prism upper lower ring) p ≡ differ (is_above (plane_of layer h) upper) (is_above (plane_of layer h) lower) && not (int_eq (wind p (segments (sides ring))) (pos 0))
+  prism_contains : (upper lower : ℤ) (ring : List Pt) (p : Point) → pos 0 <ℤ p.d
+      → contains (plane_of layer h) (prism upper lower ring) p ≡ differ (is_above (plane_of layer h) upper)
+      (is_above (plane_of layer h) lower) && not (int_eq (wind p (segments (sides ring))) (pos 0))
   prism_contains upper lower ring p some =
       ap (λ w. not (is_zero w))
       (prism_wind (plane_of layer h) upper lower (below_or_above upper) (below_or_above lower) ring p some)
-      ∙ ap not (is_zero-eq (winds (is_above (plane_of layer h) upper) (is_above (plane_of layer h) lower) (wind p (segments (sides ring)))))
-      ∙ winds_some (is_above (plane_of layer h) upper) (is_above (plane_of layer h) lower) (wind p (segments (sides ring)))
+      ∙ ap not (is_zero-eq (winds (is_above (plane_of layer h) upper) (is_above (plane_of layer h) lower)
+      (wind p (segments (sides ring)))))
+      ∙ winds_some (is_above (plane_of layer h) upper) (is_above (plane_of layer h) lower)
+      (wind p (segments (sides ring)))
 
-  prism_Decides : (upper lower : ℤ) (ring : List Pt) (p : Point) → pos 0 <ℤ p.d → Decides (contains (plane_of layer h) (prism upper lower ring) p) (IsBetween (plane_of layer h) upper lower × (wind p (segments (sides ring)) ≢ pos 0))
+  prism_Decides : (upper lower : ℤ) (ring : List Pt) (p : Point) → pos 0 <ℤ p.d
+      → Decides (contains (plane_of layer h) (prism upper lower ring) p) (IsBetween (plane_of layer h) upper lower
+      × (wind p (segments (sides ring)) ≢ pos 0))
   prism_Decides upper lower ring p some =
       Decides-at _ _ (prism_contains upper lower ring p some)
-      (Decides-and _ _ (plane_between upper lower) (Decides-not (int_eq (wind p (segments (sides ring))) (pos 0)) (Decides-int_eq (wind p (segments (sides ring))) (pos 0))))
+      (Decides-and _ _ (plane_between upper lower) (Decides-not (int_eq (wind p (segments (sides ring))) (pos 0))
+      (Decides-int_eq (wind p (segments (sides ring))) (pos 0))))
 
-  rectangle_Decides : (x0 y0 x1 y1 i j : ℤ) → Decides (not (int_eq (wind (centre i j) (segments (sides (rectangle x0 y0 x1 y1)))) (pos 0))) (IsBetween (doubled Cell i) x0 x1 × IsBetween (doubled Cell j) y0 y1)
+  rectangle_Decides : (x0 y0 x1 y1 i j : ℤ)
+      → Decides (not (int_eq (wind (centre i j) (segments (sides (rectangle x0 y0 x1 y1)))) (pos 0)))
+      (IsBetween (doubled Cell i) x0 x1 × IsBetween (doubled Cell j) y0 y1)
   rectangle_Decides x0 y0 x1 y1 i j =
       Decides-at _ _
       (ap (λ w. not (int_eq w (pos 0))) (rectangle_wind x0 y0 x1 y1 (doubled Cell i) (doubled Cell j))
-      ∙ boxed_some (int_lt (doubled Cell j) (pos 2 *ℤ y0)) (int_lt (doubled Cell j) (pos 2 *ℤ y1)) (int_lt (doubled Cell i) (pos 2 *ℤ x0)) (int_lt (doubled Cell i) (pos 2 *ℤ x1)))
+      ∙ boxed_some (int_lt (doubled Cell j) (pos 2 *ℤ y0)) (int_lt (doubled Cell j) (pos 2 *ℤ y1))
+      (int_lt (doubled Cell i) (pos 2 *ℤ x0)) (int_lt (doubled Cell i) (pos 2 *ℤ x1)))
       (Decides-and _ _ (between_told i x0 x1) (between_told j y0 y1))
 
-  box_Decides : (p q : Pt3) (i j : ℤ) → Decides (contains (plane_of layer h) (box p q) (centre i j)) (IsCentreBetween p q layer h i j)
+  box_Decides : (p q : Pt3) (i j : ℤ) → Decides (contains (plane_of layer h) (box p q) (centre i j))
+      (IsCentreBetween p q layer h i j)
   box_Decides p q i j =
       let whole = Decides-at _ _ (prism_contains q.z p.z (rectangle p.x p.y q.x q.y) (centre i j) (omega (arith, ints)))
       (Decides-and _ _ (plane_between q.z p.z) (rectangle_Decides p.x p.y q.x q.y i j)) in (

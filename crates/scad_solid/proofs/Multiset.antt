@@ -51,7 +51,12 @@ module _ {X : Type 0} (E : X → X → Bool) (decides : (a b : X) → Decides (E
   same_sums [] (y ∷ ys) same f = absurd (omega (arith, same y, times_in-cons y y ys, once y))
   same_sums (x ∷ xs) ys same f =
       let there : 0 < times_in x ys = omega (arith, same x, times_in-cons x x xs, once x) in
-      let rest : (z : X) → times_in z xs ≡ times_in z (without x ys) = λ z. omega (arith, same z, times_in-cons z x xs, sum_by-without (λ y. cond (E z y) 1 0) x ys there) in
+      let rest : (z : X) → times_in z xs ≡ times_in z (without x ys) = λ z. omega (
+        arith,
+        same z,
+        times_in-cons z x xs,
+        sum_by-without (λ y. cond (E z y) 1 0) x ys there,
+      ) in
       omega (arith, sum_by-cons f x xs, sum_by-without f x ys there, same_sums xs (without x ys) rest f)
 
   -- where z stands in a list
@@ -83,14 +88,17 @@ module _ {X : Type 0} (E : X → X → Bool) (decides : (a b : X) → Decides (E
     first_least : (x : X) (xs : List X) (z : X) → IsSortedBy lt (x ∷ xs) → 0 < times_in z (x ∷ xs) → lt z x ≡ false
     first_least x xs z ascends some =
         let (i, inside, is) = place_of z (x ∷ xs) some in
-        subst (λ y. lt y x ≡ false) is (sorted_far lt (ranks_by total (λ y. y)) (x ∷ xs) ascends 0 i z (omega arith) inside)
+        subst (λ y. lt y x ≡ false) is (sorted_far lt (ranks_by total (λ y. y)) (x ∷ xs) ascends 0 i z (omega arith)
+        inside)
 
     tail_ascends : (x : X) (xs : List X) → IsSortedBy lt (x ∷ xs) → IsSortedBy lt xs
     tail_ascends x xs ascends k d low inside =
         let shifted : suc k + 1 ≡ suc (k + 1) = omega arith in
-        subst (λ n. lt (get_or (x ∷ xs) n d) (get_or xs k d) ≡ false) shifted (ascends (suc k) d (omega arith) (omega arith))
+        subst (λ n. lt (get_or (x ∷ xs) n d) (get_or xs k d) ≡ false) shifted (ascends (suc k) d (omega arith)
+        (omega arith))
 
-    pub same_ascending : (xs ys : List X) → IsSortedBy lt xs → IsSortedBy lt ys → ((z : X) → times_in z xs ≡ times_in z ys) → xs ≡ ys
+    pub same_ascending : (xs ys : List X) → IsSortedBy lt xs → IsSortedBy lt ys
+        → ((z : X) → times_in z xs ≡ times_in z ys) → xs ≡ ys
     same_ascending [] [] a b same = refl
     same_ascending [] (y ∷ ys) a b same = absurd (omega (arith, same y, times_in-cons y y ys, once y))
     same_ascending (x ∷ xs) [] a b same = absurd (omega (arith, same x, times_in-cons x x xs, once x))
@@ -98,5 +106,11 @@ module _ {X : Type 0} (E : X → X → Bool) (decides : (a b : X) → Decides (E
         let heads : x ≡ y = tied x y
         (first_least y ys x b (omega (arith, same x, times_in-cons x x xs, once x)))
         (first_least x xs y a (omega (arith, same y, times_in-cons y y ys, once y))) in
-        let rest : (z : X) → times_in z xs ≡ times_in z ys = λ z. omega (arith, same z, times_in-cons z x xs, times_in-cons z y ys, ap {B = ℕ} (λ v. cond (E z v) 1 0) heads) in
+        let rest : (z : X) → times_in z xs ≡ times_in z ys = λ z. omega (
+          arith,
+          same z,
+          times_in-cons z x xs,
+          times_in-cons z y ys,
+          ap {B = ℕ} (λ v. cond (E z v) 1 0) heads,
+        ) in
         ap₂ (λ u v. u ∷ v) heads (same_ascending xs ys (tail_ascends x xs a) (tail_ascends y ys b) rest)

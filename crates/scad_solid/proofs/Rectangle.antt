@@ -40,7 +40,8 @@ sinks : (a b y : ℤ) → int_lt y a ≡ true → int_lt y b ≡ false → (b -�
 sinks a b y high low = grind (arith, ints)
 
 module _ (c y0 y1 x y : ℤ) where
-  upright_side : side_of (doubled_edge (edge (point c y0) (point c y1))) x y ≡ (pos 2 *ℤ y1 -ℤ pos 2 *ℤ y0) *ℤ (pos 2 *ℤ c -ℤ x)
+  upright_side : side_of (doubled_edge (edge (point c y0) (point c y1))) x y ≡ (pos 2 *ℤ y1 -ℤ pos 2 *ℤ y0) *ℤ
+      (pos 2 *ℤ c -ℤ x)
   upright_side = ring (c ∷ y0 ∷ y1 ∷ x ∷ y ∷ [])
       (less (times (less C C) (less (var 4) Y0)) (times (less Y1 Y0) (less (var 3) C)))
       (times (less Y1 Y0) (less C (var 3))) refl
@@ -54,11 +55,15 @@ module _ (c y0 y1 x y : ℤ) where
       Y1 : Term
       Y1 = times (num (pos 2)) (var 2)
 
-  upright_by : (a b : Bool) → int_lt y (pos 2 *ℤ y0) ≡ a → int_lt y (pos 2 *ℤ y1) ≡ b → told a b (int_lt (pos 0) ((pos 2 *ℤ y1 -ℤ pos 2 *ℤ y0) *ℤ (pos 2 *ℤ c -ℤ x))) (int_lt ((pos 2 *ℤ y1 -ℤ pos 2 *ℤ y0) *ℤ (pos 2 *ℤ c -ℤ x)) (pos 0)) ≡ up a b (int_lt x (pos 2 *ℤ c))
+  upright_by : (a b : Bool) → int_lt y (pos 2 *ℤ y0) ≡ a → int_lt y (pos 2 *ℤ y1) ≡ b
+      → told a b (int_lt (pos 0) ((pos 2 *ℤ y1 -ℤ pos 2 *ℤ y0) *ℤ (pos 2 *ℤ c -ℤ x)))
+      (int_lt ((pos 2 *ℤ y1 -ℤ pos 2 *ℤ y0) *ℤ (pos 2 *ℤ c -ℤ x)) (pos 0)) ≡ up a b (int_lt x (pos 2 *ℤ c))
   upright_by true true ea eb = refl
   upright_by false false ea eb = refl
-  upright_by false true ea eb = ap counted (sign_up_by (pos 2 *ℤ y1 -ℤ pos 2 *ℤ y0) (pos 2 *ℤ c -ℤ x) (rises (pos 2 *ℤ y0) (pos 2 *ℤ y1) y ea eb) ∙ sym (gap_sign x (pos 2 *ℤ c)))
-  upright_by true false ea eb = ap down_when (negative_up (pos 2 *ℤ y1 -ℤ pos 2 *ℤ y0) (pos 2 *ℤ c -ℤ x) (sinks (pos 2 *ℤ y0) (pos 2 *ℤ y1) y ea eb) ∙ sym (gap_sign x (pos 2 *ℤ c))) ∙ down_is (int_lt x (pos 2 *ℤ c))
+  upright_by false true ea eb = ap counted (sign_up_by (pos 2 *ℤ y1 -ℤ pos 2 *ℤ y0) (pos 2 *ℤ c -ℤ x)
+      (rises (pos 2 *ℤ y0) (pos 2 *ℤ y1) y ea eb) ∙ sym (gap_sign x (pos 2 *ℤ c)))
+  upright_by true false ea eb = ap down_when (negative_up (pos 2 *ℤ y1 -ℤ pos 2 *ℤ y0) (pos 2 *ℤ c -ℤ x)
+      (sinks (pos 2 *ℤ y0) (pos 2 *ℤ y1) y ea eb) ∙ sym (gap_sign x (pos 2 *ℤ c))) ∙ down_is (int_lt x (pos 2 *ℤ c))
     where
       down_when : Bool → ℤ
       down_when b = told true false b b
@@ -67,9 +72,11 @@ module _ (c y0 y1 x y : ℤ) where
       down_is true = refl
       down_is false = refl
 
-  upright : crossing (doubled_edge (edge (point c y0) (point c y1))) x y ≡ up (int_lt y (pos 2 *ℤ y0)) (int_lt y (pos 2 *ℤ y1)) (int_lt x (pos 2 *ℤ c))
+  upright : crossing (doubled_edge (edge (point c y0) (point c y1))) x y ≡ up (int_lt y (pos 2 *ℤ y0))
+      (int_lt y (pos 2 *ℤ y1)) (int_lt x (pos 2 *ℤ c))
   upright = crossing-told (doubled_edge (edge (point c y0) (point c y1))) x y
-      ∙ ap (λ s. told (int_lt y (pos 2 *ℤ y0)) (int_lt y (pos 2 *ℤ y1)) (int_lt (pos 0) s) (int_lt s (pos 0))) upright_side
+      ∙ ap (λ s. told (int_lt y (pos 2 *ℤ y0)) (int_lt y (pos 2 *ℤ y1)) (int_lt (pos 0) s) (int_lt s (pos 0)))
+      upright_side
       ∙ upright_by (int_lt y (pos 2 *ℤ y0)) (int_lt y (pos 2 *ℤ y1)) refl refl
 
 flat_by : (a l r : Bool) → told a a l r ≡ pos 0
@@ -83,6 +90,16 @@ flat a b h x y = crossing-told (doubled_edge (edge (point a h) (point b h))) x y
 abbrev pub boxed : Bool → Bool → Bool → Bool → ℤ
 boxed a0 a1 r0 r1 = up a0 a1 r1 +ℤ up a1 a0 r0
 
-pub rectangle_wind : (x0 y0 x1 y1 x y : ℤ) → wind (halves x y) (segments (sides (rectangle x0 y0 x1 y1))) ≡ boxed (int_lt y (pos 2 *ℤ y0)) (int_lt y (pos 2 *ℤ y1)) (int_lt x (pos 2 *ℤ x0)) (int_lt x (pos 2 *ℤ x1))
+pub rectangle_wind : (x0 y0 x1 y1 x y : ℤ) → wind (halves x y) (segments (sides (rectangle x0 y0 x1 y1)))
+    ≡ boxed (int_lt y (pos 2 *ℤ y0)) (int_lt y (pos 2 *ℤ y1)) (int_lt x (pos 2 *ℤ x0)) (int_lt x (pos 2 *ℤ x1))
 rectangle_wind x0 y0 x1 y1 x y =
-    omega (arith, ints, wind_halves (sides (rectangle x0 y0 x1 y1)) x y, flat x0 x1 y0 x y, upright x1 y0 y1 x y, flat x1 x0 y1 x y, upright x0 y1 y0 x y)
+    omega (
+      arith,
+      ints,
+      wind_halves (sides (rectangle x0 y0 x1 y1)) x y,
+      flat x0 x1 y0 x y,
+      upright x1 y0 y1 x y,
+      flat
+          x1 x0 y1 x y,
+      upright x0 y1 y0 x y,
+    )

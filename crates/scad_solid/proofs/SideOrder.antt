@@ -20,7 +20,8 @@ abbrev pub side_cmp : Side → Side → Ordering
 side_cmp s t = ordering_then (point_cmp s.from t.from) (point_cmp s.to t.to)
 
 point_total : IsTotalOrder point_cmp
-point_total = then_total (on_total (λ (p : Pt3). p.x) int_cmp_total) (then_total (on_total (λ (p : Pt3). p.y) int_cmp_total) (on_total (λ (p : Pt3). p.z) int_cmp_total))
+point_total = then_total (on_total (λ (p : Pt3). p.x) int_cmp_total)
+    (then_total (on_total (λ (p : Pt3). p.y) int_cmp_total) (on_total (λ (p : Pt3). p.z) int_cmp_total))
 
 pub side_total : IsTotalOrder side_cmp
 side_total = then_total (on_total (λ (s : Side). s.from) point_total) (on_total (λ (s : Side). s.to) point_total)
@@ -54,7 +55,8 @@ point_Decides p q = (there, back)
         λ i. record { x = ex i; y = ey i; z = ez i }
 
     back : p ≡ q → same_point p q ≡ true
-    back e = ap (same_point p) (sym e) ∙ ap₂ (λ a b. a && b) ((signed_Decides p.x p.x).1 refl) (ap₂ (λ a b. a && b) ((signed_Decides p.y p.y).1 refl) ((signed_Decides p.z p.z).1 refl))
+    back e = ap (same_point p) (sym e) ∙ ap₂ (λ a b. a && b) ((signed_Decides p.x p.x).1 refl)
+        (ap₂ (λ a b. a && b) ((signed_Decides p.y p.y).1 refl) ((signed_Decides p.z p.z).1 refl))
 
 pub side_Decides : (s t : Side) → Decides (same_side s t) (s ≡ t)
 side_Decides s t = (there, back)
@@ -67,4 +69,5 @@ side_Decides s t = (there, back)
         λ i. record { from = from i; to = to i }
 
     back : s ≡ t → same_side s t ≡ true
-    back e = ap (same_side s) (sym e) ∙ ap₂ (λ a b. a && b) ((point_Decides s.from s.from).1 refl) ((point_Decides s.to s.to).1 refl)
+    back e = ap (same_side s) (sym e) ∙ ap₂ (λ a b. a && b) ((point_Decides s.from s.from).1 refl)
+        ((point_Decides s.to s.to).1 refl)

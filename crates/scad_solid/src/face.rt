@@ -16,18 +16,21 @@ impl Model for Face {
 }
 
 impl Face {
+    /// The face of the indices, without taking memory.
     pub fn from_vec(indices: Vec<u32>) -> Self
         ensures { result ≡ indices.items }
     {
         Face { indices }
     }
 
+    /// The indices, without taking memory.
     pub fn into_vec(self) -> Vec<u32>
         ensures { result.items ≡ self }
     {
         self.indices
     }
 
+    /// The indices.
     pub fn as_slice(&self) -> &[u32]
         ensures { result.now ≡ self.now }
     {

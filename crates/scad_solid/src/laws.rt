@@ -20,15 +20,3 @@ pub fn boxes_hold()
 pub fn nothing_above()
     ensures { NothingAbove }
 {}
-
-#[cfg(test)]
-mod tests {
-    use super::*;
-
-    #[test]
-    fn laws_are_called() {
-        prisms_hold();
-        boxes_hold();
-        nothing_above();
-    }
-}

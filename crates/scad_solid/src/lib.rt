@@ -14,8 +14,6 @@ mod range;
 mod ring;
 mod side;
 mod stacking;
-#[cfg(test)]
-mod tests;
 mod triangle;
 mod triangles;
 mod wrapping;

@@ -18,18 +18,21 @@ impl Model for Ring {
 }
 
 impl Ring {
+    /// The ring of the points, without taking memory.
     pub fn from_vec(points: Vec<Pt3>) -> Self
         ensures { result ≡ points.items }
     {
         Ring { points }
     }
 
+    /// The points, without taking memory.
     pub fn into_vec(self) -> Vec<Pt3>
         ensures { result.items ≡ self }
     {
         self.points
     }
 
+    /// The points.
     pub fn as_slice(&self) -> &[Pt3]
         ensures { result.now ≡ self.now }
     {

@@ -14,21 +14,28 @@ less Equal e = cc
 less Greater e = cc
 
 -- the two parts of the test at a first row
-first_below : (name : List ℕ) (row : Row) (rest : List Row) → ascends_from name (entries (row ∷ rest)) ≡ true → slice_cmp nat_cmp name row.name.now ≡ Less
-first_below name row rest up = less _ (first_so (is_lt (slice_cmp nat_cmp name row.name.now)) (ascends_from row.name.now (entries rest)) up)
+first_below : (name : List ℕ) (row : Row) (rest : List Row) → ascends_from name (entries (row ∷ rest)) ≡ true
+    → slice_cmp nat_cmp name row.name.now ≡ Less
+first_below name row rest up = less _ (first_so (is_lt (slice_cmp nat_cmp name row.name.now))
+    (ascends_from row.name.now (entries rest)) up)
 
-rest_ascends : (name : List ℕ) (row : Row) (rest : List Row) → ascends_from name (entries (row ∷ rest)) ≡ true → ascends_from row.name.now (entries rest) ≡ true
-rest_ascends name row rest up = second_so (is_lt (slice_cmp nat_cmp name row.name.now)) (ascends_from row.name.now (entries rest)) up
+rest_ascends : (name : List ℕ) (row : Row) (rest : List Row) → ascends_from name (entries (row ∷ rest)) ≡ true
+    → ascends_from row.name.now (entries rest) ≡ true
+rest_ascends name row rest up = second_so (is_lt (slice_cmp nat_cmp name row.name.now))
+    (ascends_from row.name.now (entries rest)) up
 
 -- a name below a table that ascends is below each of its names
-below_all : (name : List ℕ) (rows : List Row) → ascends_from name (entries rows) ≡ true → (i : ℕ) (d : Row) → i < length rows → slice_cmp nat_cmp name (get_or rows i d).name.now ≡ Less
+below_all : (name : List ℕ) (rows : List Row) → ascends_from name (entries rows) ≡ true → (i : ℕ) (d : Row)
+    → i < length rows → slice_cmp nat_cmp name (get_or rows i d).name.now ≡ Less
 below_all name [] up i d lt = absurd (omega arith)
 below_all name (row ∷ rest) up zero d lt = first_below name row rest up
 below_all name (row ∷ rest) up (suc i) d lt =
-    nat_list_cmp_total.trans name row.name.now _ (first_below name row rest up) (below_all row.name.now rest (rest_ascends name row rest up) i d (omega arith))
+    nat_list_cmp_total.trans name row.name.now _ (first_below name row rest up)
+    (below_all row.name.now rest (rest_ascends name row rest up) i d (omega arith))
 
 -- a table that ascends from a name ascends
-ascends-from : (name : List ℕ) (rows : List Row) → ascends_from name (entries rows) ≡ true → ascends (entries rows) ≡ true
+ascends-from : (name : List ℕ) (rows : List Row) → ascends_from name (entries rows) ≡ true → ascends (entries rows)
+    ≡ true
 ascends-from name [] up = refl
 ascends-from name (row ∷ rest) up = rest_ascends name row rest up
 

@@ -1,2 +1,3 @@
 pub mod Ascending
 mod LookUp
+pub mod Meanings

@@ -1,3 +1,4 @@
+//! Rows of names and ids, found by binary search.
 ghost use Rattle.std.specs.Prelude.{◌≡◌, ◌≢◌, ◌↔◌, IsTrue, IsNone, All};
 ghost use Rattle.std.specs.Ordering.{nat_cmp};
 ghost use Rattle.std.specs.Cmp.Lexicographic.{slice_cmp};
@@ -33,6 +34,3 @@ pub fn find(rows: &[Row], name: &[u8]) -> Option<u16>
         Err(_) => None,
     }
 }
-
-#[cfg(test)]
-mod tests;

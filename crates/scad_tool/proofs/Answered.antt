@@ -1,5 +1,5 @@
 -- That the answer is one, and what a run that was answered gives.
-use Rattle.std.proofs.Common.{◌≡◌, List, [], ◌∷◌, ℕ, Option, Some, None, Result, Ok, Err, inl, inr, refl, sym, ap, ◌∙◌, subst}
+use Rattle.std.proofs.Common.{◌≡◌, List, [], ℕ, Option, Some, None, Ok, refl, sym, ap, subst}
 use Rattle.scad_fault.specs.declared.status.Status.{Status}
 use Rattle.scad_fault.specs.declared.status.Status.TheVariants.{Done, Source, Usage, Settings, Read, Write, Over, Memory}
 use Rattle.scad_io.specs.Desk.{Files, View}
@@ -11,15 +11,11 @@ use Rattle.scad_words.specs.Settings.{AreInRange}
 use Rattle.scad_words.specs.Job.{job_of}
 use Rattle.scad_script.specs.declared.loading.Input.{Input}
 use Rattle.scad_script.specs.declared.loading.Input.TheVariants.{Whole, Long}
-use Rattle.scad_script.specs.declared.stop.Stop.{Stop}
-use Rattle.scad_script.specs.Script.{Script}
-use Rattle.scad_script.specs.Run.{Reports}
 use Rattle.scad_script.specs.Promises.{IsAnswered, Promised}
 use Rattle.scad_expr.specs.State.{State, Outcome, gives, refuses}
 use Rattle.scad_tree.specs.Solid.{Solid}
 use Rattle.scad_tree.specs.Solids.{AreSolids}
 use Rattle.slice_work.specs.declared.want.Want.TheVariants.{Outlines as IsOutlines, Plan as IsPlan}
-use Rattle.slice_work.specs.Part.{Part}
 use Rattle.scad_slice.specs.Script.{slice_script, plan_script}
 use Rattle.scad_slice.proofs.SomeParts.{parts_are_there}
 use Rattle.scad_slice.proofs.OneLayer.{parts_are_one}
@@ -28,10 +24,10 @@ use Rattle.scad_tool.specs.Meaning.{source_means}
 use Rattle.scad_tool.specs.Told.{sample_script, echoed, told}
 use Rattle.scad_tool.specs.Answer.{Parts, Inputs, follows, input_script, model_read_first, model_script, source_of, job_script, script_of}
 use Rattle.scad_tool.specs.Answer.{IsRead, ArePartsOfTree, ArePartsOf, AreDrawn, source_in, AreParts}
-use Rattle.scad_tool.specs.Playing.{OnJudged, MeansSolids, InputMeansSolids, JobMeansSolids, Works}
 use Rattle.scad_tool.specs.Promises.{IsAnswered as IsWholeAnswer, Answers}
 use Rattle.scad_tool.specs.Laws.{AnswersAreThere, AnswersAreOne}
 use Rattle.scad_tool.proofs.Following.{settings_one}
+use Rattle.scad_tool.proofs.Sources.{sources_mean_solids, as_part}
 use Rattle.scad_tool.proofs.Heights.{found_in_range}
 
 -- There are parts.
@@ -39,66 +35,80 @@ use Rattle.scad_tool.proofs.Heights.{found_in_range}
 no_parts : Parts
 no_parts want settings i = Ok (record { outlines = []; paths = [] })
 
-parts_of : (meaning : Outcome Solid) → (parts : Parts) × ArePartsOf meaning parts
-parts_of (gives tree s) =
-    (λ want settings. (parts_are_there want settings tree).0, λ want settings. (parts_are_there want settings tree).1)
-parts_of (refuses fault s) = (no_parts, tt)
+parts_of : (meaning : Outcome Solid) → ((tree : Solid) (s : State) → meaning ≡ gives tree s → AreSolids tree)
+    → (parts : Parts) × ArePartsOf meaning parts
+parts_of (gives tree s) solids = (
+  λ want settings. (parts_are_there want settings tree).0,
+  λ want settings in_range i. (parts_are_there want settings tree).1 (solids tree s refl) in_range i,
+)
+parts_of (refuses fault s) solids = (no_parts, tt)
 
 pub answers_are_there : AnswersAreThere
-answers_are_there (Some (Whole source)) = parts_of (source_means source)
+answers_are_there (Some (Whole source)) = parts_of (source_means source) (sources_mean_solids source)
 answers_are_there (Some Long) = (no_parts, tt)
 answers_are_there None = (no_parts, tt)
 
 -- There is one script.
 
-follows_one : (command : Command) (settings : SettingsOfRun) (tree : Solid) (a b : Parts) → AreInRange settings → AreSolids tree
+follows_one : (command : Command) (settings : SettingsOfRun) (tree : Solid) (a b : Parts) → AreInRange settings
+    → AreSolids tree
     → ArePartsOfTree tree a → ArePartsOfTree tree b → follows command settings a tree ≡ follows command settings b tree
 follows_one (Check model) settings tree a b in_range solids of_a of_b = refl
 follows_one (Tree model) settings tree a b in_range solids of_a of_b = refl
 follows_one (Slice model cli) settings tree a b in_range solids of_a of_b =
     ap (λ part. slice_script settings cli part tree)
-    (parts_are_one IsOutlines settings tree _ _ solids in_range (of_a IsOutlines settings) (of_b IsOutlines settings))
+    (parts_are_one IsOutlines settings tree _ _ solids in_range (as_part tree a of_a IsOutlines settings)
+    (as_part tree b of_b IsOutlines settings))
 follows_one (Plan model cli gcode) settings tree a b in_range solids of_a of_b =
     ap (λ part. plan_script settings cli gcode part tree)
-    (parts_are_one IsPlan settings tree _ _ solids in_range (of_a IsPlan settings) (of_b IsPlan settings))
+    (parts_are_one IsPlan settings tree _ _ solids in_range (as_part tree a of_a IsPlan settings)
+    (as_part tree b of_b IsPlan settings))
 follows_one (Sample n) settings tree a b in_range solids of_a of_b =
     ap (λ part. sample_script n settings part tree)
-    (parts_are_one IsPlan settings tree _ _ solids in_range (of_a IsPlan settings) (of_b IsPlan settings))
+    (parts_are_one IsPlan settings tree _ _ solids in_range (as_part tree a of_a IsPlan settings)
+    (as_part tree b of_b IsPlan settings))
 
-source_one : (command : Command) (settings : SettingsOfRun) (meaning : Outcome Solid) (a b : Parts) → AreInRange settings
-    → ((tree : Solid) (s : State) → meaning ≡ gives tree s → AreSolids tree) → ArePartsOf meaning a → ArePartsOf meaning b
+source_one : (command : Command) (settings : SettingsOfRun) (meaning : Outcome Solid) (a b : Parts)
+    → AreInRange settings
+    → ((tree : Solid) (s : State) → meaning ≡ gives tree s → AreSolids tree) → ArePartsOf meaning a
+    → ArePartsOf meaning b
     → told (follows command settings a) meaning ≡ told (follows command settings b) meaning
 source_one command settings (gives tree s) a b in_range solids of_a of_b =
     ap (λ rest. echoed s.echoes rest) (follows_one command settings tree a b in_range (solids tree s refl) of_a of_b)
 source_one command settings (refuses fault s) a b in_range solids of_a of_b = refl
 
 input_one : (command : Command) (settings : SettingsOfRun) (input : Option Input) (a b : Parts) → AreInRange settings
-    → InputMeansSolids input → AreDrawn input a → AreDrawn input b → input_script command settings a input ≡ input_script command settings b input
-input_one command settings None a b in_range solids of_a of_b = refl
-input_one command settings (Some Long) a b in_range solids of_a of_b = refl
-input_one command settings (Some (Whole source)) a b in_range solids of_a of_b =
-    source_one command settings (source_means source) a b in_range solids of_a of_b
+    → AreDrawn input a → AreDrawn input b → input_script command settings a input ≡ input_script command settings b
+    input
+input_one command settings None a b in_range of_a of_b = refl
+input_one command settings (Some Long) a b in_range of_a of_b = refl
+input_one command settings (Some (Whole source)) a b in_range of_a of_b =
+    source_one command settings (source_means source) a b in_range (sources_mean_solids source) of_a of_b
 
-job_one : (job : Option Job) (inputs : Inputs) (a b : Parts) → JobMeansSolids job inputs → AreDrawn (source_in job inputs) a
+job_one : (job : Option Job) (inputs : Inputs) (a b : Parts) → AreDrawn (source_in job inputs) a
     → AreDrawn (source_in job inputs) b → job_script job a inputs ≡ job_script job b inputs
-job_one None inputs a b solids of_a of_b = refl
-job_one (Some job) inputs a b solids of_a of_b =
-    settings_one job.settings inputs.settings (model_script job.command a inputs.model) (model_script job.command b inputs.model)
+job_one None inputs a b of_a of_b = refl
+job_one (Some job) inputs a b of_a of_b =
+    settings_one job.settings inputs.settings (model_script job.command a inputs.model)
+    (model_script job.command b inputs.model)
     (λ settings found. ap (λ s. model_read_first (model_of job.command) s)
-    (input_one job.command settings (source_of job.command inputs.model) a b (found_in_range job.settings inputs.settings settings found)
-    (solids settings found) of_a of_b))
+    (input_one job.command settings (source_of job.command inputs.model) a b
+    (found_in_range job.settings inputs.settings settings found)
+    of_a of_b))
 
 pub answers_are_one : AnswersAreOne
-answers_are_one words inputs a b solids of_a of_b = job_one (job_of words) inputs a b solids of_a of_b
+answers_are_one words inputs a b of_a of_b = job_one (job_of words) inputs a b of_a of_b
 
 -- The answer of a run, with all parts.
 
 -- what each status promises, with all parts
 abbrev pub PromisedOn : List (List ℕ) → Inputs → Status → View → View → Type 0
 PromisedOn words inputs status old new =
-    (parts : Parts) → AreParts words inputs parts → Promised (given_by words) (script_of words parts inputs) status old new
+    (parts : Parts) → AreParts words inputs parts → Promised (given_by words) (script_of words parts inputs) status old
+    new
 
-told_answer : (words : List (List ℕ)) (files : Files) (inputs : Inputs) (status : Status) (old new : View) → IsRead words files inputs
+told_answer : (words : List (List ℕ)) (files : Files) (inputs : Inputs) (status : Status) (old new : View)
+    → IsRead words files inputs
     → ((parts : Parts) → AreParts words inputs parts → IsAnswered (script_of words parts inputs) status old new)
     → IsWholeAnswer words files status old new
 told_answer words None inputs status old new is answered = tt
@@ -107,39 +117,16 @@ told_answer words (Some contents) inputs status old new is answered =
     subst (λ (i : Inputs). IsAnswered (script_of words parts i) status old new) is
     (answered parts (subst (λ (i : Inputs). AreParts words i parts) (sym is) drawn))
 
-pub answers : (words : List (List ℕ)) (files : Files) (inputs : Inputs) (status : Status) (old new : View) → IsRead words files inputs → PromisedOn words inputs status old new → Answers words files status old new
+pub answers : (words : List (List ℕ)) (files : Files) (inputs : Inputs) (status : Status) (old new : View)
+    → IsRead words files inputs → PromisedOn words inputs status old new → Answers words files status old new
 answers words files inputs Done old new is promised = told_answer words files inputs Done old new is promised
-answers words files inputs (Source fault) old new is promised = told_answer words files inputs (Source fault) old new is promised
+answers words files inputs (Source fault) old new is promised = told_answer words files inputs (Source fault) old new is
+    promised
 answers words files inputs Usage old new is promised = told_answer words files inputs Usage old new is promised
-answers words files inputs (Settings fault) old new is promised = told_answer words files inputs (Settings fault) old new is promised
+answers words files inputs (Settings fault) old new is promised = told_answer words files inputs (Settings fault) old
+    new is promised
 answers words files inputs Read old new is promised = tt
 answers words files inputs Write old new is promised = tt
-answers words files inputs (Over budget) old new is promised = told_answer words files inputs (Over budget) old new is promised
+answers words files inputs (Over budget) old new is promised = told_answer words files inputs (Over budget) old new is
+    promised
 answers words files inputs Memory old new is promised = tt
-
--- What is known of a script that was played to its end or to its refusal.
-
--- a status that isn't that of a fault or of want of memory
-abbrev pub IsJudgement : Status → Type 0
-IsJudgement Read = ⊥
-IsJudgement Write = ⊥
-IsJudgement Memory = ⊥
-IsJudgement status = Unit {0}
-
-judged_known : (ended : Result (List ℕ) Stop) (status : Status) (P : Type 0) (mid new : View) → IsJudgement status → Reports ended status mid new
-    → OnJudged ended P → P
-judged_known (Ok line) status P mid new judges reports known = known
-judged_known (Err (Stop.Ends refusal)) status P mid new judges reports known = known
-judged_known (Err Stop.Read) status P mid new judges (inl told) known = absurd (subst IsJudgement told.0 judges)
-judged_known (Err Stop.Read) status P mid new judges (inr told) known = absurd (subst IsJudgement told.0 judges)
-judged_known (Err Stop.Write) status P mid new judges (inl told) known = absurd (subst IsJudgement told.0 judges)
-judged_known (Err Stop.Write) status P mid new judges (inr told) known = absurd (subst IsJudgement told.0 judges)
-judged_known (Err Stop.Silent) status P mid new judges told known = absurd (subst IsJudgement told.0 judges)
-judged_known (Err Stop.Memory) status P mid new judges (inl told) known = absurd (subst IsJudgement told.0 judges)
-judged_known (Err Stop.Memory) status P mid new judges (inr told) known = absurd (subst IsJudgement told.0 judges)
-
--- with such a status the tree of the source is of solids
-pub known_solids : (words : List (List ℕ)) (files : Files) (ended : Result (List ℕ) Stop) (status : Status) (old mid new : View)
-    → (w : Works words files ended old mid) → Reports ended status mid new → IsJudgement status → JobMeansSolids (job_of words) w.inputs
-known_solids words files ended status old mid new w reports judges =
-    judged_known ended status (JobMeansSolids (job_of words) w.inputs) mid new judges reports w.solids

@@ -1,5 +1,5 @@
 -- How a script ends that was answered by a status.
-use Rattle.std.proofs.Common.{◌≡◌, ◌≢◌, List, ℕ, Option, Some, refl, sym}
+use Rattle.std.proofs.Common.{◌≡◌, ◌≢◌, List, ℕ, refl, sym}
 use Rattle.scad_fault.specs.declared.status.Status.{Status}
 use Rattle.scad_fault.specs.declared.status.Status.TheVariants.{Done}
 use Rattle.scad_io.specs.Desk.{View}
@@ -9,7 +9,8 @@ use Rattle.scad_script.specs.Script.{Ending, Finishes, Refuses, Lacks, refused}
 use Rattle.scad_script.specs.Promises.{IsAnswered}
 
 -- with Done it finishes
-pub done_finishes : (steps : List Step) (ending : Ending) (old new : View) → IsAnswered (record { steps = steps; ending = ending }) Done old new
+pub done_finishes : (steps : List Step) (ending : Ending) (old new : View)
+    → IsAnswered (record { steps = steps; ending = ending }) Done old new
     → (line : List ℕ) × (ending ≡ Finishes line)
 done_finishes steps (Finishes line) old new answered = (line, refl)
 done_finishes steps (Refuses (Refusal.Source fault)) old new answered = let same = answered.0 in let never : ⊥ = cc in absurd never

@@ -1,6 +1,5 @@
 -- Every refusal has its named cause.
-use Rattle.std.proofs.Common.{◌≡◌, ◌≢◌, ◌⊎◌, ◌<◌, ◌≤◌, List, ℕ, Option, Some, None, Ok, Err, inl, inr, refl, sym, ap, ◌∙◌, subst}
-use Rattle.std.specs.Prelude.{unwrap_or}
+use Rattle.std.proofs.Common.{◌≡◌, ◌≢◌, ◌⊎◌, ◌<◌, List, ℕ, Option, Some, None, inl, inr, refl, sym, ap, ◌∙◌, subst}
 use Rattle.scad_fault.specs.declared.budget.Budget.{Budget}
 use Rattle.scad_fault.specs.declared.status.Status.{Status}
 use Rattle.scad_fault.specs.declared.status.Status.TheVariants.{Done, Source, Usage, Settings, Read, Write, Over, Memory}
@@ -15,24 +14,21 @@ use Rattle.scad_script.specs.declared.loading.Input.{Input}
 use Rattle.scad_script.specs.declared.refusal.Refusal.{Refusal}
 use Rattle.scad_script.specs.Steps.{Step}
 use Rattle.scad_script.specs.Script.{Script, Ending, Finishes, Refuses, refused}
-use Rattle.scad_script.specs.Names.{Given}
-use Rattle.scad_script.specs.Promises.{IsAnswered, IsWriteFault, HasFailed, Promised}
+use Rattle.scad_script.specs.Promises.{IsAnswered, Promised}
 use Rattle.scad_tree.specs.Solid.{Solid}
 use Rattle.scad_tree.specs.Solids.{AreSolids}
 use Rattle.slice_work.specs.declared.want.Want.{Want}
 use Rattle.slice_work.specs.declared.want.Want.TheVariants.{Outlines as IsOutlines, Plan as IsPlan}
-use Rattle.slice_work.specs.Part.{Part, layer_limit}
+use Rattle.slice_work.specs.Part.{Part}
 use Rattle.scad_slice.specs.Budgets.{layer_count}
 use Rattle.scad_slice.specs.Parts.{IsLayer, IsPart}
 use Rattle.scad_tool.specs.Words.{given_by}
-use Rattle.scad_tool.specs.Answer.{Parts, Inputs, follows, source_in, job_script, script_of, IsRead, ArePartsOfTree, AreDrawn, AreParts, settings_found}
-use Rattle.scad_tool.specs.Playing.{InputMeansSolids, JobMeansSolids}
-use Rattle.scad_tool.specs.Causes.{HasManyLayers, PassesAtLayer, PassesDrawing, DrawingPasses, IsTooMuch, IsCause, HasCause}
+use Rattle.scad_tool.specs.Answer.{Parts, Inputs, follows, source_in, job_script, script_of, IsRead, ArePartsOfTree, AreDrawn, AreParts}
+use Rattle.scad_tool.specs.Causes.{HasManyLayers, PassesAtLayer, PassesDrawing, IsCause, HasCause}
 use Rattle.scad_tool.proofs.Working.{parts_meant}
+use Rattle.scad_tool.proofs.Sources.{sources_mean_solids, as_part}
 use Rattle.scad_tool.proofs.Heights.{found_in_range}
-use Rattle.scad_tool.proofs.Answered.{IsJudgement}
 use Rattle.scad_tool.proofs.Answering.{other_refuses}
-use Rattle.scad_tool.proofs.Judged.{judges}
 use Rattle.scad_tool.proofs.Reached.{EndsBefore, IsStopped, IsFollowed, reached}
 use Rattle.scad_tool.proofs.Ends.{PartPasses, IsDone, IsDrawnOver, IsOver, EndsBy, part_passes, follows_end}
 
@@ -43,6 +39,7 @@ module _ (settings : SettingsOfRun) (tree : Solid) (in_range : AreInRange settin
       → PartPasses part (layer_count settings.layer_height tree) budget → PassesAtLayer want settings tree budget
   layer_passes want part budget is_part p =
       record {
+        few = p.few;
         layer = p.layer;
         there = p.there;
         below = λ i less.
@@ -51,27 +48,32 @@ module _ (settings : SettingsOfRun) (tree : Solid) (in_range : AreInRange settin
         passes = subst (IsLayer want settings tree p.layer) p.passes (is_part solids in_range p.layer);
       }
 
-  drawn_passes : (want : Want) (creates : List Step) (line : List ℕ) (part : Part) (budget : Budget) → IsPart want settings tree part
-      → IsDrawnOver want settings creates line part tree budget → HasManyLayers settings tree budget ⊎ PassesAtLayer want settings tree budget
+  drawn_passes : (want : Want) (creates : List Step) (line : List ℕ) (part : Part) (budget : Budget)
+      → IsPart want settings tree part
+      → IsDrawnOver want settings creates line part tree budget → HasManyLayers settings tree budget ⊎ PassesAtLayer
+      want settings tree budget
   drawn_passes want creates line part budget is_part (inl many) = inl many
   drawn_passes want creates line part budget is_part (inr cuts) =
       inr (layer_passes want part budget is_part (part_passes want settings creates line part tree budget cuts))
 
-  passes_drawing : (command : Command) (parts : Parts) (budget : Budget) → ArePartsOfTree tree parts → IsOver command settings parts tree budget
+  passes_drawing : (command : Command) (parts : Parts) (budget : Budget) → ArePartsOfTree tree parts
+      → IsOver command settings parts tree budget
       → PassesDrawing command settings tree budget
   passes_drawing (Check model) parts budget of_tree over = over
   passes_drawing (Tree model) parts budget of_tree over = over
   passes_drawing (Slice model cli) parts budget of_tree over =
-      drawn_passes IsOutlines _ _ (parts IsOutlines settings) budget (of_tree IsOutlines settings) over
+      drawn_passes IsOutlines _ _ (parts IsOutlines settings) budget (as_part tree parts of_tree IsOutlines settings)
+      over
   passes_drawing (Plan model cli gcode) parts budget of_tree over =
-      drawn_passes IsPlan _ _ (parts IsPlan settings) budget (of_tree IsPlan settings) over
+      drawn_passes IsPlan _ _ (parts IsPlan settings) budget (as_part tree parts of_tree IsPlan settings) over
   passes_drawing (Sample n) parts budget of_tree over =
-      drawn_passes IsPlan _ _ (parts IsPlan settings) budget (of_tree IsPlan settings) over
+      drawn_passes IsPlan _ _ (parts IsPlan settings) budget (as_part tree parts of_tree IsPlan settings) over
 
 -- ---- the cause of a refusal
 
 -- before the tree
-cause_before : (job : Job) (inputs : Inputs) (refusal : Refusal) → EndsBefore job inputs (Refuses refusal) → IsCause (Some job) inputs (refused refusal)
+cause_before : (job : Job) (inputs : Inputs) (refusal : Refusal) → EndsBefore job inputs (Refuses refusal)
+    → IsCause (Some job) inputs (refused refusal)
 cause_before job inputs (Refusal.Source fault) why = (job, refl, why)
 cause_before job inputs Refusal.Usage why = absurd why
 cause_before job inputs (Refusal.Settings fault) why = (job, refl, why)
@@ -79,16 +81,18 @@ cause_before job inputs (Refusal.Over budget) (inl long) = (job, refl, inl long)
 cause_before job inputs (Refusal.Over budget) (inr passes) = (job, refl, inr (inl passes))
 
 -- by what follows the tree
-cause_behind : (job : Job) (inputs : Inputs) (parts : Parts) (whole : Script) (refusal : Refusal) → (f : IsFollowed job inputs parts whole)
-    → JobMeansSolids (Some job) inputs → AreDrawn (source_in (Some job) inputs) parts
-    → EndsBy (IsDone job.command f.settings parts f.tree) (IsOver job.command f.settings parts f.tree) (follows job.command f.settings parts f.tree).ending
+cause_behind : (job : Job) (inputs : Inputs) (parts : Parts) (whole : Script) (refusal : Refusal)
+    → (f : IsFollowed job inputs parts whole)
+    → AreDrawn (source_in (Some job) inputs) parts
+    → EndsBy (IsDone job.command f.settings parts f.tree) (IsOver job.command f.settings parts f.tree)
+    (follows job.command f.settings parts f.tree).ending
     → whole.ending ≡ Refuses refusal → IsCause (Some job) inputs (refused refusal)
-cause_behind job inputs parts whole refusal f solids drawn (inl (line, is, done)) same =
+cause_behind job inputs parts whole refusal f drawn (inl (line, is, done)) same =
     let other : Finishes line ≡ Refuses refusal = sym is ∙ sym f.ending ∙ same in let never : ⊥ = cc in absurd never
-cause_behind job inputs parts whole refusal f solids drawn (inr (budget, is, over)) same =
+cause_behind job inputs parts whole refusal f drawn (inr (budget, is, over)) same =
     let of_source = subst (λ (i : Option Input). AreDrawn i parts) f.there drawn in
     let of_tree = parts_meant f.source f.tree parts (f.state, f.means) of_source in
-    let are_solids = subst InputMeansSolids f.there (solids f.settings f.found) f.tree f.state f.means in
+    let are_solids = sources_mean_solids f.source f.tree f.state f.means in
     let in_range = found_in_range job.settings inputs.settings f.settings f.found in
     let one : refusal ≡ Refusal.Over budget = ap (refusal_in (Refusal.Over budget)) (sym same ∙ f.ending ∙ is) in
     subst (λ (r : Refusal). IsCause (Some job) inputs (refused r)) (sym one) (
@@ -109,51 +113,58 @@ cause_behind job inputs parts whole refusal f solids drawn (inr (budget, is, ove
     refusal_in other (Refuses r) = r
     refusal_in other ending = other
 
-job_cause : (job : Job) (inputs : Inputs) (parts : Parts) (whole : Script) (refusal : Refusal) → IsStopped job inputs whole ⊎ IsFollowed job inputs parts whole
-    → JobMeansSolids (Some job) inputs → AreDrawn (source_in (Some job) inputs) parts → whole.ending ≡ Refuses refusal
+job_cause : (job : Job) (inputs : Inputs) (parts : Parts) (whole : Script) (refusal : Refusal)
+    → IsStopped job inputs whole ⊎ IsFollowed job inputs parts whole
+    → AreDrawn (source_in (Some job) inputs) parts → whole.ending ≡ Refuses refusal
     → IsCause (Some job) inputs (refused refusal)
-job_cause job inputs parts whole refusal (inl stopped) solids drawn same =
+job_cause job inputs parts whole refusal (inl stopped) drawn same =
     cause_before job inputs refusal (subst (EndsBefore job inputs) same stopped.why)
-job_cause job inputs parts whole refusal (inr f) solids drawn same =
-    cause_behind job inputs parts whole refusal f solids drawn (follows_end job.command f.settings parts f.tree) same
+job_cause job inputs parts whole refusal (inr f) drawn same =
+    cause_behind job inputs parts whole refusal f drawn (follows_end job.command f.settings parts f.tree) same
 
 -- of words that are of no form the refusal is their usage
-usage_cause : (inputs : Inputs) (refusal : Refusal) → Refuses Refusal.Usage ≡ Refuses refusal → IsCause None inputs (refused refusal)
+usage_cause : (inputs : Inputs) (refusal : Refusal) → Refuses Refusal.Usage ≡ Refuses refusal
+    → IsCause None inputs (refused refusal)
 usage_cause inputs (Refusal.Source fault) same = let never : ⊥ = cc in absurd never
 usage_cause inputs Refusal.Usage same = refl
 usage_cause inputs (Refusal.Settings fault) same = let never : ⊥ = cc in absurd never
 usage_cause inputs (Refusal.Over budget) same = let never : ⊥ = cc in absurd never
 
-cause_of : (job : Option Job) (inputs : Inputs) (parts : Parts) (refusal : Refusal) → JobMeansSolids job inputs → AreDrawn (source_in job inputs) parts
+cause_of : (job : Option Job) (inputs : Inputs) (parts : Parts) (refusal : Refusal) → AreDrawn (source_in job inputs)
+    parts
     → (job_script job parts inputs).ending ≡ Refuses refusal → IsCause job inputs (refused refusal)
-cause_of None inputs parts refusal solids drawn same = usage_cause inputs refusal same
-cause_of (Some job) inputs parts refusal solids drawn same =
-    job_cause job inputs parts (job_script (Some job) parts inputs) refusal (reached job inputs parts) solids drawn same
+cause_of None inputs parts refusal drawn same = usage_cause inputs refusal same
+cause_of (Some job) inputs parts refusal drawn same =
+    job_cause job inputs parts (job_script (Some job) parts inputs) refusal (reached job inputs parts) drawn same
 
 -- ---- the cause of a status
 
-answered_cause : (words : List (List ℕ)) (inputs : Inputs) (parts : Parts) (status : Status) (old new : View) → AreParts words inputs parts
-    → JobMeansSolids (job_of words) inputs → IsAnswered (script_of words parts inputs) status old new → status ≢ Done
+answered_cause : (words : List (List ℕ)) (inputs : Inputs) (parts : Parts) (status : Status) (old new : View)
+    → AreParts words inputs parts
+    → IsAnswered (script_of words parts inputs) status old new → status ≢ Done
     → IsCause (job_of words) inputs status
-answered_cause words inputs parts status old new drawn solids answered other =
+answered_cause words inputs parts status old new drawn answered other =
     let whole = script_of words parts inputs in
     let ends = other_refuses whole.steps whole.ending status old new answered other in
-    subst (IsCause (job_of words) inputs) ends.2 (cause_of (job_of words) inputs parts ends.0 solids drawn ends.1)
+    subst (IsCause (job_of words) inputs) ends.2 (cause_of (job_of words) inputs parts ends.0 drawn ends.1)
 
-pub has_cause : (words : List (List ℕ)) (files : Files) (inputs : Inputs) (parts : Parts) (status : Status) (old new : View) (before now : ℕ)
-    → IsRead words files inputs → AreParts words inputs parts → Promised (given_by words) (script_of words parts inputs) status old new
-    → (IsJudgement status → JobMeansSolids (job_of words) inputs) → (status ≡ Read → before < now) → (status ≡ Write → before < now)
+pub has_cause : (words : List (List ℕ)) (files : Files) (inputs : Inputs) (parts : Parts) (status : Status)
+    (old new : View) (before now : ℕ)
+    → IsRead words files inputs → AreParts words inputs parts → Promised (given_by words) (script_of words parts inputs)
+    status old new
+    → (status ≡ Read → before < now) → (status ≡ Write → before < now)
     → HasCause words files status old new before now
-has_cause words files inputs parts Done old new before now is drawn promised solids read write = (inputs, is, tt)
-has_cause words files inputs parts (Source fault) old new before now is drawn promised solids read write =
-    (inputs, is, answered_cause words inputs parts (Source fault) old new drawn (solids tt) promised (λ same. let never : ⊥ = cc in absurd never))
-has_cause words files inputs parts Usage old new before now is drawn promised solids read write =
-    (inputs, is, answered_cause words inputs parts Usage old new drawn (solids tt) promised (λ same. let never : ⊥ = cc in absurd never))
-has_cause words files inputs parts (Settings fault) old new before now is drawn promised solids read write =
-    (inputs, is, answered_cause words inputs parts (Settings fault) old new drawn (solids tt) promised (λ same. let never : ⊥ = cc in absurd never))
-has_cause words files inputs parts Read old new before now is drawn promised solids read write = (read refl, promised)
-has_cause words files inputs parts Write old new before now is drawn (inl failed) solids read write = (write refl, inl failed.0)
-has_cause words files inputs parts Write old new before now is drawn (inr cut) solids read write = (write refl, inr cut.failed)
-has_cause words files inputs parts (Over budget) old new before now is drawn promised solids read write =
-    (inputs, is, answered_cause words inputs parts (Over budget) old new drawn (solids tt) promised (λ same. let never : ⊥ = cc in absurd never))
-has_cause words files inputs parts Memory old new before now is drawn promised solids read write = (inputs, is, tt)
+has_cause words files inputs parts Done old new before now is drawn promised read write = (inputs, is, tt)
+has_cause words files inputs parts (Source fault) old new before now is drawn promised read write =
+    (inputs, is, answered_cause words inputs parts (Source fault) old new drawn promised (λ same. let never : ⊥ = cc in absurd never))
+has_cause words files inputs parts Usage old new before now is drawn promised read write =
+    (inputs, is, answered_cause words inputs parts Usage old new drawn promised (λ same. let never : ⊥ = cc in absurd never))
+has_cause words files inputs parts (Settings fault) old new before now is drawn promised read write =
+    (inputs, is, answered_cause words inputs parts (Settings fault) old new drawn promised (λ same. let never : ⊥ = cc in absurd never))
+has_cause words files inputs parts Read old new before now is drawn promised read write = (read refl, promised)
+has_cause words files inputs parts Write old new before now is drawn (inl failed) read write =
+    (write refl, inl failed.0)
+has_cause words files inputs parts Write old new before now is drawn (inr cut) read write = (write refl, inr cut.failed)
+has_cause words files inputs parts (Over budget) old new before now is drawn promised read write =
+    (inputs, is, answered_cause words inputs parts (Over budget) old new drawn promised (λ same. let never : ⊥ = cc in absurd never))
+has_cause words files inputs parts Memory old new before now is drawn promised read write = (inputs, is, tt)

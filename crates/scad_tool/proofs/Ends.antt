@@ -1,5 +1,5 @@
 -- How what follows a tree ends: with the last line, or by a budget.
-use Rattle.std.proofs.Common.{◌≡◌, ◌⊎◌, ◌<◌, ◌≤◌, List, [], ◌∷◌, ℕ, Bool, true, false, Option, Some, None, Ok, Err, inl, inr, refl, sym, ap, ◌∙◌, subst, nat_lt, rules, arith}
+use Rattle.std.proofs.Common.{◌≡◌, ◌⊎◌, ◌<◌, ◌≤◌, List, [], ℕ, Bool, true, false, Err, inl, inr, refl, ap, ◌∙◌, subst, nat_lt, rules, arith}
 use Rattle.std.specs.Prelude.{if◌then◌else◌}
 use Rattle.scad_fault.specs.declared.budget.Budget.{Budget}
 use Rattle.scad_words.specs.declared.job.Command.{Command}
@@ -30,7 +30,8 @@ use Rattle.scad_tool.specs.Causes.{HasManyLayers}
 abbrev pub line_of_sample : ℕ → SettingsOfRun → Part → Solid → List ℕ
 line_of_sample n s part tree =
     let count = layer_count s.layer_height tree in
-    sample_line n count (loop_count part count) (moves_below IsPlan part count) (amount_below s part count) (file_size Cli IsPlan s part count)
+    sample_line n count (loop_count part count) (moves_below IsPlan part count) (amount_below s part count)
+    (file_size Cli IsPlan s part count)
     (file_size Gcode IsPlan s part count)
 
 -- a layer passes this budget, and cuts the files short
@@ -38,17 +39,26 @@ pub record Cuts (want : Want) (s : SettingsOfRun) (creates : List Step) (line : 
   pub cut : IsCut want s creates line part tree
   pub this : cut.budget ≡ budget
 
--- the least layer that passes a budget passes this one
+-- there are not too many layers, and the least one that passes a budget passes this one
 pub record PartPasses (part : Part) (count : ℕ) (budget : Budget) : Type 0 where
+  pub few : count ≤ layer_limit
   pub layer : ℕ
   pub there : layer < count
   pub below : AreMade part layer
   pub passes : part layer ≡ Err budget
 
-pub part_passes : (want : Want) (s : SettingsOfRun) (creates : List Step) (line : List ℕ) (part : Part) (tree : Solid) (budget : Budget)
+pub part_passes : (want : Want) (s : SettingsOfRun) (creates : List Step) (line : List ℕ) (part : Part) (tree : Solid)
+    (budget : Budget)
     → Cuts want s creates line part tree budget → PartPasses part (layer_count s.layer_height tree) budget
 part_passes want s creates line part tree budget c =
-    record { layer = c.cut.layer; there = c.cut.inside; below = c.cut.made; passes = c.cut.passed ∙ ap Err c.this }
+    record {
+      few = c.cut.few;
+      layer = c.cut.layer;
+      there = c.cut.inside;
+      below = c.cut.made;
+      passes = c.cut.passed ∙ ap
+          Err c.this;
+    }
 
 -- ---- for each command
 
@@ -62,33 +72,45 @@ IsDone (Sample n) settings parts tree = IsWhole settings (parts IsPlan settings)
 
 -- too many layers, or one that cuts the files short
 abbrev pub IsDrawnOver : Want → SettingsOfRun → List Step → List ℕ → Part → Solid → Budget → Type 0
-IsDrawnOver want s creates line part tree budget = HasManyLayers s tree budget ⊎ Cuts want s creates line part tree budget
+IsDrawnOver want s creates line part tree budget = HasManyLayers s tree budget ⊎ Cuts want s creates line part tree
+    budget
 
 -- and why another is refused
 abbrev pub IsOver : Command → SettingsOfRun → Parts → Solid → Budget → Type 0
 IsOver (Check model) settings parts tree budget = HasManyLayers settings tree budget
 IsOver (Tree model) settings parts tree budget = ⊥
 IsOver (Slice model cli) settings parts tree budget =
-    IsDrawnOver IsOutlines settings (slice_creates cli) (slice_line settings (parts IsOutlines settings) tree) (parts IsOutlines settings) tree budget
+    IsDrawnOver IsOutlines settings (slice_creates cli) (slice_line settings (parts IsOutlines settings) tree)
+    (parts IsOutlines settings) tree budget
 IsOver (Plan model cli gcode) settings parts tree budget =
-    IsDrawnOver IsPlan settings (plan_creates cli gcode) (line_of_plan settings (parts IsPlan settings) tree) (parts IsPlan settings) tree budget
+    IsDrawnOver IsPlan settings (plan_creates cli gcode) (line_of_plan settings (parts IsPlan settings) tree)
+    (parts IsPlan settings) tree budget
 IsOver (Sample n) settings parts tree budget =
-    IsDrawnOver IsPlan settings [] (line_of_sample n settings (parts IsPlan settings) tree) (parts IsPlan settings) tree budget
+    IsDrawnOver IsPlan settings [] (line_of_sample n settings (parts IsPlan settings) tree) (parts IsPlan settings) tree
+    budget
 
 -- it ends with a line or by a budget
 abbrev pub EndsBy : Type 0 → (Budget → Type 0) → Ending → Type 0
 EndsBy Done Passes ending =
-    ((line : List ℕ) × (ending ≡ Finishes line) × Done) ⊎ ((budget : Budget) × (ending ≡ Refuses (Over budget)) × Passes budget)
+    ((line : List ℕ) × (ending ≡ Finishes line) × Done) ⊎ ((budget : Budget) × (ending ≡ Refuses (Over budget))
+    × Passes budget)
 
-check_ends : (settings : SettingsOfRun) (tree : Solid) (line : List ℕ) (b : Bool) → nat_lt layer_limit (layer_count settings.layer_height tree) ≡ b
+check_ends : (settings : SettingsOfRun) (tree : Solid) (line : List ℕ) (b : Bool)
+    → nat_lt layer_limit (layer_count settings.layer_height tree) ≡ b
     → EndsBy (layer_count settings.layer_height tree ≤ layer_limit) (HasManyLayers settings tree)
     (if b then Refuses (Over (layers_passed (layer_count settings.layer_height tree))) else Finishes line)
-check_ends settings tree line true is = inr (layers_passed (layer_count settings.layer_height tree), refl, (search (rules, arith), refl))
+check_ends settings tree line true is = inr (
+  layers_passed (layer_count settings.layer_height tree),
+  refl,
+  (search (rules, arith), refl),
+)
 check_ends settings tree line false is = inl (line, refl, search (rules, arith))
 
 drawn_ends : (want : Want) (s : SettingsOfRun) (creates : List Step) (line : List ℕ) (part : Part) (tree : Solid)
-    → HasMany want s creates line part tree ⊎ (IsWritten want s creates line part tree ⊎ IsCut want s creates line part tree)
-    → EndsBy (IsWhole s part tree) (IsDrawnOver want s creates line part tree) (command_script want s creates line part tree).ending
+    → HasMany want s creates line part tree ⊎ (IsWritten want s creates line part tree ⊎ IsCut want s creates line part
+    tree)
+    → EndsBy (IsWhole s part tree) (IsDrawnOver want s creates line part tree) (command_script want s creates line part
+    tree).ending
 drawn_ends want s creates line part tree (inl many) =
     inr (layers_passed (layer_count s.layer_height tree), ap (λ r. r.ending) many.script, inl (many.many, refl))
 drawn_ends want s creates line part tree (inr (inl done)) = inl (line, ap (λ r. r.ending) done.script, done.whole)
@@ -96,13 +118,15 @@ drawn_ends want s creates line part tree (inr (inr cut)) =
     inr (cut.budget, ap (λ r. r.ending) cut.script, inr (record { cut = cut; this = refl }))
 
 -- what isn't written ends as what is
-unwritten_ends : (b : Bool) (x : Ending) (files : Script) → (if b then ends x else first [] files).ending ≡ (if b then ends x else unwritten files).ending
+unwritten_ends : (b : Bool) (x : Ending) (files : Script) → (if b then ends x else first [] files).ending
+    ≡ (if b then ends x else unwritten files).ending
 unwritten_ends true x files = refl
 unwritten_ends false x files = refl
 
 -- how what follows a tree ends
 pub follows_end : (command : Command) (settings : SettingsOfRun) (parts : Parts) (tree : Solid)
-    → EndsBy (IsDone command settings parts tree) (IsOver command settings parts tree) (follows command settings parts tree).ending
+    → EndsBy (IsDone command settings parts tree) (IsOver command settings parts tree) (follows command settings parts
+    tree).ending
 follows_end (Check model) settings parts tree =
     check_ends settings tree (ok_line (leaf_count tree) (triangle_count tree) (layer_count settings.layer_height tree))
     (nat_lt layer_limit (layer_count settings.layer_height tree)) refl
@@ -117,7 +141,8 @@ follows_end (Plan model cli gcode) settings parts tree =
     (script_goes IsPlan settings (plan_creates cli gcode) (line_of_plan settings part tree) part tree)
 follows_end (Sample n) settings parts tree =
     let part = parts IsPlan settings in
-    subst (EndsBy (IsWhole settings part tree) (IsDrawnOver IsPlan settings [] (line_of_sample n settings part tree) part tree))
+    subst (EndsBy (IsWhole settings part tree) (IsDrawnOver IsPlan settings [] (line_of_sample n settings part tree)
+    part tree))
     (unwritten_ends (nat_lt layer_limit (layer_count settings.layer_height tree)) _ _)
     (drawn_ends IsPlan settings [] (line_of_sample n settings part tree) part tree
     (script_goes IsPlan settings [] (line_of_sample n settings part tree) part tree))

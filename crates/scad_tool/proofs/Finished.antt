@@ -1,5 +1,5 @@
 -- What a command does with its tree plays what follows the tree; a source was read or made.
-use Rattle.std.proofs.Common.{◌≡◌, List, ℕ, Option, Some, None, Result, Ok, Err, refl, sym, ap, ◌∙◌, subst}
+use Rattle.std.proofs.Common.{◌≡◌, List, ℕ, Some, None, Result, Ok, Err, refl, sym, ap, ◌∙◌, subst}
 use Rattle.std.specs.Prelude.{IfSome, IfOk, option_map}
 use Rattle.scad_io.specs.Desk.{Files, View}
 use Rattle.scad_words.specs.declared.job.Command.{Command}
@@ -18,14 +18,17 @@ use Rattle.scad_tool.specs.Words.{model_of}
 use Rattle.scad_tool.specs.Told.{sample_script}
 use Rattle.scad_tool.specs.Answer.{source_limit, follows, source_of, text_read}
 use Rattle.scad_tool.specs.Playing.{IsEnd, Gets}
+use Rattle.scad_tool.proofs.Sources.{as_part}
 use Rattle.scad_tool.proofs.Telling.{ended}
 use Rattle.scad_tool.proofs.Working.{PlaysOn}
 
 -- ---- the source
 
 -- a model was read
-pub gets_model : (command : Command) (model : List ℕ) (files : Files) (result : Result Input Stop) → model_of command ≡ Some model
-    → IfOk result (λ input. IfSome files (λ contents. option_map (input_of (Some source_limit)) (contents model) ≡ Some input))
+pub gets_model : (command : Command) (model : List ℕ) (files : Files) (result : Result Input Stop) → model_of command
+    ≡ Some model
+    → IfOk result (λ input. IfSome files (λ contents. option_map (input_of (Some source_limit)) (contents model)
+    ≡ Some input))
     → IfOk result (Gets command files)
 gets_model command model files (Err stop) named told = tt
 gets_model command model files (Ok input) named told =
@@ -47,23 +50,27 @@ gets_model command model files (Ok input) named told =
 
 module _ (command : Command) (settings : SettingsOfRun) (tree : Solid) (result : Result (List ℕ) Stop) (old new : View) where
   pub slice_finishes : (model cli : List ℕ) → command ≡ Slice model cli
-      → ((part : Part) → IsPart IsOutlines settings tree part → Completes (slice_script settings cli part tree) result old new)
+      → ((part : Part) → IsPart IsOutlines settings tree part → Completes (slice_script settings cli part tree) result
+      old new)
       → PlaysOn command settings tree result old new
   slice_finishes model cli form plays parts of_tree =
       subst (λ (c : Command). Completes (follows c settings parts tree) result old new) (sym form)
-      (plays (parts IsOutlines settings) (of_tree IsOutlines settings))
+      (plays (parts IsOutlines settings) (as_part tree parts of_tree IsOutlines settings))
 
   pub plan_finishes : (model cli gcode : List ℕ) → command ≡ Plan model cli gcode
-      → ((part : Part) → IsPart IsPlan settings tree part → Completes (plan_script settings cli gcode part tree) result old new)
+      → ((part : Part) → IsPart IsPlan settings tree part → Completes (plan_script settings cli gcode part tree) result
+      old new)
       → PlaysOn command settings tree result old new
   plan_finishes model cli gcode form plays parts of_tree =
       subst (λ (c : Command). Completes (follows c settings parts tree) result old new) (sym form)
-      (plays (parts IsPlan settings) (of_tree IsPlan settings))
+      (plays (parts IsPlan settings) (as_part tree parts of_tree IsPlan settings))
 
-pub sample_finishes : (command : Command) (settings : SettingsOfRun) (tree : Solid) (result : Result (List ℕ) Stop) (old : View) (n : ℕ)
-    → command ≡ Sample n → ((part : Part) → IsPart IsPlan settings tree part → IsEnd (sample_script n settings part tree) result)
+pub sample_finishes : (command : Command) (settings : SettingsOfRun) (tree : Solid) (result : Result (List ℕ) Stop)
+    (old : View) (n : ℕ)
+    → command ≡ Sample n → ((part : Part) → IsPart IsPlan settings tree part
+    → IsEnd (sample_script n settings part tree) result)
     → PlaysOn command settings tree result old old
 sample_finishes command settings tree result old n form is parts of_tree =
     subst (λ (c : Command). Completes (follows c settings parts tree) result old old) (sym form)
     (λ whole start left. ended (sample_script n settings (parts IsPlan settings) tree) result whole start old
-    (is (parts IsPlan settings) (of_tree IsPlan settings)) left)
+    (is (parts IsPlan settings) (as_part tree parts of_tree IsPlan settings)) left)

@@ -19,7 +19,8 @@ use Rattle.scad_tool.proofs.Ends.{IsDone, IsOver, EndsBy, follows_end}
 
 -- The words.
 
-usage_ends : (steps : List Step) (ending : Ending) (old new : View) → IsAnswered (record { steps = steps; ending = ending }) Usage old new → ending ≡ Refuses Refusal.Usage
+usage_ends : (steps : List Step) (ending : Ending) (old new : View)
+    → IsAnswered (record { steps = steps; ending = ending }) Usage old new → ending ≡ Refuses Refusal.Usage
 usage_ends steps (Finishes line) old new answered = let same = answered.0 in let never : ⊥ = cc in absurd never
 usage_ends steps (Refuses (Refusal.Source fault)) old new answered = let same = answered.0 in let never : ⊥ = cc in absurd never
 usage_ends steps (Refuses Refusal.Usage) old new answered = refl
@@ -37,14 +38,17 @@ ends_other Found Passes ending (inl (line, is, done)) same =
 ends_other Found Passes ending (inr (budget, is, passes)) same =
     let other : Refuses (Refusal.Over budget) ≡ Refuses Refusal.Usage = sym is ∙ same in let never : ⊥ = cc in absurd never
 
-job_other : (job : Job) (parts : Parts) (inputs : Inputs) (whole : Script) → IsStopped job inputs whole ⊎ IsFollowed job inputs parts whole
+job_other : (job : Job) (parts : Parts) (inputs : Inputs) (whole : Script) → IsStopped job inputs whole ⊎ IsFollowed job
+    inputs parts whole
     → IsOther whole.ending
 job_other job parts inputs whole (inl stopped) same = subst (EndsBefore job inputs) same stopped.why
 job_other job parts inputs whole (inr f) same =
     ends_other (IsDone job.command f.settings parts f.tree) (IsOver job.command f.settings parts f.tree)
-    (follows job.command f.settings parts f.tree).ending (follows_end job.command f.settings parts f.tree) (sym f.ending ∙ same)
+    (follows job.command f.settings parts f.tree).ending (follows_end job.command f.settings parts f.tree)
+    (sym f.ending ∙ same)
 
-not_usage : (job : Job) (parts : Parts) (inputs : Inputs) (old new : View) → IsAnswered (job_script (Some job) parts inputs) Usage old new → ⊥
+not_usage : (job : Job) (parts : Parts) (inputs : Inputs) (old new : View)
+    → IsAnswered (job_script (Some job) parts inputs) Usage old new → ⊥
 not_usage job parts inputs old new answered =
     let whole = job_script (Some job) parts inputs in
     job_other job parts inputs whole (reached job inputs parts) (usage_ends whole.steps whole.ending old new answered)
@@ -74,11 +78,17 @@ judges words parts inputs status old new promised = judged (job_of words) parts 
 
 -- Faults.
 
-pub read_fault : (given : Given) (whole : Script) (status : Status) (old new : View) → Promised given whole status old new → status ≡ Read → IsReadFault given old new
-read_fault given whole status old new promised same = subst (λ (s : Status). Promised given whole s old new) same promised
+pub read_fault : (given : Given) (whole : Script) (status : Status) (old new : View) → Promised given whole status old
+    new → status ≡ Read → IsReadFault given old new
+read_fault given whole status old new promised same = subst (λ (s : Status). Promised given whole s old new) same
+    promised
 
-pub write_fault : (given : Given) (whole : Script) (status : Status) (old new : View) → Promised given whole status old new → status ≡ Write → IsWriteFault given whole old new
-write_fault given whole status old new promised same = subst (λ (s : Status). Promised given whole s old new) same promised
+pub write_fault : (given : Given) (whole : Script) (status : Status) (old new : View) → Promised given whole status old
+    new → status ≡ Write → IsWriteFault given whole old new
+write_fault given whole status old new promised same = subst (λ (s : Status). Promised given whole s old new) same
+    promised
 
-pub memory_line : (given : Given) (whole : Script) (status : Status) (old new : View) → Promised given whole status old new → status ≡ Memory → IsMemoryLine whole old new
-memory_line given whole status old new promised same = subst (λ (s : Status). Promised given whole s old new) same promised
+pub memory_line : (given : Given) (whole : Script) (status : Status) (old new : View) → Promised given whole status old
+    new → status ≡ Memory → IsMemoryLine whole old new
+memory_line given whole status old new promised same = subst (λ (s : Status). Promised given whole s old new) same
+    promised

@@ -4,9 +4,11 @@ mod Telling
 mod Following
 mod Heights
 mod Told
+mod Sources
 mod Answered
 mod Answering
 mod Reached
+mod Lacking
 mod Ends
 mod Orderly
 mod Judged
@@ -14,7 +16,10 @@ mod Completed
 mod Caused
 mod Planned
 mod Printed
+mod Printing
+mod ByGrammar
 mod Silent
 mod Sampled
 mod Finished
 mod Refused
+mod Cutting

@@ -1,11 +1,7 @@
--- What `slice` and `plan` wrote where all is done, and the headline.
-use Rattle.std.proofs.Common.{◌≡◌, ◌⊎◌, ◌<◌, ◌≤◌, List, [], ℕ, Option, Some, None, Ok, Err, inl, inr, refl, sym, ap, ◌∙◌, subst, arith}
-use Rattle.std.specs.Prelude.{IfSome, IsSomeAnd, map, length, slice_get, unwrap_or}
-use Rattle.std.specs.List.{range_with_len}
-use Rattle.std.proofs.lemmas.List.FromFn.{length-map-range_with_len}
-use Rattle.scad_fault.specs.declared.budget.Budget.{Budget}
+-- What `slice` and `plan` wrote where all is done.
+use Rattle.std.proofs.Common.{◌≡◌, ◌⊎◌, List, ℕ, Option, Some, inl, inr, refl, sym, ◌∙◌, subst}
 use Rattle.scad_fault.specs.declared.status.Status.{Status}
-use Rattle.scad_fault.specs.declared.status.Status.TheVariants.{Done, Read, Write}
+use Rattle.scad_fault.specs.declared.status.Status.TheVariants.{Done}
 use Rattle.scad_io.specs.Desk.{Files, View}
 use Rattle.scad_io.specs.declared.desk.Out.TheVariants.{Cli, Gcode}
 use Rattle.scad_words.specs.declared.job.Command.{Command}
@@ -23,34 +19,23 @@ use Rattle.scad_script.specs.Promises.{Adds, IsAnswered, Promised}
 use Rattle.scad_tree.specs.Solid.{Solid}
 use Rattle.scad_tree.specs.Solids.{AreSolids}
 use Rattle.cli_text.specs.Cli.{Layer, cli as text_of_layers}
-use Rattle.slice_work.specs.declared.want.Want.{Want}
 use Rattle.slice_work.specs.declared.want.Want.TheVariants.{Outlines as IsOutlines, Plan as IsPlan}
-use Rattle.slice_work.specs.Part.{Layout, Part, outlines_of, paths_of, layer_limit}
-use Rattle.print_laws.specs.Planned.{PlannedLayer, ArePlanned, outlines_of as outlines_in}
-use Rattle.print_laws.specs.Program.{program_of}
-use Rattle.print_laws.specs.Inside.{PrintsStayInside}
 use Rattle.scad_slice.specs.Budgets.{layer_count}
-use Rattle.scad_slice.specs.Parts.{IsPart, AreMade, layer_at, layers_of, plans_of}
-use Rattle.scad_slice.specs.Script.{slice_script, plan_script}
+use Rattle.scad_slice.specs.Parts.{layers_of}
 use Rattle.scad_slice.specs.Membership.{HoldTree}
-use Rattle.scad_slice.proofs.OneLayer.{parts_are_one}
 use Rattle.scad_slice.proofs.Holding.{parts_hold}
-use Rattle.scad_slice.proofs.Texts.{slices_are_whole, plans_are_whole, programs_are_whole}
+use Rattle.scad_slice.proofs.Texts.{slices_are_whole, plans_are_whole}
 use Rattle.scad_tool.specs.Words.{model_of, cli_of, given_by}
 use Rattle.scad_tool.specs.Answer.{Parts, Inputs, follows, source_of, source_in, job_script, script_of, IsRead, ArePartsOfTree, AreDrawn, AreParts}
 use Rattle.scad_tool.specs.Answer.{settings_found}
-use Rattle.scad_tool.specs.Playing.{InputMeansSolids, JobMeansSolids}
-use Rattle.scad_tool.specs.Promises.{MeansTree, GoBy, IsTreeOf, OutlinesHoldTree}
-use Rattle.scad_tool.specs.Headline.{planned_of, AreBytes, AreTheBytes, IsPrint, Prints, Headline}
+use Rattle.scad_tool.specs.Promises.{MeansTree, OutlinesHoldTree}
 use Rattle.scad_tool.proofs.Working.{parts_meant}
+use Rattle.scad_tool.proofs.Sources.{sources_mean_solids, as_part}
 use Rattle.scad_tool.proofs.Heights.{found_in_range}
 use Rattle.scad_tool.proofs.Told.{source_is, settings_are}
-use Rattle.scad_tool.proofs.Answered.{IsJudgement}
 use Rattle.scad_tool.proofs.Answering.{done_finishes}
-use Rattle.scad_tool.proofs.Planned.{are_planned, planned_paths, planned_outlines}
 use Rattle.scad_tool.proofs.Reached.{EndsBefore, IsStopped, IsFollowed, reached}
 use Rattle.scad_tool.proofs.Ends.{IsDone, IsOver, EndsBy, follows_end}
-use Rattle.scad_tool.proofs.Caused.{has_cause}
 
 -- ---- a job that is done
 
@@ -69,17 +54,20 @@ pub record IsFinished (job : Job) (inputs : Inputs) (parts : Parts) (old new : V
   pub cli : Adds (text_of Cli (follows job.command settings parts tree).steps) old.cli new.cli
   pub gcode : Adds (text_of Gcode (follows job.command settings parts tree).steps) old.gcode new.gcode
 
-finished_by : (job : Job) (inputs : Inputs) (parts : Parts) (whole : Script) (old new : View) → (f : IsFollowed job inputs parts whole)
-    → JobMeansSolids (Some job) inputs → AreDrawn (source_in (Some job) inputs) parts → IsAnswered whole Done old new
-    → EndsBy (IsDone job.command f.settings parts f.tree) (IsOver job.command f.settings parts f.tree) (follows job.command f.settings parts f.tree).ending
+finished_by : (job : Job) (inputs : Inputs) (parts : Parts) (whole : Script) (old new : View)
+    → (f : IsFollowed job inputs parts whole)
+    → AreDrawn (source_in (Some job) inputs) parts → IsAnswered whole Done old new
+    → EndsBy (IsDone job.command f.settings parts f.tree) (IsOver job.command f.settings parts f.tree)
+    (follows job.command f.settings parts f.tree).ending
     → IsFinished job inputs parts old new
-finished_by job inputs parts whole old new f solids drawn answered (inr (budget, is, over)) =
+finished_by job inputs parts whole old new f drawn answered (inr (budget, is, over)) =
     let finishes = done_finishes whole.steps whole.ending old new answered in
     let other : Finishes finishes.0 ≡ Refuses (Over budget) = sym finishes.1 ∙ f.ending ∙ is in
     let never : ⊥ = cc in absurd never
-finished_by job inputs parts whole old new f solids drawn answered (inl (line, is, done)) =
+finished_by job inputs parts whole old new f drawn answered (inl (line, is, done)) =
     let finishes = done_finishes whole.steps whole.ending old new answered in
-    let texts = subst (λ (e : Ending). IsAnswered (record { steps = whole.steps; ending = e }) Done old new) finishes.1 answered in
+    let texts = subst (λ (e : Ending). IsAnswered (record { steps = whole.steps; ending = e }) Done old new) finishes.1
+    answered in
     record {
       settings = f.settings;
       found = f.found;
@@ -88,37 +76,40 @@ finished_by job inputs parts whole old new f solids drawn answered (inl (line, i
       there = f.there;
       tree = f.tree;
       means = (f.state, f.means);
-      solids = subst InputMeansSolids f.there (solids f.settings f.found) f.tree f.state f.means;
-      of_tree = parts_meant f.source f.tree parts (f.state, f.means) (subst (λ (i : Option Input). AreDrawn i parts) f.there drawn);
+      solids = sources_mean_solids f.source f.tree f.state f.means;
+      of_tree = parts_meant f.source f.tree parts (f.state, f.means) (subst (λ (i : Option Input). AreDrawn i parts)
+          f.there drawn);
       done = done;
       cli = subst (λ (text : List ℕ). Adds text old.cli new.cli) f.cli texts.2;
       gcode = subst (λ (text : List ℕ). Adds text old.gcode new.gcode) f.gcode texts.3;
     }
 
-job_finished : (job : Job) (inputs : Inputs) (parts : Parts) (whole : Script) (old new : View) → IsStopped job inputs whole ⊎ IsFollowed job inputs parts whole
-    → JobMeansSolids (Some job) inputs → AreDrawn (source_in (Some job) inputs) parts → IsAnswered whole Done old new → IsFinished job inputs parts old new
-job_finished job inputs parts whole old new (inl stopped) solids drawn answered =
+job_finished : (job : Job) (inputs : Inputs) (parts : Parts) (whole : Script) (old new : View)
+    → IsStopped job inputs whole ⊎ IsFollowed job inputs parts whole
+    → AreDrawn (source_in (Some job) inputs) parts → IsAnswered whole Done old new → IsFinished job inputs parts old new
+job_finished job inputs parts whole old new (inl stopped) drawn answered =
     absurd (subst (EndsBefore job inputs) (done_finishes whole.steps whole.ending old new answered).1 stopped.why)
-job_finished job inputs parts whole old new (inr f) solids drawn answered =
-    finished_by job inputs parts whole old new f solids drawn answered (follows_end job.command f.settings parts f.tree)
+job_finished job inputs parts whole old new (inr f) drawn answered =
+    finished_by job inputs parts whole old new f drawn answered (follows_end job.command f.settings parts f.tree)
 
 -- the job of the words
-words_finished : (words : List (List ℕ)) (inputs : Inputs) (parts : Parts) (status : Status) (old new : View) (job : Job) → AreParts words inputs parts
-    → Promised (given_by words) (script_of words parts inputs) status old new → (IsJudgement status → JobMeansSolids (job_of words) inputs)
+pub words_finished : (words : List (List ℕ)) (inputs : Inputs) (parts : Parts) (status : Status) (old new : View)
+    (job : Job) → AreParts words inputs parts
+    → Promised (given_by words) (script_of words parts inputs) status old new
     → status ≡ Done → job_of words ≡ Some job → IsFinished job inputs parts old new
-words_finished words inputs parts status old new job drawn promised solids done form =
+words_finished words inputs parts status old new job drawn promised done form =
     let answered : IsAnswered (script_of words parts inputs) Done old new =
     subst (λ (s : Status). Promised (given_by words) (script_of words parts inputs) s old new) done promised
     in
     job_finished job inputs parts (job_script (Some job) parts inputs) old new (reached job inputs parts)
-    (subst (λ (j : Option Job). JobMeansSolids j inputs) form (solids (subst IsJudgement (sym done) tt)))
     (subst (λ (j : Option Job). AreDrawn (source_in j inputs) parts) form drawn)
     (subst (λ (j : Option Job). IsAnswered (job_script j parts inputs) Done old new) form answered)
 
 -- ---- the outlines
 
 -- a source that is read from a file is what was read of it
-read_is : (command : Command) (model : List ℕ) (read : Option Input) → model_of command ≡ Some model → source_of command read ≡ read
+read_is : (command : Command) (model : List ℕ) (read : Option Input) → model_of command ≡ Some model
+    → source_of command read ≡ read
 read_is (Check m) model read named = refl
 read_is (Tree m) model read named = refl
 read_is (Slice m cli) model read named = refl
@@ -131,8 +122,10 @@ pub record AreWritten (settings : SettingsOfRun) (tree : Solid) (old new : View)
   pub text : Adds (text_of_layers layers) old.cli new.cli
   pub hold : HoldTree settings.layer_height tree layers
 
-command_written : (command : Command) (cli : List ℕ) (settings : SettingsOfRun) (parts : Parts) (tree : Solid) (old new : View)
-    → cli_of command ≡ Some cli → AreInRange settings → AreSolids tree → ArePartsOfTree tree parts → IsDone command settings parts tree
+command_written : (command : Command) (cli : List ℕ) (settings : SettingsOfRun) (parts : Parts) (tree : Solid)
+    (old new : View)
+    → cli_of command ≡ Some cli → AreInRange settings → AreSolids tree → ArePartsOfTree tree parts
+    → IsDone command settings parts tree
     → Adds (text_of Cli (follows command settings parts tree).steps) old.cli new.cli → AreWritten settings tree old new
 command_written (Check m) cli settings parts tree old new named in_range solids of_tree done added = let never : ⊥ = cc in absurd never
 command_written (Tree m) cli settings parts tree old new named in_range solids of_tree done added = let never : ⊥ = cc in absurd never
@@ -141,95 +134,34 @@ command_written (Slice m c) cli settings parts tree old new named in_range solid
     record {
       layers = layers_of settings.layer_height part (layer_count settings.layer_height tree);
       text = subst (λ (text : List ℕ). Adds text old.cli new.cli) (slices_are_whole settings c part tree whole) added;
-      hold = parts_hold IsOutlines settings tree part solids in_range (of_tree IsOutlines settings) whole.made;
+      hold = parts_hold IsOutlines settings tree part solids in_range (as_part tree parts of_tree IsOutlines settings)
+          whole.made;
     }
 command_written (Plan m c g) cli settings parts tree old new named in_range solids of_tree whole added =
     let part = parts IsPlan settings in
     record {
       layers = layers_of settings.layer_height part (layer_count settings.layer_height tree);
       text = subst (λ (text : List ℕ). Adds text old.cli new.cli) (plans_are_whole settings c g part tree whole) added;
-      hold = parts_hold IsPlan settings tree part solids in_range (of_tree IsPlan settings) whole.made;
+      hold = parts_hold IsPlan settings tree part solids in_range (as_part tree parts of_tree IsPlan settings)
+          whole.made;
     }
 command_written (Sample n) cli settings parts tree old new named in_range solids of_tree done added = let never : ⊥ = cc in absurd never
 
-pub holds_tree : (words : List (List ℕ)) (files : Files) (inputs : Inputs) (parts : Parts) (status : Status) (old new : View)
-    → IsRead words files inputs → AreParts words inputs parts → Promised (given_by words) (script_of words parts inputs) status old new
-    → (IsJudgement status → JobMeansSolids (job_of words) inputs) → status ≡ Done → OutlinesHoldTree words files old new
-holds_tree words files inputs parts status old new is drawn promised solids done job model cli form named file =
-    let f = words_finished words inputs parts status old new job drawn promised solids done form in
-    let w = command_written job.command cli f.settings parts f.tree old new file f.in_range f.solids f.of_tree f.done f.cli in (
+pub holds_tree : (words : List (List ℕ)) (files : Files) (inputs : Inputs) (parts : Parts) (status : Status)
+    (old new : View)
+    → IsRead words files inputs → AreParts words inputs parts → Promised (given_by words) (script_of words parts inputs)
+    status old new
+    → status ≡ Done → OutlinesHoldTree words files old new
+holds_tree words files inputs parts status old new is drawn promised done job model cli form named file =
+    let f = words_finished words inputs parts status old new job drawn promised done form in
+    let w = command_written job.command cli f.settings parts f.tree old new file f.in_range f.solids f.of_tree f.done
+    f.cli in (
       f.settings,
       f.tree,
       w.layers,
       settings_are words files inputs job f.settings form is f.found,
-      source_is words files inputs job model f.source f.tree form named is (sym (read_is job.command model inputs.model named) ∙ f.there) f.means,
+      source_is words files inputs job model f.source f.tree form named is
+          (sym (read_is job.command model inputs.model named) ∙ f.there) f.means,
       w.text,
       w.hold,
     )
-
--- ---- both files of `plan`
-
-module _ (settings : SettingsOfRun) (tree : Solid) (in_range : AreInRange settings) (solids : AreSolids tree) (part : Part)
-    (is_part : IsPart IsPlan settings tree part) where
-  abbrev count : ℕ
-  count = layer_count settings.layer_height tree
-
-  abbrev cli_bytes : List ℕ
-  cli_bytes = text_of_layers (layers_of settings.layer_height part count)
-
-  abbrev gcode_bytes : List ℕ
-  gcode_bytes = program_of settings (planned_of part count)
-
-  -- no other bytes are those of the tree
-  bytes_one : AreTheBytes settings tree cli_bytes gcode_bytes
-  bytes_one =
-      record {
-        are = record { part = part; is_part = is_part; cli_is = refl; gcode_is = refl };
-        one = λ cli gcode other.
-            let same = parts_are_one IsPlan settings tree other.part part solids in_range other.is_part is_part in (
-              other.cli_is ∙ ap (λ p. text_of_layers (layers_of settings.layer_height p (layer_count settings.layer_height tree))) same,
-              other.gcode_is ∙ ap (λ p. program_of settings (planned_of p (layer_count settings.layer_height tree))) same,
-            );
-      }
-
-  print_is : PrintsStayInside → count ≤ layer_limit → AreMade part count → IsPrint settings tree cli_bytes gcode_bytes
-  print_is stay_inside few made =
-      record {
-        layers = layers_of settings.layer_height part count;
-        written = refl;
-        holds = parts_hold IsPlan settings tree part solids in_range is_part made;
-        planned = planned_of part count;
-        same = planned_outlines settings.layer_height part count;
-        inside = stay_inside settings (planned_of part count) in_range (are_planned settings tree part count solids in_range is_part few made);
-      }
-
-prints : PrintsStayInside → (words : List (List ℕ)) (files : Files) (inputs : Inputs) (parts : Parts) (status : Status) (old new : View)
-    → IsRead words files inputs → AreParts words inputs parts → Promised (given_by words) (script_of words parts inputs) status old new
-    → (IsJudgement status → JobMeansSolids (job_of words) inputs) → status ≡ Done → Prints words files old new
-prints stay_inside words files inputs parts status old new is drawn promised solids done model cli gcode name workers form =
-    let job : Job = record { command = Plan model cli gcode; settings = name; workers = workers } in
-    let f = words_finished words inputs parts status old new job drawn promised solids done form in
-    let part = parts IsPlan f.settings in
-    let n = layer_count f.settings.layer_height f.tree in
-    let program = programs_are_whole f.settings cli gcode part f.tree f.done ∙ planned_paths f.settings part n in (
-      f.settings,
-      f.tree,
-      text_of_layers (layers_of f.settings.layer_height part n),
-      program_of f.settings (planned_of part n),
-      settings_are words files inputs job f.settings form is f.found,
-      source_is words files inputs job model f.source f.tree form refl is f.there f.means,
-      subst (λ (text : List ℕ). Adds text old.cli new.cli) (plans_are_whole f.settings cli gcode part f.tree f.done) f.cli,
-      subst (λ (text : List ℕ). Adds text old.gcode new.gcode) program f.gcode,
-      bytes_one f.settings f.tree f.in_range f.solids part (f.of_tree IsPlan f.settings),
-      print_is f.settings f.tree f.in_range f.solids part (f.of_tree IsPlan f.settings) stay_inside f.done.few f.done.made,
-    )
-
-pub headline : PrintsStayInside → (words : List (List ℕ)) (files : Files) (inputs : Inputs) (parts : Parts) (status : Status) (old new : View) (before now : ℕ)
-    → IsRead words files inputs → AreParts words inputs parts → Promised (given_by words) (script_of words parts inputs) status old new
-    → (IsJudgement status → JobMeansSolids (job_of words) inputs) → (status ≡ Read → before < now) → (status ≡ Write → before < now)
-    → Headline words files status old new before now
-headline stay_inside words files inputs parts status old new before now is drawn promised solids read write =
-    record {
-      prints = prints stay_inside words files inputs parts status old new is drawn promised solids;
-      cause = has_cause words files inputs parts status old new before now is drawn promised solids read write;
-    }

@@ -1,12 +1,11 @@
 -- A sample that was planned on a desk which keeps nothing ends as its script.
-use Rattle.std.proofs.Common.{◌≡◌, ◌<◌, ◌≤◌, List, [], ℕ, Bool, true, false, Result, Ok, Err, refl, sym, ap, ◌∙◌, subst, nat_lt, rules, arith}
+use Rattle.std.proofs.Common.{◌≡◌, ◌<◌, ◌≤◌, List, ℕ, Bool, true, false, Result, Ok, Err, refl, sym, ap, ◌∙◌, subst, nat_lt, rules, arith}
 use Rattle.std.specs.Prelude.{if◌then◌else◌}
 use Rattle.scad_io.specs.Desk.{View}
 use Rattle.scad_words.specs.declared.settings.Settings.{Settings as SettingsOfRun}
-use Rattle.scad_script.specs.declared.refusal.Refusal.{Refusal}
 use Rattle.scad_script.specs.declared.refusal.Refusal.TheVariants.{Over}
 use Rattle.scad_script.specs.declared.stop.Stop.{Stop}
-use Rattle.scad_script.specs.Script.{Script, Ending, Finishes, Refuses, ends}
+use Rattle.scad_script.specs.Script.{Script, Finishes, Refuses, ends}
 use Rattle.scad_script.specs.Played.{Carries, HasRisen}
 use Rattle.scad_script.proofs.Playing.{begun}
 use Rattle.scad_tree.specs.Solid.{Solid}
@@ -37,7 +36,8 @@ module _ (n : ℕ) (s : SettingsOfRun) (part : Part) (tree : Solid) where
   script_is few = script_if (nat_lt layer_limit count) refl few
 
   -- the work on the files stopped
-  stopped_so : (old new : View) (stop : Stop) → count ≤ layer_limit → Carries {T = Written} (files IsPlan s part count) (Err stop) old new
+  stopped_so : (old new : View) (stop : Stop) → count ≤ layer_limit → Carries {T = Written} (files IsPlan s part count)
+      (Err stop) old new
       → HasRisen {T = Written} (Err stop) 0 0 → IsEnd (sample_script n s part tree) (Err stop)
   stopped_so old new (Stop.Ends refusal) few carries rises =
       let left = carries whole (sample_end n s part count) old (begun whole old) in
@@ -48,7 +48,8 @@ module _ (n : ℕ) (s : SettingsOfRun) (part : Part) (tree : Solid) where
   stopped_so old new Stop.Silent few carries rises = let less : 0 < 0 = rises refl in omega (arith, less)
 
   pub sample_stops : (old new : View) (stop : Stop) (result : Result (List ℕ) Stop) → count ≤ layer_limit
-      → Carries {T = Written} (files IsPlan s part count) (Err stop) old new → HasRisen {T = Written} (Err stop) 0 0 → result ≡ Err stop
+      → Carries {T = Written} (files IsPlan s part count) (Err stop) old new → HasRisen {T = Written} (Err stop) 0 0
+      → result ≡ Err stop
       → IsEnd (sample_script n s part tree) result
   sample_stops old new stop result few carries rises is =
       subst (IsEnd (sample_script n s part tree)) (sym is) (stopped_so old new stop few carries rises)
@@ -56,10 +57,12 @@ module _ (n : ℕ) (s : SettingsOfRun) (part : Part) (tree : Solid) where
   -- the line of what was written
   line_is : (w : Written) → IsWritten IsPlan s part count w
       → sample_line n w.summary.layers w.summary.loops w.summary.moves w.summary.e w.cli w.gcode
-      ≡ sample_line n count (loop_count part count) (moves_below IsPlan part count) (amount_below s part count) (file_size Cli IsPlan s part count)
+      ≡ sample_line n count (loop_count part count) (moves_below IsPlan part count) (amount_below s part count)
+      (file_size Cli IsPlan s part count)
       (file_size Gcode IsPlan s part count)
   line_is w told =
-      λ k. sample_line n (told.summary.layers k) (told.summary.loops k) (told.summary.moves k) (told.summary.e k) (told.cli k) (told.gcode k)
+      λ k. sample_line n (told.summary.layers k) (told.summary.loops k) (told.summary.moves k) (told.summary.e k)
+      (told.cli k) (told.gcode k)
 
   -- all was done
   pub sample_done : (old new : View) (w : Written) (line : List ℕ) → count ≤ layer_limit
@@ -68,10 +71,12 @@ module _ (n : ℕ) (s : SettingsOfRun) (part : Part) (tree : Solid) where
       → IsEnd (sample_script n s part tree) (Ok line)
   sample_done old new w line few carries told is =
       let left = carries whole (sample_end n s part count) old (begun whole old) in
-      script_is few ∙ ap (λ (r : Script). ends r.ending) (sym left.parts) ∙ ap (λ l. ends (Finishes l)) (sym (is ∙ line_is w told))
+      script_is few ∙ ap (λ (r : Script). ends r.ending) (sym left.parts) ∙ ap (λ l. ends (Finishes l))
+      (sym (is ∙ line_is w told))
 
 -- an end is no fault
-pub no_fault_rises : (script : Script) (result : Result (List ℕ) Stop) (faults : ℕ) → IsEnd script result → HasRisen result faults faults
+pub no_fault_rises : (script : Script) (result : Result (List ℕ) Stop) (faults : ℕ) → IsEnd script result
+    → HasRisen result faults faults
 no_fault_rises script (Ok line) faults is = tt
 no_fault_rises script (Err (Stop.Ends refusal)) faults is = λ same. let never : ⊥ = cc in absurd never
 no_fault_rises script (Err Stop.Memory) faults is = λ same. let never : ⊥ = cc in absurd never

@@ -5,21 +5,23 @@ use Rattle.std.specs.Option.{option_and_then}
 use Rattle.scad_fault.specs.declared.settings.SetFault.{SetFault}
 use Rattle.scad_io.specs.Desk.{Files, View}
 use Rattle.scad_words.specs.declared.settings.Settings.{Settings}
-use Rattle.scad_words.specs.Settings.{settings_of, default_settings}
+use Rattle.scad_words.specs.Settings.{settings_of}
 use Rattle.scad_script.specs.declared.loading.Input.{Input}
 use Rattle.scad_script.specs.declared.loading.Input.TheVariants.{Whole, Long}
-use Rattle.scad_script.specs.declared.refusal.Refusal.TheVariants.{Settings as IsSettings}
 use Rattle.scad_script.specs.declared.stop.Stop.{Stop}
-use Rattle.scad_script.specs.Steps.{Reads}
-use Rattle.scad_script.specs.Script.{Script, Refuses, Lacks, first, ends, input_of}
+use Rattle.scad_script.specs.Steps.{Step, Reads}
+use Rattle.scad_script.specs.Script.{Script, Refuses, first, ends, input_of}
 use Rattle.scad_script.specs.Played.{Left, Stops}
-use Rattle.scad_script.proofs.Playing.{begun}
 use Rattle.scad_script.proofs.Layers.{as_left}
-use Rattle.scad_tool.specs.Answer.{settings_script, judged_script, read_script, accepted, settings_found}
-use Rattle.scad_tool.specs.Playing.{IsJudged, Settled, IsFound, Settles}
-use Rattle.scad_tool.proofs.Working.{StopsBefore, step_refuses}
+use Rattle.scad_tool.specs.Answer.{judged_script, read_script}
+use Rattle.scad_tool.specs.Playing.{IsJudged, Settled, Settles}
 
 -- A file is named.
+
+-- in every script in which this step comes next this stops it
+abbrev pub StopsBefore : Step → Stop → View → View → Type 0
+StopsBefore step stop old new =
+    (whole rest : Script) (start : View) → Left whole (first (step ∷ []) rest) start old → Stops whole stop start new
 
 told_text : (files : Files) (name text : List ℕ) (input : Input) → input ≡ Whole text
     → IfSome files (λ contents. option_map (input_of None) (contents name) ≡ Some input)
@@ -34,11 +36,14 @@ told_text (Some contents) name text input whole told = by (contents name) told
     by : (found : Option (List ℕ)) → option_map (input_of None) found ≡ Some input → Some text ≡ found
     by None same = let never : ⊥ = cc in absurd never
     by (Some t) same =
-        let one : Whole t ≡ Whole text = ap (λ (o : Option Input). unwrap_or o Long) same ∙ whole in ap Some (sym (ap text_of one))
+        let one : Whole t ≡ Whole text = ap (λ (o : Option Input). unwrap_or o Long) same ∙ whole in ap Some
+        (sym (ap text_of one))
 
 -- what follows the text is played, or is its refusal
-judged_so : (meant : Result Settings SetFault) (result : Result Settings Stop) (follows : Settings → Script) (whole : Script) (start now : View)
-    → IsJudged meant result → Left whole (judged_script meant follows) start now → Settled follows whole result start now
+judged_so : (meant : Result Settings SetFault) (result : Result Settings Stop) (follows : Settings → Script)
+    (whole : Script) (start now : View)
+    → IsJudged meant result → Left whole (judged_script meant follows) start now → Settled follows whole result start
+    now
 judged_so meant (Ok settings) follows whole start now is left = as_left (ap (λ m. judged_script m follows) is) left
 judged_so meant (Err (Stop.Ends refusal)) follows whole start now (fault, same, is) left =
     as_left (ap (λ m. judged_script m follows) is ∙ ap (λ r. ends (Refuses r)) (sym same)) left
@@ -47,19 +52,13 @@ judged_so meant (Err Stop.Read) follows whole start now is left = absurd is
 judged_so meant (Err Stop.Write) follows whole start now is left = absurd is
 judged_so meant (Err Stop.Silent) follows whole start now is left = absurd is
 
-found_so : (meant : Result Settings SetFault) (result : Result Settings Stop) → IsJudged meant result → IsFound (accepted meant) result
-found_so meant (Ok settings) is = ap accepted is
-found_so meant (Err (Stop.Ends refusal)) (fault, same, is) = ap accepted is
-found_so meant (Err Stop.Memory) is = tt
-found_so meant (Err Stop.Read) is = tt
-found_so meant (Err Stop.Write) is = tt
-found_so meant (Err Stop.Silent) is = tt
-
 -- it was read whole, and judged
-pub settles_by_text : (files : Files) (named : Option (List ℕ)) (name text here : List ℕ) (input : Input) (result : Result Settings Stop) (old new : View)
+pub settles_by_text : (files : Files) (named : Option (List ℕ)) (name text here : List ℕ) (input : Input)
+    (result : Result Settings Stop) (old new : View)
     → named ≡ Some name → input ≡ Whole text → here ≡ text
     → IfSome files (λ contents. option_map (input_of None) (contents name) ≡ Some input)
-    → ((whole rest : Script) (start : View) → Left whole (first (Reads name ∷ []) rest) start old → Left whole rest start new)
+    → ((whole rest : Script) (start : View) → Left whole (first (Reads name ∷ []) rest) start old
+    → Left whole rest start new)
     → IsJudged (settings_of here) result → Settles named files result old new
 settles_by_text files named name text here input result old new is whole same told reads judged =
     let of_text = subst (λ (t : List ℕ). IsJudged (settings_of t) result) same judged in
@@ -68,8 +67,8 @@ settles_by_text files named name text here input result old new is whole same to
       read = Some text;
       told = told_text files name text input whole told;
       goes = λ follows all start left.
-          judged_so (settings_of text) result follows all start new of_text (reads all (judged_script (settings_of text) follows) start left);
-      found = found_so (settings_of text) result of_text;
+          judged_so (settings_of text) result follows all start new of_text
+          (reads all (judged_script (settings_of text) follows) start left);
     })
 
 -- what is there to read of a file
@@ -77,20 +76,14 @@ abbrev there : List ℕ → Files → Option (List ℕ)
 there name None = None
 there name (Some contents) = contents name
 
-there_is : (name : List ℕ) (files : Files) → IfSome files (λ contents. there name files ≡ option_and_then contents (Some name))
+there_is : (name : List ℕ) (files : Files) → IfSome files (λ contents. there name files ≡ option_and_then contents
+    (Some name))
 there_is name None = tt
 there_is name (Some contents) = refl
 
-nothing_found : (found : Option Settings) (name : List ℕ) (stop : Stop) (old new : View) → StopsBefore (Reads name) stop old new
-    → IsFound found (Err stop)
-nothing_found found name (Stop.Ends refusal) old new stops = absurd (step_refuses (Reads name) refusal old new stops)
-nothing_found found name Stop.Read old new stops = tt
-nothing_found found name Stop.Write old new stops = tt
-nothing_found found name Stop.Silent old new stops = tt
-nothing_found found name Stop.Memory old new stops = tt
-
 -- it wasn't read
-pub stops_reading : (files : Files) (named : Option (List ℕ)) (name : List ℕ) (result : Result Settings Stop) (stop : Stop) (old new : View)
+pub stops_reading : (files : Files) (named : Option (List ℕ)) (name : List ℕ) (result : Result Settings Stop)
+    (stop : Stop) (old new : View)
     → named ≡ Some name → StopsBefore (Reads name) stop old new → result ≡ Err stop → Settles named files result old new
 stops_reading files named name result stop old new is stops same =
     subst (λ (n : Option (List ℕ)). Settles n files result old new) (sym is)
@@ -99,5 +92,4 @@ stops_reading files named name result stop old new is stops same =
       read = there name files;
       told = there_is name files;
       goes = λ follows whole start left. stops whole (read_script (there name files) follows) start left;
-      found = nothing_found (settings_found (Some name) (there name files)) name stop old new stops;
     }))

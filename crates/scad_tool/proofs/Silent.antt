@@ -1,5 +1,5 @@
 -- `slice` writes nothing to the printing program.
-use Rattle.std.proofs.Common.{◌≡◌, ◌+◌, ◌++◌, List, [], ◌∷◌, ℕ, zero, suc, Result, Ok, Err, refl, ap, ◌∙◌, append_assoc}
+use Rattle.std.proofs.Common.{◌≡◌, ◌+◌, ◌++◌, List, [], ℕ, zero, suc, Result, Ok, Err, refl, ap, ◌∙◌, append_assoc}
 use Rattle.scad_fault.specs.declared.budget.Budget.{Budget}
 use Rattle.scad_io.specs.declared.desk.Out.TheVariants.{Gcode}
 use Rattle.scad_words.specs.declared.settings.Settings.{Settings as SettingsOfRun}
@@ -14,7 +14,8 @@ use Rattle.scad_slice.proofs.Layers.{steps_of, written_from}
 use Rattle.scad_slice.proofs.Parted.{IsCut, slice_creates, slice_line}
 use Rattle.scad_slice.proofs.Texts.{text_append}
 
-silent_layer : (rates : Rates) (volume i : ℕ) (layer : Result Layout Budget) → text_of Gcode (steps_of (written_unless IsOutlines rates volume i layer)) ≡ []
+silent_layer : (rates : Rates) (volume i : ℕ) (layer : Result Layout Budget)
+    → text_of Gcode (steps_of (written_unless IsOutlines rates volume i layer)) ≡ []
 silent_layer rates volume i (Ok layout) = refl
 silent_layer rates volume i (Err budget) = refl
 
@@ -26,10 +27,12 @@ silent_layers rates part i (suc n) rest silent =
     let behind = written_from IsOutlines rates part (i + 1) n in
     ap (text_of Gcode) (append_assoc here behind rest)
     ∙ text_append Gcode here (behind ++ rest)
-    ∙ ap (λ text. text ++ text_of Gcode (behind ++ rest)) (silent_layer rates (volume_below IsOutlines rates part i) i (part i))
+    ∙ ap (λ text. text ++ text_of Gcode (behind ++ rest)) (silent_layer rates (volume_below IsOutlines rates part i) i
+    (part i))
     ∙ silent_layers rates part (i + 1) n rest silent
 
-pub slice_is_silent : (s : SettingsOfRun) (cli : List ℕ) (part : Part) (tree : Solid) (cut : IsCut IsOutlines s (slice_creates cli) (slice_line s part tree) part tree)
+pub slice_is_silent : (s : SettingsOfRun) (cli : List ℕ) (part : Part) (tree : Solid)
+    (cut : IsCut IsOutlines s (slice_creates cli) (slice_line s part tree) part tree)
     → text_of Gcode (slice_script s cli part tree).steps ≡ []
 slice_is_silent s cli part tree cut =
     ap (λ script. text_of Gcode script.steps) cut.script ∙ silent_layers (rates_of s) part 0 cut.layer [] refl

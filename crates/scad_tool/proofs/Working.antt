@@ -1,6 +1,6 @@
 -- The work of a job plays the script of the words and of what was read, with all drawings.
-use Rattle.std.proofs.Common.{◌≡◌, List, [], ◌∷◌, ℕ, Option, Some, None, Result, Ok, Err, refl, sym, ap, ◌∙◌, subst}
-use Rattle.std.specs.Prelude.{IfSome, option_map}
+use Rattle.std.proofs.Common.{◌≡◌, List, ℕ, Option, Some, None, Result, Ok, Err, refl, sym, ap, ◌∙◌, subst}
+use Rattle.std.specs.Prelude.{IfSome}
 use Rattle.std.specs.Option.{option_and_then}
 use Rattle.scad_io.specs.Desk.{Files, View}
 use Rattle.scad_words.specs.declared.job.Command.{Command}
@@ -9,25 +9,21 @@ use Rattle.scad_words.specs.declared.settings.Settings.{Settings}
 use Rattle.scad_words.specs.Job.{job_of}
 use Rattle.scad_script.specs.declared.loading.Input.{Input}
 use Rattle.scad_script.specs.declared.loading.Input.TheVariants.{Whole}
-use Rattle.scad_script.specs.declared.refusal.Refusal.{Refusal}
 use Rattle.scad_script.specs.declared.refusal.Refusal.TheVariants.{Usage}
 use Rattle.scad_script.specs.declared.stop.Stop.{Stop}
-use Rattle.scad_script.specs.Steps.{Step, Reads}
-use Rattle.scad_script.specs.Script.{Script, Refuses, Lacks, first, ends, input_of}
+use Rattle.scad_script.specs.Script.{Script, Refuses, ends}
 use Rattle.scad_script.specs.Played.{Left, Stops, EndsIn, Completes}
 use Rattle.scad_script.proofs.Playing.{begun}
 use Rattle.scad_script.proofs.Layers.{as_left}
 use Rattle.scad_tree.specs.Solid.{Solid}
-use Rattle.scad_tree.specs.declared.tree.Tree.{Tree}
-use Rattle.scad_tree.specs.View.{solid_of}
 use Rattle.scad_expr.specs.State.{Outcome}
 use Rattle.scad_tool.specs.Words.{model_of}
 use Rattle.scad_tool.specs.Meaning.{source_means}
 use Rattle.scad_tool.specs.Told.{told}
-use Rattle.scad_tool.specs.Answer.{Parts, Inputs, source_limit, follows, input_script, model_read_first, model_script, settings_script, command_script}
+use Rattle.scad_tool.specs.Answer.{Parts, Inputs, follows, input_script, model_read_first, model_script, settings_script, command_script}
 use Rattle.scad_tool.specs.Answer.{job_script, script_of, source_of, settings_read, text_read, model_read, read_of, IsRead, ArePartsOfTree}
-use Rattle.scad_tool.specs.Answer.{ArePartsOf, AreDrawn, source_in, AreParts, settings_found}
-use Rattle.scad_tool.specs.Playing.{OnJudged, MeansSolids, InputMeansSolids, JobMeansSolids, AsksNothing, Settled, IsFound, Settles, Gets, Works}
+use Rattle.scad_tool.specs.Answer.{ArePartsOf, AreDrawn, source_in}
+use Rattle.scad_tool.specs.Playing.{AsksNothing, Settled, Settles, Gets, Works}
 use Rattle.scad_tool.specs.Promises.{MeansTree}
 
 -- the files tell that this was read of the model, where one is named
@@ -42,18 +38,14 @@ IsToldAs files name read = IfSome files (λ contents. read ≡ option_and_then c
 abbrev pub ReadsNext : Option (List ℕ) → Script → Script → View → View → Type 0
 ReadsNext model whole rest start old = Left whole (model_read_first model rest) start old
 
--- in every script in which this step comes next this stops it
-abbrev pub StopsBefore : Step → Stop → View → View → Type 0
-StopsBefore step stop old new =
-    (whole rest : Script) (start : View) → Left whole (first (step ∷ []) rest) start old → Stops whole stop start new
-
 -- What was read.
 
 pub model_read_as : (words : List (List ℕ)) (contents : List ℕ → Option (List ℕ)) (job : Job) → job_of words ≡ Some job
     → model_read (job_of words) contents ≡ text_read (model_of job.command) contents
 model_read_as words contents job form = ap (λ j. model_read j contents) form
 
-pub settings_read_as : (words : List (List ℕ)) (contents : List ℕ → Option (List ℕ)) (job : Job) → job_of words ≡ Some job
+pub settings_read_as : (words : List (List ℕ)) (contents : List ℕ → Option (List ℕ)) (job : Job)
+    → job_of words ≡ Some job
     → settings_read (job_of words) contents ≡ option_and_then contents job.settings
 settings_read_as words contents job form = ap (λ j. settings_read j contents) form
 
@@ -68,87 +60,54 @@ unread_is words (Some contents) = refl
 
 -- the settings were read
 settings_alone : (words : List (List ℕ)) (files : Files) (job : Job) (read : Option (List ℕ)) → job_of words ≡ Some job
-    → IsToldAs files job.settings read → IsRead words files (record { settings = read; model = (unread words files).model })
+    → IsToldAs files job.settings read
+    → IsRead words files (record { settings = read; model = (unread words files).model })
 settings_alone words None job read form told = tt
 settings_alone words (Some contents) job read form told =
     ap (λ text. record { settings = text; model = model_read (job_of words) contents })
     (told ∙ sym (settings_read_as words contents job form))
 
-both_read : (words : List (List ℕ)) (files : Files) (job : Job) (read : Option (List ℕ)) (model : Option Input) → job_of words ≡ Some job
+both_read : (words : List (List ℕ)) (files : Files) (job : Job) (read : Option (List ℕ)) (model : Option Input)
+    → job_of words ≡ Some job
     → IsToldAs files job.settings read → IsToldOf files (model_of job.command) model
     → IsRead words files (record { settings = read; model = model })
 both_read words None job read model form told_settings told_model = tt
 both_read words (Some contents) job read model form told_settings told_model =
-    let text : read ≡ settings_read (job_of words) contents = told_settings ∙ sym (settings_read_as words contents job form) in
-    let source : model ≡ model_read (job_of words) contents = told_model ∙ sym (model_read_as words contents job form) in
+    let text : read ≡ settings_read (job_of words) contents = told_settings ∙ sym (settings_read_as words contents job
+    form) in
+    let source : model ≡ model_read (job_of words) contents = told_model ∙ sym (model_read_as words contents job form)
+    in
     (λ k. record { settings = text k; model = source k })
 
--- What is known of a tree that is drawn.
-
-known_more : (result : Result (List ℕ) Stop) (P Q : Type 0) → (P → Q) → OnJudged result P → OnJudged result Q
-known_more (Ok line) P Q more known = more known
-known_more (Err (Stop.Ends refusal)) P Q more known = more known
-known_more (Err Stop.Read) P Q more known = tt
-known_more (Err Stop.Write) P Q more known = tt
-known_more (Err Stop.Silent) P Q more known = tt
-known_more (Err Stop.Memory) P Q more known = tt
-
--- a step is no refusal: there is a script that goes on with it and isn't refused
-pub step_refuses : (step : Step) (refusal : Refusal) (old new : View) → StopsBefore step (Stop.Ends refusal) old new → ⊥
-step_refuses step refusal old new stops =
-    let whole = first (step ∷ []) (ends Lacks) in
-    let left = stops whole (ends Lacks) old (begun whole old) in
-    let same : Refuses refusal ≡ Lacks = ap (λ s. s.ending) left.parts in
-    let never : ⊥ = cc in absurd never
+-- The script was played.
 
 -- in every script in which the model comes next, where one is named, this stops it
 abbrev pub StopsModel : Option (List ℕ) → Stop → View → View → Type 0
-StopsModel model stop old new = (whole rest : Script) (start : View) → ReadsNext model whole rest start old → Stops whole stop start new
-
-model_refuses : (model : Option (List ℕ)) (refusal : Refusal) (old new : View) → StopsModel model (Stop.Ends refusal) old new → ⊥
-model_refuses None refusal old new stops =
-    let whole = ends Lacks in
-    let left = stops whole (ends Lacks) old (begun whole old) in
-    let same : Refuses refusal ≡ Lacks = ap (λ s. s.ending) left.parts in
-    let never : ⊥ = cc in absurd never
-model_refuses (Some name) refusal old new stops = step_refuses (Reads name) refusal old new stops
-
-judges_nothing : (model : Option (List ℕ)) (stop : Stop) (P : Type 0) (old new : View) → StopsModel model stop old new
-    → OnJudged {T = List ℕ} (Err stop) P
-judges_nothing model (Stop.Ends refusal) P old new stops = absurd (model_refuses model refusal old new stops)
-judges_nothing model Stop.Read P old new stops = tt
-judges_nothing model Stop.Write P old new stops = tt
-judges_nothing model Stop.Silent P old new stops = tt
-judges_nothing model Stop.Memory P old new stops = tt
-
--- where settings are refused no tree is drawn
-none_drawn : (job : Job) (inputs : Inputs) (stop : Stop)
-    → IsFound (settings_found job.settings inputs.settings) (Err stop) → OnJudged {T = List ℕ} (Err stop) (JobMeansSolids (Some job) inputs)
-none_drawn job inputs (Stop.Ends refusal) none =
-    λ settings found. let some : None ≡ Some settings = sym none ∙ found in let never : ⊥ = cc in absurd never
-none_drawn job inputs Stop.Read none = tt
-none_drawn job inputs Stop.Write none = tt
-none_drawn job inputs Stop.Silent none = tt
-none_drawn job inputs Stop.Memory none = tt
-
--- The script was played.
+StopsModel model stop old new = (whole rest : Script) (start : View) → ReadsNext model whole rest start old
+    → Stops whole stop start new
 
 module _ (words : List (List ℕ)) (files : Files) (job : Job) (form : job_of words ≡ Some job) where
   -- the settings were read, so that the model comes next
   next : (settings : Settings) (parts : Parts) (inputs : Inputs) (old here : View)
-      → ((follows : Settings → Script) (whole : Script) (start : View) → Left whole (settings_script job.settings inputs.settings follows) start old → Settled follows whole (Ok settings) start here)
-      → Left (command_script job.command job.settings parts inputs) (model_script job.command parts inputs.model settings) old here
+      → ((follows : Settings → Script) (whole : Script) (start : View)
+      → Left whole (settings_script job.settings inputs.settings follows) start old
+      → Settled follows whole (Ok settings) start here)
+      → Left (command_script job.command job.settings parts inputs) (model_script job.command parts inputs.model
+      settings) old here
   next settings parts inputs old here goes =
       let whole = command_script job.command job.settings parts inputs in
       goes (model_script job.command parts inputs.model) whole old (begun whole old)
 
   -- the source was read or made, and what follows it was played
-  pub works : (settings : Settings) (input : Input) (result : Result (List ℕ) Stop) (later : Files) (old here mid new : View)
+  pub works : (settings : Settings) (input : Input) (result : Result (List ℕ) Stop) (later : Files)
+      (old here mid new : View)
       → Settles job.settings files (Ok settings) old here → later ≡ files → Gets job.command later input
-      → ((whole rest : Script) (start : View) → ReadsNext (model_of job.command) whole rest start here → Left whole rest start mid)
-      → ((parts : Parts) → AreDrawn (Some input) parts → Completes (input_script job.command settings parts (Some input)) result mid new)
-      → OnJudged result (InputMeansSolids (Some input)) → Works words files result old new
-  works settings input result later old here mid new settles unmoved gets reads completes solids =
+      → ((whole rest : Script) (start : View) → ReadsNext (model_of job.command) whole rest start here
+      → Left whole rest start mid)
+      → ((parts : Parts) → AreDrawn (Some input) parts
+      → Completes (input_script job.command settings parts (Some input)) result mid new)
+      → Works words files result old new
+  works settings input result later old here mid new settles unmoved gets reads completes =
       let inputs : Inputs = record { settings = settles.read; model = gets.read } in
       let there = subst (λ (fs : Files). IsToldOf fs (model_of job.command) gets.read) unmoved gets.told in
       record {
@@ -159,12 +118,11 @@ module _ (words : List (List ℕ)) (files : Files) (job : Job) (form : job_of wo
             let rest = input_script job.command settings parts (Some input) in
             let of_job = subst (λ (j : Option Job). AreDrawn (source_in j inputs) parts) form drawn in
             let of_input = subst (λ (i : Option Input). AreDrawn i parts) gets.gives of_job in
-            let named = ap (λ i. model_read_first (model_of job.command) (input_script job.command settings parts i)) gets.gives in
+            let named = ap (λ i. model_read_first (model_of job.command) (input_script job.command settings parts i))
+            gets.gives in
             subst (λ (j : Option Job). EndsIn (job_script j parts inputs) result old new) (sym form)
-            (completes parts of_input whole old (reads whole rest old (as_left named (next settings parts inputs old here settles.goes))));
-        solids = subst (λ (j : Option Job). OnJudged result (JobMeansSolids j inputs)) (sym form)
-            (known_more result (InputMeansSolids (Some input)) (JobMeansSolids (Some job) inputs)
-            (λ known of_run found. subst InputMeansSolids (sym gets.gives) known) solids);
+            (completes parts of_input whole old
+            (reads whole rest old (as_left named (next settings parts inputs old here settles.goes))));
       }
 
   -- the model was not read
@@ -182,11 +140,11 @@ module _ (words : List (List ℕ)) (files : Files) (job : Job) (form : job_of wo
             let rest = input_script job.command settings parts (source_of job.command inputs.model) in
             subst (λ (j : Option Job). EndsIn (job_script j parts inputs) (Err stop) old new) (sym form)
             (stops whole rest old (next settings parts inputs old here settles.goes));
-        solids = judges_nothing (model_of job.command) stop (JobMeansSolids (job_of words) inputs) here new stops;
       })
 
   -- the settings were not read, or are refused
-  pub stops_settling : (result : Result (List ℕ) Stop) (stop : Stop) (old new : View) → Settles job.settings files (Err stop) old new
+  pub stops_settling : (result : Result (List ℕ) Stop) (stop : Stop) (old new : View)
+      → Settles job.settings files (Err stop) old new
       → result ≡ Err stop → Works words files result old new
   stops_settling result stop old new settles is =
       let inputs : Inputs = record { settings = settles.read; model = (unread words files).model } in
@@ -198,7 +156,6 @@ module _ (words : List (List ℕ)) (files : Files) (job : Job) (form : job_of wo
             let whole = command_script job.command job.settings parts inputs in
             subst (λ (j : Option Job). EndsIn (job_script j parts inputs) (Err stop) old new) (sym form)
             (settles.goes (model_script job.command parts inputs.model) whole old (begun whole old));
-        solids = subst (λ (j : Option Job). OnJudged {T = List ℕ} (Err stop) (JobMeansSolids j inputs)) (sym form) (none_drawn job inputs stop settles.found);
       })
 
 -- the words ask for nothing, or memory was wanting for them
@@ -209,16 +166,15 @@ asks_nothing words files (Stop.Ends refusal) old (is, form) =
       inputs = unread words files;
       read = unread_is words files;
       plays = λ parts drawn.
-          subst (λ (j : Option Job). EndsIn (job_script j parts (unread words files)) (Err (Stop.Ends refusal)) old old) (sym form)
+          subst (λ (j : Option Job). EndsIn (job_script j parts (unread words files)) (Err (Stop.Ends refusal)) old old)
+          (sym form)
           (as_left (ap (λ r. ends (Refuses r)) (sym is)) (begun (ends (Refuses Usage)) old));
-      solids = subst (λ (j : Option Job). JobMeansSolids j (unread words files)) (sym form) tt;
     }
 asks_nothing words files Stop.Memory old free =
     record {
       inputs = unread words files;
       read = unread_is words files;
       plays = λ parts drawn. let whole = script_of words parts (unread words files) in (whole, begun whole old);
-      solids = tt;
     }
 asks_nothing words files Stop.Read old impossible = absurd impossible
 asks_nothing words files Stop.Write old impossible = absurd impossible
@@ -227,7 +183,8 @@ asks_nothing words files Stop.Silent old impossible = absurd impossible
 pub refuses_words : (words : List (List ℕ)) (files : Files) (result : Result (List ℕ) Stop) (stop : Stop) (old : View)
     → AsksNothing (job_of words) stop → result ≡ Err stop → Works words files result old old
 refuses_words words files result stop old nothing is =
-    subst (λ (r : Result (List ℕ) Stop). Works words files r old old) (sym is) (asks_nothing words files stop old nothing)
+    subst (λ (r : Result (List ℕ) Stop). Works words files r old old) (sym is) (asks_nothing words files stop old
+    nothing)
 
 -- The source was evaluated, and what follows its tree was played.
 
@@ -236,32 +193,36 @@ PlaysOn command settings tree result old new =
     (parts : Parts) → ArePartsOfTree tree parts → Completes (follows command settings parts tree) result old new
 
 -- parts of what a source means are those of its tree
-pub parts_meant : (source : List ℕ) (tree : Solid) (parts : Parts) → MeansTree tree source → ArePartsOf (source_means source) parts
+pub parts_meant : (source : List ℕ) (tree : Solid) (parts : Parts) → MeansTree tree source
+    → ArePartsOf (source_means source) parts
     → ArePartsOfTree tree parts
 parts_meant source tree parts (s, is) drawn = subst (λ (m : Outcome Solid). ArePartsOf m parts) is drawn
 
-pub source_follows : (command : Command) (settings : Settings) (text source : List ℕ) (input : Input) (tree : Solid) (result : Result (List ℕ) Stop)
+pub source_follows : (command : Command) (settings : Settings) (text source : List ℕ) (input : Input) (tree : Solid)
+    (result : Result (List ℕ) Stop)
     (old mid new : View) → input ≡ Whole source → text ≡ source → MeansTree tree text
-    → ((f : Solid → Script) (whole : Script) (start : View) → Left whole (told f (source_means text)) start old → Left whole (f tree) start mid)
+    → ((f : Solid → Script) (whole : Script) (start : View) → Left whole (told f (source_means text)) start old
+    → Left whole (f tree) start mid)
     → PlaysOn command settings tree result mid new
-    → (parts : Parts) → AreDrawn (Some input) parts → Completes (input_script command settings parts (Some input)) result old new
-source_follows command settings text source input tree result old mid new is same means tells plays parts drawn whole start left =
+    → (parts : Parts) → AreDrawn (Some input) parts → Completes (input_script command settings parts (Some input))
+    result old new
+source_follows command settings text source input tree result old mid new is same means tells plays parts drawn whole
+    start left =
     let input_is : input ≡ Whole text = is ∙ ap Whole (sym same) in
     let of_text = subst (λ (i : Input). AreDrawn (Some i) parts) input_is drawn in
     plays parts (parts_meant text tree parts means of_text) whole start
-    (tells (follows command settings parts) whole start (as_left (ap (λ i. input_script command settings parts (Some i)) input_is) left))
+    (tells (follows command settings parts) whole start (as_left (ap (λ i. input_script command settings parts (Some i))
+    input_is) left))
 
-pub source_stops : (command : Command) (settings : Settings) (text source : List ℕ) (input : Input) (stop : Stop) (result : Result (List ℕ) Stop)
+pub source_stops : (command : Command) (settings : Settings) (text source : List ℕ) (input : Input) (stop : Stop)
+    (result : Result (List ℕ) Stop)
     (old new : View) → input ≡ Whole source → text ≡ source → result ≡ Err stop
-    → ((f : Solid → Script) (whole : Script) (start : View) → Left whole (told f (source_means text)) start old → Stops whole stop start new)
-    → (parts : Parts) → AreDrawn (Some input) parts → Completes (input_script command settings parts (Some input)) result old new
+    → ((f : Solid → Script) (whole : Script) (start : View) → Left whole (told f (source_means text)) start old
+    → Stops whole stop start new)
+    → (parts : Parts) → AreDrawn (Some input) parts → Completes (input_script command settings parts (Some input))
+    result old new
 source_stops command settings text source input stop result old new is same fails tells parts drawn whole start left =
     let input_is : input ≡ Whole text = is ∙ ap Whole (sym same) in
     subst (λ (r : Result (List ℕ) Stop). EndsIn whole r start new) (sym fails)
-    (tells (follows command settings parts) whole start (as_left (ap (λ i. input_script command settings parts (Some i)) input_is) left))
-
-pub source_solids : (text source : List ℕ) (input : Input) (result : Result (List ℕ) Stop) → input ≡ Whole source → text ≡ source
-    → OnJudged result (MeansSolids text) → OnJudged result (InputMeansSolids (Some input))
-source_solids text source input result is same known =
-    let input_is : Whole text ≡ input = ap Whole same ∙ sym is in
-    subst (λ (i : Input). OnJudged result (InputMeansSolids (Some i))) input_is known
+    (tells (follows command settings parts) whole start (as_left (ap (λ i. input_script command settings parts (Some i))
+    input_is) left))

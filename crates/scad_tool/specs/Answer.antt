@@ -11,7 +11,7 @@ use Rattle.scad_words.specs.declared.job.Command.TheVariants.{Check, Tree, Slice
 use Rattle.scad_words.specs.declared.job.Job.{Job}
 use Rattle.scad_words.specs.declared.settings.Settings.{Settings}
 use Rattle.scad_words.specs.Job.{job_of}
-use Rattle.scad_words.specs.Settings.{settings_of, default_settings}
+use Rattle.scad_words.specs.Settings.{settings_of, default_settings, AreInRange}
 use Rattle.scad_script.specs.declared.loading.Input.{Input}
 use Rattle.scad_script.specs.declared.loading.Input.TheVariants.{Whole, Long}
 use Rattle.scad_script.specs.declared.refusal.Refusal.TheVariants.{Usage, Settings as IsSettings, Over}
@@ -22,7 +22,7 @@ use Rattle.scad_tree.specs.Solid.{Solid}
 use Rattle.slice_work.specs.declared.want.Want.{Want}
 use Rattle.slice_work.specs.declared.want.Want.TheVariants.{Outlines as IsOutlines, Plan as IsPlan}
 use Rattle.slice_work.specs.Part.{Part}
-use Rattle.scad_slice.specs.Parts.{IsPart}
+use Rattle.scad_slice.specs.Parts.{IsLayer}
 use Rattle.scad_slice.specs.Script.{slice_script, plan_script}
 use Rattle.scad_sample.specs.Sample.{sample_text}
 use Rattle.scad_tool.specs.Words.{model_of}
@@ -127,9 +127,11 @@ read_of words contents =
 abbrev pub IsRead : List (List ℕ) → Files → Inputs → Type 0
 IsRead words files inputs = IfSome files (λ contents. inputs ≡ read_of words contents)
 
--- parts of a tree
+-- parts of a tree: by settings in range each layer is the tree's
 abbrev pub ArePartsOfTree : Solid → Parts → Type 0
-ArePartsOfTree tree parts = (want : Want) (settings : Settings) → IsPart want settings tree (parts want settings)
+ArePartsOfTree tree parts =
+    (want : Want) (settings : Settings) → AreInRange settings
+    → (i : ℕ) → IsLayer want settings tree i (parts want settings i)
 
 -- parts of the tree, if there is one
 abbrev pub ArePartsOf : Outcome Solid → Parts → Type 0
@@ -150,13 +152,18 @@ source_in (Some job) inputs = source_of job.command inputs.model
 abbrev pub AreParts : List (List ℕ) → Inputs → Parts → Type 0
 AreParts words inputs parts = AreDrawn (source_in (job_of words) inputs) parts
 
--- the script of the words, with what was read and with the parts of the source's tree, has this property
-abbrev pub OnScript : List (List ℕ) → Files → (Script → Type 0) → Type 0
-OnScript words files Holds =
-    (inputs : Inputs) × (parts : Parts)
-    × IsRead words files inputs × AreParts words inputs parts × Holds (script_of words parts inputs)
+-- The script of the words and of what was read has this property, with the parts that there are of the source's tree
+-- and
+-- with all others. These give the same script (the law), so what is said here is said of the answer.
+pub record OnScript (words : List (List ℕ)) (files : Files) (Holds : Script → Type 0) : Type 0 where
+  pub inputs : Inputs
+  pub read : IsRead words files inputs
+  pub parts : Parts
+  pub drawn : AreParts words inputs parts
+  pub holds : (others : Parts) → AreParts words inputs others → Holds (script_of words others inputs)
 
--- the whole answer for words, for what the names contain and for the parts of the source's tree; there is none where a file
+-- the whole answer for words, for what the names contain and for the parts of the source's tree; there is none where a
+-- file
 -- that is to be read is missing
 abbrev pub answer : List (List ℕ) → (List ℕ → Option (List ℕ)) → Parts → Option Answer
 answer words contents parts = answer_of (script_of words parts (read_of words contents))

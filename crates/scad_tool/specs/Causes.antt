@@ -1,10 +1,10 @@
 -- Every refusal has its named cause.
-use Rattle.std.specs.Prelude.{◌≡◌, ◌⊎◌, ◌<◌, true, List, ℕ, Option, Some, None, Ok, Err}
+use Rattle.std.specs.Prelude.{◌≡◌, ◌⊎◌, ◌<◌, ◌≤◌, true, List, ℕ, Option, Some, None, Err}
 use Rattle.scad_fault.specs.declared.budget.Budget.{Budget}
 use Rattle.scad_fault.specs.declared.fault.Fault.{Fault}
 use Rattle.scad_fault.specs.declared.settings.SetFault.{SetFault}
 use Rattle.scad_fault.specs.declared.status.Status.{Status}
-use Rattle.scad_fault.specs.declared.status.Status.TheVariants.{Done, Source, Usage, Settings, Read, Write, Over, Memory}
+use Rattle.scad_fault.specs.declared.status.Status.TheVariants.{Source, Usage, Settings, Read, Write, Over}
 use Rattle.scad_io.specs.Desk.{Files, View}
 use Rattle.scad_words.specs.declared.job.Command.{Command}
 use Rattle.scad_words.specs.declared.job.Command.TheVariants.{Check, Tree, Slice, Plan, Sample}
@@ -30,10 +30,12 @@ use Rattle.scad_tool.specs.Promises.{MeansTree, IsWithinLimits}
 -- a tree has more layers than the limit, and the budget says how many
 abbrev pub HasManyLayers : SettingsOfRun → Solid → Budget → Type 0
 HasManyLayers settings tree budget =
-    (layer_limit < layer_count settings.layer_height tree) × (budget ≡ layers_passed (layer_count settings.layer_height tree))
+    (layer_limit < layer_count settings.layer_height tree)
+    × (budget ≡ layers_passed (layer_count settings.layer_height tree))
 
--- the least layer that passes a budget passes this one
+-- there are not too many layers, and the least one that passes a budget passes this one
 pub record PassesAtLayer (want : Want) (settings : SettingsOfRun) (tree : Solid) (budget : Budget) : Type 0 where
+  pub few : layer_count settings.layer_height tree ≤ layer_limit
   pub layer : ℕ
   pub there : layer < layer_count settings.layer_height tree
   pub below : (i : ℕ) → i < layer → IsWithinLimits want settings tree i
@@ -78,6 +80,13 @@ pub record MeansFault (job : Job) (inputs : Inputs) (fault : Fault) : Type 0 whe
   pub state : State
   pub means : source_means source ≡ refuses (IsFault fault) state
 
+-- a file that is to be read is missing: that of the settings, or that of the model where settings are found
+abbrev pub IsMissing : Job → Inputs → Type 0
+IsMissing job inputs =
+    ((name : List ℕ) × (job.settings ≡ Some name) × (inputs.settings ≡ None))
+    ⊎ ((settings : SettingsOfRun) × (settings_found job.settings inputs.settings ≡ Some settings)
+    × (source_in (Some job) inputs ≡ None))
+
 -- the text of the settings has this fault
 pub record SettingsHaveFault (job : Job) (inputs : Inputs) (fault : SetFault) : Type 0 where
   pub name : List ℕ
@@ -86,11 +95,17 @@ pub record SettingsHaveFault (job : Job) (inputs : Inputs) (fault : SetFault) : 
   pub read : inputs.settings ≡ Some text
   pub judged : settings_of text ≡ Err fault
 
+-- the settings are accepted, and the source is too long
+pub record SourceIsLong (job : Job) (inputs : Inputs) (budget : Budget) : Type 0 where
+  pub long : source_in (Some job) inputs ≡ Some Long
+  pub settings : SettingsOfRun
+  pub found : settings_found job.settings inputs.settings ≡ Some settings
+  pub is : budget ≡ source_long
+
 -- the source is too long, or a budget is passed
 abbrev pub IsTooMuch : Job → Inputs → Budget → Type 0
 IsTooMuch job inputs budget =
-    ((source_in (Some job) inputs ≡ Some Long) × (budget ≡ source_long))
-    ⊎ (EvaluationPasses job inputs budget ⊎ DrawingPasses job inputs budget)
+    SourceIsLong job inputs budget ⊎ (EvaluationPasses job inputs budget ⊎ DrawingPasses job inputs budget)
 
 -- the cause in the words and in what was read of the files
 abbrev pub IsCause : Option Job → Inputs → Status → Type 0
@@ -100,8 +115,10 @@ IsCause job inputs (Source fault) = (given : Job) × (job ≡ Some given) × Mea
 IsCause job inputs (Over budget) = (given : Job) × (job ≡ Some given) × IsTooMuch given inputs budget
 IsCause job inputs status = Unit {0}
 
--- The cause that each status names: of Usage, Settings, Source and Over one in the words and in what was read of the files; of
--- Read and Write an object of the desk that failed, by a name of the words, while the count of faults rose. Want of memory has
+-- The cause that each status names: of Usage, Settings, Source and Over one in the words and in what was read of the
+-- files; of
+-- Read and Write an object of the desk that failed, by a name of the words, while the count of faults rose. Want of
+-- memory has
 -- no further cause.
 abbrev pub HasCause : List (List ℕ) → Files → Status → View → View → ℕ → ℕ → Type 0
 HasCause words files Read old new before now = (before < now) × IsReadFault (given_by words) old new

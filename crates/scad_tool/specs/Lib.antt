@@ -6,5 +6,8 @@ pub mod Answer
 pub mod Playing
 pub mod Promises
 pub mod Causes
+pub mod Printing
+pub mod Cut
+pub mod ByGrammar
 pub mod Headline
 pub mod Laws

@@ -63,14 +63,17 @@ Answers words files Write old new = Unit {0}
 Answers words files Memory old new = Unit {0}
 Answers words files status old new = IsAnswered words files status old new
 
--- Status 0 of `slice` and `plan`: the outlines that were written are the text of layers, of the height that the settings
+-- Status 0 of `slice` and `plan`: the outlines that were written are the text of layers, of the height that the
+-- settings
 -- give, that hold what the tree of the source contains.
 abbrev pub OutlinesHoldTree : List (List ℕ) → Files → View → View → Type 0
 OutlinesHoldTree words files old new =
-    (job : Job) (model cli : List ℕ) → job_of words ≡ Some job → model_of job.command ≡ Some model → cli_of job.command ≡ Some cli
+    (job : Job) (model cli : List ℕ) → job_of words ≡ Some job → model_of job.command ≡ Some model → cli_of job.command
+    ≡ Some cli
     → (settings : SettingsOfRun) × (tree : Solid) × (layers : List Layer)
     × IfSome files (λ contents. GoBy contents job.settings settings)
-    × IsTreeOf files model tree × Adds (text_of_layers layers) old.cli new.cli × HoldTree settings.layer_height tree layers
+    × IsTreeOf files model tree × Adds (text_of_layers layers) old.cli new.cli × HoldTree settings.layer_height tree
+    layers
 
 -- the report is the lines of `echo` and the status's line
 abbrev pub IsReported : Script → Status → View → View → Type 0
@@ -87,7 +90,8 @@ pub record IsProgramFront (number : ℕ) (text : List ℕ) : Type 0 where
   pub count : length paths ≡ number
   pub is : text ≡ program_head settings.hot_end settings.bed ++ layers_text (rates_of settings) 0 0 paths
 
--- a layer passed the budget: the outlines are the head and the layers before it, without an end; so is the printing program,
+-- a layer passed the budget: the outlines are the head and the layers before it, without an end; so is the printing
+-- program,
 -- where there is one
 pub record IsCutShort (whole : Script) (budget : Budget) (old new : View) : Type 0 where
   pub kind : (budget.kind ≡ LayerEdges) ⊎ ((budget.kind ≡ LayerCrossings) ⊎ (budget.kind ≡ LayerMoves))
@@ -99,7 +103,8 @@ pub record IsCutShort (whole : Script) (budget : Budget) (old new : View) : Type
   pub outlines : Adds (head count ++ flat_map layer_text before) old.cli new.cli
   pub program : (text : List ℕ) × ((text ≡ []) ⊎ IsProgramFront budget.layer text) × Adds text old.gcode new.gcode
 
--- Statuses 1, 2, 3 and 6: the report is the lines of `echo` and the status's line, and no output is created, unless a layer
+-- Statuses 1, 2, 3 and 6: the report is the lines of `echo` and the status's line, and no output is created, unless a
+-- layer
 -- passed a budget.
 abbrev pub Refuses : Script → Status → View → View → Type 0
 Refuses whole (Source fault) old new = IsRefused whole (Source fault) old new
@@ -138,7 +143,8 @@ CanBeDrawn want settings tree =
     (layer_count settings.layer_height tree ≤ layer_limit)
     × ((i : ℕ) → i < layer_count settings.layer_height tree → IsWithinLimits want settings tree i)
 
--- what a command asks of its source: that it means a tree; `check` and those that draw, that this has no more layers than
+-- what a command asks of its source: that it means a tree; `check` and those that draw, that this has no more layers
+-- than
 -- the limit; those that draw, that none of them passes a budget
 abbrev pub Accepts : Command → SettingsOfRun → Solid → Type 0
 Accepts (Check model) settings tree = layer_count settings.layer_height tree ≤ layer_limit
@@ -150,10 +156,12 @@ Accepts (Sample n) settings tree = CanBeDrawn IsPlan settings tree
 abbrev pub IsAccepted : Command → SettingsOfRun → List ℕ → Type 0
 IsAccepted command settings source = (tree : Solid) × MeansTree tree source × Accepts command settings tree
 
--- Where the words are of the form, the settings are accepted, the source is within its limit and accepted, and the count
+-- Where the words are of the form, the settings are accepted, the source is within its limit and accepted, and the
+-- count
 -- of faults doesn't rise, all is done, or memory is wanting.
 abbrev pub IsComplete : List (List ℕ) → Files → Status → ℕ → ℕ → Type 0
 IsComplete words files status before now =
     IfSome files (λ contents. (job : Job) (settings : SettingsOfRun) (source : List ℕ) → job_of words ≡ Some job
-    → GoBy contents job.settings settings → source_of job.command (text_read (model_of job.command) contents) ≡ Some (Whole source)
+    → GoBy contents job.settings settings → source_of job.command (text_read (model_of job.command) contents)
+    ≡ Some (Whole source)
     → IsAccepted job.command settings source → now ≡ before → (status ≡ Done) ⊎ (status ≡ Memory))

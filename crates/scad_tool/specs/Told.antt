@@ -53,7 +53,8 @@ ok_line leaves triangles count =
 -- `check`: the numbers of the tree's leaves, of their triangles and of its layers of the height h in micrometres
 abbrev pub check_end : ℕ → ℕ → ℕ → Ending
 check_end leaves triangles count =
-    if nat_lt layer_limit count then Refuses (IsOver (layers_passed count)) else Finishes (ok_line leaves triangles count)
+    if nat_lt layer_limit count then Refuses (IsOver (layers_passed count)) else Finishes
+    (ok_line leaves triangles count)
 
 abbrev pub check_script : ℕ → Solid → Script
 check_script h tree = ends (check_end (leaf_count tree) (triangle_count tree) (layer_count h tree))
@@ -65,7 +66,8 @@ tree_script tree = ends (Finishes (text_of tree))
 -- `L layers, K loops, M moves, E e`
 unfoldable pub counts_text : ℕ → ℕ → ℕ → ℕ → List ℕ
 counts_text count loops moves e =
-    decimal count ++ codes " layers, " ++ decimal loops ++ codes " loops, " ++ decimal moves ++ codes " moves, E " ++ fixed 5 e
+    decimal count ++ codes " layers, " ++ decimal loops ++ codes " loops, " ++ decimal moves ++ codes " moves, E " ++
+    fixed 5 e
 
 -- `, C cli bytes, G gcode bytes`
 unfoldable pub sizes_text : ℕ → ℕ → List ℕ
@@ -79,7 +81,8 @@ sample_line n count loops moves e cli gcode =
 -- what is told of so many layers, and of the sizes of both files
 abbrev pub sample_end : ℕ → Settings → Part → ℕ → Script
 sample_end n s part count =
-    ends (Finishes (sample_line n count (loop_count part count) (moves_below Plan part count) (amount_below s part count)
+    ends (Finishes (sample_line n count (loop_count part count) (moves_below Plan part count)
+    (amount_below s part count)
     (file_size Cli Plan s part count) (file_size Gcode Plan s part count)))
 
 -- a script's ending, without its steps

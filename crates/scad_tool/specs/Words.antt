@@ -1,5 +1,5 @@
 -- The files that a job of the command line names.
-use Rattle.std.specs.Prelude.{◌++◌, List, [], ◌∷◌, ℕ, Option, Some, None}
+use Rattle.std.specs.Prelude.{◌++◌, List, ℕ, Option, Some, None}
 use Rattle.scad_script.specs.Names.{Given, nothing_given}
 use Rattle.scad_words.specs.declared.job.Command.{Command}
 use Rattle.scad_words.specs.declared.job.Command.TheVariants.{Check, Tree, Slice, Plan, Sample}

@@ -8,8 +8,8 @@ ghost use Rattle.scad_tool.specs.Playing.{IsEnd};
 use itoa::Buffer;
 use scad_fault::{Budget, Text};
 use scad_script::{Refusal, Stop};
+use scad_slice::LAYER_LIMIT;
 use scad_tree::Tree;
-use slice_work::LAYER_LIMIT;
 use std::alloc::{AllocError, Global};
 
 /// The tree's text.

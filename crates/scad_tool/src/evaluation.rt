@@ -1,5 +1,5 @@
 //! Evaluation of a source, with its echo lines.
-ghost use Rattle.std.specs.Prelude.{◌≡◌, ◌-◌, ◌^◌, ◌<◌, ◌≤◌, ◌++◌, ◌∷◌, [], length, codes, flat_map, OnOk, IfOk, IfErr};
+ghost use Rattle.std.specs.Prelude.{◌≡◌, ◌-◌, ◌^◌, ◌<◌, ◌≤◌, ◌++◌, ◌∷◌, [], length, codes, flat_map, OnOk, IfOk};
 ghost use Rattle.scad_io.specs.Desk.{View};
 ghost use Rattle.scad_io.specs.declared.desk.Out.TheVariants.{Report};
 ghost use Rattle.scad_script.specs.Steps.{Sends};
@@ -10,7 +10,7 @@ ghost use Rattle.scad_tree.specs.Solid.{Solid};
 ghost use Rattle.scad_tree.specs.View.{solid_of};
 ghost use Rattle.scad_tool.specs.Meaning.{source_means};
 ghost use Rattle.scad_tool.specs.Told.{echo_text, refusal_of, told};
-ghost use Rattle.scad_tool.specs.Playing.{Tells, IsRefusedBy};
+ghost use Rattle.scad_tool.specs.Playing.{Tells};
 ghost use Rattle.scad_tool.specs.Promises.{MeansTree};
 
 use crate::meaning::made;
@@ -29,7 +29,6 @@ pub fn evaluate<D: Desk>(alloc: Global, source: &[u8], desk: &mut D) -> Result<T
 
     ensures tells { Tells (source_means source.now) result (D.view desk.old) (D.view desk.new) }
     ensures means { IfOk result (λ tree. MeansTree (solid_of tree) source.now) }
-    ensures refuses { IfErr result (IsRefusedBy (source_means source.now)) }
     ensures sound { OnOk result (Sound (D.view desk.new)) }
     ensures creates { OnOk result (CreatesNone (D.view desk.old) (D.view desk.new)) }
     ensures files { D.files desk.new ≡ D.files desk.old }

@@ -6,18 +6,23 @@ ghost use Rattle.scad_words.specs.Job.{job_of};
 ghost use Rattle.scad_tool.specs.Words.{given_by};
 ghost use Rattle.scad_tool.specs.Answer.{OnScript};
 ghost use Rattle.scad_tool.specs.Headline.{Headline};
+ghost use Rattle.scad_tool.specs.Printing.{PlanAddsPrint};
+ghost use Rattle.scad_tool.specs.Cut.{CutsShort};
+ghost use Rattle.scad_tool.specs.ByGrammar.{SourcesGoByGrammar};
 ghost use Rattle.scad_tool.specs.Promises.{Answers, OutlinesHoldTree, Refuses, LeavesOutputs, JudgesWords, IsComplete};
 
 use crate::work::work;
-use print_laws::laws::prints_stay_inside;
+use print_laws::laws::{layers_are_printed, prints_are_one};
 use scad_fault::Status;
+use scad_grammar::laws::judges_as_the_grammar;
 use scad_io::{Desk, Gate};
 use scad_script::report;
 use std::alloc::Global;
 use std::thread::Threads;
 
 /// Runs the command of these words, those behind the program's name, over a desk. The layers of a part are shared among as many
-/// workers as the words say, each in a thread of its own.
+/// workers as the words say; the runtime
+/// gives them threads where it can, and else works them one after another.
 ///
 /// What is said of bytes and names holds where the desk tells them. A desk that doesn't tell what the
 /// files contain leaves open which of the statuses Done, Source and Over comes. Want of memory may come
@@ -36,21 +41,28 @@ pub fn run<R: Threads + Sync, D: Desk, G: Gate>(
         (D.faults desk.old) (D.faults desk.new) }
 
     // The run plays the script of the words, of what was read of the settings and the model and of what is drawn of
-    // its tree, to its end or until it stops, and then tries the last line. The clauses below follow from this one. It
-    // says what the desk shows, not how many calls were made.
+    // its tree, to its end or until it stops, and then tries the last line. It says what the desk shows, not how many
+    // calls were made.
     ensures runs { OnScript (map string_bytes words.now) (D.files desk.old)
         (λ whole. RunsTo whole result (D.view desk.old) (D.view desk.new)) }
 
     // The status and all bytes are one function of the words and the files.
     ensures answer { Answers (map string_bytes words.now) (D.files desk.old) result (D.view desk.old) (D.view desk.new) }
 
-    // The outlines that `slice` or `plan` wrote hold what the source's tree contains.
+    // What `plan` added to both files is a print of the source's tree, and nothing else is one.
+    ensures print { result ≡ Status.Done → PlanAddsPrint (map string_bytes words.now) (D.files desk.old) (D.view desk.old) (D.view desk.new) }
+
+    // What a source means goes by the grammar of programs.
+    ensures grammar { SourcesGoByGrammar }
+
+    // The outlines that `slice` or `plan` wrote hold what the source's tree contains, and lie near to its border.
     ensures outlines { result ≡ Status.Done → OutlinesHoldTree (map string_bytes words.now) (D.files desk.old) (D.view desk.old) (D.view desk.new) }
 
     // When each other status comes, and how the files then stand.
     ensures words { JudgesWords (map string_bytes words.now) result }
     ensures refusal { OnScript (map string_bytes words.now) (D.files desk.old)
         (λ whole. Refuses whole result (D.view desk.old) (D.view desk.new)) }
+    ensures cut { CutsShort (map string_bytes words.now) (D.files desk.old) result (D.view desk.old) (D.view desk.new) }
     ensures read_fault { result ≡ Status.Read → IsReadFault (given_by (map string_bytes words.now)) (D.view desk.old) (D.view desk.new) }
     ensures read_cause { result ≡ Status.Read → D.faults desk.old < D.faults desk.new }
     ensures write_fault { result ≡ Status.Write → OnScript (map string_bytes words.now) (D.files desk.old)
@@ -75,7 +87,9 @@ pub fn run<R: Threads + Sync, D: Desk, G: Gate>(
     ensures files { D.files desk.new ≡ D.files desk.old }
     ensures faults { D.faults desk.old ≤ D.faults desk.new }
 {
-    prints_stay_inside();
+    layers_are_printed();
+    prints_are_one();
+    judges_as_the_grammar();
     let ended = work(rt, alloc, words, desk, gate);
     report(alloc, ended, desk)
 }

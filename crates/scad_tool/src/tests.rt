@@ -2,12 +2,13 @@
 ghost use Rattle.std.specs.Prelude.{◌≡◌, Some, [], IfOk};
 ghost use Rattle.scad_io.specs.Desk.{unused};
 
+mod failures;
 mod plans;
 mod settings;
 mod slices;
 mod sources;
+mod workers;
 
-use crate::laws;
 use crate::run::run;
 use scad_fault::{Status, Text};
 use scad_io::{MemoryDesk, Open, Out};
@@ -130,11 +131,6 @@ fn unknown_model(rt: HostRuntime) -> Result<(), Fail> {
     expect(&rt, &answer, 4, "read fault\n", "unknown model");
     assert!(rt; answer.cli.is_empty() && answer.faults == 1);
     Ok(())
-}
-
-#[test]
-fn laws_are_called() {
-    laws::answers_are_one();
 }
 
 #[test]

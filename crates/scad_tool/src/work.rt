@@ -7,7 +7,7 @@ ghost use Rattle.scad_words.specs.Job.{job_of};
 ghost use Rattle.scad_words.specs.Settings.{AreInRange};
 ghost use Rattle.scad_tool.specs.Words.{model_of};
 ghost use Rattle.scad_tool.specs.Answer.{source_limit, model_read_first, input_script, AreDrawn};
-ghost use Rattle.scad_tool.specs.Playing.{OnJudged, InputMeansSolids, Gets, Works, AsksNothing};
+ghost use Rattle.scad_tool.specs.Playing.{Gets, Works, AsksNothing};
 
 use crate::evaluation::evaluate;
 use crate::finish::finish;
@@ -101,7 +101,6 @@ fn follow<R: Threads + Sync, D: Desk, G: Gate>(
 
     ensures completes { (parts : _) → AreDrawn (Some input) parts
         → Completes (input_script job.now.command settings.now parts (Some input)) result (D.view desk.old) (D.view desk.new) }
-    ensures solids { OnJudged result (InputMeansSolids (Some input)) }
     ensures files { D.files desk.new ≡ D.files desk.old }
     ensures later { D.faults desk.old ≤ D.faults desk.new }
     ensures cause { HasRisen result (D.faults desk.old) (D.faults desk.new) }

@@ -24,7 +24,8 @@ over_both plane None b over = (tt, over)
 over_both plane (Some z) None over = (over, tt)
 over_both plane (Some z) (Some w) over = (omega (arith, ints, clamps, over), omega (arith, ints, clamps, over))
 
-over_one : (plane : ℤ) (a b : Option ℤ) → IsOver plane (lower_of a b) → IsOver plane a ⊎ (IsOver plane b × (is_none b ≡ false))
+over_one : (plane : ℤ) (a b : Option ℤ) → IsOver plane (lower_of a b)
+    → IsOver plane a ⊎ (IsOver plane b × (is_none b ≡ false))
 over_one plane None b over = inl tt
 over_one plane (Some z) None over = inl over
 over_one plane (Some z) (Some w) over = chosen (int_lt z w) refl
@@ -43,9 +44,11 @@ module _ (plane : ℤ) (p : Point) where
     none_above (intersection (member s rest)) over =
         elim (over_one plane (top_of s) (least rest) over) [
           | inl first ↦ ap (λ b. b && all_hold (λ ts. contains plane ts p) rest) (none_above s first)
-          | inr later ↦ ap (λ b. contained plane p s && b) (later_above rest later.0 later.1) ∙ and-false (contained plane p s)
+          | inr later ↦ ap (λ b. contained plane p s && b) (later_above rest later.0 later.1) ∙ and-false
+              (contained plane p s)
         ]
-    none_above (difference first rest) over = ap (λ b. b && not (some_hold (λ ts. contains plane ts p) rest)) (none_above first over)
+    none_above (difference first rest) over = ap (λ b. b && not (some_hold (λ ts. contains plane ts p) rest))
+        (none_above first over)
 
     some_above : (ms : Solids) → IsOver plane (greatest ms) → some_hold (λ ts. contains plane ts p) ms ≡ false
     some_above none over = refl
@@ -53,12 +56,14 @@ module _ (plane : ℤ) (p : Point) where
         let both = over_both plane (top_of s) (greatest rest) over in
         ap₂ (λ a b. a || b) (none_above s both.0) (some_above rest both.1)
 
-    later_above : (ms : Solids) → IsOver plane (least ms) → is_none (least ms) ≡ false → all_hold (λ ts. contains plane ts p) ms ≡ false
+    later_above : (ms : Solids) → IsOver plane (least ms) → is_none (least ms) ≡ false
+        → all_hold (λ ts. contains plane ts p) ms ≡ false
     later_above none over some = absurd (cc)
     later_above (member s rest) over some =
         elim (over_one plane (top_of s) (least rest) over) [
           | inl first ↦ ap (λ b. b && all_hold (λ ts. contains plane ts p) rest) (none_above s first)
-          | inr later ↦ ap (λ b. contained plane p s && b) (later_above rest later.0 later.1) ∙ and-false (contained plane p s)
+          | inr later ↦ ap (λ b. contained plane p s && b) (later_above rest later.0 later.1) ∙ and-false
+              (contained plane p s)
         ]
 
 -- a layer that isn't among those below the top has its plane above it

@@ -16,7 +16,8 @@ step : (b : Bool) (a k m : ℕ) → b ≡ nat_lt a k → cond b 1 0 + min m (k -
 step true a k m e = grind (arith, nat_tests)
 step false a k m e = grind (arith, nat_tests)
 
-counted : (p : ℕ → Bool) (k : ℕ) → ((n : ℕ) → p n ≡ nat_lt n k) → (m a : ℕ) → count_by p (range_with_len a m) ≡ min m (k - a)
+counted : (p : ℕ → Bool) (k : ℕ) → ((n : ℕ) → p n ≡ nat_lt n k) → (m a : ℕ) → count_by p (range_with_len a m)
+    ≡ min m (k - a)
 counted p k same zero a = let none : 0 ≡ min 0 (k - a) = omega arith in none
 counted p k same (suc m) a =
     sum_by-cons (λ n. cond (p n) 1 0) a (range_with_len (a + 1) m)
@@ -61,7 +62,8 @@ module _ (h t q : ℕ) (some : 0 < h) (is : q ≡ (t - h / 2) / h + min 1 ((t - 
   unfolding layers_below
   counted_below = let bound = few in sym (counted (is_below_top (pos t) h) q test t 0 ∙ omega arith)
 
-pub layers_above : (z : ℤ) (h : ℕ) → 0 < h → int_lt z (pos 0) ≡ false → (q : ℕ) → q ≡ (unsigned_abs z - h / 2) / h + min 1 ((unsigned_abs z - h / 2) % h) → q ≡ layers_below z h
+pub layers_above : (z : ℤ) (h : ℕ) → 0 < h → int_lt z (pos 0) ≡ false → (q : ℕ) → q ≡ (unsigned_abs z - h / 2) / h + min
+    1 ((unsigned_abs z - h / 2) % h) → q ≡ layers_below z h
 layers_above (pos t) h some above q is = counted_below h t q some is
 layers_above (negsuc t) h some above q is = absurd (cc)
 

@@ -7,20 +7,24 @@ use Rattle.scad_tree.specs.Text.{indent}
 use Rattle.scad_tree.specs.View.{solid_of, solids}
 use Rattle.scad_tree.proofs.Rows.{left-more}
 
-pub indent_more : (level counter : ℕ) → counter < level → indent (level - counter) ≡ codes "  " ++ indent (level - (counter + 1))
+pub indent_more : (level counter : ℕ) → counter < level → indent (level - counter) ≡ codes "  " ++ indent
+    (level - (counter + 1))
 indent_more level counter below = let more : level - counter ≡ suc (level - (counter + 1)) = omega arith in ap indent more
 
 -- two pieces, one after the other, and three
-pub pieces : {X : Type 0} (old mid new head rest whole : List X) → mid ≡ old ++ head → new ≡ mid ++ rest → whole ≡ head ++ rest → new ≡ old ++ whole
+pub pieces : {X : Type 0} (old mid new head rest whole : List X) → mid ≡ old ++ head → new ≡ mid ++ rest
+    → whole ≡ head ++ rest → new ≡ old ++ whole
 pieces old mid new head rest whole first more is =
     more ∙ ap (λ m. m ++ rest) first ∙ append_assoc old head rest ∙ ap (λ w. old ++ w) (sym is)
 
-pub three_pieces : {X : Type 0} (old mid new last head middle rest whole : List X) → mid ≡ old ++ head → new ≡ mid ++ middle → last ≡ new ++ rest → whole ≡ head ++ middle ++ rest → last ≡ old ++ whole
+pub three_pieces : {X : Type 0} (old mid new last head middle rest whole : List X) → mid ≡ old ++ head
+    → new ≡ mid ++ middle → last ≡ new ++ rest → whole ≡ head ++ middle ++ rest → last ≡ old ++ whole
 three_pieces old mid new last head middle rest whole a b c is =
     pieces old new last (head ++ middle) rest whole (pieces old mid new head middle (head ++ middle) a b refl) c is
 
 -- how many leaves a difference has, and nodes one after another
-pub leaves_of_difference : (first : Solid) (rest : Solids) → leaves (difference first rest) ≡ leaves first + all_leaves rest
+pub leaves_of_difference : (first : Solid) (rest : Solids) → leaves (difference first rest) ≡ leaves first + all_leaves
+    rest
 leaves_of_difference first rest = length-append (surfaces first) (all_surfaces rest)
 
 pub leaves_of_member : (s : Solid) (rest : Solids) → all_leaves (member s rest) ≡ leaves s + all_leaves rest
@@ -29,13 +33,17 @@ leaves_of_member s rest = length-append (surfaces s) (all_surfaces rest)
 pub ruleset leaves_by_parts = (leaves_of_difference, leaves_of_member)
 
 -- the number of the leaf behind those of a difference
-pub behind : (leaf mid after : ℕ) (first : Solid) (rest : Solids) → mid ≡ leaf + leaves first → after ≡ mid + all_leaves rest → after ≡ leaf + leaves (difference first rest)
+pub behind : (leaf mid after : ℕ) (first : Solid) (rest : Solids) → mid ≡ leaf + leaves first
+    → after ≡ mid + all_leaves rest → after ≡ leaf + leaves (difference first rest)
 behind leaf mid after first rest a b = let both = leaves_of_difference first rest in omega arith
 
 -- and behind those of one more node
-pub numbered_more : (leaf after whole : ℕ) (nodes : List Node) (i : ℕ) (n : Node) → i < length nodes → n ≡ get_or nodes i n → after ≡ leaf + leaves (solid_of n) →
-    leaf + all_leaves (members (solids (drop i nodes))) ≡ whole → after + all_leaves (members (solids (drop (i + 1) nodes))) ≡ whole
+pub numbered_more : (leaf after whole : ℕ) (nodes : List Node) (i : ℕ) (n : Node) → i < length nodes
+    → n ≡ get_or nodes i n → after ≡ leaf + leaves (solid_of n) →
+    leaf + all_leaves (members (solids (drop i nodes))) ≡ whole
+    → after + all_leaves (members (solids (drop (i + 1) nodes))) ≡ whole
 numbered_more leaf after whole nodes i n below is next so_far =
     let rest = all_surfaces (members (solids (drop (i + 1) nodes))) in
-    let here : all_leaves (members (solids (drop i nodes))) ≡ leaves (solid_of n) + length rest = ap all_leaves (left-more nodes i n below is) ∙ leaves_of_member (solid_of n) (members (solids (drop (i + 1) nodes))) in
+    let here : all_leaves (members (solids (drop i nodes))) ≡ leaves (solid_of n) + length rest = ap all_leaves
+    (left-more nodes i n below is) ∙ leaves_of_member (solid_of n) (members (solids (drop (i + 1) nodes))) in
     omega arith

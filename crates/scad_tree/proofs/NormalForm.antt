@@ -52,12 +52,15 @@ intersection_normal [] e = refl
 intersection_normal (s ∷ []) e = kept_normal s (and_parts (is_kept s) true e).0
 intersection_normal (s ∷ t ∷ rest) e = members_kept (s ∷ t ∷ rest) ∙ e
 
-pub without_normal : (first : Solid) (ss : List Solid) → is_kept first ≡ true → list_all is_kept ss ≡ true → is_normal (without first ss) ≡ true
+pub without_normal : (first : Solid) (ss : List Solid) → is_kept first ≡ true → list_all is_kept ss ≡ true
+    → is_normal (without first ss) ≡ true
 without_normal first [] e f = kept_normal first e
-without_normal first (s ∷ rest) e f = and_from (is_kept first) (are_kept (members (s ∷ rest))) e (members_kept (s ∷ rest) ∙ f)
+without_normal first (s ∷ rest) e f = and_from (is_kept first) (are_kept (members (s ∷ rest))) e
+    (members_kept (s ∷ rest) ∙ f)
 
 -- ---- one more
-pub all_more : (p : Solid → Bool) (ss ts : List Solid) → list_all p ss ≡ true → list_all p ts ≡ true → list_all p (ss ++ ts) ≡ true
+pub all_more : (p : Solid → Bool) (ss ts : List Solid) → list_all p ss ≡ true → list_all p ts ≡ true
+    → list_all p (ss ++ ts) ≡ true
 all_more p ss ts e f = list_all-append p ss ts ∙ and_from (list_all p ss) (list_all p ts) e f
 
 append_nil : (ss : List Solid) → ss ++ [] ≡ ss
@@ -68,15 +71,21 @@ append_assoc : (ss ts us : List Solid) → (ss ++ ts) ++ us ≡ ss ++ (ts ++ us)
 append_assoc [] ts us = refl
 append_assoc (s ∷ rest) ts us = ap (λ vs. s ∷ vs) (append_assoc rest ts us)
 
-pub parts_more : (ns : List Node) (n : Node) → flat_map parts (solids (ns ++ (n ∷ []))) ≡ flat_map parts (solids ns) ++ parts (solid_of n)
+pub parts_more : (ns : List Node) (n : Node) → flat_map parts (solids (ns ++ (n ∷ []))) ≡ flat_map parts (solids ns) ++
+    parts (solid_of n)
 parts_more [] n = append_nil (parts (solid_of n))
-parts_more (m ∷ ns) n = ap (λ ss. parts (solid_of m) ++ ss) (parts_more ns n) ∙ sym (append_assoc (parts (solid_of m)) (flat_map parts (solids ns)) (parts (solid_of n)))
+parts_more (m ∷ ns) n = ap (λ ss. parts (solid_of m) ++ ss) (parts_more ns n) ∙ sym (append_assoc (parts (solid_of m))
+    (flat_map parts (solids ns)) (parts (solid_of n)))
 
-after : (b : Bool) (ns : List Node) (n : Node) → (b || list_any is_nothing (solids ns)) ≡ false → is_nothing (solid_of n) ≡ false → (list_any is_nothing (solids ns) ≡ false → is_nothing (solid_of n) ≡ false → list_any is_nothing (solids (ns ++ (n ∷ []))) ≡ false) → (b || list_any is_nothing (solids (ns ++ (n ∷ [])))) ≡ false
+after : (b : Bool) (ns : List Node) (n : Node) → (b || list_any is_nothing (solids ns)) ≡ false
+    → is_nothing (solid_of n) ≡ false → (list_any is_nothing (solids ns) ≡ false → is_nothing (solid_of n) ≡ false
+    → list_any is_nothing (solids (ns ++ (n ∷ []))) ≡ false) → (b || list_any is_nothing (solids (ns ++ (n ∷ []))))
+    ≡ false
 after true ns n e f more = e
 after false ns n e f more = more e f
 
-pub any_more : (ns : List Node) (n : Node) → list_any is_nothing (solids ns) ≡ false → is_nothing (solid_of n) ≡ false → list_any is_nothing (solids (ns ++ (n ∷ []))) ≡ false
+pub any_more : (ns : List Node) (n : Node) → list_any is_nothing (solids ns) ≡ false → is_nothing (solid_of n) ≡ false
+    → list_any is_nothing (solids (ns ++ (n ∷ []))) ≡ false
 any_more [] n e f = ap (λ b. b || false) f
 any_more (m ∷ ns) n e f = after (is_nothing (solid_of m)) ns n e f (any_more ns n)
 
@@ -94,23 +103,31 @@ unfolding subtracted
 subtracted_none [] few = refl
 subtracted_none (n ∷ ns) few = absurd (omega arith)
 
-pub subtracted_empty : (n : Node) (ns : List Node) → is_nothing (solid_of n) ≡ true → subtracted (solids (n ∷ ns)) ≡ nothing
+pub subtracted_empty : (n : Node) (ns : List Node) → is_nothing (solid_of n) ≡ true → subtracted (solids (n ∷ ns))
+    ≡ nothing
 unfolding subtracted
 subtracted_empty n ns e = ap (λ b. if b then nothing else without (solid_of n) (not_empty (solids ns))) e
 
-pub subtracted_full : (n : Node) (ns : List Node) → is_nothing (solid_of n) ≡ false → subtracted (solids (n ∷ ns)) ≡ without (solid_of n) (not_empty (solids ns))
+pub subtracted_full : (n : Node) (ns : List Node) → is_nothing (solid_of n) ≡ false → subtracted (solids (n ∷ ns))
+    ≡ without (solid_of n) (not_empty (solids ns))
 unfolding subtracted
 subtracted_full n ns e = ap (λ b. if b then nothing else without (solid_of n) (not_empty (solids ns))) e
 
-pub first_and_rest : (ns : List Node) (first : Node) (rest : List Node) → 1 ≤ length ns → first ≡ slice_index_or ns 0 first → rest ≡ take 0 ns ++ drop (0 + 1) ns → ns ≡ first ∷ rest
+pub first_and_rest : (ns : List Node) (first : Node) (rest : List Node) → 1 ≤ length ns
+    → first ≡ slice_index_or ns 0 first → rest ≡ take 0 ns ++ drop (0 + 1) ns → ns ≡ first ∷ rest
 first_and_rest [] first rest some e f = absurd (omega arith)
 first_and_rest (n ∷ ns) first rest some e f = ap₂ (λ x xs. x ∷ xs) (sym e) (sym f)
 
-found_after : (b : Bool) (m : Node) (ns : List Node) (i : ℕ) (n : Node) → is_nothing (solid_of m) ≡ b → i < length (m ∷ ns) → n ≡ get_or (m ∷ ns) i n → is_nothing (solid_of n) ≡ true → ((k : ℕ) (o : Node) → k < length ns → o ≡ get_or ns k o → is_nothing (solid_of o) ≡ true → list_any is_nothing (solids ns) ≡ true) → (b || list_any is_nothing (solids ns)) ≡ true
+found_after : (b : Bool) (m : Node) (ns : List Node) (i : ℕ) (n : Node) → is_nothing (solid_of m) ≡ b
+    → i < length (m ∷ ns) → n ≡ get_or (m ∷ ns) i n → is_nothing (solid_of n) ≡ true
+    → ((k : ℕ) (o : Node) → k < length ns → o ≡ get_or ns k o → is_nothing (solid_of o) ≡ true
+    → list_any is_nothing (solids ns) ≡ true) → (b || list_any is_nothing (solids ns)) ≡ true
 found_after true m ns i n known there is e later = refl
-found_after false m ns zero n known there is e later = absurd (false≢true (sym known ∙ ap (λ o. is_nothing (solid_of o)) (sym is) ∙ e))
+found_after false m ns zero n known there is e later =
+    absurd (false≢true (sym known ∙ ap (λ o. is_nothing (solid_of o)) (sym is) ∙ e))
 found_after false m ns (suc i) n known there is e later = later i n (omega arith) is e
 
-pub found_empty : (ns : List Node) (i : ℕ) (n : Node) → i < length ns → n ≡ get_or ns i n → is_nothing (solid_of n) ≡ true → list_any is_nothing (solids ns) ≡ true
+pub found_empty : (ns : List Node) (i : ℕ) (n : Node) → i < length ns → n ≡ get_or ns i n → is_nothing (solid_of n)
+    ≡ true → list_any is_nothing (solids ns) ≡ true
 found_empty [] i n there is e = absurd (omega arith)
 found_empty (m ∷ ns) i n there is e = found_after (is_nothing (solid_of m)) m ns i n refl there is e (found_empty ns)

@@ -29,17 +29,20 @@ union_shape v = search (rules, the_lemmas, rows)
 pub inter_shape : (v : Vec Shape Global) → numbered_of (Inter v) ≡ meet (shapes_onto v.items end)
 inter_shape v = search (rules, the_lemmas, rows)
 
-pub diff_shape : (b : Box Shape Global) (v : Vec Shape Global) → numbered_of (Diff b v) ≡ minus (numbered_of b.value) (shapes_onto v.items end)
+pub diff_shape : (b : Box Shape Global) (v : Vec Shape Global) → numbered_of (Diff b v) ≡ minus (numbered_of b.value)
+    (shapes_onto v.items end)
 diff_shape b v = search (rules, the_lemmas, rows)
 
 pub ruleset shape_views = (union_shape, inter_shape, diff_shape)
 
-pub shapes_onto_push : (all : List Shape) (s : Shape) (more : Numbereds) → shapes_onto (all ++ s ∷ []) more ≡ shapes_onto all (next (numbered_of s) more)
+pub shapes_onto_push : (all : List Shape) (s : Shape) (more : Numbereds) → shapes_onto (all ++ s ∷ []) more
+    ≡ shapes_onto all (next (numbered_of s) more)
 shapes_onto_push [] s more = refl
 shapes_onto_push (t ∷ all) s more = ap (next (numbered_of t)) (shapes_onto_push all s more)
 
 -- the shape of one more node
-pub shapes_more : (old new : List Shape) (s : Shape) (nodes : List Node) (i : ℕ) (n : Node) (first after : ℕ) (whole : Numbereds) → i < length nodes → n ≡ get_or nodes i n →
+pub shapes_more : (old new : List Shape) (s : Shape) (nodes : List Node) (i : ℕ) (n : Node) (first after : ℕ)
+    (whole : Numbereds) → i < length nodes → n ≡ get_or nodes i n →
     new ≡ old ++ s ∷ [] → numbered_of s ≡ numbered_from first (solid_of n) → after ≡ first + leaves (solid_of n) →
     shapes_onto old (all_numbered first (members (solids (drop i nodes)))) ≡ whole →
     shapes_onto new (all_numbered after (members (solids (drop (i + 1) nodes)))) ≡ whole
@@ -82,7 +85,8 @@ mutual
   shape_numbered inside (Leaf n) = refl
   shape_numbered inside (Union' list members) = some_row inside members
   shape_numbered inside (Inter' list members) = ap₂ (λ a b. a && b) (has_row members) (all_row inside members)
-  shape_numbered inside (Diff' box first list rest) = ap₂ (λ a b. a && not b) (shape_numbered inside first) (some_row inside rest)
+  shape_numbered inside (Diff' box first list rest) = ap₂ (λ a b. a && not b) (shape_numbered inside first)
+      (some_row inside rest)
 
   some_row : {m : _} → (inside : ℕ → Bool) (r : Row_of-Shape m) → some_shape inside r ≡ some_number inside (row_of r)
   some_row inside end_of-Shape = refl
@@ -93,7 +97,8 @@ mutual
   all_row inside (more_of-Shape s rest) = ap₂ (λ a b. a && b) (shape_numbered inside s) (all_row inside rest)
 
 -- the surface behind others
-at_front : (front : List (List Triangle)) (ts : List Triangle) (back : List (List Triangle)) → surface_at (front ++ ts ∷ back) (length front) ≡ ts
+at_front : (front : List (List Triangle)) (ts : List Triangle) (back : List (List Triangle))
+    → surface_at (front ++ ts ∷ back) (length front) ≡ ts
 at_front [] ts back = refl
 at_front (us ∷ front) ts back = at_front front ts back
 
@@ -102,10 +107,12 @@ module _ (inside : List Triangle → Bool) (all : List (List Triangle)) where
   by_number n = inside (surface_at all n)
 
   -- the parts of what stands between others
-  first_part : (front us vs back : List (List Triangle)) → all ≡ front ++ ((us ++ vs) ++ back) → all ≡ front ++ (us ++ (vs ++ back))
+  first_part : (front us vs back : List (List Triangle)) → all ≡ front ++ ((us ++ vs) ++ back)
+      → all ≡ front ++ (us ++ (vs ++ back))
   first_part front us vs back is = is ∙ ap (λ l. front ++ l) (append_assoc us vs back)
 
-  second_part : (front us vs back : List (List Triangle)) → all ≡ front ++ ((us ++ vs) ++ back) → all ≡ (front ++ us) ++ (vs ++ back)
+  second_part : (front us vs back : List (List Triangle)) → all ≡ front ++ ((us ++ vs) ++ back)
+      → all ≡ (front ++ us) ++ (vs ++ back)
   second_part front us vs back is = first_part front us vs back is ∙ sym (append_assoc front us (vs ++ back))
 
   has_numbered : (n : ℕ) (ms : Solids) → has_number (all_numbered n ms) ≡ are_some ms
@@ -113,18 +120,23 @@ module _ (inside : List Triangle → Bool) (all : List (List Triangle)) where
   has_numbered n (member s rest) = refl
 
   mutual
-    between : (s : Solid) (front back : List (List Triangle)) → all ≡ front ++ (surfaces s ++ back) → numbered_holds by_number (numbered_from (length front) s) ≡ holds inside s
+    between : (s : Solid) (front back : List (List Triangle)) → all ≡ front ++ (surfaces s ++ back)
+        → numbered_holds by_number (numbered_from (length front) s) ≡ holds inside s
     between nothing front back is = refl
     between (surface ts) front back is = ap inside (ap (λ l. surface_at l (length front)) is ∙ at_front front ts back)
     between (union ms) front back is = some_between ms front back is
-    between (intersection ms) front back is = ap₂ (λ a b. a && b) (has_numbered (length front) ms) (all_between ms front back is)
+    between (intersection ms) front back is = ap₂ (λ a b. a && b) (has_numbered (length front) ms)
+        (all_between ms front back is)
     between (difference first rest) front back is =
         ap₂ (λ a b. a && not b)
-        (between first front (all_surfaces rest ++ back) (first_part front (surfaces first) (all_surfaces rest) back is))
+        (between first front (all_surfaces rest ++ back) (first_part front (surfaces first) (all_surfaces rest) back
+        is))
         (ap (λ n. some_number by_number (all_numbered n rest)) (sym (length-append front (surfaces first)))
-        ∙ some_between rest (front ++ surfaces first) back (second_part front (surfaces first) (all_surfaces rest) back is))
+        ∙ some_between rest (front ++ surfaces first) back (second_part front (surfaces first) (all_surfaces rest) back
+        is))
 
-    some_between : (ms : Solids) (front back : List (List Triangle)) → all ≡ front ++ (all_surfaces ms ++ back) → some_number by_number (all_numbered (length front) ms) ≡ some_hold inside ms
+    some_between : (ms : Solids) (front back : List (List Triangle)) → all ≡ front ++ (all_surfaces ms ++ back)
+        → some_number by_number (all_numbered (length front) ms) ≡ some_hold inside ms
     some_between none front back is = refl
     some_between (member s rest) front back is =
         ap₂ (λ a b. a || b)
@@ -132,7 +144,8 @@ module _ (inside : List Triangle → Bool) (all : List (List Triangle)) where
         (ap (λ n. some_number by_number (all_numbered n rest)) (sym (length-append front (surfaces s)))
         ∙ some_between rest (front ++ surfaces s) back (second_part front (surfaces s) (all_surfaces rest) back is))
 
-    all_between : (ms : Solids) (front back : List (List Triangle)) → all ≡ front ++ (all_surfaces ms ++ back) → all_number by_number (all_numbered (length front) ms) ≡ all_hold inside ms
+    all_between : (ms : Solids) (front back : List (List Triangle)) → all ≡ front ++ (all_surfaces ms ++ back)
+        → all_number by_number (all_numbered (length front) ms) ≡ all_hold inside ms
     all_between none front back is = refl
     all_between (member s rest) front back is =
         ap₂ (λ a b. a && b)
@@ -140,7 +153,8 @@ module _ (inside : List Triangle → Bool) (all : List (List Triangle)) where
         (ap (λ n. all_number by_number (all_numbered n rest)) (sym (length-append front (surfaces s)))
         ∙ all_between rest (front ++ surfaces s) back (second_part front (surfaces s) (all_surfaces rest) back is))
 
-shapes_hold : (inside : List Triangle → Bool) (s : Solid) (shape : Shape) → numbered_of shape ≡ numbered_from 0 s → shape_holds (λ n. inside (surface_at (surfaces s) n)) shape ≡ holds inside s
+shapes_hold : (inside : List Triangle → Bool) (s : Solid) (shape : Shape) → numbered_of shape ≡ numbered_from 0 s
+    → shape_holds (λ n. inside (surface_at (surfaces s) n)) shape ≡ holds inside s
 shapes_hold inside s shape is =
     shape_numbered (λ n. inside (surface_at (surfaces s) n)) shape
     ∙ ap (numbered_holds (λ n. inside (surface_at (surfaces s) n))) is
@@ -155,9 +169,11 @@ range-append n zero b =
 range-append n (suc a) b =
     let more : suc a + b ≡ suc (a + b) = omega arith in
     let on : (n + 1) + a ≡ n + suc a = omega arith in
-    ap (range_with_len n) more ∙ ap (λ ks. n ∷ ks) (range-append (n + 1) a b ∙ ap (λ k. range_with_len (n + 1) a ++ range_with_len k b) on)
+    ap (range_with_len n) more ∙ ap (λ ks. n ∷ ks) (range-append (n + 1) a b ∙ ap (λ k. range_with_len (n + 1) a ++
+    range_with_len k b) on)
 
-range-parts : (n : ℕ) (us vs : List (List Triangle)) → range_with_len n (length us) ++ range_with_len (n + length us) (length vs) ≡ range_with_len n (length (us ++ vs))
+range-parts : (n : ℕ) (us vs : List (List Triangle)) → range_with_len n (length us) ++ range_with_len (n + length us)
+    (length vs) ≡ range_with_len n (length (us ++ vs))
 range-parts n us vs = sym (range-append n (length us) (length vs)) ∙ ap (range_with_len n) (sym (length-append us vs))
 
 mutual
@@ -167,18 +183,21 @@ mutual
   numbers_from n (union ms) = all_numbers_from n ms
   numbers_from n (intersection ms) = all_numbers_from n ms
   numbers_from n (difference first rest) =
-      ap₂ (λ a b. a ++ b) (numbers_from n first) (all_numbers_from (n + leaves first) rest) ∙ range-parts n (surfaces first) (all_surfaces rest)
+      ap₂ (λ a b. a ++ b) (numbers_from n first) (all_numbers_from (n + leaves first) rest) ∙ range-parts n
+      (surfaces first) (all_surfaces rest)
 
   all_numbers_from : (n : ℕ) (ms : Solids) → all_numbers (all_numbered n ms) ≡ range_with_len n (all_leaves ms)
   all_numbers_from n none = refl
   all_numbers_from n (member s rest) =
-      ap₂ (λ a b. a ++ b) (numbers_from n s) (all_numbers_from (n + leaves s) rest) ∙ range-parts n (surfaces s) (all_surfaces rest)
+      ap₂ (λ a b. a ++ b) (numbers_from n s) (all_numbers_from (n + leaves s) rest) ∙ range-parts n (surfaces s)
+      (all_surfaces rest)
 
 numbers_count : (s : Solid) → numbers (numbered_from 0 s) ≡ range_with_len 0 (leaves s)
 numbers_count s = numbers_from 0 s
 
 -- ---- each leaf of a tree in normal form has a triangle
-all_parts : (us vs : List (List Triangle)) → list_all has_triangles us ≡ true → list_all has_triangles vs ≡ true → list_all has_triangles (us ++ vs) ≡ true
+all_parts : (us vs : List (List Triangle)) → list_all has_triangles us ≡ true → list_all has_triangles vs ≡ true
+    → list_all has_triangles (us ++ vs) ≡ true
 all_parts us vs a b = list_all-append has_triangles us vs ∙ ap₂ (λ x y. x && y) a b
 
 mutual
@@ -189,7 +208,8 @@ mutual
   kept_surfaces (intersection ms) kept = all_kept_surfaces ms (and_parts (are_several ms) (are_kept ms) kept).1
   kept_surfaces (difference first rest) kept =
       let parts = and_parts (is_kept first) (are_some rest && are_kept rest) kept in
-      all_parts (surfaces first) (all_surfaces rest) (kept_surfaces first parts.0) (all_kept_surfaces rest (and_parts (are_some rest) (are_kept rest) parts.1).1)
+      all_parts (surfaces first) (all_surfaces rest) (kept_surfaces first parts.0)
+      (all_kept_surfaces rest (and_parts (are_some rest) (are_kept rest) parts.1).1)
 
   all_kept_surfaces : (ms : Solids) → are_kept ms ≡ true → list_all has_triangles (all_surfaces ms) ≡ true
   all_kept_surfaces none kept = refl
@@ -201,7 +221,8 @@ mutual
   apart_surfaces none kept = refl
   apart_surfaces (member s rest) kept =
       let parts = and_parts (not (is_union s) && is_kept s) (are_kept_apart rest) kept in
-      all_parts (surfaces s) (all_surfaces rest) (kept_surfaces s (and_parts (not (is_union s)) (is_kept s) parts.0).1) (apart_surfaces rest parts.1)
+      all_parts (surfaces s) (all_surfaces rest) (kept_surfaces s (and_parts (not (is_union s)) (is_kept s) parts.0).1)
+      (apart_surfaces rest parts.1)
 
 surfaces_filled : (s : Solid) → is_normal s ≡ true → list_all has_triangles (surfaces s) ≡ true
 surfaces_filled nothing normal = refl

@@ -19,7 +19,8 @@ union_view v = search (rules, the_lemmas, rows)
 pub inter_view : (v : Vec Node Global) → solid_of (Inter v) ≡ intersection (members (solids v.items))
 inter_view v = search (rules, the_lemmas, rows)
 
-pub diff_view : (b : Box Node Global) (v : Vec Node Global) → solid_of (Diff b v) ≡ difference (solid_of b.value) (members (solids v.items))
+pub diff_view : (b : Box Node Global) (v : Vec Node Global) → solid_of (Diff b v) ≡ difference (solid_of b.value)
+    (members (solids v.items))
 diff_view b v = search (rules, the_lemmas, rows)
 
 -- a node that is known to be one of them
@@ -29,14 +30,17 @@ at_union n v is = ap solid_of is ∙ union_view v
 pub at_inter : (n : Node) (v : Vec Node Global) → n ≡ Inter v → solid_of n ≡ intersection (members (solids v.items))
 at_inter n v is = ap solid_of is ∙ inter_view v
 
-pub at_diff : (n : Node) (b : Box Node Global) (v : Vec Node Global) → n ≡ Diff b v → solid_of n ≡ difference (solid_of b.value) (members (solids v.items))
+pub at_diff : (n : Node) (b : Box Node Global) (v : Vec Node Global) → n ≡ Diff b v
+    → solid_of n ≡ difference (solid_of b.value) (members (solids v.items))
 at_diff n b v is = ap solid_of is ∙ diff_view b v
 
 pub ruleset at_operation = (at_union, at_inter, at_diff)
 
 -- the next of the nodes that are left
-pub left-more : (all : List Node) (i : ℕ) (n : Node) → i < length all → n ≡ get_or all i n → members (solids (drop i all)) ≡ member (solid_of n) (members (solids (drop (i + 1) all)))
-left-more all i n below is = ap (λ ns. members (solids ns)) (drop_more all i n below) ∙ ap (λ m. member (solid_of m) (members (solids (drop (i + 1) all)))) (sym is)
+pub left-more : (all : List Node) (i : ℕ) (n : Node) → i < length all → n ≡ get_or all i n
+    → members (solids (drop i all)) ≡ member (solid_of n) (members (solids (drop (i + 1) all)))
+left-more all i n below is = ap (λ ns. members (solids ns)) (drop_more all i n below) ∙ ap
+    (λ m. member (solid_of m) (members (solids (drop (i + 1) all)))) (sym is)
 
 pub left-none : (all : List Node) (i : ℕ) → length all ≤ i → members (solids (drop i all)) ≡ none
 left-none all i past = ap (λ ns. members (solids ns)) (drop_all i all past)
@@ -58,7 +62,8 @@ several_inter [] some = absurd (omega arith)
 several_inter (a ∷ []) some = absurd (omega arith)
 several_inter (a ∷ b ∷ rest) some = refl
 
-pub some_without : (first : Solid) (ns : List Node) → 1 ≤ length ns → difference first (members (solids ns)) ≡ without first (solids ns)
+pub some_without : (first : Solid) (ns : List Node) → 1 ≤ length ns → difference first (members (solids ns))
+    ≡ without first (solids ns)
 some_without first [] some = absurd (omega arith)
 some_without first (a ∷ rest) some = refl
 

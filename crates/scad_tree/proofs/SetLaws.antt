@@ -23,9 +23,11 @@ some_listed : (inside : Inside) (ms : Solids) → any_holds inside (members_of m
 some_listed inside none = refl
 some_listed inside (member s rest) = ap (λ b. holds inside s || b) (some_listed inside rest)
 
-any_both : (inside : Inside) (ss ts : List Solid) → any_holds inside (ss ++ ts) ≡ (any_holds inside ss || any_holds inside ts)
+any_both : (inside : Inside) (ss ts : List Solid) → any_holds inside (ss ++ ts)
+    ≡ (any_holds inside ss || any_holds inside ts)
 any_both inside [] ts = refl
-any_both inside (s ∷ rest) ts = ap (λ b. holds inside s || b) (any_both inside rest ts) ∙ sym (or_assoc (holds inside s) (any_holds inside rest) (any_holds inside ts))
+any_both inside (s ∷ rest) ts = ap (λ b. holds inside s || b) (any_both inside rest ts) ∙ sym
+    (or_assoc (holds inside s) (any_holds inside rest) (any_holds inside ts))
 
 parts_hold : (inside : Inside) (s : Solid) → any_holds inside (parts s) ≡ holds inside s
 parts_hold inside nothing = refl
@@ -58,12 +60,15 @@ nothing_holds inside (union ms) e = search (rules, e)
 nothing_holds inside (intersection ms) e = search (rules, e)
 nothing_holds inside (difference s ms) e = search (rules, e)
 
-intersection_holds : (inside : Inside) (ss : List Solid) → holds inside (intersection_of ss) ≡ (has_items ss && each_holds inside ss)
+intersection_holds : (inside : Inside) (ss : List Solid) → holds inside (intersection_of ss)
+    ≡ (has_items ss && each_holds inside ss)
 intersection_holds inside [] = refl
 intersection_holds inside (s ∷ []) = sym (and-true (holds inside s))
 intersection_holds inside (s ∷ t ∷ rest) = all_members inside (s ∷ t ∷ rest)
 
-any_after : (b : Bool) (s : Solid) (inside : Inside) (rest : List Solid) → is_nothing s ≡ b → (list_any is_nothing rest ≡ true → each_holds inside rest ≡ false) → (b || list_any is_nothing rest) ≡ true → (holds inside s && each_holds inside rest) ≡ false
+any_after : (b : Bool) (s : Solid) (inside : Inside) (rest : List Solid) → is_nothing s ≡ b
+    → (list_any is_nothing rest ≡ true → each_holds inside rest ≡ false) → (b || list_any is_nothing rest) ≡ true
+    → (holds inside s && each_holds inside rest) ≡ false
 any_after true s inside rest is later e = ap (λ b. b && each_holds inside rest) (nothing_holds inside s is)
 any_after false s inside rest is later e = ap (λ b. holds inside s && b) (later e) ∙ and-false (holds inside s)
 
@@ -71,11 +76,13 @@ empty_member : (inside : Inside) (ss : List Solid) → list_any is_nothing ss �
 empty_member inside [] e = search (rules, e)
 empty_member inside (s ∷ rest) e = any_after (is_nothing s) s inside rest refl (empty_member inside rest) e
 
-chosen : (b : Bool) (inside : Inside) (ss : List Solid) → list_any is_nothing ss ≡ b → holds inside (if b then nothing else intersection_of ss) ≡ (has_items ss && each_holds inside ss)
+chosen : (b : Bool) (inside : Inside) (ss : List Solid) → list_any is_nothing ss ≡ b
+    → holds inside (if b then nothing else intersection_of ss) ≡ (has_items ss && each_holds inside ss)
 chosen true inside ss e = sym (ap (λ b. has_items ss && b) (empty_member inside ss e) ∙ and-false (has_items ss))
 chosen false inside ss e = intersection_holds inside ss
 
-pub intersected_holds : (inside : Inside) (ss : List Solid) → holds inside (intersected ss) ≡ (has_items ss && each_holds inside ss)
+pub intersected_holds : (inside : Inside) (ss : List Solid) → holds inside (intersected ss)
+    ≡ (has_items ss && each_holds inside ss)
 unfolding intersected
 intersected_holds inside ss = chosen (list_any is_nothing ss) inside ss refl
 
@@ -83,23 +90,29 @@ intersected_holds inside ss = chosen (list_any is_nothing ss) inside ss refl
 full : List Solid → List Solid
 full ss = filter (λ s. not (is_nothing s)) ss
 
-dropped : (b : Bool) (inside : Inside) (s : Solid) (rest : List Solid) → is_nothing s ≡ b → any_holds inside (if not b then s ∷ full rest else full rest) ≡ (holds inside s || any_holds inside (full rest))
+dropped : (b : Bool) (inside : Inside) (s : Solid) (rest : List Solid) → is_nothing s ≡ b
+    → any_holds inside (if not b then s ∷ full rest else full rest) ≡ (holds inside s || any_holds inside (full rest))
 dropped true inside s rest e = sym (ap (λ b. b || any_holds inside (full rest)) (nothing_holds inside s e))
 dropped false inside s rest e = refl
 
 full_hold : (inside : Inside) (ss : List Solid) → any_holds inside (full ss) ≡ any_holds inside ss
 unfolding full
 full_hold inside [] = refl
-full_hold inside (s ∷ rest) = dropped (is_nothing s) inside s rest refl ∙ ap (λ b. holds inside s || b) (full_hold inside rest)
+full_hold inside (s ∷ rest) = dropped (is_nothing s) inside s rest refl ∙ ap (λ b. holds inside s || b)
+    (full_hold inside rest)
 
-without_holds : (inside : Inside) (first : Solid) (ss : List Solid) → holds inside (without first ss) ≡ (holds inside first && not (any_holds inside ss))
+without_holds : (inside : Inside) (first : Solid) (ss : List Solid) → holds inside (without first ss)
+    ≡ (holds inside first && not (any_holds inside ss))
 without_holds inside first [] = sym (and-true (holds inside first))
 without_holds inside first (s ∷ rest) = ap (λ b. holds inside first && not b) (some_members inside (s ∷ rest))
 
-taken : (b : Bool) (inside : Inside) (first : Solid) (rest : List Solid) → is_nothing first ≡ b → holds inside (if b then nothing else without first (filter (λ s. not (is_nothing s)) rest)) ≡ (holds inside first && not (any_holds inside rest))
+taken : (b : Bool) (inside : Inside) (first : Solid) (rest : List Solid) → is_nothing first ≡ b
+    → holds inside (if b then nothing else without first (filter (λ s. not (is_nothing s)) rest))
+    ≡ (holds inside first && not (any_holds inside rest))
 unfolding full
 taken true inside first rest e = sym (ap (λ b. b && not (any_holds inside rest)) (nothing_holds inside first e))
-taken false inside first rest e = without_holds inside first (full rest) ∙ ap (λ b. holds inside first && not b) (full_hold inside rest)
+taken false inside first rest e = without_holds inside first (full rest) ∙ ap (λ b. holds inside first && not b)
+    (full_hold inside rest)
 
 pub subtracted_holds : (inside : Inside) (ss : List Solid) → holds inside (subtracted ss) ≡ first_alone_holds inside ss
 unfolding subtracted

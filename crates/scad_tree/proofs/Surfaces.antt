@@ -11,20 +11,27 @@ use Rattle.scad_tree.specs.Solids.{AreSolids}
 use Rattle.scad_tree.proofs.Rows.{at_union, at_inter, at_diff, left-more, left-none}
 
 -- what is left of nodes, one of which is asked
-pub solids_more : (all : List Node) (i : ℕ) (n : Node) → i < length all → n ≡ get_or all i n → AreSolids (solid_of n) → All IsSolid (all_surfaces (members (solids (drop (i + 1) all)))) → All IsSolid (all_surfaces (members (solids (drop i all))))
+pub solids_more : (all : List Node) (i : ℕ) (n : Node) → i < length all → n ≡ get_or all i n → AreSolids (solid_of n)
+    → All IsSolid (all_surfaces (members (solids (drop (i + 1) all))))
+    → All IsSolid (all_surfaces (members (solids (drop i all))))
 solids_more all i n below is one more =
     subst (λ ms. All IsSolid (all_surfaces ms)) (sym (left-more all i n below is))
     (All-append IsSolid (surfaces (solid_of n)) (all_surfaces (members (solids (drop (i + 1) all)))) one more)
 
-pub solids_none : (all : List Node) (i : ℕ) → length all ≤ i → All IsSolid (all_surfaces (members (solids (drop i all))))
+pub solids_none : (all : List Node) (i : ℕ) → length all ≤ i
+    → All IsSolid (all_surfaces (members (solids (drop i all))))
 solids_none all i past = subst (λ ms. All IsSolid (all_surfaces ms)) (sym (left-none all i past)) (All-nil IsSolid)
 
 -- those of an operation
-pub solids_union : (n : Node) (v : Vec Node Global) → n ≡ Union v → All IsSolid (all_surfaces (members (solids v.items))) → AreSolids (solid_of n)
+pub solids_union : (n : Node) (v : Vec Node Global) → n ≡ Union v
+    → All IsSolid (all_surfaces (members (solids v.items))) → AreSolids (solid_of n)
 solids_union n v is h = subst AreSolids (sym (at_union n v is)) h
 
-pub solids_inter : (n : Node) (v : Vec Node Global) → n ≡ Inter v → All IsSolid (all_surfaces (members (solids v.items))) → AreSolids (solid_of n)
+pub solids_inter : (n : Node) (v : Vec Node Global) → n ≡ Inter v
+    → All IsSolid (all_surfaces (members (solids v.items))) → AreSolids (solid_of n)
 solids_inter n v is h = subst AreSolids (sym (at_inter n v is)) h
 
-pub solids_diff : (n : Node) (b : Box Node Global) (v : Vec Node Global) → n ≡ Diff b v → AreSolids (solid_of b.value) → All IsSolid (all_surfaces (members (solids v.items))) → AreSolids (solid_of n)
-solids_diff n b v is first rest = subst AreSolids (sym (at_diff n b v is)) (All-append IsSolid (surfaces (solid_of b.value)) (all_surfaces (members (solids v.items))) first rest)
+pub solids_diff : (n : Node) (b : Box Node Global) (v : Vec Node Global) → n ≡ Diff b v → AreSolids (solid_of b.value)
+    → All IsSolid (all_surfaces (members (solids v.items))) → AreSolids (solid_of n)
+solids_diff n b v is first rest = subst AreSolids (sym (at_diff n b v is))
+    (All-append IsSolid (surfaces (solid_of b.value)) (all_surfaces (members (solids v.items))) first rest)

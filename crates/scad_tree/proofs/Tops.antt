@@ -23,10 +23,13 @@ kept_top (surface []) kept = absurd (cc)
 kept_top (surface (t ∷ ts)) kept = higher_some (Some (triangle_top t)) (highest_of ts) refl
 kept_top (union none) kept = absurd (cc)
 kept_top (union (member s rest)) kept =
-    higher_some (top_of s) (greatest rest) (kept_top s (and_parts (not (is_union s)) (is_kept s) (and_parts (not (is_union s) && is_kept s) (are_kept_apart rest) (and_parts (are_some rest) _ kept).1).0).1)
+    higher_some (top_of s) (greatest rest)
+    (kept_top s (and_parts (not (is_union s)) (is_kept s) (and_parts (not (is_union s) && is_kept s)
+    (are_kept_apart rest) (and_parts (are_some rest) _ kept).1).0).1)
 kept_top (intersection none) kept = absurd (cc)
 kept_top (intersection (member s rest)) kept =
-    lower_some (top_of s) (least rest) (kept_top s (and_parts (is_kept s) (are_kept rest) (and_parts (are_some rest) _ kept).1).0)
+    lower_some (top_of s) (least rest)
+    (kept_top s (and_parts (is_kept s) (are_kept rest) (and_parts (are_some rest) _ kept).1).0)
 kept_top (difference first rest) kept = kept_top first (and_parts (is_kept first) _ kept).0
 
 pub none_of_nothing : (s : Solid) → is_normal s ≡ true → is_none (top_of s) ≡ is_nothing s

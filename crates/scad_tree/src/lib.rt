@@ -4,8 +4,6 @@
 //! contains a point exactly where the set operations of its members say so.
 #![tactic(auto)]
 
-#[cfg(test)]
-mod carved;
 mod height;
 mod inside;
 pub mod laws;
@@ -18,8 +16,6 @@ mod sections;
 mod shape;
 mod sizes;
 mod solids;
-#[cfg(test)]
-mod tests;
 mod text;
 mod tree;
 

@@ -13,7 +13,9 @@ equal_all-lengths [] [] differ = absurd (differ refl)
 equal_all-lengths [] (y ∷ ys) differ = refl
 equal_all-lengths (x ∷ xs) [] differ = refl
 equal_all-lengths (x ∷ xs) (y ∷ ys) differ =
-    ap (λ b. equal (datum_of x) (datum_of y) && b) (equal_all-lengths xs ys (λ e. differ (omega arith))) ∙ and-false (equal (datum_of x) (datum_of y))
+    ap (λ b. equal (datum_of x) (datum_of y) && b) (equal_all-lengths xs ys (λ e. differ (omega arith))) ∙ and-false
+    (equal (datum_of x) (datum_of y))
 
-pub equal-vectors : (a b : Value) (xs ys : Vec Value Global) → a ≡ ListValue xs → b ≡ ListValue ys → equal (datum_of a) (datum_of b) ≡ equal_all (elements xs.items) (elements ys.items)
+pub equal-vectors : (a b : Value) (xs ys : Vec Value Global) → a ≡ ListValue xs → b ≡ ListValue ys
+    → equal (datum_of a) (datum_of b) ≡ equal_all (elements xs.items) (elements ys.items)
 equal-vectors a b xs ys p q = ap₂ equal (at_vector a xs p) (at_vector b ys q)

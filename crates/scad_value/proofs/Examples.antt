@@ -47,7 +47,8 @@ unfolding number_of half_away half_up
 vector_matrix = refl
 
 -- [[1, 2], [3, 4]] * [[1, 2], [3, 4]] = [[7, 10], [15, 22]]
-matrix_matrix : op Mul square square ≡ Ok (two (two (number (pos 7000000)) (number (pos 10000000))) (two (number (pos 15000000)) (number (pos 22000000))))
+matrix_matrix : op Mul square square ≡ Ok (two (two (number (pos 7000000)) (number (pos 10000000)))
+    (two (number (pos 15000000)) (number (pos 22000000))))
 unfolding number_of half_away half_up
 matrix_matrix = refl
 

@@ -12,6 +12,8 @@ use Rattle.scad_value.proofs.Rows.{vector_view}
 when-same : (n m : ℕ) (answer : Answer) → n ≡ m → when (n == m) answer ≡ answer
 when-same n m answer same = ap (λ b. when b answer) (eq-eqb n m same)
 
-pub made_when : (f : Factor → Answer) (left factor : Factor) (n m : ℕ) (all : AllAnswers) (made : Vec Value Global) → left ≡ factor → f factor ≡ when (n == m) (as_vector all) → n ≡ m → all ≡ Ok (elements made.items) → f left ≡ Ok (datum_of (ListValue made))
+pub made_when : (f : Factor → Answer) (left factor : Factor) (n m : ℕ) (all : AllAnswers) (made : Vec Value Global)
+    → left ≡ factor → f factor ≡ when (n == m) (as_vector all) → n ≡ m → all ≡ Ok (elements made.items)
+    → f left ≡ Ok (datum_of (ListValue made))
 made_when f left factor n m all made is row same found =
     ap f is ∙ row ∙ when-same n m (as_vector all) same ∙ ap as_vector found ∙ ap Ok (sym (vector_view made))

@@ -8,7 +8,8 @@ use Rattle.scad_value.specs.Memory.{begins_list, TakesMemoryFor, TakesNone}
 use Rattle.scad_value.proofs.Rows.{at_vector}
 
 -- where none is taken, any may be
-pub takes-none : {A : Type 0} (list : Bool) (answer : Result A ValueFault) → TakesNone answer → TakesMemoryFor list answer
+pub takes-none : {A : Type 0} (list : Bool) (answer : Result A ValueFault) → TakesNone answer
+    → TakesMemoryFor list answer
 takes-none list answer none = TakesMemoryFor-none is_memory list answer none
 
 pub begins-vector : (all : AllAnswers) → begins_list (as_vector all) ≡ true

@@ -23,19 +23,24 @@ pub at_vector : (a : Value) (all : Vec Value Global) → a ≡ ListValue all →
 at_vector a all is = ap datum_of is ∙ vector_view all
 
 -- one more element at the end
-pub elements_onto-push : (all : List Value) (v : Value) (more : Elements) → elements_onto (all ++ v ∷ []) more ≡ elements_onto all (element (datum_of v) more)
+pub elements_onto-push : (all : List Value) (v : Value) (more : Elements) → elements_onto (all ++ v ∷ []) more
+    ≡ elements_onto all (element (datum_of v) more)
 elements_onto-push [] v more = refl
 elements_onto-push (w ∷ all) v more = ap (element (datum_of w)) (elements_onto-push all v more)
 
 -- the next element of what is left
-pub elements-drop : (all : List Value) (i : ℕ) (v : Value) → i < length all → v ≡ get_or all i v → elements (drop i all) ≡ element (datum_of v) (elements (drop (i + 1) all))
-elements-drop all i v below is = ap elements (drop_more all i v below) ∙ ap (λ w. element (datum_of w) (elements (drop (i + 1) all))) (sym is)
+pub elements-drop : (all : List Value) (i : ℕ) (v : Value) → i < length all → v ≡ get_or all i v → elements (drop i all)
+    ≡ element (datum_of v) (elements (drop (i + 1) all))
+elements-drop all i v below is = ap elements (drop_more all i v below) ∙ ap
+    (λ w. element (datum_of w) (elements (drop (i + 1) all))) (sym is)
 
 pub elements-drop_all : (all : List Value) (i : ℕ) → length all ≤ i → elements (drop i all) ≡ no_elements
 elements-drop_all all i past = ap elements (drop_all i all past)
 
 -- one more element is copied
-pub copied : (made all : List Value) (i : ℕ) (v w : Value) (whole : Elements) → i < length all → v ≡ get_or all i v → datum_of w ≡ datum_of v → elements_onto made (elements (drop i all)) ≡ whole → elements_onto (made ++ w ∷ []) (elements (drop (i + 1) all)) ≡ whole
+pub copied : (made all : List Value) (i : ℕ) (v w : Value) (whole : Elements) → i < length all → v ≡ get_or all i v
+    → datum_of w ≡ datum_of v → elements_onto made (elements (drop i all)) ≡ whole → elements_onto (made ++ w ∷ [])
+    (elements (drop (i + 1) all)) ≡ whole
 copied made all i v w whole below is same so_far =
     elements_onto-push made w (elements (drop (i + 1) all))
     ∙ ap (λ d. elements_onto made (element d (elements (drop (i + 1) all)))) same
@@ -43,7 +48,9 @@ copied made all i v w whole below is same so_far =
     ∙ so_far
 
 -- one more element is made negative
-pub negated : (made all : List Value) (i : ℕ) (v w : Value) (whole : Elements) → i < length all → v ≡ get_or all i v → datum_of w ≡ negative (datum_of v) → elements_onto made (negatives (elements (drop i all))) ≡ whole → elements_onto (made ++ w ∷ []) (negatives (elements (drop (i + 1) all))) ≡ whole
+pub negated : (made all : List Value) (i : ℕ) (v w : Value) (whole : Elements) → i < length all → v ≡ get_or all i v
+    → datum_of w ≡ negative (datum_of v) → elements_onto made (negatives (elements (drop i all))) ≡ whole
+    → elements_onto (made ++ w ∷ []) (negatives (elements (drop (i + 1) all))) ≡ whole
 negated made all i v w whole below is same so_far =
     elements_onto-push made w (negatives (elements (drop (i + 1) all)))
     ∙ ap (λ d. elements_onto made (element d (negatives (elements (drop (i + 1) all))))) same
@@ -55,7 +62,8 @@ pub truth-vector : (all : List Value) → truth (vector (elements all)) ≡ not 
 truth-vector [] = refl
 truth-vector (v ∷ all) = grind (arith, nat_tests)
 
-pub truth-list : (a : Value) (all : Vec Value Global) (empty : Bool) → a ≡ ListValue all → empty ≡ (length all.items == 0) → not empty ≡ truth (datum_of a)
+pub truth-list : (a : Value) (all : Vec Value Global) (empty : Bool) → a ≡ ListValue all
+    → empty ≡ (length all.items == 0) → not empty ≡ truth (datum_of a)
 truth-list a all empty is e = ap not e ∙ sym (truth-vector all.items) ∙ ap truth (sym (at_vector a all is))
 
 pub ruleset left = (elements-drop, elements-drop_all)

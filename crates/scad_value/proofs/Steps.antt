@@ -14,19 +14,26 @@ abbrev pub onto_all : List Value → AllAnswers → AllAnswers
 onto_all made (Ok more) = Ok (elements_onto made more)
 onto_all made (Err fault) = Err fault
 
-onto_all-push : (made : List Value) (v : Value) (more : AllAnswers) → onto_all (made ++ v ∷ []) more ≡ onto_all made (before_all (datum_of v) more)
+onto_all-push : (made : List Value) (v : Value) (more : AllAnswers) → onto_all (made ++ v ∷ []) more ≡ onto_all made
+    (before_all (datum_of v) more)
 onto_all-push made v (Ok more) = ap Ok (elements_onto-push made v more)
 onto_all-push made v (Err fault) = refl
 
 -- one more element is made
-pub step_made : (made : List Value) (v : Value) (answer : Answer) (now more whole : AllAnswers) → now ≡ first_then answer more → answer ≡ Ok (datum_of v) → onto_all made now ≡ whole → onto_all (made ++ v ∷ []) more ≡ whole
+pub step_made : (made : List Value) (v : Value) (answer : Answer) (now more whole : AllAnswers)
+    → now ≡ first_then answer more → answer ≡ Ok (datum_of v) → onto_all made now ≡ whole
+    → onto_all (made ++ v ∷ []) more ≡ whole
 step_made made v answer now more whole is found so_far =
-    onto_all-push made v more ∙ ap (λ a. onto_all made (first_then a more)) (sym found) ∙ ap (onto_all made) (sym is) ∙ so_far
+    onto_all-push made v more ∙ ap (λ a. onto_all made (first_then a more)) (sym found) ∙ ap (onto_all made) (sym is) ∙
+    so_far
 
 -- the next element has a fault
-pub step_refused : (made : List Value) (fault : ValueFault) (answer : Answer) (now more whole : AllAnswers) → now ≡ first_then answer more → Refuses answer fault → onto_all made now ≡ whole → Refuses whole fault
-step_refused made ZeroDivisor answer now more whole is refused so_far = sym so_far ∙ ap (onto_all made) is ∙ ap (λ a. onto_all made (first_then a more)) refused
-step_refused made NumberRange answer now more whole is refused so_far = sym so_far ∙ ap (onto_all made) is ∙ ap (λ a. onto_all made (first_then a more)) refused
+pub step_refused : (made : List Value) (fault : ValueFault) (answer : Answer) (now more whole : AllAnswers)
+    → now ≡ first_then answer more → Refuses answer fault → onto_all made now ≡ whole → Refuses whole fault
+step_refused made ZeroDivisor answer now more whole is refused so_far = sym so_far ∙ ap (onto_all made) is ∙ ap
+    (λ a. onto_all made (first_then a more)) refused
+step_refused made NumberRange answer now more whole is refused so_far = sym so_far ∙ ap (onto_all made) is ∙ ap
+    (λ a. onto_all made (first_then a more)) refused
 step_refused made Memory answer now more whole is refused so_far = tt
 
 -- a fault of the elements is one of the vector
@@ -36,11 +43,19 @@ vector_refused all NumberRange refused = ap as_vector refused
 vector_refused all Memory refused = tt
 
 -- an operation that goes through the elements of a vector has made them all
-pub found_vector : (f : Datum → Answer) (g : Elements → AllAnswers) → ((es : Elements) → f (vector es) ≡ as_vector (g es)) → (a : Value) (xs made : Vec Value Global) (items : List Value) → a ≡ ListValue xs → items ≡ xs.items → g (elements items) ≡ Ok (elements made.items) → f (datum_of a) ≡ Ok (datum_of (ListValue made))
+pub found_vector : (f : Datum → Answer) (g : Elements → AllAnswers)
+    → ((es : Elements) → f (vector es) ≡ as_vector (g es)) → (a : Value) (xs made : Vec Value Global)
+    (items : List Value) → a ≡ ListValue xs → items ≡ xs.items → g (elements items) ≡ Ok (elements made.items)
+    → f (datum_of a) ≡ Ok (datum_of (ListValue made))
 found_vector f g same a xs made items is items_are found =
-    ap f (at_vector a xs is) ∙ same (elements xs.items) ∙ ap (λ all. as_vector (g (elements all))) (sym items_are) ∙ ap as_vector found ∙ ap Ok (sym (vector_view made))
+    ap f (at_vector a xs is) ∙ same (elements xs.items) ∙ ap (λ all. as_vector (g (elements all))) (sym items_are) ∙ ap
+    as_vector found ∙ ap Ok (sym (vector_view made))
 
 -- or has a fault
-pub refused_vector : (f : Datum → Answer) (g : Elements → AllAnswers) → ((es : Elements) → f (vector es) ≡ as_vector (g es)) → (a : Value) (xs : Vec Value Global) (items : List Value) (fault : ValueFault) → a ≡ ListValue xs → items ≡ xs.items → Refuses (g (elements items)) fault → Refuses (f (datum_of a)) fault
+pub refused_vector : (f : Datum → Answer) (g : Elements → AllAnswers)
+    → ((es : Elements) → f (vector es) ≡ as_vector (g es)) → (a : Value) (xs : Vec Value Global) (items : List Value)
+    (fault : ValueFault) → a ≡ ListValue xs → items ≡ xs.items → Refuses (g (elements items)) fault
+    → Refuses (f (datum_of a)) fault
 refused_vector f g same a xs items fault is items_are refused =
-    subst (λ answer. Refuses answer fault) (ap (λ all. as_vector (g (elements all))) items_are ∙ sym (same (elements xs.items)) ∙ ap f (sym (at_vector a xs is))) (vector_refused (g (elements items)) fault refused)
+    subst (λ answer. Refuses answer fault) (ap (λ all. as_vector (g (elements all))) items_are ∙ sym
+    (same (elements xs.items)) ∙ ap f (sym (at_vector a xs is))) (vector_refused (g (elements items)) fault refused)

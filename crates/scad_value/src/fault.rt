@@ -1,3 +1,4 @@
+//! Why an operation has no value.
 use scad_num::NumFault;
 use std::alloc::{AllocError, AllocFailed};
 

@@ -27,6 +27,3 @@ pub use operator::{binary, unary};
 pub use product::numbers_in;
 pub use text::{encoded, push_text, text_of};
 pub use value::{Value, Values};
-
-#[cfg(test)]
-mod tests;

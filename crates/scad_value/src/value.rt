@@ -6,6 +6,7 @@ use scad_num::Num;
 /// The elements of a vector, in order.
 pub type Values = Vec<Value>;
 
+/// A value of the language (OpenSCAD manual, values and data types).
 #[derive(Debug, Drop)]
 pub enum Value {
     Undef,

@@ -10,8 +10,6 @@ mod job;
 mod number;
 mod rows;
 mod settings;
-#[cfg(test)]
-mod tests;
 mod words;
 
 pub use job::{Command, Job, WordFault};

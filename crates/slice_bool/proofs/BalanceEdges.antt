@@ -1,4 +1,5 @@
--- Round a closed list of edges: where flat edges lie on one side of a point, a leaf's winding numbers hard above the point
+-- Round a closed list of edges: where flat edges lie on one side of a point, a leaf's winding numbers hard above the
+-- point
 -- and hard below it are one.
 use Rattle.std.proofs.Common.{◌≡◌, ℕ, ◌+◌, ◌≤◌, Bool, true, false, cond, List, [], ◌∷◌, refl, sym, ap, ap₂, ◌∙◌, arith}
 use lib.IntN.{ℤ, pos, ◌+ℤ◌, ◌-ℤ◌}
@@ -45,11 +46,13 @@ total f (q ∷ qs) = f q +ℤ total f qs
 
 tally-starts : (p : Pt) (es : List Edge) → count_by (λ e. same_place p e.a) es ≡ tally p (starts es)
 tally-starts p [] = refl
-tally-starts p (e ∷ es) = sum_by-cons (λ x. once (same_place p x.a)) e es ∙ ap (λ (n : ℕ). once (same_place p e.a) + n) (tally-starts p es)
+tally-starts p (e ∷ es) = sum_by-cons (λ x. once (same_place p x.a)) e es ∙ ap (λ (n : ℕ). once (same_place p e.a) + n)
+    (tally-starts p es)
 
 tally-ends : (p : Pt) (es : List Edge) → count_by (λ e. same_place p e.b) es ≡ tally p (ends es)
 tally-ends p [] = refl
-tally-ends p (e ∷ es) = sum_by-cons (λ x. once (same_place p x.b)) e es ∙ ap (λ (n : ℕ). once (same_place p e.b) + n) (tally-ends p es)
+tally-ends p (e ∷ es) = sum_by-cons (λ x. once (same_place p x.b)) e es ∙ ap (λ (n : ℕ). once (same_place p e.b) + n)
+    (tally-ends p es)
 
 abbrev without : Pt → List Pt → List Pt
 without p [] = []
@@ -59,7 +62,9 @@ tally-without : (x p : Pt) (qs : List Pt) → 1 ≤ tally x qs → tally p qs �
 tally-without x p [] h = absurd (omega arith)
 tally-without x p (q ∷ qs) h = by_test (same_place x q) refl h (tally-without x p qs)
   where
-    by_test : (t : Bool) → same_place x q ≡ t → 1 ≤ once t + tally x qs → (1 ≤ tally x qs → tally p qs ≡ once (same_place p x) + tally p (without x qs)) → once (same_place p q) + tally p qs ≡ once (same_place p x) + tally p (cond t qs (q ∷ without x qs))
+    by_test : (t : Bool) → same_place x q ≡ t → 1 ≤ once t + tally x qs
+        → (1 ≤ tally x qs → tally p qs ≡ once (same_place p x) + tally p (without x qs)) → once (same_place p q) + tally
+        p qs ≡ once (same_place p x) + tally p (cond t qs (q ∷ without x qs))
     by_test true e h r = ap (λ (r : Pt). once (same_place p r) + tally p qs) (sym (same_place-is x q e))
     by_test false e h r = let s = r (omega arith) in omega arith
 
@@ -67,7 +72,9 @@ total-without : (f : Pt → ℤ) (x : Pt) (qs : List Pt) → 1 ≤ tally x qs �
 total-without f x [] h = absurd (omega arith)
 total-without f x (q ∷ qs) h = by_test (same_place x q) refl h (total-without f x qs)
   where
-    by_test : (t : Bool) → same_place x q ≡ t → 1 ≤ once t + tally x qs → (1 ≤ tally x qs → total f qs ≡ f x +ℤ total f (without x qs)) → f q +ℤ total f qs ≡ f x +ℤ total f (cond t qs (q ∷ without x qs))
+    by_test : (t : Bool) → same_place x q ≡ t → 1 ≤ once t + tally x qs
+        → (1 ≤ tally x qs → total f qs ≡ f x +ℤ total f (without x qs)) → f q +ℤ total f qs ≡ f x +ℤ total f
+        (cond t qs (q ∷ without x qs))
     by_test true e h r = ap (λ (r : Pt). f r +ℤ total f qs) (sym (same_place-is x q e))
     by_test false e h r = sum_with (f q) (total f qs) (f x) (total f (without x qs)) (r (omega arith))
 
@@ -85,7 +92,8 @@ total-same f (p ∷ ps) qs h =
     ∙ sym (total-without f p qs some)
 
 balanced_totals : (f : Pt → ℤ) (es : List Edge) → IsBalanced (segments es) → total f (starts es) ≡ total f (ends es)
-balanced_totals f es h = total-same f (starts es) (ends es) (λ p. sym (tally-starts p es) ∙ whole_balance es h p ∙ tally-ends p es)
+balanced_totals f es h = total-same f (starts es) (ends es) (λ p. sym (tally-starts p es) ∙ whole_balance es h p ∙
+    tally-ends p es)
 
 -- ---- edges hard by a point
 -- a flat edge lies on one side of a point, or not at its height
@@ -93,31 +101,42 @@ abbrev pub IsAside : Bool → Point → LeafEdge → Type 0
 IsAside right p e = e.edge.a.y ≡ e.edge.b.y → ahead right p (whole e.edge.a) ≡ ahead right p (whole e.edge.b)
 
 edge_step : (right : Bool) (p : Point) → pos 0 <ℤ p.d → (e : LeafEdge) → IsAside right p e
-    → turn true right p (whole e.edge.a) (whole e.edge.b) -ℤ turn false right p (whole e.edge.a) (whole e.edge.b) ≡ ahead right p (whole e.edge.a) -ℤ ahead right p (whole e.edge.b)
+    → turn true right p (whole e.edge.a) (whole e.edge.b) -ℤ turn false right p (whole e.edge.a) (whole e.edge.b)
+    ≡ ahead right p (whole e.edge.a) -ℤ ahead right p (whole e.edge.b)
 edge_step right p dp e h =
     let one : pos 0 <ℤ pos 1 = omega (arith, ints) in
-    by_lt_z e.edge.a.y e.edge.b.y (λ o. step_up right p (whole e.edge.a) (whole e.edge.b) dp one one (omega (arith, ints)))
-    (λ n. by_lt_z e.edge.b.y e.edge.a.y (λ o. step_down right p (whole e.edge.a) (whole e.edge.b) dp one one (omega (arith, ints)))
+    by_lt_z e.edge.a.y e.edge.b.y (λ o. step_up right p (whole e.edge.a) (whole e.edge.b) dp one one
+    (omega (arith, ints)))
+    (λ n. by_lt_z e.edge.b.y e.edge.a.y (λ o. step_down right p (whole e.edge.a) (whole e.edge.b) dp one one
+    (omega (arith, ints)))
     (λ m. let level : e.edge.a.y ≡ e.edge.b.y = omega (arith, ints) in flat level))
   where
     none : (x y : ℤ) → x ≡ y → pos 0 -ℤ pos 0 ≡ x -ℤ y
     none x y h = omega (arith, ints)
 
     flat : e.edge.a.y ≡ e.edge.b.y
-        → turn true right p (whole e.edge.a) (whole e.edge.b) -ℤ turn false right p (whole e.edge.a) (whole e.edge.b) ≡ ahead right p (whole e.edge.a) -ℤ ahead right p (whole e.edge.b)
-    flat level = ap₂ (λ (y z : ℤ). y -ℤ z) (level_turn true right p e.edge level) (level_turn false right p e.edge level) ∙ none (ahead right p (whole e.edge.a)) (ahead right p (whole e.edge.b)) (h level)
+        → turn true right p (whole e.edge.a) (whole e.edge.b) -ℤ turn false right p (whole e.edge.a) (whole e.edge.b)
+        ≡ ahead right p (whole e.edge.a) -ℤ ahead right p (whole e.edge.b)
+    flat level = ap₂ (λ (y z : ℤ). y -ℤ z) (level_turn true right p e.edge level) (level_turn false right p e.edge
+        level) ∙ none (ahead right p (whole e.edge.a)) (ahead right p (whole e.edge.b)) (h level)
 
 by_leaf : (t : Bool) (f : Pt → ℤ) (e : LeafEdge) (fs : List LeafEdge) (a b x y : ℤ) → a -ℤ b ≡ f e.edge.a -ℤ f e.edge.b
     → x -ℤ y ≡ total f (starts (map (λ d. d.edge) fs)) -ℤ total f (ends (map (λ d. d.edge) fs))
-    → ((if t then a else pos 0) +ℤ x) -ℤ ((if t then b else pos 0) +ℤ y) ≡ total f (starts (map (λ d. d.edge) (cond t (e ∷ fs) fs))) -ℤ total f (ends (map (λ d. d.edge) (cond t (e ∷ fs) fs)))
-by_leaf true f e fs a b x y h k = sums_apart a b (f e.edge.a) (f e.edge.b) x y (total f (starts (map (λ d. d.edge) fs))) (total f (ends (map (λ d. d.edge) fs))) h k
-by_leaf false f e fs a b x y h k = same x y (total f (starts (map (λ d. d.edge) fs))) (total f (ends (map (λ d. d.edge) fs))) k
+    → ((if t then a else pos 0) +ℤ x) -ℤ ((if t then b else pos 0) +ℤ y)
+    ≡ total f (starts (map (λ d. d.edge) (cond t (e ∷ fs) fs))) -ℤ total f
+    (ends (map (λ d. d.edge) (cond t (e ∷ fs) fs)))
+by_leaf true f e fs a b x y h k = sums_apart a b (f e.edge.a) (f e.edge.b) x y (total f (starts (map (λ d. d.edge) fs)))
+    (total f (ends (map (λ d. d.edge) fs))) h k
+by_leaf false f e fs a b x y h k = same x y (total f (starts (map (λ d. d.edge) fs)))
+    (total f (ends (map (λ d. d.edge) fs))) k
   where
     same : (a b c d : ℤ) → a -ℤ b ≡ c -ℤ d → (pos 0 +ℤ a) -ℤ (pos 0 +ℤ b) ≡ c -ℤ d
     same a b c d h = omega (arith, ints)
 
-leaf_step : (right : Bool) (p : Point) → pos 0 <ℤ p.d → (leaf : ℕ) (es : List LeafEdge) → AllByRecursion (IsAside right p) es
-    → wind_leaf true right p leaf es -ℤ wind_leaf false right p leaf es ≡ total (λ q. ahead right p (whole q)) (starts (edges_of leaf es)) -ℤ total (λ q. ahead right p (whole q)) (ends (edges_of leaf es))
+leaf_step : (right : Bool) (p : Point) → pos 0 <ℤ p.d → (leaf : ℕ) (es : List LeafEdge)
+    → AllByRecursion (IsAside right p) es
+    → wind_leaf true right p leaf es -ℤ wind_leaf false right p leaf es ≡ total (λ q. ahead right p (whole q))
+    (starts (edges_of leaf es)) -ℤ total (λ q. ahead right p (whole q)) (ends (edges_of leaf es))
 leaf_step right p dp leaf [] h = refl
 leaf_step right p dp leaf (e ∷ es) h =
     by_leaf (e.leaf == leaf) (λ q. ahead right p (whole q)) e (filter (λ d. d.leaf == leaf) es)
@@ -125,14 +144,18 @@ leaf_step right p dp leaf (e ∷ es) h =
     (wind_leaf true right p leaf es) (wind_leaf false right p leaf es)
     (edge_step right p dp e h.0) (leaf_step right p dp leaf es h.1)
 
-leaf_same : (right : Bool) (p : Point) → pos 0 <ℤ p.d → (leaf : ℕ) (es : List LeafEdge) → IsBalanced (segments (edges_of leaf es)) → AllByRecursion (IsAside right p) es
+leaf_same : (right : Bool) (p : Point) → pos 0 <ℤ p.d → (leaf : ℕ) (es : List LeafEdge)
+    → IsBalanced (segments (edges_of leaf es)) → AllByRecursion (IsAside right p) es
     → wind_leaf true right p leaf es ≡ wind_leaf false right p leaf es
 leaf_same right p dp leaf es b h =
-    equal_by_gaps (wind_leaf true right p leaf es) (wind_leaf false right p leaf es) (total (λ q. ahead right p (whole q)) (starts (edges_of leaf es))) (total (λ q. ahead right p (whole q)) (ends (edges_of leaf es)))
+    equal_by_gaps (wind_leaf true right p leaf es) (wind_leaf false right p leaf es)
+    (total (λ q. ahead right p (whole q)) (starts (edges_of leaf es))) (total (λ q. ahead right p (whole q))
+    (ends (edges_of leaf es)))
     (leaf_step right p dp leaf es h) (balanced_totals (λ q. ahead right p (whole q)) (edges_of leaf es) b)
 
 -- a shape's values hard above and hard below are one, where no flat edge lies hard by
-pub level_values : (right : Bool) (p : Point) → pos 0 <ℤ p.d → (es : List LeafEdge) (shape : Shape) → AreLeavesBalanced es → AllByRecursion (IsAside right p) es
+pub level_values : (right : Bool) (p : Point) → pos 0 <ℤ p.d → (es : List LeafEdge) (shape : Shape)
+    → AreLeavesBalanced es → AllByRecursion (IsAside right p) es
     → is_in_by true right es shape p ≡ is_in_by false right es shape p
 level_values right p dp es shape b h =
     held_alike true right p es false right p es shape (λ leaf. leaf_same right p dp leaf es (b.each leaf) h)

@@ -30,9 +30,11 @@ abbrev pub aheads : Bool → Point → List Piece → ℤ
 aheads right p [] = pos 0
 aheads right p (q ∷ qs) = (ahead right p (point_of q.from) -ℤ ahead right p (point_of q.to)) +ℤ aheads right p qs
 
-pub aheads-append : (right : Bool) (p : Point) (qs rs : List Piece) → aheads right p (qs ++ rs) ≡ aheads right p qs +ℤ aheads right p rs
+pub aheads-append : (right : Bool) (p : Point) (qs rs : List Piece) → aheads right p (qs ++ rs) ≡ aheads right p qs +ℤ
+    aheads right p rs
 aheads-append right p [] rs = sym (+ℤ_idl (aheads right p rs))
-aheads-append right p (q ∷ qs) rs = more (ahead right p (point_of q.from)) (ahead right p (point_of q.to)) (aheads right p (qs ++ rs)) (aheads right p qs) (aheads right p rs) (aheads-append right p qs rs)
+aheads-append right p (q ∷ qs) rs = more (ahead right p (point_of q.from)) (ahead right p (point_of q.to))
+    (aheads right p (qs ++ rs)) (aheads right p qs) (aheads right p rs) (aheads-append right p qs rs)
   where
     more : (x y a b c : ℤ) → a ≡ b +ℤ c → (x -ℤ y) +ℤ a ≡ ((x -ℤ y) +ℤ b) +ℤ c
     more x y a b c h = omega (arith, ints)
@@ -40,33 +42,40 @@ aheads-append right p (q ∷ qs) rs = more (ahead right p (point_of q.from)) (ah
 cancels : (x y : ℤ) → x ≡ y → (x -ℤ y) +ℤ pos 0 ≡ pos 0
 cancels x y h = omega (arith, ints)
 
-between_alike : (right : Bool) (p : Point) (v w : Bool) (s t : Spot) (name : ℕ) → ahead right p (point_of s) ≡ ahead right p (point_of t) → aheads right p (piece_between v w s t name) ≡ pos 0
+between_alike : (right : Bool) (p : Point) (v w : Bool) (s t : Spot) (name : ℕ) → ahead right p (point_of s)
+    ≡ ahead right p (point_of t) → aheads right p (piece_between v w s t name) ≡ pos 0
 between_alike right p true true s t name h = refl
 between_alike right p true false s t name h = cancels (ahead right p (point_of s)) (ahead right p (point_of t)) h
 between_alike right p false true s t name h = cancels (ahead right p (point_of t)) (ahead right p (point_of s)) (sym h)
 between_alike right p false false s t name h = refl
 
-pub between_apart : (right : Bool) (p : Point) (v w : Bool) (s t : Spot) (name : ℕ) → ahead right p (point_of s) ≡ pos 0 → ahead right p (point_of t) ≡ pos 1
+pub between_apart : (right : Bool) (p : Point) (v w : Bool) (s t : Spot) (name : ℕ) → ahead right p (point_of s) ≡ pos 0
+    → ahead right p (point_of t) ≡ pos 1
     → aheads right p (piece_between v w s t name) ≡ counted w -ℤ counted v
 between_apart right p true true s t name h k = refl
 between_apart right p true false s t name h k = rw (h, k) refl
 between_apart right p false true s t name h k = rw (h, k) refl
 between_apart right p false false s t name h k = refl
 
-pub stretch_alike : (right : Bool) (p : Point) (es : List LeafEdge) (shape : Shape) (s t : Spot) (name : Option ℕ) → ahead right p (point_of s) ≡ ahead right p (point_of t)
+pub stretch_alike : (right : Bool) (p : Point) (es : List LeafEdge) (shape : Shape) (s t : Spot) (name : Option ℕ)
+    → ahead right p (point_of s) ≡ ahead right p (point_of t)
     → aheads right p (stretch_piece es shape s t name) ≡ pos 0
 stretch_alike right p es shape s t None h = refl
-stretch_alike right p es shape s t (Some name) h = between_alike right p (is_in_by true true es shape (point_of s)) (is_in_by false true es shape (point_of s)) s t name h
+stretch_alike right p es shape s t (Some name) h = between_alike right p (is_in_by true true es shape (point_of s))
+    (is_in_by false true es shape (point_of s)) s t name h
 
 two_nothings : (x a b : ℤ) → x ≡ a +ℤ b → a ≡ pos 0 → b ≡ pos 0 → x ≡ pos 0
 two_nothings x a b h k m = omega (arith, ints)
 
 -- where all stops lie alike, no flat piece counts
-pub flat_alike : (right : Bool) (p : Point) (es : List LeafEdge) (shape : Shape) (c : ℤ) (stops : List Spot) → AllByRecursion (λ s. ahead right p (point_of s) ≡ c) stops → aheads right p (flat_pieces es shape stops) ≡ pos 0
+pub flat_alike : (right : Bool) (p : Point) (es : List LeafEdge) (shape : Shape) (c : ℤ) (stops : List Spot)
+    → AllByRecursion (λ s. ahead right p (point_of s) ≡ c) stops → aheads right p (flat_pieces es shape stops) ≡ pos 0
 flat_alike right p es shape c [] h = refl
 flat_alike right p es shape c (s ∷ []) h = refl
 flat_alike right p es shape c (s ∷ (t ∷ ss)) h =
-    two_nothings (aheads right p (flat_pieces es shape (s ∷ (t ∷ ss)))) (aheads right p (stretch_piece es shape s t (position (covers s t) es))) (aheads right p (flat_pieces es shape (t ∷ ss)))
+    two_nothings (aheads right p (flat_pieces es shape (s ∷ (t ∷ ss))))
+    (aheads right p (stretch_piece es shape s t (position (covers s t) es)))
+    (aheads right p (flat_pieces es shape (t ∷ ss)))
     (aheads-append right p (stretch_piece es shape s t (position (covers s t) es)) (flat_pieces es shape (t ∷ ss)))
     (stretch_alike right p es shape s t (position (covers s t) es) (h.0 ∙ sym h.1.0))
     (flat_alike right p es shape c (t ∷ ss) h.1)
@@ -76,13 +85,16 @@ flat_alike right p es shape c (s ∷ (t ∷ ss)) h =
 abbrev pub IsUpTo : Spot → List Spot → Spot → Type 0
 IsUpTo s ss w = IsAtMost (across w) (across s) ⊎ HasSpot ss w
 
-pub from_stop : (t : Spot) (ss : List Spot) (l : Level) (w : Spot) → AllByRecursion (IsSpotAt l) (t ∷ ss) → pos 0 <ℤ pos w.run → GoRight (t ∷ ss) → HasSpot (t ∷ ss) w → IsAtMost (across t) (across w)
+pub from_stop : (t : Spot) (ss : List Spot) (l : Level) (w : Spot) → AllByRecursion (IsSpotAt l) (t ∷ ss)
+    → pos 0 <ℤ pos w.run → GoRight (t ∷ ss) → HasSpot (t ∷ ss) w → IsAtMost (across t) (across w)
 from_stop t [] l w at dw r (inl e) = same_at_least (across t) (across w) e
 from_stop t [] l w at dw r (inr e) = absurd e
 from_stop t (u ∷ ss) l w at dw r (inl e) = same_at_least (across t) (across w) e
-from_stop t (u ∷ ss) l w at dw r (inr e) = at_most_chain (across t) (across u) (across w) at.0.runs at.1.0.runs dw (lower_weak (across t) (across u) r.0) (from_stop u ss l w at.1 dw r.1 e)
+from_stop t (u ∷ ss) l w at dw r (inr e) = at_most_chain (across t) (across u) (across w) at.0.runs at.1.0.runs dw
+    (lower_weak (across t) (across u) r.0) (from_stop u ss l w at.1 dw r.1 e)
 
-pub first_up_to : (s : Spot) (ss ws : List Spot) → AllByRecursion (HasSpot (s ∷ ss)) ws → AllByRecursion (IsUpTo s ss) ws
+pub first_up_to : (s : Spot) (ss ws : List Spot) → AllByRecursion (HasSpot (s ∷ ss)) ws
+    → AllByRecursion (IsUpTo s ss) ws
 first_up_to s ss [] h = tt
 first_up_to s ss (w ∷ ws) h = (one w h.0, first_up_to s ss ws h.1)
   where
@@ -90,12 +102,15 @@ first_up_to s ss (w ∷ ws) h = (one w h.0, first_up_to s ss ws h.1)
     one w (inl e) = inl (same_at_most (across s) (across w) e)
     one w (inr r) = inr r
 
-pub next_up_to : (l : Level) (s t : Spot) (ss ws : List Spot) → IsSpotAt l s → IsSpotAt l t → AllByRecursion (IsSpotAt l) ws → IsLeft s t → AllByRecursion (IsUpTo s (t ∷ ss)) ws → AllByRecursion (IsUpTo t ss) ws
+pub next_up_to : (l : Level) (s t : Spot) (ss ws : List Spot) → IsSpotAt l s → IsSpotAt l t
+    → AllByRecursion (IsSpotAt l) ws → IsLeft s t → AllByRecursion (IsUpTo s (t ∷ ss)) ws
+    → AllByRecursion (IsUpTo t ss) ws
 next_up_to l s t ss [] hs ht hw o h = tt
 next_up_to l s t ss (w ∷ ws) hs ht hw o h = (one w hw.0 h.0, next_up_to l s t ss ws hs ht hw.1 o h.1)
   where
     one : (w : Spot) → IsSpotAt l w → IsUpTo s (t ∷ ss) w → IsUpTo t ss w
-    one w hw (inl e) = inl (at_most_chain (across w) (across s) (across t) hw.runs hs.runs ht.runs e (lower_weak (across s) (across t) o))
+    one w hw (inl e) = inl (at_most_chain (across w) (across s) (across t) hw.runs hs.runs ht.runs e
+        (lower_weak (across s) (across t) o))
     one w hw (inr (inl e)) = inl (same_at_most (across t) (across w) e)
     one w hw (inr (inr r)) = inr r
 
@@ -103,7 +118,9 @@ next_up_to l s t ss (w ∷ ws) hs ht hw o h = (one w hw.0 h.0, next_up_to l s t 
 abbrev pub IsBeside : Spot → Spot → Spot → Type 0
 IsBeside s t w = IsAtMost (across w) (across s) ⊎ IsAtMost (across t) (across w)
 
-pub beside : (l : Level) (s t : Spot) (ss ws : List Spot) → AllByRecursion (IsSpotAt l) (t ∷ ss) → AllByRecursion (IsSpotAt l) ws → GoRight (t ∷ ss) → AllByRecursion (IsUpTo s (t ∷ ss)) ws → AllByRecursion (IsBeside s t) ws
+pub beside : (l : Level) (s t : Spot) (ss ws : List Spot) → AllByRecursion (IsSpotAt l) (t ∷ ss)
+    → AllByRecursion (IsSpotAt l) ws → GoRight (t ∷ ss) → AllByRecursion (IsUpTo s (t ∷ ss)) ws
+    → AllByRecursion (IsBeside s t) ws
 beside l s t ss [] at aw r h = tt
 beside l s t ss (w ∷ ws) at aw r h = (one w aw.0 h.0, beside l s t ss ws at aw.1 r h.1)
   where
@@ -112,24 +129,35 @@ beside l s t ss (w ∷ ws) at aw r h = (one w aw.0 h.0, beside l s t ss ws at aw
     one w aw (inr e) = inr (from_stop t ss l w at aw.runs r e)
 
 -- ---- a spot further to the right lies on the right where the first does
-further_identity : (sx sr wx wr px pd k : ℤ) → (wx *ℤ pd -ℤ px *ℤ (k *ℤ wr)) *ℤ sr ≡ (sx *ℤ pd -ℤ px *ℤ (k *ℤ sr)) *ℤ wr +ℤ (wx *ℤ sr -ℤ sx *ℤ wr) *ℤ pd
-further_identity sx sr wx wr px pd k = ring (sx ∷ sr ∷ wx ∷ wr ∷ px ∷ pd ∷ k ∷ []) ((v2 ⊗ v5 ⊖ v4 ⊗ (v6 ⊗ v3)) ⊗ v1) ((v0 ⊗ v5 ⊖ v4 ⊗ (v6 ⊗ v1)) ⊗ v3 ⊕ (v2 ⊗ v1 ⊖ v0 ⊗ v3) ⊗ v5) refl
+further_identity : (sx sr wx wr px pd k : ℤ) → (wx *ℤ pd -ℤ px *ℤ (k *ℤ wr)) *ℤ sr ≡ (sx *ℤ pd -ℤ px *ℤ (k *ℤ sr)) *ℤ wr
+    +ℤ (wx *ℤ sr -ℤ sx *ℤ wr) *ℤ pd
+further_identity sx sr wx wr px pd k = ring (sx ∷ sr ∷ wx ∷ wr ∷ px ∷ pd ∷ k ∷ []) ((v2 ⊗ v5 ⊖ v4 ⊗ (v6 ⊗ v3)) ⊗ v1)
+    ((v0 ⊗ v5 ⊖ v4 ⊗ (v6 ⊗ v1)) ⊗ v3 ⊕ (v2 ⊗ v1 ⊖ v0 ⊗ v3) ⊗ v5) refl
 
 more_of : (a b c : ℤ) → a ≡ b +ℤ c → pos 0 ≤ℤ c → b ≤ℤ a
 more_of a b c h k = omega (arith, ints)
 
 module _ (l : Level) (right : Bool) (p : Point) (dp : pos 0 <ℤ p.d) where
-  pub further : (s w : Spot) → IsSpotAt l s → IsSpotAt l w → IsAtMost (across s) (across w) → is_right right p (point_of s) ≡ true → is_right right p (point_of w) ≡ true
+  pub further : (s w : Spot) → IsSpotAt l s → IsSpotAt l w → IsAtMost (across s) (across w)
+      → is_right right p (point_of s) ≡ true → is_right right p (point_of w) ≡ true
   further s w hs hw o h =
       let at : s.at ≡ w.at = hs.at ∙ sym hw.at in
-      let i : gap p (point_of w) *ℤ pos s.run ≡ (s.x *ℤ p.d -ℤ p.x *ℤ (w.at.d *ℤ pos s.run)) *ℤ pos w.run +ℤ (w.x *ℤ pos s.run -ℤ s.x *ℤ pos w.run) *ℤ p.d = further_identity s.x (pos s.run) w.x (pos w.run) p.x p.d w.at.d in
-      let j : gap p (point_of w) *ℤ pos s.run ≡ gap p (point_of s) *ℤ pos w.run +ℤ (w.x *ℤ pos s.run -ℤ s.x *ℤ pos w.run) *ℤ p.d = i ∙ ap (λ (m : Level). (s.x *ℤ p.d -ℤ p.x *ℤ (m.d *ℤ pos s.run)) *ℤ pos w.run +ℤ (w.x *ℤ pos s.run -ℤ s.x *ℤ pos w.run) *ℤ p.d) (sym at) in
-      let m : pos 0 ≤ℤ ((w.x *ℤ pos s.run -ℤ s.x *ℤ pos w.run) *ℤ p.d) = at_least_mul (w.x *ℤ pos s.run -ℤ s.x *ℤ pos w.run) p.d (gap_of_at_most (s.x *ℤ pos w.run) (w.x *ℤ pos s.run) o) (at_most_of_less (pos 0) p.d dp) in
+      let i : gap p (point_of w) *ℤ pos s.run ≡ (s.x *ℤ p.d -ℤ p.x *ℤ (w.at.d *ℤ pos s.run)) *ℤ pos w.run +ℤ
+      (w.x *ℤ pos s.run -ℤ s.x *ℤ pos w.run) *ℤ p.d = further_identity s.x (pos s.run) w.x (pos w.run) p.x p.d
+      w.at.d in
+      let j : gap p (point_of w) *ℤ pos s.run ≡ gap p (point_of s) *ℤ pos w.run +ℤ (w.x *ℤ pos s.run -ℤ s.x *ℤ pos
+      w.run) *ℤ p.d = i ∙ ap (λ (m : Level). (s.x *ℤ p.d -ℤ p.x *ℤ (m.d *ℤ pos s.run)) *ℤ pos w.run +ℤ
+      (w.x *ℤ pos s.run -ℤ s.x *ℤ pos w.run) *ℤ p.d) (sym at) in
+      let m : pos 0 ≤ℤ ((w.x *ℤ pos s.run -ℤ s.x *ℤ pos w.run) *ℤ p.d) = at_least_mul (w.x *ℤ pos s.run -ℤ s.x *ℤ pos
+      w.run) p.d (gap_of_at_most (s.x *ℤ pos w.run) (w.x *ℤ pos s.run) o) (at_most_of_less (pos 0) p.d dp) in
       sym (beyond_mul right (pos s.run) (gap p (point_of w)) hs.runs)
-      ∙ beyond_more right (gap p (point_of s) *ℤ pos w.run) (gap p (point_of w) *ℤ pos s.run) (more_of (gap p (point_of w) *ℤ pos s.run) (gap p (point_of s) *ℤ pos w.run) ((w.x *ℤ pos s.run -ℤ s.x *ℤ pos w.run) *ℤ p.d) j m)
+      ∙ beyond_more right (gap p (point_of s) *ℤ pos w.run) (gap p (point_of w) *ℤ pos s.run)
+      (more_of (gap p (point_of w) *ℤ pos s.run) (gap p (point_of s) *ℤ pos w.run)
+      ((w.x *ℤ pos s.run -ℤ s.x *ℤ pos w.run) *ℤ p.d) j m)
       (beyond_mul right (pos w.run) (gap p (point_of s)) hw.runs ∙ h)
 
-  pub nearer : (s w : Spot) → IsSpotAt l s → IsSpotAt l w → IsAtMost (across w) (across s) → is_right right p (point_of s) ≡ false → is_right right p (point_of w) ≡ false
+  pub nearer : (s w : Spot) → IsSpotAt l s → IsSpotAt l w → IsAtMost (across w) (across s)
+      → is_right right p (point_of s) ≡ false → is_right right p (point_of w) ≡ false
   nearer s w hs hw o h = by_test (is_right right p (point_of w)) refl
     where
       differ : (b : Bool) → b ≡ true → b ≡ false → false ≡ true
@@ -139,12 +167,14 @@ module _ (l : Level) (right : Bool) (p : Point) (dp : pos 0 <ℤ p.d) where
       by_test false e = e
       by_test true e = e ∙ sym (differ (is_right right p (point_of s)) (further w s hw hs o e) h)
 
-  pub all_further : (s : Spot) (ws : List Spot) → IsSpotAt l s → AllByRecursion (IsSpotAt l) ws → AllByRecursion (λ w. IsAtMost (across s) (across w)) ws → is_right right p (point_of s) ≡ true
+  pub all_further : (s : Spot) (ws : List Spot) → IsSpotAt l s → AllByRecursion (IsSpotAt l) ws
+      → AllByRecursion (λ w. IsAtMost (across s) (across w)) ws → is_right right p (point_of s) ≡ true
       → AllByRecursion (λ w. is_right right p (point_of w) ≡ true) ws
   all_further s [] hs hw o h = tt
   all_further s (w ∷ ws) hs hw o h = (further s w hs hw.0 o.0 h, all_further s ws hs hw.1 o.1 h)
 
-  pub all_nearer : (s : Spot) (ws : List Spot) → IsSpotAt l s → AllByRecursion (IsSpotAt l) ws → AllByRecursion (λ w. IsAtMost (across w) (across s)) ws → is_right right p (point_of s) ≡ false
+  pub all_nearer : (s : Spot) (ws : List Spot) → IsSpotAt l s → AllByRecursion (IsSpotAt l) ws
+      → AllByRecursion (λ w. IsAtMost (across w) (across s)) ws → is_right right p (point_of s) ≡ false
       → AllByRecursion (λ w. is_right right p (point_of w) ≡ false) ws
   all_nearer s [] hs hw o h = tt
   all_nearer s (w ∷ ws) hs hw o h = (nearer s w hs hw.0 o.0 h, all_nearer s ws hs hw.1 o.1 h)

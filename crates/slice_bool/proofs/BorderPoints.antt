@@ -68,23 +68,46 @@ module _ (es : List LeafEdge) (shape : Shape) where
   AllBorder qs = AllByRecursion (λ q. Borders q.from q.to) qs
 
   -- a piece that runs between two spots, where the values on its sides differ
-  between_borders : (v w : Bool) (s t : Spot) (name : ℕ) → pos 0 <ℤ (point_of t).d → ((b c : Bool) → v ≡ b → w ≡ c → b ≢ c → Borders s t) → AllBorder (piece_between v w s t name)
+  between_borders : (v w : Bool) (s t : Spot) (name : ℕ) → pos 0 <ℤ (point_of t).d → ((b c : Bool) → v ≡ b → w ≡ c
+      → b ≢ c → Borders s t) → AllBorder (piece_between v w s t name)
   between_borders true true s t name dt h = tt
   between_borders true false s t name dt h = (h true false refl refl (λ e. cc), tt)
-  between_borders false true s t name dt h = (λ p dp i. h false true refl refl (λ e. cc) p dp (inside_turned (point_of t) (point_of s) p dt i), tt)
+  between_borders false true s t name dt h = (
+    λ p dp i. h false true refl refl (λ e. cc) p dp
+        (inside_turned (point_of t) (point_of s) p dt i),
+    tt,
+  )
   between_borders false false s t name dt h = tt
 
-  differing : (p : Point) (a r a' r' b c : Bool) → is_in_by a r es shape p ≡ b → is_in_by a' r' es shape p ≡ c → b ≢ c → IsBorderPoint es shape p
+  differing : (p : Point) (a r a' r' b c : Bool) → is_in_by a r es shape p ≡ b → is_in_by a' r' es shape p ≡ c → b ≢ c
+      → IsBorderPoint es shape p
   differing p a r a' r' true true h k n = absurd (n refl)
-  differing p a r a' r' true false h k n = record { held_above = a; held_right = r; held = h; missed_above = a'; missed_right = r'; missed = k }
-  differing p a r a' r' false true h k n = record { held_above = a'; held_right = r'; held = k; missed_above = a; missed_right = r; missed = h }
+  differing p a r a' r' true false h k n = record {
+    held_above = a;
+    held_right = r;
+    held = h;
+    missed_above =
+        a';
+    missed_right = r';
+    missed = k;
+  }
+  differing p a r a' r' false true h k n = record {
+    held_above = a';
+    held_right = r';
+    held = k;
+    missed_above =
+        a;
+    missed_right = r;
+    missed = h;
+  }
   differing p a r a' r' false false h k n = absurd (n refl)
 
   -- ---- between two levels
   both_below : (a b : Point) → IsBelow a b → IsBelow b a → ⊥
   both_below a b h k = omega (arith, ints)
 
-  below_level : (a p b : Point) → pos 0 <ℤ a.d → pos 0 <ℤ p.d → pos 0 <ℤ b.d → IsBelow a b → AreLevel a p → AreLevel p b → ⊥
+  below_level : (a p b : Point) → pos 0 <ℤ a.d → pos 0 <ℤ p.d → pos 0 <ℤ b.d → IsBelow a b → AreLevel a p → AreLevel p b
+      → ⊥
   below_level a p b da dp db o h k =
       let m : IsAtMost (level_at b) (level_at p) = omega (arith, ints) in
       let n = lower_then_at_most (level_at a) (level_at b) (level_at p) da db dp o m in
@@ -104,53 +127,75 @@ module _ (es : List LeafEdge) (shape : Shape) where
     high_divisor = spot_divisor u (spot_on (edge_at es k) u) n.upper_divisor (spot_there u)
 
     pub rises : IsBelow (point_of (spot_on (edge_at es k) l)) (point_of (spot_on (edge_at es k) u))
-    rises = scaled_below (level_at (point_of (spot_on (edge_at es k) u))) l (pos (unsigned_abs (rise (edge_at es k)))) run_positive (lower_scaled l u (pos (unsigned_abs (rise (edge_at es k)))) run_positive n.in_order)
+    rises = scaled_below (level_at (point_of (spot_on (edge_at es k) u))) l (pos (unsigned_abs (rise (edge_at es k))))
+        run_positive (lower_scaled l u (pos (unsigned_abs (rise (edge_at es k)))) run_positive n.in_order)
 
-    on_edge : (p : Point) → side_by p (point_of (spot_on (edge_at es k) l)) (point_of (spot_on (edge_at es k) u)) ≡ pos 0 → left_of (edge_at es k) p.x p.y p.d ≡ pos 0
+    on_edge : (p : Point) → side_by p (point_of (spot_on (edge_at es k) l)) (point_of (spot_on (edge_at es k) u))
+        ≡ pos 0 → left_of (edge_at es k) p.x p.y p.d ≡ pos 0
     on_edge p h =
         let r = rise (edge_at es k) in
         let factor : ℤ = (r *ℤ r) *ℤ (l.d *ℤ (u.n *ℤ l.d -ℤ l.n *ℤ u.d)) in
-        let positive : pos 0 <ℤ factor = positive_product (r *ℤ r) (l.d *ℤ (u.n *ℤ l.d -ℤ l.n *ℤ u.d)) (positive_product r r lk.reaches.rises lk.reaches.rises) (positive_product l.d (u.n *ℤ l.d -ℤ l.n *ℤ u.d) n.lower_divisor (gap_of_less (l.n *ℤ u.d) (u.n *ℤ l.d) n.in_order)) in
-        zero_factor (left_of (edge_at es k) p.x p.y p.d) factor positive (sym (side_up_is p (edge_at es k) l u (pos (unsigned_abs r)) (size_of r lk.reaches.rises)) ∙ h)
+        let positive : pos 0 <ℤ factor = positive_product (r *ℤ r) (l.d *ℤ (u.n *ℤ l.d -ℤ l.n *ℤ u.d))
+        (positive_product r r lk.reaches.rises lk.reaches.rises)
+        (positive_product l.d (u.n *ℤ l.d -ℤ l.n *ℤ u.d) n.lower_divisor (gap_of_less (l.n *ℤ u.d) (u.n *ℤ l.d)
+        n.in_order)) in
+        zero_factor (left_of (edge_at es k) p.x p.y p.d) factor positive
+        (sym (side_up_is p (edge_at es k) l u (pos (unsigned_abs r)) (size_of r lk.reaches.rises)) ∙ h)
 
     over_low : (p : Point) → pos 0 <ℤ p.d → IsBelow (point_of (spot_on (edge_at es k) l)) p → IsLower l (level_at p)
     over_low p dp h =
-        let same = same_at_most (level_at (point_of (spot_on (edge_at es k) l))) l (spot_is_at l (spot_on (edge_at es k) l) (spot_there l)) in
-        at_most_then_lower l (level_at (point_of (spot_on (edge_at es k) l))) (level_at p) n.lower_divisor low_divisor dp same h
+        let same = same_at_most (level_at (point_of (spot_on (edge_at es k) l))) l
+        (spot_is_at l (spot_on (edge_at es k) l) (spot_there l)) in
+        at_most_then_lower l (level_at (point_of (spot_on (edge_at es k) l))) (level_at p) n.lower_divisor low_divisor
+        dp same h
 
     under_high : (p : Point) → pos 0 <ℤ p.d → IsBelow p (point_of (spot_on (edge_at es k) u)) → IsLower (level_at p) u
     under_high p dp h =
-        let same = same_at_least (level_at (point_of (spot_on (edge_at es k) u))) u (spot_is_at u (spot_on (edge_at es k) u) (spot_there u)) in
-        lower_then_at_most (level_at p) (level_at (point_of (spot_on (edge_at es k) u))) u dp high_divisor n.upper_divisor h same
+        let same = same_at_least (level_at (point_of (spot_on (edge_at es k) u))) u
+        (spot_is_at u (spot_on (edge_at es k) u) (spot_there u)) in
+        lower_then_at_most (level_at p) (level_at (point_of (spot_on (edge_at es k) u))) u dp high_divisor
+        n.upper_divisor h same
 
-    pub inside_slab : (p : Point) → pos 0 <ℤ p.d → IsInside (point_of (spot_on (edge_at es k) l)) (point_of (spot_on (edge_at es k) u)) p → IsLower l (level_at p) × IsLower (level_at p) u
+    pub inside_slab : (p : Point) → pos 0 <ℤ p.d → IsInside (point_of (spot_on (edge_at es k) l))
+        (point_of (spot_on (edge_at es k) u)) p → IsLower l (level_at p) × IsLower (level_at p) u
     inside_slab p dp i = elim i.between [
       | inl h ↦ elim h [
         | inl o ↦ (over_low p dp o.0, under_high p dp o.1)
         | inr o ↦ absurd (both_below (point_of (spot_on (edge_at es k) l)) (point_of (spot_on (edge_at es k) u)) rises
-            (lower_then_at_most (level_at (point_of (spot_on (edge_at es k) u))) (level_at p) (level_at (point_of (spot_on (edge_at es k) l))) high_divisor dp low_divisor o.0 (lower_weak (level_at p) (level_at (point_of (spot_on (edge_at es k) l))) o.1)))
+            (lower_then_at_most (level_at (point_of (spot_on (edge_at es k) u))) (level_at p)
+            (level_at (point_of (spot_on (edge_at es k) l))) high_divisor dp low_divisor o.0
+            (lower_weak (level_at p) (level_at (point_of (spot_on (edge_at es k) l))) o.1)))
       ]
-      | inr h ↦ absurd (below_level (point_of (spot_on (edge_at es k) l)) p (point_of (spot_on (edge_at es k) u)) low_divisor dp high_divisor rises h.0 h.1)
+      | inr h ↦ absurd (below_level (point_of (spot_on (edge_at es k) l)) p (point_of (spot_on (edge_at es k) u))
+          low_divisor dp high_divisor rises h.0 h.1)
     ]
 
-    bundle_borders : (ks : List ℕ) (before rest : List (List ℕ)) → AreBundles es l u (before ++ ((k ∷ ks) ∷ rest)) → AllBorder (bundle_piece es shape l u (k ∷ ks))
+    bundle_borders : (ks : List ℕ) (before rest : List (List ℕ)) → AreBundles es l u (before ++ ((k ∷ ks) ∷ rest))
+        → AllBorder (bundle_piece es shape l u (k ∷ ks))
     bundle_borders ks before rest b =
-        between_borders (is_in_by true false es shape (half_point es l u k)) (is_in_by true true es shape (half_point es l u k)) (spot_on (edge_at es k) l) (spot_on (edge_at es k) u) k high_divisor
+        between_borders (is_in_by true false es shape (half_point es l u k))
+        (is_in_by true true es shape (half_point es l u k)) (spot_on (edge_at es k) l) (spot_on (edge_at es k) u) k
+        high_divisor
         (λ v w hv hw apart p dp i.
         let o = inside_slab p dp i in
         let on = on_edge p i.on_line in
         differing p true false true true v w
-        (value_left_at es l u n k lk p dp o.0 o.1 on shape ks before rest b ∙ sym (value_left es l u n k lk shape ks before rest b) ∙ hv)
-        (value_right_at es l u n k lk p dp o.0 o.1 on shape ks before rest b ∙ sym (value_right es l u n k lk shape ks before rest b) ∙ hw)
+        (value_left_at es l u n k lk p dp o.0 o.1 on shape ks before rest b ∙ sym (value_left es l u n k lk shape ks
+        before rest b) ∙ hv)
+        (value_right_at es l u n k lk p dp o.0 o.1 on shape ks before rest b ∙ sym (value_right es l u n k lk shape ks
+        before rest b) ∙ hw)
         apart)
 
-  slab_borders : (l u : Level) → AreNeighbours es l u → (before bs : List (List ℕ)) → AreBundles es l u (before ++ bs) → AllBorder (slab_pieces es shape l u bs)
+  slab_borders : (l u : Level) → AreNeighbours es l u → (before bs : List (List ℕ)) → AreBundles es l u (before ++ bs)
+      → AllBorder (slab_pieces es shape l u bs)
   slab_borders l u n before [] b = tt
   slab_borders l u n before ([] ∷ bs) b = absurd (later_ranked es l before ([] ∷ bs) b.ranked).0
   slab_borders l u n before ((k ∷ ks) ∷ bs) b =
-      let shifted : before ++ ((k ∷ ks) ∷ bs) ≡ (before ++ ((k ∷ ks) ∷ [])) ++ bs = sym (append_assoc before ((k ∷ ks) ∷ []) bs) in
+      let shifted : before ++ ((k ∷ ks) ∷ bs) ≡ (before ++ ((k ∷ ks) ∷ [])) ++ bs =
+      sym (append_assoc before ((k ∷ ks) ∷ []) bs) in
       let live = later_live es l u before ((k ∷ ks) ∷ bs) (live_bundles es l u (before ++ ((k ∷ ks) ∷ bs)) b) in
-      AllByRecursion-append (λ q. Borders q.from q.to) (bundle_piece es shape l u (k ∷ ks)) (slab_pieces es shape l u bs)
+      AllByRecursion-append (λ q. Borders q.from q.to) (bundle_piece es shape l u (k ∷ ks))
+      (slab_pieces es shape l u bs)
       (bundle_borders l u n k live.0 ks before bs b)
       (slab_borders l u n (before ++ ((k ∷ ks) ∷ [])) bs (subst (AreBundles es l u) shifted b))
 
@@ -176,7 +221,8 @@ module _ (es : List LeafEdge) (shape : Shape) where
 
   module _ (l : Level) (dl : pos 0 <ℤ l.d) (s t : Spot) (hs : IsSpotAt l s) (ht : IsSpotAt l t) (o : IsLeft s t) where
     -- a point inside the stretch lies at the height, with the one stop to its left and the other to its right
-    pub inside_stretch : (p : Point) → pos 0 <ℤ p.d → IsInside (point_of s) (point_of t) p → IsAt l p × (is_right true p (point_of s) ≡ false) × (is_right true p (point_of t) ≡ true)
+    pub inside_stretch : (p : Point) → pos 0 <ℤ p.d → IsInside (point_of s) (point_of t) p
+        → IsAt l p × (is_right true p (point_of s) ≡ false) × (is_right true p (point_of t) ≡ true)
     inside_stretch p dp i = elim i.between [
       | inl h ↦ elim h [
         | inl k ↦ absurd (ends_level l dl s t hs ht p dp k.0 k.1)
@@ -184,38 +230,50 @@ module _ (es : List LeafEdge) (shape : Shape) where
       ]
       | inr h ↦ elim h.2 [
         | inl k ↦ (at h.0, not_beyond p (point_of s) k.0, is_beyond_it p (point_of t) k.1)
-        | inr k ↦ absurd (true≢false (sym (further l true p dp s t hs ht (lower_weak (across s) (across t) o) (is_beyond_it p (point_of s) k.1)) ∙ not_beyond p (point_of t) k.0))
+        | inr k ↦ absurd (true≢false (sym (further l true p dp s t hs ht (lower_weak (across s) (across t) o)
+            (is_beyond_it p (point_of s) k.1)) ∙ not_beyond p (point_of t) k.0))
       ]
     ]
       where
         at : AreLevel (point_of s) p → IsAt l p
-        at h = same_chain (level_at p) (level_at (point_of s)) l dp (spot_divisor l s dl hs) dl (sym h) (spot_is_at l s hs)
+        at h = same_chain (level_at p) (level_at (point_of s)) l dp (spot_divisor l s dl hs) dl (sym h)
+            (spot_is_at l s hs)
 
-    stretch_borders : (name : Option ℕ) → AllByRecursion (IsBeside s t) (spots_at es l) → AllBorder (stretch_piece es shape s t name)
+    stretch_borders : (name : Option ℕ) → AllByRecursion (IsBeside s t) (spots_at es l)
+        → AllBorder (stretch_piece es shape s t name)
     stretch_borders None h = tt
     stretch_borders (Some name) h =
-        between_borders (is_in_by true true es shape (point_of s)) (is_in_by false true es shape (point_of s)) s t name (spot_divisor l t dl ht)
+        between_borders (is_in_by true true es shape (point_of s)) (is_in_by false true es shape (point_of s)) s t name
+        (spot_divisor l t dl ht)
         (λ v w hv hw apart p dp i.
         let inside = inside_stretch p dp i in
         let alike = alike_beside l dl true p dp s t hs ht o inside.1 inside.2 (spots_at es l) (spots_are_at es l) h in
         differing p true true false true v w
-        (sym (values_alike l dl true (point_of s) true p (spot_divisor l s dl hs) dp (spot_is_at l s hs) inside.0 true es shape alike) ∙ hv)
-        (sym (values_alike l dl true (point_of s) true p (spot_divisor l s dl hs) dp (spot_is_at l s hs) inside.0 false es shape alike) ∙ hw)
+        (sym (values_alike l dl true (point_of s) true p (spot_divisor l s dl hs) dp (spot_is_at l s hs) inside.0 true
+        es shape alike) ∙ hv)
+        (sym (values_alike l dl true (point_of s) true p (spot_divisor l s dl hs) dp (spot_is_at l s hs) inside.0 false
+        es shape alike) ∙ hw)
         apart)
 
-  walk_borders : (l : Level) → pos 0 <ℤ l.d → (s : Spot) (ss : List Spot) → AllByRecursion (IsSpotAt l) (s ∷ ss) → GoRight (s ∷ ss) → AllByRecursion (IsUpTo s ss) (spots_at es l) → AllBorder (flat_pieces es shape (s ∷ ss))
+  walk_borders : (l : Level) → pos 0 <ℤ l.d → (s : Spot) (ss : List Spot) → AllByRecursion (IsSpotAt l) (s ∷ ss)
+      → GoRight (s ∷ ss) → AllByRecursion (IsUpTo s ss) (spots_at es l) → AllBorder (flat_pieces es shape (s ∷ ss))
   walk_borders l dl s [] hs r h = tt
   walk_borders l dl s (t ∷ ss) hs r h =
-      AllByRecursion-append (λ q. Borders q.from q.to) (stretch_piece es shape s t (position (covers s t) es)) (flat_pieces es shape (t ∷ ss))
-      (stretch_borders l dl s t hs.0 hs.1.0 r.0 (position (covers s t) es) (beside l s t ss (spots_at es l) hs.1 (spots_are_at es l) r.1 h))
+      AllByRecursion-append (λ q. Borders q.from q.to) (stretch_piece es shape s t (position (covers s t) es))
+      (flat_pieces es shape (t ∷ ss))
+      (stretch_borders l dl s t hs.0 hs.1.0 r.0 (position (covers s t) es) (beside l s t ss (spots_at es l) hs.1
+      (spots_are_at es l) r.1 h))
       (walk_borders l dl t ss hs.1 r.1 (next_up_to l s t ss (spots_at es l) hs.0 hs.1.0 (spots_are_at es l) r.0 h))
 
-  flat_borders : (l : Level) → pos 0 <ℤ l.d → (stops : List Spot) → AreStops es l stops → AllBorder (flat_pieces es shape stops)
+  flat_borders : (l : Level) → pos 0 <ℤ l.d → (stops : List Spot) → AreStops es l stops
+      → AllBorder (flat_pieces es shape stops)
   flat_borders l dl [] a = tt
-  flat_borders l dl (s ∷ ss) a = walk_borders l dl s ss (stops_at es l (s ∷ ss) a) a.rightwards (first_up_to s ss (spots_at es l) a.complete)
+  flat_borders l dl (s ∷ ss) a = walk_borders l dl s ss (stops_at es l (s ∷ ss) a) a.rightwards
+      (first_up_to s ss (spots_at es l) a.complete)
 
   -- ---- level by level
-  level_borders : (l : Level) (ls : List Level) (pieces : List Piece) → AllByRecursion (λ (l : Level). pos 0 <ℤ l.d) (l ∷ ls) → IsRising (l ∷ ls) → AllByRecursion (UpTo l ls) (heights es)
+  level_borders : (l : Level) (ls : List Level) (pieces : List Piece) → AllByRecursion (λ (l : Level). pos 0 <ℤ l.d)
+      (l ∷ ls) → IsRising (l ∷ ls) → AllByRecursion (UpTo l ls) (heights es)
       → AreLevelPieces es shape (l ∷ ls) pieces → AllBorder pieces
   level_borders l [] pieces d r h a = subst AllBorder (sym a.2) (flat_borders l d.0 a.0 a.1)
   level_borders l (u ∷ ls) pieces d r h a =
@@ -225,15 +283,20 @@ module _ (es : List LeafEdge) (shape : Shape) where
       (flat_borders l d.0 a.0 a.3) (slab_borders l u (neighbours_next es l u ls d r h) [] a.1 a.4))
       (level_borders u ls a.2 d.1 r.1 (at_next l u ls (heights es) d.0 d.1.0 (heights_positive es) r.0 h) a.5))
 
-  by_levels : (ls : List Level) (pieces : List Piece) → AreLevels es ls → AreLevelPieces es shape ls pieces → AllBorder pieces
+  by_levels : (ls : List Level) (pieces : List Piece) → AreLevels es ls → AreLevelPieces es shape ls pieces
+      → AllBorder pieces
   by_levels [] pieces v a = subst AllBorder (sym a) tt
-  by_levels (l ∷ ls) pieces v a = level_borders l ls pieces v.divisors v.rising (at_first l ls (heights es) v.complete) a
+  by_levels (l ∷ ls) pieces v a = level_borders l ls pieces v.divisors v.rising (at_first l ls (heights es) v.complete)
+      a
 
-  at_point : (p : Point) → pos 0 <ℤ p.d → (pieces : List Piece) → AllBorder pieces → AllByRecursion (λ q. IsInside (point_of q.from) (point_of q.to) p → IsBorderPoint es shape p) pieces
+  at_point : (p : Point) → pos 0 <ℤ p.d → (pieces : List Piece) → AllBorder pieces
+      → AllByRecursion (λ q. IsInside (point_of q.from) (point_of q.to) p → IsBorderPoint es shape p) pieces
   at_point p dp [] h = tt
   at_point p dp (q ∷ qs) h = (h.0 p dp, at_point p dp qs h.1)
 
-pub pieces_are_border : (es : List LeafEdge) (shape : Shape) (pieces : List Piece) → ArePieces es shape pieces → (p : Point) → pos 0 <ℤ p.d
+pub pieces_are_border : (es : List LeafEdge) (shape : Shape) (pieces : List Piece) → ArePieces es shape pieces
+    → (p : Point) → pos 0 <ℤ p.d
     → All (λ q. IsInside (point_of q.from) (point_of q.to) p → IsBorderPoint es shape p) pieces
 pieces_are_border es shape pieces a p dp =
-    All-from_recursion (λ q. IsInside (point_of q.from) (point_of q.to) p → IsBorderPoint es shape p) pieces (at_point es shape p dp pieces (by_levels es shape a.levels pieces a.are_levels a.are_pieces))
+    All-from_recursion (λ q. IsInside (point_of q.from) (point_of q.to) p → IsBorderPoint es shape p) pieces
+    (at_point es shape p dp pieces (by_levels es shape a.levels pieces a.are_levels a.are_pieces))

@@ -35,22 +35,29 @@ use Rattle.std.proofs.lemmas.Bool.{cases_lt}
 headings_are : (es : List LeafEdge) (leaf : ℕ) (ks : List ℕ) → headings es leaf ks ≡ sum_z (heading_for es leaf) ks
 unfolding heading
 headings_are es leaf [] = refl
-headings_are es leaf (k ∷ ks) = ap (λ (z : ℤ). (if (get_or es k no_edge).leaf == leaf then heading_of (get_or es k no_edge).edge else pos 0) +ℤ z) (headings_are es leaf ks)
+headings_are es leaf (k ∷ ks) =
+    ap (λ (z : ℤ). (if (get_or es k no_edge).leaf == leaf then heading_of (get_or es k no_edge).edge else pos 0) +ℤ z)
+    (headings_are es leaf ks)
 
 left_is : (es : List LeafEdge) (shape : Shape) (bs : List (List ℕ)) → left_value es shape bs ≡ value_of es shape bs
-left_is es shape bs = ap (λ (f : ℕ → Bool). shape_holds f shape) (fun_ext (λ leaf. ap (λ (z : ℤ). not (is_zero z)) (headings_are es leaf (concat bs))))
+left_is es shape bs = ap (λ (f : ℕ → Bool). shape_holds f shape)
+    (fun_ext (λ leaf. ap (λ (z : ℤ). not (is_zero z)) (headings_are es leaf (concat bs))))
 
-headings-append : (es : List LeafEdge) (leaf : ℕ) (xs ys : List ℕ) → headings es leaf (xs ++ ys) ≡ headings es leaf xs +ℤ headings es leaf ys
+headings-append : (es : List LeafEdge) (leaf : ℕ) (xs ys : List ℕ) → headings es leaf (xs ++ ys) ≡ headings es leaf xs
+    +ℤ headings es leaf ys
 headings-append es leaf [] ys = sym (+ℤ_idl (headings es leaf ys))
 headings-append es leaf (k ∷ ks) ys =
     let h : ℤ = if (get_or es k no_edge).leaf == leaf then heading_of (get_or es k no_edge).edge else pos 0 in
-    ap (λ (z : ℤ). h +ℤ z) (headings-append es leaf ks ys) ∙ sym (+ℤ_assoc h (headings es leaf ks) (headings es leaf ys))
+    ap (λ (z : ℤ). h +ℤ z) (headings-append es leaf ks ys) ∙ sym (+ℤ_assoc h (headings es leaf ks)
+    (headings es leaf ys))
 
 headings_size : (es : List LeafEdge) (leaf : ℕ) (ks : List ℕ) → unsigned_abs (headings es leaf ks) ≤ length ks
 headings_size es leaf [] = omega (arith, ints)
-headings_size es leaf (k ∷ ks) = by_tests ((get_or es k no_edge).leaf == leaf) (int_lt (get_or es k no_edge).edge.b.y (get_or es k no_edge).edge.a.y) (headings es leaf ks) (headings_size es leaf ks)
+headings_size es leaf (k ∷ ks) = by_tests ((get_or es k no_edge).leaf == leaf) (int_lt (get_or es k no_edge).edge.b.y
+    (get_or es k no_edge).edge.a.y) (headings es leaf ks) (headings_size es leaf ks)
   where
-    by_tests : (s t : Bool) (z : ℤ) → unsigned_abs z ≤ length ks → unsigned_abs ((if s then (if t then negsuc 0 else pos 1) else pos 0) +ℤ z) ≤ suc (length ks)
+    by_tests : (s t : Bool) (z : ℤ) → unsigned_abs z ≤ length ks
+        → unsigned_abs ((if s then (if t then negsuc 0 else pos 1) else pos 0) +ℤ z) ≤ suc (length ks)
     by_tests true true z h = omega (arith, ints)
     by_tests true false z h = omega (arith, ints)
     by_tests false t z h = omega (arith, ints)
@@ -62,31 +69,38 @@ dropped_length [] (suc j) = omega arith
 dropped_length (b ∷ bs) zero = omega arith
 dropped_length (b ∷ bs) (suc j) = let r = dropped_length bs j in let l = length-append b (concat bs) in omega arith
 
-pub bundle_length : (bs : List (List ℕ)) (j : ℕ) (d : List ℕ) → j < length bs → length (get_or bs j d) ≤ length (concat bs)
+pub bundle_length : (bs : List (List ℕ)) (j : ℕ) (d : List ℕ) → j < length bs → length (get_or bs j d) ≤ length
+    (concat bs)
 bundle_length [] j d h = absurd (omega arith)
 bundle_length (b ∷ bs) zero d h = let l = length-append b (concat bs) in omega arith
 bundle_length (b ∷ bs) (suc j) d h = let r : length (get_or bs j d) ≤ length (concat bs) = bundle_length bs j d (omega arith) in let l = length-append b (concat bs) in omega arith
 
-all_of_bundle : (P : ℕ → Type 0) (bs : List (List ℕ)) (j : ℕ) (d : List ℕ) → j < length bs → AllByRecursion P (concat bs) → AllByRecursion P (get_or bs j d)
+all_of_bundle : (P : ℕ → Type 0) (bs : List (List ℕ)) (j : ℕ) (d : List ℕ) → j < length bs
+    → AllByRecursion P (concat bs) → AllByRecursion P (get_or bs j d)
 all_of_bundle P [] j d h a = absurd (omega arith)
 all_of_bundle P (b ∷ bs) zero d h a = front P b (concat bs) a
 all_of_bundle P (b ∷ bs) (suc j) d h a = all_of_bundle P bs j d (omega arith) (back P b (concat bs) a)
 
-pub there_at : (es : List LeafEdge) (bs : List (List ℕ)) (j : ℕ) (d : List ℕ) → j < length bs → AreMembers es bs → All (λ k. k < length es) (get_or bs j d)
-there_at es bs j d h m = All-from_recursion (λ k. k < length es) (get_or bs j d) (all_of_bundle (λ k. k < length es) bs j d h m.there)
+pub there_at : (es : List LeafEdge) (bs : List (List ℕ)) (j : ℕ) (d : List ℕ) → j < length bs → AreMembers es bs
+    → All (λ k. k < length es) (get_or bs j d)
+there_at es bs j d h m = All-from_recursion (λ k. k < length es) (get_or bs j d) (all_of_bundle (λ k. k < length es) bs
+    j d h m.there)
 
 rises_first : (es : List LeafEdge) (l u : Level) (b : List ℕ) → AllByRecursion (IsLive es l u) b → RisesFirst es b
 rises_first es l u [] h = tt
 rises_first es l u (k ∷ ks) h = (h.0.there, h.0.reaches.rises)
 
-pub rises_at : (es : List LeafEdge) (l u : Level) (bs : List (List ℕ)) (j : ℕ) (d : List ℕ) → j < length bs → AreBundles es l u bs → RisesFirst es (get_or bs j d)
-rises_at es l u bs j d h b = rises_first es l u (get_or bs j d) (all_of_bundle (IsLive es l u) bs j d h (live_bundles es l u bs b))
+pub rises_at : (es : List LeafEdge) (l u : Level) (bs : List (List ℕ)) (j : ℕ) (d : List ℕ) → j < length bs
+    → AreBundles es l u bs → RisesFirst es (get_or bs j d)
+rises_at es l u bs j d h b = rises_first es l u (get_or bs j d) (all_of_bundle (IsLive es l u) bs j d h
+    (live_bundles es l u bs b))
 
 reaching_length : (k : ℕ) (es : List LeafEdge) (l u : Level) → length (reaching k es l u) ≤ length es
 reaching_length k [] l u = omega arith
 reaching_length k (e ∷ es) l u = by_test (reaches e.edge l u) (reaching_length (k + 1) es l u)
   where
-    by_test : (t : Bool) → length (reaching (k + 1) es l u) ≤ length es → length (if t then k ∷ reaching (k + 1) es l u else reaching (k + 1) es l u) ≤ suc (length es)
+    by_test : (t : Bool) → length (reaching (k + 1) es l u) ≤ length es
+        → length (if t then k ∷ reaching (k + 1) es l u else reaching (k + 1) es l u) ≤ suc (length es)
     by_test true h = omega arith
     by_test false h = omega arith
 
@@ -101,15 +115,18 @@ are_members es l u bs b = record {
     weaker (k ∷ ks) h = (h.0.there, weaker ks h.1)
 
 -- ---- values from right to left
-pub few_to_left : (es : List LeafEdge) (bs : List (List ℕ)) (turns : List ℤ) (j most : ℕ) → length (concat bs) ≤ most → IsTally turns (λ leaf. headings es leaf (concat (drop j bs))) → AreWithin most turns
+pub few_to_left : (es : List LeafEdge) (bs : List (List ℕ)) (turns : List ℤ) (j most : ℕ) → length (concat bs) ≤ most
+    → IsTally turns (λ leaf. headings es leaf (concat (drop j bs))) → AreWithin most turns
 few_to_left es bs turns j most h t = λ leaf.
     let e = t leaf in
-    let s : unsigned_abs (headings es leaf (concat (drop j bs))) ≤ length (concat (drop j bs)) = headings_size es leaf (concat (drop j bs)) in
+    let s : unsigned_abs (headings es leaf (concat (drop j bs))) ≤ length (concat (drop j bs)) = headings_size es leaf
+    (concat (drop j bs)) in
     let d = dropped_length bs j in
     rw e (omega arith)
 
 left_more : (es : List LeafEdge) (leaf : ℕ) (bs : List (List ℕ)) (i : ℕ) (d : List ℕ) → i < length bs
-    → headings es leaf (concat (drop (length bs - (i + 1)) bs)) ≡ headings es leaf (concat (drop (length bs - i) bs)) +ℤ headings es leaf (get_or bs (length bs - 1 - i) d)
+    → headings es leaf (concat (drop (length bs - (i + 1)) bs)) ≡ headings es leaf (concat (drop (length bs - i) bs)) +ℤ
+    headings es leaf (get_or bs (length bs - 1 - i) d)
 left_more es leaf bs i d h =
     let j : ℕ = length bs - 1 - i in
     let p : length bs - (i + 1) ≡ j = omega arith in
@@ -120,13 +137,19 @@ left_more es leaf bs i d h =
     ∙ +ℤ_comm (headings es leaf (get_or bs j d)) (headings es leaf (concat (drop (j + 1) bs)))
     ∙ ap (λ (k : ℕ). headings es leaf (concat (drop k bs)) +ℤ headings es leaf (get_or bs j d)) (sym q)
 
-pub tally_more : (es : List LeafEdge) (bs : List (List ℕ)) (i : ℕ) (d : List ℕ) (old new : List ℤ) → i < length bs → IsTally old (λ leaf. headings es leaf (concat (drop (length bs - i) bs)))
-    → IsTally new (λ leaf. get_or old leaf (pos 0) +ℤ headings es leaf (get_or bs (length bs - 1 - i) d)) → IsTally new (λ leaf. headings es leaf (concat (drop (length bs - (i + 1)) bs)))
+pub tally_more : (es : List LeafEdge) (bs : List (List ℕ)) (i : ℕ) (d : List ℕ) (old new : List ℤ) → i < length bs
+    → IsTally old (λ leaf. headings es leaf (concat (drop (length bs - i) bs)))
+    → IsTally new (λ leaf. get_or old leaf (pos 0) +ℤ headings es leaf (get_or bs (length bs - 1 - i) d))
+    → IsTally new (λ leaf. headings es leaf (concat (drop (length bs - (i + 1)) bs)))
 tally_more es bs i d old new h t s = λ leaf.
-    s leaf ∙ ap (λ (z : ℤ). z +ℤ headings es leaf (get_or bs (length bs - 1 - i) d)) (t leaf) ∙ sym (left_more es leaf bs i d h)
+    s leaf ∙ ap (λ (z : ℤ). z +ℤ headings es leaf (get_or bs (length bs - 1 - i) d)) (t leaf) ∙ sym
+    (left_more es leaf bs i d h)
 
-pub held_left : (es : List LeafEdge) (shape : Shape) (bs : List (List ℕ)) (turns : List ℤ) → IsTally turns (λ leaf. headings es leaf (concat bs)) → is_held (λ leaf. get_or turns leaf (pos 0)) shape ≡ left_value es shape bs
-held_left es shape bs turns h = ap (λ (f : ℕ → Bool). shape_holds f shape) (fun_ext (λ leaf. ap (λ (z : ℤ). not (is_zero z)) (h leaf)))
+pub held_left : (es : List LeafEdge) (shape : Shape) (bs : List (List ℕ)) (turns : List ℤ)
+    → IsTally turns (λ leaf. headings es leaf (concat bs)) → is_held (λ leaf. get_or turns leaf (pos 0)) shape
+    ≡ left_value es shape bs
+held_left es shape bs turns h = ap (λ (f : ℕ → Bool). shape_holds f shape)
+    (fun_ext (λ leaf. ap (λ (z : ℤ). not (is_zero z)) (h leaf)))
 
 pub outside_right : (es : List LeafEdge) (shape : Shape) → left_value es shape [] ≡ false
 outside_right es shape = nothing_held shape
@@ -149,36 +172,47 @@ before_end [] v k l = absurd (omega arith)
 before_end (w ∷ vs) v zero l = refl
 before_end (w ∷ vs) v (suc k) l = before_end vs v k (omega arith)
 
-pub one_more : (P : ℕ → Bool) (vs : List Bool) (v : Bool) (i : ℕ) → length vs ≡ i + 1 → ((k : ℕ) → k ≤ i → get_or vs k false ≡ P k) → v ≡ P (i + 1) → (k : ℕ) → k ≤ i + 1 → get_or (vs ++ (v ∷ [])) k false ≡ P k
+pub one_more : (P : ℕ → Bool) (vs : List Bool) (v : Bool) (i : ℕ) → length vs ≡ i + 1
+    → ((k : ℕ) → k ≤ i → get_or vs k false ≡ P k) → v ≡ P (i + 1) → (k : ℕ) → k ≤ i + 1
+    → get_or (vs ++ (v ∷ [])) k false ≡ P k
 one_more P vs v i l h e k b = elim (cases_lt i k) [
   | inr q ↦ before_end vs v k (omega arith) ∙ h k q
   | inl q ↦ let r : i + 1 ≡ k = omega arith in at_end vs v k (l ∙ r) ∙ e ∙ ap P r
 ]
 
 -- ---- the pieces
-piece_is : (es : List LeafEdge) (shape : Shape) (l u : Level) → AreNeighbours es l u → (before rest : List (List ℕ)) (b : List ℕ) → AreBundles es l u (before ++ (b ∷ rest))
+piece_is : (es : List LeafEdge) (shape : Shape) (l u : Level) → AreNeighbours es l u → (before rest : List (List ℕ))
+    (b : List ℕ) → AreBundles es l u (before ++ (b ∷ rest))
     → bundle_piece es shape l u b ≡ piece_of es l u (left_value es shape (b ∷ rest)) (left_value es shape rest) b
 piece_is es shape l u n before rest [] h = refl
 piece_is es shape l u n before rest (k ∷ ks) h =
-    let lk : IsLive es l u k = (front (IsLive es l u) (k ∷ ks) (concat rest) (later before (live_bundles es l u (before ++ ((k ∷ ks) ∷ rest)) h))).0 in
+    let lk : IsLive es l u k = (front (IsLive es l u) (k ∷ ks) (concat rest)
+    (later before (live_bundles es l u (before ++ ((k ∷ ks) ∷ rest)) h))).0 in
     ap₂ (λ (v w : Bool). piece_between v w (spot_on (edge_at es k) l) (spot_on (edge_at es k) u) k)
     (value_left es l u n k lk shape ks before rest h ∙ sym (left_is es shape ((k ∷ ks) ∷ rest)))
     (value_right es l u n k lk shape ks before rest h ∙ sym (left_is es shape rest))
   where
-    later : (before : List (List ℕ)) → AllByRecursion (IsLive es l u) (concat (before ++ ((k ∷ ks) ∷ rest))) → AllByRecursion (IsLive es l u) ((k ∷ ks) ++ concat rest)
+    later : (before : List (List ℕ)) → AllByRecursion (IsLive es l u) (concat (before ++ ((k ∷ ks) ∷ rest)))
+        → AllByRecursion (IsLive es l u) ((k ∷ ks) ++ concat rest)
     later [] a = a
     later (b ∷ before) a = later before (back (IsLive es l u) b (concat (before ++ ((k ∷ ks) ∷ rest))) a)
 
-pub piece_at : (es : List LeafEdge) (shape : Shape) (l u : Level) → AreNeighbours es l u → (bs : List (List ℕ)) → AreBundles es l u bs → (i : ℕ) (d : List ℕ) → i < length bs
-    → slab_pieces es shape l u (drop i bs) ≡ piece_of es l u (left_value es shape (drop i bs)) (left_value es shape (drop (i + 1) bs)) (get_or bs i d) ++ slab_pieces es shape l u (drop (i + 1) bs)
+pub piece_at : (es : List LeafEdge) (shape : Shape) (l u : Level) → AreNeighbours es l u → (bs : List (List ℕ))
+    → AreBundles es l u bs → (i : ℕ) (d : List ℕ) → i < length bs
+    → slab_pieces es shape l u (drop i bs) ≡ piece_of es l u (left_value es shape (drop i bs))
+    (left_value es shape (drop (i + 1) bs)) (get_or bs i d) ++ slab_pieces es shape l u (drop (i + 1) bs)
 piece_at es shape l u n bs b i d h =
     let m : drop i bs ≡ get_or bs i d ∷ drop (i + 1) bs = drop_more bs i d h in
-    let whole : bs ≡ take i bs ++ (get_or bs i d ∷ drop (i + 1) bs) = sym (take-append-drop i bs) ∙ ap (λ (r : List (List ℕ)). take i bs ++ r) m in
+    let whole : bs ≡ take i bs ++ (get_or bs i d ∷ drop (i + 1) bs) = sym (take-append-drop i bs) ∙ ap
+    (λ (r : List (List ℕ)). take i bs ++ r) m in
     let p = piece_is es shape l u n (take i bs) (drop (i + 1) bs) (get_or bs i d) (subst (AreBundles es l u) whole b) in
     ap (slab_pieces es shape l u) m
-    ∙ ap (λ (ps : List Piece). ps ++ slab_pieces es shape l u (drop (i + 1) bs)) (p ∙ ap (λ (cs : List (List ℕ)). piece_of es l u (left_value es shape cs) (left_value es shape (drop (i + 1) bs)) (get_or bs i d)) (sym m))
+    ∙ ap (λ (ps : List Piece). ps ++ slab_pieces es shape l u (drop (i + 1) bs))
+    (p ∙ ap (λ (cs : List (List ℕ)). piece_of es l u (left_value es shape cs)
+    (left_value es shape (drop (i + 1) bs)) (get_or bs i d)) (sym m))
 
-pub no_bundle : (es : List LeafEdge) (shape : Shape) (l u : Level) (bs : List (List ℕ)) (i : ℕ) → length bs ≤ i → slab_pieces es shape l u (drop i bs) ≡ []
+pub no_bundle : (es : List LeafEdge) (shape : Shape) (l u : Level) (bs : List (List ℕ)) (i : ℕ) → length bs ≤ i
+    → slab_pieces es shape l u (drop i bs) ≡ []
 no_bundle es shape l u [] i h = none i
   where
     none : (i : ℕ) → slab_pieces es shape l u (drop i []) ≡ []
@@ -188,7 +222,9 @@ no_bundle es shape l u (b ∷ bs) zero h = absurd (omega arith)
 no_bundle es shape l u (b ∷ bs) (suc i) h = no_bundle es shape l u bs i (omega arith)
 
 -- the values on both sides of a bundle
-pub value_beside : (es : List LeafEdge) (shape : Shape) (bs : List (List ℕ)) (vs : List Bool) (i k : ℕ) → AreLeftValues es shape bs vs → k ≤ length bs → length bs - k ≡ i → get_or vs k false ≡ left_value es shape (drop i bs)
+pub value_beside : (es : List LeafEdge) (shape : Shape) (bs : List (List ℕ)) (vs : List Bool) (i k : ℕ)
+    → AreLeftValues es shape bs vs → k ≤ length bs → length bs - k ≡ i → get_or vs k false ≡ left_value es shape
+    (drop i bs)
 value_beside es shape bs vs i k h b e = h.each k b ∙ ap (λ (j : ℕ). left_value es shape (drop j bs)) e
 
 pub any_default : (vs : List Bool) (k : ℕ) (d e : Bool) → k < length vs → get_or vs k d ≡ get_or vs k e
@@ -196,8 +232,10 @@ any_default [] k d e h = absurd (omega arith)
 any_default (v ∷ vs) zero d e h = refl
 any_default (v ∷ vs) (suc k) d e h = any_default vs k d e (omega arith)
 
-pub first_value : (es : List LeafEdge) (shape : Shape) (bs : List (List ℕ)) (vs : List Bool) (k : ℕ) → vs ≡ false ∷ [] → k ≤ 0 → get_or vs k false ≡ left_value es shape (drop (length bs - k) bs)
-first_value es shape bs vs zero e h = ap (λ (vs : List Bool). get_or vs zero false) e ∙ sym (ap (left_value es shape) (all_dropped bs) ∙ outside_right es shape)
+pub first_value : (es : List LeafEdge) (shape : Shape) (bs : List (List ℕ)) (vs : List Bool) (k : ℕ) → vs ≡ false ∷ []
+    → k ≤ 0 → get_or vs k false ≡ left_value es shape (drop (length bs - k) bs)
+first_value es shape bs vs zero e h = ap (λ (vs : List Bool). get_or vs zero false) e ∙ sym
+    (ap (left_value es shape) (all_dropped bs) ∙ outside_right es shape)
 first_value es shape bs vs (suc k) e h = absurd (omega arith)
 
 pub length_more : (vs ws : List Bool) (v : Bool) (n : ℕ) → ws ≡ vs ++ (v ∷ []) → length vs ≡ n → length ws ≡ n + 1

@@ -14,15 +14,18 @@ use Rattle.scad_geom.specs.Half.{centre}
 use Rattle.slice_bool.specs.Centre.{holds_centre}
 use Rattle.slice_bool.proofs.Walk.{pieces_wind}
 
-pub centres_are_held : (es : List LeafEdge) (shape : Shape) (i j : ℤ) → is_in es shape (centre i j) ≡ holds_centre es shape i j
+pub centres_are_held : (es : List LeafEdge) (shape : Shape) (i j : ℤ) → is_in es shape (centre i j) ≡ holds_centre es
+    shape i j
 unfolding is_in is_in_by
 centres_are_held es shape i j = refl
 
-held_above : (es : List LeafEdge) (shape : Shape) (i j : ℤ) → is_in_by true true es shape (centre i j) ≡ holds_centre es shape i j
+held_above : (es : List LeafEdge) (shape : Shape) (i j : ℤ) → is_in_by true true es shape (centre i j) ≡ holds_centre es
+    shape i j
 unfolding is_in_by
 held_above es shape i j = refl
 
-pub centres_are_wound_once : (es : List LeafEdge) (shape : Shape) (pieces : List Piece) → ArePieces es shape pieces → (i j : ℤ)
+pub centres_are_wound_once : (es : List LeafEdge) (shape : Shape) (pieces : List Piece) → ArePieces es shape pieces
+    → (i j : ℤ)
     → wind_pieces true true (centre i j) pieces ≡ counted (holds_centre es shape i j)
 centres_are_wound_once es shape pieces h i j =
     let two : pos 0 <ℤ pos 2 = omega (arith, ints) in

@@ -1,4 +1,5 @@
--- Where the edges of each leaf are balanced, the values above and below a stretch that no flat edge covers are the same.
+-- Where the edges of each leaf are balanced, the values above and below a stretch that no flat edge covers are the
+-- same.
 use Rattle.std.proofs.Common.{◌≡◌, true, false, List, [], ◌∷◌, arith}
 use lib.IntN.{pos}
 use lib.Signed.{◌<ℤ◌}
@@ -26,15 +27,18 @@ not_past : (s : Spot) → IsAtMost (across s) (across s)
 not_past s = omega (arith, ints)
 
 module _ (es : List LeafEdge) (shape : Shape) (balanced : AreLeavesBalanced es) (l : Level) (dl : pos 0 <ℤ l.d) where
-  one_stretch : (s t : Spot) → IsSpotAt l s → IsSpotAt l t → IsLeft s t → AllByRecursion (IsBeside s t) (spots_at es l) → position (covers s t) es ≡ None
+  one_stretch : (s t : Spot) → IsSpotAt l s → IsSpotAt l t → IsLeft s t → AllByRecursion (IsBeside s t) (spots_at es l)
+      → position (covers s t) es ≡ None
       → is_in_by true true es shape (point_of s) ≡ is_in_by false true es shape (point_of s)
   one_stretch s t hs ht o h c =
       let dp = spot_divisor l s dl hs in
       level_values true (point_of s) dp es shape balanced
       (asides l dl true (point_of s) dp (spot_is_at l s hs) es
-      (all_uncovered l dl true (point_of s) dp s t hs ht o (not_after l s s dl hs hs (not_past s)) (is_after l s t dl hs ht o) es h (none_covers (covers s t) es c)))
+      (all_uncovered l dl true (point_of s) dp s t hs ht o (not_after l s s dl hs hs (not_past s))
+      (is_after l s t dl hs ht o) es h (none_covers (covers s t) es c)))
 
-  stretches : (s : Spot) (ss : List Spot) → AllByRecursion (IsSpotAt l) (s ∷ ss) → GoRight (s ∷ ss) → AllByRecursion (IsUpTo s ss) (spots_at es l) → AreChangesCovered es shape (s ∷ ss)
+  stretches : (s : Spot) (ss : List Spot) → AllByRecursion (IsSpotAt l) (s ∷ ss) → GoRight (s ∷ ss)
+      → AllByRecursion (IsUpTo s ss) (spots_at es l) → AreChangesCovered es shape (s ∷ ss)
   stretches s [] hs r h = tt
   stretches s (t ∷ ss) hs r h = (
     one_stretch s t hs.0 hs.1.0 r.0 (beside l s t ss (spots_at es l) hs.1 (spots_are_at es l) r.1 h),
@@ -43,4 +47,5 @@ module _ (es : List LeafEdge) (shape : Shape) (balanced : AreLeavesBalanced es) 
 
 pub stretches_are_covered : StretchesAreCovered
 stretches_are_covered es shape balanced l dl [] a = tt
-stretches_are_covered es shape balanced l dl (s ∷ ss) a = stretches es shape balanced l dl s ss (stops_at es l (s ∷ ss) a) a.rightwards (first_up_to s ss (spots_at es l) a.complete)
+stretches_are_covered es shape balanced l dl (s ∷ ss) a = stretches es shape balanced l dl s ss
+    (stops_at es l (s ∷ ss) a) a.rightwards (first_up_to s ss (spots_at es l) a.complete)

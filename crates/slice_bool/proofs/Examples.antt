@@ -7,7 +7,14 @@ use Rattle.scad_geom.specs.Leaves.{edges_of}
 use Rattle.slice_bool.specs.Centre.{holds_centre}
 
 abbrev from_to : ℕ → ℤ → ℤ → ℤ → ℤ → LeafEdge
-from_to leaf x y x' y' = record { leaf = leaf; edge = record { a = record { x = x; y = y }; b = record { x = x'; y = y' } } }
+from_to leaf x y x' y' = record {
+  leaf = leaf;
+  edge = record {
+    a = record { x = x; y = y };
+    b =
+        record { x = x'; y = y' };
+  };
+}
 
 -- a square of leaf 0 with sides of 2, and a stray edge of leaf 1
 abbrev square : List LeafEdge

@@ -29,7 +29,8 @@ pub record IsPlaced (es : List LeafEdge) (q : Piece) : Type 0 where
   pub on : EndsLieOn (edge_at es q.edge) q
 
 on_positive : (a b : Point) → a.d ≡ pos 1 → b.d ≡ pos 1 → (p : Point) → IsOn a b p → pos 0 <ℤ p.d
-on_positive a b ha hb p h = pos_left p.d h.k h.positive (positive h.k h.s h.t p.d h.some (h.d ∙ ap (λ (z : ℤ). h.s *ℤ z +ℤ h.t *ℤ b.d) ha ∙ ap (λ (z : ℤ). h.s *ℤ pos 1 +ℤ h.t *ℤ z) hb))
+on_positive a b ha hb p h = pos_left p.d h.k h.positive (positive h.k h.s h.t p.d h.some
+    (h.d ∙ ap (λ (z : ℤ). h.s *ℤ z +ℤ h.t *ℤ b.d) ha ∙ ap (λ (z : ℤ). h.s *ℤ pos 1 +ℤ h.t *ℤ z) hb))
   where
     positive : (k s t d : ℤ) → pos 0 <ℤ (s +ℤ t) → k *ℤ d ≡ s *ℤ pos 1 +ℤ t *ℤ pos 1 → pos 0 <ℤ (d *ℤ k)
     positive k s t d o e =
@@ -39,7 +40,11 @@ on_positive a b ha hb p h = pos_left p.d h.k h.positive (positive h.k h.s h.t p.
 pub placed_proper : (es : List LeafEdge) (q : Piece) → IsPlaced es q → IsProper (way_of q)
 placed_proper es q h =
     let e : Edge = edge_at es q.edge in
-    record { from = on_positive (whole e.a) (whole e.b) refl refl (point_of q.from) h.on.from; to = on_positive (whole e.a) (whole e.b) refl refl (point_of q.to) h.on.to }
+    record {
+      from = on_positive (whole e.a) (whole e.b) refl refl (point_of q.from) h.on.from;
+      to =
+          on_positive (whole e.a) (whole e.b) refl refl (point_of q.to) h.on.to;
+    }
 
 module _ (es : List LeafEdge) where
   abbrev ArePlaced : List Piece → Type 0
@@ -63,21 +68,31 @@ module _ (es : List LeafEdge) where
     second_on = subst (λ (k : ℕ). EndsLieOn (edge_at es k) second) (sym m.name) two.on
 
     pub joined_placed : ArePlaced (joined first second ∷ others)
-    joined_placed = All-cons (IsPlaced es) (joined first second) others (record { there = one.there; on = record { from = one.on.from; to = second_on.to } }) (All-tail (IsPlaced es) second others behind)
+    joined_placed = All-cons (IsPlaced es) (joined first second) others
+        (record { there = one.there; on = record { from = one.on.from; to = second_on.to } })
+        (All-tail (IsPlaced es) second others behind)
 
-    pub joined_winds : (above right : Bool) (q : Point) → pos 0 <ℤ q.d → wind_pieces above right q (joined first second ∷ others) ≡ wind_pieces above right q pieces
+    pub joined_winds : (above right : Bool) (q : Point) → pos 0 <ℤ q.d
+        → wind_pieces above right q (joined first second ∷ others) ≡ wind_pieces above right q pieces
     joined_winds above right q d =
         let e : Edge = edge_at es first.edge in
-        joining_keeps_winding (way_of first) (way_of second) (ways_of others) (placed_proper es first one) (placed_proper es second two) m.meet
-        (three_on_line (whole e.a) (whole e.b) (point_of first.from) (point_of first.to) (point_of second.to) one.on.from one.on.to second_on.to) above right q d
-        ∙ order_keeps_winding (ways_of pieces) (ways_of (first ∷ (second ∷ others))) (IsPermutation-map way_of pieces (first ∷ (second ∷ others)) m.two) above right q
+        joining_keeps_winding (way_of first) (way_of second) (ways_of others) (placed_proper es first one)
+        (placed_proper es second two) m.meet
+        (three_on_line (whole e.a) (whole e.b) (point_of first.from) (point_of first.to) (point_of second.to)
+        one.on.from one.on.to second_on.to) above right q d
+        ∙ order_keeps_winding (ways_of pieces) (ways_of (first ∷ (second ∷ others))) (IsPermutation-map way_of pieces
+        (first ∷ (second ∷ others)) m.two) above right q
 
   pub merged_placed : (pieces merged : List Piece) → AreMerged pieces merged → ArePlaced pieces → ArePlaced merged
   merged_placed pieces merged (all_joined none m) h = All-permutation (IsPlaced es) pieces merged m h
-  merged_placed pieces merged (two_join first second others m rest) h = merged_placed (joined first second ∷ others) merged rest (joined_placed pieces first second others m h)
+  merged_placed pieces merged (two_join first second others m rest) h = merged_placed (joined first second ∷ others)
+      merged rest (joined_placed pieces first second others m h)
 
-  pub merged_wind : (above right : Bool) (q : Point) → pos 0 <ℤ q.d → (pieces merged : List Piece) → AreMerged pieces merged → ArePlaced pieces → wind_pieces above right q merged ≡ wind_pieces above right q pieces
-  merged_wind above right q d pieces merged (all_joined none m) h = order_keeps_winding (ways_of pieces) (ways_of merged) (IsPermutation-map way_of pieces merged m) above right q
+  pub merged_wind : (above right : Bool) (q : Point) → pos 0 <ℤ q.d → (pieces merged : List Piece)
+      → AreMerged pieces merged → ArePlaced pieces → wind_pieces above right q merged ≡ wind_pieces above right q pieces
+  merged_wind above right q d pieces merged (all_joined none m) h = order_keeps_winding (ways_of pieces)
+      (ways_of merged) (IsPermutation-map way_of pieces merged m) above right q
   merged_wind above right q d pieces merged (two_join first second others m rest) h =
-      merged_wind above right q d (joined first second ∷ others) merged rest (joined_placed pieces first second others m h)
+      merged_wind above right q d (joined first second ∷ others) merged rest (joined_placed pieces first second others m
+      h)
       ∙ joined_winds pieces first second others m h above right q d

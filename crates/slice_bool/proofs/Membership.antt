@@ -40,20 +40,28 @@ use Rattle.slice_bool.proofs.Centre.{centres_are_held}
 use Rattle.slice_bool.proofs.Made.{IsPlaced, placed_proper, merged_placed, merged_wind}
 
 -- the pieces of a border are placed
-pub pieces_are_placed : (es : List LeafEdge) (shape : Shape) (pieces : List Piece) → ArePieces es shape pieces → All (IsPlaced es) pieces
+pub pieces_are_placed : (es : List LeafEdge) (shape : Shape) (pieces : List Piece) → ArePieces es shape pieces
+    → All (IsPlaced es) pieces
 pieces_are_placed es shape pieces h =
     let named = pieces_are_named es shape pieces h in
     let on = pieces_lie_on_edges es shape pieces h in
     λ i d l. record { there = named.there i d l; on = on i d l }
 
 -- ---- placed pieces are clear of what their edges are clear of
-placed_clear : (es : List LeafEdge) (q : Point) → IsClearByHalf es q → (p : Piece) → IsPlaced es p → IsClearSegment (pos 1) q (way_of p)
+placed_clear : (es : List LeafEdge) (q : Point) → IsClearByHalf es q → (p : Piece) → IsPlaced es p
+    → IsClearSegment (pos 1) q (way_of p)
 placed_clear es q c p h =
     let e : Edge = edge_at es p.edge in
-    record { proper = placed_proper es p h; clear = parts_are_clear.part (pos 1) q (whole e.a) (whole e.b) (point_of p.from) (point_of p.to) h.on.from h.on.to (c p.edge no_edge h.there) }
+    record {
+      proper = placed_proper es p h;
+      clear = parts_are_clear.part (pos 1) q (whole e.a) (whole e.b)
+          (point_of p.from) (point_of p.to) h.on.from h.on.to (c p.edge no_edge h.there);
+    }
 
-ways_clear : (es : List LeafEdge) (q : Point) → IsClearByHalf es q → (ps : List Piece) → All (IsPlaced es) ps → All (IsClearSegment (pos 1) q) (ways_of ps)
-ways_clear es q c ps h = All-map (IsClearSegment (pos 1) q) way_of ps (λ i d l. placed_clear es q c (get_or ps i d) (h i d l))
+ways_clear : (es : List LeafEdge) (q : Point) → IsClearByHalf es q → (ps : List Piece) → All (IsPlaced es) ps
+    → All (IsClearSegment (pos 1) q) (ways_of ps)
+ways_clear es q c ps h = All-map (IsClearSegment (pos 1) q) way_of ps (λ i d l. placed_clear es q c (get_or ps i d)
+    (h i d l))
 
 -- ---- each step keeps the winding number
 module _ (es : List LeafEdge) (shape : Shape) (b : AreLeavesBalanced es) (above right : Bool) (q : Point) (d : pos 0 <ℤ q.d) (c : IsClearByHalf es q) where
@@ -72,9 +80,11 @@ module _ (es : List LeafEdge) (shape : Shape) (b : AreLeavesBalanced es) (above 
 
 pub outlines_hold_points : OutlinesHoldPoints
 outlines_hold_points es shape outlines b h above right q d c =
-    made_wind es shape b above right q d c h.pieces outlines h.are_pieces h.are_made ∙ pieces_wind es shape h.pieces h.are_pieces above right q d
+    made_wind es shape b above right q d c h.pieces outlines h.are_pieces h.are_made ∙ pieces_wind es shape h.pieces
+    h.are_pieces above right q d
 
 pub outlines_hold_centres : OutlinesHoldCentres
 unfolding is_in
 outlines_hold_centres es shape outlines b h i j c =
-    outlines_hold_points es shape outlines b h true true (centre i j) (omega (arith, ints)) c ∙ ap counted (centres_are_held es shape i j)
+    outlines_hold_points es shape outlines b h true true (centre i j) (omega (arith, ints)) c ∙ ap counted
+    (centres_are_held es shape i j)

@@ -1,4 +1,5 @@
--- Each point of each side of a shape's outlines lies less than one from a border point: rounding moves a point by at most one
+-- Each point of each side of a shape's outlines lies less than one from a border point: rounding moves a point by at
+-- most one
 -- half, and beside each point of a piece lies a border point within a quarter.
 use Rattle.std.proofs.Common.{◌≡◌, ℕ, Bool, true, false, not, cond, inl, inr, List, [], ◌∷◌, ◌++◌, length, get_or, map, filter, flat_map, refl, sym, ap, ◌∙◌, subst, arith}
 use lib.IntN.{ℤ, pos, ◌+ℤ◌, ◌-ℤ◌, ◌*ℤ◌}
@@ -63,7 +64,8 @@ less_turned s t y d h k = omega (arith, ints)
 less_along : (x y d : ℤ) → pos 0 <ℤ d → (pos 0 *ℤ x +ℤ pos 4 *ℤ y) ≤ℤ (pos 3 *ℤ d) → y <ℤ d
 less_along x y d h k = omega (arith, ints)
 
-less_along_turned : (x s t d : ℤ) → pos 0 <ℤ d → (pos 0 *ℤ x +ℤ (pos 0 -ℤ pos 4) *ℤ (s -ℤ t)) ≤ℤ (pos 3 *ℤ d) → (t -ℤ s) <ℤ d
+less_along_turned : (x s t d : ℤ) → pos 0 <ℤ d → (pos 0 *ℤ x +ℤ (pos 0 -ℤ pos 4) *ℤ (s -ℤ t)) ≤ℤ (pos 3 *ℤ d)
+    → (t -ℤ s) <ℤ d
 less_along_turned x s t d h k = omega (arith, ints)
 
 within_one : (p b : Point) → pos 0 <ℤ p.d → pos 0 <ℤ b.d → IsNear (box (pos 4) (pos 3)) p b → IsWithinOne p b
@@ -81,21 +83,32 @@ module _ (es : List LeafEdge) (shape : Shape) where
   abbrev Borders : Piece → Type 0
   Borders q = (p : Point) → pos 0 <ℤ p.d → IsOn (point_of q.from) (point_of q.to) p → HasBorderBeside es shape p
 
-  piece_borders : (q : Piece) → IsPlaced es q → HasLength q → ((p : Point) → pos 0 <ℤ p.d → IsInside (point_of q.from) (point_of q.to) p → IsBorderPoint es shape p) → Borders q
+  piece_borders : (q : Piece) → IsPlaced es q → HasLength q
+      → ((p : Point) → pos 0 <ℤ p.d → IsInside (point_of q.from) (point_of q.to) p → IsBorderPoint es shape p)
+      → Borders q
   piece_borders q placed long h p dp o =
       let proper = placed_proper es q placed in
-      let amid : HasAmid (pos 4) (point_of q.from) (point_of q.to) p = amid_is_anywhere (pos 4) (omega (arith, ints)) (point_of q.from) (point_of q.to) p proper.from proper.to dp o in
+      let amid : HasAmid (pos 4) (point_of q.from) (point_of q.to) p = amid_is_anywhere (pos 4) (omega (arith, ints))
+      (point_of q.from) (point_of q.to) p proper.from proper.to dp o in
       let inside = amid_is_between (point_of q.from) (point_of q.to) amid.point proper.from proper.to long amid.amid in
-      record { border = amid.point; positive = amid.positive; is_border = h amid.point amid.positive (record { on_line = inside.0; between = inside.1 }); near = amid.near }
+      record {
+        border = amid.point;
+        positive = amid.positive;
+        is_border = h amid.point amid.positive
+            (record { on_line = inside.0; between = inside.1 });
+        near = amid.near;
+      }
 
   pieces_border : (pieces : List Piece) → ArePieces es shape pieces → All Borders pieces
   pieces_border pieces h =
       let placed = pieces_are_placed es shape pieces h in
       let named = pieces_are_named es shape pieces h in
-      λ i d l. piece_borders (get_or pieces i d) (placed i d l) (named.lengths i d l) (λ p dp inside. pieces_are_border es shape pieces h p dp i d l inside)
+      λ i d l. piece_borders (get_or pieces i d) (placed i d l) (named.lengths i d l) (λ p dp inside. pieces_are_border
+      es shape pieces h p dp i d l inside)
 
   -- ---- merged
-  joined_borders : (pieces : List Piece) (first second : Piece) (others : List Piece) (m : MeetAlone pieces first second others) (h : All (IsPlaced es) pieces) → Borders first → Borders second → Borders (joined first second)
+  joined_borders : (pieces : List Piece) (first second : Piece) (others : List Piece) (m : MeetAlone pieces first second
+      others) (h : All (IsPlaced es) pieces) → Borders first → Borders second → Borders (joined first second)
   joined_borders pieces first second others m h f s p dp o =
       let e : Edge = edge_at es first.edge in
       let a = one es pieces first second others m h in
@@ -104,12 +117,15 @@ module _ (es : List LeafEdge) (shape : Shape) where
       let pa = placed_proper es first a in
       let pb = placed_proper es second b in
       elim (lines_are_all (point_of first.from) (point_of first.to) (point_of second.to) p pa.from pa.to pb.to
-      (three_on_line (whole e.a) (whole e.b) (point_of first.from) (point_of first.to) (point_of second.to) a.on.from a.on.to on.to) o) [
+      (three_on_line (whole e.a) (whole e.b) (point_of first.from) (point_of first.to) (point_of second.to) a.on.from
+      a.on.to on.to) o) [
         | inl x ↦ f p dp x
-        | inr x ↦ s p dp (on_same (point_of first.to) (point_of second.from) (point_of second.to) p pa.to pb.from m.meet x)
+        | inr x ↦ s p dp (on_same (point_of first.to) (point_of second.from) (point_of second.to) p pa.to pb.from m.meet
+            x)
       ]
 
-  merged_border : (pieces merged : List Piece) → AreMerged pieces merged → All (IsPlaced es) pieces → All Borders pieces → All Borders merged
+  merged_border : (pieces merged : List Piece) → AreMerged pieces merged → All (IsPlaced es) pieces → All Borders pieces
+      → All Borders merged
   merged_border pieces merged (all_joined none m) h b = All-permutation Borders pieces merged m b
   merged_border pieces merged (two_join first second others m rest) h b =
       let all = All-permutation Borders pieces (first ∷ (second ∷ others)) m.two b in
@@ -117,7 +133,8 @@ module _ (es : List LeafEdge) (shape : Shape) where
       let behind = All-tail Borders first (second ∷ others) all in
       let s = All-head Borders second others behind in
       merged_border (joined first second ∷ others) merged rest (joined_placed es pieces first second others m h)
-      (All-cons Borders (joined first second) others (joined_borders pieces first second others m h f s) (All-tail Borders second others behind))
+      (All-cons Borders (joined first second) others (joined_borders pieces first second others m h f s)
+      (All-tail Borders second others behind))
 
   -- ---- rounded
   abbrev IsNearIt : Point → Type 0
@@ -130,18 +147,22 @@ module _ (es : List LeafEdge) (shape : Shape) where
       let from : Point = point_of q.from in
       let to : Point = point_of q.to in
       let on : HasNear (square (pos 1)) from to p =
-      points_follow (square (pos 1)) from to (whole (rounded from)) (whole (rounded to)) p proper.from proper.to one_positive one_positive dp
-      (near_by_close (pos 1) (whole (rounded from)) from (rounded_close from proper.from)) (near_by_close (pos 1) (whole (rounded to)) to (rounded_close to proper.to)) o in
+      points_follow (square (pos 1)) from to (whole (rounded from)) (whole (rounded to)) p proper.from proper.to
+      one_positive one_positive dp
+      (near_by_close (pos 1) (whole (rounded from)) from (rounded_close from proper.from))
+      (near_by_close (pos 1) (whole (rounded to)) to (rounded_close to proper.to)) o in
       let beside : HasBorderBeside es shape on.point = b on.point on.positive on.on in
       record {
         border = beside.border;
         positive = beside.positive;
         is_border = beside.is_border;
         near = within_one p beside.border dp beside.positive
-            (near_on (square (pos 1)) (box (pos 4) (pos 1)) (box (pos 4) (pos 3)) half_and_quarter p on.point beside.border dp on.positive beside.positive on.near beside.near);
+            (near_on (square (pos 1)) (box (pos 4) (pos 1)) (box (pos 4) (pos 3)) half_and_quarter p on.point
+            beside.border dp on.positive beside.positive on.near beside.near);
       }
 
-  all_rounded : (qs : List Piece) → AllByRecursion (IsPlaced es) qs → AllByRecursion Borders qs → OfAllPoints IsNearIt (map rounded_edge (ways_of qs))
+  all_rounded : (qs : List Piece) → AllByRecursion (IsPlaced es) qs → AllByRecursion Borders qs
+      → OfAllPoints IsNearIt (map rounded_edge (ways_of qs))
   all_rounded [] h b = tt
   all_rounded (q ∷ qs) h b = (rounded_near q h.0 b.0, all_rounded qs h.1 b.1)
 
@@ -149,23 +170,27 @@ module _ (es : List LeafEdge) (shape : Shape) where
   with_length [] h = tt
   with_length (f ∷ fs) h = by_test (has_length f) (with_length fs h.1)
     where
-      by_test : (t : Bool) → OfAllPoints IsNearIt (filter has_length fs) → OfAllPoints IsNearIt (cond t (f ∷ filter has_length fs) (filter has_length fs))
+      by_test : (t : Bool) → OfAllPoints IsNearIt (filter has_length fs)
+          → OfAllPoints IsNearIt (cond t (f ∷ filter has_length fs) (filter has_length fs))
       by_test true r = (h.0, r)
       by_test false r = r
 
   -- ---- left
-  left_near : (edges left : List Edge) → AreCancelled edges left → OfAllPoints IsNearIt edges → OfAllPoints IsNearIt left
+  left_near : (edges left : List Edge) → AreCancelled edges left → OfAllPoints IsNearIt edges
+      → OfAllPoints IsNearIt left
   left_near edges left c h =
       front (OfPoints IsNearIt) left (c.pairs ++ map turned c.pairs)
       (recursion_from_All (OfPoints IsNearIt) (left ++ (c.pairs ++ map turned c.pairs))
-      (All-permutation (OfPoints IsNearIt) edges (left ++ (c.pairs ++ map turned c.pairs)) c.taken (All-from_recursion (OfPoints IsNearIt) edges h)))
+      (All-permutation (OfPoints IsNearIt) edges (left ++ (c.pairs ++ map turned c.pairs)) c.taken
+      (All-from_recursion (OfPoints IsNearIt) edges h)))
 
 pub outlines_are_near_border : OutlinesAreNearBorder
 outlines_are_near_border es shape outlines h =
     let pieces : List Piece = h.pieces in
     let made = h.are_made in
     let placed = pieces_are_placed es shape pieces h.are_pieces in
-    let borders = merged_border es shape pieces made.merged made.are_merged placed (pieces_border es shape pieces h.are_pieces) in
+    let borders = merged_border es shape pieces made.merged made.are_merged placed
+    (pieces_border es shape pieces h.are_pieces) in
     let merged_on = merged_placed es pieces made.merged made.are_merged placed in
     let near : Point → Type 0 = λ p. HasBorderNear es shape p in
     All-from_recursion (OfPoints near) (flat_map sides outlines)
@@ -173,4 +198,5 @@ outlines_are_near_border es shape outlines h =
     (left_near es shape (rounded_edges made.merged) made.left made.are_left
     (with_length es shape (map rounded_edge (ways_of made.merged))
     (all_rounded es shape made.merged (recursion_from_All (IsPlaced es) made.merged merged_on)
-    (recursion_from_All (λ q. (p : Point) → pos 0 <ℤ p.d → IsOn (point_of q.from) (point_of q.to) p → HasBorderBeside es shape p) made.merged borders)))))
+    (recursion_from_All (λ q. (p : Point) → pos 0 <ℤ p.d → IsOn (point_of q.from) (point_of q.to) p
+    → HasBorderBeside es shape p) made.merged borders)))))

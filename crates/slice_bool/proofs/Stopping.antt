@@ -36,11 +36,13 @@ stop_order = record {
   chain = λ x y z h k.
       let a : IsAtMost (across y.spot) (across x.spot) = omega (arith, ints) in
       let b : IsAtMost (across z.spot) (across y.spot) = omega (arith, ints) in
-      let c : IsAtMost (across z.spot) (across x.spot) = at_most_chain (across z.spot) (across y.spot) (across x.spot) (runs_of z) (runs_of y) (runs_of x) b a in
+      let c : IsAtMost (across z.spot) (across x.spot) = at_most_chain (across z.spot) (across y.spot) (across x.spot)
+      (runs_of z) (runs_of y) (runs_of x) b a in
       sym (omega (arith, ints));
 }
 
-sorted_by : (ss : List Stop) → ((k : ℕ) (d : Stop) → suc k < length ss → comes_left (get_or ss (suc k) d) (get_or ss k d) ≡ false) → AreSorted (spots_in ss)
+sorted_by : (ss : List Stop) → ((k : ℕ) (d : Stop) → suc k < length ss → comes_left (get_or ss (suc k) d)
+    (get_or ss k d) ≡ false) → AreSorted (spots_in ss)
 sorted_by [] h = tt
 sorted_by (s ∷ []) h = tt
 sorted_by (s ∷ (t ∷ ss)) h =
@@ -54,34 +56,44 @@ sorted_from ss h = sorted_by ss (λ k d b. let t : comes_left (get_or ss (k + 1)
 left_then : (s t u : Spot) → Runs s → Runs t → Runs u → IsLeft s t → IsAtMost (across t) (across u) → IsLeft s u
 left_then s t u rs rt ru h k = lower_then_at_most (across s) (across t) (across u) rs rt ru h k
 
-first_left : (s t : Spot) (ss : List Spot) → IsLeft s t → AllByRecursion (λ (s : Spot). pos 0 <ℤ pos s.run) (s ∷ (t ∷ ss)) → AreSorted (t ∷ ss) → GoRight (distinct_by is_left (t ∷ ss)) → GoRight (s ∷ distinct_by is_left (t ∷ ss))
+first_left : (s t : Spot) (ss : List Spot) → IsLeft s t → AllByRecursion (λ (s : Spot). pos 0 <ℤ pos s.run)
+    (s ∷ (t ∷ ss)) → AreSorted (t ∷ ss) → GoRight (distinct_by is_left (t ∷ ss))
+    → GoRight (s ∷ distinct_by is_left (t ∷ ss))
 first_left s t [] o d c r = (o, tt)
-first_left s t (x ∷ ss) o d c r = by_test (is_left t x) r (λ r'. first_left s x ss (left_then s t x d.0 d.1.0 d.1.1.0 o c.0) (d.0, d.1.1) c.1 r')
+first_left s t (x ∷ ss) o d c r = by_test (is_left t x) r
+    (λ r'. first_left s x ss (left_then s t x d.0 d.1.0 d.1.1.0 o c.0) (d.0, d.1.1) c.1 r')
   where
-    by_test : (b : Bool) → GoRight (if b then t ∷ distinct_by is_left (x ∷ ss) else distinct_by is_left (x ∷ ss)) → (GoRight (distinct_by is_left (x ∷ ss)) → GoRight (s ∷ distinct_by is_left (x ∷ ss)))
+    by_test : (b : Bool) → GoRight (if b then t ∷ distinct_by is_left (x ∷ ss) else distinct_by is_left (x ∷ ss))
+        → (GoRight (distinct_by is_left (x ∷ ss)) → GoRight (s ∷ distinct_by is_left (x ∷ ss)))
         → GoRight (s ∷ (if b then t ∷ distinct_by is_left (x ∷ ss) else distinct_by is_left (x ∷ ss)))
     by_test true r f = (o, r)
     by_test false r f = f r
 
-go_right : (ss : List Spot) → AllByRecursion (λ (s : Spot). pos 0 <ℤ pos s.run) ss → AreSorted ss → GoRight (distinct_by is_left ss)
+go_right : (ss : List Spot) → AllByRecursion (λ (s : Spot). pos 0 <ℤ pos s.run) ss → AreSorted ss
+    → GoRight (distinct_by is_left ss)
 go_right [] d c = tt
 go_right (s ∷ []) d c = tt
 go_right (s ∷ (t ∷ ss)) d c = by_test (is_left s t) refl (go_right (t ∷ ss) d.1 c.1)
   where
-    by_test : (b : Bool) → is_left s t ≡ b → GoRight (distinct_by is_left (t ∷ ss)) → GoRight (if b then s ∷ distinct_by is_left (t ∷ ss) else distinct_by is_left (t ∷ ss))
+    by_test : (b : Bool) → is_left s t ≡ b → GoRight (distinct_by is_left (t ∷ ss))
+        → GoRight (if b then s ∷ distinct_by is_left (t ∷ ss) else distinct_by is_left (t ∷ ss))
     by_test true e r = first_left s t ss (omega (arith, ints)) d c.1 r
     by_test false e r = r
 
-same_then : (ts : List Spot) (s t : Spot) → Runs s → Runs t → AllByRecursion (λ (s : Spot). pos 0 <ℤ pos s.run) ts → IsSameAcross s t → HasSpot ts s → HasSpot ts t
+same_then : (ts : List Spot) (s t : Spot) → Runs s → Runs t → AllByRecursion (λ (s : Spot). pos 0 <ℤ pos s.run) ts
+    → IsSameAcross s t → HasSpot ts s → HasSpot ts t
 same_then [] s t ds dt d e r = absurd r
 same_then (u ∷ ts) s t ds dt d e (inl q) =
-    let a : IsAtMost (across u) (across t) = at_most_chain (across u) (across s) (across t) d.0 ds dt (omega (arith, ints)) (omega (arith, ints)) in
-    let b : IsAtMost (across t) (across u) = at_most_chain (across t) (across s) (across u) dt ds d.0 (omega (arith, ints)) (omega (arith, ints)) in
+    let a : IsAtMost (across u) (across t) = at_most_chain (across u) (across s) (across t) d.0 ds dt
+    (omega (arith, ints)) (omega (arith, ints)) in
+    let b : IsAtMost (across t) (across u) = at_most_chain (across t) (across s) (across u) dt ds d.0
+    (omega (arith, ints)) (omega (arith, ints)) in
     inl (omega (arith, ints))
 same_then (u ∷ ts) s t ds dt d e (inr r) = inr (same_then ts s t ds dt d.1 e r)
 
 -- each place is still there
-all_there : (ss : List Spot) → AllByRecursion (λ (s : Spot). pos 0 <ℤ pos s.run) ss → AreSorted ss → AllByRecursion (HasSpot (distinct_by is_left ss)) ss
+all_there : (ss : List Spot) → AllByRecursion (λ (s : Spot). pos 0 <ℤ pos s.run) ss → AreSorted ss
+    → AllByRecursion (HasSpot (distinct_by is_left ss)) ss
 all_there [] d c = tt
 all_there (s ∷ []) d c = (inl refl, tt)
 all_there (s ∷ (t ∷ ss)) d c = by_test (is_left s t) refl (all_there (t ∷ ss) d.1 c.1)
@@ -91,7 +103,8 @@ all_there (s ∷ (t ∷ ss)) d c = by_test (is_left s t) refl (all_there (t ∷ 
     later (x ∷ xs) ts h = (inr h.0, later xs ts h.1)
 
     by_test : (b : Bool) → is_left s t ≡ b → AllByRecursion (HasSpot (distinct_by is_left (t ∷ ss))) (t ∷ ss)
-        → AllByRecursion (HasSpot (if b then s ∷ distinct_by is_left (t ∷ ss) else distinct_by is_left (t ∷ ss))) (s ∷ (t ∷ ss))
+        → AllByRecursion (HasSpot (if b then s ∷ distinct_by is_left (t ∷ ss) else distinct_by is_left (t ∷ ss)))
+        (s ∷ (t ∷ ss))
     by_test true e r = (inl refl, later (t ∷ ss) (distinct_by is_left (t ∷ ss)) r)
     by_test false e r = let c0 = c.0 in (same_then (distinct_by is_left (t ∷ ss)) t s d.1.0 d.0 (distinct_all is_left (λ (s : Spot). pos 0 <ℤ pos s.run) (t ∷ ss) d.1) (omega (arith, ints)) r.0, r)
 
@@ -108,13 +121,17 @@ all_run : (ss : List Stop) → AllByRecursion (λ (s : Spot). pos 0 <ℤ pos s.r
 all_run [] = tt
 all_run (s ∷ ss) = (runs_of s, all_run ss)
 
-pub sorted_stops : (edges : List LeafEdge) (at : Level) (all sorted : List Stop) → spots_in all ≡ spots_at edges at → IsPermutation all sorted → AreSorted (spots_in sorted) → AreStops edges at (distinct_by is_left (spots_in sorted))
+pub sorted_stops : (edges : List LeafEdge) (at : Level) (all sorted : List Stop) → spots_in all ≡ spots_at edges at
+    → IsPermutation all sorted → AreSorted (spots_in sorted) → AreStops edges at (distinct_by is_left (spots_in sorted))
 sorted_stops edges at all sorted e p c =
     let q : IsPermutation (spots_in all) (spots_in sorted) = IsPermutation-map (λ (s : Stop). s.spot) all sorted p in
     let P : Spot → Type 0 = IsOneOf (spots_in all) in
     let H : Spot → Type 0 = HasSpot (distinct_by is_left (spots_in sorted)) in
-    let sound : AllByRecursion P (distinct_by is_left (spots_in sorted)) = distinct_all is_left P (spots_in sorted) (carry P (spots_in all) (spots_in sorted) q (λ k d l. one_at (spots_in all) k d l)) in
-    let complete : AllByRecursion H (spots_in all) = carry H (spots_in sorted) (spots_in all) (IsPermutation-sym (spots_in all) (spots_in sorted) q) (All-from_recursion H (spots_in sorted) (all_there (spots_in sorted) (all_run sorted) c)) in
+    let sound : AllByRecursion P (distinct_by is_left (spots_in sorted)) = distinct_all is_left P (spots_in sorted)
+    (carry P (spots_in all) (spots_in sorted) q (λ k d l. one_at (spots_in all) k d l)) in
+    let complete : AllByRecursion H (spots_in all) = carry H (spots_in sorted) (spots_in all)
+    (IsPermutation-sym (spots_in all) (spots_in sorted) q) (All-from_recursion H (spots_in sorted)
+    (all_there (spots_in sorted) (all_run sorted) c)) in
     record {
       rightwards = go_right (spots_in sorted) (all_run sorted) c;
       sound = subst (λ (ts : List Spot). AllByRecursion (IsOneOf ts) (distinct_by is_left (spots_in sorted))) e sound;
@@ -126,5 +143,7 @@ spots-append : (ss ts : List Stop) → spots_in (ss ++ ts) ≡ spots_in ss ++ sp
 spots-append [] ts = refl
 spots-append (s ∷ ss) ts = ap (λ (us : List Spot). s.spot ∷ us) (spots-append ss ts)
 
-pub kept_step : (out : List Stop) (s : Stop) (rest whole : List Spot) → spots_in out ++ (s.spot ∷ rest) ≡ whole → spots_in (out ++ (s ∷ [])) ++ rest ≡ whole
-kept_step out s rest whole h = ap (λ (us : List Spot). us ++ rest) (spots-append out (s ∷ [])) ∙ append_assoc (spots_in out) (s.spot ∷ []) rest ∙ h
+pub kept_step : (out : List Stop) (s : Stop) (rest whole : List Spot) → spots_in out ++ (s.spot ∷ rest) ≡ whole
+    → spots_in (out ++ (s ∷ [])) ++ rest ≡ whole
+kept_step out s rest whole h = ap (λ (us : List Spot). us ++ rest) (spots-append out (s ∷ [])) ∙ append_assoc
+    (spots_in out) (s.spot ∷ []) rest ∙ h

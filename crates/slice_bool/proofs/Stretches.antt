@@ -12,27 +12,33 @@ use Rattle.slice_bool.specs.Pieces.{covers, stretch_piece, flat_pieces}
 use Rattle.slice_bool.specs.Stops.{spots_in}
 
 -- ---- the first edge that passes a test
-pub position_more : (test : LeafEdge → Bool) (es : List LeafEdge) (i : ℕ) (d : LeafEdge) → i < length es → test (get_or es i d) ≡ false
+pub position_more : (test : LeafEdge → Bool) (es : List LeafEdge) (i : ℕ) (d : LeafEdge) → i < length es
+    → test (get_or es i d) ≡ false
     → position_from test i (drop i es) ≡ position_from test (i + 1) (drop (i + 1) es)
-position_more test es i d h e = at_drop_more (position_from test i) es i d h ∙ ap (λ (b : Bool). cond b (Some i) (position_from test (i + 1) (drop (i + 1) es))) e
+position_more test es i d h e = at_drop_more (position_from test i) es i d h ∙ ap
+    (λ (b : Bool). cond b (Some i) (position_from test (i + 1) (drop (i + 1) es))) e
 
-pub position_here : (test : LeafEdge → Bool) (es : List LeafEdge) (i : ℕ) (d : LeafEdge) → i < length es → test (get_or es i d) ≡ true
+pub position_here : (test : LeafEdge → Bool) (es : List LeafEdge) (i : ℕ) (d : LeafEdge) → i < length es
+    → test (get_or es i d) ≡ true
     → position_from test i (drop i es) ≡ Some i
-position_here test es i d h e = at_drop_more (position_from test i) es i d h ∙ ap (λ (b : Bool). cond b (Some i) (position_from test (i + 1) (drop (i + 1) es))) e
+position_here test es i d h e = at_drop_more (position_from test i) es i d h ∙ ap
+    (λ (b : Bool). cond b (Some i) (position_from test (i + 1) (drop (i + 1) es))) e
 
 -- ---- stretches
 abbrev pub stretch : List LeafEdge → Shape → Spot → Spot → List Piece
 stretch es shape s t = stretch_piece es shape s t (position (covers s t) es)
 
 next : (es : List LeafEdge) (shape : Shape) (ss : List Stop) (j : ℕ) (d e : Stop) → suc j < length ss
-    → flat_pieces es shape (drop j (spots_in ss)) ≡ stretch es shape (get_or ss j d).spot (get_or ss (suc j) e).spot ++ flat_pieces es shape (drop (suc j) (spots_in ss))
+    → flat_pieces es shape (drop j (spots_in ss)) ≡ stretch es shape (get_or ss j d).spot (get_or ss (suc j) e).spot ++
+    flat_pieces es shape (drop (suc j) (spots_in ss))
 next es shape [] j d e h = absurd (omega arith)
 next es shape (x ∷ []) j d e h = absurd (omega arith)
 next es shape (x ∷ (y ∷ ss)) zero d e h = refl
 next es shape (x ∷ (y ∷ ss)) (suc j) d e h = next es shape (y ∷ ss) j d e (omega arith)
 
 pub stretch_at : (es : List LeafEdge) (shape : Shape) (ss : List Stop) (i : ℕ) (d e : Stop) → 0 < i → i < length ss
-    → flat_pieces es shape (drop (i - 1) (spots_in ss)) ≡ stretch es shape (get_or ss (i - 1) d).spot (get_or ss i e).spot ++ flat_pieces es shape (drop i (spots_in ss))
+    → flat_pieces es shape (drop (i - 1) (spots_in ss)) ≡ stretch es shape (get_or ss (i - 1) d).spot
+    (get_or ss i e).spot ++ flat_pieces es shape (drop i (spots_in ss))
 stretch_at es shape ss zero d e p h = absurd (omega arith)
 stretch_at es shape ss (suc j) d e p h = let q : suc j - 1 ≡ j = omega arith in rw q (next es shape ss j d e h)
 
@@ -45,12 +51,14 @@ length-spots : (ss : List Stop) → length (spots_in ss) ≡ length ss
 length-spots [] = refl
 length-spots (s ∷ ss) = ap suc (length-spots ss)
 
-pub no_stretch : (es : List LeafEdge) (shape : Shape) (ss : List Stop) (i : ℕ) → length ss ≤ i → flat_pieces es shape (drop (i - 1) (spots_in ss)) ≡ []
+pub no_stretch : (es : List LeafEdge) (shape : Shape) (ss : List Stop) (i : ℕ) → length ss ≤ i
+    → flat_pieces es shape (drop (i - 1) (spots_in ss)) ≡ []
 no_stretch es shape ss i h =
     let l = length-drop (i - 1) (spots_in ss) in
     let m = length-spots ss in
     few es shape (drop (i - 1) (spots_in ss)) (omega arith)
 
 -- the loop's step
-pub more_pieces : (old new more rest whole : List Piece) → new ≡ old ++ more → old ++ (more ++ rest) ≡ whole → new ++ rest ≡ whole
+pub more_pieces : (old new more rest whole : List Piece) → new ≡ old ++ more → old ++ (more ++ rest) ≡ whole
+    → new ++ rest ≡ whole
 more_pieces old new more rest whole e h = ap (λ (ps : List Piece). ps ++ rest) e ∙ append_assoc old more rest ∙ h

@@ -80,24 +80,3 @@ pub fn outlines_hold()
 pub fn outlines_are_near_border()
     ensures { OutlinesAreNearBorder }
 {}
-
-#[cfg(test)]
-mod tests {
-    use super::*;
-
-    #[test]
-    fn laws_are_called() {
-        pieces_wind_once();
-        heights_have_one_level();
-        spots_are_within();
-        pieces_are_named();
-        pieces_lie_on_edges();
-        centres_are_wound_once();
-        borders_are_balanced();
-        stretches_are_covered();
-        pieces_are_border();
-        made_are_one();
-        outlines_hold();
-        outlines_are_near_border();
-    }
-}

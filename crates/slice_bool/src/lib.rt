@@ -14,16 +14,12 @@ mod flat;
 pub mod laws;
 mod near;
 mod outlining;
-#[cfg(test)]
-mod random_outlines;
 mod slab;
 mod small_point;
 mod stop;
 mod stops;
 mod tally;
 mod turn;
-#[cfg(test)]
-mod two_rectangles;
 
 pub use border::pieces;
 pub use fault::BoolFault;

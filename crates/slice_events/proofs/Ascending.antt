@@ -1,5 +1,5 @@
 -- Sorted heights without repeats are the levels.
-use Rattle.std.proofs.Common.{◌≡◌, ℕ, zero, suc, ◌+◌, ◌<◌, inl, inr, Bool, true, false, List, [], ◌∷◌, length, get_or, refl, sym, arith, subst, add-one}
+use Rattle.std.proofs.Common.{◌≡◌, ℕ, zero, suc, ◌+◌, ◌<◌, inl, inr, Bool, true, false, ◌⊎◌, List, [], ◌∷◌, ◌++◌, length, get_or, refl, sym, arith, add-one}
 use lib.IntN.{pos}
 use lib.Signed.{◌<ℤ◌}
 use Rattle.std.specs.Prelude.{if◌then◌else◌}
@@ -12,11 +12,13 @@ use Rattle.std.proofs.lemmas.List.Sorted.{All-permutation, IsPermutation-map, Is
 use Rattle.scad_geom.specs.declared.level.Level.{Level}
 use Rattle.scad_geom.specs.declared.level.LeafEdge.{LeafEdge}
 use Rattle.scad_geom.specs.Level.{IsLower, IsAtMost, IsSameHeight}
-use Rattle.scad_geom.specs.Heights.{heights}
-use Rattle.scad_geom.proofs.Heights.{at_most_chain, lower_then_at_most}
+use Rattle.scad_base.proofs.Lists.{AllByRecursion-append}
+use Rattle.scad_geom.specs.Heights.{meetings, heights}
+use Rattle.scad_geom.proofs.Heights.{at_most_chain, lower_then_at_most, heights_positive}
 use Rattle.slice_events.specs.declared.height.Height.{Height}
 use Rattle.slice_events.specs.Levels.{IsRising, HasHeight, AreLevels}
-use Rattle.slice_events.specs.Collected.{levels_in, is_lower, IsClimbing}
+use Rattle.slice_events.specs.Collected.{levels_in, is_lower, IsClimbing, end_levels}
+use Rattle.slice_events.specs.Found.{AreOtherHeights}
 use Rattle.slice_events.specs.Distinct.{distinct_by}
 use Rattle.slice_events.proofs.Repeats.{distinct_all}
 
@@ -138,15 +140,74 @@ over : (xs ys ls : List Level) → IsPermutation xs ys → AllByRecursion (λ (l
 over xs ys [] p dy dx dl h = tt
 over xs ys (l ∷ ls) p dy dx dl h = (has_permuted xs ys l p h.0 dy dl.0 dx, over xs ys ls p dy dx dl.1 h.1)
 
-pub sorted_levels : (edges : List LeafEdge) (all sorted : List Height) → levels_in all ≡ heights edges → IsPermutation all sorted → IsClimbing (levels_in sorted) → AreLevels edges (distinct_by is_lower (levels_in sorted))
-sorted_levels edges all sorted e p c =
+-- what has a height of a list has a height of another that has all heights of the first
+has_over : (xs ys : List Level) (h : Level) → AllByRecursion (HasHeight ys) xs → AllByRecursion (λ (l : Level). pos 0 <ℤ l.d) xs → AllByRecursion (λ (l : Level). pos 0 <ℤ l.d) ys → pos 0 <ℤ h.d → HasHeight xs h → HasHeight ys h
+has_over [] ys h a dx dy dh k = absurd k
+has_over (x ∷ xs) ys h a dx dy dh (inl k) = same_then ys x h dh dx.0 dy k a.0
+has_over (x ∷ xs) ys h a dx dy dh (inr k) = has_over xs ys h a.1 dx.1 dy dh k
+
+all_over : (xs ys ls : List Level) → AllByRecursion (HasHeight ys) xs → AllByRecursion (λ (l : Level). pos 0 <ℤ l.d) xs → AllByRecursion (λ (l : Level). pos 0 <ℤ l.d) ys → AllByRecursion (λ (l : Level). pos 0 <ℤ l.d) ls → AllByRecursion (HasHeight xs) ls → AllByRecursion (HasHeight ys) ls
+all_over xs ys [] a dx dy dl h = tt
+all_over xs ys (l ∷ ls) a dx dy dl h = (has_over xs ys l a dx dy dl.0 h.0, all_over xs ys ls a dx dy dl.1 h.1)
+
+pub sorted_levels : (edges : List LeafEdge) (all sorted : List Height) → AllByRecursion (HasHeight (heights edges)) (levels_in all) → AllByRecursion (HasHeight (levels_in all)) (heights edges)
+    → IsPermutation all sorted → IsClimbing (levels_in sorted) → AreLevels edges (distinct_by is_lower (levels_in sorted))
+sorted_levels edges all sorted sound complete p c =
     let q : IsPermutation (levels_in all) (levels_in sorted) = IsPermutation-map (λ (h : Height). h.level) all sorted p in
     let ds = all_positive sorted in
     let da = all_positive all in
+    let dh = heights_positive edges in
     let dd = distinct_divisors (levels_in sorted) ds in
     record {
       divisors = dd;
       rising = distinct_rises (levels_in sorted) ds c;
-      sound = subst (λ (hs : List Level). AllByRecursion (HasHeight hs) (distinct_by is_lower (levels_in sorted))) e (over (levels_in sorted) (levels_in all) (distinct_by is_lower (levels_in sorted)) (IsPermutation-sym (levels_in all) (levels_in sorted) q) da ds dd (distinct_sound (levels_in sorted)));
-      complete = subst (AllByRecursion (HasHeight (distinct_by is_lower (levels_in sorted)))) e (carry (HasHeight (distinct_by is_lower (levels_in sorted))) (levels_in all) (levels_in sorted) (IsPermutation-sym (levels_in all) (levels_in sorted) q) (distinct_complete (levels_in sorted) ds c));
+      sound = all_over (levels_in all) (heights edges) (distinct_by is_lower (levels_in sorted)) sound da dh dd
+          (over (levels_in sorted) (levels_in all) (distinct_by is_lower (levels_in sorted)) (IsPermutation-sym (levels_in all) (levels_in sorted) q) da ds dd (distinct_sound (levels_in sorted)));
+      complete = all_over (levels_in all) (distinct_by is_lower (levels_in sorted)) (heights edges)
+          (carry (HasHeight (distinct_by is_lower (levels_in sorted))) (levels_in all) (levels_in sorted) (IsPermutation-sym (levels_in all) (levels_in sorted) q) (distinct_complete (levels_in sorted) ds c))
+          da dd dh complete;
     }
+
+-- ---- the heights of ends and others
+ends_sound : (es : List LeafEdge) → AllByRecursion (HasHeight (heights es)) (end_levels es)
+ends_sound [] = tt
+ends_sound (e ∷ es) = (inl refl, (inr (inl refl), further (end_levels es) (ends_sound es)))
+  where
+    behind : (ms hs : List Level) (h : Level) → HasHeight hs h → HasHeight (ms ++ hs) h
+    behind [] hs h k = k
+    behind (m ∷ ms) hs h k = inr (behind ms hs h k)
+
+    further : (ls : List Level) → AllByRecursion (HasHeight (heights es)) ls → AllByRecursion (HasHeight (heights (e ∷ es))) ls
+    further [] h = tt
+    further (l ∷ ls) h = (inr (inr (behind (meetings e.edge es) (heights es) l h.0)), further ls h.1)
+
+with_ends_sound : (es : List LeafEdge) (ls : List Level) → AreOtherHeights es ls → AllByRecursion (HasHeight (heights es)) (ls ++ end_levels es)
+with_ends_sound es ls o = AllByRecursion-append (HasHeight (heights es)) ls (end_levels es) o.sound (ends_sound es)
+
+with_ends_complete : (es : List LeafEdge) (ls : List Level) → AreOtherHeights es ls → AllByRecursion (HasHeight (ls ++ end_levels es)) (heights es)
+with_ends_complete es ls o = each (heights es) o.complete
+  where
+    either : (xs ys : List Level) (h : Level) → HasHeight ys h ⊎ HasHeight xs h → HasHeight (xs ++ ys) h
+    either [] ys h (inl k) = k
+    either [] ys h (inr k) = absurd k
+    either (x ∷ xs) ys h (inl k) = inr (either xs ys h (inl k))
+    either (x ∷ xs) ys h (inr (inl k)) = inl k
+    either (x ∷ xs) ys h (inr (inr k)) = inr (either xs ys h (inr k))
+
+    each : (hs : List Level) → AllByRecursion (λ h. HasHeight (end_levels es) h ⊎ HasHeight ls h) hs → AllByRecursion (HasHeight (ls ++ end_levels es)) hs
+    each [] h = tt
+    each (x ∷ xs) h = (either ls (end_levels es) x h.0, each xs h.1)
+
+-- the same in another order
+pub arranged_sound : (es : List LeafEdge) (ls all : List Level) → AreOtherHeights es ls → IsPermutation (ls ++ end_levels es) all → AllByRecursion (HasHeight (heights es)) all
+arranged_sound es ls all o p = carry (HasHeight (heights es)) all (ls ++ end_levels es) p (with_ends_sound es ls o)
+
+each_there : (xs : List Level) → AllByRecursion (HasHeight xs) xs
+each_there xs = recursion_from_All (HasHeight xs) xs (itself xs)
+
+pub arranged_complete : (es : List LeafEdge) (ls : List Level) (all : List Height) → AreOtherHeights es ls → IsPermutation (ls ++ end_levels es) (levels_in all) → AllByRecursion (HasHeight (levels_in all)) (heights es)
+arranged_complete es ls all o p =
+    let mixed = ls ++ end_levels es in
+    let here : AllByRecursion (HasHeight (levels_in all)) mixed = carry (HasHeight (levels_in all)) mixed (levels_in all) (IsPermutation-sym mixed (levels_in all) p) (each_there (levels_in all)) in
+    let positive : AllByRecursion (λ (l : Level). pos 0 <ℤ l.d) mixed = carry (λ (l : Level). pos 0 <ℤ l.d) mixed (levels_in all) (IsPermutation-sym mixed (levels_in all) p) (all_positive all) in
+    all_over mixed (levels_in all) (heights es) here positive (all_positive all) (heights_positive es) (with_ends_complete es ls o)

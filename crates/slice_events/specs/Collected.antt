@@ -1,7 +1,8 @@
 -- The levels in a list of bounded ones.
-use Rattle.std.specs.Prelude.{List, [], ◌∷◌, map, ⊤, Bool, ◌*ℤ◌, int_lt}
-use Rattle.scad_geom.specs.Level.{IsAtMost}
+use Rattle.std.specs.Prelude.{List, [], ◌∷◌, map, ⊤, Bool, ℤ, ◌*ℤ◌, int_lt}
+use Rattle.scad_geom.specs.Level.{level_of, IsAtMost}
 use Rattle.scad_geom.specs.declared.level.Level.{Level}
+use Rattle.scad_geom.specs.declared.level.LeafEdge.{LeafEdge}
 use Rattle.slice_events.specs.declared.height.Height.{Height}
 
 abbrev pub levels_in : List Height → List Level
@@ -16,3 +17,13 @@ abbrev pub IsClimbing : List Level → Type 0
 IsClimbing [] = ⊤
 IsClimbing (p ∷ []) = ⊤
 IsClimbing (p ∷ (q ∷ hs)) = IsAtMost p q × IsClimbing (q ∷ hs)
+
+-- the y of all ends
+abbrev pub end_ys : List LeafEdge → List ℤ
+end_ys [] = []
+end_ys (e ∷ es) = e.edge.a.y ∷ e.edge.b.y ∷ end_ys es
+
+-- the heights of all ends
+abbrev pub end_levels : List LeafEdge → List Level
+end_levels [] = []
+end_levels (e ∷ es) = level_of e.edge.a.y ∷ level_of e.edge.b.y ∷ end_levels es

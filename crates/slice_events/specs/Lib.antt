@@ -3,3 +3,12 @@ pub mod Levels
 pub mod Distinct
 pub mod Collected
 pub mod Refusal
+pub mod Common
+pub mod Boxes
+pub mod Reading
+pub mod Lines
+pub mod Kept
+pub mod Stays
+pub mod Pairs
+pub mod Yields
+pub mod Found

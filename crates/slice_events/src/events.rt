@@ -1,15 +1,22 @@
 //! The levels of a list of edges.
-ghost use Rattle.std.specs.Prelude.{◌≡◌, ◌^◌, ◌<◌, ◌≤◌, length, IfOk, IfErr, All};
+ghost use Rattle.std.specs.Prelude.{◌≡◌, ◌^◌, ◌<◌, ◌≤◌, length, OnOk, IfOk, IfErr, All};
 ghost use Rattle.scad_geom.specs.Limits.{coordinate_limit};
 ghost use Rattle.scad_geom.specs.Within.{IsEdgeWithin};
 ghost use Rattle.scad_geom.specs.Level.{IsLevelWithin};
 ghost use Rattle.slice_events.specs.Limits.{crossing_limit};
 ghost use Rattle.slice_events.specs.Levels.{crossings, AreLevels};
-ghost use Rattle.slice_events.specs.Refusal.{IsCrossings};
+ghost use Rattle.slice_events.specs.Refusal.{IsCrossings, IsAfterAll};
+ghost use Rattle.slice_events.specs.Boxes.{comparisons, raised};
+ghost use Rattle.slice_events.specs.Collected.{levels_in};
+ghost use Rattle.slice_events.specs.Found.{IsEmpty, IsFoundOf, AreOtherHeights};
 
-use crate::collect::all_heights;
-use crate::count::crossings;
+use crate::buckets::compare_all;
 use crate::distinct::{distinct, sort};
+use crate::ends::push_ends;
+use crate::found::Found;
+use crate::height::Height;
+use crate::lines::lines_of;
+use crate::stay::{bucket_height, stays};
 use scad_geom::{LeafEdge, Level};
 use std::alloc::{AllocError, Global};
 
@@ -37,92 +44,81 @@ pub fn levels(alloc: Global, edges: &[LeafEdge]) -> Result<Vec<Level>, EventFaul
     ensures refused { IfErr result (IsCrossings (crossings edges.now)) }
     ensures limit { CROSSING_LIMIT ≡ crossing_limit }
 {
-    let count = crossings(edges);
-    if count > CROSSING_LIMIT {
-        return Err(EventFault::Crossings(count));
+    let mut tests = 0;
+    levels_counted(alloc, edges, &mut tests)
+}
+
+/// `levels`, with `tests` raised by one for each pair of edges that is compared, those whose boxes have a common point;
+/// it stands at the greatest value where it would pass it.
+pub fn levels_counted(
+    alloc: Global,
+    edges: &[LeafEdge],
+    tests: &mut u64,
+) -> Result<Vec<Level>, EventFault>
+    requires within { All (λ e. IsEdgeWithin coordinate_limit e.edge) edges.now }
+    requires few { length edges.now < 2 ^ 32 }
+    ensures levels { IfOk result (λ v. AreLevels edges.now v.items) }
+    ensures within { IfOk result (λ v. All (IsLevelWithin coordinate_limit) v.items) }
+    ensures accepted { IfOk result (λ v. crossings edges.now ≤ crossing_limit) }
+    ensures refused { IfErr result (IsCrossings (crossings edges.now)) }
+    ensures counted { IfOk result (λ v. tests.new ≡ raised tests.old (comparisons edges.now)) }
+    ensures counted_refused { IfErr result (IsAfterAll (tests.new ≡ raised tests.old (comparisons edges.now))) }
+    ensures rising { tests.old ≤ tests.new }
+{
+    let mut found = Found {
+        tests: 0,
+        count: 0,
+        heights: Vec::new(alloc),
+    };
+    let compared = find(alloc, &mut found, edges);
+    *tests = tests.saturating_add(found.tests);
+    match compared {
+        Ok(()) => levels_of(alloc, edges, found),
+        Err(_) => Err(EventFault::Memory),
     }
-    match ascending(alloc, edges) {
+}
+
+// Compares the pairs of edges.
+fn find(alloc: Global, found: &mut Found, edges: &[LeafEdge]) -> Result<(), AllocError>
+    requires within { All (λ e. IsEdgeWithin coordinate_limit e.edge) edges.now }
+    requires few { length edges.now < 2 ^ 32 }
+    requires first { IsEmpty found.old }
+    ensures { OnOk result (IsFoundOf edges.now found.new) }
+{
+    let lines = lines_of(alloc, edges)?;
+    let stays = stays(alloc, &lines, bucket_height(&lines))?;
+    compare_all(found, &lines, &stays)
+}
+
+fn levels_of(alloc: Global, edges: &[LeafEdge], found: Found) -> Result<Vec<Level>, EventFault>
+    requires within { All (λ e. IsEdgeWithin coordinate_limit e.edge) edges.now }
+    requires found { IsFoundOf edges.now found }
+    ensures levels { IfOk result (λ v. AreLevels edges.now v.items) }
+    ensures within { IfOk result (λ v. All (IsLevelWithin coordinate_limit) v.items) }
+    ensures accepted { IfOk result (λ v. crossings edges.now ≤ crossing_limit) }
+    ensures refused { IfErr result (IsCrossings (crossings edges.now)) }
+{
+    if found.count > CROSSING_LIMIT {
+        return Err(EventFault::Crossings(found.count));
+    }
+    match ascending(alloc, edges, found.heights) {
         Ok(levels) => Ok(levels),
         Err(_) => Err(EventFault::Memory),
     }
 }
 
-fn ascending(alloc: Global, edges: &[LeafEdge]) -> Result<Vec<Level>, AllocError>
-    requires { All (λ e. IsEdgeWithin coordinate_limit e.edge) edges.now }
+// The heights of all ends, and these, each once.
+fn ascending(
+    alloc: Global,
+    edges: &[LeafEdge],
+    mut heights: Vec<Height>,
+) -> Result<Vec<Level>, AllocError>
+    requires within { All (λ e. IsEdgeWithin coordinate_limit e.edge) edges.now }
+    requires heights { AreOtherHeights edges.now (levels_in heights.items) }
     ensures levels { IfOk result (λ v. AreLevels edges.now v.items) }
     ensures within { IfOk result (λ v. All (IsLevelWithin coordinate_limit) v.items) }
 {
-    let mut heights = all_heights(alloc, edges)?;
+    push_ends(alloc, &mut heights, edges)?;
     sort(&mut heights)?;
     distinct(alloc, &heights)
-}
-
-#[cfg(test)]
-mod tests {
-    use super::*;
-    use scad_geom::{Edge, Pt, cmp_level};
-    use std::cmp::Ordering;
-    use std::test::Fail;
-
-    // Two edges that cross at (1000.5, 1000.5), one of them twice, and a flat one.
-    const EDGES: [LeafEdge; 4] = [
-        LeafEdge {
-            leaf: 0,
-            edge: Edge {
-                a: Pt { x: 2000, y: 2000 },
-                b: Pt { x: 0, y: 0 },
-            },
-        },
-        LeafEdge {
-            leaf: 1,
-            edge: Edge {
-                a: Pt { x: 2001, y: 0 },
-                b: Pt { x: 0, y: 2001 },
-            },
-        },
-        LeafEdge {
-            leaf: 0,
-            edge: Edge {
-                a: Pt { x: 2000, y: 2000 },
-                b: Pt { x: 0, y: 0 },
-            },
-        },
-        LeafEdge {
-            leaf: 1,
-            edge: Edge {
-                a: Pt { x: 0, y: 0 },
-                b: Pt { x: 2001, y: 0 },
-            },
-        },
-    ];
-
-    #[test]
-    fn a_crossing_between_whole_heights_is_a_level(rt: HostRuntime) -> Result<(), Fail> {
-        let found = levels(rt.alloc(), &EDGES).ok().ok_or("refused")?;
-        assert_eq!(rt; found.len(), 4);
-        assert_eq!(rt;
-            cmp_level(&found[0], &Level { n: 0, d: 1 }),
-            Ordering::Equal
-        );
-        assert_eq!(rt;
-            cmp_level(&found[1], &Level { n: 2001, d: 2 }),
-            Ordering::Equal
-        );
-        assert_eq!(rt;
-            cmp_level(&found[2], &Level { n: 2000, d: 1 }),
-            Ordering::Equal
-        );
-        assert_eq!(rt;
-            cmp_level(&found[3], &Level { n: 2001, d: 1 }),
-            Ordering::Equal
-        );
-        Ok(())
-    }
-
-    #[test]
-    fn pairs_that_share_an_end_or_a_line_dont_cross(rt: HostRuntime) {
-        // The doubled edge crosses the slanted one twice; it starts on the flat one, which ends where the slanted one starts.
-        assert_eq!(rt; crossings(&EDGES), 2);
-        assert_eq!(rt; crossings(&EDGES[..1]), 0);
-    }
 }

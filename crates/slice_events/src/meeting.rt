@@ -1,25 +1,23 @@
 //! Where two edges meet.
-ghost use Rattle.std.specs.Prelude.{◌≡◌, ◌+◌, ◌*◌, ◌^◌, ◌<◌, ◌≤◌, ◌&&◌, ◌||◌, not, ◌+ℤ◌, ◌-ℤ◌, ◌*ℤ◌, neg_ℤ, pos, ◌<ℤ◌, int_lt, int_le, true, unsigned_abs};
+ghost use Rattle.std.specs.Prelude.{◌≡◌, ◌+◌, ◌*◌, ◌^◌, ◌<◌, ◌≤◌, ◌&&◌, ◌||◌, not, pos, int_le, true, unsigned_abs};
 ghost use Rattle.scad_geom.specs.Limits.{coordinate_limit};
 ghost use Rattle.scad_geom.specs.Within.{IsWithin, IsEdgeWithin};
-ghost use Rattle.scad_geom.specs.Line.{low, high, rise, run, offset, x_at, left_of, lean, apart};
+ghost use Rattle.scad_geom.specs.Line.{low, high, rise, left_of, lean, apart};
 ghost use Rattle.scad_geom.specs.Sign.{is_zero};
 ghost use Rattle.scad_geom.specs.Meeting.{straddles, meets, meeting};
 ghost use Rattle.scad_geom.specs.Level.{IsLevelWithin};
 ghost use Rattle.scad_geom.specs.Point.{whole, is_same_point};
 ghost use Rattle.slice_events.specs.Levels.{share_end, crosses};
+ghost use Rattle.slice_events.specs.Kept.{is_beside, is_rising, are_ends_beside, is_kept};
 
-use scad_geom::line::{high, low, offset, rise, run};
-use scad_geom::wide::{minus, plus, product, times};
+use crate::line::Line;
 use scad_geom::{Edge, Level, Pt};
 
 /// Whether two edges that aren't parallel have a common point that isn't an end of both.
-pub(crate) fn crosses(e: &Edge, f: &Edge) -> bool
-    requires e { IsEdgeWithin coordinate_limit e.now }
-    requires f { IsEdgeWithin coordinate_limit f.now }
-    ensures { result ≡ crosses e.now f.now }
+pub(crate) fn crosses(e: &Line, f: &Line) -> bool
+    ensures { result ≡ crosses e.now.edge f.now.edge }
 {
-    meets(e, f) && !share_end(e, f)
+    meets(e, f) && !share_end(&e.edge, &f.edge)
 }
 
 fn share_end(e: &Edge, f: &Edge) -> bool
@@ -35,104 +33,79 @@ fn are_same(p: Pt, q: Pt) -> bool
     p.x == q.x && p.y == q.y
 }
 
-/// Whether two edges that aren't parallel have a common point.
-#[tactic(auto, using(scad_geom::proofs::Casts::casts), unfolding(scad_geom::specs::Meeting::meets))]
-pub(crate) fn meets(e: &Edge, f: &Edge) -> bool
-    requires e { IsEdgeWithin coordinate_limit e.now }
-    requires f { IsEdgeWithin coordinate_limit f.now }
-    ensures { result ≡ meets e.now f.now }
+// Whether two edges that aren't parallel have a common point. Few pairs are parallel, so that is asked last.
+#[tactic(auto, using(crate::proofs::Turned::both_then_third), unfolding(scad_geom::specs::Meeting::meets))]
+fn meets(e: &Line, f: &Line) -> bool
+    ensures { result ≡ meets e.now.edge f.now.edge }
 {
-    is_slanted(e, f) && (straddles(e, f) && straddles(f, e))
+    (straddles(e, f) && straddles(f, e)) && is_slanted(e, f)
 }
 
-fn is_slanted(e: &Edge, f: &Edge) -> bool
-    requires e { IsEdgeWithin coordinate_limit e.now }
-    requires f { IsEdgeWithin coordinate_limit f.now }
-    ensures { result ≡ not (is_zero (lean e.now f.now)) }
+fn is_slanted(e: &Line, f: &Line) -> bool
+    ensures { result ≡ not (is_zero (lean e.now.edge f.now.edge)) }
 {
-    lean(e, f) != 0
+    e.lean(f) != 0
 }
 
 // Whether the ends of f lie on both sides of the line of e, or on it.
 #[tactic(auto, using(scad_geom::proofs::Casts::casts), unfolding(scad_geom::specs::Meeting::straddles))]
-fn straddles(e: &Edge, f: &Edge) -> bool
-    requires e { IsEdgeWithin coordinate_limit e.now }
-    requires f { IsEdgeWithin coordinate_limit f.now }
-    ensures { result ≡ straddles e.now f.now }
+fn straddles(e: &Line, f: &Line) -> bool
+    ensures { result ≡ straddles e.now.edge f.now.edge }
 {
-    are_apart(left_of(e, low(f)), left_of(e, high(f)))
+    are_apart(e.left_of(f.low), e.left_of(f.high))
 }
 
-fn are_apart(s: i128, t: i128) -> bool
+fn are_apart(s: i64, t: i64) -> bool
     ensures { result ≡ ((int_le s (pos 0) && int_le (pos 0) t) || (int_le (pos 0) s && int_le t (pos 0))) }
 {
     (s <= 0 && 0 <= t) || (0 <= s && t <= 0)
 }
 
-// Above 0 where the point lies to the left of the edge's line.
-#[tactic(auto, using(scad_geom::proofs::Casts::casts, scad_geom::proofs::Lines::left_of_whole))]
-fn left_of(e: &Edge, p: Pt) -> i128
-    requires e { IsEdgeWithin coordinate_limit e.now }
-    requires p { IsWithin coordinate_limit p }
-    ensures { result ≡ left_of e.now p.x p.y (pos 1) }
+/// Whether two edges cross at a height that isn't one of an end.
+#[tactic(auto, unfolding(crate::specs::Kept::is_kept))]
+pub(crate) fn is_kept(e: &Line, f: &Line) -> bool
+    ensures { result ≡ is_kept e.now.edge f.now.edge }
 {
-    let x = plus(times::<22, 21>(run(e), p.y as i128), offset(e));
-    minus(x, times::<22, 21>(rise(e), p.x as i128))
+    crosses(e, f) && ((is_rising(e) && is_rising(f)) && are_ends_beside(e, f))
 }
 
-// Above 0 where, on the way up, e runs more to the right than f.
-#[tactic(auto, using(scad_geom::proofs::Casts::casts), unfolding(scad_geom::specs::Line::lean))]
-fn lean(e: &Edge, f: &Edge) -> i128
-    requires e { IsEdgeWithin coordinate_limit e.now }
-    requires f { IsEdgeWithin coordinate_limit f.now }
-    ensures value { result ≡ lean e.now f.now }
-    ensures size { unsigned_abs result ≤ 10 ^ 13 }
+#[tactic(auto, unfolding(crate::specs::Kept::are_ends_beside))]
+fn are_ends_beside(e: &Line, f: &Line) -> bool
+    ensures { result ≡ are_ends_beside e.now.edge f.now.edge }
 {
-    minus(area(run(e), rise(f)), area(run(f), rise(e)))
+    (is_beside(e, f.low) && is_beside(e, f.high)) && (is_beside(f, e.low) && is_beside(f, e.high))
 }
 
-fn area(a: i128, b: i128) -> i128
-    requires a { unsigned_abs a ≤ 2 * coordinate_limit }
-    requires b { unsigned_abs b ≤ 2 * coordinate_limit }
-    ensures value { result ≡ a *ℤ b }
-    ensures size { unsigned_abs result ≤ (2 * coordinate_limit) * (2 * coordinate_limit) }
+#[tactic(auto, using(scad_geom::proofs::Casts::casts), unfolding(crate::specs::Kept::is_beside))]
+fn is_beside(e: &Line, p: Pt) -> bool
+    requires { IsWithin coordinate_limit p }
+    ensures { result ≡ is_beside e.now.edge p }
 {
-    product(a, b)
+    e.left_of(p) != 0
 }
 
-// At height 0 the line of e lies to the right of that of f by this over the product of the rises.
-#[tactic(auto, using(scad_geom::proofs::Casts::casts), unfolding(scad_geom::specs::Line::apart))]
-fn apart(e: &Edge, f: &Edge) -> i128
-    requires e { IsEdgeWithin coordinate_limit e.now }
-    requires f { IsEdgeWithin coordinate_limit f.now }
-    ensures value { result ≡ apart e.now f.now }
-    ensures size { unsigned_abs result ≤ 2 ^ 67 }
+#[tactic(auto, using(scad_geom::proofs::Casts::casts), unfolding(crate::specs::Kept::is_rising))]
+fn is_rising(e: &Line) -> bool
+    ensures { result ≡ is_rising e.now.edge }
 {
-    minus(
-        times::<44, 22>(offset(e), rise(f)),
-        times::<44, 22>(offset(f), rise(e)),
-    )
+    e.rise != 0
 }
 
 /// The height of the common point of two edges that meet.
-pub(crate) fn meeting(e: &Edge, f: &Edge) -> Level
-    requires e { IsEdgeWithin coordinate_limit e.now }
-    requires f { IsEdgeWithin coordinate_limit f.now }
-    requires meets { meets e.now f.now ≡ true }
-    ensures value { result ≡ meeting e.now f.now }
+pub(crate) fn meeting(e: &Line, f: &Line) -> Level
+    requires meets { meets e.now.edge f.now.edge ≡ true }
+    ensures value { result ≡ meeting e.now.edge f.now.edge }
     ensures within { IsLevelWithin coordinate_limit result }
 {
     level_of_lines(e, f)
 }
 
 #[tactic(auto, using(scad_geom::proofs::Casts::casts), unfolding(scad_geom::specs::Meeting::meeting))]
-fn level_of_lines(e: &Edge, f: &Edge) -> Level
-    requires e { IsEdgeWithin coordinate_limit e.now }
-    requires f { IsEdgeWithin coordinate_limit f.now }
-    ensures value { result ≡ meeting e.now f.now }
-    ensures divisor { unsigned_abs (lean e.now f.now) ≤ 10 ^ 13 }
+fn level_of_lines(e: &Line, f: &Line) -> Level
+    ensures value { result ≡ meeting e.now.edge f.now.edge }
+    ensures divisor { unsigned_abs (lean e.now.edge f.now.edge) ≤ 10 ^ 13 }
 {
-    let (lean, apart) = (lean(e, f), apart(e, f));
+    let (lean, apart) = (e.lean(f) as i128, e.apart(f));
     if lean > 0 {
         Level { n: -apart, d: lean }
     } else {

@@ -21,7 +21,8 @@ use Rattle.slice_layer.proofs.Sections.{leaf_edges}
 
 module _ (layer h : ℕ) (s : Solid) (shape : Shape) (stands : StandsFor shape s) where
   -- over the tree's section, a shape that stands for the tree holds what it holds
-  pub shape_section : (above right : Bool) (p : Point) → is_in_by above right (tree_section layer h s) shape p ≡ section_holds above right layer h s p
+  pub shape_section : (above right : Bool) (p : Point) → is_in_by above right (tree_section layer h s) shape p
+      ≡ section_holds above right layer h s p
   unfolding is_in_by
   shape_section above right p =
       (λ i. shape_holds (λ leaf. not (is_zero (wind_by above right p (segments (leaf_edges layer h s leaf i))))) shape)
@@ -40,9 +41,16 @@ module _ (layer h : ℕ) (s : Solid) (shape : Shape) (stands : StandsFor shape s
   edge_near : (e : Edge) → IsNearBorder (tree_section layer h s) shape e → IsNearSectionBorder layer h s e
   edge_near e n p d on =
       let found = n p d on in
-      record { border = found.border; positive = found.positive; is_border = section_border found.border found.is_border; near = found.near }
+      record {
+        border = found.border;
+        positive = found.positive;
+        is_border = section_border found.border
+            found.is_border;
+        near = found.near;
+      }
 
 pub outlines_are_near_border : OutlinesAreNearBorder
 outlines_are_near_border layer h s outlines a =
-    All-weaker (IsNearBorder (tree_section layer h s) a.shape) (IsNearSectionBorder layer h s) (edge_near layer h s a.shape a.stands) (flat_map sides outlines)
+    All-weaker (IsNearBorder (tree_section layer h s) a.shape) (IsNearSectionBorder layer h s)
+    (edge_near layer h s a.shape a.stands) (flat_map sides outlines)
     (border.outlines_are_near_border (tree_section layer h s) a.shape outlines a.are_outlines)

@@ -29,7 +29,8 @@ module _ (q : Point) (d : pos 0 <ℤ q.d) where
 
   rounded_clear : (c : Segment) → IsProper c → IsClearCut c → IsClearEdge (rounded c)
   rounded_clear c p h =
-      moves_stay_clear (pos 1) (pos 1) q c.from c.to (whole (nearest_point c.from)) (whole (nearest_point c.to)) d p.from p.to one one h
+      moves_stay_clear (pos 1) (pos 1) q c.from c.to (whole (nearest_point c.from)) (whole (nearest_point c.to)) d
+      p.from p.to one one h
       (rounded_close c.from p.from) (rounded_close c.to p.to)
 
   half_weaker : (x w : ℤ) → IsHalf (pos 1) x w → IsHalf (pos 2) x w
@@ -40,21 +41,29 @@ module _ (q : Point) (d : pos 0 <ℤ q.d) where
 
   -- what is clear by one micrometre is clear by one half
   cut_clear : (c : Segment) → IsProper c → IsClearCut c → IsClearSegment (pos 1) q c
-  cut_clear c p h = record { proper = p; clear = λ s t from to some close. h s t from to some (record { across = half_weaker _ _ close.across; along = half_weaker _ _ close.along }) }
+  cut_clear c p h = record {
+    proper = p;
+    clear = λ s t from to some close. h s t from to some
+        (record { across = half_weaker _ _ close.across; along = half_weaker _ _ close.along });
+  }
 
-  both : (P : Segment → Type 0) → ((c : Segment) → IsProper c → IsClearCut c → P c) → (cs : List Segment) → AllByRecursion IsProper cs → AllByRecursion IsClearCut cs → AllByRecursion P cs
+  both : (P : Segment → Type 0) → ((c : Segment) → IsProper c → IsClearCut c → P c) → (cs : List Segment)
+      → AllByRecursion IsProper cs → AllByRecursion IsClearCut cs → AllByRecursion P cs
   both P f [] p h = tt
   both P f (c ∷ cs) p h = (f c p.0 h.0, both P f cs p.1 h.1)
 
   module _ (plane : ℤ) where
     -- the cuts of a surface are clear segments
-    pub cuts_clear : (ts : List Triangle) → AllByRecursion IsClearCut (cuts_of plane ts) → AllByRecursion (IsClearSegment (pos 1) q) (cuts_of plane ts)
+    pub cuts_clear : (ts : List Triangle) → AllByRecursion IsClearCut (cuts_of plane ts)
+        → AllByRecursion (IsClearSegment (pos 1) q) (cuts_of plane ts)
     cuts_clear ts h = both (IsClearSegment (pos 1) q) cut_clear (cuts_of plane ts) (cuts_proper plane ts) h
 
     -- their rounded edges are clear
-    pub edges_clear : (all : List (List Triangle)) → AllByRecursion IsClearCut (flat_map (cuts_of plane) all) → AllByRecursion (λ ts. AllByRecursion (λ c. IsClearEdge (rounded c)) (cuts_of plane ts)) all
+    pub edges_clear : (all : List (List Triangle)) → AllByRecursion IsClearCut (flat_map (cuts_of plane) all)
+        → AllByRecursion (λ ts. AllByRecursion (λ c. IsClearEdge (rounded c)) (cuts_of plane ts)) all
     edges_clear [] h = tt
     edges_clear (ts ∷ all) h = (
-      both (λ c. IsClearEdge (rounded c)) rounded_clear (cuts_of plane ts) (cuts_proper plane ts) (front IsClearCut (cuts_of plane ts) (flat_map (cuts_of plane) all) h),
+      both (λ c. IsClearEdge (rounded c)) rounded_clear (cuts_of plane ts) (cuts_proper plane ts)
+          (front IsClearCut (cuts_of plane ts) (flat_map (cuts_of plane) all) h),
       edges_clear all (back IsClearCut (cuts_of plane ts) (flat_map (cuts_of plane) all) h),
     )

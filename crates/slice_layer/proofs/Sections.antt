@@ -25,36 +25,44 @@ use Rattle.scad_tree.specs.Sections.{leaf_edge, leaf_section, sections_from, tre
 module _ (layer h : ℕ) where
   -- those of the first surface, then those of the others
   parted : (leaf n : ℕ) (ts : List Triangle) (rest : List (List Triangle)) (b : Bool) → (n == leaf) ≡ b
-      → edges_of leaf (sections_from layer h n (ts ∷ rest)) ≡ cond b (section_of ts layer h) [] ++ edges_of leaf (sections_from layer h (n + 1) rest)
+      → edges_of leaf (sections_from layer h n (ts ∷ rest)) ≡ cond b (section_of ts layer h) [] ++ edges_of leaf
+      (sections_from layer h (n + 1) rest)
   parted leaf n ts rest b is =
       edges_of-append leaf (leaf_section layer h n ts) (sections_from layer h (n + 1) rest)
-      ∙ ap (λ es. es ++ edges_of leaf (sections_from layer h (n + 1) rest)) (of_leaf leaf n (section_of ts layer h) b is)
+      ∙ ap (λ es. es ++ edges_of leaf (sections_from layer h (n + 1) rest)) (of_leaf leaf n (section_of ts layer h) b
+      is)
 
   -- no surface has a number below that of the first
   none_below : (all : List (List Triangle)) (leaf n : ℕ) → leaf < n → edges_of leaf (sections_from layer h n all) ≡ []
   none_below [] leaf n low = refl
-  none_below (ts ∷ rest) leaf n low = parted leaf n ts rest false (grind (arith, nat_tests)) ∙ none_below rest leaf (n + 1) (omega arith)
+  none_below (ts ∷ rest) leaf n low = parted leaf n ts rest false (grind (arith, nat_tests)) ∙ none_below rest leaf
+      (n + 1) (omega arith)
 
-  edges_from : (all : List (List Triangle)) (leaf n k : ℕ) → leaf ≡ n + k → edges_of leaf (sections_from layer h n all) ≡ section_of (surface_at all k) layer h
+  edges_from : (all : List (List Triangle)) (leaf n k : ℕ) → leaf ≡ n + k → edges_of leaf (sections_from layer h n all)
+      ≡ section_of (surface_at all k) layer h
   edges_from [] leaf n k is = refl
   edges_from (ts ∷ rest) leaf n zero is =
       parted leaf n ts rest true (grind (arith, nat_tests))
       ∙ ap (λ es. section_of ts layer h ++ es) (none_below rest leaf (n + 1) (omega arith))
       ∙ append-nil (section_of ts layer h)
-  edges_from (ts ∷ rest) leaf n (suc k) is = parted leaf n ts rest false (grind (arith, nat_tests)) ∙ edges_from rest leaf (n + 1) k (omega arith)
+  edges_from (ts ∷ rest) leaf n (suc k) is = parted leaf n ts rest false (grind (arith, nat_tests)) ∙ edges_from rest
+      leaf (n + 1) k (omega arith)
 
   -- the edges of a leaf are the section of its surface
-  pub leaf_edges : (s : Solid) (leaf : ℕ) → edges_of leaf (tree_section layer h s) ≡ section_of (surface_at (surfaces s) leaf) layer h
+  pub leaf_edges : (s : Solid) (leaf : ℕ) → edges_of leaf (tree_section layer h s)
+      ≡ section_of (surface_at (surfaces s) leaf) layer h
   leaf_edges s leaf = edges_from (surfaces s) leaf 0 leaf (omega arith)
 
   -- ---- balance
-  pub surface_closed : (all : List (List Triangle)) (k : ℕ) → AllByRecursion (λ ts. is_closed ts ≡ true) all → is_closed (surface_at all k) ≡ true
+  pub surface_closed : (all : List (List Triangle)) (k : ℕ) → AllByRecursion (λ ts. is_closed ts ≡ true) all
+      → is_closed (surface_at all k) ≡ true
   unfolding is_closed
   surface_closed [] k c = refl
   surface_closed (ts ∷ rest) zero c = c.0
   surface_closed (ts ∷ rest) (suc k) c = surface_closed rest k c.1
 
-  pub leaves_balanced : (s : Solid) → AllByRecursion (λ ts. is_closed ts ≡ true) (surfaces s) → AreLeavesBalanced (tree_section layer h s)
+  pub leaves_balanced : (s : Solid) → AllByRecursion (λ ts. is_closed ts ≡ true) (surfaces s)
+      → AreLeavesBalanced (tree_section layer h s)
   leaves_balanced s c = record {
     each = λ leaf.
         subst (λ es. IsBalanced (segments es)) (sym (leaf_edges s leaf))
@@ -67,9 +75,11 @@ module _ (layer h : ℕ) where
     kept true e es p h = (p, h)
     kept false e es p h = h
 
-    with_length : (cs : List Segment) → AllByRecursion (λ c. P (rounded c)) cs → AllByRecursion P (filter has_length (map rounded cs))
+    with_length : (cs : List Segment) → AllByRecursion (λ c. P (rounded c)) cs
+        → AllByRecursion P (filter has_length (map rounded cs))
     with_length [] h = tt
-    with_length (c ∷ cs) h = kept (has_length (rounded c)) (rounded c) (filter has_length (map rounded cs)) h.0 (with_length cs h.1)
+    with_length (c ∷ cs) h = kept (has_length (rounded c)) (rounded c) (filter has_length (map rounded cs)) h.0
+        (with_length cs h.1)
 
     numbered : (n : ℕ) (es : List Edge) → AllByRecursion P es → AllByRecursion (λ e. P e.edge) (map (leaf_edge n) es)
     numbered n [] h = tt
@@ -78,7 +88,8 @@ module _ (layer h : ℕ) where
     abbrev HaveCuts : List (List Triangle) → Type 0
     HaveCuts all = AllByRecursion (λ ts. AllByRecursion (λ c. P (rounded c)) (cuts_of (plane_of layer h) ts)) all
 
-    pub sections_have : (n : ℕ) (all : List (List Triangle)) → HaveCuts all → AllByRecursion (λ e. P e.edge) (sections_from layer h n all)
+    pub sections_have : (n : ℕ) (all : List (List Triangle)) → HaveCuts all → AllByRecursion (λ e. P e.edge)
+        (sections_from layer h n all)
     sections_have n [] c = tt
     sections_have n (ts ∷ rest) c =
         AllByRecursion-append (λ e. P e.edge) (leaf_section layer h n ts) (sections_from layer h (n + 1) rest)

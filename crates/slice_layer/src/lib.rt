@@ -6,7 +6,5 @@
 
 pub mod laws;
 mod layer;
-#[cfg(test)]
-mod tests;
 
 pub use layer::layer_outlines;

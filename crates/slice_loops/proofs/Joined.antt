@@ -1,13 +1,19 @@
 -- Outlines are made loop by loop: whatever outlines the remaining edges make, those so far and these are the outlines of all.
-use Rattle.std.proofs.Common.{◌≡◌, ◌≤◌, ◌<◌, Bool, true, false, cond, List, [], ◌∷◌, ◌++◌, length, nat_le, refl, sym, ap, ◌∙◌, subst, arith, append_assoc, append-nil, le-leb, leb-true}
-use Rattle.std.proofs.lemmas.Bool.{false_from_ne_true}
+use Rattle.std.proofs.Common.{◌≡◌, ℕ, ◌+◌, ◌≤◌, ◌<◌, ◌⊎◌, inl, inr, Bool, true, false, cond, List, [], ◌∷◌, ◌++◌, length, nat_le, refl, sym, ap, ◌∙◌, subst, arith, append_assoc, append-nil, le-leb, leb-true}
+use Rattle.std.proofs.lemmas.Bool.{false_from_ne_true, cases_lt}
 use Rattle.std.specs.Prelude.{IsPermutation}
 use Rattle.std.proofs.lemmas.List.Sorted.{IsPermutation-trans, length_permutation}
 use Rattle.scad_geom.specs.declared.point.Pt.{Pt}
 use Rattle.scad_geom.specs.declared.point.Edge.{Edge}
+use Rattle.scad_geom.specs.Segment.{segments}
+use Rattle.scad_geom.specs.Balance.{IsBalanced}
+use Rattle.slice_loops.specs.declared.remaining.Remaining.{Remaining}
+use Rattle.slice_loops.specs.Remaining.{remaining, taken_at, IsInOrder, AllTakenTo, StayTaken}
+use Rattle.slice_loops.proofs.Closed.{balanced_permuted}
+use Rattle.slice_loops.proofs.Taken.{all_taken}
 use Rattle.slice_loops.specs.Drawing.{IsLoop, AreDrawn}
 use Rattle.slice_loops.specs.Corners.{corners}
-use Rattle.slice_loops.specs.Outlines.{outlines_of, AreOutlines}
+use Rattle.slice_loops.specs.Outlines.{outlines_of, AreOutlines, AddsOutline}
 
 abbrev pub Makes : List Edge → List (List Pt) → List Edge → Type 0
 Makes edges outlines left = (more : List (List Pt)) → AreOutlines left more → AreOutlines edges (outlines ++ more)
@@ -48,18 +54,87 @@ one_more es v left c is loop h t more a =
           ∙ ap (λ (b : Bool). cond b (corners v ∷ outlines_of a.loops) (outlines_of a.loops)) (sym test);
     }
 
-pub makes_one : (edges : List Edge) (outlines : List (List Pt)) (es : List Edge) (v : List Pt) (left : List Edge) (c k : List Pt)
-    → Makes edges outlines es → IsLoop es v left → c ≡ corners v → k ≡ c → 3 ≤ length c → Makes edges (outlines ++ (k ∷ [])) left
-makes_one edges outlines es v left c k made loop h same many =
-    let test : nat_le 3 (length k) ≡ true = ap (λ (l : List Pt). nat_le 3 (length l)) same ∙ le-leb 3 (length c) many in
-    λ more a. subst (AreOutlines edges) (sym (append_assoc outlines (k ∷ []) more)) (made (k ∷ more) (one_more es v left k true loop (same ∙ h) test more a))
+joined_on : (is : Bool) (c : List Pt) (outlines more : List (List Pt)) → (outlines ++ cond is (c ∷ []) []) ++ more ≡ outlines ++ cond is (c ∷ more) more
+joined_on true c outlines more = append_assoc outlines (c ∷ []) more
+joined_on false c outlines more = ap (λ (os : List (List Pt)). os ++ more) (append-nil outlines)
 
-pub makes_nothing : (edges : List Edge) (outlines : List (List Pt)) (es : List Edge) (v : List Pt) (left : List Edge) (c : List Pt)
-    → Makes edges outlines es → IsLoop es v left → c ≡ corners v → length c < 3 → Makes edges outlines left
-makes_nothing edges outlines es v left c made loop h few =
-    let test : nat_le 3 (length c) ≡ false = false_from_ne_true (nat_le 3 (length c)) (λ e. let many = leb-true 3 (length c) e in omega arith) in
-    λ more a. made more (one_more es v left c false loop h test more a)
+pub makes_added : (edges : List Edge) (outlines : List (List Pt)) (es left : List Edge) (now : List (List Pt))
+    → Makes edges outlines es → AddsOutline es outlines left now → Makes edges now left
+makes_added edges outlines es left now made h =
+    let c : List Pt = corners h.vertices in
+    let is : Bool = nat_le 3 (length c) in
+    λ more a. subst (AreOutlines edges) (sym (ap (λ (os : List (List Pt)). os ++ more) h.added ∙ joined_on is c outlines more))
+    (made (cond is (c ∷ more) more) (one_more es h.vertices left c is h.drawn refl refl more a))
+
+pub adds_one : (es : List Edge) (v : List Pt) (left : List Edge) (c k : List Pt) (outlines now : List (List Pt))
+    → IsLoop es v left → c ≡ corners v → k ≡ c → 3 ≤ length c → now ≡ outlines ++ (k ∷ []) → AddsOutline es outlines left now
+adds_one es v left c k outlines now loop h same many is =
+    let test : nat_le 3 (length (corners v)) ≡ true = ap (λ (l : List Pt). nat_le 3 (length l)) (sym h) ∙ le-leb 3 (length c) many in
+    record {
+      vertices = v;
+      drawn = loop;
+      added = is ∙ ap (λ (l : List Pt). outlines ++ (l ∷ [])) (same ∙ h) ∙ ap (λ (b : Bool). outlines ++ cond b (corners v ∷ []) []) (sym test);
+    }
+
+pub adds_nothing : (es : List Edge) (v : List Pt) (left : List Edge) (c : List Pt) (outlines now : List (List Pt))
+    → IsLoop es v left → c ≡ corners v → length c < 3 → now ≡ outlines → AddsOutline es outlines left now
+adds_nothing es v left c outlines now loop h few is =
+    let none : nat_le 3 (length c) ≡ false = false_from_ne_true (nat_le 3 (length c)) (λ e. let many = leb-true 3 (length c) e in omega arith) in
+    let test : nat_le 3 (length (corners v)) ≡ false = ap (λ (l : List Pt). nat_le 3 (length l)) (sym h) ∙ none in
+    record {
+      vertices = v;
+      drawn = loop;
+      added = is ∙ sym (append-nil outlines) ∙ ap (λ (b : Bool). outlines ++ cond b (corners v ∷ []) []) (sym test);
+    }
 
 -- ---- all are drawn
-pub makes_all : (edges : List Edge) (outlines : List (List Pt)) (left : List Edge) → length left ≡ 0 → Makes edges outlines left → AreOutlines edges outlines
-makes_all edges outlines left h made = subst (AreOutlines edges) (append-nil outlines) (made [] (record { loops = []; drawn = empty left h; kept = refl }))
+pub makes_all : (edges : List Edge) (outlines : List (List Pt)) (left : List Edge) → left ≡ [] → Makes edges outlines left → AreOutlines edges outlines
+makes_all edges outlines left h made = subst (AreOutlines edges) (append-nil outlines) (made [] (record { loops = []; drawn = h; kept = refl }))
+
+-- ---- place by place
+-- all edges before a place are taken, and the outlines so far are of their loops
+pub record Drawn (edges : List Edge) (left : Remaining) (outlines : List (List Pt)) (place end : ℕ) : Type 0 where
+  pub made : Makes edges outlines (remaining left)
+  pub order : IsInOrder left
+  pub balanced : IsBalanced (segments (remaining left))
+  pub taken : AllTakenTo left place
+  pub count : length left.edges.items ≡ end
+
+pub none_drawn : (edges : List Edge) (left : Remaining) (outlines : List (List Pt)) (end : ℕ) → outlines ≡ [] → IsInOrder left
+    → IsPermutation edges (remaining left) → IsBalanced (segments edges) → end ≡ length left.edges.items → Drawn edges left outlines 0 end
+none_drawn edges left outlines end none order all balanced count = record {
+  made = subst (λ (os : List (List Pt)). Makes edges os (remaining left)) (sym none) (makes_none edges (remaining left) all);
+  order = order;
+  balanced = balanced_permuted edges (remaining left) all balanced;
+  taken = λ k l. absurd (omega arith);
+  count = sym count;
+}
+
+pub one_drawn : (edges : List Edge) (old new : Remaining) (outlines now : List (List Pt)) (place end : ℕ) → Drawn edges old outlines place end
+    → AddsOutline (remaining old) outlines (remaining new) now → IsInOrder new → IsBalanced (segments (remaining new)) → StayTaken old new → AllTakenTo new (place + 1)
+    → Drawn edges new now (place + 1) end
+one_drawn edges old new outlines now place end d added order balanced stay taken = record {
+  made = makes_added edges outlines (remaining old) (remaining new) now d.made added;
+  order = order;
+  balanced = balanced;
+  taken = taken;
+  count = ap (λ (es : List Edge). length es) stay.edges ∙ d.count;
+}
+
+pub passed_by : (edges : List Edge) (left : Remaining) (outlines : List (List Pt)) (place end : ℕ) → Drawn edges left outlines place end
+    → taken_at left.taken.items place ≡ true → Drawn edges left outlines (place + 1) end
+passed_by edges left outlines place end d here = record {
+  made = d.made;
+  order = d.order;
+  balanced = d.balanced;
+  taken = λ k l. by_place k l (cases_lt k place);
+  count = d.count;
+}
+  where
+    by_place : (k : ℕ) → k < place + 1 → (k < place) ⊎ (place ≤ k) → taken_at left.taken.items k ≡ true
+    by_place k l (inl b) = d.taken k b
+    by_place k l (inr a) = let same : place ≡ k = omega arith in subst (λ (j : ℕ). taken_at left.taken.items j ≡ true) same here
+
+pub all_drawn : (edges : List Edge) (left : Remaining) (outlines : List (List Pt)) (place end : ℕ) → Drawn edges left outlines place end → end ≤ place → AreOutlines edges outlines
+all_drawn edges left outlines place end d h =
+    makes_all edges outlines (remaining left) (all_taken left.taken.items left.edges.items (λ k l. d.taken k (omega (arith, d.count)))) d.made

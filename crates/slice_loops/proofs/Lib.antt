@@ -1,5 +1,6 @@
 pub mod Points
 pub mod Taken
+pub mod Found
 pub mod Closed
 pub mod Ways
 pub mod Joined
@@ -9,4 +10,4 @@ pub mod Straight
 pub mod Parts
 pub mod Least
 pub mod Winding
-pub mod Round
+pub mod Lengths

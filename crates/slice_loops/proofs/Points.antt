@@ -19,7 +19,7 @@ differ_by p q t e h s = true≢false (sym h ∙ e ∙ ap not (ap (same_place p) 
 pub equal_by : (p q : Pt) (t : Bool) → t ≡ not (same_place p q) → t ≡ false → p ≡ q
 equal_by p q t e h = same_place-is p q (not-false (same_place p q) (sym e ∙ h))
 
-point_total : IsTotalOrder point_cmp
+pub point_total : IsTotalOrder point_cmp
 point_total = then_total (on_total (λ (p : Pt). p.y) int_cmp_total) (on_total (λ (p : Pt). p.x) int_cmp_total)
 
 pub edge_total : IsTotalOrder edge_cmp

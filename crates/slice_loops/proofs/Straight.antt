@@ -5,7 +5,7 @@ use lib.Signed.{◌<ℤ◌}
 use Rattle.std.specs.Prelude.{int_lt}
 use Rattle.std.specs.Ordering.{int_eq}
 use Rattle.std.specs.Cmp.{signed_Decides}
-use Rattle.std.proofs.lemmas.Int.{ints, by_lt_z}
+use Rattle.std.proofs.lemmas.Int.{ints}
 use Rattle.scad_base.proofs.Products.{positive_product, zero_factor}
 use Rattle.scad_base.proofs.Tests.{int_lt-true}
 use Rattle.std.proofs.lemmas.Bool.{and_parts}

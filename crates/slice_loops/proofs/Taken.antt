@@ -1,16 +1,19 @@
--- In ascending edges the first is the least, and the first that starts at a point is the least that starts there.
-use Rattle.std.proofs.Common.{◌≡◌, ℕ, zero, suc, ◌<◌, ◌≤◌, false, List, [], ◌∷◌, length, get_or, take, drop, All, sym, ap, ◌∙◌, subst, arith}
-use Rattle.std.specs.Prelude.{remove, IsSortedBy, Option, Some, IfSome}
-use Rattle.std.proofs.lemmas.List.Elements.{All-append, All-take, All-drop, All-cons}
-use Rattle.std.proofs.lemmas.List.Sorted.{sorted_far, IsPermutation-remove, length_permutation}
-use Rattle.scad_geom.specs.declared.point.Pt.{Pt}
+-- Marks tell which edges of a list are taken: one more mark takes one more edge out of those that remain.
+use Rattle.std.proofs.Common.{◌≡◌, ℕ, zero, suc, ◌+◌, ◌<◌, ◌≤◌, ◌⊎◌, inl, inr, Bool, true, false, true≢false, List, [], ◌∷◌, length, get_or, set, replicate, All, refl, sym, ap, ◌∙◌, subst, arith}
+use Rattle.std.specs.Prelude.{IsSortedBy, IsPermutation}
+use Rattle.std.proofs.lemmas.List.{get_or_default, get_or-set_same, length-set}
+use Rattle.std.proofs.lemmas.List.Elements.{All-nil, All-cons}
+use Rattle.std.proofs.lemmas.List.Sorted.{sorted_far, IsPermutation-refl, IsPermutation-trans, IsPermutation-cons, IsPermutation-middle, length_permutation}
+use Rattle.std.proofs.lemmas.Bool.{cases_lt}
 use Rattle.scad_geom.specs.declared.point.Edge.{Edge}
+use Rattle.slice_loops.specs.declared.remaining.Remaining.{Remaining}
 use Rattle.slice_loops.specs.Order.{is_less}
-use Rattle.slice_loops.specs.Drawing.{TakesLeast, TakesLeastFrom}
-use Rattle.slice_loops.specs.Ascending.{IsAscending, IsFirstFrom}
+use Rattle.slice_loops.specs.Drawing.{TakesLeast}
+use Rattle.slice_loops.specs.Ascending.{IsAscending}
+use Rattle.slice_loops.specs.Remaining.{untaken, remaining, taken_at, IsInOrder, IsUntaken, AllTakenTo, Takes, StayTaken}
 use Rattle.slice_loops.proofs.Points.{less_order}
-use Rattle.scad_geom.proofs.Removed.{all_removed}
 
+-- ---- edges in ascending order
 ascending_from : (es : List Edge) → ((i j : ℕ) (d : Edge) → i ≤ j → j < length es → is_less (get_or es j d) (get_or es i d) ≡ false) → IsAscending es
 ascending_from [] h = tt
 ascending_from (e ∷ es) h = (λ k d l. h zero (suc k) d (omega arith) (omega arith), ascending_from es (λ i j d a b. h (suc i) (suc j) d (omega arith) (omega arith)))
@@ -18,49 +21,122 @@ ascending_from (e ∷ es) h = (λ k d l. h zero (suc k) d (omega arith) (omega a
 pub ascending_sorted : (es : List Edge) → IsSortedBy is_less es → IsAscending es
 ascending_sorted es h = ascending_from es (sorted_far is_less less_order es h)
 
-pub ascending_removed : (es : List Edge) (i : ℕ) → IsAscending es → IsAscending (remove es i)
-ascending_removed [] zero h = tt
-ascending_removed [] (suc i) h = tt
-ascending_removed (e ∷ es) zero h = h.1
-ascending_removed (e ∷ es) (suc i) h = (all_removed (λ f. is_less f e ≡ false) es i h.0, ascending_removed es i h.1)
+pub not_less_later : (es : List Edge) (i j : ℕ) (d : Edge) → IsAscending es → i < j → j < length es → is_less (get_or es j d) (get_or es i d) ≡ false
+not_less_later [] i j d up l m = absurd (omega arith)
+not_less_later (e ∷ es) i zero d up l m = absurd (omega arith)
+not_less_later (e ∷ es) zero (suc j) d up l m = up.0 j d (omega arith)
+not_less_later (e ∷ es) (suc i) (suc j) d up l m = not_less_later es i j d up.1 (omega arith) (omega arith)
 
--- before the first that starts at p none starts there, and after it none is less
-least_removed : (p : Pt) (es : List Edge) (i : ℕ) (d : Edge) → IsAscending es → i < length es → ((k : ℕ) (d : Edge) → k < i → (get_or es k d).a ≡ p → ⊥)
-    → All (λ f. f.a ≡ p → is_less f (get_or es i d) ≡ false) (remove es i)
-least_removed p [] i d up l none = absurd (omega arith)
-least_removed p (e ∷ es) zero d up l none = λ k c b s. up.0 k c b
-least_removed p (e ∷ es) (suc i) d up l none =
-    All-cons (λ f. f.a ≡ p → is_less f (get_or es i d) ≡ false) e (remove es i)
-    (λ s. absurd (none zero e (omega arith) s))
-    (least_removed p es i d up.1 (omega arith) (λ k c b s. none (suc k) c (omega arith) s))
+-- ---- the edges that remain
+pub all_untaken : (P : Edge → Type 0) (ts : List Bool) (es : List Edge) → ((k : ℕ) (d : Edge) → k < length es → taken_at ts k ≡ false → P (get_or es k d)) → All P (untaken ts es)
+all_untaken P [] es h = λ k d l. h k d l refl
+all_untaken P (t ∷ ts) [] h = All-nil P
+all_untaken P (true ∷ ts) (e ∷ es) h = all_untaken P ts es (λ k d l f. h (suc k) d (omega arith) f)
+all_untaken P (false ∷ ts) (e ∷ es) h = All-cons P e (untaken ts es) (h zero e (omega arith) refl) (all_untaken P ts es (λ k d l f. h (suc k) d (omega arith) f))
 
-pub takes_from : (p : Pt) (es : List Edge) (i : ℕ) (e : Edge) → IsAscending es → IsFirstFrom p es i → e ≡ get_or es i e → TakesLeastFrom p es e (remove es i)
-takes_from p es i e up f h = record {
-  starts = ap (λ (x : Edge). x.a) h ∙ f.starts e;
-  taken = IsPermutation-remove es i e f.there h;
-  least = subst (λ (x : Edge). All (λ f. f.a ≡ p → is_less f x ≡ false) (remove es i)) (sym h) (least_removed p es i e up f.there f.before);
-}
+pub none_taken : (ts : List Bool) (es : List Edge) → ((k : ℕ) → taken_at ts k ≡ false) → untaken ts es ≡ es
+none_taken [] es h = refl
+none_taken (t ∷ ts) [] h = refl
+none_taken (true ∷ ts) (e ∷ es) h = absurd (true≢false (h zero))
+none_taken (false ∷ ts) (e ∷ es) h = ap (λ (fs : List Edge). e ∷ fs) (none_taken ts es (λ k. h (suc k)))
 
-pub takes_first : (es : List Edge) (e : Edge) → IsAscending es → 0 < length es → e ≡ get_or es 0 e → TakesLeast es e (remove es 0)
-takes_first [] e up l h = absurd (omega arith)
-takes_first (x ∷ xs) e up l h = record {
-  taken = IsPermutation-remove (x ∷ xs) 0 e l h;
-  least = subst (λ (y : Edge). All (λ f. is_less f y ≡ false) xs) (sym h) up.0;
-}
+pub no_marks : (n k : ℕ) → taken_at (replicate n false) k ≡ false
+no_marks zero k = refl
+no_marks (suc n) zero = refl
+no_marks (suc n) (suc k) = no_marks n k
 
--- what is taken at the place that was found
-pub takes_found : (p : Pt) (es fs : List Edge) (r : Option ℕ) (i : ℕ) (e : Edge) (left : List Edge)
-    → IsAscending es → fs ≡ es → IfSome r (λ k. IsFirstFrom p fs k) → r ≡ Some i → e ≡ get_or es i e → left ≡ remove es i → TakesLeastFrom p es e left
-takes_found p es fs r i e left up same found some here rest =
-    let at : IfSome (Some i) (λ k. IsFirstFrom p fs k) = subst (λ (o : Option ℕ). IfSome o (λ k. IsFirstFrom p fs k)) some found in
-    let first : IsFirstFrom p es i = subst (λ (l : List Edge). IsFirstFrom p l i) same at in
-    subst (TakesLeastFrom p es e) (sym rest) (takes_from p es i e up first here)
+pub all_taken : (ts : List Bool) (es : List Edge) → ((k : ℕ) → k < length es → taken_at ts k ≡ true) → untaken ts es ≡ []
+all_taken [] [] h = refl
+all_taken [] (e ∷ es) h = absurd (true≢false (sym (h zero (omega arith))))
+all_taken (t ∷ ts) [] h = refl
+all_taken (true ∷ ts) (e ∷ es) h = all_taken ts es (λ k l. h (suc k) (omega arith))
+all_taken (false ∷ ts) (e ∷ es) h = absurd (true≢false (sym (h zero (omega arith))))
 
-pub ascending_left : (es : List Edge) (i : ℕ) (left : List Edge) → IsAscending es → left ≡ remove es i → IsAscending left
-ascending_left es i left up rest = subst IsAscending (sym rest) (ascending_removed es i up)
+one_out : (ts : List Bool) (es : List Edge) (k : ℕ) (d : Edge) → k < length ts → k < length es → taken_at ts k ≡ false
+    → IsPermutation (untaken ts es) (get_or es k d ∷ untaken (set ts k true) es)
+one_out [] es k d l m f = absurd (omega arith)
+one_out (t ∷ ts) [] k d l m f = absurd (omega arith)
+one_out (true ∷ ts) (e ∷ es) zero d l m f = absurd (true≢false f)
+one_out (false ∷ ts) (e ∷ es) zero d l m f = IsPermutation-refl (e ∷ untaken ts es)
+one_out (true ∷ ts) (e ∷ es) (suc k) d l m f = one_out ts es k d (omega arith) (omega arith) f
+one_out (false ∷ ts) (e ∷ es) (suc k) d l m f =
+    let g : Edge = get_or es k d in
+    let rest : List Edge = untaken (set ts k true) es in
+    IsPermutation-trans (e ∷ untaken ts es) (e ∷ (g ∷ rest)) (g ∷ (e ∷ rest))
+    (IsPermutation-cons e (untaken ts es) (g ∷ rest) (one_out ts es k d (omega arith) (omega arith) f))
+    (IsPermutation-middle (e ∷ []) g rest)
 
-pub takes_start : (es : List Edge) (e : Edge) (left : List Edge) → IsAscending es → 0 < length es → e ≡ get_or es 0 e → left ≡ remove es 0 → TakesLeast es e left
-takes_start es e left up some here rest = subst (TakesLeast es e) (sym rest) (takes_first es e up some here)
+-- ---- an edge is taken
+mark_stays : (ts : List Bool) (place k : ℕ) → taken_at ts k ≡ true → taken_at (set ts place true) k ≡ true
+mark_stays [] place k h = h
+mark_stays (t ∷ ts) zero zero h = refl
+mark_stays (t ∷ ts) zero (suc k) h = h
+mark_stays (t ∷ ts) (suc place) zero h = h
+mark_stays (t ∷ ts) (suc place) (suc k) h = mark_stays ts place k h
 
-pub fewer_left : (es : List Edge) (e : Edge) (left : List Edge) → TakesLeast es e left → length left < length es
-fewer_left es e left t = let n = length_permutation es (e ∷ left) t.taken in omega arith
+module _ (old : Remaining) (place : ℕ) (e : Edge) (new : Remaining) (order : IsInOrder old) (free : IsUntaken old place) (t : Takes old place e new) where
+  here : place < length old.taken.items
+  here = omega (arith, free.there, order.marks)
+
+  pub still : StayTaken old new
+  still = record {
+    edges = t.edges;
+    taken = λ k h. ap (λ (ts : List Bool). taken_at ts k) t.taken ∙ mark_stays old.taken.items place k h;
+  }
+
+  pub now_taken : taken_at new.taken.items place ≡ true
+  now_taken = ap (λ (ts : List Bool). taken_at ts place) t.taken ∙ get_or-set_same old.taken.items place true false here
+
+  pub others_as_before : (k : ℕ) → taken_at new.taken.items k ≡ false → (k ≡ place → ⊥) × (taken_at old.taken.items k ≡ false)
+  others_as_before k h = (λ same. true≢false (sym now_taken ∙ ap (taken_at new.taken.items) (sym same) ∙ h), by_test (taken_at old.taken.items k) refl)
+    where
+      by_test : (b : Bool) → taken_at old.taken.items k ≡ b → taken_at old.taken.items k ≡ false
+      by_test false s = s
+      by_test true s = absurd (true≢false (sym (still.taken k s) ∙ h))
+
+  pub taken_out : IsPermutation (remaining old) (e ∷ remaining new)
+  taken_out =
+      let one = one_out old.taken.items old.edges.items place e here free.there free.free in
+      subst (λ (f : Edge). IsPermutation (remaining old) (f ∷ remaining new)) (sym t.edge)
+      (subst (λ (fs : List Edge). IsPermutation (remaining old) (get_or old.edges.items place e ∷ untaken new.taken.items fs)) (sym t.edges)
+      (subst (λ (ts : List Bool). IsPermutation (remaining old) (get_or old.edges.items place e ∷ untaken ts old.edges.items)) (sym t.taken) one))
+
+  pub in_order : IsInOrder new
+  in_order = record {
+    ascending = subst IsAscending (sym t.edges) order.ascending;
+    marks = omega (arith, order.marks, ap (λ (ts : List Bool). length ts) t.taken, length-set old.taken.items place true, ap (λ (fs : List Edge). length fs) t.edges);
+    notes = omega (arith, order.notes, ap (λ (ns : List ℕ). length ns) t.notes, ap (λ (fs : List Edge). length fs) t.edges);
+    passed = λ g k l m. still.taken k (order.passed g k l (subst (λ (ns : List ℕ). k < get_or ns g 0) t.notes m));
+  }
+
+  pub others : (P : Edge → Type 0) → ((k : ℕ) (d : Edge) → k < length old.edges.items → (k ≡ place → ⊥) → taken_at old.taken.items k ≡ false → P (get_or old.edges.items k d)) → All P (remaining new)
+  others P h =
+      subst (λ (fs : List Edge). All P (untaken new.taken.items fs)) (sym t.edges)
+      (all_untaken P new.taken.items old.edges.items (λ k d l f. let o = others_as_before k f in h k d l o.0 o.1))
+
+  -- no edge that remains is less than the first
+  pub least : AllTakenTo old place → TakesLeast (remaining old) e (remaining new)
+  least before = record {
+    taken = taken_out;
+    least = others (λ f. is_less f e ≡ false) (λ k d l other f. by_place k d l other f (cases_lt k place));
+  }
+    where
+      by_place : (k : ℕ) (d : Edge) → k < length old.edges.items → (k ≡ place → ⊥) → taken_at old.taken.items k ≡ false → (k < place) ⊎ (place ≤ k) → is_less (get_or old.edges.items k d) e ≡ false
+      by_place k d l other f (inl b) = absurd (true≢false (sym (before k b) ∙ f))
+      by_place k d l other f (inr a) =
+          let later : place < k = grind arith in
+          subst (λ (g : Edge). is_less (get_or old.edges.items k d) g ≡ false) (get_or_default old.edges.items place d e free.there ∙ sym t.edge)
+          (not_less_later old.edges.items place k d order.ascending later l)
+
+  pub taken_so_far : AllTakenTo old place → AllTakenTo new (place + 1)
+  taken_so_far before k l = by_place (cases_lt k place)
+    where
+      by_place : (k < place) ⊎ (place ≤ k) → taken_at new.taken.items k ≡ true
+      by_place (inl b) = still.taken k (before k b)
+      by_place (inr a) = let same : place ≡ k = omega arith in subst (λ (j : ℕ). taken_at new.taken.items j ≡ true) same now_taken
+
+pub still_twice : (old mid new : Remaining) → StayTaken old mid → StayTaken mid new → StayTaken old new
+still_twice old mid new a b = record { edges = b.edges ∙ a.edges; taken = λ k h. b.taken k (a.taken k h) }
+
+pub fewer_left : (es : List Edge) (e : Edge) (left : List Edge) → IsPermutation es (e ∷ left) → length left < length es
+fewer_left es e left m = let n = length_permutation es (e ∷ left) m in omega arith

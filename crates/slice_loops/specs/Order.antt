@@ -16,3 +16,7 @@ edge_cmp e f = ordering_then (point_cmp e.a f.a) (point_cmp e.b f.b)
 -- e is less than f
 abbrev pub is_less : Edge → Edge → Bool
 is_less e f = is_lt (edge_cmp e f)
+
+-- e starts before a point
+abbrev pub starts_before : Pt → Edge → Bool
+starts_before p e = is_lt (point_cmp e.a p)

@@ -1,31 +1,33 @@
 //! Loops drawn from edges.
-ghost use Rattle.std.specs.Prelude.{◌<◌, length, IfOk, OnOk};
+ghost use Rattle.std.specs.Prelude.{◌+◌, IfOk, OnOk};
 ghost use Rattle.scad_geom.specs.Segment.{segments};
 ghost use Rattle.scad_geom.specs.Balance.{IsBalanced};
 ghost use Rattle.slice_loops.specs.Drawing.{IsLoop};
-ghost use Rattle.slice_loops.specs.Ascending.{IsAscending};
+ghost use Rattle.slice_loops.specs.Remaining.{remaining, IsInOrder, IsUntaken, AllTakenTo, StayTaken};
 
-use crate::ascending::take_from;
-use scad_geom::{Edge, Pt};
+use crate::remaining::Remaining;
+use scad_geom::Pt;
 use std::alloc::{AllocError, Global};
 
-/// Takes a loop out of edges in ascending order, and gives its vertices: it starts with the least edge, and at each point goes
-/// on with the least edge that starts there, until it is back at its start.
-pub(crate) fn draw(alloc: Global, left: &mut Vec<Edge>) -> Result<Vec<Pt>, AllocError>
-    requires some { 0 < length left.old.items }
-    requires ascending { IsAscending left.old.items }
-    requires balanced { IsBalanced (segments left.old.items) }
-    ensures drawn { IfOk result (λ v. IsLoop left.old.items v.items left.new.items) }
-    ensures ascending { OnOk result (IsAscending left.new.items) }
-    ensures balanced { OnOk result (IsBalanced (segments left.new.items)) }
-    ensures fewer { OnOk result (length left.new.items < length left.old.items) }
+/// Takes a loop out of the remaining edges, of which the least stands at a place, and gives its vertices: it starts with the
+/// least edge, and at each point goes on with the least edge that starts there, until it is back at its start.
+pub(crate) fn draw(alloc: Global, left: &mut Remaining, place: usize) -> Result<Vec<Pt>, AllocError>
+    requires order { IsInOrder left.old }
+    requires there { IsUntaken left.old place }
+    requires least { AllTakenTo left.old place }
+    requires balanced { IsBalanced (segments (remaining left.old)) }
+    ensures drawn { IfOk result (λ v. IsLoop (remaining left.old) v.items (remaining left.new)) }
+    ensures order { OnOk result (IsInOrder left.new) }
+    ensures balanced { OnOk result (IsBalanced (segments (remaining left.new))) }
+    ensures taken { OnOk result (StayTaken left.old left.new) }
+    ensures least { OnOk result (AllTakenTo left.new (place + 1)) }
 {
-    let first = left.remove(0);
+    let first = left.take(place);
     let mut vertices = Vec::new(alloc);
     vertices.push(first.a)?;
     let mut at = first.b;
     'way: while at != first.a {
-        let next = take_from(left, at);
+        let next = left.take_from(at);
         vertices.push(at)?;
         at = next.b;
     }

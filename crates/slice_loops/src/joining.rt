@@ -1,12 +1,13 @@
 //! The outlines that edges make.
-ghost use Rattle.std.specs.Prelude.{IfOk};
+ghost use Rattle.std.specs.Prelude.{◌+◌, IfOk, OnOk};
 ghost use Rattle.scad_geom.specs.Segment.{segments};
 ghost use Rattle.scad_geom.specs.Balance.{IsBalanced};
-ghost use Rattle.slice_loops.specs.Outlines.{AreOutlines};
+ghost use Rattle.slice_loops.specs.Outlines.{AreOutlines, AddsOutline};
+ghost use Rattle.slice_loops.specs.Remaining.{remaining, IsInOrder, IsUntaken, AllTakenTo, StayTaken};
 
-use crate::ascending::sort;
 use crate::corners::corners;
 use crate::drawing::draw;
+use crate::remaining::Remaining;
 use scad_geom::{Edge, Loop};
 use std::alloc::{AllocError, Global};
 
@@ -18,15 +19,37 @@ pub fn join(alloc: Global, edges: &[Edge]) -> Result<Vec<Loop>, AllocError>
     requires balanced { IsBalanced (segments edges.now) }
     ensures { IfOk result (λ v. AreOutlines edges.now v.items) }
 {
-    let mut left = Vec::from_slice(alloc, edges)?;
-    sort(&mut left);
+    let mut left = Remaining::new(alloc, edges)?;
     let mut outlines = Vec::new(alloc);
-    'loops: while !left.is_empty() {
-        let vertices = draw(alloc, &mut left)?;
-        let corners = corners(alloc, &vertices)?;
-        if corners.len() >= 3 {
-            outlines.push(Loop::from_vec(corners))?;
+    'places: for place in 0..left.len() {
+        if !left.is_taken(place) {
+            push_outline(alloc, &mut left, place, &mut outlines)?;
         }
     }
     Ok(outlines)
+}
+
+// Draws the loop that begins at a place, and adds its outline where one is left of it.
+fn push_outline(
+    alloc: Global,
+    left: &mut Remaining,
+    place: usize,
+    outlines: &mut Vec<Loop>,
+) -> Result<(), AllocError>
+    requires order { IsInOrder left.old }
+    requires there { IsUntaken left.old place }
+    requires least { AllTakenTo left.old place }
+    requires balanced { IsBalanced (segments (remaining left.old)) }
+    ensures added { OnOk result (AddsOutline (remaining left.old) outlines.old.items (remaining left.new) outlines.new.items) }
+    ensures order { OnOk result (IsInOrder left.new) }
+    ensures balanced { OnOk result (IsBalanced (segments (remaining left.new))) }
+    ensures taken { OnOk result (StayTaken left.old left.new) }
+    ensures least { OnOk result (AllTakenTo left.new (place + 1)) }
+{
+    let vertices = draw(alloc, left, place)?;
+    let corners = corners(alloc, &vertices)?;
+    if corners.len() >= 3 {
+        outlines.push(Loop::from_vec(corners))?;
+    }
+    Ok(())
 }

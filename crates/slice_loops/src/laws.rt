@@ -1,5 +1,6 @@
 //! Laws of the definitions, each carried by the contract of a function that does nothing.
 ghost use Rattle.slice_loops.specs.Laws.{SidesAreEdges, LoopsAreOne, OutlinesAreOne, OutlinesKeepWinding};
+ghost use Rattle.slice_loops.specs.Lengths.{SidesHaveLengths};
 
 /// The sides of the loops that are drawn from edges are these edges in another order.
 #[tactic(auto, using(crate::proofs::Rearranged::sides_are_edges))]
@@ -23,15 +24,7 @@ pub fn outlines_keep_winding()
     ensures { OutlinesKeepWinding }
 {}
 
-#[cfg(test)]
-mod tests {
-    use super::*;
-
-    #[test]
-    fn laws_are_called() {
-        sides_are_edges();
-        loops_are_one();
-        outlines_are_one();
-        outlines_keep_winding();
-    }
-}
+/// Where each edge has a length, so has each side of the outlines that they make.
+pub fn sides_have_lengths()
+    ensures { SidesHaveLengths }
+{}

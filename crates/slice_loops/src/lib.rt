@@ -9,7 +9,6 @@ mod corners;
 mod drawing;
 mod joining;
 pub mod laws;
-#[cfg(test)]
-mod tests;
+mod remaining;
 
 pub use joining::join;

@@ -18,7 +18,8 @@ use Rattle.slice_section.specs.Section.{nearest_point, rounded}
 use Rattle.slice_section.specs.Through.{IsThrough}
 
 -- what is found passes the test, and any test that all elements pass
-found_passes : {X : Type 0} (p q : X → Bool) (xs : List X) (x : X) → list_all q xs ≡ true → find p xs ≡ Some x → (p x ≡ true) × (q x ≡ true)
+found_passes : {X : Type 0} (p q : X → Bool) (xs : List X) (x : X) → list_all q xs ≡ true → find p xs ≡ Some x
+    → (p x ≡ true) × (q x ≡ true)
 found_passes p q [] x all e = absurd (cc)
 found_passes p q (y ∷ ys) x all e =
     let here = and_parts (q y) (list_all q ys) all in
@@ -34,12 +35,14 @@ sides_in_range : (t : Triangle) → is_triangle_in_range t ≡ true → list_all
 sides_in_range t all =
     let a = and_parts (is_in_range t.a) (is_in_range t.b && is_in_range t.c) all in
     let bc = and_parts (is_in_range t.b) (is_in_range t.c) a.1 in
-    ap₂ (λ u v. u && v) (ap₂ (λ u v. u && v) a.0 bc.0) (ap₂ (λ u v. u && v) (ap₂ (λ u v. u && v) bc.0 bc.1) (ap₂ (λ u v. u && v) (ap₂ (λ u v. u && v) bc.1 a.0) refl))
+    ap₂ (λ u v. u && v) (ap₂ (λ u v. u && v) a.0 bc.0) (ap₂ (λ u v. u && v) (ap₂ (λ u v. u && v) bc.0 bc.1)
+    (ap₂ (λ u v. u && v) (ap₂ (λ u v. u && v) bc.1 a.0) refl))
 
 within : (z : ℤ) → nat_le (unsigned_abs z) point_limit ≡ true → unsigned_abs z ≤ point_limit
 within z e = grind (arith, nat_tests)
 
-through : (plane : ℤ) (p q : Pt3) → is_in_range p ≡ true → is_in_range q ≡ true → is_below plane p.z ≡ true → is_above plane q.z ≡ true → IsThrough plane p q
+through : (plane : ℤ) (p q : Pt3) → is_in_range p ≡ true → is_in_range q ≡ true → is_below plane p.z ≡ true
+    → is_above plane q.z ≡ true → IsThrough plane p q
 through plane p q at_p at_q below above =
     let px = and_parts (nat_le (unsigned_abs p.x) point_limit) _ at_p in
     let pyz = and_parts (nat_le (unsigned_abs p.y) point_limit) (nat_le (unsigned_abs p.z) point_limit) px.1 in
@@ -58,14 +61,16 @@ through plane p q at_p at_q below above =
       };
     }
 
-pub falls_through : (plane : ℤ) (t : Triangle) (s : Side) → is_triangle_in_range t ≡ true → find (falls plane) (sides_of t) ≡ Some s → IsThrough plane s.to s.from
+pub falls_through : (plane : ℤ) (t : Triangle) (s : Side) → is_triangle_in_range t ≡ true
+    → find (falls plane) (sides_of t) ≡ Some s → IsThrough plane s.to s.from
 falls_through plane t s all e =
     let told = found_passes (falls plane) ends_in_range (sides_of t) s (sides_in_range t all) e in
     let ends = and_parts (is_in_range s.from) (is_in_range s.to) told.1 in
     let passes = and_parts (is_above plane s.from.z) (is_below plane s.to.z) told.0 in
     through plane s.to s.from ends.1 ends.0 passes.1 passes.0
 
-pub rises_through : (plane : ℤ) (t : Triangle) (s : Side) → is_triangle_in_range t ≡ true → find (rises plane) (sides_of t) ≡ Some s → IsThrough plane s.from s.to
+pub rises_through : (plane : ℤ) (t : Triangle) (s : Side) → is_triangle_in_range t ≡ true
+    → find (rises plane) (sides_of t) ≡ Some s → IsThrough plane s.from s.to
 rises_through plane t s all e =
     let told = found_passes (rises plane) ends_in_range (sides_of t) s (sides_in_range t all) e in
     let ends = and_parts (is_in_range s.from) (is_in_range s.to) told.1 in
@@ -73,19 +78,30 @@ rises_through plane t s all e =
     through plane s.from s.to ends.0 ends.1 passes.0 passes.1
 
 -- the edge of a triangle by the sides that were found
-pub edge-found : (plane : ℤ) (t : Triangle) (f r : Side) → Some f ≡ find (falls plane) (sides_of t) → Some r ≡ find (rises plane) (sides_of t) → Some (record { a = nearest_point (point_between f.to f.from plane); b = nearest_point (point_between r.from r.to plane) }) ≡ option_map rounded (cut_of plane t)
+pub edge-found : (plane : ℤ) (t : Triangle) (f r : Side) → Some f ≡ find (falls plane) (sides_of t)
+    → Some r ≡ find (rises plane) (sides_of t)
+    → Some (record {
+      a = nearest_point (point_between f.to f.from plane);
+      b = nearest_point
+          (point_between r.from r.to plane);
+    }) ≡ option_map rounded (cut_of plane t)
 edge-found plane t f r falling rising = ap₂ (λ a b. option_map rounded (cut_between plane a b)) falling rising
 
-pub edge-not_falling : (plane : ℤ) (t : Triangle) → None ≡ find (falls plane) (sides_of t) → None ≡ option_map rounded (cut_of plane t)
-edge-not_falling plane t none = ap (λ a. option_map rounded (cut_between plane a (find (rises plane) (sides_of t)))) none
+pub edge-not_falling : (plane : ℤ) (t : Triangle) → None ≡ find (falls plane) (sides_of t)
+    → None ≡ option_map rounded (cut_of plane t)
+edge-not_falling plane t none = ap (λ a. option_map rounded (cut_between plane a (find (rises plane) (sides_of t))))
+    none
 
-pub edge-not_rising : (plane : ℤ) (t : Triangle) (f : Side) → Some f ≡ find (falls plane) (sides_of t) → None ≡ find (rises plane) (sides_of t) → None ≡ option_map rounded (cut_of plane t)
+pub edge-not_rising : (plane : ℤ) (t : Triangle) (f : Side) → Some f ≡ find (falls plane) (sides_of t)
+    → None ≡ find (rises plane) (sides_of t) → None ≡ option_map rounded (cut_of plane t)
 edge-not_rising plane t f falling none = ap₂ (λ a b. option_map rounded (cut_between plane a b)) falling none
 
-pub falls_through_if : (plane : ℤ) (t : Triangle) (o : Option Side) → is_triangle_in_range t ≡ true → o ≡ find (falls plane) (sides_of t) → IfSome o (λ s. IsThrough plane s.to s.from)
+pub falls_through_if : (plane : ℤ) (t : Triangle) (o : Option Side) → is_triangle_in_range t ≡ true
+    → o ≡ find (falls plane) (sides_of t) → IfSome o (λ s. IsThrough plane s.to s.from)
 falls_through_if plane t None all e = tt
 falls_through_if plane t (Some s) all e = falls_through plane t s all (sym e)
 
-pub rises_through_if : (plane : ℤ) (t : Triangle) (o : Option Side) → is_triangle_in_range t ≡ true → o ≡ find (rises plane) (sides_of t) → IfSome o (λ s. IsThrough plane s.from s.to)
+pub rises_through_if : (plane : ℤ) (t : Triangle) (o : Option Side) → is_triangle_in_range t ≡ true
+    → o ≡ find (rises plane) (sides_of t) → IfSome o (λ s. IsThrough plane s.from s.to)
 rises_through_if plane t None all e = tt
 rises_through_if plane t (Some s) all e = rises_through plane t s all (sym e)

@@ -9,8 +9,6 @@ mod exact;
 mod inside;
 mod plane;
 mod sections;
-#[cfg(test)]
-mod tests;
 
 pub use inside::contains;
 pub use sections::section;

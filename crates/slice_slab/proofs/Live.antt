@@ -27,7 +27,8 @@ pub record IsLive (es : List LeafEdge) (l u : Level) (k : ℕ) : Type 0 where
   pub there : k < length es
   pub reaches : Reaches (edge_at es k) l u
 
-live_from : (es all : List LeafEdge) (l u : Level) (k : ℕ) → ((i : ℕ) → i < length es → (k + i < length all) × (get_or all (k + i) no_edge ≡ get_or es i no_edge)) → AllByRecursion (IsLive all l u) (reaching k es l u)
+live_from : (es all : List LeafEdge) (l u : Level) (k : ℕ) → ((i : ℕ) → i < length es → (k + i < length all)
+    × (get_or all (k + i) no_edge ≡ get_or es i no_edge)) → AllByRecursion (IsLive all l u) (reaching k es l u)
 live_from [] all l u k h = tt
 live_from (e ∷ es) all l u k h =
     let r : AllByRecursion (IsLive all l u) (reaching (k + 1) es l u) = live_from es all l u (k + 1)
@@ -39,14 +40,22 @@ live_from (e ∷ es) all l u k h =
     by_test true q r =
         let t = h zero (omega arith) in
         let z : k + zero ≡ k = omega arith in
-        let t' = rw z at t in
-        (record { there = t'.0; reaches = subst (λ (e : LeafEdge). Reaches e.edge l u) (sym t'.1) (reaches_is e.edge l u q) }, r)
+        let t' = rw z at t in (
+          record {
+            there = t'.0;
+            reaches = subst (λ (e : LeafEdge). Reaches e.edge l u) (sym t'.1)
+                (reaches_is e.edge l u q);
+          },
+          r,
+        )
     by_test false q r = r
 
 pub live_reaching : (es : List LeafEdge) (l u : Level) → AllByRecursion (IsLive es l u) (reaching 0 es l u)
 live_reaching es l u = live_from es es l u 0 (λ i o. let z : 0 + i ≡ i = omega arith in rw z (o, refl))
 
-pub live_bundles : (es : List LeafEdge) (l u : Level) (bs : List (List ℕ)) → AreBundles es l u bs → AllByRecursion (IsLive es l u) (concat bs)
+pub live_bundles : (es : List LeafEdge) (l u : Level) (bs : List (List ℕ)) → AreBundles es l u bs
+    → AllByRecursion (IsLive es l u) (concat bs)
 live_bundles es l u bs b =
     let P : ℕ → Type 0 = IsLive es l u in
-    recursion_from_All P (concat bs) (All-permutation P (reaching 0 es l u) (concat bs) b.members (All-from_recursion P (reaching 0 es l u) (live_reaching es l u)))
+    recursion_from_All P (concat bs) (All-permutation P (reaching 0 es l u) (concat bs) b.members
+    (All-from_recursion P (reaching 0 es l u) (live_reaching es l u)))

@@ -17,35 +17,24 @@ impl Model for Bundle {
 }
 
 impl Bundle {
+    /// The bundle of the edges' numbers, without taking memory.
     pub fn from_vec(edges: Vec<u32>) -> Self
         ensures { result ≡ edges.items }
     {
         Bundle { edges }
     }
 
+    /// The numbers, without taking memory.
     pub fn into_vec(self) -> Vec<u32>
         ensures { result.items ≡ self }
     {
         self.edges
     }
 
+    /// The numbers.
     pub fn as_slice(&self) -> &[u32]
         ensures { result.now ≡ self.now }
     {
         self.edges.as_slice()
-    }
-}
-
-#[cfg(test)]
-mod tests {
-    use super::*;
-    use std::test::Fail;
-
-    #[test]
-    fn numbers_come_back(rt: HostRuntime) -> Result<(), Fail> {
-        let bundle = Bundle::from_vec(Vec::from_slice(rt.alloc(), &[1, 3])?);
-        assert_eq!(rt; bundle.as_slice(), [1, 3].as_slice());
-        assert_eq!(rt; bundle.into_vec().as_slice(), [1, 3].as_slice());
-        Ok(())
     }
 }

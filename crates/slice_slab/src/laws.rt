@@ -8,13 +8,3 @@ ghost use Rattle.slice_slab.specs.KeptOrder.{BundlesKeepOrder};
 pub fn bundles_keep_order()
     ensures { BundlesKeepOrder }
 {}
-
-#[cfg(test)]
-mod tests {
-    use super::*;
-
-    #[test]
-    fn laws_are_called() {
-        bundles_keep_order();
-    }
-}

@@ -10,7 +10,6 @@ use Rattle.std.proofs.lemmas.List.Elements.{All-contains, All-get_or, All-from_r
 use Rattle.std.proofs.lemmas.List.Sorted.{Contains-permutation, IsPermutation-sym}
 use Rattle.scad_geom.specs.declared.level.Level.{Level}
 use Rattle.scad_geom.specs.Point.{Point, is_same_point}
-use Rattle.scad_geom.specs.Level.{IsAtMost}
 use Rattle.scad_geom.proofs.Points.{same_height, same_across}
 use Rattle.winding_laws.specs.Nearness.{IsProper}
 use Rattle.winding_laws.proofs.Sameness.{are_same, same_by, are_same_turned}

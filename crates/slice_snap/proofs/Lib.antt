@@ -4,8 +4,9 @@ pub mod Ends
 pub mod Ways
 pub mod SameSpots
 pub mod Opposite
+pub mod SideBySide
 pub mod Rounded
-pub mod Joined
+pub mod Linked
 pub mod Stuck
 pub mod Pairs
 pub mod Balanced
@@ -15,5 +16,4 @@ pub mod SamePieces
 pub mod Courses
 pub mod TwoPairs
 pub mod OneMerging
-pub mod WholeLevels
 mod Examples

@@ -1,11 +1,9 @@
 -- Joining one pair of pieces after another.
-use Rattle.std.proofs.Common.{◌≡◌, ℕ, suc, ◌+◌, ◌-◌, ◌*◌, ◌<◌, ◌≤◌, inl, inr, List, [], ◌∷◌, All, length, get_or, sym, ◌∙◌, subst, arith}
+use Rattle.std.proofs.Common.{◌≡◌, ℕ, ◌<◌, List, [], ◌∷◌, All, length, get_or, sym, ◌∙◌, subst}
 use Rattle.std.specs.Prelude.{IsPermutation}
 use Rattle.std.specs.List.{AllByRecursion}
-use Rattle.std.proofs.lemmas.Bool.{cases_lt}
-use Rattle.std.proofs.lemmas.List.{get_or_default}
 use Rattle.std.proofs.lemmas.List.Elements.{All-cons, All-head, All-tail, All-weaker, All-get_or, All-from_recursion, recursion_from_All}
-use Rattle.std.proofs.lemmas.List.Sorted.{All-permutation, IsPermutation-sym, IsPermutation-refl, IsPermutation-trans, length_permutation}
+use Rattle.std.proofs.lemmas.List.Sorted.{All-permutation, IsPermutation-sym, IsPermutation-trans}
 use Rattle.scad_geom.specs.Point.{Point}
 use Rattle.scad_geom.specs.Balance.{starts_at, ends_at}
 use Rattle.scad_geom.specs.Limits.{coordinate_limit}
@@ -14,9 +12,8 @@ use Rattle.slice_snap.specs.declared.piece.Piece.{Piece}
 use Rattle.slice_snap.specs.Spots.{point_of}
 use Rattle.slice_snap.specs.Pieces.{ends_of, ways_of, HaveOneLevel, IsPieceWithin}
 use Rattle.slice_snap.specs.Merging.{joined, MeetAlone, AreMerged, all_joined, two_join}
-use Rattle.slice_snap.specs.Joining.{AreOfOneLevel, IsComparable, GoesOn, IsPassedOnce, IsStuck, IsNext, IsJoint, IsJoined}
-use Rattle.slice_snap.proofs.Stuck.{starts_permuted, ends_permuted, stays_stuck, none_meet_alone}
-use Rattle.slice_snap.proofs.SameSpots.{divisor_above}
+use Rattle.slice_snap.specs.Joining.{AreOfOneLevel, IsComparable}
+use Rattle.slice_snap.proofs.Stuck.{starts_permuted, ends_permuted}
 
 -- ---- what holds of all ends holds of both ends of each piece
 both_ends : (P : Spot → Type 0) (qs : List Piece) → AllByRecursion P (ends_of qs) → AllByRecursion (λ q. P q.from × P q.to) qs
@@ -58,7 +55,7 @@ module _ (old new : List Piece) (f s : Piece) (others : List Piece) (m : MeetAlo
       let k = kept (λ q. P q.from × P q.to) (of_pieces P old h) in
       of_ends P new (renewed (λ q. P q.from × P q.to) (k.0.0, k.1.1) k.2)
 
-  kept_within : All (IsPieceWithin coordinate_limit) old → All (IsPieceWithin coordinate_limit) new
+  pub kept_within : All (IsPieceWithin coordinate_limit) old → All (IsPieceWithin coordinate_limit) new
   kept_within h =
       let k = kept (IsPieceWithin coordinate_limit) h in
       renewed (IsPieceWithin coordinate_limit) (record { from = k.0.from; to = k.1.to }) k.2
@@ -90,82 +87,6 @@ permuted_merged qs rs merged p (all_joined none m) =
     all_joined (λ f s others t. none f s others (meet_permuted qs rs f s others p t)) (IsPermutation-trans rs qs merged (IsPermutation-sym qs rs p) m)
 permuted_merged qs rs merged p (two_join f s others m a) = two_join f s others (meet_permuted rs qs f s others (IsPermutation-sym qs rs p) m) a
 
--- ---- the loop
--- `left` came of the pieces by joining, and those before i go on nowhere
-pub record Joins (pieces left : List Piece) (i : ℕ) : Type 0 where
-  pub on : (merged : List Piece) → AreMerged left merged → AreMerged pieces merged
-  pub within : All (IsPieceWithin coordinate_limit) left
-  pub levels : HaveOneLevel left
-  pub stuck : (k : ℕ) (d : Piece) → k < i → IsStuck left (get_or left k d)
-  pub inside : i ≤ length left
-
-pub joins_none : (pieces left : List Piece) → left ≡ pieces → All (IsPieceWithin coordinate_limit) pieces → HaveOneLevel pieces → Joins pieces left 0
-joins_none pieces left e w h =
-    subst (λ (l : List Piece). Joins pieces l 0) (sym e)
-    (record { on = λ merged a. a; within = w; levels = h; stuck = λ k d l. absurd (omega arith); inside = omega arith })
-
-pub joint_at : (pieces : List Piece) (i j : ℕ) (d : Piece) → i < length pieces → IsNext (get_or pieces i d) pieces j → IsPassedOnce pieces (get_or pieces i d).to → IsJoint pieces i j
-joint_at pieces i j d l n p = record {
-  first = l;
-  second = n.there;
-  on = λ e f. subst (λ (q : Piece). GoesOn q (get_or pieces j f)) (get_or_default pieces i d e l) (n.on f);
-  passed = λ e. subst (λ (q : Piece). IsPassedOnce pieces q.to) (get_or_default pieces i d e l) p;
-}
-
-pub joins_two : (pieces old new : List Piece) (i j at : ℕ) → Joins pieces old i → i < length old → IsJoined old i j new at → Joins pieces new at
-joins_two pieces old new i j at h l t =
-    let one : Piece = joined t.first t.second in
-    let w : All (IsPieceWithin coordinate_limit) old = h.within in
-    let k = kept old new t.first t.second t.others t.meet t.replaced (IsPieceWithin coordinate_limit) w in
-    let now = kept_within old new t.first t.second t.others t.meet t.replaced w in
-    record {
-      on = λ merged a. h.on merged (two_join t.first t.second t.others t.meet (permuted_merged new (one ∷ t.others) merged t.replaced a));
-      within = now;
-      levels = kept_levels old new t.first t.second t.others t.meet t.replaced h.levels;
-      stuck = λ o d b.
-          let from = t.before o d b in
-          let q : Piece = get_or new o d in
-          let was : IsStuck old q = subst (IsStuck old) (sym from.2) (h.stuck from.0 d from.1) in
-          let inside : o < length new = omega (arith, b, t.there) in
-          let own : IsPieceWithin coordinate_limit q = All-get_or (IsPieceWithin coordinate_limit) new o d inside now in
-          stays_stuck old new t.first t.second t.others t.meet t.replaced q
-          (divisor_above coordinate_limit q.to own.to) (divisor_above coordinate_limit t.first.to k.0.to) (divisor_above coordinate_limit t.second.from k.1.from) was;
-      inside = omega (arith, t.there);
-    }
-
-pub joins_no_more : (pieces left : List Piece) (i : ℕ) (d : Piece) → Joins pieces left i → i < length left → IsStuck left (get_or left i d) → Joins pieces left (i + 1)
-joins_no_more pieces left i d h l stuck = record {
-  on = h.on;
-  within = h.within;
-  levels = h.levels;
-  stuck = λ k e b. elim (cases_lt k i) as (λ _. IsStuck left (get_or left k e)) [
-    | inl x ↦ h.stuck k e x
-    | inr x ↦
-        let same : i ≡ k = omega arith in
-        subst (λ (o : ℕ). IsStuck left (get_or left o e)) same (subst (IsStuck left) (get_or_default left i d e l) stuck)
-  ];
-  inside = omega arith;
-}
-
-pub all_merged : (pieces left : List Piece) (i : ℕ) → Joins pieces left i → length left ≤ i → AreMerged pieces left
-all_merged pieces left i h e = h.on left (all_joined (none_meet_alone left (λ k d l. h.stuck k d (omega arith))) (IsPermutation-refl left))
-
 -- ---- by what the calls give
-pub comparable_seen : (pieces seen : List Piece) (i : ℕ) (q : Piece) → All (IsPieceWithin coordinate_limit) pieces → HaveOneLevel pieces → seen ≡ pieces → q ≡ get_or pieces i q → i < length pieces → All (IsComparable q.to) seen
-comparable_seen pieces seen i q within levels same at l =
-    subst (All (IsComparable q.to)) (sym same) (subst (λ (p : Piece). All (IsComparable p.to) pieces) (sym at) (comparable pieces i q l within levels))
-
-pub joint_seen : (pieces seen : List Piece) (i j : ℕ) (q : Piece) → seen ≡ pieces → q ≡ get_or pieces i q → i < length pieces → IsNext q seen j → IsPassedOnce seen q.to → IsJoint pieces i j
-joint_seen pieces seen i j q same at l n p =
-    joint_at pieces i j q l
-    (subst (λ (r : Piece). IsNext r pieces j) at (subst (λ (ps : List Piece). IsNext q ps j) same n))
-    (subst (λ (r : Piece). IsPassedOnce pieces r.to) at (subst (λ (ps : List Piece). IsPassedOnce ps q.to) same p))
-
-pub stuck_seen : (pieces seen : List Piece) (i : ℕ) (q : Piece) → seen ≡ pieces → q ≡ get_or pieces i q → IsStuck seen q → IsStuck pieces (get_or pieces i q)
-stuck_seen pieces seen i q same at h = subst (IsStuck pieces) at (subst (λ (ps : List Piece). IsStuck ps q) same h)
-
-pub fewer_pieces : (old new : List Piece) (i j at : ℕ) → i < length old → IsJoined old i j new at → 2 * length new - at < 2 * length old - i
-fewer_pieces old new i j at l t =
-    let m : length old ≡ suc (suc (length t.others)) = sym (length_permutation old (t.first ∷ (t.second ∷ t.others)) t.meet.two) in
-    let n : length new ≡ suc (length t.others) = sym (length_permutation new (joined t.first t.second ∷ t.others) t.replaced) in
-    omega (arith, t.near, t.there)
+pub comparable_seen : (pieces : List Piece) (i : ℕ) (q : Piece) → All (IsPieceWithin coordinate_limit) pieces → HaveOneLevel pieces → q ≡ get_or pieces i q → i < length pieces → All (IsComparable q.to) pieces
+comparable_seen pieces i q within levels at l = subst (λ (p : Piece). All (IsComparable p.to) pieces) (sym at) (comparable pieces i q l within levels)

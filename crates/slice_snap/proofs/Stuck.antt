@@ -51,7 +51,7 @@ module _ (old new : List Piece) (f s : Piece) (others : List Piece) (m : MeetAlo
       ∙ ap (λ (n : ℕ). once (is_same_point p (point_of f.to)) + n) (sym (ends_permuted p new (joined f s ∷ others) r ∙ ends-cons p (way_of (joined f s)) (ways_of others)))
 
 -- ---- ends at the same point
-point_alike : (p q r : Point) → pos 0 <ℤ p.d → pos 0 <ℤ q.d → is_same_point p q ≡ true → is_same_point p r ≡ is_same_point q r
+pub point_alike : (p q r : Point) → pos 0 <ℤ p.d → pos 0 <ℤ q.d → is_same_point p q ≡ true → is_same_point p r ≡ is_same_point q r
 point_alike p q r dp dq h =
     let same = are_same p q h in
     both_ways (is_same_point p r) (is_same_point q r)

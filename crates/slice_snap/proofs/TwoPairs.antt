@@ -43,7 +43,7 @@ two_ends p x y xs one hx c hy =
     let split = ends-cons p (way_of x) (ways_of xs) ∙ ap₂ (λ (b : Bool) (n : ℕ). once b + n) hx (ends_permuted p xs (y ∷ o.0) o.1 ∙ ends-cons p (way_of y) (ways_of o.0) ∙ ap (λ (b : Bool). once b + ends_at p (ways_of o.0)) hy) in
     too_many (ends_at p (ways_of (x ∷ xs))) (ends_at p (ways_of o.0)) split one
 
-two_starts : (p : Point) (x y : Piece) (xs : List Piece) → starts_at p (ways_of (x ∷ xs)) ≡ 1 → is_same_point p (point_of x.from) ≡ true → Contains xs y → is_same_point p (point_of y.from) ≡ true → ⊥
+pub two_starts : (p : Point) (x y : Piece) (xs : List Piece) → starts_at p (ways_of (x ∷ xs)) ≡ 1 → is_same_point p (point_of x.from) ≡ true → Contains xs y → is_same_point p (point_of y.from) ≡ true → ⊥
 two_starts p x y xs one hx c hy =
     let o = out y xs c in
     let split = starts-cons p (way_of x) (ways_of xs) ∙ ap₂ (λ (b : Bool) (n : ℕ). once b + n) hx (starts_permuted p xs (y ∷ o.0) o.1 ∙ starts-cons p (way_of y) (ways_of o.0) ∙ ap (λ (b : Bool). once b + starts_at p (ways_of o.0)) hy) in

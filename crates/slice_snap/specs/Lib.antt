@@ -4,6 +4,8 @@ pub mod Pieces
 pub mod Naming
 pub mod Merging
 pub mod Rounding
+pub mod Spans
 pub mod Cancelling
 pub mod Joining
+pub mod Chains
 pub mod Laws

@@ -1,10 +1,12 @@
 //! Opposite edges cancel.
-ghost use Rattle.std.specs.Prelude.{◌≡◌, ◌↔◌, IsTrue, IfOk, IfSome, IfNone, All};
+ghost use Rattle.std.specs.Prelude.{◌≡◌, ◌↔◌, ◌-◌, length, IsTrue, IfOk};
 ghost use Rattle.scad_geom.specs.Segment.{segments};
 ghost use Rattle.scad_geom.specs.Balance.{IsBalanced};
 ghost use Rattle.winding_laws.specs.Joining.{turned};
 ghost use Rattle.slice_snap.specs.Cancelling.{AreCancelled, IsOppositeAt};
+ghost use Rattle.slice_snap.specs.Spans.{IsAscending};
 
+use crate::spans::sort;
 use scad_geom::Edge;
 use std::alloc::{AllocError, Global};
 
@@ -14,29 +16,33 @@ pub fn cancel(alloc: Global, edges: &[Edge]) -> Result<Vec<Edge>, AllocError>
     ensures left { IfOk result (λ v. AreCancelled edges.now v.items) }
     ensures balanced { IfOk result (λ v. IsBalanced (segments edges.now) → IsBalanced (segments v.items)) }
 {
+    let mut sorted = Vec::from_slice(alloc, edges)?;
+    sort(&mut sorted);
+    cancel_sorted(alloc, &sorted)
+}
+
+// Of edges that run between the same two points, which stand side by side, those left all run one way, so the last one tells.
+fn cancel_sorted(alloc: Global, edges: &[Edge]) -> Result<Vec<Edge>, AllocError>
+    requires { IsAscending edges.now }
+    ensures { IfOk result (λ v. AreCancelled edges.now v.items) }
+{
     let mut left = Vec::new(alloc);
     'edges: for edge in edges {
-        match opposite_of(edge, &left) {
-            Some(i) => {
-                left.remove(i);
-            }
-            None => left.push(*edge)?,
+        if ends_in_opposite(&left, edge) {
+            left.pop();
+        } else {
+            left.push(*edge)?;
         }
     }
     Ok(left)
 }
 
-// The place of an edge that runs the other way.
-fn opposite_of(edge: &Edge, edges: &[Edge]) -> Option<usize>
-    ensures some { IfSome result (λ i. IsOppositeAt edge.now edges.now i) }
-    ensures none { IfNone result (All (λ f. f ≡ turned edge.now → ⊥) edges.now) }
+// Whether the last of some edges runs the other way.
+fn ends_in_opposite(edges: &[Edge], edge: &Edge) -> bool
+    ensures { IsTrue result ↔ IsOppositeAt edge.now edges.now (length edges.now - 1) }
 {
-    'edges: for i in 0..edges.len() {
-        if is_opposite(edge, &edges[i]) {
-            return Some(i);
-        }
-    }
-    None
+    let count = edges.len();
+    count > 0 && is_opposite(edge, &edges[count - 1])
 }
 
 fn is_opposite(e: &Edge, f: &Edge) -> bool

@@ -17,15 +17,3 @@ pub fn merged_are_one()
 pub fn cancelled_are_one()
     ensures { CancelledAreOne }
 {}
-
-#[cfg(test)]
-mod tests {
-    use super::*;
-
-    #[test]
-    fn laws_are_called() {
-        pieces_go_on();
-        merged_are_one();
-        cancelled_are_one();
-    }
-}

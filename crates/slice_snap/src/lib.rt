@@ -6,13 +6,13 @@
 #![tactic(auto, using(scad_geom::proofs::Casts::casts))]
 
 mod cancelling;
+mod chains;
 pub mod laws;
 mod merging;
 mod piece;
 mod rounding;
+mod spans;
 mod spots;
-#[cfg(test)]
-mod tests;
 
 pub use cancelling::cancel;
 pub use merging::merge;

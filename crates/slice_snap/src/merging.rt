@@ -5,8 +5,10 @@ ghost use Rattle.scad_geom.specs.Balance.{starts_at, ends_at};
 ghost use Rattle.slice_snap.specs.Spots.{point_of, IsSpotWithin};
 ghost use Rattle.slice_snap.specs.Pieces.{ways_of, HaveOneLevel, IsPieceWithin, ArePiecesBalanced};
 ghost use Rattle.slice_snap.specs.Merging.{AreMerged};
-ghost use Rattle.slice_snap.specs.Joining.{IsComparable, GoesOn, IsPassedOnce, IsStuck, IsNext, IsJoint, IsMoved, IsJoined};
+ghost use Rattle.slice_snap.specs.Joining.{IsComparable, GoesOn, IsPassedOnce, IsStuck, IsNext};
+ghost use Rattle.slice_snap.specs.Chains.{AreChained};
 
+use crate::chains::Chains;
 use crate::piece::{Piece, Spot};
 use crate::spots::is_same_spot;
 use std::alloc::{AllocError, Global};
@@ -20,15 +22,28 @@ pub fn merge(alloc: Global, pieces: &[Piece]) -> Result<Vec<Piece>, AllocError>
     ensures within { IfOk result (λ v. All (IsPieceWithin coordinate_limit) v.items) }
     ensures balanced { IfOk result (λ v. ArePiecesBalanced pieces.now → ArePiecesBalanced v.items) }
 {
-    let mut left = Vec::from_slice(alloc, pieces)?;
-    let mut i = 0;
-    'pieces: while i < left.len() {
-        match joint(&left, &left[i]) {
-            Some(j) => i = join(&mut left, i, j),
-            None => i += 1,
+    let mut chains = Chains::new(alloc, pieces)?;
+    'pieces: for place in 0..pieces.len() {
+        go_on(&mut chains, pieces, place);
+    }
+    chains.wholes(alloc)
+}
+
+// Joins the chain that the piece at a place ends to the one that goes on from it, where these two alone meet. A chain that
+// would go on with itself is closed, and its end stays.
+fn go_on(chains: &mut Chains, pieces: &[Piece], place: usize)
+    requires within { All (IsPieceWithin coordinate_limit) pieces.now }
+    requires levels { HaveOneLevel pieces.now }
+    requires inside { place < length pieces.now }
+    requires so_far { AreChained pieces.now chains.old place }
+    ensures { AreChained pieces.now chains.new (place + 1) }
+{
+    if let Some(next) = joint(pieces, &pieces[place]) {
+        let first = chains.first_of(place);
+        if first != next && !chains.is_gone(next) {
+            chains.link(first, next);
         }
     }
-    Ok(left)
 }
 
 // The place of the piece that goes on from another, where these two alone meet.
@@ -54,25 +69,6 @@ fn is_passed_once(pieces: &[Piece], s: &Spot) -> bool
     ensures { IsTrue result ↔ IsPassedOnce pieces.now s.now }
 {
     ends(pieces, s) == 1 && starts(pieces, s) == 1
-}
-
-// Joins the piece at one place to that at another, which is taken out, and gives the place of the joined piece.
-fn join(pieces: &mut Vec<Piece>, i: usize, j: usize) -> usize
-    requires { IsJoint pieces.old.items i j }
-    ensures { IsJoined pieces.old.items i j pieces.new.items result }
-{
-    let at = place_without(i, j);
-    let second = pieces.remove(j);
-    pieces[at].to = second.to;
-    at
-}
-
-// The place of what stands at one place, once what stands at another is taken out.
-fn place_without(i: usize, j: usize) -> usize
-    requires { i ≡ j → ⊥ }
-    ensures { IsMoved i j result }
-{
-    if j < i { i - 1 } else { i }
 }
 
 // The place of a piece that goes on from another.

@@ -13,8 +13,6 @@ mod round;
 mod sharing;
 mod summary;
 mod sums;
-#[cfg(test)]
-mod tests;
 mod want;
 mod working;
 mod writing;
@@ -27,4 +25,4 @@ pub use pooling::Share;
 pub use sharing::share;
 pub use summary::Summary;
 pub use want::Want;
-pub use working::{LAYER_LIMIT, ROUND, work};
+pub use working::{ROUND, work};

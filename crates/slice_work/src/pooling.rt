@@ -22,7 +22,7 @@ pub struct Share {
     pub done: Vec<Drawn>,
 }
 
-/// What the workers of these passes do of a round, each in a thread of its own.
+/// What the workers of these passes do of a round, in threads where the runtime gives them.
 pub fn pool<R: Threads + Sync, W: LayerWork, G: Gate>(
     rt: &R,
     alloc: Global,

@@ -24,15 +24,12 @@ use scad_words::Settings;
 use std::alloc::Global;
 use std::thread::Threads;
 
-/// The most layers of a part.
-pub const LAYER_LIMIT: u32 = 20_000;
-
 /// The most layers of a round.
 pub const ROUND: u32 = 64;
 
 /// Works so many layers of a part and writes them in order.
 ///
-/// The layers go in rounds of 64. In a round the workers draw the layers from one board, each in a thread of its own;
+/// The layers go in rounds of 64. In a round the workers draw the layers from one board, in threads where the runtime gives them;
 /// then the round's layers are written, each output of a layer by one write, up to the first layer that passes a
 /// budget, which is answered. The bytes and the answer are the same for every number of workers.
 pub fn work<R: Threads + Sync, W: LayerWork, D: Desk, G: Gate>(

@@ -18,6 +18,3 @@ pub fn first_at(bytes: &[u8], mark: u8) -> usize
     }
     bytes.len()
 }
-
-#[cfg(test)]
-mod tests;

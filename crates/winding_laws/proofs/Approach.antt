@@ -31,7 +31,8 @@ along_back n x y = ring (n ∷ x ∷ y ∷ []) (num (pos 0) ⊗ v1 ⊕ (num (pos
 pub at_most_as : (s t u : ℤ) → s ≡ u → u ≤ℤ t → s ≤ℤ t
 at_most_as s t u e h = omega (arith, ints)
 
-in_box : (n h : ℤ) (p : Point) → (n *ℤ p.x) ≤ℤ (h *ℤ p.d) → (n *ℤ (pos 0 -ℤ p.x)) ≤ℤ (h *ℤ p.d) → (n *ℤ p.y) ≤ℤ (h *ℤ p.d) → (n *ℤ (pos 0 -ℤ p.y)) ≤ℤ (h *ℤ p.d) → Holds (box n h) p
+in_box : (n h : ℤ) (p : Point) → (n *ℤ p.x) ≤ℤ (h *ℤ p.d) → (n *ℤ (pos 0 -ℤ p.x)) ≤ℤ (h *ℤ p.d)
+    → (n *ℤ p.y) ≤ℤ (h *ℤ p.d) → (n *ℤ (pos 0 -ℤ p.y)) ≤ℤ (h *ℤ p.d) → Holds (box n h) p
 in_box n h p a b c d = (
   at_most_as _ _ _ (across_is n p.x p.y) a,
   (
@@ -55,7 +56,8 @@ at_most_square z = by_lt_z (pos 0) z
 at_most_turned : (z : ℤ) → (pos 0 -ℤ z) ≤ℤ (z *ℤ z)
 at_most_turned z =
     let m = at_most_square (pos 0 -ℤ z) in
-    let same : (pos 0 -ℤ z) *ℤ (pos 0 -ℤ z) ≡ z *ℤ z = ring (z ∷ []) ((num (pos 0) ⊖ v0) ⊗ (num (pos 0) ⊖ v0)) (v0 ⊗ v0) refl in
+    let same : (pos 0 -ℤ z) *ℤ (pos 0 -ℤ z) ≡ z *ℤ z = ring (z ∷ []) ((num (pos 0) ⊖ v0) ⊗ (num (pos 0) ⊖ v0)) (v0 ⊗ v0)
+    refl in
     omega (arith, ints)
 
 module _ (n : ℤ) (np : pos 0 <ℤ n) (a b p : Point) (da : IsPoint a) (db : IsPoint b) (dp : IsPoint p) (o : IsOn a b p) where
@@ -88,7 +90,8 @@ module _ (n : ℤ) (np : pos 0 <ℤ n) (a b p : Point) (da : IsPoint a) (db : Is
   amid_positive = let s = at_least_mul weight p.d weight_least (at_most_of_less (pos 0) p.d dp) in let t = middle_positive in omega (arith, ints)
 
   gap_same : (w p d m e : ℤ) → (w *ℤ p +ℤ pos 1 *ℤ m) *ℤ d -ℤ p *ℤ (w *ℤ d +ℤ pos 1 *ℤ e) ≡ m *ℤ d -ℤ p *ℤ e
-  gap_same w p d m e = ring (w ∷ p ∷ d ∷ m ∷ e ∷ []) ((v0 ⊗ v1 ⊕ num (pos 1) ⊗ v3) ⊗ v2 ⊖ v1 ⊗ (v0 ⊗ v2 ⊕ num (pos 1) ⊗ v4)) (v3 ⊗ v2 ⊖ v1 ⊗ v4) refl
+  gap_same w p d m e = ring (w ∷ p ∷ d ∷ m ∷ e ∷ []) ((v0 ⊗ v1 ⊕ num (pos 1) ⊗ v3) ⊗ v2 ⊖ v1 ⊗
+      (v0 ⊗ v2 ⊕ num (pos 1) ⊗ v4)) (v3 ⊗ v2 ⊖ v1 ⊗ v4) refl
 
   -- the weight is at most the divisor of the difference
   room : weight ≤ℤ (pos 1 *ℤ (amid.d *ℤ p.d))
@@ -96,7 +99,8 @@ module _ (n : ℤ) (np : pos 0 <ℤ n) (a b p : Point) (da : IsPoint a) (db : Is
       let m = at_least_mul weight (p.d *ℤ p.d -ℤ pos 1) weight_least (no_less p.d dp) in
       let s : pos 0 <ℤ (middle.d *ℤ p.d) = positive_product middle.d p.d middle_positive dp in
       let same : pos 1 *ℤ (amid.d *ℤ p.d) ≡ weight *ℤ (p.d *ℤ p.d -ℤ pos 1) +ℤ weight +ℤ middle.d *ℤ p.d =
-      ring (weight ∷ p.d ∷ middle.d ∷ []) (num (pos 1) ⊗ ((v0 ⊗ v1 ⊕ num (pos 1) ⊗ v2) ⊗ v1)) (v0 ⊗ (v1 ⊗ v1 ⊖ num (pos 1)) ⊕ v0 ⊕ v2 ⊗ v1) refl in
+      ring (weight ∷ p.d ∷ middle.d ∷ []) (num (pos 1) ⊗ ((v0 ⊗ v1 ⊕ num (pos 1) ⊗ v2) ⊗ v1))
+      (v0 ⊗ (v1 ⊗ v1 ⊖ num (pos 1)) ⊕ v0 ⊕ v2 ⊗ v1) refl in
       omega (arith, ints)
     where
       no_less : (d : ℤ) → pos 0 <ℤ d → pos 0 ≤ℤ (d *ℤ d -ℤ pos 1)
@@ -105,13 +109,15 @@ module _ (n : ℤ) (np : pos 0 <ℤ n) (a b p : Point) (da : IsPoint a) (db : Is
   below : (z s t : ℤ) → z ≤ℤ s → pos 0 ≤ℤ t → (n *ℤ z) ≤ℤ (n *ℤ (s +ℤ t))
   below z s t h k =
       let m = at_least_mul n (s +ℤ t -ℤ z) (at_most_of_less (pos 0) n np) (omega (arith, ints)) in
-      let same : n *ℤ (s +ℤ t -ℤ z) ≡ n *ℤ (s +ℤ t) -ℤ n *ℤ z = ring (n ∷ s ∷ t ∷ z ∷ []) (v0 ⊗ (v1 ⊕ v2 ⊖ v3)) (v0 ⊗ (v1 ⊕ v2) ⊖ v0 ⊗ v3) refl in
+      let same : n *ℤ (s +ℤ t -ℤ z) ≡ n *ℤ (s +ℤ t) -ℤ n *ℤ z = ring (n ∷ s ∷ t ∷ z ∷ []) (v0 ⊗ (v1 ⊕ v2 ⊖ v3))
+      (v0 ⊗ (v1 ⊕ v2) ⊖ v0 ⊗ v3) refl in
       omega (arith, ints)
 
   below_second : (z s t : ℤ) → z ≤ℤ t → pos 0 ≤ℤ s → (n *ℤ z) ≤ℤ (n *ℤ (s +ℤ t))
   below_second z s t h k =
       let m = at_least_mul n (s +ℤ t -ℤ z) (at_most_of_less (pos 0) n np) (omega (arith, ints)) in
-      let same : n *ℤ (s +ℤ t -ℤ z) ≡ n *ℤ (s +ℤ t) -ℤ n *ℤ z = ring (n ∷ s ∷ t ∷ z ∷ []) (v0 ⊗ (v1 ⊕ v2 ⊖ v3)) (v0 ⊗ (v1 ⊕ v2) ⊖ v0 ⊗ v3) refl in
+      let same : n *ℤ (s +ℤ t -ℤ z) ≡ n *ℤ (s +ℤ t) -ℤ n *ℤ z = ring (n ∷ s ∷ t ∷ z ∷ []) (v0 ⊗ (v1 ⊕ v2 ⊖ v3))
+      (v0 ⊗ (v1 ⊕ v2) ⊖ v0 ⊗ v3) refl in
       omega (arith, ints)
 
   most : (s t u : ℤ) → s ≤ℤ t → t ≤ℤ u → s ≤ℤ u
@@ -123,16 +129,22 @@ module _ (n : ℤ) (np : pos 0 <ℤ n) (a b p : Point) (da : IsPoint a) (db : Is
       (sym (gap_same weight p.x p.d middle.x middle.d)) (sym (gap_same weight p.y p.d middle.y middle.d)) refl
       (in_box n (pos 1) (record { x = x_gap; y = y_gap; d = amid.d *ℤ p.d })
       (most _ _ _ (below x_gap (x_gap *ℤ x_gap) (y_gap *ℤ y_gap) (at_most_square x_gap) (square_at_least y_gap)) room)
-      (most _ _ _ (below (pos 0 -ℤ x_gap) (x_gap *ℤ x_gap) (y_gap *ℤ y_gap) (at_most_turned x_gap) (square_at_least y_gap)) room)
-      (most _ _ _ (below_second y_gap (x_gap *ℤ x_gap) (y_gap *ℤ y_gap) (at_most_square y_gap) (square_at_least x_gap)) room)
-      (most _ _ _ (below_second (pos 0 -ℤ y_gap) (x_gap *ℤ x_gap) (y_gap *ℤ y_gap) (at_most_turned y_gap) (square_at_least x_gap)) room))
+      (most _ _ _ (below (pos 0 -ℤ x_gap) (x_gap *ℤ x_gap) (y_gap *ℤ y_gap) (at_most_turned x_gap)
+      (square_at_least y_gap)) room)
+      (most _ _ _ (below_second y_gap (x_gap *ℤ x_gap) (y_gap *ℤ y_gap) (at_most_square y_gap) (square_at_least x_gap))
+      room)
+      (most _ _ _ (below_second (pos 0 -ℤ y_gap) (x_gap *ℤ x_gap) (y_gap *ℤ y_gap) (at_most_turned y_gap)
+      (square_at_least x_gap)) room))
 
   -- its weights
-  one_number : (w k s t e f p x y : ℤ) → k *ℤ p ≡ s *ℤ x +ℤ t *ℤ y → k *ℤ (w *ℤ p +ℤ pos 1 *ℤ (f *ℤ x +ℤ e *ℤ y)) ≡ (w *ℤ s +ℤ k *ℤ f) *ℤ x +ℤ (w *ℤ t +ℤ k *ℤ e) *ℤ y
+  one_number : (w k s t e f p x y : ℤ) → k *ℤ p ≡ s *ℤ x +ℤ t *ℤ y → k *ℤ (w *ℤ p +ℤ pos 1 *ℤ (f *ℤ x +ℤ e *ℤ y))
+      ≡ (w *ℤ s +ℤ k *ℤ f) *ℤ x +ℤ (w *ℤ t +ℤ k *ℤ e) *ℤ y
   one_number w k s t e f p x y h =
-      ring (w ∷ k ∷ e ∷ f ∷ p ∷ x ∷ y ∷ []) (v1 ⊗ (v0 ⊗ v4 ⊕ num (pos 1) ⊗ (v3 ⊗ v5 ⊕ v2 ⊗ v6))) (v0 ⊗ (v1 ⊗ v4) ⊕ v1 ⊗ (v3 ⊗ v5 ⊕ v2 ⊗ v6)) refl
+      ring (w ∷ k ∷ e ∷ f ∷ p ∷ x ∷ y ∷ []) (v1 ⊗ (v0 ⊗ v4 ⊕ num (pos 1) ⊗ (v3 ⊗ v5 ⊕ v2 ⊗ v6)))
+      (v0 ⊗ (v1 ⊗ v4) ⊕ v1 ⊗ (v3 ⊗ v5 ⊕ v2 ⊗ v6)) refl
       ∙ ap (λ (z : ℤ). w *ℤ z +ℤ k *ℤ (f *ℤ x +ℤ e *ℤ y)) h
-      ∙ ring (w ∷ k ∷ s ∷ t ∷ e ∷ f ∷ x ∷ y ∷ []) (v0 ⊗ (v2 ⊗ v6 ⊕ v3 ⊗ v7) ⊕ v1 ⊗ (v5 ⊗ v6 ⊕ v4 ⊗ v7)) ((v0 ⊗ v2 ⊕ v1 ⊗ v5) ⊗ v6 ⊕ (v0 ⊗ v3 ⊕ v1 ⊗ v4) ⊗ v7) refl
+      ∙ ring (w ∷ k ∷ s ∷ t ∷ e ∷ f ∷ x ∷ y ∷ []) (v0 ⊗ (v2 ⊗ v6 ⊕ v3 ⊗ v7) ⊕ v1 ⊗ (v5 ⊗ v6 ⊕ v4 ⊗ v7))
+      ((v0 ⊗ v2 ⊕ v1 ⊗ v5) ⊗ v6 ⊕ (v0 ⊗ v3 ⊕ v1 ⊗ v4) ⊗ v7) refl
 
   above : (s e : ℤ) → pos 0 ≤ℤ s → pos 0 <ℤ e → pos 0 <ℤ (weight *ℤ s +ℤ o.k *ℤ e)
   above s e h g = let m = at_least_mul weight s weight_least h in let q = positive_product o.k e o.positive g in omega (arith, ints)

@@ -19,8 +19,10 @@ segments-append : (es fs : List Edge) → segments (es ++ fs) ≡ segments es ++
 segments-append [] fs = refl
 segments-append (e ∷ es) fs = ap (λ (ss : List Segment). segment_of e ∷ ss) (segments-append es fs)
 
-parts : (left pairs : List Edge) → segments (left ++ (pairs ++ map turned pairs)) ≡ segments left ++ (segments pairs ++ segments (map turned pairs))
-parts left pairs = segments-append left (pairs ++ map turned pairs) ∙ ap (λ (ss : List Segment). segments left ++ ss) (segments-append pairs (map turned pairs))
+parts : (left pairs : List Edge) → segments (left ++ (pairs ++ map turned pairs)) ≡ segments left ++
+    (segments pairs ++ segments (map turned pairs))
+parts left pairs = segments-append left (pairs ++ map turned pairs) ∙ ap (λ (ss : List Segment). segments left ++ ss)
+    (segments-append pairs (map turned pairs))
 
 -- ---- balance
 module _ (p : Point) where
@@ -57,35 +59,43 @@ module _ (p : Point) where
       ∙ ap (λ (n : ℕ). once (is_same_point p (whole e.a)) + n) (ends-turned es)
       ∙ sym (starts-cons p (segment_of e) (segments es))
 
-  all_starts : (left pairs : List Edge) → starts_at p (segments (left ++ (pairs ++ map turned pairs))) ≡ starts_at p (segments left) + (starts_at p (segments pairs) + ends_at p (segments pairs))
+  all_starts : (left pairs : List Edge) → starts_at p (segments (left ++ (pairs ++ map turned pairs))) ≡ starts_at p
+      (segments left) + (starts_at p (segments pairs) + ends_at p (segments pairs))
   all_starts left pairs =
       ap (starts_at p) (parts left pairs)
       ∙ starts-append (segments left) (segments pairs ++ segments (map turned pairs))
       ∙ ap (λ (n : ℕ). starts_at p (segments left) + n)
-      (starts-append (segments pairs) (segments (map turned pairs)) ∙ ap (λ (n : ℕ). starts_at p (segments pairs) + n) (starts-turned pairs))
+      (starts-append (segments pairs) (segments (map turned pairs)) ∙ ap (λ (n : ℕ). starts_at p (segments pairs) + n)
+      (starts-turned pairs))
 
-  all_ends : (left pairs : List Edge) → ends_at p (segments (left ++ (pairs ++ map turned pairs))) ≡ ends_at p (segments left) + (ends_at p (segments pairs) + starts_at p (segments pairs))
+  all_ends : (left pairs : List Edge) → ends_at p (segments (left ++ (pairs ++ map turned pairs)))
+      ≡ ends_at p (segments left) + (ends_at p (segments pairs) + starts_at p (segments pairs))
   all_ends left pairs =
       ap (ends_at p) (parts left pairs)
       ∙ ends-append (segments left) (segments pairs ++ segments (map turned pairs))
       ∙ ap (λ (n : ℕ). ends_at p (segments left) + n)
-      (ends-append (segments pairs) (segments (map turned pairs)) ∙ ap (λ (n : ℕ). ends_at p (segments pairs) + n) (ends-turned pairs))
+      (ends-append (segments pairs) (segments (map turned pairs)) ∙ ap (λ (n : ℕ). ends_at p (segments pairs) + n)
+      (ends-turned pairs))
 
 rest : (s e a b x y : ℕ) → x ≡ s + (a + b) → y ≡ e + (b + a) → x ≡ y → s ≡ e
 rest s e a b x y hx hy h = omega arith
 
 pub cancelling_keeps_balance : CancellingKeepsBalance
 cancelling_keeps_balance edges left pairs m b =
-    let all = order_keeps_balance (segments edges) (segments (left ++ (pairs ++ map turned pairs))) (IsPermutation-map segment_of edges (left ++ (pairs ++ map turned pairs)) m) b in
+    let all = order_keeps_balance (segments edges) (segments (left ++ (pairs ++ map turned pairs)))
+    (IsPermutation-map segment_of edges (left ++ (pairs ++ map turned pairs)) m) b in
     record {
       each = λ p d.
-          rest (starts_at p (segments left)) (ends_at p (segments left)) (starts_at p (segments pairs)) (ends_at p (segments pairs))
-          (starts_at p (segments (left ++ (pairs ++ map turned pairs)))) (ends_at p (segments (left ++ (pairs ++ map turned pairs))))
+          rest (starts_at p (segments left)) (ends_at p (segments left)) (starts_at p (segments pairs))
+          (ends_at p (segments pairs))
+          (starts_at p (segments (left ++ (pairs ++ map turned pairs))))
+          (ends_at p (segments (left ++ (pairs ++ map turned pairs))))
           (all_starts p left pairs) (all_ends p left pairs) (all.each p d);
     }
 
 -- ---- winding
-pub turn_turned : (above right : Bool) (q a b : Point) → pos 0 <ℤ q.d → pos 0 <ℤ a.d → pos 0 <ℤ b.d → turn above right q b a ≡ pos 0 -ℤ turn above right q a b
+pub turn_turned : (above right : Bool) (q a b : Point) → pos 0 <ℤ q.d → pos 0 <ℤ a.d → pos 0 <ℤ b.d
+    → turn above right q b a ≡ pos 0 -ℤ turn above right q a b
 turn_turned above right q a b dq da db =
     turn_seen above right q b a dq db
     ∙ swing_turned above right (seen_from q a) (seen_from q b)
@@ -101,7 +111,8 @@ module _ (above right : Bool) (q : Point) (d : pos 0 <ℤ q.d) where
   wind-turned : (es : List Edge) → winding (map turned es) ≡ pos 0 -ℤ winding es
   wind-turned [] = refl
   wind-turned (e ∷ es) =
-      opposite (turn above right q (whole e.a) (whole e.b)) (turn above right q (whole e.b) (whole e.a)) (winding (map turned es)) (winding es)
+      opposite (turn above right q (whole e.a) (whole e.b)) (turn above right q (whole e.b) (whole e.a))
+      (winding (map turned es)) (winding es)
       (turn_turned above right q (whole e.a) (whole e.b) d (omega (arith, ints)) (omega (arith, ints))) (wind-turned es)
 
   nothing_more : (w v u x : ℤ) → x ≡ w +ℤ (v +ℤ u) → u ≡ pos 0 -ℤ v → w ≡ x
@@ -109,7 +120,8 @@ module _ (above right : Bool) (q : Point) (d : pos 0 <ℤ q.d) where
 
   cancelled : (left pairs : List Edge) → winding left ≡ winding (left ++ (pairs ++ map turned pairs))
   cancelled left pairs =
-      nothing_more (winding left) (winding pairs) (winding (map turned pairs)) (winding (left ++ (pairs ++ map turned pairs)))
+      nothing_more (winding left) (winding pairs) (winding (map turned pairs))
+      (winding (left ++ (pairs ++ map turned pairs)))
       (ap (wind_by above right q) (parts left pairs)
       ∙ wind-append above right q (segments left) (segments pairs ++ segments (map turned pairs))
       ∙ ap (λ (z : ℤ). winding left +ℤ z) (wind-append above right q (segments pairs) (segments (map turned pairs))))
@@ -118,4 +130,5 @@ module _ (above right : Bool) (q : Point) (d : pos 0 <ℤ q.d) where
 pub cancelling_keeps_winding : CancellingKeepsWinding
 cancelling_keeps_winding edges left pairs m above right q d =
     cancelled above right q d left pairs
-    ∙ wind-permuted above right q (segments edges) (segments (left ++ (pairs ++ map turned pairs))) (IsPermutation-map segment_of edges (left ++ (pairs ++ map turned pairs)) m)
+    ∙ wind-permuted above right q (segments edges) (segments (left ++ (pairs ++ map turned pairs)))
+    (IsPermutation-map segment_of edges (left ++ (pairs ++ map turned pairs)) m)

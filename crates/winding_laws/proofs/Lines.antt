@@ -1,4 +1,5 @@
--- Of three points on one line, in whatever order, each point between the first and the last lies between one of them and the
+-- Of three points on one line, in whatever order, each point between the first and the last lies between one of them
+-- and the
 -- middle one.
 use Rattle.std.proofs.Common.{◌≡◌, ◌⊎◌, inl, inr, [], ◌∷◌, refl, ap, ap₂, ◌∙◌, subst, arith}
 use lib.IntN.{ℤ, pos, ◌+ℤ◌, ◌-ℤ◌, ◌*ℤ◌}
@@ -45,10 +46,12 @@ Either a m b p = IsOn a m p ⊎ IsOn m b p
 
 -- one number of three points on one line, with one of them alone
 alone_last : (u v w x y z : ℤ) → u *ℤ x +ℤ v *ℤ y -ℤ w *ℤ z ≡ pos 0 → v *ℤ y ≡ (pos 0 -ℤ u) *ℤ x +ℤ w *ℤ z
-alone_last u v w x y z h = equal_of_gap (v *ℤ y) ((pos 0 -ℤ u) *ℤ x +ℤ w *ℤ z) (ring (u ∷ v ∷ w ∷ x ∷ y ∷ z ∷ []) (v1 ⊗ v4 ⊖ ((num (pos 0) ⊖ v0) ⊗ v3 ⊕ v2 ⊗ v5)) (v0 ⊗ v3 ⊕ v1 ⊗ v4 ⊖ v2 ⊗ v5) refl ∙ h)
+alone_last u v w x y z h = equal_of_gap (v *ℤ y) ((pos 0 -ℤ u) *ℤ x +ℤ w *ℤ z) (ring (u ∷ v ∷ w ∷ x ∷ y ∷ z ∷ [])
+    (v1 ⊗ v4 ⊖ ((num (pos 0) ⊖ v0) ⊗ v3 ⊕ v2 ⊗ v5)) (v0 ⊗ v3 ⊕ v1 ⊗ v4 ⊖ v2 ⊗ v5) refl ∙ h)
 
 alone_first : (u v w x y z : ℤ) → u *ℤ x +ℤ v *ℤ y -ℤ w *ℤ z ≡ pos 0 → u *ℤ x ≡ w *ℤ z +ℤ (pos 0 -ℤ v) *ℤ y
-alone_first u v w x y z h = equal_of_gap (u *ℤ x) (w *ℤ z +ℤ (pos 0 -ℤ v) *ℤ y) (ring (u ∷ v ∷ w ∷ x ∷ y ∷ z ∷ []) (v0 ⊗ v3 ⊖ (v2 ⊗ v5 ⊕ (num (pos 0) ⊖ v1) ⊗ v4)) (v0 ⊗ v3 ⊕ v1 ⊗ v4 ⊖ v2 ⊗ v5) refl ∙ h)
+alone_first u v w x y z h = equal_of_gap (u *ℤ x) (w *ℤ z +ℤ (pos 0 -ℤ v) *ℤ y) (ring (u ∷ v ∷ w ∷ x ∷ y ∷ z ∷ [])
+    (v0 ⊗ v3 ⊖ (v2 ⊗ v5 ⊕ (num (pos 0) ⊖ v1) ⊗ v4)) (v0 ⊗ v3 ⊕ v1 ⊗ v4 ⊖ v2 ⊗ v5) refl ∙ h)
 
 alone_middle : (u v w x y z : ℤ) → u *ℤ x +ℤ v *ℤ y -ℤ w *ℤ z ≡ pos 0 → w *ℤ z ≡ u *ℤ x +ℤ v *ℤ y
 alone_middle u v w x y z h = omega (arith, ints)
@@ -115,7 +118,8 @@ module _ (a m b p : Point) (da : IsPoint a) (dm : IsPoint m) (db : IsPoint b) (u
       let some : pos 0 <ℤ (rise m b +ℤ rise a m) =
       by_lt_z (pos 0) (rise m b) (λ g. omega (arith, ints))
       (λ g. by_lt_z (pos 0) (rise a m) (λ f. omega (arith, ints))
-      (λ f. absurd (none (rise m b) (rise a m) a.d b.d (zero_between _ h g) (zero_between _ k f) (subst (λ (z : ℤ). pos 0 <ℤ z) sum all)))) in
+      (λ f. absurd (none (rise m b) (rise a m) a.d b.d (zero_between _ h g) (zero_between _ k f)
+      (subst (λ (z : ℤ). pos 0 <ℤ z) sum all)))) in
       parts_are_all a b m p
       (record {
         k = rise a b;
@@ -133,7 +137,8 @@ module _ (a m b p : Point) (da : IsPoint a) (dm : IsPoint m) (db : IsPoint b) (u
     where
       none : (u v x y : ℤ) → u ≡ pos 0 → v ≡ pos 0 → pos 0 <ℤ (u *ℤ x +ℤ v *ℤ y) → ⊥
       none u v x y hu hv h =
-          let z : u *ℤ x +ℤ v *ℤ y ≡ pos 0 = ap₂ (λ (s t : ℤ). s *ℤ x +ℤ t *ℤ y) hu hv ∙ ring (x ∷ y ∷ []) (num (pos 0) ⊗ v0 ⊕ num (pos 0) ⊗ v1) (num (pos 0)) refl in
+          let z : u *ℤ x +ℤ v *ℤ y ≡ pos 0 = ap₂ (λ (s t : ℤ). s *ℤ x +ℤ t *ℤ y) hu hv ∙ ring (x ∷ y ∷ [])
+          (num (pos 0) ⊗ v0 ⊕ num (pos 0) ⊗ v1) (num (pos 0)) refl in
           omega (arith, ints)
 
   on_way_up : Either a m b p
@@ -148,16 +153,19 @@ either_exchanged a m b p (inl h) = inl (on_exchanged a m p h)
 either_exchanged a m b p (inr h) = inr (on_exchanged m b p h)
 
 -- where the first and the last have different heights
-tilted : (a m b p : Point) → IsPoint a → IsPoint m → IsPoint b → side_by m a b ≡ pos 0 → IsOn a b p → (rise a b ≡ pos 0 → Either a m b p) → Either a m b p
+tilted : (a m b p : Point) → IsPoint a → IsPoint m → IsPoint b → side_by m a b ≡ pos 0 → IsOn a b p
+    → (rise a b ≡ pos 0 → Either a m b p) → Either a m b p
 tilted a m b p da dm db e o other =
     let flat : bend a b m ≡ pos 0 = zero_factor (bend a b m) a.d da (bend_side a b m ∙ e) in
     by_lt_z (pos 0) (rise a b) (λ up. on_way_up a m b p da dm db up flat o)
     (λ h. by_lt_z (rise a b) (pos 0)
-    (λ down. either_turned a m b p (on_way_up b m a p db dm da (omega (arith, ints)) (bend_turned a b m ∙ ap (λ (z : ℤ). pos 0 -ℤ z) flat) (on_turned a b p o)))
+    (λ down. either_turned a m b p (on_way_up b m a p db dm da (omega (arith, ints))
+    (bend_turned a b m ∙ ap (λ (z : ℤ). pos 0 -ℤ z) flat) (on_turned a b p o)))
     (λ k. other (omega (arith, ints))))
 
 -- where they are one point
-at_one : (a m b p : Point) → IsPoint a → IsPoint b → rise a b ≡ pos 0 → rise (exchanged a) (exchanged b) ≡ pos 0 → (o : IsOn a b p) → IsOn a m p
+at_one : (a m b p : Point) → IsPoint a → IsPoint b → rise a b ≡ pos 0 → rise (exchanged a) (exchanged b) ≡ pos 0
+    → (o : IsOn a b p) → IsOn a m p
 at_one a m b p da db h g o =
     let more : pos 0 <ℤ (o.s *ℤ a.d +ℤ o.t *ℤ b.d) = some_weight o.s o.t a.d b.d o.first o.second o.some da db in
     record {
@@ -176,17 +184,20 @@ at_one a m b p da db h g o =
     same : (d e : ℤ) → e *ℤ d -ℤ d *ℤ e ≡ pos 0
     same d e = ring (d ∷ e ∷ []) (v1 ⊗ v0 ⊖ v0 ⊗ v1) (num (pos 0)) refl
 
-    one_number : (k s t d e x y p m : ℤ) → y *ℤ d -ℤ x *ℤ e ≡ pos 0 → k *ℤ p ≡ s *ℤ x +ℤ t *ℤ y → (d *ℤ k) *ℤ p ≡ (s *ℤ d +ℤ t *ℤ e) *ℤ x +ℤ pos 0 *ℤ m
+    one_number : (k s t d e x y p m : ℤ) → y *ℤ d -ℤ x *ℤ e ≡ pos 0 → k *ℤ p ≡ s *ℤ x +ℤ t *ℤ y
+        → (d *ℤ k) *ℤ p ≡ (s *ℤ d +ℤ t *ℤ e) *ℤ x +ℤ pos 0 *ℤ m
     one_number k s t d e x y p m h q =
         ring (d ∷ k ∷ p ∷ []) ((v0 ⊗ v1) ⊗ v2) (v0 ⊗ (v1 ⊗ v2)) refl
         ∙ ap (λ (z : ℤ). d *ℤ z) q
         ∙ ring (d ∷ s ∷ x ∷ t ∷ y ∷ []) (v0 ⊗ (v1 ⊗ v2 ⊕ v3 ⊗ v4)) ((v1 ⊗ v0) ⊗ v2 ⊕ v3 ⊗ (v4 ⊗ v0)) refl
         ∙ ap (λ (z : ℤ). (s *ℤ d) *ℤ x +ℤ t *ℤ z) (equal_of_gap (y *ℤ d) (x *ℤ e) h)
-        ∙ ring (s ∷ d ∷ x ∷ t ∷ e ∷ m ∷ []) ((v0 ⊗ v1) ⊗ v2 ⊕ v3 ⊗ (v2 ⊗ v4)) ((v0 ⊗ v1 ⊕ v3 ⊗ v4) ⊗ v2 ⊕ num (pos 0) ⊗ v5) refl
+        ∙ ring (s ∷ d ∷ x ∷ t ∷ e ∷ m ∷ []) ((v0 ⊗ v1) ⊗ v2 ⊕ v3 ⊗ (v2 ⊗ v4)) ((v0 ⊗ v1 ⊕ v3 ⊗ v4) ⊗ v2 ⊕ num (pos 0) ⊗
+        v5) refl
 
 pub lines_are_all : LinesAreAll
 lines_are_all a m b p da dm db e o =
     tilted a m b p da dm db e o
     (λ level. either_exchanged a m b p
-    (tilted (exchanged a) (exchanged m) (exchanged b) (exchanged p) da dm db (side_exchanged a b m ∙ ap (λ (z : ℤ). pos 0 -ℤ z) e) (on_exchanged (exchanged a) (exchanged b) (exchanged p) o)
+    (tilted (exchanged a) (exchanged m) (exchanged b) (exchanged p) da dm db
+    (side_exchanged a b m ∙ ap (λ (z : ℤ). pos 0 -ℤ z) e) (on_exchanged (exchanged a) (exchanged b) (exchanged p) o)
     (λ same. inl (on_exchanged (exchanged a) (exchanged m) (exchanged p) (at_one a m b p da db level same o)))))

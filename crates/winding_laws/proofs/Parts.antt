@@ -47,22 +47,28 @@ on_turned a b p h =
 
 -- ---- of a part
 -- one number of a point by weights of points that are means by weights themselves
-through : (k l m u v s t f g x y p q r : ℤ) → k *ℤ p ≡ s *ℤ x +ℤ t *ℤ y → l *ℤ q ≡ f *ℤ x +ℤ g *ℤ y → m *ℤ r ≡ u *ℤ p +ℤ v *ℤ q
+through : (k l m u v s t f g x y p q r : ℤ) → k *ℤ p ≡ s *ℤ x +ℤ t *ℤ y → l *ℤ q ≡ f *ℤ x +ℤ g *ℤ y
+    → m *ℤ r ≡ u *ℤ p +ℤ v *ℤ q
     → ((k *ℤ l) *ℤ m) *ℤ r ≡ (s *ℤ (l *ℤ u) +ℤ f *ℤ (k *ℤ v)) *ℤ x +ℤ (t *ℤ (l *ℤ u) +ℤ g *ℤ (k *ℤ v)) *ℤ y
 through k l m u v s t f g x y p q r hp hq hr =
     ring (k ∷ l ∷ m ∷ r ∷ []) (((v0 ⊗ v1) ⊗ v2) ⊗ v3) ((v0 ⊗ v1) ⊗ (v2 ⊗ v3)) refl
     ∙ ap (λ (z : ℤ). (k *ℤ l) *ℤ z) hr
-    ∙ ring (k ∷ l ∷ u ∷ v ∷ p ∷ q ∷ []) ((v0 ⊗ v1) ⊗ (v2 ⊗ v4 ⊕ v3 ⊗ v5)) ((v1 ⊗ v2) ⊗ (v0 ⊗ v4) ⊕ (v0 ⊗ v3) ⊗ (v1 ⊗ v5)) refl
+    ∙ ring (k ∷ l ∷ u ∷ v ∷ p ∷ q ∷ []) ((v0 ⊗ v1) ⊗ (v2 ⊗ v4 ⊕ v3 ⊗ v5)) ((v1 ⊗ v2) ⊗ (v0 ⊗ v4) ⊕ (v0 ⊗ v3) ⊗
+    (v1 ⊗ v5)) refl
     ∙ ap₂ (λ (y z : ℤ). (l *ℤ u) *ℤ y +ℤ (k *ℤ v) *ℤ z) hp hq
     ∙ ring (k ∷ l ∷ u ∷ v ∷ s ∷ t ∷ f ∷ g ∷ x ∷ y ∷ [])
-    ((v1 ⊗ v2) ⊗ (v4 ⊗ v8 ⊕ v5 ⊗ v9) ⊕ (v0 ⊗ v3) ⊗ (v6 ⊗ v8 ⊕ v7 ⊗ v9)) ((v4 ⊗ (v1 ⊗ v2) ⊕ v6 ⊗ (v0 ⊗ v3)) ⊗ v8 ⊕ (v5 ⊗ (v1 ⊗ v2) ⊕ v7 ⊗ (v0 ⊗ v3)) ⊗ v9) refl
+    ((v1 ⊗ v2) ⊗ (v4 ⊗ v8 ⊕ v5 ⊗ v9) ⊕ (v0 ⊗ v3) ⊗ (v6 ⊗ v8 ⊕ v7 ⊗ v9)) ((v4 ⊗ (v1 ⊗ v2) ⊕ v6 ⊗ (v0 ⊗ v3)) ⊗ v8 ⊕
+    (v5 ⊗ (v1 ⊗ v2) ⊕ v7 ⊗ (v0 ⊗ v3)) ⊗ v9) refl
 
 -- their weights have a sum above 0
-some_through : (k l u v s t f g : ℤ) → pos 0 <ℤ k → pos 0 <ℤ l → pos 0 ≤ℤ u → pos 0 ≤ℤ v → pos 0 <ℤ (u +ℤ v) → pos 0 <ℤ (s +ℤ t) → pos 0 <ℤ (f +ℤ g)
+some_through : (k l u v s t f g : ℤ) → pos 0 <ℤ k → pos 0 <ℤ l → pos 0 ≤ℤ u → pos 0 ≤ℤ v → pos 0 <ℤ (u +ℤ v)
+    → pos 0 <ℤ (s +ℤ t) → pos 0 <ℤ (f +ℤ g)
     → pos 0 <ℤ ((s *ℤ (l *ℤ u) +ℤ f *ℤ (k *ℤ v)) +ℤ (t *ℤ (l *ℤ u) +ℤ g *ℤ (k *ℤ v)))
 some_through k l u v s t f g kp lp hu hv o st fg =
-    let same : (s *ℤ (l *ℤ u) +ℤ f *ℤ (k *ℤ v)) +ℤ (t *ℤ (l *ℤ u) +ℤ g *ℤ (k *ℤ v)) ≡ ((s +ℤ t) *ℤ l) *ℤ u +ℤ ((f +ℤ g) *ℤ k) *ℤ v =
-    ring (k ∷ l ∷ u ∷ v ∷ s ∷ t ∷ f ∷ g ∷ []) ((v4 ⊗ (v1 ⊗ v2) ⊕ v6 ⊗ (v0 ⊗ v3)) ⊕ (v5 ⊗ (v1 ⊗ v2) ⊕ v7 ⊗ (v0 ⊗ v3))) (((v4 ⊕ v5) ⊗ v1) ⊗ v2 ⊕ ((v6 ⊕ v7) ⊗ v0) ⊗ v3) refl in
+    let same : (s *ℤ (l *ℤ u) +ℤ f *ℤ (k *ℤ v)) +ℤ (t *ℤ (l *ℤ u) +ℤ g *ℤ (k *ℤ v)) ≡ ((s +ℤ t) *ℤ l) *ℤ u +ℤ
+    ((f +ℤ g) *ℤ k) *ℤ v =
+    ring (k ∷ l ∷ u ∷ v ∷ s ∷ t ∷ f ∷ g ∷ []) ((v4 ⊗ (v1 ⊗ v2) ⊕ v6 ⊗ (v0 ⊗ v3)) ⊕ (v5 ⊗ (v1 ⊗ v2) ⊕ v7 ⊗ (v0 ⊗ v3)))
+    (((v4 ⊕ v5) ⊗ v1) ⊗ v2 ⊕ ((v6 ⊕ v7) ⊗ v0) ⊗ v3) refl in
     let m : pos 0 <ℤ ((s +ℤ t) *ℤ l) = positive_product (s +ℤ t) l st lp in
     let n : pos 0 <ℤ ((f +ℤ g) *ℤ k) = positive_product (f +ℤ g) k fg kp in
     let a = at_least_mul ((s +ℤ t) *ℤ l) u (at_most_of_less (pos 0) ((s +ℤ t) *ℤ l) m) hu in
@@ -92,21 +98,27 @@ parts_are_on a b c d p h g o =
         (at_least_mul f (h.k *ℤ o.t) hf (at_least_mul h.k o.t (at_most_of_less (pos 0) h.k h.positive) o.second))
 
 -- ---- of the first or of the second part
-nearer_start : (k s t l f g x y m p : ℤ) → k *ℤ m ≡ s *ℤ x +ℤ t *ℤ y → l *ℤ p ≡ f *ℤ x +ℤ g *ℤ y → (t *ℤ l) *ℤ p ≡ (f *ℤ t -ℤ s *ℤ g) *ℤ x +ℤ (g *ℤ k) *ℤ m
+nearer_start : (k s t l f g x y m p : ℤ) → k *ℤ m ≡ s *ℤ x +ℤ t *ℤ y → l *ℤ p ≡ f *ℤ x +ℤ g *ℤ y
+    → (t *ℤ l) *ℤ p ≡ (f *ℤ t -ℤ s *ℤ g) *ℤ x +ℤ (g *ℤ k) *ℤ m
 nearer_start k s t l f g x y m p hm hp =
     ring (t ∷ l ∷ p ∷ []) ((v0 ⊗ v1) ⊗ v2) (v0 ⊗ (v1 ⊗ v2)) refl
     ∙ ap (λ (z : ℤ). t *ℤ z) hp
-    ∙ ring (t ∷ f ∷ x ∷ g ∷ y ∷ s ∷ []) (v0 ⊗ (v1 ⊗ v2 ⊕ v3 ⊗ v4)) ((v1 ⊗ v0 ⊖ v5 ⊗ v3) ⊗ v2 ⊕ v3 ⊗ (v5 ⊗ v2 ⊕ v0 ⊗ v4)) refl
+    ∙ ring (t ∷ f ∷ x ∷ g ∷ y ∷ s ∷ []) (v0 ⊗ (v1 ⊗ v2 ⊕ v3 ⊗ v4)) ((v1 ⊗ v0 ⊖ v5 ⊗ v3) ⊗ v2 ⊕ v3 ⊗ (v5 ⊗ v2 ⊕ v0 ⊗ v4))
+    refl
     ∙ ap (λ (z : ℤ). (f *ℤ t -ℤ s *ℤ g) *ℤ x +ℤ g *ℤ z) (sym hm)
-    ∙ ring (f ∷ t ∷ s ∷ g ∷ x ∷ k ∷ m ∷ []) ((v0 ⊗ v1 ⊖ v2 ⊗ v3) ⊗ v4 ⊕ v3 ⊗ (v5 ⊗ v6)) ((v0 ⊗ v1 ⊖ v2 ⊗ v3) ⊗ v4 ⊕ (v3 ⊗ v5) ⊗ v6) refl
+    ∙ ring (f ∷ t ∷ s ∷ g ∷ x ∷ k ∷ m ∷ []) ((v0 ⊗ v1 ⊖ v2 ⊗ v3) ⊗ v4 ⊕ v3 ⊗ (v5 ⊗ v6))
+    ((v0 ⊗ v1 ⊖ v2 ⊗ v3) ⊗ v4 ⊕ (v3 ⊗ v5) ⊗ v6) refl
 
-nearer_end : (k s t l f g x y m p : ℤ) → k *ℤ m ≡ s *ℤ x +ℤ t *ℤ y → l *ℤ p ≡ f *ℤ x +ℤ g *ℤ y → (s *ℤ l) *ℤ p ≡ (f *ℤ k) *ℤ m +ℤ (s *ℤ g -ℤ f *ℤ t) *ℤ y
+nearer_end : (k s t l f g x y m p : ℤ) → k *ℤ m ≡ s *ℤ x +ℤ t *ℤ y → l *ℤ p ≡ f *ℤ x +ℤ g *ℤ y
+    → (s *ℤ l) *ℤ p ≡ (f *ℤ k) *ℤ m +ℤ (s *ℤ g -ℤ f *ℤ t) *ℤ y
 nearer_end k s t l f g x y m p hm hp =
     ring (s ∷ l ∷ p ∷ []) ((v0 ⊗ v1) ⊗ v2) (v0 ⊗ (v1 ⊗ v2)) refl
     ∙ ap (λ (z : ℤ). s *ℤ z) hp
-    ∙ ring (s ∷ f ∷ x ∷ g ∷ y ∷ t ∷ []) (v0 ⊗ (v1 ⊗ v2 ⊕ v3 ⊗ v4)) (v1 ⊗ (v0 ⊗ v2 ⊕ v5 ⊗ v4) ⊕ (v0 ⊗ v3 ⊖ v1 ⊗ v5) ⊗ v4) refl
+    ∙ ring (s ∷ f ∷ x ∷ g ∷ y ∷ t ∷ []) (v0 ⊗ (v1 ⊗ v2 ⊕ v3 ⊗ v4)) (v1 ⊗ (v0 ⊗ v2 ⊕ v5 ⊗ v4) ⊕ (v0 ⊗ v3 ⊖ v1 ⊗ v5) ⊗ v4)
+    refl
     ∙ ap (λ (z : ℤ). f *ℤ z +ℤ (s *ℤ g -ℤ f *ℤ t) *ℤ y) (sym hm)
-    ∙ ring (f ∷ k ∷ m ∷ s ∷ g ∷ t ∷ y ∷ []) (v0 ⊗ (v1 ⊗ v2) ⊕ (v3 ⊗ v4 ⊖ v0 ⊗ v5) ⊗ v6) ((v0 ⊗ v1) ⊗ v2 ⊕ (v3 ⊗ v4 ⊖ v0 ⊗ v5) ⊗ v6) refl
+    ∙ ring (f ∷ k ∷ m ∷ s ∷ g ∷ t ∷ y ∷ []) (v0 ⊗ (v1 ⊗ v2) ⊕ (v3 ⊗ v4 ⊖ v0 ⊗ v5) ⊗ v6)
+    ((v0 ⊗ v1) ⊗ v2 ⊕ (v3 ⊗ v4 ⊖ v0 ⊗ v5) ⊗ v6) refl
 
 at_start : (l f g x y p m : ℤ) → g ≡ pos 0 → l *ℤ p ≡ f *ℤ x +ℤ g *ℤ y → l *ℤ p ≡ f *ℤ x +ℤ pos 0 *ℤ m
 at_start l f g x y p m h e = e ∙ ap (λ (z : ℤ). f *ℤ x +ℤ z *ℤ y) h ∙ nothing (f *ℤ x) y m
@@ -148,7 +160,8 @@ module _ (a b m p : Point) (h : IsOn a b m) (g : IsOn a b p) where
       let t_zero : h.t ≡ pos 0 = zero_between h.t h.second n in
       let hs = h.some in
       let s_positive : pos 0 <ℤ h.s = omega (arith, ints) in
-      let none : g.s *ℤ h.t ≡ pos 0 = ap (λ (z : ℤ). g.s *ℤ z) t_zero ∙ ring (g.s ∷ []) (v0 ⊗ num (pos 0)) (num (pos 0)) refl in
+      let none : g.s *ℤ h.t ≡ pos 0 = ap (λ (z : ℤ). g.s *ℤ z) t_zero ∙ ring (g.s ∷ []) (v0 ⊗ num (pos 0)) (num (pos 0))
+      refl in
       by_lt_z (pos 0) g.t (λ k. let q = positive_product h.s g.t s_positive k in absurd (omega (arith, ints))) (λ k. same_start (zero_between g.t g.second k)))
     where
       same_start : g.t ≡ pos 0 → IsOn a m p
@@ -167,15 +180,18 @@ module _ (a b m p : Point) (h : IsOn a b m) (g : IsOn a b p) where
             d = at_start g.k g.s g.t a.d b.d p.d m.d e g.d;
           }
 
-      some_weight : pos 0 <ℤ h.t → pos 0 ≤ℤ (g.s *ℤ h.t -ℤ h.s *ℤ g.t) → pos 0 <ℤ ((g.s *ℤ h.t -ℤ h.s *ℤ g.t) +ℤ g.t *ℤ h.k)
+      some_weight : pos 0 <ℤ h.t → pos 0 ≤ℤ (g.s *ℤ h.t -ℤ h.s *ℤ g.t)
+          → pos 0 <ℤ ((g.s *ℤ h.t -ℤ h.s *ℤ g.t) +ℤ g.t *ℤ h.k)
       some_weight t l = by_lt_z (pos 0) g.t (λ k. let q = positive_product g.t h.k k h.positive in omega (arith, ints))
           (λ k.
           let e : g.t ≡ pos 0 = zero_between g.t g.second k in
           let o = g.some in
           let s_positive : pos 0 <ℤ g.s = omega (arith, ints) in
           let q = positive_product g.s h.t s_positive t in
-          let y : h.s *ℤ g.t ≡ pos 0 = ap (λ (z : ℤ). h.s *ℤ z) e ∙ ring (h.s ∷ []) (v0 ⊗ num (pos 0)) (num (pos 0)) refl in
-          let z : g.t *ℤ h.k ≡ pos 0 = ap (λ (z : ℤ). z *ℤ h.k) e ∙ ring (h.k ∷ []) (num (pos 0) ⊗ v0) (num (pos 0)) refl in
+          let y : h.s *ℤ g.t ≡ pos 0 = ap (λ (z : ℤ). h.s *ℤ z) e ∙ ring (h.s ∷ []) (v0 ⊗ num (pos 0)) (num (pos 0))
+          refl in
+          let z : g.t *ℤ h.k ≡ pos 0 = ap (λ (z : ℤ). z *ℤ h.k) e ∙ ring (h.k ∷ []) (num (pos 0) ⊗ v0) (num (pos 0))
+          refl in
           omega (arith, ints))
 
       inner : pos 0 <ℤ h.t → IsOn a m p
@@ -195,4 +211,5 @@ module _ (a b m p : Point) (h : IsOn a b m) (g : IsOn a b p) where
           }
 
 pub parts_are_all : PartsAreAll
-parts_are_all a b m p h g = by_lt_z (g.s *ℤ h.t) (h.s *ℤ g.t) (λ o. inr (on_second a b m p h g o)) (λ o. inl (on_first a b m p h g o))
+parts_are_all a b m p h g = by_lt_z (g.s *ℤ h.t) (h.s *ℤ g.t) (λ o. inr (on_second a b m p h g o))
+    (λ o. inl (on_first a b m p h g o))

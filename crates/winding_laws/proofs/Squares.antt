@@ -42,9 +42,15 @@ far_by_clear h q a b c s t hs ht o n = c s t hs ht o (close_by_near h q (mean s 
 pub clear_by_far : (h : ℤ) (q a b : Point) → IsFar (square h) q a b → IsClear h q a b
 clear_by_far h q a b f s t hs ht o = λ c. f s t hs ht o (near_by_close h q (mean s t a b) c)
 
-pub far_segments : (h : ℤ) (q : Point) (ss : List Segment) → AllByRecursion (IsClearSegment h q) ss → AllByRecursion (IsFarSegment (square h) q) ss
+pub far_segments : (h : ℤ) (q : Point) (ss : List Segment) → AllByRecursion (IsClearSegment h q) ss
+    → AllByRecursion (IsFarSegment (square h) q) ss
 far_segments h q [] c = tt
-far_segments h q (s ∷ ss) c = (record { proper = c.0.proper; far = far_by_clear h q s.from s.to c.0.clear }, far_segments h q ss c.1)
+far_segments h q (s ∷ ss) c = (
+  record { proper = c.0.proper; far = far_by_clear h q s.from s.to c.0.clear },
+  far_segments h q ss c.1,
+)
 
 pub square_holds_origin : (h : ℤ) → pos 0 ≤ℤ h → HoldsOrigin (square h)
-square_holds_origin h l = held_by h (record { x = pos 0; y = pos 0; d = pos 1 }) (record { from = omega (arith, ints); to = omega (arith, ints) }) (record { from = omega (arith, ints); to = omega (arith, ints) })
+square_holds_origin h l = held_by h (record { x = pos 0; y = pos 0; d = pos 1 })
+    (record { from = omega (arith, ints); to = omega (arith, ints) })
+    (record { from = omega (arith, ints); to = omega (arith, ints) })

@@ -63,26 +63,31 @@ points-without p (q ∷ qs) h = by_test (is_same_point p q) (points-without p qs
     by_test true r = h.1
     by_test false r = (h.0, r)
 
-tally-without : (x p : Point) → IsPoint x → (qs : List Point) → AllByRecursion IsPoint qs → 1 ≤ tally x qs → tally p qs ≡ once (is_same_point p x) + tally p (without x qs)
+tally-without : (x p : Point) → IsPoint x → (qs : List Point) → AllByRecursion IsPoint qs → 1 ≤ tally x qs
+    → tally p qs ≡ once (is_same_point p x) + tally p (without x qs)
 tally-without x p dx [] d h = absurd (omega arith)
 tally-without x p dx (q ∷ qs) d h = by_test (is_same_point x q) refl h (tally-without x p dx qs d.1)
   where
-    by_test : (t : Bool) → is_same_point x q ≡ t → 1 ≤ once t + tally x qs → (1 ≤ tally x qs → tally p qs ≡ once (is_same_point p x) + tally p (without x qs))
+    by_test : (t : Bool) → is_same_point x q ≡ t → 1 ≤ once t + tally x qs
+        → (1 ≤ tally x qs → tally p qs ≡ once (is_same_point p x) + tally p (without x qs))
         → once (is_same_point p q) + tally p qs ≡ once (is_same_point p x) + tally p (cond t qs (q ∷ without x qs))
     by_test true e h r = ap (λ (b : Bool). once b + tally p qs) (sym (same_through p x q dx d.0 e))
     by_test false e h r = let s = r (omega arith) in omega arith
 
 module _ (f : Point → ℤ) (same : (p q : Point) → IsPoint p → IsPoint q → is_same_point p q ≡ true → f p ≡ f q) where
-  total-without : (x : Point) → IsPoint x → (qs : List Point) → AllByRecursion IsPoint qs → 1 ≤ tally x qs → sum_z f qs ≡ f x +ℤ sum_z f (without x qs)
+  total-without : (x : Point) → IsPoint x → (qs : List Point) → AllByRecursion IsPoint qs → 1 ≤ tally x qs
+      → sum_z f qs ≡ f x +ℤ sum_z f (without x qs)
   total-without x dx [] d h = absurd (omega arith)
   total-without x dx (q ∷ qs) d h = by_test (is_same_point x q) refl h (total-without x dx qs d.1)
     where
-      by_test : (t : Bool) → is_same_point x q ≡ t → 1 ≤ once t + tally x qs → (1 ≤ tally x qs → sum_z f qs ≡ f x +ℤ sum_z f (without x qs))
+      by_test : (t : Bool) → is_same_point x q ≡ t → 1 ≤ once t + tally x qs
+          → (1 ≤ tally x qs → sum_z f qs ≡ f x +ℤ sum_z f (without x qs))
           → f q +ℤ sum_z f qs ≡ f x +ℤ sum_z f (cond t qs (q ∷ without x qs))
       by_test true e h r = ap (λ (z : ℤ). z +ℤ sum_z f qs) (sym (same x q dx d.0 e))
       by_test false e h r = sum_with (f q) (sum_z f qs) (f x) (sum_z f (without x qs)) (r (omega arith))
 
-  total-same : (ps qs : List Point) → AllByRecursion IsPoint ps → AllByRecursion IsPoint qs → ((p : Point) → IsPoint p → tally p ps ≡ tally p qs) → sum_z f ps ≡ sum_z f qs
+  total-same : (ps qs : List Point) → AllByRecursion IsPoint ps → AllByRecursion IsPoint qs
+      → ((p : Point) → IsPoint p → tally p ps ≡ tally p qs) → sum_z f ps ≡ sum_z f qs
   total-same [] [] dp dq h = refl
   total-same [] (q ∷ qs) dp dq h =
       let t = h q dq.0 in
@@ -104,5 +109,7 @@ module _ (f : Point → ℤ) (same : (p q : Point) → IsPoint p → IsPoint q �
   points-ends [] h = tt
   points-ends (s ∷ ss) h = (h.0.to, points-ends ss h.1)
 
-  pub balanced_totals : (ss : List Segment) → AllByRecursion IsProper ss → IsBalanced ss → sum_z f (starts ss) ≡ sum_z f (ends ss)
-  balanced_totals ss d h = total-same (starts ss) (ends ss) (points-starts ss d) (points-ends ss d) (λ p dp. sym (tally-starts p ss) ∙ h.each p dp ∙ tally-ends p ss)
+  pub balanced_totals : (ss : List Segment) → AllByRecursion IsProper ss → IsBalanced ss → sum_z f (starts ss)
+      ≡ sum_z f (ends ss)
+  balanced_totals ss d h = total-same (starts ss) (ends ss) (points-starts ss d) (points-ends ss d)
+      (λ p dp. sym (tally-starts p ss) ∙ h.each p dp ∙ tally-ends p ss)

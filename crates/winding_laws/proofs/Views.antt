@@ -56,20 +56,24 @@ side_seen q a b =
     (((v0 ⊗ v8 ⊖ v6 ⊗ v2) ⊗ (v4 ⊗ v8 ⊖ v7 ⊗ v5) ⊖ (v1 ⊗ v8 ⊖ v7 ⊗ v2) ⊗ (v3 ⊗ v8 ⊖ v6 ⊗ v5)) ⊗ v2) refl
 
 -- tests of a product, where both its second factors have one sign
-pub same_sign : (right : Bool) (p x y k l : ℤ) → pos 0 <ℤ k → pos 0 <ℤ l → x *ℤ k ≡ y *ℤ l → is_beyond right (p *ℤ x) ≡ is_beyond right (p *ℤ y)
+pub same_sign : (right : Bool) (p x y k l : ℤ) → pos 0 <ℤ k → pos 0 <ℤ l → x *ℤ k ≡ y *ℤ l → is_beyond right (p *ℤ x)
+    ≡ is_beyond right (p *ℤ y)
 same_sign right p x y k l kp lp e =
     sym (beyond_mul right k (p *ℤ x) kp)
     ∙ ap (is_beyond right) (mul_assoc p x k ∙ ap (λ (z : ℤ). p *ℤ z) e ∙ sym (mul_assoc p y l))
     ∙ beyond_mul right l (p *ℤ y) lp
 
-pub turn_seen : (above right : Bool) (q a b : Point) → pos 0 <ℤ q.d → pos 0 <ℤ a.d → turn above right q a b ≡ swing above right (seen_from q a) (seen_from q b)
+pub turn_seen : (above right : Bool) (q a b : Point) → pos 0 <ℤ q.d → pos 0 <ℤ a.d → turn above right q a b
+    ≡ swing above right (seen_from q a) (seen_from q b)
 unfolding turn passage_by swing
 turn_seen above right q a b dq da =
     let s = is_over_seen above q a in
     let t = is_over_seen above q b in
     ap₂ (λ (s t : Bool). swing_by right s t (side_by q a b)) s t
-    ∙ ap (λ (u : Bool). if u then counted (is_beyond above (seen_from q b).y) -ℤ counted (is_beyond above (seen_from q a).y) else pos 0)
-    (same_sign right (counted (is_beyond above (seen_from q b).y) -ℤ counted (is_beyond above (seen_from q a).y)) (side_by q a b) (cross (seen_from q a) (seen_from q b)) q.d a.d dq da (side_seen q a b))
+    ∙ ap (λ (u : Bool). if u then counted (is_beyond above (seen_from q b).y) -ℤ counted
+    (is_beyond above (seen_from q a).y) else pos 0)
+    (same_sign right (counted (is_beyond above (seen_from q b).y) -ℤ counted (is_beyond above (seen_from q a).y))
+    (side_by q a b) (cross (seen_from q a) (seen_from q b)) q.d a.d dq da (side_seen q a b))
 
 -- ---- backwards
 pub cross_turned : (a b : Point) → cross b a ≡ pos 0 -ℤ cross a b
@@ -105,7 +109,8 @@ pub record IsAlong (a b : Point) : Type 0 where
   pub y : a.y *ℤ k ≡ b.y *ℤ l
 
 beyond_along : (above : Bool) (a b : Point) → IsAlong a b → is_beyond above a.y ≡ is_beyond above b.y
-beyond_along above a b h = sym (beyond_mul above h.k a.y h.k_positive) ∙ ap (is_beyond above) h.y ∙ beyond_mul above h.l b.y h.l_positive
+beyond_along above a b h = sym (beyond_mul above h.k a.y h.k_positive) ∙ ap (is_beyond above) h.y ∙ beyond_mul above h.l
+    b.y h.l_positive
 
 cross_along : (a b c : Point) (h : IsAlong a b) → cross a c *ℤ h.k ≡ cross b c *ℤ h.l
 unfolding cross
@@ -119,7 +124,9 @@ unfolding swing
 swing_along above right a b c h =
     ap (λ (s : Bool). swing_by right s (is_beyond above c.y) (cross a c)) (beyond_along above a b h)
     ∙ ap (λ (u : Bool). if u then counted (is_beyond above c.y) -ℤ counted (is_beyond above b.y) else pos 0)
-    (same_sign right (counted (is_beyond above c.y) -ℤ counted (is_beyond above b.y)) (cross a c) (cross b c) h.k h.l h.k_positive h.l_positive (cross_along a b c h))
+    (same_sign right (counted (is_beyond above c.y) -ℤ counted (is_beyond above b.y)) (cross a c) (cross b c) h.k h.l
+    h.k_positive h.l_positive (cross_along a b c h))
 
 pub swing_to_along : (above right : Bool) (c a b : Point) → IsAlong a b → swing above right c a ≡ swing above right c b
-swing_to_along above right c a b h = swing_turned above right a c ∙ ap (λ (z : ℤ). pos 0 -ℤ z) (swing_along above right a b c h) ∙ sym (swing_turned above right b c)
+swing_to_along above right c a b h = swing_turned above right a c ∙ ap (λ (z : ℤ). pos 0 -ℤ z)
+    (swing_along above right a b c h) ∙ sym (swing_turned above right b c)

@@ -42,10 +42,12 @@ left_is : (x y u v : ℤ) → v *ℤ x +ℤ (pos 0 -ℤ u) *ℤ y ≡ x *ℤ v -
 left_is x y u v = ring (x ∷ y ∷ u ∷ v ∷ []) (v3 ⊗ v0 ⊕ (num (pos 0) ⊖ v2) ⊗ v1) (v0 ⊗ v3 ⊖ v1 ⊗ v2) refl
 
 right_is : (x y u v : ℤ) → (pos 0 -ℤ v) *ℤ x +ℤ u *ℤ y ≡ pos 0 -ℤ (x *ℤ v -ℤ y *ℤ u)
-right_is x y u v = ring (x ∷ y ∷ u ∷ v ∷ []) ((num (pos 0) ⊖ v3) ⊗ v0 ⊕ v2 ⊗ v1) (num (pos 0) ⊖ (v0 ⊗ v3 ⊖ v1 ⊗ v2)) refl
+right_is x y u v = ring (x ∷ y ∷ u ∷ v ∷ []) ((num (pos 0) ⊖ v3) ⊗ v0 ⊕ v2 ⊗ v1) (num (pos 0) ⊖ (v0 ⊗ v3 ⊖ v1 ⊗ v2))
+    refl
 
 back_is : (x y u v : ℤ) → (pos 0 -ℤ u) *ℤ x +ℤ (pos 0 -ℤ v) *ℤ y ≡ pos 0 -ℤ (x *ℤ u +ℤ y *ℤ v)
-back_is x y u v = ring (x ∷ y ∷ u ∷ v ∷ []) ((num (pos 0) ⊖ v2) ⊗ v0 ⊕ (num (pos 0) ⊖ v3) ⊗ v1) (num (pos 0) ⊖ (v0 ⊗ v2 ⊕ v1 ⊗ v3)) refl
+back_is x y u v = ring (x ∷ y ∷ u ∷ v ∷ []) ((num (pos 0) ⊖ v2) ⊗ v0 ⊕ (num (pos 0) ⊖ v3) ⊗ v1)
+    (num (pos 0) ⊖ (v0 ⊗ v2 ⊕ v1 ⊗ v3)) refl
 
 far_is : (x y u v w : ℤ) → (u *ℤ w) *ℤ x +ℤ (v *ℤ w) *ℤ y ≡ (x *ℤ u +ℤ y *ℤ v) *ℤ w
 far_is x y u v w = ring (x ∷ y ∷ u ∷ v ∷ w ∷ []) ((v2 ⊗ v4) ⊗ v0 ⊕ (v3 ⊗ v4) ⊗ v1) ((v0 ⊗ v2 ⊕ v1 ⊗ v3) ⊗ v4) refl
@@ -62,7 +64,8 @@ turned_at_most z h = omega (arith, ints)
 behind_at_most : (z : ℤ) → pos 0 ≤ℤ z → (pos 0 -ℤ z) ≤ℤ pos 0
 behind_at_most z h = omega (arith, ints)
 
-on_way : (d p : Point) → off d p ≡ pos 0 → pos 0 ≤ℤ along d p → (along d p *ℤ d.d) ≤ℤ (length d *ℤ p.d) → Holds (way d) p
+on_way : (d p : Point) → off d p ≡ pos 0 → pos 0 ≤ℤ along d p → (along d p *ℤ d.d) ≤ℤ (length d *ℤ p.d)
+    → Holds (way d) p
 on_way d p o a f = (
   at_most_as _ _ _ _ (left_is p.x p.y d.x d.y) (zero-*ℤ p.d) (zero_at_most (off d p) o),
   (
@@ -85,7 +88,8 @@ ahead z h = omega (arith, ints)
 
 way_off : (d p : Point) → Holds (way d) p → off d p ≡ pos 0
 way_off d p h =
-    between_zeros (off d p) (at_most_from _ _ _ _ (left_is p.x p.y d.x d.y) (zero-*ℤ p.d) h.0) (at_most_from _ _ _ _ (right_is p.x p.y d.x d.y) (zero-*ℤ p.d) h.1.0)
+    between_zeros (off d p) (at_most_from _ _ _ _ (left_is p.x p.y d.x d.y) (zero-*ℤ p.d) h.0)
+    (at_most_from _ _ _ _ (right_is p.x p.y d.x d.y) (zero-*ℤ p.d) h.1.0)
 
 way_along : (d p : Point) → Holds (way d) p → pos 0 ≤ℤ along d p
 way_along d p h = ahead (along d p) (at_most_from _ _ _ _ (back_is p.x p.y d.x d.y) (zero-*ℤ p.d) h.1.1.0)
@@ -101,11 +105,14 @@ pub way_holds_origin : (d : Point) → HoldsOrigin (way d)
 way_holds_origin d =
     on_way d (record { x = pos 0; y = pos 0; d = pos 1 })
     (ring (d.x ∷ d.y ∷ []) (num (pos 0) ⊗ v1 ⊖ num (pos 0) ⊗ v0) (num (pos 0)) refl)
-    (at_most_as _ _ _ _ refl (ring (d.x ∷ d.y ∷ []) (num (pos 0) ⊗ v0 ⊕ num (pos 0) ⊗ v1) (num (pos 0)) refl) (omega (arith, ints)))
-    (at_most_as _ _ _ _ (ring (d.x ∷ d.y ∷ d.d ∷ []) ((num (pos 0) ⊗ v0 ⊕ num (pos 0) ⊗ v1) ⊗ v2) (num (pos 0)) refl) (mul-one (length d)) (length_at_least d))
+    (at_most_as _ _ _ _ refl (ring (d.x ∷ d.y ∷ []) (num (pos 0) ⊗ v0 ⊕ num (pos 0) ⊗ v1) (num (pos 0)) refl)
+    (omega (arith, ints)))
+    (at_most_as _ _ _ _ (ring (d.x ∷ d.y ∷ d.d ∷ []) ((num (pos 0) ⊗ v0 ⊕ num (pos 0) ⊗ v1) ⊗ v2) (num (pos 0)) refl)
+    (mul-one (length d)) (length_at_least d))
 
 way_holds_end : (d : Point) → Holds (way d) d
-way_holds_end d = on_way d d (no_gap (d.x *ℤ d.y) (d.y *ℤ d.x) (ring (d.x ∷ d.y ∷ []) (v0 ⊗ v1) (v1 ⊗ v0) refl)) (length_at_least d) (at_most_itself (length d *ℤ d.d))
+way_holds_end d = on_way d d (no_gap (d.x *ℤ d.y) (d.y *ℤ d.x) (ring (d.x ∷ d.y ∷ []) (v0 ⊗ v1) (v1 ⊗ v0) refl))
+    (length_at_least d) (at_most_itself (length d *ℤ d.d))
   where
     at_most_itself : (z : ℤ) → z ≤ℤ z
     at_most_itself z = omega (arith, ints)
@@ -113,7 +120,8 @@ way_holds_end d = on_way d d (no_gap (d.x *ℤ d.y) (d.y *ℤ d.x) (ring (d.x �
 -- a point that is moved back by d is near to where it was
 pub near_moved_back : (d p : Point) → pos 0 ≤ℤ (p.d *ℤ p.d) → IsNear (way d) (seen_from d p) p
 near_moved_back d p least =
-    holds_as (way d) (scaled d (p.d *ℤ p.d)) (seen_from (seen_from d p) p) (one_axis d.x d.d p.x p.d) (one_axis d.y d.d p.y p.d) (weight d.d p.d)
+    holds_as (way d) (scaled d (p.d *ℤ p.d)) (seen_from (seen_from d p) p) (one_axis d.x d.d p.x p.d)
+    (one_axis d.y d.d p.y p.d) (weight d.d p.d)
     (holds_scaled (way d) d (p.d *ℤ p.d) least (way_holds_end d))
   where
     one_axis : (z e x d : ℤ) → z *ℤ (d *ℤ d) ≡ x *ℤ (d *ℤ e) -ℤ (x *ℤ e -ℤ z *ℤ d) *ℤ d
@@ -123,17 +131,20 @@ near_moved_back d p least =
     weight e d = ring (e ∷ d ∷ []) (v0 ⊗ (v1 ⊗ v1)) (v1 ⊗ (v1 ⊗ v0)) refl
 
 -- ---- a convex region that holds both ends, seen from a centre, holds the way
-module _ (region : List HalfPlane) (c d o : Point) (ox : o.x ≡ pos 0) (oy : o.y ≡ pos 0) (dd : pos 0 ≤ℤ d.d) (od : pos 0 <ℤ o.d) (more : pos 0 <ℤ length d)
+module _ (region : List HalfPlane) (c d o : Point) (ox : o.x ≡ pos 0) (oy : o.y ≡ pos 0) (dd : pos 0 ≤ℤ d.d)
+    (od : pos 0 <ℤ o.d) (more : pos 0 <ℤ length d)
     (no : IsNear region c o) (nd : IsNear region c d) where
   place_x : (d p : Point) → off d p ≡ pos 0 → length d *ℤ p.x ≡ along d p *ℤ d.x
   place_x d p h =
-      ring (d.x ∷ d.y ∷ p.x ∷ p.y ∷ []) ((v0 ⊗ v0 ⊕ v1 ⊗ v1) ⊗ v2) ((v2 ⊗ v0 ⊕ v3 ⊗ v1) ⊗ v0 ⊕ v1 ⊗ (v2 ⊗ v1 ⊖ v3 ⊗ v0)) refl
+      ring (d.x ∷ d.y ∷ p.x ∷ p.y ∷ []) ((v0 ⊗ v0 ⊕ v1 ⊗ v1) ⊗ v2) ((v2 ⊗ v0 ⊕ v3 ⊗ v1) ⊗ v0 ⊕ v1 ⊗ (v2 ⊗ v1 ⊖ v3 ⊗ v0))
+      refl
       ∙ ap (λ (z : ℤ). along d p *ℤ d.x +ℤ d.y *ℤ z) h
       ∙ ring ((along d p *ℤ d.x) ∷ d.y ∷ []) (v0 ⊕ v1 ⊗ num (pos 0)) v0 refl
 
   place_y : (d p : Point) → off d p ≡ pos 0 → length d *ℤ p.y ≡ along d p *ℤ d.y
   place_y d p h =
-      ring (d.x ∷ d.y ∷ p.x ∷ p.y ∷ []) ((v0 ⊗ v0 ⊕ v1 ⊗ v1) ⊗ v3) ((v2 ⊗ v0 ⊕ v3 ⊗ v1) ⊗ v1 ⊖ v0 ⊗ (v2 ⊗ v1 ⊖ v3 ⊗ v0)) refl
+      ring (d.x ∷ d.y ∷ p.x ∷ p.y ∷ []) ((v0 ⊗ v0 ⊕ v1 ⊗ v1) ⊗ v3) ((v2 ⊗ v0 ⊕ v3 ⊗ v1) ⊗ v1 ⊖ v0 ⊗ (v2 ⊗ v1 ⊖ v3 ⊗ v0))
+      refl
       ∙ ap (λ (z : ℤ). along d p *ℤ d.y -ℤ d.x *ℤ z) h
       ∙ ring ((along d p *ℤ d.y) ∷ d.x ∷ []) (v0 ⊖ v1 ⊗ num (pos 0)) v0 refl
 
@@ -141,12 +152,15 @@ module _ (region : List HalfPlane) (c d o : Point) (ox : o.x ≡ pos 0) (oy : o.
       → (z *ℤ k -ℤ w *ℤ f) *ℤ (n *ℤ m -ℤ g *ℤ e) +ℤ (y *ℤ k -ℤ w *ℤ e) *ℤ (g *ℤ f) ≡ (x *ℤ k -ℤ w *ℤ m) *ℤ (f *ℤ n)
   one_axis n m g e k z w x y f hz hx =
       ap (λ (u : ℤ). (u *ℤ k -ℤ w *ℤ f) *ℤ (n *ℤ m -ℤ g *ℤ e) +ℤ (y *ℤ k -ℤ w *ℤ e) *ℤ (g *ℤ f)) hz
-      ∙ ring (n ∷ m ∷ g ∷ e ∷ k ∷ w ∷ y ∷ f ∷ []) ((num (pos 0) ⊗ v4 ⊖ v5 ⊗ v7) ⊗ (v0 ⊗ v1 ⊖ v2 ⊗ v3) ⊕ (v6 ⊗ v4 ⊖ v5 ⊗ v3) ⊗ (v2 ⊗ v7)) ((v2 ⊗ v6) ⊗ (v4 ⊗ v7) ⊖ (v5 ⊗ v1) ⊗ (v7 ⊗ v0)) refl
+      ∙ ring (n ∷ m ∷ g ∷ e ∷ k ∷ w ∷ y ∷ f ∷ []) ((num (pos 0) ⊗ v4 ⊖ v5 ⊗ v7) ⊗ (v0 ⊗ v1 ⊖ v2 ⊗ v3) ⊕
+      (v6 ⊗ v4 ⊖ v5 ⊗ v3) ⊗ (v2 ⊗ v7)) ((v2 ⊗ v6) ⊗ (v4 ⊗ v7) ⊖ (v5 ⊗ v1) ⊗ (v7 ⊗ v0)) refl
       ∙ ap (λ (u : ℤ). u *ℤ (k *ℤ f) -ℤ (w *ℤ m) *ℤ (f *ℤ n)) (sym hx)
-      ∙ ring (n ∷ m ∷ k ∷ w ∷ x ∷ f ∷ []) ((v0 ⊗ v4) ⊗ (v2 ⊗ v5) ⊖ (v3 ⊗ v1) ⊗ (v5 ⊗ v0)) ((v4 ⊗ v2 ⊖ v3 ⊗ v1) ⊗ (v5 ⊗ v0)) refl
+      ∙ ring (n ∷ m ∷ k ∷ w ∷ x ∷ f ∷ []) ((v0 ⊗ v4) ⊗ (v2 ⊗ v5) ⊖ (v3 ⊗ v1) ⊗ (v5 ⊗ v0))
+      ((v4 ⊗ v2 ⊖ v3 ⊗ v1) ⊗ (v5 ⊗ v0)) refl
 
   weights : (n m g e k f : ℤ) → (f *ℤ k) *ℤ (n *ℤ m -ℤ g *ℤ e) +ℤ (e *ℤ k) *ℤ (g *ℤ f) ≡ (m *ℤ k) *ℤ (f *ℤ n)
-  weights n m g e k f = ring (n ∷ m ∷ g ∷ e ∷ k ∷ f ∷ []) ((v5 ⊗ v4) ⊗ (v0 ⊗ v1 ⊖ v2 ⊗ v3) ⊕ (v3 ⊗ v4) ⊗ (v2 ⊗ v5)) ((v1 ⊗ v4) ⊗ (v5 ⊗ v0)) refl
+  weights n m g e k f = ring (n ∷ m ∷ g ∷ e ∷ k ∷ f ∷ []) ((v5 ⊗ v4) ⊗ (v0 ⊗ v1 ⊖ v2 ⊗ v3) ⊕ (v3 ⊗ v4) ⊗ (v2 ⊗ v5))
+      ((v1 ⊗ v4) ⊗ (v5 ⊗ v0)) refl
 
   pub way_near : (p : Point) → Holds (way d) p → IsNear region c p
   way_near p h =
@@ -157,10 +171,13 @@ module _ (region : List HalfPlane) (c d o : Point) (ox : o.x ≡ pos 0) (oy : o.
       let second : Point = scaled (seen_from c d) (g *ℤ o.d) in
       holds_left region (seen_from c p) (o.d *ℤ n) (positive_product o.d n od more)
       (holds_as region (added first second) (scaled (seen_from c p) (o.d *ℤ n))
-      (one_axis n p.d g d.d c.d o.x c.x p.x d.x o.d ox (place_x d p (way_off d p h))) (one_axis n p.d g d.d c.d o.y c.y p.y d.y o.d oy (place_y d p (way_off d p h)))
+      (one_axis n p.d g d.d c.d o.x c.x p.x d.x o.d ox (place_x d p (way_off d p h))) (one_axis n p.d g d.d c.d o.y c.y
+      p.y d.y o.d oy (place_y d p (way_off d p h)))
       (weights n p.d g d.d c.d o.d)
-      (holds_added region first second (holds_scaled region (seen_from c o) u (gap_of_at_most (g *ℤ d.d) (n *ℤ p.d) (way_far d p h)) no)
-      (holds_scaled region (seen_from c d) (g *ℤ o.d) (at_least_mul g o.d (way_along d p h) (at_most_of_less (pos 0) o.d od)) nd)))
+      (holds_added region first second (holds_scaled region (seen_from c o) u (gap_of_at_most (g *ℤ d.d) (n *ℤ p.d)
+      (way_far d p h)) no)
+      (holds_scaled region (seen_from c d) (g *ℤ o.d) (at_least_mul g o.d (way_along d p h)
+      (at_most_of_less (pos 0) o.d od)) nd)))
 
 -- ---- a way has a length or none
 positive_square : (z : ℤ) → (z ≡ pos 0 → ⊥) → pos 0 <ℤ (z *ℤ z)
@@ -173,11 +190,13 @@ positive_square z n = by_lt_z (pos 0) z (λ h. positive_product z z h h)
 
 pub by_length : {A : Type 0} (d : Point) → (pos 0 <ℤ length d → A) → (d.x ≡ pos 0 → d.y ≡ pos 0 → A) → A
 by_length {A = A} d f g =
-    by_zero d.x (λ x. by_zero d.y (λ y. g x y) (λ n. f (more (d.x *ℤ d.x) (d.y *ℤ d.y) (square_at_least d.x) (positive_square d.y n))))
+    by_zero d.x (λ x. by_zero d.y (λ y. g x y)
+    (λ n. f (more (d.x *ℤ d.x) (d.y *ℤ d.y) (square_at_least d.x) (positive_square d.y n))))
     (λ n. f (sum_above (d.x *ℤ d.x) (d.y *ℤ d.y) (positive_square d.x n) (square_at_least d.y)))
   where
     more : (s t : ℤ) → pos 0 ≤ℤ s → pos 0 <ℤ t → pos 0 <ℤ (s +ℤ t)
     more s t h k = omega (arith, ints)
 
     by_zero : (z : ℤ) → (z ≡ pos 0 → A) → ((z ≡ pos 0 → ⊥) → A) → A
-    by_zero z zero other = by_lt_z (pos 0) z (λ h. other (λ e. omega (arith, ints))) (λ h. by_lt_z z (pos 0) (λ k. other (λ e. omega (arith, ints))) (λ k. zero (omega (arith, ints))))
+    by_zero z zero other = by_lt_z (pos 0) z (λ h. other (λ e. omega (arith, ints)))
+        (λ h. by_lt_z z (pos 0) (λ k. other (λ e. omega (arith, ints))) (λ k. zero (omega (arith, ints))))

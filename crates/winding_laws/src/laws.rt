@@ -98,25 +98,3 @@ pub fn squares_have_one_winding()
 pub fn forms_wind_alike()
     ensures { FormsWindAlike }
 {}
-
-#[cfg(test)]
-mod tests {
-    use super::*;
-
-    #[test]
-    fn laws_are_called() {
-        moves_keep_winding();
-        rounding_keeps_winding();
-        lengths_keep_winding();
-        order_keeps_winding();
-        joining_keeps_winding();
-        cancelling_keeps_winding();
-        points_of_parts();
-        parts_are_far();
-        moves_stay_far();
-        points_follow();
-        points_are_approached();
-        squares_have_one_winding();
-        forms_wind_alike();
-    }
-}

@@ -12,6 +12,7 @@ use crate::expression::{Arg, Elem, Expr, Node};
 use scad_fault::Text;
 use std::alloc::AllocError;
 
+/// Appends the text of an expression.
 #[cycle(expressions)]
 #[tactic(auto, using(crate::proofs::Rows::vector_view, crate::proofs::Rows::call_view, crate::proofs::Rows::let_view, crate::proofs::Rows::assert_view, crate::proofs::Rows::echo_view))]
 pub fn write_expression(out: &mut Vec<u8>, e: &Expr) -> Result<(), AllocError>
@@ -128,6 +129,7 @@ fn write_vector(out: &mut Vec<u8>, elems: &[Elem]) -> Result<(), AllocError>
     write_token(out, b"]")
 }
 
+/// Appends arguments in parentheses.
 #[cycle(expressions)]
 pub fn write_enclosed_arguments(out: &mut Vec<u8>, args: &[Arg]) -> Result<(), AllocError>
     ensures { OnOk result (out.new.items ≡ out.old.items
@@ -258,6 +260,7 @@ fn write_loop_steps(out: &mut Vec<u8>, steps: &[Arg]) -> Result<(), AllocError>
 }
 
 // `if (test)`
+/// Appends `if` and its test.
 #[cycle(expressions)]
 pub fn write_test(out: &mut Vec<u8>, test: &Expr) -> Result<(), AllocError>
     ensures { OnOk result (out.new.items ≡ out.old.items

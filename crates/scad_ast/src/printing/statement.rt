@@ -10,6 +10,7 @@ use crate::expression::Expr;
 use crate::statement::{Item, Param, Stmt, StmtBody};
 use std::alloc::AllocError;
 
+/// Appends the text of a scope's items.
 #[cycle(statements)]
 pub fn write_items(out: &mut Vec<u8>, scope: &[Item]) -> Result<(), AllocError>
     ensures { OnOk result (out.new.items ≡ out.old.items ++ items_text (items scope.now)) }

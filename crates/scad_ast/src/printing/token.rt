@@ -8,6 +8,7 @@ use crate::operator::{BinOp, UnOp};
 use scad_num::Num;
 use std::alloc::AllocError;
 
+/// Appends a token and a blank.
 pub fn write_token(out: &mut Vec<u8>, token: &[u8]) -> Result<(), AllocError>
     ensures { OnOk result (out.new.items ≡ out.old.items ++ spaced token.now) }
 {
@@ -16,6 +17,7 @@ pub fn write_token(out: &mut Vec<u8>, token: &[u8]) -> Result<(), AllocError>
     Ok(())
 }
 
+/// Appends a number and a blank.
 pub fn write_number(out: &mut Vec<u8>, number: Num) -> Result<(), AllocError>
     ensures { OnOk result (out.new.items ≡ out.old.items ++ spaced (number_text number)) }
 {
@@ -24,6 +26,7 @@ pub fn write_number(out: &mut Vec<u8>, number: Num) -> Result<(), AllocError>
     Ok(())
 }
 
+/// Appends `true` or `false` and a blank.
 pub fn write_boolean(out: &mut Vec<u8>, b: bool) -> Result<(), AllocError>
     ensures { OnOk result (out.new.items ≡ out.old.items ++ spaced (boolean_text b)) }
 {
@@ -34,6 +37,7 @@ pub fn write_boolean(out: &mut Vec<u8>, b: bool) -> Result<(), AllocError>
     }
 }
 
+/// Appends a string in quotes and a blank.
 pub fn write_string(out: &mut Vec<u8>, chars: &[char]) -> Result<(), AllocError>
     ensures { OnOk result (out.new.items ≡ out.old.items ++ spaced (string_text chars.now)) }
 {
@@ -63,6 +67,7 @@ fn write_character(out: &mut Vec<u8>, c: char) -> Result<(), AllocError>
     }
 }
 
+/// Appends an operator of one operand.
 pub fn write_prefix(out: &mut Vec<u8>, op: UnOp) -> Result<(), AllocError>
     ensures { OnOk result (out.new.items ≡ out.old.items ++ spaced (prefix_text op)) }
 {
@@ -73,6 +78,7 @@ pub fn write_prefix(out: &mut Vec<u8>, op: UnOp) -> Result<(), AllocError>
     }
 }
 
+/// Appends an operator of two operands.
 pub fn write_operator(out: &mut Vec<u8>, op: BinOp) -> Result<(), AllocError>
     ensures { OnOk result (out.new.items ≡ out.old.items ++ spaced (operator_text op)) }
 {
@@ -94,6 +100,7 @@ pub fn write_operator(out: &mut Vec<u8>, op: BinOp) -> Result<(), AllocError>
 }
 
 // A comma before each member of a list but the first.
+/// Appends a comma, but before the first.
 pub fn write_separator(out: &mut Vec<u8>, first: bool) -> Result<(), AllocError>
     ensures { OnOk result (out.new.items ≡ out.old.items ++ separator first) }
 {
@@ -104,6 +111,7 @@ pub fn write_separator(out: &mut Vec<u8>, first: bool) -> Result<(), AllocError>
     }
 }
 
+/// Appends the marks `%` and `#` of a statement.
 pub fn write_marks(out: &mut Vec<u8>, percent: bool, hash: bool) -> Result<(), AllocError>
     ensures { OnOk result (out.new.items ≡ out.old.items ++ marks_text percent hash) }
 {

@@ -152,38 +152,52 @@ decreases-within::set_one l = 2 ^ 67 * l.depth + 1
 -- ---- what is left gives what the whole gives
 abbrev pub invariant-call::values_at-arguments : goal.invariant-call::values_at-arguments
 invariant-call::values_at-arguments l =
-    (values (meaning l.depth) (env_in (held l.fn.m)) (along_in (held l.fn.m)) (arguments (drop l.arg-index l.args)) (data_in l.so_far) (state_of l.m)
+    (values (meaning l.depth) (env_in (held l.fn.m)) (along_in (held l.fn.m)) (arguments (drop l.arg-index l.args))
+    (data_in l.so_far) (state_of l.m)
     ≡ values (meaning l.depth) (env_in (held l.fn.m)) (along_in (held l.fn.m)) (arguments l.args) [] (state_of l.fn.m))
     × (held l.m ≡ held l.fn.m)
 
 abbrev pub invariant-element::elements_at-elements : goal.invariant-element::elements_at-elements
 invariant-element::elements_at-elements l =
-    (elements_given (meaning l.depth) (env_in (held l.fn.m)) (along_in (held l.fn.m)) (elements (drop l.e-index l.all)) (parts_in l.so_far) (state_of l.m)
-    ≡ elements_given (meaning l.depth) (env_in (held l.fn.m)) (along_in (held l.fn.m)) (elements l.all) (parts_in l.fn.before) (state_of l.fn.m))
+    (elements_given (meaning l.depth) (env_in (held l.fn.m)) (along_in (held l.fn.m)) (elements (drop l.e-index l.all))
+    (parts_in l.so_far) (state_of l.m)
+    ≡ elements_given (meaning l.depth) (env_in (held l.fn.m)) (along_in (held l.fn.m)) (elements l.all)
+    (parts_in l.fn.before) (state_of l.fn.m))
     × (held l.m ≡ held l.fn.m)
 
 abbrev pub invariant-within::set_names-names : goal.invariant-within::set_names-names
 invariant-within::set_names-names l =
-    (bound_in_order (meaning l.depth) (env_in (outer (held l.fn.m))) (along_in (outer (held l.fn.m))) (arguments (drop l.arg-index l.args)) (bound_in (held l.m)) (state_of l.m)
-    ≡ bound_in_order (meaning l.depth) (env_in (outer (held l.fn.m))) (along_in (outer (held l.fn.m))) (arguments l.args) (bound_in (held l.fn.m)) (state_of l.fn.m))
+    (bound_in_order (meaning l.depth) (env_in (outer (held l.fn.m))) (along_in (outer (held l.fn.m)))
+    (arguments (drop l.arg-index l.args)) (bound_in (held l.m)) (state_of l.m)
+    ≡ bound_in_order (meaning l.depth) (env_in (outer (held l.fn.m))) (along_in (outer (held l.fn.m)))
+    (arguments l.args) (bound_in (held l.fn.m)) (state_of l.fn.m))
     × IsInner (held l.m) × (outer (held l.m) ≡ outer (held l.fn.m))
 
 abbrev pub invariant-call::bind_at-missing : goal.invariant-call::bind_at-missing
 invariant-call::bind_at-missing l =
-    (defaulted (meaning l.depth) (env_at (envs (held l.fn.m).frames) l.home) (along_in (held l.fn.m)) (map (λ p. parameter p.now) (into_iter_items l.param-iterator)) (bound_in (held l.m)) (state_of l.m)
-    ≡ bound (meaning l.depth) (env_at (envs (held l.fn.m).frames) l.home) (along_in (held l.fn.m)) (map parameter l.params) (arguments l.args) (data_in l.fn.found) (state_of l.fn.m))
+    (defaulted (meaning l.depth) (env_at (envs (held l.fn.m).frames) l.home) (along_in (held l.fn.m))
+    (map (λ p. parameter p.now) (into_iter_items l.param-iterator)) (bound_in (held l.m)) (state_of l.m)
+    ≡ bound (meaning l.depth) (env_at (envs (held l.fn.m).frames) l.home) (along_in (held l.fn.m))
+    (map parameter l.params) (arguments l.args) (data_in l.fn.found) (state_of l.fn.m))
     × (held l.m ≡ opened (option_map children_stored l.kept) l.home l.home (bound_in (held l.m)) (held l.fn.m))
 
 abbrev pub invariant-turn::turns_over-values : goal.invariant-turn::turns_over-values
 invariant-turn::turns_over-values l =
-    (turns (meaning l.depth) l.at l.name (for_variables (meaning l.depth) l.at (arguments l.more) (element_of l.body)) (env_in (held l.fn.m)) (along_in (held l.fn.m)) (data_of (into_iter_items l.value-iterator)) (parts_in l.so_far) (state_of l.m)
-    ≡ turns (meaning l.depth) l.at l.name (for_variables (meaning l.depth) l.at (arguments l.more) (element_of l.body)) (env_in (held l.fn.m)) (along_in (held l.fn.m)) (data_in l.fn.all) (parts_in l.fn.before) (state_of l.fn.m))
+    (turns (meaning l.depth) l.at l.name (for_variables (meaning l.depth) l.at (arguments l.more) (element_of l.body))
+    (env_in (held l.fn.m)) (along_in (held l.fn.m)) (data_of (into_iter_items l.value-iterator)) (parts_in l.so_far)
+    (state_of l.m)
+    ≡ turns (meaning l.depth) l.at l.name (for_variables (meaning l.depth) l.at (arguments l.more) (element_of l.body))
+    (env_in (held l.fn.m)) (along_in (held l.fn.m)) (data_in l.fn.all) (parts_in l.fn.before) (state_of l.fn.m))
     × (held l.m ≡ held l.fn.m)
 
 abbrev pub invariant-turn::turns_in_range-numbers : goal.invariant-turn::turns_in_range-numbers
 invariant-turn::turns_in_range-numbers l =
-    (turns (meaning l.depth) l.at l.name (for_variables (meaning l.depth) l.at (arguments l.more) (element_of l.body)) (env_in (held l.fn.m)) (along_in (held l.fn.m)) (numbers_left l.next l.step l.end) (parts_in l.so_far) (state_of l.m)
-    ≡ turns (meaning l.depth) l.at l.name (for_variables (meaning l.depth) l.at (arguments l.more) (element_of l.body)) (env_in (held l.fn.m)) (along_in (held l.fn.m)) (items (range l.fn.start l.step l.end)) (parts_in l.fn.before) (state_of l.fn.m))
+    (turns (meaning l.depth) l.at l.name (for_variables (meaning l.depth) l.at (arguments l.more) (element_of l.body))
+    (env_in (held l.fn.m)) (along_in (held l.fn.m)) (numbers_left l.next l.step l.end) (parts_in l.so_far)
+    (state_of l.m)
+    ≡ turns (meaning l.depth) l.at l.name (for_variables (meaning l.depth) l.at (arguments l.more) (element_of l.body))
+    (env_in (held l.fn.m)) (along_in (held l.fn.m)) (items (range l.fn.start l.step l.end)) (parts_in l.fn.before)
+    (state_of l.fn.m))
     × (held l.m ≡ held l.fn.m)
 
 abbrev pub decreases-turn::turns_in_range-numbers : goal.decreases-turn::turns_in_range-numbers
@@ -191,6 +205,10 @@ decreases-turn::turns_in_range-numbers l = length (numbers_left l.next l.step l.
 
 abbrev pub invariant-turn::loop_turns-turns : goal.invariant-turn::loop_turns-turns
 invariant-turn::loop_turns-turns l =
-    (loop_turns (meaning l.depth) (suc step_limit - l._turn) l.at (expression_of l.test) (arguments l.steps) (element_of l.body) (env_in (outer (held l.fn.m))) (along_in (outer (held l.fn.m))) (bound_in (held l.m)) (parts_in l.so_far) (state_of l.m)
-    ≡ loop_turns (meaning l.depth) (suc step_limit) l.at (expression_of l.test) (arguments l.steps) (element_of l.body) (env_in (outer (held l.fn.m))) (along_in (outer (held l.fn.m))) (bound_in (held l.fn.m)) (parts_in l.fn.before) (state_of l.fn.m))
+    (loop_turns (meaning l.depth) (suc step_limit - l._turn) l.at (expression_of l.test) (arguments l.steps)
+    (element_of l.body) (env_in (outer (held l.fn.m))) (along_in (outer (held l.fn.m))) (bound_in (held l.m))
+    (parts_in l.so_far) (state_of l.m)
+    ≡ loop_turns (meaning l.depth) (suc step_limit) l.at (expression_of l.test) (arguments l.steps) (element_of l.body)
+    (env_in (outer (held l.fn.m))) (along_in (outer (held l.fn.m))) (bound_in (held l.fn.m)) (parts_in l.fn.before)
+    (state_of l.fn.m))
     × IsInner (held l.m) × (outer (held l.m) ≡ outer (held l.fn.m))

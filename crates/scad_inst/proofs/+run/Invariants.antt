@@ -124,20 +124,30 @@ decreases-walk::statement l = 2 ^ 67 * (held l.m.now).depth + 0
 -- ---- what is left gives what the whole gives
 abbrev pub invariant-members::members_from-items : goal.invariant-members::members_from-items
 invariant-members::members_from-items l =
-    (members_from (below_of (held l.fn.m)) l.w (env_in (held l.fn.m)) (along_in (held l.fn.m)) (items (drop l.item-index l.scope)) (trees_in l.so_far) (state_of l.m)
-    ≡ members_from (below_of (held l.fn.m)) l.w (env_in (held l.fn.m)) (along_in (held l.fn.m)) (items l.scope) [] (state_of l.fn.m))
+    (members_from (below_of (held l.fn.m)) l.w (env_in (held l.fn.m)) (along_in (held l.fn.m))
+    (items (drop l.item-index l.scope)) (trees_in l.so_far) (state_of l.m)
+    ≡ members_from (below_of (held l.fn.m)) l.w (env_in (held l.fn.m)) (along_in (held l.fn.m)) (items l.scope) []
+    (state_of l.fn.m))
     × (held l.m ≡ held l.fn.m)
 
 abbrev pub invariant-turn::turns_over-values : goal.invariant-turn::turns_over-values
 invariant-turn::turns_over-values l =
-    (turns (below_of (held l.fn.m)) l.at l.name (for_variables (below_of (held l.fn.m)) l.at l.w (arguments l.more) (items l.all.items)) (env_in (held l.fn.m)) (along_in (held l.fn.m)) (data_of (into_iter_items l.value-iterator)) (trees_in l.so_far) (state_of l.m)
-    ≡ turns (below_of (held l.fn.m)) l.at l.name (for_variables (below_of (held l.fn.m)) l.at l.w (arguments l.more) (items l.all.items)) (env_in (held l.fn.m)) (along_in (held l.fn.m)) (data_in l.fn.values) (trees_in l.fn.before) (state_of l.fn.m))
+    (turns (below_of (held l.fn.m)) l.at l.name (for_variables (below_of (held l.fn.m)) l.at l.w (arguments l.more)
+    (items l.all.items)) (env_in (held l.fn.m)) (along_in (held l.fn.m))
+    (data_of (into_iter_items l.value-iterator)) (trees_in l.so_far) (state_of l.m)
+    ≡ turns (below_of (held l.fn.m)) l.at l.name (for_variables (below_of (held l.fn.m)) l.at l.w (arguments l.more)
+    (items l.all.items)) (env_in (held l.fn.m)) (along_in (held l.fn.m)) (data_in l.fn.values)
+    (trees_in l.fn.before) (state_of l.fn.m))
     × (held l.m ≡ held l.fn.m)
 
 abbrev pub invariant-turn::turns_in_range-numbers : goal.invariant-turn::turns_in_range-numbers
 invariant-turn::turns_in_range-numbers l =
-    (turns (below_of (held l.fn.m)) l.at l.name (for_variables (below_of (held l.fn.m)) l.at l.w (arguments l.more) (items l.all.items)) (env_in (held l.fn.m)) (along_in (held l.fn.m)) (numbers_left l.next l.step l.end) (trees_in l.so_far) (state_of l.m)
-    ≡ turns (below_of (held l.fn.m)) l.at l.name (for_variables (below_of (held l.fn.m)) l.at l.w (arguments l.more) (items l.all.items)) (env_in (held l.fn.m)) (along_in (held l.fn.m)) (run_over (range l.fn.start l.step l.end)) (trees_in l.fn.before) (state_of l.fn.m))
+    (turns (below_of (held l.fn.m)) l.at l.name (for_variables (below_of (held l.fn.m)) l.at l.w (arguments l.more)
+    (items l.all.items)) (env_in (held l.fn.m)) (along_in (held l.fn.m)) (numbers_left l.next l.step l.end)
+    (trees_in l.so_far) (state_of l.m)
+    ≡ turns (below_of (held l.fn.m)) l.at l.name (for_variables (below_of (held l.fn.m)) l.at l.w (arguments l.more)
+    (items l.all.items)) (env_in (held l.fn.m)) (along_in (held l.fn.m)) (run_over (range l.fn.start l.step l.end))
+    (trees_in l.fn.before) (state_of l.fn.m))
     × (held l.m ≡ held l.fn.m)
 
 abbrev pub decreases-turn::turns_in_range-numbers : goal.decreases-turn::turns_in_range-numbers
@@ -145,14 +155,18 @@ decreases-turn::turns_in_range-numbers l = length (numbers_left l.next l.step l.
 
 abbrev pub invariant-children::children_by-values : goal.invariant-children::children_by-values
 invariant-children::children_by-values l =
-    (children_by (below_of (held l.fn.m)) l.w (env_in (held l.fn.m)) (along_in (held l.fn.m)) (items l.scope.items) (data_of (drop l.value-index l.all)) (trees_in l.so_far) (state_of l.m)
-    ≡ children_by (below_of (held l.fn.m)) l.w (env_in (held l.fn.m)) (along_in (held l.fn.m)) (items l.scope.items) (data_of l.all) [] (state_of l.fn.m))
+    (children_by (below_of (held l.fn.m)) l.w (env_in (held l.fn.m)) (along_in (held l.fn.m)) (items l.scope.items)
+    (data_of (drop l.value-index l.all)) (trees_in l.so_far) (state_of l.m)
+    ≡ children_by (below_of (held l.fn.m)) l.w (env_in (held l.fn.m)) (along_in (held l.fn.m)) (items l.scope.items)
+    (data_of l.all) [] (state_of l.fn.m))
     × (held l.m ≡ held l.fn.m)
 
 abbrev pub invariant-children::children_near-numbers : goal.invariant-children::children_near-numbers
 invariant-children::children_near-numbers l =
-    (children_by (below_of (held l.fn.m)) l.w (env_in (held l.fn.m)) (along_in (held l.fn.m)) (items l.scope.items) (numbers_left l.next l.step l.end) (trees_in l.so_far) (state_of l.m)
-    ≡ children_by (below_of (held l.fn.m)) l.w (env_in (held l.fn.m)) (along_in (held l.fn.m)) (items l.scope.items) (run_over (range l.fn.start l.step l.end)) [] (state_of l.fn.m))
+    (children_by (below_of (held l.fn.m)) l.w (env_in (held l.fn.m)) (along_in (held l.fn.m)) (items l.scope.items)
+    (numbers_left l.next l.step l.end) (trees_in l.so_far) (state_of l.m)
+    ≡ children_by (below_of (held l.fn.m)) l.w (env_in (held l.fn.m)) (along_in (held l.fn.m)) (items l.scope.items)
+    (run_over (range l.fn.start l.step l.end)) [] (state_of l.fn.m))
     × (held l.m ≡ held l.fn.m)
 
 abbrev pub decreases-children::children_near-numbers : goal.decreases-children::children_near-numbers

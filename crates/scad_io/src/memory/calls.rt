@@ -1,3 +1,4 @@
+//! Which calls of a memory desk are to fail.
 ghost use Rattle.std.specs.Prelude.{◌≡◌, ◌==◌};
 ghost use Rattle.std.specs.List.{list_any};
 

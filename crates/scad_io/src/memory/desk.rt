@@ -1,3 +1,4 @@
+//! The calls of a memory desk.
 // The four calls: the clauses of every desk, and then what this one answers and changes exactly.
 ghost use Rattle.std.specs.Prelude.{◌≡◌, ◌≢◌, ◌++◌, ◌<◌, ◌≤◌, true, false, length, take, drop, IfOk, IfSome};
 ghost use Rattle.std.specs.Result.{result_unwrap_or};

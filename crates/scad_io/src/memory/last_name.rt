@@ -1,3 +1,4 @@
+//! The last name of an object of a memory desk.
 ghost use Rattle.std.specs.Prelude.{◌≡◌, None, IfOk};
 
 use std::alloc::{AllocError, Global};

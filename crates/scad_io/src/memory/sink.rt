@@ -1,3 +1,4 @@
+//! An output of a memory desk.
 ghost use Rattle.std.specs.Prelude.{◌≡◌, ◌-◌, ◌==◌, ◌||◌, ◌<◌, [], length, take, min, nat_lt, is_ok, is_err, IfOk, unwrap_or};
 ghost use Rattle.std.specs.Result.{result_unwrap_or};
 ghost use Rattle.scad_io.specs.Desk.{added, fresh, write_failed};
@@ -52,12 +53,14 @@ impl Sink {
         })
     }
 
+    /// The bytes that were written.
     pub fn written(&self) -> &[u8]
         ensures { self.now.side.bytes ≡ Some result.now }
     {
         &self.bytes
     }
 
+    /// Whether a call on the output has failed.
     pub fn has_failed(&self) -> bool
         ensures { result ≡ self.now.side.failed }
     {

@@ -95,7 +95,8 @@ module _ (end : Place) (room inner : ℕ) (some : room ≢ 0) (less : inner ≡ 
   unfolding elem_of
   each_here a h =
       ap (elem_of end (below end room)) (front ts t long first) ∙ (cond-false _ _ _ a ∙ (cond-true _ _ _ h
-      ∙ deep _ (rules_at end) room inner (below_more end room some) less t.at (λ r. then_read (r.elem (rest ts)) (λ el vs. Ok (each t.at el, vs)))))
+      ∙ deep _ (rules_at end) room inner (below_more end room some) less t.at (λ r. then_read (r.elem (rest ts))
+      (λ el vs. Ok (each t.at el, vs)))))
 
   pub if_here : is_key For t ≡ false → is_key Each t ≡ false → is_key If t ≡ true → elem_of end (below end room) ts
       ≡ then_read (in_round_of end (below end inner) (λ r vs. expr_to end CloseRound r.expr vs) (rest ts))
@@ -115,5 +116,6 @@ module _ (end : Place) (room inner : ℕ) (some : room ≢ 0) (less : inner ≡ 
   let_here a b d h =
       ap (elem_of end (below end room)) (front ts t long first) ∙ (cond-false _ _ _ a ∙ (cond-false _ _ _ b
       ∙ (cond-false _ _ _ d
-      ∙ (cond-true _ _ _ h ∙ deep _ (rules_at end) room inner (below_more end room some) less t.at (λ r. then_read (r.round_args (rest ts))
+      ∙ (cond-true _ _ _ h ∙ deep _ (rules_at end) room inner (below_more end room some) less t.at
+      (λ r. then_read (r.round_args (rest ts))
       (λ all vs. then_read (r.elem vs) (λ el ws. Ok (let_of t.at all el, ws))))))))

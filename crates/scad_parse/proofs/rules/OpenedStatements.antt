@@ -26,7 +26,8 @@ module _ (end : Place) (room inner : ℕ) (some : room ≢ 0) (less : inner ≡ 
   unfolding child_of
   group_child inside empty a h =
       ap (child_of end (below_statements end room)) (front ts t long first) ∙ (cond-false _ _ _ a ∙ (cond-true _ _ _ h
-      ∙ (deep _ (statement_rules_at end) room inner (below_more_statements end room some) less t.at (λ r. r.group false no_items (rest ts))
+      ∙ (deep _ (statement_rules_at end) room inner (below_more_statements end room some) less t.at
+      (λ r. r.group false no_items (rest ts))
       ∙ ap
       (λ xs. group_of end (below_statements end inner) (length (rest ts)) false (items xs) (rest ts)) (sym empty))))
 
@@ -37,7 +38,8 @@ module _ (end : Place) (room inner : ℕ) (some : room ≢ 0) (less : inner ≡ 
   group_here d all a h =
       ap (statement_of end (below_statements end room) d all) (front ts t long first) ∙ (cond-false _ _ _ a
       ∙ (cond-true _ _ _ h
-      ∙ deep _ (statement_rules_at end) room inner (below_more_statements end room some) less t.at (λ r. r.group d all (rest ts))))
+      ∙ deep _ (statement_rules_at end) room inner (below_more_statements end room some) less t.at
+      (λ r. r.group d all (rest ts))))
 
   pub word_here : (d : Bool) (all : Items) (w : List ℕ) → is_sign Semicolon t ≡ false → is_sign OpenCurly t ≡ false →
       word_of t ≡ Some w → statement_of end (below_statements end room) d all ts
@@ -47,4 +49,5 @@ module _ (end : Place) (room inner : ℕ) (some : room ≢ 0) (less : inner ≡ 
       ap (statement_of end (below_statements end room) d all) (front ts t long first) ∙ (cond-false _ _ _ a
       ∙ (cond-false _ _ _ b
       ∙ (ap (λ o. start_of d (below_statements end room) t o all (rest ts)) h
-      ∙ deep _ (statement_rules_at end) room inner (below_more_statements end room some) less t.at (λ r. r.word_behind t.at w all (rest ts)))))
+      ∙ deep _ (statement_rules_at end) room inner (below_more_statements end room some) less t.at
+      (λ r. r.word_behind t.at w all (rest ts)))))

@@ -7,7 +7,8 @@ use Rattle.cli_read.proofs.lines.first_line.Goals as goal
 pub returns-then-at-text-clause-line : goal.returns-then-at-text-clause-line
 returns-then-at-text-clause-line c =
     first_line c.args.text.now c.first_at-at.result c.first_at-at.ensures.value c.if-at-text.true
-    ∙ ap₂ (λ (line rest : List ℕ). line ∷ lines rest) (sym c.without_return.ensures) (sym (rest_of (c.first_at-at.result + 1) c.args.text.now))
+    ∙ ap₂ (λ (line rest : List ℕ). line ∷ lines rest) (sym c.without_return.ensures)
+    (sym (rest_of (c.first_at-at.result + 1) c.args.text.now))
 
 pub returns-else-at-text-clause-line : goal.returns-else-at-text-clause-line
 returns-else-at-text-clause-line c =

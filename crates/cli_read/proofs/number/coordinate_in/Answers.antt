@@ -7,10 +7,12 @@ use Rattle.cli_read.proofs.number.coordinate_in.Goals as goal
 
 pub returns-in-Ok : goal.returns-in-Ok
 returns-in-Ok c =
-    let fits : FitsSigned w32 c.in-Ok.z = parsed_fits c.args.text.now c.in-Ok.z c.parse.result c.in-Ok.is c.parse.ensures.value.0 in
+    let fits : FitsSigned w32 c.in-Ok.z = parsed_fits c.args.text.now c.in-Ok.z c.parse.result c.in-Ok.is
+    c.parse.ensures.value.0 in
     simp to_z-of_z at c.if_coordinate.ensures
     ∙ ap (if_coordinate c.in-Ok.z) c.as_bytes.ensures.value
     ∙ coordinate_parsed c.args.text.now c.in-Ok.z c.parse.result c.in-Ok.is c.parse.ensures.value.0
 
 pub returns-in-Err : goal.returns-in-Err
-returns-in-Err c = coordinate_not_parsed c.args.text.now c.in-Err.field-0 c.parse.result c.in-Err.is c.parse.ensures.value.0
+returns-in-Err c = coordinate_not_parsed c.args.text.now c.in-Err.field-0 c.parse.result c.in-Err.is
+    c.parse.ensures.value.0

@@ -6,7 +6,8 @@ use Rattle.cli_read.proofs.Fronts.{with_front, points_go_on, points_stop, points
 use Rattle.cli_read.proofs.points.points_at.Goals as goal
 
 pub returns-in_default-next_word : goal.returns-in_default-next_word
-returns-in_default-next_word c = λ some. points_odd c.args.n c.points.points.items c.in-Some.x.now (words_behind c.points.rest.now) _
+returns-in_default-next_word c = λ some. points_odd c.args.n c.points.points.items c.in-Some.x.now
+    (words_behind c.points.rest.now) _
     (c.in-Some.ensures.words ∙ ap (λ ws. c.in-Some.x.now ∷ ws) c.in_default-next_word.ensures.words) c.points.invariant
 
 pub returns-in_err-point_at : goal.returns-in_err-point_at
@@ -19,7 +20,8 @@ returns-in_err-point_at c =
 
 pub points-preserved : goal.points-preserved
 points-preserved c =
-    subst (λ (front : List Pt). with_front front (points_at c.args.n (words_behind c.in-Some-next_word.behind.now)) ≡ points_at c.args.n (words_behind c.args.text.now))
+    subst (λ (front : List Pt). with_front front (points_at c.args.n (words_behind c.in-Some-next_word.behind.now))
+    ≡ points_at c.args.n (words_behind c.args.text.now))
     (sym c.in_ok-push.ensures.items)
     (points_go_on c.args.n c.points.points.items c.in_ok-point_at.field-0 c.in-Some.x.now c.in-Some-next_word.y.now
     (words_behind c.points.rest.now) (words_behind c.in-Some-next_word.behind.now) _
@@ -27,4 +29,5 @@ points-preserved c =
     c.in_ok-point_at.ensures c.points.invariant)
 
 pub returns : goal.returns
-returns c = points_end c.args.n c.points.points.items (words_behind c.points.rest.now) _ c.in_default.ensures.words c.points.invariant
+returns c = points_end c.args.n c.points.points.items (words_behind c.points.rest.now) _ c.in_default.ensures.words
+    c.points.invariant

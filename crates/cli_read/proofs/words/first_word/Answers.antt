@@ -7,4 +7,5 @@ use Rattle.cli_read.proofs.words.first_word.Goals as goal
 pub returns-clause-words : goal.returns-clause-words
 returns-clause-words c =
     first_word c.args.text.now c.first_at-at.result c.first_at-at.ensures.value c.first_at-at.ensures.within
-    ∙ ap (λ (rest : List ℕ). take c.first_at-at.result c.args.text.now ∷ words_behind rest) (sym (rest_of c.first_at-at.result c.args.text.now))
+    ∙ ap (λ (rest : List ℕ). take c.first_at-at.result c.args.text.now ∷ words_behind rest)
+    (sym (rest_of c.first_at-at.result c.args.text.now))

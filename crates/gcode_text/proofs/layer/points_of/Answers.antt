@@ -5,7 +5,8 @@ use Rattle.gcode_text.proofs.layer.points_of.Goals as goal
 pub paths-preserved : goal.paths-preserved
 paths-preserved c = record {
   small = omega arith;
-  count = next_points c.paths.points c.min-points.result c.args.paths.now c.paths.path-index c.as_slice.result.now c.path-item.result
+  count = next_points c.paths.points c.min-points.result c.args.paths.now c.paths.path-index c.as_slice.result.now
+      c.path-item.result
       (omega arith) (c.as_slice.ensures ∙ c.path-item.is) (c.min-points.ensures) ∙ c.paths.invariant.count;
 }
 

@@ -10,7 +10,8 @@ use Rattle.gcode_text.proofs.number.digits_onto.Goals as goal
 
 pub overflow_sub-digit : goal.overflow_sub-digit
 overflow_sub-digit c =
-    let digit : IsInRange 48 57 (get_or c.args.digits.now c.loop-digit.digit-index 0) = digit_at c.args.digits.now c.loop-digit.digit-index (AllDigits-from_are c.args.digits.now c.requires.digits) (omega arith) in
+    let digit : IsInRange 48 57 (get_or c.args.digits.now c.loop-digit.digit-index 0) = digit_at c.args.digits.now
+    c.loop-digit.digit-index (AllDigits-from_are c.args.digits.now c.requires.digits) (omega arith) in
     omega arith
 
 pub loop-digit-preserved : goal.loop-digit-preserved
@@ -18,9 +19,16 @@ loop-digit-preserved c = record {
   capped = omega arith;
   same =
       let more = digits_value_after-drop c.loop-digit.value c.args.digits.now c.loop-digit.digit-index (omega arith) in
-      let cut = min-digits_value_after cap (c.loop-digit.value * 10 + digit_value (get_or c.args.digits.now c.loop-digit.digit-index 0)) (drop (c.loop-digit.digit-index + 1) c.args.digits.now) in
-      let digit : IsInRange 48 57 (get_or c.args.digits.now c.loop-digit.digit-index 0) = digit_at c.args.digits.now c.loop-digit.digit-index (AllDigits-from_are c.args.digits.now c.requires.digits) (omega arith) in
-      let worth = digit_value-decimal (get_or c.args.digits.now c.loop-digit.digit-index 0) (omega arith) (omega arith) in
-      let step : c.min-value.result ≡ min (c.loop-digit.value * 10 + digit_value (get_or c.args.digits.now c.loop-digit.digit-index 0)) cap = c.min-value.ensures ∙ ap (λ x. min (c.loop-digit.value * 10 + x) cap) (omega arith) in
-      ap (λ m. min (digits_value_after 10 m (drop (c.loop-digit.digit-index + 1) c.args.digits.now)) cap) step ∙ cut ∙ ap (λ x. min x cap) (sym more) ∙ c.loop-digit.invariant.same;
+      let cut = min-digits_value_after cap (c.loop-digit.value * 10 + digit_value
+      (get_or c.args.digits.now c.loop-digit.digit-index 0)) (drop (c.loop-digit.digit-index + 1)
+      c.args.digits.now) in
+      let digit : IsInRange 48 57 (get_or c.args.digits.now c.loop-digit.digit-index 0) = digit_at c.args.digits.now
+      c.loop-digit.digit-index (AllDigits-from_are c.args.digits.now c.requires.digits) (omega arith) in
+      let worth = digit_value-decimal (get_or c.args.digits.now c.loop-digit.digit-index 0) (omega arith) (omega arith)
+      in
+      let step : c.min-value.result ≡ min (c.loop-digit.value * 10 + digit_value
+      (get_or c.args.digits.now c.loop-digit.digit-index 0)) cap = c.min-value.ensures ∙ ap
+      (λ x. min (c.loop-digit.value * 10 + x) cap) (omega arith) in
+      ap (λ m. min (digits_value_after 10 m (drop (c.loop-digit.digit-index + 1) c.args.digits.now)) cap) step ∙ cut ∙
+      ap (λ x. min x cap) (sym more) ∙ c.loop-digit.invariant.same;
 }

@@ -5,9 +5,12 @@ use Rattle.gcode_text.proofs.path.push_moves.Goals as goal
 
 pub points-preserved : goal.points-preserved
 points-preserved c = record {
-  text = next_move_text c.points.out.items c.push_move.new.out.items _ c.args.rates.now c.points.volume c.push_move.new.volume c.points.from
-      c.args.rest.now c.points.to-index (record { x = pos 0; y = pos 0 }) (omega arith) c.points.invariant.text c.push_move.ensures.volume c.in_ok-push_move.ensures.ok;
-  volume = next_move_volume c.args.rates.now c.points.volume c.push_move.new.volume _ c.points.from c.args.rest.now c.points.to-index
+  text = next_move_text c.points.out.items c.push_move.new.out.items _ c.args.rates.now c.points.volume
+      c.push_move.new.volume c.points.from
+      c.args.rest.now c.points.to-index (record { x = pos 0; y = pos 0 }) (omega arith) c.points.invariant.text
+      c.push_move.ensures.volume c.in_ok-push_move.ensures.ok;
+  volume = next_move_volume c.args.rates.now c.points.volume c.push_move.new.volume _ c.points.from c.args.rest.now
+      c.points.to-index
       (record { x = pos 0; y = pos 0 }) (omega arith) c.points.invariant.volume c.push_move.ensures.volume;
   small = omega arith;
   begins = begins_more _ c.points.invariant.begins c.in_ok-push_move.ensures.ok;
@@ -18,8 +21,10 @@ returns-in_err-push_move-clause-err c = on_err _ (begins_on c.points.invariant.b
 
 pub returns-clause-ok : goal.returns-clause-ok
 returns-clause-ok c =
-    no_more_moves c.points.out.items _ c.args.rates.now c.points.volume c.points.from c.args.rest.now c.points.to-index (omega arith) c.points.invariant.text
+    no_more_moves c.points.out.items _ c.args.rates.now c.points.volume c.points.from c.args.rest.now c.points.to-index
+    (omega arith) c.points.invariant.text
 
 pub returns-clause-volume : goal.returns-clause-volume
 returns-clause-volume c =
-    no_more_volume c.args.rates.now c.points.volume _ c.points.from c.args.rest.now c.points.to-index (omega arith) c.points.invariant.volume
+    no_more_volume c.args.rates.now c.points.volume _ c.points.from c.args.rest.now c.points.to-index (omega arith)
+    c.points.invariant.volume

@@ -8,7 +8,8 @@ abbrev pub invariant-points : goal.invariant-points
 invariant-points l = record {
   text : l.out.items ++ moves_text l.rates l.volume l.from (drop l.to-index l.rest)
       ≡ l.fn.out.items ++ moves_text l.rates l.fn.volume l.fn.first l.rest;
-  volume : l.volume + moves_volume l.rates l.from (drop l.to-index l.rest) ≡ l.fn.volume + moves_volume l.rates l.fn.first l.rest;
+  volume : l.volume + moves_volume l.rates l.from (drop l.to-index l.rest) ≡ l.fn.volume + moves_volume l.rates
+      l.fn.first l.rest;
   small : l.volume ≤ l.fn.volume + 2 ^ 55 * l.to-index;
   begins : BeginsWith l.fn.out.items l.out.items;
 }

@@ -6,7 +6,8 @@ use Rattle.gcode_text.proofs.scan.skip_spaces.Goals as goal
 
 pub spaces-preserved : goal.spaces-preserved
 spaces-preserved c = record {
-  words = ap words c.behind_first-rest.ensures ∙ words_behind_space c.spaces.rest.now (sym c.byte_at.ensures ∙ c.spaces-test.true) ∙ c.spaces.invariant.words;
+  words = ap words c.behind_first-rest.ensures ∙ words_behind_space c.spaces.rest.now
+      (sym c.byte_at.ensures ∙ c.spaces-test.true) ∙ c.spaces.invariant.words;
   shorter =
       let e = ap (λ (xs : List ℕ). length xs) c.behind_first-rest.ensures in
       let l = length-drop 1 c.spaces.rest.now in

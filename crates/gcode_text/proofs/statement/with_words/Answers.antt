@@ -8,7 +8,8 @@ use Rattle.gcode_text.proofs.statement.with_words.Goals as goal
 pub returns-in-Err : goal.returns-in-Err
 returns-in-Err c =
     let some : 0 < length c.words.rest.now = omega arith in
-    sym (refused_word limited c.args.n c.args.command c.words.rest.now c.words.given c.in-Err.fault c.first_at-len.result some
+    sym (refused_word limited c.args.n c.args.command c.words.rest.now c.words.given c.in-Err.fault
+    c.first_at-len.result some
     (c.words.invariant.word some) c.first_at-len.ensures.value (sym c.with_word.ensures ∙ c.in-Err.is))
     ∙ c.words.invariant.same
 
@@ -19,11 +20,13 @@ words-preserved c =
       same =
           ap (λ (ws : List (List ℕ)). with_words limited c.args.n c.args.command ws c.in-Ok.next)
           (c.skip_spaces-rest-in-words.ensures.words ∙ ap words (take_rest c.words.rest.now c.first_at-len.result))
-          ∙ sym (accepted_word limited c.args.n c.args.command c.words.rest.now c.words.given c.in-Ok.next c.first_at-len.result some
+          ∙ sym (accepted_word limited c.args.n c.args.command c.words.rest.now c.words.given c.in-Ok.next
+          c.first_at-len.result some
           (c.words.invariant.word some) c.first_at-len.ensures.value (sym c.with_word.ensures ∙ c.in-Ok.is))
           ∙ c.words.invariant.same;
       word = c.skip_spaces-rest-in-words.ensures.word;
     }
 
 pub returns : goal.returns
-returns c = sym (no_word limited c.args.n c.args.command c.words.rest.now c.words.given (omega arith)) ∙ c.words.invariant.same
+returns c = sym (no_word limited c.args.n c.args.command c.words.rest.now c.words.given (omega arith)) ∙
+    c.words.invariant.same

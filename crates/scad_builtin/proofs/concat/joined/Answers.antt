@@ -9,5 +9,6 @@ use Rattle.scad_builtin.proofs.concat.joined.Goals as goal
 pub returns-clause-ok : goal.returns-clause-ok
 returns-clause-ok c =
     let all = c.loop-value.all.items in
-    let left = at_drop_all (λ (xs : List Value). joined (elements xs)) c.args.args.now c.loop-value.value-index (omega arith) in
+    let left = at_drop_all (λ (xs : List Value). joined (elements xs)) c.args.args.now c.loop-value.value-index
+    (omega arith) in
     sym (appended_nothing all) ∙ ap (appended (elements all)) (sym left) ∙ c.loop-value.invariant

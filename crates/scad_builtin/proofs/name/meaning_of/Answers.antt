@@ -5,7 +5,8 @@ use Rattle.scad_builtin.proofs.name.meaning_of.Goals as goal
 
 pub returns-in-Some : goal.returns-in-Some
 returns-in-Some c =
-    c.numbered_name.ensures ∙ meaning_of_id c.args.name.now (entries c.names.result.now) c.in-Some.id c.names.ensures.entries (sym c.in-Some.ensures.given)
+    c.numbered_name.ensures ∙ meaning_of_id c.args.name.now (entries c.names.result.now) c.in-Some.id
+    c.names.ensures.entries (sym c.in-Some.ensures.given)
 
 pub returns-in-None : goal.returns-in-None
 returns-in-None c =

@@ -7,7 +7,8 @@ use Rattle.scad_expr.proofs.RunsLeft.{items-range}
 use Rattle.scad_expr.proofs.gathered.add_run.Goals as goal
 
 pub numbers-init : goal.numbers-init
-numbers-init c = ap (λ (l : List Datum). data_in c.args.out.now ++ l) (sym (items-range c.args.start c.args.step c.args.end))
+numbers-init c = ap (λ (l : List Datum). data_in c.args.out.now ++ l)
+    (sym (items-range c.args.start c.args.step c.args.end))
 
 -- past the limit of steps the rest is left out
 pub returns-then-len-gt5000000 : goal.returns-then-len-gt5000000

@@ -6,5 +6,6 @@ use Rattle.scad_expr.proofs.given.missing.Given as goal
 
 abbrev pub invariant-parameters : goal.invariant-parameters
 invariant-parameters l =
-    map (λ p. parameter p.now) l.all.items ++ missing (map shown l.got.entries) (map parameter (drop l.p-index l.params))
+    map (λ p. parameter p.now) l.all.items ++ missing (map shown l.got.entries)
+    (map parameter (drop l.p-index l.params))
     ≡ missing (map shown l.got.entries) (map parameter l.params)

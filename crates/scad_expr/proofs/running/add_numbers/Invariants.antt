@@ -4,7 +4,8 @@ use Rattle.scad_value.specs.View.{data_in}
 use Rattle.scad_expr.proofs.running.add_numbers.Given as goal
 
 abbrev pub invariant-numbers : goal.invariant-numbers
-invariant-numbers l = data_in l.out ++ numbers_left l.next l.step l.end ≡ data_in l.fn.out ++ numbers_left (Some l.fn.start) l.step l.end
+invariant-numbers l = data_in l.out ++ numbers_left l.next l.step l.end ≡ data_in l.fn.out ++ numbers_left
+    (Some l.fn.start) l.step l.end
 
 abbrev pub decreases-numbers : goal.decreases-numbers
 decreases-numbers l = length (numbers_left l.next l.step l.end)

@@ -5,4 +5,5 @@ use Rattle.scad_expr.specs.View.{function_at}
 use Rattle.scad_expr.proofs.sought.last_defined.Given as goal
 
 abbrev pub invariant-items : goal.invariant-items
-invariant-items l = last_defined l.name (option_map function_at l.found) (items (drop l.item-index l.scope.items)) ≡ last_defined l.name None (items l.scope.items)
+invariant-items l = last_defined l.name (option_map function_at l.found) (items (drop l.item-index l.scope.items))
+    ≡ last_defined l.name None (items l.scope.items)

@@ -5,4 +5,5 @@ use Rattle.scad_extrude.proofs.turns.turned.Goals as goal
 
 pub solid-requires-clause-alike : goal.solid-requires-clause-alike
 solid-requires-clause-alike c =
-    ap are_alike (c.as_slice.ensures.value ∙ c.in_ok-rings.ensures.0) ∙ alike-turns c.args.ring.now c.args.n c.args.m.now
+    ap are_alike (c.as_slice.ensures.value ∙ c.in_ok-rings.ensures.0) ∙ alike-turns c.args.ring.now c.args.n
+    c.args.m.now

@@ -9,13 +9,17 @@ turns-preserved c =
     let ring = turned_ring_at c.args.ring.now c.args.n c.args.m.now in
     let all = turned_rings c.args.ring.now c.args.n c.args.m.now in
     record {
-      made = made-more ring_in_range ring c.turns.j c.args.n c.turns-test.true c.turns.rings.items c.push_turn.new.out.items all c.turns.invariant.made c.in-Ok.ensures.0;
-      ranged = ranged-more ring_in_range ring c.turns.j c.args.n c.turns-test.true (list_all ring_in_range all) c.turns.invariant.ranged c.in-Ok.ensures.1;
+      made = made-more ring_in_range ring c.turns.j c.args.n c.turns-test.true c.turns.rings.items
+          c.push_turn.new.out.items all c.turns.invariant.made c.in-Ok.ensures.0;
+      ranged = ranged-more ring_in_range ring c.turns.j c.args.n c.turns-test.true (list_all ring_in_range all)
+          c.turns.invariant.ranged c.in-Ok.ensures.1;
     }
 
 pub returns-in-Err : goal.returns-in-Err
 returns-in-Err c =
     let ring = turned_ring_at c.args.ring.now c.args.n c.args.m.now in
     let all = turned_rings c.args.ring.now c.args.n c.args.m.now in
-    fails _ ring_in_range c.turns.rings.items c.push_turn.new.out.items all (ring c.turns.j) c.in-Err.end (λ v. v.items) c.in-Err.ensures
-    (ranged-fails ring_in_range ring c.turns.j c.args.n c.turns-test.true (list_all ring_in_range all) c.turns.invariant.ranged)
+    fails _ ring_in_range c.turns.rings.items c.push_turn.new.out.items all (ring c.turns.j) c.in-Err.end (λ v. v.items)
+    c.in-Err.ensures
+    (ranged-fails ring_in_range ring c.turns.j c.args.n c.turns-test.true (list_all ring_in_range all)
+    c.turns.invariant.ranged)

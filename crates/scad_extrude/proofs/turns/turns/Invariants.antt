@@ -7,6 +7,8 @@ use Rattle.scad_extrude.proofs.turns.turns.Given as goal
 -- the rings so far are in range, and with those left they are all
 abbrev pub invariant-turns : goal.invariant-turns
 invariant-turns l = record {
-  made : l.rings.items ++ map (turned_ring_at l.ring l.n l.m) (range_with_len l.j (l.n - l.j)) ≡ turned_rings l.ring l.n l.m;
-  ranged : list_all ring_in_range (turned_rings l.ring l.n l.m) ≡ list_all ring_in_range (map (turned_ring_at l.ring l.n l.m) (range_with_len l.j (l.n - l.j)));
+  made : l.rings.items ++ map (turned_ring_at l.ring l.n l.m) (range_with_len l.j (l.n - l.j)) ≡ turned_rings l.ring l.n
+      l.m;
+  ranged : list_all ring_in_range (turned_rings l.ring l.n l.m) ≡ list_all ring_in_range
+      (map (turned_ring_at l.ring l.n l.m) (range_with_len l.j (l.n - l.j)));
 }

@@ -12,7 +12,8 @@ facts c =
     let twice_n : FitsSigned w128 (pos 2 *ℤ c.args.n) = omega (arith, ints) in
     let twice_d : FitsSigned w128 (pos 2 *ℤ c.args.d) = omega (arith, ints) in
     let apart : FitsSigned w128 (c.args.d -ℤ pos 2 *ℤ c.args.n) = omega (arith, ints) in
-    rounds c.args.n c.args.d c.div_euclid.result coordinate_limit c.requires.divisor c.requires.range (simp to_z-of_z at c.div_euclid.ensures)
+    rounds c.args.n c.args.d c.div_euclid.result coordinate_limit c.requires.divisor c.requires.range
+    (simp to_z-of_z at c.div_euclid.ensures)
 
 pub overflow_sub-result : goal.overflow_sub-result
 overflow_sub-result c =

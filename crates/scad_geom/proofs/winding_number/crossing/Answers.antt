@@ -13,7 +13,8 @@ returns-then-step-eq0-clause-value c =
 
 pub returns-then-times-gt0-clause-value : goal.returns-then-times-gt0-clause-value
 returns-then-times-gt0-clause-value c =
-    let told : to_z w64 (of_z w64 c.passage-step.result) ≡ crossing (doubled_edge c.args.edge.now) c.args.x c.args.y = search (rules, casts) in
+    let told : to_z w64 (of_z w64 c.passage-step.result) ≡ crossing (doubled_edge c.args.edge.now) c.args.x c.args.y =
+    search (rules, casts) in
     told ∙ sym (turn_halves c.args.edge.now c.args.x c.args.y)
 
 pub returns-else-times-gt0-clause-value : goal.returns-else-times-gt0-clause-value

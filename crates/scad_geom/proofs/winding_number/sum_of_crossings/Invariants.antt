@@ -8,5 +8,6 @@ use Rattle.scad_geom.proofs.winding_number.sum_of_crossings.Given as goal
 abbrev pub invariant-edges : goal.invariant-edges
 invariant-edges l = record {
   small : unsigned_abs l.sum ≤ l.edge-index;
-  sum : wind (halves l.x l.y) (segments l.edges) ≡ l.sum +ℤ wind (halves l.x l.y) (segments (drop l.edge-index l.edges));
+  sum : wind (halves l.x l.y) (segments l.edges) ≡ l.sum +ℤ wind (halves l.x l.y)
+      (segments (drop l.edge-index l.edges));
 }

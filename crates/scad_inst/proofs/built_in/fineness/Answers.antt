@@ -23,4 +23,6 @@ returns-in_err-fs c =
 pub returns : goal.returns
 returns c =
     let s = state_of c.args.m.now in
-    fine-given (env_in (held c.args.m.now)) (along_in (held c.args.m.now)) (datum_of c.in_ok-fn_.fn_) (datum_of c.in_ok-fa.fa) (datum_of c.in_ok-fs.fs) s (c.in_ok-fn_.ensures s) (c.in_ok-fa.ensures s) (c.in_ok-fs.ensures s)
+    fine-given (env_in (held c.args.m.now)) (along_in (held c.args.m.now)) (datum_of c.in_ok-fn_.fn_)
+    (datum_of c.in_ok-fa.fa) (datum_of c.in_ok-fs.fs) s (c.in_ok-fn_.ensures s) (c.in_ok-fa.ensures s)
+    (c.in_ok-fs.ensures s)

@@ -4,4 +4,5 @@ use Rattle.scad_inst.proofs.ScopeFrames.{depth-left}
 use Rattle.scad_inst.proofs.frames.open_names.Goals as goal
 
 pub returns-clause-depth : goal.returns-clause-depth
-returns-clause-depth c = depth-left c.in_ok-back.back (held c.let_names.new.machine) (held c.args.m.now) c.in_ok-back.ensures.back
+returns-clause-depth c = depth-left c.in_ok-back.back (held c.let_names.new.machine) (held c.args.m.now)
+    c.in_ok-back.ensures.back

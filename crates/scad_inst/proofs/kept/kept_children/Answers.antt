@@ -11,4 +11,5 @@ returns-then-at-parent c =
     let fs = stored c.args.m.now.frames in
     let inside : c.outwards.at < length (stored c.args.m.now.frames) = omega (arith, c.len.ensures) in
     let none : (stored_at (stored c.args.m.now.frames) c.outwards.at).kept ≡ None = sym c.in-None.ensures in
-    sym (kept-round_past fs c.outwards.at inside c.in-Some-parent.parent none (sym c.in-Some-parent.ensures) (omega arith)) ∙ c.outwards.invariant
+    sym (kept-round_past fs c.outwards.at inside c.in-Some-parent.parent none (sym c.in-Some-parent.ensures)
+    (omega arith)) ∙ c.outwards.invariant

@@ -5,7 +5,8 @@ use Rattle.scad_inst.specs.Modules.{kept_children}
 use Rattle.scad_inst.proofs.kept.kept_children.Given as goal
 
 abbrev pub invariant-outwards : goal.invariant-outwards
-invariant-outwards l = kept_children (env_at (envs (stored l.m.frames)) l.at) ≡ kept_children (env_at (envs (stored l.m.frames)) l.m.here)
+invariant-outwards l = kept_children (env_at (envs (stored l.m.frames)) l.at) ≡ kept_children
+    (env_at (envs (stored l.m.frames)) l.m.here)
 
 abbrev pub decreases-outwards : goal.decreases-outwards
 decreases-outwards l = l.at

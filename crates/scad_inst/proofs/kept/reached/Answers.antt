@@ -6,7 +6,8 @@ use Rattle.scad_inst.proofs.kept.reached.Goals as goal
 
 pub returns-then-kept-at : goal.returns-then-kept-at
 returns-then-kept-at c =
-    reached-before (stored c.args.frames.now) c.args.at c.requires.there (children_stored c.args.kept) c.requires.kept c.if-kept-at.true
+    reached-before (stored c.args.frames.now) c.args.at c.requires.there (children_stored c.args.kept) c.requires.kept
+    c.if-kept-at.true
 
 pub returns-else-kept-at : goal.returns-else-kept-at
 returns-else-kept-at c =

@@ -7,5 +7,6 @@ use Rattle.scad_inst.proofs.near.first_down.Goals as goal
 pub returns : goal.returns
 returns c =
     let parts = div-add-mod' c.unsigned_abs-gap.result c.unsigned_abs.result in
-    λ scope behind. reached-down scope c.args.high c.args.start c.args.step c.within.result c.unsigned_abs-gap.result c.unsigned_abs.result behind
+    λ scope behind. reached-down scope c.args.high c.args.start c.args.step c.within.result c.unsigned_abs-gap.result
+    c.unsigned_abs.result behind
     (omega (arith, ints)) (omega (arith, ints)) (omega (arith, ints)) (omega (arith, ints, parts))

@@ -16,7 +16,8 @@ returns-then-millionths-gt0 c =
           let far : pos (c.statements-count.result * 1000000) <ℤ z = omega (arith, ints, high) in
           nobody-behind scope c.statements-count.result z few far;
     } in
-    near-alike scope c.args.start c.args.step c.args.end c.first_up.result c.last_up.result some (c.first_up.ensures scope) (c.last_up.ensures scope behind)
+    near-alike scope c.args.start c.args.step c.args.end c.first_up.result c.last_up.result some
+    (c.first_up.ensures scope) (c.last_up.ensures scope behind)
 
 pub returns-then-millionths-lt0 : goal.returns-then-millionths-lt0
 returns-then-millionths-lt0 c =
@@ -28,4 +29,5 @@ returns-then-millionths-lt0 c =
           let far : pos (c.statements-count.result * 1000000) <ℤ z = omega (arith, ints, high) in
           nobody-behind scope c.statements-count.result z few far;
     } in
-    near-alike scope c.args.start c.args.step c.args.end c.first_down.result c.last_down.result some (c.first_down.ensures scope behind) (c.last_down.ensures scope)
+    near-alike scope c.args.start c.args.step c.args.end c.first_down.result c.last_down.result some
+    (c.first_down.ensures scope behind) (c.last_down.ensures scope)

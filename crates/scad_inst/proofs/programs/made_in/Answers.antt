@@ -13,4 +13,5 @@ pub returns : goal.returns
 unfolding means
 returns c =
     c.answer.ensures (state_of c.tree_of-tree.new.m) (means (program_of c.args.program.now)) (sym c.echoes_of.ensures)
-    (subst (λ (s : State). Does solid_of (outcome_of (program_of c.args.program.now) s) c.tree_of-tree.result (state_of c.tree_of-tree.new.m)) c.requires.state c.tree_of-tree.ensures)
+    (subst (λ (s : State). Does solid_of (outcome_of (program_of c.args.program.now) s) c.tree_of-tree.result
+    (state_of c.tree_of-tree.new.m)) c.requires.state c.tree_of-tree.ensures)

@@ -12,7 +12,8 @@ invariant-names l = record {
   assigned :
       assigned (below_of (held l.fn.m)) (items l.scope.items) (env_at (envs (left l.back (held l.fn.m)).frames) l.home)
       (along_in (left l.back (held l.fn.m))) (drop l.binding-index l.all) (bound_in (held l.m)) (state_of l.m)
-      ≡ assigned (below_of (held l.fn.m)) (items l.scope.items) (env_at (envs (left l.back (held l.fn.m)).frames) l.home)
+      ≡ assigned (below_of (held l.fn.m)) (items l.scope.items) (env_at (envs (left l.back (held l.fn.m)).frames)
+      l.home)
       (along_in (left l.back (held l.fn.m))) l.all (bound_in (held l.fn.m)) (state_of l.fn.m);
   scope : IsScope (items l.scope.items) l.home l.back (held l.m);
   left : left l.back (held l.m) ≡ left l.back (held l.fn.m);

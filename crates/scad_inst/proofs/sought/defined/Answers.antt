@@ -11,5 +11,7 @@ returns-in-Module c =
     let m = c.in-Module in
     let other = option_map module_at c.args.other in
     c.named_so.ensures
-    ∙ ap (λ w. if is_same_name c.args.name.now w then Some (definition m.params.items m.body.items) else other) c.as_slice.ensures
-    ∙ sym (ap (λ i. defined c.args.name.now (item_of i) other) m.is ∙ a_module c.args.name.now m.word m.params m.body m.field-3 other)
+    ∙ ap (λ w. if is_same_name c.args.name.now w then Some (definition m.params.items m.body.items) else other)
+    c.as_slice.ensures
+    ∙ sym (ap (λ i. defined c.args.name.now (item_of i) other) m.is ∙ a_module c.args.name.now m.word m.params m.body
+    m.field-3 other)

@@ -5,4 +5,5 @@ use Rattle.scad_inst.specs.View.{module_at}
 use Rattle.scad_inst.proofs.sought.last_defined.Given as goal
 
 abbrev pub invariant-items : goal.invariant-items
-invariant-items l = last_defined l.name (option_map module_at l.found) (items (drop l.item-index l.scope.items)) ≡ last_defined l.name None (items l.scope.items)
+invariant-items l = last_defined l.name (option_map module_at l.found) (items (drop l.item-index l.scope.items))
+    ≡ last_defined l.name None (items l.scope.items)

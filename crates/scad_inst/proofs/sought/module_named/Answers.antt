@@ -11,5 +11,7 @@ unfolding held env_in
 returns-then-at-parent-clause-found c =
     let fs = stored c.args.m.now.frames in
     let inside : c.outwards.at < length (stored c.args.m.now.frames) = omega (arith, c.len.ensures) in
-    let none : defined_in c.args.name.now (stored_at (stored c.args.m.now.frames) c.outwards.at).scope ≡ None = ap (defined_in c.args.name.now) (sym c.scope-scope.ensures) ∙ sym c.in-None.ensures in
-    sym (module-round_past fs c.outwards.at inside c.args.name.now c.in-Some-parent.parent none (sym c.in-Some-parent.ensures) (omega arith)) ∙ c.outwards.invariant
+    let none : defined_in c.args.name.now (stored_at (stored c.args.m.now.frames) c.outwards.at).scope ≡ None =
+    ap (defined_in c.args.name.now) (sym c.scope-scope.ensures) ∙ sym c.in-None.ensures in
+    sym (module-round_past fs c.outwards.at inside c.args.name.now c.in-Some-parent.parent none
+    (sym c.in-Some-parent.ensures) (omega arith)) ∙ c.outwards.invariant

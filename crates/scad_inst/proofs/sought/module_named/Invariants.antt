@@ -5,7 +5,8 @@ use Rattle.scad_inst.specs.Modules.{module_named}
 use Rattle.scad_inst.proofs.sought.module_named.Given as goal
 
 abbrev pub invariant-outwards : goal.invariant-outwards
-invariant-outwards l = module_named l.name (env_at (envs (stored l.m.frames)) l.at) ≡ module_named l.name (env_at (envs (stored l.m.frames)) l.m.here)
+invariant-outwards l = module_named l.name (env_at (envs (stored l.m.frames)) l.at) ≡ module_named l.name
+    (env_at (envs (stored l.m.frames)) l.m.here)
 
 abbrev pub decreases-outwards : goal.decreases-outwards
 decreases-outwards l = l.at

@@ -16,7 +16,8 @@ returns-then-n-lt0 c =
     let size = c.rounded_size-size.ensures.value in
     let abs = simp to_z-of_z at c.unsigned_abs.ensures.value in
     let below = simp to_z-of_z at c.if-n-lt0.true in
-    given ∙ zero_minus c.rounded_size-size.result ∙ ap neg_ℤ (size ∙ ap (λ m. pos (half_up m c.args.d)) abs) ∙ sym (half_away-below c.args.n c.args.d below)
+    given ∙ zero_minus c.rounded_size-size.result ∙ ap neg_ℤ (size ∙ ap (λ m. pos (half_up m c.args.d)) abs) ∙ sym
+    (half_away-below c.args.n c.args.d below)
 
 pub returns-else-n-lt0 : goal.returns-else-n-lt0
 returns-else-n-lt0 c =

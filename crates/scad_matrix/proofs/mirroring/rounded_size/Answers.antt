@@ -4,7 +4,8 @@ use Rattle.scad_matrix.proofs.Reflected.{half_up-small}
 use Rattle.scad_matrix.proofs.mirroring.rounded_size.Goals as goal
 
 small : (c : goal.After-half_up) → c.half_up.result ≤ 1000000
-small c = subst (λ q. q ≤ 1000000) (sym c.half_up.ensures.value) (half_up-small c.args.n c.args.d 1000000 c.requires.divisor c.requires.small)
+small c = subst (λ q. q ≤ 1000000) (sym c.half_up.ensures.value) (half_up-small c.args.n c.args.d 1000000
+    c.requires.divisor c.requires.small)
 
 pub overflow_cast-result : goal.overflow_cast-result
 overflow_cast-result c = let s = small c in omega (arith, ints)

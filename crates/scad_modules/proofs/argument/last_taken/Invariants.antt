@@ -9,5 +9,6 @@ abbrev pub invariant-arguments : goal.invariant-arguments
 invariant-arguments l = record {
   counted : l.i ≤ l.arg-index;
   along : l.k ≡ l.arg-index;
-  taken : taken_from l.place l.name l.i (arguments (drop l.arg-index l.args)) (data_of (drop l.k l.values)) (datum_in l.found) ≡ taken_from l.place l.name 0 (arguments l.args) (data_of l.values) None;
+  taken : taken_from l.place l.name l.i (arguments (drop l.arg-index l.args)) (data_of (drop l.k l.values))
+      (datum_in l.found) ≡ taken_from l.place l.name 0 (arguments l.args) (data_of l.values) None;
 }

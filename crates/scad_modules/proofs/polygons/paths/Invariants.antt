@@ -8,6 +8,7 @@ use Rattle.scad_modules.proofs.polygons.paths.Given as goal
 
 abbrev pub invariant-paths : goal.invariant-paths
 invariant-paths l = record {
-  onto : paths_onto l.points (outlines l.paths.items) (elements (drop l.value-index l.all)) ≡ paths_onto l.points [] (elements l.all);
+  onto : paths_onto l.points (outlines l.paths.items) (elements (drop l.value-index l.all)) ≡ paths_onto l.points []
+      (elements l.all);
   outlines : list_all is_outline (outlines l.paths.items) ≡ true;
 }

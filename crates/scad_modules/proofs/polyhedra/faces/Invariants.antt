@@ -7,7 +7,8 @@ use Rattle.scad_modules.proofs.polyhedra.faces.Given as goal
 
 abbrev pub invariant-faces : goal.invariant-faces
 invariant-faces l = record {
-  onto : faces_onto l.limit l.faces.items (elements (drop l.value-index l.all)) ≡ faces_onto l.limit [] (elements l.all);
+  onto : faces_onto l.limit l.faces.items (elements (drop l.value-index l.all)) ≡ faces_onto l.limit []
+      (elements l.all);
   named : list_all (is_face l.limit) l.faces.items ≡ true;
   count : length l.faces.items ≡ l.value-index;
 }

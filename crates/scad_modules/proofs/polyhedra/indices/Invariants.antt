@@ -6,7 +6,8 @@ use Rattle.scad_modules.proofs.polyhedra.indices.Given as goal
 
 abbrev pub invariant-indices : goal.invariant-indices
 invariant-indices l = record {
-  onto : indices_onto l.limit l.indices.items (elements (drop l.value-index l.all)) ≡ indices_onto l.limit [] (elements l.all);
+  onto : indices_onto l.limit l.indices.items (elements (drop l.value-index l.all)) ≡ indices_onto l.limit []
+      (elements l.all);
   named : names_points l.limit l.indices.items ≡ true;
   count : length l.indices.items ≡ l.value-index;
 }

@@ -4,6 +4,7 @@ use Rattle.scad_modules.proofs.solid.face_triangles.Given as goal
 
 abbrev pub invariant-faces : goal.invariant-faces
 invariant-faces l = record {
-  counted : min (l.count + face_triangles (drop l.face-index l.faces)) (2 ^ 64 - 1) ≡ min (face_triangles l.faces) (2 ^ 64 - 1);
+  counted : min (l.count + face_triangles (drop l.face-index l.faces)) (2 ^ 64 - 1) ≡ min (face_triangles l.faces)
+      (2 ^ 64 - 1);
   fits : l.count ≤ 2 ^ 64 - 1;
 }

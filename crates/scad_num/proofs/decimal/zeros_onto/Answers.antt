@@ -5,7 +5,8 @@ use Rattle.scad_num.proofs.decimal.zeros_onto.Goals as goal
 pub loop-left-preserved : goal.loop-left-preserved
 loop-left-preserved c = record {
   capped = omega arith;
-  same = ap (λ x. min (x * 10 ^ (c.loop-left.left - 1)) c.args.cap) c.min-value.ensures ∙ min-tens c.args.cap c.loop-left.value c.loop-left.left (omega arith) ∙ c.loop-left.invariant.same;
+  same = ap (λ x. min (x * 10 ^ (c.loop-left.left - 1)) c.args.cap) c.min-value.ensures ∙ min-tens c.args.cap
+      c.loop-left.value c.loop-left.left (omega arith) ∙ c.loop-left.invariant.same;
 }
 
 pub returns-else-value-cap : goal.returns-else-value-cap

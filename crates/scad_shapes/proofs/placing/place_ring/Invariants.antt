@@ -8,5 +8,6 @@ use Rattle.scad_shapes.proofs.placing.place_ring.Given as goal
 abbrev pub invariant-points : goal.invariant-points
 invariant-points l = record {
   made : l.ring.items ++ placed_ring l.m l.z (drop l.point-index l.outline) ≡ placed_ring l.m l.z l.outline;
-  ranged : list_all is_in_range (placed_ring l.m l.z l.outline) ≡ list_all is_in_range (placed_ring l.m l.z (drop l.point-index l.outline));
+  ranged : list_all is_in_range (placed_ring l.m l.z l.outline) ≡ list_all is_in_range
+      (placed_ring l.m l.z (drop l.point-index l.outline));
 }

@@ -8,5 +8,6 @@ use Rattle.scad_shapes.proofs.polyhedra.place.Given as goal
 abbrev pub invariant-points : goal.invariant-points
 invariant-points l = record {
   made : l.placed.items ++ placed_points l.m (drop l.point-index l.points) ≡ placed_points l.m l.points;
-  ranged : list_all is_in_range (placed_points l.m l.points) ≡ list_all is_in_range (placed_points l.m (drop l.point-index l.points));
+  ranged : list_all is_in_range (placed_points l.m l.points) ≡ list_all is_in_range
+      (placed_points l.m (drop l.point-index l.points));
 }

@@ -10,13 +10,17 @@ rings-preserved c =
     let ring = sphere_ring_at c.args.r c.args.n c.args.m.now in
     let all = sphere_rings_of c.args.r c.args.n c.args.m.now in
     record {
-      made = made-more ring_in_range ring c.rings.i ((c.args.n + 1) / 2) c.rings-test.true c.rings.rings.items c.push_ring.new.out.items all c.rings.invariant.made c.in-Ok.ensures.0;
-      ranged = ranged-more ring_in_range ring c.rings.i ((c.args.n + 1) / 2) c.rings-test.true (list_all ring_in_range all) c.rings.invariant.ranged c.in-Ok.ensures.1;
+      made = made-more ring_in_range ring c.rings.i ((c.args.n + 1) / 2) c.rings-test.true c.rings.rings.items
+          c.push_ring.new.out.items all c.rings.invariant.made c.in-Ok.ensures.0;
+      ranged = ranged-more ring_in_range ring c.rings.i ((c.args.n + 1) / 2) c.rings-test.true
+          (list_all ring_in_range all) c.rings.invariant.ranged c.in-Ok.ensures.1;
     }
 
 pub returns-in-Err : goal.returns-in-Err
 returns-in-Err c =
     let ring = sphere_ring_at c.args.r c.args.n c.args.m.now in
     let all = sphere_rings_of c.args.r c.args.n c.args.m.now in
-    fails _ ring_in_range c.rings.rings.items c.push_ring.new.out.items all (ring c.rings.i) c.in-Err.end (λ v. v.items) c.in-Err.ensures
-    (ranged-fails ring_in_range ring c.rings.i ((c.args.n + 1) / 2) c.rings-test.true (list_all ring_in_range all) c.rings.invariant.ranged)
+    fails _ ring_in_range c.rings.rings.items c.push_ring.new.out.items all (ring c.rings.i) c.in-Err.end (λ v. v.items)
+    c.in-Err.ensures
+    (ranged-fails ring_in_range ring c.rings.i ((c.args.n + 1) / 2) c.rings-test.true (list_all ring_in_range all)
+    c.rings.invariant.ranged)

@@ -5,6 +5,7 @@ use Rattle.scad_solid.proofs.fans.fans.Given as goal
 -- the fans so far and those of the faces left are all, and no number of a face left is bad
 abbrev pub invariant-loop-face : goal.invariant-loop-face
 invariant-loop-face l = record {
-  made : l.triangles.items ++ fans (map (corners l.points) (drop l.face-index l.faces)) ≡ fans (map (corners l.points) l.faces);
+  made : l.triangles.items ++ fans (map (corners l.points) (drop l.face-index l.faces))
+      ≡ fans (map (corners l.points) l.faces);
   named : first_bad (length l.points) (drop l.face-index l.faces) ≡ None;
 }

@@ -9,5 +9,6 @@ use Rattle.scad_solid.proofs.stacking.stack.Goals as goal
 pub from_closed-requires : goal.from_closed-requires
 from_closed-requires c = record {
   closed = ap is_closed c.in_ok-stacked.ensures ∙ is_closed-alike c.args.rings.now c.requires.alike;
-  in_range = ap (list_all is_triangle_in_range) c.in_ok-stacked.ensures ∙ stacked_in_range c.args.rings.now c.requires.in_range;
+  in_range = ap (list_all is_triangle_in_range) c.in_ok-stacked.ensures ∙ stacked_in_range c.args.rings.now
+      c.requires.in_range;
 }

@@ -8,5 +8,6 @@ use Rattle.scad_solid.proofs.wrapping.wrap.Goals as goal
 pub from_closed-requires : goal.from_closed-requires
 from_closed-requires c = record {
   closed = ap is_closed c.in_ok-wrapped.ensures ∙ is_closed-wrapped c.args.rings.now c.requires.alike;
-  in_range = ap (list_all is_triangle_in_range) c.in_ok-wrapped.ensures ∙ wrapped_in_range c.args.rings.now c.requires.in_range;
+  in_range = ap (list_all is_triangle_in_range) c.in_ok-wrapped.ensures ∙ wrapped_in_range c.args.rings.now
+      c.requires.in_range;
 }

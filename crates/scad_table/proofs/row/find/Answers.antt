@@ -15,13 +15,16 @@ no_row = record { name = record { ref_ptr = (0, 0); now = [] }; id = 0 }
 pub returns-in-Ok : goal.returns-in-Ok
 returns-in-Ok c =
     let up = Ascends-from_test c.args.rows.now c.requires in
-    let by_name = c.in-Ok.ensures.position (λ row. slice_cmp nat_cmp row.name.now c.args.name.now) (always_returns_same _ _ _ (λ a r g called. (search rules, search rules))) in
+    let by_name = c.in-Ok.ensures.position (λ row. slice_cmp nat_cmp row.name.now c.args.name.now)
+    (always_returns_same _ _ _ (λ a r g called. (search rules, search rules))) in
     let is = sym (searched c.args.rows.now c.args.name.now no_row up (Ok c.in-Ok.at) c.in-Ok.ensures.bound by_name) in
     record { given = is; listed = listed _ _ up _ is; missing = missing _ _ up _ is }
 
 pub returns-in-Err : goal.returns-in-Err
 returns-in-Err c =
     let up = Ascends-from_test c.args.rows.now c.requires in
-    let by_name = c.in-Err.ensures.position (λ row. slice_cmp nat_cmp row.name.now c.args.name.now) (always_returns_same _ _ _ (λ a r g called. (search rules, search rules))) in
-    let is = sym (searched c.args.rows.now c.args.name.now no_row up (Err c.in-Err.field-0) c.in-Err.ensures.bound by_name) in
+    let by_name = c.in-Err.ensures.position (λ row. slice_cmp nat_cmp row.name.now c.args.name.now)
+    (always_returns_same _ _ _ (λ a r g called. (search rules, search rules))) in
+    let is = sym (searched c.args.rows.now c.args.name.now no_row up (Err c.in-Err.field-0) c.in-Err.ensures.bound
+    by_name) in
     record { given = is; listed = listed _ _ up _ is; missing = missing _ _ up _ is }

@@ -15,4 +15,5 @@ returns c =
     let above = simp to_z-of_z at c.if-top-lt0.false in
     let size = simp to_z-of_z at c.unsigned_abs.ensures.value in
     layers_above c.args.top c.args.h c.requires above c.div_ceil.result
-    (c.div_ceil.ensures ∙ ap (λ m. m / c.args.h + min 1 (m % c.args.h)) (c.saturating_sub.ensures ∙ ap (λ t. t - c.args.h / 2) size))
+    (c.div_ceil.ensures ∙ ap (λ m. m / c.args.h + min 1 (m % c.args.h))
+    (c.saturating_sub.ensures ∙ ap (λ t. t - c.args.h / 2) size))

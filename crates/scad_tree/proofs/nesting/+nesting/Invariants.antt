@@ -8,5 +8,6 @@ use Rattle.scad_tree.proofs.nesting.+nesting.Given as goal
 abbrev pub invariant-deepest-loop-node : goal.invariant-deepest-loop-node
 invariant-deepest-loop-node l = record {
   in_range : l.depth < 2 ^ 32;
-  reached : min (max l.depth (deepest (members (solids (drop l.node-index l.nodes))))) (2 ^ 32 - 1) ≡ min (deepest (members (solids l.nodes))) (2 ^ 32 - 1);
+  reached : min (max l.depth (deepest (members (solids (drop l.node-index l.nodes))))) (2 ^ 32 - 1)
+      ≡ min (deepest (members (solids l.nodes))) (2 ^ 32 - 1);
 }

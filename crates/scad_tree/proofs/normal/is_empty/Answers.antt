@@ -11,4 +11,5 @@ pub returns-in-Inter : goal.returns-in-Inter
 returns-in-Inter c = sym (ap (λ n. is_nothing (solid_of n)) c.in-Inter.is ∙ nothing_inter c.in-Inter.field-0)
 
 pub returns-in-Diff : goal.returns-in-Diff
-returns-in-Diff c = sym (ap (λ n. is_nothing (solid_of n)) c.in-Diff.is ∙ nothing_diff c.in-Diff.field-0 c.in-Diff.field-1)
+returns-in-Diff c = sym (ap (λ n. is_nothing (solid_of n)) c.in-Diff.is ∙ nothing_diff c.in-Diff.field-0
+    c.in-Diff.field-1)

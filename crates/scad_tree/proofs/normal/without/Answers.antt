@@ -8,4 +8,5 @@ pub returns-then-len-ge1 : goal.returns-then-len-ge1
 returns-then-len-ge1 c =
     diff_view c.in_ok-first.first c.args.rest
     ∙ ap (λ n. difference (solid_of n) (members (solids c.args.rest.items))) c.in_ok-first.ensures.ok
-    ∙ some_without (solid_of c.args.first) c.args.rest.items (omega (arith, c.len.ensures, c.if-len-ge1.true, c.args.rest.ok.0))
+    ∙ some_without (solid_of c.args.first) c.args.rest.items
+    (omega (arith, c.len.ensures, c.if-len-ge1.true, c.args.rest.ok.0))

@@ -5,4 +5,5 @@ use Rattle.scad_tree.specs.Normal.{is_kept, is_nothing}
 use Rattle.scad_tree.proofs.operations.intersect.Given as goal
 
 abbrev pub invariant-loop-member : goal.invariant-loop-member
-invariant-loop-member l = (solids l.nodes.items ≡ solids l.yielded) × (list_all is_kept (solids l.nodes.items) ≡ true) × (list_any is_nothing (solids l.yielded) ≡ false)
+invariant-loop-member l = (solids l.nodes.items ≡ solids l.yielded) × (list_all is_kept (solids l.nodes.items) ≡ true)
+    × (list_any is_nothing (solids l.yielded) ≡ false)

@@ -14,13 +14,22 @@ push_node-returns-in_ok-after-in-Diff-clause-edges t c =
     let first = solid_of c.in-Diff.first.value in
     let rest = members (solids c.in-Diff.rest.items) in
     let same_first : first ≡ solid_of c.deref-in-Diff.result.now = ap solid_of (sym c.deref-in-Diff.ensures) in
-    let same_rest : rest ≡ members (solids c.deref-in-Diff-2.result.now) = ap (λ ns. members (solids ns)) (sym c.deref-in-Diff-2.ensures.value) in
-    let leaf : a.leaf + leaves first ≡ c.in_ok-leaf-in-Diff.leaf = ap (λ s. a.leaf + leaves s) same_first ∙ sym c.in_ok-leaf-in-Diff.ensures.next in
-    let parts : sections_from a.at.number a.at.height a.leaf (surfaces first) ++ sections_from a.at.number a.at.height (a.leaf + leaves first) (all_surfaces rest) ≡ sections_from a.at.number a.at.height a.leaf (surfaces (solid_of c.deref-in-Diff.result.now)) ++ sections_from a.at.number a.at.height c.in_ok-leaf-in-Diff.leaf (all_surfaces (members (solids c.deref-in-Diff-2.result.now))) =
-    (λ i. sections_from a.at.number a.at.height a.leaf (surfaces (same_first i)) ++ sections_from a.at.number a.at.height (leaf i) (all_surfaces (same_rest i))) in
-    pieces a.out.now.items _ _ (sections_from a.at.number a.at.height a.leaf (surfaces (solid_of c.deref-in-Diff.result.now))) (sections_from a.at.number a.at.height c.in_ok-leaf-in-Diff.leaf (all_surfaces (members (solids c.deref-in-Diff-2.result.now)))) _
+    let same_rest : rest ≡ members (solids c.deref-in-Diff-2.result.now) = ap (λ ns. members (solids ns))
+    (sym c.deref-in-Diff-2.ensures.value) in
+    let leaf : a.leaf + leaves first ≡ c.in_ok-leaf-in-Diff.leaf = ap (λ s. a.leaf + leaves s) same_first ∙ sym
+    c.in_ok-leaf-in-Diff.ensures.next in
+    let parts : sections_from a.at.number a.at.height a.leaf (surfaces first) ++ sections_from a.at.number a.at.height
+    (a.leaf + leaves first) (all_surfaces rest) ≡ sections_from a.at.number a.at.height a.leaf
+    (surfaces (solid_of c.deref-in-Diff.result.now)) ++ sections_from a.at.number a.at.height
+    c.in_ok-leaf-in-Diff.leaf (all_surfaces (members (solids c.deref-in-Diff-2.result.now))) =
+    (λ i. sections_from a.at.number a.at.height a.leaf (surfaces (same_first i)) ++ sections_from a.at.number
+    a.at.height (leaf i) (all_surfaces (same_rest i))) in
+    pieces a.out.now.items _ _ (sections_from a.at.number a.at.height a.leaf
+    (surfaces (solid_of c.deref-in-Diff.result.now))) (sections_from a.at.number a.at.height
+    c.in_ok-leaf-in-Diff.leaf (all_surfaces (members (solids c.deref-in-Diff-2.result.now)))) _
     c.in_ok-leaf-in-Diff.ensures.edges c.in_ok-after-in-Diff.ensures.edges
-    (ap (λ s. sections_from a.at.number a.at.height a.leaf (surfaces s)) (at_diff a.node.now c.in-Diff.first c.in-Diff.rest c.in-Diff.is)
+    (ap (λ s. sections_from a.at.number a.at.height a.leaf (surfaces s)) (at_diff a.node.now c.in-Diff.first
+    c.in-Diff.rest c.in-Diff.is)
     ∙ sections_append a.at.number a.at.height a.leaf (surfaces first) (all_surfaces rest) ∙ parts)
 
 pub push_node-returns-in_ok-after-in-Diff-clause-next : goal.push_node-returns-in_ok-after-in-Diff-clause-next
@@ -30,12 +39,16 @@ push_node-returns-in_ok-after-in-Diff-clause-next t c =
     let rest = members (solids c.in-Diff.rest.items) in
     behind a.leaf c.in_ok-leaf-in-Diff.leaf c.in_ok-after-in-Diff.after first rest
     (c.in_ok-leaf-in-Diff.ensures.next ∙ ap (λ n. a.leaf + leaves (solid_of n)) c.deref-in-Diff.ensures)
-    (c.in_ok-after-in-Diff.ensures.next ∙ ap (λ ns. c.in_ok-leaf-in-Diff.leaf + all_leaves (members (solids ns))) c.deref-in-Diff-2.ensures.value)
+    (c.in_ok-after-in-Diff.ensures.next ∙ ap (λ ns. c.in_ok-leaf-in-Diff.leaf + all_leaves (members (solids ns)))
+    c.deref-in-Diff-2.ensures.value)
     ∙ ap (λ s. a.leaf + leaves s) (sym (at_diff a.node.now c.in-Diff.first c.in-Diff.rest c.in-Diff.is))
 
 pub push_members-loop-node-preserved : goal.push_members-loop-node-preserved
 push_members-loop-node-preserved t c = record {
-  cut = cut_more c.args.at.number c.args.at.height c.loop-node.leaf c.in_ok-after.after c.loop-node.out.items c.push_node.new.out.items _ c.args.nodes.now c.loop-node.node-index c.node-item.result c.loop-node-test.true c.node-item.is c.in_ok-after.ensures.edges c.in_ok-after.ensures.next c.loop-node.invariant.cut;
+  cut = cut_more c.args.at.number c.args.at.height c.loop-node.leaf c.in_ok-after.after c.loop-node.out.items
+      c.push_node.new.out.items _ c.args.nodes.now c.loop-node.node-index c.node-item.result c.loop-node-test.true
+      c.node-item.is c.in_ok-after.ensures.edges c.in_ok-after.ensures.next c.loop-node.invariant.cut;
   balanced = λ b. c.in_ok-after.ensures.balanced (c.loop-node.invariant.balanced b);
-  numbered = numbered_more c.loop-node.leaf c.in_ok-after.after _ c.args.nodes.now c.loop-node.node-index c.node-item.result c.loop-node-test.true c.node-item.is c.in_ok-after.ensures.next c.loop-node.invariant.numbered;
+  numbered = numbered_more c.loop-node.leaf c.in_ok-after.after _ c.args.nodes.now c.loop-node.node-index
+      c.node-item.result c.loop-node-test.true c.node-item.is c.in_ok-after.ensures.next c.loop-node.invariant.numbered;
 }

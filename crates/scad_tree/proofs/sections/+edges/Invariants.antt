@@ -9,7 +9,10 @@ use Rattle.scad_tree.proofs.sections.+edges.Given as goal
 -- the edges so far, and those of what is left
 abbrev pub invariant-push_members-loop-node : goal.invariant-push_members-loop-node
 invariant-push_members-loop-node l = record {
-  cut : l.out.items ++ sections_from l.at.number l.at.height l.leaf (all_surfaces (members (solids (drop l.node-index l.nodes)))) ≡ l.fn.out.items ++ sections_from l.at.number l.at.height l.fn.leaf (all_surfaces (members (solids l.nodes)));
+  cut : l.out.items ++ sections_from l.at.number l.at.height l.leaf
+      (all_surfaces (members (solids (drop l.node-index l.nodes)))) ≡ l.fn.out.items ++ sections_from l.at.number
+      l.at.height l.fn.leaf (all_surfaces (members (solids l.nodes)));
   balanced : AreLeavesBalanced l.fn.out.items → AreLeavesBalanced l.out.items;
-  numbered : l.leaf + all_leaves (members (solids (drop l.node-index l.nodes))) ≡ l.fn.leaf + all_leaves (members (solids l.nodes));
+  numbered : l.leaf + all_leaves (members (solids (drop l.node-index l.nodes))) ≡ l.fn.leaf + all_leaves
+      (members (solids l.nodes));
 }

@@ -14,11 +14,16 @@ shape_from-returns-in_ok-new-in-Diff-clause-next t c =
     let rest = members (solids c.in-Diff.rest.items) in
     behind a.leaf c.in_ok-base-in-Diff.leaf c.in_ok-shapes-in-Diff.after first rest
     (c.in_ok-base-in-Diff.ensures.next ∙ ap (λ n. a.leaf + leaves (solid_of n)) c.deref-in-Diff.ensures)
-    (c.in_ok-shapes-in-Diff.ensures.next ∙ ap (λ ns. c.in_ok-base-in-Diff.leaf + all_leaves (members (solids ns))) c.deref-in-Diff-2.ensures.value)
+    (c.in_ok-shapes-in-Diff.ensures.next ∙ ap (λ ns. c.in_ok-base-in-Diff.leaf + all_leaves (members (solids ns)))
+    c.deref-in-Diff-2.ensures.value)
     ∙ ap (λ s. a.leaf + leaves s) (sym (at_diff a.node.now c.in-Diff.first c.in-Diff.rest c.in-Diff.is))
 
 pub shapes_from-loop-node-preserved : goal.shapes_from-loop-node-preserved
 shapes_from-loop-node-preserved t c = record {
-  made = shapes_more c.loop-node.shapes.items c.push.new.self.items c.in_ok-shape.shape c.args.nodes.now c.loop-node.node-index c.node-item.result c.loop-node.leaf c.in_ok-shape.after _ c.loop-node-test.true c.node-item.is c.in_ok-push.ensures.items c.in_ok-shape.ensures.shape c.in_ok-shape.ensures.next c.loop-node.invariant.made;
-  numbered = numbered_more c.loop-node.leaf c.in_ok-shape.after _ c.args.nodes.now c.loop-node.node-index c.node-item.result c.loop-node-test.true c.node-item.is c.in_ok-shape.ensures.next c.loop-node.invariant.numbered;
+  made = shapes_more c.loop-node.shapes.items c.push.new.self.items c.in_ok-shape.shape c.args.nodes.now
+      c.loop-node.node-index c.node-item.result c.loop-node.leaf c.in_ok-shape.after _ c.loop-node-test.true
+      c.node-item.is c.in_ok-push.ensures.items c.in_ok-shape.ensures.shape c.in_ok-shape.ensures.next
+      c.loop-node.invariant.made;
+  numbered = numbered_more c.loop-node.leaf c.in_ok-shape.after _ c.args.nodes.now c.loop-node.node-index
+      c.node-item.result c.loop-node-test.true c.node-item.is c.in_ok-shape.ensures.next c.loop-node.invariant.numbered;
 }

@@ -8,6 +8,8 @@ use Rattle.scad_tree.proofs.shape.+shape.Given as goal
 -- the shapes so far, and those of what is left
 abbrev pub invariant-shapes_from-loop-node : goal.invariant-shapes_from-loop-node
 invariant-shapes_from-loop-node l = record {
-  made : shapes_onto l.shapes.items (all_numbered l.leaf (members (solids (drop l.node-index l.nodes)))) ≡ all_numbered l.fn.leaf (members (solids l.nodes));
-  numbered : l.leaf + all_leaves (members (solids (drop l.node-index l.nodes))) ≡ l.fn.leaf + all_leaves (members (solids l.nodes));
+  made : shapes_onto l.shapes.items (all_numbered l.leaf (members (solids (drop l.node-index l.nodes)))) ≡ all_numbered
+      l.fn.leaf (members (solids l.nodes));
+  numbered : l.leaf + all_leaves (members (solids (drop l.node-index l.nodes))) ≡ l.fn.leaf + all_leaves
+      (members (solids l.nodes));
 }

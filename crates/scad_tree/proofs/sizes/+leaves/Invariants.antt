@@ -8,5 +8,6 @@ use Rattle.scad_tree.proofs.sizes.+leaves.Given as goal
 abbrev pub invariant-all_leaves-nodes : goal.invariant-all_leaves-nodes
 invariant-all_leaves-nodes l = record {
   in_range : l.count < 2 ^ 64;
-  reached : min (l.count + all_leaves (members (solids (drop l.node-index l.nodes)))) (2 ^ 64 - 1) ≡ min (all_leaves (members (solids l.nodes))) (2 ^ 64 - 1);
+  reached : min (l.count + all_leaves (members (solids (drop l.node-index l.nodes)))) (2 ^ 64 - 1)
+      ≡ min (all_leaves (members (solids l.nodes))) (2 ^ 64 - 1);
 }

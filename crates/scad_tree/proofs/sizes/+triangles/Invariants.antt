@@ -8,5 +8,6 @@ use Rattle.scad_tree.proofs.sizes.+triangles.Given as goal
 abbrev pub invariant-all_triangles-nodes : goal.invariant-all_triangles-nodes
 invariant-all_triangles-nodes l = record {
   in_range : l.count < 2 ^ 64;
-  reached : min (l.count + triangle_counts (members (solids (drop l.node-index l.nodes)))) (2 ^ 64 - 1) ≡ min (triangle_counts (members (solids l.nodes))) (2 ^ 64 - 1);
+  reached : min (l.count + triangle_counts (members (solids (drop l.node-index l.nodes)))) (2 ^ 64 - 1)
+      ≡ min (triangle_counts (members (solids l.nodes))) (2 ^ 64 - 1);
 }

@@ -8,4 +8,5 @@ use Rattle.scad_tree.proofs.solids.+solids.Given as goal
 
 -- all are solids' where those left are
 abbrev pub invariant-nodes_are_of_solids-loop-node : goal.invariant-nodes_are_of_solids-loop-node
-invariant-nodes_are_of_solids-loop-node l = All IsSolid (all_surfaces (members (solids (drop l.node-index l.nodes)))) → All IsSolid (all_surfaces (members (solids l.nodes)))
+invariant-nodes_are_of_solids-loop-node l = All IsSolid (all_surfaces (members (solids (drop l.node-index l.nodes))))
+    → All IsSolid (all_surfaces (members (solids l.nodes)))

@@ -8,6 +8,8 @@ use Rattle.scad_tree.proofs.text.+text.Given as goal
 -- the lines so far, and those of what is left
 abbrev pub invariant-push_members-loop-node : goal.invariant-push_members-loop-node
 invariant-push_members-loop-node l = record {
-  written : l.out.items ++ all_lines l.level l.leaf (members (solids (drop l.node-index l.nodes))) ≡ l.fn.out.items ++ all_lines l.level l.fn.leaf (members (solids l.nodes));
-  numbered : l.leaf + all_leaves (members (solids (drop l.node-index l.nodes))) ≡ l.fn.leaf + all_leaves (members (solids l.nodes));
+  written : l.out.items ++ all_lines l.level l.leaf (members (solids (drop l.node-index l.nodes))) ≡ l.fn.out.items ++
+      all_lines l.level l.fn.leaf (members (solids l.nodes));
+  numbered : l.leaf + all_leaves (members (solids (drop l.node-index l.nodes))) ≡ l.fn.leaf + all_leaves
+      (members (solids l.nodes));
 }

@@ -4,4 +4,5 @@ use Rattle.scad_value.specs.View.{elements}
 use Rattle.scad_value.proofs.comparison.+equal.Given as goal
 
 abbrev pub invariant-equal_all-pairs : goal.invariant-equal_all-pairs
-invariant-equal_all-pairs l = equal_all (elements (drop l.i l.xs)) (elements (drop l.i l.ys)) ≡ equal_all (elements l.xs) (elements l.ys)
+invariant-equal_all-pairs l = equal_all (elements (drop l.i l.xs)) (elements (drop l.i l.ys))
+    ≡ equal_all (elements l.xs) (elements l.ys)

@@ -12,4 +12,5 @@ copy-returns-in-Ok-clause-same t c =
 pub copy_all-elements-preserved : goal.copy_all-elements-preserved
 copy_all-elements-preserved t c =
     rw c.in_ok-push.ensures.items
-    (copied c.elements.made.items c.args.all.now c.elements.v-index c.v-item.result c.in_ok-copy.field-0 _ c.elements-test.true c.v-item.is c.in_ok-copy.ensures.same c.elements.invariant)
+    (copied c.elements.made.items c.args.all.now c.elements.v-index c.v-item.result c.in_ok-copy.field-0 _
+    c.elements-test.true c.v-item.is c.in_ok-copy.ensures.same c.elements.invariant)

@@ -9,15 +9,20 @@ use Rattle.scad_value.proofs.elementwise.+each.Goals as goal
 pub each-returns-in-Ok-clause-found : goal.each-returns-in-Ok-clause-found
 each-returns-in-Ok-clause-found t c =
     let f = action c.args.operation.now in
-    found_vector (each f) (each_of f) (λ es. refl) _ c.in-List.all c.in-Ok.made _ c.in-List.is c.deref.ensures.value c.in-Ok.ensures.found
+    found_vector (each f) (each_of f) (λ es. refl) _ c.in-List.all c.in-Ok.made _ c.in-List.is c.deref.ensures.value
+    c.in-Ok.ensures.found
 
 pub each-returns-in-Err-clause-refused : goal.each-returns-in-Err-clause-refused
 each-returns-in-Err-clause-refused t c =
     let f = action c.args.operation.now in
-    refused_vector (each f) (each_of f) (λ es. refl) _ c.in-List.all _ c.in-Err.fault c.in-List.is c.deref.ensures.value c.in-Err.ensures.refused
+    refused_vector (each f) (each_of f) (λ es. refl) _ c.in-List.all _ c.in-Err.fault c.in-List.is c.deref.ensures.value
+    c.in-Err.ensures.refused
 
 pub each_of-elements-preserved : goal.each_of-elements-preserved
 each_of-elements-preserved t c =
     let f = action c.args.operation.now in
     rw c.in_ok-push-in-Ok.ensures.items
-    (step_made c.elements.made.items c.in-Ok.element (each f (datum_of c.v-item.result)) _ (each_of f (elements (drop (c.elements.v-index + 1) c.args.all.now))) _ (ap (each_of f) (elements-drop c.args.all.now c.elements.v-index c.v-item.result c.elements-test.true c.v-item.is)) c.in-Ok.ensures.found c.elements.invariant)
+    (step_made c.elements.made.items c.in-Ok.element (each f (datum_of c.v-item.result)) _
+    (each_of f (elements (drop (c.elements.v-index + 1) c.args.all.now))) _
+    (ap (each_of f) (elements-drop c.args.all.now c.elements.v-index c.v-item.result c.elements-test.true
+    c.v-item.is)) c.in-Ok.ensures.found c.elements.invariant)

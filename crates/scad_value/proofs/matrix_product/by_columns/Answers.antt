@@ -11,7 +11,10 @@ returns-in-Err-clause-refused c =
     let xs = elements c.args.xs.now in
     let rows = elements c.args.rows.now in
     let more : c.args.columns - c.columns.j ≡ suc (c.args.columns - (c.columns.j + 1)) = omega arith in
-    step_refused c.columns.made.items c.in-Err.fault (as_number (dot xs (column c.columns.j rows))) _ (by_columns (c.args.columns - (c.columns.j + 1)) (c.columns.j + 1) xs rows) _ (ap (λ n. by_columns n c.columns.j xs rows) more) (subst (λ r. Refuses (as_number r) c.in-Err.fault) c.dot_column.ensures c.in-Err.ensures.refused) c.columns.invariant
+    step_refused c.columns.made.items c.in-Err.fault (as_number (dot xs (column c.columns.j rows))) _
+    (by_columns (c.args.columns - (c.columns.j + 1)) (c.columns.j + 1) xs rows) _
+    (ap (λ n. by_columns n c.columns.j xs rows) more) (subst (λ r. Refuses (as_number r) c.in-Err.fault)
+    c.dot_column.ensures c.in-Err.ensures.refused) c.columns.invariant
 
 pub columns-preserved : goal.columns-preserved
 columns-preserved c =
@@ -19,4 +22,7 @@ columns-preserved c =
     let rows = elements c.args.rows.now in
     let more : c.args.columns - c.columns.j ≡ suc (c.args.columns - (c.columns.j + 1)) = omega arith in
     rw c.in_ok-push-in-Ok.ensures.items
-    (step_made c.columns.made.items c.in-Ok.number (as_number (dot xs (column c.columns.j rows))) _ (by_columns (c.args.columns - (c.columns.j + 1)) (c.columns.j + 1) xs rows) _ (ap (λ n. by_columns n c.columns.j xs rows) more) (ap as_number (sym c.dot_column.ensures) ∙ c.in-Ok.ensures.found) c.columns.invariant)
+    (step_made c.columns.made.items c.in-Ok.number (as_number (dot xs (column c.columns.j rows))) _
+    (by_columns (c.args.columns - (c.columns.j + 1)) (c.columns.j + 1) xs rows) _
+    (ap (λ n. by_columns n c.columns.j xs rows) more) (ap as_number (sym c.dot_column.ensures) ∙
+    c.in-Ok.ensures.found) c.columns.invariant)

@@ -6,4 +6,5 @@ use Rattle.scad_value.proofs.matrix_product.by_columns.Given as goal
 
 -- what is made, and then what is left
 abbrev pub invariant-columns : goal.invariant-columns
-invariant-columns l = onto_all l.made.items (by_columns (l.columns - l.j) l.j (elements l.xs) (elements l.rows)) ≡ by_columns l.columns 0 (elements l.xs) (elements l.rows)
+invariant-columns l = onto_all l.made.items (by_columns (l.columns - l.j) l.j (elements l.xs) (elements l.rows))
+    ≡ by_columns l.columns 0 (elements l.xs) (elements l.rows)

@@ -10,4 +10,8 @@ pub rows-preserved : goal.rows-preserved
 rows-preserved c =
     let ys = elements c.args.ys.now in
     rw c.in_ok-push-in-Ok.ensures.items
-    (step_made c.rows.made.items c.in-Ok.number (as_number (dot (elements_in (datum_of c.row-item.result)) ys)) _ (by_rows (elements (drop (c.rows.row-index + 1) c.args.rows.now)) ys) _ (ap (λ es. by_rows es ys) (elements-drop c.args.rows.now c.rows.row-index c.row-item.result c.rows-test.true c.row-item.is)) (ap (λ es. as_number (dot es ys)) (sym c.elements_in.ensures) ∙ ap as_number (sym c.dot.ensures) ∙ c.in-Ok.ensures.found) c.rows.invariant)
+    (step_made c.rows.made.items c.in-Ok.number (as_number (dot (elements_in (datum_of c.row-item.result)) ys)) _
+    (by_rows (elements (drop (c.rows.row-index + 1) c.args.rows.now)) ys) _
+    (ap (λ es. by_rows es ys) (elements-drop c.args.rows.now c.rows.row-index c.row-item.result c.rows-test.true
+    c.row-item.is)) (ap (λ es. as_number (dot es ys)) (sym c.elements_in.ensures) ∙ ap as_number (sym c.dot.ensures)
+    ∙ c.in-Ok.ensures.found) c.rows.invariant)

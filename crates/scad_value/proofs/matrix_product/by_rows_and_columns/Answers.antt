@@ -12,4 +12,9 @@ rows-preserved c =
     let ys = elements c.args.ys.now in
     let n = c.args.columns in
     rw c.in_ok-push-in-Ok.ensures.items
-    (step_made c.rows.made.items (ListValue c.in-Ok.row_made) (as_vector (by_columns n 0 (elements_in (datum_of c.row-item.result)) ys)) _ (by_rows_and_columns n (elements (drop (c.rows.row-index + 1) c.args.rows.now)) ys) _ (ap (λ es. by_rows_and_columns n es ys) (elements-drop c.args.rows.now c.rows.row-index c.row-item.result c.rows-test.true c.row-item.is)) (ap (λ es. as_vector (by_columns n 0 es ys)) (sym c.elements_in.ensures) ∙ ap as_vector c.in-Ok.ensures.found ∙ ap Ok (sym (vector_view c.in-Ok.row_made))) c.rows.invariant)
+    (step_made c.rows.made.items (ListValue c.in-Ok.row_made)
+    (as_vector (by_columns n 0 (elements_in (datum_of c.row-item.result)) ys)) _
+    (by_rows_and_columns n (elements (drop (c.rows.row-index + 1) c.args.rows.now)) ys) _
+    (ap (λ es. by_rows_and_columns n es ys) (elements-drop c.args.rows.now c.rows.row-index c.row-item.result
+    c.rows-test.true c.row-item.is)) (ap (λ es. as_vector (by_columns n 0 es ys)) (sym c.elements_in.ensures) ∙ ap
+    as_vector c.in-Ok.ensures.found ∙ ap Ok (sym (vector_view c.in-Ok.row_made))) c.rows.invariant)

@@ -6,4 +6,5 @@ use Rattle.scad_value.proofs.matrix_product.by_rows_and_columns.Given as goal
 
 -- what is made, and then what is left
 abbrev pub invariant-rows : goal.invariant-rows
-invariant-rows l = onto_all l.made.items (by_rows_and_columns l.columns (elements (drop l.row-index l.rows)) (elements l.ys)) ≡ by_rows_and_columns l.columns (elements l.rows) (elements l.ys)
+invariant-rows l = onto_all l.made.items (by_rows_and_columns l.columns (elements (drop l.row-index l.rows))
+    (elements l.ys)) ≡ by_rows_and_columns l.columns (elements l.rows) (elements l.ys)

@@ -7,4 +7,6 @@ use Rattle.scad_value.proofs.matrix_product.times_vector.Goals as goal
 
 pub returns-in-Ok-clause-found : goal.returns-in-Ok-clause-found
 returns-in-Ok-clause-found c =
-    made_when (λ s. product_of_factors s (Numbers c.args.length) (elements c.args.xs.now) (elements c.args.ys.now)) _ (Matrix c.in-Matrix.field-0 c.in-Matrix.n) c.in-Matrix.n c.args.length _ c.in-Ok.made c.in-Matrix.is refl c.if-n-length-2.false c.in-Ok.ensures.found
+    made_when (λ s. product_of_factors s (Numbers c.args.length) (elements c.args.xs.now) (elements c.args.ys.now)) _
+    (Matrix c.in-Matrix.field-0 c.in-Matrix.n) c.in-Matrix.n c.args.length _ c.in-Ok.made c.in-Matrix.is refl
+    c.if-n-length-2.false c.in-Ok.ensures.found

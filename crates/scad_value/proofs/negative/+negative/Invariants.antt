@@ -5,4 +5,5 @@ use Rattle.scad_value.proofs.negative.+negative.Given as goal
 
 -- what is made, and then what is left
 abbrev pub invariant-negatives-elements : goal.invariant-negatives-elements
-invariant-negatives-elements l = elements_onto l.made.items (negatives (elements (drop l.v-index l.all))) ≡ negatives (elements l.all)
+invariant-negatives-elements l = elements_onto l.made.items (negatives (elements (drop l.v-index l.all)))
+    ≡ negatives (elements l.all)

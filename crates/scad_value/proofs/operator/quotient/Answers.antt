@@ -7,8 +7,10 @@ use Rattle.scad_value.proofs.operator.quotient.Goals as goal
 
 pub returns-in-Number-clause-found : goal.returns-in-Number-clause-found
 returns-in-Number-clause-found c =
-    subst (λ q. IfOk c.each.result (λ v. q ≡ Ok (datum_of v))) (each-under c.in-Number.x (datum_of c.args.b.now) ∙ ap (λ v. quotient (datum_of v) (datum_of c.args.b.now)) (sym c.in-Number.is)) c.each.ensures.found
+    subst (λ q. IfOk c.each.result (λ v. q ≡ Ok (datum_of v))) (each-under c.in-Number.x (datum_of c.args.b.now) ∙ ap
+    (λ v. quotient (datum_of v) (datum_of c.args.b.now)) (sym c.in-Number.is)) c.each.ensures.found
 
 pub returns-in-Number-clause-refused : goal.returns-in-Number-clause-refused
 returns-in-Number-clause-refused c =
-    subst (λ q. IfErr c.each.result (Refuses q)) (each-under c.in-Number.x (datum_of c.args.b.now) ∙ ap (λ v. quotient (datum_of v) (datum_of c.args.b.now)) (sym c.in-Number.is)) c.each.ensures.refused
+    subst (λ q. IfErr c.each.result (Refuses q)) (each-under c.in-Number.x (datum_of c.args.b.now) ∙ ap
+    (λ v. quotient (datum_of v) (datum_of c.args.b.now)) (sym c.in-Number.is)) c.each.ensures.refused

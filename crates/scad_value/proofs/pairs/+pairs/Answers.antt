@@ -10,15 +10,24 @@ use Rattle.scad_value.proofs.pairs.+pairs.Goals as goal
 pub by_pairs-returns-in-Ok-clause-found : goal.by_pairs-returns-in-Ok-clause-found
 by_pairs-returns-in-Ok-clause-found t c =
     let f = pairing c.args.operation in
-    found_vector (λ d. by_pairs f d (datum_of c.args.b.now)) (λ es. by_pairs_of f es (elements c.in-Some.ys.now)) (λ es. ap (by_pairs f (vector es)) c.in-Some.ensures.vector) _ c.in-List.xs c.in-Ok.made _ c.in-List.is c.deref.ensures.value c.in-Ok.ensures.found
+    found_vector (λ d. by_pairs f d (datum_of c.args.b.now)) (λ es. by_pairs_of f es (elements c.in-Some.ys.now))
+    (λ es. ap (by_pairs f (vector es)) c.in-Some.ensures.vector) _ c.in-List.xs c.in-Ok.made _ c.in-List.is
+    c.deref.ensures.value c.in-Ok.ensures.found
 
 pub by_pairs-returns-in-Err-clause-refused : goal.by_pairs-returns-in-Err-clause-refused
 by_pairs-returns-in-Err-clause-refused t c =
     let f = pairing c.args.operation in
-    refused_vector (λ d. by_pairs f d (datum_of c.args.b.now)) (λ es. by_pairs_of f es (elements c.in-Some.ys.now)) (λ es. ap (by_pairs f (vector es)) c.in-Some.ensures.vector) _ c.in-List.xs _ c.in-Err.fault c.in-List.is c.deref.ensures.value c.in-Err.ensures.refused
+    refused_vector (λ d. by_pairs f d (datum_of c.args.b.now)) (λ es. by_pairs_of f es (elements c.in-Some.ys.now))
+    (λ es. ap (by_pairs f (vector es)) c.in-Some.ensures.vector) _ c.in-List.xs _ c.in-Err.fault c.in-List.is
+    c.deref.ensures.value c.in-Err.ensures.refused
 
 pub by_pairs_of-pairs-preserved : goal.by_pairs_of-pairs-preserved
 by_pairs_of-pairs-preserved t c =
     let f = pairing c.args.operation in
     rw c.in_ok-push-in-Ok.ensures.items
-    (step_made c.pairs.made.items c.in-Ok.element (by_pairs f (datum_of c.index-xs-i.result) (datum_of c.index-ys-i.result)) _ (by_pairs_of f (elements (drop (c.pairs.i + 1) c.args.xs.now)) (elements (drop (c.pairs.i + 1) c.args.ys.now))) _ (ap₂ (by_pairs_of f) (elements-drop c.args.xs.now c.pairs.i c.index-xs-i.result c.pairs-test.true c.index-xs-i.is) (elements-drop c.args.ys.now c.pairs.i c.index-ys-i.result c.if-i-ys.false c.index-ys-i.is)) c.in-Ok.ensures.found c.pairs.invariant)
+    (step_made c.pairs.made.items c.in-Ok.element (by_pairs f (datum_of c.index-xs-i.result)
+    (datum_of c.index-ys-i.result)) _ (by_pairs_of f (elements (drop (c.pairs.i + 1) c.args.xs.now))
+    (elements (drop (c.pairs.i + 1) c.args.ys.now))) _
+    (ap₂ (by_pairs_of f) (elements-drop c.args.xs.now c.pairs.i c.index-xs-i.result c.pairs-test.true
+    c.index-xs-i.is) (elements-drop c.args.ys.now c.pairs.i c.index-ys-i.result c.if-i-ys.false c.index-ys-i.is))
+    c.in-Ok.ensures.found c.pairs.invariant)

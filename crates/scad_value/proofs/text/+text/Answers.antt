@@ -8,5 +8,6 @@ use Rattle.scad_value.proofs.text.+text.Goals as goal
 pub push_value-returns-in-List : goal.push_value-returns-in-List
 push_value-returns-in-List t c =
     subst (λ chars. OnOk c.push_vector.result (c.push_vector.new.out.items ≡ c.args.out.now.items ++ chars))
-    (ap (λ es. open_square ∷ elements_text true (elements es)) c.deref.ensures.value ∙ sym (ap text (at_vector _ c.in-List.all c.in-List.is)))
+    (ap (λ es. open_square ∷ elements_text true (elements es)) c.deref.ensures.value ∙ sym
+    (ap text (at_vector _ c.in-List.all c.in-List.is)))
     c.push_vector.ensures

@@ -6,7 +6,8 @@ use Rattle.slice_bool.proofs.around.add_turns.Given as goal
 
 abbrev pub invariant-edges : goal.invariant-edges
 invariant-edges l = record {
-  sums : (leaf : ℕ) → get_or l.turns.items leaf (pos 0) +ℤ wind_leaf l.above true (point_at l.p) leaf (drop l.e-index l.edges) ≡ wind_leaf l.above true (point_at l.p) leaf l.edges;
+  sums : (leaf : ℕ) → get_or l.turns.items leaf (pos 0) +ℤ wind_leaf l.above true (point_at l.p) leaf
+      (drop l.e-index l.edges) ≡ wind_leaf l.above true (point_at l.p) leaf l.edges;
   size : (leaf : ℕ) → unsigned_abs (get_or l.turns.items leaf (pos 0)) ≤ l.e-index;
   len : vec_len l.turns ≡ vec_len l.fn.turns;
 }

@@ -14,7 +14,8 @@ use Rattle.slice_bool.proofs.Centre.{centres_are_wound_once}
 use Rattle.slice_bool.proofs.Named.{pieces_are_named}
 use Rattle.slice_bool.proofs.border.pieces.Goals as goal
 
-abbrev all : (es : List LeafEdge) (shape : Shape) (ls ks : List Level) (pieces : List Piece) → AreLevels es ls → ks ≡ ls → AreLevelPieces es shape ks pieces → ArePieces es shape pieces
+abbrev all : (es : List LeafEdge) (shape : Shape) (ls ks : List Level) (pieces : List Piece) → AreLevels es ls → ks ≡ ls
+    → AreLevelPieces es shape ks pieces → ArePieces es shape pieces
 all es shape ls ks pieces a e h = record {
   levels = ls;
   are_levels = a;
@@ -27,7 +28,8 @@ returns-in-Ok-all_pieces-clause-levels c =
     let shape = c.args.shape.now in
     let pieces = c.in-Ok-all_pieces.pieces.items in
     heights_have_one_level es shape pieces
-    (all es shape c.in-Ok.levels.items c.deref.result.now pieces c.in-Ok.ensures.levels c.deref.ensures.value c.in-Ok-all_pieces.ensures)
+    (all es shape c.in-Ok.levels.items c.deref.result.now pieces c.in-Ok.ensures.levels c.deref.ensures.value
+    c.in-Ok-all_pieces.ensures)
 
 pub returns-in-Ok-all_pieces-clause-within : goal.returns-in-Ok-all_pieces-clause-within
 returns-in-Ok-all_pieces-clause-within c =
@@ -35,7 +37,8 @@ returns-in-Ok-all_pieces-clause-within c =
     let shape = c.args.shape.now in
     let pieces = c.in-Ok-all_pieces.pieces.items in
     spots_are_within coordinate_limit (omega arith) es c.requires shape pieces
-    (all es shape c.in-Ok.levels.items c.deref.result.now pieces c.in-Ok.ensures.levels c.deref.ensures.value c.in-Ok-all_pieces.ensures) c.in-Ok.ensures.within
+    (all es shape c.in-Ok.levels.items c.deref.result.now pieces c.in-Ok.ensures.levels c.deref.ensures.value
+    c.in-Ok-all_pieces.ensures) c.in-Ok.ensures.within
 
 pub returns-in-Ok-all_pieces-clause-balanced : goal.returns-in-Ok-all_pieces-clause-balanced
 returns-in-Ok-all_pieces-clause-balanced c =
@@ -43,7 +46,8 @@ returns-in-Ok-all_pieces-clause-balanced c =
     let shape = c.args.shape.now in
     let pieces = c.in-Ok-all_pieces.pieces.items in
     λ b. pieces_are_balanced es shape pieces b
-    (all es shape c.in-Ok.levels.items c.deref.result.now pieces c.in-Ok.ensures.levels c.deref.ensures.value c.in-Ok-all_pieces.ensures)
+    (all es shape c.in-Ok.levels.items c.deref.result.now pieces c.in-Ok.ensures.levels c.deref.ensures.value
+    c.in-Ok-all_pieces.ensures)
 
 pub returns-in-Ok-all_pieces-clause-centres : goal.returns-in-Ok-all_pieces-clause-centres
 returns-in-Ok-all_pieces-clause-centres c =
@@ -51,7 +55,8 @@ returns-in-Ok-all_pieces-clause-centres c =
     let shape = c.args.shape.now in
     let pieces = c.in-Ok-all_pieces.pieces.items in
     centres_are_wound_once es shape pieces
-    (all es shape c.in-Ok.levels.items c.deref.result.now pieces c.in-Ok.ensures.levels c.deref.ensures.value c.in-Ok-all_pieces.ensures)
+    (all es shape c.in-Ok.levels.items c.deref.result.now pieces c.in-Ok.ensures.levels c.deref.ensures.value
+    c.in-Ok-all_pieces.ensures)
 
 pub returns-in-Ok-all_pieces-clause-named : goal.returns-in-Ok-all_pieces-clause-named
 returns-in-Ok-all_pieces-clause-named c =
@@ -59,4 +64,5 @@ returns-in-Ok-all_pieces-clause-named c =
     let shape = c.args.shape.now in
     let pieces = c.in-Ok-all_pieces.pieces.items in
     pieces_are_named es shape pieces
-    (all es shape c.in-Ok.levels.items c.deref.result.now pieces c.in-Ok.ensures.levels c.deref.ensures.value c.in-Ok-all_pieces.ensures)
+    (all es shape c.in-Ok.levels.items c.deref.result.now pieces c.in-Ok.ensures.levels c.deref.ensures.value
+    c.in-Ok-all_pieces.ensures)

@@ -5,4 +5,5 @@ use Rattle.slice_bool.proofs.NearLevel.{flats_cover}
 use Rattle.slice_bool.proofs.covering.covering_edge.Goals as goal
 
 pub flats-init : goal.flats-init
-flats-init c = ap (first_cover c.args.edges.now c.args.s.now.spot c.args.t.now.spot) c.requires.flats ∙ flats_cover c.args.edges.now c.args.s.now.spot c.args.t.now.spot
+flats-init c = ap (first_cover c.args.edges.now c.args.s.now.spot c.args.t.now.spot) c.requires.flats ∙ flats_cover
+    c.args.edges.now c.args.s.now.spot c.args.t.now.spot

@@ -10,4 +10,5 @@ pub push_stretches-requires-clause-near : goal.push_stretches-requires-clause-ne
 push_stretches-requires-clause-near c =
     let es = c.args.edges.now in
     let near : Near = c.in_ok-near.near in
-    subst (All (λ s. IsNear es s.spot.at near)) (sym c.deref.ensures.value) (near_all es c.args.at.now near c.in_ok-stops.stops.items c.in_ok-stops.ensures c.in_ok-near.ensures)
+    subst (All (λ s. IsNear es s.spot.at near)) (sym c.deref.ensures.value) (near_all es c.args.at.now near
+    c.in_ok-stops.stops.items c.in_ok-stops.ensures c.in_ok-near.ensures)

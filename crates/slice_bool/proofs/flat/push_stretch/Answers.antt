@@ -15,11 +15,14 @@ returns-in_ok-below-in-Some c =
     let near : Near = c.args.near.now in
     let s : Stop = c.args.s.now in
     let t : Stop = c.args.t.now in
-    let above = c.in_ok-above-in-Some.ensures ∙ near_values true s es near shape c.deref-in-Some.result.now c.deref-in-Some.ensures.value c.requires.near in
-    let below = c.in_ok-below-in-Some.ensures ∙ near_values false s es near shape c.deref-in-Some-2.result.now c.deref-in-Some-2.ensures.value c.requires.near in
+    let above = c.in_ok-above-in-Some.ensures ∙ near_values true s es near shape c.deref-in-Some.result.now
+    c.deref-in-Some.ensures.value c.requires.near in
+    let below = c.in_ok-below-in-Some.ensures ∙ near_values false s es near shape c.deref-in-Some-2.result.now
+    c.deref-in-Some-2.ensures.value c.requires.near in
     let named = sym c.covering_edge.ensures ∙ c.in-Some.is in
     on_ok_weaker c.push_between.result
     (λ e. e
     ∙ ap (λ (ps : List Piece). c.args.out.now.items ++ ps)
-    (ap₂ (λ (v w : Bool). piece_between v w s.spot t.spot c.in-Some.name) above below ∙ sym (ap (stretch_piece es shape s.spot t.spot) named)))
+    (ap₂ (λ (v w : Bool). piece_between v w s.spot t.spot c.in-Some.name) above below ∙ sym
+    (ap (stretch_piece es shape s.spot t.spot) named)))
     c.push_between.ensures

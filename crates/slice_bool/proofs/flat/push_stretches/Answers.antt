@@ -20,12 +20,16 @@ stops-preserved c =
     let step = stretch_at es shape ss i s t (omega arith) c.stops-test.true in
     let piece = ap₂ (λ (s t : Stop). stretch es shape s.spot t.spot) c.index-stops-i.is c.index-stops-i-in-stops.is in
     ap (λ (k : ℕ). c.push_stretch.new.out.items ++ flat_pieces es shape (drop k (spots_in ss))) q
-    ∙ more_pieces c.stops.out.items c.push_stretch.new.out.items (stretch es shape s.spot t.spot) (flat_pieces es shape (drop i (spots_in ss))) _
+    ∙ more_pieces c.stops.out.items c.push_stretch.new.out.items (stretch es shape s.spot t.spot)
+    (flat_pieces es shape (drop i (spots_in ss))) _
     c.in_ok-push_stretch.ensures
-    (ap (λ (ps : List Piece). c.stops.out.items ++ ps) (ap (λ (ps : List Piece). ps ++ flat_pieces es shape (drop i (spots_in ss))) piece ∙ sym step) ∙ c.stops.invariant)
+    (ap (λ (ps : List Piece). c.stops.out.items ++ ps)
+    (ap (λ (ps : List Piece). ps ++ flat_pieces es shape (drop i (spots_in ss))) piece ∙ sym step) ∙
+    c.stops.invariant)
 
 pub returns : goal.returns
 returns c =
     sym (append-nil c.stops.out.items)
-    ∙ ap (λ (ps : List Piece). c.stops.out.items ++ ps) (sym (no_stretch c.args.edges.now c.args.shape.now c.args.stops.now c.stops.i c.stops-test.false))
+    ∙ ap (λ (ps : List Piece). c.stops.out.items ++ ps)
+    (sym (no_stretch c.args.edges.now c.args.shape.now c.args.stops.now c.stops.i c.stops-test.false))
     ∙ c.stops.invariant

@@ -12,9 +12,11 @@ pub bundles-init : goal.bundles-init
 bundles-init c =
     let es = c.args.edges.now in
     let bs : List (List ℕ) = c.args.bundles.now in
-    let items : c.push.new.self.items ≡ false ∷ [] = c.in_ok-push.ensures.items ∙ ap (λ (vs : List Bool). vs ++ (false ∷ [])) c.new-values.ensures.items in
+    let items : c.push.new.self.items ≡ false ∷ [] = c.in_ok-push.ensures.items ∙ ap
+    (λ (vs : List Bool). vs ++ (false ∷ [])) c.new-values.ensures.items in
     record {
-      turns = λ leaf. c.in_ok-turns.ensures.zeros leaf ∙ sym (ap (λ (bs : List (List ℕ)). headings es leaf (concat bs)) (all_dropped bs));
+      turns = λ leaf. c.in_ok-turns.ensures.zeros leaf ∙ sym (ap (λ (bs : List (List ℕ)). headings es leaf (concat bs))
+          (all_dropped bs));
       leaves = c.in_ok-turns.ensures.leaves;
       size = ap length items;
       each = λ k h. first_value es c.args.shape.now bs c.push.new.self.items k items h;
@@ -31,7 +33,8 @@ add_bundle-requires-clause-there c =
 pub add_bundle-requires-clause-small : goal.add_bundle-requires-clause-small
 add_bundle-requires-clause-small c =
     let bs : List (List ℕ) = c.args.bundles.now in
-    few_to_left c.args.edges.now bs c.bundles.turns.items (length bs - c.bundles.i) (2 ^ 61) (omega (arith, c.requires.members.few, c.requires.few)) c.bundles.invariant.turns
+    few_to_left c.args.edges.now bs c.bundles.turns.items (length bs - c.bundles.i) (2 ^ 61)
+    (omega (arith, c.requires.members.few, c.requires.few)) c.bundles.invariant.turns
 
 pub bundles-preserved : goal.bundles-preserved
 bundles-preserved c =
@@ -42,10 +45,12 @@ bundles-preserved c =
     let b : List ℕ = c.index-bundles-bundles.result in
     let old : List ℤ = c.bundles.turns.items in
     let new : List ℤ = c.add_bundle.new.turns.items in
-    let items : c.push-in-bundles.new.self.items ≡ c.bundles.values.items ++ (c.in_ok-value.value ∷ []) = c.in_ok-push-2.ensures.items in
+    let items : c.push-in-bundles.new.self.items ≡ c.bundles.values.items ++ (c.in_ok-value.value ∷ []) =
+    c.in_ok-push-2.ensures.items in
     let turns : IsTally new (λ leaf. headings es leaf (concat (drop (length bs - (i + 1)) bs))) =
     tally_more es bs i b old new c.bundles-test.true c.bundles.invariant.turns
-    (λ leaf. c.add_bundle.ensures.turns leaf ∙ ap (λ (b : List ℕ). get_or old leaf (pos 0) +ℤ headings es leaf b) (c.as_slice.ensures ∙ c.index-bundles-bundles.is)) in
+    (λ leaf. c.add_bundle.ensures.turns leaf ∙ ap (λ (b : List ℕ). get_or old leaf (pos 0) +ℤ headings es leaf b)
+    (c.as_slice.ensures ∙ c.index-bundles-bundles.is)) in
     let value : c.in_ok-value.value ≡ left_value es shape (drop (length bs - (i + 1)) bs) =
     c.in_ok-value.ensures
     ∙ ap (λ (ws : List ℤ). is_held (λ leaf. get_or ws leaf (pos 0)) shape) c.deref.ensures.value
@@ -53,7 +58,9 @@ bundles-preserved c =
     record {
       turns = turns;
       leaves = subst (λ (n : ℕ). All (λ e. e.leaf < n) es) (sym c.add_bundle.ensures.len) c.bundles.invariant.leaves;
-      size = length_more c.bundles.values.items c.push-in-bundles.new.self.items c.in_ok-value.value (i + 1) items c.bundles.invariant.size;
+      size = length_more c.bundles.values.items c.push-in-bundles.new.self.items c.in_ok-value.value (i + 1) items
+          c.bundles.invariant.size;
       each = λ k h. ap (λ (vs : List Bool). get_or vs k false) items
-          ∙ one_more (λ k. left_value es shape (drop (length bs - k) bs)) c.bundles.values.items c.in_ok-value.value i c.bundles.invariant.size c.bundles.invariant.each value k h;
+          ∙ one_more (λ k. left_value es shape (drop (length bs - k) bs)) c.bundles.values.items c.in_ok-value.value i
+          c.bundles.invariant.size c.bundles.invariant.each value k h;
     }

@@ -9,5 +9,6 @@ invariant-bundles l = record {
   turns : IsTally l.turns.items (λ leaf. headings l.edges leaf (concat (drop (length l.bundles - l.i) l.bundles)));
   leaves : All (λ e. e.leaf < vec_len l.turns) l.edges;
   size : length l.values.items ≡ l.i + 1;
-  each : (k : ℕ) → k ≤ l.i → get_or l.values.items k false ≡ left_value l.edges l.shape (drop (length l.bundles - k) l.bundles);
+  each : (k : ℕ) → k ≤ l.i → get_or l.values.items k false ≡ left_value l.edges l.shape
+      (drop (length l.bundles - k) l.bundles);
 }

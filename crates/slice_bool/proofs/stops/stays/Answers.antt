@@ -9,7 +9,8 @@ use Rattle.slice_events.proofs.Repeats.{stays_last, stays_next}
 use Rattle.slice_bool.proofs.stops.stays.Goals as goal
 
 pub returns-then-i-stops : goal.returns-then-i-stops
-returns-then-i-stops c = eq-eqb (c.args.i + 1) (length c.args.stops.now) c.if-i-stops.true ∙ sym (stays_last is_left (λ (s : Stop). s.spot) c.args.stops.now c.args.i c.if-i-stops.true)
+returns-then-i-stops c = eq-eqb (c.args.i + 1) (length c.args.stops.now) c.if-i-stops.true ∙ sym
+    (stays_last is_left (λ (s : Stop). s.spot) c.args.stops.now c.args.i c.if-i-stops.true)
 
 pub returns-else-i-stops : goal.returns-else-i-stops
 returns-else-i-stops c =
@@ -18,5 +19,6 @@ returns-else-i-stops c =
     let t : Stop = c.index-stops-i-else-i-stops.result in
     let there : suc c.args.i < length c.args.stops.now = omega (arith, c.requires) in
     let e = rw (← add-one) at (stays_next is_left (λ (s : Stop). s.spot) c.args.stops.now c.args.i s t there) in
-    c.is_lt.ensures ∙ ap is_lt c.compare.ensures ∙ is_lt-int_cmp (s.spot.x *ℤ pos t.spot.run) (t.spot.x *ℤ pos s.spot.run)
+    c.is_lt.ensures ∙ ap is_lt c.compare.ensures ∙ is_lt-int_cmp (s.spot.x *ℤ pos t.spot.run)
+    (t.spot.x *ℤ pos s.spot.run)
     ∙ ap₂ (λ (s t : Stop). is_left s.spot t.spot) c.index-stops-i.is c.index-stops-i-else-i-stops.is ∙ sym e

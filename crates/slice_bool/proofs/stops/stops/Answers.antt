@@ -9,6 +9,8 @@ use Rattle.slice_bool.proofs.stops.stops.Goals as goal
 
 pub returns : goal.returns
 returns c = IfOk-weaker c.distinct.result _ _
-    (λ v e. subst (AreStops c.args.edges.now c.args.at.now) (sym (e ∙ ap (λ ss. distinct_by is_left (spots_in ss)) c.deref.ensures.value))
-    (sorted_stops c.args.edges.now c.args.at.now c.in_ok-all.all.items c.sort.new.stops.items c.in_ok-all.ensures c.in_ok-sort.ensures.permutation c.in_ok-sort.ensures.sorted))
+    (λ v e. subst (AreStops c.args.edges.now c.args.at.now)
+    (sym (e ∙ ap (λ ss. distinct_by is_left (spots_in ss)) c.deref.ensures.value))
+    (sorted_stops c.args.edges.now c.args.at.now c.in_ok-all.all.items c.sort.new.stops.items c.in_ok-all.ensures
+    c.in_ok-sort.ensures.permutation c.in_ok-sort.ensures.sorted))
     c.distinct.ensures

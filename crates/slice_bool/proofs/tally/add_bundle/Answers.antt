@@ -15,12 +15,17 @@ numbers-preserved c =
     record {
       sums = λ leaf.
           let rest : ℤ = headings c.args.edges.now leaf (drop (c.numbers.k-index + 1) c.args.numbers.now) in
-          let w = at_drop_more (headings c.args.edges.now leaf) c.args.numbers.now c.numbers.k-index 0 c.numbers-test.true
+          let w = at_drop_more (headings c.args.edges.now leaf) c.args.numbers.now c.numbers.k-index 0
+          c.numbers-test.true
           ∙ ap (λ (z : ℤ). (if e.leaf == leaf then z else pos 0) +ℤ rest) (sym c.heading.ensures.value) in
-          sum_step (get_or c.numbers.turns.items leaf (pos 0)) (get_or c.add.new.turns.items leaf (pos 0)) c.heading.result (e.leaf == leaf) rest _ _ (c.add.ensures.turns leaf) c.heading.ensures.size w (c.numbers.invariant.sums leaf);
+          sum_step (get_or c.numbers.turns.items leaf (pos 0)) (get_or c.add.new.turns.items leaf (pos 0))
+          c.heading.result (e.leaf == leaf) rest _ _ (c.add.ensures.turns leaf) c.heading.ensures.size w
+          (c.numbers.invariant.sums leaf);
       size = λ leaf.
           let s : unsigned_abs (get_or c.add.new.turns.items leaf (pos 0)) ≤ 2 ^ 61 + c.numbers.k-index + 1 =
-          size_step (get_or c.numbers.turns.items leaf (pos 0)) (get_or c.add.new.turns.items leaf (pos 0)) c.heading.result (e.leaf == leaf) (2 ^ 61 + c.numbers.k-index) (c.add.ensures.turns leaf) c.heading.ensures.size (c.numbers.invariant.size leaf) in
+          size_step (get_or c.numbers.turns.items leaf (pos 0)) (get_or c.add.new.turns.items leaf (pos 0))
+          c.heading.result (e.leaf == leaf) (2 ^ 61 + c.numbers.k-index) (c.add.ensures.turns leaf)
+          c.heading.ensures.size (c.numbers.invariant.size leaf) in
           omega (arith, s);
       len = c.add.ensures.len ∙ c.numbers.invariant.len;
     }

@@ -25,9 +25,16 @@ returns-clause-centres c =
     let h = c.args.h in
     let solid = solid_of c.args.tree.now in
     let solids = c.are_solids.ensures in
-    IfOk-weaker c.outlines.result (λ v. AreOutlinesOf c.deref.result.now c.in-Ok-shape.shape v.items) (λ v. HoldCentres layer h solid v.items)
+    IfOk-weaker c.outlines.result (λ v. AreOutlinesOf c.deref.result.now c.in-Ok-shape.shape v.items)
+    (λ v. HoldCentres layer h solid v.items)
     (λ v made. outlines_hold_centres layer h solid v.items (solids_closed solid solids)
-    (record { shape = c.in-Ok-shape.shape; stands = λ inside. numbering_holds.shapes inside solid c.in-Ok-shape.shape c.in-Ok-shape.ensures; are_outlines = subst (λ es. AreOutlinesOf es c.in-Ok-shape.shape v.items) (c.deref.ensures.value ∙ c.in-Ok.ensures.edges) made }))
+    (record {
+      shape = c.in-Ok-shape.shape;
+      stands = λ inside. numbering_holds.shapes inside solid c.in-Ok-shape.shape
+          c.in-Ok-shape.ensures;
+      are_outlines = subst (λ es. AreOutlinesOf es c.in-Ok-shape.shape v.items)
+          (c.deref.ensures.value ∙ c.in-Ok.ensures.edges) made;
+    }))
     c.outlines.ensures.outlines
 
 pub returns-clause-near : goal.returns-clause-near
@@ -35,9 +42,16 @@ returns-clause-near c =
     let layer = c.args.layer in
     let h = c.args.h in
     let solid = solid_of c.args.tree.now in
-    IfOk-weaker c.outlines.result (λ v. AreOutlinesOf c.deref.result.now c.in-Ok-shape.shape v.items) (λ v. AreNearSectionBorder layer h solid v.items)
+    IfOk-weaker c.outlines.result (λ v. AreOutlinesOf c.deref.result.now c.in-Ok-shape.shape v.items)
+    (λ v. AreNearSectionBorder layer h solid v.items)
     (λ v made. outlines_are_near_border layer h solid v.items
-    (record { shape = c.in-Ok-shape.shape; stands = λ inside. numbering_holds.shapes inside solid c.in-Ok-shape.shape c.in-Ok-shape.ensures; are_outlines = subst (λ es. AreOutlinesOf es c.in-Ok-shape.shape v.items) (c.deref.ensures.value ∙ c.in-Ok.ensures.edges) made }))
+    (record {
+      shape = c.in-Ok-shape.shape;
+      stands = λ inside. numbering_holds.shapes inside solid c.in-Ok-shape.shape
+          c.in-Ok-shape.ensures;
+      are_outlines = subst (λ es. AreOutlinesOf es c.in-Ok-shape.shape v.items)
+          (c.deref.ensures.value ∙ c.in-Ok.ensures.edges) made;
+    }))
     c.outlines.ensures.outlines
 
 pub returns-clause-outlines : goal.returns-clause-outlines
@@ -45,15 +59,24 @@ returns-clause-outlines c =
     let layer = c.args.layer in
     let h = c.args.h in
     let solid = solid_of c.args.tree.now in
-    IfOk-weaker c.outlines.result (λ v. AreOutlinesOf c.deref.result.now c.in-Ok-shape.shape v.items) (λ v. AreLayerOutlines layer h solid v.items)
-    (λ v made. record { shape = c.in-Ok-shape.shape; stands = λ inside. numbering_holds.shapes inside solid c.in-Ok-shape.shape c.in-Ok-shape.ensures; are_outlines = subst (λ es. AreOutlinesOf es c.in-Ok-shape.shape v.items) (c.deref.ensures.value ∙ c.in-Ok.ensures.edges) made })
+    IfOk-weaker c.outlines.result (λ v. AreOutlinesOf c.deref.result.now c.in-Ok-shape.shape v.items)
+    (λ v. AreLayerOutlines layer h solid v.items)
+    (λ v made. record {
+      shape = c.in-Ok-shape.shape;
+      stands = λ inside. numbering_holds.shapes inside solid
+          c.in-Ok-shape.shape c.in-Ok-shape.ensures;
+      are_outlines = subst (λ es. AreOutlinesOf es c.in-Ok-shape.shape
+          v.items) (c.deref.ensures.value ∙ c.in-Ok.ensures.edges) made;
+    })
     c.outlines.ensures.outlines
 
 pub returns-clause-within : goal.returns-clause-within
 returns-clause-within c =
     let solid = solid_of c.args.tree.now in
-    IfOk-weaker c.outlines.result (λ v. AreOutlinesOf c.deref.result.now c.in-Ok-shape.shape v.items) (λ v. All (λ l. All (IsWithin point_limit) l) v.items)
+    IfOk-weaker c.outlines.result (λ v. AreOutlinesOf c.deref.result.now c.in-Ok-shape.shape v.items)
+    (λ v. All (λ l. All (IsWithin point_limit) l) v.items)
     (λ v made. shapes_within c.deref.result.now
-    (subst (All (λ e. IsEdgeWithin point_limit e.edge)) (sym (c.deref.ensures.value ∙ c.in-Ok.ensures.edges)) (section_in_range c.args.layer c.args.h solid c.are_solids.ensures))
+    (subst (All (λ e. IsEdgeWithin point_limit e.edge)) (sym (c.deref.ensures.value ∙ c.in-Ok.ensures.edges))
+    (section_in_range c.args.layer c.args.h solid c.are_solids.ensures))
     c.in-Ok-shape.shape v.items made)
     c.outlines.ensures.outlines

@@ -12,4 +12,5 @@ returns c =
     let to = simp to_z-of_z at c.point_between-2.ensures in
     let edge : Pt → Pt → Edge = λ a b. record { a = a; b = b } in
     ap₂ (λ a b. Some (edge a b)) from to
-    ∙ edge-found c.args.plane c.args.triangle.now c.in_ok-falling.falling c.in_ok-rising.rising (simp to_z-of_z at c.in_ok-falling.ensures.first) (simp to_z-of_z at c.in_ok-rising.ensures.first)
+    ∙ edge-found c.args.plane c.args.triangle.now c.in_ok-falling.falling c.in_ok-rising.rising
+    (simp to_z-of_z at c.in_ok-falling.ensures.first) (simp to_z-of_z at c.in_ok-rising.ensures.first)

@@ -6,4 +6,5 @@ pub returns-clause-through : goal.returns-clause-through
 returns-clause-through c =
     let plane_fits = c.ranges.plane in
     let found = simp to_z-of_z at c.first_falling.ensures in
-    falls_through_if c.args.plane c.args.triangle.now c.first_falling.result c.requires (rw c.sides-sides.ensures at found)
+    falls_through_if c.args.plane c.args.triangle.now c.first_falling.result c.requires
+    (rw c.sides-sides.ensures at found)

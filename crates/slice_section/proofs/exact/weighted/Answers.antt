@@ -26,7 +26,13 @@ returns-clause-mean c =
     let x = simp to_z-of_z at c.times.ensures.product in
     let y = simp to_z-of_z at c.times-2.ensures.product in
     let n = simp to_z-of_z at c.plus.ensures.sum in
-    let spread : pos 2 *ℤ c.args.high -ℤ pos 2 *ℤ c.args.low ≡ c.up_to-down.result +ℤ c.down_to-up.result = omega (arith, ints) in
-    let product : c.plus.result ≡ c.args.lower *ℤ c.up_to-down.result +ℤ c.args.upper *ℤ c.down_to-up.result = n ∙ ap₂ (λ a b. a +ℤ b) x y in
-    let small = weighted_range coordinate_limit c.args.lower c.args.upper c.up_to-down.result c.down_to-up.result (omega (arith, c.requires.lower)) (omega (arith, c.requires.upper)) (omega (arith, ints)) (omega (arith, ints)) in
-    simp to_z-of_z (subst (λ m. unsigned_abs c.plus.result ≤ coordinate_limit * unsigned_abs m) (sym spread) (subst (λ m. unsigned_abs m ≤ coordinate_limit * unsigned_abs (c.up_to-down.result +ℤ c.down_to-up.result)) (sym product) small))
+    let spread : pos 2 *ℤ c.args.high -ℤ pos 2 *ℤ c.args.low ≡ c.up_to-down.result +ℤ c.down_to-up.result =
+    omega (arith, ints) in
+    let product : c.plus.result ≡ c.args.lower *ℤ c.up_to-down.result +ℤ c.args.upper *ℤ c.down_to-up.result =
+    n ∙ ap₂ (λ a b. a +ℤ b) x y in
+    let small = weighted_range coordinate_limit c.args.lower c.args.upper c.up_to-down.result c.down_to-up.result
+    (omega (arith, c.requires.lower)) (omega (arith, c.requires.upper)) (omega (arith, ints))
+    (omega (arith, ints)) in
+    simp to_z-of_z (subst (λ m. unsigned_abs c.plus.result ≤ coordinate_limit * unsigned_abs m) (sym spread)
+    (subst (λ m. unsigned_abs m ≤ coordinate_limit * unsigned_abs (c.up_to-down.result +ℤ c.down_to-up.result))
+    (sym product) small))

@@ -10,6 +10,7 @@ use Rattle.slice_section.proofs.inside.winding.Given as goal
 abbrev pub invariant-triangles : goal.invariant-triangles
 invariant-triangles l = record {
   small : unsigned_abs l.sum ≤ l.triangle-index;
-  sum : wind (halves l.x l.y) (cuts_of l.plane l.triangles) ≡ l.sum +ℤ wind (halves l.x l.y) (cuts_of l.plane (drop l.triangle-index l.triangles));
+  sum : wind (halves l.x l.y) (cuts_of l.plane l.triangles) ≡ l.sum +ℤ wind (halves l.x l.y)
+      (cuts_of l.plane (drop l.triangle-index l.triangles));
   in_range : list_all is_triangle_in_range (drop l.triangle-index l.triangles) ≡ true;
 }

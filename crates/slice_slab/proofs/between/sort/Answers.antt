@@ -9,5 +9,6 @@ use Rattle.slice_slab.proofs.between.sort.Goals as goal
 
 pub returns-clause-sorted : goal.returns-clause-sorted
 returns-clause-sorted c = on_ok_weaker c.sort_by.result
-    (λ s. sorted_from c.sort_by.new.self.items (s comes_first passage_order (answers_always _ _ _ (λ f a r g h. search rules))))
+    (λ s. sorted_from c.sort_by.new.self.items
+    (s comes_first passage_order (answers_always _ _ _ (λ f a r g h. search rules))))
     c.sort_by.ensures.sorted

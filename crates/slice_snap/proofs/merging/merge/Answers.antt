@@ -1,42 +1,32 @@
--- Each turn joins two pieces, or passes one that goes on nowhere.
-use Rattle.std.proofs.Common.{arith}
-use Rattle.slice_snap.proofs.Pairs.{comparable_seen, joint_seen, stuck_seen, joins_none, joins_two, joins_no_more, all_merged, fewer_pieces}
-use Rattle.slice_snap.proofs.Balanced.{merging_keeps_balance}
+-- Where the chains of all pieces go on as far as they can, their wholes are the merged pieces.
+use Rattle.std.proofs.Common.{◌≡◌, List, All, sym, subst}
+use Rattle.std.proofs.lemmas.Result.{IfOk-weaker}
 use Rattle.scad_geom.specs.Limits.{coordinate_limit}
+use Rattle.slice_snap.specs.declared.piece.Piece.{Piece}
+use Rattle.slice_snap.specs.Pieces.{IsPieceWithin, ArePiecesBalanced}
+use Rattle.slice_snap.specs.Merging.{AreMerged}
+use Rattle.slice_snap.specs.Chains.{wholes_of}
+use Rattle.slice_snap.proofs.Balanced.{merging_keeps_balance}
+use Rattle.slice_snap.proofs.Linked.{alone, all_merged}
 use Rattle.slice_snap.proofs.merging.merge.Goals as goal
 
 pub pieces-init : goal.pieces-init
-pieces-init c = joins_none c.args.pieces.now c.in_ok-left.left.items c.in_ok-left.ensures.items c.requires.within c.requires.levels
-
-pub joint-requires-clause-comparable : goal.joint-requires-clause-comparable
-joint-requires-clause-comparable c =
-    comparable_seen c.pieces.left.items c.deref.result.now c.pieces.i c.index.result.now c.pieces.invariant.within c.pieces.invariant.levels
-    c.deref.ensures.value c.index.ensures (omega (arith, c.len.ensures, c.pieces-test.true, c.pieces.left.ok.0))
-
-pub join-i-requires : goal.join-i-requires
-join-i-requires c =
-    joint_seen c.pieces.left.items c.deref.result.now c.pieces.i c.in-Some.j c.index.result.now
-    c.deref.ensures.value c.index.ensures (omega (arith, c.len.ensures, c.pieces-test.true, c.pieces.left.ok.0)) c.in-Some.ensures.some c.in-Some.ensures.passed
-
-pub pieces-preserved-in-Some : goal.pieces-preserved-in-Some
-pieces-preserved-in-Some c =
-    joins_two c.args.pieces.now c.pieces.left.items c.join-i.new.pieces.items c.pieces.i c.in-Some.j c.join-i.result c.pieces.invariant
-    (omega (arith, c.len.ensures, c.pieces-test.true, c.pieces.left.ok.0)) c.join-i.ensures
-
-pub pieces-smaller-in-Some : goal.pieces-smaller-in-Some
-pieces-smaller-in-Some c =
-    fewer_pieces c.pieces.left.items c.join-i.new.pieces.items c.pieces.i c.in-Some.j c.join-i.result
-    (omega (arith, c.len.ensures, c.pieces-test.true, c.pieces.left.ok.0)) c.join-i.ensures
-
-pub pieces-preserved : goal.pieces-preserved
-pieces-preserved c =
-    joins_no_more c.args.pieces.now c.pieces.left.items c.pieces.i c.index.result.now c.pieces.invariant
-    (omega (arith, c.len.ensures, c.pieces-test.true, c.pieces.left.ok.0))
-    (stuck_seen c.pieces.left.items c.deref.result.now c.pieces.i c.index.result.now c.deref.ensures.value c.index.ensures c.in-None.ensures.none)
+pieces-init c = alone c.args.pieces.now c.in_ok-chains.chains c.requires.within c.in_ok-chains.ensures
 
 pub returns-clause-merged : goal.returns-clause-merged
-returns-clause-merged c = all_merged c.args.pieces.now c.pieces.left.items c.pieces.i c.pieces.invariant (omega (arith, c.len.ensures, c.pieces-test.false, c.pieces.left.ok.0))
+returns-clause-merged c =
+    let left : List Piece = wholes_of c.pieces.chains in
+    let merged : AreMerged c.args.pieces.now left = all_merged c.args.pieces.now c.pieces.chains c.pieces.place c.pieces.invariant c.pieces-test.false in
+    IfOk-weaker c.wholes.result (λ v. v.items ≡ left) (λ v. AreMerged c.args.pieces.now v.items)
+    (λ v h. subst (AreMerged c.args.pieces.now) (sym h) merged) c.wholes.ensures
+
+pub returns-clause-within : goal.returns-clause-within
+returns-clause-within c =
+    let left : List Piece = wholes_of c.pieces.chains in
+    IfOk-weaker c.wholes.result (λ v. v.items ≡ left) (λ v. All (IsPieceWithin coordinate_limit) v.items)
+    (λ v h. subst (All (IsPieceWithin coordinate_limit)) (sym h) c.pieces.invariant.joined.within) c.wholes.ensures
 
 pub returns-clause-balanced : goal.returns-clause-balanced
 returns-clause-balanced c =
-    merging_keeps_balance coordinate_limit c.args.pieces.now c.pieces.left.items c.requires.within (returns-clause-merged c)
+    IfOk-weaker c.wholes.result (λ v. AreMerged c.args.pieces.now v.items) (λ v. ArePiecesBalanced c.args.pieces.now → ArePiecesBalanced v.items)
+    (λ v h. merging_keeps_balance coordinate_limit c.args.pieces.now v.items c.requires.within h) (returns-clause-merged c)

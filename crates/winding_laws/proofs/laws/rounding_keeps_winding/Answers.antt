@@ -2,4 +2,9 @@ use Rattle.winding_laws.proofs.Rounding.{rounding_moves_by_halves, rounding_keep
 use Rattle.winding_laws.proofs.laws.rounding_keeps_winding.Goals as goal
 
 pub returns : goal.returns
-returns c = record { halves = rounding_moves_by_halves; balance = rounding_keeps_balance; winding = rounding_keeps_winding }
+returns c = record {
+  halves = rounding_moves_by_halves;
+  balance = rounding_keeps_balance;
+  winding =
+      rounding_keeps_winding;
+}

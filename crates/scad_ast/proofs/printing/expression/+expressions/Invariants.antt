@@ -6,8 +6,10 @@ use Rattle.scad_ast.proofs.printing.expression.+expressions.Given as goal
 
 abbrev pub invariant-write_arguments-arguments : goal.invariant-write_arguments-arguments
 invariant-write_arguments-arguments l =
-    l.out.items ++ arguments_text l.first (arguments (drop l.arg-index l.args)) ≡ l.fn.out.items ++ arguments_text true (arguments l.args)
+    l.out.items ++ arguments_text l.first (arguments (drop l.arg-index l.args)) ≡ l.fn.out.items ++ arguments_text true
+    (arguments l.args)
 
 abbrev pub invariant-write_elements-elements : goal.invariant-write_elements-elements
 invariant-write_elements-elements l =
-    l.out.items ++ elements_text l.first (elements (drop l.elem-index l.elems)) ≡ l.fn.out.items ++ elements_text true (elements l.elems)
+    l.out.items ++ elements_text l.first (elements (drop l.elem-index l.elems)) ≡ l.fn.out.items ++ elements_text true
+    (elements l.elems)

@@ -10,20 +10,26 @@ use Rattle.scad_ast.proofs.printing.statement.+statements.Goals as goal
 pub write_item-returns-in_ok-write_signature-in-Module : goal.write_item-returns-in_ok-write_signature-in-Module
 write_item-returns-in_ok-write_signature-in-Module t c =
     let text : item_text (item_of c.args.item.now)
-    ≡ codes "module " ++ spaced c.in-Module.word ++ in_parentheses (parameters_text true (map parameter c.in-Module.params.items))
+    ≡ codes "module " ++ spaced c.in-Module.word ++ in_parentheses
+    (parameters_text true (map parameter c.in-Module.params.items))
     ++ body (items c.in-Module.scope.items) (items_text (items c.in-Module.scope.items)) =
-    ap (λ i. item_text (item_of i)) c.in-Module.is ∙ ap item_text (module_view c.in-Module.word c.in-Module.params c.in-Module.scope c.in-Module.field-3) in
-    rw text (rw (← c.as_slice-in-Module.ensures, ← c.deref.ensures.value, ← c.deref-in-Module.ensures.value) (grind (arith, common_steps)))
+    ap (λ i. item_text (item_of i)) c.in-Module.is ∙ ap item_text (module_view c.in-Module.word c.in-Module.params
+    c.in-Module.scope c.in-Module.field-3) in
+    rw text (rw (← c.as_slice-in-Module.ensures, ← c.deref.ensures.value, ← c.deref-in-Module.ensures.value)
+    (grind (arith, common_steps)))
 
-pub write_statement-returns-in_ok-write_enclosed_arguments-in-Call : goal.write_statement-returns-in_ok-write_enclosed_arguments-in-Call
+pub write_statement-returns-in_ok-write_enclosed_arguments-in-Call :
+    goal.write_statement-returns-in_ok-write_enclosed_arguments-in-Call
 write_statement-returns-in_ok-write_enclosed_arguments-in-Call t c =
     let s = c.args.statement.now in
     let text : item_text (body_of s.at s.percent s.hash s.body)
-    ≡ marks_text s.percent s.hash ++ spaced c.in-Call.word ++ in_parentheses (arguments_text true (arguments c.in-Call.args.items))
+    ≡ marks_text s.percent s.hash ++ spaced c.in-Call.word ++ in_parentheses
+    (arguments_text true (arguments c.in-Call.args.items))
     ++ body (items c.in-Call.children.items) (items_text (items c.in-Call.children.items)) =
     ap (λ b. item_text (body_of s.at s.percent s.hash b)) c.in-Call.is
     ∙ ap item_text (call_view s.at s.percent s.hash c.in-Call.word c.in-Call.args c.in-Call.children) in
-    rw text (rw (← c.as_slice.ensures, ← c.deref.ensures.value, ← c.deref-in-Call.ensures.value) (grind (arith, common_steps)))
+    rw text (rw (← c.as_slice.ensures, ← c.deref.ensures.value, ← c.deref-in-Call.ensures.value)
+    (grind (arith, common_steps)))
 
 pub write_statement-returns-in_ok-write_body-in-If : goal.write_statement-returns-in_ok-write_body-in-If
 write_statement-returns-in_ok-write_body-in-If t c =

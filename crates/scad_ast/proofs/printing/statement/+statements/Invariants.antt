@@ -5,4 +5,5 @@ use Rattle.scad_ast.specs.Scope.{items}
 use Rattle.scad_ast.proofs.printing.statement.+statements.Given as goal
 
 abbrev pub invariant-write_items-items : goal.invariant-write_items-items
-invariant-write_items-items l = l.out.items ++ items_text (items (drop l.item-index l.scope)) ≡ l.fn.out.items ++ items_text (items l.scope)
+invariant-write_items-items l = l.out.items ++ items_text (items (drop l.item-index l.scope)) ≡ l.fn.out.items ++
+    items_text (items l.scope)

@@ -5,4 +5,5 @@ use Rattle.scad_ast.proofs.printing.statement.write_params.Given as goal
 
 abbrev pub invariant-params : goal.invariant-params
 invariant-params l =
-    l.out.items ++ parameters_text l.first (map parameter (drop l.param-index l.params)) ≡ l.fn.out.items ++ parameters_text true (map parameter l.params)
+    l.out.items ++ parameters_text l.first (map parameter (drop l.param-index l.params)) ≡ l.fn.out.items ++
+    parameters_text true (map parameter l.params)

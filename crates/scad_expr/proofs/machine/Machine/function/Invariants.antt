@@ -5,7 +5,8 @@ use Rattle.scad_expr.specs.Functions.{function_named}
 use Rattle.scad_expr.proofs.machine.Machine.function.Given as goal
 
 abbrev pub invariant-outwards : goal.invariant-outwards
-invariant-outwards l = function_named l.name (env_at (envs (stored l.self.frames)) l.at) ≡ function_named l.name (env_at (envs (stored l.self.frames)) l.self.here)
+invariant-outwards l = function_named l.name (env_at (envs (stored l.self.frames)) l.at) ≡ function_named l.name
+    (env_at (envs (stored l.self.frames)) l.self.here)
 
 abbrev pub decreases-outwards : goal.decreases-outwards
 decreases-outwards l = l.at

@@ -6,5 +6,6 @@ use Rattle.scad_expr.proofs.machine.Machine.set_all.Given as goal
 
 abbrev pub invariant-names : goal.invariant-names
 invariant-names l =
-    (set_all_in_last (map shown l.name-iterator) (held l.self) ≡ set_all_in_last (map shown l.fn.all.entries) (held l.fn.self))
+    (set_all_in_last (map shown l.name-iterator) (held l.self) ≡ set_all_in_last (map shown l.fn.all.entries)
+    (held l.fn.self))
     × (state_of l.self ≡ state_of l.fn.self)

@@ -7,4 +7,5 @@ use Rattle.scad_scope.proofs.frame.Frame.get.Goals as goal
 pub returns : goal.returns
 unfolding frame_stored
 returns c =
-    lent c.get.result ∙ ap (option_map datum_of) c.get.ensures.value ∙ value_of_name-named c.args.name.now c.args.self.now.names.entries
+    lent c.get.result ∙ ap (option_map datum_of) c.get.ensures.value ∙ value_of_name-named c.args.name.now
+    c.args.self.now.names.entries

@@ -7,9 +7,11 @@ use Rattle.scad_scope.proofs.frame.Frame.set.Goals as goal
 pub returns-in_err-insert-clause-refused : goal.returns-in_err-insert-clause-refused
 unfolding frame_stored
 returns-in_err-insert-clause-refused c =
-    on_err c.from_residual.result (ap (λ es. record (frame_stored c.args.self.now) { names = map named es }) c.in_err-insert.ensures.err)
+    on_err c.from_residual.result (ap (λ es. record (frame_stored c.args.self.now) { names = map named es })
+    c.in_err-insert.ensures.err)
 
 pub returns-clause-named : goal.returns-clause-named
 unfolding frame_stored
 returns-clause-named c =
-    ap (λ ns. record (frame_stored c.args.self.now) { names = ns }) (ap (map named) c.in_ok-insert.ensures.entries ∙ named-insert c.args.self.now.names.entries c.args.name c.args.value)
+    ap (λ ns. record (frame_stored c.args.self.now) { names = ns }) (ap (map named) c.in_ok-insert.ensures.entries ∙
+    named-insert c.args.self.now.names.entries c.args.name c.args.value)

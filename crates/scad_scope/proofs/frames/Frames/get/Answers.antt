@@ -20,7 +20,8 @@ returns-in-Some c =
     let fs = c.args.self.now.frames.items in
     let many = length-map fs frame_stored in
     let is = stored-index fs c.outwards.at c.index-frame.result.now (omega arith) c.index-frame.ensures in
-    sym (sought-there (map frame_stored fs) c.outwards.at (frame_stored c.index-frame.result.now) (omega (arith, many)) is c.args.name.now (datum_of c.in-Some.value.now) (sym c.in-Some.ensures))
+    sym (sought-there (map frame_stored fs) c.outwards.at (frame_stored c.index-frame.result.now) (omega (arith, many))
+    is c.args.name.now (datum_of c.in-Some.value.now) (sym c.in-Some.ensures))
     ∙ c.outwards.invariant
 
 pub returns-then-at-parent : goal.returns-then-at-parent
@@ -30,8 +31,10 @@ returns-then-at-parent c =
     let many = length-map fs frame_stored in
     let f = c.index-frame.result.now in
     let is = stored-index fs c.outwards.at f (omega arith) c.index-frame.ensures in
-    sym (sought-round (map frame_stored fs) c.outwards.at (frame_stored f) (omega (arith, many)) is c.args.name.now (sym c.in-None.ensures)
-    ∙ ap (sought c.args.name.now) (round-past (envs (map frame_stored fs)) f.parent c.outwards.at c.in-Some-parent.parent c.in-Some-parent.is (omega arith)))
+    sym (sought-round (map frame_stored fs) c.outwards.at (frame_stored f) (omega (arith, many)) is c.args.name.now
+    (sym c.in-None.ensures)
+    ∙ ap (sought c.args.name.now) (round-past (envs (map frame_stored fs)) f.parent c.outwards.at
+    c.in-Some-parent.parent c.in-Some-parent.is (omega arith)))
     ∙ c.outwards.invariant
 
 pub outwards-preserved : goal.outwards-preserved
@@ -41,8 +44,10 @@ outwards-preserved c =
     let many = length-map fs frame_stored in
     let f = c.index-frame.result.now in
     let is = stored-index fs c.outwards.at f (omega arith) c.index-frame.ensures in
-    sym (sought-round (map frame_stored fs) c.outwards.at (frame_stored f) (omega (arith, many)) is c.args.name.now (sym c.in-None.ensures)
-    ∙ ap (sought c.args.name.now) (round-before (envs (map frame_stored fs)) f.parent c.outwards.at c.in-Some-parent.parent c.in-Some-parent.is (omega arith)))
+    sym (sought-round (map frame_stored fs) c.outwards.at (frame_stored f) (omega (arith, many)) is c.args.name.now
+    (sym c.in-None.ensures)
+    ∙ ap (sought c.args.name.now) (round-before (envs (map frame_stored fs)) f.parent c.outwards.at
+    c.in-Some-parent.parent c.in-Some-parent.is (omega arith)))
     ∙ c.outwards.invariant
 
 pub returns-in-None-parent : goal.returns-in-None-parent
@@ -52,6 +57,8 @@ returns-in-None-parent c =
     let many = length-map fs frame_stored in
     let f = c.index-frame.result.now in
     let is = stored-index fs c.outwards.at f (omega arith) c.index-frame.ensures in
-    sym (sought-round (map frame_stored fs) c.outwards.at (frame_stored f) (omega (arith, many)) is c.args.name.now (sym c.in-None.ensures)
-    ∙ ap (λ p. sought c.args.name.now (env_round (take c.outwards.at (envs (map frame_stored fs))) p)) c.in-None-parent.is)
+    sym (sought-round (map frame_stored fs) c.outwards.at (frame_stored f) (omega (arith, many)) is c.args.name.now
+    (sym c.in-None.ensures)
+    ∙ ap (λ p. sought c.args.name.now (env_round (take c.outwards.at (envs (map frame_stored fs))) p))
+    c.in-None-parent.is)
     ∙ c.outwards.invariant

@@ -5,7 +5,8 @@ use Rattle.scad_scope.specs.View.{stored}
 use Rattle.scad_scope.proofs.frames.Frames.get.Given as goal
 
 abbrev pub invariant-outwards : goal.invariant-outwards
-invariant-outwards l = sought l.name (env_at (envs (stored l.self)) l.at) ≡ sought l.name (env_at (envs (stored l.self)) l.from)
+invariant-outwards l = sought l.name (env_at (envs (stored l.self)) l.at) ≡ sought l.name
+    (env_at (envs (stored l.self)) l.from)
 
 abbrev pub decreases-outwards : goal.decreases-outwards
 decreases-outwards l = l.at

@@ -7,4 +7,5 @@ use Rattle.scad_tree.proofs.tree.Tree.top.Goals as goal
 
 pub returns-clause-none : goal.returns-clause-none
 returns-clause-none c =
-    ap is_none (c.top.ensures ∙ ap (λ n. top_of (solid_of n)) c.as_node.ensures.same) ∙ none_of_nothing (solid_of c.args.self.now) c.as_node.ensures.normal
+    ap is_none (c.top.ensures ∙ ap (λ n. top_of (solid_of n)) c.as_node.ensures.same) ∙ none_of_nothing
+    (solid_of c.args.self.now) c.as_node.ensures.normal

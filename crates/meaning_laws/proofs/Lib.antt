@@ -1,0 +1,15 @@
+pub mod Faults
+pub mod Operators
+pub mod Builtins
+pub mod Read
+pub mod ReadSolids
+pub mod ReadFlat
+pub mod ReadMatrices
+pub mod Keeping
+pub mod Results
+pub mod Expressions
+pub mod Surfaces
+pub mod Trees
+pub mod Leaves
+pub mod Statements
+pub mod Programs

@@ -1,0 +1,3 @@
+pub mod Neighbours
+mod Round
+mod WholeLevels

@@ -1,0 +1,20 @@
+//! Worked examples of outlines: heights, slabs, pieces of borders, loops and whole layers. It promises nothing: it is a crate
+//! of tests, so that the crates that it tries are proved once.
+#![tactic(auto, using(scad_geom::proofs::Casts::casts))]
+
+#[cfg(test)]
+mod crossings;
+#[cfg(test)]
+mod layers;
+#[cfg(test)]
+mod levels;
+#[cfg(test)]
+mod loops;
+#[cfg(test)]
+mod pieces;
+#[cfg(test)]
+mod random_borders;
+#[cfg(test)]
+mod rectangles;
+#[cfg(test)]
+mod slabs;

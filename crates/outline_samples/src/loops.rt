@@ -1,0 +1,219 @@
+//! Outlines of edges, of which the random ones were found by an independent program too.
+ghost use Rattle.std.specs.Prelude.{◌≡◌, [], ◌∷◌, ◌++◌, OnOk, IfOk};
+ghost use Rattle.scad_geom.specs.Segment.{segments};
+ghost use Rattle.scad_geom.specs.Balance.{IsBalanced};
+
+use scad_geom::{Edge, Loop, Pt};
+use slice_loops::join;
+use std::alloc::{AllocError, Global};
+use std::test::Fail;
+
+fn push_edge(edges: &mut Vec<Edge>, a: Pt, b: Pt) -> Result<(), AllocError>
+    ensures { OnOk result (edges.new.items ≡ edges.old.items ++ (record { a = a; b = b } ∷ [])) }
+{
+    edges.push(Edge { a, b })?;
+    Ok(())
+}
+
+// The sides of a closed outline.
+fn push_sides(edges: &mut Vec<Edge>, first: Pt, rest: &[Pt]) -> Result<(), AllocError>
+    requires { IsBalanced (segments edges.old.items) }
+    ensures { OnOk result (IsBalanced (segments edges.new.items)) }
+{
+    let mut at = first;
+    'vertices: for next in rest {
+        push_edge(edges, at, *next)?;
+        at = *next;
+    }
+    push_edge(edges, at, first)
+}
+
+// A vertex for each two digits: its x and its y.
+fn vertices(alloc: Global, text: &str) -> Result<Vec<Pt>, AllocError> {
+    let mut vertices = Vec::new(alloc);
+    let mut x = 0;
+    let mut has_x = false;
+    for byte in text.as_bytes() {
+        let digit = i32::from(*byte).wrapping_sub(48);
+        if has_x {
+            vertices.push(Pt { x, y: digit })?;
+        } else {
+            x = digit;
+        }
+        has_x = !has_x;
+    }
+    Ok(vertices)
+}
+
+// The sides of outlines with a blank between two.
+fn sides(alloc: Global, text: &str) -> Result<Vec<Edge>, AllocError>
+    ensures { IfOk result (λ v. IsBalanced (segments v.items)) }
+{
+    let mut edges = Vec::new(alloc);
+    'outlines: for part in text.split(' ') {
+        let outline = vertices(alloc, part)?;
+        match outline.as_slice() {
+            [] => {}
+            [first, rest @ ..] => push_sides(&mut edges, *first, rest)?,
+        }
+    }
+    Ok(edges)
+}
+
+fn digit(coordinate: i32) -> u8 {
+    b'0' + (coordinate.unsigned_abs() % 10) as u8
+}
+
+// Outlines by the digits of their vertices, with a blank between two.
+fn told(alloc: Global, outlines: &[Loop]) -> Result<Vec<u8>, AllocError> {
+    let mut told = Vec::new(alloc);
+    for outline in outlines {
+        if !told.is_empty() {
+            told.push(b' ')?;
+        }
+        for vertex in outline.as_slice() {
+            told.push(digit(vertex.x))?;
+            told.push(digit(vertex.y))?;
+        }
+    }
+    Ok(told)
+}
+
+fn joined(alloc: Global, text: &str) -> Result<Vec<u8>, AllocError> {
+    let edges = sides(alloc, text)?;
+    let outlines = join(alloc, &edges)?;
+    told(alloc, &outlines)
+}
+
+// How loops start at their least vertices.
+const STARTS: [(&str, &str); 4] = [
+    // Two squares, the upper one first.
+    ("55757757 00202202", "00202202 55757757"),
+    // The other way round, and one inside the other.
+    ("11133331 00404404", "00404404 11133331"),
+    // The same outline twice.
+    ("003033 003033", "003033 003033"),
+    ("", ""),
+];
+
+// How loops part at vertices that they share.
+const SHARED: [(&str, &str); 3] = [
+    // A vertex shared by two loops: they are drawn as two.
+    ("00202202 22424424", "00202202 22424424"),
+    // An outline drawn in one go through a vertex that its middle touches again.
+    ("002022424424220200", "00202202 22424424"),
+    // An outline that touches itself at a point.
+    ("402244040022", "002240224404"),
+];
+
+// Vertices on a line, which are dropped.
+const STRAIGHT: [(&str, &str); 5] = [
+    ("0011224404", "004404"),
+    // A vertex on a level side before the first corner of the text, and one on the side to the start.
+    ("2040440400", "00404404"),
+    ("0040440402", "00404404"),
+    // The tip of a spike stays.
+    ("00402023", "00402023"),
+    // A side of no length.
+    ("00303033", "00303033"),
+];
+
+// Loops without three corners, which are dropped.
+// A spike that vanishes, a loop of two edges, one of one edge.
+const FLAT: [(&str, &str); 3] = [("00204020", ""), ("1131", ""), ("33", "")];
+
+#[test]
+fn coordinates_have_any_size(rt: HostRuntime) -> Result<(), Fail> {
+    let (least, most) = (i32::MIN, i32::MAX);
+    let corners = [
+        Pt { x: most, y: least },
+        Pt { x: most, y: most },
+        Pt { x: least, y: most },
+        Pt { x: 0, y: 0 },
+    ];
+    let first = Pt { x: least, y: least };
+    let mut edges = sides(rt.alloc(), "")?;
+    push_sides(&mut edges, first, &corners)?;
+    let outlines = join(rt.alloc(), &edges)?;
+    assert_eq!(rt; outlines.len(), 1);
+    let expected = [first, corners[0], corners[1], corners[2], corners[3]];
+    assert_eq!(rt; outlines[0].as_slice(), expected.as_slice());
+    Ok(())
+}
+
+// Random outlines, and what the other program made of their sides.
+const RANDOM: [(&str, &str); 30] = [
+    ("02410330 1121", "30024103"),
+    ("122111 4330 100122 21400211", "100122 40021121 111221"),
+    ("120211 201000 0233 010342004002", "004002010342 111202"),
+    (
+        "21200002220002 12132030110214 2011000211",
+        "000211 00022120 000222 203011 2002141213",
+    ),
+    ("12102200", "00121022"),
+    ("2233 2100 40442012240001", "00014044201224"),
+    ("022301333203 3211", "0133321132030223"),
+    (
+        "3102102003 120122 001210112221",
+        "0012102003310210112221 012212",
+    ),
+    (
+        "211120122010 10201231 231112040122",
+        "1021112012201231 012223111204",
+    ),
+    ("01220120300333 01244313343111", "2030033301 012443133431"),
+    ("330211221023 100230", "100230 102333021122"),
+    ("333011034421 100332", "100332 301103442133"),
+    ("140304022224 0200411103", "00411103 022224140304"),
+    ("2012 0232203110 111200 1222", "001112 1002322031"),
+    (
+        "21200031112112 2110 0020 220203022332",
+        "00311121102120 022332",
+    ),
+    (
+        "20300302 22201201101202 0413 200012",
+        "001220 101201 20300302 20120222",
+    ),
+    (
+        "0030112012 432330240212 444101 20001121",
+        "00301120 0011212012 302402124323 014441",
+    ),
+    ("1222 330111", "011133"),
+    (
+        "2134300131 403200430100 012021 221130",
+        "004032 004301 202101 3001312134 302211",
+    ),
+    ("40413220043312 2000 0102", "20043312404132"),
+    ("1130 1023033330", "1023033330"),
+    ("441204010402 320112", "011232 02441204"),
+    ("4202014344 013010 3311013303", "100130 013311 0143444202"),
+    ("2002 002011", "002011"),
+    (
+        "213110423320 30031031 311201 22013300032130",
+        "00031031104233 20213022013130032131120133",
+    ),
+    ("14304044 312122 13222112 1101", "30404414 21121322 212231"),
+    (
+        "421422 4012021302 1000211002 023300",
+        "002110 00021002401202130233 224214",
+    ),
+    ("20220220112000 011020", "102001 202202"),
+    (
+        "430100103300 3110220233 42410012",
+        "0010220233 00124241 004301 103331",
+    ),
+    ("322102", "210232"),
+];
+
+// What was joined from the sides of the first outlines of each row are the second ones.
+#[test]
+fn outlines_are_joined_from_sides(rt: HostRuntime) -> Result<(), Fail> {
+    let tables: [&[(&str, &str)]; 5] = [&STARTS, &SHARED, &STRAIGHT, &FLAT, &RANDOM];
+    for rows in tables {
+        for (text, wanted) in rows {
+            let loops = joined(rt.alloc(), text)?;
+            assert_eq!(rt; loops.as_slice(), wanted.as_bytes(), "{text}");
+        }
+    }
+    Ok(())
+}

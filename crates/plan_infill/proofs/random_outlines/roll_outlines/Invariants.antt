@@ -1,7 +1,0 @@
-use Rattle.std.specs.Prelude.{All}
-use Rattle.scad_geom.specs.Within.{IsWithin}
-use Rattle.scad_geom.specs.Limits.{coordinate_limit}
-use Rattle.plan_infill.proofs.random_outlines.roll_outlines.Given as goal
-
-abbrev pub invariant-outlines : goal.invariant-outlines
-invariant-outlines l = All (λ o. All (IsWithin coordinate_limit) o) l.outlines.items

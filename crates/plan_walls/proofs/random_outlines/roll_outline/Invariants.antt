@@ -1,7 +1,0 @@
-use Rattle.std.specs.Prelude.{All}
-use Rattle.scad_geom.specs.Within.{IsWithin}
-use Rattle.scad_geom.specs.Limits.{point_limit}
-use Rattle.plan_walls.proofs.random_outlines.roll_outline.Given as goal
-
-abbrev pub invariant-points : goal.invariant-points
-invariant-points l = All (IsWithin point_limit) l.points.items

@@ -1,0 +1,33 @@
+-- Worked examples of what is written of layers, and of the moves that extrude along them.
+use Rattle.std.proofs.Common.{◌≡◌, [], ◌∷◌, ℕ, pos, refl}
+use Rattle.scad_geom.specs.declared.point.Pt.{Pt}
+use Rattle.slice_work.specs.Part.{Layout}
+use Rattle.print_laws.specs.Extruded.{Side, sides_from}
+use Rattle.print_laws.specs.Program.{paths_of}
+use Rattle.print_laws.specs.Print.{written}
+
+abbrev at : ℕ → ℕ → Pt
+at x y = record { x = pos x; y = pos y }
+
+-- two layers: a triangle with a path of two sides, and nothing but a path of one
+abbrev lower : Layout
+lower = record { outlines = (at 0 0 ∷ at 9 0 ∷ at 0 9 ∷ []) ∷ []; paths = (at 1 1 ∷ at 5 1 ∷ at 1 5 ∷ []) ∷ [] }
+
+abbrev upper : Layout
+upper = record { outlines = []; paths = (at 2 2 ∷ at 2 4 ∷ []) ∷ [] }
+
+-- each is written with the height of its upper surface
+two_heights : written 200 (lower ∷ upper ∷ []) ≡ record { z = 200; loops = lower.outlines } ∷ record {
+  z = 400;
+  loops =
+      [];
+} ∷ []
+two_heights = refl
+
+-- the sides, layer after layer
+abbrev side : ℕ → Pt → Pt → Side
+side z a b = record { z = z; edge = record { a = a; b = b } }
+
+three_sides : sides_from 200 0 (paths_of (lower ∷ upper ∷ []))
+    ≡ side 200 (at 1 1) (at 5 1) ∷ side 200 (at 5 1) (at 1 5) ∷ side 400 (at 2 2) (at 2 4) ∷ []
+three_sides = refl

@@ -1,0 +1,161 @@
+//! Boards that are drawn to their end, by one thread and by several.
+ghost use Rattle.std.specs.Prelude.{◌≡◌, true, None, length, IfOk};
+ghost use Rattle.layer_board.specs.Calls.{view, layers_of, workers_of, IsOf, IsFresh};
+
+use layer_board::{Board, Claim, Outcome, Pass};
+use std::alloc::{AllocError, Global};
+use std::test::Fail;
+use std::thread;
+
+fn alone(alloc: Global, count: u32) -> Result<(Board, Pass), AllocError>
+    ensures sizes { IfOk result (λ r. (layers_of r.0 ≡ count) × (workers_of r.0 ≡ 1)) }
+    ensures fresh { IfOk result (λ r. IsFresh r.0 r.1) }
+{
+    let (board, mut passes) = Board::new(alloc, count, 1)?;
+    let pass = passes.pop().unwrap();
+    Ok((board, pass))
+}
+
+fn pair(alloc: Global, count: u32) -> Result<(Board, Pass, Pass), AllocError>
+    ensures sizes { IfOk result (λ r. (layers_of r.0 ≡ count) × (workers_of r.0 ≡ 2)) }
+    ensures fresh { IfOk result (λ r. IsFresh r.0 r.1 × IsFresh r.0 r.2) }
+{
+    let (board, mut passes) = Board::new(alloc, count, 2)?;
+    let first = passes.pop().unwrap();
+    let second = passes.pop().unwrap();
+    Ok((board, first, second))
+}
+
+#[derive(Drop)]
+struct Drawn {
+    pass: Pass,
+    finished: Vec<u32>,
+}
+
+// Draws until the end; the one layer fails, all others that aren't skipped are finished.
+fn draw(alloc: Global, board: &Board, pass: Pass, failing: u32) -> Result<Drawn, AllocError>
+    requires { IsFresh board.now pass }
+    ensures of { IfOk result (λ d. IsOf board.now d.pass) }
+    ensures ended { IfOk result (λ d. ((view d.pass).ended ≡ true) × ((view d.pass).pending ≡ None)) }
+    ensures one { IfOk result (λ d. length (view d.pass).members ≡ 1) }
+{
+    let mut pass = pass;
+    let mut finished = Vec::new(alloc);
+    while let Claim::Layer(n) = board.claim(&mut pass) {
+        if board.look(&mut pass, n) {
+            continue;
+        }
+        if n == failing {
+            board.fail(&mut pass, n);
+        } else {
+            board.finish(&mut pass, n);
+            finished.push(n)?;
+        }
+    }
+    Ok(Drawn { pass, finished })
+}
+
+#[test]
+fn a_board_without_layers_ends_at_once(rt: HostRuntime) -> Result<(), Fail> {
+    let (board, mut pass) = alone(rt.alloc(), 0)?;
+    let Claim::Ended = board.claim(&mut pass) else {
+        panic!(rt; "a layer was drawn")
+    };
+    assert!(rt; board.close(pass) == Outcome { least: 0 });
+    Ok(())
+}
+
+#[test]
+fn layers_above_a_failed_one_are_skipped(rt: HostRuntime) -> Result<(), Fail> {
+    let (board, mut pass) = alone(rt.alloc(), 3)?;
+    let Claim::Layer(0) = board.claim(&mut pass) else {
+        panic!(rt; "layer 0 wasn't drawn")
+    };
+    assert!(rt; !board.look(&mut pass, 0));
+    board.fail(&mut pass, 0);
+    let Claim::Layer(1) = board.claim(&mut pass) else {
+        panic!(rt; "layer 1 wasn't drawn")
+    };
+    assert!(rt; board.look(&mut pass, 1));
+    let Claim::Layer(2) = board.claim(&mut pass) else {
+        panic!(rt; "layer 2 wasn't drawn")
+    };
+    assert!(rt; board.look(&mut pass, 2));
+    let Claim::Ended = board.claim(&mut pass) else {
+        panic!(rt; "a fourth layer was drawn")
+    };
+    let again = board.claim(&mut pass);
+    assert!(rt; again == Claim::Ended);
+    assert!(rt; board.close(pass) == Outcome { least: 0 });
+    Ok(())
+}
+
+#[test]
+fn joined_passes_are_one(rt: HostRuntime) -> Result<(), Fail> {
+    let (board, mut first, mut second) = pair(rt.alloc(), 2)?;
+    let Claim::Layer(0) = board.claim(&mut first) else {
+        panic!(rt; "layer 0 wasn't drawn")
+    };
+    let Claim::Layer(1) = board.claim(&mut second) else {
+        panic!(rt; "layer 1 wasn't drawn")
+    };
+    board.fail(&mut second, 1);
+    // The board's least failed layer is 1, so layer 0 is still wanted.
+    assert!(rt; !board.look(&mut first, 0));
+    board.finish(&mut first, 0);
+    assert!(rt; first.members() == 1);
+    board.join(&mut first, second);
+    assert!(rt; first.members() == 2);
+    let Claim::Ended = board.claim(&mut first) else {
+        panic!(rt; "a third layer was drawn")
+    };
+    assert!(rt; board.close(first) == Outcome { least: 1 });
+    Ok(())
+}
+
+#[test]
+fn two_threads_draw_a_board_to_its_end(rt: HostRuntime) -> Result<(), Fail> {
+    let alloc = rt.alloc();
+    let (board, first, second) = pair(alloc, 300)?;
+    let shared = &board;
+    let (one, other) = thread::join(
+        &rt,
+        move || draw(alloc, shared, first, 200),
+        move || draw(alloc, shared, second, 200),
+    );
+    let Drawn {
+        mut pass,
+        mut finished,
+    } = one?;
+    let Drawn {
+        pass: also,
+        finished: more,
+    } = other?;
+    board.join(&mut pass, also);
+    assert!(rt; board.close(pass) == Outcome { least: 200 });
+    finished.extend_from_slice(&more)?;
+    finished.sort()?;
+    // Layers above 200 may be finished by a thread that hadn't met the failed one.
+    for (n, layer) in finished.iter().take(200).enumerate() {
+        assert!(rt; *layer as usize == n);
+    }
+    Ok(())
+}
+
+#[test]
+fn four_threads_draw_each_layer_once(rt: HostRuntime) -> Result<(), Fail> {
+    let alloc = rt.alloc();
+    let (board, passes) = Board::new(alloc, 500, 4)?;
+    let shared = &board;
+    let results = thread::map_vec(&rt, passes, &|pass| draw(alloc, shared, pass, 500))?;
+    let mut all = Vec::new(alloc);
+    for result in results {
+        all.extend_from_slice(&result?.finished)?;
+    }
+    all.sort()?;
+    assert!(rt; all.len() == 500);
+    for (n, layer) in all.iter().enumerate() {
+        assert!(rt; *layer as usize == n);
+    }
+    Ok(())
+}

@@ -1,0 +1,236 @@
+//! Files of small trees, byte for byte.
+ghost use Rattle.std.specs.Prelude.{◌≡◌, ◌≤◌, Some, [], true, IfOk};
+ghost use Rattle.scad_io.specs.Desk.{unused};
+ghost use Rattle.scad_script.specs.Run.{Sound};
+
+use crate::texts::{CUBE_CLI, CUBE_GCODE, PLATE_CLI, PLATE_GCODE};
+use scad_fault::Text;
+use scad_geom::Pt3;
+use scad_io::{MemoryDesk, Open, Out};
+use scad_script::{Stop, make};
+use scad_slice::{Want, count_layers, draw, plan, slice};
+use scad_solid::{Face, Triangles};
+use scad_tree::{Tree, subtract};
+use scad_words::Settings;
+use std::alloc::{AllocError, Global};
+use std::process::Abort;
+use std::test::Fail;
+use std::thread::Threads;
+
+const BLOCK: [[u32; 4]; 6] = [
+    [0, 1, 2, 3],
+    [4, 7, 6, 5],
+    [0, 4, 5, 1],
+    [1, 5, 6, 2],
+    [2, 6, 7, 3],
+    [3, 7, 4, 0],
+];
+
+pub(crate) fn polyhedron(alloc: Global, corners: &[Pt3], faces: &[Face]) -> Result<Tree, Fail> {
+    let triangles = Triangles::from_faces(alloc, corners, faces)?;
+    if triangles.count() == 0 {
+        return Err(Fail::new("no triangles"));
+    }
+    Ok(Tree::leaf(triangles))
+}
+
+pub(crate) fn block(alloc: Global, low: Pt3, high: Pt3) -> Result<Tree, Fail> {
+    let mut faces = Vec::new(alloc);
+    for face in BLOCK {
+        faces.push(Face::from_vec(face.to_vec(alloc)?))?;
+    }
+    let corners = [
+        low,
+        Pt3 { x: high.x, ..low },
+        Pt3 { z: low.z, ..high },
+        Pt3 { y: high.y, ..low },
+        Pt3 { z: high.z, ..low },
+        Pt3 { y: low.y, ..high },
+        high,
+        Pt3 { x: low.x, ..high },
+    ];
+    polyhedron(alloc, &corners, &faces)
+}
+
+pub(crate) const fn pt(x: i32, y: i32, z: i32) -> Pt3 {
+    Pt3 { x, y, z }
+}
+
+fn cube(alloc: Global) -> Result<Tree, Fail> {
+    block(alloc, pt(0, 0, 0), pt(3000, 3000, 200))
+}
+
+fn plate(alloc: Global) -> Result<Tree, Fail> {
+    let mut members = Vec::new(alloc);
+    members.push(block(alloc, pt(0, 0, 0), pt(4000, 4000, 400))?)?;
+    members.push(block(alloc, pt(1000, 1000, -1000), pt(3000, 3000, 2000))?)?;
+    Ok(subtract(alloc, members)?)
+}
+
+/// A desk whose calls of these numbers fail.
+pub(crate) fn desk(alloc: Global, fails: &[u64]) -> Result<MemoryDesk, AllocError>
+    ensures fresh { IfOk result (λ d. d.view ≡ unused (Some [])) }
+{
+    let fails = Vec::from_slice(alloc, fails)?;
+    MemoryDesk::new(alloc, Vec::new(alloc), fails, 1 << 16)
+}
+
+/// What a command answered and left.
+#[derive(Drop)]
+pub(crate) struct Answer {
+    pub(crate) ended: Result<Text, Stop>,
+    pub(crate) cli: Vec<u8>,
+    pub(crate) gcode: Vec<u8>,
+    pub(crate) faults: u64,
+}
+
+fn answer_on(
+    alloc: Global,
+    ended: Result<Text, Stop>,
+    desk: &MemoryDesk,
+) -> Result<Answer, AllocError> {
+    Ok(Answer {
+        ended,
+        cli: desk.written(Out::Cli).to_vec(alloc)?,
+        gcode: desk.written(Out::Gcode).to_vec(alloc)?,
+        faults: desk.faults(),
+    })
+}
+
+pub(crate) fn sliced<R: Threads + Sync>(
+    rt: &R,
+    alloc: Global,
+    tree: &Tree,
+    workers: u32,
+    fails: &[u64],
+) -> Result<Answer, AllocError>
+    requires some { 1 ≤ workers }
+    requires most { workers ≤ 64 }
+{
+    let mut desk = desk(alloc, fails)?;
+    let settings = Settings::defaults();
+    let ended = slice(
+        rt, alloc, tree, &settings, "o.cli", workers, &mut desk, &Open,
+    );
+    answer_on(alloc, ended, &desk)
+}
+
+pub(crate) fn planned<R: Threads + Sync>(
+    rt: &R,
+    alloc: Global,
+    tree: &Tree,
+    workers: u32,
+    fails: &[u64],
+) -> Result<Answer, AllocError>
+    requires some { 1 ≤ workers }
+    requires most { workers ≤ 64 }
+{
+    let mut desk = desk(alloc, fails)?;
+    let settings = Settings::defaults();
+    let ended = plan(
+        rt, alloc, tree, &settings, "o.cli", "o.gcode", workers, &mut desk, &Open,
+    );
+    answer_on(alloc, ended, &desk)
+}
+
+fn expect(rt: &impl Abort, answer: &Answer, line: &str, cli: &str, gcode: &str) {
+    assert!(rt;
+        matches!(&answer.ended, Ok(text) if text.as_slice() == line.as_bytes()),
+        "{line}"
+    );
+    assert!(rt;
+        answer.cli.as_slice() == cli.as_bytes(),
+        "outlines of {line}"
+    );
+    assert!(rt;
+        answer.gcode.as_slice() == gcode.as_bytes(),
+        "program of {line}"
+    );
+    assert!(rt; answer.faults == 0);
+}
+
+fn expect_files<R: Threads + Sync + Abort>(rt: &R, alloc: Global, workers: u32) -> Result<(), Fail>
+    requires some { 1 ≤ workers }
+    requires most { workers ≤ 64 }
+{
+    let cube = cube(alloc)?;
+    let answer = sliced(rt, alloc, &cube, workers, &[])?;
+    expect(rt, &answer, "done: 1 layers, 1 loops\n", CUBE_CLI, "");
+    let answer = planned(rt, alloc, &cube, workers, &[])?;
+    let line = "done: 1 layers, 1 loops, 9 moves, E 0.67351\n";
+    expect(rt, &answer, line, CUBE_CLI, CUBE_GCODE);
+    let plate = plate(alloc)?;
+    let answer = sliced(rt, alloc, &plate, workers, &[])?;
+    expect(rt, &answer, "done: 2 layers, 4 loops\n", PLATE_CLI, "");
+    let answer = planned(rt, alloc, &plate, workers, &[])?;
+    let line = "done: 2 layers, 4 loops, 16 moves, E 1.79604\n";
+    expect(rt, &answer, line, PLATE_CLI, PLATE_GCODE);
+    Ok(())
+}
+
+#[test]
+fn trees_are_sliced_and_planned(rt: HostRuntime) -> Result<(), Fail> {
+    expect_files(&rt, rt.alloc(), 1)?;
+    expect_files(&rt, rt.alloc(), 3)?;
+    Ok(())
+}
+
+#[test]
+fn files_are_as_long_as_is_told(rt: HostRuntime) -> Result<(), Fail> {
+    let alloc = rt.alloc();
+    let mut desk = desk(alloc, &[])?;
+    if make(&mut desk, Out::Cli, "o.cli").is_err() {
+        return Err(Fail::new("a call failed"));
+    }
+    if make(&mut desk, Out::Gcode, "o.gcode").is_err() {
+        return Err(Fail::new("a call failed"));
+    }
+    let cube = cube(alloc)?;
+    let settings = Settings::defaults();
+    if count_layers(&cube, settings.layer_height).is_err() {
+        return Err(Fail::new("a cube has few layers"));
+    }
+    let told = draw(
+        &rt,
+        alloc,
+        &cube,
+        &settings,
+        Want::Plan,
+        2,
+        &mut desk,
+        &Open,
+    );
+    let Ok(told) = told else {
+        return Err(Fail::new("a cube is drawn"));
+    };
+    assert_eq!(rt; told.cli, CUBE_CLI.len() as u64);
+    assert_eq!(rt; told.gcode, CUBE_GCODE.len() as u64);
+    assert_eq!(rt; told.summary.e, 67_351);
+    assert_eq!(rt; desk.written(Out::Cli), CUBE_CLI.as_bytes());
+    Ok(())
+}
+
+/// Both outputs are created, then come the heads, two layers for both, and the ends.
+#[test]
+fn each_call_fails_in_turn(rt: HostRuntime) -> Result<(), Fail> {
+    let alloc = rt.alloc();
+    let plate = plate(alloc)?;
+    for call in 0..10 {
+        let answer = planned(&rt, alloc, &plate, 3, &[call])?;
+        assert!(rt; matches!(&answer.ended, Err(Stop::Write)), "call {call}");
+        assert!(rt;
+            PLATE_CLI.as_bytes().starts_with(&answer.cli),
+            "call {call}"
+        );
+        assert!(rt;
+            PLATE_GCODE.as_bytes().starts_with(&answer.gcode),
+            "call {call}"
+        );
+        assert_eq!(rt; answer.faults, 1);
+        assert_eq!(rt; answer.cli.is_empty(), call <= 2);
+        assert_eq!(rt; answer.gcode.is_empty(), call <= 3);
+    }
+    let answer = planned(&rt, alloc, &plate, 3, &[10])?;
+    assert!(rt; answer.ended.is_ok());
+    Ok(())
+}

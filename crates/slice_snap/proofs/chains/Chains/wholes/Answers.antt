@@ -1,0 +1,27 @@
+-- A piece is a chain's whole where it isn't gone.
+use Rattle.std.proofs.Common.{List, Bool, ap, ◌∙◌, arith}
+use Rattle.slice_snap.specs.declared.piece.Piece.{Piece}
+use Rattle.slice_snap.proofs.Linked.{one_pushed, none_pushed, gone_read}
+use Rattle.slice_snap.proofs.chains.Chains.wholes.Goals as goal
+use Rattle.slice_snap.proofs.chains.Chains.wholes.Goals.{then-not-index+in_ok-push, else-not-index}
+
+pub places-preserved : goal.places-preserved
+places-preserved c =
+    let gs : List Bool = c.args.self.now.gone.items in
+    let qs : List Piece = c.args.self.now.wholes.items in
+    elim c.if-not-index.branch [
+      | then-not-index+in_ok-push w ↦
+          one_pushed gs qs c.places.wholes.items c.if-not-index.wholes.items c.places.place w.index-then-not-index.result.now
+          (omega (arith, c.places-test.true, c.len-place-end.ensures, c.requires.gone, c.args.self.now.wholes.ok.0))
+          (omega (arith, c.places-test.true, c.len-place-end.ensures, c.args.self.now.wholes.ok.0))
+          c.places.invariant
+          (gone_read gs c.places.place c.index.result.now (omega (arith, c.places-test.true, c.len-place-end.ensures, c.requires.gone, c.args.self.now.wholes.ok.0)) c.index.ensures ∙ w.if-not-index.true)
+          w.index-then-not-index.ensures (ap (λ v. v.items) w.wholes-is ∙ w.in_ok-push.ensures.items)
+      | else-not-index w ↦
+          none_pushed gs qs c.places.wholes.items c.if-not-index.wholes.items c.places.place
+          (omega (arith, c.places-test.true, c.len-place-end.ensures, c.requires.gone, c.args.self.now.wholes.ok.0))
+          (omega (arith, c.places-test.true, c.len-place-end.ensures, c.args.self.now.wholes.ok.0))
+          c.places.invariant
+          (gone_read gs c.places.place c.index.result.now (omega (arith, c.places-test.true, c.len-place-end.ensures, c.requires.gone, c.args.self.now.wholes.ok.0)) c.index.ensures ∙ w.if-not-index.false)
+          (ap (λ v. v.items) w.wholes-is)
+    ]

@@ -1,0 +1,22 @@
+//! Worked examples of solids: surfaces, matrices, shapes, extrusions, sections, trees, and the modules of the language. It
+//! promises nothing: it is a crate of tests, so that the crates that it tries are proved once.
+#![tactic(auto, using(scad_geom::proofs::Casts::casts))]
+
+#[cfg(test)]
+mod carved;
+#[cfg(test)]
+mod extrusions;
+#[cfg(test)]
+mod matrices;
+#[cfg(test)]
+mod modules;
+#[cfg(test)]
+mod sections;
+#[cfg(test)]
+mod shapes;
+#[cfg(test)]
+mod surfaces;
+#[cfg(test)]
+mod tetrahedron;
+#[cfg(test)]
+mod trees;

@@ -1,0 +1,29 @@
+//! Worked examples of toolpaths and texts: sides, walls, infill and plans of layers, the texts of outlines and of printing
+//! programs, written and read back, words and settings, sources of samples. It promises nothing: it is a crate of tests, so
+//! that the crates that it tries are proved once.
+#![tactic(auto, using(scad_geom::proofs::Casts::casts))]
+
+#[cfg(test)]
+mod infill;
+#[cfg(test)]
+mod machine;
+#[cfg(test)]
+mod outline_reading;
+#[cfg(test)]
+mod outline_texts;
+#[cfg(test)]
+mod plans;
+#[cfg(test)]
+mod program_texts;
+#[cfg(test)]
+mod random_plans;
+#[cfg(test)]
+mod random_runs;
+#[cfg(test)]
+mod random_walls;
+#[cfg(test)]
+mod sample_sources;
+#[cfg(test)]
+mod walls;
+#[cfg(test)]
+mod words;

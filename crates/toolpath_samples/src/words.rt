@@ -1,0 +1,210 @@
+//! Command lines and settings texts with the answers that the rules give.
+
+use scad_fault::SetKind;
+use scad_words::{Command, Job, SetError, WordFault, read_settings, read_words};
+use std::alloc::{AllocError, Global};
+use std::test::Fail;
+
+fn split(alloc: Global, line: &str) -> Result<Vec<String>, AllocError> {
+    let mut words = Vec::new(alloc);
+    for word in line.split(' ') {
+        words.push(String::from_str(alloc, word)?)?;
+    }
+    Ok(words)
+}
+
+// The command with its names, the settings file and the number of workers; where there is none, nothing.
+fn told(alloc: Global, job: &Result<Job, WordFault>) -> Result<String, Fail> {
+    let job = match job {
+        Ok(job) => job,
+        Err(WordFault::Usage) => return Ok(String::from_str(alloc, "usage")?),
+        Err(WordFault::Memory) => return Ok(String::from_str(alloc, "memory")?),
+    };
+    let settings = match &job.settings {
+        Some(name) => name.as_str(),
+        None => "",
+    };
+    let command = match &job.command {
+        Command::Check(model) => format!(in alloc; "check {}", model.as_str())?,
+        Command::Tree(model) => format!(in alloc; "tree {}", model.as_str())?,
+        Command::Slice(model, cli) => format!(in alloc;
+            "slice {} {}",
+            model.as_str(),
+            cli.as_str()
+        )?,
+        Command::Plan(model, cli, gcode) => {
+            format!(in alloc;
+                "plan {} {} {}",
+                model.as_str(),
+                cli.as_str(),
+                gcode.as_str()
+            )?
+        }
+        Command::Sample(number) => format!(in alloc; "sample {number}")?,
+    };
+    Ok(format!(in alloc; "{command} by {settings} with {}", job.workers)?)
+}
+
+#[test]
+fn words_of_the_form_give_a_job(rt: HostRuntime) -> Result<(), Fail> {
+    for (line, want) in [
+        ("check a", "check a by  with 1"),
+        ("tree a", "tree a by  with 1"),
+        ("slice a b", "slice a b by  with 1"),
+        ("slice --settings s a b", "slice a b by s with 1"),
+        ("slice a --settings=s b", "slice a b by s with 1"),
+        ("slice a b --settings s", "slice a b by s with 1"),
+        ("check a --settings=s=t", "check a by s=t with 1"),
+        ("slice -- --settings b", "slice --settings b by  with 1"),
+        ("slice a -- -b", "slice a -b by  with 1"),
+        ("check -", "check - by  with 1"),
+        ("plan a b c", "plan a b c by  with 1"),
+        (
+            "plan --workers 3 a b c --settings s",
+            "plan a b c by s with 3",
+        ),
+        ("plan a --workers=3 b c", "plan a b c by  with 3"),
+        ("sample 7", "sample 7 by  with 1"),
+        ("sample 007", "sample 7 by  with 1"),
+        ("sample 0", "sample 0 by  with 1"),
+        ("sample 2147483647", "sample 2147483647 by  with 1"),
+        ("sample 0000000001 --settings 1", "sample 1 by 1 with 1"),
+        ("sample 7 --workers 2 --settings s", "sample 7 by s with 2"),
+        ("check a --workers 1", "check a by  with 1"),
+        ("tree a --workers 64", "tree a by  with 64"),
+        ("slice a b --workers=000000064", "slice a b by  with 64"),
+        ("check --workers 2 -- a", "check a by  with 2"),
+        ("check 7", "check 7 by  with 1"),
+        ("plan -- a --workers 2", "plan a --workers 2 by  with 1"),
+        ("sample -- 12", "sample 12 by  with 1"),
+    ] {
+        let words = split(rt.alloc(), line)?;
+        let job = told(rt.alloc(), &read_words(rt.alloc(), &words))?;
+        assert_eq!(rt; job.as_str(), want, "{line}");
+    }
+    Ok(())
+}
+
+#[test]
+fn other_words_are_a_usage_fault(rt: HostRuntime) -> Result<(), Fail> {
+    for line in [
+        "",
+        "a",
+        "check",
+        "check a b",
+        "slice a",
+        "slice a b c",
+        "slice a a",
+        "slice a b --settings a",
+        "slice a b --settings b",
+        "check a --settings a",
+        "check a --settings",
+        "check a --settings s --settings t",
+        "--settings s check a",
+        "--workers 2 check a",
+        "check a --help",
+        "check -h",
+        "help",
+        "--version",
+        "check -a",
+        "Check a",
+        "-- check a",
+        "plan a b",
+        "plan a b c d",
+        "plan a b b",
+        "plan a b a",
+        "plan a a b",
+        "plan a b c --settings a",
+        "plan a b c --settings b",
+        "plan a b c --settings c",
+        "check a --workers 0",
+        "check a --workers 65",
+        "check a --workers 000000000",
+        "check a --workers 0000000001",
+        "check a --workers 4294967297",
+        "check a --workers",
+        "check a --workers=",
+        "check a --workers +2",
+        "check a --workers -2",
+        "check a --workers 2.0",
+        "check a --workers x",
+        "check a --workers 0x2",
+        "check a --workers 2 --workers 2",
+        "check a --workers=2 --workers=3",
+        "check a --worker 2",
+        "check a -w 2",
+        "sample",
+        "sample a",
+        "sample 7 8",
+        "sample 2147483648",
+        "sample 9999999999",
+        "sample 00000000007",
+        "sample -- -1",
+        "sample -1",
+        "sample +7",
+        "sample 7.0",
+        "sample 1e3",
+        "sample 7 --workers 0",
+        "sample 7 --settings s --settings s",
+        "sample --number 7",
+        "verify a b",
+        "plan a --gcode c b",
+    ] {
+        let words = split(rt.alloc(), line)?;
+        let job = told(rt.alloc(), &read_words(rt.alloc(), &words))?;
+        assert_eq!(rt; job.as_str(), "usage", "{line}");
+    }
+    Ok(())
+}
+
+#[test]
+fn a_text_gives_the_keys_that_it_has(rt: HostRuntime) -> Result<(), Fail> {
+    for (text, walls, layer_height) in [
+        ("", 2, 200),
+        ("\u{feff}# none\r\n", 2, 200),
+        ("walls = 1", 1, 200),
+        ("walls = 10\nlayer_height = 20", 10, 20),
+        ("layer_height = 1_000 # most\nwalls = 0x3\n", 3, 1000),
+        ("\"walls\" = +4", 4, 200),
+    ] {
+        match read_settings(rt.alloc(), text.as_bytes()) {
+            Ok(settings) => {
+                assert_eq!(rt; settings.walls, walls, "{text}");
+                assert_eq!(rt; settings.layer_height, layer_height, "{text}");
+                assert_eq!(rt; settings.filament_area, 2_405_282, "{text}");
+            }
+            Err(_) => return Err(Fail::from("refused")),
+        }
+    }
+    Ok(())
+}
+
+#[test]
+fn the_first_fault_of_a_text_is_told(rt: HostRuntime) -> Result<(), Fail> {
+    for (text, kind, key, value) in [
+        ("walls = ", SetKind::NotToml, "", 0),
+        ("walls = 1\nwalls = 1", SetKind::NotToml, "", 0),
+        ("walls = 99999999999999999999", SetKind::NotToml, "", 0),
+        ("speed = 1", SetKind::UnknownKey, "speed", 0),
+        ("Walls = 1", SetKind::UnknownKey, "Walls", 0),
+        ("[walls]", SetKind::NotWhole, "walls", 0),
+        ("walls = \"2\"", SetKind::NotWhole, "walls", 0),
+        ("walls = 5.0", SetKind::NotWhole, "walls", 0),
+        ("bed = 201", SetKind::OutOfRange, "bed", 201),
+        ("bed = -1", SetKind::OutOfRange, "bed", -1),
+        ("layer_height = 5", SetKind::OutOfRange, "layer_height", 5),
+        ("walls = 11\nbed = 1.5", SetKind::NotWhole, "bed", 0),
+        ("walls = 0\na.b = 1", SetKind::UnknownKey, "a", 0),
+    ] {
+        match read_settings(rt.alloc(), text.as_bytes()) {
+            Err(SetError::Refused(fault)) => {
+                assert_eq!(rt; fault.kind, kind, "{text}");
+                assert_eq!(rt; fault.key.as_slice(), key.as_bytes(), "{text}");
+                assert_eq!(rt; fault.value, value, "{text}");
+            }
+            _ => return Err(Fail::from("not refused")),
+        }
+    }
+    assert!(rt; read_settings(rt.alloc(), &[0xff]).is_err());
+    Ok(())
+}

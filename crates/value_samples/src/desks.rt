@@ -1,0 +1,229 @@
+//! Desks: what is opened, read, created and written, and what fails.
+
+ghost use Rattle.std.specs.Prelude.{◌≡◌, ◌≢◌, ◌<◌, Some, [], true, false, length};
+ghost use Rattle.scad_io.specs.Desk.{side, unused, failed_count};
+
+use scad_fault::Text;
+use scad_io::{Desk, MemoryDesk, NullDesk, Out, ReadEnd, RealDesk, read_all, write_all};
+use std::alloc::{AllocError, Global};
+use std::process::Abort;
+use std::rt::Files;
+use std::test::Fail;
+use std::{env, fs, process};
+
+// More than two pieces of a read.
+const LONG: usize = 10_000;
+
+fn long_name(alloc: Global, len: usize) -> Result<String, AllocError> {
+    let mut name = String::new(alloc);
+    for _ in 0..len {
+        name.push('n')?;
+    }
+    Ok(name)
+}
+
+// Two files of one name, a long one, and one with a name that is too long to be told.
+fn files(alloc: Global) -> Result<Vec<(Text, Text)>, AllocError> {
+    let mut files = Vec::new(alloc);
+    files.push((Text::of(alloc, b"a.scad")?, Text::of(alloc, b"cube(1);")?))?;
+    files.push((Text::of(alloc, b"a.scad")?, Text::of(alloc, b"cube(2);")?))?;
+    files.push((
+        Text::of(alloc, b"long.scad")?,
+        Text::from_vec(vec![in alloc; b'\n'; LONG]?),
+    ))?;
+    files.push((
+        Text::of(alloc, long_name(alloc, 5_000)?.as_bytes())?,
+        Text::of(alloc, b"cube(3);")?,
+    ))?;
+    Ok(files)
+}
+
+fn desk(rt: &impl Abort, alloc: Global, fails: &[u64], room: usize) -> MemoryDesk
+    ensures { result.view ≡ unused (Some []) }
+{
+    let files = files(alloc).expect(rt, "memory for the files");
+    let fails = fails.to_vec(alloc).expect(rt, "memory for the list");
+    MemoryDesk::new(alloc, files, fails, room).expect(rt, "memory for the desk")
+}
+
+fn open(rt: &impl Abort, desk: &mut MemoryDesk, name: &str)
+    requires { failed_count desk.old.view ≡ 0 }
+    ensures sound { failed_count desk.new.view ≡ 0 }
+    ensures other { desk.new.view ≡ record desk.old.view { input = desk.new.view.input } }
+{
+    desk.open(name).expect(rt, "an open file");
+}
+
+// A read of five bytes at most gives these.
+fn read(rt: &impl Abort, desk: &mut MemoryDesk, want: &[u8])
+    requires { failed_count desk.old.view ≡ 0 }
+    ensures { failed_count desk.new.view ≡ 0 }
+{
+    let mut into = [0; 5];
+    let n = desk.read(&mut into).expect(rt, "bytes");
+    assert_eq!(rt; &into[..n], want);
+}
+
+fn create(rt: &impl Abort, desk: &mut MemoryDesk, out: Out, name: &str)
+    requires sound { failed_count desk.old.view ≡ 0 }
+    requires named { out ≢ Out.Report }
+    requires absent { (side out desk.old.view).created ≡ false }
+    ensures sound { failed_count desk.new.view ≡ 0 }
+    ensures made { (side out desk.new.view).created ≡ true }
+{
+    desk.create(out, name).expect(rt, "an output");
+}
+
+// A write of the piece takes so many bytes.
+fn write(rt: &impl Abort, desk: &mut MemoryDesk, out: Out, piece: &[u8], want: usize)
+    requires sound { failed_count desk.old.view ≡ 0 }
+    requires made { out ≢ Out.Report → (side out desk.old.view).created ≡ true }
+    requires piece { 0 < length piece.now }
+    ensures sound { failed_count desk.new.view ≡ 0 }
+    ensures made { (side out desk.new.view).created ≡ (side out desk.old.view).created }
+{
+    let n = desk.write(out, piece).expect(rt, "a write");
+    assert_eq!(rt; n, want);
+}
+
+#[test]
+fn the_first_file_of_a_name_is_read_to_its_end(rt: HostRuntime) {
+    let mut desk = desk(&rt, rt.alloc(), &[], 0);
+    read(&rt, &mut desk, b"");
+    open(&rt, &mut desk, "a.scad");
+    read(&rt, &mut desk, b"cube(");
+    read(&rt, &mut desk, b"1);");
+    read(&rt, &mut desk, b"");
+    open(&rt, &mut desk, "a.scad");
+    read(&rt, &mut desk, b"cube(");
+    assert_eq!(rt; desk.faults(), 0);
+}
+
+#[test]
+fn unknown_names_and_listed_calls_fail(rt: HostRuntime) {
+    let mut nameless = desk(&rt, rt.alloc(), &[], 0);
+    assert!(rt; nameless.open("b.scad").is_err());
+    assert_eq!(rt; nameless.faults(), 1);
+    let mut desk = desk(&rt, rt.alloc(), &[3], 9);
+    create(&rt, &mut desk, Out::Cli, "o.cli");
+    open(&rt, &mut desk, "a.scad");
+    write(&rt, &mut desk, Out::Report, b"ok", 2);
+    assert!(rt; desk.read(&mut [0; 5]).is_err());
+    assert_eq!(rt; desk.faults(), 1);
+}
+
+#[test]
+fn a_write_takes_what_there_is_room_for(rt: HostRuntime) {
+    let mut desk = desk(&rt, rt.alloc(), &[], 3);
+    create(&rt, &mut desk, Out::Gcode, "o.gcode");
+    write(&rt, &mut desk, Out::Gcode, b"ab", 2);
+    write(&rt, &mut desk, Out::Gcode, b"cd", 1);
+    assert!(rt; desk.write(Out::Gcode, b"e").is_err());
+    assert_eq!(rt; desk.written(Out::Gcode), b"abc".as_slice());
+    assert_eq!(rt; desk.written(Out::Cli), b"".as_slice());
+    assert_eq!(rt; desk.faults(), 1);
+}
+
+fn opened(rt: &impl Abort, alloc: Global, fails: &[u64], name: &str) -> MemoryDesk
+    ensures { result.view.input.failed ≡ false }
+{
+    let mut desk = desk(rt, alloc, fails, 0);
+    open(rt, &mut desk, name);
+    desk
+}
+
+#[test]
+fn a_name_past_its_room_opens_and_fails_at_create(rt: HostRuntime) {
+    for (len, fits) in [(4_096, true), (4_097, false)] {
+        let name = long_name(rt.alloc(), len).expect(&rt, "a name");
+        let mut desk = desk(&rt, rt.alloc(), &[], 0);
+        assert_eq!(rt;
+            desk.create(Out::Cli, name.as_str()).is_ok(),
+            fits,
+            "{len} bytes"
+        );
+    }
+    let name = long_name(rt.alloc(), 5_000).expect(&rt, "a name");
+    let mut desk = opened(&rt, rt.alloc(), &[], name.as_str());
+    let text = read_all(rt.alloc(), &mut desk, None).expect(&rt, "a text");
+    assert_eq!(rt; text.as_slice(), b"cube(3);".as_slice());
+}
+
+#[test]
+fn an_input_is_read_to_its_end_past_a_limit_or_to_a_fault(rt: HostRuntime) {
+    for (limit, fits) in [
+        (None, true),
+        (Some(8), true),
+        (Some(7), false),
+        (Some(0), false),
+    ] {
+        let mut desk = opened(&rt, rt.alloc(), &[], "a.scad");
+        match read_all(rt.alloc(), &mut desk, limit) {
+            Ok(text) => assert!(rt; fits && text.as_slice() == b"cube(1);".as_slice()),
+            Err(end) => assert!(rt; !fits && end == ReadEnd::Long),
+        }
+        assert_eq!(rt; desk.faults(), 0);
+    }
+    let mut desk = opened(&rt, rt.alloc(), &[], "long.scad");
+    let text = read_all(rt.alloc(), &mut desk, None).expect(&rt, "a text");
+    assert_eq!(rt; text.as_slice().len(), LONG);
+    let mut desk = opened(&rt, rt.alloc(), &[2], "long.scad");
+    assert!(rt; matches!(read_all(rt.alloc(), &mut desk, None), Err(ReadEnd::Fault)));
+    assert_eq!(rt; desk.faults(), 1);
+}
+
+#[test]
+fn a_piece_is_written_whole_or_in_part(rt: HostRuntime) {
+    let mut desk = desk(&rt, rt.alloc(), &[0], 5);
+    assert!(rt;
+        write_all(&mut desk, Out::Report, b"").is_ok(),
+        "no call is made"
+    );
+    assert!(rt; write_all(&mut desk, Out::Report, b"a").is_err());
+    let mut desk = self::desk(&rt, rt.alloc(), &[], 5);
+    assert!(rt; write_all(&mut desk, Out::Report, b"abc").is_ok());
+    assert!(rt; write_all(&mut desk, Out::Report, b"def").is_err());
+    assert_eq!(rt; desk.written(Out::Report), b"abcde".as_slice());
+    assert_eq!(rt; desk.faults(), 1);
+}
+
+#[test]
+fn a_desk_that_keeps_nothing_takes_all(rt: HostRuntime) {
+    let mut desk = NullDesk::new();
+    assert!(rt; desk.open("a.scad").is_ok());
+    let text = read_all(rt.alloc(), &mut desk, None).expect(&rt, "a text");
+    assert!(rt; text.as_slice().is_empty());
+    assert!(rt; desk.create(Out::Gcode, "o.gcode").is_ok());
+    assert!(rt; desk.create(Out::Cli, "o.cli").is_ok());
+    let piece = [b'x'; LONG];
+    assert_eq!(rt; desk.write(Out::Report, &piece).ok(), Some(LONG));
+    assert_eq!(rt; desk.write(Out::Gcode, &piece).ok(), Some(LONG));
+    assert!(rt; write_all(&mut desk, Out::Cli, b"$$HEADERSTART\n").is_ok());
+}
+
+fn write_file<R: Files + Print + Abort>(rt: &R, name: &str) {
+    let mut desk = RealDesk::new(rt);
+    desk.create(Out::Cli, name).expect(rt, "a new file");
+    write_all(&mut desk, Out::Cli, b"$$HEADERSTART\n").expect(rt, "a whole write");
+}
+
+fn read_file<R: Files + Print + Abort>(rt: &R, alloc: Global, name: &str) -> Option<Text> {
+    let mut desk = RealDesk::new(rt);
+    if desk.open(name).is_err() {
+        return None;
+    }
+    Some(read_all(alloc, &mut desk, None).expect(rt, "a text"))
+}
+
+#[test]
+fn a_real_file_is_written_and_read_again(rt: HostRuntime) -> Result<(), Fail> {
+    let alloc = rt.alloc();
+    let folder = env::temp_dir(&rt)?.into_string();
+    let name = format!(in alloc; "{folder}/scad_io_{}", process::id(rt.process()))?;
+    write_file(&rt, name.as_str());
+    let text = read_file(&rt, alloc, name.as_str()).expect(&rt, "the file");
+    fs::remove_file(&rt, name.as_str())?;
+    assert_eq!(rt; text.as_slice(), b"$$HEADERSTART\n".as_slice());
+    assert!(rt; read_file(&rt, alloc, name.as_str()).is_none());
+    Ok(())
+}

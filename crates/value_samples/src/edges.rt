@@ -1,0 +1,137 @@
+//! Edges at heights, beside one another, near points, and the rings round them.
+
+use scad_geom::line::{ends_from, starts_by};
+use scad_geom::{Edge, Half, Level, Pt, box_meets, cmp_level, cmp_slope, cmp_x_at, side};
+use scad_ring::ring;
+use std::cmp::Ordering;
+
+// At the height 1 the first lies at 1/3, the second and the third at 1/2.
+const E: Edge = Edge {
+    a: Pt { x: 0, y: 0 },
+    b: Pt { x: 1, y: 3 },
+};
+
+const F: Edge = Edge {
+    a: Pt { x: 0, y: 0 },
+    b: Pt { x: 1, y: 2 },
+};
+
+const G: Edge = Edge {
+    a: Pt { x: 2, y: 2 },
+    b: Pt { x: -1, y: 0 },
+};
+
+const ONE: Level = Level { n: 1, d: 1 };
+
+const FALLING: Edge = Edge {
+    a: Pt { x: 0, y: 3 },
+    b: Pt { x: 9, y: 0 },
+};
+
+const SLANTED: Edge = Edge {
+    a: Pt { x: 0, y: 10 },
+    b: Pt { x: 10, y: 0 },
+};
+
+const fn at(x: i32, y: i32) -> Pt {
+    Pt { x, y }
+}
+
+#[test]
+fn an_edge_reaches_the_heights_of_its_ends(rt: HostRuntime) {
+    for (n, starts, ends) in [
+        (-1, false, true),
+        (0, true, true),
+        (6, true, true),
+        (7, true, false),
+    ] {
+        let height = Level { n, d: 2 };
+        assert_eq!(rt; starts_by(&FALLING, &height), starts, "at {n} / 2");
+        assert_eq!(rt; ends_from(&FALLING, &height), ends, "at {n} / 2");
+    }
+}
+
+#[test]
+fn heights_compare_over_any_divisors(rt: HostRuntime) {
+    let half = Level { n: 2001, d: 2 };
+    let same = Level {
+        n: 4_002_000_000_000,
+        d: 4_000_000_000,
+    };
+    assert_eq!(rt; cmp_level(&half, &same), Ordering::Equal);
+    assert_eq!(rt;
+        cmp_level(&half, &Level { n: 10_006, d: 10 }),
+        Ordering::Less
+    );
+    assert_eq!(rt;
+        cmp_level(&half, &Level { n: 3001, d: 3 }),
+        Ordering::Greater
+    );
+}
+
+#[test]
+fn edges_lie_left_right_and_on(rt: HostRuntime) {
+    assert_eq!(rt; cmp_x_at(&E, &F, &ONE), Ordering::Less);
+    assert_eq!(rt; cmp_x_at(&F, &E, &ONE), Ordering::Greater);
+    assert_eq!(rt; cmp_x_at(&F, &G, &ONE), Ordering::Equal);
+    assert_eq!(rt; cmp_slope(&F, &G), Ordering::Less);
+    assert_eq!(rt; cmp_slope(&E, &E), Ordering::Equal);
+    assert_eq!(rt; side(&E, Pt { x: 0, y: 1 }), 1);
+    assert_eq!(rt; side(&E, Pt { x: 1, y: 0 }), -1);
+    assert_eq!(rt; side(&E, Pt { x: 2, y: 6 }), 0);
+}
+
+#[test]
+fn squares_meet_edges_that_touch_them(rt: HostRuntime) {
+    for (x, y, half, width, meets) in [
+        (0, 0, Half::Whole, 5, true),
+        (0, 0, Half::Whole, 4, false),
+        (0, 0, Half::Cell, 4, false),
+        (0, 1, Half::Cell, 4, true),
+        (-1, 14, Half::Whole, 4, true),
+        (-1, 14, Half::Whole, 3, false),
+        (4, 6, Half::Whole, 0, true),
+    ] {
+        assert_eq!(rt;
+            box_meets(&SLANTED, Pt { x, y }, half, width),
+            meets,
+            "at {x}, {y}, {half:?}, {width}"
+        );
+    }
+}
+
+#[test]
+fn rings_are_rectangles_or_hexagons(rt: HostRuntime) {
+    let right = Edge {
+        a: Pt { x: 10, y: 20 },
+        b: Pt { x: 0, y: 0 },
+    };
+    let wanted = [
+        at(-1, -1),
+        at(1, -1),
+        at(11, 19),
+        at(11, 21),
+        at(9, 21),
+        at(-1, 1),
+    ];
+    assert_eq!(rt; ring(&right, 1).as_slice(), wanted.as_slice());
+    let left = Edge {
+        a: Pt { x: 0, y: 0 },
+        b: Pt { x: -10, y: 20 },
+    };
+    let wanted = [
+        at(-1, -1),
+        at(1, -1),
+        at(1, 1),
+        at(-9, 21),
+        at(-11, 21),
+        at(-11, 19),
+    ];
+    assert_eq!(rt; ring(&left, 1).as_slice(), wanted.as_slice());
+    let flat = Edge {
+        a: Pt { x: 5, y: 0 },
+        b: Pt { x: -5, y: 0 },
+    };
+    let wanted = [at(-7, -2), at(7, -2), at(7, 2), at(-7, 2)];
+    assert_eq!(rt; ring(&flat, 2).as_slice(), wanted.as_slice());
+}
