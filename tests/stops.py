@@ -59,7 +59,8 @@ def full_devices():
 
 class StopCheck:
     """A signal once so many twentieths of the outlines are written. The files are fronts of the whole ones, and the
-    report is empty; a run that was quicker, or that the signal doesn't end, is done as ever."""
+    report is empty, or whole behind whole files where the signal came between the report and the end; a run that was
+    quicker, or that the signal doesn't end, is done as ever."""
 
     def __init__(self, name, by, moment):
         self.name, self.signal, self.moment = name, getattr(signal, f"SIG{by}"), moment
@@ -99,14 +100,16 @@ def early_end(program, by, stop, shell=()):
         except subprocess.TimeoutExpired:
             started.kill()
             return [f"it hadn't ended after {TIME_LIMIT} seconds"]
-        return [*end_differs(started.returncode, told, errors, by), *files_differ(room, started.returncode == 0)]
+        is_done = told == report(LAYERS)
+        return [*end_differs(started.returncode, told, errors, by), *files_differ(room, is_done)]
 
 
 def end_differs(status, told, errors, by):
-    wanted = {0: report(LAYERS), -by: b""}
-    if status not in wanted:
+    """The report is written last and in one piece, so a run that was ended has all of it or nothing."""
+    if status not in (0, -by):
         return [f"the status is {status}"]
-    why = [f"the report differs {first_difference(told, wanted[status])}"] if told != wanted[status] else []
+    wanted = report(LAYERS) if status == 0 or told else b""
+    why = [f"the report differs {first_difference(told, wanted)}"] if told != wanted else []
     return why + ["standard error isn't empty"] * bool(errors)
 
 
