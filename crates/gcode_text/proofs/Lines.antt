@@ -13,7 +13,7 @@ use Rattle.scad_base.specs.Results.{and_then}
 use Rattle.scad_geom.specs.declared.point.Pt.{Pt}
 use Rattle.gcode_text.specs.declared.command.Command.TheVariants.{Drive, Plain}
 use Rattle.gcode_text.specs.declared.fault.GFault.{GFault}
-use Rattle.gcode_text.specs.declared.given.Given.{Given}
+use Rattle.gcode_text.specs.declared.letters.Given.{Given}
 use Rattle.gcode_text.specs.declared.rates.Rates.{Rates}
 use Rattle.gcode_text.specs.Numeral.{last_digits, fixed, millimetres}
 use Rattle.gcode_text.specs.Gcode.{feed_end, target, amount, travel_line, print_line, height_line, heat_line}

@@ -9,7 +9,7 @@ use Rattle.std.proofs.lemmas.Bool.{cases_lt}
 use Rattle.std.proofs.lemmas.Bool.Decides.{nat_tests}
 use Rattle.scad_num.proofs.Capped.{min-mul, ten_pow_pos}
 use Rattle.scad_num.proofs.Digits.{min-digits_value_after, digit_value-lt}
-use Rattle.gcode_text.specs.declared.given.Given.{Given}
+use Rattle.gcode_text.specs.declared.letters.Given.{Given}
 use Rattle.gcode_text.specs.Cap.{cap, capped, capped_number}
 use Rattle.gcode_text.specs.Reading.{negative, are_digits}
 use Rattle.gcode_text.specs.Machine.{limited, with_number, ranged}

@@ -11,7 +11,7 @@ use Rattle.scad_geom.specs.declared.point.Pt.{Pt}
 use Rattle.scad_geom.specs.declared.point3.Pt3.{Pt3}
 use Rattle.gcode_text.specs.declared.command.Command.TheVariants.{Plain}
 use Rattle.gcode_text.specs.declared.command.Command.{Command}
-use Rattle.gcode_text.specs.declared.given.Given.{Given}
+use Rattle.gcode_text.specs.declared.letters.Given.{Given}
 use Rattle.gcode_text.specs.declared.fault.GFault.{GFault}
 use Rattle.gcode_text.specs.declared.machine.Move.{Move}
 use Rattle.gcode_text.specs.declared.rates.Rates.{Rates}

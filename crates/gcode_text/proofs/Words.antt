@@ -9,7 +9,7 @@ use Rattle.std.proofs.lemmas.List.Splits.{slice_split-cons_yes}
 use Rattle.scad_base.specs.Results.{and_then}
 use Rattle.gcode_text.specs.declared.command.Command.{Command}
 use Rattle.gcode_text.specs.declared.fault.GFault.{GFault}
-use Rattle.gcode_text.specs.declared.given.Given.{Given}
+use Rattle.gcode_text.specs.declared.letters.Given.{Given}
 use Rattle.text_scan.specs.Marks.{pieces, first_at}
 use Rattle.text_scan.proofs.Pieces.{one_piece, first_piece, mark_there}
 use Rattle.gcode_text.specs.Reading.{words, line_words}

@@ -10,7 +10,7 @@ use Rattle.gcode_text.specs.declared.fault.GFault.TheVariants.{UnknownWord, BadN
 use Rattle.gcode_text.specs.declared.machine.Move.{Move}
 use Rattle.gcode_text.specs.declared.command.Command.{Command}
 use Rattle.gcode_text.specs.declared.command.Command.TheVariants.{Drive, Home, Set, Plain}
-use Rattle.gcode_text.specs.declared.given.Given.{Given}
+use Rattle.gcode_text.specs.declared.letters.Given.{Given}
 use Rattle.gcode_text.specs.Reading.{lines, line_words, number}
 
 -- ---- commands and their letters

@@ -8,9 +8,9 @@
 mod amount;
 mod command;
 mod fault;
-mod given;
 pub mod laws;
 mod layer;
+mod letters;
 mod machine;
 mod number;
 mod numeral;

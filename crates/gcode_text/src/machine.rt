@@ -6,7 +6,7 @@ ghost use Rattle.gcode_text.specs.Machine.{State, After, start, counting, line_s
 
 use crate::command::{Command, command_of};
 use crate::fault::GFault;
-use crate::given::Given;
+use crate::letters::Given;
 use crate::scan::{code_of, skip_spaces};
 use crate::statement::with_words;
 use scad_geom::Pt3;

@@ -7,7 +7,7 @@ ghost use Rattle.gcode_text.specs.Machine.{limited, ranged, places, with_value, 
 
 use crate::command::{Command, takes};
 use crate::fault::GFault;
-use crate::given::{Given, is_limited};
+use crate::letters::{Given, is_limited};
 use crate::number::number;
 use crate::scan::{behind_first, byte_at, skip_spaces};
 use text_scan::first_at;

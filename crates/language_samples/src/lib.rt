@@ -17,13 +17,13 @@ mod fronts;
 #[cfg(test)]
 mod machine;
 #[cfg(test)]
-mod nested;
+mod nesting;
 #[cfg(test)]
 mod operators;
 #[cfg(test)]
 mod parse_answer;
 #[cfg(test)]
-mod printed;
+mod program_texts;
 #[cfg(test)]
 mod programs;
 #[cfg(test)]

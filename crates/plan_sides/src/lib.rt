@@ -4,6 +4,6 @@
 #![tactic(auto, using(scad_geom::proofs::Casts::casts))]
 
 pub mod laws;
-mod listing;
+mod list;
 
-pub use listing::sides;
+pub use list::sides;

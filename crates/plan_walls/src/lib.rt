@@ -7,6 +7,6 @@
 mod edges;
 pub mod laws;
 mod shape;
-mod walling;
+mod walls;
 
-pub use walling::walls;
+pub use walls::walls;

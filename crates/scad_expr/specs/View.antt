@@ -6,8 +6,8 @@ use Rattle.scad_ast.specs.Scope.{parameter}
 use Rattle.scad_ast.specs.View.{expression_of}
 use Rattle.scad_scope.specs.Env.{Env}
 use Rattle.scad_scope.specs.Stored.{env_at}
-use Rattle.scad_expr.specs.declared.defined.Defined.{Defined}
-use Rattle.scad_expr.specs.declared.defined.DefinedAt.{DefinedAt}
+use Rattle.scad_expr.specs.declared.functions.Defined.{Defined}
+use Rattle.scad_expr.specs.declared.functions.DefinedAt.{DefinedAt}
 use Rattle.scad_expr.specs.Functions.{Function, Found}
 
 -- a function that is defined by these parameters and this expression

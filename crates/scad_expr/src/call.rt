@@ -16,11 +16,11 @@ ghost use Rattle.scad_expr.specs.Opened.{opened, bound_in, left, opened_in};
 ghost use Rattle.scad_expr.specs.Variables.{within};
 ghost use Rattle.scad_expr.specs.View.{found_at};
 
-use crate::defined::DefinedAt;
 use crate::fault::EvalFault;
-use crate::lent::lone_name;
+use crate::functions::DefinedAt;
+use crate::loans::lone_name;
 use crate::machine::Machine;
-use crate::opened::Call;
+use crate::opening::Call;
 use crate::walk::eval_at;
 use scad_ast::{Arg, Args, Expr, Param, Params};
 use scad_fault::Place;

@@ -12,10 +12,10 @@ ghost use Rattle.scad_expr.specs.Parts.{parts_in};
 ghost use Rattle.scad_expr.specs.Places.{element_place};
 
 use crate::fault::EvalFault;
-use crate::gathered::add_parts;
-use crate::judged::{judge_named, judge_variables};
 use crate::machine::Machine;
 use crate::part::Part;
+use crate::pieces::add_parts;
+use crate::requirements::{judge_named, judge_variables};
 use crate::turn::{for_variables, loop_element};
 use crate::walk::{eval_at, stepped};
 use crate::within::bind_names;

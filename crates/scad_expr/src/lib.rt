@@ -4,33 +4,33 @@
 #![tactic(auto)]
 
 mod call;
-mod counted;
-mod defined;
+mod construction;
+mod counts;
+mod echo_lines;
 mod element;
 mod fault;
-mod gathered;
-mod given;
-mod judged;
+mod functions;
 pub mod laws;
-mod lent;
+mod loans;
+mod lookup;
 mod machine;
-mod made;
-mod named;
-mod opened;
+mod names;
+mod opening;
 mod operand;
-mod operated;
+mod operations;
+mod parameters;
 mod part;
-mod printed;
-mod running;
-mod sought;
+mod pieces;
+mod requirements;
+mod sequence;
 mod turn;
 mod walk;
 mod within;
 
 pub use call::{bind, values};
 pub use fault::EvalFault;
-pub use judged::{asserted, judge_named, judge_variables};
 pub use machine::{DEPTH_LIMIT, Machine, STEP_LIMIT};
-pub use running::{items_of, next_number};
+pub use requirements::{asserted, judge_named, judge_variables};
+pub use sequence::{items_of, next_number};
 pub use walk::eval;
 pub use within::let_names;

@@ -9,9 +9,9 @@ ghost use Rattle.scad_expr.specs.Machine.{held, env_in, along_in, state_of};
 ghost use Rattle.scad_expr.specs.Meaning.{node, right_side, truth_of, meaning};
 
 use crate::fault::EvalFault;
-use crate::lent::{index_in, member_in};
+use crate::loans::{index_in, member_in};
 use crate::machine::Machine;
-use crate::operated::{member, range, range_by_one};
+use crate::operations::{member, range, range_by_one};
 use crate::walk::eval_at;
 use scad_ast::{BinOp, Expr, Node, UnOp};
 use scad_fault::Place;

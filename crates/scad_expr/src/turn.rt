@@ -16,10 +16,10 @@ ghost use Rattle.scad_expr.specs.State.{step_limit};
 
 use crate::element::element_at;
 use crate::fault::EvalFault;
-use crate::judged::judge_named;
 use crate::machine::Machine;
 use crate::part::Part;
-use crate::running::{items_of, next_number};
+use crate::requirements::judge_named;
+use crate::sequence::{items_of, next_number};
 use crate::walk::eval_at;
 use crate::within::{bind_names, set_names};
 use scad_ast::{Arg, Elem, Expr};

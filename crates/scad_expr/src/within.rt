@@ -13,8 +13,8 @@ ghost use Rattle.scad_expr.specs.Variables.{empty, within};
 
 use crate::call::values_at;
 use crate::fault::EvalFault;
-use crate::judged::{asserted, judge_named};
 use crate::machine::Machine;
+use crate::requirements::{asserted, judge_named};
 use crate::walk::eval_at;
 use scad_ast::{Arg, Args, Expr};
 use scad_fault::Place;

@@ -9,8 +9,8 @@ use Rattle.scad_scope.specs.Stored.{env_at}
 use Rattle.scad_tree.specs.declared.node.Node.{Node}
 use Rattle.scad_tree.specs.Solid.{Solid}
 use Rattle.scad_tree.specs.View.{solids}
-use Rattle.scad_inst.specs.declared.defined.Defined.{Defined}
-use Rattle.scad_inst.specs.declared.defined.DefinedAt.{DefinedAt}
+use Rattle.scad_inst.specs.declared.modules.Defined.{Defined}
+use Rattle.scad_inst.specs.declared.modules.DefinedAt.{DefinedAt}
 use Rattle.scad_inst.specs.Modules.{Module, Found}
 
 -- a module that is defined by these parameters and these items

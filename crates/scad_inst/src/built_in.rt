@@ -17,7 +17,7 @@ ghost use Rattle.scad_inst.specs.Portions.{primitive_made, flat_made};
 ghost use Rattle.scad_modules.specs.declared.module.Module.TheVariants.{Extrusion as IsExtrusion, Transform as IsTransform, Echo as IsEcho, Assert as IsAssert};
 ghost use Rattle.scad_modules.specs.declared.module.Extrusion.TheVariants.{Linear as IsLinear, Rotate as IsRotate};
 
-use crate::argued::{
+use crate::arguments::{
     height_argued, matrix_argued, moved_by, outlines_argued, primitive_argued, resolution_argued,
 };
 use crate::children::children;
@@ -25,7 +25,7 @@ use crate::flat::flat_leaves;
 use crate::leaves::leaf;
 use crate::members::combined;
 use crate::operation::Operation;
-use crate::refused::fault;
+use crate::refusals::fault;
 use crate::space::{Space, Where, inside_linear, turned_at};
 use crate::trees::made;
 use scad_ast::{Args, Scope};

@@ -16,12 +16,12 @@ ghost use Rattle.scad_inst.specs.Portions.{called_with, known_with, refused_with
 ghost use Rattle.scad_inst.specs.View.{found_at};
 
 use crate::built_in::built_in;
-use crate::defined::DefinedAt;
 use crate::frames::{open_known, open_own};
+use crate::lookup::module_named;
 use crate::members::combined;
+use crate::modules::DefinedAt;
 use crate::operation::Operation;
-use crate::refused::named_fault;
-use crate::sought::module_named;
+use crate::refusals::named_fault;
 use crate::space::Where;
 use crate::turn::{let_in, looped};
 use scad_ast::{Args, Scope, Stmt};

@@ -19,12 +19,12 @@ ghost use Rattle.scad_inst.specs.Meaning.{child, children_by, chosen, run_childr
 ghost use Rattle.scad_inst.specs.Modules.{kept_children};
 ghost use Rattle.scad_inst.specs.View.{trees_in};
 
-use crate::chosen::child_named;
-use crate::kept::kept_children;
+use crate::call_children::kept_children;
 use crate::members::{member, members_from};
 use crate::near::near;
 use crate::operation::Operation;
 use crate::scopes::open_scope;
+use crate::selection::child_named;
 use crate::space::Where;
 use crate::trees::made;
 use scad_ast::{Args, Item, Scope};

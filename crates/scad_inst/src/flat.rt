@@ -16,9 +16,9 @@ ghost use Rattle.scad_inst.specs.FlatLeaves.{linear_leaf, judge_points, judge_si
 ghost use Rattle.scad_inst.specs.Made.{count_triangles};
 ghost use Rattle.scad_inst.specs.View.{trees_in};
 
-use crate::argued::profile_argued;
+use crate::arguments::profile_argued;
 use crate::leaves::{TRIANGLE_LIMIT, count_leaf, count_triangles, placed};
-use crate::refused::{fault, named_fault, over};
+use crate::refusals::{fault, named_fault, over};
 use crate::space::{Space, Turning, Where};
 use scad_expr::{EvalFault, Machine};
 use scad_extrude::{FlatForm, linear, triangles_of, turned};

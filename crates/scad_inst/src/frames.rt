@@ -16,7 +16,7 @@ ghost use Rattle.scad_inst.specs.Opened.{dollars_of};
 ghost use Rattle.scad_inst.specs.Portions.{own_opened};
 ghost use Rattle.scad_inst.specs.View.{found_at};
 
-use crate::defined::DefinedAt;
+use crate::modules::DefinedAt;
 use scad_ast::{Arg, Args, Scope};
 use scad_expr::{EvalFault, Machine, bind, let_names};
 use scad_scope::Kept;

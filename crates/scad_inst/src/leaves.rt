@@ -14,7 +14,7 @@ ghost use Rattle.scad_expr.specs.Machine.{held, state_of};
 ghost use Rattle.scad_expr.specs.State.{State};
 ghost use Rattle.scad_inst.specs.Made.{count_leaf, count_triangles, placed, leaf};
 
-use crate::refused::{fault, over};
+use crate::refusals::{fault, over};
 use scad_expr::{EvalFault, Machine};
 use scad_fault::{BudgetKind, FaultKind, Place};
 use scad_matrix::Matrix;

@@ -3,24 +3,24 @@
 #![tactic(auto)]
 
 mod answers;
-mod argued;
+mod arguments;
 mod built_in;
 mod call;
+mod call_children;
 mod children;
-mod chosen;
-mod defined;
 mod flat;
 mod frames;
 mod item;
-mod kept;
 mod leaves;
+mod lookup;
 mod members;
+mod modules;
 mod near;
 mod operation;
 mod programs;
-mod refused;
+mod refusals;
 mod scopes;
-mod sought;
+mod selection;
 mod space;
 mod trees;
 mod turn;

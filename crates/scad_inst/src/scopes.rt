@@ -14,7 +14,7 @@ ghost use Rattle.scad_inst.specs.Meaning.{assigned_value, assigned, opened_scope
 ghost use Rattle.scad_inst.specs.Scopes.{item_at};
 
 use crate::frames::{depth, go_back, go_deeper, open_frames};
-use crate::refused::over;
+use crate::refusals::over;
 use scad_ast::{Expr, Item, Scope};
 use scad_expr::{EvalFault, Machine, eval};
 use scad_fault::{BudgetKind, Place};

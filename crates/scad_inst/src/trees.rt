@@ -8,7 +8,7 @@ ghost use Rattle.scad_inst.specs.Made.{judged};
 ghost use Rattle.scad_inst.specs.Operation.{operated};
 
 use crate::operation::Operation;
-use crate::refused::over;
+use crate::refusals::over;
 use scad_expr::EvalFault;
 use scad_fault::{BudgetKind, Place};
 use scad_tree::{Tree, intersect, subtract, unite};

@@ -16,7 +16,7 @@ use crate::frames::{depth, go_back, go_deeper};
 use crate::item::{is_marked, item_place};
 use crate::members::combined;
 use crate::operation::Operation;
-use crate::refused::over;
+use crate::refusals::over;
 use crate::space::Where;
 use scad_ast::{Expr, Item, Scope, Stmt, StmtBody};
 use scad_expr::{EvalFault, Machine, eval};

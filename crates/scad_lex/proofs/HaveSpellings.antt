@@ -12,8 +12,8 @@ use Rattle.scad_lex.specs.declared.token.Key.{Key as KeyName}
 use Rattle.scad_lex.specs.declared.token.Sign.{Sign as SignName}
 use Rattle.scad_lex.specs.declared.front.Front.{Front}
 use Rattle.scad_lex.specs.declared.front.Front.TheVariants.{Gap, Cut, Bad, TooLarge}
-use Rattle.scad_lex.specs.declared.quoted.Quoted.{Quoted}
-use Rattle.scad_lex.specs.declared.quoted.Quoted.TheVariants.{Closed, Unclosed, Broken}
+use Rattle.scad_lex.specs.declared.string_body.Quoted.{Quoted}
+use Rattle.scad_lex.specs.declared.string_body.Quoted.TheVariants.{Closed, Unclosed, Broken}
 use Rattle.scad_lex.specs.declared.gap.Class.TheVariants.{Blank, WithinLine}
 use Rattle.scad_lex.specs.Classes.{is_of}
 use Rattle.scad_lex.specs.Gap.{is_blank, closed_len}

@@ -5,8 +5,8 @@ use Rattle.std.proofs.Common.{length-drop, add-zero}
 use Rattle.std.proofs.lemmas.List.{drop-drop, drop_all, append-nil}
 use Rattle.std.proofs.lemmas.Bool.{ne_eqb}
 use Rattle.scad_lex.specs.Quoted.{behind, others, begun, quoted_from, element_at}
-use Rattle.scad_lex.specs.declared.quoted.Quoted.{Quoted}
-use Rattle.scad_lex.specs.declared.quoted.Quoted.TheVariants.{Closed, Unclosed, Broken}
+use Rattle.scad_lex.specs.declared.string_body.Quoted.{Quoted}
+use Rattle.scad_lex.specs.declared.string_body.Quoted.TheVariants.{Closed, Unclosed, Broken}
 
 pub behind-behind : (xs ys : List ℕ) (m n : ℕ) (q : Quoted) →
     behind xs m (behind ys n q) ≡ behind (xs ++ ys) (m + n) q

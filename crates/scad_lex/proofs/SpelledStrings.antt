@@ -12,7 +12,7 @@ use Rattle.std.proofs.lemmas.Bool.Decides.{nat_tests}
 use Rattle.std.proofs.lemmas.Str.{encode_ascii}
 use Rattle.scad_lex.specs.declared.token.TokenKind.TheVariants.{Str}
 use Rattle.scad_lex.specs.declared.front.Front.TheVariants.{Cut}
-use Rattle.scad_lex.specs.declared.quoted.Quoted.TheVariants.{Closed}
+use Rattle.scad_lex.specs.declared.string_body.Quoted.TheVariants.{Closed}
 use Rattle.scad_lex.specs.Character.{is_scalar, tail_at, two_tails_at, form_of, two_bytes, three_bytes, four_bytes}
 use Rattle.scad_lex.specs.Character.{character_at}
 use Rattle.scad_lex.specs.Escape.{escape_at}

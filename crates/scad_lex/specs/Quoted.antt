@@ -4,8 +4,8 @@ use Rattle.std.specs.Prelude.{ℕ, zero, suc, ◌+◌, List, [], ◌∷◌, ◌+
 use Rattle.std.specs.Prelude.{slice_index}
 use Rattle.scad_lex.specs.Character.{character_at}
 use Rattle.scad_lex.specs.Escape.{escape_at}
-use Rattle.scad_lex.specs.declared.quoted.Quoted.{Quoted}
-use Rattle.scad_lex.specs.declared.quoted.Quoted.TheVariants.{Closed, Unclosed, Broken}
+use Rattle.scad_lex.specs.declared.string_body.Quoted.{Quoted}
+use Rattle.scad_lex.specs.declared.string_body.Quoted.TheVariants.{Closed, Unclosed, Broken}
 
 -- the character or the escape that the bytes begin with, and its number of bytes
 unfoldable pub element_at : List ℕ → Option (ℕ × ℕ)

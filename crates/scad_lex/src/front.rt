@@ -11,8 +11,8 @@ ghost use Rattle.scad_num.specs.Literal.{literal_len, literal_number, is_literal
 use crate::bytes::{behind, byte_at, first};
 use crate::gap::{Class, closed_len, run_len};
 use crate::key::key_of;
-use crate::quoted::{Quoted, read_quoted};
 use crate::sign::{one_byte_sign, two_byte_sign};
+use crate::string_body::{Quoted, read_quoted};
 use crate::token::TokenKind;
 use crate::word::word_len;
 use scad_fault::Text;

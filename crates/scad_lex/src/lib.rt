@@ -10,9 +10,9 @@ mod front;
 mod gap;
 mod key;
 pub mod laws;
-mod quoted;
 mod scanner;
 mod sign;
+mod string_body;
 mod token;
 mod word;
 

@@ -3,13 +3,13 @@
 //! a name exactly where a frame or one of those round it has it.
 #![tactic(auto)]
 
-mod assigned;
 mod binding;
 mod frame;
 mod frames;
 mod kept;
+mod variables;
 
-pub use assigned::bindings;
 pub use binding::{Binding, Bindings};
 pub use frames::Frames;
 pub use kept::Kept;
+pub use variables::bindings;

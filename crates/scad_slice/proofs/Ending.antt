@@ -4,7 +4,7 @@ use Rattle.scad_script.specs.Script.{Finishes, ends}
 use Rattle.scad_words.specs.declared.settings.Settings.{Settings}
 use Rattle.slice_work.specs.declared.want.Want.TheVariants.{Outlines, Plan}
 use Rattle.slice_work.specs.Part.{Part}
-use Rattle.scad_slice.specs.declared.written.Written.{Written}
+use Rattle.scad_slice.specs.declared.summary.Written.{Written}
 use Rattle.scad_slice.specs.Script.{done_line, plan_line, slice_end, plan_end, IsWritten}
 
 pub slice_ends : (s : Settings) (part : Part) (count : ℕ) (w : Written) (line : List ℕ)

@@ -18,8 +18,8 @@ use Rattle.slice_work.specs.declared.summary.Summary.{Summary}
 use Rattle.slice_work.specs.Part.{Part}
 use Rattle.slice_work.specs.Script.{rates_of, layer_steps}
 use Rattle.slice_work.specs.Sums.{step_size, size_below, IsSummary}
-use Rattle.scad_slice.specs.declared.written.Sizes.{Sizes}
-use Rattle.scad_slice.specs.declared.written.Written.{Written}
+use Rattle.scad_slice.specs.declared.summary.Sizes.{Sizes}
+use Rattle.scad_slice.specs.declared.summary.Written.{Written}
 use Rattle.scad_slice.specs.Script.{heads, tails, file_size, HaveSizes, IsWritten}
 use Rattle.scad_slice.proofs.Texts.{text_append}
 

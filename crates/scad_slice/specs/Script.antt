@@ -16,8 +16,8 @@ use Rattle.slice_work.specs.declared.want.Want.TheVariants.{Outlines, Plan}
 use Rattle.slice_work.specs.Part.{Part, layer_limit}
 use Rattle.slice_work.specs.Script.{rates_of, layer_steps, volume_below}
 use Rattle.slice_work.specs.Sums.{loop_count, moves_below, IsSummary}
-use Rattle.scad_slice.specs.declared.written.Sizes.{Sizes}
-use Rattle.scad_slice.specs.declared.written.Written.{Written}
+use Rattle.scad_slice.specs.declared.summary.Sizes.{Sizes}
+use Rattle.scad_slice.specs.declared.summary.Written.{Written}
 use Rattle.scad_slice.specs.Budgets.{layer_count, layers_passed}
 
 -- ---- the files

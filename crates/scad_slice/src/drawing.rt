@@ -13,8 +13,8 @@ ghost use Rattle.scad_slice.specs.Parts.{IsPart};
 ghost use Rattle.scad_slice.specs.Script.{files, IsWritten};
 
 use crate::pieces::{send_heads, send_tails};
+use crate::summary::{Sizes, Written};
 use crate::tree_work::TreeWork;
-use crate::written::{Sizes, Written};
 use scad_io::{Desk, Gate};
 use scad_script::{Refusal, Stop};
 use scad_tree::Tree;

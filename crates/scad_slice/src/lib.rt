@@ -13,12 +13,12 @@ mod lines;
 mod pieces;
 mod planning;
 mod slicing;
+mod summary;
 mod tree_work;
-mod written;
 
 pub use counting::{LAYER_LIMIT, count_layers};
 pub use drawing::draw;
 pub use planning::plan;
 pub use slice_work::{Summary, Want};
 pub use slicing::slice;
-pub use written::Written;
+pub use summary::Written;

@@ -10,7 +10,7 @@ ghost use Rattle.gcode_text.specs.Gcode as program;
 ghost use Rattle.slice_work.specs.Script.{AreThere};
 ghost use Rattle.scad_slice.specs.Script.{heads, tails, HaveSizes};
 
-use crate::written::Sizes;
+use crate::summary::Sizes;
 use scad_io::{Desk, Out};
 use scad_script::{Stop, send};
 use scad_words::Settings;

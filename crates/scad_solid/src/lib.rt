@@ -4,7 +4,7 @@
 //! their order, and each refusal of faces exactly.
 #![tactic(auto)]
 
-mod closed;
+mod closedness;
 mod face;
 mod fan;
 mod fans;

@@ -4,7 +4,7 @@ ghost use Rattle.scad_base.specs.Memory.{UnlessMemory};
 ghost use Rattle.scad_solid.specs.Height.{highest_of, higher_of};
 ghost use Rattle.scad_solid.specs.Solid.{IsSolid, solid_of, is_memory};
 
-use crate::closed::is_closed;
+use crate::closedness::is_closed;
 use crate::face::Face;
 use crate::fans::{fans, first_bad};
 use crate::fault::SolidFault;

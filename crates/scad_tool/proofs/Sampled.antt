@@ -13,7 +13,7 @@ use Rattle.slice_work.specs.declared.want.Want.TheVariants.{Plan as IsPlan}
 use Rattle.slice_work.specs.Part.{Part, layer_limit}
 use Rattle.slice_work.specs.Sums.{loop_count, moves_below}
 use Rattle.scad_io.specs.declared.desk.Out.TheVariants.{Cli, Gcode}
-use Rattle.scad_slice.specs.declared.written.Written.{Written}
+use Rattle.scad_slice.specs.declared.summary.Written.{Written}
 use Rattle.scad_slice.specs.Budgets.{layer_count, layers_passed}
 use Rattle.scad_slice.specs.Script.{files, file_size, amount_below, IsWritten}
 use Rattle.scad_tool.specs.Told.{sample_line, sample_end, unwritten, sample_script}

@@ -1,12 +1,9 @@
 -- The headline, clause `headline` of `run`:
 --
 --   For every source and settings that `plan` accepts, and any number of workers, both files' bytes are one function of
--- source
---   and settings; at every layer a cell centre more than one micrometre from each section edge has nonzero winding in
--- the
---   written outlines exactly when the source's tree contains it; each extruding move stays inside them by the
--- clearance; every
---   refusal has its named cause.
+--   source and settings; at every layer a cell centre more than one micrometre from each section edge has nonzero
+--   winding in the written outlines exactly when the source's tree contains it; each extruding move stays inside them
+--   by the clearance; every refusal has its named cause.
 --
 -- What both files are is `IsPrintOf` of print_laws.
 use Rattle.std.specs.Prelude.{◌≡◌, ◌++◌, ◌≤◌, List, ℕ, Option, Some, length}

@@ -5,9 +5,9 @@
 #![tactic(auto)]
 
 mod command_set;
-mod given;
 mod job;
 mod number;
+mod operands;
 mod rows;
 mod settings;
 mod words;

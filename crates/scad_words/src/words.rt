@@ -8,8 +8,8 @@ ghost use Rattle.scad_words.specs.CommandSet.{command_set};
 ghost use Rattle.scad_words.specs.Job.{files_of, named, differ, job_given, job_from, job_of};
 
 use crate::command_set::command_set;
-use crate::given::{command_of, settings, workers};
 use crate::job::{Command, Job, WordFault};
+use crate::operands::{command_of, settings, workers};
 use clap::ArgMatches;
 use clap::error::ErrorKind;
 use scad_fault::FileName;

@@ -10,7 +10,7 @@ ghost use Rattle.slice_bool.specs.Near.{IsNear};
 ghost use Rattle.slice_bool.specs.Parts.{AreOnLevel, Extends};
 
 use crate::around::holds_by;
-use crate::between::push_between;
+use crate::border_piece::push_between;
 use crate::covering::covering_edge;
 use crate::near::{Near, edges_near};
 use crate::stop::Stop;

@@ -6,8 +6,8 @@
 #![tactic(auto, using(scad_geom::proofs::Casts::casts))]
 
 mod around;
-mod between;
 mod border;
+mod border_piece;
 mod covering;
 mod fault;
 mod flat;

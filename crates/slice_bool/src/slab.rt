@@ -9,7 +9,7 @@ ghost use Rattle.slice_bool.specs.Pieces.{slab_pieces};
 ghost use Rattle.slice_bool.specs.Parts.{AreBetweenLevels, Extends};
 ghost use Rattle.slice_bool.specs.Beside.{AreMembers, AreLeftValues, RisesFirst, piece_of};
 
-use crate::between::push_between;
+use crate::border_piece::push_between;
 use crate::stop::spot_on;
 use crate::tally::{add_bundle, is_held, no_turns};
 use scad_geom::{LeafEdge, Level, Shape};

@@ -12,7 +12,7 @@ use Rattle.std.proofs.lemmas.Bool.{cases_lt}
 use Rattle.scad_geom.specs.declared.point.Pt.{Pt}
 use Rattle.scad_geom.specs.declared.point.Edge.{Edge}
 use Rattle.scad_geom.proofs.Balanced.{same_place, same_place-is, same_place-itself}
-use Rattle.slice_loops.specs.declared.remaining.Remaining.{Remaining}
+use Rattle.slice_loops.specs.declared.remainder.Remaining.{Remaining}
 use Rattle.slice_loops.specs.Order.{point_cmp, is_less, starts_before}
 use Rattle.slice_loops.specs.Drawing.{TakesLeastFrom}
 use Rattle.slice_loops.specs.Ascending.{IsAscending, NoneStarts}

@@ -7,7 +7,7 @@ use Rattle.scad_geom.specs.declared.point.Pt.{Pt}
 use Rattle.scad_geom.specs.declared.point.Edge.{Edge}
 use Rattle.scad_geom.specs.Segment.{segments}
 use Rattle.scad_geom.specs.Balance.{IsBalanced}
-use Rattle.slice_loops.specs.declared.remaining.Remaining.{Remaining}
+use Rattle.slice_loops.specs.declared.remainder.Remaining.{Remaining}
 use Rattle.slice_loops.specs.Remaining.{remaining, taken_at, IsInOrder, AllTakenTo, StayTaken}
 use Rattle.slice_loops.proofs.Closed.{balanced_permuted}
 use Rattle.slice_loops.proofs.Taken.{all_taken}

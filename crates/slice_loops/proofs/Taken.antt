@@ -6,7 +6,7 @@ use Rattle.std.proofs.lemmas.List.Elements.{All-nil, All-cons}
 use Rattle.std.proofs.lemmas.List.Sorted.{sorted_far, IsPermutation-refl, IsPermutation-trans, IsPermutation-cons, IsPermutation-middle, length_permutation}
 use Rattle.std.proofs.lemmas.Bool.{cases_lt}
 use Rattle.scad_geom.specs.declared.point.Edge.{Edge}
-use Rattle.slice_loops.specs.declared.remaining.Remaining.{Remaining}
+use Rattle.slice_loops.specs.declared.remainder.Remaining.{Remaining}
 use Rattle.slice_loops.specs.Order.{is_less}
 use Rattle.slice_loops.specs.Drawing.{TakesLeast}
 use Rattle.slice_loops.specs.Ascending.{IsAscending}

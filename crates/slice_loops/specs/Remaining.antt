@@ -1,7 +1,7 @@
 -- Edges in ascending order, of which some are taken: those that remain.
 use Rattle.std.specs.Prelude.{◌≡◌, Bool, true, false, cond, List, [], ◌∷◌, ℕ, ◌<◌, ◌≤◌, length, slice_index_or, slice_set}
 use Rattle.scad_geom.specs.declared.point.Edge.{Edge}
-use Rattle.slice_loops.specs.declared.remaining.Remaining.{Remaining}
+use Rattle.slice_loops.specs.declared.remainder.Remaining.{Remaining}
 use Rattle.slice_loops.specs.Ascending.{IsAscending}
 
 -- the edges of a list whose marks don't say that they are taken

@@ -5,7 +5,7 @@ ghost use Rattle.scad_geom.specs.Balance.{IsBalanced};
 ghost use Rattle.slice_loops.specs.Drawing.{IsLoop};
 ghost use Rattle.slice_loops.specs.Remaining.{remaining, IsInOrder, IsUntaken, AllTakenTo, StayTaken};
 
-use crate::remaining::Remaining;
+use crate::remainder::Remaining;
 use scad_geom::Pt;
 use std::alloc::{AllocError, Global};
 

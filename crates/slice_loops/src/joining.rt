@@ -7,7 +7,7 @@ ghost use Rattle.slice_loops.specs.Remaining.{remaining, IsInOrder, IsUntaken, A
 
 use crate::corners::corners;
 use crate::drawing::draw;
-use crate::remaining::Remaining;
+use crate::remainder::Remaining;
 use scad_geom::{Edge, Loop};
 use std::alloc::{AllocError, Global};
 

@@ -4,11 +4,11 @@
 //! nothing open, that the sides of the drawn loops are the edges in another order, and that the outlines wind as the edges do.
 #![tactic(auto, using(scad_geom::proofs::Casts::casts))]
 
-mod ascending;
 mod corners;
 mod drawing;
+mod edge_order;
 mod joining;
 pub mod laws;
-mod remaining;
+mod remainder;
 
 pub use joining::join;

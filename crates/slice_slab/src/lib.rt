@@ -4,13 +4,13 @@
 //! one, with those that coincide in one bundle.
 #![tactic(auto, using(scad_geom::proofs::Casts::casts))]
 
-mod between;
 mod bundle;
 mod collect;
 mod group;
 pub mod laws;
 mod order;
 mod passage;
+mod slab;
 
-pub use between::slab;
 pub use bundle::Bundle;
+pub use slab::slab;

@@ -3,8 +3,6 @@
 #![tactic(auto, using(scad_geom::proofs::Casts::casts))]
 
 #[cfg(test)]
-mod carved;
-#[cfg(test)]
 mod extrusions;
 #[cfg(test)]
 mod matrices;
@@ -16,6 +14,8 @@ mod sections;
 mod shapes;
 #[cfg(test)]
 mod surfaces;
+#[cfg(test)]
+mod tetrahedra;
 #[cfg(test)]
 mod tetrahedron;
 #[cfg(test)]

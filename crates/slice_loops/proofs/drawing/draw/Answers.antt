@@ -2,7 +2,7 @@
 use Rattle.std.proofs.Common.{List, [], ◌∷◌, ◌++◌, sym, ap, ◌∙◌, subst}
 use Rattle.scad_geom.specs.declared.point.Pt.{Pt}
 use Rattle.scad_geom.specs.declared.point.Edge.{Edge}
-use Rattle.slice_loops.specs.declared.remaining.Remaining.{Remaining}
+use Rattle.slice_loops.specs.declared.remainder.Remaining.{Remaining}
 use Rattle.slice_loops.specs.Drawing.{TakesLeast}
 use Rattle.slice_loops.specs.Remaining.{remaining}
 use Rattle.slice_loops.proofs.Points.{differ_by, equal_by}

@@ -1,0 +1,123 @@
+//! Variables whose values are read where they stand, without a copy: `v[i]`, `v.x`, `len(v)`.
+
+ghost use Rattle.std.specs.Prelude.{◌≡◌, IfOk, IfErr, IfSome, OnOk, Ok, Some, option_map};
+ghost use Rattle.scad_ast.specs.Tree.{name};
+ghost use Rattle.scad_ast.specs.View.{arguments};
+ghost use Rattle.scad_builtin.specs.Builtin.{builtin};
+ghost use Rattle.scad_builtin.specs.Answer.{Refuses};
+ghost use Rattle.scad_value.specs.Datum.{element, no_elements};
+ghost use Rattle.scad_value.specs.Index.{indexed};
+ghost use Rattle.scad_value.specs.View.{datum_of};
+ghost use Rattle.scad_expr.specs.Answers.{Does};
+ghost use Rattle.scad_expr.specs.Machine.{held, env_in, along_in, state_of};
+ghost use Rattle.scad_expr.specs.Meaning.{meaning, member_of, value};
+ghost use Rattle.scad_expr.specs.Portions.{called_of, lone};
+ghost use Rattle.scad_expr.specs.Variables.{or_undef, variable};
+
+use crate::fault::EvalFault;
+use crate::machine::Machine;
+use crate::operations::{member, refusal};
+use scad_ast::{Arg, Node};
+use scad_builtin::{BuiltinFault, call};
+use scad_fault::{Budget, BudgetKind, Place};
+use scad_value::{Value, index};
+use std::alloc::{AllocError, Global};
+
+/// An index of a variable's value.
+#[tactic(auto, using(crate::proofs::InPlace::undefined))]
+pub(crate) fn index_in(alloc: Global, found: Option<&Value>, i: &Value) -> Result<Value, AllocError>
+    ensures { IfOk result (λ v. datum_of v
+        ≡ indexed (or_undef (option_map (λ w. datum_of w.now) found.entry)) (datum_of i.now)) }
+{
+    match found {
+        Some(a) => index(alloc, a, i),
+        None => Ok(Value::Undef),
+    }
+}
+
+/// A member of a variable's value.
+#[tactic(auto, using(crate::proofs::InPlace::undefined))]
+pub(crate) fn member_in(
+    alloc: Global,
+    found: Option<&Value>,
+    word: &[u8],
+) -> Result<Value, AllocError>
+    ensures { IfOk result (λ v. datum_of v
+        ≡ member_of word.now (or_undef (option_map (λ w. datum_of w.now) found.entry))) }
+{
+    match found {
+        Some(a) => member(alloc, a, word),
+        None => Ok(Value::Undef),
+    }
+}
+
+impl<'p> Machine<'p> {
+    /// The step of a name that is evaluated, with so many levels of depth left.
+    #[tactic(auto, using(crate::proofs::InPlace::names), unfolding(crate::specs::State::over))]
+    pub(crate) fn pass_name(&mut self, at: Place, word: &[u8], depth: u32) -> Result<(), EvalFault>
+        ensures does { Does (λ _. variable word.now (env_in (held self.old)) (along_in (held self.old)))
+            (value depth (env_in (held self.old)) (along_in (held self.old)) (name at word.now)
+            (state_of self.old)) result (state_of self.new) }
+        ensures kept { OnOk result (held self.new ≡ held self.old) }
+    {
+        let _bytes = word.len();
+        if depth == 0 {
+            return Err(EvalFault::Over(Budget::placed(BudgetKind::Depth, at)));
+        }
+        self.step(at)
+    }
+
+    /// What a function of the language gives of a variable.
+    pub(crate) fn of_variable(
+        &self,
+        alloc: Global,
+        word: &[u8],
+        of: &[u8],
+    ) -> Result<Value, BuiltinFault>
+        ensures ok { IfOk result (λ v. builtin word.now (element (variable of.now
+            (env_in (held self.now)) (along_in (held self.now))) no_elements) ≡ Ok (datum_of v)) }
+        ensures err { IfErr result (Refuses (builtin word.now (element (variable of.now
+            (env_in (held self.now)) (along_in (held self.now))) no_elements))) }
+    {
+        match self.seek(of) {
+            Some(value) => call(alloc, word, std::slice::from_ref(value)),
+            None => call(alloc, word, &[Value::Undef]),
+        }
+    }
+
+    /// A function of the language of one argument, a name that stands at a place.
+    #[tactic(auto, using(crate::proofs::InPlace::refused), unfolding(crate::specs::Portions::called_of, crate::specs::Meaning::called_builtin))]
+    pub(crate) fn builtin_of(
+        &mut self,
+        alloc: Global,
+        at: Place,
+        word: &[u8],
+        place: Place,
+        of: &[u8],
+        depth: u32,
+    ) -> Result<Value, EvalFault>
+        ensures does { Does datum_of (called_of (meaning depth) at word.now (env_in (held self.old))
+            (along_in (held self.old)) (name place of.now) (state_of self.old)) result (state_of self.new) }
+        ensures kept { OnOk result (held self.new ≡ held self.old) }
+    {
+        self.pass_name(place, of, depth)?;
+        match self.of_variable(alloc, word, of) {
+            Ok(value) => self.make(at, value),
+            Err(e) => Err(refusal(alloc, at, word, e)),
+        }
+    }
+}
+
+/// The argument of a call, where it has one and that is a name.
+#[tactic(auto, using(crate::proofs::InPlace::alone))]
+pub(crate) fn lone_name<'a>(args: &'a [Arg]) -> Option<(Place, &'a [u8])>
+    ensures { IfSome result (λ r. lone (arguments args.now) ≡ Some (name r.0 r.1.now)) }
+{
+    let [arg] = args else {
+        return None;
+    };
+    match &arg.value.node {
+        Node::Name(word) => Some((arg.value.at, word.as_slice())),
+        _ => None,
+    }
+}

@@ -1,0 +1,37 @@
+-- A node's value from that of its members, which code sees as a slice.
+use Rattle.std.proofs.Common.{◌≡◌, ℕ, slice_index_or, false, true, Bool, not, ◌&&◌, sym, ap, ◌∙◌}
+use Rattle.scad_geom.specs.Shape.{shape_holds, any_holds, all_holds, has_items}
+use Rattle.scad_geom.proofs.Shapes.{holds_union, holds_inter, holds_diff}
+use Rattle.scad_geom.proofs.membership.+holds.Goals as goal
+
+pub holds-returns-in-Union : goal.holds-returns-in-Union
+holds-returns-in-Union t c =
+    let inside : ℕ → Bool = λ leaf. slice_index_or c.args.inside.now leaf false in
+    c.any_holds.ensures ∙ ap (any_holds inside) c.deref.ensures.value ∙ sym (holds_union inside c.in-Union.members) ∙ ap
+    (shape_holds inside) (sym c.in-Union.is)
+
+pub holds-returns-then-has_any : goal.holds-returns-then-has_any
+holds-returns-then-has_any t c =
+    let inside : ℕ → Bool = λ leaf. slice_index_or c.args.inside.now leaf false in
+    let some : has_items c.in-Inter.members.items ≡ true = ap has_items (sym c.deref-in-Inter.ensures.value) ∙ sym
+    c.has_any.ensures ∙ c.if-has_any.true in
+    c.all_hold.ensures ∙ ap (all_holds inside) c.deref-then-has_any.ensures.value
+    ∙ sym (ap (λ (b : Bool). b && all_holds inside c.in-Inter.members.items) some) ∙ sym
+    (holds_inter inside c.in-Inter.members) ∙ ap (shape_holds inside) (sym c.in-Inter.is)
+
+pub holds-returns-else-has_any : goal.holds-returns-else-has_any
+holds-returns-else-has_any t c =
+    let inside : ℕ → Bool = λ leaf. slice_index_or c.args.inside.now leaf false in
+    let none : has_items c.in-Inter.members.items ≡ false = ap has_items (sym c.deref-in-Inter.ensures.value) ∙ sym
+    c.has_any.ensures ∙ c.if-has_any.false in
+    c.if-has_any.false ∙ sym (ap (λ (b : Bool). b && all_holds inside c.in-Inter.members.items) none) ∙ sym
+    (holds_inter inside c.in-Inter.members) ∙ ap (shape_holds inside) (sym c.in-Inter.is)
+
+pub holds-returns-then-holds : goal.holds-returns-then-holds
+holds-returns-then-holds t c =
+    let inside : ℕ → Bool = λ leaf. slice_index_or c.args.inside.now leaf false in
+    let first : shape_holds inside c.in-Diff.first.value ≡ true = ap (shape_holds inside) (sym c.deref-in-Diff.ensures)
+    ∙ sym c.holds.ensures ∙ c.if-holds.true in
+    ap not (c.any_holds-then-holds.ensures ∙ ap (any_holds inside) c.deref-then-holds.ensures.value)
+    ∙ sym (ap (λ (b : Bool). b && not (any_holds inside c.in-Diff.rest.items)) first) ∙ sym
+    (holds_diff inside c.in-Diff.first c.in-Diff.rest) ∙ ap (shape_holds inside) (sym c.in-Diff.is)

@@ -1,6 +1,0 @@
-use Rattle.std.proofs.Common.{◌≡◌, map, ◌++◌}
-use Rattle.scad_scope.specs.Noted.{as_binding}
-use Rattle.scad_scope.proofs.assigned.listed.Given as goal
-
-abbrev pub invariant-names : goal.invariant-names
-invariant-names l = l.list.items ++ map as_binding l.name-iterator ≡ map as_binding l.last.entries
