@@ -6,7 +6,7 @@ use Rattle.slice_work.proofs.Layers.{round_played}
 use Rattle.slice_work.proofs.Rounds.{sums_as, steps_as}
 use Rattle.slice_work.proofs.Stopping.{stops_work}
 use Rattle.slice_work.proofs.Written.{still_there}
-use Rattle.slice_work.proofs.rounds.work.Goals as goal
+use Rattle.slice_work.proofs.part.work.Goals as goal
 
 pub returns-in_err-round-clause-carries : goal.returns-in_err-round-clause-carries
 returns-in_err-round-clause-carries g c part draws whole rest start left =

@@ -7,7 +7,7 @@ use Rattle.slice_work.specs.Part.{Part}
 use Rattle.slice_work.specs.Shares.{AreDrawnOf}
 use Rattle.slice_work.specs.Script.{AreThere, layer_steps}
 use Rattle.slice_work.specs.Sums.{AreSums}
-use Rattle.slice_work.proofs.rounds.send_round.Given as goal
+use Rattle.slice_work.proofs.part.send_round.Given as goal
 
 abbrev pub invariant-layers : goal.invariant-layers
 invariant-layers g l = record {

@@ -6,7 +6,7 @@ use Rattle.slice_work.proofs.Counting.{next_counted}
 use Rattle.slice_work.proofs.Layers.{next_written, over_next}
 use Rattle.slice_work.proofs.Stopping.{stops_work}
 use Rattle.slice_work.proofs.Written.{still_there}
-use Rattle.slice_work.proofs.rounds.send_round.Goals as goal
+use Rattle.slice_work.proofs.part.send_round.Goals as goal
 
 pub returns-in_err-sums-clause-carries : goal.returns-in_err-sums-clause-carries
 returns-in_err-sums-clause-carries g c part drawn sums whole rest start left =

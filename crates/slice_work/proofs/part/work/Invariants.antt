@@ -6,7 +6,7 @@ use Rattle.scad_script.specs.Run.{Sound, CreatesNone}
 use Rattle.slice_work.specs.Part.{Part}
 use Rattle.slice_work.specs.Script.{AreThere, rates_of, layer_steps}
 use Rattle.slice_work.specs.Sums.{AreSums}
-use Rattle.slice_work.proofs.rounds.work.Given as goal
+use Rattle.slice_work.proofs.part.work.Given as goal
 
 abbrev pub invariant-rounds : goal.invariant-rounds
 invariant-rounds g l = record {
