@@ -7,6 +7,6 @@
 mod edges;
 pub mod laws;
 mod shape;
-mod walls;
+mod wall_loops;
 
-pub use walls::walls;
+pub use wall_loops::walls;

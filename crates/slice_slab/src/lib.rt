@@ -10,7 +10,7 @@ mod group;
 pub mod laws;
 mod order;
 mod passage;
-mod slab;
+mod slab_bundles;
 
 pub use bundle::Bundle;
-pub use slab::slab;
+pub use slab_bundles::slab;

@@ -12,7 +12,7 @@ use Rattle.plan_sides.proofs.Closed.{sides_balanced}
 use Rattle.plan_walls.specs.Walls.{AreWallsAlong}
 use Rattle.plan_walls.proofs.Kept.{walls_keep_clear}
 use Rattle.plan_sides.proofs.Within.{outlines_within}
-use Rattle.plan_walls.proofs.walls.walls.Goals as goal
+use Rattle.plan_walls.proofs.wall_loops.walls.Goals as goal
 
 -- the call saw the sides of the outlines
 sides_are : (c : goal.After-deref) → c.deref.result.now ≡ flat_map sides c.args.outlines.now

@@ -7,7 +7,7 @@ use Rattle.scad_geom.specs.Leaves.{AreLeavesBalanced}
 use Rattle.scad_geom.specs.Within.{IsEdgeWithin}
 use Rattle.plan_walls.proofs.Leaves.{leaves_balanced}
 use Rattle.plan_walls.proofs.Limits.{edges_within}
-use Rattle.plan_walls.proofs.walls.walls_along.Goals as goal
+use Rattle.plan_walls.proofs.wall_loops.walls_along.Goals as goal
 
 pub outlines-requires-clause-within : goal.outlines-requires-clause-within
 outlines-requires-clause-within c =

@@ -9,7 +9,7 @@ use Rattle.slice_slab.specs.declared.passage.Passage.{Passage}
 use Rattle.slice_slab.specs.Bundles.{AreBundles, AreRanked}
 use Rattle.slice_slab.specs.Passages.{IsPassageOf, numbers_of, bundles_of}
 use Rattle.slice_slab.proofs.Bundling.{ranked_bundles, concat-bundles}
-use Rattle.slice_slab.proofs.slab.slab.Goals as goal
+use Rattle.slice_slab.proofs.slab_bundles.slab.Goals as goal
 
 pub returns : goal.returns
 returns c =

@@ -5,7 +5,7 @@ use Rattle.std.proofs.lemmas.List.Sorted.{answers_always}
 use Rattle.slice_slab.specs.Passages.{comes_first}
 use Rattle.slice_slab.proofs.Ranking.{passage_order}
 use Rattle.slice_slab.proofs.Bundling.{sorted_from}
-use Rattle.slice_slab.proofs.slab.sort.Goals as goal
+use Rattle.slice_slab.proofs.slab_bundles.sort.Goals as goal
 
 pub returns-clause-sorted : goal.returns-clause-sorted
 returns-clause-sorted c = on_ok_weaker c.sort_by.result
