@@ -20,7 +20,7 @@ use Rattle.plan_layer.specs.Moves.{all_moves, move_limit}
 use Rattle.plan_layer.specs.Walls.{distance}
 use Rattle.plan_layer.specs.Refusal.{fault_of, IsWallAccepted, AreAccepted, IsWallRefused, IsWallsRefusal, IsManyMoves}
 use Rattle.plan_layer.specs.Refusal.{IsRefusal}
-use Rattle.plan_layer.specs.There.{IsAccepted}
+use Rattle.plan_layer.specs.Refusal.{IsAccepted}
 use Rattle.plan_layer.specs.One.{RefusalsAreOne, AcceptedIsNotRefused}
 use Rattle.plan_layer.proofs.OnePlan.{plans_are_one}
 

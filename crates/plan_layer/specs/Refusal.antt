@@ -1,5 +1,5 @@
--- When a plan is refused.
-use Rattle.std.specs.Prelude.{◌≡◌, ◌⊎◌, ℕ, ◌<◌, ◌≤◌, List, length}
+-- When a plan is accepted, and when it is refused.
+use Rattle.std.specs.Prelude.{◌≡◌, ◌≢◌, ◌⊎◌, ℕ, ◌<◌, ◌≤◌, List, length}
 use Rattle.scad_geom.specs.declared.point.Pt.{Pt}
 use Rattle.slice_events.specs.Limits.{crossing_limit}
 use Rattle.slice_events.specs.Levels.{crossings}
@@ -63,3 +63,14 @@ pub record HasManyMoves (outlines : List (List Pt)) (layer : ℕ) (s : Settings)
 -- by the first wall that has a fault, then by the number of moves
 abbrev pub IsRefusal : List (List Pt) → ℕ → Settings → PlanFault → Type 0
 IsRefusal outlines layer s fault = IsWallsRefusal outlines s fault ⊎ HasManyMoves outlines layer s fault
+
+-- paths are a plan that passes no limit
+pub record IsAccepted (outlines : List (List Pt)) (layer : ℕ) (s : Settings) (paths : List (List Pt)) : Type 0 where
+  pub plan : IsPlan outlines layer s paths
+  pub walls : AreAccepted outlines s.line_width s.walls
+  pub moves : length (all_moves paths) ≤ move_limit
+
+-- a layer is refused by a fault that isn't want of memory
+pub record IsRefused (outlines : List (List Pt)) (layer : ℕ) (s : Settings) (fault : PlanFault) : Type 0 where
+  pub known : fault ≢ Memory
+  pub refusal : IsRefusal outlines layer s fault

@@ -9,7 +9,8 @@ use Rattle.scad_geom.specs.declared.point.Pt.{Pt}
 use Rattle.scad_geom.specs.declared.point3.Pt3.{Pt3}
 use Rattle.scad_words.specs.declared.settings.Settings.{Settings}
 use Rattle.scad_words.specs.Settings.{AreInRange}
-use Rattle.plan_layer.specs.Kept.{KeepsClear, PlansKeepClear}
+use Rattle.plan_layer.specs.Kept.{PlansKeepClear}
+use Rattle.plan_walls.specs.Kept.{KeepsClear}
 use Rattle.plan_layer.specs.Moves.{moves_from, moves, all_moves}
 use Rattle.gcode_text.specs.declared.machine.Move.{Move}
 use Rattle.gcode_text.specs.Amount.{move_volume, path_volume, paths_volume, filament}
@@ -18,7 +19,7 @@ use Rattle.gcode_text.specs.Moves.{at_height, travel, printing_moves, path_moves
 use Rattle.gcode_text.specs.Moves.{behind_paths, raised, surface, layer_moves, layers_moves}
 use Rattle.print_laws.specs.Planned.{IsPlanned}
 use Rattle.slice_work.specs.Part.{Layout}
-use Rattle.slice_work.specs.Script.{rates_of}
+use Rattle.slice_work.specs.Rates.{rates_of}
 use Rattle.print_laws.specs.Program.{outlines_of, paths_of, moves_of}
 use Rattle.print_laws.specs.Inside.{StaysInside}
 use Rattle.print_laws.specs.Laws.{MovesStayInside}

@@ -20,11 +20,11 @@ use Rattle.slice_layer.specs.Outlines.{AreLayerOutlines}
 use Rattle.slice_layer.proofs.Within.{outlines_are_within}
 use Rattle.plan_walls.specs.Walls.{of_leaf, rings_from}
 use Rattle.plan_layer.specs.Walls.{distance}
-use Rattle.plan_layer.specs.There.{IsAccepted}
+use Rattle.plan_layer.specs.Refusal.{IsAccepted}
 use Rattle.slice_work.specs.declared.want.Want.TheVariants.{Plan as WithPlan}
 use Rattle.slice_work.specs.Part.{Layout}
 use Rattle.scad_slice.specs.Budgets.{layer_budget}
-use Rattle.scad_slice.specs.Parts.{IsLayerUnless, IsLayer}
+use Rattle.scad_slice.specs.Layer.{IsLayerUnless, IsLayer}
 use Rattle.cli_read.specs.Form.{IsNear, IsShape}
 use Rattle.print_laws.specs.Planned.{IsPlanned}
 

@@ -16,7 +16,7 @@ use Rattle.gcode_text.specs.Moves.{IsShortPoint, AreShortPaths}
 use Rattle.print_laws.specs.Planned.{IsPlanned}
 use Rattle.print_laws.specs.Program.{paths_of}
 use Rattle.slice_work.specs.Part.{Layout}
-use Rattle.slice_work.specs.Script.{rates_of}
+use Rattle.slice_work.specs.Rates.{rates_of}
 use Rattle.print_laws.specs.Laws.{PlansArePrintable}
 use Rattle.print_laws.proofs.Numbered.{AreFrom, from_first}
 use Rattle.print_laws.proofs.Points.{plan_within}

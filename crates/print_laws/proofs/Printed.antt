@@ -10,7 +10,7 @@ use Rattle.plan_layer.specs.Moves.{all_moves}
 use Rattle.plan_layer.specs.Lengths.{PlansHaveLengths}
 use Rattle.gcode_text.specs.Moves.{ProgramsMakeTheirMoves}
 use Rattle.slice_work.specs.Part.{Layout}
-use Rattle.slice_work.specs.Script.{rates_of}
+use Rattle.slice_work.specs.Rates.{rates_of}
 use Rattle.print_laws.specs.Planned.{IsPlanned}
 use Rattle.print_laws.specs.Program.{paths_of, moves_of}
 use Rattle.print_laws.specs.Laws.{PlansArePrintable, SidesAreExtruded, MovesStayInside, PlansArePrinted}

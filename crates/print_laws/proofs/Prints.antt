@@ -18,7 +18,7 @@ use Rattle.cli_read.specs.Form.{AreAbove, IsShape}
 use Rattle.cli_read.specs.Laws.{IsReadable, WrittenTextsSayTheirLayers}
 use Rattle.slice_work.specs.declared.want.Want.TheVariants.{Plan as WithPlan}
 use Rattle.slice_work.specs.Part.{Layout}
-use Rattle.scad_slice.specs.Parts.{IsLayer}
+use Rattle.scad_slice.specs.Layer.{IsLayer}
 use Rattle.scad_slice.specs.Membership.{IsLayerOf, HoldTree}
 use Rattle.scad_slice.proofs.OneLayer.{layer_is_one}
 use Rattle.print_laws.specs.Planned.{IsPlanned, ArePlanned}

@@ -3,7 +3,7 @@ use Rattle.std.specs.Prelude.{◌≡◌, ℕ, ◌+◌, ◌*◌, ◌/◌, true, L
 use Rattle.scad_geom.specs.declared.point.Pt.{Pt}
 use Rattle.scad_geom.specs.declared.point.Edge.{Edge}
 use Rattle.scad_words.specs.declared.settings.Settings.{Settings}
-use Rattle.plan_layer.specs.Kept.{KeepsClear}
+use Rattle.plan_walls.specs.Kept.{KeepsClear}
 use Rattle.gcode_text.specs.declared.machine.Move.{Move}
 
 -- a move as it is seen from above

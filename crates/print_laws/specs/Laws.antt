@@ -11,7 +11,7 @@ use Rattle.cli_text.specs.Cli.{cli as text_of_layers}
 use Rattle.gcode_text.specs.declared.rates.Rates.{Rates}
 use Rattle.gcode_text.specs.Moves.{program_moves, IsWritable}
 use Rattle.slice_work.specs.Part.{Layout}
-use Rattle.slice_work.specs.Script.{rates_of}
+use Rattle.slice_work.specs.Rates.{rates_of}
 use Rattle.print_laws.specs.Planned.{ArePlanned}
 use Rattle.print_laws.specs.Program.{outlines_of, paths_of, program_of, moves_of}
 use Rattle.print_laws.specs.Extruded.{extruding, sides_from, moves_along}

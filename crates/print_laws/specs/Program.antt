@@ -6,7 +6,7 @@ use Rattle.gcode_text.specs.declared.machine.Move.{Move}
 use Rattle.gcode_text.specs.Gcode.{gcode}
 use Rattle.gcode_text.specs.Moves.{program_moves}
 use Rattle.slice_work.specs.Part.{Layout}
-use Rattle.slice_work.specs.Script.{rates_of}
+use Rattle.slice_work.specs.Rates.{rates_of}
 
 -- the outlines of layers, and their paths, layer by layer
 abbrev pub outlines_of : List Layout → List (List (List Pt))

@@ -21,7 +21,8 @@ use Rattle.slice_work.specs.declared.want.Want.{Want}
 use Rattle.slice_work.specs.declared.want.Want.TheVariants.{Outlines as IsOutlines, Plan as IsPlan}
 use Rattle.slice_work.specs.Part.{Part}
 use Rattle.scad_slice.specs.Budgets.{layer_count}
-use Rattle.scad_slice.specs.Parts.{IsLayer, IsPart}
+use Rattle.scad_slice.specs.Parts.{IsPart}
+use Rattle.scad_slice.specs.Layer.{IsLayer}
 use Rattle.scad_tool.specs.Words.{given_by}
 use Rattle.scad_tool.specs.Answer.{Parts, Inputs, follows, source_in, job_script, script_of, IsRead, ArePartsOfTree, AreDrawn, AreParts}
 use Rattle.scad_tool.specs.Causes.{HasManyLayers, PassesAtLayer, PassesDrawing, IsCause, HasCause}

@@ -22,11 +22,12 @@ use Rattle.scad_tree.specs.Solids.{AreSolids}
 use Rattle.slice_work.specs.declared.want.Want.{Want}
 use Rattle.slice_work.specs.declared.want.Want.TheVariants.{Outlines as IsOutlines, Plan as IsPlan}
 use Rattle.slice_work.specs.Part.{Part}
-use Rattle.slice_work.specs.Script.{rates_of}
+use Rattle.slice_work.specs.Rates.{rates_of}
 use Rattle.cli_text.specs.Cli.{Layer, head, layer_text}
 use Rattle.gcode_text.specs.Gcode.{head as program_head, layers_text}
 use Rattle.scad_slice.specs.Budgets.{layer_count}
-use Rattle.scad_slice.specs.Parts.{IsLayer, IsPart, layers_of}
+use Rattle.scad_slice.specs.Parts.{IsPart, layers_of}
+use Rattle.scad_slice.specs.Layer.{IsLayer}
 use Rattle.scad_slice.proofs.Parted.{budget_of_layer, slice_creates, plan_creates, slice_line, line_of_plan}
 use Rattle.scad_slice.proofs.Texts.{slice_cut, plan_cut, program_cut}
 use Rattle.scad_tool.specs.Words.{given_by}

@@ -14,9 +14,10 @@ use Rattle.gcode_text.specs.Gcode.{gcode}
 use Rattle.slice_work.specs.declared.want.Want.{Want}
 use Rattle.slice_work.specs.declared.want.Want.TheVariants.{Plan as IsPlan}
 use Rattle.slice_work.specs.Part.{Layout, Part, outlines_of, paths_of, layer_limit}
-use Rattle.slice_work.specs.Script.{rates_of}
+use Rattle.slice_work.specs.Rates.{rates_of}
 use Rattle.scad_slice.specs.Budgets.{layer_count}
-use Rattle.scad_slice.specs.Parts.{IsLayer, IsPart, AreMade, layer_at, layers_of, plans_of}
+use Rattle.scad_slice.specs.Parts.{IsPart, AreMade, layer_at, layers_of, plans_of}
+use Rattle.scad_slice.specs.Layer.{IsLayer}
 use Rattle.print_laws.specs.Program.{paths_of as paths_in, program_of}
 use Rattle.print_laws.specs.Print.{AreLayersOf, written_from, written}
 use Rattle.print_laws.proofs.ByNumber.{each_by_number}

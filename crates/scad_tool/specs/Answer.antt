@@ -22,7 +22,7 @@ use Rattle.scad_tree.specs.Solid.{Solid}
 use Rattle.slice_work.specs.declared.want.Want.{Want}
 use Rattle.slice_work.specs.declared.want.Want.TheVariants.{Outlines as IsOutlines, Plan as IsPlan}
 use Rattle.slice_work.specs.Part.{Part}
-use Rattle.scad_slice.specs.Parts.{IsLayer}
+use Rattle.scad_slice.specs.Layer.{IsLayer}
 use Rattle.scad_slice.specs.Script.{slice_script, plan_script}
 use Rattle.scad_sample.specs.Sample.{sample_text}
 use Rattle.scad_tool.specs.Words.{model_of}

@@ -21,7 +21,7 @@ use Rattle.slice_work.specs.declared.want.Want.{Want}
 use Rattle.slice_work.specs.declared.want.Want.TheVariants.{Outlines as IsOutlines, Plan as IsPlan}
 use Rattle.slice_work.specs.Part.{layer_limit}
 use Rattle.scad_slice.specs.Budgets.{layer_count, layers_passed}
-use Rattle.scad_slice.specs.Parts.{IsLayer}
+use Rattle.scad_slice.specs.Layer.{IsLayer}
 use Rattle.scad_tool.specs.Words.{given_by}
 use Rattle.scad_tool.specs.Meaning.{source_means}
 use Rattle.scad_tool.specs.Answer.{Inputs, source_long, source_in, settings_found, IsRead}

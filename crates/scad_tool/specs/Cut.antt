@@ -17,9 +17,9 @@ use Rattle.gcode_text.specs.Gcode.{head as program_head, layers_text}
 use Rattle.slice_work.specs.declared.want.Want.{Want}
 use Rattle.slice_work.specs.declared.want.Want.TheVariants.{Outlines as IsOutlines, Plan as IsPlan}
 use Rattle.slice_work.specs.Part.{Layout, layer_limit}
-use Rattle.slice_work.specs.Script.{rates_of}
+use Rattle.slice_work.specs.Rates.{rates_of}
 use Rattle.scad_slice.specs.Budgets.{layer_count}
-use Rattle.scad_slice.specs.Parts.{IsLayer}
+use Rattle.scad_slice.specs.Layer.{IsLayer}
 use Rattle.print_laws.specs.Program.{paths_of}
 use Rattle.print_laws.specs.Print.{written}
 use Rattle.scad_tool.specs.Answer.{Inputs, source_in, settings_found, IsRead}

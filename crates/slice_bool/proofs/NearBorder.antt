@@ -19,9 +19,8 @@ use Rattle.scad_geom.specs.Loop.{sides}
 use Rattle.scad_geom.proofs.Order.{front}
 use Rattle.winding_laws.specs.Region.{square, box}
 use Rattle.winding_laws.specs.Nearness.{IsNear, IsProper}
-use Rattle.winding_laws.specs.Rounded.{rounded, rounded_edge, has_length}
-use Rattle.winding_laws.specs.Joining.{turned}
-use Rattle.winding_laws.specs.Parts.{IsOn}
+use Rattle.winding_laws.specs.Edges.{rounded, rounded_edge, has_length, turned}
+use Rattle.winding_laws.specs.OnSegment.{IsOn}
 use Rattle.winding_laws.specs.Approach.{HasNear, HasAmid}
 use Rattle.winding_laws.proofs.Amid.{amid_is_between, three_on_line}
 use Rattle.winding_laws.proofs.Approach.{amid_is_anywhere}

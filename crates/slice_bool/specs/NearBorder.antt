@@ -6,7 +6,7 @@ use Rattle.scad_geom.specs.declared.level.LeafEdge.{LeafEdge}
 use Rattle.scad_geom.specs.declared.shape.Shape.{Shape}
 use Rattle.scad_geom.specs.Point.{Point, whole}
 use Rattle.scad_geom.specs.Loop.{sides}
-use Rattle.winding_laws.specs.Parts.{IsOn}
+use Rattle.winding_laws.specs.OnSegment.{IsOn}
 use Rattle.slice_bool.specs.BorderPoints.{IsBorderPoint}
 use Rattle.slice_bool.specs.Outlines.{AreOutlinesOf}
 
