@@ -9,7 +9,7 @@ use Rattle.plan_walls.specs.Refusal.{edge_limit}
 use Rattle.scad_words.specs.declared.settings.Settings.{Settings}
 use Rattle.plan_layer.specs.declared.fault.PlanFault.TheVariants.{Edges, Crossings, Moves}
 use Rattle.plan_layer.specs.Moves.{all_moves, move_limit}
-use Rattle.plan_layer.specs.Walls.{distance}
+use Rattle.plan_layer.specs.Plan.{distance}
 use Rattle.plan_layer.specs.Refusal.{IsWallAccepted, AreAccepted}
 use Rattle.plan_layer.specs.There.{HasPlan, HasAccepted, HasRefusal, PlansAreDecided}
 use Rattle.plan_layer.proofs.Walled.{accepted_more}

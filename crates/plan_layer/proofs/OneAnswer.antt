@@ -17,7 +17,7 @@ use Rattle.scad_words.specs.Settings.{AreInRange}
 use Rattle.plan_layer.specs.declared.fault.PlanFault.{PlanFault}
 use Rattle.plan_layer.specs.declared.fault.PlanFault.TheVariants.{Memory, Edges, Crossings, Moves}
 use Rattle.plan_layer.specs.Moves.{all_moves, move_limit}
-use Rattle.plan_layer.specs.Walls.{distance}
+use Rattle.plan_layer.specs.Plan.{distance}
 use Rattle.plan_layer.specs.Refusal.{fault_of, IsWallAccepted, AreAccepted, IsWallRefused, IsWallsRefusal, IsManyMoves}
 use Rattle.plan_layer.specs.Refusal.{IsRefusal}
 use Rattle.plan_layer.specs.Refusal.{IsAccepted}

@@ -11,7 +11,7 @@ use Rattle.slice_bool.specs.declared.fault.BoolFault.TheVariants.{Memory, Edges,
 use Rattle.plan_walls.specs.Walls.{wall_edges, AreWalls}
 use Rattle.plan_walls.specs.Refusal.{edge_limit, IsRefusal}
 use Rattle.scad_words.specs.declared.settings.Settings.{Settings}
-use Rattle.plan_layer.specs.Walls.{distance, AreWallsFrom, round, wall_paths, AreWallPaths}
+use Rattle.plan_layer.specs.Plan.{distance, AreWallsFrom, round, wall_paths, AreWallPaths}
 use Rattle.plan_layer.specs.Refusal.{fault_of, IsWallAccepted, AreAccepted, IsWallsRefusal}
 
 -- paths of the first n walls, which pass no limit

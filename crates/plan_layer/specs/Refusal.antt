@@ -13,8 +13,7 @@ use Rattle.scad_words.specs.declared.settings.Settings.{Settings}
 use Rattle.plan_layer.specs.declared.fault.PlanFault.{PlanFault}
 use Rattle.plan_layer.specs.declared.fault.PlanFault.TheVariants.{Memory, Edges, Crossings, Moves}
 use Rattle.plan_layer.specs.Moves.{all_moves, move_limit}
-use Rattle.plan_layer.specs.Walls.{distance}
-use Rattle.plan_layer.specs.Plan.{IsPlan}
+use Rattle.plan_layer.specs.Plan.{distance, IsPlan}
 
 -- the fault of a wall, as that of a plan
 abbrev pub fault_of : BoolFault → PlanFault

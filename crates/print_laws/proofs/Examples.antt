@@ -2,9 +2,7 @@
 use Rattle.std.proofs.Common.{◌≡◌, [], ◌∷◌, ℕ, pos, refl}
 use Rattle.scad_geom.specs.declared.point.Pt.{Pt}
 use Rattle.slice_work.specs.Part.{Layout}
-use Rattle.print_laws.specs.Extruded.{Side, sides_from}
-use Rattle.print_laws.specs.Program.{paths_of}
-use Rattle.print_laws.specs.Print.{written}
+use Rattle.print_laws.specs.Print.{Side, sides_from, written, paths_of}
 
 abbrev at : ℕ → ℕ → Pt
 at x y = record { x = pos x; y = pos y }

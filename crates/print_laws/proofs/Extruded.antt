@@ -19,7 +19,7 @@ use Rattle.gcode_text.specs.Amount.{move_volume, moves_volume, path_volume, path
 use Rattle.gcode_text.specs.Machine.{stays, origin}
 use Rattle.gcode_text.specs.Moves.{at_height, printing_moves, path_moves, behind_path, paths_moves}
 use Rattle.gcode_text.specs.Moves.{behind_paths, raised, surface, layer_moves, layers_moves}
-use Rattle.print_laws.specs.Extruded.{extruding, Side, sides_from, move_along, moves_along}
+use Rattle.print_laws.specs.Print.{extruding, Side, sides_from, move_along, moves_along}
 use Rattle.print_laws.specs.Laws.{SidesAreExtruded}
 use Rattle.print_laws.proofs.Points.{all_front, all_back}
 

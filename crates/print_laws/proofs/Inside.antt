@@ -20,8 +20,7 @@ use Rattle.gcode_text.specs.Moves.{behind_paths, raised, surface, layer_moves, l
 use Rattle.print_laws.specs.Planned.{IsPlanned}
 use Rattle.slice_work.specs.Part.{Layout}
 use Rattle.slice_work.specs.Rates.{rates_of}
-use Rattle.print_laws.specs.Program.{outlines_of, paths_of, moves_of}
-use Rattle.print_laws.specs.Inside.{StaysInside}
+use Rattle.print_laws.specs.Print.{outlines_of, paths_of, moves_of, StaysInside}
 use Rattle.print_laws.specs.Laws.{MovesStayInside}
 use Rattle.print_laws.proofs.Points.{all_front, all_back}
 use Rattle.print_laws.proofs.Numbered.{AreFrom, from_first}

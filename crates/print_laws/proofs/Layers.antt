@@ -19,7 +19,7 @@ use Rattle.slice_loops.specs.Corners.{corners}
 use Rattle.slice_layer.specs.Outlines.{AreLayerOutlines}
 use Rattle.slice_layer.proofs.Within.{outlines_are_within}
 use Rattle.plan_walls.specs.Walls.{of_leaf, rings_from}
-use Rattle.plan_layer.specs.Walls.{distance}
+use Rattle.plan_layer.specs.Plan.{distance}
 use Rattle.plan_layer.specs.Refusal.{IsAccepted}
 use Rattle.slice_work.specs.declared.want.Want.TheVariants.{Plan as WithPlan}
 use Rattle.slice_work.specs.Part.{Layout}

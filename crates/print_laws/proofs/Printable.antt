@@ -14,7 +14,7 @@ use Rattle.plan_layer.specs.Moves.{all_moves}
 use Rattle.gcode_text.specs.Amount.{paths_volume, layers_volume}
 use Rattle.gcode_text.specs.Moves.{IsShortPoint, AreShortPaths}
 use Rattle.print_laws.specs.Planned.{IsPlanned}
-use Rattle.print_laws.specs.Program.{paths_of}
+use Rattle.print_laws.specs.Print.{paths_of}
 use Rattle.slice_work.specs.Part.{Layout}
 use Rattle.slice_work.specs.Rates.{rates_of}
 use Rattle.print_laws.specs.Laws.{PlansArePrintable}

@@ -12,7 +12,7 @@ use Rattle.gcode_text.specs.Moves.{ProgramsMakeTheirMoves}
 use Rattle.slice_work.specs.Part.{Layout}
 use Rattle.slice_work.specs.Rates.{rates_of}
 use Rattle.print_laws.specs.Planned.{IsPlanned}
-use Rattle.print_laws.specs.Program.{paths_of, moves_of}
+use Rattle.print_laws.specs.Print.{paths_of, moves_of}
 use Rattle.print_laws.specs.Laws.{PlansArePrintable, SidesAreExtruded, MovesStayInside, PlansArePrinted}
 use Rattle.print_laws.proofs.Numbered.{AreFrom, from_first}
 

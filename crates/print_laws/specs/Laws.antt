@@ -13,10 +13,9 @@ use Rattle.gcode_text.specs.Moves.{program_moves, IsWritable}
 use Rattle.slice_work.specs.Part.{Layout}
 use Rattle.slice_work.specs.Rates.{rates_of}
 use Rattle.print_laws.specs.Planned.{ArePlanned}
-use Rattle.print_laws.specs.Program.{outlines_of, paths_of, program_of, moves_of}
-use Rattle.print_laws.specs.Extruded.{extruding, sides_from, moves_along}
-use Rattle.print_laws.specs.Inside.{StayInside}
-use Rattle.print_laws.specs.Print.{AreLayersOf, written, PrintLayers, IsPrintOf}
+use Rattle.print_laws.specs.Print.{outlines_of, paths_of, program_of, moves_of}
+use Rattle.print_laws.specs.Print.{extruding, sides_from, moves_along}
+use Rattle.print_laws.specs.Print.{StayInside, AreLayersOf, written, PrintLayers, IsPrintOf}
 
 -- ---- of programs
 -- The numbers of the program of planned layers can be written.

@@ -34,3 +34,7 @@ IsLayerUnless None want s tree i layer =
 -- layer i of a tree
 abbrev pub IsLayer : Want → Settings → Solid → ℕ → Result Layout Budget → Type 0
 IsLayer want s tree i layer = IsLayerUnless (layer_budget s.layer_height tree i) want s tree i layer
+
+-- a layer of a tree can be laid out within the limits
+abbrev pub IsWithinLimits : Want → Settings → Solid → ℕ → Type 0
+IsWithinLimits want settings tree i = (layout : Layout) × IsLayer want settings tree i (Ok layout)

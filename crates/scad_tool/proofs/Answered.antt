@@ -22,8 +22,9 @@ use Rattle.scad_slice.proofs.OneLayer.{parts_are_one}
 use Rattle.scad_tool.specs.Words.{model_of, given_by}
 use Rattle.scad_tool.specs.Meaning.{source_means}
 use Rattle.scad_tool.specs.Told.{sample_script, echoed, told}
-use Rattle.scad_tool.specs.Answer.{Parts, Inputs, follows, input_script, model_read_first, model_script, source_of, job_script, script_of}
-use Rattle.scad_tool.specs.Answer.{IsRead, ArePartsOfTree, ArePartsOf, AreDrawn, source_in, AreParts}
+use Rattle.scad_tool.specs.Answer.{Parts, follows, input_script, model_read_first, model_script, job_script, script_of}
+use Rattle.scad_tool.specs.Inputs.{Inputs, source_of, IsRead, source_in}
+use Rattle.scad_tool.specs.Answer.{ArePartsOfTree, ArePartsOf, AreDrawn, AreParts}
 use Rattle.scad_tool.specs.Promises.{IsAnswered as IsWholeAnswer, Answers}
 use Rattle.scad_tool.specs.Laws.{AnswersAreThere, AnswersAreOne}
 use Rattle.scad_tool.proofs.Following.{settings_one}

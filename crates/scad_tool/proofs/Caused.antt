@@ -24,7 +24,8 @@ use Rattle.scad_slice.specs.Budgets.{layer_count}
 use Rattle.scad_slice.specs.Parts.{IsPart}
 use Rattle.scad_slice.specs.Layer.{IsLayer}
 use Rattle.scad_tool.specs.Words.{given_by}
-use Rattle.scad_tool.specs.Answer.{Parts, Inputs, follows, source_in, job_script, script_of, IsRead, ArePartsOfTree, AreDrawn, AreParts}
+use Rattle.scad_tool.specs.Answer.{Parts, follows, job_script, script_of, ArePartsOfTree, AreDrawn, AreParts}
+use Rattle.scad_tool.specs.Inputs.{Inputs, source_in, IsRead}
 use Rattle.scad_tool.specs.Causes.{HasManyLayers, PassesAtLayer, PassesDrawing, IsCause, HasCause}
 use Rattle.scad_tool.proofs.Working.{parts_meant}
 use Rattle.scad_tool.proofs.Sources.{sources_mean_solids, as_part}

@@ -26,9 +26,11 @@ use Rattle.scad_slice.specs.Parts.{IsPart}
 use Rattle.scad_slice.proofs.OneLayer.{layer_is_one}
 use Rattle.scad_tool.specs.Words.{model_of, given_by}
 use Rattle.scad_tool.specs.Told.{told}
-use Rattle.scad_tool.specs.Answer.{Parts, Inputs, follows, input_script, model_read_first, model_script, source_of, source_in, text_read, job_script, script_of}
-use Rattle.scad_tool.specs.Answer.{IsRead, ArePartsOfTree, AreDrawn, AreParts, settings_found}
-use Rattle.scad_tool.specs.Promises.{GoBy, IsWithinLimits, CanBeDrawn, Accepts, IsAccepted, IsComplete}
+use Rattle.scad_tool.specs.Answer.{Parts, follows, input_script, model_read_first, model_script, job_script, script_of}
+use Rattle.scad_tool.specs.Inputs.{Inputs, source_of, source_in, text_read, IsRead, settings_found, GoBy}
+use Rattle.scad_tool.specs.Answer.{ArePartsOfTree, AreDrawn, AreParts}
+use Rattle.scad_tool.specs.Promises.{CanBeDrawn, Accepts, IsAccepted, IsComplete}
+use Rattle.scad_slice.specs.Layer.{IsWithinLimits}
 use Rattle.scad_tool.specs.Causes.{HasManyLayers}
 use Rattle.scad_tool.proofs.Working.{model_read_as, settings_read_as, parts_meant}
 use Rattle.scad_tool.proofs.Following.{settings_end}

@@ -31,7 +31,8 @@ use Rattle.scad_slice.specs.Layer.{IsLayer}
 use Rattle.scad_slice.proofs.Parted.{budget_of_layer, slice_creates, plan_creates, slice_line, line_of_plan}
 use Rattle.scad_slice.proofs.Texts.{slice_cut, plan_cut, program_cut}
 use Rattle.scad_tool.specs.Words.{given_by}
-use Rattle.scad_tool.specs.Answer.{Parts, Inputs, follows, source_in, job_script, script_of, IsRead, ArePartsOfTree, AreDrawn, AreParts}
+use Rattle.scad_tool.specs.Answer.{Parts, follows, job_script, script_of, ArePartsOfTree, AreDrawn, AreParts}
+use Rattle.scad_tool.specs.Inputs.{Inputs, source_in, IsRead}
 use Rattle.scad_tool.specs.Cut.{program_front, AreCut, IsCutBy, CutsFiles, FilesStand, CutsShort}
 use Rattle.scad_tool.proofs.Working.{parts_meant}
 use Rattle.scad_tool.proofs.Sources.{sources_mean_solids, as_part}

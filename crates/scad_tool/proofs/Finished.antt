@@ -16,7 +16,8 @@ use Rattle.scad_slice.specs.Parts.{IsPart}
 use Rattle.scad_slice.specs.Script.{slice_script, plan_script}
 use Rattle.scad_tool.specs.Words.{model_of}
 use Rattle.scad_tool.specs.Told.{sample_script}
-use Rattle.scad_tool.specs.Answer.{source_limit, follows, source_of, text_read}
+use Rattle.scad_tool.specs.Answer.{follows}
+use Rattle.scad_tool.specs.Inputs.{source_limit, source_of, text_read}
 use Rattle.scad_tool.specs.Playing.{IsEnd, Gets}
 use Rattle.scad_tool.proofs.Sources.{as_part}
 use Rattle.scad_tool.proofs.Telling.{ended}

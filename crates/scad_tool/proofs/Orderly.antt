@@ -7,7 +7,7 @@ use Rattle.scad_words.specs.declared.job.Command.{Command}
 use Rattle.scad_words.specs.declared.job.Command.TheVariants.{Check, Tree, Slice, Plan, Sample}
 use Rattle.scad_words.specs.declared.job.Job.{Job}
 use Rattle.scad_words.specs.declared.settings.Settings.{Settings as SettingsOfRun}
-use Rattle.scad_words.specs.Job.{job_of}
+use Rattle.scad_words.specs.Job.{job_of, named}
 use Rattle.scad_script.specs.declared.refusal.Refusal.{Refusal}
 use Rattle.scad_script.specs.declared.refusal.Refusal.TheVariants.{Source, Over as IsOver}
 use Rattle.scad_script.specs.declared.loading.Input.{Input}
@@ -26,11 +26,11 @@ use Rattle.slice_work.specs.declared.want.Want.TheVariants.{Outlines as IsOutlin
 use Rattle.slice_work.specs.Part.{layer_limit}
 use Rattle.scad_slice.specs.Budgets.{layer_count, layers_passed}
 use Rattle.scad_slice.proofs.Orderly.{DrawsInOrder, slice_draws, plan_draws}
-use Rattle.scad_words.specs.Job.{named}
 use Rattle.scad_tool.specs.Words.{model_of, given_names, given_of, given_by}
 use Rattle.scad_tool.specs.Meaning.{source_means}
 use Rattle.scad_tool.specs.Told.{echo_text, echoed, ok_line, check_end, told}
-use Rattle.scad_tool.specs.Answer.{Parts, Inputs, follows, input_script, model_read_first, model_script, source_of, job_script, script_of}
+use Rattle.scad_tool.specs.Answer.{Parts, follows, input_script, model_read_first, model_script, job_script, script_of}
+use Rattle.scad_tool.specs.Inputs.{Inputs, source_of}
 use Rattle.scad_tool.proofs.Following.{settings_have}
 use Rattle.scad_tool.proofs.Ends.{IsDone, IsOver as IsOverBy, EndsBy, follows_end}
 

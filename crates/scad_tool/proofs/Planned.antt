@@ -18,8 +18,7 @@ use Rattle.slice_work.specs.Rates.{rates_of}
 use Rattle.scad_slice.specs.Budgets.{layer_count}
 use Rattle.scad_slice.specs.Parts.{IsPart, AreMade, layer_at, layers_of, plans_of}
 use Rattle.scad_slice.specs.Layer.{IsLayer}
-use Rattle.print_laws.specs.Program.{paths_of as paths_in, program_of}
-use Rattle.print_laws.specs.Print.{AreLayersOf, written_from, written}
+use Rattle.print_laws.specs.Print.{paths_of as paths_in, program_of, AreLayersOf, written_from, written}
 use Rattle.print_laws.proofs.ByNumber.{each_by_number}
 
 -- a layer that is laid out, none where it passes a budget

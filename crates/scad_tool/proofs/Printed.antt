@@ -26,9 +26,10 @@ use Rattle.scad_slice.specs.Membership.{HoldTree}
 use Rattle.scad_slice.proofs.Holding.{parts_hold}
 use Rattle.scad_slice.proofs.Texts.{slices_are_whole, plans_are_whole}
 use Rattle.scad_tool.specs.Words.{model_of, cli_of, given_by}
-use Rattle.scad_tool.specs.Answer.{Parts, Inputs, follows, source_of, source_in, job_script, script_of, IsRead, ArePartsOfTree, AreDrawn, AreParts}
-use Rattle.scad_tool.specs.Answer.{settings_found}
-use Rattle.scad_tool.specs.Promises.{MeansTree, OutlinesHoldTree}
+use Rattle.scad_tool.specs.Answer.{Parts, follows, job_script, script_of, ArePartsOfTree, AreDrawn, AreParts}
+use Rattle.scad_tool.specs.Inputs.{Inputs, source_of, source_in, IsRead, settings_found}
+use Rattle.scad_tool.specs.Promises.{OutlinesHoldTree}
+use Rattle.scad_tool.specs.Meaning.{MeansTree}
 use Rattle.scad_tool.proofs.Working.{parts_meant}
 use Rattle.scad_tool.proofs.Sources.{sources_mean_solids, as_part}
 use Rattle.scad_tool.proofs.Heights.{found_in_range}

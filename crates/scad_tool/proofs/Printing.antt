@@ -11,12 +11,12 @@ use Rattle.cli_text.specs.Cli.{Layer, cli as text_of_layers}
 use Rattle.slice_work.specs.declared.want.Want.TheVariants.{Plan as IsPlan}
 use Rattle.scad_slice.specs.Budgets.{layer_count}
 use Rattle.scad_slice.proofs.Texts.{plans_are_whole, programs_are_whole}
-use Rattle.print_laws.specs.Program.{program_of}
-use Rattle.print_laws.specs.Print.{written}
+use Rattle.print_laws.specs.Print.{program_of, written}
 use Rattle.print_laws.specs.Laws.{LayersArePrinted, PrintsAreOne}
 use Rattle.scad_tool.specs.Words.{given_by}
-use Rattle.scad_tool.specs.Answer.{Parts, Inputs, source_limit, script_of, IsRead, AreParts}
-use Rattle.scad_tool.specs.Promises.{MeansTree, GoBy}
+use Rattle.scad_tool.specs.Answer.{Parts, script_of, AreParts}
+use Rattle.scad_tool.specs.Inputs.{Inputs, source_limit, IsRead, GoBy}
+use Rattle.scad_tool.specs.Meaning.{MeansTree}
 use Rattle.scad_tool.specs.Printing.{PlanAddsPrint}
 use Rattle.scad_tool.specs.Headline.{Prints, Headline}
 use Rattle.scad_tool.proofs.Sources.{as_part}

@@ -37,7 +37,8 @@ use Rattle.scad_slice.proofs.Parted.{IsKind, budget_of_layer}
 use Rattle.scad_slice.proofs.Texts.{slice_cut, plan_cut, program_cut}
 use Rattle.scad_tool.proofs.Silent.{slice_is_silent}
 use Rattle.scad_tool.specs.Words.{given_by}
-use Rattle.scad_tool.specs.Answer.{Parts, Inputs, follows, source_in, job_script, script_of, ArePartsOfTree, AreDrawn, AreParts}
+use Rattle.scad_tool.specs.Answer.{Parts, follows, job_script, script_of, ArePartsOfTree, AreDrawn, AreParts}
+use Rattle.scad_tool.specs.Inputs.{Inputs, source_in}
 use Rattle.scad_tool.specs.Promises.{IsReported, IsRefused, IsProgramFront, IsCutShort, Refuses, Leaves, LeavesOutputs}
 use Rattle.scad_tool.specs.Causes.{HasManyLayers}
 use Rattle.scad_tool.proofs.Working.{parts_meant}

@@ -21,11 +21,10 @@ use Rattle.slice_work.specs.declared.want.Want.{Want}
 use Rattle.slice_work.specs.declared.want.Want.TheVariants.{Outlines as IsOutlines, Plan as IsPlan}
 use Rattle.slice_work.specs.Part.{layer_limit}
 use Rattle.scad_slice.specs.Budgets.{layer_count, layers_passed}
-use Rattle.scad_slice.specs.Layer.{IsLayer}
+use Rattle.scad_slice.specs.Layer.{IsLayer, IsWithinLimits}
 use Rattle.scad_tool.specs.Words.{given_by}
-use Rattle.scad_tool.specs.Meaning.{source_means}
-use Rattle.scad_tool.specs.Answer.{Inputs, source_long, source_in, settings_found, IsRead}
-use Rattle.scad_tool.specs.Promises.{MeansTree, IsWithinLimits}
+use Rattle.scad_tool.specs.Meaning.{source_means, MeansTree}
+use Rattle.scad_tool.specs.Inputs.{Inputs, source_long, source_in, settings_found, IsRead}
 
 -- a tree has more layers than the limit, and the budget says how many
 abbrev pub HasManyLayers : SettingsOfRun → Solid → Budget → Type 0

@@ -20,10 +20,9 @@ use Rattle.slice_work.specs.Part.{Layout, layer_limit}
 use Rattle.slice_work.specs.Rates.{rates_of}
 use Rattle.scad_slice.specs.Budgets.{layer_count}
 use Rattle.scad_slice.specs.Layer.{IsLayer}
-use Rattle.print_laws.specs.Program.{paths_of}
-use Rattle.print_laws.specs.Print.{written}
-use Rattle.scad_tool.specs.Answer.{Inputs, source_in, settings_found, IsRead}
-use Rattle.scad_tool.specs.Promises.{MeansTree}
+use Rattle.print_laws.specs.Print.{paths_of, written}
+use Rattle.scad_tool.specs.Inputs.{Inputs, source_in, settings_found, IsRead}
+use Rattle.scad_tool.specs.Meaning.{MeansTree}
 
 -- the printing program of the first layers without its end, where it is wanted
 abbrev pub program_front : Want → Settings → List Layout → List ℕ

@@ -15,8 +15,8 @@ use Rattle.scad_words.specs.declared.settings.Settings.{Settings}
 use Rattle.scad_words.specs.Job.{job_of}
 use Rattle.scad_tree.specs.Solid.{Solid}
 use Rattle.print_laws.specs.Print.{IsPrintOf}
-use Rattle.scad_tool.specs.Answer.{source_limit}
-use Rattle.scad_tool.specs.Promises.{MeansTree, GoBy}
+use Rattle.scad_tool.specs.Inputs.{source_limit, GoBy}
+use Rattle.scad_tool.specs.Meaning.{MeansTree}
 use Rattle.scad_tool.specs.Causes.{HasCause}
 
 -- ---- the desk tells

@@ -3,7 +3,7 @@ use Rattle.scad_geom.specs.declared.point.Pt.{Pt}
 use Rattle.slice_events.specs.Limits.{crossing_limit}
 use Rattle.slice_events.specs.Levels.{crossings}
 use Rattle.plan_walls.specs.Walls.{wall_edges, AreWalls}
-use Rattle.plan_layer.specs.Walls.{distance, round}
+use Rattle.plan_layer.specs.Plan.{distance, round}
 use Rattle.plan_walls.specs.Refusal.{edge_limit}
 use Rattle.plan_layer.proofs.Walled.{Walled, walled_more}
 use Rattle.plan_layer.proofs.wall_paths.wall_paths.Goals as goal
