@@ -8,7 +8,7 @@ use Rattle.slice_bool.specs.declared.fault.BoolFault.TheVariants.{Memory as NoMe
 use Rattle.slice_bool.specs.declared.fault.BoolFault.TheVariants.{Crossings as ManyCrossings}
 use Rattle.plan_walls.specs.Walls.{wall_edges}
 use Rattle.plan_walls.specs.Refusal as of_walls
-use Rattle.plan_walls.specs.Refusal.{edge_limit}
+use Rattle.plan_walls.specs.Refusal.{wall_edge_limit}
 use Rattle.scad_words.specs.declared.settings.Settings.{Settings}
 use Rattle.plan_layer.specs.declared.fault.PlanFault.{PlanFault}
 use Rattle.plan_layer.specs.declared.fault.PlanFault.TheVariants.{Memory, Edges, Crossings, Moves}
@@ -23,7 +23,7 @@ fault_of (ManyCrossings n) = Crossings n
 
 -- the walls at a distance pass no limit
 pub record IsWallAccepted (outlines : List (List Pt)) (c : ℕ) : Type 0 where
-  pub few_edges : length (wall_edges c outlines) ≤ edge_limit
+  pub few_edges : length (wall_edges c outlines) ≤ wall_edge_limit
   pub few_crossings : crossings (wall_edges c outlines) ≤ crossing_limit
 
 -- the first n walls pass no limit
@@ -35,7 +35,7 @@ pub record IsWallRefused (outlines : List (List Pt)) (s : Settings) (fault : Boo
   pub wall : ℕ
   pub there : wall < s.walls
   pub accepted : AreAccepted outlines s.line_width wall
-  pub refused : of_walls.IsRefusal (length (wall_edges (distance s.line_width wall) outlines)) edge_limit
+  pub refused : of_walls.IsRefusal (length (wall_edges (distance s.line_width wall) outlines)) wall_edge_limit
       (crossings (wall_edges (distance s.line_width wall) outlines)) fault
 
 -- by the first wall that has a fault; want of memory may come before it is known
