@@ -42,14 +42,14 @@ end_line = codes "$$GEOMETRYEND"
 abbrev pub reach : ℕ
 reach = 1100000
 
-abbrev pub IsNear : Pt → Type 0
-IsNear p = (unsigned_abs p.x ≤ reach) × (unsigned_abs p.y ≤ reach)
+abbrev pub IsWithinReach : Pt → Type 0
+IsWithinReach p = (unsigned_abs p.x ≤ reach) × (unsigned_abs p.y ≤ reach)
 
 -- an outline has three vertices at least, all within reach
 pub record IsShape (points : List Pt) : Type 0 where
   pub several : 3 ≤ length points
   pub count : length points + 1 < 2 ^ 32
-  pub near : AllByRecursion IsNear points
+  pub near : AllByRecursion IsWithinReach points
 
 -- the line is that of the outline, whichever direction it says
 pub record IsOutline (line : List ℕ) (points : List Pt) : Type 0 where

@@ -25,7 +25,7 @@ use Rattle.slice_work.specs.declared.want.Want.TheVariants.{Plan as WithPlan}
 use Rattle.slice_work.specs.Part.{Layout}
 use Rattle.scad_slice.specs.Budgets.{layer_budget}
 use Rattle.scad_slice.specs.Layer.{IsLayerUnless, IsLayer}
-use Rattle.cli_read.specs.Form.{IsNear, IsShape}
+use Rattle.cli_read.specs.Form.{IsWithinReach, IsShape}
 use Rattle.print_laws.specs.Planned.{IsPlanned}
 
 -- ---- a layer that is laid out
@@ -107,7 +107,7 @@ short s tree i layer range l =
     let all = leaf_length es in
     few_points 140000 layer.outlines (omega (arith, edges, both, all))
 
-near : (ps : List Pt) → AllByRecursion (IsWithin point_limit) ps → AllByRecursion IsNear ps
+near : (ps : List Pt) → AllByRecursion (IsWithin point_limit) ps → AllByRecursion IsWithinReach ps
 near [] h = tt
 near (p ∷ ps) h = let x = h.0.x in let y = h.0.y in ((omega (arith, x), omega (arith, y)), near ps h.1)
 

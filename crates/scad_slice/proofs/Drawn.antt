@@ -24,7 +24,7 @@ use Rattle.plan_layer.specs.Plan.{IsPlan}
 use Rattle.plan_layer.specs.Refusal.{AreAccepted, IsRefusal as IsPlanRefusal, IsAccepted}
 use Rattle.slice_work.specs.declared.want.Want.{Want}
 use Rattle.slice_work.specs.declared.want.Want.TheVariants.{Outlines, Plan}
-use Rattle.plan_layer.specs.declared.planning.LayerPlan.{LayerPlan}
+use Rattle.plan_layer.specs.declared.layer_plan.LayerPlan.{LayerPlan}
 use Rattle.slice_work.specs.declared.layer.LayerEnd.{LayerEnd}
 use Rattle.slice_work.specs.declared.layer.LayerEnd.TheVariants.{Made, Over}
 use Rattle.slice_work.specs.Part.{Layout, Part, Ends}

@@ -16,7 +16,7 @@ use Rattle.scad_script.specs.Script.{Script, Refuses, Lacks, Answer, first, ends
 use Rattle.scad_expr.specs.State.{Outcome, gives, refuses}
 use Rattle.scad_tree.specs.Solid.{Solid}
 use Rattle.slice_work.specs.declared.want.Want.{Want}
-use Rattle.slice_work.specs.declared.want.Want.TheVariants.{Outlines as IsOutlines, Plan as IsPlan}
+use Rattle.slice_work.specs.declared.want.Want.TheVariants.{Outlines as OutlinesAlone, Plan as WithPlan}
 use Rattle.slice_work.specs.Part.{Part}
 use Rattle.scad_slice.specs.Layer.{IsLayer}
 use Rattle.scad_slice.specs.Script.{slice_script, plan_script}
@@ -33,9 +33,9 @@ Parts = Want → Settings → Part
 abbrev pub follows : Command → Settings → Parts → Solid → Script
 follows (Check model) settings parts tree = check_script settings.layer_height tree
 follows (Tree model) settings parts tree = tree_script tree
-follows (Slice model cli) settings parts tree = slice_script settings cli (parts IsOutlines settings) tree
-follows (Plan model cli gcode) settings parts tree = plan_script settings cli gcode (parts IsPlan settings) tree
-follows (Sample n) settings parts tree = sample_script n settings (parts IsPlan settings) tree
+follows (Slice model cli) settings parts tree = slice_script settings cli (parts OutlinesAlone settings) tree
+follows (Plan model cli gcode) settings parts tree = plan_script settings cli gcode (parts WithPlan settings) tree
+follows (Sample n) settings parts tree = sample_script n settings (parts WithPlan settings) tree
 
 -- what follows a source, if it is there
 abbrev pub input_script : Command → Settings → Parts → Option Input → Script

@@ -20,7 +20,7 @@ use Rattle.scad_tree.specs.Solid.{Solid}
 use Rattle.scad_geom.specs.declared.point.Pt.{Pt}
 use Rattle.gcode_text.specs.Gcode.{head as program_head, layers_text}
 use Rattle.slice_work.specs.declared.want.Want.{Want}
-use Rattle.slice_work.specs.declared.want.Want.TheVariants.{Outlines as IsOutlines, Plan as IsPlan}
+use Rattle.slice_work.specs.declared.want.Want.TheVariants.{Outlines as OutlinesAlone, Plan as WithPlan}
 use Rattle.slice_work.specs.Part.{layer_limit}
 use Rattle.slice_work.specs.Rates.{rates_of}
 use Rattle.scad_slice.specs.Budgets.{layer_count}
@@ -41,8 +41,8 @@ IsTreeOf files model tree = Contains files model (λ source. (length source ≤ 
 
 -- Statuses 0, 1, 2, 3 and 6: the status and the bytes of all outputs are the answer for the words and the files, with
 -- all parts of the source's tree.
-abbrev pub IsAnswered : List (List ℕ) → Files → Status → View → View → Type 0
-IsAnswered words files status old new =
+abbrev pub IsWholeAnswer : List (List ℕ) → Files → Status → View → View → Type 0
+IsWholeAnswer words files status old new =
     IfSome files (λ contents. (parts : Parts) → AreParts words (read_of words contents) parts
     → IsSomeAnd (answer words contents parts) (λ whole.
     (whole.status ≡ status) × Adds (whole.echoes ++ whole.line) old.report new.report
@@ -52,7 +52,7 @@ abbrev pub Answers : List (List ℕ) → Files → Status → View → View → 
 Answers words files Read old new = Unit {0}
 Answers words files Write old new = Unit {0}
 Answers words files Memory old new = Unit {0}
-Answers words files status old new = IsAnswered words files status old new
+Answers words files status old new = IsWholeAnswer words files status old new
 
 -- Status 0 of `slice` and `plan`: the outlines that were written are the text of layers, of the height that the
 -- settings
@@ -136,9 +136,9 @@ CanBeDrawn want settings tree =
 abbrev pub Accepts : Command → SettingsOfRun → Solid → Type 0
 Accepts (Check model) settings tree = layer_count settings.layer_height tree ≤ layer_limit
 Accepts (Tree model) settings tree = Unit {0}
-Accepts (Slice model cli) settings tree = CanBeDrawn IsOutlines settings tree
-Accepts (Plan model cli gcode) settings tree = CanBeDrawn IsPlan settings tree
-Accepts (Sample n) settings tree = CanBeDrawn IsPlan settings tree
+Accepts (Slice model cli) settings tree = CanBeDrawn OutlinesAlone settings tree
+Accepts (Plan model cli gcode) settings tree = CanBeDrawn WithPlan settings tree
+Accepts (Sample n) settings tree = CanBeDrawn WithPlan settings tree
 
 abbrev pub IsAccepted : Command → SettingsOfRun → List ℕ → Type 0
 IsAccepted command settings source = (tree : Solid) × MeansTree tree source × Accepts command settings tree
