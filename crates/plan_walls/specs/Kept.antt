@@ -7,7 +7,7 @@ use Rattle.scad_geom.specs.Segment.{segments}
 use Rattle.scad_geom.specs.Loop.{sides}
 use Rattle.scad_geom.specs.Winding.{wind}
 use Rattle.scad_geom.specs.Near.{IsClear}
-use Rattle.winding_laws.specs.OnSegment.{IsOn}
+use Rattle.winding_laws.specs.Points.{IsOn}
 use Rattle.plan_walls.specs.Walls.{AreWalls}
 
 -- no point of a side of outlines lies within c - 1 of q along both axes, and they wind round q

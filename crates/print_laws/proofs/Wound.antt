@@ -12,7 +12,7 @@ use Rattle.scad_geom.specs.Segment.{segments}
 use Rattle.scad_geom.specs.Winding.{wind}
 use Rattle.scad_geom.specs.Within.{IsWithin, IsEdgeWithin}
 use Rattle.scad_geom.proofs.Rising.{order}
-use Rattle.winding_laws.specs.OnSegment.{IsOn}
+use Rattle.winding_laws.specs.Points.{IsOn}
 use Rattle.plan_infill.specs.Runs.{IsDeep, point_on}
 use Rattle.plan_sides.proofs.Within.{outlines_within}
 use Rattle.plan_layer.specs.Extent.{IsEdgeAmong}

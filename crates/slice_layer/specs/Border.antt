@@ -7,11 +7,10 @@ use Rattle.scad_geom.specs.Segment.{segments}
 use Rattle.scad_geom.specs.Winding.{wind_by}
 use Rattle.scad_geom.specs.Loop.{sides}
 use Rattle.scad_geom.specs.Sign.{is_zero}
-use Rattle.winding_laws.specs.OnSegment.{IsOn}
+use Rattle.winding_laws.specs.Points.{IsOn, IsWithinOne}
 use Rattle.slice_section.specs.Section.{section_of}
 use Rattle.scad_tree.specs.Solid.{Solid}
 use Rattle.scad_tree.specs.Member.{holds}
-use Rattle.slice_bool.specs.NearBorder.{IsWithinOne}
 
 -- whether a tree holds what lies hard by a point of a layer's plane, each surface holding what its section winds round
 abbrev pub section_holds : Bool → Bool → ℕ → ℕ → Solid → Point → Bool

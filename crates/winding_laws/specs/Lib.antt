@@ -4,7 +4,7 @@ pub mod Moves
 pub mod Edges
 pub mod Rounded
 pub mod Joining
-pub mod OnSegment
+pub mod Points
 pub mod Parts
 pub mod OneWinding
 pub mod Approach

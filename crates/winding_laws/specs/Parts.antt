@@ -5,7 +5,7 @@ use Rattle.scad_geom.specs.Near.{IsClose, IsClear}
 use Rattle.scad_geom.specs.Winding.{side_by}
 use Rattle.winding_laws.specs.Region.{HalfPlane, AddUp}
 use Rattle.winding_laws.specs.Nearness.{IsPoint, IsNear, IsFar}
-use Rattle.winding_laws.specs.OnSegment.{IsOn, IsBetween}
+use Rattle.winding_laws.specs.Points.{IsOn, IsBetween}
 
 -- ---- the laws
 -- A point on the line of a segment that lies strictly between the ends, by height or along the other axis, is a point of the

@@ -1,5 +1,5 @@
--- Points of a segment.
-use Rattle.std.specs.Prelude.{◌≡◌, ◌⊎◌, ℤ, pos, ◌+ℤ◌, ◌*ℤ◌, ◌<ℤ◌, ◌≤ℤ◌}
+-- Points of a segment, and points near to one another.
+use Rattle.std.specs.Prelude.{◌≡◌, ◌⊎◌, ℤ, pos, ◌+ℤ◌, ◌-ℤ◌, ◌*ℤ◌, ◌<ℤ◌, ◌≤ℤ◌}
 use Rattle.scad_geom.specs.Point.{Point}
 
 -- c is a point of the segment from a to b: k times its numbers are the sums of theirs by weights
@@ -18,3 +18,10 @@ pub record IsOn (a b c : Point) : Type 0 where
 -- by one of its numbers, p lies strictly between a and b
 abbrev pub IsBetween : (Point → ℤ) → Point → Point → Point → Type 0
 IsBetween n a p b = ((n a *ℤ p.d) <ℤ (n p *ℤ a.d) × (n p *ℤ b.d) <ℤ (n b *ℤ p.d)) ⊎ ((n b *ℤ p.d) <ℤ (n p *ℤ b.d) × (n p *ℤ a.d) <ℤ (n a *ℤ p.d))
+
+-- p lies less than one micrometre from q along both axes
+pub record IsWithinOne (q p : Point) : Type 0 where
+  pub right : (p.x *ℤ q.d -ℤ q.x *ℤ p.d) <ℤ (p.d *ℤ q.d)
+  pub left : (q.x *ℤ p.d -ℤ p.x *ℤ q.d) <ℤ (p.d *ℤ q.d)
+  pub above : (p.y *ℤ q.d -ℤ q.y *ℤ p.d) <ℤ (p.d *ℤ q.d)
+  pub below : (q.y *ℤ p.d -ℤ p.y *ℤ q.d) <ℤ (p.d *ℤ q.d)
