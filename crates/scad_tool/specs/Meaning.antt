@@ -14,7 +14,6 @@ use Rattle.scad_expr.specs.declared.fault.EvalFault.TheVariants.{Fault, Memory a
 use Rattle.scad_expr.specs.State.{Outcome, refuses, start, State, gives}
 use Rattle.scad_tree.specs.Solid.{Solid}
 use Rattle.scad_inst.specs.Meaning.{means}
-use Rattle.scad_fault.specs.declared.status.Status.TheVariants.{Memory}
 
 -- a fault that is about no name
 abbrev pub fault_at : FaultKind → Place → EvalFault
