@@ -41,7 +41,8 @@ point_back n p near = rw (coordinate_back p.x near.0, coordinate_back p.y near.1
 points_are : (n : ℕ) (ws : List (List ℕ)) (ps : List Pt) → points_at n ws ≡ Ok ps → (ws ≡ coordinate_words ps)
     × AllByRecursion IsWithinReach ps
 unfolding points_at
-points_are n [] ps e = subst (λ (qs : List Pt). ([] ≡ coordinate_words qs) × AllByRecursion IsWithinReach qs) (ok_is [] ps e)
+points_are n [] ps e = subst (λ (qs : List Pt). ([] ≡ coordinate_words qs) × AllByRecursion IsWithinReach qs)
+    (ok_is [] ps e)
     (refl, tt)
 points_are n (x ∷ []) ps e = absurd cc
 points_are n (x ∷ y ∷ rest) ps e =
@@ -139,7 +140,8 @@ first_near (p ∷ ps) near = (near.0, front ps near.1)
     front [] near = tt
     front (q ∷ qs) near = (near.0, front qs near.1)
 
-pub closed_near : (points : List Pt) → AllByRecursion IsWithinReach points → AllByRecursion IsWithinReach (closed points)
+pub closed_near : (points : List Pt) → AllByRecursion IsWithinReach points
+    → AllByRecursion IsWithinReach (closed points)
 closed_near [] near = tt
 closed_near (p ∷ ps) near = AllByRecursion-append IsWithinReach (p ∷ ps) (p ∷ []) near (near.0, tt)
 

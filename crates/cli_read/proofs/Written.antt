@@ -13,7 +13,8 @@ use Rattle.std.proofs.lemmas.List.Sums.{AllPass-from_list_all}
 use Rattle.scad_geom.specs.declared.point.Pt.{Pt}
 use Rattle.scad_geom.specs.Area.{twice_area}
 use Rattle.cli_text.specs.Cli.{Layer, head_start, head_end, direction, point_text, closed, polyline_start, polyline_text, layer_start, layer_text, geometry_end}
-use Rattle.cli_read.specs.Form.{reach, count_start, head_lines, end_line, height_line, outline_line, IsWithinReach, IsShape, IsOutline, IsLayer}
+use Rattle.cli_read.specs.Form.{reach, count_start, head_lines, end_line, height_line, outline_line, IsWithinReach}
+use Rattle.cli_read.specs.Form.{IsShape, IsOutline, IsLayer}
 use Rattle.cli_read.specs.Laws.{WrittenTextsSayTheirLayers}
 use Rattle.cli_read.proofs.Numbers.{Lacks, decimal_passes}
 use Rattle.cli_read.proofs.TextLines.{feed, line_fed}

@@ -1,5 +1,6 @@
 -- The runs of a line of infill: the maximal stretches of its whole points that are deep inside outlines.
-use Rattle.std.specs.Prelude.{ℕ, ◌≤◌, unsigned_abs, List, [], ◌∷◌, ℤ, pos, ◌+ℤ◌, ◌-ℤ◌, ◌<ℤ◌, ◌≤ℤ◌, All, Contains, ◌≢◌, flat_map, ◌*ℤ◌}
+use Rattle.std.specs.Prelude.{ℕ, ◌≤◌, unsigned_abs, List, [], ◌∷◌, ℤ, pos, ◌+ℤ◌, ◌-ℤ◌, ◌<ℤ◌, ◌≤ℤ◌, All, Contains, ◌≢◌}
+use Rattle.std.specs.Prelude.{flat_map, ◌*ℤ◌}
 use Rattle.scad_geom.specs.declared.point.Pt.{Pt}
 use Rattle.plan_infill.specs.declared.line.Line.{Line}
 use Rattle.plan_infill.specs.declared.line.Line.TheVariants.{Row, Column}

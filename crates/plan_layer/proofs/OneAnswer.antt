@@ -40,7 +40,8 @@ same_fault count limit met (ManyCrossings m) (ManyCrossings n) a b h k = ap Many
 
 module _ (outlines : List (List Pt)) where
   abbrev IsFault : ℕ → BoolFault → Type 0
-  IsFault c f = of_walls.IsRefusal (length (wall_edges c outlines)) wall_edge_limit (crossings (wall_edges c outlines)) f
+  IsFault c f = of_walls.IsRefusal (length (wall_edges c outlines)) wall_edge_limit
+      (crossings (wall_edges c outlines)) f
 
   -- walls that pass no limit have none
   no_fault : (c : ℕ) (f : BoolFault) → f ≢ NoMemory → IsWallAccepted outlines c → IsFault c f → ⊥
@@ -59,7 +60,8 @@ module _ (outlines : List (List Pt)) where
       by_cases (inr o) (inr p) =
           let e : k.wall ≡ h.wall = omega (arith, o, p) in
           let c : ℕ = distance s.line_width h.wall in
-          same_fault (length (wall_edges c outlines)) wall_edge_limit (crossings (wall_edges c outlines)) f g a b h.refused
+          same_fault (length (wall_edges c outlines)) wall_edge_limit (crossings (wall_edges c outlines)) f g a b
+              h.refused
           (subst (λ (w : ℕ). IsFault (distance s.line_width w) g) e k.refused)
 
   -- where all walls pass no limit none is refused

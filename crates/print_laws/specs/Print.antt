@@ -1,6 +1,7 @@
 -- What a print of a tree by settings is: one list of layers, each the plan of its layer of the tree, and two files that
 -- say these layers to whoever reads them.
-use Rattle.std.specs.Prelude.{◌≡◌, ◌<◌, ◌≤◌, ◌+◌, ◌*◌, ◌/◌, ℕ, true, List, [], ◌∷◌, ◌++◌, length, map, filter, slice_get}
+use Rattle.std.specs.Prelude.{◌≡◌, ◌<◌, ◌≤◌, ◌+◌, ◌*◌, ◌/◌, ℕ, true, List, [], ◌∷◌, ◌++◌, length, map, filter}
+use Rattle.std.specs.Prelude.{slice_get}
 use Rattle.std.specs.Prelude.{All, IsSomeAnd, Ok, pos}
 use Rattle.scad_geom.specs.declared.point.Pt.{Pt}
 use Rattle.scad_geom.specs.declared.point.Edge.{Edge}
@@ -110,8 +111,8 @@ pub record StaysInside (s : Settings) (outlines : List (List (List Pt))) (m : Mo
 abbrev pub StayInside : Settings → List (List (List Pt)) → List Move → Type 0
 StayInside s outlines moves = All (λ m. m.extruding ≡ true → StaysInside s outlines m) moves
 
--- The bytes are the text of the layers' plans. Along them the machine makes the moves of the plans, with travels between;
--- those that extrude are exactly the plans' moves of layer 0, of layer 1 and so on, in order, each at the upper surface
+-- The bytes are the text of the layers' plans. Along them the machine makes the moves of the plans, with travels
+-- between; those that extrude are exactly the plans' moves of layer 0, of layer 1 and so on, in order, each at the upper surface
 -- of its layer and with its filament; and each stays inside the outlines of its layer by the clearance.
 pub record PrintLayers (bytes : List ℕ) (s : Settings) (layers : List Layout) : Type 0 where
   pub text : bytes ≡ program_of s layers

@@ -68,12 +68,15 @@ module _ (settings : SettingsOfRun) (tree : Solid) (in_range : AreInRange settin
   accepted_within (Check model) parts budget of_tree few over = few_layers budget few over
   accepted_within (Tree model) parts budget of_tree accepts over = over
   accepted_within (Slice model cli) parts budget of_tree accepts over =
-      drawn_within OutlinesAlone _ _ (parts OutlinesAlone settings) budget (as_part tree parts of_tree OutlinesAlone settings)
+      drawn_within OutlinesAlone _ _ (parts OutlinesAlone settings) budget
+          (as_part tree parts of_tree OutlinesAlone settings)
       accepts over
   accepted_within (Plan model cli gcode) parts budget of_tree accepts over =
-      drawn_within WithPlan _ _ (parts WithPlan settings) budget (as_part tree parts of_tree WithPlan settings) accepts over
+      drawn_within WithPlan _ _ (parts WithPlan settings) budget (as_part tree parts of_tree WithPlan settings)
+          accepts over
   accepted_within (Sample n) parts budget of_tree accepts over =
-      drawn_within WithPlan _ _ (parts WithPlan settings) budget (as_part tree parts of_tree WithPlan settings) accepts over
+      drawn_within WithPlan _ _ (parts WithPlan settings) budget (as_part tree parts of_tree WithPlan settings)
+          accepts over
 
 -- so what follows it ends with a last line
 accepted_ends : (command : Command) (settings : SettingsOfRun) (parts : Parts) (tree : Solid) → AreInRange settings

@@ -86,7 +86,8 @@ IsOver (Plan model cli gcode) settings parts tree budget =
     IsDrawnOver WithPlan settings (plan_creates cli gcode) (line_of_plan settings (parts WithPlan settings) tree)
     (parts WithPlan settings) tree budget
 IsOver (Sample n) settings parts tree budget =
-    IsDrawnOver WithPlan settings [] (line_of_sample n settings (parts WithPlan settings) tree) (parts WithPlan settings) tree
+    IsDrawnOver WithPlan settings [] (line_of_sample n settings (parts WithPlan settings) tree)
+        (parts WithPlan settings) tree
     budget
 
 -- it ends with a line or by a budget

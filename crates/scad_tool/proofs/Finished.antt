@@ -51,7 +51,8 @@ gets_model command model files (Ok input) named told =
 
 module _ (command : Command) (settings : SettingsOfRun) (tree : Solid) (result : Result (List ℕ) Stop) (old new : View) where
   pub slice_finishes : (model cli : List ℕ) → command ≡ Slice model cli
-      → ((part : Part) → IsPart OutlinesAlone settings tree part → Completes (slice_script settings cli part tree) result
+      → ((part : Part) → IsPart OutlinesAlone settings tree part
+          → Completes (slice_script settings cli part tree) result
       old new)
       → PlaysOn command settings tree result old new
   slice_finishes model cli form plays parts of_tree =
@@ -59,7 +60,8 @@ module _ (command : Command) (settings : SettingsOfRun) (tree : Solid) (result :
       (plays (parts OutlinesAlone settings) (as_part tree parts of_tree OutlinesAlone settings))
 
   pub plan_finishes : (model cli gcode : List ℕ) → command ≡ Plan model cli gcode
-      → ((part : Part) → IsPart WithPlan settings tree part → Completes (plan_script settings cli gcode part tree) result
+      → ((part : Part) → IsPart WithPlan settings tree part → Completes (plan_script settings cli gcode part tree)
+          result
       old new)
       → PlaysOn command settings tree result old new
   plan_finishes model cli gcode form plays parts of_tree =

@@ -135,7 +135,8 @@ command_written (Slice m c) cli settings parts tree old new named in_range solid
     record {
       layers = layers_of settings.layer_height part (layer_count settings.layer_height tree);
       text = subst (λ (text : List ℕ). Adds text old.cli new.cli) (slices_are_whole settings c part tree whole) added;
-      hold = parts_hold OutlinesAlone settings tree part solids in_range (as_part tree parts of_tree OutlinesAlone settings)
+      hold = parts_hold OutlinesAlone settings tree part solids in_range
+          (as_part tree parts of_tree OutlinesAlone settings)
           whole.made;
     }
 command_written (Plan m c g) cli settings parts tree old new named in_range solids of_tree whole added =

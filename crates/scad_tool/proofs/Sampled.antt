@@ -36,7 +36,8 @@ module _ (n : ℕ) (s : SettingsOfRun) (part : Part) (tree : Solid) where
   script_is few = script_if (nat_lt layer_limit count) refl few
 
   -- the work on the files stopped
-  stopped_so : (old new : View) (stop : Stop) → count ≤ layer_limit → Carries {T = Written} (files WithPlan s part count)
+  stopped_so : (old new : View) (stop : Stop) → count ≤ layer_limit
+      → Carries {T = Written} (files WithPlan s part count)
       (Err stop) old new
       → HasRisen {T = Written} (Err stop) 0 0 → IsEnd (sample_script n s part tree) (Err stop)
   stopped_so old new (Stop.Ends refusal) few carries rises =

@@ -20,7 +20,8 @@ use Rattle.scad_expr.specs.State.{Outcome}
 use Rattle.scad_tool.specs.Words.{model_of}
 use Rattle.scad_tool.specs.Meaning.{source_means, MeansTree}
 use Rattle.scad_tool.specs.Told.{told}
-use Rattle.scad_tool.specs.Answer.{Parts, follows, input_script, model_read_first, model_script, settings_script, command_script}
+use Rattle.scad_tool.specs.Answer.{Parts, follows, input_script, model_read_first, model_script, settings_script}
+use Rattle.scad_tool.specs.Answer.{command_script}
 use Rattle.scad_tool.specs.Inputs.{Inputs}
 use Rattle.scad_tool.specs.Answer.{job_script, script_of, ArePartsOfTree}
 use Rattle.scad_tool.specs.Inputs.{source_of, settings_read, text_read, model_read, read_of, IsRead}

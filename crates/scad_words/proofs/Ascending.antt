@@ -1,19 +1,22 @@
 -- The table that a text is has its keys in ascending order: each edit of its nodes keeps them so.
-use Rattle.std.proofs.Common.{◌≡◌, ℕ, ◌==◌, Bool, true, false, Ordering, Less, Equal, Greater, nat_cmp, is_lt, cond}
-use Rattle.std.proofs.Common.{List, [], ◌∷◌, ◌++◌, length, suc, zero, Option, Some, None, option_map, option_and_then, refl, sym, ap, ◌∙◌, inl, inr, ◌⊎◌}
+use Rattle.std.proofs.Common.{◌≡◌, ℕ, ◌==◌, Bool, true, false, Ordering, Less, Equal, Greater, nat_cmp, is_lt}
+use Rattle.std.proofs.Common.{List, [], ◌∷◌, length, suc, zero, Option, Some, None, option_map, option_and_then}
+use Rattle.std.proofs.Common.{refl, ap, ◌∙◌, inl, inr, ◌⊎◌}
 use Rattle.std.proofs.Common.{subst}
 use Rattle.std.proofs.lemmas.Bool.{cases_Bool}
 use Rattle.std.proofs.lemmas.Cmp.{nat_list_cmp_total}
 use Rattle.std.proofs.lemmas.Option.{none-some, same_Some}
 use Rattle.std.specs.Prelude.{if◌then◌else◌}
 use Rattle.std.specs.Str.{is_utf8}
-use Rattle.std.specs.Cmp.{IsTotalOrder}
 use Rattle.std.specs.Cmp.Lexicographic.{slice_cmp}
-use Rattle.std.specs.Ordering.{match_ordering, ordering_reverse}
-use Rattle.toml.specs.Data.{Data, Members, no_members, member, is_before, same_key}
-use Rattle.toml.specs.Tables.{Node, Nodes, no_nodes, node, open_table, implicit, dotted, get_node, insert, replace, close, close_node}
-use Rattle.toml.specs.Tables.{Edit, header_node, dot_node, by_header, by_dot, along_header, along_dots, Definition, key_value}
-use Rattle.toml.specs.Tables.{std_table, array_table, new_node, redefine, at_found, at_key, put, Document, define_as, define, Expression}
+use Rattle.std.specs.Ordering.{ordering_reverse}
+use Rattle.toml.specs.Data.{Data, Members, is_before, same_key}
+use Rattle.toml.specs.Tables.{Node, Nodes, no_nodes, node, open_table, implicit, dotted, get_node, insert, replace}
+use Rattle.toml.specs.Tables.{close}
+use Rattle.toml.specs.Tables.{Edit, header_node, dot_node, by_header, by_dot, along_header, along_dots, Definition}
+use Rattle.toml.specs.Tables.{key_value}
+use Rattle.toml.specs.Tables.{std_table, array_table, new_node, redefine, at_found, at_key, put, Document, define_as}
+use Rattle.toml.specs.Tables.{define, Expression}
 use Rattle.toml.specs.Parse.{line, lines, skip_bom, parse_document}
 use Rattle.scad_words.specs.Settings.{document}
 use Rattle.scad_words.specs.Keys.{Ascend, KeysAscend}
@@ -37,7 +40,8 @@ lesser k l more = ap is_lt (nat_list_cmp_total.antisymm l k ∙ ap ordering_reve
 
 -- ---- one new key
 -- a key that comes before the nodes and before a new key comes before both
-before_insert : (l k : List ℕ) (x : Node) (ns : Nodes) → is_lt (slice_cmp nat_cmp l k) ≡ true → is_before l (close ns) ≡ true
+before_insert : (l k : List ℕ) (x : Node) (ns : Nodes) → is_lt (slice_cmp nat_cmp l k) ≡ true
+    → is_before l (close ns) ≡ true
     → is_before l (close (insert k x ns)) ≡ true
 before_insert l k x no_nodes new old = new
 before_insert l k x (node m y ns) new old =
@@ -61,7 +65,8 @@ insert_ascends k x (node l y ns) h =
     ]
 
 -- ---- another node at a key
-before_replace : (l k : List ℕ) (x : Node) (ns : Nodes) → is_before l (close ns) ≡ true → is_before l (close (replace k x ns)) ≡ true
+before_replace : (l k : List ℕ) (x : Node) (ns : Nodes) → is_before l (close ns) ≡ true
+    → is_before l (close (replace k x ns)) ≡ true
 before_replace l k x no_nodes h = h
 before_replace l k x (node m y ns) h =
     elim (cases_Bool (same_key k m)) [
@@ -83,19 +88,23 @@ inserted : {A : Type 0} (k : List ℕ) (w : A → Node) (ns : Nodes) → NodesAs
 inserted k w ns h None = tt
 inserted k w ns h (Some new) = insert_ascends k (w new) ns h
 
-replaced : (k : List ℕ) (ns : Nodes) → NodesAscend ns → (made : Option Node) → IfAscend (option_map (λ new. replace k new ns) made)
+replaced : (k : List ℕ) (ns : Nodes) → NodesAscend ns → (made : Option Node)
+    → IfAscend (option_map (λ new. replace k new ns) made)
 replaced k ns h None = tt
 replaced k ns h (Some new) = replace_ascends k new ns h
 
-header_ascends : (k : List ℕ) (edit : Edit) (ns : Nodes) → NodesAscend ns → (found : Option Node) → IfAscend (by_header k edit ns found)
+header_ascends : (k : List ℕ) (edit : Edit) (ns : Nodes) → NodesAscend ns → (found : Option Node)
+    → IfAscend (by_header k edit ns found)
 header_ascends k edit ns h None = inserted k (open_table implicit) ns h (edit no_nodes)
 header_ascends k edit ns h (Some x) = replaced k ns h (header_node edit x)
 
-dot_ascends : (k : List ℕ) (edit : Edit) (ns : Nodes) → NodesAscend ns → (found : Option Node) → IfAscend (by_dot k edit ns found)
+dot_ascends : (k : List ℕ) (edit : Edit) (ns : Nodes) → NodesAscend ns → (found : Option Node)
+    → IfAscend (by_dot k edit ns found)
 dot_ascends k edit ns h None = inserted k (open_table dotted) ns h (edit no_nodes)
 dot_ascends k edit ns h (Some x) = replaced k ns h (dot_node edit x)
 
-found_ascends : (k : List ℕ) (what : Definition) (ns : Nodes) → NodesAscend ns → (found : Option Node) → IfAscend (at_found k what ns found)
+found_ascends : (k : List ℕ) (what : Definition) (ns : Nodes) → NodesAscend ns → (found : Option Node)
+    → IfAscend (at_found k what ns found)
 found_ascends k what ns h None = insert_ascends k (new_node what) ns h
 found_ascends k what ns h (Some x) = replaced k ns h (redefine what x)
 
@@ -103,7 +112,8 @@ key_ascends : (k : List ℕ) (what : Definition) (ns : Nodes) → NodesAscend ns
 unfolding at_key
 key_ascends k what ns h = found_ascends k what ns h (get_node k ns)
 
-path_ascends : (path : List (List ℕ)) (edit : Edit) → ((ns : Nodes) → NodesAscend ns → IfAscend (edit ns)) → (ns : Nodes)
+path_ascends : (path : List (List ℕ)) (edit : Edit) → ((ns : Nodes) → NodesAscend ns → IfAscend (edit ns))
+    → (ns : Nodes)
     → NodesAscend ns → IfAscend (along_header path edit ns)
 unfolding along_header
 path_ascends [] edit keeps ns h = keeps ns h
@@ -123,14 +133,18 @@ abbrev DocumentAscends : Option Document → Type 0
 DocumentAscends None = Unit {0}
 DocumentAscends (Some doc) = NodesAscend doc.0
 
-rooted : (last : List (List ℕ)) (root : Option Nodes) → IfAscend root → DocumentAscends (option_map (λ root. (root, last)) root)
+rooted : (last : List (List ℕ)) (root : Option Nodes) → IfAscend root
+    → DocumentAscends (option_map (λ root. (root, last)) root)
 rooted last None h = tt
 rooted last (Some root) h = h
 
-defined : (doc : Document) (key : List (List ℕ) × List ℕ) (what : Definition) → NodesAscend doc.0 → DocumentAscends (define_as doc key what)
+defined : (doc : Document) (key : List (List ℕ) × List ℕ) (what : Definition) → NodesAscend doc.0
+    → DocumentAscends (define_as doc key what)
 defined doc key (key_value d) h = rooted doc.1 _ (path_ascends doc.1 (put key d) (put_ascends key d) doc.0 h)
-defined doc key std_table h = rooted _ _ (path_ascends key.0 (at_key key.1 std_table) (key_ascends key.1 std_table) doc.0 h)
-defined doc key array_table h = rooted _ _ (path_ascends key.0 (at_key key.1 array_table) (key_ascends key.1 array_table) doc.0 h)
+defined doc key std_table h = rooted _ _ (path_ascends key.0 (at_key key.1 std_table) (key_ascends key.1 std_table)
+    doc.0 h)
+defined doc key array_table h = rooted _ _ (path_ascends key.0 (at_key key.1 array_table)
+    (key_ascends key.1 array_table) doc.0 h)
 
 define_ascends : (doc : Document) (e : Expression) → NodesAscend doc.0 → DocumentAscends (define doc e)
 unfolding define
@@ -147,7 +161,8 @@ after_line : (doc : Document) (found : Option (Expression × List ℕ)) (more : 
     → ((rest : List ℕ) (doc : Document) → NodesAscend doc.0 → DocumentAscends (more rest doc)) → NodesAscend doc.0
     → DocumentAscends (option_and_then (λ e. option_and_then (more e.1) (define doc e.0)) found)
 after_line doc None more keeps h = tt
-after_line doc (Some e) more keeps h = after_definition (define doc e.0) (more e.1) (keeps e.1) (define_ascends doc e.0 h)
+after_line doc (Some e) more keeps h = after_definition (define doc e.0) (more e.1) (keeps e.1)
+    (define_ascends doc e.0 h)
 
 at_end : (b : Bool) (doc : Document) (rest : Option Document) → NodesAscend doc.0 → DocumentAscends rest
     → DocumentAscends (if b then Some doc else rest)
@@ -168,13 +183,15 @@ unfolding lines
 lines_ascend zero doc text h = tt
 lines_ascend (suc n) doc text h = at_front n doc _ (λ next rest. lines_ascend n next rest) h
 
-closed : (doc : Option Document) (ms : Members) → DocumentAscends doc → option_map (λ doc. close doc.0) doc ≡ Some ms → Ascend ms
+closed : (doc : Option Document) (ms : Members) → DocumentAscends doc
+    → option_map (λ doc. close doc.0) doc ≡ Some ms → Ascend ms
 closed None ms h is = absurd (none-some ms is)
 closed (Some doc) ms h is = subst Ascend (same_Some (close doc.0) ms is) h
 
 parsed : (text : List ℕ) (ms : Members) → parse_document text ≡ Some ms → Ascend ms
 unfolding parse_document
-parsed text ms is = closed (lines (suc (length text)) (no_nodes, []) (skip_bom text)) ms (lines_ascend (suc (length text)) (no_nodes, []) (skip_bom text) tt) is
+parsed text ms is = closed (lines (suc (length text)) (no_nodes, []) (skip_bom text)) ms
+    (lines_ascend (suc (length text)) (no_nodes, []) (skip_bom text) tt) is
 
 read_by : (b : Bool) (bytes : List ℕ) (ms : Members) → (if b then parse_document bytes else None) ≡ Some ms → Ascend ms
 read_by true bytes ms is = parsed bytes ms is

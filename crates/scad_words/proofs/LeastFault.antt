@@ -1,20 +1,20 @@
 -- The first fault of a table whose keys ascend is that of the least key that has one.
-use Rattle.std.proofs.Common.{◌≡◌, ℕ, Bool, true, false, Ordering, Less, Equal, Greater, nat_cmp, is_lt, List, Option, Some, None, Result, Ok, Err}
-use Rattle.std.proofs.Common.{ℤ, refl, sym, ap, ◌∙◌, subst, inl, inr, ◌⊎◌}
+use Rattle.std.proofs.Common.{◌≡◌, ℕ, Bool, true, false, Ordering, Less, Equal, Greater, nat_cmp, is_lt, List, Option}
+use Rattle.std.proofs.Common.{Some, None, Ok, Err}
+use Rattle.std.proofs.Common.{ℤ, refl, sym, ap, ◌∙◌, subst, inl, inr}
 use Rattle.std.proofs.lemmas.Bool.{false≢true}
 use Rattle.std.proofs.lemmas.Cmp.{nat_list_cmp_total}
 use Rattle.std.proofs.lemmas.Map.Lookups.{exact_bytes}
 use Rattle.std.proofs.lemmas.Option.{none-some, same_Some}
-use Rattle.std.specs.Prelude.{if◌then◌else◌}
 use Rattle.std.specs.Cmp.{tied_itself}
 use Rattle.std.specs.Cmp.Lexicographic.{slice_cmp}
-use Rattle.std.specs.Ordering.{match_ordering, ordering_reverse}
 use Rattle.toml.specs.Data.{Data, Members, no_members, member, get_member, is_before, as_integer}
 use Rattle.scad_fault.specs.declared.settings.SetFault.{SetFault}
 use Rattle.scad_words.specs.declared.rows.Row.{Row}
 use Rattle.scad_words.specs.declared.settings.Settings.{Settings}
 use Rattle.scad_words.specs.Rows.{row_of, is_in_range}
-use Rattle.scad_words.specs.Settings.{number_fault, row_fault, key_fault, fault_or, first_fault, settings_unless, settings_by, document}
+use Rattle.scad_words.specs.Settings.{number_fault, row_fault, key_fault, fault_or, first_fault, settings_unless}
+use Rattle.scad_words.specs.Settings.{settings_by}
 use Rattle.scad_words.specs.Keys.{Ascend, ComesBefore, IsLeastFault, HasNoFault, LeastFaultsAreTold}
 use Rattle.scad_words.proofs.Ascending.{cases_ordering, keys_ascend}
 
@@ -59,7 +59,8 @@ not_there k (member l d ms) ascends before =
     rw less (not_there k ms ascends.1 (before_before k l ms less ascends.0))
 
 -- ---- what a table has at a key
-at_first : (k l : List ℕ) (d : Data) (ms : Members) → slice_cmp nat_cmp k l ≡ Equal → get_member k (member l d ms) ≡ Some d
+at_first : (k l : List ℕ) (d : Data) (ms : Members) → slice_cmp nat_cmp k l ≡ Equal
+    → get_member k (member l d ms) ≡ Some d
 at_first k l d ms tie = rw tie refl
 
 -- a key that the rest has isn't the first
@@ -69,20 +70,23 @@ behind_first k l d value ms ascends there =
     elim (cases_ordering (slice_cmp nat_cmp k l)) [
       | inl less ↦ rw less there
       | inr other ↦ elim other [
-        | inl tie ↦ absurd (none-some value (sym (not_there k ms ascends.1 (subst (λ (x : List ℕ). is_before x ms ≡ true) (sym (exact_bytes k l tie)) ascends.0)) ∙ there))
+        | inl tie ↦ absurd (none-some value (sym (not_there k ms ascends.1
+            (subst (λ (x : List ℕ). is_before x ms ≡ true) (sym (exact_bytes k l tie)) ascends.0)) ∙ there))
         | inr more ↦ rw more there
       ]
     ]
 
 -- a fact of the first key and of the rest is one of every key
-each_key : (P : List ℕ → Data → Type 0) (k l : List ℕ) (d value : Data) (ms : Members) → get_member k (member l d ms) ≡ Some value
+each_key : (P : List ℕ → Data → Type 0) (k l : List ℕ) (d value : Data) (ms : Members)
+    → get_member k (member l d ms) ≡ Some value
     → (k ≡ l → P l d) → (get_member k ms ≡ Some value → P k value) → P k value
 each_key P k l d value ms there first more =
     elim (cases_ordering (slice_cmp nat_cmp k l)) [
       | inl less ↦ more (rw less at there)
       | inr other ↦ elim other [
         | inl tie ↦ let same = exact_bytes k l tie in
-            subst (λ (x : List ℕ). P x value) (sym same) (subst (P l) (same_Some d value (sym (at_first k l d ms tie) ∙ there)) (first same))
+            subst (λ (x : List ℕ). P x value) (sym same)
+                (subst (P l) (same_Some d value (sym (at_first k l d ms tie) ∙ there)) (first same))
         | inr greater ↦ more (rw greater at there)
       ]
     ]
@@ -92,8 +96,9 @@ abbrev HasNone : List ℕ → Data → Type 0
 HasNone key value = key_fault key value ≡ None
 
 -- the first key has it, or the rest
-first_or_later : (k : List ℕ) (d : Data) (ms : Members) (fault : SetFault) → (first_fault ms ≡ Some fault → IsLeastFault ms fault)
-    → (here : Option SetFault) → key_fault k d ≡ here → Ascend (member k d ms) → fault_or here (first_fault ms) ≡ Some fault
+first_or_later : (k : List ℕ) (d : Data) (ms : Members) (fault : SetFault)
+    → (first_fault ms ≡ Some fault → IsLeastFault ms fault) → (here : Option SetFault) → key_fault k d ≡ here
+    → Ascend (member k d ms) → fault_or here (first_fault ms) ≡ Some fault
     → IsLeastFault (member k d ms) fault
 first_or_later k d ms fault later (Some found) has ascends is =
     let same = same_Some found fault is in
@@ -113,28 +118,33 @@ first_or_later k d ms fault later None has ascends is =
       value = rest.value;
       there = behind_first fault.key k d rest.value ms ascends rest.there;
       has = rest.has;
-      least = λ key other before there. each_key HasNone key k d other ms there (λ same. has) (rest.least key other before);
+      least = λ key other before there. each_key HasNone key k d other ms there (λ same. has)
+          (rest.least key other before);
     }
 
 least : (ms : Members) (fault : SetFault) → Ascend ms → first_fault ms ≡ Some fault → IsLeastFault ms fault
 least no_members fault ascends is = absurd (none-some fault is)
-least (member k d ms) fault ascends is = first_or_later k d ms fault (least ms fault ascends.1) (key_fault k d) refl ascends is
+least (member k d ms) fault ascends is =
+    first_or_later k d ms fault (least ms fault ascends.1) (key_fault k d) refl ascends is
 
 no_later : (k : List ℕ) (d : Data) (ms : Members) → (first_fault ms ≡ None → HasNoFault ms) → (here : Option SetFault)
     → key_fault k d ≡ here → fault_or here (first_fault ms) ≡ None → HasNoFault (member k d ms)
 no_later k d ms later (Some found) has is = absurd (none-some found (sym is))
-no_later k d ms later None has is = λ key value there. each_key HasNone key k d value ms there (λ same. has) (later is key value)
+no_later k d ms later None has is = λ key value there. each_key HasNone key k d value ms there (λ same. has)
+    (later is key value)
 
 no_fault : (ms : Members) → first_fault ms ≡ None → HasNoFault ms
 no_fault no_members is = λ key value there. absurd (none-some value there)
 no_fault (member k d ms) is = no_later k d ms (no_fault ms) (key_fault k d) refl is
 
 -- ---- the law
-refused_by : (found : Option SetFault) (ms : Members) (fault : SetFault) → settings_unless found ms ≡ Err fault → found ≡ Some fault
+refused_by : (found : Option SetFault) (ms : Members) (fault : SetFault) → settings_unless found ms ≡ Err fault
+    → found ≡ Some fault
 refused_by None ms fault is = let never : ⊥ = cc in absurd never
 refused_by (Some found) ms fault is = ap Some cc
 
-accepted_by : (found : Option SetFault) (ms : Members) (settings : Settings) → settings_unless found ms ≡ Ok settings → found ≡ None
+accepted_by : (found : Option SetFault) (ms : Members) (settings : Settings)
+    → settings_unless found ms ≡ Ok settings → found ≡ None
 accepted_by None ms settings is = refl
 accepted_by (Some found) ms settings is = let never : ⊥ = cc in absurd never
 

@@ -1,4 +1,4 @@
--- The keys of a settings text, and which of its faults is told. Byte order is that of the keys' bytes, one after another.
+-- The keys of a settings text, and which of its faults is told. Byte order goes by the keys' bytes, one after another.
 use Rattle.std.specs.Prelude.{◌≡◌, ℕ, true, List, Some, None, Ok, Err}
 use Rattle.std.specs.declared.cmp.Ordering.TheVariants.{Less}
 use Rattle.std.specs.Ordering.{nat_cmp}
@@ -34,7 +34,7 @@ HasNoFault ms = (key : List ℕ) (value : Data) → get_member key ms ≡ Some v
 abbrev pub KeysAscend : Type 0
 KeysAscend = (bytes : List ℕ) (ms : Members) → document bytes ≡ Some ms → Ascend ms
 
--- Of a text that is a table the fault of the least key is told that has one, and a text is accepted only where none has.
+-- Of a text that is a table the fault of the least key is told that has one. A text is accepted only where none has.
 pub record LeastFaultsAreTold : Type 0 where
   pub refused : (bytes : List ℕ) (ms : Members) (fault : SetFault) → document bytes ≡ Some ms
       → settings_of bytes ≡ Err fault → IsLeastFault ms fault

@@ -17,7 +17,8 @@ pub record IsOn (a b c : Point) : Type 0 where
 
 -- by one of its numbers, p lies strictly between a and b
 abbrev pub IsBetween : (Point → ℤ) → Point → Point → Point → Type 0
-IsBetween n a p b = ((n a *ℤ p.d) <ℤ (n p *ℤ a.d) × (n p *ℤ b.d) <ℤ (n b *ℤ p.d)) ⊎ ((n b *ℤ p.d) <ℤ (n p *ℤ b.d) × (n p *ℤ a.d) <ℤ (n a *ℤ p.d))
+IsBetween n a p b = ((n a *ℤ p.d) <ℤ (n p *ℤ a.d) × (n p *ℤ b.d) <ℤ (n b *ℤ p.d))
+    ⊎ ((n b *ℤ p.d) <ℤ (n p *ℤ b.d) × (n p *ℤ a.d) <ℤ (n a *ℤ p.d))
 
 -- p lies less than one micrometre from q along both axes
 pub record IsWithinOne (q p : Point) : Type 0 where
