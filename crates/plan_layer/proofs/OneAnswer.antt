@@ -61,7 +61,7 @@ module _ (outlines : List (List Pt)) where
           let e : k.wall ≡ h.wall = omega (arith, o, p) in
           let c : ℕ = distance s.line_width h.wall in
           same_fault (length (wall_edges c outlines)) wall_edge_limit (crossings (wall_edges c outlines)) f g a b
-              h.refused
+          h.refused
           (subst (λ (w : ℕ). IsFault (distance s.line_width w) g) e k.refused)
 
   -- where all walls pass no limit none is refused

@@ -65,7 +65,7 @@ module _ (settings : SettingsOfRun) (tree : Solid) (in_range : AreInRange settin
   passes_drawing (Tree model) parts budget of_tree over = over
   passes_drawing (Slice model cli) parts budget of_tree over =
       drawn_passes OutlinesAlone _ _ (parts OutlinesAlone settings) budget
-          (as_part tree parts of_tree OutlinesAlone settings)
+      (as_part tree parts of_tree OutlinesAlone settings)
       over
   passes_drawing (Plan model cli gcode) parts budget of_tree over =
       drawn_passes WithPlan _ _ (parts WithPlan settings) budget (as_part tree parts of_tree WithPlan settings) over

@@ -69,14 +69,14 @@ module _ (settings : SettingsOfRun) (tree : Solid) (in_range : AreInRange settin
   accepted_within (Tree model) parts budget of_tree accepts over = over
   accepted_within (Slice model cli) parts budget of_tree accepts over =
       drawn_within OutlinesAlone _ _ (parts OutlinesAlone settings) budget
-          (as_part tree parts of_tree OutlinesAlone settings)
+      (as_part tree parts of_tree OutlinesAlone settings)
       accepts over
   accepted_within (Plan model cli gcode) parts budget of_tree accepts over =
       drawn_within WithPlan _ _ (parts WithPlan settings) budget (as_part tree parts of_tree WithPlan settings)
-          accepts over
+      accepts over
   accepted_within (Sample n) parts budget of_tree accepts over =
       drawn_within WithPlan _ _ (parts WithPlan settings) budget (as_part tree parts of_tree WithPlan settings)
-          accepts over
+      accepts over
 
 -- so what follows it ends with a last line
 accepted_ends : (command : Command) (settings : SettingsOfRun) (parts : Parts) (tree : Solid) → AreInRange settings

@@ -86,7 +86,7 @@ module _ (s : SettingsOfRun) (tree : Solid) (in_range : AreInRange s) (solids : 
   cut_by (Slice model cli) parts of_tree (inr c) added =
       let part = parts OutlinesAlone s in
       inr (are_cut OutlinesAlone (slice_creates cli) (slice_line s part tree) part
-          (as_part tree parts of_tree OutlinesAlone
+      (as_part tree parts of_tree OutlinesAlone
       s) c
       (subst (λ (text : List ℕ). Adds text old.cli new.cli) (slice_cut s cli part tree c.cut) added.0)
       (subst (λ (text : List ℕ). Adds text old.gcode new.gcode) (slice_is_silent s cli part tree c.cut) added.1))
@@ -95,7 +95,7 @@ module _ (s : SettingsOfRun) (tree : Solid) (in_range : AreInRange s) (solids : 
   cut_by (Plan model cli gcode) parts of_tree (inr c) added =
       let part = parts WithPlan s in
       inr (are_cut WithPlan (plan_creates cli gcode) (line_of_plan s part tree) part
-          (as_part tree parts of_tree WithPlan s)
+      (as_part tree parts of_tree WithPlan s)
       c
       (subst (λ (text : List ℕ). Adds text old.cli new.cli) (plan_cut s cli gcode part tree c.cut) added.0)
       (subst (λ (text : List ℕ). Adds text old.gcode new.gcode)

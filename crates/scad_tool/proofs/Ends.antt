@@ -87,7 +87,7 @@ IsOver (Plan model cli gcode) settings parts tree budget =
     (parts WithPlan settings) tree budget
 IsOver (Sample n) settings parts tree budget =
     IsDrawnOver WithPlan settings [] (line_of_sample n settings (parts WithPlan settings) tree)
-        (parts WithPlan settings) tree
+    (parts WithPlan settings) tree
     budget
 
 -- it ends with a line or by a budget

@@ -52,7 +52,7 @@ gets_model command model files (Ok input) named told =
 module _ (command : Command) (settings : SettingsOfRun) (tree : Solid) (result : Result (List ℕ) Stop) (old new : View) where
   pub slice_finishes : (model cli : List ℕ) → command ≡ Slice model cli
       → ((part : Part) → IsPart OutlinesAlone settings tree part
-          → Completes (slice_script settings cli part tree) result
+      → Completes (slice_script settings cli part tree) result
       old new)
       → PlaysOn command settings tree result old new
   slice_finishes model cli form plays parts of_tree =
@@ -61,7 +61,7 @@ module _ (command : Command) (settings : SettingsOfRun) (tree : Solid) (result :
 
   pub plan_finishes : (model cli gcode : List ℕ) → command ≡ Plan model cli gcode
       → ((part : Part) → IsPart WithPlan settings tree part → Completes (plan_script settings cli gcode part tree)
-          result
+      result
       old new)
       → PlaysOn command settings tree result old new
   plan_finishes model cli gcode form plays parts of_tree =

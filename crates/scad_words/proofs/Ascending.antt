@@ -173,10 +173,10 @@ at_end false doc rest h more = more
 at_front : (n : ℕ) (doc : Document) (start : List ℕ)
     → ((next : Document) (rest : List ℕ) → NodesAscend next.0 → DocumentAscends (lines n next rest)) → NodesAscend doc.0
     → DocumentAscends (if length start == 0 then Some doc
-      else option_and_then (λ e. option_and_then (λ next. lines n next e.1) (define doc e.0)) (line start))
+    else option_and_then (λ e. option_and_then (λ next. lines n next e.1) (define doc e.0)) (line start))
 at_front n doc start keeps h =
     at_end (length start == 0) doc _ h
-      (after_line doc (line start) (λ rest next. lines n next rest) (λ rest next. keeps next rest) h)
+    (after_line doc (line start) (λ rest next. lines n next rest) (λ rest next. keeps next rest) h)
 
 lines_ascend : (n : ℕ) (doc : Document) (text : List ℕ) → NodesAscend doc.0 → DocumentAscends (lines n doc text)
 unfolding lines

@@ -86,7 +86,7 @@ each_key P k l d value ms there first more =
       | inr other ↦ elim other [
         | inl tie ↦ let same = exact_bytes k l tie in
             subst (λ (x : List ℕ). P x value) (sym same)
-                (subst (P l) (same_Some d value (sym (at_first k l d ms tie) ∙ there)) (first same))
+            (subst (P l) (same_Some d value (sym (at_first k l d ms tie) ∙ there)) (first same))
         | inr greater ↦ more (rw greater at there)
       ]
     ]
