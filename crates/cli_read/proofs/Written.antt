@@ -14,7 +14,7 @@ use Rattle.scad_geom.specs.declared.point.Pt.{Pt}
 use Rattle.scad_geom.specs.Area.{twice_area}
 use Rattle.cli_text.specs.Cli.{Layer, head_start, head_end, direction, point_text, closed, polyline_start, polyline_text, layer_start, layer_text, geometry_end}
 use Rattle.cli_read.specs.Form.{reach, count_start, head_lines, end_line, height_line, outline_line, IsWithinReach}
-use Rattle.cli_read.specs.Form.{IsShape, IsOutline, IsLayer}
+use Rattle.cli_read.specs.Form.{IsShape, IsOutline, SaysLayer}
 use Rattle.cli_read.specs.Laws.{WrittenTextsSayTheirLayers}
 use Rattle.cli_read.proofs.Numbers.{Lacks, decimal_passes}
 use Rattle.cli_read.proofs.TextLines.{feed, line_fed}
@@ -204,7 +204,7 @@ loops_are (points ∷ loops) h = (
   loops_are loops h.1,
 )
 
-layers_are : (layers : List Layer) → AreLow layers → AreShaped layers → AllZip IsLayer (map part_of layers) layers
+layers_are : (layers : List Layer) → AreLow layers → AreShaped layers → AllZip SaysLayer (map part_of layers) layers
 layers_are [] low shapes = tt
 layers_are (layer ∷ layers) low shapes = (
   record { outlines = map written layer.loops; are = refl; each = loops_are layer.loops shapes.0; height = low.0 },

@@ -33,11 +33,11 @@ pub record AreLayersOf (s : Settings) (tree : Solid) (layers : List Layout) : Ty
   pub each : (i : ℕ) → i < length layers → IsSomeAnd (slice_get layers i) (λ l. IsLayer WithPlan s tree i (Ok l))
 
 -- the outlines of layers, and their paths, layer by layer
-abbrev pub outlines_of : List Layout → List (List (List Pt))
-outlines_of layers = map (λ l. l.outlines) layers
+abbrev pub all_outlines : List Layout → List (List (List Pt))
+all_outlines layers = map (λ l. l.outlines) layers
 
-abbrev pub paths_of : List Layout → List (List (List Pt))
-paths_of layers = map (λ l. l.paths) layers
+abbrev pub all_paths : List Layout → List (List (List Pt))
+all_paths layers = map (λ l. l.paths) layers
 
 -- ---- the outlines' file
 -- layers of the height h as they are written, each with the height of its upper surface; the first has the number i
@@ -56,29 +56,29 @@ pub record SayLayers (bytes : List ℕ) (layers : List Layer) : Type 0 where
 -- ---- the printing program
 -- its text
 abbrev pub program_of : Settings → List Layout → List ℕ
-program_of s layers = gcode (rates_of s) s.hot_end s.bed (paths_of layers)
+program_of s layers = gcode (rates_of s) s.hot_end s.bed (all_paths layers)
 
 -- the moves along the paths, travels among them
 abbrev pub moves_of : Settings → List Layout → List Move
-moves_of s layers = program_moves (rates_of s) (paths_of layers)
+moves_of s layers = program_moves (rates_of s) (all_paths layers)
 
 -- the moves that extrude
 abbrev pub extruding : List Move → List Move
 extruding moves = filter (λ m. m.extruding) moves
 
 -- a side of a path, at the height of its layer's upper surface
-pub record Side : Type 0 where
+pub record PathSide : Type 0 where
   pub z : ℕ
   pub edge : Edge
 
 -- the sides of the paths of layers of the height h in order, the first of which has the number i
-abbrev pub sides_from : ℕ → ℕ → List (List (List Pt)) → List Side
+abbrev pub sides_from : ℕ → ℕ → List (List (List Pt)) → List PathSide
 sides_from h i [] = []
 sides_from h i (paths ∷ layers) =
     map (λ e. record { z = (i + 1) * h; edge = e }) (all_moves paths) ++ sides_from h (i + 1) layers
 
 -- the move along a side, behind moves of this volume, with the filament that its own volume takes
-abbrev pub move_along : Rates → ℕ → Side → Move
+abbrev pub move_along : Rates → ℕ → PathSide → Move
 move_along rates volume side = record {
   from = at_height side.edge.a side.z;
   to = at_height side.edge.b side.z;
@@ -88,7 +88,7 @@ move_along rates volume side = record {
 }
 
 -- the moves along sides one after another, behind moves of this volume
-abbrev pub moves_along : Rates → ℕ → List Side → List Move
+abbrev pub moves_along : Rates → ℕ → List PathSide → List Move
 moves_along rates volume [] = []
 moves_along rates volume (side ∷ sides) =
     move_along rates volume side
@@ -112,15 +112,16 @@ abbrev pub StayInside : Settings → List (List (List Pt)) → List Move → Typ
 StayInside s outlines moves = All (λ m. m.extruding ≡ true → StaysInside s outlines m) moves
 
 -- The bytes are the text of the layers' plans. Along them the machine makes the moves of the plans, with travels
--- between; those that extrude are exactly the plans' moves of layer 0, of layer 1 and so on, in order, each at the upper surface
+-- between; those that extrude are exactly the plans' moves of layer 0, of layer 1 and so on, in order, each at the
+-- upper surface
 -- of its layer and with its filament; and each stays inside the outlines of its layer by the clearance.
 pub record PrintLayers (bytes : List ℕ) (s : Settings) (layers : List Layout) : Type 0 where
   pub text : bytes ≡ program_of s layers
   pub moves : List Move
   pub made : machine bytes ≡ Ok moves
   pub all : moves ≡ moves_of s layers
-  pub extruded : extruding moves ≡ moves_along (rates_of s) 0 (sides_from s.layer_height 0 (paths_of layers))
-  pub inside : StayInside s (outlines_of layers) moves
+  pub extruded : extruding moves ≡ moves_along (rates_of s) 0 (sides_from s.layer_height 0 (all_paths layers))
+  pub inside : StayInside s (all_outlines layers) moves
 
 -- ---- the print
 -- The outlines hold what the tree contains, at each cell centre more than one micrometre from each section edge; each

@@ -18,7 +18,7 @@ use Rattle.slice_work.specs.Rates.{rates_of}
 use Rattle.scad_slice.specs.Budgets.{layer_count}
 use Rattle.scad_slice.specs.Parts.{IsPart, AreMade, layer_at, layers_of, plans_of}
 use Rattle.scad_slice.specs.Layer.{IsLayer}
-use Rattle.print_laws.specs.Print.{paths_of as paths_in, program_of, AreLayersOf, written_from, written}
+use Rattle.print_laws.specs.Print.{all_paths, program_of, AreLayersOf, written_from, written}
 use Rattle.print_laws.proofs.ByNumber.{each_by_number}
 
 -- a layer that is laid out, none where it passes a budget
@@ -57,12 +57,12 @@ paths_whole : (r : Result Layout Budget) → paths_of WithPlan r ≡ (whole_of r
 paths_whole (Ok layout) = refl
 paths_whole (Err budget) = refl
 
-plans_at : (part : Part) (is : List ℕ) → map (λ i. paths_of WithPlan (part i)) is ≡ paths_in (map (layout_at part) is)
+plans_at : (part : Part) (is : List ℕ) → map (λ i. paths_of WithPlan (part i)) is ≡ all_paths (map (layout_at part) is)
 plans_at part [] = refl
 plans_at part (i ∷ is) = ap₂ (λ (paths : List (List Pt)) (more : List (List (List Pt))). paths ∷ more)
     (paths_whole (part i)) (plans_at part is)
 
-pub plans_are : (part : Part) (n : ℕ) → plans_of part n ≡ paths_in (layouts part n)
+pub plans_are : (part : Part) (n : ℕ) → plans_of part n ≡ all_paths (layouts part n)
 plans_are part n = plans_at part (range_with_len 0 n)
 
 pub program_is : (s : SettingsOfRun) (part : Part) (n : ℕ)

@@ -20,14 +20,14 @@ use Rattle.slice_work.specs.Part.{Layout, layer_limit}
 use Rattle.slice_work.specs.Rates.{rates_of}
 use Rattle.scad_slice.specs.Budgets.{layer_count}
 use Rattle.scad_slice.specs.Layer.{IsLayer}
-use Rattle.print_laws.specs.Print.{paths_of, written}
+use Rattle.print_laws.specs.Print.{all_paths, written}
 use Rattle.scad_tool.specs.Inputs.{Inputs, source_in, settings_found, IsRead}
 use Rattle.scad_tool.specs.Meaning.{MeansTree}
 
 -- the printing program of the first layers without its end, where it is wanted
 abbrev pub program_front : Want → Settings → List Layout → List ℕ
 program_front OutlinesAlone s layers = []
-program_front WithPlan s layers = program_head s.hot_end s.bed ++ layers_text (rates_of s) 0 0 (paths_of layers)
+program_front WithPlan s layers = program_head s.hot_end s.bed ++ layers_text (rates_of s) 0 0 (all_paths layers)
 
 -- A layer of the tree passes the budget. Both files have their heads and the layers below it, each laid out as it is
 -- wanted,
