@@ -14,7 +14,7 @@ use Rattle.scad_geom.specs.declared.point.Pt.{Pt}
 use Rattle.text_scan.specs.Marks.{first_at}
 use Rattle.text_scan.proofs.Pieces.{one_piece, first_piece}
 use Rattle.cli_text.specs.Cli.{point_text}
-use Rattle.cli_read.specs.Form.{IsNear}
+use Rattle.cli_read.specs.Form.{IsWithinReach}
 use Rattle.cli_read.specs.Reading.{comma, words, words_behind, behind}
 use Rattle.cli_read.proofs.Numbers.{Lacks, decimal_lacks, signed_lacks, same_bytes}
 
@@ -83,7 +83,7 @@ first_word text at is within = by_size (cases_lt at (length text))
         (sym (ap words_behind (drop_of_length-le text h)))
 
 -- the words of a word and points behind it
-pub words_of_points : (word : List ℕ) (ps : List Pt) → Lacks comma word → AllByRecursion IsNear ps
+pub words_of_points : (word : List ℕ) (ps : List Pt) → Lacks comma word → AllByRecursion IsWithinReach ps
     → words (word ++ points_text ps) ≡ word ∷ coordinate_words ps
 words_of_points word [] h near = ap words (append-nil word) ∙ one_word word h
 words_of_points word (p ∷ ps) h near =
@@ -99,7 +99,7 @@ outline_regrouped a b c = simp append_assoc
 
 -- the words of an outline: its direction, the number of its points, and these
 pub words_of_outline : (direction count : ℕ) (ps : List Pt) → direction < 2 ^ 32 → count < 2 ^ 32
-    → AllByRecursion IsNear ps →
+    → AllByRecursion IsWithinReach ps →
     words (decimal direction ++ codes "," ++ decimal count ++ points_text ps) ≡ decimal direction ∷ decimal count
     ∷ coordinate_words ps
 words_of_outline direction count ps d c near =

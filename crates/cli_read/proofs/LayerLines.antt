@@ -11,7 +11,7 @@ use Rattle.cli_text.specs.Cli.{Layer, layer_start, polyline_start, closed}
 use Rattle.cli_read.specs.declared.fault.CliFault.TheVariants.{BadLine}
 use Rattle.cli_read.specs.declared.line.Said.{Said}
 use Rattle.cli_read.specs.declared.line.Said.TheVariants.{Height, Outline}
-use Rattle.cli_read.specs.Form.{IsOutline, IsLayer, AreAbove, height_line, end_line}
+use Rattle.cli_read.specs.Form.{IsOutline, SaysLayer, AreAbove, height_line, end_line}
 use Rattle.cli_read.specs.Reading.{◌>>=◌, Geometry, or_bad, words, behind, count_of, outline_at, is_above, height_at, said_by, said_at, onto, last_height, ended_at, geometry_at}
 use Rattle.cli_read.proofs.Results.{bind_ok, ok_is, passed, or_bad_ok}
 use Rattle.cli_read.proofs.Numbers.{count_text, count_back, same_bytes}
@@ -122,7 +122,7 @@ pub record Stands (last : Option ℕ) (ls : List (List ℕ)) (g : Geometry) : Ty
   pub parts : List (List (List ℕ))
   pub are : ls ≡ outlines ++ (joined parts ++ end_line ∷ [])
   pub front : AllZip IsOutline outlines g.outlines
-  pub each : AllZip IsLayer parts g.layers
+  pub each : AllZip SaysLayer parts g.layers
   pub above : AreAbove last g.layers
   pub none : last ≡ None → g.outlines ≡ []
 
@@ -229,7 +229,7 @@ unfolding geometry_at
 end_back last n = rw (same_bytes end_line) refl
 
 pub parts_back : (last : Option ℕ) (parts : List (List (List ℕ))) (layers : List Layer) →
-    AllZip IsLayer parts layers → AreAbove last layers → Gives last (joined parts ++ end_line ∷ []) (only [] layers)
+    AllZip SaysLayer parts layers → AreAbove last layers → Gives last (joined parts ++ end_line ∷ []) (only [] layers)
 parts_back last [] [] h above n = end_back last n
 parts_back last [] (l ∷ ls) h above n = absurd h
 parts_back last (p ∷ ps) [] h above n = absurd h

@@ -13,7 +13,7 @@ use Rattle.scad_geom.specs.declared.point.Pt.{Pt}
 use Rattle.cli_text.specs.Cli.{closed, polyline_start}
 use Rattle.cli_read.specs.declared.fault.CliFault.{CliFault}
 use Rattle.cli_read.specs.declared.fault.CliFault.TheVariants.{BadLine, CountDiffers, OpenLoop}
-use Rattle.cli_read.specs.Form.{IsNear, IsShape, IsOutline}
+use Rattle.cli_read.specs.Form.{IsWithinReach, IsShape, IsOutline}
 use Rattle.cli_read.specs.Reading.{◌>>=◌, or_bad, origin, same_point, ends_meet, words, count_of, coordinate_of, point_at, points_at, joined_at, closed_at, direction_at, outline_at}
 use Rattle.cli_read.proofs.Results.{bind_ok, ok_is, passed, or_bad_ok}
 use Rattle.cli_read.proofs.Numbers.{count_text, count_back, coordinate_text, coordinate_back}
@@ -22,7 +22,7 @@ use Rattle.cli_read.proofs.CommaWords.{coordinate_words, points_text, same_words
 -- ---- points
 
 point_text_is : (n : ℕ) (x y : List ℕ) (p : Pt) → point_at n x y ≡ Ok p → (x ≡ signed_decimal p.x)
-    × (y ≡ signed_decimal p.y) × IsNear p
+    × (y ≡ signed_decimal p.y) × IsWithinReach p
 unfolding point_at
 point_text_is n x y p e =
     let a = bind_ok (or_bad n (coordinate_of x)) (λ left. or_bad n (coordinate_of y) >>=
@@ -31,17 +31,18 @@ point_text_is n x y p e =
     let left = coordinate_text x a.0 (or_bad_ok n (coordinate_of x) a.0 a.1) in
     let up = coordinate_text y b.0 (or_bad_ok n (coordinate_of y) b.0 b.1) in
     let point : Pt = record { x = a.0; y = b.0 } in
-    subst (λ (q : Pt). (x ≡ signed_decimal q.x) × (y ≡ signed_decimal q.y) × IsNear q) (ok_is point p b.2)
+    subst (λ (q : Pt). (x ≡ signed_decimal q.x) × (y ≡ signed_decimal q.y) × IsWithinReach q) (ok_is point p b.2)
     (left.0, up.0, (left.1, up.1))
 
-point_back : (n : ℕ) (p : Pt) → IsNear p → point_at n (signed_decimal p.x) (signed_decimal p.y) ≡ Ok p
+point_back : (n : ℕ) (p : Pt) → IsWithinReach p → point_at n (signed_decimal p.x) (signed_decimal p.y) ≡ Ok p
 unfolding point_at
 point_back n p near = rw (coordinate_back p.x near.0, coordinate_back p.y near.1) refl
 
 points_are : (n : ℕ) (ws : List (List ℕ)) (ps : List Pt) → points_at n ws ≡ Ok ps → (ws ≡ coordinate_words ps)
-    × AllByRecursion IsNear ps
+    × AllByRecursion IsWithinReach ps
 unfolding points_at
-points_are n [] ps e = subst (λ (qs : List Pt). ([] ≡ coordinate_words qs) × AllByRecursion IsNear qs) (ok_is [] ps e)
+points_are n [] ps e = subst (λ (qs : List Pt). ([] ≡ coordinate_words qs) × AllByRecursion IsWithinReach qs)
+    (ok_is [] ps e)
     (refl, tt)
 points_are n (x ∷ []) ps e = absurd cc
 points_are n (x ∷ y ∷ rest) ps e =
@@ -50,10 +51,10 @@ points_are n (x ∷ y ∷ rest) ps e =
     let point = point_text_is n x y a.0 a.1 in
     let more = points_are n rest b.0 b.1 in
     let all : List Pt = a.0 ∷ b.0 in
-    subst (λ (qs : List Pt). (x ∷ y ∷ rest ≡ coordinate_words qs) × AllByRecursion IsNear qs) (ok_is all ps b.2)
+    subst (λ (qs : List Pt). (x ∷ y ∷ rest ≡ coordinate_words qs) × AllByRecursion IsWithinReach qs) (ok_is all ps b.2)
     ((λ i. point.0 i ∷ point.1 i ∷ more.0 i), (point.2, more.1))
 
-points_back : (n : ℕ) (ps : List Pt) → AllByRecursion IsNear ps → points_at n (coordinate_words ps) ≡ Ok ps
+points_back : (n : ℕ) (ps : List Pt) → AllByRecursion IsWithinReach ps → points_at n (coordinate_words ps) ≡ Ok ps
 unfolding points_at
 points_back n [] near = refl
 points_back n (p ∷ ps) near = rw (point_back n p near.0, points_back n ps near.1) refl
@@ -131,17 +132,18 @@ OutlineWords ws points =
     (direction : ℕ) × (direction ≤ 1) × (ws ≡ decimal direction ∷ decimal (length points + 1) ∷ coordinate_words
     (closed points)) × IsShape points
 
-first_near : (points : List Pt) → AllByRecursion IsNear (closed points) → AllByRecursion IsNear points
+first_near : (points : List Pt) → AllByRecursion IsWithinReach (closed points) → AllByRecursion IsWithinReach points
 first_near [] near = tt
 first_near (p ∷ ps) near = (near.0, front ps near.1)
   where
-    front : (qs : List Pt) → AllByRecursion IsNear (qs ++ p ∷ []) → AllByRecursion IsNear qs
+    front : (qs : List Pt) → AllByRecursion IsWithinReach (qs ++ p ∷ []) → AllByRecursion IsWithinReach qs
     front [] near = tt
     front (q ∷ qs) near = (near.0, front qs near.1)
 
-pub closed_near : (points : List Pt) → AllByRecursion IsNear points → AllByRecursion IsNear (closed points)
+pub closed_near : (points : List Pt) → AllByRecursion IsWithinReach points
+    → AllByRecursion IsWithinReach (closed points)
 closed_near [] near = tt
-closed_near (p ∷ ps) near = AllByRecursion-append IsNear (p ∷ ps) (p ∷ []) near (near.0, tt)
+closed_near (p ∷ ps) near = AllByRecursion-append IsWithinReach (p ∷ ps) (p ∷ []) near (near.0, tt)
 
 outline_are : (n : ℕ) (ws : List (List ℕ)) (outline : List Pt) → outline_at n ws ≡ Ok outline → OutlineWords ws outline
 unfolding outline_at
@@ -166,7 +168,7 @@ outline_are n (direction ∷ said ∷ rest) outline e =
       record {
         several = whole.2;
         count = omega (arith, said_is.1, whole.1);
-        near = first_near outline (subst (AllByRecursion IsNear) whole.0 points.1);
+        near = first_near outline (subst (AllByRecursion IsWithinReach) whole.0 points.1);
       },
     )
 

@@ -12,7 +12,7 @@ use Rattle.cli_text.specs.Cli.{Layer}
 use Rattle.cli_read.specs.declared.fault.CliFault.{CliFault}
 use Rattle.cli_read.specs.declared.fault.CliFault.TheVariants.{BadLine, CountDiffers}
 use Rattle.cli_read.specs.declared.layers.Cli.{Cli}
-use Rattle.cli_read.specs.Form.{Reads, IsLayer, IsOutline, AreAbove, head_lines, count_start, end_line}
+use Rattle.cli_read.specs.Form.{Reads, SaysLayer, IsOutline, AreAbove, head_lines, count_start, end_line}
 use Rattle.cli_read.specs.Laws.{TextsSayOneList}
 use Rattle.cli_read.specs.Reading.{◌>>=◌, Gives, behind, count_of, geometry_at, fixed_at, count_in, count_at, head_at, layers_at, counted, reading}
 use Rattle.cli_read.specs.View.{layers_of}
@@ -111,7 +111,7 @@ reading_is bytes layers e =
       parts = stands.parts;
       are = are ∙ ap (λ (n : ℕ). head_lines n ++ (joined stands.parts ++ end_line ∷ [])) (count ∙ ap length c.1) ∙ sym
           (grouped (length layers) stands.parts);
-      each = subst (λ (ls : List Layer). AllZip IsLayer stands.parts ls) same stands.each;
+      each = subst (λ (ls : List Layer). AllZip SaysLayer stands.parts ls) same stands.each;
       above = subst (AreAbove None) same stands.above;
       count = omega (arith, head.1, count, ap length c.1);
     }

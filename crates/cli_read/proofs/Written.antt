@@ -13,7 +13,8 @@ use Rattle.std.proofs.lemmas.List.Sums.{AllPass-from_list_all}
 use Rattle.scad_geom.specs.declared.point.Pt.{Pt}
 use Rattle.scad_geom.specs.Area.{twice_area}
 use Rattle.cli_text.specs.Cli.{Layer, head_start, head_end, direction, point_text, closed, polyline_start, polyline_text, layer_start, layer_text, geometry_end}
-use Rattle.cli_read.specs.Form.{reach, count_start, head_lines, end_line, height_line, outline_line, IsNear, IsShape, IsOutline, IsLayer}
+use Rattle.cli_read.specs.Form.{reach, count_start, head_lines, end_line, height_line, outline_line, IsWithinReach}
+use Rattle.cli_read.specs.Form.{IsShape, IsOutline, SaysLayer}
 use Rattle.cli_read.specs.Laws.{WrittenTextsSayTheirLayers}
 use Rattle.cli_read.proofs.Numbers.{Lacks, decimal_passes}
 use Rattle.cli_read.proofs.TextLines.{feed, line_fed}
@@ -58,13 +59,13 @@ signed_printed : (z : ℤ) → unsigned_abs z ≤ reach → IsPrinted (signed_de
 signed_printed (pos n) h = decimal_printed n (omega arith)
 signed_printed (negsuc n) h = decimal_printed (suc n) (omega arith)
 
-point_printed : (p : Pt) → IsNear p → IsPrinted (point_text p)
+point_printed : (p : Pt) → IsWithinReach p → IsPrinted (point_text p)
 point_printed p near =
     both_printed (codes "," ++ signed_decimal p.x ++ codes ",") (signed_decimal p.y)
     (both_printed (codes "," ++ signed_decimal p.x) (codes ",") (signed_printed p.x near.0) refl)
     (signed_printed p.y near.1)
 
-points_printed : (ps : List Pt) → AllByRecursion IsNear ps → IsPrinted (points_text ps)
+points_printed : (ps : List Pt) → AllByRecursion IsWithinReach ps → IsPrinted (points_text ps)
 points_printed [] near = refl
 points_printed (p ∷ ps) near =
     ap (list_all is_printed) (flat_map-cons point_text p ps) ∙ both_printed (point_text p) (points_text ps)
@@ -203,7 +204,7 @@ loops_are (points ∷ loops) h = (
   loops_are loops h.1,
 )
 
-layers_are : (layers : List Layer) → AreLow layers → AreShaped layers → AllZip IsLayer (map part_of layers) layers
+layers_are : (layers : List Layer) → AreLow layers → AreShaped layers → AllZip SaysLayer (map part_of layers) layers
 layers_are [] low shapes = tt
 layers_are (layer ∷ layers) low shapes = (
   record { outlines = map written layer.loops; are = refl; each = loops_are layer.loops shapes.0; height = low.0 },

@@ -42,14 +42,14 @@ end_line = codes "$$GEOMETRYEND"
 abbrev pub reach : ℕ
 reach = 1100000
 
-abbrev pub IsNear : Pt → Type 0
-IsNear p = (unsigned_abs p.x ≤ reach) × (unsigned_abs p.y ≤ reach)
+abbrev pub IsWithinReach : Pt → Type 0
+IsWithinReach p = (unsigned_abs p.x ≤ reach) × (unsigned_abs p.y ≤ reach)
 
 -- an outline has three vertices at least, all within reach
 pub record IsShape (points : List Pt) : Type 0 where
   pub several : 3 ≤ length points
   pub count : length points + 1 < 2 ^ 32
-  pub near : AllByRecursion IsNear points
+  pub near : AllByRecursion IsWithinReach points
 
 -- the line is that of the outline, whichever direction it says
 pub record IsOutline (line : List ℕ) (points : List Pt) : Type 0 where
@@ -59,7 +59,7 @@ pub record IsOutline (line : List ℕ) (points : List Pt) : Type 0 where
   pub shape : IsShape points
 
 -- the lines are those of the layer: its height, then its outlines
-pub record IsLayer (ls : List (List ℕ)) (layer : Layer) : Type 0 where
+pub record SaysLayer (ls : List (List ℕ)) (layer : Layer) : Type 0 where
   pub outlines : List (List ℕ)
   pub are : ls ≡ height_line layer.z ∷ outlines
   pub each : AllZip IsOutline outlines layer.loops
@@ -75,6 +75,6 @@ AreAbove last (layer ∷ layers) = IfSome last (λ z. z < layer.z) × AreAbove (
 pub record Reads (bytes : List ℕ) (layers : List Layer) : Type 0 where
   pub parts : List (List (List ℕ))
   pub are : lines bytes ≡ head_lines (length layers) ++ flat_map (λ ls. ls) parts ++ end_line ∷ []
-  pub each : AllZip IsLayer parts layers
+  pub each : AllZip SaysLayer parts layers
   pub above : AreAbove None layers
   pub count : length layers < 2 ^ 32

@@ -13,9 +13,9 @@ mod lines;
 mod number;
 mod outline;
 mod points;
-mod reading;
+mod reader;
 mod words;
 
 pub use fault::CliFault;
 pub use layers::{Cli, CliLayer, CliLayers, Loops};
-pub use reading::read;
+pub use reader::read;

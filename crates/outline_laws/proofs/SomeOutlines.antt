@@ -10,7 +10,7 @@ use Rattle.scad_geom.specs.Segment.{Segment, segments}
 use Rattle.scad_geom.specs.Balance.{IsBalanced}
 use Rattle.scad_geom.specs.Leaves.{AreLeavesBalanced}
 use Rattle.winding_laws.specs.Nearness.{IsProper}
-use Rattle.winding_laws.specs.Rounded.{rounded_edge}
+use Rattle.winding_laws.specs.Edges.{rounded_edge}
 use Rattle.winding_laws.proofs.Rounding.{rounding_keeps_balance}
 use Rattle.winding_laws.proofs.Lengths.{lengths_keep_balance}
 use Rattle.slice_snap.specs.declared.piece.Piece.{Piece}

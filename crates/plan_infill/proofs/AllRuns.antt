@@ -19,8 +19,7 @@ use Rattle.plan_infill.specs.declared.line.Line.{Line}
 use Rattle.plan_infill.specs.declared.line.Line.TheVariants.{Row, Column}
 use Rattle.plan_infill.specs.declared.run.Run.{Run}
 use Rattle.plan_infill.specs.declared.step.Step.{Step}
-use Rattle.plan_infill.specs.Deep.{IsDeep}
-use Rattle.plan_infill.specs.Runs.{point_on, AreRuns}
+use Rattle.plan_infill.specs.Runs.{IsDeep, point_on, AreRuns}
 use Rattle.plan_infill.specs.Steps.{up_to, all_of, turns_before, IsApart, IsStep, AreSteps}
 use Rattle.plan_infill.specs.Sweep.{is_deep_at, AreStretches}
 use Rattle.scad_geom.proofs.Signs.{zero_true}

@@ -19,9 +19,8 @@ use Rattle.scad_geom.proofs.Rising.{order}
 use Rattle.scad_geom.proofs.Signs.{zero_true}
 use Rattle.plan_infill.specs.declared.line.Line.{Line}
 use Rattle.plan_infill.specs.declared.line.Line.TheVariants.{Row, Column}
-use Rattle.plan_infill.specs.Deep.{ComesNearer, IsDeep}
+use Rattle.plan_infill.specs.Runs.{ComesNearer, IsDeep, point_on}
 use Rattle.plan_infill.specs.Reach.{reach, is_beside, exchanged, IsInReach}
-use Rattle.plan_infill.specs.Runs.{point_on}
 use Rattle.plan_infill.specs.Steps.{IsApart}
 use Rattle.plan_infill.proofs.Turning.{at}
 use Rattle.plan_infill.proofs.Reached.{comes, told, exchange, exchange_back}

@@ -10,8 +10,7 @@ use Rattle.scad_geom.specs.declared.point.Edge.{Edge}
 use Rattle.scad_geom.specs.Point.{whole}
 use Rattle.plan_infill.specs.declared.line.Line.{Line}
 use Rattle.plan_infill.specs.declared.step.Step.{Step}
-use Rattle.plan_infill.specs.Runs.{point_on}
-use Rattle.plan_infill.specs.Deep.{ComesNearer}
+use Rattle.plan_infill.specs.Runs.{point_on, ComesNearer}
 use Rattle.plan_infill.specs.Steps.{up_to, all_of, IsApart, IsStep, AreTurnSteps, AreNearSteps, AreSteps}
 
 up_to-append : (f : Step → ℤ) (z : ℤ) (xs ys : List Step) → up_to f z (xs ++ ys) ≡ up_to f z xs +ℤ up_to f z ys

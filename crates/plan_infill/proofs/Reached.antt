@@ -18,7 +18,7 @@ use Rattle.scad_geom.proofs.Ring.{ring, num, ◌⊕◌, ◌⊖◌, ◌⊗◌, v0
 use Rattle.plan_infill.specs.declared.line.Line.TheVariants.{Row, Column}
 use Rattle.plan_infill.specs.declared.step.Step.{Step}
 use Rattle.plan_infill.specs.declared.stretch.Stretch.{Stretch}
-use Rattle.plan_infill.specs.Deep.{IsLess, ComesNearer}
+use Rattle.plan_infill.specs.Runs.{IsLess, ComesNearer}
 use Rattle.plan_infill.specs.Quotient.{IsFloor, IsCeiling}
 use Rattle.plan_infill.specs.Reach.{reach, is_beside, exchanged, ends_reach, IsInReach, IsReached, IsReachedByLine}
 use Rattle.plan_infill.specs.Steps.{up_to, IsApart, IsStep, Counts, AreNearSteps}

@@ -7,8 +7,7 @@ use Rattle.std.proofs.lemmas.Bool.{false≢true}
 use Rattle.scad_geom.specs.declared.point.Pt.{Pt}
 use Rattle.scad_geom.specs.Loop.{sides}
 use Rattle.plan_infill.specs.declared.line.Line.{Line}
-use Rattle.plan_infill.specs.Deep.{IsDeep}
-use Rattle.plan_infill.specs.Runs.{point_on}
+use Rattle.plan_infill.specs.Runs.{IsDeep, point_on}
 use Rattle.plan_infill.specs.There.{HasRuns, RunsAreThere}
 use Rattle.plan_infill.proofs.Beyond.{extent, none_far}
 use Rattle.plan_infill.proofs.Deciding.{IsDecided, deep_or_not}

@@ -5,8 +5,7 @@ use Rattle.std.proofs.lemmas.List.Elements.{All-weaker}
 use Rattle.scad_geom.specs.declared.point.Pt.{Pt}
 use Rattle.plan_infill.specs.declared.line.Line.{Line}
 use Rattle.plan_infill.specs.declared.run.Run.{Run}
-use Rattle.plan_infill.specs.Deep.{IsDeep}
-use Rattle.plan_infill.specs.Runs.{point_on, IsRun, AreRuns}
+use Rattle.plan_infill.specs.Runs.{IsDeep, point_on, IsRun, AreRuns}
 use Rattle.plan_infill.specs.Sweep.{IsStretch, AreStretches}
 
 module _ (outlines : List (List Pt)) (c : ℕ) (line : Line) (test : ℤ → Bool)

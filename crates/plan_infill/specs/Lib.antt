@@ -1,4 +1,3 @@
-pub mod Deep
 pub mod Runs
 pub mod Quotient
 pub mod Steps

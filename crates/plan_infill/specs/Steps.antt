@@ -10,8 +10,7 @@ use Rattle.plan_infill.specs.declared.line.Line.{Line}
 use Rattle.plan_infill.specs.declared.line.Line.TheVariants.{Row, Column}
 use Rattle.plan_infill.specs.declared.step.Step.{Step}
 use Rattle.plan_infill.specs.declared.stretch.Stretch.{Stretch}
-use Rattle.plan_infill.specs.Deep.{ComesNearer}
-use Rattle.plan_infill.specs.Runs.{point_on}
+use Rattle.plan_infill.specs.Runs.{ComesNearer, point_on}
 
 -- the sum of one of the numbers of steps, over those at a place and before it
 abbrev pub up_to : (Step → ℤ) → ℤ → List Step → ℤ

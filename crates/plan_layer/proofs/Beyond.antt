@@ -11,8 +11,7 @@ use Rattle.scad_geom.specs.Loop.{sides}
 use Rattle.scad_geom.specs.Winding.{wind}
 use Rattle.plan_infill.specs.declared.line.Line.{Line}
 use Rattle.plan_infill.specs.declared.line.Line.TheVariants.{Row, Column}
-use Rattle.plan_infill.specs.Deep.{IsDeep}
-use Rattle.plan_infill.specs.Runs.{point_on}
+use Rattle.plan_infill.specs.Runs.{IsDeep, point_on}
 use Rattle.plan_infill.proofs.Beyond.{below_all, above_all, left_of_all, right_of_all}
 use Rattle.plan_layer.specs.Extent.{IsAmong, IsEdgeAmong}
 use Rattle.plan_layer.specs.Infill.{line_at}

@@ -5,11 +5,11 @@ use Rattle.scad_geom.specs.declared.point.Pt.{Pt}
 use Rattle.slice_events.specs.Limits.{crossing_limit}
 use Rattle.slice_events.specs.Levels.{crossings}
 use Rattle.plan_walls.specs.Walls.{wall_edges}
-use Rattle.plan_walls.specs.Refusal.{edge_limit}
+use Rattle.plan_walls.specs.Refusal.{wall_edge_limit}
 use Rattle.scad_words.specs.declared.settings.Settings.{Settings}
 use Rattle.plan_layer.specs.declared.fault.PlanFault.TheVariants.{Edges, Crossings, Moves}
 use Rattle.plan_layer.specs.Moves.{all_moves, move_limit}
-use Rattle.plan_layer.specs.Walls.{distance}
+use Rattle.plan_layer.specs.Plan.{distance}
 use Rattle.plan_layer.specs.Refusal.{IsWallAccepted, AreAccepted}
 use Rattle.plan_layer.specs.There.{HasPlan, HasAccepted, HasRefusal, PlansAreDecided}
 use Rattle.plan_layer.proofs.Walled.{accepted_more}
@@ -24,12 +24,12 @@ module _ (outlines : List (List Pt)) where
 
   -- the walls at a distance pass a limit
   abbrev PassesLimit : ℕ → Type 0
-  PassesLimit c = (edge_limit < edges_at c) ⊎ ((edges_at c ≤ edge_limit) × (crossing_limit < crossings_at c))
+  PassesLimit c = (wall_edge_limit < edges_at c) ⊎ ((edges_at c ≤ wall_edge_limit) × (crossing_limit < crossings_at c))
 
   wall_judged : (c : ℕ) → PassesLimit c ⊎ IsWallAccepted outlines c
-  wall_judged c = by_cases (cases_lt edge_limit (edges_at c)) (cases_lt crossing_limit (crossings_at c))
+  wall_judged c = by_cases (cases_lt wall_edge_limit (edges_at c)) (cases_lt crossing_limit (crossings_at c))
     where
-      by_cases : (edge_limit < edges_at c) ⊎ (edges_at c ≤ edge_limit)
+      by_cases : (wall_edge_limit < edges_at c) ⊎ (edges_at c ≤ wall_edge_limit)
           → (crossing_limit < crossings_at c) ⊎ (crossings_at c ≤ crossing_limit)
           → PassesLimit c ⊎ IsWallAccepted outlines c
       by_cases (inl many) m = inl (inl many)

@@ -14,9 +14,8 @@ use Rattle.plan_infill.specs.Runs.{point_on}
 use Rattle.plan_walls.specs.Walls.{AreWalls}
 use Rattle.scad_words.specs.declared.settings.Settings.{Settings}
 use Rattle.plan_layer.specs.Moves.{moves_from, moves, all_moves}
-use Rattle.plan_layer.specs.Walls.{distance, AreWallsFrom, round, wall_paths}
+use Rattle.plan_layer.specs.Plan.{distance, AreWallsFrom, round, wall_paths, IsPlan}
 use Rattle.plan_layer.specs.Infill.{line_at, IsLayerRun, LineRuns, IsFilled, backwards, line_paths, infill_paths}
-use Rattle.plan_layer.specs.Plan.{IsPlan}
 
 -- ---- the moves of a loop are its sides
 pub moves_back : (from : Pt) (ps : List Pt) (last : Pt) → moves_from from (ps ++ last ∷ []) ≡ path from ps last

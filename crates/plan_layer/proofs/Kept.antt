@@ -21,15 +21,14 @@ use Rattle.winding_laws.proofs.Parts.{on_turned}
 use Rattle.plan_infill.specs.declared.run.Run.{Run}
 use Rattle.plan_infill.specs.Runs.{point_on}
 use Rattle.plan_walls.specs.Walls.{AreWalls}
-use Rattle.plan_walls.specs.Kept.{KeepsWithin, WallsKeepClear}
+use Rattle.plan_walls.specs.Kept.{KeepsWithin, WallsKeepClear, KeepsClear}
 use Rattle.scad_words.specs.declared.settings.Settings.{Settings}
 use Rattle.scad_words.specs.Settings.{AreInRange}
 use Rattle.plan_layer.specs.Moves.{moves_from, moves, all_moves}
-use Rattle.plan_layer.specs.Walls.{distance, AreWallsFrom, round, wall_paths}
+use Rattle.plan_layer.specs.Plan.{distance, AreWallsFrom, round, wall_paths, IsPlan}
 use Rattle.plan_layer.specs.Infill.{line_at, depth, IsLayerRun, LineRuns, IsFilled, backwards, line_paths}
 use Rattle.plan_layer.specs.Infill.{infill_paths}
-use Rattle.plan_layer.specs.Plan.{IsPlan}
-use Rattle.plan_layer.specs.Kept.{KeepsClear, PathsKeepClear, PlansKeepClear}
+use Rattle.plan_layer.specs.Kept.{PathsKeepClear, PlansKeepClear}
 use Rattle.plan_layer.proofs.Runs.{runs_keep_clear}
 use Rattle.plan_layer.proofs.Each.{plan_holds}
 

@@ -6,7 +6,7 @@ use Rattle.plan_infill.proofs.Lengths.{runs_have_lengths}
 use Rattle.plan_walls.proofs.Lengths.{walls_have_lengths}
 use Rattle.scad_words.specs.declared.settings.Settings.{Settings}
 use Rattle.scad_words.specs.Settings.{AreInRange}
-use Rattle.plan_layer.specs.Walls.{distance}
+use Rattle.plan_layer.specs.Plan.{distance}
 use Rattle.plan_layer.specs.Infill.{line_at, depth}
 use Rattle.plan_layer.specs.Lengths.{PlansHaveLengths}
 use Rattle.plan_layer.proofs.Each.{HoldsOfParts, plan_holds}

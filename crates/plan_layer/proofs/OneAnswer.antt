@@ -11,16 +11,16 @@ use Rattle.slice_bool.specs.declared.fault.BoolFault.TheVariants.{Memory as NoMe
 use Rattle.slice_bool.specs.declared.fault.BoolFault.TheVariants.{Crossings as ManyCrossings}
 use Rattle.plan_walls.specs.Walls.{wall_edges}
 use Rattle.plan_walls.specs.Refusal as of_walls
-use Rattle.plan_walls.specs.Refusal.{edge_limit}
+use Rattle.plan_walls.specs.Refusal.{wall_edge_limit}
 use Rattle.scad_words.specs.declared.settings.Settings.{Settings}
 use Rattle.scad_words.specs.Settings.{AreInRange}
 use Rattle.plan_layer.specs.declared.fault.PlanFault.{PlanFault}
 use Rattle.plan_layer.specs.declared.fault.PlanFault.TheVariants.{Memory, Edges, Crossings, Moves}
 use Rattle.plan_layer.specs.Moves.{all_moves, move_limit}
-use Rattle.plan_layer.specs.Walls.{distance}
+use Rattle.plan_layer.specs.Plan.{distance}
 use Rattle.plan_layer.specs.Refusal.{fault_of, IsWallAccepted, AreAccepted, IsWallRefused, IsWallsRefusal, IsManyMoves}
 use Rattle.plan_layer.specs.Refusal.{IsRefusal}
-use Rattle.plan_layer.specs.There.{IsAccepted}
+use Rattle.plan_layer.specs.Refusal.{IsAccepted}
 use Rattle.plan_layer.specs.One.{RefusalsAreOne, AcceptedIsNotRefused}
 use Rattle.plan_layer.proofs.OnePlan.{plans_are_one}
 
@@ -40,7 +40,8 @@ same_fault count limit met (ManyCrossings m) (ManyCrossings n) a b h k = ap Many
 
 module _ (outlines : List (List Pt)) where
   abbrev IsFault : ℕ → BoolFault → Type 0
-  IsFault c f = of_walls.IsRefusal (length (wall_edges c outlines)) edge_limit (crossings (wall_edges c outlines)) f
+  IsFault c f = of_walls.IsRefusal (length (wall_edges c outlines)) wall_edge_limit
+      (crossings (wall_edges c outlines)) f
 
   -- walls that pass no limit have none
   no_fault : (c : ℕ) (f : BoolFault) → f ≢ NoMemory → IsWallAccepted outlines c → IsFault c f → ⊥
@@ -59,7 +60,8 @@ module _ (outlines : List (List Pt)) where
       by_cases (inr o) (inr p) =
           let e : k.wall ≡ h.wall = omega (arith, o, p) in
           let c : ℕ = distance s.line_width h.wall in
-          same_fault (length (wall_edges c outlines)) edge_limit (crossings (wall_edges c outlines)) f g a b h.refused
+          same_fault (length (wall_edges c outlines)) wall_edge_limit (crossings (wall_edges c outlines)) f g a b
+          h.refused
           (subst (λ (w : ℕ). IsFault (distance s.line_width w) g) e k.refused)
 
   -- where all walls pass no limit none is refused

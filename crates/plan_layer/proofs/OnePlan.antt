@@ -25,7 +25,7 @@ use Rattle.plan_walls.specs.Walls.{with_rings, IsFirstWithout, AreWalls}
 use Rattle.plan_sides.proofs.Within.{outlines_within}
 use Rattle.plan_walls.proofs.Limits.{edges_within}
 use Rattle.scad_words.specs.declared.settings.Settings.{Settings}
-use Rattle.plan_layer.specs.Walls.{distance, AreWallsFrom, wall_paths}
+use Rattle.plan_layer.specs.Plan.{distance, AreWallsFrom, wall_paths}
 use Rattle.plan_layer.specs.Infill.{line_at, depth, LineRuns, IsFilled, AreUpwards, AreFilled, infill_paths}
 use Rattle.plan_layer.specs.One.{PlansAreOne}
 use Rattle.plan_layer.proofs.Ascending.{Ascends, one_list, made_of}

@@ -13,9 +13,8 @@ use Rattle.plan_infill.specs.declared.run.Run.{Run}
 use Rattle.plan_walls.specs.Walls.{AreWalls}
 use Rattle.scad_words.specs.declared.settings.Settings.{Settings}
 use Rattle.plan_layer.specs.Moves.{moves, all_moves}
-use Rattle.plan_layer.specs.Walls.{AreWallsFrom, round, wall_paths}
+use Rattle.plan_layer.specs.Plan.{AreWallsFrom, round, wall_paths, IsPlan}
 use Rattle.plan_layer.specs.Infill.{line_at, LineRuns, forwards, backwards, line_paths, infill_paths}
-use Rattle.plan_layer.specs.Plan.{IsPlan}
 use Rattle.plan_layer.proofs.Counted.{length-moves}
 
 -- ---- walls

@@ -1,7 +1,7 @@
 -- A layer has a plan: its walls one by one, and its lines of infill.
 use Rattle.std.proofs.Common.{◌≡◌, ℕ, zero, suc, ◌+◌, true, List, [], ◌∷◌, ◌++◌, length, refl, ap}
 use Rattle.scad_geom.specs.declared.point.Pt.{Pt}
-use Rattle.plan_layer.specs.Walls.{distance, AreWallsFrom, wall_paths}
+use Rattle.plan_layer.specs.Plan.{distance, AreWallsFrom, wall_paths}
 use Rattle.plan_layer.specs.Infill.{infill_paths}
 use Rattle.plan_layer.specs.There.{HasWalls, PlansAreThere}
 use Rattle.plan_layer.proofs.SomeWalls.{walls_are_there}

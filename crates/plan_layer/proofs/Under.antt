@@ -19,7 +19,7 @@ use Rattle.winding_laws.specs.Nearness.{IsClearSegment}
 use Rattle.winding_laws.proofs.OneWinding.{squares_have_one_winding}
 use Rattle.plan_sides.proofs.Closed.{sides_balanced}
 use Rattle.plan_infill.specs.Quotient.{IsFloor}
-use Rattle.plan_infill.specs.Deep.{IsLess, ComesNearer, IsDeep}
+use Rattle.plan_infill.specs.Runs.{IsLess, ComesNearer, IsDeep}
 use Rattle.plan_walls.specs.Kept.{KeepsWithin}
 
 -- p is the whole point below and to the left of q, or q itself

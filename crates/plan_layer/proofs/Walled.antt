@@ -9,9 +9,9 @@ use Rattle.slice_events.specs.Levels.{crossings}
 use Rattle.slice_bool.specs.declared.fault.BoolFault.{BoolFault}
 use Rattle.slice_bool.specs.declared.fault.BoolFault.TheVariants.{Memory, Edges, Crossings}
 use Rattle.plan_walls.specs.Walls.{wall_edges, AreWalls}
-use Rattle.plan_walls.specs.Refusal.{edge_limit, IsRefusal}
+use Rattle.plan_walls.specs.Refusal.{wall_edge_limit, IsRefusal}
 use Rattle.scad_words.specs.declared.settings.Settings.{Settings}
-use Rattle.plan_layer.specs.Walls.{distance, AreWallsFrom, round, wall_paths, AreWallPaths}
+use Rattle.plan_layer.specs.Plan.{distance, AreWallsFrom, round, wall_paths, AreWallPaths}
 use Rattle.plan_layer.specs.Refusal.{fault_of, IsWallAccepted, AreAccepted, IsWallsRefusal}
 
 -- paths of the first n walls, which pass no limit
@@ -48,7 +48,7 @@ accepted_more outlines width n all last k o = elim (below_or_same k n o) [
 
 pub walled_more : (outlines : List (List Pt)) (width n : ℕ) (paths loops : List (List Pt))
     → Walled outlines width n paths → AreWalls (distance width n) outlines loops
-    → length (wall_edges (distance width n) outlines) ≤ edge_limit → crossings
+    → length (wall_edges (distance width n) outlines) ≤ wall_edge_limit → crossings
     (wall_edges (distance width n) outlines) ≤ crossing_limit
     → Walled outlines width (n + 1) (paths ++ map round loops)
 walled_more outlines width n paths loops h w few met = record {
@@ -72,7 +72,7 @@ all_walled outlines s paths h =
 -- a wall that is refused refuses the plan
 pub wall_refused : (outlines : List (List Pt)) (s : Settings) (k : ℕ) (fault : BoolFault) → k < s.walls
     → AreAccepted outlines s.line_width k
-    → IsRefusal (length (wall_edges (distance s.line_width k) outlines)) edge_limit
+    → IsRefusal (length (wall_edges (distance s.line_width k) outlines)) wall_edge_limit
     (crossings (wall_edges (distance s.line_width k) outlines)) fault
     → IsWallsRefusal outlines s (fault_of fault)
 wall_refused outlines s k Memory there accepted h = tt

@@ -1,24 +1,16 @@
 -- The distance that the moves of a plan keep from the outlines.
-use Rattle.std.specs.Prelude.{ℕ, ◌/◌, ◌≤◌, List, pos, ◌<ℤ◌, All}
+use Rattle.std.specs.Prelude.{ℕ, ◌/◌, ◌≤◌, List, All}
 use Rattle.scad_geom.specs.declared.point.Pt.{Pt}
-use Rattle.scad_geom.specs.declared.point.Edge.{Edge}
-use Rattle.scad_geom.specs.Point.{Point, whole}
-use Rattle.winding_laws.specs.Parts.{IsOn}
 use Rattle.plan_infill.specs.declared.line.Line.{Line}
 use Rattle.plan_infill.specs.declared.run.Run.{Run}
 use Rattle.plan_infill.specs.Runs.{point_on, IsRun}
-use Rattle.plan_walls.specs.Kept.{KeepsWithin}
+use Rattle.plan_walls.specs.Kept.{KeepsClear}
 use Rattle.scad_words.specs.declared.settings.Settings.{Settings}
 use Rattle.scad_words.specs.Settings.{AreInRange}
 use Rattle.plan_layer.specs.Moves.{all_moves}
 use Rattle.plan_layer.specs.Plan.{IsPlan}
 
--- each point of a move keeps the distance c less one micrometre from each side of outlines along both axes, and they
--- wind round it
-abbrev pub KeepsClear : List (List Pt) → ℕ → Edge → Type 0
-KeepsClear outlines c e = (q : Point) → pos 0 <ℤ q.d → IsOn (whole e.a) (whole e.b) q → KeepsWithin outlines c q
-
--- so does each point of each move along paths
+-- each point of each move along paths keeps the distance c less one micrometre from outlines, and they wind round it
 abbrev pub PathsKeepClear : List (List Pt) → ℕ → List (List Pt) → Type 0
 PathsKeepClear outlines c paths = All (KeepsClear outlines c) (all_moves paths)
 

@@ -1,5 +1,4 @@
 pub mod Moves
-pub mod Walls
 pub mod Infill
 pub mod Extent
 pub mod Plan

@@ -7,7 +7,7 @@ use Rattle.scad_words.specs.declared.settings.Settings.{Settings}
 use Rattle.scad_words.specs.Settings.{AreInRange}
 use Rattle.plan_layer.specs.declared.fault.PlanFault.{PlanFault}
 use Rattle.plan_layer.specs.Plan.{IsPlan}
-use Rattle.plan_layer.specs.There.{IsAccepted, IsRefused}
+use Rattle.plan_layer.specs.Refusal.{IsAccepted, IsRefused}
 
 -- ---- the laws
 -- A layer has one plan over its outlines.

@@ -1,5 +1,5 @@
--- When a plan is refused.
-use Rattle.std.specs.Prelude.{◌≡◌, ◌⊎◌, ℕ, ◌<◌, ◌≤◌, List, length}
+-- When a plan is accepted, and when it is refused.
+use Rattle.std.specs.Prelude.{◌≡◌, ◌≢◌, ◌⊎◌, ℕ, ◌<◌, ◌≤◌, List, length}
 use Rattle.scad_geom.specs.declared.point.Pt.{Pt}
 use Rattle.slice_events.specs.Limits.{crossing_limit}
 use Rattle.slice_events.specs.Levels.{crossings}
@@ -8,13 +8,12 @@ use Rattle.slice_bool.specs.declared.fault.BoolFault.TheVariants.{Memory as NoMe
 use Rattle.slice_bool.specs.declared.fault.BoolFault.TheVariants.{Crossings as ManyCrossings}
 use Rattle.plan_walls.specs.Walls.{wall_edges}
 use Rattle.plan_walls.specs.Refusal as of_walls
-use Rattle.plan_walls.specs.Refusal.{edge_limit}
+use Rattle.plan_walls.specs.Refusal.{wall_edge_limit}
 use Rattle.scad_words.specs.declared.settings.Settings.{Settings}
 use Rattle.plan_layer.specs.declared.fault.PlanFault.{PlanFault}
 use Rattle.plan_layer.specs.declared.fault.PlanFault.TheVariants.{Memory, Edges, Crossings, Moves}
 use Rattle.plan_layer.specs.Moves.{all_moves, move_limit}
-use Rattle.plan_layer.specs.Walls.{distance}
-use Rattle.plan_layer.specs.Plan.{IsPlan}
+use Rattle.plan_layer.specs.Plan.{distance, IsPlan}
 
 -- the fault of a wall, as that of a plan
 abbrev pub fault_of : BoolFault → PlanFault
@@ -24,7 +23,7 @@ fault_of (ManyCrossings n) = Crossings n
 
 -- the walls at a distance pass no limit
 pub record IsWallAccepted (outlines : List (List Pt)) (c : ℕ) : Type 0 where
-  pub few_edges : length (wall_edges c outlines) ≤ edge_limit
+  pub few_edges : length (wall_edges c outlines) ≤ wall_edge_limit
   pub few_crossings : crossings (wall_edges c outlines) ≤ crossing_limit
 
 -- the first n walls pass no limit
@@ -36,7 +35,7 @@ pub record IsWallRefused (outlines : List (List Pt)) (s : Settings) (fault : Boo
   pub wall : ℕ
   pub there : wall < s.walls
   pub accepted : AreAccepted outlines s.line_width wall
-  pub refused : of_walls.IsRefusal (length (wall_edges (distance s.line_width wall) outlines)) edge_limit
+  pub refused : of_walls.IsRefusal (length (wall_edges (distance s.line_width wall) outlines)) wall_edge_limit
       (crossings (wall_edges (distance s.line_width wall) outlines)) fault
 
 -- by the first wall that has a fault; want of memory may come before it is known
@@ -63,3 +62,14 @@ pub record HasManyMoves (outlines : List (List Pt)) (layer : ℕ) (s : Settings)
 -- by the first wall that has a fault, then by the number of moves
 abbrev pub IsRefusal : List (List Pt) → ℕ → Settings → PlanFault → Type 0
 IsRefusal outlines layer s fault = IsWallsRefusal outlines s fault ⊎ HasManyMoves outlines layer s fault
+
+-- paths are a plan that passes no limit
+pub record IsAccepted (outlines : List (List Pt)) (layer : ℕ) (s : Settings) (paths : List (List Pt)) : Type 0 where
+  pub plan : IsPlan outlines layer s paths
+  pub walls : AreAccepted outlines s.line_width s.walls
+  pub moves : length (all_moves paths) ≤ move_limit
+
+-- a layer is refused by a fault that isn't want of memory
+pub record IsRefused (outlines : List (List Pt)) (layer : ℕ) (s : Settings) (fault : PlanFault) : Type 0 where
+  pub known : fault ≢ Memory
+  pub refusal : IsRefusal outlines layer s fault

@@ -1,13 +1,11 @@
 -- That a layer has walls, and a plan or a refusal.
-use Rattle.std.specs.Prelude.{◌≢◌, ◌⊎◌, ℕ, ◌≤◌, List, length}
+use Rattle.std.specs.Prelude.{◌⊎◌, ℕ, List}
 use Rattle.scad_geom.specs.declared.point.Pt.{Pt}
 use Rattle.plan_walls.specs.Walls.{AreWalls}
 use Rattle.scad_words.specs.declared.settings.Settings.{Settings}
 use Rattle.plan_layer.specs.declared.fault.PlanFault.{PlanFault}
-use Rattle.plan_layer.specs.declared.fault.PlanFault.TheVariants.{Memory}
-use Rattle.plan_layer.specs.Moves.{all_moves, move_limit}
 use Rattle.plan_layer.specs.Plan.{IsPlan}
-use Rattle.plan_layer.specs.Refusal.{AreAccepted, IsRefusal}
+use Rattle.plan_layer.specs.Refusal.{IsAccepted, IsRefused}
 
 -- there are loops of the walls at a distance from outlines
 pub record HasWalls (c : ℕ) (outlines : List (List Pt)) : Type 0 where
@@ -18,17 +16,6 @@ pub record HasWalls (c : ℕ) (outlines : List (List Pt)) : Type 0 where
 pub record HasPlan (outlines : List (List Pt)) (layer : ℕ) (s : Settings) : Type 0 where
   pub paths : List (List Pt)
   pub is_plan : IsPlan outlines layer s paths
-
--- paths are a plan that passes no limit
-pub record IsAccepted (outlines : List (List Pt)) (layer : ℕ) (s : Settings) (paths : List (List Pt)) : Type 0 where
-  pub plan : IsPlan outlines layer s paths
-  pub walls : AreAccepted outlines s.line_width s.walls
-  pub moves : length (all_moves paths) ≤ move_limit
-
--- a layer is refused by a fault that isn't want of memory
-pub record IsRefused (outlines : List (List Pt)) (layer : ℕ) (s : Settings) (fault : PlanFault) : Type 0 where
-  pub known : fault ≢ Memory
-  pub refusal : IsRefusal outlines layer s fault
 
 -- there is a plan that passes no limit
 pub record HasAccepted (outlines : List (List Pt)) (layer : ℕ) (s : Settings) : Type 0 where

@@ -8,9 +8,9 @@ mod extent;
 mod fault;
 mod infill_paths;
 pub mod laws;
+mod layer_plan;
 mod lines;
-mod planning;
 mod wall_paths;
 
 pub use fault::PlanFault;
-pub use planning::{LayerPlan, MOVE_LIMIT, plan};
+pub use layer_plan::{LayerPlan, MOVE_LIMIT, plan};

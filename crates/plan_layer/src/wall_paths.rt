@@ -3,7 +3,7 @@ ghost use Rattle.std.specs.Prelude.{◌≡◌, ◌<◌, ◌≤◌, ◌++◌, map
 ghost use Rattle.scad_geom.specs.Limits.{point_limit};
 ghost use Rattle.scad_geom.specs.Within.{IsWithin};
 ghost use Rattle.scad_words.specs.Settings.{AreInRange};
-ghost use Rattle.plan_layer.specs.Walls.{distance, round, AreWallPaths};
+ghost use Rattle.plan_layer.specs.Plan.{distance, round, AreWallPaths};
 ghost use Rattle.plan_layer.specs.Refusal.{AreAccepted, IsWallsRefusal};
 
 use crate::fault::PlanFault;

@@ -8,7 +8,7 @@ use Rattle.scad_geom.specs.Point.{Point, whole}
 use Rattle.scad_geom.specs.Near.{IsClear}
 use Rattle.scad_geom.proofs.Signs.{at_least_mul, pos_left}
 use Rattle.scad_geom.proofs.Ring.{ring, num, ◌⊕◌, ◌⊖◌, ◌⊗◌, v0, v1, v2, v3, v4, v5, v6}
-use Rattle.slice_bool.specs.NearBorder.{IsWithinOne}
+use Rattle.winding_laws.specs.Points.{IsWithinOne}
 use Rattle.plan_walls.proofs.Within.{weight_positive}
 use Rattle.plan_walls.proofs.Off.{IsOff}
 

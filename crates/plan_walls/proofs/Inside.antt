@@ -22,7 +22,7 @@ use Rattle.winding_laws.proofs.Approach.{at_most_as}
 use Rattle.winding_laws.proofs.Regions.{near_itself}
 use Rattle.winding_laws.proofs.Forms.{forms_wind_alike}
 use Rattle.winding_laws.proofs.OneWinding.{regions_have_one_winding}
-use Rattle.slice_bool.specs.NearBorder.{IsWithinOne}
+use Rattle.winding_laws.specs.Points.{IsWithinOne}
 use Rattle.plan_walls.proofs.Within.{IsStrictlyWithin, weight_positive}
 use Rattle.plan_walls.proofs.Off.{IsOff}
 

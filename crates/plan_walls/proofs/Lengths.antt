@@ -13,8 +13,7 @@ use Rattle.scad_geom.specs.declared.level.LeafEdge.{LeafEdge}
 use Rattle.scad_geom.specs.declared.shape.Shape.{Shape}
 use Rattle.scad_geom.specs.Loop.{sides}
 use Rattle.scad_geom.specs.Point.{whole, is_same_point}
-use Rattle.winding_laws.specs.Rounded.{rounded_edge, has_length}
-use Rattle.winding_laws.specs.Joining.{turned}
+use Rattle.winding_laws.specs.Edges.{rounded_edge, has_length, turned}
 use Rattle.slice_snap.specs.Pieces.{ways_of}
 use Rattle.slice_snap.specs.Rounding.{rounded_edges}
 use Rattle.slice_loops.specs.Lengths.{HasLength}

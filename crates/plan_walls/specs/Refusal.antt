@@ -5,8 +5,8 @@ use Rattle.slice_bool.specs.declared.fault.BoolFault.TheVariants.{Memory}
 use Rattle.slice_bool.specs.Fault.{IsRefusal as IsBorderRefusal}
 
 -- the shape of a wall has at most so many edges
-abbrev pub edge_limit : ℕ
-edge_limit = 140000
+abbrev pub wall_edge_limit : ℕ
+wall_edge_limit = 140000
 
 -- as a border is; but want of memory may come before the number of edges is known
 abbrev pub IsRefusal : ℕ → ℕ → ℕ → BoolFault → Type 0

@@ -8,7 +8,7 @@ ghost use Rattle.slice_events.specs.Limits.{crossing_limit};
 ghost use Rattle.slice_events.specs.Levels.{crossings};
 ghost use Rattle.plan_walls.specs.Walls.{with_rings, wall_edges, IsFirstWithout, AreWallsAlong, AreWalls};
 ghost use Rattle.plan_walls.specs.Kept.{KeepClear};
-ghost use Rattle.plan_walls.specs.Refusal.{edge_limit, IsRefusal};
+ghost use Rattle.plan_walls.specs.Refusal.{wall_edge_limit, IsRefusal};
 
 use crate::edges::{edge_count, edges};
 use crate::shape::first_without;
@@ -33,10 +33,10 @@ pub fn walls(alloc: Global, outlines: &[Loop], c: u32) -> Result<Vec<Loop>, Bool
     requires width { c ≤ 100000 }
     ensures walls { IfOk result (λ v. AreWalls c outlines.now v.items) }
     ensures clear { IfOk result (λ v. KeepClear outlines.now c v.items) }
-    ensures few { IfOk result (λ v. length (wall_edges c outlines.now) ≤ edge_limit) }
+    ensures few { IfOk result (λ v. length (wall_edges c outlines.now) ≤ wall_edge_limit) }
     ensures accepted { IfOk result (λ v. crossings (wall_edges c outlines.now) ≤ crossing_limit) }
     ensures refused { IfErr result
-        (IsRefusal (length (wall_edges c outlines.now)) edge_limit (crossings (wall_edges c outlines.now))) }
+        (IsRefusal (length (wall_edges c outlines.now)) wall_edge_limit (crossings (wall_edges c outlines.now))) }
 {
     match sides(alloc, outlines) {
         Ok(around) => walls_along(alloc, &around, c),
@@ -51,10 +51,10 @@ fn walls_along(alloc: Global, around: &[Edge], c: u32) -> Result<Vec<Loop>, Bool
     requires positive { 1 ≤ c }
     requires width { c ≤ 100000 }
     ensures walls { IfOk result (λ v. AreWallsAlong c around.now v.items) }
-    ensures few { IfOk result (λ v. length (with_rings c around.now) ≤ edge_limit) }
+    ensures few { IfOk result (λ v. length (with_rings c around.now) ≤ wall_edge_limit) }
     ensures accepted { IfOk result (λ v. crossings (with_rings c around.now) ≤ crossing_limit) }
     ensures refused { IfErr result
-        (IsRefusal (length (with_rings c around.now)) edge_limit (crossings (with_rings c around.now))) }
+        (IsRefusal (length (with_rings c around.now)) wall_edge_limit (crossings (with_rings c around.now))) }
 {
     let count = edge_count(around, c);
     if count > EDGE_LIMIT as u64 {

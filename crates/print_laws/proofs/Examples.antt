@@ -2,9 +2,7 @@
 use Rattle.std.proofs.Common.{◌≡◌, [], ◌∷◌, ℕ, pos, refl}
 use Rattle.scad_geom.specs.declared.point.Pt.{Pt}
 use Rattle.slice_work.specs.Part.{Layout}
-use Rattle.print_laws.specs.Extruded.{Side, sides_from}
-use Rattle.print_laws.specs.Program.{paths_of}
-use Rattle.print_laws.specs.Print.{written}
+use Rattle.print_laws.specs.Print.{PathSide, sides_from, written, all_paths}
 
 abbrev at : ℕ → ℕ → Pt
 at x y = record { x = pos x; y = pos y }
@@ -25,9 +23,9 @@ two_heights : written 200 (lower ∷ upper ∷ []) ≡ record { z = 200; loops =
 two_heights = refl
 
 -- the sides, layer after layer
-abbrev side : ℕ → Pt → Pt → Side
+abbrev side : ℕ → Pt → Pt → PathSide
 side z a b = record { z = z; edge = record { a = a; b = b } }
 
-three_sides : sides_from 200 0 (paths_of (lower ∷ upper ∷ []))
+three_sides : sides_from 200 0 (all_paths (lower ∷ upper ∷ []))
     ≡ side 200 (at 1 1) (at 5 1) ∷ side 200 (at 5 1) (at 1 5) ∷ side 400 (at 2 2) (at 2 4) ∷ []
 three_sides = refl

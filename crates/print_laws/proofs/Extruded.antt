@@ -19,7 +19,7 @@ use Rattle.gcode_text.specs.Amount.{move_volume, moves_volume, path_volume, path
 use Rattle.gcode_text.specs.Machine.{stays, origin}
 use Rattle.gcode_text.specs.Moves.{at_height, printing_moves, path_moves, behind_path, paths_moves}
 use Rattle.gcode_text.specs.Moves.{behind_paths, raised, surface, layer_moves, layers_moves}
-use Rattle.print_laws.specs.Extruded.{extruding, Side, sides_from, move_along, moves_along}
+use Rattle.print_laws.specs.Print.{extruding, PathSide, sides_from, move_along, moves_along}
 use Rattle.print_laws.specs.Laws.{SidesAreExtruded}
 use Rattle.print_laws.proofs.Points.{all_front, all_back}
 
@@ -43,16 +43,16 @@ extrudes z a b long = by_test (stays (at_height a z) (at_height b z)) refl
     by_test false h = refl
 
 -- ---- sides at a height
-abbrev side_at : ℕ → Edge → Side
+abbrev side_at : ℕ → Edge → PathSide
 side_at z e = record { z = z; edge = e }
 
 module _ (rates : Rates) where
   -- the volume of sides
-  volume_of : List Side → ℕ
+  volume_of : List PathSide → ℕ
   volume_of [] = 0
   volume_of (side ∷ sides) = move_volume rates side.edge.a side.edge.b + volume_of sides
 
-  along_behind : (v : ℕ) (ss ts : List Side)
+  along_behind : (v : ℕ) (ss ts : List PathSide)
       → moves_along rates v (ss ++ ts) ≡ moves_along rates v ss ++ moves_along rates (v + volume_of ss) ts
   unfolding volume_of
   along_behind v [] ts = let e : v ≡ v + 0 = omega arith in ap (λ (n : ℕ). moves_along rates n ts) e
@@ -63,7 +63,7 @@ module _ (rates : Rates) where
       (along_behind (v + here) ss ts
       ∙ ap (λ (n : ℕ). moves_along rates (v + here) ss ++ moves_along rates n ts) e)
 
-  volume_behind : (ss ts : List Side) → volume_of (ss ++ ts) ≡ volume_of ss + volume_of ts
+  volume_behind : (ss ts : List PathSide) → volume_of (ss ++ ts) ≡ volume_of ss + volume_of ts
   unfolding volume_of
   volume_behind [] ts = omega arith
   volume_behind (s ∷ ss) ts = let more = volume_behind ss ts in omega (arith, more)
@@ -121,8 +121,8 @@ module _ (rates : Rates) where
   paths_along z v here [] long = refl
   paths_along z v here (path ∷ paths) long =
       let w : ℕ = v + path_volume rates path in
-      let first : List Side = map (side_at z) (moves path) in
-      let rest : List Side = map (side_at z) (all_moves paths) in
+      let first : List PathSide = map (side_at z) (moves path) in
+      let rest : List PathSide = map (side_at z) (all_moves paths) in
       extruding_behind (path_moves rates z v here path) (paths_moves rates z w (behind_path z here path) paths)
       ∙ ap₂ (λ (x y : List Move). x ++ y) (path_along z v here path (all_front HasLength (moves path) (all_moves paths)
       long))
@@ -141,8 +141,8 @@ module _ (rates : Rates) where
       let up : Pt3 = raised here z in
       let next : Pt3 = behind_paths z up paths in
       let w : ℕ = v + paths_volume rates paths in
-      let first : List Side = map (side_at z) (all_moves paths) in
-      let rest : List Side = sides_from rates.layer_height (i + 1) layers in
+      let first : List PathSide = map (side_at z) (all_moves paths) in
+      let rest : List PathSide = sides_from rates.layer_height (i + 1) layers in
       extruding_behind (paths_moves rates z v up paths) (layers_moves rates w (i + 1) next layers)
       ∙ ap₂ (λ (x y : List Move). x ++ y) (paths_along z v up paths long.0) (layers_along w (i + 1) next layers long.1)
       ∙ ap (λ (n : ℕ). moves_along rates v first ++ moves_along rates (v + n) rest) (sym (all_volume z paths))

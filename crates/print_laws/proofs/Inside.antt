@@ -9,7 +9,8 @@ use Rattle.scad_geom.specs.declared.point.Pt.{Pt}
 use Rattle.scad_geom.specs.declared.point3.Pt3.{Pt3}
 use Rattle.scad_words.specs.declared.settings.Settings.{Settings}
 use Rattle.scad_words.specs.Settings.{AreInRange}
-use Rattle.plan_layer.specs.Kept.{KeepsClear, PlansKeepClear}
+use Rattle.plan_layer.specs.Kept.{PlansKeepClear}
+use Rattle.plan_walls.specs.Kept.{KeepsClear}
 use Rattle.plan_layer.specs.Moves.{moves_from, moves, all_moves}
 use Rattle.gcode_text.specs.declared.machine.Move.{Move}
 use Rattle.gcode_text.specs.Amount.{move_volume, path_volume, paths_volume, filament}
@@ -18,9 +19,8 @@ use Rattle.gcode_text.specs.Moves.{at_height, travel, printing_moves, path_moves
 use Rattle.gcode_text.specs.Moves.{behind_paths, raised, surface, layer_moves, layers_moves}
 use Rattle.print_laws.specs.Planned.{IsPlanned}
 use Rattle.slice_work.specs.Part.{Layout}
-use Rattle.slice_work.specs.Script.{rates_of}
-use Rattle.print_laws.specs.Program.{outlines_of, paths_of, moves_of}
-use Rattle.print_laws.specs.Inside.{StaysInside}
+use Rattle.slice_work.specs.Rates.{rates_of}
+use Rattle.print_laws.specs.Print.{all_outlines, all_paths, moves_of, StaysInside}
 use Rattle.print_laws.specs.Laws.{MovesStayInside}
 use Rattle.print_laws.proofs.Points.{all_front, all_back}
 use Rattle.print_laws.proofs.Numbered.{AreFrom, from_first}
@@ -77,8 +77,8 @@ module _ (s : Settings) (outlines : List (List (List Pt))) where
 
   -- ---- of the layers from number i on
   layers_inside : PlansKeepClear → AreInRange s → (v i : ℕ) (here : Pt3) (layers : List Layout)
-      → ((k : ℕ) → slice_get outlines (i + k) ≡ slice_get (outlines_of layers) k) → AreFrom (IsPlanned s) i layers
-      → AllByRecursion Inside (layers_moves (rates_of s) v i here (paths_of layers))
+      → ((k : ℕ) → slice_get outlines (i + k) ≡ slice_get (all_outlines layers) k) → AreFrom (IsPlanned s) i layers
+      → AllByRecursion Inside (layers_moves (rates_of s) v i here (all_paths layers))
   unfolding layers_moves layer_moves
   layers_inside law range v i here [] are h = tt
   layers_inside law range v i here (l ∷ ls) are h =
@@ -89,7 +89,7 @@ module _ (s : Settings) (outlines : List (List (List Pt))) where
       let first : i + 0 ≡ i = omega arith in
       let there : slice_get outlines i ≡ Some l.outlines = ap (slice_get outlines) (sym first) ∙ are 0 in
       AllByRecursion-append Inside (layer_moves (rates_of s) v i here l.paths)
-      (layers_moves (rates_of s) w (i + 1) next (paths_of ls)) (
+      (layers_moves (rates_of s) w (i + 1) next (all_paths ls)) (
         travels here up (filament (rates_of s) v),
         paths_inside i l.outlines there v up l.paths
             (recursion_from_All (KeepsClear l.outlines (s.line_width / 2)) (all_moves l.paths)
@@ -100,7 +100,7 @@ module _ (s : Settings) (outlines : List (List (List Pt))) where
 
 pub moves_stay_inside : PlansKeepClear → MovesStayInside
 moves_stay_inside law s layers range p =
-    All-from_recursion (λ (m : Move). m.extruding ≡ true → StaysInside s (outlines_of layers) m) (moves_of s layers)
-    (layers_inside s (outlines_of layers) law range 0 0 origin layers
-    (λ k. let e : 0 + k ≡ k = omega arith in ap (slice_get (outlines_of layers)) e)
+    All-from_recursion (λ (m : Move). m.extruding ≡ true → StaysInside s (all_outlines layers) m) (moves_of s layers)
+    (layers_inside s (all_outlines layers) law range 0 0 origin layers
+    (λ k. let e : 0 + k ≡ k = omega arith in ap (slice_get (all_outlines layers)) e)
     (from_first (IsPlanned s) layers p.each))

@@ -19,13 +19,13 @@ use Rattle.slice_loops.specs.Corners.{corners}
 use Rattle.slice_layer.specs.Outlines.{AreLayerOutlines}
 use Rattle.slice_layer.proofs.Within.{outlines_are_within}
 use Rattle.plan_walls.specs.Walls.{of_leaf, rings_from}
-use Rattle.plan_layer.specs.Walls.{distance}
-use Rattle.plan_layer.specs.There.{IsAccepted}
+use Rattle.plan_layer.specs.Plan.{distance}
+use Rattle.plan_layer.specs.Refusal.{IsAccepted}
 use Rattle.slice_work.specs.declared.want.Want.TheVariants.{Plan as WithPlan}
 use Rattle.slice_work.specs.Part.{Layout}
 use Rattle.scad_slice.specs.Budgets.{layer_budget}
-use Rattle.scad_slice.specs.Parts.{IsLayerUnless, IsLayer}
-use Rattle.cli_read.specs.Form.{IsNear, IsShape}
+use Rattle.scad_slice.specs.Layer.{IsLayerUnless, IsLayer}
+use Rattle.cli_read.specs.Form.{IsWithinReach, IsShape}
 use Rattle.print_laws.specs.Planned.{IsPlanned}
 
 -- ---- a layer that is laid out
@@ -107,7 +107,7 @@ short s tree i layer range l =
     let all = leaf_length es in
     few_points 140000 layer.outlines (omega (arith, edges, both, all))
 
-near : (ps : List Pt) → AllByRecursion (IsWithin point_limit) ps → AllByRecursion IsNear ps
+near : (ps : List Pt) → AllByRecursion (IsWithin point_limit) ps → AllByRecursion IsWithinReach ps
 near [] h = tt
 near (p ∷ ps) h = let x = h.0.x in let y = h.0.y in ((omega (arith, x), omega (arith, y)), near ps h.1)
 

@@ -11,8 +11,7 @@ use Rattle.plan_infill.specs.declared.run.Run.{Run}
 use Rattle.scad_words.specs.declared.settings.Settings.{Settings}
 use Rattle.plan_layer.specs.Infill.{line_at, LineRuns, forwards, backwards, line_paths, infill_paths}
 use Rattle.plan_layer.specs.Moves.{moves_from, moves, all_moves}
-use Rattle.plan_layer.specs.Plan.{IsPlan}
-use Rattle.plan_layer.specs.Walls.{round, wall_paths}
+use Rattle.plan_layer.specs.Plan.{IsPlan, round, wall_paths}
 
 -- ---- no path is a point alone
 abbrev NoPoint : List Pt → Type 0

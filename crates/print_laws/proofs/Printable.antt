@@ -14,9 +14,9 @@ use Rattle.plan_layer.specs.Moves.{all_moves}
 use Rattle.gcode_text.specs.Amount.{paths_volume, layers_volume}
 use Rattle.gcode_text.specs.Moves.{IsShortPoint, AreShortPaths}
 use Rattle.print_laws.specs.Planned.{IsPlanned}
-use Rattle.print_laws.specs.Program.{paths_of}
+use Rattle.print_laws.specs.Print.{all_paths}
 use Rattle.slice_work.specs.Part.{Layout}
-use Rattle.slice_work.specs.Script.{rates_of}
+use Rattle.slice_work.specs.Rates.{rates_of}
 use Rattle.print_laws.specs.Laws.{PlansArePrintable}
 use Rattle.print_laws.proofs.Numbered.{AreFrom, from_first}
 use Rattle.print_laws.proofs.Points.{plan_within}
@@ -54,7 +54,7 @@ module _ (law : PlansKeepClear) (s : Settings) (range : AreInRange s) where
       (All-from_recursion (IsEdgeWithin point_limit) (all_moves l.paths) (ends_within i l h)))
 
   layers_short : (i : ℕ) (layers : List Layout) → AreFrom (IsPlanned s) i layers
-      → AllByRecursion AreShortPaths (paths_of layers)
+      → AllByRecursion AreShortPaths (all_paths layers)
   layers_short i [] h = tt
   layers_short i (l ∷ ls) h = (layer_short i l h.0, layers_short (i + 1) ls h.1)
 
@@ -65,7 +65,7 @@ module _ (law : PlansKeepClear) (s : Settings) (range : AreInRange s) where
       omega (arith, v, n)
 
   layers_most : (i : ℕ) (layers : List Layout) → AreFrom (IsPlanned s) i layers
-      → layers_volume (rates_of s) (paths_of layers) ≤ length layers * layer_volume
+      → layers_volume (rates_of s) (all_paths layers) ≤ length layers * layer_volume
   unfolding layers_volume
   layers_most i [] h = omega arith
   layers_most i (l ∷ ls) h = let a = layer_most i l h.0 in let b = layers_most (i + 1) ls h.1 in omega (arith, a, b)

@@ -18,12 +18,11 @@ use Rattle.cli_read.specs.Form.{AreAbove, IsShape}
 use Rattle.cli_read.specs.Laws.{IsReadable, WrittenTextsSayTheirLayers}
 use Rattle.slice_work.specs.declared.want.Want.TheVariants.{Plan as WithPlan}
 use Rattle.slice_work.specs.Part.{Layout}
-use Rattle.scad_slice.specs.Parts.{IsLayer}
+use Rattle.scad_slice.specs.Layer.{IsLayer}
 use Rattle.scad_slice.specs.Membership.{IsLayerOf, HoldTree}
 use Rattle.scad_slice.proofs.OneLayer.{layer_is_one}
 use Rattle.print_laws.specs.Planned.{IsPlanned, ArePlanned}
-use Rattle.print_laws.specs.Program.{program_of}
-use Rattle.print_laws.specs.Print.{AreLayersOf, written_from, written}
+use Rattle.print_laws.specs.Print.{program_of, AreLayersOf, written_from, written}
 use Rattle.print_laws.specs.Laws.{PlansArePrinted, LayersArePrinted, PrintsAreOne}
 use Rattle.print_laws.proofs.Numbered.{AreFrom, from_first, first_each}
 use Rattle.print_laws.proofs.Layers.{IsLaid, laid, is_planned, are_shapes}

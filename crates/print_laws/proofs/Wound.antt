@@ -12,13 +12,13 @@ use Rattle.scad_geom.specs.Segment.{segments}
 use Rattle.scad_geom.specs.Winding.{wind}
 use Rattle.scad_geom.specs.Within.{IsWithin, IsEdgeWithin}
 use Rattle.scad_geom.proofs.Rising.{order}
-use Rattle.winding_laws.specs.Parts.{IsOn}
-use Rattle.plan_infill.specs.Deep.{IsDeep}
-use Rattle.plan_infill.specs.Runs.{point_on}
+use Rattle.winding_laws.specs.Points.{IsOn}
+use Rattle.plan_infill.specs.Runs.{IsDeep, point_on}
 use Rattle.plan_sides.proofs.Within.{outlines_within}
 use Rattle.plan_layer.specs.Extent.{IsEdgeAmong}
 use Rattle.plan_layer.specs.Infill.{line_at}
-use Rattle.plan_layer.specs.Kept.{KeepsClear, PathsKeepClear}
+use Rattle.plan_layer.specs.Kept.{PathsKeepClear}
+use Rattle.plan_walls.specs.Kept.{KeepsClear}
 use Rattle.plan_layer.specs.Moves.{all_moves}
 use Rattle.plan_layer.proofs.Beyond.{nothing_beyond}
 use Rattle.plan_layer.proofs.Extents.{across_from, across_to}

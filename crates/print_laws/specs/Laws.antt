@@ -11,19 +11,18 @@ use Rattle.cli_text.specs.Cli.{cli as text_of_layers}
 use Rattle.gcode_text.specs.declared.rates.Rates.{Rates}
 use Rattle.gcode_text.specs.Moves.{program_moves, IsWritable}
 use Rattle.slice_work.specs.Part.{Layout}
-use Rattle.slice_work.specs.Script.{rates_of}
+use Rattle.slice_work.specs.Rates.{rates_of}
 use Rattle.print_laws.specs.Planned.{ArePlanned}
-use Rattle.print_laws.specs.Program.{outlines_of, paths_of, program_of, moves_of}
-use Rattle.print_laws.specs.Extruded.{extruding, sides_from, moves_along}
-use Rattle.print_laws.specs.Inside.{StayInside}
-use Rattle.print_laws.specs.Print.{AreLayersOf, written, PrintLayers, IsPrintOf}
+use Rattle.print_laws.specs.Print.{all_outlines, all_paths, program_of, moves_of}
+use Rattle.print_laws.specs.Print.{extruding, sides_from, moves_along}
+use Rattle.print_laws.specs.Print.{StayInside, AreLayersOf, written, PrintLayers, IsPrintOf}
 
 -- ---- of programs
 -- The numbers of the program of planned layers can be written.
 abbrev pub PlansArePrintable : Type 0
 PlansArePrintable =
     (s : Settings) (layers : List Layout) → AreInRange s → ArePlanned s layers
-    → IsWritable (rates_of s) s.hot_end s.bed (paths_of layers)
+    → IsWritable (rates_of s) s.hot_end s.bed (all_paths layers)
 
 -- The moves that extrude go along the sides of the paths of layer 0, of layer 1 and so on, in order and with their
 -- filament, where each side has a length.
@@ -36,7 +35,7 @@ SidesAreExtruded =
 abbrev pub MovesStayInside : Type 0
 MovesStayInside =
     (s : Settings) (layers : List Layout) → AreInRange s → ArePlanned s layers
-    → StayInside s (outlines_of layers) (moves_of s layers)
+    → StayInside s (all_outlines layers) (moves_of s layers)
 
 -- The program of planned layers prints them.
 abbrev pub PlansArePrinted : Type 0

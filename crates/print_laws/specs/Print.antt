@@ -1,21 +1,28 @@
 -- What a print of a tree by settings is: one list of layers, each the plan of its layer of the tree, and two files that
 -- say these layers to whoever reads them.
-use Rattle.std.specs.Prelude.{◌≡◌, ◌<◌, ◌≤◌, ◌+◌, ◌*◌, ℕ, List, [], ◌∷◌, length, slice_get, IsSomeAnd, Ok}
+use Rattle.std.specs.Prelude.{◌≡◌, ◌<◌, ◌≤◌, ◌+◌, ◌*◌, ◌/◌, ℕ, true, List, [], ◌∷◌, ◌++◌, length, map, filter}
+use Rattle.std.specs.Prelude.{slice_get}
+use Rattle.std.specs.Prelude.{All, IsSomeAnd, Ok, pos}
+use Rattle.scad_geom.specs.declared.point.Pt.{Pt}
+use Rattle.scad_geom.specs.declared.point.Edge.{Edge}
 use Rattle.scad_words.specs.declared.settings.Settings.{Settings}
 use Rattle.scad_tree.specs.Solid.{Solid}
+use Rattle.plan_walls.specs.Kept.{KeepsClear}
+use Rattle.plan_layer.specs.Moves.{all_moves}
 use Rattle.cli_text.specs.Cli.{Layer, cli as text_of_layers}
 use Rattle.cli_read.specs.Form.{Reads}
 use Rattle.gcode_text.specs.declared.machine.Move.{Move}
+use Rattle.gcode_text.specs.declared.rates.Rates.{Rates}
+use Rattle.gcode_text.specs.Amount.{move_volume, filament}
+use Rattle.gcode_text.specs.Gcode.{gcode}
 use Rattle.gcode_text.specs.Machine.{machine}
+use Rattle.gcode_text.specs.Moves.{at_height, program_moves}
 use Rattle.slice_work.specs.declared.want.Want.TheVariants.{Plan as WithPlan}
 use Rattle.slice_work.specs.Part.{Layout, layer_limit}
-use Rattle.slice_work.specs.Script.{rates_of}
+use Rattle.slice_work.specs.Rates.{rates_of}
 use Rattle.scad_slice.specs.Budgets.{layer_count}
-use Rattle.scad_slice.specs.Parts.{IsLayer}
+use Rattle.scad_slice.specs.Layer.{IsLayer}
 use Rattle.scad_slice.specs.Membership.{HoldTree}
-use Rattle.print_laws.specs.Program.{outlines_of, paths_of, program_of, moves_of}
-use Rattle.print_laws.specs.Extruded.{extruding, sides_from, moves_along}
-use Rattle.print_laws.specs.Inside.{StayInside}
 
 -- ---- the layers
 -- There are as many as the tree has, and not too many; layer i has the outlines of the tree's layer i and the plan over
@@ -24,6 +31,13 @@ pub record AreLayersOf (s : Settings) (tree : Solid) (layers : List Layout) : Ty
   pub number : length layers ≡ layer_count s.layer_height tree
   pub few : length layers ≤ layer_limit
   pub each : (i : ℕ) → i < length layers → IsSomeAnd (slice_get layers i) (λ l. IsLayer WithPlan s tree i (Ok l))
+
+-- the outlines of layers, and their paths, layer by layer
+abbrev pub all_outlines : List Layout → List (List (List Pt))
+all_outlines layers = map (λ l. l.outlines) layers
+
+abbrev pub all_paths : List Layout → List (List (List Pt))
+all_paths layers = map (λ l. l.paths) layers
 
 -- ---- the outlines' file
 -- layers of the height h as they are written, each with the height of its upper surface; the first has the number i
@@ -40,17 +54,74 @@ pub record SayLayers (bytes : List ℕ) (layers : List Layer) : Type 0 where
   pub read : Reads bytes layers
 
 -- ---- the printing program
+-- its text
+abbrev pub program_of : Settings → List Layout → List ℕ
+program_of s layers = gcode (rates_of s) s.hot_end s.bed (all_paths layers)
+
+-- the moves along the paths, travels among them
+abbrev pub moves_of : Settings → List Layout → List Move
+moves_of s layers = program_moves (rates_of s) (all_paths layers)
+
+-- the moves that extrude
+abbrev pub extruding : List Move → List Move
+extruding moves = filter (λ m. m.extruding) moves
+
+-- a side of a path, at the height of its layer's upper surface
+pub record PathSide : Type 0 where
+  pub z : ℕ
+  pub edge : Edge
+
+-- the sides of the paths of layers of the height h in order, the first of which has the number i
+abbrev pub sides_from : ℕ → ℕ → List (List (List Pt)) → List PathSide
+sides_from h i [] = []
+sides_from h i (paths ∷ layers) =
+    map (λ e. record { z = (i + 1) * h; edge = e }) (all_moves paths) ++ sides_from h (i + 1) layers
+
+-- the move along a side, behind moves of this volume, with the filament that its own volume takes
+abbrev pub move_along : Rates → ℕ → PathSide → Move
+move_along rates volume side = record {
+  from = at_height side.edge.a side.z;
+  to = at_height side.edge.b side.z;
+  from_e = pos (filament rates volume);
+  to_e = pos (filament rates (volume + move_volume rates side.edge.a side.edge.b));
+  extruding = true;
+}
+
+-- the moves along sides one after another, behind moves of this volume
+abbrev pub moves_along : Rates → ℕ → List PathSide → List Move
+moves_along rates volume [] = []
+moves_along rates volume (side ∷ sides) =
+    move_along rates volume side
+    ∷ moves_along rates (volume + move_volume rates side.edge.a side.edge.b) sides
+
+-- a move as it is seen from above
+abbrev pub from_above : Move → Edge
+from_above m = record { a = record { x = m.from.x; y = m.from.y }; b = record { x = m.to.x; y = m.to.y } }
+
+-- a move lies at the upper surface of a layer, and each point of it keeps half the width of a line, less one
+-- micrometre, from each side of that layer's outlines along both axes, and they wind round it; the outlines are those
+-- of all layers, from the lowest upwards
+pub record StaysInside (s : Settings) (outlines : List (List (List Pt))) (m : Move) : Type 0 where
+  pub layer : ℕ
+  pub from : m.from.z ≡ pos ((layer + 1) * s.layer_height)
+  pub to : m.to.z ≡ pos ((layer + 1) * s.layer_height)
+  pub clear : IsSomeAnd (slice_get outlines layer) (λ o. KeepsClear o (s.line_width / 2) (from_above m))
+
+-- so does each of the moves that extrudes
+abbrev pub StayInside : Settings → List (List (List Pt)) → List Move → Type 0
+StayInside s outlines moves = All (λ m. m.extruding ≡ true → StaysInside s outlines m) moves
+
 -- The bytes are the text of the layers' plans. Along them the machine makes the moves of the plans, with travels
--- between;
--- those that extrude are exactly the plans' moves of layer 0, of layer 1 and so on, in order, each at the upper surface
+-- between; those that extrude are exactly the plans' moves of layer 0, of layer 1 and so on, in order, each at the
+-- upper surface
 -- of its layer and with its filament; and each stays inside the outlines of its layer by the clearance.
 pub record PrintLayers (bytes : List ℕ) (s : Settings) (layers : List Layout) : Type 0 where
   pub text : bytes ≡ program_of s layers
   pub moves : List Move
   pub made : machine bytes ≡ Ok moves
   pub all : moves ≡ moves_of s layers
-  pub extruded : extruding moves ≡ moves_along (rates_of s) 0 (sides_from s.layer_height 0 (paths_of layers))
-  pub inside : StayInside s (outlines_of layers) moves
+  pub extruded : extruding moves ≡ moves_along (rates_of s) 0 (sides_from s.layer_height 0 (all_paths layers))
+  pub inside : StayInside s (all_outlines layers) moves
 
 -- ---- the print
 -- The outlines hold what the tree contains, at each cell centre more than one micrometre from each section edge; each

@@ -5,7 +5,6 @@ use Rattle.scad_io.specs.Desk.{Files, Side, View, side, unused, failed_count}
 use Rattle.scad_io.specs.Shelf.{contents_of}
 use Rattle.scad_io.specs.declared.desk.Out.{Out}
 use Rattle.scad_io.specs.declared.desk.Failed.{Failed}
-use Rattle.scad_io.specs.declared.memory.last_name.TheConstants.{NAME_ROOM}
 
 pub record Memory : Type 0 where
   -- names and what they contain
@@ -28,9 +27,13 @@ pub record Output : Type 0 where
   pub side : Side
   pub room : ℕ
 
--- a name that fits the room for names is told
+-- the room for a name, in bytes
+abbrev pub name_room : ℕ
+name_room = 4096
+
+-- a name that fits it is told
 abbrev pub told_name : List ℕ → Option (List ℕ)
-told_name name = if nat_le (length name) NAME_ROOM then Some name else None
+told_name name = if nat_le (length name) name_room then Some name else None
 
 -- the next number, short of the greatest
 abbrev pub next_number : ℕ → ℕ
@@ -74,7 +77,7 @@ abbrev pub read_answer : ℕ → Memory → Result ℕ Failed
 read_answer most m = fails_if (is_due m) (min most (length (rest_of m)))
 
 abbrev pub create_answer : List ℕ → Memory → Result (Unit {0}) Failed
-create_answer name m = fails_if (is_due m || nat_lt NAME_ROOM (length name)) tt
+create_answer name m = fails_if (is_due m || nat_lt name_room (length name)) tt
 
 abbrev pub write_answer : Out → ℕ → Memory → Result ℕ Failed
 write_answer out len m = fails_if (is_due m || (room_left out m == 0)) (min len (room_left out m))

@@ -21,18 +21,18 @@ use Rattle.plan_layer.specs.declared.fault.PlanFault.{PlanFault}
 use Rattle.plan_layer.specs.declared.fault.PlanFault.TheVariants.{Memory}
 use Rattle.plan_layer.specs.Moves.{all_moves, move_limit}
 use Rattle.plan_layer.specs.Plan.{IsPlan}
-use Rattle.plan_layer.specs.Refusal.{AreAccepted, IsRefusal as IsPlanRefusal}
-use Rattle.plan_layer.specs.There.{IsAccepted}
+use Rattle.plan_layer.specs.Refusal.{AreAccepted, IsRefusal as IsPlanRefusal, IsAccepted}
 use Rattle.slice_work.specs.declared.want.Want.{Want}
 use Rattle.slice_work.specs.declared.want.Want.TheVariants.{Outlines, Plan}
-use Rattle.plan_layer.specs.declared.planning.LayerPlan.{LayerPlan}
+use Rattle.plan_layer.specs.declared.layer_plan.LayerPlan.{LayerPlan}
 use Rattle.slice_work.specs.declared.layer.LayerEnd.{LayerEnd}
 use Rattle.slice_work.specs.declared.layer.LayerEnd.TheVariants.{Made, Over}
 use Rattle.slice_work.specs.Part.{Layout, Part, Ends}
 use Rattle.slice_work.specs.Script.{laid_out}
 use Rattle.scad_slice.specs.Budgets.{edge_limit, edges_passed, crossings_passed, budget_passed, layer_budget}
 use Rattle.scad_slice.specs.Budgets.{plan_budget}
-use Rattle.scad_slice.specs.Parts.{IsLaidOut, IsLayerUnless, IsLayer, IsPart}
+use Rattle.scad_slice.specs.Parts.{IsPart}
+use Rattle.scad_slice.specs.Layer.{IsLaidOut, IsLayerUnless, IsLayer}
 use Rattle.scad_slice.proofs.OneLayer.{layer_is_one}
 
 -- ---- the budget of outlines, by what is counted

@@ -16,7 +16,8 @@ use Rattle.scad_words.specs.declared.settings.Settings.{Settings}
 use Rattle.slice_work.specs.declared.want.Want.{Want}
 use Rattle.slice_work.specs.declared.summary.Summary.{Summary}
 use Rattle.slice_work.specs.Part.{Part}
-use Rattle.slice_work.specs.Script.{rates_of, layer_steps}
+use Rattle.slice_work.specs.Script.{layer_steps}
+use Rattle.slice_work.specs.Rates.{rates_of}
 use Rattle.slice_work.specs.Sums.{step_size, size_below, IsSummary}
 use Rattle.scad_slice.specs.declared.summary.Sizes.{Sizes}
 use Rattle.scad_slice.specs.declared.summary.Written.{Written}

@@ -19,7 +19,8 @@ use Rattle.slice_layer.proofs.Surfaces.{solids_closed}
 use Rattle.slice_layer.proofs.Membership.{outlines_hold_centres}
 use Rattle.slice_layer.proofs.Border.{outlines_are_near_border}
 use Rattle.scad_slice.specs.Budgets.{layer_count, layer_budget}
-use Rattle.scad_slice.specs.Parts.{IsLaidOut, IsLayerUnless, IsLayer, IsPart, layer_at, layers_of}
+use Rattle.scad_slice.specs.Parts.{IsPart, layer_at, layers_of}
+use Rattle.scad_slice.specs.Layer.{IsLaidOut, IsLayerUnless, IsLayer}
 use Rattle.scad_slice.specs.Membership.{IsLayerOf}
 use Rattle.scad_slice.specs.Laws.{PartsHold}
 

@@ -17,7 +17,7 @@ use Rattle.slice_work.specs.declared.want.Want.{Want}
 use Rattle.slice_work.specs.declared.want.Want.TheVariants.{Outlines, Plan}
 use Rattle.slice_work.specs.Part.{Layout}
 use Rattle.scad_slice.specs.Budgets.{layer_budget, plan_budget}
-use Rattle.scad_slice.specs.Parts.{IsLaidOut, IsLayerUnless, IsLayer}
+use Rattle.scad_slice.specs.Layer.{IsLaidOut, IsLayerUnless, IsLayer}
 use Rattle.scad_slice.specs.Laws.{PartsAreOne}
 
 -- what an option holds

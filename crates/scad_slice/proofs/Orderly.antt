@@ -18,7 +18,8 @@ use Rattle.scad_words.specs.declared.settings.Settings.{Settings}
 use Rattle.slice_work.specs.declared.want.Want.{Want}
 use Rattle.slice_work.specs.declared.want.Want.TheVariants.{Outlines, Plan}
 use Rattle.slice_work.specs.Part.{Layout, Part, layer_limit}
-use Rattle.slice_work.specs.Script.{rates_of, written_unless, layer_steps, volume_below}
+use Rattle.slice_work.specs.Script.{written_unless, layer_steps, volume_below}
+use Rattle.slice_work.specs.Rates.{rates_of}
 use Rattle.scad_slice.specs.Budgets.{layer_count, layers_passed}
 use Rattle.scad_slice.specs.Script.{tails, files, slice_end, plan_end, slice_script, plan_script}
 

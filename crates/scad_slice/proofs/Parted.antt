@@ -21,11 +21,13 @@ use Rattle.plan_layer.specs.declared.fault.PlanFault.TheVariants.{Memory, Edges,
 use Rattle.slice_work.specs.declared.want.Want.{Want}
 use Rattle.slice_work.specs.declared.want.Want.TheVariants.{Outlines, Plan}
 use Rattle.slice_work.specs.Part.{Layout, Part, layer_limit}
-use Rattle.slice_work.specs.Script.{rates_of, layer_steps}
+use Rattle.slice_work.specs.Script.{layer_steps}
+use Rattle.slice_work.specs.Rates.{rates_of}
 use Rattle.slice_work.specs.Sums.{loop_count, moves_below}
 use Rattle.scad_slice.specs.Budgets.{layer_count, layers_passed, edges_passed, crossings_passed, moves_passed}
 use Rattle.scad_slice.specs.Budgets.{layer_budget, plan_budget}
-use Rattle.scad_slice.specs.Parts.{IsLaidOut, IsLayerUnless, IsPart, AreMade}
+use Rattle.scad_slice.specs.Parts.{IsPart, AreMade}
+use Rattle.scad_slice.specs.Layer.{IsLaidOut, IsLayerUnless}
 use Rattle.scad_slice.specs.Script.{heads, tails, files, unless_many, done_line, plan_line, amount_below, slice_end}
 use Rattle.scad_slice.specs.Script.{plan_end, slice_script, plan_script}
 use Rattle.scad_slice.specs.Laws.{IsWhole}

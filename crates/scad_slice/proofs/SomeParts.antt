@@ -21,13 +21,15 @@ use Rattle.scad_words.specs.Rows as row
 use Rattle.outline_laws.proofs.SomeLayer.{layers_have_outlines}
 use Rattle.plan_layer.specs.declared.fault.PlanFault.{PlanFault}
 use Rattle.plan_layer.specs.declared.fault.PlanFault.TheVariants.{Memory, Edges, Crossings, Moves}
-use Rattle.plan_layer.specs.There.{HasAccepted, HasRefusal, IsRefused}
+use Rattle.plan_layer.specs.There.{HasAccepted, HasRefusal}
+use Rattle.plan_layer.specs.Refusal.{IsRefused}
 use Rattle.plan_layer.proofs.Decided.{plans_are_decided}
 use Rattle.slice_work.specs.declared.want.Want.{Want}
 use Rattle.slice_work.specs.declared.want.Want.TheVariants.{Outlines, Plan}
 use Rattle.slice_work.specs.Part.{Layout, Part}
 use Rattle.scad_slice.specs.Budgets.{edges_passed, crossings_passed, moves_passed, layer_budget}
-use Rattle.scad_slice.specs.Parts.{IsLaidOut, IsLayerUnless, IsLayer, IsPart}
+use Rattle.scad_slice.specs.Parts.{IsPart}
+use Rattle.scad_slice.specs.Layer.{IsLaidOut, IsLayerUnless, IsLayer}
 use Rattle.scad_slice.specs.Laws.{PartsAreThere}
 
 -- ---- what is decided

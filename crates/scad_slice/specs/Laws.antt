@@ -10,7 +10,7 @@ use Rattle.cli_text.specs.Cli as outline
 use Rattle.gcode_text.specs.Gcode as program
 use Rattle.slice_work.specs.declared.want.Want.{Want}
 use Rattle.slice_work.specs.Part.{Part, layer_limit}
-use Rattle.slice_work.specs.Script.{rates_of}
+use Rattle.slice_work.specs.Rates.{rates_of}
 use Rattle.scad_slice.specs.Budgets.{layer_count}
 use Rattle.scad_slice.specs.Parts.{IsPart, AreMade, layers_of, plans_of}
 use Rattle.scad_slice.specs.Script.{slice_script, plan_script}

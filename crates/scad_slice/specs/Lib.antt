@@ -1,4 +1,5 @@
 pub mod Budgets
+pub mod Layer
 pub mod Parts
 pub mod Script
 pub mod Membership

@@ -14,7 +14,8 @@ use Rattle.scad_tree.specs.Solid.{Solid}
 use Rattle.slice_work.specs.declared.want.Want.{Want}
 use Rattle.slice_work.specs.declared.want.Want.TheVariants.{Outlines, Plan}
 use Rattle.slice_work.specs.Part.{Part, layer_limit}
-use Rattle.slice_work.specs.Script.{rates_of, layer_steps, volume_below}
+use Rattle.slice_work.specs.Script.{layer_steps, volume_below}
+use Rattle.slice_work.specs.Rates.{rates_of}
 use Rattle.slice_work.specs.Sums.{loop_count, moves_below, IsSummary}
 use Rattle.scad_slice.specs.declared.summary.Sizes.{Sizes}
 use Rattle.scad_slice.specs.declared.summary.Written.{Written}

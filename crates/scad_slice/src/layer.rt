@@ -10,7 +10,8 @@ ghost use Rattle.scad_words.specs.Settings.{AreInRange};
 ghost use Rattle.slice_work.specs.declared.layer.LayerEnd.TheVariants.{Over};
 ghost use Rattle.slice_work.specs.declared.want.Want.TheVariants.{Plan};
 ghost use Rattle.slice_work.specs.Part.{Layout, Ends};
-ghost use Rattle.scad_slice.specs.Parts.{IsLaidOut, IsLayer, IsPart};
+ghost use Rattle.scad_slice.specs.Parts.{IsPart};
+ghost use Rattle.scad_slice.specs.Layer.{IsLaidOut, IsLayer};
 
 use crate::tree_work::TreeWork;
 use plan_layer::{PlanFault, plan};

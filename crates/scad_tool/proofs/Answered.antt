@@ -15,16 +15,17 @@ use Rattle.scad_script.specs.Promises.{IsAnswered, Promised}
 use Rattle.scad_expr.specs.State.{State, Outcome, gives, refuses}
 use Rattle.scad_tree.specs.Solid.{Solid}
 use Rattle.scad_tree.specs.Solids.{AreSolids}
-use Rattle.slice_work.specs.declared.want.Want.TheVariants.{Outlines as IsOutlines, Plan as IsPlan}
+use Rattle.slice_work.specs.declared.want.Want.TheVariants.{Outlines as OutlinesAlone, Plan as WithPlan}
 use Rattle.scad_slice.specs.Script.{slice_script, plan_script}
 use Rattle.scad_slice.proofs.SomeParts.{parts_are_there}
 use Rattle.scad_slice.proofs.OneLayer.{parts_are_one}
 use Rattle.scad_tool.specs.Words.{model_of, given_by}
 use Rattle.scad_tool.specs.Meaning.{source_means}
 use Rattle.scad_tool.specs.Told.{sample_script, echoed, told}
-use Rattle.scad_tool.specs.Answer.{Parts, Inputs, follows, input_script, model_read_first, model_script, source_of, job_script, script_of}
-use Rattle.scad_tool.specs.Answer.{IsRead, ArePartsOfTree, ArePartsOf, AreDrawn, source_in, AreParts}
-use Rattle.scad_tool.specs.Promises.{IsAnswered as IsWholeAnswer, Answers}
+use Rattle.scad_tool.specs.Answer.{Parts, follows, input_script, model_read_first, model_script, job_script, script_of}
+use Rattle.scad_tool.specs.Inputs.{Inputs, source_of, IsRead, source_in}
+use Rattle.scad_tool.specs.Answer.{ArePartsOfTree, ArePartsOf, AreDrawn, AreParts}
+use Rattle.scad_tool.specs.Promises.{IsWholeAnswer, Answers}
 use Rattle.scad_tool.specs.Laws.{AnswersAreThere, AnswersAreOne}
 use Rattle.scad_tool.proofs.Following.{settings_one}
 use Rattle.scad_tool.proofs.Sources.{sources_mean_solids, as_part}
@@ -57,16 +58,16 @@ follows_one (Check model) settings tree a b in_range solids of_a of_b = refl
 follows_one (Tree model) settings tree a b in_range solids of_a of_b = refl
 follows_one (Slice model cli) settings tree a b in_range solids of_a of_b =
     ap (λ part. slice_script settings cli part tree)
-    (parts_are_one IsOutlines settings tree _ _ solids in_range (as_part tree a of_a IsOutlines settings)
-    (as_part tree b of_b IsOutlines settings))
+    (parts_are_one OutlinesAlone settings tree _ _ solids in_range (as_part tree a of_a OutlinesAlone settings)
+    (as_part tree b of_b OutlinesAlone settings))
 follows_one (Plan model cli gcode) settings tree a b in_range solids of_a of_b =
     ap (λ part. plan_script settings cli gcode part tree)
-    (parts_are_one IsPlan settings tree _ _ solids in_range (as_part tree a of_a IsPlan settings)
-    (as_part tree b of_b IsPlan settings))
+    (parts_are_one WithPlan settings tree _ _ solids in_range (as_part tree a of_a WithPlan settings)
+    (as_part tree b of_b WithPlan settings))
 follows_one (Sample n) settings tree a b in_range solids of_a of_b =
     ap (λ part. sample_script n settings part tree)
-    (parts_are_one IsPlan settings tree _ _ solids in_range (as_part tree a of_a IsPlan settings)
-    (as_part tree b of_b IsPlan settings))
+    (parts_are_one WithPlan settings tree _ _ solids in_range (as_part tree a of_a WithPlan settings)
+    (as_part tree b of_b WithPlan settings))
 
 source_one : (command : Command) (settings : SettingsOfRun) (meaning : Outcome Solid) (a b : Parts)
     → AreInRange settings

@@ -18,13 +18,15 @@ use Rattle.scad_script.specs.Promises.{IsAnswered, Promised}
 use Rattle.scad_tree.specs.Solid.{Solid}
 use Rattle.scad_tree.specs.Solids.{AreSolids}
 use Rattle.slice_work.specs.declared.want.Want.{Want}
-use Rattle.slice_work.specs.declared.want.Want.TheVariants.{Outlines as IsOutlines, Plan as IsPlan}
+use Rattle.slice_work.specs.declared.want.Want.TheVariants.{Outlines as OutlinesAlone, Plan as WithPlan}
 use Rattle.slice_work.specs.Part.{Part}
 use Rattle.scad_slice.specs.Budgets.{layer_count}
-use Rattle.scad_slice.specs.Parts.{IsLayer, IsPart}
+use Rattle.scad_slice.specs.Parts.{IsPart}
+use Rattle.scad_slice.specs.Layer.{IsLayer}
 use Rattle.scad_tool.specs.Words.{given_by}
-use Rattle.scad_tool.specs.Answer.{Parts, Inputs, follows, source_in, job_script, script_of, IsRead, ArePartsOfTree, AreDrawn, AreParts}
-use Rattle.scad_tool.specs.Causes.{HasManyLayers, PassesAtLayer, PassesDrawing, IsCause, HasCause}
+use Rattle.scad_tool.specs.Answer.{Parts, follows, job_script, script_of, ArePartsOfTree, AreDrawn, AreParts}
+use Rattle.scad_tool.specs.Inputs.{Inputs, source_in, IsRead}
+use Rattle.scad_tool.specs.Causes.{HasManyLayers, PassesAtLayer, PassesDrawing, IsCause, HasNamedCause}
 use Rattle.scad_tool.proofs.Working.{parts_meant}
 use Rattle.scad_tool.proofs.Sources.{sources_mean_solids, as_part}
 use Rattle.scad_tool.proofs.Heights.{found_in_range}
@@ -62,12 +64,13 @@ module _ (settings : SettingsOfRun) (tree : Solid) (in_range : AreInRange settin
   passes_drawing (Check model) parts budget of_tree over = over
   passes_drawing (Tree model) parts budget of_tree over = over
   passes_drawing (Slice model cli) parts budget of_tree over =
-      drawn_passes IsOutlines _ _ (parts IsOutlines settings) budget (as_part tree parts of_tree IsOutlines settings)
+      drawn_passes OutlinesAlone _ _ (parts OutlinesAlone settings) budget
+      (as_part tree parts of_tree OutlinesAlone settings)
       over
   passes_drawing (Plan model cli gcode) parts budget of_tree over =
-      drawn_passes IsPlan _ _ (parts IsPlan settings) budget (as_part tree parts of_tree IsPlan settings) over
+      drawn_passes WithPlan _ _ (parts WithPlan settings) budget (as_part tree parts of_tree WithPlan settings) over
   passes_drawing (Sample n) parts budget of_tree over =
-      drawn_passes IsPlan _ _ (parts IsPlan settings) budget (as_part tree parts of_tree IsPlan settings) over
+      drawn_passes WithPlan _ _ (parts WithPlan settings) budget (as_part tree parts of_tree WithPlan settings) over
 
 -- ---- the cause of a refusal
 
@@ -153,7 +156,7 @@ pub has_cause : (words : List (List ℕ)) (files : Files) (inputs : Inputs) (par
     → IsRead words files inputs → AreParts words inputs parts → Promised (given_by words) (script_of words parts inputs)
     status old new
     → (status ≡ Read → before < now) → (status ≡ Write → before < now)
-    → HasCause words files status old new before now
+    → HasNamedCause words files status old new before now
 has_cause words files inputs parts Done old new before now is drawn promised read write = (inputs, is, tt)
 has_cause words files inputs parts (Source fault) old new before now is drawn promised read write =
     (inputs, is, answered_cause words inputs parts (Source fault) old new drawn promised (λ same. let never : ⊥ = cc in absurd never))

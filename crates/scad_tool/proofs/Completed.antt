@@ -19,16 +19,18 @@ use Rattle.scad_script.specs.Promises.{IsAnswered, Promised}
 use Rattle.scad_tree.specs.Solid.{Solid}
 use Rattle.scad_tree.specs.Solids.{AreSolids}
 use Rattle.slice_work.specs.declared.want.Want.{Want}
-use Rattle.slice_work.specs.declared.want.Want.TheVariants.{Outlines as IsOutlines, Plan as IsPlan}
+use Rattle.slice_work.specs.declared.want.Want.TheVariants.{Outlines as OutlinesAlone, Plan as WithPlan}
 use Rattle.slice_work.specs.Part.{Part, layer_limit}
 use Rattle.scad_slice.specs.Budgets.{layer_count}
 use Rattle.scad_slice.specs.Parts.{IsPart}
 use Rattle.scad_slice.proofs.OneLayer.{layer_is_one}
 use Rattle.scad_tool.specs.Words.{model_of, given_by}
 use Rattle.scad_tool.specs.Told.{told}
-use Rattle.scad_tool.specs.Answer.{Parts, Inputs, follows, input_script, model_read_first, model_script, source_of, source_in, text_read, job_script, script_of}
-use Rattle.scad_tool.specs.Answer.{IsRead, ArePartsOfTree, AreDrawn, AreParts, settings_found}
-use Rattle.scad_tool.specs.Promises.{GoBy, IsWithinLimits, CanBeDrawn, Accepts, IsAccepted, IsComplete}
+use Rattle.scad_tool.specs.Answer.{Parts, follows, input_script, model_read_first, model_script, job_script, script_of}
+use Rattle.scad_tool.specs.Inputs.{Inputs, source_of, source_in, text_read, IsRead, settings_found, GoBy}
+use Rattle.scad_tool.specs.Answer.{ArePartsOfTree, AreDrawn, AreParts}
+use Rattle.scad_tool.specs.Promises.{CanBeDrawn, Accepts, IsAccepted, IsComplete}
+use Rattle.scad_slice.specs.Layer.{IsWithinLimits}
 use Rattle.scad_tool.specs.Causes.{HasManyLayers}
 use Rattle.scad_tool.proofs.Working.{model_read_as, settings_read_as, parts_meant}
 use Rattle.scad_tool.proofs.Following.{settings_end}
@@ -66,12 +68,15 @@ module _ (settings : SettingsOfRun) (tree : Solid) (in_range : AreInRange settin
   accepted_within (Check model) parts budget of_tree few over = few_layers budget few over
   accepted_within (Tree model) parts budget of_tree accepts over = over
   accepted_within (Slice model cli) parts budget of_tree accepts over =
-      drawn_within IsOutlines _ _ (parts IsOutlines settings) budget (as_part tree parts of_tree IsOutlines settings)
+      drawn_within OutlinesAlone _ _ (parts OutlinesAlone settings) budget
+      (as_part tree parts of_tree OutlinesAlone settings)
       accepts over
   accepted_within (Plan model cli gcode) parts budget of_tree accepts over =
-      drawn_within IsPlan _ _ (parts IsPlan settings) budget (as_part tree parts of_tree IsPlan settings) accepts over
+      drawn_within WithPlan _ _ (parts WithPlan settings) budget (as_part tree parts of_tree WithPlan settings)
+      accepts over
   accepted_within (Sample n) parts budget of_tree accepts over =
-      drawn_within IsPlan _ _ (parts IsPlan settings) budget (as_part tree parts of_tree IsPlan settings) accepts over
+      drawn_within WithPlan _ _ (parts WithPlan settings) budget (as_part tree parts of_tree WithPlan settings)
+      accepts over
 
 -- so what follows it ends with a last line
 accepted_ends : (command : Command) (settings : SettingsOfRun) (parts : Parts) (tree : Solid) → AreInRange settings

@@ -20,17 +20,19 @@ use Rattle.scad_script.specs.Promises.{Adds, IsAnswered, Promised}
 use Rattle.scad_tree.specs.Solid.{Solid}
 use Rattle.scad_tree.specs.Solids.{AreSolids}
 use Rattle.slice_work.specs.declared.want.Want.{Want}
-use Rattle.slice_work.specs.declared.want.Want.TheVariants.{Outlines as IsOutlines, Plan as IsPlan}
+use Rattle.slice_work.specs.declared.want.Want.TheVariants.{Outlines as OutlinesAlone, Plan as WithPlan}
 use Rattle.slice_work.specs.Part.{Part}
-use Rattle.slice_work.specs.Script.{rates_of}
+use Rattle.slice_work.specs.Rates.{rates_of}
 use Rattle.cli_text.specs.Cli.{Layer, head, layer_text}
 use Rattle.gcode_text.specs.Gcode.{head as program_head, layers_text}
 use Rattle.scad_slice.specs.Budgets.{layer_count}
-use Rattle.scad_slice.specs.Parts.{IsLayer, IsPart, layers_of}
+use Rattle.scad_slice.specs.Parts.{IsPart, layers_of}
+use Rattle.scad_slice.specs.Layer.{IsLayer}
 use Rattle.scad_slice.proofs.Parted.{budget_of_layer, slice_creates, plan_creates, slice_line, line_of_plan}
 use Rattle.scad_slice.proofs.Texts.{slice_cut, plan_cut, program_cut}
 use Rattle.scad_tool.specs.Words.{given_by}
-use Rattle.scad_tool.specs.Answer.{Parts, Inputs, follows, source_in, job_script, script_of, IsRead, ArePartsOfTree, AreDrawn, AreParts}
+use Rattle.scad_tool.specs.Answer.{Parts, follows, job_script, script_of, ArePartsOfTree, AreDrawn, AreParts}
+use Rattle.scad_tool.specs.Inputs.{Inputs, source_in, IsRead}
 use Rattle.scad_tool.specs.Cut.{program_front, AreCut, IsCutBy, CutsFiles, FilesStand, CutsShort}
 use Rattle.scad_tool.proofs.Working.{parts_meant}
 use Rattle.scad_tool.proofs.Sources.{sources_mean_solids, as_part}
@@ -82,16 +84,18 @@ module _ (s : SettingsOfRun) (tree : Solid) (in_range : AreInRange s) (solids : 
   cut_by (Slice model cli) parts of_tree (inl many) added = inl (many_quiet s tree in_range solids budget _ _ _ refl
       many)
   cut_by (Slice model cli) parts of_tree (inr c) added =
-      let part = parts IsOutlines s in
-      inr (are_cut IsOutlines (slice_creates cli) (slice_line s part tree) part (as_part tree parts of_tree IsOutlines
+      let part = parts OutlinesAlone s in
+      inr (are_cut OutlinesAlone (slice_creates cli) (slice_line s part tree) part
+      (as_part tree parts of_tree OutlinesAlone
       s) c
       (subst (λ (text : List ℕ). Adds text old.cli new.cli) (slice_cut s cli part tree c.cut) added.0)
       (subst (λ (text : List ℕ). Adds text old.gcode new.gcode) (slice_is_silent s cli part tree c.cut) added.1))
   cut_by (Plan model cli gcode) parts of_tree (inl many) added = inl (many_quiet s tree in_range solids budget _ _ _
       refl many)
   cut_by (Plan model cli gcode) parts of_tree (inr c) added =
-      let part = parts IsPlan s in
-      inr (are_cut IsPlan (plan_creates cli gcode) (line_of_plan s part tree) part (as_part tree parts of_tree IsPlan s)
+      let part = parts WithPlan s in
+      inr (are_cut WithPlan (plan_creates cli gcode) (line_of_plan s part tree) part
+      (as_part tree parts of_tree WithPlan s)
       c
       (subst (λ (text : List ℕ). Adds text old.cli new.cli) (plan_cut s cli gcode part tree c.cut) added.0)
       (subst (λ (text : List ℕ). Adds text old.gcode new.gcode)

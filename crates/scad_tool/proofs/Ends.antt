@@ -13,7 +13,7 @@ use Rattle.scad_tree.specs.Sizes.{triangle_count}
 use Rattle.scad_tree.specs.Solid.{Solid}
 use Rattle.scad_tree.specs.Text.{text_of as tree_text}
 use Rattle.slice_work.specs.declared.want.Want.{Want}
-use Rattle.slice_work.specs.declared.want.Want.TheVariants.{Outlines as IsOutlines, Plan as IsPlan}
+use Rattle.slice_work.specs.declared.want.Want.TheVariants.{Outlines as OutlinesAlone, Plan as WithPlan}
 use Rattle.slice_work.specs.Part.{Part, layer_limit}
 use Rattle.slice_work.specs.Sums.{loop_count, moves_below}
 use Rattle.scad_slice.specs.Budgets.{layer_count, layers_passed}
@@ -30,9 +30,9 @@ use Rattle.scad_tool.specs.Causes.{HasManyLayers}
 abbrev pub line_of_sample : ℕ → SettingsOfRun → Part → Solid → List ℕ
 line_of_sample n s part tree =
     let count = layer_count s.layer_height tree in
-    sample_line n count (loop_count part count) (moves_below IsPlan part count) (amount_below s part count)
-    (file_size Cli IsPlan s part count)
-    (file_size Gcode IsPlan s part count)
+    sample_line n count (loop_count part count) (moves_below WithPlan part count) (amount_below s part count)
+    (file_size Cli WithPlan s part count)
+    (file_size Gcode WithPlan s part count)
 
 -- a layer passes this budget, and cuts the files short
 pub record Cuts (want : Want) (s : SettingsOfRun) (creates : List Step) (line : List ℕ) (part : Part) (tree : Solid) (budget : Budget) : Type 0 where
@@ -66,9 +66,9 @@ part_passes want s creates line part tree budget c =
 abbrev pub IsDone : Command → SettingsOfRun → Parts → Solid → Type 0
 IsDone (Check model) settings parts tree = layer_count settings.layer_height tree ≤ layer_limit
 IsDone (Tree model) settings parts tree = Unit {0}
-IsDone (Slice model cli) settings parts tree = IsWhole settings (parts IsOutlines settings) tree
-IsDone (Plan model cli gcode) settings parts tree = IsWhole settings (parts IsPlan settings) tree
-IsDone (Sample n) settings parts tree = IsWhole settings (parts IsPlan settings) tree
+IsDone (Slice model cli) settings parts tree = IsWhole settings (parts OutlinesAlone settings) tree
+IsDone (Plan model cli gcode) settings parts tree = IsWhole settings (parts WithPlan settings) tree
+IsDone (Sample n) settings parts tree = IsWhole settings (parts WithPlan settings) tree
 
 -- too many layers, or one that cuts the files short
 abbrev pub IsDrawnOver : Want → SettingsOfRun → List Step → List ℕ → Part → Solid → Budget → Type 0
@@ -80,13 +80,14 @@ abbrev pub IsOver : Command → SettingsOfRun → Parts → Solid → Budget →
 IsOver (Check model) settings parts tree budget = HasManyLayers settings tree budget
 IsOver (Tree model) settings parts tree budget = ⊥
 IsOver (Slice model cli) settings parts tree budget =
-    IsDrawnOver IsOutlines settings (slice_creates cli) (slice_line settings (parts IsOutlines settings) tree)
-    (parts IsOutlines settings) tree budget
+    IsDrawnOver OutlinesAlone settings (slice_creates cli) (slice_line settings (parts OutlinesAlone settings) tree)
+    (parts OutlinesAlone settings) tree budget
 IsOver (Plan model cli gcode) settings parts tree budget =
-    IsDrawnOver IsPlan settings (plan_creates cli gcode) (line_of_plan settings (parts IsPlan settings) tree)
-    (parts IsPlan settings) tree budget
+    IsDrawnOver WithPlan settings (plan_creates cli gcode) (line_of_plan settings (parts WithPlan settings) tree)
+    (parts WithPlan settings) tree budget
 IsOver (Sample n) settings parts tree budget =
-    IsDrawnOver IsPlan settings [] (line_of_sample n settings (parts IsPlan settings) tree) (parts IsPlan settings) tree
+    IsDrawnOver WithPlan settings [] (line_of_sample n settings (parts WithPlan settings) tree)
+    (parts WithPlan settings) tree
     budget
 
 -- it ends with a line or by a budget
@@ -132,17 +133,17 @@ follows_end (Check model) settings parts tree =
     (nat_lt layer_limit (layer_count settings.layer_height tree)) refl
 follows_end (Tree model) settings parts tree = inl (tree_text tree, refl, tt)
 follows_end (Slice model cli) settings parts tree =
-    let part = parts IsOutlines settings in
-    drawn_ends IsOutlines settings (slice_creates cli) (slice_line settings part tree) part tree
-    (script_goes IsOutlines settings (slice_creates cli) (slice_line settings part tree) part tree)
+    let part = parts OutlinesAlone settings in
+    drawn_ends OutlinesAlone settings (slice_creates cli) (slice_line settings part tree) part tree
+    (script_goes OutlinesAlone settings (slice_creates cli) (slice_line settings part tree) part tree)
 follows_end (Plan model cli gcode) settings parts tree =
-    let part = parts IsPlan settings in
-    drawn_ends IsPlan settings (plan_creates cli gcode) (line_of_plan settings part tree) part tree
-    (script_goes IsPlan settings (plan_creates cli gcode) (line_of_plan settings part tree) part tree)
+    let part = parts WithPlan settings in
+    drawn_ends WithPlan settings (plan_creates cli gcode) (line_of_plan settings part tree) part tree
+    (script_goes WithPlan settings (plan_creates cli gcode) (line_of_plan settings part tree) part tree)
 follows_end (Sample n) settings parts tree =
-    let part = parts IsPlan settings in
-    subst (EndsBy (IsWhole settings part tree) (IsDrawnOver IsPlan settings [] (line_of_sample n settings part tree)
+    let part = parts WithPlan settings in
+    subst (EndsBy (IsWhole settings part tree) (IsDrawnOver WithPlan settings [] (line_of_sample n settings part tree)
     part tree))
     (unwritten_ends (nat_lt layer_limit (layer_count settings.layer_height tree)) _ _)
-    (drawn_ends IsPlan settings [] (line_of_sample n settings part tree) part tree
-    (script_goes IsPlan settings [] (line_of_sample n settings part tree) part tree))
+    (drawn_ends WithPlan settings [] (line_of_sample n settings part tree) part tree
+    (script_goes WithPlan settings [] (line_of_sample n settings part tree) part tree))

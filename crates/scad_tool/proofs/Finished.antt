@@ -10,13 +10,14 @@ use Rattle.scad_script.specs.declared.stop.Stop.{Stop}
 use Rattle.scad_script.specs.Script.{input_of}
 use Rattle.scad_script.specs.Played.{Completes}
 use Rattle.scad_tree.specs.Solid.{Solid}
-use Rattle.slice_work.specs.declared.want.Want.TheVariants.{Outlines as IsOutlines, Plan as IsPlan}
+use Rattle.slice_work.specs.declared.want.Want.TheVariants.{Outlines as OutlinesAlone, Plan as WithPlan}
 use Rattle.slice_work.specs.Part.{Part}
 use Rattle.scad_slice.specs.Parts.{IsPart}
 use Rattle.scad_slice.specs.Script.{slice_script, plan_script}
 use Rattle.scad_tool.specs.Words.{model_of}
 use Rattle.scad_tool.specs.Told.{sample_script}
-use Rattle.scad_tool.specs.Answer.{source_limit, follows, source_of, text_read}
+use Rattle.scad_tool.specs.Answer.{follows}
+use Rattle.scad_tool.specs.Inputs.{source_limit, source_of, text_read}
 use Rattle.scad_tool.specs.Playing.{IsEnd, Gets}
 use Rattle.scad_tool.proofs.Sources.{as_part}
 use Rattle.scad_tool.proofs.Telling.{ended}
@@ -50,27 +51,29 @@ gets_model command model files (Ok input) named told =
 
 module _ (command : Command) (settings : SettingsOfRun) (tree : Solid) (result : Result (List ℕ) Stop) (old new : View) where
   pub slice_finishes : (model cli : List ℕ) → command ≡ Slice model cli
-      → ((part : Part) → IsPart IsOutlines settings tree part → Completes (slice_script settings cli part tree) result
+      → ((part : Part) → IsPart OutlinesAlone settings tree part
+      → Completes (slice_script settings cli part tree) result
       old new)
       → PlaysOn command settings tree result old new
   slice_finishes model cli form plays parts of_tree =
       subst (λ (c : Command). Completes (follows c settings parts tree) result old new) (sym form)
-      (plays (parts IsOutlines settings) (as_part tree parts of_tree IsOutlines settings))
+      (plays (parts OutlinesAlone settings) (as_part tree parts of_tree OutlinesAlone settings))
 
   pub plan_finishes : (model cli gcode : List ℕ) → command ≡ Plan model cli gcode
-      → ((part : Part) → IsPart IsPlan settings tree part → Completes (plan_script settings cli gcode part tree) result
+      → ((part : Part) → IsPart WithPlan settings tree part → Completes (plan_script settings cli gcode part tree)
+      result
       old new)
       → PlaysOn command settings tree result old new
   plan_finishes model cli gcode form plays parts of_tree =
       subst (λ (c : Command). Completes (follows c settings parts tree) result old new) (sym form)
-      (plays (parts IsPlan settings) (as_part tree parts of_tree IsPlan settings))
+      (plays (parts WithPlan settings) (as_part tree parts of_tree WithPlan settings))
 
 pub sample_finishes : (command : Command) (settings : SettingsOfRun) (tree : Solid) (result : Result (List ℕ) Stop)
     (old : View) (n : ℕ)
-    → command ≡ Sample n → ((part : Part) → IsPart IsPlan settings tree part
+    → command ≡ Sample n → ((part : Part) → IsPart WithPlan settings tree part
     → IsEnd (sample_script n settings part tree) result)
     → PlaysOn command settings tree result old old
 sample_finishes command settings tree result old n form is parts of_tree =
     subst (λ (c : Command). Completes (follows c settings parts tree) result old old) (sym form)
-    (λ whole start left. ended (sample_script n settings (parts IsPlan settings) tree) result whole start old
-    (is (parts IsPlan settings) (as_part tree parts of_tree IsPlan settings)) left)
+    (λ whole start left. ended (sample_script n settings (parts WithPlan settings) tree) result whole start old
+    (is (parts WithPlan settings) (as_part tree parts of_tree WithPlan settings)) left)

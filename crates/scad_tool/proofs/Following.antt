@@ -7,7 +7,8 @@ use Rattle.scad_words.specs.Settings.{settings_of, default_settings}
 use Rattle.scad_script.specs.declared.refusal.Refusal.TheVariants.{Settings as IsSettings}
 use Rattle.scad_script.specs.Steps.{Reads}
 use Rattle.scad_script.specs.Script.{Script, Refuses, Lacks, first, ends}
-use Rattle.scad_tool.specs.Answer.{judged_script, settings_script, accepted, settings_found}
+use Rattle.scad_tool.specs.Answer.{judged_script, settings_script}
+use Rattle.scad_tool.specs.Inputs.{accepted, settings_found}
 
 judged_has : (P : Script → Type 0) (meant : Result Settings SetFault) (follows : Settings → Script)
     → ((settings : Settings) → accepted meant ≡ Some settings → P (follows settings))

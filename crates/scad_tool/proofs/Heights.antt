@@ -5,7 +5,7 @@ use Rattle.scad_fault.specs.declared.settings.SetFault.{SetFault}
 use Rattle.scad_words.specs.declared.settings.Settings.{Settings}
 use Rattle.scad_words.specs.Settings.{settings_of, default_settings, AreInRange}
 use Rattle.scad_words.proofs.Ranges.{defaults_in_range, text_in_range}
-use Rattle.scad_tool.specs.Answer.{accepted, settings_found}
+use Rattle.scad_tool.specs.Inputs.{accepted, settings_found}
 
 accepted_is : (meant : Result Settings SetFault) (settings : Settings) → accepted meant ≡ Some settings
     → meant ≡ Ok settings

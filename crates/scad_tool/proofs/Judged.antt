@@ -12,7 +12,8 @@ use Rattle.scad_script.specs.Script.{Script, Ending, Finishes, Refuses, Lacks}
 use Rattle.scad_script.specs.Names.{Given}
 use Rattle.scad_script.specs.Promises.{IsAnswered, IsReadFault, IsWriteFault, IsMemoryLine, Promised}
 use Rattle.scad_tool.specs.Words.{given_of, given_by}
-use Rattle.scad_tool.specs.Answer.{Parts, Inputs, follows, job_script, script_of}
+use Rattle.scad_tool.specs.Answer.{Parts, follows, job_script, script_of}
+use Rattle.scad_tool.specs.Inputs.{Inputs}
 use Rattle.scad_tool.specs.Promises.{JudgesWords, JudgesJob}
 use Rattle.scad_tool.proofs.Reached.{EndsBefore, IsStopped, IsFollowed, reached}
 use Rattle.scad_tool.proofs.Ends.{IsDone, IsOver, EndsBy, follows_end}

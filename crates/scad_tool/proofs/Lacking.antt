@@ -6,7 +6,8 @@ use Rattle.scad_words.specs.Job.{job_of}
 use Rattle.scad_script.specs.declared.refusal.Refusal.TheVariants.{Over}
 use Rattle.scad_script.specs.Steps.{Step}
 use Rattle.scad_script.specs.Script.{Script, Ending, Finishes, Refuses, Lacks, answer_of}
-use Rattle.scad_tool.specs.Answer.{Parts, Inputs, follows, job_script, script_of}
+use Rattle.scad_tool.specs.Answer.{Parts, follows, job_script, script_of}
+use Rattle.scad_tool.specs.Inputs.{Inputs}
 use Rattle.scad_tool.specs.Causes.{IsMissing}
 use Rattle.scad_tool.specs.Laws.{AnswersLackFiles}
 use Rattle.scad_tool.proofs.Ends.{IsDone, IsOver, EndsBy, follows_end}

@@ -7,7 +7,7 @@ use Rattle.scad_words.specs.declared.job.Command.{Command}
 use Rattle.scad_words.specs.declared.job.Command.TheVariants.{Check, Tree, Slice, Plan, Sample}
 use Rattle.scad_words.specs.declared.job.Job.{Job}
 use Rattle.scad_words.specs.declared.settings.Settings.{Settings as SettingsOfRun}
-use Rattle.scad_words.specs.Job.{job_of}
+use Rattle.scad_words.specs.Job.{job_of, named}
 use Rattle.scad_script.specs.declared.refusal.Refusal.{Refusal}
 use Rattle.scad_script.specs.declared.refusal.Refusal.TheVariants.{Source, Over as IsOver}
 use Rattle.scad_script.specs.declared.loading.Input.{Input}
@@ -22,15 +22,15 @@ use Rattle.scad_tree.specs.Solid.{Solid}
 use Rattle.scad_tree.specs.Order.{leaves as leaf_count}
 use Rattle.scad_tree.specs.Sizes.{triangle_count}
 use Rattle.scad_tree.specs.Text.{text_of as tree_text}
-use Rattle.slice_work.specs.declared.want.Want.TheVariants.{Outlines as IsOutlines, Plan as IsPlan}
+use Rattle.slice_work.specs.declared.want.Want.TheVariants.{Outlines as OutlinesAlone, Plan as WithPlan}
 use Rattle.slice_work.specs.Part.{layer_limit}
 use Rattle.scad_slice.specs.Budgets.{layer_count, layers_passed}
 use Rattle.scad_slice.proofs.Orderly.{DrawsInOrder, slice_draws, plan_draws}
-use Rattle.scad_words.specs.Job.{named}
 use Rattle.scad_tool.specs.Words.{model_of, given_names, given_of, given_by}
 use Rattle.scad_tool.specs.Meaning.{source_means}
 use Rattle.scad_tool.specs.Told.{echo_text, echoed, ok_line, check_end, told}
-use Rattle.scad_tool.specs.Answer.{Parts, Inputs, follows, input_script, model_read_first, model_script, source_of, job_script, script_of}
+use Rattle.scad_tool.specs.Answer.{Parts, follows, input_script, model_read_first, model_script, job_script, script_of}
+use Rattle.scad_tool.specs.Inputs.{Inputs, source_of}
 use Rattle.scad_tool.proofs.Following.{settings_have}
 use Rattle.scad_tool.proofs.Ends.{IsDone, IsOver as IsOverBy, EndsBy, follows_end}
 
@@ -89,9 +89,9 @@ follows_draws (Check model) name settings parts tree =
 follows_draws (Tree model) name settings parts tree =
     ends_in_order _ (Finishes (tree_text tree)) (λ same. let never : ⊥ = cc in absurd never)
 follows_draws (Slice model cli) name settings parts tree =
-    slice_draws settings (given_names (Slice model cli) name) cli (parts IsOutlines settings) tree refl
+    slice_draws settings (given_names (Slice model cli) name) cli (parts OutlinesAlone settings) tree refl
 follows_draws (Plan model cli gcode) name settings parts tree =
-    plan_draws settings (given_names (Plan model cli gcode) name) cli gcode (parts IsPlan settings) tree refl refl
+    plan_draws settings (given_names (Plan model cli gcode) name) cli gcode (parts WithPlan settings) tree refl refl
 follows_draws (Sample n) name settings parts tree =
     ends_if (given_names (Sample n) name) (nat_lt layer_limit (layer_count settings.layer_height tree)) _ _
     (ends_there (IsDone (Sample n) settings parts tree) (IsOverBy (Sample n) settings parts tree)

@@ -12,13 +12,13 @@ use Rattle.scad_tree.specs.Solids.{AreSolids}
 use Rattle.cli_text.specs.Cli.{Layer}
 use Rattle.gcode_text.specs.Gcode.{gcode}
 use Rattle.slice_work.specs.declared.want.Want.{Want}
-use Rattle.slice_work.specs.declared.want.Want.TheVariants.{Plan as IsPlan}
+use Rattle.slice_work.specs.declared.want.Want.TheVariants.{Plan as WithPlan}
 use Rattle.slice_work.specs.Part.{Layout, Part, outlines_of, paths_of, layer_limit}
-use Rattle.slice_work.specs.Script.{rates_of}
+use Rattle.slice_work.specs.Rates.{rates_of}
 use Rattle.scad_slice.specs.Budgets.{layer_count}
-use Rattle.scad_slice.specs.Parts.{IsLayer, IsPart, AreMade, layer_at, layers_of, plans_of}
-use Rattle.print_laws.specs.Program.{paths_of as paths_in, program_of}
-use Rattle.print_laws.specs.Print.{AreLayersOf, written_from, written}
+use Rattle.scad_slice.specs.Parts.{IsPart, AreMade, layer_at, layers_of, plans_of}
+use Rattle.scad_slice.specs.Layer.{IsLayer}
+use Rattle.print_laws.specs.Print.{all_paths, program_of, AreLayersOf, written_from, written}
 use Rattle.print_laws.proofs.ByNumber.{each_by_number}
 
 -- a layer that is laid out, none where it passes a budget
@@ -53,16 +53,16 @@ pub written_is : (h : ℕ) (part : Part) (n : ℕ) → layers_of h part n ≡ wr
 written_is h part n = sym (written_at h part 0 n)
 
 -- and printed as its plans are
-paths_whole : (r : Result Layout Budget) → paths_of IsPlan r ≡ (whole_of r).paths
+paths_whole : (r : Result Layout Budget) → paths_of WithPlan r ≡ (whole_of r).paths
 paths_whole (Ok layout) = refl
 paths_whole (Err budget) = refl
 
-plans_at : (part : Part) (is : List ℕ) → map (λ i. paths_of IsPlan (part i)) is ≡ paths_in (map (layout_at part) is)
+plans_at : (part : Part) (is : List ℕ) → map (λ i. paths_of WithPlan (part i)) is ≡ all_paths (map (layout_at part) is)
 plans_at part [] = refl
 plans_at part (i ∷ is) = ap₂ (λ (paths : List (List Pt)) (more : List (List (List Pt))). paths ∷ more)
     (paths_whole (part i)) (plans_at part is)
 
-pub plans_are : (part : Part) (n : ℕ) → plans_of part n ≡ paths_in (layouts part n)
+pub plans_are : (part : Part) (n : ℕ) → plans_of part n ≡ all_paths (layouts part n)
 plans_are part n = plans_at part (range_with_len 0 n)
 
 pub program_is : (s : SettingsOfRun) (part : Part) (n : ℕ)
@@ -81,7 +81,7 @@ layers_each want s tree part n solids in_range is_part made =
     (subst (IsLayer want s tree i) layout.1 (is_part solids in_range i)))
 
 pub are_layers : (s : SettingsOfRun) (tree : Solid) (part : Part) → AreSolids tree → AreInRange s
-    → IsPart IsPlan s tree part
+    → IsPart WithPlan s tree part
     → layer_count s.layer_height tree ≤ layer_limit → AreMade part (layer_count s.layer_height tree)
     → AreLayersOf s tree (layouts part (layer_count s.layer_height tree))
 are_layers s tree part solids in_range is_part few made =
@@ -90,5 +90,5 @@ are_layers s tree part solids in_range is_part few made =
     record {
       number = number;
       few = omega (arith, number, few);
-      each = layers_each IsPlan s tree part n solids in_range is_part made;
+      each = layers_each WithPlan s tree part n solids in_range is_part made;
     }

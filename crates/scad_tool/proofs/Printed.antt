@@ -19,16 +19,17 @@ use Rattle.scad_script.specs.Promises.{Adds, IsAnswered, Promised}
 use Rattle.scad_tree.specs.Solid.{Solid}
 use Rattle.scad_tree.specs.Solids.{AreSolids}
 use Rattle.cli_text.specs.Cli.{Layer, cli as text_of_layers}
-use Rattle.slice_work.specs.declared.want.Want.TheVariants.{Outlines as IsOutlines, Plan as IsPlan}
+use Rattle.slice_work.specs.declared.want.Want.TheVariants.{Outlines as OutlinesAlone, Plan as WithPlan}
 use Rattle.scad_slice.specs.Budgets.{layer_count}
 use Rattle.scad_slice.specs.Parts.{layers_of}
 use Rattle.scad_slice.specs.Membership.{HoldTree}
 use Rattle.scad_slice.proofs.Holding.{parts_hold}
 use Rattle.scad_slice.proofs.Texts.{slices_are_whole, plans_are_whole}
 use Rattle.scad_tool.specs.Words.{model_of, cli_of, given_by}
-use Rattle.scad_tool.specs.Answer.{Parts, Inputs, follows, source_of, source_in, job_script, script_of, IsRead, ArePartsOfTree, AreDrawn, AreParts}
-use Rattle.scad_tool.specs.Answer.{settings_found}
-use Rattle.scad_tool.specs.Promises.{MeansTree, OutlinesHoldTree}
+use Rattle.scad_tool.specs.Answer.{Parts, follows, job_script, script_of, ArePartsOfTree, AreDrawn, AreParts}
+use Rattle.scad_tool.specs.Inputs.{Inputs, source_of, source_in, IsRead, settings_found}
+use Rattle.scad_tool.specs.Promises.{OutlinesHoldTree}
+use Rattle.scad_tool.specs.Meaning.{MeansTree}
 use Rattle.scad_tool.proofs.Working.{parts_meant}
 use Rattle.scad_tool.proofs.Sources.{sources_mean_solids, as_part}
 use Rattle.scad_tool.proofs.Heights.{found_in_range}
@@ -130,19 +131,20 @@ command_written : (command : Command) (cli : List ℕ) (settings : SettingsOfRun
 command_written (Check m) cli settings parts tree old new named in_range solids of_tree done added = let never : ⊥ = cc in absurd never
 command_written (Tree m) cli settings parts tree old new named in_range solids of_tree done added = let never : ⊥ = cc in absurd never
 command_written (Slice m c) cli settings parts tree old new named in_range solids of_tree whole added =
-    let part = parts IsOutlines settings in
+    let part = parts OutlinesAlone settings in
     record {
       layers = layers_of settings.layer_height part (layer_count settings.layer_height tree);
       text = subst (λ (text : List ℕ). Adds text old.cli new.cli) (slices_are_whole settings c part tree whole) added;
-      hold = parts_hold IsOutlines settings tree part solids in_range (as_part tree parts of_tree IsOutlines settings)
+      hold = parts_hold OutlinesAlone settings tree part solids in_range
+          (as_part tree parts of_tree OutlinesAlone settings)
           whole.made;
     }
 command_written (Plan m c g) cli settings parts tree old new named in_range solids of_tree whole added =
-    let part = parts IsPlan settings in
+    let part = parts WithPlan settings in
     record {
       layers = layers_of settings.layer_height part (layer_count settings.layer_height tree);
       text = subst (λ (text : List ℕ). Adds text old.cli new.cli) (plans_are_whole settings c g part tree whole) added;
-      hold = parts_hold IsPlan settings tree part solids in_range (as_part tree parts of_tree IsPlan settings)
+      hold = parts_hold WithPlan settings tree part solids in_range (as_part tree parts of_tree WithPlan settings)
           whole.made;
     }
 command_written (Sample n) cli settings parts tree old new named in_range solids of_tree done added = let never : ⊥ = cc in absurd never

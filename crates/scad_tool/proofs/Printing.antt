@@ -8,15 +8,15 @@ use Rattle.scad_words.specs.declared.job.Command.TheVariants.{Plan}
 use Rattle.scad_words.specs.declared.job.Job.{Job}
 use Rattle.scad_script.specs.Promises.{Adds, Promised}
 use Rattle.cli_text.specs.Cli.{Layer, cli as text_of_layers}
-use Rattle.slice_work.specs.declared.want.Want.TheVariants.{Plan as IsPlan}
+use Rattle.slice_work.specs.declared.want.Want.TheVariants.{Plan as WithPlan}
 use Rattle.scad_slice.specs.Budgets.{layer_count}
 use Rattle.scad_slice.proofs.Texts.{plans_are_whole, programs_are_whole}
-use Rattle.print_laws.specs.Program.{program_of}
-use Rattle.print_laws.specs.Print.{written}
+use Rattle.print_laws.specs.Print.{program_of, written}
 use Rattle.print_laws.specs.Laws.{LayersArePrinted, PrintsAreOne}
 use Rattle.scad_tool.specs.Words.{given_by}
-use Rattle.scad_tool.specs.Answer.{Parts, Inputs, source_limit, script_of, IsRead, AreParts}
-use Rattle.scad_tool.specs.Promises.{MeansTree, GoBy}
+use Rattle.scad_tool.specs.Answer.{Parts, script_of, AreParts}
+use Rattle.scad_tool.specs.Inputs.{Inputs, source_limit, IsRead, GoBy}
+use Rattle.scad_tool.specs.Meaning.{MeansTree}
 use Rattle.scad_tool.specs.Printing.{PlanAddsPrint}
 use Rattle.scad_tool.specs.Headline.{Prints, Headline}
 use Rattle.scad_tool.proofs.Sources.{as_part}
@@ -34,8 +34,8 @@ module _ (words : List (List ℕ)) (files : Files) (inputs : Inputs) (parts : Pa
       let job : Job = record { command = Plan model cli gcode; settings = name; workers = workers } in
       let f = words_finished words inputs parts status old new job drawn promised done form in
       let s = f.settings in
-      let part = parts IsPlan s in
-      let is_part = as_part f.tree parts f.of_tree IsPlan s in
+      let part = parts WithPlan s in
+      let is_part = as_part f.tree parts f.of_tree WithPlan s in
       let n = layer_count s.layer_height f.tree in
       let layers = layouts part n in
       let print =

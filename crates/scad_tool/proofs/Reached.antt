@@ -15,8 +15,8 @@ use Rattle.scad_tree.specs.Solid.{Solid}
 use Rattle.scad_tool.specs.Words.{model_of}
 use Rattle.scad_tool.specs.Meaning.{source_means}
 use Rattle.scad_tool.specs.Told.{told}
-use Rattle.scad_tool.specs.Answer.{Parts, Inputs, follows, input_script, model_read_first, model_script, source_of, source_in, job_script}
-use Rattle.scad_tool.specs.Answer.{settings_found}
+use Rattle.scad_tool.specs.Answer.{Parts, follows, input_script, model_read_first, model_script, job_script}
+use Rattle.scad_tool.specs.Inputs.{Inputs, source_of, source_in, settings_found}
 use Rattle.scad_tool.specs.Causes.{SourceIsLong, MeansFault, SettingsHaveFault, EvaluationPasses, IsMissing}
 use Rattle.scad_tool.proofs.Following.{settings_have}
 use Rattle.scad_tool.proofs.Sources.{sources_want_no_memory}

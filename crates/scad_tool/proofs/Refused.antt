@@ -28,7 +28,7 @@ use Rattle.scad_script.proofs.Quiet.{ends_quietly}
 use Rattle.scad_tree.specs.Solid.{Solid}
 use Rattle.scad_tree.specs.Solids.{AreSolids}
 use Rattle.slice_work.specs.declared.want.Want.{Want}
-use Rattle.slice_work.specs.declared.want.Want.TheVariants.{Outlines as IsOutlines, Plan as IsPlan}
+use Rattle.slice_work.specs.declared.want.Want.TheVariants.{Outlines as OutlinesAlone, Plan as WithPlan}
 use Rattle.slice_work.specs.Part.{Part, paths_of, layer_limit}
 use Rattle.cli_text.specs.Cli.{Layer, head, layer_text}
 use Rattle.scad_slice.specs.Budgets.{layer_count}
@@ -37,7 +37,8 @@ use Rattle.scad_slice.proofs.Parted.{IsKind, budget_of_layer}
 use Rattle.scad_slice.proofs.Texts.{slice_cut, plan_cut, program_cut}
 use Rattle.scad_tool.proofs.Silent.{slice_is_silent}
 use Rattle.scad_tool.specs.Words.{given_by}
-use Rattle.scad_tool.specs.Answer.{Parts, Inputs, follows, source_in, job_script, script_of, ArePartsOfTree, AreDrawn, AreParts}
+use Rattle.scad_tool.specs.Answer.{Parts, follows, job_script, script_of, ArePartsOfTree, AreDrawn, AreParts}
+use Rattle.scad_tool.specs.Inputs.{Inputs, source_in}
 use Rattle.scad_tool.specs.Promises.{IsReported, IsRefused, IsProgramFront, IsCutShort, Refuses, Leaves, LeavesOutputs}
 use Rattle.scad_tool.specs.Causes.{HasManyLayers}
 use Rattle.scad_tool.proofs.Working.{parts_meant}
@@ -139,8 +140,8 @@ abbrev IsOne : BudgetKind → Type 0
 IsOne kind = (kind ≡ LayerEdges) ⊎ ((kind ≡ LayerCrossings) ⊎ (kind ≡ LayerMoves))
 
 one_of : (want : Want) (kind : BudgetKind) → IsKind want kind → IsOne kind
-one_of IsOutlines kind is = ⊎_elim (λ edges. inl edges) (λ crossed. inr (inl crossed)) is
-one_of IsPlan kind is = is
+one_of OutlinesAlone kind is = ⊎_elim (λ edges. inl edges) (λ crossed. inr (inl crossed)) is
+one_of WithPlan kind is = is
 
 module _ (settings : SettingsOfRun) (tree : Solid) (in_range : AreInRange settings) (solids : AreSolids tree) where
   abbrev count : ℕ
@@ -180,19 +181,19 @@ module _ (settings : SettingsOfRun) (tree : Solid) (in_range : AreInRange settin
   behind (Tree model) parts budget of_tree over = inl tt
   behind (Slice model cli) parts budget of_tree (inl many) = inl (many_quiet budget _ _ _ refl many)
   behind (Slice model cli) parts budget of_tree (inr c) =
-      let part = parts IsOutlines settings in
-      inr (cut_at IsOutlines _ _ part budget _ _ (as_part tree parts of_tree IsOutlines settings) c
+      let part = parts OutlinesAlone settings in
+      inr (cut_at OutlinesAlone _ _ part budget _ _ (as_part tree parts of_tree OutlinesAlone settings) c
       (slice_cut settings cli part tree c.cut)
       (inl (slice_is_silent settings cli part tree c.cut)))
   behind (Plan model cli gcode) parts budget of_tree (inl many) = inl (many_quiet budget _ _ _ refl many)
   behind (Plan model cli gcode) parts budget of_tree (inr c) =
-      let part = parts IsPlan settings in
-      inr (cut_at IsPlan _ _ part budget _ _ (as_part tree parts of_tree IsPlan settings) c
+      let part = parts WithPlan settings in
+      inr (cut_at WithPlan _ _ part budget _ _ (as_part tree parts of_tree WithPlan settings) c
       (plan_cut settings cli gcode part tree c.cut)
       (inr (record {
         settings = settings;
         paths = plans_of part c.cut.layer;
-        count = length-map-range_with_len (λ i. paths_of IsPlan (part i)) 0 c.cut.layer;
+        count = length-map-range_with_len (λ i. paths_of WithPlan (part i)) 0 c.cut.layer;
         is = program_cut settings cli gcode part tree c.cut;
       })))
   behind (Sample n) parts budget of_tree over = inl (sample_quiet n settings parts tree)

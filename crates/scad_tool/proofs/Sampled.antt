@@ -9,7 +9,7 @@ use Rattle.scad_script.specs.Script.{Script, Finishes, Refuses, ends}
 use Rattle.scad_script.specs.Played.{Carries, HasRisen}
 use Rattle.scad_script.proofs.Playing.{begun}
 use Rattle.scad_tree.specs.Solid.{Solid}
-use Rattle.slice_work.specs.declared.want.Want.TheVariants.{Plan as IsPlan}
+use Rattle.slice_work.specs.declared.want.Want.TheVariants.{Plan as WithPlan}
 use Rattle.slice_work.specs.Part.{Part, layer_limit}
 use Rattle.slice_work.specs.Sums.{loop_count, moves_below}
 use Rattle.scad_io.specs.declared.desk.Out.TheVariants.{Cli, Gcode}
@@ -24,7 +24,7 @@ module _ (n : ℕ) (s : SettingsOfRun) (part : Part) (tree : Solid) where
   count = layer_count s.layer_height tree
 
   abbrev whole : Script
-  whole = files IsPlan s part count (sample_end n s part count)
+  whole = files WithPlan s part count (sample_end n s part count)
 
   script_if : (b : Bool) → nat_lt layer_limit count ≡ b → count ≤ layer_limit
       → (if b then ends (Refuses (Over (layers_passed count))) else unwritten whole) ≡ unwritten whole
@@ -36,7 +36,8 @@ module _ (n : ℕ) (s : SettingsOfRun) (part : Part) (tree : Solid) where
   script_is few = script_if (nat_lt layer_limit count) refl few
 
   -- the work on the files stopped
-  stopped_so : (old new : View) (stop : Stop) → count ≤ layer_limit → Carries {T = Written} (files IsPlan s part count)
+  stopped_so : (old new : View) (stop : Stop) → count ≤ layer_limit
+      → Carries {T = Written} (files WithPlan s part count)
       (Err stop) old new
       → HasRisen {T = Written} (Err stop) 0 0 → IsEnd (sample_script n s part tree) (Err stop)
   stopped_so old new (Stop.Ends refusal) few carries rises =
@@ -48,25 +49,25 @@ module _ (n : ℕ) (s : SettingsOfRun) (part : Part) (tree : Solid) where
   stopped_so old new Stop.Silent few carries rises = let less : 0 < 0 = rises refl in omega (arith, less)
 
   pub sample_stops : (old new : View) (stop : Stop) (result : Result (List ℕ) Stop) → count ≤ layer_limit
-      → Carries {T = Written} (files IsPlan s part count) (Err stop) old new → HasRisen {T = Written} (Err stop) 0 0
+      → Carries {T = Written} (files WithPlan s part count) (Err stop) old new → HasRisen {T = Written} (Err stop) 0 0
       → result ≡ Err stop
       → IsEnd (sample_script n s part tree) result
   sample_stops old new stop result few carries rises is =
       subst (IsEnd (sample_script n s part tree)) (sym is) (stopped_so old new stop few carries rises)
 
   -- the line of what was written
-  line_is : (w : Written) → IsWritten IsPlan s part count w
+  line_is : (w : Written) → IsWritten WithPlan s part count w
       → sample_line n w.summary.layers w.summary.loops w.summary.moves w.summary.e w.cli w.gcode
-      ≡ sample_line n count (loop_count part count) (moves_below IsPlan part count) (amount_below s part count)
-      (file_size Cli IsPlan s part count)
-      (file_size Gcode IsPlan s part count)
+      ≡ sample_line n count (loop_count part count) (moves_below WithPlan part count) (amount_below s part count)
+      (file_size Cli WithPlan s part count)
+      (file_size Gcode WithPlan s part count)
   line_is w told =
       λ k. sample_line n (told.summary.layers k) (told.summary.loops k) (told.summary.moves k) (told.summary.e k)
       (told.cli k) (told.gcode k)
 
   -- all was done
   pub sample_done : (old new : View) (w : Written) (line : List ℕ) → count ≤ layer_limit
-      → Carries (files IsPlan s part count) (Ok w) old new → IsWritten IsPlan s part count w
+      → Carries (files WithPlan s part count) (Ok w) old new → IsWritten WithPlan s part count w
       → line ≡ sample_line n w.summary.layers w.summary.loops w.summary.moves w.summary.e w.cli w.gcode
       → IsEnd (sample_script n s part tree) (Ok line)
   sample_done old new w line few carries told is =

@@ -7,7 +7,8 @@ use Rattle.scad_script.specs.Steps.{Step, text_of}
 use Rattle.scad_tree.specs.Solid.{Solid}
 use Rattle.slice_work.specs.declared.want.Want.TheVariants.{Outlines as IsOutlines}
 use Rattle.slice_work.specs.Part.{Layout, Part}
-use Rattle.slice_work.specs.Script.{volume_below, rates_of, written_unless, layer_steps}
+use Rattle.slice_work.specs.Script.{volume_below, written_unless, layer_steps}
+use Rattle.slice_work.specs.Rates.{rates_of}
 use Rattle.gcode_text.specs.declared.rates.Rates.{Rates}
 use Rattle.scad_slice.specs.Script.{slice_script}
 use Rattle.scad_slice.proofs.Layers.{steps_of, written_from}

@@ -10,8 +10,9 @@ use Rattle.scad_script.specs.declared.loading.Input.TheVariants.{Whole, Long}
 use Rattle.scad_script.specs.Script.{input_of}
 use Rattle.scad_tree.specs.Solid.{Solid}
 use Rattle.scad_tool.specs.Words.{model_of}
-use Rattle.scad_tool.specs.Answer.{Inputs, source_limit, text_read, IsRead, settings_found}
-use Rattle.scad_tool.specs.Promises.{MeansTree, IsTreeOf, GoBy}
+use Rattle.scad_tool.specs.Inputs.{Inputs, source_limit, text_read, IsRead, settings_found, GoBy}
+use Rattle.scad_tool.specs.Promises.{IsTreeOf}
+use Rattle.scad_tool.specs.Meaning.{MeansTree}
 use Rattle.scad_tool.proofs.Working.{model_read_as, settings_read_as}
 
 -- the text of what was read whole

@@ -18,13 +18,16 @@ use Rattle.scad_script.proofs.Layers.{as_left}
 use Rattle.scad_tree.specs.Solid.{Solid}
 use Rattle.scad_expr.specs.State.{Outcome}
 use Rattle.scad_tool.specs.Words.{model_of}
-use Rattle.scad_tool.specs.Meaning.{source_means}
+use Rattle.scad_tool.specs.Meaning.{source_means, MeansTree}
 use Rattle.scad_tool.specs.Told.{told}
-use Rattle.scad_tool.specs.Answer.{Parts, Inputs, follows, input_script, model_read_first, model_script, settings_script, command_script}
-use Rattle.scad_tool.specs.Answer.{job_script, script_of, source_of, settings_read, text_read, model_read, read_of, IsRead, ArePartsOfTree}
-use Rattle.scad_tool.specs.Answer.{ArePartsOf, AreDrawn, source_in}
+use Rattle.scad_tool.specs.Answer.{Parts, follows, input_script, model_read_first, model_script, settings_script}
+use Rattle.scad_tool.specs.Answer.{command_script}
+use Rattle.scad_tool.specs.Inputs.{Inputs}
+use Rattle.scad_tool.specs.Answer.{job_script, script_of, ArePartsOfTree}
+use Rattle.scad_tool.specs.Inputs.{source_of, settings_read, text_read, model_read, read_of, IsRead}
+use Rattle.scad_tool.specs.Answer.{ArePartsOf, AreDrawn}
+use Rattle.scad_tool.specs.Inputs.{source_in}
 use Rattle.scad_tool.specs.Playing.{AsksNothing, Settled, Settles, Gets, Works}
-use Rattle.scad_tool.specs.Promises.{MeansTree}
 
 -- the files tell that this was read of the model, where one is named
 abbrev pub IsToldOf : Files → Option (List ℕ) → Option Input → Type 0

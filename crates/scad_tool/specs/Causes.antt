@@ -18,14 +18,13 @@ use Rattle.scad_expr.specs.declared.fault.EvalFault.TheVariants.{Fault as IsFaul
 use Rattle.scad_expr.specs.State.{State, refuses}
 use Rattle.scad_tree.specs.Solid.{Solid}
 use Rattle.slice_work.specs.declared.want.Want.{Want}
-use Rattle.slice_work.specs.declared.want.Want.TheVariants.{Outlines as IsOutlines, Plan as IsPlan}
+use Rattle.slice_work.specs.declared.want.Want.TheVariants.{Outlines as OutlinesAlone, Plan as WithPlan}
 use Rattle.slice_work.specs.Part.{layer_limit}
 use Rattle.scad_slice.specs.Budgets.{layer_count, layers_passed}
-use Rattle.scad_slice.specs.Parts.{IsLayer}
+use Rattle.scad_slice.specs.Layer.{IsLayer, IsWithinLimits}
 use Rattle.scad_tool.specs.Words.{given_by}
-use Rattle.scad_tool.specs.Meaning.{source_means}
-use Rattle.scad_tool.specs.Answer.{Inputs, source_long, source_in, settings_found, IsRead}
-use Rattle.scad_tool.specs.Promises.{MeansTree, IsWithinLimits}
+use Rattle.scad_tool.specs.Meaning.{source_means, MeansTree}
+use Rattle.scad_tool.specs.Inputs.{Inputs, source_long, source_in, settings_found, IsRead}
 
 -- a tree has more layers than the limit, and the budget says how many
 abbrev pub HasManyLayers : SettingsOfRun → Solid → Budget → Type 0
@@ -46,11 +45,11 @@ abbrev pub PassesDrawing : Command → SettingsOfRun → Solid → Budget → Ty
 PassesDrawing (Check model) settings tree budget = HasManyLayers settings tree budget
 PassesDrawing (Tree model) settings tree budget = ⊥
 PassesDrawing (Slice model cli) settings tree budget =
-    HasManyLayers settings tree budget ⊎ PassesAtLayer IsOutlines settings tree budget
+    HasManyLayers settings tree budget ⊎ PassesAtLayer OutlinesAlone settings tree budget
 PassesDrawing (Plan model cli gcode) settings tree budget =
-    HasManyLayers settings tree budget ⊎ PassesAtLayer IsPlan settings tree budget
+    HasManyLayers settings tree budget ⊎ PassesAtLayer WithPlan settings tree budget
 PassesDrawing (Sample n) settings tree budget =
-    HasManyLayers settings tree budget ⊎ PassesAtLayer IsPlan settings tree budget
+    HasManyLayers settings tree budget ⊎ PassesAtLayer WithPlan settings tree budget
 
 -- the evaluation of a source that was read whole passes this budget
 pub record EvaluationPasses (job : Job) (inputs : Inputs) (budget : Budget) : Type 0 where
@@ -120,9 +119,9 @@ IsCause job inputs status = Unit {0}
 -- Read and Write an object of the desk that failed, by a name of the words, while the count of faults rose. Want of
 -- memory has
 -- no further cause.
-abbrev pub HasCause : List (List ℕ) → Files → Status → View → View → ℕ → ℕ → Type 0
-HasCause words files Read old new before now = (before < now) × IsReadFault (given_by words) old new
-HasCause words files Write old new before now =
+abbrev pub HasNamedCause : List (List ℕ) → Files → Status → View → View → ℕ → ℕ → Type 0
+HasNamedCause words files Read old new before now = (before < now) × IsReadFault (given_by words) old new
+HasNamedCause words files Write old new before now =
     (before < now) × (HasFailed (given_by words) new ⊎ (new.report.failed ≡ true))
-HasCause words files status old new before now =
+HasNamedCause words files status old new before now =
     (inputs : Inputs) × IsRead words files inputs × IsCause (job_of words) inputs status

@@ -15,20 +15,19 @@ use Rattle.scad_tree.specs.Solid.{Solid}
 use Rattle.cli_text.specs.Cli.{head, layer_text}
 use Rattle.gcode_text.specs.Gcode.{head as program_head, layers_text}
 use Rattle.slice_work.specs.declared.want.Want.{Want}
-use Rattle.slice_work.specs.declared.want.Want.TheVariants.{Outlines as IsOutlines, Plan as IsPlan}
+use Rattle.slice_work.specs.declared.want.Want.TheVariants.{Outlines as OutlinesAlone, Plan as WithPlan}
 use Rattle.slice_work.specs.Part.{Layout, layer_limit}
-use Rattle.slice_work.specs.Script.{rates_of}
+use Rattle.slice_work.specs.Rates.{rates_of}
 use Rattle.scad_slice.specs.Budgets.{layer_count}
-use Rattle.scad_slice.specs.Parts.{IsLayer}
-use Rattle.print_laws.specs.Program.{paths_of}
-use Rattle.print_laws.specs.Print.{written}
-use Rattle.scad_tool.specs.Answer.{Inputs, source_in, settings_found, IsRead}
-use Rattle.scad_tool.specs.Promises.{MeansTree}
+use Rattle.scad_slice.specs.Layer.{IsLayer}
+use Rattle.print_laws.specs.Print.{all_paths, written}
+use Rattle.scad_tool.specs.Inputs.{Inputs, source_in, settings_found, IsRead}
+use Rattle.scad_tool.specs.Meaning.{MeansTree}
 
 -- the printing program of the first layers without its end, where it is wanted
 abbrev pub program_front : Want → Settings → List Layout → List ℕ
-program_front IsOutlines s layers = []
-program_front IsPlan s layers = program_head s.hot_end s.bed ++ layers_text (rates_of s) 0 0 (paths_of layers)
+program_front OutlinesAlone s layers = []
+program_front WithPlan s layers = program_head s.hot_end s.bed ++ layers_text (rates_of s) 0 0 (all_paths layers)
 
 -- A layer of the tree passes the budget. Both files have their heads and the layers below it, each laid out as it is
 -- wanted,
@@ -48,8 +47,8 @@ pub record AreCut (want : Want) (s : Settings) (tree : Solid) (budget : Budget) 
 abbrev pub IsCutBy : Command → Settings → Solid → Budget → View → View → Type 0
 IsCutBy (Check model) s tree budget old new = ⊥
 IsCutBy (Tree model) s tree budget old new = ⊥
-IsCutBy (Slice model cli) s tree budget old new = AreCut IsOutlines s tree budget old new
-IsCutBy (Plan model cli gcode) s tree budget old new = AreCut IsPlan s tree budget old new
+IsCutBy (Slice model cli) s tree budget old new = AreCut OutlinesAlone s tree budget old new
+IsCutBy (Plan model cli gcode) s tree budget old new = AreCut WithPlan s tree budget old new
 IsCutBy (Sample n) s tree budget old new = ⊥
 
 -- the files of the job's tree, by its settings, are cut so

@@ -15,9 +15,9 @@ use Rattle.scad_words.specs.declared.settings.Settings.{Settings}
 use Rattle.scad_words.specs.Job.{job_of}
 use Rattle.scad_tree.specs.Solid.{Solid}
 use Rattle.print_laws.specs.Print.{IsPrintOf}
-use Rattle.scad_tool.specs.Answer.{source_limit}
-use Rattle.scad_tool.specs.Promises.{MeansTree, GoBy}
-use Rattle.scad_tool.specs.Causes.{HasCause}
+use Rattle.scad_tool.specs.Inputs.{source_limit, GoBy}
+use Rattle.scad_tool.specs.Meaning.{MeansTree}
+use Rattle.scad_tool.specs.Causes.{HasNamedCause}
 
 -- ---- the desk tells
 -- what each name contains, and what both outputs held before the run
@@ -61,4 +61,4 @@ Prints words files old new =
 -- ---- the headline
 pub record Headline (words : List (List ℕ)) (files : Files) (status : Status) (old new : View) (before now : ℕ) : Type 0 where
   pub prints : status ≡ Done → Prints words files old new
-  pub cause : HasCause words files status old new before now
+  pub cause : HasNamedCause words files status old new before now

@@ -9,7 +9,8 @@ use Rattle.scad_expr.specs.State.{State, gives, refuses}
 use Rattle.scad_tree.specs.Solid.{Solid}
 use Rattle.scad_tree.specs.Solids.{AreSolids}
 use Rattle.scad_tool.specs.Meaning.{source_means}
-use Rattle.scad_tool.specs.Answer.{Parts, Inputs, script_of, AreDrawn, AreParts}
+use Rattle.scad_tool.specs.Answer.{Parts, script_of, AreDrawn, AreParts}
+use Rattle.scad_tool.specs.Inputs.{Inputs}
 use Rattle.scad_tool.specs.Causes.{IsMissing}
 
 -- the tree that a source means is of solids

@@ -2,6 +2,7 @@ pub mod Words
 pub mod Meaning
 pub mod View
 pub mod Told
+pub mod Inputs
 pub mod Answer
 pub mod Playing
 pub mod Promises

@@ -1,6 +1,6 @@
 -- What a source means: its tokens, the program that they are, and what the program makes. The program is the one that
 -- the grammar derives, and the fault the first that it has: the law `judges_as_the_grammar` of scad_grammar.
-use Rattle.std.specs.Prelude.{List, [], ℕ, Result, Ok, Err}
+use Rattle.std.specs.Prelude.{List, [], ℕ, Result, Ok, Err, ◌≡◌}
 use Rattle.scad_fault.specs.declared.place.Place.{Place}
 use Rattle.scad_fault.specs.declared.fault.FaultKind.{FaultKind}
 use Rattle.scad_fault.specs.declared.fault.FaultKind.TheVariants.{BadText as IsBadText, Syntax as IsSyntax, Nesting as IsNesting, LeftOut as IsLeftOut, NumberRange as IsNumberRange}
@@ -11,7 +11,7 @@ use Rattle.scad_ast.specs.Tree.{Items}
 use Rattle.scad_grammar.specs.Machine.{Refusal, syntax_at, nesting_at, left_out_at, outcome_of}
 use Rattle.scad_expr.specs.declared.fault.EvalFault.{EvalFault}
 use Rattle.scad_expr.specs.declared.fault.EvalFault.TheVariants.{Fault, Memory as WantOfMemory}
-use Rattle.scad_expr.specs.State.{Outcome, refuses, start}
+use Rattle.scad_expr.specs.State.{Outcome, refuses, start, State, gives}
 use Rattle.scad_tree.specs.Solid.{Solid}
 use Rattle.scad_inst.specs.Meaning.{means}
 
@@ -43,3 +43,7 @@ tokens_mean (Err fault) = refuses (text_fault fault) start
 -- the tree of a source, with the lines of `echo` in the state; or its first fault or budget, with the lines before it
 unfoldable pub source_means : List ℕ → Outcome Solid
 source_means source = tokens_mean (tokens source)
+
+-- a source means this tree
+abbrev pub MeansTree : Solid → List ℕ → Type 0
+MeansTree tree source = (s : State) × (source_means source ≡ gives tree s)

@@ -17,7 +17,8 @@ use Rattle.scad_tree.specs.Solid.{Solid}
 use Rattle.scad_tree.specs.View.{solid_of}
 use Rattle.scad_tool.specs.Told.{told}
 use Rattle.scad_tool.specs.Words.{model_of}
-use Rattle.scad_tool.specs.Answer.{Parts, Inputs, settings_script, script_of, source_of, text_read, IsRead, AreParts}
+use Rattle.scad_tool.specs.Answer.{Parts, settings_script, script_of, AreParts}
+use Rattle.scad_tool.specs.Inputs.{Inputs, source_of, text_read, IsRead}
 
 -- what follows the tree is left, or the script stopped
 abbrev pub Brings : (Solid → Script) → Script → Result TreeInMemory Stop → View → View → Type 0

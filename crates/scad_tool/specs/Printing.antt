@@ -7,7 +7,8 @@ use Rattle.scad_words.specs.Job.{job_of}
 use Rattle.scad_script.specs.Promises.{Adds}
 use Rattle.scad_tree.specs.Solid.{Solid}
 use Rattle.print_laws.specs.Print.{IsPrintOf}
-use Rattle.scad_tool.specs.Promises.{IsTreeOf, GoBy}
+use Rattle.scad_tool.specs.Promises.{IsTreeOf}
+use Rattle.scad_tool.specs.Inputs.{GoBy}
 
 -- both texts are a print of the tree by the settings, and no others are
 pub record IsThePrint (settings : Settings) (tree : Solid) (cli gcode : List ℕ) : Type 0 where

@@ -1,7 +1,6 @@
 -- What a run promises, one sentence each, where it isn't said of every script.
-use Rattle.std.specs.Prelude.{◌≡◌, ◌⊎◌, ◌++◌, ◌<◌, ◌≤◌, List, [], ℕ, Option, Some, None, Ok, IfSome, IsSomeAnd, length}
+use Rattle.std.specs.Prelude.{◌≡◌, ◌⊎◌, ◌++◌, ◌<◌, ◌≤◌, List, [], ℕ, Option, Some, None, IfSome, IsSomeAnd, length}
 use Rattle.std.specs.List.{flat_map}
-use Rattle.std.specs.Option.{option_and_then}
 use Rattle.scad_fault.specs.declared.budget.Budget.{Budget}
 use Rattle.scad_fault.specs.declared.budget.BudgetKind.TheVariants.{LayerEdges, LayerCrossings, LayerMoves}
 use Rattle.scad_fault.specs.declared.status.Status.{Status}
@@ -17,41 +16,33 @@ use Rattle.scad_script.specs.declared.loading.Input.TheVariants.{Whole}
 use Rattle.scad_script.specs.Script.{Script, expected_echoes}
 use Rattle.scad_script.specs.Promises.{Adds}
 use Rattle.cli_text.specs.Cli.{Layer, head, layer_text, cli as text_of_layers}
-use Rattle.scad_expr.specs.State.{State, gives}
 use Rattle.scad_tree.specs.Solid.{Solid}
 use Rattle.scad_geom.specs.declared.point.Pt.{Pt}
 use Rattle.gcode_text.specs.Gcode.{head as program_head, layers_text}
 use Rattle.slice_work.specs.declared.want.Want.{Want}
-use Rattle.slice_work.specs.declared.want.Want.TheVariants.{Outlines as IsOutlines, Plan as IsPlan}
-use Rattle.slice_work.specs.Part.{Layout, layer_limit}
-use Rattle.slice_work.specs.Script.{rates_of}
+use Rattle.slice_work.specs.declared.want.Want.TheVariants.{Outlines as OutlinesAlone, Plan as WithPlan}
+use Rattle.slice_work.specs.Part.{layer_limit}
+use Rattle.slice_work.specs.Rates.{rates_of}
 use Rattle.scad_slice.specs.Budgets.{layer_count}
-use Rattle.scad_slice.specs.Parts.{IsLayer}
+use Rattle.scad_slice.specs.Layer.{IsWithinLimits}
 use Rattle.scad_slice.specs.Membership.{HoldTree}
 use Rattle.scad_tool.specs.Words.{model_of, cli_of}
-use Rattle.scad_tool.specs.Meaning.{source_means}
-use Rattle.scad_tool.specs.Answer.{Parts, source_limit, source_of, text_read, read_of, AreParts, answer, settings_found}
+use Rattle.scad_tool.specs.Answer.{Parts, AreParts, answer}
+use Rattle.scad_tool.specs.Inputs.{source_limit, source_of, text_read, read_of, GoBy}
+use Rattle.scad_tool.specs.Meaning.{MeansTree}
 
 -- what a name contains has this property, where the contents are told
 abbrev pub Contains : Files → List ℕ → (List ℕ → Type 0) → Type 0
 Contains files name P = IfSome files (λ contents. IsSomeAnd (contents name) P)
 
--- a source means this tree
-abbrev pub MeansTree : Solid → List ℕ → Type 0
-MeansTree tree source = (s : State) × (source_means source ≡ gives tree s)
-
 -- the source is there and is within its limit, and means this tree
 abbrev pub IsTreeOf : Files → List ℕ → Solid → Type 0
 IsTreeOf files model tree = Contains files model (λ source. (length source ≤ source_limit) × MeansTree tree source)
 
--- the settings that the contents give under this name; the defaults where there is none
-abbrev pub GoBy : (List ℕ → Option (List ℕ)) → Option (List ℕ) → SettingsOfRun → Type 0
-GoBy contents name settings = settings_found name (option_and_then contents name) ≡ Some settings
-
 -- Statuses 0, 1, 2, 3 and 6: the status and the bytes of all outputs are the answer for the words and the files, with
 -- all parts of the source's tree.
-abbrev pub IsAnswered : List (List ℕ) → Files → Status → View → View → Type 0
-IsAnswered words files status old new =
+abbrev pub IsWholeAnswer : List (List ℕ) → Files → Status → View → View → Type 0
+IsWholeAnswer words files status old new =
     IfSome files (λ contents. (parts : Parts) → AreParts words (read_of words contents) parts
     → IsSomeAnd (answer words contents parts) (λ whole.
     (whole.status ≡ status) × Adds (whole.echoes ++ whole.line) old.report new.report
@@ -61,7 +52,7 @@ abbrev pub Answers : List (List ℕ) → Files → Status → View → View → 
 Answers words files Read old new = Unit {0}
 Answers words files Write old new = Unit {0}
 Answers words files Memory old new = Unit {0}
-Answers words files status old new = IsAnswered words files status old new
+Answers words files status old new = IsWholeAnswer words files status old new
 
 -- Status 0 of `slice` and `plan`: the outlines that were written are the text of layers, of the height that the
 -- settings
@@ -133,10 +124,6 @@ JudgesJob job status = (given : Job) × (job ≡ Some given)
 abbrev pub JudgesWords : List (List ℕ) → Status → Type 0
 JudgesWords words status = JudgesJob (job_of words) status
 
--- a layer of a tree can be laid out within the limits
-abbrev pub IsWithinLimits : Want → SettingsOfRun → Solid → ℕ → Type 0
-IsWithinLimits want settings tree i = (layout : Layout) × IsLayer want settings tree i (Ok layout)
-
 -- a tree has no more layers than the limit, and each can be laid out
 abbrev pub CanBeDrawn : Want → SettingsOfRun → Solid → Type 0
 CanBeDrawn want settings tree =
@@ -149,9 +136,9 @@ CanBeDrawn want settings tree =
 abbrev pub Accepts : Command → SettingsOfRun → Solid → Type 0
 Accepts (Check model) settings tree = layer_count settings.layer_height tree ≤ layer_limit
 Accepts (Tree model) settings tree = Unit {0}
-Accepts (Slice model cli) settings tree = CanBeDrawn IsOutlines settings tree
-Accepts (Plan model cli gcode) settings tree = CanBeDrawn IsPlan settings tree
-Accepts (Sample n) settings tree = CanBeDrawn IsPlan settings tree
+Accepts (Slice model cli) settings tree = CanBeDrawn OutlinesAlone settings tree
+Accepts (Plan model cli gcode) settings tree = CanBeDrawn WithPlan settings tree
+Accepts (Sample n) settings tree = CanBeDrawn WithPlan settings tree
 
 abbrev pub IsAccepted : Command → SettingsOfRun → List ℕ → Type 0
 IsAccepted command settings source = (tree : Solid) × MeansTree tree source × Accepts command settings tree

@@ -8,10 +8,9 @@ ghost use Rattle.scad_script.specs.Played.{Left, Carries, HasRisen};
 ghost use Rattle.scad_script.specs.Run.{Sound, CreatesNone};
 ghost use Rattle.scad_tree.specs.Solid.{Solid};
 ghost use Rattle.scad_tree.specs.View.{solid_of};
-ghost use Rattle.scad_tool.specs.Meaning.{source_means};
+ghost use Rattle.scad_tool.specs.Meaning.{source_means, MeansTree};
 ghost use Rattle.scad_tool.specs.Told.{echo_text, refusal_of, told};
 ghost use Rattle.scad_tool.specs.Playing.{Tells};
-ghost use Rattle.scad_tool.specs.Promises.{MeansTree};
 
 use crate::meaning::made;
 use scad_expr::EvalFault;

@@ -6,7 +6,8 @@ ghost use Rattle.scad_script.specs.Run.{Sound, CreatesNone};
 ghost use Rattle.scad_words.specs.Job.{job_of};
 ghost use Rattle.scad_words.specs.Settings.{AreInRange};
 ghost use Rattle.scad_tool.specs.Words.{model_of};
-ghost use Rattle.scad_tool.specs.Answer.{source_limit, model_read_first, input_script, AreDrawn};
+ghost use Rattle.scad_tool.specs.Answer.{model_read_first, input_script, AreDrawn};
+ghost use Rattle.scad_tool.specs.Inputs.{source_limit};
 ghost use Rattle.scad_tool.specs.Playing.{Gets, Works, AsksNothing};
 
 use crate::evaluation::evaluate;

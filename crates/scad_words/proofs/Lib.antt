@@ -2,3 +2,5 @@ pub mod Subcommands
 pub mod Documents
 pub mod Ranges
 pub mod Numerals
+pub mod Ascending
+pub mod LeastFault

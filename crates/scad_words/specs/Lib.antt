@@ -3,3 +3,4 @@ pub mod Job
 pub mod Numbers
 pub mod Rows
 pub mod Settings
+pub mod Keys

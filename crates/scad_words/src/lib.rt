@@ -6,6 +6,7 @@
 
 mod command_set;
 mod job;
+pub mod laws;
 mod number;
 mod operands;
 mod rows;

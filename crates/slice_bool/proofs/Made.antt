@@ -12,7 +12,7 @@ use Rattle.scad_geom.specs.Point.{Point, whole}
 use Rattle.scad_geom.proofs.Ring.{ring, ◌⊗◌, v0, v1}
 use Rattle.scad_geom.proofs.Signs.{pos_left}
 use Rattle.winding_laws.specs.Nearness.{IsProper}
-use Rattle.winding_laws.specs.Parts.{IsOn}
+use Rattle.winding_laws.specs.Points.{IsOn}
 use Rattle.winding_laws.proofs.Amid.{three_on_line}
 use Rattle.winding_laws.proofs.Order.{order_keeps_winding}
 use Rattle.winding_laws.proofs.Joining.{joining_keeps_winding}

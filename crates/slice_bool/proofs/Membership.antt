@@ -17,7 +17,7 @@ use Rattle.scad_geom.specs.Loop.{sides}
 use Rattle.scad_geom.specs.Leaves.{AreLeavesBalanced}
 use Rattle.scad_geom.specs.Shape.{is_in}
 use Rattle.winding_laws.specs.Nearness.{IsProper, IsClearSegment}
-use Rattle.winding_laws.specs.Rounded.{rounded_edge}
+use Rattle.winding_laws.specs.Edges.{rounded_edge}
 use Rattle.winding_laws.proofs.Farness.{parts_are_clear}
 use Rattle.winding_laws.proofs.Rounding.{rounding_keeps_winding}
 use Rattle.winding_laws.proofs.Lengths.{lengths_keep_winding}

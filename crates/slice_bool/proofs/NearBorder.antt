@@ -19,9 +19,8 @@ use Rattle.scad_geom.specs.Loop.{sides}
 use Rattle.scad_geom.proofs.Order.{front}
 use Rattle.winding_laws.specs.Region.{square, box}
 use Rattle.winding_laws.specs.Nearness.{IsNear, IsProper}
-use Rattle.winding_laws.specs.Rounded.{rounded, rounded_edge, has_length}
-use Rattle.winding_laws.specs.Joining.{turned}
-use Rattle.winding_laws.specs.Parts.{IsOn}
+use Rattle.winding_laws.specs.Edges.{rounded, rounded_edge, has_length, turned}
+use Rattle.winding_laws.specs.Points.{IsOn, IsWithinOne}
 use Rattle.winding_laws.specs.Approach.{HasNear, HasAmid}
 use Rattle.winding_laws.proofs.Amid.{amid_is_between, three_on_line}
 use Rattle.winding_laws.proofs.Approach.{amid_is_anywhere}
@@ -41,7 +40,7 @@ use Rattle.slice_snap.specs.Rounding.{rounded_edges}
 use Rattle.slice_snap.specs.Cancelling.{AreCancelled}
 use Rattle.slice_bool.specs.Pieces.{ArePieces}
 use Rattle.slice_bool.specs.BorderPoints.{IsBorderPoint}
-use Rattle.slice_bool.specs.NearBorder.{IsWithinOne, HasBorderNear, OutlinesAreNearBorder}
+use Rattle.slice_bool.specs.NearBorder.{HasBorderNear, OutlinesAreNearBorder}
 use Rattle.slice_bool.proofs.Named.{pieces_are_named}
 use Rattle.slice_bool.proofs.BorderPoints.{pieces_are_border}
 use Rattle.slice_bool.proofs.Made.{IsPlaced, placed_proper, one, two, second_on, joined_placed, merged_placed}

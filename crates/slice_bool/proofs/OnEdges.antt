@@ -25,7 +25,7 @@ use Rattle.scad_geom.proofs.Ring.{ring, num, ◌⊕◌, ◌⊖◌, ◌⊗◌, v0
 use Rattle.scad_geom.proofs.Signs.{at_least_mul, pos_left, positive_as, zero_true, one-mul, sub_mul}
 use Rattle.scad_geom.proofs.Heights.{heights_positive, Reaches, at_most_chain}
 use Rattle.scad_geom.proofs.Order.{back}
-use Rattle.winding_laws.specs.Parts.{IsOn}
+use Rattle.winding_laws.specs.Points.{IsOn}
 use Rattle.winding_laws.proofs.Parts.{on_turned}
 use Rattle.slice_events.specs.Levels.{IsRising, AreLevels}
 use Rattle.slice_slab.specs.Bundles.{no_edge, edge_at, AreRanked}

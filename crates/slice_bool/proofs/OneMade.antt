@@ -6,7 +6,7 @@ use Rattle.scad_geom.specs.declared.point.Edge.{Edge}
 use Rattle.scad_geom.specs.Segment.{Segment}
 use Rattle.scad_geom.proofs.Balanced.{once}
 use Rattle.scad_geom.proofs.Places.{same_edge, same_edge_then_equal, same_edge_itself}
-use Rattle.winding_laws.specs.Rounded.{rounded_edge, has_length}
+use Rattle.winding_laws.specs.Edges.{rounded_edge, has_length}
 use Rattle.slice_snap.specs.declared.piece.Piece.{Piece}
 use Rattle.slice_snap.specs.Pieces.{way_of, ways_of}
 use Rattle.slice_snap.specs.Rounding.{rounded_edges}

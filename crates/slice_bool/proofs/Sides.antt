@@ -14,7 +14,7 @@ use Rattle.scad_geom.specs.Loop.{path, sides}
 use Rattle.scad_geom.proofs.Order.{front, back}
 use Rattle.scad_geom.proofs.Ring.{ring, num, ◌⊕◌, ◌⊖◌, ◌⊗◌, v0, v1, v2, v3, v4, v5}
 use Rattle.scad_geom.proofs.Signs.{at_least_mul, square_at_least, add_times_zero, sub_times_zero}
-use Rattle.winding_laws.specs.Parts.{IsOn}
+use Rattle.winding_laws.specs.Points.{IsOn}
 use Rattle.winding_laws.proofs.Parts.{parts_are_all}
 use Rattle.slice_loops.specs.Drawing.{IsLoop, AreDrawn}
 use Rattle.slice_loops.specs.Corners.{bend, advance, is_between, last, corners_between, corners}

@@ -1,21 +1,14 @@
 -- The outlines of a shape lie near to its border.
-use Rattle.std.specs.Prelude.{List, flat_map, pos, ◌-ℤ◌, ◌*ℤ◌, ◌<ℤ◌, All}
+use Rattle.std.specs.Prelude.{List, flat_map, pos, ◌<ℤ◌, All}
 use Rattle.scad_geom.specs.declared.point.Pt.{Pt}
 use Rattle.scad_geom.specs.declared.point.Edge.{Edge}
 use Rattle.scad_geom.specs.declared.level.LeafEdge.{LeafEdge}
 use Rattle.scad_geom.specs.declared.shape.Shape.{Shape}
 use Rattle.scad_geom.specs.Point.{Point, whole}
 use Rattle.scad_geom.specs.Loop.{sides}
-use Rattle.winding_laws.specs.Parts.{IsOn}
+use Rattle.winding_laws.specs.Points.{IsOn, IsWithinOne}
 use Rattle.slice_bool.specs.BorderPoints.{IsBorderPoint}
 use Rattle.slice_bool.specs.Outlines.{AreOutlinesOf}
-
--- p lies less than one micrometre from q along both axes
-pub record IsWithinOne (q p : Point) : Type 0 where
-  pub right : (p.x *ℤ q.d -ℤ q.x *ℤ p.d) <ℤ (p.d *ℤ q.d)
-  pub left : (q.x *ℤ p.d -ℤ p.x *ℤ q.d) <ℤ (p.d *ℤ q.d)
-  pub above : (p.y *ℤ q.d -ℤ q.y *ℤ p.d) <ℤ (p.d *ℤ q.d)
-  pub below : (q.y *ℤ p.d -ℤ p.y *ℤ q.d) <ℤ (p.d *ℤ q.d)
 
 -- a border point lies within one of a point
 pub record HasBorderNear (edges : List LeafEdge) (shape : Shape) (q : Point) : Type 0 where

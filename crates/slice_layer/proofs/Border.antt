@@ -16,7 +16,8 @@ use Rattle.slice_bool.specs.BorderPoints.{IsBorderPoint}
 use Rattle.slice_bool.specs.NearBorder.{IsNearBorder}
 use Rattle.slice_bool.proofs.NearBorder as border
 use Rattle.slice_layer.specs.Outlines.{StandsFor}
-use Rattle.slice_layer.specs.Border.{section_holds, IsSectionBorder, IsNearSectionBorder, OutlinesAreNearBorder}
+use Rattle.slice_layer.specs.Border.{section_holds, IsSectionBorder, IsNearSectionBorder}
+use Rattle.slice_layer.specs.Laws.{OutlinesAreNearBorder}
 use Rattle.slice_layer.proofs.Sections.{leaf_edges}
 
 module _ (layer h : ℕ) (s : Solid) (shape : Shape) (stands : StandsFor shape s) where

@@ -30,7 +30,7 @@ use Rattle.slice_bool.proofs.Membership as border
 use Rattle.scad_tree.specs.Solids.{AreClosed}
 use Rattle.slice_layer.specs.Outlines.{StandsFor}
 use Rattle.slice_layer.specs.Cuts.{cuts_at, IsClearOfCuts}
-use Rattle.slice_layer.specs.Membership.{OutlinesHoldPoints, OutlinesHoldCentres}
+use Rattle.slice_layer.specs.Laws.{OutlinesHoldPoints, OutlinesHoldCentres}
 use Rattle.slice_section.proofs.Marked.{cuts_balanced}
 use Rattle.slice_layer.proofs.Sections.{leaf_edges, surface_closed, leaves_balanced, sections_have}
 use Rattle.slice_layer.proofs.Clear.{IsClearCut, IsClearEdge, cuts_clear, edges_clear}

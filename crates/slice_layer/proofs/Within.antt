@@ -23,9 +23,8 @@ use Rattle.scad_geom.proofs.Nearest.{rounds}
 use Rattle.scad_geom.proofs.Order.{front, back}
 use Rattle.scad_geom.proofs.Ring.{ring, num, ◌⊕◌, ◌⊖◌, ◌⊗◌, v0, v1, v2, v3}
 use Rattle.scad_geom.proofs.Signs.{at_least_mul, at_least_left, sum_at_least}
-use Rattle.winding_laws.specs.Joining.{turned}
-use Rattle.winding_laws.specs.Parts.{IsOn}
-use Rattle.winding_laws.specs.Rounded.{rounded_edge, has_length}
+use Rattle.winding_laws.specs.Edges.{turned, rounded_edge, has_length}
+use Rattle.winding_laws.specs.Points.{IsOn}
 use Rattle.slice_slab.specs.Bundles.{no_edge, edge_at}
 use Rattle.slice_snap.specs.declared.piece.Piece.{Piece}
 use Rattle.slice_snap.specs.Spots.{point_of}

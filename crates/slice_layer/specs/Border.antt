@@ -7,12 +7,10 @@ use Rattle.scad_geom.specs.Segment.{segments}
 use Rattle.scad_geom.specs.Winding.{wind_by}
 use Rattle.scad_geom.specs.Loop.{sides}
 use Rattle.scad_geom.specs.Sign.{is_zero}
-use Rattle.winding_laws.specs.Parts.{IsOn}
+use Rattle.winding_laws.specs.Points.{IsOn, IsWithinOne}
 use Rattle.slice_section.specs.Section.{section_of}
 use Rattle.scad_tree.specs.Solid.{Solid}
 use Rattle.scad_tree.specs.Member.{holds}
-use Rattle.slice_bool.specs.NearBorder.{IsWithinOne}
-use Rattle.slice_layer.specs.Outlines.{AreLayerOutlines}
 
 -- whether a tree holds what lies hard by a point of a layer's plane, each surface holding what its section winds round
 abbrev pub section_holds : Bool → Bool → ℕ → ℕ → Solid → Point → Bool
@@ -41,9 +39,3 @@ IsNearSectionBorder layer h s e = (p : Point) → pos 0 <ℤ p.d → IsOn (whole
 -- so has each point of each side of outlines
 abbrev pub AreNearSectionBorder : ℕ → ℕ → Solid → List (List Pt) → Type 0
 AreNearSectionBorder layer h s outlines = All (IsNearSectionBorder layer h s) (flat_map sides outlines)
-
--- ---- the law
--- Each point of each side of a layer's outlines lies less than one micrometre along both axes from a border point of the
--- tree's section.
-abbrev pub OutlinesAreNearBorder : Type 0
-OutlinesAreNearBorder = (layer h : ℕ) (s : Solid) (outlines : List (List Pt)) → AreLayerOutlines layer h s outlines → AreNearSectionBorder layer h s outlines

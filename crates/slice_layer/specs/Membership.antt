@@ -8,9 +8,7 @@ use Rattle.scad_geom.specs.Winding.{wind, counted}
 use Rattle.scad_geom.specs.Loop.{sides}
 use Rattle.scad_tree.specs.Solid.{Solid}
 use Rattle.scad_tree.specs.Contained.{contained_at}
-use Rattle.scad_tree.specs.Solids.{AreClosed}
 use Rattle.slice_layer.specs.Cuts.{IsClearOfCuts}
-use Rattle.slice_layer.specs.Outlines.{AreLayerOutlines}
 
 -- outlines wind once round a point that the tree contains at the layer, and not at all round one that it doesn't
 abbrev pub HoldsPoint : ℕ → ℕ → Solid → List (List Pt) → Point → Type 0
@@ -23,13 +21,3 @@ HoldPoints layer h s outlines = (q : Point) → pos 0 <ℤ q.d → IsClearOfCuts
 -- so they do at each such centre of a cell
 abbrev pub HoldCentres : ℕ → ℕ → Solid → List (List Pt) → Type 0
 HoldCentres layer h s outlines = (i j : ℤ) → IsClearOfCuts layer h s (centre i j) → HoldsPoint layer h s outlines (centre i j)
-
--- ---- the laws
--- At every layer the outlines of a tree of closed surfaces hold what the tree contains, at points more than one micrometre
--- from each of its cuts.
-abbrev pub OutlinesHoldPoints : Type 0
-OutlinesHoldPoints = (layer h : ℕ) (s : Solid) (outlines : List (List Pt)) → AreClosed s → AreLayerOutlines layer h s outlines → HoldPoints layer h s outlines
-
--- So they do at the centres of cells.
-abbrev pub OutlinesHoldCentres : Type 0
-OutlinesHoldCentres = (layer h : ℕ) (s : Solid) (outlines : List (List Pt)) → AreClosed s → AreLayerOutlines layer h s outlines → HoldCentres layer h s outlines

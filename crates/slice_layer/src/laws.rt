@@ -1,6 +1,5 @@
 //! Laws of the definitions, each carried by the contract of a function that does nothing.
-ghost use Rattle.slice_layer.specs.Membership.{OutlinesHoldPoints, OutlinesHoldCentres};
-ghost use Rattle.slice_layer.specs.Border.{OutlinesAreNearBorder};
+ghost use Rattle.slice_layer.specs.Laws.{OutlinesHoldPoints, OutlinesHoldCentres, OutlinesAreNearBorder};
 ghost use Rattle.slice_layer.specs.Within.{OutlinesAreWithin};
 
 /// At every layer the outlines of a tree of closed surfaces wind once round each point that the tree contains by its

@@ -7,7 +7,7 @@ use Rattle.scad_geom.specs.declared.point.Edge.{Edge}
 use Rattle.scad_geom.specs.Segment.{segments}
 use Rattle.scad_geom.specs.Balance.{IsBalanced}
 use Rattle.winding_laws.specs.Nearness.{IsProper}
-use Rattle.winding_laws.specs.Rounded.{rounded_edge}
+use Rattle.winding_laws.specs.Edges.{rounded_edge}
 use Rattle.winding_laws.proofs.Order.{order_keeps_balance}
 use Rattle.winding_laws.proofs.Joining.{joining_keeps_balance}
 use Rattle.winding_laws.proofs.Rounding.{rounding_keeps_balance}

@@ -5,7 +5,7 @@ use Rattle.std.proofs.lemmas.List.Sums.{sum_by-append}
 use Rattle.scad_geom.specs.declared.point.Edge.{Edge}
 use Rattle.scad_geom.proofs.Balanced.{once, same_place}
 use Rattle.scad_geom.proofs.Places.{same_edge, same_edge_then_equal, same_edge_itself}
-use Rattle.winding_laws.specs.Joining.{turned}
+use Rattle.winding_laws.specs.Edges.{turned}
 use Rattle.slice_snap.specs.Cancelling.{NoneOpposite, AreCancelled}
 use Rattle.slice_snap.specs.Laws.{CancelledAreOne}
 use Rattle.slice_snap.proofs.Counts.{times, times-cons, times_permuted, times_none, from_times}

@@ -5,7 +5,7 @@ use Rattle.std.proofs.lemmas.List.{take_more}
 use Rattle.std.proofs.lemmas.List.Elements.{All-nil, All-append, All-cons, All-head, All-tail}
 use Rattle.std.proofs.lemmas.List.Sorted.{IsPermutation-refl, IsPermutation-sym, IsPermutation-trans, IsPermutation-cons, IsPermutation-remove, IsPermutation-append_left, IsPermutation-append_right, IsPermutation-middle, IsPermutation-to_front}
 use Rattle.scad_geom.specs.declared.point.Edge.{Edge}
-use Rattle.winding_laws.specs.Joining.{turned}
+use Rattle.winding_laws.specs.Edges.{turned}
 use Rattle.slice_snap.specs.Cancelling.{NoneOpposite, AreCancelled, IsOppositeAt}
 use Rattle.scad_geom.proofs.Removed.{all_removed}
 

@@ -13,7 +13,7 @@ use Rattle.std.proofs.lemmas.List.Elements.{All-nil, All-cons, All-head, All-tai
 use Rattle.std.proofs.lemmas.List.Sorted.{ranks_by, sorted_far, IsPermutation-trans}
 use Rattle.scad_geom.specs.declared.point.Pt.{Pt}
 use Rattle.scad_geom.specs.declared.point.Edge.{Edge}
-use Rattle.winding_laws.specs.Joining.{turned}
+use Rattle.winding_laws.specs.Edges.{turned}
 use Rattle.slice_snap.specs.Cancelling.{NoneOpposite, AreCancelled, IsOppositeAt}
 use Rattle.slice_snap.proofs.Opposite.{leaves_nothing, one_taken, one_stays}
 use Rattle.slice_snap.specs.Spans.{point_cmp, lesser, greater, span_cmp, is_less, IsAscending}

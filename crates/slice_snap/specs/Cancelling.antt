@@ -2,7 +2,7 @@
 use Rattle.std.specs.Prelude.{◌≡◌, List, [], ◌∷◌, ◌++◌, map, ⊤, ℕ, ◌<◌, length, slice_index_or, All}
 use Rattle.std.specs.List.Sorted.{IsPermutation}
 use Rattle.scad_geom.specs.declared.point.Edge.{Edge}
-use Rattle.winding_laws.specs.Joining.{turned}
+use Rattle.winding_laws.specs.Edges.{turned}
 
 -- no edge of a list is another one's turned
 abbrev pub NoneOpposite : List Edge → Type 0

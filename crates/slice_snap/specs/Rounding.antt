@@ -1,7 +1,7 @@
 -- Pieces with rounded ends: edges between whole points.
 use Rattle.std.specs.Prelude.{List, map, filter}
 use Rattle.scad_geom.specs.declared.point.Edge.{Edge}
-use Rattle.winding_laws.specs.Rounded.{rounded_edge, has_length}
+use Rattle.winding_laws.specs.Edges.{rounded_edge, has_length}
 use Rattle.slice_snap.specs.declared.piece.Piece.{Piece}
 use Rattle.slice_snap.specs.Pieces.{ways_of}
 

@@ -2,7 +2,7 @@
 ghost use Rattle.std.specs.Prelude.{◌≡◌, ◌↔◌, ◌-◌, length, IsTrue, IfOk};
 ghost use Rattle.scad_geom.specs.Segment.{segments};
 ghost use Rattle.scad_geom.specs.Balance.{IsBalanced};
-ghost use Rattle.winding_laws.specs.Joining.{turned};
+ghost use Rattle.winding_laws.specs.Edges.{turned};
 ghost use Rattle.slice_snap.specs.Cancelling.{AreCancelled, IsOppositeAt};
 ghost use Rattle.slice_snap.specs.Spans.{IsAscending};
 

@@ -5,7 +5,7 @@ ghost use Rattle.scad_geom.specs.Within.{IsWithin, IsEdgeWithin};
 ghost use Rattle.scad_geom.specs.Segment.{segments};
 ghost use Rattle.scad_geom.specs.Balance.{IsBalanced};
 ghost use Rattle.slice_snap.specs.Spots.{point_of, IsSpotWithin};
-ghost use Rattle.winding_laws.specs.Rounded.{rounded, rounded_edge, has_length};
+ghost use Rattle.winding_laws.specs.Edges.{rounded, rounded_edge, has_length};
 ghost use Rattle.slice_snap.specs.Pieces.{way_of, IsPieceWithin, ArePiecesBalanced};
 ghost use Rattle.slice_snap.specs.Rounding.{rounded_edges};
 

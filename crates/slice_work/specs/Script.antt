@@ -8,7 +8,6 @@ use Rattle.scad_io.specs.declared.desk.Out.TheVariants.{Cli, Gcode}
 use Rattle.scad_script.specs.Steps.{Step, Sends}
 use Rattle.scad_script.specs.declared.stop.Stop.{Stop}
 use Rattle.scad_script.specs.declared.refusal.Refusal.TheVariants.{Over}
-use Rattle.scad_words.specs.declared.settings.Settings.{Settings}
 use Rattle.cli_text.specs.Cli as cli
 use Rattle.gcode_text.specs.declared.rates.Rates.{Rates}
 use Rattle.gcode_text.specs.Amount.{paths_volume}
@@ -17,16 +16,6 @@ use Rattle.slice_work.specs.declared.want.Want.{Want}
 use Rattle.slice_work.specs.declared.want.Want.TheVariants.{Outlines, Plan}
 use Rattle.slice_work.specs.declared.fault.WorkFault.{WorkFault}
 use Rattle.slice_work.specs.Part.{Layout, Part, paths_of}
-
--- the measures and speeds that settings give
-abbrev pub rates_of : Settings → Rates
-rates_of s = record {
-  line_width = s.line_width;
-  layer_height = s.layer_height;
-  filament_area = s.filament_area;
-  print_feed = s.print_feed;
-  travel_feed = s.travel_feed;
-}
 
 -- the volume of all moves of the first n layers
 abbrev pub volume_below : Want → Rates → Part → ℕ → ℕ

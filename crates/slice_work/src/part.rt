@@ -7,7 +7,8 @@ ghost use Rattle.scad_words.specs.Settings.{AreInRange};
 ghost use Rattle.slice_work.specs.Part.{Part, layer_limit};
 ghost use Rattle.slice_work.specs.Shares.{AreDrawnOf};
 ghost use Rattle.slice_work.specs.Rounds.{IsWhole};
-ghost use Rattle.slice_work.specs.Script.{AreRates, AreThere, rates_of, layer_steps, stopped};
+ghost use Rattle.slice_work.specs.Script.{AreRates, AreThere, layer_steps, stopped};
+ghost use Rattle.slice_work.specs.Rates.{rates_of};
 ghost use Rattle.slice_work.specs.Sums.{AreSums, IsSummary};
 
 use crate::fault::WorkFault;

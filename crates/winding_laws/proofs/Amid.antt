@@ -9,7 +9,7 @@ use Rattle.scad_geom.specs.Winding.{side_by}
 use Rattle.scad_geom.proofs.Ring.{ring, num, ◌⊕◌, ◌⊖◌, ◌⊗◌, v0, v1, v2, v3, v4, v5, v6, v7, v8, v9, v10, v11}
 use Rattle.scad_geom.proofs.Signs.{climbs, falls}
 use Rattle.winding_laws.specs.Nearness.{IsPoint}
-use Rattle.winding_laws.specs.Parts.{IsOn, IsBetween}
+use Rattle.winding_laws.specs.Points.{IsOn, IsBetween}
 use Rattle.winding_laws.specs.Approach.{IsAmid, AmidIsBetween}
 use Rattle.winding_laws.proofs.Sameness.{same_by}
 use Rattle.winding_laws.proofs.Between.{rise, bend, bend_side, exchanged}

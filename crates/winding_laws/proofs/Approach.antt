@@ -10,7 +10,7 @@ use Rattle.scad_geom.proofs.Ring.{ring, num, ◌⊕◌, ◌⊖◌, ◌⊗◌, v0
 use Rattle.scad_geom.proofs.Signs.{at_least_mul, square_at_least}
 use Rattle.winding_laws.specs.Region.{Holds, box}
 use Rattle.winding_laws.specs.Nearness.{seen_from, IsNear, IsPoint}
-use Rattle.winding_laws.specs.Parts.{IsOn}
+use Rattle.winding_laws.specs.Points.{IsOn}
 use Rattle.winding_laws.specs.Approach.{HasAmid, AmidIsAnywhere}
 use Rattle.winding_laws.proofs.Regions.{holds_as}
 use Rattle.scad_base.proofs.Integers.{at_most_of_less, both_positive}

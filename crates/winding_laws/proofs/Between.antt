@@ -7,7 +7,8 @@ use Rattle.scad_geom.specs.Point.{Point}
 use Rattle.scad_geom.specs.Winding.{side_by}
 use Rattle.scad_geom.proofs.Ring.{ring, num, ◌⊕◌, ◌⊖◌, ◌⊗◌, v0, v1, v2, v3, v4, v5, v6, v7, v8}
 use Rattle.scad_geom.proofs.Signs.{pos_left}
-use Rattle.winding_laws.specs.Parts.{IsOn, IsBetween, BetweenIsOn}
+use Rattle.winding_laws.specs.Parts.{BetweenIsOn}
+use Rattle.winding_laws.specs.Points.{IsOn, IsBetween}
 use Rattle.winding_laws.proofs.Parts.{on_turned}
 use Rattle.scad_base.proofs.Integers.{at_most_of_less, gap_of_less, both_positive, equal_of_gap}
 

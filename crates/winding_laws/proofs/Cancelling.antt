@@ -11,7 +11,8 @@ use Rattle.scad_geom.specs.Winding.{turn, wind_by}
 use Rattle.scad_geom.specs.Balance.{starts_at, ends_at}
 use Rattle.scad_geom.proofs.Balanced.{once, starts-cons, ends-cons}
 use Rattle.winding_laws.specs.Nearness.{seen_from}
-use Rattle.winding_laws.specs.Joining.{turned, CancellingKeepsBalance, CancellingKeepsWinding}
+use Rattle.winding_laws.specs.Joining.{CancellingKeepsBalance, CancellingKeepsWinding}
+use Rattle.winding_laws.specs.Edges.{turned}
 use Rattle.winding_laws.proofs.Views.{swing_turned, turn_seen}
 use Rattle.winding_laws.proofs.Order.{order_keeps_balance, wind-permuted, wind-append}
 

@@ -10,7 +10,8 @@ use Rattle.scad_geom.proofs.Ring.{ring, ◌⊕◌, ◌⊖◌, ◌⊗◌, v0, v1,
 use Rattle.scad_geom.proofs.Signs.{at_least_mul}
 use Rattle.winding_laws.specs.Region.{HalfPlane, Holds, square, AddUp}
 use Rattle.winding_laws.specs.Nearness.{seen_from, IsNear, IsFar}
-use Rattle.winding_laws.specs.Parts.{IsOn, PartsAreFar, PartsAreClear, MovesStayFar, MovesStayClear}
+use Rattle.winding_laws.specs.Parts.{PartsAreFar, PartsAreClear, MovesStayFar, MovesStayClear}
+use Rattle.winding_laws.specs.Points.{IsOn}
 use Rattle.winding_laws.proofs.Regions.{scaled, added, holds_scaled, holds_added, holds_as}
 use Rattle.winding_laws.proofs.Squares.{held_by, half_across, half_along, near_by_close, far_by_clear, clear_by_far}
 use Rattle.winding_laws.proofs.Parts.{mean_on, parts_are_on, parts_are_all}

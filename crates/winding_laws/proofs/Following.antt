@@ -9,7 +9,7 @@ use Rattle.scad_geom.proofs.Ring.{ring, ◌⊕◌, ◌⊖◌, ◌⊗◌, v0, v1,
 use Rattle.scad_geom.proofs.Signs.{at_least_mul}
 use Rattle.winding_laws.specs.Region.{HalfPlane}
 use Rattle.winding_laws.specs.Nearness.{seen_from, IsNear, IsPoint}
-use Rattle.winding_laws.specs.Parts.{IsOn}
+use Rattle.winding_laws.specs.Points.{IsOn}
 use Rattle.winding_laws.specs.Approach.{HasNear, PointsFollow}
 use Rattle.winding_laws.proofs.Regions.{scaled, added, holds_scaled, holds_added, holds_as}
 use Rattle.winding_laws.proofs.Parts.{mean_on}

@@ -10,7 +10,8 @@ use Rattle.scad_geom.specs.Balance.{starts_at, ends_at}
 use Rattle.scad_geom.proofs.Balanced.{once, starts-cons, ends-cons}
 use Rattle.scad_geom.proofs.Ring.{ring, num, ◌⊕◌, ◌⊖◌, ◌⊗◌, v0, v1, v2, v3, v4, v5, v6, v7, v8, v9, v10, v11}
 use Rattle.winding_laws.specs.Nearness.{seen_from}
-use Rattle.winding_laws.specs.Joining.{joined, JoiningKeepsBalance, JoiningKeepsWinding}
+use Rattle.winding_laws.specs.Joining.{JoiningKeepsBalance, JoiningKeepsWinding}
+use Rattle.winding_laws.specs.Edges.{joined}
 use Rattle.winding_laws.proofs.Views.{cross, swing, swing_turned, turn_seen}
 use Rattle.winding_laws.proofs.Triangles.{IsRound, triangle}
 use Rattle.winding_laws.proofs.Sameness.{same_itself, same_through, turn_same}

@@ -11,7 +11,8 @@ use Rattle.scad_geom.specs.Winding.{turn, wind_by}
 use Rattle.scad_geom.specs.Balance.{starts_at, ends_at}
 use Rattle.scad_geom.proofs.Balanced.{once, starts-cons, ends-cons}
 use Rattle.scad_geom.proofs.Turns.{flat_turn}
-use Rattle.winding_laws.specs.Rounded.{has_length, LengthsKeepBalance, LengthsKeepWinding}
+use Rattle.winding_laws.specs.Rounded.{LengthsKeepBalance, LengthsKeepWinding}
+use Rattle.winding_laws.specs.Edges.{has_length}
 use Rattle.winding_laws.proofs.Sameness.{same_itself, same_through, turn_same}
 
 -- ---- balance

@@ -11,7 +11,7 @@ use Rattle.scad_geom.specs.Winding.{side_by}
 use Rattle.scad_geom.proofs.Ring.{ring, num, ◌⊕◌, ◌⊖◌, ◌⊗◌, v0, v1, v2, v3, v4, v5}
 use Rattle.scad_geom.proofs.Signs.{pos_left}
 use Rattle.winding_laws.specs.Nearness.{IsPoint}
-use Rattle.winding_laws.specs.Parts.{IsOn}
+use Rattle.winding_laws.specs.Points.{IsOn}
 use Rattle.winding_laws.specs.Approach.{LinesAreAll}
 use Rattle.winding_laws.proofs.Parts.{on_turned, parts_are_on, parts_are_all}
 use Rattle.winding_laws.proofs.Between.{rise, bend, bend_side, bend_turned, rises, rises_on, exchanged, side_exchanged, on_exchanged}

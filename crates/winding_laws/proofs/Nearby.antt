@@ -8,7 +8,7 @@ use Rattle.scad_geom.proofs.Ring.{ring, ◌⊕◌, ◌⊖◌, ◌⊗◌, v0, v1,
 use Rattle.scad_geom.proofs.Signs.{at_least_mul}
 use Rattle.winding_laws.specs.Region.{HalfPlane, Holds, box, square, AddUp}
 use Rattle.winding_laws.specs.Nearness.{seen_from, IsNear, IsPoint}
-use Rattle.winding_laws.specs.Parts.{IsOn}
+use Rattle.winding_laws.specs.Points.{IsOn}
 use Rattle.winding_laws.proofs.Regions.{scaled, holds_scaled, holds_left, holds_as}
 use Rattle.winding_laws.proofs.Sameness.{are_same}
 use Rattle.winding_laws.proofs.Weights.{some_weight}

@@ -8,7 +8,8 @@ use Rattle.scad_geom.specs.Point.{Point}
 use Rattle.scad_geom.specs.Near.{mean}
 use Rattle.scad_geom.proofs.Ring.{ring, num, ◌⊕◌, ◌⊖◌, ◌⊗◌, v0, v1, v2, v3, v4, v5, v6, v7, v8, v9}
 use Rattle.scad_geom.proofs.Signs.{at_least_mul, sum_at_least, one-mul}
-use Rattle.winding_laws.specs.Parts.{IsOn, PartsAreOn, PartsAreAll}
+use Rattle.winding_laws.specs.Parts.{PartsAreOn, PartsAreAll}
+use Rattle.winding_laws.specs.Points.{IsOn}
 use Rattle.scad_base.proofs.Integers.{at_most_of_less, zero_between}
 use Rattle.std.proofs.Math.IntN.{+ℤ_comm}
 

@@ -4,7 +4,7 @@ use Rattle.scad_geom.specs.Point.{Point, is_same_point}
 use Rattle.scad_geom.specs.Winding.{side_by}
 use Rattle.winding_laws.specs.Region.{HalfPlane, box}
 use Rattle.winding_laws.specs.Nearness.{IsPoint, IsNear}
-use Rattle.winding_laws.specs.Parts.{IsOn, IsBetween}
+use Rattle.winding_laws.specs.Points.{IsOn, IsBetween}
 
 -- a point of the segment from a to b to which p is near
 pub record HasNear (region : List HalfPlane) (a b p : Point) : Type 0 where

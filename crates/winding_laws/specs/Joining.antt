@@ -7,14 +7,7 @@ use Rattle.scad_geom.specs.Segment.{Segment, segments}
 use Rattle.scad_geom.specs.Winding.{wind_by, side_by}
 use Rattle.scad_geom.specs.Balance.{IsBalanced}
 use Rattle.winding_laws.specs.Nearness.{IsPoint, IsProper}
-
--- from the start of the first to the end of the second
-abbrev pub joined : Segment → Segment → Segment
-joined s t = record { from = s.from; to = t.to }
-
--- the edge that runs the other way
-abbrev pub turned : Edge → Edge
-turned e = record { a = e.b; b = e.a }
+use Rattle.winding_laws.specs.Edges.{joined, turned}
 
 -- ---- the laws
 -- The order of segments matters neither for balance nor for winding.

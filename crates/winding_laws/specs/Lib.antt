@@ -1,8 +1,10 @@
 pub mod Region
 pub mod Nearness
 pub mod Moves
+pub mod Edges
 pub mod Rounded
 pub mod Joining
+pub mod Points
 pub mod Parts
 pub mod OneWinding
 pub mod Approach

@@ -1,27 +1,11 @@
 -- Points of a segment, and its parts between them.
-use Rattle.std.specs.Prelude.{◌≡◌, ◌⊎◌, List, ℤ, pos, ◌+ℤ◌, ◌*ℤ◌, ◌<ℤ◌, ◌≤ℤ◌}
+use Rattle.std.specs.Prelude.{◌≡◌, ◌⊎◌, List, ℤ, pos, ◌+ℤ◌}
 use Rattle.scad_geom.specs.Point.{Point}
 use Rattle.scad_geom.specs.Near.{IsClose, IsClear}
 use Rattle.scad_geom.specs.Winding.{side_by}
 use Rattle.winding_laws.specs.Region.{HalfPlane, AddUp}
 use Rattle.winding_laws.specs.Nearness.{IsPoint, IsNear, IsFar}
-
--- c is a point of the segment from a to b: k times its numbers are the sums of theirs by weights
-pub record IsOn (a b c : Point) : Type 0 where
-  pub k : ℤ
-  pub s : ℤ
-  pub t : ℤ
-  pub positive : pos 0 <ℤ k
-  pub first : pos 0 ≤ℤ s
-  pub second : pos 0 ≤ℤ t
-  pub some : pos 0 <ℤ (s +ℤ t)
-  pub x : k *ℤ c.x ≡ s *ℤ a.x +ℤ t *ℤ b.x
-  pub y : k *ℤ c.y ≡ s *ℤ a.y +ℤ t *ℤ b.y
-  pub d : k *ℤ c.d ≡ s *ℤ a.d +ℤ t *ℤ b.d
-
--- by one of its numbers, p lies strictly between a and b
-abbrev pub IsBetween : (Point → ℤ) → Point → Point → Point → Type 0
-IsBetween n a p b = ((n a *ℤ p.d) <ℤ (n p *ℤ a.d) × (n p *ℤ b.d) <ℤ (n b *ℤ p.d)) ⊎ ((n b *ℤ p.d) <ℤ (n p *ℤ b.d) × (n p *ℤ a.d) <ℤ (n a *ℤ p.d))
+use Rattle.winding_laws.specs.Points.{IsOn, IsBetween}
 
 -- ---- the laws
 -- A point on the line of a segment that lies strictly between the ends, by height or along the other axis, is a point of the

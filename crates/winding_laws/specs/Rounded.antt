@@ -1,27 +1,14 @@
 -- Segments with rounded ends: edges between whole points.
-use Rattle.std.specs.Prelude.{◌≡◌, not, Bool, List, map, filter, pos, All}
-use Rattle.scad_geom.specs.declared.point.Pt.{Pt}
+use Rattle.std.specs.Prelude.{◌≡◌, Bool, List, map, filter, pos, All}
 use Rattle.scad_geom.specs.declared.point.Edge.{Edge}
-use Rattle.scad_geom.specs.Point.{Point, whole, is_same_point}
+use Rattle.scad_geom.specs.Point.{Point, whole}
 use Rattle.scad_geom.specs.Segment.{Segment, segments}
 use Rattle.scad_geom.specs.Winding.{wind_by}
 use Rattle.scad_geom.specs.Balance.{IsBalanced}
-use Rattle.scad_geom.specs.Rounding.{half_down}
 use Rattle.scad_geom.specs.Near.{IsClose}
 use Rattle.winding_laws.specs.Nearness.{IsPoint, IsProper, IsClearSegment}
 use Rattle.winding_laws.specs.Moves.{IsMove}
-
--- the whole point nearest to a point, of two such coordinates the lower one
-abbrev pub rounded : Point → Pt
-rounded p = record { x = half_down p.x p.d; y = half_down p.y p.d }
-
--- the edge between the rounded ends of a segment
-abbrev pub rounded_edge : Segment → Edge
-rounded_edge s = record { a = rounded s.from; b = rounded s.to }
-
--- whether the ends of an edge differ
-abbrev pub has_length : Edge → Bool
-has_length e = not (is_same_point (whole e.a) (whole e.b))
+use Rattle.winding_laws.specs.Edges.{rounded, rounded_edge, has_length}
 
 -- ---- the laws
 -- Rounding takes a point to one point, and by at most one half along each axis.

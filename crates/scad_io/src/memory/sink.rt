@@ -38,7 +38,7 @@ impl Model for Sink {
 }
 
 impl Sink {
-    ghost use Rattle.scad_io.specs.Memory.{told_name, fails_if};
+    ghost use Rattle.scad_io.specs.Memory.{name_room, told_name, fails_if};
 
     /// An output with room for so many bytes.
     pub fn new(alloc: Global, room: usize) -> Result<Sink, AllocError>
@@ -69,7 +69,7 @@ impl Sink {
 
     /// Creates the output by this name, where the call isn't to fail and the name fits its room.
     pub fn create(&mut self, due: bool, name: &str) -> Result<(), Failed>
-        ensures answer { result ≡ fails_if (due || nat_lt NAME_ROOM (length name.now)) tt }
+        ensures answer { result ≡ fails_if (due || nat_lt name_room (length name.now)) tt }
         ensures side { self.new.side ≡ record self.old.side {
           name = told_name name.now;
           created = is_ok result;

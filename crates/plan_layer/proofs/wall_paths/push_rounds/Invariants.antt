@@ -1,5 +1,5 @@
 use Rattle.std.proofs.Common.{◌≡◌, ◌++◌, drop, map}
-use Rattle.plan_layer.specs.Walls.{round}
+use Rattle.plan_layer.specs.Plan.{round}
 use Rattle.plan_layer.proofs.wall_paths.push_rounds.Given as goal
 
 abbrev pub invariant-loops : goal.invariant-loops

@@ -1,7 +1,8 @@
 use Rattle.std.proofs.Common.{rules, sym, subst}
 use Rattle.scad_script.specs.Script.{layers}
 use Rattle.scad_script.proofs.Layers.{as_left}
-use Rattle.slice_work.specs.Script.{rates_of, layer_steps}
+use Rattle.slice_work.specs.Script.{layer_steps}
+use Rattle.slice_work.specs.Rates.{rates_of}
 use Rattle.scad_slice.specs.Script.{files, IsWritten}
 use Rattle.scad_slice.proofs.Files.{carried_through, written_so}
 use Rattle.scad_slice.proofs.Stopping.{stops_part}

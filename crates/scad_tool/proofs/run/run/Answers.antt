@@ -11,7 +11,8 @@ use Rattle.scad_script.proofs.Handed.{names_are_given}
 use Rattle.scad_script.proofs.Created.{created_for_bytes}
 use Rattle.scad_tool.specs.Words.{given_by}
 use Rattle.scad_words.specs.Job.{job_of}
-use Rattle.scad_tool.specs.Answer.{Parts, Inputs, script_of, source_in, AreParts, OnScript}
+use Rattle.scad_tool.specs.Answer.{Parts, script_of, AreParts, OnScript}
+use Rattle.scad_tool.specs.Inputs.{Inputs, source_in}
 use Rattle.scad_tool.specs.Playing.{Works}
 use Rattle.scad_tool.specs.Promises.{Refuses}
 use Rattle.scad_tool.proofs.Orderly.{orderly}

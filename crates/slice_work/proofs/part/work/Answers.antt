@@ -1,7 +1,8 @@
 use Rattle.std.proofs.Common.{◌≡◌, ◌≤◌, ◌+◌, Ok, Err, refl, sym, ap, ap₂, rules}
 use Rattle.slice_work.specs.declared.fault.WorkFault.{WorkFault}
 use Rattle.slice_work.specs.declared.sums.Sums.{Sums}
-use Rattle.slice_work.specs.Script.{rates_of, stopped}
+use Rattle.slice_work.specs.Script.{stopped}
+use Rattle.slice_work.specs.Rates.{rates_of}
 use Rattle.slice_work.proofs.Layers.{round_played}
 use Rattle.slice_work.proofs.Rounds.{sums_as, steps_as}
 use Rattle.slice_work.proofs.Stopping.{stops_work}

@@ -4,7 +4,8 @@ use Rattle.scad_script.specs.Script.{Script, layers}
 use Rattle.scad_script.specs.Played.{Left}
 use Rattle.scad_script.specs.Run.{Sound, CreatesNone}
 use Rattle.slice_work.specs.Part.{Part}
-use Rattle.slice_work.specs.Script.{AreThere, rates_of, layer_steps}
+use Rattle.slice_work.specs.Script.{AreThere, layer_steps}
+use Rattle.slice_work.specs.Rates.{rates_of}
 use Rattle.slice_work.specs.Sums.{AreSums}
 use Rattle.slice_work.proofs.part.work.Given as goal
 

@@ -1,5 +1,5 @@
 use Rattle.cli_read.proofs.Texts.{said, whole}
-use Rattle.cli_read.proofs.reading.read.Goals as goal
+use Rattle.cli_read.proofs.reader.read.Goals as goal
 
 pub returns-clause-said : goal.returns-clause-said
 returns-clause-said c = said c.args.bytes.now c.all_of.result c.all_of.ensures

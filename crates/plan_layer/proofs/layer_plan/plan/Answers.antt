@@ -7,7 +7,7 @@ use Rattle.plan_layer.specs.Infill.{LineRuns, infill_paths}
 use Rattle.plan_layer.specs.Moves.{all_moves, move_limit}
 use Rattle.plan_layer.specs.Plan.{IsPlan}
 use Rattle.plan_layer.proofs.Points.{plan_ways, few_points}
-use Rattle.plan_layer.proofs.planning.plan.Goals as goal
+use Rattle.plan_layer.proofs.layer_plan.plan.Goals as goal
 
 both : {T E : Type 0} (r : Result T E) (P Q R : T → Type 0) → ((x : T) → P x → Q x → R x) → IfOk r P → IfOk r Q
     → IfOk r R
