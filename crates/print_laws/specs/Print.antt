@@ -113,8 +113,7 @@ StayInside s outlines moves = All (λ m. m.extruding ≡ true → StaysInside s 
 
 -- The bytes are the text of the layers' plans. Along them the machine makes the moves of the plans, with travels
 -- between; those that extrude are exactly the plans' moves of layer 0, of layer 1 and so on, in order, each at the
--- upper surface
--- of its layer and with its filament; and each stays inside the outlines of its layer by the clearance.
+-- upper surface of its layer and with its filament; and each stays inside the outlines of its layer by the clearance.
 pub record PrintLayers (bytes : List ℕ) (s : Settings) (layers : List Layout) : Type 0 where
   pub text : bytes ≡ program_of s layers
   pub moves : List Move

@@ -1,7 +1,6 @@
 -- Forms of the language that are left out, where each could stand. Behind tokens a statement, a body's item or a
--- child
--- may begin where `{` may stand; a mark where `#` may; an operator where `.` may, which also stands behind an operand
--- alone; an expression where `echo` may and no mark.
+-- child may begin where `{` may stand; a mark where `#` may; an operator where `.` may, which also stands behind an
+-- operand alone; an expression where `echo` may and no mark.
 use Rattle.std.specs.Prelude.{ℕ, List, [], ◌∷◌, ◌++◌, codes}
 use Rattle.scad_fault.specs.declared.place.Place.{Place}
 use Rattle.scad_lex.specs.declared.token.Token.{Token}

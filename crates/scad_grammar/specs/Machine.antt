@@ -1,6 +1,5 @@
 -- A reader of tokens: each token moves it by one step, and decides alone. It finds the program or the first token
--- with
--- a fault.
+-- with a fault.
 use Rattle.std.specs.Prelude.{ℕ, List, [], ◌∷◌, Option, Some, None, Result, Ok, Err, nat_lt, if◌then◌else◌}
 use Rattle.scad_fault.specs.declared.place.Place.{Place}
 use Rattle.scad_lex.specs.declared.token.Token.{Token}

@@ -1,13 +1,10 @@
 -- The constructs of a derivation, and how many of them stand open behind tokens with which a program begins.
 --
--- Each of these is a construct: a statement, assignment or definition, with its marks, call or `if`; an open `(`,
--- `[` or
--- `{`; a prefix operator, with its operand; `?`, with its expression; `let`, `assert`, `echo`, `for`, `each`, `if`
--- and
--- `else` within an expression, with its expression or element; and a binary operator, an index and a member, from its
--- token to the end of its chain of operands. A statement that stands as a child of another is one beside it. A group
--- is
--- its `{` alone, and `;` is none.
+-- Each of these is a construct: a statement, assignment or definition, with its marks, call or `if`; an open `(`, `[`
+-- or `{`; a prefix operator, with its operand; `?`, with its expression; `let`, `assert`, `echo`, `for`, `each`, `if`
+-- and `else` within an expression, with its expression or element; and a binary operator, an index and a member, from
+-- its token to the end of its chain of operands. A statement that stands as a child of another is one beside it. A
+-- group is its `{` alone, and `;` is none.
 use Rattle.std.specs.Prelude.{◌≡◌, ℕ, ◌≤◌, ◌&&◌, Bool, List, [], ◌∷◌, ◌++◌, Option, length, nat_lt}
 use Rattle.std.specs.List.{count_by}
 use Rattle.scad_fault.specs.declared.place.Place.{Place}
@@ -208,8 +205,7 @@ CanHaveOpen ts n =
     × (open_at (length more) (constructs_of d) ≡ n)
 
 -- Behind these tokens so many constructs stand open: the most that a derivation has open. What has ended by one
--- derivation
--- and not by another is open, until a token shows that it has ended.
+-- derivation and not by another is open, until a token shows that it has ended.
 pub record Opens (ts : List Token) (n : ℕ) : Type 0 where
   pub some : CanHaveOpen ts n
   pub most : (m : ℕ) → CanHaveOpen ts m → m ≤ n

@@ -60,7 +60,7 @@ pub record IsWritten (want : Want) (s : Settings) (part : Part) (count : ℕ) (w
 abbrev pub unless_many : ℕ → Script → Script
 unless_many count script = if nat_lt layer_limit count then ends (Refuses (Over (layers_passed count))) else script
 
--- `done: N layers, L loops`
+-- `done: N layers, K loops`
 unfoldable pub done_line : ℕ → ℕ → List ℕ
 done_line count loops = codes "done: " ++ decimal count ++ codes " layers, " ++ decimal loops ++ codes " loops\n"
 

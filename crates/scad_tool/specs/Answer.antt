@@ -102,8 +102,7 @@ abbrev pub AreParts : List (List ℕ) → Inputs → Parts → Type 0
 AreParts words inputs parts = AreDrawn (source_in (job_of words) inputs) parts
 
 -- The script of the words and of what was read has this property, with the parts that there are of the source's tree
--- and
--- with all others. These give the same script (the law), so what is said here is said of the answer.
+-- and with all others. These give the same script (the law), so what is said here is said of the answer.
 pub record OnScript (words : List (List ℕ)) (files : Files) (Holds : Script → Type 0) : Type 0 where
   pub inputs : Inputs
   pub read : IsRead words files inputs
@@ -111,8 +110,7 @@ pub record OnScript (words : List (List ℕ)) (files : Files) (Holds : Script �
   pub drawn : AreParts words inputs parts
   pub holds : (others : Parts) → AreParts words inputs others → Holds (script_of words others inputs)
 
--- the whole answer for words, for what the names contain and for the parts of the source's tree; there is none where a
--- file
--- that is to be read is missing
+-- the whole answer for words, for what the names contain and for the parts of the source's tree; there is none where
+-- a file that is to be read is missing
 abbrev pub answer : List (List ℕ) → (List ℕ → Option (List ℕ)) → Parts → Option Answer
 answer words contents parts = answer_of (script_of words parts (read_of words contents))

@@ -9,8 +9,7 @@ use Rattle.scad_grammar.specs.Judged.{Judged}
 use Rattle.scad_tool.specs.Meaning.{program_means, source_means}
 
 -- The grammar judges the tokens of a source in one way: by a program that they derive, or by the first fault that one
--- of them
--- has. The source means what that program means, or has that fault.
+-- of them has. The source means what that program means, or has that fault.
 pub record GoesByGrammar (source : List ℕ) (ts : List Token) (end : Place) : Type 0 where
   pub answer : Result Items Refusal
   pub judged : Judged [] ts end answer

@@ -115,10 +115,8 @@ IsCause job inputs (Over budget) = (given : Job) × (job ≡ Some given) × IsTo
 IsCause job inputs status = Unit {0}
 
 -- The cause that each status names: of Usage, Settings, Source and Over one in the words and in what was read of the
--- files; of
--- Read and Write an object of the desk that failed, by a name of the words, while the count of faults rose. Want of
--- memory has
--- no further cause.
+-- files; of Read the input, by a name of the words, and of Write a file, by its name in the words, or the report: it
+-- failed while the count of faults rose. Want of memory has no further cause.
 abbrev pub HasNamedCause : List (List ℕ) → Files → Status → View → View → ℕ → ℕ → Type 0
 HasNamedCause words files Read old new before now = (before < now) × IsReadFault (given_by words) old new
 HasNamedCause words files Write old new before now =

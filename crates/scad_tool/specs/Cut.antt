@@ -30,8 +30,7 @@ program_front OutlinesAlone s layers = []
 program_front WithPlan s layers = program_head s.hot_end s.bed ++ layers_text (rates_of s) 0 0 (all_paths layers)
 
 -- A layer of the tree passes the budget. Both files have their heads and the layers below it, each laid out as it is
--- wanted,
--- and no end.
+-- wanted, and no end.
 pub record AreCut (want : Want) (s : Settings) (tree : Solid) (budget : Budget) (old new : View) : Type 0 where
   pub few : layer_count s.layer_height tree ≤ layer_limit
   pub inside : budget.layer < layer_count s.layer_height tree

@@ -31,8 +31,7 @@ pub record Tells (files : Files) (old : View) : Type 0 where
 
 -- ---- what `plan` accepts is printed
 -- The settings are those of the run, and the model is there and means a tree. What was added to both outputs is the
--- print of
--- the tree by the settings, and nothing else is one.
+-- print of the tree by the settings, and nothing else is one.
 pub record IsPrinted {files : Files} {old : View} (desk : Tells files old) (name : Option (List ℕ)) (model : List ℕ)
     (new : View)
     : Type 0 where

@@ -55,8 +55,7 @@ Answers words files Memory old new = Unit {0}
 Answers words files status old new = IsWholeAnswer words files status old new
 
 -- Status 0 of `slice` and `plan`: the outlines that were written are the text of layers, of the height that the
--- settings
--- give, that hold what the tree of the source contains.
+-- settings give, that hold what the tree of the source contains.
 abbrev pub OutlinesHoldTree : List (List ℕ) → Files → View → View → Type 0
 OutlinesHoldTree words files old new =
     (job : Job) (model cli : List ℕ) → job_of words ≡ Some job → model_of job.command ≡ Some model → cli_of job.command
@@ -82,8 +81,7 @@ pub record IsProgramFront (number : ℕ) (text : List ℕ) : Type 0 where
   pub is : text ≡ program_head settings.hot_end settings.bed ++ layers_text (rates_of settings) 0 0 paths
 
 -- a layer passed the budget: the outlines are the head and the layers before it, without an end; so is the printing
--- program,
--- where there is one
+-- program, where there is one
 pub record IsCutShort (whole : Script) (budget : Budget) (old new : View) : Type 0 where
   pub kind : (budget.kind ≡ LayerEdges) ⊎ ((budget.kind ≡ LayerCrossings) ⊎ (budget.kind ≡ LayerMoves))
   pub reported : IsReported whole (Over budget) old new
@@ -95,8 +93,7 @@ pub record IsCutShort (whole : Script) (budget : Budget) (old new : View) : Type
   pub program : (text : List ℕ) × ((text ≡ []) ⊎ IsProgramFront budget.layer text) × Adds text old.gcode new.gcode
 
 -- Statuses 1, 2, 3 and 6: the report is the lines of `echo` and the status's line, and no output is created, unless a
--- layer
--- passed a budget.
+-- layer passed a budget.
 abbrev pub Refuses : Script → Status → View → View → Type 0
 Refuses whole (Source fault) old new = IsRefused whole (Source fault) old new
 Refuses whole Usage old new = IsRefused whole Usage old new
@@ -114,7 +111,7 @@ abbrev pub LeavesOutputs : Option Job → View → View → Type 0
 LeavesOutputs None old new = Unit {0}
 LeavesOutputs (Some job) old new = Leaves job.command old new
 
--- the words are of the form where they aren't answered with their usage, and not where they are
+-- but for Write and Memory: the words are of no form where the usage is answered, and of the form else
 abbrev pub JudgesJob : Option Job → Status → Type 0
 JudgesJob job Usage = job ≡ None
 JudgesJob job Write = Unit {0}
@@ -131,8 +128,7 @@ CanBeDrawn want settings tree =
     × ((i : ℕ) → i < layer_count settings.layer_height tree → IsWithinLimits want settings tree i)
 
 -- what a command asks of its source: that it means a tree; `check` and those that draw, that this has no more layers
--- than
--- the limit; those that draw, that none of them passes a budget
+-- than the limit; those that draw, that none of them passes a budget
 abbrev pub Accepts : Command → SettingsOfRun → Solid → Type 0
 Accepts (Check model) settings tree = layer_count settings.layer_height tree ≤ layer_limit
 Accepts (Tree model) settings tree = Unit {0}
@@ -144,8 +140,7 @@ abbrev pub IsAccepted : Command → SettingsOfRun → List ℕ → Type 0
 IsAccepted command settings source = (tree : Solid) × MeansTree tree source × Accepts command settings tree
 
 -- Where the words are of the form, the settings are accepted, the source is within its limit and accepted, and the
--- count
--- of faults doesn't rise, all is done, or memory is wanting.
+-- count of faults doesn't rise, all is done, or memory is wanting.
 abbrev pub IsComplete : List (List ℕ) → Files → Status → ℕ → ℕ → Type 0
 IsComplete words files status before now =
     IfSome files (λ contents. (job : Job) (settings : SettingsOfRun) (source : List ℕ) → job_of words ≡ Some job

@@ -1,7 +1,8 @@
 //! The whole run of a command.
 ghost use Rattle.std.specs.Prelude.{◌≡◌, ◌<◌, ◌≤◌, map, string_bytes};
 ghost use Rattle.scad_script.specs.Run.{IsReady, RunsTo};
-ghost use Rattle.scad_script.specs.Promises.{IsReadFault, IsWriteFault, IsMemoryLine, AreFronts, HandsIn, CreatesForBytes, FailedReportIsWrite};
+ghost use Rattle.scad_script.specs.Promises.{IsReadFault, IsWriteFault, IsMemoryLine};
+ghost use Rattle.scad_script.specs.Promises.{AreFronts, HandsIn, CreatesForBytes, FailedReportIsWrite};
 ghost use Rattle.scad_words.specs.Job.{job_of};
 ghost use Rattle.scad_tool.specs.Words.{given_by};
 ghost use Rattle.scad_tool.specs.Answer.{OnScript};
@@ -20,13 +21,12 @@ use scad_script::report;
 use std::alloc::Global;
 use std::thread::Threads;
 
-/// Runs the command of these words, those behind the program's name, over a desk. The layers of a part are shared among as many
-/// workers as the words say; the runtime
-/// gives them threads where it can, and else works them one after another.
+/// Runs the command of these words, those behind the program's name, over a desk. The layers of a part are shared among
+/// as many workers as the words say; the runtime gives them threads where it can, and else works them one after another.
 ///
-/// What is said of bytes and names holds where the desk tells them. A desk that doesn't tell what the
-/// files contain leaves open which of the statuses Done, Source and Over comes. Want of memory may come
-/// at any point that takes memory; every other status has a clause that says when it comes.
+/// What is said of bytes and names holds where the desk tells them. A desk that doesn't tell what the files contain leaves
+/// open which of the statuses Done, Source, Over and, where settings are named, Settings comes. Want of memory may come at
+/// any point that takes memory; every other status has a clause that says when it comes.
 pub fn run<R: Threads + Sync, D: Desk, G: Gate>(
     rt: &R,
     alloc: Global,
@@ -41,8 +41,8 @@ pub fn run<R: Threads + Sync, D: Desk, G: Gate>(
         (D.faults desk.old) (D.faults desk.new) }
 
     // The run plays the script of the words, of what was read of the settings and the model and of what is drawn of
-    // its tree, to its end or until it stops, and then tries the last line. It says what the desk shows, not how many
-    // calls were made.
+    // its tree, to its end or until it stops, and then, unless the report has failed, tries the last line. It says what
+    // the desk shows, not how many calls were made.
     ensures runs { OnScript (map string_bytes words.now) (D.files desk.old)
         (λ whole. RunsTo whole result (D.view desk.old) (D.view desk.new)) }
 
@@ -50,20 +50,23 @@ pub fn run<R: Threads + Sync, D: Desk, G: Gate>(
     ensures answer { Answers (map string_bytes words.now) (D.files desk.old) result (D.view desk.old) (D.view desk.new) }
 
     // What `plan` added to both files is a print of the source's tree, and nothing else is one.
-    ensures print { result ≡ Status.Done → PlanAddsPrint (map string_bytes words.now) (D.files desk.old) (D.view desk.old) (D.view desk.new) }
+    ensures print { result ≡ Status.Done
+        → PlanAddsPrint (map string_bytes words.now) (D.files desk.old) (D.view desk.old) (D.view desk.new) }
 
     // What a source means goes by the grammar of programs.
     ensures grammar { SourcesGoByGrammar }
 
     // The outlines that `slice` or `plan` wrote hold what the source's tree contains, and lie near to its border.
-    ensures outlines { result ≡ Status.Done → OutlinesHoldTree (map string_bytes words.now) (D.files desk.old) (D.view desk.old) (D.view desk.new) }
+    ensures outlines { result ≡ Status.Done
+        → OutlinesHoldTree (map string_bytes words.now) (D.files desk.old) (D.view desk.old) (D.view desk.new) }
 
     // When each other status comes, and how the files then stand.
     ensures words { JudgesWords (map string_bytes words.now) result }
     ensures refusal { OnScript (map string_bytes words.now) (D.files desk.old)
         (λ whole. Refuses whole result (D.view desk.old) (D.view desk.new)) }
     ensures cut { CutsShort (map string_bytes words.now) (D.files desk.old) result (D.view desk.old) (D.view desk.new) }
-    ensures read_fault { result ≡ Status.Read → IsReadFault (given_by (map string_bytes words.now)) (D.view desk.old) (D.view desk.new) }
+    ensures read_fault { result ≡ Status.Read
+        → IsReadFault (given_by (map string_bytes words.now)) (D.view desk.old) (D.view desk.new) }
     ensures read_cause { result ≡ Status.Read → D.faults desk.old < D.faults desk.new }
     ensures write_fault { result ≡ Status.Write → OnScript (map string_bytes words.now) (D.files desk.old)
         (λ whole. IsWriteFault (given_by (map string_bytes words.now)) whole (D.view desk.old) (D.view desk.new)) }
