@@ -15,7 +15,7 @@ import tempfile
 import time
 
 from cases import FOLDER, content, lines_of
-from check import PLAIN, Check, Exactly, compared, run, shown
+from check import PLAIN, TIME_LIMIT, Check, Exactly, compared, run, shown
 
 PATH = f"{os.path.dirname(sys.executable)}:/usr/bin:/bin"
 CUBE = b"cube(1);"
@@ -243,21 +243,20 @@ echo 'usage: scadslice COMMAND'
 
     def run(self, room, program, words):
         how = self.made(room, program)
-        return subprocess.run([f"{room}/scadslice", *words], timeout=60, capture_output=True, **how)
+        return subprocess.run([f"{room}/scadslice", *words], timeout=TIME_LIMIT, capture_output=True, **how)
 
     def made(self, room, program):
         """Fills the room; how a process is started there."""
         os.makedirs(f"{room}/docs")
         os.makedirs(f"{room}/bin")
-        for name in ("scadslice", "crates.txt", "docs/architecture.md"):
+        place(f"{room}/scadslice", content(f"{self.top}/scadslice"))
+        for name in ("crates.txt", "docs/architecture.md"):
             shutil.copy(f"{self.top}/{name}", f"{room}/{name}")
         shutil.copytree(f"{self.top}/explain", f"{room}/explain", ignore=shutil.ignore_patterns("__pycache__"))
         with open(f"{room}/crates.txt", encoding="utf-8") as file:
             for crate in (line.split(":")[0].split()[0] for line in file if line[0].islower()):
                 os.makedirs(f"{room}/crates/{crate}/src")
-        with open(f"{room}/bin/rt", "w", encoding="utf-8") as file:
-            file.write(self.RT.format(room=shlex.quote(room), program=shlex.quote(program)))
-        os.chmod(f"{room}/bin/rt", 0o755)
+        place(f"{room}/bin/rt", self.RT.format(room=shlex.quote(room), program=shlex.quote(program)).encode())
         return {"cwd": room, "stdin": subprocess.DEVNULL, "env": {"PATH": f"{room}/bin:{PATH}", "LANG": "C.UTF-8"}}
 
 
@@ -314,7 +313,7 @@ class Builders(Workshop):
             with open(f"{room}/m.scad", "wb") as file:
                 file.write(CUBE)
             both = [subprocess.Popen([f"{room}/scadslice", "check", "m.scad"], **how) for _ in range(2)]
-            ended = [(it.communicate(timeout=60)[0], it.returncode) for it in both]
+            ended = [(it.communicate(timeout=TIME_LIMIT)[0], it.returncode) for it in both]
             asked = content(f"{room}/asked").split(b"\n")
         told = [f"they ended with {ended}"] * (ended != [(b"ok: 1 leaves, 12 triangles, 5 layers\n", 0)] * 2)
         return told + ["a crate is built twice"] * (len(asked) != len(set(asked)))
@@ -340,7 +339,7 @@ class Signals(Workshop):
 
     name = "explained_signals"
     ENDED = "#!/bin/sh\nkill -SEGV $$\n"
-    SLOW = "#!/bin/sh\necho $$ >pid.new && mv pid.new pid\nexec sleep 60\n"
+    SLOW = f"#!/bin/sh\necho $$ >pid.new && mv pid.new pid\nexec sleep {2 * TIME_LIMIT}\n"
 
     def tried(self, _program):
         with tempfile.TemporaryDirectory(prefix="scadslice-") as room:
@@ -351,16 +350,19 @@ class Signals(Workshop):
             started = subprocess.Popen([f"{room}/scadslice", "check", "m.scad"], stderr=subprocess.DEVNULL, **how)
             pid = int(awaited(lambda: os.path.exists(f"{room}/pid") and content(f"{room}/pid")) or 0)
             started.terminate()
-            is_gone = started.wait(60) == -signal.SIGTERM and awaited(lambda: has_ended(pid))
+            is_gone = started.wait(TIME_LIMIT) == -signal.SIGTERM and awaited(lambda: has_ended(pid))
         return [f"a program that a signal ended: {ended}"] * (not told) + ["it outlives its launcher"] * (not is_gone)
 
     @staticmethod
     def script(room, text):
-        path = f"{room}/program"
-        with open(path, "w", encoding="utf-8") as file:
-            file.write(text)
-        os.chmod(path, 0o755)
-        return path
+        place(f"{room}/program", text.encode())
+        return f"{room}/program"
+
+
+def place(path, text):
+    """Writes an executable by a process of its own: a file that is open here for writing may be open too in a process
+    that another check is just starting, and until that one has started nobody can run the file."""
+    subprocess.run(["install", "-m", "755", "/dev/stdin", path], input=text, check=True)
 
 
 def has_ended(pid):
@@ -372,8 +374,8 @@ def has_ended(pid):
 
 
 def awaited(answer):
-    """The answer once it isn't nothing, or what it is after some seconds."""
-    end = time.monotonic() + 20
+    """The answer once it isn't nothing, or what it is when a run must have ended."""
+    end = time.monotonic() + TIME_LIMIT
     while not answer() and time.monotonic() < end:
         time.sleep(0.02)
     return answer()

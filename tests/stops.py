@@ -66,7 +66,7 @@ class StopCheck:
         self.name, self.signal, self.moment = name, getattr(signal, f"SIG{by}"), moment
 
     def tried(self, program):
-        return early_end(program, self.signal, self.stop)
+        return early_end(program, (0, -self.signal), self.stop)
 
     def stop(self, started, path):
         least = len(outlines(1, LAYERS)) * self.moment // MOMENTS
@@ -83,11 +83,11 @@ class LimitCheck:
         self.name = name
 
     def tried(self, program):
-        return early_end(program, signal.SIGXFSZ, lambda started, path: None, ["sh", "-c", LIMITED, "sh"])
+        return early_end(program, (-signal.SIGXFSZ,), lambda started, path: None, ["sh", "-c", LIMITED, "sh"])
 
 
-def early_end(program, by, stop, shell=()):
-    """What differs after a run of `plan` by three workers that `stop` may have ended by this signal."""
+def early_end(program, ends, stop, shell=()):
+    """What differs after a run of `plan` by three workers that `stop` may have ended, with one of these statuses."""
     with tempfile.TemporaryDirectory(prefix="scadslice-") as room:
         with open(os.path.join(room, "m.scad"), "wb") as file:
             file.write(TALL)
@@ -101,12 +101,12 @@ def early_end(program, by, stop, shell=()):
             started.kill()
             return [f"it hadn't ended after {TIME_LIMIT} seconds"]
         is_done = told == report(LAYERS)
-        return [*end_differs(started.returncode, told, errors, by), *files_differ(room, is_done)]
+        return [*end_differs(started.returncode, told, errors, ends), *files_differ(room, is_done)]
 
 
-def end_differs(status, told, errors, by):
+def end_differs(status, told, errors, ends):
     """The report is written last and in one piece, so a run that was ended has all of it or nothing."""
-    if status not in (0, -by):
+    if status not in ends:
         return [f"the status is {status}"]
     wanted = report(LAYERS) if status == 0 or told else b""
     why = [f"the report differs {first_difference(told, wanted)}"] if told != wanted else []

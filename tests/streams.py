@@ -48,8 +48,14 @@ def outlines(size, layers=None, thick=200):
 WRITTEN = {"o.cli": outlines(1)}
 
 
+# The longest names that the system has, of a file and of a way to one, and the next longer ones.
+LONGEST = b"n" * 255
+FARTHEST = b"./" * 2046 + b"far"
+TOO_FAR = b"./" * 2046 + b"/far"
+
+
 def stream_checks():
-    return [*done(), *source(), *usage(), *read(), *write(), *long(), memory()]
+    return [*done(), *names(), *source(), *usage(), *read(), *write(), *long(), memory()]
 
 
 def sliced(name, status=0, report=DONE, model=b"m.scad", cli=b"o.cli", left=WRITTEN, **more):
@@ -91,6 +97,26 @@ def done():
         sliced("standard_input_is_closed", shell='exec "$@" <&-'),
         sliced("standard_error_is_closed", shell='exec "$@" 2>&-'),
         sliced("an_output_that_keeps_nothing", cli=b"/dev/null", left=none),
+    ]
+
+
+def names():
+    """The system sets the length of names: a longer one is a fault of its object."""
+    read = lambda name, status, model, **more: sliced(f"a_model_of_{name}", status, model=model, **more)
+    write = lambda name, status, cli, **more: sliced(f"an_output_of_{name}", status, cli=cli, **more)
+    no_read, no_write = {"report": READ_FAULT, "left": {}}, {"report": WRITE_FAULT, "left": {}}
+    at = {LONGEST.decode(): CUBE, "far": CUBE}
+    return [
+        read("the_longest_name", 0, LONGEST, given=at),
+        read("a_name_that_is_too_long", 4, LONGEST + b"n", **no_read),
+        read("the_farthest_name", 0, FARTHEST, given=at),
+        read("a_name_that_is_too_far", 4, TOO_FAR, given=at, **no_read),
+        read("a_very_long_name", 4, b"n" * 100_000, **no_read),
+        write("the_longest_name", 0, LONGEST, left={LONGEST.decode(): outlines(1)}),
+        write("a_name_that_is_too_long", 5, LONGEST + b"n", **no_write),
+        write("the_farthest_name", 0, FARTHEST, left={"far": outlines(1)}),
+        write("a_name_that_is_too_far", 5, TOO_FAR, **no_write),
+        write("a_very_long_name", 5, b"n" * 100_000, **no_write),
     ]
 
 
