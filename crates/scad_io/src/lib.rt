@@ -8,14 +8,14 @@ mod gate;
 mod handle;
 mod memory;
 mod null;
-mod reading;
 mod real;
-mod writing;
+mod whole_piece;
+mod whole_text;
 
 pub use desk::{Desk, Failed, Out};
 pub use gate::{Gate, Open};
 pub use memory::MemoryDesk;
 pub use null::NullDesk;
-pub use reading::{ReadEnd, read_all};
 pub use real::RealDesk;
-pub use writing::write_all;
+pub use whole_piece::write_all;
+pub use whole_text::{ReadEnd, read_all};

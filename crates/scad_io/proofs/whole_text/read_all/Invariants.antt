@@ -1,7 +1,7 @@
 use Rattle.std.proofs.Common.{◌≡◌, ◌≤◌, ◌+◌, ◌-◌, ◌^◌, vec_len}
 use Rattle.std.specs.Prelude.{IfSome}
 use Rattle.scad_io.proofs.Taken.{ReadSoFar}
-use Rattle.scad_io.proofs.reading.read_all.Given as goal
+use Rattle.scad_io.proofs.whole_text.read_all.Given as goal
 
 abbrev pub invariant-pieces : goal.invariant-pieces
 invariant-pieces g l =

@@ -1,6 +1,6 @@
 use Rattle.std.proofs.Common.{◌≡◌, ◌≤◌, [], length}
 use Rattle.scad_io.specs.Sent.{SentBut}
-use Rattle.scad_io.proofs.writing.write_all.Given as goal
+use Rattle.scad_io.proofs.whole_piece.write_all.Given as goal
 
 abbrev pub invariant-pieces : goal.invariant-pieces
 invariant-pieces g l =
