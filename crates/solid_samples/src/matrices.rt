@@ -2,10 +2,13 @@
 
 use scad_geom::Pt3;
 use scad_matrix::{Axis, Matrix, MatrixFault, Row, mirror, of_rows, scale, translate, turn};
-use scad_num::{Num, NumFault};
-use std::test::Fail;
+use scad_num::Num;
 
 const M: i64 = 1_000_000;
+
+fn number(millionths: i32) -> Num {
+    Num::within(i64::from(millionths))
+}
 
 fn entries(m: &Matrix) -> [i64; 12] {
     let Matrix { x, y, z } = *m;
@@ -26,120 +29,112 @@ fn numbers(row: Row) -> [i64; 4] {
 }
 
 #[test]
-fn makes_the_matrices_of_transformations(rt: HostRuntime) -> Result<(), Fail> {
-    let (one, two, three) = (Num::of(M)?, Num::of(2 * M)?, Num::of(3 * M)?);
-    let zero = Num::of(0)?;
-    let shift = translate(one, two, three);
-    assert_eq!(rt;
-        entries(&shift),
-        [M, 0, 0, M, 0, M, 0, 2 * M, 0, 0, M, 3 * M]
-    );
-    let wide = scale(one, two, three);
-    assert_eq!(rt;
-        entries(&wide),
-        [M, 0, 0, 0, 0, 2 * M, 0, 0, 0, 0, 3 * M, 0]
-    );
-    assert_eq!(rt;
-        entries(&turn(Axis::X, 30500)),
-        [M, 0, 0, 0, 0, 861596, -507519, 0, 0, 507519, 861596, 0]
-    );
-    assert_eq!(rt;
-        entries(&turn(Axis::Y, -90000)),
-        [0, 0, -M, 0, 0, M, 0, 0, M, 0, 0, 0]
-    );
-    assert_eq!(rt;
-        entries(&mirror(one, one, zero)),
-        [0, -M, 0, 0, -M, 0, 0, 0, 0, 0, M, 0]
-    );
-    assert_eq!(rt;
-        entries(&mirror(one, two, three)),
-        [
-            857143, -285714, -428571, 0, -285714, 428571, -857143, 0, -428571, -857143, -285714, 0,
-        ]
-    );
-    assert_eq!(rt;
-        entries(&mirror(zero, zero, zero)),
-        [M, 0, 0, 0, 0, M, 0, 0, 0, 0, M, 0]
-    );
-    let rows = [
-        one, two, three, zero, two, three, zero, one, three, zero, one, two,
-    ];
-    assert_eq!(rt;
-        entries(&of_rows(&rows)),
-        [M, 2 * M, 3 * M, 0, 2 * M, 3 * M, 0, M, 3 * M, 0, M, 2 * M]
-    );
-    Ok(())
+fn makes_the_matrices_of_shifts_scales_and_turns(rt: HostRuntime) {
+    let (one, two, three) = (number(1_000_000), number(2_000_000), number(3_000_000));
+    let shift = entries(&translate(one, two, three));
+    assert!(rt; shift == [M, 0, 0, M, 0, M, 0, 2_000_000, 0, 0, M, 3_000_000]);
+    let wide = entries(&scale(one, two, three));
+    assert!(rt; wide == [M, 0, 0, 0, 0, 2_000_000, 0, 0, 0, 0, 3_000_000, 0]);
+    let about_x = entries(&turn(Axis::X, 30500));
+    assert!(rt; about_x == [M, 0, 0, 0, 0, 861596, -507519, 0, 0, 507519, 861596, 0]);
+    let about_y = entries(&turn(Axis::Y, -90000));
+    assert!(rt; about_y == [0, 0, -M, 0, 0, M, 0, 0, M, 0, 0, 0]);
 }
 
+const SLANTED_MIRROR: [i64; 12] = [
+    857143, -285714, -428571, 0, -285714, 428571, -857143, 0, -428571, -857143, -285714, 0,
+];
+
 #[test]
-fn composes_and_rounds_once(rt: HostRuntime) -> Result<(), Fail> {
+fn makes_the_matrices_of_mirrors_and_rows(rt: HostRuntime) {
+    let (zero, one, two, three) = (
+        number(0),
+        number(1_000_000),
+        number(2_000_000),
+        number(3_000_000),
+    );
+    let across = entries(&mirror(one, one, zero));
+    assert!(rt; across == [0, -M, 0, 0, -M, 0, 0, 0, 0, 0, M, 0]);
+    assert!(rt; entries(&mirror(one, two, three)) == SLANTED_MIRROR);
+    let none = entries(&mirror(zero, zero, zero));
+    assert!(rt; none == [M, 0, 0, 0, 0, M, 0, 0, 0, 0, M, 0]);
+    let rows = entries(&of_rows(&[
+        one, two, three, zero, two, three, zero, one, three, zero, one, two,
+    ]));
+    let wanted = [
+        M, 2_000_000, 3_000_000, 0, 2_000_000, 3_000_000, 0, M, 3_000_000, 0, M, 2_000_000,
+    ];
+    assert!(rt; rows == wanted);
+}
+
+const TURNED_TWICE: [i64; 12] = [
+    866025, -353554, 353554, 0, 500000, 612372, -612372, 0, 0, 707107, 707107, 0,
+];
+
+#[test]
+fn composes_and_rounds_once(rt: HostRuntime) {
     let turned = turn(Axis::Z, 30000)
         .compose(&turn(Axis::X, 45000))
-        .ok()
-        .ok_or(NumFault::Range)?;
-    assert_eq!(rt;
-        entries(&turned),
-        [
-            866025, -353554, 353554, 0, 500000, 612372, -612372, 0, 0, 707107, 707107, 0,
-        ]
-    );
-    let large = Num::of(1_000_000_000 * M)?;
+        .expect(&rt, "a matrix");
+    assert!(rt; entries(&turned) == TURNED_TWICE);
+    let large = Num::within(1_000_000_000_000_000);
     let wide = scale(large, large, large);
-    assert_eq!(rt; wide.compose(&wide), Err(MatrixFault::Range));
-    Ok(())
+    assert!(rt; matches!(wide.compose(&wide), Err(MatrixFault::Range)));
+}
+
+fn is_placed(m: &Matrix, x: i32, y: i32, z: i32, wanted: Pt3) -> bool {
+    match m.place(number(x), number(y), number(z)) {
+        Ok(p) => p == wanted,
+        Err(_) => false,
+    }
 }
 
 #[test]
-fn places_the_corners_of_a_turned_cube(rt: HostRuntime) -> Result<(), Fail> {
+fn places_the_corners_of_a_turned_cube(rt: HostRuntime) {
     let m = turn(Axis::Z, 45000);
     for (x, y, want_x, want_y) in [
         (0, 0, 0, 0),
-        (10, 0, 7071, 7071),
-        (10, 10, 0, 14142),
-        (0, 10, -7071, 7071),
+        (10_000_000, 0, 7071, 7071),
+        (10_000_000, 10_000_000, 0, 14142),
+        (0, 10_000_000, -7071, 7071),
     ] {
-        for z in [0, 1] {
-            let want = Pt3 {
-                x: want_x,
-                y: want_y,
-                z: 1000 * z,
-            };
-            let placed = m.place(Num::of(x * M)?, Num::of(y * M)?, Num::of(z as i64 * M)?);
-            assert_eq!(rt; placed, Ok(want), "({x}, {y}, {z})");
-        }
+        let low = Pt3 {
+            x: want_x,
+            y: want_y,
+            z: 0,
+        };
+        let high = Pt3 {
+            x: want_x,
+            y: want_y,
+            z: 1000,
+        };
+        assert!(rt; is_placed(&m, x, y, 0, low), "({x}, {y})");
+        assert!(rt; is_placed(&m, x, y, 1_000_000, high), "({x}, {y})");
     }
-    let far = Num::of(1_000_001 * 1000)?;
-    let zero = Num::of(0)?;
-    assert_eq!(rt;
-        translate(far, zero, zero).place(zero, zero, zero),
-        Err(MatrixFault::Range)
-    );
-    Ok(())
+    let zero = number(0);
+    let far = translate(number(1_000_001_000), zero, zero).place(zero, zero, zero);
+    assert!(rt; matches!(far, Err(MatrixFault::Range)));
 }
 
+const TILTED: [i64; 12] = [
+    866025, -500000, 0, -566988, 433013, 749999, 0, 216505, 0, 0, M, 0,
+];
+
 #[test]
-fn places_profiles_inside_extrusions(rt: HostRuntime) -> Result<(), Fail> {
-    let (half, two, three) = (Num::of(M / 2)?, Num::of(2 * M)?, Num::of(3 * M)?);
+fn places_profiles_inside_extrusions(rt: HostRuntime) {
+    let (half, two, three) = (number(500_000), number(2_000_000), number(3_000_000));
     let m = turn(Axis::Z, 30000)
         .compose(&translate(half, two, three))
-        .ok()
-        .ok_or(NumFault::Range)?;
-    let tilted = turn(Axis::X, 30000)
-        .compose(&m)
-        .ok()
-        .ok_or(NumFault::Range)?;
-    assert_eq!(rt;
-        entries(&tilted.flat()),
-        [
-            866025, -500000, 0, -566988, 433013, 749999, 0, 216505, 0, 0, M, 0
-        ]
+        .expect(&rt, "a matrix");
+    let tilted = turn(Axis::X, 30000).compose(&m).expect(&rt, "a matrix");
+    assert!(rt; entries(&tilted.flat()) == TILTED);
+    let (x, y) = tilted.profile(half, number(-3)).expect(&rt, "a point");
+    assert!(rt; x == number(-133974) && y == number(433009));
+    let large = Num::within(500_000_001_000_000);
+    assert!(rt;
+        matches!(
+            scale(two, two, two).profile(half, large),
+            Err(MatrixFault::Range)
+        )
     );
-    let placed = tilted.profile(half, Num::of(-3)?);
-    assert_eq!(rt; placed, Ok((Num::of(-133974)?, Num::of(433009)?)));
-    let large = Num::of(500_000_001 * M)?;
-    assert_eq!(rt;
-        scale(two, two, two).profile(half, large),
-        Err(MatrixFault::Range)
-    );
-    Ok(())
 }

@@ -33,9 +33,20 @@ const SLANTED: Edge = Edge {
     b: Pt { x: 10, y: 0 },
 };
 
-const fn at(x: i32, y: i32) -> Pt {
-    Pt { x, y }
-}
+const RISING: Edge = Edge {
+    a: Pt { x: 10, y: 20 },
+    b: Pt { x: 0, y: 0 },
+};
+
+const LEANING: Edge = Edge {
+    a: Pt { x: 0, y: 0 },
+    b: Pt { x: -10, y: 20 },
+};
+
+const FLAT: Edge = Edge {
+    a: Pt { x: 5, y: 0 },
+    b: Pt { x: -5, y: 0 },
+};
 
 #[test]
 fn an_edge_reaches_the_heights_of_its_ends(rt: HostRuntime) {
@@ -46,8 +57,8 @@ fn an_edge_reaches_the_heights_of_its_ends(rt: HostRuntime) {
         (7, true, false),
     ] {
         let height = Level { n, d: 2 };
-        assert_eq!(rt; starts_by(&FALLING, &height), starts, "at {n} / 2");
-        assert_eq!(rt; ends_from(&FALLING, &height), ends, "at {n} / 2");
+        assert!(rt; starts_by(&FALLING, &height) == starts, "at {n} / 2");
+        assert!(rt; ends_from(&FALLING, &height) == ends, "at {n} / 2");
     }
 }
 
@@ -58,27 +69,24 @@ fn heights_compare_over_any_divisors(rt: HostRuntime) {
         n: 4_002_000_000_000,
         d: 4_000_000_000,
     };
-    assert_eq!(rt; cmp_level(&half, &same), Ordering::Equal);
-    assert_eq!(rt;
-        cmp_level(&half, &Level { n: 10_006, d: 10 }),
-        Ordering::Less
-    );
-    assert_eq!(rt;
-        cmp_level(&half, &Level { n: 3001, d: 3 }),
-        Ordering::Greater
-    );
+    assert!(rt; cmp_level(&half, &same) == Ordering::Equal);
+    assert!(rt; cmp_level(&half, &Level { n: 10_006, d: 10 }) == Ordering::Less);
+    assert!(rt; cmp_level(&half, &Level { n: 3001, d: 3 }) == Ordering::Greater);
 }
 
 #[test]
 fn edges_lie_left_right_and_on(rt: HostRuntime) {
-    assert_eq!(rt; cmp_x_at(&E, &F, &ONE), Ordering::Less);
-    assert_eq!(rt; cmp_x_at(&F, &E, &ONE), Ordering::Greater);
-    assert_eq!(rt; cmp_x_at(&F, &G, &ONE), Ordering::Equal);
-    assert_eq!(rt; cmp_slope(&F, &G), Ordering::Less);
-    assert_eq!(rt; cmp_slope(&E, &E), Ordering::Equal);
-    assert_eq!(rt; side(&E, Pt { x: 0, y: 1 }), 1);
-    assert_eq!(rt; side(&E, Pt { x: 1, y: 0 }), -1);
-    assert_eq!(rt; side(&E, Pt { x: 2, y: 6 }), 0);
+    assert!(rt; cmp_x_at(&E, &F, &ONE) == Ordering::Less);
+    assert!(rt; cmp_x_at(&F, &E, &ONE) == Ordering::Greater);
+    assert!(rt; cmp_x_at(&F, &G, &ONE) == Ordering::Equal);
+    assert!(rt; cmp_slope(&F, &G) == Ordering::Less);
+    assert!(rt; cmp_slope(&E, &E) == Ordering::Equal);
+    let sides = [
+        side(&E, Pt { x: 0, y: 1 }),
+        side(&E, Pt { x: 1, y: 0 }),
+        side(&E, Pt { x: 2, y: 6 }),
+    ];
+    assert!(rt; sides == [1, -1, 0]);
 }
 
 #[test]
@@ -92,46 +100,41 @@ fn squares_meet_edges_that_touch_them(rt: HostRuntime) {
         (-1, 14, Half::Whole, 3, false),
         (4, 6, Half::Whole, 0, true),
     ] {
-        assert_eq!(rt;
-            box_meets(&SLANTED, Pt { x, y }, half, width),
-            meets,
-            "at {x}, {y}, {half:?}, {width}"
+        assert!(rt;
+            box_meets(&SLANTED, Pt { x, y }, half, width) == meets,
+            "at {x}, {y}, {width}"
         );
     }
 }
 
+const ROUND_RISING: [Pt; 6] = [
+    Pt { x: -1, y: -1 },
+    Pt { x: 1, y: -1 },
+    Pt { x: 11, y: 19 },
+    Pt { x: 11, y: 21 },
+    Pt { x: 9, y: 21 },
+    Pt { x: -1, y: 1 },
+];
+
+const ROUND_LEANING: [Pt; 6] = [
+    Pt { x: -1, y: -1 },
+    Pt { x: 1, y: -1 },
+    Pt { x: 1, y: 1 },
+    Pt { x: -9, y: 21 },
+    Pt { x: -11, y: 21 },
+    Pt { x: -11, y: 19 },
+];
+
+const ROUND_FLAT: [Pt; 4] = [
+    Pt { x: -7, y: -2 },
+    Pt { x: 7, y: -2 },
+    Pt { x: 7, y: 2 },
+    Pt { x: -7, y: 2 },
+];
+
 #[test]
 fn rings_are_rectangles_or_hexagons(rt: HostRuntime) {
-    let right = Edge {
-        a: Pt { x: 10, y: 20 },
-        b: Pt { x: 0, y: 0 },
-    };
-    let wanted = [
-        at(-1, -1),
-        at(1, -1),
-        at(11, 19),
-        at(11, 21),
-        at(9, 21),
-        at(-1, 1),
-    ];
-    assert_eq!(rt; ring(&right, 1).as_slice(), wanted.as_slice());
-    let left = Edge {
-        a: Pt { x: 0, y: 0 },
-        b: Pt { x: -10, y: 20 },
-    };
-    let wanted = [
-        at(-1, -1),
-        at(1, -1),
-        at(1, 1),
-        at(-9, 21),
-        at(-11, 21),
-        at(-11, 19),
-    ];
-    assert_eq!(rt; ring(&left, 1).as_slice(), wanted.as_slice());
-    let flat = Edge {
-        a: Pt { x: 5, y: 0 },
-        b: Pt { x: -5, y: 0 },
-    };
-    let wanted = [at(-7, -2), at(7, -2), at(7, 2), at(-7, 2)];
-    assert_eq!(rt; ring(&flat, 2).as_slice(), wanted.as_slice());
+    assert!(rt; ring(&RISING, 1).as_slice() == ROUND_RISING.as_slice());
+    assert!(rt; ring(&LEANING, 1).as_slice() == ROUND_LEANING.as_slice());
+    assert!(rt; ring(&FLAT, 2).as_slice() == ROUND_FLAT.as_slice());
 }

@@ -5,8 +5,6 @@
 #[cfg(test)]
 mod builtin_calls;
 #[cfg(test)]
-mod builtins;
-#[cfg(test)]
 mod circles;
 #[cfg(test)]
 mod desks;
@@ -24,6 +22,8 @@ mod operand_kinds;
 mod operations;
 #[cfg(test)]
 mod outlines;
+#[cfg(test)]
+mod rows;
 #[cfg(test)]
 mod statuses;
 #[cfg(test)]

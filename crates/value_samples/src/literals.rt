@@ -1,69 +1,73 @@
 //! Literals of numbers, and the texts of numbers.
 
-use scad_num::{Num, NumFault, is_literal, literal_len, parse_decimal};
-use std::test::Fail;
+use scad_num::{Num, is_literal, literal_len, parse_decimal};
+use std::alloc::Global;
+
+/// What stands for a text that isn't one literal, and for a number out of range.
+const NO_LITERAL: i64 = -1;
+
+const RANGE: i64 = -2;
 
 /// The millionths that the text writes, where the whole of it is one literal.
-fn millionths(text: &[u8]) -> Option<Result<i64, NumFault>> {
+fn millionths(text: &[u8]) -> i64 {
     if !is_literal(text) {
-        return None;
+        return NO_LITERAL;
     }
-    Some(match parse_decimal(text) {
-        Ok(number) => Ok(number.millionths()),
-        Err(fault) => Err(fault),
-    })
+    match parse_decimal(text) {
+        Ok(number) => number.millionths(),
+        Err(_) => RANGE,
+    }
 }
+
+const LITERALS: [(&str, i64); 42] = [
+    ("0", 0),
+    ("1", 1_000_000),
+    ("1.5", 1_500_000),
+    (".5", 500_000),
+    ("1.", 1_000_000),
+    ("1e3", 1_000_000_000),
+    ("1E-3", 1_000),
+    ("00012.50e+1", 125_000_000),
+    ("3.1415926535", 3_141_593),
+    ("0.0000005", 1),
+    ("0.00000049999999", 0),
+    ("5e-7", 1),
+    ("4.9e-7", 0),
+    ("123e-8", 1),
+    (".00000050", 1),
+    ("1000000000", 1_000_000_000_000_000),
+    ("1000000000.0000004", 1_000_000_000_000_000),
+    ("999999999.9999995", 1_000_000_000_000_000),
+    ("999999999.99999949", 999_999_999_999_999),
+    ("1000000000.0000005", RANGE),
+    ("1000000001", RANGE),
+    ("1e9", 1_000_000_000_000_000),
+    ("1e10", RANGE),
+    ("0.0000000000001e22", 1_000_000_000_000_000),
+    ("0.000000000000000001e24", 1_000_000_000_000),
+    ("1234567890123456789e-12", 1_234_567_890_123),
+    ("0e999999999", 0),
+    ("1e999999999", RANGE),
+    ("1e-999999999", 0),
+    ("1e99999999999999999999999999999999999999999", RANGE),
+    ("1e-99999999999999999999999999999999999999999", 0),
+    ("", NO_LITERAL),
+    (".", NO_LITERAL),
+    (" 1", NO_LITERAL),
+    ("1e", NO_LITERAL),
+    ("1e+", NO_LITERAL),
+    ("1.2.3", NO_LITERAL),
+    ("1a", NO_LITERAL),
+    ("-1", NO_LITERAL),
+    ("+1", NO_LITERAL),
+    (".e5", NO_LITERAL),
+    ("e5", NO_LITERAL),
+];
 
 #[test]
 fn literals_are_rounded_once(rt: HostRuntime) {
-    for (text, wanted) in [
-        ("0", Some(Ok(0))),
-        ("1", Some(Ok(1_000_000))),
-        ("1.5", Some(Ok(1_500_000))),
-        (".5", Some(Ok(500_000))),
-        ("1.", Some(Ok(1_000_000))),
-        ("1e3", Some(Ok(1_000_000_000))),
-        ("1E-3", Some(Ok(1_000))),
-        ("00012.50e+1", Some(Ok(125_000_000))),
-        ("3.1415926535", Some(Ok(3_141_593))),
-        ("0.0000005", Some(Ok(1))),
-        ("0.00000049999999", Some(Ok(0))),
-        ("5e-7", Some(Ok(1))),
-        ("4.9e-7", Some(Ok(0))),
-        ("123e-8", Some(Ok(1))),
-        (".00000050", Some(Ok(1))),
-        ("1000000000", Some(Ok(1_000_000_000_000_000))),
-        ("1000000000.0000004", Some(Ok(1_000_000_000_000_000))),
-        ("999999999.9999995", Some(Ok(1_000_000_000_000_000))),
-        ("999999999.99999949", Some(Ok(999_999_999_999_999))),
-        ("1000000000.0000005", Some(Err(NumFault::Range))),
-        ("1000000001", Some(Err(NumFault::Range))),
-        ("1e9", Some(Ok(1_000_000_000_000_000))),
-        ("1e10", Some(Err(NumFault::Range))),
-        ("0.0000000000001e22", Some(Ok(1_000_000_000_000_000))),
-        ("0.000000000000000001e24", Some(Ok(1_000_000_000_000))),
-        ("1234567890123456789e-12", Some(Ok(1_234_567_890_123))),
-        ("0e999999999", Some(Ok(0))),
-        ("1e999999999", Some(Err(NumFault::Range))),
-        ("1e-999999999", Some(Ok(0))),
-        (
-            "1e99999999999999999999999999999999999999999",
-            Some(Err(NumFault::Range)),
-        ),
-        ("1e-99999999999999999999999999999999999999999", Some(Ok(0))),
-        ("", None),
-        (".", None),
-        (" 1", None),
-        ("1e", None),
-        ("1e+", None),
-        ("1.2.3", None),
-        ("1a", None),
-        ("-1", None),
-        ("+1", None),
-        (".e5", None),
-        ("e5", None),
-    ] {
-        assert_eq!(rt; millionths(text.as_bytes()), wanted, "at {text}");
+    for (text, wanted) in LITERALS {
+        assert!(rt; millionths(text.as_bytes()) == wanted, "at {text}");
     }
 }
 
@@ -80,12 +84,31 @@ fn the_longest_literal_is_read(rt: HostRuntime) {
         ("a1", 0),
         ("..", 0),
     ] {
-        assert_eq!(rt; literal_len(text.as_bytes()), wanted, "at {text}");
+        assert!(rt; literal_len(text.as_bytes()) == wanted, "at {text}");
+    }
+}
+
+/// The text is written behind what stands there.
+fn is_written(alloc: Global, x: Num, wanted: &[u8]) -> bool {
+    let mut out = Vec::new(alloc);
+    if out.push(b'=').is_err() || x.write_to(&mut out).is_err() {
+        return false;
+    }
+    match out.as_slice() {
+        [b'=', rest @ ..] => rest == wanted,
+        _ => false,
+    }
+}
+
+fn has_text(alloc: Global, millionths: i64, wanted: &[u8]) -> bool {
+    match Num::of(millionths) {
+        Ok(x) => x.text().as_slice() == wanted && is_written(alloc, x, wanted),
+        Err(_) => false,
     }
 }
 
 #[test]
-fn texts_have_no_ending_zeros(rt: HostRuntime) -> Result<(), Fail> {
+fn texts_have_no_ending_zeros(rt: HostRuntime) {
     for (millionths, wanted) in [
         (0, "0"),
         (1_000_000, "1"),
@@ -95,14 +118,9 @@ fn texts_have_no_ending_zeros(rt: HostRuntime) -> Result<(), Fail> {
         (1_000_000_000_000_000, "1000000000"),
         (-999_999_999_999_999, "-999999999.999999"),
     ] {
-        let mut out = Vec::new(rt.alloc());
-        out.push(b'=')?;
-        Num::within(millionths).write_to(&mut out)?;
-        assert_eq!(rt; &out.as_slice()[1..], wanted.as_bytes());
-        assert_eq!(rt;
-            Num::within(millionths).text().as_slice(),
-            wanted.as_bytes()
+        assert!(rt;
+            has_text(rt.alloc(), millionths, wanted.as_bytes()),
+            "{wanted}"
         );
     }
-    Ok(())
 }

@@ -6,76 +6,85 @@ use scad_fault::{
     Budget, BudgetKind as Limit, Fault, FaultKind as Kind, OUT_OF_MEMORY, Place, READ_FAULT,
     SetFault, SetKind, Status, Text, WRITE_FAULT, constant_lines,
 };
-use std::process::Abort;
-use std::test::Fail;
+use std::alloc::Global;
 
-fn ends_with(rt: &(impl Abort + AllocGlobal), status: Status, line: &str) -> Result<(), Fail>
-    requires { status ≢ Status.Done }
+fn ends_with(alloc: Global, status: &Status, line: &str) -> bool
+    requires { status.now ≢ Status.Done }
 {
-    let text = status.last_line(rt.alloc())?;
-    assert_eq!(rt; text.as_slice(), line.as_bytes(), "{line}");
-    Ok(())
+    match status.last_line(alloc) {
+        Ok(text) => text.as_slice() == line.as_bytes(),
+        Err(_) => false,
+    }
+}
+
+const FAULTS: [(Kind, &str, &str); 14] = [
+    (Kind::BadText, "", "fault 1 BadText at 1:202\n"),
+    (Kind::Syntax, "", "fault 2 Syntax at 1:202\n"),
+    (Kind::Nesting, "", "fault 3 Nesting at 1:202\n"),
+    (Kind::LeftOut, "hull", "fault 4 LeftOut at 1:202 hull\n"),
+    (
+        Kind::UnknownModule,
+        "f",
+        "fault 5 UnknownModule at 1:202 f\n",
+    ),
+    (
+        Kind::UnknownFunction,
+        "g",
+        "fault 6 UnknownFunction at 1:202 g\n",
+    ),
+    (
+        Kind::BadArgument,
+        "cube",
+        "fault 7 BadArgument at 1:202 cube\n",
+    ),
+    (Kind::ZeroDivisor, "", "fault 8 ZeroDivisor at 1:202\n"),
+    (Kind::NumberRange, "", "fault 9 NumberRange at 1:202\n"),
+    (Kind::AssertFailed, "", "fault 10 AssertFailed at 1:202\n"),
+    (
+        Kind::MixedDimensions,
+        "",
+        "fault 11 MixedDimensions at 1:202\n",
+    ),
+    (Kind::NotClosed, "f", "fault 12 NotClosed at 1:202\n"),
+    (
+        Kind::CoordinateRange,
+        "",
+        "fault 13 CoordinateRange at 1:202\n",
+    ),
+    (Kind::ZeroStep, "", "fault 14 ZeroStep at 1:202\n"),
+];
+
+fn fault_ends_with(alloc: Global, kind: Kind, name: &str, line: &str) -> bool {
+    let at = Place { line: 1, col: 202 };
+    match Text::of(alloc, name.as_bytes()) {
+        Ok(name) => ends_with(alloc, &Status::Source(Fault { kind, at, name }), line),
+        Err(_) => false,
+    }
 }
 
 #[test]
-fn faults_end_with_their_lines(rt: HostRuntime) -> Result<(), Fail> {
-    let at = Place { line: 1, col: 202 };
-    let cases = [
-        (Kind::BadText, "", "fault 1 BadText at 1:202\n"),
-        (Kind::Syntax, "", "fault 2 Syntax at 1:202\n"),
-        (Kind::Nesting, "", "fault 3 Nesting at 1:202\n"),
-        (Kind::LeftOut, "hull", "fault 4 LeftOut at 1:202 hull\n"),
-        (
-            Kind::UnknownModule,
-            "f",
-            "fault 5 UnknownModule at 1:202 f\n",
-        ),
-        (
-            Kind::UnknownFunction,
-            "g",
-            "fault 6 UnknownFunction at 1:202 g\n",
-        ),
-        (
-            Kind::BadArgument,
-            "cube",
-            "fault 7 BadArgument at 1:202 cube\n",
-        ),
-        (Kind::ZeroDivisor, "", "fault 8 ZeroDivisor at 1:202\n"),
-        (Kind::NumberRange, "", "fault 9 NumberRange at 1:202\n"),
-        (Kind::AssertFailed, "", "fault 10 AssertFailed at 1:202\n"),
-        (
-            Kind::MixedDimensions,
-            "",
-            "fault 11 MixedDimensions at 1:202\n",
-        ),
-        (Kind::NotClosed, "f", "fault 12 NotClosed at 1:202\n"),
-        (
-            Kind::CoordinateRange,
-            "",
-            "fault 13 CoordinateRange at 1:202\n",
-        ),
-        (Kind::ZeroStep, "", "fault 14 ZeroStep at 1:202\n"),
-    ];
-    for (kind, name, last_line) in cases {
-        let name = Text::of(rt.alloc(), name.as_bytes())?;
-        ends_with(&rt, Status::Source(Fault { kind, at, name }), last_line)?;
+fn faults_end_with_their_lines(rt: HostRuntime) {
+    for (kind, name, line) in FAULTS {
+        assert!(rt; fault_ends_with(rt.alloc(), kind, name, line), "{line}");
     }
     let unnamed = Fault::unnamed(rt.alloc(), Kind::MixedDimensions, Place::START);
-    ends_with(
-        &rt,
-        Status::Source(unnamed),
-        "fault 11 MixedDimensions at 1:1\n",
-    )
+    assert!(rt;
+        ends_with(
+            rt.alloc(),
+            &Status::Source(unnamed),
+            "fault 11 MixedDimensions at 1:1\n"
+        )
+    );
 }
 
 #[test]
-fn budgets_end_with_their_lines(rt: HostRuntime) -> Result<(), Fail> {
+fn budgets_end_with_their_lines(rt: HostRuntime) {
     let at = Place { line: 1, col: 27 };
     let edges = Budget::of_layer(Limit::LayerEdges, 4, 20010);
     let crossings = Budget::of_layer(Limit::LayerCrossings, 0, 2000001);
     let moves = Budget::of_layer(Limit::LayerMoves, 4294967295, 18446744073709551615);
     let most = "budget 9 LayerMoves layer 4294967295 count 18446744073709551615\n";
-    let cases = [
+    for (budget, line) in [
         (Budget::source_long(), "budget 1 SourceLong\n"),
         (Budget::placed(Limit::Steps, at), "budget 2 Steps at 1:27\n"),
         (Budget::placed(Limit::Depth, at), "budget 3 Depth at 1:27\n"),
@@ -91,54 +100,69 @@ fn budgets_end_with_their_lines(rt: HostRuntime) -> Result<(), Fail> {
         (edges, "budget 7 LayerEdges layer 4 count 20010\n"),
         (crossings, "budget 8 LayerCrossings layer 0 count 2000001\n"),
         (moves, most),
-    ];
-    for (budget, last_line) in cases {
-        ends_with(&rt, Status::Over(budget), last_line)?;
+    ] {
+        assert!(rt;
+            ends_with(rt.alloc(), &Status::Over(budget), line),
+            "{line}"
+        );
     }
-    Ok(())
+}
+
+const SETTINGS: [(SetKind, &str, i64, &str); 5] = [
+    (SetKind::NotToml, "", 0, "settings 1 NotToml\n"),
+    (
+        SetKind::UnknownKey,
+        "speed",
+        0,
+        "settings 2 UnknownKey speed\n",
+    ),
+    (SetKind::NotWhole, "walls", 0, "settings 3 NotWhole walls\n"),
+    (
+        SetKind::OutOfRange,
+        "bed",
+        201,
+        "settings 4 OutOfRange bed 201\n",
+    ),
+    (
+        SetKind::OutOfRange,
+        "walls",
+        -1,
+        "settings 4 OutOfRange walls -1\n",
+    ),
+];
+
+fn settings_end_with(alloc: Global, kind: SetKind, key: &str, value: i64, line: &str) -> bool {
+    match Text::of(alloc, key.as_bytes()) {
+        Ok(key) => ends_with(
+            alloc,
+            &Status::Settings(SetFault { kind, key, value }),
+            line,
+        ),
+        Err(_) => false,
+    }
 }
 
 #[test]
-fn settings_faults_and_other_statuses_end_with_their_lines(rt: HostRuntime) -> Result<(), Fail> {
-    let cases = [
-        (SetKind::NotToml, "", 0, "settings 1 NotToml\n"),
-        (
-            SetKind::UnknownKey,
-            "speed",
-            0,
-            "settings 2 UnknownKey speed\n",
-        ),
-        (SetKind::NotWhole, "walls", 0, "settings 3 NotWhole walls\n"),
-        (
-            SetKind::OutOfRange,
-            "bed",
-            201,
-            "settings 4 OutOfRange bed 201\n",
-        ),
-        (
-            SetKind::OutOfRange,
-            "walls",
-            -1,
-            "settings 4 OutOfRange walls -1\n",
-        ),
-    ];
-    for (kind, key, value, last_line) in cases {
-        let key = Text::of(rt.alloc(), key.as_bytes())?;
-        ends_with(
-            &rt,
-            Status::Settings(SetFault { kind, key, value }),
-            last_line,
-        )?;
+fn settings_faults_end_with_their_lines(rt: HostRuntime) {
+    for (kind, key, value, line) in SETTINGS {
+        assert!(rt;
+            settings_end_with(rt.alloc(), kind, key, value, line),
+            "{line}"
+        );
     }
-    ends_with(&rt, Status::Usage, "usage: scadslice COMMAND\n")?;
-    ends_with(&rt, Status::Read, "read fault\n")?;
-    ends_with(&rt, Status::Write, "write fault\n")?;
-    ends_with(&rt, Status::Memory, "out of memory\n")?;
+}
+
+#[test]
+fn other_statuses_end_with_their_lines(rt: HostRuntime) {
+    let alloc = rt.alloc();
+    assert!(rt; ends_with(alloc, &Status::Usage, "usage: scadslice COMMAND\n"));
+    assert!(rt; ends_with(alloc, &Status::Read, "read fault\n"));
+    assert!(rt; ends_with(alloc, &Status::Write, "write fault\n"));
+    assert!(rt; ends_with(alloc, &Status::Memory, "out of memory\n"));
     constant_lines();
-    assert_eq!(rt; READ_FAULT, b"read fault\n".as_slice());
-    assert_eq!(rt; WRITE_FAULT, b"write fault\n".as_slice());
-    assert_eq!(rt; OUT_OF_MEMORY, b"out of memory\n".as_slice());
-    Ok(())
+    assert!(rt; READ_FAULT == b"read fault\n".as_slice());
+    assert!(rt; WRITE_FAULT == b"write fault\n".as_slice());
+    assert!(rt; OUT_OF_MEMORY == b"out of memory\n".as_slice());
 }
 
 #[test]
@@ -150,12 +174,15 @@ fn each_status_has_its_number(rt: HostRuntime) {
         key: Text::empty(alloc),
         value: 0,
     };
-    assert_eq!(rt; Status::Done.code(), 0);
-    assert_eq!(rt; Status::Source(fault).code(), 1);
-    assert_eq!(rt; Status::Usage.code(), 2);
-    assert_eq!(rt; Status::Settings(set_fault).code(), 3);
-    assert_eq!(rt; Status::Read.code(), 4);
-    assert_eq!(rt; Status::Write.code(), 5);
-    assert_eq!(rt; Status::Over(Budget::source_long()).code(), 6);
-    assert_eq!(rt; Status::Memory.code(), 7);
+    let codes = [
+        Status::Done.code(),
+        Status::Source(fault).code(),
+        Status::Usage.code(),
+        Status::Settings(set_fault).code(),
+        Status::Read.code(),
+        Status::Write.code(),
+        Status::Over(Budget::source_long()).code(),
+        Status::Memory.code(),
+    ];
+    assert!(rt; codes == [0, 1, 2, 3, 4, 5, 6, 7]);
 }

@@ -5,7 +5,7 @@ ghost use Rattle.scad_table.specs.Table.{entries, ascends};
 
 use scad_fault::{Chars, FileName, Text};
 use scad_table::{Row, find};
-use std::test::Fail;
+use std::alloc::Global;
 
 const KEYS: [Row; 7] = [
     Row { name: "", id: 9 },
@@ -35,44 +35,71 @@ fn keys() -> &'static [Row]
     &KEYS
 }
 
-#[test]
-fn what_a_text_is_made_of_is_lent_and_given_back(rt: HostRuntime) -> Result<(), Fail> {
-    let text = Text::of(rt.alloc(), b"a\xff")?;
-    assert_eq!(rt; text.as_slice(), b"a\xff".as_slice());
-    let same = Text::from_vec(text.into_vec());
-    assert_eq!(rt; same.as_slice(), b"a\xff".as_slice());
-    assert!(rt; Text::empty(rt.alloc()).as_slice().is_empty());
-    let name = FileName::of(rt.alloc(), "é.scad")?;
-    assert_eq!(rt; name.as_str(), "é.scad");
-    let same = FileName::from_string(name.into_string());
-    assert_eq!(rt; same.as_str(), "é.scad");
-    let chars = Chars::of(rt.alloc(), &['a', 'é', '\u{10ffff}'])?;
-    assert_eq!(rt; chars.as_slice(), ['a', 'é', '\u{10ffff}'].as_slice());
-    let same = Chars::from_vec(chars.into_vec());
-    assert_eq!(rt; same.as_slice(), ['a', 'é', '\u{10ffff}'].as_slice());
-    assert!(rt; Chars::empty(rt.alloc()).as_slice().is_empty());
-    Ok(())
+const BYTES: [u8; 2] = [b'a', 0xff];
+
+fn text_comes_back(alloc: Global) -> bool {
+    match Text::of(alloc, &BYTES) {
+        Ok(text) => {
+            text.as_slice() == BYTES.as_slice()
+                && Text::from_vec(text.into_vec()).as_slice() == BYTES.as_slice()
+        }
+        Err(_) => false,
+    }
+}
+
+const NAME: &str = "é.scad";
+
+fn file_name_comes_back(alloc: Global) -> bool {
+    match FileName::of(alloc, NAME) {
+        Ok(name) => {
+            name.as_str() == NAME && FileName::from_string(name.into_string()).as_str() == NAME
+        }
+        Err(_) => false,
+    }
+}
+
+const CHARS: [char; 3] = ['a', 'é', '\u{10ffff}'];
+
+fn chars_come_back(alloc: Global) -> bool {
+    match Chars::of(alloc, &CHARS) {
+        Ok(chars) => {
+            chars.as_slice() == CHARS.as_slice()
+                && Chars::from_vec(chars.into_vec()).as_slice() == CHARS.as_slice()
+        }
+        Err(_) => false,
+    }
 }
 
 #[test]
+fn what_a_text_is_made_of_is_lent_and_given_back(rt: HostRuntime) {
+    let alloc = rt.alloc();
+    assert!(rt; text_comes_back(alloc));
+    assert!(rt; file_name_comes_back(alloc));
+    assert!(rt; chars_come_back(alloc));
+    assert!(rt; Text::empty(alloc).as_slice().is_empty());
+    assert!(rt; Chars::empty(alloc).as_slice().is_empty());
+}
+
+const CASES: [(&str, Option<u16>); 12] = [
+    ("", Some(9)),
+    ("for", Some(4)),
+    ("function", Some(2)),
+    ("if", Some(65535)),
+    ("include", Some(0)),
+    ("includes", Some(5)),
+    ("é", Some(3)),
+    ("fo", None),
+    ("fora", None),
+    ("If", None),
+    ("zz", None),
+    ("è", None),
+];
+
+#[test]
 fn listed_names_are_found_and_no_others(rt: HostRuntime) {
-    let cases = [
-        ("", Some(9)),
-        ("for", Some(4)),
-        ("function", Some(2)),
-        ("if", Some(65535)),
-        ("include", Some(0)),
-        ("includes", Some(5)),
-        ("é", Some(3)),
-        ("fo", None),
-        ("fora", None),
-        ("If", None),
-        ("zz", None),
-        ("è", None),
-    ];
-    for (name, id) in cases {
-        assert_eq!(rt; find(keys(), name.as_bytes()), id, "{name}");
+    for (name, id) in CASES {
+        assert!(rt; find(keys(), name.as_bytes()) == id, "{name}");
     }
-    assert_eq!(rt; find(keys(), b"\xff"), None);
-    assert_eq!(rt; find(&[], b"for"), None);
+    assert!(rt; find(keys(), b"\xff").is_none());
+    assert!(rt; find(&[], b"for").is_none());
 }

@@ -3,9 +3,8 @@
 use scad_fault::Chars;
 use scad_num::Num;
 use scad_value::{Value, Values, number_of};
-use std::alloc::{AllocError, Global};
+use std::alloc::Global;
 use std::mem;
-use std::test::Fail;
 
 /// What is read so far of `u`, `t`, `f`, millionths before `n` or, if negative, before `m`, characters between `'`,
 /// elements between brackets, and `r` behind three numbers.
@@ -20,90 +19,92 @@ struct Reader {
 }
 
 impl Reader {
-    fn number(&mut self, sign: i64) -> Result<(), Fail> {
-        let millionths = mem::replace(&mut self.millionths, 0);
-        let number = Num::of(if sign < 0 {
-            0i64.saturating_sub(millionths)
-        } else {
-            millionths
-        })?;
-        self.done.push(Value::Number(number))?;
-        Ok(())
+    fn push(&mut self, v: Value) -> Option<()> {
+        self.done.push(v).ok()
     }
 
-    fn pop_number(&mut self) -> Result<Num, Fail> {
-        let Some(v) = self.done.pop() else {
-            return Err(Fail::new("no value"));
-        };
-        match number_of(&v) {
-            Some(n) => Ok(n),
-            None => Err(Fail::new("no number")),
-        }
+    fn number(&mut self, millionths: i64) -> Option<()> {
+        self.millionths = 0;
+        let number = Num::of(millionths).ok()?;
+        self.push(Value::Number(number))
     }
 
-    fn range(&mut self) -> Result<(), Fail> {
+    fn pop_number(&mut self) -> Option<Num> {
+        let v = self.done.pop()?;
+        number_of(&v)
+    }
+
+    fn range(&mut self) -> Option<()> {
         let end = self.pop_number()?;
         let step = self.pop_number()?;
         let start = self.pop_number()?;
-        self.done.push(Value::Range(start, step, end))?;
-        Ok(())
+        self.push(Value::Range(start, step, end))
     }
 
-    fn quote(&mut self) -> Result<(), AllocError> {
-        if self.quoted {
-            let chars = mem::replace(&mut self.chars, Vec::new(self.alloc));
-            self.done.push(Value::Str(Chars::from_vec(chars)))?;
-        }
+    fn quote(&mut self) -> Option<()> {
         self.quoted = !self.quoted;
-        Ok(())
+        if self.quoted {
+            return Some(());
+        }
+        let chars = mem::replace(&mut self.chars, Vec::new(self.alloc));
+        self.push(Value::Str(Chars::from_vec(chars)))
     }
 
-    fn close(&mut self) -> Result<(), Fail> {
-        let Some(outer) = self.open.pop() else {
-            return Err(Fail::new("no open bracket"));
-        };
+    fn close(&mut self) -> Option<()> {
+        let outer = self.open.pop()?;
         let inner = mem::replace(&mut self.done, outer);
-        self.done.push(Value::List(inner))?;
-        Ok(())
+        self.push(Value::List(inner))
     }
 
-    fn open(&mut self) -> Result<(), AllocError> {
+    fn open(&mut self) -> Option<()> {
         let outer = mem::replace(&mut self.done, Values::new(self.alloc));
-        self.open.push(outer)?;
-        Ok(())
+        self.open.push(outer).ok()
     }
 
-    fn step(&mut self, c: char) -> Result<(), Fail> {
+    fn digit(&mut self, c: char) -> Option<()> {
+        let digit = c.to_digit(10)?;
+        self.millionths = self
+            .millionths
+            .saturating_mul(10)
+            .saturating_add(i64::from(digit));
+        Some(())
+    }
+
+    fn step(&mut self, c: char) -> Option<()> {
         match c {
-            'u' => self.done.push(Value::Undef)?,
-            't' => self.done.push(Value::Bool(true))?,
-            'f' => self.done.push(Value::Bool(false))?,
-            'n' => self.number(1)?,
-            'm' => self.number(-1)?,
-            'r' => self.range()?,
-            '[' => self.open()?,
-            ']' => self.close()?,
-            _ => {
-                let digit = (c as u32).saturating_sub('0' as u32) as i64;
-                self.millionths = self.millionths.saturating_mul(10).saturating_add(digit);
-            }
+            'u' => self.push(Value::Undef),
+            't' => self.push(Value::Bool(true)),
+            'f' => self.push(Value::Bool(false)),
+            'n' => self.number(self.millionths),
+            'm' => self.number(0i64.saturating_sub(self.millionths)),
+            'r' => self.range(),
+            '[' => self.open(),
+            ']' => self.close(),
+            _ => self.digit(c),
         }
-        Ok(())
     }
 
-    fn read(&mut self, c: char) -> Result<(), Fail> {
+    fn read(&mut self, c: char) -> Option<()> {
         if c == '\'' {
-            self.quote()?;
+            self.quote()
         } else if self.quoted {
-            self.chars.push(c)?;
+            self.chars.push(c).ok()
         } else {
-            self.step(c)?;
+            self.step(c)
         }
-        Ok(())
+    }
+
+    /// The values, if nothing is left half read.
+    fn values(&mut self) -> Option<Values> {
+        if self.quoted || !self.open.is_empty() {
+            return None;
+        }
+        Some(mem::replace(&mut self.done, Values::new(self.alloc)))
     }
 }
 
-pub(crate) fn value(alloc: Global, form: &str) -> Result<Value, Fail> {
+/// The values of the form, one behind the other; none where it is no such form.
+pub(crate) fn values(alloc: Global, form: &str) -> Option<Values> {
     let mut reader = Reader {
         alloc,
         open: Vec::new(alloc),
@@ -115,8 +116,5 @@ pub(crate) fn value(alloc: Global, form: &str) -> Result<Value, Fail> {
     for c in form.chars() {
         reader.read(c)?;
     }
-    match reader.done.pop() {
-        Some(v) => Ok(v),
-        None => Err(Fail::new("no value")),
-    }
+    reader.values()
 }

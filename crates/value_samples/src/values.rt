@@ -1,163 +1,115 @@
-//! Values, their operators, parts and texts.
+//! Values, their operators, parts, texts and sizes, and the functions of the language.
 
+use crate::builtin_calls::CALLS;
 use crate::operand_kinds::{KINDS, PREFIXED, SIGNS};
-use crate::operations::{OPERATIONS, PARTS, VALUES};
-use crate::value_reader::value;
-use scad_ast::{BinOp, UnOp};
-use scad_fault::Text;
-use scad_value::{
-    Value, ValueFault, binary, copy, elements_of, equal, index, made, nesting, number_of, text_of,
-    unary,
-};
+use crate::operations::{OPERATIONS, PARTS, TEXTS};
+use crate::rows::{answer, cell, holds, is_told};
+use crate::value_reader::values;
+use scad_value::{Value, elements_of, made, nesting, number_of};
 use std::alloc::Global;
-use std::test::Fail;
+use std::process::Abort;
 
-/// The text of the value, or the name of the fault.
-fn shown(alloc: Global, answer: Result<Value, ValueFault>) -> Result<Text, Fail> {
-    let text = match answer {
-        Ok(v) => text_of(alloc, &v)?,
-        Err(ValueFault::NumberRange) => Text::of(alloc, b"range")?,
-        Err(ValueFault::ZeroDivisor) => Text::of(alloc, b"zero")?,
-        Err(ValueFault::Memory) => Text::of(alloc, b"memory")?,
-    };
-    Ok(text)
-}
-
-fn operator(sign: &str) -> Result<BinOp, Fail> {
-    match sign {
-        "||" => Ok(BinOp::Or),
-        "&&" => Ok(BinOp::And),
-        "==" => Ok(BinOp::Eq),
-        "!=" => Ok(BinOp::Ne),
-        "<" => Ok(BinOp::Lt),
-        "<=" => Ok(BinOp::Le),
-        ">" => Ok(BinOp::Gt),
-        ">=" => Ok(BinOp::Ge),
-        "+" => Ok(BinOp::Add),
-        "-" => Ok(BinOp::Sub),
-        "*" => Ok(BinOp::Mul),
-        "/" => Ok(BinOp::Div),
-        "%" => Ok(BinOp::Rem),
-        _ => Err(Fail::new("no operator")),
+fn all_hold(rt: &(impl Abort + AllocGlobal), rows: &str) {
+    for row in rows.lines() {
+        assert!(rt; holds(rt.alloc(), row), "{row}");
     }
-}
-
-fn count(digits: &str) -> Result<u64, Fail> {
-    digits.parse::<u64>().map_err(|_| Fail::new("not a count"))
-}
-
-/// What the operation of a row gives, and what is wanted.
-fn operated<'a>(alloc: Global, row: &'a str) -> Result<(Text, &'a str), Fail> {
-    let (sign, rest) = row.split_once(';').ok_or("no operator")?;
-    let (a, rest) = rest.split_once(';').ok_or("no first operand")?;
-    let (b, wanted) = rest.split_once(';').ok_or("no second operand")?;
-    let answer = binary(alloc, operator(sign)?, &value(alloc, a)?, &value(alloc, b)?);
-    Ok((shown(alloc, answer)?, wanted))
 }
 
 #[test]
-fn operators_give_what_the_reference_gives(rt: HostRuntime) -> Result<(), Fail> {
-    for row in OPERATIONS.lines() {
-        let (text, wanted) = operated(rt.alloc(), row)?;
-        assert_eq!(rt; text.as_slice(), wanted.as_bytes(), "{row}");
-    }
-    Ok(())
+fn operators_give_what_the_reference_gives(rt: HostRuntime) {
+    all_hold(&rt, OPERATIONS);
 }
 
-/// What the operator gives between the operands is wanted.
-fn is_between(alloc: Global, sign: &str, a: &Value, b: &Value, wanted: &str) -> Result<bool, Fail> {
-    let text = shown(alloc, binary(alloc, operator(sign)?, a, b))?;
-    Ok(text.as_slice() == wanted.as_bytes())
+#[test]
+fn operators_stand_before_every_kind(rt: HostRuntime) {
+    all_hold(&rt, PREFIXED);
 }
 
-/// Each operator between the operands of a row gives what the row wants of it.
-fn are_between(alloc: Global, row: &str) -> Result<bool, Fail> {
-    let (a, rest) = row.split_once(';').ok_or("no first operand")?;
-    let (b, rest) = rest.split_once(';').ok_or("no second operand")?;
-    let a = value(alloc, a)?;
-    let b = value(alloc, b)?;
-    let mut count = 0usize;
-    for (sign, wanted) in SIGNS.split(' ').zip(rest.split(';')) {
-        if !is_between(alloc, sign, &a, &b, wanted)? {
-            return Ok(false);
+#[test]
+fn values_have_parts(rt: HostRuntime) {
+    all_hold(&rt, PARTS);
+}
+
+#[test]
+fn values_have_texts_and_negatives(rt: HostRuntime) {
+    all_hold(&rt, TEXTS);
+}
+
+#[test]
+fn calls_give_what_the_table_has(rt: HostRuntime) {
+    all_hold(&rt, CALLS);
+}
+
+/// Each sign between the operands gives what stands at its place.
+fn are_told(alloc: Global, operands: &[Value], wanted: &str) -> bool {
+    let mut rest = wanted;
+    for sign in SIGNS {
+        let (first, others) = cell(rest);
+        if !is_told(alloc, &answer(alloc, sign, operands), first) {
+            return false;
         }
-        count = count.saturating_add(1);
+        rest = others;
     }
-    Ok(count == 8)
+    rest.is_empty()
+}
+
+fn are_between(alloc: Global, row: &str) -> bool {
+    let (form, wanted) = cell(row);
+    match values(alloc, form) {
+        Some(operands) => are_told(alloc, operands.as_slice(), wanted),
+        None => false,
+    }
 }
 
 #[test]
-fn operators_judge_every_pair_of_kinds(rt: HostRuntime) -> Result<(), Fail> {
+fn operators_judge_every_pair_of_kinds(rt: HostRuntime) {
     for row in KINDS.lines() {
-        assert!(rt; are_between(rt.alloc(), row)?, "{row}");
-    }
-    Ok(())
-}
-
-fn prefix(sign: &str) -> Result<UnOp, Fail> {
-    match sign {
-        "-" => Ok(UnOp::Minus),
-        "+" => Ok(UnOp::Plus),
-        "!" => Ok(UnOp::Not),
-        _ => Err(Fail::new("no operator")),
+        assert!(rt; are_between(rt.alloc(), row), "{row}");
     }
 }
 
-/// What the operator of a row gives before the operand, and what is wanted.
-fn prefixed<'a>(alloc: Global, row: &'a str) -> Result<(Text, &'a str), Fail> {
-    let (sign, rest) = row.split_once(';').ok_or("no operator")?;
-    let (a, wanted) = rest.split_once(';').ok_or("no operand")?;
-    let answer = unary(alloc, prefix(sign)?, &value(alloc, a)?);
-    Ok((shown(alloc, answer)?, wanted))
+/// A value, whether it is a number, how many elements and characters it has, and how deep it nests.
+const SIZES: [(&str, bool, u64, u32); 24] = [
+    ("0n", true, 0, 0),
+    ("1000000n", true, 0, 0),
+    ("500000m", true, 0, 0),
+    ("1000000000000000n", true, 0, 0),
+    ("1000000000000000m", true, 0, 0),
+    ("1n", true, 0, 0),
+    ("1m", true, 0, 0),
+    ("1234567n", true, 0, 0),
+    ("100000n", true, 0, 0),
+    ("1200000m", true, 0, 0),
+    ("10000000n", true, 0, 0),
+    ("'ab'", false, 2, 0),
+    ("'aé😀'", false, 3, 0),
+    ("[]", false, 0, 1),
+    ("[1000000n'a'['bc'[]]]", false, 8, 3),
+    ("[utf1000000m500000n2000000nr]", false, 4, 1),
+    ("[[[[]]]]", false, 3, 4),
+    ("['']", false, 1, 1),
+    ("''", false, 0, 0),
+    ("u", false, 0, 0),
+    ("t", false, 0, 0),
+    ("f", false, 0, 0),
+    ("0n1000000n9500000nr", false, 0, 0),
+    ("['é'0n1m1000000000000000nr['b']]", false, 6, 2),
+];
+
+fn is_sized(v: &Value, number: bool, size: u64, depth: u32) -> bool {
+    number_of(v).is_some() == number
+        && elements_of(v).is_some() == (depth > 0)
+        && made(v) == size
+        && nesting(v) == depth
 }
 
 #[test]
-fn operators_stand_before_every_kind(rt: HostRuntime) -> Result<(), Fail> {
-    for row in PREFIXED.lines() {
-        let (text, wanted) = prefixed(rt.alloc(), row)?;
-        assert_eq!(rt; text.as_slice(), wanted.as_bytes(), "{row}");
+fn values_have_sizes(rt: HostRuntime) {
+    for (form, number, size, depth) in SIZES {
+        let all = values(rt.alloc(), form).expect(&rt, "values");
+        for v in &all {
+            assert!(rt; is_sized(v, number, size, depth), "{form}");
+        }
+        assert!(rt; all.len() == 1, "{form}");
     }
-    Ok(())
-}
-
-#[test]
-fn values_have_parts(rt: HostRuntime) -> Result<(), Fail> {
-    let alloc = rt.alloc();
-    for row in PARTS.lines() {
-        let (a, rest) = row.split_once(';').ok_or("no value")?;
-        let (i, wanted) = rest.split_once(';').ok_or("no index")?;
-        let part = index(alloc, &value(alloc, a)?, &value(alloc, i)?)?;
-        let text = text_of(alloc, &part)?;
-        assert_eq!(rt; text.as_slice(), wanted.as_bytes(), "{row}");
-    }
-    Ok(())
-}
-
-/// The text and the negative of a value are these.
-fn has_texts(alloc: Global, v: &Value, text: &str, negative: &str) -> Result<bool, Fail> {
-    let opposite = shown(alloc, unary(alloc, UnOp::Minus, v))?;
-    let text_is = text_of(alloc, v)?.as_slice() == text.as_bytes();
-    Ok(text_is && opposite.as_slice() == negative.as_bytes())
-}
-
-fn has_sizes(v: &Value, size: u64, depth: u64) -> bool {
-    made(v) == size && u64::from(nesting(v)) == depth && elements_of(v).is_some() == (depth > 0)
-}
-
-#[test]
-fn values_have_texts_negatives_and_sizes(rt: HostRuntime) -> Result<(), Fail> {
-    let alloc = rt.alloc();
-    for row in VALUES.lines() {
-        let (a, rest) = row.split_once(';').ok_or("no value")?;
-        let (text, rest) = rest.split_once(';').ok_or("no text")?;
-        let (negative, rest) = rest.split_once(';').ok_or("no negative")?;
-        let (size, depth) = rest.split_once(';').ok_or("no sizes")?;
-        let v = copy(alloc, &value(alloc, a)?)?;
-        assert!(rt; equal(&v, &value(alloc, a)?), "{row}");
-        assert!(rt; has_texts(alloc, &v, text, negative)?, "{row}");
-        assert!(rt; has_sizes(&v, count(size)?, count(depth)?), "{row}");
-        let is_number = negative != "undef" && depth == "0";
-        assert!(rt; number_of(&v).is_some() == is_number, "{row}");
-    }
-    Ok(())
 }
