@@ -1,11 +1,11 @@
 -- The order of ends is total, and ends that tie lie at one spot.
-use Rattle.std.proofs.Common.{◌≡◌, ℕ, ◌+◌, ◌<◌, ◌≤◌, zero, suc, Bool, true, false, true≢false, cond, ◌&&◌, List, [], ◌∷◌, All, length, refl, sym, ap, ap₂, ◌∙◌, subst, arith}
+use Rattle.std.proofs.Common.{◌≡◌, ℕ, ◌+◌, Bool, true, false, true≢false, cond, ◌&&◌, List, [], ◌∷◌, All, refl, sym, ap, ap₂, ◌∙◌}
 use lib.IntN.{ℤ, pos, ◌*ℤ◌}
 use lib.Signed.{◌<ℤ◌}
 use Rattle.std.specs.Prelude.{map, count_by, int_lt}
 use Rattle.std.specs.List.{AllByRecursion}
 use Rattle.std.specs.List.Sorted.{IsPermutation, IsSorted}
-use Rattle.std.specs.Ordering.{int_cmp, int_eq, ordering_then, ordering_reverse, is_lt, is_eq}
+use Rattle.std.specs.Ordering.{int_cmp, ordering_then, ordering_reverse, is_lt, is_eq}
 use Rattle.std.specs.declared.cmp.Ordering.{Ordering}
 use Rattle.std.specs.declared.cmp.Ordering.TheVariants.{Less, Equal, Greater}
 use Rattle.std.specs.Cmp.{IsTotalOrder}
@@ -15,7 +15,6 @@ use Rattle.std.proofs.lemmas.List.Elements.{recursion_from_All}
 use Rattle.std.proofs.lemmas.List.Sorted.{sum_by-IsPermutation, All-permutation, IsPermutation-map, IsPermutation-trans}
 use Rattle.scad_base.proofs.Tests.{is_lt-int_cmp, int_lt-true, int_lt-less, int_eq-true}
 use Rattle.scad_geom.specs.declared.level.Level.{Level}
-use Rattle.scad_geom.specs.Point.{Point}
 use Rattle.scad_geom.specs.Level.{IsLower, IsSameHeight}
 use Rattle.scad_geom.specs.Balance.{starts_at, ends_at}
 use Rattle.scad_geom.specs.Limits.{coordinate_limit}
@@ -28,7 +27,7 @@ use Rattle.slice_snap.specs.Spots.{point_of, is_same_spot, IsSpotWithin}
 use Rattle.slice_snap.specs.Pieces.{way_of, ways_of}
 use Rattle.slice_snap.specs.Joining.{AreOfOneLevel, IsComparable}
 use Rattle.slice_snap.specs.EndOrder.{spot_cmp, end_cmp, end_of, spots_in, IsEndOf, AreEndsOf, AreInOrder, ties, times_at}
-use Rattle.slice_snap.proofs.SameSpots.{levels_equal, places_equal, same_by_parts, run_above, to_eq}
+use Rattle.slice_snap.proofs.SameSpots.{places_equal, same_by_parts, run_above, to_eq}
 
 -- ---- the order
 abbrev across : End → Level

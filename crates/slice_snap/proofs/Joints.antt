@@ -1,5 +1,7 @@
 -- Where one end and one start alone tie with the end of a piece, its next piece is that which starts there, or none.
 use Rattle.std.proofs.Common.{◌≡◌, ℕ, ◌+◌, ◌<◌, ◌≤◌, zero, suc, Bool, true, false, true≢false, List, [], ◌∷◌, All, length, get_or, refl, sym, ap, ◌∙◌, subst, arith}
+use Rattle.std.proofs.Common.{Option, Some, None}
+use Rattle.std.specs.Option.{IfNone}
 use Rattle.std.proofs.lemmas.List.{get_or_default}
 use Rattle.scad_geom.specs.Point.{Point, is_same_point}
 use Rattle.scad_geom.specs.Balance.{starts_at, ends_at}
@@ -14,6 +16,11 @@ use Rattle.slice_snap.specs.Chains.{no_piece, piece_at}
 use Rattle.std.specs.Ordering.{is_eq}
 use Rattle.slice_snap.specs.EndOrder.{spot_cmp, AreInOrder, IsEndOf, times_at, IsAlone}
 use Rattle.slice_snap.proofs.EndOrder.{tied_is, starts_counted, ends_counted}
+
+-- what holds at all events holds where there is nothing
+pub if_none : {A P : Type 0} (found : Option A) → P → IfNone found P
+if_none None p = p
+if_none (Some a) p = tt
 
 -- ---- where one piece starts at a point, it stands at one place
 module _ (p : Point) where

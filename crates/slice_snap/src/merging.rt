@@ -66,11 +66,21 @@ fn joint(pieces: &[Piece], starts: &[End], ends: &[End], place: usize) -> Option
     let end = end_at(pieces, false, place);
     alone(ends, &end)?;
     let next = alone(starts, &end)?;
-    if goes_on(&pieces[place], &pieces[next]) {
+    if goes_on_at(pieces, place, next) {
         Some(next)
     } else {
         None
     }
+}
+
+fn goes_on_at(pieces: &[Piece], place: usize, next: usize) -> bool
+    requires within { All (IsPieceWithin coordinate_limit) pieces.now }
+    requires inside { place < length pieces.now }
+    requires there { next < length pieces.now }
+    requires comparable { All (IsComparable (piece_at pieces.now place).to) pieces.now }
+    ensures { IsTrue result ↔ GoesOn (piece_at pieces.now place) (piece_at pieces.now next) }
+{
+    goes_on(&pieces[place], &pieces[next])
 }
 
 fn goes_on(q: &Piece, r: &Piece) -> bool

@@ -1,5 +1,5 @@
 -- The ends that tie with one stand side by side, so the first two places tell whether it is one.
-use Rattle.std.proofs.Common.{◌≡◌, ◌<◌, length, sym, ap, ◌∙◌}
+use Rattle.std.proofs.Common.{◌<◌, length, sym, ap, ◌∙◌}
 use Rattle.std.proofs.lemmas.List.{get_or_default}
 use Rattle.slice_snap.specs.declared.end.End.{End}
 use Rattle.slice_snap.specs.EndOrder.{end_cmp, ties}
