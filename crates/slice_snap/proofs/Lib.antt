@@ -3,6 +3,9 @@ pub mod GoingOn
 pub mod Ends
 pub mod Ways
 pub mod SameSpots
+pub mod Ties
+pub mod EndOrder
+pub mod Joints
 pub mod Opposite
 pub mod SideBySide
 pub mod Rounded

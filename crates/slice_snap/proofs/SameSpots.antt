@@ -15,7 +15,7 @@ use Rattle.slice_snap.specs.Spots.{point_of, is_same_spot, IsSpotWithin}
 use Rattle.slice_snap.specs.Joining.{AreOfOneLevel}
 use Rattle.scad_base.proofs.Tests.{int_eq-true}
 
-to_eq : (a b : ℤ) → a ≡ b → int_eq a b ≡ true
+pub to_eq : (a b : ℤ) → a ≡ b → int_eq a b ≡ true
 to_eq a b h = (signed_Decides a b).1 h
 
 abbrev pub levels_equal : Spot → Spot → Bool

@@ -8,4 +8,5 @@ pub mod Spans
 pub mod Cancelling
 pub mod Joining
 pub mod Chains
+pub mod EndOrder
 pub mod Laws

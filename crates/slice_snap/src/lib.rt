@@ -5,8 +5,11 @@
 //! the merged pieces, the rounded edges and those that are left where opposite ones cancel, and laws of them.
 #![tactic(auto, using(scad_geom::proofs::Casts::casts))]
 
+mod alone;
 mod cancelling;
 mod chains;
+mod end;
+mod end_order;
 pub mod laws;
 mod merging;
 mod piece;

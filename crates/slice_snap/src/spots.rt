@@ -1,13 +1,15 @@
-//! Whether two spots stand for one point.
+//! Whether two spots stand for one point, and their order.
 ghost use Rattle.std.specs.Prelude.{◌≡◌, ◌&&◌, ◌*ℤ◌, pos};
-ghost use Rattle.std.specs.Ordering.{int_eq};
+ghost use Rattle.std.specs.Ordering.{int_eq, int_cmp, ordering_then};
 ghost use Rattle.scad_geom.specs.Limits.{coordinate_limit};
 ghost use Rattle.slice_snap.specs.Spots.{is_same_spot, IsSpotWithin};
 ghost use Rattle.slice_snap.specs.Joining.{AreOfOneLevel};
+ghost use Rattle.slice_snap.specs.EndOrder.{spot_cmp};
 
 use crate::piece::Spot;
 use scad_geom::Level;
 use scad_geom::wide::times;
+use std::cmp::Ordering;
 
 /// Whether two spots are the same point; where their heights are equal, their levels are too.
 pub(crate) fn is_same_spot(s: &Spot, t: &Spot) -> bool
@@ -17,6 +19,21 @@ pub(crate) fn is_same_spot(s: &Spot, t: &Spot) -> bool
     ensures { result ≡ is_same_spot s.now t.now }
 {
     is_same_level(&s.at, &t.at) && is_same_place(s, t)
+}
+
+/// The order of spots: by the numbers of their levels, whichever lies higher, then from left to right.
+pub(crate) fn compare_spots(s: &Spot, t: &Spot) -> Ordering
+    requires s { IsSpotWithin coordinate_limit s.now }
+    requires t { IsSpotWithin coordinate_limit t.now }
+    ensures { result ≡ spot_cmp s.now t.now }
+{
+    compare_levels(&s.at, &t.at).then(x_times_run(s, t).cmp(&x_times_run(t, s)))
+}
+
+fn compare_levels(p: &Level, q: &Level) -> Ordering
+    ensures { result ≡ ordering_then (int_cmp p.now.n q.now.n) (int_cmp p.now.d q.now.d) }
+{
+    p.n.cmp(&q.n).then(p.d.cmp(&q.d))
 }
 
 fn is_same_level(p: &Level, q: &Level) -> bool
