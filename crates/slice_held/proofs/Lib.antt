@@ -1,0 +1,5 @@
+pub mod Counting
+pub mod Layouts
+pub mod Sound
+pub mod Chains
+pub mod Rows
