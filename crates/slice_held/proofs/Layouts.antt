@@ -17,7 +17,7 @@ all_more : {P Q : Cell → Type 0} → ((c : Cell) → P c → Q c) → (xs : Li
 all_more f [] h = tt
 all_more f (x ∷ xs) h = (f x h.0, all_more f xs h.1)
 
-all_append : (P : Cell → Type 0) (xs ys : List Cell) → AllByRecursion P xs → AllByRecursion P ys → AllByRecursion P (xs ++ ys)
+pub all_append : (P : Cell → Type 0) (xs ys : List Cell) → AllByRecursion P xs → AllByRecursion P ys → AllByRecursion P (xs ++ ys)
 all_append P [] ys h k = k
 all_append P (x ∷ xs) ys h k = (h.0, all_append P xs ys h.1 k)
 

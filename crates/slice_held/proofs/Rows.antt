@@ -5,7 +5,7 @@ use Rattle.scad_geom.specs.declared.shape.Shape.{the_lemmas}
 use Rattle.std.specs.Prelude.{Vec}
 use Rattle.std.specs.declared.boxed.Box.{Box}
 use Rattle.std.specs.Global.{Global}
-use Rattle.std.proofs.lemmas.List.{length-append, length-map, append-assoc}
+use Rattle.std.proofs.lemmas.List.{length-append, length-map, append_assoc}
 use Rattle.scad_geom.specs.Shape.{has_member, has_items}
 use Rattle.scad_geom.proofs.Shapes.{has_row}
 use Rattle.slice_held.specs.declared.cell.Cell.{Cell}

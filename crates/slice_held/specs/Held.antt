@@ -1,5 +1,5 @@
 -- A shape and which of its leaves are in.
-use Rattle.std.specs.Prelude.{Bool, false, ◌≡◌, ◌==◌, if◌then◌else◌, List, map, ℕ, ◌+◌, ◌++◌, length}
+use Rattle.std.specs.Prelude.{Bool, true, false, ◌≡◌, ◌==◌, ◌<◌, if◌then◌else◌, List, map, ℕ, ◌+◌, ◌++◌, length}
 use Rattle.scad_geom.specs.declared.shape.Shape.{Shape}
 use Rattle.slice_held.specs.declared.cell.Cell.{Cell}
 use Rattle.slice_held.specs.declared.held.Held.{Held}
@@ -11,8 +11,9 @@ use Rattle.slice_held.specs.Chain.{AreChained}
 abbrev pub leaf_count : Held → ℕ
 leaf_count h = length h.lasts.items
 
--- counts are right, and the cells of each leaf are found
+-- it has cells, counts are right, and the cells of each leaf are found
 pub record IsReady (h : Held) : Type 0 where
+  pub some : 0 < length h.cells.items
   pub sound : AreSound h.cells.items
   pub chained : AreChained h.cells.items h.lasts.items h.earlier.items
 
@@ -29,9 +30,10 @@ with_leaf leaf answer inside k = if leaf == k then answer else inside k
 abbrev pub SetsLeaf : ℕ → Bool → Held → Held → Type 0
 SetsLeaf leaf answer h g = (shape : Shape) (inside : ℕ → Bool) → Shows shape inside h → Shows shape (with_leaf leaf answer inside) g
 
--- ready, with all leaves out
+-- the same of perhaps no cells, with all leaves out
 pub record IsBlank (h : Held) : Type 0 where
-  pub ready : IsReady h
+  pub sound : AreSound h.cells.items
+  pub chained : AreChained h.cells.items h.lasts.items h.earlier.items
   pub out : AreOut h.cells.items
 
 -- it has further cells, and all leaves are out

@@ -1,7 +1,7 @@
 //! A shape made ready, its leaves put in and out, and its value.
-ghost use Rattle.std.specs.Prelude.{◌≡◌, ◌<◌, ◌+◌, [], ◌∷◌, ℕ, Bool, false, length, OnOk, IfOk};
+ghost use Rattle.std.specs.Prelude.{◌≡◌, ◌<◌, ◌+◌, [], ◌∷◌, ℕ, Bool, false, not, length, OnOk, IfOk};
 ghost use Rattle.scad_geom.specs.declared.shape.Shape.{Shape};
-ghost use Rattle.scad_geom.specs.Shape.{shape_holds};
+ghost use Rattle.scad_geom.specs.Shape.{shape_holds, has_items};
 ghost use Rattle.slice_held.specs.Cells.{HasPlaceUnder};
 ghost use Rattle.slice_held.specs.Layout.{blank, cells_of, cells_of_all};
 ghost use Rattle.slice_held.specs.Held.{leaf_count, IsReady, IsBlank, Shows, SetsLeaf, Adds};
@@ -46,10 +46,7 @@ impl Held {
         requires ready { IsReady self.now }
         ensures { (shape : Shape) (inside : ℕ → Bool) → Shows shape inside self.now → result ≡ shape_holds inside shape }
     {
-        match self.cells.first() {
-            Some(cell) => holds(cell),
-            None => false,
-        }
+        holds(&cell_at(&self.cells, 0))
     }
 
     // Adds the cells of a shape under the operation of a number, less one.
@@ -73,7 +70,7 @@ impl Held {
                 self.add_all(members, number, true)
             }
             Shape::Inter(members) => {
-                let number = self.push(blank(parent, raises, members.is_empty(), 0))?;
+                let number = self.push(blank(parent, raises, has_none(members), 0))?;
                 self.add_all(members, number, false)
             }
             Shape::Diff(first, rest) => {
@@ -102,7 +99,7 @@ impl Held {
         requires place { HasPlaceUnder self.old.cells.items cell.parent }
         requires none { cell.count ≡ 0 }
         ensures number { IfOk result (λ n. n ≡ length self.old.cells.items + 1) }
-        ensures { OnOk result (Adds (cell ∷ []) self.old self.new) }
+        ensures adds { OnOk result (Adds (cell ∷ []) self.old self.new) }
     {
         let number = self.cells.len() + 1;
         let before = enter(&mut self.lasts, cell.leaf, number);
@@ -116,4 +113,10 @@ fn blank(parent: usize, raises: bool, any: bool, leaf: usize) -> Cell
     ensures { result ≡ blank parent raises any leaf }
 {
     Cell { parent, leaf, raises, any, count: 0 }
+}
+
+fn has_none(members: &[Shape]) -> bool
+    ensures { result ≡ not (has_items members.now) }
+{
+    members.is_empty()
 }
