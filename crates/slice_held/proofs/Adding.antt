@@ -21,14 +21,17 @@ chained_on xs ys c lasts news earlier links number before z h n e b k =
     subst (AreChained ys news) (sym k)
     (chained_by (xs ++ (c ∷ [])) ys news (earlier ++ (before ∷ []))
     (b ∙ sym (map-append bare xs (c ∷ []) ∙ ap (λ (d : Cell). map bare xs ++ (d ∷ [])) (bare_self c z)))
-    (chained_more xs c lasts news earlier before h e.size (λ leaf l o. ((e.this leaf l o).0 ∙ n, (e.this leaf l o).1)) e.others))
+    (chained_more xs c lasts news earlier before h e.size (λ leaf l o. (
+      (e.this leaf l o).0 ∙ n,
+      (e.this leaf l o).1,
+    )) e.others))
 
 pub adds_both : (a b : List Cell) (h g k : Held) → Adds a h g → Adds b g k → Adds (a ++ b) h k
 adds_both a b h g k r s =
     record {
       blank = s.blank;
       leaves = s.leaves ∙ r.leaves;
-      cells = s.cells ∙ ap (λ (cs : List Cell). cs ++ b) r.cells ∙ append_assoc (map bare h.cells.items) a b
+      cells = s.cells ∙ ap (λ (cs : List Cell). cs ++ b) r.cells ∙ append_assoc (map bare h.cells.items) a b;
     }
 
 size_of : (a : List Cell) (h g : Held) → Adds a h g → length g.cells.items ≡ length h.cells.items + length a
@@ -48,13 +51,16 @@ pub adds_rest : (c : Cell) (n : ℕ) (first : Shape) (rest : List Shape) (h g j 
     → Adds (cells_of_all n true (length j.cells.items) rest) j k
     → Adds (c ∷ (cells_of (length h.cells.items + 1) false (length h.cells.items + 1) first
     ++ cells_of_all (length h.cells.items + 1) true
-    (length h.cells.items + 1 + length (cells_of (length h.cells.items + 1) false (length h.cells.items + 1) first)) rest)) h k
+    (length h.cells.items + 1 + length (cells_of (length h.cells.items + 1) false
+    (length h.cells.items + 1) first)) rest)) h k
 adds_rest c n first rest h g j k r e s t =
     let at : ℕ = length h.cells.items + 1 in
     let firsts : List Cell = cells_of at false at first in
     let size : length g.cells.items ≡ at = size_of (c ∷ []) h g r in
-    let s2 : Adds firsts g j = subst (λ (cs : List Cell). Adds cs g j) (ap₂ (λ (p q : ℕ). cells_of p false q first) e size) s in
-    let more : length j.cells.items ≡ at + length firsts = size_of firsts g j s2 ∙ ap (λ (m : ℕ). m + length firsts) size in
+    let s2 : Adds firsts g j = subst (λ (cs : List Cell). Adds cs g j) (ap₂ (λ
+    (p q : ℕ). cells_of p false q first) e size) s in
+    let more : length j.cells.items ≡ at + length firsts = size_of firsts g j s2 ∙ ap (λ
+    (m : ℕ). m + length firsts) size in
     adds_both (c ∷ []) (firsts ++ cells_of_all at true (at + length firsts) rest) h g k r
     (adds_both firsts (cells_of_all at true (at + length firsts) rest) g j k s2
     (subst (λ (cs : List Cell). Adds cs j k) (ap₂ (λ (p q : ℕ). cells_of_all p true q rest) e more) t))
@@ -63,7 +69,8 @@ pub place_under : (c : Cell) (n : ℕ) (h g : Held) → Adds (c ∷ []) h g → 
     → HasPlaceUnder g.cells.items n
 place_under c n h g r leaf e = place_of_last h.cells.items g.cells.items c n r.cells leaf e
 
-pub place_after : (a : List Cell) (n : ℕ) (h g : Held) → Adds a h g → HasPlaceUnder h.cells.items n → HasPlaceUnder g.cells.items n
+pub place_after : (a : List Cell) (n : ℕ) (h g : Held) → Adds a h g → HasPlaceUnder h.cells.items n
+    → HasPlaceUnder g.cells.items n
 place_after a n h g r p = place_stays h.cells.items g.cells.items a n r.cells p
 
 -- ---- members one after another
@@ -86,5 +93,5 @@ adds_member p r members rest member h g k i s =
       cells = ap (λ (n : ℕ). map bare k.cells.items ++ cells_of_all p r n rest) (size_of first g k s)
           ∙ ap (λ (cs : List Cell). cs ++ cells_of_all p r (length g.cells.items + length first) rest) s.cells
           ∙ append_assoc (map bare g.cells.items) first (cells_of_all p r (length g.cells.items + length first) rest)
-          ∙ i.cells
+          ∙ i.cells;
     }

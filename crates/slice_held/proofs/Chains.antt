@@ -7,12 +7,13 @@ use Rattle.slice_held.specs.Chain.{IsLast, AreChained}
 use Rattle.slice_held.proofs.Sound.{leaf_at, size_is, at_front, at_end, past_end, one_longer, end_or}
 
 -- counts don't matter
-last_by : (xs ys : List Cell) → map bare ys ≡ map bare xs → (leaf place n : ℕ) → IsLast xs leaf place n → IsLast ys leaf place n
+last_by : (xs ys : List Cell) → map bare ys ≡ map bare xs → (leaf place n : ℕ) → IsLast xs leaf place n
+    → IsLast ys leaf place n
 last_by xs ys e leaf place n h =
     record {
       within = h.within;
       own = λ i k. leaf_at xs ys e i ∙ h.own i k;
-      none_after = λ i l k. h.none_after i l (sym (leaf_at xs ys e i) ∙ k)
+      none_after = λ i l k. h.none_after i l (sym (leaf_at xs ys e i) ∙ k);
     }
 
 pub chained_by : (xs ys : List Cell) (lasts earlier : List ℕ) → map bare ys ≡ map bare xs → AreChained xs lasts earlier
@@ -23,7 +24,7 @@ chained_by xs ys lasts earlier e h =
       begin = λ leaf l. last_by xs ys e leaf (length ys) (get_or lasts leaf 0)
           (subst (λ (n : ℕ). IsLast xs leaf n (get_or lasts leaf 0)) (sym (size_is xs ys e)) (h.begin leaf l));
       go_on = λ i leaf l m k. last_by xs ys e leaf i (get_or earlier i 0)
-          (h.go_on i leaf (subst (λ (n : ℕ). i < n) (size_is xs ys e) l) m (sym (leaf_at xs ys e i) ∙ k))
+          (h.go_on i leaf (subst (λ (n : ℕ). i < n) (size_is xs ys e) l) m (sym (leaf_at xs ys e i) ∙ k));
     }
 
 -- ---- a cell added
@@ -41,7 +42,8 @@ eq_or m n = grind arith
 
 module _ (xs : List Cell) (c : Cell) (lasts news earlier : List ℕ) (before : ℕ) (h : AreChained xs lasts earlier)
     (size : length news ≡ length lasts)
-    (this : (leaf : ℕ) → leaf < length lasts → c.leaf ≡ leaf + 1 → (get_or news leaf 0 ≡ length xs + 1) × (before ≡ get_or lasts leaf 0))
+    (this : (leaf : ℕ) → leaf < length lasts → c.leaf ≡ leaf + 1 → (get_or news leaf 0 ≡ length xs + 1) ×
+    (before ≡ get_or lasts leaf 0))
     (others : (leaf : ℕ) → leaf < length lasts → c.leaf ≢ leaf + 1 → get_or news leaf 0 ≡ get_or lasts leaf 0) where
   abbrev all : List Cell
   all = xs ++ (c ∷ [])
@@ -56,13 +58,15 @@ module _ (xs : List Cell) (c : Cell) (lasts news earlier : List ℕ) (before : �
   last_front leaf place n l p =
       record {
         within = p.within;
-        own = λ i k. ap (λ (d : Cell). d.leaf) (at_front xs (c ∷ []) i (own_place i n place (length xs) k p.within l)) ∙ p.own i k;
+        own = λ i k. ap (λ (d : Cell). d.leaf) (at_front xs (c ∷ []) i (own_place i n place
+            (length xs) k p.within l)) ∙ p.own i k;
         none_after = λ i m k. p.none_after i m
-            (sym (ap (λ (d : Cell). d.leaf) (at_front xs (c ∷ []) i (in_place i place (length xs) m l))) ∙ k)
+            (sym (ap (λ (d : Cell). d.leaf) (at_front xs (c ∷ []) i (in_place i place (length xs) m l))) ∙ k);
       }
     where
       own_place : (i n place m : ℕ) → n ≡ i + 1 → n ≤ place → place ≤ m → i < m
       own_place i n place m k l h = omega arith
+
       in_place : (i place m : ℕ) → i < place → place ≤ m → i < m
       in_place i place m k l = omega arith
 
@@ -77,21 +81,25 @@ module _ (xs : List Cell) (c : Cell) (lasts news earlier : List ℕ) (before : �
     where
       own_last : (i n : ℕ) → n + 1 ≡ i + 1 → i ≡ n
       own_last i n k = omega arith
+
       up_one : (m n k : ℕ) → m ≤ n → k ≡ n + 1 → m ≤ k
       up_one m n k l e = omega arith
+
       not_this : {A : Type 0} (i : ℕ) → c.leaf ≢ leaf + 1 → i ≡ length xs → (cell_at all i).leaf ≡ leaf + 1 → A
       not_this i n e k = absurd (n (sym (ap (λ (d : Cell). d.leaf) (last_is i e)) ∙ k))
+
       by_place : (old : IsLast xs leaf (length xs) (get_or lasts leaf 0)) → c.leaf ≢ leaf + 1 → (i : ℕ)
           → (i < length xs) ⊎ (i ≡ length xs) → (cell_at all i).leaf ≡ leaf + 1 → i < get_or lasts leaf 0
       by_place old n i (inl b) k = old.none_after i b (sym (ap (λ (d : Cell). d.leaf) (at_front xs (c ∷ []) i b)) ∙ k)
       by_place old n i (inr e) k = not_this i n e k
+
       by_leaf : (c.leaf ≡ leaf + 1) ⊎ (c.leaf ≢ leaf + 1) → IsLast all leaf (length all) (get_or news leaf 0)
       by_leaf (inl e) =
           subst (IsLast all leaf (length all)) (sym ((this leaf l e).0))
           (record {
             within = subst (λ (n : ℕ). length xs + 1 ≤ n) (sym (one_longer xs c)) (itself (length xs + 1));
             own = λ i k. ap (λ (d : Cell). d.leaf) (last_is i (own_last i (length xs) k)) ∙ e;
-            none_after = λ i m k. subst (λ (n : ℕ). i < n) (one_longer xs c) m
+            none_after = λ i m k. subst (λ (n : ℕ). i < n) (one_longer xs c) m;
           })
       by_leaf (inr n) =
           let old : IsLast xs leaf (length xs) (get_or lasts leaf 0) = h.begin leaf l in
@@ -101,7 +109,7 @@ module _ (xs : List Cell) (c : Cell) (lasts news earlier : List ℕ) (before : �
           (record {
             within = up_one (get_or lasts leaf 0) (length xs) (length all) old.within (one_longer xs c);
             own = front.own;
-            none_after = λ i m k. by_place old n i (old_or i m) k
+            none_after = λ i m k. by_place old n i (old_or i m) k;
           })
 
   go_on_more : (i leaf : ℕ) → i < length all → leaf < length lasts → (cell_at all i).leaf ≡ leaf + 1
@@ -110,15 +118,18 @@ module _ (xs : List Cell) (c : Cell) (lasts news earlier : List ℕ) (before : �
     where
       less : (i n : ℕ) → i < n → i ≤ n
       less i n l = omega arith
+
       by_place : (i < length xs) ⊎ (i ≡ length xs) → IsLast all leaf i (get_or links i 0)
       by_place (inl b) =
-          subst (IsLast all leaf i) (sym (number_front earlier (before ∷ []) i (subst (λ (n : ℕ). i < n) (sym h.size) b)))
+          subst (IsLast all leaf i) (sym (number_front earlier (before ∷ []) i (subst (λ (n : ℕ). i < n)
+          (sym h.size) b)))
           (last_front leaf i (get_or earlier i 0) (less i (length xs) b)
           (h.go_on i leaf b m (sym (ap (λ (d : Cell). d.leaf) (at_front xs (c ∷ []) i b)) ∙ k)))
       by_place (inr e) =
           let own : c.leaf ≡ leaf + 1 = sym (ap (λ (d : Cell). d.leaf) (last_is i e)) ∙ k in
           subst (λ (j : ℕ). IsLast all leaf j (get_or links j 0)) (sym e)
-          (subst (IsLast all leaf (length xs)) (sym (ap (λ (j : ℕ). get_or links j 0) (sym h.size) ∙ number_end earlier before ∙ (this leaf m own).1))
+          (subst (IsLast all leaf (length xs)) (sym (ap (λ (j : ℕ). get_or links j 0) (sym h.size)
+          ∙ number_end earlier before ∙ (this leaf m own).1))
           (last_front leaf (length xs) (get_or lasts leaf 0) (itself (length xs)) (h.begin leaf m)))
 
   pub chained_more : AreChained all news links
@@ -126,7 +137,7 @@ module _ (xs : List Cell) (c : Cell) (lasts news earlier : List ℕ) (before : �
       record {
         size = length-append earlier (before ∷ []) ∙ ap (λ (n : ℕ). n + 1) h.size ∙ sym (one_longer xs c);
         begin = λ leaf l. begin_more leaf (subst (λ (n : ℕ). leaf < n) size l);
-        go_on = λ i leaf l m k. go_on_more i leaf l (subst (λ (n : ℕ). leaf < n) size m) k
+        go_on = λ i leaf l m k. go_on_more i leaf l (subst (λ (n : ℕ). leaf < n) size m) k;
       }
 
 -- ---- a leaf set, from its last cell to its first
@@ -152,8 +163,10 @@ set_begin xs lasts earlier leaf inside h l =
   where
     below_or : (i n : ℕ) → (i < n) ⊎ (n ≤ i)
     below_or i n = grind arith
+
     both : {A : Type 0} (i n : ℕ) → i < n → n ≤ i → A
     both i n l m = absurd (omega (arith, l, m))
+
     by_place : (i : ℕ) → (cell_at xs i).leaf ≡ leaf + 1 → get_or lasts leaf 0 ≤ i → (i < length xs) ⊎ (length xs ≤ i)
         → holds (cell_at xs i) ≡ inside
     by_place i k m (inl b) = both i (get_or lasts leaf 0) ((h.begin leaf l).none_after i b k) m
@@ -196,17 +209,24 @@ module _ (xs ys zs : List Cell) (lasts earlier : List ℕ) (leaf : ℕ) (inside 
       → ((i : ℕ) → i ≢ k → (cell_at ys i).leaf ≢ 0 → cell_at zs i ≡ cell_at ys i)
       → IsSetFrom leaf inside (get_or earlier k 0) xs zs
   set_more s own others =
-      record { done = λ i e m. by_place i e m (three i k); kept = λ i n m. others i (λ e. n (ap (λ (j : ℕ). (cell_at xs j).leaf) e ∙ on.own k is))
-          (λ z. m (sym (leaf_at xs ys bares i) ∙ z)) ∙ s.kept i n m }
+      record {
+        done = λ i e m. by_place i e m (three i k);
+        kept = λ i n m. others i (λ e. n (ap (λ (j : ℕ). (cell_at xs j).leaf) e ∙ on.own k is))
+            (λ z. m (sym (leaf_at xs ys bares i) ∙ z)) ∙ s.kept i n m;
+      }
     where
       three : (i k : ℕ) → (i < k) ⊎ ((i ≡ k) ⊎ (k < i))
       three i k = grind arith
+
       both : {A : Type 0} (i n : ℕ) → i < n → n ≤ i → A
       both i n l m = absurd (omega (arith, l, m))
+
       apart : (i k : ℕ) → k < i → i ≢ k
       apart i k l e = omega arith
+
       after : (i k p : ℕ) → p ≡ k + 1 → k < i → p ≤ i
       after i k p e l = omega arith
+
       by_place : (i : ℕ) → (cell_at xs i).leaf ≡ leaf + 1 → get_or earlier k 0 ≤ i → (i < k) ⊎ ((i ≡ k) ⊎ (k < i))
           → holds (cell_at zs i) ≡ inside
       by_place i e m (inl b) = both i (get_or earlier k 0) (before.none_after i b e) m

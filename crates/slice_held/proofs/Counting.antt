@@ -97,14 +97,16 @@ module _ (cells : List Cell) (at : ℕ) (next : Cell) (there : at < length cells
   -- an operation that isn't the parent is told the same
   told_other : (i : ℕ) → cell.parent ≢ i + 1 → told after i ≡ told cells i
   told_other i h =
-      not_lost (told after i) (told cells i) (once (tells i cell)) (once (tells i next)) (told_set cells at next i there)
+      not_lost (told after i) (told cells i) (once (tells i cell)) (once (tells i next))
+      (told_set cells at next i there)
       (none_told cell i h) (none_told next i (λ e. h (sym one_of ∙ e)))
 
   -- nor is any told otherwise where the cell is told as before
   told_same : (i : ℕ) → is_told cell ≡ is_told next → told after i ≡ told cells i
   told_same i h =
       same_left (told after i) (told cells i) (once (tells i cell))
-      (told_set cells at next i there ∙ ap₂ (λ (p : ℕ) (b : Bool). told cells i + once ((p == i + 1) && b)) one_of (sym h))
+      (told_set cells at next i there ∙ ap₂ (λ (p : ℕ) (b : Bool). told cells i + once ((p == i + 1) && b)) one_of
+      (sym h))
 
   not_own : cell.parent ≢ at + 1
   not_own h = too_great cell.parent at h (parents at there)
@@ -135,7 +137,8 @@ module _ (cells : List Cell) (at : ℕ) (next : Cell) (there : at < length cells
       (below : p < at) where
     before : (cell_at after p).count ≡ told cells p
     before = ap (λ (c : Cell). c.count) (away p (not_itself p at below))
-        ∙ right.others p (nearer p at (length cells) below there) (not_itself p at below) (operations at p there is_parent)
+        ∙ right.others p (nearer p at (length cells) below there) (not_itself p at below)
+        (operations at p there is_parent)
 
     of_next : once (tells p next) ≡ once (is_told next)
     of_next = told_parent next p (one_of ∙ is_parent)
@@ -155,7 +158,8 @@ module _ (cells : List Cell) (at : ℕ) (next : Cell) (there : at < length cells
         ∙ told_set cells at next p there ∙ ap (λ (n : ℕ). told cells p + n) (of_next ∙ ap once f))
 
     pub parent_few : length cells < 2 ^ 63 → (cell_at after p).count + 1 < 2 ^ 64
-    parent_few few = small (cell_at after p).count (told cells p) (length cells) before (count_by-le-length (tells p) cells) few
+    parent_few few = small (cell_at after p).count (told cells p) (length cells) before (count_by-le-length
+        (tells p) cells) few
       where
         small : (c t n : ℕ) → c ≡ t → t ≤ n → n < 2 ^ 63 → c + 1 < 2 ^ 64
         small c t n e l m = omega arith
@@ -172,11 +176,12 @@ module _ (cells : List Cell) (at : ℕ) (next : Cell) (there : at < length cells
           same = refl;
           count = λ e. by_way (is_told next) refl;
           others = λ i l n leaf. all_but i (shorter l)
-              (λ m. told_other i (λ k. n (one_parent cell.parent p i is_parent k))) leaf
+              (λ m. told_other i (λ k. n (one_parent cell.parent p i is_parent k))) leaf;
         }
       where
         down : (n t : ℕ) → n ≡ t + 1 → n - 1 ≡ t
         down n t h = omega arith
+
         by_way : (b : Bool) → is_told next ≡ b → (moved (is_told next) (cell_at after p)).count ≡ told after p
         by_way true f = ap (λ (b : Bool). (moved b (cell_at after p)).count) f ∙ ap (λ (n : ℕ). n + 1) before ∙ more f
         by_way false f = ap (λ (b : Bool). (moved b (cell_at after p)).count) f
@@ -187,7 +192,8 @@ module _ (cells : List Cell) (at : ℕ) (next : Cell) (there : at < length cells
   alike f e i = kept_at (eq_or i at)
     where
       kept_at : (i ≡ at) ⊎ (i ≢ at) → f (cell_at after i) ≡ f (cell_at cells i)
-      kept_at (inl h) = ap (λ (j : ℕ). f (cell_at after j)) h ∙ ap f here ∙ e ∙ sym (ap (λ (j : ℕ). f (cell_at cells j)) h)
+      kept_at (inl h) = ap (λ (j : ℕ). f (cell_at after j)) h ∙ ap f here ∙ e ∙ sym (ap (λ (j : ℕ). f
+          (cell_at cells j)) h)
       kept_at (inr n) = ap f (away i n)
 
   pub parents_kept : ParentsComeFirst after
@@ -201,19 +207,22 @@ module _ (cells : List Cell) (at : ℕ) (next : Cell) (there : at < length cells
   pub recounted : Recounts at next cells after
   recounted = record { same = same_set cells at there right.same; own = λ h. here; leaves = λ i h l. away i h }
     where
-      same_set : (xs : List Cell) (i : ℕ) → i < length xs → bare next ≡ bare (cell_at xs i) → map bare (set xs i next) ≡ map bare xs
+      same_set : (xs : List Cell) (i : ℕ) → i < length xs → bare next ≡ bare (cell_at xs i) → map bare
+          (set xs i next) ≡ map bare xs
       same_set [] i l e = absurd (omega arith)
       same_set (x ∷ xs) zero l e = ap (λ (c : Cell). c ∷ map bare xs) e
       same_set (x ∷ xs) (suc i) l e = ap (λ (cs : List Cell). bare x ∷ cs) (same_set xs i (omega arith) e)
 
-  pub recounted_above : (p : ℕ) (above : Cell) (news : List Cell) → cell.parent ≡ p + 1 → p < at → Recounts p above after news
+  pub recounted_above : (p : ℕ) (above : Cell) (news : List Cell) → cell.parent ≡ p + 1 → p < at
+      → Recounts p above after news
       → Recounts at next cells news
   recounted_above p above news h below r =
       record {
         same = r.same ∙ recounted.same;
-        own = λ l. r.leaves at (λ e. not_itself p at below (sym e)) (λ e. l (sym (ap (λ (c : Cell). c.leaf) here) ∙ e)) ∙ here;
+        own = λ l. r.leaves at (λ e. not_itself p at below (sym e)) (λ e. l (sym (ap (λ (c : Cell). c.leaf) here)
+            ∙ e)) ∙ here;
         leaves = λ i n l. r.leaves i (λ e. l (ap (λ (j : ℕ). (cell_at cells j).leaf) e ∙ operations at p there h))
-            (λ e. l (sym (ap (λ (c : Cell). c.leaf) (away i n)) ∙ e)) ∙ away i n
+            (λ e. l (sym (ap (λ (c : Cell). c.leaf) (away i n)) ∙ e)) ∙ away i n;
       }
 
   pub parent_below : 0 < cell.parent → cell.parent - 1 < at
@@ -227,13 +236,15 @@ parent_is c l = one_below c.parent l
 
 -- ---- the ways through the code, over plain variables
 module _ (cells : List Cell) (at : ℕ) (cell next : Cell) (there : at < length cells) (parents : ParentsComeFirst cells)
-    (operations : ParentsAreOperations cells) (right : IsRightFor cells at next) (is_cell : cell ≡ cell_at cells at) where
+    (operations : ParentsAreOperations cells) (right : IsRightFor cells at next)
+    (is_cell : cell ≡ cell_at cells at) where
   of_cell : {A : Type 0} (f : Cell → A) → f cell ≡ f (cell_at cells at)
   of_cell f = ap f is_cell
 
   pub ends : (changed : Bool) → changed ≡ differ (is_told cell) (is_told next)
       → ((changed ≡ true) × (cell.parent ≤ 0)) ⊎ (changed ≡ false) → AreCounted (set cells at next)
-  ends changed e (inl h) = settled cells at next there parents operations right (inr (sym (of_cell (λ c. c.parent)) ∙ none cell.parent h.1))
+  ends changed e (inl h) = settled cells at next there parents operations right (inr (sym (of_cell (λ c. c.parent))
+      ∙ none cell.parent h.1))
     where
       none : (p : ℕ) → p ≤ 0 → p ≡ 0
       none p l = omega arith
@@ -273,4 +284,5 @@ module _ (cells : List Cell) (at : ℕ) (cell next : Cell) (there : at < length 
 
       pub goes_on_rest : (c : Cell) (news : List Cell) → Recounts (cell.parent - 1) c (set cells at next) news
           → Recounts at next cells news
-      goes_on_rest c news r = recounted_above cells at next there parents operations right (cell.parent - 1) c news is_parent below r
+      goes_on_rest c news r = recounted_above cells at next there parents operations right
+          (cell.parent - 1) c news is_parent below r

@@ -13,11 +13,13 @@ use Rattle.slice_held.specs.Layout.{blank, cells_of, cells_of_row}
 use Rattle.slice_held.proofs.Counting.{once, none_told, told_parent}
 
 -- ---- what holds of all cells of a list
-all_more : {P Q : Cell → Type 0} → ((c : Cell) → P c → Q c) → (xs : List Cell) → AllByRecursion P xs → AllByRecursion Q xs
+all_more : {P Q : Cell → Type 0} → ((c : Cell) → P c → Q c) → (xs : List Cell) → AllByRecursion P xs
+    → AllByRecursion Q xs
 all_more f [] h = tt
 all_more f (x ∷ xs) h = (f x h.0, all_more f xs h.1)
 
-pub all_append : (P : Cell → Type 0) (xs ys : List Cell) → AllByRecursion P xs → AllByRecursion P ys → AllByRecursion P (xs ++ ys)
+pub all_append : (P : Cell → Type 0) (xs ys : List Cell) → AllByRecursion P xs → AllByRecursion P ys
+    → AllByRecursion P (xs ++ ys)
 all_append P [] ys h k = k
 all_append P (x ∷ xs) ys h k = (h.0, all_append P xs ys h.1 k)
 
@@ -28,11 +30,13 @@ IsUnder p lo hi c = (c.parent ≡ p) ⊎ ((lo < c.parent) × (c.parent ≤ hi))
 abbrev IsDeep : ℕ → ℕ → Cell → Type 0
 IsDeep lo hi c = (lo < c.parent) × (c.parent ≤ hi)
 
-under_bare : (p lo hi : ℕ) (xs : List Cell) → AllByRecursion (IsUnder p lo hi) (map bare xs) → AllByRecursion (IsUnder p lo hi) xs
+under_bare : (p lo hi : ℕ) (xs : List Cell) → AllByRecursion (IsUnder p lo hi) (map bare xs) → AllByRecursion
+    (IsUnder p lo hi) xs
 under_bare p lo hi [] h = tt
 under_bare p lo hi (x ∷ xs) h = (h.0, under_bare p lo hi xs h.1)
 
-deep_bare : (lo hi : ℕ) (xs : List Cell) → AllByRecursion (IsDeep lo hi) (map bare xs) → AllByRecursion (IsDeep lo hi) xs
+deep_bare : (lo hi : ℕ) (xs : List Cell) → AllByRecursion (IsDeep lo hi) (map bare xs) → AllByRecursion
+    (IsDeep lo hi) xs
 deep_bare lo hi [] h = tt
 deep_bare lo hi (x ∷ xs) h = (h.0, deep_bare lo hi xs h.1)
 
@@ -42,6 +46,7 @@ wider p lo hi low high l m c (inr h) = inr (below lo low c.parent l h.0, above h
   where
     below : (lo low n : ℕ) → low ≤ lo → lo < n → low < n
     below lo low n l h = omega arith
+
     above : (hi high n : ℕ) → hi ≤ high → n ≤ hi → n ≤ high
     above hi high n m h = omega arith
 
@@ -50,12 +55,14 @@ deeper at hi high l m c (inl e) = (first at c.parent e, last at high c.parent l 
   where
     first : (at n : ℕ) → n ≡ at + 1 → at < n
     first at n e = omega arith
+
     last : (at high n : ℕ) → at + 1 ≤ high → n ≡ at + 1 → n ≤ high
     last at high n l e = omega arith
 deeper at hi high l m c (inr h) = (below at c.parent h.0, above hi high c.parent m h.1)
   where
     below : (at n : ℕ) → at + 1 < n → at < n
     below at n h = omega arith
+
     above : (hi high n : ℕ) → hi ≤ high → n ≤ hi → n ≤ high
     above hi high n m h = omega arith
 
@@ -81,7 +88,8 @@ sum_reaches : (at m n k : ℕ) → k ≡ m + n → at + m + n ≤ at + k
 sum_reaches at m n k e = omega arith
 
 -- ---- where the cells of a shape stand
-pub cells_more : (p : ℕ) (r : Bool) (at : ℕ) (s : Shape) → cells_of p r at s ≡ cell_at (cells_of p r at s) 0 ∷ drop 1 (cells_of p r at s)
+pub cells_more : (p : ℕ) (r : Bool) (at : ℕ) (s : Shape) → cells_of p r at s ≡ cell_at
+    (cells_of p r at s) 0 ∷ drop 1 (cells_of p r at s)
 cells_more p r at Empty = refl
 cells_more p r at (Leaf leaf) = refl
 cells_more p r at (Union' list members) = refl
@@ -149,14 +157,17 @@ mutual
       both_under p at (cells_of p r at member) (cells_of_row p r (at + length (cells_of p r at member)) rest)
       (under_by p r at member (inner p r at member)) (under_row p r (at + length (cells_of p r at member)) rest)
 
-under : (p : ℕ) (r : Bool) (at : ℕ) (s : Shape) → AllByRecursion (IsUnder p at (at + length (cells_of p r at s))) (cells_of p r at s)
+under : (p : ℕ) (r : Bool) (at : ℕ) (s : Shape) → AllByRecursion (IsUnder p at (at + length (cells_of p r at s)))
+    (cells_of p r at s)
 under p r at s = under_by p r at s (inner p r at s)
 
 -- ---- counts over parts of a list
-count-cons : (i : ℕ) (x : Cell) (xs : List Cell) → count_by (tells i) (x ∷ xs) ≡ once (tells i x) + count_by (tells i) xs
+count-cons : (i : ℕ) (x : Cell) (xs : List Cell) → count_by (tells i) (x ∷ xs) ≡ once (tells i x) + count_by
+    (tells i) xs
 count-cons i x xs = sum_by-cons (λ z. once (tells i z)) x xs
 
-pub count-append : (i : ℕ) (xs ys : List Cell) → count_by (tells i) (xs ++ ys) ≡ count_by (tells i) xs + count_by (tells i) ys
+pub count-append : (i : ℕ) (xs ys : List Cell) → count_by (tells i) (xs ++ ys) ≡ count_by (tells i) xs + count_by
+    (tells i) ys
 count-append i xs ys = sum_by-append (λ z. once (tells i z)) xs ys
 
 zero_plus : (m n : ℕ) → m ≡ 0 → m + n ≡ n
@@ -180,13 +191,16 @@ IsLeafBy f c = (leaf : ℕ) → c.leaf ≡ leaf + 1 → holds c ≡ f leaf
 right_rest : (at : ℕ) (c : Cell) (xs : List Cell) → c.parent ≤ at → AreRight at (c ∷ xs) → AreRight (at + 1) xs
 right_rest at c xs p h j l leaf =
     h (suc j) (more j (length xs) l) leaf ∙ count-cons (at + suc j) c xs
-    ∙ zero_plus (once (tells (at + suc j) c)) (count_by (tells (at + suc j)) xs) (none_told c (at + suc j) (apart c.parent at j p))
+    ∙ zero_plus (once (tells (at + suc j) c)) (count_by (tells (at + suc j)) xs) (none_told c (at + suc j)
+    (apart c.parent at j p))
     ∙ ap (λ (i : ℕ). count_by (tells i) xs) (next at j)
   where
     more : (j n : ℕ) → j < n → suc j < suc n
     more j n l = omega arith
+
     apart : (p at j : ℕ) → p ≤ at → p ≢ at + suc j + 1
     apart p at j l e = omega arith
+
     next : (at j : ℕ) → at + suc j ≡ at + 1 + j
     next at j = omega arith
 
@@ -206,7 +220,8 @@ right_front : (at : ℕ) (xs ys : List Cell) → ((j : ℕ) → j < length xs �
     → AreRight at (xs ++ ys) → AreRight at xs
 right_front at xs ys none h j l leaf =
     ap (λ (c : Cell). c.count) (sym (in_front xs ys j l))
-    ∙ h j (reach j (length xs) (length ys) (length (xs ++ ys)) (length-append xs ys) l) (ap (λ (c : Cell). c.leaf) (in_front xs ys j l) ∙ leaf)
+    ∙ h j (reach j (length xs) (length ys) (length (xs ++ ys)) (length-append xs ys) l) (ap (λ (c : Cell). c.leaf)
+    (in_front xs ys j l) ∙ leaf)
     ∙ count-append (at + j) xs ys
     ∙ plus_zero (count_by (tells (at + j)) xs) (count_by (tells (at + j)) ys) (none_counted (at + j) ys (none j l))
   where
@@ -221,10 +236,12 @@ right_back at xs ys none h j l leaf =
     (ap (λ (c : Cell). c.leaf) (in_back xs ys j) ∙ leaf)
     ∙ ap (λ (i : ℕ). count_by (tells i) (xs ++ ys)) (grouped at (length xs) j)
     ∙ count-append (at + length xs + j) xs ys
-    ∙ zero_plus (count_by (tells (at + length xs + j)) xs) (count_by (tells (at + length xs + j)) ys) (none_counted (at + length xs + j) xs (none j))
+    ∙ zero_plus (count_by (tells (at + length xs + j)) xs) (count_by (tells (at + length xs + j)) ys) (none_counted
+    (at + length xs + j) xs (none j))
   where
     reach : (j m n k : ℕ) → k ≡ m + n → j < n → m + j < k
     reach j m n k e l = omega arith
+
     grouped : (at m j : ℕ) → at + (m + j) ≡ at + m + j
     grouped at m j = omega arith
 
@@ -253,7 +270,7 @@ parts (a ∷ ps) bs (x ∷ xs) e =
       backs = p.backs;
       whole = ap (λ (cs : List Cell). x ∷ cs) p.whole;
       front_is = ap₂ (λ (c : Cell) (cs : List Cell). c ∷ cs) (ap (λ (cs : List Cell). cell_at cs 0) e) p.front_is;
-      back_is = p.back_is
+      back_is = p.back_is;
     }
 
 -- ---- values by counts
@@ -280,11 +297,13 @@ once_and true n c e = ap (λ (k : ℕ). k == 0) (zero_plus 0 n refl) ∙ e
 
 some_by : (f : ℕ → Bool) {m : _} (members : Row_of-Shape m) → not (row_told f true members == 0) ≡ some_hold f members
 some_by f end_of-Shape = refl
-some_by f (more_of-Shape member rest) = once_or (shape_holds f member) (row_told f true rest) (some_hold f rest) (some_by f rest)
+some_by f (more_of-Shape member rest) = once_or (shape_holds f member) (row_told f true rest) (some_hold f rest)
+    (some_by f rest)
 
 all_by : (f : ℕ → Bool) {m : _} (members : Row_of-Shape m) → (row_told f false members == 0) ≡ all_hold f members
 all_by f end_of-Shape = refl
-all_by f (more_of-Shape member rest) = once_and (shape_holds f member) (row_told f false rest) (all_hold f rest) (all_by f rest)
+all_by f (more_of-Shape member rest) = once_and (shape_holds f member) (row_told f false rest) (all_hold f rest)
+    (all_by f rest)
 
 inter_by : (f : ℕ → Bool) {m : _} (members : Row_of-Shape m)
     → (if not (has_member members) then not (row_told f false members == 0) else (row_told f false members == 0))
@@ -295,7 +314,8 @@ inter_by f (more_of-Shape member rest) = all_by f (more_of-Shape member rest)
 not_not : (b c : Bool) → not b ≡ c → b ≡ not c
 not_not b c e = grind arith
 
-by_any : (c : Cell) (any : Bool) (n : ℕ) → c.any ≡ any → c.count ≡ n → holds c ≡ (if any then not (n == 0) else (n == 0))
+by_any : (c : Cell) (any : Bool) (n : ℕ) → c.any ≡ any → c.count ≡ n → holds c ≡ (if any then not (n == 0) else
+    (n == 0))
 by_any c any n e f = ap₂ (λ (a : Bool) (n : ℕ). if a then not (n == 0) else (n == 0)) e f
 
 -- ---- a part that begins with the cells of a shape
@@ -326,9 +346,11 @@ one_told q r at i s y ys h l e =
     deep : (at i p q : ℕ) → q ≡ i + 1 → q ≤ at → at < p → p ≢ i + 1
     deep at i p q h l d e = omega arith
 
-begins_with : (f : ℕ → Bool) (q : ℕ) (r : Bool) (at i : ℕ) (s : Shape) (bs : List Cell) (hi : ℕ) (xs fronts backs : List Cell)
+begins_with : (f : ℕ → Bool) (q : ℕ) (r : Bool) (at i : ℕ) (s : Shape) (bs : List Cell) (hi : ℕ)
+    (xs fronts backs : List Cell)
     → q ≡ i + 1 → q ≤ at → xs ≡ fronts ++ backs → map bare fronts ≡ cells_of q r at s → map bare backs ≡ bs
-    → AllByRecursion (IsUnder q (at + length (cells_of q r at s)) hi) bs → AreRight at xs → AllByRecursion (IsLeafBy f) xs
+    → AllByRecursion (IsUnder q (at + length (cells_of q r at s)) hi) bs → AreRight at xs → AllByRecursion
+    (IsLeafBy f) xs
     → Begins f q r at i s bs xs
 begins_with f q r at i s bs hi xs [] backs h l w e g bounds right by =
     absurd (no_empty (cell_at (cells_of q r at s) 0) (drop 1 (cells_of q r at s)) (e ∙ cells_more q r at s))
@@ -348,34 +370,42 @@ begins_with f q r at i s bs hi xs (y ∷ ys) backs h l w e g bounds right by =
       front_is = e;
       back_is = g;
       front_right = right_front at (y ∷ ys) backs
-          (λ j k. all_more (λ c u. later q at j (length (y ∷ ys)) (length (cells_of q r at s)) hi l k n c u) backs behind) rights;
+          (λ j k. all_more (λ c u. later q at j (length (y ∷ ys)) (length
+          (cells_of q r at s)) hi l k n c u) backs behind) rights;
       back_right = subst (λ (m : ℕ). AreRight (at + m) backs) n (right_back at (y ∷ ys) backs
-          (λ j. all_more (λ c u. earlier q at j (length (y ∷ ys)) (length (cells_of q r at s)) l n c u) (y ∷ ys) before) rights);
+          (λ j. all_more (λ c u. earlier q at j (length (y ∷ ys)) (length (cells_of q r at s)) l n c u)
+          (y ∷ ys) before) rights);
       front_by = front (IsLeafBy f) (y ∷ ys) backs (subst (AllByRecursion (IsLeafBy f)) w by);
       back_by = back (IsLeafBy f) (y ∷ ys) backs (subst (AllByRecursion (IsLeafBy f)) w by);
       sum = ap (count_by (tells i)) w ∙ count-append i (y ∷ ys) backs
           ∙ ap (λ (k : ℕ). k + count_by (tells i) backs) (one_told q r at i s y ys h l e);
-      raises = ap (λ (cs : List Cell). (cell_at cs 0).raises) e ∙ own_raises q r at s
+      raises = ap (λ (cs : List Cell). (cell_at cs 0).raises) e ∙ own_raises q r at s;
     }
   where
     same_way : (q at j p : ℕ) → q ≤ at → p ≡ q → p ≢ at + j + 1
     same_way q at j p l e g = omega arith
+
     past : (at j n m p : ℕ) → j < n → n ≡ m → at + m < p → p ≢ at + j + 1
     past at j n m p k e u g = omega arith
+
     later : (q at j n m hi : ℕ) → q ≤ at → j < n → n ≡ m → (c : Cell) → IsUnder q (at + m) hi c → c.parent ≢ at + j + 1
     later q at j n m hi l k e c (inl u) = same_way q at j c.parent l u
     later q at j n m hi l k e c (inr u) = past at j n m c.parent k e u.0
+
     same_behind : (q at n j p : ℕ) → q ≤ at → p ≡ q → p ≢ at + n + j + 1
     same_behind q at n j p l e g = omega arith
+
     short : (at j n m p : ℕ) → n ≡ m → p ≤ at + m → p ≢ at + n + j + 1
     short at j n m p e u g = omega arith
+
     earlier : (q at j n m : ℕ) → q ≤ at → n ≡ m → (c : Cell) → IsUnder q at (at + m) c → c.parent ≢ at + n + j + 1
     earlier q at j n m l e c (inl u) = same_behind q at n j c.parent l u
     earlier q at j n m l e c (inr u) = short at j n m c.parent e u.1
 
 begins : (f : ℕ → Bool) (q : ℕ) (r : Bool) (at i : ℕ) (s : Shape) (bs : List Cell) (hi : ℕ) (xs : List Cell)
     → q ≡ i + 1 → q ≤ at → map bare xs ≡ cells_of q r at s ++ bs
-    → AllByRecursion (IsUnder q (at + length (cells_of q r at s)) hi) bs → AreRight at xs → AllByRecursion (IsLeafBy f) xs
+    → AllByRecursion (IsUnder q (at + length (cells_of q r at s)) hi) bs → AreRight at xs → AllByRecursion
+    (IsLeafBy f) xs
     → Begins f q r at i s bs xs
 begins f q r at i s bs hi xs h l e bounds right by =
     let p : Parts xs (cells_of q r at s) bs = parts (cells_of q r at s) bs xs e in
@@ -390,8 +420,10 @@ own_count p at c xs leaf e l right =
   where
     some : (n : ℕ) → 0 < suc n
     some n = omega arith
+
     nothing_more : (at : ℕ) → at + 0 ≡ at
     nothing_more at = omega arith
+
     not_own : (n p at : ℕ) → n ≡ p → p ≤ at → n ≢ at + 1
     not_own n p at e l g = omega arith
 
@@ -410,7 +442,8 @@ first_parent a c xs ys e = ap (λ (cs : List Cell). (cell_at cs 0).parent) e
 others_are : (a c : Cell) (xs ys : List Cell) → map bare (c ∷ xs) ≡ a ∷ ys → map bare xs ≡ ys
 others_are a c xs ys e = ap (drop 1) e
 
-parent_before : (a c : Cell) (xs ys : List Cell) (p at : ℕ) → map bare (c ∷ xs) ≡ a ∷ ys → a.parent ≡ p → p ≤ at → c.parent ≤ at
+parent_before : (a c : Cell) (xs ys : List Cell) (p at : ℕ) → map bare (c ∷ xs) ≡ a ∷ ys → a.parent ≡ p → p ≤ at
+    → c.parent ≤ at
 parent_before a c xs ys p at e h l = subst (λ (n : ℕ). n ≤ at) (sym (first_parent a c xs ys e ∙ h)) l
 
 itself : (n : ℕ) → n ≤ n
@@ -457,13 +490,15 @@ mutual
       ∙ b.sum
       ∙ ap₂ (λ (m n : ℕ). m + n)
       (ap once (told_by false b.head (shape_holds f first) b.raises
-      (holds_first f (at + 1) false (at + 1) first b.head b.tail b.front_is (itself (at + 1)) b.front_right b.front_by)))
+      (holds_first f (at + 1) false (at + 1) first b.head b.tail b.front_is (itself
+      (at + 1)) b.front_right b.front_by)))
       (told_row f (at + 1) true (at + 1 + length firsts) at rest b.backs refl (on_from (at + 1) (at + 1) (length firsts)
       (itself (at + 1))) b.back_is b.back_right b.back_by))
       ∙ once_and (shape_holds f first) (row_told f true rest) (not (some_hold f rest))
       (not_not (row_told f true rest == 0) (some_hold f rest) (some_by f rest))
 
-  told_row : (f : ℕ → Bool) (q : ℕ) (r : Bool) (at i : ℕ) {m : _} (members : Row_of-Shape m) (xs : List Cell) → q ≡ i + 1
+  told_row : (f : ℕ → Bool) (q : ℕ) (r : Bool) (at i : ℕ) {m : _} (members : Row_of-Shape m) (xs : List Cell)
+      → q ≡ i + 1
       → q ≤ at → map bare xs ≡ cells_of_row q r at members → AreRight at xs → AllByRecursion (IsLeafBy f) xs
       → count_by (tells i) xs ≡ row_told f r members
   told_row f q r at i end_of-Shape xs h l e right by = ap (count_by (tells i)) (is_empty xs e)
@@ -471,18 +506,21 @@ mutual
       let firsts : List Cell = cells_of q r at member in
       let rests : List Cell = cells_of_row q r (at + length firsts) rest in
       let b : Begins f q r at i member rests xs =
-      begins f q r at i member rests (at + length firsts + length rests) xs h l e (under_row q r (at + length firsts) rest) right by in
+      begins f q r at i member rests (at + length firsts + length rests) xs h l e (under_row q r
+      (at + length firsts) rest) right by in
       b.sum
       ∙ ap₂ (λ (m n : ℕ). m + n)
       (ap once (told_by r b.head (shape_holds f member) b.raises
       (holds_first f q r at member b.head b.tail b.front_is l b.front_right b.front_by)))
-      (told_row f q r (at + length firsts) i rest b.backs h (on_from q at (length firsts) l) b.back_is b.back_right b.back_by)
+      (told_row f q r (at + length firsts) i rest b.backs h (on_from q at
+      (length firsts) l) b.back_is b.back_right b.back_by)
 
 -- the value of a whole shape
 pub holds_whole : (f : ℕ → Bool) (s : Shape) (xs : List Cell) → map bare xs ≡ cells_of 0 true 0 s
     → ((i : ℕ) → i < length xs → (cell_at xs i).leaf ≡ 0 → (cell_at xs i).count ≡ told xs i)
     → AllByRecursion (IsLeafBy f) xs → holds (cell_at xs 0) ≡ shape_holds f s
-holds_whole f s [] e counted by = absurd (no_empty (cell_at (cells_of 0 true 0 s) 0) (drop 1 (cells_of 0 true 0 s)) (e ∙ cells_more 0 true 0 s))
+holds_whole f s [] e counted by = absurd (no_empty (cell_at (cells_of 0 true 0 s) 0) (drop 1 (cells_of 0 true 0 s))
+    (e ∙ cells_more 0 true 0 s))
 holds_whole f s (c ∷ xs) e counted by =
     holds_first f 0 true 0 s c xs e (itself 0)
     (λ j l leaf. counted j l leaf ∙ ap (λ (i : ℕ). count_by (tells i) (c ∷ xs)) (sym (zero_plus 0 j refl))) by

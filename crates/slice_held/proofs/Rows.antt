@@ -48,29 +48,35 @@ leaf_front xs ys more i e l =
     (sym (bare_in ys i) ∙ ap (λ (cs : List Cell). cell_at cs i) e
     ∙ at_front (map bare xs) more i (subst (λ (n : ℕ). i < n) (sym (length-map xs bare)) l) ∙ bare_in xs i)
 
-pub place_stays : (xs ys more : List Cell) (p : ℕ) → map bare ys ≡ map bare xs ++ more → HasPlaceUnder xs p → HasPlaceUnder ys p
-place_stays xs ys more p e h =
-    (further p (length xs) (length more) (length ys) (more_cells xs ys more e) h.0,
-    λ q k. leaf_front xs ys more q e (below q p (length xs) k h.0) ∙ h.1 q k)
+pub place_stays : (xs ys more : List Cell) (p : ℕ) → map bare ys ≡ map bare xs ++ more → HasPlaceUnder xs p
+    → HasPlaceUnder ys p
+place_stays xs ys more p e h = (
+  further p (length xs) (length more) (length ys) (more_cells xs ys more e) h.0,
+  λ q k. leaf_front xs ys more q e (below q p (length xs) k h.0) ∙ h.1 q k,
+)
   where
     further : (p m n k : ℕ) → k ≡ m + n → p ≤ m → p ≤ k
     further p m n k e l = omega arith
+
     below : (q p m : ℕ) → p ≡ q + 1 → p ≤ m → q < m
     below q p m e l = omega arith
 
 -- the operation that was added last
 pub place_of_last : (xs ys : List Cell) (c : Cell) (n : ℕ) → map bare ys ≡ map bare xs ++ (c ∷ []) → c.leaf ≡ 0
     → n ≡ length xs + 1 → HasPlaceUnder ys n
-place_of_last xs ys c n e leaf k =
-    (same n (length ys) (length xs) k (more_cells xs ys (c ∷ []) e),
-    λ q h. ap (λ (d : Cell). d.leaf) (sym (bare_in ys q) ∙ ap (λ (cs : List Cell). cell_at cs q) e
-    ∙ ap (cell_at (map bare xs ++ (c ∷ []))) (own q n (length xs) (length (map bare xs)) h k (length-map xs bare))
-    ∙ last (map bare xs)) ∙ leaf)
+place_of_last xs ys c n e leaf k = (
+  same n (length ys) (length xs) k (more_cells xs ys (c ∷ []) e),
+  λ q h. ap (λ (d : Cell). d.leaf) (sym (bare_in ys q) ∙ ap (λ (cs : List Cell). cell_at cs q) e
+      ∙ ap (cell_at (map bare xs ++ (c ∷ []))) (own q n (length xs) (length (map bare xs)) h k (length-map xs bare))
+      ∙ last (map bare xs)) ∙ leaf,
+)
   where
     same : (n m k : ℕ) → n ≡ k + 1 → m ≡ k + 1 → n ≤ m
     same n m k e f = omega arith
+
     own : (q n m k : ℕ) → n ≡ q + 1 → n ≡ m + 1 → k ≡ m → q ≡ k
     own q n m k e f g = omega arith
+
     last : (cs : List Cell) → cell_at (cs ++ (c ∷ [])) (length cs) ≡ c
     last [] = refl
     last (d ∷ cs) = last cs

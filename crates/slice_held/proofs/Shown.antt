@@ -24,11 +24,13 @@ mutual
   leaves_any p r at (Leaf leaf) = ((λ n. refl), tt)
   leaves_any p r at (Union' list members) = ((λ n. refl), row_any (at + 1) true (at + 1) members)
   leaves_any p r at (Inter' list members) = ((λ n. absurd (n refl)), row_any (at + 1) false (at + 1) members)
-  leaves_any p r at (Diff' box first list rest) =
-      ((λ n. absurd (n refl)), all_append IsAnyLeaf (cells_of (at + 1) false (at + 1) first)
-      (cells_of_row (at + 1) true (at + 1 + length (cells_of (at + 1) false (at + 1) first)) rest)
-      (leaves_any (at + 1) false (at + 1) first)
-      (row_any (at + 1) true (at + 1 + length (cells_of (at + 1) false (at + 1) first)) rest))
+  leaves_any p r at (Diff' box first list rest) = (
+    (λ n. absurd (n refl)),
+    all_append IsAnyLeaf (cells_of (at + 1) false (at + 1) first)
+        (cells_of_row (at + 1) true (at + 1 + length (cells_of (at + 1) false (at + 1) first)) rest)
+        (leaves_any (at + 1) false (at + 1) first)
+        (row_any (at + 1) true (at + 1 + length (cells_of (at + 1) false (at + 1) first)) rest),
+  )
 
   row_any : (p : ℕ) (r : Bool) (at : ℕ) {m : _} (members : Row_of-Shape m)
       → AllByRecursion IsAnyLeaf (cells_of_row p r at members)
@@ -37,7 +39,8 @@ mutual
       all_append IsAnyLeaf (cells_of p r at member) (cells_of_row p r (at + length (cells_of p r at member)) rest)
       (leaves_any p r at member) (row_any p r (at + length (cells_of p r at member)) rest)
 
-any_at : (xs : List Cell) → AllByRecursion IsAnyLeaf (map bare xs) → (i : ℕ) → (cell_at xs i).leaf ≢ 0 → (cell_at xs i).any ≡ true
+any_at : (xs : List Cell) → AllByRecursion IsAnyLeaf (map bare xs) → (i : ℕ) → (cell_at xs i).leaf ≢ 0 →
+    (cell_at xs i).any ≡ true
 any_at [] h i n = absurd (n refl)
 any_at (x ∷ xs) h zero n = h.0 n
 any_at (x ∷ xs) h (suc i) n = any_at xs h.1 i n
@@ -59,8 +62,9 @@ shown_first shape h g e a =
     record {
       cells = cells;
       leaves = λ i leaf k. out_holds (cell_at g.cells.items i)
-          (any_at g.cells.items (subst (AllByRecursion IsAnyLeaf) (sym cells) (leaves_any 0 true 0 shape)) i (λ z. not_none leaf (sym z ∙ k)))
-          (a.blank.out i (λ z. not_none leaf (sym z ∙ k)))
+          (any_at g.cells.items (subst (AllByRecursion IsAnyLeaf) (sym cells) (leaves_any 0 true 0 shape)) i
+          (λ z. not_none leaf (sym z ∙ k)))
+          (a.blank.out i (λ z. not_none leaf (sym z ∙ k)));
     }
   where
     cells : map bare g.cells.items ≡ cells_of 0 true 0 shape
@@ -78,11 +82,12 @@ ready_first shape h g e a =
       some = no_cells g.cells.items (cell_at (cells_of 0 true 0 shape) 0) (drop 1 (cells_of 0 true 0 shape))
           ((shown_first shape h g e a).cells ∙ cells_more 0 true 0 shape);
       sound = a.blank.sound;
-      chained = a.blank.chained
+      chained = a.blank.chained;
     }
 
 -- ---- the value
-all_by_leaves : (f : ℕ → Bool) (xs : List Cell) → ((i leaf : ℕ) → (cell_at xs i).leaf ≡ leaf + 1 → holds (cell_at xs i) ≡ f leaf)
+all_by_leaves : (f : ℕ → Bool) (xs : List Cell) → ((i leaf : ℕ) → (cell_at xs i).leaf ≡ leaf + 1 → holds
+    (cell_at xs i) ≡ f leaf)
     → AllByRecursion (IsLeafBy f) xs
 all_by_leaves f [] h = tt
 all_by_leaves f (x ∷ xs) h = ((λ leaf e. h 0 leaf e), all_by_leaves f xs (λ i leaf e. h (suc i) leaf e))
@@ -102,13 +107,15 @@ other_leaf i m n e h k = absurd (no m n e (omega (arith, h, k)))
     no : (m n : ℕ) → (m == n) ≡ false → m ≡ n → ⊥
     no m n e h = grind arith
 
-pub set_shown : (xs ys : List Cell) (leaf : ℕ) (b : Bool) (f : ℕ → Bool) → map bare ys ≡ map bare xs → AreSet leaf b xs ys
+pub set_shown : (xs ys : List Cell) (leaf : ℕ) (b : Bool) (f : ℕ → Bool) → map bare ys ≡ map bare xs
+    → AreSet leaf b xs ys
     → ((i k : ℕ) → (cell_at xs i).leaf ≡ k + 1 → holds (cell_at xs i) ≡ f k) → (i k : ℕ) → (cell_at ys i).leaf ≡ k + 1
     → holds (cell_at ys i) ≡ with_leaf leaf b f k
 set_shown xs ys leaf b f e s h i k l = by_test (leaf == k) refl
   where
     was : (cell_at xs i).leaf ≡ k + 1
     was = sym (leaf_at xs ys e i) ∙ l
+
     by_test : (t : Bool) → (leaf == k) ≡ t → holds (cell_at ys i) ≡ (if t then b else f k)
     by_test true q = (s i).0 (was ∙ ap (λ (n : ℕ). n + 1) (sym (same_leaf leaf k q)))
     by_test false q =

@@ -10,6 +10,3 @@ use Rattle.scad_geom.proofs.shape.Shape.TheLaws.{the_size}
 
 pub rest_smaller : (b : Box Shape Global) (v : Vec Shape Global) → most the_size v.items < the_size (Diff b v)
 rest_smaller b v = search (rules, the_lemmas, arith)
-
-pub rest_smaller_too : (b : Box Shape Global) (v : Vec Shape Global) → most the_size v.items < the_size (Diff b v)
-rest_smaller_too b v = grind (arith, the_lemmas)

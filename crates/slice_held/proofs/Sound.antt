@@ -29,11 +29,12 @@ sound_by xs ys e parents operations counted =
     record {
       parents = λ i l. subst (λ (n : ℕ). n ≤ i) (sym (parent i)) (parents i (old i l));
       operations = λ i p l h. leaf_at xs ys e p ∙ operations i p (old i l) (sym (parent i) ∙ h);
-      counted = counted
+      counted = counted;
     }
   where
     parent : (i : ℕ) → (cell_at ys i).parent ≡ (cell_at xs i).parent
     parent i = ap (λ (c : Cell). c.parent) (bare_at xs ys e i)
+
     old : (i : ℕ) → i < length ys → i < length xs
     old i l = subst (λ (n : ℕ). i < n) (size_is xs ys e) l
 
@@ -44,7 +45,7 @@ right_leaf xs at c next s n e b =
     record {
       same = b ∙ ap bare e;
       count = λ z. absurd (n (sym (ap (λ (d : Cell). d.leaf) (b ∙ ap bare e)) ∙ z));
-      others = λ i l m. s.counted i l
+      others = λ i l m. s.counted i l;
     }
 
 pub leaf_stays : (xs : List Cell) (at : ℕ) (c next : Cell) → (cell_at xs at).leaf ≢ 0 → c ≡ cell_at xs at
@@ -78,7 +79,8 @@ end_or i n l = grind arith
 count_one : (i : ℕ) (c : Cell) → count_by (tells i) (c ∷ []) ≡ once (tells i c)
 count_one i c = search (rules)
 
-none_here : (i : ℕ) (xs : List Cell) → ((j : ℕ) → j < length xs → (cell_at xs j).parent ≢ i + 1) → count_by (tells i) xs ≡ 0
+none_here : (i : ℕ) (xs : List Cell) → ((j : ℕ) → j < length xs → (cell_at xs j).parent ≢ i + 1) → count_by
+    (tells i) xs ≡ 0
 none_here i [] h = refl
 none_here i (x ∷ xs) h =
     count-append i (x ∷ []) xs
@@ -101,13 +103,16 @@ plus_one a b m n e h k = omega arith
 below_end : (p n q : ℕ) → q ≡ p + 1 → q ≤ n → p < n
 below_end p n q e l = omega arith
 
-pub out_recounted : (xs ys : List Cell) (p : ℕ) (next : Cell) → (cell_at xs p).leaf ≡ 0 → AreOut xs → Recounts p next xs ys → AreOut ys
+pub out_recounted : (xs ys : List Cell) (p : ℕ) (next : Cell) → (cell_at xs p).leaf ≡ 0 → AreOut xs
+    → Recounts p next xs ys → AreOut ys
 out_recounted xs ys p next leaf out r i n = by_place (eq_or i p)
   where
     eq_or : (m n : ℕ) → (m ≡ n) ⊎ (m ≢ n)
     eq_or m n = grind arith
+
     was : (cell_at xs i).leaf ≢ 0
     was e = n (leaf_at xs ys r.same i ∙ e)
+
     by_place : (i ≡ p) ⊎ (i ≢ p) → (cell_at ys i).count ≡ 0
     by_place (inl e) = absurd (was (ap (λ (j : ℕ). (cell_at xs j).leaf) e ∙ leaf))
     by_place (inr m) = ap (λ (d : Cell). d.count) (r.leaves i m was) ∙ out i was
@@ -127,17 +132,21 @@ module _ (xs : List Cell) (c : Cell) (s : AreSound xs) (place : HasPlaceUnder xs
     where
       by_place : (i < length xs) ⊎ (i ≡ length xs) → (cell_at all i).parent ≤ i
       by_place (inl b) = subst (λ (d : Cell). d.parent ≤ i) (sym (at_front xs (c ∷ []) i b)) (s.parents i b)
-      by_place (inr e) = subst (λ (d : Cell). d.parent ≤ i) (sym (last_is i e)) (subst (λ (n : ℕ). c.parent ≤ n) (sym e) (place.0))
+      by_place (inr e) = subst (λ (d : Cell). d.parent ≤ i) (sym (last_is i e)) (subst (λ (n : ℕ). c.parent ≤ n)
+          (sym e) (place.0))
 
   pub operations_more : ParentsAreOperations all
   operations_more i p l h = by_place (old_or i l)
     where
       before : (i p n q : ℕ) → q ≡ p + 1 → q ≤ i → i < n → p < n
       before i p n q e l b = omega arith
+
       by_place : (i < length xs) ⊎ (i ≡ length xs) → (cell_at all p).leaf ≡ 0
       by_place (inl b) =
-          let parent : (cell_at xs i).parent ≡ p + 1 = sym (ap (λ (d : Cell). d.parent) (at_front xs (c ∷ []) i b)) ∙ h in
-          ap (λ (d : Cell). d.leaf) (at_front xs (c ∷ []) p (before i p (length xs) (cell_at xs i).parent parent (s.parents i b) b))
+          let parent : (cell_at xs i).parent ≡ p + 1 = sym (ap (λ (d : Cell). d.parent) (at_front xs (c ∷ []) i b))
+          ∙ h in
+          ap (λ (d : Cell). d.leaf) (at_front xs (c ∷ []) p (before i p (length xs) (cell_at xs i).parent parent
+          (s.parents i b) b))
           ∙ s.operations i p b parent
       by_place (inr e) =
           let parent : c.parent ≡ p + 1 = sym (ap (λ (d : Cell). d.parent) (last_is i e)) ∙ h in
@@ -152,6 +161,7 @@ module _ (xs : List Cell) (c : Cell) (s : AreSound xs) (place : HasPlaceUnder xs
     where
       none : (j n p : ℕ) → j < n → p ≤ j → p ≢ n + 1
       none j n p b l e = omega arith
+
       by_place : (i < length xs) ⊎ (i ≡ length xs) → (cell_at all i).count ≡ told all i
       by_place (inl b) =
           ap (λ (d : Cell). d.count) (at_front xs (c ∷ []) i b)
@@ -160,7 +170,8 @@ module _ (xs : List Cell) (c : Cell) (s : AreSound xs) (place : HasPlaceUnder xs
       by_place (inr e) =
           ap (λ (d : Cell). d.count) (last_is i e) ∙ blank
           ∙ plus_none (told all i) 0 (told xs i) (once (tells i c)) (told_more i) z
-          (none_here i xs (λ j k. subst (λ (n : ℕ). (cell_at xs j).parent ≢ n + 1) (sym e) (none j (length xs) (cell_at xs j).parent k (s.parents j k))))
+          (none_here i xs (λ j k. subst (λ (n : ℕ). (cell_at xs j).parent ≢ n + 1) (sym e) (none j (length xs)
+          (cell_at xs j).parent k (s.parents j k))))
 
   pub counted_more : (c.parent ≡ 0) ⊎ (is_told c ≡ false) → AreCounted all
   counted_more (inl e) i l = counted_if i l (none_told c i (no_such c.parent i e))
@@ -175,10 +186,11 @@ module _ (xs : List Cell) (c : Cell) (s : AreSound xs) (place : HasPlaceUnder xs
         same = refl;
         count = λ leaf.
             let b : p < length xs = below_end p (length xs) c.parent h (place.0) in
-            plus_one (told all p) (cell_at all p).count (told xs p) (once (tells p c)) (told_more p) (told_parent c p h ∙ ap once t)
+            plus_one (told all p) (cell_at all p).count (told xs p) (once (tells p c)) (told_more p)
+            (told_parent c p h ∙ ap once t)
             (ap (λ (d : Cell). d.count) (at_front xs (c ∷ []) p b)
             ∙ s.counted p b (sym (ap (λ (d : Cell). d.leaf) (at_front xs (c ∷ []) p b)) ∙ leaf));
-        others = λ i l n. counted_if i l (none_told c i (λ k. n (one_parent c.parent p i h k)))
+        others = λ i l n. counted_if i l (none_told c i (λ k. n (one_parent c.parent p i h k)));
       }
     where
       one_parent : (c p i : ℕ) → c ≡ p + 1 → c ≡ i + 1 → i ≡ p
@@ -189,7 +201,8 @@ module _ (xs : List Cell) (c : Cell) (s : AreSound xs) (place : HasPlaceUnder xs
       let b : p < length xs = below_end p (length xs) c.parent h (place.0) in
       let leaf : (cell_at xs p).leaf ≡ 0 = place.1 p h in
       small (cell_at all p).count (told xs p) (length xs) (length all)
-      (ap (λ (d : Cell). d.count) (at_front xs (c ∷ []) p b) ∙ s.counted p b leaf) (count_by-le-length (tells p) xs) (one_longer xs c) few
+      (ap (λ (d : Cell). d.count) (at_front xs (c ∷ []) p b) ∙ s.counted p b leaf) (count_by-le-length (tells p) xs)
+      (one_longer xs c) few
     where
       small : (k t m n : ℕ) → k ≡ t → t ≤ m → n ≡ m + 1 → n < 2 ^ 63 → k + 1 < 2 ^ 64
       small k t m n e l h f = omega arith
@@ -213,6 +226,7 @@ module _ (xs : List Cell) (c : Cell) (s : AreSound xs) (place : HasPlaceUnder xs
       old (inl b) = ap (λ (d : Cell). d.count) (at_front xs (c ∷ []) i b)
           ∙ out i (λ e. n (ap (λ (d : Cell). d.leaf) (at_front xs (c ∷ []) i b) ∙ e))
       old (inr e) = ap (λ (d : Cell). d.count) (last_is i e) ∙ blank
+
       by_place : (i < length all) ⊎ (length all ≤ i) → (cell_at all i).count ≡ 0
       by_place (inl l) = old (old_or i l)
       by_place (inr l) = ap (λ (d : Cell). d.count) (past_end all i l)
@@ -224,10 +238,12 @@ module _ (xs : List Cell) (c : Cell) (s : AreSound xs) (place : HasPlaceUnder xs
         (subst AreCounted (sym items) (counted_more h))
 
     module _ (p : ℕ) (parent : c.parent ≡ p + 1) (d : Cell) where
-      pub owed_in : is_told c ≡ true → (above : Cell) → above ≡ cell_at news p → d ≡ moved true above → IsRightFor news p d
+      pub owed_in : is_told c ≡ true → (above : Cell) → above ≡ cell_at news p → d ≡ moved true above
+          → IsRightFor news p d
       owed_in t above e f =
           subst (λ (cs : List Cell). IsRightFor cs p d) (sym items)
-          (subst (IsRightFor all p) (sym (f ∙ ap (moved true) (e ∙ ap (λ (cs : List Cell). cell_at cs p) items))) (owed_more p parent t))
+          (subst (IsRightFor all p) (sym (f ∙ ap (moved true) (e ∙ ap (λ (cs : List Cell). cell_at cs p) items)))
+          (owed_more p parent t))
 
       pub sound_in : (last : List Cell) → AreCounted last → Recounts p d news last → AreSound last
       sound_in last counted r = sound_by all last (r.same ∙ ap (map bare) items) parents_more operations_more counted
@@ -236,5 +252,6 @@ module _ (xs : List Cell) (c : Cell) (s : AreSound xs) (place : HasPlaceUnder xs
       out_in out last r =
           out_recounted news last p d
           (ap (λ (cs : List Cell). (cell_at cs p).leaf) items
-          ∙ ap (λ (e : Cell). e.leaf) (at_front xs (c ∷ []) p (below_end p (length xs) c.parent parent (place.0))) ∙ place.1 p parent)
+          ∙ ap (λ (e : Cell). e.leaf) (at_front xs (c ∷ []) p (below_end p (length xs) c.parent parent (place.0)))
+          ∙ place.1 p parent)
           (subst AreOut (sym items) (out_more out)) r

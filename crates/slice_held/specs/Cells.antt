@@ -35,7 +35,8 @@ ParentsComeFirst cells = (i : ℕ) → i < length cells → (cell_at cells i).pa
 
 -- and is no leaf
 abbrev pub ParentsAreOperations : List Cell → Type 0
-ParentsAreOperations cells = (i p : ℕ) → i < length cells → (cell_at cells i).parent ≡ p + 1 → (cell_at cells p).leaf ≡ 0
+ParentsAreOperations cells = (i p : ℕ) → i < length cells → (cell_at cells i).parent ≡ p + 1 →
+    (cell_at cells p).leaf ≡ 0
 
 -- an operation's count is how many are told to it
 abbrev pub IsCounted : List Cell → ℕ → Type 0

@@ -21,4 +21,5 @@ pub record Enters (own number before : ℕ) (lasts news : List ℕ) : Type 0 whe
   pub size : length news ≡ length lasts
   pub this : (leaf : ℕ) → leaf < length lasts → own ≡ leaf + 1
       → (slice_index_or news leaf 0 ≡ number) × (before ≡ slice_index_or lasts leaf 0)
-  pub others : (leaf : ℕ) → leaf < length lasts → own ≢ leaf + 1 → slice_index_or news leaf 0 ≡ slice_index_or lasts leaf 0
+  pub others : (leaf : ℕ) → leaf < length lasts → own ≢ leaf + 1
+      → slice_index_or news leaf 0 ≡ slice_index_or lasts leaf 0

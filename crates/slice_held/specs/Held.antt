@@ -28,7 +28,8 @@ with_leaf leaf answer inside k = if leaf == k then answer else inside k
 
 -- whatever it shows, it shows with the answer for one leaf
 abbrev pub SetsLeaf : ℕ → Bool → Held → Held → Type 0
-SetsLeaf leaf answer h g = (shape : Shape) (inside : ℕ → Bool) → Shows shape inside h → Shows shape (with_leaf leaf answer inside) g
+SetsLeaf leaf answer h g = (shape : Shape) (inside : ℕ → Bool) → Shows shape inside h → Shows shape
+    (with_leaf leaf answer inside) g
 
 -- the same of perhaps no cells, with all leaves out
 pub record IsBlank (h : Held) : Type 0 where

@@ -15,7 +15,8 @@ abbrev mutual
   pub cells_of : ℕ → Bool → ℕ → Shape → List Cell
   cells_of parent raises at Empty = blank parent raises true 0 ∷ []
   cells_of parent raises at (Leaf leaf) = blank parent raises true (leaf + 1) ∷ []
-  cells_of parent raises at (Union' list members) = blank parent raises true 0 ∷ cells_of_row (at + 1) true (at + 1) members
+  cells_of parent raises at (Union' list members) = blank parent raises true 0 ∷ cells_of_row (at + 1) true
+      (at + 1) members
   cells_of parent raises at (Inter' list members) = blank parent raises (not (has_member members)) 0
       ∷ cells_of_row (at + 1) false (at + 1) members
   cells_of parent raises at (Diff' box first list rest) = blank parent raises false 0

@@ -7,7 +7,13 @@ use crate::cell::Cell;
 use crate::leaf_cells::put;
 
 /// Puts all cells of a leaf in or out.
-pub(crate) fn set_leaf(cells: &mut Vec<Cell>, lasts: &[usize], earlier: &[usize], leaf: usize, inside: bool)
+pub(crate) fn set_leaf(
+    cells: &mut Vec<Cell>,
+    lasts: &[usize],
+    earlier: &[usize],
+    leaf: usize,
+    inside: bool,
+)
     requires few { length cells.old.items < 2 ^ 63 }
     requires sound { AreSound cells.old.items }
     requires chained { AreChained cells.old.items lasts.now earlier.now }
@@ -23,8 +29,8 @@ pub(crate) fn set_leaf(cells: &mut Vec<Cell>, lasts: &[usize], earlier: &[usize]
     }
 }
 
-/// Enters the number, plus one, of a further cell with a leaf's number, plus one, and returns that of the leaf's last cell
-/// before. An operation and a leaf past the list are not entered.
+/// Enters the number, plus one, of a further cell with a leaf's number, plus one, and returns that of the leaf's last
+/// cell before. An operation and a leaf past the list are not entered.
 pub(crate) fn enter(lasts: &mut Vec<usize>, leaf: usize, number: usize) -> usize
     ensures { Enters leaf number result lasts.old.items lasts.new.items }
 {

@@ -4,8 +4,8 @@ ghost use Rattle.slice_held.specs.Cells.{cell_at, moved, differ, holds, is_told,
 
 use crate::cell::Cell;
 
-/// Puts a cell with its right count in the place of one, and mends the counts of the operations above as far as something
-/// changes.
+/// Puts a cell with its right count in the place of one, and mends the counts of the operations above as far as
+/// something changes.
 pub(crate) fn replace(cells: &mut Vec<Cell>, at: usize, next: Cell)
     requires there { at < length cells.old.items }
     requires few { length cells.old.items < 2 ^ 63 }
@@ -44,14 +44,22 @@ pub(crate) fn is_told(cell: &Cell) -> bool
 pub(crate) fn holds(cell: &Cell) -> bool
     ensures { result ≡ holds cell.now }
 {
-    if cell.any { cell.count != 0 } else { cell.count == 0 }
+    if cell.any {
+        cell.count != 0
+    } else {
+        cell.count == 0
+    }
 }
 
 // Whether a cell is told otherwise than another.
 fn is_changed(cell: &Cell, next: &Cell) -> bool
     ensures { result ≡ differ (is_told cell.now) (is_told next.now) }
 {
-    if is_told(cell) { !is_told(next) } else { is_told(next) }
+    if is_told(cell) {
+        !is_told(next)
+    } else {
+        is_told(next)
+    }
 }
 
 pub(crate) fn cell_at(cells: &[Cell], at: usize) -> Cell

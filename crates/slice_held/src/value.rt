@@ -38,13 +38,20 @@ impl Held {
         ensures leaves { leaf_count self.new ≡ leaf_count self.old }
         ensures shows { SetsLeaf leaf inside self.old self.new }
     {
-        set_leaf(&mut self.cells, &self.lasts, &self.earlier, leaf as usize, inside);
+        set_leaf(
+            &mut self.cells,
+            &self.lasts,
+            &self.earlier,
+            leaf as usize,
+            inside,
+        );
     }
 
     /// Whether the shape holds a point that is inside the leaves that are in.
     pub fn value(&self) -> bool
         requires ready { IsReady self.now }
-        ensures { (shape : Shape) (inside : ℕ → Bool) → Shows shape inside self.now → result ≡ shape_holds inside shape }
+        ensures { (shape : Shape) (inside : ℕ → Bool) → Shows shape inside self.now
+            → result ≡ shape_holds inside shape }
     {
         holds(&cell_at(&self.cells, 0))
     }
@@ -54,7 +61,8 @@ impl Held {
     fn add(&mut self, shape: &Shape, parent: usize, raises: bool) -> Result<(), AllocError>
         requires blank { IsBlank self.old }
         requires place { HasPlaceUnder self.old.cells.items parent }
-        ensures { OnOk result (Adds (cells_of parent raises (length self.old.cells.items) shape.now) self.old self.new) }
+        ensures { OnOk result
+            (Adds (cells_of parent raises (length self.old.cells.items) shape.now) self.old self.new) }
     {
         match shape {
             Shape::Empty => {
@@ -85,7 +93,8 @@ impl Held {
     fn add_all(&mut self, members: &[Shape], parent: usize, raises: bool) -> Result<(), AllocError>
         requires blank { IsBlank self.old }
         requires place { HasPlaceUnder self.old.cells.items parent }
-        ensures { OnOk result (Adds (cells_of_all parent raises (length self.old.cells.items) members.now) self.old self.new) }
+        ensures { OnOk result
+            (Adds (cells_of_all parent raises (length self.old.cells.items) members.now) self.old self.new) }
     {
         'members: for member in members {
             self.add(member, parent, raises)?;
@@ -112,7 +121,13 @@ impl Held {
 fn blank(parent: usize, raises: bool, any: bool, leaf: usize) -> Cell
     ensures { result ≡ blank parent raises any leaf }
 {
-    Cell { parent, leaf, raises, any, count: 0 }
+    Cell {
+        parent,
+        leaf,
+        raises,
+        any,
+        count: 0,
+    }
 }
 
 fn has_none(members: &[Shape]) -> bool

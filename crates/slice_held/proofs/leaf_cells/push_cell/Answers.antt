@@ -12,7 +12,8 @@ pub replace-requires-clause-right : goal.replace-requires-clause-right
 replace-requires-clause-right c =
     let cell = c.args.cell in
     let r = c.requires in
-    let above = c.cell_at-above.ensures ∙ ap (λ (items : List Cell). cell_at items (cell.parent - 1)) c.deref.ensures.value in
+    let above = c.cell_at-above.ensures ∙ ap (λ (items : List Cell). cell_at items
+    (cell.parent - 1)) c.deref.ensures.value in
     owed_in c.args.cells.now.items cell r.sound r.place r.blank c.push.new.self.items c.in_ok-push.ensures.items
     (cell.parent - 1) (parent_is cell c.if-cell-gt0.true) c.moved.result (sym c.is_told.ensures ∙ c.if-is_told.true)
     c.cell_at-above.result above c.moved.ensures
@@ -23,7 +24,8 @@ returns-then-is_told-clause-sound c =
     let cell = c.args.cell in
     let r = c.requires in
     sound_in c.args.cells.now.items cell r.sound r.place r.blank c.push.new.self.items c.in_ok-push.ensures.items
-    (cell.parent - 1) (parent_is cell c.if-cell-gt0.true) c.moved.result c.replace.new.cells.items c.replace.ensures.counted
+    (cell.parent - 1) (parent_is cell c.if-cell-gt0.true) c.moved.result c.replace.new.cells.items
+    c.replace.ensures.counted
     c.replace.ensures.rest
 
 -- src/leaf_cells.rt:33:1
@@ -32,7 +34,8 @@ returns-then-is_told-clause-out c =
     let cell = c.args.cell in
     let r = c.requires in
     out_in c.args.cells.now.items cell r.sound r.place r.blank c.push.new.self.items c.in_ok-push.ensures.items
-    (cell.parent - 1) (parent_is cell c.if-cell-gt0.true) c.moved.result r.out c.replace.new.cells.items c.replace.ensures.rest
+    (cell.parent - 1) (parent_is cell c.if-cell-gt0.true) c.moved.result r.out c.replace.new.cells.items
+    c.replace.ensures.rest
 
 -- src/leaf_cells.rt:33:1
 pub returns-else-cell-gt0-clause-sound : goal.returns-else-cell-gt0-clause-sound

@@ -24,7 +24,8 @@ add-add_all-requires-in-Diff t c =
     c.in_ok-add-in-Diff.ensures under in
     let lower : most the_size c.deref-in-Diff-2.result.now < the_size c.args.shape.now =
     subst (λ (xs : List Shape). most the_size xs < the_size c.args.shape.now) (sym c.deref-in-Diff-2.ensures.value)
-    (subst (λ (s : Shape). most the_size c.in-Diff.rest.items < the_size s) (sym c.in-Diff.is) (rest_smaller c.in-Diff.first c.in-Diff.rest)) in
+    (subst (λ (s : Shape). most the_size c.in-Diff.rest.items < the_size s) (sym c.in-Diff.is)
+    (rest_smaller c.in-Diff.first c.in-Diff.rest)) in
     (omega (arith, c.decreases, lower), (c.in_ok-add-in-Diff.ensures.blank, place))
 
 pub add-returns-in_ok-number-in-Union : goal.add-returns-in_ok-number-in-Union
@@ -33,12 +34,14 @@ add-returns-in_ok-number-in-Union t c =
     let k = c.add_all.new.self in
     let at : ℕ = length h.cells.items in
     let ok = c.in_ok-number-in-Union in
-    let is = ap₂ (λ (a : Cell) (ms : List Shape). a ∷ cells_of_all (at + 1) true (at + 1) ms) c.blank-in-Union.ensures c.deref.ensures.value
+    let is = ap₂ (λ (a : Cell) (ms : List Shape). a ∷ cells_of_all (at + 1) true
+    (at + 1) ms) c.blank-in-Union.ensures c.deref.ensures.value
     ∙ sym (cells_union c.args.parent c.args.raises at c.in-Union.members)
     ∙ ap (cells_of c.args.parent c.args.raises at) (sym c.in-Union.is) in
     on_ok_weaker c.add_all.result
     (λ a. subst (λ (cs : List Cell). Adds cs h k) is
-    (adds_members c.blank-in-Union.result ok.number true c.deref.result.now h c.push-in-Union.new.self k ok.ensures.adds ok.ensures.number a))
+    (adds_members c.blank-in-Union.result ok.number true c.deref.result.now h c.push-in-Union.new.self k
+    ok.ensures.adds ok.ensures.number a))
     c.add_all.ensures
 
 pub add-returns-in_ok-number-in-Inter : goal.add-returns-in_ok-number-in-Inter
@@ -48,13 +51,16 @@ add-returns-in_ok-number-in-Inter t c =
     let at : ℕ = length h.cells.items in
     let ok = c.in_ok-number-in-Inter in
     let first = c.blank-in-Inter.ensures
-    ∙ ap (λ b. blank c.args.parent c.args.raises b 0) (c.has_none.ensures ∙ ap (λ (ms : List Shape). not (has_items ms)) c.deref-in-Inter.ensures.value) in
-    let is = ap₂ (λ (a : Cell) (ms : List Shape). a ∷ cells_of_all (at + 1) false (at + 1) ms) first c.deref-in-Inter-2.ensures.value
+    ∙ ap (λ b. blank c.args.parent c.args.raises b 0) (c.has_none.ensures ∙ ap (λ (ms : List Shape). not
+    (has_items ms)) c.deref-in-Inter.ensures.value) in
+    let is = ap₂ (λ (a : Cell) (ms : List Shape). a ∷ cells_of_all (at + 1) false
+    (at + 1) ms) first c.deref-in-Inter-2.ensures.value
     ∙ sym (cells_inter c.args.parent c.args.raises at c.in-Inter.members)
     ∙ ap (cells_of c.args.parent c.args.raises at) (sym c.in-Inter.is) in
     on_ok_weaker c.add_all-in-Inter.result
     (λ a. subst (λ (cs : List Cell). Adds cs h k) is
-    (adds_members c.blank-in-Inter.result ok.number false c.deref-in-Inter-2.result.now h c.push-in-Inter.new.self k ok.ensures.adds ok.ensures.number a))
+    (adds_members c.blank-in-Inter.result ok.number false c.deref-in-Inter-2.result.now h c.push-in-Inter.new.self k
+    ok.ensures.adds ok.ensures.number a))
     c.add_all-in-Inter.ensures
 
 pub add-returns-in_ok-add-in-Diff : goal.add-returns-in_ok-add-in-Diff
@@ -66,14 +72,18 @@ add-returns-in_ok-add-in-Diff t c =
     let first = c.deref-in-Diff.result.now in
     let rest = c.deref-in-Diff-2.result.now in
     let is = ap₂ (λ (a : Cell) (f : Shape). a ∷ (cells_of (at + 1) false (at + 1) f
-    ++ cells_of_all (at + 1) true (at + 1 + length (cells_of (at + 1) false (at + 1) f)) rest)) c.blank-in-Diff.ensures c.deref-in-Diff.ensures
-    ∙ ap (λ (ms : List Shape). blank c.args.parent c.args.raises false 0 ∷ (cells_of (at + 1) false (at + 1) c.in-Diff.first.value
-    ++ cells_of_all (at + 1) true (at + 1 + length (cells_of (at + 1) false (at + 1) c.in-Diff.first.value)) ms)) c.deref-in-Diff-2.ensures.value
+    ++ cells_of_all (at + 1) true (at + 1 + length (cells_of (at + 1) false
+    (at + 1) f)) rest)) c.blank-in-Diff.ensures c.deref-in-Diff.ensures
+    ∙ ap (λ (ms : List Shape). blank c.args.parent c.args.raises false 0 ∷ (cells_of (at + 1) false
+    (at + 1) c.in-Diff.first.value
+    ++ cells_of_all (at + 1) true (at + 1 + length (cells_of (at + 1) false
+    (at + 1) c.in-Diff.first.value)) ms)) c.deref-in-Diff-2.ensures.value
     ∙ sym (cells_diff c.args.parent c.args.raises at c.in-Diff.first c.in-Diff.rest)
     ∙ ap (cells_of c.args.parent c.args.raises at) (sym c.in-Diff.is) in
     on_ok_weaker c.add_all-in-Diff.result
     (λ a. subst (λ (cs : List Cell). Adds cs h k) is
-    (adds_rest c.blank-in-Diff.result ok.number first rest h c.push-in-Diff.new.self c.add.new.self k ok.ensures.adds ok.ensures.number
+    (adds_rest c.blank-in-Diff.result ok.number first rest h c.push-in-Diff.new.self c.add.new.self k ok.ensures.adds
+    ok.ensures.number
     c.in_ok-add-in-Diff.ensures a))
     c.add_all-in-Diff.ensures
 
@@ -89,4 +99,5 @@ add_all-members-preserved t c =
     let step = drop_more ms i s c.members-test.true in
     adds_member p r ms (drop (i + 1) ms) (get_or ms i s) h g c.add.new.self
     (subst (λ (rest : List Shape). IsAdding p r ms rest h g) step c.members.invariant)
-    (subst (λ (s : Shape). Adds (cells_of p r (length g.cells.items) s) g c.add.new.self) c.member-item.is c.in_ok-add.ensures)
+    (subst (λ (s : Shape). Adds (cells_of p r (length g.cells.items) s) g c.add.new.self) c.member-item.is
+    c.in_ok-add.ensures)

@@ -12,11 +12,12 @@ returns-clause-adds c =
     record {
       blank = record {
         sound = cell.sound;
-        chained = chained_on h.cells.items c.push_cell.new.cells.items c.args.cell h.lasts.items c.enter-before.new.lasts.items
+        chained = chained_on h.cells.items c.push_cell.new.cells.items c.args.cell h.lasts.items
+            c.enter-before.new.lasts.items
             h.earlier.items c.push.new.self.items (c.len-number.result + 1) c.enter-before.result c.requires.none
             c.requires.blank.chained number c.enter-before.ensures cell.bare c.in_ok-push.ensures.items;
-        out = cell.out
+        out = cell.out;
       };
       leaves = c.enter-before.ensures.size;
-      cells = cell.bare
+      cells = cell.bare;
     }

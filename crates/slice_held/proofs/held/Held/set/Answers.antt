@@ -12,7 +12,7 @@ returns-clause-ready c =
     record {
       some = some_stay h.cells.items news e.bare c.requires.ready.some;
       sound = e.sound;
-      chained = chained_by h.cells.items news h.lasts.items h.earlier.items e.bare c.requires.ready.chained
+      chained = chained_by h.cells.items news h.lasts.items h.earlier.items e.bare c.requires.ready.chained;
     }
 
 pub returns-clause-shows : goal.returns-clause-shows
@@ -20,6 +20,7 @@ returns-clause-shows c shape inside shown =
     let e = c.set_leaf.ensures in
     record {
       cells = e.bare ∙ shown.cells;
-      leaves = set_shown c.args.self.now.cells.items c.set_leaf.new.cells.items c.args.leaf c.args.inside inside e.bare e.set
-          shown.leaves
+      leaves = set_shown c.args.self.now.cells.items c.set_leaf.new.cells.items c.args.leaf c.args.inside inside
+          e.bare e.set
+          shown.leaves;
     }
