@@ -3,7 +3,7 @@ use Rattle.std.proofs.Common.{◌≡◌, ◌≢◌, ℕ, zero, suc, ◌+◌, ◌
 use Rattle.std.proofs.lemmas.List.{map-append, append_assoc}
 use Rattle.scad_geom.specs.declared.shape.Shape.{Shape}
 use Rattle.slice_held.specs.declared.cell.Cell.{Cell}
-use Rattle.slice_held.specs.declared.held.Held.{Held}
+use Rattle.slice_held.specs.declared.kept_shape.Held.{Held}
 use Rattle.slice_held.specs.Cells.{cell_at, bare, AreSound, HasPlaceUnder}
 use Rattle.slice_held.specs.Layout.{blank, cells_of, cells_of_all}
 use Rattle.slice_held.specs.Chain.{AreChained, Enters}

@@ -5,7 +5,7 @@ use Rattle.std.specs.List.{AllByRecursion}
 use Rattle.scad_geom.specs.declared.shape.Shape.{Shape, Empty, Leaf, Union', Inter', Diff', Row_of-Shape, end_of-Shape, more_of-Shape}
 use Rattle.scad_geom.specs.Shape.{shape_holds}
 use Rattle.slice_held.specs.declared.cell.Cell.{Cell}
-use Rattle.slice_held.specs.declared.held.Held.{Held}
+use Rattle.slice_held.specs.declared.kept_shape.Held.{Held}
 use Rattle.slice_held.specs.Cells.{cell_at, bare, holds, AreSound, AreOut, AreSet}
 use Rattle.slice_held.specs.Layout.{cells_of, cells_of_row}
 use Rattle.slice_held.specs.Chain.{AreChained}

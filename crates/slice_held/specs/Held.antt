@@ -2,7 +2,7 @@
 use Rattle.std.specs.Prelude.{Bool, true, false, ◌≡◌, ◌==◌, ◌<◌, if◌then◌else◌, List, map, ℕ, ◌+◌, ◌++◌, length}
 use Rattle.scad_geom.specs.declared.shape.Shape.{Shape}
 use Rattle.slice_held.specs.declared.cell.Cell.{Cell}
-use Rattle.slice_held.specs.declared.held.Held.{Held}
+use Rattle.slice_held.specs.declared.kept_shape.Held.{Held}
 use Rattle.slice_held.specs.Cells.{cell_at, bare, holds, AreSound, AreOut}
 use Rattle.slice_held.specs.Layout.{cells_of}
 use Rattle.slice_held.specs.Chain.{AreChained}

@@ -6,8 +6,8 @@
 mod cell;
 mod chain;
 mod counts;
-mod held;
+mod kept_shape;
 mod leaf_cells;
 mod value;
 
-pub use held::Held;
+pub use kept_shape::Held;

@@ -9,7 +9,7 @@ ghost use Rattle.slice_held.specs.Held.{leaf_count, IsReady, IsBlank, Shows, Set
 use crate::cell::Cell;
 use crate::chain::{enter, set_leaf};
 use crate::counts::{cell_at, holds};
-use crate::held::Held;
+use crate::kept_shape::Held;
 use crate::leaf_cells::push_cell;
 use scad_geom::Shape;
 use std::alloc::{AllocError, Global};

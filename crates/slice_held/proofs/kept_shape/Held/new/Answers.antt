@@ -1,8 +1,8 @@
 -- All cells are those that were added.
 use Rattle.std.proofs.Common.{length, ap}
-use Rattle.slice_held.specs.declared.held.Held.{Held}
+use Rattle.slice_held.specs.declared.kept_shape.Held.{Held}
 use Rattle.slice_held.proofs.Shown.{ready_first, shown_first}
-use Rattle.slice_held.proofs.held.Held.new.Goals as goal
+use Rattle.slice_held.proofs.kept_shape.Held.new.Goals as goal
 
 pub returns-clause-ready : goal.returns-clause-ready
 returns-clause-ready c =

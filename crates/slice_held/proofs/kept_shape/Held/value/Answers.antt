@@ -3,7 +3,7 @@ use Rattle.std.proofs.Common.{List, ap, ◌∙◌}
 use Rattle.slice_held.specs.declared.cell.Cell.{Cell}
 use Rattle.slice_held.specs.Cells.{cell_at, holds}
 use Rattle.slice_held.proofs.Shown.{value_shown}
-use Rattle.slice_held.proofs.held.Held.value.Goals as goal
+use Rattle.slice_held.proofs.kept_shape.Held.value.Goals as goal
 
 pub returns : goal.returns
 returns c shape inside shown =

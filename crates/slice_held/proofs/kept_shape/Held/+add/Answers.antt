@@ -12,7 +12,7 @@ use denote.Param.Weighed.{most}
 use Rattle.scad_geom.proofs.shape.Shape.TheLaws.{the_size}
 use Rattle.slice_held.proofs.Sizes.{rest_smaller}
 use Rattle.slice_held.proofs.Adding.{IsAdding, adds_member, adds_members, adds_rest, place_under, place_after}
-use Rattle.slice_held.proofs.held.Held.+add.Goals as goal
+use Rattle.slice_held.proofs.kept_shape.Held.+add.Goals as goal
 
 pub add-add_all-requires-in-Diff : goal.add-add_all-requires-in-Diff
 add-add_all-requires-in-Diff t c =

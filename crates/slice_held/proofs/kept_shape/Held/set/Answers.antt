@@ -2,7 +2,7 @@
 use Rattle.std.proofs.Common.{◌∙◌}
 use Rattle.slice_held.proofs.Chains.{chained_by}
 use Rattle.slice_held.proofs.Shown.{set_shown, some_stay}
-use Rattle.slice_held.proofs.held.Held.set.Goals as goal
+use Rattle.slice_held.proofs.kept_shape.Held.set.Goals as goal
 
 pub returns-clause-ready : goal.returns-clause-ready
 returns-clause-ready c =

@@ -1,7 +1,7 @@
 -- The new cell is told to its operation, and found from its leaf.
 use Rattle.std.proofs.Common.{rules, ◌≡◌, ◌+◌, length}
 use Rattle.slice_held.proofs.Adding.{chained_on}
-use Rattle.slice_held.proofs.held.Held.push.Goals as goal
+use Rattle.slice_held.proofs.kept_shape.Held.push.Goals as goal
 
 -- src/value.rt:100:5
 pub returns-clause-adds : goal.returns-clause-adds
