@@ -1,0 +1,10 @@
+-- Operations come before their members as they did.
+use Rattle.std.proofs.Common.{List, ap, ◌∙◌}
+use Rattle.slice_held.specs.declared.cell.Cell.{Cell}
+use Rattle.slice_held.proofs.Sound.{sound_by}
+use Rattle.slice_held.proofs.leaf_cells.put.Goals as goal
+
+-- src/leaf_cells.rt:10:1
+pub returns-clause-sound : goal.returns-clause-sound
+returns-clause-sound c = sound_by c.args.cells.now.items c.replace.new.cells.items c.replace.ensures.rest.same
+    c.requires.sound.parents c.requires.sound.operations c.replace.ensures.counted

@@ -1,0 +1,4 @@
+pub mod Cells
+pub mod Layout
+pub mod Chain
+pub mod Held
