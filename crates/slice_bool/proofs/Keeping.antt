@@ -1,5 +1,6 @@
 -- A shape's leaves follow their winding numbers.
 use Rattle.std.proofs.Common.{◌≡◌, ℕ, ◌+◌, Bool, true, false, not, List, get_or, refl, sym, ap, ◌∙◌, subst, arith}
+use mathlib.Core.Bool.{beq}
 use mathlib.Core.Path.{fun_ext}
 use lib.IntN.{ℤ, pos, negsuc, ◌+ℤ◌, +ℤ_idl}
 use Rattle.std.proofs.lemmas.Int.{ints}
@@ -16,10 +17,14 @@ use Rattle.slice_bool.specs.Keeping.{in_by, KeepsUp}
 same_leaf : (m n : ℕ) → (m == n) ≡ true → m ≡ n
 same_leaf m n e = grind arith
 
-pub keeps_still : (turns : List ℤ) (h : Held) → IsReady h → KeepsUp turns turns h h
-keeps_still turns h r = record { ready = r; size = refl; shows = λ shape s. s }
+same_answer : (a b : Bool) → not (beq a b) ≡ false → a ≡ b
+same_answer true true e = refl
+same_answer true false e = absurd cc
+same_answer false true e = absurd cc
+same_answer false false e = refl
 
-pub keeps_both : (turns mid news : List ℤ) (h g k : Held) → KeepsUp turns mid h g → KeepsUp mid news g k → KeepsUp turns news h k
+pub keeps_both : (turns mid news : List ℤ) (h g k : Held) → KeepsUp turns mid h g → KeepsUp mid news g k
+    → KeepsUp turns news h k
 keeps_both turns mid news h g k a b =
     record { ready = b.ready; size = b.size ∙ a.size; shows = λ shape s. b.shows shape (a.shows shape s) }
 
@@ -46,25 +51,27 @@ module _ (turns news : List ℤ) (leaf : ℕ) (by : ℤ)
         ready = r;
         size = n;
         shows = λ shape shown. subst (λ (f : ℕ → Bool). Shows shape f g) (fun_ext answers)
-            (subst (λ (b : Bool). Shows shape (with_leaf leaf b (in_by turns)) g) e (s shape (in_by turns) shown))
+            (subst (λ (b : Bool). Shows shape (with_leaf leaf b (in_by turns)) g) e (s shape (in_by turns) shown));
       }
 
-  pub keeps_as : (h : Held) (before inside : Bool) → before ≡ in_by turns leaf → inside ≡ in_by news leaf → inside ≡ before
-      → IsReady h → KeepsUp turns news h h
+  pub keeps_as : (h : Held) (before inside : Bool) → before ≡ in_by turns leaf → inside ≡ in_by news leaf
+      → not (beq inside before) ≡ false → IsReady h → KeepsUp turns news h h
   keeps_as h before inside b i e r =
       record {
         ready = r;
         size = refl;
-        shows = λ shape shown. subst (λ (f : ℕ → Bool). Shows shape f h) (fun_ext (λ k. by_test k (leaf == k) refl)) shown
+        shows = λ shape shown. subst (λ (f : ℕ → Bool). Shows shape f h)
+            (fun_ext (λ k. by_test k (leaf == k) refl)) shown;
       }
     where
       by_test : (k : ℕ) (t : Bool) → (leaf == k) ≡ t → in_by turns k ≡ in_by news k
-      by_test k true q = ap (in_by turns) (sym (same_leaf leaf k q)) ∙ sym b ∙ sym e ∙ i ∙ ap (in_by news) (same_leaf leaf k q)
+      by_test k true q = ap (in_by turns) (sym (same_leaf leaf k q)) ∙ sym b ∙ sym (same_answer inside before e) ∙ i
+          ∙ ap (in_by news) (same_leaf leaf k q)
       by_test k false q = sym (elsewhere k q)
 
 -- all are out where all numbers are 0
-pub keeps_first : (turns : List ℤ) (shape : Shape) (h : Held) → IsTally turns (λ leaf. pos 0) → Shows shape (λ leaf. false) h
-    → Shows shape (in_by turns) h
+pub keeps_first : (turns : List ℤ) (shape : Shape) (h : Held) → IsTally turns (λ leaf. pos 0)
+    → Shows shape (λ leaf. false) h → Shows shape (in_by turns) h
 keeps_first turns shape h z s =
     subst (λ (f : ℕ → Bool). Shows shape f h) (fun_ext (λ leaf. sym (ap (λ (z : ℤ). not (is_zero z)) (z leaf)))) s
 

@@ -22,7 +22,7 @@ bundles-init c =
           (all_dropped bs));
       leaves = c.in_ok-turns.ensures.leaves;
       ready = c.in_ok-held.ensures.ready;
-      room = c.in_ok-held.ensures.leaves ∙ c.len-in_ok-turns.ensures;
+      room = c.in_ok-held.ensures.leaves ∙ c.len.ensures;
       shows = keeps_first c.in_ok-turns.turns.items c.args.shape.now c.in_ok-held.held c.in_ok-turns.ensures.zeros
           c.in_ok-held.ensures.shows;
       size = ap length items;
@@ -52,7 +52,8 @@ bundles-preserved c =
     let b : List ℕ = c.index-bundles-bundles.result in
     let old : List ℤ = c.bundles.turns.items in
     let new : List ℤ = c.add_bundle.new.turns.items in
-    let shows : Shows shape (in_by new) c.add_bundle.new.held = c.add_bundle.ensures.held.shows shape c.bundles.invariant.shows in
+    let shows : Shows shape (in_by new) c.add_bundle.new.held =
+    c.add_bundle.ensures.held.shows shape c.bundles.invariant.shows in
     let items : c.push-in-bundles.new.self.items ≡ c.bundles.values.items ++ (c.value.result ∷ []) =
     c.in_ok-push-2.ensures.items in
     let turns : IsTally new (λ leaf. headings es leaf (concat (drop (length bs - (i + 1)) bs))) =
