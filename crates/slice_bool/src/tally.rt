@@ -80,7 +80,7 @@ fn add_edge(turns: &mut Vec<i64>, held: &mut Held, e: &LeafEdge)
     }
 }
 
-// Whether a leaf with this number of turns round a point holds it.
+// Whether a leaf is in by its number.
 fn is_inside(turns: &[i64], leaf: u32) -> bool
     requires { leaf < length turns.now }
     ensures { result ≡ in_by turns.now leaf }

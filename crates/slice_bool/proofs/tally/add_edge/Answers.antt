@@ -1,5 +1,5 @@
 -- The leaf goes in or out with its number.
-use Rattle.std.proofs.Common.{◌≡◌, ℕ, Bool, List, get_or, ap, ◌∙◌, arith}
+use Rattle.std.proofs.Common.{◌≡◌, ℕ, List, get_or, ap, ◌∙◌}
 use Rattle.std.specs.Prelude.{ℤ, pos, ◌+ℤ◌, ◌==◌, if◌then◌else◌}
 use Rattle.slice_bool.specs.Tally.{IsTally, heading_of}
 use Rattle.slice_bool.specs.Keeping.{in_by}
