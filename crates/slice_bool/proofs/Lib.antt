@@ -31,3 +31,4 @@ pub mod NearLevel
 pub mod Bundled
 pub mod Climbing
 pub mod OneMade
+pub mod Keeping

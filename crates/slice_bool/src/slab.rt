@@ -11,8 +11,9 @@ ghost use Rattle.slice_bool.specs.Beside.{AreMembers, AreLeftValues, RisesFirst,
 
 use crate::border_piece::push_between;
 use crate::stop::spot_on;
-use crate::tally::{add_bundle, is_held, no_turns};
+use crate::tally::{add_bundle, no_turns};
 use scad_geom::{LeafEdge, Level, Shape};
+use slice_held::Held;
 use slice_slab::{Bundle, slab};
 use slice_snap::Piece;
 use std::alloc::{AllocError, Global};
@@ -108,13 +109,13 @@ fn left_values(
     ensures { IfOk result (λ v. AreLeftValues edges.now shape.now bundles.now v.items) }
 {
     let mut turns = no_turns(alloc, edges)?;
+    let mut held = Held::new(alloc, shape, turns.len())?;
     let mut values = Vec::new(alloc);
     values.push(false)?;
     'bundles: for i in 0..bundles.len() {
         let bundle = &bundles[bundles.len() - 1 - i];
-        add_bundle(&mut turns, edges, bundle.as_slice());
-        let value = is_held(alloc, shape, &turns)?;
-        values.push(value)?;
+        add_bundle(&mut turns, &mut held, edges, bundle.as_slice());
+        values.push(held.value())?;
     }
     Ok(values)
 }

@@ -1,10 +1,13 @@
 //! Winding numbers of leaves, by leaf.
 ghost use Rattle.std.specs.Prelude.{◌≡◌, ◌<◌, ◌≤◌, ◌==◌, ◌^◌, ◌+ℤ◌, pos, not, map, length, IfOk, All, slice_index_or, if◌then◌else◌, unsigned_abs, vec_len};
 ghost use Rattle.scad_geom.specs.Sign.{is_zero};
+ghost use Rattle.slice_held.specs.Held.{IsReady, leaf_count};
 ghost use Rattle.slice_bool.specs.Tally.{IsTally, AreWithin, is_held, heading_of, headings};
+ghost use Rattle.slice_bool.specs.Keeping.{in_by, KeepsUp};
 
 use scad_geom::whole::plus;
 use scad_geom::{Edge, LeafEdge, Shape, holds};
+use slice_held::Held;
 use std::alloc::{AllocError, Global};
 
 /// 0 for each leaf of the list.
@@ -40,20 +43,49 @@ pub(crate) fn add(turns: &mut Vec<i64>, leaf: u32, by: i64)
     turns[leaf as usize] = plus(turns[leaf as usize], by);
 }
 
-/// Adds the headings of a bundle's edges.
-pub(crate) fn add_bundle(turns: &mut Vec<i64>, edges: &[LeafEdge], numbers: &[u32])
+/// Adds the headings of a bundle's edges, and puts in or out each leaf whose number becomes or leaves 0.
+pub(crate) fn add_bundle(turns: &mut Vec<i64>, held: &mut Held, edges: &[LeafEdge], numbers: &[u32])
     requires leaves { All (λ e. e.leaf < vec_len turns.old) edges.now }
     requires there { All (λ k. k < length edges.now) numbers.now }
     requires small { AreWithin (2 ^ 61) turns.old.items }
     requires few { length numbers.now < 2 ^ 61 }
+    requires ready { IsReady held.old }
+    requires size { leaf_count held.old ≡ vec_len turns.old }
     ensures turns { IsTally turns.new.items
         (λ leaf. slice_index_or turns.old.items leaf (pos 0) +ℤ headings edges.now leaf numbers.now) }
     ensures len { vec_len turns.new ≡ vec_len turns.old }
+    ensures held { KeepsUp turns.old.items turns.new.items held.old held.new }
 {
     'numbers: for k in numbers {
-        let e = &edges[*k as usize];
-        add(turns, e.leaf, heading(&e.edge));
+        add_edge(turns, held, &edges[*k as usize]);
     }
+}
+
+// Adds an edge's heading, and puts its leaf in or out where the number becomes or leaves 0.
+fn add_edge(turns: &mut Vec<i64>, held: &mut Held, e: &LeafEdge)
+    requires there { e.now.leaf < vec_len turns.old }
+    requires small { unsigned_abs (slice_index_or turns.old.items e.now.leaf (pos 0)) ≤ 2 ^ 62 }
+    requires ready { IsReady held.old }
+    requires size { leaf_count held.old ≡ vec_len turns.old }
+    ensures turns { IsTally turns.new.items (λ k. slice_index_or turns.old.items k (pos 0)
+        +ℤ (if e.now.leaf == k then heading_of e.now.edge else pos 0)) }
+    ensures len { vec_len turns.new ≡ vec_len turns.old }
+    ensures held { KeepsUp turns.old.items turns.new.items held.old held.new }
+{
+    let before = is_inside(turns, e.leaf);
+    add(turns, e.leaf, heading(&e.edge));
+    let inside = is_inside(turns, e.leaf);
+    if inside != before {
+        held.set(e.leaf, inside);
+    }
+}
+
+// Whether a leaf is in by its number.
+fn is_inside(turns: &[i64], leaf: u32) -> bool
+    requires { leaf < length turns.now }
+    ensures { result ≡ in_by turns.now leaf }
+{
+    turns[leaf as usize] != 0
 }
 
 fn heading(e: &Edge) -> i64

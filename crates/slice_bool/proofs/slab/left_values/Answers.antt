@@ -3,7 +3,10 @@ use Rattle.std.proofs.Common.{◌≡◌, ◌+◌, ◌-◌, ◌<◌, ◌^◌, ℕ
 use Rattle.std.specs.Prelude.{ℤ, pos, ◌+ℤ◌}
 use Rattle.std.specs.List.{All, concat}
 use Rattle.scad_geom.specs.declared.level.LeafEdge.{LeafEdge}
-use Rattle.slice_bool.specs.Tally.{IsTally, is_held, headings}
+use Rattle.slice_held.specs.Held.{Shows}
+use Rattle.slice_bool.specs.Tally.{IsTally, headings}
+use Rattle.slice_bool.specs.Keeping.{in_by}
+use Rattle.slice_bool.proofs.Keeping.{keeps_first}
 use Rattle.slice_bool.specs.Beside.{left_value}
 use Rattle.slice_bool.proofs.Bundled.{there_at, few_to_left, tally_more, held_left, all_dropped, one_more, first_value, length_more}
 use Rattle.slice_bool.proofs.slab.left_values.Goals as goal
@@ -18,6 +21,10 @@ bundles-init c =
       turns = λ leaf. c.in_ok-turns.ensures.zeros leaf ∙ sym (ap (λ (bs : List (List ℕ)). headings es leaf (concat bs))
           (all_dropped bs));
       leaves = c.in_ok-turns.ensures.leaves;
+      ready = c.in_ok-held.ensures.ready;
+      room = c.in_ok-held.ensures.leaves ∙ c.len.ensures;
+      shows = keeps_first c.in_ok-turns.turns.items c.args.shape.now c.in_ok-held.held c.in_ok-turns.ensures.zeros
+          c.in_ok-held.ensures.shows;
       size = ap length items;
       each = λ k h. first_value es c.args.shape.now bs c.push.new.self.items k items h;
     }
@@ -45,22 +52,25 @@ bundles-preserved c =
     let b : List ℕ = c.index-bundles-bundles.result in
     let old : List ℤ = c.bundles.turns.items in
     let new : List ℤ = c.add_bundle.new.turns.items in
-    let items : c.push-in-bundles.new.self.items ≡ c.bundles.values.items ++ (c.in_ok-value.value ∷ []) =
+    let shows : Shows shape (in_by new) c.add_bundle.new.held =
+    c.add_bundle.ensures.held.shows shape c.bundles.invariant.shows in
+    let items : c.push-in-bundles.new.self.items ≡ c.bundles.values.items ++ (c.value.result ∷ []) =
     c.in_ok-push-2.ensures.items in
     let turns : IsTally new (λ leaf. headings es leaf (concat (drop (length bs - (i + 1)) bs))) =
     tally_more es bs i b old new c.bundles-test.true c.bundles.invariant.turns
     (λ leaf. c.add_bundle.ensures.turns leaf ∙ ap (λ (b : List ℕ). get_or old leaf (pos 0) +ℤ headings es leaf b)
     (c.as_slice.ensures ∙ c.index-bundles-bundles.is)) in
-    let value : c.in_ok-value.value ≡ left_value es shape (drop (length bs - (i + 1)) bs) =
-    c.in_ok-value.ensures
-    ∙ ap (λ (ws : List ℤ). is_held (λ leaf. get_or ws leaf (pos 0)) shape) c.deref.ensures.value
-    ∙ held_left es shape (drop (length bs - (i + 1)) bs) new turns in
+    let value : c.value.result ≡ left_value es shape (drop (length bs - (i + 1)) bs) =
+    c.value.ensures shape (in_by new) shows ∙ held_left es shape (drop (length bs - (i + 1)) bs) new turns in
     record {
       turns = turns;
       leaves = subst (λ (n : ℕ). All (λ e. e.leaf < n) es) (sym c.add_bundle.ensures.len) c.bundles.invariant.leaves;
-      size = length_more c.bundles.values.items c.push-in-bundles.new.self.items c.in_ok-value.value (i + 1) items
+      ready = c.add_bundle.ensures.held.ready;
+      room = c.add_bundle.ensures.held.size ∙ c.bundles.invariant.room ∙ sym c.add_bundle.ensures.len;
+      shows = shows;
+      size = length_more c.bundles.values.items c.push-in-bundles.new.self.items c.value.result (i + 1) items
           c.bundles.invariant.size;
       each = λ k h. ap (λ (vs : List Bool). get_or vs k false) items
-          ∙ one_more (λ k. left_value es shape (drop (length bs - k) bs)) c.bundles.values.items c.in_ok-value.value i
+          ∙ one_more (λ k. left_value es shape (drop (length bs - k) bs)) c.bundles.values.items c.value.result i
           c.bundles.invariant.size c.bundles.invariant.each value k h;
     }
