@@ -23,9 +23,9 @@ MANY_LINES = b"for (i = [1:2000]) echo(i);"
 KEPT = {"m.scad": CUBE, "o.cli": b"kept\n"}
 FULL_REPORT = 'exec "$@" >/dev/full'
 SLOW_PIPE = """{ printf cu; sleep 0.2; printf 'be(1);'; sleep 0.2; echo; } | "$@" """
-# The program starts once the pipe's other end is closed.
+# The program starts once the pipe's other end is closed, also in the shell that made the pipe.
 UNREAD_PIPE = """
-    { until [ -e closed ]; do sleep 0.01; done; "$@"; echo $? >status; } | { exec <&-; >closed; }
+    { until ! (trap '' PIPE; printf . 2>/dev/null); do sleep 0.01; done; "$@"; echo $? >status; } | { exec <&-; >closed; }
     answer=$(cat status); rm closed status; exit "$answer" """
 
 
