@@ -6,7 +6,7 @@ use Rattle.slice_bool.specs.Beside.{left_value}
 use Rattle.slice_bool.specs.Beside.{RisesFirst, piece_of}
 use Rattle.slice_bool.proofs.Bundled.{are_members, rises_at, piece_at, value_beside, any_default}
 use Rattle.slice_bool.proofs.Stretches.{more_pieces}
-use Rattle.slice_bool.proofs.slab.push_bundles.Goals as goal
+use Rattle.slice_bool.proofs.slab.push_slab_pieces.Goals as goal
 
 pub left_values-requires-clause-members : goal.left_values-requires-clause-members
 left_values-requires-clause-members c = are_members c.args.edges.now c.args.lower.now c.args.upper.now
