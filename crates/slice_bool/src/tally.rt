@@ -139,9 +139,18 @@ fn put_leaf_back(turns: &mut Vec<i64>, held: &mut Held, leaf: u32)
     ensures held { KeepsUp turns.old.items turns.new.items held.old held.new }
 {
     if is_inside(turns, leaf) {
-        turns[leaf as usize] = 0;
+        put_number_back(turns, leaf);
         held.set(leaf, false);
     }
+}
+
+fn put_number_back(turns: &mut Vec<i64>, leaf: u32)
+    requires { leaf < vec_len turns.old }
+    ensures turns { IsTally turns.new.items
+        (λ k. if leaf == k then pos 0 else slice_index_or turns.old.items k (pos 0)) }
+    ensures len { vec_len turns.new ≡ vec_len turns.old }
+{
+    turns[leaf as usize] = 0;
 }
 
 // Whether a leaf is in by its number.

@@ -35,10 +35,10 @@ StandFrom all k es = (i : ℕ) → i < length es → (k + i < length all) × (ge
 pub stand_from_first : (es : List LeafEdge) → StandFrom es 0 es
 stand_from_first es i h = let z : 0 + i ≡ i = omega arith in rw z (h, refl)
 
-next_from : (all : List LeafEdge) (k : ℕ) (e : LeafEdge) (es : List LeafEdge) → StandFrom all k (e ∷ es) → StandFrom all (k + 1) es
+pub next_from : (all : List LeafEdge) (k : ℕ) (e : LeafEdge) (es : List LeafEdge) → StandFrom all k (e ∷ es) → StandFrom all (k + 1) es
 next_from all k e es h i o = let t = h (suc i) (omega arith) in let q : k + suc i ≡ k + 1 + i = omega arith in rw q at t
 
-first_from : (all : List LeafEdge) (k : ℕ) (e : LeafEdge) (es : List LeafEdge) → StandFrom all k (e ∷ es)
+pub first_from : (all : List LeafEdge) (k : ℕ) (e : LeafEdge) (es : List LeafEdge) → StandFrom all k (e ∷ es)
     → (k < length all) × (get_or all k no_edge ≡ e)
 first_from all k e es h = let t = h zero (omega arith) in let z : k + zero ≡ k = omega arith in rw z at t
 
