@@ -32,3 +32,5 @@ pub mod Bundled
 pub mod Climbing
 pub mod OneMade
 pub mod Keeping
+pub mod Untouched
+pub mod Touched

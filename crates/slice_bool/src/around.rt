@@ -1,5 +1,5 @@
 //! The value of a shape just above and just below a stop.
-ghost use Rattle.std.specs.Prelude.{◌≡◌, ◌<◌, ◌^◌, pos, true, length, IfOk, All, vec_len};
+ghost use Rattle.std.specs.Prelude.{◌≡◌, ◌<◌, ◌^◌, pos, true, false, length, All, vec_len};
 ghost use Rattle.scad_geom.specs.Limits.{coordinate_limit};
 ghost use Rattle.scad_geom.specs.Within.{IsEdgeWithin};
 ghost use Rattle.scad_geom.specs.Winding.{wind_by};
@@ -7,33 +7,40 @@ ghost use Rattle.scad_geom.specs.Shape.{is_in_by};
 ghost use Rattle.slice_snap.specs.Spots.{point_of};
 ghost use Rattle.scad_geom.specs.Segment.{segments};
 ghost use Rattle.scad_geom.specs.Leaves.{edges_of};
+ghost use Rattle.scad_geom.specs.declared.shape.Shape.{Shape};
+ghost use Rattle.slice_held.specs.Held.{IsReady, Shows, leaf_count};
 ghost use Rattle.slice_bool.specs.Tally.{IsTally};
+ghost use Rattle.slice_bool.specs.Keeping.{KeepsUp, AreAtRest, ComeToRest};
 ghost use Rattle.slice_bool.specs.SmallPoints.{point_at};
 
 use crate::small_point::SmallPoint;
 use crate::stop::Stop;
-use crate::tally::{add, is_held, no_turns};
+use crate::tally::{Tallies, put_back, tally};
 use crate::turn::turn_of;
 use scad_geom::wide::times;
-use scad_geom::{LeafEdge, Shape};
-use std::alloc::{AllocError, Global};
+use scad_geom::LeafEdge;
+use slice_held::Held;
 
-/// Whether the shape holds what lies hard by a stop to its right, above or below its height.
-pub(crate) fn holds_by(
-    alloc: Global,
-    edges: &[LeafEdge],
-    shape: &Shape,
-    above: bool,
-    s: &Stop,
-) -> Result<bool, AllocError>
+/// Whether the shape of the tallies holds what lies hard by a stop to its right, above or below its height.
+pub(crate) fn holds_by(tallies: &mut Tallies, edges: &[LeafEdge], above: bool, s: &Stop) -> bool
     requires within { All (λ e. IsEdgeWithin coordinate_limit e.edge) edges.now }
     requires few { length edges.now < 2 ^ 32 }
-    ensures { IfOk result
-        (λ b. b ≡ is_in_by above true edges.now shape.now (point_of s.now.spot)) }
+    requires leaves { All (λ e. e.leaf < vec_len tallies.old.turns) edges.now }
+    requires rest { AreAtRest tallies.old }
+    ensures value { (shape : Shape) → Shows shape (λ leaf. false) tallies.old.held
+        → result ≡ is_in_by above true edges.now shape (point_of s.now.spot) }
+    ensures rest { ComeToRest tallies.old tallies.new }
 {
-    let mut turns = no_turns(alloc, edges)?;
-    add_turns(&mut turns, edges, above, &small_point_of(s));
-    is_held(alloc, shape, &turns)
+    add_turns(
+        &mut tallies.turns,
+        &mut tallies.held,
+        edges,
+        above,
+        &small_point_of(s),
+    );
+    let value = tallies.held.value();
+    put_back(&mut tallies.turns, &mut tallies.held, edges);
+    value
 }
 
 // The point that a stop stands for.
@@ -48,14 +55,19 @@ fn small_point_of(s: &Stop) -> SmallPoint
     }
 }
 
-fn add_turns(turns: &mut Vec<i64>, edges: &[LeafEdge], above: bool, p: &SmallPoint)
+fn add_turns(turns: &mut Vec<i64>, held: &mut Held, edges: &[LeafEdge], above: bool, p: &SmallPoint)
     requires within { All (λ e. IsEdgeWithin coordinate_limit e.edge) edges.now }
     requires few { length edges.now < 2 ^ 32 }
     requires leaves { All (λ e. e.leaf < vec_len turns.old) edges.now }
     requires zeros { IsTally turns.old.items (λ leaf. pos 0) }
-    ensures { IsTally turns.new.items (λ leaf. wind_by above true (point_at p.now) (segments (edges_of leaf edges.now))) }
+    requires ready { IsReady held.old }
+    requires size { leaf_count held.old ≡ vec_len turns.old }
+    ensures turns { IsTally turns.new.items
+        (λ leaf. wind_by above true (point_at p.now) (segments (edges_of leaf edges.now))) }
+    ensures len { vec_len turns.new ≡ vec_len turns.old }
+    ensures held { KeepsUp turns.old.items turns.new.items held.old held.new }
 {
     'edges: for e in edges {
-        add(turns, e.leaf, turn_of(above, p, &e.edge));
+        tally(turns, held, e.leaf, turn_of(above, p, &e.edge));
     }
 }

@@ -1,79 +1,84 @@
 //! The pieces on a level.
-ghost use Rattle.std.specs.Prelude.{◌≡◌, ◌<◌, ◌^◌, ◌++◌, length, OnOk, All};
+ghost use Rattle.std.specs.Prelude.{◌≡◌, ◌++◌, OnOk, All};
 ghost use Rattle.std.specs.List.{position};
 ghost use Rattle.scad_geom.specs.Limits.{coordinate_limit};
-ghost use Rattle.scad_geom.specs.Within.{IsEdgeWithin};
 ghost use Rattle.scad_geom.specs.Level.{IsLevelWithin};
 ghost use Rattle.slice_bool.specs.Pieces.{covers, stretch_piece, flat_pieces};
 ghost use Rattle.slice_bool.specs.Stops.{spots_in};
 ghost use Rattle.slice_bool.specs.Near.{IsNear};
+ghost use Rattle.slice_bool.specs.Keeping.{AreFor};
 ghost use Rattle.slice_bool.specs.Parts.{AreOnLevel, Extends};
 
 use crate::around::holds_by;
 use crate::border_piece::push_between;
 use crate::covering::covering_edge;
-use crate::near::{Near, edges_near};
+use crate::near::Near;
 use crate::stop::Stop;
 use crate::stops::stops;
-use scad_geom::{LeafEdge, Level, Shape};
+use crate::sweep::Sweep;
+use crate::tally::Tallies;
+use scad_geom::Level;
 use slice_snap::Piece;
-use std::alloc::{AllocError, Global};
+use std::alloc::AllocError;
 
 pub(crate) fn push_flat_pieces(
-    alloc: Global,
+    sweep: &Sweep<'_>,
+    near: &Near,
+    tallies: &mut Tallies,
     out: &mut Vec<Piece>,
-    edges: &[LeafEdge],
-    shape: &Shape,
     at: &Level,
 ) -> Result<(), AllocError>
-    requires within { All (λ e. IsEdgeWithin coordinate_limit e.edge) edges.now }
-    requires few { length edges.now < 2 ^ 32 }
     requires at { IsLevelWithin coordinate_limit at.now }
-    ensures { OnOk result (Extends (AreOnLevel edges.now shape.now at.now) out.old.items out.new.items) }
+    requires near { IsNear sweep.now.edges.now at.now near.now }
+    requires tallies { AreFor sweep.now.edges.now sweep.now.shape.now tallies.old }
+    ensures pieces { OnOk result
+        (Extends (AreOnLevel sweep.now.edges.now sweep.now.shape.now at.now) out.old.items out.new.items) }
+    ensures tallies { OnOk result (AreFor sweep.now.edges.now sweep.now.shape.now tallies.new) }
 {
-    let stops = stops(alloc, edges, at)?;
-    let near = edges_near(alloc, edges, at)?;
-    push_stretches(alloc, out, edges, &near, shape, &stops)
+    let stops = stops(sweep.alloc, &near.touching, at)?;
+    push_stretches(sweep, near, tallies, out, &stops)
 }
 
 fn push_stretches(
-    alloc: Global,
-    out: &mut Vec<Piece>,
-    edges: &[LeafEdge],
+    sweep: &Sweep<'_>,
     near: &Near,
-    shape: &Shape,
+    tallies: &mut Tallies,
+    out: &mut Vec<Piece>,
     stops: &[Stop],
 ) -> Result<(), AllocError>
-    requires within { All (λ e. IsEdgeWithin coordinate_limit e.edge) edges.now }
-    requires near { All (λ s. IsNear edges.now s.spot.at near.now) stops.now }
-    ensures { OnOk result (out.new.items ≡ out.old.items ++ flat_pieces edges.now shape.now (spots_in stops.now)) }
+    requires near { All (λ s. IsNear sweep.now.edges.now s.spot.at near.now) stops.now }
+    requires tallies { AreFor sweep.now.edges.now sweep.now.shape.now tallies.old }
+    ensures pieces { OnOk result (out.new.items
+        ≡ out.old.items ++ flat_pieces sweep.now.edges.now sweep.now.shape.now (spots_in stops.now)) }
+    ensures tallies { OnOk result (AreFor sweep.now.edges.now sweep.now.shape.now tallies.new) }
 {
     'stops: for i in 1..stops.len() {
-        push_stretch(alloc, out, edges, near, shape, &stops[i - 1], &stops[i])?;
+        push_stretch(sweep, near, tallies, out, &stops[i - 1], &stops[i])?;
     }
     Ok(())
 }
 
 // The piece between two neighbouring stops.
 fn push_stretch(
-    alloc: Global,
-    out: &mut Vec<Piece>,
-    edges: &[LeafEdge],
+    sweep: &Sweep<'_>,
     near: &Near,
-    shape: &Shape,
+    tallies: &mut Tallies,
+    out: &mut Vec<Piece>,
     s: &Stop,
     t: &Stop,
 ) -> Result<(), AllocError>
-    requires within { All (λ e. IsEdgeWithin coordinate_limit e.edge) edges.now }
-    requires near { IsNear edges.now s.now.spot.at near.now }
-    ensures { OnOk result (out.new.items
-        ≡ out.old.items ++ stretch_piece edges.now shape.now s.now.spot t.now.spot (position (covers s.now.spot t.now.spot) edges.now)) }
+    requires near { IsNear sweep.now.edges.now s.now.spot.at near.now }
+    requires tallies { AreFor sweep.now.edges.now sweep.now.shape.now tallies.old }
+    ensures pieces { OnOk result (out.new.items ≡ out.old.items
+        ++ stretch_piece sweep.now.edges.now sweep.now.shape.now s.now.spot t.now.spot
+        (position (covers s.now.spot t.now.spot) sweep.now.edges.now)) }
+    ensures tallies { OnOk result (AreFor sweep.now.edges.now sweep.now.shape.now tallies.new) }
 {
-    match covering_edge(edges, &near.flats, s, t) {
+    match covering_edge(sweep.edges, &near.flats, s, t) {
         None => Ok(()),
         Some(name) => {
-            let above = holds_by(alloc, &near.passing, shape, true, s)?;
-            let below = holds_by(alloc, &near.passing, shape, false, s)?;
+            let above = holds_by(tallies, &near.passing, true, s);
+            let below = holds_by(tallies, &near.passing, false, s);
             push_between(out, above, below, &s.spot, &t.spot, name)
         }
     }

@@ -18,6 +18,7 @@ mod slab;
 mod small_point;
 mod stop;
 mod stops;
+mod sweep;
 mod tally;
 mod turn;
 

@@ -8,9 +8,14 @@ mod bundle;
 mod collect;
 mod group;
 pub mod laws;
+mod lifting;
+mod lower_ends;
 mod order;
 mod passage;
+mod rising_edges;
 mod slab_bundles;
+mod start;
 
 pub use bundle::Bundle;
+pub use rising_edges::Active;
 pub use slab_bundles::slab;

@@ -10,8 +10,8 @@ use Rattle.slice_bool.proofs.flat.push_stretches.Goals as goal
 
 pub stops-preserved : goal.stops-preserved
 stops-preserved c =
-    let es = c.args.edges.now in
-    let shape = c.args.shape.now in
+    let es = c.args.sweep.now.edges.now in
+    let shape = c.args.sweep.now.shape.now in
     let ss : List Stop = c.args.stops.now in
     let i : ℕ = c.stops.i in
     let s : Stop = c.index-stops-i.result in
@@ -19,17 +19,20 @@ stops-preserved c =
     let q : i + 1 - 1 ≡ i = omega arith in
     let step = stretch_at es shape ss i s t (omega arith) c.stops-test.true in
     let piece = ap₂ (λ (s t : Stop). stretch es shape s.spot t.spot) c.index-stops-i.is c.index-stops-i-in-stops.is in
-    ap (λ (k : ℕ). c.push_stretch.new.out.items ++ flat_pieces es shape (drop k (spots_in ss))) q
+    record {
+      pieces = ap (λ (k : ℕ). c.push_stretch.new.out.items ++ flat_pieces es shape (drop k (spots_in ss))) q
     ∙ more_pieces c.stops.out.items c.push_stretch.new.out.items (stretch es shape s.spot t.spot)
     (flat_pieces es shape (drop i (spots_in ss))) _
-    c.in_ok-push_stretch.ensures
+    c.in_ok-push_stretch.ensures.pieces
     (ap (λ (ps : List Piece). c.stops.out.items ++ ps)
     (ap (λ (ps : List Piece). ps ++ flat_pieces es shape (drop i (spots_in ss))) piece ∙ sym step) ∙
-    c.stops.invariant)
+    c.stops.invariant.pieces);
+      tallies = c.in_ok-push_stretch.ensures.tallies;
+    }
 
-pub returns : goal.returns
-returns c =
+pub returns-clause-pieces : goal.returns-clause-pieces
+returns-clause-pieces c =
     sym (append-nil c.stops.out.items)
     ∙ ap (λ (ps : List Piece). c.stops.out.items ++ ps)
-    (sym (no_stretch c.args.edges.now c.args.shape.now c.args.stops.now c.stops.i c.stops-test.false))
-    ∙ c.stops.invariant
+    (sym (no_stretch c.args.sweep.now.edges.now c.args.sweep.now.shape.now c.args.stops.now c.stops.i c.stops-test.false))
+    ∙ c.stops.invariant.pieces
