@@ -12,13 +12,13 @@ ghost use Rattle.slice_work.specs.Rates.{rates_of};
 ghost use Rattle.slice_work.specs.Sums.{AreSums, IsSummary};
 
 use crate::fault::WorkFault;
-use crate::finding::{budget_of, layout_of};
+use crate::layer_lines::send_layer;
 use crate::layer_work::LayerWork;
 use crate::round::{Round, work_round};
+use crate::round_layers::{budget_of, layout_of};
 use crate::summary::Summary;
 use crate::sums::Sums;
 use crate::want::Want;
-use crate::writing::send_layer;
 use gcode_text::Rates;
 use scad_io::{Desk, Gate};
 use scad_words::Settings;

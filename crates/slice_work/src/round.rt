@@ -6,7 +6,7 @@ ghost use Rattle.slice_work.specs.Rounds.{IsRound, round_limit};
 
 use crate::layer::Drawn;
 use crate::layer_work::LayerWork;
-use crate::pooling::{Share, pool};
+use crate::workers::{Share, pool};
 use layer_board::Board;
 use scad_io::Gate;
 use std::alloc::{AllocError, Global};
