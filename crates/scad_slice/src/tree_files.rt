@@ -1,8 +1,9 @@
 //! The files of a tree.
-ghost use Rattle.std.specs.Prelude.{◌≡◌, ◌+◌, ◌≤◌, ◌<◌, IfOk, IfSome, OnOk};
+ghost use Rattle.std.specs.Prelude.{◌≡◌, ◌+◌, ◌≤◌, ◌<◌, IfOk, IfSome};
 ghost use Rattle.scad_script.specs.Script.{layers};
-ghost use Rattle.scad_script.specs.Played.{Carries, HasRisen};
-ghost use Rattle.scad_script.specs.Run.{Sound, CreatesNone};
+ghost use Rattle.scad_script.specs.Played.{Carries};
+ghost use Rattle.scad_script.specs.Run.{Sound};
+ghost use Rattle.scad_script.specs.Kept.{Keeps};
 ghost use Rattle.scad_tree.specs.View.{solid_of};
 ghost use Rattle.scad_words.specs.Settings.{AreInRange};
 ghost use Rattle.slice_work.specs.Part.{layer_limit};
@@ -54,11 +55,7 @@ pub fn draw<R: Threads + Sync, D: Desk, G: Gate>(
         result (D.view desk.old) (D.view desk.new) }
     ensures written { IfOk result (λ w. (part : _) → IsPart want settings.now (solid_of tree.now) part
         → IsWritten want settings.now part (layer_count settings.now.layer_height (solid_of tree.now)) w) }
-    ensures sound { OnOk result (Sound (D.view desk.new)) }
-    ensures creates { OnOk result (CreatesNone (D.view desk.old) (D.view desk.new)) }
-    ensures files { D.files desk.new ≡ D.files desk.old }
-    ensures later { D.faults desk.old ≤ D.faults desk.new }
-    ensures cause { HasRisen result (D.faults desk.old) (D.faults desk.new) }
+    ensures kept { Keeps D.files D.view D.faults desk.old desk.new result }
 {
     let count = tree.layers(settings.layer_height);
     let heads = send_heads(alloc, settings, want, count, desk)?;
@@ -93,11 +90,7 @@ fn send_layers<R: Threads + Sync, D: Desk, G: Gate>(
         result (D.view desk.old) (D.view desk.new) }
     ensures told { IfOk result (λ s. (part : _) → IsPart want settings.now (solid_of tree.now) part
         → IsSummary want (rates_of settings.now) part count s) }
-    ensures sound { OnOk result (Sound (D.view desk.new)) }
-    ensures creates { OnOk result (CreatesNone (D.view desk.old) (D.view desk.new)) }
-    ensures files { D.files desk.new ≡ D.files desk.old }
-    ensures later { D.faults desk.old ≤ D.faults desk.new }
-    ensures cause { HasRisen result (D.faults desk.old) (D.faults desk.new) }
+    ensures kept { Keeps D.files D.view D.faults desk.old desk.new result }
 {
     let layers = TreeWork {
         tree,

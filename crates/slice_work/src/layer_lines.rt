@@ -1,11 +1,12 @@
 //! One layer is written.
-ghost use Rattle.std.specs.Prelude.{◌≡◌, ◌≢◌, ◌+◌, ◌*◌, ◌^◌, ◌<◌, ◌≤◌, ◌∷◌, [], true, length, IfOk, OnOk};
+ghost use Rattle.std.specs.Prelude.{◌≡◌, ◌≢◌, ◌+◌, ◌*◌, ◌^◌, ◌<◌, ◌≤◌, ◌∷◌, [], true, length, IfOk};
 ghost use Rattle.std.specs.List.{sum_by};
 ghost use Rattle.scad_io.specs.Desk.{side};
 ghost use Rattle.scad_script.specs.Steps.{Sends};
 ghost use Rattle.scad_script.specs.Script.{first};
-ghost use Rattle.scad_script.specs.Played.{Carries, HasRisen, IsThere};
-ghost use Rattle.scad_script.specs.Run.{Sound, CreatesNone};
+ghost use Rattle.scad_script.specs.Played.{Carries, IsThere};
+ghost use Rattle.scad_script.specs.Run.{Sound};
+ghost use Rattle.scad_script.specs.Kept.{Keeps};
 ghost use Rattle.gcode_text.specs.Amount.{paths_volume};
 ghost use Rattle.slice_work.specs.Part.{layer_limit, move_count};
 ghost use Rattle.slice_work.specs.Script.{AreRates, AreThere, laid_out, outline_lines, move_lines, written, stopped};
@@ -44,11 +45,7 @@ pub fn send_layer<D: Desk>(
         (stopped result) (D.view desk.old) (D.view desk.new) }
     ensures sums { IfOk result (λ s. s ≡ with_layer want rates.now layer
         (laid_out layout.entry.0.now layout.entry.1.now) sums) }
-    ensures sound { OnOk result (Sound (D.view desk.new)) }
-    ensures creates { OnOk result (CreatesNone (D.view desk.old) (D.view desk.new)) }
-    ensures files { D.files desk.new ≡ D.files desk.old }
-    ensures later { D.faults desk.old ≤ D.faults desk.new }
-    ensures cause { HasRisen (stopped result) (D.faults desk.old) (D.faults desk.new) }
+    ensures kept { Keeps D.files D.view D.faults desk.old desk.new (stopped result) }
 {
     let (loops, paths) = layout;
     let cli = send_outlines(alloc, rates, layer, loops, desk)?;
@@ -77,11 +74,7 @@ fn send_outlines<D: Desk>(
     ensures carries { Carries (first (Sends Out.Cli (outline_lines rates.now.layer_height layer loops.now) ∷ []))
         (stopped result) (D.view desk.old) (D.view desk.new) }
     ensures size { IfOk result (λ n. n ≡ length (outline_lines rates.now.layer_height layer loops.now)) }
-    ensures sound { OnOk result (Sound (D.view desk.new)) }
-    ensures creates { OnOk result (CreatesNone (D.view desk.old) (D.view desk.new)) }
-    ensures files { D.files desk.new ≡ D.files desk.old }
-    ensures later { D.faults desk.old ≤ D.faults desk.new }
-    ensures cause { HasRisen (stopped result) (D.faults desk.old) (D.faults desk.new) }
+    ensures kept { Keeps D.files D.view D.faults desk.old desk.new (stopped result) }
 {
     let mut text = Vec::new(alloc);
     cli_text::write_layer(&mut text, rates.layer_height * (layer + 1), loops)?;
@@ -110,11 +103,7 @@ fn send_moves<D: Desk>(
       volume = sums.volume + paths_volume rates.now paths.now;
       gcode = sums.gcode + length (move_lines rates.now sums.volume layer paths.now);
     }) }
-    ensures sound { OnOk result (Sound (D.view desk.new)) }
-    ensures creates { OnOk result (CreatesNone (D.view desk.old) (D.view desk.new)) }
-    ensures files { D.files desk.new ≡ D.files desk.old }
-    ensures later { D.faults desk.old ≤ D.faults desk.new }
-    ensures cause { HasRisen (stopped result) (D.faults desk.old) (D.faults desk.new) }
+    ensures kept { Keeps D.files D.view D.faults desk.old desk.new (stopped result) }
 {
     if sums.volume > VOLUME_LIMIT || !are_few(paths) {
         return Err(WorkFault::Memory);
@@ -139,11 +128,7 @@ fn send<D: Desk>(desk: &mut D, out: Out, piece: &[u8]) -> Result<(), WorkFault>
     requires made { IsThere out (D.view desk.old) }
 
     ensures carries { Carries (first (Sends out piece.now ∷ [])) (stopped result) (D.view desk.old) (D.view desk.new) }
-    ensures sound { OnOk result (Sound (D.view desk.new)) }
-    ensures creates { OnOk result (CreatesNone (D.view desk.old) (D.view desk.new)) }
-    ensures files { D.files desk.new ≡ D.files desk.old }
-    ensures later { D.faults desk.old ≤ D.faults desk.new }
-    ensures cause { HasRisen (stopped result) (D.faults desk.old) (D.faults desk.new) }
+    ensures kept { Keeps D.files D.view D.faults desk.old desk.new (stopped result) }
 {
     match write_all(desk, out, piece) {
         Ok(()) => Ok(()),

@@ -1,8 +1,9 @@
 //! All layers of a part.
-ghost use Rattle.std.specs.Prelude.{◌≡◌, ◌+◌, ◌<◌, ◌≤◌, IfOk, OnOk};
+ghost use Rattle.std.specs.Prelude.{◌≡◌, ◌+◌, ◌<◌, ◌≤◌, IfOk};
 ghost use Rattle.scad_script.specs.Script.{layers};
-ghost use Rattle.scad_script.specs.Played.{Carries, HasRisen};
-ghost use Rattle.scad_script.specs.Run.{Sound, CreatesNone};
+ghost use Rattle.scad_script.specs.Played.{Carries};
+ghost use Rattle.scad_script.specs.Run.{Sound};
+ghost use Rattle.scad_script.specs.Kept.{Keeps};
 ghost use Rattle.scad_words.specs.Settings.{AreInRange};
 ghost use Rattle.slice_work.specs.Part.{Part, layer_limit};
 ghost use Rattle.slice_work.specs.Shares.{AreDrawnOf};
@@ -56,11 +57,7 @@ pub fn work<R: Threads + Sync, W: LayerWork, D: Desk, G: Gate>(
         (D.view desk.new) }
     ensures summary { IfOk result (λ s. (part : Part) → W.draws work.now part
         → IsSummary want (rates_of settings.now) part count s) }
-    ensures sound { OnOk result (Sound (D.view desk.new)) }
-    ensures creates { OnOk result (CreatesNone (D.view desk.old) (D.view desk.new)) }
-    ensures files { D.files desk.new ≡ D.files desk.old }
-    ensures later { D.faults desk.old ≤ D.faults desk.new }
-    ensures cause { HasRisen (stopped result) (D.faults desk.old) (D.faults desk.new) }
+    ensures kept { Keeps D.files D.view D.faults desk.old desk.new (stopped result) }
 {
     let rates = rates_of(settings);
     let mut sums = Sums::NONE;
@@ -98,11 +95,7 @@ fn send_round<D: Desk>(
     ensures sums { IfOk result (λ s. (part : Part) → AreDrawnOf part round.now.done.items
         → AreSums want rates.now part round.now.first sums
         → AreSums want rates.now part (round.now.first + round.now.count) s) }
-    ensures sound { OnOk result (Sound (D.view desk.new)) }
-    ensures creates { OnOk result (CreatesNone (D.view desk.old) (D.view desk.new)) }
-    ensures files { D.files desk.new ≡ D.files desk.old }
-    ensures later { D.faults desk.old ≤ D.faults desk.new }
-    ensures cause { HasRisen (stopped result) (D.faults desk.old) (D.faults desk.new) }
+    ensures kept { Keeps D.files D.view D.faults desk.old desk.new (stopped result) }
 {
     let mut sums = sums;
     'layers: for n in 0..round.least {

@@ -7,7 +7,7 @@ pub returns-in_err-written : goal.returns-in_err-written
 returns-in_err-written g c part is =
     sample_stops c.args.n c.args.settings.now part (solid_of c.args.tree.now) _ _ _ _ (search rules)
     (c.in_err-written.ensures.carries part is)
-    c.in_err-written.ensures.cause (search rules)
+    c.in_err-written.ensures.kept.cause (search rules)
 
 pub returns : goal.returns
 returns g c part is =

@@ -63,7 +63,7 @@ rounds-preserved g c =
           (kept.sums part draws)));
       sound = search rules;
       there = still_there c.args.want (g.D.Desk.view c.rounds.desk)
-          (g.D.Desk.view c.send_round.new.desk) c.in_ok-sums.ensures.creates kept.there;
+          (g.D.Desk.view c.send_round.new.desk) c.in_ok-sums.ensures.kept.creates kept.there;
       creates = search rules;
       files = search rules;
       later = search rules;
