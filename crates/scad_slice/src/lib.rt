@@ -15,6 +15,7 @@ mod slice_command;
 mod summary;
 mod tree_files;
 mod tree_work;
+mod workpiece;
 
 pub use layer_count::{LAYER_LIMIT, count_layers};
 pub use plan_command::plan;
@@ -22,3 +23,4 @@ pub use slice_command::slice;
 pub use slice_work::{Summary, Want};
 pub use summary::Written;
 pub use tree_files::draw;
+pub use workpiece::Workpiece;

@@ -1,9 +1,8 @@
 //! What follows the tree of a source that is planned.
-ghost use Rattle.std.specs.Prelude.{◌≡◌, ◌≤◌, ◌<◌, false};
+ghost use Rattle.std.specs.Prelude.{◌≡◌, ◌≤◌, false};
 ghost use Rattle.scad_script.specs.Played.{Completes, HasRisen};
 ghost use Rattle.scad_script.specs.Run.{Sound};
 ghost use Rattle.scad_tree.specs.View.{solid_of};
-ghost use Rattle.scad_words.specs.Settings.{AreInRange};
 ghost use Rattle.slice_work.specs.declared.want.Want.TheVariants.{Plan};
 ghost use Rattle.scad_slice.specs.Parts.{IsPart};
 ghost use Rattle.scad_slice.specs.Script.{plan_script};
@@ -11,11 +10,10 @@ ghost use Rattle.scad_slice.specs.Script.{plan_script};
 use crate::layer_count::count_layers;
 use crate::lines::plan_line;
 use crate::tree_files::draw;
+use crate::workpiece::Workpiece;
 use scad_fault::Text;
 use scad_io::{Desk, Gate, Out};
 use scad_script::{Stop, make};
-use scad_tree::Tree;
-use scad_words::Settings;
 use slice_work::Want;
 use std::alloc::Global;
 use std::thread::Threads;
@@ -24,36 +22,30 @@ use std::thread::Threads;
 /// line, or why it stopped.
 ///
 /// More than 20,000 layers are refused before a file is created. The outlines are created first. The work on the
-/// layers is done by so many workers, and a layer that passes a budget ends both files, as `draw` says.
+/// layers is done by the workpiece's workers, and a layer that passes a budget ends both files, as `draw` says.
 pub fn plan<R: Threads + Sync, D: Desk, G: Gate>(
     rt: &R,
     alloc: Global,
-    tree: &Tree,
-    settings: &Settings,
+    workpiece: &Workpiece<'_, G>,
     cli: &str,
     gcode: &str,
-    workers: u32,
     desk: &mut D,
-    gate: &G,
 ) -> Result<Text, Stop>
-    requires settings { AreInRange settings.now }
-    requires some { 1 ≤ workers }
-    requires most { workers ≤ 64 }
     requires sound { Sound (D.view desk.old) }
     requires absent { (D.view desk.old).cli.created ≡ false }
     requires missing { (D.view desk.old).gcode.created ≡ false }
 
-    ensures completes { (part : _) → IsPart Plan settings.now (solid_of tree.now) part
-        → Completes (plan_script settings.now cli.now gcode.now part (solid_of tree.now))
+    ensures completes { (part : _) → IsPart Plan workpiece.now.settings (solid_of workpiece.now.tree.now) part
+        → Completes (plan_script workpiece.now.settings cli.now gcode.now part (solid_of workpiece.now.tree.now))
         result (D.view desk.old) (D.view desk.new) }
     ensures files { D.files desk.new ≡ D.files desk.old }
     ensures later { D.faults desk.old ≤ D.faults desk.new }
     ensures cause { HasRisen result (D.faults desk.old) (D.faults desk.new) }
 {
-    count_layers(tree, settings.layer_height)?;
+    count_layers(workpiece.tree, workpiece.settings.layer_height)?;
     make(desk, Out::Cli, cli)?;
     make(desk, Out::Gcode, gcode)?;
-    let written = draw(rt, alloc, tree, settings, Want::Plan, workers, desk, gate)?;
+    let written = draw(rt, alloc, workpiece, Want::Plan, desk)?;
     let line = plan_line(alloc, &written.summary)?;
     Ok(Text::from_vec(line))
 }

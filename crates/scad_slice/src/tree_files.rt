@@ -5,7 +5,6 @@ ghost use Rattle.scad_script.specs.Played.{Carries};
 ghost use Rattle.scad_script.specs.Run.{Sound};
 ghost use Rattle.scad_script.specs.Kept.{Keeps};
 ghost use Rattle.scad_tree.specs.View.{solid_of};
-ghost use Rattle.scad_words.specs.Settings.{AreInRange};
 ghost use Rattle.slice_work.specs.Part.{layer_limit};
 ghost use Rattle.slice_work.specs.Script.{AreThere, layer_steps, stop_of};
 ghost use Rattle.slice_work.specs.Rates.{rates_of};
@@ -17,17 +16,16 @@ ghost use Rattle.scad_slice.specs.Script.{files, IsWritten};
 use crate::pieces::{send_heads, send_tails};
 use crate::summary::{Sizes, Written};
 use crate::tree_work::TreeWork;
+use crate::workpiece::Workpiece;
 use scad_io::{Desk, Gate};
 use scad_script::{Refusal, Stop};
-use scad_tree::Tree;
-use scad_words::Settings;
-use slice_work::{Summary, Want, WorkFault, work};
+use slice_work::{Print, Summary, Want, WorkFault, work};
 use std::alloc::Global;
 use std::thread::Threads;
 
 /// Writes the files of a tree to outputs that are created: the heads, the layers from the lowest upwards, and the
-/// ends. The work on the layers is done by so many workers; the bytes and the answer are the same for every number of
-/// them.
+/// ends. The work on the layers is done by the workpiece's workers; the bytes and the answer are the same for every
+/// number of them.
 ///
 /// Where the outlines alone are wanted, the printing program isn't written. A layer whose section has more than
 /// 20,000 edges, or then more than 2,000,000 crossings of edges, ends the files before its own bytes; with a plan so
@@ -36,30 +34,27 @@ use std::thread::Threads;
 pub fn draw<R: Threads + Sync, D: Desk, G: Gate>(
     rt: &R,
     alloc: Global,
-    tree: &Tree,
-    settings: &Settings,
+    workpiece: &Workpiece<'_, G>,
     want: Want,
-    workers: u32,
     desk: &mut D,
-    gate: &G,
 ) -> Result<Written, Stop>
-    requires few { layer_count settings.now.layer_height (solid_of tree.now) ≤ layer_limit }
-    requires settings { AreInRange settings.now }
-    requires some { 1 ≤ workers }
-    requires most { workers ≤ 64 }
+    requires few { layer_count workpiece.now.settings.layer_height (solid_of workpiece.now.tree.now) ≤ layer_limit }
     requires sound { Sound (D.view desk.old) }
     requires there { AreThere want (D.view desk.old) }
 
-    ensures carries { (part : _) → IsPart want settings.now (solid_of tree.now) part
-        → Carries (files want settings.now part (layer_count settings.now.layer_height (solid_of tree.now)))
+    ensures carries { (part : _) → IsPart want workpiece.now.settings (solid_of workpiece.now.tree.now) part
+        → Carries (files want workpiece.now.settings part
+        (layer_count workpiece.now.settings.layer_height (solid_of workpiece.now.tree.now)))
         result (D.view desk.old) (D.view desk.new) }
-    ensures written { IfOk result (λ w. (part : _) → IsPart want settings.now (solid_of tree.now) part
-        → IsWritten want settings.now part (layer_count settings.now.layer_height (solid_of tree.now)) w) }
+    ensures written { IfOk result (λ w. (part : _)
+        → IsPart want workpiece.now.settings (solid_of workpiece.now.tree.now) part
+        → IsWritten want workpiece.now.settings part
+        (layer_count workpiece.now.settings.layer_height (solid_of workpiece.now.tree.now)) w) }
     ensures kept { Keeps D.files D.view D.faults desk.old desk.new result }
 {
-    let count = tree.layers(settings.layer_height);
-    let heads = send_heads(alloc, settings, want, count, desk)?;
-    let told = send_layers(rt, alloc, tree, settings, want, count, workers, desk, gate)?;
+    let count = workpiece.tree.layers(workpiece.settings.layer_height);
+    let heads = send_heads(alloc, &workpiece.settings, want, count, desk)?;
+    let told = send_layers(rt, alloc, workpiece, want, count, desk)?;
     let tails = send_tails(alloc, want, desk)?;
     match written(told, heads, tails) {
         Some(written) => Ok(written),
@@ -70,36 +65,34 @@ pub fn draw<R: Threads + Sync, D: Desk, G: Gate>(
 fn send_layers<R: Threads + Sync, D: Desk, G: Gate>(
     rt: &R,
     alloc: Global,
-    tree: &Tree,
-    settings: &Settings,
+    workpiece: &Workpiece<'_, G>,
     want: Want,
     count: u32,
-    workers: u32,
     desk: &mut D,
-    gate: &G,
 ) -> Result<Summary, Stop>
     requires few { count ≤ layer_limit }
-    requires settings { AreInRange settings.now }
-    requires some { 1 ≤ workers }
-    requires most { workers ≤ 64 }
     requires sound { Sound (D.view desk.old) }
     requires there { AreThere want (D.view desk.old) }
 
-    ensures carries { (part : _) → IsPart want settings.now (solid_of tree.now) part
-        → Carries (layers (layer_steps want (rates_of settings.now) part) 0 count)
+    ensures carries { (part : _) → IsPart want workpiece.now.settings (solid_of workpiece.now.tree.now) part
+        → Carries (layers (layer_steps want (rates_of workpiece.now.settings) part) 0 count)
         result (D.view desk.old) (D.view desk.new) }
-    ensures told { IfOk result (λ s. (part : _) → IsPart want settings.now (solid_of tree.now) part
-        → IsSummary want (rates_of settings.now) part count s) }
+    ensures told { IfOk result (λ s. (part : _)
+        → IsPart want workpiece.now.settings (solid_of workpiece.now.tree.now) part
+        → IsSummary want (rates_of workpiece.now.settings) part count s) }
     ensures kept { Keeps D.files D.view D.faults desk.old desk.new result }
 {
-    let layers = TreeWork {
-        tree,
-        settings: *settings,
+    let print = Print {
+        settings: workpiece.settings,
         want,
+        workers: workpiece.workers,
     };
-    match work(
-        rt, alloc, count, &layers, settings, want, workers, desk, gate,
-    ) {
+    let layers = TreeWork {
+        tree: workpiece.tree,
+        print,
+        gate: workpiece.gate,
+    };
+    match work(rt, alloc, count, &layers, &print, desk) {
         Ok(told) => Ok(told),
         Err(fault) => Err(stop_of(fault)),
     }

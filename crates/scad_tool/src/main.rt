@@ -7,6 +7,7 @@ mod evaluation;
 mod finish;
 mod laws;
 mod meaning;
+mod order;
 mod run;
 mod sample;
 mod settings;

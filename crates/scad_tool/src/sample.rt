@@ -1,6 +1,5 @@
 //! The end of `sample`: its tree is planned, and nothing is kept of the files but their sizes.
-ghost use Rattle.std.specs.Prelude.{◌≡◌, ◌≤◌, ◌++◌, decimal, IfOk, OnOk};
-ghost use Rattle.scad_words.specs.Settings.{AreInRange};
+ghost use Rattle.std.specs.Prelude.{◌≡◌, ◌++◌, decimal, IfOk, OnOk};
 ghost use Rattle.slice_work.specs.declared.want.Want.TheVariants.{Plan};
 ghost use Rattle.scad_tree.specs.View.{solid_of};
 ghost use Rattle.scad_slice.specs.Parts.{IsPart};
@@ -12,9 +11,7 @@ use itoa::Buffer;
 use scad_fault::Text;
 use scad_io::{Gate, NullDesk, Out};
 use scad_script::{Stop, make};
-use scad_slice::{Summary, Want, Written, count_layers, draw};
-use scad_tree::Tree;
-use scad_words::Settings;
+use scad_slice::{Summary, Want, Workpiece, Written, count_layers, draw};
 use std::alloc::{AllocError, Global};
 use std::thread::Threads;
 
@@ -23,31 +20,16 @@ pub fn sampled<R: Threads + Sync, G: Gate>(
     rt: &R,
     alloc: Global,
     n: u32,
-    tree: &Tree,
-    settings: &Settings,
-    workers: u32,
-    gate: &G,
+    workpiece: &Workpiece<'_, G>,
 ) -> Result<Text, Stop>
-    requires settings { AreInRange settings.now }
-    requires some { 1 ≤ workers }
-    requires most { workers ≤ 64 }
-
-    ensures { (part : _) → IsPart Plan settings.now (solid_of tree.now) part → IsEnd (sample_script n settings.now part (solid_of tree.now)) result }
+    ensures { (part : _) → IsPart Plan workpiece.now.settings (solid_of workpiece.now.tree.now) part
+        → IsEnd (sample_script n workpiece.now.settings part (solid_of workpiece.now.tree.now)) result }
 {
-    count_layers(tree, settings.layer_height)?;
+    count_layers(workpiece.tree, workpiece.settings.layer_height)?;
     let mut desk = NullDesk::new();
     make(&mut desk, Out::Cli, "")?;
     make(&mut desk, Out::Gcode, "")?;
-    let written = draw(
-        rt,
-        alloc,
-        tree,
-        settings,
-        Want::Plan,
-        workers,
-        &mut desk,
-        gate,
-    )?;
+    let written = draw(rt, alloc, workpiece, Want::Plan, &mut desk)?;
     let line = sample_line(alloc, n, &written)?;
     Ok(Text::from_vec(line))
 }

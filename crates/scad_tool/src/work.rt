@@ -4,7 +4,6 @@ ghost use Rattle.scad_script.specs.Script.{IsWithin};
 ghost use Rattle.scad_script.specs.Played.{Carries, Completes, HasRisen};
 ghost use Rattle.scad_script.specs.Run.{Sound, CreatesNone};
 ghost use Rattle.scad_words.specs.Job.{job_of};
-ghost use Rattle.scad_words.specs.Settings.{AreInRange};
 ghost use Rattle.scad_tool.specs.Words.{model_of};
 ghost use Rattle.scad_tool.specs.Answer.{model_read_first, input_script, AreDrawn};
 ghost use Rattle.scad_tool.specs.Inputs.{source_limit};
@@ -12,12 +11,13 @@ ghost use Rattle.scad_tool.specs.Playing.{Gets, Works, AsksNothing};
 
 use crate::evaluation::evaluate;
 use crate::finish::finish;
+use crate::order::Order;
 use crate::settings::settle;
 use scad_fault::{Budget, Text};
 use scad_io::{Desk, Gate};
 use scad_sample::sample_source;
 use scad_script::{Input, Refusal, Stop, load};
-use scad_words::{Command, Job, Settings, WordFault, read_words};
+use scad_words::{Command, Job, WordFault, read_words};
 use std::alloc::Global;
 use std::thread::Threads;
 
@@ -44,7 +44,12 @@ pub fn work<R: Threads + Sync, D: Desk, G: Gate>(
     let job = asked(alloc, words)?;
     let settings = settle(alloc, &job.settings, desk)?;
     let input = source(alloc, &job.command, desk)?;
-    follow(rt, alloc, &job, &settings, input, desk, gate)
+    let order = Order {
+        command: &job.command,
+        settings,
+        workers: job.workers,
+    };
+    follow(rt, alloc, &order, input, desk, gate)
 }
 
 /// The job that the words ask for.
@@ -86,22 +91,19 @@ fn source<D: Desk>(alloc: Global, command: &Command, desk: &mut D) -> Result<Inp
 fn follow<R: Threads + Sync, D: Desk, G: Gate>(
     rt: &R,
     alloc: Global,
-    job: &Job,
-    settings: &Settings,
+    order: &Order,
     input: Input,
     desk: &mut D,
     gate: &G,
 ) -> Result<Text, Stop>
-    requires some { 1 ≤ job.now.workers }
-    requires few { job.now.workers ≤ 64 }
-    requires in_range { AreInRange settings.now }
     requires within { IsWithin (Some source_limit) input }
     requires sound { Sound (D.view desk.old) }
     requires no_cli { (D.view desk.old).cli.created ≡ false }
     requires no_gcode { (D.view desk.old).gcode.created ≡ false }
 
     ensures completes { (parts : _) → AreDrawn (Some input) parts
-        → Completes (input_script job.now.command settings.now parts (Some input)) result (D.view desk.old) (D.view desk.new) }
+        → Completes (input_script order.now.command.now order.now.settings parts (Some input)) result
+        (D.view desk.old) (D.view desk.new) }
     ensures files { D.files desk.new ≡ D.files desk.old }
     ensures later { D.faults desk.old ≤ D.faults desk.new }
     ensures cause { HasRisen result (D.faults desk.old) (D.faults desk.new) }
@@ -112,5 +114,5 @@ fn follow<R: Threads + Sync, D: Desk, G: Gate>(
     };
     let tree = evaluate(alloc, source.as_slice(), desk)?;
     tree.are_solids();
-    finish(rt, alloc, job, settings, &tree, desk, gate)
+    finish(rt, alloc, order, &tree, desk, gate)
 }

@@ -24,37 +24,43 @@ use std::alloc::Global;
 /// 10^12 cubic metres.
 const VOLUME_LIMIT: u128 = 1_000_000_000_000_000_000_000_000_000_000;
 
+/// A layer as it is written: its number, its outlines, and the paths of its moves.
+#[derive(Clone, Copy, Debug)]
+pub struct LaidLayer<'a> {
+    pub number: u32,
+    pub loops: &'a [Loop],
+    pub paths: &'a [Path],
+}
+
 /// Writes a layer: the lines of its outlines, and then those of its moves, where they are wanted. What is counted of
 /// the layers so far then counts this one too.
 pub fn send_layer<D: Desk>(
     alloc: Global,
     want: Want,
     rates: &Rates,
-    layer: u32,
-    layout: (&[Loop], &[Path]),
+    layer: &LaidLayer,
     sums: Sums,
     desk: &mut D,
 ) -> Result<Sums, WorkFault>
     requires rates { AreRates rates.now }
-    requires layer { layer < layer_limit }
+    requires layer { layer.now.number < layer_limit }
     requires sound { Sound (D.view desk.old) }
     requires there { AreThere want (D.view desk.old) }
 
-    ensures carries { Carries (first (written want rates.now sums.volume layer
-        (laid_out layout.entry.0.now layout.entry.1.now)))
+    ensures carries { Carries (first (written want rates.now sums.volume layer.now.number
+        (laid_out layer.now.loops.now layer.now.paths.now)))
         (stopped result) (D.view desk.old) (D.view desk.new) }
-    ensures sums { IfOk result (λ s. s ≡ with_layer want rates.now layer
-        (laid_out layout.entry.0.now layout.entry.1.now) sums) }
+    ensures sums { IfOk result (λ s. s ≡ with_layer want rates.now layer.now.number
+        (laid_out layer.now.loops.now layer.now.paths.now) sums) }
     ensures kept { Keeps D.files D.view D.faults desk.old desk.new (stopped result) }
 {
-    let (loops, paths) = layout;
-    let cli = send_outlines(alloc, rates, layer, loops, desk)?;
-    let Some(sums) = sums.with_outlines(loops.len(), cli) else {
+    let cli = send_outlines(alloc, rates, layer.number, layer.loops, desk)?;
+    let Some(sums) = sums.with_outlines(layer.loops.len(), cli) else {
         return Err(WorkFault::Memory);
     };
     match want {
         Want::Outlines => Ok(sums),
-        Want::Plan => send_moves(alloc, rates, layer, paths, sums, desk),
+        Want::Plan => send_moves(alloc, rates, layer.number, layer.paths, sums, desk),
     }
 }
 

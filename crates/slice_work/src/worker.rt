@@ -10,18 +10,16 @@ use crate::layer::{Drawn, LayerEnd};
 use crate::layer_work::LayerWork;
 use crate::workers::Share;
 use layer_board::{Board, Claim, Pass};
-use scad_io::Gate;
 use std::alloc::{AllocError, Global};
 
 /// One worker's part of a round whose layers start at `first`: draws layers from the board until the end is told,
-/// skips those above a failed one, and works the others, each between the gate's calls.
-pub fn share<W: LayerWork, G: Gate>(
+/// skips those above a failed one, and works the others.
+pub fn share<W: LayerWork>(
     alloc: Global,
     board: &Board,
     pass: Pass,
     first: u32,
     work: &W,
-    gate: &G,
 ) -> Result<Share, AllocError>
     requires of { IsOf board.now pass }
     requires empty { IsEmpty (view pass) }
@@ -40,10 +38,7 @@ pub fn share<W: LayerWork, G: Gate>(
             continue;
         }
         let layer = first + n;
-        gate.before(layer);
-        let worked = work.draw(alloc, layer);
-        gate.after(layer);
-        let end = worked?;
+        let end = work.draw(alloc, layer)?;
         settle(board, &mut pass, n, &end);
         done.push(Drawn { layer, end })?;
     }

@@ -11,7 +11,6 @@ use crate::layer::Drawn;
 use crate::layer_work::LayerWork;
 use crate::worker::share;
 use layer_board::{Board, Pass};
-use scad_io::Gate;
 use std::alloc::{AllocError, Global};
 use std::thread::{Threads, join};
 
@@ -23,14 +22,13 @@ pub struct Share {
 }
 
 /// What the workers of these passes do of a round, in threads where the runtime gives them.
-pub fn pool<R: Threads + Sync, W: LayerWork, G: Gate>(
+pub fn pool<R: Threads + Sync, W: LayerWork>(
     rt: &R,
     alloc: Global,
     board: &Board,
     passes: Vec<Pass>,
     first: u32,
     work: &W,
-    gate: &G,
 ) -> Result<Share, AllocError>
     requires some { 0 < vec_len passes }
     requires fresh { All (IsFresh board.now) passes.items }
@@ -44,23 +42,23 @@ pub fn pool<R: Threads + Sync, W: LayerWork, G: Gate>(
         let Some(pass) = low.pop() else {
             unreachable!()
         };
-        return share(alloc, board, pass, first, work, gate);
+        return share(alloc, board, pass, first, work);
     }
     let high = low.split_off(low.len() / 2)?;
     let (a, b) = join(
         rt,
         move || -> Result<Share, AllocError>
-            requires { IsSync R.row × IsSync W.row × IsSync G.row × (0 < vec_len low)
+            requires { IsSync R.row × IsSync W.row × (0 < vec_len low)
                 × All (IsFresh board.now) low.items × (first + layers_of board.now ≤ layer_limit) }
             ensures { IfOk result (λ s. IsPool board.entry.now first (vec_len low) s
                 × ((part : Part) → W.draws work.entry.now part → AreDrawnOf part s.done.items)) }
-        { pool(rt, alloc, board, low, first, work, gate) },
+        { pool(rt, alloc, board, low, first, work) },
         move || -> Result<Share, AllocError>
-            requires { IsSync R.row × IsSync W.row × IsSync G.row × (0 < vec_len high)
+            requires { IsSync R.row × IsSync W.row × (0 < vec_len high)
                 × All (IsFresh board.now) high.items × (first + layers_of board.now ≤ layer_limit) }
             ensures { IfOk result (λ s. IsPool board.entry.now first (vec_len high) s
                 × ((part : Part) → W.draws work.entry.now part → AreDrawnOf part s.done.items)) }
-        { pool(rt, alloc, board, high, first, work, gate) },
+        { pool(rt, alloc, board, high, first, work) },
     );
     together(board, a?, b?)
 }

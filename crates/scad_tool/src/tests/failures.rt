@@ -10,6 +10,7 @@ use crate::sample::sampled;
 use scad_fault::Text;
 use scad_io::{MemoryDesk, Open};
 use scad_script::report;
+use scad_slice::Workpiece;
 use scad_words::Settings;
 use std::alloc::{AllocError, Global};
 use std::process::Abort;
@@ -187,7 +188,13 @@ fn a_sample_with_a_failing_report(rt: HostRuntime) -> Result<(), Fail> {
     let settings = Settings::defaults();
     for workers in [1, 2, 64] {
         for (call, code) in [(0, 5), (1, 0)] {
-            let line = sampled(&rt, alloc, 7, &tree, &settings, workers, &Open);
+            let piece = Workpiece {
+                tree: &tree,
+                settings,
+                workers,
+                gate: &Open,
+            };
+            let line = sampled(&rt, alloc, 7, &piece);
             let mut desk = desk_with_settings(alloc, b"", [call].to_vec(alloc)?)?;
             let status = report(alloc, line, &mut desk);
             let answer = answer_on(alloc, status, &desk)?;

@@ -3,6 +3,7 @@ use super::{Answer, ROOM, answer_of, desk_with};
 use crate::evaluation::evaluate;
 use crate::sample::sampled;
 use scad_io::Open;
+use scad_slice::Workpiece;
 use scad_words::Settings;
 use std::alloc::{AllocError, Global};
 use std::process::Abort;
@@ -174,8 +175,13 @@ fn a_sample_tells_sizes(rt: HostRuntime) -> Result<(), Fail> {
     let Ok(tree) = evaluate(alloc, PLATE.as_bytes(), &mut desk) else {
         return Err(Fail::new("the plate has a tree"));
     };
-    let settings = Settings::defaults();
-    let Ok(line) = sampled(&rt, alloc, 7, &tree, &settings, 3, &Open) else {
+    let piece = Workpiece {
+        tree: &tree,
+        settings: Settings::defaults(),
+        workers: 3,
+        gate: &Open,
+    };
+    let Ok(line) = sampled(&rt, alloc, 7, &piece) else {
         return Err(Fail::new("the plate is planned"));
     };
     let (cli, gcode) = (PLATE_OUTLINES.len(), PLATE_PROGRAM.len());

@@ -13,7 +13,7 @@ pub returns-in_err-make-clause-completes : goal.returns-in_err-make-clause-compl
 returns-in_err-make-clause-completes g c part of_part whole start left =
     stops_all whole _ _ start _ (search rules)
     (c.in_err-make.ensures.carries whole _ start
-    (as_left (plan_few c.args.settings.now c.args.cli.now c.args.gcode.now part (solid_of c.args.tree.now)
+    (as_left (plan_few c.args.workpiece.now.settings c.args.cli.now c.args.gcode.now part (solid_of c.args.workpiece.now.tree.now)
     (subst (λ n. n ≤ layer_limit) c.in_ok-count_layers.ensures.count c.in_ok-count_layers.ensures.few)) left))
 
 pub returns-in_err-make-2-clause-completes : goal.returns-in_err-make-2-clause-completes
@@ -21,7 +21,7 @@ returns-in_err-make-2-clause-completes g c part of_part whole start left =
     stops_all whole _ _ start _ (search rules)
     (c.in_err-make-2.ensures.carries whole _ start
     (c.in_ok-make.ensures.carries whole _ start
-    (as_left (plan_few c.args.settings.now c.args.cli.now c.args.gcode.now part (solid_of c.args.tree.now)
+    (as_left (plan_few c.args.workpiece.now.settings c.args.cli.now c.args.gcode.now part (solid_of c.args.workpiece.now.tree.now)
     (subst (λ n. n ≤ layer_limit) c.in_ok-count_layers.ensures.count c.in_ok-count_layers.ensures.few)) left)))
 
 pub returns-in_err-written-clause-completes : goal.returns-in_err-written-clause-completes
@@ -30,7 +30,7 @@ returns-in_err-written-clause-completes g c part of_part whole start left =
     (c.in_err-written.ensures.carries part of_part whole _ start
     (c.in_ok-make-2.ensures.carries whole _ start
     (c.in_ok-make.ensures.carries whole _ start
-    (as_left (plan_few c.args.settings.now c.args.cli.now c.args.gcode.now part (solid_of c.args.tree.now)
+    (as_left (plan_few c.args.workpiece.now.settings c.args.cli.now c.args.gcode.now part (solid_of c.args.workpiece.now.tree.now)
     (subst (λ n. n ≤ layer_limit) c.in_ok-count_layers.ensures.count c.in_ok-count_layers.ensures.few)) left))))
 
 pub returns-in_err-line-clause-completes : goal.returns-in_err-line-clause-completes
@@ -40,18 +40,18 @@ returns-in_err-line-clause-completes g c part of_part whole start left =
       c.in_ok-written.ensures.carries part of_part whole _ start
           (c.in_ok-make-2.ensures.carries whole _ start
           (c.in_ok-make.ensures.carries whole _ start
-          (as_left (plan_few c.args.settings.now c.args.cli.now c.args.gcode.now part (solid_of c.args.tree.now)
+          (as_left (plan_few c.args.workpiece.now.settings c.args.cli.now c.args.gcode.now part (solid_of c.args.workpiece.now.tree.now)
           (subst (λ n. n ≤ layer_limit) c.in_ok-count_layers.ensures.count c.in_ok-count_layers.ensures.few)) left))),
     )
 
 pub returns-clause-completes : goal.returns-clause-completes
 returns-clause-completes g c part of_part whole start left =
     as_left
-    (plan_ends c.args.settings.now part (layer_count c.args.settings.now.layer_height (solid_of c.args.tree.now))
+    (plan_ends c.args.workpiece.now.settings part (layer_count c.args.workpiece.now.settings.layer_height (solid_of c.args.workpiece.now.tree.now))
     c.in_ok-written.written c.from_vec.result
     (c.in_ok-written.ensures.written part of_part) (search rules))
     (c.in_ok-written.ensures.carries part of_part whole _ start
     (c.in_ok-make-2.ensures.carries whole _ start
     (c.in_ok-make.ensures.carries whole _ start
-    (as_left (plan_few c.args.settings.now c.args.cli.now c.args.gcode.now part (solid_of c.args.tree.now)
+    (as_left (plan_few c.args.workpiece.now.settings c.args.cli.now c.args.gcode.now part (solid_of c.args.workpiece.now.tree.now)
     (subst (λ n. n ≤ layer_limit) c.in_ok-count_layers.ensures.count c.in_ok-count_layers.ensures.few)) left))))

@@ -12,14 +12,14 @@ pub returns-in_err-heads-clause-carries : goal.returns-in_err-heads-clause-carri
 returns-in_err-heads-clause-carries g c part of_part whole rest start left =
     stops_part whole rest _ _ start _ (search rules)
     (c.in_err-heads.ensures.carries whole _ start
-    (as_left (λ k. files c.args.want c.args.settings.now part (sym c.layers-count.ensures k) rest) left))
+    (as_left (λ k. files c.args.want c.args.workpiece.now.settings part (sym c.layers-count.ensures k) rest) left))
 
 pub returns-in_err-told-clause-carries : goal.returns-in_err-told-clause-carries
 returns-in_err-told-clause-carries g c part of_part whole rest start left =
     stops_part whole rest _ _ start _ (search rules)
     (c.in_err-told.ensures.carries part of_part whole _ start
     (c.in_ok-heads.ensures.carries whole _ start
-    (as_left (λ k. files c.args.want c.args.settings.now part (sym c.layers-count.ensures k) rest) left)))
+    (as_left (λ k. files c.args.want c.args.workpiece.now.settings part (sym c.layers-count.ensures k) rest) left)))
 
 pub returns-in_err-tails-clause-carries : goal.returns-in_err-tails-clause-carries
 returns-in_err-tails-clause-carries g c part of_part whole rest start left =
@@ -27,14 +27,14 @@ returns-in_err-tails-clause-carries g c part of_part whole rest start left =
     (c.in_err-tails.ensures.carries whole rest start
     (c.in_ok-told.ensures.carries part of_part whole _ start
     (c.in_ok-heads.ensures.carries whole _ start
-    (as_left (λ k. files c.args.want c.args.settings.now part (sym c.layers-count.ensures k) rest) left))))
+    (as_left (λ k. files c.args.want c.args.workpiece.now.settings part (sym c.layers-count.ensures k) rest) left))))
 
 pub returns-in-Some-clause-carries : goal.returns-in-Some-clause-carries
 returns-in-Some-clause-carries g c part of_part whole rest start left =
     c.in_ok-tails.ensures.carries whole rest start
     (c.in_ok-told.ensures.carries part of_part whole _ start
     (c.in_ok-heads.ensures.carries whole _ start
-    (as_left (λ k. files c.args.want c.args.settings.now part (sym c.layers-count.ensures k) rest) left)))
+    (as_left (λ k. files c.args.want c.args.workpiece.now.settings part (sym c.layers-count.ensures k) rest) left)))
 
 pub returns-in-None-clause-carries : goal.returns-in-None-clause-carries
 returns-in-None-clause-carries g c part of_part whole rest start left = (
@@ -42,13 +42,13 @@ returns-in-None-clause-carries g c part of_part whole rest start left = (
   c.in_ok-tails.ensures.carries whole rest start
       (c.in_ok-told.ensures.carries part of_part whole _ start
       (c.in_ok-heads.ensures.carries whole _ start
-      (as_left (λ k. files c.args.want c.args.settings.now part (sym c.layers-count.ensures k) rest) left))),
+      (as_left (λ k. files c.args.want c.args.workpiece.now.settings part (sym c.layers-count.ensures k) rest) left))),
 )
 
 pub returns-in-Some-clause-written : goal.returns-in-Some-clause-written
 returns-in-Some-clause-written g c part of_part =
     let want = c.args.want in
-    let s = c.args.settings.now in
+    let s = c.args.workpiece.now.settings in
     subst (λ n. IsWritten want s part n c.in-Some.written) c.layers-count.ensures
     (written_so want s part c.layers-count.result c.in_ok-told.told c.in_ok-heads.heads c.in_ok-tails.tails
     c.in-Some.written c.in_ok-heads.ensures.sizes c.in_ok-tails.ensures.sizes
