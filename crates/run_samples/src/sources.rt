@@ -1,0 +1,161 @@
+//! What `check` and `tree` tell of sources. The answers come from an independent program.
+use crate::runs::{Answer, ROOM, answer_of, expect};
+use std::alloc::{AllocError, Global};
+use std::process::Abort;
+use std::test::Fail;
+use std::thread::Threads;
+
+/// A source, the status of `check`, and its report, whose lines `|` ends.
+const CHECKED: &str = r#" ~ 0 ~ ok: 0 leaves, 0 triangles, 0 layers|
+b=a; a=1; echo(b); ~ 0 ~ ECHO: undef|ok: 0 leaves, 0 triangles, 0 layers|
+module m(){$x=5; children();} m() echo($x); ~ 0 ~ ECHO: 5|ok: 0 leaves, 0 triangles, 0 layers|
+sphere(5); ~ 0 ~ ok: 1 leaves, 252 triangles, 25 layers|
+cube(1000); ~ 0 ~ ok: 1 leaves, 12 triangles, 5000 layers|
+difference(){cube(10); translate([2,2,-1]) cube([6,6,12]);} ~ 0 ~ ok: 2 leaves, 24 triangles, 50 layers|
+echo("a", x=[1,2.5], [0:2]); echo(cos(60), cos(0.5)); ~ 0 ~ ECHO: "a", x = [1, 2.5], [0 : 1 : 2]|ECHO: 0.5, 0.999924|ok: 0 leaves, 0 triangles, 0 layers|
+echo("a"); echo(1); cube(1); foo(); echo(2); ~ 1 ~ ECHO: "a"|ECHO: 1|fault 5 UnknownModule at 1:30 foo|
+cube(1000.001); ~ 1 ~ fault 13 CoordinateRange at 1:1|
+polyhedron([[0,0,0],[1,0,0],[0,1,0],[0,0,1]],[[0,1,2],[0,3,1],[1,3,2]]); ~ 1 ~ fault 12 NotClosed at 1:1|
+echo(1/0); ~ 1 ~ fault 8 ZeroDivisor at 1:7|
+x = function(a) a; ~ 1 ~ fault 4 LeftOut at 1:5 function|
+echo(1000000000*2); ~ 1 ~ fault 9 NumberRange at 1:16|
+echo(1e10); ~ 1 ~ fault 9 NumberRange at 1:6|
+assert(false); ~ 1 ~ fault 10 AssertFailed at 1:1|
+cube("a"); ~ 1 ~ fault 7 BadArgument at 1:1 cube|
+echo([0:0:3]); ~ 1 ~ fault 14 ZeroStep at 1:6|
+foo(); ~ 1 ~ fault 5 UnknownModule at 1:1 foo|
+echo(g(1)); ~ 1 ~ fault 6 UnknownFunction at 1:6 g|
+cube(1 ~ 1 ~ fault 2 Syntax at 1:7|
+echo("ab ~ 1 ~ fault 1 BadText at 1:6|
+minkowski(){cube(1); cube(1);} ~ 1 ~ fault 4 LeftOut at 1:1 minkowski|
+square(1); ~ 1 ~ fault 11 MixedDimensions at 1:1|
+linear_extrude(height=1) cube(1); ~ 1 ~ fault 11 MixedDimensions at 1:26|
+rotate_extrude() translate([-0.5,0]) square(1); ~ 1 ~ fault 7 BadArgument at 1:1 rotate_extrude|
+rotate_extrude($fn=4) square(1); ~ 0 ~ ok: 1 leaves, 32 triangles, 5 layers|
+rotate_extrude($fn=4) translate([-1,0]) square(1); ~ 0 ~ ok: 1 leaves, 32 triangles, 5 layers|
+echo(1); linear_extrude(2) square(1); ~ 0 ~ ECHO: 1|ok: 1 leaves, 12 triangles, 10 layers|"#;
+
+/// The same for `tree`.
+const SHOWN: &str = r#" ~ 0 ~ empty|
+difference(){cube(10); translate([2,2,-1]) cube([6,6,12]);} ~ 0 ~ difference|  leaf 0: 12 triangles|  leaf 1: 12 triangles|
+difference(){%cube(1); cube(2);} ~ 0 ~ leaf 0: 12 triangles|
+intersection(){%cube(1); cube(2);} ~ 0 ~ leaf 0: 12 triangles|
+echo("a"); echo(2); cube(1); ~ 0 ~ ECHO: "a"|ECHO: 2|leaf 0: 12 triangles|
+echo("a"); foo(); ~ 1 ~ ECHO: "a"|fault 5 UnknownModule at 1:12 foo|"#;
+
+fn told<R: Threads + Sync>(
+    rt: &R,
+    alloc: Global,
+    command: &str,
+    source: &str,
+    fails: Vec<u64>,
+    room: usize,
+) -> Result<Answer, AllocError> {
+    let words = [command, "m.scad"];
+    answer_of(rt, alloc, &words, source.as_bytes(), fails, room)
+}
+
+/// The report that a row wants: `|` ends a line.
+fn report_of(alloc: Global, row: &str) -> Result<String, AllocError> {
+    let mut text = String::new(alloc);
+    for c in row.chars() {
+        text.push(if c == '|' { '\n' } else { c })?;
+    }
+    Ok(text)
+}
+
+fn expect_rows<R: Threads + Sync + Abort>(
+    rt: &R,
+    alloc: Global,
+    command: &str,
+    rows: &str,
+) -> Result<(), Fail> {
+    for row in rows.lines() {
+        let (source, wanted) = row.split_once(" ~ ").ok_or("no row")?;
+        let (code, report) = wanted.split_once(" ~ ").ok_or("no status")?;
+        let answer = told(rt, alloc, command, source, Vec::new(alloc), ROOM)?;
+        let report = report_of(alloc, report)?;
+        let code = if code == "0" { 0 } else { 1 };
+        expect(rt, &answer, code, report.as_str(), row);
+        assert!(rt; answer.cli.is_empty() && answer.faults == 0, "{row}");
+    }
+    Ok(())
+}
+
+#[test]
+fn sources_checked(rt: HostRuntime) -> Result<(), Fail> {
+    expect_rows(&rt, rt.alloc(), "check", CHECKED)
+}
+
+#[test]
+fn trees_shown(rt: HostRuntime) -> Result<(), Fail> {
+    expect_rows(&rt, rt.alloc(), "tree", SHOWN)
+}
+
+const ECHOES: &str = "ECHO: \"a\"\nECHO: 2\n";
+
+const CHECK_LINE: &str = "ok: 1 leaves, 12 triangles, 5 layers\n";
+
+const SOURCE: &str = "echo(\"a\"); echo(2); cube(1);";
+
+/// A check of a source with echo lines in which the call of this number fails: whether it was done all the same.
+fn checked_but_for<R: Threads + Sync + Abort>(
+    rt: &R,
+    alloc: Global,
+    call: u64,
+) -> Result<bool, AllocError> {
+    let fails = [call].to_vec(alloc)?;
+    let answer = told(rt, alloc, "check", SOURCE, fails, ROOM)?;
+    assert!(rt; answer.cli.is_empty(), "call {call}");
+    match call {
+        // open and two reads
+        0..3 => expect(rt, &answer, 4, "read fault\n", "reading"),
+        // all echo lines go out by one write, and a failed report gets no line
+        3 => expect(rt, &answer, 5, "", "the echo lines"),
+        4 => expect(rt, &answer, 5, ECHOES, "the last line"),
+        _ => {
+            let report = format!(in alloc; "{ECHOES}{CHECK_LINE}")?;
+            expect(rt, &answer, 0, report.as_str(), "no call fails");
+        }
+    }
+    assert!(rt; (answer.faults == 0) == (answer.code == 0));
+    Ok(answer.code == 0)
+}
+
+#[test]
+fn each_call_of_a_check_failing_in_turn(rt: HostRuntime) -> Result<(), Fail> {
+    let alloc = rt.alloc();
+    for call in 0..5 {
+        assert!(rt; !checked_but_for(&rt, alloc, call)?);
+    }
+    assert!(rt; checked_but_for(&rt, alloc, 5)?);
+    Ok(())
+}
+
+/// Behind a part of the echo lines stands no line; behind all of them a part of the last one.
+#[test]
+fn room_for_a_part_of_the_report(rt: HostRuntime) -> Result<(), Fail> {
+    let alloc = rt.alloc();
+    let whole = format!(in alloc; "{ECHOES}{CHECK_LINE}")?;
+    for room in 0..whole.len() {
+        let answer = told(&rt, alloc, "check", SOURCE, Vec::new(alloc), room)?;
+        assert!(rt; answer.code == 5 && answer.faults == 1, "room {room}");
+        assert!(rt;
+            answer.report.len() == room && whole.as_bytes().starts_with(&answer.report),
+            "room {room}"
+        );
+    }
+    let answer = told(&rt, alloc, "check", SOURCE, Vec::new(alloc), whole.len())?;
+    expect(&rt, &answer, 0, whole.as_str(), "room for all");
+    Ok(())
+}
+
+#[test]
+fn longest_source_checked(rt: HostRuntime) -> Result<(), Fail> {
+    let alloc = rt.alloc();
+    let long = vec![in alloc; b'\n'; 4_194_305]?;
+    let words = ["check", "m.scad"];
+    let answer = answer_of(&rt, alloc, &words, &long, Vec::new(alloc), ROOM)?;
+    expect(&rt, &answer, 6, "budget 1 SourceLong\n", "long");
+    Ok(())
+}
