@@ -1,0 +1,10 @@
+pub mod Tops
+pub mod Orders
+pub mod Lines
+pub mod Chains
+pub mod Planar
+pub mod Rings
+pub mod Whole
+pub mod Distincts
+pub mod Flats
+pub mod Examples
