@@ -17,8 +17,8 @@ use crate::small_point::SmallPoint;
 use crate::stop::Stop;
 use crate::tally::{Tallies, put_back, tally};
 use crate::turn::turn_of;
-use scad_geom::wide::times;
 use scad_geom::LeafEdge;
+use scad_geom::wide::times;
 use slice_held::Held;
 
 /// Whether the shape of the tallies holds what lies hard by a stop to its right, above or below its height.

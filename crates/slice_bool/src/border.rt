@@ -79,7 +79,11 @@ fn all_pieces(
     requires levels { AreLevels edges.now levels.now }
     ensures { IfOk result (λ v. AreLevelPieces edges.now shape.now levels.now v.items) }
 {
-    let sweep = Sweep { alloc, edges, shape };
+    let sweep = Sweep {
+        alloc,
+        edges,
+        shape,
+    };
     let mut active = Active::new(alloc, edges)?;
     let mut tallies = no_tallies(alloc, edges, shape)?;
     let mut out = Vec::new(alloc);
@@ -124,7 +128,12 @@ fn push_level(
 }
 
 // Lifts the edges' height to a level, with the bundles between it and the next.
-fn rise(sweep: &Sweep<'_>, active: &mut Active, levels: &[Level], i: usize) -> Result<(), AllocError>
+fn rise(
+    sweep: &Sweep<'_>,
+    active: &mut Active,
+    levels: &[Level],
+    i: usize,
+) -> Result<(), AllocError>
     requires within { All (IsLevelWithin coordinate_limit) levels.now }
     requires levels { AreLevels sweep.now.edges.now levels.now }
     requires there { i < length levels.now }

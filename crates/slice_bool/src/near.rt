@@ -70,7 +70,12 @@ fn passing(alloc: Global, edges: &[LeafEdge], at: &Level) -> Result<Vec<LeafEdge
 }
 
 // Of these numbers those of flat edges on a level.
-fn flats(alloc: Global, edges: &[LeafEdge], numbers: &[u32], at: &Level) -> Result<Vec<u32>, AllocError>
+fn flats(
+    alloc: Global,
+    edges: &[LeafEdge],
+    numbers: &[u32],
+    at: &Level,
+) -> Result<Vec<u32>, AllocError>
     requires within { All (λ e. IsEdgeWithin coordinate_limit e.edge) edges.now }
     requires at { IsLevelWithin coordinate_limit at.now }
     requires there { All (λ k. k < length edges.now) numbers.now }

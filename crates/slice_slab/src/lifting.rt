@@ -50,7 +50,12 @@ impl Active {
     }
 
     /// Lifts it to the lower of two neighbouring heights, and makes the bundles between them.
-    pub fn advance(&mut self, edges: &[LeafEdge], lower: &Level, upper: &Level) -> Result<(), AllocError>
+    pub fn advance(
+        &mut self,
+        edges: &[LeafEdge],
+        lower: &Level,
+        upper: &Level,
+    ) -> Result<(), AllocError>
         requires within { All (λ e. IsEdgeWithin coordinate_limit e.edge) edges.now }
         requires few { length edges.now < 2 ^ 32 }
         requires lower { IsLevelWithin coordinate_limit lower.now }

@@ -70,7 +70,12 @@ fn compare(s: &Start, t: &Start) -> Ordering
 
 /// Adds the numbers of the edges from a place on that begin at or below a height, and returns the place of the first
 /// that doesn't.
-pub(crate) fn begin(live: &mut Vec<u32>, starts: &[Start], from: usize, at: &Level) -> Result<usize, AllocError>
+pub(crate) fn begin(
+    live: &mut Vec<u32>,
+    starts: &[Start],
+    from: usize,
+    at: &Level,
+) -> Result<usize, AllocError>
     requires from { from ≤ length starts.now }
     requires at { IsLevelWithin coordinate_limit at.now }
     ensures within { IfOk result (λ n. n ≤ length starts.now) }

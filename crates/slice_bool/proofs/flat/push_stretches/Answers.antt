@@ -21,12 +21,12 @@ stops-preserved c =
     let piece = ap₂ (λ (s t : Stop). stretch es shape s.spot t.spot) c.index-stops-i.is c.index-stops-i-in-stops.is in
     record {
       pieces = ap (λ (k : ℕ). c.push_stretch.new.out.items ++ flat_pieces es shape (drop k (spots_in ss))) q
-    ∙ more_pieces c.stops.out.items c.push_stretch.new.out.items (stretch es shape s.spot t.spot)
-    (flat_pieces es shape (drop i (spots_in ss))) _
-    c.in_ok-push_stretch.ensures.pieces
-    (ap (λ (ps : List Piece). c.stops.out.items ++ ps)
-    (ap (λ (ps : List Piece). ps ++ flat_pieces es shape (drop i (spots_in ss))) piece ∙ sym step) ∙
-    c.stops.invariant.pieces);
+          ∙ more_pieces c.stops.out.items c.push_stretch.new.out.items (stretch es shape s.spot t.spot)
+          (flat_pieces es shape (drop i (spots_in ss))) _
+          c.in_ok-push_stretch.ensures.pieces
+          (ap (λ (ps : List Piece). c.stops.out.items ++ ps)
+          (ap (λ (ps : List Piece). ps ++ flat_pieces es shape (drop i (spots_in ss))) piece ∙ sym step) ∙
+          c.stops.invariant.pieces);
       tallies = c.in_ok-push_stretch.ensures.tallies;
     }
 
