@@ -86,7 +86,7 @@ module _ (c t u : ℤ) (sum : u ≡ c +ℤ t) (some : pos 0 <ℤ t) (less : t <�
       let g7 = side_gap (pos 1) (pos 1) u q p (left_low c t r) (low_left c t p) s7 s.1.1.1.1.1.1.1.0 in
       let l = diagonal_left_passes p r q d c t u sum weak less (omega (arith, ints)) (omega (arith, ints)) g3 g7 in
       approach (c *ℤ q.d) (u *ℤ q.d) (p.x *ℤ q.d -ℤ q.x) (p.y *ℤ q.d -ℤ q.y) (r.x *ℤ q.d -ℤ q.x)
-          (r.y *ℤ q.d -ℤ q.y) ((c) *ℤ q.d) ((t) *ℤ q.d) (steep_left_by p r q d c t u sum weak less (omega (arith, ints)) (omega (arith, ints)) l) (record { over = inl g0; over_left = inl g1; left = inl g2; below_left = inl g3; below = inr g4; below_right = inr g5; right = inr g6; over_right = inl g7 })
+      (r.y *ℤ q.d -ℤ q.y) ((c) *ℤ q.d) ((t) *ℤ q.d) (steep_left_by p r q d c t u sum weak less (omega (arith, ints)) (omega (arith, ints)) l) (record { over = inl g0; over_left = inl g1; left = inl g2; below_left = inl g3; below = inr g4; below_right = inr g5; right = inr g6; over_right = inl g7 })
 
   pub diagonal_left_round : IsOctagonRound c u p r (eight_sided c t p r DiagonalLeft)
   diagonal_left_round = record {

@@ -105,7 +105,7 @@ module _ (c t u : ℤ) (sum : u ≡ c +ℤ t) (some : pos 0 <ℤ t) (less : t <�
       let g8 = side_gap (pos 1) (pos 1) u q r (left_low c t r) (low_left c t r) s8 s.1.1.1.1.1.1.1.1.0 in
       let l = line p r q d (t) (c) (high_right c t p) (high_right c t r) (low_left c t r) (low_left c t p) s4 s9 s.1.1.1.1.0 s.1.1.1.1.1.1.1.1.1.0 in
       approach (c *ℤ q.d) (u *ℤ q.d) (p.x *ℤ q.d -ℤ q.x) (p.y *ℤ q.d -ℤ q.y) (r.x *ℤ q.d -ℤ q.x)
-          (r.y *ℤ q.d -ℤ q.y) ((t) *ℤ q.d) ((c) *ℤ q.d) (left_by p r q d c t u sum weak less (omega (arith, ints)) (omega (arith, ints)) l) (record { over = inl g0; over_left = inl g1; left = inl g2; below_left = inl g3; below = inr g5; below_right = inr g6; right = inr g7; over_right = inr g8 })
+      (r.y *ℤ q.d -ℤ q.y) ((t) *ℤ q.d) ((c) *ℤ q.d) (left_by p r q d c t u sum weak less (omega (arith, ints)) (omega (arith, ints)) l) (record { over = inl g0; over_left = inl g1; left = inl g2; below_left = inl g3; below = inr g5; below_right = inr g6; right = inr g7; over_right = inr g8 })
 
   pub left_round : IsOctagonRound c u p r (eight_sided c t p r Left)
   left_round = record {

@@ -105,7 +105,7 @@ module _ (c t u : ℤ) (sum : u ≡ c +ℤ t) (some : pos 0 <ℤ t) (less : t <�
       let g9 = side_gap (pos 1) (pos 1) u q p (left_low c t p) (low_left c t p) s9 s.1.1.1.1.1.1.1.1.1.0 in
       let l = line p r q d (t) (pos 0 -ℤ c) (low_right c t p) (low_right c t r) (high_left c t r) (high_left c t p) s1 s6 s.1.0 s.1.1.1.1.1.1.0 in
       approach (c *ℤ q.d) (u *ℤ q.d) (p.x *ℤ q.d -ℤ q.x) (p.y *ℤ q.d -ℤ q.y) (r.x *ℤ q.d -ℤ q.x)
-          (r.y *ℤ q.d -ℤ q.y) ((t) *ℤ q.d) ((pos 0 -ℤ c) *ℤ q.d) (right_by p r q d c t u sum weak less (omega (arith, ints)) (omega (arith, ints)) l) (record { over = inl g0; over_left = inr g2; left = inr g3; below_left = inr g4; below = inr g5; below_right = inl g7; right = inl g8; over_right = inl g9 })
+      (r.y *ℤ q.d -ℤ q.y) ((t) *ℤ q.d) ((pos 0 -ℤ c) *ℤ q.d) (right_by p r q d c t u sum weak less (omega (arith, ints)) (omega (arith, ints)) l) (record { over = inl g0; over_left = inr g2; left = inr g3; below_left = inr g4; below = inr g5; below_right = inl g7; right = inl g8; over_right = inl g9 })
 
   pub right_round : IsOctagonRound c u p r (eight_sided c t p r Right)
   right_round = record {

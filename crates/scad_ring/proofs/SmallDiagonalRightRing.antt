@@ -61,7 +61,7 @@ module _ (c : ℤ) (less : pos 0 <ℤ c) (p r : Pt) (x : p.x <ℤ r.x) (y : r.y 
       let g3 = side_gap (pos 1) (pos 1) c q p (left c p) (low c p) s3 s.1.1.1.0 in
       let l = diagonal_right_passes p r q d c (pos 0) c sum weak less (omega (arith, ints)) (omega (arith, ints)) g0 g2 in
       approach_four (c *ℤ q.d) (p.x *ℤ q.d -ℤ q.x) (p.y *ℤ q.d -ℤ q.y) (r.x *ℤ q.d -ℤ q.x)
-          (r.y *ℤ q.d -ℤ q.y) ((pos 0) *ℤ q.d) ((pos 0 -ℤ c) *ℤ q.d) (right_by p r q d c (pos 0) c sum weak less (omega (arith, ints)) (omega (arith, ints)) l) (inl g3) (inl g2) (inl g0) (inr g1)
+      (r.y *ℤ q.d -ℤ q.y) ((pos 0) *ℤ q.d) ((pos 0 -ℤ c) *ℤ q.d) (right_by p r q d c (pos 0) c sum weak less (omega (arith, ints)) (omega (arith, ints)) l) (inl g3) (inl g2) (inl g0) (inr g1)
 
   pub diagonal_right_round : IsOctagonRound c c p r (four_sided c p r DiagonalRight)
   diagonal_right_round = record {

@@ -80,7 +80,7 @@ module _ (c : ℤ) (less : pos 0 <ℤ c) (p r : Pt) (y : p.y <ℤ r.y) (x : (r.y
       let g4 = side_gap (pos 1) (pos 1) c q r (left c r) (low c r) s4 s.1.1.1.1.0 in
       let l = line p r q d (pos 0) (c) (high c p) (high c r) (low c r) (low c p) s2 s5 s.1.1.0 s.1.1.1.1.1.0 in
       approach_four (c *ℤ q.d) (p.x *ℤ q.d -ℤ q.x) (p.y *ℤ q.d -ℤ q.y) (r.x *ℤ q.d -ℤ q.x)
-          (r.y *ℤ q.d -ℤ q.y) ((pos 0) *ℤ q.d) ((c) *ℤ q.d) (left_by p r q d c (pos 0) c sum weak less (omega (arith, ints)) (omega (arith, ints)) l) (inr g4) (inr g3) (inl g0) (inl g1)
+      (r.y *ℤ q.d -ℤ q.y) ((pos 0) *ℤ q.d) ((c) *ℤ q.d) (left_by p r q d c (pos 0) c sum weak less (omega (arith, ints)) (omega (arith, ints)) l) (inr g4) (inr g3) (inl g0) (inl g1)
 
   pub left_round : IsOctagonRound c c p r (four_sided c p r Left)
   left_round = record {

@@ -80,7 +80,7 @@ module _ (c : ℤ) (less : pos 0 <ℤ c) (p r : Pt) (y : p.y ≤ℤ r.y) (x : (r
       let g5 = side_gap (pos 1) (pos 1) c q p (left c p) (low c p) s5 s.1.1.1.1.1.0 in
       let l = line p r q d (pos 0) (pos 0 -ℤ c) (low c p) (low c r) (high c r) (high c p) s0 s3 s.0 s.1.1.1.0 in
       approach_four (c *ℤ q.d) (p.x *ℤ q.d -ℤ q.x) (p.y *ℤ q.d -ℤ q.y) (r.x *ℤ q.d -ℤ q.x)
-          (r.y *ℤ q.d -ℤ q.y) ((pos 0) *ℤ q.d) ((pos 0 -ℤ c) *ℤ q.d) (right_by p r q d c (pos 0) c sum weak less (omega (arith, ints)) (omega (arith, ints)) l) (inl g5) (inl g4) (inr g1) (inr g2)
+      (r.y *ℤ q.d -ℤ q.y) ((pos 0) *ℤ q.d) ((pos 0 -ℤ c) *ℤ q.d) (right_by p r q d c (pos 0) c sum weak less (omega (arith, ints)) (omega (arith, ints)) l) (inl g5) (inl g4) (inr g1) (inr g2)
 
   pub right_round : IsOctagonRound c c p r (four_sided c p r Right)
   right_round = record {

@@ -84,7 +84,7 @@ module _ (c : ℤ) (less : pos 0 <ℤ c) (p r : Pt) (x : (r.x -ℤ p.x) <ℤ (r.
       let g5 = side_gap (pos 1) (pos 1) c q p (left c p) (low c p) s5 s.1.1.1.1.1.0 in
       let l = line p r q d (c) (pos 0) (right c p) (right c r) (left c r) (left c p) s1 s4 s.1.0 s.1.1.1.1.0 in
       approach_four (c *ℤ q.d) (p.x *ℤ q.d -ℤ q.x) (p.y *ℤ q.d -ℤ q.y) (r.x *ℤ q.d -ℤ q.x)
-          (r.y *ℤ q.d -ℤ q.y) ((c) *ℤ q.d) ((pos 0) *ℤ q.d) (elim (order p.x r.x) as (λ x. CornerFrom p r q d c (pos 0) c sum weak less c (pos 0)) [
+      (r.y *ℤ q.d -ℤ q.y) ((c) *ℤ q.d) ((pos 0) *ℤ q.d) (elim (order p.x r.x) as (λ x. CornerFrom p r q d c (pos 0) c sum weak less c (pos 0)) [
         | inl h ↦ steep_right_by p r q d c (pos 0) c sum weak less (omega (arith, ints)) (omega (arith, ints)) l
         | inr h ↦ steep_left_by p r q d c (pos 0) c sum weak less (omega (arith, ints)) (omega (arith, ints)) l
       ]) (inl g5) (inr g3) (inl g0) (inr g2)

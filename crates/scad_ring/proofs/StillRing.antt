@@ -85,7 +85,7 @@ module _ (c t u : ℤ) (sum : u ≡ c +ℤ t) (some : pos 0 <ℤ t) (less : t <�
       let g6 = side_gap (pos 1) (pos 0) c q p (left_high c t p) (left_low c t p) s6 s.1.1.1.1.1.1.0 in
       let g7 = side_gap (pos 1) (pos 1) u q p (left_low c t p) (low_left c t p) s7 s.1.1.1.1.1.1.1.0 in
       approach_point (c *ℤ q.d) (u *ℤ q.d) (p.x *ℤ q.d -ℤ q.x) (p.y *ℤ q.d -ℤ q.y) (r.x *ℤ q.d -ℤ q.x)
-          (r.y *ℤ q.d -ℤ q.y) (ap (λ (z : ℤ). z *ℤ q.d -ℤ q.x) x) (ap (λ (z : ℤ). z *ℤ q.d -ℤ q.y) y) (record { over = inl g0; over_left = inr g1; left = inr g2; below_left = inr g3; below = inl g4; below_right = inl g5; right = inl g6; over_right = inl g7 })
+      (r.y *ℤ q.d -ℤ q.y) (ap (λ (z : ℤ). z *ℤ q.d -ℤ q.x) x) (ap (λ (z : ℤ). z *ℤ q.d -ℤ q.y) y) (record { over = inl g0; over_left = inr g1; left = inr g2; below_left = inr g3; below = inl g4; below_right = inl g5; right = inl g6; over_right = inl g7 })
 
   pub still_round : IsOctagonRound c u p r (eight_sided c t p r Still)
   still_round = record {

@@ -86,7 +86,7 @@ module _ (c t u : ℤ) (sum : u ≡ c +ℤ t) (some : pos 0 <ℤ t) (less : t <�
       let g7 = side_gap (pos 1) (pos 1) u q p (left_low c t p) (low_left c t p) s7 s.1.1.1.1.1.1.1.0 in
       let l = upright_passes p r q d c t u sum weak less (omega (arith, ints)) (omega (arith, ints)) g2 g6 in
       approach (c *ℤ q.d) (u *ℤ q.d) (p.x *ℤ q.d -ℤ q.x) (p.y *ℤ q.d -ℤ q.y) (r.x *ℤ q.d -ℤ q.x)
-          (r.y *ℤ q.d -ℤ q.y) ((c) *ℤ q.d) ((pos 0 -ℤ t) *ℤ q.d) (steep_right_by p r q d c t u sum weak less (omega (arith, ints)) (omega (arith, ints)) l) (record { over = inl g0; over_left = inl g1; left = inl g2; below_left = inr g3; below = inr g4; below_right = inr g5; right = inl g6; over_right = inl g7 })
+      (r.y *ℤ q.d -ℤ q.y) ((c) *ℤ q.d) ((pos 0 -ℤ t) *ℤ q.d) (steep_right_by p r q d c t u sum weak less (omega (arith, ints)) (omega (arith, ints)) l) (record { over = inl g0; over_left = inl g1; left = inl g2; below_left = inr g3; below = inr g4; below_right = inr g5; right = inl g6; over_right = inl g7 })
 
   pub upright_round : IsOctagonRound c u p r (eight_sided c t p r Upright)
   upright_round = record {

@@ -1,8 +1,7 @@
 -- The ring by an octagon round any edge.
 use Rattle.std.proofs.Common.{◌≡◌, ◌⊎◌, inl, inr, ℕ, ◌+◌, ◌*◌, ◌/◌, ◌≤◌, Bool, true, false, cond, ◌&&◌, List, refl, sym, subst, arith, ℤ, pos, neg_ℤ, ◌+ℤ◌, ◌-ℤ◌, ◌<ℤ◌}
 use lib.Signed.{◌≤ℤ◌}
-use Rattle.std.specs.Prelude.{◌||◌, int_lt, if◌then◌else◌, All}
-use Rattle.std.specs.Ordering.{int_eq}
+use Rattle.std.specs.Prelude.{◌||◌, int_lt, int_le, if◌then◌else◌}
 use Rattle.std.proofs.lemmas.Int.{ints}
 use Rattle.scad_geom.specs.declared.point.Pt.{Pt}
 use Rattle.scad_geom.specs.declared.point.Edge.{Edge}
@@ -108,17 +107,20 @@ module _ (p r : Pt) (forward : (p.y <ℤ r.y) ⊎ ((p.y ≡ r.y) × (p.x ≤ℤ 
 
   -- the corners by cases of the slant
   any : (c t u : ℤ) → u ≡ c +ℤ t → pos 0 ≤ℤ t → t <ℤ c → IsOctagonRound c u p r (octagon_round c t p r)
-  any c t u sum some less = by_slant (int_eq t (pos 0)) refl
+  any c t u sum some less = by_slant (int_lt (pos 0) t) refl
     where
-      sum_is : int_eq t (pos 0) ≡ true → c ≡ u
-      sum_is h = omega (arith, ints)
-
-      by_slant : (z : Bool) → int_eq t (pos 0) ≡ z → IsOctagonRound c u p r
-          (if z then four_sided c p r (direction_of (r.x -ℤ p.x) (r.y -ℤ p.y))
-          else eight_sided c t p r (direction_of (r.x -ℤ p.x) (r.y -ℤ p.y)))
-      by_slant true h = subst (λ (v : ℤ). IsOctagonRound c v p r (four_sided c p r
-          (direction_of (r.x -ℤ p.x) (r.y -ℤ p.y)))) (sum_is h) (four c (omega (arith, ints)))
-      by_slant false h = eight c t u sum (omega (arith, ints)) less
+      by_slant : (z : Bool) → int_lt (pos 0) t ≡ z → IsOctagonRound c u p r
+          (if z then eight_sided c t p r (direction_of (r.x -ℤ p.x) (r.y -ℤ p.y))
+          else four_sided c p r (direction_of (r.x -ℤ p.x) (r.y -ℤ p.y)))
+      by_slant true h = eight c t u sum (omega (arith, ints, h)) less
+      by_slant false h = subst (λ (v : ℤ). IsOctagonRound c v p r (four_sided c p r
+          (direction_of (r.x -ℤ p.x) (r.y -ℤ p.y)))) (omega (arith, ints, h, sum, some)) (four c (omega (
+            arith,
+            ints,
+            h,
+            some,
+            less,
+          )))
 
 -- ---- either way along the edge
 round_back : (c u : ℤ) (p r : Pt) (corners : List Pt) → IsOctagonRound c u r p corners → IsOctagonRound c u p r corners
@@ -140,14 +142,14 @@ from_round : (c : ℕ) (e : Edge) (corners : List Pt) → IsOctagonRound (pos c)
 from_round c e corners h = record { holds = h.holds; near = h.near; turns = h.turns; starts = h.starts }
 
 pub octagon_ring_is : (c : ℕ) → 1 ≤ c → (e : Edge) → IsOctagonRing c e (octagon_corners c e)
-octagon_ring_is c some e = by_order (int_lt e.b.y e.a.y) (int_eq e.b.y e.a.y) (int_lt e.b.x e.a.x) refl refl refl
+octagon_ring_is c some e = by_order (int_lt e.b.y e.a.y) (int_le e.b.y e.a.y) (int_lt e.b.x e.a.x) refl refl refl
   where
     back : (p r : Pt) → (p.y <ℤ r.y) ⊎ ((p.y ≡ r.y) × (p.x ≤ℤ r.x))
         → IsOctagonRound (pos c) (pos (reach c)) p r (octagon_round (pos c) (pos (slant c)) p r)
     back p r f = any p r f (pos c) (pos (slant c)) (pos (reach c)) (omega (arith, ints)) (omega (arith, ints))
         (slant_less c some)
 
-    by_order : (t u v : Bool) → int_lt e.b.y e.a.y ≡ t → int_eq e.b.y e.a.y ≡ u → int_lt e.b.x e.a.x ≡ v
+    by_order : (t u v : Bool) → int_lt e.b.y e.a.y ≡ t → int_le e.b.y e.a.y ≡ u → int_lt e.b.x e.a.x ≡ v
         → IsOctagonRing c e (cond (t || (u && v)) (octagon_round (pos c) (pos (slant c)) e.b e.a)
         (octagon_round (pos c) (pos (slant c)) e.a e.b))
     by_order true u v x y z = from_round c e (octagon_round (pos c) (pos (slant c)) e.b e.a) (round_back (pos c)

@@ -1,7 +1,6 @@
 -- The corners of the ring by an octagon, by the direction of the edge. The octagon has the half width c, and its corners are
 -- (c, t), (t, c) and their mirror images.
-use Rattle.std.specs.Prelude.{ℕ, if◌then◌else◌, cond, ◌&&◌, ◌||◌, Bool, List, [], ◌∷◌, ℤ, pos, ◌+ℤ◌, ◌-ℤ◌, neg_ℤ, int_lt}
-use Rattle.std.specs.Ordering.{int_eq}
+use Rattle.std.specs.Prelude.{ℕ, if◌then◌else◌, cond, ◌&&◌, ◌||◌, Bool, List, [], ◌∷◌, ℤ, pos, ◌+ℤ◌, ◌-ℤ◌, neg_ℤ, int_lt, int_le}
 use Rattle.scad_geom.specs.declared.point.Pt.{Pt}
 use Rattle.scad_geom.specs.declared.point.Edge.{Edge}
 use Rattle.scad_ring.specs.declared.direction.Direction.{Direction}
@@ -12,7 +11,7 @@ use Rattle.scad_ring.specs.Octagon.{slant}
 -- ---- directions
 -- an edge runs backwards where its end lies before its start, by height and then from the left
 abbrev pub runs_back : Edge → Bool
-runs_back e = int_lt e.b.y e.a.y || (int_eq e.b.y e.a.y && int_lt e.b.x e.a.x)
+runs_back e = int_lt e.b.y e.a.y || (int_le e.b.y e.a.y && int_lt e.b.x e.a.x)
 
 -- the direction of a way of x to the right and y upwards that doesn't run backwards
 unfoldable pub direction_of : ℤ → ℤ → Direction
@@ -108,9 +107,9 @@ four_sided c p r Left = low c p ∷ right c p ∷ high c p ∷ high c r ∷ left
 
 abbrev pub octagon_round : ℤ → ℤ → Pt → Pt → List Pt
 octagon_round c t p r =
-    if int_eq t (pos 0)
-    then four_sided c p r (direction_of (r.x -ℤ p.x) (r.y -ℤ p.y))
-    else eight_sided c t p r (direction_of (r.x -ℤ p.x) (r.y -ℤ p.y))
+    if int_lt (pos 0) t
+    then eight_sided c t p r (direction_of (r.x -ℤ p.x) (r.y -ℤ p.y))
+    else four_sided c p r (direction_of (r.x -ℤ p.x) (r.y -ℤ p.y))
 
 abbrev pub octagon_corners : ℕ → Edge → List Pt
 octagon_corners c e =

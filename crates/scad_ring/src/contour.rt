@@ -43,10 +43,10 @@ fn round(p: Pt, r: Pt, c: i32, t: i32) -> Ring
     ensures { result ≡ octagon_round c t p r }
 {
     let way = direction_between(p, r);
-    if t == 0 {
-        four_sided(p, r, c, way)
-    } else {
+    if 0 < t {
         eight_sided(p, r, c, t, way)
+    } else {
+        four_sided(p, r, c, way)
     }
 }
 

@@ -34,7 +34,7 @@ pub(crate) enum Direction {
 pub(crate) fn runs_back(e: &Edge) -> bool
     ensures { result ≡ runs_back e.now }
 {
-    e.b.y < e.a.y || (e.b.y == e.a.y && e.b.x < e.a.x)
+    e.b.y < e.a.y || (e.b.y <= e.a.y && e.b.x < e.a.x)
 }
 
 /// The direction of the way from `p` to `r`.
