@@ -1,4 +1,5 @@
--- Where a segment meets a convex region round the origin. It does where its line crosses a way through the origin between two
+-- Where a segment meets a convex region round the origin. It does where its line crosses a way through the origin
+-- between two
 -- points of the region, v and its mirror image, and no half plane of the region leaves out both its ends.
 use Rattle.std.proofs.Common.{◌≡◌, ◌⊎◌, inl, inr, [], ◌∷◌, refl, ap₂, arith, ℤ, pos, ◌+ℤ◌, ◌-ℤ◌, ◌*ℤ◌, ◌<ℤ◌}
 use lib.Signed.{◌≤ℤ◌}
@@ -40,7 +41,8 @@ crossing n m ax ay bx by vx vy = ring (n ∷ m ∷ ax ∷ ay ∷ bx ∷ by ∷ v
     ((v6 ⊗ v5 ⊖ v7 ⊗ v4) ⊗ v3 ⊕ (num (pos 0) ⊖ (v6 ⊗ v3 ⊖ v7 ⊗ v2)) ⊗ v5))
     ((v2 ⊗ v5 ⊖ v3 ⊗ v4) ⊗ (v0 ⊗ v6 ⊕ v1 ⊗ v7)) refl
 
-breadth : (ax ay bx by vx vy : ℤ) → cross vx vy bx by +ℤ (pos 0 -ℤ cross vx vy ax ay) ≡ cross vx vy (bx -ℤ ax) (by -ℤ ay)
+breadth : (ax ay bx by vx vy : ℤ) → cross vx vy bx by +ℤ (pos 0 -ℤ cross vx vy ax ay) ≡ cross vx vy (bx -ℤ ax)
+    (by -ℤ ay)
 breadth ax ay bx by vx vy = ring (ax ∷ ay ∷ bx ∷ by ∷ vx ∷ vy ∷ [])
     ((v4 ⊗ v3 ⊖ v5 ⊗ v2) ⊕ (num (pos 0) ⊖ (v4 ⊗ v1 ⊖ v5 ⊗ v0))) (v4 ⊗ (v3 ⊖ v1) ⊖ v5 ⊗ (v2 ⊖ v0)) refl
 
@@ -66,7 +68,8 @@ last_by n m ax ay bx by vx vy = ring (n ∷ m ∷ ax ∷ ay ∷ bx ∷ by ∷ vx
 pub gap_times : (c a w : ℤ) → (c -ℤ a) *ℤ w ≡ c *ℤ w -ℤ a *ℤ w
 gap_times c a w = ring (c ∷ a ∷ w ∷ []) ((v0 ⊖ v1) ⊗ v2) (v0 ⊗ v2 ⊖ v1 ⊗ v2) refl
 
--- a number times w above 0 is x less a product of k from 0 on and its excess over another: it is at most c where the other is,
+-- a number times w above 0 is x less a product of k from 0 on and its excess over another: it is at most c where the
+-- other is,
 -- or x at most c times w
 at_most : (c w x k a b : ℤ) → pos 0 <ℤ w → pos 0 ≤ℤ k → a *ℤ w ≡ x -ℤ k *ℤ (a -ℤ b) → x ≤ℤ (c *ℤ w)
     → (a ≤ℤ c) ⊎ (b ≤ℤ c) → a ≤ℤ c
@@ -87,14 +90,16 @@ pub one_first : (n m c ax ay bx by : ℤ) → (n *ℤ ax +ℤ m *ℤ ay) ≤ℤ 
 one_first n m c ax ay bx by h =
     let e : n *ℤ (pos 1 *ℤ ax +ℤ pos 0 *ℤ bx) +ℤ m *ℤ (pos 1 *ℤ ay +ℤ pos 0 *ℤ by) ≡ n *ℤ ax +ℤ m *ℤ ay =
     ring (n ∷ m ∷ ax ∷ ay ∷ bx ∷ by ∷ [])
-    (v0 ⊗ (num (pos 1) ⊗ v2 ⊕ num (pos 0) ⊗ v4) ⊕ v1 ⊗ (num (pos 1) ⊗ v3 ⊕ num (pos 0) ⊗ v5)) (v0 ⊗ v2 ⊕ v1 ⊗ v3) refl in
+    (v0 ⊗ (num (pos 1) ⊗ v2 ⊕ num (pos 0) ⊗ v4) ⊕ v1 ⊗ (num (pos 1) ⊗ v3 ⊕ num (pos 0) ⊗ v5)) (v0 ⊗ v2 ⊕ v1 ⊗ v3)
+    refl in
     omega (arith, ints, e, h)
 
 pub one_last : (n m c ax ay bx by : ℤ) → (n *ℤ bx +ℤ m *ℤ by) ≤ℤ c → Lies n m c (pos 0) (pos 1) ax ay bx by
 one_last n m c ax ay bx by h =
     let e : n *ℤ (pos 0 *ℤ ax +ℤ pos 1 *ℤ bx) +ℤ m *ℤ (pos 0 *ℤ ay +ℤ pos 1 *ℤ by) ≡ n *ℤ bx +ℤ m *ℤ by =
     ring (n ∷ m ∷ ax ∷ ay ∷ bx ∷ by ∷ [])
-    (v0 ⊗ (num (pos 0) ⊗ v2 ⊕ num (pos 1) ⊗ v4) ⊕ v1 ⊗ (num (pos 0) ⊗ v3 ⊕ num (pos 1) ⊗ v5)) (v0 ⊗ v4 ⊕ v1 ⊗ v5) refl in
+    (v0 ⊗ (num (pos 0) ⊗ v2 ⊕ num (pos 1) ⊗ v4) ⊕ v1 ⊗ (num (pos 0) ⊗ v3 ⊕ num (pos 1) ⊗ v5)) (v0 ⊗ v4 ⊕ v1 ⊗ v5)
+    refl in
     omega (arith, ints, e, h)
 
 pub found : (ax ay bx by vx vy : ℤ) → pos 0 <ℤ cross vx vy (bx -ℤ ax) (by -ℤ ay) → Found ax ay bx by vx vy
@@ -200,7 +205,8 @@ module _ (s t : ℤ) (from : pos 0 ≤ℤ s) (to : pos 0 ≤ℤ t) (some : pos 0
       let e = sum_is (s *ℤ ax +ℤ t *ℤ bx) (s *ℤ ay +ℤ t *ℤ by) (s +ℤ t) n m c k l d f g in
       omega (arith, ints, p, q, e)
     where
-      sum_is : (x y w n m c k l d f g : ℤ) → f *ℤ (c *ℤ w -ℤ (n *ℤ x +ℤ m *ℤ y)) +ℤ g *ℤ (d *ℤ w -ℤ (k *ℤ x +ℤ l *ℤ y))
+      sum_is : (x y w n m c k l d f g : ℤ)
+          → f *ℤ (c *ℤ w -ℤ (n *ℤ x +ℤ m *ℤ y)) +ℤ g *ℤ (d *ℤ w -ℤ (k *ℤ x +ℤ l *ℤ y))
           ≡ (f *ℤ c +ℤ g *ℤ d) *ℤ w -ℤ (x *ℤ (f *ℤ n +ℤ g *ℤ k) +ℤ y *ℤ (f *ℤ m +ℤ g *ℤ l))
       sum_is x y w n m c k l d f g = ring (x ∷ y ∷ w ∷ n ∷ m ∷ c ∷ k ∷ l ∷ d ∷ f ∷ g ∷ [])
           (v9 ⊗ (v5 ⊗ v2 ⊖ (v3 ⊗ v0 ⊕ v4 ⊗ v1)) ⊕ v10 ⊗ (v8 ⊗ v2 ⊖ (v6 ⊗ v0 ⊕ v7 ⊗ v1)))
@@ -265,7 +271,8 @@ along n m c f ax ay bx by hf up left h =
         (v4 ⊗ (v3 ⊗ v0) ⊕ v5 ⊗ (v3 ⊗ v1))) refl
 
     cross_is : ax *ℤ (by -ℤ ay) +ℤ ay *ℤ (pos 0 -ℤ (bx -ℤ ax)) ≡ cross ax ay bx by
-    cross_is = ring (ax ∷ ay ∷ bx ∷ by ∷ []) (v0 ⊗ (v3 ⊖ v1) ⊕ v1 ⊗ (num (pos 0) ⊖ (v2 ⊖ v0))) (v0 ⊗ v3 ⊖ v1 ⊗ v2) refl
+    cross_is = ring (ax ∷ ay ∷ bx ∷ by ∷ []) (v0 ⊗ (v3 ⊖ v1) ⊕ v1 ⊗ (num (pos 0) ⊖ (v2 ⊖ v0))) (v0 ⊗ v3 ⊖ v1 ⊗ v2)
+        refl
 
 pub along_back : (n m c f ax ay bx by : ℤ) → pos 0 ≤ℤ f → f *ℤ n ≡ pos 0 -ℤ (by -ℤ ay) → f *ℤ m ≡ bx -ℤ ax
     → (n *ℤ ax +ℤ m *ℤ ay) ≤ℤ c → (pos 0 -ℤ cross ax ay bx by) ≤ℤ (f *ℤ c)

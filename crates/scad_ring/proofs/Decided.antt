@@ -125,15 +125,18 @@ module _ (s u : ℕ) (S U : ℤ) (half : ((S ≡ pos (2 * s)) × (s ≤ u)) ⊎ 
       → Meets Closed (octagon (pos s) (pos u)) (halves x y) (whole p) (whole r)
   meets_if p r up h = meets_if_approach (halves x y) p r (pos s) (pos u) (widen (pos s *ℤ pos 2) (pos u *ℤ pos 2) S U
       (p.x *ℤ pos 2 -ℤ x) (p.y *ℤ pos 2 -ℤ y) (r.x *ℤ pos 2 -ℤ x) (r.y *ℤ pos 2 -ℤ y) half_most sum_most
-      (approach_if_passes S U (p.x *ℤ pos 2 -ℤ x) (p.y *ℤ pos 2 -ℤ y) (r.x *ℤ pos 2 -ℤ x) (r.y *ℤ pos 2 -ℤ y) some wide
+      (approach_if_passes S U (p.x *ℤ pos 2 -ℤ x) (p.y *ℤ pos 2 -ℤ y) (r.x *ℤ pos 2 -ℤ x) (r.y *ℤ pos 2 -ℤ y) some
+      wide
       slim (rises p r up) (subst (λ (t : Bool). t ≡ true) (seen_is S U x y p r) h)))
 
   clear_if : (p r : Pt) → p.y ≤ℤ r.y → SeenPasses S U x y p r ≡ false
       → IsClear Closed (octagon (pos s) (pos u)) (halves x y) (whole p) (whole r)
   clear_if p r up h k t from to many n = both_ways _ (subst (λ (b : Bool). b ≡ false) (seen_is S U x y p r) h)
-      (passes_if_approach S U (p.x *ℤ pos 2 -ℤ x) (p.y *ℤ pos 2 -ℤ y) (r.x *ℤ pos 2 -ℤ x) (r.y *ℤ pos 2 -ℤ y) some wide
+      (passes_if_approach S U (p.x *ℤ pos 2 -ℤ x) (p.y *ℤ pos 2 -ℤ y) (r.x *ℤ pos 2 -ℤ x) (r.y *ℤ pos 2 -ℤ y) some
+      wide
       slim (rises p r up) (narrow (pos s *ℤ pos 2) (pos u *ℤ pos 2) S U (p.x *ℤ pos 2 -ℤ x) (p.y *ℤ pos 2 -ℤ y)
-      (r.x *ℤ pos 2 -ℤ x) (r.y *ℤ pos 2 -ℤ y) half_is sum_is (approach_if_near (halves x y) p r (pos s) (pos u) k t from
+      (r.x *ℤ pos 2 -ℤ x) (r.y *ℤ pos 2 -ℤ y) half_is sum_is
+      (approach_if_near (halves x y) p r (pos s) (pos u) k t from
       to many n)))
 
   -- ---- of an edge

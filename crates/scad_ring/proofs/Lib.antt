@@ -31,3 +31,4 @@ pub mod SmallDiagonalLeftRing
 pub mod SmallLeftRing
 pub mod Ways
 pub mod OctagonExamples
+pub mod Regions

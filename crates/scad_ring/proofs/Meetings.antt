@@ -40,13 +40,25 @@ least_end n m w ax ay bx by a b e f h = elim (or_parts (int_le (neg_ℤ w) a) (i
 
 end_most : (n m w ax ay bx by a b : ℤ) → n *ℤ ax +ℤ m *ℤ ay ≡ a → n *ℤ bx +ℤ m *ℤ by ≡ b → End n m w ax ay bx by
     → (int_le a w || int_le b w) ≡ true
-end_most n m w ax ay bx by a b e f (inl h) = one_of (int_le a w) (int_le b w) (inl (int_le-at_most a w (omega (arith, ints, h, e))))
-end_most n m w ax ay bx by a b e f (inr h) = one_of (int_le a w) (int_le b w) (inr (int_le-at_most b w (omega (arith, ints, h, f))))
+end_most n m w ax ay bx by a b e f (inl h) = one_of (int_le a w) (int_le b w) (inl (int_le-at_most a w (omega (
+  arith,
+  ints,
+  h,
+  e,
+))))
+end_most n m w ax ay bx by a b e f (inr h) = one_of (int_le a w) (int_le b w) (inr (int_le-at_most b w (omega (
+  arith,
+  ints,
+  h,
+  f,
+))))
 
 end_least : (n m w ax ay bx by a b : ℤ) → n *ℤ ax +ℤ m *ℤ ay ≡ pos 0 -ℤ a → n *ℤ bx +ℤ m *ℤ by ≡ pos 0 -ℤ b
     → End n m w ax ay bx by → (int_le (neg_ℤ w) a || int_le (neg_ℤ w) b) ≡ true
-end_least n m w ax ay bx by a b e f (inl h) = one_of (int_le (neg_ℤ w) a) (int_le (neg_ℤ w) b) (inl (int_le-at_most (neg_ℤ w) a (omega (arith, ints, h, e))))
-end_least n m w ax ay bx by a b e f (inr h) = one_of (int_le (neg_ℤ w) a) (int_le (neg_ℤ w) b) (inr (int_le-at_most (neg_ℤ w) b (omega (arith, ints, h, f))))
+end_least n m w ax ay bx by a b e f (inl h) = one_of (int_le (neg_ℤ w) a) (int_le (neg_ℤ w) b)
+    (inl (int_le-at_most (neg_ℤ w) a (omega (arith, ints, h, e))))
+end_least n m w ax ay bx by a b e f (inr h) = one_of (int_le (neg_ℤ w) a) (int_le (neg_ℤ w) b)
+    (inr (int_le-at_most (neg_ℤ w) b (omega (arith, ints, h, f))))
 
 module _ (S U ax ay bx by : ℤ) where
   pub facts : passes S U ax ay bx by ≡ true
@@ -109,12 +121,22 @@ module _ (S U ax ay bx by : ℤ) where
             e.over_right,
         end_least (neg_ℤ (pos 1)) (neg_ℤ (pos 1)) U ax ay bx by (ax +ℤ ay) (bx +ℤ by) (omega (arith, ints))
             (omega (arith, ints)) e.below_left,
-        end_most (pos 1) (neg_ℤ (pos 1)) U ax ay bx by (ax -ℤ ay) (bx -ℤ by) (omega (arith, ints)) (omega (arith, ints))
+        end_most (pos 1) (neg_ℤ (pos 1)) U ax ay bx by (ax -ℤ ay) (bx -ℤ by) (omega (arith, ints)) (omega (
+          arith,
+          ints,
+        ))
             e.below_right,
-        end_least (neg_ℤ (pos 1)) (pos 1) U ax ay bx by (ax -ℤ ay) (bx -ℤ by) (omega (arith, ints)) (omega (arith, ints))
+        end_least (neg_ℤ (pos 1)) (pos 1) U ax ay bx by (ax -ℤ ay) (bx -ℤ by) (omega (arith, ints)) (omega (
+          arith,
+          ints,
+        ))
             e.over_left,
         int_le-at_most (cross ax ay bx by) (breadth S (U -ℤ S) (bx -ℤ ax) (by -ℤ ay)) m,
-        int_le-at_most (neg_ℤ (breadth S (U -ℤ S) (bx -ℤ ax) (by -ℤ ay))) (cross ax ay bx by) (omega (arith, ints, n)),
+        int_le-at_most (neg_ℤ (breadth S (U -ℤ S) (bx -ℤ ax) (by -ℤ ay))) (cross ax ay bx by) (omega (
+          arith,
+          ints,
+          n,
+        )),
       ) refl
 
 -- ---- the tests decide
@@ -129,7 +151,8 @@ zero_times a b h = rw h (omega (arith, ints))
 square_positive : (z : ℤ) → z <ℤ pos 0 → pos 0 <ℤ (z *ℤ z)
 square_positive z h =
     let p = positive_product (pos 0 -ℤ z) (pos 0 -ℤ z) (omega (arith, ints)) (omega (arith, ints)) in
-    let e : (pos 0 -ℤ z) *ℤ (pos 0 -ℤ z) ≡ z *ℤ z = ring (z ∷ []) ((num (pos 0) ⊖ v0) ⊗ (num (pos 0) ⊖ v0)) (v0 ⊗ v0) refl in
+    let e : (pos 0 -ℤ z) *ℤ (pos 0 -ℤ z) ≡ z *ℤ z = ring (z ∷ []) ((num (pos 0) ⊖ v0) ⊗ (num (pos 0) ⊖ v0)) (v0 ⊗ v0)
+    refl in
     omega (arith, ints, p, e)
 
 no_breadth : (x y : ℤ) → breadth (pos 0) (pos 0) x y ≡ pos 0
@@ -155,7 +178,8 @@ on_line S U x y k none slim l =
     omega (arith, ints, m, n, e)
 
 origin_found : (S U ax ay bx by : ℤ) → S ≡ pos 0 → U ≡ pos 0 → cross ax ay bx by ≡ pos 0
-    → pos 0 <ℤ ((by -ℤ ay) *ℤ (by -ℤ ay) +ℤ (bx -ℤ ax) *ℤ (bx -ℤ ax)) → Ends S U ax ay bx by → Approach S U ax ay bx by
+    → pos 0 <ℤ ((by -ℤ ay) *ℤ (by -ℤ ay) +ℤ (bx -ℤ ax) *ℤ (bx -ℤ ax)) → Ends S U ax ay bx by
+    → Approach S U ax ay bx by
 origin_found S U ax ay bx by none slim level long e =
     let f = found ax ay bx by (by -ℤ ay) (pos 0 -ℤ (bx -ℤ ax)) (rw (square_of (bx -ℤ ax) (by -ℤ ay)) long) in
     record {
@@ -171,7 +195,8 @@ origin_found S U ax ay bx by none slim level long e =
       over_right = f.holds (pos 1) (pos 1) U (test (pos 1) (pos 1) U slim e.over_right);
       below_right = f.holds (pos 1) (neg_ℤ (pos 1)) U (test (pos 1) (neg_ℤ (pos 1)) U slim e.below_right);
       over_left = f.holds (neg_ℤ (pos 1)) (pos 1) U (test (neg_ℤ (pos 1)) (pos 1) U slim e.over_left);
-      below_left = f.holds (neg_ℤ (pos 1)) (neg_ℤ (pos 1)) U (test (neg_ℤ (pos 1)) (neg_ℤ (pos 1)) U slim e.below_left);
+      below_left = f.holds (neg_ℤ (pos 1)) (neg_ℤ (pos 1)) U
+          (test (neg_ℤ (pos 1)) (neg_ℤ (pos 1)) U slim e.below_left);
     }
   where
     test : (n m c : ℤ) → c ≡ pos 0 → End n m c ax ay bx by → Test n m c ax ay bx by (by -ℤ ay) (pos 0 -ℤ (bx -ℤ ax))
@@ -201,20 +226,27 @@ module _ (S U ax ay bx by : ℤ) (some : pos 0 ≤ℤ S) (wide : S ≤ℤ U) (na
       let k = minus_times S (bx -ℤ ax) in
       elim (order (bx -ℤ ax) (pos 0)) [
         | inl h ↦ approach_point S U ax ay bx by (omega (arith, ints, p, up, h)) (omega (arith, ints, p, up, h)) e
-        | inr h ↦ approach S U ax ay bx by (U -ℤ S) (pos 0 -ℤ S) (right_corner S (U -ℤ S) U sum_is pos_s (omega (arith, ints))
+        | inr h ↦ approach S U ax ay bx by (U -ℤ S) (pos 0 -ℤ S)
+            (right_corner S (U -ℤ S) U sum_is pos_s (omega (arith, ints))
             (omega (arith, ints)) ax ay bx by h up (record {
               least = omega (arith, ints, n, k);
               most = omega (arith, ints, m, k);
             })) e
       ]
   by_octant pos_s e false true v p q r l =
-      approach S U ax ay bx by (U -ℤ S) S (left_corner S (U -ℤ S) U sum_is pos_s (omega (arith, ints)) (omega (arith, ints))
+      approach S U ax ay bx by (U -ℤ S) S (left_corner S (U -ℤ S) U sum_is pos_s (omega (arith, ints)) (omega (
+        arith,
+        ints,
+      ))
       ax ay bx by (omega (arith, ints, p, q, up)) up l) e
   by_octant pos_s e false false true p q r l =
       let m = l.most in
       let n = l.least in
       let k = minus_times (U -ℤ S) (bx -ℤ ax) in
-      approach S U ax ay bx by S (pos 0 -ℤ (U -ℤ S)) (steep_right_corner S (U -ℤ S) U sum_is pos_s (omega (arith, ints))
+      approach S U ax ay bx by S (pos 0 -ℤ (U -ℤ S)) (steep_right_corner S (U -ℤ S) U sum_is pos_s (omega (
+        arith,
+        ints,
+      ))
       (omega (arith, ints)) ax ay bx by (omega (arith, ints, r)) (omega (arith, ints, p, r)) (record {
         least = omega (arith, ints, n, k);
         most = omega (arith, ints, m, k);
@@ -257,7 +289,8 @@ module _ (S U ax ay bx by : ℤ) (some : pos 0 ≤ℤ S) (wide : S ≤ℤ U) (na
       let f = facts S U ax ay bx by h in
       elim (order S (pos 0)) [
         | inl k ↦ at_origin (omega (arith, ints, k, some)) f.0 f.1
-        | inr k ↦ by_octant k f.0 (int_le (by -ℤ ay) (bx -ℤ ax)) (int_le ((bx -ℤ ax) +ℤ (by -ℤ ay)) (pos 0)) (int_le (pos 0)
+        | inr k ↦ by_octant k f.0 (int_le (by -ℤ ay) (bx -ℤ ax)) (int_le ((bx -ℤ ax) +ℤ (by -ℤ ay)) (pos 0))
+            (int_le (pos 0)
             (bx -ℤ ax)) refl refl refl f.1
       ]
 
@@ -305,7 +338,8 @@ twice_times : (s w : ℤ) → (pos 2 *ℤ s) *ℤ w ≡ pos 2 *ℤ (s *ℤ w)
 twice_times s w = ring (s ∷ w ∷ []) ((num (pos 2) ⊗ v0) ⊗ v1) (num (pos 2) ⊗ (v0 ⊗ v1)) refl
 
 module _ (S U K L ax ay bx by : ℤ) where
-  -- the octagon of the half width K and the half sum L holds what one does of which they are the bounds that aren't idle
+  -- the octagon of the half width K and the half sum L holds what one does of which they are the bounds that aren't
+  -- idle
   pub narrow : (K ≡ S) ⊎ (K ≡ U) → (L ≡ U) ⊎ (L ≡ pos 2 *ℤ S) → Approach S U ax ay bx by → Approach K L ax ay bx by
   narrow h i a =
       let right = a.right in

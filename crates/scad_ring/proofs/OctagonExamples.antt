@@ -1,4 +1,5 @@
--- Rings by an octagon, corner by corner: round a point, round edges of sixteen directions, round the sides of a hole, and where
+-- Rings by an octagon, corner by corner: round a point, round edges of sixteen directions, round the sides of a hole,
+-- and where
 -- the octagon's corners fall together.
 use Rattle.std.proofs.Common.{◌≡◌, ℕ, [], ◌∷◌, refl, pos}
 use Rattle.scad_geom.specs.declared.point.Pt.{Pt}

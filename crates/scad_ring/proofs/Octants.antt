@@ -1,4 +1,5 @@
--- Where a segment that doesn't fall meets the octagon of half width S and half sum U = S + T, in each of the four octants of
+-- Where a segment that doesn't fall meets the octagon of half width S and half sum U = S + T, in each of the four
+-- octants of
 -- its direction.
 use Rattle.std.proofs.Common.{◌≡◌, ◌⊎◌, inl, inr, [], ◌∷◌, refl, sym, subst, arith, ℤ, pos, neg_ℤ, ◌+ℤ◌, ◌-ℤ◌, ◌*ℤ◌, ◌<ℤ◌}
 use lib.Signed.{◌≤ℤ◌}
@@ -142,7 +143,8 @@ module _ (S U ax ay bx by : ℤ) where
     over_right = one_first (pos 1) (pos 1) U ax ay bx by (at_point (pos 1) (pos 1) U e.over_right);
     below_right = one_first (pos 1) (neg_ℤ (pos 1)) U ax ay bx by (at_point (pos 1) (neg_ℤ (pos 1)) U e.below_right);
     over_left = one_first (neg_ℤ (pos 1)) (pos 1) U ax ay bx by (at_point (neg_ℤ (pos 1)) (pos 1) U e.over_left);
-    below_left = one_first (neg_ℤ (pos 1)) (neg_ℤ (pos 1)) U ax ay bx by (at_point (neg_ℤ (pos 1)) (neg_ℤ (pos 1)) U e.below_left);
+    below_left = one_first (neg_ℤ (pos 1)) (neg_ℤ (pos 1)) U ax ay bx by
+        (at_point (neg_ℤ (pos 1)) (neg_ℤ (pos 1)) U e.below_left);
   }
     where
       at_point : (n m c : ℤ) → End n m c ax ay bx by → (n *ℤ ax +ℤ m *ℤ ay) ≤ℤ c
@@ -172,10 +174,16 @@ module _ (S T U : ℤ) (sum : U ≡ S +ℤ T) (ax ay bx by : ℤ) (a : Approach 
   pub right_line : pos 0 ≤ℤ (by -ℤ ay) → (by -ℤ ay) ≤ℤ (bx -ℤ ax) → Passes T (pos 0 -ℤ S) ax ay bx by
   right_line up flat =
       let m = beside a.s a.t a.from a.to a.some ax ay bx by (pos 0) (neg_ℤ (pos 1)) S (pos 1) (neg_ℤ (pos 1)) U
-      ((bx -ℤ ax) -ℤ (by -ℤ ay)) (by -ℤ ay) (omega (arith, ints)) up (omega (arith, ints)) (omega (arith, ints)) a.below
+      ((bx -ℤ ax) -ℤ (by -ℤ ay)) (by -ℤ ay) (omega (arith, ints)) up (omega (arith, ints)) (omega (
+        arith,
+        ints,
+      )) a.below
       a.below_right in
       let l = beside_back a.s a.t a.from a.to a.some ax ay bx by (pos 0) (pos 1) S (neg_ℤ (pos 1)) (pos 1) U
-      ((bx -ℤ ax) -ℤ (by -ℤ ay)) (by -ℤ ay) (omega (arith, ints)) up (omega (arith, ints)) (omega (arith, ints)) a.over
+      ((bx -ℤ ax) -ℤ (by -ℤ ay)) (by -ℤ ay) (omega (arith, ints)) up (omega (arith, ints)) (omega (
+        arith,
+        ints,
+      )) a.over
       a.over_left in
       let e = reach_is (bx -ℤ ax) (by -ℤ ay) in
       record { least = omega (arith, ints, l, e); most = omega (arith, ints, m, e) }
@@ -204,7 +212,10 @@ module _ (S T U : ℤ) (sum : U ≡ S +ℤ T) (ax ay bx by : ℤ) (a : Approach 
   pub steep_left_line : (bx -ℤ ax) ≤ℤ pos 0 → (pos 0 -ℤ (bx -ℤ ax)) ≤ℤ (by -ℤ ay) → Passes S T ax ay bx by
   steep_left_line left steep =
       let m = beside a.s a.t a.from a.to a.some ax ay bx by (pos 1) (pos 0) S (pos 1) (pos 1) U
-      ((by -ℤ ay) +ℤ (bx -ℤ ax)) (pos 0 -ℤ (bx -ℤ ax)) (omega (arith, ints)) (omega (arith, ints)) (omega (arith, ints))
+      ((by -ℤ ay) +ℤ (bx -ℤ ax)) (pos 0 -ℤ (bx -ℤ ax)) (omega (arith, ints)) (omega (arith, ints)) (omega (
+        arith,
+        ints,
+      ))
       (omega (arith, ints)) a.right a.over_right in
       let l = beside_back a.s a.t a.from a.to a.some ax ay bx by (neg_ℤ (pos 1)) (pos 0) S (neg_ℤ (pos 1))
       (neg_ℤ (pos 1)) U ((by -ℤ ay) +ℤ (bx -ℤ ax)) (pos 0 -ℤ (bx -ℤ ax)) (omega (arith, ints)) (omega (arith, ints))
@@ -223,7 +234,10 @@ module _ (S T U : ℤ) (sum : U ≡ S +ℤ T) (ax ay bx by : ℤ) (a : Approach 
       (by -ℤ ay) ((pos 0 -ℤ (bx -ℤ ax)) -ℤ (by -ℤ ay)) up (omega (arith, ints)) (omega (arith, ints))
       (omega (arith, ints)) a.over_right a.over in
       let l = beside_back a.s a.t a.from a.to a.some ax ay bx by (neg_ℤ (pos 1)) (neg_ℤ (pos 1)) U (pos 0)
-      (neg_ℤ (pos 1)) S (by -ℤ ay) ((pos 0 -ℤ (bx -ℤ ax)) -ℤ (by -ℤ ay)) up (omega (arith, ints)) (omega (arith, ints))
+      (neg_ℤ (pos 1)) S (by -ℤ ay) ((pos 0 -ℤ (bx -ℤ ax)) -ℤ (by -ℤ ay)) up (omega (arith, ints)) (omega (
+        arith,
+        ints,
+      ))
       (omega (arith, ints)) a.below_left a.below in
       let e = reach_is (bx -ℤ ax) (by -ℤ ay) in
       record { least = omega (arith, ints, l, e); most = omega (arith, ints, m, e) }
@@ -236,7 +250,8 @@ times_minus : (a b : ℤ) → a *ℤ (pos 0 -ℤ b) ≡ pos 0 -ℤ a *ℤ b
 times_minus a b = ring (a ∷ b ∷ []) (v0 ⊗ (num (pos 0) ⊖ v1)) (num (pos 0) ⊖ v0 ⊗ v1) refl
 
 -- the corner of each octant
-module _ (S T U : ℤ) (sum : U ≡ S +ℤ T) (positive : pos 0 <ℤ S) (slim : pos 0 ≤ℤ T) (narrow : T ≤ℤ S) (ax ay bx by : ℤ) where
+module _ (S T U : ℤ) (sum : U ≡ S +ℤ T) (positive : pos 0 <ℤ S) (slim : pos 0 ≤ℤ T) (narrow : T ≤ℤ S)
+    (ax ay bx by : ℤ) where
   pub right_corner : pos 0 <ℤ (bx -ℤ ax) → pos 0 ≤ℤ (by -ℤ ay) → Passes T (pos 0 -ℤ S) ax ay bx by
       → Corner S U T (pos 0 -ℤ S) ax ay bx by
   right_corner x y l =
@@ -310,15 +325,18 @@ approach_four S ax ay bx by vx vy k h i j l =
       least = omega (arith, ints);
       most = omega (arith, ints);
     })) in
-    let m = f.holds (pos 1) (neg_ℤ (pos 1)) S (test_of S S ax ay bx by (pos 1) (neg_ℤ (pos 1)) S vx vy i k.line (record {
+    let m = f.holds (pos 1) (neg_ℤ (pos 1)) S
+    (test_of S S ax ay bx by (pos 1) (neg_ℤ (pos 1)) S vx vy i k.line (record {
       least = omega (arith, ints);
       most = omega (arith, ints);
     })) in
-    let n = f.holds (neg_ℤ (pos 1)) (pos 1) S (test_of S S ax ay bx by (neg_ℤ (pos 1)) (pos 1) S vx vy j k.line (record {
+    let n = f.holds (neg_ℤ (pos 1)) (pos 1) S
+    (test_of S S ax ay bx by (neg_ℤ (pos 1)) (pos 1) S vx vy j k.line (record {
       least = omega (arith, ints);
       most = omega (arith, ints);
     })) in
-    let o = f.holds (neg_ℤ (pos 1)) (neg_ℤ (pos 1)) S (test_of S S ax ay bx by (neg_ℤ (pos 1)) (neg_ℤ (pos 1)) S vx vy l
+    let o = f.holds (neg_ℤ (pos 1)) (neg_ℤ (pos 1)) S
+    (test_of S S ax ay bx by (neg_ℤ (pos 1)) (neg_ℤ (pos 1)) S vx vy l
     k.line (record { least = omega (arith, ints); most = omega (arith, ints) })) in
     record {
       s = f.s;
@@ -366,7 +384,8 @@ approach_four_point S ax ay bx by ex ey h i j l =
     at_point n m (inr h) = subst (λ (x : ℤ). (n *ℤ x +ℤ m *ℤ ay) ≤ℤ S) (sym ex)
         (subst (λ (y : ℤ). (n *ℤ bx +ℤ m *ℤ y) ≤ℤ S) (sym ey) h)
 
--- ---- a segment along the octagon's sides: the half planes that these bound tell how far its line lies from the origin
+-- ---- a segment along the octagon's sides: the half planes that these bound tell how far its line lies from the
+-- origin
 swap : (x y : ℤ) → x *ℤ y ≡ y *ℤ x
 swap x y = ring (x ∷ y ∷ []) (v0 ⊗ v1) (v1 ⊗ v0) refl
 
@@ -377,7 +396,10 @@ module _ (S T U : ℤ) (sum : U ≡ S +ℤ T) (ax ay bx by : ℤ) where
   pub flat_line : pos 0 ≤ℤ (bx -ℤ ax) → by -ℤ ay ≡ pos 0 → (pos 0 *ℤ ax +ℤ pos 1 *ℤ ay) ≤ℤ S
       → (pos 0 *ℤ ax +ℤ neg_ℤ (pos 1) *ℤ ay) ≤ℤ S → Passes T (pos 0 -ℤ S) ax ay bx by
   flat_line x y g h =
-      let m = along (pos 0) (neg_ℤ (pos 1)) S (bx -ℤ ax) ax ay bx by x (omega (arith, ints)) (omega (arith, ints)) h in
+      let m = along (pos 0) (neg_ℤ (pos 1)) S (bx -ℤ ax) ax ay bx by x (omega (arith, ints)) (omega (
+        arith,
+        ints,
+      )) h in
       let l = along_back (pos 0) (pos 1) S (bx -ℤ ax) ax ay bx by x (omega (arith, ints)) (omega (arith, ints)) g in
       let e = zero_times T (by -ℤ ay) y in
       let k = minus_times S (bx -ℤ ax) in
@@ -388,8 +410,14 @@ module _ (S T U : ℤ) (sum : U ≡ S +ℤ T) (ax ay bx by : ℤ) where
       → (neg_ℤ (pos 1) *ℤ ax +ℤ pos 1 *ℤ ay) ≤ℤ U → (pos 1 *ℤ ax +ℤ neg_ℤ (pos 1) *ℤ ay) ≤ℤ U
       → Passes T (pos 0 -ℤ S) ax ay bx by
   diagonal_right_line x y g h =
-      let m = along (pos 1) (neg_ℤ (pos 1)) U (bx -ℤ ax) ax ay bx by x (omega (arith, ints)) (omega (arith, ints)) h in
-      let l = along_back (neg_ℤ (pos 1)) (pos 1) U (bx -ℤ ax) ax ay bx by x (omega (arith, ints)) (omega (arith, ints)) g
+      let m = along (pos 1) (neg_ℤ (pos 1)) U (bx -ℤ ax) ax ay bx by x (omega (arith, ints)) (omega (
+        arith,
+        ints,
+      )) h in
+      let l = along_back (neg_ℤ (pos 1)) (pos 1) U (bx -ℤ ax) ax ay bx by x (omega (arith, ints)) (omega (
+        arith,
+        ints,
+      )) g
       in
       let e = reach_is (bx -ℤ ax) (by -ℤ ay) y in
       record { least = omega (arith, ints, l, e); most = omega (arith, ints, m, e) }
@@ -401,7 +429,10 @@ module _ (S T U : ℤ) (sum : U ≡ S +ℤ T) (ax ay bx by : ℤ) where
       → (pos 1 *ℤ ax +ℤ pos 0 *ℤ ay) ≤ℤ S → Passes S (pos 0 -ℤ T) ax ay bx by
   upright_line x y g h =
       let m = along (pos 1) (pos 0) S (by -ℤ ay) ax ay bx by y (omega (arith, ints)) (omega (arith, ints)) h in
-      let l = along_back (neg_ℤ (pos 1)) (pos 0) S (by -ℤ ay) ax ay bx by y (omega (arith, ints)) (omega (arith, ints)) g
+      let l = along_back (neg_ℤ (pos 1)) (pos 0) S (by -ℤ ay) ax ay bx by y (omega (arith, ints)) (omega (
+        arith,
+        ints,
+      )) g
       in
       let e = zero_times (pos 0 -ℤ T) (bx -ℤ ax) x in
       let w = swap S (by -ℤ ay) in

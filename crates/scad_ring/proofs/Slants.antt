@@ -92,7 +92,8 @@ module _ (p r : Pt) (q : Point) (d : pos 0 <ℤ q.d) where
     narrow : (t *ℤ q.d) ≤ℤ (c *ℤ q.d)
     narrow =
         let m = at_least_mul (c -ℤ t) q.d (omega (arith, ints)) (omega (arith, ints)) in
-        let e : (c -ℤ t) *ℤ q.d ≡ c *ℤ q.d -ℤ t *ℤ q.d = ring (c ∷ t ∷ q.d ∷ []) ((v0 ⊖ v1) ⊗ v2) (v0 ⊗ v2 ⊖ v1 ⊗ v2) refl in
+        let e : (c -ℤ t) *ℤ q.d ≡ c *ℤ q.d -ℤ t *ℤ q.d = ring (c ∷ t ∷ q.d ∷ []) ((v0 ⊖ v1) ⊗ v2) (v0 ⊗ v2 ⊖ v1 ⊗ v2)
+        refl in
         omega (arith, ints, m, e)
 
     abbrev pub CornerFrom : ℤ → ℤ → Type 0
@@ -102,7 +103,8 @@ module _ (p r : Pt) (q : Point) (d : pos 0 <ℤ q.d) where
     -- ---- the corner of each octant
     pub right_by : p.x <ℤ r.x → p.y ≤ℤ r.y → PassesFrom t (pos 0 -ℤ c) → CornerFrom t (pos 0 -ℤ c)
     right_by x y l = subst
-        (λ (z : ℤ). Passes (t *ℤ q.d) z (p.x *ℤ q.d -ℤ q.x) (p.y *ℤ q.d -ℤ q.y) (r.x *ℤ q.d -ℤ q.x) (r.y *ℤ q.d -ℤ q.y)
+        (λ (z : ℤ). Passes (t *ℤ q.d) z (p.x *ℤ q.d -ℤ q.x) (p.y *ℤ q.d -ℤ q.y) (r.x *ℤ q.d -ℤ q.x)
+        (r.y *ℤ q.d -ℤ q.y)
         → Corner (c *ℤ q.d) (u *ℤ q.d) (t *ℤ q.d) z (p.x *ℤ q.d -ℤ q.x) (p.y *ℤ q.d -ℤ q.y) (r.x *ℤ q.d -ℤ q.x)
         (r.y *ℤ q.d -ℤ q.y)) (sym (minus_times c q.d))
         (right_corner (c *ℤ q.d) (t *ℤ q.d) (u *ℤ q.d) sum_is positive slim narrow (p.x *ℤ q.d -ℤ q.x)
@@ -110,7 +112,8 @@ module _ (p r : Pt) (q : Point) (d : pos 0 <ℤ q.d) where
 
     pub steep_right_by : p.x ≤ℤ r.x → p.y <ℤ r.y → PassesFrom c (pos 0 -ℤ t) → CornerFrom c (pos 0 -ℤ t)
     steep_right_by x y l = subst
-        (λ (z : ℤ). Passes (c *ℤ q.d) z (p.x *ℤ q.d -ℤ q.x) (p.y *ℤ q.d -ℤ q.y) (r.x *ℤ q.d -ℤ q.x) (r.y *ℤ q.d -ℤ q.y)
+        (λ (z : ℤ). Passes (c *ℤ q.d) z (p.x *ℤ q.d -ℤ q.x) (p.y *ℤ q.d -ℤ q.y) (r.x *ℤ q.d -ℤ q.x)
+        (r.y *ℤ q.d -ℤ q.y)
         → Corner (c *ℤ q.d) (u *ℤ q.d) (c *ℤ q.d) z (p.x *ℤ q.d -ℤ q.x) (p.y *ℤ q.d -ℤ q.y) (r.x *ℤ q.d -ℤ q.x)
         (r.y *ℤ q.d -ℤ q.y)) (sym (minus_times t q.d))
         (steep_right_corner (c *ℤ q.d) (t *ℤ q.d) (u *ℤ q.d) sum_is positive slim narrow (p.x *ℤ q.d -ℤ q.x)
@@ -133,7 +136,8 @@ module _ (p r : Pt) (q : Point) (d : pos 0 <ℤ q.d) where
     right_passes y x a = subst
         (λ (z : ℤ). Passes (t *ℤ q.d) z (p.x *ℤ q.d -ℤ q.x) (p.y *ℤ q.d -ℤ q.y) (r.x *ℤ q.d -ℤ q.x)
         (r.y *ℤ q.d -ℤ q.y)) (sym (minus_times c q.d))
-        (right_line (c *ℤ q.d) (t *ℤ q.d) (u *ℤ q.d) sum_is (p.x *ℤ q.d -ℤ q.x) (p.y *ℤ q.d -ℤ q.y) (r.x *ℤ q.d -ℤ q.x)
+        (right_line (c *ℤ q.d) (t *ℤ q.d) (u *ℤ q.d) sum_is (p.x *ℤ q.d -ℤ q.x) (p.y *ℤ q.d -ℤ q.y)
+        (r.x *ℤ q.d -ℤ q.x)
         (r.y *ℤ q.d -ℤ q.y) a (goes_up p.y r.y q.y y) (steeper p.y r.y p.x r.x q.y q.x x))
 
     pub steep_right_passes : p.x ≤ℤ r.x → (r.x -ℤ p.x) ≤ℤ (r.y -ℤ p.y) → ApproachFrom c u q p r

@@ -25,34 +25,76 @@ module _ (c : ℤ) (less : pos 0 <ℤ c) (p r : Pt) (x : p.x ≡ r.x) (y : p.y �
   sum = omega (arith, ints)
 
   s0 : Side (neg_ℤ (pos 1)) (pos 1) c p (low c p) (right c r)
-  s0 = record { step = record { m = c +ℤ (r.x -ℤ p.x); positive = omega (arith, ints); across = omega (arith, ints); upwards = omega (arith, ints) }; at = omega (arith, ints) }
+  s0 = record {
+    step = record {
+      m = c +ℤ (r.x -ℤ p.x);
+      positive = omega (arith, ints);
+      across = omega (arith, ints);
+      upwards = omega (arith, ints);
+    };
+    at = omega (arith, ints);
+  }
 
   s1 : Side (neg_ℤ (pos 1)) (neg_ℤ (pos 1)) c r (right c r) (high c r)
-  s1 = record { step = record { m = c; positive = omega (arith, ints); across = omega (arith, ints); upwards = omega (arith, ints) }; at = omega (arith, ints) }
+  s1 = record {
+    step = record {
+      m = c;
+      positive = omega (arith, ints);
+      across = omega (arith, ints);
+      upwards = omega (arith, ints);
+    };
+    at = omega (arith, ints);
+  }
 
   s2 : Side (pos 1) (neg_ℤ (pos 1)) c p (high c r) (left c p)
-  s2 = record { step = record { m = c +ℤ (r.x -ℤ p.x); positive = omega (arith, ints); across = omega (arith, ints); upwards = omega (arith, ints) }; at = omega (arith, ints) }
+  s2 = record {
+    step = record {
+      m = c +ℤ (r.x -ℤ p.x);
+      positive = omega (arith, ints);
+      across = omega (arith, ints);
+      upwards = omega (arith, ints);
+    };
+    at = omega (arith, ints);
+  }
 
   s3 : Side (pos 1) (pos 1) c p (left c p) (low c p)
-  s3 = record { step = record { m = c; positive = omega (arith, ints); across = omega (arith, ints); upwards = omega (arith, ints) }; at = omega (arith, ints) }
+  s3 = record {
+    step = record {
+      m = c;
+      positive = omega (arith, ints);
+      across = omega (arith, ints);
+      upwards = omega (arith, ints);
+    };
+    at = omega (arith, ints);
+  }
 
-  sides_if : (q : Point) → pos 0 <ℤ q.d → ApproachFrom c c q p r → All (IsLeftOf q) (segments (sides (four_sided c p r Still)))
+  sides_if : (q : Point) → pos 0 <ℤ q.d → ApproachFrom c c q p r
+      → All (IsLeftOf q) (segments (sides (four_sided c p r Still)))
   sides_if q d a =
       All-from_recursion (IsLeftOf q) (segments (sides (four_sided c p r Still))) (
-        first_side (c *ℤ q.d) (c *ℤ q.d) q d p r a (neg_ℤ (pos 1)) (pos 1) c (low c p) (right c r) s0 (omega (arith, ints)) a.over_left,
+        first_side (c *ℤ q.d) (c *ℤ q.d) q d p r a (neg_ℤ (pos 1)) (pos 1) c (low c p) (right c r) s0 (omega (
+          arith,
+          ints,
+        )) a.over_left,
         (
-          last_side (c *ℤ q.d) (c *ℤ q.d) q d p r a (neg_ℤ (pos 1)) (neg_ℤ (pos 1)) c (right c r) (high c r) s1 (omega (arith, ints)) a.below_left,
+          last_side (c *ℤ q.d) (c *ℤ q.d) q d p r a (neg_ℤ (pos 1)) (neg_ℤ (pos 1)) c (right c r) (high c r) s1
+              (omega (arith, ints)) a.below_left,
           (
-            first_side (c *ℤ q.d) (c *ℤ q.d) q d p r a (pos 1) (neg_ℤ (pos 1)) c (high c r) (left c p) s2 (omega (arith, ints)) a.below_right,
+            first_side (c *ℤ q.d) (c *ℤ q.d) q d p r a (pos 1) (neg_ℤ (pos 1)) c (high c r) (left c p) s2
+                (omega (arith, ints)) a.below_right,
             (
-              first_side (c *ℤ q.d) (c *ℤ q.d) q d p r a (pos 1) (pos 1) c (left c p) (low c p) s3 (omega (arith, ints)) a.over_right,
+              first_side (c *ℤ q.d) (c *ℤ q.d) q d p r a (pos 1) (pos 1) c (left c p) (low c p) s3 (omega (
+                arith,
+                ints,
+              )) a.over_right,
               tt,
             ),
           ),
         ),
       )
 
-  approach_if : (q : Point) → pos 0 <ℤ q.d → All (IsLeftOf q) (segments (sides (four_sided c p r Still))) → ApproachFrom c c q p r
+  approach_if : (q : Point) → pos 0 <ℤ q.d → All (IsLeftOf q) (segments (sides (four_sided c p r Still)))
+      → ApproachFrom c c q p r
   approach_if q d h =
       let s = recursion_from_All (IsLeftOf q) (segments (sides (four_sided c p r Still))) h in
       let g0 = side_gap (neg_ℤ (pos 1)) (pos 1) c q p (low c p) (right c r) s0 s.0 in
@@ -60,11 +102,15 @@ module _ (c : ℤ) (less : pos 0 <ℤ c) (p r : Pt) (x : p.x ≡ r.x) (y : p.y �
       let g2 = side_gap (pos 1) (neg_ℤ (pos 1)) c q p (high c r) (left c p) s2 s.1.1.0 in
       let g3 = side_gap (pos 1) (pos 1) c q p (left c p) (low c p) s3 s.1.1.1.0 in
       approach_four_point (c *ℤ q.d) (p.x *ℤ q.d -ℤ q.x) (p.y *ℤ q.d -ℤ q.y) (r.x *ℤ q.d -ℤ q.x)
-      (r.y *ℤ q.d -ℤ q.y) (ap (λ (z : ℤ). z *ℤ q.d -ℤ q.x) x) (ap (λ (z : ℤ). z *ℤ q.d -ℤ q.y) y) (inl g3) (inl g2) (inl g0) (inr g1)
+      (r.y *ℤ q.d -ℤ q.y) (ap (λ (z : ℤ). z *ℤ q.d -ℤ q.x) x) (ap (λ (z : ℤ). z *ℤ q.d -ℤ q.y) y) (inl g3) (inl g2)
+      (inl g0) (inr g1)
 
   pub still_round : IsOctagonRound c c p r (four_sided c p r Still)
   still_round = record {
-    holds = λ q d. ((λ m. sides_if q d (approach_if_meets q p r c c m)), (λ h. meets_if_approach q p r c c (approach_if q d h)));
+    holds = λ q d. (
+      (λ m. sides_if q d (approach_if_meets q p r c c m)),
+      (λ h. meets_if_approach q p r c c (approach_if q d h)),
+    );
     near = All-from_recursion (IsNearWay c c p r) (four_sided c p r Still) (
       near_first c c p r (low c p) (low_in c (pos 0) c sum weak less p),
       (
@@ -79,13 +125,17 @@ module _ (c : ℤ) (less : pos 0 <ℤ c) (p r : Pt) (x : p.x ≡ r.x) (y : p.y �
       ),
     );
     turns = (
-      turns (pos 1) (pos 0 -ℤ neg_ℤ (pos 1)) (neg_ℤ (pos 1)) (pos 0 -ℤ neg_ℤ (pos 1)) (low c p) (right c r) (high c r) s0.step s1.step (omega (arith, ints)),
+      turns (pos 1) (pos 0 -ℤ neg_ℤ (pos 1)) (neg_ℤ (pos 1)) (pos 0 -ℤ neg_ℤ (pos 1)) (low c p) (right c r)
+          (high c r) s0.step s1.step (omega (arith, ints)),
       (
-        turns (neg_ℤ (pos 1)) (pos 0 -ℤ neg_ℤ (pos 1)) (neg_ℤ (pos 1)) (pos 0 -ℤ pos 1) (right c r) (high c r) (left c p) s1.step s2.step (omega (arith, ints)),
+        turns (neg_ℤ (pos 1)) (pos 0 -ℤ neg_ℤ (pos 1)) (neg_ℤ (pos 1)) (pos 0 -ℤ pos 1) (right c r) (high c r)
+            (left c p) s1.step s2.step (omega (arith, ints)),
         (
-          turns (neg_ℤ (pos 1)) (pos 0 -ℤ pos 1) (pos 1) (pos 0 -ℤ pos 1) (high c r) (left c p) (low c p) s2.step s3.step (omega (arith, ints)),
+          turns (neg_ℤ (pos 1)) (pos 0 -ℤ pos 1) (pos 1) (pos 0 -ℤ pos 1) (high c r) (left c p) (low c p) s2.step
+              s3.step (omega (arith, ints)),
           (
-            turns (pos 1) (pos 0 -ℤ pos 1) (pos 1) (pos 0 -ℤ neg_ℤ (pos 1)) (left c p) (low c p) (right c r) s3.step s0.step (omega (arith, ints)),
+            turns (pos 1) (pos 0 -ℤ pos 1) (pos 1) (pos 0 -ℤ neg_ℤ (pos 1)) (left c p) (low c p) (right c r) s3.step
+                s0.step (omega (arith, ints)),
             tt,
           ),
         ),

@@ -71,14 +71,17 @@ module _ (p r : Pt) (forward : (p.y <ℤ r.y) ⊎ ((p.y ≡ r.y) × (p.x ≤ℤ 
       by_y : (t u v : Bool) → int_lt (pos 0) (r.y -ℤ p.y) ≡ t → int_lt (pos 0) (r.x -ℤ p.x) ≡ u
           → int_lt (r.x -ℤ p.x) (pos 0) ≡ v
           → F (if t then (if u
-          then (if int_lt (r.y -ℤ p.y) (r.x -ℤ p.x) then Right else (if int_lt (r.x -ℤ p.x) (r.y -ℤ p.y) then SteepRight
+          then (if int_lt (r.y -ℤ p.y) (r.x -ℤ p.x) then Right else
+          (if int_lt (r.x -ℤ p.x) (r.y -ℤ p.y) then SteepRight
           else DiagonalRight))
           else (if v
-          then (if int_lt (r.y -ℤ p.y) (neg_ℤ (r.x -ℤ p.x)) then Left else (if int_lt (neg_ℤ (r.x -ℤ p.x)) (r.y -ℤ p.y)
+          then (if int_lt (r.y -ℤ p.y) (neg_ℤ (r.x -ℤ p.x)) then Left else
+          (if int_lt (neg_ℤ (r.x -ℤ p.x)) (r.y -ℤ p.y)
           then SteepLeft else DiagonalLeft))
           else Upright))
           else (if u then Flat else Still))
-      by_y true true v y x z = to_right x y (int_lt (r.y -ℤ p.y) (r.x -ℤ p.x)) (int_lt (r.x -ℤ p.x) (r.y -ℤ p.y)) refl refl
+      by_y true true v y x z = to_right x y (int_lt (r.y -ℤ p.y) (r.x -ℤ p.x)) (int_lt (r.x -ℤ p.x) (r.y -ℤ p.y))
+          refl refl
       by_y true false true y x z = to_left z y (int_lt (r.y -ℤ p.y) (neg_ℤ (r.x -ℤ p.x)))
           (int_lt (neg_ℤ (r.x -ℤ p.x)) (r.y -ℤ p.y)) refl refl
       by_y true false false y x z = upright (omega (arith, ints)) (omega (arith, ints))
@@ -123,7 +126,8 @@ module _ (p r : Pt) (forward : (p.y <ℤ r.y) ⊎ ((p.y ≡ r.y) × (p.x ≤ℤ 
           )))
 
 -- ---- either way along the edge
-round_back : (c u : ℤ) (p r : Pt) (corners : List Pt) → IsOctagonRound c u r p corners → IsOctagonRound c u p r corners
+round_back : (c u : ℤ) (p r : Pt) (corners : List Pt) → IsOctagonRound c u r p corners
+    → IsOctagonRound c u p r corners
 round_back c u p r corners h = record {
   holds = λ q d. (
     (λ m. (h.holds q d).0 (meets_back Closed (octagon c u) q (whole p) (whole r) m)),
@@ -153,8 +157,12 @@ octagon_ring_is c some e = by_order (int_lt e.b.y e.a.y) (int_le e.b.y e.a.y) (i
         → IsOctagonRing c e (cond (t || (u && v)) (octagon_round (pos c) (pos (slant c)) e.b e.a)
         (octagon_round (pos c) (pos (slant c)) e.a e.b))
     by_order true u v x y z = from_round c e (octagon_round (pos c) (pos (slant c)) e.b e.a) (round_back (pos c)
-        (pos (reach c)) e.a e.b (octagon_round (pos c) (pos (slant c)) e.b e.a) (back e.b e.a (inl (omega (arith, ints)))))
-    by_order false true true x y z = from_round c e (octagon_round (pos c) (pos (slant c)) e.b e.a) (round_back (pos c)
+        (pos (reach c)) e.a e.b (octagon_round (pos c) (pos (slant c)) e.b e.a) (back e.b e.a (inl (omega (
+          arith,
+          ints,
+        )))))
+    by_order false true true x y z = from_round c e (octagon_round (pos c) (pos (slant c)) e.b e.a)
+        (round_back (pos c)
         (pos (reach c)) e.a e.b (octagon_round (pos c) (pos (slant c)) e.b e.a) (back e.b e.a
         (inr (omega (arith, ints), omega (arith, ints)))))
     by_order false true false x y z = from_round c e (octagon_round (pos c) (pos (slant c)) e.a e.b) (back e.a e.b
