@@ -102,16 +102,15 @@ fn end_from(call: u64, echo: u64) -> (u8, &'static str) {
 
 fn expect_stopped(rt: &impl Abort, whole: &Answer, answer: &Answer, end: (u8, &str), case: &str) {
     let (code, report) = end;
-    assert!(rt;
-        answer.code == code && answer.report.as_slice() == report.as_bytes(),
-        "{case}"
-    );
-    assert!(rt; whole.cli.starts_with(&answer.cli), "{case}");
-    assert!(rt; whole.gcode.starts_with(&answer.gcode), "{case}");
-    assert!(rt;
-        code != 4 || answer.cli.is_empty() && answer.gcode.is_empty(),
-        "{case}"
-    );
+    let told = answer.code == code && answer.report.as_slice() == report.as_bytes();
+    assert!(rt; told && are_fronts(whole, answer), "{case}");
+}
+
+/// Both files are fronts of the whole ones; nothing is written where reading fails.
+fn are_fronts(whole: &Answer, answer: &Answer) -> bool {
+    whole.cli.starts_with(&answer.cli)
+        && whole.gcode.starts_with(&answer.gcode)
+        && (answer.code != 4 || answer.cli.is_empty() && answer.gcode.is_empty())
 }
 
 /// All outputs are written whole only where the report alone failed.
@@ -128,9 +127,9 @@ fn expect_end_of_calls<R: Threads + Sync + Abort>(
     call: u64,
 ) -> Result<(), AllocError> {
     let (words, echo, last) = row;
-    let alone = [call].to_vec(alloc)?;
-    let answer = answer_to(rt, alloc, words, SOURCE, alone)?;
-    expect_stopped(rt, whole, &answer, end_without(call, echo, last), words);
+    let end = end_without(call, echo, last);
+    let answer = answer_to(rt, alloc, words, SOURCE, [call].to_vec(alloc)?)?;
+    expect_stopped(rt, whole, &answer, end, words);
     let is_cut = call < last && !whole.cli.is_empty();
     assert!(rt;
         answer.faults == 1 && is_short(whole, &answer) == is_cut,
@@ -138,20 +137,23 @@ fn expect_end_of_calls<R: Threads + Sync + Abort>(
     );
     let but_the_next = fails_from(alloc, call, call.saturating_add(2))?;
     let same = answer_to(rt, alloc, words, SOURCE, but_the_next)?;
-    expect_stopped(rt, whole, &same, end_without(call, echo, last), words);
+    expect_stopped(rt, whole, &same, end, words);
     assert!(rt;
-        same.cli == answer.cli && same.gcode == answer.gcode && same.faults == 1,
+        has_same_files(&same, &answer) && same.faults == 1,
         "{words}"
     );
-    let all = fails_from(alloc, call, call)?;
-    let silent = answer_to(rt, alloc, words, SOURCE, all)?;
+    let silent = answer_to(rt, alloc, words, SOURCE, fails_from(alloc, call, call)?)?;
     expect_stopped(rt, whole, &silent, end_from(call, echo), words);
     let faults = if call == echo || call == last { 1 } else { 2 };
     assert!(rt;
-        silent.faults == faults && silent.cli == answer.cli,
+        has_same_files(&silent, &answer) && silent.faults == faults,
         "{words}"
     );
     Ok(())
+}
+
+fn has_same_files(answer: &Answer, other: &Answer) -> bool {
+    answer.cli == other.cli && answer.gcode == other.gcode
 }
 
 #[test]

@@ -8,11 +8,11 @@ mod finish;
 pub mod laws;
 mod meaning;
 mod order;
-mod run;
 mod sample;
 mod settings;
+mod whole_run;
 mod work;
 
 pub use evaluation::evaluate;
-pub use run::run;
 pub use sample::sampled;
+pub use whole_run::run;
