@@ -1,5 +1,5 @@
-//! Runs in which calls of the desk fail, and sources that are cut off or ask for too much. What is written of the files is a
-//! front of what is written where nothing fails, and the report has its last line wherever it can.
+//! Runs in which calls of the desk fail, and sources that are cut off or ask for too much. What is written of the files
+//! is a front of what is written where nothing fails, and the report has its last line wherever it can.
 ghost use Rattle.std.specs.Prelude.{◌≡◌, Some, [], IfOk};
 ghost use Rattle.scad_io.specs.Desk.{unused};
 
@@ -15,8 +15,8 @@ use std::process::Abort;
 use std::test::Fail;
 use std::thread::Threads;
 
-/// The words of a run over settings and a source with a line of `echo`. Then the number of the call that writes this line,
-/// which is also how many calls before it read, and that of the call that writes the last line.
+/// The words of a run over settings and a source with a line of `echo`. Then the number of the call that writes this
+/// line, which is also how many calls before it read, and that of the call that writes the last line.
 const RUNS: [(&str, u64, u64); 9] = [
     ("check m.scad", 3, 4),
     ("tree m.scad", 3, 4),
@@ -118,7 +118,8 @@ fn is_short(whole: &Answer, answer: &Answer) -> bool {
     answer.cli.len() < whole.cli.len() || answer.gcode.len() < whole.gcode.len()
 }
 
-/// After the call that failed comes one at most, for the last line: that the calls behind it would fail changes nothing.
+/// After the call that failed comes one at most, for the last line: that the calls behind it would fail changes
+/// nothing.
 fn expect_end_of_calls<R: Threads + Sync + Abort>(
     rt: &R,
     alloc: Global,
@@ -297,7 +298,7 @@ fn sources_that_ask_for_too_much(rt: HostRuntime) -> Result<(), Fail> {
 const WIDE: &[u8] =
     b"cube([1,1,3]); translate([0,0,0.8]) cylinder(h=0.2,r=50,$fn=10001); translate([0,0,1.8]) cylinder(h=0.2,r=50,$fn=10001);";
 
-/// The words but for the number of workers, a call that fails, and the height of the last layer that the outlines have then:
+/// The words but for the number of workers, a call that fails, and the height of the last layer that the outlines have:
 /// the fourth write of the outlines or of the printing program is the third layer's.
 const CUT: [(&str, u64, &str); 3] = [
     ("slice m.scad o.cli --workers ", 7, "$$LAYER/400\n"),

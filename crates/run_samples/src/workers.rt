@@ -107,7 +107,7 @@ fn two_at_once(rt: HostRuntime) -> Result<(), Fail> {
     Ok(())
 }
 
-/// From which of 70 layers on so many workers meet, of which as many are awaited; the last six are a round of their own.
+/// From which of 70 layers on so many workers meet, and how many are awaited; the last six are a round of their own.
 const MEETINGS: [(u32, &str, u64); 5] = [
     (0, "1", 1),
     (0, "2", 2),

@@ -1,5 +1,5 @@
-//! A whole run: reads a part, tells what it means, or writes its layers' outlines and the program that prints it. `run` has the
-//! promise, over every desk; the program hands it the real files.
+//! A whole run: reads a part, tells what it means, or writes its layers' outlines and the program that prints it.
+//! `run` has the promise, over every desk; the program hands it the real files.
 #![tactic(auto)]
 
 mod check;
