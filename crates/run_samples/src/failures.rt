@@ -1,5 +1,5 @@
-//! Runs in which calls of the desk fail, and sources that are cut off or ask for too much. What is written of the files is a
-//! front of what is written where nothing fails, and the report has its last line wherever it can.
+//! Runs in which calls of the desk fail, and sources that are cut off or ask for too much. What is written of the files
+//! is a front of what is written where nothing fails, and the report has its last line wherever it can.
 ghost use Rattle.std.specs.Prelude.{◌≡◌, Some, [], IfOk};
 ghost use Rattle.scad_io.specs.Desk.{unused};
 
@@ -15,8 +15,8 @@ use std::process::Abort;
 use std::test::Fail;
 use std::thread::Threads;
 
-/// The words of a run over settings and a source with a line of `echo`. Then the number of the call that writes this line,
-/// which is also how many calls before it read, and that of the call that writes the last line.
+/// The words of a run over settings and a source with a line of `echo`. Then the number of the call that writes this
+/// line, which is also how many calls before it read, and that of the call that writes the last line.
 const RUNS: [(&str, u64, u64); 9] = [
     ("check m.scad", 3, 4),
     ("tree m.scad", 3, 4),
@@ -102,16 +102,15 @@ fn end_from(call: u64, echo: u64) -> (u8, &'static str) {
 
 fn expect_stopped(rt: &impl Abort, whole: &Answer, answer: &Answer, end: (u8, &str), case: &str) {
     let (code, report) = end;
-    assert!(rt;
-        answer.code == code && answer.report.as_slice() == report.as_bytes(),
-        "{case}"
-    );
-    assert!(rt; whole.cli.starts_with(&answer.cli), "{case}");
-    assert!(rt; whole.gcode.starts_with(&answer.gcode), "{case}");
-    assert!(rt;
-        code != 4 || answer.cli.is_empty() && answer.gcode.is_empty(),
-        "{case}"
-    );
+    let told = answer.code == code && answer.report.as_slice() == report.as_bytes();
+    assert!(rt; told && are_fronts(whole, answer), "{case}");
+}
+
+/// Both files are fronts of the whole ones; nothing is written where reading fails.
+fn are_fronts(whole: &Answer, answer: &Answer) -> bool {
+    whole.cli.starts_with(&answer.cli)
+        && whole.gcode.starts_with(&answer.gcode)
+        && (answer.code != 4 || answer.cli.is_empty() && answer.gcode.is_empty())
 }
 
 /// All outputs are written whole only where the report alone failed.
@@ -119,7 +118,8 @@ fn is_short(whole: &Answer, answer: &Answer) -> bool {
     answer.cli.len() < whole.cli.len() || answer.gcode.len() < whole.gcode.len()
 }
 
-/// After the call that failed comes one at most, for the last line: that the calls behind it would fail changes nothing.
+/// After the call that failed comes one at most, for the last line: that the calls behind it would fail changes
+/// nothing.
 fn expect_end_of_calls<R: Threads + Sync + Abort>(
     rt: &R,
     alloc: Global,
@@ -128,9 +128,9 @@ fn expect_end_of_calls<R: Threads + Sync + Abort>(
     call: u64,
 ) -> Result<(), AllocError> {
     let (words, echo, last) = row;
-    let alone = [call].to_vec(alloc)?;
-    let answer = answer_to(rt, alloc, words, SOURCE, alone)?;
-    expect_stopped(rt, whole, &answer, end_without(call, echo, last), words);
+    let end = end_without(call, echo, last);
+    let answer = answer_to(rt, alloc, words, SOURCE, [call].to_vec(alloc)?)?;
+    expect_stopped(rt, whole, &answer, end, words);
     let is_cut = call < last && !whole.cli.is_empty();
     assert!(rt;
         answer.faults == 1 && is_short(whole, &answer) == is_cut,
@@ -138,20 +138,23 @@ fn expect_end_of_calls<R: Threads + Sync + Abort>(
     );
     let but_the_next = fails_from(alloc, call, call.saturating_add(2))?;
     let same = answer_to(rt, alloc, words, SOURCE, but_the_next)?;
-    expect_stopped(rt, whole, &same, end_without(call, echo, last), words);
+    expect_stopped(rt, whole, &same, end, words);
     assert!(rt;
-        same.cli == answer.cli && same.gcode == answer.gcode && same.faults == 1,
+        has_same_files(&same, &answer) && same.faults == 1,
         "{words}"
     );
-    let all = fails_from(alloc, call, call)?;
-    let silent = answer_to(rt, alloc, words, SOURCE, all)?;
+    let silent = answer_to(rt, alloc, words, SOURCE, fails_from(alloc, call, call)?)?;
     expect_stopped(rt, whole, &silent, end_from(call, echo), words);
     let faults = if call == echo || call == last { 1 } else { 2 };
     assert!(rt;
-        silent.faults == faults && silent.cli == answer.cli,
+        has_same_files(&silent, &answer) && silent.faults == faults,
         "{words}"
     );
     Ok(())
+}
+
+fn has_same_files(answer: &Answer, other: &Answer) -> bool {
+    answer.cli == other.cli && answer.gcode == other.gcode
 }
 
 #[test]
@@ -295,7 +298,7 @@ fn sources_that_ask_for_too_much(rt: HostRuntime) -> Result<(), Fail> {
 const WIDE: &[u8] =
     b"cube([1,1,3]); translate([0,0,0.8]) cylinder(h=0.2,r=50,$fn=10001); translate([0,0,1.8]) cylinder(h=0.2,r=50,$fn=10001);";
 
-/// The words but for the number of workers, a call that fails, and the height of the last layer that the outlines have then:
+/// The words but for the number of workers, a call that fails, and the height of the last layer that the outlines have:
 /// the fourth write of the outlines or of the printing program is the third layer's.
 const CUT: [(&str, u64, &str); 3] = [
     ("slice m.scad o.cli --workers ", 7, "$$LAYER/400\n"),

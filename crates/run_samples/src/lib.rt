@@ -1,5 +1,5 @@
-//! Whole runs over a desk in memory: each command, each kind of fault, and each call of the desk failing in turn. It promises
-//! nothing: it is a crate of tests, so that what it tries is proved once.
+//! Whole runs over a desk in memory: each command, each kind of fault, and each call of the desk failing in turn.
+//! It promises nothing: it is a crate of tests, so that what it tries is proved once.
 #![tactic(auto)]
 
 #[cfg(test)]

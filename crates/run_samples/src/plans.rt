@@ -55,6 +55,8 @@ M140 S0
 M84
 ";
 
+const PLATE_LINE: &str = "done: 1 layers, 1 loops, 9 moves, E 0.67351\n";
+
 fn planned<R: Threads + Sync>(
     rt: &R,
     alloc: Global,
@@ -79,15 +81,10 @@ fn a_plate_is_planned(rt: HostRuntime) -> Result<(), Fail> {
     let alloc = rt.alloc();
     for workers in ["1", "3"] {
         let answer = planned(&rt, alloc, PLATE, workers, Vec::new(alloc), ROOM)?;
-        expect_report(
-            &rt,
-            &answer,
-            0,
-            "done: 1 layers, 1 loops, 9 moves, E 0.67351\n",
-            workers,
-        );
-        assert!(rt; answer.cli.as_slice() == PLATE_OUTLINES.as_bytes());
-        assert!(rt; answer.gcode.as_slice() == PLATE_PROGRAM.as_bytes());
+        expect_report(&rt, &answer, 0, PLATE_LINE, workers);
+        let same = answer.cli.as_slice() == PLATE_OUTLINES.as_bytes()
+            && answer.gcode.as_slice() == PLATE_PROGRAM.as_bytes();
+        assert!(rt; same);
     }
     Ok(())
 }
@@ -100,30 +97,28 @@ fn done_but_for<R: Threads + Sync + Abort>(
 ) -> Result<bool, AllocError> {
     let fails = [call].to_vec(alloc)?;
     let answer = planned(rt, alloc, PLATE, "3", fails, ROOM)?;
+    let (code, report) = end_without(call);
+    expect_report(rt, &answer, code, report, "a call fails");
+    let fronts = PLATE_OUTLINES.as_bytes().starts_with(&answer.cli)
+        && PLATE_PROGRAM.as_bytes().starts_with(&answer.gcode);
     assert!(rt;
-        PLATE_OUTLINES.as_bytes().starts_with(&answer.cli),
+        fronts && (answer.faults == 0) == (code == 0),
         "call {call}"
     );
-    assert!(rt;
-        PLATE_PROGRAM.as_bytes().starts_with(&answer.gcode),
-        "call {call}"
-    );
+    Ok(code == 0)
+}
+
+/// The status and the report of a run of `plan` over the plate in which this call fails.
+fn end_without(call: u64) -> (u8, &'static str) {
     match call {
         // open and two reads
-        0..3 => expect_report(rt, &answer, 4, "read fault\n", "reading"),
+        0..3 => (4, "read fault\n"),
         // both files are created, and get a head, a layer and an end
-        3..11 => expect_report(rt, &answer, 5, "write fault\n", "the files"),
-        11 => expect_report(rt, &answer, 5, "", "the last line"),
-        _ => expect_report(
-            rt,
-            &answer,
-            0,
-            "done: 1 layers, 1 loops, 9 moves, E 0.67351\n",
-            "no call fails",
-        ),
+        3..11 => (5, "write fault\n"),
+        // the last line
+        11 => (5, ""),
+        _ => (0, PLATE_LINE),
     }
-    assert!(rt; (answer.faults == 0) == (answer.code == 0));
-    Ok(answer.code == 0)
 }
 
 #[test]
@@ -135,6 +130,10 @@ fn each_call_of_a_plan_failing_in_turn(rt: HostRuntime) -> Result<(), Fail> {
     assert!(rt; done_but_for(&rt, alloc, 12)?);
     Ok(())
 }
+
+const FIFTEEN: &[u8] = b"$$HEADERSTART\n$$ASCII\n$$UNITS/0.001\n$$VERSION/200\n$$LAYERS/15\n";
+
+const FOURTH: &[u8] = b"$$LAYER/800\n$$POLYLINE/1,1,5,0,0,1000,0,1000,1000,0,1000,0,0\n";
 
 /// The sections of the layers at 0.8 to 1 mm and at 1.8 to 2 mm have 20,010 edges: both files end before the lower one, whatever
 /// the number of workers.
@@ -155,14 +154,8 @@ fn the_least_layer_with_a_budget_is_answered(rt: HostRuntime) -> Result<(), Fail
         );
         let layers = answer.cli.as_slice();
         assert!(rt;
-            layers.starts_with(
-                b"$$HEADERSTART\n$$ASCII\n$$UNITS/0.001\n$$VERSION/200\n$$LAYERS/15\n"
-            )
+            layers.starts_with(FIFTEEN) && layers.ends_with(FOURTH) && answer.gcode.is_empty()
         );
-        assert!(rt;
-            layers.ends_with(b"$$LAYER/800\n$$POLYLINE/1,1,5,0,0,1000,0,1000,1000,0,1000,0,0\n")
-        );
-        assert!(rt; answer.gcode.is_empty());
     }
     Ok(())
 }

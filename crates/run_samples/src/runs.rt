@@ -88,31 +88,29 @@ pub fn expect(rt: &impl Abort, answer: &Answer, code: u8, report: &str, case: &s
     );
 }
 
-fn expect_usage<R: Threads + Sync + Abort>(
-    rt: &R,
-    alloc: Global,
-    words: &[&str],
-) -> Result<(), AllocError> {
-    let answer = answer_of(rt, alloc, words, b"cube(1);", Vec::new(alloc), ROOM)?;
-    expect(rt, &answer, 2, "usage: scadslice COMMAND\n", "words");
-    assert!(rt; answer.cli.is_empty() && answer.faults == 0);
-    Ok(())
-}
+/// Words that are no command.
+const STRANGE: [&[&str]; 11] = [
+    &["slice", "m.scad"],
+    &["slice", "a", "a"],
+    &["check"],
+    &["check", "a", "b"],
+    &["tree", "a", "a"],
+    &["Check", "a"],
+    &[],
+    &["slice", "m.scad", "o.cli", "more"],
+    &["plan", "a", "b", "b"],
+    &["check", "a", "--workers", "65"],
+    &["sample", "2147483648"],
+];
 
 #[test]
 fn words_of_another_form(rt: HostRuntime) -> Result<(), Fail> {
     let alloc = rt.alloc();
-    expect_usage(&rt, alloc, &["slice", "m.scad"])?;
-    expect_usage(&rt, alloc, &["slice", "a", "a"])?;
-    expect_usage(&rt, alloc, &["check"])?;
-    expect_usage(&rt, alloc, &["check", "a", "b"])?;
-    expect_usage(&rt, alloc, &["tree", "a", "a"])?;
-    expect_usage(&rt, alloc, &["Check", "a"])?;
-    expect_usage(&rt, alloc, &[])?;
-    expect_usage(&rt, alloc, &["slice", "m.scad", "o.cli", "more"])?;
-    expect_usage(&rt, alloc, &["plan", "a", "b", "b"])?;
-    expect_usage(&rt, alloc, &["check", "a", "--workers", "65"])?;
-    expect_usage(&rt, alloc, &["sample", "2147483648"])?;
+    for words in STRANGE {
+        let answer = answer_of(&rt, alloc, words, b"cube(1);", Vec::new(alloc), ROOM)?;
+        expect(&rt, &answer, 2, "usage: scadslice COMMAND\n", "words");
+        assert!(rt; answer.cli.is_empty() && answer.faults == 0);
+    }
     Ok(())
 }
 

@@ -24,25 +24,28 @@ pub fn settled<R: Threads + Sync>(
     answer_on(alloc, status, &desk)
 }
 
+/// Settings, the status of `check` and its report.
+const JUDGED: [(&str, u8, &str); 6] = [
+    ("", 0, "ok: 1 leaves, 12 triangles, 5 layers\n"),
+    (
+        "layer_height = 1000",
+        0,
+        "ok: 1 leaves, 12 triangles, 1 layers\n",
+    ),
+    (
+        "layer_height = 5",
+        3,
+        "settings 4 OutOfRange layer_height 5\n",
+    ),
+    ("speed = 1", 3, "settings 2 UnknownKey speed\n"),
+    ("walls = \"2\"", 3, "settings 3 NotWhole walls\n"),
+    ("walls = ", 3, "settings 1 NotToml\n"),
+];
+
 #[test]
 fn settings_are_judged(rt: HostRuntime) -> Result<(), Fail> {
     let alloc = rt.alloc();
-    for (settings, code, report) in [
-        ("", 0, "ok: 1 leaves, 12 triangles, 5 layers\n"),
-        (
-            "layer_height = 1000",
-            0,
-            "ok: 1 leaves, 12 triangles, 1 layers\n",
-        ),
-        (
-            "layer_height = 5",
-            3,
-            "settings 4 OutOfRange layer_height 5\n",
-        ),
-        ("speed = 1", 3, "settings 2 UnknownKey speed\n"),
-        ("walls = \"2\"", 3, "settings 3 NotWhole walls\n"),
-        ("walls = ", 3, "settings 1 NotToml\n"),
-    ] {
+    for (settings, code, report) in JUDGED {
         let words = ["check", "m.scad", "--settings", "s.toml"];
         let answer = settled(&rt, alloc, &words, settings.as_bytes(), b"cube(1);")?;
         expect(&rt, &answer, code, report, settings);
@@ -50,29 +53,26 @@ fn settings_are_judged(rt: HostRuntime) -> Result<(), Fail> {
     Ok(())
 }
 
+/// A model and where its settings are, the status of `check` and its report.
+const BEFORE: [(&str, &str, u8, &str); 4] = [
+    ("m.scad", "--settings=s.toml", 3, "settings 1 NotToml\n"),
+    ("n.scad", "--settings=s.toml", 3, "settings 1 NotToml\n"),
+    ("m.scad", "--settings=t.toml", 4, "read fault\n"),
+    (
+        "m.scad",
+        "--settings=m.scad",
+        2,
+        "usage: scadslice COMMAND\n",
+    ),
+];
+
 #[test]
 fn settings_go_before_the_source(rt: HostRuntime) -> Result<(), Fail> {
     let alloc = rt.alloc();
-    for (words, code, report) in [
-        (
-            ["check", "m.scad", "--settings=s.toml"],
-            3,
-            "settings 1 NotToml\n",
-        ),
-        (
-            ["check", "n.scad", "--settings=s.toml"],
-            3,
-            "settings 1 NotToml\n",
-        ),
-        (["check", "m.scad", "--settings=t.toml"], 4, "read fault\n"),
-        (
-            ["check", "m.scad", "--settings=m.scad"],
-            2,
-            "usage: scadslice COMMAND\n",
-        ),
-    ] {
+    for (model, settings, code, report) in BEFORE {
+        let words = ["check", model, settings];
         let answer = settled(&rt, alloc, &words, b"walls", b"cube(")?;
-        expect(&rt, &answer, code, report, words[2]);
+        expect(&rt, &answer, code, report, settings);
     }
     Ok(())
 }

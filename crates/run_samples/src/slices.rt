@@ -86,20 +86,25 @@ fn trees_sliced(rt: HostRuntime) -> Result<(), Fail> {
     Ok(())
 }
 
-/// Sources that aren't sliced: no file is created.
+/// Sources that aren't sliced, and their reports.
+const REFUSED: [(&str, &str); 4] = [
+    (
+        "polyhedron([[0,0,0],[1,0,0],[0,1,0],[0,0,1]],[[0,1,2],[0,3,1],[1,3,2]]);",
+        "fault 12 NotClosed at 1:1\n",
+    ),
+    (
+        "echo(1); foo();",
+        "ECHO: 1\nfault 5 UnknownModule at 1:10 foo\n",
+    ),
+    ("cube(1", "fault 2 Syntax at 1:7\n"),
+    ("square(1);", "fault 11 MixedDimensions at 1:1\n"),
+];
+
+/// No file is created.
 #[test]
 fn refused(rt: HostRuntime) -> Result<(), Fail> {
     let alloc = rt.alloc();
-    let open = "polyhedron([[0,0,0],[1,0,0],[0,1,0],[0,0,1]],[[0,1,2],[0,3,1],[1,3,2]]);";
-    for (source, report) in [
-        (open, "fault 12 NotClosed at 1:1\n"),
-        (
-            "echo(1); foo();",
-            "ECHO: 1\nfault 5 UnknownModule at 1:10 foo\n",
-        ),
-        ("cube(1", "fault 2 Syntax at 1:7\n"),
-        ("square(1);", "fault 11 MixedDimensions at 1:1\n"),
-    ] {
+    for (source, report) in REFUSED {
         let answer = sliced(&rt, alloc, source, Vec::new(alloc), ROOM)?;
         expect(&rt, &answer, 1, report, source);
         assert!(rt; answer.cli.is_empty() && answer.faults == 0, "{source}");
@@ -137,30 +142,31 @@ fn done_but_for<R: Threads + Sync + Abort>(
 ) -> Result<bool, AllocError> {
     let fails = [call].to_vec(alloc)?;
     let answer = sliced(rt, alloc, TWO, fails, ROOM)?;
+    let (code, report) = end_without(call);
+    expect(rt, &answer, code, report, "a call fails");
     let whole = outlines(alloc, 2, SQUARE)?;
-    assert!(rt; whole.starts_with(&answer.cli), "call {call}");
-    match call {
-        // open and two reads
-        0..3 => expect(rt, &answer, 4, "read fault\n", "reading"),
-        // all echo lines go out by one write, and a failed report gets no line
-        3 => expect(rt, &answer, 5, "", "the echo lines"),
-        // create, the head, two layers, the end
-        4..9 => expect(rt, &answer, 5, "ECHO: 1\nwrite fault\n", "the outlines"),
-        9 => expect(rt, &answer, 5, "ECHO: 1\n", "the last line"),
-        _ => expect(
-            rt,
-            &answer,
-            0,
-            "ECHO: 1\ndone: 2 layers, 2 loops\n",
-            "no call fails",
-        ),
-    }
-    assert!(rt; (answer.faults == 0) == (answer.code == 0));
+    let is_front = whole.starts_with(&answer.cli)
+        && (answer.cli.len() == whole.len()) == (call >= 9);
     assert!(rt;
-        (answer.cli.len() == whole.len()) == (call >= 9),
+        is_front && (answer.faults == 0) == (code == 0),
         "call {call}"
     );
-    Ok(answer.code == 0)
+    Ok(code == 0)
+}
+
+/// The status and the report of a run in which this call fails.
+fn end_without(call: u64) -> (u8, &'static str) {
+    match call {
+        // open and two reads
+        0..3 => (4, "read fault\n"),
+        // all echo lines go out by one write, and a failed report gets no line
+        3 => (5, ""),
+        // create, the head, two layers, the end
+        4..9 => (5, "ECHO: 1\nwrite fault\n"),
+        // the last line
+        9 => (5, "ECHO: 1\n"),
+        _ => (0, "ECHO: 1\ndone: 2 layers, 2 loops\n"),
+    }
 }
 
 #[test]

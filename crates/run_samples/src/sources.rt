@@ -94,7 +94,7 @@ fn trees_shown(rt: HostRuntime) -> Result<(), Fail> {
 
 const ECHOES: &str = "ECHO: \"a\"\nECHO: 2\n";
 
-const CHECK_LINE: &str = "ok: 1 leaves, 12 triangles, 5 layers\n";
+const WHOLE: &str = "ECHO: \"a\"\nECHO: 2\nok: 1 leaves, 12 triangles, 5 layers\n";
 
 const SOURCE: &str = "echo(\"a\"); echo(2); cube(1);";
 
@@ -106,20 +106,26 @@ fn checked_but_for<R: Threads + Sync + Abort>(
 ) -> Result<bool, AllocError> {
     let fails = [call].to_vec(alloc)?;
     let answer = told(rt, alloc, "check", SOURCE, fails, ROOM)?;
-    assert!(rt; answer.cli.is_empty(), "call {call}");
+    let (code, report) = end_without(call);
+    expect(rt, &answer, code, report, "a call fails");
+    assert!(rt;
+        answer.cli.is_empty() && (answer.faults == 0) == (code == 0),
+        "call {call}"
+    );
+    Ok(code == 0)
+}
+
+/// The status and the report of a check in which this call fails.
+fn end_without(call: u64) -> (u8, &'static str) {
     match call {
         // open and two reads
-        0..3 => expect(rt, &answer, 4, "read fault\n", "reading"),
+        0..3 => (4, "read fault\n"),
         // all echo lines go out by one write, and a failed report gets no line
-        3 => expect(rt, &answer, 5, "", "the echo lines"),
-        4 => expect(rt, &answer, 5, ECHOES, "the last line"),
-        _ => {
-            let report = format!(in alloc; "{ECHOES}{CHECK_LINE}")?;
-            expect(rt, &answer, 0, report.as_str(), "no call fails");
-        }
+        3 => (5, ""),
+        // the last line
+        4 => (5, ECHOES),
+        _ => (0, WHOLE),
     }
-    assert!(rt; (answer.faults == 0) == (answer.code == 0));
-    Ok(answer.code == 0)
 }
 
 #[test]
@@ -136,17 +142,16 @@ fn each_call_of_a_check_failing_in_turn(rt: HostRuntime) -> Result<(), Fail> {
 #[test]
 fn room_for_a_part_of_the_report(rt: HostRuntime) -> Result<(), Fail> {
     let alloc = rt.alloc();
-    let whole = format!(in alloc; "{ECHOES}{CHECK_LINE}")?;
-    for room in 0..whole.len() {
+    for room in 0..WHOLE.len() {
         let answer = told(&rt, alloc, "check", SOURCE, Vec::new(alloc), room)?;
-        assert!(rt; answer.code == 5 && answer.faults == 1, "room {room}");
+        let is_front = answer.report.len() == room && WHOLE.as_bytes().starts_with(&answer.report);
         assert!(rt;
-            answer.report.len() == room && whole.as_bytes().starts_with(&answer.report),
+            is_front && answer.code == 5 && answer.faults == 1,
             "room {room}"
         );
     }
-    let answer = told(&rt, alloc, "check", SOURCE, Vec::new(alloc), whole.len())?;
-    expect(&rt, &answer, 0, whole.as_str(), "room for all");
+    let answer = told(&rt, alloc, "check", SOURCE, Vec::new(alloc), WHOLE.len())?;
+    expect(&rt, &answer, 0, WHOLE, "room for all");
     Ok(())
 }
 

@@ -97,27 +97,29 @@ fn two_at_once(rt: HostRuntime) -> Result<(), Fail> {
             others: AtomicU64::new(0),
             met: AtomicU64::new(0),
         };
-        assert_eq!(rt; code_of(&rt, alloc, &words, "cube(1);", &gate)?, 0);
-        assert_eq!(rt;
-            gate.met.load(Ordering::SeqCst),
-            1,
+        let code = code_of(&rt, alloc, &words, "cube(1);", &gate)?;
+        let met = gate.met.load(Ordering::SeqCst);
+        assert!(rt;
+            code == 0 && met == 1,
             "layer {layer} is held until the others are done"
         );
     }
     Ok(())
 }
 
+/// From which of 70 layers on so many workers meet, and how many are awaited; the last six are a round of their own.
+const MEETINGS: [(u32, &str, u64); 5] = [
+    (0, "1", 1),
+    (0, "2", 2),
+    (0, "5", 5),
+    (64, "2", 2),
+    (64, "5", 5),
+];
+
 #[test]
 fn each_worker_has_a_layer_at_once(rt: HostRuntime) -> Result<(), Fail> {
     let alloc = rt.alloc();
-    // (70 layers, of which the last six are a round of their own)
-    for (from, workers, wanted) in [
-        (0, "1", 1),
-        (0, "2", 2),
-        (0, "5", 5),
-        (64, "2", 2),
-        (64, "5", 5),
-    ] {
+    for (from, workers, wanted) in MEETINGS {
         let words = ["plan", "m.scad", "o.cli", "o.gcode", "--workers", workers];
         let gate = Meeting {
             from,
@@ -125,10 +127,10 @@ fn each_worker_has_a_layer_at_once(rt: HostRuntime) -> Result<(), Fail> {
             inside: AtomicU64::new(0),
             met: AtomicU64::new(0),
         };
-        assert_eq!(rt; code_of(&rt, alloc, &words, "cube([1,1,14]);", &gate)?, 0);
-        assert_eq!(rt;
-            gate.met.load(Ordering::SeqCst),
-            1,
+        let code = code_of(&rt, alloc, &words, "cube([1,1,14]);", &gate)?;
+        let met = gate.met.load(Ordering::SeqCst);
+        assert!(rt;
+            code == 0 && met == 1,
             "{workers} workers from layer {from} on"
         );
     }

@@ -19,7 +19,7 @@ mod Printed
 mod Printing
 mod ByGrammar
 mod Silent
-mod Sampled
+mod SampleEnds
 mod Finished
 mod Refused
 mod Cutting

@@ -1,5 +1,5 @@
-//! The program: `main` hands the words and the real files to `run` of scad_run, whose contract has the promise, and ends with
-//! its status.
+//! The program: `main` hands the words and the real files to `run` of scad_run, whose contract has the promise, and
+//! ends with its status.
 #![tactic(auto)]
 
 use scad_fault::Status;

@@ -4,7 +4,7 @@ use Rattle.scad_tree.specs.View.{solid_of}
 use Rattle.scad_slice.proofs.SomeParts.{parts_are_there}
 use Rattle.scad_run.specs.Told.{sample_script}
 use Rattle.scad_run.proofs.Finished.{slice_finishes, plan_finishes, sample_finishes}
-use Rattle.scad_run.proofs.Sampled.{no_fault_rises}
+use Rattle.scad_run.proofs.SampleEnds.{no_fault_rises}
 use Rattle.scad_run.proofs.finish.finish.Goals as goal
 
 pub returns-in-Slice-clause-completes : goal.returns-in-Slice-clause-completes

@@ -1,6 +1,6 @@
 use Rattle.std.proofs.Common.{◌∙◌, rules}
 use Rattle.scad_tree.specs.View.{solid_of}
-use Rattle.scad_run.proofs.Sampled.{sample_stops, sample_done}
+use Rattle.scad_run.proofs.SampleEnds.{sample_stops, sample_done}
 use Rattle.scad_run.proofs.sample.sampled.Goals as goal
 
 pub returns-in_err-written : goal.returns-in_err-written

@@ -24,8 +24,8 @@ use Rattle.scad_run.proofs.Cutting.{cuts_short}
 use Rattle.scad_run.proofs.ByGrammar.{sources_go_by_grammar}
 use Rattle.scad_run.proofs.Refused.{leaves, refuses_so}
 use Rattle.scad_run.proofs.Completed.{completes}
-use Rattle.scad_run.proofs.run.run.Given.{Over}
-use Rattle.scad_run.proofs.run.run.Goals as goal
+use Rattle.scad_run.proofs.whole_run.run.Given.{Over}
+use Rattle.scad_run.proofs.whole_run.run.Goals as goal
 
 abbrev words : (g : Over) → goal.After-report g → List (List ℕ)
 words g c = map (string_bytes {Z = Global}) c.args.words.now
