@@ -18,6 +18,7 @@ pub record IsPlane {X : Type 0} (left : X → X → X → ℤ) (Before Same : X 
   pub through : (t p q w : X) → Before t p → Before t q → Before t w → pos 0 ≤ℤ left t w q → pos 0 ≤ℤ left t p w → pos 0 ≤ℤ left t p q
   pub behind : (q t u p : X) → Before q t → Before u t → Before t p → pos 0 ≤ℤ left u t q → pos 0 <ℤ left u t p → pos 0 ≤ℤ left t p q
   pub onward : (a b c p : X) → Before a b → Before b c → Before c p → pos 0 <ℤ left a b c → pos 0 <ℤ left b c p → pos 0 <ℤ left a b p
+  pub amid : (q t u p : X) → Before q t → Before t u → Before t p → pos 0 ≤ℤ left u t q → pos 0 ≤ℤ left t p q → pos 0 ≤ℤ left t u p
 
 -- ---- signs
 weak : (z : ℤ) → pos 0 <ℤ z → pos 0 ≤ℤ z

@@ -34,10 +34,10 @@ flat_exact p q e =
     let x = exact_signed _ _ both.1 in
     λ i. (x i, y i)
 
-abbrev x_of : ℤ × ℤ → ℤ
+abbrev pub x_of : ℤ × ℤ → ℤ
 x_of p = p.0
 
-abbrev y_of : ℤ × ℤ → ℤ
+abbrev pub y_of : ℤ × ℤ → ℤ
 y_of p = p.1
 
 abbrev FlatSame : ℤ × ℤ → ℤ × ℤ → Type 0
@@ -56,7 +56,7 @@ flat_ascends (p ∷ ps) h = (all_before p ps h.0, flat_ascends ps h.1)
 told_apart : true ≡ false → ⊥
 told_apart e = cc
 
-sorted_ring : (ps : List (ℤ × ℤ)) → IsStrictlySortedBy flat_cmp ps → are_on_line ps ≡ false → IsConvexRing flat_left IsFlatBefore ps (ring_round flat_left ps)
+pub sorted_ring : (ps : List (ℤ × ℤ)) → IsStrictlySortedBy flat_cmp ps → are_on_line ps ≡ false → IsConvexRing flat_left IsFlatBefore ps (ring_round flat_left ps)
 sorted_ring [] s e = absurd (told_apart (sym (few_on [] (lit< tt)) ∙ e))
 sorted_ring (m ∷ []) s e = absurd (told_apart (sym (few_on (m ∷ []) (lit< tt)) ∙ e))
 sorted_ring (m ∷ (p ∷ ps)) s e =
@@ -66,7 +66,7 @@ sorted_ring (m ∷ (p ∷ ps)) s e =
 
 -- the same points, in order and each once
 module _ (points : List (ℤ × ℤ)) where
-  abbrev sorted : List (ℤ × ℤ)
+  abbrev pub sorted : List (ℤ × ℤ)
   sorted = distinct flat_cmp points
 
   pub of_points : (ring : List (ℤ × ℤ)) → IsConvexRing flat_left IsFlatBefore sorted ring → IsConvexRing flat_left IsFlatBefore points ring
@@ -83,7 +83,7 @@ module _ (points : List (ℤ × ℤ)) where
       listed = All-from_recursion (Contains points) sorted
           (distinct_keeps flat_cmp (Contains points) points (recursion_of _ points (All-contains_itself points)))
 
-  abbrev answer_by : Bool → Bool → Result (Option (List (ℤ × ℤ))) HullFault
+  abbrev pub answer_by : Bool → Bool → Result (Option (List (ℤ × ℤ))) HullFault
   answer_by many line = if many then Err (Points (length sorted)) else Ok (if line then None else Some (ring_round flat_left sorted))
 
   refused : (f : HullFault) (r : Option (List (ℤ × ℤ))) → Err f ≡ Ok r → ⊥

@@ -32,7 +32,7 @@ pub before_of : (p q : ℤ × ℤ) → flat_cmp p q ≡ Less → IsBefore (λ r.
 before_of p q e = onward_of p.0 p.1 q.0 q.1 e
 
 -- ---- products
-nought_right : (u d : ℤ) → u *ℤ d ≡ pos 0 → (u ≡ pos 0 → ⊥) → d ≡ pos 0
+pub nought_right : (u d : ℤ) → u *ℤ d ≡ pos 0 → (u ≡ pos 0 → ⊥) → d ≡ pos 0
 nought_right u d e n = by_lt_z (pos 0) u
     (λ up. by_lt_z (pos 0) d (λ h. absurd (clash_up (u *ℤ d) e (positive_product u d up h)))
     (λ h. by_lt_z d (pos 0) (λ k. absurd (clash_down (u *ℤ d) e (flip u d (negative_product d u up k)))) (λ k. omega (arith, ints))))
@@ -109,7 +109,7 @@ all_of : {X : Type 0} (p : X → Bool) (xs : List X) → AllByRecursion (λ x. p
 all_of p [] h = refl
 all_of p (x ∷ xs) h = ap₂ (λ a b. a && b) h.0 (all_of p xs h.1)
 
-each_of : {X : Type 0} (p : X → Bool) (xs : List X) → list_all p xs ≡ true → AllByRecursion (λ x. p x ≡ true) xs
+pub each_of : {X : Type 0} (p : X → Bool) (xs : List X) → list_all p xs ≡ true → AllByRecursion (λ x. p x ≡ true) xs
 each_of p [] h = tt
 each_of p (x ∷ xs) h = let both = and_parts (p x) (list_all p xs) h in (both.0, each_of p xs both.1)
 

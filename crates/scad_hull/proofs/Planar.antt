@@ -104,7 +104,7 @@ module _ {X : Type 0} (f g : X → ℤ) where
       ((v2 ⊖ v0) ⊗ (v7 ⊖ v1) ⊖ (v3 ⊖ v1) ⊗ (v6 ⊖ v0))
       (((v2 ⊖ v0) ⊗ (v5 ⊖ v1) ⊖ (v3 ⊖ v1) ⊗ (v4 ⊖ v0)) ⊕ ((v2 ⊖ v0) ⊗ (v7 ⊖ v5) ⊖ (v3 ⊖ v1) ⊗ (v6 ⊖ v4))) refl
 
-  left_on : (a b c : X) → left f g a b c ≡ area (f b -ℤ f a) (g b -ℤ g a) (f c -ℤ f b) (g c -ℤ g b)
+  pub left_on : (a b c : X) → left f g a b c ≡ area (f b -ℤ f a) (g b -ℤ g a) (f c -ℤ f b) (g c -ℤ g b)
   left_on a b c =
       ring (f a ∷ g a ∷ f b ∷ g b ∷ f c ∷ g c ∷ [])
       ((v2 ⊖ v0) ⊗ (v5 ⊖ v1) ⊖ (v3 ⊖ v1) ⊗ (v4 ⊖ v0))
@@ -133,6 +133,23 @@ module _ {X : Type 0} (f g : X → ℤ) where
   more : (s t u : ℤ) → s ≡ t +ℤ u → pos 0 <ℤ t → pos 0 ≤ℤ u → pos 0 <ℤ s
   more s t u e h k = omega (arith, ints)
 
+  -- a point before t, as ways from t see it
+  amid_from : (u t q : X) → left f g u t q ≡ area (f u -ℤ f t) (g u -ℤ g t) (f t -ℤ f q) (g t -ℤ g q)
+  amid_from u t q =
+      ring (f u ∷ g u ∷ f t ∷ g t ∷ f q ∷ g q ∷ []) ((v2 ⊖ v0) ⊗ (v5 ⊖ v1) ⊖ (v3 ⊖ v1) ⊗ (v4 ⊖ v0)) ((v0 ⊖ v2) ⊗ (v3 ⊖ v5) ⊖ (v1 ⊖ v3) ⊗ (v2 ⊖ v4)) refl
+
+  amid_to : (q t p : X) → left f g t p q ≡ area (f t -ℤ f q) (g t -ℤ g q) (f p -ℤ f t) (g p -ℤ g t)
+  amid_to q t p =
+      ring (f q ∷ g q ∷ f t ∷ g t ∷ f p ∷ g p ∷ []) ((v4 ⊖ v2) ⊗ (v1 ⊖ v3) ⊖ (v5 ⊖ v3) ⊗ (v0 ⊖ v2)) ((v2 ⊖ v0) ⊗ (v5 ⊖ v3) ⊖ (v3 ⊖ v1) ⊗ (v4 ⊖ v2)) refl
+
+  amid_back_from : (u t q : X) → left f g u t q ≡ area (f t -ℤ f u) (g t -ℤ g u) (f q -ℤ f t) (g q -ℤ g t)
+  amid_back_from u t q =
+      ring (f u ∷ g u ∷ f t ∷ g t ∷ f q ∷ g q ∷ []) ((v2 ⊖ v0) ⊗ (v5 ⊖ v1) ⊖ (v3 ⊖ v1) ⊗ (v4 ⊖ v0)) ((v2 ⊖ v0) ⊗ (v5 ⊖ v3) ⊖ (v3 ⊖ v1) ⊗ (v4 ⊖ v2)) refl
+
+  amid_back_to : (q t p : X) → left f g t p q ≡ area (f q -ℤ f t) (g q -ℤ g t) (f t -ℤ f p) (g t -ℤ g p)
+  amid_back_to q t p =
+      ring (f q ∷ g q ∷ f t ∷ g t ∷ f p ∷ g p ∷ []) ((v4 ⊖ v2) ⊗ (v1 ⊖ v3) ⊖ (v5 ⊖ v3) ⊗ (v0 ⊖ v2)) ((v0 ⊖ v2) ⊗ (v3 ⊖ v5) ⊖ (v1 ⊖ v3) ⊗ (v2 ⊖ v4)) refl
+
   pub plane : IsPlane (left f g) (IsBefore f g) Same
   plane = record {
     turned = turned;
@@ -154,6 +171,10 @@ module _ {X : Type 0} (f g : X → ℤ) where
         (area_on (f b -ℤ f a) (g b -ℤ g a) (f c -ℤ f b) (g c -ℤ g b) (f p -ℤ f c) (g p -ℤ g c) ab bc cp
         (weak (left f g a b c) (area (f b -ℤ f a) (g b -ℤ g a) (f c -ℤ f b) (g c -ℤ g b)) (left_on a b c) h)
         (weak (left f g b c p) (area (f c -ℤ f b) (g c -ℤ g b) (f p -ℤ f c) (g p -ℤ g c)) (left_on b c p) k));
+    amid = λ q t u p bq bu bp h k.
+        area_on (f u -ℤ f t) (g u -ℤ g t) (f t -ℤ f q) (g t -ℤ g q) (f p -ℤ f t) (g p -ℤ g t) bu bq bp
+        (same_sign (left f g u t q) (area (f u -ℤ f t) (g u -ℤ g t) (f t -ℤ f q) (g t -ℤ g q)) (amid_from u t q) h)
+        (same_sign (left f g t p q) (area (f t -ℤ f q) (g t -ℤ g q) (f p -ℤ f t) (g p -ℤ g t)) (amid_to q t p) k);
   }
 
   -- the same turned by half a turn
@@ -218,4 +239,9 @@ module _ {X : Type 0} (f g : X → ℤ) where
         (area_on (f a -ℤ f b) (g a -ℤ g b) (f b -ℤ f c) (g b -ℤ g c) (f c -ℤ f p) (g c -ℤ g p) ab bc cp
         (weak (left f g a b c) (area (f a -ℤ f b) (g a -ℤ g b) (f b -ℤ f c) (g b -ℤ g c)) (back_on a b c) h)
         (weak (left f g b c p) (area (f b -ℤ f c) (g b -ℤ g c) (f c -ℤ f p) (g c -ℤ g p)) (back_on b c p) k));
+    amid = λ q t u p bq bu bp h k.
+        same_sign (area (f t -ℤ f u) (g t -ℤ g u) (f t -ℤ f p) (g t -ℤ g p)) (left f g t u p) (sym (back_area t u p))
+        (area_on (f t -ℤ f u) (g t -ℤ g u) (f q -ℤ f t) (g q -ℤ g t) (f t -ℤ f p) (g t -ℤ g p) bu bq bp
+        (same_sign (left f g u t q) (area (f t -ℤ f u) (g t -ℤ g u) (f q -ℤ f t) (g q -ℤ g t)) (amid_back_from u t q) h)
+        (same_sign (left f g t p q) (area (f q -ℤ f t) (g q -ℤ g t) (f t -ℤ f p) (g t -ℤ g p)) (amid_back_to q t p) k));
   }
