@@ -7,4 +7,9 @@ pub mod Rings
 pub mod Whole
 pub mod Distincts
 pub mod Flats
+pub mod OneRing
+pub mod FlatOne
+pub mod Steps
+pub mod Winds
+pub mod FlatHolds
 pub mod Examples

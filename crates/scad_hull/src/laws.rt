@@ -1,5 +1,5 @@
 //! Laws of the definitions, each carried by the contract of a function that does nothing.
-ghost use Rattle.scad_hull.specs.Laws.{RingsAreConvex};
+ghost use Rattle.scad_hull.specs.Laws.{RingsAreConvex, RingsAreOne, RingsHold};
 
 /// The ring that points of the plane have as their hull is the convex ring round them: three or more
 /// of the points, each a corner, counter-clockwise from the lowest and then leftmost, with all points
@@ -7,4 +7,18 @@ ghost use Rattle.scad_hull.specs.Laws.{RingsAreConvex};
 #[tactic(auto, using(crate::proofs::Flats::rings_are_convex))]
 pub fn rings_are_convex()
     ensures { RingsAreConvex }
+{}
+
+/// Points have no other convex ring: where a ring is one round them, and no more than 20,000 of them
+/// are distinct, it is their hull.
+#[tactic(auto, using(crate::proofs::FlatOne::rings_are_one))]
+pub fn rings_are_one()
+    ensures { RingsAreOne }
+{}
+
+/// The ring that points of the plane have as their hull winds round a point that lies on the line of
+/// none of its sides exactly where the point lies to the left of each side.
+#[tactic(auto, using(crate::proofs::FlatHolds::rings_hold))]
+pub fn rings_hold()
+    ensures { RingsHold }
 {}
