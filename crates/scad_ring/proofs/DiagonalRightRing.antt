@@ -13,7 +13,7 @@ use Rattle.scad_ring.specs.declared.direction.Direction.TheVariants.{DiagonalRig
 use Rattle.scad_ring.specs.OctagonCorners.{eight_sided, low_left, low_right, right_low, right_high, high_right, high_left, left_high, left_low}
 use Rattle.scad_ring.proofs.Octants.{approach}
 use Rattle.scad_ring.proofs.Approaches.{ApproachFrom, meets_if_approach, approach_if_meets}
-use Rattle.scad_ring.proofs.Steps.{Step, Side, Beside, turns, side_gap, first_side, last_side}
+use Rattle.scad_ring.proofs.Steps.{Side, side, turns, side_gap, first_side, last_side}
 use Rattle.scad_ring.proofs.Slants.{over, right_by, diagonal_right_passes}
 use Rattle.scad_ring.proofs.Offsets.{IsNearWay, IsOctagonRound, near_first, near_last, low_left_in, low_right_in, right_low_in, right_high_in, high_right_in, high_left_in, left_high_in, left_low_in}
 
@@ -23,92 +23,34 @@ module _ (c t u : ℤ) (sum : u ≡ c +ℤ t) (some : pos 0 <ℤ t) (less : t <�
   weak = omega (arith, ints)
 
   s0 : Side (pos 0) (pos 1) c p (low_left c t p) (low_right c t p)
-  s0 = record {
-    step = record {
-      m = pos 2 *ℤ t;
-      positive = omega (arith, ints);
-      across = omega (arith, ints);
-      upwards = omega (arith, ints);
-    };
-    at = omega (arith, ints);
-  }
+  s0 = side (pos 2 *ℤ t) (omega (arith, ints)) (omega (arith, ints)) (omega (arith, ints)) (omega (arith, ints))
 
   s1 : Side (neg_ℤ (pos 1)) (pos 1) u p (low_right c t p) (right_low c t r)
-  s1 = record {
-    step = record {
-      m = c -ℤ t +ℤ (r.x -ℤ p.x);
-      positive = omega (arith, ints);
-      across = omega (arith, ints);
-      upwards = omega (arith, ints);
-    };
-    at = omega (arith, ints);
-  }
+  s1 = side (c -ℤ t +ℤ (r.x -ℤ p.x)) (omega (arith, ints)) (omega (arith, ints)) (omega (arith, ints)) (omega (
+    arith,
+    ints,
+  ))
 
   s2 : Side (neg_ℤ (pos 1)) (pos 0) c r (right_low c t r) (right_high c t r)
-  s2 = record {
-    step = record {
-      m = pos 2 *ℤ t;
-      positive = omega (arith, ints);
-      across = omega (arith, ints);
-      upwards = omega (arith, ints);
-    };
-    at = omega (arith, ints);
-  }
+  s2 = side (pos 2 *ℤ t) (omega (arith, ints)) (omega (arith, ints)) (omega (arith, ints)) (omega (arith, ints))
 
   s3 : Side (neg_ℤ (pos 1)) (neg_ℤ (pos 1)) u r (right_high c t r) (high_right c t r)
-  s3 = record {
-    step = record {
-      m = c -ℤ t;
-      positive = omega (arith, ints);
-      across = omega (arith, ints);
-      upwards = omega (arith, ints);
-    };
-    at = omega (arith, ints);
-  }
+  s3 = side (c -ℤ t) (omega (arith, ints)) (omega (arith, ints)) (omega (arith, ints)) (omega (arith, ints))
 
   s4 : Side (pos 0) (neg_ℤ (pos 1)) c r (high_right c t r) (high_left c t r)
-  s4 = record {
-    step = record {
-      m = pos 2 *ℤ t;
-      positive = omega (arith, ints);
-      across = omega (arith, ints);
-      upwards = omega (arith, ints);
-    };
-    at = omega (arith, ints);
-  }
+  s4 = side (pos 2 *ℤ t) (omega (arith, ints)) (omega (arith, ints)) (omega (arith, ints)) (omega (arith, ints))
 
   s5 : Side (pos 1) (neg_ℤ (pos 1)) u p (high_left c t r) (left_high c t p)
-  s5 = record {
-    step = record {
-      m = c -ℤ t +ℤ (r.x -ℤ p.x);
-      positive = omega (arith, ints);
-      across = omega (arith, ints);
-      upwards = omega (arith, ints);
-    };
-    at = omega (arith, ints);
-  }
+  s5 = side (c -ℤ t +ℤ (r.x -ℤ p.x)) (omega (arith, ints)) (omega (arith, ints)) (omega (arith, ints)) (omega (
+    arith,
+    ints,
+  ))
 
   s6 : Side (pos 1) (pos 0) c p (left_high c t p) (left_low c t p)
-  s6 = record {
-    step = record {
-      m = pos 2 *ℤ t;
-      positive = omega (arith, ints);
-      across = omega (arith, ints);
-      upwards = omega (arith, ints);
-    };
-    at = omega (arith, ints);
-  }
+  s6 = side (pos 2 *ℤ t) (omega (arith, ints)) (omega (arith, ints)) (omega (arith, ints)) (omega (arith, ints))
 
   s7 : Side (pos 1) (pos 1) u p (left_low c t p) (low_left c t p)
-  s7 = record {
-    step = record {
-      m = c -ℤ t;
-      positive = omega (arith, ints);
-      across = omega (arith, ints);
-      upwards = omega (arith, ints);
-    };
-    at = omega (arith, ints);
-  }
+  s7 = side (c -ℤ t) (omega (arith, ints)) (omega (arith, ints)) (omega (arith, ints)) (omega (arith, ints))
 
   sides_if : (q : Point) → pos 0 <ℤ q.d → ApproachFrom c u q p r
       → All (IsLeftOf q) (segments (sides (eight_sided c t p r DiagonalRight)))

@@ -32,3 +32,5 @@ pub mod SmallLeftRing
 pub mod Ways
 pub mod OctagonExamples
 pub mod Regions
+pub mod Shapes
+pub mod Opened

@@ -40,8 +40,9 @@ octagon_holds_origin s u h k = (
   ),
 )
 
--- a point of an octagon and one of the square of half width 1, added, lie in the octagon of a half width greater by 1 and a
--- half sum greater by 2
+-- a point of an octagon and one of the square of half width 1, added, give one of the octagon of a half width greater
+-- by
+-- 1 and a half sum greater by 2
 pub octagon_and_square : (s u : ℤ) → AddUp (octagon s u) (box (pos 1) (pos 1)) (octagon (s +ℤ pos 1) (u +ℤ pos 2))
 octagon_and_square s u = record {
   each = λ x y z w d h k.

@@ -14,7 +14,7 @@ use Rattle.scad_ring.specs.declared.direction.Direction.TheVariants.{DiagonalRig
 use Rattle.scad_ring.specs.OctagonCorners.{four_sided, low, right, high, left}
 use Rattle.scad_ring.proofs.Octants.{approach_four}
 use Rattle.scad_ring.proofs.Approaches.{ApproachFrom, meets_if_approach, approach_if_meets}
-use Rattle.scad_ring.proofs.Steps.{Step, Side, Beside, turns, side_gap, first_side, last_side}
+use Rattle.scad_ring.proofs.Steps.{Side, side, turns, side_gap, first_side, last_side}
 use Rattle.scad_ring.proofs.Slants.{right_by, diagonal_right_passes}
 use Rattle.scad_ring.proofs.Offsets.{IsNearWay, IsOctagonRound, near_first, near_last, low_in, right_in, high_in, left_in}
 
@@ -26,48 +26,22 @@ module _ (c : ℤ) (less : pos 0 <ℤ c) (p r : Pt) (x : p.x <ℤ r.x) (y : r.y 
   sum = omega (arith, ints)
 
   s0 : Side (neg_ℤ (pos 1)) (pos 1) c p (low c p) (right c r)
-  s0 = record {
-    step = record {
-      m = c +ℤ (r.x -ℤ p.x);
-      positive = omega (arith, ints);
-      across = omega (arith, ints);
-      upwards = omega (arith, ints);
-    };
-    at = omega (arith, ints);
-  }
+  s0 = side (c +ℤ (r.x -ℤ p.x)) (omega (arith, ints)) (omega (arith, ints)) (omega (arith, ints)) (omega (
+    arith,
+    ints,
+  ))
 
   s1 : Side (neg_ℤ (pos 1)) (neg_ℤ (pos 1)) c r (right c r) (high c r)
-  s1 = record {
-    step = record {
-      m = c;
-      positive = omega (arith, ints);
-      across = omega (arith, ints);
-      upwards = omega (arith, ints);
-    };
-    at = omega (arith, ints);
-  }
+  s1 = side c (omega (arith, ints)) (omega (arith, ints)) (omega (arith, ints)) (omega (arith, ints))
 
   s2 : Side (pos 1) (neg_ℤ (pos 1)) c p (high c r) (left c p)
-  s2 = record {
-    step = record {
-      m = c +ℤ (r.x -ℤ p.x);
-      positive = omega (arith, ints);
-      across = omega (arith, ints);
-      upwards = omega (arith, ints);
-    };
-    at = omega (arith, ints);
-  }
+  s2 = side (c +ℤ (r.x -ℤ p.x)) (omega (arith, ints)) (omega (arith, ints)) (omega (arith, ints)) (omega (
+    arith,
+    ints,
+  ))
 
   s3 : Side (pos 1) (pos 1) c p (left c p) (low c p)
-  s3 = record {
-    step = record {
-      m = c;
-      positive = omega (arith, ints);
-      across = omega (arith, ints);
-      upwards = omega (arith, ints);
-    };
-    at = omega (arith, ints);
-  }
+  s3 = side c (omega (arith, ints)) (omega (arith, ints)) (omega (arith, ints)) (omega (arith, ints))
 
   sides_if : (q : Point) → pos 0 <ℤ q.d → ApproachFrom c c q p r
       → All (IsLeftOf q) (segments (sides (four_sided c p r DiagonalRight)))

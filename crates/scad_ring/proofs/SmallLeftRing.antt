@@ -14,7 +14,7 @@ use Rattle.scad_ring.specs.declared.direction.Direction.TheVariants.{Left}
 use Rattle.scad_ring.specs.OctagonCorners.{four_sided, low, right, high, left}
 use Rattle.scad_ring.proofs.Octants.{approach_four}
 use Rattle.scad_ring.proofs.Approaches.{ApproachFrom, meets_if_approach, approach_if_meets}
-use Rattle.scad_ring.proofs.Steps.{Step, Side, Beside, turns, side_gap, first_side, last_side}
+use Rattle.scad_ring.proofs.Steps.{Step, Side, Beside, step, side, along, turns, side_gap, first_side, last_side}
 use Rattle.scad_ring.proofs.Slants.{under, over, line, left_by, left_passes}
 use Rattle.scad_ring.proofs.Offsets.{IsNearWay, IsOctagonRound, near_first, near_last, low_in, right_in, high_in, left_in}
 
@@ -26,80 +26,28 @@ module _ (c : ℤ) (less : pos 0 <ℤ c) (p r : Pt) (y : p.y <ℤ r.y) (x : (r.y
   sum = omega (arith, ints)
 
   s0 : Side (neg_ℤ (pos 1)) (pos 1) c p (low c p) (right c p)
-  s0 = record {
-    step = record {
-      m = c;
-      positive = omega (arith, ints);
-      across = omega (arith, ints);
-      upwards = omega (arith, ints);
-    };
-    at = omega (arith, ints);
-  }
+  s0 = side c (omega (arith, ints)) (omega (arith, ints)) (omega (arith, ints)) (omega (arith, ints))
 
   s1 : Side (neg_ℤ (pos 1)) (neg_ℤ (pos 1)) c p (right c p) (high c p)
-  s1 = record {
-    step = record {
-      m = c;
-      positive = omega (arith, ints);
-      across = omega (arith, ints);
-      upwards = omega (arith, ints);
-    };
-    at = omega (arith, ints);
-  }
+  s1 = side c (omega (arith, ints)) (omega (arith, ints)) (omega (arith, ints)) (omega (arith, ints))
 
   s2 : Beside (pos 0) c p r (high c p) (high c r)
-  s2 = record {
-    first_x = omega (arith, ints);
-    first_y = omega (arith, ints);
-    last_x = omega (arith, ints);
-    last_y = omega (arith, ints);
-  }
+  s2 = along (omega (arith, ints)) (omega (arith, ints)) (omega (arith, ints)) (omega (arith, ints))
 
   t2 : Step (r.x -ℤ p.x) (r.y -ℤ p.y) (high c p) (high c r)
-  t2 = record {
-    m = pos 1;
-    positive = omega (arith, ints);
-    across = omega (arith, ints);
-    upwards = omega (arith, ints);
-  }
+  t2 = step (pos 1) (omega (arith, ints)) (omega (arith, ints)) (omega (arith, ints))
 
   s3 : Side (pos 1) (neg_ℤ (pos 1)) c r (high c r) (left c r)
-  s3 = record {
-    step = record {
-      m = c;
-      positive = omega (arith, ints);
-      across = omega (arith, ints);
-      upwards = omega (arith, ints);
-    };
-    at = omega (arith, ints);
-  }
+  s3 = side c (omega (arith, ints)) (omega (arith, ints)) (omega (arith, ints)) (omega (arith, ints))
 
   s4 : Side (pos 1) (pos 1) c r (left c r) (low c r)
-  s4 = record {
-    step = record {
-      m = c;
-      positive = omega (arith, ints);
-      across = omega (arith, ints);
-      upwards = omega (arith, ints);
-    };
-    at = omega (arith, ints);
-  }
+  s4 = side c (omega (arith, ints)) (omega (arith, ints)) (omega (arith, ints)) (omega (arith, ints))
 
   s5 : Beside (pos 0 -ℤ (pos 0)) (pos 0 -ℤ c) r p (low c r) (low c p)
-  s5 = record {
-    first_x = omega (arith, ints);
-    first_y = omega (arith, ints);
-    last_x = omega (arith, ints);
-    last_y = omega (arith, ints);
-  }
+  s5 = along (omega (arith, ints)) (omega (arith, ints)) (omega (arith, ints)) (omega (arith, ints))
 
   t5 : Step (p.x -ℤ r.x) (p.y -ℤ r.y) (low c r) (low c p)
-  t5 = record {
-    m = pos 1;
-    positive = omega (arith, ints);
-    across = omega (arith, ints);
-    upwards = omega (arith, ints);
-  }
+  t5 = step (pos 1) (omega (arith, ints)) (omega (arith, ints)) (omega (arith, ints))
 
   sides_if : (q : Point) → pos 0 <ℤ q.d → ApproachFrom c c q p r
       → All (IsLeftOf q) (segments (sides (four_sided c p r Left)))

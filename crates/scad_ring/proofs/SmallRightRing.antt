@@ -14,7 +14,7 @@ use Rattle.scad_ring.specs.declared.direction.Direction.TheVariants.{Right}
 use Rattle.scad_ring.specs.OctagonCorners.{four_sided, low, right, high, left}
 use Rattle.scad_ring.proofs.Octants.{approach_four}
 use Rattle.scad_ring.proofs.Approaches.{ApproachFrom, meets_if_approach, approach_if_meets}
-use Rattle.scad_ring.proofs.Steps.{Step, Side, Beside, turns, side_gap, first_side, last_side}
+use Rattle.scad_ring.proofs.Steps.{Step, Side, Beside, step, side, along, turns, side_gap, first_side, last_side}
 use Rattle.scad_ring.proofs.Slants.{under, over, line, right_by, right_passes}
 use Rattle.scad_ring.proofs.Offsets.{IsNearWay, IsOctagonRound, near_first, near_last, low_in, right_in, high_in, left_in, before}
 
@@ -26,80 +26,28 @@ module _ (c : ℤ) (less : pos 0 <ℤ c) (p r : Pt) (y : p.y ≤ℤ r.y) (x : (r
   sum = omega (arith, ints)
 
   s0 : Beside (pos 0) (pos 0 -ℤ c) p r (low c p) (low c r)
-  s0 = record {
-    first_x = omega (arith, ints);
-    first_y = omega (arith, ints);
-    last_x = omega (arith, ints);
-    last_y = omega (arith, ints);
-  }
+  s0 = along (omega (arith, ints)) (omega (arith, ints)) (omega (arith, ints)) (omega (arith, ints))
 
   t0 : Step (r.x -ℤ p.x) (r.y -ℤ p.y) (low c p) (low c r)
-  t0 = record {
-    m = pos 1;
-    positive = omega (arith, ints);
-    across = omega (arith, ints);
-    upwards = omega (arith, ints);
-  }
+  t0 = step (pos 1) (omega (arith, ints)) (omega (arith, ints)) (omega (arith, ints))
 
   s1 : Side (neg_ℤ (pos 1)) (pos 1) c r (low c r) (right c r)
-  s1 = record {
-    step = record {
-      m = c;
-      positive = omega (arith, ints);
-      across = omega (arith, ints);
-      upwards = omega (arith, ints);
-    };
-    at = omega (arith, ints);
-  }
+  s1 = side c (omega (arith, ints)) (omega (arith, ints)) (omega (arith, ints)) (omega (arith, ints))
 
   s2 : Side (neg_ℤ (pos 1)) (neg_ℤ (pos 1)) c r (right c r) (high c r)
-  s2 = record {
-    step = record {
-      m = c;
-      positive = omega (arith, ints);
-      across = omega (arith, ints);
-      upwards = omega (arith, ints);
-    };
-    at = omega (arith, ints);
-  }
+  s2 = side c (omega (arith, ints)) (omega (arith, ints)) (omega (arith, ints)) (omega (arith, ints))
 
   s3 : Beside (pos 0 -ℤ (pos 0)) (pos 0 -ℤ (pos 0 -ℤ c)) r p (high c r) (high c p)
-  s3 = record {
-    first_x = omega (arith, ints);
-    first_y = omega (arith, ints);
-    last_x = omega (arith, ints);
-    last_y = omega (arith, ints);
-  }
+  s3 = along (omega (arith, ints)) (omega (arith, ints)) (omega (arith, ints)) (omega (arith, ints))
 
   t3 : Step (p.x -ℤ r.x) (p.y -ℤ r.y) (high c r) (high c p)
-  t3 = record {
-    m = pos 1;
-    positive = omega (arith, ints);
-    across = omega (arith, ints);
-    upwards = omega (arith, ints);
-  }
+  t3 = step (pos 1) (omega (arith, ints)) (omega (arith, ints)) (omega (arith, ints))
 
   s4 : Side (pos 1) (neg_ℤ (pos 1)) c p (high c p) (left c p)
-  s4 = record {
-    step = record {
-      m = c;
-      positive = omega (arith, ints);
-      across = omega (arith, ints);
-      upwards = omega (arith, ints);
-    };
-    at = omega (arith, ints);
-  }
+  s4 = side c (omega (arith, ints)) (omega (arith, ints)) (omega (arith, ints)) (omega (arith, ints))
 
   s5 : Side (pos 1) (pos 1) c p (left c p) (low c p)
-  s5 = record {
-    step = record {
-      m = c;
-      positive = omega (arith, ints);
-      across = omega (arith, ints);
-      upwards = omega (arith, ints);
-    };
-    at = omega (arith, ints);
-  }
+  s5 = side c (omega (arith, ints)) (omega (arith, ints)) (omega (arith, ints)) (omega (arith, ints))
 
   sides_if : (q : Point) → pos 0 <ℤ q.d → ApproachFrom c c q p r
       → All (IsLeftOf q) (segments (sides (four_sided c p r Right)))

@@ -14,7 +14,7 @@ use Rattle.scad_ring.specs.declared.direction.Direction.TheVariants.{SteepRight}
 use Rattle.scad_ring.specs.OctagonCorners.{four_sided, low, right, high, left}
 use Rattle.scad_ring.proofs.Octants.{approach_four}
 use Rattle.scad_ring.proofs.Approaches.{ApproachFrom, meets_if_approach, approach_if_meets}
-use Rattle.scad_ring.proofs.Steps.{Step, Side, Beside, turns, side_gap, first_side, last_side}
+use Rattle.scad_ring.proofs.Steps.{Step, Side, Beside, step, side, along, turns, side_gap, first_side, last_side}
 use Rattle.scad_ring.proofs.Slants.{PassesFrom, CornerFrom, under, over, line, steep_right_by, steep_left_by, steep_right_passes, steep_left_passes}
 use Rattle.scad_ring.proofs.Offsets.{IsNearWay, IsOctagonRound, near_first, near_last, low_in, right_in, high_in, left_in}
 
@@ -27,80 +27,28 @@ module _ (c : ℤ) (less : pos 0 <ℤ c) (p r : Pt) (x : (r.x -ℤ p.x) <ℤ (r.
     sum = omega (arith, ints)
 
     s0 : Side (neg_ℤ (pos 1)) (pos 1) c p (low c p) (right c p)
-    s0 = record {
-      step = record {
-        m = c;
-        positive = omega (arith, ints);
-        across = omega (arith, ints);
-        upwards = omega (arith, ints);
-      };
-      at = omega (arith, ints);
-    }
+    s0 = side c (omega (arith, ints)) (omega (arith, ints)) (omega (arith, ints)) (omega (arith, ints))
 
     s1 : Beside c (pos 0) p r (right c p) (right c r)
-    s1 = record {
-      first_x = omega (arith, ints);
-      first_y = omega (arith, ints);
-      last_x = omega (arith, ints);
-      last_y = omega (arith, ints);
-    }
+    s1 = along (omega (arith, ints)) (omega (arith, ints)) (omega (arith, ints)) (omega (arith, ints))
 
     t1 : Step (r.x -ℤ p.x) (r.y -ℤ p.y) (right c p) (right c r)
-    t1 = record {
-      m = pos 1;
-      positive = omega (arith, ints);
-      across = omega (arith, ints);
-      upwards = omega (arith, ints);
-    }
+    t1 = step (pos 1) (omega (arith, ints)) (omega (arith, ints)) (omega (arith, ints))
 
     s2 : Side (neg_ℤ (pos 1)) (neg_ℤ (pos 1)) c r (right c r) (high c r)
-    s2 = record {
-      step = record {
-        m = c;
-        positive = omega (arith, ints);
-        across = omega (arith, ints);
-        upwards = omega (arith, ints);
-      };
-      at = omega (arith, ints);
-    }
+    s2 = side c (omega (arith, ints)) (omega (arith, ints)) (omega (arith, ints)) (omega (arith, ints))
 
     s3 : Side (pos 1) (neg_ℤ (pos 1)) c r (high c r) (left c r)
-    s3 = record {
-      step = record {
-        m = c;
-        positive = omega (arith, ints);
-        across = omega (arith, ints);
-        upwards = omega (arith, ints);
-      };
-      at = omega (arith, ints);
-    }
+    s3 = side c (omega (arith, ints)) (omega (arith, ints)) (omega (arith, ints)) (omega (arith, ints))
 
     s4 : Beside (pos 0 -ℤ c) (pos 0 -ℤ (pos 0)) r p (left c r) (left c p)
-    s4 = record {
-      first_x = omega (arith, ints);
-      first_y = omega (arith, ints);
-      last_x = omega (arith, ints);
-      last_y = omega (arith, ints);
-    }
+    s4 = along (omega (arith, ints)) (omega (arith, ints)) (omega (arith, ints)) (omega (arith, ints))
 
     t4 : Step (p.x -ℤ r.x) (p.y -ℤ r.y) (left c r) (left c p)
-    t4 = record {
-      m = pos 1;
-      positive = omega (arith, ints);
-      across = omega (arith, ints);
-      upwards = omega (arith, ints);
-    }
+    t4 = step (pos 1) (omega (arith, ints)) (omega (arith, ints)) (omega (arith, ints))
 
     s5 : Side (pos 1) (pos 1) c p (left c p) (low c p)
-    s5 = record {
-      step = record {
-        m = c;
-        positive = omega (arith, ints);
-        across = omega (arith, ints);
-        upwards = omega (arith, ints);
-      };
-      at = omega (arith, ints);
-    }
+    s5 = side c (omega (arith, ints)) (omega (arith, ints)) (omega (arith, ints)) (omega (arith, ints))
 
     sides_if : (q : Point) → pos 0 <ℤ q.d → ApproachFrom c c q p r
         → All (IsLeftOf q) (segments (sides (four_sided c p r SteepRight)))

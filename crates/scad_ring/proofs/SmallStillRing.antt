@@ -13,7 +13,7 @@ use Rattle.scad_ring.specs.declared.direction.Direction.TheVariants.{Still}
 use Rattle.scad_ring.specs.OctagonCorners.{four_sided, low, right, high, left}
 use Rattle.scad_ring.proofs.Octants.{approach_four_point}
 use Rattle.scad_ring.proofs.Approaches.{ApproachFrom, meets_if_approach, approach_if_meets}
-use Rattle.scad_ring.proofs.Steps.{Step, Side, Beside, turns, side_gap, first_side, last_side}
+use Rattle.scad_ring.proofs.Steps.{Side, side, turns, side_gap, first_side, last_side}
 use Rattle.scad_ring.proofs.Slants.{}
 use Rattle.scad_ring.proofs.Offsets.{IsNearWay, IsOctagonRound, near_first, near_last, low_in, right_in, high_in, left_in}
 
@@ -25,48 +25,22 @@ module _ (c : ℤ) (less : pos 0 <ℤ c) (p r : Pt) (x : p.x ≡ r.x) (y : p.y �
   sum = omega (arith, ints)
 
   s0 : Side (neg_ℤ (pos 1)) (pos 1) c p (low c p) (right c r)
-  s0 = record {
-    step = record {
-      m = c +ℤ (r.x -ℤ p.x);
-      positive = omega (arith, ints);
-      across = omega (arith, ints);
-      upwards = omega (arith, ints);
-    };
-    at = omega (arith, ints);
-  }
+  s0 = side (c +ℤ (r.x -ℤ p.x)) (omega (arith, ints)) (omega (arith, ints)) (omega (arith, ints)) (omega (
+    arith,
+    ints,
+  ))
 
   s1 : Side (neg_ℤ (pos 1)) (neg_ℤ (pos 1)) c r (right c r) (high c r)
-  s1 = record {
-    step = record {
-      m = c;
-      positive = omega (arith, ints);
-      across = omega (arith, ints);
-      upwards = omega (arith, ints);
-    };
-    at = omega (arith, ints);
-  }
+  s1 = side c (omega (arith, ints)) (omega (arith, ints)) (omega (arith, ints)) (omega (arith, ints))
 
   s2 : Side (pos 1) (neg_ℤ (pos 1)) c p (high c r) (left c p)
-  s2 = record {
-    step = record {
-      m = c +ℤ (r.x -ℤ p.x);
-      positive = omega (arith, ints);
-      across = omega (arith, ints);
-      upwards = omega (arith, ints);
-    };
-    at = omega (arith, ints);
-  }
+  s2 = side (c +ℤ (r.x -ℤ p.x)) (omega (arith, ints)) (omega (arith, ints)) (omega (arith, ints)) (omega (
+    arith,
+    ints,
+  ))
 
   s3 : Side (pos 1) (pos 1) c p (left c p) (low c p)
-  s3 = record {
-    step = record {
-      m = c;
-      positive = omega (arith, ints);
-      across = omega (arith, ints);
-      upwards = omega (arith, ints);
-    };
-    at = omega (arith, ints);
-  }
+  s3 = side c (omega (arith, ints)) (omega (arith, ints)) (omega (arith, ints)) (omega (arith, ints))
 
   sides_if : (q : Point) → pos 0 <ℤ q.d → ApproachFrom c c q p r
       → All (IsLeftOf q) (segments (sides (four_sided c p r Still)))
@@ -102,8 +76,8 @@ module _ (c : ℤ) (less : pos 0 <ℤ c) (p r : Pt) (x : p.x ≡ r.x) (y : p.y �
       let g2 = side_gap (pos 1) (neg_ℤ (pos 1)) c q p (high c r) (left c p) s2 s.1.1.0 in
       let g3 = side_gap (pos 1) (pos 1) c q p (left c p) (low c p) s3 s.1.1.1.0 in
       approach_four_point (c *ℤ q.d) (p.x *ℤ q.d -ℤ q.x) (p.y *ℤ q.d -ℤ q.y) (r.x *ℤ q.d -ℤ q.x)
-      (r.y *ℤ q.d -ℤ q.y) (ap (λ (z : ℤ). z *ℤ q.d -ℤ q.x) x) (ap (λ (z : ℤ). z *ℤ q.d -ℤ q.y) y) (inl g3) (inl g2)
-      (inl g0) (inr g1)
+      (r.y *ℤ q.d -ℤ q.y) (ap (λ (z : ℤ). z *ℤ q.d -ℤ q.x) x) (ap (λ (z : ℤ). z *ℤ q.d -ℤ q.y) y) (inl g3)
+      (inl g2) (inl g0) (inr g1)
 
   pub still_round : IsOctagonRound c c p r (four_sided c p r Still)
   still_round = record {

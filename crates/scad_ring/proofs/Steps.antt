@@ -27,6 +27,13 @@ pub record Side (n m k : ℤ) (p P Q : Pt) : Type 0 where
   pub step : Step m (pos 0 -ℤ n) P Q
   pub at : n *ℤ (p.x -ℤ P.x) +ℤ m *ℤ (p.y -ℤ P.y) ≡ k
 
+pub step : {x y : ℤ} {P Q : Pt} (m : ℤ) → pos 0 <ℤ m → Q.x -ℤ P.x ≡ m *ℤ x → Q.y -ℤ P.y ≡ m *ℤ y → Step x y P Q
+step m h i j = record { m = m; positive = h; across = i; upwards = j }
+
+pub side : {n m k : ℤ} {p P Q : Pt} (l : ℤ) → pos 0 <ℤ l → Q.x -ℤ P.x ≡ l *ℤ m → Q.y -ℤ P.y ≡ l *ℤ (pos 0 -ℤ n)
+    → n *ℤ (p.x -ℤ P.x) +ℤ m *ℤ (p.y -ℤ P.y) ≡ k → Side n m k p P Q
+side l h i j g = record { step = step l h i j; at = g }
+
 -- ---- turns
 turn_is : (ox oy px py nx ny : ℤ)
     → (px *ℤ pos 1 -ℤ ox *ℤ pos 1) *ℤ (ny *ℤ pos 1 -ℤ oy *ℤ pos 1) -ℤ (py *ℤ pos 1 -ℤ oy *ℤ pos 1) *ℤ
@@ -127,6 +134,10 @@ pub record Beside (vx vy : ℤ) (p r P Q : Pt) : Type 0 where
   pub first_y : P.y ≡ p.y +ℤ vy
   pub last_x : Q.x ≡ r.x +ℤ vx
   pub last_y : Q.y ≡ r.y +ℤ vy
+
+pub along : {vx vy : ℤ} {p r P Q : Pt} → P.x ≡ p.x +ℤ vx → P.y ≡ p.y +ℤ vy → Q.x ≡ r.x +ℤ vx → Q.y ≡ r.y +ℤ vy
+    → Beside vx vy p r P Q
+along h i j k = record { first_x = h; first_y = i; last_x = j; last_y = k }
 
 module _ (vx vy : ℤ) (q : Point) (p r P Q : Pt) where
   beside_is : Beside vx vy p r P Q → cross_of P.x P.y Q.x Q.y q.x q.y q.d *ℤ q.d

@@ -1,5 +1,5 @@
--- Nearness by a region: a point is near to another where it differs from it by a point of the region. The region is taken
--- with its border, closed, or without it, open.
+-- Nearness by a region: a point is near to another where it differs from it by a point of the region. The region is
+-- taken with its border, closed, or without it, open.
 use Rattle.std.specs.Prelude.{List, ℤ, pos, ◌+ℤ◌, ◌*ℤ◌, ◌<ℤ◌, ◌≤ℤ◌}
 use Rattle.std.specs.List.{AllByRecursion}
 use Rattle.scad_geom.specs.Point.{Point}
@@ -35,4 +35,5 @@ pub record Meets (border : Border) (region : List HalfPlane) (q a b : Point) : T
 
 -- no point of the segment from a to b is near to q
 abbrev pub IsClear : Border → List HalfPlane → Point → Point → Point → Type 0
-IsClear border region q a b = (s t : ℤ) → pos 0 ≤ℤ s → pos 0 ≤ℤ t → pos 0 <ℤ (s +ℤ t) → IsNear border region q (mean s t a b) → ⊥
+IsClear border region q a b = (s t : ℤ) → pos 0 ≤ℤ s → pos 0 ≤ℤ t → pos 0 <ℤ (s +ℤ t)
+    → IsNear border region q (mean s t a b) → ⊥

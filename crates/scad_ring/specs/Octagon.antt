@@ -2,11 +2,12 @@
 use Rattle.std.specs.Prelude.{ℕ, ◌+◌, ◌*◌, ◌/◌, List, [], ◌∷◌, ℤ, pos, neg_ℤ}
 use Rattle.winding_laws.specs.Region.{HalfPlane}
 
--- how far a corner at c along one axis lies along the other: about c times the tangent of an eighth of a half turn, rounded down
+-- how far a corner at c along one axis lies along the other: about c times the tangent of an eighth of a half turn,
+-- rounded down
 abbrev pub slant : ℕ → ℕ
 slant c = c * 414214 / 1000000
 
--- how far the octagon of c reaches along the sum of both axes
+-- how far the octagon of c reaches along the sum of both axes: the greatest |x| + |y| of its points
 abbrev pub reach : ℕ → ℕ
 reach c = c + slant c
 

@@ -1,5 +1,5 @@
--- The corners of the ring by an octagon, by the direction of the edge. The octagon has the half width c, and its corners are
--- (c, t), (t, c) and their mirror images.
+-- The corners of the ring by an octagon, by the direction of the edge. The octagon has the half width c, and its corners
+-- are (c, t), (t, c) and their mirror images.
 use Rattle.std.specs.Prelude.{ℕ, if◌then◌else◌, cond, ◌&&◌, ◌||◌, Bool, List, [], ◌∷◌, ℤ, pos, ◌+ℤ◌, ◌-ℤ◌, neg_ℤ, int_lt, int_le}
 use Rattle.scad_geom.specs.declared.point.Pt.{Pt}
 use Rattle.scad_geom.specs.declared.point.Edge.{Edge}
@@ -63,7 +63,8 @@ abbrev pub left : ℤ → Pt → Pt
 left c p = at (p.x -ℤ c) p.y
 
 -- ---- the ring
--- round the edge from p to r, of an octagon with eight corners: ten corners, and eight where the edge runs along its sides
+-- round the edge from p to r, of an octagon with eight corners: ten corners, and eight where the edge is a point or runs
+-- along the octagon's sides
 abbrev pub eight_sided : ℤ → ℤ → Pt → Pt → Direction → List Pt
 eight_sided c t p r Still =
     low_left c t p ∷ low_right c t r ∷ right_low c t r ∷ right_high c t r
@@ -93,7 +94,7 @@ eight_sided c t p r Left =
     low_left c t p ∷ low_right c t p ∷ right_low c t p ∷ right_high c t p ∷ high_right c t p
     ∷ high_right c t r ∷ high_left c t r ∷ left_high c t r ∷ left_low c t r ∷ low_left c t r ∷ []
 
--- of one with four corners: six corners, and four where the edge runs along its sides
+-- of one with four corners: six corners, and four where the edge is a point or runs along the octagon's sides
 abbrev pub four_sided : ℤ → Pt → Pt → Direction → List Pt
 four_sided c p r Still = low c p ∷ right c r ∷ high c r ∷ left c p ∷ []
 four_sided c p r Flat = low c p ∷ low c r ∷ right c r ∷ high c r ∷ high c p ∷ left c p ∷ []

@@ -1,5 +1,5 @@
--- The tests by which `octagon_meets` decides, of a segment from a to b that doesn't fall, as the point sees it. Only the contracts
--- of its parts cite them; what it promises is said in Nearness.
+-- The tests by which `octagon_meets` decides, of a segment from a to b that doesn't fall, as the point sees it. Only the
+-- contracts of its parts cite them; what it promises is said in Nearness.
 use Rattle.std.specs.Prelude.{Bool, if◌then◌else◌, ◌&&◌, ◌||◌, ℤ, pos, neg_ℤ, ◌+ℤ◌, ◌-ℤ◌, ◌*ℤ◌, int_le}
 
 -- two numbers aren't both above w, nor both below -w
@@ -10,7 +10,8 @@ overlaps w a b = (int_le a w || int_le b w) && (int_le (neg_ℤ w) a || int_le (
 unfoldable pub is_size : ℤ → ℤ → Bool
 is_size w z = int_le z w && int_le (neg_ℤ w) z
 
--- how far the octagon with the corner (s, t) reaches to the sides of a way of x to the right and y upwards, times its length
+-- how far the octagon with the corner (s, t) reaches to the sides of a way of x to the right and y upwards, times the
+-- way's length
 unfoldable pub breadth : ℤ → ℤ → ℤ → ℤ → ℤ
 breadth s t x y =
     if int_le y x then s *ℤ x +ℤ t *ℤ y

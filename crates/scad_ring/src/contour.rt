@@ -10,8 +10,8 @@ use crate::octagon::{Eight, Four, slant};
 use crate::outline::Ring;
 use scad_geom::{Edge, Pt};
 
-/// The outline of all points that differ from some point of the edge by a point of the octagon of `c` micrometres: its corners
-/// counter-clockwise from the lowest and then leftmost. It takes no memory.
+/// The outline of all points that differ from some point of the edge by a point of the octagon of `c` micrometres: its
+/// corners counter-clockwise from the lowest and then leftmost. It takes no memory.
 pub fn octagon_ring(e: &Edge, c: u32) -> Ring
     requires edge { IsEdgeWithin point_limit e.now }
     requires positive { 1 ≤ c }
@@ -74,7 +74,8 @@ fn eight_sided(p: Pt, r: Pt, c: i32, t: i32, way: Direction) -> Ring
 
 // Of eight corners round each end, those round the ring.
 fn flat(p: Eight, r: Eight) -> Ring
-    ensures { result ≡ p.low_left ∷ r.low_right ∷ r.right_low ∷ r.right_high ∷ r.high_right ∷ p.high_left ∷ p.left_high ∷ p.left_low ∷ [] }
+    ensures { result ≡ p.low_left ∷ r.low_right ∷ r.right_low ∷ r.right_high ∷ r.high_right ∷ p.high_left
+        ∷ p.left_high ∷ p.left_low ∷ [] }
 {
     Ring::of(
         [
@@ -94,7 +95,8 @@ fn flat(p: Eight, r: Eight) -> Ring
 }
 
 fn right(p: Eight, r: Eight) -> Ring
-    ensures { result ≡ p.low_left ∷ p.low_right ∷ r.low_right ∷ r.right_low ∷ r.right_high ∷ r.high_right ∷ r.high_left ∷ p.high_left ∷ p.left_high ∷ p.left_low ∷ [] }
+    ensures { result ≡ p.low_left ∷ p.low_right ∷ r.low_right ∷ r.right_low ∷ r.right_high ∷ r.high_right
+        ∷ r.high_left ∷ p.high_left ∷ p.left_high ∷ p.left_low ∷ [] }
 {
     Ring::of(
         [
@@ -114,7 +116,8 @@ fn right(p: Eight, r: Eight) -> Ring
 }
 
 fn diagonal_right(p: Eight, r: Eight) -> Ring
-    ensures { result ≡ p.low_left ∷ p.low_right ∷ r.right_low ∷ r.right_high ∷ r.high_right ∷ r.high_left ∷ p.left_high ∷ p.left_low ∷ [] }
+    ensures { result ≡ p.low_left ∷ p.low_right ∷ r.right_low ∷ r.right_high ∷ r.high_right ∷ r.high_left
+        ∷ p.left_high ∷ p.left_low ∷ [] }
 {
     Ring::of(
         [
@@ -134,7 +137,8 @@ fn diagonal_right(p: Eight, r: Eight) -> Ring
 }
 
 fn steep_right(p: Eight, r: Eight) -> Ring
-    ensures { result ≡ p.low_left ∷ p.low_right ∷ p.right_low ∷ r.right_low ∷ r.right_high ∷ r.high_right ∷ r.high_left ∷ r.left_high ∷ p.left_high ∷ p.left_low ∷ [] }
+    ensures { result ≡ p.low_left ∷ p.low_right ∷ p.right_low ∷ r.right_low ∷ r.right_high ∷ r.high_right
+        ∷ r.high_left ∷ r.left_high ∷ p.left_high ∷ p.left_low ∷ [] }
 {
     Ring::of(
         [
@@ -154,7 +158,8 @@ fn steep_right(p: Eight, r: Eight) -> Ring
 }
 
 fn upright(p: Eight, r: Eight) -> Ring
-    ensures { result ≡ p.low_left ∷ p.low_right ∷ p.right_low ∷ r.right_high ∷ r.high_right ∷ r.high_left ∷ r.left_high ∷ p.left_low ∷ [] }
+    ensures { result ≡ p.low_left ∷ p.low_right ∷ p.right_low ∷ r.right_high ∷ r.high_right ∷ r.high_left
+        ∷ r.left_high ∷ p.left_low ∷ [] }
 {
     Ring::of(
         [
@@ -174,7 +179,8 @@ fn upright(p: Eight, r: Eight) -> Ring
 }
 
 fn steep_left(p: Eight, r: Eight) -> Ring
-    ensures { result ≡ p.low_left ∷ p.low_right ∷ p.right_low ∷ p.right_high ∷ r.right_high ∷ r.high_right ∷ r.high_left ∷ r.left_high ∷ r.left_low ∷ p.left_low ∷ [] }
+    ensures { result ≡ p.low_left ∷ p.low_right ∷ p.right_low ∷ p.right_high ∷ r.right_high ∷ r.high_right
+        ∷ r.high_left ∷ r.left_high ∷ r.left_low ∷ p.left_low ∷ [] }
 {
     Ring::of(
         [
@@ -194,7 +200,8 @@ fn steep_left(p: Eight, r: Eight) -> Ring
 }
 
 fn diagonal_left(p: Eight, r: Eight) -> Ring
-    ensures { result ≡ p.low_left ∷ p.low_right ∷ p.right_low ∷ p.right_high ∷ r.high_right ∷ r.high_left ∷ r.left_high ∷ r.left_low ∷ [] }
+    ensures { result ≡ p.low_left ∷ p.low_right ∷ p.right_low ∷ p.right_high ∷ r.high_right ∷ r.high_left
+        ∷ r.left_high ∷ r.left_low ∷ [] }
 {
     Ring::of(
         [
@@ -214,7 +221,8 @@ fn diagonal_left(p: Eight, r: Eight) -> Ring
 }
 
 fn left(p: Eight, r: Eight) -> Ring
-    ensures { result ≡ p.low_left ∷ p.low_right ∷ p.right_low ∷ p.right_high ∷ p.high_right ∷ r.high_right ∷ r.high_left ∷ r.left_high ∷ r.left_low ∷ r.low_left ∷ [] }
+    ensures { result ≡ p.low_left ∷ p.low_right ∷ p.right_low ∷ p.right_high ∷ p.high_right ∷ r.high_right
+        ∷ r.high_left ∷ r.left_high ∷ r.left_low ∷ r.low_left ∷ [] }
 {
     Ring::of(
         [

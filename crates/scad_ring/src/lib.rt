@@ -1,8 +1,7 @@
-//! The convex ring round an edge: the outline of all that lies within a distance of it, by a square or by an octagon, and whether
-//! an edge comes within an octagon of a point.
+//! The convex ring round an edge, by a square or by an octagon, and whether an edge comes within an octagon of a point.
 //!
-//! The contract promises that the ring's points are exactly the near ones, that it turns left at each corner, and where it
-//! starts; and that the test tells exactly whether some point of the edge is near.
+//! The contract promises that the ring's points are exactly the near ones, that it turns left at each corner, and where
+//! it starts; and that the test tells exactly whether some point of the edge is near.
 #![tactic(auto, using(scad_geom::proofs::Casts::casts))]
 
 mod contour;

@@ -12,8 +12,9 @@ use scad_geom::line::{high, low};
 use scad_geom::whole::{minus, plus, times};
 use scad_geom::{Edge, Half, Pt};
 
-/// Whether some point of the edge differs from the point by at most `s` micrometres along each axis and at most `u` along the
-/// sum of both. The edge's points are the exact ones, not only the whole ones, and its ends are among them. It takes no memory.
+/// Whether some point of the edge differs from the point by (dx, dy) with |dx| and |dy| at most `s` micrometres and
+/// |dx| + |dy| at most `u`. The edge's points are the exact ones, not only the whole ones, and its ends are among them.
+/// It takes no memory.
 pub fn octagon_meets(e: &Edge, p: Pt, half: Half, s: u32, u: u32) -> bool
     requires edge { IsEdgeWithin coordinate_limit e.now }
     requires point { IsWithin coordinate_limit p }
@@ -75,8 +76,8 @@ fn narrowed(s: u32, u: u32) -> Size
     }
 }
 
-// Whether a segment that doesn't fall meets an octagon round the origin: none of the octagon's sides leaves out both its ends,
-// and the octagon's corners aren't all strictly on one side of its line.
+// Whether a segment that doesn't fall meets an octagon round the origin: none of the octagon's sides leaves out both its
+// ends, and the octagon's corners aren't all strictly on one side of its line.
 fn passes(from: Seen, to: Seen, size: Size) -> bool
     requires from_x { unsigned_abs from.x ≤ 2 ^ 23 }
     requires from_y { unsigned_abs from.y ≤ 2 ^ 23 }

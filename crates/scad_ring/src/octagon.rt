@@ -9,7 +9,8 @@ ghost use Rattle.scad_ring.specs.Corners.{at};
 
 use scad_geom::Pt;
 
-/// How far the corners at `c` along one axis of the octagon of `c` lie along the other: `c * 414214 / 1000000`, rounded down.
+/// How far the corners at `c` along one axis of the octagon of `c` lie along the other: `c * 414214 / 1000000`, rounded
+/// down.
 pub fn slant(c: u32) -> u32
     ensures value { result ≡ slant c }
     ensures size { result ≤ c }
