@@ -2,7 +2,7 @@
 ghost use Rattle.std.specs.Prelude.{◌+◌, ◌<◌, ◌^◌, length, OnOk, All};
 ghost use Rattle.scad_geom.specs.Limits.{coordinate_limit};
 ghost use Rattle.scad_geom.specs.Within.{IsEdgeWithin};
-ghost use Rattle.scad_geom.specs.Level.{IsLevelWithin};
+ghost use Rattle.scad_geom.specs.Level.{IsAtMost, IsLevelWithin};
 ghost use Rattle.slice_events.specs.Levels.{AreLevels};
 ghost use Rattle.slice_slab.specs.Active.{IsReadyFor, StandsAt};
 ghost use Rattle.slice_bool.specs.Parts.{level_at};
@@ -47,19 +47,58 @@ const EDGES: [LeafEdge; 4] = [
     },
 ];
 
+// The edges that meet a height, after one that isn't above it.
+fn live_after(
+    alloc: Global,
+    edges: &[LeafEdge],
+    first: &Level,
+    at: &Level,
+) -> Result<Vec<u32>, AllocError>
+    requires edges { All (λ e. IsEdgeWithin coordinate_limit e.edge) edges.now }
+    requires few { length edges.now < 2 ^ 32 }
+    requires first { IsLevelWithin coordinate_limit first.now }
+    requires at { IsLevelWithin coordinate_limit at.now }
+    requires rises { IsAtMost first.now at.now }
+{
+    let mut active = Active::new(alloc, edges)?;
+    active.lift(edges, first)?;
+    active.lift(edges, at)?;
+    Vec::from_slice(alloc, active.touching())
+}
+
 #[test]
-fn an_edge_is_live_from_its_lower_end_to_its_upper(rt: HostRuntime) -> Result<(), Fail> {
-    let mut active = Active::new(rt.alloc(), &EDGES)?;
-    active.lift(&EDGES, &Level { n: -1, d: 2 })?;
-    assert_eq!(rt; active.touching(), [].as_slice());
-    active.lift(&EDGES, &Level { n: 0, d: 1 })?;
-    assert_eq!(rt; active.touching(), [1, 3].as_slice());
-    active.lift(&EDGES, &Level { n: 8, d: 2 })?;
-    assert_eq!(rt; active.touching(), [0, 1, 2, 3].as_slice());
-    active.lift(&EDGES, &Level { n: 9, d: 2 })?;
-    assert_eq!(rt; active.touching(), [0, 3].as_slice());
-    active.lift(&EDGES, &Level { n: 17, d: 2 })?;
-    assert_eq!(rt; active.touching(), [].as_slice());
+fn an_edge_is_live_from_its_lower_end_on(rt: HostRuntime) -> Result<(), Fail> {
+    let live = live_after(
+        rt.alloc(),
+        &EDGES,
+        &Level { n: -1, d: 2 },
+        &Level { n: 0, d: 1 },
+    )?;
+    assert_eq!(rt; live.as_slice(), [1, 3].as_slice());
+    Ok(())
+}
+
+#[test]
+fn edges_that_meet_at_a_height_are_live_there(rt: HostRuntime) -> Result<(), Fail> {
+    let live = live_after(
+        rt.alloc(),
+        &EDGES,
+        &Level { n: 0, d: 1 },
+        &Level { n: 8, d: 2 },
+    )?;
+    assert_eq!(rt; live.as_slice(), [0, 1, 2, 3].as_slice());
+    Ok(())
+}
+
+#[test]
+fn an_edge_is_live_up_to_its_upper_end(rt: HostRuntime) -> Result<(), Fail> {
+    let live = live_after(
+        rt.alloc(),
+        &EDGES,
+        &Level { n: 8, d: 2 },
+        &Level { n: 9, d: 2 },
+    )?;
+    assert_eq!(rt; live.as_slice(), [0, 3].as_slice());
     Ok(())
 }
 
