@@ -34,3 +34,5 @@ pub mod OneMade
 pub mod Keeping
 pub mod Untouched
 pub mod Touched
+pub mod RightOf
+pub mod Telling

@@ -9,40 +9,44 @@ ghost use Rattle.slice_slab.specs.Bundles.{AreBundles};
 ghost use Rattle.slice_bool.specs.Pieces.{slab_pieces};
 ghost use Rattle.slice_bool.specs.Beside.{AreMembers, AreLeftValues, HaveLeaves, RisesFirst, piece_of};
 ghost use Rattle.slice_bool.specs.Keeping.{AreFor};
-ghost use Rattle.slice_bool.specs.Near.{IsNear};
 
+use crate::beside::Valued;
 use crate::border_piece::push_between;
-use crate::near::Near;
 use crate::stop::spot_on;
-use crate::sweep::{Slab, Sweep};
+use crate::sweep::Sweep;
 use crate::tally::{Tallies, add_bundle, put_back};
-use scad_geom::LeafEdge;
+use scad_geom::{LeafEdge, Level};
 use slice_slab::Bundle;
 use slice_snap::Piece;
 use std::alloc::AllocError;
 
+/// The bundles between two levels, and the values beside them.
+#[derive(Clone, Copy)]
+pub(crate) struct Slab<'a> {
+    pub(crate) lower: &'a Level,
+    pub(crate) upper: &'a Level,
+    pub(crate) side: &'a Valued,
+}
+
 pub(crate) fn push_slab_pieces(
     sweep: &Sweep<'_>,
-    near: &Near,
-    tallies: &mut Tallies,
-    out: &mut Vec<Piece>,
     slab: &Slab<'_>,
+    out: &mut Vec<Piece>,
 ) -> Result<(), AllocError>
     requires lower { IsLevelWithin coordinate_limit slab.now.lower.now }
     requires upper { IsLevelWithin coordinate_limit slab.now.upper.now }
     requires neighbours { AreNeighbours sweep.now.edges.now slab.now.lower.now slab.now.upper.now }
-    requires bundles { AreBundles sweep.now.edges.now slab.now.lower.now slab.now.upper.now slab.now.bundles.now }
-    requires near { IsNear sweep.now.edges.now slab.now.lower.now near.now }
-    requires tallies { AreFor sweep.now.edges.now sweep.now.shape.now tallies.old }
-    ensures pieces { OnOk result (out.new.items ≡ out.old.items
-        ++ slab_pieces sweep.now.edges.now sweep.now.shape.now slab.now.lower.now slab.now.upper.now slab.now.bundles.now) }
-    ensures tallies { OnOk result (AreFor sweep.now.edges.now sweep.now.shape.now tallies.new) }
+    requires bundles { AreBundles sweep.now.edges.now slab.now.lower.now slab.now.upper.now slab.now.side.now.bundles.items }
+    requires values { AreLeftValues sweep.now.edges.now sweep.now.shape.now slab.now.side.now.bundles.items
+        slab.now.side.now.values.items }
+    ensures { OnOk result (out.new.items ≡ out.old.items ++ slab_pieces sweep.now.edges.now sweep.now.shape.now
+        slab.now.lower.now slab.now.upper.now slab.now.side.now.bundles.items) }
 {
-    let values = left_values(sweep, tallies, slab.bundles, &near.passing)?;
-    'bundles: for i in 0..slab.bundles.len() {
-        let right = values[slab.bundles.len() - i - 1];
-        let left = values[slab.bundles.len() - i];
-        push_bundle(out, sweep.edges, slab, left, right, &slab.bundles[i])?;
+    let count = slab.side.bundles.len();
+    'bundles: for i in 0..count {
+        let right = slab.side.values[count - i - 1];
+        let left = slab.side.values[count - i];
+        push_bundle(out, sweep.edges, slab, left, right, &slab.side.bundles[i])?;
     }
     Ok(())
 }
@@ -79,9 +83,9 @@ fn push_bundle(
     }
 }
 
-// The shape's values, from the right end to the left: outside, then to the left of each bundle. The edges have all
-// leaves of the bundles.
-fn left_values(
+/// The shape's values, from the right end to the left: outside, then to the left of each bundle. The edges have all
+/// leaves of the bundles.
+pub(crate) fn left_values(
     sweep: &Sweep<'_>,
     tallies: &mut Tallies,
     bundles: &[Bundle],

@@ -3,8 +3,7 @@ ghost use Rattle.std.specs.Prelude.{◌<◌, ◌^◌, length, All};
 ghost use Rattle.scad_geom.specs.Limits.{coordinate_limit};
 ghost use Rattle.scad_geom.specs.Within.{IsEdgeWithin};
 
-use scad_geom::{LeafEdge, Level, Shape};
-use slice_slab::Bundle;
+use scad_geom::{LeafEdge, Shape};
 use std::alloc::Global;
 
 /// A shape over the leaves of an edge list.
@@ -15,12 +14,4 @@ pub(crate) struct Sweep<'a> {
     pub(crate) shape: &'a Shape,
     ghost within: { All (λ e. IsEdgeWithin coordinate_limit e.edge) edges.now },
     ghost few: { length edges.now < 2 ^ 32 },
-}
-
-/// The bundles of edges between two levels.
-#[derive(Clone, Copy)]
-pub(crate) struct Slab<'a> {
-    pub(crate) lower: &'a Level,
-    pub(crate) upper: &'a Level,
-    pub(crate) bundles: &'a [Bundle],
 }

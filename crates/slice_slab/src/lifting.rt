@@ -1,6 +1,7 @@
 //! The calls that lift the edges' height.
-ghost use Rattle.std.specs.Prelude.{◌≡◌, ◌<◌, ◌^◌, length, IfOk, OnOk, All};
+ghost use Rattle.std.specs.Prelude.{◌≡◌, ◌<◌, ◌^◌, List, length, IfOk, OnOk, All};
 ghost use Rattle.scad_geom.specs.declared.level.Level.{Level};
+ghost use Rattle.scad_geom.specs.declared.level.LeafEdge.{LeafEdge};
 ghost use Rattle.scad_geom.specs.Limits.{coordinate_limit};
 ghost use Rattle.scad_geom.specs.Within.{IsEdgeWithin};
 ghost use Rattle.scad_geom.specs.Level.{IsLevelWithin};
@@ -16,6 +17,7 @@ use crate::rising_edges::Active;
 use crate::slab_bundles::slab_among;
 use scad_geom::{LeafEdge, Level};
 use std::alloc::{AllocError, Global};
+use std::mem;
 
 impl Active {
     /// The edges, before the first of them begins: it can be lifted to any height.
@@ -83,5 +85,13 @@ impl Active {
         ensures { result.now ≡ bundles_in self.now }
     {
         &self.bundles
+    }
+
+    /// Takes the bundles out.
+    pub fn take_bundles(&mut self) -> Vec<Bundle>
+        ensures bundles { result.items ≡ bundles_in self.old }
+        ensures ready { (edges : List LeafEdge) (at : Level) → IsReadyFor edges at self.old → IsReadyFor edges at self.new }
+    {
+        mem::replace(&mut self.bundles, Vec::new(self.alloc))
     }
 }

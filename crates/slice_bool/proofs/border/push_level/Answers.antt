@@ -4,8 +4,7 @@ use Rattle.scad_geom.specs.declared.level.Level.{Level}
 use Rattle.slice_slab.specs.Bundles.{AreBundles}
 use Rattle.slice_snap.specs.declared.piece.Piece.{Piece}
 use Rattle.slice_bool.specs.Pieces.{slab_pieces}
-use Rattle.slice_bool.specs.Parts.{level_at, AreUpToNext, AreBetweenLevels, Extends}
-use Rattle.slice_bool.specs.Keeping.{AreFor}
+use Rattle.slice_bool.specs.Parts.{AreUpToNext, AreBetweenLevels, Extends}
 use Rattle.slice_bool.proofs.Climbing.{neighbours_at, next_level, last_level}
 use Rattle.slice_bool.proofs.border.push_level.Goals as goal
 use Rattle.slice_bool.proofs.border.push_level.Goals.{then-i-levels+in_ok-push_slab_pieces, else-i-levels}
@@ -28,24 +27,14 @@ returns-clause-pieces c =
     let mid : List Piece = c.push_flat_pieces.new.out.items in
     elim c.if-i-levels.branch [
       | then-i-levels+in_ok-push_slab_pieces w ↦
-          let bs : List (List ℕ) = w.bundles.result.now in
-          let are : AreBundles es l u bs = subst (AreBundles es l u) (sym w.bundles.ensures) (c.in_ok-rise.ensures.bundles w.if-i-levels.true) in
+          let bs : List (List ℕ) = c.in_ok-above.above.bundles.items in
+          let are : AreBundles es l u bs = c.in_ok-above.ensures.bundles w.if-i-levels.true in
           let new : List Piece = w.push_slab_pieces.new.out.items in
           let between : Extends (AreBetweenLevels es shape l u) mid new =
-          (slab_pieces es shape l u bs, (bs, are, refl), w.in_ok-push_slab_pieces.ensures.pieces) in
+          (slab_pieces es shape l u bs, (bs, are, refl), w.in_ok-push_slab_pieces.ensures) in
           subst (Extends (AreUpToNext es shape (drop i ls)) old) (sym (ap (λ v. v.items) w.out-is))
-          (next_level es shape ls i none none old mid new w.if-i-levels.true c.in_ok-push_flat_pieces.ensures.pieces between)
+          (next_level es shape ls i none none old mid new w.if-i-levels.true c.in_ok-push_flat_pieces.ensures between)
       | else-i-levels w ↦
           subst (Extends (AreUpToNext es shape (drop i ls)) old) (sym (ap (λ v. v.items) w.out-is))
-          (last_level es shape ls i none old mid c.requires.there w.if-i-levels.false c.in_ok-push_flat_pieces.ensures.pieces)
-    ]
-
-pub returns-clause-tallies : goal.returns-clause-tallies
-returns-clause-tallies c =
-    let es = c.args.sweep.now.edges.now in
-    let shape = c.args.sweep.now.shape.now in
-    elim c.if-i-levels.branch [
-      | then-i-levels+in_ok-push_slab_pieces w ↦
-          subst (AreFor es shape) (sym w.tallies-is) w.in_ok-push_slab_pieces.ensures.tallies
-      | else-i-levels w ↦ subst (AreFor es shape) (sym w.tallies-is) c.in_ok-push_flat_pieces.ensures.tallies
+          (last_level es shape ls i none old mid c.requires.there w.if-i-levels.false c.in_ok-push_flat_pieces.ensures)
     ]
