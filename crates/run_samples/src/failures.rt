@@ -3,13 +3,12 @@
 ghost use Rattle.std.specs.Prelude.{◌≡◌, Some, [], IfOk};
 ghost use Rattle.scad_io.specs.Desk.{unused};
 
-use crate::runs::{Answer, ROOM, answer_of, answer_on, expect};
+use crate::plans::sample_of_plate;
+use crate::runs::{Answer, ROOM, answer_of, answer_on, expect, push_file};
 use scad_fault::Text;
 use scad_io::{MemoryDesk, Open};
-use scad_run::{evaluate, run, sampled};
-use scad_script::report;
-use scad_slice::Workpiece;
-use scad_words::Settings;
+use scad_run::run;
+use scad_script::{Stop, report};
 use std::alloc::{AllocError, Global};
 use std::process::Abort;
 use std::test::Fail;
@@ -43,12 +42,17 @@ fn desk_with_settings(
     ensures { IfOk result (λ desk. desk.view ≡ unused (Some [])) }
 {
     let mut files = Vec::new(alloc);
-    files.push((Text::of(alloc, b"m.scad")?, Text::of(alloc, source)?))?;
-    files.push((
-        Text::of(alloc, b"s.toml")?,
-        Text::of(alloc, b"walls = 1\n")?,
-    ))?;
+    push_file(alloc, &mut files, b"m.scad", source)?;
+    push_file(alloc, &mut files, b"s.toml", b"walls = 1\n")?;
     MemoryDesk::new(alloc, files, fails, ROOM)
+}
+
+fn parted(alloc: Global, words: &str) -> Result<Vec<String>, AllocError> {
+    let mut texts = Vec::new(alloc);
+    for word in words.split(' ') {
+        texts.push(String::from_str(alloc, word)?)?;
+    }
+    Ok(texts)
 }
 
 /// Runs the words, parted by blanks, where the calls of these numbers fail.
@@ -59,12 +63,9 @@ fn answer_to<R: Threads + Sync>(
     source: &[u8],
     fails: Vec<u64>,
 ) -> Result<Answer, AllocError> {
-    let mut texts = Vec::new(alloc);
-    for word in words.split(' ') {
-        texts.push(String::from_str(alloc, word)?)?;
-    }
+    let words = parted(alloc, words)?;
     let mut desk = desk_with_settings(alloc, source, fails)?;
-    let status = run(rt, alloc, &texts, &mut desk, &Open);
+    let status = run(rt, alloc, &words, &mut desk, &Open);
     answer_on(alloc, status, &desk)
 }
 
@@ -118,36 +119,56 @@ fn is_short(whole: &Answer, answer: &Answer) -> bool {
     answer.cli.len() < whole.cli.len() || answer.gcode.len() < whole.gcode.len()
 }
 
-/// After the call that failed comes one at most, for the last line: that the calls behind it would fail changes
-/// nothing.
-fn expect_end_of_calls<R: Threads + Sync + Abort>(
+/// The answer where this call fails alone.
+fn expect_stopped_at<R: Threads + Sync + Abort>(
     rt: &R,
     alloc: Global,
     row: (&str, u64, u64),
     whole: &Answer,
     call: u64,
-) -> Result<(), AllocError> {
+) -> Result<Answer, AllocError> {
     let (words, echo, last) = row;
-    let end = end_without(call, echo, last);
     let answer = answer_to(rt, alloc, words, SOURCE, [call].to_vec(alloc)?)?;
-    expect_stopped(rt, whole, &answer, end, words);
+    expect_stopped(rt, whole, &answer, end_without(call, echo, last), words);
     let is_cut = call < last && !whole.cli.is_empty();
     assert!(rt;
         answer.faults == 1 && is_short(whole, &answer) == is_cut,
         "{words}"
     );
+    Ok(answer)
+}
+
+/// After the call that failed comes one at most, for the last line: that the calls behind it would fail changes
+/// nothing.
+fn expect_one_call_more<R: Threads + Sync + Abort>(
+    rt: &R,
+    alloc: Global,
+    row: (&str, u64, u64),
+    alone: &Answer,
+    call: u64,
+) -> Result<(), AllocError> {
+    let (words, echo, last) = row;
     let but_the_next = fails_from(alloc, call, call.saturating_add(2))?;
     let same = answer_to(rt, alloc, words, SOURCE, but_the_next)?;
-    expect_stopped(rt, whole, &same, end, words);
-    assert!(rt;
-        has_same_files(&same, &answer) && same.faults == 1,
-        "{words}"
-    );
+    expect_stopped(rt, alone, &same, end_without(call, echo, last), words);
+    assert!(rt; has_same_files(&same, alone) && same.faults == 1, "{words}");
+    Ok(())
+}
+
+/// Where that one fails too, the report has nothing more.
+fn expect_silence<R: Threads + Sync + Abort>(
+    rt: &R,
+    alloc: Global,
+    row: (&str, u64, u64),
+    alone: &Answer,
+    call: u64,
+) -> Result<(), AllocError> {
+    let (words, echo, last) = row;
     let silent = answer_to(rt, alloc, words, SOURCE, fails_from(alloc, call, call)?)?;
-    expect_stopped(rt, whole, &silent, end_from(call, echo), words);
+    expect_stopped(rt, alone, &silent, end_from(call, echo), words);
     let faults = if call == echo || call == last { 1 } else { 2 };
     assert!(rt;
-        has_same_files(&silent, &answer) && silent.faults == faults,
+        has_same_files(&silent, alone) && silent.faults == faults,
         "{words}"
     );
     Ok(())
@@ -165,7 +186,9 @@ fn each_call_failing_in_turn(rt: HostRuntime) -> Result<(), Fail> {
         let whole = answer_to(&rt, alloc, words, SOURCE, Vec::new(alloc))?;
         assert!(rt; whole.code == 0 && whole.faults == 0, "{words}");
         for call in 0..last.saturating_add(1) {
-            expect_end_of_calls(&rt, alloc, row, &whole, call)?;
+            let alone = expect_stopped_at(&rt, alloc, row, &whole, call)?;
+            expect_one_call_more(&rt, alloc, row, &alone, call)?;
+            expect_silence(&rt, alloc, row, &alone, call)?;
         }
         let behind = [last.saturating_add(1)].to_vec(alloc)?;
         let done = answer_to(&rt, alloc, words, SOURCE, behind)?;
@@ -178,32 +201,33 @@ fn each_call_failing_in_turn(rt: HostRuntime) -> Result<(), Fail> {
     Ok(())
 }
 
-/// A sample of the plate in the place of its own tree: it makes no call but for its last line.
+/// A sample makes no call but for its last line.
 #[test]
 fn a_sample_with_a_failing_report(rt: HostRuntime) -> Result<(), Fail> {
     let alloc = rt.alloc();
-    let mut quiet = desk_with_settings(alloc, b"", Vec::new(alloc))?;
-    let Ok(tree) = evaluate(alloc, b"cube([3,3,0.2]);", &mut quiet) else {
-        return Err(Fail::new("the plate has a tree"));
-    };
-    let settings = Settings::defaults();
     for workers in [1, 2, 64] {
         for (call, code) in [(0, 5), (1, 0)] {
-            let piece = Workpiece {
-                tree: &tree,
-                settings,
-                workers,
-                gate: &Open,
-            };
-            let line = sampled(&rt, alloc, 7, &piece);
-            let mut desk = desk_with_settings(alloc, b"", [call].to_vec(alloc)?)?;
-            let status = report(alloc, line, &mut desk);
-            let answer = answer_on(alloc, status, &desk)?;
-            assert!(rt; answer.code == code && answer.report.is_empty() == (code == 5));
-            assert!(rt; answer.cli.is_empty() && answer.gcode.is_empty());
-            assert!(rt; (answer.faults == 0) == (code == 0));
+            let line = sample_of_plate(&rt, alloc, workers)?;
+            expect_reported(&rt, alloc, line, call, code)?;
         }
     }
+    Ok(())
+}
+
+/// A report of this end over a desk of which this call fails.
+fn expect_reported(
+    rt: &impl Abort,
+    alloc: Global,
+    ended: Result<Text, Stop>,
+    call: u64,
+    code: u8,
+) -> Result<(), AllocError> {
+    let mut desk = desk_with_settings(alloc, b"", [call].to_vec(alloc)?)?;
+    let status = report(alloc, ended, &mut desk);
+    let answer = answer_on(alloc, status, &desk)?;
+    let is_told = answer.code == code && answer.report.is_empty() == (code == 5);
+    let is_alone = answer.cli.is_empty() && answer.gcode.is_empty();
+    assert!(rt; is_told && is_alone && (answer.faults == 0) == (code == 0));
     Ok(())
 }
 
@@ -213,6 +237,19 @@ const HOLED: &str = "difference(){cube(10); translate([2,2,-1]) cube([6,6,12]);}
 fn checked<R: Threads + Sync>(rt: &R, alloc: Global, source: &[u8]) -> Result<Answer, AllocError> {
     let words = ["check", "m.scad"];
     answer_of(rt, alloc, &words, source, Vec::new(alloc), ROOM)
+}
+
+fn expect_early_end<R: Threads + Sync + Abort>(
+    rt: &R,
+    alloc: Global,
+    front: &[u8],
+) -> Result<(), AllocError> {
+    let column = front.len().wrapping_add(1);
+    let report = format!(in alloc; "fault 2 Syntax at 1:{column}\n")?;
+    let answer = checked(rt, alloc, front)?;
+    expect(rt, &answer, 1, report.as_str(), "a front");
+    assert!(rt; answer.cli.is_empty() && answer.faults == 0);
+    Ok(())
 }
 
 /// Each front ends early, where it isn't empty: the fault stands behind its last byte.
@@ -228,11 +265,7 @@ fn each_front_of_a_source(rt: HostRuntime) -> Result<(), Fail> {
         "",
     );
     for len in 1..HOLED.len() {
-        let answer = checked(&rt, alloc, &HOLED.as_bytes()[..len])?;
-        let column = len.wrapping_add(1);
-        let report = format!(in alloc; "fault 2 Syntax at 1:{column}\n")?;
-        expect(&rt, &answer, 1, report.as_str(), "a front");
-        assert!(rt; answer.cli.is_empty() && answer.faults == 0);
+        expect_early_end(&rt, alloc, &HOLED.as_bytes()[..len])?;
     }
     let whole = checked(&rt, alloc, HOLED.as_bytes())?;
     expect(
@@ -279,14 +312,19 @@ const HOSTILE: [(&str, char, u32, u8, &str); 6] = [
     ),
 ];
 
+fn lengthened(alloc: Global, front: &str, unit: char, times: u32) -> Result<String, AllocError> {
+    let mut text = String::from_str(alloc, front)?;
+    for _ in 0..times {
+        text.push(unit)?;
+    }
+    Ok(text)
+}
+
 #[test]
 fn sources_that_ask_for_too_much(rt: HostRuntime) -> Result<(), Fail> {
     let alloc = rt.alloc();
     for (front, unit, times, code, report) in HOSTILE {
-        let mut source = String::from_str(alloc, front)?;
-        for _ in 0..times {
-            source.push(unit)?;
-        }
+        let source = lengthened(alloc, front, unit, times)?;
         let answer = checked(&rt, alloc, source.as_bytes())?;
         expect(&rt, &answer, code, report, front);
         assert!(rt; answer.cli.is_empty() && answer.faults == 0, "{front}");
@@ -298,12 +336,24 @@ fn sources_that_ask_for_too_much(rt: HostRuntime) -> Result<(), Fail> {
 const WIDE: &[u8] =
     b"cube([1,1,3]); translate([0,0,0.8]) cylinder(h=0.2,r=50,$fn=10001); translate([0,0,1.8]) cylinder(h=0.2,r=50,$fn=10001);";
 
-/// The words but for the number of workers, a call that fails, and the height of the last layer that the outlines have:
+/// The words but for the number of workers, a call that fails, and the last layer that the outlines have then:
 /// the fourth write of the outlines or of the printing program is the third layer's.
 const CUT: [(&str, u64, &str); 3] = [
-    ("slice m.scad o.cli --workers ", 7, "$$LAYER/400\n"),
-    ("plan m.scad o.cli o.gcode --workers ", 11, "$$LAYER/400\n"),
-    ("plan m.scad o.cli o.gcode --workers ", 12, "$$LAYER/600\n"),
+    (
+        "slice m.scad o.cli --workers ",
+        7,
+        "$$LAYER/400\n$$POLYLINE/1,1,5,0,0,1000,0,1000,1000,0,1000,0,0\n",
+    ),
+    (
+        "plan m.scad o.cli o.gcode --workers ",
+        11,
+        "$$LAYER/400\n$$POLYLINE/1,1,5,0,0,1000,0,1000,1000,0,1000,0,0\n",
+    ),
+    (
+        "plan m.scad o.cli o.gcode --workers ",
+        12,
+        "$$LAYER/600\n$$POLYLINE/1,1,5,0,0,1000,0,1000,1000,0,1000,0,0\n",
+    ),
 ];
 
 fn answer_by<R: Threads + Sync>(
@@ -317,21 +367,32 @@ fn answer_by<R: Threads + Sync>(
     answer_to(rt, alloc, words.as_str(), WIDE, fails)
 }
 
+/// A run by so many workers in which this call fails ends behind these lines.
+fn expect_cut<R: Threads + Sync + Abort>(
+    rt: &R,
+    alloc: Global,
+    row: (&str, u64, &str),
+    whole: &Answer,
+    workers: &str,
+) -> Result<(), AllocError> {
+    let (front, call, lines) = row;
+    let answer = answer_by(rt, alloc, front, workers, [call].to_vec(alloc)?)?;
+    expect_stopped(rt, whole, &answer, (5, "write fault\n"), front);
+    let is_cut = is_short(whole, &answer) && answer.cli.ends_with(lines.as_bytes());
+    assert!(rt; answer.faults == 1 && is_cut, "{front}");
+    Ok(())
+}
+
 /// A file that fails comes before the budget of a later layer, by however many workers it was met.
 #[test]
 fn a_write_that_fails_before_a_budget(rt: HostRuntime) -> Result<(), Fail> {
     let alloc = rt.alloc();
-    let over = (6, "budget 7 LayerEdges layer 4 count 20010\n");
-    for (front, call, height) in CUT {
-        let whole = answer_by(&rt, alloc, front, "1", Vec::new(alloc))?;
-        expect_stopped(&rt, &whole, &whole, over, front);
-        let square = "$$POLYLINE/1,1,5,0,0,1000,0,1000,1000,0,1000,0,0\n";
-        let last = format!(in alloc; "{height}{square}")?;
+    for row in CUT {
+        let whole = answer_by(&rt, alloc, row.0, "1", Vec::new(alloc))?;
+        let over = (6, "budget 7 LayerEdges layer 4 count 20010\n");
+        expect_stopped(&rt, &whole, &whole, over, row.0);
         for workers in ["1", "2", "64"] {
-            let answer = answer_by(&rt, alloc, front, workers, [call].to_vec(alloc)?)?;
-            expect_stopped(&rt, &whole, &answer, (5, "write fault\n"), front);
-            assert!(rt; answer.faults == 1 && is_short(&whole, &answer), "{front}");
-            assert!(rt; answer.cli.ends_with(last.as_bytes()), "{front}");
+            expect_cut(&rt, alloc, row, &whole, workers)?;
         }
     }
     Ok(())

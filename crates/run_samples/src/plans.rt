@@ -1,8 +1,12 @@
 //! What `plan` and `sample` write and report. The texts come from an independent program.
+ghost use Rattle.std.specs.Prelude.{◌≤◌};
+
 use crate::runs::{Answer, ROOM, answer_of, desk_with};
 use crate::settings::settled;
+use scad_fault::Text;
 use scad_io::Open;
 use scad_run::{evaluate, sampled};
+use scad_script::Stop;
 use scad_slice::Workpiece;
 use scad_words::Settings;
 use std::alloc::{AllocError, Global};
@@ -160,10 +164,19 @@ fn the_least_layer_with_a_budget_is_answered(rt: HostRuntime) -> Result<(), Fail
     Ok(())
 }
 
-/// The end of a sample, over the plate in the place of its own tree: its numbers, and the sizes of both files.
-#[test]
-fn a_sample_tells_sizes(rt: HostRuntime) -> Result<(), Fail> {
-    let alloc = rt.alloc();
+/// The last line of a sample that is the plate: its numbers, and the sizes of both files.
+const PLATE_SAMPLE: &str =
+    "sample 7: 1 layers, 1 loops, 9 moves, E 0.67351, 164 cli bytes, 481 gcode bytes\n";
+
+/// The end of a sample, over the plate in the place of its own tree.
+pub fn sample_of_plate<R: Threads + Sync>(
+    rt: &R,
+    alloc: Global,
+    workers: u32,
+) -> Result<Result<Text, Stop>, Fail>
+    requires some { 1 ≤ workers }
+    requires most { workers ≤ 64 }
+{
     let mut desk = desk_with(alloc, b"", Vec::new(alloc), ROOM)?;
     let Ok(tree) = evaluate(alloc, PLATE.as_bytes(), &mut desk) else {
         return Err(Fail::new("the plate has a tree"));
@@ -171,17 +184,18 @@ fn a_sample_tells_sizes(rt: HostRuntime) -> Result<(), Fail> {
     let piece = Workpiece {
         tree: &tree,
         settings: Settings::defaults(),
-        workers: 3,
+        workers,
         gate: &Open,
     };
-    let Ok(line) = sampled(&rt, alloc, 7, &piece) else {
+    Ok(sampled(rt, alloc, 7, &piece))
+}
+
+#[test]
+fn a_sample_tells_sizes(rt: HostRuntime) -> Result<(), Fail> {
+    let Ok(line) = sample_of_plate(&rt, rt.alloc(), 3)? else {
         return Err(Fail::new("the plate is planned"));
     };
-    let (cli, gcode) = (PLATE_OUTLINES.len(), PLATE_PROGRAM.len());
-    let wanted = format!(in alloc;
-        "sample 7: 1 layers, 1 loops, 9 moves, E 0.67351, {cli} cli bytes, {gcode} gcode bytes\n"
-    )?;
-    assert!(rt; line.as_slice() == wanted.as_bytes());
+    assert!(rt; line.as_slice() == PLATE_SAMPLE.as_bytes());
     Ok(())
 }
 

@@ -40,8 +40,19 @@ pub fn desk_with(
     ensures { IfOk result (λ desk. desk.view ≡ unused (Some [])) }
 {
     let mut files = Vec::new(alloc);
-    files.push((Text::of(alloc, b"m.scad")?, Text::of(alloc, source)?))?;
+    push_file(alloc, &mut files, b"m.scad", source)?;
     MemoryDesk::new(alloc, files, fails, room)
+}
+
+pub fn push_file(
+    alloc: Global,
+    files: &mut Vec<(Text, Text)>,
+    name: &[u8],
+    content: &[u8],
+) -> Result<(), AllocError> {
+    let name = Text::of(alloc, name)?;
+    files.push((name, Text::of(alloc, content)?))?;
+    Ok(())
 }
 
 pub fn answer_on(alloc: Global, status: Status, desk: &MemoryDesk) -> Result<Answer, AllocError> {
@@ -124,17 +135,23 @@ fn unknown_model(rt: HostRuntime) -> Result<(), Fail> {
     Ok(())
 }
 
+/// One byte more than a source may have.
 #[test]
-fn longest_source(rt: HostRuntime) -> Result<(), Fail> {
+fn a_source_that_is_too_long(rt: HostRuntime) -> Result<(), Fail> {
     let alloc = rt.alloc();
-    let mut source = vec![in alloc; b'\n'; 4_194_305]?;
+    let source = vec![in alloc; b'\n'; 4_194_305]?;
     let long = sliced(&rt, alloc, &source)?;
     expect(&rt, &long, 6, "budget 1 SourceLong\n", "long");
     assert!(rt; long.cli.is_empty());
-    source.truncate(4_194_296);
-    let mut text = b"cube(1);".to_vec(alloc)?;
-    text.extend_from_slice(&source)?;
-    let within = sliced(&rt, alloc, &text)?;
+    Ok(())
+}
+
+#[test]
+fn longest_source(rt: HostRuntime) -> Result<(), Fail> {
+    let alloc = rt.alloc();
+    let mut source = b"cube(1);".to_vec(alloc)?;
+    source.resize(4_194_304, b'\n')?;
+    let within = sliced(&rt, alloc, &source)?;
     expect(&rt, &within, 0, "done: 5 layers, 5 loops\n", "within");
     Ok(())
 }

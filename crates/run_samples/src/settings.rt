@@ -1,6 +1,5 @@
 //! Settings: where they are named, what they change, and how they are refused.
-use crate::runs::{Answer, ROOM, answer_on, expect, texts_of};
-use scad_fault::Text;
+use crate::runs::{Answer, ROOM, answer_on, expect, push_file, texts_of};
 use scad_io::{MemoryDesk, Open};
 use scad_run::run;
 use std::alloc::{AllocError, Global};
@@ -17,8 +16,8 @@ pub fn settled<R: Threads + Sync>(
 ) -> Result<Answer, AllocError> {
     let words = texts_of(alloc, words)?;
     let mut files = Vec::new(alloc);
-    files.push((Text::of(alloc, b"s.toml")?, Text::of(alloc, settings)?))?;
-    files.push((Text::of(alloc, b"m.scad")?, Text::of(alloc, source)?))?;
+    push_file(alloc, &mut files, b"s.toml", settings)?;
+    push_file(alloc, &mut files, b"m.scad", source)?;
     let mut desk = MemoryDesk::new(alloc, files, Vec::new(alloc), ROOM)?;
     let status = run(rt, alloc, &words, &mut desk, &Open);
     answer_on(alloc, status, &desk)

@@ -5,22 +5,79 @@ use std::process::Abort;
 use std::test::Fail;
 use std::thread::Threads;
 
-/// A source, how many layers and loops it has, and the polylines of each layer; `|` parts those of the lowest from those of
-/// each other.
-const SLICED: &str = r#"cube(1); ~ 5 ~ 5 ~ 1,1,5,0,0,1000,0,1000,1000,0,1000,0,0
- ~ 0 ~ 0 ~ none
-cube(a); a=3; a=2; ~ 10 ~ 10 ~ 1,1,5,0,0,2000,0,2000,2000,0,2000,0,0
-f=2; function f(x)=x+1; module f(){cube(f(f));} f(); ~ 15 ~ 15 ~ 1,1,5,0,0,3000,0,3000,3000,0,3000,0,0
-cube(1); translate([1,0,0]) cube(1); ~ 5 ~ 5 ~ 1,1,5,0,0,2000,0,2000,1000,0,1000,0,0
-difference(){cube(10); translate([2,2,-1]) cube([6,6,12]);} ~ 50 ~ 100 ~ 1,1,5,0,0,10000,0,10000,10000,0,10000,0,0 1,0,5,2000,2000,2000,8000,8000,8000,8000,2000,2000,2000
-rotate(45) cube([10,10,1]); ~ 5 ~ 5 ~ 1,1,5,0,0,7071,7071,0,14142,-7071,7071,0,0
-module row(){for(i=[0:$children-1]) translate([i*2,0,0]) children(i);} row(){cube(1); cube(1);} ~ 5 ~ 10 ~ 1,1,5,0,0,1000,0,1000,1000,0,1000,0,0 1,1,5,2000,0,3000,0,3000,1000,2000,1000,2000,0
-cube([2,1,3]); ~ 15 ~ 15 ~ 1,1,5,0,0,2000,0,2000,1000,0,1000,0,0
-cube(1); translate([1,1,0]) cube(1); ~ 5 ~ 10 ~ 1,1,5,0,0,1000,0,1000,1000,0,1000,0,0 1,1,5,1000,1000,2000,1000,2000,2000,1000,2000,1000,1000
-intersection(){cube(1); translate([2,0,0]) cube(1);} ~ 5 ~ 0 ~ none
-translate([0,0,-5]) cube(1); ~ 0 ~ 0 ~ none
-cube([1,1,0.4]); translate([0,0,0.2]) cube([2,1,0.4]); ~ 3 ~ 3 ~ 1,1,5,0,0,1000,0,1000,1000,0,1000,0,0|1,1,5,0,0,2000,0,2000,1000,0,1000,0,0
-cylinder(h=0.4,r=5,$fn=6); ~ 2 ~ 2 ~ 1,1,11,-2500,-4330,2500,-4330,4372,-1088,5000,0,3128,3242,2500,4330,-2500,4330,-4372,1088,-5000,0,-3128,-3242,-2500,-4330|1,1,11,-2500,-4330,2500,-4330,3122,-3253,5000,0,4378,1077,2500,4330,-2500,4330,-3122,3253,-5000,0,-4378,-1077,-2500,-4330"#;
+/// A source, how many layers and loops it has, and the polylines of each layer; `|` parts those of the lowest from
+/// those of each other.
+const SLICED: [(&str, u32, u32, &str); 14] = [
+    ("cube(1);", 5, 5, "1,1,5,0,0,1000,0,1000,1000,0,1000,0,0"),
+    ("", 0, 0, "none"),
+    (
+        "cube(a); a=3; a=2;",
+        10,
+        10,
+        "1,1,5,0,0,2000,0,2000,2000,0,2000,0,0",
+    ),
+    (
+        "f=2; function f(x)=x+1; module f(){cube(f(f));} f();",
+        15,
+        15,
+        "1,1,5,0,0,3000,0,3000,3000,0,3000,0,0",
+    ),
+    (
+        "cube(1); translate([1,0,0]) cube(1);",
+        5,
+        5,
+        "1,1,5,0,0,2000,0,2000,1000,0,1000,0,0",
+    ),
+    (
+        "difference(){cube(10); translate([2,2,-1]) cube([6,6,12]);}",
+        50,
+        100,
+        "1,1,5,0,0,10000,0,10000,10000,0,10000,0,0 1,0,5,2000,2000,2000,8000,8000,8000,8000,2000,2000,2000",
+    ),
+    (
+        "rotate(45) cube([10,10,1]);",
+        5,
+        5,
+        "1,1,5,0,0,7071,7071,0,14142,-7071,7071,0,0",
+    ),
+    (
+        "module row(){for(i=[0:$children-1]) translate([i*2,0,0]) children(i);} row(){cube(1); cube(1);}",
+        5,
+        10,
+        "1,1,5,0,0,1000,0,1000,1000,0,1000,0,0 1,1,5,2000,0,3000,0,3000,1000,2000,1000,2000,0",
+    ),
+    (
+        "cube([2,1,3]);",
+        15,
+        15,
+        "1,1,5,0,0,2000,0,2000,1000,0,1000,0,0",
+    ),
+    (
+        "cube(1); translate([1,1,0]) cube(1);",
+        5,
+        10,
+        "1,1,5,0,0,1000,0,1000,1000,0,1000,0,0 1,1,5,1000,1000,2000,1000,2000,2000,1000,2000,1000,1000",
+    ),
+    (
+        "intersection(){cube(1); translate([2,0,0]) cube(1);}",
+        5,
+        0,
+        "none",
+    ),
+    ("translate([0,0,-5]) cube(1);", 0, 0, "none"),
+    (
+        "cube([1,1,0.4]); translate([0,0,0.2]) cube([2,1,0.4]);",
+        3,
+        3,
+        "1,1,5,0,0,1000,0,1000,1000,0,1000,0,0|1,1,5,0,0,2000,0,2000,1000,0,1000,0,0",
+    ),
+    (
+        "cylinder(h=0.4,r=5,$fn=6);",
+        2,
+        2,
+        "1,1,11,-2500,-4330,2500,-4330,4372,-1088,5000,0,3128,3242,2500,4330,-2500,4330,-4372,1088,-5000,0,-3128,-3242,-2500,-4330|1,1,11,-2500,-4330,2500,-4330,3122,-3253,5000,0,4378,1077,2500,4330,-2500,4330,-3122,3253,-5000,0,-4378,-1077,-2500,-4330",
+    ),
+];
 
 /// The outlines as the format has them, from its words.
 fn outlines(alloc: Global, count: u32, layers: &str) -> Result<Vec<u8>, AllocError> {
@@ -73,15 +130,11 @@ fn sliced<R: Threads + Sync>(
 #[test]
 fn trees_sliced(rt: HostRuntime) -> Result<(), Fail> {
     let alloc = rt.alloc();
-    for row in SLICED.lines() {
-        let (source, wanted) = row.split_once(" ~ ").ok_or("no row")?;
-        let (count, wanted) = wanted.split_once(" ~ ").ok_or("no count")?;
-        let (loops, layers) = wanted.split_once(" ~ ").ok_or("no loops")?;
+    for (source, count, loops, layers) in SLICED {
         let answer = sliced(&rt, alloc, source, Vec::new(alloc), ROOM)?;
         let report = format!(in alloc; "done: {count} layers, {loops} loops\n")?;
-        expect(&rt, &answer, 0, report.as_str(), row);
-        let count = count.parse::<u32>().map_err(|_| Fail::new("no number"))?;
-        assert!(rt; answer.cli == outlines(alloc, count, layers)?, "{row}");
+        expect(&rt, &answer, 0, report.as_str(), source);
+        assert!(rt; answer.cli == outlines(alloc, count, layers)?, "{source}");
     }
     Ok(())
 }

@@ -5,43 +5,119 @@ use std::process::Abort;
 use std::test::Fail;
 use std::thread::Threads;
 
-/// A source, the status of `check`, and its report, whose lines `|` ends.
-const CHECKED: &str = r#" ~ 0 ~ ok: 0 leaves, 0 triangles, 0 layers|
-b=a; a=1; echo(b); ~ 0 ~ ECHO: undef|ok: 0 leaves, 0 triangles, 0 layers|
-module m(){$x=5; children();} m() echo($x); ~ 0 ~ ECHO: 5|ok: 0 leaves, 0 triangles, 0 layers|
-sphere(5); ~ 0 ~ ok: 1 leaves, 252 triangles, 25 layers|
-cube(1000); ~ 0 ~ ok: 1 leaves, 12 triangles, 5000 layers|
-difference(){cube(10); translate([2,2,-1]) cube([6,6,12]);} ~ 0 ~ ok: 2 leaves, 24 triangles, 50 layers|
-echo("a", x=[1,2.5], [0:2]); echo(cos(60), cos(0.5)); ~ 0 ~ ECHO: "a", x = [1, 2.5], [0 : 1 : 2]|ECHO: 0.5, 0.999924|ok: 0 leaves, 0 triangles, 0 layers|
-echo("a"); echo(1); cube(1); foo(); echo(2); ~ 1 ~ ECHO: "a"|ECHO: 1|fault 5 UnknownModule at 1:30 foo|
-cube(1000.001); ~ 1 ~ fault 13 CoordinateRange at 1:1|
-polyhedron([[0,0,0],[1,0,0],[0,1,0],[0,0,1]],[[0,1,2],[0,3,1],[1,3,2]]); ~ 1 ~ fault 12 NotClosed at 1:1|
-echo(1/0); ~ 1 ~ fault 8 ZeroDivisor at 1:7|
-x = function(a) a; ~ 1 ~ fault 4 LeftOut at 1:5 function|
-echo(1000000000*2); ~ 1 ~ fault 9 NumberRange at 1:16|
-echo(1e10); ~ 1 ~ fault 9 NumberRange at 1:6|
-assert(false); ~ 1 ~ fault 10 AssertFailed at 1:1|
-cube("a"); ~ 1 ~ fault 7 BadArgument at 1:1 cube|
-echo([0:0:3]); ~ 1 ~ fault 14 ZeroStep at 1:6|
-foo(); ~ 1 ~ fault 5 UnknownModule at 1:1 foo|
-echo(g(1)); ~ 1 ~ fault 6 UnknownFunction at 1:6 g|
-cube(1 ~ 1 ~ fault 2 Syntax at 1:7|
-echo("ab ~ 1 ~ fault 1 BadText at 1:6|
-minkowski(){cube(1); cube(1);} ~ 1 ~ fault 4 LeftOut at 1:1 minkowski|
-square(1); ~ 1 ~ fault 11 MixedDimensions at 1:1|
-linear_extrude(height=1) cube(1); ~ 1 ~ fault 11 MixedDimensions at 1:26|
-rotate_extrude() translate([-0.5,0]) square(1); ~ 1 ~ fault 7 BadArgument at 1:1 rotate_extrude|
-rotate_extrude($fn=4) square(1); ~ 0 ~ ok: 1 leaves, 32 triangles, 5 layers|
-rotate_extrude($fn=4) translate([-1,0]) square(1); ~ 0 ~ ok: 1 leaves, 32 triangles, 5 layers|
-echo(1); linear_extrude(2) square(1); ~ 0 ~ ECHO: 1|ok: 1 leaves, 12 triangles, 10 layers|"#;
+/// A source, the status of `check`, and its report.
+const CHECKED: [(&str, u8, &str); 28] = [
+    ("", 0, "ok: 0 leaves, 0 triangles, 0 layers\n"),
+    (
+        "b=a; a=1; echo(b);",
+        0,
+        "ECHO: undef\nok: 0 leaves, 0 triangles, 0 layers\n",
+    ),
+    (
+        "module m(){$x=5; children();} m() echo($x);",
+        0,
+        "ECHO: 5\nok: 0 leaves, 0 triangles, 0 layers\n",
+    ),
+    ("sphere(5);", 0, "ok: 1 leaves, 252 triangles, 25 layers\n"),
+    (
+        "cube(1000);",
+        0,
+        "ok: 1 leaves, 12 triangles, 5000 layers\n",
+    ),
+    (
+        "difference(){cube(10); translate([2,2,-1]) cube([6,6,12]);}",
+        0,
+        "ok: 2 leaves, 24 triangles, 50 layers\n",
+    ),
+    (
+        "echo(\"a\", x=[1,2.5], [0:2]); echo(cos(60), cos(0.5));",
+        0,
+        "ECHO: \"a\", x = [1, 2.5], [0 : 1 : 2]\nECHO: 0.5, 0.999924\nok: 0 leaves, 0 triangles, 0 layers\n",
+    ),
+    (
+        "echo(\"a\"); echo(1); cube(1); foo(); echo(2);",
+        1,
+        "ECHO: \"a\"\nECHO: 1\nfault 5 UnknownModule at 1:30 foo\n",
+    ),
+    ("cube(1000.001);", 1, "fault 13 CoordinateRange at 1:1\n"),
+    (
+        "polyhedron([[0,0,0],[1,0,0],[0,1,0],[0,0,1]],[[0,1,2],[0,3,1],[1,3,2]]);",
+        1,
+        "fault 12 NotClosed at 1:1\n",
+    ),
+    ("echo(1/0);", 1, "fault 8 ZeroDivisor at 1:7\n"),
+    ("x = function(a) a;", 1, "fault 4 LeftOut at 1:5 function\n"),
+    ("echo(1000000000*2);", 1, "fault 9 NumberRange at 1:16\n"),
+    ("echo(1e10);", 1, "fault 9 NumberRange at 1:6\n"),
+    ("assert(false);", 1, "fault 10 AssertFailed at 1:1\n"),
+    ("cube(\"a\");", 1, "fault 7 BadArgument at 1:1 cube\n"),
+    ("echo([0:0:3]);", 1, "fault 14 ZeroStep at 1:6\n"),
+    ("foo();", 1, "fault 5 UnknownModule at 1:1 foo\n"),
+    ("echo(g(1));", 1, "fault 6 UnknownFunction at 1:6 g\n"),
+    ("cube(1", 1, "fault 2 Syntax at 1:7\n"),
+    ("echo(\"ab", 1, "fault 1 BadText at 1:6\n"),
+    (
+        "minkowski(){cube(1); cube(1);}",
+        1,
+        "fault 4 LeftOut at 1:1 minkowski\n",
+    ),
+    ("square(1);", 1, "fault 11 MixedDimensions at 1:1\n"),
+    (
+        "linear_extrude(height=1) cube(1);",
+        1,
+        "fault 11 MixedDimensions at 1:26\n",
+    ),
+    (
+        "rotate_extrude() translate([-0.5,0]) square(1);",
+        1,
+        "fault 7 BadArgument at 1:1 rotate_extrude\n",
+    ),
+    (
+        "rotate_extrude($fn=4) square(1);",
+        0,
+        "ok: 1 leaves, 32 triangles, 5 layers\n",
+    ),
+    (
+        "rotate_extrude($fn=4) translate([-1,0]) square(1);",
+        0,
+        "ok: 1 leaves, 32 triangles, 5 layers\n",
+    ),
+    (
+        "echo(1); linear_extrude(2) square(1);",
+        0,
+        "ECHO: 1\nok: 1 leaves, 12 triangles, 10 layers\n",
+    ),
+];
 
 /// The same for `tree`.
-const SHOWN: &str = r#" ~ 0 ~ empty|
-difference(){cube(10); translate([2,2,-1]) cube([6,6,12]);} ~ 0 ~ difference|  leaf 0: 12 triangles|  leaf 1: 12 triangles|
-difference(){%cube(1); cube(2);} ~ 0 ~ leaf 0: 12 triangles|
-intersection(){%cube(1); cube(2);} ~ 0 ~ leaf 0: 12 triangles|
-echo("a"); echo(2); cube(1); ~ 0 ~ ECHO: "a"|ECHO: 2|leaf 0: 12 triangles|
-echo("a"); foo(); ~ 1 ~ ECHO: "a"|fault 5 UnknownModule at 1:12 foo|"#;
+const SHOWN: [(&str, u8, &str); 6] = [
+    ("", 0, "empty\n"),
+    (
+        "difference(){cube(10); translate([2,2,-1]) cube([6,6,12]);}",
+        0,
+        "difference\n  leaf 0: 12 triangles\n  leaf 1: 12 triangles\n",
+    ),
+    (
+        "difference(){%cube(1); cube(2);}",
+        0,
+        "leaf 0: 12 triangles\n",
+    ),
+    (
+        "intersection(){%cube(1); cube(2);}",
+        0,
+        "leaf 0: 12 triangles\n",
+    ),
+    (
+        "echo(\"a\"); echo(2); cube(1);",
+        0,
+        "ECHO: \"a\"\nECHO: 2\nleaf 0: 12 triangles\n",
+    ),
+    (
+        "echo(\"a\"); foo();",
+        1,
+        "ECHO: \"a\"\nfault 5 UnknownModule at 1:12 foo\n",
+    ),
+];
 
 fn told<R: Threads + Sync>(
     rt: &R,
@@ -55,41 +131,33 @@ fn told<R: Threads + Sync>(
     answer_of(rt, alloc, &words, source.as_bytes(), fails, room)
 }
 
-/// The report that a row wants: `|` ends a line.
-fn report_of(alloc: Global, row: &str) -> Result<String, AllocError> {
-    let mut text = String::new(alloc);
-    for c in row.chars() {
-        text.push(if c == '|' { '\n' } else { c })?;
-    }
-    Ok(text)
-}
-
-fn expect_rows<R: Threads + Sync + Abort>(
+fn expect_told<R: Threads + Sync + Abort>(
     rt: &R,
     alloc: Global,
     command: &str,
-    rows: &str,
-) -> Result<(), Fail> {
-    for row in rows.lines() {
-        let (source, wanted) = row.split_once(" ~ ").ok_or("no row")?;
-        let (code, report) = wanted.split_once(" ~ ").ok_or("no status")?;
-        let answer = told(rt, alloc, command, source, Vec::new(alloc), ROOM)?;
-        let report = report_of(alloc, report)?;
-        let code = if code == "0" { 0 } else { 1 };
-        expect(rt, &answer, code, report.as_str(), row);
-        assert!(rt; answer.cli.is_empty() && answer.faults == 0, "{row}");
-    }
+    row: (&str, u8, &str),
+) -> Result<(), AllocError> {
+    let (source, code, report) = row;
+    let answer = told(rt, alloc, command, source, Vec::new(alloc), ROOM)?;
+    expect(rt, &answer, code, report, source);
+    assert!(rt; answer.cli.is_empty() && answer.faults == 0, "{source}");
     Ok(())
 }
 
 #[test]
 fn sources_checked(rt: HostRuntime) -> Result<(), Fail> {
-    expect_rows(&rt, rt.alloc(), "check", CHECKED)
+    for row in CHECKED {
+        expect_told(&rt, rt.alloc(), "check", row)?;
+    }
+    Ok(())
 }
 
 #[test]
 fn trees_shown(rt: HostRuntime) -> Result<(), Fail> {
-    expect_rows(&rt, rt.alloc(), "tree", SHOWN)
+    for row in SHOWN {
+        expect_told(&rt, rt.alloc(), "tree", row)?;
+    }
+    Ok(())
 }
 
 const ECHOES: &str = "ECHO: \"a\"\nECHO: 2\n";
