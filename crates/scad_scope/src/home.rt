@@ -9,7 +9,7 @@ use std::alloc::{AllocError, Global};
 /// The most items of a scope that gets no tables, since to go over them takes no longer.
 const FEW_ITEMS: usize = 8;
 
-/// How often a scope is gone over before it gets tables: a name takes some thirty times as long to put
+/// How often a scope is gone over before it gets tables: a name takes some twenty times as long to put
 /// down as to pass over, and many frames are opened in which a name or two are sought.
 const FEW_SEARCHES: u8 = 16;
 
