@@ -165,7 +165,7 @@ def cut_short():
 
 
 def samples():
-    """Only such as end before the plan: a whole sample takes minutes, and `bench/samples` runs some."""
+    """Only such as end before the plan: whole samples are golden cases."""
     return [
         Check("sample_usage_on_a_full_device", words=[b"sample"], status=5, report=b"", shell=FULL_REPORT),
         Check("sample_usage_with_names", words=[b"sample", b"7", b"o.cli", b"o.gcode"], status=2, report=USAGE),
