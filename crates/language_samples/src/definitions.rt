@@ -105,10 +105,8 @@ fn the_last_definition_of_a_name_is_found(rt: HostRuntime) -> Result<(), Fail> {
     frames.push(Some(0), Some(&few), None)?;
     frames.push(Some(1), None, None)?;
     // often enough that the first frame makes its tables on the way
-    let mut round = 0;
-    'rounds: while round < 5 {
-        assert!(rt; are_found(&mut frames)?);
-        round += 1;
+    'rounds: for round in 0..5 {
+        assert!(rt; are_found(&mut frames)?, "in round {round}");
     }
     Ok(())
 }
