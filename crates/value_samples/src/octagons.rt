@@ -13,44 +13,9 @@ const RISING: Edge = Edge {
     b: Pt { x: 40, y: 10 },
 };
 
-const STEEP: Edge = Edge {
-    a: Pt { x: 0, y: 0 },
-    b: Pt { x: 10, y: 40 },
-};
-
 const STEEP_LEFT: Edge = Edge {
     a: Pt { x: 0, y: 0 },
     b: Pt { x: -10, y: 40 },
-};
-
-const RISING_LEFT: Edge = Edge {
-    a: Pt { x: 0, y: 0 },
-    b: Pt { x: -40, y: 10 },
-};
-
-const POINT: Edge = Edge {
-    a: Pt { x: 5, y: 5 },
-    b: Pt { x: 5, y: 5 },
-};
-
-const FLAT: Edge = Edge {
-    a: Pt { x: 0, y: 0 },
-    b: Pt { x: 20, y: 0 },
-};
-
-const UPRIGHT: Edge = Edge {
-    a: Pt { x: 0, y: 0 },
-    b: Pt { x: 0, y: 20 },
-};
-
-const DIAGONAL: Edge = Edge {
-    a: Pt { x: 0, y: 0 },
-    b: Pt { x: 30, y: 30 },
-};
-
-const BACKWARDS: Edge = Edge {
-    a: Pt { x: 40, y: 10 },
-    b: Pt { x: 0, y: 0 },
 };
 
 #[test]
@@ -69,71 +34,51 @@ fn slants_are_rounded_down(rt: HostRuntime) {
 
 // Each row stands at a border: a neighbouring point has the other answer.
 #[test]
-fn octagons_meet_edges_that_touch_them(rt: HostRuntime) {
-    for (e, x, y, half, s, u, meets) in [
-        (FALLING, -3, 8, Half::Cell, 3, 4, true),
-        (FALLING, 2, 12, Half::Cell, 3, 4, false),
-        (FALLING, 6, -4, Half::Cell, 5, 7, true),
-        (FALLING, 12, 5, Half::Cell, 5, 7, false),
-        (FALLING, -1, 9, Half::Whole, 4, 2, true),
-        (FALLING, 9, -3, Half::Cell, 4, 2, false),
-        (RISING, -3, -2, Half::Cell, 3, 4, true),
-        (RISING, 0, 3, Half::Cell, 3, 4, false),
-        (RISING, -4, 3, Half::Whole, 5, 7, true),
-        (RISING, -5, -4, Half::Cell, 5, 7, false),
-        (RISING, 9, 4, Half::Whole, 4, 2, true),
-        (RISING, -3, 0, Half::Whole, 4, 2, false),
-        (STEEP, 3, 2, Half::Cell, 3, 4, true),
-        (STEEP, -1, 12, Half::Whole, 3, 4, false),
-        (STEEP, -2, 11, Half::Whole, 5, 7, true),
-        (STEEP, -6, -2, Half::Whole, 5, 7, false),
-        (STEEP, 4, 13, Half::Cell, 4, 2, true),
-        (STEEP, -3, 0, Half::Whole, 4, 2, false),
-        (STEEP_LEFT, 1, 7, Half::Whole, 3, 4, true),
-        (STEEP_LEFT, 2, 6, Half::Whole, 3, 4, false),
-        (STEEP_LEFT, -6, 1, Half::Cell, 5, 7, true),
-        (STEEP_LEFT, 6, -2, Half::Whole, 5, 7, false),
-        (STEEP_LEFT, -5, 13, Half::Whole, 4, 2, true),
-        (STEEP_LEFT, -3, 0, Half::Cell, 4, 2, false),
-        (RISING_LEFT, 0, 2, Half::Cell, 3, 4, true),
-        (RISING_LEFT, 3, -2, Half::Cell, 3, 4, false),
-        (RISING_LEFT, 2, 4, Half::Cell, 5, 7, true),
-        (RISING_LEFT, 4, 4, Half::Whole, 5, 7, false),
-        (RISING_LEFT, -8, 0, Half::Whole, 4, 2, true),
-        (RISING_LEFT, 2, 1, Half::Whole, 4, 2, false),
-        (POINT, 2, 4, Half::Whole, 3, 4, true),
-        (POINT, 2, 7, Half::Cell, 3, 4, false),
-        (POINT, 0, 2, Half::Cell, 5, 7, true),
-        (POINT, -1, 4, Half::Whole, 5, 7, false),
-        (POINT, 5, 6, Half::Cell, 4, 2, true),
-        (POINT, 2, 4, Half::Cell, 4, 2, false),
-        (FLAT, 8, 3, Half::Whole, 3, 4, true),
-        (FLAT, -1, -4, Half::Cell, 3, 4, false),
-        (FLAT, 10, 5, Half::Whole, 5, 7, true),
-        (FLAT, -6, 2, Half::Cell, 5, 7, false),
-        (FLAT, 0, 1, Half::Cell, 4, 2, true),
-        (FLAT, 9, -3, Half::Cell, 4, 2, false),
-        (UPRIGHT, 2, 1, Half::Cell, 3, 4, true),
-        (UPRIGHT, -4, 10, Half::Whole, 3, 4, false),
-        (UPRIGHT, 5, 2, Half::Whole, 5, 7, true),
-        (UPRIGHT, -6, -3, Half::Cell, 5, 7, false),
-        (UPRIGHT, -2, 0, Half::Cell, 4, 2, true),
-        (UPRIGHT, -3, 12, Half::Cell, 4, 2, false),
-        (DIAGONAL, 2, 6, Half::Whole, 3, 4, true),
-        (DIAGONAL, 0, 5, Half::Whole, 3, 4, false),
-        (DIAGONAL, -2, 5, Half::Cell, 5, 7, true),
-        (DIAGONAL, 2, -6, Half::Whole, 5, 7, false),
-        (DIAGONAL, 7, 5, Half::Cell, 4, 2, true),
-        (DIAGONAL, 4, 1, Half::Cell, 4, 2, false),
-        (BACKWARDS, 6, 4, Half::Whole, 3, 4, true),
-        (BACKWARDS, 11, -1, Half::Cell, 3, 4, false),
-        (BACKWARDS, -3, 4, Half::Cell, 5, 7, true),
-        (BACKWARDS, 7, -4, Half::Whole, 5, 7, false),
-        (BACKWARDS, 10, 4, Half::Whole, 4, 2, true),
-        (BACKWARDS, 1, 2, Half::Cell, 4, 2, false),
+fn an_octagon_meets_a_diagonal_edge_that_touches_it(rt: HostRuntime) {
+    for (x, y, half, s, u, meets) in [
+        (-3, 8, Half::Cell, 3, 4, true),
+        (2, 12, Half::Cell, 3, 4, false),
+        (6, -4, Half::Cell, 5, 7, true),
+        (12, 5, Half::Cell, 5, 7, false),
+        (-1, 9, Half::Whole, 4, 2, true),
+        (9, -3, Half::Cell, 4, 2, false),
     ] {
         assert!(rt;
-            octagon_meets(&e, Pt { x, y }, half, s, u) == meets,
+            octagon_meets(&FALLING, Pt { x, y }, half, s, u) == meets,
+            "at {x}, {y}, {s}, {u}"
+        );
+    }
+}
+
+#[test]
+fn an_octagon_meets_a_rising_edge_that_touches_it(rt: HostRuntime) {
+    for (x, y, half, s, u, meets) in [
+        (-3, -2, Half::Cell, 3, 4, true),
+        (0, 3, Half::Cell, 3, 4, false),
+        (-4, 3, Half::Whole, 5, 7, true),
+        (-5, -4, Half::Cell, 5, 7, false),
+        (9, 4, Half::Whole, 4, 2, true),
+        (-3, 0, Half::Whole, 4, 2, false),
+    ] {
+        assert!(rt;
+            octagon_meets(&RISING, Pt { x, y }, half, s, u) == meets,
+            "at {x}, {y}, {s}, {u}"
+        );
+    }
+}
+
+#[test]
+fn an_octagon_meets_a_steep_edge_that_touches_it(rt: HostRuntime) {
+    for (x, y, half, s, u, meets) in [
+        (1, 7, Half::Whole, 3, 4, true),
+        (2, 6, Half::Whole, 3, 4, false),
+        (-6, 1, Half::Cell, 5, 7, true),
+        (6, -2, Half::Whole, 5, 7, false),
+        (-5, 13, Half::Whole, 4, 2, true),
+        (-3, 0, Half::Cell, 4, 2, false),
+    ] {
+        assert!(rt;
+            octagon_meets(&STEEP_LEFT, Pt { x, y }, half, s, u) == meets,
             "at {x}, {y}, {s}, {u}"
         );
     }
