@@ -6,7 +6,7 @@ ghost use Rattle.scad_geom.specs.Loop.{sides, path};
 ghost use Rattle.plan_walls.specs.Walls.{of_leaf, rings_from, with_rings};
 
 use scad_geom::{Edge, LeafEdge, Pt};
-use scad_ring::ring;
+use scad_ring::octagon_ring;
 use std::alloc::{AllocError, Global};
 
 /// How many edges a wall has: the sides of its outlines, and those of the ring round each.
@@ -18,7 +18,7 @@ pub(crate) fn edge_count(around: &[Edge], c: u32) -> u64
 {
     let mut count = around.len() as u64;
     'around: for edge in around {
-        count += ring(edge, c).as_slice().len() as u64;
+        count += octagon_ring(edge, c).as_slice().len() as u64;
     }
     count
 }
@@ -59,7 +59,7 @@ fn push_rings(edges: &mut Vec<LeafEdge>, around: &[Edge], c: u32) -> Result<(), 
     ensures { OnOk result (edges.new.items ≡ edges.old.items ++ rings_from c 1 around.now) }
 {
     'around: for i in 0..around.len() {
-        push_sides(edges, i as u32 + 1, ring(&around[i], c).as_slice())?;
+        push_sides(edges, i as u32 + 1, octagon_ring(&around[i], c).as_slice())?;
     }
     Ok(())
 }
