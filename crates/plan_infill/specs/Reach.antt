@@ -1,9 +1,10 @@
 -- Where a row lies near to an edge: where the edge comes within the octagon round a point of the row, without its border.
-use Rattle.std.specs.Prelude.{◌↔◌, Bool, ◌&&◌, int_lt, ℕ, ℤ, pos, ◌+ℤ◌, ◌-ℤ◌, ◌*ℤ◌, ◌<ℤ◌, ◌≤ℤ◌, unsigned_abs}
+use Rattle.std.specs.Prelude.{◌↔◌, Bool, ◌&&◌, int_lt, ℕ, ℤ, pos, ◌+ℤ◌, ◌-ℤ◌, ◌*ℤ◌, ◌<ℤ◌, ◌≤ℤ◌}
 use Rattle.std.specs.Int.{int_min, int_max}
 use Rattle.scad_geom.specs.declared.point.Edge.{Edge}
 use Rattle.scad_geom.specs.Line.{low, high, rise, run, x_at}
 use Rattle.scad_ring.specs.Octagon.{slant, reach}
+use Rattle.scad_ring.specs.Tests.{breadth}
 use Rattle.plan_infill.specs.declared.stretch.Stretch.{Stretch}
 
 -- the edge with x and y exchanged
@@ -16,9 +17,7 @@ is_beside c y e = int_lt (pos 0) (pos c) && (int_lt ((low e).y -ℤ y) (pos c) &
 
 -- how far along a row the octagon's corners reach from an edge's line, times its rise
 abbrev pub line_reach : ℕ → Edge → ℤ
-line_reach c e =
-    let along : ℤ = pos (unsigned_abs (run e)) in
-    pos c *ℤ int_max along (rise e) +ℤ pos (slant c) *ℤ int_min along (rise e)
+line_reach c e = breadth (pos c) (pos (slant c)) (run e) (rise e)
 
 -- z lies less than w from what lies between a and b
 pub record IsAround (w a b z : ℤ) : Type 0 where
@@ -30,12 +29,15 @@ pub record IsBesideLine (c : ℕ) (y : ℤ) (e : Edge) (x : ℤ) : Type 0 where
   pub from : (x_at e y (pos 1) -ℤ line_reach c e) <ℤ (x *ℤ rise e)
   pub to : (x *ℤ rise e) <ℤ (x_at e y (pos 1) +ℤ line_reach c e)
 
--- An edge that lies beside a row comes near to its point at x: x, x + y and x - y aren't far from those of both ends, and x,
--- where the edge isn't flat, not from its line.
-pub record IsInReach (c : ℕ) (y : ℤ) (e : Edge) (x : ℤ) : Type 0 where
+-- x, x + y and x - y aren't far from those of an edge's ends
+pub record IsBesideEnds (c : ℕ) (y : ℤ) (e : Edge) (x : ℤ) : Type 0 where
   pub across : IsAround (pos c) (low e).x (high e).x x
   pub sum : IsAround (pos (reach c)) ((low e).x +ℤ (low e).y) ((high e).x +ℤ (high e).y) (x +ℤ y)
   pub difference : IsAround (pos (reach c)) ((low e).x -ℤ (low e).y) ((high e).x -ℤ (high e).y) (x -ℤ y)
+
+-- an edge that lies beside a row comes near to its point at x: by its ends and, where it isn't flat, by its line
+pub record IsInReach (c : ℕ) (y : ℤ) (e : Edge) (x : ℤ) : Type 0 where
+  pub ends : IsBesideEnds c y e x
   pub line : pos 0 <ℤ rise e → IsBesideLine c y e x
 
 -- the places of a stretch are those with a property
@@ -45,10 +47,6 @@ AreThose P s = (x : ℤ) → ((s.from ≤ℤ x) × (x <ℤ s.until)) ↔ P x
 -- the places that, moved on by a way, lie less than w from what lies between a and b
 abbrev pub around : ℤ → ℤ → ℤ → ℤ → Stretch
 around w a b way = record { from = ((int_min a b -ℤ w) +ℤ pos 1) -ℤ way; until = (int_max a b +ℤ w) -ℤ way }
-
--- the places of a stretch are those that aren't far from the line
-abbrev pub IsReachedByLine : ℕ → ℤ → Edge → Stretch → Type 0
-IsReachedByLine c y e s = AreThose (IsBesideLine c y e) s
 
 -- the places of a row to which an edge that lies beside it comes near
 abbrev pub IsReached : ℕ → ℤ → Edge → Stretch → Type 0

@@ -1,14 +1,15 @@
 //! Where edges come near along a line.
-ghost use Rattle.std.specs.Prelude.{◌≡◌, ◌+◌, ◌*◌, ◌^◌, ◌<◌, ◌≤◌, ◌&&◌, true, false, ◌+ℤ◌, ◌-ℤ◌, ◌*ℤ◌, pos, ◌<ℤ◌, ◌≤ℤ◌, int_lt, unsigned_abs, OnOk};
+ghost use Rattle.std.specs.Prelude.{◌≡◌, ◌+◌, ◌*◌, ◌^◌, ◌<◌, ◌≤◌, ◌&&◌, true, false, ◌+ℤ◌, ◌-ℤ◌, pos, ◌<ℤ◌, ◌≤ℤ◌, int_lt, unsigned_abs, OnOk};
 ghost use Rattle.std.specs.Int.{int_min, int_max};
 ghost use Rattle.scad_geom.specs.Limits.{coordinate_limit};
 ghost use Rattle.scad_geom.specs.Within.{IsEdgeWithin};
-ghost use Rattle.scad_geom.specs.Line.{low, high, rise, run, x_at};
+ghost use Rattle.scad_geom.specs.Line.{low, high, rise};
 ghost use Rattle.scad_ring.specs.Octagon.{reach};
+ghost use Rattle.scad_ring.specs.Tests.{breadth};
 ghost use Rattle.plan_infill.specs.declared.line.Line.TheVariants.{Row, Column};
 ghost use Rattle.plan_infill.specs.Steps.{Adds, Counts, AreNearSteps};
 ghost use Rattle.plan_infill.specs.Runs.{IsLineWithin};
-ghost use Rattle.plan_infill.specs.Reach.{exchanged, line_reach, is_beside, around, IsReached, IsReachedByLine};
+ghost use Rattle.plan_infill.specs.Reach.{exchanged, line_reach, is_beside, around, IsBesideEnds, IsBesideLine, IsReached, AreThose};
 
 use crate::line::Line;
 use crate::quotient::{ceiling, floor};
@@ -99,14 +100,9 @@ fn reached(e: &Edge, y: i32, c: u32) -> Stretch
     }
 }
 
-// Those at which no half plane of the octagon, but those upwards and downwards, leaves out both ends.
+// Those that aren't far from both ends, across or aslant.
 fn reached_by_ends(e: &Edge, y: i32, c: u32) -> Stretch
-    ensures from { result.from ≡ int_max (around (pos c) (low e.now).x (high e.now).x (pos 0)).from
-        (int_max (around (pos (reach c)) ((low e.now).x +ℤ (low e.now).y) ((high e.now).x +ℤ (high e.now).y) y).from
-        (around (pos (reach c)) ((low e.now).x -ℤ (low e.now).y) ((high e.now).x -ℤ (high e.now).y) (pos 0 -ℤ y)).from) }
-    ensures until { result.until ≡ int_min (around (pos c) (low e.now).x (high e.now).x (pos 0)).until
-        (int_min (around (pos (reach c)) ((low e.now).x +ℤ (low e.now).y) ((high e.now).x +ℤ (high e.now).y) y).until
-        (around (pos (reach c)) ((low e.now).x -ℤ (low e.now).y) ((high e.now).x -ℤ (high e.now).y) (pos 0 -ℤ y)).until) }
+    ensures { AreThose (IsBesideEnds c y e.now) result }
 {
     let (from, to, up) = (low(e), high(e), y as i128);
     let across = around(from.x as i128, to.x as i128, c as i128, 0);
@@ -156,7 +152,7 @@ fn reached_by_line(e: &Edge, y: i32, c: u32) -> Stretch
     requires edge { IsEdgeWithin coordinate_limit e.now }
     requires row { unsigned_abs y ≤ coordinate_limit }
     requires rises { pos 0 <ℤ rise e.now }
-    ensures { IsReachedByLine c y e.now result }
+    ensures { AreThose (IsBesideLine c y e.now) result }
 {
     let x = x_at(e, &Level { n: y as i128, d: 1 });
     let reach = line_reach(e, c);
@@ -169,12 +165,31 @@ fn reached_by_line(e: &Edge, y: i32, c: u32) -> Stretch
 fn line_reach(e: &Edge, c: u32) -> i128
     requires edge { IsEdgeWithin coordinate_limit e.now }
     ensures value { result ≡ line_reach c e.now }
-    ensures size { unsigned_abs result ≤ 2 ^ 57 }
+    ensures size { unsigned_abs result ≤ 2 ^ 60 }
 {
-    let (along, up) = (run(e).abs(), rise(e));
-    let far = times::<32, 24>(c as i128, along.max(up));
-    let near = times::<32, 24>(slant(c) as i128, along.min(up));
-    plus(far, near)
+    breadth(c as i128, slant(c) as i128, run(e), rise(e))
+}
+
+// How far the corners of the octagon with the corner (s, t) reach to the sides of a way that doesn't fall, times its
+// length.
+#[tactic(auto, using(scad_geom::proofs::Casts::casts), unfolding(scad_ring::specs::Tests::breadth))]
+fn breadth(s: i128, t: i128, x: i128, y: i128) -> i128
+    requires s { unsigned_abs s ≤ 2 ^ 32 }
+    requires t { unsigned_abs t ≤ 2 ^ 32 }
+    requires x { unsigned_abs x ≤ 2 ^ 24 }
+    requires y { unsigned_abs y ≤ 2 ^ 24 }
+    ensures value { result ≡ breadth s t x y }
+    ensures size { unsigned_abs result ≤ 2 ^ 60 }
+{
+    if y <= x {
+        plus(times::<32, 24>(s, x), times::<32, 24>(t, y))
+    } else if plus(x, y) <= 0 {
+        minus(times::<32, 24>(t, y), times::<32, 24>(s, x))
+    } else if 0 <= x {
+        plus(times::<32, 24>(s, y), times::<32, 24>(t, x))
+    } else {
+        minus(times::<32, 24>(s, y), times::<32, 24>(t, x))
+    }
 }
 
 // What lies in two stretches.

@@ -1,4 +1,4 @@
--- The count is that of the sides and of the corners of all rings, at most seven for each side.
+-- The count is that of the sides and of the corners of all rings, at most eleven for each side.
 use Rattle.std.proofs.Common.{◌≡◌, ◌+◌, ◌≤◌, List, [], length, drop, arith, sym, ◌∙◌}
 use Rattle.std.proofs.Common.{subst}
 use Rattle.std.specs.Prelude.{sum_by}
@@ -12,8 +12,8 @@ pub overflow_add-count : goal.overflow_add-count
 overflow_add-count c =
     let i = c.around.invariant in
     let s = sum_few c.args.c c.args.around.now in
-    let f : length c.as_slice.result.now ≤ 6 = subst (λ (l : List Pt). length l ≤ 6)
-    (sym (c.as_slice.ensures ∙ c.ring.ensures.corners)) (corner_few c.args.c _) in
+    let f : length c.as_slice.result.now ≤ 10 = subst (λ (l : List Pt). length l ≤ 10)
+    (sym (c.as_slice.ensures ∙ c.octagon_ring.ensures.corners)) (corner_few c.args.c _) in
     let w = c.well_formed.0.1 in
     omega (arith, i, s, f, w)
 
