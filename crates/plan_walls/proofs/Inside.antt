@@ -104,7 +104,7 @@ less_back : (n x y w : ℤ) → pos 0 ≤ℤ n → pos 0 <ℤ w → ((pos 0 -ℤ
     → (pos 0 -ℤ x) <ℤ w
 less_back n x y w some more h = less_first n (pos 0 -ℤ x) y w some more (at_most_as _ _ _ (sym (turned n x y)) h)
 
--- a half plane of the octagon whose bound is at least 2, and one whose bound is at least 1 and that bounds one coordinate
+-- a half plane whose bound is at least 2
 in_half_plane : (n m k x y w : ℤ) → pos 2 ≤ℤ k → pos 0 <ℤ w → (n *ℤ x +ℤ m *ℤ y) <ℤ (pos 2 *ℤ w)
     → (n *ℤ x +ℤ m *ℤ y) <ℤ (k *ℤ w)
 in_half_plane n m k x y w two more h =
