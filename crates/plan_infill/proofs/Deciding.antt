@@ -30,11 +30,6 @@ abbrev pub IsDecided : Type 0 → Type 0
 IsDecided P = P ⊎ (P → ⊥)
 
 -- ---- one edge
-in_both : (P Q : Type 0) → IsDecided P → IsDecided Q → IsDecided (P × Q)
-in_both P Q (inl p) (inl q) = inl (p, q)
-in_both P Q (inl p) (inr n) = inr (λ h. n h.1)
-in_both P Q (inr n) q = inr (λ h. n h.0)
-
 is_around : (w a b z : ℤ) → IsDecided (IsAround w a b z)
 is_around w a b z = by_cases (order z (int_min a b -ℤ w)) (order (int_max a b +ℤ w) z)
   where
@@ -45,20 +40,18 @@ is_around w a b z = by_cases (order z (int_min a b -ℤ w)) (order (int_max a b 
     by_cases (inr a) (inr b) = inl (record { from = a; to = b })
 
 beside_ends : (c : ℕ) (y : ℤ) (e : Edge) (x : ℤ) → IsDecided (IsBesideEnds c y e x)
-beside_ends c y e x = elim (in_both Across (Sum × Difference) (is_around _ _ _ _)
-    (in_both Sum Difference (is_around _ _ _ _) (is_around _ _ _ _))) [
-      | inl h ↦ inl (record { across = h.0; sum = h.1.0; difference = h.1.1 })
-      | inr n ↦ inr (λ i. n (i.across, (i.sum, i.difference)))
-    ]
+beside_ends c y e x = by_cases (is_around (pos c) (low e).x (high e).x x)
+    (is_around (pos (reach c)) ((low e).x +ℤ (low e).y) ((high e).x +ℤ (high e).y) (x +ℤ y))
+    (is_around (pos (reach c)) ((low e).x -ℤ (low e).y) ((high e).x -ℤ (high e).y) (x -ℤ y))
   where
-    abbrev Across : Type 0
-    Across = IsAround (pos c) (low e).x (high e).x x
-
-    abbrev Sum : Type 0
-    Sum = IsAround (pos (reach c)) ((low e).x +ℤ (low e).y) ((high e).x +ℤ (high e).y) (x +ℤ y)
-
-    abbrev Difference : Type 0
-    Difference = IsAround (pos (reach c)) ((low e).x -ℤ (low e).y) ((high e).x -ℤ (high e).y) (x -ℤ y)
+    by_cases : IsDecided (IsAround (pos c) (low e).x (high e).x x)
+        → IsDecided (IsAround (pos (reach c)) ((low e).x +ℤ (low e).y) ((high e).x +ℤ (high e).y) (x +ℤ y))
+        → IsDecided (IsAround (pos (reach c)) ((low e).x -ℤ (low e).y) ((high e).x -ℤ (high e).y) (x -ℤ y))
+        → IsDecided (IsBesideEnds c y e x)
+    by_cases (inl a) (inl s) (inl d) = inl (record { across = a; sum = s; difference = d })
+    by_cases (inr n) s d = inr (λ i. n i.across)
+    by_cases (inl a) (inr n) d = inr (λ i. n i.sum)
+    by_cases (inl a) (inl s) (inr n) = inr (λ i. n i.difference)
 
 abbrev IsOnLine : ℕ → ℤ → Edge → ℤ → Type 0
 IsOnLine c y e x = pos 0 <ℤ rise e → IsBesideLine c y e x
@@ -80,10 +73,12 @@ on_line c y e x =
     by_cases (inr rises) (inr a) (inr b) = inl (λ h. record { from = a; to = b })
 
 in_reach : (c : ℕ) (y : ℤ) (e : Edge) (x : ℤ) → IsDecided (IsInReach c y e x)
-in_reach c y e x = elim (in_both (IsBesideEnds c y e x) (IsOnLine c y e x) (beside_ends c y e x) (on_line c y e x)) [
-  | inl h ↦ inl (record { ends = h.0; line = h.1 })
-  | inr n ↦ inr (λ i. n (i.ends, i.line))
-]
+in_reach c y e x = by_cases (beside_ends c y e x) (on_line c y e x)
+  where
+    by_cases : IsDecided (IsBesideEnds c y e x) → IsDecided (IsOnLine c y e x) → IsDecided (IsInReach c y e x)
+    by_cases (inl b) (inl l) = inl (record { ends = b; line = l })
+    by_cases (inr n) l = inr (λ i. n i.ends)
+    by_cases (inl b) (inr n) = inr (λ i. n i.line)
 
 near_on_row : (c : ℕ) (y : ℤ) (e : Edge) (x : ℤ)
     → IsDecided (ComesNear c (Row y) x e)

@@ -1,17 +1,16 @@
 -- Where a segment that doesn't fall comes within the octagon of the half width c and the half sum u round the origin,
 -- without its border. Over K times the coordinates, with K great enough, it meets the closed octagon of K c - 1 and K u - 1.
-use Rattle.std.proofs.Common.{◌≡◌, ◌⊎◌, inl, inr, Bool, true, false, [], ◌∷◌, refl, sym, subst, ap₂, ◌∙◌, arith, ℤ, pos, neg_ℤ, ◌+ℤ◌, ◌-ℤ◌, ◌*ℤ◌, ◌<ℤ◌}
+use Rattle.std.proofs.Common.{◌≡◌, ◌⊎◌, inl, inr, Bool, true, false, [], ◌∷◌, refl, sym, ap, ap₂, ◌∙◌, arith, ℤ, pos, neg_ℤ, ◌+ℤ◌, ◌-ℤ◌, ◌*ℤ◌, ◌<ℤ◌}
 use lib.Signed.{◌≤ℤ◌}
 use Rattle.std.specs.Prelude.{if◌then◌else◌, int_le}
 use Rattle.std.proofs.lemmas.Int.{ints}
-use Rattle.std.proofs.lemmas.Bool.{both_ways}
 use Rattle.scad_base.proofs.Tests.{int_le-at_most}
 use Rattle.scad_geom.proofs.Signs.{at_least_mul, at_least_left, pos_left}
 use Rattle.scad_geom.proofs.Rising.{order}
 use Rattle.scad_geom.proofs.Ring.{ring, num, ◌⊕◌, ◌⊖◌, ◌⊗◌, v0, v1, v2, v3, v4, v5, v6, v7, v8}
 use Rattle.scad_ring.specs.Tests.{breadth}
 use Rattle.scad_ring.proofs.Convex.{Lies, cross}
-use Rattle.scad_ring.proofs.Octants.{End, Ends, Approach, IsSize, ends}
+use Rattle.scad_ring.proofs.Octants.{End, Ends, Approach, IsSize}
 use Rattle.scad_ring.proofs.Meetings.{facts, tests, approach_if_passes, passes_if_approach}
 
 -- ---- without a border
@@ -63,19 +62,31 @@ abbrev pub IsLineWithin : ℤ → ℤ → ℤ → ℤ → ℤ → ℤ → Type 0
 IsLineWithin c u ax ay bx by = pos 0 <ℤ length_of (bx -ℤ ax) (by -ℤ ay)
     → IsLess (breadth c (u -ℤ c) (bx -ℤ ax) (by -ℤ ay)) (cross ax ay bx by)
 
--- ---- lengths
-pub length_at_least : (x y : ℤ) → pos 0 ≤ℤ y → (y ≤ℤ length_of x y) × (x ≤ℤ length_of x y) × ((pos 0 -ℤ x) ≤ℤ length_of x y)
+-- ---- by a way's direction
+abbrev pub chosen : ℤ → ℤ → ℤ → ℤ → Bool → Bool → Bool → ℤ
+chosen s t x y p q r =
+    if p then s *ℤ x +ℤ t *ℤ y
+    else (if q then t *ℤ y -ℤ s *ℤ x
+    else (if r then s *ℤ y +ℤ t *ℤ x
+    else s *ℤ y -ℤ t *ℤ x))
+
+by_equal : (s t x y : ℤ) (a b c p q r : Bool) → a ≡ p → b ≡ q → c ≡ r → chosen s t x y a b c ≡ chosen s t x y p q r
+by_equal s t x y a b c p q r e f g = rw (e, f, g) refl
+
+pub by_direction : (s t x y : ℤ) (p q r : Bool) → int_le y x ≡ p → int_le (x +ℤ y) (pos 0) ≡ q → int_le (pos 0) x ≡ r
+    → breadth s t x y ≡ chosen s t x y p q r
+unfolding breadth
+by_direction s t x y p q r e f g =
+    by_equal s t x y (int_le y x) (int_le (x +ℤ y) (pos 0)) (int_le (pos 0) x) p q r e f g
+
+pub length_at_least : (x y : ℤ) → pos 0 ≤ℤ y
+    → (y ≤ℤ length_of x y) × (x ≤ℤ length_of x y) × ((pos 0 -ℤ x) ≤ℤ length_of x y)
 unfolding breadth
 length_at_least x y h = by_tests (int_le y x) (int_le (x +ℤ y) (pos 0)) (int_le (pos 0) x) refl refl refl
   where
-    abbrev by : Bool → Bool → Bool → ℤ
-    by t u v = if t then pos 1 *ℤ x +ℤ pos 0 *ℤ y
-        else (if u then pos 0 *ℤ y -ℤ pos 1 *ℤ x
-        else (if v then pos 1 *ℤ y +ℤ pos 0 *ℤ x
-        else pos 1 *ℤ y -ℤ pos 0 *ℤ x))
-
     by_tests : (t u v : Bool) → int_le y x ≡ t → int_le (x +ℤ y) (pos 0) ≡ u → int_le (pos 0) x ≡ v
-        → (y ≤ℤ by t u v) × (x ≤ℤ by t u v) × ((pos 0 -ℤ x) ≤ℤ by t u v)
+        → (y ≤ℤ chosen (pos 1) (pos 0) x y t u v) × (x ≤ℤ chosen (pos 1) (pos 0) x y t u v)
+        × ((pos 0 -ℤ x) ≤ℤ chosen (pos 1) (pos 0) x y t u v)
     by_tests true u v p q r = (omega (arith, ints, p, h), omega (arith, ints, p, h), omega (arith, ints, p, h))
     by_tests false true v p q r = (
       omega (arith, ints, p, q, h),
@@ -114,58 +125,43 @@ le_scaled k a b h = elim (order a b) [
     gap_back : (k a b : ℤ) → ((a -ℤ b) -ℤ pos 1) *ℤ k ≡ (k *ℤ a -ℤ k *ℤ b) -ℤ k
     gap_back k a b = ring (k ∷ a ∷ b ∷ []) (((v1 ⊖ v2) ⊖ num (pos 1)) ⊗ v0) ((v0 ⊗ v1 ⊖ v0 ⊗ v2) ⊖ v0) refl
 
+same_scaled : (k c t x y : ℤ) (p q r : Bool)
+    → chosen (k *ℤ c -ℤ pos 1) (k *ℤ t) (k *ℤ x) (k *ℤ y) p q r
+    ≡ k *ℤ (k *ℤ chosen c t x y p q r -ℤ chosen (pos 1) (pos 0) x y p q r)
+same_scaled k c t x y true q r = ring (k ∷ c ∷ t ∷ x ∷ y ∷ [])
+    ((v0 ⊗ v1 ⊖ num (pos 1)) ⊗ (v0 ⊗ v3) ⊕ (v0 ⊗ v2) ⊗ (v0 ⊗ v4))
+    (v0 ⊗ (v0 ⊗ (v1 ⊗ v3 ⊕ v2 ⊗ v4) ⊖ (num (pos 1) ⊗ v3 ⊕ num (pos 0) ⊗ v4))) refl
+same_scaled k c t x y false true r = ring (k ∷ c ∷ t ∷ x ∷ y ∷ [])
+    ((v0 ⊗ v2) ⊗ (v0 ⊗ v4) ⊖ (v0 ⊗ v1 ⊖ num (pos 1)) ⊗ (v0 ⊗ v3))
+    (v0 ⊗ (v0 ⊗ (v2 ⊗ v4 ⊖ v1 ⊗ v3) ⊖ (num (pos 0) ⊗ v4 ⊖ num (pos 1) ⊗ v3))) refl
+same_scaled k c t x y false false true = ring (k ∷ c ∷ t ∷ x ∷ y ∷ [])
+    ((v0 ⊗ v1 ⊖ num (pos 1)) ⊗ (v0 ⊗ v4) ⊕ (v0 ⊗ v2) ⊗ (v0 ⊗ v3))
+    (v0 ⊗ (v0 ⊗ (v1 ⊗ v4 ⊕ v2 ⊗ v3) ⊖ (num (pos 1) ⊗ v4 ⊕ num (pos 0) ⊗ v3))) refl
+same_scaled k c t x y false false false = ring (k ∷ c ∷ t ∷ x ∷ y ∷ [])
+    ((v0 ⊗ v1 ⊖ num (pos 1)) ⊗ (v0 ⊗ v4) ⊖ (v0 ⊗ v2) ⊗ (v0 ⊗ v3))
+    (v0 ⊗ (v0 ⊗ (v1 ⊗ v4 ⊖ v2 ⊗ v3) ⊖ (num (pos 1) ⊗ v4 ⊖ num (pos 0) ⊗ v3))) refl
+
 -- the tests of a way's direction are those of K times the way
-pub by_direction : (s t x y : ℤ) (p q r : Bool) → int_le y x ≡ p → int_le (x +ℤ y) (pos 0) ≡ q → int_le (pos 0) x ≡ r
-    → breadth s t x y ≡ (if p then s *ℤ x +ℤ t *ℤ y
-    else (if q then t *ℤ y -ℤ s *ℤ x
-    else (if r then s *ℤ y +ℤ t *ℤ x
-    else s *ℤ y -ℤ t *ℤ x)))
-unfolding breadth
-by_direction s t x y p q r e f g = rw (e, f, g) refl
+no_times : (k : ℤ) → pos 0 ≡ k *ℤ pos 0
+no_times k = ring (k ∷ []) (num (pos 0)) (v0 ⊗ num (pos 0)) refl
+
+rising_scaled : (k x y : ℤ) → pos 0 <ℤ k → int_le (k *ℤ x +ℤ k *ℤ y) (pos 0) ≡ int_le (x +ℤ y) (pos 0)
+rising_scaled k x y h =
+    let s : k *ℤ x +ℤ k *ℤ y ≡ k *ℤ (x +ℤ y) = ring (k ∷ x ∷ y ∷ []) (v0 ⊗ v1 ⊕ v0 ⊗ v2) (v0 ⊗ (v1 ⊕ v2)) refl in
+    ap₂ (λ (a b : ℤ). int_le a b) s (no_times k) ∙ le_scaled k (x +ℤ y) (pos 0) h
+
+right_scaled : (k x : ℤ) → pos 0 <ℤ k → int_le (pos 0) (k *ℤ x) ≡ int_le (pos 0) x
+right_scaled k x h = ap (λ (a : ℤ). int_le a (k *ℤ x)) (no_times k) ∙ le_scaled k (pos 0) x h
 
 breadth_scaled : (k c t x y : ℤ) → pos 0 <ℤ k
     → breadth (k *ℤ c -ℤ pos 1) (k *ℤ t) (k *ℤ x) (k *ℤ y) ≡ k *ℤ (k *ℤ breadth c t x y -ℤ length_of x y)
 breadth_scaled k c t x y h =
-    by_tests (int_le y x) (int_le (x +ℤ y) (pos 0)) (int_le (pos 0) x) refl refl refl
-  where
-    rising : (v : Bool) → int_le (x +ℤ y) (pos 0) ≡ v → int_le (k *ℤ x +ℤ k *ℤ y) (pos 0) ≡ v
-    rising v e =
-        let s : k *ℤ x +ℤ k *ℤ y ≡ k *ℤ (x +ℤ y) = ring (k ∷ x ∷ y ∷ []) (v0 ⊗ v1 ⊕ v0 ⊗ v2) (v0 ⊗ (v1 ⊕ v2)) refl in
-        let z : pos 0 ≡ k *ℤ pos 0 = ring (k ∷ []) (num (pos 0)) (v0 ⊗ num (pos 0)) refl in
-        ap₂ int_le s z ∙ le_scaled k (x +ℤ y) (pos 0) h ∙ e
-
-    right : (v : Bool) → int_le (pos 0) x ≡ v → int_le (pos 0) (k *ℤ x) ≡ v
-    right v e =
-        let z : pos 0 ≡ k *ℤ pos 0 = ring (k ∷ []) (num (pos 0)) (v0 ⊗ num (pos 0)) refl in
-        ap₂ int_le z refl ∙ le_scaled k (pos 0) x h ∙ e
-
-    abbrev by : ℤ → ℤ → ℤ → ℤ → Bool → Bool → Bool → ℤ
-    by s t x y p q r = if p then s *ℤ x +ℤ t *ℤ y
-        else (if q then t *ℤ y -ℤ s *ℤ x
-        else (if r then s *ℤ y +ℤ t *ℤ x
-        else s *ℤ y -ℤ t *ℤ x))
-
-    same : (p q r : Bool)
-        → by (k *ℤ c -ℤ pos 1) (k *ℤ t) (k *ℤ x) (k *ℤ y) p q r
-        ≡ k *ℤ (k *ℤ by c t x y p q r -ℤ by (pos 1) (pos 0) x y p q r)
-    same true q r = ring (k ∷ c ∷ t ∷ x ∷ y ∷ []) ((v0 ⊗ v1 ⊖ num (pos 1)) ⊗ (v0 ⊗ v3) ⊕ (v0 ⊗ v2) ⊗ (v0 ⊗ v4))
-        (v0 ⊗ (v0 ⊗ (v1 ⊗ v3 ⊕ v2 ⊗ v4) ⊖ (num (pos 1) ⊗ v3 ⊕ num (pos 0) ⊗ v4))) refl
-    same false true r = ring (k ∷ c ∷ t ∷ x ∷ y ∷ []) ((v0 ⊗ v2) ⊗ (v0 ⊗ v4) ⊖ (v0 ⊗ v1 ⊖ num (pos 1)) ⊗ (v0 ⊗ v3))
-        (v0 ⊗ (v0 ⊗ (v2 ⊗ v4 ⊖ v1 ⊗ v3) ⊖ (num (pos 0) ⊗ v4 ⊖ num (pos 1) ⊗ v3))) refl
-    same false false true = ring (k ∷ c ∷ t ∷ x ∷ y ∷ [])
-        ((v0 ⊗ v1 ⊖ num (pos 1)) ⊗ (v0 ⊗ v4) ⊕ (v0 ⊗ v2) ⊗ (v0 ⊗ v3))
-        (v0 ⊗ (v0 ⊗ (v1 ⊗ v4 ⊕ v2 ⊗ v3) ⊖ (num (pos 1) ⊗ v4 ⊕ num (pos 0) ⊗ v3))) refl
-    same false false false = ring (k ∷ c ∷ t ∷ x ∷ y ∷ [])
-        ((v0 ⊗ v1 ⊖ num (pos 1)) ⊗ (v0 ⊗ v4) ⊖ (v0 ⊗ v2) ⊗ (v0 ⊗ v3))
-        (v0 ⊗ (v0 ⊗ (v1 ⊗ v4 ⊖ v2 ⊗ v3) ⊖ (num (pos 1) ⊗ v4 ⊖ num (pos 0) ⊗ v3))) refl
-
-    by_tests : (p q r : Bool) → int_le y x ≡ p → int_le (x +ℤ y) (pos 0) ≡ q → int_le (pos 0) x ≡ r
-        → breadth (k *ℤ c -ℤ pos 1) (k *ℤ t) (k *ℤ x) (k *ℤ y) ≡ k *ℤ (k *ℤ breadth c t x y -ℤ length_of x y)
-    by_tests p q r e f g =
-        by_direction (k *ℤ c -ℤ pos 1) (k *ℤ t) (k *ℤ x) (k *ℤ y) p q r (le_scaled k y x h ∙ e) (rising q f) (right r g)
-        ∙ same p q r
-        ∙ ap₂ (λ (a b : ℤ). k *ℤ (k *ℤ a -ℤ b)) (sym (by_direction c t x y p q r e f g))
-        (sym (by_direction (pos 1) (pos 0) x y p q r e f g))
+    by_direction (k *ℤ c -ℤ pos 1) (k *ℤ t) (k *ℤ x) (k *ℤ y) (int_le y x) (int_le (x +ℤ y) (pos 0)) (int_le (pos 0) x)
+    (le_scaled k y x h) (rising_scaled k x y h) (right_scaled k x h)
+    ∙ same_scaled k c t x y (int_le y x) (int_le (x +ℤ y) (pos 0)) (int_le (pos 0) x)
+    ∙ ap₂ (λ (a b : ℤ). k *ℤ (k *ℤ a -ℤ b))
+    (sym (by_direction c t x y (int_le y x) (int_le (x +ℤ y) (pos 0)) (int_le (pos 0) x) refl refl refl))
+    (sym (by_direction (pos 1) (pos 0) x y (int_le y x) (int_le (x +ℤ y) (pos 0)) (int_le (pos 0) x) refl refl refl))
 
 cross_scaled : (k ax ay bx by : ℤ) → cross (k *ℤ ax) (k *ℤ ay) (k *ℤ bx) (k *ℤ by) ≡ k *ℤ (k *ℤ cross ax ay bx by)
 cross_scaled k ax ay bx by = ring (k ∷ ax ∷ ay ∷ bx ∷ by ∷ []) ((v0 ⊗ v1) ⊗ (v0 ⊗ v4) ⊖ (v0 ⊗ v2) ⊗ (v0 ⊗ v3))
@@ -192,6 +188,19 @@ difference_is a b k = ring (a ∷ b ∷ k ∷ []) ((v0 ⊖ v1) ⊗ v2) (v0 ⊗ v
 
 factor_first : (k c : ℤ) → c *ℤ k ≡ k *ℤ c
 factor_first k c = ring (k ∷ c ∷ []) (v1 ⊗ v0) (v0 ⊗ v1) refl
+
+-- the gap between the breadth and the distance from the line, K times, less the length
+pub record Gaps (k c u ax ay bx by : ℤ) : Type 0 where
+  pub most : pos 0 ≤ℤ (k *ℤ (breadth c (u -ℤ c) (bx -ℤ ax) (by -ℤ ay) -ℤ cross ax ay bx by) -ℤ
+      length_of (bx -ℤ ax) (by -ℤ ay))
+  pub least : pos 0 ≤ℤ (k *ℤ (breadth c (u -ℤ c) (bx -ℤ ax) (by -ℤ ay) +ℤ cross ax ay bx by) -ℤ
+      length_of (bx -ℤ ax) (by -ℤ ay))
+
+parted : (k b x l : ℤ) → (k *ℤ (b -ℤ x) -ℤ l) *ℤ k ≡ k *ℤ (k *ℤ b -ℤ l) -ℤ k *ℤ (k *ℤ x)
+parted k b x l = ring (k ∷ b ∷ x ∷ l ∷ []) ((v0 ⊗ (v1 ⊖ v2) ⊖ v3) ⊗ v0) (v0 ⊗ (v0 ⊗ v1 ⊖ v3) ⊖ v0 ⊗ (v0 ⊗ v2)) refl
+
+parted_back : (k b x l : ℤ) → (k *ℤ (b +ℤ x) -ℤ l) *ℤ k ≡ k *ℤ (k *ℤ b -ℤ l) +ℤ k *ℤ (k *ℤ x)
+parted_back k b x l = ring (k ∷ b ∷ x ∷ l ∷ []) ((v0 ⊗ (v1 ⊕ v2) ⊖ v3) ⊗ v0) (v0 ⊗ (v0 ⊗ v1 ⊖ v3) ⊕ v0 ⊗ (v0 ⊗ v2)) refl
 
 module _ (k c u ax ay bx by : ℤ) (h : pos 0 <ℤ k) where
   abbrev pub ScaledEnd : ℤ → ℤ → ℤ → Type 0
@@ -250,13 +259,6 @@ module _ (k c u ax ay bx by : ℤ) (h : pos 0 <ℤ k) where
   }
 
   -- ---- the line
-  -- the gap between the breadth and the distance from the line, K times, less the length
-  pub record Gaps : Type 0 where
-    pub most : pos 0 ≤ℤ (k *ℤ (breadth c (u -ℤ c) (bx -ℤ ax) (by -ℤ ay) -ℤ cross ax ay bx by) -ℤ
-        length_of (bx -ℤ ax) (by -ℤ ay))
-    pub least : pos 0 ≤ℤ (k *ℤ (breadth c (u -ℤ c) (bx -ℤ ax) (by -ℤ ay) +ℤ cross ax ay bx by) -ℤ
-        length_of (bx -ℤ ax) (by -ℤ ay))
-
   abbrev ScaledLine : Type 0
   ScaledLine = IsSize (breadth (k *ℤ c -ℤ pos 1) ((k *ℤ u -ℤ pos 1) -ℤ (k *ℤ c -ℤ pos 1)) (k *ℤ bx -ℤ k *ℤ ax)
       (k *ℤ by -ℤ k *ℤ ay)) (cross (k *ℤ ax) (k *ℤ ay) (k *ℤ bx) (k *ℤ by))
@@ -271,7 +273,7 @@ module _ (k c u ax ay bx by : ℤ) (h : pos 0 <ℤ k) where
       let y : k *ℤ by -ℤ k *ℤ ay ≡ k *ℤ (by -ℤ ay) = ring (k ∷ by ∷ ay ∷ []) (v0 ⊗ v1 ⊖ v0 ⊗ v2) (v0 ⊗ (v1 ⊖ v2)) refl in
       rw (t, x, y) (breadth_scaled k c (u -ℤ c) (bx -ℤ ax) (by -ℤ ay) h)
 
-  line_up : Gaps → ScaledLine
+  line_up : Gaps k c u ax ay bx by → ScaledLine
   line_up g =
       let b : ℤ = breadth c (u -ℤ c) (bx -ℤ ax) (by -ℤ ay) in
       let l : ℤ = length_of (bx -ℤ ax) (by -ℤ ay) in
@@ -283,14 +285,7 @@ module _ (k c u ax ay bx by : ℤ) (h : pos 0 <ℤ k) where
       let e = line_is in
       let f = cross_scaled k ax ay bx by in
       record { least = omega (arith, ints, n, q, e, f); most = omega (arith, ints, m, p, e, f) }
-    where
-      parted : (k b x l : ℤ) → (k *ℤ (b -ℤ x) -ℤ l) *ℤ k ≡ k *ℤ (k *ℤ b -ℤ l) -ℤ k *ℤ (k *ℤ x)
-      parted k b x l = ring (k ∷ b ∷ x ∷ l ∷ []) ((v0 ⊗ (v1 ⊖ v2) ⊖ v3) ⊗ v0) (v0 ⊗ (v0 ⊗ v1 ⊖ v3) ⊖ v0 ⊗ (v0 ⊗ v2)) refl
-
-      parted_back : (k b x l : ℤ) → (k *ℤ (b +ℤ x) -ℤ l) *ℤ k ≡ k *ℤ (k *ℤ b -ℤ l) +ℤ k *ℤ (k *ℤ x)
-      parted_back k b x l = ring (k ∷ b ∷ x ∷ l ∷ []) ((v0 ⊗ (v1 ⊕ v2) ⊖ v3) ⊗ v0) (v0 ⊗ (v0 ⊗ v1 ⊖ v3) ⊕ v0 ⊗ (v0 ⊗ v2)) refl
-
-  line_down : ScaledLine → Gaps
+  line_down : ScaledLine → Gaps k c u ax ay bx by
   line_down s =
       let b : ℤ = breadth c (u -ℤ c) (bx -ℤ ax) (by -ℤ ay) in
       let l : ℤ = length_of (bx -ℤ ax) (by -ℤ ay) in
@@ -305,13 +300,6 @@ module _ (k c u ax ay bx by : ℤ) (h : pos 0 <ℤ k) where
         most = at_least_left (k *ℤ (b -ℤ x) -ℤ l) k h (omega (arith, ints, m, p, e, f));
         least = at_least_left (k *ℤ (b +ℤ x) -ℤ l) k h (omega (arith, ints, n, q, e, f));
       }
-    where
-      parted : (k b x l : ℤ) → (k *ℤ (b -ℤ x) -ℤ l) *ℤ k ≡ k *ℤ (k *ℤ b -ℤ l) -ℤ k *ℤ (k *ℤ x)
-      parted k b x l = ring (k ∷ b ∷ x ∷ l ∷ []) ((v0 ⊗ (v1 ⊖ v2) ⊖ v3) ⊗ v0) (v0 ⊗ (v0 ⊗ v1 ⊖ v3) ⊖ v0 ⊗ (v0 ⊗ v2)) refl
-
-      parted_back : (k b x l : ℤ) → (k *ℤ (b +ℤ x) -ℤ l) *ℤ k ≡ k *ℤ (k *ℤ b -ℤ l) +ℤ k *ℤ (k *ℤ x)
-      parted_back k b x l = ring (k ∷ b ∷ x ∷ l ∷ []) ((v0 ⊗ (v1 ⊕ v2) ⊖ v3) ⊗ v0) (v0 ⊗ (v0 ⊗ v1 ⊖ v3) ⊕ v0 ⊗ (v0 ⊗ v2)) refl
-
   -- ---- means
   within : (n m w s t : ℤ) → pos 0 <ℤ (s +ℤ t) → Lies n m (k *ℤ w -ℤ pos 1) s t (k *ℤ ax) (k *ℤ ay) (k *ℤ bx) (k *ℤ by)
       → LiesWithin n m w s t ax ay bx by
@@ -370,18 +358,37 @@ module _ (k c u ax ay bx by : ℤ) (h : pos 0 <ℤ k) where
         let q = factor_first k ay in
         omega (arith, ints, g, e, p, q)
 
-    pub inside_if : EndsWithin c u ax ay bx by → Gaps → Inside c u ax ay bx by
+    pub inside_if : EndsWithin c u ax ay bx by → Gaps k c u ax ay bx by → Inside c u ax ay bx by
     inside_if e g = inside_of (approach_if_passes (k *ℤ c -ℤ pos 1) (k *ℤ u -ℤ pos 1) (k *ℤ ax) (k *ℤ ay) (k *ℤ bx)
         (k *ℤ by) width wider narrow rises
         (tests (k *ℤ c -ℤ pos 1) (k *ℤ u -ℤ pos 1) (k *ℤ ax) (k *ℤ ay) (k *ℤ bx) (k *ℤ by) (ends_up e) (line_up g)))
 
     pub told_if : Approach (k *ℤ c -ℤ pos 1) (k *ℤ u -ℤ pos 1) (k *ℤ ax) (k *ℤ ay) (k *ℤ bx) (k *ℤ by)
-        → EndsWithin c u ax ay bx by × Gaps
+        → EndsWithin c u ax ay bx by × Gaps k c u ax ay bx by
     told_if a =
         let f = facts (k *ℤ c -ℤ pos 1) (k *ℤ u -ℤ pos 1) (k *ℤ ax) (k *ℤ ay) (k *ℤ bx) (k *ℤ by)
         (passes_if_approach (k *ℤ c -ℤ pos 1) (k *ℤ u -ℤ pos 1) (k *ℤ ax) (k *ℤ ay) (k *ℤ bx) (k *ℤ by) width wider narrow
         rises a) in
         (ends_down f.0, line_down f.1)
+
+-- ---- of a point
+point_breadth : (s t x y : ℤ) → x ≡ pos 0 → y ≡ pos 0 → breadth s t x y ≡ pos 0
+point_breadth s t x y hx hy =
+    by_direction s t x y true (int_le (x +ℤ y) (pos 0)) (int_le (pos 0) x)
+    (int_le-at_most y x (omega (arith, ints, hx, hy))) refl refl
+    ∙ ap₂ (λ (a b : ℤ). s *ℤ a +ℤ t *ℤ b) hx hy
+    ∙ ring (s ∷ t ∷ []) (v0 ⊗ num (pos 0) ⊕ v1 ⊗ num (pos 0)) (num (pos 0)) refl
+
+point_cross : (ax ay bx by : ℤ) → ax ≡ bx → ay ≡ by → cross ax ay bx by ≡ pos 0
+point_cross ax ay bx by x y =
+    ap₂ (λ (a b : ℤ). ax *ℤ b -ℤ ay *ℤ a) (sym x) (sym y)
+    ∙ ring (ax ∷ ay ∷ []) (v0 ⊗ v1 ⊖ v1 ⊗ v0) (num (pos 0)) refl
+
+no_gap : (k g l : ℤ) → g ≡ pos 0 → l ≡ pos 0 → pos 0 ≤ℤ (k *ℤ g -ℤ l)
+no_gap k g l hg hl =
+    let m : k *ℤ g ≡ k *ℤ pos 0 = ap (λ (z : ℤ). k *ℤ z) hg in
+    let n = no_times k in
+    omega (arith, ints, m, n, hl)
 
 -- ---- with K one more than the length
 module _ (c u ax ay bx by : ℤ) (thin : u <ℤ (pos 2 *ℤ c)) (wide : c ≤ℤ u) (some : pos 0 <ℤ c)
@@ -401,22 +408,16 @@ module _ (c u ax ay bx by : ℤ) (thin : u <ℤ (pos 2 *ℤ c)) (wide : c ≤ℤ
       omega (arith, ints, m, e)
 
   point_gaps : ax ≡ bx → ay ≡ by → Gaps (l +ℤ pos 1) c u ax ay bx by
-  unfolding breadth
   point_gaps x y =
-      subst (λ (z : ℤ). Gaps (length_of (z -ℤ ax) (by -ℤ ay) +ℤ pos 1) c u ax ay z by) x
-      (subst (λ (z : ℤ). Gaps (length_of (ax -ℤ ax) (z -ℤ ay) +ℤ pos 1) c u ax ay ax z) y (at_point ax ay))
-    where
-      at_point : (ax ay : ℤ) → Gaps (length_of (ax -ℤ ax) (ay -ℤ ay) +ℤ pos 1) c u ax ay ax ay
-      at_point ax ay =
-          let x : ax -ℤ ax ≡ pos 0 = omega (arith, ints) in
-          let y : ay -ℤ ay ≡ pos 0 = omega (arith, ints) in
-          let o : length_of (ax -ℤ ax) (ay -ℤ ay) ≡ pos 0 = rw (x, y) refl in
-          let w : breadth c (u -ℤ c) (ax -ℤ ax) (ay -ℤ ay) ≡ pos 0 = rw (x, y) (nothing c (u -ℤ c)) in
-          let z : cross ax ay ax ay ≡ pos 0 = ring (ax ∷ ay ∷ []) (v0 ⊗ v1 ⊖ v1 ⊗ v0) (num (pos 0)) refl in
-          record { most = rw (o, w, z) (omega (arith, ints)); least = rw (o, w, z) (omega (arith, ints)) }
-
-      nothing : (c t : ℤ) → c *ℤ pos 0 +ℤ t *ℤ pos 0 ≡ pos 0
-      nothing c t = ring (c ∷ t ∷ []) (v0 ⊗ num (pos 0) ⊕ v1 ⊗ num (pos 0)) (num (pos 0)) refl
+      let z : bx -ℤ ax ≡ pos 0 = omega (arith, ints, x) in
+      let w : by -ℤ ay ≡ pos 0 = omega (arith, ints, y) in
+      let o : l ≡ pos 0 = point_breadth (pos 1) (pos 0) (bx -ℤ ax) (by -ℤ ay) z w in
+      let b_none : b ≡ pos 0 = point_breadth c (u -ℤ c) (bx -ℤ ax) (by -ℤ ay) z w in
+      let k = point_cross ax ay bx by x y in
+      record {
+        most = no_gap (l +ℤ pos 1) (b -ℤ cross ax ay bx by) l (omega (arith, ints, b_none, k)) o;
+        least = no_gap (l +ℤ pos 1) (b +ℤ cross ax ay bx by) l (omega (arith, ints, b_none, k)) o;
+      }
 
   gaps : IsLineWithin c u ax ay bx by → Gaps (l +ℤ pos 1) c u ax ay bx by
   gaps line =

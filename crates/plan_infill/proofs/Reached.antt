@@ -209,9 +209,10 @@ flat_line : (c t x h : ℤ) → h <ℤ c → (pos 0 -ℤ c) <ℤ h → pos 0 <�
 flat_line c t x h over under long = by_order (order (pos 0) x)
     (λ o.
     let p : int_le (pos 0) x ≡ true = sym (omega (arith, ints, o)) in
-    let f : int_le (x +ℤ pos 0) (pos 0) ≡ int_le (x +ℤ pos 0) (pos 0) = refl in
-    let l = by_direction (pos 1) (pos 0) x (pos 0) true (int_le (x +ℤ pos 0) (pos 0)) (int_le (pos 0) x) p f refl in
-    let b = by_direction c t x (pos 0) true (int_le (x +ℤ pos 0) (pos 0)) (int_le (pos 0) x) p f refl in
+    let l : length_of x (pos 0) ≡ pos 1 *ℤ x +ℤ pos 0 *ℤ pos 0 = by_direction (pos 1) (pos 0) x (pos 0) true
+    (int_le (x +ℤ pos 0) (pos 0)) (int_le (pos 0) x) p refl refl in
+    let b : breadth c t x (pos 0) ≡ c *ℤ x +ℤ t *ℤ pos 0 = by_direction c t x (pos 0) true
+    (int_le (x +ℤ pos 0) (pos 0)) (int_le (pos 0) x) p refl refl in
     let some : pos 0 <ℤ x = omega (arith, ints, long, l) in
     let m = positive_product (c -ℤ h) x (omega (arith, ints, over)) some in
     let n = positive_product (c +ℤ h) x (omega (arith, ints, under)) some in
@@ -221,7 +222,8 @@ flat_line c t x h over under long = by_order (order (pos 0) x)
     (λ o.
     let p : int_le (pos 0) x ≡ false = sym (omega (arith, ints, o)) in
     let q : int_le (x +ℤ pos 0) (pos 0) ≡ true = sym (omega (arith, ints, o)) in
-    let b = by_direction c t x (pos 0) false true (int_le (pos 0) x) p q refl in
+    let b : breadth c t x (pos 0) ≡ t *ℤ pos 0 -ℤ c *ℤ x = by_direction c t x (pos 0) false true (int_le (pos 0) x) p q
+    refl in
     let some : pos 0 <ℤ (pos 0 -ℤ x) = omega (arith, ints, o) in
     let m = positive_product (c -ℤ h) (pos 0 -ℤ x) (omega (arith, ints, over)) some in
     let n = positive_product (c +ℤ h) (pos 0 -ℤ x) (omega (arith, ints, under)) some in
