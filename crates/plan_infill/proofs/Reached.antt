@@ -11,7 +11,7 @@ use Rattle.scad_base.proofs.Products.{positive_product}
 use Rattle.scad_geom.specs.declared.point.Pt.{Pt}
 use Rattle.scad_geom.specs.declared.point.Edge.{Edge}
 use Rattle.scad_geom.specs.Line.{low, high, rise, run, x_at}
-use Rattle.scad_geom.specs.Point.{Point, whole}
+use Rattle.scad_geom.specs.Point.{whole}
 use Rattle.scad_geom.proofs.Rising.{by_order, order}
 use Rattle.scad_geom.proofs.Signs.{pos_left}
 use Rattle.scad_geom.proofs.Bounds.{rise_at_least}
@@ -467,23 +467,23 @@ no_near_steps c y e h = record {
 swapped : (n m x y w : ℤ) → (n *ℤ x +ℤ m *ℤ y) <ℤ w → (m *ℤ y +ℤ n *ℤ x) <ℤ w
 swapped n m x y w h = omega (arith, ints, h)
 
-exchange_near : (c u : ℤ) (p : Point) → AllByRecursion (Bounds Open p) (octagon c u)
-    → AllByRecursion (Bounds Open (record { x = p.y; y = p.x; d = p.d })) (octagon c u)
-exchange_near c u p h = (
-  swapped (pos 0) (pos 1) p.x p.y (c *ℤ p.d) h.1.1.0,
+exchange_near : (c u x y d : ℤ) → AllByRecursion (Bounds Open (record { x = x; y = y; d = d })) (octagon c u)
+    → AllByRecursion (Bounds Open (record { x = y; y = x; d = d })) (octagon c u)
+exchange_near c u x y d h = (
+  swapped (pos 0) (pos 1) x y (c *ℤ d) h.1.1.0,
   (
-    swapped (pos 0) (neg_ℤ (pos 1)) p.x p.y (c *ℤ p.d) h.1.1.1.0,
+    swapped (pos 0) (neg_ℤ (pos 1)) x y (c *ℤ d) h.1.1.1.0,
     (
-      swapped (pos 1) (pos 0) p.x p.y (c *ℤ p.d) h.0,
+      swapped (pos 1) (pos 0) x y (c *ℤ d) h.0,
       (
-        swapped (neg_ℤ (pos 1)) (pos 0) p.x p.y (c *ℤ p.d) h.1.0,
+        swapped (neg_ℤ (pos 1)) (pos 0) x y (c *ℤ d) h.1.0,
         (
-          swapped (pos 1) (pos 1) p.x p.y (u *ℤ p.d) h.1.1.1.1.0,
+          swapped (pos 1) (pos 1) x y (u *ℤ d) h.1.1.1.1.0,
           (
-            swapped (neg_ℤ (pos 1)) (pos 1) p.x p.y (u *ℤ p.d) h.1.1.1.1.1.1.0,
+            swapped (neg_ℤ (pos 1)) (pos 1) x y (u *ℤ d) h.1.1.1.1.1.1.0,
             (
-              swapped (pos 1) (neg_ℤ (pos 1)) p.x p.y (u *ℤ p.d) h.1.1.1.1.1.0,
-              (swapped (neg_ℤ (pos 1)) (neg_ℤ (pos 1)) p.x p.y (u *ℤ p.d) h.1.1.1.1.1.1.1.0, tt),
+              swapped (pos 1) (neg_ℤ (pos 1)) x y (u *ℤ d) h.1.1.1.1.1.0,
+              (swapped (neg_ℤ (pos 1)) (neg_ℤ (pos 1)) x y (u *ℤ d) h.1.1.1.1.1.1.1.0, tt),
             ),
           ),
         ),
@@ -492,6 +492,13 @@ exchange_near c u p h = (
   ),
 )
 
+-- a mean of a and b as z sees it, and its divisor
+abbrev axis : ℤ → ℤ → ℤ → ℤ → ℤ → ℤ
+axis s t a b z = (s *ℤ a +ℤ t *ℤ b) *ℤ pos 1 -ℤ z *ℤ (s *ℤ pos 1 +ℤ t *ℤ pos 1)
+
+abbrev divisor : ℤ → ℤ → ℤ
+divisor s t = (s *ℤ pos 1 +ℤ t *ℤ pos 1) *ℤ pos 1
+
 pub exchange : (c : ℕ) (x z : ℤ) (e : Edge) → ComesNear c (Row x) z (exchanged e) → ComesNear c (Column x) z e
 exchange c x z e f = record {
   s = f.s;
@@ -499,7 +506,8 @@ exchange c x z e f = record {
   from = f.from;
   to = f.to;
   some = f.some;
-  near = exchange_near (pos c) (pos (reach c)) _ f.near;
+  near = exchange_near (pos c) (pos (reach c)) (axis f.s f.t e.a.y e.b.y z) (axis f.s f.t e.a.x e.b.x x)
+      (divisor f.s f.t) f.near;
 }
 
 pub exchange_back : (c : ℕ) (x z : ℤ) (e : Edge) → ComesNear c (Column x) z e → ComesNear c (Row x) z (exchanged e)
@@ -509,7 +517,8 @@ exchange_back c x z e f = record {
   from = f.from;
   to = f.to;
   some = f.some;
-  near = exchange_near (pos c) (pos (reach c)) _ f.near;
+  near = exchange_near (pos c) (pos (reach c)) (axis f.s f.t e.a.x e.b.x x) (axis f.s f.t e.a.y e.b.y z)
+      (divisor f.s f.t) f.near;
 }
 
 pub exchanged_steps : (c : ℕ) (x : ℤ) (e : Edge) (steps : List Step) → AreNearSteps c (Row x) (exchanged e) steps
@@ -591,13 +600,18 @@ ends_those c y e s h x = (
   (λ p.
       let i = (h x).0 p in
       record {
-        across = moved _ _ _ _ _ (omega (arith, ints)) i.0;
+        across = moved (pos c) (low e).x (high e).x (x +ℤ pos 0) x (omega (arith, ints)) i.0;
         sum = i.1.0;
-        difference = moved _ _ _ _ _ (omega (arith, ints)) i.1.1;
+        difference = moved (pos (reach c)) ((low e).x -ℤ (low e).y) ((high e).x -ℤ (high e).y) (x +ℤ (pos 0 -ℤ y))
+            (x -ℤ y) (omega (arith, ints)) i.1.1;
       }),
   (λ i. (h x).1 (
-    moved _ _ _ _ _ (omega (arith, ints)) i.across,
-    (i.sum, moved _ _ _ _ _ (omega (arith, ints)) i.difference),
+    moved (pos c) (low e).x (high e).x x (x +ℤ pos 0) (omega (arith, ints)) i.across,
+    (
+      i.sum,
+      moved (pos (reach c)) ((low e).x -ℤ (low e).y) ((high e).x -ℤ (high e).y) (x -ℤ y) (x +ℤ (pos 0 -ℤ y))
+          (omega (arith, ints)) i.difference,
+    ),
   )),
 )
 
