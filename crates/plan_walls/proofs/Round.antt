@@ -1,5 +1,5 @@
 -- The ring round an edge winds round each point that the edge comes near to by the octagon without its border.
-use Rattle.std.proofs.Common.{◌≡◌, ℕ, ◌≤◌, Bool, List, [], ◌∷◌, ◌++◌, arith, ℤ, pos, negsuc, ◌+ℤ◌, ◌*ℤ◌, ◌<ℤ◌}
+use Rattle.std.proofs.Common.{◌≡◌, ℕ, ◌≤◌, Bool, List, [], ◌∷◌, ◌++◌, length, arith, ℤ, pos, negsuc, ◌+ℤ◌, ◌*ℤ◌, ◌<ℤ◌}
 use Rattle.std.specs.List.{AllByRecursion}
 use Rattle.std.proofs.lemmas.Int.{ints}
 use Rattle.std.proofs.lemmas.List.Elements.{recursion_from_All, All-from_recursion}
@@ -11,15 +11,13 @@ use Rattle.scad_geom.specs.Near.{mean}
 use Rattle.scad_geom.specs.Segment.{segments}
 use Rattle.scad_geom.specs.Loop.{path, sides}
 use Rattle.scad_geom.specs.Winding.{wind_by}
-use Rattle.scad_ring.specs.declared.direction.Direction.{Direction}
-use Rattle.scad_ring.specs.declared.direction.Direction.TheVariants.{Still, Flat, Right, DiagonalRight, SteepRight, Upright, SteepLeft, DiagonalLeft, Left}
-use Rattle.scad_ring.specs.Octagon.{slant, reach, octagon_of}
+use Rattle.scad_ring.specs.Octagon.{reach, octagon_of}
 use Rattle.scad_ring.specs.Nearness.{Open, Meets}
 use Rattle.scad_ring.specs.Ring.{IsLeftOf, AllTurnLeft}
 use Rattle.scad_ring.specs.OctagonRing.{IsOctagonRing}
-use Rattle.scad_ring.specs.OctagonCorners.{eight_sided, four_sided, octagon_corners}
+use Rattle.scad_ring.specs.OctagonCorners.{octagon_corners}
 use Rattle.scad_ring.proofs.Opened.{shifted, IsStep, near_shifted}
-use Rattle.scad_ring.proofs.Shapes.{by_shape}
+use Rattle.scad_ring.proofs.Shapes.{octagon_corners-several}
 use Rattle.scad_ring.proofs.Ways.{octagon_ring_is}
 use Rattle.plan_walls.specs.Rings.{IsStrictlyLeftOf}
 use Rattle.plan_walls.proofs.Rings.{left_is_wound}
@@ -51,31 +49,13 @@ HasTwo [] = ⊥
 HasTwo (p ∷ []) = ⊥
 HasTwo (p ∷ r ∷ ps) = Unit {0}
 
-eight_two : (c t : ℤ) (p r : Pt) (w : Direction) → HasTwo (eight_sided c t p r w)
-eight_two c t p r Still = tt
-eight_two c t p r Flat = tt
-eight_two c t p r Right = tt
-eight_two c t p r DiagonalRight = tt
-eight_two c t p r SteepRight = tt
-eight_two c t p r Upright = tt
-eight_two c t p r SteepLeft = tt
-eight_two c t p r DiagonalLeft = tt
-eight_two c t p r Left = tt
-
-four_two : (c : ℤ) (p r : Pt) (w : Direction) → HasTwo (four_sided c p r w)
-four_two c p r Still = tt
-four_two c p r Flat = tt
-four_two c p r Right = tt
-four_two c p r DiagonalRight = tt
-four_two c p r SteepRight = tt
-four_two c p r Upright = tt
-four_two c p r SteepLeft = tt
-four_two c p r DiagonalLeft = tt
-four_two c p r Left = tt
+several_two : (l : List Pt) → 3 ≤ length l → HasTwo l
+several_two [] h = omega (arith, h)
+several_two (p ∷ []) h = omega (arith, h)
+several_two (p ∷ r ∷ ps) h = tt
 
 two_corners : (c : ℕ) (e : Edge) → HasTwo (octagon_corners c e)
-two_corners c e = by_shape HasTwo c e (eight_two (pos c) (pos (slant c)) e.a e.b)
-    (eight_two (pos c) (pos (slant c)) e.b e.a) (four_two (pos c) e.a e.b) (four_two (pos c) e.b e.a)
+two_corners c e = several_two (octagon_corners c e) (octagon_corners-several c e)
 
 -- ---- steps by one along an axis
 to_right : IsStep (pos 1) (pos 0)
