@@ -3,6 +3,7 @@ ghost use Rattle.std.specs.Prelude.{◌≡◌, ◌+◌, ◌<◌, ◌≤◌, ◌^
 ghost use Rattle.scad_geom.specs.Limits.{point_limit};
 ghost use Rattle.scad_geom.specs.Within.{IsEdgeWithin};
 ghost use Rattle.scad_geom.specs.Loop.{sides, path};
+ghost use Rattle.scad_ring.specs.OctagonCorners.{octagon_corners};
 ghost use Rattle.plan_walls.specs.Walls.{of_leaf, rings_from, with_rings};
 
 use scad_geom::{Edge, LeafEdge, Pt};
@@ -18,9 +19,20 @@ pub(crate) fn edge_count(around: &[Edge], c: u32) -> u64
 {
     let mut count = around.len() as u64;
     'around: for edge in around {
-        count += octagon_ring(edge, c).as_slice().len() as u64;
+        count += corner_count(edge, c);
     }
     count
+}
+
+// How many corners the ring round an edge has.
+fn corner_count(e: &Edge, c: u32) -> u64
+    requires edge { IsEdgeWithin point_limit e.now }
+    requires positive { 1 ≤ c }
+    requires width { c ≤ 100000 }
+    ensures value { result ≡ length (octagon_corners c e.now) }
+    ensures few { result ≤ 10 }
+{
+    octagon_ring(e, c).as_slice().len() as u64
 }
 
 /// The sides of outlines as leaf 0, then those of the ring round each, each ring a leaf, from leaf 1 on.
