@@ -10,7 +10,7 @@ pub overflow_add-count : goal.overflow_add-count
 overflow_add-count c =
     let i = c.around.invariant in
     let s = sum_few c.args.c c.args.around.now in
-    let f = c.corner_count.ensures.few in
+    let f = c.corner_count-count.ensures.few in
     let w = c.well_formed.0.1 in
     omega (arith, i, s, f, w)
 
