@@ -285,6 +285,7 @@ module _ (k c u ax ay bx by : ℤ) (h : pos 0 <ℤ k) where
       let e = line_is in
       let f = cross_scaled k ax ay bx by in
       record { least = omega (arith, ints, n, q, e, f); most = omega (arith, ints, m, p, e, f) }
+
   line_down : ScaledLine → Gaps k c u ax ay bx by
   line_down s =
       let b : ℤ = breadth c (u -ℤ c) (bx -ℤ ax) (by -ℤ ay) in
@@ -300,6 +301,7 @@ module _ (k c u ax ay bx by : ℤ) (h : pos 0 <ℤ k) where
         most = at_least_left (k *ℤ (b -ℤ x) -ℤ l) k h (omega (arith, ints, m, p, e, f));
         least = at_least_left (k *ℤ (b +ℤ x) -ℤ l) k h (omega (arith, ints, n, q, e, f));
       }
+
   -- ---- means
   within : (n m w s t : ℤ) → pos 0 <ℤ (s +ℤ t) → Lies n m (k *ℤ w -ℤ pos 1) s t (k *ℤ ax) (k *ℤ ay) (k *ℤ bx) (k *ℤ by)
       → LiesWithin n m w s t ax ay bx by

@@ -350,8 +350,11 @@ module _ (c : ℕ) (x y : ℤ) (e : Edge) where
         let f = d.from in
         let t = d.to in
         let k = cross_is x y e in
-        let w : breadth (pos c) (pos (reach c) -ℤ pos c) (bx -ℤ ax) (by -ℤ ay) ≡ line_reach c e = rw (slant_is c,
-        across_is, along_is) refl in
+        let w : breadth (pos c) (pos (reach c) -ℤ pos c) (bx -ℤ ax) (by -ℤ ay) ≡ line_reach c e = rw (
+          slant_is c,
+          across_is,
+          along_is,
+        ) refl in
         record { from = omega (arith, ints, t, k, w); to = omega (arith, ints, f, k, w) }
   ]
     where
@@ -394,8 +397,8 @@ module _ (c : ℕ) (x y : ℤ) (e : Edge) where
       let u = up in
       record {
         some = some;
-        below = elim w.over [ | inl h ↦ omega (arith, ints, h) | inr h ↦ omega (arith, ints, h, u) ];
-        over = elim w.below [ | inl h ↦ omega (arith, ints, h, u) | inr h ↦ omega (arith, ints, h) ];
+        below = elim w.over [ inl h ↦ omega (arith, ints, h) | inr h ↦ omega (arith, ints, h, u) ];
+        over = elim w.below [ inl h ↦ omega (arith, ints, h, u) | inr h ↦ omega (arith, ints, h) ];
       }
 
   line_from : IsLineWithin (pos c) (pos (reach c)) ax ay bx by → pos 0 <ℤ rise e → IsBesideLine c y e x
@@ -406,8 +409,11 @@ module _ (c : ℕ) (x y : ℤ) (e : Edge) where
       let f = d.from in
       let g = d.to in
       let k = cross_is x y e in
-      let w : breadth (pos c) (pos (reach c) -ℤ pos c) (bx -ℤ ax) (by -ℤ ay) ≡ line_reach c e = rw (slant_is c,
-      across_is, along_is) refl in
+      let w : breadth (pos c) (pos (reach c) -ℤ pos c) (bx -ℤ ax) (by -ℤ ay) ≡ line_reach c e = rw (
+        slant_is c,
+        across_is,
+        along_is,
+      ) refl in
       record { from = omega (arith, ints, g, k, w); to = omega (arith, ints, f, k, w) }
 
 -- a width within which something lies is above 0
@@ -614,6 +620,40 @@ ends_those c y e s h x = (
     ),
   )),
 )
+
+-- a stretch that begins and ends as another
+as_stretch : (P : ℤ → Type 0) (s t : Stretch) → AreThose P s → t.from ≡ s.from → t.until ≡ s.until → AreThose P t
+as_stretch P s t h f u x = (
+  (λ p. let a = p.0 in let b = p.1 in (h x).0 (omega (arith, ints, a, f), omega (arith, ints, b, u))),
+  (λ i. let q = (h x).1 i in let a = q.0 in let b = q.1 in (omega (arith, ints, a, f), omega (arith, ints, b, u))),
+)
+
+-- a stretch is the one round two values
+pub record IsRound (w a b way : ℤ) (s : Stretch) : Type 0 where
+  pub from : s.from ≡ (around w a b way).from
+  pub until : s.until ≡ (around w a b way).until
+
+round_those : (w a b way : ℤ) (s : Stretch) → IsRound w a b way s → AreThose (λ x. IsAround w a b (x +ℤ way)) s
+round_those w a b way s r =
+    as_stretch (λ x. IsAround w a b (x +ℤ way)) (around w a b way) s (around_those w a b way) r.from r.until
+
+-- by the stretches of each pair of half planes
+pub by_stretches : (c : ℕ) (y : ℤ) (e : Edge) (a r f b s : Stretch)
+    → IsRound (pos c) (low e).x (high e).x (pos 0) a
+    → IsRound (pos (reach c)) ((low e).x +ℤ (low e).y) ((high e).x +ℤ (high e).y) y r
+    → IsRound (pos (reach c)) ((low e).x -ℤ (low e).y) ((high e).x -ℤ (high e).y) (pos 0 -ℤ y) f
+    → b.from ≡ int_max r.from f.from → b.until ≡ int_min r.until f.until
+    → s.from ≡ int_max a.from b.from → s.until ≡ int_min a.until b.until
+    → AreThose (IsBesideEnds c y e) s
+by_stretches c y e a r f b s ha hr hf bf bu sf su =
+    let P : ℤ → Type 0 = λ x. IsAround (pos c) (low e).x (high e).x (x +ℤ pos 0) in
+    let Q : ℤ → Type 0 = λ x. IsAround (pos (reach c)) ((low e).x +ℤ (low e).y) ((high e).x +ℤ (high e).y) (x +ℤ y) in
+    let R : ℤ → Type 0 = λ x. IsAround (pos (reach c)) ((low e).x -ℤ (low e).y) ((high e).x -ℤ (high e).y)
+    (x +ℤ (pos 0 -ℤ y)) in
+    let p = round_those (pos c) (low e).x (high e).x (pos 0) a ha in
+    let q = round_those (pos (reach c)) ((low e).x +ℤ (low e).y) ((high e).x +ℤ (high e).y) y r hr in
+    let t = round_those (pos (reach c)) ((low e).x -ℤ (low e).y) ((high e).x -ℤ (high e).y) (pos 0 -ℤ y) f hf in
+    ends_those c y e s (both_those P (λ x. Q x × R x) a b s p (both_those Q R r f b q t bf bu) sf su)
 
 pub flat_reached : (c : ℕ) (y : ℤ) (e : Edge) (s : Stretch) → rise e ≤ℤ pos 0 → AreThose (IsBesideEnds c y e) s
     → IsReached c y e s

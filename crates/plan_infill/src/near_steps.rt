@@ -117,12 +117,31 @@ fn around(a: i128, b: i128, w: i128, way: i128) -> Stretch
     requires b { unsigned_abs b ≤ 2 ^ 33 }
     requires w { unsigned_abs w ≤ 2 ^ 33 }
     requires way { unsigned_abs way ≤ 2 ^ 33 }
-    ensures { result ≡ around w a b way }
+    ensures from { result.from ≡ (around w a b way).from }
+    ensures until { result.until ≡ (around w a b way).until }
 {
     Stretch {
-        from: a.min(b) - w + 1 - way,
-        until: a.max(b) + w - way,
+        from: minus(plus(minus(lesser(a, b), w), 1), way),
+        until: minus(plus(greater(a, b), w), way),
     }
+}
+
+fn lesser(a: i128, b: i128) -> i128
+    requires a { unsigned_abs a ≤ 2 ^ 33 }
+    requires b { unsigned_abs b ≤ 2 ^ 33 }
+    ensures value { result ≡ int_min a b }
+    ensures size { unsigned_abs result ≤ 2 ^ 33 }
+{
+    a.min(b)
+}
+
+fn greater(a: i128, b: i128) -> i128
+    requires a { unsigned_abs a ≤ 2 ^ 33 }
+    requires b { unsigned_abs b ≤ 2 ^ 33 }
+    ensures value { result ≡ int_max a b }
+    ensures size { unsigned_abs result ≤ 2 ^ 33 }
+{
+    a.max(b)
 }
 
 // How far the octagon of `c` reaches along the sum of both axes.
