@@ -102,12 +102,13 @@ fn reached(e: &Edge, y: i32, c: u32) -> Stretch
 
 // Those that aren't far from both ends, across or aslant.
 fn reached_by_ends(e: &Edge, y: i32, c: u32) -> Stretch
+    requires row { unsigned_abs y ≤ coordinate_limit }
     ensures { AreThose (IsBesideEnds c y e.now) result }
 {
     let (from, to, up) = (low(e), high(e), y as i128);
     let across = around(from.x as i128, to.x as i128, c as i128, 0);
     let rising = around(sum(from), sum(to), half_sum(c), up);
-    let falling = around(difference(from), difference(to), half_sum(c), -up);
+    let falling = around(difference(from), difference(to), half_sum(c), minus(0, up));
     both(across, both(rising, falling))
 }
 
