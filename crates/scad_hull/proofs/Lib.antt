@@ -12,4 +12,8 @@ pub mod FlatOne
 pub mod Steps
 pub mod Winds
 pub mod FlatHolds
+pub mod Escape
+pub mod Surrounds
+pub mod Turned
+pub mod FaceExamples
 pub mod Examples

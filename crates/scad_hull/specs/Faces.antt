@@ -1,0 +1,57 @@
+-- The faces of the convex hull of points: the planes through three of the points that have none outside, each with the ring of the points in it.
+use Rattle.std.specs.Prelude.{List, length, map, Bool, ◌||◌, Option, Some, None, Result, Ok, Err, if◌then◌else◌, nat_lt, int_lt, ℤ, pos}
+use Rattle.std.specs.List.{list_all, list_any, filter, filter_map, flat_map}
+use Rattle.std.specs.Cmp.Lexicographic.{slice_cmp}
+use Rattle.std.specs.declared.cmp.Ordering.{Ordering}
+use Rattle.scad_geom.specs.Sign.{is_zero}
+use Rattle.scad_geom.specs.declared.point3.Pt3.{Pt3}
+use Rattle.scad_solid.specs.declared.triangle.Triangle.{Triangle}
+use Rattle.scad_solid.specs.Solid.{fans}
+use Rattle.scad_hull.specs.declared.fault.HullFault.{HullFault}
+use Rattle.scad_hull.specs.declared.fault.HullFault.TheVariants.{Points}
+use Rattle.scad_hull.specs.declared.turning.Normal.{Normal}
+use Rattle.scad_hull.specs.Chain.{ring_round}
+use Rattle.scad_hull.specs.Distinct.{distinct}
+use Rattle.scad_hull.specs.Flat.{point_count_limit}
+use Rattle.scad_hull.specs.Space.{space_cmp, normal_of, depth_of, inner, is_none, face_left}
+
+-- the points in the plane through a with this normal
+abbrev pub in_plane : List Pt3 → Pt3 → Normal → List Pt3
+in_plane ps a n = filter (λ p. is_zero (depth_of n a p)) ps
+
+-- the ring of those points, clockwise as seen from outside
+abbrev pub face_in : List Pt3 → Pt3 → Normal → List Pt3
+face_in ps a n = ring_round (face_left n) (in_plane ps a n)
+
+-- the face in the plane through a with this normal, unless a point lies outside of it
+abbrev pub face_by : List Pt3 → Pt3 → Normal → Option (List Pt3)
+face_by ps a n = if is_none n || list_any (λ p. int_lt (depth_of n a p) (pos 0)) ps then None else Some (face_in ps a n)
+
+-- the face in the plane through three points
+abbrev pub face_through : List Pt3 → Pt3 × Pt3 × Pt3 → Option (List Pt3)
+face_through ps t = face_by ps t.0 (normal_of t.0 t.1 t.2)
+
+-- all choices of three points
+abbrev pub triples : List Pt3 → List (Pt3 × Pt3 × Pt3)
+triples ps = flat_map (λ a. flat_map (λ b. map (λ c. (a, b, c)) ps) ps) ps
+
+-- the order of faces by their lists of points
+abbrev pub face_cmp : List Pt3 → List Pt3 → Ordering
+face_cmp = slice_cmp space_cmp
+
+-- the faces of distinct points in order
+abbrev pub faces_of : List Pt3 → List (List Pt3)
+faces_of ps = distinct face_cmp (filter_map (face_through ps) (triples ps))
+
+-- any four of the points lie in one plane
+abbrev pub are_flat : List Pt3 → Bool
+are_flat ps = list_all (λ a. list_all (λ b. list_all (λ c. list_all (λ p. is_zero (inner a b c p)) ps) ps) ps) ps
+
+-- the hull of distinct points: refused past the limit, none where they lie in one plane
+abbrev pub solid_of_distinct : List Pt3 → Result (Option (List Triangle)) HullFault
+solid_of_distinct ps =
+    if nat_lt point_count_limit (length ps) then Err (Points (length ps))
+    else Ok (if are_flat ps then None else Some (fans (faces_of ps)))
+
+abbrev pub hull_of : List Pt3 → Result (Option (List Triangle)) HullFault
+hull_of points = solid_of_distinct (distinct space_cmp points)
