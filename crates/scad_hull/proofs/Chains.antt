@@ -15,10 +15,14 @@ pub record IsPlane {X : Type 0} (left : X → X → X → ℤ) (Before Same : X 
   pub either : (p q : X) → Before p q ⊎ (Same q p ⊎ Before q p)
   pub once : (p q : X) → Before p q → Before q p → ⊥
   pub later : (p q r : X) → Before p q → Before q r → Before p r
-  pub through : (t p q w : X) → Before t p → Before t q → Before t w → pos 0 ≤ℤ left t w q → pos 0 ≤ℤ left t p w → pos 0 ≤ℤ left t p q
-  pub behind : (q t u p : X) → Before q t → Before u t → Before t p → pos 0 ≤ℤ left u t q → pos 0 <ℤ left u t p → pos 0 ≤ℤ left t p q
-  pub onward : (a b c p : X) → Before a b → Before b c → Before c p → pos 0 <ℤ left a b c → pos 0 <ℤ left b c p → pos 0 <ℤ left a b p
-  pub amid : (q t u p : X) → Before q t → Before t u → Before t p → pos 0 ≤ℤ left u t q → pos 0 ≤ℤ left t p q → pos 0 ≤ℤ left t u p
+  pub through : (t p q w : X) → Before t p → Before t q → Before t w → pos 0 ≤ℤ left t w q → pos 0 ≤ℤ left t p w
+      → pos 0 ≤ℤ left t p q
+  pub behind : (q t u p : X) → Before q t → Before u t → Before t p → pos 0 ≤ℤ left u t q → pos 0 <ℤ left u t p
+      → pos 0 ≤ℤ left t p q
+  pub onward : (a b c p : X) → Before a b → Before b c → Before c p → pos 0 <ℤ left a b c → pos 0 <ℤ left b c p
+      → pos 0 <ℤ left a b p
+  pub amid : (q t u p : X) → Before q t → Before t u → Before t p → pos 0 ≤ℤ left u t q → pos 0 ≤ℤ left t p q
+      → pos 0 ≤ℤ left t u p
 
 -- ---- signs
 weak : (z : ℤ) → pos 0 <ℤ z → pos 0 ≤ℤ z
@@ -74,20 +78,23 @@ module _ {X : Type 0} (left : X → X → X → ℤ) (Before Same : X → X → 
     turns_push : (b : X) (rest : List X) → Turns (b ∷ rest) → Low (b ∷ rest) → Turns (p ∷ bent left p (b ∷ rest))
     turns_push b [] t low = low.0
     turns_push b (a ∷ rest) t low =
-        elim (int_lt (pos 0) (left a b p)) as (λ test. int_lt (pos 0) (left a b p) ≡ test → Turns (p ∷ (if test then b ∷ (a ∷ rest) else bent left p (a ∷ rest)))) [
+        elim (int_lt (pos 0) (left a b p)) as (λ test. int_lt (pos 0) (left a b p) ≡ test
+        → Turns (p ∷ (if test then b ∷ (a ∷ rest) else bent left p (a ∷ rest)))) [
           | true ↦ (λ e. (low.0, (told (left a b p) e, t)))
           | false ↦ (λ e. turns_push a rest (turns_on b a rest t) low.1)
         ] refl
 
     -- the new side at a point that stays
-    beside : (q b a : X) → Before a b → Before b p → pos 0 <ℤ left a b p → pos 0 ≤ℤ left a b q → (Before b q → pos 0 ≤ℤ left b p q) → pos 0 ≤ℤ left b p q
+    beside : (q b a : X) → Before a b → Before b p → pos 0 <ℤ left a b p → pos 0 ≤ℤ left a b q
+        → (Before b q → pos 0 ≤ℤ left b p q) → pos 0 ≤ℤ left b p q
     beside q b a o l h u beyond = elim (plane.either q b) [
       | inl before ↦ plane.behind q b a p before o l u h
       | inr (inl same) ↦ nought (left b p q) (plane.still b p q same)
       | inr (inr after) ↦ beyond after
     ]
 
-    under_push : (q b : X) (rest : List X) → Turns (b ∷ rest) → Low (b ∷ rest) → Under q (b ∷ rest) → From q (b ∷ rest) → (Before b q → pos 0 ≤ℤ left b p q)
+    under_push : (q b : X) (rest : List X) → Turns (b ∷ rest) → Low (b ∷ rest) → Under q (b ∷ rest)
+        → From q (b ∷ rest) → (Before b q → pos 0 ≤ℤ left b p q)
         → Under q (p ∷ bent left p (b ∷ rest))
     under_push q b [] t low u f beyond = (here, tt)
       where
@@ -99,21 +106,28 @@ module _ {X : Type 0} (left : X → X → X → ℤ) (Before Same : X → X → 
         ]
     under_push q b (a ∷ rest) t low u f beyond =
         let o = in_order b a rest t in
-        elim (int_lt (pos 0) (left a b p)) as (λ test. int_lt (pos 0) (left a b p) ≡ test → Under q (p ∷ (if test then b ∷ (a ∷ rest) else bent left p (a ∷ rest)))) [
+        elim (int_lt (pos 0) (left a b p)) as (λ test. int_lt (pos 0) (left a b p) ≡ test
+        → Under q (p ∷ (if test then b ∷ (a ∷ rest) else bent left p (a ∷ rest)))) [
           | true ↦ (λ e. (beside q b a o low.0 (told (left a b p) e) u.0 beyond, u))
           | false ↦ (λ e. under_push q a rest (turns_on b a rest t) low.1 u.1 f
-              (λ after. plane.through a p q b low.1.0 after o u.0 (told_not (left a p b) (left a b p) (plane.turned a b p) e)))
+              (λ after. plane.through a p q b low.1.0 after o u.0
+              (told_not (left a p b) (left a b p) (plane.turned a b p) e)))
         ] refl
 
-    kept : (b a : X) (rest : List X) → Turns (b ∷ (a ∷ rest)) → Low (b ∷ (a ∷ rest)) → pos 0 <ℤ left a b p → Under p (b ∷ (a ∷ rest))
+    kept : (b a : X) (rest : List X) → Turns (b ∷ (a ∷ rest)) → Low (b ∷ (a ∷ rest)) → pos 0 <ℤ left a b p
+        → Under p (b ∷ (a ∷ rest))
     kept b a [] t low h = (weak (left a b p) h, tt)
-    kept b a (c ∷ rest) t low h =
-        (weak (left a b p) h, kept a c rest t.1.1 low.1 (plane.onward c a b p (in_order a c rest t.1.1) t.0 low.0 t.1.0 h))
+    kept b a (c ∷ rest) t low h = (
+      weak (left a b p) h,
+      kept a c rest t.1.1 low.1
+          (plane.onward c a b p (in_order a c rest t.1.1) t.0 low.0 t.1.0 h),
+    )
 
     under_new : (b : X) (rest : List X) → Turns (b ∷ rest) → Low (b ∷ rest) → Under p (p ∷ bent left p (b ∷ rest))
     under_new b [] t low = (nought (left b p p) (plane.ends b p), tt)
     under_new b (a ∷ rest) t low =
-        elim (int_lt (pos 0) (left a b p)) as (λ test. int_lt (pos 0) (left a b p) ≡ test → Under p (p ∷ (if test then b ∷ (a ∷ rest) else bent left p (a ∷ rest)))) [
+        elim (int_lt (pos 0) (left a b p)) as (λ test. int_lt (pos 0) (left a b p) ≡ test
+        → Under p (p ∷ (if test then b ∷ (a ∷ rest) else bent left p (a ∷ rest)))) [
           | true ↦ (λ e. (nought (left b p p) (plane.ends b p), kept b a rest t low (told (left a b p) e)))
           | false ↦ (λ e. under_new a rest (turns_on b a rest t) low.1)
         ] refl
@@ -121,7 +135,8 @@ module _ {X : Type 0} (left : X → X → X → ℤ) (Before Same : X → X → 
     from_push : (q b : X) (rest : List X) → From q (b ∷ rest) → From q (p ∷ bent left p (b ∷ rest))
     from_push q b [] f = f
     from_push q b (a ∷ rest) f =
-        elim (int_lt (pos 0) (left a b p)) as (λ test. From q (p ∷ (if test then b ∷ (a ∷ rest) else bent left p (a ∷ rest)))) [
+        elim (int_lt (pos 0) (left a b p)) as (λ test. From q
+        (p ∷ (if test then b ∷ (a ∷ rest) else bent left p (a ∷ rest)))) [
           | true ↦ f
           | false ↦ from_push q a rest f
         ]
@@ -130,10 +145,12 @@ module _ {X : Type 0} (left : X → X → X → ℤ) (Before Same : X → X → 
     from_low b [] low = λ h. plane.once p b h low.0
     from_low b (a ∷ rest) low = from_low a rest low.1
 
-    all_bent : (P : X → Type 0) (b : X) (rest : List X) → AllByRecursion P (b ∷ rest) → AllByRecursion P (bent left p (b ∷ rest))
+    all_bent : (P : X → Type 0) (b : X) (rest : List X) → AllByRecursion P (b ∷ rest)
+        → AllByRecursion P (bent left p (b ∷ rest))
     all_bent P b [] h = h
     all_bent P b (a ∷ rest) h =
-        elim (int_lt (pos 0) (left a b p)) as (λ test. AllByRecursion P (if test then b ∷ (a ∷ rest) else bent left p (a ∷ rest))) [
+        elim (int_lt (pos 0) (left a b p)) as (λ test. AllByRecursion P
+        (if test then b ∷ (a ∷ rest) else bent left p (a ∷ rest))) [
           | true ↦ h
           | false ↦ all_bent P a rest h.1
         ]
@@ -151,14 +168,16 @@ module _ {X : Type 0} (left : X → X → X → ℤ) (Before Same : X → X → 
   each_rest p ps [] h = tt
   each_rest p ps (s ∷ stack) h = (h.0.1, each_rest p ps stack h.1)
 
-  pub turns_led : (ps : List X) (b : X) (rest : List X) → Turns (b ∷ rest) → Ahead ps (b ∷ rest) → Ascends ps → Turns (led left (b ∷ rest) ps)
+  pub turns_led : (ps : List X) (b : X) (rest : List X) → Turns (b ∷ rest) → Ahead ps (b ∷ rest) → Ascends ps
+      → Turns (led left (b ∷ rest) ps)
   turns_led [] b rest t h a = t
   turns_led (p ∷ ps) b rest t h a =
       turns_led ps p (bent left p (b ∷ rest)) (turns_push p b rest t (each_first p ps (b ∷ rest) h))
       (a.0, all_bent p (λ s. AllByRecursion (Before s) ps) b rest (each_rest p ps (b ∷ rest) h)) a.1
 
   -- a point that was passed
-  passed : (q : X) (ps : List X) (b : X) (rest : List X) → Turns (b ∷ rest) → Ahead ps (b ∷ rest) → Ascends ps → AllByRecursion (Before q) ps
+  passed : (q : X) (ps : List X) (b : X) (rest : List X) → Turns (b ∷ rest) → Ahead ps (b ∷ rest) → Ascends ps
+      → AllByRecursion (Before q) ps
       → Under q (b ∷ rest) → From q (b ∷ rest) → (Before b q → ⊥) → Under q (led left (b ∷ rest) ps)
   passed q [] b rest t h a l u f n = u
   passed q (p ∷ ps) b rest t h a l u f n =
@@ -170,13 +189,16 @@ module _ {X : Type 0} (left : X → X → X → ℤ) (Before Same : X → X → 
       (λ back. plane.once p q back l.0)
 
   -- all points that are still to come
-  pub under_led : (ps : List X) (b : X) (rest : List X) → Turns (b ∷ rest) → Ahead ps (b ∷ rest) → Ascends ps → AllByRecursion (λ q. Under q (led left (b ∷ rest) ps)) ps
+  pub under_led : (ps : List X) (b : X) (rest : List X) → Turns (b ∷ rest) → Ahead ps (b ∷ rest) → Ascends ps
+      → AllByRecursion (λ q. Under q (led left (b ∷ rest) ps)) ps
   under_led [] b rest t h a = tt
   under_led (p ∷ ps) b rest t h a =
       let low = each_first p ps (b ∷ rest) h in
       let turns = turns_push p b rest t low in
-      let ahead : Ahead ps (p ∷ bent left p (b ∷ rest)) = (a.0, all_bent p (λ s. AllByRecursion (Before s) ps) b rest (each_rest p ps (b ∷ rest) h)) in (
-        passed p ps p (bent left p (b ∷ rest)) turns ahead a.1 a.0 (under_new p b rest t low) (from_push p p b rest (from_low p b rest low)) (λ h. plane.once p p h h),
+      let ahead : Ahead ps (p ∷ bent left p (b ∷ rest)) =
+      (a.0, all_bent p (λ s. AllByRecursion (Before s) ps) b rest (each_rest p ps (b ∷ rest) h)) in (
+        passed p ps p (bent left p (b ∷ rest)) turns ahead a.1 a.0 (under_new p b rest t low)
+            (from_push p p b rest (from_low p b rest low)) (λ h. plane.once p p h h),
         under_led ps p (bent left p (b ∷ rest)) turns ahead a.1,
       )
 
@@ -184,7 +206,8 @@ module _ {X : Type 0} (left : X → X → X → ℤ) (Before Same : X → X → 
   under_first m ps a = passed m ps m [] tt (a.0, tt) a.1 a.0 tt (λ h. plane.once m m h h) (λ h. plane.once m m h h)
 
   -- the whole chain through points in their order
-  pub all_under : (m : X) (ps : List X) → Ascends (m ∷ ps) → AllByRecursion (λ q. Under q (led left (m ∷ []) ps)) (m ∷ ps)
+  pub all_under : (m : X) (ps : List X) → Ascends (m ∷ ps)
+      → AllByRecursion (λ q. Under q (led left (m ∷ []) ps)) (m ∷ ps)
   all_under m ps a = (under_first m ps a, under_led ps m [] tt (a.0, tt) a.1)
 
   pub turns_whole : (m : X) (ps : List X) → Ascends (m ∷ ps) → Turns (led left (m ∷ []) ps)

@@ -20,7 +20,8 @@ module _ {X : Type 0} (c : X → X → Ordering) where
         | Greater ↦ (h.0, put_keeps P xs k h.1 p)
       ]
 
-  all_keeps : (P : X → Type 0) (ks ps : List X) → AllByRecursion P ks → AllByRecursion P ps → AllByRecursion P (with_all c ks ps)
+  all_keeps : (P : X → Type 0) (ks ps : List X) → AllByRecursion P ks → AllByRecursion P ps
+      → AllByRecursion P (with_all c ks ps)
   all_keeps P ks [] h g = h
   all_keeps P ks (p ∷ ps) h g = all_keeps P (insert_key c ks p) ps (put_keeps P ks p h g.0) g.1
 
@@ -31,13 +32,15 @@ module _ {X : Type 0} (c : X → X → Ordering) where
     put_had : (P : X → Type 0) (ks : List X) (k : X) → AllByRecursion P (insert_key c ks k) → P k × AllByRecursion P ks
     put_had P [] k h = (h.0, tt)
     put_had P (x ∷ xs) k h =
-        elim (c k x) as (λ o. c k x ≡ o → AllByRecursion P (match_ordering o (k ∷ (x ∷ xs)) (x ∷ xs) (x ∷ insert_key c xs k)) → P k × AllByRecursion P (x ∷ xs)) [
+        elim (c k x) as (λ o. c k x ≡ o → AllByRecursion P
+        (match_ordering o (k ∷ (x ∷ xs)) (x ∷ xs) (x ∷ insert_key c xs k)) → P k × AllByRecursion P (x ∷ xs)) [
           | Less ↦ (λ e g. (g.0, g.1))
           | Equal ↦ (λ e g. (subst P (sym (exact k x e)) g.0, g))
           | Greater ↦ (λ e g. let r = put_had P xs k g.1 in (r.0, (g.0, r.1)))
         ] refl h
 
-    all_had : (P : X → Type 0) (ks ps : List X) → AllByRecursion P (with_all c ks ps) → AllByRecursion P ks × AllByRecursion P ps
+    all_had : (P : X → Type 0) (ks ps : List X) → AllByRecursion P (with_all c ks ps) → AllByRecursion P ks
+        × AllByRecursion P ps
     all_had P ks [] h = (h, tt)
     all_had P ks (p ∷ ps) h =
         let r = all_had P (insert_key c ks p) ps h in
@@ -49,7 +52,8 @@ module _ {X : Type 0} (c : X → X → Ordering) where
 
   -- ---- the order
   module _ (total : IsTotalOrder c) where
-    below_later : (k x : X) (xs : List X) → c k x ≡ Less → AllByRecursion (λ y. c x y ≡ Less) xs → AllByRecursion (λ y. c k y ≡ Less) xs
+    below_later : (k x : X) (xs : List X) → c k x ≡ Less → AllByRecursion (λ y. c x y ≡ Less) xs
+        → AllByRecursion (λ y. c k y ≡ Less) xs
     below_later k x [] e h = tt
     below_later k x (y ∷ ys) e h = (total.trans k x y e h.0, below_later k x ys e h.1)
 
@@ -57,10 +61,14 @@ module _ {X : Type 0} (c : X → X → Ordering) where
     unfolding IsStrictlySortedBy
     put_sorted [] k h = (tt, tt)
     put_sorted (x ∷ xs) k h =
-        elim (c k x) as (λ o. c k x ≡ o → IsStrictlySortedBy c (match_ordering o (k ∷ (x ∷ xs)) (x ∷ xs) (x ∷ insert_key c xs k))) [
+        elim (c k x) as (λ o. c k x ≡ o → IsStrictlySortedBy c
+        (match_ordering o (k ∷ (x ∷ xs)) (x ∷ xs) (x ∷ insert_key c xs k))) [
           | Less ↦ (λ e. ((e, below_later k x xs e h.0), h))
           | Equal ↦ (λ e. h)
-          | Greater ↦ (λ e. (put_keeps (λ y. c x y ≡ Less) xs k h.0 (total.antisymm x k ∙ ap ordering_reverse e), put_sorted xs k h.1))
+          | Greater ↦ (λ e. (
+            put_keeps (λ y. c x y ≡ Less) xs k h.0 (total.antisymm x k ∙ ap ordering_reverse e),
+            put_sorted xs k h.1,
+          ))
         ] refl
 
     all_sorted : (ks ps : List X) → IsStrictlySortedBy c ks → IsStrictlySortedBy c (with_all c ks ps)

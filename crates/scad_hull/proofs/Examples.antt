@@ -6,7 +6,8 @@ abbrev at : ℤ → ℤ → ℤ × ℤ
 at x y = (x, y)
 
 -- a square with a doubled corner, a point inside and one on a side
-ring-square : ring_hull_of (at (pos 4) (pos 4) ∷ at (pos 0) (pos 0) ∷ at (pos 2) (pos 1) ∷ at (pos 0) (pos 4) ∷ at (pos 4) (pos 0) ∷ at (pos 2) (pos 0) ∷ at (pos 4) (pos 4) ∷ [])
+ring-square : ring_hull_of (at (pos 4) (pos 4) ∷ at (pos 0) (pos 0) ∷ at (pos 2) (pos 1) ∷ at (pos 0) (pos 4)
+    ∷ at (pos 4) (pos 0) ∷ at (pos 2) (pos 0) ∷ at (pos 4) (pos 4) ∷ [])
     ≡ Ok (Some (at (pos 0) (pos 0) ∷ at (pos 4) (pos 0) ∷ at (pos 4) (pos 4) ∷ at (pos 0) (pos 4) ∷ []))
 ring-square = refl
 
@@ -15,7 +16,8 @@ ring-triangle : ring_hull_of (at (pos 3) (pos 7) ∷ at (pos 5) (negsuc 1) ∷ a
     ≡ Ok (Some (at (negsuc 4) (negsuc 1) ∷ at (pos 5) (negsuc 1) ∷ at (pos 3) (pos 7) ∷ []))
 ring-triangle = refl
 
-ring-line : ring_hull_of (at (pos 1) (pos 1) ∷ at (pos 3) (pos 3) ∷ at (pos 2) (pos 2) ∷ at (pos 1) (pos 1) ∷ []) ≡ Ok None
+ring-line : ring_hull_of (at (pos 1) (pos 1) ∷ at (pos 3) (pos 3) ∷ at (pos 2) (pos 2) ∷ at (pos 1) (pos 1) ∷ [])
+    ≡ Ok None
 ring-line = refl
 
 ring-point : ring_hull_of (at (pos 1) (pos 1) ∷ at (pos 1) (pos 1) ∷ []) ≡ Ok None

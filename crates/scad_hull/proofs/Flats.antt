@@ -43,11 +43,13 @@ y_of p = p.1
 abbrev FlatSame : ℤ × ℤ → ℤ × ℤ → Type 0
 FlatSame = Same x_of y_of
 
-all_before : (p : ℤ × ℤ) (qs : List (ℤ × ℤ)) → AllByRecursion (λ q. flat_cmp p q ≡ Less) qs → AllByRecursion (IsFlatBefore p) qs
+all_before : (p : ℤ × ℤ) (qs : List (ℤ × ℤ)) → AllByRecursion (λ q. flat_cmp p q ≡ Less) qs
+    → AllByRecursion (IsFlatBefore p) qs
 all_before p [] h = tt
 all_before p (q ∷ qs) h = (before_of p q h.0, all_before p qs h.1)
 
-pub flat_ascends : (ps : List (ℤ × ℤ)) → IsStrictlySortedBy flat_cmp ps → Ascends flat_left IsFlatBefore FlatSame (plane x_of y_of) ps
+pub flat_ascends : (ps : List (ℤ × ℤ)) → IsStrictlySortedBy flat_cmp ps
+    → Ascends flat_left IsFlatBefore FlatSame (plane x_of y_of) ps
 unfolding IsStrictlySortedBy
 flat_ascends [] h = tt
 flat_ascends (p ∷ ps) h = (all_before p ps h.0, flat_ascends ps h.1)
@@ -56,11 +58,13 @@ flat_ascends (p ∷ ps) h = (all_before p ps h.0, flat_ascends ps h.1)
 told_apart : true ≡ false → ⊥
 told_apart e = cc
 
-pub sorted_ring : (ps : List (ℤ × ℤ)) → IsStrictlySortedBy flat_cmp ps → are_on_line ps ≡ false → IsConvexRing flat_left IsFlatBefore ps (ring_round flat_left ps)
+pub sorted_ring : (ps : List (ℤ × ℤ)) → IsStrictlySortedBy flat_cmp ps → are_on_line ps ≡ false
+    → IsConvexRing flat_left IsFlatBefore ps (ring_round flat_left ps)
 sorted_ring [] s e = absurd (told_apart (sym (few_on [] (lit< tt)) ∙ e))
 sorted_ring (m ∷ []) s e = absurd (told_apart (sym (few_on (m ∷ []) (lit< tt)) ∙ e))
 sorted_ring (m ∷ (p ∷ ps)) s e =
-    ring_made flat_left IsFlatBefore (IsAfter x_of y_of) FlatSame (plane x_of y_of) (turned_plane x_of y_of) (λ a b h. h) (λ a b h. h) m p ps
+    ring_made flat_left IsFlatBefore (IsAfter x_of y_of) FlatSame (plane x_of y_of) (turned_plane x_of y_of)
+    (λ a b h. h) (λ a b h. h) m p ps
     (flat_ascends (m ∷ (p ∷ ps)) s)
     (λ a b h line. told_apart (sym (line_of a b h (m ∷ (p ∷ ps)) line) ∙ e))
 
@@ -69,12 +73,14 @@ module _ (points : List (ℤ × ℤ)) where
   abbrev pub sorted : List (ℤ × ℤ)
   sorted = distinct flat_cmp points
 
-  pub of_points : (ring : List (ℤ × ℤ)) → IsConvexRing flat_left IsFlatBefore sorted ring → IsConvexRing flat_left IsFlatBefore points ring
+  pub of_points : (ring : List (ℤ × ℤ)) → IsConvexRing flat_left IsFlatBefore sorted ring
+      → IsConvexRing flat_left IsFlatBefore points ring
   of_points ring h = record {
     three = h.three;
     corners = λ k d i. All-contains (Contains points) sorted _ listed (h.corners k d i);
     holds = All-from_recursion (λ q. IsRightOfNone flat_left q (round ring)) points
-        (distinct_had flat_cmp flat_exact (λ q. IsRightOfNone flat_left q (round ring)) points (recursion_of _ sorted h.holds));
+        (distinct_had flat_cmp flat_exact (λ q. IsRightOfNone flat_left q (round ring)) points
+        (recursion_of _ sorted h.holds));
     turns = h.turns;
     starts = h.starts;
   }
@@ -84,7 +90,8 @@ module _ (points : List (ℤ × ℤ)) where
           (distinct_keeps flat_cmp (Contains points) points (recursion_of _ points (All-contains_itself points)))
 
   abbrev pub answer_by : Bool → Bool → Result (Option (List (ℤ × ℤ))) HullFault
-  answer_by many line = if many then Err (Points (length sorted)) else Ok (if line then None else Some (ring_round flat_left sorted))
+  answer_by many line = if many then Err (Points (length sorted)) else Ok
+      (if line then None else Some (ring_round flat_left sorted))
 
   refused : (f : HullFault) (r : Option (List (ℤ × ℤ))) → Err f ≡ Ok r → ⊥
   refused f r e = cc
@@ -97,7 +104,8 @@ module _ (points : List (ℤ × ℤ)) where
   inner (Ok None) = []
   inner (Err f) = []
 
-  by_answer : (many line : Bool) (ring : List (ℤ × ℤ)) → are_on_line sorted ≡ line → answer_by many line ≡ Ok (Some ring) → IsConvexRing flat_left IsFlatBefore points ring
+  by_answer : (many line : Bool) (ring : List (ℤ × ℤ)) → are_on_line sorted ≡ line → answer_by many line
+      ≡ Ok (Some ring) → IsConvexRing flat_left IsFlatBefore points ring
   unfolding inner
   by_answer true line ring l e = absurd (refused (Points (length sorted)) (Some ring) e)
   by_answer false true ring l e = absurd (nothing ring e)
@@ -107,5 +115,6 @@ module _ (points : List (ℤ × ℤ)) where
 
 pub rings_are_convex : RingsAreConvex
 rings_are_convex = record {
-  each = λ points ring e. by_answer points (nat_lt point_count_limit (length (distinct flat_cmp points))) (are_on_line (distinct flat_cmp points)) ring refl e;
+  each = λ points ring e. by_answer points (nat_lt point_count_limit (length (distinct flat_cmp points)))
+      (are_on_line (distinct flat_cmp points)) ring refl e;
 }

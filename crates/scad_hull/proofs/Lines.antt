@@ -21,7 +21,8 @@ pub onward_of : (a b c d : ℤ) → ordering_then (int_cmp b d) (int_cmp a c) �
 onward_of a b c d e = by_tests (int_lt b d) (int_lt d b) (int_lt a c) (int_lt c a) refl refl refl e
   where
     by_tests : (l m n o : Bool) → int_lt b d ≡ l → int_lt d b ≡ m → int_lt a c ≡ n
-        → ordering_then (cond l Less (cond m Greater Equal)) (cond n Less (cond o Greater Equal)) ≡ Less → IsOnward (c -ℤ a) (d -ℤ b)
+        → ordering_then (cond l Less (cond m Greater Equal)) (cond n Less (cond o Greater Equal)) ≡ Less
+        → IsOnward (c -ℤ a) (d -ℤ b)
     by_tests true m n o f g h e = inl (omega (arith, ints))
     by_tests false true n o f g h e = cc
     by_tests false false true o f g h e = inr (omega (arith, ints), omega (arith, ints))
@@ -35,7 +36,8 @@ before_of p q e = onward_of p.0 p.1 q.0 q.1 e
 pub nought_right : (u d : ℤ) → u *ℤ d ≡ pos 0 → (u ≡ pos 0 → ⊥) → d ≡ pos 0
 nought_right u d e n = by_lt_z (pos 0) u
     (λ up. by_lt_z (pos 0) d (λ h. absurd (clash_up (u *ℤ d) e (positive_product u d up h)))
-    (λ h. by_lt_z d (pos 0) (λ k. absurd (clash_down (u *ℤ d) e (flip u d (negative_product d u up k)))) (λ k. omega (arith, ints))))
+    (λ h. by_lt_z d (pos 0) (λ k. absurd (clash_down (u *ℤ d) e (flip u d (negative_product d u up k))))
+    (λ k. omega (arith, ints))))
     (λ low. by_lt_z u (pos 0)
     (λ down. by_lt_z (pos 0) d (λ h. absurd (clash_down (u *ℤ d) e (negative_product u d h down)))
     (λ h. by_lt_z d (pos 0) (λ k. absurd (clash_up (u *ℤ d) e (both u d down k))) (λ k. omega (arith, ints))))
@@ -51,7 +53,8 @@ nought_right u d e n = by_lt_z (pos 0) u
     flip a b h = subst (λ (z : ℤ). z <ℤ pos 0) (ring (a ∷ b ∷ []) (v1 ⊗ v0) (v0 ⊗ v1) refl) h
 
     both : (a b : ℤ) → a <ℤ pos 0 → b <ℤ pos 0 → pos 0 <ℤ (a *ℤ b)
-    both a b h k = subst (λ (z : ℤ). pos 0 <ℤ z) (ring (a ∷ b ∷ []) ((num (pos 0) ⊖ v0) ⊗ (num (pos 0) ⊖ v1)) (v0 ⊗ v1) refl)
+    both a b h k = subst (λ (z : ℤ). pos 0 <ℤ z)
+        (ring (a ∷ b ∷ []) ((num (pos 0) ⊖ v0) ⊗ (num (pos 0) ⊖ v1)) (v0 ⊗ v1) refl)
         (positive_product (pos 0 -ℤ a) (pos 0 -ℤ b) (omega (arith, ints)) (omega (arith, ints)))
 
 -- ---- a line
@@ -71,14 +74,17 @@ module _ {X : Type 0} (f g : X → ℤ) (a b : X) (apart : IsBefore f g a b) whe
 
   across : (x y z w u v : ℤ) → u *ℤ area x y z w ≡ x *ℤ area u v z w -ℤ z *ℤ area u v x y
   across x y z w u v =
-      ring (x ∷ y ∷ z ∷ w ∷ u ∷ v ∷ []) (v4 ⊗ (v0 ⊗ v3 ⊖ v1 ⊗ v2)) (v0 ⊗ (v4 ⊗ v3 ⊖ v5 ⊗ v2) ⊖ v2 ⊗ (v4 ⊗ v1 ⊖ v5 ⊗ v0)) refl
+      ring (x ∷ y ∷ z ∷ w ∷ u ∷ v ∷ []) (v4 ⊗ (v0 ⊗ v3 ⊖ v1 ⊗ v2))
+      (v0 ⊗ (v4 ⊗ v3 ⊖ v5 ⊗ v2) ⊖ v2 ⊗ (v4 ⊗ v1 ⊖ v5 ⊗ v0)) refl
 
   upwards : (x y z w u v : ℤ) → v *ℤ area x y z w ≡ y *ℤ area u v z w -ℤ w *ℤ area u v x y
   upwards x y z w u v =
-      ring (x ∷ y ∷ z ∷ w ∷ u ∷ v ∷ []) (v5 ⊗ (v0 ⊗ v3 ⊖ v1 ⊗ v2)) (v1 ⊗ (v4 ⊗ v3 ⊖ v5 ⊗ v2) ⊖ v3 ⊗ (v4 ⊗ v1 ⊖ v5 ⊗ v0)) refl
+      ring (x ∷ y ∷ z ∷ w ∷ u ∷ v ∷ []) (v5 ⊗ (v0 ⊗ v3 ⊖ v1 ⊗ v2))
+      (v1 ⊗ (v4 ⊗ v3 ⊖ v5 ⊗ v2) ⊖ v3 ⊗ (v4 ⊗ v1 ⊖ v5 ⊗ v0)) refl
 
   both_nought : (x z s t : ℤ) → s ≡ pos 0 → t ≡ pos 0 → x *ℤ s -ℤ z *ℤ t ≡ pos 0
-  both_nought x z s t h k = ap₂ (λ (u v : ℤ). x *ℤ u -ℤ z *ℤ v) h k ∙ ring (x ∷ z ∷ []) (v0 ⊗ num (pos 0) ⊖ v1 ⊗ num (pos 0)) (num (pos 0)) refl
+  both_nought x z s t h k = ap₂ (λ (u v : ℤ). x *ℤ u -ℤ z *ℤ v) h k
+      ∙ ring (x ∷ z ∷ []) (v0 ⊗ num (pos 0) ⊖ v1 ⊗ num (pos 0)) (num (pos 0)) refl
 
   module _ (p q r : X) (hp : left f g a b p ≡ pos 0) (hq : left f g a b q ≡ pos 0) (hr : left f g a b r ≡ pos 0) where
     level : (s : X) → left f g a b s ≡ pos 0 → area dx dy (f s -ℤ f p) (g s -ℤ g p) ≡ pos 0
@@ -87,12 +93,14 @@ module _ {X : Type 0} (f g : X → ℤ) (a b : X) (apart : IsBefore f g a b) whe
     by_width : dx *ℤ left f g p q r ≡ pos 0
     by_width =
         across (f q -ℤ f p) (g q -ℤ g p) (f r -ℤ f p) (g r -ℤ g p) dx dy
-        ∙ both_nought (f q -ℤ f p) (f r -ℤ f p) (area dx dy (f r -ℤ f p) (g r -ℤ g p)) (area dx dy (f q -ℤ f p) (g q -ℤ g p)) (level r hr) (level q hq)
+        ∙ both_nought (f q -ℤ f p) (f r -ℤ f p) (area dx dy (f r -ℤ f p) (g r -ℤ g p))
+        (area dx dy (f q -ℤ f p) (g q -ℤ g p)) (level r hr) (level q hq)
 
     by_height : dy *ℤ left f g p q r ≡ pos 0
     by_height =
         upwards (f q -ℤ f p) (g q -ℤ g p) (f r -ℤ f p) (g r -ℤ g p) dx dy
-        ∙ both_nought (g q -ℤ g p) (g r -ℤ g p) (area dx dy (f r -ℤ f p) (g r -ℤ g p)) (area dx dy (f q -ℤ f p) (g q -ℤ g p)) (level r hr) (level q hq)
+        ∙ both_nought (g q -ℤ g p) (g r -ℤ g p) (area dx dy (f r -ℤ f p) (g r -ℤ g p))
+        (area dx dy (f q -ℤ f p) (g q -ℤ g p)) (level r hr) (level q hq)
 
     -- three points on the line through a and b lie on one line
     pub on_one_line : left f g p q r ≡ pos 0
@@ -113,7 +121,8 @@ pub each_of : {X : Type 0} (p : X → Bool) (xs : List X) → list_all p xs ≡ 
 each_of p [] h = tt
 each_of p (x ∷ xs) h = let both = and_parts (p x) (list_all p xs) h in (both.0, each_of p xs both.1)
 
-changed : {X : Type 0} {P Q : X → Type 0} → ((x : X) → P x → Q x) → (xs : List X) → AllByRecursion P xs → AllByRecursion Q xs
+changed : {X : Type 0} {P Q : X → Type 0} → ((x : X) → P x → Q x) → (xs : List X) → AllByRecursion P xs
+    → AllByRecursion Q xs
 changed f [] h = tt
 changed f (x ∷ xs) h = (f x h.0, changed f xs h.1)
 
@@ -126,13 +135,16 @@ as_zero : (z : ℤ) → z ≡ pos 0 → is_zero z ≡ true
 as_zero z e = ap is_zero e
 
 end_on : (a b : ℤ × ℤ) → is_zero (flat_left a b b) ≡ true
-end_on a b = as_zero (flat_left a b b) (ring (a.0 ∷ a.1 ∷ b.0 ∷ b.1 ∷ []) ((v2 ⊖ v0) ⊗ (v3 ⊖ v1) ⊖ (v3 ⊖ v1) ⊗ (v2 ⊖ v0)) (num (pos 0)) refl)
+end_on a b = as_zero (flat_left a b b) (ring (a.0 ∷ a.1 ∷ b.0 ∷ b.1 ∷ [])
+    ((v2 ⊖ v0) ⊗ (v3 ⊖ v1) ⊖ (v3 ⊖ v1) ⊗ (v2 ⊖ v0)) (num (pos 0)) refl)
 
 start_on : (a b : ℤ × ℤ) → is_zero (flat_left a b a) ≡ true
-start_on a b = as_zero (flat_left a b a) (ring (a.0 ∷ a.1 ∷ b.0 ∷ b.1 ∷ []) ((v2 ⊖ v0) ⊗ (v1 ⊖ v1) ⊖ (v3 ⊖ v1) ⊗ (v0 ⊖ v0)) (num (pos 0)) refl)
+start_on a b = as_zero (flat_left a b a)
+    (ring (a.0 ∷ a.1 ∷ b.0 ∷ b.1 ∷ []) ((v2 ⊖ v0) ⊗ (v1 ⊖ v1) ⊖ (v3 ⊖ v1) ⊗ (v0 ⊖ v0)) (num (pos 0)) refl)
 
 -- where all points lie on the line through two differing ones, any three lie on one line
-pub line_of : (a b : ℤ × ℤ) → IsBefore (λ s. s.0) (λ s. s.1) a b → (ps : List (ℤ × ℤ)) → AllByRecursion (λ p. flat_left a b p ≡ pos 0) ps → are_on_line ps ≡ true
+pub line_of : (a b : ℤ × ℤ) → IsBefore (λ s. s.0) (λ s. s.1) a b → (ps : List (ℤ × ℤ))
+    → AllByRecursion (λ p. flat_left a b p ≡ pos 0) ps → are_on_line ps ≡ true
 line_of a b apart ps each =
     all_of (λ p. list_all (λ q. list_all (λ r. is_zero (flat_left p q r)) ps) ps) ps
     (changed (λ p hp. all_of (λ q. list_all (λ r. is_zero (flat_left p q r)) ps) ps
@@ -170,12 +182,14 @@ few_on [] h = refl
 few_on (a ∷ []) h = one_on a
 few_on (a ∷ (b ∷ ps)) h = absurd (omega arith)
 
-pub others_on : (ps : List (ℤ × ℤ)) (a b : ℤ × ℤ) → 2 ≤ length ps → a ≡ get_or ps 0 a → b ≡ get_or ps 1 b → IsStrictlySortedBy flat_cmp ps
+pub others_on : (ps : List (ℤ × ℤ)) (a b : ℤ × ℤ) → 2 ≤ length ps → a ≡ get_or ps 0 a → b ≡ get_or ps 1 b
+    → IsStrictlySortedBy flat_cmp ps
     → list_all (λ p. is_zero (flat_left a b p)) ps ≡ are_on_line ps
 unfolding IsStrictlySortedBy
 others_on [] a b h e f s = absurd (omega arith)
 others_on (c ∷ []) a b h e f s = absurd (omega arith)
-others_on (c ∷ (d ∷ ps)) a b h e f s = ap₂ (λ u v. list_all (λ p. is_zero (flat_left u v p)) (c ∷ (d ∷ ps))) e f ∙ by_the_first c d ps s.0.0
+others_on (c ∷ (d ∷ ps)) a b h e f s = ap₂ (λ u v. list_all (λ p. is_zero (flat_left u v p)) (c ∷ (d ∷ ps))) e f
+    ∙ by_the_first c d ps s.0.0
 
 pub few_told : (qs : List (ℤ × ℤ)) → length qs < 2 → nat_lt (length qs) 2 ≡ are_on_line qs
 few_told qs h = less (length qs) h ∙ sym (few_on qs h)

@@ -16,16 +16,21 @@ use Rattle.scad_hull.specs.declared.node.Node.{Node}
 use Rattle.scad_hull.specs.Node.{node_of, point_of}
 use Rattle.scad_hull.specs.Space.{space_cmp}
 
-module _ {X Y : Type 0} (f : X → Y) (c : X → X → Ordering) (d : Y → Y → Ordering) (same : (x y : X) → c x y ≡ d (f x) (f y)) where
+module _ {X Y : Type 0} (f : X → Y) (c : X → X → Ordering) (d : Y → Y → Ordering)
+    (same : (x y : X) → c x y ≡ d (f x) (f y)) where
   put_same : (ks : List X) (k : X) → map f (insert_key c ks k) ≡ insert_key d (map f ks) (f k)
   put_same [] k = refl
   put_same (x ∷ xs) k =
-      elim (c k x) as (λ o. d (f k) (f x) ≡ o → map f (match_ordering o (k ∷ (x ∷ xs)) (x ∷ xs) (x ∷ insert_key c xs k)) ≡ insert_key d (f x ∷ map f xs) (f k)) [
-        | Less ↦ (λ e. ap (λ o. match_ordering o (f k ∷ (f x ∷ map f xs)) (f x ∷ map f xs) (f x ∷ insert_key d (map f xs) (f k))) (sym e))
-        | Equal ↦ (λ e. ap (λ o. match_ordering o (f k ∷ (f x ∷ map f xs)) (f x ∷ map f xs) (f x ∷ insert_key d (map f xs) (f k))) (sym e))
+      elim (c k x) as (λ o. d (f k) (f x) ≡ o → map f
+      (match_ordering o (k ∷ (x ∷ xs)) (x ∷ xs) (x ∷ insert_key c xs k)) ≡ insert_key d (f x ∷ map f xs) (f k)) [
+        | Less ↦ (λ e. ap (λ o. match_ordering o (f k ∷ (f x ∷ map f xs)) (f x ∷ map f xs)
+            (f x ∷ insert_key d (map f xs) (f k))) (sym e))
+        | Equal ↦ (λ e. ap (λ o. match_ordering o (f k ∷ (f x ∷ map f xs)) (f x ∷ map f xs)
+            (f x ∷ insert_key d (map f xs) (f k))) (sym e))
         | Greater ↦ (λ e.
             ap (λ ys. f x ∷ ys) (put_same xs k)
-            ∙ ap (λ o. match_ordering o (f k ∷ (f x ∷ map f xs)) (f x ∷ map f xs) (f x ∷ insert_key d (map f xs) (f k))) (sym e))
+            ∙ ap (λ o. match_ordering o (f k ∷ (f x ∷ map f xs)) (f x ∷ map f xs)
+            (f x ∷ insert_key d (map f xs) (f k))) (sym e))
       ] (sym (same k x))
 
   all_same : (ks ps : List X) → map f (with_all c ks ps) ≡ with_all d (map f ks) (map f ps)
@@ -35,7 +40,8 @@ module _ {X Y : Type 0} (f : X → Y) (c : X → X → Ordering) (d : Y → Y �
   pub distinct_same : (ps : List X) → map f (distinct c ps) ≡ distinct d (map f ps)
   distinct_same ps = all_same [] ps
 
-  below_all : (x : X) (xs : List X) → AllByRecursion (λ y. c x y ≡ Less) xs → AllByRecursion (λ y. d (f x) y ≡ Less) (map f xs)
+  below_all : (x : X) (xs : List X) → AllByRecursion (λ y. c x y ≡ Less) xs
+      → AllByRecursion (λ y. d (f x) y ≡ Less) (map f xs)
   below_all x [] h = tt
   below_all x (y ∷ ys) h = (sym (same x y) ∙ h.0, below_all x ys h.1)
 
@@ -53,7 +59,8 @@ there_and_back [] = refl
 there_and_back (p ∷ ps) = ap (λ qs. p ∷ qs) (there_and_back ps)
 
 pub spots_same : (ps : List (ℤ × ℤ)) → map pair_of (distinct spot_cmp (map spot_of ps)) ≡ distinct flat_cmp ps
-spots_same ps = distinct_same pair_of spot_cmp flat_cmp (λ x y. refl) (map spot_of ps) ∙ ap (distinct flat_cmp) (there_and_back ps)
+spots_same ps = distinct_same pair_of spot_cmp flat_cmp (λ x y. refl) (map spot_of ps)
+    ∙ ap (distinct flat_cmp) (there_and_back ps)
 
 pub spots_sorted : (ss : List Spot) → IsStrictlySortedBy spot_cmp ss → IsStrictlySortedBy flat_cmp (map pair_of ss)
 spots_sorted ss h = sorted_same pair_of spot_cmp flat_cmp (λ x y. refl) ss h

@@ -15,32 +15,40 @@ high a b (inr h) = let e = h.0 in omega (arith, ints)
 
 join : (a b c d e f : ℤ) → d *ℤ area a b e f ≡ b *ℤ area c d e f +ℤ f *ℤ area a b c d
 join a b c d e f =
-    ring (a ∷ b ∷ c ∷ d ∷ e ∷ f ∷ []) (v3 ⊗ (v0 ⊗ v5 ⊖ v1 ⊗ v4)) (v1 ⊗ (v2 ⊗ v5 ⊖ v3 ⊗ v4) ⊕ v5 ⊗ (v0 ⊗ v3 ⊖ v1 ⊗ v2)) refl
+    ring (a ∷ b ∷ c ∷ d ∷ e ∷ f ∷ []) (v3 ⊗ (v0 ⊗ v5 ⊖ v1 ⊗ v4))
+    (v1 ⊗ (v2 ⊗ v5 ⊖ v3 ⊗ v4) ⊕ v5 ⊗ (v0 ⊗ v3 ⊖ v1 ⊗ v2)) refl
 
 flat_area : (a b c d : ℤ) → d ≡ pos 0 → area a b c d ≡ pos 0 -ℤ b *ℤ c
-flat_area a b c d e = ap (λ (z : ℤ). a *ℤ z -ℤ b *ℤ c) e ∙ ring (a ∷ b ∷ c ∷ []) (v0 ⊗ num (pos 0) ⊖ v1 ⊗ v2) (num (pos 0) ⊖ v1 ⊗ v2) refl
+flat_area a b c d e = ap (λ (z : ℤ). a *ℤ z -ℤ b *ℤ c) e
+    ∙ ring (a ∷ b ∷ c ∷ []) (v0 ⊗ num (pos 0) ⊖ v1 ⊗ v2) (num (pos 0) ⊖ v1 ⊗ v2) refl
 
 flat_first : (a b c d : ℤ) → b ≡ pos 0 → area a b c d ≡ a *ℤ d
-flat_first a b c d e = ap (λ (z : ℤ). a *ℤ d -ℤ z *ℤ c) e ∙ ring (a ∷ c ∷ d ∷ []) (v0 ⊗ v2 ⊖ num (pos 0) ⊗ v1) (v0 ⊗ v2) refl
+flat_first a b c d e = ap (λ (z : ℤ). a *ℤ d -ℤ z *ℤ c) e
+    ∙ ring (a ∷ c ∷ d ∷ []) (v0 ⊗ v2 ⊖ num (pos 0) ⊗ v1) (v0 ⊗ v2) refl
 
 product_flip : (a b : ℤ) → a *ℤ b ≡ b *ℤ a
 product_flip a b = ring (a ∷ b ∷ []) (v0 ⊗ v1) (v1 ⊗ v0) refl
 
 from_product : (b c : ℤ) → pos 0 <ℤ c → pos 0 ≤ℤ (pos 0 -ℤ b *ℤ c) → pos 0 ≤ℤ b → b ≡ pos 0
 from_product b c h k l =
-    let m = at_least_left (pos 0 -ℤ b) c h (subst (λ (z : ℤ). pos 0 ≤ℤ z) (ring (b ∷ c ∷ []) (num (pos 0) ⊖ v0 ⊗ v1) ((num (pos 0) ⊖ v0) ⊗ v1) refl) k) in
+    let m = at_least_left (pos 0 -ℤ b) c h (subst (λ (z : ℤ). pos 0 ≤ℤ z)
+    (ring (b ∷ c ∷ []) (num (pos 0) ⊖ v0 ⊗ v1) ((num (pos 0) ⊖ v0) ⊗ v1) refl) k) in
     omega (arith, ints)
 
 -- to the left of what is to the left
-pub area_on : (a b c d e f : ℤ) → IsOnward a b → IsOnward c d → IsOnward e f → pos 0 ≤ℤ area a b c d → pos 0 ≤ℤ area c d e f → pos 0 ≤ℤ area a b e f
+pub area_on : (a b c d e f : ℤ) → IsOnward a b → IsOnward c d → IsOnward e f → pos 0 ≤ℤ area a b c d
+    → pos 0 ≤ℤ area c d e f → pos 0 ≤ℤ area a b e f
 area_on a b c d e f u (inl v) w h k =
-    at_least_left (area a b e f) d v (subst (λ (z : ℤ). pos 0 ≤ℤ z) (sym (join a b c d e f) ∙ product_flip d (area a b e f))
-    (sum (b *ℤ area c d e f) (f *ℤ area a b c d) (at_least_mul b (area c d e f) (high a b u) k) (at_least_mul f (area a b c d) (high e f w) h)))
+    at_least_left (area a b e f) d v (subst (λ (z : ℤ). pos 0 ≤ℤ z)
+    (sym (join a b c d e f) ∙ product_flip d (area a b e f))
+    (sum (b *ℤ area c d e f) (f *ℤ area a b c d) (at_least_mul b (area c d e f) (high a b u) k)
+    (at_least_mul f (area a b c d) (high e f w) h)))
   where
     sum : (s t : ℤ) → pos 0 ≤ℤ s → pos 0 ≤ℤ t → pos 0 ≤ℤ (s +ℤ t)
     sum s t x y = omega (arith, ints)
 area_on a b c d e f u (inr v) w h k =
-    let flat : b ≡ pos 0 = from_product b c v.1 (subst (λ (z : ℤ). pos 0 ≤ℤ z) (flat_area a b c d v.0) h) (high a b u) in
+    let flat : b ≡ pos 0 = from_product b c v.1 (subst (λ (z : ℤ). pos 0 ≤ℤ z) (flat_area a b c d v.0) h)
+    (high a b u) in
     subst (λ (z : ℤ). pos 0 ≤ℤ z) (sym (flat_first a b e f flat)) (at_least_mul a f (right u flat) (high e f w))
   where
     right : IsOnward a b → b ≡ pos 0 → pos 0 ≤ℤ a
@@ -59,11 +67,13 @@ module _ {X : Type 0} (f g : X → ℤ) where
 
   turned : (a b c : X) → left f g a c b ≡ pos 0 -ℤ left f g a b c
   turned a b c =
-      ring (f a ∷ g a ∷ f b ∷ g b ∷ f c ∷ g c ∷ []) ((v4 ⊖ v0) ⊗ (v3 ⊖ v1) ⊖ (v5 ⊖ v1) ⊗ (v2 ⊖ v0)) (num (pos 0) ⊖ ((v2 ⊖ v0) ⊗ (v5 ⊖ v1) ⊖ (v3 ⊖ v1) ⊗ (v4 ⊖ v0))) refl
+      ring (f a ∷ g a ∷ f b ∷ g b ∷ f c ∷ g c ∷ []) ((v4 ⊖ v0) ⊗ (v3 ⊖ v1) ⊖ (v5 ⊖ v1) ⊗ (v2 ⊖ v0))
+      (num (pos 0) ⊖ ((v2 ⊖ v0) ⊗ (v5 ⊖ v1) ⊖ (v3 ⊖ v1) ⊗ (v4 ⊖ v0))) refl
 
   swapped : (a b c : X) → left f g b a c ≡ pos 0 -ℤ left f g a b c
   swapped a b c =
-      ring (f a ∷ g a ∷ f b ∷ g b ∷ f c ∷ g c ∷ []) ((v0 ⊖ v2) ⊗ (v5 ⊖ v3) ⊖ (v1 ⊖ v3) ⊗ (v4 ⊖ v2)) (num (pos 0) ⊖ ((v2 ⊖ v0) ⊗ (v5 ⊖ v1) ⊖ (v3 ⊖ v1) ⊗ (v4 ⊖ v0))) refl
+      ring (f a ∷ g a ∷ f b ∷ g b ∷ f c ∷ g c ∷ []) ((v0 ⊖ v2) ⊗ (v5 ⊖ v3) ⊖ (v1 ⊖ v3) ⊗ (v4 ⊖ v2))
+      (num (pos 0) ⊖ ((v2 ⊖ v0) ⊗ (v5 ⊖ v1) ⊖ (v3 ⊖ v1) ⊗ (v4 ⊖ v0))) refl
 
   ends : (a b : X) → left f g a b b ≡ pos 0
   ends a b = ring (f a ∷ g a ∷ f b ∷ g b ∷ []) ((v2 ⊖ v0) ⊗ (v3 ⊖ v1) ⊖ (v3 ⊖ v1) ⊗ (v2 ⊖ v0)) (num (pos 0)) refl
@@ -136,19 +146,23 @@ module _ {X : Type 0} (f g : X → ℤ) where
   -- a point before t, as ways from t see it
   amid_from : (u t q : X) → left f g u t q ≡ area (f u -ℤ f t) (g u -ℤ g t) (f t -ℤ f q) (g t -ℤ g q)
   amid_from u t q =
-      ring (f u ∷ g u ∷ f t ∷ g t ∷ f q ∷ g q ∷ []) ((v2 ⊖ v0) ⊗ (v5 ⊖ v1) ⊖ (v3 ⊖ v1) ⊗ (v4 ⊖ v0)) ((v0 ⊖ v2) ⊗ (v3 ⊖ v5) ⊖ (v1 ⊖ v3) ⊗ (v2 ⊖ v4)) refl
+      ring (f u ∷ g u ∷ f t ∷ g t ∷ f q ∷ g q ∷ []) ((v2 ⊖ v0) ⊗ (v5 ⊖ v1) ⊖ (v3 ⊖ v1) ⊗ (v4 ⊖ v0))
+      ((v0 ⊖ v2) ⊗ (v3 ⊖ v5) ⊖ (v1 ⊖ v3) ⊗ (v2 ⊖ v4)) refl
 
   amid_to : (q t p : X) → left f g t p q ≡ area (f t -ℤ f q) (g t -ℤ g q) (f p -ℤ f t) (g p -ℤ g t)
   amid_to q t p =
-      ring (f q ∷ g q ∷ f t ∷ g t ∷ f p ∷ g p ∷ []) ((v4 ⊖ v2) ⊗ (v1 ⊖ v3) ⊖ (v5 ⊖ v3) ⊗ (v0 ⊖ v2)) ((v2 ⊖ v0) ⊗ (v5 ⊖ v3) ⊖ (v3 ⊖ v1) ⊗ (v4 ⊖ v2)) refl
+      ring (f q ∷ g q ∷ f t ∷ g t ∷ f p ∷ g p ∷ []) ((v4 ⊖ v2) ⊗ (v1 ⊖ v3) ⊖ (v5 ⊖ v3) ⊗ (v0 ⊖ v2))
+      ((v2 ⊖ v0) ⊗ (v5 ⊖ v3) ⊖ (v3 ⊖ v1) ⊗ (v4 ⊖ v2)) refl
 
   amid_back_from : (u t q : X) → left f g u t q ≡ area (f t -ℤ f u) (g t -ℤ g u) (f q -ℤ f t) (g q -ℤ g t)
   amid_back_from u t q =
-      ring (f u ∷ g u ∷ f t ∷ g t ∷ f q ∷ g q ∷ []) ((v2 ⊖ v0) ⊗ (v5 ⊖ v1) ⊖ (v3 ⊖ v1) ⊗ (v4 ⊖ v0)) ((v2 ⊖ v0) ⊗ (v5 ⊖ v3) ⊖ (v3 ⊖ v1) ⊗ (v4 ⊖ v2)) refl
+      ring (f u ∷ g u ∷ f t ∷ g t ∷ f q ∷ g q ∷ []) ((v2 ⊖ v0) ⊗ (v5 ⊖ v1) ⊖ (v3 ⊖ v1) ⊗ (v4 ⊖ v0))
+      ((v2 ⊖ v0) ⊗ (v5 ⊖ v3) ⊖ (v3 ⊖ v1) ⊗ (v4 ⊖ v2)) refl
 
   amid_back_to : (q t p : X) → left f g t p q ≡ area (f q -ℤ f t) (g q -ℤ g t) (f t -ℤ f p) (g t -ℤ g p)
   amid_back_to q t p =
-      ring (f q ∷ g q ∷ f t ∷ g t ∷ f p ∷ g p ∷ []) ((v4 ⊖ v2) ⊗ (v1 ⊖ v3) ⊖ (v5 ⊖ v3) ⊗ (v0 ⊖ v2)) ((v0 ⊖ v2) ⊗ (v3 ⊖ v5) ⊖ (v1 ⊖ v3) ⊗ (v2 ⊖ v4)) refl
+      ring (f q ∷ g q ∷ f t ∷ g t ∷ f p ∷ g p ∷ []) ((v4 ⊖ v2) ⊗ (v1 ⊖ v3) ⊖ (v5 ⊖ v3) ⊗ (v0 ⊖ v2))
+      ((v0 ⊖ v2) ⊗ (v3 ⊖ v5) ⊖ (v1 ⊖ v3) ⊗ (v2 ⊖ v4)) refl
 
   pub plane : IsPlane (left f g) (IsBefore f g) Same
   plane = record {
@@ -167,7 +181,8 @@ module _ {X : Type 0} (f g : X → ℤ) where
         (same_sign (left f g u t q) (area (f t -ℤ f q) (g t -ℤ g q) (f t -ℤ f u) (g t -ℤ g u)) (left_to u t q) h)
         (weak (left f g u t p) (area (f t -ℤ f u) (g t -ℤ g u) (f p -ℤ f t) (g p -ℤ g t)) (left_on u t p) k));
     onward = λ a b c p ab bc cp h k.
-        more (left f g a b p) (left f g a b c) (area (f b -ℤ f a) (g b -ℤ g a) (f p -ℤ f c) (g p -ℤ g c)) (sum_left a b c p) h
+        more (left f g a b p) (left f g a b c) (area (f b -ℤ f a) (g b -ℤ g a) (f p -ℤ f c) (g p -ℤ g c))
+        (sum_left a b c p) h
         (area_on (f b -ℤ f a) (g b -ℤ g a) (f c -ℤ f b) (g c -ℤ g b) (f p -ℤ f c) (g p -ℤ g c) ab bc cp
         (weak (left f g a b c) (area (f b -ℤ f a) (g b -ℤ g a) (f c -ℤ f b) (g c -ℤ g b)) (left_on a b c) h)
         (weak (left f g b c p) (area (f c -ℤ f b) (g c -ℤ g b) (f p -ℤ f c) (g p -ℤ g c)) (left_on b c p) k));
@@ -235,7 +250,8 @@ module _ {X : Type 0} (f g : X → ℤ) where
         (same_sign (left f g u t q) (area (f q -ℤ f t) (g q -ℤ g t) (f u -ℤ f t) (g u -ℤ g t)) (back_to u t q) h)
         (weak (left f g u t p) (area (f u -ℤ f t) (g u -ℤ g t) (f t -ℤ f p) (g t -ℤ g p)) (back_on u t p) k));
     onward = λ a b c p ab bc cp h k.
-        more (left f g a b p) (left f g a b c) (area (f a -ℤ f b) (g a -ℤ g b) (f c -ℤ f p) (g c -ℤ g p)) (back_sum a b c p) h
+        more (left f g a b p) (left f g a b c) (area (f a -ℤ f b) (g a -ℤ g b) (f c -ℤ f p) (g c -ℤ g p))
+        (back_sum a b c p) h
         (area_on (f a -ℤ f b) (g a -ℤ g b) (f b -ℤ f c) (g b -ℤ g c) (f c -ℤ f p) (g c -ℤ g p) ab bc cp
         (weak (left f g a b c) (area (f a -ℤ f b) (g a -ℤ g b) (f b -ℤ f c) (g b -ℤ g c)) (back_on a b c) h)
         (weak (left f g b c p) (area (f b -ℤ f c) (g b -ℤ g c) (f c -ℤ f p) (g c -ℤ g p)) (back_on b c p) k));

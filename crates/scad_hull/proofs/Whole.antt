@@ -16,7 +16,8 @@ pub recursion_of : {X : Type 0} (P : X → Type 0) (xs : List X) → All P xs �
 recursion_of P [] h = tt
 recursion_of P (x ∷ xs) h = (h 0 x (omega arith), recursion_of P xs (λ k d i. h (suc k) d (omega arith)))
 
-weakened : {X : Type 0} {P Q : X → Type 0} → ((x : X) → P x → Q x) → (xs : List X) → AllByRecursion P xs → AllByRecursion Q xs
+weakened : {X : Type 0} {P Q : X → Type 0} → ((x : X) → P x → Q x) → (xs : List X) → AllByRecursion P xs
+    → AllByRecursion Q xs
 weakened f [] h = tt
 weakened f (x ∷ xs) h = (f x h.0, weakened f xs h.1)
 
@@ -26,19 +27,27 @@ end_all P (b ∷ behind) w z h = end_all P behind w z h.1
 
 onto : {X : Type 0} (xs acc : List X) → reverse_aux xs acc ≡ reverse xs ++ acc
 onto [] acc = refl
-onto (x ∷ xs) acc = onto xs (x ∷ acc) ∙ sym (append_assoc (reverse xs) (x ∷ []) acc) ∙ ap (λ ys. ys ++ acc) (sym (onto xs (x ∷ [])))
+onto (x ∷ xs) acc = onto xs (x ∷ acc) ∙ sym (append_assoc (reverse xs) (x ∷ []) acc)
+    ∙ ap (λ ys. ys ++ acc) (sym (onto xs (x ∷ [])))
 
 -- what two overlapping ways begin with
-two_first : {X : Type 0} (R : List X) (u M m w : X) (F T : List X) (v o : X) (G : List X) → R ++ (u ∷ (M ∷ [])) ≡ m ∷ (w ∷ F) → T ++ (v ∷ (m ∷ [])) ≡ M ∷ (o ∷ G)
+two_first : {X : Type 0} (R : List X) (u M m w : X) (F T : List X) (v o : X) (G : List X) → R ++ (u ∷ (M ∷ [])) ≡ m
+    ∷ (w ∷ F) → T ++ (v ∷ (m ∷ [])) ≡ M ∷ (o ∷ G)
     → (ks : List X) × ((R ++ (u ∷ [])) ++ (T ++ (v ∷ [])) ≡ m ∷ (w ∷ ks))
 two_first [] u M m w F [] v o G e f =
     ([], ap₂ (λ x y. x ∷ (y ∷ [])) (ap (λ l. get_or l 0 u) e) (ap (λ l. get_or l 0 v) f ∙ ap (λ l. get_or l 1 M) e))
-two_first [] u M m w F (y ∷ T) v o G e f =
-    (T ++ (v ∷ []), ap₂ (λ x z. x ∷ (z ∷ (T ++ (v ∷ [])))) (ap (λ l. get_or l 0 u) e) (ap (λ l. get_or l 0 y) f ∙ ap (λ l. get_or l 1 M) e))
+two_first [] u M m w F (y ∷ T) v o G e f = (
+  T ++ (v ∷ []),
+  ap₂ (λ x z. x ∷ (z ∷ (T ++ (v ∷ [])))) (ap (λ l. get_or l 0 u) e)
+      (ap (λ l. get_or l 0 y) f ∙ ap (λ l. get_or l 1 M) e),
+)
 two_first (x ∷ []) u M m w F T v o G e f =
     (T ++ (v ∷ []), ap₂ (λ a b. a ∷ (b ∷ (T ++ (v ∷ [])))) (ap (λ l. get_or l 0 x) e) (ap (λ l. get_or l 1 u) e))
-two_first (x ∷ (y ∷ R)) u M m w F T v o G e f =
-    ((R ++ (u ∷ [])) ++ (T ++ (v ∷ [])), ap₂ (λ a b. a ∷ (b ∷ ((R ++ (u ∷ [])) ++ (T ++ (v ∷ []))))) (ap (λ l. get_or l 0 x) e) (ap (λ l. get_or l 1 y) e))
+two_first (x ∷ (y ∷ R)) u M m w F T v o G e f = (
+  (R ++ (u ∷ [])) ++ (T ++ (v ∷ [])),
+  ap₂ (λ a b. a ∷ (b ∷ ((R ++ (u ∷ [])) ++ (T ++ (v ∷ [])))))
+      (ap (λ l. get_or l 0 x) e) (ap (λ l. get_or l 1 y) e),
+)
 
 -- ---- corners
 module _ {X : Type 0} (left : X → X → X → ℤ) (Before Same : X → X → Type 0) (plane : IsPlane left Before Same) where
@@ -58,16 +67,19 @@ module _ {X : Type 0} (left : X → X → X → ℤ) (Before Same : X → X → 
       level : (z : ℤ) → pos 0 ≤ℤ z → z ≤ℤ pos 0 → z ≡ pos 0
       level z h k = omega (arith, ints)
 
-      on : left a c b ≡ pos 0 → (q : X) → ((pos 0 ≤ℤ left a c q) × ((pos 0 ≤ℤ left c b q) × (Before c q ⊎ Same c q))) → left c a q ≡ pos 0
+      on : left a c b ≡ pos 0 → (q : X) → ((pos 0 ≤ℤ left a c q) × ((pos 0 ≤ℤ left c b q) × (Before c q ⊎ Same c q)))
+          → left c a q ≡ pos 0
       on flat q (x, (y, inl z)) =
           squeezed (left a c q) (left c a q) (plane.swapped a c q) x
           (plane.through c a q b ca z cb y (turned_zero (left a c b) (left c a b) (plane.swapped a c b) flat))
       on flat q (x, (y, inr z)) = plane.still c a q z
 
 -- ---- the ring
-module _ {X : Type 0} (left : X → X → X → ℤ) (Before After Same : X → X → Type 0) (plane : IsPlane left Before Same) (back : IsPlane left After Same)
+module _ {X : Type 0} (left : X → X → X → ℤ) (Before After Same : X → X → Type 0) (plane : IsPlane left Before Same)
+    (back : IsPlane left After Same)
     (opposite : (a b : X) → Before a b → After b a) (again : (a b : X) → After a b → Before b a) where
-  module _ (points : List X) (apart : (a b : X) → Before a b → AllByRecursion (λ q. left a b q ≡ pos 0) points → ⊥) (m M u v : X) (s t : List X) where
+  module _ (points : List X) (apart : (a b : X) → Before a b → AllByRecursion (λ q. left a b q ≡ pos 0) points → ⊥)
+      (m M u v : X) (s t : List X) where
     -- what is known of a point
     pub record IsKnown (q : X) : Type 0 where
       pub listed : Contains points q
@@ -76,8 +88,10 @@ module _ {X : Type 0} (left : X → X → X → ℤ) (Before After Same : X → 
       pub first : Before m q ⊎ Same m q
       pub last : After M q ⊎ Same M q
 
-    module _ (each : AllByRecursion IsKnown points) (turns : Turns left Before Same plane (M ∷ (u ∷ s))) (turns_back : Turns left After Same back (m ∷ (v ∷ t)))
-        (ends : EndsIn m (M ∷ (u ∷ s))) (ends_back : EndsIn M (m ∷ (v ∷ t))) (known : AllByRecursion IsKnown (M ∷ (u ∷ s))) (known_back : AllByRecursion IsKnown (m ∷ (v ∷ t)))
+    module _ (each : AllByRecursion IsKnown points) (turns : Turns left Before Same plane (M ∷ (u ∷ s)))
+        (turns_back : Turns left After Same back (m ∷ (v ∷ t)))
+        (ends : EndsIn m (M ∷ (u ∷ s))) (ends_back : EndsIn M (m ∷ (v ∷ t)))
+        (known : AllByRecursion IsKnown (M ∷ (u ∷ s))) (known_back : AllByRecursion IsKnown (m ∷ (v ∷ t)))
         (out : EndSide m (M ∷ (u ∷ s))) (in_ : EndSide M (m ∷ (v ∷ t))) where
       abbrev w : X
       w = out.from
@@ -107,17 +121,20 @@ module _ {X : Type 0} (left : X → X → X → ℤ) (Before After Same : X → 
       known_o = end_all IsKnown in_.behind o M (subst (AllByRecursion IsKnown) in_.is known_back)
 
       over_w : (q : X) → IsKnown q → pos 0 ≤ℤ left m w q
-      over_w q k = under_end left Before Same plane q out.behind w m (subst (Under left Before Same plane q) out.is k.there)
+      over_w q k = under_end left Before Same plane q out.behind w m
+          (subst (Under left Before Same plane q) out.is k.there)
 
       over_o : (q : X) → IsKnown q → pos 0 ≤ℤ left M o q
-      over_o q k = under_end left After Same back q in_.behind o M (subst (Under left After Same back q) in_.is k.hither)
+      over_o q k = under_end left After Same back q in_.behind o M
+          (subst (Under left After Same back q) in_.is k.hither)
 
       -- the two corners at which the chains meet
       last_corner : pos 0 <ℤ left u M o
       last_corner =
           strict left After Same back M u o (opposite u M u_before_M) o_behind_M points
           (weakened (λ q k. (k.there.0, (over_o q k, k.last))) points each)
-          (λ line. apart u M u_before_M (weakened (λ q e. unturned (left u M q) (left M u q) (plane.swapped u M q) e) points line))
+          (λ line. apart u M u_before_M (weakened (λ q e. unturned (left u M q) (left M u q) (plane.swapped u M q) e)
+          points line))
           known_o.there.0
         where
           unturned : (x y : ℤ) → y ≡ pos 0 -ℤ x → y ≡ pos 0 → x ≡ pos 0
@@ -148,7 +165,8 @@ module _ {X : Type 0} (left : X → X → X → ℤ) (Before After Same : X → 
 
       -- the way back, and on to the ring's second corner
       back_on : reverse t ++ (v ∷ (m ∷ (w ∷ []))) ≡ M ∷ (o ∷ onwards)
-      back_on = sym (append_assoc (reverse t) (v ∷ (m ∷ [])) (w ∷ [])) ∙ ap (λ ys. ys ++ (w ∷ [])) (sym back_end ∙ back_start)
+      back_on = sym (append_assoc (reverse t) (v ∷ (m ∷ [])) (w ∷ []))
+          ∙ ap (λ ys. ys ++ (w ∷ [])) (sym back_end ∙ back_start)
 
       abbrev way : List X
       way = reverse s ++ (u ∷ (M ∷ (o ∷ onwards)))
@@ -162,7 +180,8 @@ module _ {X : Type 0} (left : X → X → X → ℤ) (Before After Same : X → 
 
       start : (ks : List X) × (ring ≡ m ∷ (w ∷ ks))
       start =
-          let (ks, e) = two_first (reverse s) u M m w (reverse out.behind) (reverse t) v o (reverse in_.behind) (sym there_end ∙ there_start) (sym back_end ∙ back_start) in
+          let (ks, e) = two_first (reverse s) u M m w (reverse out.behind) (reverse t) v o (reverse in_.behind)
+          (sym there_end ∙ there_start) (sym back_end ∙ back_start) in
           (ks, ap₂ (λ xs ys. xs ++ ys) (reverse_onto s u []) (reverse_onto t v []) ∙ e)
 
       round_is : round ring ≡ way
@@ -176,23 +195,28 @@ module _ {X : Type 0} (left : X → X → X → ℤ) (Before After Same : X → 
           (subst (AllTurnLeft left) there_end (turns_reversed left Before Same plane M (u ∷ s) turns)) (
             last_corner,
             subst (AllTurnLeft left) back_on
-                (turn_more left (reverse t) v m w (subst (AllTurnLeft left) back_end (turns_reversed left After Same back m (v ∷ t) turns_back)) first_corner),
+                (turn_more left (reverse t) v m w (subst (AllTurnLeft left) back_end
+                (turns_reversed left After Same back m (v ∷ t) turns_back)) first_corner),
           ))
 
       all_hold : (q : X) → IsKnown q → IsRightOfNone left q (round ring)
       all_hold q k = subst (IsRightOfNone left q) (sym round_is)
           (subst (IsRightOfNone left q) (append_assoc (reverse s) (u ∷ []) (M ∷ (o ∷ onwards)))
           (right_join left q (reverse s ++ (u ∷ [])) M (o ∷ onwards)
-          (subst (IsRightOfNone left q) (there_end ∙ sym (append_assoc (reverse s) (u ∷ []) (M ∷ []))) (rights_reversed left Before Same plane q M (u ∷ s) k.there))
+          (subst (IsRightOfNone left q) (there_end ∙ sym (append_assoc (reverse s) (u ∷ []) (M ∷ [])))
+          (rights_reversed left Before Same plane q M (u ∷ s) k.there))
           (subst (IsRightOfNone left q) (append_assoc (reverse t) (v ∷ []) (m ∷ (w ∷ [])) ∙ back_on)
           (right_more left q (reverse t ++ (v ∷ [])) m w
-          (subst (IsRightOfNone left q) (back_end ∙ sym (append_assoc (reverse t) (v ∷ []) (m ∷ []))) (rights_reversed left After Same back q m (v ∷ t) k.hither))
+          (subst (IsRightOfNone left q) (back_end ∙ sym (append_assoc (reverse t) (v ∷ []) (m ∷ [])))
+          (rights_reversed left After Same back q m (v ∷ t) k.hither))
           (over_w q k)))))
 
       starts : StartsFirst left Before ring
       starts =
-          let later : AllByRecursion (Before m) (v ∷ t) = weakened (λ q h. again q m h) (v ∷ t) (order_all left After Same back m (v ∷ t) turns_back) in
-          let (ys, e, h) = first_of left Before Same plane m u s (turns_on left Before Same plane M u s turns) ends (reverse (v ∷ t)) (all_turned (Before m) (v ∷ t) [] later tt) in
+          let later : AllByRecursion (Before m) (v ∷ t) = weakened (λ q h. again q m h) (v ∷ t)
+          (order_all left After Same back m (v ∷ t) turns_back) in
+          let (ys, e, h) = first_of left Before Same plane m u s (turns_on left Before Same plane M u s turns) ends
+          (reverse (v ∷ t)) (all_turned (Before m) (v ∷ t) [] later tt) in
           subst (StartsFirst left Before) (sym e ∙ onto (u ∷ s) (reverse (v ∷ t))) (All-from_recursion (Before m) ys h)
 
       three : 3 ≤ length ring
@@ -231,7 +255,8 @@ module _ {X : Type 0} (left : X → X → X → ℤ) (Before After Same : X → 
     | inr (inr h) ↦ absurd (plane.once q q h h)
   ]
 
-  both : (P Q : X → Type 0) (xs : List X) → AllByRecursion P xs → AllByRecursion Q xs → AllByRecursion (λ q. P q × Q q) xs
+  both : (P Q : X → Type 0) (xs : List X) → AllByRecursion P xs → AllByRecursion Q xs
+      → AllByRecursion (λ q. P q × Q q) xs
   both P Q [] h k = tt
   both P Q (x ∷ xs) h k = ((h.0, k.0), both P Q xs h.1 k.1)
 
@@ -248,7 +273,8 @@ module _ {X : Type 0} (left : X → X → X → ℤ) (Before After Same : X → 
         let h : Before m m = subst (Before m) e (final_all (Before m) p ps ascends.0.0 ascends.0.1) in
         plane.once m m h h
 
-    built : (qs s t : List X) → reverse points ≡ M ∷ qs → EndsIn m (M ∷ qs) → led left (m ∷ []) (p ∷ ps) ≡ M ∷ s → led left (M ∷ []) qs ≡ m ∷ t
+    built : (qs s t : List X) → reverse points ≡ M ∷ qs → EndsIn m (M ∷ qs) → led left (m ∷ []) (p ∷ ps) ≡ M ∷ s
+        → led left (M ∷ []) qs ≡ m ∷ t
         → IsConvexRing left Before points (ring_round left points)
     built qs [] t r e a b = absurd (different (subst (EndsIn m) a (led_ends left m (p ∷ ps) m [] refl)))
     built qs (u ∷ s) [] r e a b = absurd (different (sym (subst (EndsIn M) b (led_ends left M qs M [] refl))))
@@ -258,8 +284,10 @@ module _ {X : Type 0} (left : X → X → X → ℤ) (Before After Same : X → 
         (subst (Turns left Before Same plane) a (turns_whole left Before Same plane m (p ∷ ps) ascends))
         (subst (Turns left After Same back) b (turns_whole left After Same back M qs ascends_too))
         ends ends_too
-        (subst (AllByRecursion (IsKnown points apart m M u v s t)) a (led_all left (IsKnown points apart m M u v s t) (p ∷ ps) m [] (each.0, tt) each.1))
-        (subst (AllByRecursion (IsKnown points apart m M u v s t)) b (led_all left (IsKnown points apart m M u v s t) qs M [] (each_back.0, tt) each_back.1))
+        (subst (AllByRecursion (IsKnown points apart m M u v s t)) a
+        (led_all left (IsKnown points apart m M u v s t) (p ∷ ps) m [] (each.0, tt) each.1))
+        (subst (AllByRecursion (IsKnown points apart m M u v s t)) b
+        (led_all left (IsKnown points apart m M u v s t) qs M [] (each_back.0, tt) each_back.1))
         (end_side m M u s ends) (end_side M m v t ends_too))
       where
         ends : EndsIn m (M ∷ (u ∷ s))
@@ -269,23 +297,28 @@ module _ {X : Type 0} (left : X → X → X → ℤ) (Before After Same : X → 
         ends_too = subst (EndsIn M) b (led_ends left M qs M [] refl)
 
         ascends_too : Ascends left After Same back (M ∷ qs)
-        ascends_too = subst (Ascends left After Same back) r (ascends_back left Before Same plane After opposite back points [] ascends (none points) tt)
+        ascends_too = subst (Ascends left After Same back) r
+            (ascends_back left Before Same plane After opposite back points [] ascends (none points) tt)
           where
             none : (xs : List X) → Unit {0}
             none xs = tt
 
         ring_is : ring_round left points ≡ reverse (u ∷ s) ++ reverse (v ∷ t)
-        ring_is = ap₂ (λ xs ys. xs ++ ys) (ap (λ st. reverse (rest_of st)) a) (ap (half left) r ∙ ap (λ st. reverse (rest_of st)) b)
+        ring_is = ap₂ (λ xs ys. xs ++ ys) (ap (λ st. reverse (rest_of st)) a)
+            (ap (half left) r ∙ ap (λ st. reverse (rest_of st)) b)
 
         to_points : (P : X → Type 0) → AllByRecursion P (M ∷ qs) → AllByRecursion P points
-        to_points P h = subst (AllByRecursion P) (ap reverse (sym r) ∙ reverse-reverse points) (all_turned P (M ∷ qs) [] h tt)
+        to_points P h = subst (AllByRecursion P) (ap reverse (sym r) ∙ reverse-reverse points)
+            (all_turned P (M ∷ qs) [] h tt)
 
         there : AllByRecursion (λ q. Under left Before Same plane q (M ∷ (u ∷ s))) points
-        there = subst (λ st. AllByRecursion (λ q. Under left Before Same plane q st) points) a (all_under left Before Same plane m (p ∷ ps) ascends)
+        there = subst (λ st. AllByRecursion (λ q. Under left Before Same plane q st) points) a
+            (all_under left Before Same plane m (p ∷ ps) ascends)
 
         hither : AllByRecursion (λ q. Under left After Same back q (m ∷ (v ∷ t))) points
         hither = to_points (λ q. Under left After Same back q (m ∷ (v ∷ t)))
-            (subst (λ st. AllByRecursion (λ q. Under left After Same back q st) (M ∷ qs)) b (all_under left After Same back M qs ascends_too))
+            (subst (λ st. AllByRecursion (λ q. Under left After Same back q st) (M ∷ qs)) b
+            (all_under left After Same back M qs ascends_too))
 
         first : AllByRecursion (λ q. Before m q ⊎ Same m q) points
         first = (inr (same_itself m), weakened (λ q h. inl h) (p ∷ ps) ascends.0)
@@ -294,11 +327,20 @@ module _ {X : Type 0} (left : X → X → X → ℤ) (Before After Same : X → 
         last = to_points (λ q. After M q ⊎ Same M q) (inr (same_itself M), weakened (λ q h. inl h) qs ascends_too.0)
 
         each : AllByRecursion (IsKnown points apart m M u v s t) points
-        each = weakened (λ q h. record { listed = h.0; there = h.1.0; hither = h.1.1.0; first = h.1.1.1.0; last = h.1.1.1.1 }) points
-            (both _ _ points (recursion_of (Contains points) points (All-contains_itself points)) (both _ _ points there (both _ _ points hither (both _ _ points first last))))
+        each = weakened (λ q h. record {
+          listed = h.0;
+          there = h.1.0;
+          hither = h.1.1.0;
+          first = h.1.1.1.0;
+          last =
+              h.1.1.1.1;
+        }) points
+            (both _ _ points (recursion_of (Contains points) points (All-contains_itself points))
+            (both _ _ points there (both _ _ points hither (both _ _ points first last))))
 
         each_back : AllByRecursion (IsKnown points apart m M u v s t) (M ∷ qs)
-        each_back = subst (AllByRecursion (IsKnown points apart m M u v s t)) r (all_turned (IsKnown points apart m M u v s t) points [] each tt)
+        each_back = subst (AllByRecursion (IsKnown points apart m M u v s t)) r
+            (all_turned (IsKnown points apart m M u v s t) points [] each tt)
 
     -- the ring of the chains there and back
     pub ring_made : IsConvexRing left Before points (ring_round left points)

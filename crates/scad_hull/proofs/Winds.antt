@@ -1,4 +1,5 @@
--- Balanced segments with a point on the left of each wind round it; those that lie on one side of a line through it don't.
+-- Balanced segments with a point on the left of each wind round it; those that lie on one side of a line through it
+-- don't.
 use Rattle.std.proofs.Common.{◌≡◌, Bool, true, false, not, ◌&&◌, List, [], ◌∷◌, refl, sym, ap, ap₂, ◌∙◌, arith, subst}
 use lib.IntN.{ℤ, pos, ◌+ℤ◌, ◌-ℤ◌, ◌*ℤ◌}
 use lib.Signed.{◌<ℤ◌, ◌≤ℤ◌}
@@ -28,7 +29,8 @@ weak z h = omega (arith, ints)
 no_false : false ≡ true → ⊥
 no_false e = cc
 
-upper_step : (a b l m : Bool) (z : ℤ) → pos 0 <ℤ z → (a ≡ true → b ≡ true → l ≡ true → m ≡ true) → (counted (b && not m) -ℤ counted (a && not l)) ≤ℤ swing_by true a b z
+upper_step : (a b l m : Bool) (z : ℤ) → pos 0 <ℤ z → (a ≡ true → b ≡ true → l ≡ true → m ≡ true)
+    → (counted (b && not m) -ℤ counted (a && not l)) ≤ℤ swing_by true a b z
 upper_step false true l true z h k = let e = step_up z h in omega (arith, ints)
 upper_step false true l false z h k = let e = step_up z h in omega (arith, ints)
 upper_step true true true true z h k = let e = step_on true true z (weak z h) in omega (arith, ints)
@@ -39,7 +41,8 @@ upper_step false false l m z h k = let e = step_on false false z (weak z h) in o
 upper_step true false true m z h k = let e = step_on true false z (weak z h) in omega (arith, ints)
 upper_step true false false m z h k = let e = step_on true false z (weak z h) in omega (arith, ints)
 
-lower_step : (a b l m : Bool) (z : ℤ) → pos 0 <ℤ z → (a ≡ false → b ≡ false → l ≡ true → m ≡ true) → (counted (b || not m) -ℤ counted (a || not l)) ≤ℤ swing_by true a b z
+lower_step : (a b l m : Bool) (z : ℤ) → pos 0 <ℤ z → (a ≡ false → b ≡ false → l ≡ true → m ≡ true)
+    → (counted (b || not m) -ℤ counted (a || not l)) ≤ℤ swing_by true a b z
 lower_step false true true m z h k = let e = step_up z h in omega (arith, ints)
 lower_step false true false m z h k = let e = step_up z h in omega (arith, ints)
 lower_step true true l m z h k = let e = step_on true true z (weak z h) in omega (arith, ints)
@@ -50,13 +53,15 @@ lower_step false false true false z h k = absurd (no_false (k refl refl refl))
 lower_step false false false true z h k = let e = step_on false false z (weak z h) in omega (arith, ints)
 lower_step false false false false z h k = let e = step_on false false z (weak z h) in omega (arith, ints)
 
-upper_first : (a b : Bool) (z : ℤ) → pos 0 <ℤ z → (a ≡ false → b ≡ true) → (pos 1 +ℤ (counted (b && not true) -ℤ counted (a && not false))) ≤ℤ swing_by true a b z
+upper_first : (a b : Bool) (z : ℤ) → pos 0 <ℤ z → (a ≡ false → b ≡ true)
+    → (pos 1 +ℤ (counted (b && not true) -ℤ counted (a && not false))) ≤ℤ swing_by true a b z
 upper_first true true z h k = let e = step_on true true z (weak z h) in omega (arith, ints)
 upper_first true false z h k = let e = step_on true false z (weak z h) in omega (arith, ints)
 upper_first false true z h k = let e = step_up z h in omega (arith, ints)
 upper_first false false z h k = absurd (no_false (k refl))
 
-lower_first : (a b : Bool) (z : ℤ) → pos 0 <ℤ z → (b ≡ true → a ≡ false) → (pos 1 +ℤ (counted (b || not true) -ℤ counted (a || not false))) ≤ℤ swing_by true a b z
+lower_first : (a b : Bool) (z : ℤ) → pos 0 <ℤ z → (b ≡ true → a ≡ false)
+    → (pos 1 +ℤ (counted (b || not true) -ℤ counted (a || not false))) ≤ℤ swing_by true a b z
 lower_first true true z h k = absurd (no_false (sym (k refl)))
 lower_first true false z h k = let e = step_on true false z (weak z h) in omega (arith, ints)
 lower_first false true z h k = let e = step_up z h in omega (arith, ints)
@@ -66,7 +71,8 @@ lower_first false false z h k = let e = step_on false false z (weak z h) in omeg
 between : (d a b : Point) → a.y *ℤ cross d b ≡ d.y *ℤ cross a b +ℤ b.y *ℤ cross d a
 unfolding cross
 between d a b =
-    ring (d.x ∷ d.y ∷ a.x ∷ a.y ∷ b.x ∷ b.y ∷ []) (v3 ⊗ (v0 ⊗ v5 ⊖ v1 ⊗ v4)) (v1 ⊗ (v2 ⊗ v5 ⊖ v3 ⊗ v4) ⊕ v5 ⊗ (v0 ⊗ v3 ⊖ v1 ⊗ v2)) refl
+    ring (d.x ∷ d.y ∷ a.x ∷ a.y ∷ b.x ∷ b.y ∷ []) (v3 ⊗ (v0 ⊗ v5 ⊖ v1 ⊗ v4))
+    (v1 ⊗ (v2 ⊗ v5 ⊖ v3 ⊗ v4) ⊕ v5 ⊗ (v0 ⊗ v3 ⊖ v1 ⊗ v2)) refl
 
 flip : (a b : ℤ) → a *ℤ b ≡ b *ℤ a
 flip a b = ring (a ∷ b ∷ []) (v0 ⊗ v1) (v1 ⊗ v0) refl
@@ -77,19 +83,24 @@ sum_above s t u e h k = omega (arith, ints)
 sum_below : (s t u : ℤ) → s ≡ t +ℤ u → t <ℤ pos 0 → u ≤ℤ pos 0 → s <ℤ pos 0
 sum_below s t u e h k = omega (arith, ints)
 
-on_above : (d a b : Point) → pos 0 <ℤ d.y → pos 0 <ℤ a.y → pos 0 <ℤ b.y → pos 0 <ℤ cross a b → pos 0 <ℤ cross d a → pos 0 <ℤ cross d b
+on_above : (d a b : Point) → pos 0 <ℤ d.y → pos 0 <ℤ a.y → pos 0 <ℤ b.y → pos 0 <ℤ cross a b → pos 0 <ℤ cross d a
+    → pos 0 <ℤ cross d b
 on_above d a b hd ha hb h k =
     pos_left (cross d b) a.y ha (subst (λ (z : ℤ). pos 0 <ℤ z) (flip a.y (cross d b))
-    (sum_above (a.y *ℤ cross d b) (d.y *ℤ cross a b) (b.y *ℤ cross d a) (between d a b) (positive_product d.y (cross a b) hd h) (weak (b.y *ℤ cross d a) (positive_product b.y (cross d a) hb k))))
+    (sum_above (a.y *ℤ cross d b) (d.y *ℤ cross a b) (b.y *ℤ cross d a) (between d a b)
+    (positive_product d.y (cross a b) hd h) (weak (b.y *ℤ cross d a) (positive_product b.y (cross d a) hb k))))
 
 both_low : (y z : ℤ) → y ≤ℤ pos 0 → z ≤ℤ pos 0 → pos 0 ≤ℤ (y *ℤ z)
-both_low y z h k = subst (λ (w : ℤ). pos 0 ≤ℤ w) (ring (y ∷ z ∷ []) ((num (pos 0) ⊖ v0) ⊗ (num (pos 0) ⊖ v1)) (v0 ⊗ v1) refl)
+both_low y z h k = subst (λ (w : ℤ). pos 0 ≤ℤ w)
+    (ring (y ∷ z ∷ []) ((num (pos 0) ⊖ v0) ⊗ (num (pos 0) ⊖ v1)) (v0 ⊗ v1) refl)
     (at_least_mul (pos 0 -ℤ y) (pos 0 -ℤ z) (omega (arith, ints)) (omega (arith, ints)))
 
-on_below : (d a b : Point) → d.y <ℤ pos 0 → a.y ≤ℤ pos 0 → b.y ≤ℤ pos 0 → pos 0 <ℤ cross a b → pos 0 <ℤ cross d a → pos 0 <ℤ cross d b
+on_below : (d a b : Point) → d.y <ℤ pos 0 → a.y ≤ℤ pos 0 → b.y ≤ℤ pos 0 → pos 0 <ℤ cross a b → pos 0 <ℤ cross d a
+    → pos 0 <ℤ cross d b
 on_below d a b hd ha hb h k = by_lt_z (pos 0) (cross d b) (λ g. g)
     (λ g.
-    let s = sum_below (a.y *ℤ cross d b) (d.y *ℤ cross a b) (b.y *ℤ cross d a) (between d a b) (negative_product d.y (cross a b) h hd) (at_most_mul b.y (cross d a) hb (weak (cross d a) k)) in
+    let s = sum_below (a.y *ℤ cross d b) (d.y *ℤ cross a b) (b.y *ℤ cross d a) (between d a b)
+    (negative_product d.y (cross a b) h hd) (at_most_mul b.y (cross d a) hb (weak (cross d a) k)) in
     let t = both_low a.y (cross d b) ha g in
     absurd (omega (arith, ints)))
 
@@ -127,7 +138,8 @@ module _ (q : Point) (dq : IsPoint q) where
 
   -- ---- sums of a number that no segment raises by more than it turns
   module _ (g : Point → ℤ) (same : (p r : Point) → IsPoint p → IsPoint r → is_same_point p r ≡ true → g p ≡ g r)
-      (step : (s : Segment) → HasLeft s → (g s.to -ℤ g s.from) ≤ℤ swing true true (seen_from q s.from) (seen_from q s.to)) where
+      (step : (s : Segment) → HasLeft s → (g s.to -ℤ g s.from) ≤ℤ swing true true (seen_from q s.from)
+      (seen_from q s.to)) where
     turned_by : (s : Segment) → HasLeft s → (g s.to -ℤ g s.from) ≤ℤ wind q (s ∷ [])
     turned_by s h =
         let e = turn_seen true true q s.from s.to dq h.proper.from in
@@ -143,11 +155,13 @@ module _ (q : Point) (dq : IsPoint q) where
         omega (arith, ints)
 
     once_round : (s : Segment) (ss : List Segment) → AllByRecursion HasLeft (s ∷ ss) → IsBalanced (s ∷ ss)
-        → (pos 1 +ℤ (g s.to -ℤ g s.from)) ≤ℤ swing true true (seen_from q s.from) (seen_from q s.to) → pos 1 ≤ℤ wind q (s ∷ ss)
+        → (pos 1 +ℤ (g s.to -ℤ g s.from)) ≤ℤ swing true true (seen_from q s.from) (seen_from q s.to)
+        → pos 1 ≤ℤ wind q (s ∷ ss)
     once_round s ss h balanced first =
         let e = turn_seen true true q s.from s.to dq h.0.proper.from in
         let r = sums ss h.1 in
-        let t : g s.from +ℤ sum_z g (starts ss) ≡ g s.to +ℤ sum_z g (ends ss) = balanced_totals g same (s ∷ ss) (proper_all (s ∷ ss) h) balanced in
+        let t : g s.from +ℤ sum_z g (starts ss) ≡ g s.to +ℤ sum_z g (ends ss) = balanced_totals g same (s ∷ ss)
+        (proper_all (s ∷ ss) h) balanced in
         omega (arith, ints)
 
   -- ---- by a ray
@@ -173,7 +187,8 @@ module _ (q : Point) (dq : IsPoint q) where
     ahead_same : (p r : Point) → IsPoint p → IsPoint r → is_same_point p r ≡ true → ahead p ≡ ahead r
     ahead_same p r dp dr e =
         let h = along_seen q p r dp dr (are_same p r e) in
-        beyond_same (cross d (seen_from q p)) (cross d (seen_from q r)) h.k h.l h.k_positive h.l_positive (cross_same (seen_from q p) (seen_from q r) h)
+        beyond_same (cross d (seen_from q p)) (cross d (seen_from q r)) h.k h.l h.k_positive h.l_positive
+        (cross_same (seen_from q p) (seen_from q r) h)
 
     abbrev upper : Point → ℤ
     upper p = counted (over p && not (ahead p))
@@ -181,34 +196,50 @@ module _ (q : Point) (dq : IsPoint q) where
     abbrev lower : Point → ℤ
     lower p = counted (over p || not (ahead p))
 
-    upper_round : pos 0 <ℤ d.y → (s : Segment) (ss : List Segment) → AllByRecursion HasLeft (s ∷ ss) → IsBalanced (s ∷ ss)
+    upper_round : pos 0 <ℤ d.y → (s : Segment) (ss : List Segment) → AllByRecursion HasLeft (s ∷ ss)
+        → IsBalanced (s ∷ ss)
         → ahead s.from ≡ false → ahead s.to ≡ true → (over s.from ≡ false → over s.to ≡ true) → pos 1 ≤ℤ wind q (s ∷ ss)
     unfolding swing
     upper_round hd s ss h balanced behind before o =
-        once_round upper (λ p r dp dr e. ap₂ (λ a b. counted (a && not b)) (over_same p r dp dr e) (ahead_same p r dp dr e)) step s ss h balanced first
+        once_round upper (λ p r dp dr e. ap₂ (λ a b. counted (a && not b)) (over_same p r dp dr e)
+        (ahead_same p r dp dr e)) step s ss h balanced first
       where
-        step : (t : Segment) → HasLeft t → (upper t.to -ℤ upper t.from) ≤ℤ swing true true (seen_from q t.from) (seen_from q t.to)
-        step t k = upper_step (over t.from) (over t.to) (ahead t.from) (ahead t.to) (cross (seen_from q t.from) (seen_from q t.to)) k.left
-            (λ a b l. yes (cross d (seen_from q t.to)) (on_above d (seen_from q t.from) (seen_from q t.to) hd (told (seen_from q t.from).y a) (told (seen_from q t.to).y b) k.left (told (cross d (seen_from q t.from)) l)))
+        step : (t : Segment) → HasLeft t → (upper t.to -ℤ upper t.from) ≤ℤ swing true true (seen_from q t.from)
+            (seen_from q t.to)
+        step t k = upper_step (over t.from) (over t.to) (ahead t.from) (ahead t.to)
+            (cross (seen_from q t.from) (seen_from q t.to)) k.left
+            (λ a b l. yes (cross d (seen_from q t.to))
+            (on_above d (seen_from q t.from) (seen_from q t.to) hd (told (seen_from q t.from).y a)
+            (told (seen_from q t.to).y b) k.left (told (cross d (seen_from q t.from)) l)))
 
         first : (pos 1 +ℤ (upper s.to -ℤ upper s.from)) ≤ℤ swing true true (seen_from q s.from) (seen_from q s.to)
-        first = subst (λ b. (pos 1 +ℤ (counted (over s.to && not b) -ℤ upper s.from)) ≤ℤ swing_by true (over s.from) (over s.to) (cross (seen_from q s.from) (seen_from q s.to))) (sym before)
-            (subst (λ b. (pos 1 +ℤ (counted (over s.to && not true) -ℤ counted (over s.from && not b))) ≤ℤ swing_by true (over s.from) (over s.to) (cross (seen_from q s.from) (seen_from q s.to))) (sym behind)
+        first = subst (λ b. (pos 1 +ℤ (counted (over s.to && not b) -ℤ upper s.from)) ≤ℤ swing_by true (over s.from)
+            (over s.to) (cross (seen_from q s.from) (seen_from q s.to))) (sym before)
+            (subst (λ b. (pos 1 +ℤ (counted (over s.to && not true) -ℤ counted (over s.from && not b))) ≤ℤ swing_by
+            true (over s.from) (over s.to) (cross (seen_from q s.from) (seen_from q s.to))) (sym behind)
             (upper_first (over s.from) (over s.to) (cross (seen_from q s.from) (seen_from q s.to)) h.0.left o))
 
-    lower_round : d.y <ℤ pos 0 → (s : Segment) (ss : List Segment) → AllByRecursion HasLeft (s ∷ ss) → IsBalanced (s ∷ ss)
+    lower_round : d.y <ℤ pos 0 → (s : Segment) (ss : List Segment) → AllByRecursion HasLeft (s ∷ ss)
+        → IsBalanced (s ∷ ss)
         → ahead s.from ≡ false → ahead s.to ≡ true → (over s.to ≡ true → over s.from ≡ false) → pos 1 ≤ℤ wind q (s ∷ ss)
     unfolding swing
     lower_round hd s ss h balanced behind before o =
-        once_round lower (λ p r dp dr e. ap₂ (λ a b. counted (a || not b)) (over_same p r dp dr e) (ahead_same p r dp dr e)) step s ss h balanced first
+        once_round lower (λ p r dp dr e. ap₂ (λ a b. counted (a || not b)) (over_same p r dp dr e)
+        (ahead_same p r dp dr e)) step s ss h balanced first
       where
-        step : (t : Segment) → HasLeft t → (lower t.to -ℤ lower t.from) ≤ℤ swing true true (seen_from q t.from) (seen_from q t.to)
-        step t k = lower_step (over t.from) (over t.to) (ahead t.from) (ahead t.to) (cross (seen_from q t.from) (seen_from q t.to)) k.left
-            (λ a b l. yes (cross d (seen_from q t.to)) (on_below d (seen_from q t.from) (seen_from q t.to) hd (told_not (seen_from q t.from).y a) (told_not (seen_from q t.to).y b) k.left (told (cross d (seen_from q t.from)) l)))
+        step : (t : Segment) → HasLeft t → (lower t.to -ℤ lower t.from) ≤ℤ swing true true (seen_from q t.from)
+            (seen_from q t.to)
+        step t k = lower_step (over t.from) (over t.to) (ahead t.from) (ahead t.to)
+            (cross (seen_from q t.from) (seen_from q t.to)) k.left
+            (λ a b l. yes (cross d (seen_from q t.to))
+            (on_below d (seen_from q t.from) (seen_from q t.to) hd (told_not (seen_from q t.from).y a)
+            (told_not (seen_from q t.to).y b) k.left (told (cross d (seen_from q t.from)) l)))
 
         first : (pos 1 +ℤ (lower s.to -ℤ lower s.from)) ≤ℤ swing true true (seen_from q s.from) (seen_from q s.to)
-        first = subst (λ b. (pos 1 +ℤ (counted (over s.to || not b) -ℤ lower s.from)) ≤ℤ swing_by true (over s.from) (over s.to) (cross (seen_from q s.from) (seen_from q s.to))) (sym before)
-            (subst (λ b. (pos 1 +ℤ (counted (over s.to || not true) -ℤ counted (over s.from || not b))) ≤ℤ swing_by true (over s.from) (over s.to) (cross (seen_from q s.from) (seen_from q s.to))) (sym behind)
+        first = subst (λ b. (pos 1 +ℤ (counted (over s.to || not b) -ℤ lower s.from)) ≤ℤ swing_by true (over s.from)
+            (over s.to) (cross (seen_from q s.from) (seen_from q s.to))) (sym before)
+            (subst (λ b. (pos 1 +ℤ (counted (over s.to || not true) -ℤ counted (over s.from || not b))) ≤ℤ swing_by
+            true (over s.from) (over s.to) (cross (seen_from q s.from) (seen_from q s.to))) (sym behind)
             (lower_first (over s.from) (over s.to) (cross (seen_from q s.from) (seen_from q s.to)) h.0.left o))
 
   -- ---- the first segment gives the ray
@@ -221,7 +252,8 @@ module _ (q : Point) (dq : IsPoint q) where
 
   mid_first : (a b : Point) → cross (mid a b) a ≡ pos 0 -ℤ cross a b
   unfolding cross mid
-  mid_first a b = ring (a.x ∷ a.y ∷ b.x ∷ b.y ∷ []) ((v0 ⊕ v2) ⊗ v1 ⊖ (v1 ⊕ v3) ⊗ v0) (num (pos 0) ⊖ (v0 ⊗ v3 ⊖ v1 ⊗ v2)) refl
+  mid_first a b = ring (a.x ∷ a.y ∷ b.x ∷ b.y ∷ []) ((v0 ⊕ v2) ⊗ v1 ⊖ (v1 ⊕ v3) ⊗ v0)
+      (num (pos 0) ⊖ (v0 ⊗ v3 ⊖ v1 ⊗ v2)) refl
 
   mid_second : (a b : Point) → cross (mid a b) b ≡ cross a b
   unfolding cross mid
@@ -233,7 +265,8 @@ module _ (q : Point) (dq : IsPoint q) where
 
   level : (a b : Point) → a.y ≡ pos 0 → b.y ≡ pos 0 → cross a b ≡ pos 0
   unfolding cross
-  level a b ha hb = ap₂ (λ (u v : ℤ). a.x *ℤ u -ℤ v *ℤ b.x) hb ha ∙ ring (a.x ∷ b.x ∷ []) (v0 ⊗ num (pos 0) ⊖ num (pos 0) ⊗ v1) (num (pos 0)) refl
+  level a b ha hb = ap₂ (λ (u v : ℤ). a.x *ℤ u -ℤ v *ℤ b.x) hb ha
+      ∙ ring (a.x ∷ b.x ∷ []) (v0 ⊗ num (pos 0) ⊖ num (pos 0) ⊗ v1) (num (pos 0)) refl
 
   at_zero : (z : ℤ) → z ≤ℤ pos 0 → pos 0 ≤ℤ z → z ≡ pos 0
   at_zero z h k = omega (arith, ints)
@@ -263,35 +296,43 @@ module _ (q : Point) (dq : IsPoint q) where
       omega (arith, ints)
     where
       on : (s : Segment) → HasLeft s → (pos 0 -ℤ pos 0) ≤ℤ swing true true (seen_from q s.from) (seen_from q s.to)
-      on s k = step_on (over s.from) (over s.to) (cross (seen_from q s.from) (seen_from q s.to)) (weak (cross (seen_from q s.from) (seen_from q s.to)) k.left)
+      on s k = step_on (over s.from) (over s.to) (cross (seen_from q s.from) (seen_from q s.to))
+          (weak (cross (seen_from q s.from) (seen_from q s.to)) k.left)
 
       nought : (ps : List Point) → sum_z (λ p. pos 0) ps ≡ pos 0
       nought [] = refl
       nought (p ∷ ps) = let r = nought ps in omega (arith, ints)
 
-  passes : (s : Segment) (ss : List Segment) → AllByRecursion HasLeft (s ∷ ss) → (seen_from q s.from).y ≤ℤ pos 0 → pos 0 <ℤ (seen_from q s.to).y → pos 1 ≤ℤ wind q (s ∷ ss)
+  passes : (s : Segment) (ss : List Segment) → AllByRecursion HasLeft (s ∷ ss) → (seen_from q s.from).y ≤ℤ pos 0
+      → pos 0 <ℤ (seen_from q s.to).y → pos 1 ≤ℤ wind q (s ∷ ss)
   unfolding swing
   passes s ss h a b =
       let e = turn_seen true true q s.from s.to dq h.0.proper.from in
-      let f = ap₂ (λ u v. swing_by true u v (cross (seen_from q s.from) (seen_from q s.to))) (no (seen_from q s.from).y a) (yes (seen_from q s.to).y b) ∙ step_up (cross (seen_from q s.from) (seen_from q s.to)) h.0.left in
+      let f = ap₂ (λ u v. swing_by true u v (cross (seen_from q s.from) (seen_from q s.to)))
+      (no (seen_from q s.from).y a) (yes (seen_from q s.to).y b)
+      ∙ step_up (cross (seen_from q s.from) (seen_from q s.to)) h.0.left in
       let r = only_on ss h.1 in
       let g : swing true true (seen_from q s.from) (seen_from q s.to) ≡ pos 1 = f in
       omega (arith, ints)
 
   -- balanced segments that all have the point on their left wind round it at least once
-  pub winds : (s : Segment) (ss : List Segment) → AllByRecursion HasLeft (s ∷ ss) → IsBalanced (s ∷ ss) → pos 1 ≤ℤ wind q (s ∷ ss)
+  pub winds : (s : Segment) (ss : List Segment) → AllByRecursion HasLeft (s ∷ ss) → IsBalanced (s ∷ ss)
+      → pos 1 ≤ℤ wind q (s ∷ ss)
   winds s ss h balanced =
       let a = seen_from q s.from in
       let b = seen_from q s.to in
       by_lt_z (pos 0) a.y
-      (λ up. upper_round a up s ss h balanced (no (cross a a) (cross_itself a)) (yes (cross a b) h.0.left) (λ e. absurd (none_up a.y up e)))
+      (λ up. upper_round a up s ss h balanced (no (cross a a) (cross_itself a)) (yes (cross a b) h.0.left)
+      (λ e. absurd (none_up a.y up e)))
       (λ low. by_lt_z a.y (pos 0)
-      (λ down. lower_round a down s ss h balanced (no (cross a a) (cross_itself a)) (yes (cross a b) h.0.left) (λ e. no a.y low))
+      (λ down. lower_round a down s ss h balanced (no (cross a a) (cross_itself a)) (yes (cross a b) h.0.left)
+      (λ e. no a.y low))
       (λ high. by_lt_z (pos 0) b.y
       (λ up. passes s ss h low up)
       (λ lower. by_lt_z b.y (pos 0)
       (λ down.
-      lower_round (mid a b) (mid_low a b low down) s ss h balanced (no (cross (mid a b) a) (below (cross (mid a b) a) (cross a b) (mid_first a b) h.0.left))
+      lower_round (mid a b) (mid_low a b low down) s ss h balanced
+      (no (cross (mid a b) a) (below (cross (mid a b) a) (cross a b) (mid_first a b) h.0.left))
       (yes (cross (mid a b) b) (subst (λ (z : ℤ). pos 0 <ℤ z) (sym (mid_second a b)) h.0.left)) (λ e. no a.y low))
       (λ upper. absurd (clash (cross a b) h.0.left (level a b (at_zero a.y low high) (at_zero b.y lower upper)))))))
 
@@ -311,9 +352,11 @@ module _ (q : Point) (dq : IsPoint q) where
     weighed a b c =
         let A = λ (x y : Term). (v6 ⊗ x ⊕ v7 ⊗ y) in
         ring (a.x ∷ a.y ∷ b.x ∷ b.y ∷ c.x ∷ c.y ∷ u ∷ v ∷ [])
-        ((v2 ⊗ v5 ⊖ v3 ⊗ v4) ⊗ A v0 v1 ⊕ ((v4 ⊗ v1 ⊖ v5 ⊗ v0) ⊗ A v2 v3 ⊕ (v0 ⊗ v3 ⊖ v1 ⊗ v2) ⊗ A v4 v5)) (num (pos 0)) refl
+        ((v2 ⊗ v5 ⊖ v3 ⊗ v4) ⊗ A v0 v1 ⊕ ((v4 ⊗ v1 ⊖ v5 ⊗ v0) ⊗ A v2 v3 ⊕ (v0 ⊗ v3 ⊖ v1 ⊗ v2) ⊗ A v4 v5))
+        (num (pos 0)) refl
 
-    some_round : (r s t a b c : ℤ) → r *ℤ a +ℤ (s *ℤ b +ℤ t *ℤ c) ≡ pos 0 → pos 0 ≤ℤ r → pos 0 ≤ℤ s → pos 0 ≤ℤ t → pos 0 <ℤ (r +ℤ (s +ℤ t)) → pos 0 <ℤ a → pos 0 <ℤ b → pos 0 <ℤ c → ⊥
+    some_round : (r s t a b c : ℤ) → r *ℤ a +ℤ (s *ℤ b +ℤ t *ℤ c) ≡ pos 0 → pos 0 ≤ℤ r → pos 0 ≤ℤ s → pos 0 ≤ℤ t
+        → pos 0 <ℤ (r +ℤ (s +ℤ t)) → pos 0 <ℤ a → pos 0 <ℤ b → pos 0 <ℤ c → ⊥
     some_round r s t a b c e hr hs ht o ha hb hc =
         let x = at_least_mul r a hr (weak a ha) in
         let y = at_least_mul s b hs (weak b hb) in
@@ -323,17 +366,20 @@ module _ (q : Point) (dq : IsPoint q) where
         (λ k. let m : pos 0 <ℤ t = omega (arith, ints) in let p = positive_product t c m hc in omega (arith, ints)))
 
     not_round : (a b c : Point) → pos 0 <ℤ along a → pos 0 <ℤ along b → pos 0 <ℤ along c → ¬ IsRound a b c
-    not_round a b c ha hb hc h = some_round (cross b c) (cross c a) (cross a b) (along a) (along b) (along c) (weighed a b c) h.first h.second h.third h.some ha hb hc
+    not_round a b c ha hb hc h = some_round (cross b c) (cross c a) (cross a b) (along a) (along b) (along c)
+        (weighed a b c) h.first h.second h.third h.some ha hb hc
 
     -- what a segment adds is the difference of what its ends see of a third point
-    apart : (o a b : Point) → pos 0 <ℤ along o → pos 0 <ℤ along a → pos 0 <ℤ along b → swing true true a b ≡ swing true true a o -ℤ swing true true b o
+    apart : (o a b : Point) → pos 0 <ℤ along o → pos 0 <ℤ along a → pos 0 <ℤ along b → swing true true a b
+        ≡ swing true true a o -ℤ swing true true b o
     apart o a b ho ha hb =
         let t = triangle true true a b o (not_round a b o ha hb ho) (not_round a o b ha ho hb) in
         let e = swing_turned true true a o in
         omega (arith, ints)
 
     differences : (o : Point) → pos 0 <ℤ along o → (ss : List Segment) → AllByRecursion IsBeside ss
-        → wind q ss ≡ sum_z (λ p. swing true true (seen_from q p) o) (starts ss) -ℤ sum_z (λ p. swing true true (seen_from q p) o) (ends ss)
+        → wind q ss ≡ sum_z (λ p. swing true true (seen_from q p) o) (starts ss) -ℤ sum_z
+        (λ p. swing true true (seen_from q p) o) (ends ss)
     differences o ho [] h = refl
     differences o ho (s ∷ ss) h =
         let e = turn_seen true true q s.from s.to dq h.0.proper.from in
@@ -350,5 +396,7 @@ module _ (q : Point) (dq : IsPoint q) where
     unwound (s ∷ ss) h balanced =
         let o = seen_from q s.from in
         let d = differences o h.0.from (s ∷ ss) h in
-        let t = balanced_totals (λ p. swing true true (seen_from q p) o) (λ p r dp dr e. swing_along true true (seen_from q p) (seen_from q r) o (along_seen q p r dp dr (are_same p r e))) (s ∷ ss) (beside_proper (s ∷ ss) h) balanced in
+        let t = balanced_totals (λ p. swing true true (seen_from q p) o)
+        (λ p r dp dr e. swing_along true true (seen_from q p) (seen_from q r) o
+        (along_seen q p r dp dr (are_same p r e))) (s ∷ ss) (beside_proper (s ∷ ss) h) balanced in
         omega (arith, ints)

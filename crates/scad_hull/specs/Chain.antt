@@ -1,4 +1,5 @@
--- Convex rings by two chains (Andrew's monotone chain): over points in an order that sweeps the plane, and with `left p q r` above 0 where r lies to the
+-- Convex rings by two chains (Andrew's monotone chain): over points in an order that sweeps the plane, and with `left p
+-- q r` above 0 where r lies to the
 -- left of the way from p to q.
 use Rattle.std.specs.Prelude.{List, [], ◌∷◌, ◌++◌, reverse, if◌then◌else◌, ℤ, pos, int_lt}
 

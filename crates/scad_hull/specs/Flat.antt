@@ -1,4 +1,5 @@
--- Convex hulls in the plane: the ring round points (x, y), counter-clockwise from the lowest and then leftmost, whose corners are points of them.
+-- Convex hulls in the plane: the ring round points (x, y), counter-clockwise from the lowest and then leftmost, whose
+-- corners are points of them.
 use Rattle.std.specs.Prelude.{ℕ, List, length, Bool, true, false, Option, Some, None, Result, Ok, Err, if◌then◌else◌, nat_lt, ℤ}
 use Rattle.std.specs.List.{list_all}
 use Rattle.std.specs.Ordering.{int_cmp, ordering_then}

@@ -16,11 +16,13 @@ IsFlatBefore = IsBefore (λ p. p.0) (λ p. p.1)
 
 -- where points have a ring as their hull, it is the convex ring round them
 pub record RingsAreConvex : Type 0 where
-  pub each : (points ring : List (ℤ × ℤ)) → ring_hull_of points ≡ Ok (Some ring) → IsConvexRing flat_left IsFlatBefore points ring
+  pub each : (points ring : List (ℤ × ℤ)) → ring_hull_of points ≡ Ok (Some ring)
+      → IsConvexRing flat_left IsFlatBefore points ring
 
 -- points that have a convex ring, and aren't too many, have it as their hull: they have no other
 pub record RingsAreOne : Type 0 where
-  pub each : (points ring : List (ℤ × ℤ)) → IsConvexRing flat_left IsFlatBefore points ring → length (distinct flat_cmp points) ≤ point_count_limit
+  pub each : (points ring : List (ℤ × ℤ)) → IsConvexRing flat_left IsFlatBefore points ring
+      → length (distinct flat_cmp points) ≤ point_count_limit
       → ring_hull_of points ≡ Ok (Some ring)
 
 -- a pair as a point of an outline
@@ -38,7 +40,8 @@ IsOnLine q s = side_by q s.from s.to ≡ pos 0
 abbrev pub IsLeftOf : Point → Segment → Type 0
 IsLeftOf q s = pos 0 <ℤ side_by q s.from s.to
 
--- the ring that points have as their hull winds round a point on the line of none of its sides exactly where the point lies to the left of
+-- the ring that points have as their hull winds round a point on the line of none of its sides exactly where the point
+-- lies to the left of
 -- them all
 pub record RingsHold : Type 0 where
   pub each : (points ring : List (ℤ × ℤ)) → ring_hull_of points ≡ Ok (Some ring) → (q : Point) → pos 0 <ℤ q.d

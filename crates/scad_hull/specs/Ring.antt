@@ -1,4 +1,5 @@
--- The convex ring round points, in a plane with `left p q r` above 0 where r lies to the left of the way from p to q, and an order of its points.
+-- The convex ring round points, in a plane with `left p q r` above 0 where r lies to the left of the way from p to q,
+-- and an order of its points.
 use Rattle.std.specs.Prelude.{◌≤◌, List, [], ◌∷◌, ◌++◌, length, ℤ, pos, ◌<ℤ◌, ◌≤ℤ◌, All}
 use Rattle.std.specs.List.{Contains}
 
@@ -28,7 +29,8 @@ module _ {X : Type 0} (left : X → X → X → ℤ) where
     StartsFirst [] = ⊥
     StartsFirst (p ∷ ps) = All (Before p) ps
 
-    -- the ring's corners are three or more of the points, each a corner; it has all points on its left; and it starts with its first
+    -- the ring's corners are three or more of the points, each a corner; it has all points on its left; and it starts
+    -- with its first
     -- corner, which comes once, so that it goes round once
     pub record IsConvexRing (points ring : List X) : Type 0 where
       pub three : 3 ≤ length ring

@@ -4,7 +4,8 @@ use Rattle.scad_hull.specs.Chain.{bent}
 use Rattle.scad_hull.proofs.chain.bend.Given as goal
 
 abbrev pub invariant-tops : goal.invariant-tops
-invariant-tops g l = bent (g.V.Plane.left l.plane) l.p (reverse l.stack.items) ≡ bent (g.V.Plane.left l.plane) l.p (reverse l.fn.stack.items)
+invariant-tops g l = bent (g.V.Plane.left l.plane) l.p (reverse l.stack.items)
+    ≡ bent (g.V.Plane.left l.plane) l.p (reverse l.fn.stack.items)
 
 abbrev pub decreases-tops : goal.decreases-tops
 decreases-tops g l = goal.left-tops g l
