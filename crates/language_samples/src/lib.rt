@@ -9,6 +9,8 @@ mod budgets;
 #[cfg(test)]
 mod comprehensions;
 #[cfg(test)]
+mod definitions;
+#[cfg(test)]
 mod expressions;
 #[cfg(test)]
 mod frames;

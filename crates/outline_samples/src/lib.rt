@@ -17,4 +17,6 @@ mod random_borders;
 #[cfg(test)]
 mod rectangles;
 #[cfg(test)]
+mod rising_heights;
+#[cfg(test)]
 mod slabs;

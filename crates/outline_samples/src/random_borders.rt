@@ -41,7 +41,7 @@ fn push_outline(edges: &mut Vec<LeafEdge>, leaf: u32, dice: &mut Dice) -> Result
 }
 
 // Three or four leaves of an outline each.
-fn roll_edges(alloc: Global, dice: &mut Dice) -> Result<Vec<LeafEdge>, AllocError>
+pub(crate) fn roll_edges(alloc: Global, dice: &mut Dice) -> Result<Vec<LeafEdge>, AllocError>
     ensures { IfOk result (λ v. All (λ e. IsEdgeWithin coordinate_limit e.edge) v.items) }
 {
     let mut edges = Vec::new(alloc);

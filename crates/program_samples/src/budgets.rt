@@ -5,7 +5,7 @@ use crate::files::{block, desk, planned, polyhedron, pt, sliced};
 use scad_fault::{Budget, BudgetKind};
 use scad_io::Open;
 use scad_script::{Refusal, Stop};
-use scad_slice::{count_layers, plan, slice};
+use scad_slice::{Workpiece, count_layers, plan, slice};
 use scad_solid::Face;
 use scad_tree::{Tree, unite};
 use scad_words::Settings;
@@ -24,31 +24,18 @@ fn too_many_layers_create_nothing(rt: HostRuntime) -> Result<(), Fail> {
     settings.layer_height = 20;
     let many = Budget::layers(20_001);
     assert!(rt; is_over(&count_layers(&tree, 20), many));
+    let piece = Workpiece {
+        tree: &tree,
+        settings,
+        workers: 1,
+        gate: &Open,
+    };
     let mut unsliced = desk(alloc, &[0])?;
-    let ended = slice(
-        &rt,
-        alloc,
-        &tree,
-        &settings,
-        "o.cli",
-        1,
-        &mut unsliced,
-        &Open,
-    );
+    let ended = slice(&rt, alloc, &piece, "o.cli", &mut unsliced);
     assert!(rt; is_over(&ended, many));
     assert_eq!(rt; unsliced.faults(), 0);
     let mut unplanned = desk(alloc, &[0])?;
-    let ended = plan(
-        &rt,
-        alloc,
-        &tree,
-        &settings,
-        "o.cli",
-        "o.gcode",
-        1,
-        &mut unplanned,
-        &Open,
-    );
+    let ended = plan(&rt, alloc, &piece, "o.cli", "o.gcode", &mut unplanned);
     assert!(rt; is_over(&ended, many));
     assert_eq!(rt; unplanned.faults(), 0);
     assert!(rt; matches!(count_layers(&tree, 21), Ok(19_049)));

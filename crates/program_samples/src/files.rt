@@ -8,7 +8,7 @@ use scad_fault::Text;
 use scad_geom::Pt3;
 use scad_io::{MemoryDesk, Open, Out};
 use scad_script::{Stop, make};
-use scad_slice::{Want, count_layers, draw, plan, slice};
+use scad_slice::{Want, Workpiece, count_layers, draw, plan, slice};
 use scad_solid::{Face, Triangles};
 use scad_tree::{Tree, subtract};
 use scad_words::Settings;
@@ -108,10 +108,13 @@ pub(crate) fn sliced<R: Threads + Sync>(
     requires most { workers ≤ 64 }
 {
     let mut desk = desk(alloc, fails)?;
-    let settings = Settings::defaults();
-    let ended = slice(
-        rt, alloc, tree, &settings, "o.cli", workers, &mut desk, &Open,
-    );
+    let piece = Workpiece {
+        tree,
+        settings: Settings::defaults(),
+        workers,
+        gate: &Open,
+    };
+    let ended = slice(rt, alloc, &piece, "o.cli", &mut desk);
     answer_on(alloc, ended, &desk)
 }
 
@@ -126,52 +129,73 @@ pub(crate) fn planned<R: Threads + Sync>(
     requires most { workers ≤ 64 }
 {
     let mut desk = desk(alloc, fails)?;
-    let settings = Settings::defaults();
-    let ended = plan(
-        rt, alloc, tree, &settings, "o.cli", "o.gcode", workers, &mut desk, &Open,
-    );
+    let piece = Workpiece {
+        tree,
+        settings: Settings::defaults(),
+        workers,
+        gate: &Open,
+    };
+    let ended = plan(rt, alloc, &piece, "o.cli", "o.gcode", &mut desk);
     answer_on(alloc, ended, &desk)
 }
 
 fn expect(rt: &impl Abort, answer: &Answer, line: &str, cli: &str, gcode: &str) {
-    assert!(rt;
-        matches!(&answer.ended, Ok(text) if text.as_slice() == line.as_bytes()),
-        "{line}"
-    );
-    assert!(rt;
-        answer.cli.as_slice() == cli.as_bytes(),
-        "outlines of {line}"
-    );
-    assert!(rt;
-        answer.gcode.as_slice() == gcode.as_bytes(),
-        "program of {line}"
-    );
-    assert!(rt; answer.faults == 0);
+    let told = matches!(&answer.ended, Ok(text) if text.as_slice() == line.as_bytes());
+    assert!(rt; told && answer.faults == 0, "{line}");
+    let same = answer.cli.as_slice() == cli.as_bytes()
+        && answer.gcode.as_slice() == gcode.as_bytes();
+    assert!(rt; same, "files of {line}");
 }
 
-fn expect_files<R: Threads + Sync + Abort>(rt: &R, alloc: Global, workers: u32) -> Result<(), Fail>
+/// A tree, the last lines of its two commands, and its files.
+#[derive(Drop)]
+struct Sample<'a> {
+    tree: &'a Tree,
+    sliced: &'a str,
+    planned: &'a str,
+    cli: &'a str,
+    gcode: &'a str,
+}
+
+fn expect_sample<R: Threads + Sync + Abort>(
+    rt: &R,
+    alloc: Global,
+    workers: u32,
+    sample: &Sample,
+) -> Result<(), AllocError>
     requires some { 1 ≤ workers }
     requires most { workers ≤ 64 }
 {
-    let cube = cube(alloc)?;
-    let answer = sliced(rt, alloc, &cube, workers, &[])?;
-    expect(rt, &answer, "done: 1 layers, 1 loops\n", CUBE_CLI, "");
-    let answer = planned(rt, alloc, &cube, workers, &[])?;
-    let line = "done: 1 layers, 1 loops, 9 moves, E 0.67351\n";
-    expect(rt, &answer, line, CUBE_CLI, CUBE_GCODE);
-    let plate = plate(alloc)?;
-    let answer = sliced(rt, alloc, &plate, workers, &[])?;
-    expect(rt, &answer, "done: 2 layers, 4 loops\n", PLATE_CLI, "");
-    let answer = planned(rt, alloc, &plate, workers, &[])?;
-    let line = "done: 2 layers, 4 loops, 16 moves, E 1.79604\n";
-    expect(rt, &answer, line, PLATE_CLI, PLATE_GCODE);
+    let answer = sliced(rt, alloc, sample.tree, workers, &[])?;
+    expect(rt, &answer, sample.sliced, sample.cli, "");
+    let answer = planned(rt, alloc, sample.tree, workers, &[])?;
+    expect(rt, &answer, sample.planned, sample.cli, sample.gcode);
     Ok(())
 }
 
 #[test]
 fn trees_are_sliced_and_planned(rt: HostRuntime) -> Result<(), Fail> {
-    expect_files(&rt, rt.alloc(), 1)?;
-    expect_files(&rt, rt.alloc(), 3)?;
+    let alloc = rt.alloc();
+    let samples = [
+        Sample {
+            tree: &cube(alloc)?,
+            sliced: "done: 1 layers, 1 loops\n",
+            planned: "done: 1 layers, 1 loops, 9 moves, E 0.67351\n",
+            cli: CUBE_CLI,
+            gcode: CUBE_GCODE,
+        },
+        Sample {
+            tree: &plate(alloc)?,
+            sliced: "done: 2 layers, 4 loops\n",
+            planned: "done: 2 layers, 4 loops, 16 moves, E 1.79604\n",
+            cli: PLATE_CLI,
+            gcode: PLATE_GCODE,
+        },
+    ];
+    for sample in &samples {
+        expect_sample(&rt, alloc, 1, sample)?;
+        expect_sample(&rt, alloc, 3, sample)?;
+    }
     Ok(())
 }
 
@@ -186,28 +210,33 @@ fn files_are_as_long_as_is_told(rt: HostRuntime) -> Result<(), Fail> {
         return Err(Fail::new("a call failed"));
     }
     let cube = cube(alloc)?;
-    let settings = Settings::defaults();
-    if count_layers(&cube, settings.layer_height).is_err() {
+    let piece = Workpiece {
+        tree: &cube,
+        settings: Settings::defaults(),
+        workers: 2,
+        gate: &Open,
+    };
+    if count_layers(&cube, piece.settings.layer_height).is_err() {
         return Err(Fail::new("a cube has few layers"));
     }
-    let told = draw(
-        &rt,
-        alloc,
-        &cube,
-        &settings,
-        Want::Plan,
-        2,
-        &mut desk,
-        &Open,
-    );
+    let told = draw(&rt, alloc, &piece, Want::Plan, &mut desk);
     let Ok(told) = told else {
         return Err(Fail::new("a cube is drawn"));
     };
-    assert_eq!(rt; told.cli, CUBE_CLI.len() as u64);
-    assert_eq!(rt; told.gcode, CUBE_GCODE.len() as u64);
-    assert_eq!(rt; told.summary.e, 67_351);
-    assert_eq!(rt; desk.written(Out::Cli), CUBE_CLI.as_bytes());
+    let sizes = told.cli == CUBE_CLI.len() as u64 && told.gcode == CUBE_GCODE.len() as u64;
+    assert!(rt; sizes && told.summary.e == 67_351);
+    assert!(rt; desk.written(Out::Cli) == CUBE_CLI.as_bytes());
     Ok(())
+}
+
+/// Whether the plate's files end where this call fails: what came before it is there.
+fn stops_at(answer: &Answer, call: u64) -> bool {
+    matches!(&answer.ended, Err(Stop::Write))
+        && answer.faults == 1
+        && PLATE_CLI.as_bytes().starts_with(&answer.cli)
+        && PLATE_GCODE.as_bytes().starts_with(&answer.gcode)
+        && answer.cli.is_empty() == (call <= 2)
+        && answer.gcode.is_empty() == (call <= 3)
 }
 
 /// Both outputs are created, then come the heads, two layers for both, and the ends.
@@ -217,18 +246,7 @@ fn each_call_fails_in_turn(rt: HostRuntime) -> Result<(), Fail> {
     let plate = plate(alloc)?;
     for call in 0..10 {
         let answer = planned(&rt, alloc, &plate, 3, &[call])?;
-        assert!(rt; matches!(&answer.ended, Err(Stop::Write)), "call {call}");
-        assert!(rt;
-            PLATE_CLI.as_bytes().starts_with(&answer.cli),
-            "call {call}"
-        );
-        assert!(rt;
-            PLATE_GCODE.as_bytes().starts_with(&answer.gcode),
-            "call {call}"
-        );
-        assert_eq!(rt; answer.faults, 1);
-        assert_eq!(rt; answer.cli.is_empty(), call <= 2);
-        assert_eq!(rt; answer.gcode.is_empty(), call <= 3);
+        assert!(rt; stops_at(&answer, call), "call {call}");
     }
     let answer = planned(&rt, alloc, &plate, 3, &[10])?;
     assert!(rt; answer.ended.is_ok());

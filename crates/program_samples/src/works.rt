@@ -5,27 +5,15 @@ ghost use Rattle.scad_script.specs.Run.{Sound};
 
 use scad_fault::{Budget, BudgetKind};
 use scad_geom::{Loop, Path, Pt};
-use scad_io::{Desk, Gate, MemoryDesk, Open, Out};
+use scad_io::{Desk, MemoryDesk, Out};
 use scad_script::make;
 use scad_words::Settings;
-use slice_work::{LayerEnd, LayerPlan, LayerWork, Summary, Want, WorkFault, work};
+use slice_work::{LayerEnd, LayerPlan, LayerWork, Print, Summary, Want, WorkFault, work};
 use std::alloc::{AllocError, Global};
 use std::sync::atomic::{AtomicU64, Ordering};
 use std::test::Fail;
 use std::thread;
 use std::thread::Threads;
-
-const USUAL: Settings = Settings {
-    bed: 60,
-    filament_area: 2_405_282,
-    hot_end: 200,
-    infill_spacing: 2000,
-    layer_height: 200,
-    line_width: 450,
-    print_feed: 1800,
-    travel_feed: 7200,
-    walls: 2,
-};
 
 const CORNERS: [Pt; 4] = [
     Pt { x: 0, y: 0 },
@@ -56,6 +44,18 @@ impl LayerWork for Squares {
     }
 }
 
+/// A print by the default settings.
+fn print(want: Want, workers: u32) -> Print
+    requires some { 1 ≤ workers }
+    requires most { workers ≤ 64 }
+{
+    Print {
+        settings: Settings::defaults(),
+        want,
+        workers,
+    }
+}
+
 /// A desk on which both outputs are created, and whose calls of these numbers fail.
 fn desk(alloc: Global, fails: &[u64]) -> Result<MemoryDesk, Fail>
     ensures sound { IfOk result (λ d. Sound d.view) }
@@ -73,48 +73,83 @@ fn desk(alloc: Global, fails: &[u64]) -> Result<MemoryDesk, Fail>
     Ok(desk)
 }
 
-/// What the layers write: those of a number of layers.
+/// What so many layers write.
 fn written(alloc: Global, layers: u32) -> Result<(Vec<u8>, Vec<u8>), AllocError> {
     let mut cli = Vec::new(alloc);
     let mut gcode = Vec::new(alloc);
     for layer in 0..layers {
-        let z = layer.wrapping_add(1).wrapping_mul(200);
-        let text = format!(in alloc;
-            "$$LAYER/{z}\n$$POLYLINE/1,1,5,0,0,3000,0,3000,3000,0,3000,0,0\n"
-        )?;
-        cli.extend_from_slice(text.as_bytes())?;
-    }
-    for layer in 0..layers {
-        let below = u64::from(layer).wrapping_mul(540_000_000);
-        let first = 100u64.wrapping_mul(below.wrapping_add(270_000_000)) / 2_405_282;
-        let second = 100u64.wrapping_mul(below.wrapping_add(540_000_000)) / 2_405_282;
-        let z = layer.wrapping_add(1).wrapping_mul(200);
-        let text = format!(in alloc;
-            "; layer {layer}\nG1 Z{}.{:03} F7200\nG1 X0.000 Y0.000 F7200\n",
-            z / 1000,
-            z % 1000
-        )?;
-        gcode.extend_from_slice(text.as_bytes())?;
-        let text = format!(in alloc;
-            "G1 X3.000 Y0.000 E{}.{:05} F1800\n",
-            first / 100_000,
-            first % 100_000
-        )?;
-        gcode.extend_from_slice(text.as_bytes())?;
-        let text = format!(in alloc;
-            "G1 X3.000 Y3.000 E{}.{:05} F1800\n",
-            second / 100_000,
-            second % 100_000
-        )?;
-        gcode.extend_from_slice(text.as_bytes())?;
+        push_outlines(alloc, &mut cli, layer)?;
+        push_moves(alloc, &mut gcode, layer)?;
     }
     Ok((cli, gcode))
+}
+
+fn push_outlines(alloc: Global, cli: &mut Vec<u8>, layer: u32) -> Result<(), AllocError> {
+    let z = layer.wrapping_add(1).wrapping_mul(200);
+    let text = format!(in alloc;
+        "$$LAYER/{z}\n$$POLYLINE/1,1,5,0,0,3000,0,3000,3000,0,3000,0,0\n"
+    )?;
+    cli.extend_from_slice(text.as_bytes())
+}
+
+fn push_moves(alloc: Global, gcode: &mut Vec<u8>, layer: u32) -> Result<(), AllocError> {
+    let z = layer.wrapping_add(1).wrapping_mul(200);
+    let text = format!(in alloc;
+        "; layer {layer}\nG1 Z{}.{:03} F7200\nG1 X0.000 Y0.000 F7200\n",
+        z / 1000,
+        z % 1000
+    )?;
+    gcode.extend_from_slice(text.as_bytes())?;
+    let below = u64::from(layer).wrapping_mul(540_000_000);
+    push_move(
+        alloc,
+        gcode,
+        "X3.000 Y0.000",
+        below.wrapping_add(270_000_000),
+    )?;
+    push_move(
+        alloc,
+        gcode,
+        "X3.000 Y3.000",
+        below.wrapping_add(540_000_000),
+    )
+}
+
+/// A move to a corner, up to this volume in cubic micrometres.
+fn push_move(
+    alloc: Global,
+    gcode: &mut Vec<u8>,
+    corner: &str,
+    volume: u64,
+) -> Result<(), AllocError> {
+    let e = 100u64.wrapping_mul(volume) / 2_405_282;
+    let text = format!(in alloc; "G1 {corner} E{}.{:05} F1800\n", e / 100_000, e % 100_000)?;
+    gcode.extend_from_slice(text.as_bytes())
+}
+
+fn has_written(desk: &MemoryDesk, cli: &[u8], gcode: &[u8]) -> bool {
+    desk.written(Out::Cli) == cli && desk.written(Out::Gcode) == gcode
+}
+
+/// Whether the outputs hold fronts of these texts, and one of them has failed.
+fn stopped_in(desk: &MemoryDesk, cli: &[u8], gcode: &[u8]) -> bool {
+    desk.faults() == 1
+        && cli.starts_with(desk.written(Out::Cli))
+        && gcode.starts_with(desk.written(Out::Gcode))
 }
 
 #[test]
 fn layers_are_written_in_order(rt: HostRuntime) -> Result<(), Fail> {
     let alloc = rt.alloc();
     let (cli, gcode) = written(alloc, 130)?;
+    let all = Summary {
+        layers: 130,
+        loops: 130,
+        moves: 260,
+        e: 2_918_576,
+        cli: cli.len() as u64,
+        gcode: gcode.len() as u64,
+    };
     for workers in [1, 3, 64] {
         let mut desk = desk(alloc, &[])?;
         let told = work(
@@ -122,23 +157,11 @@ fn layers_are_written_in_order(rt: HostRuntime) -> Result<(), Fail> {
             alloc,
             130,
             &Squares { over: 130 },
-            &USUAL,
-            Want::Plan,
-            workers,
+            &print(Want::Plan, workers),
             &mut desk,
-            &Open,
         );
-        let Ok(told) = told else {
-            return Err(Fail::new("all layers are made"));
-        };
-        assert_eq!(rt; told.layers, 130);
-        assert_eq!(rt; told.loops, 130);
-        assert_eq!(rt; told.moves, 260);
-        assert_eq!(rt; told.e, 2_918_576);
-        assert_eq!(rt; told.cli, cli.len() as u64);
-        assert_eq!(rt; told.gcode, gcode.len() as u64);
-        assert_eq!(rt; desk.written(Out::Cli), cli.as_slice());
-        assert_eq!(rt; desk.written(Out::Gcode), gcode.as_slice());
+        assert!(rt; matches!(&told, Ok(told) if *told == all));
+        assert!(rt; has_written(&desk, &cli, &gcode));
     }
     Ok(())
 }
@@ -147,6 +170,7 @@ fn layers_are_written_in_order(rt: HostRuntime) -> Result<(), Fail> {
 fn the_least_layer_over_a_budget_is_answered(rt: HostRuntime) -> Result<(), Fail> {
     let alloc = rt.alloc();
     let (cli, _gcode) = written(alloc, 70)?;
+    let passed = Budget::of_layer(BudgetKind::LayerEdges, 70, 20_010);
     for workers in [1, 2, 64] {
         let mut desk = desk(alloc, &[])?;
         let told = work(
@@ -154,21 +178,11 @@ fn the_least_layer_over_a_budget_is_answered(rt: HostRuntime) -> Result<(), Fail
             alloc,
             130,
             &Squares { over: 69 },
-            &USUAL,
-            Want::Outlines,
-            workers,
+            &print(Want::Outlines, workers),
             &mut desk,
-            &Open,
         );
-        let Err(WorkFault::Over(budget)) = told else {
-            return Err(Fail::new("layer 70 passes a budget"));
-        };
-        assert_eq!(rt;
-            budget,
-            Budget::of_layer(BudgetKind::LayerEdges, 70, 20_010)
-        );
-        assert_eq!(rt; desk.written(Out::Cli), cli.as_slice());
-        assert_eq!(rt; desk.written(Out::Gcode), b"".as_slice());
+        assert!(rt; matches!(&told, Err(WorkFault::Over(budget)) if *budget == passed));
+        assert!(rt; has_written(&desk, &cli, b""));
     }
     Ok(())
 }
@@ -181,27 +195,19 @@ fn a_part_without_layers_writes_nothing(rt: HostRuntime) -> Result<(), Fail> {
         rt.alloc(),
         0,
         &Squares { over: 0 },
-        &USUAL,
-        Want::Plan,
-        5,
+        &print(Want::Plan, 5),
         &mut desk,
-        &Open,
     );
-    let Ok(told) = told else {
-        return Err(Fail::new("nothing is to be done"));
+    let none = Summary {
+        layers: 0,
+        loops: 0,
+        moves: 0,
+        e: 0,
+        cli: 0,
+        gcode: 0,
     };
-    assert_eq!(rt;
-        told,
-        Summary {
-            layers: 0,
-            loops: 0,
-            moves: 0,
-            e: 0,
-            cli: 0,
-            gcode: 0
-        }
-    );
-    assert_eq!(rt; desk.faults(), 0);
+    assert!(rt; matches!(&told, Ok(told) if *told == none));
+    assert!(rt; desk.faults() == 0);
     Ok(())
 }
 
@@ -216,21 +222,16 @@ fn each_write_fails_in_turn(rt: HostRuntime) -> Result<(), Fail> {
             alloc,
             3,
             &Squares { over: 3 },
-            &USUAL,
-            Want::Plan,
-            3,
+            &print(Want::Plan, 3),
             &mut desk,
-            &Open,
         );
         assert!(rt; matches!(told, Err(WorkFault::Write)));
-        assert!(rt; cli.starts_with(desk.written(Out::Cli)));
-        assert!(rt; gcode.starts_with(desk.written(Out::Gcode)));
-        assert_eq!(rt; desk.faults(), 1);
+        assert!(rt; stopped_in(&desk, &cli, &gcode));
     }
     Ok(())
 }
 
-/// A gate that holds one layer until the four others are done, or gives up.
+/// Squares whose work holds one layer until the four others are done, or gives up.
 #[derive(Drop)]
 struct Holding {
     layer: u32,
@@ -238,7 +239,18 @@ struct Holding {
     met: AtomicU64,
 }
 
-impl Gate for Holding {
+impl LayerWork for Holding {
+    ghost draws = { λ _ _. ⊥ };
+
+    fn draw(&self, alloc: Global, layer: u32) -> Result<LayerEnd, AllocError> {
+        self.before(layer);
+        let end = Squares { over: 5 }.draw(alloc, layer);
+        self.after(layer);
+        end
+    }
+}
+
+impl Holding {
     fn before(&self, layer: u32) {
         if layer != self.layer {
             return;
@@ -263,7 +275,7 @@ impl Gate for Holding {
 fn two_at_once(rt: HostRuntime) -> Result<(), Fail> {
     let alloc = rt.alloc();
     for layer in 0..5 {
-        let gate = Holding {
+        let squares = Holding {
             layer,
             others: AtomicU64::new(0),
             met: AtomicU64::new(0),
@@ -273,16 +285,13 @@ fn two_at_once(rt: HostRuntime) -> Result<(), Fail> {
             &rt,
             alloc,
             5,
-            &Squares { over: 5 },
-            &USUAL,
-            Want::Outlines,
-            2,
+            &squares,
+            &print(Want::Outlines, 2),
             &mut desk,
-            &gate,
         );
         assert!(rt; told.is_ok());
         assert_eq!(rt;
-            gate.met.load(Ordering::SeqCst),
+            squares.met.load(Ordering::SeqCst),
             1,
             "layer {layer} is held until all others are done"
         );

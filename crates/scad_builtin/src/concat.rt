@@ -72,5 +72,5 @@ pub(crate) fn concat(alloc: Global, args: &[Value]) -> Result<Value, BuiltinFaul
     ensures ok { IfOk result (λ v. datum_of v ≡ vector (joined (elements args.now))) }
     ensures err { IsOkUnless result BuiltinFault.Memory }
 {
-    Ok(Value::List(joined(alloc, args)?))
+    Ok(Value::vector(alloc, joined(alloc, args)?)?)
 }

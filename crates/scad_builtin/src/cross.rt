@@ -47,7 +47,7 @@ fn triple(alloc: Global, x: Num, y: Num, z: Num) -> Result<Value, BuiltinFault>
 {
     let all = [Value::Number(x), Value::Number(y), Value::Number(z)];
     match Vec::from_array(alloc, all) {
-        Ok(all) => Ok(Value::List(all)),
+        Ok(all) => Ok(Value::vector(alloc, all)?),
         Err(_) => Err(BuiltinFault::Memory),
     }
 }

@@ -41,7 +41,8 @@ pub(crate) fn text(alloc: Global, args: &[Value]) -> Result<Value, BuiltinFault>
     ensures ok { IfOk result (λ v. datum_of v ≡ string (joined_texts (elements args.now))) }
     ensures err { IsOkUnless result BuiltinFault.Memory }
 {
-    Ok(Value::Str(Chars::from_vec(joined_texts(alloc, args)?)))
+    let chars = Chars::from_vec(joined_texts(alloc, args)?);
+    Ok(Value::string(alloc, chars)?)
 }
 
 /// The character of this number, where it is one above 0.
@@ -59,10 +60,11 @@ pub(crate) fn string_of_code(alloc: Global, code: Num) -> Result<Value, BuiltinF
     ensures ok { IfOk result (λ v. datum_of v ≡ string (character_of (cut_of code))) }
     ensures err { IsOkUnless result BuiltinFault.Memory }
 {
-    match character(cut(code)) {
-        Some(c) => Ok(Value::Str(Chars::of(alloc, &[c])?)),
-        None => Ok(Value::Str(Chars::empty(alloc))),
-    }
+    let chars = match character(cut(code)) {
+        Some(c) => Chars::of(alloc, &[c])?,
+        None => Chars::empty(alloc),
+    };
+    Ok(Value::string(alloc, chars)?)
 }
 
 /// The number of the first character.

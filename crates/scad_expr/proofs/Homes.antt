@@ -1,37 +1,74 @@
 -- Functions in memory, and the environments where their definitions stand.
-use Rattle.std.proofs.Common.{◌≡◌, ℕ, ◌+◌, ◌<◌, ◌≤◌, List, length, take, drop, get_or, Option, Some, None, option_map, Vec, Global, refl, sym, ap, ◌∙◌, arith}
+use Rattle.std.proofs.Common.{◌≡◌, ℕ, ◌+◌, ◌<◌, ◌≤◌, Bool, true, false, List, length, take, drop, get_or, Option, Some, None, option_map, if◌then◌else◌, Vec, Global, refl, sym, ap, ◌∙◌, arith}
+use Rattle.std.specs.Prelude.{option_and_then}
 use Rattle.std.proofs.lemmas.List.{drop_more, drop_all, get_or_past, get_or_default}
 use Rattle.scad_fault.specs.declared.place.Place.{Place}
-use Rattle.scad_ast.specs.declared.expression.Expr.{Expr}
 use Rattle.scad_ast.specs.declared.statement.Param.{Param}
-use Rattle.scad_ast.specs.declared.statement.Item.{Item, Assign, Module, Run}
+use Rattle.scad_ast.specs.declared.statement.Item.{Item, Module, Run}
 use Rattle.scad_ast.specs.declared.statement.Stmt.{Stmt}
 use Rattle.scad_ast.specs.declared.statement.StmtBody.{StmtBody, Call', If'}
-use Rattle.scad_ast.specs.Tree.{no_items, entry}
+use Rattle.scad_ast.specs.Tree.{Items, no_items, entry, assignment, module_of, function_of, call_of, choice}
+use Rattle.scad_ast.specs.Tree.{Item as TreeItem}
 use Rattle.scad_ast.specs.Scope.{item_of, body_of, items}
 use Rattle.scad_ast.proofs.ScopeRows.{module_view}
+use Rattle.scad_scope.specs.Definitions.{function_word, defining, last_item, function_in}
 use Rattle.scad_scope.specs.Env.{outside, or_else}
+use Rattle.scad_scope.specs.Names.{is_same_name}
 use Rattle.scad_scope.specs.Stored.{Stored, pushed, stored_at, env_at, env_round, env_of, envs}
 use Rattle.scad_scope.proofs.Outwards.{env_at-number, length-envs, round-before, round-past}
-use Rattle.scad_expr.specs.Functions.{Function, found_in, defined, defined_in, function_named}
+use Rattle.scad_expr.specs.Functions.{Function, found_in, defined, last_defined, defined_in, function_named}
+use Rattle.scad_expr.specs.View.{function_by}
 
--- ---- items that define no function
-pub not_assignment : (name word : List ℕ) (value : Expr) (at : Place) (o : Option Function)
-    → defined name (item_of (Assign word value at)) o ≡ o
-not_assignment name word value at o = refl
+-- ---- what items define
+pub not_module : (word : List ℕ) (params : Vec Param Global) (scope : Vec Item Global) (at : Place)
+    → function_by (item_of (Module word params scope at)) ≡ None
+not_module word params scope at = ap function_by (module_view word params scope at)
 
-pub not_module : (name word : List ℕ) (params : Vec Param Global) (scope : Vec Item Global) (at : Place)
-    (o : Option Function) → defined name (item_of (Module word params scope at)) o ≡ o
-not_module name word params scope at o = ap (λ i. defined name i o) (module_view word params scope at)
-
-pub not_statement : (name : List ℕ) (s : Stmt) (o : Option Function) → defined name (item_of (Run s)) o ≡ o
-not_statement name s o = by s.body
+pub not_statement : (s : Stmt) → function_by (item_of (Run s)) ≡ None
+not_statement s = by s.body
   where
-    by : (b : StmtBody) → defined name (body_of s.at s.percent s.hash b) o ≡ o
+    by : (b : StmtBody) → function_by (body_of s.at s.percent s.hash b) ≡ None
     by (Call' word args shape all) = refl
     by (If' test shape held more other) = refl
 
-pub ruleset others = (not_assignment, not_module, not_statement)
+pub ruleset others = (not_module, not_statement)
+
+-- ---- the last item that defines a function is its last definition
+last-step : (name : List ℕ) (i : TreeItem) (so_far : Option TreeItem) → option_and_then function_by
+    (defining function_word name i so_far) ≡ defined name i (option_and_then function_by so_far)
+last-step name (assignment at word e) so_far = refl
+last-step name (module_of at word params all) so_far = refl
+last-step name (function_of at word params body) so_far = by (is_same_name name word)
+  where
+    by : (b : Bool) → option_and_then function_by (if b then Some (function_of at word params body) else so_far)
+        ≡ (if b then Some (record { parameters = params; body = body }) else option_and_then function_by so_far)
+    by true = refl
+    by false = refl
+last-step name (call_of at percent hash word args all) so_far = refl
+last-step name (choice at percent hash test held other) so_far = refl
+
+last : (name : List ℕ) (so_far : Option TreeItem) (scope : Items) → option_and_then function_by
+    (last_item function_word name so_far scope) ≡ last_defined name (option_and_then function_by so_far) scope
+last name so_far no_items = refl
+last name so_far (entry i more) =
+    last name (defining function_word name i so_far) more ∙ ap (λ o. last_defined name o more)
+    (last-step name i so_far)
+
+in_table : (name : List ℕ) (scope : Option Items) → option_and_then function_by (function_in name scope)
+    ≡ defined_in name scope
+in_table name None = refl
+in_table name (Some scope) = last name None scope
+
+-- an item that was found, and none
+pub table-some : (name : List ℕ) (scope : Option Items) (i : TreeItem) → function_in name scope ≡ Some i
+    → defined_in name scope ≡ function_by i
+table-some name scope i is = sym (in_table name scope) ∙ ap (option_and_then function_by) is
+
+pub table-none : (name : List ℕ) (scope : Option Items) → function_in name scope ≡ None
+    → defined_in name scope ≡ None
+table-none name scope is = sym (in_table name scope) ∙ ap (option_and_then function_by) is
+
+pub ruleset tables = (table-some, table-none)
 
 -- ---- the items that are left in a loop
 pub items-drop : (all : List Item) (i : ℕ) (v : Item) → i < length all → v ≡ get_or all i v → items (drop i all)

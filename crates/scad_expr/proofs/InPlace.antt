@@ -1,5 +1,5 @@
 -- Variables that are read where they stand.
-use Rattle.std.proofs.Common.{◌≡◌, ◌≢◌, ℕ, ℤ, pos, negsuc, Bool, true, false, List, [], ◌∷◌, Option, Some, None, is_some, option_map, Err, Result, if◌then◌else◌, codes, refl, sym, ap, ◌∙◌}
+use Rattle.std.proofs.Common.{◌≡◌, ◌≢◌, ℕ, ℤ, pos, negsuc, Bool, true, false, List, [], ◌∷◌, Some, None, Err, Result, if◌then◌else◌, codes, refl, ap, ◌∙◌}
 use Rattle.std.specs.Prelude.{int_div}
 use Rattle.scad_num.specs.Number.{one}
 use Rattle.scad_fault.specs.declared.place.Place.{Place}
@@ -18,8 +18,9 @@ use Rattle.scad_scope.specs.Names.{is_same_name}
 use Rattle.scad_expr.specs.declared.fault.EvalFault.{EvalFault}
 use Rattle.scad_expr.specs.declared.fault.EvalFault.TheVariants.{Memory as NoMemory}
 use Rattle.scad_expr.specs.State.{State, Outcome, over, step, refuses, gives, and_then}
-use Rattle.scad_expr.specs.Functions.{function_named}
-use Rattle.scad_expr.specs.Portions.{lone, called_of}
+use Rattle.scad_expr.specs.Functions.{Found, function_named}
+use Rattle.scad_expr.specs.Portions.{lone, called_of, call_own, call_known}
+use Rattle.scad_expr.specs.Runs.{as_elements}
 use Rattle.scad_expr.specs.Variables.{variable}
 use Rattle.scad_expr.specs.Meaning.{Below, value, value_layer, node, member_of, values, called, called_builtin}
 use Rattle.scad_expr.proofs.DepthLeft.{value_none, value_more}
@@ -77,26 +78,37 @@ values-lone below env along no_arguments e s is = cc
 values-lone below env along (argument word f no_arguments) e s is = ap (λ x. and_then (below.value env along x s) (λ d. gives (d ∷ []))) (let same : f ≡ e = cc in same)
 values-lone below env along (argument word f (argument word2 f2 more)) e s is = cc
 
-pub node-lone : (below : Below) (env along : Env) (at : Place) (word : List ℕ) (args : Arguments) (e : Expression)
-    (s : State) → lone args ≡ Some e → function_named word env ≡ None → node below env along (call at word args) s
-    ≡ called_of below at word env along e s
-unfolding node called called_of
-node-lone below env along at word args e s is own =
-    ap (λ o. and_then o (λ found. called below at word (function_named word env) along args found))
+pub known-lone : (below : Below) (env along : Env) (at : Place) (word : List ℕ) (args : Arguments) (e : Expression)
+    (s : State) → lone args ≡ Some e → call_known below at word env along args s ≡ called_of below at word env along e s
+unfolding call_known called_of
+known-lone below env along at word args e s is =
+    ap (λ o. and_then o (λ found. called_builtin at word (builtin word (as_elements found))))
     (values-lone below env along args e s is)
-    ∙ ap (λ f. and_then (and_then (below.value env along e s) (λ d. gives (d ∷ []))) (λ found. called below at word f
-    along args found)) own
     ∙ by (below.value env along e s)
   where
-    by : (o : Outcome Datum) → and_then (and_then o (λ d. gives (d ∷ []))) (λ found. called below at word None along
-        args found) ≡ and_then o (λ d. called_builtin at word (builtin word (element d no_elements)))
+    by : (o : Outcome Datum) → and_then (and_then o (λ d. gives (d ∷ []))) (λ found. called_builtin at word
+        (builtin word (as_elements found))) ≡ and_then o (λ d. called_builtin at word
+        (builtin word (element d no_elements)))
     by (gives d t) = refl
     by (refuses f t) = refl
 
+pub ruleset known = (known-lone)
+
+-- ---- a call by what its name means
+pub node-own : (below : Below) (env along : Env) (at : Place) (word : List ℕ) (args : Arguments) (f : Found) (s : State)
+    → function_named word env ≡ Some f → node below env along (call at word args) s ≡ call_own below f env along args s
+unfolding node called call_own
+node-own below env along at word args f s is =
+    ap (λ o. and_then (values below env along args [] s) (λ found. called below at word o along args found)) is
+
+pub node-known : (below : Below) (env along : Env) (at : Place) (word : List ℕ) (args : Arguments) (s : State)
+    → function_named word env ≡ None → node below env along (call at word args) s
+    ≡ call_known below at word env along args s
+unfolding node called call_known
+node-known below env along at word args s is =
+    ap (λ o. and_then (values below env along args [] s) (λ found. called below at word o along args found)) is
+
+pub ruleset calls = (node-own, node-known)
+
 pub alone : (a : Arg) → lone (arguments (a ∷ [])) ≡ Some (expression_of a.value)
 alone a = refl
-
-pub none-named : {A B : Type 0} (g : A → B) (r : Option A) (o : Option B) → is_some r ≡ false → option_map g r ≡ o
-    → o ≡ None
-none-named g None o no_one e = sym e
-none-named g (Some a) o no_one e = cc

@@ -1,12 +1,10 @@
 -- Whether there are arguments, and the values that a vector holds.
-use Rattle.std.proofs.Common.{◌≡◌, ◌≢◌, true, false, List, [], ◌∷◌, Vec, Global, length, refl, ap, ◌∙◌, sym, arith}
+use Rattle.std.proofs.Common.{◌≡◌, ◌≢◌, true, false, List, [], ◌∷◌, length, refl, ap, ◌∙◌, sym, arith}
 use Rattle.scad_ast.specs.declared.expression.Arg.{Arg}
 use Rattle.scad_ast.specs.View.{arguments}
 use Rattle.scad_value.specs.declared.value.Value.{Value}
-use Rattle.scad_value.specs.declared.value.Value.{List as ListValue}
 use Rattle.scad_value.specs.Datum.{vector, element}
 use Rattle.scad_value.specs.View.{datum_of, elements, data_of}
-use Rattle.scad_value.proofs.Rows.{vector_view}
 use Rattle.scad_expr.specs.Runs.{as_elements}
 use Rattle.scad_expr.specs.Arguments.{is_none}
 
@@ -26,5 +24,6 @@ pub called_elements : (all : List Value) → as_elements (data_of all) ≡ eleme
 called_elements [] = refl
 called_elements (v ∷ all) = ap (element (datum_of v)) (called_elements all)
 
-pub vector-data : (all : Vec Value Global) → datum_of (ListValue all) ≡ vector (as_elements (data_of all.items))
-vector-data all = vector_view all ∙ ap vector (sym (called_elements all.items))
+pub vector-data : (v : Value) (all : List Value) → datum_of v ≡ vector (elements all)
+    → datum_of v ≡ vector (as_elements (data_of all))
+vector-data v all is = is ∙ ap vector (sym (called_elements all))

@@ -1,5 +1,6 @@
 -- What `for` and `each` run over.
 use Rattle.std.proofs.Common.{◌≡◌, ◌≢◌, ℕ, zero, suc, ◌+◌, ◌-◌, ◌/◌, ◌<◌, ◌≤◌, ◌⊎◌, inl, inr, ℤ, pos, negsuc, neg_ℤ, ◌+ℤ◌, ◌-ℤ◌, ◌<ℤ◌, Bool, true, false, List, [], ◌∷◌, ◌++◌, Some, if◌then◌else◌, Vec, Global, refl, ap, ◌∙◌, arith}
+use Rattle.std.specs.declared.rc.Rc.{Rc}
 use Rattle.std.specs.Prelude.{int_lt, int_div, unsigned_abs}
 use Rattle.std.proofs.lemmas.Int.{ints}
 use Rattle.std.proofs.lemmas.Bool.{cases_lt}
@@ -23,9 +24,9 @@ listed [] = refl
 listed (v ∷ all) = ap (λ l. datum_of v ∷ l) (listed all)
 
 -- the elements of a vector
-pub items-vector : (all : Vec Value Global) → items (datum_of (ListValue all)) ≡ data_of all.items
+pub items-vector : (all : Rc (Vec Value Global) Global) → items (datum_of (ListValue all)) ≡ data_of all.value.items
 unfolding items
-items-vector all = ap items (vector_view all) ∙ listed all.items
+items-vector all = ap items (vector_view all) ∙ listed all.value.items
 
 pub items-range : (a s b : ℤ) → items (range a s b) ≡ numbers_left (Some a) s b
 unfolding items

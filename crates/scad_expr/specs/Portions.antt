@@ -9,9 +9,10 @@ use Rattle.scad_scope.specs.Names.{Names}
 use Rattle.scad_scope.specs.Env.{Env}
 use Rattle.scad_expr.specs.State.{Action, pure, ◌>>=◌, ◌>>◌, step}
 use Rattle.scad_expr.specs.Variables.{Bound, set, empty, within}
-use Rattle.scad_expr.specs.Runs.{numbers_from, count_of_range}
+use Rattle.scad_expr.specs.Functions.{Found}
+use Rattle.scad_expr.specs.Runs.{numbers_from, count_of_range, as_elements}
 use Rattle.scad_expr.specs.Arguments.{is_given}
-use Rattle.scad_expr.specs.Meaning.{Below, bound_in_order, called_builtin, default_value}
+use Rattle.scad_expr.specs.Meaning.{Below, values, bound_in_order, called_builtin, called_own, default_value}
 
 -- one turn of a variable of a `for`: its step, and what runs inside with the name set
 unfoldable pub turn : Place → List ℕ → (Env → Env → List Datum → Action (List Datum)) → Env → Env → Datum → List Datum → Action (List Datum)
@@ -40,6 +41,18 @@ module _ (below : Below) where
     now ← below.element (within env b.names) (within along b.dollars) body so_far
     next ← bound_in_order below env along steps b
     pure (next, now)
+
+  -- a call of a function of the program
+  unfoldable pub call_own : Found → Env → Env → Arguments → Action Datum
+  call_own f env along args = do
+    found ← values below env along args []
+    called_own below along f args found
+
+  -- a call of a function of the language
+  unfoldable pub call_known : Place → List ℕ → Env → Env → Arguments → Action Datum
+  call_known at word env along args = do
+    found ← values below env along args []
+    called_builtin at word (builtin word (as_elements found))
 
   -- a function of the language of one argument
   unfoldable pub called_of : Place → List ℕ → Env → Env → Expression → Action Datum

@@ -1,8 +1,9 @@
 -- What lists in memory are to the definitions.
-use Rattle.std.specs.Prelude.{List, map}
+use Rattle.std.specs.Prelude.{List, Option, Some, None, map}
 use Rattle.scad_ast.specs.declared.expression.Expr.{Expr}
 use Rattle.scad_ast.specs.declared.statement.Param.{Param}
 use Rattle.scad_ast.specs.Scope.{parameter}
+use Rattle.scad_ast.specs.Tree.{Item, function_of as defines}
 use Rattle.scad_ast.specs.View.{expression_of}
 use Rattle.scad_scope.specs.Env.{Env}
 use Rattle.scad_scope.specs.Stored.{env_at}
@@ -21,3 +22,8 @@ function_at d = function_of d.params.now.items d.body.now
 -- and the environment where its definition stands, among those of all frames
 abbrev pub found_at : List Env → DefinedAt → Found
 found_at envs d = record { function = function_at d.function; home = env_at envs d.home }
+
+-- the function that an item defines, where it defines one
+abbrev pub function_by : Item → Option Function
+function_by (defines at word parameters body) = Some (record { parameters = parameters; body = body })
+function_by _ = None

@@ -9,10 +9,10 @@ ghost use Rattle.scad_scope.specs.Env.{inside, frame};
 ghost use Rattle.scad_scope.specs.Stored.{env_at, envs, children_in};
 ghost use Rattle.scad_scope.specs.View.{children_stored};
 ghost use Rattle.scad_expr.specs.Answers.{Does};
-ghost use Rattle.scad_expr.specs.Functions.{function_named};
 ghost use Rattle.scad_expr.specs.Machine.{held, env_in, along_in, state_of};
-ghost use Rattle.scad_expr.specs.Meaning.{node, values, called, called_own, default_value, bound, bind, meaning};
+ghost use Rattle.scad_expr.specs.Meaning.{node, values, called_own, default_value, bound, bind, meaning};
 ghost use Rattle.scad_expr.specs.Opened.{opened, bound_in, left, opened_in};
+ghost use Rattle.scad_expr.specs.Portions.{call_own, call_known};
 ghost use Rattle.scad_expr.specs.Variables.{within};
 ghost use Rattle.scad_expr.specs.View.{found_at};
 
@@ -71,9 +71,9 @@ pub fn bind<'p>(
     Ok(())
 }
 
-/// A call of a function by its name.
+/// A call of a function by its name: the program's functions go before those of the language.
 #[cycle(eval)]
-#[tactic(auto, unfolding(crate::specs::Meaning::node))]
+#[tactic(auto, using(crate::proofs::InPlace::calls))]
 pub(crate) fn call_node<'p>(
     alloc: Global,
     at: Place,
@@ -86,13 +86,52 @@ pub(crate) fn call_node<'p>(
         (call at word.now (arguments args.now)) (state_of m.old)) result (state_of m.new) }
     ensures kept { OnOk result (held m.new ≡ held m.old) }
 {
+    match m.function(word)? {
+        Some(own) => call_own(alloc, own, args, depth, m),
+        None => call_known(alloc, at, word, args, depth, m),
+    }
+}
+
+/// A call of a function of the program.
+#[cycle(eval)]
+#[tactic(auto, unfolding(crate::specs::Portions::call_own))]
+fn call_own<'p>(
+    alloc: Global,
+    own: DefinedAt<'p>,
+    args: &'p [Arg],
+    depth: u32,
+    m: &mut Machine<'p>,
+) -> Result<Value, EvalFault>
+    requires { own.home < length (held m.old).frames }
+    ensures does { Does datum_of (call_own (meaning depth) (found_at (envs (held m.old).frames) own.entry)
+        (env_in (held m.old)) (along_in (held m.old)) (arguments args.now) (state_of m.old)) result
+        (state_of m.new) }
+    ensures kept { OnOk result (held m.new ≡ held m.old) }
+{
+    let found = values_at(alloc, args, depth, m)?;
+    called_own(alloc, own, args, found, depth, m)
+}
+
+/// A call of a function of the language. A variable that is its one argument is read where it stands.
+#[cycle(eval)]
+#[tactic(auto, using(crate::proofs::InPlace::known, crate::proofs::Lists::called_elements), unfolding(crate::specs::Portions::call_known))]
+fn call_known<'p>(
+    alloc: Global,
+    at: Place,
+    word: &'p [u8],
+    args: &'p [Arg],
+    depth: u32,
+    m: &mut Machine<'p>,
+) -> Result<Value, EvalFault>
+    ensures does { Does datum_of (call_known (meaning depth) at word.now (env_in (held m.old))
+        (along_in (held m.old)) (arguments args.now) (state_of m.old)) result (state_of m.new) }
+    ensures kept { OnOk result (held m.new ≡ held m.old) }
+{
     if let Some((place, of)) = lone_name(args) {
-        if m.function(word).is_none() {
-            return m.builtin_of(alloc, at, word, place, of, depth);
-        }
+        return m.builtin_of(alloc, at, word, place, of, depth);
     }
     let found = values_at(alloc, args, depth, m)?;
-    called(alloc, at, word, args, found, depth, m)
+    m.builtin(alloc, at, word, &found)
 }
 
 /// The values of arguments, with so many levels of depth left.
@@ -115,30 +154,7 @@ pub(crate) fn values_at<'p>(
     Ok(so_far)
 }
 
-/// A call with the values of its arguments.
-#[cycle(eval)]
-#[tactic(auto, using(crate::proofs::Lists::called_elements), unfolding(crate::specs::Meaning::called))]
-fn called<'p>(
-    alloc: Global,
-    at: Place,
-    word: &'p [u8],
-    args: &'p [Arg],
-    found: Vec<Value>,
-    depth: u32,
-    m: &mut Machine<'p>,
-) -> Result<Value, EvalFault>
-    ensures does { Does datum_of (called (meaning depth) at word.now
-        (function_named word.now (env_in (held m.old))) (along_in (held m.old))
-        (arguments args.now) (data_in found) (state_of m.old)) result (state_of m.new) }
-    ensures kept { OnOk result (held m.new ≡ held m.old) }
-{
-    match m.function(word) {
-        Some(own) => called_own(alloc, own, args, found, depth, m),
-        None => m.builtin(alloc, at, word, &found),
-    }
-}
-
-/// A call of a function of the program.
+/// A call of a function of the program with the values of its arguments.
 #[cycle(eval)]
 #[tactic(auto, unfolding(crate::specs::Meaning::called_own))]
 fn called_own<'p>(

@@ -34,7 +34,8 @@ impl<'p> Machine<'p> {
         ensures kept { held self.new ≡ held self.old }
     {
         let all = values_of(alloc, found)?;
-        self.make(at, Value::List(all))
+        let value = Value::vector(alloc, all)?;
+        self.make(at, value)
     }
 
     /// The line of these arguments with their values.

@@ -8,7 +8,7 @@ ghost use Rattle.scad_expr.specs.Runs.{items};
 
 use scad_fault::Chars;
 use scad_num::Num;
-use scad_value::Value;
+use scad_value::{Value, copy};
 use std::alloc::{AllocError, Global};
 
 /// Whether a number is past the end of a range.
@@ -73,17 +73,17 @@ fn add_characters(alloc: Global, out: &mut Vec<Value>, chars: &[char]) -> Result
     ensures { OnOk result (data_in out.new ≡ data_in out.old ++ map (λ c. string (c ∷ [])) chars.now) }
 {
     'characters: for c in chars {
-        out.push(Value::Str(Chars::of(alloc, &[*c])?))?;
+        out.push(Value::string(alloc, Chars::of(alloc, &[*c])?)?)?;
     }
     Ok(())
 }
 
 /// The values of a vector behind other values.
-fn add_values(out: &mut Vec<Value>, all: Vec<Value>) -> Result<(), AllocError>
-    ensures { OnOk result (data_in out.new ≡ data_in out.old ++ data_in all) }
+fn add_values(alloc: Global, out: &mut Vec<Value>, all: &[Value]) -> Result<(), AllocError>
+    ensures { OnOk result (data_in out.new ≡ data_in out.old ++ data_of all.now) }
 {
     'values: for value in all {
-        out.push(value)?;
+        out.push(copy(alloc, value)?)?;
     }
     Ok(())
 }
@@ -96,7 +96,7 @@ fn add(alloc: Global, out: &mut Vec<Value>, value: Value) -> Result<(), AllocErr
     match value {
         Value::Undef => Ok(()),
         Value::Str(chars) => add_characters(alloc, out, chars.as_slice()),
-        Value::List(all) => add_values(out, all),
+        Value::List(all) => add_values(alloc, out, all.as_slice()),
         Value::Range(start, step, end) => add_numbers(out, start, step, end),
         Value::Bool(b) => {
             out.push(Value::Bool(b))?;

@@ -83,7 +83,7 @@ fn node<'p>(alloc: Global, e: &'p Expr, depth: u32, m: &mut Machine<'p>) -> Resu
         Node::Undef => Ok(Value::Undef),
         Node::Bool(b) => Ok(Value::Bool(*b)),
         Node::Number(n) => Ok(Value::Number(*n)),
-        Node::Str(chars) => Ok(Value::Str(Chars::of(alloc, chars.as_slice())?)),
+        Node::Str(chars) => Ok(Value::string(alloc, Chars::of(alloc, chars.as_slice())?)?),
         Node::Name(word) => m.variable(alloc, word.as_slice()),
         Node::List(all) => vector_node(alloc, e.at, all, depth, m),
         Node::Range(start, None, end) => range_node(alloc, e.at, start, end, depth, m),

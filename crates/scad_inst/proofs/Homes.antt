@@ -1,45 +1,74 @@
 -- Modules in memory, the environments where their definitions stand, and the children that frames keep.
-use Rattle.std.proofs.Common.{◌≡◌, ℕ, ◌<◌, ◌≤◌, List, length, take, Option, Some, None, option_map, if◌then◌else◌, Vec, Global, refl, sym, ap, ◌∙◌, arith}
+use Rattle.std.proofs.Common.{◌≡◌, ℕ, ◌<◌, ◌≤◌, Bool, true, false, List, length, take, Option, Some, None, option_map, if◌then◌else◌, Vec, Global, refl, sym, ap, ◌∙◌, arith}
+use Rattle.std.specs.Prelude.{option_and_then}
 use Rattle.std.proofs.lemmas.List.{get_or_past}
 use Rattle.scad_fault.specs.declared.place.Place.{Place}
-use Rattle.scad_ast.specs.declared.expression.Expr.{Expr}
 use Rattle.scad_ast.specs.declared.statement.Param.{Param}
-use Rattle.scad_ast.specs.declared.statement.Item.{Item, Assign, Function, Module, Run}
+use Rattle.scad_ast.specs.declared.statement.Item.{Item, Module, Run}
 use Rattle.scad_ast.specs.declared.statement.Stmt.{Stmt}
 use Rattle.scad_ast.specs.declared.statement.StmtBody.{StmtBody, Call', If'}
 use Rattle.scad_ast.specs.Scope.{item_of, body_of}
+use Rattle.scad_ast.specs.Tree.{Items, no_items, entry, assignment, module_of, function_of, call_of, choice}
+use Rattle.scad_ast.specs.Tree.{Item as TreeItem}
 use Rattle.scad_ast.proofs.ScopeRows.{module_view}
 use Rattle.scad_scope.specs.Names.{is_same_name}
+use Rattle.scad_scope.specs.Definitions.{module_word, defining, last_item, module_in}
 use Rattle.scad_scope.specs.Env.{outside, or_else}
 use Rattle.scad_scope.specs.Stored.{Stored, stored_at, env_at, env_round, env_of, envs}
 use Rattle.scad_scope.proofs.Outwards.{length-envs, round-before, round-past}
-use Rattle.scad_inst.specs.Modules.{found_in, defined, defined_in, module_named}
+use Rattle.scad_inst.specs.Modules.{found_in, defined, last_defined, defined_in, module_named}
 use Rattle.scad_inst.specs.Modules.{Module as Definition}
-use Rattle.scad_inst.specs.View.{definition}
+use Rattle.scad_inst.specs.View.{definition, module_by}
 use Rattle.scad_expr.proofs.Homes.{at_number}
 
--- ---- items by their kinds
-pub not_assignment : (name word : List ℕ) (value : Expr) (at : Place) (o : Option Definition)
-    → defined name (item_of (Assign word value at)) o ≡ o
-not_assignment name word value at o = refl
-
-pub not_function : (name word : List ℕ) (params : Vec Param Global) (body : Expr) (at : Place) (o : Option Definition)
-    → defined name (item_of (Function word params body at)) o ≡ o
-not_function name word params body at o = refl
-
-pub not_statement : (name : List ℕ) (s : Stmt) (o : Option Definition) → defined name (item_of (Run s)) o ≡ o
-not_statement name s o = by s.body
+-- ---- what items define
+pub not_statement : (s : Stmt) → module_by (item_of (Run s)) ≡ None
+not_statement s = by s.body
   where
-    by : (b : StmtBody) → defined name (body_of s.at s.percent s.hash b) o ≡ o
+    by : (b : StmtBody) → module_by (body_of s.at s.percent s.hash b) ≡ None
     by (Call' word args shape all) = refl
     by (If' test shape held more other) = refl
 
-pub a_module : (name word : List ℕ) (params : Vec Param Global) (scope : Vec Item Global) (at : Place)
-    (o : Option Definition) → defined name (item_of (Module word params scope at)) o
-    ≡ (if is_same_name name word then Some (definition params.items scope.items) else o)
-a_module name word params scope at o = ap (λ i. defined name i o) (module_view word params scope at)
+pub a_module : (word : List ℕ) (params : Vec Param Global) (scope : Vec Item Global) (at : Place)
+    → module_by (item_of (Module word params scope at)) ≡ Some (definition params.items scope.items)
+a_module word params scope at = ap module_by (module_view word params scope at)
 
-pub ruleset kinds = (not_assignment, not_function, not_statement, a_module)
+pub ruleset kinds = (not_statement, a_module)
+
+-- ---- the last item that defines a module is its last definition
+last-step : (name : List ℕ) (i : TreeItem) (so_far : Option TreeItem) → option_and_then module_by
+    (defining module_word name i so_far) ≡ defined name i (option_and_then module_by so_far)
+last-step name (assignment at word e) so_far = refl
+last-step name (module_of at word params all) so_far = by (is_same_name name word)
+  where
+    by : (b : Bool) → option_and_then module_by (if b then Some (module_of at word params all) else so_far)
+        ≡ (if b then Some (record { parameters = params; body = all }) else option_and_then module_by so_far)
+    by true = refl
+    by false = refl
+last-step name (function_of at word params body) so_far = refl
+last-step name (call_of at percent hash word args all) so_far = refl
+last-step name (choice at percent hash test held other) so_far = refl
+
+last : (name : List ℕ) (so_far : Option TreeItem) (scope : Items) → option_and_then module_by
+    (last_item module_word name so_far scope) ≡ last_defined name (option_and_then module_by so_far) scope
+last name so_far no_items = refl
+last name so_far (entry i more) =
+    last name (defining module_word name i so_far) more ∙ ap (λ o. last_defined name o more) (last-step name i so_far)
+
+in_table : (name : List ℕ) (scope : Option Items) → option_and_then module_by (module_in name scope)
+    ≡ defined_in name scope
+in_table name None = refl
+in_table name (Some scope) = last name None scope
+
+-- an item that was found, and none
+pub table-some : (name : List ℕ) (scope : Option Items) (i : TreeItem) → module_in name scope ≡ Some i
+    → defined_in name scope ≡ module_by i
+table-some name scope i is = sym (in_table name scope) ∙ ap (option_and_then module_by) is
+
+pub table-none : (name : List ℕ) (scope : Option Items) → module_in name scope ≡ None → defined_in name scope ≡ None
+table-none name scope is = sym (in_table name scope) ∙ ap (option_and_then module_by) is
+
+pub ruleset tables = (table-some, table-none)
 
 -- ---- from a frame outwards
 -- no frame has the number

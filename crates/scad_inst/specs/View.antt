@@ -1,9 +1,11 @@
 -- What modules of a program in memory are to the definitions.
-use Rattle.std.specs.Prelude.{List, Vec, map}
+use Rattle.std.specs.Prelude.{List, Option, Some, None, Vec, map}
 use Rattle.std.specs.Global.{Global}
 use Rattle.scad_ast.specs.declared.statement.Item.{Item}
 use Rattle.scad_ast.specs.declared.statement.Param.{Param}
 use Rattle.scad_ast.specs.Scope.{parameter, items}
+use Rattle.scad_ast.specs.Tree.{module_of as defines}
+use Rattle.scad_ast.specs.Tree.{Item as TreeItem}
 use Rattle.scad_scope.specs.Env.{Env}
 use Rattle.scad_scope.specs.Stored.{env_at}
 use Rattle.scad_tree.specs.declared.node.Node.{Node}
@@ -28,3 +30,8 @@ found_at envs d = record { definition = module_at d.module; home = env_at envs d
 -- the trees that a vector holds
 abbrev pub trees_in : Vec Node Global → List Solid
 trees_in v = solids v.items
+
+-- the module that an item defines, where it defines one
+abbrev pub module_by : TreeItem → Option Module
+module_by (defines at word parameters body) = Some (record { parameters = parameters; body = body })
+module_by _ = None

@@ -76,7 +76,7 @@ fn called<'p>(
         (state_of m.new) }
     ensures kept { OnOk result (held m.new ≡ held m.old) }
 {
-    match module_named(m, name) {
+    match module_named(m, name)? {
         Some(own) => called_own(alloc, own, at, w, args, all, m),
         None => called_by(alloc, meaning, at, name, w, args, all, m),
     }

@@ -119,7 +119,7 @@ fn chosen_by<'p>(
 {
     match value {
         Value::Number(_) => child_by(alloc, w, value, scope, Vec::new(alloc), m),
-        Value::List(all) => children_by(alloc, w, all, scope, m),
+        Value::List(all) => children_by(alloc, w, all.as_slice(), scope, m),
         Value::Range(start, step, end) => {
             children_in_range(alloc, w, *start, *step, *end, scope, m)
         }

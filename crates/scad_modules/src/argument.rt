@@ -1,6 +1,6 @@
 //! The arguments that parameters take.
 
-ghost use Rattle.std.specs.Prelude.{◌≡◌, ◌<◌, ◌^◌, None};
+ghost use Rattle.std.specs.Prelude.{◌≡◌, ◌<◌, ◌^◌, Some, None};
 ghost use Rattle.scad_ast.specs.View.{arguments};
 ghost use Rattle.scad_value.specs.View.{datum_of, data_of};
 ghost use Rattle.scad_modules.specs.Arguments.{is_placed, taken_by, counted, taken_from, if_given, taken};
@@ -83,12 +83,21 @@ fn last_taken<'a>(
     found
 }
 
+/// A value other than `undef`.
+fn defined(value: &Value) -> Option<&Value>
+    ensures { datum_in result ≡ if_given (Some (datum_of value.now)) }
+{
+    match value {
+        Value::Undef => None,
+        _ => Some(value),
+    }
+}
+
 fn if_given(found: Option<&Value>) -> Option<&Value>
     ensures { datum_in result ≡ if_given (datum_in found.entry) }
 {
     match found {
-        Some(Value::Undef) => None,
-        Some(value) => Some(value),
+        Some(value) => defined(value),
         None => None,
     }
 }

@@ -16,7 +16,7 @@ use crate::outline::Outline;
 use crate::polyhedra::{face, three_indices};
 use crate::reading::{Pair, needed, pair, vector};
 use scad_solid::Face;
-use scad_value::Value;
+use scad_value::{Value, number_of};
 use std::alloc::{AllocError, Global};
 
 /// The points that values are.
@@ -119,8 +119,8 @@ fn begins_with_number(all: &[Value]) -> bool
     ensures { result ≡ begins_with_number (elements all.now) }
 {
     match all {
-        [Value::Number(_), ..] => true,
-        _ => false,
+        [first, ..] => number_of(first).is_some(),
+        [] => false,
     }
 }
 

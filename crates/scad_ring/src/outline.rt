@@ -5,12 +5,12 @@ ghost use Rattle.scad_geom.specs.declared.point.Pt.{Pt};
 use scad_geom::Pt;
 use std::marker::Model;
 
-/// The corners of a ring, at most six, seen by contracts as their list.
+/// The corners of a ring, at most ten, seen by contracts as their list.
 #[derive(Debug, Drop)]
 pub struct Ring {
-    corners: [Pt; 6],
+    corners: [Pt; 10],
     count: usize,
-    ghost within: { count ≤ 6 },
+    ghost within: { count ≤ 10 },
 }
 
 impl Model for Ring {
@@ -24,7 +24,7 @@ impl Ring {
         ensures { result ≡ a ∷ b ∷ c ∷ d ∷ [] }
     {
         Ring {
-            corners: [a, b, c, d, d, d],
+            corners: [a, b, c, d, d, d, d, d, d, d],
             count: 4,
         }
     }
@@ -33,9 +33,17 @@ impl Ring {
         ensures { result ≡ a ∷ b ∷ c ∷ d ∷ e ∷ f ∷ [] }
     {
         Ring {
-            corners: [a, b, c, d, e, f],
+            corners: [a, b, c, d, e, f, f, f, f, f],
             count: 6,
         }
+    }
+
+    /// The first `count` of these.
+    pub(crate) fn of(corners: [Pt; 10], count: usize) -> Ring
+        requires { count ≤ 10 }
+        ensures { result ≡ take count corners }
+    {
+        Ring { corners, count }
     }
 
     /// The corners, counter-clockwise from the lowest and then leftmost.

@@ -1,3 +1,4 @@
 pub mod Noted
 pub mod Outwards
 pub mod Rows
+pub mod Tables

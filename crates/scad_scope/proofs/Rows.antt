@@ -3,6 +3,7 @@ use Rattle.std.proofs.Common.{◌≡◌, ℕ, ◌+◌, ◌<◌, ◌≤◌, List,
 use Rattle.std.proofs.lemmas.List.{drop_more, drop_all}
 use Rattle.scad_ast.specs.declared.statement.Item.{Item}
 use Rattle.scad_ast.specs.Scope.{item_of, items}
+use Rattle.scad_ast.specs.Tree.{no_items, entry}
 use Rattle.scad_scope.specs.Assigned.{assigned, assigned_by}
 
 -- what the items of a list assign
@@ -19,3 +20,14 @@ pub assigned-drop_all : (all : List Item) (i : ℕ) → length all ≤ i → ass
 assigned-drop_all all i past = ap assigned_in (drop_all i all past)
 
 pub ruleset left = (assigned-drop, assigned-drop_all)
+
+-- ---- the items that are left in a loop
+pub items-drop : (all : List Item) (i : ℕ) (v : Item) → i < length all → v ≡ get_or all i v → items (drop i all)
+    ≡ entry (item_of v) (items (drop (i + 1) all))
+items-drop all i v below is = ap items (drop_more all i v below) ∙ ap
+    (λ w. entry (item_of w) (items (drop (i + 1) all))) (sym is)
+
+pub items-drop_all : (all : List Item) (i : ℕ) → length all ≤ i → items (drop i all) ≡ no_items
+items-drop_all all i past = ap items (drop_all i all past)
+
+pub ruleset rest = (items-drop, items-drop_all)

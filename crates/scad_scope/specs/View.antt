@@ -1,11 +1,14 @@
 -- The frames that a value in memory is.
-use Rattle.std.specs.Prelude.{ℕ, List, map, option_map, Vec}
+use Rattle.std.specs.Prelude.{ℕ, List, Option, Some, None, map, option_map, Vec}
 use Rattle.std.specs.Global.{Global}
 use Rattle.scad_ast.specs.Scope.{items}
+use Rattle.scad_ast.specs.Tree.{Items}
 use Rattle.scad_value.specs.Datum.{Datum}
 use Rattle.scad_value.specs.View.{datum_of}
 use Rattle.scad_value.specs.declared.value.Value.{Value}
 use Rattle.scad_scope.specs.declared.frame.Frame.{Frame}
+use Rattle.scad_scope.specs.declared.home.Home.{Home}
+use Rattle.scad_scope.specs.declared.home.Home.TheVariants.{Unscoped, Searched, Tabled}
 use Rattle.scad_scope.specs.declared.kept.Kept.{Kept}
 use Rattle.scad_scope.specs.declared.frames.Frames.{Frames}
 use Rattle.scad_scope.specs.Stored.{Stored, StoredChildren}
@@ -17,11 +20,17 @@ named p = (p.0.items, datum_of p.1)
 abbrev pub children_stored : Kept → StoredChildren
 children_stored k = record { statements = items k.scope.now.items; home = k.home }
 
+-- the scope of a frame's functions and modules
+abbrev pub scope_in : Home → Option Items
+scope_in Unscoped = None
+scope_in (Searched s searches) = Some (items s.now.items)
+scope_in (Tabled t) = Some (items t.value.scope.now.items)
+
 unfoldable pub frame_stored : Frame → Stored
 frame_stored f = record {
   names = map named f.names.entries;
   parent = f.parent;
-  scope = option_map (λ s. items s.now.items) f.scope;
+  scope = scope_in f.home;
   kept = option_map children_stored f.kept;
 }
 

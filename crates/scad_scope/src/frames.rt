@@ -3,9 +3,11 @@
 ghost use Rattle.std.specs.Prelude.{◌<◌, ◌^◌, vec_len};
 
 use crate::frame::Frame;
+use crate::home::Home;
 use crate::kept::Kept;
+use crate::kind::Kind;
 use indexmap::IndexMap;
-use scad_ast::Scope;
+use scad_ast::{Item, Scope};
 use scad_value::Value;
 use std::alloc::{AllocError, Global};
 
@@ -20,10 +22,12 @@ pub struct Frames<'p> {
 
 impl<'p> Frames<'p> {
     ghost use Rattle.std.specs.Prelude.{◌≡◌, ◌-◌, ◌∷◌, ◌++◌, [], length, take, option_map, IfOk, OnOk, OnErr, nat_eq};
-    ghost use Rattle.scad_ast.specs.Scope.{items};
+    ghost use Rattle.scad_ast.specs.Scope.{item_of, items};
     ghost use Rattle.scad_value.specs.View.{datum_of};
+    ghost use Rattle.scad_scope.specs.Definitions.{item_in, function_in, module_in};
     ghost use Rattle.scad_scope.specs.Env.{sought};
     ghost use Rattle.scad_scope.specs.Stored.{pushed, stored_at, with_name_in_last, env_at, envs};
+    ghost use Rattle.scad_scope.specs.Tabled.{word_in};
     ghost use Rattle.scad_scope.specs.View.{stored, children_stored};
 
     /// No frames. It takes no memory.
@@ -60,7 +64,7 @@ impl<'p> Frames<'p> {
         self.frames.push(Frame {
             names,
             parent,
-            scope,
+            home: Home::of(scope),
             kept,
         })?;
         Ok(number as u32)
@@ -116,7 +120,7 @@ impl<'p> Frames<'p> {
         if self.frames.len() <= at as usize {
             return None;
         }
-        self.frames[at as usize].scope
+        self.frames[at as usize].home.scope()
     }
 
     /// The child statements that are kept in the frame of a number.
@@ -128,6 +132,38 @@ impl<'p> Frames<'p> {
             return None;
         }
         self.frames[at as usize].kept
+    }
+
+    /// The item of a kind that a name means in the scope of the frame of a number.
+    #[tactic(auto, using(crate::proofs::Outwards::writes), unfolding(crate::specs::View::stored))]
+    fn item(&mut self, at: u32, kind: Kind, name: &[u8]) -> Result<Option<&'p Item>, AllocError>
+        ensures found { IfOk result (λ r. option_map (λ i. item_of i.now) r
+            ≡ item_in (word_in kind) name.now (stored_at (stored self.old) at).scope) }
+        ensures same { stored self.new ≡ stored self.old }
+    {
+        if self.frames.len() <= at as usize {
+            return Ok(None);
+        }
+        self.frames[at as usize].item(self.alloc, kind, name)
+    }
+
+    /// The function of a name in the scope of the frame of a number: the last item that defines it. Where
+    /// names are sought often among many items, the frame makes tables of them.
+    pub fn function(&mut self, at: u32, name: &[u8]) -> Result<Option<&'p Item>, AllocError>
+        ensures found { IfOk result (λ r. option_map (λ i. item_of i.now) r
+            ≡ function_in name.now (stored_at (stored self.old) at).scope) }
+        ensures same { stored self.new ≡ stored self.old }
+    {
+        self.item(at, Kind::Function, name)
+    }
+
+    /// The module of a name in the scope of the frame of a number, likewise.
+    pub fn module(&mut self, at: u32, name: &[u8]) -> Result<Option<&'p Item>, AllocError>
+        ensures found { IfOk result (λ r. option_map (λ i. item_of i.now) r
+            ≡ module_in name.now (stored_at (stored self.old) at).scope) }
+        ensures same { stored self.new ≡ stored self.old }
+    {
+        self.item(at, Kind::Module, name)
     }
 
     /// The value of a name in the frame of a number, or else in the innermost of those round it that has it.

@@ -4,9 +4,13 @@
 #![tactic(auto)]
 
 mod binding;
+mod entries;
 mod frame;
 mod frames;
+mod home;
 mod kept;
+mod kind;
+mod table;
 mod variables;
 
 pub use binding::{Binding, Bindings};

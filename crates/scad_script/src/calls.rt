@@ -4,7 +4,8 @@ ghost use Rattle.scad_io.specs.Desk.{side, HasCause};
 ghost use Rattle.scad_script.specs.Steps.{Makes, Sends};
 ghost use Rattle.scad_script.specs.Script.{first};
 ghost use Rattle.scad_script.specs.Played.{Carries, IsThere, stop_of};
-ghost use Rattle.scad_script.specs.Run.{Sound, CreatesNone, CreatesOne};
+ghost use Rattle.scad_script.specs.Run.{Sound, CreatesOne};
+ghost use Rattle.scad_script.specs.Kept.{Keeps};
 
 use crate::Stop;
 use scad_io::{Desk, Failed, Out, write_all};
@@ -34,10 +35,7 @@ pub fn send<D: Desk>(desk: &mut D, out: Out, piece: &[u8]) -> Result<(), Stop>
     requires made { IsThere out (D.view desk.old) }
 
     ensures carries { Carries (first (Sends out piece.now ∷ [])) result (D.view desk.old) (D.view desk.new) }
-    ensures sound { OnOk result (Sound (D.view desk.new)) }
-    ensures creates { OnOk result (CreatesNone (D.view desk.old) (D.view desk.new)) }
-    ensures files { D.files desk.new ≡ D.files desk.old }
-    ensures later { D.faults desk.old ≤ D.faults desk.new }
+    ensures kept { Keeps D.files D.view D.faults desk.old desk.new result }
     ensures cause { OnErr result (D.faults desk.old < D.faults desk.new) }
 {
     match write_all(desk, out, piece) {

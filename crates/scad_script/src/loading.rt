@@ -2,8 +2,9 @@
 ghost use Rattle.std.specs.Prelude.{◌≡◌, ◌<◌, ◌≤◌, ◌∷◌, [], Some, IfOk, OnOk, IsErrOf, IfSome, option_map};
 ghost use Rattle.scad_script.specs.Steps.{Reads};
 ghost use Rattle.scad_script.specs.Script.{first, input_of, IsWithin};
-ghost use Rattle.scad_script.specs.Played.{Carries, HasRisen};
+ghost use Rattle.scad_script.specs.Played.{Carries};
 ghost use Rattle.scad_script.specs.Run.{Sound, CreatesNone};
+ghost use Rattle.scad_script.specs.Kept.{Keeps};
 
 use crate::Stop;
 use scad_fault::Text;
@@ -32,11 +33,8 @@ pub fn load<D: Desk>(
     ensures told { IfOk result (λ input. IfSome (D.files desk.old) (λ contents.
         option_map (input_of limit) (contents name.now) ≡ Some input)) }
     ensures within { IfOk result (IsWithin limit) }
-    ensures sound { OnOk result (Sound (D.view desk.new)) }
+    ensures kept { Keeps D.files D.view D.faults desk.old desk.new result }
     ensures creates { CreatesNone (D.view desk.old) (D.view desk.new) }
-    ensures files { D.files desk.new ≡ D.files desk.old }
-    ensures later { D.faults desk.old ≤ D.faults desk.new }
-    ensures cause { HasRisen result (D.faults desk.old) (D.faults desk.new) }
 {
     match desk.open(name) {
         Ok(()) => {}

@@ -17,6 +17,7 @@ use crate::tree_work::TreeWork;
 use plan_layer::{PlanFault, plan};
 use scad_fault::{Budget, BudgetKind};
 use scad_geom::Loop;
+use scad_io::Gate;
 use scad_tree::Tree;
 use scad_words::Settings;
 use slice_bool::BoolFault;
@@ -27,12 +28,21 @@ use std::alloc::{AllocError, Global};
 /// The most edges of a layer's section.
 const EDGE_LIMIT: u32 = 20_000;
 
-impl LayerWork for TreeWork<'_> {
-    ghost draws = { λ work part. IsPart work.want work.settings (solid_of work.tree.now) part };
+impl<G: Gate> LayerWork for TreeWork<'_, G> {
+    ghost draws = { λ work part. IsPart work.print.want work.print.settings (solid_of work.tree.now) part };
 
     fn draw(&self, alloc: Global, layer: u32) -> Result<LayerEnd, AllocError> {
         self.tree.are_solids();
-        draw_layer(alloc, self.tree, &self.settings, self.want, layer)
+        self.gate.before(layer);
+        let end = draw_layer(
+            alloc,
+            self.tree,
+            &self.print.settings,
+            self.print.want,
+            layer,
+        );
+        self.gate.after(layer);
+        end
     }
 }
 

@@ -5,20 +5,22 @@
 //! has one such part, whose layers hold what the tree contains.
 #![tactic(auto)]
 
-mod counting;
-mod drawing;
 pub mod laws;
 mod layer;
+mod layer_count;
 mod lines;
 mod pieces;
-mod planning;
-mod slicing;
+mod plan_command;
+mod slice_command;
 mod summary;
+mod tree_files;
 mod tree_work;
+mod workpiece;
 
-pub use counting::{LAYER_LIMIT, count_layers};
-pub use drawing::draw;
-pub use planning::plan;
+pub use layer_count::{LAYER_LIMIT, count_layers};
+pub use plan_command::plan;
+pub use slice_command::slice;
 pub use slice_work::{Summary, Want};
-pub use slicing::slice;
 pub use summary::Written;
+pub use tree_files::draw;
+pub use workpiece::Workpiece;

@@ -1,10 +1,11 @@
 //! The heads and the ends of the files.
-ghost use Rattle.std.specs.Prelude.{◌≡◌, ◌≢◌, ◌≤◌, ◌<◌, ◌∷◌, [], true, length, IfOk, OnOk};
+ghost use Rattle.std.specs.Prelude.{◌≡◌, ◌≢◌, ◌≤◌, ◌<◌, ◌∷◌, [], true, length, IfOk};
 ghost use Rattle.scad_io.specs.declared.desk.Out.TheVariants.{Cli, Gcode};
 ghost use Rattle.scad_script.specs.Steps.{Sends, text_of};
 ghost use Rattle.scad_script.specs.Script.{first};
-ghost use Rattle.scad_script.specs.Played.{Carries, HasRisen, IsThere};
-ghost use Rattle.scad_script.specs.Run.{Sound, CreatesNone};
+ghost use Rattle.scad_script.specs.Played.{Carries, IsThere};
+ghost use Rattle.scad_script.specs.Run.{Sound};
+ghost use Rattle.scad_script.specs.Kept.{Keeps};
 ghost use Rattle.cli_text.specs.Cli as outline;
 ghost use Rattle.gcode_text.specs.Gcode as program;
 ghost use Rattle.slice_work.specs.Script.{AreThere};
@@ -30,11 +31,7 @@ pub fn send_heads<D: Desk>(
 
     ensures carries { Carries (first (heads want settings.now count)) result (D.view desk.old) (D.view desk.new) }
     ensures sizes { IfOk result (HaveSizes (heads want settings.now count)) }
-    ensures sound { OnOk result (Sound (D.view desk.new)) }
-    ensures creates { OnOk result (CreatesNone (D.view desk.old) (D.view desk.new)) }
-    ensures files { D.files desk.new ≡ D.files desk.old }
-    ensures later { D.faults desk.old ≤ D.faults desk.new }
-    ensures cause { HasRisen result (D.faults desk.old) (D.faults desk.new) }
+    ensures kept { Keeps D.files D.view D.faults desk.old desk.new result }
 {
     let cli = send_outline_head(alloc, count, desk)?;
     match want {
@@ -53,11 +50,7 @@ pub fn send_tails<D: Desk>(alloc: Global, want: Want, desk: &mut D) -> Result<Si
 
     ensures carries { Carries (first (tails want)) result (D.view desk.old) (D.view desk.new) }
     ensures sizes { IfOk result (HaveSizes (tails want)) }
-    ensures sound { OnOk result (Sound (D.view desk.new)) }
-    ensures creates { OnOk result (CreatesNone (D.view desk.old) (D.view desk.new)) }
-    ensures files { D.files desk.new ≡ D.files desk.old }
-    ensures later { D.faults desk.old ≤ D.faults desk.new }
-    ensures cause { HasRisen result (D.faults desk.old) (D.faults desk.new) }
+    ensures kept { Keeps D.files D.view D.faults desk.old desk.new result }
 {
     let cli = send_outline_end(alloc, desk)?;
     match want {
@@ -75,11 +68,7 @@ fn send_outline_head<D: Desk>(alloc: Global, count: u32, desk: &mut D) -> Result
 
     ensures carries { Carries (first (Sends Cli (outline.head count) ∷ [])) result (D.view desk.old) (D.view desk.new) }
     ensures size { IfOk result (λ n. n ≡ length (outline.head count)) }
-    ensures sound { OnOk result (Sound (D.view desk.new)) }
-    ensures creates { OnOk result (CreatesNone (D.view desk.old) (D.view desk.new)) }
-    ensures files { D.files desk.new ≡ D.files desk.old }
-    ensures later { D.faults desk.old ≤ D.faults desk.new }
-    ensures cause { HasRisen result (D.faults desk.old) (D.faults desk.new) }
+    ensures kept { Keeps D.files D.view D.faults desk.old desk.new result }
 {
     let mut text = Vec::new(alloc);
     cli_text::write_head(&mut text, count)?;
@@ -93,11 +82,7 @@ fn send_program_head<D: Desk>(alloc: Global, settings: &Settings, desk: &mut D) 
     ensures carries { Carries (first (Sends Gcode (program.head settings.now.hot_end settings.now.bed) ∷ []))
         result (D.view desk.old) (D.view desk.new) }
     ensures size { IfOk result (λ n. n ≡ length (program.head settings.now.hot_end settings.now.bed)) }
-    ensures sound { OnOk result (Sound (D.view desk.new)) }
-    ensures creates { OnOk result (CreatesNone (D.view desk.old) (D.view desk.new)) }
-    ensures files { D.files desk.new ≡ D.files desk.old }
-    ensures later { D.faults desk.old ≤ D.faults desk.new }
-    ensures cause { HasRisen result (D.faults desk.old) (D.faults desk.new) }
+    ensures kept { Keeps D.files D.view D.faults desk.old desk.new result }
 {
     let mut text = Vec::new(alloc);
     gcode_text::write_head(&mut text, settings.hot_end, settings.bed)?;
@@ -110,11 +95,7 @@ fn send_outline_end<D: Desk>(alloc: Global, desk: &mut D) -> Result<u64, Stop>
 
     ensures carries { Carries (first (Sends Cli outline.geometry_end ∷ [])) result (D.view desk.old) (D.view desk.new) }
     ensures size { IfOk result (λ n. n ≡ length outline.geometry_end) }
-    ensures sound { OnOk result (Sound (D.view desk.new)) }
-    ensures creates { OnOk result (CreatesNone (D.view desk.old) (D.view desk.new)) }
-    ensures files { D.files desk.new ≡ D.files desk.old }
-    ensures later { D.faults desk.old ≤ D.faults desk.new }
-    ensures cause { HasRisen result (D.faults desk.old) (D.faults desk.new) }
+    ensures kept { Keeps D.files D.view D.faults desk.old desk.new result }
 {
     let mut text = Vec::new(alloc);
     cli_text::write_end(&mut text)?;
@@ -127,11 +108,7 @@ fn send_program_end<D: Desk>(alloc: Global, desk: &mut D) -> Result<u64, Stop>
 
     ensures carries { Carries (first (Sends Gcode program.end ∷ [])) result (D.view desk.old) (D.view desk.new) }
     ensures size { IfOk result (λ n. n ≡ length program.end) }
-    ensures sound { OnOk result (Sound (D.view desk.new)) }
-    ensures creates { OnOk result (CreatesNone (D.view desk.old) (D.view desk.new)) }
-    ensures files { D.files desk.new ≡ D.files desk.old }
-    ensures later { D.faults desk.old ≤ D.faults desk.new }
-    ensures cause { HasRisen result (D.faults desk.old) (D.faults desk.new) }
+    ensures kept { Keeps D.files D.view D.faults desk.old desk.new result }
 {
     let mut text = Vec::new(alloc);
     gcode_text::write_end(&mut text)?;
@@ -145,11 +122,7 @@ fn send_text<D: Desk>(desk: &mut D, out: Out, text: &[u8]) -> Result<u64, Stop>
 
     ensures carries { Carries (first (Sends out text.now ∷ [])) result (D.view desk.old) (D.view desk.new) }
     ensures size { IfOk result (λ n. n ≡ length text.now) }
-    ensures sound { OnOk result (Sound (D.view desk.new)) }
-    ensures creates { OnOk result (CreatesNone (D.view desk.old) (D.view desk.new)) }
-    ensures files { D.files desk.new ≡ D.files desk.old }
-    ensures later { D.faults desk.old ≤ D.faults desk.new }
-    ensures cause { HasRisen result (D.faults desk.old) (D.faults desk.new) }
+    ensures kept { Keeps D.files D.view D.faults desk.old desk.new result }
 {
     send(desk, out, text)?;
     Ok(text.len() as u64)

@@ -1,15 +1,12 @@
 //! A tree whose layers are worked.
-ghost use Rattle.scad_words.specs.Settings.{AreInRange};
 
 use scad_tree::Tree;
-use scad_words::Settings;
-use slice_work::Want;
+use slice_work::Print;
 
-/// A tree, and what is wanted of each of its layers by which settings.
+/// A tree, how it is printed, and the gate round the work on each of its layers.
 #[derive(Drop)]
-pub struct TreeWork<'a> {
+pub struct TreeWork<'a, G> {
     pub tree: &'a Tree,
-    pub settings: Settings,
-    pub want: Want,
-    ghost in_range: { AreInRange settings },
+    pub print: Print,
+    pub gate: &'a G,
 }

@@ -1,22 +1,10 @@
-//! The program: reads a part, tells what it means, or writes its layers' outlines and the program that prints it. `run` has
-//! the promise; `main` hands it the real files.
+//! The program: `main` hands the words and the real files to `run` of scad_run, whose contract has the promise, and
+//! ends with its status.
 #![tactic(auto)]
 
-mod check;
-mod evaluation;
-mod finish;
-mod laws;
-mod meaning;
-mod run;
-mod sample;
-mod settings;
-#[cfg(test)]
-mod tests;
-mod work;
-
-use run::run;
 use scad_fault::Status;
 use scad_io::{Open, RealDesk};
+use scad_run::run;
 use std::env::{self, Env};
 use std::io;
 use std::process::ExitCode;

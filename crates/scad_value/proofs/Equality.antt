@@ -1,5 +1,6 @@
 -- When vectors are equal.
 use Rattle.std.proofs.Common.{◌≡◌, ◌≢◌, List, [], ◌∷◌, false, refl, ap, ap₂, ◌∙◌, length, arith, Vec, Global}
+use Rattle.std.specs.declared.rc.Rc.{Rc}
 use Rattle.std.specs.Prelude.{◌&&◌}
 use Rattle.std.proofs.Math.Bool.{and-false}
 use Rattle.scad_value.specs.declared.value.Value.{Value, List as ListValue}
@@ -16,6 +17,6 @@ equal_all-lengths (x ∷ xs) (y ∷ ys) differ =
     ap (λ b. equal (datum_of x) (datum_of y) && b) (equal_all-lengths xs ys (λ e. differ (omega arith))) ∙ and-false
     (equal (datum_of x) (datum_of y))
 
-pub equal-vectors : (a b : Value) (xs ys : Vec Value Global) → a ≡ ListValue xs → b ≡ ListValue ys
-    → equal (datum_of a) (datum_of b) ≡ equal_all (elements xs.items) (elements ys.items)
+pub equal-vectors : (a b : Value) (xs ys : Rc (Vec Value Global) Global) → a ≡ ListValue xs → b ≡ ListValue ys
+    → equal (datum_of a) (datum_of b) ≡ equal_all (elements xs.value.items) (elements ys.value.items)
 equal-vectors a b xs ys p q = ap₂ equal (at_vector a xs p) (at_vector b ys q)

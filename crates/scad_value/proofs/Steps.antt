@@ -1,5 +1,6 @@
 -- A vector that is made element by element, to the first fault.
 use Rattle.std.proofs.Common.{◌≡◌, List, [], ◌∷◌, ◌++◌, Ok, Err, refl, ap, sym, ◌∙◌, subst, Vec, Global}
+use Rattle.std.specs.declared.rc.Rc.{Rc}
 use Rattle.scad_value.specs.declared.value.Value.{Value, List as ListValue}
 use Rattle.scad_value.specs.declared.fault.ValueFault.{ValueFault}
 use Rattle.scad_value.specs.declared.fault.ValueFault.TheVariants.{ZeroDivisor, NumberRange, Memory}
@@ -7,7 +8,7 @@ use Rattle.scad_value.specs.Datum.{Datum, vector, Elements}
 use Rattle.scad_value.specs.Elementwise.{Answer, AllAnswers, as_vector, before_all, first_then}
 use Rattle.scad_value.specs.Faults.{Refuses}
 use Rattle.scad_value.specs.View.{datum_of, elements_onto, elements}
-use Rattle.scad_value.proofs.Rows.{vector_view, at_vector, elements_onto-push}
+use Rattle.scad_value.proofs.Rows.{at_vector, elements_onto-push}
 
 -- values, and then what is still to be made
 abbrev pub onto_all : List Value → AllAnswers → AllAnswers
@@ -42,20 +43,11 @@ vector_refused all ZeroDivisor refused = ap as_vector refused
 vector_refused all NumberRange refused = ap as_vector refused
 vector_refused all Memory refused = tt
 
--- an operation that goes through the elements of a vector has made them all
-pub found_vector : (f : Datum → Answer) (g : Elements → AllAnswers)
-    → ((es : Elements) → f (vector es) ≡ as_vector (g es)) → (a : Value) (xs made : Vec Value Global)
-    (items : List Value) → a ≡ ListValue xs → items ≡ xs.items → g (elements items) ≡ Ok (elements made.items)
-    → f (datum_of a) ≡ Ok (datum_of (ListValue made))
-found_vector f g same a xs made items is items_are found =
-    ap f (at_vector a xs is) ∙ same (elements xs.items) ∙ ap (λ all. as_vector (g (elements all))) (sym items_are) ∙ ap
-    as_vector found ∙ ap Ok (sym (vector_view made))
-
--- or has a fault
+-- an operation that goes through the elements of a vector has a fault of theirs
 pub refused_vector : (f : Datum → Answer) (g : Elements → AllAnswers)
-    → ((es : Elements) → f (vector es) ≡ as_vector (g es)) → (a : Value) (xs : Vec Value Global) (items : List Value)
-    (fault : ValueFault) → a ≡ ListValue xs → items ≡ xs.items → Refuses (g (elements items)) fault
+    → ((es : Elements) → f (vector es) ≡ as_vector (g es)) → (a : Value) (xs : Rc (Vec Value Global) Global)
+    (items : List Value) (fault : ValueFault) → a ≡ ListValue xs → items ≡ xs.value.items → Refuses (g (elements items)) fault
     → Refuses (f (datum_of a)) fault
 refused_vector f g same a xs items fault is items_are refused =
     subst (λ answer. Refuses answer fault) (ap (λ all. as_vector (g (elements all))) items_are ∙ sym
-    (same (elements xs.items)) ∙ ap f (sym (at_vector a xs is))) (vector_refused (g (elements items)) fault refused)
+    (same (elements xs.value.items)) ∙ ap f (sym (at_vector a xs is))) (vector_refused (g (elements items)) fault refused)

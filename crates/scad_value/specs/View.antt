@@ -9,8 +9,8 @@ abbrev mutual
   datum_of Undef = undef
   datum_of (Bool b) = boolean b
   datum_of (Number n) = number n
-  datum_of (Str chars) = string chars
-  datum_of (List' shape all) = vector (row_of all)
+  datum_of (Str chars) = string chars.value
+  datum_of (List' block shape all) = vector (row_of all)
   datum_of (Range start step end) = range start step end
 
   pub row_of : {m : _} → Row_of-Value m → Elements

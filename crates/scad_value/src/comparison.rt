@@ -31,7 +31,7 @@ pub fn equal(a: &Value, b: &Value) -> bool
             _ => false,
         },
         Value::List(xs) => match elements_of(b) {
-            Some(ys) => equal_all(xs, ys),
+            Some(ys) => equal_all(xs.as_slice(), ys),
             None => false,
         },
         Value::Range(start, step, end) => match b {

@@ -2,16 +2,13 @@
 
 ghost use Rattle.std.specs.Prelude.{◌≡◌, IfOk, IfErr, IsTrue};
 ghost use Rattle.scad_value.specs.Memory.{is_list};
-ghost use Rattle.scad_value.specs.View.{datum_of, elements};
+ghost use Rattle.scad_value.specs.View.{datum_of};
 
-use crate::value::{Value, Values};
-use scad_fault::Chars;
+use crate::value::Value;
 use std::alloc::{AllocError, Global};
 
-/// The same value again.
-#[cycle(copy)]
-#[tactic(auto, using(crate::proofs::Rows::at_vector))]
-pub fn copy(alloc: Global, a: &Value) -> Result<Value, AllocError>
+/// The same value again. Strings and vectors are shared, so it takes the same time for each value, and no memory.
+pub fn copy(_alloc: Global, a: &Value) -> Result<Value, AllocError>
     ensures same { IfOk result (λ v. datum_of v ≡ datum_of a.now) }
     ensures memory { IfErr result (λ _. IsTrue (is_list (datum_of a.now))) }
 {
@@ -19,22 +16,8 @@ pub fn copy(alloc: Global, a: &Value) -> Result<Value, AllocError>
         Value::Undef => Ok(Value::Undef),
         Value::Bool(b) => Ok(Value::Bool(*b)),
         Value::Number(n) => Ok(Value::Number(*n)),
-        Value::Str(chars) => Ok(Value::Str(Chars::of(alloc, chars.as_slice())?)),
-        Value::List(all) => match copy_all(alloc, all) {
-            Ok(made) => Ok(Value::List(made)),
-            Err(e) => Err(e),
-        },
+        Value::Str(chars) => Ok(Value::Str(chars.clone()?)),
+        Value::List(all) => Ok(Value::List(all.clone()?)),
         Value::Range(start, step, end) => Ok(Value::Range(*start, *step, *end)),
     }
-}
-
-#[cycle(copy)]
-fn copy_all(alloc: Global, all: &[Value]) -> Result<Values, AllocError>
-    ensures { IfOk result (λ made. elements made.items ≡ elements all.now) }
-{
-    let mut made = Vec::with_capacity(alloc, all.len())?;
-    'elements: for v in all {
-        made.push(copy(alloc, v)?)?;
-    }
-    Ok(made)
 }

@@ -61,8 +61,8 @@ pub(crate) fn each(alloc: Global, operation: &Action, a: &Value) -> Result<Value
 {
     match a {
         Value::Number(x) => as_number(operation.at(*x)),
-        Value::List(all) => match each_of(alloc, operation, all) {
-            Ok(made) => Ok(Value::List(made)),
+        Value::List(all) => match each_of(alloc, operation, all.as_slice()) {
+            Ok(made) => Ok(Value::vector(alloc, made)?),
             Err(fault) => Err(fault),
         },
         _ => Ok(Value::Undef),

@@ -21,7 +21,7 @@ fn character(alloc: Global, chars: &[char], n: usize) -> Result<Value, AllocErro
     if n >= chars.len() {
         return Ok(Value::Undef);
     }
-    Ok(Value::Str(Chars::of(alloc, &[chars[n]])?))
+    Value::string(alloc, Chars::of(alloc, &[chars[n]])?)
 }
 
 /// Start, step or end.
@@ -54,7 +54,7 @@ fn at_place(alloc: Global, a: &Value, n: usize) -> Result<Value, AllocError>
     ensures memory { IfErr result (λ _. IsTrue (is_list (at_place (datum_of a.now) n))) }
 {
     match a {
-        Value::List(all) => element(alloc, all, n),
+        Value::List(all) => element(alloc, all.as_slice(), n),
         Value::Str(chars) => character(alloc, chars.as_slice(), n),
         Value::Range(start, step, end) => Ok(part(*start, *step, *end, n)),
         _ => Ok(Value::Undef),

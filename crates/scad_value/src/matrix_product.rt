@@ -79,7 +79,7 @@ fn by_rows_and_columns(
     let mut made = Vec::with_capacity(alloc, rows.len())?;
     'rows: for row in rows {
         match by_columns(alloc, columns, elements_in(row), ys) {
-            Ok(row_made) => made.push(Value::List(row_made))?,
+            Ok(row_made) => made.push(Value::vector(alloc, row_made)?)?,
             Err(fault) => return Err(fault),
         }
     }
@@ -115,7 +115,7 @@ fn times_vector(
                 return Ok(Value::Undef);
             }
             match by_rows(alloc, xs, ys) {
-                Ok(made) => Ok(Value::List(made)),
+                Ok(made) => Ok(Value::vector(alloc, made)?),
                 Err(fault) => Err(fault),
             }
         }
@@ -147,7 +147,7 @@ fn times_matrix(
                 return Ok(Value::Undef);
             }
             match by_columns(alloc, columns, xs, ys) {
-                Ok(made) => Ok(Value::List(made)),
+                Ok(made) => Ok(Value::vector(alloc, made)?),
                 Err(fault) => Err(fault),
             }
         }
@@ -156,7 +156,7 @@ fn times_matrix(
                 return Ok(Value::Undef);
             }
             match by_rows_and_columns(alloc, columns, xs, ys) {
-                Ok(made) => Ok(Value::List(made)),
+                Ok(made) => Ok(Value::vector(alloc, made)?),
                 Err(fault) => Err(fault),
             }
         }

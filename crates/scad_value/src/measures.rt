@@ -29,7 +29,7 @@ pub fn made(a: &Value) -> u64
 {
     match a {
         Value::Str(chars) => chars.as_slice().len() as u64,
-        Value::List(all) => made_all(all),
+        Value::List(all) => made_all(all.as_slice()),
         _ => 0,
     }
 }
@@ -53,7 +53,7 @@ pub fn nesting(a: &Value) -> u32
     ensures { result ≡ min (nesting (datum_of a.now)) (2 ^ 32 - 1) }
 {
     match a {
-        Value::List(all) => deepest(all).saturating_add(1),
+        Value::List(all) => deepest(all.as_slice()).saturating_add(1),
         _ => 0,
     }
 }

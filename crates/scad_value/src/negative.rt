@@ -17,8 +17,8 @@ pub(crate) fn negative(alloc: Global, a: &Value) -> Result<Value, AllocError>
 {
     match a {
         Value::Number(n) => Ok(Value::Number(n.neg())),
-        Value::List(all) => match negatives(alloc, all) {
-            Ok(made) => Ok(Value::List(made)),
+        Value::List(all) => match negatives(alloc, all.as_slice()) {
+            Ok(made) => Value::vector(alloc, made),
             Err(e) => Err(e),
         },
         _ => Ok(Value::Undef),

@@ -34,7 +34,7 @@ fn product(alloc: Global, a: &Value, b: &Value) -> Result<Value, ValueFault>
         Value::List(xs) => match number_of(b) {
             Some(y) => each(alloc, &Action::TimesRight(y), a),
             None => match elements_of(b) {
-                Some(ys) => product_of_vectors(alloc, xs, ys),
+                Some(ys) => product_of_vectors(alloc, xs.as_slice(), ys),
                 None => Ok(Value::Undef),
             },
         },

@@ -54,8 +54,8 @@ pub(crate) fn by_pairs(
             _ => Ok(Value::Undef),
         },
         Value::List(xs) => match elements_of(b) {
-            Some(ys) => match by_pairs_of(alloc, operation, xs, ys) {
-                Ok(made) => Ok(Value::List(made)),
+            Some(ys) => match by_pairs_of(alloc, operation, xs.as_slice(), ys) {
+                Ok(made) => Ok(Value::vector(alloc, made)?),
                 Err(fault) => Err(fault),
             },
             None => Ok(Value::Undef),

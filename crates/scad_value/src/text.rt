@@ -81,7 +81,7 @@ fn push_value(out: &mut Vec<char>, a: &Value) -> Result<(), AllocError>
         Value::Bool(b) => push_boolean(out, *b),
         Value::Number(n) => push_number(out, *n),
         Value::Str(chars) => push_quoted(out, chars.as_slice()),
-        Value::List(all) => push_vector(out, all),
+        Value::List(all) => push_vector(out, all.as_slice()),
         Value::Range(start, step, end) => push_range(out, *start, *step, *end),
     }
 }

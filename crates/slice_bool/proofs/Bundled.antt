@@ -39,7 +39,7 @@ headings_are es leaf (k ∷ ks) =
     ap (λ (z : ℤ). (if (get_or es k no_edge).leaf == leaf then heading_of (get_or es k no_edge).edge else pos 0) +ℤ z)
     (headings_are es leaf ks)
 
-left_is : (es : List LeafEdge) (shape : Shape) (bs : List (List ℕ)) → left_value es shape bs ≡ value_of es shape bs
+pub left_is : (es : List LeafEdge) (shape : Shape) (bs : List (List ℕ)) → left_value es shape bs ≡ value_of es shape bs
 left_is es shape bs = ap (λ (f : ℕ → Bool). shape_holds f shape)
     (fun_ext (λ leaf. ap (λ (z : ℤ). not (is_zero z)) (headings_are es leaf (concat bs))))
 
@@ -86,7 +86,7 @@ pub there_at : (es : List LeafEdge) (bs : List (List ℕ)) (j : ℕ) (d : List �
 there_at es bs j d h m = All-from_recursion (λ k. k < length es) (get_or bs j d) (all_of_bundle (λ k. k < length es) bs
     j d h m.there)
 
-rises_first : (es : List LeafEdge) (l u : Level) (b : List ℕ) → AllByRecursion (IsLive es l u) b → RisesFirst es b
+pub rises_first : (es : List LeafEdge) (l u : Level) (b : List ℕ) → AllByRecursion (IsLive es l u) b → RisesFirst es b
 rises_first es l u [] h = tt
 rises_first es l u (k ∷ ks) h = (h.0.there, h.0.reaches.rises)
 
@@ -154,7 +154,7 @@ held_left es shape bs turns h = ap (λ (f : ℕ → Bool). shape_holds f shape)
 pub outside_right : (es : List LeafEdge) (shape : Shape) → left_value es shape [] ≡ false
 outside_right es shape = nothing_held shape
 
-drop_all : (bs : List (List ℕ)) → drop (length bs) bs ≡ []
+pub drop_all : (bs : List (List ℕ)) → drop (length bs) bs ≡ []
 drop_all [] = refl
 drop_all (b ∷ bs) = drop_all bs
 

@@ -1,5 +1,5 @@
 -- A shape's leaves follow their winding numbers.
-use Rattle.std.proofs.Common.{◌≡◌, ℕ, ◌+◌, Bool, true, false, not, List, get_or, refl, sym, ap, ◌∙◌, subst, arith}
+use Rattle.std.proofs.Common.{◌≡◌, ℕ, ◌+◌, Bool, true, false, not, List, get_or, refl, sym, ap, ◌∙◌, subst, arith, ◌||◌, ◌<◌}
 use mathlib.Core.Bool.{beq}
 use mathlib.Core.Path.{fun_ext}
 use lib.IntN.{ℤ, pos, negsuc, ◌+ℤ◌, +ℤ_idl}
@@ -11,10 +11,14 @@ use Rattle.scad_geom.specs.declared.shape.Shape.{Shape}
 use Rattle.scad_geom.specs.Sign.{is_zero}
 use Rattle.slice_held.specs.declared.kept_shape.Held.{Held}
 use Rattle.slice_held.specs.Held.{leaf_count, IsReady, Shows, SetsLeaf, with_leaf}
-use Rattle.slice_bool.specs.Tally.{IsTally, heading_of}
-use Rattle.slice_bool.specs.Keeping.{in_by, KeepsUp}
+use Rattle.std.specs.List.{All}
+use Rattle.scad_geom.specs.declared.level.LeafEdge.{LeafEdge}
+use Rattle.scad_geom.proofs.Signs.{zero_true}
+use Rattle.slice_bool.specs.declared.tally.Tallies.{Tallies}
+use Rattle.slice_bool.specs.Tally.{IsTally, heading_of, has_leaf}
+use Rattle.slice_bool.specs.Keeping.{in_by, KeepsUp, AreAtRest, ComeToRest, AreFor}
 
-same_leaf : (m n : ℕ) → (m == n) ≡ true → m ≡ n
+pub same_leaf : (m n : ℕ) → (m == n) ≡ true → m ≡ n
 same_leaf m n e = grind arith
 
 same_answer : (a b : Bool) → not (beq a b) ≡ false → a ≡ b
@@ -91,3 +95,70 @@ pub size_on : (old new z : ℤ) (t : Bool) (most : ℕ) → new ≡ old +ℤ (if
     → unsigned_abs old ≤ most → unsigned_abs new ≤ most + 1
 size_on old new z true most e h k = omega (arith, ints)
 size_on old new z false most e h k = omega (arith, ints)
+
+-- and the other way round
+pub keeps_last : (turns : List ℤ) (shape : Shape) (h : Held) → IsTally turns (λ leaf. pos 0)
+    → Shows shape (in_by turns) h → Shows shape (λ leaf. false) h
+keeps_last turns shape h z s =
+    subst (λ (f : ℕ → Bool). Shows shape f h) (fun_ext (λ leaf. ap (λ (z : ℤ). not (is_zero z)) (z leaf))) s
+
+-- ---- numbers that go back to 0
+module _ (turns news : List ℤ) (leaf : ℕ)
+    (moved : IsTally news (λ k. if leaf == k then pos 0 else get_or turns k (pos 0))) where
+  put_answers : (k : ℕ) → with_leaf leaf false (in_by turns) k ≡ in_by news k
+  put_answers k = by_test (leaf == k) refl
+    where
+      by_test : (t : Bool) → (leaf == k) ≡ t → (if t then false else in_by turns k) ≡ in_by news k
+      by_test true e = sym (ap (λ (z : ℤ). not (is_zero z)) (moved k ∙ ap (λ (t : Bool). if t then pos 0 else get_or turns k (pos 0)) e))
+      by_test false e = sym (ap (λ (z : ℤ). not (is_zero z)) (moved k ∙ ap (λ (t : Bool). if t then pos 0 else get_or turns k (pos 0)) e))
+
+  pub keeps_put : (h g : Held) → IsReady g → leaf_count g ≡ leaf_count h → SetsLeaf leaf false h g → KeepsUp turns news h g
+  keeps_put h g r n s =
+      record {
+        ready = r;
+        size = n;
+        shows = λ shape shown. subst (λ (f : ℕ → Bool). Shows shape f g) (fun_ext put_answers) (s shape (in_by turns) shown);
+      }
+
+pub keeps_still : (turns : List ℤ) (h : Held) → IsReady h → KeepsUp turns turns h h
+keeps_still turns h r = record { ready = r; size = refl; shows = λ shape shown. shown }
+
+pub nothing_put : (turns : List ℤ) (leaf : ℕ) → in_by turns leaf ≡ false
+    → IsTally turns (λ k. if leaf == k then pos 0 else get_or turns k (pos 0))
+nothing_put turns leaf h k = by_test (leaf == k) refl
+  where
+    is_true : (b : Bool) → not b ≡ false → b ≡ true
+    is_true true e = refl
+    is_true false e = absurd cc
+
+    by_test : (t : Bool) → (leaf == k) ≡ t → get_or turns k (pos 0) ≡ (if t then pos 0 else get_or turns k (pos 0))
+    by_test true e = ap (λ (j : ℕ). get_or turns j (pos 0)) (sym (same_leaf leaf k e))
+        ∙ zero_true (get_or turns leaf (pos 0)) (is_true (is_zero (get_or turns leaf (pos 0))) h)
+    by_test false e = refl
+
+pub put_step : (b h h' : Bool) (old new whole : ℤ) → h ≡ (b || h') → new ≡ (if b then pos 0 else old)
+    → (if h then pos 0 else old) ≡ whole → (if h' then pos 0 else new) ≡ whole
+put_step true h true old new whole e n k = ap (λ (t : Bool). if t then pos 0 else old) (sym e) ∙ k
+put_step true h false old new whole e n k = n ∙ ap (λ (t : Bool). if t then pos 0 else old) (sym e) ∙ k
+put_step false h true old new whole e n k = ap (λ (t : Bool). if t then pos 0 else old) (sym e) ∙ k
+put_step false h false old new whole e n k = n ∙ ap (λ (t : Bool). if t then pos 0 else old) (sym e) ∙ k
+
+-- where a leaf's number is 0 unless it is put back, all are 0 afterwards
+pub all_put : (mid news : List ℤ) (edges : List LeafEdge) → IsTally news (λ leaf. if has_leaf leaf edges then pos 0 else get_or mid leaf (pos 0))
+    → ((leaf : ℕ) → has_leaf leaf edges ≡ false → get_or mid leaf (pos 0) ≡ pos 0) → IsTally news (λ leaf. pos 0)
+all_put mid news edges t z leaf = by_test (has_leaf leaf edges) refl
+  where
+    by_test : (b : Bool) → has_leaf leaf edges ≡ b → get_or news leaf (pos 0) ≡ pos 0
+    by_test true e = t leaf ∙ ap (λ (b : Bool). if b then pos 0 else get_or mid leaf (pos 0)) e
+    by_test false e = t leaf ∙ ap (λ (b : Bool). if b then pos 0 else get_or mid leaf (pos 0)) e ∙ z leaf e
+
+-- ---- tallies
+pub come_on : (edges : List LeafEdge) (shape : Shape) (t u : Tallies) → AreFor edges shape t → ComeToRest t u → AreFor edges shape u
+come_on edges shape t u a c = record {
+  rest = c.rest;
+  leaves = subst (λ (n : ℕ). All (λ e. e.leaf < n) edges) (sym c.len) a.leaves;
+  shows = c.shows shape a.shows;
+}
+
+pub as_before : (t u v : Tallies) → ComeToRest t u → ComeToRest u v → ComeToRest t v
+as_before t u v a b = record { rest = b.rest; len = b.len ∙ a.len; shows = λ shape s. b.shows shape (a.shows shape s) }

@@ -32,3 +32,7 @@ pub mod Bundled
 pub mod Climbing
 pub mod OneMade
 pub mod Keeping
+pub mod Untouched
+pub mod Touched
+pub mod RightOf
+pub mod Telling

@@ -154,22 +154,10 @@ pub flats_cover : (es : List LeafEdge) (s t : Spot) → first_cover es s t (flat
 flats_cover es s t = flats_cover_from (length es) es s t 0 (omega arith) ∙ sym (position_from-zero (covers s t) es)
 
 -- ---- the stops of a level
-pub near_all : (es : List LeafEdge) (at : Level) (near : Near) (stops : List Stop) → AreStops es at (spots_in stops)
-    → IsNear es at near → All (λ s. IsNear es s.spot.at near) stops
-near_all es at near stops h n = All-from_recursion (λ s. IsNear es s.spot.at near) stops
-    (each stops (stops_at es at (spots_in stops) h))
+pub all_at : (P : Level → Type 0) (es : List LeafEdge) (at : Level) (stops : List Stop) → AreStops es at (spots_in stops)
+    → P at → All (λ s. P s.spot.at) stops
+all_at P es at stops h n = All-from_recursion (λ s. P s.spot.at) stops (each stops (stops_at es at (spots_in stops) h))
   where
-    each : (ss : List Stop) → AllByRecursion (IsSpotAt at) (spots_in ss)
-        → AllByRecursion (λ s. IsNear es s.spot.at near) ss
+    each : (ss : List Stop) → AllByRecursion (IsSpotAt at) (spots_in ss) → AllByRecursion (λ s. P s.spot.at) ss
     each [] h = tt
-    each (s ∷ ss) h = (subst (λ (l : Level). IsNear es l near) (sym h.0.at) n, each ss h.1)
-
--- the values hard by a stop, by what was found near its level
-pub near_values : (above : Bool) (s : Stop) (es : List LeafEdge) (near : Near) (shape : Shape) (now : List LeafEdge)
-    → now ≡ near.passing.items → IsNear es s.spot.at near
-    → is_in_by above true now shape (point_of s.spot) ≡ is_in_by above true es shape (point_of s.spot)
-near_values above s es near shape now e n =
-    let r : 0 < s.spot.run = s.runs in
-    let runs : pos 0 <ℤ pos s.spot.run = omega (arith, ints) in
-    ap (λ (now : List LeafEdge). is_in_by above true now shape (point_of s.spot)) (e ∙ n.passing) ∙ passing_values above
-    s.spot runs s.level.positive es shape
+    each (s ∷ ss) h = (subst P (sym h.0.at) n, each ss h.1)

@@ -19,7 +19,8 @@ use Rattle.scad_geom.proofs.Lines.{left_of_by}
 use Rattle.scad_geom.proofs.Order.{aligned_all}
 use Rattle.scad_geom.proofs.Turns.{level_at, Spans, beyond_mul}
 pub use Rattle.slice_slab.proofs.Live.{IsLive, live_bundles}
-use Rattle.slice_bool.proofs.Reaching.{lies_left}
+pub use Rattle.slice_bool.specs.Beside.{passing}
+use Rattle.slice_bool.specs.Beside.{lies_left}
 
 -- ---- edges of one bundle lie on one side of a point; a later one lies to the right where an earlier one does
 pub same_side : (l : Level) → pos 0 <ℤ l.d → (right : Bool) (p : Point) (e f : Edge) → pos 0 <ℤ rise e → pos 0 <ℤ rise f
@@ -48,12 +49,6 @@ later_side right p e f re rf g h =
     (beyond_mul right (rise f) (left_of e p.x p.y p.d) rf ∙ h)
 
 -- ---- lists of bundles
--- the first of a bundle that lies to the right of a point, and those after it
-abbrev pub passing : List LeafEdge → Bool → Point → List (List ℕ) → List (List ℕ)
-passing es right p [] = []
-passing es right p ([] ∷ bs) = passing es right p bs
-passing es right p ((k ∷ ks) ∷ bs) = if lies_left es right p k then (k ∷ ks) ∷ bs else passing es right p bs
-
 abbrev pub HeadPasses : List LeafEdge → Bool → Point → List ℕ → Type 0
 HeadPasses es right p [] = ⊥
 HeadPasses es right p (k ∷ ks) = lies_left es right p k ≡ true

@@ -14,6 +14,7 @@ use Rattle.scad_geom.specs.Winding.{is_beyond, turn}
 use Rattle.scad_geom.proofs.Leaves.{wind_leaf}
 use Rattle.scad_geom.specs.Level.{level_of, IsLower, IsAtMost}
 use Rattle.scad_geom.specs.Heights.{heights, AreNeighbours}
+pub use Rattle.slice_bool.specs.Beside.{lies_left}
 use Rattle.slice_slab.specs.Bundles.{no_edge, reaches, reaching}
 use Rattle.scad_geom.proofs.Heights.{Reaches, lower_then_at_most, at_most_then_lower}
 use Rattle.scad_geom.proofs.Order.{all_ends}
@@ -82,9 +83,6 @@ leaf_edge_at es k = get_or es k no_edge
 -- what an edge adds to the winding number of a leaf, where a point lies to its left
 abbrev pub heading_for : List LeafEdge → ℕ → ℕ → ℤ
 heading_for es leaf k = if (get_or es k no_edge).leaf == leaf then heading (get_or es k no_edge).edge else pos 0
-
-abbrev pub lies_left : List LeafEdge → Bool → Point → ℕ → Bool
-lies_left es right p k = is_beyond right (left_of (get_or es k no_edge).edge p.x p.y p.d)
 
 abbrev pub share : Bool → Bool → Point → ℕ → LeafEdge → ℤ
 share above right p leaf e = if e.leaf == leaf then turn above right p (whole e.edge.a) (whole e.edge.b) else pos 0

@@ -100,7 +100,7 @@ module _ (es : List LeafEdge) (shape : Shape) (above right : Bool) (p : Point) (
       ou))
       (below_all u ls a.2 d.1 r.1 ou a.5)
 
-  ended : (l : Level) (hs : List Level) → pos 0 <ℤ l.d → AllByRecursion (λ (h : Level). pos 0 <ℤ h.d) hs
+  pub ended : (l : Level) (hs : List Level) → pos 0 <ℤ l.d → AllByRecursion (λ (h : Level). pos 0 <ℤ h.d) hs
       → NotOver above (level_at p) l → AllByRecursion (UpTo l []) hs → AllByRecursion (NotOver above (level_at p)) hs
   ended l [] dl dh o h = tt
   ended l (g ∷ hs) dl dh o h = (one h.0, ended l hs dl dh.1 o h.1)
@@ -142,7 +142,7 @@ module _ (es : List LeafEdge) (shape : Shape) (above right : Bool) (p : Point) (
             ∙ +ℤ_idl (counted (is_in_by above right es shape p))
       ]
 
-  over_all : (l : Level) (ls hs : List Level) → AllByRecursion (λ (l : Level). pos 0 <ℤ l.d) (l ∷ ls)
+  pub over_all : (l : Level) (ls hs : List Level) → AllByRecursion (λ (l : Level). pos 0 <ℤ l.d) (l ∷ ls)
       → AllByRecursion (λ (h : Level). pos 0 <ℤ h.d) hs → IsRising (l ∷ ls) → Over above (level_at p) l
       → AllByRecursion (HasHeight (l ∷ ls)) hs → AllByRecursion (Over above (level_at p)) hs
   over_all l ls [] d dh r o h = tt

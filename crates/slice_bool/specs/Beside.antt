@@ -1,14 +1,16 @@
 -- The shape's values beside bundles, and the pieces by them.
-use Rattle.std.specs.Prelude.{Bool, false, List, [], ◌∷◌, ℕ, ◌+◌, ◌-◌, ◌<◌, ◌≤◌, ◌≡◌, length, drop, slice_index_or, pos, ◌<ℤ◌}
+use Rattle.std.specs.Prelude.{Bool, true, false, if◌then◌else◌, List, [], ◌∷◌, ℕ, ◌+◌, ◌-◌, ◌<◌, ◌≤◌, ◌≡◌, length, drop, slice_index_or, pos, ◌<ℤ◌}
 use Rattle.std.specs.List.{AllByRecursion, concat}
 use Rattle.scad_geom.specs.declared.level.Level.{Level}
 use Rattle.scad_geom.specs.declared.level.LeafEdge.{LeafEdge}
 use Rattle.scad_geom.specs.declared.shape.Shape.{Shape}
-use Rattle.scad_geom.specs.Line.{rise}
-use Rattle.slice_slab.specs.Bundles.{edge_at}
+use Rattle.scad_geom.specs.Line.{rise, left_of}
+use Rattle.scad_geom.specs.Point.{Point}
+use Rattle.scad_geom.specs.Winding.{is_beyond}
+use Rattle.slice_slab.specs.Bundles.{no_edge, edge_at}
 use Rattle.slice_snap.specs.declared.piece.Piece.{Piece}
 use Rattle.slice_bool.specs.Pieces.{spot_on, piece_between}
-use Rattle.slice_bool.specs.Tally.{is_held, headings}
+use Rattle.slice_bool.specs.Tally.{is_held, headings, has_leaf}
 
 -- whether a shape holds what lies to the left of these bundles and of no others
 abbrev pub left_value : List LeafEdge → Shape → List (List ℕ) → Bool
@@ -18,6 +20,10 @@ left_value edges shape bundles = is_held (λ leaf. headings edges leaf (concat b
 pub record AreMembers (edges : List LeafEdge) (bundles : List (List ℕ)) : Type 0 where
   pub there : AllByRecursion (λ k. k < length edges) (concat bundles)
   pub few : length (concat bundles) ≤ length edges
+
+-- the leaves of the edges of these numbers are among those of other edges
+abbrev pub HaveLeaves : List LeafEdge → List LeafEdge → List ℕ → Type 0
+HaveLeaves edges others ks = AllByRecursion (λ k. has_leaf (slice_index_or edges k no_edge).leaf others ≡ true) ks
 
 -- the shape's values to the left of the bundles, from right to left, and first of all that at the right end
 pub record AreLeftValues (edges : List LeafEdge) (shape : Shape) (bundles : List (List ℕ)) (values : List Bool) : Type 0 where
@@ -33,3 +39,18 @@ RisesFirst edges (k ∷ ks) = (k < length edges) × (pos 0 <ℤ rise (edge_at ed
 abbrev pub piece_of : List LeafEdge → Level → Level → Bool → Bool → List ℕ → List Piece
 piece_of edges l u left right [] = []
 piece_of edges l u left right (k ∷ ks) = piece_between left right (spot_on (edge_at edges k) l) (spot_on (edge_at edges k) u) k
+
+-- whether a point lies to the left of the edge of a number, hard by it on a side
+abbrev pub lies_left : List LeafEdge → Bool → Point → ℕ → Bool
+lies_left edges right p k = is_beyond right (left_of (slice_index_or edges k no_edge).edge p.x p.y p.d)
+
+-- the first of a bundle that lies to the right of a point, and those after it
+abbrev pub passing : List LeafEdge → Bool → Point → List (List ℕ) → List (List ℕ)
+passing edges right p [] = []
+passing edges right p ([] ∷ bs) = passing edges right p bs
+passing edges right p ((k ∷ ks) ∷ bs) = if lies_left edges right p k then (k ∷ ks) ∷ bs else passing edges right p bs
+
+-- whether a bundle is the first of these
+abbrev pub is_right_of : List LeafEdge → Point → List ℕ → Bool
+is_right_of edges p [] = false
+is_right_of edges p (k ∷ ks) = lies_left edges true p k

@@ -1,13 +1,23 @@
 -- What of an edge list matters on a level: the edges that pass it, and the numbers of the flat ones that lie on it.
-use Rattle.std.specs.Prelude.{if◌then◌else◌, List, [], ◌∷◌, ℕ, ◌+◌, ◌<◌, ◌^◌, ◌≡◌, length, slice_index_or, Option, None, Some, All}
+use Rattle.std.specs.Prelude.{if◌then◌else◌, List, [], ◌∷◌, ℕ, ◌+◌, ◌<◌, ◌^◌, ◌≡◌, length, map, slice_index_or, Option, None, Some, All}
 use Rattle.scad_geom.specs.Limits.{coordinate_limit}
 use Rattle.scad_geom.specs.declared.level.Level.{Level}
 use Rattle.scad_geom.specs.declared.level.LeafEdge.{LeafEdge}
 use Rattle.scad_geom.specs.Within.{IsEdgeWithin}
 use Rattle.slice_slab.specs.Bundles.{no_edge}
+use Rattle.slice_slab.specs.Touching.{touches}
 use Rattle.slice_snap.specs.declared.piece.Spot.{Spot}
 use Rattle.slice_bool.specs.declared.near.Near.{Near}
 use Rattle.slice_bool.specs.Pieces.{passes_at, is_flat_at, covers}
+
+-- the edges of these numbers
+abbrev pub picked : List LeafEdge → List ℕ → List LeafEdge
+picked edges ks = map (λ k. slice_index_or edges k no_edge) ks
+
+-- the edges that meet a level
+abbrev pub touching_at : List LeafEdge → Level → List LeafEdge
+touching_at [] at = []
+touching_at (e ∷ es) at = if touches e.edge at then e ∷ touching_at es at else touching_at es at
 
 -- the edges that aren't flat and meet a level
 abbrev pub passing_at : List LeafEdge → Level → List LeafEdge
@@ -26,6 +36,8 @@ first_cover edges s t (k ∷ ks) = if covers s t (slice_index_or edges k no_edge
 
 -- what was found is that of the level
 pub record IsNear (edges : List LeafEdge) (at : Level) (near : Near) : Type 0 where
+  pub touching : near.touching.items ≡ touching_at edges at
+  pub touching_within : All (λ e. IsEdgeWithin coordinate_limit e.edge) near.touching.items
   pub passing : near.passing.items ≡ passing_at edges at
   pub within : All (λ e. IsEdgeWithin coordinate_limit e.edge) near.passing.items
   pub few : length near.passing.items < 2 ^ 32

@@ -1,5 +1,5 @@
 -- Winding numbers of leaves, and how a bundle's edges change them.
-use Rattle.std.specs.Prelude.{Bool, not, List, [], ◌∷◌, ℕ, ◌==◌, ◌≡◌, ◌≤◌, ℤ, pos, negsuc, ◌+ℤ◌, int_lt, if◌then◌else◌, slice_index_or, unsigned_abs}
+use Rattle.std.specs.Prelude.{Bool, false, not, ◌||◌, List, [], ◌∷◌, ℕ, ◌==◌, ◌≡◌, ◌≤◌, ℤ, pos, negsuc, ◌+ℤ◌, int_lt, if◌then◌else◌, slice_index_or, unsigned_abs}
 use Rattle.scad_geom.specs.declared.point.Edge.{Edge}
 use Rattle.scad_geom.specs.declared.level.LeafEdge.{LeafEdge}
 use Rattle.scad_geom.specs.declared.shape.Shape.{Shape}
@@ -27,3 +27,8 @@ heading_of e = if int_lt e.b.y e.a.y then negsuc 0 else pos 1
 abbrev pub headings : List LeafEdge → ℕ → List ℕ → ℤ
 headings edges leaf [] = pos 0
 headings edges leaf (k ∷ ks) = (if (slice_index_or edges k no_edge).leaf == leaf then heading_of (slice_index_or edges k no_edge).edge else pos 0) +ℤ headings edges leaf ks
+
+-- whether one of the edges is of the leaf
+abbrev pub has_leaf : ℕ → List LeafEdge → Bool
+has_leaf leaf [] = false
+has_leaf leaf (e ∷ es) = (e.leaf == leaf) || has_leaf leaf es

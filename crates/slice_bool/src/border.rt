@@ -1,5 +1,5 @@
 //! All pieces of a border.
-ghost use Rattle.std.specs.Prelude.{◌≡◌, ◌<◌, ◌≤◌, ◌+◌, ◌^◌, length, drop, OnOk, IfOk, IfErr, All};
+ghost use Rattle.std.specs.Prelude.{◌≡◌, ◌<◌, ◌≤◌, ◌+◌, ◌^◌, length, drop, true, false, OnOk, IfOk, IfErr, All};
 ghost use Rattle.scad_geom.specs.Limits.{coordinate_limit};
 ghost use Rattle.scad_geom.specs.Within.{IsEdgeWithin};
 ghost use Rattle.scad_geom.specs.Level.{IsLevelWithin};
@@ -7,18 +7,28 @@ ghost use Rattle.slice_events.specs.Limits.{crossing_limit};
 ghost use Rattle.slice_events.specs.Levels.{crossings, AreLevels};
 ghost use Rattle.slice_bool.specs.Pieces.{AreLevelPieces, ArePieces};
 ghost use Rattle.scad_geom.specs.Leaves.{AreLeavesBalanced};
-ghost use Rattle.slice_slab.specs.Bundles.{edge_at};
+ghost use Rattle.slice_slab.specs.Bundles.{edge_at, AreBundles};
+ghost use Rattle.slice_slab.specs.Touching.{touching};
+ghost use Rattle.slice_slab.specs.Active.{live_in, bundles_in, IsReadyFor, StandsAt};
 ghost use Rattle.slice_snap.specs.Pieces.{HaveOneLevel, IsPieceWithin, ArePiecesBalanced};
 ghost use Rattle.slice_snap.specs.Naming.{AreNamed};
 ghost use Rattle.slice_bool.specs.Centre.{AreCentresWound};
 ghost use Rattle.slice_bool.specs.Fault.{IsRefusal};
-ghost use Rattle.slice_bool.specs.Parts.{AreUpToNext, Extends};
+ghost use Rattle.slice_bool.specs.Parts.{level_at, AreUpToNext, Extends};
+ghost use Rattle.slice_bool.specs.Keeping.{AreFor};
+ghost use Rattle.slice_bool.specs.Near.{IsNear};
+ghost use Rattle.slice_bool.specs.BothSides.{IsSide};
 
+use crate::beside::{Sides, Valued, nothing_beside};
 use crate::fault::BoolFault;
 use crate::flat::push_flat_pieces;
-use crate::slab::push_slab_pieces;
+use crate::near::{Near, edges_near};
+use crate::slab::{Slab, left_values, push_slab_pieces};
+use crate::sweep::Sweep;
+use crate::tally::{Tallies, no_tallies};
 use scad_geom::{LeafEdge, Level, Shape};
 use slice_events::{EventFault, levels};
+use slice_slab::Active;
 use slice_snap::Piece;
 use std::alloc::{AllocError, Global};
 
@@ -72,32 +82,137 @@ fn all_pieces(
     requires levels { AreLevels edges.now levels.now }
     ensures { IfOk result (λ v. AreLevelPieces edges.now shape.now levels.now v.items) }
 {
+    let sweep = Sweep {
+        alloc,
+        edges,
+        shape,
+    };
+    let mut climb = Climb {
+        active: Active::new(alloc, edges)?,
+        tallies: no_tallies(alloc, edges, shape)?,
+        below: nothing_beside(alloc)?,
+    };
     let mut out = Vec::new(alloc);
     'levels: for i in 0..levels.len() {
-        push_level(alloc, &mut out, edges, shape, levels, i)?;
+        push_level(&sweep, &mut climb, &mut out, levels, i)?;
     }
     Ok(out)
 }
 
+// What goes from level to level: the edges that meet one, the tallies, and what lies just below it.
+#[derive(Drop)]
+struct Climb {
+    active: Active,
+    tallies: Tallies,
+    below: Valued,
+}
+
 // The pieces on a level and between it and the next.
 fn push_level(
-    alloc: Global,
+    sweep: &Sweep<'_>,
+    climb: &mut Climb,
     out: &mut Vec<Piece>,
-    edges: &[LeafEdge],
-    shape: &Shape,
     levels: &[Level],
     i: usize,
 ) -> Result<(), AllocError>
-    requires edges { All (λ e. IsEdgeWithin coordinate_limit e.edge) edges.now }
-    requires few { length edges.now < 2 ^ 32 }
     requires within { All (IsLevelWithin coordinate_limit) levels.now }
-    requires levels { AreLevels edges.now levels.now }
+    requires levels { AreLevels sweep.now.edges.now levels.now }
     requires there { i < length levels.now }
-    ensures { OnOk result (Extends (AreUpToNext edges.now shape.now (drop i levels.now)) out.old.items out.new.items) }
+    requires active { IsReadyFor sweep.now.edges.now (level_at levels.now i) climb.old.active }
+    requires tallies { AreFor sweep.now.edges.now sweep.now.shape.now climb.old.tallies }
+    requires below { IsSide false sweep.now.edges.now sweep.now.shape.now (level_at levels.now i) climb.old.below }
+    ensures pieces { OnOk result (Extends (AreUpToNext sweep.now.edges.now sweep.now.shape.now (drop i levels.now))
+        out.old.items out.new.items) }
+    ensures active { OnOk result (StandsAt sweep.now.edges.now (level_at levels.now i) climb.new.active) }
+    ensures tallies { OnOk result (AreFor sweep.now.edges.now sweep.now.shape.now climb.new.tallies) }
+    ensures below { OnOk result (i + 1 < length levels.now
+        → IsSide false sweep.now.edges.now sweep.now.shape.now (level_at levels.now (i + 1)) climb.new.below) }
 {
-    push_flat_pieces(alloc, out, edges, shape, &levels[i])?;
+    rise(sweep, &mut climb.active, levels, i)?;
+    let at = &levels[i];
+    let near = edges_near(sweep.alloc, sweep.edges, climb.active.touching(), at)?;
+    let above = side_above(
+        sweep,
+        &mut climb.active,
+        &mut climb.tallies,
+        &near,
+        levels,
+        i,
+    )?;
+    push_flat_pieces(
+        sweep,
+        &near,
+        &Sides {
+            below: &climb.below,
+            above: &above,
+        },
+        out,
+        at,
+    )?;
     if i + 1 < levels.len() {
-        push_slab_pieces(alloc, out, edges, shape, &levels[i], &levels[i + 1])?;
+        let slab = Slab {
+            lower: at,
+            upper: &levels[i + 1],
+            side: &above,
+        };
+        push_slab_pieces(sweep, &slab, out)?;
     }
+    climb.below = above;
     Ok(())
+}
+
+// The bundles above a level, taken out, with the values beside them.
+fn side_above(
+    sweep: &Sweep<'_>,
+    active: &mut Active,
+    tallies: &mut Tallies,
+    near: &Near,
+    levels: &[Level],
+    i: usize,
+) -> Result<Valued, AllocError>
+    requires levels { AreLevels sweep.now.edges.now levels.now }
+    requires there { i < length levels.now }
+    requires near { IsNear sweep.now.edges.now (level_at levels.now i) near.now }
+    requires bundles { i + 1 < length levels.now
+        → AreBundles sweep.now.edges.now (level_at levels.now i) (level_at levels.now (i + 1)) (bundles_in active.old) }
+    requires stands { StandsAt sweep.now.edges.now (level_at levels.now i) active.old }
+    requires tallies { AreFor sweep.now.edges.now sweep.now.shape.now tallies.old }
+    ensures above { IfOk result (IsSide true sweep.now.edges.now sweep.now.shape.now (level_at levels.now i)) }
+    ensures below { IfOk result (λ v. i + 1 < length levels.now
+        → IsSide false sweep.now.edges.now sweep.now.shape.now (level_at levels.now (i + 1)) v) }
+    ensures bundles { IfOk result (λ v. i + 1 < length levels.now
+        → AreBundles sweep.now.edges.now (level_at levels.now i) (level_at levels.now (i + 1)) v.bundles.items) }
+    ensures stands { IfOk result (λ v. StandsAt sweep.now.edges.now (level_at levels.now i) active.new) }
+    ensures tallies { IfOk result (λ v. AreFor sweep.now.edges.now sweep.now.shape.now tallies.new) }
+{
+    if i + 1 < levels.len() {
+        let bundles = active.take_bundles();
+        let values = left_values(sweep, tallies, &bundles, &near.passing)?;
+        Ok(Valued { bundles, values })
+    } else {
+        nothing_beside(sweep.alloc)
+    }
+}
+
+// Lifts the edges' height to a level, with the bundles between it and the next.
+fn rise(
+    sweep: &Sweep<'_>,
+    active: &mut Active,
+    levels: &[Level],
+    i: usize,
+) -> Result<(), AllocError>
+    requires within { All (IsLevelWithin coordinate_limit) levels.now }
+    requires levels { AreLevels sweep.now.edges.now levels.now }
+    requires there { i < length levels.now }
+    requires active { IsReadyFor sweep.now.edges.now (level_at levels.now i) active.old }
+    ensures live { OnOk result (live_in active.new ≡ touching 0 sweep.now.edges.now (level_at levels.now i)) }
+    ensures bundles { OnOk result (i + 1 < length levels.now
+        → AreBundles sweep.now.edges.now (level_at levels.now i) (level_at levels.now (i + 1)) (bundles_in active.new)) }
+    ensures stands { OnOk result (StandsAt sweep.now.edges.now (level_at levels.now i) active.new) }
+{
+    if i + 1 < levels.len() {
+        active.advance(sweep.edges, &levels[i], &levels[i + 1])
+    } else {
+        active.lift(sweep.edges, &levels[i])
+    }
 }

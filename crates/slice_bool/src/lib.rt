@@ -5,7 +5,7 @@
 //! that these pieces make.
 #![tactic(auto, using(scad_geom::proofs::Casts::casts))]
 
-mod around;
+mod beside;
 mod border;
 mod border_piece;
 mod covering;
@@ -15,11 +15,10 @@ pub mod laws;
 mod near;
 mod outlining;
 mod slab;
-mod small_point;
 mod stop;
 mod stops;
+mod sweep;
 mod tally;
-mod turn;
 
 pub use border::pieces;
 pub use fault::BoolFault;

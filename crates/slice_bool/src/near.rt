@@ -1,38 +1,64 @@
 //! What of an edge list matters on a level.
-ghost use Rattle.std.specs.Prelude.{◌≡◌, ◌<◌, ◌≤◌, ◌^◌, length, IfOk, All};
+ghost use Rattle.std.specs.Prelude.{◌≡◌, ◌<◌, ◌^◌, length, filter, IfOk, All};
 ghost use Rattle.scad_geom.specs.Limits.{coordinate_limit};
 ghost use Rattle.scad_geom.specs.Within.{IsEdgeWithin};
 ghost use Rattle.scad_geom.specs.Level.{IsLevelWithin};
-ghost use Rattle.slice_bool.specs.Near.{passing_at, flats_from, IsNear};
+ghost use Rattle.slice_slab.specs.Bundles.{edge_at};
+ghost use Rattle.slice_slab.specs.Touching.{touching};
+ghost use Rattle.slice_bool.specs.Pieces.{is_flat_at};
+ghost use Rattle.slice_bool.specs.Near.{picked, passing_at, IsNear};
 
 use crate::stops::{is_flat_at, passes_at};
 use scad_geom::{LeafEdge, Level};
 use std::alloc::{AllocError, Global};
 
-/// The edges that pass a level, and the numbers of the flat ones that lie on it.
+/// The edges that meet a level, those of them that pass it, and the numbers of the flat ones that lie on it.
 #[derive(Drop)]
 pub(crate) struct Near {
+    pub(crate) touching: Vec<LeafEdge>,
     pub(crate) passing: Vec<LeafEdge>,
     pub(crate) flats: Vec<u32>,
 }
 
-pub(crate) fn edges_near(alloc: Global, edges: &[LeafEdge], at: &Level) -> Result<Near, AllocError>
+/// What is near a level, from the numbers of the edges that meet it.
+pub(crate) fn edges_near(
+    alloc: Global,
+    edges: &[LeafEdge],
+    numbers: &[u32],
+    at: &Level,
+) -> Result<Near, AllocError>
     requires within { All (λ e. IsEdgeWithin coordinate_limit e.edge) edges.now }
     requires few { length edges.now < 2 ^ 32 }
     requires at { IsLevelWithin coordinate_limit at.now }
+    requires numbers { numbers.now ≡ touching 0 edges.now at.now }
     ensures { IfOk result (IsNear edges.now at.now) }
 {
-    let passing = passing(alloc, edges, at)?;
-    let flats = flats(alloc, edges, at)?;
-    Ok(Near { passing, flats })
+    let touching = edges_of(alloc, edges, numbers)?;
+    let passing = passing(alloc, &touching, at)?;
+    let flats = flats(alloc, edges, numbers, at)?;
+    Ok(Near {
+        touching,
+        passing,
+        flats,
+    })
+}
+
+// The edges of these numbers.
+fn edges_of(alloc: Global, edges: &[LeafEdge], numbers: &[u32]) -> Result<Vec<LeafEdge>, AllocError>
+    requires there { All (λ k. k < length edges.now) numbers.now }
+    ensures { IfOk result (λ v. v.items ≡ picked edges.now numbers.now) }
+{
+    let mut out = Vec::new(alloc);
+    'numbers: for k in numbers {
+        out.push(edges[*k as usize])?;
+    }
+    Ok(out)
 }
 
 fn passing(alloc: Global, edges: &[LeafEdge], at: &Level) -> Result<Vec<LeafEdge>, AllocError>
     requires within { All (λ e. IsEdgeWithin coordinate_limit e.edge) edges.now }
     requires at { IsLevelWithin coordinate_limit at.now }
-    ensures passing { IfOk result (λ v. v.items ≡ passing_at edges.now at.now) }
-    ensures within { IfOk result (λ v. All (λ e. IsEdgeWithin coordinate_limit e.edge) v.items) }
-    ensures few { IfOk result (λ v. length v.items ≤ length edges.now) }
+    ensures { IfOk result (λ v. v.items ≡ passing_at edges.now at.now) }
 {
     let mut out = Vec::new(alloc);
     'edges: for e in edges {
@@ -43,17 +69,22 @@ fn passing(alloc: Global, edges: &[LeafEdge], at: &Level) -> Result<Vec<LeafEdge
     Ok(out)
 }
 
-fn flats(alloc: Global, edges: &[LeafEdge], at: &Level) -> Result<Vec<u32>, AllocError>
+// Of these numbers those of flat edges on a level.
+fn flats(
+    alloc: Global,
+    edges: &[LeafEdge],
+    numbers: &[u32],
+    at: &Level,
+) -> Result<Vec<u32>, AllocError>
     requires within { All (λ e. IsEdgeWithin coordinate_limit e.edge) edges.now }
-    requires few { length edges.now < 2 ^ 32 }
     requires at { IsLevelWithin coordinate_limit at.now }
-    ensures flats { IfOk result (λ v. v.items ≡ flats_from 0 edges.now at.now) }
-    ensures there { IfOk result (λ v. All (λ k. k < length edges.now) v.items) }
+    requires there { All (λ k. k < length edges.now) numbers.now }
+    ensures { IfOk result (λ v. v.items ≡ filter (λ k. is_flat_at (edge_at edges.now k) at.now) numbers.now) }
 {
     let mut out = Vec::new(alloc);
-    'edges: for i in 0..edges.len() {
-        if is_flat_at(&edges[i].edge, at) {
-            out.push(i as u32)?;
+    'numbers: for k in numbers {
+        if is_flat_at(&edges[*k as usize].edge, at) {
+            out.push(*k)?;
         }
     }
     Ok(out)

@@ -1,65 +1,52 @@
 //! The pieces between two neighbouring levels.
-ghost use Rattle.std.specs.Prelude.{◌≡◌, ◌<◌, ◌^◌, ◌++◌, length, OnOk, IfOk, All};
+ghost use Rattle.std.specs.Prelude.{◌≡◌, ◌<◌, ◌++◌, OnOk, IfOk, All, vec_len};
+ghost use Rattle.std.specs.List.{concat};
 ghost use Rattle.scad_geom.specs.Limits.{coordinate_limit};
 ghost use Rattle.scad_geom.specs.Within.{IsEdgeWithin};
 ghost use Rattle.scad_geom.specs.Level.{IsLevelWithin};
 ghost use Rattle.scad_geom.specs.Heights.{AreNeighbours};
 ghost use Rattle.slice_slab.specs.Bundles.{AreBundles};
 ghost use Rattle.slice_bool.specs.Pieces.{slab_pieces};
-ghost use Rattle.slice_bool.specs.Parts.{AreBetweenLevels, Extends};
-ghost use Rattle.slice_bool.specs.Beside.{AreMembers, AreLeftValues, RisesFirst, piece_of};
+ghost use Rattle.slice_bool.specs.Beside.{AreMembers, AreLeftValues, HaveLeaves, RisesFirst, piece_of};
+ghost use Rattle.slice_bool.specs.Keeping.{AreFor};
 
+use crate::beside::Valued;
 use crate::border_piece::push_between;
 use crate::stop::spot_on;
-use crate::tally::{add_bundle, no_turns};
-use scad_geom::{LeafEdge, Level, Shape};
-use slice_held::Held;
-use slice_slab::{Bundle, slab};
+use crate::sweep::Sweep;
+use crate::tally::{Tallies, add_bundle, put_back};
+use scad_geom::{LeafEdge, Level};
+use slice_slab::Bundle;
 use slice_snap::Piece;
-use std::alloc::{AllocError, Global};
+use std::alloc::AllocError;
 
-pub(crate) fn push_slab_pieces(
-    alloc: Global,
-    out: &mut Vec<Piece>,
-    edges: &[LeafEdge],
-    shape: &Shape,
-    lower: &Level,
-    upper: &Level,
-) -> Result<(), AllocError>
-    requires within { All (λ e. IsEdgeWithin coordinate_limit e.edge) edges.now }
-    requires few { length edges.now < 2 ^ 32 }
-    requires lower { IsLevelWithin coordinate_limit lower.now }
-    requires upper { IsLevelWithin coordinate_limit upper.now }
-    requires neighbours { AreNeighbours edges.now lower.now upper.now }
-    ensures { OnOk result (Extends (AreBetweenLevels edges.now shape.now lower.now upper.now) out.old.items out.new.items) }
-{
-    let bundles = slab(alloc, edges, lower, upper)?;
-    push_bundles(alloc, out, edges, shape, lower, upper, &bundles)
+/// The bundles between two levels, and the values beside them.
+#[derive(Clone, Copy)]
+pub(crate) struct Slab<'a> {
+    pub(crate) lower: &'a Level,
+    pub(crate) upper: &'a Level,
+    pub(crate) side: &'a Valued,
 }
 
-fn push_bundles(
-    alloc: Global,
+pub(crate) fn push_slab_pieces(
+    sweep: &Sweep<'_>,
+    slab: &Slab<'_>,
     out: &mut Vec<Piece>,
-    edges: &[LeafEdge],
-    shape: &Shape,
-    lower: &Level,
-    upper: &Level,
-    bundles: &[Bundle],
 ) -> Result<(), AllocError>
-    requires within { All (λ e. IsEdgeWithin coordinate_limit e.edge) edges.now }
-    requires few { length edges.now < 2 ^ 32 }
-    requires lower { IsLevelWithin coordinate_limit lower.now }
-    requires upper { IsLevelWithin coordinate_limit upper.now }
-    requires neighbours { AreNeighbours edges.now lower.now upper.now }
-    requires bundles { AreBundles edges.now lower.now upper.now bundles.now }
-    ensures { OnOk result (out.new.items
-        ≡ out.old.items ++ slab_pieces edges.now shape.now lower.now upper.now bundles.now) }
+    requires lower { IsLevelWithin coordinate_limit slab.now.lower.now }
+    requires upper { IsLevelWithin coordinate_limit slab.now.upper.now }
+    requires neighbours { AreNeighbours sweep.now.edges.now slab.now.lower.now slab.now.upper.now }
+    requires bundles { AreBundles sweep.now.edges.now slab.now.lower.now slab.now.upper.now slab.now.side.now.bundles.items }
+    requires values { AreLeftValues sweep.now.edges.now sweep.now.shape.now slab.now.side.now.bundles.items
+        slab.now.side.now.values.items }
+    ensures { OnOk result (out.new.items ≡ out.old.items ++ slab_pieces sweep.now.edges.now sweep.now.shape.now
+        slab.now.lower.now slab.now.upper.now slab.now.side.now.bundles.items) }
 {
-    let values = left_values(alloc, edges, shape, bundles)?;
-    'bundles: for i in 0..bundles.len() {
-        let right = values[bundles.len() - i - 1];
-        let left = values[bundles.len() - i];
-        push_bundle(out, edges, lower, upper, left, right, &bundles[i])?;
+    let count = slab.side.bundles.len();
+    'bundles: for i in 0..count {
+        let right = slab.side.values[count - i - 1];
+        let left = slab.side.values[count - i];
+        push_bundle(out, sweep.edges, slab, left, right, &slab.side.bundles[i])?;
     }
     Ok(())
 }
@@ -68,18 +55,17 @@ fn push_bundles(
 fn push_bundle(
     out: &mut Vec<Piece>,
     edges: &[LeafEdge],
-    lower: &Level,
-    upper: &Level,
+    slab: &Slab<'_>,
     left: bool,
     right: bool,
     bundle: &Bundle,
 ) -> Result<(), AllocError>
     requires within { All (λ e. IsEdgeWithin coordinate_limit e.edge) edges.now }
-    requires lower { IsLevelWithin coordinate_limit lower.now }
-    requires upper { IsLevelWithin coordinate_limit upper.now }
+    requires lower { IsLevelWithin coordinate_limit slab.now.lower.now }
+    requires upper { IsLevelWithin coordinate_limit slab.now.upper.now }
     requires first { RisesFirst edges.now bundle.now }
     ensures { OnOk result (out.new.items
-        ≡ out.old.items ++ piece_of edges.now lower.now upper.now left right bundle.now) }
+        ≡ out.old.items ++ piece_of edges.now slab.now.lower.now slab.now.upper.now left right bundle.now) }
 {
     match bundle.as_slice() {
         [] => Ok(()),
@@ -89,33 +75,41 @@ fn push_bundle(
                 out,
                 left,
                 right,
-                &spot_on(e, lower).spot,
-                &spot_on(e, upper).spot,
+                &spot_on(e, slab.lower).spot,
+                &spot_on(e, slab.upper).spot,
                 *k,
             )
         }
     }
 }
 
-// The shape's values, from the right end to the left: outside, then to the left of each bundle.
-fn left_values(
-    alloc: Global,
-    edges: &[LeafEdge],
-    shape: &Shape,
+/// The shape's values, from the right end to the left: outside, then to the left of each bundle. The edges have all
+/// leaves of the bundles.
+pub(crate) fn left_values(
+    sweep: &Sweep<'_>,
+    tallies: &mut Tallies,
     bundles: &[Bundle],
+    edges: &[LeafEdge],
 ) -> Result<Vec<bool>, AllocError>
-    requires few { length edges.now < 2 ^ 32 }
-    requires members { AreMembers edges.now bundles.now }
-    ensures { IfOk result (λ v. AreLeftValues edges.now shape.now bundles.now v.items) }
+    requires members { AreMembers sweep.now.edges.now bundles.now }
+    requires tallies { AreFor sweep.now.edges.now sweep.now.shape.now tallies.old }
+    requires leaves { All (λ e. e.leaf < vec_len tallies.old.turns) edges.now }
+    requires covers { HaveLeaves sweep.now.edges.now edges.now (concat bundles.now) }
+    ensures values { IfOk result (λ v. AreLeftValues sweep.now.edges.now sweep.now.shape.now bundles.now v.items) }
+    ensures tallies { IfOk result (λ v. AreFor sweep.now.edges.now sweep.now.shape.now tallies.new) }
 {
-    let mut turns = no_turns(alloc, edges)?;
-    let mut held = Held::new(alloc, shape, turns.len())?;
-    let mut values = Vec::new(alloc);
+    let mut values = Vec::new(sweep.alloc);
     values.push(false)?;
     'bundles: for i in 0..bundles.len() {
         let bundle = &bundles[bundles.len() - 1 - i];
-        add_bundle(&mut turns, &mut held, edges, bundle.as_slice());
-        values.push(held.value())?;
+        add_bundle(
+            &mut tallies.turns,
+            &mut tallies.held,
+            sweep.edges,
+            bundle.as_slice(),
+        );
+        values.push(tallies.held.value())?;
     }
+    put_back(&mut tallies.turns, &mut tallies.held, edges);
     Ok(values)
 }

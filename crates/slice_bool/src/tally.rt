@@ -1,17 +1,36 @@
 //! Winding numbers of leaves, by leaf.
-ghost use Rattle.std.specs.Prelude.{◌≡◌, ◌<◌, ◌≤◌, ◌==◌, ◌^◌, ◌+ℤ◌, pos, not, map, length, IfOk, All, slice_index_or, if◌then◌else◌, unsigned_abs, vec_len};
-ghost use Rattle.scad_geom.specs.Sign.{is_zero};
+ghost use Rattle.std.specs.Prelude.{◌≡◌, ◌<◌, ◌≤◌, ◌==◌, ◌^◌, ◌+ℤ◌, pos, length, IfOk, All, slice_index_or, if◌then◌else◌, unsigned_abs, vec_len};
 ghost use Rattle.slice_held.specs.Held.{IsReady, leaf_count};
-ghost use Rattle.slice_bool.specs.Tally.{IsTally, AreWithin, is_held, heading_of, headings};
-ghost use Rattle.slice_bool.specs.Keeping.{in_by, KeepsUp};
+ghost use Rattle.slice_bool.specs.Tally.{IsTally, AreWithin, heading_of, headings, has_leaf};
+ghost use Rattle.slice_bool.specs.Keeping.{in_by, KeepsUp, AreFor};
 
 use scad_geom::whole::plus;
-use scad_geom::{Edge, LeafEdge, Shape, holds};
+use scad_geom::{Edge, LeafEdge, Shape};
 use slice_held::Held;
 use std::alloc::{AllocError, Global};
 
-/// 0 for each leaf of the list.
-pub(crate) fn no_turns(alloc: Global, edges: &[LeafEdge]) -> Result<Vec<i64>, AllocError>
+/// The winding number of each leaf, and a shape with those leaves in whose number isn't 0. Between uses all are 0.
+#[derive(Drop)]
+pub(crate) struct Tallies {
+    pub(crate) turns: Vec<i64>,
+    pub(crate) held: Held,
+}
+
+/// 0 for each leaf of the list, and all leaves out.
+pub(crate) fn no_tallies(
+    alloc: Global,
+    edges: &[LeafEdge],
+    shape: &Shape,
+) -> Result<Tallies, AllocError>
+    ensures { IfOk result (AreFor edges.now shape.now) }
+{
+    let turns = no_turns(alloc, edges)?;
+    let held = Held::new(alloc, shape, turns.len())?;
+    Ok(Tallies { turns, held })
+}
+
+// 0 for each leaf of the list.
+fn no_turns(alloc: Global, edges: &[LeafEdge]) -> Result<Vec<i64>, AllocError>
     ensures leaves { IfOk result (λ v. All (λ e. e.leaf < vec_len v) edges.now) }
     ensures zeros { IfOk result (λ v. IsTally v.items (λ leaf. pos 0)) }
 {
@@ -31,8 +50,8 @@ fn leaf_count(edges: &[LeafEdge]) -> usize
     count
 }
 
-/// Adds to a leaf's number.
-pub(crate) fn add(turns: &mut Vec<i64>, leaf: u32, by: i64)
+// Adds to a leaf's number.
+fn add(turns: &mut Vec<i64>, leaf: u32, by: i64)
     requires there { leaf < vec_len turns.old }
     requires small { unsigned_abs (slice_index_or turns.old.items leaf (pos 0)) ≤ 2 ^ 62 }
     requires by { unsigned_abs by ≤ 1 }
@@ -61,7 +80,7 @@ pub(crate) fn add_bundle(turns: &mut Vec<i64>, held: &mut Held, edges: &[LeafEdg
     }
 }
 
-// Adds an edge's heading, and puts its leaf in or out where the number becomes or leaves 0.
+// Adds an edge's heading.
 fn add_edge(turns: &mut Vec<i64>, held: &mut Held, e: &LeafEdge)
     requires there { e.now.leaf < vec_len turns.old }
     requires small { unsigned_abs (slice_index_or turns.old.items e.now.leaf (pos 0)) ≤ 2 ^ 62 }
@@ -72,12 +91,66 @@ fn add_edge(turns: &mut Vec<i64>, held: &mut Held, e: &LeafEdge)
     ensures len { vec_len turns.new ≡ vec_len turns.old }
     ensures held { KeepsUp turns.old.items turns.new.items held.old held.new }
 {
-    let before = is_inside(turns, e.leaf);
-    add(turns, e.leaf, heading(&e.edge));
-    let inside = is_inside(turns, e.leaf);
+    tally(turns, held, e.leaf, heading(&e.edge));
+}
+
+/// Adds to a leaf's number, and puts the leaf in or out where the number becomes or leaves 0.
+pub(crate) fn tally(turns: &mut Vec<i64>, held: &mut Held, leaf: u32, by: i64)
+    requires there { leaf < vec_len turns.old }
+    requires small { unsigned_abs (slice_index_or turns.old.items leaf (pos 0)) ≤ 2 ^ 62 }
+    requires by { unsigned_abs by ≤ 1 }
+    requires ready { IsReady held.old }
+    requires size { leaf_count held.old ≡ vec_len turns.old }
+    ensures turns { IsTally turns.new.items
+        (λ k. slice_index_or turns.old.items k (pos 0) +ℤ (if leaf == k then by else pos 0)) }
+    ensures len { vec_len turns.new ≡ vec_len turns.old }
+    ensures held { KeepsUp turns.old.items turns.new.items held.old held.new }
+{
+    let before = is_inside(turns, leaf);
+    add(turns, leaf, by);
+    let inside = is_inside(turns, leaf);
     if inside != before {
-        held.set(e.leaf, inside);
+        held.set(leaf, inside);
     }
+}
+
+/// Puts the numbers of the edges' leaves back to 0, and these leaves out.
+pub(crate) fn put_back(turns: &mut Vec<i64>, held: &mut Held, edges: &[LeafEdge])
+    requires leaves { All (λ e. e.leaf < vec_len turns.old) edges.now }
+    requires ready { IsReady held.old }
+    requires size { leaf_count held.old ≡ vec_len turns.old }
+    ensures turns { IsTally turns.new.items
+        (λ leaf. if has_leaf leaf edges.now then pos 0 else slice_index_or turns.old.items leaf (pos 0)) }
+    ensures len { vec_len turns.new ≡ vec_len turns.old }
+    ensures held { KeepsUp turns.old.items turns.new.items held.old held.new }
+{
+    'edges: for e in edges {
+        put_leaf_back(turns, held, e.leaf);
+    }
+}
+
+fn put_leaf_back(turns: &mut Vec<i64>, held: &mut Held, leaf: u32)
+    requires there { leaf < vec_len turns.old }
+    requires ready { IsReady held.old }
+    requires size { leaf_count held.old ≡ vec_len turns.old }
+    ensures turns { IsTally turns.new.items
+        (λ k. if leaf == k then pos 0 else slice_index_or turns.old.items k (pos 0)) }
+    ensures len { vec_len turns.new ≡ vec_len turns.old }
+    ensures held { KeepsUp turns.old.items turns.new.items held.old held.new }
+{
+    if is_inside(turns, leaf) {
+        put_number_back(turns, leaf);
+        held.set(leaf, false);
+    }
+}
+
+fn put_number_back(turns: &mut Vec<i64>, leaf: u32)
+    requires { leaf < vec_len turns.old }
+    ensures turns { IsTally turns.new.items
+        (λ k. if leaf == k then pos 0 else slice_index_or turns.old.items k (pos 0)) }
+    ensures len { vec_len turns.new ≡ vec_len turns.old }
+{
+    turns[leaf as usize] = 0;
 }
 
 // Whether a leaf is in by its number.
@@ -93,19 +166,4 @@ fn heading(e: &Edge) -> i64
     ensures size { unsigned_abs result ≤ 1 }
 {
     if e.b.y < e.a.y { -1 } else { 1 }
-}
-
-/// Whether a shape holds a point with these winding numbers.
-pub(crate) fn is_held(alloc: Global, shape: &Shape, turns: &[i64]) -> Result<bool, AllocError>
-    ensures { IfOk result
-        (λ b. b ≡ is_held (λ leaf. slice_index_or turns.now leaf (pos 0)) shape.now) }
-{
-    let inside = inside(alloc, turns)?;
-    Ok(holds(shape, &inside))
-}
-
-fn inside(alloc: Global, turns: &[i64]) -> Result<Vec<bool>, AllocError>
-    ensures { IfOk result (λ v. v.items ≡ map (λ w. not (is_zero w)) turns.now) }
-{
-    turns.iter().map(|w| *w != 0).collect(alloc)
 }

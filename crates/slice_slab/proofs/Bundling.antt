@@ -8,7 +8,10 @@ use lib.Dec.{T, nltb→le}
 use Rattle.std.specs.Ordering.{int_eq, is_eq}
 use Rattle.std.specs.declared.cmp.Ordering.TheVariants.{Less, Equal, Greater}
 use Rattle.std.specs.List.{AllByRecursion, concat}
-use Rattle.std.specs.List.Sorted.{IsSortedBy}
+use Rattle.std.specs.List.{All}
+use Rattle.std.specs.List.Sorted.{IsSortedBy, IsPermutation}
+use Rattle.std.proofs.lemmas.List.Elements.{recursion_from_All}
+use Rattle.std.proofs.lemmas.List.Sorted.{All-permutation, IsPermutation-map}
 use Rattle.std.proofs.lemmas.Int.{ints}
 use Rattle.scad_geom.specs.declared.level.Level.{Level}
 use Rattle.scad_geom.specs.declared.level.LeafEdge.{LeafEdge}
@@ -17,7 +20,7 @@ use Rattle.scad_geom.specs.Line.{rise, run, x_at}
 use Rattle.scad_geom.specs.EdgeOrder.{IsBefore, AreAligned}
 use Rattle.scad_geom.proofs.Heights.{same_chain, same_lower}
 use Rattle.slice_slab.specs.declared.passage.Passage.{Passage}
-use Rattle.slice_slab.specs.Bundles.{edge_at, Precedes, AreRanked}
+use Rattle.slice_slab.specs.Bundles.{edge_at, Precedes, AreRanked, reaching, AreBundles}
 use Rattle.slice_slab.specs.Passages.{is_left, leans_left, comes_first, IsPassageOf, numbers_of, is_aligned, joined, bundles_of, AreSorted}
 use Rattle.std.specs.Cmp.{signed_Decides}
 use Rattle.scad_geom.proofs.Heights.{lower_same, lower_chain}
@@ -248,3 +251,16 @@ concat-bundles (p ∷ (q ∷ ps)) = by_test (is_aligned p q) (concat-bundles (q 
         ≡ p.number ∷ numbers_of (q ∷ ps)
     by_test true r = concat-joined p.number (bundles_of (q ∷ ps)) ∙ ap (λ (xs : List ℕ). p.number ∷ xs) r
     by_test false r = ap (λ (xs : List ℕ). p.number ∷ xs) r
+
+-- sorted passages of the edges that reach both heights give these bundles
+pub bundles_made : (es : List LeafEdge) (l u : Level) (old new : List Passage) → numbers_of old ≡ reaching 0 es l u
+    → All (IsPassageOf es l) old → IsPermutation old new → AreSorted new → AreBundles es l u (bundles_of new)
+bundles_made es l u old new numbers passages same sorted =
+    let P : Passage → Type 0 = IsPassageOf es l in
+    let all : AllByRecursion P new = recursion_from_All P new (All-permutation P old new same passages) in
+    let moved : IsPermutation (numbers_of old) (numbers_of new) = IsPermutation-map (λ (p : Passage). p.number) old new same in
+    record {
+      members = subst (λ (xs : List ℕ). IsPermutation xs (concat (bundles_of new))) numbers
+          (subst (IsPermutation (numbers_of old)) (sym (concat-bundles new)) moved);
+      ranked = ranked_bundles es l new all sorted;
+    }

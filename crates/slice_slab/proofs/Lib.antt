@@ -3,3 +3,7 @@ pub mod Steps
 pub mod Bundling
 pub mod Live
 pub mod KeptOrder
+pub mod Times
+pub mod Chosen
+pub mod Beginning
+pub mod Standing

@@ -7,9 +7,10 @@ ghost use Rattle.scad_geom.specs.Level.{IsLevelWithin};
 ghost use Rattle.scad_geom.specs.Heights.{AreNeighbours};
 ghost use Rattle.slice_slab.specs.Bundles.{AreBundles};
 ghost use Rattle.slice_slab.specs.Passages.{AreSorted};
+ghost use Rattle.slice_slab.specs.Touching.{touching};
 
 use crate::bundle::Bundle;
-use crate::collect::passages;
+use crate::collect::{passages, passages_among};
 use crate::group::group;
 use crate::order::compare;
 use crate::passage::Passage;
@@ -32,6 +33,27 @@ pub fn slab(
     ensures { IfOk result (λ v. AreBundles edges.now lower.now upper.now v.items) }
 {
     let mut passages = passages(alloc, edges, lower, upper)?;
+    sort(&mut passages)?;
+    group(alloc, &passages)
+}
+
+/// The same, from the numbers of the edges that meet the lower level.
+pub(crate) fn slab_among(
+    alloc: Global,
+    edges: &[LeafEdge],
+    numbers: &[u32],
+    lower: &Level,
+    upper: &Level,
+) -> Result<Vec<Bundle>, AllocError>
+    requires within { All (λ e. IsEdgeWithin coordinate_limit e.edge) edges.now }
+    requires few { length edges.now < 2 ^ 32 }
+    requires lower { IsLevelWithin coordinate_limit lower.now }
+    requires upper { IsLevelWithin coordinate_limit upper.now }
+    requires neighbours { AreNeighbours edges.now lower.now upper.now }
+    requires numbers { numbers.now ≡ touching 0 edges.now lower.now }
+    ensures { IfOk result (λ v. AreBundles edges.now lower.now upper.now v.items) }
+{
+    let mut passages = passages_among(alloc, edges, numbers, lower, upper)?;
     sort(&mut passages)?;
     group(alloc, &passages)
 }

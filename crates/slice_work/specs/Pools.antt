@@ -2,7 +2,7 @@
 use Rattle.std.specs.Prelude.{◌≡◌, ℕ, length}
 use Rattle.layer_board.specs.declared.board.Board.{Board}
 use Rattle.layer_board.specs.Calls.{view}
-use Rattle.slice_work.specs.declared.pooling.Share.{Share}
+use Rattle.slice_work.specs.declared.workers.Share.{Share}
 use Rattle.slice_work.specs.Shares.{IsShare}
 
 -- the passes of so many workers are one

@@ -8,7 +8,7 @@ use Rattle.layer_board.specs.Calls.{view, IsOf}
 use Rattle.slice_work.specs.declared.layer.LayerEnd.{LayerEnd}
 use Rattle.slice_work.specs.declared.layer.LayerEnd.TheVariants.{Made, Over}
 use Rattle.slice_work.specs.declared.layer.Drawn.{Drawn}
-use Rattle.slice_work.specs.declared.pooling.Share.{Share}
+use Rattle.slice_work.specs.declared.workers.Share.{Share}
 use Rattle.slice_work.specs.Part.{Part, Ends}
 
 -- the number, where the layer was made

@@ -5,24 +5,26 @@
 #![tactic(auto)]
 
 mod fault;
-mod finding;
 mod layer;
+mod layer_lines;
 mod layer_work;
 mod part;
-mod pooling;
+mod print;
 mod round;
-mod sharing;
+mod round_layers;
 mod summary;
 mod sums;
 mod want;
-mod writing;
+mod worker;
+mod workers;
 
 pub use fault::WorkFault;
 pub use layer::{Drawn, LayerEnd};
 pub use layer_work::LayerWork;
-pub use part::{ROUND, work};
+pub use part::work;
 pub use plan_layer::LayerPlan;
-pub use pooling::Share;
-pub use sharing::share;
+pub use print::Print;
 pub use summary::Summary;
 pub use want::Want;
+pub use worker::share;
+pub use workers::Share;

@@ -1,9 +1,9 @@
 //! All layers of a part.
-ghost use Rattle.std.specs.Prelude.{◌≡◌, ◌+◌, ◌<◌, ◌≤◌, IfOk, OnOk};
+ghost use Rattle.std.specs.Prelude.{◌≡◌, ◌+◌, ◌<◌, ◌≤◌, IfOk};
 ghost use Rattle.scad_script.specs.Script.{layers};
-ghost use Rattle.scad_script.specs.Played.{Carries, HasRisen};
-ghost use Rattle.scad_script.specs.Run.{Sound, CreatesNone};
-ghost use Rattle.scad_words.specs.Settings.{AreInRange};
+ghost use Rattle.scad_script.specs.Played.{Carries};
+ghost use Rattle.scad_script.specs.Run.{Sound};
+ghost use Rattle.scad_script.specs.Kept.{Keeps};
 ghost use Rattle.slice_work.specs.Part.{Part, layer_limit};
 ghost use Rattle.slice_work.specs.Shares.{AreDrawnOf};
 ghost use Rattle.slice_work.specs.Rounds.{IsWhole};
@@ -12,63 +12,54 @@ ghost use Rattle.slice_work.specs.Rates.{rates_of};
 ghost use Rattle.slice_work.specs.Sums.{AreSums, IsSummary};
 
 use crate::fault::WorkFault;
-use crate::finding::{budget_of, layout_of};
+use crate::layer_lines::{LaidLayer, send_layer};
 use crate::layer_work::LayerWork;
+use crate::print::Print;
 use crate::round::{Round, work_round};
+use crate::round_layers::{budget_of, layout_of};
 use crate::summary::Summary;
 use crate::sums::Sums;
 use crate::want::Want;
-use crate::writing::send_layer;
 use gcode_text::Rates;
-use scad_io::{Desk, Gate};
+use scad_io::Desk;
 use scad_words::Settings;
 use std::alloc::Global;
 use std::thread::Threads;
 
 /// The most layers of a round.
-pub const ROUND: u32 = 64;
+const ROUND: u32 = 64;
 
 /// Works so many layers of a part and writes them in order.
 ///
-/// The layers go in rounds of 64. In a round the workers draw the layers from one board, in threads where the runtime gives them;
-/// then the round's layers are written, each output of a layer by one write, up to the first layer that passes a
-/// budget, which is answered. The bytes and the answer are the same for every number of workers.
-pub fn work<R: Threads + Sync, W: LayerWork, D: Desk, G: Gate>(
+/// The layers go in rounds of 64. In a round the print's workers draw the layers from one board, in threads where the
+/// runtime gives them; then the round's layers are written, each output of a layer by one write, up to the first layer
+/// that passes a budget, which is answered. The bytes and the answer are the same for every number of workers.
+pub fn work<R: Threads + Sync, W: LayerWork, D: Desk>(
     rt: &R,
     alloc: Global,
     count: u32,
     work: &W,
-    settings: &Settings,
-    want: Want,
-    workers: u32,
+    print: &Print,
     desk: &mut D,
-    gate: &G,
 ) -> Result<Summary, WorkFault>
     requires few { count ≤ layer_limit }
-    requires settings { AreInRange settings.now }
-    requires some { 1 ≤ workers }
-    requires most { workers ≤ 64 }
     requires sound { Sound (D.view desk.old) }
-    requires there { AreThere want (D.view desk.old) }
+    requires there { AreThere print.now.want (D.view desk.old) }
 
     ensures carries { (part : Part) → W.draws work.now part
-        → Carries (layers (layer_steps want (rates_of settings.now) part) 0 count) (stopped result) (D.view desk.old)
-        (D.view desk.new) }
+        → Carries (layers (layer_steps print.now.want (rates_of print.now.settings) part) 0 count) (stopped result)
+        (D.view desk.old) (D.view desk.new) }
     ensures summary { IfOk result (λ s. (part : Part) → W.draws work.now part
-        → IsSummary want (rates_of settings.now) part count s) }
-    ensures sound { OnOk result (Sound (D.view desk.new)) }
-    ensures creates { OnOk result (CreatesNone (D.view desk.old) (D.view desk.new)) }
-    ensures files { D.files desk.new ≡ D.files desk.old }
-    ensures later { D.faults desk.old ≤ D.faults desk.new }
-    ensures cause { HasRisen (stopped result) (D.faults desk.old) (D.faults desk.new) }
+        → IsSummary print.now.want (rates_of print.now.settings) part count s) }
+    ensures kept { Keeps D.files D.view D.faults desk.old desk.new (stopped result) }
 {
-    let rates = rates_of(settings);
+    let rates = rates_of(&print.settings);
     let mut sums = Sums::NONE;
     let mut first = 0;
     'rounds: while first < count {
         let size = ROUND.min(count - first);
-        let round = work_round(rt, alloc, first, size, workers, work, gate)?;
-        sums = send_round(alloc, want, &rates, &round, sums, desk)?;
+        let round = work_round(rt, alloc, first, size, print.workers, work)?;
+        sums = send_round(alloc, print.want, &rates, &round, sums, desk)?;
         first += size;
     }
     match sums.summary(count, &rates) {
@@ -98,23 +89,17 @@ fn send_round<D: Desk>(
     ensures sums { IfOk result (λ s. (part : Part) → AreDrawnOf part round.now.done.items
         → AreSums want rates.now part round.now.first sums
         → AreSums want rates.now part (round.now.first + round.now.count) s) }
-    ensures sound { OnOk result (Sound (D.view desk.new)) }
-    ensures creates { OnOk result (CreatesNone (D.view desk.old) (D.view desk.new)) }
-    ensures files { D.files desk.new ≡ D.files desk.old }
-    ensures later { D.faults desk.old ≤ D.faults desk.new }
-    ensures cause { HasRisen (stopped result) (D.faults desk.old) (D.faults desk.new) }
+    ensures kept { Keeps D.files D.view D.faults desk.old desk.new (stopped result) }
 {
     let mut sums = sums;
     'layers: for n in 0..round.least {
-        sums = send_layer(
-            alloc,
-            want,
-            rates,
-            round.first + n,
-            layout_of(round, n),
-            sums,
-            desk,
-        )?;
+        let (loops, paths) = layout_of(round, n);
+        let layer = LaidLayer {
+            number: round.first + n,
+            loops,
+            paths,
+        };
+        sums = send_layer(alloc, want, rates, &layer, sums, desk)?;
     }
     if round.least < round.count {
         return Err(WorkFault::Over(budget_of(round)));

@@ -6,9 +6,8 @@ ghost use Rattle.slice_work.specs.Rounds.{IsRound, round_limit};
 
 use crate::layer::Drawn;
 use crate::layer_work::LayerWork;
-use crate::pooling::{Share, pool};
+use crate::workers::{Share, pool};
 use layer_board::Board;
-use scad_io::Gate;
 use std::alloc::{AllocError, Global};
 use std::thread::Threads;
 
@@ -23,14 +22,13 @@ pub struct Round {
 }
 
 /// Works so many layers from the first one on, by so many workers, over a board of their own.
-pub fn work_round<R: Threads + Sync, W: LayerWork, G: Gate>(
+pub fn work_round<R: Threads + Sync, W: LayerWork>(
     rt: &R,
     alloc: Global,
     first: u32,
     count: u32,
     workers: u32,
     work: &W,
-    gate: &G,
 ) -> Result<Round, AllocError>
     requires some { 1 ≤ workers }
     requires few { workers ≤ 64 }
@@ -41,7 +39,7 @@ pub fn work_round<R: Threads + Sync, W: LayerWork, G: Gate>(
     ensures drawn { IfOk result (λ r. (part : Part) → W.draws work.now part → AreDrawnOf part r.done.items) }
 {
     let (board, passes) = Board::new(alloc, count, workers)?;
-    let Share { pass, done } = pool(rt, alloc, &board, passes, first, work, gate)?;
+    let Share { pass, done } = pool(rt, alloc, &board, passes, first, work)?;
     let least = board.close(pass).least;
     Ok(Round {
         first,

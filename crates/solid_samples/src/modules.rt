@@ -74,7 +74,11 @@ fn transformations_give_matrices(rt: HostRuntime) -> Result<(), Fail> {
     let turned = matrix_of(Transform::Rotate, &args, &[value(90)]);
     assert_eq!(rt; turned, Ok(turn(Axis::Z, 90_000)));
     let shift = Vec::from_array(rt.alloc(), [value(1), value(2)])?;
-    let moved = matrix_of(Transform::Translate, &args, &[Value::List(shift)]);
+    let moved = matrix_of(
+        Transform::Translate,
+        &args,
+        &[Value::vector(rt.alloc(), shift)?],
+    );
     assert_eq!(rt; moved, Ok(translate(number(1), number(2), number(0))));
     let bad = matrix_of(Transform::Mirror, &args, &[value(1)]);
     assert_eq!(rt; bad, Err(ArgumentFault::BadArgument));

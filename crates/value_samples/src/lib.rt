@@ -17,6 +17,8 @@ mod literals;
 #[cfg(test)]
 mod numbers;
 #[cfg(test)]
+mod octagons;
+#[cfg(test)]
 mod operand_kinds;
 #[cfg(test)]
 mod operations;

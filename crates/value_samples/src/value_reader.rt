@@ -47,13 +47,15 @@ impl Reader {
             return Some(());
         }
         let chars = mem::replace(&mut self.chars, Vec::new(self.alloc));
-        self.push(Value::Str(Chars::from_vec(chars)))
+        let string = Value::string(self.alloc, Chars::from_vec(chars)).ok()?;
+        self.push(string)
     }
 
     fn close(&mut self) -> Option<()> {
         let outer = self.open.pop()?;
         let inner = mem::replace(&mut self.done, outer);
-        self.push(Value::List(inner))
+        let vector = Value::vector(self.alloc, inner).ok()?;
+        self.push(vector)
     }
 
     fn open(&mut self) -> Option<()> {

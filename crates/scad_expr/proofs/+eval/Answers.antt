@@ -18,10 +18,9 @@ use Rattle.scad_expr.specs.Meaning.{meaning, for_variables, node, element_node, 
 use Rattle.scad_expr.specs.Opened.{bound_in, outer}
 use Rattle.scad_expr.specs.Parts.{parts_in}
 use Rattle.scad_expr.specs.Portions.{numbers_left}
-use Rattle.scad_expr.specs.State.{Outcome, step_limit, gives, refuses, over}
+use Rattle.scad_expr.specs.State.{step_limit, gives, refuses, over}
 use Rattle.scad_expr.proofs.RunsLeft.{data-push, items-range}
 use Rattle.scad_expr.proofs.OpenFrames.{opened-bound, opened-again, call-done, left-later}
-use Rattle.scad_expr.proofs.InPlace.{node-lone, none-named}
 use Rattle.scad_expr.proofs.Nodes.{list_node, call_node, let_node, assert_node, echo_node, for_node, loop_node, let_element_node}
 use Rattle.scad_expr.proofs.Loops.{nothing-left, value-goes, value-stops, values-end, element-goes, element-stops, elements-end, name-goes, name-stops, names-end, turn-goes, turn-stops, turns-end, call-goes, call-opened, call-stops, call-begins, defaulted-end, same-state, loop-stops, loop-ends, on-stops, on-goes, loop-over}
 use Rattle.scad_expr.proofs.+eval.Goals as goal
@@ -356,13 +355,3 @@ within::set_names-returns-in_err-set_one-clause-does t c =
     rw (p.1, p.2) (λ some. name-stops (meaning c.args.depth) c.args.args.now c.names.arg-index c.arg-item.result
     c.names-test.true c.arg-item.is (outer (held c.names.m)) (outer (held c.args.m.now)) c.names.invariant.2
     (bound_in (held c.names.m)) (state_of c.names.m) _ c.names.invariant.0 _ _ (c.in_err-set_one.ensures.does some))
-
-pub call::call_node-returns-then-is_none-clause-does : goal.call::call_node-returns-then-is_none-clause-does
-call::call_node-returns-then-is_none-clause-does t c =
-    subst (λ (x : Outcome Datum). Does datum_of x c.builtin_of.result (state_of c.builtin_of.new.self))
-    (sym
-    (node-lone (meaning c.args.depth) (env_in (held c.args.m.now)) (along_in (held c.args.m.now)) c.args.at
-    c.args.word.now
-    (arguments c.args.args.now) _ (state_of c.args.m.now) c.in-Some.ensures
-    (none-named _ c.function.result _ c.if-is_none.ensures c.function.ensures.found)))
-    c.builtin_of.ensures.does

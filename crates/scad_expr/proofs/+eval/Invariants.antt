@@ -23,8 +23,11 @@ decreases-call::bind_at l = 2 ^ 67 * l.depth + 2
 abbrev pub decreases-call::call_node : goal.decreases-call::call_node
 decreases-call::call_node l = 2 ^ 67 * l.depth + 8
 
-abbrev pub decreases-call::called : goal.decreases-call::called
-decreases-call::called l = 2 ^ 67 * l.depth + 4
+abbrev pub decreases-call::call_own : goal.decreases-call::call_own
+decreases-call::call_own l = 2 ^ 67 * l.depth + 4
+
+abbrev pub decreases-call::call_known : goal.decreases-call::call_known
+decreases-call::call_known l = 2 ^ 67 * l.depth + 4
 
 abbrev pub decreases-call::called_own : goal.decreases-call::called_own
 decreases-call::called_own l = 2 ^ 67 * l.depth + 3

@@ -1,7 +1,6 @@
-use Rattle.std.proofs.Common.{◌≡◌, ◌++◌}
-use Rattle.std.specs.Vec.Iter.{into_iter_items}
+use Rattle.std.proofs.Common.{◌≡◌, ◌++◌, drop}
 use Rattle.scad_value.specs.View.{data_of, data_in}
 use Rattle.scad_expr.proofs.sequence.add_values.Given as goal
 
 abbrev pub invariant-values : goal.invariant-values
-invariant-values l = data_in l.out ++ data_of (into_iter_items l.value-iterator) ≡ data_in l.fn.out ++ data_in l.fn.all
+invariant-values l = data_in l.out ++ data_of (drop l.value-index l.all) ≡ data_in l.fn.out ++ data_of l.all

@@ -1,21 +1,16 @@
-use Rattle.std.proofs.Common.{◌+◌, drop, refl, ap}
+use Rattle.std.proofs.Common.{rules, ◌+◌, drop, refl, ap}
+use Rattle.scad_value.specs.declared.value.Value.TheViews.{the_lemmas}
 use Rattle.scad_value.specs.Actions.{action}
 use Rattle.scad_value.specs.Elementwise.{each, each_of}
 use Rattle.scad_value.specs.View.{datum_of, elements}
-use Rattle.scad_value.proofs.Rows.{elements-drop}
-use Rattle.scad_value.proofs.Steps.{step_made, found_vector, refused_vector}
+use Rattle.scad_value.proofs.Rows.{elements-drop, items_in}
+use Rattle.scad_value.proofs.Steps.{step_made, refused_vector}
 use Rattle.scad_value.proofs.elementwise.+each.Goals as goal
-
-pub each-returns-in-Ok-clause-found : goal.each-returns-in-Ok-clause-found
-each-returns-in-Ok-clause-found t c =
-    let f = action c.args.operation.now in
-    found_vector (each f) (each_of f) (λ es. refl) _ c.in-List.all c.in-Ok.made _ c.in-List.is c.deref.ensures.value
-    c.in-Ok.ensures.found
 
 pub each-returns-in-Err-clause-refused : goal.each-returns-in-Err-clause-refused
 each-returns-in-Err-clause-refused t c =
     let f = action c.args.operation.now in
-    refused_vector (each f) (each_of f) (λ es. refl) _ c.in-List.all _ c.in-Err.fault c.in-List.is c.deref.ensures.value
+    refused_vector (each f) (each_of f) (λ es. refl) _ c.in-List.all _ c.in-Err.fault c.in-List.is (items_in _ _ _ c.deref.ensures c.as_slice.ensures.value)
     c.in-Err.ensures.refused
 
 pub each_of-elements-preserved : goal.each_of-elements-preserved
@@ -26,3 +21,6 @@ each_of-elements-preserved t c =
     (each_of f (elements (drop (c.elements.v-index + 1) c.args.all.now))) _
     (ap (each_of f) (elements-drop c.args.all.now c.elements.v-index c.v-item.result c.elements-test.true
     c.v-item.is)) c.in-Ok.ensures.found c.elements.invariant)
+
+pub each-returns-in_default : goal.each-returns-in_default
+each-returns-in_default t c = search (rules, the_lemmas, c.in_default.not-Number, c.in_default.not-List)

@@ -1,9 +1,8 @@
 use Rattle.std.proofs.Common.{◌+◌, ◌∙◌, sym, ap, drop, Ok}
-use Rattle.scad_value.specs.declared.value.Value.{List as ListValue}
 use Rattle.scad_value.specs.Elementwise.{as_vector}
 use Rattle.scad_value.specs.Products.{elements_in, by_columns, by_rows_and_columns}
 use Rattle.scad_value.specs.View.{datum_of, elements}
-use Rattle.scad_value.proofs.Rows.{elements-drop, vector_view}
+use Rattle.scad_value.proofs.Rows.{elements-drop}
 use Rattle.scad_value.proofs.Steps.{step_made}
 use Rattle.scad_value.proofs.matrix_product.by_rows_and_columns.Goals as goal
 
@@ -12,9 +11,9 @@ rows-preserved c =
     let ys = elements c.args.ys.now in
     let n = c.args.columns in
     rw c.in_ok-push-in-Ok.ensures.items
-    (step_made c.rows.made.items (ListValue c.in-Ok.row_made)
+    (step_made c.rows.made.items c.in_ok-vector-in-Ok.field-0
     (as_vector (by_columns n 0 (elements_in (datum_of c.row-item.result)) ys)) _
     (by_rows_and_columns n (elements (drop (c.rows.row-index + 1) c.args.rows.now)) ys) _
     (ap (λ es. by_rows_and_columns n es ys) (elements-drop c.args.rows.now c.rows.row-index c.row-item.result
     c.rows-test.true c.row-item.is)) (ap (λ es. as_vector (by_columns n 0 es ys)) (sym c.elements_in.ensures) ∙ ap
-    as_vector c.in-Ok.ensures.found ∙ ap Ok (sym (vector_view c.in-Ok.row_made))) c.rows.invariant)
+    as_vector c.in-Ok.ensures.found ∙ ap Ok (sym c.in_ok-vector-in-Ok.ensures)) c.rows.invariant)

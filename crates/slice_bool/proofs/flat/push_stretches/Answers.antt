@@ -1,17 +1,26 @@
 -- The next stretch gives its piece.
-use Rattle.std.proofs.Common.{◌≡◌, ◌+◌, ◌-◌, ◌++◌, ℕ, List, drop, sym, ap, ap₂, ◌∙◌, arith}
+use Rattle.std.proofs.Common.{◌≡◌, ◌+◌, ◌-◌, ◌++◌, ℕ, List, drop, sym, ap, ap₂, ◌∙◌, arith, subst}
 use Rattle.std.proofs.lemmas.List.{append-nil}
 use Rattle.slice_snap.specs.declared.piece.Piece.{Piece}
 use Rattle.slice_bool.specs.declared.stop.Stop.{Stop}
 use Rattle.slice_bool.specs.Pieces.{flat_pieces}
 use Rattle.slice_bool.specs.Stops.{spots_in}
+use Rattle.slice_bool.specs.BothSides.{AreSides}
 use Rattle.slice_bool.proofs.Stretches.{stretch, stretch_at, no_stretch, more_pieces}
 use Rattle.slice_bool.proofs.flat.push_stretches.Goals as goal
 
+pub push_stretch-requires-clause-sides : goal.push_stretch-requires-clause-sides
+push_stretch-requires-clause-sides c =
+    let es = c.args.sweep.now.edges.now in
+    let shape = c.args.sweep.now.shape.now in
+    let from = c.stops.auto.i in
+    subst (λ (s : Stop). AreSides es shape s.spot.at c.args.sides.now) (sym c.index-stops-i.is)
+    (c.requires.sides (c.stops.i - 1) c.index-stops-i.result (omega (arith, c.stops-test.true, from)))
+
 pub stops-preserved : goal.stops-preserved
 stops-preserved c =
-    let es = c.args.edges.now in
-    let shape = c.args.shape.now in
+    let es = c.args.sweep.now.edges.now in
+    let shape = c.args.sweep.now.shape.now in
     let ss : List Stop = c.args.stops.now in
     let i : ℕ = c.stops.i in
     let s : Stop = c.index-stops-i.result in
@@ -31,5 +40,5 @@ pub returns : goal.returns
 returns c =
     sym (append-nil c.stops.out.items)
     ∙ ap (λ (ps : List Piece). c.stops.out.items ++ ps)
-    (sym (no_stretch c.args.edges.now c.args.shape.now c.args.stops.now c.stops.i c.stops-test.false))
+    (sym (no_stretch c.args.sweep.now.edges.now c.args.sweep.now.shape.now c.args.stops.now c.stops.i c.stops-test.false))
     ∙ c.stops.invariant

@@ -1,10 +1,8 @@
-use Rattle.std.proofs.Common.{◌≡◌, ◌<◌, ◌++◌, drop, length}
-use Rattle.std.specs.List.{All}
-use Rattle.slice_bool.specs.Near.{flats_from}
+use Rattle.std.proofs.Common.{◌≡◌, ◌++◌, drop, filter}
+use Rattle.slice_slab.specs.Bundles.{edge_at}
+use Rattle.slice_bool.specs.Pieces.{is_flat_at}
 use Rattle.slice_bool.proofs.near.flats.Given as goal
 
-abbrev pub invariant-edges : goal.invariant-edges
-invariant-edges l = record {
-  flats : l.out.items ++ flats_from l.i (drop l.i l.edges) l.at ≡ flats_from 0 l.edges l.at;
-  there : All (λ k. k < length l.edges) l.out.items;
-}
+abbrev pub invariant-numbers : goal.invariant-numbers
+invariant-numbers l = l.out.items ++ filter (λ k. is_flat_at (edge_at l.edges k) l.at) (drop l.k-index l.numbers)
+    ≡ filter (λ k. is_flat_at (edge_at l.edges k) l.at) l.numbers

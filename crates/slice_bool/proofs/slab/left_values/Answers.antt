@@ -1,37 +1,40 @@
 -- From the right end on, each bundle's edges are added.
-use Rattle.std.proofs.Common.{◌≡◌, ◌+◌, ◌-◌, ◌<◌, ◌^◌, ℕ, Bool, false, List, [], ◌∷◌, ◌++◌, length, get_or, drop, sym, ap, ◌∙◌, arith, subst}
+use Rattle.std.proofs.Common.{◌≡◌, ◌+◌, ◌-◌, ◌<◌, ◌^◌, ℕ, Bool, false, List, [], ◌∷◌, ◌++◌, length, get_or, drop, refl, sym, ap, ◌∙◌, arith, subst}
 use Rattle.std.specs.Prelude.{ℤ, pos, ◌+ℤ◌}
 use Rattle.std.specs.List.{All, concat}
 use Rattle.scad_geom.specs.declared.level.LeafEdge.{LeafEdge}
 use Rattle.slice_held.specs.Held.{Shows}
 use Rattle.slice_bool.specs.Tally.{IsTally, headings}
 use Rattle.slice_bool.specs.Keeping.{in_by}
-use Rattle.slice_bool.proofs.Keeping.{keeps_first}
+use Rattle.slice_bool.proofs.Keeping.{keeps_first, keeps_last, all_put}
+use Rattle.slice_bool.proofs.Untouched.{untouched_headings}
 use Rattle.slice_bool.specs.Beside.{left_value}
 use Rattle.slice_bool.proofs.Bundled.{there_at, few_to_left, tally_more, held_left, all_dropped, one_more, first_value, length_more}
 use Rattle.slice_bool.proofs.slab.left_values.Goals as goal
 
 pub bundles-init : goal.bundles-init
 bundles-init c =
-    let es = c.args.edges.now in
+    let es = c.args.sweep.now.edges.now in
+    let shape = c.args.sweep.now.shape.now in
+    let t = c.args.tallies.now in
     let bs : List (List ℕ) = c.args.bundles.now in
     let items : c.push.new.self.items ≡ false ∷ [] = c.in_ok-push.ensures.items ∙ ap
     (λ (vs : List Bool). vs ++ (false ∷ [])) c.new-values.ensures.items in
     record {
-      turns = λ leaf. c.in_ok-turns.ensures.zeros leaf ∙ sym (ap (λ (bs : List (List ℕ)). headings es leaf (concat bs))
+      turns = λ leaf. c.requires.tallies.rest.zeros leaf ∙ sym (ap (λ (bs : List (List ℕ)). headings es leaf (concat bs))
           (all_dropped bs));
-      leaves = c.in_ok-turns.ensures.leaves;
-      ready = c.in_ok-held.ensures.ready;
-      room = c.in_ok-held.ensures.leaves ∙ c.len.ensures;
-      shows = keeps_first c.in_ok-turns.turns.items c.args.shape.now c.in_ok-held.held c.in_ok-turns.ensures.zeros
-          c.in_ok-held.ensures.shows;
+      leaves = c.requires.tallies.leaves;
+      len = refl;
+      ready = c.requires.tallies.rest.ready;
+      room = c.requires.tallies.rest.size;
+      shows = keeps_first t.turns.items shape t.held c.requires.tallies.rest.zeros c.requires.tallies.shows;
       size = ap length items;
-      each = λ k h. first_value es c.args.shape.now bs c.push.new.self.items k items h;
+      each = λ k h. first_value es shape bs c.push.new.self.items k items h;
     }
 
 pub add_bundle-requires-clause-there : goal.add_bundle-requires-clause-there
 add_bundle-requires-clause-there c =
-    let es = c.args.edges.now in
+    let es = c.args.sweep.now.edges.now in
     let bs : List (List ℕ) = c.args.bundles.now in
     let b : List ℕ = c.index-bundles-bundles.result in
     subst (All (λ k. k < length es)) (sym (c.as_slice.ensures ∙ c.index-bundles-bundles.is))
@@ -40,17 +43,17 @@ add_bundle-requires-clause-there c =
 pub add_bundle-requires-clause-small : goal.add_bundle-requires-clause-small
 add_bundle-requires-clause-small c =
     let bs : List (List ℕ) = c.args.bundles.now in
-    few_to_left c.args.edges.now bs c.bundles.turns.items (length bs - c.bundles.i) (2 ^ 61)
-    (omega (arith, c.requires.members.few, c.requires.few)) c.bundles.invariant.turns
+    few_to_left c.args.sweep.now.edges.now bs c.bundles.tallies.turns.items (length bs - c.bundles.i) (2 ^ 61)
+    (omega (arith, c.requires.members.few, c.args.sweep.now.few)) c.bundles.invariant.turns
 
 pub bundles-preserved : goal.bundles-preserved
 bundles-preserved c =
-    let es : List LeafEdge = c.args.edges.now in
-    let shape = c.args.shape.now in
+    let es : List LeafEdge = c.args.sweep.now.edges.now in
+    let shape = c.args.sweep.now.shape.now in
     let bs : List (List ℕ) = c.args.bundles.now in
     let i : ℕ = c.bundles.i in
     let b : List ℕ = c.index-bundles-bundles.result in
-    let old : List ℤ = c.bundles.turns.items in
+    let old : List ℤ = c.bundles.tallies.turns.items in
     let new : List ℤ = c.add_bundle.new.turns.items in
     let shows : Shows shape (in_by new) c.add_bundle.new.held =
     c.add_bundle.ensures.held.shows shape c.bundles.invariant.shows in
@@ -65,6 +68,7 @@ bundles-preserved c =
     record {
       turns = turns;
       leaves = subst (λ (n : ℕ). All (λ e. e.leaf < n) es) (sym c.add_bundle.ensures.len) c.bundles.invariant.leaves;
+      len = c.add_bundle.ensures.len ∙ c.bundles.invariant.len;
       ready = c.add_bundle.ensures.held.ready;
       room = c.add_bundle.ensures.held.size ∙ c.bundles.invariant.room ∙ sym c.add_bundle.ensures.len;
       shows = shows;
@@ -73,4 +77,28 @@ bundles-preserved c =
       each = λ k h. ap (λ (vs : List Bool). get_or vs k false) items
           ∙ one_more (λ k. left_value es shape (drop (length bs - k) bs)) c.bundles.values.items c.value.result i
           c.bundles.invariant.size c.bundles.invariant.each value k h;
+    }
+
+pub returns-clause-tallies : goal.returns-clause-tallies
+returns-clause-tallies c =
+    let es : List LeafEdge = c.args.sweep.now.edges.now in
+    let shape = c.args.sweep.now.shape.now in
+    let bs : List (List ℕ) = c.args.bundles.now in
+    let mid : List ℤ = c.bundles.tallies.turns.items in
+    let news : List ℤ = c.put_back.new.turns.items in
+    let all : length bs - c.bundles.i ≡ 0 = omega (arith, c.bundles-test.false) in
+    let zeros : IsTally news (λ leaf. pos 0) =
+    all_put mid news c.args.edges.now c.put_back.ensures.turns
+    (λ leaf h. c.bundles.invariant.turns leaf
+    ∙ ap (λ (k : ℕ). headings es leaf (concat (drop k bs))) all
+    ∙ untouched_headings es c.args.edges.now leaf (concat bs) c.requires.covers h) in
+    record {
+      rest = record {
+        ready = c.put_back.ensures.held.ready;
+        size = c.put_back.ensures.held.size ∙ c.bundles.invariant.room ∙ sym c.put_back.ensures.len;
+        zeros = zeros;
+      };
+      leaves = subst (λ (n : ℕ). All (λ e. e.leaf < n) es) (sym c.put_back.ensures.len) c.bundles.invariant.leaves;
+      shows = keeps_last news shape c.put_back.new.held zeros
+          (c.put_back.ensures.held.shows shape c.bundles.invariant.shows);
     }

@@ -8,12 +8,13 @@ use Rattle.slice_bool.proofs.slab.left_values.Given as goal
 
 abbrev pub invariant-bundles : goal.invariant-bundles
 invariant-bundles l = record {
-  turns : IsTally l.turns.items (λ leaf. headings l.edges leaf (concat (drop (length l.bundles - l.i) l.bundles)));
-  leaves : All (λ e. e.leaf < vec_len l.turns) l.edges;
-  ready : IsReady l.held;
-  room : leaf_count l.held ≡ vec_len l.turns;
-  shows : Shows l.shape (in_by l.turns.items) l.held;
+  turns : IsTally l.tallies.turns.items (λ leaf. headings l.sweep.edges.now leaf (concat (drop (length l.bundles - l.i) l.bundles)));
+  leaves : All (λ e. e.leaf < vec_len l.tallies.turns) l.sweep.edges.now;
+  len : vec_len l.tallies.turns ≡ vec_len l.fn.tallies.turns;
+  ready : IsReady l.tallies.held;
+  room : leaf_count l.tallies.held ≡ vec_len l.tallies.turns;
+  shows : Shows l.sweep.shape.now (in_by l.tallies.turns.items) l.tallies.held;
   size : length l.values.items ≡ l.i + 1;
-  each : (k : ℕ) → k ≤ l.i → get_or l.values.items k false ≡ left_value l.edges l.shape
+  each : (k : ℕ) → k ≤ l.i → get_or l.values.items k false ≡ left_value l.sweep.edges.now l.sweep.shape.now
       (drop (length l.bundles - k) l.bundles);
 }

@@ -46,7 +46,7 @@ layers-preserved g c =
           (c.layout_of.ensures part drawn) (kept.sums part drawn sums);
       sound = search rules;
       there = still_there c.args.want (g.D.Desk.view c.layers.desk)
-          (g.D.Desk.view c.send_layer.new.desk) c.in_ok-sums.ensures.creates kept.there;
+          (g.D.Desk.view c.send_layer.new.desk) c.in_ok-sums.ensures.kept.creates kept.there;
       creates = search rules;
       files = search rules;
       later = search rules;

@@ -10,6 +10,6 @@ use Rattle.scad_expr.proofs.machine.Machine.vector.Goals as goal
 pub returns-clause-does : goal.returns-clause-does
 returns-clause-does c =
     subst (λ (o : Outcome Datum). Does datum_of o c.make.result (state_of c.make.new.self))
-    (ap (λ (d : Datum). make c.args.at d (state_of c.args.self.now)) (vector-data c.in_ok-all.all) ∙
+    (ap (λ (d : Datum). make c.args.at d (state_of c.args.self.now)) (vector-data _ _ c.in_ok-value.ensures) ∙
     c.in_ok-all.ensures.alike c.args.at (state_of c.args.self.now))
     c.make.ensures.does

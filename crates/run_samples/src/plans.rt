@@ -1,0 +1,222 @@
+//! What `plan` and `sample` write and report. The texts come from an independent program.
+ghost use Rattle.std.specs.Prelude.{◌≤◌};
+
+use crate::runs::{Answer, ROOM, answer_of, desk_with};
+use crate::settings::settled;
+use scad_fault::Text;
+use scad_io::Open;
+use scad_run::{evaluate, sampled};
+use scad_script::Stop;
+use scad_slice::Workpiece;
+use scad_words::Settings;
+use std::alloc::{AllocError, Global};
+use std::process::Abort;
+use std::test::Fail;
+use std::thread::Threads;
+
+/// A plate of three millimetres, one layer thick.
+const PLATE: &str = "cube([3,3,0.2]);";
+
+const PLATE_OUTLINES: &str = "$$HEADERSTART
+$$ASCII
+$$UNITS/0.001
+$$VERSION/200
+$$LAYERS/1
+$$HEADEREND
+$$GEOMETRYSTART
+$$LAYER/200
+$$POLYLINE/1,1,5,0,0,3000,0,3000,3000,0,3000,0,0
+$$GEOMETRYEND
+";
+
+const PLATE_PROGRAM: &str = "; scadslice
+G21
+G90
+M82
+M107
+M140 S60
+M104 S200
+M190 S60
+M109 S200
+G28
+G92 E0
+; layer 0
+G1 Z0.200 F7200
+G1 X0.225 Y0.225 F7200
+G1 X2.775 Y0.225 E0.09541 F1800
+G1 X2.775 Y2.775 E0.19083 F1800
+G1 X0.225 Y2.775 E0.28624 F1800
+G1 X0.225 Y0.225 E0.38166 F1800
+G1 X0.675 Y0.675 F7200
+G1 X2.325 Y0.675 E0.44339 F1800
+G1 X2.325 Y2.325 E0.50513 F1800
+G1 X0.675 Y2.325 E0.56687 F1800
+G1 X0.675 Y0.675 E0.62861 F1800
+G1 X0.900 Y2.000 F7200
+G1 X2.100 Y2.000 E0.67351 F1800
+M104 S0
+M140 S0
+M84
+";
+
+const PLATE_LINE: &str = "done: 1 layers, 1 loops, 9 moves, E 0.67351\n";
+
+fn planned<R: Threads + Sync>(
+    rt: &R,
+    alloc: Global,
+    source: &str,
+    workers: &str,
+    fails: Vec<u64>,
+    room: usize,
+) -> Result<Answer, AllocError> {
+    let words = ["plan", "m.scad", "o.cli", "o.gcode", "--workers", workers];
+    answer_of(rt, alloc, &words, source.as_bytes(), fails, room)
+}
+
+fn expect_report(rt: &impl Abort, answer: &Answer, code: u8, report: &str, case: &str) {
+    assert!(rt;
+        answer.code == code && answer.report.as_slice() == report.as_bytes(),
+        "{case}"
+    );
+}
+
+#[test]
+fn a_plate_is_planned(rt: HostRuntime) -> Result<(), Fail> {
+    let alloc = rt.alloc();
+    for workers in ["1", "3"] {
+        let answer = planned(&rt, alloc, PLATE, workers, Vec::new(alloc), ROOM)?;
+        expect_report(&rt, &answer, 0, PLATE_LINE, workers);
+        let same = answer.cli.as_slice() == PLATE_OUTLINES.as_bytes()
+            && answer.gcode.as_slice() == PLATE_PROGRAM.as_bytes();
+        assert!(rt; same);
+    }
+    Ok(())
+}
+
+/// A run of `plan` over the plate in which the call of this number fails: whether it was done all the same.
+fn done_but_for<R: Threads + Sync + Abort>(
+    rt: &R,
+    alloc: Global,
+    call: u64,
+) -> Result<bool, AllocError> {
+    let fails = [call].to_vec(alloc)?;
+    let answer = planned(rt, alloc, PLATE, "3", fails, ROOM)?;
+    let (code, report) = end_without(call);
+    expect_report(rt, &answer, code, report, "a call fails");
+    let fronts = PLATE_OUTLINES.as_bytes().starts_with(&answer.cli)
+        && PLATE_PROGRAM.as_bytes().starts_with(&answer.gcode);
+    assert!(rt;
+        fronts && (answer.faults == 0) == (code == 0),
+        "call {call}"
+    );
+    Ok(code == 0)
+}
+
+/// The status and the report of a run of `plan` over the plate in which this call fails.
+fn end_without(call: u64) -> (u8, &'static str) {
+    match call {
+        // open and two reads
+        0..3 => (4, "read fault\n"),
+        // both files are created, and get a head, a layer and an end
+        3..11 => (5, "write fault\n"),
+        // the last line
+        11 => (5, ""),
+        _ => (0, PLATE_LINE),
+    }
+}
+
+#[test]
+fn each_call_of_a_plan_failing_in_turn(rt: HostRuntime) -> Result<(), Fail> {
+    let alloc = rt.alloc();
+    for call in 0..12 {
+        assert!(rt; !done_but_for(&rt, alloc, call)?);
+    }
+    assert!(rt; done_but_for(&rt, alloc, 12)?);
+    Ok(())
+}
+
+const FIFTEEN: &[u8] = b"$$HEADERSTART\n$$ASCII\n$$UNITS/0.001\n$$VERSION/200\n$$LAYERS/15\n";
+
+const FOURTH: &[u8] = b"$$LAYER/800\n$$POLYLINE/1,1,5,0,0,1000,0,1000,1000,0,1000,0,0\n";
+
+/// The sections of the layers at 0.8 to 1 mm and at 1.8 to 2 mm have 20,010 edges: both files end before the lower one, whatever
+/// the number of workers.
+#[test]
+fn the_least_layer_with_a_budget_is_answered(rt: HostRuntime) -> Result<(), Fail> {
+    let alloc = rt.alloc();
+    let source =
+        "cube([1,1,3]); translate([0,0,0.8]) cylinder(h=0.2,r=50,$fn=10001); translate([0,0,1.8]) cylinder(h=0.2,r=50,$fn=10001);";
+    for workers in ["1", "2", "64"] {
+        let words = ["slice", "m.scad", "o.cli", "--workers", workers];
+        let answer = answer_of(&rt, alloc, &words, source.as_bytes(), Vec::new(alloc), ROOM)?;
+        expect_report(
+            &rt,
+            &answer,
+            6,
+            "budget 7 LayerEdges layer 4 count 20010\n",
+            workers,
+        );
+        let layers = answer.cli.as_slice();
+        assert!(rt;
+            layers.starts_with(FIFTEEN) && layers.ends_with(FOURTH) && answer.gcode.is_empty()
+        );
+    }
+    Ok(())
+}
+
+/// The last line of a sample that is the plate: its numbers, and the sizes of both files.
+const PLATE_SAMPLE: &str =
+    "sample 7: 1 layers, 1 loops, 9 moves, E 0.67351, 164 cli bytes, 481 gcode bytes\n";
+
+/// The end of a sample, over the plate in the place of its own tree.
+pub fn sample_of_plate<R: Threads + Sync>(
+    rt: &R,
+    alloc: Global,
+    workers: u32,
+) -> Result<Result<Text, Stop>, Fail>
+    requires some { 1 ≤ workers }
+    requires most { workers ≤ 64 }
+{
+    let mut desk = desk_with(alloc, b"", Vec::new(alloc), ROOM)?;
+    let Ok(tree) = evaluate(alloc, PLATE.as_bytes(), &mut desk) else {
+        return Err(Fail::new("the plate has a tree"));
+    };
+    let piece = Workpiece {
+        tree: &tree,
+        settings: Settings::defaults(),
+        workers,
+        gate: &Open,
+    };
+    Ok(sampled(rt, alloc, 7, &piece))
+}
+
+#[test]
+fn a_sample_tells_sizes(rt: HostRuntime) -> Result<(), Fail> {
+    let Ok(line) = sample_of_plate(&rt, rt.alloc(), 3)? else {
+        return Err(Fail::new("the plate is planned"));
+    };
+    assert!(rt; line.as_slice() == PLATE_SAMPLE.as_bytes());
+    Ok(())
+}
+
+#[test]
+fn plans_of_settings(rt: HostRuntime) -> Result<(), Fail> {
+    let alloc = rt.alloc();
+    let source = "difference(){cube([10,10,0.2]); translate([4,4,-1]) cube([2,2,3]);}";
+    let words = ["plan", "m.scad", "o.cli", "o.gcode", "--settings", "s.toml"];
+    let answer = settled(
+        &rt,
+        alloc,
+        &words,
+        b"walls = 1\ninfill_spacing = 0\n",
+        source.as_bytes(),
+    )?;
+    expect_report(
+        &rt,
+        &answer,
+        0,
+        "done: 1 layers, 2 loops, 8 moves, E 1.79604\n",
+        source,
+    );
+    Ok(())
+}

@@ -1,0 +1,157 @@
+//! What a whole run over a desk in memory answers and leaves, and runs of other words.
+ghost use Rattle.std.specs.Prelude.{◌≡◌, Some, [], IfOk};
+ghost use Rattle.scad_io.specs.Desk.{unused};
+
+use scad_fault::{Status, Text};
+use scad_io::{MemoryDesk, Open, Out};
+use scad_run::run;
+use std::alloc::{AllocError, Global};
+use std::process::Abort;
+use std::test::Fail;
+use std::thread::Threads;
+
+pub const ROOM: usize = 1 << 20;
+
+/// What a run answered and left.
+#[derive(Drop)]
+pub struct Answer {
+    pub code: u8,
+    pub report: Vec<u8>,
+    pub cli: Vec<u8>,
+    pub gcode: Vec<u8>,
+    pub faults: u64,
+}
+
+pub fn texts_of(alloc: Global, words: &[&str]) -> Result<Vec<String>, AllocError> {
+    let mut texts = Vec::new(alloc);
+    for word in words {
+        texts.push(String::from_str(alloc, word)?)?;
+    }
+    Ok(texts)
+}
+
+/// A desk that has a source as `m.scad`.
+pub fn desk_with(
+    alloc: Global,
+    source: &[u8],
+    fails: Vec<u64>,
+    room: usize,
+) -> Result<MemoryDesk, AllocError>
+    ensures { IfOk result (λ desk. desk.view ≡ unused (Some [])) }
+{
+    let mut files = Vec::new(alloc);
+    push_file(alloc, &mut files, b"m.scad", source)?;
+    MemoryDesk::new(alloc, files, fails, room)
+}
+
+pub fn push_file(
+    alloc: Global,
+    files: &mut Vec<(Text, Text)>,
+    name: &[u8],
+    content: &[u8],
+) -> Result<(), AllocError> {
+    let name = Text::of(alloc, name)?;
+    files.push((name, Text::of(alloc, content)?))?;
+    Ok(())
+}
+
+pub fn answer_on(alloc: Global, status: Status, desk: &MemoryDesk) -> Result<Answer, AllocError> {
+    Ok(Answer {
+        code: status.code(),
+        report: desk.written(Out::Report).to_vec(alloc)?,
+        cli: desk.written(Out::Cli).to_vec(alloc)?,
+        gcode: desk.written(Out::Gcode).to_vec(alloc)?,
+        faults: desk.faults(),
+    })
+}
+
+/// Runs these words over a desk that has a source as `m.scad`, where the calls of these numbers fail.
+pub fn answer_of<R: Threads + Sync>(
+    rt: &R,
+    alloc: Global,
+    words: &[&str],
+    source: &[u8],
+    fails: Vec<u64>,
+    room: usize,
+) -> Result<Answer, AllocError> {
+    let words = texts_of(alloc, words)?;
+    let mut desk = desk_with(alloc, source, fails, room)?;
+    let status = run(rt, alloc, &words, &mut desk, &Open);
+    answer_on(alloc, status, &desk)
+}
+
+fn sliced<R: Threads + Sync>(rt: &R, alloc: Global, source: &[u8]) -> Result<Answer, AllocError> {
+    answer_of(
+        rt,
+        alloc,
+        &["slice", "m.scad", "o.cli"],
+        source,
+        Vec::new(alloc),
+        ROOM,
+    )
+}
+
+pub fn expect(rt: &impl Abort, answer: &Answer, code: u8, report: &str, case: &str) {
+    let same = answer.report.as_slice() == report.as_bytes();
+    assert!(rt;
+        answer.code == code && same && answer.gcode.is_empty(),
+        "{case}"
+    );
+}
+
+/// Words that are no command.
+const STRANGE: [&[&str]; 11] = [
+    &["slice", "m.scad"],
+    &["slice", "a", "a"],
+    &["check"],
+    &["check", "a", "b"],
+    &["tree", "a", "a"],
+    &["Check", "a"],
+    &[],
+    &["slice", "m.scad", "o.cli", "more"],
+    &["plan", "a", "b", "b"],
+    &["check", "a", "--workers", "65"],
+    &["sample", "2147483648"],
+];
+
+#[test]
+fn words_of_another_form(rt: HostRuntime) -> Result<(), Fail> {
+    let alloc = rt.alloc();
+    for words in STRANGE {
+        let answer = answer_of(&rt, alloc, words, b"cube(1);", Vec::new(alloc), ROOM)?;
+        expect(&rt, &answer, 2, "usage: scadslice COMMAND\n", "words");
+        assert!(rt; answer.cli.is_empty() && answer.faults == 0);
+    }
+    Ok(())
+}
+
+#[test]
+fn unknown_model(rt: HostRuntime) -> Result<(), Fail> {
+    let alloc = rt.alloc();
+    let words = ["slice", "n.scad", "o.cli"];
+    let answer = answer_of(&rt, alloc, &words, b"cube(1);", Vec::new(alloc), ROOM)?;
+    expect(&rt, &answer, 4, "read fault\n", "unknown model");
+    assert!(rt; answer.cli.is_empty() && answer.faults == 1);
+    Ok(())
+}
+
+/// One byte more than a source may have.
+#[test]
+fn a_source_that_is_too_long(rt: HostRuntime) -> Result<(), Fail> {
+    let alloc = rt.alloc();
+    let source = vec![in alloc; b'\n'; 4_194_305]?;
+    let long = sliced(&rt, alloc, &source)?;
+    expect(&rt, &long, 6, "budget 1 SourceLong\n", "long");
+    assert!(rt; long.cli.is_empty());
+    Ok(())
+}
+
+#[test]
+fn longest_source(rt: HostRuntime) -> Result<(), Fail> {
+    let alloc = rt.alloc();
+    let mut source = b"cube(1);".to_vec(alloc)?;
+    source.resize(4_194_304, b'\n')?;
+    let within = sliced(&rt, alloc, &source)?;
+    expect(&rt, &within, 0, "done: 5 layers, 5 loops\n", "within");
+    Ok(())
+}

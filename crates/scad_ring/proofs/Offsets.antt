@@ -1,0 +1,208 @@
+-- The corners of an octagon round an end of an edge are near to the edge.
+use Rattle.std.proofs.Common.{◌≡◌, inl, inr, arith, List, ℤ, pos, neg_ℤ, ◌+ℤ◌, ◌-ℤ◌, ◌*ℤ◌, ◌<ℤ◌, refl}
+use lib.Signed.{◌≤ℤ◌}
+use Rattle.std.specs.Prelude.{◌↔◌, All}
+use Rattle.std.proofs.lemmas.Int.{ints}
+use Rattle.scad_geom.specs.declared.point.Pt.{Pt}
+use Rattle.scad_geom.specs.Point.{Point, whole}
+use Rattle.scad_geom.specs.Segment.{segments}
+use Rattle.scad_geom.specs.Loop.{sides}
+use Rattle.scad_geom.proofs.Rising.{order}
+use Rattle.scad_ring.specs.Octagon.{octagon}
+use Rattle.scad_ring.specs.Nearness.{Closed, Meets}
+use Rattle.scad_ring.specs.Ring.{IsLeftOf, AllTurnLeft, IsBefore, StartsLowest, round}
+use Rattle.scad_ring.specs.OctagonCorners.{low_left, low_right, right_low, right_high, high_right, high_left, left_high, left_low, low, right, high, left}
+use Rattle.scad_ring.proofs.Convex.{one_first, one_last}
+use Rattle.scad_ring.proofs.Octants.{IsSize}
+use Rattle.scad_ring.proofs.Approaches.{meets_if_approach}
+
+-- a point lies near to the way from p to r
+abbrev pub IsNearWay : ℤ → ℤ → Pt → Pt → Pt → Type 0
+IsNearWay c u p r k = Meets Closed (octagon c u) (whole k) (whole p) (whole r)
+
+-- these are the corners of the ring round the way from p to r by the octagon of half width c and half sum u
+pub record IsOctagonRound (c u : ℤ) (p r : Pt) (corners : List Pt) : Type 0 where
+  pub holds : (q : Point) → pos 0 <ℤ q.d → Meets Closed (octagon c u) q (whole p) (whole r) ↔ All (IsLeftOf q)
+      (segments (sides corners))
+  pub near : All (IsNearWay c u p r) corners
+  pub turns : AllTurnLeft (round corners)
+  pub starts : StartsLowest corners
+
+-- a difference lies in the octagon
+pub record IsOffset (c u x y : ℤ) : Type 0 where
+  pub across : IsSize c x
+  pub upwards : IsSize c y
+  pub sum : IsSize u (x +ℤ y)
+  pub difference : IsSize u (x -ℤ y)
+
+pub near_first : (c u : ℤ) (p r k : Pt) → IsOffset c u (k.x -ℤ p.x) (k.y -ℤ p.y) → IsNearWay c u p r k
+near_first c u p r k o =
+    let al = o.across.least in
+    let am = o.across.most in
+    let bl = o.upwards.least in
+    let bm = o.upwards.most in
+    let sl = o.sum.least in
+    let sm = o.sum.most in
+    let fl = o.difference.least in
+    let fm = o.difference.most in
+    meets_if_approach (whole k) p r c u (record {
+      s = pos 1;
+      t = pos 0;
+      from = omega (arith, ints);
+      to = omega (arith, ints);
+      some = omega (arith, ints);
+      right = one_first (pos 1) (pos 0) (c *ℤ pos 1) (p.x *ℤ pos 1 -ℤ k.x) (p.y *ℤ pos 1 -ℤ k.y)
+          (r.x *ℤ pos 1 -ℤ k.x) (r.y *ℤ pos 1 -ℤ k.y) (omega (arith, ints, al));
+      left = one_first (neg_ℤ (pos 1)) (pos 0) (c *ℤ pos 1) (p.x *ℤ pos 1 -ℤ k.x) (p.y *ℤ pos 1 -ℤ k.y)
+          (r.x *ℤ pos 1 -ℤ k.x) (r.y *ℤ pos 1 -ℤ k.y) (omega (arith, ints, am));
+      over = one_first (pos 0) (pos 1) (c *ℤ pos 1) (p.x *ℤ pos 1 -ℤ k.x) (p.y *ℤ pos 1 -ℤ k.y)
+          (r.x *ℤ pos 1 -ℤ k.x) (r.y *ℤ pos 1 -ℤ k.y) (omega (arith, ints, bl));
+      below = one_first (pos 0) (neg_ℤ (pos 1)) (c *ℤ pos 1) (p.x *ℤ pos 1 -ℤ k.x) (p.y *ℤ pos 1 -ℤ k.y)
+          (r.x *ℤ pos 1 -ℤ k.x) (r.y *ℤ pos 1 -ℤ k.y) (omega (arith, ints, bm));
+      over_right = one_first (pos 1) (pos 1) (u *ℤ pos 1) (p.x *ℤ pos 1 -ℤ k.x) (p.y *ℤ pos 1 -ℤ k.y)
+          (r.x *ℤ pos 1 -ℤ k.x) (r.y *ℤ pos 1 -ℤ k.y) (omega (arith, ints, sl));
+      below_right = one_first (pos 1) (neg_ℤ (pos 1)) (u *ℤ pos 1) (p.x *ℤ pos 1 -ℤ k.x) (p.y *ℤ pos 1 -ℤ k.y)
+          (r.x *ℤ pos 1 -ℤ k.x) (r.y *ℤ pos 1 -ℤ k.y) (omega (arith, ints, fl));
+      over_left = one_first (neg_ℤ (pos 1)) (pos 1) (u *ℤ pos 1) (p.x *ℤ pos 1 -ℤ k.x) (p.y *ℤ pos 1 -ℤ k.y)
+          (r.x *ℤ pos 1 -ℤ k.x) (r.y *ℤ pos 1 -ℤ k.y) (omega (arith, ints, fm));
+      below_left = one_first (neg_ℤ (pos 1)) (neg_ℤ (pos 1)) (u *ℤ pos 1) (p.x *ℤ pos 1 -ℤ k.x) (p.y *ℤ pos 1 -ℤ k.y)
+          (r.x *ℤ pos 1 -ℤ k.x) (r.y *ℤ pos 1 -ℤ k.y) (omega (arith, ints, sm));
+    })
+
+pub near_last : (c u : ℤ) (p r k : Pt) → IsOffset c u (k.x -ℤ r.x) (k.y -ℤ r.y) → IsNearWay c u p r k
+near_last c u p r k o =
+    let al = o.across.least in
+    let am = o.across.most in
+    let bl = o.upwards.least in
+    let bm = o.upwards.most in
+    let sl = o.sum.least in
+    let sm = o.sum.most in
+    let fl = o.difference.least in
+    let fm = o.difference.most in
+    meets_if_approach (whole k) p r c u (record {
+      s = pos 0;
+      t = pos 1;
+      from = omega (arith, ints);
+      to = omega (arith, ints);
+      some = omega (arith, ints);
+      right = one_last (pos 1) (pos 0) (c *ℤ pos 1) (p.x *ℤ pos 1 -ℤ k.x) (p.y *ℤ pos 1 -ℤ k.y)
+          (r.x *ℤ pos 1 -ℤ k.x) (r.y *ℤ pos 1 -ℤ k.y) (omega (arith, ints, al));
+      left = one_last (neg_ℤ (pos 1)) (pos 0) (c *ℤ pos 1) (p.x *ℤ pos 1 -ℤ k.x) (p.y *ℤ pos 1 -ℤ k.y)
+          (r.x *ℤ pos 1 -ℤ k.x) (r.y *ℤ pos 1 -ℤ k.y) (omega (arith, ints, am));
+      over = one_last (pos 0) (pos 1) (c *ℤ pos 1) (p.x *ℤ pos 1 -ℤ k.x) (p.y *ℤ pos 1 -ℤ k.y)
+          (r.x *ℤ pos 1 -ℤ k.x) (r.y *ℤ pos 1 -ℤ k.y) (omega (arith, ints, bl));
+      below = one_last (pos 0) (neg_ℤ (pos 1)) (c *ℤ pos 1) (p.x *ℤ pos 1 -ℤ k.x) (p.y *ℤ pos 1 -ℤ k.y)
+          (r.x *ℤ pos 1 -ℤ k.x) (r.y *ℤ pos 1 -ℤ k.y) (omega (arith, ints, bm));
+      over_right = one_last (pos 1) (pos 1) (u *ℤ pos 1) (p.x *ℤ pos 1 -ℤ k.x) (p.y *ℤ pos 1 -ℤ k.y)
+          (r.x *ℤ pos 1 -ℤ k.x) (r.y *ℤ pos 1 -ℤ k.y) (omega (arith, ints, sl));
+      below_right = one_last (pos 1) (neg_ℤ (pos 1)) (u *ℤ pos 1) (p.x *ℤ pos 1 -ℤ k.x) (p.y *ℤ pos 1 -ℤ k.y)
+          (r.x *ℤ pos 1 -ℤ k.x) (r.y *ℤ pos 1 -ℤ k.y) (omega (arith, ints, fl));
+      over_left = one_last (neg_ℤ (pos 1)) (pos 1) (u *ℤ pos 1) (p.x *ℤ pos 1 -ℤ k.x) (p.y *ℤ pos 1 -ℤ k.y)
+          (r.x *ℤ pos 1 -ℤ k.x) (r.y *ℤ pos 1 -ℤ k.y) (omega (arith, ints, fm));
+      below_left = one_last (neg_ℤ (pos 1)) (neg_ℤ (pos 1)) (u *ℤ pos 1) (p.x *ℤ pos 1 -ℤ k.x) (p.y *ℤ pos 1 -ℤ k.y)
+          (r.x *ℤ pos 1 -ℤ k.x) (r.y *ℤ pos 1 -ℤ k.y) (omega (arith, ints, sm));
+    })
+
+module _ (c t u : ℤ) (sum : u ≡ c +ℤ t) (some : pos 0 ≤ℤ t) (less : t <ℤ c) (p : Pt) where
+  pub low_left_in : IsOffset c u ((low_left c t p).x -ℤ p.x) ((low_left c t p).y -ℤ p.y)
+  low_left_in = record {
+    across = record { least = omega (arith, ints); most = omega (arith, ints) };
+    upwards = record { least = omega (arith, ints); most = omega (arith, ints) };
+    sum = record { least = omega (arith, ints); most = omega (arith, ints) };
+    difference = record { least = omega (arith, ints); most = omega (arith, ints) };
+  }
+
+  pub low_right_in : IsOffset c u ((low_right c t p).x -ℤ p.x) ((low_right c t p).y -ℤ p.y)
+  low_right_in = record {
+    across = record { least = omega (arith, ints); most = omega (arith, ints) };
+    upwards = record { least = omega (arith, ints); most = omega (arith, ints) };
+    sum = record { least = omega (arith, ints); most = omega (arith, ints) };
+    difference = record { least = omega (arith, ints); most = omega (arith, ints) };
+  }
+
+  pub right_low_in : IsOffset c u ((right_low c t p).x -ℤ p.x) ((right_low c t p).y -ℤ p.y)
+  right_low_in = record {
+    across = record { least = omega (arith, ints); most = omega (arith, ints) };
+    upwards = record { least = omega (arith, ints); most = omega (arith, ints) };
+    sum = record { least = omega (arith, ints); most = omega (arith, ints) };
+    difference = record { least = omega (arith, ints); most = omega (arith, ints) };
+  }
+
+  pub right_high_in : IsOffset c u ((right_high c t p).x -ℤ p.x) ((right_high c t p).y -ℤ p.y)
+  right_high_in = record {
+    across = record { least = omega (arith, ints); most = omega (arith, ints) };
+    upwards = record { least = omega (arith, ints); most = omega (arith, ints) };
+    sum = record { least = omega (arith, ints); most = omega (arith, ints) };
+    difference = record { least = omega (arith, ints); most = omega (arith, ints) };
+  }
+
+  pub high_right_in : IsOffset c u ((high_right c t p).x -ℤ p.x) ((high_right c t p).y -ℤ p.y)
+  high_right_in = record {
+    across = record { least = omega (arith, ints); most = omega (arith, ints) };
+    upwards = record { least = omega (arith, ints); most = omega (arith, ints) };
+    sum = record { least = omega (arith, ints); most = omega (arith, ints) };
+    difference = record { least = omega (arith, ints); most = omega (arith, ints) };
+  }
+
+  pub high_left_in : IsOffset c u ((high_left c t p).x -ℤ p.x) ((high_left c t p).y -ℤ p.y)
+  high_left_in = record {
+    across = record { least = omega (arith, ints); most = omega (arith, ints) };
+    upwards = record { least = omega (arith, ints); most = omega (arith, ints) };
+    sum = record { least = omega (arith, ints); most = omega (arith, ints) };
+    difference = record { least = omega (arith, ints); most = omega (arith, ints) };
+  }
+
+  pub left_high_in : IsOffset c u ((left_high c t p).x -ℤ p.x) ((left_high c t p).y -ℤ p.y)
+  left_high_in = record {
+    across = record { least = omega (arith, ints); most = omega (arith, ints) };
+    upwards = record { least = omega (arith, ints); most = omega (arith, ints) };
+    sum = record { least = omega (arith, ints); most = omega (arith, ints) };
+    difference = record { least = omega (arith, ints); most = omega (arith, ints) };
+  }
+
+  pub left_low_in : IsOffset c u ((left_low c t p).x -ℤ p.x) ((left_low c t p).y -ℤ p.y)
+  left_low_in = record {
+    across = record { least = omega (arith, ints); most = omega (arith, ints) };
+    upwards = record { least = omega (arith, ints); most = omega (arith, ints) };
+    sum = record { least = omega (arith, ints); most = omega (arith, ints) };
+    difference = record { least = omega (arith, ints); most = omega (arith, ints) };
+  }
+
+  pub low_in : IsOffset c u ((low c p).x -ℤ p.x) ((low c p).y -ℤ p.y)
+  low_in = record {
+    across = record { least = omega (arith, ints); most = omega (arith, ints) };
+    upwards = record { least = omega (arith, ints); most = omega (arith, ints) };
+    sum = record { least = omega (arith, ints); most = omega (arith, ints) };
+    difference = record { least = omega (arith, ints); most = omega (arith, ints) };
+  }
+
+  pub right_in : IsOffset c u ((right c p).x -ℤ p.x) ((right c p).y -ℤ p.y)
+  right_in = record {
+    across = record { least = omega (arith, ints); most = omega (arith, ints) };
+    upwards = record { least = omega (arith, ints); most = omega (arith, ints) };
+    sum = record { least = omega (arith, ints); most = omega (arith, ints) };
+    difference = record { least = omega (arith, ints); most = omega (arith, ints) };
+  }
+
+  pub high_in : IsOffset c u ((high c p).x -ℤ p.x) ((high c p).y -ℤ p.y)
+  high_in = record {
+    across = record { least = omega (arith, ints); most = omega (arith, ints) };
+    upwards = record { least = omega (arith, ints); most = omega (arith, ints) };
+    sum = record { least = omega (arith, ints); most = omega (arith, ints) };
+    difference = record { least = omega (arith, ints); most = omega (arith, ints) };
+  }
+
+  pub left_in : IsOffset c u ((left c p).x -ℤ p.x) ((left c p).y -ℤ p.y)
+  left_in = record {
+    across = record { least = omega (arith, ints); most = omega (arith, ints) };
+    upwards = record { least = omega (arith, ints); most = omega (arith, ints) };
+    sum = record { least = omega (arith, ints); most = omega (arith, ints) };
+    difference = record { least = omega (arith, ints); most = omega (arith, ints) };
+  }
+
+-- the lowest corners of the ends of an edge that rises to the right, or is flat
+pub before : (p r : Pt) (c : ℤ) → p.y ≤ℤ r.y → p.x <ℤ r.x → IsBefore (low c p) (low c r)
+before p r c y x = elim (order r.y p.y) [
+  | inl h ↦ inr (omega (arith, ints), x)
+  | inr h ↦ inl (omega (arith, ints))
+]

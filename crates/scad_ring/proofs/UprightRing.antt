@@ -1,0 +1,209 @@
+-- The ring by an octagon round an edge that runs upwards.
+use Rattle.std.proofs.Common.{◌≡◌, inl, inr, [], ◌∷◌, refl, ap, arith, ℤ, pos, neg_ℤ, ◌+ℤ◌, ◌-ℤ◌, ◌*ℤ◌, ◌<ℤ◌}
+use lib.Signed.{◌≤ℤ◌}
+use Rattle.std.specs.Prelude.{All}
+use Rattle.std.proofs.lemmas.Int.{ints}
+use Rattle.std.proofs.lemmas.List.Elements.{All-from_recursion, recursion_from_All}
+use Rattle.scad_geom.specs.declared.point.Pt.{Pt}
+use Rattle.scad_geom.specs.Point.{Point}
+use Rattle.scad_geom.specs.Segment.{segments}
+use Rattle.scad_geom.specs.Loop.{sides}
+use Rattle.scad_ring.specs.Ring.{IsLeftOf, IsBefore}
+use Rattle.scad_ring.specs.declared.direction.Direction.TheVariants.{Upright}
+use Rattle.scad_ring.specs.OctagonCorners.{eight_sided, low_left, low_right, right_low, right_high, high_right, high_left, left_high, left_low}
+use Rattle.scad_ring.proofs.Octants.{approach}
+use Rattle.scad_ring.proofs.Approaches.{ApproachFrom, meets_if_approach, approach_if_meets}
+use Rattle.scad_ring.proofs.Steps.{Side, side, turns, side_gap, first_side, last_side}
+use Rattle.scad_ring.proofs.Slants.{over, steep_right_by, upright_passes}
+use Rattle.scad_ring.proofs.Offsets.{IsNearWay, IsOctagonRound, near_first, near_last, low_left_in, low_right_in, right_low_in, right_high_in, high_right_in, high_left_in, left_high_in, left_low_in}
+
+module _ (c t u : ℤ) (sum : u ≡ c +ℤ t) (some : pos 0 <ℤ t) (less : t <ℤ c) (p r : Pt) (x : p.x ≡ r.x)
+    (y : p.y <ℤ r.y) where
+  weak : pos 0 ≤ℤ t
+  weak = omega (arith, ints)
+
+  s0 : Side (pos 0) (pos 1) c p (low_left c t p) (low_right c t p)
+  s0 = side (pos 2 *ℤ t) (omega (arith, ints)) (omega (arith, ints)) (omega (arith, ints)) (omega (arith, ints))
+
+  s1 : Side (neg_ℤ (pos 1)) (pos 1) u p (low_right c t p) (right_low c t p)
+  s1 = side (c -ℤ t) (omega (arith, ints)) (omega (arith, ints)) (omega (arith, ints)) (omega (arith, ints))
+
+  s2 : Side (neg_ℤ (pos 1)) (pos 0) c p (right_low c t p) (right_high c t r)
+  s2 = side (pos 2 *ℤ t +ℤ (r.y -ℤ p.y)) (omega (arith, ints)) (omega (arith, ints)) (omega (
+    arith,
+    ints,
+  )) (omega (arith, ints))
+
+  s3 : Side (neg_ℤ (pos 1)) (neg_ℤ (pos 1)) u r (right_high c t r) (high_right c t r)
+  s3 = side (c -ℤ t) (omega (arith, ints)) (omega (arith, ints)) (omega (arith, ints)) (omega (arith, ints))
+
+  s4 : Side (pos 0) (neg_ℤ (pos 1)) c r (high_right c t r) (high_left c t r)
+  s4 = side (pos 2 *ℤ t) (omega (arith, ints)) (omega (arith, ints)) (omega (arith, ints)) (omega (arith, ints))
+
+  s5 : Side (pos 1) (neg_ℤ (pos 1)) u r (high_left c t r) (left_high c t r)
+  s5 = side (c -ℤ t) (omega (arith, ints)) (omega (arith, ints)) (omega (arith, ints)) (omega (arith, ints))
+
+  s6 : Side (pos 1) (pos 0) c p (left_high c t r) (left_low c t p)
+  s6 = side (pos 2 *ℤ t +ℤ (r.y -ℤ p.y)) (omega (arith, ints)) (omega (arith, ints)) (omega (
+    arith,
+    ints,
+  )) (omega (arith, ints))
+
+  s7 : Side (pos 1) (pos 1) u p (left_low c t p) (low_left c t p)
+  s7 = side (c -ℤ t) (omega (arith, ints)) (omega (arith, ints)) (omega (arith, ints)) (omega (arith, ints))
+
+  sides_if : (q : Point) → pos 0 <ℤ q.d → ApproachFrom c u q p r
+      → All (IsLeftOf q) (segments (sides (eight_sided c t p r Upright)))
+  sides_if q d a =
+      All-from_recursion (IsLeftOf q) (segments (sides (eight_sided c t p r Upright))) (
+        first_side (c *ℤ q.d) (u *ℤ q.d) q d p r a (pos 0) (pos 1) c (low_left c t p) (low_right c t p) s0
+            (omega (arith, ints)) a.over,
+        (
+          first_side (c *ℤ q.d) (u *ℤ q.d) q d p r a (neg_ℤ (pos 1)) (pos 1) u (low_right c t p) (right_low c t p) s1
+              (omega (arith, ints)) a.over_left,
+          (
+            first_side (c *ℤ q.d) (u *ℤ q.d) q d p r a (neg_ℤ (pos 1)) (pos 0) c (right_low c t p) (right_high c t r)
+                s2 (omega (arith, ints)) a.left,
+            (
+              last_side (c *ℤ q.d) (u *ℤ q.d) q d p r a (neg_ℤ (pos 1)) (neg_ℤ (pos 1)) u (right_high c t r)
+                  (high_right c t r) s3 (omega (arith, ints)) a.below_left,
+              (
+                last_side (c *ℤ q.d) (u *ℤ q.d) q d p r a (pos 0) (neg_ℤ (pos 1)) c (high_right c t r)
+                    (high_left c t r) s4 (omega (arith, ints)) a.below,
+                (
+                  last_side (c *ℤ q.d) (u *ℤ q.d) q d p r a (pos 1) (neg_ℤ (pos 1)) u (high_left c t r)
+                      (left_high c t r) s5 (omega (arith, ints)) a.below_right,
+                  (
+                    first_side (c *ℤ q.d) (u *ℤ q.d) q d p r a (pos 1) (pos 0) c (left_high c t r) (left_low c t p)
+                        s6 (omega (arith, ints)) a.right,
+                    (
+                      first_side (c *ℤ q.d) (u *ℤ q.d) q d p r a (pos 1) (pos 1) u (left_low c t p) (low_left c t p)
+                          s7 (omega (arith, ints)) a.over_right,
+                      tt,
+                    ),
+                  ),
+                ),
+              ),
+            ),
+          ),
+        ),
+      )
+
+  approach_if : (q : Point) → pos 0 <ℤ q.d → All (IsLeftOf q) (segments (sides (eight_sided c t p r Upright)))
+      → ApproachFrom c u q p r
+  approach_if q d h =
+      let s = recursion_from_All (IsLeftOf q) (segments (sides (eight_sided c t p r Upright))) h in
+      let g0 = side_gap (pos 0) (pos 1) c q p (low_left c t p) (low_right c t p) s0 s.0 in
+      let g1 = side_gap (neg_ℤ (pos 1)) (pos 1) u q p (low_right c t p) (right_low c t p) s1 s.1.0 in
+      let g2 = side_gap (neg_ℤ (pos 1)) (pos 0) c q p (right_low c t p) (right_high c t r) s2 s.1.1.0 in
+      let g3 = side_gap (neg_ℤ (pos 1)) (neg_ℤ (pos 1)) u q r (right_high c t r) (high_right c t r) s3 s.1.1.1.0 in
+      let g4 = side_gap (pos 0) (neg_ℤ (pos 1)) c q r (high_right c t r) (high_left c t r) s4 s.1.1.1.1.0 in
+      let g5 = side_gap (pos 1) (neg_ℤ (pos 1)) u q r (high_left c t r) (left_high c t r) s5 s.1.1.1.1.1.0 in
+      let g6 = side_gap (pos 1) (pos 0) c q p (left_high c t r) (left_low c t p) s6 s.1.1.1.1.1.1.0 in
+      let g7 = side_gap (pos 1) (pos 1) u q p (left_low c t p) (low_left c t p) s7 s.1.1.1.1.1.1.1.0 in
+      let l = upright_passes p r q d c t u sum weak less (omega (arith, ints)) (omega (arith, ints)) g2 g6 in
+      approach (c *ℤ q.d) (u *ℤ q.d) (p.x *ℤ q.d -ℤ q.x) (p.y *ℤ q.d -ℤ q.y) (r.x *ℤ q.d -ℤ q.x)
+      (r.y *ℤ q.d -ℤ q.y) (c *ℤ q.d) ((pos 0 -ℤ t) *ℤ q.d)
+      (steep_right_by p r q d c t u sum weak less (omega (arith, ints)) (omega (
+        arith,
+        ints,
+      )) l) (record {
+        over = inl g0;
+        over_left = inl g1;
+        left = inl g2;
+        below_left = inr g3;
+        below = inr g4;
+        below_right = inr g5;
+        right = inl g6;
+        over_right = inl g7;
+      })
+
+  pub upright_round : IsOctagonRound c u p r (eight_sided c t p r Upright)
+  upright_round = record {
+    holds = λ q d. (
+      (λ m. sides_if q d (approach_if_meets q p r c u m)),
+      (λ h. meets_if_approach q p r c u (approach_if q d h)),
+    );
+    near = All-from_recursion (IsNearWay c u p r) (eight_sided c t p r Upright) (
+      near_first c u p r (low_left c t p) (low_left_in c t u sum weak less p),
+      (
+        near_first c u p r (low_right c t p) (low_right_in c t u sum weak less p),
+        (
+          near_first c u p r (right_low c t p) (right_low_in c t u sum weak less p),
+          (
+            near_last c u p r (right_high c t r) (right_high_in c t u sum weak less r),
+            (
+              near_last c u p r (high_right c t r) (high_right_in c t u sum weak less r),
+              (
+                near_last c u p r (high_left c t r) (high_left_in c t u sum weak less r),
+                (
+                  near_last c u p r (left_high c t r) (left_high_in c t u sum weak less r),
+                  (
+                    near_first c u p r (left_low c t p) (left_low_in c t u sum weak less p),
+                    tt,
+                  ),
+                ),
+              ),
+            ),
+          ),
+        ),
+      ),
+    );
+    turns = (
+      turns (pos 1) (pos 0 -ℤ pos 0) (pos 1) (pos 0 -ℤ neg_ℤ (pos 1)) (low_left c t p) (low_right c t p)
+          (right_low c t p) s0.step s1.step (omega (arith, ints)),
+      (
+        turns (pos 1) (pos 0 -ℤ neg_ℤ (pos 1)) (pos 0) (pos 0 -ℤ neg_ℤ (pos 1)) (low_right c t p) (right_low c t p)
+            (right_high c t r) s1.step s2.step (omega (arith, ints)),
+        (
+          turns (pos 0) (pos 0 -ℤ neg_ℤ (pos 1)) (neg_ℤ (pos 1)) (pos 0 -ℤ neg_ℤ (pos 1)) (right_low c t p)
+              (right_high c t r) (high_right c t r) s2.step s3.step (omega (arith, ints)),
+          (
+            turns (neg_ℤ (pos 1)) (pos 0 -ℤ neg_ℤ (pos 1)) (neg_ℤ (pos 1)) (pos 0 -ℤ pos 0) (right_high c t r)
+                (high_right c t r) (high_left c t r) s3.step s4.step (omega (arith, ints)),
+            (
+              turns (neg_ℤ (pos 1)) (pos 0 -ℤ pos 0) (neg_ℤ (pos 1)) (pos 0 -ℤ pos 1) (high_right c t r)
+                  (high_left c t r) (left_high c t r) s4.step s5.step (omega (arith, ints)),
+              (
+                turns (neg_ℤ (pos 1)) (pos 0 -ℤ pos 1) (pos 0) (pos 0 -ℤ pos 1) (high_left c t r) (left_high c t r)
+                    (left_low c t p) s5.step s6.step (omega (arith, ints)),
+                (
+                  turns (pos 0) (pos 0 -ℤ pos 1) (pos 1) (pos 0 -ℤ pos 1) (left_high c t r) (left_low c t p)
+                      (low_left c t p) s6.step s7.step (omega (arith, ints)),
+                  (
+                    turns (pos 1) (pos 0 -ℤ pos 1) (pos 1) (pos 0 -ℤ pos 0) (left_low c t p) (low_left c t p)
+                        (low_right c t p) s7.step s0.step (omega (arith, ints)),
+                    tt,
+                  ),
+                ),
+              ),
+            ),
+          ),
+        ),
+      ),
+    );
+    starts = All-from_recursion (IsBefore (low_left c t p))
+        ((low_right c t p) ∷ (right_low c t p) ∷ (right_high c t r) ∷ (high_right c t r) ∷ (high_left c t r) ∷
+        (left_high c t r) ∷ (left_low c t p) ∷ []) (
+          inr (refl, omega (arith, ints)),
+          (
+            inl (omega (arith, ints)),
+            (
+              inl (omega (arith, ints)),
+              (
+                inl (omega (arith, ints)),
+                (
+                  inl (omega (arith, ints)),
+                  (
+                    inl (omega (arith, ints)),
+                    (
+                      inl (omega (arith, ints)),
+                      tt,
+                    ),
+                  ),
+                ),
+              ),
+            ),
+          ),
+        );
+  }

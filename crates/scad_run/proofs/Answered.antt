@@ -1,0 +1,133 @@
+-- That the answer is one, and what a run that was answered gives.
+use Rattle.std.proofs.Common.{◌≡◌, List, [], ℕ, Option, Some, None, Ok, refl, sym, ap, subst}
+use Rattle.scad_fault.specs.declared.status.Status.{Status}
+use Rattle.scad_fault.specs.declared.status.Status.TheVariants.{Done, Source, Usage, Settings, Read, Write, Over, Memory}
+use Rattle.scad_io.specs.Desk.{Files, View}
+use Rattle.scad_words.specs.declared.job.Command.{Command}
+use Rattle.scad_words.specs.declared.job.Command.TheVariants.{Check, Tree, Slice, Plan, Sample}
+use Rattle.scad_words.specs.declared.job.Job.{Job}
+use Rattle.scad_words.specs.declared.settings.Settings.{Settings as SettingsOfRun}
+use Rattle.scad_words.specs.Settings.{AreInRange}
+use Rattle.scad_words.specs.Job.{job_of}
+use Rattle.scad_script.specs.declared.loading.Input.{Input}
+use Rattle.scad_script.specs.declared.loading.Input.TheVariants.{Whole, Long}
+use Rattle.scad_script.specs.Promises.{IsAnswered, Promised}
+use Rattle.scad_expr.specs.State.{State, Outcome, gives, refuses}
+use Rattle.scad_tree.specs.Solid.{Solid}
+use Rattle.scad_tree.specs.Solids.{AreSolids}
+use Rattle.slice_work.specs.declared.want.Want.TheVariants.{Outlines as OutlinesAlone, Plan as WithPlan}
+use Rattle.scad_slice.specs.Script.{slice_script, plan_script}
+use Rattle.scad_slice.proofs.SomeParts.{parts_are_there}
+use Rattle.scad_slice.proofs.OneLayer.{parts_are_one}
+use Rattle.scad_run.specs.Words.{model_of, given_by}
+use Rattle.scad_run.specs.Meaning.{source_means}
+use Rattle.scad_run.specs.Told.{sample_script, echoed, told}
+use Rattle.scad_run.specs.Answer.{Parts, follows, input_script, model_read_first, model_script, job_script, script_of}
+use Rattle.scad_run.specs.Inputs.{Inputs, source_of, IsRead, source_in}
+use Rattle.scad_run.specs.Answer.{ArePartsOfTree, ArePartsOf, AreDrawn, AreParts}
+use Rattle.scad_run.specs.Promises.{IsWholeAnswer, Answers}
+use Rattle.scad_run.specs.Laws.{AnswersAreThere, AnswersAreOne}
+use Rattle.scad_run.proofs.Following.{settings_one}
+use Rattle.scad_run.proofs.Sources.{sources_mean_solids, as_part}
+use Rattle.scad_run.proofs.Heights.{found_in_range}
+
+-- There are parts.
+
+no_parts : Parts
+no_parts want settings i = Ok (record { outlines = []; paths = [] })
+
+parts_of : (meaning : Outcome Solid) → ((tree : Solid) (s : State) → meaning ≡ gives tree s → AreSolids tree)
+    → (parts : Parts) × ArePartsOf meaning parts
+parts_of (gives tree s) solids = (
+  λ want settings. (parts_are_there want settings tree).0,
+  λ want settings in_range i. (parts_are_there want settings tree).1 (solids tree s refl) in_range i,
+)
+parts_of (refuses fault s) solids = (no_parts, tt)
+
+pub answers_are_there : AnswersAreThere
+answers_are_there (Some (Whole source)) = parts_of (source_means source) (sources_mean_solids source)
+answers_are_there (Some Long) = (no_parts, tt)
+answers_are_there None = (no_parts, tt)
+
+-- There is one script.
+
+follows_one : (command : Command) (settings : SettingsOfRun) (tree : Solid) (a b : Parts) → AreInRange settings
+    → AreSolids tree
+    → ArePartsOfTree tree a → ArePartsOfTree tree b → follows command settings a tree ≡ follows command settings b tree
+follows_one (Check model) settings tree a b in_range solids of_a of_b = refl
+follows_one (Tree model) settings tree a b in_range solids of_a of_b = refl
+follows_one (Slice model cli) settings tree a b in_range solids of_a of_b =
+    ap (λ part. slice_script settings cli part tree)
+    (parts_are_one OutlinesAlone settings tree _ _ solids in_range (as_part tree a of_a OutlinesAlone settings)
+    (as_part tree b of_b OutlinesAlone settings))
+follows_one (Plan model cli gcode) settings tree a b in_range solids of_a of_b =
+    ap (λ part. plan_script settings cli gcode part tree)
+    (parts_are_one WithPlan settings tree _ _ solids in_range (as_part tree a of_a WithPlan settings)
+    (as_part tree b of_b WithPlan settings))
+follows_one (Sample n) settings tree a b in_range solids of_a of_b =
+    ap (λ part. sample_script n settings part tree)
+    (parts_are_one WithPlan settings tree _ _ solids in_range (as_part tree a of_a WithPlan settings)
+    (as_part tree b of_b WithPlan settings))
+
+source_one : (command : Command) (settings : SettingsOfRun) (meaning : Outcome Solid) (a b : Parts)
+    → AreInRange settings
+    → ((tree : Solid) (s : State) → meaning ≡ gives tree s → AreSolids tree) → ArePartsOf meaning a
+    → ArePartsOf meaning b
+    → told (follows command settings a) meaning ≡ told (follows command settings b) meaning
+source_one command settings (gives tree s) a b in_range solids of_a of_b =
+    ap (λ rest. echoed s.echoes rest) (follows_one command settings tree a b in_range (solids tree s refl) of_a of_b)
+source_one command settings (refuses fault s) a b in_range solids of_a of_b = refl
+
+input_one : (command : Command) (settings : SettingsOfRun) (input : Option Input) (a b : Parts) → AreInRange settings
+    → AreDrawn input a → AreDrawn input b → input_script command settings a input ≡ input_script command settings b
+    input
+input_one command settings None a b in_range of_a of_b = refl
+input_one command settings (Some Long) a b in_range of_a of_b = refl
+input_one command settings (Some (Whole source)) a b in_range of_a of_b =
+    source_one command settings (source_means source) a b in_range (sources_mean_solids source) of_a of_b
+
+job_one : (job : Option Job) (inputs : Inputs) (a b : Parts) → AreDrawn (source_in job inputs) a
+    → AreDrawn (source_in job inputs) b → job_script job a inputs ≡ job_script job b inputs
+job_one None inputs a b of_a of_b = refl
+job_one (Some job) inputs a b of_a of_b =
+    settings_one job.settings inputs.settings (model_script job.command a inputs.model)
+    (model_script job.command b inputs.model)
+    (λ settings found. ap (λ s. model_read_first (model_of job.command) s)
+    (input_one job.command settings (source_of job.command inputs.model) a b
+    (found_in_range job.settings inputs.settings settings found)
+    of_a of_b))
+
+pub answers_are_one : AnswersAreOne
+answers_are_one words inputs a b of_a of_b = job_one (job_of words) inputs a b of_a of_b
+
+-- The answer of a run, with all parts.
+
+-- what each status promises, with all parts
+abbrev pub PromisedOn : List (List ℕ) → Inputs → Status → View → View → Type 0
+PromisedOn words inputs status old new =
+    (parts : Parts) → AreParts words inputs parts → Promised (given_by words) (script_of words parts inputs) status old
+    new
+
+told_answer : (words : List (List ℕ)) (files : Files) (inputs : Inputs) (status : Status) (old new : View)
+    → IsRead words files inputs
+    → ((parts : Parts) → AreParts words inputs parts → IsAnswered (script_of words parts inputs) status old new)
+    → IsWholeAnswer words files status old new
+told_answer words None inputs status old new is answered = tt
+told_answer words (Some contents) inputs status old new is answered =
+    λ parts drawn.
+    subst (λ (i : Inputs). IsAnswered (script_of words parts i) status old new) is
+    (answered parts (subst (λ (i : Inputs). AreParts words i parts) (sym is) drawn))
+
+pub answers : (words : List (List ℕ)) (files : Files) (inputs : Inputs) (status : Status) (old new : View)
+    → IsRead words files inputs → PromisedOn words inputs status old new → Answers words files status old new
+answers words files inputs Done old new is promised = told_answer words files inputs Done old new is promised
+answers words files inputs (Source fault) old new is promised = told_answer words files inputs (Source fault) old new is
+    promised
+answers words files inputs Usage old new is promised = told_answer words files inputs Usage old new is promised
+answers words files inputs (Settings fault) old new is promised = told_answer words files inputs (Settings fault) old
+    new is promised
+answers words files inputs Read old new is promised = tt
+answers words files inputs Write old new is promised = tt
+answers words files inputs (Over budget) old new is promised = told_answer words files inputs (Over budget) old new is
+    promised
+answers words files inputs Memory old new is promised = tt

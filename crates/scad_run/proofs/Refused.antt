@@ -1,0 +1,306 @@
+-- Refusals, and commands that leave both files as they were.
+use Rattle.std.proofs.Common.{◌≡◌, ◌≢◌, ◌⊎◌, ⊎_elim, ◌++◌, ◌<◌, List, [], ℕ, Bool, true, false, Option, Some, None, Err, inl, inr, refl, sym, ap, ◌∙◌, subst, length, flat_map, nat_lt, rules, arith}
+use Rattle.std.specs.Prelude.{if◌then◌else◌}
+use Rattle.std.proofs.lemmas.List.FromFn.{length-map-range_with_len}
+use Rattle.scad_fault.specs.declared.budget.Budget.{Budget}
+use Rattle.scad_fault.specs.declared.budget.BudgetKind.{BudgetKind}
+use Rattle.scad_fault.specs.declared.budget.BudgetKind.TheVariants.{LayerEdges, LayerCrossings, LayerMoves}
+use Rattle.scad_fault.specs.declared.status.Status.{Status}
+use Rattle.scad_fault.specs.declared.status.Status.TheVariants.{Done, Source, Usage, Settings, Read, Write, Over, Memory}
+use Rattle.scad_fault.specs.Line.{line_of}
+use Rattle.scad_io.specs.Desk.{View}
+use Rattle.scad_io.specs.declared.desk.Out.TheVariants.{Report, Cli, Gcode}
+use Rattle.scad_words.specs.declared.job.Command.{Command}
+use Rattle.scad_words.specs.declared.job.Command.TheVariants.{Check, Tree, Slice, Plan, Sample}
+use Rattle.scad_words.specs.declared.job.Job.{Job}
+use Rattle.scad_words.specs.declared.settings.Settings.{Settings as SettingsOfRun}
+use Rattle.scad_words.specs.Settings.{AreInRange}
+use Rattle.scad_words.specs.Job.{job_of}
+use Rattle.scad_script.specs.declared.loading.Input.{Input}
+use Rattle.scad_script.specs.declared.refusal.Refusal.{Refusal}
+use Rattle.scad_script.specs.Steps.{Step, echoing, text_of}
+use Rattle.scad_script.specs.Script.{Script, Ending, Finishes, Refuses as IsRefusal, Lacks, ends, expected_echoes}
+use Rattle.scad_script.specs.Names.{AllUpTo}
+use Rattle.scad_script.specs.Run.{RunsTo}
+use Rattle.scad_script.specs.Promises.{Adds, IsAnswered, Promised}
+use Rattle.scad_script.proofs.Fronts.{reports_only}
+use Rattle.scad_script.proofs.Quiet.{ends_quietly}
+use Rattle.scad_tree.specs.Solid.{Solid}
+use Rattle.scad_tree.specs.Solids.{AreSolids}
+use Rattle.slice_work.specs.declared.want.Want.{Want}
+use Rattle.slice_work.specs.declared.want.Want.TheVariants.{Outlines as OutlinesAlone, Plan as WithPlan}
+use Rattle.slice_work.specs.Part.{Part, paths_of, layer_limit}
+use Rattle.cli_text.specs.Cli.{Layer, head, layer_text}
+use Rattle.scad_slice.specs.Budgets.{layer_count}
+use Rattle.scad_slice.specs.Parts.{IsPart, layer_at, layers_of, plans_of}
+use Rattle.scad_slice.proofs.Parted.{IsKind, budget_of_layer}
+use Rattle.scad_slice.proofs.Texts.{slice_cut, plan_cut, program_cut}
+use Rattle.scad_run.proofs.Silent.{slice_is_silent}
+use Rattle.scad_run.specs.Words.{given_by}
+use Rattle.scad_run.specs.Answer.{Parts, follows, job_script, script_of, ArePartsOfTree, AreDrawn, AreParts}
+use Rattle.scad_run.specs.Inputs.{Inputs, source_in}
+use Rattle.scad_run.specs.Promises.{IsReported, IsRefused, IsProgramFront, IsCutShort, Refuses, Leaves, LeavesOutputs}
+use Rattle.scad_run.specs.Causes.{HasManyLayers}
+use Rattle.scad_run.proofs.Working.{parts_meant}
+use Rattle.scad_run.proofs.Sources.{sources_mean_solids, as_part}
+use Rattle.scad_run.proofs.Heights.{found_in_range}
+use Rattle.scad_run.proofs.Reached.{IsStopped, IsFollowed, reached}
+use Rattle.scad_run.proofs.Ends.{Cuts, IsDone, IsOver, EndsBy, follows_end}
+
+-- Commands that only read and report.
+
+-- both files stand as they were
+abbrev FilesStand : View → View → Type 0
+FilesStand old new = (new.cli ≡ old.cli) × (new.gcode ≡ old.gcode)
+
+pub files_stand : (whole : Script) (status : Status) (old new : View) → AllUpTo echoing whole.steps
+    → RunsTo whole status old new → FilesStand old new
+files_stand whole status old new all (ended, mid, ends, reports) =
+    let only = reports_only ended status mid new reports in (
+      ap (λ v. v.cli) only ∙ ends_quietly Cli whole ended old mid tt all ends,
+      ap (λ v. v.gcode) only ∙ ends_quietly Gcode whole ended old mid tt all ends,
+    )
+
+-- a command whose trees are followed by nothing but an end
+abbrev IsQuiet : Command → Type 0
+IsQuiet command = (settings : SettingsOfRun) (parts : Parts) (tree : Solid)
+    → AllUpTo echoing (follows command settings parts tree).steps
+
+job_quiet : (job : Job) (parts : Parts) (inputs : Inputs) (whole : Script) → IsQuiet job.command
+    → IsStopped job inputs whole ⊎ IsFollowed job inputs parts whole → AllUpTo echoing whole.steps
+job_quiet job parts inputs whole quiet (inl stopped) = stopped.quiet
+job_quiet job parts inputs whole quiet (inr f) = f.quiet (quiet f.settings parts f.tree)
+
+ends_quiet_if : (b : Bool) (x y : Ending) → AllUpTo echoing (if b then ends x else ends y).steps
+ends_quiet_if true x y = tt
+ends_quiet_if false x y = tt
+
+pub sample_quiet : (n : ℕ) → IsQuiet (Sample n)
+sample_quiet n settings parts tree = ends_quiet_if (nat_lt layer_limit (layer_count settings.layer_height tree)) _ _
+
+command_leaves : (job : Job) (command : Command) (parts : Parts) (inputs : Inputs) (status : Status) (old new : View)
+    → job.command ≡ command
+    → RunsTo (job_script (Some job) parts inputs) status old new → Leaves command old new
+command_leaves job (Check model) parts inputs status old new is runs =
+    files_stand _ status old new (job_quiet job parts inputs _ (subst IsQuiet (sym is) (λ settings ps tree. tt))
+    (reached job inputs parts)) runs
+command_leaves job (Tree model) parts inputs status old new is runs =
+    files_stand _ status old new (job_quiet job parts inputs _ (subst IsQuiet (sym is) (λ settings ps tree. tt))
+    (reached job inputs parts)) runs
+command_leaves job (Slice model cli) parts inputs status old new is runs = tt
+command_leaves job (Plan model cli gcode) parts inputs status old new is runs = tt
+command_leaves job (Sample n) parts inputs status old new is runs =
+    files_stand _ status old new (job_quiet job parts inputs _ (subst IsQuiet (sym is) (sample_quiet n))
+    (reached job inputs parts)) runs
+
+job_leaves : (job : Option Job) (parts : Parts) (inputs : Inputs) (status : Status) (old new : View)
+    → RunsTo (job_script job parts inputs) status old new → LeavesOutputs job old new
+job_leaves None parts inputs status old new runs = tt
+job_leaves (Some job) parts inputs status old new runs = command_leaves job job.command parts inputs status old new refl
+    runs
+
+pub leaves : (words : List (List ℕ)) (parts : Parts) (inputs : Inputs) (status : Status) (old new : View)
+    → RunsTo (script_of words parts inputs) status old new → LeavesOutputs (job_of words) old new
+leaves words parts inputs status old new runs = job_leaves (job_of words) parts inputs status old new runs
+
+-- Refusals.
+
+refused_line : (steps : List Step) (ending : Ending) (status : Status) (old new : View)
+    → IsAnswered (record { steps = steps; ending = ending }) status old new → status ≢ Done
+    → Adds (expected_echoes (record { steps = steps; ending = ending }) ++ line_of status) old.report new.report
+refused_line steps (Finishes line) status old new answered other = absurd (other (sym answered.0))
+refused_line steps (IsRefusal why) status old new answered other =
+    subst (λ (s : Status). Adds (text_of Report steps ++ line_of s) old.report new.report) answered.0 answered.1
+refused_line steps Lacks status old new answered other = absurd answered
+
+-- no output is created, or a layer passed this budget
+abbrev RefusedOrCut : Script → Status → View → View → Type 0
+RefusedOrCut whole status old new =
+    IsRefused whole status old new ⊎ ((budget : Budget) × (status ≡ Over budget) × IsCutShort whole budget old new)
+
+quiet_refused : (whole : Script) (status : Status) (old new : View) → AllUpTo echoing whole.steps
+    → RunsTo whole status old new → IsAnswered whole status old new → status ≢ Done → RefusedOrCut whole status old new
+quiet_refused whole status old new all runs answered other =
+    let stand = files_stand whole status old new all runs in
+    inl (refused_line whole.steps whole.ending status old new answered other, stand.0, stand.1)
+
+-- ---- behind the tree
+
+-- what a command writes behind its tree where a layer passes a budget
+pub record IsCutAt (count : ℕ) (budget : Budget) (cli gcode : List ℕ) : Type 0 where
+  pub kind : (budget.kind ≡ LayerEdges) ⊎ ((budget.kind ≡ LayerCrossings) ⊎ (budget.kind ≡ LayerMoves))
+  pub before : List Layer
+  pub number : length before ≡ budget.layer
+  pub inside : budget.layer < count
+  pub outlines : cli ≡ head count ++ flat_map layer_text before
+  pub program : (gcode ≡ []) ⊎ IsProgramFront budget.layer gcode
+
+-- of one of these kinds
+abbrev IsOne : BudgetKind → Type 0
+IsOne kind = (kind ≡ LayerEdges) ⊎ ((kind ≡ LayerCrossings) ⊎ (kind ≡ LayerMoves))
+
+one_of : (want : Want) (kind : BudgetKind) → IsKind want kind → IsOne kind
+one_of OutlinesAlone kind is = ⊎_elim (λ edges. inl edges) (λ crossed. inr (inl crossed)) is
+one_of WithPlan kind is = is
+
+module _ (settings : SettingsOfRun) (tree : Solid) (in_range : AreInRange settings) (solids : AreSolids tree) where
+  abbrev count : ℕ
+  count = layer_count settings.layer_height tree
+
+  -- the cut of a part's files
+  cut_at : (want : Want) (creates : List Step) (line : List ℕ) (part : Part) (budget : Budget) (cli gcode : List ℕ)
+      → IsPart want settings tree part
+      → (c : Cuts want settings creates line part tree budget)
+      → cli ≡ head count ++ flat_map layer_text (layers_of settings.layer_height part c.cut.layer)
+      → ((gcode ≡ []) ⊎ IsProgramFront c.cut.layer gcode) → IsCutAt count budget cli gcode
+  cut_at want creates line part budget cli gcode is_part c outlines program =
+      let of_layer = budget_of_layer want settings tree part c.cut.layer budget solids in_range is_part
+      (c.cut.passed ∙ ap Err c.this) in
+      record {
+        kind = one_of want budget.kind of_layer.kind;
+        before = layers_of settings.layer_height part c.cut.layer;
+        number = length-map-range_with_len (layer_at settings.layer_height part) 0 c.cut.layer ∙ sym of_layer.layer;
+        inside = subst (λ (i : ℕ). i < count) (sym of_layer.layer) c.cut.inside;
+        outlines = outlines;
+        program = subst (λ (i : ℕ). (gcode ≡ []) ⊎ IsProgramFront i gcode) (sym of_layer.layer) program;
+      }
+
+  pub many_quiet : (budget : Budget) (b : Bool) (x : Ending) (rest : Script) → nat_lt layer_limit count ≡ b
+      → HasManyLayers settings tree budget
+      → AllUpTo echoing (if b then ends x else rest).steps
+  many_quiet budget true x rest is has = tt
+  many_quiet budget false x rest is (many, same) = let never : ⊥ = search (rules, arith) in absurd never
+
+  -- it is quiet, or cuts the files short
+  behind : (command : Command) (parts : Parts) (budget : Budget) → ArePartsOfTree tree parts
+      → IsOver command settings parts tree budget
+      → AllUpTo echoing (follows command settings parts tree).steps
+      ⊎ IsCutAt count budget (text_of Cli (follows command settings parts tree).steps)
+      (text_of Gcode (follows command settings parts tree).steps)
+  behind (Check model) parts budget of_tree over = inl tt
+  behind (Tree model) parts budget of_tree over = inl tt
+  behind (Slice model cli) parts budget of_tree (inl many) = inl (many_quiet budget _ _ _ refl many)
+  behind (Slice model cli) parts budget of_tree (inr c) =
+      let part = parts OutlinesAlone settings in
+      inr (cut_at OutlinesAlone _ _ part budget _ _ (as_part tree parts of_tree OutlinesAlone settings) c
+      (slice_cut settings cli part tree c.cut)
+      (inl (slice_is_silent settings cli part tree c.cut)))
+  behind (Plan model cli gcode) parts budget of_tree (inl many) = inl (many_quiet budget _ _ _ refl many)
+  behind (Plan model cli gcode) parts budget of_tree (inr c) =
+      let part = parts WithPlan settings in
+      inr (cut_at WithPlan _ _ part budget _ _ (as_part tree parts of_tree WithPlan settings) c
+      (plan_cut settings cli gcode part tree c.cut)
+      (inr (record {
+        settings = settings;
+        paths = plans_of part c.cut.layer;
+        count = length-map-range_with_len (λ i. paths_of WithPlan (part i)) 0 c.cut.layer;
+        is = program_cut settings cli gcode part tree c.cut;
+      })))
+  behind (Sample n) parts budget of_tree over = inl (sample_quiet n settings parts tree)
+
+-- ---- a refused run
+
+cut_or_quiet : (whole : Script) (status : Status) (budget : Budget) (old new : View) (count : ℕ) (cli gcode : List ℕ)
+    → whole.ending ≡ IsRefusal (Refusal.Over budget)
+    → text_of Cli whole.steps ≡ cli → text_of Gcode whole.steps ≡ gcode → RunsTo whole status old new
+    → IsAnswered whole status old new → status ≢ Done
+    → AllUpTo echoing whole.steps ⊎ IsCutAt count budget cli gcode → RefusedOrCut whole status old new
+cut_or_quiet whole status budget old new number cli gcode ending to_cli to_gcode runs answered other (inl quiet) =
+    quiet_refused whole status old new quiet runs answered other
+cut_or_quiet whole status budget old new number cli gcode ending to_cli to_gcode runs answered other (inr cut) =
+    let refused = subst (λ (e : Ending). IsAnswered (record { steps = whole.steps; ending = e }) status old new) ending
+    answered in
+    let is : status ≡ Over budget = sym refused.0 in
+    inr (
+      budget,
+      is,
+      record {
+        kind = cut.kind;
+        reported = subst (λ (s : Status). IsReported whole s old new) is (refused_line whole.steps whole.ending status
+            old new answered other);
+        count = number;
+        before = cut.before;
+        number = cut.number;
+        inside = cut.inside;
+        outlines = subst (λ (text : List ℕ). Adds text old.cli new.cli) (to_cli ∙ cut.outlines) refused.2;
+        program = (gcode, cut.program, subst (λ (text : List ℕ). Adds text old.gcode new.gcode) to_gcode refused.3);
+      },
+    )
+
+followed_refused : (job : Job) (parts : Parts) (inputs : Inputs) (whole : Script) (status : Status) (old new : View)
+    → (f : IsFollowed job inputs parts whole)
+    → AreDrawn (source_in (Some job) inputs) parts → RunsTo whole status old new → IsAnswered whole status old new
+    → status ≢ Done
+    → EndsBy (IsDone job.command f.settings parts f.tree) (IsOver job.command f.settings parts f.tree)
+    (follows job.command f.settings parts f.tree).ending
+    → RefusedOrCut whole status old new
+followed_refused job parts inputs whole status old new f drawn runs answered other (inl (line, is, done)) =
+    let finished = subst (λ (e : Ending). IsAnswered (record { steps = whole.steps; ending = e }) status old new)
+    (f.ending ∙ is) answered in
+    absurd (other (sym finished.0))
+followed_refused job parts inputs whole status old new f drawn runs answered other (inr (budget, is, over)) =
+    let of_source = subst (λ (i : Option Input). AreDrawn i parts) f.there drawn in
+    let of_tree = parts_meant f.source f.tree parts (f.state, f.means) of_source in
+    let are_solids = sources_mean_solids f.source f.tree f.state f.means in
+    let in_range = found_in_range job.settings inputs.settings f.settings f.found in
+    cut_or_quiet whole status budget old new (layer_count f.settings.layer_height f.tree) _ _ (f.ending ∙ is) f.cli
+    f.gcode runs answered other
+    (⊎_elim (λ quiet. inl (f.quiet quiet)) (λ cut. inr cut) (behind f.settings f.tree in_range are_solids job.command
+    parts budget of_tree over))
+
+job_refused : (job : Job) (parts : Parts) (inputs : Inputs) (whole : Script) (status : Status) (old new : View)
+    → IsStopped job inputs whole ⊎ IsFollowed job inputs parts whole → AreDrawn (source_in (Some job) inputs) parts
+    → RunsTo whole status old new → IsAnswered whole status old new → status ≢ Done → RefusedOrCut whole status old new
+job_refused job parts inputs whole status old new (inl stopped) drawn runs answered other =
+    quiet_refused whole status old new stopped.quiet runs answered other
+job_refused job parts inputs whole status old new (inr f) drawn runs answered other =
+    followed_refused job parts inputs whole status old new f drawn runs answered other
+    (follows_end job.command f.settings parts f.tree)
+
+refused_by : (job : Option Job) (parts : Parts) (inputs : Inputs) (status : Status) (old new : View)
+    → RunsTo (job_script job parts inputs) status old new → IsAnswered (job_script job parts inputs) status old new
+    → AreDrawn (source_in job inputs) parts → status ≢ Done → RefusedOrCut (job_script job parts inputs) status old new
+refused_by None parts inputs status old new runs answered drawn other = quiet_refused _ status old new tt runs answered
+    other
+refused_by (Some job) parts inputs status old new runs answered drawn other =
+    job_refused job parts inputs (job_script (Some job) parts inputs) status old new (reached job inputs parts) drawn
+    runs answered other
+
+-- a status other than a budget's is no budget's
+no_budget : (whole : Script) (status : Status) (old new : View) → ((budget : Budget) → status ≢ Over budget)
+    → RefusedOrCut whole status old new → IsRefused whole status old new
+no_budget whole status old new other (inl refused) = refused
+no_budget whole status old new other (inr (budget, same, cut)) = absurd (other budget same)
+
+-- the budget of a status
+abbrev budget_in : Budget → Status → Budget
+budget_in other (Over budget) = budget
+budget_in other status = other
+
+this_budget : (whole : Script) (budget : Budget) (old new : View) → RefusedOrCut whole (Over budget) old new
+    → IsRefused whole (Over budget) old new ⊎ IsCutShort whole budget old new
+this_budget whole budget old new (inl refused) = inl refused
+this_budget whole budget old new (inr (passed, same, cut)) =
+    inr (subst (λ (b : Budget). IsCutShort whole b old new) (sym (ap (budget_in budget) same)) cut)
+
+pub refuses_so : (words : List (List ℕ)) (parts : Parts) (inputs : Inputs) (status : Status) (old new : View)
+    → RunsTo (script_of words parts inputs) status old new → Promised (given_by words) (script_of words parts inputs)
+    status old new
+    → AreParts words inputs parts
+    → Refuses (script_of words parts inputs) status old new
+refuses_so words parts inputs Done old new runs promised drawn = tt
+refuses_so words parts inputs (Source fault) old new runs promised drawn =
+    no_budget _ (Source fault) old new (λ budget same. let never : ⊥ = cc in absurd never)
+    (refused_by (job_of words) parts inputs (Source fault) old new runs promised drawn (λ same. let never : ⊥ = cc in absurd never))
+refuses_so words parts inputs Usage old new runs promised drawn =
+    no_budget _ Usage old new (λ budget same. let never : ⊥ = cc in absurd never)
+    (refused_by (job_of words) parts inputs Usage old new runs promised drawn (λ same. let never : ⊥ = cc in absurd never))
+refuses_so words parts inputs (Settings fault) old new runs promised drawn =
+    no_budget _ (Settings fault) old new (λ budget same. let never : ⊥ = cc in absurd never)
+    (refused_by (job_of words) parts inputs (Settings fault) old new runs promised drawn (λ same. let never : ⊥ = cc in absurd never))
+refuses_so words parts inputs Read old new runs promised drawn = tt
+refuses_so words parts inputs Write old new runs promised drawn = tt
+refuses_so words parts inputs (Over budget) old new runs promised drawn =
+    this_budget _ budget old new
+    (refused_by (job_of words) parts inputs (Over budget) old new runs promised drawn (λ same. let never : ⊥ = cc in absurd never))
+refuses_so words parts inputs Memory old new runs promised drawn = tt

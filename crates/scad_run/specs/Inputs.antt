@@ -1,0 +1,81 @@
+-- What a run reads: the source and the settings, of the words and of what the files contain.
+use Rattle.std.specs.Prelude.{◌≡◌, List, ℕ, Option, Some, None, IfSome, option_map, Result, Ok, Err}
+use Rattle.std.specs.Option.{option_and_then}
+use Rattle.scad_fault.specs.declared.budget.Budget.{Budget}
+use Rattle.scad_fault.specs.declared.budget.BudgetKind.TheVariants.{SourceLong}
+use Rattle.scad_fault.specs.declared.settings.SetFault.{SetFault}
+use Rattle.scad_fault.specs.Place.{no_place}
+use Rattle.scad_io.specs.Desk.{Files}
+use Rattle.scad_words.specs.declared.job.Command.{Command}
+use Rattle.scad_words.specs.declared.job.Command.TheVariants.{Check, Tree, Slice, Plan, Sample}
+use Rattle.scad_words.specs.declared.job.Job.{Job}
+use Rattle.scad_words.specs.declared.settings.Settings.{Settings}
+use Rattle.scad_words.specs.Job.{job_of}
+use Rattle.scad_words.specs.Settings.{settings_of, default_settings}
+use Rattle.scad_script.specs.declared.loading.Input.{Input}
+use Rattle.scad_script.specs.declared.loading.Input.TheVariants.{Whole}
+use Rattle.scad_script.specs.Script.{input_of}
+use Rattle.scad_sample.specs.Sample.{sample_text}
+use Rattle.scad_run.specs.Words.{model_of}
+
+-- the most bytes that a source may have
+abbrev pub source_limit : ℕ
+source_limit = 4194304
+
+-- a source that is too long
+abbrev pub source_long : Budget
+source_long = record { kind = SourceLong; at = no_place; layer = 0; count = 0 }
+
+-- what was read of the files that are named: of the settings, and of the model
+pub record Inputs : Type 0 where
+  pub settings : Option (List ℕ)
+  pub model : Option Input
+
+-- the source of a command: what was read of its model; that of `sample` is made from its number
+abbrev pub source_of : Command → Option Input → Option Input
+source_of (Check model) read = read
+source_of (Tree model) read = read
+source_of (Slice model cli) read = read
+source_of (Plan model cli gcode) read = read
+source_of (Sample n) read = Some (Whole (sample_text n))
+
+-- what is read of the settings that a job names
+abbrev pub settings_read : Option Job → (List ℕ → Option (List ℕ)) → Option (List ℕ)
+settings_read job contents = option_and_then (λ job. option_and_then contents job.settings) job
+
+-- what is read of a model that is named
+abbrev pub text_read : Option (List ℕ) → (List ℕ → Option (List ℕ)) → Option Input
+text_read name contents = option_map (input_of (Some source_limit)) (option_and_then contents name)
+
+-- what is read of the model that a job names
+abbrev pub model_read : Option Job → (List ℕ → Option (List ℕ)) → Option Input
+model_read job contents = option_and_then (λ job. text_read (model_of job.command) contents) job
+
+-- what is read of the files that the words name
+abbrev pub read_of : List (List ℕ) → (List ℕ → Option (List ℕ)) → Inputs
+read_of words contents =
+    record { settings = settings_read (job_of words) contents; model = model_read (job_of words) contents }
+
+-- this was read, where the contents are told
+abbrev pub IsRead : List (List ℕ) → Files → Inputs → Type 0
+IsRead words files inputs = IfSome files (λ contents. inputs ≡ read_of words contents)
+
+-- the source of the words' job
+abbrev pub source_in : Option Job → Inputs → Option Input
+source_in None inputs = None
+source_in (Some job) inputs = source_of job.command inputs.model
+
+-- the settings that a text gives, if it gives any
+abbrev pub accepted : Result Settings SetFault → Option Settings
+accepted (Ok settings) = Some settings
+accepted (Err fault) = None
+
+-- the settings of a run: those of the text that was read of the file that is named, if it is there and gives any; the
+-- defaults where none is named
+abbrev pub settings_found : Option (List ℕ) → Option (List ℕ) → Option Settings
+settings_found None read = Some default_settings
+settings_found (Some name) read = option_and_then (λ text. accepted (settings_of text)) read
+
+-- the settings that the contents give under this name; the defaults where there is none
+abbrev pub GoBy : (List ℕ → Option (List ℕ)) → Option (List ℕ) → Settings → Type 0
+GoBy contents name settings = settings_found name (option_and_then contents name) ≡ Some settings

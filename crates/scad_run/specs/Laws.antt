@@ -1,0 +1,39 @@
+-- Laws of what sources mean, and that the answer is there and is one.
+use Rattle.std.specs.Prelude.{◌≡◌, ◌≢◌, List, ℕ, Option, Some, None}
+use Rattle.scad_words.specs.declared.job.Job.{Job}
+use Rattle.scad_words.specs.Job.{job_of}
+use Rattle.scad_script.specs.declared.loading.Input.{Input}
+use Rattle.scad_script.specs.Script.{answer_of}
+use Rattle.scad_expr.specs.declared.fault.EvalFault.TheVariants.{Memory}
+use Rattle.scad_expr.specs.State.{State, gives, refuses}
+use Rattle.scad_tree.specs.Solid.{Solid}
+use Rattle.scad_tree.specs.Solids.{AreSolids}
+use Rattle.scad_run.specs.Meaning.{source_means}
+use Rattle.scad_run.specs.Answer.{Parts, script_of, AreDrawn, AreParts}
+use Rattle.scad_run.specs.Inputs.{Inputs}
+use Rattle.scad_run.specs.Causes.{IsMissing}
+
+-- the tree that a source means is of solids
+abbrev pub SourcesMeanSolids : Type 0
+SourcesMeanSolids = (source : List ℕ) (tree : Solid) (s : State) → source_means source ≡ gives tree s → AreSolids tree
+
+-- no source means that memory is wanting: it means a tree, or a fault or a budget of its own
+abbrev pub SourcesWantNoMemory : Type 0
+SourcesWantNoMemory = (source : List ℕ) (s : State) → source_means source ≢ refuses Memory s
+
+-- there are parts of the tree that a source means
+abbrev pub AnswersAreThere : Type 0
+AnswersAreThere = (input : Option Input) → (parts : Parts) × AreDrawn input parts
+
+-- all parts give one script, and so one answer
+abbrev pub AnswersAreOne : Type 0
+AnswersAreOne =
+    (words : List (List ℕ)) (inputs : Inputs) (a b : Parts) → AreParts words inputs a → AreParts words inputs b
+    → script_of words a inputs ≡ script_of words b inputs
+
+-- there is no answer only where a file that is to be read is missing: a source that is there and within its limit has
+-- one
+abbrev pub AnswersLackFiles : Type 0
+AnswersLackFiles =
+    (words : List (List ℕ)) (inputs : Inputs) (parts : Parts) → answer_of (script_of words parts inputs) ≡ None
+    → (job : Job) × (job_of words ≡ Some job) × IsMissing job inputs

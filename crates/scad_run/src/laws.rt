@@ -1,0 +1,19 @@
+//! Laws of what sources mean and of the answer, each carried by the contract of a function that does nothing.
+ghost use Rattle.scad_run.specs.Laws.{SourcesMeanSolids, SourcesWantNoMemory, AnswersAreThere, AnswersAreOne, AnswersLackFiles};
+
+/// The tree that a source means is of solids; no source means that memory is wanting.
+pub fn sources_mean_solids()
+    ensures solids { SourcesMeanSolids }
+    ensures no_want { SourcesWantNoMemory }
+{}
+
+/// There are parts of every tree that a source means, and all parts give one answer.
+pub fn answers_are_one()
+    ensures there { AnswersAreThere }
+    ensures one { AnswersAreOne }
+{}
+
+/// There is no answer only where a file that is to be read is missing.
+pub fn answers_lack_files()
+    ensures { AnswersLackFiles }
+{}

@@ -1,0 +1,18 @@
+//! A whole run: reads a part, tells what it means, or writes its layers' outlines and the program that prints it.
+//! `run` has the promise, over every desk; the program hands it the real files.
+#![tactic(auto)]
+
+mod check;
+mod evaluation;
+mod finish;
+pub mod laws;
+mod meaning;
+mod order;
+mod sample;
+mod settings;
+mod whole_run;
+mod work;
+
+pub use evaluation::evaluate;
+pub use sample::sampled;
+pub use whole_run::run;

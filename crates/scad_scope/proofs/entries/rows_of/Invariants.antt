@@ -1,0 +1,10 @@
+use Rattle.std.proofs.Common.{◌≡◌, map, drop}
+use Rattle.scad_ast.specs.Scope.{items}
+use Rattle.scad_scope.specs.Noted.{placed, noted_all}
+use Rattle.scad_scope.specs.Tabled.{word_in, words_by, tabled}
+use Rattle.scad_scope.proofs.entries.rows_of.Given as goal
+
+abbrev pub invariant-items : goal.invariant-items
+invariant-items l = (l.place ≡ l.item-index) × (noted_all (map placed l.rows.entries) l.place
+    (words_by (word_in l.kind) (items (drop l.item-index l.scope.items))) ≡ tabled (word_in l.kind)
+    (items l.scope.items))

@@ -1,6 +1,0 @@
-use Rattle.std.proofs.Common.{◌≡◌, take}
-use Rattle.scad_tool.specs.Told.{echo_text}
-use Rattle.scad_tool.proofs.evaluation.echo_text.Given as goal
-
-abbrev pub invariant-lines : goal.invariant-lines
-invariant-lines l = l.text.items ≡ echo_text (take l.line-index l.lines)

@@ -1,0 +1,6 @@
+use Rattle.std.proofs.Common.{rules}
+use Rattle.scad_value.specs.declared.value.Value.TheViews.{the_lemmas}
+use Rattle.scad_value.proofs.product.amount.Goals as goal
+
+pub returns-in_default : goal.returns-in_default
+returns-in_default c = search (rules, the_lemmas)

@@ -1,0 +1,143 @@
+//! One layer is written.
+ghost use Rattle.std.specs.Prelude.{◌≡◌, ◌≢◌, ◌+◌, ◌*◌, ◌^◌, ◌<◌, ◌≤◌, ◌∷◌, [], true, length, IfOk};
+ghost use Rattle.std.specs.List.{sum_by};
+ghost use Rattle.scad_io.specs.Desk.{side};
+ghost use Rattle.scad_script.specs.Steps.{Sends};
+ghost use Rattle.scad_script.specs.Script.{first};
+ghost use Rattle.scad_script.specs.Played.{Carries, IsThere};
+ghost use Rattle.scad_script.specs.Run.{Sound};
+ghost use Rattle.scad_script.specs.Kept.{Keeps};
+ghost use Rattle.gcode_text.specs.Amount.{paths_volume};
+ghost use Rattle.slice_work.specs.Part.{layer_limit, move_count};
+ghost use Rattle.slice_work.specs.Script.{AreRates, AreThere, laid_out, outline_lines, move_lines, written, stopped};
+ghost use Rattle.slice_work.specs.Sums.{with_layer};
+
+use crate::fault::WorkFault;
+use crate::sums::{Sums, moves_of};
+use crate::want::Want;
+use gcode_text::{Rates, are_few};
+use scad_geom::{Loop, Path};
+use scad_io::{Desk, Failed, Out, write_all};
+use std::alloc::Global;
+
+/// The greatest volume of all moves so far behind which a layer is written, in cubic micrometres. It is more than
+/// 10^12 cubic metres.
+const VOLUME_LIMIT: u128 = 1_000_000_000_000_000_000_000_000_000_000;
+
+/// A layer as it is written: its number, its outlines, and the paths of its moves.
+#[derive(Clone, Copy, Debug)]
+pub struct LaidLayer<'a> {
+    pub number: u32,
+    pub loops: &'a [Loop],
+    pub paths: &'a [Path],
+}
+
+/// Writes a layer: the lines of its outlines, and then those of its moves, where they are wanted. What is counted of
+/// the layers so far then counts this one too.
+pub fn send_layer<D: Desk>(
+    alloc: Global,
+    want: Want,
+    rates: &Rates,
+    layer: &LaidLayer,
+    sums: Sums,
+    desk: &mut D,
+) -> Result<Sums, WorkFault>
+    requires rates { AreRates rates.now }
+    requires layer { layer.now.number < layer_limit }
+    requires sound { Sound (D.view desk.old) }
+    requires there { AreThere want (D.view desk.old) }
+
+    ensures carries { Carries (first (written want rates.now sums.volume layer.now.number
+        (laid_out layer.now.loops.now layer.now.paths.now)))
+        (stopped result) (D.view desk.old) (D.view desk.new) }
+    ensures sums { IfOk result (λ s. s ≡ with_layer want rates.now layer.now.number
+        (laid_out layer.now.loops.now layer.now.paths.now) sums) }
+    ensures kept { Keeps D.files D.view D.faults desk.old desk.new (stopped result) }
+{
+    let cli = send_outlines(alloc, rates, layer.number, layer.loops, desk)?;
+    let Some(sums) = sums.with_outlines(layer.loops.len(), cli) else {
+        return Err(WorkFault::Memory);
+    };
+    match want {
+        Want::Outlines => Ok(sums),
+        Want::Plan => send_moves(alloc, rates, layer.number, layer.paths, sums, desk),
+    }
+}
+
+// Writes the lines of a layer's outlines: how long they are.
+fn send_outlines<D: Desk>(
+    alloc: Global,
+    rates: &Rates,
+    layer: u32,
+    loops: &[Loop],
+    desk: &mut D,
+) -> Result<usize, WorkFault>
+    requires rates { AreRates rates.now }
+    requires layer { layer < layer_limit }
+    requires sound { Sound (D.view desk.old) }
+    requires made { (D.view desk.old).cli.created ≡ true }
+
+    ensures carries { Carries (first (Sends Out.Cli (outline_lines rates.now.layer_height layer loops.now) ∷ []))
+        (stopped result) (D.view desk.old) (D.view desk.new) }
+    ensures size { IfOk result (λ n. n ≡ length (outline_lines rates.now.layer_height layer loops.now)) }
+    ensures kept { Keeps D.files D.view D.faults desk.old desk.new (stopped result) }
+{
+    let mut text = Vec::new(alloc);
+    cli_text::write_layer(&mut text, rates.layer_height * (layer + 1), loops)?;
+    send(desk, Out::Cli, &text)?;
+    Ok(text.len())
+}
+
+// Writes the lines of a layer's moves. No memory holds so many points, or is so far through a part, that they can't
+// be written.
+fn send_moves<D: Desk>(
+    alloc: Global,
+    rates: &Rates,
+    layer: u32,
+    paths: &[Path],
+    sums: Sums,
+    desk: &mut D,
+) -> Result<Sums, WorkFault>
+    requires rates { AreRates rates.now }
+    requires sound { Sound (D.view desk.old) }
+    requires made { (D.view desk.old).gcode.created ≡ true }
+
+    ensures carries { Carries (first (Sends Out.Gcode (move_lines rates.now sums.volume layer paths.now) ∷ []))
+        (stopped result) (D.view desk.old) (D.view desk.new) }
+    ensures sums { IfOk result (λ s. s ≡ record sums {
+      moves = sums.moves + move_count paths.now;
+      volume = sums.volume + paths_volume rates.now paths.now;
+      gcode = sums.gcode + length (move_lines rates.now sums.volume layer paths.now);
+    }) }
+    ensures kept { Keeps D.files D.view D.faults desk.old desk.new (stopped result) }
+{
+    if sums.volume > VOLUME_LIMIT || !are_few(paths) {
+        return Err(WorkFault::Memory);
+    }
+    let mut text = Vec::new(alloc);
+    let mut volume = sums.volume;
+    gcode_text::write_layer(&mut text, layer, paths, rates, &mut volume)?;
+    send(desk, Out::Gcode, &text)?;
+    let Some(moves) = moves_of(paths) else {
+        return Err(WorkFault::Memory);
+    };
+    match sums.with_moves(moves, volume, text.len()) {
+        Some(sums) => Ok(sums),
+        None => Err(WorkFault::Memory),
+    }
+}
+
+// Writes a piece to an output that isn't the report.
+fn send<D: Desk>(desk: &mut D, out: Out, piece: &[u8]) -> Result<(), WorkFault>
+    requires named { out ≢ Out.Report }
+    requires sound { Sound (D.view desk.old) }
+    requires made { IsThere out (D.view desk.old) }
+
+    ensures carries { Carries (first (Sends out piece.now ∷ [])) (stopped result) (D.view desk.old) (D.view desk.new) }
+    ensures kept { Keeps D.files D.view D.faults desk.old desk.new (stopped result) }
+{
+    match write_all(desk, out, piece) {
+        Ok(()) => Ok(()),
+        Err(Failed) => Err(WorkFault::Write),
+    }
+}

@@ -1,0 +1,17 @@
+//! How a part is printed.
+ghost use Rattle.std.specs.Prelude.{◌≤◌};
+ghost use Rattle.scad_words.specs.Settings.{AreInRange};
+
+use crate::want::Want;
+use scad_words::Settings;
+
+/// What is wanted of a part, by which settings, and how many workers share its layers.
+#[derive(Clone, Copy, Debug)]
+pub struct Print {
+    pub settings: Settings,
+    pub want: Want,
+    pub workers: u32,
+    ghost in_range: { AreInRange settings },
+    ghost some: { 1 ≤ workers },
+    ghost most: { workers ≤ 64 },
+}
