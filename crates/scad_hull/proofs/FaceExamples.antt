@@ -12,7 +12,7 @@ at x y z = record { x = x; y = y; z = z }
 abbrev tetrahedron : List Pt3
 tetrahedron = at (pos 0) (pos 0) (pos 2) ∷ at (pos 0) (pos 0) (pos 0) ∷ at (pos 2) (pos 0) (pos 0) ∷ at (pos 1) (pos 0) (pos 0) ∷ at (pos 0) (pos 2) (pos 0) ∷ at (pos 0) (pos 0) (pos 0) ∷ []
 
-faces-tetrahedron : faces_of (distinct space_cmp tetrahedron) ≡
+pub faces-tetrahedron : faces_of (distinct space_cmp tetrahedron) ≡
     (at (pos 0) (pos 0) (pos 0) ∷ at (pos 2) (pos 0) (pos 0) ∷ at (pos 0) (pos 2) (pos 0) ∷ [])
     ∷ (at (pos 0) (pos 0) (pos 0) ∷ at (pos 0) (pos 2) (pos 0) ∷ at (pos 0) (pos 0) (pos 2) ∷ [])
     ∷ (at (pos 0) (pos 0) (pos 0) ∷ at (pos 0) (pos 0) (pos 2) ∷ at (pos 2) (pos 0) (pos 0) ∷ [])
@@ -25,17 +25,3 @@ flat-square = refl
 
 flat-line : are_flat (at (pos 0) (pos 0) (pos 0) ∷ at (pos 1) (pos 1) (pos 1) ∷ at (pos 3) (pos 3) (pos 3) ∷ []) ≡ true
 flat-line = refl
-
--- a cube with a point inside and one in a face
-abbrev cube : List Pt3
-cube = at (pos 0) (pos 0) (pos 0) ∷ at (pos 2) (pos 0) (pos 0) ∷ at (pos 0) (pos 2) (pos 0) ∷ at (pos 2) (pos 2) (pos 0) ∷ at (pos 1) (pos 1) (pos 1) ∷ at (pos 1) (pos 2) (pos 1)
-    ∷ at (pos 0) (pos 0) (pos 2) ∷ at (pos 2) (pos 0) (pos 2) ∷ at (pos 0) (pos 2) (pos 2) ∷ at (pos 2) (pos 2) (pos 2) ∷ []
-
-faces-cube : faces_of cube ≡
-    (at (pos 0) (pos 0) (pos 0) ∷ at (pos 2) (pos 0) (pos 0) ∷ at (pos 2) (pos 2) (pos 0) ∷ at (pos 0) (pos 2) (pos 0) ∷ [])
-    ∷ (at (pos 0) (pos 0) (pos 0) ∷ at (pos 0) (pos 2) (pos 0) ∷ at (pos 0) (pos 2) (pos 2) ∷ at (pos 0) (pos 0) (pos 2) ∷ [])
-    ∷ (at (pos 0) (pos 0) (pos 0) ∷ at (pos 0) (pos 0) (pos 2) ∷ at (pos 2) (pos 0) (pos 2) ∷ at (pos 2) (pos 0) (pos 0) ∷ [])
-    ∷ (at (pos 2) (pos 0) (pos 0) ∷ at (pos 2) (pos 0) (pos 2) ∷ at (pos 2) (pos 2) (pos 2) ∷ at (pos 2) (pos 2) (pos 0) ∷ [])
-    ∷ (at (pos 0) (pos 2) (pos 0) ∷ at (pos 2) (pos 2) (pos 0) ∷ at (pos 2) (pos 2) (pos 2) ∷ at (pos 0) (pos 2) (pos 2) ∷ [])
-    ∷ (at (pos 0) (pos 0) (pos 2) ∷ at (pos 0) (pos 2) (pos 2) ∷ at (pos 2) (pos 2) (pos 2) ∷ at (pos 2) (pos 0) (pos 2) ∷ []) ∷ []
-faces-cube = refl

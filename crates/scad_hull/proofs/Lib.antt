@@ -15,5 +15,12 @@ pub mod FlatHolds
 pub mod Escape
 pub mod Surrounds
 pub mod Turned
+pub mod Mirrored
+pub mod Seen
+pub mod NextPlanes
+pub mod PlaneRings
+pub mod SamePlanes
+pub mod FacePlanes
+pub mod Listed
 pub mod FaceExamples
 pub mod Examples

@@ -1,6 +1,6 @@
 -- The faces of the convex hull of points: the planes through three of the points that have none outside, each with the ring of the points in it.
-use Rattle.std.specs.Prelude.{List, length, map, Bool, ◌||◌, Option, Some, None, Result, Ok, Err, if◌then◌else◌, nat_lt, int_lt, ℤ, pos}
-use Rattle.std.specs.List.{list_all, list_any, filter, filter_map, flat_map}
+use Rattle.std.specs.Prelude.{◌≡◌, ◌<ℤ◌, ◌≤ℤ◌, All, List, length, map, Bool, ◌||◌, Option, Some, None, Result, Ok, Err, if◌then◌else◌, nat_lt, int_lt, ℤ, pos}
+use Rattle.std.specs.List.{Contains, list_all, list_any, filter, filter_map, flat_map}
 use Rattle.std.specs.Cmp.Lexicographic.{slice_cmp}
 use Rattle.std.specs.declared.cmp.Ordering.{Ordering}
 use Rattle.scad_geom.specs.Sign.{is_zero}
@@ -11,9 +11,10 @@ use Rattle.scad_hull.specs.declared.fault.HullFault.{HullFault}
 use Rattle.scad_hull.specs.declared.fault.HullFault.TheVariants.{Points}
 use Rattle.scad_hull.specs.declared.turning.Normal.{Normal}
 use Rattle.scad_hull.specs.Chain.{ring_round}
+use Rattle.scad_hull.specs.Ring.{IsConvexRing}
 use Rattle.scad_hull.specs.Distinct.{distinct}
 use Rattle.scad_hull.specs.Flat.{point_count_limit}
-use Rattle.scad_hull.specs.Space.{space_cmp, normal_of, depth_of, inner, is_none, face_left}
+use Rattle.scad_hull.specs.Space.{space_cmp, IsSpaceBefore, normal_of, depth_of, inner, dot_of, square_of, is_none, face_left}
 
 -- the points in the plane through a with this normal
 abbrev pub in_plane : List Pt3 → Pt3 → Normal → List Pt3
@@ -34,6 +35,31 @@ face_through ps t = face_by ps t.0 (normal_of t.0 t.1 t.2)
 -- all choices of three points
 abbrev pub triples : List Pt3 → List (Pt3 × Pt3 × Pt3)
 triples ps = flat_map (λ a. flat_map (λ b. map (λ c. (a, b, c)) ps) ps) ps
+
+-- the plane through a with an inward normal is that of a face: three of the points in it don't lie on one line, and none of all lies outside of it
+pub record IsFacePlane (ps : List Pt3) (a : Pt3) (n : Normal) : Type 0 where
+  pub some : pos 0 <ℤ square_of n
+  pub inward : All (λ p. pos 0 ≤ℤ depth_of n a p) ps
+  pub first : Pt3
+  pub second : Pt3
+  pub third : Pt3
+  pub has_first : Contains ps first
+  pub has_second : Contains ps second
+  pub has_third : Contains ps third
+  pub flat_first : depth_of n a first ≡ pos 0
+  pub flat_second : depth_of n a second ≡ pos 0
+  pub flat_third : depth_of n a third ≡ pos 0
+  pub round : pos 0 <ℤ dot_of n (normal_of first second third)
+
+-- a face of points: there is a plane with none of them outside, and the face is the convex ring round those in it. It has three or more of
+-- them as its corners, holds all of them, goes clockwise as seen from outside, none of its corners lies on the line through its neighbours,
+-- and it starts with its least corner by z, y, x.
+pub record IsFace (ps face : List Pt3) : Type 0 where
+  pub base : Pt3
+  pub normal : Normal
+  pub some : pos 0 <ℤ square_of normal
+  pub inward : All (λ p. pos 0 ≤ℤ depth_of normal base p) ps
+  pub ring : IsConvexRing (face_left normal) IsSpaceBefore (in_plane ps base normal) face
 
 -- the order of faces by their lists of points
 abbrev pub face_cmp : List Pt3 → List Pt3 → Ordering

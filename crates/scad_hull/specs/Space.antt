@@ -2,6 +2,7 @@
 use Rattle.std.specs.Prelude.{◌≡◌, ◌⊎◌, ℕ, ◌^◌, ◌≤◌, ◌<◌, ◌≤ℤ◌, slice_index_or, List, All, Bool, if◌then◌else◌, int_lt, ℤ, pos, ◌+ℤ◌, ◌-ℤ◌, ◌*ℤ◌, ◌<ℤ◌, unsigned_abs, ◌&&◌}
 use Rattle.std.specs.Ordering.{int_cmp, ordering_then}
 use Rattle.std.specs.declared.cmp.Ordering.{Ordering}
+use Rattle.std.specs.declared.cmp.Ordering.TheVariants.{Less}
 use Rattle.scad_geom.specs.Sign.{is_zero}
 use Rattle.scad_geom.specs.declared.point3.Pt3.{Pt3}
 use Rattle.scad_hull.specs.declared.turning.Normal.{Normal}
@@ -10,6 +11,10 @@ use Rattle.scad_hull.specs.Plane.{left, IsOnward}
 -- the order by z, then y, then x
 abbrev pub space_cmp : Pt3 → Pt3 → Ordering
 space_cmp p q = ordering_then (int_cmp p.z q.z) (ordering_then (int_cmp p.y q.y) (int_cmp p.x q.x))
+
+-- p comes before q in that order
+abbrev pub IsSpaceBefore : Pt3 → Pt3 → Type 0
+IsSpaceBefore p q = space_cmp p q ≡ Less
 
 -- the cross product of the ways from a to b and to c
 abbrev pub normal_of : Pt3 → Pt3 → Pt3 → Normal
@@ -26,6 +31,12 @@ depth_of n a p = n.x *ℤ (p.x -ℤ a.x) +ℤ (n.y *ℤ (p.y -ℤ a.y) +ℤ n.z 
 -- above 0 where p lies on the inner side of the plane through a, b and c, which run clockwise as seen from outside
 abbrev pub inner : Pt3 → Pt3 → Pt3 → Pt3 → ℤ
 inner a b c p = depth_of (normal_of a b c) a p
+
+abbrev pub dot_of : Normal → Normal → ℤ
+dot_of n m = n.x *ℤ m.x +ℤ (n.y *ℤ m.y +ℤ n.z *ℤ m.z)
+
+abbrev pub square_of : Normal → ℤ
+square_of n = dot_of n n
 
 -- a normal without a direction: the points that gave it lie on one line
 abbrev pub is_none : Normal → Bool
