@@ -135,14 +135,14 @@ all_inside n a (p ∷ ps) e = by_tests (int_lt (depth_of n a p) (pos 0)) refl (l
     by_tests true f c g h = cc
 
 -- ---- the plane through three points
-second_in : (a b c : Pt3) → depth_of (normal_of a b c) a b ≡ pos 0
+pub second_in : (a b c : Pt3) → depth_of (normal_of a b c) a b ≡ pos 0
 second_in a b c =
     ring (a.x ∷ a.y ∷ a.z ∷ b.x ∷ b.y ∷ b.z ∷ c.x ∷ c.y ∷ c.z ∷ [])
     (((var 4 ⊖ var 1) ⊗ (var 8 ⊖ var 2) ⊖ (var 5 ⊖ var 2) ⊗ (var 7 ⊖ var 1)) ⊗ (var 3 ⊖ var 0)
     ⊕ (((var 5 ⊖ var 2) ⊗ (var 6 ⊖ var 0) ⊖ (var 3 ⊖ var 0) ⊗ (var 8 ⊖ var 2)) ⊗ (var 4 ⊖ var 1)
     ⊕ ((var 3 ⊖ var 0) ⊗ (var 7 ⊖ var 1) ⊖ (var 4 ⊖ var 1) ⊗ (var 6 ⊖ var 0)) ⊗ (var 5 ⊖ var 2))) (num (pos 0)) refl
 
-third_in : (a b c : Pt3) → depth_of (normal_of a b c) a c ≡ pos 0
+pub third_in : (a b c : Pt3) → depth_of (normal_of a b c) a c ≡ pos 0
 third_in a b c =
     ring (a.x ∷ a.y ∷ a.z ∷ b.x ∷ b.y ∷ b.z ∷ c.x ∷ c.y ∷ c.z ∷ [])
     (((var 4 ⊖ var 1) ⊗ (var 8 ⊖ var 2) ⊖ (var 5 ⊖ var 2) ⊗ (var 7 ⊖ var 1)) ⊗ (var 6 ⊖ var 0)

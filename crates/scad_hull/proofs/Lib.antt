@@ -21,6 +21,7 @@ pub mod NextPlanes
 pub mod PlaneRings
 pub mod SamePlanes
 pub mod FacePlanes
+pub mod FoundPlanes
 pub mod Listed
 pub mod FaceExamples
 pub mod Examples

@@ -3,6 +3,7 @@ use Rattle.std.proofs.Common.{◌≡◌, ◌⊎◌, inl, inr, ℕ, ◌<◌, List
 use lib.IntN.{ℤ, pos, ◌+ℤ◌, ◌-ℤ◌, ◌*ℤ◌}
 use lib.Signed.{◌<ℤ◌, ◌≤ℤ◌}
 use Rattle.std.specs.Prelude.{All, slice_index_or}
+use Rattle.std.specs.List.{Contains}
 use Rattle.std.proofs.lemmas.Int.{ints, by_lt_z}
 use Rattle.scad_geom.specs.declared.point3.Pt3.{Pt3}
 use Rattle.scad_geom.proofs.Ring.{Term, ring, num, var, ◌⊕◌, ◌⊖◌, ◌⊗◌}
@@ -24,7 +25,7 @@ no_product k z t e f = sym f ∙ ap (λ (s : ℤ). k *ℤ s) e ∙ ring (k ∷ [
 negated : (s t : ℤ) → s ≡ pos 0 -ℤ t → t ≡ pos 0 → s ≡ pos 0
 negated s t e h = omega (arith, ints)
 
-itself_in : (n : Normal) (a : Pt3) → depth_of n a a ≡ pos 0
+pub itself_in : (n : Normal) (a : Pt3) → depth_of n a a ≡ pos 0
 itself_in n a =
     ring (n.x ∷ n.y ∷ n.z ∷ a.x ∷ a.y ∷ a.z ∷ [])
     (var 0 ⊗ (var 3 ⊖ var 3) ⊕ (var 1 ⊗ (var 4 ⊖ var 4) ⊕ var 2 ⊗ (var 5 ⊖ var 5))) (num (pos 0)) refl
@@ -104,8 +105,9 @@ module _ (n : Normal) (some : pos 0 <ℤ square_of n) (a b : Pt3) (flat : depth_
   -- at a side from a to b, with another corner c
   pub turned_at_side : (ps : List Pt3) → All (λ p. pos 0 ≤ℤ depth_of n a p) ps
       → All (λ p. depth_of n a p ≡ pos 0 → pos 0 ≤ℤ face_left n a b p) ps
-      → (c : Pt3) → depth_of n a c ≡ pos 0 → pos 0 <ℤ face_left n a b c → IsTurned b a ps (normal_of b a c) 0
-  turned_at_side ps inside left c e h = record {
+      → (c : Pt3) → Contains ps c → depth_of n a c ≡ pos 0 → pos 0 <ℤ face_left n a b c
+      → IsTurned b a ps (normal_of b a c) 0
+  turned_at_side ps inside left c there e h = record {
     known = n;
     facing = record {
       upright = moved a ∙ itself_in n a;
@@ -114,6 +116,7 @@ module _ (n : Normal) (some : pos 0 <ℤ square_of n) (a b : Pt3) (flat : depth_
     };
     met = c;
     is = refl;
+    there = there;
     front = front c e h;
     inward = λ k d i. absurd (nothing_before k i);
   }
@@ -121,8 +124,8 @@ module _ (n : Normal) (some : pos 0 <ℤ square_of n) (a b : Pt3) (flat : depth_
   -- about the line that has all points of the plane
   pub turned_at_line : (ps : List Pt3) → All (λ p. pos 0 ≤ℤ depth_of n a p) ps
       → All (λ p. depth_of n a p ≡ pos 0 → IsOnLine a b p) ps
-      → (c : Pt3) → pos 0 <ℤ depth_of n a c → IsTurned a b ps (normal_of a b c) 0
-  turned_at_line ps inside line c h = record {
+      → (c : Pt3) → Contains ps c → pos 0 <ℤ depth_of n a c → IsTurned a b ps (normal_of a b c) 0
+  turned_at_line ps inside line c there h = record {
     known = n;
     facing = record {
       upright = flat;
@@ -132,6 +135,7 @@ module _ (n : Normal) (some : pos 0 <ℤ square_of n) (a b : Pt3) (flat : depth_
     };
     met = c;
     is = refl;
+    there = there;
     front = inl h;
     inward = λ k d i. absurd (nothing_before k i);
   }
@@ -188,9 +192,9 @@ module _ (a : Pt3) where
   above_level p (inr (ez, inr ey)) = inl (in_line p ez ey)
 
   -- about the x direction through the least point, with a point c off that line
-  pub turned_at_least : (ps : List Pt3) → All (IsNotLower a) ps → (c : Pt3) → IsNotLower a c → (IsOnLine a (beside a) c → ⊥)
-      → IsTurned a (beside a) ps (normal_of a (beside a) c) 0
-  turned_at_least ps lowest c hc off = record {
+  pub turned_at_least : (ps : List Pt3) → All (IsNotLower a) ps → (c : Pt3) → Contains ps c → IsNotLower a c
+      → (IsOnLine a (beside a) c → ⊥) → IsTurned a (beside a) ps (normal_of a (beside a) c) 0
+  turned_at_least ps lowest c there hc off = record {
     known = upwards;
     facing = record {
       upright = height_is (beside a) ∙ same_height a.z a.z refl;
@@ -199,6 +203,7 @@ module _ (a : Pt3) where
     };
     met = c;
     is = refl;
+    there = there;
     front = off_line (above_level c hc);
     inward = λ k d i. absurd (nothing_before k i);
   }

@@ -90,6 +90,7 @@ module _ (a b : Pt3) where
       facing = t.facing;
       met = t.met;
       is = t.is;
+      there = t.there;
       front = t.front;
       inward = λ k d h. last_or_before k i h (λ l. t.inward k d l)
         (λ same. subst (λ r. pos 0 ≤ℤ depth_of n a r) (sym (ap (λ j. get_or ps j d) same ∙ is d)) (not_below (depth_of n a p) e));
@@ -101,6 +102,7 @@ module _ (a b : Pt3) where
       facing = t.facing;
       met = p;
       is = refl;
+      there = (i, inside, is p);
       front = ahead;
       inward = λ k d h. last_or_before k i h (λ l. earlier k d l)
         (λ same. subst (λ r. pos 0 ≤ℤ volume_on p r) (sym (ap (λ j. get_or ps j d) same ∙ is d)) (itself p));

@@ -1,5 +1,6 @@
 -- Planes through points of space, and on which side of them points lie.
 use Rattle.std.specs.Prelude.{◌≡◌, ◌⊎◌, ℕ, ◌^◌, ◌≤◌, ◌<◌, ◌≤ℤ◌, slice_index_or, List, All, Bool, if◌then◌else◌, int_lt, ℤ, pos, ◌+ℤ◌, ◌-ℤ◌, ◌*ℤ◌, ◌<ℤ◌, unsigned_abs, ◌&&◌}
+use Rattle.std.specs.List.{Contains}
 use Rattle.std.specs.Ordering.{int_cmp, ordering_then}
 use Rattle.std.specs.declared.cmp.Ordering.{Ordering}
 use Rattle.std.specs.declared.cmp.Ordering.TheVariants.{Less}
@@ -51,16 +52,24 @@ y_of p = p.y
 abbrev z_of : Pt3 → ℤ
 z_of p = p.z
 
--- of points in a plane with this inward normal, seen from outside: above 0 where r lies to the right of the way from p to q. It is read off two
--- coordinates, so that the third is not needed to tell the points apart.
+-- the turns in a level plane, by its inward normal
+abbrev pub level_left : Normal → Pt3 → Pt3 → Pt3 → ℤ
+level_left n = if int_lt (pos 0) n.z then left x_of y_of else left y_of x_of
+
+-- the turns in a plane along the x direction
+abbrev pub across_left : Normal → Pt3 → Pt3 → Pt3 → ℤ
+across_left n =
+    if int_lt (pos 0) n.y then left z_of x_of
+    else (if int_lt n.y (pos 0) then left x_of z_of
+    else level_left n)
+
+-- of points in a plane with this inward normal, seen from outside: above 0 where r lies to the right of the way from p
+-- to q. It is read off two coordinates, so that the third is not needed to tell the points apart.
 abbrev pub face_left : Normal → Pt3 → Pt3 → Pt3 → ℤ
 face_left n =
     if int_lt (pos 0) n.x then left y_of z_of
     else (if int_lt n.x (pos 0) then left z_of y_of
-    else (if int_lt (pos 0) n.y then left z_of x_of
-    else (if int_lt n.y (pos 0) then left x_of z_of
-    else (if int_lt (pos 0) n.z then left x_of y_of
-    else left y_of x_of))))
+    else across_left n)
 
 -- all three numbers are at most 2^20 in size
 pub record IsSmall (p : Pt3) : Type 0 where
@@ -91,11 +100,12 @@ pub record IsFacing (known : Normal) (a b : Pt3) (ps : List Pt3) : Type 0 where
   pub some : pos 0 <ℤ (known.x *ℤ known.x +ℤ (known.y *ℤ known.y +ℤ known.z *ℤ known.z))
   pub front : All (λ p. IsOnLine a b p ⊎ IsInFront known a b p) ps
 
--- of the first i points none lies outside of the plane through a, b and one in front
+-- of the first i points none lies outside of the plane through a, b and one of the points in front
 pub record IsTurned (a b : Pt3) (ps : List Pt3) (n : Normal) (i : ℕ) : Type 0 where
   pub known : Normal
   pub facing : IsFacing known a b ps
   pub met : Pt3
   pub is : n ≡ normal_of a b met
+  pub there : Contains ps met
   pub front : IsInFront known a b met
   pub inward : (k : ℕ) (d : Pt3) → k < i → pos 0 ≤ℤ depth_of n a (slice_index_or ps k d)
