@@ -61,11 +61,12 @@ all_flat_mapped P f (x ∷ xs) h = all_joined P (f x) (flat_map f xs) h.0 (all_f
 pub all_picked : {X Y : Type 0} (P : Y → Type 0) (f : X → Option Y) (xs : List X)
     → AllByRecursion (λ x. (y : Y) → f x ≡ Some y → P y) xs → AllByRecursion P (filter_map f xs)
 all_picked P f [] h = tt
-all_picked {X} {Y} P f (x ∷ xs) h = by_answer (f x) refl
+all_picked {Y = Y} P f (x ∷ xs) h = by_answer (all_picked P f xs h.1) (f x) refl
   where
-    by_answer : (o : Option Y) → f x ≡ o → AllByRecursion P (cons_option o (filter_map f xs))
-    by_answer None e = all_picked P f xs h.1
-    by_answer (Some y) e = (h.0 y e, all_picked P f xs h.1)
+    by_answer : AllByRecursion P (filter_map f xs) → (o : Option Y) → f x ≡ o
+        → AllByRecursion P (cons_option o (filter_map f xs))
+    by_answer rest None e = rest
+    by_answer rest (Some y) e = (h.0 y e, rest)
 
 abbrev pub AreIn : List Pt3 → Pt3 × Pt3 × Pt3 → Type 0
 AreIn ps t = Contains ps t.0 × Contains ps t.1 × Contains ps t.2
@@ -82,57 +83,63 @@ all_triples ps =
 is_told : (z : ℤ) → z ≡ pos 0 → is_zero z ≡ true
 is_told z e = ap is_zero e
 
-pub normal_some : (n : Normal) → is_none n ≡ false → pos 0 <ℤ square_of n
-normal_some n e = by_lt_z (pos 0) (square_of n) (λ h. h) (λ h. absurd (clash h))
+first_square : (a b c : ℤ) → pos 0 ≤ℤ a → pos 0 ≤ℤ b → pos 0 ≤ℤ c → (a +ℤ (b +ℤ c)) ≤ℤ pos 0 → a ≡ pos 0
+first_square a b c ha hb hc h = omega (arith, ints)
+
+second_square : (a b c : ℤ) → pos 0 ≤ℤ a → pos 0 ≤ℤ b → pos 0 ≤ℤ c → (a +ℤ (b +ℤ c)) ≤ℤ pos 0 → b ≡ pos 0
+second_square a b c ha hb hc h = omega (arith, ints)
+
+third_square : (a b c : ℤ) → pos 0 ≤ℤ a → pos 0 ≤ℤ b → pos 0 ≤ℤ c → (a +ℤ (b +ℤ c)) ≤ℤ pos 0 → c ≡ pos 0
+third_square a b c ha hb hc h = omega (arith, ints)
+
+root : (z : ℤ) → z *ℤ z ≡ pos 0 → z ≡ pos 0
+root z h = by_lt_z (pos 0) z (λ k. nought_right z z h (λ f. up z k f))
+    (λ k. by_lt_z z (pos 0) (λ l. nought_right z z h (λ f. low z l f)) (λ l. none z k l))
   where
-    first : (a b c : ℤ) → pos 0 ≤ℤ a → pos 0 ≤ℤ b → pos 0 ≤ℤ c → (a +ℤ (b +ℤ c)) ≤ℤ pos 0 → a ≡ pos 0
-    first a b c ha hb hc h = omega (arith, ints)
+    up : (z : ℤ) → pos 0 <ℤ z → z ≡ pos 0 → ⊥
+    up z h e = omega (arith, ints)
 
-    second : (a b c : ℤ) → pos 0 ≤ℤ a → pos 0 ≤ℤ b → pos 0 ≤ℤ c → (a +ℤ (b +ℤ c)) ≤ℤ pos 0 → b ≡ pos 0
-    second a b c ha hb hc h = omega (arith, ints)
+    low : (z : ℤ) → z <ℤ pos 0 → z ≡ pos 0 → ⊥
+    low z h e = omega (arith, ints)
 
-    third : (a b c : ℤ) → pos 0 ≤ℤ a → pos 0 ≤ℤ b → pos 0 ≤ℤ c → (a +ℤ (b +ℤ c)) ≤ℤ pos 0 → c ≡ pos 0
-    third a b c ha hb hc h = omega (arith, ints)
+    none : (z : ℤ) → z ≤ℤ pos 0 → pos 0 ≤ℤ z → z ≡ pos 0
+    none z h k = omega (arith, ints)
 
-    root : (z : ℤ) → z *ℤ z ≡ pos 0 → z ≡ pos 0
-    root z h = by_lt_z (pos 0) z (λ k. nought_right z z h (λ f. up z k f))
-        (λ k. by_lt_z z (pos 0) (λ l. nought_right z z h (λ f. low z l f)) (λ l. none z k l))
-      where
-        up : (z : ℤ) → pos 0 <ℤ z → z ≡ pos 0 → ⊥
-        up z h e = omega (arith, ints)
+-- squares whose sum isn't above 0
+pub no_squares : (x y z : ℤ) → (x *ℤ x +ℤ (y *ℤ y +ℤ z *ℤ z)) ≤ℤ pos 0 → (x ≡ pos 0) × (y ≡ pos 0) × (z ≡ pos 0)
+no_squares x y z h =
+    let a = square_at_least x in
+    let b = square_at_least y in
+    let c = square_at_least z in
+    (root x (first_square (x *ℤ x) (y *ℤ y) (z *ℤ z) a b c h), root y (second_square (x *ℤ x) (y *ℤ y) (z *ℤ z) a b c h),
+    root z (third_square (x *ℤ x) (y *ℤ y) (z *ℤ z) a b c h))
 
-        low : (z : ℤ) → z <ℤ pos 0 → z ≡ pos 0 → ⊥
-        low z h e = omega (arith, ints)
+pub normal_some : (n : Normal) → is_none n ≡ false → pos 0 <ℤ square_of n
+normal_some n e = by_lt_z (pos 0) (square_of n) (λ h. h) (λ h. absurd (clash (no_squares n.x n.y n.z h)))
+  where
+    told_apart : true ≡ false → ⊥
+    told_apart e = cc
 
-        none : (z : ℤ) → z ≤ℤ pos 0 → pos 0 ≤ℤ z → z ≡ pos 0
-        none z h k = omega (arith, ints)
-
-    clash : square_of n ≤ℤ pos 0 → ⊥
-    clash h =
-        let a = square_at_least n.x in
-        let b = square_at_least n.y in
-        let c = square_at_least n.z in
-        told_apart (sym (ap₂ (λ s t. s && t) (is_told n.x (root n.x (first (n.x *ℤ n.x) (n.y *ℤ n.y) (n.z *ℤ n.z) a b c h)))
-        (ap₂ (λ s t. s && t) (is_told n.y (root n.y (second (n.x *ℤ n.x) (n.y *ℤ n.y) (n.z *ℤ n.z) a b c h)))
-        (is_told n.z (root n.z (third (n.x *ℤ n.x) (n.y *ℤ n.y) (n.z *ℤ n.z) a b c h))))) ∙ e)
-      where
-        told_apart : true ≡ false → ⊥
-        told_apart e = cc
+    clash : (n.x ≡ pos 0) × (n.y ≡ pos 0) × (n.z ≡ pos 0) → ⊥
+    clash h = told_apart (sym (ap₂ (λ s t. s && t) (is_told n.x h.0)
+        (ap₂ (λ s t. s && t) (is_told n.y h.1) (is_told n.z h.2))) ∙ e)
 
 pub all_inside : (n : Normal) (a : Pt3) (ps : List Pt3) → list_any (λ p. int_lt (depth_of n a p) (pos 0)) ps ≡ false
     → AllByRecursion (λ p. pos 0 ≤ℤ depth_of n a p) ps
 all_inside n a [] e = tt
-all_inside n a (p ∷ ps) e = by_tests (int_lt (depth_of n a p) (pos 0)) refl (list_any (λ p. int_lt (depth_of n a p) (pos 0)) ps) refl e
+all_inside n a (p ∷ ps) e =
+    by_tests (all_inside n a ps) (int_lt (depth_of n a p) (pos 0)) refl (list_any (λ q. int_lt (depth_of n a q) (pos 0)) ps) refl e
   where
     not_below : (z : ℤ) → int_lt z (pos 0) ≡ false → pos 0 ≤ℤ z
     not_below z h = omega (arith, ints)
 
-    by_tests : (b : Bool) → int_lt (depth_of n a p) (pos 0) ≡ b → (c : Bool)
-        → list_any (λ p. int_lt (depth_of n a p) (pos 0)) ps ≡ c → (b || c) ≡ false
+    by_tests : (list_any (λ q. int_lt (depth_of n a q) (pos 0)) ps ≡ false → AllByRecursion (λ q. pos 0 ≤ℤ depth_of n a q) ps)
+        → (b : Bool) → int_lt (depth_of n a p) (pos 0) ≡ b → (c : Bool)
+        → list_any (λ q. int_lt (depth_of n a q) (pos 0)) ps ≡ c → (b || c) ≡ false
         → (pos 0 ≤ℤ depth_of n a p) × AllByRecursion (λ q. pos 0 ≤ℤ depth_of n a q) ps
-    by_tests false f false g h = (not_below (depth_of n a p) f, all_inside n a ps g)
-    by_tests false f true g h = cc
-    by_tests true f c g h = cc
+    by_tests rest false f false g h = (not_below (depth_of n a p) f, rest g)
+    by_tests rest false f true g h = cc
+    by_tests rest true f c g h = cc
 
 -- ---- the plane through three points
 pub second_in : (a b c : Pt3) → depth_of (normal_of a b c) a b ≡ pos 0
@@ -149,7 +156,7 @@ third_in a b c =
     ⊕ (((var 5 ⊖ var 2) ⊗ (var 6 ⊖ var 0) ⊖ (var 3 ⊖ var 0) ⊗ (var 8 ⊖ var 2)) ⊗ (var 7 ⊖ var 1)
     ⊕ ((var 3 ⊖ var 0) ⊗ (var 7 ⊖ var 1) ⊖ (var 4 ⊖ var 1) ⊗ (var 6 ⊖ var 0)) ⊗ (var 8 ⊖ var 2))) (num (pos 0)) refl
 
-inner_of : {X : Type 0} → X → Option X → X
+abbrev inner_of : {X : Type 0} → X → Option X → X
 inner_of d None = d
 inner_of d (Some x) = x
 

@@ -22,6 +22,10 @@ pub mod PlaneRings
 pub mod SamePlanes
 pub mod FacePlanes
 pub mod FoundPlanes
+pub mod Rounds
+pub mod Beyond
+pub mod Between
+pub mod SharedSides
 pub mod Listed
 pub mod FaceExamples
 pub mod Examples

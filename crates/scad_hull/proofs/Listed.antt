@@ -15,6 +15,8 @@ use Rattle.scad_hull.specs.Laws.{FacesAreConvex}
 use Rattle.scad_hull.proofs.Distincts.{distinct_had, distinct_sorted}
 use Rattle.scad_hull.proofs.FacePlanes.{space_total, space_exact, faces_are}
 use Rattle.scad_hull.proofs.FoundPlanes.{plane_found}
+use Rattle.scad_hull.proofs.SharedSides.{shared_side}
+use Rattle.scad_hull.proofs.Between.{side_in}
 use Rattle.scad_hull.proofs.SamePlanes.{face_found}
 use Rattle.scad_hull.proofs.Whole.{recursion_of}
 
@@ -43,7 +45,7 @@ of_flat_mapped P f (x ∷ xs) h = let both = parted P (f x) (flat_map f xs) h in
 of_picked : {X Y : Type 0} (P : Y → Type 0) (f : X → Option Y) (xs : List X) → AllByRecursion P (filter_map f xs)
     → AllByRecursion (λ x. (y : Y) → f x ≡ Some y → P y) xs
 of_picked P f [] h = tt
-of_picked {X} {Y} P f (x ∷ xs) h = by_answer (f x) refl h
+of_picked {Y = Y} P f (x ∷ xs) h = by_answer (of_picked P f xs) (f x) refl h
   where
     refused : (y : Y) → None ≡ Some y → ⊥
     refused y e = cc
@@ -52,10 +54,11 @@ of_picked {X} {Y} P f (x ∷ xs) h = by_answer (f x) refl h
     value d None = d
     value d (Some y) = y
 
-    by_answer : (o : Option Y) → f x ≡ o → AllByRecursion P (cons_option o (filter_map f xs))
+    by_answer : (AllByRecursion P (filter_map f xs) → AllByRecursion (λ z. (y : Y) → f z ≡ Some y → P y) xs)
+        → (o : Option Y) → f x ≡ o → AllByRecursion P (cons_option o (filter_map f xs))
         → ((y : Y) → f x ≡ Some y → P y) × AllByRecursion (λ x. (y : Y) → f x ≡ Some y → P y) xs
-    by_answer None e h = (λ y g. absurd (refused y (sym e ∙ g)), of_picked P f xs h)
-    by_answer (Some z) e h = (λ y g. subst P (ap (value z) (sym e ∙ g)) h.0, of_picked P f xs h.1)
+    by_answer rest None e h = (λ y g. absurd (refused y (sym e ∙ g)), rest h)
+    by_answer rest (Some z) e h = (λ y g. subst P (ap (value z) (sym e ∙ g)) h.0, rest h.1)
 
 module _ (ps : List Pt3) (P : Pt3 × Pt3 × Pt3 → Type 0) (a b c : Pt3) (ia : Contains ps a) (ib : Contains ps b) (ic : Contains ps c) where
   of_triples : AllByRecursion P (triples ps) → P (a, b, c)

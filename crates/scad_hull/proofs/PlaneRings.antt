@@ -31,12 +31,13 @@ told_apart e = cc
 pub told_of : {X : Type 0} (P : X → Type 0) (p : X → Bool) (xs : List X) → AllByRecursion P (filter p xs)
     → AllByRecursion (λ x. p x ≡ true → P x) xs
 told_of P p [] h = tt
-told_of P p (x ∷ xs) h = by_test (p x) refl h
+told_of P p (x ∷ xs) h = by_test (told_of P p xs) (p x) refl h
   where
-    by_test : (b : Bool) → p x ≡ b → AllByRecursion P (cond b (x ∷ filter p xs) (filter p xs))
+    by_test : (AllByRecursion P (filter p xs) → AllByRecursion (λ y. p y ≡ true → P y) xs) → (b : Bool) → p x ≡ b
+        → AllByRecursion P (cond b (x ∷ filter p xs) (filter p xs))
         → (p x ≡ true → P x) × AllByRecursion (λ y. p y ≡ true → P y) xs
-    by_test true e h = (λ t. h.0, told_of P p xs h.1)
-    by_test false e h = (λ t. absurd (told_apart (sym t ∙ e)), told_of P p xs h)
+    by_test rest true e h = (λ t. h.0, rest h.1)
+    by_test rest false e h = (λ t. absurd (told_apart (sym t ∙ e)), rest h)
 
 pub Contains-filter : {X : Type 0} (p : X → Bool) (xs : List X) (x : X) → Contains xs x → p x ≡ true → Contains (filter p xs) x
 Contains-filter p xs x there passes =

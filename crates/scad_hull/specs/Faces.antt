@@ -10,6 +10,7 @@ use Rattle.scad_solid.specs.Solid.{fans}
 use Rattle.scad_hull.specs.declared.fault.HullFault.{HullFault}
 use Rattle.scad_hull.specs.declared.fault.HullFault.TheVariants.{Points}
 use Rattle.scad_hull.specs.declared.turning.Normal.{Normal}
+use Rattle.scad_hull.specs.declared.faces.Face.{Face}
 use Rattle.scad_hull.specs.Chain.{ring_round}
 use Rattle.scad_hull.specs.Ring.{IsConvexRing}
 use Rattle.scad_hull.specs.Distinct.{distinct}
@@ -60,6 +61,25 @@ pub record IsFace (ps face : List Pt3) : Type 0 where
   pub some : pos 0 <ℤ square_of normal
   pub inward : All (λ p. pos 0 ≤ℤ depth_of normal base p) ps
   pub ring : IsConvexRing (face_left normal) IsSpaceBefore (in_plane ps base normal) face
+
+-- a face as its normal and its ring
+pub record IsFaceOf (ps : List Pt3) (f : Face) : Type 0 where
+  pub base : Pt3
+  pub plane : IsFacePlane ps base f.normal
+  pub ring : f.ring.items ≡ face_in ps base f.normal
+
+-- the way from a to b is a side of a face with the corner c: of the points in its plane none lies to the left of it, as seen from outside
+pub record IsSideOf (ps : List Pt3) (a b c : Pt3) : Type 0 where
+  pub normal : Normal
+  pub some : pos 0 <ℤ square_of normal
+  pub inward : All (λ p. pos 0 ≤ℤ depth_of normal a p) ps
+  pub left : All (λ p. depth_of normal a p ≡ pos 0 → pos 0 ≤ℤ face_left normal a b p) ps
+  pub flat : depth_of normal a b ≡ pos 0
+  pub flat_c : depth_of normal a c ≡ pos 0
+  pub turns : pos 0 <ℤ face_left normal a b c
+  pub has_a : Contains ps a
+  pub has_b : Contains ps b
+  pub has_c : Contains ps c
 
 -- the order of faces by their lists of points
 abbrev pub face_cmp : List Pt3 → List Pt3 → Ordering

@@ -1,4 +1,8 @@
 //! Wrapping points by faces: at each side of a face that has no other face yet, the plane is turned on to the next points.
+ghost use Rattle.std.specs.Prelude.{◌≡◌, ◌+◌, ◌≤◌, ◌<◌, All, IfOk, length, slice_index_or};
+ghost use Rattle.scad_hull.specs.Ring.{round};
+ghost use Rattle.scad_hull.specs.Space.{IsSmall};
+ghost use Rattle.scad_hull.specs.Faces.{IsSideOf, IsFaceOf};
 
 use crate::faces::{Face, face_in};
 use crate::first::first_face;
@@ -33,20 +37,44 @@ fn close(
     i: usize,
 ) -> Result<(), AllocError> {
     'sides: for j in 0..faces[i].ring.len() {
-        let [a, b, c] = corners(faces[i].ring.as_slice(), j);
+        let ring = faces[i].ring.as_slice();
+        let a = corner(ring, j);
+        let b = corner(ring, j + 1);
+        let c = corner(ring, j + 2);
         if !sides.contains(&Side { from: b, to: a }) {
-            let normal = outermost(points, b, a, c);
-            let face = face_in(alloc, points, b, normal)?;
+            let face = face_beyond(alloc, points, a, b, c)?;
             add(faces, sides, face)?;
         }
     }
     Ok(())
 }
 
-// The ends of side `j`, and the corner behind it.
-fn corners(ring: &[Pt3], j: usize) -> [Pt3; 3] {
+// The face beyond the side from `a` to `b` of a face with the corner `c`.
+#[tactic(auto, using(crate::proofs::Beyond::beyond))]
+fn face_beyond(
+    alloc: Global,
+    points: &[Pt3],
+    a: Pt3,
+    b: Pt3,
+    c: Pt3,
+) -> Result<Face, AllocError>
+    requires points { All IsSmall points.now }
+    requires side { IsSideOf points.now a b c }
+    ensures { IfOk result (IsFaceOf points.now) }
+{
+    let normal = outermost(points, b, a, c);
+    face_in(alloc, points, b, normal)
+}
+
+// Corner `j` of a ring, counted on to its second again.
+#[tactic(auto, using(crate::proofs::Rounds::corners))]
+fn corner(ring: &[Pt3], j: usize) -> Pt3
+    requires corners { 2 ≤ length ring.now }
+    requires inside { j < length ring.now + 2 }
+    ensures { result ≡ slice_index_or (round ring.now) j result }
+{
     let count = ring.len();
-    [ring[j], ring[(j + 1) % count], ring[(j + 2) % count]]
+    if j < count { ring[j] } else { ring[j - count] }
 }
 
 fn add(
@@ -56,8 +84,11 @@ fn add(
 ) -> Result<(), AllocError> {
     let ring = face.ring.as_slice();
     'corners: for j in 0..ring.len() {
-        let [a, b, _] = corners(ring, j);
-        if sides.insert(Side { from: a, to: b }).is_err() {
+        let side = Side {
+            from: corner(ring, j),
+            to: corner(ring, j + 1),
+        };
+        if sides.insert(side).is_err() {
             return Err(AllocError);
         }
     }
