@@ -43,7 +43,7 @@ module _ (ps : List Pt3) (a b c : Pt3) (side : IsSideOf ps a b c) where
   turned_round s t e = omega (arith, ints)
 
   -- a side has two ends
-  apart : pos 0 <ℤ way_square b a
+  pub apart : pos 0 <ℤ way_square b a
   apart = by_lt_z (pos 0) (way_square b a) (λ h. h) (λ h. absurd (one_point (no_squares (a.x -ℤ b.x) (a.y -ℤ b.y) (a.z -ℤ b.z) h)))
     where
       one_point : (a.x -ℤ b.x ≡ pos 0) × (a.y -ℤ b.y ≡ pos 0) × (a.z -ℤ b.z ≡ pos 0) → ⊥

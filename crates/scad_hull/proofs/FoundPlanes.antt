@@ -30,7 +30,7 @@ module _ (n : Normal) (a b p : Pt3) (upright : depth_of n a b ≡ pos 0) (apart 
   abbrev along : ℤ
   along = (b.x -ℤ a.x) *ℤ (p.x -ℤ a.x) +ℤ ((b.y -ℤ a.y) *ℤ (p.y -ℤ a.y) +ℤ (b.z -ℤ a.z) *ℤ (p.z -ℤ a.z))
 
-  height_by : way_square a b *ℤ depth_of n a p ≡ depth_of n a b *ℤ along
+  pub height_by : way_square a b *ℤ depth_of n a p ≡ depth_of n a b *ℤ along
       -ℤ ((n.y *ℤ (b.z -ℤ a.z) -ℤ n.z *ℤ (b.y -ℤ a.y)) *ℤ m.x
       +ℤ ((n.z *ℤ (b.x -ℤ a.x) -ℤ n.x *ℤ (b.z -ℤ a.z)) *ℤ m.y
       +ℤ (n.x *ℤ (b.y -ℤ a.y) -ℤ n.y *ℤ (b.x -ℤ a.x)) *ℤ m.z))
@@ -43,7 +43,7 @@ module _ (n : Normal) (a b p : Pt3) (upright : depth_of n a b ≡ pos 0) (apart 
       ⊖ dot (W (var 1) (var 5) (var 2) (var 4)) (W (var 2) (var 3) (var 0) (var 5)) (W (var 0) (var 4) (var 1) (var 3))
       (W (var 4) (var 8) (var 5) (var 7)) (W (var 5) (var 6) (var 3) (var 8)) (W (var 3) (var 7) (var 4) (var 6))) refl
 
-  aside_by : (n.z *ℤ (b.y -ℤ a.y) -ℤ n.y *ℤ (b.z -ℤ a.z)) *ℤ (p.x -ℤ a.x)
+  pub aside_by : (n.z *ℤ (b.y -ℤ a.y) -ℤ n.y *ℤ (b.z -ℤ a.z)) *ℤ (p.x -ℤ a.x)
       +ℤ ((n.x *ℤ (b.z -ℤ a.z) -ℤ n.z *ℤ (b.x -ℤ a.x)) *ℤ (p.y -ℤ a.y)
       +ℤ (n.y *ℤ (b.x -ℤ a.x) -ℤ n.x *ℤ (b.y -ℤ a.y)) *ℤ (p.z -ℤ a.z)) ≡ pos 0 -ℤ dot_of n m
   aside_by =

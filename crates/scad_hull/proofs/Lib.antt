@@ -26,6 +26,9 @@ pub mod Rounds
 pub mod Beyond
 pub mod Between
 pub mod SharedSides
+pub mod NextSides
+pub mod FacesOne
+pub mod SidesOf
 pub mod Listed
 pub mod FaceExamples
 pub mod Examples

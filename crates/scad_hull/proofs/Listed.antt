@@ -14,9 +14,8 @@ use Rattle.scad_hull.specs.Faces.{face_in, face_through, face_cmp, triples, face
 use Rattle.scad_hull.specs.Laws.{FacesAreConvex}
 use Rattle.scad_hull.proofs.Distincts.{distinct_had, distinct_sorted}
 use Rattle.scad_hull.proofs.FacePlanes.{space_total, space_exact, faces_are}
-use Rattle.scad_hull.proofs.FoundPlanes.{plane_found}
-use Rattle.scad_hull.proofs.SharedSides.{shared_side}
-use Rattle.scad_hull.proofs.Between.{side_in}
+use Rattle.scad_hull.proofs.NextSides.{side_beyond}
+use Rattle.scad_hull.proofs.FacesOne.{plane_of, only_ring}
 use Rattle.scad_hull.proofs.SamePlanes.{face_found}
 use Rattle.scad_hull.proofs.Whole.{recursion_of}
 
@@ -80,9 +79,15 @@ module _ (ps : List Pt3) where
       (recursion_of (Contains (faces_of ps)) (faces_of ps) (All-contains_itself (faces_of ps)))))
       (face_in ps a n) (face_found ps a n plane)
 
+module _ (ps : List Pt3) (sorted : IsStrictlySortedBy space_cmp ps) where
+  pub face_listed : (face : List Pt3) → IsFace ps face → Contains (faces_of ps) face
+  face_listed face h =
+      let plane = plane_of ps sorted h.base h.normal h.some h.inward face h.ring in
+      subst (Contains (faces_of ps)) (sym (only_ring ps sorted h.base h.normal plane face h.ring)) (ring_listed ps h.base h.normal plane)
+
 pub faces_are_convex : FacesAreConvex
 faces_are_convex = record {
   each = λ points. All-from_recursion (IsFace (distinct space_cmp points)) (faces_of (distinct space_cmp points))
       (faces_are (distinct space_cmp points) (distinct_sorted space_cmp space_total points));
-  listed = λ points a n plane. ring_listed (distinct space_cmp points) a n plane;
+  all = λ points face h. face_listed (distinct space_cmp points) (distinct_sorted space_cmp space_total points) face h;
 }

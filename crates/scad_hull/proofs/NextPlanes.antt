@@ -65,7 +65,7 @@ module _ (n : Normal) (some : pos 0 <ℤ square_of n) (a b : Pt3) (flat : depth_
       (num (pos 0) ⊖ ((var 2 ⊖ var 0) ⊗ (var 5 ⊖ var 1) ⊖ (var 3 ⊖ var 1) ⊗ (var 4 ⊖ var 0))) refl
 
   -- a point of the plane on neither side of the line lies on it
-  on_side : (p : Pt3) → depth_of n a p ≡ pos 0 → face_left n a b p ≡ pos 0 → IsOnLine b a p
+  pub on_side : (p : Pt3) → depth_of n a p ≡ pos 0 → face_left n a b p ≡ pos 0 → IsOnLine b a p
   on_side p e l =
       let v = seen n some in
       let none : dot_of n (normal_of a b p) ≡ pos 0 = nought_right v.scale (dot_of n (normal_of a b p))

@@ -66,13 +66,13 @@ no_normal n m =
     ⊕ (var 1 ⊗ ((var 5 ⊖ var 5) ⊗ (var 3 ⊖ var 3) ⊖ (var 3 ⊖ var 3) ⊗ (var 5 ⊖ var 5))
     ⊕ var 2 ⊗ ((var 3 ⊖ var 3) ⊗ (var 4 ⊖ var 4) ⊖ (var 4 ⊖ var 4) ⊗ (var 3 ⊖ var 3)))) (num (pos 0)) refl
 
-exchanged : (f g : Pt3 → ℤ) (p q r : Pt3) → left f g p q r ≡ pos 0 -ℤ left g f p q r
+pub exchanged : (f g : Pt3 → ℤ) (p q r : Pt3) → left f g p q r ≡ pos 0 -ℤ left g f p q r
 exchanged f g p q r =
     ring (f p ∷ g p ∷ f q ∷ g q ∷ f r ∷ g r ∷ [])
     ((var 2 ⊖ var 0) ⊗ (var 5 ⊖ var 1) ⊖ (var 3 ⊖ var 1) ⊗ (var 4 ⊖ var 0))
     (num (pos 0) ⊖ ((var 3 ⊖ var 1) ⊗ (var 4 ⊖ var 0) ⊖ (var 2 ⊖ var 0) ⊗ (var 5 ⊖ var 1))) refl
 
-other_zero : (s t : ℤ) → t ≡ pos 0 -ℤ s → s ≡ pos 0 → t ≡ pos 0
+pub other_zero : (s t : ℤ) → t ≡ pos 0 -ℤ s → s ≡ pos 0 → t ≡ pos 0
 other_zero s t e h = omega (arith, ints)
 
 module _ (ps : List Pt3) (sorted : IsStrictlySortedBy space_cmp ps) (a : Pt3) (n : Normal) (some : pos 0 <ℤ square_of n) where

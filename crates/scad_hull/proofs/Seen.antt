@@ -155,10 +155,17 @@ pub record IsSeenBy (n : Normal) (turn : Pt3 → Pt3 → Pt3 → ℤ) : Type 0 w
   pub there : IsPlane turn (IsBefore f g) (Same f g)
   pub back : IsPlane turn (IsAfter f g) (Same f g)
   pub ordered : (p q : Pt3) → depth_of n p q ≡ pos 0 → space_cmp p q ≡ Less → IsBefore f g p q
+  pub exact : (p q : Pt3) → depth_of n p q ≡ pos 0 → Same f g p q → p ≡ q
+  pub along : (a b q : Pt3) (w t : ℤ) → w *ℤ (q.x -ℤ a.x) ≡ t *ℤ (b.x -ℤ a.x) → w *ℤ (q.y -ℤ a.y) ≡ t *ℤ (b.y -ℤ a.y)
+      → w *ℤ (q.z -ℤ a.z) ≡ t *ℤ (b.z -ℤ a.z)
+      → (w *ℤ (f q -ℤ f a) ≡ t *ℤ (f b -ℤ f a)) × (w *ℤ (g q -ℤ g a) ≡ t *ℤ (g b -ℤ g a))
   pub scale : ℤ
   pub positive : pos 0 <ℤ scale
   pub scaled : (p q r : Pt3) → depth_of n p q ≡ pos 0 → depth_of n p r ≡ pos 0
       → scale *ℤ dot_of n (normal_of p q r) ≡ square_of n *ℤ turn p q r
+
+no_gap : (a b : ℤ) → b -ℤ a ≡ pos 0 → a ≡ b
+no_gap a b e = omega (arith, ints)
 
 -- turns, by the tests of a normal's signs
 abbrev pub turn_by : Bool → Bool → Bool → Bool → Bool → Pt3 → Pt3 → Pt3 → ℤ
@@ -200,6 +207,31 @@ module _ (n : Normal) where
       told_by (inr (ez, inl h)) = inl (rise p.y q.y h)
       told_by (inr (ez, inr (ey, h))) = inr (gone p.y q.y ey, rise p.x q.x h)
 
+  -- two coordinates tell the points of the plane apart
+  exact_x : (n.x ≡ pos 0 → ⊥) → (p q : Pt3) → depth_of n p q ≡ pos 0 → Same y_of z_of p q → p ≡ q
+  exact_x some p q flat s =
+      let x = no_gap p.x q.x (nought_right n.x (q.x -ℤ p.x)
+      (only_x n.x n.y n.z (q.x -ℤ p.x) (q.y -ℤ p.y) (q.z -ℤ p.z) flat (gone p.y q.y s.0) (gone p.z q.z s.1)) some) in
+      let y = s.0 in
+      let z = s.1 in
+      λ i. record { x = x i; y = y i; z = z i }
+
+  exact_y : n.x ≡ pos 0 → (n.y ≡ pos 0 → ⊥) → (p q : Pt3) → depth_of n p q ≡ pos 0 → Same x_of z_of p q → p ≡ q
+  exact_y none some p q flat s =
+      let y = no_gap p.y q.y (nought_right n.y (q.y -ℤ p.y)
+      (only_y n.x n.y n.z (q.x -ℤ p.x) (q.y -ℤ p.y) (q.z -ℤ p.z) flat none (gone p.z q.z s.1)) some) in
+      let x = s.0 in
+      let z = s.1 in
+      λ i. record { x = x i; y = y i; z = z i }
+
+  exact_z : n.x ≡ pos 0 → n.y ≡ pos 0 → (n.z ≡ pos 0 → ⊥) → (p q : Pt3) → depth_of n p q ≡ pos 0 → Same x_of y_of p q → p ≡ q
+  exact_z none nor some p q flat s =
+      let z = no_gap p.z q.z (nought_right n.z (q.z -ℤ p.z)
+      (only_z n.x n.y n.z (q.x -ℤ p.x) (q.y -ℤ p.y) (q.z -ℤ p.z) flat none nor) some) in
+      let x = s.0 in
+      let y = s.1 in
+      λ i. record { x = x i; y = y i; z = z i }
+
   above : (z : ℤ) → int_lt (pos 0) z ≡ true → z ≡ pos 0 → ⊥
   above z h e = omega (arith, ints)
 
@@ -239,27 +271,33 @@ module _ (n : Normal) where
       → IsSeenBy n (turn_by a b c d e)
   seen_by true b c d e h ea eb ec ed ee eh some = record {
     f = y_of; g = z_of; straight = inl refl; there = plane y_of z_of; back = turned_plane y_of z_of;
-    ordered = no_x (above n.x ea); scale = n.x; positive = told n.x ea; scaled = scaled_x;
+    ordered = no_x (above n.x ea);
+    exact = exact_x (above n.x ea); along = λ a b q w t ex ey ez. (ey, ez); scale = n.x; positive = told n.x ea; scaled = scaled_x;
   }
   seen_by false true c d e h ea eb ec ed ee eh some = record {
     f = y_of; g = z_of; straight = inr refl; there = mirrored y_of z_of; back = turned_mirrored y_of z_of;
-    ordered = no_x (below n.x eb); scale = pos 0 -ℤ n.x; positive = told_below n.x eb; scaled = scaled_off_x;
+    ordered = no_x (below n.x eb);
+    exact = exact_x (below n.x eb); along = λ a b q w t ex ey ez. (ey, ez); scale = pos 0 -ℤ n.x; positive = told_below n.x eb; scaled = scaled_off_x;
   }
   seen_by false false true d e h ea eb ec ed ee eh some = record {
     f = x_of; g = z_of; straight = inr refl; there = mirrored x_of z_of; back = turned_mirrored x_of z_of;
-    ordered = no_y (neither n.x ea eb) (above n.y ec); scale = n.y; positive = told n.y ec; scaled = scaled_y;
+    ordered = no_y (neither n.x ea eb) (above n.y ec);
+    exact = exact_y (neither n.x ea eb) (above n.y ec); along = λ a b q w t ex ey ez. (ex, ez); scale = n.y; positive = told n.y ec; scaled = scaled_y;
   }
   seen_by false false false true e h ea eb ec ed ee eh some = record {
     f = x_of; g = z_of; straight = inl refl; there = plane x_of z_of; back = turned_plane x_of z_of;
-    ordered = no_y (neither n.x ea eb) (below n.y ed); scale = pos 0 -ℤ n.y; positive = told_below n.y ed; scaled = scaled_off_y;
+    ordered = no_y (neither n.x ea eb) (below n.y ed);
+    exact = exact_y (neither n.x ea eb) (below n.y ed); along = λ a b q w t ex ey ez. (ex, ez); scale = pos 0 -ℤ n.y; positive = told_below n.y ed; scaled = scaled_off_y;
   }
   seen_by false false false false true h ea eb ec ed ee eh some = record {
     f = x_of; g = y_of; straight = inl refl; there = plane x_of y_of; back = turned_plane x_of y_of;
-    ordered = no_z (neither n.x ea eb) (neither n.y ec ed) (above n.z ee); scale = n.z; positive = told n.z ee; scaled = scaled_z;
+    ordered = no_z (neither n.x ea eb) (neither n.y ec ed) (above n.z ee);
+    exact = exact_z (neither n.x ea eb) (neither n.y ec ed) (above n.z ee); along = λ a b q w t ex ey ez. (ex, ey); scale = n.z; positive = told n.z ee; scaled = scaled_z;
   }
   seen_by false false false false false true ea eb ec ed ee eh some = record {
     f = x_of; g = y_of; straight = inr refl; there = mirrored x_of y_of; back = turned_mirrored x_of y_of;
-    ordered = no_z (neither n.x ea eb) (neither n.y ec ed) (below n.z eh); scale = pos 0 -ℤ n.z; positive = told_below n.z eh;
+    ordered = no_z (neither n.x ea eb) (neither n.y ec ed) (below n.z eh);
+    exact = exact_z (neither n.x ea eb) (neither n.y ec ed) (below n.z eh); along = λ a b q w t ex ey ez. (ex, ey); scale = pos 0 -ℤ n.z; positive = told_below n.z eh;
     scaled = scaled_off_z;
   }
   seen_by false false false false false false ea eb ec ed ee eh some =

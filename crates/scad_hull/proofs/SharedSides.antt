@@ -110,19 +110,19 @@ module _ {X : Type 0} (left : X → X → X → ℤ) where
   turn_behind x y [] t = tt
   turn_behind x y (z ∷ zs) t = t.1
 
-  turn_at : (before : List X) (z m c : X) (after : List X) → AllTurnLeft left (before ++ (z ∷ (m ∷ (c ∷ after))))
+  pub turn_at : (before : List X) (z m c : X) (after : List X) → AllTurnLeft left (before ++ (z ∷ (m ∷ (c ∷ after))))
       → pos 0 <ℤ left z m c
   turn_at [] z m c after t = t.0
   turn_at (x ∷ []) z m c after t = t.1.0
   turn_at (x ∷ (y ∷ bs)) z m c after t = turn_at (y ∷ bs) z m c after (turn_behind x y (bs ++ (z ∷ (m ∷ (c ∷ after)))) t)
 
-  first_at : (q : X) (before : List X) (z m c : X) (after : List X)
+  pub first_at : (q : X) (before : List X) (z m c : X) (after : List X)
       → IsRightOfNone left q (before ++ (z ∷ (m ∷ (c ∷ after)))) → pos 0 ≤ℤ left z m q
   first_at q [] z m c after r = r.0
   first_at q (x ∷ []) z m c after r = r.1.0
   first_at q (x ∷ (y ∷ bs)) z m c after r = first_at q (y ∷ bs) z m c after r.1
 
-  second_at : (q : X) (before : List X) (z m c : X) (after : List X)
+  pub second_at : (q : X) (before : List X) (z m c : X) (after : List X)
       → IsRightOfNone left q (before ++ (z ∷ (m ∷ (c ∷ after)))) → pos 0 ≤ℤ left m c q
   second_at q [] z m c after r = r.1.0
   second_at q (x ∷ []) z m c after r = r.1.1.0
@@ -132,7 +132,7 @@ module _ {X : Type 0} (left : X → X → X → ℤ) where
   abbrev pub AreInTurn : List X → X → X → X → Type 0
   AreInTurn way z m c = (before : List X) × (after : List X) × (way ≡ before ++ (z ∷ (m ∷ (c ∷ after))))
 
-all_behind : {X : Type 0} (P : X → Type 0) (xs ys : List X) → AllByRecursion P (xs ++ ys) → AllByRecursion P ys
+pub all_behind : {X : Type 0} (P : X → Type 0) (xs ys : List X) → AllByRecursion P (xs ++ ys) → AllByRecursion P ys
 all_behind P [] ys h = h
 all_behind P (x ∷ xs) ys h = all_behind P xs ys h.1
 
@@ -176,14 +176,14 @@ module _ {X : Type 0} (left : X → X → X → ℤ) (r0 r1 r2 : X) (rs : List X
   abbrev pub way : List X
   way = round (r0 ∷ (r1 ∷ (r2 ∷ rs)))
 
-  follow : (z m c : X) → AreInTurn left way z m c → (d : X) × AreInTurn left way m c d
+  pub follow : (z m c : X) → AreInTurn left way z m c → (d : X) × AreInTurn left way m c d
   follow z m c (before, [], e) =
       let same = last_two before z m c r0 r1 (r0 ∷ (r1 ∷ (r2 ∷ rs))) e in
       (r2, ([], rs ++ (r0 ∷ (r1 ∷ [])), ap₂ (λ x y. x ∷ (y ∷ (r2 ∷ (rs ++ (r0 ∷ (r1 ∷ [])))))) same.0 same.1))
   follow z m c (before, d ∷ after, e) =
       (d, (before ++ (z ∷ []), after, e ∙ sym (append_on before (z ∷ []) (m ∷ (c ∷ (d ∷ after))))))
 
-  precede : (z m c : X) → AreInTurn left way z m c → (w : X) × AreInTurn left way w z m
+  pub precede : (z m c : X) → AreInTurn left way z m c → (w : X) × AreInTurn left way w z m
   precede z m c ([], after, e) =
       let (front, f) = parted_last r1 (r2 ∷ rs) in
       (final r1 (r2 ∷ rs), (r0 ∷ front, [],

@@ -68,7 +68,8 @@ pub record IsFaceOf (ps : List Pt3) (f : Face) : Type 0 where
   pub plane : IsFacePlane ps base f.normal
   pub ring : f.ring.items ≡ face_in ps base f.normal
 
--- the way from a to b is a side of a face with the corner c: of the points in its plane none lies to the left of it, as seen from outside
+-- the way from a to b is a side of a face, the next goes on to c, and one comes before: of the points in its plane none
+-- lies outside of these sides
 pub record IsSideOf (ps : List Pt3) (a b c : Pt3) : Type 0 where
   pub normal : Normal
   pub some : pos 0 <ℤ square_of normal
@@ -77,6 +78,10 @@ pub record IsSideOf (ps : List Pt3) (a b c : Pt3) : Type 0 where
   pub flat : depth_of normal a b ≡ pos 0
   pub flat_c : depth_of normal a c ≡ pos 0
   pub turns : pos 0 <ℤ face_left normal a b c
+  pub left_behind : All (λ p. depth_of normal a p ≡ pos 0 → pos 0 ≤ℤ face_left normal b c p) ps
+  pub before : Pt3
+  pub left_before : All (λ p. depth_of normal a p ≡ pos 0 → pos 0 ≤ℤ face_left normal before a p) ps
+  pub turns_before : pos 0 <ℤ face_left normal before a b
   pub has_a : Contains ps a
   pub has_b : Contains ps b
   pub has_c : Contains ps c

@@ -7,12 +7,11 @@ use Rattle.scad_geom.specs.Loop.{sides}
 use Rattle.scad_geom.specs.Point.{Point}
 use Rattle.scad_geom.specs.Segment.{Segment, segments}
 use Rattle.scad_geom.specs.Winding.{side_by, wind}
-use Rattle.scad_hull.specs.declared.turning.Normal.{Normal}
 use Rattle.scad_hull.specs.Plane.{IsBefore}
 use Rattle.scad_hull.specs.Ring.{IsConvexRing}
 use Rattle.scad_hull.specs.Distinct.{distinct}
 use Rattle.scad_hull.specs.Space.{space_cmp}
-use Rattle.scad_hull.specs.Faces.{face_in, faces_of, IsFacePlane, IsFace}
+use Rattle.scad_hull.specs.Faces.{faces_of, IsFace}
 use Rattle.scad_hull.specs.Flat.{flat_cmp, flat_left, point_count_limit, ring_hull_of}
 
 -- p lies below q, or at its height to its left
@@ -53,8 +52,7 @@ pub record RingsHold : Type 0 where
       → All (λ s. IsOnLine q s → ⊥) (ring_sides ring)
       → (wind q (ring_sides ring) ≢ pos 0) ↔ All (IsLeftOf q) (ring_sides ring)
 
--- the listed faces of points of space are faces of them, and each plane that has a face has it among them
+-- the faces that are listed of points of space are the faces of them, and all of these
 pub record FacesAreConvex : Type 0 where
   pub each : (points : List Pt3) → All (IsFace (distinct space_cmp points)) (faces_of (distinct space_cmp points))
-  pub listed : (points : List Pt3) (a : Pt3) (n : Normal) → IsFacePlane (distinct space_cmp points) a n
-      → Contains (faces_of (distinct space_cmp points)) (face_in (distinct space_cmp points) a n)
+  pub all : (points face : List Pt3) → IsFace (distinct space_cmp points) face → Contains (faces_of (distinct space_cmp points)) face

@@ -23,8 +23,8 @@ pub fn rings_hold()
     ensures { RingsHold }
 {}
 
-/// The listed faces of points of space are the convex rings, clockwise as seen from outside, round all points of a
-/// plane that has no point outside of it, and each such plane with three points off a line has its ring among them.
+/// The listed faces of points of space are all the convex rings, clockwise as seen from outside, round all points of a
+/// plane that has no point outside of it, and nothing else.
 #[tactic(auto, using(crate::proofs::Listed::faces_are_convex))]
 pub fn faces_are_convex()
     ensures { FacesAreConvex }

@@ -1,7 +1,8 @@
 //! Wrapping points by faces: at each side of a face that has no other face yet, the plane is turned on to the next points.
 ghost use Rattle.std.specs.Prelude.{◌≡◌, ◌+◌, ◌≤◌, ◌<◌, All, IfOk, length, slice_index_or};
 ghost use Rattle.scad_hull.specs.Ring.{round};
-ghost use Rattle.scad_hull.specs.Space.{IsSmall};
+ghost use Rattle.std.specs.List.Sorted.{IsStrictlySortedBy};
+ghost use Rattle.scad_hull.specs.Space.{IsSmall, space_cmp};
 ghost use Rattle.scad_hull.specs.Faces.{IsSideOf, IsFaceOf};
 
 use crate::faces::{Face, face_in};
@@ -37,16 +38,36 @@ fn close(
     i: usize,
 ) -> Result<(), AllocError> {
     'sides: for j in 0..faces[i].ring.len() {
-        let ring = faces[i].ring.as_slice();
-        let a = corner(ring, j);
-        let b = corner(ring, j + 1);
-        let c = corner(ring, j + 2);
-        if !sides.contains(&Side { from: b, to: a }) {
-            let face = face_beyond(alloc, points, a, b, c)?;
+        if !has_back(sides, &faces[i], j) {
+            let face = face_at(alloc, points, &faces[i], j)?;
             add(faces, sides, face)?;
         }
     }
     Ok(())
+}
+
+// Whether side `j` of a face has a face behind it.
+fn has_back(sides: &BTreeSet<Side>, face: &Face, j: usize) -> bool {
+    let ring = face.ring.as_slice();
+    sides.contains(&Side {
+        from: corner(ring, j + 1),
+        to: corner(ring, j),
+    })
+}
+
+// The face beyond side `j` of a face.
+fn face_at(alloc: Global, points: &[Pt3], face: &Face, j: usize) -> Result<Face, AllocError>
+    requires points { All IsSmall points.now }
+    requires sorted { IsStrictlySortedBy space_cmp points.now }
+    requires face { IsFaceOf points.now face.now }
+    requires side { j < length face.now.ring.items }
+    ensures { IfOk result (IsFaceOf points.now) }
+{
+    let ring = face.ring.as_slice();
+    let a = corner(ring, j);
+    let b = corner(ring, j + 1);
+    let c = corner(ring, j + 2);
+    face_beyond(alloc, points, a, b, c)
 }
 
 // The face beyond the side from `a` to `b` of a face with the corner `c`.
