@@ -1,6 +1,7 @@
 //! The first face of a hull.
-ghost use Rattle.std.specs.Prelude.{All};
-ghost use Rattle.scad_hull.specs.Space.{IsSmall, IsNarrow};
+ghost use Rattle.std.specs.Prelude.{◌≡◌, All, Contains, IfSome, IfNone, true, false, pos, int_lt};
+ghost use Rattle.std.specs.List.{list_all, list_any};
+ghost use Rattle.scad_hull.specs.Space.{IsSmall, IsNarrow, depth_of, normal_of, is_none};
 
 use crate::faces::{Face, face_in, in_plane, is_off};
 use crate::turning::{Normal, depth, outermost};
@@ -43,10 +44,44 @@ fn first_normal(alloc: Global, points: &[Pt3], a: Pt3) -> Result<Option<Normal>,
     Ok(Some(outermost(points, a, d, e)))
 }
 
-fn off(points: &[Pt3], a: Pt3, b: Pt3) -> Option<Pt3> {
-    points.iter().copied().find(|p| is_off(a, b, *p))
+// The first point that doesn't lie on the line through two.
+fn off(points: &[Pt3], a: Pt3, b: Pt3) -> Option<Pt3>
+    requires points { All IsSmall points.now }
+    requires a { IsSmall a }
+    requires b { IsSmall b }
+    ensures some { IfSome result (λ p. Contains points.now p) }
+    ensures off { IfSome result (λ p. is_none (normal_of a b p) ≡ false) }
+    ensures none { IfNone result (list_all (λ p. is_none (normal_of a b p)) points.now ≡ true) }
+{
+    'points: for p in points {
+        if is_off(a, b, *p) {
+            return Some(*p);
+        }
+    }
+    None
 }
 
-fn has_inner(points: &[Pt3], a: Pt3, normal: &Normal) -> bool {
-    points.iter().any(|p| depth(normal, a, *p) > 0)
+// Whether a point lies on the inner side of the plane.
+fn has_inner(points: &[Pt3], a: Pt3, normal: &Normal) -> bool
+    requires points { All IsSmall points.now }
+    requires a { IsSmall a }
+    requires normal { IsNarrow normal.now }
+    ensures { result ≡ list_any (λ p. int_lt (pos 0) (depth_of normal.now a p)) points.now }
+{
+    'points: for p in points {
+        if is_inside(normal, a, *p) {
+            return true;
+        }
+    }
+    false
+}
+
+#[tactic(auto, using(scad_geom::proofs::Casts::casts))]
+fn is_inside(normal: &Normal, a: Pt3, p: Pt3) -> bool
+    requires normal { IsNarrow normal.now }
+    requires a { IsSmall a }
+    requires p { IsSmall p }
+    ensures { result ≡ int_lt (pos 0) (depth_of normal.now a p) }
+{
+    depth(normal, a, p) > 0
 }
