@@ -11,11 +11,12 @@ use Rattle.scad_geom.specs.Sign.{is_zero}
 use Rattle.scad_geom.specs.declared.point3.Pt3.{Pt3}
 use Rattle.scad_geom.proofs.Ring.{Term, ring, num, var, ◌⊕◌, ◌⊖◌, ◌⊗◌}
 use Rattle.scad_geom.proofs.Signs.{at_least_left, at_least_mul, pos_left, climbs}
+use Rattle.scad_hull.specs.declared.faces.Face.{Face}
 use Rattle.scad_hull.specs.declared.turning.Normal.{Normal}
 use Rattle.scad_hull.specs.Plane.{left, IsOnward}
 use Rattle.scad_hull.specs.Ring.{round, IsConvexRing}
 use Rattle.scad_hull.specs.Space.{space_cmp, normal_of, depth_of, face_left, dot_of, square_of, IsOnLine, IsInFront, IsTurned}
-use Rattle.scad_hull.specs.Faces.{in_plane, face_in, IsFacePlane, IsSideOf}
+use Rattle.scad_hull.specs.Faces.{in_plane, face_in, IsFacePlane, IsSideOf, GoesOn}
 use Rattle.scad_hull.proofs.Lines.{nought_right}
 use Rattle.scad_hull.proofs.Planar.{Same}
 use Rattle.scad_hull.proofs.NextPlanes.{itself_in, on_side}
@@ -376,3 +377,7 @@ module _ (ps : List Pt3) (sorted : IsStrictlySortedBy space_cmp ps) (a b c : Pt3
       (by_order (face_in ps b N) (seen N some).straight off (λ q i. inside q (flat_at q i) (member q i))
       (λ q i l. not_past_b q (flat_at q i) (member q i) l) (λ q i l. not_past_a q (flat_at q i) (member q i) l)
       (ring_there ps sorted b N plane))
+
+  -- as the code holds it
+  pub back_there : (f : Face) → f.ring.items ≡ face_in ps b n → GoesOn f.ring.items b a
+  back_there f e = subst (λ ring. GoesOn ring b a) (sym e) side_beyond

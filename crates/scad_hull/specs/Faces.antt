@@ -1,5 +1,5 @@
 -- The faces of the convex hull of points: the planes through three of the points that have none outside, each with the ring of the points in it.
-use Rattle.std.specs.Prelude.{◌≡◌, ◌<ℤ◌, ◌≤ℤ◌, All, List, length, map, Bool, ◌||◌, Option, Some, None, Result, Ok, Err, if◌then◌else◌, nat_lt, int_lt, ℤ, pos}
+use Rattle.std.specs.Prelude.{◌≡◌, ◌<ℤ◌, ◌≤ℤ◌, All, List, ◌∷◌, ◌++◌, length, map, Bool, ◌||◌, Option, Some, None, Result, Ok, Err, if◌then◌else◌, nat_lt, int_lt, ℤ, pos}
 use Rattle.std.specs.List.{Contains, list_all, list_any, filter, filter_map, flat_map}
 use Rattle.std.specs.Cmp.Lexicographic.{slice_cmp}
 use Rattle.std.specs.declared.cmp.Ordering.{Ordering}
@@ -12,7 +12,7 @@ use Rattle.scad_hull.specs.declared.fault.HullFault.TheVariants.{Points}
 use Rattle.scad_hull.specs.declared.turning.Normal.{Normal}
 use Rattle.scad_hull.specs.declared.faces.Face.{Face}
 use Rattle.scad_hull.specs.Chain.{ring_round}
-use Rattle.scad_hull.specs.Ring.{IsConvexRing}
+use Rattle.scad_hull.specs.Ring.{round, IsConvexRing}
 use Rattle.scad_hull.specs.Distinct.{distinct}
 use Rattle.scad_hull.specs.Flat.{point_count_limit}
 use Rattle.scad_hull.specs.Space.{space_cmp, IsSpaceBefore, normal_of, depth_of, inner, dot_of, square_of, is_none, face_left}
@@ -85,6 +85,10 @@ pub record IsSideOf (ps : List Pt3) (a b c : Pt3) : Type 0 where
   pub has_a : Contains ps a
   pub has_b : Contains ps b
   pub has_c : Contains ps c
+
+-- the way round a ring goes from a on to b
+abbrev pub GoesOn : List Pt3 → Pt3 → Pt3 → Type 0
+GoesOn ring a b = (before : List Pt3) × (after : List Pt3) × (round ring ≡ before ++ a ∷ b ∷ after)
 
 -- the order of faces by their lists of points
 abbrev pub face_cmp : List Pt3 → List Pt3 → Ordering

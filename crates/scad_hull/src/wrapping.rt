@@ -3,7 +3,7 @@ ghost use Rattle.std.specs.Prelude.{◌≡◌, ◌+◌, ◌≤◌, ◌<◌, All,
 ghost use Rattle.scad_hull.specs.Ring.{round};
 ghost use Rattle.std.specs.List.Sorted.{IsStrictlySortedBy};
 ghost use Rattle.scad_hull.specs.Space.{IsSmall, space_cmp};
-ghost use Rattle.scad_hull.specs.Faces.{IsSideOf, IsFaceOf};
+ghost use Rattle.scad_hull.specs.Faces.{IsSideOf, IsFaceOf, GoesOn};
 
 use crate::faces::{Face, face_in};
 use crate::first::first_face;
@@ -80,8 +80,10 @@ fn face_beyond(
     c: Pt3,
 ) -> Result<Face, AllocError>
     requires points { All IsSmall points.now }
+    requires sorted { IsStrictlySortedBy space_cmp points.now }
     requires side { IsSideOf points.now a b c }
-    ensures { IfOk result (IsFaceOf points.now) }
+    ensures face { IfOk result (IsFaceOf points.now) }
+    ensures back { IfOk result (λ f. GoesOn f.ring.items b a) }
 {
     let normal = outermost(points, b, a, c);
     face_in(alloc, points, b, normal)
