@@ -196,7 +196,7 @@ module _ (x y w : Pt3 → ℤ) where
         (λ f. by_lt_z (cross (spot t.c) (spot t.a)) (pos 0) (λ l. none (λ r. both_signs (cross (spot t.c) (spot t.a)) l r.second))
         (λ s. by_lt_z (cross (spot t.a) (spot t.b)) (pos 0) (λ l. none (λ r. both_signs (cross (spot t.a) (spot t.b)) l r.third))
         (λ o. sum_on (swing true true (spot t.a) (spot t.b)) (swing true true (spot t.b) (spot t.c)) (swing true true (spot t.c) (spot t.a))
-          (swing_on (spot t.a) (spot t.b) o) (swing_on (spot t.b) (spot t.c) f) (swing_on (spot t.c) (spot t.a) s))))
+        (swing_on (spot t.a) (spot t.b) o) (swing_on (spot t.b) (spot t.c) f) (swing_on (spot t.c) (spot t.a) s))))
 
     each_on : (t : Triangle) → IsSided t → pos 0 ≤ℤ round_of t
     each_on t (inl h) = let e = round_plain t h in let f = each_plain t h in same_on (round_of t) (plain_round t) e f

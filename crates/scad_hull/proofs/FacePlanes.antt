@@ -110,9 +110,11 @@ pub no_squares : (x y z : ℤ) → (x *ℤ x +ℤ (y *ℤ y +ℤ z *ℤ z)) ≤�
 no_squares x y z h =
     let a = square_at_least x in
     let b = square_at_least y in
-    let c = square_at_least z in
-    (root x (first_square (x *ℤ x) (y *ℤ y) (z *ℤ z) a b c h), root y (second_square (x *ℤ x) (y *ℤ y) (z *ℤ z) a b c h),
-    root z (third_square (x *ℤ x) (y *ℤ y) (z *ℤ z) a b c h))
+    let c = square_at_least z in (
+      root x (first_square (x *ℤ x) (y *ℤ y) (z *ℤ z) a b c h),
+      root y (second_square (x *ℤ x) (y *ℤ y) (z *ℤ z) a b c h),
+      root z (third_square (x *ℤ x) (y *ℤ y) (z *ℤ z) a b c h),
+    )
 
 pub normal_some : (n : Normal) → is_none n ≡ false → pos 0 <ℤ square_of n
 normal_some n e = by_lt_z (pos 0) (square_of n) (λ h. h) (λ h. absurd (clash (no_squares n.x n.y n.z h)))

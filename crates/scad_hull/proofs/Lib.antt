@@ -29,6 +29,7 @@ pub mod SharedSides
 pub mod NextSides
 pub mod FacesOne
 pub mod SidesOf
+pub mod FirstPlanes
 pub mod Listed
 pub mod FaceExamples
 pub mod Examples

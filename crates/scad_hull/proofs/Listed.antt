@@ -14,7 +14,6 @@ use Rattle.scad_hull.specs.Faces.{face_in, face_through, face_cmp, triples, face
 use Rattle.scad_hull.specs.Laws.{FacesAreConvex}
 use Rattle.scad_hull.proofs.Distincts.{distinct_had, distinct_sorted}
 use Rattle.scad_hull.proofs.FacePlanes.{space_total, space_exact, faces_are}
-use Rattle.scad_hull.proofs.NextSides.{side_beyond}
 use Rattle.scad_hull.proofs.FacesOne.{plane_of, only_ring}
 use Rattle.scad_hull.proofs.SamePlanes.{face_found}
 use Rattle.scad_hull.proofs.Whole.{recursion_of}

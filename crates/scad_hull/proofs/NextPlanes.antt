@@ -89,8 +89,11 @@ module _ (n : Normal) (some : pos 0 <ℤ square_of n) (a b : Pt3) (flat : depth_
   front : (p : Pt3) → depth_of n a p ≡ pos 0 → pos 0 <ℤ face_left n a b p → IsInFront n b a p
   front p e h =
       let v = seen n some in
-      inr (moved p ∙ e, subst (λ (z : ℤ). pos 0 <ℤ z) (sym (aside_is p))
-      (climbs v.scale (square_of n) (dot_of n (normal_of a b p)) (face_left n a b p) v.positive some (v.scaled a b p flat e) h))
+      inr (
+        moved p ∙ e,
+        subst (λ (z : ℤ). pos 0 <ℤ z) (sym (aside_is p))
+            (climbs v.scale (square_of n) (dot_of n (normal_of a b p)) (face_left n a b p) v.positive some (v.scaled a b p flat e) h),
+      )
 
   in_plane : (p : Pt3) → depth_of n a p ≡ pos 0 → pos 0 ≤ℤ face_left n a b p → IsOnLine b a p ⊎ IsInFront n b a p
   in_plane p e l = by_lt_z (pos 0) (face_left n a b p) (λ h. inr (front p e h))
@@ -187,8 +190,10 @@ module _ (a : Pt3) where
 
   above_level : (p : Pt3) → IsNotLower a p → IsOnLine a (beside a) p ⊎ IsInFront upwards a (beside a) p
   above_level p (inl h) = inr (inl (subst (λ (z : ℤ). pos 0 <ℤ z) (sym (height_is p)) (rising a.z p.z h)))
-  above_level p (inr (ez, inl h)) = inr (inr (height_is p ∙ same_height a.z p.z ez,
-      subst (λ (z : ℤ). pos 0 <ℤ z) (sym (behind_is p)) (rising a.y p.y h)))
+  above_level p (inr (ez, inl h)) = inr (inr (
+    height_is p ∙ same_height a.z p.z ez,
+    subst (λ (z : ℤ). pos 0 <ℤ z) (sym (behind_is p)) (rising a.y p.y h),
+  ))
   above_level p (inr (ez, inr ey)) = inl (in_line p ez ey)
 
   -- about the x direction through the least point, with a point c off that line

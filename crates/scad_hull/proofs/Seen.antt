@@ -270,34 +270,81 @@ module _ (n : Normal) where
       → int_lt n.y (pos 0) ≡ d → int_lt (pos 0) n.z ≡ e → int_lt n.z (pos 0) ≡ h → pos 0 <ℤ square_of n
       → IsSeenBy n (turn_by a b c d e)
   seen_by true b c d e h ea eb ec ed ee eh some = record {
-    f = y_of; g = z_of; straight = inl refl; there = plane y_of z_of; back = turned_plane y_of z_of;
+    f = y_of;
+    g = z_of;
+    straight = inl refl;
+    there = plane y_of z_of;
+    back = turned_plane y_of z_of;
     ordered = no_x (above n.x ea);
-    exact = exact_x (above n.x ea); along = λ a b q w t ex ey ez. (ey, ez); scale = n.x; positive = told n.x ea; scaled = scaled_x;
+    exact = exact_x (above n.x ea);
+    along = λ a b q w t ex ey ez. (ey, ez);
+    scale = n.x;
+    positive = told n.x ea;
+    scaled = scaled_x;
   }
   seen_by false true c d e h ea eb ec ed ee eh some = record {
-    f = y_of; g = z_of; straight = inr refl; there = mirrored y_of z_of; back = turned_mirrored y_of z_of;
+    f = y_of;
+    g = z_of;
+    straight = inr refl;
+    there = mirrored y_of z_of;
+    back = turned_mirrored y_of z_of;
     ordered = no_x (below n.x eb);
-    exact = exact_x (below n.x eb); along = λ a b q w t ex ey ez. (ey, ez); scale = pos 0 -ℤ n.x; positive = told_below n.x eb; scaled = scaled_off_x;
+    exact = exact_x (below n.x eb);
+    along = λ a b q w t ex ey ez. (ey, ez);
+    scale = pos 0 -ℤ n.x;
+    positive = told_below n.x eb;
+    scaled = scaled_off_x;
   }
   seen_by false false true d e h ea eb ec ed ee eh some = record {
-    f = x_of; g = z_of; straight = inr refl; there = mirrored x_of z_of; back = turned_mirrored x_of z_of;
+    f = x_of;
+    g = z_of;
+    straight = inr refl;
+    there = mirrored x_of z_of;
+    back = turned_mirrored x_of z_of;
     ordered = no_y (neither n.x ea eb) (above n.y ec);
-    exact = exact_y (neither n.x ea eb) (above n.y ec); along = λ a b q w t ex ey ez. (ex, ez); scale = n.y; positive = told n.y ec; scaled = scaled_y;
+    exact = exact_y (neither n.x ea eb) (above n.y ec);
+    along = λ a b q w t ex ey ez. (ex, ez);
+    scale = n.y;
+    positive = told n.y ec;
+    scaled = scaled_y;
   }
   seen_by false false false true e h ea eb ec ed ee eh some = record {
-    f = x_of; g = z_of; straight = inl refl; there = plane x_of z_of; back = turned_plane x_of z_of;
+    f = x_of;
+    g = z_of;
+    straight = inl refl;
+    there = plane x_of z_of;
+    back = turned_plane x_of z_of;
     ordered = no_y (neither n.x ea eb) (below n.y ed);
-    exact = exact_y (neither n.x ea eb) (below n.y ed); along = λ a b q w t ex ey ez. (ex, ez); scale = pos 0 -ℤ n.y; positive = told_below n.y ed; scaled = scaled_off_y;
+    exact = exact_y (neither n.x ea eb) (below n.y ed);
+    along = λ a b q w t ex ey ez. (ex, ez);
+    scale = pos 0 -ℤ n.y;
+    positive = told_below n.y ed;
+    scaled = scaled_off_y;
   }
   seen_by false false false false true h ea eb ec ed ee eh some = record {
-    f = x_of; g = y_of; straight = inl refl; there = plane x_of y_of; back = turned_plane x_of y_of;
+    f = x_of;
+    g = y_of;
+    straight = inl refl;
+    there = plane x_of y_of;
+    back = turned_plane x_of y_of;
     ordered = no_z (neither n.x ea eb) (neither n.y ec ed) (above n.z ee);
-    exact = exact_z (neither n.x ea eb) (neither n.y ec ed) (above n.z ee); along = λ a b q w t ex ey ez. (ex, ey); scale = n.z; positive = told n.z ee; scaled = scaled_z;
+    exact = exact_z (neither n.x ea eb) (neither n.y ec ed) (above n.z ee);
+    along = λ a b q w t ex ey ez. (ex, ey);
+    scale = n.z;
+    positive = told n.z ee;
+    scaled = scaled_z;
   }
   seen_by false false false false false true ea eb ec ed ee eh some = record {
-    f = x_of; g = y_of; straight = inr refl; there = mirrored x_of y_of; back = turned_mirrored x_of y_of;
+    f = x_of;
+    g = y_of;
+    straight = inr refl;
+    there = mirrored x_of y_of;
+    back = turned_mirrored x_of y_of;
     ordered = no_z (neither n.x ea eb) (neither n.y ec ed) (below n.z eh);
-    exact = exact_z (neither n.x ea eb) (neither n.y ec ed) (below n.z eh); along = λ a b q w t ex ey ez. (ex, ey); scale = pos 0 -ℤ n.z; positive = told_below n.z eh;
+    exact = exact_z (neither n.x ea eb) (neither n.y ec ed) (below n.z eh);
+    along = λ a b q w t ex ey ez. (ex, ey);
+    scale = pos 0 -ℤ n.z;
+    positive = told_below n.z eh;
     scaled = scaled_off_z;
   }
   seen_by false false false false false false ea eb ec ed ee eh some =

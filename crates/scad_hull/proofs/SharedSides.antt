@@ -185,15 +185,26 @@ module _ {X : Type 0} (left : X → X → X → ℤ) (r0 r1 r2 : X) (rs : List X
 
   pub precede : (z m c : X) → AreInTurn left way z m c → (w : X) × AreInTurn left way w z m
   precede z m c ([], after, e) =
-      let (front, f) = parted_last r1 (r2 ∷ rs) in
-      (final r1 (r2 ∷ rs), (r0 ∷ front, [],
-      ap (λ ys. r0 ∷ (ys ++ (r0 ∷ (r1 ∷ [])))) f
-      ∙ ap (λ ys. r0 ∷ ys) (append_on front (final r1 (r2 ∷ rs) ∷ []) (r0 ∷ (r1 ∷ [])))
-      ∙ ap₂ (λ x y. r0 ∷ (front ++ (final r1 (r2 ∷ rs) ∷ (x ∷ (y ∷ []))))) (ap (λ l. get_or l 0 z) e) (ap (λ l. get_or l 1 m) e)))
+      let (front, f) = parted_last r1 (r2 ∷ rs) in (
+        final r1 (r2 ∷ rs),
+        (
+          r0 ∷ front,
+          [],
+          ap (λ ys. r0 ∷ (ys ++ (r0 ∷ (r1 ∷ [])))) f
+              ∙ ap (λ ys. r0 ∷ ys) (append_on front (final r1 (r2 ∷ rs) ∷ []) (r0 ∷ (r1 ∷ [])))
+              ∙ ap₂ (λ x y. r0 ∷ (front ++ (final r1 (r2 ∷ rs) ∷ (x ∷ (y ∷ []))))) (ap (λ l. get_or l 0 z) e) (ap (λ l. get_or l 1 m) e),
+        ),
+      )
   precede z m c (x ∷ before, after, e) =
-      let (front, f) = parted_last x before in
-      (final x before, (front, c ∷ after, e ∙ ap (λ ys. ys ++ (z ∷ (m ∷ (c ∷ after)))) f
-      ∙ append_on front (final x before ∷ []) (z ∷ (m ∷ (c ∷ after)))))
+      let (front, f) = parted_last x before in (
+        final x before,
+        (
+          front,
+          c ∷ after,
+          e ∙ ap (λ ys. ys ++ (z ∷ (m ∷ (c ∷ after)))) f
+              ∙ append_on front (final x before ∷ []) (z ∷ (m ∷ (c ∷ after))),
+        ),
+      )
 
 -- ---- the line from b to a, with o to its left
 module _ {X : Type 0} (f g : X → ℤ) (b a o : X) (off : pos 0 <ℤ left f g b a o) where
@@ -260,8 +271,10 @@ module _ {X : Type 0} (f g : X → ℤ) (b a o : X) (off : pos 0 <ℤ left f g b
 
   -- the first of two ends: m on the line, not before b, with b on the left of the side into m
   at_b : (z m : X) → h m ≡ pos 0 → pos 0 <ℤ h z → pos 0 ≤ℤ L z m b → pos 0 ≤ℤ L o b m → Same f g m b
-  at_b z m em hz k l = (equal (f m) (f b) (nought_right (h o) (f m -ℤ f b) (by_f ∙ both (L o b m) (h m) (f a -ℤ f b) (f o -ℤ f b) none em) (some (h o) off)),
-      equal (g m) (g b) (nought_right (h o) (g m -ℤ g b) (by_g ∙ both (L o b m) (h m) (g a -ℤ g b) (g o -ℤ g b) none em) (some (h o) off)))
+  at_b z m em hz k l = (
+    equal (f m) (f b) (nought_right (h o) (f m -ℤ f b) (by_f ∙ both (L o b m) (h m) (f a -ℤ f b) (f o -ℤ f b) none em) (some (h o) off)),
+    equal (g m) (g b) (nought_right (h o) (g m -ℤ g b) (by_g ∙ both (L o b m) (h m) (g a -ℤ g b) (g o -ℤ g b) none em) (some (h o) off)),
+  )
     where
       by_f : h o *ℤ (f m -ℤ f b) ≡ L o b m *ℤ (f a -ℤ f b) +ℤ h m *ℤ (f o -ℤ f b)
       by_f =
@@ -307,8 +320,10 @@ module _ {X : Type 0} (f g : X → ℤ) (b a o : X) (off : pos 0 <ℤ left f g b
 
   -- the second: c on the line, not beyond a, with a on the left of the side out of c
   at_a : (c d : X) → h c ≡ pos 0 → pos 0 <ℤ h d → pos 0 ≤ℤ L c d a → pos 0 ≤ℤ L a o c → Same f g c a
-  at_a c d ec hd k l = (equal (f c) (f a) (nought_right (h o) (f c -ℤ f a) (by_f ∙ both (L a o c) (h c) (f b -ℤ f a) (f o -ℤ f a) none ec) (some (h o) off)),
-      equal (g c) (g a) (nought_right (h o) (g c -ℤ g a) (by_g ∙ both (L a o c) (h c) (g b -ℤ g a) (g o -ℤ g a) none ec) (some (h o) off)))
+  at_a c d ec hd k l = (
+    equal (f c) (f a) (nought_right (h o) (f c -ℤ f a) (by_f ∙ both (L a o c) (h c) (f b -ℤ f a) (f o -ℤ f a) none ec) (some (h o) off)),
+    equal (g c) (g a) (nought_right (h o) (g c -ℤ g a) (by_g ∙ both (L a o c) (h c) (g b -ℤ g a) (g o -ℤ g a) none ec) (some (h o) off)),
+  )
     where
       by_f : h o *ℤ (f c -ℤ f a) ≡ L a o c *ℤ (f b -ℤ f a) +ℤ h c *ℤ (f o -ℤ f a)
       by_f =
@@ -410,9 +425,12 @@ module _ {X : Type 0} (f g : X → ℤ) (b a o : X) (off : pos 0 <ℤ left f g b
         let hw = above_by (h w) (inside w cx.in_z) (λ e. no_turn w x y e ex ey cx.turn) in
         let hv = above_by (h v) (inside v cy.in_c) (λ e. no_turn x y v ex ey e cy.turn) in
         let same_b : x ≡ b = exact x b cx.in_m ib (at_b w x ex hw (cx.first b ib) (from_b x cx.in_m ex)) in
-        let same_a : y ≡ a = exact y a cx.in_c ia (at_a y v ey hv (cy.second a ia) (to_a y cx.in_c ey)) in
-        (t.0 ++ (w ∷ []), t.1, t.2 ∙ sym (append_on t.0 (w ∷ []) (x ∷ (y ∷ t.1)))
-        ∙ ap₂ (λ p q. (t.0 ++ (w ∷ [])) ++ (p ∷ (q ∷ t.1))) same_b same_a)
+        let same_a : y ≡ a = exact y a cx.in_c ia (at_a y v ey hv (cy.second a ia) (to_a y cx.in_c ey)) in (
+          t.0 ++ (w ∷ []),
+          t.1,
+          t.2 ∙ sym (append_on t.0 (w ∷ []) (x ∷ (y ∷ t.1)))
+              ∙ ap₂ (λ p q. (t.0 ++ (w ∷ [])) ++ (p ∷ (q ∷ t.1))) same_b same_a,
+        )
 
     by_low : Low h (round R) → HasSide
     by_low l = by_lt_z (pos 0) (h l.c)

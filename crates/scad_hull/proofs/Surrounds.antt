@@ -89,7 +89,7 @@ module _ (x y z : Pt3 → ℤ) (n0 n1 n2 u0 u1 u2 : ℤ) where
       second = d.second;
       third = d.third;
       round = positive_as (volume f1 f2 depth t.a t.b t.c) (det u0 s0 n0 u1 s1 n1 u2 s2 n2) (volume x y z t.a t.b t.c) (mixed x y z u0 u1 u2 s0 s1 s2 n0 n1 n2 t.a t.b t.c)
-        (subst (λ (w : ℤ). pos 0 <ℤ w) (sym triad) some) d.round;
+          (subst (λ (w : ℤ). pos 0 <ℤ w) (sym triad) some) d.round;
     }
 
     all_toward : (ts : List Triangle) → AllByRecursion IsDeep ts → AllByRecursion (IsSided f1 f2 depth) ts

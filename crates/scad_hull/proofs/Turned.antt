@@ -73,15 +73,15 @@ module _ (a b : Pt3) where
   split zero (suc i) h = inl (omega arith)
   split (suc k) zero h = absurd (omega arith)
   split (suc k) (suc i) h = elim (split k i (omega arith)) [
-      | inl l ↦ inl (omega arith)
-      | inr e ↦ inr (ap suc e)
-    ]
+    | inl l ↦ inl (omega arith)
+    | inr e ↦ inr (ap suc e)
+  ]
 
   last_or_before : {P : Type 0} (k i : ℕ) → k < i + 1 → (k < i → P) → (k ≡ i → P) → P
   last_or_before k i h f g = elim (split k i h) [
-      | inl l ↦ f l
-      | inr e ↦ g e
-    ]
+    | inl l ↦ f l
+    | inr e ↦ g e
+  ]
 
   module _ (ps : List Pt3) (i : ℕ) (inside : i < length ps) (p : Pt3) (is : (d : Pt3) → get_or ps i d ≡ p) where
     pub kept_normal : (n : Normal) → IsTurned a b ps n i → int_lt (depth_of n a p) (pos 0) ≡ false → IsTurned a b ps n (i + 1)
@@ -93,7 +93,7 @@ module _ (a b : Pt3) where
       there = t.there;
       front = t.front;
       inward = λ k d h. last_or_before k i h (λ l. t.inward k d l)
-        (λ same. subst (λ r. pos 0 ≤ℤ depth_of n a r) (sym (ap (λ j. get_or ps j d) same ∙ is d)) (not_below (depth_of n a p) e));
+          (λ same. subst (λ r. pos 0 ≤ℤ depth_of n a r) (sym (ap (λ j. get_or ps j d) same ∙ is d)) (not_below (depth_of n a p) e));
     }
 
     pub next_normal : (n : Normal) → IsTurned a b ps n i → int_lt (depth_of n a p) (pos 0) ≡ true → IsTurned a b ps (normal_of a b p) (i + 1)
@@ -105,7 +105,7 @@ module _ (a b : Pt3) where
       there = (i, inside, is p);
       front = ahead;
       inward = λ k d h. last_or_before k i h (λ l. earlier k d l)
-        (λ same. subst (λ r. pos 0 ≤ℤ volume_on p r) (sym (ap (λ j. get_or ps j d) same ∙ is d)) (itself p));
+          (λ same. subst (λ r. pos 0 ≤ℤ volume_on p r) (sym (ap (λ j. get_or ps j d) same ∙ is d)) (itself p));
     }
       where
         further : volume_on t.met p <ℤ pos 0
@@ -113,15 +113,15 @@ module _ (a b : Pt3) where
 
         ahead : IsInFront t.known a b p
         ahead = elim (subst (λ r. IsOnLine a b r ⊎ IsInFront t.known a b r) (is p) (t.facing.front i p inside)) [
-            | inl line ↦ absurd (clash (volume_on t.met p) (on_line t.met p line) further)
-            | inr front ↦ front
-          ]
+          | inl line ↦ absurd (clash (volume_on t.met p) (on_line t.met p line) further)
+          | inr front ↦ front
+        ]
 
         earlier : (k : ℕ) (d : Pt3) → k < i → pos 0 ≤ℤ volume_on p (get_or ps k d)
         earlier k d l = elim (t.facing.front k d (omega arith)) [
-            | inl line ↦ nought (volume_on p (get_or ps k d)) (on_line p (get_or ps k d) line)
-            | inr front ↦ beyond (get_or ps k d) front (subst (λ m. pos 0 ≤ℤ depth_of m a (get_or ps k d)) t.is (t.inward k d l))
-          ]
+          | inl line ↦ nought (volume_on p (get_or ps k d)) (on_line p (get_or ps k d) line)
+          | inr front ↦ beyond (get_or ps k d) front (subst (λ m. pos 0 ≤ℤ depth_of m a (get_or ps k d)) t.is (t.inward k d l))
+        ]
           where
             beyond : (r : Pt3) → IsInFront t.known a b r → pos 0 ≤ℤ volume_on t.met r → pos 0 ≤ℤ volume_on p r
             beyond r front h =

@@ -124,4 +124,3 @@ fn area(a: i128, b: i128, c: i128, d: i128) -> i128
 {
     minus(times::<21, 21>(a, d), times::<21, 21>(b, c))
 }
-

@@ -72,13 +72,7 @@ fn face_at(alloc: Global, points: &[Pt3], face: &Face, j: usize) -> Result<Face,
 
 // The face beyond the side from `a` to `b` of a face with the corner `c`.
 #[tactic(auto, using(crate::proofs::Beyond::beyond))]
-fn face_beyond(
-    alloc: Global,
-    points: &[Pt3],
-    a: Pt3,
-    b: Pt3,
-    c: Pt3,
-) -> Result<Face, AllocError>
+fn face_beyond(alloc: Global, points: &[Pt3], a: Pt3, b: Pt3, c: Pt3) -> Result<Face, AllocError>
     requires points { All IsSmall points.now }
     requires sorted { IsStrictlySortedBy space_cmp points.now }
     requires side { IsSideOf points.now a b c }
@@ -100,11 +94,7 @@ fn corner(ring: &[Pt3], j: usize) -> Pt3
     if j < count { ring[j] } else { ring[j - count] }
 }
 
-fn add(
-    faces: &mut Vec<Face>,
-    sides: &mut BTreeSet<Side>,
-    face: Face,
-) -> Result<(), AllocError> {
+fn add(faces: &mut Vec<Face>, sides: &mut BTreeSet<Side>, face: Face) -> Result<(), AllocError> {
     let ring = face.ring.as_slice();
     'corners: for j in 0..ring.len() {
         let side = Side {
