@@ -34,3 +34,4 @@ pub mod OneMade
 pub mod Keeping
 pub mod Untouched
 pub mod Touched
+pub mod Passages

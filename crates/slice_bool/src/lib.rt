@@ -5,15 +5,17 @@
 //! that these pieces make.
 #![tactic(auto, using(scad_geom::proofs::Casts::casts))]
 
-mod around;
+mod along;
 mod border;
 mod border_piece;
 mod covering;
+mod crossing;
 mod fault;
 mod flat;
 pub mod laws;
 mod near;
 mod outlining;
+mod passer;
 mod slab;
 mod small_point;
 mod stop;

@@ -87,7 +87,8 @@ fn sort(stops: &mut Vec<Stop>) -> Result<(), AllocError>
     stops.sort_by(compare)
 }
 
-fn compare(s: &Stop, t: &Stop) -> Ordering
+/// How the places of two stops on one level lie, from left to right.
+pub(crate) fn compare(s: &Stop, t: &Stop) -> Ordering
     ensures { result ≡ int_cmp (s.now.spot.x *ℤ pos t.now.spot.run) (t.now.spot.x *ℤ pos s.now.spot.run) }
 {
     x_times_run(s, t).cmp(&x_times_run(t, s))

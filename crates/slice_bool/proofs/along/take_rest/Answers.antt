@@ -1,0 +1,39 @@
+-- One more is gone.
+use Rattle.std.proofs.Common.{◌≡◌, ℕ, ◌+◌, drop, get_or, refl, sym, ap, ◌∙◌, List}
+use Rattle.std.specs.Prelude.{ℤ, pos, ◌-ℤ◌}
+use Rattle.std.proofs.lemmas.List.{drop_all}
+use Rattle.slice_bool.specs.declared.passer.Passer.{Passer}
+use Rattle.slice_bool.specs.Passers.{own, owns}
+use Rattle.slice_bool.proofs.Keeping.{keeps_both, keeps_still}
+use Rattle.slice_bool.proofs.Passages.{rest_step, small_rest}
+use Rattle.slice_bool.proofs.along.take_rest.Goals as goal
+
+pub passers-init : goal.passers-init
+passers-init c = record {
+  turns = c.requires.turns;
+  len = refl;
+  held = keeps_still c.args.turns.now.items c.args.held.now c.requires.ready;
+}
+
+pub take-requires-clause-small : goal.take-requires-clause-small
+take-requires-clause-small c =
+    let p : Passer = c.index-passers-k.result in
+    small_rest p.leaf c.args.passers.now c.passers.k (get_or c.passers.turns.items p.leaf (pos 0))
+    (c.passers.invariant.turns p.leaf) c.requires.few
+
+pub passers-preserved : goal.passers-preserved
+passers-preserved c =
+    let ps : List Passer = c.args.passers.now in
+    let k : ℕ = c.passers.k in
+    let p : Passer = c.index-passers-k.result in
+    record {
+      turns = λ leaf. rest_step leaf ps k p (get_or c.passers.turns.items leaf (pos 0)) (get_or c.take.new.turns.items leaf (pos 0))
+          c.passers-test.true (c.passers.invariant.turns leaf)
+          (c.take.ensures.turns leaf ∙ ap (λ (p : Passer). get_or c.passers.turns.items leaf (pos 0) -ℤ own leaf p) c.index-passers-k.is);
+      len = c.take.ensures.len ∙ c.passers.invariant.len;
+      held = keeps_both c.args.turns.now.items c.passers.turns.items c.take.new.turns.items c.args.held.now c.passers.held
+          c.take.new.held c.passers.invariant.held c.take.ensures.held;
+    }
+
+pub returns-clause-turns : goal.returns-clause-turns
+returns-clause-turns c = λ leaf. c.passers.invariant.turns leaf ∙ ap (owns leaf) (drop_all c.passers.k c.args.passers.now c.passers-test.false)
