@@ -1,6 +1,6 @@
 -- Edges that don't pass a level don't wind round what lies hard by its stops, and only flat edges on it cover a
 -- stretch.
-use Rattle.std.proofs.Common.{◌≡◌, ℕ, zero, suc, ◌+◌, ◌<◌, Bool, true, false, List, [], ◌∷◌, length, get_or, drop, refl, sym, ap, ◌∙◌, arith, subst}
+use Rattle.std.proofs.Common.{◌≡◌, ℕ, zero, suc, ◌+◌, Bool, true, false, List, [], ◌∷◌, length, get_or, drop, refl, sym, ap, ◌∙◌, arith, subst}
 use lib.IntN.{ℤ, pos, ◌+ℤ◌, ◌-ℤ◌, ◌*ℤ◌}
 use lib.Signed.{◌<ℤ◌}
 use Rattle.std.specs.Prelude.{int_lt, int_le, if◌then◌else◌, ◌==◌, ◌&&◌, Some}
@@ -163,13 +163,3 @@ near_all es at near stops h n = All-from_recursion (λ s. IsNear es s.spot.at ne
         → AllByRecursion (λ s. IsNear es s.spot.at near) ss
     each [] h = tt
     each (s ∷ ss) h = (subst (λ (l : Level). IsNear es l near) (sym h.0.at) n, each ss h.1)
-
--- the values hard by a stop, by what was found near its level
-pub near_values : (above : Bool) (s : Stop) (es : List LeafEdge) (near : Near) (shape : Shape) (now : List LeafEdge)
-    → now ≡ near.passing.items → IsNear es s.spot.at near
-    → is_in_by above true now shape (point_of s.spot) ≡ is_in_by above true es shape (point_of s.spot)
-near_values above s es near shape now e n =
-    let r : 0 < s.spot.run = s.runs in
-    let runs : pos 0 <ℤ pos s.spot.run = omega (arith, ints) in
-    ap (λ (now : List LeafEdge). is_in_by above true now shape (point_of s.spot)) (e ∙ n.passing) ∙ passing_values above
-    s.spot runs s.level.positive es shape

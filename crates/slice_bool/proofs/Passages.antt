@@ -3,7 +3,7 @@ use Rattle.std.proofs.Common.{◌≡◌, ℕ, zero, suc, ◌+◌, ◌<◌, ◌�
 use mathlib.Core.Path.{fun_ext}
 use mir.Syntax.{w64}
 use mir.Val.{to_z, of_z}
-use lib.IntN.{ℤ, pos, negsuc, ◌+ℤ◌, ◌-ℤ◌, ◌*ℤ◌, +ℤ_idl}
+use lib.IntN.{ℤ, pos, ◌+ℤ◌, ◌-ℤ◌, ◌*ℤ◌, +ℤ_idl}
 use lib.Signed.{◌<ℤ◌}
 use Rattle.std.specs.Prelude.{int_lt, int_le, unsigned_abs, if◌then◌else◌, ◌==◌, ◌&&◌}
 use Rattle.std.specs.List.{AllByRecursion, All}
@@ -31,10 +31,9 @@ use Rattle.scad_geom.proofs.Leaves.{wind_leaf, wind_leaf-is}
 use Rattle.slice_slab.specs.Bundles.{no_edge}
 use Rattle.scad_geom.specs.Sign.{is_zero}
 use Rattle.scad_geom.specs.Shape.{shape_holds, is_in_by}
-use Rattle.scad_geom.proofs.Heights.{at_most_chain, lower_then_at_most, Reaches}
+use Rattle.scad_geom.proofs.Heights.{at_most_chain, lower_then_at_most}
 use Rattle.scad_geom.proofs.Ring.{ring, num, ◌⊕◌, ◌⊖◌, ◌⊗◌, v0, v1, v2, v3, v4, v5, v6}
 use Rattle.scad_geom.proofs.Sums.{sum_z, sum_z-permutation}
-use Rattle.scad_geom.proofs.Signs.{mul-one}
 use Rattle.scad_geom.proofs.Turns.{level_at, Over, NotOver, over_up, flat_turn, beyond_mul, heading, reaching_turn}
 use Rattle.slice_snap.specs.declared.piece.Spot.{Spot}
 use Rattle.slice_snap.specs.Spots.{point_of}
@@ -51,7 +50,7 @@ use Rattle.std.specs.List.{position}
 use Rattle.slice_bool.proofs.Winding.{IsSpotAt, stops_at}
 use Rattle.slice_bool.proofs.NearLevel.{flats_cover, passing_values}
 use Rattle.slice_bool.proofs.Middle.{size_of}
-use Rattle.slice_bool.proofs.Hardby.{passed, sum_step, wind_more}
+use Rattle.slice_bool.proofs.Hardby.{passed, wind_more}
 
 -- ---- the edges that pass a level rise
 pub passing_rises : (es : List LeafEdge) (at : Level) → All (λ e. pos 0 <ℤ rise e.edge) (passing_at es at)
@@ -315,10 +314,6 @@ passer_turn above e at s a r d rises t q by p =
     ap₂ (λ (t : Spot) (by : ℤ). if is_left s t then by else pos 0) q p
     ∙ ap (λ (l : Level). if is_left s (spot_on e l) then passage_by above (place l) (whole e.a) (whole e.b) else pos 0) (sym a)
     ∙ passes above e s runs (positive_product s.at.d (pos s.run) ds runs) rises
-
-pub added : (old new z : ℤ) (t : Bool) (rest before whole : ℤ) → new ≡ old +ℤ (if t then to_z w64 (of_z w64 z) else pos 0)
-    → unsigned_abs z ≤ 1 → before ≡ (if t then z else pos 0) +ℤ rest → old +ℤ before ≡ whole → new +ℤ rest ≡ whole
-added old new z t rest before whole e h f g = sum_step old new z t rest before whole e h f g
 
 -- the numbers stay small
 pub small_sum : (leaf : ℕ) (ps qs : List Passer) (z : ℤ) → z +ℤ owns leaf qs ≡ owns leaf ps → length qs ≤ length ps

@@ -1,21 +1,17 @@
 -- A leaf that no edge of a list belongs to isn't wound by the list, and has no headings among its bundles.
-use Rattle.std.proofs.Common.{◌≡◌, ℕ, zero, suc, ◌+◌, ◌<◌, Bool, true, false, List, [], ◌∷◌, length, get_or, refl, sym, ap, ◌∙◌, arith, subst, true≢false, ◌||◌}
-use lib.IntN.{ℤ, pos, ◌+ℤ◌, ◌*ℤ◌, +ℤ_idl}
+use Rattle.std.proofs.Common.{◌≡◌, ℕ, zero, suc, ◌<◌, Bool, true, false, List, [], ◌∷◌, length, get_or, refl, sym, ap, ◌∙◌, arith, true≢false, ◌||◌}
+use lib.IntN.{pos, ◌+ℤ◌, ◌*ℤ◌, +ℤ_idl}
 use lib.Signed.{◌<ℤ◌}
-use Rattle.std.specs.Prelude.{int_lt, int_le, ◌==◌, ◌&&◌, if◌then◌else◌}
-use Rattle.std.specs.List.{AllByRecursion, All, concat}
-use Rattle.std.proofs.lemmas.Bool.{and_parts}
+use Rattle.std.specs.Prelude.{int_lt, int_le, ◌==◌, if◌then◌else◌}
+use Rattle.std.specs.List.{AllByRecursion, concat}
 use Rattle.std.proofs.lemmas.Int.{ints}
 use Rattle.scad_geom.specs.declared.point.Edge.{Edge}
 use Rattle.scad_geom.specs.declared.level.Level.{Level}
 use Rattle.scad_geom.specs.declared.level.LeafEdge.{LeafEdge}
-use Rattle.scad_geom.specs.Point.{Point, whole}
-use Rattle.scad_geom.specs.Winding.{turn}
 use Rattle.scad_geom.specs.Line.{low, high, rise}
 use Rattle.scad_geom.specs.Level.{level_of, IsLower, IsAtMost}
 use Rattle.scad_geom.specs.Heights.{AreNeighbours}
 use Rattle.scad_geom.proofs.Heights.{Reaches, at_most_chain, lower_weak}
-use Rattle.scad_geom.proofs.Leaves.{wind_leaf}
 use Rattle.slice_slab.specs.Bundles.{no_edge, edge_at, AreBundles}
 use Rattle.slice_slab.proofs.Live.{IsLive, live_bundles}
 use Rattle.slice_bool.specs.Pieces.{passes_at}
@@ -31,14 +27,6 @@ or_parts false b h = (refl, h)
 or_right : (a b : Bool) → b ≡ true → (a || b) ≡ true
 or_right true b h = refl
 or_right false b h = h
-
-pub untouched_wind : (above : Bool) (p : Point) (leaf : ℕ) (es : List LeafEdge) → has_leaf leaf es ≡ false
-    → wind_leaf above true p leaf es ≡ pos 0
-untouched_wind above p leaf [] h = refl
-untouched_wind above p leaf (e ∷ es) h =
-    let q = or_parts (e.leaf == leaf) (has_leaf leaf es) h in
-    ap (λ (t : Bool). (if t then turn above true p (whole e.edge.a) (whole e.edge.b) else pos 0) +ℤ wind_leaf above true p leaf es) q.0
-    ∙ +ℤ_idl (wind_leaf above true p leaf es) ∙ untouched_wind above p leaf es q.1
 
 pub untouched_headings : (es others : List LeafEdge) (leaf : ℕ) (ks : List ℕ) → HaveLeaves es others ks → has_leaf leaf others ≡ false
     → headings es leaf ks ≡ pos 0

@@ -1,12 +1,13 @@
 -- The edge's share goes to its leaf.
-use Rattle.std.proofs.Common.{ℕ, ◌+◌, drop, get_or, length, length-drop, refl, sym, ap, ◌∙◌, arith, List}
-use Rattle.std.specs.Prelude.{ℤ, pos, ◌+ℤ◌, ◌==◌, if◌then◌else◌}
+use Rattle.std.proofs.Common.{ℕ, ◌+◌, drop, get_or, length-drop, refl, sym, ap, ◌∙◌, arith, List}
+use Rattle.std.specs.Prelude.{ℤ, pos, ◌+ℤ◌, ◌==◌}
 use lib.IntN.{+ℤ_idl}
-use Rattle.std.proofs.lemmas.List.{at_drop_more, drop_all}
+use Rattle.std.proofs.lemmas.List.{at_drop_more}
 use Rattle.slice_bool.specs.declared.passer.Passer.{Passer}
 use Rattle.slice_bool.specs.Passers.{own, owns}
 use Rattle.slice_bool.proofs.Keeping.{keeps_both, keeps_still}
-use Rattle.slice_bool.proofs.Passages.{added, small_sum, all_added}
+use Rattle.slice_bool.proofs.Hardby.{sum_step}
+use Rattle.slice_bool.proofs.Passages.{small_sum, all_added}
 use Rattle.slice_bool.proofs.along.add_all.Goals as goal
 
 pub passers-init : goal.passers-init
@@ -31,7 +32,7 @@ passers-preserved c =
     let i : ℕ = c.passers.p-index in
     let p : Passer = c.p-item.result in
     record {
-      sums = λ leaf. added (get_or c.passers.turns.items leaf (pos 0)) (get_or c.tally.new.turns.items leaf (pos 0)) p.by
+      sums = λ leaf. sum_step (get_or c.passers.turns.items leaf (pos 0)) (get_or c.tally.new.turns.items leaf (pos 0)) p.by
           (p.leaf == leaf) (owns leaf (drop (i + 1) ps)) _ _ (c.tally.ensures.turns leaf) p.by_size
           (at_drop_more (owns leaf) ps i p c.passers-test.true
           ∙ ap (λ (p : Passer). own leaf p +ℤ owns leaf (drop (i + 1) ps)) (sym c.p-item.is))

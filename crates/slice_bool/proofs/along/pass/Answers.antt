@@ -1,10 +1,9 @@
 -- One more is gone while the next doesn't lie to the right of the stop.
-use Rattle.std.proofs.Common.{◌≡◌, ℕ, ◌+◌, ◌<◌, ◌≤◌, Bool, true, false, not, inl, inr, drop, get_or, length, refl, sym, ap, ◌∙◌, arith, List, subst}
-use Rattle.std.specs.Prelude.{ℤ, pos, ◌-ℤ◌}
-use Rattle.std.proofs.lemmas.Bool.{cases_lt}
+use Rattle.std.proofs.Common.{ℕ, get_or, refl, sym, ap, ◌∙◌, arith, List}
+use Rattle.std.specs.Prelude.{pos, ◌-ℤ◌}
 use Rattle.slice_bool.specs.declared.passer.Passer.{Passer}
 use Rattle.slice_bool.specs.Stops.{is_left}
-use Rattle.slice_bool.specs.Passers.{own, owns}
+use Rattle.slice_bool.specs.Passers.{own}
 use Rattle.slice_bool.proofs.Keeping.{keeps_both, keeps_still}
 use Rattle.slice_bool.proofs.Passages.{rest_step, small_rest, gone_more}
 use Rattle.slice_bool.proofs.along.pass.Goals as goal

@@ -1,5 +1,5 @@
 -- The share of the edge's leaf is taken away.
-use Rattle.std.proofs.Common.{ℕ, get_or, ap, ◌∙◌}
+use Rattle.std.proofs.Common.{get_or, ap, ◌∙◌}
 use Rattle.std.specs.Prelude.{ℤ, pos, ◌-ℤ◌, ◌==◌}
 use Rattle.slice_bool.proofs.Hardby.{passed}
 use Rattle.slice_bool.proofs.Passages.{taken}

@@ -1,6 +1,6 @@
 -- One more is gone.
-use Rattle.std.proofs.Common.{◌≡◌, ℕ, ◌+◌, drop, get_or, refl, sym, ap, ◌∙◌, List}
-use Rattle.std.specs.Prelude.{ℤ, pos, ◌-ℤ◌}
+use Rattle.std.proofs.Common.{ℕ, get_or, refl, ap, ◌∙◌, List}
+use Rattle.std.specs.Prelude.{pos, ◌-ℤ◌}
 use Rattle.std.proofs.lemmas.List.{drop_all}
 use Rattle.slice_bool.specs.declared.passer.Passer.{Passer}
 use Rattle.slice_bool.specs.Passers.{own, owns}

@@ -1,14 +1,14 @@
 -- From stop to stop, what doesn't lie to its right is taken away.
-use Rattle.std.proofs.Common.{◌≡◌, ℕ, ◌+◌, ◌<◌, ◌++◌, ◌∷◌, [], Bool, true, false, List, length, drop, get_or, refl, sym, ap, ◌∙◌, arith, subst}
-use Rattle.std.specs.Prelude.{ℤ, pos}
+use Rattle.std.proofs.Common.{◌≡◌, ℕ, ◌<◌, ◌++◌, ◌∷◌, [], Bool, false, List, length, get_or, sym, ap, ◌∙◌, arith, subst}
+use Rattle.std.specs.Prelude.{ℤ}
 use Rattle.std.specs.List.{All}
 use Rattle.slice_held.specs.Held.{Shows}
 use Rattle.slice_bool.specs.declared.passer.Passer.{Passer}
 use Rattle.slice_bool.specs.declared.stop.Stop.{Stop}
 use Rattle.slice_bool.specs.Stops.{is_left}
-use Rattle.slice_bool.specs.Tally.{IsTally, is_held}
+use Rattle.slice_bool.specs.Tally.{is_held}
 use Rattle.slice_bool.specs.Keeping.{in_by}
-use Rattle.slice_bool.specs.Passers.{owns, owns_beyond}
+use Rattle.slice_bool.specs.Passers.{owns_beyond}
 use Rattle.slice_bool.proofs.Keeping.{keeps_first, keeps_last}
 use Rattle.slice_bool.proofs.Bundled.{length_more}
 use Rattle.slice_bool.proofs.Passages.{any_stop, gone_both, gone_next, beyond_any, held_rest, value_more}

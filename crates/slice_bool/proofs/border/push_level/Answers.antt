@@ -1,10 +1,10 @@
 -- The pieces on a level, and those between it and the next.
-use Rattle.std.proofs.Common.{◌≡◌, ℕ, ◌+◌, List, refl, sym, ap, subst, drop, pos, get_or}
+use Rattle.std.proofs.Common.{ℕ, ◌+◌, List, refl, sym, ap, subst, drop, pos, get_or}
 use Rattle.scad_geom.specs.declared.level.Level.{Level}
 use Rattle.slice_slab.specs.Bundles.{AreBundles}
 use Rattle.slice_snap.specs.declared.piece.Piece.{Piece}
 use Rattle.slice_bool.specs.Pieces.{slab_pieces}
-use Rattle.slice_bool.specs.Parts.{level_at, AreUpToNext, AreBetweenLevels, Extends}
+use Rattle.slice_bool.specs.Parts.{AreUpToNext, AreBetweenLevels, Extends}
 use Rattle.slice_bool.specs.Keeping.{AreFor}
 use Rattle.slice_bool.proofs.Climbing.{neighbours_at, next_level, last_level}
 use Rattle.slice_bool.proofs.border.push_level.Goals as goal

@@ -1,12 +1,9 @@
 -- The edge's passage is the same hard by each spot of the level.
-use Rattle.std.proofs.Common.{◌≡◌, ◌<◌, ap, ◌∙◌, subst, arith}
+use Rattle.std.proofs.Common.{ap, ◌∙◌}
 use lib.IntN.{ℤ, pos}
-use lib.Signed.{◌<ℤ◌}
 use Rattle.std.specs.Prelude.{if◌then◌else◌}
-use Rattle.std.proofs.lemmas.Int.{ints}
 use Rattle.scad_geom.specs.Point.{Point, whole}
 use Rattle.scad_geom.specs.Winding.{passage_by}
-use Rattle.slice_snap.specs.declared.piece.Spot.{Spot}
 use Rattle.slice_bool.specs.Stops.{is_left}
 use Rattle.slice_bool.proofs.Hardby.{passed}
 use Rattle.slice_bool.proofs.Passages.{passer_turn}

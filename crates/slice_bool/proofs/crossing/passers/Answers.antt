@@ -1,5 +1,5 @@
 -- The order changes no sum.
-use Rattle.std.proofs.Common.{◌≡◌, ◌<◌, sym, ◌∙◌}
+use Rattle.std.proofs.Common.{◌<◌, ◌∙◌}
 use Rattle.std.proofs.lemmas.List.Sorted.{All-permutation, length_permutation}
 use Rattle.slice_bool.proofs.Passages.{beyond_permuted}
 use Rattle.slice_bool.proofs.crossing.passers.Goals as goal

@@ -1,18 +1,13 @@
 -- The edge's passage is what it adds to its leaf's number.
-use Rattle.std.proofs.Common.{◌≡◌, ◌<◌, ◌+◌, ◌++◌, ◌∷◌, [], ℕ, List, true, length, drop, get_or, refl, sym, ap, ◌∙◌, arith, subst}
-use lib.IntN.{ℤ, pos, ◌+ℤ◌, +ℤ_idl}
-use Rattle.std.specs.Prelude.{◌==◌, if◌then◌else◌}
+use Rattle.std.proofs.Common.{◌<◌, ℕ, List, true, length, get_or, refl, sym, ap, ◌∙◌, arith, subst}
+use lib.IntN.{◌+ℤ◌, +ℤ_idl}
 use Rattle.std.specs.List.{All}
-use Rattle.std.proofs.lemmas.List.{drop_all}
-use Rattle.scad_geom.proofs.Leaves.{wind_leaf, wind_leaf-is}
+use Rattle.scad_geom.proofs.Leaves.{wind_leaf}
 use Rattle.scad_geom.specs.declared.level.LeafEdge.{LeafEdge}
 use Rattle.slice_slab.specs.Bundles.{no_edge}
-use Rattle.slice_snap.specs.declared.piece.Spot.{Spot}
 use Rattle.slice_snap.specs.Spots.{point_of}
 use Rattle.slice_bool.specs.declared.passer.Passer.{Passer}
-use Rattle.slice_bool.specs.Stops.{is_left}
-use Rattle.slice_bool.specs.Passers.{owns_beyond, own_beyond}
-use Rattle.slice_bool.proofs.Hardby.{wind_more}
+use Rattle.slice_bool.specs.Passers.{owns_beyond}
 use Rattle.slice_bool.proofs.Passages.{wind_added, leaf_added, length_added, winds_all}
 use Rattle.slice_bool.proofs.crossing.unsorted.Goals as goal
 

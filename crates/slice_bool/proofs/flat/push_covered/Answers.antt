@@ -1,7 +1,4 @@
 -- The stops lie on the level.
-use Rattle.std.proofs.Common.{subst, sym}
-use Rattle.std.specs.List.{All}
-use Rattle.slice_bool.specs.declared.near.Near.{Near}
 use Rattle.slice_bool.proofs.NearLevel.{near_all}
 use Rattle.slice_bool.proofs.flat.push_covered.Goals as goal
 

@@ -1,5 +1,5 @@
 -- The stops of the edges that meet the level are those of all edges. Where no flat edge lies on it, there are no pieces.
-use Rattle.std.proofs.Common.{◌≡◌, ◌∙◌, ◌++◌, [], List, ℕ, refl, sym, ap, subst}
+use Rattle.std.proofs.Common.{◌≡◌, ◌∙◌, ◌++◌, [], List, refl, sym, ap, subst}
 use Rattle.std.proofs.lemmas.List.{append-nil}
 use Rattle.std.proofs.lemmas.Result.{on_ok_weaker}
 use Rattle.slice_snap.specs.declared.piece.Spot.{Spot}

@@ -1,12 +1,11 @@
 -- The next stretch gives its piece.
 use Rattle.std.proofs.Common.{◌≡◌, ◌+◌, ◌-◌, ◌++◌, ℕ, List, Bool, true, false, drop, get_or, sym, ap, ap₂, ◌∙◌, arith}
 use Rattle.std.proofs.lemmas.List.{append-nil}
-use Rattle.std.specs.List.{position}
 use Rattle.slice_snap.specs.declared.piece.Piece.{Piece}
 use Rattle.slice_snap.specs.Spots.{point_of}
 use Rattle.scad_geom.specs.Shape.{is_in_by}
 use Rattle.slice_bool.specs.declared.stop.Stop.{Stop}
-use Rattle.slice_bool.specs.Pieces.{flat_pieces, stretch_piece, covers}
+use Rattle.slice_bool.specs.Pieces.{flat_pieces, stretch_piece}
 use Rattle.slice_bool.specs.Passers.{covered_piece}
 use Rattle.slice_bool.specs.Stops.{spots_in}
 use Rattle.slice_bool.proofs.Stretches.{stretch, stretch_at, no_stretch, more_pieces}

@@ -1,11 +1,9 @@
 -- The edges that pass the level rise, and give the values of all edges.
-use Rattle.std.proofs.Common.{◌≡◌, ◌<◌, ◌∙◌, ℕ, List, All, sym, ap, subst, get_or, vec_len}
+use Rattle.std.proofs.Common.{◌<◌, ◌∙◌, ℕ, All, sym, subst, vec_len}
 use Rattle.std.proofs.lemmas.Result.{IfOk-weaker}
 use lib.IntN.{pos}
 use lib.Signed.{◌<ℤ◌}
 use Rattle.scad_geom.specs.Line.{rise}
-use Rattle.scad_geom.specs.declared.level.LeafEdge.{LeafEdge}
-use Rattle.slice_bool.specs.declared.passer.Passer.{Passer}
 use Rattle.slice_bool.specs.Passers.{ArePassers}
 use Rattle.slice_bool.proofs.Touched.{all_passing}
 use Rattle.slice_bool.proofs.Passages.{passing_rises, beyond_along}

@@ -1,5 +1,5 @@
 -- The edges that meet the level say all of it.
-use Rattle.std.proofs.Common.{◌≡◌, ◌<◌, ◌∙◌, ◌^◌, ℕ, List, All, sym, ap, subst, length, filter, arith}
+use Rattle.std.proofs.Common.{◌≡◌, ◌<◌, ◌∙◌, ◌^◌, List, All, sym, ap, subst, length, filter, arith}
 use Rattle.scad_geom.specs.Limits.{coordinate_limit}
 use Rattle.scad_geom.specs.Within.{IsEdgeWithin}
 use Rattle.scad_geom.specs.declared.level.LeafEdge.{LeafEdge}

@@ -7,7 +7,7 @@ use Rattle.scad_geom.specs.declared.level.LeafEdge.{LeafEdge}
 use Rattle.slice_bool.specs.Beside.{left_value, HaveLeaves}
 use Rattle.slice_bool.proofs.Touched.{all_passing}
 use Rattle.slice_bool.proofs.Untouched.{bundles_have_leaves}
-use Rattle.slice_bool.specs.Beside.{RisesFirst, piece_of}
+use Rattle.slice_bool.specs.Beside.{piece_of}
 use Rattle.slice_bool.proofs.Bundled.{are_members, rises_at, piece_at, value_beside, any_default}
 use Rattle.slice_bool.proofs.Stretches.{more_pieces}
 use Rattle.slice_bool.proofs.slab.push_slab_pieces.Goals as goal

@@ -1,6 +1,6 @@
 -- The edge's leaf goes back to 0.
 use Rattle.std.proofs.Common.{ℕ, ◌+◌, drop, get_or, sym, ap, ◌∙◌, refl, List}
-use Rattle.std.specs.Prelude.{ℤ, pos, ◌==◌, if◌then◌else◌}
+use Rattle.std.specs.Prelude.{pos, ◌==◌, if◌then◌else◌}
 use Rattle.std.proofs.lemmas.List.{at_drop_more, drop_all}
 use Rattle.scad_geom.specs.declared.level.LeafEdge.{LeafEdge}
 use Rattle.slice_slab.specs.Bundles.{no_edge}
