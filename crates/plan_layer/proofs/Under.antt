@@ -1,6 +1,5 @@
 -- An exact point and the whole point below and to the left of it: where this one is deep, the other keeps the clearance.
-use Rattle.std.proofs.Common.{◌≡◌, ◌≤◌, ℕ, List, ◌∙◌, sym, flat_map, arith, true, ℤ, pos, ◌+ℤ◌, ◌-ℤ◌, ◌*ℤ◌, ◌<ℤ◌}
-use lib.Signed.{◌≤ℤ◌}
+use Rattle.std.proofs.Common.{◌≡◌, ◌≤◌, ℕ, List, ◌∙◌, sym, flat_map, arith, true, pos, ◌<ℤ◌}
 use Rattle.std.proofs.lemmas.Int.{ints}
 use Rattle.std.proofs.lemmas.List.Elements.{All-weaker}
 use Rattle.scad_geom.specs.declared.point.Pt.{Pt}
@@ -43,7 +42,8 @@ module _ (outlines : List (List Pt)) (c : ℕ) (p : Pt) (q : Point) (hd : pos 0 
   one = omega (arith, ints)
 
   same_winding : wind q (segments (flat_map sides outlines)) ≡ wind (whole p) (segments (flat_map sides outlines))
-  same_winding = wound_alike c two (flat_map sides outlines) (sides_balanced outlines) q (whole p) hd one
+  same_winding =
+      wound_alike c (omega (arith, two)) (flat_map sides outlines) (sides_balanced outlines) q (whole p) hd one
       (within_one p q hd under) deep.apart true true
 
   pub deep_keeps : KeepsWithin outlines c q
