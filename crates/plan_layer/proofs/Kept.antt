@@ -1,20 +1,14 @@
 -- What walls and runs keep, the moves of a plan keep.
-use Rattle.std.proofs.Common.{◌≡◌, ◌≤◌, ◌+◌, ◌*◌, ◌/◌, ℕ, Bool, true, false, not, List, [], ◌∷◌, ◌++◌}
-use Rattle.std.proofs.Common.{map, reverse, refl, ap, ap₂, ◌∙◌, sym, subst, flat_map, arith, ℤ, pos, ◌-ℤ◌, ◌*ℤ◌}
-use Rattle.std.proofs.Common.{◌<ℤ◌}
+use Rattle.std.proofs.Common.{◌≤◌, ◌*◌, ◌/◌, ℕ, List, flat_map, arith, ℤ, pos, ◌-ℤ◌, ◌*ℤ◌, ◌<ℤ◌}
 use lib.Signed.{◌≤ℤ◌}
 use Rattle.std.specs.Prelude.{All}
-use Rattle.std.specs.List.{AllByRecursion}
 use Rattle.std.proofs.lemmas.Int.{ints}
-use Rattle.std.proofs.lemmas.Grind.{reverse_onto, flat_map-append}
-use Rattle.std.proofs.lemmas.List.{map-append}
-use Rattle.std.proofs.lemmas.List.Elements.{All-nil, All-cons, All-append, All-weaker}
-use Rattle.std.proofs.lemmas.List.Elements.{recursion_from_All}
+use Rattle.std.proofs.lemmas.List.Elements.{All-weaker}
 use Rattle.scad_base.proofs.Products.{positive_product}
 use Rattle.scad_geom.specs.declared.point.Pt.{Pt}
 use Rattle.scad_geom.specs.declared.point.Edge.{Edge}
 use Rattle.scad_geom.specs.Point.{Point, whole}
-use Rattle.scad_geom.specs.Loop.{path, sides}
+use Rattle.scad_geom.specs.Loop.{sides}
 use Rattle.scad_geom.specs.Near.{mean}
 use Rattle.scad_geom.proofs.Signs.{at_least_mul, sub_mul}
 use Rattle.winding_laws.proofs.Parts.{on_turned}
@@ -26,11 +20,9 @@ use Rattle.plan_walls.specs.Walls.{AreWalls}
 use Rattle.plan_walls.specs.Kept.{clearance, KeepsWithin, WallsKeepClear, KeepsClear}
 use Rattle.scad_words.specs.declared.settings.Settings.{Settings}
 use Rattle.scad_words.specs.Settings.{AreInRange}
-use Rattle.plan_layer.specs.Moves.{moves_from, moves, all_moves}
-use Rattle.plan_layer.specs.Plan.{distance, AreWallsFrom, round, wall_paths, IsPlan}
-use Rattle.plan_layer.specs.Infill.{line_at, depth, IsLayerRun, LineRuns, IsFilled, backwards, line_paths}
-use Rattle.plan_layer.specs.Infill.{infill_paths}
-use Rattle.plan_layer.specs.Kept.{PathsKeepClear, PlansKeepClear}
+use Rattle.plan_layer.specs.Plan.{distance}
+use Rattle.plan_layer.specs.Infill.{line_at, depth, IsLayerRun}
+use Rattle.plan_layer.specs.Kept.{PlansKeepClear}
 use Rattle.plan_layer.proofs.Runs.{runs_keep_clear}
 use Rattle.plan_layer.proofs.Each.{plan_holds}
 
