@@ -7,16 +7,16 @@ use Rattle.std.proofs.lemmas.List.Sums.{sum_by-cons}
 use Rattle.scad_geom.specs.declared.point.Pt.{Pt}
 use Rattle.scad_geom.specs.declared.point.Edge.{Edge}
 use Rattle.scad_geom.specs.Loop.{path, sides}
-use Rattle.scad_ring.specs.OctagonCorners.{octagon_corners}
-use Rattle.scad_ring.proofs.Shapes.{octagon_corners-few}
+use Rattle.scad_ring.specs.Corners.{corners_of}
+use Rattle.scad_ring.proofs.Shapes.{corners_of-few}
 use Rattle.plan_walls.specs.Walls.{of_leaf, rings_from, with_rings}
 
 -- how many corners the ring round an edge has
 abbrev pub corner_count : ℕ → Edge → ℕ
-corner_count c e = length (octagon_corners c e)
+corner_count c e = length (corners_of c e)
 
 pub corner_few : (c : ℕ) (e : Edge) → corner_count c e ≤ 10
-corner_few c e = octagon_corners-few c e
+corner_few c e = corners_of-few c e
 
 -- a closed way has as many sides as vertices
 length-path : (from last : Pt) (ps : List Pt) → length (path from ps last) ≡ suc (length ps)
@@ -30,9 +30,9 @@ length-sides (p ∷ ps) = length-path p p ps
 length-rings : (c k : ℕ) (es : List Edge) → length (rings_from c k es) ≡ sum_by (corner_count c) es
 length-rings c k [] = refl
 length-rings c k (e ∷ es) =
-    length-append (of_leaf k (sides (octagon_corners c e))) (rings_from c (k + 1) es)
-    ∙ ap₂ (λ m n. m + n) (length-map (sides (octagon_corners c e)) (λ f. record { leaf = k; edge = f })
-    ∙ length-sides (octagon_corners c e)) (length-rings c (k + 1) es)
+    length-append (of_leaf k (sides (corners_of c e))) (rings_from c (k + 1) es)
+    ∙ ap₂ (λ m n. m + n) (length-map (sides (corners_of c e)) (λ f. record { leaf = k; edge = f })
+    ∙ length-sides (corners_of c e)) (length-rings c (k + 1) es)
     ∙ sym (sum_by-cons (corner_count c) e es)
 
 pub count_is : (c : ℕ) (es : List Edge) → length (with_rings c es) ≡ length es + sum_by (corner_count c) es

@@ -11,13 +11,26 @@ use Rattle.scad_geom.specs.Sign.{is_zero}
 use Rattle.plan_sides.proofs.Closed.{sides_balanced}
 use Rattle.slice_bool.proofs.NearBorder.{outlines_are_near_border}
 use Rattle.plan_walls.specs.Walls.{with_rings}
-use Rattle.plan_walls.specs.Kept.{WallsKeepClear}
+use Rattle.plan_walls.specs.Kept.{WallsStayApart, WallsKeepClear}
 use Rattle.plan_walls.proofs.Off.{IsOff, held_off}
 use Rattle.plan_walls.proofs.Clear.{clear_of}
 use Rattle.plan_walls.proofs.Inside.{wound_alike}
 
 no_zero : (z : ℤ) → not (is_zero z) ≡ true → z ≡ pos 0 → ⊥
 no_zero z h e = true≢false (sym (subst (λ (y : ℤ). not (is_zero y) ≡ true) e h))
+
+pub walls_stay_apart : WallsStayApart
+walls_stay_apart c outlines loops some h =
+    let es : List Edge = flat_map sides outlines in
+    let shape : Shape = h.shape in
+    let near = outlines_are_near_border (with_rings c es) shape loops h.are_outlines in
+    λ i d l q dq on.
+    let n = near i d l q dq on in
+    let b : Point = n.border in
+    let k = n.is_border in
+    let held = held_off c some k.held_above k.held_right b n.positive es shape h.first_without k.held in
+    let off : All (IsOff c b) es = All-from_recursion (IsOff c b) es held.1 in
+    λ j f m. clear_of c q b dq n.positive n.near (get_or es j f) (off j f m)
 
 pub walls_keep_clear : WallsKeepClear
 walls_keep_clear c outlines loops two h =
@@ -34,6 +47,6 @@ walls_keep_clear c outlines loops two h =
     let alike = wound_alike c two es (sides_balanced outlines) q b dq n.positive n.near off k.held_above
     k.held_right in
     record {
-      clear = λ j f m. clear_of c q b dq n.positive n.near (get_or es j f) (off j f m);
+      clear = walls_stay_apart c outlines loops some h i d l q dq on;
       inside = λ e. no_zero _ held.0 (sym alike ∙ e);
     }

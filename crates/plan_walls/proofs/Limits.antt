@@ -12,8 +12,8 @@ use Rattle.scad_geom.specs.Limits.{point_limit, coordinate_limit}
 use Rattle.scad_geom.specs.Within.{IsWithin, IsEdgeWithin}
 use Rattle.scad_geom.specs.Loop.{path, sides}
 use Rattle.plan_sides.proofs.Within.{sides_within}
-use Rattle.scad_ring.specs.OctagonCorners.{octagon_corners}
-use Rattle.scad_ring.proofs.Shapes.{octagon_corners-within}
+use Rattle.scad_ring.specs.Corners.{corners_of}
+use Rattle.scad_ring.proofs.Shapes.{corners_of-within}
 use Rattle.plan_walls.specs.Walls.{of_leaf, rings_from, with_rings}
 
 module _ (c : ℕ) (most : c ≤ 100000) where
@@ -25,15 +25,15 @@ module _ (c : ℕ) (most : c ≤ 100000) where
   leaf_within k (e ∷ es) h = (h.0, leaf_within k es h.1)
 
   ring_within : (e : Edge) → IsEdgeWithin point_limit e
-      → AllByRecursion (IsEdgeWithin coordinate_limit) (sides (octagon_corners c e))
-  ring_within e h = sides_within coordinate_limit (octagon_corners c e) (octagon_corners-within c most e h)
+      → AllByRecursion (IsEdgeWithin coordinate_limit) (sides (corners_of c e))
+  ring_within e h = sides_within coordinate_limit (corners_of c e) (corners_of-within c most e h)
 
   rings_within : (k : ℕ) (es : List Edge) → AllByRecursion (IsEdgeWithin point_limit) es → AreWithin (rings_from c k es)
   rings_within k [] h = tt
   rings_within k (e ∷ es) h =
-      AllByRecursion-append (λ e. IsEdgeWithin coordinate_limit e.edge) (of_leaf k (sides (octagon_corners c e)))
+      AllByRecursion-append (λ e. IsEdgeWithin coordinate_limit e.edge) (of_leaf k (sides (corners_of c e)))
       (rings_from c (k + 1) es)
-      (leaf_within k (sides (octagon_corners c e)) (ring_within e h.0)) (rings_within (k + 1) es h.1)
+      (leaf_within k (sides (corners_of c e)) (ring_within e h.0)) (rings_within (k + 1) es h.1)
 
   wider : (z : ℤ) → unsigned_abs z ≤ point_limit → unsigned_abs z ≤ coordinate_limit
   wider z h = omega (arith, h)

@@ -13,12 +13,11 @@ use Rattle.scad_geom.specs.Loop.{path, sides}
 use Rattle.scad_geom.specs.Winding.{wind_by}
 use Rattle.scad_ring.specs.Octagon.{reach, octagon_of}
 use Rattle.scad_ring.specs.Nearness.{Open, Meets}
-use Rattle.scad_ring.specs.Ring.{IsLeftOf, AllTurnLeft}
-use Rattle.scad_ring.specs.OctagonRing.{IsOctagonRing}
-use Rattle.scad_ring.specs.OctagonCorners.{octagon_corners}
+use Rattle.scad_ring.specs.Ring.{IsLeftOf, AllTurnLeft, IsRing}
+use Rattle.scad_ring.specs.Corners.{corners_of}
 use Rattle.scad_ring.proofs.Opened.{shifted, IsStep, near_shifted}
-use Rattle.scad_ring.proofs.Shapes.{octagon_corners-several}
-use Rattle.scad_ring.proofs.Ways.{octagon_ring_is}
+use Rattle.scad_ring.proofs.Shapes.{corners_of-several}
+use Rattle.scad_ring.proofs.Ways.{ring_is}
 use Rattle.plan_walls.specs.Rings.{IsStrictlyLeftOf}
 use Rattle.plan_walls.proofs.Rings.{left_is_wound}
 use Rattle.plan_walls.proofs.Strictly.{TurnsAfter, strictly_left}
@@ -54,8 +53,8 @@ several_two [] h = omega (arith, h)
 several_two (p ∷ []) h = omega (arith, h)
 several_two (p ∷ r ∷ ps) h = tt
 
-two_corners : (c : ℕ) (e : Edge) → HasTwo (octagon_corners c e)
-two_corners c e = several_two (octagon_corners c e) (octagon_corners-several c e)
+two_corners : (c : ℕ) (e : Edge) → HasTwo (corners_of c e)
+two_corners c e = several_two (corners_of c e) (corners_of-several c e)
 
 -- ---- steps by one along an axis
 to_right : IsStep (pos 1) (pos 0)
@@ -97,7 +96,7 @@ ComesNear c q e = Meets Open (octagon_of c) q (whole e.a) (whole e.b)
 shifted_positive : (k u v : ℤ) (q : Point) → pos 0 <ℤ k → pos 0 <ℤ q.d → pos 0 <ℤ (shifted k u v q).d
 shifted_positive k u v q h d = positive_product q.d k d h
 
-wound : (c : ℕ) (e : Edge) (corners : List Pt) → IsOctagonRing c e corners → HasTwo corners → (q : Point)
+wound : (c : ℕ) (e : Edge) (corners : List Pt) → IsRing c e corners → HasTwo corners → (q : Point)
     → pos 0 <ℤ q.d → ComesNear c q e
     → (above right : Bool) → pos 0 <ℤ wind_by above right q (segments (sides corners))
 wound c e [] ring two q d h above right = absurd two
@@ -125,6 +124,6 @@ wound c e (p ∷ r ∷ ps) ring two q d h above right =
     above right
 
 pub ring_winds : (c : ℕ) → 1 ≤ c → (e : Edge) (q : Point) → pos 0 <ℤ q.d → ComesNear c q e
-    → (above right : Bool) → pos 0 <ℤ wind_by above right q (segments (sides (octagon_corners c e)))
-ring_winds c some e q d h above right = wound c e (octagon_corners c e) (octagon_ring_is c some e) (two_corners c e) q d
+    → (above right : Bool) → pos 0 <ℤ wind_by above right q (segments (sides (corners_of c e)))
+ring_winds c some e q d h above right = wound c e (corners_of c e) (ring_is c some e) (two_corners c e) q d
     h above right

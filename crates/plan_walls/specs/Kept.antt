@@ -32,9 +32,24 @@ KeepClear outlines c loops = All
     (λ e. (q : Point) → pos 0 <ℤ q.d → IsOn (whole e.a) (whole e.b) q → KeepsWithin outlines c q)
     (flat_map sides loops)
 
--- ---- the law
--- Each point of the walls at a distance c, from 2 micrometres on, keeps the clearance of c from each side of the outlines,
--- and lies inside them.
+-- no point of a side of outlines differs from q by a point of the clearance of c
+abbrev pub IsApart : List (List Pt) → ℕ → Point → Type 0
+IsApart outlines c q = All (λ e. IsClear Closed (clearance c) q (whole e.a) (whole e.b)) (flat_map sides outlines)
+
+-- so it is of each point of each side of loops
+abbrev pub StayApart : List (List Pt) → ℕ → List (List Pt) → Type 0
+StayApart outlines c loops = All
+    (λ e. (q : Point) → pos 0 <ℤ q.d → IsOn (whole e.a) (whole e.b) q → IsApart outlines c q)
+    (flat_map sides loops)
+
+-- ---- the laws
+-- Each point of the walls at a distance c, from 1 micrometre on, keeps the clearance of c from each side of the outlines
+-- (that of 1 micrometre has no point).
+abbrev pub WallsStayApart : Type 0
+WallsStayApart = (c : ℕ) (outlines loops : List (List Pt)) → 1 ≤ c → AreWalls c outlines loops
+    → StayApart outlines c loops
+
+-- From 2 micrometres on each point of them also lies inside the outlines.
 abbrev pub WallsKeepClear : Type 0
 WallsKeepClear = (c : ℕ) (outlines loops : List (List Pt)) → 2 ≤ c → AreWalls c outlines loops
     → KeepClear outlines c loops

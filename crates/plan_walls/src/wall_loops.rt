@@ -7,7 +7,7 @@ ghost use Rattle.scad_geom.specs.Balance.{IsBalanced};
 ghost use Rattle.slice_events.specs.Limits.{crossing_limit};
 ghost use Rattle.slice_events.specs.Levels.{crossings};
 ghost use Rattle.plan_walls.specs.Walls.{with_rings, wall_edges, IsFirstWithout, AreWallsAlong, AreWalls};
-ghost use Rattle.plan_walls.specs.Kept.{KeepClear};
+ghost use Rattle.plan_walls.specs.Kept.{StayApart, KeepClear};
 ghost use Rattle.plan_walls.specs.Refusal.{wall_edge_limit, IsRefusal};
 
 use crate::edges::{edge_count, edges};
@@ -22,8 +22,8 @@ const EDGE_LIMIT: u32 = 220_000;
 
 /// The loops at the distance `c` micrometres from outlines, with the inside on their left: the outlines of what lies
 /// inside the given ones and outside of the ring round each of their sides, all that differs from a point of it by a
-/// point of the octagon of `c`. From `c` of 2 on each point of the loops keeps the clearance from every side of the
-/// outlines handed in, `c - 1` along each axis or `reach(c) - 2` along the sum of both, and they wind round it.
+/// point of the octagon of `c`. Each point of the loops keeps the clearance from every side of the outlines handed in,
+/// `c - 1` along each axis or `reach(c) - 2` along the sum of both, and from `c` of 2 on they wind round it.
 ///
 /// They are refused exactly where the sides and the rings have more than 220,000 edges, and then where more than
 /// 2,000,000 pairs of them cross.
@@ -32,6 +32,7 @@ pub fn walls(alloc: Global, outlines: &[Loop], c: u32) -> Result<Vec<Loop>, Bool
     requires positive { 1 ≤ c }
     requires width { c ≤ 100000 }
     ensures walls { IfOk result (λ v. AreWalls c outlines.now v.items) }
+    ensures apart { IfOk result (λ v. StayApart outlines.now c v.items) }
     ensures clear { 2 ≤ c → IfOk result (λ v. KeepClear outlines.now c v.items) }
     ensures few { IfOk result (λ v. length (wall_edges c outlines.now) ≤ wall_edge_limit) }
     ensures accepted { IfOk result (λ v. crossings (wall_edges c outlines.now) ≤ crossing_limit) }

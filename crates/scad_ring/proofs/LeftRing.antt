@@ -10,12 +10,12 @@ use Rattle.scad_geom.specs.Segment.{segments}
 use Rattle.scad_geom.specs.Loop.{sides}
 use Rattle.scad_ring.specs.Ring.{IsLeftOf, IsBefore}
 use Rattle.scad_ring.specs.declared.direction.Direction.TheVariants.{Left}
-use Rattle.scad_ring.specs.OctagonCorners.{eight_sided, low_left, low_right, right_low, right_high, high_right, high_left, left_high, left_low}
+use Rattle.scad_ring.specs.Corners.{eight_sided, low_left, low_right, right_low, right_high, high_right, high_left, left_high, left_low}
 use Rattle.scad_ring.proofs.Octants.{approach}
 use Rattle.scad_ring.proofs.Approaches.{ApproachFrom, meets_if_approach, approach_if_meets}
 use Rattle.scad_ring.proofs.Steps.{Step, Side, Beside, step, side, along, turns, side_gap, first_side, last_side}
 use Rattle.scad_ring.proofs.Slants.{under, over, line, left_by, left_passes}
-use Rattle.scad_ring.proofs.Offsets.{IsNearWay, IsOctagonRound, near_first, near_last, low_left_in, low_right_in, right_low_in, right_high_in, high_right_in, high_left_in, left_high_in, left_low_in}
+use Rattle.scad_ring.proofs.Offsets.{IsNearWay, IsRingRound, near_first, near_last, low_left_in, low_right_in, right_low_in, right_high_in, high_right_in, high_left_in, left_high_in, left_low_in}
 
 module _ (c t u : ℤ) (sum : u ≡ c +ℤ t) (some : pos 0 <ℤ t) (less : t <ℤ c) (p r : Pt) (y : p.y <ℤ r.y)
     (x : (r.y -ℤ p.y) <ℤ (p.x -ℤ r.x)) where
@@ -131,7 +131,7 @@ module _ (c t u : ℤ) (sum : u ≡ c +ℤ t) (some : pos 0 <ℤ t) (less : t <�
         over_right = inr g8;
       })
 
-  pub left_round : IsOctagonRound c u p r (eight_sided c t p r Left)
+  pub left_round : IsRingRound c u p r (eight_sided c t p r Left)
   left_round = record {
     holds = λ q d. (
       (λ m. sides_if q d (approach_if_meets q p r c u m)),

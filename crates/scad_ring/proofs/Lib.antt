@@ -1,11 +1,4 @@
-pub mod Mirrored
-pub mod Places
 pub mod Lines
-pub mod Turns
-pub mod Corners
-pub mod Sides
-pub mod Rings
-pub mod Whole
 pub mod Convex
 pub mod Octants
 pub mod Approaches
@@ -30,7 +23,6 @@ pub mod SmallSteepRightRing
 pub mod SmallDiagonalLeftRing
 pub mod SmallLeftRing
 pub mod Ways
-pub mod OctagonExamples
-pub mod Regions
+pub mod Examples
 pub mod Shapes
 pub mod Opened

@@ -11,7 +11,7 @@ use Rattle.scad_geom.proofs.Rising.{order}
 use Rattle.scad_ring.specs.Octagon.{octagon}
 use Rattle.scad_ring.specs.Nearness.{Closed, Meets}
 use Rattle.scad_ring.specs.Ring.{IsLeftOf, AllTurnLeft, IsBefore, StartsLowest, round}
-use Rattle.scad_ring.specs.OctagonCorners.{low_left, low_right, right_low, right_high, high_right, high_left, left_high, left_low, low, right, high, left}
+use Rattle.scad_ring.specs.Corners.{low_left, low_right, right_low, right_high, high_right, high_left, left_high, left_low, low, right, high, left}
 use Rattle.scad_ring.proofs.Convex.{one_first, one_last}
 use Rattle.scad_ring.proofs.Octants.{IsSize}
 use Rattle.scad_ring.proofs.Approaches.{meets_if_approach}
@@ -21,7 +21,7 @@ abbrev pub IsNearWay : ℤ → ℤ → Pt → Pt → Pt → Type 0
 IsNearWay c u p r k = Meets Closed (octagon c u) (whole k) (whole p) (whole r)
 
 -- these are the corners of the ring round the way from p to r by the octagon of half width c and half sum u
-pub record IsOctagonRound (c u : ℤ) (p r : Pt) (corners : List Pt) : Type 0 where
+pub record IsRingRound (c u : ℤ) (p r : Pt) (corners : List Pt) : Type 0 where
   pub holds : (q : Point) → pos 0 <ℤ q.d → Meets Closed (octagon c u) q (whole p) (whole r) ↔ All (IsLeftOf q)
       (segments (sides corners))
   pub near : All (IsNearWay c u p r) corners

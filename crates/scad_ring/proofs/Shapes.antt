@@ -12,19 +12,18 @@ use Rattle.scad_geom.specs.Within.{IsWithin, IsEdgeWithin}
 use Rattle.scad_ring.specs.Octagon.{slant}
 use Rattle.scad_ring.specs.declared.direction.Direction.{Direction}
 use Rattle.scad_ring.specs.declared.direction.Direction.TheVariants.{Still, Flat, Right, DiagonalRight, SteepRight, Upright, SteepLeft, DiagonalLeft, Left}
-use Rattle.scad_ring.specs.OctagonCorners.{direction_of, runs_back, eight_sided, four_sided, octagon_round, octagon_corners}
-use Rattle.scad_ring.specs.OctagonCorners.{low_left, low_right, right_low, right_high, high_right, high_left, left_high, left_low, low, right, high, left}
+use Rattle.scad_ring.specs.Corners.{direction_of, runs_back, eight_sided, four_sided, corners_round, corners_of, low_left, low_right, right_low, right_high, high_right, high_left, left_high, left_low, low, right, high, left}
 
 -- of either way along an edge
 pub by_shape : (P : List Pt → Type 0) (c : ℕ) (e : Edge)
     → ((w : Direction) → P (eight_sided (pos c) (pos (slant c)) e.a e.b w))
     → ((w : Direction) → P (eight_sided (pos c) (pos (slant c)) e.b e.a w))
     → ((w : Direction) → P (four_sided (pos c) e.a e.b w)) → ((w : Direction) → P (four_sided (pos c) e.b e.a w))
-    → P (octagon_corners c e)
+    → P (corners_of c e)
 by_shape P c e eight eight_back four four_back = by_order (runs_back e)
   where
     by_slant : (p r : Pt) → ((w : Direction) → P (eight_sided (pos c) (pos (slant c)) p r w))
-        → ((w : Direction) → P (four_sided (pos c) p r w)) → P (octagon_round (pos c) (pos (slant c)) p r)
+        → ((w : Direction) → P (four_sided (pos c) p r w)) → P (corners_round (pos c) (pos (slant c)) p r)
     by_slant p r h k = choose (int_lt (pos 0) (pos (slant c)))
       where
         choose : (z : Bool) → P (if z
@@ -33,8 +32,8 @@ by_shape P c e eight eight_back four four_back = by_order (runs_back e)
         choose true = h (direction_of (r.x -ℤ p.x) (r.y -ℤ p.y))
         choose false = k (direction_of (r.x -ℤ p.x) (r.y -ℤ p.y))
 
-    by_order : (z : Bool) → P (cond z (octagon_round (pos c) (pos (slant c)) e.b e.a)
-        (octagon_round (pos c) (pos (slant c)) e.a e.b))
+    by_order : (z : Bool) → P (cond z (corners_round (pos c) (pos (slant c)) e.b e.a)
+        (corners_round (pos c) (pos (slant c)) e.a e.b))
     by_order true = by_slant e.b e.a eight_back four_back
     by_order false = by_slant e.a e.b eight four
 
@@ -62,8 +61,8 @@ four_sided-few c p r DiagonalLeft = omega arith
 four_sided-few c p r Left = omega arith
 
 -- a ring has at most ten corners
-pub octagon_corners-few : (c : ℕ) (e : Edge) → length (octagon_corners c e) ≤ 10
-octagon_corners-few c e = by_shape (λ l. length l ≤ 10) c e (eight_sided-few (pos c) (pos (slant c)) e.a e.b)
+pub corners_of-few : (c : ℕ) (e : Edge) → length (corners_of c e) ≤ 10
+corners_of-few c e = by_shape (λ l. length l ≤ 10) c e (eight_sided-few (pos c) (pos (slant c)) e.a e.b)
     (eight_sided-few (pos c) (pos (slant c)) e.b e.a) (four_sided-few (pos c) e.a e.b)
     (four_sided-few (pos c) e.b e.a)
 
@@ -90,8 +89,8 @@ four_sided-several c p r SteepLeft = omega arith
 four_sided-several c p r DiagonalLeft = omega arith
 four_sided-several c p r Left = omega arith
 
-pub octagon_corners-several : (c : ℕ) (e : Edge) → 3 ≤ length (octagon_corners c e)
-octagon_corners-several c e = by_shape (λ l. 3 ≤ length l) c e (eight_sided-several (pos c) (pos (slant c)) e.a e.b)
+pub corners_of-several : (c : ℕ) (e : Edge) → 3 ≤ length (corners_of c e)
+corners_of-several c e = by_shape (λ l. 3 ≤ length l) c e (eight_sided-several (pos c) (pos (slant c)) e.a e.b)
     (eight_sided-several (pos c) (pos (slant c)) e.b e.a) (four_sided-several (pos c) e.a e.b)
     (four_sided-several (pos c) e.b e.a)
 
@@ -422,9 +421,9 @@ slant_most : (c : ℕ) → slant c ≤ c
 slant_most c = omega arith
 
 -- the corners of a ring round an edge of a layer
-pub octagon_corners-within : (c : ℕ) → c ≤ 100000 → (e : Edge) → IsEdgeWithin point_limit e
-    → AllByRecursion (IsWithin coordinate_limit) (octagon_corners c e)
-octagon_corners-within c most e h = by_shape Within c e
+pub corners_of-within : (c : ℕ) → c ≤ 100000 → (e : Edge) → IsEdgeWithin point_limit e
+    → AllByRecursion (IsWithin coordinate_limit) (corners_of c e)
+corners_of-within c most e h = by_shape Within c e
     (eight_within c (slant c) most (slant_most c) e.a e.b h.a h.b)
     (eight_within c (slant c) most (slant_most c) e.b e.a h.b h.a)
     (four_within c (slant c) most (slant_most c) e.a e.b h.a h.b)

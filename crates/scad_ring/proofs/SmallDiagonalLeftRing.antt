@@ -11,12 +11,12 @@ use Rattle.scad_geom.specs.Segment.{segments}
 use Rattle.scad_geom.specs.Loop.{sides}
 use Rattle.scad_ring.specs.Ring.{IsLeftOf, IsBefore}
 use Rattle.scad_ring.specs.declared.direction.Direction.TheVariants.{DiagonalLeft}
-use Rattle.scad_ring.specs.OctagonCorners.{four_sided, low, right, high, left}
+use Rattle.scad_ring.specs.Corners.{four_sided, low, right, high, left}
 use Rattle.scad_ring.proofs.Octants.{approach_four}
 use Rattle.scad_ring.proofs.Approaches.{ApproachFrom, meets_if_approach, approach_if_meets}
 use Rattle.scad_ring.proofs.Steps.{Side, side, turns, side_gap, first_side, last_side}
 use Rattle.scad_ring.proofs.Slants.{steep_left_by, diagonal_left_passes}
-use Rattle.scad_ring.proofs.Offsets.{IsNearWay, IsOctagonRound, near_first, near_last, low_in, right_in, high_in, left_in}
+use Rattle.scad_ring.proofs.Offsets.{IsNearWay, IsRingRound, near_first, near_last, low_in, right_in, high_in, left_in}
 
 module _ (c : ℤ) (less : pos 0 <ℤ c) (p r : Pt) (x : r.x <ℤ p.x) (y : r.y -ℤ p.y ≡ p.x -ℤ r.x) where
   weak : pos 0 ≤ℤ pos 0
@@ -87,7 +87,7 @@ module _ (c : ℤ) (less : pos 0 <ℤ c) (p r : Pt) (x : r.x <ℤ p.x) (y : r.y 
         ints,
       )) l) (inl g3) (inr g2) (inl g0) (inl g1)
 
-  pub diagonal_left_round : IsOctagonRound c c p r (four_sided c p r DiagonalLeft)
+  pub diagonal_left_round : IsRingRound c c p r (four_sided c p r DiagonalLeft)
   diagonal_left_round = record {
     holds = λ q d. (
       (λ m. sides_if q d (approach_if_meets q p r c c m)),

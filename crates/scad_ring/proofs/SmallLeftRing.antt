@@ -11,12 +11,12 @@ use Rattle.scad_geom.specs.Segment.{segments}
 use Rattle.scad_geom.specs.Loop.{sides}
 use Rattle.scad_ring.specs.Ring.{IsLeftOf, IsBefore}
 use Rattle.scad_ring.specs.declared.direction.Direction.TheVariants.{Left}
-use Rattle.scad_ring.specs.OctagonCorners.{four_sided, low, right, high, left}
+use Rattle.scad_ring.specs.Corners.{four_sided, low, right, high, left}
 use Rattle.scad_ring.proofs.Octants.{approach_four}
 use Rattle.scad_ring.proofs.Approaches.{ApproachFrom, meets_if_approach, approach_if_meets}
 use Rattle.scad_ring.proofs.Steps.{Step, Side, Beside, step, side, along, turns, side_gap, first_side, last_side}
 use Rattle.scad_ring.proofs.Slants.{under, over, line, left_by, left_passes}
-use Rattle.scad_ring.proofs.Offsets.{IsNearWay, IsOctagonRound, near_first, near_last, low_in, right_in, high_in, left_in}
+use Rattle.scad_ring.proofs.Offsets.{IsNearWay, IsRingRound, near_first, near_last, low_in, right_in, high_in, left_in}
 
 module _ (c : ℤ) (less : pos 0 <ℤ c) (p r : Pt) (y : p.y <ℤ r.y) (x : (r.y -ℤ p.y) <ℤ (p.x -ℤ r.x)) where
   weak : pos 0 ≤ℤ pos 0
@@ -96,7 +96,7 @@ module _ (c : ℤ) (less : pos 0 <ℤ c) (p r : Pt) (y : p.y <ℤ r.y) (x : (r.y
         ints,
       )) (omega (arith, ints)) l) (inr g4) (inr g3) (inl g0) (inl g1)
 
-  pub left_round : IsOctagonRound c c p r (four_sided c p r Left)
+  pub left_round : IsRingRound c c p r (four_sided c p r Left)
   left_round = record {
     holds = λ q d. (
       (λ m. sides_if q d (approach_if_meets q p r c c m)),

@@ -11,12 +11,12 @@ use Rattle.scad_geom.specs.Segment.{segments}
 use Rattle.scad_geom.specs.Loop.{sides}
 use Rattle.scad_ring.specs.Ring.{IsLeftOf, IsBefore}
 use Rattle.scad_ring.specs.declared.direction.Direction.TheVariants.{Right}
-use Rattle.scad_ring.specs.OctagonCorners.{four_sided, low, right, high, left}
+use Rattle.scad_ring.specs.Corners.{four_sided, low, right, high, left}
 use Rattle.scad_ring.proofs.Octants.{approach_four}
 use Rattle.scad_ring.proofs.Approaches.{ApproachFrom, meets_if_approach, approach_if_meets}
 use Rattle.scad_ring.proofs.Steps.{Step, Side, Beside, step, side, along, turns, side_gap, first_side, last_side}
 use Rattle.scad_ring.proofs.Slants.{under, over, line, right_by, right_passes}
-use Rattle.scad_ring.proofs.Offsets.{IsNearWay, IsOctagonRound, near_first, near_last, low_in, right_in, high_in, left_in, before}
+use Rattle.scad_ring.proofs.Offsets.{IsNearWay, IsRingRound, near_first, near_last, low_in, right_in, high_in, left_in, before}
 
 module _ (c : ℤ) (less : pos 0 <ℤ c) (p r : Pt) (y : p.y ≤ℤ r.y) (x : (r.y -ℤ p.y) <ℤ (r.x -ℤ p.x)) where
   weak : pos 0 ≤ℤ pos 0
@@ -97,7 +97,7 @@ module _ (c : ℤ) (less : pos 0 <ℤ c) (p r : Pt) (y : p.y ≤ℤ r.y) (x : (r
         ints,
       )) l) (inl g5) (inl g4) (inr g1) (inr g2)
 
-  pub right_round : IsOctagonRound c c p r (four_sided c p r Right)
+  pub right_round : IsRingRound c c p r (four_sided c p r Right)
   right_round = record {
     holds = λ q d. (
       (λ m. sides_if q d (approach_if_meets q p r c c m)),

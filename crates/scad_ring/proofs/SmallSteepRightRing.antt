@@ -11,12 +11,12 @@ use Rattle.scad_geom.specs.Loop.{sides}
 use Rattle.scad_geom.proofs.Rising.{order}
 use Rattle.scad_ring.specs.Ring.{IsLeftOf, IsBefore}
 use Rattle.scad_ring.specs.declared.direction.Direction.TheVariants.{SteepRight}
-use Rattle.scad_ring.specs.OctagonCorners.{four_sided, low, right, high, left}
+use Rattle.scad_ring.specs.Corners.{four_sided, low, right, high, left}
 use Rattle.scad_ring.proofs.Octants.{approach_four}
 use Rattle.scad_ring.proofs.Approaches.{ApproachFrom, meets_if_approach, approach_if_meets}
 use Rattle.scad_ring.proofs.Steps.{Step, Side, Beside, step, side, along, turns, side_gap, first_side, last_side}
 use Rattle.scad_ring.proofs.Slants.{PassesFrom, CornerFrom, under, over, line, steep_right_by, steep_left_by, steep_right_passes, steep_left_passes}
-use Rattle.scad_ring.proofs.Offsets.{IsNearWay, IsOctagonRound, near_first, near_last, low_in, right_in, high_in, left_in}
+use Rattle.scad_ring.proofs.Offsets.{IsNearWay, IsRingRound, near_first, near_last, low_in, right_in, high_in, left_in}
 
 module _ (c : ℤ) (less : pos 0 <ℤ c) (p r : Pt) (x : (r.x -ℤ p.x) <ℤ (r.y -ℤ p.y)) (y : (p.x -ℤ r.x) <ℤ (r.y -ℤ p.y))
   where
@@ -101,7 +101,7 @@ module _ (c : ℤ) (less : pos 0 <ℤ c) (p r : Pt) (x : (r.x -ℤ p.x) <ℤ (r.
           | inr h ↦ steep_left_by p r q d c (pos 0) c sum weak less (omega (arith, ints)) (omega (arith, ints)) l
         ]) (inl g5) (inr g3) (inl g0) (inr g2)
 
-    pub steep_right_round : IsOctagonRound c c p r (four_sided c p r SteepRight)
+    pub steep_right_round : IsRingRound c c p r (four_sided c p r SteepRight)
     steep_right_round = record {
       holds = λ q d. (
         (λ m. sides_if q d (approach_if_meets q p r c c m)),

@@ -10,12 +10,12 @@ use Rattle.scad_geom.specs.Segment.{segments}
 use Rattle.scad_geom.specs.Loop.{sides}
 use Rattle.scad_ring.specs.Ring.{IsLeftOf, IsBefore}
 use Rattle.scad_ring.specs.declared.direction.Direction.TheVariants.{Still}
-use Rattle.scad_ring.specs.OctagonCorners.{four_sided, low, right, high, left}
+use Rattle.scad_ring.specs.Corners.{four_sided, low, right, high, left}
 use Rattle.scad_ring.proofs.Octants.{approach_four_point}
 use Rattle.scad_ring.proofs.Approaches.{ApproachFrom, meets_if_approach, approach_if_meets}
 use Rattle.scad_ring.proofs.Steps.{Side, side, turns, side_gap, first_side, last_side}
 use Rattle.scad_ring.proofs.Slants.{}
-use Rattle.scad_ring.proofs.Offsets.{IsNearWay, IsOctagonRound, near_first, near_last, low_in, right_in, high_in, left_in}
+use Rattle.scad_ring.proofs.Offsets.{IsNearWay, IsRingRound, near_first, near_last, low_in, right_in, high_in, left_in}
 
 module _ (c : ℤ) (less : pos 0 <ℤ c) (p r : Pt) (x : p.x ≡ r.x) (y : p.y ≡ r.y) where
   weak : pos 0 ≤ℤ pos 0
@@ -79,7 +79,7 @@ module _ (c : ℤ) (less : pos 0 <ℤ c) (p r : Pt) (x : p.x ≡ r.x) (y : p.y �
       (r.y *ℤ q.d -ℤ q.y) (ap (λ (z : ℤ). z *ℤ q.d -ℤ q.x) x) (ap (λ (z : ℤ). z *ℤ q.d -ℤ q.y) y) (inl g3)
       (inl g2) (inl g0) (inr g1)
 
-  pub still_round : IsOctagonRound c c p r (four_sided c p r Still)
+  pub still_round : IsRingRound c c p r (four_sided c p r Still)
   still_round = record {
     holds = λ q d. (
       (λ m. sides_if q d (approach_if_meets q p r c c m)),

@@ -8,12 +8,12 @@ use Rattle.scad_geom.specs.declared.point.Edge.{Edge}
 use Rattle.scad_geom.specs.Point.{Point, whole}
 use Rattle.scad_ring.specs.Octagon.{slant, reach, octagon}
 use Rattle.scad_ring.specs.Nearness.{Closed, Meets}
-use Rattle.scad_ring.specs.OctagonRing.{IsOctagonRing}
+use Rattle.scad_ring.specs.Ring.{IsRing}
 use Rattle.scad_ring.specs.declared.direction.Direction.{Direction}
 use Rattle.scad_ring.specs.declared.direction.Direction.TheVariants.{Still, Flat, Right, DiagonalRight, SteepRight, Upright, SteepLeft, DiagonalLeft, Left}
-use Rattle.scad_ring.specs.OctagonCorners.{direction_of, runs_back, eight_sided, four_sided, octagon_round, octagon_corners}
+use Rattle.scad_ring.specs.Corners.{direction_of, runs_back, eight_sided, four_sided, corners_round, corners_of}
 use Rattle.scad_ring.proofs.Decided.{meets_back}
-use Rattle.scad_ring.proofs.Offsets.{IsOctagonRound}
+use Rattle.scad_ring.proofs.Offsets.{IsRingRound}
 use Rattle.scad_ring.proofs.StillRing.{still_round}
 use Rattle.scad_ring.proofs.FlatRing.{flat_round}
 use Rattle.scad_ring.proofs.RightRing.{right_round}
@@ -89,15 +89,15 @@ module _ (p r : Pt) (forward : (p.y <ℤ r.y) ⊎ ((p.y ≡ r.y) × (p.x ≤ℤ 
       by_y false false v y x z = let l = (level y).1 in still (omega (arith, ints)) ((level y).0)
 
   eight : (c t u : ℤ) → u ≡ c +ℤ t → pos 0 <ℤ t → t <ℤ c
-      → IsOctagonRound c u p r (eight_sided c t p r (direction_of (r.x -ℤ p.x) (r.y -ℤ p.y)))
-  eight c t u sum some less = by_direction (λ w. IsOctagonRound c u p r (eight_sided c t p r w))
+      → IsRingRound c u p r (eight_sided c t p r (direction_of (r.x -ℤ p.x) (r.y -ℤ p.y)))
+  eight c t u sum some less = by_direction (λ w. IsRingRound c u p r (eight_sided c t p r w))
       (still_round c t u sum some less p r) (flat_round c t u sum some less p r) (right_round c t u sum some less p r)
       (diagonal_right_round c t u sum some less p r) (steep_right_round c t u sum some less p r)
       (upright_round c t u sum some less p r) (steep_left_round c t u sum some less p r)
       (diagonal_left_round c t u sum some less p r) (left_round c t u sum some less p r)
 
-  four : (c : ℤ) → pos 0 <ℤ c → IsOctagonRound c c p r (four_sided c p r (direction_of (r.x -ℤ p.x) (r.y -ℤ p.y)))
-  four c some = by_direction (λ w. IsOctagonRound c c p r (four_sided c p r w))
+  four : (c : ℤ) → pos 0 <ℤ c → IsRingRound c c p r (four_sided c p r (direction_of (r.x -ℤ p.x) (r.y -ℤ p.y)))
+  four c some = by_direction (λ w. IsRingRound c c p r (four_sided c p r w))
       (small_still.still_round c some p r)
       (λ x y. small_right.right_round c some p r (omega (arith, ints)) (omega (arith, ints)))
       (λ y x. small_right.right_round c some p r (omega (arith, ints)) x)
@@ -109,14 +109,14 @@ module _ (p r : Pt) (forward : (p.y <ℤ r.y) ⊎ ((p.y ≡ r.y) × (p.x ≤ℤ 
       (small_left.left_round c some p r)
 
   -- the corners by cases of the slant
-  any : (c t u : ℤ) → u ≡ c +ℤ t → pos 0 ≤ℤ t → t <ℤ c → IsOctagonRound c u p r (octagon_round c t p r)
+  any : (c t u : ℤ) → u ≡ c +ℤ t → pos 0 ≤ℤ t → t <ℤ c → IsRingRound c u p r (corners_round c t p r)
   any c t u sum some less = by_slant (int_lt (pos 0) t) refl
     where
-      by_slant : (z : Bool) → int_lt (pos 0) t ≡ z → IsOctagonRound c u p r
+      by_slant : (z : Bool) → int_lt (pos 0) t ≡ z → IsRingRound c u p r
           (if z then eight_sided c t p r (direction_of (r.x -ℤ p.x) (r.y -ℤ p.y))
           else four_sided c p r (direction_of (r.x -ℤ p.x) (r.y -ℤ p.y)))
       by_slant true h = eight c t u sum (omega (arith, ints, h)) less
-      by_slant false h = subst (λ (v : ℤ). IsOctagonRound c v p r (four_sided c p r
+      by_slant false h = subst (λ (v : ℤ). IsRingRound c v p r (four_sided c p r
           (direction_of (r.x -ℤ p.x) (r.y -ℤ p.y)))) (omega (arith, ints, h, sum, some)) (four c (omega (
             arith,
             ints,
@@ -126,8 +126,8 @@ module _ (p r : Pt) (forward : (p.y <ℤ r.y) ⊎ ((p.y ≡ r.y) × (p.x ≤ℤ 
           )))
 
 -- ---- either way along the edge
-round_back : (c u : ℤ) (p r : Pt) (corners : List Pt) → IsOctagonRound c u r p corners
-    → IsOctagonRound c u p r corners
+round_back : (c u : ℤ) (p r : Pt) (corners : List Pt) → IsRingRound c u r p corners
+    → IsRingRound c u p r corners
 round_back c u p r corners h = record {
   holds = λ q d. (
     (λ m. (h.holds q d).0 (meets_back Closed (octagon c u) q (whole p) (whole r) m)),
@@ -141,31 +141,31 @@ round_back c u p r corners h = record {
 slant_less : (c : ℕ) → 1 ≤ c → pos (slant c) <ℤ pos c
 slant_less c h = omega (arith, ints)
 
-from_round : (c : ℕ) (e : Edge) (corners : List Pt) → IsOctagonRound (pos c) (pos (reach c)) e.a e.b corners
-    → IsOctagonRing c e corners
+from_round : (c : ℕ) (e : Edge) (corners : List Pt) → IsRingRound (pos c) (pos (reach c)) e.a e.b corners
+    → IsRing c e corners
 from_round c e corners h = record { holds = h.holds; near = h.near; turns = h.turns; starts = h.starts }
 
-pub octagon_ring_is : (c : ℕ) → 1 ≤ c → (e : Edge) → IsOctagonRing c e (octagon_corners c e)
-octagon_ring_is c some e = by_order (int_lt e.b.y e.a.y) (int_le e.b.y e.a.y) (int_lt e.b.x e.a.x) refl refl refl
+pub ring_is : (c : ℕ) → 1 ≤ c → (e : Edge) → IsRing c e (corners_of c e)
+ring_is c some e = by_order (int_lt e.b.y e.a.y) (int_le e.b.y e.a.y) (int_lt e.b.x e.a.x) refl refl refl
   where
     back : (p r : Pt) → (p.y <ℤ r.y) ⊎ ((p.y ≡ r.y) × (p.x ≤ℤ r.x))
-        → IsOctagonRound (pos c) (pos (reach c)) p r (octagon_round (pos c) (pos (slant c)) p r)
+        → IsRingRound (pos c) (pos (reach c)) p r (corners_round (pos c) (pos (slant c)) p r)
     back p r f = any p r f (pos c) (pos (slant c)) (pos (reach c)) (omega (arith, ints)) (omega (arith, ints))
         (slant_less c some)
 
     by_order : (t u v : Bool) → int_lt e.b.y e.a.y ≡ t → int_le e.b.y e.a.y ≡ u → int_lt e.b.x e.a.x ≡ v
-        → IsOctagonRing c e (cond (t || (u && v)) (octagon_round (pos c) (pos (slant c)) e.b e.a)
-        (octagon_round (pos c) (pos (slant c)) e.a e.b))
-    by_order true u v x y z = from_round c e (octagon_round (pos c) (pos (slant c)) e.b e.a) (round_back (pos c)
-        (pos (reach c)) e.a e.b (octagon_round (pos c) (pos (slant c)) e.b e.a) (back e.b e.a (inl (omega (
+        → IsRing c e (cond (t || (u && v)) (corners_round (pos c) (pos (slant c)) e.b e.a)
+        (corners_round (pos c) (pos (slant c)) e.a e.b))
+    by_order true u v x y z = from_round c e (corners_round (pos c) (pos (slant c)) e.b e.a) (round_back (pos c)
+        (pos (reach c)) e.a e.b (corners_round (pos c) (pos (slant c)) e.b e.a) (back e.b e.a (inl (omega (
           arith,
           ints,
         )))))
-    by_order false true true x y z = from_round c e (octagon_round (pos c) (pos (slant c)) e.b e.a)
+    by_order false true true x y z = from_round c e (corners_round (pos c) (pos (slant c)) e.b e.a)
         (round_back (pos c)
-        (pos (reach c)) e.a e.b (octagon_round (pos c) (pos (slant c)) e.b e.a) (back e.b e.a
+        (pos (reach c)) e.a e.b (corners_round (pos c) (pos (slant c)) e.b e.a) (back e.b e.a
         (inr (omega (arith, ints), omega (arith, ints)))))
-    by_order false true false x y z = from_round c e (octagon_round (pos c) (pos (slant c)) e.a e.b) (back e.a e.b
+    by_order false true false x y z = from_round c e (corners_round (pos c) (pos (slant c)) e.a e.b) (back e.a e.b
         (inr (omega (arith, ints), omega (arith, ints))))
-    by_order false false v x y z = from_round c e (octagon_round (pos c) (pos (slant c)) e.a e.b) (back e.a e.b
+    by_order false false v x y z = from_round c e (corners_round (pos c) (pos (slant c)) e.a e.b) (back e.a e.b
         (inl (omega (arith, ints))))

@@ -1,7 +1,5 @@
-pub mod Ring
-pub mod Corners
 pub mod Octagon
 pub mod Nearness
-pub mod OctagonRing
+pub mod Ring
+pub mod Corners
 pub mod Tests
-pub mod OctagonCorners

@@ -1,17 +1,18 @@
--- The convex ring round an edge: the outline of the points that lie within a distance of some point of the edge along both
--- axes (the edge widened by a square).
-use Rattle.std.specs.Prelude.{◌≡◌, ◌↔◌, ◌⊎◌, ℕ, ◌*◌, List, [], ◌∷◌, ◌++◌, pos, ◌<ℤ◌, ◌≤ℤ◌, All}
+-- The convex ring of an edge widened by an octagon: the outline of the points that differ from some point of the edge by
+-- a point of the octagon.
+use Rattle.std.specs.Prelude.{◌≡◌, ◌↔◌, ◌⊎◌, ℕ, List, [], ◌∷◌, ◌++◌, pos, ◌<ℤ◌, ◌≤ℤ◌, All}
 use Rattle.scad_geom.specs.declared.point.Pt.{Pt}
 use Rattle.scad_geom.specs.declared.point.Edge.{Edge}
 use Rattle.scad_geom.specs.Point.{Point, whole}
 use Rattle.scad_geom.specs.Segment.{Segment, segments}
 use Rattle.scad_geom.specs.Loop.{sides}
 use Rattle.scad_geom.specs.Winding.{side_by}
-use Rattle.scad_geom.specs.Near.{MeetsBox}
+use Rattle.scad_ring.specs.Octagon.{octagon_of}
+use Rattle.scad_ring.specs.Nearness.{Closed, Meets}
 
--- some point of the edge lies within c of q along both axes
-abbrev pub IsNear : ℕ → Edge → Point → Type 0
-IsNear c e q = MeetsBox (pos (2 * c)) q (whole e.a) (whole e.b)
+-- some point of the edge differs from q by a point of the octagon of c
+abbrev pub IsNearEdge : ℕ → Edge → Point → Type 0
+IsNearEdge c e q = Meets Closed (octagon_of c) q (whole e.a) (whole e.b)
 
 -- q doesn't lie to the right of a segment
 abbrev pub IsLeftOf : Point → Segment → Type 0
@@ -46,7 +47,7 @@ StartsLowest (p ∷ ps) = All (IsBefore p) ps
 -- these are the corners of the ring, counter-clockwise from the lowest and then leftmost
 pub record IsRing (c : ℕ) (e : Edge) (corners : List Pt) : Type 0 where
   -- what the ring holds is what is near
-  pub holds : (q : Point) → pos 0 <ℤ q.d → IsNear c e q ↔ All (IsLeftOf q) (segments (sides corners))
-  pub near : All (λ p. IsNear c e (whole p)) corners
+  pub holds : (q : Point) → pos 0 <ℤ q.d → IsNearEdge c e q ↔ All (IsLeftOf q) (segments (sides corners))
+  pub near : All (λ p. IsNearEdge c e (whole p)) corners
   pub turns : AllTurnLeft (round corners)
   pub starts : StartsLowest corners

@@ -2,7 +2,7 @@
 ghost use Rattle.std.specs.Prelude.{◌≡◌, ◌≤◌, ◌-ℤ◌, unsigned_abs, int_lt, if◌then◌else◌};
 ghost use Rattle.scad_geom.specs.Limits.{point_limit};
 ghost use Rattle.scad_geom.specs.Within.{IsWithin};
-ghost use Rattle.scad_ring.specs.OctagonCorners.{direction_of, runs_back};
+ghost use Rattle.scad_ring.specs.Corners.{direction_of, runs_back};
 ghost use Rattle.scad_ring.specs.declared.direction.Direction.TheVariants.{Right, DiagonalRight, SteepRight, SteepLeft, DiagonalLeft, Left};
 
 use scad_geom::{Edge, Pt};
@@ -46,7 +46,7 @@ pub(crate) fn direction_between(p: Pt, r: Pt) -> Direction
     by_steps(r.x - p.x, r.y - p.y)
 }
 
-#[tactic(auto, using(scad_geom::proofs::Casts::casts), unfolding(crate::specs::OctagonCorners::direction_of))]
+#[tactic(auto, using(scad_geom::proofs::Casts::casts), unfolding(crate::specs::Corners::direction_of))]
 fn by_steps(x: i32, y: i32) -> Direction
     requires x { unsigned_abs x ≤ 2000000 }
     requires y { unsigned_abs y ≤ 2000000 }

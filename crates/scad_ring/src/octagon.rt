@@ -3,9 +3,7 @@ ghost use Rattle.std.specs.Prelude.{◌≡◌, ◌+◌, ◌≤◌, ◌^◌, ◌+
 ghost use Rattle.scad_geom.specs.Limits.{point_limit};
 ghost use Rattle.scad_geom.specs.Within.{IsWithin};
 ghost use Rattle.scad_ring.specs.Octagon.{slant, reach};
-ghost use Rattle.scad_ring.specs.OctagonCorners.{low_left, low_right, right_low, right_high, high_right, high_left, left_high, left_low};
-ghost use Rattle.scad_ring.specs.OctagonCorners.{low, right, high, left};
-ghost use Rattle.scad_ring.specs.Corners.{at};
+ghost use Rattle.scad_ring.specs.Corners.{low_left, low_right, right_low, right_high, high_right, high_left, left_high, left_low, low, right, high, left, at};
 
 use scad_geom::Pt;
 

@@ -1,16 +1,17 @@
-//! The ring round an edge.
-ghost use Rattle.std.specs.Prelude.{◌≡◌, ◌≤◌, ℕ, ◌+◌, pos, [], ◌∷◌, ◌+ℤ◌, ◌-ℤ◌, unsigned_abs};
+//! The ring round an edge by an octagon.
+ghost use Rattle.std.specs.Prelude.{◌≡◌, ◌≤◌, [], ◌∷◌, unsigned_abs};
 ghost use Rattle.scad_geom.specs.Limits.{point_limit};
 ghost use Rattle.scad_geom.specs.Within.{IsWithin, IsEdgeWithin};
 ghost use Rattle.scad_ring.specs.Ring.{IsRing};
-ghost use Rattle.scad_ring.specs.Corners.{at, rectangle, to_the_right, to_the_left, corners_round, corners_of};
+ghost use Rattle.scad_ring.specs.Corners.{corners_of, corners_round, eight_sided, four_sided};
 
+use crate::direction::{Direction, direction_between, runs_back};
+use crate::octagon::{Eight, Four, slant};
 use crate::outline::Ring;
-use scad_geom::line::{high, low};
 use scad_geom::{Edge, Pt};
 
-/// The outline of all points that lie within `c` micrometres of some point of the edge along both axes: its corners
-/// counter-clockwise from the lowest and then leftmost. It takes no memory.
+/// The outline of all points that differ from some point of the edge by a point of the octagon of `c` micrometres: its
+/// corners counter-clockwise from the lowest and then leftmost. It takes no memory.
 pub fn ring(e: &Edge, c: u32) -> Ring
     requires edge { IsEdgeWithin point_limit e.now }
     requires positive { 1 ≤ c }
@@ -26,109 +27,237 @@ fn widened(e: &Edge, c: u32) -> Ring
     requires width { c ≤ 100000 }
     ensures { result ≡ corners_of c e.now }
 {
-    round(low(e), high(e), c as i32)
-}
-
-fn round(p: Pt, q: Pt, c: i32) -> Ring
-    requires p { IsWithin point_limit p }
-    requires q { IsWithin point_limit q }
-    requires width { unsigned_abs c ≤ 100000 }
-    ensures { result ≡ corners_round c p q }
-{
-    if p.y < q.y {
-        if p.x < q.x {
-            to_the_right(p, q, c)
-        } else if q.x < p.x {
-            to_the_left(p, q, c)
-        } else {
-            rectangle(p, q, c)
-        }
-    } else if q.x < p.x {
-        rectangle(q, p, c)
+    let t = slant(c) as i32;
+    if runs_back(e) {
+        round(e.b, e.a, c as i32, t)
     } else {
-        rectangle(p, q, c)
+        round(e.a, e.b, c as i32, t)
     }
 }
 
-fn rectangle(p: Pt, q: Pt, c: i32) -> Ring
+fn round(p: Pt, r: Pt, c: i32, t: i32) -> Ring
     requires p { IsWithin point_limit p }
-    requires q { IsWithin point_limit q }
-    requires width { unsigned_abs c ≤ 100000 }
-    ensures { result ≡ rectangle c p.x p.y q.x q.y }
+    requires r { IsWithin point_limit r }
+    requires c { unsigned_abs c ≤ 100000 }
+    requires t { unsigned_abs t ≤ 100000 }
+    ensures { result ≡ corners_round c t p r }
 {
-    Ring::four(
-        low_left(p.x, p.y, c),
-        low_right(q.x, p.y, c),
-        high_right(q.x, q.y, c),
-        high_left(p.x, q.y, c),
+    let way = direction_between(p, r);
+    if 0 < t {
+        eight_sided(p, r, c, t, way)
+    } else {
+        four_sided(p, r, c, way)
+    }
+}
+
+fn eight_sided(p: Pt, r: Pt, c: i32, t: i32, way: Direction) -> Ring
+    requires p { IsWithin point_limit p }
+    requires r { IsWithin point_limit r }
+    requires c { unsigned_abs c ≤ 100000 }
+    requires t { unsigned_abs t ≤ 100000 }
+    ensures { result ≡ eight_sided c t p r way }
+{
+    let p = Eight::round(p, c, t);
+    let r = Eight::round(r, c, t);
+    match way {
+        Direction::Still => flat(p, r),
+        Direction::Flat => flat(p, r),
+        Direction::Right => right(p, r),
+        Direction::DiagonalRight => diagonal_right(p, r),
+        Direction::SteepRight => steep_right(p, r),
+        Direction::Upright => upright(p, r),
+        Direction::SteepLeft => steep_left(p, r),
+        Direction::DiagonalLeft => diagonal_left(p, r),
+        Direction::Left => left(p, r),
+    }
+}
+
+// Of eight corners round each end, those round the ring.
+fn flat(p: Eight, r: Eight) -> Ring
+    ensures { result ≡ p.low_left ∷ r.low_right ∷ r.right_low ∷ r.right_high ∷ r.high_right ∷ p.high_left
+        ∷ p.left_high ∷ p.left_low ∷ [] }
+{
+    Ring::of(
+        [
+            p.low_left,
+            r.low_right,
+            r.right_low,
+            r.right_high,
+            r.high_right,
+            p.high_left,
+            p.left_high,
+            p.left_low,
+            p.left_low,
+            p.left_low,
+        ],
+        8,
     )
 }
 
-fn to_the_right(p: Pt, q: Pt, c: i32) -> Ring
-    requires p { IsWithin point_limit p }
-    requires q { IsWithin point_limit q }
-    requires width { unsigned_abs c ≤ 100000 }
-    ensures { result ≡ to_the_right c p q }
+fn right(p: Eight, r: Eight) -> Ring
+    ensures { result ≡ p.low_left ∷ p.low_right ∷ r.low_right ∷ r.right_low ∷ r.right_high ∷ r.high_right
+        ∷ r.high_left ∷ p.high_left ∷ p.left_high ∷ p.left_low ∷ [] }
 {
-    Ring::six(
-        low_left(p.x, p.y, c),
-        low_right(p.x, p.y, c),
-        low_right(q.x, q.y, c),
-        high_right(q.x, q.y, c),
-        high_left(q.x, q.y, c),
-        high_left(p.x, p.y, c),
+    Ring::of(
+        [
+            p.low_left,
+            p.low_right,
+            r.low_right,
+            r.right_low,
+            r.right_high,
+            r.high_right,
+            r.high_left,
+            p.high_left,
+            p.left_high,
+            p.left_low,
+        ],
+        10,
     )
 }
 
-fn to_the_left(p: Pt, q: Pt, c: i32) -> Ring
-    requires p { IsWithin point_limit p }
-    requires q { IsWithin point_limit q }
-    requires width { unsigned_abs c ≤ 100000 }
-    ensures { result ≡ to_the_left c p q }
+fn diagonal_right(p: Eight, r: Eight) -> Ring
+    ensures { result ≡ p.low_left ∷ p.low_right ∷ r.right_low ∷ r.right_high ∷ r.high_right ∷ r.high_left
+        ∷ p.left_high ∷ p.left_low ∷ [] }
 {
-    Ring::six(
-        low_left(p.x, p.y, c),
-        low_right(p.x, p.y, c),
-        high_right(p.x, p.y, c),
-        high_right(q.x, q.y, c),
-        high_left(q.x, q.y, c),
-        low_left(q.x, q.y, c),
+    Ring::of(
+        [
+            p.low_left,
+            p.low_right,
+            r.right_low,
+            r.right_high,
+            r.high_right,
+            r.high_left,
+            p.left_high,
+            p.left_low,
+            p.left_low,
+            p.left_low,
+        ],
+        8,
     )
 }
 
-// The corners of the square of half width c round a point.
-fn low_left(x: i32, y: i32, c: i32) -> Pt
-    requires x { unsigned_abs x ≤ point_limit }
-    requires y { unsigned_abs y ≤ point_limit }
-    requires width { unsigned_abs c ≤ 100000 }
-    ensures { result ≡ at (x -ℤ c) (y -ℤ c) }
+fn steep_right(p: Eight, r: Eight) -> Ring
+    ensures { result ≡ p.low_left ∷ p.low_right ∷ p.right_low ∷ r.right_low ∷ r.right_high ∷ r.high_right
+        ∷ r.high_left ∷ r.left_high ∷ p.left_high ∷ p.left_low ∷ [] }
 {
-    Pt { x: x - c, y: y - c }
+    Ring::of(
+        [
+            p.low_left,
+            p.low_right,
+            p.right_low,
+            r.right_low,
+            r.right_high,
+            r.high_right,
+            r.high_left,
+            r.left_high,
+            p.left_high,
+            p.left_low,
+        ],
+        10,
+    )
 }
 
-fn low_right(x: i32, y: i32, c: i32) -> Pt
-    requires x { unsigned_abs x ≤ point_limit }
-    requires y { unsigned_abs y ≤ point_limit }
-    requires width { unsigned_abs c ≤ 100000 }
-    ensures { result ≡ at (x +ℤ c) (y -ℤ c) }
+fn upright(p: Eight, r: Eight) -> Ring
+    ensures { result ≡ p.low_left ∷ p.low_right ∷ p.right_low ∷ r.right_high ∷ r.high_right ∷ r.high_left
+        ∷ r.left_high ∷ p.left_low ∷ [] }
 {
-    Pt { x: x + c, y: y - c }
+    Ring::of(
+        [
+            p.low_left,
+            p.low_right,
+            p.right_low,
+            r.right_high,
+            r.high_right,
+            r.high_left,
+            r.left_high,
+            p.left_low,
+            p.left_low,
+            p.left_low,
+        ],
+        8,
+    )
 }
 
-fn high_right(x: i32, y: i32, c: i32) -> Pt
-    requires x { unsigned_abs x ≤ point_limit }
-    requires y { unsigned_abs y ≤ point_limit }
-    requires width { unsigned_abs c ≤ 100000 }
-    ensures { result ≡ at (x +ℤ c) (y +ℤ c) }
+fn steep_left(p: Eight, r: Eight) -> Ring
+    ensures { result ≡ p.low_left ∷ p.low_right ∷ p.right_low ∷ p.right_high ∷ r.right_high ∷ r.high_right
+        ∷ r.high_left ∷ r.left_high ∷ r.left_low ∷ p.left_low ∷ [] }
 {
-    Pt { x: x + c, y: y + c }
+    Ring::of(
+        [
+            p.low_left,
+            p.low_right,
+            p.right_low,
+            p.right_high,
+            r.right_high,
+            r.high_right,
+            r.high_left,
+            r.left_high,
+            r.left_low,
+            p.left_low,
+        ],
+        10,
+    )
 }
 
-fn high_left(x: i32, y: i32, c: i32) -> Pt
-    requires x { unsigned_abs x ≤ point_limit }
-    requires y { unsigned_abs y ≤ point_limit }
-    requires width { unsigned_abs c ≤ 100000 }
-    ensures { result ≡ at (x -ℤ c) (y +ℤ c) }
+fn diagonal_left(p: Eight, r: Eight) -> Ring
+    ensures { result ≡ p.low_left ∷ p.low_right ∷ p.right_low ∷ p.right_high ∷ r.high_right ∷ r.high_left
+        ∷ r.left_high ∷ r.left_low ∷ [] }
 {
-    Pt { x: x - c, y: y + c }
+    Ring::of(
+        [
+            p.low_left,
+            p.low_right,
+            p.right_low,
+            p.right_high,
+            r.high_right,
+            r.high_left,
+            r.left_high,
+            r.left_low,
+            r.left_low,
+            r.left_low,
+        ],
+        8,
+    )
+}
+
+fn left(p: Eight, r: Eight) -> Ring
+    ensures { result ≡ p.low_left ∷ p.low_right ∷ p.right_low ∷ p.right_high ∷ p.high_right ∷ r.high_right
+        ∷ r.high_left ∷ r.left_high ∷ r.left_low ∷ r.low_left ∷ [] }
+{
+    Ring::of(
+        [
+            p.low_left,
+            p.low_right,
+            p.right_low,
+            p.right_high,
+            p.high_right,
+            r.high_right,
+            r.high_left,
+            r.left_high,
+            r.left_low,
+            r.low_left,
+        ],
+        10,
+    )
+}
+
+fn four_sided(p: Pt, r: Pt, c: i32, way: Direction) -> Ring
+    requires p { IsWithin point_limit p }
+    requires r { IsWithin point_limit r }
+    requires c { unsigned_abs c ≤ 100000 }
+    ensures { result ≡ four_sided c p r way }
+{
+    let p = Four::round(p, c);
+    let r = Four::round(r, c);
+    match way {
+        Direction::Still => Ring::four(p.low, r.right, r.high, p.left),
+        Direction::Flat => Ring::six(p.low, r.low, r.right, r.high, p.high, p.left),
+        Direction::Right => Ring::six(p.low, r.low, r.right, r.high, p.high, p.left),
+        Direction::DiagonalRight => Ring::four(p.low, r.right, r.high, p.left),
+        Direction::SteepRight => Ring::six(p.low, p.right, r.right, r.high, r.left, p.left),
+        Direction::Upright => Ring::six(p.low, p.right, r.right, r.high, r.left, p.left),
+        Direction::SteepLeft => Ring::six(p.low, p.right, r.right, r.high, r.left, p.left),
+        Direction::DiagonalLeft => Ring::four(p.low, p.right, r.high, r.left),
+        Direction::Left => Ring::six(p.low, p.right, p.high, r.high, r.left, r.low),
+    }
 }

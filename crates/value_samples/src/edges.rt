@@ -1,8 +1,7 @@
-//! Edges at heights, beside one another, near points, and the rings round them.
+//! Edges at heights, beside one another and near points.
 
 use scad_geom::line::{ends_from, starts_by};
 use scad_geom::{Edge, Half, Level, Pt, box_meets, cmp_level, cmp_slope, cmp_x_at, side};
-use scad_ring::ring;
 use std::cmp::Ordering;
 
 // At the height 1 the first lies at 1/3, the second and the third at 1/2.
@@ -31,21 +30,6 @@ const FALLING: Edge = Edge {
 const SLANTED: Edge = Edge {
     a: Pt { x: 0, y: 10 },
     b: Pt { x: 10, y: 0 },
-};
-
-const RISING: Edge = Edge {
-    a: Pt { x: 10, y: 20 },
-    b: Pt { x: 0, y: 0 },
-};
-
-const LEANING: Edge = Edge {
-    a: Pt { x: 0, y: 0 },
-    b: Pt { x: -10, y: 20 },
-};
-
-const FLAT: Edge = Edge {
-    a: Pt { x: 5, y: 0 },
-    b: Pt { x: -5, y: 0 },
 };
 
 #[test]
@@ -105,36 +89,4 @@ fn squares_meet_edges_that_touch_them(rt: HostRuntime) {
             "at {x}, {y}, {width}"
         );
     }
-}
-
-const ROUND_RISING: [Pt; 6] = [
-    Pt { x: -1, y: -1 },
-    Pt { x: 1, y: -1 },
-    Pt { x: 11, y: 19 },
-    Pt { x: 11, y: 21 },
-    Pt { x: 9, y: 21 },
-    Pt { x: -1, y: 1 },
-];
-
-const ROUND_LEANING: [Pt; 6] = [
-    Pt { x: -1, y: -1 },
-    Pt { x: 1, y: -1 },
-    Pt { x: 1, y: 1 },
-    Pt { x: -9, y: 21 },
-    Pt { x: -11, y: 21 },
-    Pt { x: -11, y: 19 },
-];
-
-const ROUND_FLAT: [Pt; 4] = [
-    Pt { x: -7, y: -2 },
-    Pt { x: 7, y: -2 },
-    Pt { x: 7, y: 2 },
-    Pt { x: -7, y: 2 },
-];
-
-#[test]
-fn rings_are_rectangles_or_hexagons(rt: HostRuntime) {
-    assert!(rt; ring(&RISING, 1).as_slice() == ROUND_RISING.as_slice());
-    assert!(rt; ring(&LEANING, 1).as_slice() == ROUND_LEANING.as_slice());
-    assert!(rt; ring(&FLAT, 2).as_slice() == ROUND_FLAT.as_slice());
 }

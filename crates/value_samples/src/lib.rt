@@ -25,6 +25,8 @@ mod operations;
 #[cfg(test)]
 mod outlines;
 #[cfg(test)]
+mod rings;
+#[cfg(test)]
 mod rows;
 #[cfg(test)]
 mod statuses;

@@ -1,7 +1,7 @@
-//! Edges near points by octagons, and the rings round edges by octagons.
+//! Edges near points by octagons.
 
 use scad_geom::{Edge, Half, Pt};
-use scad_ring::{octagon_meets, octagon_ring, reach, slant};
+use scad_ring::{octagon_meets, reach, slant};
 
 const FALLING: Edge = Edge {
     a: Pt { x: 0, y: 10 },
@@ -82,54 +82,4 @@ fn an_octagon_meets_a_steep_edge_that_touches_it(rt: HostRuntime) {
             "at {x}, {y}, {s}, {u}"
         );
     }
-}
-
-const ROUND_NOUGHT: [Pt; 8] = [
-    Pt { x: -93, y: -225 },
-    Pt { x: 93, y: -225 },
-    Pt { x: 225, y: -93 },
-    Pt { x: 225, y: 93 },
-    Pt { x: 93, y: 225 },
-    Pt { x: -93, y: 225 },
-    Pt { x: -225, y: 93 },
-    Pt { x: -225, y: -93 },
-];
-
-const ROUND_SLANTED: [Pt; 10] = [
-    Pt { x: -93, y: -225 },
-    Pt { x: 93, y: -225 },
-    Pt { x: 493, y: -125 },
-    Pt { x: 625, y: 7 },
-    Pt { x: 625, y: 193 },
-    Pt { x: 493, y: 325 },
-    Pt { x: 307, y: 325 },
-    Pt { x: -93, y: 225 },
-    Pt { x: -225, y: 93 },
-    Pt { x: -225, y: -93 },
-];
-
-const ROUND_RISING: [Pt; 6] = [
-    Pt { x: 0, y: -2 },
-    Pt { x: 40, y: 8 },
-    Pt { x: 42, y: 10 },
-    Pt { x: 40, y: 12 },
-    Pt { x: 0, y: 2 },
-    Pt { x: -2, y: 0 },
-];
-
-const NOUGHT: Edge = Edge {
-    a: Pt { x: 0, y: 0 },
-    b: Pt { x: 0, y: 0 },
-};
-
-const SLANTED: Edge = Edge {
-    a: Pt { x: 0, y: 0 },
-    b: Pt { x: 400, y: 100 },
-};
-
-#[test]
-fn rings_have_up_to_ten_corners(rt: HostRuntime) {
-    assert!(rt; octagon_ring(&NOUGHT, 225).as_slice() == ROUND_NOUGHT.as_slice());
-    assert!(rt; octagon_ring(&SLANTED, 225).as_slice() == ROUND_SLANTED.as_slice());
-    assert!(rt; octagon_ring(&RISING, 2).as_slice() == ROUND_RISING.as_slice());
 }

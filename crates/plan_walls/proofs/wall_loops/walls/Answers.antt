@@ -10,7 +10,7 @@ use Rattle.scad_geom.specs.Balance.{IsBalanced}
 use Rattle.scad_geom.specs.Loop.{sides}
 use Rattle.plan_sides.proofs.Closed.{sides_balanced}
 use Rattle.plan_walls.specs.Walls.{AreWallsAlong}
-use Rattle.plan_walls.proofs.Kept.{walls_keep_clear}
+use Rattle.plan_walls.proofs.Kept.{walls_stay_apart, walls_keep_clear}
 use Rattle.plan_sides.proofs.Within.{outlines_within}
 use Rattle.plan_walls.proofs.wall_loops.walls.Goals as goal
 
@@ -25,6 +25,13 @@ walls_along-requires-clause-within c = subst (λ (es : List Edge). All (IsEdgeWi
 pub walls_along-requires-clause-balanced : goal.walls_along-requires-clause-balanced
 walls_along-requires-clause-balanced c = subst (λ (es : List Edge). IsBalanced (segments es)) (sym (sides_are c))
     (sides_balanced c.args.outlines.now)
+
+pub returns-in-Ok-clause-apart : goal.returns-in-Ok-clause-apart
+returns-in-Ok-clause-apart c =
+    IfOk-weaker c.walls_along.result _ _
+    (λ v h. walls_stay_apart c.args.c c.args.outlines.now v.items c.requires.positive
+    (subst (λ (es : List Edge). AreWallsAlong c.args.c es v.items) (c.deref.ensures.value ∙ c.in-Ok.ensures) h))
+    c.walls_along.ensures.walls
 
 pub returns-in-Ok-clause-clear : goal.returns-in-Ok-clause-clear
 returns-in-Ok-clause-clear c two =

@@ -1,7 +1,7 @@
--- The list by cases is the ring.
+-- The list by directions is the ring.
 use Rattle.std.proofs.Common.{sym, subst}
 use Rattle.scad_ring.specs.Ring.{IsRing}
-use Rattle.scad_ring.proofs.Whole.{ring_is}
+use Rattle.scad_ring.proofs.Ways.{ring_is}
 use Rattle.scad_ring.proofs.widening.ring.Goals as goal
 
 pub returns-clause-ring : goal.returns-clause-ring
