@@ -1,8 +1,10 @@
 -- A shape's leaves follow their winding numbers.
-use Rattle.std.proofs.Common.{◌≡◌, ℕ, ◌+◌, Bool, true, false, not, List, get_or, refl, sym, ap, ◌∙◌, subst, arith, ◌||◌, ◌<◌}
+use Rattle.std.proofs.Common.{◌≡◌, ℕ, ◌+◌, Bool, true, false, not, List, get_or, refl, sym, ap, ◌∙◌, subst, arith, ◌||◌}
 use mathlib.Core.Bool.{beq}
 use mathlib.Core.Path.{fun_ext}
 use lib.IntN.{ℤ, pos, negsuc, ◌+ℤ◌, +ℤ_idl}
+use mir.Syntax.{w64}
+use mir.Val.{to_z, of_z}
 use Rattle.std.proofs.lemmas.Int.{ints}
 use Rattle.std.specs.Prelude.{◌==◌, ◌≤◌, int_lt, if◌then◌else◌, unsigned_abs}
 use Rattle.std.proofs.Math.IntN.{+ℤ_comm}
@@ -11,12 +13,10 @@ use Rattle.scad_geom.specs.declared.shape.Shape.{Shape}
 use Rattle.scad_geom.specs.Sign.{is_zero}
 use Rattle.slice_held.specs.declared.kept_shape.Held.{Held}
 use Rattle.slice_held.specs.Held.{leaf_count, IsReady, Shows, SetsLeaf, with_leaf}
-use Rattle.std.specs.List.{All}
 use Rattle.scad_geom.specs.declared.level.LeafEdge.{LeafEdge}
 use Rattle.scad_geom.proofs.Signs.{zero_true}
-use Rattle.slice_bool.specs.declared.tally.Tallies.{Tallies}
 use Rattle.slice_bool.specs.Tally.{IsTally, heading_of, has_leaf}
-use Rattle.slice_bool.specs.Keeping.{in_by, KeepsUp, AreAtRest, ComeToRest, AreFor}
+use Rattle.slice_bool.specs.Keeping.{in_by, KeepsUp}
 
 pub same_leaf : (m n : ℕ) → (m == n) ≡ true → m ≡ n
 same_leaf m n e = grind arith
@@ -152,13 +152,6 @@ all_put mid news edges t z leaf = by_test (has_leaf leaf edges) refl
     by_test true e = t leaf ∙ ap (λ (b : Bool). if b then pos 0 else get_or mid leaf (pos 0)) e
     by_test false e = t leaf ∙ ap (λ (b : Bool). if b then pos 0 else get_or mid leaf (pos 0)) e ∙ z leaf e
 
--- ---- tallies
-pub come_on : (edges : List LeafEdge) (shape : Shape) (t u : Tallies) → AreFor edges shape t → ComeToRest t u → AreFor edges shape u
-come_on edges shape t u a c = record {
-  rest = c.rest;
-  leaves = subst (λ (n : ℕ). All (λ e. e.leaf < n) edges) (sym c.len) a.leaves;
-  shows = c.shows shape a.shows;
-}
-
-pub as_before : (t u v : Tallies) → ComeToRest t u → ComeToRest u v → ComeToRest t v
-as_before t u v a b = record { rest = b.rest; len = b.len ∙ a.len; shows = λ shape s. b.shows shape (a.shows shape s) }
+-- a number that was passed to a call
+pub passed : (z : ℤ) → unsigned_abs z ≤ 1 → to_z w64 (of_z w64 z) ≡ z
+passed z h = omega (arith, ints)

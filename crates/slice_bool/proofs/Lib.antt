@@ -25,7 +25,6 @@ pub mod Membership
 pub mod Sides
 pub mod NearBorder
 pub mod Stopping
-pub mod Hardby
 pub mod Stretches
 pub mod NearLevel
 pub mod Bundled
@@ -36,3 +35,5 @@ pub mod Untouched
 pub mod Touched
 pub mod RightOf
 pub mod Telling
+pub mod Along
+pub mod SomeStops

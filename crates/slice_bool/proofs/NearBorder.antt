@@ -1,24 +1,23 @@
 -- Each point of each side of a shape's outlines lies less than one from a border point: rounding moves a point by at
 -- most one
 -- half, and beside each point of a piece lies a border point within a quarter.
-use Rattle.std.proofs.Common.{◌≡◌, ℕ, Bool, true, false, not, cond, inl, inr, List, [], ◌∷◌, ◌++◌, length, get_or, map, filter, flat_map, refl, sym, ap, ◌∙◌, subst, arith}
+use Rattle.std.proofs.Common.{Bool, true, false, cond, inl, inr, List, [], ◌∷◌, ◌++◌, get_or, map, filter, flat_map, arith}
 use lib.IntN.{ℤ, pos, ◌+ℤ◌, ◌-ℤ◌, ◌*ℤ◌}
 use lib.Signed.{◌<ℤ◌, ◌≤ℤ◌}
-use Rattle.std.specs.Prelude.{All, IsPermutation}
+use Rattle.std.specs.Prelude.{All}
 use Rattle.std.specs.List.{AllByRecursion}
 use Rattle.std.proofs.lemmas.Int.{ints}
 use Rattle.std.proofs.lemmas.List.Elements.{All-cons, All-head, All-tail, recursion_from_All, All-from_recursion}
 use Rattle.std.proofs.lemmas.List.Sorted.{All-permutation}
 use Rattle.scad_base.proofs.Products.{positive_product}
-use Rattle.scad_geom.specs.declared.point.Pt.{Pt}
 use Rattle.scad_geom.specs.declared.point.Edge.{Edge}
 use Rattle.scad_geom.specs.declared.level.LeafEdge.{LeafEdge}
 use Rattle.scad_geom.specs.declared.shape.Shape.{Shape}
-use Rattle.scad_geom.specs.Point.{Point, whole, is_same_point}
+use Rattle.scad_geom.specs.Point.{Point, whole}
 use Rattle.scad_geom.specs.Loop.{sides}
 use Rattle.scad_geom.proofs.Order.{front}
 use Rattle.winding_laws.specs.Region.{square, box}
-use Rattle.winding_laws.specs.Nearness.{IsNear, IsProper}
+use Rattle.winding_laws.specs.Nearness.{IsNear}
 use Rattle.winding_laws.specs.Edges.{rounded, rounded_edge, has_length, turned}
 use Rattle.winding_laws.specs.Points.{IsOn, IsWithinOne}
 use Rattle.winding_laws.specs.Approach.{HasNear, HasAmid}

@@ -8,9 +8,9 @@ use Rattle.std.proofs.lemmas.List.Elements.{recursion_from_All}
 use Rattle.scad_geom.specs.declared.point.Edge.{Edge}
 use Rattle.scad_geom.specs.declared.level.Level.{Level}
 use Rattle.scad_geom.specs.declared.level.LeafEdge.{LeafEdge}
-use Rattle.scad_geom.specs.Line.{low, high, rise, left_of}
+use Rattle.scad_geom.specs.Line.{low, high, rise}
 use Rattle.scad_geom.specs.Point.{Point, whole}
-use Rattle.scad_geom.specs.Winding.{is_beyond, turn}
+use Rattle.scad_geom.specs.Winding.{turn}
 use Rattle.scad_geom.proofs.Leaves.{wind_leaf}
 use Rattle.scad_geom.specs.Level.{level_of, IsLower, IsAtMost}
 use Rattle.scad_geom.specs.Heights.{heights, AreNeighbours}

@@ -1,9 +1,9 @@
 -- What holds of each point of each edge holds of each point of each side of the outlines that the edges make.
-use Rattle.std.proofs.Common.{◌≡◌, Bool, true, false, cond, inl, inr, List, [], ◌∷◌, ◌++◌, length, nat_le, map, flat_map, refl, sym, ap, ap₂, ◌∙◌, subst, arith}
+use Rattle.std.proofs.Common.{◌≡◌, Bool, true, false, cond, inl, inr, List, [], ◌∷◌, length, nat_le, flat_map, refl, sym, ap, ap₂, ◌∙◌, subst, arith}
 use lib.IntN.{ℤ, pos, ◌+ℤ◌, ◌-ℤ◌, ◌*ℤ◌}
 use lib.Signed.{◌<ℤ◌, ◌≤ℤ◌}
 use Rattle.std.specs.List.{AllByRecursion}
-use Rattle.std.proofs.lemmas.Int.{ints, by_lt_z}
+use Rattle.std.proofs.lemmas.Int.{ints}
 use Rattle.std.proofs.lemmas.List.Elements.{recursion_from_All, All-from_recursion}
 use Rattle.std.proofs.lemmas.List.Sorted.{All-permutation}
 use Rattle.scad_base.proofs.Lists.{AllByRecursion-append}
@@ -13,7 +13,7 @@ use Rattle.scad_geom.specs.Point.{Point, whole}
 use Rattle.scad_geom.specs.Loop.{path, sides}
 use Rattle.scad_geom.proofs.Order.{front, back}
 use Rattle.scad_geom.proofs.Ring.{ring, num, ◌⊕◌, ◌⊖◌, ◌⊗◌, v0, v1, v2, v3, v4, v5}
-use Rattle.scad_geom.proofs.Signs.{at_least_mul, square_at_least, add_times_zero, sub_times_zero}
+use Rattle.scad_geom.proofs.Signs.{square_at_least, add_times_zero, sub_times_zero}
 use Rattle.winding_laws.specs.Points.{IsOn}
 use Rattle.winding_laws.proofs.Parts.{parts_are_all}
 use Rattle.slice_loops.specs.Drawing.{IsLoop, AreDrawn}

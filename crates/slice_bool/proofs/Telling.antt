@@ -1,6 +1,6 @@
 -- The bundles on both sides of a level tell the shape's values hard by its spots.
-use Rattle.std.proofs.Common.{◌≡◌, ℕ, zero, suc, ◌+◌, ◌-◌, ◌<◌, ◌≤◌, Bool, true, false, List, [], ◌∷◌, ◌++◌, length, get_or, drop, refl, sym, ap, ◌∙◌, arith, subst, inl, inr}
-use lib.IntN.{ℤ, pos, ◌*ℤ◌}
+use Rattle.std.proofs.Common.{◌≡◌, ℕ, zero, suc, ◌+◌, ◌<◌, ◌≤◌, Bool, true, false, List, [], ◌∷◌, length, get_or, refl, sym, ap, ◌∙◌, arith, subst}
+use lib.IntN.{pos}
 use lib.Signed.{◌<ℤ◌}
 use Rattle.std.specs.Prelude.{if◌then◌else◌}
 use Rattle.std.specs.List.{AllByRecursion, concat}
@@ -12,7 +12,6 @@ use Rattle.scad_geom.specs.declared.shape.Shape.{Shape}
 use Rattle.scad_geom.specs.Heights.{heights, AreNeighbours}
 use Rattle.scad_geom.specs.Level.{IsLower, IsAtMost}
 use Rattle.scad_geom.specs.Point.{Point}
-use Rattle.scad_geom.specs.Shape.{is_in_by}
 use Rattle.scad_geom.proofs.Heights.{heights_positive}
 use Rattle.scad_geom.proofs.Order.{front, back}
 use Rattle.slice_events.specs.Levels.{IsRising, AreLevels}
@@ -21,7 +20,7 @@ use Rattle.slice_slab.proofs.Live.{IsLive, live_bundles}
 use Rattle.slice_snap.specs.declared.piece.Spot.{Spot}
 use Rattle.slice_snap.specs.Spots.{point_of}
 use Rattle.slice_bool.specs.declared.beside.Valued.{Valued}
-use Rattle.slice_bool.specs.Beside.{AreLeftValues, RisesFirst, left_value, passing, is_right_of, lies_left}
+use Rattle.slice_bool.specs.Beside.{AreLeftValues, RisesFirst, passing, is_right_of}
 use Rattle.slice_bool.specs.BothSides.{TellBeside, IsSide}
 use Rattle.slice_bool.proofs.Bundled.{left_is, rises_first, first_value, outside_right}
 use Rattle.slice_bool.proofs.Middle.{scaled, lower_scaled, at_most_scaled, scaled_below, scaled_at_most}

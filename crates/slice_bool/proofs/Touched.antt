@@ -1,9 +1,8 @@
 -- The edges that meet a level say all of it that all edges say.
-use Rattle.std.proofs.Common.{◌≡◌, ℕ, zero, suc, ◌+◌, ◌<◌, ◌≤◌, Bool, true, false, List, [], ◌∷◌, ◌++◌, length, get_or, filter, refl, sym, ap, ap₂, ◌∙◌, arith, subst, true≢false}
+use Rattle.std.proofs.Common.{◌≡◌, ℕ, ◌+◌, ◌<◌, Bool, true, false, List, [], ◌∷◌, ◌++◌, length, get_or, filter, refl, sym, ap, ap₂, ◌∙◌, arith, subst, true≢false}
 use lib.IntN.{ℤ, pos, ◌*ℤ◌, ◌-ℤ◌}
 use Rattle.std.specs.Prelude.{int_lt, int_le, ◌&&◌, if◌then◌else◌}
 use Rattle.std.specs.Cmp.{signed_Decides}
-use Rattle.std.specs.Ordering.{int_eq}
 use Rattle.std.specs.List.{AllByRecursion, All}
 use Rattle.std.proofs.lemmas.Bool.{and_parts}
 use Rattle.std.proofs.lemmas.Int.{ints}
@@ -12,7 +11,6 @@ use Rattle.scad_geom.specs.declared.point.Edge.{Edge}
 use Rattle.scad_geom.specs.declared.level.Level.{Level}
 use Rattle.scad_geom.specs.declared.level.LeafEdge.{LeafEdge}
 use Rattle.scad_geom.specs.Line.{low, high, rise}
-use Rattle.scad_geom.specs.Sign.{is_zero}
 use Rattle.scad_geom.proofs.Signs.{zero_true}
 use Rattle.slice_slab.specs.Bundles.{no_edge, edge_at}
 use Rattle.slice_slab.specs.Touching.{touches, touching}
@@ -20,7 +18,7 @@ use Rattle.slice_slab.proofs.Chosen.{numbers_where, touching_is, StandFrom, stan
 use Rattle.slice_slab.proofs.Standing.{touch_both}
 use Rattle.slice_snap.specs.declared.piece.Spot.{Spot}
 use Rattle.slice_bool.specs.Pieces.{is_flat_at, passes_at, edge_spots, spots_at, AreStops, IsOneOf, HasSpot, whole_spot, spot_on}
-use Rattle.slice_bool.specs.Near.{picked, touching_at, passing_at, flats_from}
+use Rattle.slice_bool.specs.Near.{picked, touching_at, flats_from}
 
 -- ---- edges that don't meet a level are neither flat on it nor pass it
 passes_touches : (e : Edge) (at : Level) → passes_at e at ≡ true → touches e at ≡ true
@@ -61,17 +59,6 @@ picked_from at all k (e ∷ es) f = by_test (touches e.edge at) (first_from all 
 
 pub picked_touching : (es : List LeafEdge) (at : Level) → picked es (touching 0 es at) ≡ touching_at es at
 picked_touching es at = picked_from at es 0 es (stand_from_first es)
-
-pub passing_touching : (es : List LeafEdge) (at : Level) → passing_at (touching_at es at) at ≡ passing_at es at
-passing_touching [] at = refl
-passing_touching (e ∷ es) at = by_tests (touches e.edge at) (passes_at e.edge at) refl refl (passing_touching es at)
-  where
-    by_tests : (t p : Bool) → touches e.edge at ≡ t → passes_at e.edge at ≡ p → passing_at (touching_at es at) at ≡ passing_at es at
-        → passing_at (if t then e ∷ touching_at es at else touching_at es at) at ≡ (if p then e ∷ passing_at es at else passing_at es at)
-    by_tests true p a b r = ap (λ (t : Bool). if t then e ∷ passing_at (touching_at es at) at else passing_at (touching_at es at) at) b
-        ∙ ap (λ (fs : List LeafEdge). if p then e ∷ fs else fs) r
-    by_tests false true a b r = absurd (true≢false (sym (passes_touches e.edge at b) ∙ a))
-    by_tests false false a b r = r
 
 no_spots : (e : Edge) (at : Level) → touches e at ≡ false → edge_spots e at ≡ []
 no_spots e at h = by_tests (is_flat_at e at) (passes_at e at) refl refl
@@ -134,24 +121,3 @@ all_touching P es at h = All-from_recursion P (touching_at es at) (each es (recu
             → AllByRecursion P (if t then e ∷ touching_at es at else touching_at es at)
         by_test true p r = (p, r)
         by_test false p r = r
-
-pub all_passing : (P : LeafEdge → Type 0) (es : List LeafEdge) (at : Level) → All P es → All P (passing_at es at)
-all_passing P es at h = All-from_recursion P (passing_at es at) (each es (recursion_from_All P es h))
-  where
-    each : (es : List LeafEdge) → AllByRecursion P es → AllByRecursion P (passing_at es at)
-    each [] h = tt
-    each (e ∷ es) h = by_test (passes_at e.edge at) h.0 (each es h.1)
-      where
-        by_test : (t : Bool) → P e → AllByRecursion P (passing_at es at)
-            → AllByRecursion P (if t then e ∷ passing_at es at else passing_at es at)
-        by_test true p r = (p, r)
-        by_test false p r = r
-
-pub few_passing : (es : List LeafEdge) (at : Level) → length (passing_at es at) ≤ length es
-few_passing [] at = omega arith
-few_passing (e ∷ es) at = by_test (passes_at e.edge at) (few_passing es at)
-  where
-    by_test : (t : Bool) → length (passing_at es at) ≤ length es
-        → length (if t then e ∷ passing_at es at else passing_at es at) ≤ suc (length es)
-    by_test true h = omega arith
-    by_test false h = omega arith

@@ -1,9 +1,8 @@
 -- Upwards through the levels: the winding theorem.
-use Rattle.std.proofs.Common.{◌≡◌, ◌⊎◌, inl, inr, Bool, List, [], ◌∷◌, ◌++◌, sym, ap, ap₂, ◌∙◌, arith}
+use Rattle.std.proofs.Common.{◌≡◌, ◌⊎◌, inl, inr, Bool, List, [], ◌∷◌, ◌++◌, sym, ap, ap₂, ◌∙◌}
 use lib.IntN.{ℤ, pos, ◌+ℤ◌, +ℤ_idl, +ℤ_idr}
 use lib.Signed.{◌<ℤ◌}
 use Rattle.std.specs.List.{AllByRecursion}
-use Rattle.std.proofs.lemmas.Int.{ints}
 use Rattle.std.proofs.lemmas.List.Elements.{All-from_recursion}
 use Rattle.scad_geom.specs.declared.level.Level.{Level}
 use Rattle.scad_geom.specs.declared.level.LeafEdge.{LeafEdge}
@@ -15,7 +14,6 @@ use Rattle.scad_geom.specs.Heights.{AreNeighbours}
 use Rattle.scad_geom.proofs.Heights.{lower_weak, same_at_most, same_at_least}
 use Rattle.scad_geom.proofs.Turns.{level_at}
 use Rattle.scad_geom.specs.Winding.{counted}
-use Rattle.scad_geom.specs.Level.{IsSameHeight}
 use Rattle.scad_geom.specs.Heights.{heights}
 use Rattle.scad_geom.proofs.Heights.{at_most_chain, heights_positive}
 use Rattle.scad_geom.proofs.Turns.{Over, NotOver, over_up, not_over_down}

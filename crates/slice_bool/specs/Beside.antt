@@ -10,7 +10,7 @@ use Rattle.scad_geom.specs.Winding.{is_beyond}
 use Rattle.slice_slab.specs.Bundles.{no_edge, edge_at}
 use Rattle.slice_snap.specs.declared.piece.Piece.{Piece}
 use Rattle.slice_bool.specs.Pieces.{spot_on, piece_between}
-use Rattle.slice_bool.specs.Tally.{is_held, headings, has_leaf}
+use Rattle.slice_bool.specs.Tally.{is_held, headings}
 
 -- whether a shape holds what lies to the left of these bundles and of no others
 abbrev pub left_value : List LeafEdge → Shape → List (List ℕ) → Bool
@@ -20,10 +20,6 @@ left_value edges shape bundles = is_held (λ leaf. headings edges leaf (concat b
 pub record AreMembers (edges : List LeafEdge) (bundles : List (List ℕ)) : Type 0 where
   pub there : AllByRecursion (λ k. k < length edges) (concat bundles)
   pub few : length (concat bundles) ≤ length edges
-
--- the leaves of the edges of these numbers are among those of other edges
-abbrev pub HaveLeaves : List LeafEdge → List LeafEdge → List ℕ → Type 0
-HaveLeaves edges others ks = AllByRecursion (λ k. has_leaf (slice_index_or edges k no_edge).leaf others ≡ true) ks
 
 -- the shape's values to the left of the bundles, from right to left, and first of all that at the right end
 pub record AreLeftValues (edges : List LeafEdge) (shape : Shape) (bundles : List (List ℕ)) (values : List Bool) : Type 0 where

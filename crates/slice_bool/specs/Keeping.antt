@@ -24,12 +24,6 @@ pub record AreAtRest (t : Tallies) : Type 0 where
   pub size : leaf_count t.held ≡ vec_len t.turns
   pub zeros : IsTally t.turns.items (λ leaf. pos 0)
 
--- after a use all numbers are 0 again, and the same shape is shown with all leaves out
-pub record ComeToRest (t u : Tallies) : Type 0 where
-  pub rest : AreAtRest u
-  pub len : vec_len u.turns ≡ vec_len t.turns
-  pub shows : (shape : Shape) → Shows shape (λ leaf. false) t.held → Shows shape (λ leaf. false) u.held
-
 -- tallies for the leaves of an edge list and for a shape, at rest
 pub record AreFor (edges : List LeafEdge) (shape : Shape) (t : Tallies) : Type 0 where
   pub rest : AreAtRest t

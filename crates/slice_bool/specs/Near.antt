@@ -1,5 +1,5 @@
--- What of an edge list matters on a level: the edges that pass it, and the numbers of the flat ones that lie on it.
-use Rattle.std.specs.Prelude.{if◌then◌else◌, List, [], ◌∷◌, ℕ, ◌+◌, ◌<◌, ◌^◌, ◌≡◌, length, map, slice_index_or, Option, None, Some, All}
+-- What of an edge list matters on a level: the edges that meet it, and the numbers of the flat ones that lie on it.
+use Rattle.std.specs.Prelude.{if◌then◌else◌, List, [], ◌∷◌, ℕ, ◌+◌, ◌<◌, ◌≡◌, length, map, slice_index_or, Option, None, Some, All}
 use Rattle.scad_geom.specs.Limits.{coordinate_limit}
 use Rattle.scad_geom.specs.declared.level.Level.{Level}
 use Rattle.scad_geom.specs.declared.level.LeafEdge.{LeafEdge}
@@ -8,7 +8,7 @@ use Rattle.slice_slab.specs.Bundles.{no_edge}
 use Rattle.slice_slab.specs.Touching.{touches}
 use Rattle.slice_snap.specs.declared.piece.Spot.{Spot}
 use Rattle.slice_bool.specs.declared.near.Near.{Near}
-use Rattle.slice_bool.specs.Pieces.{passes_at, is_flat_at, covers}
+use Rattle.slice_bool.specs.Pieces.{is_flat_at, covers}
 
 -- the edges of these numbers
 abbrev pub picked : List LeafEdge → List ℕ → List LeafEdge
@@ -18,11 +18,6 @@ picked edges ks = map (λ k. slice_index_or edges k no_edge) ks
 abbrev pub touching_at : List LeafEdge → Level → List LeafEdge
 touching_at [] at = []
 touching_at (e ∷ es) at = if touches e.edge at then e ∷ touching_at es at else touching_at es at
-
--- the edges that aren't flat and meet a level
-abbrev pub passing_at : List LeafEdge → Level → List LeafEdge
-passing_at [] at = []
-passing_at (e ∷ es) at = if passes_at e.edge at then e ∷ passing_at es at else passing_at es at
 
 -- the numbers of the flat edges that lie on a level, counted from the first number on
 abbrev pub flats_from : ℕ → List LeafEdge → Level → List ℕ
@@ -34,12 +29,13 @@ abbrev pub first_cover : List LeafEdge → Spot → Spot → List ℕ → Option
 first_cover edges s t [] = None
 first_cover edges s t (k ∷ ks) = if covers s t (slice_index_or edges k no_edge) then Some k else first_cover edges s t ks
 
--- what was found is that of the level
+-- these are the numbers of the flat edges that lie on a level
+pub record AreFlats (edges : List LeafEdge) (at : Level) (flats : List ℕ) : Type 0 where
+  pub are : flats ≡ flats_from 0 edges at
+  pub there : All (λ k. k < length edges) flats
+
+-- what was found is that of the level: the edges that meet it are asked for where there are flat ones
 pub record IsNear (edges : List LeafEdge) (at : Level) (near : Near) : Type 0 where
-  pub touching : near.touching.items ≡ touching_at edges at
-  pub touching_within : All (λ e. IsEdgeWithin coordinate_limit e.edge) near.touching.items
-  pub passing : near.passing.items ≡ passing_at edges at
-  pub within : All (λ e. IsEdgeWithin coordinate_limit e.edge) near.passing.items
-  pub few : length near.passing.items < 2 ^ 32
-  pub flats : near.flats.items ≡ flats_from 0 edges at
-  pub there : All (λ k. k < length edges) near.flats.items
+  pub flats : AreFlats edges at near.flats.items
+  pub touching : 0 < length near.flats.items → near.touching.items ≡ touching_at edges at
+  pub within : 0 < length near.flats.items → All (λ e. IsEdgeWithin coordinate_limit e.edge) near.touching.items

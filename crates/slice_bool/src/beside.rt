@@ -1,5 +1,5 @@
 //! The shape's values beside the bundles next to a level.
-ghost use Rattle.std.specs.Prelude.{◌≡◌, ◌<◌, ◌<ℤ◌, ◌*ℤ◌, pos, int_lt, true, IfOk, All};
+ghost use Rattle.std.specs.Prelude.{◌≡◌, ◌<◌, ◌≤◌, ◌<ℤ◌, ◌*ℤ◌, ℕ, List, pos, int_lt, true, false, length, slice_index_or, IfOk, All};
 ghost use Rattle.std.specs.List.{AllByRecursion};
 ghost use Rattle.scad_geom.specs.Limits.{coordinate_limit};
 ghost use Rattle.scad_geom.specs.Line.{rise, left_of, x_at};
@@ -7,7 +7,9 @@ ghost use Rattle.scad_geom.specs.Within.{IsEdgeWithin};
 ghost use Rattle.scad_geom.specs.Winding.{is_beyond};
 ghost use Rattle.slice_snap.specs.Spots.{point_of};
 ghost use Rattle.slice_bool.specs.BothSides.{IsNothing};
-ghost use Rattle.slice_bool.specs.Beside.{AreLeftValues, RisesFirst, left_value, passing, is_right_of};
+ghost use Rattle.slice_bool.specs.Stops.{spots_in};
+ghost use Rattle.slice_bool.specs.Beside.{AreLeftValues, RisesFirst, is_right_of};
+ghost use Rattle.slice_bool.specs.Along.{GoAlong, AreBeside};
 
 use crate::stop::Stop;
 use crate::sweep::Sweep;
@@ -43,19 +45,44 @@ pub(crate) fn nothing_beside(alloc: Global) -> Result<Valued, AllocError>
     })
 }
 
-/// The value to the left of the bundles that lie to the right of a stop.
-pub(crate) fn value_by(sweep: &Sweep<'_>, side: &Valued, s: &Stop) -> bool
+/// The values to the left of the bundles that lie to the right of each stop. The stops go from left to right along one
+/// level.
+pub(crate) fn values_beside(
+    sweep: &Sweep<'_>,
+    side: &Valued,
+    stops: &[Stop],
+) -> Result<Vec<bool>, AllocError>
     requires values { AreLeftValues sweep.now.edges.now sweep.now.shape.now side.now.bundles.items side.now.values.items }
     requires firsts { AllByRecursion (RisesFirst sweep.now.edges.now) side.now.bundles.items }
-    ensures { result ≡ left_value sweep.now.edges.now sweep.now.shape.now
-        (passing sweep.now.edges.now true (point_of s.now.spot) side.now.bundles.items) }
+    requires stops { GoAlong (spots_in stops.now) }
+    ensures { IfOk result
+        (λ v. AreBeside sweep.now.edges.now sweep.now.shape.now side.now.bundles.items stops.now v.items) }
 {
-    'bundles: for i in 0..side.bundles.len() {
-        if is_right_of(sweep.edges, s, &side.bundles[i]) {
-            return side.values[side.bundles.len() - i];
-        }
+    let mut values = Vec::new(sweep.alloc);
+    let mut from = 0;
+    'stops: for s in stops {
+        from = first_right(sweep.edges, &side.bundles, from, s);
+        values.push(side.values[side.bundles.len() - from])?;
     }
-    side.values[0]
+    Ok(values)
+}
+
+// The place of the first bundle, from one on, that lies to the right of a stop, or the number of bundles.
+fn first_right(edges: &[LeafEdge], bundles: &[Bundle], from: usize, s: &Stop) -> usize
+    requires within { All (λ e. IsEdgeWithin coordinate_limit e.edge) edges.now }
+    requires firsts { AllByRecursion (RisesFirst edges.now) bundles.now }
+    requires there { from ≤ length bundles.now }
+    ensures there { result ≤ length bundles.now }
+    ensures passed { (j : ℕ) (d : List ℕ) → from ≤ j → j < result
+        → is_right_of edges.now (point_of s.now.spot) (slice_index_or bundles.now j d) ≡ false }
+    ensures next { (d : List ℕ) → result < length bundles.now
+        → is_right_of edges.now (point_of s.now.spot) (slice_index_or bundles.now result d) ≡ true }
+{
+    let mut k = from;
+    'bundles: while k < bundles.len() && !is_right_of(edges, s, &bundles[k]) {
+        k += 1;
+    }
+    k
 }
 
 fn is_right_of(edges: &[LeafEdge], s: &Stop, bundle: &Bundle) -> bool

@@ -16,13 +16,12 @@ ghost use Rattle.slice_bool.specs.Centre.{AreCentresWound};
 ghost use Rattle.slice_bool.specs.Fault.{IsRefusal};
 ghost use Rattle.slice_bool.specs.Parts.{level_at, AreUpToNext, Extends};
 ghost use Rattle.slice_bool.specs.Keeping.{AreFor};
-ghost use Rattle.slice_bool.specs.Near.{IsNear};
 ghost use Rattle.slice_bool.specs.BothSides.{IsSide};
 
 use crate::beside::{Sides, Valued, nothing_beside};
 use crate::fault::BoolFault;
 use crate::flat::push_flat_pieces;
-use crate::near::{Near, edges_near};
+use crate::near::edges_near;
 use crate::slab::{Slab, left_values, push_slab_pieces};
 use crate::sweep::Sweep;
 use crate::tally::{Tallies, no_tallies};
@@ -131,14 +130,7 @@ fn push_level(
     rise(sweep, &mut climb.active, levels, i)?;
     let at = &levels[i];
     let near = edges_near(sweep.alloc, sweep.edges, climb.active.touching(), at)?;
-    let above = side_above(
-        sweep,
-        &mut climb.active,
-        &mut climb.tallies,
-        &near,
-        levels,
-        i,
-    )?;
+    let above = side_above(sweep, &mut climb.active, &mut climb.tallies, levels, i)?;
     push_flat_pieces(
         sweep,
         &near,
@@ -166,13 +158,11 @@ fn side_above(
     sweep: &Sweep<'_>,
     active: &mut Active,
     tallies: &mut Tallies,
-    near: &Near,
     levels: &[Level],
     i: usize,
 ) -> Result<Valued, AllocError>
     requires levels { AreLevels sweep.now.edges.now levels.now }
     requires there { i < length levels.now }
-    requires near { IsNear sweep.now.edges.now (level_at levels.now i) near.now }
     requires bundles { i + 1 < length levels.now
         → AreBundles sweep.now.edges.now (level_at levels.now i) (level_at levels.now (i + 1)) (bundles_in active.old) }
     requires stands { StandsAt sweep.now.edges.now (level_at levels.now i) active.old }
@@ -187,7 +177,7 @@ fn side_above(
 {
     if i + 1 < levels.len() {
         let bundles = active.take_bundles();
-        let values = left_values(sweep, tallies, &bundles, &near.passing)?;
+        let values = left_values(sweep, tallies, &bundles)?;
         Ok(Valued { bundles, values })
     } else {
         nothing_beside(sweep.alloc)

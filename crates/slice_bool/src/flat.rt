@@ -1,15 +1,15 @@
 //! The pieces on a level.
-ghost use Rattle.std.specs.Prelude.{◌≡◌, ◌++◌, OnOk, All};
-ghost use Rattle.std.specs.List.{position};
+ghost use Rattle.std.specs.Prelude.{◌≡◌, ◌<◌, ◌++◌, true, false, length, OnOk, All};
 ghost use Rattle.scad_geom.specs.Limits.{coordinate_limit};
 ghost use Rattle.scad_geom.specs.Level.{IsLevelWithin};
-ghost use Rattle.slice_bool.specs.Pieces.{covers, stretch_piece, flat_pieces};
+ghost use Rattle.slice_bool.specs.Pieces.{flat_pieces};
 ghost use Rattle.slice_bool.specs.Stops.{spots_in};
-ghost use Rattle.slice_bool.specs.Near.{IsNear};
+ghost use Rattle.slice_bool.specs.Near.{AreFlats, IsNear};
 ghost use Rattle.slice_bool.specs.BothSides.{AreSides};
 ghost use Rattle.slice_bool.specs.Parts.{AreOnLevel, Extends};
+ghost use Rattle.slice_bool.specs.Along.{AreAlong, covered_piece};
 
-use crate::beside::{Sides, value_by};
+use crate::beside::{Sides, values_beside};
 use crate::border_piece::push_between;
 use crate::covering::covering_edge;
 use crate::near::Near;
@@ -20,6 +20,7 @@ use scad_geom::Level;
 use slice_snap::Piece;
 use std::alloc::AllocError;
 
+/// The pieces on a level: none where no flat edge lies on it.
 pub(crate) fn push_flat_pieces(
     sweep: &Sweep<'_>,
     near: &Near,
@@ -33,49 +34,69 @@ pub(crate) fn push_flat_pieces(
     ensures { OnOk result
         (Extends (AreOnLevel sweep.now.edges.now sweep.now.shape.now at.now) out.old.items out.new.items) }
 {
-    let stops = stops(sweep.alloc, &near.touching, at)?;
-    push_stretches(sweep, near, sides, out, &stops)
+    if near.flats.is_empty() {
+        return Ok(());
+    }
+    push_covered(sweep, near, sides, out, at)
 }
 
-fn push_stretches(
+fn push_covered(
     sweep: &Sweep<'_>,
     near: &Near,
     sides: &Sides<'_>,
     out: &mut Vec<Piece>,
-    stops: &[Stop],
+    at: &Level,
 ) -> Result<(), AllocError>
-    requires near { All (λ s. IsNear sweep.now.edges.now s.spot.at near.now) stops.now }
-    requires sides { All (λ s. AreSides sweep.now.edges.now sweep.now.shape.now s.spot.at sides.now) stops.now }
+    requires at { IsLevelWithin coordinate_limit at.now }
+    requires near { IsNear sweep.now.edges.now at.now near.now }
+    requires flats { 0 < length near.now.flats.items }
+    requires sides { AreSides sweep.now.edges.now sweep.now.shape.now at.now sides.now }
+    ensures { OnOk result
+        (Extends (AreOnLevel sweep.now.edges.now sweep.now.shape.now at.now) out.old.items out.new.items) }
+{
+    let stops = stops(sweep.alloc, &near.touching, at)?;
+    let above = values_beside(sweep, sides.above, &stops)?;
+    let below = values_beside(sweep, sides.below, &stops)?;
+    push_stretches(sweep, &near.flats, out, &stops, &above, &below)
+}
+
+// From stop to stop, with what the shape holds hard by each to its right, just above the level and just below.
+fn push_stretches(
+    sweep: &Sweep<'_>,
+    flats: &[u32],
+    out: &mut Vec<Piece>,
+    stops: &[Stop],
+    above: &[bool],
+    below: &[bool],
+) -> Result<(), AllocError>
+    requires flats { All (λ s. AreFlats sweep.now.edges.now s.spot.at flats.now) stops.now }
+    requires above { AreAlong true sweep.now.edges.now sweep.now.shape.now stops.now above.now }
+    requires below { AreAlong false sweep.now.edges.now sweep.now.shape.now stops.now below.now }
     ensures { OnOk result (out.new.items
         ≡ out.old.items ++ flat_pieces sweep.now.edges.now sweep.now.shape.now (spots_in stops.now)) }
 {
     'stops: for i in 1..stops.len() {
-        push_stretch(sweep, near, sides, out, &stops[i - 1], &stops[i])?;
+        let (s, t) = (&stops[i - 1], &stops[i]);
+        let name = covering_edge(sweep.edges, flats, s, t);
+        push_covering(out, above[i - 1], below[i - 1], s, t, name)?;
     }
     Ok(())
 }
 
-// The piece between two neighbouring stops.
-fn push_stretch(
-    sweep: &Sweep<'_>,
-    near: &Near,
-    sides: &Sides<'_>,
+// The piece between two neighbouring stops, where an edge covers the stretch between them.
+fn push_covering(
     out: &mut Vec<Piece>,
+    above: bool,
+    below: bool,
     s: &Stop,
     t: &Stop,
+    name: Option<u32>,
 ) -> Result<(), AllocError>
-    requires near { IsNear sweep.now.edges.now s.now.spot.at near.now }
-    requires sides { AreSides sweep.now.edges.now sweep.now.shape.now s.now.spot.at sides.now }
-    ensures { OnOk result (out.new.items ≡ out.old.items
-        ++ stretch_piece sweep.now.edges.now sweep.now.shape.now s.now.spot t.now.spot
-        (position (covers s.now.spot t.now.spot) sweep.now.edges.now)) }
+    ensures { OnOk result
+        (out.new.items ≡ out.old.items ++ covered_piece above below s.now.spot t.now.spot name) }
 {
-    match covering_edge(sweep.edges, &near.flats, s, t) {
+    match name {
         None => Ok(()),
-        Some(name) => {
-            let above = value_by(sweep, sides.above, s);
-            let below = value_by(sweep, sides.below, s);
-            push_between(out, above, below, &s.spot, &t.spot, name)
-        }
+        Some(name) => push_between(out, above, below, &s.spot, &t.spot, name),
     }
 }

@@ -1,22 +1,21 @@
 //! What of an edge list matters on a level.
-ghost use Rattle.std.specs.Prelude.{◌≡◌, ◌<◌, ◌^◌, length, filter, IfOk, All};
+ghost use Rattle.std.specs.Prelude.{◌≡◌, ◌<◌, length, filter, IfOk, All};
 ghost use Rattle.scad_geom.specs.Limits.{coordinate_limit};
 ghost use Rattle.scad_geom.specs.Within.{IsEdgeWithin};
 ghost use Rattle.scad_geom.specs.Level.{IsLevelWithin};
 ghost use Rattle.slice_slab.specs.Bundles.{edge_at};
 ghost use Rattle.slice_slab.specs.Touching.{touching};
 ghost use Rattle.slice_bool.specs.Pieces.{is_flat_at};
-ghost use Rattle.slice_bool.specs.Near.{picked, passing_at, IsNear};
+ghost use Rattle.slice_bool.specs.Near.{picked, IsNear};
 
-use crate::stops::{is_flat_at, passes_at};
+use crate::stops::is_flat_at;
 use scad_geom::{LeafEdge, Level};
 use std::alloc::{AllocError, Global};
 
-/// The edges that meet a level, those of them that pass it, and the numbers of the flat ones that lie on it.
+/// The numbers of the flat edges that lie on a level, and where there are such, the edges that meet it.
 #[derive(Drop)]
 pub(crate) struct Near {
     pub(crate) touching: Vec<LeafEdge>,
-    pub(crate) passing: Vec<LeafEdge>,
     pub(crate) flats: Vec<u32>,
 }
 
@@ -28,19 +27,29 @@ pub(crate) fn edges_near(
     at: &Level,
 ) -> Result<Near, AllocError>
     requires within { All (λ e. IsEdgeWithin coordinate_limit e.edge) edges.now }
-    requires few { length edges.now < 2 ^ 32 }
     requires at { IsLevelWithin coordinate_limit at.now }
     requires numbers { numbers.now ≡ touching 0 edges.now at.now }
     ensures { IfOk result (IsNear edges.now at.now) }
 {
-    let touching = edges_of(alloc, edges, numbers)?;
-    let passing = passing(alloc, &touching, at)?;
     let flats = flats(alloc, edges, numbers, at)?;
-    Ok(Near {
-        touching,
-        passing,
-        flats,
-    })
+    let touching = edges_beside(alloc, edges, numbers, &flats)?;
+    Ok(Near { touching, flats })
+}
+
+// The edges of these numbers, where there are flat ones.
+fn edges_beside(
+    alloc: Global,
+    edges: &[LeafEdge],
+    numbers: &[u32],
+    flats: &[u32],
+) -> Result<Vec<LeafEdge>, AllocError>
+    requires there { All (λ k. k < length edges.now) numbers.now }
+    ensures { IfOk result (λ v. 0 < length flats.now → v.items ≡ picked edges.now numbers.now) }
+{
+    if flats.is_empty() {
+        return Ok(Vec::new(alloc));
+    }
+    edges_of(alloc, edges, numbers)
 }
 
 // The edges of these numbers.
@@ -51,20 +60,6 @@ fn edges_of(alloc: Global, edges: &[LeafEdge], numbers: &[u32]) -> Result<Vec<Le
     let mut out = Vec::new(alloc);
     'numbers: for k in numbers {
         out.push(edges[*k as usize])?;
-    }
-    Ok(out)
-}
-
-fn passing(alloc: Global, edges: &[LeafEdge], at: &Level) -> Result<Vec<LeafEdge>, AllocError>
-    requires within { All (λ e. IsEdgeWithin coordinate_limit e.edge) edges.now }
-    requires at { IsLevelWithin coordinate_limit at.now }
-    ensures { IfOk result (λ v. v.items ≡ passing_at edges.now at.now) }
-{
-    let mut out = Vec::new(alloc);
-    'edges: for e in edges {
-        if passes_at(&e.edge, at) {
-            out.push(*e)?;
-        }
     }
     Ok(out)
 }

@@ -1,21 +1,21 @@
 //! The pieces between two neighbouring levels.
-ghost use Rattle.std.specs.Prelude.{◌≡◌, ◌<◌, ◌++◌, OnOk, IfOk, All, vec_len};
-ghost use Rattle.std.specs.List.{concat};
+ghost use Rattle.std.specs.Prelude.{◌≡◌, ◌<ℤ◌, ◌++◌, pos, OnOk, IfOk, All};
 ghost use Rattle.scad_geom.specs.Limits.{coordinate_limit};
+ghost use Rattle.scad_geom.specs.Line.{rise};
 ghost use Rattle.scad_geom.specs.Within.{IsEdgeWithin};
 ghost use Rattle.scad_geom.specs.Level.{IsLevelWithin};
 ghost use Rattle.scad_geom.specs.Heights.{AreNeighbours};
 ghost use Rattle.slice_slab.specs.Bundles.{AreBundles};
-ghost use Rattle.slice_bool.specs.Pieces.{slab_pieces};
-ghost use Rattle.slice_bool.specs.Beside.{AreMembers, AreLeftValues, HaveLeaves, RisesFirst, piece_of};
+ghost use Rattle.slice_bool.specs.Pieces.{spot_on, piece_between, slab_pieces};
+ghost use Rattle.slice_bool.specs.Beside.{AreMembers, AreLeftValues, RisesFirst, piece_of};
 ghost use Rattle.slice_bool.specs.Keeping.{AreFor};
 
 use crate::beside::Valued;
 use crate::border_piece::push_between;
 use crate::stop::spot_on;
 use crate::sweep::Sweep;
-use crate::tally::{Tallies, add_bundle, put_back};
-use scad_geom::{LeafEdge, Level};
+use crate::tally::{Tallies, add_bundle, put_all_back};
+use scad_geom::{Edge, LeafEdge, Level};
 use slice_slab::Bundle;
 use slice_snap::Piece;
 use std::alloc::AllocError;
@@ -69,32 +69,42 @@ fn push_bundle(
 {
     match bundle.as_slice() {
         [] => Ok(()),
-        [k, ..] => {
-            let e = &edges[*k as usize].edge;
-            push_between(
-                out,
-                left,
-                right,
-                &spot_on(e, slab.lower).spot,
-                &spot_on(e, slab.upper).spot,
-                *k,
-            )
-        }
+        [k, ..] => push_passage(out, &edges[*k as usize].edge, slab, left, right, *k),
     }
 }
 
-/// The shape's values, from the right end to the left: outside, then to the left of each bundle. The edges have all
-/// leaves of the bundles.
+// The piece of an edge with these values to its left and to its right.
+fn push_passage(
+    out: &mut Vec<Piece>,
+    e: &Edge,
+    slab: &Slab<'_>,
+    left: bool,
+    right: bool,
+    name: u32,
+) -> Result<(), AllocError>
+    requires edge { IsEdgeWithin coordinate_limit e.now }
+    requires lower { IsLevelWithin coordinate_limit slab.now.lower.now }
+    requires upper { IsLevelWithin coordinate_limit slab.now.upper.now }
+    requires rises { pos 0 <ℤ rise e.now }
+    ensures { OnOk result (out.new.items ≡ out.old.items
+        ++ piece_between left right (spot_on e.now slab.now.lower.now) (spot_on e.now slab.now.upper.now) name) }
+{
+    if left == right {
+        return Ok(());
+    }
+    let from = spot_on(e, slab.lower);
+    let to = spot_on(e, slab.upper);
+    push_between(out, left, right, &from.spot, &to.spot, name)
+}
+
+/// The shape's values, from the right end to the left: outside, then to the left of each bundle.
 pub(crate) fn left_values(
     sweep: &Sweep<'_>,
     tallies: &mut Tallies,
     bundles: &[Bundle],
-    edges: &[LeafEdge],
 ) -> Result<Vec<bool>, AllocError>
     requires members { AreMembers sweep.now.edges.now bundles.now }
     requires tallies { AreFor sweep.now.edges.now sweep.now.shape.now tallies.old }
-    requires leaves { All (λ e. e.leaf < vec_len tallies.old.turns) edges.now }
-    requires covers { HaveLeaves sweep.now.edges.now edges.now (concat bundles.now) }
     ensures values { IfOk result (λ v. AreLeftValues sweep.now.edges.now sweep.now.shape.now bundles.now v.items) }
     ensures tallies { IfOk result (λ v. AreFor sweep.now.edges.now sweep.now.shape.now tallies.new) }
 {
@@ -110,6 +120,6 @@ pub(crate) fn left_values(
         );
         values.push(tallies.held.value())?;
     }
-    put_back(&mut tallies.turns, &mut tallies.held, edges);
+    put_all_back(&mut tallies.turns, &mut tallies.held, sweep.edges, bundles);
     Ok(values)
 }

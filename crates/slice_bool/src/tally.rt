@@ -1,12 +1,16 @@
 //! Winding numbers of leaves, by leaf.
 ghost use Rattle.std.specs.Prelude.{◌≡◌, ◌<◌, ◌≤◌, ◌==◌, ◌^◌, ◌+ℤ◌, pos, length, IfOk, All, slice_index_or, if◌then◌else◌, unsigned_abs, vec_len};
+ghost use Rattle.std.specs.List.{concat};
 ghost use Rattle.slice_held.specs.Held.{IsReady, leaf_count};
+ghost use Rattle.slice_bool.specs.Near.{picked};
+ghost use Rattle.slice_bool.specs.Beside.{AreMembers};
 ghost use Rattle.slice_bool.specs.Tally.{IsTally, AreWithin, heading_of, headings, has_leaf};
 ghost use Rattle.slice_bool.specs.Keeping.{in_by, KeepsUp, AreFor};
 
 use scad_geom::whole::plus;
 use scad_geom::{Edge, LeafEdge, Shape};
 use slice_held::Held;
+use slice_slab::Bundle;
 use std::alloc::{AllocError, Global};
 
 /// The winding number of each leaf, and a shape with those leaves in whose number isn't 0. Between uses all are 0.
@@ -114,19 +118,53 @@ pub(crate) fn tally(turns: &mut Vec<i64>, held: &mut Held, leaf: u32, by: i64)
     }
 }
 
-/// Puts the numbers of the edges' leaves back to 0, and these leaves out.
-pub(crate) fn put_back(turns: &mut Vec<i64>, held: &mut Held, edges: &[LeafEdge])
+/// Puts the numbers of the leaves of the bundles' edges back to 0, and these leaves out.
+pub(crate) fn put_all_back(
+    turns: &mut Vec<i64>,
+    held: &mut Held,
+    edges: &[LeafEdge],
+    bundles: &[Bundle],
+)
     requires leaves { All (λ e. e.leaf < vec_len turns.old) edges.now }
+    requires members { AreMembers edges.now bundles.now }
     requires ready { IsReady held.old }
     requires size { leaf_count held.old ≡ vec_len turns.old }
-    ensures turns { IsTally turns.new.items
-        (λ leaf. if has_leaf leaf edges.now then pos 0 else slice_index_or turns.old.items leaf (pos 0)) }
+    ensures turns { IsTally turns.new.items (λ leaf. if has_leaf leaf (picked edges.now (concat bundles.now)) then pos 0
+        else slice_index_or turns.old.items leaf (pos 0)) }
     ensures len { vec_len turns.new ≡ vec_len turns.old }
     ensures held { KeepsUp turns.old.items turns.new.items held.old held.new }
 {
-    'edges: for e in edges {
-        put_leaf_back(turns, held, e.leaf);
+    'bundles: for i in 0..bundles.len() {
+        put_back(turns, held, edges, bundles[i].as_slice());
     }
+}
+
+// Puts the numbers of the leaves of the edges of these numbers back to 0, and these leaves out.
+fn put_back(turns: &mut Vec<i64>, held: &mut Held, edges: &[LeafEdge], numbers: &[u32])
+    requires leaves { All (λ e. e.leaf < vec_len turns.old) edges.now }
+    requires there { All (λ k. k < length edges.now) numbers.now }
+    requires ready { IsReady held.old }
+    requires size { leaf_count held.old ≡ vec_len turns.old }
+    ensures turns { IsTally turns.new.items (λ leaf. if has_leaf leaf (picked edges.now numbers.now) then pos 0
+        else slice_index_or turns.old.items leaf (pos 0)) }
+    ensures len { vec_len turns.new ≡ vec_len turns.old }
+    ensures held { KeepsUp turns.old.items turns.new.items held.old held.new }
+{
+    'numbers: for k in numbers {
+        put_edge_back(turns, held, &edges[*k as usize]);
+    }
+}
+
+fn put_edge_back(turns: &mut Vec<i64>, held: &mut Held, e: &LeafEdge)
+    requires there { e.now.leaf < vec_len turns.old }
+    requires ready { IsReady held.old }
+    requires size { leaf_count held.old ≡ vec_len turns.old }
+    ensures turns { IsTally turns.new.items
+        (λ k. if e.now.leaf == k then pos 0 else slice_index_or turns.old.items k (pos 0)) }
+    ensures len { vec_len turns.new ≡ vec_len turns.old }
+    ensures held { KeepsUp turns.old.items turns.new.items held.old held.new }
+{
+    put_leaf_back(turns, held, e.leaf);
 }
 
 fn put_leaf_back(turns: &mut Vec<i64>, held: &mut Held, leaf: u32)

@@ -1,5 +1,5 @@
 -- The next level is above the one where the edges stand.
-use Rattle.std.proofs.Common.{◌+◌, ◌<◌, ℕ, length, pos, sym, subst, arith, false}
+use Rattle.std.proofs.Common.{◌+◌, ℕ, pos, sym, subst, false}
 use Rattle.scad_geom.specs.declared.level.Level.{Level}
 use Rattle.scad_geom.proofs.Heights.{lower_weak}
 use Rattle.slice_bool.specs.Parts.{level_at}

@@ -1,4 +1,4 @@
-use Rattle.std.proofs.Common.{ℕ, ◌<◌, drop, length, false}
+use Rattle.std.proofs.Common.{◌<◌, drop, length, false}
 use Rattle.slice_slab.specs.Active.{IsReadyFor}
 use Rattle.slice_bool.specs.Parts.{level_at}
 use Rattle.slice_bool.specs.Keeping.{AreFor}

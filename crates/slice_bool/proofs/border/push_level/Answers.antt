@@ -1,5 +1,5 @@
 -- The pieces on a level, and those between it and the next.
-use Rattle.std.proofs.Common.{◌≡◌, ℕ, ◌+◌, List, refl, sym, ap, subst, drop, pos, get_or}
+use Rattle.std.proofs.Common.{ℕ, ◌+◌, List, refl, sym, ap, subst, drop, pos, get_or}
 use Rattle.scad_geom.specs.declared.level.Level.{Level}
 use Rattle.slice_slab.specs.Bundles.{AreBundles}
 use Rattle.slice_snap.specs.declared.piece.Piece.{Piece}

@@ -1,18 +1,14 @@
 -- The slab above the level, or nothing above the last.
-use Rattle.std.proofs.Common.{◌≡◌, ◌<◌, ◌+◌, ◌∙◌, pos, sym, subst, true, false, ℕ, List, Bool, vec_len, get_or}
-use Rattle.std.specs.List.{All, concat}
+use Rattle.std.proofs.Common.{◌+◌, ◌∙◌, pos, sym, subst, true, false, ℕ, List}
 use Rattle.std.proofs.lemmas.Result.{IfOk-weaker}
 use Rattle.scad_geom.specs.declared.level.Level.{Level}
-use Rattle.scad_geom.specs.declared.level.LeafEdge.{LeafEdge}
 use Rattle.slice_slab.specs.Bundles.{AreBundles}
 use Rattle.slice_bool.specs.declared.beside.Valued.{Valued}
 use Rattle.slice_bool.specs.Parts.{level_at}
-use Rattle.slice_bool.specs.Beside.{AreLeftValues, HaveLeaves}
+use Rattle.slice_bool.specs.Beside.{AreLeftValues}
 use Rattle.slice_bool.proofs.Bundled.{are_members}
 use Rattle.slice_bool.proofs.Climbing.{neighbours_at}
 use Rattle.slice_bool.proofs.Telling.{tell_above, tell_below, tell_last, slab_side, nothing_side}
-use Rattle.slice_bool.proofs.Touched.{all_passing}
-use Rattle.slice_bool.proofs.Untouched.{bundles_have_leaves}
 use Rattle.slice_bool.proofs.border.side_above.Goals as goal
 
 abbrev none : Level
@@ -25,24 +21,6 @@ left_values-requires-clause-members c =
     let u : Level = level_at c.args.levels.now (c.args.i + 1) in
     are_members es l u c.deref.result.now (subst (AreBundles es l u)
     (sym (c.deref.ensures.value ∙ c.take_bundles-bundles.ensures.bundles)) (c.requires.bundles c.if-i-levels.true))
-
-pub left_values-requires-clause-leaves : goal.left_values-requires-clause-leaves
-left_values-requires-clause-leaves c =
-    let es = c.args.sweep.now.edges.now in
-    let n : ℕ = vec_len c.args.tallies.now.turns in
-    subst (All (λ e. e.leaf < n)) (sym (c.deref-then-i-levels.ensures.value ∙ c.requires.near.passing))
-    (all_passing (λ e. e.leaf < n) es (level_at c.args.levels.now c.args.i) c.requires.tallies.leaves)
-
-pub left_values-requires-clause-covers : goal.left_values-requires-clause-covers
-left_values-requires-clause-covers c =
-    let es = c.args.sweep.now.edges.now in
-    let l : Level = level_at c.args.levels.now c.args.i in
-    let u : Level = level_at c.args.levels.now (c.args.i + 1) in
-    let bs : List (List ℕ) = c.deref.result.now in
-    let are : AreBundles es l u bs = subst (AreBundles es l u)
-    (sym (c.deref.ensures.value ∙ c.take_bundles-bundles.ensures.bundles)) (c.requires.bundles c.if-i-levels.true) in
-    subst (λ (fs : List LeafEdge). HaveLeaves es fs (concat bs)) (sym (c.deref-then-i-levels.ensures.value ∙ c.requires.near.passing))
-    (bundles_have_leaves es l u bs (neighbours_at es c.args.levels.now c.args.i none none c.if-i-levels.true c.requires.levels) are)
 
 pub returns-in_ok-values-clause-above : goal.returns-in_ok-values-clause-above
 returns-in_ok-values-clause-above c =

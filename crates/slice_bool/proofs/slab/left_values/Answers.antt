@@ -6,6 +6,7 @@ use Rattle.scad_geom.specs.declared.level.LeafEdge.{LeafEdge}
 use Rattle.slice_held.specs.Held.{Shows}
 use Rattle.slice_bool.specs.Tally.{IsTally, headings}
 use Rattle.slice_bool.specs.Keeping.{in_by}
+use Rattle.slice_bool.specs.Near.{picked}
 use Rattle.slice_bool.proofs.Keeping.{keeps_first, keeps_last, all_put}
 use Rattle.slice_bool.proofs.Untouched.{untouched_headings}
 use Rattle.slice_bool.specs.Beside.{left_value}
@@ -85,20 +86,20 @@ returns-clause-tallies c =
     let shape = c.args.sweep.now.shape.now in
     let bs : List (List ℕ) = c.args.bundles.now in
     let mid : List ℤ = c.bundles.tallies.turns.items in
-    let news : List ℤ = c.put_back.new.turns.items in
+    let news : List ℤ = c.put_all_back.new.turns.items in
     let all : length bs - c.bundles.i ≡ 0 = omega (arith, c.bundles-test.false) in
     let zeros : IsTally news (λ leaf. pos 0) =
-    all_put mid news c.args.edges.now c.put_back.ensures.turns
+    all_put mid news (picked es (concat bs)) c.put_all_back.ensures.turns
     (λ leaf h. c.bundles.invariant.turns leaf
     ∙ ap (λ (k : ℕ). headings es leaf (concat (drop k bs))) all
-    ∙ untouched_headings es c.args.edges.now leaf (concat bs) c.requires.covers h) in
+    ∙ untouched_headings es leaf (concat bs) h) in
     record {
       rest = record {
-        ready = c.put_back.ensures.held.ready;
-        size = c.put_back.ensures.held.size ∙ c.bundles.invariant.room ∙ sym c.put_back.ensures.len;
+        ready = c.put_all_back.ensures.held.ready;
+        size = c.put_all_back.ensures.held.size ∙ c.bundles.invariant.room ∙ sym c.put_all_back.ensures.len;
         zeros = zeros;
       };
-      leaves = subst (λ (n : ℕ). All (λ e. e.leaf < n) es) (sym c.put_back.ensures.len) c.bundles.invariant.leaves;
-      shows = keeps_last news shape c.put_back.new.held zeros
-          (c.put_back.ensures.held.shows shape c.bundles.invariant.shows);
+      leaves = subst (λ (n : ℕ). All (λ e. e.leaf < n) es) (sym c.put_all_back.ensures.len) c.bundles.invariant.leaves;
+      shows = keeps_last news shape c.put_all_back.new.held zeros
+          (c.put_all_back.ensures.held.shows shape c.bundles.invariant.shows);
     }

@@ -1,14 +1,10 @@
 -- The values on both sides of a bundle give its piece.
-use Rattle.std.proofs.Common.{◌≡◌, ◌+◌, ◌-◌, ◌++◌, ℕ, Bool, false, List, length, get_or, drop, sym, ap, ap₂, ◌∙◌, arith, subst, ◌<◌, vec_len, All}
+use Rattle.std.proofs.Common.{◌≡◌, ◌+◌, ◌-◌, ◌++◌, ℕ, Bool, false, List, length, get_or, drop, sym, ap, ap₂, ◌∙◌, arith, subst, ◌<◌}
 use Rattle.slice_snap.specs.declared.piece.Piece.{Piece}
 use Rattle.slice_bool.specs.Pieces.{slab_pieces}
-use Rattle.std.specs.List.{concat}
-use Rattle.scad_geom.specs.declared.level.LeafEdge.{LeafEdge}
-use Rattle.slice_bool.specs.Beside.{left_value, HaveLeaves}
-use Rattle.slice_bool.proofs.Touched.{all_passing}
-use Rattle.slice_bool.proofs.Untouched.{bundles_have_leaves}
+use Rattle.slice_bool.specs.Beside.{left_value}
 use Rattle.slice_bool.specs.Beside.{RisesFirst, piece_of}
-use Rattle.slice_bool.proofs.Bundled.{are_members, rises_at, piece_at, value_beside, any_default}
+use Rattle.slice_bool.proofs.Bundled.{rises_at, piece_at, value_beside, any_default}
 use Rattle.slice_bool.proofs.Stretches.{more_pieces}
 use Rattle.slice_bool.proofs.slab.push_slab_pieces.Goals as goal
 

@@ -1,7 +1,7 @@
 -- The edge's heading is passed on.
-use Rattle.std.proofs.Common.{ℕ, get_or, ap, ◌∙◌}
+use Rattle.std.proofs.Common.{get_or, ap, ◌∙◌}
 use Rattle.std.specs.Prelude.{ℤ, pos, ◌+ℤ◌, ◌==◌, if◌then◌else◌}
-use Rattle.slice_bool.proofs.Hardby.{passed}
+use Rattle.slice_bool.proofs.Keeping.{passed}
 use Rattle.slice_bool.proofs.tally.add_edge.Goals as goal
 
 pub returns-clause-turns : goal.returns-clause-turns

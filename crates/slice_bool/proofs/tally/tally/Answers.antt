@@ -3,8 +3,7 @@ use Rattle.std.proofs.Common.{◌≡◌, ℕ, List, get_or, ap, ◌∙◌}
 use Rattle.std.specs.Prelude.{ℤ, pos, ◌+ℤ◌, ◌==◌, if◌then◌else◌}
 use Rattle.slice_bool.specs.Tally.{IsTally}
 use Rattle.slice_bool.specs.Keeping.{in_by}
-use Rattle.slice_bool.proofs.Hardby.{passed}
-use Rattle.slice_bool.proofs.Keeping.{keeps_set, keeps_as}
+use Rattle.slice_bool.proofs.Keeping.{keeps_set, keeps_as, passed}
 use Rattle.slice_bool.proofs.tally.tally.Goals as goal
 
 pub returns-then-inside-before-clause-held : goal.returns-then-inside-before-clause-held

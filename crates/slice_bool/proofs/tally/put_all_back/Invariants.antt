@@ -1,0 +1,15 @@
+use Rattle.std.proofs.Common.{◌≡◌, ℕ, drop, get_or, vec_len}
+use Rattle.std.specs.Prelude.{pos, if◌then◌else◌}
+use Rattle.std.specs.List.{concat}
+use Rattle.slice_bool.specs.Near.{picked}
+use Rattle.slice_bool.specs.Tally.{has_leaf}
+use Rattle.slice_bool.specs.Keeping.{KeepsUp}
+use Rattle.slice_bool.proofs.tally.put_all_back.Given as goal
+
+abbrev pub invariant-bundles : goal.invariant-bundles
+invariant-bundles l = record {
+  turns : (leaf : ℕ) → (if has_leaf leaf (picked l.edges (concat (drop l.i l.bundles))) then pos 0 else get_or l.turns.items leaf (pos 0))
+      ≡ (if has_leaf leaf (picked l.edges (concat l.bundles)) then pos 0 else get_or l.fn.turns.items leaf (pos 0));
+  len : vec_len l.turns ≡ vec_len l.fn.turns;
+  held : KeepsUp l.fn.turns.items l.turns.items l.fn.held l.held;
+}
