@@ -3,13 +3,14 @@ use Rattle.std.proofs.Common.{◌≡◌, ℕ, ◌+◌, true, false, List, [], �
 use Rattle.std.specs.Prelude.{bytes_eq}
 use Rattle.std.proofs.lemmas.List.{append-nil}
 use Rattle.scad_geom.specs.declared.point.Pt.{Pt}
+use Rattle.scad_geom.specs.declared.point.Edge.{Edge}
 use Rattle.cli_text.specs.Cli.{Layer}
 use Rattle.cli_read.specs.declared.fault.CliFault.{CliFault}
 use Rattle.cli_read.specs.declared.fault.CliFault.TheVariants.{BadLine}
 use Rattle.cli_read.specs.declared.line.Said.{Said}
-use Rattle.cli_read.specs.declared.line.Said.TheVariants.{Height, Outline}
+use Rattle.cli_read.specs.declared.line.Said.TheVariants.{Height, Outline, Hatches}
 use Rattle.cli_read.specs.Form.{end_line}
-use Rattle.cli_read.specs.Reading.{◌>>=◌, Geometry, point_at, points_at, said_at, onto, last_height, ended_at, geometry_at, layers_at}
+use Rattle.cli_read.specs.Reading.{◌>>=◌, Geometry, nothing, point_at, points_at, paired_at, said_at, onto, last_height, ended_at, geometry_at, layers_at}
 use Rattle.cli_read.specs.View.{with_last}
 
 -- ---- points
@@ -54,6 +55,51 @@ unfolding points_at
 points_end n front words total are so_far =
     let one : with_front front (points_at n words) ≡ Ok front = rw are (ap (λ (ps : List Pt). Ok ps) (append-nil front))
     in
+    sym so_far ∙ one
+
+-- ---- hatches
+
+-- hatches that were read, and those behind them
+abbrev pub behind_hatches : List Edge → Result (List Edge) CliFault → Result (List Edge) CliFault
+behind_hatches front read = read >>= λ hatches. Ok (front ++ hatches)
+
+one_hatch_more : (front : List Edge) (h : Edge) (read : Result (List Edge) CliFault)
+    → behind_hatches front (read >>= λ hatches. Ok (h ∷ hatches)) ≡ behind_hatches (front ++ h ∷ []) read
+one_hatch_more front h (Ok hatches) = ap (λ (hs : List Edge). Ok hs) (sym (append_assoc front (h ∷ []) hatches))
+one_hatch_more front h (Err fault) = refl
+
+pub hatches_begin : (n : ℕ) (front : List Edge) (points : List Pt) → front ≡ []
+    → behind_hatches front (paired_at n points) ≡ paired_at n points
+hatches_begin n front points none = rw none (same (paired_at n points))
+  where
+    same : (read : Result (List Edge) CliFault) → behind_hatches [] read ≡ read
+    same (Ok hatches) = refl
+    same (Err fault) = refl
+
+pub hatches_go_on : (n : ℕ) (front : List Edge) (a b : Pt) (points rest : List Pt)
+    (total : Result (List Edge) CliFault) →
+    points ≡ a ∷ b ∷ rest → behind_hatches front (paired_at n points) ≡ total
+    → behind_hatches (front ++ record { a = a; b = b } ∷ []) (paired_at n rest) ≡ total
+unfolding paired_at
+hatches_go_on n front a b points rest total are so_far =
+    let hatch : Edge = record { a = a; b = b } in
+    let one : behind_hatches front (paired_at n points) ≡ behind_hatches (front ++ hatch ∷ []) (paired_at n rest) = rw
+    are (one_hatch_more front hatch (paired_at n rest)) in
+    sym one ∙ so_far
+
+pub hatches_odd : (n : ℕ) (front : List Edge) (a : Pt) (points : List Pt) (total : Result (List Edge) CliFault) →
+    points ≡ a ∷ [] → behind_hatches front (paired_at n points) ≡ total → total ≡ Err (BadLine n)
+unfolding paired_at
+hatches_odd n front a points total are so_far =
+    let one : behind_hatches front (paired_at n points) ≡ Err (BadLine n) = rw are refl in
+    sym so_far ∙ one
+
+pub hatches_end : (n : ℕ) (front : List Edge) (points : List Pt) (total : Result (List Edge) CliFault) →
+    points ≡ [] → behind_hatches front (paired_at n points) ≡ total → total ≡ Ok front
+unfolding paired_at
+hatches_end n front points total are so_far =
+    let one : behind_hatches front (paired_at n points) ≡ Ok front = rw are (ap (λ (hs : List Edge). Ok hs)
+    (append-nil front)) in
     sym so_far ∙ one
 
 -- ---- layers
@@ -119,21 +165,37 @@ layers_wanting n last g all total are so_far =
 -- ---- layers that are being read
 
 -- the layer at hand is whole, and the next one begins
-pub begun_next : (closed whole : List Layer) (last : Option ℕ) (outlines : List (List Pt)) (z : ℕ) (more : Geometry) →
-    closed ≡ with_last whole last outlines (record { outlines = []; layers = [] }) →
-    with_last closed (Some z) [] more ≡ with_last whole last outlines (onto (Height z) more)
-begun_next closed whole None outlines z more is =
-    ap (λ (ls : List Layer). ls ++ record { z = z; loops = more.outlines } ∷ more.layers) (is ∙ append-nil whole)
-begun_next closed whole (Some y) outlines z more is =
-    ap (λ (ls : List Layer). ls ++ record { z = z; loops = more.outlines } ∷ more.layers) is
-    ∙ append_assoc whole (record { z = y; loops = outlines ++ [] } ∷ []) (record { z = z; loops = more.outlines }
-    ∷ more.layers)
+pub begun_next : (closed whole : List Layer) (last : Option ℕ) (outlines : List (List Pt)) (hatches : List Edge) (z : ℕ)
+    (more : Geometry) →
+    closed ≡ with_last whole last outlines hatches nothing →
+    with_last closed (Some z) [] [] more ≡ with_last whole last outlines hatches (onto (Height z) more)
+begun_next closed whole None outlines hatches z more is =
+    ap (λ (ls : List Layer). ls ++ record { z = z; loops = more.outlines; hatches = more.hatches } ∷ more.layers)
+    (is ∙ append-nil whole)
+begun_next closed whole (Some y) outlines hatches z more is =
+    ap (λ (ls : List Layer). ls ++ record { z = z; loops = more.outlines; hatches = more.hatches } ∷ more.layers) is
+    ∙ append_assoc whole (record { z = y; loops = outlines ++ []; hatches = hatches ++ [] } ∷ []) (record {
+      z = z;
+      loops = more.outlines;
+      hatches = more.hatches;
+    } ∷ more.layers)
 
 -- one outline more
-pub one_outline : (whole : List Layer) (last : Option ℕ) (outlines : List (List Pt)) (points : List Pt)
-    (more : Geometry) →
-    with_last whole last (outlines ++ points ∷ []) more ≡ with_last whole last outlines (onto (Outline points) more)
-one_outline whole None outlines points more = refl
-one_outline whole (Some z) outlines points more =
-    ap (λ (os : List (List Pt)). whole ++ record { z = z; loops = os } ∷ more.layers)
+pub one_outline : (whole : List Layer) (last : Option ℕ) (outlines : List (List Pt)) (hatches : List Edge)
+    (points : List Pt) (more : Geometry) →
+    with_last whole last (outlines ++ points ∷ []) hatches more
+    ≡ with_last whole last outlines hatches (onto (Outline points) more)
+one_outline whole None outlines hatches points more = refl
+one_outline whole (Some z) outlines hatches points more =
+    ap (λ (os : List (List Pt)). whole ++ record { z = z; loops = os; hatches = hatches ++ more.hatches } ∷ more.layers)
     (append_assoc outlines (points ∷ []) more.outlines)
+
+-- one line of hatches more
+pub more_hatches : (whole : List Layer) (last : Option ℕ) (outlines : List (List Pt)) (hatches some : List Edge)
+    (more : Geometry) →
+    with_last whole last outlines (hatches ++ some) more
+    ≡ with_last whole last outlines hatches (onto (Hatches some) more)
+more_hatches whole None outlines hatches some more = refl
+more_hatches whole (Some z) outlines hatches some more =
+    ap (λ (hs : List Edge). whole ++ record { z = z; loops = outlines ++ more.outlines; hatches = hs } ∷ more.layers)
+    (append_assoc hatches some more.hatches)

@@ -1,5 +1,6 @@
 pub mod CommaWords
 pub mod Fronts
+pub mod HatchLines
 pub mod LayerLines
 pub mod Numbers
 pub mod Outlines

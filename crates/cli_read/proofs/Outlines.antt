@@ -38,7 +38,7 @@ point_back : (n : ℕ) (p : Pt) → IsWithinReach p → point_at n (signed_decim
 unfolding point_at
 point_back n p near = rw (coordinate_back p.x near.0, coordinate_back p.y near.1) refl
 
-points_are : (n : ℕ) (ws : List (List ℕ)) (ps : List Pt) → points_at n ws ≡ Ok ps → (ws ≡ coordinate_words ps)
+pub points_are : (n : ℕ) (ws : List (List ℕ)) (ps : List Pt) → points_at n ws ≡ Ok ps → (ws ≡ coordinate_words ps)
     × AllByRecursion IsWithinReach ps
 unfolding points_at
 points_are n [] ps e = subst (λ (qs : List Pt). ([] ≡ coordinate_words qs) × AllByRecursion IsWithinReach qs)
@@ -54,7 +54,7 @@ points_are n (x ∷ y ∷ rest) ps e =
     subst (λ (qs : List Pt). (x ∷ y ∷ rest ≡ coordinate_words qs) × AllByRecursion IsWithinReach qs) (ok_is all ps b.2)
     ((λ i. point.0 i ∷ point.1 i ∷ more.0 i), (point.2, more.1))
 
-points_back : (n : ℕ) (ps : List Pt) → AllByRecursion IsWithinReach ps → points_at n (coordinate_words ps) ≡ Ok ps
+pub points_back : (n : ℕ) (ps : List Pt) → AllByRecursion IsWithinReach ps → points_at n (coordinate_words ps) ≡ Ok ps
 unfolding points_at
 points_back n [] near = refl
 points_back n (p ∷ ps) near = rw (point_back n p near.0, points_back n ps near.1) refl

@@ -7,12 +7,11 @@ use Rattle.std.specs.Str.Lines.{lines}
 use Rattle.std.proofs.lemmas.Bool.{eqb-true}
 use Rattle.std.proofs.lemmas.Bool.Decides.{nat_tests}
 use Rattle.std.proofs.lemmas.Slice.Eq.{bytes_eq-Decides}
-use Rattle.scad_geom.specs.declared.point.Pt.{Pt}
 use Rattle.cli_text.specs.Cli.{Layer}
 use Rattle.cli_read.specs.declared.fault.CliFault.{CliFault}
 use Rattle.cli_read.specs.declared.fault.CliFault.TheVariants.{BadLine, CountDiffers}
 use Rattle.cli_read.specs.declared.layers.Cli.{Cli}
-use Rattle.cli_read.specs.Form.{Reads, SaysLayer, IsOutline, AreAbove, head_lines, count_start, end_line}
+use Rattle.cli_read.specs.Form.{Reads, SaysLayer, AreAbove, head_lines, count_start, end_line}
 use Rattle.cli_read.specs.Laws.{TextsSayOneList}
 use Rattle.cli_read.specs.Reading.{◌>>=◌, Gives, behind, count_of, geometry_at, fixed_at, count_in, count_at, head_at, layers_at, counted, reading}
 use Rattle.cli_read.specs.View.{layers_of}
@@ -103,10 +102,9 @@ reading_is bytes layers e =
     let stands = geometry_stands 7 None a.0.1 g.0 g.1 in
     let count : a.0.0 ≡ length b.0 = eqb-true a.0.0 (length b.0) c.0 in
     let same : g.0.layers ≡ layers = ok_is g.0.layers b.0 g.2 ∙ c.1 in
-    let outlines : stands.outlines ≡ [] = no_lines stands.outlines g.0.outlines stands.front (stands.none refl) in
     let are : lines bytes ≡ head_lines a.0.0 ++ (joined stands.parts ++ end_line ∷ []) =
     head.0 ∙ ap (λ (ls : List (List ℕ)). head_lines a.0.0 ++ ls)
-    (stands.are ∙ ap (λ (ls : List (List ℕ)). ls ++ (joined stands.parts ++ end_line ∷ [])) outlines) in
+    (stands.are ∙ ap (λ (ls : List (List ℕ)). ls ++ (joined stands.parts ++ end_line ∷ [])) (stands.none refl)) in
     record {
       parts = stands.parts;
       are = are ∙ ap (λ (n : ℕ). head_lines n ++ (joined stands.parts ++ end_line ∷ [])) (count ∙ ap length c.1) ∙ sym
@@ -115,11 +113,6 @@ reading_is bytes layers e =
       above = subst (AreAbove None) same stands.above;
       count = omega (arith, head.1, count, ap length c.1);
     }
-  where
-    no_lines : (ls : List (List ℕ)) (os : List (List Pt)) → AllZip IsOutline ls os → os ≡ [] → ls ≡ []
-    no_lines [] os h e = refl
-    no_lines (l ∷ ls) [] h e = absurd h
-    no_lines (l ∷ ls) (o ∷ os) h e = absurd cc
 
 pub reading_back : (bytes : List ℕ) (layers : List Layer) → Reads bytes layers → reading bytes ≡ Ok layers
 unfolding reading layers_at

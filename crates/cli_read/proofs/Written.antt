@@ -7,19 +7,22 @@ use Rattle.std.specs.Str.Lines.{lines, strip_carriage_return}
 use Rattle.std.specs.Int.{IsInRange}
 use Rattle.std.proofs.lemmas.Bool.{and_parts}
 use Rattle.std.proofs.lemmas.Bool.Decides.{nat_tests}
+use Rattle.std.proofs.lemmas.List.{append-nil}
 use Rattle.std.proofs.lemmas.List.Concat.{flat_map-cons}
 use Rattle.std.proofs.lemmas.List.Folds.{list_all-append}
 use Rattle.std.proofs.lemmas.List.Sums.{AllPass-from_list_all}
 use Rattle.scad_geom.specs.declared.point.Pt.{Pt}
+use Rattle.scad_geom.specs.declared.point.Edge.{Edge}
 use Rattle.scad_geom.specs.Area.{twice_area}
-use Rattle.cli_text.specs.Cli.{Layer, head_start, head_end, direction, point_text, closed, polyline_start, polyline_text, layer_start, layer_text, geometry_end}
+use Rattle.cli_text.specs.Cli.{Layer, head_start, head_end, direction, point_text, closed, polyline_start, polyline_text, hatch_text, hatches_start, hatches_line, hatches_text, layer_start, layer_text, geometry_end}
 use Rattle.cli_read.specs.Form.{reach, count_start, head_lines, end_line, height_line, outline_line, IsWithinReach}
-use Rattle.cli_read.specs.Form.{IsShape, IsOutline, SaysLayer}
+use Rattle.cli_read.specs.Form.{IsShape, AreHatches, Drawn, Polyline, Hatching, IsDrawn, outlines_among, hatches_among, SaysLayer}
 use Rattle.cli_read.specs.Laws.{WrittenTextsSayTheirLayers}
 use Rattle.cli_read.proofs.Numbers.{Lacks, decimal_passes}
 use Rattle.cli_read.proofs.TextLines.{feed, line_fed}
 use Rattle.cli_read.proofs.CommaWords.{points_text}
 use Rattle.cli_read.proofs.Outlines.{closed_near}
+use Rattle.cli_read.proofs.HatchLines.{ends_of, points_of_hatches, ends_near}
 use Rattle.cli_read.proofs.LayerLines.{joined}
 
 -- ---- no byte of a line ends one
@@ -113,22 +116,57 @@ outlines_lines (points ∷ loops) rest h =
     grouped : (line more rest : List ℕ) → (line ++ codes "\n") ++ more ++ rest ≡ line ++ feed ∷ (more ++ rest)
     grouped line more rest = simp append_assoc
 
+hatches_start_printed : IsPrinted hatches_start
+unfolding hatches_start
+hatches_start_printed = refl
+
+hatches_printed : (hs : List Edge) → AreHatches hs → IsPrinted (hatches_line hs)
+hatches_printed hs kind =
+    both_printed (hatches_start ++ decimal (length hs)) (flat_map hatch_text hs)
+    (both_printed hatches_start (decimal (length hs)) hatches_start_printed (decimal_printed (length hs)
+    (omega (arith, kind.count))))
+    (ap (list_all is_printed) (points_of_hatches hs) ∙ points_printed (ends_of hs) (ends_near hs kind.near))
+
+-- the line of a layer's hatches, where it has any
+abbrev hatch_lines : List Edge → List (List ℕ)
+hatch_lines [] = []
+hatch_lines (h ∷ hs) = hatches_line (h ∷ hs) ∷ []
+
+hatches_lines : (hs : List Edge) (rest : List ℕ) → AreHatches hs → lines (hatches_text hs ++ rest)
+    ≡ hatch_lines hs ++ lines rest
+hatches_lines [] rest kind = refl
+hatches_lines (h ∷ hs) rest kind =
+    ap lines (grouped (hatches_line (h ∷ hs)) rest)
+    ∙ line_printed (hatches_line (h ∷ hs)) rest (hatches_printed (h ∷ hs) kind)
+  where
+    grouped : (line rest : List ℕ) → (line ++ codes "\n") ++ rest ≡ line ++ feed ∷ rest
+    grouped line rest = simp append_assoc
+
 height_printed : (z : ℕ) → z < 2 ^ 32 → IsPrinted (height_line z)
 unfolding layer_start
 height_printed z h = decimal_printed z (omega arith)
 
-abbrev part_of : Layer → List (List ℕ)
-part_of layer = height_line layer.z ∷ map written layer.loops
+-- the lines of a layer behind its height
+abbrev behind_height : Layer → List (List ℕ)
+behind_height layer = map written layer.loops ++ hatch_lines layer.hatches
 
-layer_lines : (layer : Layer) (rest : List ℕ) → layer.z < 2 ^ 32 → AreShapes layer.loops
+abbrev part_of : Layer → List (List ℕ)
+part_of layer = height_line layer.z ∷ behind_height layer
+
+layer_lines : (layer : Layer) (rest : List ℕ) → layer.z < 2 ^ 32 → AreShapes layer.loops → AreHatches layer.hatches
     → lines (layer_text layer ++ rest) ≡ part_of layer ++ lines rest
-layer_lines layer rest h shapes =
-    ap lines (grouped (height_line layer.z) (flat_map polyline_text layer.loops) rest)
-    ∙ line_printed (height_line layer.z) (flat_map polyline_text layer.loops ++ rest) (height_printed layer.z h)
-    ∙ ap (λ (ls : List (List ℕ)). height_line layer.z ∷ ls) (outlines_lines layer.loops rest shapes)
+layer_lines layer rest h shapes kind =
+    let polylines = flat_map polyline_text layer.loops in
+    let hatching = hatches_text layer.hatches in
+    ap lines (grouped (height_line layer.z) polylines hatching rest)
+    ∙ line_printed (height_line layer.z) (polylines ++ (hatching ++ rest)) (height_printed layer.z h)
+    ∙ ap (λ (ls : List (List ℕ)). height_line layer.z ∷ ls) (outlines_lines layer.loops (hatching ++ rest) shapes
+    ∙ ap (λ (ls : List (List ℕ)). map written layer.loops ++ ls) (hatches_lines layer.hatches rest kind)
+    ∙ sym (append_assoc (map written layer.loops) (hatch_lines layer.hatches) (lines rest)))
   where
-    grouped : (line more rest : List ℕ) → (line ++ codes "\n" ++ more) ++ rest ≡ line ++ feed ∷ (more ++ rest)
-    grouped line more rest = simp append_assoc
+    grouped : (line more hatching rest : List ℕ) → (line ++ codes "\n" ++ more ++ hatching) ++ rest
+        ≡ line ++ feed ∷ (more ++ (hatching ++ rest))
+    grouped line more hatching rest = simp append_assoc
 
 abbrev AreLow : List Layer → Type 0
 AreLow layers = AllByRecursion (λ layer. layer.z < 2 ^ 32) layers
@@ -136,14 +174,17 @@ AreLow layers = AllByRecursion (λ layer. layer.z < 2 ^ 32) layers
 abbrev AreShaped : List Layer → Type 0
 AreShaped layers = AllByRecursion (λ layer. AreShapes layer.loops) layers
 
-layers_lines : (layers : List Layer) (rest : List ℕ) → AreLow layers → AreShaped layers
+abbrev AreHatched : List Layer → Type 0
+AreHatched layers = AllByRecursion (λ layer. AreHatches layer.hatches) layers
+
+layers_lines : (layers : List Layer) (rest : List ℕ) → AreLow layers → AreShaped layers → AreHatched layers
     → lines (flat_map layer_text layers ++ rest) ≡ joined (map part_of layers) ++ lines rest
-layers_lines [] rest low shapes = refl
-layers_lines (layer ∷ layers) rest low shapes =
+layers_lines [] rest low shapes kinds = refl
+layers_lines (layer ∷ layers) rest low shapes kinds =
     ap (λ (t : List ℕ). lines (t ++ rest)) (flat_map-cons layer_text layer layers)
     ∙ ap lines (append_assoc (layer_text layer) (flat_map layer_text layers) rest)
-    ∙ layer_lines layer (flat_map layer_text layers ++ rest) low.0 shapes.0
-    ∙ ap (λ (ls : List (List ℕ)). part_of layer ++ ls) (layers_lines layers rest low.1 shapes.1)
+    ∙ layer_lines layer (flat_map layer_text layers ++ rest) low.0 shapes.0 kinds.0
+    ∙ ap (λ (ls : List (List ℕ)). part_of layer ++ ls) (layers_lines layers rest low.1 shapes.1 kinds.1)
     ∙ sym (append_assoc (part_of layer) (joined (map part_of layers)) (lines rest))
     ∙ ap (λ (ls : List (List ℕ)). ls ++ lines rest) (sym (flat_map-cons (λ (ls : List (List ℕ)). ls) (part_of layer)
     (map part_of layers)))
@@ -191,24 +232,53 @@ head_are n rest h =
 
 -- ---- the whole text
 
-loops_are : (loops : List (List Pt)) → AreShapes loops → AllZip IsOutline (map written loops) loops
-loops_are [] h = tt
-loops_are (points ∷ loops) h = (
+-- what the line of hatches says, where there is one
+abbrev hatches_drawn : List Edge → List Drawn
+hatches_drawn [] = []
+hatches_drawn (h ∷ hs) = Hatching (h ∷ hs) ∷ []
+
+abbrev drawn_of : List (List Pt) → List Edge → List Drawn
+drawn_of [] hs = hatches_drawn hs
+drawn_of (points ∷ loops) hs = Polyline points ∷ drawn_of loops hs
+
+outlines_are : (loops : List (List Pt)) (hs : List Edge) → outlines_among (drawn_of loops hs) ≡ loops
+outlines_are [] [] = refl
+outlines_are [] (h ∷ hs) = refl
+outlines_are (points ∷ loops) hs = ap (λ (os : List (List Pt)). points ∷ os) (outlines_are loops hs)
+
+hatches_are : (loops : List (List Pt)) (hs : List Edge) → hatches_among (drawn_of loops hs) ≡ hs
+hatches_are [] [] = refl
+hatches_are [] (h ∷ hs) = append-nil (h ∷ hs)
+hatches_are (points ∷ loops) hs = hatches_are loops hs
+
+drawn_are : (loops : List (List Pt)) (hs : List Edge) → AreShapes loops → AreHatches hs
+    → AllZip IsDrawn (map written loops ++ hatch_lines hs) (drawn_of loops hs)
+drawn_are [] [] shapes kind = tt
+drawn_are [] (h ∷ hs) shapes kind = (record { some = omega arith; is = refl; kind = kind }, tt)
+drawn_are (points ∷ loops) hs shapes kind = (
   record {
     direction = direction points;
     either = direction_is points;
     is = refl;
-    shape =
-        h.0;
+    shape = shapes.0;
   },
-  loops_are loops h.1,
+  drawn_are loops hs shapes.1 kind,
 )
 
-layers_are : (layers : List Layer) → AreLow layers → AreShaped layers → AllZip SaysLayer (map part_of layers) layers
-layers_are [] low shapes = tt
-layers_are (layer ∷ layers) low shapes = (
-  record { outlines = map written layer.loops; are = refl; each = loops_are layer.loops shapes.0; height = low.0 },
-  layers_are layers low.1 shapes.1,
+layers_are : (layers : List Layer) → AreLow layers → AreShaped layers → AreHatched layers
+    → AllZip SaysLayer (map part_of layers) layers
+layers_are [] low shapes kinds = tt
+layers_are (layer ∷ layers) low shapes kinds = (
+  record {
+    behind = behind_height layer;
+    drawn = drawn_of layer.loops layer.hatches;
+    are = refl;
+    each = drawn_are layer.loops layer.hatches shapes.0 kinds.0;
+    outlines = outlines_are layer.loops layer.hatches;
+    hatches = hatches_are layer.loops layer.hatches;
+    height = low.0;
+  },
+  layers_are layers low.1 shapes.1 kinds.1,
 )
 
 text_grouped : (a b c d e : List ℕ) → (a ++ b ++ c) ++ d ++ e ≡ a ++ (b ++ (c ++ (d ++ e)))
@@ -224,9 +294,9 @@ written_texts layers h = record {
       ap lines (text_grouped head_start (decimal (length layers)) head_end (flat_map layer_text layers) geometry_end)
       ∙ head_are (length layers) (flat_map layer_text layers ++ geometry_end) h.count
       ∙ ap (λ (ls : List (List ℕ)). head_lines (length layers) ++ ls) (layers_lines layers geometry_end h.heights
-      h.shapes ∙ ap (λ (ls : List (List ℕ)). joined (map part_of layers) ++ ls) end_lines)
+      h.shapes h.hatches ∙ ap (λ (ls : List (List ℕ)). joined (map part_of layers) ++ ls) end_lines)
       ∙ lines_grouped (head_lines (length layers)) (joined (map part_of layers)) (end_line ∷ []);
-  each = layers_are layers h.heights h.shapes;
+  each = layers_are layers h.heights h.shapes h.hatches;
   above = h.above;
   count = h.count;
 }

@@ -5,7 +5,8 @@ use Rattle.std.specs.List.{flat_map, AllByRecursion, AllZip}
 use Rattle.std.specs.Fmt.{decimal}
 use Rattle.std.specs.Str.Lines.{lines}
 use Rattle.scad_geom.specs.declared.point.Pt.{Pt}
-use Rattle.cli_text.specs.Cli.{Layer, polyline_start, layer_start, point_text, closed}
+use Rattle.scad_geom.specs.declared.point.Edge.{Edge}
+use Rattle.cli_text.specs.Cli.{Layer, polyline_start, layer_start, point_text, closed, hatches_line}
 
 -- ---- lines
 
@@ -58,11 +59,49 @@ pub record IsOutline (line : List ℕ) (points : List Pt) : Type 0 where
   pub is : line ≡ outline_line direction points
   pub shape : IsShape points
 
--- the lines are those of the layer: its height, then its outlines
+abbrev pub IsHatchWithinReach : Edge → Type 0
+IsHatchWithinReach hatch = IsWithinReach hatch.a × IsWithinReach hatch.b
+
+-- hatches of one line, both ends of each within reach
+pub record AreHatches (hatches : List Edge) : Type 0 where
+  pub count : length hatches < 2 ^ 32
+  pub near : AllByRecursion IsHatchWithinReach hatches
+
+-- the line is that of the hatches, of which there is one at least
+pub record IsHatchesLine (line : List ℕ) (hatches : List Edge) : Type 0 where
+  pub some : 1 ≤ length hatches
+  pub is : line ≡ hatches_line hatches
+  pub kind : AreHatches hatches
+
+-- what one line of a layer says behind its height
+pub data Drawn : Type 0 where
+  Polyline : List Pt → Drawn
+  Hatching : List Edge → Drawn
+
+abbrev pub IsDrawn : List ℕ → Drawn → Type 0
+IsDrawn line (Polyline points) = IsOutline line points
+IsDrawn line (Hatching some) = IsHatchesLine line some
+
+-- the outlines among lines, in their order
+abbrev pub outlines_among : List Drawn → List (List Pt)
+outlines_among [] = []
+outlines_among (Polyline points ∷ rest) = points ∷ outlines_among rest
+outlines_among (Hatching some ∷ rest) = outlines_among rest
+
+-- the hatches of all lines, joined in the order of the lines
+abbrev pub hatches_among : List Drawn → List Edge
+hatches_among [] = []
+hatches_among (Polyline points ∷ rest) = hatches_among rest
+hatches_among (Hatching some ∷ rest) = some ++ hatches_among rest
+
+-- the lines are those of the layer: its height, then its outlines and lines of its hatches, in any order and number
 pub record SaysLayer (ls : List (List ℕ)) (layer : Layer) : Type 0 where
-  pub outlines : List (List ℕ)
-  pub are : ls ≡ height_line layer.z ∷ outlines
-  pub each : AllZip IsOutline outlines layer.loops
+  pub behind : List (List ℕ)
+  pub drawn : List Drawn
+  pub are : ls ≡ height_line layer.z ∷ behind
+  pub each : AllZip IsDrawn behind drawn
+  pub outlines : outlines_among drawn ≡ layer.loops
+  pub hatches : hatches_among drawn ≡ layer.hatches
   pub height : layer.z < 2 ^ 32
 
 -- each layer is above the one before it, and above this height where there is one

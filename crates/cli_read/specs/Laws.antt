@@ -2,7 +2,7 @@
 use Rattle.std.specs.Prelude.{◌≡◌, ℕ, ◌^◌, ◌<◌, List, length, None}
 use Rattle.std.specs.List.{AllByRecursion}
 use Rattle.cli_text.specs.Cli.{Layer, cli}
-use Rattle.cli_read.specs.Form.{Reads, IsShape, AreAbove}
+use Rattle.cli_read.specs.Form.{Reads, IsShape, AreHatches, AreAbove}
 
 -- a text says at most one list of layers
 abbrev pub TextsSayOneList : Type 0
@@ -13,6 +13,7 @@ pub record IsReadable (layers : List Layer) : Type 0 where
   pub above : AreAbove None layers
   pub heights : AllByRecursion (λ layer. layer.z < 2 ^ 32) layers
   pub shapes : AllByRecursion (λ layer. AllByRecursion IsShape layer.loops) layers
+  pub hatches : AllByRecursion (λ layer. AreHatches layer.hatches) layers
   pub count : length layers < 2 ^ 32
 
 -- the text that is written of layers says them

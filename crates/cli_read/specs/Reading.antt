@@ -1,5 +1,5 @@
 -- Reading a text line by line, up to its end or to the first line with a fault.
-use Rattle.std.specs.Prelude.{◌≡◌, ◌≢◌, ℕ, ◌+◌, ◌-◌, ◌^◌, Bool, true, ◌&&◌, List, [], ◌∷◌, length, take, drop, slice_index_or, ◌==◌, nat_lt, nat_le, ℤ, pos, unsigned_abs, Option, Some, None, Result, Ok, Err, if◌then◌else◌, bytes_eq, codes}
+use Rattle.std.specs.Prelude.{◌≡◌, ◌≢◌, ℕ, ◌+◌, ◌-◌, ◌^◌, Bool, true, ◌&&◌, List, [], ◌∷◌, ◌++◌, length, take, drop, slice_index_or, ◌==◌, nat_lt, nat_le, ℤ, pos, unsigned_abs, Option, Some, None, Result, Ok, Err, if◌then◌else◌, bytes_eq, codes}
 use Rattle.std.specs.Ordering.{int_eq}
 use Rattle.std.specs.Fmt.{decimal, signed_decimal}
 use Rattle.std.specs.Str.Lines.{lines}
@@ -7,11 +7,12 @@ use Rattle.std.specs.Str.Parse.{digits_value, signed_digits_value}
 use Rattle.scad_base.specs.Results.{and_then}
 use Rattle.text_scan.specs.Marks.{pieces}
 use Rattle.scad_geom.specs.declared.point.Pt.{Pt}
-use Rattle.cli_text.specs.Cli.{Layer, polyline_start, layer_start}
+use Rattle.scad_geom.specs.declared.point.Edge.{Edge}
+use Rattle.cli_text.specs.Cli.{Layer, polyline_start, hatches_start, layer_start}
 use Rattle.cli_read.specs.declared.fault.CliFault.{CliFault}
 use Rattle.cli_read.specs.declared.fault.CliFault.TheVariants.{Memory, BadLine, CountDiffers, OpenLoop}
 use Rattle.cli_read.specs.declared.line.Said.{Said}
-use Rattle.cli_read.specs.declared.line.Said.TheVariants.{Height, Outline}
+use Rattle.cli_read.specs.declared.line.Said.TheVariants.{Height, Outline, Hatches}
 use Rattle.cli_read.specs.Form.{count_start, end_line, reach}
 
 infixl 10 ◌>>=◌
@@ -114,6 +115,33 @@ outline_at n (direction ∷ said ∷ rest) = do
 outline_at n (direction ∷ []) = Err (BadLine n)
 outline_at n [] = Err (BadLine n)
 
+-- ---- hatches
+
+-- hatches, each of two points
+unfoldable pub paired_at : ℕ → List Pt → Result (List Edge) CliFault
+paired_at n [] = Ok []
+paired_at n (a ∷ []) = Err (BadLine n)
+paired_at n (a ∷ b ∷ rest) = do
+  hatches ← paired_at n rest
+  Ok (record { a = a; b = b } ∷ hatches)
+
+-- one hatch or more is said
+abbrev pub some_at : ℕ → List ℕ → Result ℕ CliFault
+some_at n word = or_bad n (count_of word) >>= λ count. if nat_le 1 count then Ok count else Err (BadLine n)
+
+-- as many hatches as are said
+abbrev pub hatched : ℕ → List Edge → Result (List Edge) CliFault
+hatched said hatches = if said == length hatches then Ok hatches else Err (CountDiffers said (length hatches))
+
+-- the words of hatches: their number, and their points
+unfoldable pub hatches_at : ℕ → List (List ℕ) → Result (List Edge) CliFault
+hatches_at n (said ∷ rest) = do
+  count ← some_at n said
+  points ← points_at n rest
+  hatches ← paired_at n points
+  hatched count hatches
+hatches_at n [] = Err (BadLine n)
+
 -- ---- lines of layers
 
 abbrev pub is_above : Option ℕ → ℕ → Bool
@@ -125,33 +153,52 @@ unfoldable pub height_at : ℕ → Option ℕ → List ℕ → Result ℕ CliFau
 height_at n last text =
     or_bad n (count_of text) >>= λ z. if is_above last z then Ok z else Err (BadLine n)
 
--- by what stands behind the start of a layer or of an outline, which has a layer in front of it
-abbrev pub said_by : ℕ → Option ℕ → Option (List ℕ) → Option (List ℕ) → Result Said CliFault
-said_by n last (Some height) outline = height_at n last height >>= λ z. Ok (Height z)
-said_by n (Some z) None (Some outline) = outline_at n (words outline) >>= λ points. Ok (Outline points)
-said_by n None None (Some outline) = Err (BadLine n)
-said_by n last None None = Err (BadLine n)
+-- by what stands behind the start of an outline or of hatches
+abbrev pub drawn_by : ℕ → Option (List ℕ) → Option (List ℕ) → Result Said CliFault
+drawn_by n (Some outline) hatches = outline_at n (words outline) >>= λ points. Ok (Outline points)
+drawn_by n None (Some hatches) = hatches_at n (words hatches) >>= λ some. Ok (Hatches some)
+drawn_by n None None = Err (BadLine n)
+
+-- what line n draws
+unfoldable pub drawn_at : ℕ → List ℕ → Result Said CliFault
+drawn_at n line = drawn_by n (behind polyline_start line) (behind hatches_start line)
+
+-- by what stands behind the start of a layer; what is drawn has a layer in front of it
+abbrev pub said_by : ℕ → Option ℕ → Option (List ℕ) → List ℕ → Result Said CliFault
+said_by n last (Some height) line = height_at n last height >>= λ z. Ok (Height z)
+said_by n (Some z) None line = drawn_at n line
+said_by n None None line = Err (BadLine n)
 
 -- line n, behind a layer of the last height
 unfoldable pub said_at : ℕ → Option ℕ → List ℕ → Result Said CliFault
-said_at n last line = said_by n last (behind layer_start line) (behind polyline_start line)
+said_at n last line = said_by n last (behind layer_start line) line
 
--- outlines of the layer at hand, and the layers behind it
+-- outlines and hatches of the layer at hand, and the layers behind it
 pub record Geometry : Type 0 where
   pub outlines : List (List Pt)
+  pub hatches : List Edge
   pub layers : List Layer
 
 abbrev pub last_height : Said → Option ℕ → Option ℕ
 last_height (Height z) last = Some z
 last_height (Outline points) last = last
+last_height (Hatches some) last = last
 
 abbrev pub onto : Said → Geometry → Geometry
-onto (Height z) rest = record { outlines = []; layers = record { z = z; loops = rest.outlines } ∷ rest.layers }
-onto (Outline points) rest = record { outlines = points ∷ rest.outlines; layers = rest.layers }
+onto (Height z) rest = record {
+  outlines = [];
+  hatches = [];
+  layers = record { z = z; loops = rest.outlines; hatches = rest.hatches } ∷ rest.layers;
+}
+onto (Outline points) rest = record rest { outlines = points ∷ rest.outlines }
+onto (Hatches some) rest = record rest { hatches = some ++ rest.hatches }
+
+abbrev pub nothing : Geometry
+nothing = record { outlines = []; hatches = []; layers = [] }
 
 -- the end is line n, and nothing stands behind it
 abbrev pub ended_at : ℕ → List (List ℕ) → Result Geometry CliFault
-ended_at n [] = Ok (record { outlines = []; layers = [] })
+ended_at n [] = Ok nothing
 ended_at n (line ∷ rest) = Err (BadLine (n + 1))
 
 -- what stands behind line n and a layer of the last height

@@ -4,21 +4,22 @@ ghost use Rattle.std.specs.Str.Lines.{lines};
 ghost use Rattle.cli_read.specs.Form.{end_line};
 ghost use Rattle.scad_base.specs.Results.{and_then};
 ghost use Rattle.cli_read.specs.View.{seen, built};
-ghost use Rattle.cli_read.specs.Reading.{Gives, Geometry, layers_at, ended_at, onto, last_height};
+ghost use Rattle.cli_read.specs.Reading.{Gives, Geometry, nothing, layers_at, ended_at, onto, last_height};
 
 use crate::fault::CliFault;
-use crate::layers::{CliLayer, Loops};
+use crate::layers::{CliLayer, Hatches, Loops};
 use crate::line::{Said, said_at};
 use crate::lines::first_line;
-use scad_geom::Loop;
+use scad_geom::{Edge, Loop};
 use std::alloc::{AllocError, Global};
 
-/// Layers that are read: those that are whole, the height of the one at hand, and its outlines so far.
+/// Layers that are read: those that are whole, the height of the one at hand, and its outlines and hatches so far.
 #[derive(Debug, Drop)]
 struct Building {
     whole: Vec<CliLayer>,
     last: Option<u32>,
     outlines: Vec<Loop>,
+    hatches: Vec<Edge>,
 }
 
 /// The layers of the lines of a text, the first of which has number 8.
@@ -48,6 +49,7 @@ fn begun(alloc: Global) -> Building
         whole: Vec::new(alloc),
         last: None,
         outlines: Vec::new(alloc),
+        hatches: Vec::new(alloc),
     }
 }
 
@@ -67,10 +69,16 @@ fn taken(alloc: Global, building: Building, said: Said) -> Result<Building, Allo
             whole: closed(building)?,
             last: Some(z),
             outlines: Vec::new(alloc),
+            hatches: Vec::new(alloc),
         }),
         Said::Outline(outline) => {
             let mut building = building;
             building.outlines.push(outline)?;
+            Ok(building)
+        }
+        Said::Hatches(hatches) => {
+            let mut building = building;
+            building.hatches.extend_from_slice(hatches.as_slice())?;
             Ok(building)
         }
     }
@@ -78,18 +86,20 @@ fn taken(alloc: Global, building: Building, said: Said) -> Result<Building, Allo
 
 // The layers with the one at hand.
 fn closed(building: Building) -> Result<Vec<CliLayer>, AllocError>
-    ensures { IfOk result (λ v. seen v.items ≡ built building (record { outlines = []; layers = [] })) }
+    ensures { IfOk result (λ v. seen v.items ≡ built building nothing) }
 {
     let Building {
         whole,
         last,
         outlines,
+        hatches,
     } = building;
     let mut layers = whole;
     if let Some(z) = last {
         layers.push(CliLayer {
             z,
             loops: Loops::from_vec(outlines),
+            hatches: Hatches::from_vec(hatches),
         })?;
     }
     Ok(layers)

@@ -1,9 +1,10 @@
 //! Layers that were read.
 ghost use Rattle.std.specs.Prelude.{◌≡◌, List};
 ghost use Rattle.scad_geom.specs.declared.point.Pt.{Pt};
+ghost use Rattle.scad_geom.specs.declared.point.Edge.{Edge};
 ghost use Rattle.cli_read.specs.declared.layers.CliLayer.{CliLayer};
 
-use scad_geom::Loop;
+use scad_geom::{Edge, Loop};
 use std::marker::Model;
 
 /// The outlines of a layer.
@@ -39,11 +40,46 @@ impl Loops {
     }
 }
 
-/// A layer: the height of its upper surface in micrometres, and its outlines, each without its first point repeated.
+/// The hatches of a layer.
+#[derive(Debug, Drop)]
+pub struct Hatches {
+    hatches: Vec<Edge>,
+}
+
+impl Model for Hatches {
+    ghost use Rattle.std.specs.Prelude.{List};
+    ghost use Rattle.scad_geom.specs.declared.point.Edge.{Edge};
+
+    ghost Value = { List Edge };
+
+    ghost view = { λ h. h.hatches.items };
+}
+
+impl Hatches {
+    ghost use Rattle.std.specs.Prelude.{◌≡◌};
+
+    /// The hatches of the vector, without taking memory.
+    pub fn from_vec(hatches: Vec<Edge>) -> Self
+        ensures { result ≡ hatches.items }
+    {
+        Hatches { hatches }
+    }
+
+    /// The hatches, in the order of the text.
+    pub fn as_slice(&self) -> &[Edge]
+        ensures { result.now ≡ self.now }
+    {
+        self.hatches.as_slice()
+    }
+}
+
+/// A layer: the height of its upper surface in micrometres, its outlines, each without its first point repeated, and its
+/// hatches, each from `a` to `b`.
 #[derive(Debug, Drop)]
 pub struct CliLayer {
     pub z: u32,
     pub loops: Loops,
+    pub hatches: Hatches,
 }
 
 /// The layers of a file, upwards.

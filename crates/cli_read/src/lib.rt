@@ -5,6 +5,7 @@
 
 mod fault;
 mod geometry;
+mod hatch_line;
 mod head;
 pub mod laws;
 mod layers;
@@ -17,5 +18,5 @@ mod reader;
 mod words;
 
 pub use fault::CliFault;
-pub use layers::{Cli, CliLayer, CliLayers, Loops};
+pub use layers::{Cli, CliLayer, CliLayers, Hatches, Loops};
 pub use reader::read;

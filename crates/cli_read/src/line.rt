@@ -1,12 +1,14 @@
 //! A line of a layer.
 ghost use Rattle.std.specs.Prelude.{◌≡◌};
 ghost use Rattle.std.specs.Option.{option_map};
-ghost use Rattle.cli_read.specs.Reading.{Gives, is_above, height_at, said_by, said_at};
+ghost use Rattle.cli_read.specs.Reading.{Gives, is_above, height_at, drawn_by, drawn_at, said_by, said_at};
 
 use crate::fault::CliFault;
+use crate::hatch_line::hatches_at;
+use crate::layers::Hatches;
 use crate::number::count_at;
 use crate::outline::outline_at;
-use crate::words::{behind_layer_start, behind_polyline_start};
+use crate::words::{behind_hatches_start, behind_layer_start, behind_polyline_start};
 use scad_geom::Loop;
 use std::alloc::Global;
 
@@ -17,6 +19,8 @@ pub enum Said {
     Height(u32),
     /// An outline of the layer at hand.
     Outline(Loop),
+    /// Hatches of the layer at hand.
+    Hatches(Hatches),
 }
 
 /// What line `n` says behind a layer of the last height.
@@ -24,13 +28,7 @@ pub enum Said {
 pub fn said_at(alloc: Global, n: u64, last: Option<u32>, line: &[u8]) -> Result<Said, CliFault>
     ensures { Gives (said_at n last line.now) (λ s. s) result }
 {
-    said_by(
-        alloc,
-        n,
-        last,
-        behind_layer_start(line),
-        behind_polyline_start(line),
-    )
+    said_by(alloc, n, last, behind_layer_start(line), line)
 }
 
 fn said_by(
@@ -38,14 +36,41 @@ fn said_by(
     n: u64,
     last: Option<u32>,
     height: Option<&[u8]>,
-    outline: Option<&[u8]>,
+    line: &[u8],
 ) -> Result<Said, CliFault>
-    ensures { Gives (said_by n last (option_map (λ t. t.now) height.entry) (option_map (λ t. t.now) outline.entry)) (λ s. s) result }
+    ensures { Gives (said_by n last (option_map (λ t. t.now) height.entry) line.now) (λ s. s) result }
 {
-    match (height, outline, last) {
-        (Some(text), _, _) => Ok(Said::Height(height_at(n, last, text)?)),
-        (None, Some(text), Some(_)) => Ok(Said::Outline(outline_at(alloc, n, text)?)),
-        _ => Err(CliFault::BadLine(n)),
+    match (height, last) {
+        (Some(text), _) => Ok(Said::Height(height_at(n, last, text)?)),
+        (None, Some(_)) => drawn_at(alloc, n, line),
+        (None, None) => Err(CliFault::BadLine(n)),
+    }
+}
+
+#[tactic(auto, unfolding(crate::specs::Reading::drawn_at))]
+fn drawn_at(alloc: Global, n: u64, line: &[u8]) -> Result<Said, CliFault>
+    ensures { Gives (drawn_at n line.now) (λ s. s) result }
+{
+    drawn_by(
+        alloc,
+        n,
+        behind_polyline_start(line),
+        behind_hatches_start(line),
+    )
+}
+
+fn drawn_by(
+    alloc: Global,
+    n: u64,
+    outline: Option<&[u8]>,
+    hatches: Option<&[u8]>,
+) -> Result<Said, CliFault>
+    ensures { Gives (drawn_by n (option_map (λ t. t.now) outline.entry) (option_map (λ t. t.now) hatches.entry)) (λ s. s) result }
+{
+    match (outline, hatches) {
+        (Some(text), _) => Ok(Said::Outline(outline_at(alloc, n, text)?)),
+        (None, Some(text)) => Ok(Said::Hatches(hatches_at(alloc, n, text)?)),
+        (None, None) => Err(CliFault::BadLine(n)),
     }
 }
 

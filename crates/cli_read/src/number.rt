@@ -1,6 +1,6 @@
 //! Numbers, each of which is its decimal text.
 ghost use Rattle.std.specs.Prelude.{◌≡◌};
-ghost use Rattle.cli_read.specs.Reading.{Gives, or_bad, if_count, count_of, if_coordinate, coordinate_of, direction_at};
+ghost use Rattle.cli_read.specs.Reading.{Gives, or_bad, if_count, count_of, if_coordinate, coordinate_of, direction_at, some_at};
 
 use crate::fault::CliFault;
 use itoa::Buffer;
@@ -94,6 +94,18 @@ pub fn direction_at(n: u64, word: &[u8]) -> Result<u32, CliFault>
     let direction = count_at(n, word)?;
     if direction <= 1 {
         Ok(direction)
+    } else {
+        Err(CliFault::BadLine(n))
+    }
+}
+
+/// A number of hatches, which is 1 at least.
+pub fn some_at(n: u64, word: &[u8]) -> Result<u32, CliFault>
+    ensures { Gives (some_at n word.now) (λ c. c) result }
+{
+    let count = count_at(n, word)?;
+    if 1 <= count {
+        Ok(count)
     } else {
         Err(CliFault::BadLine(n))
     }

@@ -2,7 +2,7 @@
 ghost use Rattle.std.specs.Prelude.{◌≡◌, ◌<◌, ◌≤◌, ◌∷◌, ◌==◌, [], List, length, MatchOption};
 ghost use Rattle.std.specs.Option.{option_map};
 ghost use Rattle.cli_read.specs.Reading.{words, words_behind, behind};
-ghost use Rattle.cli_text.specs.Cli.{layer_start, polyline_start};
+ghost use Rattle.cli_text.specs.Cli.{layer_start, polyline_start, hatches_start};
 ghost use Rattle.cli_read.specs.Form.{count_start};
 
 use text_scan::first_at;
@@ -42,6 +42,14 @@ pub fn behind_polyline_start(line: &[u8]) -> Option<&[u8]>
     ensures { option_map (λ r. r.now) result ≡ behind polyline_start line.now }
 {
     line.strip_prefix(b"$$POLYLINE/1,".as_slice())
+}
+
+/// What stands behind the start of hatches of part 1, or none where it is another line.
+#[tactic(auto, unfolding(cli_text::specs::Cli::hatches_start, crate::specs::Reading::behind))]
+pub fn behind_hatches_start(line: &[u8]) -> Option<&[u8]>
+    ensures { option_map (λ r. r.now) result ≡ behind hatches_start line.now }
+{
+    line.strip_prefix(b"$$HATCHES/1,".as_slice())
 }
 
 /// What stands behind the start of the line with the number of layers, or none where it is another line.

@@ -4,12 +4,19 @@ use Rattle.std.specs.Prelude.{ℕ, ◌+◌, List, [], ◌∷◌, ◌++◌, lengt
 use Rattle.std.specs.List.{flat_map}
 use Rattle.std.specs.Fmt.{decimal, signed_decimal}
 use Rattle.scad_geom.specs.declared.point.Pt.{Pt}
+use Rattle.scad_geom.specs.declared.point.Edge.{Edge}
 use Rattle.scad_geom.specs.Area.{twice_area}
 
--- a layer: the height of its upper surface and its outlines, each a list of vertices
+-- a layer: the height of its upper surface, its outlines, each a list of vertices, and its hatches,
+-- each from its first point to its last
 pub record Layer : Type 0 where
   pub z : ℕ
   pub loops : List (List Pt)
+  pub hatches : List Edge
+
+-- a layer without hatches
+abbrev pub outlined : ℕ → List (List Pt) → Layer
+outlined z loops = record { z = z; loops = loops; hatches = [] }
 
 unfoldable pub head_start : List ℕ
 head_start =
@@ -53,14 +60,31 @@ polyline_text points =
     ++ flat_map point_text (closed points)
     ++ codes "\n"
 
+unfoldable pub hatches_start : List ℕ
+hatches_start = codes "$$HATCHES/1,"
+
+-- a hatch: its first and its last point
+abbrev pub hatch_text : Edge → List ℕ
+hatch_text hatch = point_text hatch.a ++ point_text hatch.b
+
+-- part 1, the number of the hatches, and these
+abbrev pub hatches_line : List Edge → List ℕ
+hatches_line hatches = hatches_start ++ decimal (length hatches) ++ flat_map hatch_text hatches
+
+-- one line for all hatches of a layer, where it has any
+abbrev pub hatches_text : List Edge → List ℕ
+hatches_text [] = []
+hatches_text (hatch ∷ more) = hatches_line (hatch ∷ more) ++ codes "\n"
+
 unfoldable pub layer_start : List ℕ
 layer_start = codes "$$LAYER/"
 
--- the lines of a layer: its height, then its outlines
+-- the lines of a layer: its height, then its outlines, then its hatches
 abbrev pub layer_text : Layer → List ℕ
 layer_text layer =
     layer_start ++ decimal layer.z ++ codes "\n"
     ++ flat_map polyline_text layer.loops
+    ++ hatches_text layer.hatches
 
 unfoldable pub geometry_end : List ℕ
 geometry_end = codes "$$GEOMETRYEND\n"

@@ -4,6 +4,7 @@
 //! ran out.
 #![tactic(auto, using(scad_geom::proofs::Casts::casts))]
 
+mod hatches;
 mod number;
 mod polyline;
 mod writer;

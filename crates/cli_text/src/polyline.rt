@@ -51,7 +51,8 @@ fn push_closed(out: &mut Vec<u8>, points: &[Pt]) -> Result<(), AllocError>
     }
 }
 
-fn push_point(out: &mut Vec<u8>, point: Pt) -> Result<(), AllocError>
+/// Appends a point's coordinates, each behind a comma.
+pub fn push_point(out: &mut Vec<u8>, point: Pt) -> Result<(), AllocError>
     ensures ok { OnOk result (out.new.items ≡ out.old.items ++ point_text point) }
     ensures err { OnErr result (BeginsWith out.old.items out.new.items) }
 {

@@ -2,12 +2,14 @@
 ghost use Rattle.std.specs.Prelude.{◌≡◌, ◌++◌, List, take, OnOk, OnErr};
 ghost use Rattle.std.specs.List.{flat_map};
 ghost use Rattle.scad_geom.specs.declared.point.Pt.{Pt};
+ghost use Rattle.scad_geom.specs.declared.point.Edge.{Edge};
 ghost use Rattle.cli_text.specs.Cli.{head_start, head_end, head, layer_start, layer_text, polyline_text, geometry_end};
 ghost use Rattle.scad_base.specs.Appends.{BeginsWith};
 
+use crate::hatches::push_hatches;
 use crate::number::push_unsigned;
 use crate::polyline::push_polyline;
-use scad_geom::Loop;
+use scad_geom::{Edge, Loop};
 use std::alloc::AllocError;
 
 /// Appends the head of a file of `layers` layers. Where memory runs out, `out` is as it was.
@@ -20,15 +22,21 @@ pub fn write_head(out: &mut Vec<u8>, layers: u32) -> Result<(), AllocError>
     whole_or_nothing(out, kept, written)
 }
 
-/// Appends the lines of a layer: `z` is the height of its upper surface in micrometres, and `loops`
-/// are its outlines. Where memory runs out, `out` is as it was.
-pub fn write_layer(out: &mut Vec<u8>, z: u32, loops: &[Loop]) -> Result<(), AllocError>
-    ensures ok { OnOk result
-        (out.new.items ≡ out.old.items ++ layer_text (record { z = z; loops = loops.now })) }
+/// Appends the lines of a layer: `z` is the height of its upper surface in micrometres, `loops` are
+/// its outlines, and `hatches` the straight lines that fill it, each from `a` to `b`; without any
+/// there is no line of them. Where memory runs out, `out` is as it was.
+pub fn write_layer(
+    out: &mut Vec<u8>,
+    z: u32,
+    loops: &[Loop],
+    hatches: &[Edge],
+) -> Result<(), AllocError>
+    ensures ok { OnOk result (out.new.items ≡ out.old.items
+        ++ layer_text (record { z = z; loops = loops.now; hatches = hatches.now })) }
     ensures err { OnErr result (out.new.items ≡ out.old.items) }
 {
     let kept = out.len();
-    let written = push_layer(out, z, loops);
+    let written = push_layer(out, z, loops, hatches);
     whole_or_nothing(out, kept, written)
 }
 
@@ -82,15 +90,16 @@ fn push_head_end(out: &mut Vec<u8>) -> Result<(), AllocError>
     out.extend_from_slice(b"\n$$HEADEREND\n$$GEOMETRYSTART\n")
 }
 
-fn push_layer(out: &mut Vec<u8>, z: u32, loops: &[Loop]) -> Result<(), AllocError>
-    ensures ok { OnOk result
-        (out.new.items ≡ out.old.items ++ layer_text (record { z = z; loops = loops.now })) }
+fn push_layer(out: &mut Vec<u8>, z: u32, loops: &[Loop], hatches: &[Edge]) -> Result<(), AllocError>
+    ensures ok { OnOk result (out.new.items ≡ out.old.items
+        ++ layer_text (record { z = z; loops = loops.now; hatches = hatches.now })) }
     ensures err { OnErr result (BeginsWith out.old.items out.new.items) }
 {
     push_layer_start(out)?;
     push_unsigned(out, u64::from(z))?;
     out.push(b'\n')?;
-    push_polylines(out, loops)
+    push_polylines(out, loops)?;
+    push_hatches(out, hatches)
 }
 
 #[tactic(auto, unfolding(crate::specs::Cli::layer_start))]

@@ -3,6 +3,10 @@
 #![tactic(auto)]
 
 #[cfg(test)]
+mod hatch_fronts;
+#[cfg(test)]
+mod hatch_lines;
+#[cfg(test)]
 mod outlines;
 #[cfg(test)]
 mod programs;

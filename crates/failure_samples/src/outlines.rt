@@ -30,7 +30,7 @@ fn outlines(alloc: Global) -> Result<Vec<u8>, AllocError> {
     write_head(&mut text, LAYERS)?;
     let loops = [loop_of(alloc, OUTER)?, loop_of(alloc, HOLE)?];
     for layer in 1..=LAYERS {
-        write_layer(&mut text, layer.wrapping_mul(200), &loops)?;
+        write_layer(&mut text, layer.wrapping_mul(200), &loops, &[])?;
     }
     write_end(&mut text)?;
     Ok(text)

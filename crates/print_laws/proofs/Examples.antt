@@ -1,6 +1,7 @@
 -- Worked examples of what is written of layers, and of the moves that extrude along them.
 use Rattle.std.proofs.Common.{◌≡◌, [], ◌∷◌, ℕ, pos, refl}
 use Rattle.scad_geom.specs.declared.point.Pt.{Pt}
+use Rattle.cli_text.specs.Cli.{outlined}
 use Rattle.slice_work.specs.Part.{Layout}
 use Rattle.print_laws.specs.Print.{PathSide, sides_from, written, all_paths}
 
@@ -15,11 +16,7 @@ abbrev upper : Layout
 upper = record { outlines = []; paths = (at 2 2 ∷ at 2 4 ∷ []) ∷ [] }
 
 -- each is written with the height of its upper surface
-two_heights : written 200 (lower ∷ upper ∷ []) ≡ record { z = 200; loops = lower.outlines } ∷ record {
-  z = 400;
-  loops =
-      [];
-} ∷ []
+two_heights : written 200 (lower ∷ upper ∷ []) ≡ outlined 200 lower.outlines ∷ outlined 400 [] ∷ []
 two_heights = refl
 
 -- the sides, layer after layer

@@ -14,7 +14,7 @@ use Rattle.slice_layer.proofs.Surfaces.{solids_closed}
 use Rattle.slice_layer.proofs.Membership.{outlines_hold_centres}
 use Rattle.slice_layer.proofs.Border.{outlines_are_near_border}
 use Rattle.cli_text.specs.Cli.{Layer, cli as text_of_layers}
-use Rattle.cli_read.specs.Form.{AreAbove, IsShape}
+use Rattle.cli_read.specs.Form.{AreAbove, IsShape, AreHatches}
 use Rattle.cli_read.specs.Laws.{IsReadable, WrittenTextsSayTheirLayers}
 use Rattle.slice_work.specs.declared.want.Want.TheVariants.{Plan as WithPlan}
 use Rattle.slice_work.specs.Part.{Layout}
@@ -82,6 +82,11 @@ module _ (s : Settings) (tree : Solid) (solids : AreSolids tree) (range : AreInR
   shapes_from i [] h = tt
   shapes_from i (l ∷ ls) h = (are_shapes s tree i l solids range h.0, shapes_from (i + 1) ls h.1)
 
+  no_hatches_from : (i : ℕ) (ls : List Layout)
+      → AllByRecursion (λ (layer : Layer). AreHatches layer.hatches) (written_from height i ls)
+  no_hatches_from i [] = tt
+  no_hatches_from i (l ∷ ls) = (record { count = omega arith; near = tt }, no_hatches_from (i + 1) ls)
+
   number_from : (i : ℕ) (ls : List Layout) → length (written_from height i ls) ≡ length ls
   number_from i [] = refl
   number_from i (l ∷ ls) = ap suc (number_from (i + 1) ls)
@@ -94,6 +99,7 @@ module _ (s : Settings) (tree : Solid) (solids : AreSolids tree) (range : AreInR
         above = above_from height 0 None layers some_height tt;
         heights = heights_from 0 layers (omega (arith, few));
         shapes = shapes_from 0 layers (all_laid s tree layers are);
+        hatches = no_hatches_from 0 layers;
         count = omega (arith, few, long);
       }
 

@@ -9,7 +9,7 @@ use Rattle.scad_words.specs.declared.settings.Settings.{Settings}
 use Rattle.scad_tree.specs.Solid.{Solid}
 use Rattle.plan_walls.specs.Kept.{KeepsClear}
 use Rattle.plan_layer.specs.Moves.{all_moves}
-use Rattle.cli_text.specs.Cli.{Layer, cli as text_of_layers}
+use Rattle.cli_text.specs.Cli.{Layer, outlined, cli as text_of_layers}
 use Rattle.cli_read.specs.Form.{Reads}
 use Rattle.gcode_text.specs.declared.machine.Move.{Move}
 use Rattle.gcode_text.specs.declared.rates.Rates.{Rates}
@@ -43,7 +43,7 @@ all_paths layers = map (λ l. l.paths) layers
 -- layers of the height h as they are written, each with the height of its upper surface; the first has the number i
 abbrev pub written_from : ℕ → ℕ → List Layout → List Layer
 written_from h i [] = []
-written_from h i (l ∷ ls) = record { z = h * (i + 1); loops = l.outlines } ∷ written_from h (i + 1) ls
+written_from h i (l ∷ ls) = outlined (h * (i + 1)) l.outlines ∷ written_from h (i + 1) ls
 
 abbrev pub written : ℕ → List Layout → List Layer
 written h layers = written_from h 0 layers

@@ -9,7 +9,7 @@ use Rattle.scad_words.specs.declared.settings.Settings.{Settings as SettingsOfRu
 use Rattle.scad_words.specs.Settings.{AreInRange}
 use Rattle.scad_tree.specs.Solid.{Solid}
 use Rattle.scad_tree.specs.Solids.{AreSolids}
-use Rattle.cli_text.specs.Cli.{Layer}
+use Rattle.cli_text.specs.Cli.{Layer, outlined}
 use Rattle.gcode_text.specs.Gcode.{gcode}
 use Rattle.slice_work.specs.declared.want.Want.{Want}
 use Rattle.slice_work.specs.declared.want.Want.TheVariants.{Plan as WithPlan}
@@ -45,7 +45,7 @@ written_at : (h : ℕ) (part : Part) (i n : ℕ)
     → written_from h i (map (layout_at part) (range_with_len i n)) ≡ map (layer_at h part) (range_with_len i n)
 written_at h part i zero = refl
 written_at h part i (suc n) =
-    ap₂ (λ (loops : List (List Pt)) (ls : List Layer). record { z = h * (i + 1); loops = loops } ∷ ls)
+    ap₂ (λ (loops : List (List Pt)) (ls : List Layer). outlined (h * (i + 1)) loops ∷ ls)
     (outlines_whole (part i))
     (written_at h part (i + 1) n)
 

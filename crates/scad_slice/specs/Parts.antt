@@ -6,7 +6,7 @@ use Rattle.scad_tree.specs.Solid.{Solid}
 use Rattle.scad_tree.specs.Solids.{AreSolids}
 use Rattle.scad_words.specs.declared.settings.Settings.{Settings}
 use Rattle.scad_words.specs.Settings.{AreInRange}
-use Rattle.cli_text.specs.Cli.{Layer}
+use Rattle.cli_text.specs.Cli.{Layer, outlined}
 use Rattle.slice_work.specs.declared.want.Want.{Want}
 use Rattle.slice_work.specs.declared.want.Want.TheVariants.{Plan}
 use Rattle.slice_work.specs.Part.{Layout, Part, outlines_of, paths_of}
@@ -23,7 +23,7 @@ AreMade part n = (i : ℕ) → i < n → (layout : Layout) × (part i ≡ Ok lay
 
 -- a layer with the height of its upper surface in micrometres
 abbrev pub layer_at : ℕ → Part → ℕ → Layer
-layer_at h part i = record { z = h * (i + 1); loops = outlines_of (part i) }
+layer_at h part i = outlined (h * (i + 1)) (outlines_of (part i))
 
 -- the first n layers
 abbrev pub layers_of : ℕ → Part → ℕ → List Layer

@@ -35,7 +35,7 @@ AreThere Plan v = (v.cli.created ≡ true) × (v.gcode.created ≡ true)
 
 -- the lines of a layer's outlines, under the height of its upper surface
 abbrev pub outline_lines : ℕ → ℕ → List (List Pt) → List ℕ
-outline_lines height i outlines = cli.layer_text (record { z = height * (i + 1); loops = outlines })
+outline_lines height i outlines = cli.layer_text (cli.outlined (height * (i + 1)) outlines)
 
 -- the lines of a layer's moves, behind moves of this volume
 abbrev pub move_lines : Rates → ℕ → ℕ → List (List Pt) → List ℕ

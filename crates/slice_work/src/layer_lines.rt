@@ -83,7 +83,7 @@ fn send_outlines<D: Desk>(
     ensures kept { Keeps D.files D.view D.faults desk.old desk.new (stopped result) }
 {
     let mut text = Vec::new(alloc);
-    cli_text::write_layer(&mut text, rates.layer_height * (layer + 1), loops)?;
+    cli_text::write_layer(&mut text, rates.layer_height * (layer + 1), loops, &[])?;
     send(desk, Out::Cli, &text)?;
     Ok(text.len())
 }

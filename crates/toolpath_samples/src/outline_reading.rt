@@ -182,7 +182,7 @@ const EDITS: [(usize, &str, &str); 89] = [
         "$$POLYLINE/1,0,4294967295,10,10,20,20,20,10,10,10\n",
         "CountDiffers 4294967295 4",
     ),
-    (10, "$$HATCHES/1,1,0,0,5,0\n", "BadLine 10"),
+    (10, "$$HATCHES/1,1,0,0,5,0\n", "2 layers, 2 outlines"),
     (
         10,
         "$$POLYLINE/1,0,4,10,10,20,20,20,10,10,1x\n",
@@ -272,7 +272,7 @@ fn frame(alloc: Global) -> Result<Vec<u8>, AllocError> {
     let mut out = Vec::new(alloc);
     write_head(&mut out, 50)?;
     for layer in 1..=50u32 {
-        write_layer(&mut out, layer.wrapping_mul(200), &loops)?;
+        write_layer(&mut out, layer.wrapping_mul(200), &loops, &[])?;
     }
     write_end(&mut out)?;
     Ok(out)

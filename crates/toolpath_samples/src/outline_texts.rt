@@ -20,7 +20,7 @@ fn cube_of_a_millimetre(rt: HostRuntime) -> Result<(), Fail> {
     let mut out = Vec::new(rt.alloc());
     write_head(&mut out, 5)?;
     for z in [200, 400, 600, 800, 1000] {
-        write_layer(&mut out, z, &loops)?;
+        write_layer(&mut out, z, &loops, &[])?;
     }
     write_end(&mut out)?;
     let file = b"$$HEADERSTART\n$$ASCII\n$$UNITS/0.001\n$$VERSION/200\n$$LAYERS/5\n$$HEADEREND\n\
@@ -57,8 +57,8 @@ fn layer_of_odd_outlines(rt: HostRuntime) -> Result<(), Fail> {
         outline(alloc, &[])?,
     ]?;
     let mut out = Vec::from_slice(alloc, b"before\n")?;
-    write_layer(&mut out, u32::MAX, &loops)?;
-    write_layer(&mut out, 0, &[])?;
+    write_layer(&mut out, u32::MAX, &loops, &[])?;
+    write_layer(&mut out, 0, &[], &[])?;
     let text = b"before\n\
         $$LAYER/4294967295\n\
         $$POLYLINE/1,0,5,0,0,0,10,10,10,10,0,0,0\n\
