@@ -1,5 +1,6 @@
 //! What of an edge list matters on a level.
 ghost use Rattle.std.specs.Prelude.{◌≡◌, ◌<◌, length, filter, IfOk, All};
+ghost use Rattle.std.specs.List.Sorted.{IsPermutation};
 ghost use Rattle.scad_geom.specs.Limits.{coordinate_limit};
 ghost use Rattle.scad_geom.specs.Within.{IsEdgeWithin};
 ghost use Rattle.scad_geom.specs.Level.{IsLevelWithin};
@@ -21,6 +22,30 @@ pub(crate) struct Near {
 
 /// What is near a level, from the numbers of the edges that meet it.
 pub(crate) fn edges_near(
+    alloc: Global,
+    edges: &[LeafEdge],
+    numbers: &[u32],
+    at: &Level,
+) -> Result<Near, AllocError>
+    requires within { All (λ e. IsEdgeWithin coordinate_limit e.edge) edges.now }
+    requires at { IsLevelWithin coordinate_limit at.now }
+    requires numbers { IsPermutation (touching 0 edges.now at.now) numbers.now }
+    ensures { IfOk result (IsNear edges.now at.now) }
+{
+    let found = flats(alloc, edges, numbers, at)?;
+    if found.is_empty() {
+        return Ok(Near {
+            touching: Vec::new(alloc),
+            flats: found,
+        });
+    }
+    let mut sorted = Vec::from_slice(alloc, numbers)?;
+    sorted.sort_unstable();
+    near_ascending(alloc, edges, &sorted, at)
+}
+
+// The same, where the numbers ascend and there are flat edges.
+fn near_ascending(
     alloc: Global,
     edges: &[LeafEdge],
     numbers: &[u32],

@@ -92,7 +92,8 @@ fn touches(e: &Edge, at: &Level) -> bool
     starts_by(e, at) && ends_from(e, at)
 }
 
-fn reaches_at(edges: &[LeafEdge], i: usize, lower: &Level, upper: &Level) -> bool
+/// Whether the edge of a number isn't flat and reaches both heights.
+pub(crate) fn reaches_at(edges: &[LeafEdge], i: usize, lower: &Level, upper: &Level) -> bool
     requires within { All (λ e. IsEdgeWithin coordinate_limit e.edge) edges.now }
     requires lower { IsLevelWithin coordinate_limit lower.now }
     requires upper { IsLevelWithin coordinate_limit upper.now }

@@ -5,6 +5,7 @@
 #![tactic(auto, using(scad_geom::proofs::Casts::casts))]
 
 mod bundle;
+mod bundle_order;
 mod collect;
 mod group;
 pub mod laws;

@@ -50,7 +50,7 @@ pub(crate) fn slab_among(
     requires lower { IsLevelWithin coordinate_limit lower.now }
     requires upper { IsLevelWithin coordinate_limit upper.now }
     requires neighbours { AreNeighbours edges.now lower.now upper.now }
-    requires numbers { numbers.now ≡ touching 0 edges.now lower.now }
+    requires numbers { IsPermutation (touching 0 edges.now lower.now) numbers.now }
     ensures { IfOk result (λ v. AreBundles edges.now lower.now upper.now v.items) }
 {
     let mut passages = passages_among(alloc, edges, numbers, lower, upper)?;
