@@ -16,8 +16,6 @@ mod plans;
 #[cfg(test)]
 mod program_texts;
 #[cfg(test)]
-mod random_clearance;
-#[cfg(test)]
 mod random_plans;
 #[cfg(test)]
 mod random_runs;
