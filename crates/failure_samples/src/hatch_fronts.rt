@@ -96,47 +96,46 @@ fn each_front_of_hatches(rt: HostRuntime) -> Result<(), Fail> {
     Ok(())
 }
 
-const fn at(x: i32, y: i32) -> Pt {
-    Pt { x, y }
-}
-
 const FRONT: [Edge; 2] = [
     Edge {
-        a: at(900, 2000),
-        b: at(2100, 2000),
+        a: Pt { x: 900, y: 2000 },
+        b: Pt { x: 2100, y: 2000 },
     },
     Edge {
-        a: at(-7, 0),
-        b: at(15, -30),
+        a: Pt { x: -7, y: 0 },
+        b: Pt { x: 15, y: -30 },
     },
 ];
 
 const JOINED: [Edge; 5] = [
     Edge {
-        a: at(0, 0),
-        b: at(0, 0),
+        a: Pt { x: 0, y: 0 },
+        b: Pt { x: 0, y: 0 },
     },
     Edge {
-        a: at(5, 5),
-        b: at(6, 6),
+        a: Pt { x: 5, y: 5 },
+        b: Pt { x: 6, y: 6 },
     },
     Edge {
-        a: at(7, 7),
-        b: at(8, 8),
+        a: Pt { x: 7, y: 7 },
+        b: Pt { x: 8, y: 8 },
     },
     Edge {
-        a: at(-9, 9),
-        b: at(10, -10),
+        a: Pt { x: -9, y: 9 },
+        b: Pt { x: 10, y: -10 },
     },
     Edge {
-        a: at(-1_100_000, 1_100_000),
-        b: at(4, 4),
+        a: Pt {
+            x: -1_100_000,
+            y: 1_100_000,
+        },
+        b: Pt { x: 4, y: 4 },
     },
 ];
 
 const LAST: [Edge; 1] = [Edge {
-    a: at(1, 2),
-    b: at(3, 4),
+    a: Pt { x: 1, y: 2 },
+    b: Pt { x: 3, y: 4 },
 }];
 
 /// The same layers as they are written: all hatches of a layer in one line, behind its outlines.

@@ -79,7 +79,8 @@ fn layer_told(alloc: Global, layer: &CliLayer) -> Result<String, AllocError> {
     let mut text = format!(in alloc; "{} {}", layer.z, layer.loops.as_slice().len())?;
     for hatch in layer.hatches.as_slice() {
         let (a, b) = (hatch.a, hatch.b);
-        text.push_str(&format!(in alloc; " [{} {} {} {}]", a.x, a.y, b.x, b.y)?)?;
+        let told = format!(in alloc; " [{} {} {} {}]", a.x, a.y, b.x, b.y)?;
+        text.push_str(told.as_str())?;
     }
     Ok(text)
 }
@@ -107,7 +108,7 @@ fn told(alloc: Global, answer: &Result<Cli, CliFault>) -> Result<String, AllocEr
 fn lines_of_hatches(rt: HostRuntime) -> Result<(), Fail> {
     let alloc = rt.alloc();
     for (line, wanted) in lines() {
-        let mut text = format!(in alloc; "{HEAD}{LAYER}{line}")?;
+        let mut text = format!(in alloc; "{}{}{}", HEAD, LAYER, line)?;
         text.push_str(if line.is_empty() { END } else { "\n" })?;
         text.push_str(if line.is_empty() { "" } else { END })?;
         let answer = told(alloc, &read(alloc, text.as_bytes()))?;
@@ -119,7 +120,7 @@ fn lines_of_hatches(rt: HostRuntime) -> Result<(), Fail> {
 #[test]
 fn hatches_want_a_layer(rt: HostRuntime) -> Result<(), Fail> {
     let alloc = rt.alloc();
-    let text = format!(in alloc; "{HEAD}$$HATCHES/1,2,1,2,3,4\n{LAYER}{END}")?;
+    let text = format!(in alloc; "{}$$HATCHES/1,2,1,2,3,4\n{}{}", HEAD, LAYER, END)?;
     let answer = told(alloc, &read(alloc, text.as_bytes()))?;
     assert_eq!(rt; answer.as_str(), "BadLine 8");
     Ok(())
