@@ -42,7 +42,13 @@ pub(crate) fn element<'a>(alloc: Global, ts: &'a [Token], end: Place, room: u32)
         let (test, left) = round_expression(alloc, rest, end, inner)?;
         let tested = Box::new(alloc, test)?;
         let (held, left) = element(alloc, left, end, inner)?;
-        return otherwise(alloc, token.at, tested, held, left, end, inner);
+        let kept = Box::new(alloc, held)?;
+        let so_far = Tested {
+            at: token.at,
+            test: tested,
+            held: kept,
+        };
+        return otherwise(alloc, so_far, left, end, inner);
     }
     if is_key(Key::Let, token) {
         let inner = opened(room, token.at)?;
@@ -54,31 +60,39 @@ pub(crate) fn element<'a>(alloc: Global, ts: &'a [Token], end: Place, room: u32)
     Ok((Elem::Item(value), left))
 }
 
+/// An `if` among elements up to the element that its test holds.
+#[derive(Drop)]
+struct Tested {
+    at: Place,
+    test: Box<Expr>,
+    held: Box<Elem>,
+}
+
 // ["else" elem], behind a test and the element that it holds
 #[cycle(expression)]
 #[tactic(auto, using(crate::proofs::rules::Room::room))]
 fn otherwise<'a>(
     alloc: Global,
-    at: Place,
-    test: Box<Expr>,
-    held: Elem,
+    tested: Tested,
     ts: &'a [Token],
     end: Place,
     room: u32,
 ) -> Read<'a, Elem>
-    ensures { Gives (else_of (below «end» room) at (expression_of test.value) (element_of held) ts.now)
-        element_of result }
+    ensures { Gives (else_of (below «end» room) tested.at (expression_of tested.test.value)
+        (element_of tested.held.value) ts.now) element_of result }
 {
-    let held = Box::new(alloc, held)?;
     let [token, rest @ ..] = ts else {
-        return Ok((node::if_element(at, test, held), ts));
+        return Ok((node::if_element(tested.at, tested.test, tested.held), ts));
     };
     if !is_key(Key::Else, token) {
-        return Ok((node::if_element(at, test, held), ts));
+        return Ok((node::if_element(tested.at, tested.test, tested.held), ts));
     }
     let inner = opened(room, token.at)?;
     let (other, left) = element(alloc, rest, end, inner)?;
-    Ok((node::if_else(alloc, at, test, held, other)?, left))
+    Ok((
+        node::if_else(alloc, tested.at, tested.test, tested.held, other)?,
+        left,
+    ))
 }
 
 // "(" args ")" elem | "(" args ";" expr ";" args ")" elem, behind the "for"

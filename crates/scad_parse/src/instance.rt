@@ -23,6 +23,20 @@ use scad_fault::{Place, Text};
 use scad_lex::{Key, Sign, Token};
 use std::alloc::{AllocError, Global};
 
+/// What stands before a statement: its marks, and the scope that it joins.
+#[derive(Drop)]
+pub(crate) struct Before {
+    pub(crate) marks: Marked,
+    pub(crate) scope: Scope,
+}
+
+/// The word that a statement begins with, and where it stands.
+#[derive(Drop)]
+pub(crate) struct Word {
+    pub(crate) at: Place,
+    pub(crate) name: Text,
+}
+
 // inst = mark* (call child | "if" "(" expr ")" child ["else" child]), of which the first token is given apart
 #[cycle(statement)]
 #[tactic(auto, using(crate::proofs::rules::Statements::room), unfolding(scad_grammar::specs::StatementRules::first_of, scad_grammar::specs::StatementRules::marked_first))]
@@ -59,13 +73,21 @@ pub(crate) fn first<'a>(
     }
     if is_key(Key::If, token) {
         let inner = opened(room, token.at)?;
-        return choice(alloc, token.at, unmarked(), scope, ts, end, inner);
+        let before = Before {
+            marks: unmarked(),
+            scope,
+        };
+        return choice(alloc, token.at, before, ts, end, inner);
     }
     let Some(name) = callee(alloc, token)? else {
         return Err(ParseFault::Syntax(token.at));
     };
     let inner = opened(room, token.at)?;
-    call(alloc, token.at, unmarked(), name, scope, ts, end, inner)
+    let before = Before {
+        marks: unmarked(),
+        scope,
+    };
+    call(alloc, before, Word { at: token.at, name }, ts, end, inner)
 }
 
 // mark* (call child | "if" "(" expr ")" child ["else" child]), behind its first mark
@@ -111,19 +133,23 @@ fn run<'a>(
         return Err(left_out(alloc, token.at, b"!"));
     }
     if is_key(Key::If, token) {
-        return choice(alloc, token.at, marks, scope, rest, end, room);
+        return choice(alloc, token.at, Before { marks, scope }, rest, end, room);
     }
     match callee(alloc, token)? {
-        Some(name) => call(alloc, token.at, marks, name, scope, rest, end, room),
+        Some(name) => {
+            let word = Word { at: token.at, name };
+            call(alloc, Before { marks, scope }, word, rest, end, room)
+        }
         None => Err(ParseFault::Syntax(token.at)),
     }
 }
 
 /// The scope with the statement, which is dropped where it is marked `*`.
-fn kept(scope: Scope, marks: Marked, at: Place, body: StmtBody) -> Result<Scope, AllocError>
-    ensures { IfOk result (λ all. items all.items
-        ≡ with_statement (marks_of marks) (items scope.items) (body_of at marks.percent marks.hash body)) }
+fn kept(before: Before, at: Place, body: StmtBody) -> Result<Scope, AllocError>
+    ensures { IfOk result (λ all. items all.items ≡ with_statement (marks_of before.marks) (items before.scope.items)
+        (body_of at before.marks.percent before.marks.hash body)) }
 {
+    let Before { marks, scope } = before;
     if marks.star {
         drop(body);
         return Ok(scope);
@@ -140,58 +166,45 @@ fn kept(scope: Scope, marks: Marked, at: Place, body: StmtBody) -> Result<Scope,
 }
 
 /// The scope with a call.
-fn called(
-    scope: Scope,
-    marks: Marked,
-    at: Place,
-    name: Text,
-    args: Args,
-    inside: Scope,
-) -> Result<Scope, AllocError>
-    ensures { IfOk result (λ all. items all.items ≡ with_statement (marks_of marks) (items scope.items)
-        (call_of at marks.percent marks.hash name (arguments args.items) (items inside.items))) }
+fn called(before: Before, word: Word, args: Args, inside: Scope) -> Result<Scope, AllocError>
+    ensures { IfOk result (λ all. items all.items ≡ with_statement (marks_of before.marks) (items before.scope.items)
+        (call_of word.at before.marks.percent before.marks.hash word.name (arguments args.items)
+        (items inside.items))) }
 {
-    kept(scope, marks, at, StmtBody::Call(name, args, inside))
+    kept(before, word.at, StmtBody::Call(word.name, args, inside))
 }
 
 /// The scope with an `if`.
 fn chosen(
-    scope: Scope,
-    marks: Marked,
+    before: Before,
     at: Place,
     test: Box<Expr>,
     held: Scope,
     other: Scope,
 ) -> Result<Scope, AllocError>
-    ensures { IfOk result (λ all. items all.items ≡ with_statement (marks_of marks) (items scope.items)
-        (choice at marks.percent marks.hash (expression_of test.value) (items held.items) (items other.items))) }
+    ensures { IfOk result (λ all. items all.items ≡ with_statement (marks_of before.marks) (items before.scope.items)
+        (choice at before.marks.percent before.marks.hash (expression_of test.value) (items held.items)
+        (items other.items))) }
 {
-    kept(
-        scope,
-        marks,
-        at,
-        StmtBody::If(Box::into_inner(test), held, other),
-    )
+    kept(before, at, StmtBody::If(Box::into_inner(test), held, other))
 }
 
 // "(" args ")" child, behind the name that is called
 #[cycle(statement)]
 pub(crate) fn call<'a>(
     alloc: Global,
-    at: Place,
-    marks: Marked,
-    name: Text,
-    scope: Scope,
+    before: Before,
+    word: Word,
     ts: &'a [Token],
     end: Place,
     room: u32,
 ) -> Read<'a, Scope>
-    ensures { Gives (call_behind_of «end» (rules_at «end» room) (below_statements «end» room) at (marks_of marks) name
-        (items scope.items) ts.now) scope_seen result }
+    ensures { Gives (call_behind_of «end» (rules_at «end» room) (below_statements «end» room) word.at
+        (marks_of before.marks) word.name (items before.scope.items) ts.now) scope_seen result }
 {
     let (args, left) = round_arguments(alloc, ts, end, room)?;
     let (inside, left) = child(alloc, left, end, room)?;
-    Ok((called(scope, marks, at, name, args, inside)?, left))
+    Ok((called(before, word, args, inside)?, left))
 }
 
 // "(" expr ")" child ["else" child], behind the "if"
@@ -200,20 +213,19 @@ pub(crate) fn call<'a>(
 fn choice<'a>(
     alloc: Global,
     at: Place,
-    marks: Marked,
-    scope: Scope,
+    before: Before,
     ts: &'a [Token],
     end: Place,
     room: u32,
 ) -> Read<'a, Scope>
-    ensures { Gives (choice_behind_of «end» (rules_at «end» room) (below_statements «end» room) at (marks_of marks)
-        (items scope.items) ts.now) scope_seen result }
+    ensures { Gives (choice_behind_of «end» (rules_at «end» room) (below_statements «end» room) at
+        (marks_of before.marks) (items before.scope.items) ts.now) scope_seen result }
 {
     let (value, left) = round_expression(alloc, ts, end, room)?;
     let test = Box::new(alloc, value)?;
     let (held, left) = child(alloc, left, end, room)?;
     let (other, left) = otherwise(alloc, left, end, room)?;
-    Ok((chosen(scope, marks, at, test, held, other)?, left))
+    Ok((chosen(before, at, test, held, other)?, left))
 }
 
 // ["else" child]

@@ -10,12 +10,12 @@ use crate::definition::{function, module, pushed};
 use crate::expression::closed;
 use crate::fault::ParseFault;
 use crate::front::{begins_with, behind, is_key, is_sign, word};
-use crate::instance::{call, first};
+use crate::instance::{Before, Word, call, first};
 use crate::mark::unmarked;
 use crate::nesting::opened;
 use crate::reading::Read;
 use scad_ast::{Item, Scope};
-use scad_fault::{Place, Text};
+use scad_fault::Place;
 use scad_lex::{Key, Sign, Token};
 use std::alloc::Global;
 
@@ -47,7 +47,7 @@ pub(crate) fn statement<'a>(
     }
     if let Some(name) = word(alloc, token)? {
         let inner = opened(room, token.at)?;
-        return word_behind(alloc, token.at, name, scope, rest, end, inner);
+        return word_behind(alloc, Word { at: token.at, name }, scope, rest, end, inner);
     }
     if definitions {
         return definition(alloc, scope, token, rest, end, room);
@@ -82,14 +82,13 @@ pub(crate) fn group<'a>(
 #[cycle(statement)]
 fn word_behind<'a>(
     alloc: Global,
-    at: Place,
-    name: Text,
+    word: Word,
     scope: Scope,
     ts: &'a [Token],
     end: Place,
     room: u32,
 ) -> Read<'a, Scope>
-    ensures { Gives (word_behind_of «end» (rules_at «end» room) (below_statements «end» room) at name
+    ensures { Gives (word_behind_of «end» (rules_at «end» room) (below_statements «end» room) word.at word.name
         (items scope.items) ts.now) scope_seen result }
 {
     let [token, rest @ ..] = ts else {
@@ -97,9 +96,16 @@ fn word_behind<'a>(
     };
     if is_sign(Sign::Assign, token) {
         let (value, left) = closed(alloc, Sign::Semicolon, rest, end, room)?;
-        return Ok((pushed(scope, Item::Assign(name, value, at))?, left));
+        return Ok((
+            pushed(scope, Item::Assign(word.name, value, word.at))?,
+            left,
+        ));
     }
-    call(alloc, at, unmarked(), name, scope, ts, end, room)
+    let before = Before {
+        marks: unmarked(),
+        scope,
+    };
+    call(alloc, before, word, ts, end, room)
 }
 
 // module | function | inst, of which the first token is given apart

@@ -35,7 +35,7 @@ pub(crate) fn brackets<'a>(
     'members: while !begins_with(Sign::CloseSquare, left) {
         let (elem, rest) = element(alloc, left, end, room)?;
         if begins_with(Sign::Colon, rest) {
-            return range(alloc, at, all, elem, rest, end, room);
+            return range(alloc, at, range_start(&all, elem), rest, end, room);
         }
         all.push(elem)?;
         let (_, rest) = behind_member(Sign::CloseSquare, rest, end)?;
@@ -62,52 +62,54 @@ fn range_start(all: &Elems, first: Elem) -> Option<Expr>
     }
 }
 
+/// The first two parts of a range, and where it stands.
+#[derive(Drop)]
+struct Parts {
+    at: Place,
+    start: Box<Expr>,
+    second: Box<Expr>,
+}
+
 // range = "[" expr ":" expr [":" expr] "]", behind the first part
 #[cycle(expression)]
 fn range<'a>(
     alloc: Global,
     at: Place,
-    all: Elems,
-    first: Elem,
+    first: Option<Expr>,
     ts: &'a [Token],
     end: Place,
     room: u32,
 ) -> Read<'a, Expr>
-    ensures { Gives (range_by «end» (below «end» room) at (place_of «end» ts.now)
-        (range_start (elements all.items) (element_of first)) (behind ts.now)) expression_of result }
+    ensures { Gives (range_by «end» (below «end» room) at (place_of «end» ts.now) (option_map expression_of first)
+        (behind ts.now)) expression_of result }
 {
-    let Some(start) = range_start(&all, first) else {
+    let Some(start) = first else {
         return Err(ParseFault::Syntax(place(ts, end)));
     };
     let start = Box::new(alloc, start)?;
     let (part, left) = expression(alloc, behind(ts), end, room)?;
     let second = Box::new(alloc, part)?;
-    ranged(alloc, at, start, second, left, end, room)
+    ranged(alloc, Parts { at, start, second }, left, end, room)
 }
 
 // [":" expr] "]", behind the first two parts
 #[cycle(expression)]
-fn ranged<'a>(
-    alloc: Global,
-    at: Place,
-    start: Box<Expr>,
-    second: Box<Expr>,
-    ts: &'a [Token],
-    end: Place,
-    room: u32,
-) -> Read<'a, Expr>
-    ensures { Gives (range_end «end» (below «end» room) at (expression_of start.value) (expression_of second.value)
-        ts.now) expression_of result }
+fn ranged<'a>(alloc: Global, parts: Parts, ts: &'a [Token], end: Place, room: u32) -> Read<'a, Expr>
+    ensures { Gives (range_end «end» (below «end» room) parts.at (expression_of parts.start.value)
+        (expression_of parts.second.value) ts.now) expression_of result }
 {
     let [token, rest @ ..] = ts else {
         return Err(ParseFault::Syntax(end));
     };
     if is_sign(Sign::Colon, token) {
         let (last, left) = closed(alloc, Sign::CloseSquare, rest, end, room)?;
-        return Ok((node::stepped(alloc, at, start, second, last)?, left));
+        return Ok((
+            node::stepped(alloc, parts.at, parts.start, parts.second, last)?,
+            left,
+        ));
     }
     if !is_sign(Sign::CloseSquare, token) {
         return Err(ParseFault::Syntax(token.at));
     }
-    Ok((node::range(at, start, second), rest))
+    Ok((node::range(parts.at, parts.start, parts.second), rest))
 }

@@ -93,7 +93,8 @@ element::element-returns-then-is_key-3 t c =
     c.in_ok-inner-3.ensures.less c.token-item.result c.args.ts.now c.in-len1-up.len_at_least c.token-item.is
     (sym c.is_key.ensures ∙ c.if-is_key.false) (sym c.is_key-2.ensures ∙ c.if-is_key-2.false)
     (sym c.is_key-3.ensures ∙ c.if-is_key-3.true) in
-    rw (here, c.in_ok-test.ensures, c.in_ok-held.ensures, ← c.in_ok-tested.ensures.ok) c.otherwise.ensures
+    rw (here, c.in_ok-test.ensures, c.in_ok-held.ensures, ← c.in_ok-tested.ensures.ok, ← c.in_ok-kept.ensures.ok)
+    c.otherwise.ensures
 
 pub element::element-returns-in_err-args : goal.element::element-returns-in_err-args
 element::element-returns-in_err-args t c =
@@ -124,17 +125,19 @@ element::element-returns-then-is_key-4 t c =
 pub element::otherwise-returns-in_err-other : goal.element::otherwise-returns-in_err-other
 element::otherwise-returns-in_err-other t c =
     let here = else_here c.args.end c.args.room c.in_ok-inner.inner c.in_ok-inner.ensures.some
-    c.in_ok-inner.ensures.less c.token-item.result c.args.ts.now c.in-len1-up.len_at_least c.token-item.is c.args.at
-    (expression_of c.args.test.value) (element_of c.args.held) (sym c.is_key.ensures ∙ c.if-not-is_key.false) in
+    c.in_ok-inner.ensures.less c.token-item.result c.args.ts.now c.in-len1-up.len_at_least c.token-item.is
+    c.args.tested.at (expression_of c.args.tested.test.value) (element_of c.args.tested.held.value)
+    (sym c.is_key.ensures ∙ c.if-not-is_key.false) in
     let p = err_from_is_err_and c.from_residual-in_err-other.result c.from_residual-in_err-other.ensures.1 in
     rw (p.1, p.2) (λ some. rw (here, c.in_err-other.ensures some))
 
 pub element::otherwise-returns : goal.element::otherwise-returns
 element::otherwise-returns t c =
     let here = else_here c.args.end c.args.room c.in_ok-inner.inner c.in_ok-inner.ensures.some
-    c.in_ok-inner.ensures.less c.token-item.result c.args.ts.now c.in-len1-up.len_at_least c.token-item.is c.args.at
-    (expression_of c.args.test.value) (element_of c.args.held) (sym c.is_key.ensures ∙ c.if-not-is_key.false) in
-    rw (here, c.in_ok-other.ensures, c.in_ok-if_else.ensures, c.in_ok-held.ensures.ok)
+    c.in_ok-inner.ensures.less c.token-item.result c.args.ts.now c.in-len1-up.len_at_least c.token-item.is
+    c.args.tested.at (expression_of c.args.tested.test.value) (element_of c.args.tested.held.value)
+    (sym c.is_key.ensures ∙ c.if-not-is_key.false) in
+    rw (here, c.in_ok-other.ensures, c.in_ok-if_else.ensures)
 
 pub expression::choice-returns-in_err-yes : goal.expression::choice-returns-in_err-yes
 expression::choice-returns-in_err-yes t c =
@@ -246,10 +249,13 @@ vector::brackets-returns-in_err-elem t c =
 
 pub vector::brackets-returns-then-begins_with : goal.vector::brackets-returns-then-begins_with
 vector::brackets-returns-then-begins_with t c =
-    rw (elements_range c.args.end c.args.room c.args.at _ (elements c.members.all.items) c.members.left.now
-    (sym c.begins_with.ensures ∙ c.members-test.true) c.members.invariant c.in_ok-elem.rest.now
-    (element_of c.in_ok-elem.elem) c.in_ok-elem.ensures
-    (sym c.begins_with-in-members.ensures ∙ c.if-begins_with.true)) c.range.ensures
+    rw (
+      elements_range c.args.end c.args.room c.args.at _ (elements c.members.all.items) c.members.left.now
+          (sym c.begins_with.ensures ∙ c.members-test.true) c.members.invariant c.in_ok-elem.rest.now
+          (element_of c.in_ok-elem.elem) c.in_ok-elem.ensures
+          (sym c.begins_with-in-members.ensures ∙ c.if-begins_with.true),
+      ← c.range_start.ensures,
+    ) c.range.ensures
 
 pub vector::brackets-returns-in_err-rest : goal.vector::brackets-returns-in_err-rest
 vector::brackets-returns-in_err-rest t c =

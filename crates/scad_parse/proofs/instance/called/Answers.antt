@@ -9,7 +9,7 @@ use Rattle.scad_parse.proofs.instance.called.Goals as goal
 
 pub returns : goal.returns
 returns c =
-    let m = c.args.marks in
+    let m = c.args.before.marks in
     subst (λ (i : Item). IfOk c.kept.result (λ all. items all.items
-    ≡ with_statement (marks_of m) (items c.args.scope.items) i))
-    (call_view c.args.at m.percent m.hash c.args.name c.args.args c.args.inside) c.kept.ensures
+    ≡ with_statement (marks_of m) (items c.args.before.scope.items) i))
+    (call_view c.args.word.at m.percent m.hash c.args.word.name c.args.args c.args.inside) c.kept.ensures

@@ -10,9 +10,9 @@ use Rattle.scad_parse.proofs.instance.chosen.Goals as goal
 
 pub returns : goal.returns
 returns c =
-    let m = c.args.marks in
+    let m = c.args.before.marks in
     subst (λ (i : Item). IfOk c.kept.result (λ all. items all.items
-    ≡ with_statement (marks_of m) (items c.args.scope.items) i))
+    ≡ with_statement (marks_of m) (items c.args.before.scope.items) i))
     (choice_view c.args.at m.percent m.hash c.into_inner.result c.args.held c.args.other
     ∙ ap (λ e. choice c.args.at m.percent m.hash (expression_of e) (items c.args.held.items)
     (items c.args.other.items)) c.into_inner.ensures) c.kept.ensures
