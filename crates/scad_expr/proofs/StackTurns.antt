@@ -168,43 +168,54 @@ module _ (below : Below) (at : Place) (test : Expression) (steps : Arguments) (b
   abbrev again : ℕ → Held → List Datum → Action Whole
   again n = repeats below n at test steps body k
 
+  module _ (n : ℕ) (rest_same : (c : Bound) (now : List Datum) (t : State) → again n (inner c o) now t ≡ and_then (more n c now t) g) (b : Bound) (made : List Datum) where
+    abbrev names_then : List Datum → Action (List Datum)
+    names_then now = bound_in_order below (env_in o) (along_in o) steps b >>= λ next. more n next now
+
+    abbrev element_then : Action (List Datum)
+    element_then = below.element (within (env_in o) b.names) (within (along_in o) b.dollars) body made >>= names_then
+
+    abbrev on : Bool → Action (List Datum)
+    on c = if c then (step at >>= λ _. element_then) else pure made
+
+    after_names : (now : List Datum) (t : State) → binds below steps (λ h2. again n h2 now) (inner b o) t
+        ≡ and_then (names_then now t) g
+    after_names now t =
+        binds-inner below steps (λ h2. again n h2 now) b o t
+        ∙ same-then (bound_in_order below (env_in o) (along_in o) steps b t) _ _ (λ c u. rest_same c now u)
+        ∙ sym (twice (bound_in_order below (env_in o) (along_in o) steps b t) (λ next. more n next now) g)
+
+    after_element : (t : State) → and_then (below.element (env_in (inner b o)) (along_in (inner b o)) body made t)
+        (λ now. binds below steps (λ h2. again n h2 now) (inner b o)) ≡ and_then (element_then t) g
+    after_element t =
+        ap (λ r. and_then r (λ now. binds below steps (λ h2. again n h2 now) (inner b o)))
+        (inner-element below body b o made t)
+        ∙ same-then (below.element (within (env_in o) b.names) (within (along_in o) b.dollars) body made t) _ _ after_names
+        ∙ sym (twice (below.element (within (env_in o) b.names) (within (along_in o) b.dollars) body made t) names_then g)
+
+    after_test : (t : State) (c : Bool) → (if c then (step at >>= λ _. below.element (env_in (inner b o))
+        (along_in (inner b o)) body made >>= λ now. binds below steps (λ h2. again n h2 now) (inner b o))
+        else k (inner b o) made) t ≡ and_then (on c t) g
+    after_test t true =
+        same-then (step at t) _ _ (λ u t2. after_element t2)
+        ∙ sym (twice (step at t) (λ u. element_then) g)
+    after_test t false = ends b made t
+
+    turn-inner : (s : State) → again (suc n) (inner b o) made s ≡ and_then (more (suc n) b made s) g
+    unfolding repeats loop_turns turned renewed
+    turn-inner s =
+        ap (λ r. and_then r (turned below at steps body (again n) k (inner b o) made)) (inner-value below test b o s)
+        ∙ same-then (below.value (within (env_in o) b.names) (within (along_in o) b.dollars) test s) _ _
+        (λ d t. after_test t (truth d))
+        ∙ sym (twice (below.value (within (env_in o) b.names) (within (along_in o) b.dollars) test s)
+        (λ d. on (truth d)) g)
+
   -- what is held between the turns is what the definition's turns have
-  pub repeats-inner : (n : ℕ) (b : Bound) (made : List Datum) (s : State) → again n (inner b o) made s ≡ and_then (more n b made s) g
-  unfolding repeats loop_turns turned renewed over
+  pub repeats-inner : (n : ℕ) (b : Bound) (made : List Datum) (s : State) → again n (inner b o) made s
+      ≡ and_then (more n b made s) g
+  unfolding repeats loop_turns over
   repeats-inner zero b made s = refl
-  repeats-inner (suc n) b made s =
-      ap (λ r. and_then r (turned below at steps body (again n) k (inner b o) made)) (inner-value below test b o s)
-      ∙ same-then (below.value (within (env_in o) b.names) (within (along_in o) b.dollars) test s) _ _ (λ d t. by d t (truth d))
-      ∙ sym (twice (below.value (within (env_in o) b.names) (within (along_in o) b.dollars) test s) (λ d. on (truth d)) g)
-    where
-      abbrev names_then : List Datum → Action (List Datum)
-      names_then now = bound_in_order below (env_in o) (along_in o) steps b >>= λ next. more n next now
-
-      abbrev element_then : Action (List Datum)
-      element_then = below.element (within (env_in o) b.names) (within (along_in o) b.dollars) body made >>= names_then
-
-      abbrev on : Bool → Action (List Datum)
-      on c = if c then (step at >>= λ _. element_then) else pure made
-
-      after_names : (now : List Datum) (t : State) → renewed below steps (again n) now (inner b o) t ≡ and_then (names_then now t) g
-      after_names now t =
-          binds-inner below steps (λ h2. again n h2 now) b o t
-          ∙ same-then (bound_in_order below (env_in o) (along_in o) steps b t) _ _ (λ c u. repeats-inner n c now u)
-          ∙ sym (twice (bound_in_order below (env_in o) (along_in o) steps b t) (λ next. more n next now) g)
-
-      after_element : (t : State) → and_then (below.element (env_in (inner b o)) (along_in (inner b o)) body made t) (λ now. renewed below steps (again n) now (inner b o))
-          ≡ and_then (element_then t) g
-      after_element t =
-          ap (λ r. and_then r (λ now. renewed below steps (again n) now (inner b o))) (inner-element below body b o made t)
-          ∙ same-then (below.element (within (env_in o) b.names) (within (along_in o) b.dollars) body made t) _ _ after_names
-          ∙ sym (twice (below.element (within (env_in o) b.names) (within (along_in o) b.dollars) body made t) names_then g)
-
-      by : (d : Datum) (t : State) (c : Bool) → (if c then (step at >>= λ _. below.element (env_in (inner b o)) (along_in (inner b o)) body made >>= λ now. renewed below steps (again n) now (inner b o)) else k (inner b o) made) t
-          ≡ and_then (on c t) g
-      by d t true =
-          same-then (step at t) _ _ (λ u t2. after_element t2)
-          ∙ sym (twice (step at t) (λ u. element_then) g)
-      by d t false = ends b made t
+  repeats-inner (suc n) b made s = turn-inner n (repeats-inner n) b made s
 
 -- ---- the frames of a call
 module _ (below : Below) (home : ℕ) (o : Held) (there : home < length o.frames) where

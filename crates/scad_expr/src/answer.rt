@@ -46,15 +46,11 @@ pub(crate) fn given<'p>(
             right_side(right, v, stack, m)
         }
         Frame::Truth => Ok(Focus::Given(Value::Bool(truth(&v)))),
-        Frame::Operand(at, op, a) => {
-            Ok(Focus::Given(m.binary(stack.alloc(), at, op, &a, &v)?))
-        }
+        Frame::Operand(at, op, a) => { Ok(Focus::Given(m.binary(stack.alloc(), at, op, &a, &v)?)) }
         Frame::Sides(a, b, depth) => side(&v, a, b, depth, stack, m),
         Frame::IndexOf(i, depth) => stack.wait(Frame::Indexed(v), i, depth),
         Frame::Indexed(a) => Ok(Focus::Given(index(stack.alloc(), &a, &v)?)),
-        Frame::IndexedName(word) => {
-            Ok(Focus::Given(index_in(stack.alloc(), m.seek(word), &v)?))
-        }
+        Frame::IndexedName(word) => { Ok(Focus::Given(index_in(stack.alloc(), m.seek(word), &v)?)) }
         Frame::Member(word) => Ok(Focus::Given(member(stack.alloc(), &v, word)?)),
         Frame::Arguments(supply, more) => next_argument(supply, more, v, stack, m),
         Frame::Default(name, opening) => next_parameter(name, opening, v, stack, m),

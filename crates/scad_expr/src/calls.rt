@@ -3,10 +3,11 @@
 ghost use Rattle.std.specs.Prelude.{◌<◌, ◌∷◌, [], length};
 ghost use Rattle.scad_ast.specs.View.{arguments, expression_of};
 ghost use Rattle.scad_builtin.specs.Builtin.{builtin};
-ghost use Rattle.scad_value.specs.View.{datum_of, data_in, elements};
+ghost use Rattle.scad_value.specs.View.{datum_of, data_in, data_of};
 ghost use Rattle.scad_scope.specs.Stored.{envs};
 ghost use Rattle.scad_expr.specs.Machine.{held, env_in, along_in, state_of};
 ghost use Rattle.scad_expr.specs.Meaning.{called_builtin, called_own, meaning, value};
+ghost use Rattle.scad_expr.specs.Runs.{as_elements};
 ghost use Rattle.scad_expr.specs.Stack.{Leads, Below_by, followed, served_in, supplied_in, called_as, onto, rest, made_in};
 ghost use Rattle.scad_expr.specs.Variables.{variable};
 ghost use Rattle.scad_expr.specs.View.{found_at};
@@ -143,8 +144,8 @@ fn call_known<'p>(
     stack: &mut Stack<'p>,
     m: &mut Machine<'p>,
 ) -> Result<Focus<'p>, EvalFault>
-    ensures goes { Leads (followed (called_builtin at word.now (builtin word.now (elements found.now))) stack.old m.old)
-        result stack.new m.new }
+    ensures goes { Leads (followed (called_builtin at word.now (builtin word.now (as_elements (data_of found.now))))
+        stack.old m.old) result stack.new m.new }
     ensures less { Below_by 4 result stack.old m.old stack.new m.new }
 {
     Ok(Focus::Given(m.builtin(stack.alloc(), at, word, found)?))
@@ -165,12 +166,7 @@ pub(crate) fn call_of_name<'p>(
 {
     match m.function(written.word)? {
         Some(own) => own_of_name(own, written.args, of, depth, stack, m),
-        None => Ok(Focus::Given(m.builtin_on(
-            stack.alloc(),
-            written.at,
-            written.word,
-            of,
-        )?)),
+        None => Ok(Focus::Given(m.builtin_on(stack.alloc(), written.at, written.word, of)?)),
     }
 }
 

@@ -176,11 +176,7 @@ fn member_node<'p>(
     match &a.node {
         Node::Name(name) => {
             m.pass_name(a.at, name.as_slice(), depth)?;
-            Ok(Focus::Given(member_in(
-                stack.alloc(),
-                m.seek(name.as_slice()),
-                word,
-            )?))
+            Ok(Focus::Given(member_in(stack.alloc(), m.seek(name.as_slice()), word)?))
         }
         _ => stack.wait(Frame::Member(word), a, depth),
     }

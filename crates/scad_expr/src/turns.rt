@@ -75,10 +75,7 @@ fn next_of(alloc: Global, left: Course) -> Result<Option<(Value, Course)>, Alloc
             Ok(Some((value, Course::Values(all, i + 1))))
         }
         Course::Numbers(next, step, end) => match next_number(next, step, end) {
-            Some((n, rest)) => Ok(Some((
-                Value::Number(n),
-                Course::Numbers(rest, step, end),
-            ))),
+            Some((n, rest)) => Ok(Some((Value::Number(n), Course::Numbers(rest, step, end)))),
             None => Ok(None),
         },
     }
