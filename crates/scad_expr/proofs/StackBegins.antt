@@ -8,7 +8,7 @@ use Rattle.scad_ast.specs.declared.expression.Expr.{Expr}
 use Rattle.scad_ast.specs.declared.expression.Elem.{Elem}
 use Rattle.scad_ast.specs.declared.statement.Param.{Param}
 use Rattle.scad_ast.specs.Scope.{parameter}
-use Rattle.scad_ast.specs.Tree.{Expression, Arguments, Element, Elements, Parameter, vector, let_in, let_element}
+use Rattle.scad_ast.specs.Tree.{Expression, Arguments, Element, Elements, Parameter, vector, each, let_in, let_element}
 use Rattle.scad_ast.specs.View.{expression_of, element_of, arguments}
 use Rattle.scad_value.specs.Datum.{Datum, undef}
 use Rattle.scad_value.specs.Datum.{vector as vector_datum}
@@ -243,3 +243,14 @@ loop-node-begins depth back l args k h o made s s1 t stepped judged judged2 i no
     ∙ ap (λ r. and_then (and_then r (λ _. bounds)) (added k o)) judged2
     ∙ loop-begins depth back l args k h o made s1 i none out is
     ∙ ap (λ u. binding (record { inside = InsideTurns l; back = back; depth = depth }) args k made h u) (sym same)
+
+pub each-node-begins : (below : Below) (at : Place) (e : Element) (k k2 : Rest) (h h2 : Held) (made none : List Datum) (outer : Vec Part Global) (s s1 : State)
+    → step at s ≡ gives tt s1 → h2 ≡ h → parts_in outer ≡ made → none ≡ [] → k2 ≡ onto (Each outer) k
+    → and_then (element_node below (env_in h) (along_in h) (each at e) made s) (added k h)
+    ≡ and_then (below.element (env_in h2) (along_in h2) e none s1) (added k2 h2)
+unfolding element_node
+each-node-begins below at e k k2 h h2 made none outer s s1 stepped kept same empty is =
+    ap (λ r. and_then (and_then r (λ _ u. and_then (below.element (env_in h) (along_in h) e [] u)
+    (λ found. pure (made ++ flat_map items found)))) (added k h)) stepped
+    ∙ each-begins below e k k2 h made none outer s1 same empty is
+    ∙ ap (λ (x : Held). and_then (below.element (env_in x) (along_in x) e none s1) (added k2 x)) (sym kept)

@@ -18,14 +18,14 @@ use scad_value::{Value, truth};
 
 /// A name with its expression, and the arguments behind it.
 #[derive(Clone, Copy)]
-pub(crate) struct Named<'p> {
+pub(crate) struct FirstNamed<'p> {
     pub(crate) name: &'p [u8],
     pub(crate) value: &'p Expr,
     pub(crate) more: &'p [Arg],
 }
 
 /// The first argument that has a name.
-pub(crate) fn named<'p>(args: &'p [Arg]) -> Option<Named<'p>>
+pub(crate) fn named<'p>(args: &'p [Arg]) -> Option<FirstNamed<'p>>
     ensures { MatchOption result (named_of (arguments args.now) ≡ no_arguments)
         (λ n. named_of (arguments args.now)
         ≡ argument (Some n.name.now) (expression_of n.value.now) (arguments n.more.now)) }
@@ -37,7 +37,7 @@ pub(crate) fn named<'p>(args: &'p [Arg]) -> Option<Named<'p>>
         };
         match &first.name {
             Some(name) => {
-                return Some(Named {
+                return Some(FirstNamed {
                     name: name.as_slice(),
                     value: &first.value,
                     more,

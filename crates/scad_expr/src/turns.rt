@@ -100,7 +100,7 @@ pub(crate) fn turn<'p>(
 }
 
 /// A turn of a variable with one value.
-#[tactic(auto, using(crate::proofs::StackTurns::turnings), unfolding(crate::specs::Stack::onto))]
+#[tactic(auto, using(crate::proofs::StackTurns::turnings), unfolding(crate::specs::Stack::onto, crate::specs::Meaning::turns))]
 fn turn_on<'p>(
     variable: Variable<'p>,
     value: Value,
