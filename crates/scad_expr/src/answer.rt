@@ -1,9 +1,13 @@
 //! What a frame does with a value.
 
+ghost use Rattle.scad_ast.specs.View.{expression_of};
 ghost use Rattle.scad_value.specs.View.{datum_of};
-ghost use Rattle.scad_expr.specs.Machine.{held, state_of};
+ghost use Rattle.scad_expr.specs.Machine.{held, env_in, along_in, state_of};
+ghost use Rattle.scad_expr.specs.Meaning.{right_side, meaning};
 ghost use Rattle.scad_expr.specs.Opened.{left};
-ghost use Rattle.scad_expr.specs.Stack.{Leads, Below_by, onto, rest, made_in};
+ghost use Rattle.scad_expr.specs.Pieces.{side};
+ghost use Rattle.scad_expr.specs.Runs.{items};
+ghost use Rattle.scad_expr.specs.Stack.{Leads, Below_by, followed, followed_list, onto, rest, made_in, turns_of};
 
 use crate::calls::next_argument;
 use crate::defaults::next_parameter;
@@ -86,8 +90,8 @@ fn right_side<'p>(
     stack: &mut Stack<'p>,
     m: &mut Machine<'p>,
 ) -> Result<Focus<'p>, EvalFault>
-    ensures goes { Leads (onto (Frame.Right right.at right.op right.b.entry right.depth) (rest stack.old) (held m.old)
-        (made_in stack.old) (datum_of v) (state_of m.old)) result stack.new m.new }
+    ensures goes { Leads (followed (right_side (meaning right.entry.depth) (env_in (held m.old)) (along_in (held m.old))
+        right.entry.at right.entry.op (datum_of v) (expression_of right.entry.b.now)) stack.old m.old) result stack.new m.new }
     ensures less { Below_by 4 result stack.old m.old stack.new m.new }
 {
     let Right { at, op, b, depth } = right;
@@ -121,8 +125,8 @@ fn side<'p>(
     stack: &mut Stack<'p>,
     m: &mut Machine<'p>,
 ) -> Result<Focus<'p>, EvalFault>
-    ensures goes { Leads (onto (Frame.Sides a.entry b.entry depth) (rest stack.old) (held m.old) (made_in stack.old)
-        (datum_of v.now) (state_of m.old)) result stack.new m.new }
+    ensures goes { Leads (followed (side (meaning depth) (env_in (held m.old)) (along_in (held m.old)) (datum_of v.now)
+        (expression_of a.now) (expression_of b.now)) stack.old m.old) result stack.new m.new }
     ensures less { Below_by 4 result stack.old m.old stack.new m.new }
 {
     let _work = (stack.alloc(), m.steps_left);
@@ -158,8 +162,8 @@ fn over<'p>(
     stack: &mut Stack<'p>,
     m: &mut Machine<'p>,
 ) -> Result<Focus<'p>, EvalFault>
-    ensures goes { Leads (onto (Frame.Over variable.entry) (rest stack.old) (held m.old) (made_in stack.old) (datum_of v)
-        (state_of m.old)) result stack.new m.new }
+    ensures goes { Leads (followed_list (turns_of variable.entry (held m.old) (items (datum_of v)) (made_in stack.old))
+        stack.old m.old) result stack.new m.new }
     ensures less { Below_by 4 result stack.old m.old stack.new m.new }
 {
     let left = course_of(stack.alloc(), v)?;

@@ -1,6 +1,6 @@
 //! Arguments one by one, and what is done once each has its value.
 
-ghost use Rattle.std.specs.Prelude.{◌<◌, ◌∷◌, [], length};
+ghost use Rattle.std.specs.Prelude.{◌<◌, ◌++◌, ◌∷◌, [], length};
 ghost use Rattle.scad_ast.specs.View.{arguments, expression_of};
 ghost use Rattle.scad_builtin.specs.Builtin.{builtin};
 ghost use Rattle.scad_value.specs.View.{datum_of, data_in, data_of};
@@ -8,7 +8,7 @@ ghost use Rattle.scad_scope.specs.Stored.{envs};
 ghost use Rattle.scad_expr.specs.Machine.{held, env_in, along_in, state_of};
 ghost use Rattle.scad_expr.specs.Meaning.{called_builtin, called_own, meaning, value};
 ghost use Rattle.scad_expr.specs.Runs.{as_elements};
-ghost use Rattle.scad_expr.specs.Stack.{Leads, Below_by, followed, served_in, supplied_in, called_as, onto, rest, made_in};
+ghost use Rattle.scad_expr.specs.Stack.{Leads, Below_by, followed, supplied, served_in, supplied_in, called_as};
 ghost use Rattle.scad_expr.specs.Variables.{variable};
 ghost use Rattle.scad_expr.specs.View.{found_at};
 
@@ -46,7 +46,7 @@ pub(crate) fn arguments<'p>(
 }
 
 /// An argument has its value.
-#[tactic(auto, using(crate::proofs::StackTurns::calls), unfolding(crate::specs::Stack::onto))]
+#[tactic(auto, using(crate::proofs::StackTurns::calls, crate::proofs::RunsLeft::kinds))]
 pub(crate) fn next_argument<'p>(
     supply: Supply<'p>,
     more: &'p [Arg],
@@ -54,8 +54,9 @@ pub(crate) fn next_argument<'p>(
     stack: &mut Stack<'p>,
     m: &mut Machine<'p>,
 ) -> Result<Focus<'p>, EvalFault>
-    ensures goes { Leads (onto (Frame.Arguments supply.entry more.entry) (rest stack.old) (held m.old) (made_in stack.old)
-        (datum_of v) (state_of m.old)) result stack.new m.new }
+    ensures goes { Leads (followed (supplied (meaning supply.entry.depth) supply.entry.purpose (env_in (held m.old))
+        (along_in (held m.old)) (arguments more.now) (data_in supply.entry.so_far ++ datum_of v ∷ [])) stack.old m.old)
+        result stack.new m.new }
     ensures less { Below_by 4 result stack.old m.old stack.new m.new }
 {
     let Supply {

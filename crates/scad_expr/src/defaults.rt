@@ -8,7 +8,7 @@ ghost use Rattle.scad_expr.specs.Answers.{Does, nothing, done_at};
 ghost use Rattle.scad_expr.specs.Machine.{Held, held, env_in, along_in, state_of};
 ghost use Rattle.scad_expr.specs.Meaning.{Below};
 ghost use Rattle.scad_expr.specs.Opened.{set_in_last};
-ghost use Rattle.scad_expr.specs.Stack.{Whole, Leads, Below_by, fills, filling, entered, onto, rest, made_in};
+ghost use Rattle.scad_expr.specs.Stack.{Whole, Leads, Below_by, fills, filling, entered, rest, made_in};
 ghost use Rattle.scad_expr.specs.State.{State, Action, and_then};
 
 use crate::fault::EvalFault;
@@ -118,8 +118,8 @@ pub(crate) fn next_parameter<'p>(
     stack: &mut Stack<'p>,
     m: &mut Machine<'p>,
 ) -> Result<Focus<'p>, EvalFault>
-    ensures goes { Leads (onto (Frame.Default name.entry opening.entry) (rest stack.old) (held m.old) (made_in stack.old)
-        (datum_of v) (state_of m.old)) result stack.new m.new }
+    ensures goes { Leads (filling opening.entry (rest stack.old) (made_in stack.old) (set_in_last name.now (datum_of v)
+        (held m.old)) (state_of m.old)) result stack.new m.new }
     ensures less { Below_by 2 result stack.old m.old stack.new m.new }
 {
     m.set(name, v)?;

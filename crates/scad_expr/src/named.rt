@@ -2,11 +2,14 @@
 
 ghost use Rattle.std.specs.Prelude.{◌≡◌, Some, MatchOption};
 ghost use Rattle.scad_ast.specs.Tree.{no_arguments, argument};
-ghost use Rattle.scad_ast.specs.View.{expression_of, arguments};
+ghost use Rattle.scad_ast.specs.View.{expression_of, element_of, arguments};
 ghost use Rattle.scad_value.specs.View.{datum_of};
-ghost use Rattle.scad_expr.specs.Machine.{held, state_of};
+ghost use Rattle.scad_expr.specs.Machine.{held, env_in, along_in, state_of};
+ghost use Rattle.scad_expr.specs.Meaning.{meaning};
+ghost use Rattle.scad_expr.specs.Opened.{left, set_in_last};
 ghost use Rattle.scad_expr.specs.Pieces.{named_of};
-ghost use Rattle.scad_expr.specs.Stack.{Leads, Below_by, inside, binding, looping, renewing, turning, onto, rest, made_in};
+ghost use Rattle.scad_expr.specs.Stack.{Leads, Below_by, added, inside, binding, looping, renewing, turning, rest, made_in};
+ghost use Rattle.scad_expr.specs.State.{and_then};
 
 use crate::fault::EvalFault;
 use crate::frame::{Focus, Frame, Inside, Loop, Within};
@@ -76,8 +79,8 @@ pub(crate) fn bind_next<'p>(
     stack: &mut Stack<'p>,
     m: &mut Machine<'p>,
 ) -> Result<Focus<'p>, EvalFault>
-    ensures goes { Leads (onto (Frame.Bind name.entry more.entry within.entry) (rest stack.old) (held m.old)
-        (made_in stack.old) (datum_of v) (state_of m.old)) result stack.new m.new }
+    ensures goes { Leads (binding within.entry (arguments more.now) (rest stack.old) (made_in stack.old)
+        (set_in_last name.now (datum_of v) (held m.old)) (state_of m.old)) result stack.new m.new }
     ensures less { Below_by 5 result stack.old m.old stack.new m.new }
 {
     m.set(name, v)?;
@@ -116,8 +119,9 @@ fn enter_element<'p>(
     stack: &mut Stack<'p>,
     _m: &mut Machine<'p>,
 ) -> Result<Focus<'p>, EvalFault>
-    ensures goes { Leads (inside (record { inside = Inside.Element e; back = back; depth = depth }) (rest stack.old)
-        (made_in stack.old) (held _m.old) (state_of _m.old)) result stack.new _m.new }
+    ensures goes { Leads (and_then ((meaning depth).element (env_in (held _m.old)) (along_in (held _m.old))
+        (element_of e.now) (made_in stack.old) (state_of _m.old)) (added (rest stack.old) (left back (held _m.old))))
+        result stack.new _m.new }
     ensures less { Below_by 5 result stack.old _m.old stack.new _m.new }
 {
     stack.push(Frame::Leave(back))?;

@@ -151,7 +151,7 @@ fn index_of_name<'p>(
     m: &mut Machine<'p>,
 ) -> Result<Focus<'p>, EvalFault>
     ensures goes { Leads (followed (node (meaning depth) (env_in (held m.old)) (along_in (held m.old))
-        (index _at (name of.at of.word.now) (expression_of i.now))) stack.old m.old) result stack.new m.new }
+        (index _at (name of.entry.at of.entry.word.now) (expression_of i.now))) stack.old m.old) result stack.new m.new }
     ensures less { Below_by 9 result stack.old m.old stack.new m.new }
 {
     m.pass_name(of.at, of.word, depth)?;
