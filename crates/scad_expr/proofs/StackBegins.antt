@@ -8,7 +8,7 @@ use Rattle.scad_ast.specs.declared.expression.Expr.{Expr}
 use Rattle.scad_ast.specs.declared.expression.Elem.{Elem}
 use Rattle.scad_ast.specs.declared.statement.Param.{Param}
 use Rattle.scad_ast.specs.Scope.{parameter}
-use Rattle.scad_ast.specs.Tree.{Expression, Arguments, Element, Elements, Parameter, vector, each, let_in, let_element}
+use Rattle.scad_ast.specs.Tree.{Expression, Arguments, Element, Elements, Parameter, vector, each, for_loop, let_in, let_element}
 use Rattle.scad_ast.specs.View.{expression_of, element_of, arguments}
 use Rattle.scad_value.specs.Datum.{Datum, undef}
 use Rattle.scad_value.specs.Datum.{vector as vector_datum}
@@ -23,7 +23,7 @@ use Rattle.scad_expr.specs.declared.frame.Loop.{Loop}
 use Rattle.scad_expr.specs.declared.frame.Opening.{Opening}
 use Rattle.scad_expr.specs.declared.frame.Variable.{Variable}
 use Rattle.scad_expr.specs.declared.frame.Course.{Course}
-use Rattle.scad_expr.specs.State.{State, Outcome, gives, refuses, Action, pure, and_then, ◌>>=◌, step, make}
+use Rattle.scad_expr.specs.State.{State, Outcome, gives, refuses, Action, pure, and_then, ◌>>=◌, step, make, step_limit}
 use Rattle.scad_expr.specs.Machine.{Held, env_in, along_in}
 use Rattle.scad_expr.specs.Functions.{Function, Found}
 use Rattle.scad_expr.specs.Given.{parameter_names}
@@ -254,3 +254,20 @@ each-node-begins below at e k k2 h h2 made none outer s s1 stepped kept same emp
     (λ found. pure (made ++ flat_map items found)))) (added k h)) stepped
     ∙ each-begins below e k k2 h made none outer s1 same empty is
     ∙ ap (λ (x : Held). and_then (below.element (env_in x) (along_in x) e none s1) (added k2 x)) (sym kept)
+
+-- ---- nodes and elements as the code reads them
+pub node-same : (depth : ℕ) (h : Held) (k : Rest) (made : List Datum) (s : State) (x y : Expression) → x ≡ y
+    → and_then (node (meaning depth) (env_in h) (along_in h) y s) (k h made) ≡ and_then (node (meaning depth) (env_in h) (along_in h) x s) (k h made)
+node-same depth h k made s x y is = ap (λ e. and_then (node (meaning depth) (env_in h) (along_in h) e s) (k h made)) (sym is)
+
+pub element-same : (depth : ℕ) (h : Held) (k : Rest) (made : List Datum) (s : State) (x y : Element) → x ≡ y
+    → and_then (element_node (meaning depth) (env_in h) (along_in h) y made s) (added k h) ≡ and_then (element_node (meaning depth) (env_in h) (along_in h) x made s) (added k h)
+element-same depth h k made s x y is = ap (λ e. and_then (element_node (meaning depth) (env_in h) (along_in h) e made s) (added k h)) (sym is)
+
+pub loop-same : (depth : ℕ) (l : Loop) (starts : Arguments) (h : Held) (k : Rest) (made : List Datum) (s : State) (y : Element)
+    → l.turns ≡ suc step_limit → for_loop l.at starts (expression_of l.test.now) (arguments l.steps.now) (element_of l.body.now) ≡ y
+    → and_then (element_node (meaning depth) (env_in h) (along_in h) y made s) (added k h) ≡ and_then (loop_of l depth starts h made s) (added k h)
+unfolding element_node
+loop-same depth l starts h k made s y all is =
+    element-same depth h k made s _ y is
+    ∙ ap (λ n. and_then (loop_of (record l { turns = n }) depth starts h made s) (added k h)) (sym all)
