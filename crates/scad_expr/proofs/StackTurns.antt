@@ -3,7 +3,7 @@ use Rattle.std.proofs.Common.{◌≡◌, ◌≢◌, ℕ, zero, suc, ◌-◌, ◌
 use Rattle.std.proofs.lemmas.List.{length-append}
 use Rattle.scad_fault.specs.declared.place.Place.{Place}
 use Rattle.scad_fault.specs.declared.budget.BudgetKind.TheVariants.{Steps}
-use Rattle.scad_ast.specs.Tree.{Expression, Arguments, no_arguments, argument, Element, Parameter}
+use Rattle.scad_ast.specs.Tree.{Expression, Arguments, no_arguments, argument, Element, Parameter, call}
 use Rattle.scad_value.specs.Datum.{Datum}
 use Rattle.scad_value.specs.Comparison.{truth}
 use Rattle.scad_builtin.specs.Builtin.{builtin}
@@ -14,15 +14,16 @@ use Rattle.scad_expr.specs.declared.frame.Frame.{Frame}
 use Rattle.scad_expr.specs.declared.frame.Purpose.{Purpose}
 use Rattle.scad_expr.specs.State.{State, Outcome, gives, refuses, Action, pure, and_then, ◌>>=◌, over, step}
 use Rattle.scad_expr.specs.Machine.{Held, env_in, along_in}
-use Rattle.scad_expr.specs.Functions.{Found}
+use Rattle.scad_expr.specs.Functions.{Found, function_named}
 use Rattle.scad_expr.specs.Runs.{as_elements, items}
 use Rattle.scad_expr.specs.Variables.{Bound, set, empty, within}
-use Rattle.scad_expr.specs.Meaning.{Below, meaning, value, value_layer, values, default_value, called, called_own, called_builtin, bound_in_order, loop_turns, turns, for_variables}
+use Rattle.scad_expr.specs.Meaning.{Below, meaning, value, value_layer, node, values, default_value, called, called_own, called_builtin, bound_in_order, loop_turns, turns, for_variables}
 use Rattle.scad_expr.specs.Opened.{opened, set_in_last, left, bound_in, outer, IsInner}
 use Rattle.scad_expr.specs.Pieces.{named_of}
-use Rattle.scad_expr.specs.Portions.{defaulted}
+use Rattle.scad_expr.specs.Portions.{defaulted, lone}
 use Rattle.scad_expr.specs.Stack.{Whole, Rest, ended, added, binds, fills, renewed, turned, repeats, served, supplied, onto, rest_of}
 use Rattle.scad_expr.proofs.DepthLeft.{value_none, value_more, place_of, element_none, element_more}
+use Rattle.scad_expr.proofs.InPlace.{values-lone}
 use Rattle.scad_expr.proofs.Loops.{twice, same-then}
 use Rattle.scad_expr.proofs.OpenFrames.{env_in-opened, env_in-before, along_in-opened, set_in_last-opened, left-opened}
 
@@ -72,7 +73,17 @@ pub called-known : (below : Below) (at : Place) (word : List ℕ) (f : Option Fo
 unfolding called
 called-known below at word f along args found s is = ap (λ o. called below at word o along args found s) is
 
-pub ruleset calls = (twice, supplied-next, supplied-end, called-own, called-known)
+-- the one argument of a call
+pub node-lone : (below : Below) (env along : Env) (at : Place) (word : List ℕ) (args : Arguments) (e : Expression)
+    (s : State) → lone args ≡ Some e → node below env along (call at word args) s
+    ≡ and_then (below.value env along e s) (λ d. called below at word (function_named word env) along args (d ∷ []))
+unfolding node
+node-lone below env along at word args e s is =
+    ap (λ o. and_then o (called below at word (function_named word env) along args))
+    (values-lone below env along args e s is)
+    ∙ twice (below.value env along e s) (λ d. gives (d ∷ [])) (called below at word (function_named word env) along args)
+
+pub ruleset calls = (twice, supplied-next, supplied-end, called-own, called-known, node-lone)
 
 -- ---- names in frames of their own
 pub binds-named : (below : Below) (args : Arguments) (k : Held → Action Whole) (h : Held) (s : State)
