@@ -271,3 +271,5 @@ unfolding element_node
 loop-same depth l starts h k made s y all is =
     element-same depth h k made s _ y is
     ∙ ap (λ n. and_then (loop_of (record l { turns = n }) depth starts h made s) (added k h)) (sym all)
+
+pub ruleset parameters = (fills-past, fills-undefined, fills-defined)

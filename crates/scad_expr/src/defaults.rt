@@ -27,6 +27,7 @@ struct Wanted<'p> {
 }
 
 /// The first parameter from a number on that has a default; those before it are `undef`.
+#[tactic(auto, using(crate::proofs::StackBegins::parameters))]
 fn next_default<'p>(
     params: &[&'p Param],
     from: usize,
