@@ -9,7 +9,7 @@ pub returns-in-List-clause-goes : goal.returns-in-List-clause-goes
 returns-in-List-clause-goes c = λ o is.
     c.vector_node.ensures.goes o (is ∙ node-same c.args.depth (held c.args.m.now) (rest c.args.stack.now)
     (made_in c.args.stack.now) (state_of c.args.m.now) _ _
-    (list_node c.args.e.now c.in-List.all c.deref-in-List.result.now c.in-List.is c.deref-in-List.ensures.value))
+    (list_node c.args.e.now c.in-List.all c.deref.result.now c.in-List.is c.deref.ensures.value))
 
 pub returns-in-Call-clause-goes : goal.returns-in-Call-clause-goes
 returns-in-Call-clause-goes c = λ o is.
