@@ -65,7 +65,7 @@ pub(crate) fn given<'p>(
         Frame::Item => add(v, stack, m),
         Frame::Each(outer) => spread(outer, stack, m),
         Frame::If(e, depth) => if_element(&v, e, depth, stack, m),
-        Frame::Either(e, other, depth) => Ok(Focus::Element(either(&v, e, other), depth)),
+        Frame::Either(e, other, depth) => either(&v, e, other, depth, stack, m),
         Frame::Over(variable) => over(variable, v, stack, m),
         Frame::Turns(variable, left) => turn(variable, left, stack, m),
         Frame::Test(all, back, depth) => tested(all, back, depth, &v, stack, m),

@@ -1,11 +1,10 @@
 //! Elements of a vector that begin, and list comprehensions.
 
-ghost use Rattle.std.specs.Prelude.{◌≡◌, ◌+◌, ◌<◌, ◌^◌, if◌then◌else◌, [], ◌++◌, ◌∷◌};
+ghost use Rattle.std.specs.Prelude.{◌≡◌, ◌+◌, ◌<◌, ◌^◌, [], ◌++◌, ◌∷◌};
 ghost use Rattle.std.specs.List.{flat_map};
 ghost use Rattle.scad_ast.specs.Tree.{each, for_each, let_element};
 ghost use Rattle.scad_ast.specs.View.{expression_of, arguments, element_of};
 ghost use Rattle.scad_ast.specs.View.{elements as tree_elements};
-ghost use Rattle.scad_value.specs.Comparison.{truth};
 ghost use Rattle.scad_value.specs.Datum.{vector};
 ghost use Rattle.scad_value.specs.View.{datum_of};
 ghost use Rattle.scad_expr.specs.Machine.{held, env_in, along_in, state_of};
@@ -291,10 +290,26 @@ pub(crate) fn if_element<'p>(
 }
 
 /// The element of an `if` with `else` whose test has its value.
-pub(crate) fn either<'p>(v: &Value, e: &'p Elem, other: &'p Elem) -> &'p Elem
-    ensures { result.now ≡ (if truth (datum_of v.now) then e.now else other.now) }
+#[tactic(auto, using(crate::proofs::StackTurns::nodes), unfolding(crate::specs::Pieces::either_element, crate::specs::Stack::goes_on))]
+pub(crate) fn either<'p>(
+    v: &Value,
+    e: &'p Elem,
+    other: &'p Elem,
+    depth: u32,
+    stack: &mut Stack<'p>,
+    m: &mut Machine<'p>,
+) -> Result<Focus<'p>, EvalFault>
+    ensures goes { Leads (followed_list (either_element (meaning depth) (env_in (held m.old)) (along_in (held m.old))
+        (datum_of v.now) (element_of e.now) (element_of other.now) (made_in stack.old)) stack.old m.old)
+        result stack.new m.new }
+    ensures less { Below_by 4 result stack.old m.old stack.new m.new }
 {
-    if truth(v) { e } else { other }
+    let _work = (stack.alloc(), m.steps_left);
+    if truth(v) {
+        Ok(Focus::Element(e, depth))
+    } else {
+        Ok(Focus::Element(other, depth))
+    }
 }
 
 /// Where an element stands.
