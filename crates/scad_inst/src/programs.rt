@@ -4,7 +4,7 @@ ghost use Rattle.std.specs.Prelude.{◌≡◌, ◌≤◌, ◌∷◌, [], pos, fa
 ghost use Rattle.scad_num.specs.Number.{most};
 ghost use Rattle.scad_ast.specs.Scope.{program_of};
 ghost use Rattle.scad_tree.specs.Solid.{Solid};
-ghost use Rattle.scad_tree.specs.View.{solid_of, solids};
+ghost use Rattle.scad_tree.specs.View.{solid_of};
 ghost use Rattle.scad_expr.specs.Answers.{Does};
 ghost use Rattle.scad_inst.specs.Meaning.{means};
 ghost use Rattle.scad_inst.specs.Meaning.{program_of as outcome_of};
@@ -19,14 +19,18 @@ ghost use Rattle.scad_expr.specs.declared.fault.EvalFault.TheVariants.{Memory};
 ghost use Rattle.scad_inst.specs.FirstFrames.{outermost};
 
 use crate::answers::{Model, ModelEnd};
-use crate::members::members;
+use crate::frames::here;
+use crate::run::run;
+use crate::scopes::open_scope;
 use crate::space::at_first;
+use crate::stack::Stack;
+use crate::work::Focus;
 use scad_ast::Program;
 use scad_expr::{DEPTH_LIMIT, EvalFault, Machine, STEP_LIMIT};
 use scad_fault::Text;
 use scad_num::Num;
 use scad_scope::Frames;
-use scad_tree::{Tree, unite};
+use scad_tree::Tree;
 use scad_value::Value;
 use std::alloc::Global;
 
@@ -100,16 +104,18 @@ pub(crate) fn first_machine<'p>(alloc: Global) -> Result<Machine<'p>, EvalFault>
     })
 }
 
-/// The tree of a program, in the frames before it.
-#[tactic(auto, unfolding(crate::specs::Meaning::program_of))]
+/// The tree of a program, in the frames before it: the frames of its scope are opened, and nothing waits for the
+/// trees of its statements.
 fn tree_of<'p>(alloc: Global, program: &'p Program, m: &mut Machine<'p>) -> Result<Tree, EvalFault>
     requires env { env_in (held m.old) ≡ first_env }
     requires along { along_in (held m.old) ≡ first_along }
     requires depth { (held m.old).depth ≡ depth_limit }
     ensures { Does solid_of (outcome_of (program_of program.now) (state_of m.old)) result (state_of m.new) }
 {
-    let members = members(alloc, &at_first(), &program.scope, m)?;
-    Ok(unite(alloc, members)?)
+    let home = here(m);
+    let _back = open_scope(alloc, home, &program.scope, m)?;
+    let mut stack = Stack::new(alloc);
+    run(Focus::Members(&program.scope, 0, at_first()), &mut stack, m)
 }
 
 /// What a machine gives that made a tree or not.

@@ -1,0 +1,415 @@
+-- What is at work and what follows it, as the parts of a statement begin.
+use Rattle.std.proofs.Common.{◌≡◌, ◌≢◌, ℕ, ◌+◌, ◌-◌, ◌<◌, ◌≤◌, Bool, true, false, if◌then◌else◌, List, [], ◌∷◌, ◌++◌, length, get_or, drop, Option, Some, None, Vec, Global, refl, sym, ap, ap₂, ◌∙◌, arith}
+use Rattle.std.proofs.lemmas.List.{drop_all}
+use Rattle.std.specs.Borrow.{Bor}
+use Rattle.scad_fault.specs.declared.place.Place.{Place}
+use Rattle.scad_ast.specs.declared.expression.Arg.{Arg}
+use Rattle.scad_ast.specs.declared.statement.Item.{Item}
+use Rattle.scad_ast.specs.Scope.{item_of, items}
+use Rattle.scad_ast.specs.Tree.{Items, Arguments, no_arguments, argument, Expression}
+use Rattle.scad_ast.specs.Tree.{Item as TreeItem}
+use Rattle.scad_ast.specs.View.{arguments, expression_of}
+use Rattle.scad_value.specs.Datum.{Datum}
+use Rattle.scad_value.proofs.Lists.{arguments-drop, arguments-drop_all}
+use Rattle.scad_scope.specs.Env.{Env, children}
+use Rattle.scad_tree.specs.declared.node.Node.{Node}
+use Rattle.scad_tree.specs.Normal.{united}
+use Rattle.scad_tree.specs.Solid.{Solid, nothing}
+use Rattle.scad_tree.specs.View.{solids}
+use Rattle.scad_expr.specs.declared.fault.EvalFault.{EvalFault}
+use Rattle.scad_expr.specs.Arguments.{is_statement}
+use Rattle.scad_expr.specs.Machine.{Held, env_in, along_in}
+use Rattle.scad_expr.specs.Meaning.{meaning, values, value, Opened}
+use Rattle.scad_expr.specs.Meaning.{Below as Expressions}
+use Rattle.scad_expr.specs.Opened.{left, opened_in}
+use Rattle.scad_expr.specs.Runs.{items as run_over}
+use Rattle.scad_expr.specs.State.{State, Outcome, gives, refuses, Action, and_then, pure, step, depth_limit}
+use Rattle.scad_expr.specs.Variables.{set, empty, within, first_env, first_along}
+use Rattle.scad_expr.proofs.Homes.{items-drop}
+use Rattle.scad_expr.proofs.Loops.{twice, same-state}
+use Rattle.scad_inst.specs.declared.operation.Operation.{Operation}
+use Rattle.scad_inst.specs.declared.operation.Operation.TheVariants.{Unite}
+use Rattle.scad_inst.specs.declared.modules.Call.{Call}
+use Rattle.scad_inst.specs.declared.modules.Variable.{Variable}
+use Rattle.scad_inst.specs.declared.remainder.Remainder.{Remainder}
+use Rattle.scad_inst.specs.declared.space.Where.{Where}
+use Rattle.scad_inst.specs.declared.work.Frame.{Frame}
+use Rattle.scad_inst.specs.declared.work.Frame.TheVariants.{Mark, Member, Then, Combine, Leave}
+use Rattle.scad_inst.specs.declared.work.Focus.{Focus}
+use Rattle.scad_inst.specs.declared.work.Focus.TheVariants.{Statement, Members, Children, Variables, Turns}
+use Rattle.scad_inst.specs.Chosen.{child_named}
+use Rattle.scad_inst.specs.Frames.{below_of, with_depth}
+use Rattle.scad_inst.specs.Made.{judged}
+use Rattle.scad_inst.specs.Meaning.{Below, statements_meaning, statement_layer, node, opened_scope, member, members_from, members, combined, called_own, run_children, chosen, children_by, child, turns, for_variables, program_of}
+use Rattle.scad_inst.specs.Modules.{Found}
+use Rattle.scad_inst.specs.Operation.{operated}
+use Rattle.scad_inst.specs.Opened.{names_opened}
+use Rattle.scad_inst.specs.Portions.{called_with, own_opened}
+use Rattle.scad_inst.specs.Scopes.{item_place, is_marked}
+use Rattle.scad_inst.specs.Where.{at_first}
+use Rattle.scad_inst.specs.Stack.{Rest, onto, rest_of, listed, ended, goes_on, with_member, left_in}
+use Rattle.scad_inst.proofs.Calls.{own-call}
+use Rattle.scad_inst.proofs.Levels.{expressions-are, statement-some, env_in-depth, along_in-depth}
+use Rattle.scad_inst.proofs.ScopeFrames.{depth-left}
+
+-- ---- the stack
+pub rest-push : (all : List Frame) (f : Frame) (k : Rest) → rest_of (all ++ f ∷ []) k ≡ onto f (rest_of all k)
+rest-push [] f k = refl
+rest-push (g ∷ all) f k = rest-push all f (onto g k)
+
+pub ruleset stacks = (rest-push)
+
+pub ruleset nodes = (twice)
+
+-- ---- the items of a scope
+module _ (h : Held) (w : Where) (i : Item) (f : Focus) (k : Rest) (ss : List Solid) (s : State) where
+  -- a statement is run, and then what comes behind it
+  pub item-runs : (marked : Bool) (k2 : Rest) (ms : List Solid) → is_statement (item_of i) ≡ true
+      → marked ≡ is_marked (item_of i) → k2 ≡ onto (Member marked) (onto (Then f) k) → ms ≡ ss
+      → and_then (member (below_of h) w (env_in h) (along_in h) (item_of i) ss s) (goes_on f k h)
+      ≡ and_then ((below_of h).statement w (env_in h) (along_in h) (item_of i) s) (k2 h ms)
+  unfolding member onto
+  item-runs marked k2 ms is mark then_is made =
+      let run : Outcome Solid = (below_of h).statement w (env_in h) (along_in h) (item_of i) s in
+      let one : Bool → State → Outcome (List Solid) = λ b. (if b then
+      (λ (u : State). and_then ((below_of h).statement w (env_in h) (along_in h) (item_of i) u)
+      (λ t. pure (if is_marked (item_of i) then ss else ss ++ t ∷ []))) else pure ss) in
+      ap (λ (b : Bool). and_then (one b s) (goes_on f k h)) is
+      ∙ twice run (λ t. pure (with_member (is_marked (item_of i)) ss t)) (goes_on f k h)
+      ∙ ap₂ (λ (b : Bool) (l : List Solid). and_then run (onto (Member b) (onto (Then f) k) h l)) (sym mark) (sym made)
+      ∙ ap (λ (q : Rest). and_then run (q h ms)) (sym then_is)
+
+  -- anything else is passed over
+  pub item-passes : is_statement (item_of i) ≡ false
+      → and_then (member (below_of h) w (env_in h) (along_in h) (item_of i) ss s) (goes_on f k h) ≡ goes_on f k h ss s
+  unfolding member
+  item-passes is =
+      let one : Bool → State → Outcome (List Solid) = λ b. (if b then
+      (λ (u : State). and_then ((below_of h).statement w (env_in h) (along_in h) (item_of i) u)
+      (λ t. pure (if is_marked (item_of i) then ss else ss ++ t ∷ []))) else pure ss) in
+      ap (λ (b : Bool). and_then (one b s) (goes_on f k h)) is
+
+-- the item of a number, and those behind it
+module _ (h : Held) (w : Where) (scope : Bor (Vec Item Global)) (n : ℕ) (k : Rest) (ss : List Solid) (s : State) where
+  pub members-next : (i : Item) → n < length scope.now.items → i ≡ get_or scope.now.items n i
+      → and_then (members_from (below_of h) w (env_in h) (along_in h) (items (drop n scope.now.items)) ss s)
+      (listed k h)
+      ≡ and_then (member (below_of h) w (env_in h) (along_in h) (item_of i) ss s)
+      (goes_on (Members scope (n + 1) w) k h)
+  unfolding members_from goes_on
+  members-next i there is =
+      ap (λ (l : Items). and_then (members_from (below_of h) w (env_in h) (along_in h) l ss s) (listed k h))
+      (items-drop scope.now.items n i there is)
+      ∙ twice (member (below_of h) w (env_in h) (along_in h) (item_of i) ss s)
+      (members_from (below_of h) w (env_in h) (along_in h) (items (drop (n + 1) scope.now.items))) (listed k h)
+
+  pub members-end : length scope.now.items ≤ n
+      → and_then (members_from (below_of h) w (env_in h) (along_in h) (items (drop n scope.now.items)) ss s)
+      (listed k h) ≡ listed k h ss s
+  unfolding members_from
+  members-end past =
+      ap (λ (l : List Item). and_then (members_from (below_of h) w (env_in h) (along_in h) (items l) ss s)
+      (listed k h)) (drop_all {X = Item} n scope.now.items past)
+
+-- ---- children that values name
+module _ (h : Held) (w : Where) (scope : Bor (Vec Item Global)) (ds : List Datum) (k : Rest) (ss : List Solid) (s : State) where
+  pub children-next : (d : Datum) (i : TreeItem) (more : Remainder) → ds ≡ d ∷ left_in more
+      → Some i ≡ child_named (items scope.now.items) d
+      → and_then (children_by (below_of h) w (env_in h) (along_in h) (items scope.now.items) ds ss s) (listed k h)
+      ≡ and_then (member (below_of h) w (env_in h) (along_in h) i ss s) (goes_on (Children scope more w) k h)
+  unfolding children_by child goes_on
+  children-next d i more are named =
+      let below = below_of h in
+      let behind : List Solid → Action (List Solid) =
+      children_by below w (env_in h) (along_in h) (items scope.now.items) (left_in more) in
+      ap (λ (l : List Datum). and_then (children_by below w (env_in h) (along_in h) (items scope.now.items) l ss s)
+      (listed k h)) are
+      ∙ ap (λ (o : Option TreeItem). and_then (and_then (child below w (env_in h) (along_in h) o ss s) behind)
+      (listed k h)) (sym named)
+      ∙ twice (member below w (env_in h) (along_in h) i ss s) behind (listed k h)
+
+  pub children-pass : (d : Datum) (more : Remainder) → ds ≡ d ∷ left_in more
+      → None ≡ child_named (items scope.now.items) d
+      → and_then (children_by (below_of h) w (env_in h) (along_in h) (items scope.now.items) ds ss s) (listed k h)
+      ≡ goes_on (Children scope more w) k h ss s
+  unfolding children_by child goes_on
+  children-pass d more are named =
+      let below = below_of h in
+      let behind : List Solid → Action (List Solid) =
+      children_by below w (env_in h) (along_in h) (items scope.now.items) (left_in more) in
+      ap (λ (l : List Datum). and_then (children_by below w (env_in h) (along_in h) (items scope.now.items) l ss s)
+      (listed k h)) are
+      ∙ ap (λ (o : Option TreeItem). and_then (and_then (child below w (env_in h) (along_in h) o ss s) behind)
+      (listed k h)) (sym named)
+
+  pub children-end : ds ≡ []
+      → and_then (children_by (below_of h) w (env_in h) (along_in h) (items scope.now.items) ds ss s) (listed k h)
+      ≡ listed k h ss s
+  unfolding children_by
+  children-end are =
+      ap (λ (l : List Datum). and_then (children_by (below_of h) w (env_in h) (along_in h) (items scope.now.items) l ss
+      s) (listed k h)) are
+
+-- ---- a statement
+pub statement-begins : (marked : Bool) (depth : ℕ) (w : Where) (i : TreeItem) (h h1 h2 : Held) (k k2 : Rest)
+    (ss ms : List Solid) (s s1 s2 : State) → h.depth ≢ 0 → step (item_place i) s ≡ gives (tt {0}) s1 → h1 ≡ h
+    → s2 ≡ s1 → h2 ≡ with_depth (h1.depth - 1) h1 → marked ≡ is_marked i → depth ≡ h.depth
+    → k2 ≡ onto (Mark marked depth) k → ms ≡ ss
+    → and_then ((below_of h).statement w (env_in h) (along_in h) i s) (k h ss)
+    ≡ and_then (node (below_of h2) w (env_in h2) (along_in h2) i s2) (k2 h2 ms)
+unfolding statement_layer onto env_in along_in
+statement-begins marked depth w i h h1 h2 k k2 ss ms s s1 s2 some stepped kept same deeper mark deep is made =
+    let g : Held = with_depth (h.depth - 1) h in
+    let inner : State → Outcome Solid = node (below_of g) w (env_in g) (along_in g) i in
+    ap (λ (o : Outcome Solid). and_then o (k h ss)) (statement-some h.depth w (env_in h) (along_in h) i s some)
+    ∙ ap (λ (o : Outcome (Unit {0})). and_then (and_then o (λ _ t. and_then (inner t)
+    (λ a. pure (if is_marked i then nothing else a)))) (k h ss)) stepped
+    ∙ twice (inner s1) (λ a. pure (if is_marked i then nothing else a)) (k h ss)
+    ∙ ap₂ (λ (b : Bool) (d : ℕ). and_then (inner s1) (λ a. k (with_depth d g) ss (if b then nothing else a)))
+    (sym mark) (sym deep)
+    ∙ ap (λ (q : Rest). and_then (inner s1) (q g ss)) (sym is)
+    ∙ ap₂ (λ (x : Held) (t : State). and_then (node (below_of x) w (env_in x) (along_in x) i t) (k2 x ss))
+    (sym (deeper ∙ ap (λ (x : Held). with_depth (x.depth - 1) x) kept)) (sym same)
+    ∙ ap (λ (l : List Solid). and_then (node (below_of h2) w (env_in h2) (along_in h2) i s2) (k2 h2 l)) (sym made)
+
+pub statement-stops : (w : Where) (i : TreeItem) (h : Held) (s s1 : State) (e : EvalFault)
+    (g : Solid → Action Solid) → h.depth ≢ 0 → step (item_place i) s ≡ refuses e s1
+    → and_then ((below_of h).statement w (env_in h) (along_in h) i s) g ≡ refuses e s1
+unfolding statement_layer
+statement-stops w i h s s1 e g some stopped =
+    ap (λ (o : Outcome Solid). and_then o g) (statement-some h.depth w (env_in h) (along_in h) i s some)
+    ∙ ap (λ (o : Outcome (Unit {0})). and_then (and_then o (λ _ t. and_then
+    (node (statements_meaning (h.depth - 1)) w (env_in h) (along_in h) i t)
+    (λ a. pure (if is_marked i then nothing else a)))) g) stopped
+
+-- ---- scopes
+pub scope-begins : (o : Operation) (at : Place) (w : Where) (scope : Bor (Vec Item Global)) (outer : Vec Node Global)
+    (back : ℕ) (h h2 : Held) (k k2 : Rest) (ss ms : List Solid) (s s2 : State)
+    → opened_scope (below_of h) (items scope.now.items) (env_in h) (along_in h) s ≡ gives (opened_in h2) s2
+    → left back h2 ≡ h → solids outer.items ≡ ss → k2 ≡ onto (Leave back) (onto (Combine o at outer) k) → ms ≡ []
+    → and_then (combined (below_of h) o at w (items scope.now.items) (env_in h) (along_in h) s) (k h ss)
+    ≡ goes_on (Members scope 0 w) k2 h2 ms s2
+unfolding combined members onto opened_in goes_on
+scope-begins o at w scope outer back h h2 k k2 ss ms s s2 opened is_left outer_is is none =
+    let below = below_of h in
+    let all = items scope.now.items in
+    let o2 = members_from below w (env_in h2) (along_in h2) all [] s2 in
+    ap (λ (x : Outcome Opened). and_then (and_then (and_then x (λ y. members_from below w y.env y.along all []))
+    (λ qs. judged at (operated o qs))) (k h ss)) opened
+    ∙ twice o2 (λ qs. judged at (operated o qs)) (k h ss)
+    ∙ ap₂ (λ (x : Held) (os : List Solid). and_then o2 (λ qs t. and_then (judged at (operated o qs) t) (k x os)))
+    (sym is_left) (sym outer_is)
+    ∙ ap₂ (λ (q : Rest) (n : List Solid). and_then (members_from below w (env_in h2) (along_in h2) all n s2)
+    (listed q h2)) (sym is) (sym none)
+    ∙ ap (λ (d : ℕ). and_then (members_from (statements_meaning d) w (env_in h2) (along_in h2) all ms s2)
+    (listed k2 h2)) (sym (depth-left back h2 h is_left))
+
+-- ---- children
+pub children-begin : (at : Place) (w : Where) (scope : Items) (home : Env) (which : Option Datum)
+    (outer : Vec Node Global) (back : ℕ) (h h2 : Held) (k k2 : Rest) (ss : List Solid) (s s2 : State)
+    → opened_scope (below_of h) scope home (along_in h) s ≡ gives (opened_in h2) s2
+    → left back h2 ≡ h → solids outer.items ≡ ss → k2 ≡ onto (Leave back) (onto (Combine Unite at outer) k)
+    → and_then (run_children (below_of h) at w (along_in h) which (children scope home) s) (k h ss)
+    ≡ and_then (chosen (below_of h2) w (env_in h2) (along_in h2) scope which s2) (listed k2 h2)
+unfolding run_children onto opened_in
+children-begin at w scope home which outer back h h2 k k2 ss s s2 opened is_left outer_is is =
+    let below = below_of h in
+    let o2 = chosen below w (env_in h2) (along_in h2) scope which s2 in
+    ap (λ (x : Outcome Opened). and_then (and_then x (λ y t. and_then (chosen below w y.env y.along scope which t)
+    (λ qs. judged at (united qs)))) (k h ss)) opened
+    ∙ twice o2 (λ qs. judged at (united qs)) (k h ss)
+    ∙ ap₂ (λ (x : Held) (os : List Solid). and_then o2 (λ qs t. and_then (judged at (united qs) t) (k x os)))
+    (sym is_left) (sym outer_is)
+    ∙ ap (λ (q : Rest). and_then o2 (listed q h2)) (sym is)
+    ∙ ap (λ (d : ℕ). and_then (chosen (statements_meaning d) w (env_in h2) (along_in h2) scope which s2)
+    (listed k2 h2)) (sym (depth-left back h2 h is_left))
+
+-- ---- calls of modules of the program
+pub own-begins : (at : Place) (w : Where) (m : Found) (args : Arguments) (found : List Datum) (all : Items) (back : ℕ)
+    (h h2 h3 : Held) (k k2 : Rest) (ss ms : List Solid) (s s2 s3 : State)
+    → values (meaning h.depth) (env_in h) (along_in h) args [] s ≡ gives found s2 → h2 ≡ h
+    → own_opened (below_of h2) (env_in h2) (along_in h2) m args found all s2 ≡ gives (opened_in h3) s3
+    → left back h3 ≡ h2 → k2 ≡ onto (Leave back) k → ms ≡ ss
+    → and_then (called_with (below_of h) at w (env_in h) (along_in h) m args all s) (k h ss)
+    ≡ and_then (combined (below_of h3) Unite at w m.definition.body (env_in h3) (along_in h3) s3) (k2 h3 ms)
+unfolding called_with onto opened_in
+own-begins at w m args found all back h h2 h3 k k2 ss ms s s2 s3 vals kept opened is_left is made =
+    let below = below_of h in
+    let body = combined below Unite at w m.definition.body (env_in h3) (along_in h3) s3 in
+    ap (λ (e : Expressions). and_then (and_then (values e (env_in h) (along_in h) args [] s)
+    (λ f. called_own below at w (env_in h) (along_in h) m args f all)) (k h ss)) (expressions-are h.depth)
+    ∙ ap (λ (o : Outcome (List Datum)). and_then (and_then o
+    (λ f. called_own below at w (env_in h) (along_in h) m args f all)) (k h ss)) vals
+    ∙ ap (λ (o : Outcome Solid). and_then o (k h ss)) (own-call below at w (env_in h) (along_in h) m args found all s2)
+    ∙ ap (λ (x : Held). and_then (and_then (own_opened (below_of x) (env_in x) (along_in x) m args found all s2)
+    (λ o. combined below Unite at w m.definition.body o.env o.along)) (k h ss)) (sym kept)
+    ∙ ap (λ (o : Outcome Opened). and_then (and_then o
+    (λ x. combined below Unite at w m.definition.body x.env x.along)) (k h ss)) opened
+    ∙ ap₂ (λ (x : Held) (os : List Solid). and_then body (k x os)) (sym (is_left ∙ kept)) (sym made)
+    ∙ ap (λ (q : Rest). and_then body (q h3 ms)) (sym is)
+    ∙ ap (λ (d : ℕ). and_then (combined (statements_meaning d) Unite at w m.definition.body (env_in h3) (along_in h3)
+    s3) (k2 h3 ms)) (sym (depth-left back h3 h2 is_left ∙ ap (λ (x : Held). x.depth) kept))
+
+-- ---- the variables of a `for`
+module _ (c : Call) (n : ℕ) (w : Where) (k : Rest) (ss : List Solid) (s : State) where
+  abbrev loop : Held → Arguments → Outcome Solid
+  loop h args = and_then (for_variables (below_of h) c.at w args (items c.all.now.items) (env_in h) (along_in h) ss s)
+      (listed k h)
+
+  -- the first one runs over a value
+  pub variables-first : (first : Arg) (word : List ℕ) (name : Bor (List ℕ)) (more : Remainder) (h h1 : Held)
+      (d : Datum) (s1 : State) → n < length c.args.now.items → first ≡ get_or c.args.now.items n first
+      → first.name ≡ Some word → name.now ≡ word
+      → value h.depth (env_in h) (along_in h) (expression_of first.value) s ≡ gives d s1 → h1 ≡ h
+      → left_in more ≡ run_over d → loop h (arguments (drop n c.args.now.items))
+      ≡ goes_on (Turns (record { call = c; name = name; next = n + 1 }) more w) k h1 ss s1
+  unfolding for_variables goes_on
+  variables-first first word name more h h1 d s1 there is named same given kept run =
+      let below = below_of h in
+      let inner = for_variables below c.at w (arguments (drop (n + 1) c.args.now.items)) (items c.all.now.items) in
+      ap (loop h) (arguments-drop c.args.now.items n first there is
+      ∙ ap (λ (o : Option (List ℕ)). argument o (expression_of first.value) (arguments (drop (n + 1) c.args.now.items)))
+      (named ∙ ap Some (sym same)))
+      ∙ ap (λ (x : Expressions). and_then (and_then (x.value (env_in h) (along_in h) (expression_of first.value) s)
+      (λ v. turns below c.at name.now inner (env_in h) (along_in h) (run_over v) ss)) (listed k h))
+      (expressions-are h.depth)
+      ∙ ap (λ (o : Outcome Datum). and_then (and_then o
+      (λ v. turns below c.at name.now inner (env_in h) (along_in h) (run_over v) ss)) (listed k h)) given
+      ∙ ap (λ (l : List Datum). and_then (turns below c.at name.now inner (env_in h) (along_in h) l ss s1)
+      (listed k h)) (sym run)
+      ∙ ap (λ (x : Held). and_then (turns (below_of x) c.at name.now (for_variables (below_of x) c.at w
+      (arguments (drop (n + 1) c.args.now.items)) (items c.all.now.items)) (env_in x) (along_in x) (left_in more) ss s1)
+      (listed k x)) (sym kept)
+
+  -- what it runs over has no value
+  pub variables-stop : (first : Arg) (word : List ℕ) (h : Held) (e : EvalFault) (s1 : State)
+      → n < length c.args.now.items → first ≡ get_or c.args.now.items n first → first.name ≡ Some word
+      → value h.depth (env_in h) (along_in h) (expression_of first.value) s ≡ refuses e s1
+      → loop h (arguments (drop n c.args.now.items)) ≡ refuses e s1
+  unfolding for_variables
+  variables-stop first word h e s1 there is named stopped =
+      let below = below_of h in
+      let inner = for_variables below c.at w (arguments (drop (n + 1) c.args.now.items)) (items c.all.now.items) in
+      ap (loop h) (arguments-drop c.args.now.items n first there is
+      ∙ ap (λ (o : Option (List ℕ)). argument o (expression_of first.value) (arguments (drop (n + 1) c.args.now.items)))
+      named)
+      ∙ ap (λ (x : Expressions). and_then (and_then (x.value (env_in h) (along_in h) (expression_of first.value) s)
+      (λ v. turns below c.at word inner (env_in h) (along_in h) (run_over v) ss)) (listed k h))
+      (expressions-are h.depth)
+      ∙ ap (λ (o : Outcome Datum). and_then (and_then o
+      (λ v. turns below c.at word inner (env_in h) (along_in h) (run_over v) ss)) (listed k h)) stopped
+
+  -- one without a name is passed over
+  pub variables-pass : (first : Arg) (h : Held) → n < length c.args.now.items
+      → first ≡ get_or c.args.now.items n first → first.name ≡ None
+      → loop h (arguments (drop n c.args.now.items)) ≡ goes_on (Variables c (n + 1) w) k h ss s
+  unfolding for_variables goes_on
+  variables-pass first h there is named =
+      ap (loop h) (arguments-drop c.args.now.items n first there is
+      ∙ ap (λ (o : Option (List ℕ)). argument o (expression_of first.value) (arguments (drop (n + 1) c.args.now.items)))
+      named)
+
+  -- none is left
+  pub variables-end : (h : Held) (k2 : Rest) (ms : List Solid) → length c.args.now.items ≤ n
+      → k2 ≡ onto (Member false) k → ms ≡ ss → loop h (arguments (drop n c.args.now.items))
+      ≡ and_then (combined (below_of h) Unite c.at w (items c.all.now.items) (env_in h) (along_in h) s) (k2 h ms)
+  unfolding for_variables onto
+  variables-end h k2 ms past is made =
+      let run = combined (below_of h) Unite c.at w (items c.all.now.items) (env_in h) (along_in h) s in
+      ap (loop h) (arguments-drop_all c.args.now.items n past)
+      ∙ twice run (λ t. pure (ss ++ t ∷ [])) (listed k h)
+      ∙ ap₂ (λ (q : Rest) (l : List Solid). and_then run (q h l)) (sym is) (sym made)
+
+-- ---- the turns of a variable
+module _ (v : Variable) (w : Where) where
+  -- what runs inside a turn
+  abbrev inside : Held → Env → Env → List Solid → Action (List Solid)
+  inside h = for_variables (below_of h) v.call.at w (arguments (drop v.next v.call.args.now.items))
+      (items v.call.all.now.items)
+
+  abbrev around : Held → List Datum → List Solid → Action (List Solid)
+  around h = turns (below_of h) v.call.at v.name.now (inside h) (env_in h) (along_in h)
+
+  pub turn-begins : (d : Datum) (ds : List Datum) (more : Remainder) (back : ℕ) (k k1 k2 : Rest) (h h1 h2 : Held)
+      (ss ms : List Solid) (s s2 s3 : State) → ds ≡ d ∷ left_in more → step v.call.at s ≡ gives (tt {0}) s2 → h1 ≡ h
+      → k1 ≡ onto (Then (Turns v more w)) k → gives (tt {0}) s2 ≡ gives (tt {0}) s3
+      → env_in h2 ≡ within (env_in h1) (set v.name.now d empty).names
+      → along_in h2 ≡ within (along_in h1) (set v.name.now d empty).dollars → left back h2 ≡ h1
+      → k2 ≡ onto (Leave back) k1 → ms ≡ ss
+      → and_then (around h ds ss s) (listed k h) ≡ goes_on (Variables v.call v.next w) k2 h2 ms s3
+  unfolding turns onto goes_on
+  turn-begins d ds more back k k1 k2 h h1 h2 ss ms s s2 s3 are stepped kept is1 same env along is_left is2 made =
+      let b = set v.name.now d empty in
+      let go : Held → List Solid → Action Solid = λ x now t. and_then (around x (left_in more) now t) (listed k x) in
+      ap (λ (l : List Datum). and_then (around h l ss s) (listed k h)) are
+      ∙ ap (λ (o : Outcome (Unit {0})). and_then (and_then o (λ _ t. and_then
+      (inside h (within (env_in h) b.names) (within (along_in h) b.dollars) ss t) (around h (left_in more))))
+      (listed k h)) stepped
+      ∙ twice (inside h (within (env_in h) b.names) (within (along_in h) b.dollars) ss s2) (around h (left_in more))
+      (listed k h)
+      ∙ ap₂ (λ (e a : Env). and_then (inside h e a ss s2) (go h))
+      (ap (λ (x : Held). within (env_in x) b.names) (sym kept) ∙ sym env)
+      (ap (λ (x : Held). within (along_in x) b.dollars) (sym kept) ∙ sym along)
+      ∙ ap (λ (x : Held). and_then (inside h (env_in h2) (along_in h2) ss s2) (go x)) (sym (is_left ∙ kept))
+      ∙ ap₂ (λ (q : Rest) (t : State). and_then (inside h (env_in h2) (along_in h2) ss t) (listed q h2))
+      (sym (is2 ∙ ap (onto (Leave back)) is1)) (same-state _ _ _ _ same)
+      ∙ ap (λ (l : List Solid). and_then (inside h (env_in h2) (along_in h2) l s3) (listed k2 h2)) (sym made)
+      ∙ ap (λ (e : ℕ). and_then (for_variables (statements_meaning e) v.call.at w
+      (arguments (drop v.next v.call.args.now.items)) (items v.call.all.now.items) (env_in h2) (along_in h2) ms s3)
+      (listed k2 h2)) (sym (depth-left back h2 h1 is_left ∙ ap (λ (x : Held). x.depth) kept))
+
+  pub turn-stops : (d : Datum) (ds : List Datum) (more : Remainder) (h : Held) (ss : List Solid) (s s2 : State)
+      (e : EvalFault) (g : List Solid → Action Solid) → ds ≡ d ∷ left_in more → step v.call.at s ≡ refuses e s2
+      → and_then (around h ds ss s) g ≡ refuses e s2
+  unfolding turns
+  turn-stops d ds more h ss s s2 e g are stopped =
+      let b = set v.name.now d empty in
+      ap (λ (l : List Datum). and_then (around h l ss s) g) are
+      ∙ ap (λ (o : Outcome (Unit {0})). and_then (and_then o (λ _ t. and_then
+      (inside h (within (env_in h) b.names) (within (along_in h) b.dollars) ss t) (around h (left_in more)))) g) stopped
+
+  pub turns-end : (ds : List Datum) (h : Held) (ss : List Solid) (s : State) (g : List Solid → Action Solid)
+      → ds ≡ [] → and_then (around h ds ss s) g ≡ g ss s
+  unfolding turns
+  turns-end ds h ss s g are = ap (λ (l : List Datum). and_then (around h l ss s) g) are
+
+-- ---- a program
+module _ (scope : Bor (Vec Item Global)) (h : Held) (s : State) (env : env_in h ≡ first_env) (along : along_in h ≡ first_along) (deep : h.depth ≡ depth_limit) where
+  abbrev opens : Outcome Opened
+  opens = opened_scope (below_of h) (items scope.now.items) (env_in h) (along_in h) s
+
+  program-opens : program_of (items scope.now.items) s
+      ≡ and_then (and_then opens (λ o. members_from (statements_meaning depth_limit) at_first o.env o.along
+      (items scope.now.items) [])) (λ ss. pure (united ss))
+  unfolding program_of members
+  program-opens =
+      ap (λ (d : ℕ). and_then (and_then (opened_scope (statements_meaning d) (items scope.now.items) first_env
+      first_along s) (λ o. members_from (statements_meaning depth_limit) at_first o.env o.along (items scope.now.items)
+      [])) (λ ss. pure (united ss))) (sym deep)
+      ∙ ap₂ (λ (e a : Env). and_then (and_then (opened_scope (below_of h) (items scope.now.items) e a s)
+      (λ o. members_from (statements_meaning depth_limit) at_first o.env o.along (items scope.now.items) []))
+      (λ ss. pure (united ss))) (sym env) (sym along)
+
+  pub program-begins : (w : Where) (k : Rest) (h2 : Held) (ms : List Solid) (s2 : State)
+      → opens ≡ gives (opened_in h2) s2 → h2.depth ≡ h.depth → k ≡ ended → ms ≡ [] → w ≡ at_first
+      → program_of (items scope.now.items) s ≡ goes_on (Members scope 0 w) k h2 ms s2
+  unfolding goes_on opened_in
+  program-begins w k h2 ms s2 opened same is none first =
+      program-opens
+      ∙ ap (λ (x : Outcome Opened). and_then (and_then x (λ o. members_from (statements_meaning depth_limit) at_first
+      o.env o.along (items scope.now.items) [])) (λ ss. pure (united ss))) opened
+      ∙ ap (λ (d : ℕ). and_then (members_from (statements_meaning d) at_first (env_in h2) (along_in h2)
+      (items scope.now.items) [] s2) (listed ended h2)) (sym (same ∙ deep))
+      ∙ ap₂ (λ (x : Where) (l : List Solid). and_then (members_from (below_of h2) x (env_in h2) (along_in h2)
+      (items scope.now.items) l s2) (listed ended h2)) (sym first) (sym none)
+      ∙ ap (λ (q : Rest). and_then (members_from (below_of h2) w (env_in h2) (along_in h2) (items scope.now.items) ms
+      s2) (listed q h2)) (sym is)
+
+  pub program-stops : (e : EvalFault) (s2 : State) → opens ≡ refuses e s2
+      → program_of (items scope.now.items) s ≡ refuses e s2
+  program-stops e s2 stopped =
+      program-opens
+      ∙ ap (λ (x : Outcome Opened). and_then (and_then x (λ o. members_from (statements_meaning depth_limit) at_first
+      o.env o.along (items scope.now.items) [])) (λ ss. pure (united ss))) stopped
+
+pub ruleset programs = (program-begins, program-stops)
