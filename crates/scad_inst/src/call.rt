@@ -74,6 +74,7 @@ fn called<'p>(
 }
 
 /// A call of a module of the program.
+#[tactic(auto, using(crate::proofs::Calls::own_frames, crate::proofs::Onward::nodes), unfolding(crate::specs::Portions::called_with))]
 fn called_own<'p>(
     own: DefinedAt<'p>,
     call: Call<'p>,

@@ -1,11 +1,12 @@
 //! `children`.
 
-ghost use Rattle.std.specs.Prelude.{◌≡◌, []};
+ghost use Rattle.std.specs.Prelude.{◌≡◌, [], IfErr};
 ghost use Rattle.scad_ast.specs.Scope.{items};
 ghost use Rattle.scad_tree.specs.Solid.{Solid};
 ghost use Rattle.scad_scope.specs.Env.{children};
 ghost use Rattle.scad_scope.specs.Stored.{env_at, envs};
 ghost use Rattle.scad_modules.specs.View.{datum_in};
+ghost use Rattle.scad_expr.specs.declared.fault.EvalFault.TheVariants.{Memory};
 ghost use Rattle.scad_expr.specs.Machine.{Held, held, env_in, along_in, state_of};
 ghost use Rattle.scad_expr.specs.State.{State, Outcome, and_then};
 ghost use Rattle.scad_inst.specs.Frames.{below_of};
@@ -48,6 +49,7 @@ pub(crate) fn children<'p>(
 }
 
 /// Children run in their scope, whose assignments are evaluated anew.
+#[tactic(auto, using(crate::proofs::Onward::nodes), unfolding(crate::specs::Meaning::run_children))]
 fn run_children<'p>(
     at: Place,
     which: Option<&Value>,
@@ -65,7 +67,7 @@ fn run_children<'p>(
     let outer = stack.exchange(Vec::new(stack.alloc));
     stack.push(Frame::Combine(Operation::Unite, at, outer))?;
     stack.push(Frame::Leave(back))?;
-    chosen(which, kept.scope, w, stack)
+    Ok(chosen(which, kept.scope, w, stack)?)
 }
 
 /// All children, or those that the items of a value name.
@@ -77,9 +79,9 @@ fn chosen<'p>(
     stack: &mut Stack<'p>,
 ) -> Result<Focus<'p>, EvalFault>
     requires { made_in stack.old ≡ [] }
-    ensures { (h : Held) (s : State) (o : Outcome Solid) → o ≡ and_then (chosen (below_of h) w.now (env_in h)
-        (along_in h) (items scope.now.items) (datum_in which.entry) s) (listed (rest stack.old) h)
-        → Starts o result stack.new h s }
+    ensures goes { (h : Held) (s : State) → Starts (and_then (chosen (below_of h) w.now (env_in h) (along_in h)
+        (items scope.now.items) (datum_in which.entry) s) (listed (rest stack.old) h)) result stack.new h s }
+    ensures memory { IfErr result (λ e. e ≡ Memory) }
 {
     match which {
         Some(value) => {
@@ -91,15 +93,17 @@ fn chosen<'p>(
 }
 
 /// The child that the next value names is run, and then those that further values name.
+#[tactic(auto, using(crate::proofs::Onward::named_children), unfolding(crate::specs::Stack::goes_on))]
 pub(crate) fn children_by<'p>(
     scope: &'p Scope,
     more: Remainder,
     w: &Where,
     stack: &mut Stack<'p>,
 ) -> Result<Focus<'p>, EvalFault>
-    ensures { (h : Held) (s : State) (o : Outcome Solid) → o ≡ and_then (children_by (below_of h) w.now (env_in h)
-        (along_in h) (items scope.now.items) (left_in more) (made_in stack.old) s) (listed (rest stack.old) h)
-        → Starts o result stack.new h s }
+    ensures goes { (h : Held) (s : State) → Starts (and_then (children_by (below_of h) w.now (env_in h) (along_in h)
+        (items scope.now.items) (left_in more) (made_in stack.old) s) (listed (rest stack.old) h)) result stack.new h
+        s }
+    ensures memory { IfErr result (λ e. e ≡ Memory) }
 {
     match next_child(scope, more) {
         Some((Some(item), more)) => member(item, Focus::Children(scope, more, *w), w, stack),

@@ -1,8 +1,9 @@
 //! The statements of a scope, and the tree of an operation over them.
 
-ghost use Rattle.std.specs.Prelude.{◌≡◌, drop};
+ghost use Rattle.std.specs.Prelude.{◌≡◌, drop, IfErr};
 ghost use Rattle.scad_ast.specs.Scope.{item_of, items};
 ghost use Rattle.scad_tree.specs.Solid.{Solid};
+ghost use Rattle.scad_expr.specs.declared.fault.EvalFault.TheVariants.{Memory};
 ghost use Rattle.scad_expr.specs.Machine.{Held, held, env_in, along_in, state_of};
 ghost use Rattle.scad_expr.specs.State.{State, Outcome, and_then};
 ghost use Rattle.scad_inst.specs.Frames.{below_of};
@@ -26,15 +27,17 @@ use scad_fault::Place;
 use scad_tree::Tree;
 
 /// An item is run where it is a statement, and then what comes behind it.
+#[tactic(auto, using(crate::proofs::Onward::items_run))]
 pub(crate) fn member<'p>(
     item: &'p Item,
     behind: Focus<'p>,
     w: &Where,
     stack: &mut Stack<'p>,
 ) -> Result<Focus<'p>, EvalFault>
-    ensures { (h : Held) (s : State) (o : Outcome Solid) → o ≡ and_then (member (below_of h) w.now (env_in h)
+    ensures goes { (h : Held) (s : State) (o : Outcome Solid) → o ≡ and_then (member (below_of h) w.now (env_in h)
         (along_in h) (item_of item.now) (made_in stack.old) s) (goes_on behind.entry (rest stack.old) h)
         → Starts o result stack.new h s }
+    ensures memory { IfErr result (λ e. e ≡ Memory) }
 {
     if !is_statement(item) {
         return Ok(behind);
@@ -45,15 +48,17 @@ pub(crate) fn member<'p>(
 }
 
 /// The items of a scope from a number on.
+#[tactic(auto, using(crate::proofs::Onward::scope_items), unfolding(crate::specs::Stack::goes_on))]
 pub(crate) fn members<'p>(
     scope: &'p Scope,
     next: usize,
     w: &Where,
     stack: &mut Stack<'p>,
 ) -> Result<Focus<'p>, EvalFault>
-    ensures { (h : Held) (s : State) (o : Outcome Solid) → o ≡ and_then (members_from (below_of h) w.now (env_in h)
-        (along_in h) (items (drop next scope.now.items)) (made_in stack.old) s) (listed (rest stack.old) h)
-        → Starts o result stack.new h s }
+    ensures goes { (h : Held) (s : State) → Starts (and_then (members_from (below_of h) w.now (env_in h)
+        (along_in h) (items (drop next scope.now.items)) (made_in stack.old) s) (listed (rest stack.old) h)) result
+        stack.new h s }
+    ensures memory { IfErr result (λ e. e ≡ Memory) }
 {
     if next >= scope.len() {
         return Ok(Focus::Given(Tree::empty()));
@@ -63,6 +68,7 @@ pub(crate) fn members<'p>(
 
 /// The tree of an operation over the statements of a scope, which is opened inside the frame from which names are
 /// sought.
+#[tactic(auto, using(crate::proofs::Onward::nodes), unfolding(crate::specs::Meaning::combined, crate::specs::Meaning::members))]
 pub(crate) fn combined<'p>(
     operation: Operation,
     at: Place,

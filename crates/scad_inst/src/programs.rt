@@ -2,7 +2,7 @@
 
 ghost use Rattle.std.specs.Prelude.{◌≡◌, ◌≤◌, ◌∷◌, [], pos, false, unsigned_abs, codes, IfOk, IfErr};
 ghost use Rattle.scad_num.specs.Number.{most};
-ghost use Rattle.scad_ast.specs.Scope.{program_of};
+ghost use Rattle.scad_ast.specs.Scope.{items, program_of};
 ghost use Rattle.scad_tree.specs.Solid.{Solid};
 ghost use Rattle.scad_tree.specs.View.{solid_of};
 ghost use Rattle.scad_expr.specs.Answers.{Does};
@@ -25,7 +25,7 @@ use crate::scopes::open_scope;
 use crate::space::at_first;
 use crate::stack::Stack;
 use crate::work::Focus;
-use scad_ast::Program;
+use scad_ast::{Program, Scope};
 use scad_expr::{DEPTH_LIMIT, EvalFault, Machine, STEP_LIMIT};
 use scad_fault::Text;
 use scad_num::Num;
@@ -106,16 +106,16 @@ pub(crate) fn first_machine<'p>(alloc: Global) -> Result<Machine<'p>, EvalFault>
 
 /// The tree of a program, in the frames before it: the frames of its scope are opened, and nothing waits for the
 /// trees of its statements.
-fn tree_of<'p>(alloc: Global, program: &'p Program, m: &mut Machine<'p>) -> Result<Tree, EvalFault>
+fn tree_of<'p>(alloc: Global, scope: &'p Scope, m: &mut Machine<'p>) -> Result<Tree, EvalFault>
     requires env { env_in (held m.old) ≡ first_env }
     requires along { along_in (held m.old) ≡ first_along }
     requires depth { (held m.old).depth ≡ depth_limit }
-    ensures { Does solid_of (outcome_of (program_of program.now) (state_of m.old)) result (state_of m.new) }
+    ensures { Does solid_of (outcome_of (items scope.now.items) (state_of m.old)) result (state_of m.new) }
 {
     let home = here(m);
-    let _back = open_scope(alloc, home, &program.scope, m)?;
+    open_scope(alloc, home, scope, m)?;
     let mut stack = Stack::new(alloc);
-    run(Focus::Members(&program.scope, 0, at_first()), &mut stack, m)
+    run(Focus::Members(scope, 0, at_first()), &mut stack, m)
 }
 
 /// What a machine gives that made a tree or not.
@@ -140,7 +140,7 @@ fn made_in<'p>(alloc: Global, program: &'p Program, m: Machine<'p>) -> Result<Mo
     ensures { Makes (means (program_of program.now)) result }
 {
     let mut machine = m;
-    let tree = tree_of(alloc, program, &mut machine);
+    let tree = tree_of(alloc, &program.scope, &mut machine);
     answer(tree, echoes_of(machine))
 }
 

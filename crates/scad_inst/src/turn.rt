@@ -1,8 +1,10 @@
 //! `for`, `intersection_for` and `let`.
 
-ghost use Rattle.std.specs.Prelude.{◌≡◌, drop};
+ghost use Rattle.std.specs.Prelude.{◌≡◌, ◌<◌, ◌+◌, ◌∷◌, Some, drop, length};
 ghost use Rattle.scad_ast.specs.Scope.{items};
-ghost use Rattle.scad_ast.specs.View.{arguments};
+ghost use Rattle.scad_ast.specs.Tree.{no_arguments, argument};
+ghost use Rattle.scad_ast.specs.View.{arguments, expression_of};
+ghost use Rattle.scad_value.specs.View.{datum_of};
 ghost use Rattle.scad_tree.specs.Solid.{Solid};
 ghost use Rattle.scad_expr.specs.Machine.{held, env_in, along_in, state_of};
 ghost use Rattle.scad_expr.specs.State.{Outcome};
@@ -18,8 +20,10 @@ use crate::remainder::{Remainder, next_value, run_over};
 use crate::space::Where;
 use crate::stack::Stack;
 use crate::work::{Focus, Frame};
+use scad_ast::{Arg, Expr};
 use scad_expr::{EvalFault, Machine, eval, judge_named, judge_variables};
 use scad_tree::Tree;
+use scad_value::Value;
 
 /// `for` and `intersection_for`.
 #[tactic(auto, using(crate::proofs::Onward::nodes), unfolding(crate::specs::Meaning::looped, crate::specs::Stack::onto, crate::specs::Stack::goes_on))]
@@ -58,8 +62,8 @@ pub(crate) fn let_in<'p>(
     combined(Operation::Unite, call.at, call.all, w, stack, m)
 }
 
-/// The variables of a `for` from that of a number on. Where none is left, the children are run as one scope, and
-/// their tree is a member.
+/// The variables of a `for` from that of a number on.
+#[tactic(auto, using(scad_value::proofs::Lists::lists))]
 pub(crate) fn variables<'p>(
     call: Call<'p>,
     next: usize,
@@ -67,33 +71,77 @@ pub(crate) fn variables<'p>(
     stack: &mut Stack<'p>,
     m: &mut Machine<'p>,
 ) -> Result<Focus<'p>, EvalFault>
-    ensures { (o : Outcome Solid) → o ≡ onward_listed (for_variables (below_of (held m.old)) call.at w.now
+    ensures { Goes (onward_listed (for_variables (below_of (held m.old)) call.at w.now
         (arguments (drop next call.args.now.items)) (items call.all.now.items) (env_in (held m.old))
-        (along_in (held m.old)) (made_in stack.old) (state_of m.old)) stack.old m.old
-        → Goes o result stack.new m.new }
+        (along_in (held m.old)) (made_in stack.old) (state_of m.old)) stack.old m.old) result stack.new
+        m.new }
 {
     if next >= call.args.len() {
-        stack.push(Frame::Member(false))?;
-        return combined(Operation::Unite, call.at, call.all, w, stack, m);
+        return innermost(call, w, stack, m);
     }
-    let first = &call.args[next];
+    variable(call, next, &call.args[next], w, stack, m)
+}
+
+/// In a turn of all variables the children are run as one scope, and their tree is a member.
+fn innermost<'p>(
+    call: Call<'p>,
+    w: &Where,
+    stack: &mut Stack<'p>,
+    m: &mut Machine<'p>,
+) -> Result<Focus<'p>, EvalFault>
+    ensures { (o : Outcome Solid) → o ≡ onward_listed (for_variables (below_of (held m.old)) call.at w.now
+        no_arguments (items call.all.now.items) (env_in (held m.old)) (along_in (held m.old)) (made_in stack.old)
+        (state_of m.old)) stack.old m.old → Goes o result stack.new m.new }
+{
+    stack.push(Frame::Member(false))?;
+    combined(Operation::Unite, call.at, call.all, w, stack, m)
+}
+
+/// The variable that an argument names, which is outside of those behind it.
+fn variable<'p>(
+    call: Call<'p>,
+    at: usize,
+    first: &'p Arg,
+    w: &Where,
+    stack: &mut Stack<'p>,
+    m: &mut Machine<'p>,
+) -> Result<Focus<'p>, EvalFault>
+    requires { at < length call.args.now.items }
+    ensures { (o : Outcome Solid) → o ≡ onward_listed (for_variables (below_of (held m.old)) call.at w.now
+        (argument first.now.name (expression_of first.now.value) (arguments (drop (at + 1) call.args.now.items)))
+        (items call.all.now.items) (env_in (held m.old)) (along_in (held m.old)) (made_in stack.old)
+        (state_of m.old)) stack.old m.old → Goes o result stack.new m.new }
+{
+    let next = at + 1;
     match &first.name {
         Some(name) => {
-            let over = eval(stack.alloc, &first.value, m)?;
-            let more = run_over(stack.alloc, over)?;
-            let variable = Variable {
-                call,
-                name: name.as_slice(),
-                next: next + 1,
-            };
-            Ok(Focus::Turns(variable, more, *w))
+            let name = name.as_slice();
+            named(Variable { call, name, next }, &first.value, w, stack, m)
         }
-        None => Ok(Focus::Variables(call, next + 1, *w)),
+        None => Ok(Focus::Variables(call, next, *w)),
     }
 }
 
-/// The turns of a variable that are left: a step at the `for`, and then the variables behind it, with the name set
-/// in a frame of its own.
+/// What a variable runs over is evaluated.
+fn named<'p>(
+    variable: Variable<'p>,
+    value: &'p Expr,
+    w: &Where,
+    stack: &mut Stack<'p>,
+    m: &mut Machine<'p>,
+) -> Result<Focus<'p>, EvalFault>
+    ensures { (o : Outcome Solid) → o ≡ onward_listed (for_variables (below_of (held m.old)) variable.call.at w.now
+        (argument (Some variable.name.now) (expression_of value.now) (arguments (drop variable.next variable.call.args.now.items)))
+        (items variable.call.all.now.items) (env_in (held m.old)) (along_in (held m.old)) (made_in stack.old)
+        (state_of m.old)) stack.old m.old → Goes o result stack.new m.new }
+{
+    let over = eval(stack.alloc, value, m)?;
+    let more = run_over(stack.alloc, over)?;
+    Ok(Focus::Turns(variable, more, *w))
+}
+
+/// The turns of a variable that are left.
+#[tactic(auto, using(crate::proofs::Onward::turned), unfolding(crate::specs::Stack::goes_on))]
 pub(crate) fn turns<'p>(
     variable: Variable<'p>,
     more: Remainder,
@@ -101,20 +149,37 @@ pub(crate) fn turns<'p>(
     stack: &mut Stack<'p>,
     m: &mut Machine<'p>,
 ) -> Result<Focus<'p>, EvalFault>
-    ensures { (o : Outcome Solid) → o ≡ onward_listed (turns (below_of (held m.old)) variable.call.at
-        variable.name.now (for_variables (below_of (held m.old)) variable.call.at w.now
-        (arguments (drop variable.next variable.call.args.now.items)) (items variable.call.all.now.items))
-        (env_in (held m.old)) (along_in (held m.old)) (left_in more) (made_in stack.old) (state_of m.old)) stack.old
-        m.old → Goes o result stack.new m.new }
+    ensures { Goes (onward_listed (turns (below_of (held m.old)) variable.call.at variable.name.now
+        (for_variables (below_of (held m.old)) variable.call.at w.now (arguments (drop variable.next variable.call.args.now.items))
+        (items variable.call.all.now.items)) (env_in (held m.old)) (along_in (held m.old)) (left_in more)
+        (made_in stack.old) (state_of m.old)) stack.old m.old) result stack.new m.new }
 {
     match next_value(stack.alloc, more)? {
-        Some((value, more)) => {
-            m.step(variable.call.at)?;
-            stack.push(Frame::Then(Focus::Turns(variable, more, *w)))?;
-            let back = m.open_with(variable.name, value)?;
-            stack.push(Frame::Leave(back))?;
-            Ok(Focus::Variables(variable.call, variable.next, *w))
-        }
+        Some((value, more)) => turn(variable, value, more, w, stack, m),
         None => Ok(Focus::Given(Tree::empty())),
     }
+}
+
+/// A turn of a variable: a step at the `for`, and then the variables behind it, with the name set in a frame of its
+/// own.
+#[tactic(auto, using(crate::proofs::Onward::nodes))]
+fn turn<'p>(
+    variable: Variable<'p>,
+    value: Value,
+    more: Remainder,
+    w: &Where,
+    stack: &mut Stack<'p>,
+    m: &mut Machine<'p>,
+) -> Result<Focus<'p>, EvalFault>
+    ensures { (o : Outcome Solid) → o ≡ onward_listed (turns (below_of (held m.old)) variable.call.at variable.name.now
+        (for_variables (below_of (held m.old)) variable.call.at w.now (arguments (drop variable.next variable.call.args.now.items))
+        (items variable.call.all.now.items)) (env_in (held m.old)) (along_in (held m.old))
+        (datum_of value ∷ left_in more) (made_in stack.old) (state_of m.old)) stack.old m.old
+        → Goes o result stack.new m.new }
+{
+    m.step(variable.call.at)?;
+    stack.push(Frame::Then(Focus::Turns(variable, more, *w)))?;
+    let back = m.open_with(variable.name, value)?;
+    stack.push(Frame::Leave(back))?;
+    Ok(Focus::Variables(variable.call, variable.next, *w))
 }

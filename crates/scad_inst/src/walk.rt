@@ -30,23 +30,23 @@ use scad_value::truth;
 
 /// A statement takes a step as it begins, with the levels of depth that the machine has left for it, and what it
 /// holds or calls stands one deeper.
-#[tactic(auto, unfolding(scad_expr::specs::State::over))]
+#[tactic(auto, using(crate::proofs::Levels::levels), unfolding(scad_expr::specs::State::over))]
 pub(crate) fn statement<'p>(
     item: &'p Item,
     w: &Where,
     stack: &mut Stack<'p>,
     m: &mut Machine<'p>,
 ) -> Result<Focus<'p>, EvalFault>
-    ensures { (o : Outcome Solid) → o ≡ onward ((below_of (held m.old)).statement w.now (env_in (held m.old))
-        (along_in (held m.old)) (item_of item.now) (state_of m.old)) stack.old m.old
-        → Goes o result stack.new m.new }
+    ensures { Goes (onward ((below_of (held m.old)).statement w.now (env_in (held m.old)) (along_in (held m.old))
+        (item_of item.now) (state_of m.old)) stack.old m.old) result stack.new m.new }
 {
+    let at = item_place(item);
     let depth = depth(m);
     if depth == 0 {
-        return Err(over(BudgetKind::Depth, item_place(item)));
+        return Err(over(BudgetKind::Depth, at));
     }
-    m.step(item_place(item))?;
     go_deeper(m);
+    m.step(at)?;
     stack.push(Frame::Mark(is_marked(item), depth))?;
     node(item, w, stack, m)
 }
@@ -134,20 +134,20 @@ struct Choice<'p> {
 /// The test, and then the chosen statements as one scope.
 #[tactic(auto, using(crate::proofs::Levels::expressions, crate::proofs::Onward::nodes), unfolding(crate::specs::Meaning::node))]
 fn choose<'p>(
-    of: Choice<'p>,
+    branch: Choice<'p>,
     w: &Where,
     stack: &mut Stack<'p>,
     m: &mut Machine<'p>,
 ) -> Result<Focus<'p>, EvalFault>
     ensures { (percent hash : Bool) (o : Outcome Solid) → o ≡ onward (node (below_of (held m.old)) w.now
-        (env_in (held m.old)) (along_in (held m.old)) (choice of.at percent hash (expression_of of.test.now)
-        (items of.held.now.items) (items of.other.now.items)) (state_of m.old)) stack.old m.old
+        (env_in (held m.old)) (along_in (held m.old)) (choice branch.at percent hash (expression_of branch.test.now)
+        (items branch.held.now.items) (items branch.other.now.items)) (state_of m.old)) stack.old m.old
         → Goes o result stack.new m.new }
 {
-    let d = eval(stack.alloc, of.test, m)?;
+    let d = eval(stack.alloc, branch.test, m)?;
     if truth(&d) {
-        combined(Operation::Unite, of.at, of.held, w, stack, m)
+        combined(Operation::Unite, branch.at, branch.held, w, stack, m)
     } else {
-        combined(Operation::Unite, of.at, of.other, w, stack, m)
+        combined(Operation::Unite, branch.at, branch.other, w, stack, m)
     }
 }

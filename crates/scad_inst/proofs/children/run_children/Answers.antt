@@ -17,11 +17,11 @@ chosen-requires c = c.in_ok-push-2.ensures.made ∙ c.in_ok-push.ensures.made �
 
 pub returns : goal.returns
 returns c = λ o is.
-    c.chosen.ensures (held c.open_scope.new.m) (state_of c.open_scope.new.m) o
-    (is ∙ children-begin c.args.at c.args.w.now (items c.args.kept.scope.now.items)
+    is ∙ children-begin c.args.at c.args.w.now (items c.args.kept.scope.now.items)
     (env_at (envs (held c.args.m.now).frames) c.args.kept.home) (datum_in c.args.which) c.exchange-outer.result
     c.in_ok-back.back (held c.args.m.now) (held c.open_scope.new.m) (rest c.args.stack.now) (rest c.push-2.new.self)
     (made_in c.args.stack.now) (state_of c.args.m.now) (state_of c.open_scope.new.m) c.in_ok-back.ensures.does
     c.in_ok-back.ensures.back c.exchange-outer.ensures.before
     (c.in_ok-push-2.ensures.rest ∙ ap (onto (Leave c.in_ok-back.back)) (c.in_ok-push.ensures.rest
-    ∙ ap (onto (Combine Unite c.args.at c.exchange-outer.result)) c.exchange-outer.ensures.rest)))
+    ∙ ap (onto (Combine Unite c.args.at c.exchange-outer.result)) c.exchange-outer.ensures.rest))
+    ∙ c.in_ok-chosen.ensures.goes (held c.open_scope.new.m) (state_of c.open_scope.new.m)
