@@ -35,7 +35,7 @@ use Rattle.scad_inst.specs.declared.space.Where.{Where}
 use Rattle.scad_inst.specs.declared.work.Frame.{Frame}
 use Rattle.scad_inst.specs.declared.work.Frame.TheVariants.{Mark, Member, Then, Combine, Leave}
 use Rattle.scad_inst.specs.declared.work.Focus.{Focus}
-use Rattle.scad_inst.specs.declared.work.Focus.TheVariants.{Statement, Members, Children, Variables, Turns}
+use Rattle.scad_inst.specs.declared.work.Focus.TheVariants.{Members, Variables, Turns}
 use Rattle.scad_inst.specs.Chosen.{child_named}
 use Rattle.scad_inst.specs.Frames.{below_of, with_depth}
 use Rattle.scad_inst.specs.Made.{judged}
@@ -111,49 +111,29 @@ module _ (h : Held) (w : Where) (scope : Bor (Vec Item Global)) (n : ℕ) (k : R
       (listed k h)) (drop_all {X = Item} n scope.now.items past)
 
 -- ---- children that values name
-module _ (h : Held) (w : Where) (scope : Bor (Vec Item Global)) (ds : List Datum) (k : Rest) (ss : List Solid) (s : State) where
-  pub children-next : (d : Datum) (i : TreeItem) (more : Remainder) → ds ≡ d ∷ left_in more
-      → Some i ≡ child_named (items scope.now.items) d
-      → and_then (children_by (below_of h) w (env_in h) (along_in h) (items scope.now.items) ds ss s) (listed k h)
-      ≡ and_then (member (below_of h) w (env_in h) (along_in h) i ss s) (goes_on (Children scope more w) k h)
-  unfolding children_by child goes_on
-  children-next d i more are named =
-      let below = below_of h in
-      let behind : List Solid → Action (List Solid) =
-      children_by below w (env_in h) (along_in h) (items scope.now.items) (left_in more) in
-      ap (λ (l : List Datum). and_then (children_by below w (env_in h) (along_in h) (items scope.now.items) l ss s)
-      (listed k h)) are
-      ∙ ap (λ (o : Option TreeItem). and_then (and_then (child below w (env_in h) (along_in h) o ss s) behind)
-      (listed k h)) (sym named)
-      ∙ twice (member below w (env_in h) (along_in h) i ss s) behind (listed k h)
+module _ (h : Held) (w : Where) (scope : Items) (ds : List Datum) (k : Rest) (ss : List Solid) (s : State) where
+  pub children-next : (d : Datum) (o : Option TreeItem) (others : List Datum) → ds ≡ d ∷ others
+      → o ≡ child_named scope d
+      → and_then (children_by (below_of h) w (env_in h) (along_in h) scope ds ss s) (listed k h)
+      ≡ and_then (and_then (child (below_of h) w (env_in h) (along_in h) o ss s)
+      (children_by (below_of h) w (env_in h) (along_in h) scope others)) (listed k h)
+  unfolding children_by
+  children-next d o others are named =
+      ap (λ (l : List Datum). and_then (children_by (below_of h) w (env_in h) (along_in h) scope l ss s) (listed k h))
+      are
+      ∙ ap (λ (x : Option TreeItem). and_then (and_then (child (below_of h) w (env_in h) (along_in h) x ss s)
+      (children_by (below_of h) w (env_in h) (along_in h) scope others)) (listed k h)) (sym named)
 
-  pub children-pass : (d : Datum) (more : Remainder) → ds ≡ d ∷ left_in more
-      → None ≡ child_named (items scope.now.items) d
-      → and_then (children_by (below_of h) w (env_in h) (along_in h) (items scope.now.items) ds ss s) (listed k h)
-      ≡ goes_on (Children scope more w) k h ss s
-  unfolding children_by child goes_on
-  children-pass d more are named =
-      let below = below_of h in
-      let behind : List Solid → Action (List Solid) =
-      children_by below w (env_in h) (along_in h) (items scope.now.items) (left_in more) in
-      ap (λ (l : List Datum). and_then (children_by below w (env_in h) (along_in h) (items scope.now.items) l ss s)
-      (listed k h)) are
-      ∙ ap (λ (o : Option TreeItem). and_then (and_then (child below w (env_in h) (along_in h) o ss s) behind)
-      (listed k h)) (sym named)
-
-  pub children-end : ds ≡ []
-      → and_then (children_by (below_of h) w (env_in h) (along_in h) (items scope.now.items) ds ss s) (listed k h)
+  pub children-end : ds ≡ [] → and_then (children_by (below_of h) w (env_in h) (along_in h) scope ds ss s) (listed k h)
       ≡ listed k h ss s
   unfolding children_by
   children-end are =
-      ap (λ (l : List Datum). and_then (children_by (below_of h) w (env_in h) (along_in h) (items scope.now.items) l ss
-      s) (listed k h)) are
+      ap (λ (l : List Datum). and_then (children_by (below_of h) w (env_in h) (along_in h) scope l ss s) (listed k h))
+      are
 
 pub ruleset items_run = (item-runs, item-passes)
 
 pub ruleset scope_items = (members-next, members-end)
-
-pub ruleset named_children = (children-next, children-pass, children-end)
 
 -- ---- a statement
 pub statement-begins : (marked : Bool) (depth : ℕ) (w : Where) (i : TreeItem) (h h1 h2 : Held) (k k2 : Rest)

@@ -1,7 +1,7 @@
 //! `children`.
 
-ghost use Rattle.std.specs.Prelude.{◌≡◌, [], IfErr};
-ghost use Rattle.scad_ast.specs.Scope.{items};
+ghost use Rattle.std.specs.Prelude.{◌≡◌, [], IfErr, option_map};
+ghost use Rattle.scad_ast.specs.Scope.{item_of, items};
 ghost use Rattle.scad_tree.specs.Solid.{Solid};
 ghost use Rattle.scad_scope.specs.Env.{children};
 ghost use Rattle.scad_scope.specs.Stored.{env_at, envs};
@@ -10,7 +10,7 @@ ghost use Rattle.scad_expr.specs.declared.fault.EvalFault.TheVariants.{Memory};
 ghost use Rattle.scad_expr.specs.Machine.{Held, held, env_in, along_in, state_of};
 ghost use Rattle.scad_expr.specs.State.{State, Outcome, and_then};
 ghost use Rattle.scad_inst.specs.Frames.{below_of};
-ghost use Rattle.scad_inst.specs.Meaning.{children_by, chosen, run_children};
+ghost use Rattle.scad_inst.specs.Meaning.{child, children_by, chosen, run_children};
 ghost use Rattle.scad_inst.specs.Modules.{kept_children};
 ghost use Rattle.scad_inst.specs.Stack.{Goes, Starts, rest, made_in, left_in, listed, onward};
 
@@ -22,7 +22,7 @@ use crate::scopes::open_scope;
 use crate::space::Where;
 use crate::stack::Stack;
 use crate::work::{Focus, Frame};
-use scad_ast::Scope;
+use scad_ast::{Item, Scope};
 use scad_expr::{EvalFault, Machine};
 use scad_fault::Place;
 use scad_scope::Kept;
@@ -92,8 +92,8 @@ fn chosen<'p>(
     }
 }
 
-/// The child that the next value names is run, and then those that further values name.
-#[tactic(auto, using(crate::proofs::Onward::named_children), unfolding(crate::specs::Stack::goes_on))]
+/// The child that the next value names, and then those that further values name.
+#[tactic(auto, unfolding(crate::specs::Stack::goes_on))]
 pub(crate) fn children_by<'p>(
     scope: &'p Scope,
     more: Remainder,
@@ -106,8 +106,28 @@ pub(crate) fn children_by<'p>(
     ensures memory { IfErr result (λ e. e ≡ Memory) }
 {
     match next_child(scope, more) {
-        Some((Some(item), more)) => member(item, Focus::Children(scope, more, *w), w, stack),
-        Some((None, more)) => Ok(Focus::Children(scope, more, *w)),
+        Some((named, others)) => child(scope, named, others, w, stack),
         None => Ok(Focus::Given(Tree::empty())),
+    }
+}
+
+/// A child that is named is run, and then those that further values name.
+#[tactic(auto, using(crate::proofs::Onward::nodes), unfolding(crate::specs::Meaning::child, crate::specs::Stack::goes_on))]
+fn child<'p>(
+    scope: &'p Scope,
+    named: Option<&'p Item>,
+    others: Remainder,
+    w: &Where,
+    stack: &mut Stack<'p>,
+) -> Result<Focus<'p>, EvalFault>
+    ensures goes { (h : Held) (s : State) (o : Outcome Solid) → o ≡ and_then (and_then (child (below_of h) w.now
+        (env_in h) (along_in h) (option_map (λ i. item_of i.now) named.entry) (made_in stack.old) s)
+        (children_by (below_of h) w.now (env_in h) (along_in h) (items scope.now.items) (left_in others)))
+        (listed (rest stack.old) h) → Starts o result stack.new h s }
+    ensures memory { IfErr result (λ e. e ≡ Memory) }
+{
+    match named {
+        Some(item) => member(item, Focus::Children(scope, others, *w), w, stack),
+        None => Ok(Focus::Children(scope, others, *w)),
     }
 }

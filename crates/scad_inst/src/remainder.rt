@@ -61,11 +61,7 @@ pub(crate) fn next_value(
 
 /// Values that name the children that the items of a value name. Those of a range are sought where children can be.
 #[tactic(auto, unfolding(crate::specs::Stack::left_in))]
-pub(crate) fn naming(
-    alloc: Global,
-    scope: &Scope,
-    value: &Value,
-) -> Result<Remainder, AllocError>
+pub(crate) fn naming(alloc: Global, scope: &Scope, value: &Value) -> Result<Remainder, AllocError>
     ensures { IfOk result (λ r. NameAlike (items scope.now.items) (left_in r) (run_over (datum_of value.now))) }
 {
     match value {
