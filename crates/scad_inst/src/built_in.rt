@@ -53,9 +53,10 @@ pub(crate) fn built_in<'p>(
     stack: &mut Stack<'p>,
     m: &mut Machine<'p>,
 ) -> Result<Focus<'p>, EvalFault>
-    ensures { (o : Outcome Solid) → o ≡ onward (built_in (below_of (held m.old)) known call.at call.name.now w.now
-        (env_in (held m.old)) (along_in (held m.old)) (arguments call.args.now.items) (data_of found.now)
-        (items call.all.now.items) (state_of m.old)) stack.old m.old → Goes o result stack.new m.new }
+    ensures { (o : Outcome Solid) → o ≡ onward (built_in (below_of (held m.old)) known call.entry.at
+        call.entry.name.now w.now (env_in (held m.old)) (along_in (held m.old)) (arguments
+        call.entry.args.now.items) (data_of found.now) (items call.entry.all.now.items) (state_of
+        m.old)) stack.old m.old → Goes o result stack.new m.new }
 {
     let alloc = stack.alloc;
     match known {
@@ -77,8 +78,8 @@ pub(crate) fn built_in<'p>(
 
 /// `$fn`, `$fa` and `$fs`.
 fn fineness(alloc: Global, m: &Machine) -> Result<Fineness, EvalFault>
-    ensures { Does fine_at (gives (fineness (env_in (held m.now)) (along_in (held m.now))) (state_of m.now)) result
-        (state_of m.now) }
+    ensures { Does fine_at (gives (fineness (env_in (held m.now)) (along_in (held m.now))) (state_of
+        m.now)) result (state_of m.now) }
 {
     let fn_ = m.variable(alloc, b"$fn")?;
     let fa = m.variable(alloc, b"$fa")?;
@@ -120,9 +121,9 @@ fn primitive<'p>(
     w: &Where,
     m: &mut Machine<'p>,
 ) -> Result<Tree, EvalFault>
-    ensures does { Does solid_of (primitive_made shape call.at call.name.now w.now (env_in (held m.old))
-        (along_in (held m.old)) (arguments call.args.now.items) (data_of found.now) (state_of m.old)) result
-        (state_of m.new) }
+    ensures does { Does solid_of (primitive_made shape call.entry.at call.entry.name.now w.now
+        (env_in (held m.old)) (along_in (held m.old)) (arguments call.entry.args.now.items) (data_of
+        found.now) (state_of m.old)) result (state_of m.new) }
     ensures kept { OnOk result (held m.new ≡ held m.old) }
 {
     judge_solid(alloc, call.at, w.space)?;
@@ -146,9 +147,9 @@ fn flat_shape<'p>(
     w: &Where,
     m: &mut Machine<'p>,
 ) -> Result<Tree, EvalFault>
-    ensures does { Does solid_of (flat_made flat call.at call.name.now w.now (env_in (held m.old))
-        (along_in (held m.old)) (arguments call.args.now.items) (data_of found.now) (state_of m.old)) result
-        (state_of m.new) }
+    ensures does { Does solid_of (flat_made flat call.entry.at call.entry.name.now w.now (env_in
+        (held m.old)) (along_in (held m.old)) (arguments call.entry.args.now.items) (data_of
+        found.now) (state_of m.old)) result (state_of m.new) }
     ensures kept { OnOk result (held m.new ≡ held m.old) }
 {
     judge_flat(alloc, call.at, w.space)?;
@@ -172,10 +173,10 @@ fn linear_extrude<'p>(
     stack: &mut Stack<'p>,
     m: &mut Machine<'p>,
 ) -> Result<Focus<'p>, EvalFault>
-    ensures { (o : Outcome Solid) → o ≡ onward (built_in (below_of (held m.old)) (IsExtrusion IsLinear) call.at
-        call.name.now w.now (env_in (held m.old)) (along_in (held m.old)) (arguments call.args.now.items)
-        (data_of found.now) (items call.all.now.items) (state_of m.old)) stack.old m.old
-        → Goes o result stack.new m.new }
+    ensures { (o : Outcome Solid) → o ≡ onward (built_in (below_of (held m.old)) (IsExtrusion
+        IsLinear) call.entry.at call.entry.name.now w.now (env_in (held m.old)) (along_in (held
+        m.old)) (arguments call.entry.args.now.items) (data_of found.now) (items
+        call.entry.all.now.items) (state_of m.old)) stack.old m.old → Goes o result stack.new m.new }
 {
     judge_solid(stack.alloc, call.at, w.space)?;
     let height = height_argued(stack.alloc, call.at, call.name, linear_by(call.args, found))?;
@@ -192,10 +193,10 @@ fn rotate_extrude<'p>(
     stack: &mut Stack<'p>,
     m: &mut Machine<'p>,
 ) -> Result<Focus<'p>, EvalFault>
-    ensures { (o : Outcome Solid) → o ≡ onward (built_in (below_of (held m.old)) (IsExtrusion IsRotate) call.at
-        call.name.now w.now (env_in (held m.old)) (along_in (held m.old)) (arguments call.args.now.items)
-        (data_of found.now) (items call.all.now.items) (state_of m.old)) stack.old m.old
-        → Goes o result stack.new m.new }
+    ensures { (o : Outcome Solid) → o ≡ onward (built_in (below_of (held m.old)) (IsExtrusion
+        IsRotate) call.entry.at call.entry.name.now w.now (env_in (held m.old)) (along_in (held
+        m.old)) (arguments call.entry.args.now.items) (data_of found.now) (items
+        call.entry.all.now.items) (state_of m.old)) stack.old m.old → Goes o result stack.new m.new }
 {
     let alloc = stack.alloc;
     judge_solid(alloc, call.at, w.space)?;
@@ -219,10 +220,10 @@ fn transformed<'p>(
     stack: &mut Stack<'p>,
     m: &mut Machine<'p>,
 ) -> Result<Focus<'p>, EvalFault>
-    ensures { (o : Outcome Solid) → o ≡ onward (built_in (below_of (held m.old)) (IsTransform transform) call.at
-        call.name.now w.now (env_in (held m.old)) (along_in (held m.old)) (arguments call.args.now.items)
-        (data_of found.now) (items call.all.now.items) (state_of m.old)) stack.old m.old
-        → Goes o result stack.new m.new }
+    ensures { (o : Outcome Solid) → o ≡ onward (built_in (below_of (held m.old)) (IsTransform
+        transform) call.entry.at call.entry.name.now w.now (env_in (held m.old)) (along_in (held
+        m.old)) (arguments call.entry.args.now.items) (data_of found.now) (items
+        call.entry.all.now.items) (state_of m.old)) stack.old m.old → Goes o result stack.new m.new }
 {
     let read = matrix_of(transform, call.args, found);
     let by = matrix_argued(stack.alloc, call.at, call.name, read)?;
@@ -239,10 +240,10 @@ fn echo<'p>(
     stack: &mut Stack<'p>,
     m: &mut Machine<'p>,
 ) -> Result<Focus<'p>, EvalFault>
-    ensures { (o : Outcome Solid) → o ≡ onward (built_in (below_of (held m.old)) IsEcho call.at
-        call.name.now w.now (env_in (held m.old)) (along_in (held m.old)) (arguments call.args.now.items)
-        (data_of found.now) (items call.all.now.items) (state_of m.old)) stack.old m.old
-        → Goes o result stack.new m.new }
+    ensures { (o : Outcome Solid) → o ≡ onward (built_in (below_of (held m.old)) IsEcho
+        call.entry.at call.entry.name.now w.now (env_in (held m.old)) (along_in (held m.old))
+        (arguments call.entry.args.now.items) (data_of found.now) (items call.entry.all.now.items)
+        (state_of m.old)) stack.old m.old → Goes o result stack.new m.new }
 {
     m.echo(stack.alloc, call.at, call.args, found)?;
     combined(Operation::Unite, call.at, call.all, w, stack, m)
@@ -257,10 +258,10 @@ fn assert<'p>(
     stack: &mut Stack<'p>,
     m: &mut Machine<'p>,
 ) -> Result<Focus<'p>, EvalFault>
-    ensures { (o : Outcome Solid) → o ≡ onward (built_in (below_of (held m.old)) IsAssert call.at
-        call.name.now w.now (env_in (held m.old)) (along_in (held m.old)) (arguments call.args.now.items)
-        (data_of found.now) (items call.all.now.items) (state_of m.old)) stack.old m.old
-        → Goes o result stack.new m.new }
+    ensures { (o : Outcome Solid) → o ≡ onward (built_in (below_of (held m.old)) IsAssert
+        call.entry.at call.entry.name.now w.now (env_in (held m.old)) (along_in (held m.old))
+        (arguments call.entry.args.now.items) (data_of found.now) (items call.entry.all.now.items)
+        (state_of m.old)) stack.old m.old → Goes o result stack.new m.new }
 {
     asserted(stack.alloc, call.at, call.args, found)?;
     combined(Operation::Unite, call.at, call.all, w, stack, m)

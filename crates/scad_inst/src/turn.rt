@@ -34,9 +34,10 @@ pub(crate) fn looped<'p>(
     stack: &mut Stack<'p>,
     m: &mut Machine<'p>,
 ) -> Result<Focus<'p>, EvalFault>
-    ensures { (o : Outcome Solid) → o ≡ onward (looped (below_of (held m.old)) operation call.at call.name.now w.now
-        (env_in (held m.old)) (along_in (held m.old)) (arguments call.args.now.items) (items call.all.now.items)
-        (state_of m.old)) stack.old m.old → Goes o result stack.new m.new }
+    ensures { (o : Outcome Solid) → o ≡ onward (looped (below_of (held m.old)) operation
+        call.entry.at call.entry.name.now w.now (env_in (held m.old)) (along_in (held m.old))
+        (arguments call.entry.args.now.items) (items call.entry.all.now.items) (state_of m.old))
+        stack.old m.old → Goes o result stack.new m.new }
 {
     judge_variables(stack.alloc, call.at, call.name, call.args)?;
     let outer = stack.exchange(Vec::new(stack.alloc));
@@ -52,9 +53,9 @@ pub(crate) fn let_in<'p>(
     stack: &mut Stack<'p>,
     m: &mut Machine<'p>,
 ) -> Result<Focus<'p>, EvalFault>
-    ensures { (o : Outcome Solid) → o ≡ onward (let_in (below_of (held m.old)) call.at w.now (env_in (held m.old))
-        (along_in (held m.old)) (arguments call.args.now.items) (items call.all.now.items) (state_of m.old))
-        stack.old m.old → Goes o result stack.new m.new }
+    ensures { (o : Outcome Solid) → o ≡ onward (let_in (below_of (held m.old)) call.entry.at w.now
+        (env_in (held m.old)) (along_in (held m.old)) (arguments call.entry.args.now.items) (items
+        call.entry.all.now.items) (state_of m.old)) stack.old m.old → Goes o result stack.new m.new }
 {
     judge_named(stack.alloc, call.at, b"let", call.args)?;
     let back = open_names(stack.alloc, call.args, m)?;
@@ -71,10 +72,10 @@ pub(crate) fn variables<'p>(
     stack: &mut Stack<'p>,
     m: &mut Machine<'p>,
 ) -> Result<Focus<'p>, EvalFault>
-    ensures { Goes (onward_listed (for_variables (below_of (held m.old)) call.at w.now
-        (arguments (drop next call.args.now.items)) (items call.all.now.items) (env_in (held m.old))
-        (along_in (held m.old)) (made_in stack.old) (state_of m.old)) stack.old m.old) result stack.new
-        m.new }
+    ensures { Goes (onward_listed (for_variables (below_of (held m.old)) call.entry.at w.now
+        (arguments (drop next call.entry.args.now.items)) (items call.entry.all.now.items) (env_in
+        (held m.old)) (along_in (held m.old)) (made_in stack.old) (state_of m.old)) stack.old m.old)
+        result stack.new m.new }
 {
     if next >= call.args.len() {
         return innermost(call, w, stack, m);
@@ -89,9 +90,10 @@ fn innermost<'p>(
     stack: &mut Stack<'p>,
     m: &mut Machine<'p>,
 ) -> Result<Focus<'p>, EvalFault>
-    ensures { (o : Outcome Solid) → o ≡ onward_listed (for_variables (below_of (held m.old)) call.at w.now
-        no_arguments (items call.all.now.items) (env_in (held m.old)) (along_in (held m.old)) (made_in stack.old)
-        (state_of m.old)) stack.old m.old → Goes o result stack.new m.new }
+    ensures { (o : Outcome Solid) → o ≡ onward_listed (for_variables (below_of (held m.old))
+        call.entry.at w.now no_arguments (items call.entry.all.now.items) (env_in (held m.old))
+        (along_in (held m.old)) (made_in stack.old) (state_of m.old)) stack.old m.old → Goes o
+        result stack.new m.new }
 {
     stack.push(Frame::Member(false))?;
     combined(Operation::Unite, call.at, call.all, w, stack, m)
@@ -107,10 +109,11 @@ fn variable<'p>(
     m: &mut Machine<'p>,
 ) -> Result<Focus<'p>, EvalFault>
     requires { at < length call.args.now.items }
-    ensures { (o : Outcome Solid) → o ≡ onward_listed (for_variables (below_of (held m.old)) call.at w.now
-        (argument first.now.name (expression_of first.now.value) (arguments (drop (at + 1) call.args.now.items)))
-        (items call.all.now.items) (env_in (held m.old)) (along_in (held m.old)) (made_in stack.old)
-        (state_of m.old)) stack.old m.old → Goes o result stack.new m.new }
+    ensures { (o : Outcome Solid) → o ≡ onward_listed (for_variables (below_of (held m.old))
+        call.entry.at w.now (argument first.now.name (expression_of first.now.value) (arguments
+        (drop (at + 1) call.entry.args.now.items))) (items call.entry.all.now.items) (env_in (held
+        m.old)) (along_in (held m.old)) (made_in stack.old) (state_of m.old)) stack.old m.old → Goes
+        o result stack.new m.new }
 {
     let next = at + 1;
     match &first.name {
@@ -130,10 +133,11 @@ fn named<'p>(
     stack: &mut Stack<'p>,
     m: &mut Machine<'p>,
 ) -> Result<Focus<'p>, EvalFault>
-    ensures { (o : Outcome Solid) → o ≡ onward_listed (for_variables (below_of (held m.old)) variable.call.at w.now
-        (argument (Some variable.name.now) (expression_of value.now) (arguments (drop variable.next variable.call.args.now.items)))
-        (items variable.call.all.now.items) (env_in (held m.old)) (along_in (held m.old)) (made_in stack.old)
-        (state_of m.old)) stack.old m.old → Goes o result stack.new m.new }
+    ensures { (o : Outcome Solid) → o ≡ onward_listed (for_variables (below_of (held m.old))
+        variable.entry.call.at w.now (argument (Some variable.entry.name.now) (expression_of
+        value.now) (arguments (drop variable.entry.next variable.entry.call.args.now.items))) (items
+        variable.entry.call.all.now.items) (env_in (held m.old)) (along_in (held m.old)) (made_in
+        stack.old) (state_of m.old)) stack.old m.old → Goes o result stack.new m.new }
 {
     let over = eval(stack.alloc, value, m)?;
     let more = run_over(stack.alloc, over)?;
@@ -149,10 +153,11 @@ pub(crate) fn turns<'p>(
     stack: &mut Stack<'p>,
     m: &mut Machine<'p>,
 ) -> Result<Focus<'p>, EvalFault>
-    ensures { Goes (onward_listed (turns (below_of (held m.old)) variable.call.at variable.name.now
-        (for_variables (below_of (held m.old)) variable.call.at w.now (arguments (drop variable.next variable.call.args.now.items))
-        (items variable.call.all.now.items)) (env_in (held m.old)) (along_in (held m.old)) (left_in more)
-        (made_in stack.old) (state_of m.old)) stack.old m.old) result stack.new m.new }
+    ensures { Goes (onward_listed (turns (below_of (held m.old)) variable.entry.call.at
+        variable.entry.name.now (for_variables (below_of (held m.old)) variable.entry.call.at w.now
+        (arguments (drop variable.entry.next variable.entry.call.args.now.items)) (items
+        variable.entry.call.all.now.items)) (env_in (held m.old)) (along_in (held m.old)) (left_in
+        more) (made_in stack.old) (state_of m.old)) stack.old m.old) result stack.new m.new }
 {
     match next_value(stack.alloc, more)? {
         Some((value, more)) => turn(variable, value, more, w, stack, m),
@@ -171,11 +176,12 @@ fn turn<'p>(
     stack: &mut Stack<'p>,
     m: &mut Machine<'p>,
 ) -> Result<Focus<'p>, EvalFault>
-    ensures { (o : Outcome Solid) → o ≡ onward_listed (turns (below_of (held m.old)) variable.call.at variable.name.now
-        (for_variables (below_of (held m.old)) variable.call.at w.now (arguments (drop variable.next variable.call.args.now.items))
-        (items variable.call.all.now.items)) (env_in (held m.old)) (along_in (held m.old))
-        (datum_of value ∷ left_in more) (made_in stack.old) (state_of m.old)) stack.old m.old
-        → Goes o result stack.new m.new }
+    ensures { (o : Outcome Solid) → o ≡ onward_listed (turns (below_of (held m.old))
+        variable.entry.call.at variable.entry.name.now (for_variables (below_of (held m.old))
+        variable.entry.call.at w.now (arguments (drop variable.entry.next
+        variable.entry.call.args.now.items)) (items variable.entry.call.all.now.items)) (env_in
+        (held m.old)) (along_in (held m.old)) (datum_of value ∷ left_in more) (made_in stack.old)
+        (state_of m.old)) stack.old m.old → Goes o result stack.new m.new }
 {
     m.step(variable.call.at)?;
     stack.push(Frame::Then(Focus::Turns(variable, more, *w)))?;

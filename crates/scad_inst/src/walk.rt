@@ -37,8 +37,8 @@ pub(crate) fn statement<'p>(
     stack: &mut Stack<'p>,
     m: &mut Machine<'p>,
 ) -> Result<Focus<'p>, EvalFault>
-    ensures { Goes (onward ((below_of (held m.old)).statement w.now (env_in (held m.old)) (along_in (held m.old))
-        (item_of item.now) (state_of m.old)) stack.old m.old) result stack.new m.new }
+    ensures { Goes (onward ((below_of (held m.old)).statement w.now (env_in (held m.old)) (along_in
+        (held m.old)) (item_of item.now) (state_of m.old)) stack.old m.old) result stack.new m.new }
 {
     let at = item_place(item);
     let depth = depth(m);
@@ -66,9 +66,9 @@ fn node<'p>(
     stack: &mut Stack<'p>,
     m: &mut Machine<'p>,
 ) -> Result<Focus<'p>, EvalFault>
-    ensures { (o : Outcome Solid) → o ≡ onward (node (below_of (held m.old)) w.now (env_in (held m.old))
-        (along_in (held m.old)) (item_of item.now) (state_of m.old)) stack.old m.old
-        → Goes o result stack.new m.new }
+    ensures { (o : Outcome Solid) → o ≡ onward (node (below_of (held m.old)) w.now (env_in (held
+        m.old)) (along_in (held m.old)) (item_of item.now) (state_of m.old)) stack.old m.old → Goes
+        o result stack.new m.new }
 {
     match item {
         Item::Run(stmt) => run(stmt, w, stack, m),
@@ -85,9 +85,9 @@ fn run<'p>(
     stack: &mut Stack<'p>,
     m: &mut Machine<'p>,
 ) -> Result<Focus<'p>, EvalFault>
-    ensures { (o : Outcome Solid) → o ≡ onward (node (below_of (held m.old)) w.now (env_in (held m.old))
-        (along_in (held m.old)) (body_of stmt.now.at stmt.now.percent stmt.now.hash stmt.now.body)
-        (state_of m.old)) stack.old m.old → Goes o result stack.new m.new }
+    ensures { (o : Outcome Solid) → o ≡ onward (node (below_of (held m.old)) w.now (env_in (held
+        m.old)) (along_in (held m.old)) (body_of stmt.now.at stmt.now.percent stmt.now.hash
+        stmt.now.body) (state_of m.old)) stack.old m.old → Goes o result stack.new m.new }
 {
     match &stmt.body {
         StmtBody::Call(name, args, all) => {
@@ -139,10 +139,11 @@ fn choose<'p>(
     stack: &mut Stack<'p>,
     m: &mut Machine<'p>,
 ) -> Result<Focus<'p>, EvalFault>
-    ensures { (percent hash : Bool) (o : Outcome Solid) → o ≡ onward (node (below_of (held m.old)) w.now
-        (env_in (held m.old)) (along_in (held m.old)) (choice branch.at percent hash (expression_of branch.test.now)
-        (items branch.held.now.items) (items branch.other.now.items)) (state_of m.old)) stack.old m.old
-        → Goes o result stack.new m.new }
+    ensures { (percent hash : Bool) (o : Outcome Solid) → o ≡ onward (node (below_of (held m.old))
+        w.now (env_in (held m.old)) (along_in (held m.old)) (choice branch.entry.at percent hash
+        (expression_of branch.entry.test.now) (items branch.entry.held.now.items) (items
+        branch.entry.other.now.items)) (state_of m.old)) stack.old m.old → Goes o result stack.new
+        m.new }
 {
     let d = eval(stack.alloc, branch.test, m)?;
     if truth(&d) {
