@@ -35,12 +35,13 @@ use Rattle.scad_inst.specs.declared.space.Where.{Where}
 use Rattle.scad_inst.specs.declared.work.Frame.{Frame}
 use Rattle.scad_inst.specs.declared.work.Frame.TheVariants.{Mark, Member, Then, Combine, Leave}
 use Rattle.scad_inst.specs.declared.work.Focus.{Focus}
-use Rattle.scad_inst.specs.declared.work.Focus.TheVariants.{Members, Variables, Turns}
+use Rattle.scad_inst.specs.declared.work.Focus.TheVariants.{Members, Children, Variables, Turns}
 use Rattle.scad_inst.specs.Chosen.{child_named}
 use Rattle.scad_inst.specs.Frames.{below_of, with_depth}
 use Rattle.scad_inst.specs.Made.{judged}
 use Rattle.scad_inst.specs.Meaning.{Below, statements_meaning, statement_layer, node, opened_scope, member, members_from, members, combined, called_own, run_children, chosen, children_by, child, turns, for_variables, program_of}
 use Rattle.scad_inst.specs.Modules.{Found}
+use Rattle.scad_inst.specs.Near.{NameAlike}
 use Rattle.scad_inst.specs.Operation.{operated}
 use Rattle.scad_inst.specs.Opened.{names_opened}
 use Rattle.scad_inst.specs.Portions.{called_with, own_opened}
@@ -131,9 +132,34 @@ module _ (h : Held) (w : Where) (scope : Items) (ds : List Datum) (k : Rest) (ss
       ap (λ (l : List Datum). and_then (children_by (below_of h) w (env_in h) (along_in h) scope l ss s) (listed k h))
       are
 
-pub ruleset items_run = (item-runs, item-passes)
+-- equal values name the same children
+pub same-alike : (scope : Items) (few all : List Datum) → few ≡ all → NameAlike scope few all
+same-alike scope few all same = record {
+  alike = λ below w env along so_far s. ap (λ (l : List Datum). children_by below w env along scope l so_far s) same;
+}
 
-pub ruleset scope_items = (members-next, members-end)
+pub ruleset alike = (same-alike)
+
+-- those that are chosen
+module _ (h : Held) (w : Where) (scope : Bor (Vec Item Global)) (k : Rest) (ss : List Solid) (s : State) (none : ss ≡ []) where
+  pub chosen-by : (d : Datum) (more : Remainder) → NameAlike (items scope.now.items) (left_in more) (run_over d)
+      → and_then (chosen (below_of h) w (env_in h) (along_in h) (items scope.now.items) (Some d) s) (listed k h)
+      ≡ goes_on (Children scope more w) k h ss s
+  unfolding chosen goes_on
+  chosen-by d more same =
+      ap (λ (o : Outcome (List Solid)). and_then o (listed k h))
+      (sym (same.alike (below_of h) w (env_in h) (along_in h) [] s))
+      ∙ ap (λ (l : List Solid). and_then (children_by (below_of h) w (env_in h) (along_in h) (items scope.now.items)
+      (left_in more) l s) (listed k h)) (sym none)
+
+  pub chosen-all : and_then (chosen (below_of h) w (env_in h) (along_in h) (items scope.now.items) None s) (listed k h)
+      ≡ goes_on (Members scope 0 w) k h ss s
+  unfolding chosen goes_on
+  chosen-all =
+      ap (λ (l : List Solid). and_then (members_from (below_of h) w (env_in h) (along_in h) (items scope.now.items) l s)
+      (listed k h)) (sym none)
+
+pub ruleset chosen_children = (chosen-by, chosen-all)
 
 -- ---- a statement
 pub statement-begins : (marked : Bool) (depth : ℕ) (w : Where) (i : TreeItem) (h h1 h2 : Held) (k k2 : Rest)

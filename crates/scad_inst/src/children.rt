@@ -71,7 +71,7 @@ fn run_children<'p>(
 }
 
 /// All children, or those that the items of a value name.
-#[tactic(auto, unfolding(crate::specs::Meaning::chosen, crate::specs::Stack::goes_on))]
+#[tactic(auto, using(crate::proofs::Onward::chosen_children))]
 fn chosen<'p>(
     which: Option<&Value>,
     scope: &'p Scope,

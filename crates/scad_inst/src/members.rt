@@ -1,9 +1,10 @@
 //! The statements of a scope, and the tree of an operation over them.
 
-ghost use Rattle.std.specs.Prelude.{◌≡◌, drop, IfErr};
+ghost use Rattle.std.specs.Prelude.{◌≡◌, true, drop, IfErr};
 ghost use Rattle.scad_ast.specs.Scope.{item_of, items};
 ghost use Rattle.scad_tree.specs.Solid.{Solid};
 ghost use Rattle.scad_expr.specs.declared.fault.EvalFault.TheVariants.{Memory};
+ghost use Rattle.scad_expr.specs.Arguments.{is_statement};
 ghost use Rattle.scad_expr.specs.Machine.{Held, held, env_in, along_in, state_of};
 ghost use Rattle.scad_expr.specs.State.{State, Outcome, and_then};
 ghost use Rattle.scad_inst.specs.Frames.{below_of};
@@ -27,7 +28,6 @@ use scad_fault::Place;
 use scad_tree::Tree;
 
 /// An item is run where it is a statement, and then what comes behind it.
-#[tactic(auto, using(crate::proofs::Onward::items_run))]
 pub(crate) fn member<'p>(
     item: &'p Item,
     behind: Focus<'p>,
@@ -39,16 +39,32 @@ pub(crate) fn member<'p>(
         → Starts o result stack.new h s }
     ensures memory { IfErr result (λ e. e ≡ Memory) }
 {
-    if !is_statement(item) {
-        return Ok(behind);
+    if is_statement(item) {
+        run_item(item, behind, w, stack)
+    } else {
+        Ok(behind)
     }
+}
+
+/// A statement is run, its tree is a member unless it is marked `%`, and then comes what is behind it.
+fn run_item<'p>(
+    item: &'p Item,
+    behind: Focus<'p>,
+    w: &Where,
+    stack: &mut Stack<'p>,
+) -> Result<Focus<'p>, EvalFault>
+    requires { is_statement (item_of item.now) ≡ true }
+    ensures goes { (h : Held) (s : State) (o : Outcome Solid) → o ≡ and_then (member (below_of h) w.now (env_in h)
+        (along_in h) (item_of item.now) (made_in stack.old) s) (goes_on behind.entry (rest stack.old) h)
+        → Starts o result stack.new h s }
+    ensures memory { IfErr result (λ e. e ≡ Memory) }
+{
     stack.push(Frame::Then(behind))?;
     stack.push(Frame::Member(is_marked(item)))?;
     Ok(Focus::Statement(item, *w))
 }
 
 /// The items of a scope from a number on.
-#[tactic(auto, using(crate::proofs::Onward::scope_items), unfolding(crate::specs::Stack::goes_on))]
 pub(crate) fn members<'p>(
     scope: &'p Scope,
     next: usize,
