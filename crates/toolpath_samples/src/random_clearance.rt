@@ -186,7 +186,11 @@ fn the_check_tells_moves_that_come_near(rt: HostRuntime) {
         (-224, 92, false),
         (-224, 93, true),
     ] {
-        let moved = [Pt { x, y }, Pt { x: x * 2, y: y * 2 }];
+        let further = Pt {
+            x: x.wrapping_mul(2),
+            y: y.wrapping_mul(2),
+        };
+        let moved = [Pt { x, y }, further];
         assert!(rt;
             clearance.is_clear(moved, [ORIGIN, ORIGIN]) == is_clear,
             "at {x}, {y}"
