@@ -80,7 +80,7 @@ BUDGETS = {
     5: ("Triangles", "the primitives have more than 200,000 triangles together",
         "a smaller `$fn`, greater `$fa` and `$fs`"),
     6: ("Layers", "the part has more than 20,000 layers", "a greater `layer_height`: 50 is enough for any part"),
-    7: ("LayerEdges", "a layer's section has more than 20,000 edges, or one of its walls more than 140,000",
+    7: ("LayerEdges", "a layer's section has more than 20,000 edges, or one of its walls more than 220,000",
         "a smaller `$fn`; fewer parts at one height"),
     8: ("LayerCrossings", "more than 2,000,000 pairs of a layer's edges, or of a wall's, cross",
         "fewer parts that lie across one another; a smaller `line_width`, fewer `walls`"),

@@ -10,8 +10,9 @@ use Rattle.scad_geom.specs.declared.point.Edge.{Edge}
 use Rattle.scad_geom.specs.Point.{whole}
 use Rattle.plan_infill.specs.declared.line.Line.{Line}
 use Rattle.plan_infill.specs.declared.step.Step.{Step}
-use Rattle.plan_infill.specs.Runs.{point_on, ComesNearer}
-use Rattle.plan_infill.specs.Steps.{up_to, all_of, IsApart, IsStep, AreTurnSteps, AreNearSteps, AreSteps}
+use Rattle.plan_infill.specs.Runs.{point_on}
+use Rattle.plan_infill.specs.Steps.{up_to, all_of, ComesNear, IsApart, IsStep, AreTurnSteps, AreNearSteps, AreSteps}
+use Rattle.plan_infill.proofs.Reached.{not_near}
 
 up_to-append : (f : Step → ℤ) (z : ℤ) (xs ys : List Step) → up_to f z (xs ++ ys) ≡ up_to f z xs +ℤ up_to f z ys
 up_to-append f z [] ys = omega (arith, ints)
@@ -75,11 +76,11 @@ more_steps c line e es a b more t n r = record {
     near : (z : ℤ) → up_to (λ s. s.near) z (a ++ (b ++ more)) ≡ up_to (λ s. s.near) z a +ℤ up_to (λ s. s.near) z (b ++ more)
         → up_to (λ s. s.near) z (b ++ more) ≡ up_to (λ s. s.near) z b +ℤ up_to (λ s. s.near) z more
         → up_to (λ s. s.near) z a ≡ pos 0
-        → ((up_to (λ s. s.near) z b ≡ pos 1) × ComesNearer (pos c) (whole (point_on line z)) (whole e.a) (whole e.b)) ⊎ ((up_to (λ s. s.near) z b ≡ pos 0) × IsApart c line z e)
+        → ((up_to (λ s. s.near) z b ≡ pos 1) × ComesNear c line z e) ⊎ ((up_to (λ s. s.near) z b ≡ pos 0) × IsApart c line z e)
         → ((pos 0 <ℤ up_to (λ s. s.near) z more) × (AllByRecursion (IsApart c line z) es → ⊥)) ⊎ ((up_to (λ s. s.near) z more ≡ pos 0) × AllByRecursion (IsApart c line z) es)
         → ((pos 0 <ℤ up_to (λ s. s.near) z (a ++ (b ++ more))) × (AllByRecursion (IsApart c line z) (e ∷ es) → ⊥)) ⊎ ((up_to (λ s. s.near) z (a ++ (b ++ more)) ≡ pos 0) × AllByRecursion (IsApart c line z) (e ∷ es))
-    near z u v w (inl p) (inl q) = let i = p.0 in let j = q.0 in inl (omega (arith, ints, u, v, w, i, j), λ k. k.0 p.1)
-    near z u v w (inl p) (inr q) = let i = p.0 in let j = q.0 in inl (omega (arith, ints, u, v, w, i, j), λ k. k.0 p.1)
+    near z u v w (inl p) (inl q) = let i = p.0 in let j = q.0 in inl (omega (arith, ints, u, v, w, i, j), λ k. not_near c line z e k.0 p.1)
+    near z u v w (inl p) (inr q) = let i = p.0 in let j = q.0 in inl (omega (arith, ints, u, v, w, i, j), λ k. not_near c line z e k.0 p.1)
     near z u v w (inr p) (inl q) = let i = p.0 in let j = q.0 in inl (omega (arith, ints, u, v, w, i, j), λ k. q.1 k.1)
     near z u v w (inr p) (inr q) = let i = p.0 in let j = q.0 in inr (omega (arith, ints, u, v, w, i, j), (p.1, q.1))
 

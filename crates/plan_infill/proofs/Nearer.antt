@@ -1,218 +1,495 @@
--- Where a segment comes nearer to the origin than c along both axes. Over K times its coordinates, with K great enough, it meets
--- the closed square of K c - 1.
-use Rattle.std.proofs.Common.{◌≡◌, [], ◌∷◌, refl, arith, subst, ℤ, pos, ◌+ℤ◌, ◌-ℤ◌, ◌*ℤ◌, ◌<ℤ◌}
+-- Where a segment that doesn't fall comes within the octagon of the half width c and the half sum u round the origin,
+-- without its border. Over K times the coordinates, with K great enough, it meets the closed octagon of K c - 1 and K u - 1.
+use Rattle.std.proofs.Common.{◌≡◌, ◌⊎◌, inl, inr, Bool, true, false, [], ◌∷◌, refl, sym, ap, ap₂, ◌∙◌, arith, ℤ, pos, neg_ℤ, ◌+ℤ◌, ◌-ℤ◌, ◌*ℤ◌, ◌<ℤ◌}
 use lib.Signed.{◌≤ℤ◌}
+use Rattle.std.specs.Prelude.{if◌then◌else◌, int_le}
 use Rattle.std.proofs.lemmas.Int.{ints}
-use Rattle.scad_geom.proofs.Signs.{at_least_mul, at_least_left, pos_left, sub_mul, one_less_times}
-use Rattle.scad_geom.proofs.Rising.{Lies, Passes, found, passes, by_order, order}
-use Rattle.scad_geom.proofs.Ring.{ring, num, ◌⊕◌, ◌⊖◌, ◌⊗◌, v0, v1, v2, v3, v4, v5}
-use Rattle.plan_infill.proofs.Quotients.{at_most_times}
-use Rattle.scad_geom.proofs.Integers.{add_mul}
-use Rattle.std.proofs.Math.IntN.{*ℤ_comm}
+use Rattle.scad_base.proofs.Tests.{int_le-at_most}
+use Rattle.scad_geom.proofs.Signs.{at_least_mul, at_least_left, pos_left}
+use Rattle.scad_geom.proofs.Rising.{order}
+use Rattle.scad_geom.proofs.Ring.{ring, num, ◌⊕◌, ◌⊖◌, ◌⊗◌, v0, v1, v2, v3, v4, v5, v6, v7, v8}
+use Rattle.scad_ring.specs.Tests.{breadth}
+use Rattle.scad_ring.proofs.Convex.{Lies, cross}
+use Rattle.scad_ring.proofs.Octants.{End, Ends, Approach, IsSize}
+use Rattle.scad_ring.proofs.Meetings.{facts, tests, approach_if_passes, passes_if_approach}
 
--- the mean of a and b by the weights s and t is less than c in size
-pub record Inside (c s t a b : ℤ) : Type 0 where
-  pub from : (pos 0 -ℤ c *ℤ (s +ℤ t)) <ℤ (s *ℤ a +ℤ t *ℤ b)
-  pub to : (s *ℤ a +ℤ t *ℤ b) <ℤ (c *ℤ (s +ℤ t))
+-- ---- without a border
+-- the mean of a and b by the weights s and t lies strictly in the half plane n x + m y < c
+abbrev pub LiesWithin : ℤ → ℤ → ℤ → ℤ → ℤ → ℤ → ℤ → ℤ → ℤ → Type 0
+LiesWithin n m c s t ax ay bx by = (n *ℤ (s *ℤ ax +ℤ t *ℤ bx) +ℤ m *ℤ (s *ℤ ay +ℤ t *ℤ by)) <ℤ (c *ℤ (s +ℤ t))
 
--- some mean of (ax, ay) and (bx, by) is nearer than c
-pub record FoundInside (c ax ay bx by : ℤ) : Type 0 where
+-- a mean of the ends lies in the octagon, and not on its border
+pub record Inside (c u ax ay bx by : ℤ) : Type 0 where
   pub s : ℤ
   pub t : ℤ
   pub from : pos 0 ≤ℤ s
   pub to : pos 0 ≤ℤ t
   pub some : pos 0 <ℤ (s +ℤ t)
-  pub x : Inside c s t ax bx
-  pub y : Inside c s t ay by
+  pub right : LiesWithin (pos 1) (pos 0) c s t ax ay bx by
+  pub left : LiesWithin (neg_ℤ (pos 1)) (pos 0) c s t ax ay bx by
+  pub over : LiesWithin (pos 0) (pos 1) c s t ax ay bx by
+  pub below : LiesWithin (pos 0) (neg_ℤ (pos 1)) c s t ax ay bx by
+  pub over_right : LiesWithin (pos 1) (pos 1) u s t ax ay bx by
+  pub below_right : LiesWithin (pos 1) (neg_ℤ (pos 1)) u s t ax ay bx by
+  pub over_left : LiesWithin (neg_ℤ (pos 1)) (pos 1) u s t ax ay bx by
+  pub below_left : LiesWithin (neg_ℤ (pos 1)) (neg_ℤ (pos 1)) u s t ax ay bx by
 
--- how far it is from the line, times the length, and how far the square's corners reach to its sides
-abbrev pub cross : ℤ → ℤ → ℤ → ℤ → ℤ
-cross ax ay bx by = bx *ℤ ay -ℤ ax *ℤ by
+-- an end lies strictly in a half plane
+abbrev pub EndWithin : ℤ → ℤ → ℤ → ℤ → ℤ → ℤ → ℤ → Type 0
+EndWithin n m c ax ay bx by = ((n *ℤ ax +ℤ m *ℤ ay) <ℤ c) ⊎ ((n *ℤ bx +ℤ m *ℤ by) <ℤ c)
 
-abbrev pub span : ℤ → ℤ → ℤ → ℤ → ℤ
-span ax ay bx by = (bx -ℤ ax) +ℤ (by -ℤ ay)
+pub record EndsWithin (c u ax ay bx by : ℤ) : Type 0 where
+  pub right : EndWithin (pos 1) (pos 0) c ax ay bx by
+  pub left : EndWithin (neg_ℤ (pos 1)) (pos 0) c ax ay bx by
+  pub over : EndWithin (pos 0) (pos 1) c ax ay bx by
+  pub below : EndWithin (pos 0) (neg_ℤ (pos 1)) c ax ay bx by
+  pub over_right : EndWithin (pos 1) (pos 1) u ax ay bx by
+  pub below_right : EndWithin (pos 1) (neg_ℤ (pos 1)) u ax ay bx by
+  pub over_left : EndWithin (neg_ℤ (pos 1)) (pos 1) u ax ay bx by
+  pub below_left : EndWithin (neg_ℤ (pos 1)) (neg_ℤ (pos 1)) u ax ay bx by
 
--- what is tested of a segment that runs to the right and upwards
-pub record PassesInside (c ax ay bx by : ℤ) : Type 0 where
-  pub left : ax <ℤ c
-  pub right : (pos 0 -ℤ c) <ℤ bx
-  pub below : ay <ℤ c
-  pub over : (pos 0 -ℤ c) <ℤ by
-  pub most : pos 0 <ℤ span ax ay bx by → cross ax ay bx by <ℤ (c *ℤ span ax ay bx by)
-  pub least : pos 0 <ℤ span ax ay bx by → (pos 0 -ℤ cross ax ay bx by) <ℤ (c *ℤ span ax ay bx by)
+-- a number is less than another in size
+pub record IsLess (w z : ℤ) : Type 0 where
+  pub from : (pos 0 -ℤ w) <ℤ z
+  pub to : z <ℤ w
 
--- ---- over K times the coordinates
-abbrev scaled_width : ℤ → ℤ → ℤ
-scaled_width k c = k *ℤ c -ℤ pos 1
+-- the greater of a way's sizes along both axes, of a way that doesn't fall
+abbrev pub length_of : ℤ → ℤ → ℤ
+length_of x y = breadth (pos 1) (pos 0) x y
 
-gap_scaled : (k c a : ℤ) → (c -ℤ a -ℤ pos 1) *ℤ k ≡ (k *ℤ c -ℤ k) -ℤ k *ℤ a
-gap_scaled k c a = ring (k ∷ c ∷ a ∷ []) ((v1 ⊖ v2 ⊖ num (pos 1)) ⊗ v0) ((v0 ⊗ v1 ⊖ v0) ⊖ v0 ⊗ v2) refl
+-- the segment's line passes strictly between the octagon's corners, where it has a length
+abbrev pub IsLineWithin : ℤ → ℤ → ℤ → ℤ → ℤ → ℤ → Type 0
+IsLineWithin c u ax ay bx by = pos 0 <ℤ length_of (bx -ℤ ax) (by -ℤ ay)
+    → IsLess (breadth c (u -ℤ c) (bx -ℤ ax) (by -ℤ ay)) (cross ax ay bx by)
 
-below_scaled : (k c a : ℤ) → pos 0 <ℤ k → a <ℤ c → (k *ℤ a) ≤ℤ scaled_width k c
-below_scaled k c a h l =
-    let m = at_least_mul (c -ℤ a -ℤ pos 1) k (omega (arith, ints)) (omega (arith, ints)) in
-    let e = gap_scaled k c a in
-    omega (arith, ints, m, e)
+-- ---- by a way's direction
+abbrev pub chosen : ℤ → ℤ → ℤ → ℤ → Bool → Bool → Bool → ℤ
+chosen s t x y p q r =
+    if p then s *ℤ x +ℤ t *ℤ y
+    else (if q then t *ℤ y -ℤ s *ℤ x
+    else (if r then s *ℤ y +ℤ t *ℤ x
+    else s *ℤ y -ℤ t *ℤ x))
 
-gap_scaled_up : (k c a : ℤ) → (a +ℤ c -ℤ pos 1) *ℤ k ≡ (k *ℤ a +ℤ k *ℤ c) -ℤ k
-gap_scaled_up k c a = ring (k ∷ c ∷ a ∷ []) ((v2 ⊕ v1 ⊖ num (pos 1)) ⊗ v0) ((v0 ⊗ v2 ⊕ v0 ⊗ v1) ⊖ v0) refl
+by_equal : (s t x y : ℤ) (a b c p q r : Bool) → a ≡ p → b ≡ q → c ≡ r → chosen s t x y a b c ≡ chosen s t x y p q r
+by_equal s t x y a b c p q r e f g = rw (e, f, g) refl
 
-above_scaled : (k c a : ℤ) → pos 0 <ℤ k → (pos 0 -ℤ c) <ℤ a → (pos 0 -ℤ scaled_width k c) ≤ℤ (k *ℤ a)
-above_scaled k c a h l =
-    let m = at_least_mul (a +ℤ c -ℤ pos 1) k (omega (arith, ints)) (omega (arith, ints)) in
-    let e = gap_scaled_up k c a in
-    omega (arith, ints, m, e)
+pub by_direction : (s t x y : ℤ) (p q r : Bool) → int_le y x ≡ p → int_le (x +ℤ y) (pos 0) ≡ q → int_le (pos 0) x ≡ r
+    → breadth s t x y ≡ chosen s t x y p q r
+unfolding breadth
+by_direction s t x y p q r e f g =
+    by_equal s t x y (int_le y x) (int_le (x +ℤ y) (pos 0)) (int_le (pos 0) x) p q r e f g
 
--- the tests of the line, where K is one more than the span
-line_scaled : (k c ax ay bx by : ℤ) → ((k *ℤ c -ℤ pos 1) *ℤ (k *ℤ bx -ℤ k *ℤ ax) +ℤ (k *ℤ c -ℤ pos 1) *ℤ (k *ℤ by -ℤ k *ℤ ay)) -ℤ ((k *ℤ bx) *ℤ (k *ℤ ay) -ℤ (k *ℤ ax) *ℤ (k *ℤ by))
-    ≡ (k *ℤ (c *ℤ ((bx -ℤ ax) +ℤ (by -ℤ ay)) -ℤ (bx *ℤ ay -ℤ ax *ℤ by)) -ℤ ((bx -ℤ ax) +ℤ (by -ℤ ay))) *ℤ k
-line_scaled k c ax ay bx by = ring (k ∷ c ∷ ax ∷ ay ∷ bx ∷ by ∷ [])
-    (((v0 ⊗ v1 ⊖ num (pos 1)) ⊗ (v0 ⊗ v4 ⊖ v0 ⊗ v2) ⊕ (v0 ⊗ v1 ⊖ num (pos 1)) ⊗ (v0 ⊗ v5 ⊖ v0 ⊗ v3)) ⊖ ((v0 ⊗ v4) ⊗ (v0 ⊗ v3) ⊖ (v0 ⊗ v2) ⊗ (v0 ⊗ v5)))
-    ((v0 ⊗ (v1 ⊗ ((v4 ⊖ v2) ⊕ (v5 ⊖ v3)) ⊖ (v4 ⊗ v3 ⊖ v2 ⊗ v5)) ⊖ ((v4 ⊖ v2) ⊕ (v5 ⊖ v3))) ⊗ v0) refl
-
-line_scaled_down : (k c ax ay bx by : ℤ) → ((k *ℤ c -ℤ pos 1) *ℤ (k *ℤ bx -ℤ k *ℤ ax) +ℤ (k *ℤ c -ℤ pos 1) *ℤ (k *ℤ by -ℤ k *ℤ ay)) +ℤ ((k *ℤ bx) *ℤ (k *ℤ ay) -ℤ (k *ℤ ax) *ℤ (k *ℤ by))
-    ≡ (k *ℤ (c *ℤ ((bx -ℤ ax) +ℤ (by -ℤ ay)) +ℤ (bx *ℤ ay -ℤ ax *ℤ by)) -ℤ ((bx -ℤ ax) +ℤ (by -ℤ ay))) *ℤ k
-line_scaled_down k c ax ay bx by = ring (k ∷ c ∷ ax ∷ ay ∷ bx ∷ by ∷ [])
-    (((v0 ⊗ v1 ⊖ num (pos 1)) ⊗ (v0 ⊗ v4 ⊖ v0 ⊗ v2) ⊕ (v0 ⊗ v1 ⊖ num (pos 1)) ⊗ (v0 ⊗ v5 ⊖ v0 ⊗ v3)) ⊕ ((v0 ⊗ v4) ⊗ (v0 ⊗ v3) ⊖ (v0 ⊗ v2) ⊗ (v0 ⊗ v5)))
-    ((v0 ⊗ (v1 ⊗ ((v4 ⊖ v2) ⊕ (v5 ⊖ v3)) ⊕ (v4 ⊗ v3 ⊖ v2 ⊗ v5)) ⊖ ((v4 ⊖ v2) ⊕ (v5 ⊖ v3))) ⊗ v0) refl
-
-split_off : (k g : ℤ) → k *ℤ g ≡ (g -ℤ pos 1) *ℤ k +ℤ k
-split_off k g = ring (k ∷ g ∷ []) (v0 ⊗ v1) ((v1 ⊖ num (pos 1)) ⊗ v0 ⊕ v0) refl
-
--- a gap above 0, taken K times, is more than the span
-more_than : (g l : ℤ) → pos 0 ≤ℤ l → pos 0 <ℤ g → pos 0 ≤ℤ ((l +ℤ pos 1) *ℤ g -ℤ l)
-more_than g l h k =
-    let m = at_least_mul (g -ℤ pos 1) (l +ℤ pos 1) (omega (arith, ints)) (omega (arith, ints)) in
-    let e = split_off (l +ℤ pos 1) g in
-    omega (arith, ints, m, e)
-
--- the gap between the reach and the distance from the line, on both sides, over K = span + 1
-record Gaps (c ax ay bx by : ℤ) : Type 0 where
-  most : pos 0 ≤ℤ ((span ax ay bx by +ℤ pos 1) *ℤ (c *ℤ span ax ay bx by -ℤ cross ax ay bx by) -ℤ span ax ay bx by)
-  least : pos 0 ≤ℤ ((span ax ay bx by +ℤ pos 1) *ℤ (c *ℤ span ax ay bx by +ℤ cross ax ay bx by) -ℤ span ax ay bx by)
-
-no_gap : (c a b : ℤ) → Gaps c a b a b
-no_gap c a b =
-    let e = none c a b in
-    let f = none_down c a b in
-    record { most = omega (arith, ints, e); least = omega (arith, ints, f) }
+pub length_at_least : (x y : ℤ) → pos 0 ≤ℤ y
+    → (y ≤ℤ length_of x y) × (x ≤ℤ length_of x y) × ((pos 0 -ℤ x) ≤ℤ length_of x y)
+unfolding breadth
+length_at_least x y h = by_tests (int_le y x) (int_le (x +ℤ y) (pos 0)) (int_le (pos 0) x) refl refl refl
   where
-    none : (c a b : ℤ) → (((a -ℤ a) +ℤ (b -ℤ b)) +ℤ pos 1) *ℤ (c *ℤ ((a -ℤ a) +ℤ (b -ℤ b)) -ℤ (a *ℤ b -ℤ a *ℤ b)) -ℤ ((a -ℤ a) +ℤ (b -ℤ b)) ≡ pos 0
-    none c a b = ring (c ∷ a ∷ b ∷ []) ((((v1 ⊖ v1) ⊕ (v2 ⊖ v2)) ⊕ num (pos 1)) ⊗ (v0 ⊗ ((v1 ⊖ v1) ⊕ (v2 ⊖ v2)) ⊖ (v1 ⊗ v2 ⊖ v1 ⊗ v2)) ⊖ ((v1 ⊖ v1) ⊕ (v2 ⊖ v2))) (num (pos 0)) refl
+    by_tests : (t u v : Bool) → int_le y x ≡ t → int_le (x +ℤ y) (pos 0) ≡ u → int_le (pos 0) x ≡ v
+        → (y ≤ℤ chosen (pos 1) (pos 0) x y t u v) × (x ≤ℤ chosen (pos 1) (pos 0) x y t u v)
+        × ((pos 0 -ℤ x) ≤ℤ chosen (pos 1) (pos 0) x y t u v)
+    by_tests true u v p q r = (omega (arith, ints, p, h), omega (arith, ints, p, h), omega (arith, ints, p, h))
+    by_tests false true v p q r = (
+      omega (arith, ints, p, q, h),
+      omega (arith, ints, p, q, h),
+      omega (arith, ints, p, q, h),
+    )
+    by_tests false false true p q r = (
+      omega (arith, ints, p, q, r, h),
+      omega (arith, ints, p, q, r, h),
+      omega (arith, ints, p, q, r, h),
+    )
+    by_tests false false false p q r = (
+      omega (arith, ints, p, q, r, h),
+      omega (arith, ints, p, q, r, h),
+      omega (arith, ints, p, q, r, h),
+    )
 
-    none_down : (c a b : ℤ) → (((a -ℤ a) +ℤ (b -ℤ b)) +ℤ pos 1) *ℤ (c *ℤ ((a -ℤ a) +ℤ (b -ℤ b)) +ℤ (a *ℤ b -ℤ a *ℤ b)) -ℤ ((a -ℤ a) +ℤ (b -ℤ b)) ≡ pos 0
-    none_down c a b = ring (c ∷ a ∷ b ∷ []) ((((v1 ⊖ v1) ⊕ (v2 ⊖ v2)) ⊕ num (pos 1)) ⊗ (v0 ⊗ ((v1 ⊖ v1) ⊕ (v2 ⊖ v2)) ⊕ (v1 ⊗ v2 ⊖ v1 ⊗ v2)) ⊖ ((v1 ⊖ v1) ⊕ (v2 ⊖ v2))) (num (pos 0)) refl
+-- ---- K times the coordinates
+le_scaled : (k a b : ℤ) → pos 0 <ℤ k → int_le (k *ℤ a) (k *ℤ b) ≡ int_le a b
+le_scaled k a b h = elim (order a b) [
+  | inl o ↦
+      let m = at_least_mul (b -ℤ a) k (omega (arith, ints, o)) (omega (arith, ints, h)) in
+      let e = gap k a b in
+      int_le-at_most (k *ℤ a) (k *ℤ b) (omega (arith, ints, m, e)) ∙ sym (int_le-at_most a b o)
+  | inr o ↦
+      let m = at_least_mul ((a -ℤ b) -ℤ pos 1) k (omega (arith, ints, o)) (omega (arith, ints, h)) in
+      let e = gap_back k a b in
+      let p : int_le (k *ℤ a) (k *ℤ b) ≡ false = sym (omega (arith, ints, m, e, h)) in
+      let q : int_le a b ≡ false = sym (omega (arith, ints, o)) in
+      p ∙ sym q
+]
+  where
+    gap : (k a b : ℤ) → (b -ℤ a) *ℤ k ≡ k *ℤ b -ℤ k *ℤ a
+    gap k a b = ring (k ∷ a ∷ b ∷ []) ((v2 ⊖ v1) ⊗ v0) (v0 ⊗ v2 ⊖ v0 ⊗ v1) refl
 
-gaps : (c ax ay bx by : ℤ) → ax ≤ℤ bx → ay ≤ℤ by → PassesInside c ax ay bx by → Gaps c ax ay bx by
-gaps c ax ay bx by rx ry p = by_order (order (span ax ay bx by) (pos 0))
-    (λ o.
-    let x : ax ≡ bx = omega (arith, ints) in
-    let y : ay ≡ by = omega (arith, ints) in
-    subst (λ (b : ℤ). Gaps c ax ay b by) x (subst (λ (b : ℤ). Gaps c ax ay ax b) y (no_gap c ax ay)))
-    (λ o.
-    let m = p.most o in
-    let l = p.least o in
-    record {
-      most = more_than (c *ℤ span ax ay bx by -ℤ cross ax ay bx by) (span ax ay bx by) (omega (arith, ints)) (omega (arith, ints));
-      least = more_than (c *ℤ span ax ay bx by +ℤ cross ax ay bx by) (span ax ay bx by) (omega (arith, ints)) (omega (arith, ints));
-    })
+    gap_back : (k a b : ℤ) → ((a -ℤ b) -ℤ pos 1) *ℤ k ≡ (k *ℤ a -ℤ k *ℤ b) -ℤ k
+    gap_back k a b = ring (k ∷ a ∷ b ∷ []) (((v1 ⊖ v2) ⊖ num (pos 1)) ⊗ v0) ((v0 ⊗ v1 ⊖ v0 ⊗ v2) ⊖ v0) refl
 
--- a mean over K times the coordinates
-mean_scaled : (k s t a b : ℤ) → s *ℤ (k *ℤ a) +ℤ t *ℤ (k *ℤ b) ≡ (s *ℤ a +ℤ t *ℤ b) *ℤ k
-mean_scaled k s t a b = ring (k ∷ s ∷ t ∷ a ∷ b ∷ []) (v1 ⊗ (v0 ⊗ v3) ⊕ v2 ⊗ (v0 ⊗ v4)) ((v1 ⊗ v3 ⊕ v2 ⊗ v4) ⊗ v0) refl
+same_scaled : (k c t x y : ℤ) (p q r : Bool)
+    → chosen (k *ℤ c -ℤ pos 1) (k *ℤ t) (k *ℤ x) (k *ℤ y) p q r
+    ≡ k *ℤ (k *ℤ chosen c t x y p q r -ℤ chosen (pos 1) (pos 0) x y p q r)
+same_scaled k c t x y true q r = ring (k ∷ c ∷ t ∷ x ∷ y ∷ [])
+    ((v0 ⊗ v1 ⊖ num (pos 1)) ⊗ (v0 ⊗ v3) ⊕ (v0 ⊗ v2) ⊗ (v0 ⊗ v4))
+    (v0 ⊗ (v0 ⊗ (v1 ⊗ v3 ⊕ v2 ⊗ v4) ⊖ (num (pos 1) ⊗ v3 ⊕ num (pos 0) ⊗ v4))) refl
+same_scaled k c t x y false true r = ring (k ∷ c ∷ t ∷ x ∷ y ∷ [])
+    ((v0 ⊗ v2) ⊗ (v0 ⊗ v4) ⊖ (v0 ⊗ v1 ⊖ num (pos 1)) ⊗ (v0 ⊗ v3))
+    (v0 ⊗ (v0 ⊗ (v2 ⊗ v4 ⊖ v1 ⊗ v3) ⊖ (num (pos 0) ⊗ v4 ⊖ num (pos 1) ⊗ v3))) refl
+same_scaled k c t x y false false true = ring (k ∷ c ∷ t ∷ x ∷ y ∷ [])
+    ((v0 ⊗ v1 ⊖ num (pos 1)) ⊗ (v0 ⊗ v4) ⊕ (v0 ⊗ v2) ⊗ (v0 ⊗ v3))
+    (v0 ⊗ (v0 ⊗ (v1 ⊗ v4 ⊕ v2 ⊗ v3) ⊖ (num (pos 1) ⊗ v4 ⊕ num (pos 0) ⊗ v3))) refl
+same_scaled k c t x y false false false = ring (k ∷ c ∷ t ∷ x ∷ y ∷ [])
+    ((v0 ⊗ v1 ⊖ num (pos 1)) ⊗ (v0 ⊗ v4) ⊖ (v0 ⊗ v2) ⊗ (v0 ⊗ v3))
+    (v0 ⊗ (v0 ⊗ (v1 ⊗ v4 ⊖ v2 ⊗ v3) ⊖ (num (pos 1) ⊗ v4 ⊖ num (pos 0) ⊗ v3))) refl
+
+-- the tests of a way's direction are those of K times the way
+no_times : (k : ℤ) → pos 0 ≡ k *ℤ pos 0
+no_times k = ring (k ∷ []) (num (pos 0)) (v0 ⊗ num (pos 0)) refl
+
+rising_scaled : (k x y : ℤ) → pos 0 <ℤ k → int_le (k *ℤ x +ℤ k *ℤ y) (pos 0) ≡ int_le (x +ℤ y) (pos 0)
+rising_scaled k x y h =
+    let s : k *ℤ x +ℤ k *ℤ y ≡ k *ℤ (x +ℤ y) = ring (k ∷ x ∷ y ∷ []) (v0 ⊗ v1 ⊕ v0 ⊗ v2) (v0 ⊗ (v1 ⊕ v2)) refl in
+    ap₂ (λ (a b : ℤ). int_le a b) s (no_times k) ∙ le_scaled k (x +ℤ y) (pos 0) h
+
+right_scaled : (k x : ℤ) → pos 0 <ℤ k → int_le (pos 0) (k *ℤ x) ≡ int_le (pos 0) x
+right_scaled k x h = ap (λ (a : ℤ). int_le a (k *ℤ x)) (no_times k) ∙ le_scaled k (pos 0) x h
+
+breadth_scaled : (k c t x y : ℤ) → pos 0 <ℤ k
+    → breadth (k *ℤ c -ℤ pos 1) (k *ℤ t) (k *ℤ x) (k *ℤ y) ≡ k *ℤ (k *ℤ breadth c t x y -ℤ length_of x y)
+breadth_scaled k c t x y h =
+    by_direction (k *ℤ c -ℤ pos 1) (k *ℤ t) (k *ℤ x) (k *ℤ y) (int_le y x) (int_le (x +ℤ y) (pos 0)) (int_le (pos 0) x)
+    (le_scaled k y x h) (rising_scaled k x y h) (right_scaled k x h)
+    ∙ same_scaled k c t x y (int_le y x) (int_le (x +ℤ y) (pos 0)) (int_le (pos 0) x)
+    ∙ ap₂ (λ (a b : ℤ). k *ℤ (k *ℤ a -ℤ b))
+    (sym (by_direction c t x y (int_le y x) (int_le (x +ℤ y) (pos 0)) (int_le (pos 0) x) refl refl refl))
+    (sym (by_direction (pos 1) (pos 0) x y (int_le y x) (int_le (x +ℤ y) (pos 0)) (int_le (pos 0) x) refl refl refl))
+
+cross_scaled : (k ax ay bx by : ℤ) → cross (k *ℤ ax) (k *ℤ ay) (k *ℤ bx) (k *ℤ by) ≡ k *ℤ (k *ℤ cross ax ay bx by)
+cross_scaled k ax ay bx by = ring (k ∷ ax ∷ ay ∷ bx ∷ by ∷ []) ((v0 ⊗ v1) ⊗ (v0 ⊗ v4) ⊖ (v0 ⊗ v2) ⊗ (v0 ⊗ v3))
+    (v0 ⊗ (v0 ⊗ (v1 ⊗ v4 ⊖ v2 ⊗ v3))) refl
+
+value_scaled : (k n m x y : ℤ) → n *ℤ (k *ℤ x) +ℤ m *ℤ (k *ℤ y) ≡ (n *ℤ x +ℤ m *ℤ y) *ℤ k
+value_scaled k n m x y = ring (k ∷ n ∷ m ∷ x ∷ y ∷ []) (v1 ⊗ (v0 ⊗ v3) ⊕ v2 ⊗ (v0 ⊗ v4)) ((v1 ⊗ v3 ⊕ v2 ⊗ v4) ⊗ v0) refl
+
+mean_scaled : (k n m s t ax ay bx by : ℤ)
+    → n *ℤ (s *ℤ (k *ℤ ax) +ℤ t *ℤ (k *ℤ bx)) +ℤ m *ℤ (s *ℤ (k *ℤ ay) +ℤ t *ℤ (k *ℤ by))
+    ≡ (n *ℤ (s *ℤ ax +ℤ t *ℤ bx) +ℤ m *ℤ (s *ℤ ay +ℤ t *ℤ by)) *ℤ k
+mean_scaled k n m s t ax ay bx by = ring (k ∷ n ∷ m ∷ s ∷ t ∷ ax ∷ ay ∷ bx ∷ by ∷ [])
+    (v1 ⊗ (v3 ⊗ (v0 ⊗ v5) ⊕ v4 ⊗ (v0 ⊗ v7)) ⊕ v2 ⊗ (v3 ⊗ (v0 ⊗ v6) ⊕ v4 ⊗ (v0 ⊗ v8)))
+    ((v1 ⊗ (v3 ⊗ v5 ⊕ v4 ⊗ v7) ⊕ v2 ⊗ (v3 ⊗ v6 ⊕ v4 ⊗ v8)) ⊗ v0) refl
 
 width_scaled : (k c w : ℤ) → (k *ℤ c -ℤ pos 1) *ℤ w ≡ (c *ℤ w) *ℤ k -ℤ w
 width_scaled k c w = ring (k ∷ c ∷ w ∷ []) ((v0 ⊗ v1 ⊖ num (pos 1)) ⊗ v2) ((v1 ⊗ v2) ⊗ v0 ⊖ v2) refl
 
-inside_of_lies : (k c s t a b : ℤ) → pos 0 <ℤ k → pos 0 <ℤ (s +ℤ t) → Lies (scaled_width k c) s t (k *ℤ a) (k *ℤ b) → Inside c s t a b
-inside_of_lies k c s t a b h some l =
-    let m = mean_scaled k s t a b in
-    let w = width_scaled k c (s +ℤ t) in
-    let f = l.from in
-    let g = l.to in
-    let p = sub_mul (c *ℤ (s +ℤ t)) (s *ℤ a +ℤ t *ℤ b) k in
-    let q = add_mul (c *ℤ (s +ℤ t)) (s *ℤ a +ℤ t *ℤ b) k in
-    let u = pos_left (c *ℤ (s +ℤ t) -ℤ (s *ℤ a +ℤ t *ℤ b)) k h (omega (arith, ints, m, w, p, g, some)) in
-    let v = pos_left (c *ℤ (s +ℤ t) +ℤ (s *ℤ a +ℤ t *ℤ b)) k h (omega (arith, ints, m, w, q, f, some)) in
-    record { from = omega (arith, ints, v); to = omega (arith, ints, u) }
+gap_is : (a b k : ℤ) → (a -ℤ b -ℤ pos 1) *ℤ k ≡ (a *ℤ k -ℤ b *ℤ k) -ℤ k
+gap_is a b k = ring (a ∷ b ∷ k ∷ []) ((v0 ⊖ v1 ⊖ num (pos 1)) ⊗ v2) ((v0 ⊗ v2 ⊖ v1 ⊗ v2) ⊖ v2) refl
 
--- an order is kept by a positive factor in front
-times_at_most : (k a b : ℤ) → pos 0 <ℤ k → a ≤ℤ b → (k *ℤ a) ≤ℤ (k *ℤ b)
-times_at_most k a b h o =
-    let m = at_most_times a b k h o in
-    let e = *ℤ_comm k a in
-    let f = *ℤ_comm k b in
-    omega (arith, ints, m, e, f)
+difference_is : (a b k : ℤ) → (a -ℤ b) *ℤ k ≡ a *ℤ k -ℤ b *ℤ k
+difference_is a b k = ring (a ∷ b ∷ k ∷ []) ((v0 ⊖ v1) ⊗ v2) (v0 ⊗ v2 ⊖ v1 ⊗ v2) refl
 
-pub found_inside : (c ax ay bx by : ℤ) → pos 0 <ℤ c → ax ≤ℤ bx → ay ≤ℤ by → PassesInside c ax ay bx by → FoundInside c ax ay bx by
-found_inside c ax ay bx by some rx ry p =
-    let k : ℤ = span ax ay bx by +ℤ pos 1 in
-    let h : pos 0 <ℤ k = omega (arith, ints) in
-    let g = gaps c ax ay bx by rx ry p in
-    let m = at_least_mul (k *ℤ (c *ℤ span ax ay bx by -ℤ cross ax ay bx by) -ℤ span ax ay bx by) k g.most (omega (arith, ints, h)) in
-    let n = at_least_mul (k *ℤ (c *ℤ span ax ay bx by +ℤ cross ax ay bx by) -ℤ span ax ay bx by) k g.least (omega (arith, ints, h)) in
-    let e = line_scaled k c ax ay bx by in
-    let d = line_scaled_down k c ax ay bx by in
-    let t : Passes (scaled_width k c) (k *ℤ ax) (k *ℤ ay) (k *ℤ bx) (k *ℤ by) = record {
-      left = below_scaled k c ax h p.left;
-      right = above_scaled k c bx h p.right;
-      below = below_scaled k c ay h p.below;
-      over = above_scaled k c by h p.over;
-      most = omega (arith, ints, m, e);
-      least = omega (arith, ints, n, d);
-    } in
-    let z = below_scaled k c (pos 0) h some in
-    let f = found (scaled_width k c) (k *ℤ ax) (k *ℤ ay) (k *ℤ bx) (k *ℤ by) (omega (arith, ints, z)) (times_at_most k ax bx h rx) (times_at_most k ay by h ry) t in
-    record { s = f.s; t = f.t; from = f.from; to = f.to; some = f.some; x = inside_of_lies k c f.s f.t ax bx h f.some f.x; y = inside_of_lies k c f.s f.t ay by h f.some f.y }
+factor_first : (k c : ℤ) → c *ℤ k ≡ k *ℤ c
+factor_first k c = ring (k ∷ c ∷ []) (v1 ⊗ v0) (v0 ⊗ v1) refl
 
--- ---- and back, with K the sum of the weights
-lies_of_inside : (c s t a b : ℤ) → pos 0 <ℤ (s +ℤ t) → Inside c s t a b → Lies (scaled_width (s +ℤ t) c) s t ((s +ℤ t) *ℤ a) ((s +ℤ t) *ℤ b)
-lies_of_inside c s t a b some i =
-    let k : ℤ = s +ℤ t in
-    let m = mean_scaled k s t a b in
-    let w = width_scaled k c k in
-    let f = i.from in
-    let g = i.to in
-    let u = at_most_times (s *ℤ a +ℤ t *ℤ b) (c *ℤ k -ℤ pos 1) k some (omega (arith, ints, g)) in
-    let v = at_most_times (pos 1 -ℤ c *ℤ k) (s *ℤ a +ℤ t *ℤ b) k some (omega (arith, ints, f)) in
-    let p = one_less_times (c *ℤ k) k in
-    let q = one_less (c *ℤ k) k in
-    record { from = omega (arith, ints, m, w, v, q); to = omega (arith, ints, m, w, u, p) }
-  where
-    one_less : (z k : ℤ) → (pos 1 -ℤ z) *ℤ k ≡ k -ℤ z *ℤ k
-    one_less z k = ring (z ∷ k ∷ []) ((num (pos 1) ⊖ v0) ⊗ v1) (v1 ⊖ v0 ⊗ v1) refl
+-- the gap between the breadth and the distance from the line, K times, less the length
+pub record Gaps (k c u ax ay bx by : ℤ) : Type 0 where
+  pub most : pos 0 ≤ℤ (k *ℤ (breadth c (u -ℤ c) (bx -ℤ ax) (by -ℤ ay) -ℤ cross ax ay bx by) -ℤ
+      length_of (bx -ℤ ax) (by -ℤ ay))
+  pub least : pos 0 ≤ℤ (k *ℤ (breadth c (u -ℤ c) (bx -ℤ ax) (by -ℤ ay) +ℤ cross ax ay bx by) -ℤ
+      length_of (bx -ℤ ax) (by -ℤ ay))
 
-less_back : (k c a : ℤ) → pos 0 <ℤ k → (k *ℤ a) ≤ℤ scaled_width k c → a <ℤ c
-less_back k c a h l =
-    let u = pos_left (c -ℤ a) k h (omega (arith, ints, l, is k c a)) in omega (arith, ints, u)
-  where
-    is : (k c a : ℤ) → (c -ℤ a) *ℤ k ≡ k *ℤ c -ℤ k *ℤ a
-    is k c a = ring (k ∷ c ∷ a ∷ []) ((v1 ⊖ v2) ⊗ v0) (v0 ⊗ v1 ⊖ v0 ⊗ v2) refl
+parted : (k b x l : ℤ) → (k *ℤ (b -ℤ x) -ℤ l) *ℤ k ≡ k *ℤ (k *ℤ b -ℤ l) -ℤ k *ℤ (k *ℤ x)
+parted k b x l = ring (k ∷ b ∷ x ∷ l ∷ []) ((v0 ⊗ (v1 ⊖ v2) ⊖ v3) ⊗ v0) (v0 ⊗ (v0 ⊗ v1 ⊖ v3) ⊖ v0 ⊗ (v0 ⊗ v2)) refl
 
-more_back : (k c a : ℤ) → pos 0 <ℤ k → (pos 0 -ℤ scaled_width k c) ≤ℤ (k *ℤ a) → (pos 0 -ℤ c) <ℤ a
-more_back k c a h l =
-    let u = pos_left (a +ℤ c) k h (omega (arith, ints, l, is k c a)) in omega (arith, ints, u)
-  where
-    is : (k c a : ℤ) → (a +ℤ c) *ℤ k ≡ k *ℤ a +ℤ k *ℤ c
-    is k c a = ring (k ∷ c ∷ a ∷ []) ((v2 ⊕ v1) ⊗ v0) (v0 ⊗ v2 ⊕ v0 ⊗ v1) refl
+parted_back : (k b x l : ℤ) → (k *ℤ (b +ℤ x) -ℤ l) *ℤ k ≡ k *ℤ (k *ℤ b -ℤ l) +ℤ k *ℤ (k *ℤ x)
+parted_back k b x l = ring (k ∷ b ∷ x ∷ l ∷ []) ((v0 ⊗ (v1 ⊕ v2) ⊖ v3) ⊗ v0) (v0 ⊗ (v0 ⊗ v1 ⊖ v3) ⊕ v0 ⊗ (v0 ⊗ v2)) refl
 
-pub passes_inside : (c ax ay bx by : ℤ) → ax ≤ℤ bx → ay ≤ℤ by → FoundInside c ax ay bx by → PassesInside c ax ay bx by
-passes_inside c ax ay bx by rx ry f =
-    let k : ℤ = f.s +ℤ f.t in
-    let h : pos 0 <ℤ k = f.some in
-    let t = passes (scaled_width k c) (k *ℤ ax) (k *ℤ ay) (k *ℤ bx) (k *ℤ by) (times_at_most k ax bx h rx) (times_at_most k ay by h ry)
-    (record { s = f.s; t = f.t; from = f.from; to = f.to; some = f.some; x = lies_of_inside c f.s f.t ax bx f.some f.x; y = lies_of_inside c f.s f.t ay by f.some f.y }) in
-    let e = line_scaled k c ax ay bx by in
-    let d = line_scaled_down k c ax ay bx by in
-    let tm = t.most in
-    let tl = t.least in
-    let m = at_least_left (k *ℤ (c *ℤ span ax ay bx by -ℤ cross ax ay bx by) -ℤ span ax ay bx by) k h (omega (arith, ints, tm, e)) in
-    let n = at_least_left (k *ℤ (c *ℤ span ax ay bx by +ℤ cross ax ay bx by) -ℤ span ax ay bx by) k h (omega (arith, ints, tl, d)) in
-    record {
-      left = less_back k c ax h t.left;
-      right = more_back k c bx h t.right;
-      below = less_back k c ay h t.below;
-      over = more_back k c by h t.over;
-      most = λ o. let u = pos_left (c *ℤ span ax ay bx by -ℤ cross ax ay bx by) k h (omega (arith, ints, m, o, *ℤ_comm k (c *ℤ span ax ay bx by -ℤ cross ax ay bx by))) in omega (arith, ints, u);
-      least = λ o. let u = pos_left (c *ℤ span ax ay bx by +ℤ cross ax ay bx by) k h (omega (arith, ints, n, o, *ℤ_comm k (c *ℤ span ax ay bx by +ℤ cross ax ay bx by))) in omega (arith, ints, u);
+module _ (k c u ax ay bx by : ℤ) (h : pos 0 <ℤ k) where
+  abbrev pub ScaledEnd : ℤ → ℤ → ℤ → Type 0
+  ScaledEnd n m w = End n m (k *ℤ w -ℤ pos 1) (k *ℤ ax) (k *ℤ ay) (k *ℤ bx) (k *ℤ by)
+
+  -- ---- ends
+  value_up : (n m w x y : ℤ) → (n *ℤ x +ℤ m *ℤ y) <ℤ w → (n *ℤ (k *ℤ x) +ℤ m *ℤ (k *ℤ y)) ≤ℤ (k *ℤ w -ℤ pos 1)
+  value_up n m w x y l =
+      let g = at_least_mul (w -ℤ (n *ℤ x +ℤ m *ℤ y) -ℤ pos 1) k (omega (arith, ints, l)) (omega (arith, ints, h)) in
+      let e = gap_is w (n *ℤ x +ℤ m *ℤ y) k in
+      let v = value_scaled k n m x y in
+      let f = factor_first k w in
+      omega (arith, ints, g, e, v, f, h)
+
+  value_down : (n m w x y : ℤ) → (n *ℤ (k *ℤ x) +ℤ m *ℤ (k *ℤ y)) ≤ℤ (k *ℤ w -ℤ pos 1) → (n *ℤ x +ℤ m *ℤ y) <ℤ w
+  value_down n m w x y l =
+      let e = difference_is w (n *ℤ x +ℤ m *ℤ y) k in
+      let v = value_scaled k n m x y in
+      let f = factor_first k w in
+      let g = pos_left (w -ℤ (n *ℤ x +ℤ m *ℤ y)) k h (omega (arith, ints, l, e, v, f)) in
+      omega (arith, ints, g)
+
+  end_up : (n m w : ℤ) → EndWithin n m w ax ay bx by → ScaledEnd n m w
+  end_up n m w (inl l) = inl (value_up n m w ax ay l)
+  end_up n m w (inr l) = inr (value_up n m w bx by l)
+
+  end_down : (n m w : ℤ) → ScaledEnd n m w → EndWithin n m w ax ay bx by
+  end_down n m w (inl l) = inl (value_down n m w ax ay l)
+  end_down n m w (inr l) = inr (value_down n m w bx by l)
+
+  abbrev pub ScaledEnds : Type 0
+  ScaledEnds = Ends (k *ℤ c -ℤ pos 1) (k *ℤ u -ℤ pos 1) (k *ℤ ax) (k *ℤ ay) (k *ℤ bx) (k *ℤ by)
+
+  ends_up : EndsWithin c u ax ay bx by → ScaledEnds
+  ends_up e = record {
+    right = end_up (pos 1) (pos 0) c e.right;
+    left = end_up (neg_ℤ (pos 1)) (pos 0) c e.left;
+    over = end_up (pos 0) (pos 1) c e.over;
+    below = end_up (pos 0) (neg_ℤ (pos 1)) c e.below;
+    over_right = end_up (pos 1) (pos 1) u e.over_right;
+    below_right = end_up (pos 1) (neg_ℤ (pos 1)) u e.below_right;
+    over_left = end_up (neg_ℤ (pos 1)) (pos 1) u e.over_left;
+    below_left = end_up (neg_ℤ (pos 1)) (neg_ℤ (pos 1)) u e.below_left;
+  }
+
+  ends_down : ScaledEnds → EndsWithin c u ax ay bx by
+  ends_down e = record {
+    right = end_down (pos 1) (pos 0) c e.right;
+    left = end_down (neg_ℤ (pos 1)) (pos 0) c e.left;
+    over = end_down (pos 0) (pos 1) c e.over;
+    below = end_down (pos 0) (neg_ℤ (pos 1)) c e.below;
+    over_right = end_down (pos 1) (pos 1) u e.over_right;
+    below_right = end_down (pos 1) (neg_ℤ (pos 1)) u e.below_right;
+    over_left = end_down (neg_ℤ (pos 1)) (pos 1) u e.over_left;
+    below_left = end_down (neg_ℤ (pos 1)) (neg_ℤ (pos 1)) u e.below_left;
+  }
+
+  -- ---- the line
+  abbrev ScaledLine : Type 0
+  ScaledLine = IsSize (breadth (k *ℤ c -ℤ pos 1) ((k *ℤ u -ℤ pos 1) -ℤ (k *ℤ c -ℤ pos 1)) (k *ℤ bx -ℤ k *ℤ ax)
+      (k *ℤ by -ℤ k *ℤ ay)) (cross (k *ℤ ax) (k *ℤ ay) (k *ℤ bx) (k *ℤ by))
+
+  line_is : breadth (k *ℤ c -ℤ pos 1) ((k *ℤ u -ℤ pos 1) -ℤ (k *ℤ c -ℤ pos 1)) (k *ℤ bx -ℤ k *ℤ ax)
+      (k *ℤ by -ℤ k *ℤ ay)
+      ≡ k *ℤ (k *ℤ breadth c (u -ℤ c) (bx -ℤ ax) (by -ℤ ay) -ℤ length_of (bx -ℤ ax) (by -ℤ ay))
+  line_is =
+      let t : (k *ℤ u -ℤ pos 1) -ℤ (k *ℤ c -ℤ pos 1) ≡ k *ℤ (u -ℤ c) = ring (k ∷ u ∷ c ∷ [])
+      ((v0 ⊗ v1 ⊖ num (pos 1)) ⊖ (v0 ⊗ v2 ⊖ num (pos 1))) (v0 ⊗ (v1 ⊖ v2)) refl in
+      let x : k *ℤ bx -ℤ k *ℤ ax ≡ k *ℤ (bx -ℤ ax) = ring (k ∷ bx ∷ ax ∷ []) (v0 ⊗ v1 ⊖ v0 ⊗ v2) (v0 ⊗ (v1 ⊖ v2)) refl in
+      let y : k *ℤ by -ℤ k *ℤ ay ≡ k *ℤ (by -ℤ ay) = ring (k ∷ by ∷ ay ∷ []) (v0 ⊗ v1 ⊖ v0 ⊗ v2) (v0 ⊗ (v1 ⊖ v2)) refl in
+      rw (t, x, y) (breadth_scaled k c (u -ℤ c) (bx -ℤ ax) (by -ℤ ay) h)
+
+  line_up : Gaps k c u ax ay bx by → ScaledLine
+  line_up g =
+      let b : ℤ = breadth c (u -ℤ c) (bx -ℤ ax) (by -ℤ ay) in
+      let l : ℤ = length_of (bx -ℤ ax) (by -ℤ ay) in
+      let x : ℤ = cross ax ay bx by in
+      let m = at_least_mul (k *ℤ (b -ℤ x) -ℤ l) k g.most (omega (arith, ints, h)) in
+      let n = at_least_mul (k *ℤ (b +ℤ x) -ℤ l) k g.least (omega (arith, ints, h)) in
+      let p = parted k b x l in
+      let q = parted_back k b x l in
+      let e = line_is in
+      let f = cross_scaled k ax ay bx by in
+      record { least = omega (arith, ints, n, q, e, f); most = omega (arith, ints, m, p, e, f) }
+
+  line_down : ScaledLine → Gaps k c u ax ay bx by
+  line_down s =
+      let b : ℤ = breadth c (u -ℤ c) (bx -ℤ ax) (by -ℤ ay) in
+      let l : ℤ = length_of (bx -ℤ ax) (by -ℤ ay) in
+      let x : ℤ = cross ax ay bx by in
+      let m = s.most in
+      let n = s.least in
+      let p = parted k b x l in
+      let q = parted_back k b x l in
+      let e = line_is in
+      let f = cross_scaled k ax ay bx by in
+      record {
+        most = at_least_left (k *ℤ (b -ℤ x) -ℤ l) k h (omega (arith, ints, m, p, e, f));
+        least = at_least_left (k *ℤ (b +ℤ x) -ℤ l) k h (omega (arith, ints, n, q, e, f));
+      }
+
+  -- ---- means
+  within : (n m w s t : ℤ) → pos 0 <ℤ (s +ℤ t) → Lies n m (k *ℤ w -ℤ pos 1) s t (k *ℤ ax) (k *ℤ ay) (k *ℤ bx) (k *ℤ by)
+      → LiesWithin n m w s t ax ay bx by
+  within n m w s t some l =
+      let v : ℤ = n *ℤ (s *ℤ ax +ℤ t *ℤ bx) +ℤ m *ℤ (s *ℤ ay +ℤ t *ℤ by) in
+      let e = mean_scaled k n m s t ax ay bx by in
+      let f = width_scaled k w (s +ℤ t) in
+      let d = difference_is (w *ℤ (s +ℤ t)) v k in
+      let g = pos_left (w *ℤ (s +ℤ t) -ℤ v) k h (omega (arith, ints, l, e, f, d, some)) in
+      omega (arith, ints, g)
+
+  pub inside_of : Approach (k *ℤ c -ℤ pos 1) (k *ℤ u -ℤ pos 1) (k *ℤ ax) (k *ℤ ay) (k *ℤ bx) (k *ℤ by)
+      → Inside c u ax ay bx by
+  inside_of a = record {
+    s = a.s;
+    t = a.t;
+    from = a.from;
+    to = a.to;
+    some = a.some;
+    right = within (pos 1) (pos 0) c a.s a.t a.some a.right;
+    left = within (neg_ℤ (pos 1)) (pos 0) c a.s a.t a.some a.left;
+    over = within (pos 0) (pos 1) c a.s a.t a.some a.over;
+    below = within (pos 0) (neg_ℤ (pos 1)) c a.s a.t a.some a.below;
+    over_right = within (pos 1) (pos 1) u a.s a.t a.some a.over_right;
+    below_right = within (pos 1) (neg_ℤ (pos 1)) u a.s a.t a.some a.below_right;
+    over_left = within (neg_ℤ (pos 1)) (pos 1) u a.s a.t a.some a.over_left;
+    below_left = within (neg_ℤ (pos 1)) (neg_ℤ (pos 1)) u a.s a.t a.some a.below_left;
+  }
+
+  -- ---- together
+  module _ (thin : u <ℤ (pos 2 *ℤ c)) (wide : c ≤ℤ u) (some : pos 0 <ℤ c) (up : pos 0 ≤ℤ (by -ℤ ay)) where
+    width : pos 0 ≤ℤ (k *ℤ c -ℤ pos 1)
+    width =
+        let g = at_least_mul (c -ℤ pos 1) k (omega (arith, ints, some)) (omega (arith, ints, h)) in
+        let e : (c -ℤ pos 1) *ℤ k ≡ k *ℤ c -ℤ k = ring (k ∷ c ∷ []) ((v1 ⊖ num (pos 1)) ⊗ v0) (v0 ⊗ v1 ⊖ v0) refl in
+        omega (arith, ints, g, e, h)
+
+    wider : (k *ℤ c -ℤ pos 1) ≤ℤ (k *ℤ u -ℤ pos 1)
+    wider =
+        let g = at_least_mul (u -ℤ c) k (omega (arith, ints, wide)) (omega (arith, ints, h)) in
+        let e : (u -ℤ c) *ℤ k ≡ k *ℤ u -ℤ k *ℤ c = ring (k ∷ u ∷ c ∷ []) ((v1 ⊖ v2) ⊗ v0) (v0 ⊗ v1 ⊖ v0 ⊗ v2) refl in
+        omega (arith, ints, g, e)
+
+    narrow : (k *ℤ u -ℤ pos 1) ≤ℤ (pos 2 *ℤ (k *ℤ c -ℤ pos 1))
+    narrow =
+        let g = at_least_mul ((pos 2 *ℤ c -ℤ u) -ℤ pos 1) k (omega (arith, ints, thin)) (omega (arith, ints, h)) in
+        let e : ((pos 2 *ℤ c -ℤ u) -ℤ pos 1) *ℤ k ≡ (pos 2 *ℤ (k *ℤ c) -ℤ k *ℤ u) -ℤ k = ring (k ∷ c ∷ u ∷ [])
+        (((num (pos 2) ⊗ v1 ⊖ v2) ⊖ num (pos 1)) ⊗ v0) ((num (pos 2) ⊗ (v0 ⊗ v1) ⊖ v0 ⊗ v2) ⊖ v0) refl in
+        omega (arith, ints, g, e, h)
+
+    rises : pos 0 ≤ℤ (k *ℤ by -ℤ k *ℤ ay)
+    rises =
+        let g = at_least_mul (by -ℤ ay) k up (omega (arith, ints, h)) in
+        let e = difference_is by ay k in
+        let p = factor_first k by in
+        let q = factor_first k ay in
+        omega (arith, ints, g, e, p, q)
+
+    pub inside_if : EndsWithin c u ax ay bx by → Gaps k c u ax ay bx by → Inside c u ax ay bx by
+    inside_if e g = inside_of (approach_if_passes (k *ℤ c -ℤ pos 1) (k *ℤ u -ℤ pos 1) (k *ℤ ax) (k *ℤ ay) (k *ℤ bx)
+        (k *ℤ by) width wider narrow rises
+        (tests (k *ℤ c -ℤ pos 1) (k *ℤ u -ℤ pos 1) (k *ℤ ax) (k *ℤ ay) (k *ℤ bx) (k *ℤ by) (ends_up e) (line_up g)))
+
+    pub told_if : Approach (k *ℤ c -ℤ pos 1) (k *ℤ u -ℤ pos 1) (k *ℤ ax) (k *ℤ ay) (k *ℤ bx) (k *ℤ by)
+        → EndsWithin c u ax ay bx by × Gaps k c u ax ay bx by
+    told_if a =
+        let f = facts (k *ℤ c -ℤ pos 1) (k *ℤ u -ℤ pos 1) (k *ℤ ax) (k *ℤ ay) (k *ℤ bx) (k *ℤ by)
+        (passes_if_approach (k *ℤ c -ℤ pos 1) (k *ℤ u -ℤ pos 1) (k *ℤ ax) (k *ℤ ay) (k *ℤ bx) (k *ℤ by) width wider narrow
+        rises a) in
+        (ends_down f.0, line_down f.1)
+
+-- ---- of a point
+point_breadth : (s t x y : ℤ) → x ≡ pos 0 → y ≡ pos 0 → breadth s t x y ≡ pos 0
+point_breadth s t x y hx hy =
+    by_direction s t x y true (int_le (x +ℤ y) (pos 0)) (int_le (pos 0) x)
+    (int_le-at_most y x (omega (arith, ints, hx, hy))) refl refl
+    ∙ ap₂ (λ (a b : ℤ). s *ℤ a +ℤ t *ℤ b) hx hy
+    ∙ ring (s ∷ t ∷ []) (v0 ⊗ num (pos 0) ⊕ v1 ⊗ num (pos 0)) (num (pos 0)) refl
+
+point_cross : (ax ay bx by : ℤ) → ax ≡ bx → ay ≡ by → cross ax ay bx by ≡ pos 0
+point_cross ax ay bx by x y =
+    ap₂ (λ (a b : ℤ). ax *ℤ b -ℤ ay *ℤ a) (sym x) (sym y)
+    ∙ ring (ax ∷ ay ∷ []) (v0 ⊗ v1 ⊖ v1 ⊗ v0) (num (pos 0)) refl
+
+no_gap : (k g l : ℤ) → g ≡ pos 0 → l ≡ pos 0 → pos 0 ≤ℤ (k *ℤ g -ℤ l)
+no_gap k g l hg hl =
+    let m : k *ℤ g ≡ k *ℤ pos 0 = ap (λ (z : ℤ). k *ℤ z) hg in
+    let n = no_times k in
+    omega (arith, ints, m, n, hl)
+
+-- ---- with K one more than the length
+module _ (c u ax ay bx by : ℤ) (thin : u <ℤ (pos 2 *ℤ c)) (wide : c ≤ℤ u) (some : pos 0 <ℤ c)
+    (up : pos 0 ≤ℤ (by -ℤ ay)) where
+  abbrev l : ℤ
+  l = length_of (bx -ℤ ax) (by -ℤ ay)
+
+  abbrev b : ℤ
+  b = breadth c (u -ℤ c) (bx -ℤ ax) (by -ℤ ay)
+
+  -- a gap above 0, taken l + 1 times, is more than l
+  more_than : (g : ℤ) → pos 0 ≤ℤ l → pos 0 <ℤ g → pos 0 ≤ℤ ((l +ℤ pos 1) *ℤ g -ℤ l)
+  more_than g h o =
+      let m = at_least_mul (g -ℤ pos 1) (l +ℤ pos 1) (omega (arith, ints, o)) (omega (arith, ints, h)) in
+      let e : (g -ℤ pos 1) *ℤ (l +ℤ pos 1) ≡ (l +ℤ pos 1) *ℤ g -ℤ (l +ℤ pos 1) = ring (g ∷ l ∷ [])
+      ((v0 ⊖ num (pos 1)) ⊗ (v1 ⊕ num (pos 1))) ((v1 ⊕ num (pos 1)) ⊗ v0 ⊖ (v1 ⊕ num (pos 1))) refl in
+      omega (arith, ints, m, e)
+
+  point_gaps : ax ≡ bx → ay ≡ by → Gaps (l +ℤ pos 1) c u ax ay bx by
+  point_gaps x y =
+      let z : bx -ℤ ax ≡ pos 0 = omega (arith, ints, x) in
+      let w : by -ℤ ay ≡ pos 0 = omega (arith, ints, y) in
+      let o : l ≡ pos 0 = point_breadth (pos 1) (pos 0) (bx -ℤ ax) (by -ℤ ay) z w in
+      let b_none : b ≡ pos 0 = point_breadth c (u -ℤ c) (bx -ℤ ax) (by -ℤ ay) z w in
+      let k = point_cross ax ay bx by x y in
+      record {
+        most = no_gap (l +ℤ pos 1) (b -ℤ cross ax ay bx by) l (omega (arith, ints, b_none, k)) o;
+        least = no_gap (l +ℤ pos 1) (b +ℤ cross ax ay bx by) l (omega (arith, ints, b_none, k)) o;
+      }
+
+  gaps : IsLineWithin c u ax ay bx by → Gaps (l +ℤ pos 1) c u ax ay bx by
+  gaps line =
+      let p = length_at_least (bx -ℤ ax) (by -ℤ ay) up in
+      let r = p.0 in
+      let x = p.1 in
+      let y = p.2 in
+      elim (order l (pos 0)) [
+        | inl o ↦ point_gaps (omega (arith, ints, o, x, y)) (omega (arith, ints, o, r, up))
+        | inr o ↦
+            let i = line o in
+            let f = i.from in
+            let t = i.to in
+            record {
+              most = more_than (b -ℤ cross ax ay bx by) (omega (arith, ints, o)) (omega (arith, ints, t));
+              least = more_than (b +ℤ cross ax ay bx by) (omega (arith, ints, o)) (omega (arith, ints, f));
+            }
+      ]
+
+  pub inside_if_passes : EndsWithin c u ax ay bx by → IsLineWithin c u ax ay bx by → Inside c u ax ay bx by
+  inside_if_passes e line =
+      let p = (length_at_least (bx -ℤ ax) (by -ℤ ay) up).0 in
+      inside_if (l +ℤ pos 1) c u ax ay bx by (omega (arith, ints, p, up)) thin wide some up e (gaps line)
+
+  -- ---- and back, with K the sum of the weights
+  module _ (i : Inside c u ax ay bx by) where
+    abbrev k : ℤ
+    k = i.s +ℤ i.t
+
+    lies : (n m w : ℤ) → LiesWithin n m w i.s i.t ax ay bx by
+        → Lies n m (k *ℤ w -ℤ pos 1) i.s i.t (k *ℤ ax) (k *ℤ ay) (k *ℤ bx) (k *ℤ by)
+    lies n m w h =
+        let v : ℤ = n *ℤ (i.s *ℤ ax +ℤ i.t *ℤ bx) +ℤ m *ℤ (i.s *ℤ ay +ℤ i.t *ℤ by) in
+        let e = mean_scaled k n m i.s i.t ax ay bx by in
+        let f = width_scaled k w k in
+        let o = i.some in
+        let g = at_least_mul (w *ℤ k -ℤ v -ℤ pos 1) k (omega (arith, ints, h)) (omega (arith, ints, o)) in
+        let d = gap_is (w *ℤ k) v k in
+        omega (arith, ints, g, d, e, f)
+
+    approach : Approach (k *ℤ c -ℤ pos 1) (k *ℤ u -ℤ pos 1) (k *ℤ ax) (k *ℤ ay) (k *ℤ bx) (k *ℤ by)
+    approach = record {
+      s = i.s;
+      t = i.t;
+      from = i.from;
+      to = i.to;
+      some = i.some;
+      right = lies (pos 1) (pos 0) c i.right;
+      left = lies (neg_ℤ (pos 1)) (pos 0) c i.left;
+      over = lies (pos 0) (pos 1) c i.over;
+      below = lies (pos 0) (neg_ℤ (pos 1)) c i.below;
+      over_right = lies (pos 1) (pos 1) u i.over_right;
+      below_right = lies (pos 1) (neg_ℤ (pos 1)) u i.below_right;
+      over_left = lies (neg_ℤ (pos 1)) (pos 1) u i.over_left;
+      below_left = lies (neg_ℤ (pos 1)) (neg_ℤ (pos 1)) u i.below_left;
     }
+
+    pub passes_if_inside : EndsWithin c u ax ay bx by × IsLineWithin c u ax ay bx by
+    passes_if_inside =
+        let f = told_if k c u ax ay bx by i.some thin wide some up approach in
+        let m = f.1.most in
+        let n = f.1.least in (
+          f.0,
+          λ o.
+              let p = positive_gap (b -ℤ cross ax ay bx by) o m in
+              let q = positive_gap (b +ℤ cross ax ay bx by) o n in
+              record { from = omega (arith, ints, q); to = omega (arith, ints, p) },
+        )
+      where
+        positive_gap : (g : ℤ) → pos 0 <ℤ l → pos 0 ≤ℤ (k *ℤ g -ℤ l) → pos 0 <ℤ g
+        positive_gap g o h =
+            let e = factor_first g k in
+            pos_left g k i.some (omega (arith, ints, o, h, e))

@@ -10,7 +10,9 @@ use Rattle.plan_infill.specs.declared.line.Line.{Line}
 use Rattle.plan_infill.specs.declared.line.Line.TheVariants.{Row, Column}
 use Rattle.plan_infill.specs.declared.step.Step.{Step}
 use Rattle.plan_infill.specs.declared.stretch.Stretch.{Stretch}
-use Rattle.plan_infill.specs.Runs.{ComesNearer, point_on}
+use Rattle.scad_ring.specs.Octagon.{octagon_of}
+use Rattle.scad_ring.specs.Nearness.{Open, Meets, IsClear}
+use Rattle.plan_infill.specs.Runs.{point_on}
 
 -- the sum of one of the numbers of steps, over those at a place and before it
 abbrev pub up_to : (Step → ℤ) → ℤ → List Step → ℤ
@@ -32,14 +34,18 @@ pub record GiveTurns (line : Line) (e : Edge) (steps : List Step) : Type 0 where
   pub each : (z : ℤ) → turn true true (whole (point_on line z)) (whole e.a) (whole e.b) ≡ turn_before line e +ℤ up_to (λ s. s.turns) z steps
   pub behind : turn_before line e +ℤ all_of (λ s. s.turns) steps ≡ pos 0
 
--- an edge doesn't come nearer than c to the whole point of a line
-abbrev pub IsApart : ℕ → Line → ℤ → Edge → Type 0
-IsApart c line z e = ComesNearer (pos c) (whole (point_on line z)) (whole e.a) (whole e.b) → ⊥
+-- an edge comes within the octagon of c round the whole point of a line, without its border
+abbrev pub ComesNear : ℕ → Line → ℤ → Edge → Type 0
+ComesNear c line z e = Meets Open (octagon_of c) (whole (point_on line z)) (whole e.a) (whole e.b)
 
--- the steps count 1 where an edge comes nearer than c to the whole point of a line, else 0
+-- it doesn't
+abbrev pub IsApart : ℕ → Line → ℤ → Edge → Type 0
+IsApart c line z e = IsClear Open (octagon_of c) (whole (point_on line z)) (whole e.a) (whole e.b)
+
+-- the steps count 1 where an edge comes near to the whole point of a line, else 0
 abbrev pub GiveNear : ℕ → Line → Edge → List Step → Type 0
 GiveNear c line e steps = (z : ℤ) →
-    ((up_to (λ s. s.near) z steps ≡ pos 1) × ComesNearer (pos c) (whole (point_on line z)) (whole e.a) (whole e.b))
+    ((up_to (λ s. s.near) z steps ≡ pos 1) × ComesNear c line z e)
     ⊎ ((up_to (λ s. s.near) z steps ≡ pos 0) × IsApart c line z e)
 
 -- a step changes by at most one; where it changes the winding number it lies within the limit of the coordinates

@@ -17,8 +17,8 @@ use scad_geom::{Edge, Loop};
 use std::alloc::{AllocError, Global};
 
 /// The runs of a line inside outlines, upwards: the maximal stretches of neighbouring whole points, at least `least`
-/// micrometres long, that the outlines wind round and to which no point of their sides is nearer than `c` micrometres along
-/// both axes.
+/// micrometres long, that the outlines wind round and that no point of their sides differs from by a point within the
+/// octagon of `c` micrometres. A side on the octagon's border doesn't count.
 ///
 /// The time is that of sorting a few places for each side.
 pub fn runs(

@@ -1,13 +1,15 @@
 //! Where edges come near along a line.
-ghost use Rattle.std.specs.Prelude.{◌≡◌, ◌+◌, ◌*◌, ◌^◌, ◌<◌, ◌≤◌, ◌&&◌, true, false, ◌+ℤ◌, ◌-ℤ◌, ◌*ℤ◌, pos, ◌<ℤ◌, ◌≤ℤ◌, int_lt, unsigned_abs, OnOk};
+ghost use Rattle.std.specs.Prelude.{◌≡◌, ◌+◌, ◌*◌, ◌^◌, ◌<◌, ◌≤◌, ◌&&◌, true, false, ◌+ℤ◌, ◌-ℤ◌, pos, ◌<ℤ◌, ◌≤ℤ◌, int_lt, unsigned_abs, OnOk};
 ghost use Rattle.std.specs.Int.{int_min, int_max};
 ghost use Rattle.scad_geom.specs.Limits.{coordinate_limit};
 ghost use Rattle.scad_geom.specs.Within.{IsEdgeWithin};
-ghost use Rattle.scad_geom.specs.Line.{low, high, rise, run, x_at};
+ghost use Rattle.scad_geom.specs.Line.{low, high, rise};
+ghost use Rattle.scad_ring.specs.Octagon.{reach};
+ghost use Rattle.scad_ring.specs.Tests.{breadth};
 ghost use Rattle.plan_infill.specs.declared.line.Line.TheVariants.{Row, Column};
 ghost use Rattle.plan_infill.specs.Steps.{Adds, Counts, AreNearSteps};
 ghost use Rattle.plan_infill.specs.Runs.{IsLineWithin};
-ghost use Rattle.plan_infill.specs.Reach.{exchanged, reach, is_beside, ends_reach, IsReached, IsReachedByLine};
+ghost use Rattle.plan_infill.specs.Reach.{exchanged, line_reach, is_beside, around, IsBesideEnds, IsBesideLine, IsReached, AreThose};
 
 use crate::line::Line;
 use crate::quotient::{ceiling, floor};
@@ -17,9 +19,10 @@ use scad_geom::line::{high, low, rise, run, x_at};
 use scad_geom::whole::span;
 use scad_geom::wide::{minus, plus, times};
 use scad_geom::{Edge, Level, Pt};
+use scad_ring::slant;
 use std::alloc::AllocError;
 
-/// Adds where an edge comes nearer than `c` to the points of a line, and where no longer.
+/// Adds where an edge comes within the octagon of `c` round the points of a line, and where no longer.
 pub(crate) fn push_near_steps(
     steps: &mut Vec<Step>,
     e: &Edge,
@@ -89,7 +92,7 @@ fn reached(e: &Edge, y: i32, c: u32) -> Stretch
     requires row { unsigned_abs y ≤ coordinate_limit }
     ensures { IsReached c y e.now result }
 {
-    let by_ends = reached_by_ends(e, c);
+    let by_ends = reached_by_ends(e, y, c);
     if rise(e) > 0 {
         both(by_ends, reached_by_line(e, y, c))
     } else {
@@ -97,28 +100,71 @@ fn reached(e: &Edge, y: i32, c: u32) -> Stretch
     }
 }
 
-// Those that aren't far to the left or right of both ends.
-fn reached_by_ends(e: &Edge, c: u32) -> Stretch
-    ensures { result ≡ ends_reach c e.now }
+// Those that aren't far from both ends, across or aslant.
+fn reached_by_ends(e: &Edge, y: i32, c: u32) -> Stretch
+    requires row { unsigned_abs y ≤ coordinate_limit }
+    ensures { AreThose (IsBesideEnds c y e.now) result }
+{
+    let (from, to, up) = (low(e), high(e), y as i128);
+    let across = around(from.x as i128, to.x as i128, c as i128, 0);
+    let rising = around(sum(from), sum(to), half_sum(c), up);
+    let falling = around(difference(from), difference(to), half_sum(c), minus(0, up));
+    both(across, both(rising, falling))
+}
+
+// The places that, moved on by a way, lie less than `w` from what lies between `a` and `b`.
+fn around(a: i128, b: i128, w: i128, way: i128) -> Stretch
+    requires a { unsigned_abs a ≤ 2 ^ 33 }
+    requires b { unsigned_abs b ≤ 2 ^ 33 }
+    requires w { unsigned_abs w ≤ 2 ^ 33 }
+    requires way { unsigned_abs way ≤ 2 ^ 33 }
+    ensures from { result.from ≡ (around w a b way).from }
+    ensures until { result.until ≡ (around w a b way).until }
 {
     Stretch {
-        from: plus(minus(left(e), c as i128), 1),
-        until: plus(right(e), c as i128),
+        from: minus(plus(minus(lesser(a, b), w), 1), way),
+        until: minus(plus(greater(a, b), w), way),
     }
 }
 
-fn left(e: &Edge) -> i128
-    ensures value { result ≡ int_min (low e.now).x (high e.now).x }
-    ensures size { unsigned_abs result ≤ 2 ^ 31 }
+fn lesser(a: i128, b: i128) -> i128
+    requires a { unsigned_abs a ≤ 2 ^ 33 }
+    requires b { unsigned_abs b ≤ 2 ^ 33 }
+    ensures value { result ≡ int_min a b }
+    ensures size { unsigned_abs result ≤ 2 ^ 33 }
 {
-    low(e).x.min(high(e).x) as i128
+    a.min(b)
 }
 
-fn right(e: &Edge) -> i128
-    ensures value { result ≡ int_max (low e.now).x (high e.now).x }
-    ensures size { unsigned_abs result ≤ 2 ^ 31 }
+fn greater(a: i128, b: i128) -> i128
+    requires a { unsigned_abs a ≤ 2 ^ 33 }
+    requires b { unsigned_abs b ≤ 2 ^ 33 }
+    ensures value { result ≡ int_max a b }
+    ensures size { unsigned_abs result ≤ 2 ^ 33 }
 {
-    low(e).x.max(high(e).x) as i128
+    a.max(b)
+}
+
+// How far the octagon of `c` reaches along the sum of both axes.
+fn half_sum(c: u32) -> i128
+    ensures value { result ≡ pos (reach c) }
+    ensures size { unsigned_abs result ≤ 2 ^ 33 }
+{
+    c as i128 + slant(c) as i128
+}
+
+fn sum(p: Pt) -> i128
+    ensures value { result ≡ p.x +ℤ p.y }
+    ensures size { unsigned_abs result ≤ 2 ^ 33 }
+{
+    p.x as i128 + p.y as i128
+}
+
+fn difference(p: Pt) -> i128
+    ensures value { result ≡ p.x -ℤ p.y }
+    ensures size { unsigned_abs result ≤ 2 ^ 33 }
+{
+    p.x as i128 - p.y as i128
 }
 
 // Those that aren't far to the left or right of the line.
@@ -126,22 +172,44 @@ fn reached_by_line(e: &Edge, y: i32, c: u32) -> Stretch
     requires edge { IsEdgeWithin coordinate_limit e.now }
     requires row { unsigned_abs y ≤ coordinate_limit }
     requires rises { pos 0 <ℤ rise e.now }
-    ensures { IsReachedByLine c y e.now result }
+    ensures { AreThose (IsBesideLine c y e.now) result }
 {
     let x = x_at(e, &Level { n: y as i128, d: 1 });
-    let reach = reach(e, c);
+    let reach = line_reach(e, c);
     Stretch {
         from: plus(floor(minus(x, reach), rise(e)), 1),
         until: ceiling(plus(x, reach), rise(e)),
     }
 }
 
-fn reach(e: &Edge, c: u32) -> i128
+fn line_reach(e: &Edge, c: u32) -> i128
     requires edge { IsEdgeWithin coordinate_limit e.now }
-    ensures value { result ≡ reach c e.now }
-    ensures size { unsigned_abs result ≤ 2 ^ 56 }
+    ensures value { result ≡ line_reach c e.now }
+    ensures size { unsigned_abs result ≤ 2 ^ 60 }
 {
-    times::<32, 24>(c as i128, plus(run(e).abs(), rise(e)))
+    breadth(c as i128, slant(c) as i128, run(e), rise(e))
+}
+
+// How far the corners of the octagon with the corner (s, t) reach to the sides of a way that doesn't fall, times its
+// length.
+#[tactic(auto, using(scad_geom::proofs::Casts::casts), unfolding(scad_ring::specs::Tests::breadth))]
+fn breadth(s: i128, t: i128, x: i128, y: i128) -> i128
+    requires s { unsigned_abs s ≤ 2 ^ 32 }
+    requires t { unsigned_abs t ≤ 2 ^ 32 }
+    requires x { unsigned_abs x ≤ 2 ^ 24 }
+    requires y { unsigned_abs y ≤ 2 ^ 24 }
+    ensures value { result ≡ breadth s t x y }
+    ensures size { unsigned_abs result ≤ 2 ^ 60 }
+{
+    if y <= x {
+        plus(times::<32, 24>(s, x), times::<32, 24>(t, y))
+    } else if plus(x, y) <= 0 {
+        minus(times::<32, 24>(t, y), times::<32, 24>(s, x))
+    } else if 0 <= x {
+        plus(times::<32, 24>(s, y), times::<32, 24>(t, x))
+    } else {
+        minus(times::<32, 24>(s, y), times::<32, 24>(t, x))
+    }
 }
 
 // What lies in two stretches.

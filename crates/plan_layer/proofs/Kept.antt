@@ -15,13 +15,15 @@ use Rattle.scad_geom.specs.declared.point.Pt.{Pt}
 use Rattle.scad_geom.specs.declared.point.Edge.{Edge}
 use Rattle.scad_geom.specs.Point.{Point, whole}
 use Rattle.scad_geom.specs.Loop.{path, sides}
-use Rattle.scad_geom.specs.Near.{mean, IsHalf, IsClear}
+use Rattle.scad_geom.specs.Near.{mean}
 use Rattle.scad_geom.proofs.Signs.{at_least_mul, sub_mul}
 use Rattle.winding_laws.proofs.Parts.{on_turned}
+use Rattle.scad_ring.specs.Octagon.{reach, octagon}
+use Rattle.scad_ring.specs.Nearness.{Closed, IsNear, IsClear}
 use Rattle.plan_infill.specs.declared.run.Run.{Run}
 use Rattle.plan_infill.specs.Runs.{point_on}
 use Rattle.plan_walls.specs.Walls.{AreWalls}
-use Rattle.plan_walls.specs.Kept.{KeepsWithin, WallsKeepClear, KeepsClear}
+use Rattle.plan_walls.specs.Kept.{clearance, KeepsWithin, WallsKeepClear, KeepsClear}
 use Rattle.scad_words.specs.declared.settings.Settings.{Settings}
 use Rattle.scad_words.specs.Settings.{AreInRange}
 use Rattle.plan_layer.specs.Moves.{moves_from, moves, all_moves}
@@ -32,33 +34,53 @@ use Rattle.plan_layer.specs.Kept.{PathsKeepClear, PlansKeepClear}
 use Rattle.plan_layer.proofs.Runs.{runs_keep_clear}
 use Rattle.plan_layer.proofs.Each.{plan_holds}
 
--- ---- a smaller distance is kept too
-half_wider : (h k x w : ℤ) → h ≤ℤ k → pos 0 ≤ℤ w → IsHalf h x w → IsHalf k x w
-half_wider h k x w o hw i =
-    let f = i.from in
-    let t = i.to in
-    let m = at_least_mul (k -ℤ h) w (omega (arith, ints)) hw in
-    let e = sub_mul k h w in
-    record { from = omega (arith, ints, m, e); to = omega (arith, ints, m, e) }
+-- ---- the clearance of a smaller distance is kept too
+wider_by : (v s k d : ℤ) → s ≤ℤ k → pos 0 ≤ℤ d → v ≤ℤ (s *ℤ d) → v ≤ℤ (k *ℤ d)
+wider_by v s k d o hd h =
+    let m = at_least_mul (k -ℤ s) d (omega (arith, ints, o)) hd in let e = sub_mul k s d in omega (arith, ints, m, e, h)
 
-clear_nearer : (h k : ℤ) (q : Point) (e : Edge) → h ≤ℤ k → pos 0 <ℤ q.d → IsClear k q (whole e.a) (whole e.b)
-    → IsClear h q (whole e.a) (whole e.b)
-clear_nearer h k q e o hd clear s t hs ht some close =
+near_wider : (s u k v : ℤ) (q p : Point) → s ≤ℤ k → u ≤ℤ v → pos 0 ≤ℤ (p.d *ℤ q.d) → IsNear Closed (octagon s u) q p
+    → IsNear Closed (octagon k v) q p
+near_wider s u k v q p o r hd h =
+    let d : ℤ = p.d *ℤ q.d in (
+      wider_by _ s k d o hd h.0,
+      (
+        wider_by _ s k d o hd h.1.0,
+        (
+          wider_by _ s k d o hd h.1.1.0,
+          (
+            wider_by _ s k d o hd h.1.1.1.0,
+            (
+              wider_by _ u v d r hd h.1.1.1.1.0,
+              (
+                wider_by _ u v d r hd h.1.1.1.1.1.0,
+                (wider_by _ u v d r hd h.1.1.1.1.1.1.0, (wider_by _ u v d r hd h.1.1.1.1.1.1.1.0, tt)),
+              ),
+            ),
+          ),
+        ),
+      ),
+    )
+
+further : (b c : ℕ) → b ≤ c → reach b ≤ reach c
+further b c o = omega (arith, o)
+
+clear_nearer : (b c : ℕ) (q : Point) (e : Edge) → b ≤ c → pos 0 <ℤ q.d
+    → IsClear Closed (clearance c) q (whole e.a) (whole e.b) → IsClear Closed (clearance b) q (whole e.a) (whole e.b)
+clear_nearer b c q e o hd clear s t hs ht some near =
     let m : Point = mean s t (whole e.a) (whole e.b) in
-    let hm : pos 0 <ℤ m.d = omega (arith, ints) in
+    let hm : pos 0 <ℤ m.d = omega (arith, ints, some) in
     let hw = positive_product m.d q.d hm hd in
-    clear s t hs ht some (record {
-      across = half_wider h k (m.x *ℤ q.d -ℤ q.x *ℤ m.d) (m.d *ℤ q.d) o (omega (arith, ints)) close.across;
-      along = half_wider h k (m.y *ℤ q.d -ℤ q.y *ℤ m.d) (m.d *ℤ q.d) o (omega (arith, ints)) close.along;
-    })
+    let r = further b c o in
+    clear s t hs ht some (near_wider (pos b -ℤ pos 1) (pos (reach b) -ℤ pos 2) (pos c -ℤ pos 1) (pos (reach c) -ℤ pos 2) q
+    m (omega (arith, ints, o)) (omega (arith, ints, r)) (omega (arith, ints, hw)) near)
 
 keeps_less : (outlines : List (List Pt)) (b c : ℕ) (q : Point) → b ≤ c → pos 0 <ℤ q.d → KeepsWithin outlines c q
     → KeepsWithin outlines b q
 keeps_less outlines b c q o hd k = record {
-  clear = All-weaker (λ e. IsClear (pos 2 *ℤ (pos c -ℤ pos 1)) q (whole e.a) (whole e.b))
-      (λ e. IsClear (pos 2 *ℤ (pos b -ℤ pos 1)) q (whole e.a) (whole e.b))
-      (λ e h. clear_nearer (pos 2 *ℤ (pos b -ℤ pos 1)) (pos 2 *ℤ (pos c -ℤ pos 1)) q e (omega (arith, ints)) hd h)
-      (flat_map sides outlines) k.clear;
+  clear = All-weaker (λ e. IsClear Closed (clearance c) q (whole e.a) (whole e.b))
+      (λ e. IsClear Closed (clearance b) q (whole e.a) (whole e.b))
+      (λ e h. clear_nearer b c q e o hd h) (flat_map sides outlines) k.clear;
   inside = k.inside;
 }
 

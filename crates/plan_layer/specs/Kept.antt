@@ -1,4 +1,4 @@
--- The distance that the moves of a plan keep from the outlines.
+-- The clearance that the moves of a plan keep from the outlines.
 use Rattle.std.specs.Prelude.{ℕ, ◌/◌, ◌≤◌, List, All}
 use Rattle.scad_geom.specs.declared.point.Pt.{Pt}
 use Rattle.plan_infill.specs.declared.line.Line.{Line}
@@ -10,19 +10,18 @@ use Rattle.scad_words.specs.Settings.{AreInRange}
 use Rattle.plan_layer.specs.Moves.{all_moves}
 use Rattle.plan_layer.specs.Plan.{IsPlan}
 
--- each point of each move along paths keeps the distance c less one micrometre from outlines, and they wind round it
+-- each point of each move along paths keeps the clearance of c from outlines, and they wind round it
 abbrev pub PathsKeepClear : List (List Pt) → ℕ → List (List Pt) → Type 0
 PathsKeepClear outlines c paths = All (KeepsClear outlines c) (all_moves paths)
 
 -- ---- the laws
--- The whole points of a run are deep inside outlines by the distance c; each exact point of it keeps c less one
--- micrometre.
+-- The whole points of a run are deep inside outlines by the distance c; each exact point of it keeps the clearance of c.
 abbrev pub RunsKeepClear : Type 0
 RunsKeepClear =
     (outlines : List (List Pt)) (c least : ℕ) (line : Line) (r : Run) → 2 ≤ c → IsRun outlines c line least r
     → KeepsClear outlines c (record { a = point_on line r.from; b = point_on line r.to })
 
--- Each point of each move of a plan keeps half the width of a line, less one micrometre.
+-- Each point of each move of a plan keeps the clearance of half the width of a line.
 abbrev pub PlansKeepClear : Type 0
 PlansKeepClear =
     (outlines : List (List Pt)) (layer : ℕ) (s : Settings) (paths : List (List Pt)) → AreInRange s → IsPlan outlines

@@ -11,7 +11,7 @@ use std::alloc::AllocError;
 pub enum PlanFault {
     /// Memory ran out.
     Memory,
-    /// A wall's shape has this many edges, more than 140,000.
+    /// A wall's shape has this many edges, more than 220,000.
     Edges(u64),
     /// This many pairs of edges of a wall's shape cross, more than 2,000,000.
     Crossings(u64),

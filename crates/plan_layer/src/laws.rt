@@ -6,14 +6,14 @@ ghost use Rattle.plan_layer.specs.One.{PlansAreOne, RefusalsAreOne, AcceptedIsNo
 
 use plan_walls::laws::walls_keep_clear;
 
-/// Each exact point of a run of infill keeps its distance, less one micrometre, from each side of the outlines along
-/// both axes, and they wind round it.
+/// Each exact point of a run of infill keeps the clearance of its depth from each side of the outlines, and they wind
+/// round it.
 pub fn runs_keep_clear()
     ensures { RunsKeepClear }
 {}
 
-/// Each exact point of each move of a plan keeps half the width of a line, less one micrometre, from each side of the
-/// outlines along both axes, and they wind round it.
+/// Each exact point of each move of a plan keeps the clearance of half the width of a line from each side of the
+/// outlines, and they wind round it.
 pub fn plans_keep_clear()
     ensures { PlansKeepClear }
 {

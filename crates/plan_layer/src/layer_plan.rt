@@ -32,8 +32,9 @@ pub struct LayerPlan {
 /// whole multiples of the spacing; on the first line with runs, the third and so on they go upwards, on the others
 /// downwards.
 ///
-/// Each point of each move keeps half the width of a line, less one micrometre, from each side of the outlines along
-/// both axes, and they wind round it. Each path has at least two points, and all together have at most 400,000.
+/// Each point of each move keeps the clearance of c, half the width of a line, from each side of the outlines: `c - 1`
+/// along an axis or `reach(c) - 2` along the sum of both; and they wind round it. Each path has at least two points, and
+/// all together have at most 400,000.
 ///
 /// It is refused exactly where a wall is, with the fault of the outermost such wall, and then where the plan has more
 /// than 200,000 extruding moves.

@@ -1,7 +1,7 @@
 //! The plan of a layer: the paths along which it is printed, walls first and then infill.
 //!
-//! The contract promises exactly the paths of the definition, that each point of each move keeps half the width of a
-//! line, less one micrometre, from the layer's outlines and lies inside them, and each refusal with its cause.
+//! The contract promises exactly the paths of the definition, that each point of each move keeps the clearance of half
+//! the width of a line from the layer's outlines and lies inside them, and each refusal with its cause.
 #![tactic(auto, using(scad_geom::proofs::Casts::casts))]
 
 mod extent;

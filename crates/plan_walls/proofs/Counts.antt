@@ -6,21 +6,17 @@ use Rattle.std.proofs.lemmas.List.{length-map, length-append}
 use Rattle.std.proofs.lemmas.List.Sums.{sum_by-cons}
 use Rattle.scad_geom.specs.declared.point.Pt.{Pt}
 use Rattle.scad_geom.specs.declared.point.Edge.{Edge}
-use Rattle.scad_geom.specs.Line.{low, high}
 use Rattle.scad_geom.specs.Loop.{path, sides}
-use Rattle.scad_ring.specs.Corners.{corners_round, corners_of}
+use Rattle.scad_ring.specs.OctagonCorners.{octagon_corners}
+use Rattle.scad_ring.proofs.Shapes.{octagon_corners-few}
 use Rattle.plan_walls.specs.Walls.{of_leaf, rings_from, with_rings}
-use Rattle.plan_walls.proofs.Forms.{by_form}
 
 -- how many corners the ring round an edge has
 abbrev pub corner_count : ℕ → Edge → ℕ
-corner_count c e = length (corners_of c e)
+corner_count c e = length (octagon_corners c e)
 
-corners_few : (c : ℤ) (p q : Pt) → length (corners_round c p q) ≤ 6
-corners_few c p q = by_form (λ l. length l ≤ 6) c p q (omega arith) (omega arith) (omega arith) (omega arith)
-
-pub corner_few : (c : ℕ) (e : Edge) → corner_count c e ≤ 6
-corner_few c e = corners_few (pos c) (low e) (high e)
+pub corner_few : (c : ℕ) (e : Edge) → corner_count c e ≤ 10
+corner_few c e = octagon_corners-few c e
 
 -- a closed way has as many sides as vertices
 length-path : (from last : Pt) (ps : List Pt) → length (path from ps last) ≡ suc (length ps)
@@ -34,9 +30,9 @@ length-sides (p ∷ ps) = length-path p p ps
 length-rings : (c k : ℕ) (es : List Edge) → length (rings_from c k es) ≡ sum_by (corner_count c) es
 length-rings c k [] = refl
 length-rings c k (e ∷ es) =
-    length-append (of_leaf k (sides (corners_of c e))) (rings_from c (k + 1) es)
-    ∙ ap₂ (λ m n. m + n) (length-map (sides (corners_of c e)) (λ f. record { leaf = k; edge = f })
-    ∙ length-sides (corners_of c e)) (length-rings c (k + 1) es)
+    length-append (of_leaf k (sides (octagon_corners c e))) (rings_from c (k + 1) es)
+    ∙ ap₂ (λ m n. m + n) (length-map (sides (octagon_corners c e)) (λ f. record { leaf = k; edge = f })
+    ∙ length-sides (octagon_corners c e)) (length-rings c (k + 1) es)
     ∙ sym (sum_by-cons (corner_count c) e es)
 
 pub count_is : (c : ℕ) (es : List Edge) → length (with_rings c es) ≡ length es + sum_by (corner_count c) es
@@ -47,7 +43,7 @@ count_is c es =
 pub sides_fewer : (c : ℕ) (es : List Edge) → length es ≤ length (with_rings c es)
 sides_fewer c es = let e = count_is c es in omega (arith, e)
 
-pub sum_few : (c : ℕ) (es : List Edge) → sum_by (corner_count c) es ≤ 6 * length es
+pub sum_few : (c : ℕ) (es : List Edge) → sum_by (corner_count c) es ≤ 10 * length es
 sum_few c [] = omega arith
 sum_few c (e ∷ es) =
     let s = sum_by-cons (corner_count c) e es in

@@ -1,5 +1,5 @@
 -- Outlines wind round a point as round a border point less than one from it: their sides are off that by more.
-use Rattle.std.proofs.Common.{◌≡◌, inl, inr, ℕ, ◌≤◌, Bool, true, List, [], ◌∷◌, get_or, refl, sym, ◌∙◌, arith, ℤ, pos}
+use Rattle.std.proofs.Common.{◌≡◌, inl, inr, ℕ, ◌≤◌, Bool, true, List, [], ◌∷◌, get_or, refl, sym, ◌∙◌, arith, ℤ, pos, neg_ℤ}
 use Rattle.std.proofs.Common.{◌+ℤ◌, ◌-ℤ◌, ◌*ℤ◌, ◌<ℤ◌}
 use lib.IntN.{*ℤ_comm}
 use lib.Signed.{◌≤ℤ◌}
@@ -13,18 +13,20 @@ use Rattle.scad_geom.specs.Segment.{segment_of, segments}
 use Rattle.scad_geom.specs.Balance.{IsBalanced}
 use Rattle.scad_geom.specs.Winding.{wind_by, wind}
 use Rattle.scad_geom.specs.Near.{mean}
-use Rattle.scad_geom.proofs.Signs.{at_least_mul, square_at_least, one_less_times}
+use Rattle.scad_geom.proofs.Signs.{at_least_mul, square_at_least}
 use Rattle.scad_geom.proofs.Rising.{order}
 use Rattle.scad_geom.proofs.Ring.{ring, num, ◌⊕◌, ◌⊖◌, ◌⊗◌, v0, v1, v2, v3}
 use Rattle.winding_laws.specs.Region.{HalfPlane, Holds, HoldsOrigin, box}
-use Rattle.winding_laws.specs.Nearness.{IsNear, IsFarSegment}
+use Rattle.winding_laws.specs.Nearness.{IsNear as Near, IsFarSegment}
 use Rattle.winding_laws.proofs.Approach.{at_most_as}
 use Rattle.winding_laws.proofs.Regions.{near_itself}
 use Rattle.winding_laws.proofs.Forms.{forms_wind_alike}
 use Rattle.winding_laws.proofs.OneWinding.{regions_have_one_winding}
 use Rattle.winding_laws.specs.Points.{IsWithinOne}
-use Rattle.plan_walls.proofs.Within.{IsStrictlyWithin, weight_positive}
+use Rattle.scad_ring.specs.Octagon.{reach, octagon, octagon_of}
+use Rattle.scad_ring.specs.Nearness.{Open, IsNear}
 use Rattle.plan_walls.proofs.Off.{IsOff}
+use Rattle.plan_walls.proofs.Round.{weight_positive}
 
 -- ---- the square round the border point that is less than one wide on each side and still has the point
 -- x / w is at most 1 - 1 / n where it is less than 1 over the divisor n
@@ -68,7 +70,7 @@ in_square n x y some r l u d = (
   ),
 )
 
-near_it : (q b : Point) → pos 0 <ℤ (q.d *ℤ b.d) → IsWithinOne q b → IsNear (round_it (q.d *ℤ b.d)) b q
+near_it : (q b : Point) → pos 0 <ℤ (q.d *ℤ b.d) → IsWithinOne q b → Near (round_it (q.d *ℤ b.d)) b q
 near_it q b some one =
     let e = *ℤ_comm b.d q.d in
     let r = one.right in
@@ -84,7 +86,7 @@ holds_origin n h = (
   (omega (arith, ints, h), (omega (arith, ints, h), (omega (arith, ints, h), tt))),
 )
 
--- ---- what the square holds lies strictly within one, so within any distance from 1 on
+-- ---- what the square holds lies strictly within one along both axes, so in the octagon of any distance from 2 on
 less_first : (n x y w : ℤ) → pos 0 ≤ℤ n → pos 0 <ℤ w → (n *ℤ x +ℤ pos 0 *ℤ y) ≤ℤ ((n -ℤ pos 1) *ℤ w) → x <ℤ w
 less_first n x y w some more h = elim (order w x) [
   | inl k ↦
@@ -102,47 +104,74 @@ less_back : (n x y w : ℤ) → pos 0 ≤ℤ n → pos 0 <ℤ w → ((pos 0 -ℤ
     → (pos 0 -ℤ x) <ℤ w
 less_back n x y w some more h = less_first n (pos 0 -ℤ x) y w some more (at_most_as _ _ _ (sym (turned n x y)) h)
 
-widened : (c : ℕ) (x w : ℤ) → 1 ≤ c → pos 0 <ℤ w → x <ℤ w → x <ℤ (pos c *ℤ w)
-widened c x w some more h =
-    let m = at_least_mul (pos c -ℤ pos 1) w (omega (arith, ints, some)) (omega (arith, ints, more)) in
-    let e = one_less_times (pos c) w in
-    omega (arith, ints, m, e, h)
+-- a half plane whose bound is at least 2
+in_half_plane : (n m k x y w : ℤ) → pos 2 ≤ℤ k → pos 0 <ℤ w → (n *ℤ x +ℤ m *ℤ y) <ℤ (pos 2 *ℤ w)
+    → (n *ℤ x +ℤ m *ℤ y) <ℤ (k *ℤ w)
+in_half_plane n m k x y w two more h =
+    let g = at_least_mul (k -ℤ pos 2) w (omega (arith, ints, two)) (omega (arith, ints, more)) in
+    let e = two_less k w in
+    omega (arith, ints, g, e, h)
+  where
+    two_less : (k w : ℤ) → (k -ℤ pos 2) *ℤ w ≡ k *ℤ w -ℤ pos 2 *ℤ w
+    two_less k w = ring (k ∷ w ∷ []) ((v0 ⊖ num (pos 2)) ⊗ v1) (v0 ⊗ v1 ⊖ num (pos 2) ⊗ v1) refl
 
-strictly_within : (c : ℕ) → 1 ≤ c → (n : ℤ) → pos 0 ≤ℤ n → (b p : Point) → pos 0 <ℤ (p.d *ℤ b.d)
-    → IsNear (round_it n) b p → IsStrictlyWithin (pos c) b p
-strictly_within c some n least b p more h =
+in_octagon : (s u : ℤ) (b p : Point) → pos 2 ≤ℤ s → pos 2 ≤ℤ u → pos 0 <ℤ (p.d *ℤ b.d)
+    → (p.x *ℤ b.d -ℤ b.x *ℤ p.d) <ℤ (p.d *ℤ b.d) → (pos 0 -ℤ (p.x *ℤ b.d -ℤ b.x *ℤ p.d)) <ℤ (p.d *ℤ b.d)
+    → (p.y *ℤ b.d -ℤ b.y *ℤ p.d) <ℤ (p.d *ℤ b.d) → (pos 0 -ℤ (p.y *ℤ b.d -ℤ b.y *ℤ p.d)) <ℤ (p.d *ℤ b.d)
+    → IsNear Open (octagon s u) b p
+in_octagon s u b p hs hu more r l a o =
+    let x : ℤ = p.x *ℤ b.d -ℤ b.x *ℤ p.d in
+    let y : ℤ = p.y *ℤ b.d -ℤ b.y *ℤ p.d in
+    let w : ℤ = p.d *ℤ b.d in (
+      in_half_plane (pos 1) (pos 0) s x y w hs more (omega (arith, ints, r, more)),
+      (
+        in_half_plane (neg_ℤ (pos 1)) (pos 0) s x y w hs more (omega (arith, ints, l, more)),
+        (
+          in_half_plane (pos 0) (pos 1) s x y w hs more (omega (arith, ints, a, more)),
+          (
+            in_half_plane (pos 0) (neg_ℤ (pos 1)) s x y w hs more (omega (arith, ints, o, more)),
+            (
+              in_half_plane (pos 1) (pos 1) u x y w hu more (omega (arith, ints, r, a)),
+              (
+                in_half_plane (pos 1) (neg_ℤ (pos 1)) u x y w hu more (omega (arith, ints, r, o)),
+                (
+                  in_half_plane (neg_ℤ (pos 1)) (pos 1) u x y w hu more (omega (arith, ints, l, a)),
+                  (in_half_plane (neg_ℤ (pos 1)) (neg_ℤ (pos 1)) u x y w hu more (omega (arith, ints, l, o)), tt),
+                ),
+              ),
+            ),
+          ),
+        ),
+      ),
+    )
+
+near_by_octagon : (c : ℕ) → 2 ≤ c → (n : ℤ) → pos 0 ≤ℤ n → (b p : Point) → pos 0 <ℤ (p.d *ℤ b.d)
+    → Near (round_it n) b p → IsNear Open (octagon_of c) b p
+near_by_octagon c two n least b p more h =
     let w : ℤ = p.d *ℤ b.d in
     let x : ℤ = p.x *ℤ b.d -ℤ b.x *ℤ p.d in
     let y : ℤ = p.y *ℤ b.d -ℤ b.y *ℤ p.d in
-    let r = widened c x w some more (less_first n x y w least more h.0) in
-    let l = widened c (pos 0 -ℤ x) w some more (less_back n x y w least more h.1.0) in
-    let a = widened c y w some more
-    (less_first n y x w least more (at_most_as _ _ _ (other_order n y (pos 0) x) h.1.1.0)) in
-    let o = widened c (pos 0 -ℤ y) w some more
-    (less_back n y x w least more (at_most_as _ _ _ (other_order (pos 0 -ℤ n) y (pos 0) x) h.1.1.1.0)) in
-    record { right = r; left = omega (arith, ints, l); above = a; below = omega (arith, ints, o) }
+    in_octagon (pos c) (pos (reach c)) b p (omega (arith, ints, two)) (omega (arith, ints, two)) more
+    (less_first n x y w least more h.0)
+    (less_back n x y w least more h.1.0)
+    (less_first n y x w least more (at_most_as _ _ _ (other_order n y (pos 0) x) h.1.1.0))
+    (less_back n y x w least more (at_most_as _ _ _ (other_order (pos 0 -ℤ n) y (pos 0) x) h.1.1.1.0))
 
 -- so a side that b is off is far from it
-is_far : (c : ℕ) → 1 ≤ c → (n : ℤ) → pos 0 ≤ℤ n → (b : Point) → pos 0 <ℤ b.d → (e : Edge) → IsOff c b e
+is_far : (c : ℕ) → 2 ≤ c → (n : ℤ) → pos 0 ≤ℤ n → (b : Point) → pos 0 <ℤ b.d → (e : Edge) → IsOff c b e
     → IsFarSegment (round_it n) b (segment_of e)
 is_far c some n least b db e off =
     let one : pos 0 <ℤ pos 1 = omega (arith, ints) in
     record {
       proper = record { from = one; to = one };
       far = λ s t from to more near.
-          off (record {
-            s = s;
-            t = t;
-            from = from;
-            to = to;
-            some = more;
-            within = strictly_within c some n least b (mean s t (whole e.a) (whole e.b))
-                (positive_product (s *ℤ pos 1 +ℤ t *ℤ pos 1) b.d (weight_positive s t more) db) near;
-          });
+          off s t from to more
+          (near_by_octagon c some n least b (mean s t (whole e.a) (whole e.b))
+          (positive_product (s *ℤ pos 1 +ℤ t *ℤ pos 1) b.d (weight_positive s t more) db) near);
     }
 
 -- ---- the winding number
-pub wound_alike : (c : ℕ) → 1 ≤ c → (es : List Edge) → IsBalanced (segments es) → (q b : Point) → pos 0 <ℤ q.d
+pub wound_alike : (c : ℕ) → 2 ≤ c → (es : List Edge) → IsBalanced (segments es) → (q b : Point) → pos 0 <ℤ q.d
     → pos 0 <ℤ b.d → IsWithinOne q b → All (IsOff c b) es → (above right : Bool)
     → wind q (segments es) ≡ wind_by above right b (segments es)
 wound_alike c some es balanced q b dq db one off above right =

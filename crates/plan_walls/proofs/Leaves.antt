@@ -15,7 +15,7 @@ use Rattle.scad_geom.specs.Loop.{sides}
 use Rattle.scad_geom.specs.Balance.{IsBalanced}
 use Rattle.scad_geom.specs.Leaves.{edges_of, AreLeavesBalanced}
 use Rattle.scad_geom.proofs.LeafEdges.{edges_of-append, both_balanced, none_balanced, chosen_balanced}
-use Rattle.scad_ring.specs.Corners.{corners_of}
+use Rattle.scad_ring.specs.OctagonCorners.{octagon_corners}
 use Rattle.plan_sides.proofs.Closed.{sides_balanced}
 use Rattle.plan_walls.specs.Walls.{of_leaf, rings_from, with_rings}
 
@@ -45,7 +45,7 @@ other_number k leaf other = by_test (k == leaf) refl
 
 module _ (c : ℕ) where
   abbrev ring_of : Edge → List Edge
-  ring_of e = sides (corners_of c e)
+  ring_of e = sides (octagon_corners c e)
 
   -- the leaves of rings are numbered upwards
   no_ring : (leaf k : ℕ) (es : List Edge) → leaf < k → edges_of leaf (rings_from c k es) ≡ []
@@ -56,7 +56,7 @@ module _ (c : ℕ) where
       (edges_of-leaf leaf k (ring_of e) false (other_number k leaf (λ e. omega (arith, h, e))))
       (no_ring leaf (k + 1) es (omega (arith, h)))
 
-  pub first_ring : (k : ℕ) (e : Edge) (es : List Edge) → edges_of k (rings_from c k (e ∷ es)) ≡ sides (corners_of c e)
+  pub first_ring : (k : ℕ) (e : Edge) (es : List Edge) → edges_of k (rings_from c k (e ∷ es)) ≡ sides (octagon_corners c e)
   first_ring k e es =
       edges_of-append k (of_leaf k (ring_of e)) (rings_from c (k + 1) es)
       ∙ ap₂ (λ fs gs. fs ++ gs) (edges_of-leaf k k (ring_of e) true (same_number k))
@@ -100,8 +100,8 @@ way_balanced l = subst (λ (es : List Edge). IsBalanced (segments es)) (append-n
 
 rings_balanced : (c leaf k : ℕ) (es : List Edge) → IsBalanced (segments (edges_of leaf (rings_from c k es)))
 rings_balanced c leaf k [] = none_balanced
-rings_balanced c leaf k (e ∷ es) = more_balanced leaf k (sides (corners_of c e)) (rings_from c (k + 1) es)
-    (way_balanced (corners_of c e)) (rings_balanced c leaf (k + 1) es)
+rings_balanced c leaf k (e ∷ es) = more_balanced leaf k (sides (octagon_corners c e)) (rings_from c (k + 1) es)
+    (way_balanced (octagon_corners c e)) (rings_balanced c leaf (k + 1) es)
 
 pub leaves_balanced : (c : ℕ) (es : List Edge) → IsBalanced (segments es) → AreLeavesBalanced (with_rings c es)
 leaves_balanced c es b =

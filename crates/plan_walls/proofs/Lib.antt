@@ -1,7 +1,6 @@
-pub mod Forms
 pub mod Angles
 pub mod Rings
-pub mod Within
+pub mod Strictly
 pub mod Round
 pub mod Leaves
 pub mod Limits

@@ -8,80 +8,15 @@ use Rattle.scad_base.proofs.Lists.{AllByRecursion-append}
 use Rattle.scad_geom.specs.declared.point.Pt.{Pt}
 use Rattle.scad_geom.specs.declared.point.Edge.{Edge}
 use Rattle.scad_geom.specs.declared.level.LeafEdge.{LeafEdge}
-use Rattle.scad_geom.specs.Line.{low, high}
 use Rattle.scad_geom.specs.Limits.{point_limit, coordinate_limit}
 use Rattle.scad_geom.specs.Within.{IsWithin, IsEdgeWithin}
 use Rattle.scad_geom.specs.Loop.{path, sides}
-use Rattle.scad_geom.proofs.Bounds.{low_within, high_within}
 use Rattle.plan_sides.proofs.Within.{sides_within}
-use Rattle.scad_ring.specs.Corners.{rectangle, to_the_right, to_the_left, corners_round, corners_of}
+use Rattle.scad_ring.specs.OctagonCorners.{octagon_corners}
+use Rattle.scad_ring.proofs.Shapes.{octagon_corners-within}
 use Rattle.plan_walls.specs.Walls.{of_leaf, rings_from, with_rings}
-use Rattle.plan_walls.proofs.Forms.{by_form}
 
--- ---- corners within a limit
 module _ (c : ℕ) (most : c ≤ 100000) where
-  low_by : (z : ℤ) → unsigned_abs z ≤ point_limit → unsigned_abs (z -ℤ pos c) ≤ coordinate_limit
-  low_by z h = omega (arith, ints, h, most)
-
-  high_by : (z : ℤ) → unsigned_abs z ≤ point_limit → unsigned_abs (z +ℤ pos c) ≤ coordinate_limit
-  high_by z h = omega (arith, ints, h, most)
-
-  abbrev Within : List Pt → Type 0
-  Within l = AllByRecursion (IsWithin coordinate_limit) l
-
-  rectangle_within : (left bottom right top : ℤ) → unsigned_abs left ≤ point_limit → unsigned_abs bottom ≤ point_limit
-      → unsigned_abs right ≤ point_limit → unsigned_abs top ≤ point_limit
-      → Within (rectangle (pos c) left bottom right top)
-  rectangle_within left bottom right top l b r t = (
-    record { x = low_by left l; y = low_by bottom b },
-    (
-      record { x = high_by right r; y = low_by bottom b },
-      (record { x = high_by right r; y = high_by top t }, (record { x = low_by left l; y = high_by top t }, tt)),
-    ),
-  )
-
-  module _ (p q : Pt) (hp : IsWithin point_limit p) (hq : IsWithin point_limit q) where
-    right_within : Within (to_the_right (pos c) p q)
-    right_within = (
-      record { x = low_by p.x hp.x; y = low_by p.y hp.y },
-      (
-        record { x = high_by p.x hp.x; y = low_by p.y hp.y },
-        (
-          record { x = high_by q.x hq.x; y = low_by q.y hq.y },
-          (
-            record { x = high_by q.x hq.x; y = high_by q.y hq.y },
-            (
-              record { x = low_by q.x hq.x; y = high_by q.y hq.y },
-              (record { x = low_by p.x hp.x; y = high_by p.y hp.y }, tt),
-            ),
-          ),
-        ),
-      ),
-    )
-
-    left_within : Within (to_the_left (pos c) p q)
-    left_within = (
-      record { x = low_by p.x hp.x; y = low_by p.y hp.y },
-      (
-        record { x = high_by p.x hp.x; y = low_by p.y hp.y },
-        (
-          record { x = high_by p.x hp.x; y = high_by p.y hp.y },
-          (
-            record { x = high_by q.x hq.x; y = high_by q.y hq.y },
-            (
-              record { x = low_by q.x hq.x; y = high_by q.y hq.y },
-              (record { x = low_by q.x hq.x; y = low_by q.y hq.y }, tt),
-            ),
-          ),
-        ),
-      ),
-    )
-
-    corners_within : Within (corners_round (pos c) p q)
-    corners_within =
-        by_form Within (pos c) p q right_within left_within (rectangle_within p.x p.y q.x q.y hp.x hp.y hq.x hq.y)
-        (rectangle_within q.x q.y p.x p.y hq.x hq.y hp.x hp.y)
-
   abbrev AreWithin : List LeafEdge → Type 0
   AreWithin es = AllByRecursion (λ e. IsEdgeWithin coordinate_limit e.edge) es
 
@@ -90,16 +25,15 @@ module _ (c : ℕ) (most : c ≤ 100000) where
   leaf_within k (e ∷ es) h = (h.0, leaf_within k es h.1)
 
   ring_within : (e : Edge) → IsEdgeWithin point_limit e
-      → AllByRecursion (IsEdgeWithin coordinate_limit) (sides (corners_of c e))
-  ring_within e h = sides_within coordinate_limit (corners_of c e)
-      (corners_within (low e) (high e) (low_within point_limit e h) (high_within point_limit e h))
+      → AllByRecursion (IsEdgeWithin coordinate_limit) (sides (octagon_corners c e))
+  ring_within e h = sides_within coordinate_limit (octagon_corners c e) (octagon_corners-within c most e h)
 
   rings_within : (k : ℕ) (es : List Edge) → AllByRecursion (IsEdgeWithin point_limit) es → AreWithin (rings_from c k es)
   rings_within k [] h = tt
   rings_within k (e ∷ es) h =
-      AllByRecursion-append (λ e. IsEdgeWithin coordinate_limit e.edge) (of_leaf k (sides (corners_of c e)))
+      AllByRecursion-append (λ e. IsEdgeWithin coordinate_limit e.edge) (of_leaf k (sides (octagon_corners c e)))
       (rings_from c (k + 1) es)
-      (leaf_within k (sides (corners_of c e)) (ring_within e h.0)) (rings_within (k + 1) es h.1)
+      (leaf_within k (sides (octagon_corners c e)) (ring_within e h.0)) (rings_within (k + 1) es h.1)
 
   wider : (z : ℤ) → unsigned_abs z ≤ point_limit → unsigned_abs z ≤ coordinate_limit
   wider z h = omega (arith, h)

@@ -1,5 +1,5 @@
--- What a wall's shape holds, hard by a point, the outlines wind round and no ring does: so no point of a side lies
--- strictly within the distance of it.
+-- What a wall's shape holds, hard by a point, the outlines wind round and no ring does: so no side comes near to the
+-- point.
 use Rattle.std.proofs.Common.{◌≡◌, ℕ, zero, suc, ◌+◌, ◌≤◌, Bool, true, false, true≢false, not, ◌||◌, List, []}
 use Rattle.std.proofs.Common.{◌∷◌, length, refl, sym, ◌∙◌, subst, arith, ℤ, pos, negsuc, ◌<ℤ◌}
 use Rattle.std.specs.List.{AllByRecursion}
@@ -8,20 +8,21 @@ use Rattle.std.proofs.lemmas.Bool.{and_parts, not-true}
 use Rattle.scad_geom.specs.declared.point.Edge.{Edge}
 use Rattle.scad_geom.specs.declared.level.LeafEdge.{LeafEdge}
 use Rattle.scad_geom.specs.declared.shape.Shape.{Shape}
-use Rattle.scad_geom.specs.Point.{Point}
+use Rattle.scad_geom.specs.Point.{Point, whole}
 use Rattle.scad_geom.specs.Segment.{segments}
 use Rattle.scad_geom.specs.Winding.{wind_by}
 use Rattle.scad_geom.specs.Leaves.{edges_of}
 use Rattle.scad_geom.specs.Shape.{is_in_by}
 use Rattle.scad_geom.specs.Sign.{is_zero}
+use Rattle.scad_ring.specs.Octagon.{octagon_of}
+use Rattle.scad_ring.specs.Nearness.{Open, IsClear}
 use Rattle.plan_walls.specs.Walls.{rings_from, with_rings, some_inside, IsFirstWithout}
-use Rattle.plan_walls.proofs.Within.{ComesWithin}
 use Rattle.plan_walls.proofs.Round.{ring_winds}
 use Rattle.plan_walls.proofs.Leaves.{outline_leaf, ring_leaf, first_ring, later_ring}
 
--- no point of an edge lies strictly within c of b
+-- no point of an edge is near to b by the octagon of c without its border
 abbrev pub IsOff : ℕ → Point → Edge → Type 0
-IsOff c b e = ComesWithin (pos c) b e → ⊥
+IsOff c b e = IsClear Open (octagon_of c) b (whole e.a) (whole e.b)
 
 -- whether a leaf holds what lies hard by a point
 abbrev is_inside : Bool → Bool → Point → List LeafEdge → ℕ → Bool
@@ -44,10 +45,11 @@ module _ (c : ℕ) (some : 1 ≤ c) (above right : Bool) (b : Point) (db : pos 0
   rings_off all k (e ∷ es) same h =
       let parts = neither (is_inside above right b all k)
       (some_inside (is_inside above right b all) (k + 1) (length es)) h in (
-        (λ near.
+        (λ s t from to more near.
             not_wound (wind_by above right b (segments (edges_of k all))) parts.0
             (subst (λ (fs : List Edge). pos 0 <ℤ wind_by above right b (segments fs))
-            (sym (same k (omega arith) ∙ first_ring c k e es)) (ring_winds c some e b db near above right))),
+            (sym (same k (omega arith) ∙ first_ring c k e es)) (ring_winds c some e b db
+            (record { s = s; t = t; from = from; to = to; some = more; near = near }) above right))),
         rings_off all (k + 1) es
             (λ leaf least. same leaf (omega (arith, least)) ∙ later_ring c leaf k e es (omega (arith, least)))
             parts.1,

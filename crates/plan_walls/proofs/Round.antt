@@ -1,23 +1,27 @@
--- The ring round an edge winds round each point that lies strictly within its distance of the edge.
-use Rattle.std.proofs.Common.{ℕ, ◌≤◌, Bool, List, [], ◌∷◌, ◌++◌, ℤ, pos, negsuc, ◌<ℤ◌}
+-- The ring round an edge winds round each point that the edge comes near to by the octagon without its border.
+use Rattle.std.proofs.Common.{◌≡◌, ℕ, ◌≤◌, Bool, List, [], ◌∷◌, ◌++◌, length, arith, ℤ, pos, negsuc, ◌+ℤ◌, ◌*ℤ◌, ◌<ℤ◌}
 use Rattle.std.specs.List.{AllByRecursion}
+use Rattle.std.proofs.lemmas.Int.{ints}
 use Rattle.std.proofs.lemmas.List.Elements.{recursion_from_All, All-from_recursion}
 use Rattle.scad_base.proofs.Products.{positive_product}
 use Rattle.scad_geom.specs.declared.point.Pt.{Pt}
 use Rattle.scad_geom.specs.declared.point.Edge.{Edge}
-use Rattle.scad_geom.specs.Point.{Point}
-use Rattle.scad_geom.specs.Line.{low, high}
+use Rattle.scad_geom.specs.Point.{Point, whole}
+use Rattle.scad_geom.specs.Near.{mean}
 use Rattle.scad_geom.specs.Segment.{segments}
 use Rattle.scad_geom.specs.Loop.{path, sides}
 use Rattle.scad_geom.specs.Winding.{wind_by}
-use Rattle.scad_ring.specs.Ring.{IsLeftOf, AllTurnLeft, IsRing}
-use Rattle.scad_ring.specs.Corners.{corners_round, corners_of}
-use Rattle.scad_ring.proofs.Whole.{ring_is}
+use Rattle.scad_ring.specs.Octagon.{reach, octagon_of}
+use Rattle.scad_ring.specs.Nearness.{Open, Meets}
+use Rattle.scad_ring.specs.Ring.{IsLeftOf, AllTurnLeft}
+use Rattle.scad_ring.specs.OctagonRing.{IsOctagonRing}
+use Rattle.scad_ring.specs.OctagonCorners.{octagon_corners}
+use Rattle.scad_ring.proofs.Opened.{shifted, IsStep, near_shifted}
+use Rattle.scad_ring.proofs.Shapes.{octagon_corners-several}
+use Rattle.scad_ring.proofs.Ways.{octagon_ring_is}
 use Rattle.plan_walls.specs.Rings.{IsStrictlyLeftOf}
-use Rattle.plan_walls.proofs.Forms.{by_form}
 use Rattle.plan_walls.proofs.Rings.{left_is_wound}
-use Rattle.plan_walls.proofs.Within.{ComesWithin, TurnsAfter, IsStep, step_0, step_1, step_back, shifted, weight}
-use Rattle.plan_walls.proofs.Within.{weight_positive, near_shifted, strictly_left}
+use Rattle.plan_walls.proofs.Strictly.{TurnsAfter, strictly_left}
 
 -- along a way that turns left at each point, on to a next one, each side is followed by a turn
 all_turn : (from last next : Pt) (ps : List Pt) → AllTurnLeft (from ∷ (ps ++ last ∷ next ∷ []))
@@ -39,17 +43,62 @@ module _ (q : Point) (k : ℤ) (some : pos 0 <ℤ k) where
     all_strictly es t.1 r.1 l.1 u.1 d.1,
   )
 
--- two corners at least
+-- ---- two corners at least
 abbrev HasTwo : List Pt → Type 0
 HasTwo [] = ⊥
 HasTwo (p ∷ []) = ⊥
 HasTwo (p ∷ r ∷ ps) = Unit {0}
 
-two_corners : (c : ℤ) (p r : Pt) → HasTwo (corners_round c p r)
-two_corners c p r = by_form HasTwo c p r tt tt tt tt
+several_two : (l : List Pt) → 3 ≤ length l → HasTwo l
+several_two [] h = omega (arith, h)
+several_two (p ∷ []) h = omega (arith, h)
+several_two (p ∷ r ∷ ps) h = tt
 
-wound : (c : ℕ) (e : Edge) (corners : List Pt) → IsRing c e corners → HasTwo corners → (q : Point) → pos 0 <ℤ q.d
-    → ComesWithin (pos c) q e
+two_corners : (c : ℕ) (e : Edge) → HasTwo (octagon_corners c e)
+two_corners c e = several_two (octagon_corners c e) (octagon_corners-several c e)
+
+-- ---- steps by one along an axis
+to_right : IsStep (pos 1) (pos 0)
+to_right = record {
+  sum = record { least = omega (arith, ints); most = omega (arith, ints) };
+  difference = record { least = omega (arith, ints); most = omega (arith, ints) };
+}
+
+to_left : IsStep (negsuc 0) (pos 0)
+to_left = record {
+  sum = record { least = omega (arith, ints); most = omega (arith, ints) };
+  difference = record { least = omega (arith, ints); most = omega (arith, ints) };
+}
+
+upwards : IsStep (pos 0) (pos 1)
+upwards = record {
+  sum = record { least = omega (arith, ints); most = omega (arith, ints) };
+  difference = record { least = omega (arith, ints); most = omega (arith, ints) };
+}
+
+downwards : IsStep (pos 0) (negsuc 0)
+downwards = record {
+  sum = record { least = omega (arith, ints); most = omega (arith, ints) };
+  difference = record { least = omega (arith, ints); most = omega (arith, ints) };
+}
+
+-- ---- the ring
+-- the divisor of the point of an edge by these weights
+abbrev pub weight : (s t : ℤ) → ℤ
+weight s t = s *ℤ pos 1 +ℤ t *ℤ pos 1
+
+pub weight_positive : (s t : ℤ) → pos 0 <ℤ (s +ℤ t) → pos 0 <ℤ weight s t
+weight_positive s t h = omega (arith, ints, h)
+
+-- some point of an edge is near to q by the octagon of c without its border
+abbrev pub ComesNear : ℕ → Point → Edge → Type 0
+ComesNear c q e = Meets Open (octagon_of c) q (whole e.a) (whole e.b)
+
+shifted_positive : (k u v : ℤ) (q : Point) → pos 0 <ℤ k → pos 0 <ℤ q.d → pos 0 <ℤ (shifted k u v q).d
+shifted_positive k u v q h d = positive_product q.d k d h
+
+wound : (c : ℕ) (e : Edge) (corners : List Pt) → IsOctagonRing c e corners → HasTwo corners → (q : Point)
+    → pos 0 <ℤ q.d → ComesNear c q e
     → (above right : Bool) → pos 0 <ℤ wind_by above right q (segments (sides corners))
 wound c e [] ring two q d h above right = absurd two
 wound c e (p ∷ []) ring two q d h above right = absurd two
@@ -57,20 +106,25 @@ wound c e (p ∷ r ∷ ps) ring two q d h above right =
     let k : ℤ = weight h.s h.t in
     let some : pos 0 <ℤ k = weight_positive h.s h.t h.some in
     let es : List Edge = sides (p ∷ r ∷ ps) in
-    let stays : (u v : ℤ) → IsStep u → IsStep v → AllByRecursion (IsLeftOf (shifted k u v q)) (segments es) =
-    λ u v hu hv. recursion_from_All (IsLeftOf (shifted k u v q)) (segments es)
-    ((ring.holds (shifted k u v q) (shifted_positive k u v q some d)).0 (near_shifted c q e h u v hu hv)) in
+    let stays : (u v : ℤ) → IsStep u v → AllByRecursion (IsLeftOf (shifted k u v q)) (segments es) =
+    λ u v step. recursion_from_All (IsLeftOf (shifted k u v q)) (segments es)
+    ((ring.holds (shifted k u v q) (shifted_positive k u v q some d)).0 (record {
+      s = h.s;
+      t = h.t;
+      from = h.from;
+      to = h.to;
+      some = h.some;
+      near = near_shifted (pos c) (pos (reach c)) u v q (mean h.s h.t (whole e.a) (whole e.b))
+          (omega (arith, ints, some)) step h.near;
+    })) in
     left_is_wound p (r ∷ ps) q d
     (All-from_recursion (IsStrictlyLeftOf q) (segments es)
     (all_strictly q k some es (all_turn p p r (r ∷ ps) ring.turns)
-    (stays (pos 1) (pos 0) step_1 step_0) (stays (negsuc 0) (pos 0) step_back step_0)
-    (stays (pos 0) (pos 1) step_0 step_1) (stays (pos 0) (negsuc 0) step_0 step_back)))
+    (stays (pos 1) (pos 0) to_right) (stays (negsuc 0) (pos 0) to_left)
+    (stays (pos 0) (pos 1) upwards) (stays (pos 0) (negsuc 0) downwards)))
     above right
-  where
-    shifted_positive : (k u v : ℤ) (q : Point) → pos 0 <ℤ k → pos 0 <ℤ q.d → pos 0 <ℤ (shifted k u v q).d
-    shifted_positive k u v q h d = positive_product q.d k d h
 
-pub ring_winds : (c : ℕ) → 1 ≤ c → (e : Edge) (q : Point) → pos 0 <ℤ q.d → ComesWithin (pos c) q e
-    → (above right : Bool) → pos 0 <ℤ wind_by above right q (segments (sides (corners_of c e)))
-ring_winds c some e q d h above right = wound c e (corners_of c e) (ring_is c some e)
-    (two_corners (pos c) (low e) (high e)) q d h above right
+pub ring_winds : (c : ℕ) → 1 ≤ c → (e : Edge) (q : Point) → pos 0 <ℤ q.d → ComesNear c q e
+    → (above right : Bool) → pos 0 <ℤ wind_by above right q (segments (sides (octagon_corners c e)))
+ring_winds c some e q d h above right = wound c e (octagon_corners c e) (octagon_ring_is c some e) (two_corners c e) q d
+    h above right

@@ -6,7 +6,7 @@ use Rattle.slice_bool.specs.Fault.{IsRefusal as IsBorderRefusal}
 
 -- the shape of a wall has at most so many edges
 abbrev pub wall_edge_limit : ℕ
-wall_edge_limit = 140000
+wall_edge_limit = 220000
 
 -- as a border is; but want of memory may come before the number of edges is known
 abbrev pub IsRefusal : ℕ → ℕ → ℕ → BoolFault → Type 0

@@ -8,17 +8,17 @@ use Rattle.scad_geom.specs.declared.level.LeafEdge.{LeafEdge}
 use Rattle.scad_geom.specs.declared.shape.Shape.{Shape}
 use Rattle.scad_geom.specs.Loop.{sides}
 use Rattle.scad_geom.specs.Shape.{shape_holds}
-use Rattle.scad_ring.specs.Corners.{corners_of}
+use Rattle.scad_ring.specs.OctagonCorners.{octagon_corners}
 use Rattle.slice_bool.specs.Outlines.{AreOutlinesOf}
 
 -- edges as those of one leaf
 abbrev pub of_leaf : ℕ → List Edge → List LeafEdge
 of_leaf leaf es = map (λ e. record { leaf = leaf; edge = e }) es
 
--- the sides of the ring of the half width c round each edge, each ring a leaf, numbered from k on
+-- the sides of the ring by the octagon of c round each edge, each ring a leaf, numbered from k on
 abbrev pub rings_from : ℕ → ℕ → List Edge → List LeafEdge
 rings_from c k [] = []
-rings_from c k (e ∷ es) = of_leaf k (sides (corners_of c e)) ++ rings_from c (k + 1) es
+rings_from c k (e ∷ es) = of_leaf k (sides (octagon_corners c e)) ++ rings_from c (k + 1) es
 
 -- edges as leaf 0, then the ring of each in their order, from leaf 1 on
 abbrev pub with_rings : ℕ → List Edge → List LeafEdge

@@ -3,10 +3,11 @@ ghost use Rattle.std.specs.Prelude.{◌≡◌, ◌+◌, ◌<◌, ◌≤◌, ◌^
 ghost use Rattle.scad_geom.specs.Limits.{point_limit};
 ghost use Rattle.scad_geom.specs.Within.{IsEdgeWithin};
 ghost use Rattle.scad_geom.specs.Loop.{sides, path};
+ghost use Rattle.scad_ring.specs.OctagonCorners.{octagon_corners};
 ghost use Rattle.plan_walls.specs.Walls.{of_leaf, rings_from, with_rings};
 
 use scad_geom::{Edge, LeafEdge, Pt};
-use scad_ring::ring;
+use scad_ring::octagon_ring;
 use std::alloc::{AllocError, Global};
 
 /// How many edges a wall has: the sides of its outlines, and those of the ring round each.
@@ -18,9 +19,20 @@ pub(crate) fn edge_count(around: &[Edge], c: u32) -> u64
 {
     let mut count = around.len() as u64;
     'around: for edge in around {
-        count += ring(edge, c).as_slice().len() as u64;
+        count += corner_count(edge, c);
     }
     count
+}
+
+// How many corners the ring round an edge has.
+fn corner_count(e: &Edge, c: u32) -> u64
+    requires edge { IsEdgeWithin point_limit e.now }
+    requires positive { 1 ≤ c }
+    requires width { c ≤ 100000 }
+    ensures value { result ≡ length (octagon_corners c e.now) }
+    ensures few { result ≤ 10 }
+{
+    octagon_ring(e, c).as_slice().len() as u64
 }
 
 /// The sides of outlines as leaf 0, then those of the ring round each, each ring a leaf, from leaf 1 on.
@@ -59,7 +71,7 @@ fn push_rings(edges: &mut Vec<LeafEdge>, around: &[Edge], c: u32) -> Result<(), 
     ensures { OnOk result (edges.new.items ≡ edges.old.items ++ rings_from c 1 around.now) }
 {
     'around: for i in 0..around.len() {
-        push_sides(edges, i as u32 + 1, ring(&around[i], c).as_slice())?;
+        push_sides(edges, i as u32 + 1, octagon_ring(&around[i], c).as_slice())?;
     }
     Ok(())
 }

@@ -9,8 +9,8 @@ pub fn left_is_wound()
     ensures { LeftIsWound }
 {}
 
-/// Each point of the walls at a distance keeps that distance less one micrometre from each side of the outlines along
-/// both axes, and the outlines wind round it.
+/// Each point of the walls at a distance from 2 micrometres on keeps the clearance of it from each side of the outlines,
+/// and the outlines wind round it.
 pub fn walls_keep_clear()
     ensures { WallsKeepClear }
 {}

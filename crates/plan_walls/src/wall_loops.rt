@@ -18,21 +18,21 @@ use slice_bool::{BoolFault, outlines};
 use std::alloc::{AllocError, Global};
 
 /// The greatest number of edges, those of the outlines and of the rings round them.
-const EDGE_LIMIT: u32 = 140_000;
+const EDGE_LIMIT: u32 = 220_000;
 
 /// The loops at the distance `c` micrometres from outlines, with the inside on their left: the outlines of what lies
-/// inside the given ones and outside of the ring round each of their sides, all that is within `c` of it along both
-/// axes. Each point of the loops keeps `c - 1` along both axes from every side of the outlines handed in, and they wind
-/// round it.
+/// inside the given ones and outside of the ring round each of their sides, all that differs from a point of it by a
+/// point of the octagon of `c`. From `c` of 2 on each point of the loops keeps the clearance from every side of the
+/// outlines handed in, `c - 1` along each axis or `reach(c) - 2` along the sum of both, and they wind round it.
 ///
-/// They are refused exactly where the sides and the rings have more than 140,000 edges, and then where more than
+/// They are refused exactly where the sides and the rings have more than 220,000 edges, and then where more than
 /// 2,000,000 pairs of them cross.
 pub fn walls(alloc: Global, outlines: &[Loop], c: u32) -> Result<Vec<Loop>, BoolFault>
     requires within { All (λ l. All (IsWithin point_limit) l) outlines.now }
     requires positive { 1 ≤ c }
     requires width { c ≤ 100000 }
     ensures walls { IfOk result (λ v. AreWalls c outlines.now v.items) }
-    ensures clear { IfOk result (λ v. KeepClear outlines.now c v.items) }
+    ensures clear { 2 ≤ c → IfOk result (λ v. KeepClear outlines.now c v.items) }
     ensures few { IfOk result (λ v. length (wall_edges c outlines.now) ≤ wall_edge_limit) }
     ensures accepted { IfOk result (λ v. crossings (wall_edges c outlines.now) ≤ crossing_limit) }
     ensures refused { IfErr result

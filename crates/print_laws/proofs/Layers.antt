@@ -97,7 +97,7 @@ leaf_length [] = refl
 leaf_length (e ∷ es) = ap suc (leaf_length es)
 
 short : (s : Settings) (tree : Solid) (i : ℕ) (layer : Layout) → AreInRange s → IsLaid s tree i layer
-    → AllByRecursion (λ (l : List Pt). length l ≤ 140000) layer.outlines
+    → AllByRecursion (λ (l : List Pt). length l ≤ 220000) layer.outlines
 short s tree i layer range l =
     let least = range.walls.least in
     let c = distance s.line_width 0 in
@@ -105,14 +105,14 @@ short s tree i layer range l =
     let edges = (l.accepted.walls 0 (omega (arith, least))).few_edges in
     let both = length-append (of_leaf 0 es) (rings_from c 1 es) in
     let all = leaf_length es in
-    few_points 140000 layer.outlines (omega (arith, edges, both, all))
+    few_points 220000 layer.outlines (omega (arith, edges, both, all))
 
 near : (ps : List Pt) → AllByRecursion (IsWithin point_limit) ps → AllByRecursion IsWithinReach ps
 near [] h = tt
 near (p ∷ ps) h = let x = h.0.x in let y = h.0.y in ((omega (arith, x), omega (arith, y)), near ps h.1)
 
 shapes : (ls : List (List Pt)) → AllByRecursion (λ (l : List Pt). 3 ≤ length l) ls
-    → AllByRecursion (λ (l : List Pt). length l ≤ 140000) ls
+    → AllByRecursion (λ (l : List Pt). length l ≤ 220000) ls
     → AllByRecursion (All (IsWithin point_limit)) ls → AllByRecursion IsShape ls
 shapes [] many few within = tt
 shapes (l ∷ ls) many few within =

@@ -63,7 +63,7 @@ module _ (outlines : List (List Pt)) (within : All (λ l. All (IsWithin point_li
   deep : (p : Pt) → wind (whole p) (segments (flat_map sides outlines)) ≢ pos 0 → IsDeep outlines 0 p
   deep p h = record {
     inside = h;
-    apart = λ k d there n. let a = n.nearer.across.from in let b = n.nearer.across.to in omega (arith, ints, a, b);
+    apart = λ k d there s t from to some n. let a = n.0 in let b = n.1.0 in omega (arith, ints, a, b);
   }
 
   among : (layer : ℕ) → All (IsEdgeAmong layer least most) (flat_map sides outlines)

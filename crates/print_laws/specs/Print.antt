@@ -98,9 +98,9 @@ moves_along rates volume (side ∷ sides) =
 abbrev pub from_above : Move → Edge
 from_above m = record { a = record { x = m.from.x; y = m.from.y }; b = record { x = m.to.x; y = m.to.y } }
 
--- a move lies at the upper surface of a layer, and each point of it keeps half the width of a line, less one
--- micrometre, from each side of that layer's outlines along both axes, and they wind round it; the outlines are those
--- of all layers, from the lowest upwards
+-- a move lies at the upper surface of a layer, and each point of it keeps the clearance of half the width of a line from
+-- each side of that layer's outlines, and they wind round it; the outlines are those of all layers, from the lowest
+-- upwards
 pub record StaysInside (s : Settings) (outlines : List (List (List Pt))) (m : Move) : Type 0 where
   pub layer : ℕ
   pub from : m.from.z ≡ pos ((layer + 1) * s.layer_height)

@@ -19,8 +19,8 @@ pub fn sides_are_extruded()
     ensures { SidesAreExtruded }
 {}
 
-/// Each extruding move along planned paths lies at the upper surface of a layer; each point of it keeps half the width
-/// of a line, less one micrometre, from that layer's outlines, and they wind round it.
+/// Each extruding move along planned paths lies at the upper surface of a layer; each point of it keeps the clearance of
+/// half the width of a line from that layer's outlines, and they wind round it.
 pub fn moves_stay_inside()
     ensures { MovesStayInside }
 {

@@ -187,7 +187,7 @@ fn trees_are_sliced_and_planned(rt: HostRuntime) -> Result<(), Fail> {
         Sample {
             tree: &plate(alloc)?,
             sliced: "done: 2 layers, 4 loops\n",
-            planned: "done: 2 layers, 4 loops, 16 moves, E 1.79604\n",
+            planned: "done: 2 layers, 4 loops, 24 moves, E 1.77269\n",
             cli: PLATE_CLI,
             gcode: PLATE_GCODE,
         },

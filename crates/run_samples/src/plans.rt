@@ -215,7 +215,7 @@ fn plans_of_settings(rt: HostRuntime) -> Result<(), Fail> {
         &rt,
         &answer,
         0,
-        "done: 1 layers, 2 loops, 8 moves, E 1.79604\n",
+        "done: 1 layers, 2 loops, 12 moves, E 1.78437\n",
         source,
     );
     Ok(())

@@ -67,6 +67,34 @@ octagon_corners-few c e = by_shape (λ l. length l ≤ 10) c e (eight_sided-few 
     (eight_sided-few (pos c) (pos (slant c)) e.b e.a) (four_sided-few (pos c) e.a e.b)
     (four_sided-few (pos c) e.b e.a)
 
+-- it has at least three
+eight_sided-several : (c t : ℤ) (p r : Pt) (w : Direction) → 3 ≤ length (eight_sided c t p r w)
+eight_sided-several c t p r Still = omega arith
+eight_sided-several c t p r Flat = omega arith
+eight_sided-several c t p r Right = omega arith
+eight_sided-several c t p r DiagonalRight = omega arith
+eight_sided-several c t p r SteepRight = omega arith
+eight_sided-several c t p r Upright = omega arith
+eight_sided-several c t p r SteepLeft = omega arith
+eight_sided-several c t p r DiagonalLeft = omega arith
+eight_sided-several c t p r Left = omega arith
+
+four_sided-several : (c : ℤ) (p r : Pt) (w : Direction) → 3 ≤ length (four_sided c p r w)
+four_sided-several c p r Still = omega arith
+four_sided-several c p r Flat = omega arith
+four_sided-several c p r Right = omega arith
+four_sided-several c p r DiagonalRight = omega arith
+four_sided-several c p r SteepRight = omega arith
+four_sided-several c p r Upright = omega arith
+four_sided-several c p r SteepLeft = omega arith
+four_sided-several c p r DiagonalLeft = omega arith
+four_sided-several c p r Left = omega arith
+
+pub octagon_corners-several : (c : ℕ) (e : Edge) → 3 ≤ length (octagon_corners c e)
+octagon_corners-several c e = by_shape (λ l. 3 ≤ length l) c e (eight_sided-several (pos c) (pos (slant c)) e.a e.b)
+    (eight_sided-several (pos c) (pos (slant c)) e.b e.a) (four_sided-several (pos c) e.a e.b)
+    (four_sided-several (pos c) e.b e.a)
+
 -- ---- within the limit
 module _ (c t : ℕ) (most : c ≤ 100000) (less : t ≤ c) (p : Pt) (h : IsWithin point_limit p) where
   x_is : unsigned_abs p.x ≤ point_limit

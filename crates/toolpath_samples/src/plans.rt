@@ -77,11 +77,16 @@ fn frame(alloc: Global) -> Result<Vec<Loop>, AllocError>
     Ok(outlines)
 }
 
-// Whether a path goes round a square from its lower left corner.
-fn is_round(path: &Path, from: i32, to: i32, is_hole: bool) -> bool {
-    let second = if is_hole { at(from, to) } else { at(to, from) };
-    let last = if is_hole { at(to, from) } else { at(from, to) };
-    path.as_slice() == [at(from, from), second, at(to, to), last, at(from, from)].as_slice()
+// Whether a path goes round a square, counter-clockwise from its lower left corner.
+fn is_round(path: &Path, from: i32, to: i32) -> bool {
+    let way = [
+        at(from, from),
+        at(to, from),
+        at(to, to),
+        at(from, to),
+        at(from, from),
+    ];
+    path.as_slice() == way.as_slice()
 }
 
 fn is_way(path: &Path, from: Pt, to: Pt) -> bool {
@@ -93,8 +98,8 @@ fn even_layers_have_rows(rt: HostRuntime) -> Result<(), Fail> {
     let alloc = rt.alloc();
     let paths = plan(alloc, &cube(alloc)?, 0, &USUAL)?.paths;
     assert_eq!(rt; paths.len(), 3);
-    assert!(rt; is_round(&paths[0], 225, 2775, false));
-    assert!(rt; is_round(&paths[1], 675, 2325, false));
+    assert!(rt; is_round(&paths[0], 225, 2775));
+    assert!(rt; is_round(&paths[1], 675, 2325));
     assert!(rt; is_way(&paths[2], at(900, 2000), at(2100, 2000)));
     Ok(())
 }
@@ -118,8 +123,19 @@ fn holes_have_walls(rt: HostRuntime) -> Result<(), Fail> {
     };
     let paths = plan(alloc, &frame(alloc)?, 0, &settings)?.paths;
     assert_eq!(rt; paths.len(), 2);
-    assert!(rt; is_round(&paths[0], 225, 9775, false));
-    assert!(rt; is_round(&paths[1], 3775, 6225, true));
+    assert!(rt; is_round(&paths[0], 225, 9775));
+    let round_hole = [
+        at(3907, 3775),
+        at(3775, 3907),
+        at(3775, 6093),
+        at(3907, 6225),
+        at(6093, 6225),
+        at(6225, 6093),
+        at(6225, 3907),
+        at(6093, 3775),
+        at(3907, 3775),
+    ];
+    assert_eq!(rt; paths[1].as_slice(), round_hole.as_slice());
     Ok(())
 }
 

@@ -36,6 +36,6 @@ fn number_of_seeds(alloc: Global, seeds: u64) -> Result<i64, AllocError> {
 
 #[test]
 fn random_outlines_have_these_runs(rt: HostRuntime) -> Result<(), Fail> {
-    assert_eq!(rt; number_of_seeds(rt.alloc(), 100)?, 527_959_961);
+    assert_eq!(rt; number_of_seeds(rt.alloc(), 100)?, 985_221_228);
     Ok(())
 }

@@ -43,6 +43,6 @@ fn number_of_seeds(alloc: Global, seeds: u64) -> Result<i64, BoolFault> {
 
 #[test]
 fn random_outlines_have_these_walls(rt: HostRuntime) -> Result<(), Fail> {
-    assert_eq!(rt; number_of_seeds(rt.alloc(), 40)?, 30_250_402);
+    assert_eq!(rt; number_of_seeds(rt.alloc(), 40)?, 967_136_488);
     Ok(())
 }

@@ -64,10 +64,14 @@ fn holes_have_walls(rt: HostRuntime) -> Result<(), Fail> {
     let expected = [at(225, 225), at(9775, 225), at(9775, 9775), at(225, 9775)];
     assert_eq!(rt; loops[0].as_slice(), expected.as_slice());
     let expected = [
-        at(3775, 3775),
-        at(3775, 6225),
-        at(6225, 6225),
-        at(6225, 3775),
+        at(3907, 3775),
+        at(3775, 3907),
+        at(3775, 6093),
+        at(3907, 6225),
+        at(6093, 6225),
+        at(6225, 6093),
+        at(6225, 3907),
+        at(6093, 3775),
     ];
     assert_eq!(rt; loops[1].as_slice(), expected.as_slice());
     Ok(())

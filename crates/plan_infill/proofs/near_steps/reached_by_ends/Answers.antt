@@ -1,17 +1,31 @@
-use Rattle.std.proofs.Common.{◌≡◌, rules, FitsSigned, pos, ◌+ℤ◌, ◌-ℤ◌}
+-- The stretches of the pairs of half planes give the places beside both ends.
+use Rattle.std.proofs.Common.{◌≡◌, rules, ℤ, pos, ◌+ℤ◌, ◌-ℤ◌}
 use Rattle.std.specs.Int.{int_min, int_max}
-use Rattle.std.proofs.lemmas.Int.{to_z-of_z}
 use Rattle.scad_geom.specs.Line.{low, high}
 use Rattle.scad_geom.proofs.Casts.{casts}
-use Rattle.plan_infill.specs.Reach.{ends_reach}
+use Rattle.scad_ring.specs.Octagon.{reach}
+use Rattle.plan_infill.proofs.Reached.{IsRound, by_stretches}
 use Rattle.plan_infill.proofs.near_steps.reached_by_ends.Goals as goal
-use mir.Syntax.{w128}
 
 pub returns : goal.returns
 returns c =
-    let a : c.plus.result ≡ (int_min (low c.args.e.now).x (high c.args.e.now).x -ℤ pos c.args.c) +ℤ pos 1 = search (rules, casts) in
-    let b : c.plus-2.result ≡ int_max (low c.args.e.now).x (high c.args.e.now).x +ℤ pos c.args.c = search (rules, casts) in
-    let f : FitsSigned w128 c.plus.result = record { sfits = c.plus.type_inv } in
-    let g : FitsSigned w128 c.plus-2.result = record { sfits = c.plus-2.type_inv } in
-    let w : record { from = c.plus.result; until = c.plus-2.result } ≡ ends_reach c.args.c c.args.e.now = λ i. record { from = a i; until = b i } in
-    simp to_z-of_z w
+    let a : IsRound (pos c.args.c) (low c.args.e.now).x (high c.args.e.now).x (pos 0) c.around-across.result = record {
+      from = search (rules, casts);
+      until = search (rules, casts);
+    } in
+    let r : IsRound (pos (reach c.args.c)) ((low c.args.e.now).x +ℤ (low c.args.e.now).y)
+    ((high c.args.e.now).x +ℤ (high c.args.e.now).y) c.args.y c.around-rising.result = record {
+      from = search (rules, casts);
+      until = search (rules, casts);
+    } in
+    let f : IsRound (pos (reach c.args.c)) ((low c.args.e.now).x -ℤ (low c.args.e.now).y)
+    ((high c.args.e.now).x -ℤ (high c.args.e.now).y) (pos 0 -ℤ c.args.y) c.around-falling.result = record {
+      from = search (rules, casts);
+      until = search (rules, casts);
+    } in
+    let bf : c.both.result.from ≡ int_max c.around-rising.result.from c.around-falling.result.from = search (rules, casts) in
+    let bu : c.both.result.until ≡ int_min c.around-rising.result.until c.around-falling.result.until = search (rules, casts) in
+    let sf : c.both-2.result.from ≡ int_max c.around-across.result.from c.both.result.from = search (rules, casts) in
+    let su : c.both-2.result.until ≡ int_min c.around-across.result.until c.both.result.until = search (rules, casts) in
+    by_stretches c.args.c c.args.y c.args.e.now c.around-across.result c.around-rising.result c.around-falling.result
+    c.both.result c.both-2.result a r f bf bu sf su

@@ -1,4 +1,4 @@
-use Rattle.std.proofs.Common.{◌≡◌, rules, sym, subst, FitsSigned, ℤ, pos, ◌+ℤ◌, ◌-ℤ◌, ◌*ℤ◌, ◌<ℤ◌}
+use Rattle.std.proofs.Common.{◌≡◌, rules, sym, subst, FitsSigned, ℤ, pos, ◌+ℤ◌, ◌-ℤ◌, ◌<ℤ◌}
 use lib.Signed.{◌≤ℤ◌}
 use Rattle.std.specs.Prelude.{◌↔◌}
 use Rattle.scad_geom.specs.Line.{rise, x_at}
@@ -6,8 +6,8 @@ use Rattle.std.proofs.lemmas.Int.{to_z-of_z}
 use mir.Syntax.{w128}
 use Rattle.scad_geom.proofs.Casts.{casts}
 use Rattle.plan_infill.specs.Quotient.{IsFloor, IsCeiling}
-use Rattle.plan_infill.specs.Reach.{reach}
-use Rattle.plan_infill.proofs.Reached.{line_reached}
+use Rattle.plan_infill.specs.Reach.{line_reach, IsBesideLine}
+use Rattle.plan_infill.proofs.Reached.{line_those}
 use Rattle.plan_infill.proofs.near_steps.reached_by_line.Goals as goal
 
 next : (c : goal.After-ceiling) → c.plus.result ≡ c.floor.result +ℤ pos 1
@@ -15,11 +15,14 @@ next c = search (rules, casts)
 
 pub returns : goal.returns
 returns c x =
-    let f : IsFloor (x_at c.args.e.now c.args.y (pos 1) -ℤ reach c.args.c c.args.e.now) (rise c.args.e.now) c.floor.result = search (rules, casts) in
-    let u : IsCeiling (x_at c.args.e.now c.args.y (pos 1) +ℤ reach c.args.c c.args.e.now) (rise c.args.e.now) c.ceiling.result = search (rules, casts) in
-    let w = line_reached (x_at c.args.e.now c.args.y (pos 1) -ℤ reach c.args.c c.args.e.now) (x_at c.args.e.now c.args.y (pos 1) +ℤ reach c.args.c c.args.e.now) (rise c.args.e.now) c.floor.result c.ceiling.result x c.requires.rises f u in
-    let v : ((c.plus.result ≤ℤ x) × (x <ℤ c.ceiling.result)) ↔ (((x_at c.args.e.now c.args.y (pos 1) -ℤ reach c.args.c c.args.e.now) <ℤ (x *ℤ rise c.args.e.now)) × ((x *ℤ rise c.args.e.now) <ℤ (x_at c.args.e.now c.args.y (pos 1) +ℤ reach c.args.c c.args.e.now)))
-    = subst (λ (z : ℤ). ((z ≤ℤ x) × (x <ℤ c.ceiling.result)) ↔ (((x_at c.args.e.now c.args.y (pos 1) -ℤ reach c.args.c c.args.e.now) <ℤ (x *ℤ rise c.args.e.now)) × ((x *ℤ rise c.args.e.now) <ℤ (x_at c.args.e.now c.args.y (pos 1) +ℤ reach c.args.c c.args.e.now)))) (sym (next c)) w in
+    let f : IsFloor (x_at c.args.e.now c.args.y (pos 1) -ℤ line_reach c.args.c c.args.e.now) (rise c.args.e.now)
+    c.floor.result = search (rules, casts) in
+    let u : IsCeiling (x_at c.args.e.now c.args.y (pos 1) +ℤ line_reach c.args.c c.args.e.now) (rise c.args.e.now)
+    c.ceiling.result = search (rules, casts) in
+    let w = line_those c.args.c c.args.y c.args.e.now c.floor.result c.ceiling.result c.requires.rises f u x in
+    let v : ((c.plus.result ≤ℤ x) × (x <ℤ c.ceiling.result)) ↔ IsBesideLine c.args.c c.args.y c.args.e.now x
+    = subst (λ (z : ℤ). ((z ≤ℤ x) × (x <ℤ c.ceiling.result)) ↔ IsBesideLine c.args.c c.args.y c.args.e.now x)
+    (sym (next c)) w in
     let p_fits : FitsSigned w128 c.plus.result = record { sfits = c.plus.type_inv } in
     let c_fits : FitsSigned w128 c.ceiling.result = record { sfits = c.ceiling.type_inv } in
     simp to_z-of_z v

@@ -1,19 +1,16 @@
--- The count is that of the sides and of the corners of all rings, at most seven for each side.
-use Rattle.std.proofs.Common.{◌≡◌, ◌+◌, ◌≤◌, List, [], length, drop, arith, sym, ◌∙◌}
-use Rattle.std.proofs.Common.{subst}
+-- The count is that of the sides and of the corners of all rings, at most eleven for each side.
+use Rattle.std.proofs.Common.{◌≡◌, ◌+◌, ◌≤◌, List, [], length, drop, arith, subst}
 use Rattle.std.specs.Prelude.{sum_by}
 use Rattle.std.proofs.Math.ListN.{drop_of_length-le}
-use Rattle.scad_geom.specs.declared.point.Pt.{Pt}
 use Rattle.scad_geom.specs.declared.point.Edge.{Edge}
-use Rattle.plan_walls.proofs.Counts.{corner_count, corner_few, count_is, sum_few}
+use Rattle.plan_walls.proofs.Counts.{corner_count, count_is, sum_few}
 use Rattle.plan_walls.proofs.edges.edge_count.Goals as goal
 
 pub overflow_add-count : goal.overflow_add-count
 overflow_add-count c =
     let i = c.around.invariant in
     let s = sum_few c.args.c c.args.around.now in
-    let f : length c.as_slice.result.now ≤ 6 = subst (λ (l : List Pt). length l ≤ 6)
-    (sym (c.as_slice.ensures ∙ c.ring.ensures.corners)) (corner_few c.args.c _) in
+    let f = c.corner_count-count.ensures.few in
     let w = c.well_formed.0.1 in
     omega (arith, i, s, f, w)
 

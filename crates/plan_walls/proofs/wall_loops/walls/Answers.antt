@@ -27,8 +27,8 @@ walls_along-requires-clause-balanced c = subst (λ (es : List Edge). IsBalanced 
     (sides_balanced c.args.outlines.now)
 
 pub returns-in-Ok-clause-clear : goal.returns-in-Ok-clause-clear
-returns-in-Ok-clause-clear c =
+returns-in-Ok-clause-clear c two =
     IfOk-weaker c.walls_along.result _ _
-    (λ v h. walls_keep_clear c.args.c c.args.outlines.now v.items c.requires.positive
+    (λ v h. walls_keep_clear c.args.c c.args.outlines.now v.items two
     (subst (λ (es : List Edge). AreWallsAlong c.args.c es v.items) (c.deref.ensures.value ∙ c.in-Ok.ensures) h))
     c.walls_along.ensures.walls

@@ -1,101 +1,18 @@
--- What lies strictly within a distance of an edge lies strictly to the left of each side of its ring: moved a little
--- along each axis it is still near, so it isn't on the line of a side.
-use Rattle.std.proofs.Common.{◌≡◌, inl, inr, ℕ, [], ◌∷◌, refl, subst, arith, ℤ, pos}
+-- What isn't to the right of a side however it is moved by one, in parts of a divisor, along an axis lies strictly to the
+-- left of the side.
+use Rattle.std.proofs.Common.{◌≡◌, [], ◌∷◌, refl, subst, arith, ℤ, pos}
 use Rattle.std.proofs.Common.{negsuc, ◌+ℤ◌, ◌-ℤ◌, ◌*ℤ◌, ◌<ℤ◌}
 use lib.Signed.{◌≤ℤ◌}
 use Rattle.std.proofs.lemmas.Int.{ints}
 use Rattle.scad_geom.specs.declared.point.Pt.{Pt}
 use Rattle.scad_geom.specs.declared.point.Edge.{Edge}
 use Rattle.scad_geom.specs.Point.{Point, whole}
-use Rattle.scad_geom.specs.Near.{mean, IsHalf}
 use Rattle.scad_geom.specs.Winding.{side_by}
-use Rattle.scad_geom.proofs.Signs.{at_least_mul, pos_left}
+use Rattle.scad_geom.proofs.Signs.{pos_left}
 use Rattle.winding_laws.proofs.Forms.{by_sign}
 use Rattle.scad_geom.proofs.Ring.{ring, num, ◌⊕◌, ◌⊖◌, ◌⊗◌, v0, v1, v2, v3, v4, v5, v6, v7, v8, v9}
-use Rattle.scad_ring.specs.Ring.{IsNear, TurnsLeft}
-
--- p lies strictly within c of q along both axes
-pub record IsStrictlyWithin (c : ℤ) (q p : Point) : Type 0 where
-  pub right : (p.x *ℤ q.d -ℤ q.x *ℤ p.d) <ℤ (c *ℤ (p.d *ℤ q.d))
-  pub left : (q.x *ℤ p.d -ℤ p.x *ℤ q.d) <ℤ (c *ℤ (p.d *ℤ q.d))
-  pub above : (p.y *ℤ q.d -ℤ q.y *ℤ p.d) <ℤ (c *ℤ (p.d *ℤ q.d))
-  pub below : (q.y *ℤ p.d -ℤ p.y *ℤ q.d) <ℤ (c *ℤ (p.d *ℤ q.d))
-
--- some point of an edge lies strictly within c of q
-pub record ComesWithin (c : ℤ) (q : Point) (e : Edge) : Type 0 where
-  pub s : ℤ
-  pub t : ℤ
-  pub from : pos 0 ≤ℤ s
-  pub to : pos 0 ≤ℤ t
-  pub some : pos 0 <ℤ (s +ℤ t)
-  pub within : IsStrictlyWithin c q (mean s t (whole e.a) (whole e.b))
-
--- ---- moved a little
--- a point moved by u to the right and v upwards, in parts of its divisor times k
-abbrev pub shifted : ℤ → ℤ → ℤ → Point → Point
-shifted k u v q = record { x = q.x *ℤ k +ℤ u; y = q.y *ℤ k +ℤ v; d = q.d *ℤ k }
-
--- a step of at most one
-pub record IsStep (u : ℤ) : Type 0 where
-  pub from : (pos 0 -ℤ pos 1) ≤ℤ u
-  pub to : u ≤ℤ pos 1
-
-by_step : (c px pd qx qd u : ℤ) → pos 0 ≤ℤ pd → IsStep u → (px *ℤ qd -ℤ qx *ℤ pd) <ℤ (c *ℤ (pd *ℤ qd))
-    → (qx *ℤ pd -ℤ px *ℤ qd) <ℤ (c *ℤ (pd *ℤ qd))
-    → IsHalf (pos 2 *ℤ c) (px *ℤ (qd *ℤ pd) -ℤ (qx *ℤ pd +ℤ u) *ℤ pd) (pd *ℤ (qd *ℤ pd))
-by_step c px pd qx qd u some step r l =
-    let f = step.from in
-    let t = step.to in
-    let m = at_least_mul ((c *ℤ (pd *ℤ qd) -ℤ pos 1) -ℤ (px *ℤ qd -ℤ qx *ℤ pd)) pd (omega (arith, ints, r)) some in
-    let n = at_least_mul ((c *ℤ (pd *ℤ qd) -ℤ pos 1) -ℤ (qx *ℤ pd -ℤ px *ℤ qd)) pd (omega (arith, ints, l)) some in
-    let a = at_least_mul (pos 1 +ℤ u) pd (omega (arith, ints, f)) some in
-    let b = at_least_mul (pos 1 -ℤ u) pd (omega (arith, ints, t)) some in
-    let g = below_most c px pd qx qd u in
-    let h = above_least c px pd qx qd u in
-    let w = doubled c (pd *ℤ (qd *ℤ pd)) in
-    record { from = omega (arith, ints, n, b, h, w); to = omega (arith, ints, m, a, g, w) }
-  where
-    below_most : (c px pd qx qd u : ℤ)
-        → ((c *ℤ (pd *ℤ qd) -ℤ pos 1) -ℤ (px *ℤ qd -ℤ qx *ℤ pd)) *ℤ pd +ℤ (pos 1 +ℤ u) *ℤ pd
-        ≡ c *ℤ (pd *ℤ (qd *ℤ pd)) -ℤ (px *ℤ (qd *ℤ pd) -ℤ (qx *ℤ pd +ℤ u) *ℤ pd)
-    below_most c px pd qx qd u = ring (c ∷ px ∷ pd ∷ qx ∷ qd ∷ u ∷ [])
-        (((v0 ⊗ (v2 ⊗ v4) ⊖ num (pos 1)) ⊖ (v1 ⊗ v4 ⊖ v3 ⊗ v2)) ⊗ v2 ⊕ (num (pos 1) ⊕ v5) ⊗ v2)
-        (v0 ⊗ (v2 ⊗ (v4 ⊗ v2)) ⊖ (v1 ⊗ (v4 ⊗ v2) ⊖ (v3 ⊗ v2 ⊕ v5) ⊗ v2)) refl
-
-    above_least : (c px pd qx qd u : ℤ)
-        → ((c *ℤ (pd *ℤ qd) -ℤ pos 1) -ℤ (qx *ℤ pd -ℤ px *ℤ qd)) *ℤ pd +ℤ (pos 1 -ℤ u) *ℤ pd
-        ≡ c *ℤ (pd *ℤ (qd *ℤ pd)) +ℤ (px *ℤ (qd *ℤ pd) -ℤ (qx *ℤ pd +ℤ u) *ℤ pd)
-    above_least c px pd qx qd u = ring (c ∷ px ∷ pd ∷ qx ∷ qd ∷ u ∷ [])
-        (((v0 ⊗ (v2 ⊗ v4) ⊖ num (pos 1)) ⊖ (v3 ⊗ v2 ⊖ v1 ⊗ v4)) ⊗ v2 ⊕ (num (pos 1) ⊖ v5) ⊗ v2)
-        (v0 ⊗ (v2 ⊗ (v4 ⊗ v2)) ⊕ (v1 ⊗ (v4 ⊗ v2) ⊖ (v3 ⊗ v2 ⊕ v5) ⊗ v2)) refl
-
-    doubled : (c w : ℤ) → (pos 2 *ℤ c) *ℤ w ≡ pos 2 *ℤ (c *ℤ w)
-    doubled c w = ring (c ∷ w ∷ []) ((num (pos 2) ⊗ v0) ⊗ v1) (num (pos 2) ⊗ (v0 ⊗ v1)) refl
-
-abbrev pub weight : (s t : ℤ) → ℤ
-weight s t = s *ℤ pos 1 +ℤ t *ℤ pos 1
-
-pub weight_positive : (s t : ℤ) → pos 0 <ℤ (s +ℤ t) → pos 0 <ℤ weight s t
-weight_positive s t h = omega (arith, ints, h)
-
-pub near_shifted : (c : ℕ) (q : Point) (e : Edge) (h : ComesWithin (pos c) q e) (u v : ℤ) → IsStep u → IsStep v
-    → IsNear c e (shifted (weight h.s h.t) u v q)
-near_shifted c q e h u v hu hv =
-    let w = h.within in
-    let some = weight_positive h.s h.t h.some in
-    record {
-      s = h.s;
-      t = h.t;
-      from = h.from;
-      to = h.to;
-      some = h.some;
-      close = record {
-        across = by_step (pos c) (h.s *ℤ e.a.x +ℤ h.t *ℤ e.b.x) (h.s *ℤ pos 1 +ℤ h.t *ℤ pos 1) q.x q.d u
-            (omega (arith, ints, some)) hu w.right w.left;
-        along = by_step (pos c) (h.s *ℤ e.a.y +ℤ h.t *ℤ e.b.y) (h.s *ℤ pos 1 +ℤ h.t *ℤ pos 1) q.y q.d v
-            (omega (arith, ints, some)) hv w.above w.below;
-      };
-    }
+use Rattle.scad_ring.specs.Ring.{TurnsLeft}
+use Rattle.scad_ring.proofs.Opened.{shifted}
 
 -- ---- one side
 -- a way on from the end of a side turns left
@@ -141,15 +58,6 @@ has_length e h x y = no_turn e.a.x e.a.y e.b.x e.b.y h.next.x h.next.y x y h.lef
 -- where a point moved towards the right of a side isn't right of it, the point is left of it
 left_by : (s z k g : ℤ) → pos 0 <ℤ k → z ≡ s *ℤ k -ℤ g → pos 0 ≤ℤ z → pos 0 <ℤ g → pos 0 <ℤ s
 left_by s z k g p e h q = pos_left s k p (omega (arith, ints, e, h, q))
-
-pub step_0 : IsStep (pos 0)
-step_0 = record { from = omega (arith, ints); to = omega (arith, ints) }
-
-pub step_1 : IsStep (pos 1)
-step_1 = record { from = omega (arith, ints); to = omega (arith, ints) }
-
-pub step_back : IsStep (negsuc 0)
-step_back = record { from = omega (arith, ints); to = omega (arith, ints) }
 
 module _ (q : Point) (k : ℤ) (some : pos 0 <ℤ k) where
   -- moved by one along an axis, q isn't to the right of a side
