@@ -18,8 +18,8 @@ use Rattle.gcode_text.specs.Gcode as program
 use Rattle.gcode_text.specs.declared.rates.Rates.{Rates}
 use Rattle.slice_work.specs.declared.want.Want.{Want}
 use Rattle.slice_work.specs.declared.want.Want.TheVariants.{Outlines, Plan}
-use Rattle.slice_work.specs.Part.{Layout, Part, outlines_of, paths_of}
-use Rattle.slice_work.specs.Script.{written_unless, layer_steps, volume_below}
+use Rattle.slice_work.specs.Part.{Layout, Part, outlines_of, hatches_of, paths_of}
+use Rattle.slice_work.specs.Script.{layout_lines, written_unless, layer_steps, volume_below}
 use Rattle.slice_work.specs.Rates.{rates_of}
 use Rattle.scad_slice.specs.Budgets.{layer_count}
 use Rattle.scad_slice.specs.Parts.{layer_at, layers_of, plans_of}
