@@ -5,7 +5,7 @@
 
 mod fault;
 mod geometry;
-mod hatches;
+mod hatch_line;
 mod head;
 pub mod laws;
 mod layers;

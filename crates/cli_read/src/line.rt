@@ -4,7 +4,7 @@ ghost use Rattle.std.specs.Option.{option_map};
 ghost use Rattle.cli_read.specs.Reading.{Gives, is_above, height_at, drawn_by, drawn_at, said_by, said_at};
 
 use crate::fault::CliFault;
-use crate::hatches::hatches_at;
+use crate::hatch_line::hatches_at;
 use crate::layers::Hatches;
 use crate::number::count_at;
 use crate::outline::outline_at;

@@ -90,12 +90,7 @@ fn push_head_end(out: &mut Vec<u8>) -> Result<(), AllocError>
     out.extend_from_slice(b"\n$$HEADEREND\n$$GEOMETRYSTART\n")
 }
 
-fn push_layer(
-    out: &mut Vec<u8>,
-    z: u32,
-    loops: &[Loop],
-    hatches: &[Edge],
-) -> Result<(), AllocError>
+fn push_layer(out: &mut Vec<u8>, z: u32, loops: &[Loop], hatches: &[Edge]) -> Result<(), AllocError>
     ensures ok { OnOk result (out.new.items ≡ out.old.items
         ++ layer_text (record { z = z; loops = loops.now; hatches = hatches.now })) }
     ensures err { OnErr result (BeginsWith out.old.items out.new.items) }

@@ -17,13 +17,33 @@ const LINES: [(&str, u64, &str); 18] = [
     ("$$HEADEREND", 0, "bbbbbbbbbbbn"),
     ("$$GEOMETRYSTART", 0, "bbbbbbbbbbbbbbbn"),
     ("$$LAYER/200", 0, "bbbbbbbbbnnn"),
-    ("$$POLYLINE/1,1,5,0,0,3000,0,3000,3000,0,3000,0,0", 5, "bbbbbbbbbbbbbbbb0bbb1bbbbbb2bbbbbb3333bbb4444bbbn"),
-    ("$$HATCHES/1,2,900,2000,2100,2000,-7,0,15,-30", 2, "bbbbbbbbbbbbb0bbbbbbbbbbbbbbb1111bbbbbbbbbbnn"),
+    (
+        "$$POLYLINE/1,1,5,0,0,3000,0,3000,3000,0,3000,0,0",
+        5,
+        "bbbbbbbbbbbbbbbb0bbb1bbbbbb2bbbbbb3333bbb4444bbbn",
+    ),
+    (
+        "$$HATCHES/1,2,900,2000,2100,2000,-7,0,15,-30",
+        2,
+        "bbbbbbbbbbbbb0bbbbbbbbbbbbbbb1111bbbbbbbbbbnn",
+    ),
     ("$$LAYER/400", 0, "bbbbbbbbbbbn"),
     ("$$HATCHES/1,1,0,0,0,0", 1, "bbbbbbbbbbbbb0bbbbbbbn"),
-    ("$$POLYLINE/1,0,4,10,10,20,20,20,10,10,10", 4, "bbbbbbbbbbbbbbbb0bbbb11bbbb22bbbb33bbbbpn"),
-    ("$$HATCHES/1,3,5,5,6,6,7,7,8,8,-9,9,10,-10", 3, "bbbbbbbbbbbbb0bbbbbbb1bbbbbbb2bbbbbbbbbbnn"),
-    ("$$HATCHES/1,1,-1100000,1100000,4,4", 1, "bbbbbbbbbbbbb0bbbbbbbbbbbbbbbbbbbbn"),
+    (
+        "$$POLYLINE/1,0,4,10,10,20,20,20,10,10,10",
+        4,
+        "bbbbbbbbbbbbbbbb0bbbb11bbbb22bbbb33bbbbpn",
+    ),
+    (
+        "$$HATCHES/1,3,5,5,6,6,7,7,8,8,-9,9,10,-10",
+        3,
+        "bbbbbbbbbbbbb0bbbbbbb1bbbbbbb2bbbbbbbbbbnn",
+    ),
+    (
+        "$$HATCHES/1,1,-1100000,1100000,4,4",
+        1,
+        "bbbbbbbbbbbbb0bbbbbbbbbbbbbbbbbbbbn",
+    ),
     ("$$LAYER/600", 0, "bbbbbbbbbbbn"),
     ("$$HATCHES/1,1,1,2,3,4", 1, "bbbbbbbbbbbbb0bbbbbbbn"),
     ("$$GEOMETRYEND", 0, "bbbbbbbbbbbbbo"),
@@ -81,19 +101,43 @@ const fn at(x: i32, y: i32) -> Pt {
 }
 
 const FRONT: [Edge; 2] = [
-    Edge { a: at(900, 2000), b: at(2100, 2000) },
-    Edge { a: at(-7, 0), b: at(15, -30) },
+    Edge {
+        a: at(900, 2000),
+        b: at(2100, 2000),
+    },
+    Edge {
+        a: at(-7, 0),
+        b: at(15, -30),
+    },
 ];
 
 const JOINED: [Edge; 5] = [
-    Edge { a: at(0, 0), b: at(0, 0) },
-    Edge { a: at(5, 5), b: at(6, 6) },
-    Edge { a: at(7, 7), b: at(8, 8) },
-    Edge { a: at(-9, 9), b: at(10, -10) },
-    Edge { a: at(-1_100_000, 1_100_000), b: at(4, 4) },
+    Edge {
+        a: at(0, 0),
+        b: at(0, 0),
+    },
+    Edge {
+        a: at(5, 5),
+        b: at(6, 6),
+    },
+    Edge {
+        a: at(7, 7),
+        b: at(8, 8),
+    },
+    Edge {
+        a: at(-9, 9),
+        b: at(10, -10),
+    },
+    Edge {
+        a: at(-1_100_000, 1_100_000),
+        b: at(4, 4),
+    },
 ];
 
-const LAST: [Edge; 1] = [Edge { a: at(1, 2), b: at(3, 4) }];
+const LAST: [Edge; 1] = [Edge {
+    a: at(1, 2),
+    b: at(3, 4),
+}];
 
 /// The same layers as they are written: all hatches of a layer in one line, behind its outlines.
 const WRITTEN: &str = "\
@@ -139,7 +183,12 @@ fn written(alloc: Global, cli: &Cli) -> Result<Vec<u8>, AllocError> {
     let mut text = Vec::new(alloc);
     write_head(&mut text, 3)?;
     for layer in cli.layers.as_slice() {
-        write_layer(&mut text, layer.z, layer.loops.as_slice(), layer.hatches.as_slice())?;
+        write_layer(
+            &mut text,
+            layer.z,
+            layer.loops.as_slice(),
+            layer.hatches.as_slice(),
+        )?;
     }
     write_end(&mut text)?;
     Ok(text)

@@ -24,7 +24,10 @@ const LINES: [(&str, &str); 36] = [
     ("$$HATCHES/1,2,0,0,5,0", "CountDiffers 2 1"),
     ("$$HATCHES/1,4,5,6,7,8", "CountDiffers 4 1"),
     ("$$HATCHES/1,1,5,6,7,8,9,10,11,12", "CountDiffers 1 2"),
-    ("$$HATCHES/1,2,5,6,7,8,-9,10,11,-12", "200 1 [1 2 3 4] [5 6 7 8] [-9 10 11 -12]; 400 0"),
+    (
+        "$$HATCHES/1,2,5,6,7,8,-9,10,11,-12",
+        "200 1 [1 2 3 4] [5 6 7 8] [-9 10 11 -12]; 400 0",
+    ),
     ("$$HATCHES/1,1", "CountDiffers 1 0"),
     ("$$HATCHES/1,0", "BadLine 11"),
     ("$$HATCHES/1,0,5,6,7,8", "BadLine 11"),
@@ -38,7 +41,10 @@ const LINES: [(&str, &str); 36] = [
     ("$$HATCHES/1,1,5,6,7,8,9", "BadLine 11"),
     ("$$HATCHES/1,2,5,6,7,8,9,10", "BadLine 11"),
     ("$$HATCHES/1,1,5,6,7,8,", "BadLine 11"),
-    ("$$HATCHES/1,1,5,6,7,1100000", "200 1 [1 2 3 4] [5 6 7 1100000]; 400 0"),
+    (
+        "$$HATCHES/1,1,5,6,7,1100000",
+        "200 1 [1 2 3 4] [5 6 7 1100000]; 400 0",
+    ),
     ("$$HATCHES/1,1,5,6,7,1100001", "BadLine 11"),
     ("$$HATCHES/1,1,-1100001,6,7,8", "BadLine 11"),
     ("$$HATCHES/1,1,5,6,7,+8", "BadLine 11"),
@@ -47,13 +53,22 @@ const LINES: [(&str, &str); 36] = [
     ("$$HATCHES/1,1,5,6,7, 8", "BadLine 11"),
     ("$$HATCHES/1,01,5,6,7,8", "BadLine 11"),
     ("$$HATCHES/1,-1,5,6,7,8", "BadLine 11"),
-    ("$$HATCHES/1,4294967295,5,6,7,8", "CountDiffers 4294967295 1"),
+    (
+        "$$HATCHES/1,4294967295,5,6,7,8",
+        "CountDiffers 4294967295 1",
+    ),
     ("$$HATCHES/1,4294967296,5,6,7,8", "BadLine 11"),
     ("$$HATCHES/1,1,5,6,5,6", "200 1 [1 2 3 4] [5 6 5 6]; 400 0"),
     ("$$HATCHES/1,1,7,8,5,6", "200 1 [1 2 3 4] [7 8 5 6]; 400 0"),
-    ("$$HATCHES/1,1,5,6,7,8\r", "200 1 [1 2 3 4] [5 6 7 8]; 400 0"),
+    (
+        "$$HATCHES/1,1,5,6,7,8\r",
+        "200 1 [1 2 3 4] [5 6 7 8]; 400 0",
+    ),
     ("$$hatches/1,1,5,6,7,8", "BadLine 11"),
-    ("$$HATCHES/1,1,5,6,7,8\n$$HATCHES/1,1,7,8,9,9", "200 1 [1 2 3 4] [5 6 7 8] [7 8 9 9]; 400 0"),
+    (
+        "$$HATCHES/1,1,5,6,7,8\n$$HATCHES/1,1,7,8,9,9",
+        "200 1 [1 2 3 4] [5 6 7 8] [7 8 9 9]; 400 0",
+    ),
 ];
 
 fn lines() -> &'static [(&'static str, &'static str)] {
@@ -72,11 +87,17 @@ fn layer_told(alloc: Global, layer: &CliLayer) -> Result<String, AllocError> {
 fn told(alloc: Global, answer: &Result<Cli, CliFault>) -> Result<String, AllocError> {
     match answer {
         Ok(cli) => match cli.layers.as_slice() {
-            [lower, upper] => format!(in alloc; "{}; {}", layer_told(alloc, lower)?, layer_told(alloc, upper)?),
+            [lower, upper] => format!(in alloc;
+                "{}; {}",
+                layer_told(alloc, lower)?,
+                layer_told(alloc, upper)?
+            ),
             _ => format!(in alloc; "other layers"),
         },
         Err(CliFault::BadLine(n)) => format!(in alloc; "BadLine {n}"),
-        Err(CliFault::CountDiffers(said, there)) => format!(in alloc; "CountDiffers {said} {there}"),
+        Err(CliFault::CountDiffers(said, there)) => format!(in alloc;
+            "CountDiffers {said} {there}"
+        ),
         Err(CliFault::OpenLoop(n)) => format!(in alloc; "OpenLoop {n}"),
         Err(CliFault::Memory) => format!(in alloc; "no memory"),
     }

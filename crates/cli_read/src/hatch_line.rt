@@ -29,14 +29,14 @@ fn paired_at(alloc: Global, n: u64, points: &[Pt]) -> Result<Vec<Edge>, CliFault
 {
     let mut hatches = Vec::new(alloc);
     let mut rest = points;
-    'pairs: while let [a, b, behind @ ..] = rest {
+    'pairs: while let Some((a, behind)) = rest.split_first() {
+        let Some((b, behind)) = behind.split_first() else {
+            return Err(CliFault::BadLine(n));
+        };
         hatches.push(Edge { a: *a, b: *b })?;
         rest = behind;
     }
-    match rest {
-        [] => Ok(hatches),
-        _ => Err(CliFault::BadLine(n)),
-    }
+    Ok(hatches)
 }
 
 // As many hatches as are said.
