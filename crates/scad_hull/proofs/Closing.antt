@@ -75,20 +75,17 @@ once_path : (s : Side) (x : Pt3) (xs : List Pt3) (last : Pt3) → Differ (x ∷ 
 unfolding to
 once_path s x [] last d =
     let e = more s (to x last) [] in let f = at_most_one (same_side s (to x last)) in let g = no_more s in omega arith
-once_path s x (y ∷ ys) last d = by_test (same_side s (to x y)) refl
+once_path s x (y ∷ ys) last d = by_test (once_path s y ys last d.1) (same_side s (to x y)) refl
   where
-    all : ℕ
-    all = occurrences s (path x (y ∷ ys) last)
-
-    by_test : (b : Bool) → same_side s (to x y) ≡ b → occurrences s (path x (y ∷ ys) last) ≤ 1
-    by_test true e =
+    by_test : occurrences s (path y ys last) ≤ 1 → (b : Bool) → same_side s (to x y) ≡ b
+        → occurrences s (path x (y ∷ ys) last) ≤ 1
+    by_test later true e =
         let start : s.from ≡ x = ap (λ (t : Side). t.from) ((side_Decides s (to x y)).0 e) in
         let rest = not_from s y ys last (subst (λ z. AllByRecursion (λ q. z ≡ q → ⊥) (y ∷ ys)) (sym start) d.0) in
         let f = more s (to x y) (path y ys last) in
         let g = at_most_one (same_side s (to x y)) in
         omega arith
-    by_test false e =
-        let rest = once_path s y ys last d.1 in
+    by_test later false e =
         let f = more s (to x y) (path y ys last) in
         let g : cond {A = ℕ} (same_side s (to x y)) 1 0 ≡ 0 = ap {B = ℕ} (λ b. cond b 1 0) e in
         omega arith
@@ -120,17 +117,18 @@ in_path s x [] last z some = by_test (same_side s (to x last)) refl
         let g : cond {A = ℕ} (same_side s (to x last)) 1 0 ≡ 0 = ap {B = ℕ} (λ b. cond b 1 0) e in
         let h = no_more s in
         absurd (omega arith)
-in_path s x (y ∷ ys) last z some = by_test (same_side s (to x y)) refl
+in_path s x (y ∷ ys) last z some = by_test (in_path s y ys last z) (same_side s (to x y)) refl
   where
-    by_test : (b : Bool) → same_side s (to x y) ≡ b → InTurn (x ∷ (y ∷ (ys ++ (last ∷ (z ∷ []))))) s.from s.to
-    by_test true e =
+    by_test : (0 < occurrences s (path y ys last) → InTurn (y ∷ (ys ++ (last ∷ (z ∷ [])))) s.from s.to)
+        → (b : Bool) → same_side s (to x y) ≡ b → InTurn (x ∷ (y ∷ (ys ++ (last ∷ (z ∷ []))))) s.from s.to
+    by_test later true e =
         let is = (side_Decides s (to x y)).0 e in
         let next = begun ys last z in
         (next.0, [], next.1, λ i. (sym is i).from ∷ ((sym is i).to ∷ next.2 i))
-    by_test false e =
+    by_test later false e =
         let f = more s (to x y) (path y ys last) in
         let g : cond {A = ℕ} (same_side s (to x y)) 1 0 ≡ 0 = ap {B = ℕ} (λ b. cond b 1 0) e in
-        let rest = in_path s y ys last z (omega arith) in
+        let rest = later (omega arith) in
         (rest.0, x ∷ rest.1, rest.2, ap (λ ws. x ∷ ws) rest.3)
 
 -- a side of a ring as three corners in turn

@@ -2,8 +2,10 @@
 use Rattle.std.proofs.Common.{◌≡◌, ◌⊎◌, inl, inr, ℕ, zero, suc, ◌≤◌, true, List, [], ◌∷◌, ◌++◌, length, refl, sym, ap, ap₂, ◌∙◌, arith, subst}
 use lib.IntN.{ℤ, pos, ◌+ℤ◌, ◌-ℤ◌, ◌*ℤ◌}
 use lib.Signed.{◌<ℤ◌, ◌≤ℤ◌}
-use Rattle.std.specs.List.{AllByRecursion, Contains, flat_map}
+use Rattle.std.specs.List.{AllByRecursion, Contains, filter_map}
 use Rattle.std.specs.List.Sorted.{IsStrictlySortedBy}
+use Rattle.std.specs.Cmp.{IsTotalOrder}
+use Rattle.std.proofs.lemmas.Cmp.{lists_total}
 use Rattle.std.proofs.lemmas.Int.{ints, by_lt_z}
 use Rattle.std.proofs.lemmas.List.Elements.{All-contains}
 use Rattle.scad_base.proofs.Products.{positive_product}
@@ -17,22 +19,25 @@ use Rattle.scad_hull.specs.declared.turning.Normal.{Normal}
 use Rattle.scad_hull.specs.Plane.{IsBefore}
 use Rattle.scad_hull.specs.Distinct.{distinct}
 use Rattle.scad_hull.specs.Space.{space_cmp, normal_of, depth_of, inner, face_left, dot_of, square_of}
-use Rattle.scad_hull.specs.Faces.{face_in, faces_of, face_cmp, IsFace, IsRing, In, HasBacks, IsSpread}
+use Rattle.scad_hull.specs.Faces.{face_in, face_through, triples, faces_of, face_cmp, IsFace, IsRing, In, HasBacks, IsSpread}
 use Rattle.scad_hull.proofs.Closing.{of_in, closed}
 use Rattle.scad_hull.proofs.Distincts.{distinct_keeps, distinct_sorted}
 use Rattle.scad_hull.proofs.Escape.{volume}
-use Rattle.scad_hull.proofs.FacePlanes.{no_squares, all_changed, faces_are}
+use Rattle.scad_hull.proofs.FacePlanes.{no_squares, all_changed, faces_are, space_total}
 use Rattle.scad_hull.proofs.FacesOne.{plane_of, only_ring}
 use Rattle.scad_hull.proofs.Fans.{FanTurns, RingTurns, Differ}
 use Rattle.scad_hull.proofs.FoundPlanes.{way_square}
 use Rattle.scad_hull.proofs.Lines.{nought_right}
-use Rattle.scad_hull.proofs.Listed.{faces_exact, faces_total, ring_listed}
+use Rattle.scad_hull.proofs.Listed.{faces_exact, ring_listed}
 use Rattle.scad_hull.proofs.Planar.{Same}
 use Rattle.scad_hull.proofs.PlaneRings.{from_other}
 use Rattle.scad_hull.proofs.SameFaces.{up_on, parallel, as_from, one_face, ring_facts, corners_of, sums_in}
 use Rattle.scad_hull.proofs.SameLists.{in_of, differ, same_lists, from_distinct, to_distinct}
 use Rattle.scad_hull.proofs.Seen.{seen}
 use Rattle.scad_hull.proofs.Surrounds.{IsDeep, surrounded}
+
+pub faces_total : IsTotalOrder face_cmp
+faces_total = lists_total space_total
 
 weak : (z : ℤ) → pos 0 <ℤ z → pos 0 ≤ℤ z
 weak z h = omega (arith, ints)
@@ -509,4 +514,4 @@ module _ (ps : List Pt3) where
           (ring_of g (of_in (IsFace ps) (faces_of ps) g (faces_are ps sorted) i)))
         where
           faces_sorted : IsStrictlySortedBy face_cmp (faces_of ps)
-          faces_sorted = distinct_sorted face_cmp faces_total _
+          faces_sorted = distinct_sorted face_cmp faces_total (filter_map (face_through ps) (triples ps))

@@ -11,10 +11,10 @@ use Rattle.scad_geom.specs.declared.point3.Pt3.{Pt3}
 use Rattle.scad_geom.proofs.Ring.{ring, num, var, ◌⊕◌, ◌⊖◌, ◌⊗◌}
 use Rattle.scad_geom.proofs.Signs.{zero_true}
 use Rattle.scad_hull.specs.declared.turning.Normal.{Normal}
-use Rattle.scad_hull.specs.Space.{normal_of, depth_of, is_none, dot_of, square_of, IsOnLine, IsTurned}
+use Rattle.scad_hull.specs.Space.{normal_of, depth_of, beside, is_none, dot_of, square_of, IsOnLine, IsTurned}
 use Rattle.scad_hull.specs.Faces.{in_plane, IsFacePlane}
 use Rattle.scad_hull.proofs.Lines.{nought_right, each_of}
-use Rattle.scad_hull.proofs.NextPlanes.{beside, itself_in, turned_at_line}
+use Rattle.scad_hull.proofs.NextPlanes.{itself_in, turned_at_line}
 use Rattle.scad_hull.proofs.PlaneRings.{Contains-filter}
 use Rattle.scad_hull.proofs.FacePlanes.{no_squares}
 use Rattle.scad_hull.proofs.FoundPlanes.{way_square, front_some}
@@ -30,7 +30,7 @@ level : (z : ℤ) → pos 0 ≤ℤ z → z ≤ℤ pos 0 → z ≡ pos 0
 level z h k = omega (arith, ints)
 
 -- a normal without a direction, by its numbers
-none_by : (m : Normal) → m.x ≡ pos 0 → m.y ≡ pos 0 → m.z ≡ pos 0 → is_none m ≡ true
+pub none_by : (m : Normal) → m.x ≡ pos 0 → m.y ≡ pos 0 → m.z ≡ pos 0 → is_none m ≡ true
 none_by m x y z = λ i. is_zero (x i) && (is_zero (y i) && is_zero (z i))
 
 pub line_by : (a b p : Pt3) → is_none (normal_of a b p) ≡ true → IsOnLine a b p

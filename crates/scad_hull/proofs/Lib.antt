@@ -32,6 +32,9 @@ pub mod SidesOf
 pub mod FirstPlanes
 pub mod Listed
 pub mod Complete
+pub mod FirstFaces
+pub mod Found
+pub mod Ranges
 pub mod Fans
 pub mod SameFaces
 pub mod Closing

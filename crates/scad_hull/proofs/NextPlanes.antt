@@ -9,7 +9,7 @@ use Rattle.scad_geom.specs.declared.point3.Pt3.{Pt3}
 use Rattle.scad_geom.proofs.Ring.{Term, ring, num, var, ◌⊕◌, ◌⊖◌, ◌⊗◌}
 use Rattle.scad_geom.proofs.Signs.{sub-zero, climbs}
 use Rattle.scad_hull.specs.declared.turning.Normal.{Normal}
-use Rattle.scad_hull.specs.Space.{normal_of, depth_of, face_left, IsOnLine, IsInFront, IsTurned, dot_of, square_of}
+use Rattle.scad_hull.specs.Space.{normal_of, depth_of, face_left, beside, IsOnLine, IsInFront, IsTurned, dot_of, square_of}
 use Rattle.scad_hull.proofs.Lines.{nought_right}
 use Rattle.scad_hull.proofs.Seen.{seen, scaled_x, scaled_y, scaled_z}
 
@@ -146,10 +146,6 @@ module _ (n : Normal) (some : pos 0 <ℤ square_of n) (a b : Pt3) (flat : depth_
 -- ---- the level plane through the least point
 abbrev upwards : Normal
 upwards = record { x = pos 0; y = pos 0; z = pos 1 }
-
--- a point beside it in the x direction
-abbrev pub beside : Pt3 → Pt3
-beside a = record { x = a.x -ℤ pos 1; y = a.y; z = a.z }
 
 -- p lies higher than a, or as high and no farther to the front
 abbrev pub IsNotLower : Pt3 → Pt3 → Type 0

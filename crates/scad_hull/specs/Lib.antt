@@ -7,4 +7,5 @@ pub mod Flat
 pub mod Node
 pub mod Space
 pub mod Faces
+pub mod Wrapping
 pub mod Laws

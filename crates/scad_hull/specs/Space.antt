@@ -25,6 +25,10 @@ normal_of a b c = record {
   z = (b.x -ℤ a.x) *ℤ (c.y -ℤ a.y) -ℤ (b.y -ℤ a.y) *ℤ (c.x -ℤ a.x);
 }
 
+-- the point beside a in the x direction
+abbrev pub beside : Pt3 → Pt3
+beside a = record { x = a.x -ℤ pos 1; y = a.y; z = a.z }
+
 -- above 0 where p lies on the side of the plane through a to which its normal points, 0 where it lies in the plane
 abbrev pub depth_of : Normal → Pt3 → Pt3 → ℤ
 depth_of n a p = n.x *ℤ (p.x -ℤ a.x) +ℤ (n.y *ℤ (p.y -ℤ a.y) +ℤ n.z *ℤ (p.z -ℤ a.z))
@@ -76,6 +80,10 @@ pub record IsSmall (p : Pt3) : Type 0 where
   pub x : unsigned_abs p.x ≤ 2 ^ 20
   pub y : unsigned_abs p.y ≤ 2 ^ 20
   pub z : unsigned_abs p.z ≤ 2 ^ 20
+
+-- there is room for a point beside it
+pub record HasRoom (p : Pt3) : Type 0 where
+  pub x : unsigned_abs p.x ≤ 1000000
 
 pub record IsNarrow (n : Normal) : Type 0 where
   pub x : unsigned_abs n.x ≤ 2 ^ 44

@@ -1,7 +1,9 @@
 //! The first face of a hull.
-ghost use Rattle.std.specs.Prelude.{◌≡◌, All, Contains, IfSome, IfNone, true, false, pos, int_lt};
+ghost use Rattle.std.specs.Prelude.{◌≡◌, ◌<◌, All, Contains, IfOk, IfSome, IfNone, length, slice_index_or, true, false, pos, int_lt};
 ghost use Rattle.std.specs.List.{list_all, list_any};
-ghost use Rattle.scad_hull.specs.Space.{IsSmall, IsNarrow, depth_of, normal_of, is_none};
+ghost use Rattle.std.specs.List.Sorted.{IsStrictlySortedBy};
+ghost use Rattle.scad_hull.specs.Space.{space_cmp, beside, IsSmall, HasRoom, IsNarrow, IsTurned, depth_of, normal_of, is_none};
+ghost use Rattle.scad_hull.specs.Faces.{are_flat, IsFaceOf, IsFacePlane, IsSpread};
 
 use crate::faces::{Face, face_in, in_plane, is_off};
 use crate::turning::{Normal, depth, outermost};
@@ -9,39 +11,110 @@ use scad_geom::Pt3;
 use std::alloc::{AllocError, Global};
 
 /// A face of points in order, or None where all lie in one plane.
-pub(crate) fn first_face(alloc: Global, points: &[Pt3]) -> Result<Option<Face>, AllocError> {
-    let [a, ..] = points else {
-        return Ok(None);
-    };
-    let Some(normal) = first_normal(alloc, points, *a)? else {
-        return Ok(None);
-    };
-    if !has_inner(points, *a, &normal) {
+pub(crate) fn first_face(alloc: Global, points: &[Pt3]) -> Result<Option<Face>, AllocError>
+    requires points { All IsSmall points.now }
+    requires room { All HasRoom points.now }
+    requires sorted { IsStrictlySortedBy space_cmp points.now }
+    ensures some { IfOk result (λ o. IfSome o (IsFaceOf points.now)) }
+    ensures spread { IfOk result (λ o. IfSome o (λ f. IsSpread points.now)) }
+    ensures none { IfOk result (λ o. IfNone o (are_flat points.now ≡ true)) }
+{
+    if points.is_empty() {
         return Ok(None);
     }
-    Ok(Some(face_in(alloc, points, *a, normal)?))
+    let a = points[0];
+    let Some(normal) = first_normal(alloc, points, a)? else {
+        return Ok(None);
+    };
+    if !has_inner(points, a, &normal) {
+        return Ok(None);
+    }
+    let face = face_in(alloc, points, a, normal)?;
+    Ok(Some(face))
 }
 
-// The plane is turned about the x direction through the least point; where what it meets lies on one line, about that line too.
-fn first_normal(alloc: Global, points: &[Pt3], a: Pt3) -> Result<Option<Normal>, AllocError> {
-    let b = Pt3 {
+// The normal of a face's plane through the least point, or None where all points lie in one plane.
+fn first_normal(alloc: Global, points: &[Pt3], a: Pt3) -> Result<Option<Normal>, AllocError>
+    requires points { All IsSmall points.now }
+    requires small { IsSmall a }
+    requires room { HasRoom a }
+    requires sorted { IsStrictlySortedBy space_cmp points.now }
+    requires has { Contains points.now a }
+    requires first { a ≡ slice_index_or points.now 0 a }
+    ensures narrow { IfOk result (λ o. IfSome o IsNarrow) }
+    ensures plane { IfOk result (λ o. IfSome o (IsFacePlane points.now a)) }
+    ensures none { IfOk result (λ o. IfNone o (are_flat points.now ≡ true)) }
+{
+    let Some(normal) = level_normal(points, a) else {
+        return Ok(None);
+    };
+    turned_on(alloc, points, a, normal)
+}
+
+// The plane is turned about the x direction through the least point.
+fn level_normal(points: &[Pt3], a: Pt3) -> Option<Normal>
+    requires points { All IsSmall points.now }
+    requires small { IsSmall a }
+    requires room { HasRoom a }
+    requires sorted { IsStrictlySortedBy space_cmp points.now }
+    requires has { Contains points.now a }
+    requires first { a ≡ slice_index_or points.now 0 a }
+    ensures narrow { IfSome result IsNarrow }
+    ensures turned { IfSome result (λ n. IsTurned a (beside a) points.now n (length points.now)) }
+    ensures none { IfNone result (are_flat points.now ≡ true) }
+{
+    let b = beside(a);
+    let Some(c) = off(points, a, b) else {
+        return None;
+    };
+    let normal = outermost(points, a, b, c);
+    Some(normal)
+}
+
+// The point beside it in the x direction.
+fn beside(a: Pt3) -> Pt3
+    requires small { IsSmall a }
+    requires room { HasRoom a }
+    ensures value { result ≡ beside a }
+    ensures small { IsSmall result }
+{
+    Pt3 {
         x: a.x - 1,
         y: a.y,
         z: a.z,
-    };
-    let Some(c) = off(points, a, b) else {
+    }
+}
+
+// Where what it meets lies on one line, the plane is turned about that line too.
+fn turned_on(
+    alloc: Global,
+    points: &[Pt3],
+    a: Pt3,
+    normal: Normal,
+) -> Result<Option<Normal>, AllocError>
+    requires points { All IsSmall points.now }
+    requires small { IsSmall a }
+    requires room { HasRoom a }
+    requires has { Contains points.now a }
+    requires narrow { IsNarrow normal }
+    requires turned { IsTurned a (beside a) points.now normal (length points.now) }
+    ensures narrow { IfOk result (λ o. IfSome o IsNarrow) }
+    ensures plane { IfOk result (λ o. IfSome o (IsFacePlane points.now a)) }
+    ensures none { IfOk result (λ o. IfNone o (are_flat points.now ≡ true)) }
+{
+    let met = in_plane(alloc, points, a, &normal)?;
+    let b = beside(a);
+    let Some(d) = off(met.as_slice(), a, b) else {
         return Ok(None);
     };
-    let normal = outermost(points, a, b, c);
-    let met = in_plane(alloc, points, a, &normal)?;
-    let d = met[met.len() - 1];
     if off(met.as_slice(), a, d).is_some() {
         return Ok(Some(normal));
     }
     let Some(e) = off(points, a, d) else {
         return Ok(None);
     };
-    Ok(Some(outermost(points, a, d, e)))
+    let further = outermost(points, a, d, e);
+    Ok(Some(further))
 }
 
 // The first point that doesn't lie on the line through two.

@@ -30,7 +30,7 @@ pub fn faces_are_convex()
     ensures { FacesAreConvex }
 {}
 
-#[tactic(auto, using(crate::proofs::Closing::closed, crate::proofs::SameLists::same_lists))]
+#[tactic(auto, using(crate::proofs::Closing::closed, crate::proofs::SameLists::same_lists, crate::proofs::Complete::found_all, crate::proofs::FirstFaces::met_off, crate::proofs::Found::wrapped, crate::proofs::Ranges::small_kept))]
 pub fn scratch()
     ensures { Unit {0} }
 {}

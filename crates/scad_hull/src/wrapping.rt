@@ -1,73 +1,76 @@
 //! Wrapping points by faces: at each side of a face that has no other face yet, the plane is turned on to the next points.
-ghost use Rattle.std.specs.Prelude.{◌≡◌, ◌+◌, ◌≤◌, ◌<◌, All, IfOk, length, slice_index_or};
-ghost use Rattle.scad_hull.specs.Ring.{round};
+ghost use Rattle.std.specs.Prelude.{◌≡◌, ◌++◌, ◌∷◌, [], All, IfOk, OnOk};
+ghost use Rattle.std.specs.BTreeSet.{insert_key};
 ghost use Rattle.std.specs.List.Sorted.{IsStrictlySortedBy};
+ghost use Rattle.scad_solid.specs.Stack.{ring_sides};
+ghost use Rattle.scad_hull.specs.Distinct.{with_all};
+ghost use Rattle.scad_hull.specs.Ring.{round};
 ghost use Rattle.scad_hull.specs.Space.{IsSmall, space_cmp};
 ghost use Rattle.scad_hull.specs.Faces.{IsSideOf, IsFaceOf, GoesOn};
+ghost use Rattle.scad_hull.specs.Wrapping.{bends_of, rings_of, side_cmp, IsFound, IsWrapped, Extends, HasBack};
 
 use crate::faces::{Face, face_in};
-use crate::first::first_face;
 use crate::turning::outermost;
 use scad_geom::Pt3;
 use scad_solid::Side;
 use std::alloc::{AllocError, Global};
 use std::collections::BTreeSet;
 
-/// All faces of points in order, or None where they lie in one plane.
-pub(crate) fn wrap(alloc: Global, points: &[Pt3]) -> Result<Option<Vec<Face>>, AllocError> {
-    let Some(first) = first_face(alloc, points)? else {
-        return Ok(None);
-    };
-    let mut faces = Vec::new(alloc);
-    let mut sides = BTreeSet::new(alloc);
-    add(&mut faces, &mut sides, first)?;
-    let mut i = 0;
-    'faces: while i < faces.len() {
-        close(alloc, points, &mut faces, &mut sides, i)?;
-        i += 1;
-    }
-    Ok(Some(faces))
+/// Three corners of a face, one after another.
+#[derive(Clone, Copy, Debug)]
+pub(crate) struct Bend {
+    pub from: Pt3,
+    pub at: Pt3,
+    pub to: Pt3,
 }
 
-// Finds the faces that are missing at the sides of face `i`.
+/// All faces of points in order that don't lie in one plane, from the first on.
+pub(crate) fn wrap(alloc: Global, points: &[Pt3], first: Face) -> Result<Vec<Face>, AllocError>
+    requires points { All IsSmall points.now }
+    requires sorted { IsStrictlySortedBy space_cmp points.now }
+    requires face { IsFaceOf points.now first }
+    ensures { IfOk result (λ v. IsWrapped points.now (rings_of v.items)) }
+{
+    let mut faces = Vec::new(alloc);
+    let mut bends = Vec::new(alloc);
+    let mut sides = BTreeSet::new(alloc);
+    add(&mut faces, &mut bends, &mut sides, first)?;
+    let mut i = 0;
+    'bends: while i < bends.len() {
+        let bend = bends[i];
+        close(alloc, points, &mut faces, &mut bends, &mut sides, bend)?;
+        i += 1;
+    }
+    Ok(faces)
+}
+
+// Finds the face behind the side from a bend's first corner to its middle one, unless it is there.
 fn close(
     alloc: Global,
     points: &[Pt3],
     faces: &mut Vec<Face>,
+    bends: &mut Vec<Bend>,
     sides: &mut BTreeSet<Side>,
-    i: usize,
-) -> Result<(), AllocError> {
-    'sides: for j in 0..faces[i].ring.len() {
-        if !has_back(sides, &faces[i], j) {
-            let face = face_at(alloc, points, &faces[i], j)?;
-            add(faces, sides, face)?;
-        }
-    }
-    Ok(())
-}
-
-// Whether side `j` of a face has a face behind it.
-fn has_back(sides: &BTreeSet<Side>, face: &Face, j: usize) -> bool {
-    let ring = face.ring.as_slice();
-    sides.contains(&Side {
-        from: corner(ring, j + 1),
-        to: corner(ring, j),
-    })
-}
-
-// The face beyond side `j` of a face.
-fn face_at(alloc: Global, points: &[Pt3], face: &Face, j: usize) -> Result<Face, AllocError>
+    bend: Bend,
+) -> Result<(), AllocError>
     requires points { All IsSmall points.now }
     requires sorted { IsStrictlySortedBy space_cmp points.now }
-    requires face { IsFaceOf points.now face.now }
-    requires side { j < length face.now.ring.items }
-    ensures { IfOk result (IsFaceOf points.now) }
+    requires found { IsFound points.now (rings_of faces.old.items) bends.old.items sides.old.keys }
+    requires side { IsSideOf points.now bend.from bend.at bend.to }
+    ensures found { OnOk result (IsFound points.now (rings_of faces.new.items) bends.new.items sides.new.keys) }
+    ensures faces { OnOk result (Extends (rings_of faces.old.items) (rings_of faces.new.items)) }
+    ensures bends { OnOk result (Extends bends.old.items bends.new.items) }
+    ensures back { OnOk result (HasBack (rings_of faces.new.items) bend) }
 {
-    let ring = face.ring.as_slice();
-    let a = corner(ring, j);
-    let b = corner(ring, j + 1);
-    let c = corner(ring, j + 2);
-    face_beyond(alloc, points, a, b, c)
+    let back = Side {
+        from: bend.at,
+        to: bend.from,
+    };
+    if sides.contains(&back) {
+        return Ok(());
+    }
+    let face = face_beyond(alloc, points, bend.from, bend.at, bend.to)?;
+    add(faces, bends, sides, face)
 }
 
 // The face beyond the side from `a` to `b` of a face with the corner `c`.
@@ -83,28 +86,69 @@ fn face_beyond(alloc: Global, points: &[Pt3], a: Pt3, b: Pt3, c: Pt3) -> Result<
     face_in(alloc, points, b, normal)
 }
 
-// Corner `j` of a ring, counted on to its second again.
-#[tactic(auto, using(crate::proofs::Rounds::corners))]
-fn corner(ring: &[Pt3], j: usize) -> Pt3
-    requires corners { 2 ≤ length ring.now }
-    requires inside { j < length ring.now + 2 }
-    ensures { result ≡ slice_index_or (round ring.now) j result }
+fn add(
+    faces: &mut Vec<Face>,
+    bends: &mut Vec<Bend>,
+    sides: &mut BTreeSet<Side>,
+    face: Face,
+) -> Result<(), AllocError>
+    ensures faces { OnOk result (faces.new.items ≡ faces.old.items ++ face ∷ []) }
+    ensures bends { OnOk result (bends.new.items ≡ bends.old.items ++ bends_of (round face.ring.items)) }
+    ensures sides { OnOk result (sides.new.keys ≡ with_all side_cmp sides.old.keys (ring_sides face.ring.items)) }
 {
-    let count = ring.len();
-    if j < count { ring[j] } else { ring[j - count] }
-}
-
-fn add(faces: &mut Vec<Face>, sides: &mut BTreeSet<Side>, face: Face) -> Result<(), AllocError> {
-    let ring = face.ring.as_slice();
-    'corners: for j in 0..ring.len() {
-        let side = Side {
-            from: corner(ring, j),
-            to: corner(ring, j + 1),
-        };
-        if sides.insert(side).is_err() {
-            return Err(AllocError);
-        }
-    }
+    push_bends(bends, face.ring.as_slice())?;
+    push_sides(sides, face.ring.as_slice())?;
     faces.push(face)?;
     Ok(())
+}
+
+fn push_bends(bends: &mut Vec<Bend>, ring: &[Pt3]) -> Result<(), AllocError>
+    ensures { OnOk result (bends.new.items ≡ bends.old.items ++ bends_of (round ring.now)) }
+{
+    let [first, second, rest @ ..] = ring else {
+        return Ok(());
+    };
+    let mut from = *first;
+    let mut at = *second;
+    'corners: for to in rest {
+        let to = *to;
+        bends.push(Bend { from, at, to })?;
+        from = at;
+        at = to;
+    }
+    bends.push(Bend {
+        from,
+        at,
+        to: *first,
+    })?;
+    bends.push(Bend {
+        from: at,
+        at: *first,
+        to: *second,
+    })?;
+    Ok(())
+}
+
+fn push_sides(sides: &mut BTreeSet<Side>, ring: &[Pt3]) -> Result<(), AllocError>
+    ensures { OnOk result (sides.new.keys ≡ with_all side_cmp sides.old.keys (ring_sides ring.now)) }
+{
+    let [first, rest @ ..] = ring else {
+        return Ok(());
+    };
+    let mut from = *first;
+    'corners: for to in rest {
+        let to = *to;
+        put(sides, Side { from, to })?;
+        from = to;
+    }
+    put(sides, Side { from, to: *first })
+}
+
+fn put(sides: &mut BTreeSet<Side>, side: Side) -> Result<(), AllocError>
+    ensures { OnOk result (sides.new.keys ≡ insert_key side_cmp sides.old.keys side) }
+{
+    match sides.insert(side) {
+        Ok(_) => Ok(()),
+        Err(_) => Err(AllocError),
+    }
 }
