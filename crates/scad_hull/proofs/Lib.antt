@@ -33,6 +33,7 @@ pub mod FirstPlanes
 pub mod Listed
 pub mod Complete
 pub mod FirstFaces
+pub mod Backs
 pub mod Found
 pub mod Ranges
 pub mod Fans

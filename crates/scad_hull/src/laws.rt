@@ -1,5 +1,5 @@
 //! Laws of the definitions, each carried by the contract of a function that does nothing.
-ghost use Rattle.scad_hull.specs.Laws.{FacesAreConvex, RingsAreConvex, RingsAreOne, RingsHold};
+ghost use Rattle.scad_hull.specs.Laws.{FacesAreConvex, HullsClose, RingsAreConvex, RingsAreOne, RingsHold};
 
 /// The ring that points of the plane have as their hull is the convex ring round them: three or more
 /// of the points, each a corner, counter-clockwise from the lowest and then leftmost, with all points
@@ -30,7 +30,8 @@ pub fn faces_are_convex()
     ensures { FacesAreConvex }
 {}
 
-#[tactic(auto, using(crate::proofs::Closing::closed, crate::proofs::SameLists::same_lists, crate::proofs::Complete::found_all, crate::proofs::FirstFaces::met_off, crate::proofs::Found::wrapped, crate::proofs::Ranges::small_kept))]
-pub fn scratch()
-    ensures { Unit {0} }
+/// The solid that points have as their hull is closed.
+#[tactic(auto, using(crate::proofs::Backs::hulls_close))]
+pub fn hulls_close()
+    ensures { HullsClose }
 {}
