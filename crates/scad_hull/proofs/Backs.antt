@@ -167,33 +167,40 @@ pub record IsHull (points : List Pt3) (ts : List Triangle) : Type 0 where
   pub spread : are_flat (distinct space_cmp points) ≡ false
   pub are : ts ≡ fans (faces_of (distinct space_cmp points))
 
-pub hull_is : (points : List Pt3) (ts : List Triangle) → hull_of points ≡ Ok (Some ts) → IsHull points ts
-hull_is points ts e = by_count (nat_lt point_count_limit (length ps)) e
-  where
-    abbrev ps : List Pt3
-    ps = distinct space_cmp points
+module _ (points : List Pt3) (ts : List Triangle) where
+  abbrev ps_of : List Pt3
+  ps_of = distinct space_cmp points
 
-    abbrev told : Bool → Option (List Triangle)
-    told b = if b then None else Some (fans (faces_of ps))
+  abbrev told : Bool → Option (List Triangle)
+  told b = if b then None else Some (fans (faces_of ps_of))
 
-    refused : (k : ℕ) → Err (Points k) ≡ Ok (Some ts) → ⊥
-    refused k f = cc
+  abbrev Outcome : Type 0
+  Outcome = Result (Option (List Triangle)) HullFault
 
-    no_solid : Ok {E = HullFault} None ≡ Ok (Some ts) → ⊥
-    no_solid f = cc
+  abbrev good : Option (List Triangle) → Outcome
+  good o = Ok o
 
-    value : Result (Option (List Triangle)) HullFault → List Triangle
-    value (Ok (Some us)) = us
-    value (Ok None) = []
-    value (Err x) = []
+  refused : (k : ℕ) → Err (Points k) ≡ Ok (Some ts) → ⊥
+  refused k f = cc
 
-    by_flat : (b : Bool) → are_flat ps ≡ b → Ok {E = HullFault} (told b) ≡ Ok (Some ts) → IsHull points ts
-    by_flat true g f = absurd (no_solid f)
-    by_flat false g f = record { spread = g; are = sym (ap value f) }
+  no_solid : good None ≡ good (Some ts) → ⊥
+  no_solid f = cc
 
-    by_count : (b : Bool) → (if b then Err (Points (length ps)) else Ok (told (are_flat ps))) ≡ Ok (Some ts) → IsHull points ts
-    by_count true f = absurd (refused (length ps) f)
-    by_count false f = by_flat (are_flat ps) refl f
+  value : Result (Option (List Triangle)) HullFault → List Triangle
+  value (Ok (Some us)) = us
+  value (Ok None) = []
+  value (Err x) = []
+
+  by_flat : (b : Bool) → are_flat ps_of ≡ b → good (told b) ≡ good (Some ts) → IsHull points ts
+  by_flat true g f = absurd (no_solid f)
+  by_flat false g f = record { spread = g; are = sym (ap value f) }
+
+  by_count : (b : Bool) → (if b then Err (Points (length ps_of)) else Ok (told (are_flat ps_of))) ≡ Ok (Some ts) → IsHull points ts
+  by_count true f = absurd (refused (length ps_of) f)
+  by_count false f = by_flat (are_flat ps_of) refl f
+
+  pub hull_is : hull_of points ≡ Ok (Some ts) → IsHull points ts
+  hull_is e = by_count (nat_lt point_count_limit (length ps_of)) e
 
 pub hulls_close : HullsClose
 hulls_close = record {

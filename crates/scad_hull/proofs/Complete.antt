@@ -472,7 +472,7 @@ module _ (ps : List Pt3) where
 
   -- ---- the faces that were found
   module _ (sorted : IsStrictlySortedBy space_cmp ps) where
-    ring_of : (face : List Pt3) → IsFace ps face → IsRing ps face
+    pub ring_of : (face : List Pt3) → IsFace ps face → IsRing ps face
     ring_of face h =
         let plane = plane_of ps sorted h.base h.normal h.some h.inward face h.ring in
         record { base = h.base; normal = h.normal; plane = plane; is = only_ring ps sorted h.base h.normal plane face h.ring }

@@ -33,9 +33,11 @@ pub mod FirstPlanes
 pub mod Listed
 pub mod Complete
 pub mod FirstFaces
+pub mod FirstSteps
 pub mod Backs
 pub mod Found
 pub mod Ranges
+pub mod Sorting
 pub mod Fans
 pub mod SameFaces
 pub mod Closing

@@ -18,7 +18,7 @@ use Rattle.scad_hull.specs.Space.{space_cmp}
 
 module _ {X Y : Type 0} (f : X → Y) (c : X → X → Ordering) (d : Y → Y → Ordering)
     (same : (x y : X) → c x y ≡ d (f x) (f y)) where
-  put_same : (ks : List X) (k : X) → map f (insert_key c ks k) ≡ insert_key d (map f ks) (f k)
+  pub put_same : (ks : List X) (k : X) → map f (insert_key c ks k) ≡ insert_key d (map f ks) (f k)
   put_same [] k = refl
   put_same (x ∷ xs) k =
       elim (c k x) as (λ o. d (f k) (f x) ≡ o → map f
@@ -69,7 +69,7 @@ spots_sorted ss h = sorted_same pair_of spot_cmp flat_cmp (λ x y. refl) ss h
 abbrev pub node_cmp : Node → Node → Ordering
 node_cmp p q = ordering_then (int_cmp p.z q.z) (ordering_then (int_cmp p.y q.y) (int_cmp p.x q.x))
 
-points_again : (ps : List Pt3) → map point_of (map node_of ps) ≡ ps
+pub points_again : (ps : List Pt3) → map point_of (map node_of ps) ≡ ps
 points_again [] = refl
 points_again (p ∷ ps) = ap (λ qs. p ∷ qs) (points_again ps)
 

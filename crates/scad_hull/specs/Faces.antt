@@ -1,5 +1,5 @@
 -- The faces of the convex hull of points: the planes through three of the points that have none outside, each with the ring of the points in it.
-use Rattle.std.specs.Prelude.{◌≡◌, ◌⊎◌, [], ◌<ℤ◌, ◌≤ℤ◌, All, List, ◌∷◌, ◌++◌, length, map, Bool, ◌||◌, Option, Some, None, Result, Ok, Err, if◌then◌else◌, nat_lt, int_lt, ℤ, pos}
+use Rattle.std.specs.Prelude.{◌≡◌, ◌⊎◌, true, false, [], ◌<ℤ◌, ◌≤ℤ◌, All, List, ◌∷◌, ◌++◌, length, map, Bool, ◌||◌, Option, Some, None, Result, Ok, Err, if◌then◌else◌, nat_lt, int_lt, ℤ, pos}
 use Rattle.std.specs.List.{Contains, list_all, list_any, filter, filter_map, flat_map}
 use Rattle.std.specs.Cmp.Lexicographic.{slice_cmp}
 use Rattle.std.specs.declared.cmp.Ordering.{Ordering}
@@ -15,7 +15,7 @@ use Rattle.scad_hull.specs.Chain.{ring_round}
 use Rattle.scad_hull.specs.Ring.{round, IsConvexRing}
 use Rattle.scad_hull.specs.Distinct.{distinct}
 use Rattle.scad_hull.specs.Flat.{point_count_limit}
-use Rattle.scad_hull.specs.Space.{space_cmp, IsSpaceBefore, normal_of, depth_of, inner, dot_of, square_of, is_none, face_left}
+use Rattle.scad_hull.specs.Space.{space_cmp, IsSpaceBefore, normal_of, depth_of, beside, inner, dot_of, square_of, is_none, face_left}
 
 -- the points in the plane through a with this normal
 abbrev pub in_plane : List Pt3 → Pt3 → Normal → List Pt3
@@ -110,6 +110,15 @@ In x (y ∷ ys) = (x ≡ y) ⊎ In x ys
 abbrev pub HasBacks : List (List Pt3) → Type 0
 HasBacks rings = (ring : List Pt3) → In ring rings → (a b c : Pt3) → GoesOnTo ring a b c
     → (back : List Pt3) × In back rings × GoesOn back b a
+
+-- all points that a plane through a and d meets lie on their line, and none of all lies outside of it
+pub record IsEdge (ps : List Pt3) (a d : Pt3) : Type 0 where
+  pub normal : Normal
+  pub some : pos 0 <ℤ square_of normal
+  pub flat : depth_of normal a d ≡ pos 0
+  pub inward : All (λ p. pos 0 ≤ℤ depth_of normal a p) ps
+  pub line : All (λ p. depth_of normal a p ≡ pos 0 → is_none (normal_of a d p) ≡ true) ps
+  pub apart : is_none (normal_of a (beside a) d) ≡ false
 
 -- four of the points don't lie in one plane
 pub record IsSpread (ps : List Pt3) : Type 0 where

@@ -3,7 +3,7 @@ ghost use Rattle.std.specs.Prelude.{◌≡◌, ◌<◌, All, Contains, IfOk, IfS
 ghost use Rattle.std.specs.List.{list_all, list_any};
 ghost use Rattle.std.specs.List.Sorted.{IsStrictlySortedBy};
 ghost use Rattle.scad_hull.specs.Space.{space_cmp, beside, IsSmall, HasRoom, IsNarrow, IsTurned, depth_of, normal_of, is_none};
-ghost use Rattle.scad_hull.specs.Faces.{are_flat, IsFaceOf, IsFacePlane, IsSpread};
+ghost use Rattle.scad_hull.specs.Faces.{are_flat, IsEdge, IsFaceOf, IsFacePlane, IsSpread};
 
 use crate::faces::{Face, face_in, in_plane, is_off};
 use crate::turning::{Normal, depth, outermost};
@@ -11,6 +11,7 @@ use scad_geom::Pt3;
 use std::alloc::{AllocError, Global};
 
 /// A face of points in order, or None where all lie in one plane.
+#[tactic(auto, using(crate::proofs::FirstSteps::faces))]
 pub(crate) fn first_face(alloc: Global, points: &[Pt3]) -> Result<Option<Face>, AllocError>
     requires points { All IsSmall points.now }
     requires room { All HasRoom points.now }
@@ -52,6 +53,7 @@ fn first_normal(alloc: Global, points: &[Pt3], a: Pt3) -> Result<Option<Normal>,
 }
 
 // The plane is turned about the x direction through the least point.
+#[tactic(auto, using(crate::proofs::FirstSteps::starts))]
 fn level_normal(points: &[Pt3], a: Pt3) -> Option<Normal>
     requires points { All IsSmall points.now }
     requires small { IsSmall a }
@@ -86,6 +88,7 @@ fn beside(a: Pt3) -> Pt3
 }
 
 // Where what it meets lies on one line, the plane is turned about that line too.
+#[tactic(auto, using(crate::proofs::FirstSteps::steps))]
 fn turned_on(
     alloc: Global,
     points: &[Pt3],
@@ -107,14 +110,28 @@ fn turned_on(
     let Some(d) = off(met.as_slice(), a, b) else {
         return Ok(None);
     };
-    if off(met.as_slice(), a, d).is_some() {
-        return Ok(Some(normal));
+    match off(met.as_slice(), a, d) {
+        Some(_) => Ok(Some(normal)),
+        None => Ok(turned_again(points, a, d)),
     }
+}
+
+// The plane is turned about the line of what it meets.
+#[tactic(auto, using(crate::proofs::FirstSteps::edges))]
+fn turned_again(points: &[Pt3], a: Pt3, d: Pt3) -> Option<Normal>
+    requires points { All IsSmall points.now }
+    requires has_a { Contains points.now a }
+    requires has_d { Contains points.now d }
+    requires edge { IsEdge points.now a d }
+    ensures narrow { IfSome result IsNarrow }
+    ensures plane { IfSome result (IsFacePlane points.now a) }
+    ensures none { IfNone result (are_flat points.now ≡ true) }
+{
     let Some(e) = off(points, a, d) else {
-        return Ok(None);
+        return None;
     };
     let further = outermost(points, a, d, e);
-    Ok(Some(further))
+    Some(further)
 }
 
 // The first point that doesn't lie on the line through two.
