@@ -67,7 +67,7 @@ module _ (ps : List Pt3) where
   members : AllByRecursion (Contains ps) ps
   members = recursion_of (Contains ps) ps (All-contains_itself ps)
 
-  told_at : (p : Pt3 → Bool) → list_all p ps ≡ true → (x : Pt3) → Contains ps x → p x ≡ true
+  pub told_at : (p : Pt3 → Bool) → list_all p ps ≡ true → (x : Pt3) → Contains ps x → p x ≡ true
   told_at p e x i = All-contains (λ y. p y ≡ true) ps x (All-from_recursion (λ y. p y ≡ true) ps (each_of p ps e)) i
 
   pub flat_told : ((p q r s : Pt3) → Contains ps p → Contains ps q → Contains ps r → Contains ps s → inner p q r s ≡ pos 0)

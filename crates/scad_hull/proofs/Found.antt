@@ -1,5 +1,6 @@
 -- One more face among those that were found; and when each side has one behind it.
-use Rattle.std.proofs.Common.{◌≡◌, ◌⊎◌, inl, inr, true, ℕ, zero, suc, ◌+◌, ◌<◌, ◌≤◌, List, [], ◌∷◌, ◌++◌, length, get_or, map, refl, sym, ap, ap₂, ◌∙◌, arith, subst, append_assoc}
+use Rattle.std.proofs.Common.{◌≡◌, ◌⊎◌, inl, inr, true, ℕ, zero, suc, ◌+◌, ◌<◌, ◌≤◌, List, [], ◌∷◌, ◌++◌, length, get_or, map, refl, sym, ap, ap₂, ◌∙◌, arith, subst, append_assoc, Result, Ok, Err}
+use Rattle.std.specs.Prelude.{OnOk}
 use lib.IntN.{ℤ, pos}
 use Rattle.std.specs.List.{AllByRecursion, flat_map, list_any}
 use Rattle.std.specs.Ordering.{is_eq}
@@ -243,3 +244,8 @@ still_some (f ∷ fs) [] e h = absurd (none (rings_of fs ++ e.0) (ap length e.1)
     none : (xs : List (List Pt3)) → 0 ≡ suc (length xs) → ⊥
     none xs f = omega arith
 still_some (f ∷ fs) (g ∷ gs) e h = omega arith
+
+-- what three facts of a result that is there tell together
+pub three_ok : {T E P Q S R : Type 0} (r : Result T E) → (P → Q → S → R) → OnOk r P → OnOk r Q → OnOk r S → OnOk r R
+three_ok (Ok x) f h k l = f h k l
+three_ok (Err e) f h k l = tt

@@ -38,6 +38,7 @@ pub mod Backs
 pub mod Found
 pub mod Ranges
 pub mod Sorting
+pub mod Solids
 pub mod Fans
 pub mod SameFaces
 pub mod Closing
