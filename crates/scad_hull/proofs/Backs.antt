@@ -192,6 +192,7 @@ module _ (points : List Pt3) (ts : List Triangle) where
   value (Err x) = []
 
   by_flat : (b : Bool) → are_flat ps_of ≡ b → good (told b) ≡ good (Some ts) → IsHull points ts
+  unfolding value
   by_flat true g f = absurd (no_solid f)
   by_flat false g f = record { spread = g; are = sym (ap value f) }
 

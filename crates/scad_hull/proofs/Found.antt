@@ -122,6 +122,11 @@ module _ (ps : List Pt3) where
   pub none_found : IsFound ps [] [] []
   none_found = record { faces = tt; bends = refl; sides = tt }
 
+  pub none_at : (fs : List Face) (bs : List Bend) (keys : List Side) → fs ≡ [] → bs ≡ [] → keys ≡ [] → IsFound ps (rings_of fs) bs keys
+  none_at fs bs keys ef eb ek =
+      subst (λ xs. IsFound ps (rings_of xs) bs keys) (sym ef)
+      (subst (λ xs. IsFound ps [] xs keys) (sym eb) (subst (λ xs. IsFound ps [] [] xs) (sym ek) none_found))
+
   pub one_found : (rings : List (List Pt3)) (bends : List Bend) (keys : List Side) (r : List Pt3) → IsFound ps rings bends keys
       → IsRing ps r
       → IsFound ps (rings ++ (r ∷ [])) (bends ++ bends_of (round r)) (with_all side_cmp keys (ring_sides r))
@@ -227,8 +232,8 @@ more_backs rings more bs ds i b er eb inside is back before k d h =
         (is ∙ other_default bs i b d inside ∙ sym (place_kept bs eb.0 i d inside) ∙ ap (λ j. get_or (bs ++ eb.0) j d) (sym e)) back
 
 longer : {X : Type 0} (xs ys : List X) → length (xs ++ ys) ≡ length xs + length ys
-longer [] ys = refl
-longer (x ∷ xs) ys = ap suc (longer xs ys)
+longer [] ys = omega arith
+longer (x ∷ xs) ys = let e = longer xs ys in omega arith
 
 pub still_upto : {X : Type 0} (xs ys : List X) (i : ℕ) → Extends xs ys → i < length xs → i + 1 ≤ length ys
 still_upto xs ys i e h = let f = ap length e.1 in let g = longer xs e.0 in omega arith
