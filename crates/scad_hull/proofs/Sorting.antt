@@ -1,7 +1,9 @@
 -- Faces put in order by their corners with the heights first; and their fans, one face after another.
-use Rattle.std.proofs.Common.{◌≡◌, ℕ, zero, suc, ◌+◌, ◌<◌, List, [], ◌∷◌, ◌++◌, length, get_or, drop, map, refl, sym, ap, ap₂, ◌∙◌, arith, subst, append_assoc}
+use Rattle.std.proofs.Common.{◌≡◌, ℕ, zero, suc, ◌+◌, ◌<◌, Bool, true, false, Result, Ok, Err, List, [], ◌∷◌, ◌++◌, length, get_or, drop, map, refl, sym, ap, ap₂, ◌∙◌, arith, subst, append_assoc}
 use Rattle.std.proofs.Math.Seq.{drop-cons}
 use Rattle.std.specs.Global.{Vec}
+use Rattle.std.specs.Prelude.{OnOk}
+use Rattle.std.specs.Result.{is_err}
 use Rattle.std.specs.BTreeSet.{insert_key}
 use Rattle.std.specs.Cmp.Lexicographic.{slice_cmp}
 use Rattle.std.specs.List.{flat_map}
@@ -63,3 +65,11 @@ put_fan rings i r h e old new corners is en all before =
 pub fans_of : (rings : List (Vec Node)) → flat_map (λ x. fan (map point_of x.items)) rings ≡ fans (map points_in rings)
 fans_of [] = refl
 fans_of (r ∷ rs) = ap (λ ts. fan (map point_of r.items) ++ ts) (fans_of rs)
+
+-- a result that isn't an error has what it has where it is there
+pub on_no_err : {T E P : Type 0} (r : Result T E) (b : Bool) → b ≡ is_err r → b ≡ false → OnOk r P → P
+on_no_err (Ok x) b e f h = h
+on_no_err (Err x) b e f h = absurd (told_apart (sym e ∙ f))
+  where
+    told_apart : true ≡ false → ⊥
+    told_apart g = cc
