@@ -31,7 +31,7 @@ pub fn faces_are_convex()
 {}
 
 /// The solid that points have as their hull is closed.
-#[tactic(auto, using(crate::proofs::Backs::hulls_close, crate::proofs::FirstSteps::edge_plane, crate::proofs::Ranges::ranges, crate::proofs::Solids::solid_told, crate::proofs::Found::three_ok))]
+#[tactic(auto, using(crate::proofs::Backs::hulls_close))]
 pub fn hulls_close()
     ensures { HullsClose }
 {}
