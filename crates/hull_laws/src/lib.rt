@@ -2,6 +2,7 @@
 //!
 //! The contract of each function here is a law of the definitions; the functions do nothing.
 #![tactic(auto)]
+
 ghost use Rattle.hull_laws.specs.Laws.{HullsHold};
 
 /// The solid that points have as their hull contains a point that lies in the plane of none of its triangles exactly

@@ -294,8 +294,10 @@ module _ (ps : List Pt3) where
         let some : pos 0 <ℤ next.0 = more rest.0 next.0 rest.1 next.1 in (
           next.0,
           some,
-          (λ k h s. near_by (sum_of t) (aside t) next.0 k some next.2 h s,
-          all_changed (λ u near k h. near k (through rest.0 next.0 k next.1 h)) ts rest.2),
+          (
+            λ k h s. near_by (sum_of t) (aside t) next.0 k some next.2 h s,
+            all_changed (λ u near k h. near k (through rest.0 next.0 k next.1 h)) ts rest.2,
+          ),
         )
       where
         more : (K L : ℤ) → pos 0 <ℤ K → K ≤ℤ L → pos 0 <ℤ L

@@ -170,6 +170,8 @@ module _ {X : Type 0} (turn : X → X → X → ℤ) (Before Same : X → X → 
       let first = recursion_of (Before t) (a ∷ (b ∷ rs)) convex.starts in
       let listed = recursion_of (Contains points) (t ∷ (a ∷ (b ∷ rs))) convex.corners in
       let held = All-contains (λ q. IsRightOfNone turn q (round (t ∷ (a ∷ (b ∷ rs))))) points t convex.holds listed.0 in
-      let fan : FanTurns t a (b ∷ rs) = (convex.turns.0,
-        strict_fan t a a b rs first.0 first.1.0 first.1.1 convex.turns.1 held.1.1 convex.turns.0) in
+      let fan : FanTurns t a (b ∷ rs) = (
+        convex.turns.0,
+        strict_fan t a a b rs first.0 first.1.0 first.1.1 convex.turns.1 held.1.1 convex.turns.0,
+      ) in
       (fan, (not_first t (a ∷ (b ∷ rs)) first, all_differ t a (b ∷ rs) first.0 first.1 fan))

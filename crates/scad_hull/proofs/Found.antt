@@ -188,9 +188,12 @@ pub extended : (fs gs : List Face) (f : Face) → gs ≡ fs ++ (f ∷ []) → Ex
 extended fs gs f e = (f.ring.items ∷ [], ap rings_of e ∙ rings_more fs (f ∷ []))
 
 pub back_added : (fs gs : List Face) (f : Face) (a b : Pt3) → gs ≡ fs ++ (f ∷ []) → GoesOn f.ring.items a b → HasSide (rings_of gs) a b
-back_added fs gs f a b e on =
-    (f.ring.items, subst (In f.ring.items) (sym (ap rings_of e ∙ rings_more fs (f ∷ [])))
-    (in_right f.ring.items (rings_of fs) (f.ring.items ∷ []) (inl refl)), on)
+back_added fs gs f a b e on = (
+  f.ring.items,
+  subst (In f.ring.items) (sym (ap rings_of e ∙ rings_more fs (f ∷ [])))
+      (in_right f.ring.items (rings_of fs) (f.ring.items ∷ []) (inl refl)),
+  on,
+)
 
 pub extends_itself : {X : Type 0} (xs : List X) → Extends xs xs
 extends_itself xs = ([], sym (append-nil xs))

@@ -91,29 +91,29 @@ module _ (ps : List Pt3) (sorted : IsStrictlySortedBy space_cmp ps) (base : Pt3)
 
     side_there : IsSideIn ps base n a b c
     side_there = record {
-     same = refl;
-     flat_a = flat_at a in_a;
-     flat_b = flat_at b in_b;
-     flat_c = flat_at c in_c;
-     side = record {
-      normal = n;
-      some = plane.some;
-      inward = λ k d i. subst (λ (z : ℤ). pos 0 ≤ℤ z) (as_from a (get_or ps k d) (flat_at a in_a)) (plane.inward k d i);
-      left = λ k d i e. first_at (face_left n) (get_or ps k d) t.0 a b c t.1
-          (subst (IsRightOfNone (face_left n) (get_or ps k d)) t.2 (held (get_or ps k d) (in_it (get_or ps k d) (there k d i) e)));
-      flat = flat_between ps sorted base n plane.some a b (flat_at a in_a) (flat_at b in_b);
-      flat_c = flat_between ps sorted base n plane.some a c (flat_at a in_a) (flat_at c in_c);
-      turns = turn_at (face_left n) t.0 a b c t.1 (subst (AllTurnLeft (face_left n)) t.2 convex.turns);
-      left_behind = λ k d i e. second_at (face_left n) (get_or ps k d) t.0 a b c t.1
-          (subst (IsRightOfNone (face_left n) (get_or ps k d)) t.2 (held (get_or ps k d) (in_it (get_or ps k d) (there k d i) e)));
-      before = w;
-      left_before = λ k d i e. first_at (face_left n) (get_or ps k d) u.0 w a b u.1
-          (subst (IsRightOfNone (face_left n) (get_or ps k d)) u.2 (held (get_or ps k d) (in_it (get_or ps k d) (there k d i) e)));
-      turns_before = turn_at (face_left n) u.0 w a b u.1 (subst (AllTurnLeft (face_left n)) u.2 convex.turns);
-      has_a = member a in_a;
-      has_b = member b in_b;
-      has_c = member c in_c;
-     };
+      same = refl;
+      flat_a = flat_at a in_a;
+      flat_b = flat_at b in_b;
+      flat_c = flat_at c in_c;
+      side = record {
+        normal = n;
+        some = plane.some;
+        inward = λ k d i. subst (λ (z : ℤ). pos 0 ≤ℤ z) (as_from a (get_or ps k d) (flat_at a in_a)) (plane.inward k d i);
+        left = λ k d i e. first_at (face_left n) (get_or ps k d) t.0 a b c t.1
+            (subst (IsRightOfNone (face_left n) (get_or ps k d)) t.2 (held (get_or ps k d) (in_it (get_or ps k d) (there k d i) e)));
+        flat = flat_between ps sorted base n plane.some a b (flat_at a in_a) (flat_at b in_b);
+        flat_c = flat_between ps sorted base n plane.some a c (flat_at a in_a) (flat_at c in_c);
+        turns = turn_at (face_left n) t.0 a b c t.1 (subst (AllTurnLeft (face_left n)) t.2 convex.turns);
+        left_behind = λ k d i e. second_at (face_left n) (get_or ps k d) t.0 a b c t.1
+            (subst (IsRightOfNone (face_left n) (get_or ps k d)) t.2 (held (get_or ps k d) (in_it (get_or ps k d) (there k d i) e)));
+        before = w;
+        left_before = λ k d i e. first_at (face_left n) (get_or ps k d) u.0 w a b u.1
+            (subst (IsRightOfNone (face_left n) (get_or ps k d)) u.2 (held (get_or ps k d) (in_it (get_or ps k d) (there k d i) e)));
+        turns_before = turn_at (face_left n) u.0 w a b u.1 (subst (AllTurnLeft (face_left n)) u.2 convex.turns);
+        has_a = member a in_a;
+        has_b = member b in_b;
+        has_c = member c in_c;
+      };
     }
 
   pub of_ring : (R : List Pt3) → IsConvexRing (face_left n) Before Q R → (a b c : Pt3) → AreInTurn (face_left n) (round R) a b c
