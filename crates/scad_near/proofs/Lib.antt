@@ -1,0 +1,5 @@
+pub mod Held
+pub mod Exits
+pub mod Spread
+pub mod Apart
+pub mod Crossed
