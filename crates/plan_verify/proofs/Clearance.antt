@@ -23,11 +23,10 @@ use Rattle.winding_laws.specs.Points.{IsOn}
 use Rattle.winding_laws.proofs.OneWinding.{regions_have_one_winding}
 use Rattle.winding_laws.proofs.Ways.{way, length as length_of, by_length}
 use Rattle.scad_ring.specs.Octagon.{reach, octagon}
-use Rattle.scad_ring.proofs.Regions.{octagon_holds_origin}
 use Rattle.scad_ring.specs.Nearness.{Closed, IsNear, IsClear}
 use Rattle.plan_verify.specs.Stays.{clearance, KeepsClear}
 use Rattle.scad_near.specs.Edges.{ComeNear, AreApart}
-use Rattle.scad_near.proofs.Held.{Held, held_times, held_part, held_nearer}
+use Rattle.scad_near.proofs.Held.{Held, held_times, held_part, held_nearer, octagon_holds_origin}
 
 -- ---- points of a move
 axis_is : (k z e x d y f : ℤ) → k *ℤ z ≡ y → k *ℤ e ≡ f → k *ℤ (x *ℤ e -ℤ z *ℤ d) ≡ x *ℤ f -ℤ y *ℤ d

@@ -4,4 +4,5 @@ pub mod Clearance
 pub mod Axes
 pub mod Told
 pub mod Files
+pub mod Indexes
 pub mod Layers

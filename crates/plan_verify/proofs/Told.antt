@@ -13,7 +13,7 @@ use Rattle.plan_verify.specs.declared.judgement.Judgement.{Judgement}
 use Rattle.plan_verify.specs.declared.verdict.VerifyFault.{VerifyFault}
 use Rattle.plan_verify.specs.Verdict.{Told, onto, moves_told, program_moves, extruding, AllDo, IsFirstOut, IsJudgedBy, IsVerdictBy, refusal_of}
 use Rattle.plan_verify.specs.Limits.{IsPlaceWithin, IsMoveWithin}
-use Rattle.plan_verify.specs.Judged.{lines_left, left, first_out, added, verdict_of, verdict_of', IsAdded, passed, late, did, failed}
+use Rattle.plan_verify.specs.Judged.{first_out, added, verdict_of, verdict_of', IsAdded, WithMove, passed, late, did, failed}
 use Rattle.plan_verify.proofs.Axes.{IsAfterWithin, step_within, step_lines, start_within}
 
 abbrev pub prefix : List Told → Result (List Told) GFault → Result (List Told) GFault
@@ -138,28 +138,21 @@ module _ (Does : Move → Type 0) where
       })
 
   -- ---- what is known between lines
-  pub record IsRead (program : List ℕ) (s : State) (rest : Option (List ℕ)) (line : ℕ) (j : Judgement) : Type 0 where
+  pub record IsRead (program : List ℕ) (s : State) (rest : List (List ℕ)) (line : ℕ) (j : Judgement) : Type 0 where
     pub moves : List Told
-    pub told : program_moves program ≡ prefix moves (moves_told s (lines_left rest))
+    pub told : program_moves program ≡ prefix moves (moves_told s rest)
     pub judged : IsJudged Does (extruding moves) j
     pub line : line ≡ s.lines
     pub within : IsPlaceWithin s.at
-    pub few : j.moves + left rest ≤ length program + 1
 
-  pub read_nothing : (program : List ℕ) → IsRead program start (Some program) 0 (record { moves = 0; out = None })
+  pub read_nothing : (program : List ℕ) → IsRead program start (lines program) 0 (record { moves = 0; out = None })
   read_nothing program = record {
     moves = [];
     told = prefix_nothing (program_moves program);
     judged = record { count = refl; out = All-nil (λ told. Does told.move) };
     line = refl;
     within = start_within;
-    few = omega arith;
   }
-
-  -- the judgement, where the line has a move
-  abbrev pub WithMove : Option Move → ℕ → Judgement → Judgement → Type 0
-  WithMove None line j i = i ≡ j
-  WithMove (Some m) line j i = IsAdded Does j line m i
 
   added_few : (j i : Judgement) (line : ℕ) (m : Move) → IsAdded Does j line m i → i.moves ≤ j.moves + 1
   added_few j i line m (passed n) = omega arith
@@ -167,51 +160,48 @@ module _ (Does : Move → Type 0) where
   added_few j i line m (did e s d) = omega arith
   added_few j i line m (failed e s d) = omega arith
 
-  with_few : (move : Option Move) (line : ℕ) (j i : Judgement) → WithMove move line j i → i.moves ≤ j.moves + 1
+  pub with_few : (move : Option Move) (line : ℕ) (j i : Judgement) → WithMove Does move line j i → i.moves ≤ j.moves + 1
   with_few None line j i e = let f = ap (λ (k : Judgement). k.moves) e in omega (arith, f)
   with_few (Some m) line j i o = added_few j i line m o
 
   judged_with : (moves : List Told) (move : Option Move) (line : ℕ) (j i : Judgement) → IsJudged Does (extruding moves) j
-      → WithMove move line j i → IsJudged Does (extruding (moves ++ onto line move [])) i
+      → WithMove Does move line j i → IsJudged Does (extruding (moves ++ onto line move [])) i
   judged_with moves None line j i o e =
       subst (λ (ms : List Told). IsJudged Does (extruding ms) i) (sym (append-nil moves))
       (subst (λ (k : Judgement). IsJudged Does (extruding moves) k) (sym e) o)
   judged_with moves (Some m) line j i o e = judged_on moves (record { line = line; move = m }) j i o e
 
-  pub read_line : (program text front : List ℕ) (behind : Option (List ℕ)) (s : State) (after : After) (line next : ℕ)
-      (j i : Judgement) → IsRead program s (Some text) line j → lines text ≡ front ∷ lines_left behind
-      → left behind ≤ length text → line_step limited s front ≡ Ok after → next ≡ min (line + 1) (2 ^ 32 - 1)
-      → WithMove after.move next j i → IsRead program after.state behind next i
-  read_line program text front behind s after line next j i r split shorter step number o =
+  pub read_line : (program front : List ℕ) (rest left : List (List ℕ)) (s : State) (after : After) (line next : ℕ)
+      (j i : Judgement) → IsRead program s rest line j → rest ≡ front ∷ left
+      → line_step limited s front ≡ Ok after → next ≡ min (line + 1) (2 ^ 32 - 1)
+      → WithMove Does after.move next j i → IsRead program after.state left next i
+  read_line program front rest left s after line next j i r split step number o =
       let at : next ≡ after.state.lines =
           number ∙ ap (λ (n : ℕ). min (n + 1) (2 ^ 32 - 1)) r.line ∙ sym (step_lines s front after step) in
-      let few = r.few in
-      let more = with_few after.move next j i o in
       record {
         moves = r.moves ++ onto after.state.lines after.move [];
         told = r.told ∙ ap (λ (ls : List (List ℕ)). prefix r.moves (moves_told s ls)) split
-            ∙ ap (prefix r.moves) (line_more s front (lines_left behind) after step)
-            ∙ prefix_on r.moves (onto after.state.lines after.move []) (moves_told after.state (lines_left behind));
+            ∙ ap (prefix r.moves) (line_more s front left after step)
+            ∙ prefix_on r.moves (onto after.state.lines after.move []) (moves_told after.state left);
         judged = subst (λ (n : ℕ). IsJudged Does (extruding (r.moves ++ onto n after.move [])) i) at
             (judged_with r.moves after.move next j i r.judged o);
         line = at;
         within = (step_within s front after r.within step).place;
-        few = omega (arith, few, more, shorter);
       }
 
-  pub read_refusal : (program text front : List ℕ) (behind : Option (List ℕ)) (s : State) (fault : GFault) (line : ℕ)
-      (j : Judgement) → IsRead program s (Some text) line j → lines text ≡ front ∷ lines_left behind
+  pub read_refusal : (program front : List ℕ) (rest left : List (List ℕ)) (s : State) (fault : GFault) (line : ℕ)
+      (j : Judgement) → IsRead program s rest line j → rest ≡ front ∷ left
       → line_step limited s front ≡ Err fault → program_moves program ≡ Err fault
-  read_refusal program text front behind s fault line j r split step =
+  read_refusal program front rest left s fault line j r split step =
       r.told ∙ ap (λ (ls : List (List ℕ)). prefix r.moves (moves_told s ls)) split
-      ∙ ap (prefix r.moves) (line_refused s front (lines_left behind) fault step)
+      ∙ ap (prefix r.moves) (line_refused s front left fault step)
 
   judged_by : (moves : List Told) (count : ℕ) (out : Option Out) → count ≡ length moves → OutIs Does moves out
       → IsJudgedBy Does moves (verdict_of' count out)
   judged_by moves count None c o = (o, c)
   judged_by moves count (Some out) c o = o
 
-  pub read_all : (program : List ℕ) (s : State) (line : ℕ) (j : Judgement) → IsRead program s None line j
+  pub read_all : (program : List ℕ) (s : State) (line : ℕ) (j : Judgement) → IsRead program s [] line j
       → IsVerdictBy Does program (Ok (verdict_of j))
   read_all program s line j r = (
     r.moves,

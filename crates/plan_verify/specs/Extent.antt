@@ -1,5 +1,5 @@
 -- Upright rectangles.
-use Rattle.std.specs.Prelude.{Bool, ◌||◌, if◌then◌else◌, ℤ, ◌+ℤ◌, ◌-ℤ◌, ◌≤ℤ◌, int_lt, int_le}
+use Rattle.std.specs.Prelude.{Bool, ◌||◌, ℤ, ◌+ℤ◌, ◌-ℤ◌, ◌≤ℤ◌, int_lt, int_le}
 use Rattle.scad_geom.specs.declared.point.Pt.{Pt}
 use Rattle.scad_geom.specs.declared.point.Edge.{Edge}
 use Rattle.plan_verify.specs.declared.extent.Extent.{Extent}
@@ -36,12 +36,6 @@ pub record Reaches (s : ℤ) (x : Extent) (e : Edge) : Type 0 where
   pub b : HasRound s x e.b
 
 -- ---- tests
-unfoldable pub least : ℤ → ℤ → ℤ
-least a b = if int_le a b then a else b
-
-unfoldable pub greatest : ℤ → ℤ → ℤ
-greatest a b = if int_le a b then b else a
-
 -- two rectangles have no common point
 unfoldable pub is_beyond : Extent → Extent → Bool
 is_beyond x y = int_lt x.right y.left || (int_lt y.right x.left || (int_lt x.top y.bottom || int_lt y.top x.bottom))

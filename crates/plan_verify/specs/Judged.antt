@@ -1,21 +1,10 @@
 -- What is known of moves that were read. Only the contracts of parts cite this; what is promised is said in Verdict.
-use Rattle.std.specs.Prelude.{◌≡◌, ℕ, ◌+◌, Bool, if◌then◌else◌, List, [], length, Option, Some, None, is_some, true}
-use Rattle.gcode_text.specs.Reading.{lines}
+use Rattle.std.specs.Prelude.{◌≡◌, ℕ, ◌+◌, Bool, true, false, if◌then◌else◌, Option, Some, None, is_some}
 use Rattle.gcode_text.specs.declared.machine.Move.{Move}
 use Rattle.plan_verify.specs.declared.judgement.Out.{Out}
 use Rattle.plan_verify.specs.declared.judgement.Judgement.{Judgement}
 use Rattle.plan_verify.specs.declared.verdict.Verdict.{Verdict}
 use Rattle.plan_verify.specs.declared.verdict.Verdict.TheVariants.{Inside, Outside}
-
--- ---- lines that aren't read yet
-abbrev pub lines_left : Option (List ℕ) → List (List ℕ)
-lines_left None = []
-lines_left (Some text) = lines text
-
--- how many there can be at most
-abbrev pub left : Option (List ℕ) → ℕ
-left None = 0
-left (Some text) = length text + 1
 
 -- ---- judgements
 abbrev pub first_out : Option Out → ℕ → ℕ → Option Out
@@ -41,3 +30,8 @@ pub data IsAdded (Does : Move → Type 0) (j : Judgement) (line : ℕ) (m : Move
   late : m.extruding ≡ true → is_some j.out ≡ true → IsAdded Does j line m (added j true line)
   did : m.extruding ≡ true → j.out ≡ None → Does m → IsAdded Does j line m (added j true line)
   failed : m.extruding ≡ true → j.out ≡ None → (Does m → ⊥) → IsAdded Does j line m (added j false line)
+
+-- with the move of a line, where it has one
+abbrev pub WithMove : (Move → Type 0) → Option Move → ℕ → Judgement → Judgement → Type 0
+WithMove Does None line j i = i ≡ j
+WithMove Does (Some m) line j i = IsAdded Does j line m i

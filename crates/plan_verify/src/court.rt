@@ -1,10 +1,10 @@
 //! The whole judgement.
-ghost use Rattle.std.specs.Prelude.{◌≡◌, ◌-◌, ◌<◌, ◌≤◌, ◌^◌, All};
+ghost use Rattle.std.specs.Prelude.{◌≡◌, ◌-◌, ◌<◌, ◌≤◌, ◌^◌, All, IfSome};
 ghost use Rattle.cli_read.specs.View.{layers_of};
 ghost use Rattle.plan_verify.specs.Stays.{AreWithin};
 ghost use Rattle.plan_verify.specs.Verdict.{IsVerdict, IsVerdictBy};
 ghost use Rattle.plan_verify.specs.Fields.{IsSound, StaysInFields};
-ghost use Rattle.plan_verify.specs.Judged.{verdict_of, IsAdded};
+ghost use Rattle.plan_verify.specs.Judged.{verdict_of, IsAdded, WithMove};
 ghost use Rattle.plan_verify.specs.Limits.{IsMoveWithin};
 
 use crate::field::{Field, fields_of, stays};
@@ -39,17 +39,32 @@ fn judge(fields: &[Field], gcode: &[u8], line_width: u32) -> Result<Verdict, Ver
     let mut machine = Machine::new();
     let mut judgement = Judgement::none();
     let mut line: u32 = 0;
-    let mut rest = Some(gcode);
-    'lines: while let Some(text) = rest {
-        let (front, behind) = first_line(text);
+    let mut rest = gcode;
+    'lines: loop {
+        let (front, behind) = first_line(rest);
         let done = machine.step(front)?;
         line = line.saturating_add(1);
-        if let Some(m) = done {
-            judgement = with_move(fields, judgement, &m, line, line_width);
+        judgement = with_line(fields, judgement, &done, line, line_width);
+        match behind {
+            Some(text) => rest = text,
+            None => return Ok(said(judgement)),
         }
-        rest = behind;
     }
-    Ok(said(judgement))
+}
+
+// With the move of a line that was read, if it has one.
+fn with_line(fields: &[Field], judgement: Judgement, done: &Option<Move>, line: u32, line_width: u32) -> Judgement
+    requires fields { All IsSound fields.now }
+    requires least { 100 ≤ line_width }
+    requires most { line_width ≤ 2000 }
+    requires within { IfSome done.now IsMoveWithin }
+    requires few { judgement.moves < 2 ^ 64 - 1 }
+    ensures { WithMove (StaysInFields fields.now line_width) done.now line judgement result }
+{
+    match done {
+        Some(m) => with_move(fields, judgement, m, line, line_width),
+        None => judgement,
+    }
 }
 
 // With a move that was read.

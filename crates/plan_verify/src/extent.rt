@@ -1,8 +1,8 @@
 //! Upright rectangles round edges.
-ghost use Rattle.std.specs.Prelude.{◌≡◌, ◌≤◌, ◌+ℤ◌, ◌-ℤ◌, pos, unsigned_abs};
+ghost use Rattle.std.specs.Prelude.{◌≡◌, ◌≤◌, ◌+ℤ◌, ◌-ℤ◌, ◌≤ℤ◌, pos, unsigned_abs};
 ghost use Rattle.scad_geom.specs.Limits.{coordinate_limit};
-ghost use Rattle.scad_geom.specs.Within.{IsWithin, IsEdgeWithin};
-ghost use Rattle.plan_verify.specs.Extent.{IsIn, Covers, Reaches, least, greatest, is_beyond, is_off};
+ghost use Rattle.scad_geom.specs.Within.{IsEdgeWithin};
+ghost use Rattle.plan_verify.specs.Extent.{IsIn, Covers, Reaches, is_beyond, is_off};
 
 use scad_geom::{Edge, Pt};
 
@@ -48,10 +48,10 @@ impl Extent {
         ensures { Reaches (pos s) result e.now }
     {
         Extent {
-            left: least(e.a.x, e.b.x) - s as i32,
-            right: greatest(e.a.x, e.b.x) + s as i32,
-            bottom: least(e.a.y, e.b.y) - s as i32,
-            top: greatest(e.a.y, e.b.y) + s as i32,
+            left: below(e.a.x, e.b.x, s),
+            right: above(e.a.x, e.b.x, s),
+            bottom: below(e.a.y, e.b.y, s),
+            top: above(e.a.y, e.b.y, s),
         }
     }
 
@@ -60,7 +60,7 @@ impl Extent {
     pub fn is_beyond(self, other: Extent) -> bool
         ensures { result ≡ is_beyond self other }
     {
-        self.right < other.left || other.right < self.left || self.top < other.bottom || other.top < self.bottom
+        self.right < other.left || (other.right < self.left || (self.top < other.bottom || other.top < self.bottom))
     }
 
     /// Whether no edge in it passes the height of a point to the right of it.
@@ -68,20 +68,42 @@ impl Extent {
     pub fn is_off(self, p: Pt) -> bool
         ensures { result ≡ is_off self p }
     {
-        self.top <= p.y || p.y < self.bottom || self.right <= p.x
+        self.top <= p.y || (p.y < self.bottom || self.right <= p.x)
     }
 }
 
-#[tactic(auto, unfolding(crate::specs::Extent::least))]
 fn least(a: i32, b: i32) -> i32
-    ensures { result ≡ least a b }
+    ensures first { result ≤ℤ a }
+    ensures second { result ≤ℤ b }
 {
     if a <= b { a } else { b }
 }
 
-#[tactic(auto, unfolding(crate::specs::Extent::greatest))]
 fn greatest(a: i32, b: i32) -> i32
-    ensures { result ≡ greatest a b }
+    ensures first { a ≤ℤ result }
+    ensures second { b ≤ℤ result }
 {
     if a <= b { b } else { a }
+}
+
+// What lies at least `s` below two numbers.
+fn below(a: i32, b: i32, s: u32) -> i32
+    requires a { unsigned_abs a ≤ coordinate_limit }
+    requires b { unsigned_abs b ≤ coordinate_limit }
+    requires s { s ≤ 2000 }
+    ensures first { result ≤ℤ (a -ℤ pos s) }
+    ensures second { result ≤ℤ (b -ℤ pos s) }
+{
+    if a <= b { a - s as i32 } else { b - s as i32 }
+}
+
+// What lies at least `s` above two numbers.
+fn above(a: i32, b: i32, s: u32) -> i32
+    requires a { unsigned_abs a ≤ coordinate_limit }
+    requires b { unsigned_abs b ≤ coordinate_limit }
+    requires s { s ≤ 2000 }
+    ensures first { (a +ℤ pos s) ≤ℤ result }
+    ensures second { (b +ℤ pos s) ≤ℤ result }
+{
+    if a <= b { b + s as i32 } else { a + s as i32 }
 }

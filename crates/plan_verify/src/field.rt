@@ -1,12 +1,11 @@
 //! Layers of a file, each with its sides in an index.
-ghost use Rattle.std.specs.Prelude.{◌≡◌, ◌≢◌, ◌≤◌, List, All, IfOk, true, false, flat_map, pos};
+ghost use Rattle.std.specs.Prelude.{◌≡◌, ◌≤◌, ◌/◌, All, IfOk, true, false, flat_map};
 ghost use Rattle.std.specs.List.{Any, AllZip};
 ghost use Rattle.scad_geom.specs.Limits.{coordinate_limit};
 ghost use Rattle.scad_geom.specs.Within.{IsEdgeWithin};
-ghost use Rattle.gcode_text.specs.declared.machine.Move.{Move};
-ghost use Rattle.cli_read.specs.declared.layers.CliLayer.{CliLayer};
+ghost use Rattle.scad_geom.specs.Loop.{sides};
 ghost use Rattle.plan_verify.specs.Stays.{KeepsClear, from_above};
-ghost use Rattle.plan_verify.specs.Index.{sides_in, IsBoxed};
+ghost use Rattle.plan_verify.specs.Index.{sides_in};
 ghost use Rattle.plan_verify.specs.Fields.{AreSidesWithin, IsSound, IsFieldOf, IsInField, StaysInFields};
 ghost use Rattle.plan_verify.specs.Limits.{IsMoveWithin};
 

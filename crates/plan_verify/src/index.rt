@@ -1,6 +1,6 @@
 //! The sides of a layer in an index: a tree of rectangles round ever fewer sides, in which a search passes over the rectangles that
 //! it doesn't come to.
-ghost use Rattle.std.specs.Prelude.{◌≡◌, ◌<◌, ◌≤◌, ◌^◌, length, All, IfOk, true, false, pos, unsigned_abs};
+ghost use Rattle.std.specs.Prelude.{◌≡◌, ◌<◌, ◌≤◌, ◌^◌, ◌++◌, length, All, IfOk, true, false, unsigned_abs};
 ghost use Rattle.std.specs.List.{Any};
 ghost use Rattle.scad_geom.specs.declared.half.Half.TheVariants.{Whole};
 ghost use Rattle.scad_geom.specs.Limits.{coordinate_limit};

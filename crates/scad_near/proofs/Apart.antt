@@ -1,6 +1,6 @@
 -- Segments that don't cross are apart where no end of one is near to the other: weights of near points can be changed, along
 -- a way that leaves the difference of the points as it is or makes it less, until one of them is 0.
-use Rattle.std.proofs.Common.{◌≡◌, ◌⊎◌, inl, inr, Bool, true, false, [], ◌∷◌, refl, ap, sym, ◌∙◌, arith, ℤ, pos, negsuc, ◌+ℤ◌, ◌-ℤ◌, ◌*ℤ◌, ◌<ℤ◌}
+use Rattle.std.proofs.Common.{◌≡◌, ◌⊎◌, inl, inr, Bool, true, false, List, [], ◌∷◌, refl, ap, sym, ◌∙◌, arith, ℤ, pos, negsuc, ◌+ℤ◌, ◌-ℤ◌, ◌*ℤ◌, ◌<ℤ◌}
 use lib.Signed.{◌≤ℤ◌}
 use Rattle.std.specs.Prelude.{◌||◌, int_lt, int_le}
 use Rattle.std.proofs.lemmas.Int.{ints}
@@ -168,6 +168,7 @@ one_stops k j s t m n v w x y (inl e) = inl e
 one_stops k j s t m n v w x y (inr (inl e)) = inr (inl e)
 one_stops k j s t m n v w x y (inr (inr (inl e))) = inr (inr (inl e))
 one_stops k j s t m n v w x y (inr (inr (inr (inl e)))) = inr (inr (inr e))
+one_stops k j s t m n v w x y (inr (inr (inr (inr none)))) = elim none [ ]
 
 module _ (h u : ℤ) (origin : HoldsOrigin (octagon h u)) (a b c d : Pt) (clear : EndsAreClear h u a b c d) where
   -- there is no way along which no weight falls but one that ends where the segments meet

@@ -78,3 +78,22 @@ held_mirrored s u x y d h =
         ),
       ),
     )
+
+-- an octagon holds the origin
+pub octagon_holds_origin : (s u : ℤ) → pos 0 ≤ℤ s → pos 0 ≤ℤ u → HoldsOrigin (octagon s u)
+octagon_holds_origin s u h k = (
+  omega (arith, ints),
+  (
+    omega (arith, ints),
+    (
+      omega (arith, ints),
+      (
+        omega (arith, ints),
+        (
+          omega (arith, ints),
+          (omega (arith, ints), (omega (arith, ints), (omega (arith, ints), tt))),
+        ),
+      ),
+    ),
+  ),
+)

@@ -94,7 +94,7 @@ mixed k j m v n w r z = ring (k ∷ j ∷ m ∷ v ∷ n ∷ w ∷ r ∷ z ∷ []
 times_gap : (k m n : ℤ) → k *ℤ (m -ℤ n) ≡ k *ℤ m -ℤ k *ℤ n
 times_gap k m n = ring (k ∷ m ∷ n ∷ []) (v0 ⊗ (v1 ⊖ v2)) (v0 ⊗ v1 ⊖ v0 ⊗ v2) refl
 
-times_zero : (j z : ℤ) → z ≡ pos 0 → j *ℤ z ≡ pos 0
+pub times_zero : (j z : ℤ) → z ≡ pos 0 → j *ℤ z ≡ pos 0
 times_zero j z e = ap (λ (x : ℤ). j *ℤ x) e ∙ ring (j ∷ []) (v0 ⊗ num (pos 0)) (num (pos 0)) refl
 
 spread_moved : (k j s t m n v w x y p q r z : ℤ) → spread v w x y p q r z ≡ pos 0
