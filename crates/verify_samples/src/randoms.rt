@@ -42,7 +42,13 @@ fn program_of(alloc: Global, line: &Edge) -> Result<String, AllocError> {
         let (x, y) = (p.x.unsigned_abs(), p.y.unsigned_abs());
         let row = format!(in alloc;
             "G1 X{}{}.{:03} Y{}{}.{:03}{}\n",
-            sign_of(p.x), x / 1_000, x % 1_000, sign_of(p.y), y / 1_000, y % 1_000, end
+            sign_of(p.x),
+            x / 1_000,
+            x % 1_000,
+            sign_of(p.y),
+            y / 1_000,
+            y % 1_000,
+            end
         )?;
         text.push_str(row.as_str())?;
     }

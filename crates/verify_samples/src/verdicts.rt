@@ -1,7 +1,7 @@
 //! Verdicts over the outlines of a plate with a square hole.
 use cli_read::{Cli, read};
-use plan_verify::{Verdict, VerifyFault, check};
 use plan_verify::laws::files_are_within;
+use plan_verify::{Verdict, VerifyFault, check};
 use std::test::Fail;
 
 /// A square of 10 mm with a square hole of 2 mm, 0.2 mm high.
@@ -106,10 +106,7 @@ const ROWS: [(&str, Result<Verdict, VerifyFault>); 44] = [
         Err(VerifyFault::BadNumber(5)),
     ),
     // an empty program
-    (
-        "",
-        Ok(Verdict::Inside { moves: 0 }),
-    ),
+    ("", Ok(Verdict::Inside { moves: 0 })),
     // lines of another system
     (
         "G28\r\nG92 E0\r\nG1 Z0.200 F7200\r\nG1 X0.225 Y0.225 F7200\r\nG1 X9.775 Y0.225 E1\r\n",
