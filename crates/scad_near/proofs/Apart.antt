@@ -2,12 +2,12 @@
 -- a way that leaves the difference of the points as it is or makes it less, until one of them is 0.
 use Rattle.std.proofs.Common.{◌≡◌, ◌⊎◌, inl, inr, Bool, true, false, List, [], ◌∷◌, refl, ap, sym, ◌∙◌, arith, ℤ, pos, negsuc, ◌+ℤ◌, ◌-ℤ◌, ◌*ℤ◌, ◌<ℤ◌}
 use lib.Signed.{◌≤ℤ◌}
-use Rattle.std.specs.Prelude.{◌||◌, int_lt, int_le}
+use Rattle.std.specs.Prelude.{◌||◌}
 use Rattle.std.proofs.lemmas.Int.{ints}
 use Rattle.scad_base.proofs.Tests.{int_lt-less, int_le-at_most}
 use Rattle.scad_geom.specs.declared.point.Pt.{Pt}
 use Rattle.scad_geom.specs.declared.point.Edge.{Edge}
-use Rattle.scad_geom.specs.Point.{Point, whole, halves}
+use Rattle.scad_geom.specs.Point.{whole, halves}
 use Rattle.scad_geom.proofs.Rising.{order}
 use Rattle.scad_geom.proofs.Ring.{Term, ring, num, ◌⊕◌, ◌⊖◌, ◌⊗◌, v0, v1, v2, v3, v4, v5, v6, v7}
 use Rattle.winding_laws.specs.Region.{HoldsOrigin}
@@ -15,9 +15,9 @@ use Rattle.scad_ring.specs.Octagon.{octagon}
 use Rattle.scad_ring.specs.Nearness.{Closed, IsClear}
 use Rattle.scad_near.specs.Tests.{offset, is_parted, crosses}
 use Rattle.scad_near.specs.Edges.{AreApart}
-use Rattle.scad_near.proofs.Held.{Held, held_mirrored}
-use Rattle.scad_near.proofs.Exits.{Change, Rise, Exit, Stops, exit}
-use Rattle.scad_near.proofs.Spread.{spread, Weights, Way, weights_if_near, moved, end_near, times_zero}
+use Rattle.scad_near.proofs.Held.{held_mirrored}
+use Rattle.scad_near.proofs.Exits.{Change, Stops, exit}
+use Rattle.scad_near.proofs.Spread.{spread, Weights, Way, weights_if_near, moved, end_near}
 
 -- ---- the ways of two edges
 -- how far a point lies to the left of the line from p to q, times the length of that

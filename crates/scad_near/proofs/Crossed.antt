@@ -1,5 +1,5 @@
 -- Where an end of one edge is near to the other, or the edges cross, they come near.
-use Rattle.std.proofs.Common.{◌≡◌, ◌⊎◌, inl, inr, Bool, true, false, ◌&&◌, [], ◌∷◌, refl, ap, sym, subst, ◌∙◌, arith, ℤ, pos, ◌+ℤ◌, ◌-ℤ◌, ◌*ℤ◌, ◌<ℤ◌}
+use Rattle.std.proofs.Common.{◌≡◌, ◌⊎◌, inl, inr, Bool, true, false, [], ◌∷◌, refl, ap, sym, subst, ◌∙◌, arith, ℤ, pos, ◌+ℤ◌, ◌-ℤ◌, ◌*ℤ◌, ◌<ℤ◌}
 use lib.Signed.{◌≤ℤ◌}
 use Rattle.std.specs.Prelude.{◌||◌, int_lt, int_le}
 use Rattle.std.proofs.lemmas.Int.{ints}
@@ -20,7 +20,7 @@ use Rattle.scad_near.specs.Edges.{ComeNear}
 use Rattle.scad_near.specs.Tests.{offset, is_parted, crosses}
 use Rattle.scad_near.proofs.Held.{Held, held_nearer, held_mirrored}
 use Rattle.scad_near.proofs.Spread.{spread, Way, times_zero}
-use Rattle.scad_near.proofs.Apart.{left_by, sums_agree, meet_x, meet_y, back_x, back_y}
+use Rattle.scad_near.proofs.Apart.{sums_agree, meet_x, meet_y, back_x, back_y}
 
 -- ---- the ends of a segment are among its points
 first_part : (x y : ℤ) → pos 2 *ℤ x +ℤ pos 0 *ℤ y ≡ pos 2 *ℤ x

@@ -1,11 +1,10 @@
 -- What a region holds, by the numbers of a point: what it does with the point nearer to the origin, and with its mirror image.
-use Rattle.std.proofs.Common.{◌≡◌, [], ◌∷◌, refl, arith, List, ℤ, pos, neg_ℤ, ◌+ℤ◌, ◌-ℤ◌, ◌*ℤ◌, ◌<ℤ◌}
+use Rattle.std.proofs.Common.{◌≡◌, [], ◌∷◌, refl, arith, List, ℤ, pos, ◌+ℤ◌, ◌-ℤ◌, ◌*ℤ◌, ◌<ℤ◌}
 use lib.Signed.{◌≤ℤ◌}
-use Rattle.std.specs.List.{AllByRecursion}
 use Rattle.std.proofs.lemmas.Int.{ints}
 use Rattle.scad_geom.proofs.Signs.{at_least_mul, at_least_left}
-use Rattle.scad_geom.proofs.Ring.{ring, num, ◌⊕◌, ◌⊖◌, ◌⊗◌, v0, v1, v2, v3, v4, v5, v6}
-use Rattle.winding_laws.specs.Region.{HalfPlane, Bounds, Holds, HoldsOrigin}
+use Rattle.scad_geom.proofs.Ring.{ring, ◌⊕◌, ◌⊖◌, ◌⊗◌, v0, v1, v2, v3, v4, v5, v6}
+use Rattle.winding_laws.specs.Region.{HalfPlane, Holds, HoldsOrigin}
 use Rattle.scad_ring.specs.Octagon.{octagon}
 
 -- a region holds the point (x / d, y / d)

@@ -1,19 +1,18 @@
 -- The difference of a mean of two points and a mean of two others, by whole weights with one sum.
-use Rattle.std.proofs.Common.{◌≡◌, refl, ap, ◌∙◌, sym, subst, arith, ℤ, pos, ◌+ℤ◌, ◌-ℤ◌, ◌*ℤ◌, ◌<ℤ◌}
+use Rattle.std.proofs.Common.{◌≡◌, refl, ap, ◌∙◌, subst, arith, ℤ, pos, ◌+ℤ◌, ◌-ℤ◌, ◌*ℤ◌, ◌<ℤ◌}
 use lib.Signed.{◌≤ℤ◌}
 use Rattle.std.specs.Prelude.{[], ◌∷◌}
 use Rattle.std.proofs.lemmas.Int.{ints}
 use Rattle.scad_base.proofs.Products.{positive_product}
 use Rattle.scad_geom.specs.declared.point.Pt.{Pt}
-use Rattle.scad_geom.specs.Point.{Point, whole, halves}
+use Rattle.scad_geom.specs.Point.{whole, halves}
 use Rattle.scad_geom.specs.Near.{mean}
 use Rattle.scad_geom.proofs.Signs.{at_least_mul}
 use Rattle.scad_geom.proofs.Ring.{ring, num, ◌⊕◌, ◌⊖◌, ◌⊗◌, v0, v1, v2, v3, v4, v5, v6, v7}
 use Rattle.winding_laws.specs.Region.{HoldsOrigin}
 use Rattle.scad_ring.specs.Octagon.{octagon}
 use Rattle.scad_ring.specs.Nearness.{Closed, IsNear}
-use Rattle.scad_near.proofs.Held.{Held, held_times, held_nearer, held_mirrored}
-use Rattle.scad_near.proofs.Exits.{Last, Change, gone}
+use Rattle.scad_near.proofs.Held.{Held, held_times, held_nearer}
 
 -- how far the mean of r and z by k and l is past that of p and q by s and t, times the sum of the weights
 abbrev pub spread : ℤ → ℤ → ℤ → ℤ → ℤ → ℤ → ℤ → ℤ → ℤ

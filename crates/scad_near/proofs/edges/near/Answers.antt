@@ -1,6 +1,5 @@
 -- The tests decide whether the edges come near.
 use Rattle.std.proofs.Common.{sym, ◌∙◌, arith, pos}
-use lib.Signed.{◌≤ℤ◌}
 use Rattle.std.proofs.lemmas.Int.{ints}
 use Rattle.scad_geom.specs.Point.{whole}
 use Rattle.scad_near.proofs.Held.{octagon_holds_origin}
