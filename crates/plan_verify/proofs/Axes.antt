@@ -27,6 +27,12 @@ record IsGivenWithin (given : Given) : Type 0 where
 small_test : (z : ℤ) → nat_le (unsigned_abs z) 1100000 ≡ true → Small z
 small_test z h = grind (arith, nat_tests)
 
+same_given : (a b : Given) (r : Result Given GFault) → r ≡ Ok a → r ≡ Ok b → a ≡ b
+same_given a b r g h = cc
+
+same_after : (a b : After) (r : Result After GFault) → r ≡ Ok a → r ≡ Ok b → a ≡ b
+same_after a b r g h = cc
+
 -- ---- the letters of a line
 with_number_within : (letter : ℕ) (z : ℤ) (given : Given) → IsGivenWithin given
     → (letter == upper_x ≡ true → Small z) → (letter == upper_y ≡ true → Small z) → IsGivenWithin (with_number letter z given)
@@ -73,12 +79,10 @@ ranged_within n letter given out (Some z) w e = by_test (limited letter z) refl 
   where
     by_test : (b : Bool) → limited letter z ≡ b → (if b then Ok (with_number letter z given) else Err (BadNumber n)) ≡ Ok out
         → IsGivenWithin out
-    by_test true f g = subst IsGivenWithin (ok_same (with_number letter z given) out g)
+    by_test true f g = subst IsGivenWithin (same_given (with_number letter z given) out (Ok (with_number letter z given)) refl g)
         (with_number_within letter z given w (limited_x letter z f) (limited_y letter z f))
     by_test false f g = absurd (cc)
 
-    ok_same : (a b : Given) → Ok a ≡ Ok b → a ≡ b
-    ok_same a b h = cc
 
 zero_small : Small (pos 0)
 zero_small = omega arith
@@ -90,11 +94,9 @@ with_value_within n Home letter text given out w e = by_test (nat_lt 0 (length t
     by_test : (b : Bool) → (if b then Err (UnknownWord n) else Ok (with_number letter (pos 0) given)) ≡ Ok out
         → IsGivenWithin out
     by_test true g = absurd (cc)
-    by_test false g = subst IsGivenWithin (same (with_number letter (pos 0) given) out g)
+    by_test false g = subst IsGivenWithin (same_given (with_number letter (pos 0) given) out (Ok (with_number letter (pos 0) given)) refl g)
         (with_number_within letter (pos 0) given w (λ _. zero_small) (λ _. zero_small))
 
-    same : (a b : Given) → Ok a ≡ Ok b → a ≡ b
-    same a b h = cc
 with_value_within n Drive letter text given out w e = ranged_within n letter given out (number (places letter) text) w e
 with_value_within n Set letter text given out w e = ranged_within n letter given out (number (places letter) text) w e
 with_value_within n Plain letter text given out w e = ranged_within n letter given out (number (places letter) text) w e
@@ -113,16 +115,15 @@ with_word_within n command word given out w e =
 with_words_within : (n : ℕ) (command : Command) (words : List (List ℕ)) (given out : Given) → IsGivenWithin given
     → with_words limited n command words given ≡ Ok out → IsGivenWithin out
 unfolding with_words
-with_words_within n command [] given out w e = subst IsGivenWithin (same given out e) w
+with_words_within n command [] given out w e = subst IsGivenWithin (same_given given out (Ok given) refl e) w
+with_words_within n command (word ∷ rest) given out w e =
+    by_first (λ next v g. with_words_within n command rest next out v g) (with_word limited n command word given) refl e
   where
-    same : (a b : Given) → Ok a ≡ Ok b → a ≡ b
-    same a b h = cc
-with_words_within n command (word ∷ rest) given out w e = by_first (with_word limited n command word given) refl e
-  where
-    by_first : (r : Result Given GFault) → with_word limited n command word given ≡ r
+    by_first : ((next : Given) → IsGivenWithin next → with_words limited n command rest next ≡ Ok out → IsGivenWithin out)
+        → (r : Result Given GFault) → with_word limited n command word given ≡ r
         → and_then r (λ next. with_words limited n command rest next) ≡ Ok out → IsGivenWithin out
-    by_first (Ok next) f g = with_words_within n command rest next out (with_word_within n command word given next w f) g
-    by_first (Err fault) f g = absurd (cc)
+    by_first again (Ok next) f g = again next (with_word_within n command word given next w f) g
+    by_first again (Err fault) f g = absurd (cc)
 
 -- ---- the machine
 kept_within : (given : Option ℤ) (kept : ℤ) → IfSome given Small → Small kept → Small (or_kept given kept)
@@ -174,19 +175,14 @@ command_within s (Some command) rest after w e = by_words (with_words limited s.
   where
     by_words : (r : Result Given GFault) → with_words limited s.lines command rest nothing_given ≡ r
         → and_then r (λ given. Ok (obeyed s command given)) ≡ Ok after → IsAfterWithin after
-    by_words (Ok given) f g = subst IsAfterWithin (same (obeyed s command given) after g)
+    by_words (Ok given) f g = subst IsAfterWithin (same_after (obeyed s command given) after (Ok (obeyed s command given)) refl g)
         (obeyed_within s command given (with_words_within s.lines command rest nothing_given given nothing_within f) w)
     by_words (Err fault) f g = absurd (cc)
 
-    same : (a b : After) → Ok a ≡ Ok b → a ≡ b
-    same a b h = cc
 
 words_within : (s : State) (words : List (List ℕ)) (after : After) → IsPlaceWithin s.at → words_line limited s words ≡ Ok after
     → IsAfterWithin after
-words_within s [] after w e = subst IsAfterWithin (same (record { state = s; move = None }) after e) (record { place = w; move = tt })
-  where
-    same : (a b : After) → Ok a ≡ Ok b → a ≡ b
-    same a b h = cc
+words_within s [] after w e = subst IsAfterWithin (same_after (record { state = s; move = None }) after (Ok (record { state = s; move = None })) refl e) (record { place = w; move = tt })
 words_within s (word ∷ rest) after w e = command_within s (command_of word) rest after w e
 
 pub step_within : (s : State) (text : List ℕ) (after : After) → IsPlaceWithin s.at → line_step limited s text ≡ Ok after
@@ -221,18 +217,13 @@ command_lines s (Some command) rest after e = by_words (with_words limited s.lin
   where
     by_words : (r : Result Given GFault) → and_then r (λ given. Ok (obeyed s command given)) ≡ Ok after
         → after.state.lines ≡ s.lines
-    by_words (Ok given) g = sym (ap (λ (a : After). a.state.lines) (same (obeyed s command given) after g)) ∙ obeyed_lines s command given
+    by_words (Ok given) g = sym (ap (λ (a : After). a.state.lines) (same_after (obeyed s command given) after (Ok (obeyed s command given)) refl g)) ∙ obeyed_lines s command given
     by_words (Err fault) g = absurd (cc)
 
-    same : (a b : After) → Ok a ≡ Ok b → a ≡ b
-    same a b h = cc
 
 words_lines : (s : State) (words : List (List ℕ)) (after : After) → words_line limited s words ≡ Ok after
     → after.state.lines ≡ s.lines
-words_lines s [] after e = sym (ap (λ (a : After). a.state.lines) (same (record { state = s; move = None }) after e))
-  where
-    same : (a b : After) → Ok a ≡ Ok b → a ≡ b
-    same a b h = cc
+words_lines s [] after e = sym (ap (λ (a : After). a.state.lines) (same_after (record { state = s; move = None }) after (Ok (record { state = s; move = None })) refl e))
 words_lines s (word ∷ rest) after e = command_lines s (command_of word) rest after e
 
 pub step_lines : (s : State) (text : List ℕ) (after : After) → line_step limited s text ≡ Ok after

@@ -341,7 +341,7 @@ apart_if_kept es c line keeps k d l s t hs ht some =
 pub not_kept_near : (es : List Edge) (c h u : ℕ) (line : Edge) → 1 ≤ c → 2 ≤ reach c → h ≡ c - 1 → u ≡ reach c - 2
     → Any (λ e. ComeNear Closed (octagon (pos h) (pos u)) (whole line.a) (whole line.b) (whole e.a) (whole e.b)) es
     → KeepsClear es c line → ⊥
-not_kept_near es c h u line lc lr eh eu (k, (e, (l, (same, near)))) keeps =
+not_kept_near es c h u line lc lr eh eu (k, e, l, same, near) keeps =
     let at = subst (λ (e : Edge). AreApart Closed (clearance c) (whole line.a) (whole line.b) (whole e.a) (whole e.b)) same
     (apart_if_kept es c line keeps k e l) in
     let o : AreApart Closed (octagon (pos h) (pos u)) (whole line.a) (whole line.b) (whole e.a) (whole e.b) =

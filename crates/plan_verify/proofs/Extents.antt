@@ -11,7 +11,7 @@ use Rattle.scad_geom.specs.declared.half.Half.TheVariants.{Whole}
 use Rattle.scad_geom.specs.Half.{meant}
 use Rattle.scad_geom.specs.Point.{Point, whole}
 use Rattle.scad_geom.specs.Segment.{segments}
-use Rattle.scad_geom.specs.Winding.{is_over, is_beyond, side_by, turn, wind}
+use Rattle.scad_geom.specs.Winding.{is_over, is_beyond as is_beyond_number, side_by, turn, wind}
 use Rattle.scad_geom.proofs.Rising.{order}
 use Rattle.scad_geom.proofs.Signs.{at_least_mul}
 use Rattle.scad_geom.proofs.Turns.{flat_turn, rising_turn, falling_turn}
@@ -214,11 +214,11 @@ turned_second by py px ax = ring (by ∷ py ∷ px ∷ ax ∷ []) ((v0 ⊖ v1) �
 
 -- an edge that isn't to the right of a point doesn't turn round it
 not_right : (p : Pt) (e : Edge) → e.a.x ≤ℤ p.x → e.b.x ≤ℤ p.x → turn true true (meant Whole p) (whole e.a) (whole e.b) ≡ pos 0
+unfolding is_beyond_number side_by
 not_right p e ha hb = by_heights (order e.a.y p.y) (order e.b.y p.y)
   where
     by_heights : (e.a.y ≤ℤ p.y) ⊎ (p.y <ℤ e.a.y) → (e.b.y ≤ℤ p.y) ⊎ (p.y <ℤ e.b.y)
         → turn true true (meant Whole p) (whole e.a) (whole e.b) ≡ pos 0
-    unfolding is_beyond side_by
     by_heights (inl a) (inl b) = flat_turn true true (meant Whole p) (whole e.a) (whole e.b)
         (not_over p e.a a ∙ sym (not_over p e.b b))
     by_heights (inr a) (inr b) = flat_turn true true (meant Whole p) (whole e.a) (whole e.b)
@@ -240,8 +240,7 @@ not_right p e ha hb = by_heights (order e.a.y p.y) (order e.b.y p.y)
         ∙ ap (λ (t : Bool). if t then negsuc 0 else pos 0)
         (none (neg_ℤ (side_by (meant Whole p) (whole e.a) (whole e.b))) (omega (arith, ints, i, m, n, f, g)))
 
-    none : (z : ℤ) → z ≤ℤ pos 0 → is_beyond true z ≡ false
-    unfolding is_beyond
+    none : (z : ℤ) → z ≤ℤ pos 0 → is_beyond_number true z ≡ false
     none z h = sym (omega (arith, ints, h))
 
 off_turn : (x : Extent) (p : Pt) (e : Edge) → is_off x p ≡ true → IsIn x e

@@ -43,14 +43,14 @@ any_here : {X : Type 0} (P : X → Type 0) (x : X) (xs : List X) → P x → Any
 any_here P x xs p = (0, (x, (omega arith, (refl, p))))
 
 any_there : {X : Type 0} (P : X → Type 0) (x : X) (xs : List X) → Any P xs → Any P (x ∷ xs)
-any_there P x xs (k, (y, (l, (e, p)))) = (suc k, (y, (omega (arith, l), (e, p))))
+any_there P x xs (k, y, l, e, p) = (suc k, (y, (omega (arith, l), (e, p))))
 
 any_cases : {X : Type 0} (P : X → Type 0) (x : X) (xs : List X) → Any P (x ∷ xs) → P x ⊎ Any P xs
-any_cases P x xs (zero, (y, (l, (e, p)))) = inl (subst P (sym e) p)
-any_cases P x xs (suc k, (y, (l, (e, p)))) = inr (k, (y, (omega (arith, l), (e, p))))
+any_cases P x xs (zero, y, l, e, p) = inl (subst P (sym e) p)
+any_cases P x xs (suc k, y, l, e, p) = inr (k, (y, (omega (arith, l), (e, p))))
 
 none_any : {X : Type 0} (P : X → Type 0) → Any P [] → ⊥
-none_any P (k, (y, (l, p))) = absurd (omega (arith, l))
+none_any P (k, y, l, p) = absurd (omega (arith, l))
 
 module _ (width : ℕ) (m : Move) where
   any_layer : (layers : List CliLayer) (fields : List Field) → AllZip IsFieldOf layers fields → Any (IsInField width m) fields
@@ -85,7 +85,7 @@ module _ (S T : Move → Type 0) (to : (m : Move) → S m → T m) (from : (m : 
     out = f.out;
     behind = f.behind;
     are = f.are;
-    do = all_do f.before f.do;
+    all = all_do f.before f.all;
     fails = λ t. f.fails (from f.out.move t);
     number = f.number;
     line = f.line;

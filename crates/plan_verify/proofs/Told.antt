@@ -65,7 +65,7 @@ module _ (Does : Move → Type 0) where
     out = f.out;
     behind = f.behind ++ t ∷ [];
     are = ap (λ (ms : List Told). ms ++ t ∷ []) f.are ∙ append_assoc f.before (f.out ∷ f.behind) (t ∷ []);
-    do = f.do;
+    all = f.all;
     fails = f.fails;
     number = f.number;
     line = f.line;
@@ -92,7 +92,7 @@ module _ (Does : Move → Type 0) where
     out = t;
     behind = [];
     are = refl;
-    do = o;
+    all = o;
     fails = d;
     number = ap (λ (n : ℕ). n + 1) c;
     line = refl;

@@ -49,7 +49,7 @@ pub record IsFirstOut (Does : Move → Type 0) (moves : List Told) (number line 
   pub out : Told
   pub behind : List Told
   pub are : moves ≡ before ++ out ∷ behind
-  pub do : AllDo Does before
+  pub all : AllDo Does before
   pub fails : Does out.move → ⊥
   pub number : number ≡ length before + 1
   pub line : line ≡ out.line
