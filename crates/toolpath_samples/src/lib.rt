@@ -16,6 +16,8 @@ mod plans;
 #[cfg(test)]
 mod program_texts;
 #[cfg(test)]
+mod random_clearance;
+#[cfg(test)]
 mod random_plans;
 #[cfg(test)]
 mod random_runs;

@@ -10,7 +10,7 @@ use std::alloc::{AllocError, Global};
 use std::test::Fail;
 
 // One to three walls of thin lines, with infill.
-fn roll_settings(dice: &mut Dice) -> Settings
+pub(crate) fn roll_settings(dice: &mut Dice) -> Settings
     ensures { AreInRange result }
 {
     let line_width = 100 + dice.roll(60);
