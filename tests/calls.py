@@ -8,6 +8,7 @@ import os
 import re
 import subprocess
 
+from cases import FOLDER, content
 from check import Check, Exactly, compared, run
 from plans import DONE as PLANNED
 from plans import KEPT, WRITTEN, printed
@@ -20,6 +21,8 @@ FAULT = b"echo(1); cube("
 GIVEN = {**KEPT, "m.scad": SOURCE, "s.toml": SETTINGS}
 PLAN = [b"plan", b"m.scad", b"o.cli", b"o.gcode"]
 BY_SETTINGS = [b"--settings", b"s.toml"]
+# A golden case that ends soon.
+SAMPLE = os.path.join(FOLDER, "sample_1_with_settings_by_several_workers")
 
 TRACE = "calls"
 WATCHED = f'exec strace -f -qq -e trace=%file,%desc,%network -o {TRACE} -- "$@"'
@@ -150,9 +153,12 @@ def done():
     plan = lambda name, *more: Calls(name, [*PLAN, *BY_SETTINGS, *more], whole, report=LINES + PLANNED, left=WRITTEN)
     reads = lambda command, report: Calls(command, [command.encode(), b"m.scad", *BY_SETTINGS],
                                           [*INPUTS, *lines, *written("report", report)], report=LINES + report)
+    sample, report = (content(os.path.join(SAMPLE, it)) for it in ("settings.toml", "report"))
     return [
         plan("plan"),
         plan("plan_by_3_workers", b"--workers", b"3"),
+        Calls("sample", [b"sample", b"1", *BY_SETTINGS], [*opened("s.toml", sample), *written("report", report)],
+              given={**GIVEN, "s.toml": sample}, report=report),
         Calls("slice", [b"slice", b"m.scad", b"o.cli", *BY_SETTINGS], slices, report=LINES + DONE,
               left={"o.cli": outlines(1)}),
         reads("check", b"ok: 1 leaves, 12 triangles, 5 layers\n"),
