@@ -13,10 +13,11 @@ ghost use Rattle.slice_work.specs.Script.{AreRates, AreThere, laid_out, outline_
 ghost use Rattle.slice_work.specs.Sums.{with_layer};
 
 use crate::fault::WorkFault;
+use crate::hatches::last_moves;
 use crate::sums::{Sums, moves_of};
 use crate::want::Want;
 use gcode_text::{Rates, are_few};
-use scad_geom::{Loop, Path};
+use scad_geom::{Edge, Loop, Path};
 use scad_io::{Desk, Failed, Out, write_all};
 use std::alloc::Global;
 
@@ -24,15 +25,17 @@ use std::alloc::Global;
 /// 10^12 cubic metres.
 const VOLUME_LIMIT: u128 = 1_000_000_000_000_000_000_000_000_000_000;
 
-/// A layer as it is written: its number, its outlines, and the paths of its moves.
+/// A layer as it is written: its number, its outlines, and the paths of its moves, the last `runs` of which are runs of
+/// infill.
 #[derive(Clone, Copy, Debug)]
 pub struct LaidLayer<'a> {
     pub number: u32,
     pub loops: &'a [Loop],
     pub paths: &'a [Path],
+    pub runs: u64,
 }
 
-/// Writes a layer: the lines of its outlines, and then those of its moves, where they are wanted. What is counted of
+/// Writes a layer: the lines of its outlines and of its infill, and then those of its moves, where they are wanted. What is counted of
 /// the layers so far then counts this one too.
 pub fn send_layer<D: Desk>(
     alloc: Global,
@@ -48,13 +51,18 @@ pub fn send_layer<D: Desk>(
     requires there { AreThere want (D.view desk.old) }
 
     ensures carries { Carries (first (written want rates.now sums.volume layer.now.number
-        (laid_out layer.now.loops.now layer.now.paths.now)))
+        (laid_out layer.now.loops.now layer.now.paths.now layer.now.runs)))
         (stopped result) (D.view desk.old) (D.view desk.new) }
     ensures sums { IfOk result (λ s. s ≡ with_layer want rates.now layer.now.number
-        (laid_out layer.now.loops.now layer.now.paths.now) sums) }
+        (laid_out layer.now.loops.now layer.now.paths.now layer.now.runs) sums) }
     ensures kept { Keeps D.files D.view D.faults desk.old desk.new (stopped result) }
 {
-    let cli = send_outlines(alloc, rates, layer.number, layer.loops, desk)?;
+    let hatches = last_moves(alloc, layer.paths, layer.runs)?;
+    let outlines = Outlines {
+        loops: layer.loops,
+        hatches: &hatches,
+    };
+    let cli = send_outlines(alloc, rates, layer.number, &outlines, desk)?;
     let Some(sums) = sums.with_outlines(layer.loops.len(), cli) else {
         return Err(WorkFault::Memory);
     };
@@ -64,12 +72,19 @@ pub fn send_layer<D: Desk>(
     }
 }
 
-// Writes the lines of a layer's outlines: how long they are.
+// What the file of the outlines gets of a layer.
+#[derive(Clone, Copy, Debug)]
+struct Outlines<'a> {
+    loops: &'a [Loop],
+    hatches: &'a [Edge],
+}
+
+// Writes the lines of a layer's outlines and hatches: how long they are.
 fn send_outlines<D: Desk>(
     alloc: Global,
     rates: &Rates,
     layer: u32,
-    loops: &[Loop],
+    outlines: &Outlines,
     desk: &mut D,
 ) -> Result<usize, WorkFault>
     requires rates { AreRates rates.now }
@@ -77,13 +92,13 @@ fn send_outlines<D: Desk>(
     requires sound { Sound (D.view desk.old) }
     requires made { (D.view desk.old).cli.created ≡ true }
 
-    ensures carries { Carries (first (Sends Out.Cli (outline_lines rates.now.layer_height layer loops.now) ∷ []))
+    ensures carries { Carries (first (Sends Out.Cli (outline_lines rates.now.layer_height layer outlines.now.loops.now outlines.now.hatches.now) ∷ []))
         (stopped result) (D.view desk.old) (D.view desk.new) }
-    ensures size { IfOk result (λ n. n ≡ length (outline_lines rates.now.layer_height layer loops.now)) }
+    ensures size { IfOk result (λ n. n ≡ length (outline_lines rates.now.layer_height layer outlines.now.loops.now outlines.now.hatches.now)) }
     ensures kept { Keeps D.files D.view D.faults desk.old desk.new (stopped result) }
 {
     let mut text = Vec::new(alloc);
-    cli_text::write_layer(&mut text, rates.layer_height * (layer + 1), loops, &[])?;
+    cli_text::write_layer(&mut text, rates.layer_height * (layer + 1), outlines.loops, outlines.hatches)?;
     send(desk, Out::Cli, &text)?;
     Ok(text.len())
 }

@@ -13,7 +13,7 @@ returns-in_err-sums-clause-carries g c part drawn sums whole rest start left =
     let round = c.args.round.now in
     let i = round.first + c.layers.n in
     let n = round.count - c.layers.n in
-    let layout = laid_out c.layout_of.result.0.now c.layout_of.result.1.now in
+    let layout = laid_out c.layout_of.result.0.now c.layout_of.result.1.now c.layout_of.result.2 in
     let below : c.layers.n < round.least = search rules in
     let within : round.least ≤ round.count = c.requires.round.within in
     stops_work whole rest _ _ start _ (search rules)
@@ -30,7 +30,7 @@ layers-preserved g c =
     let i = round.first + c.layers.n in
     let n = round.count - c.layers.n in
     let j = round.first + (c.layers.n + 1) in
-    let layout = laid_out c.layout_of.result.0.now c.layout_of.result.1.now in
+    let layout = laid_out c.layout_of.result.0.now c.layout_of.result.1.now c.layout_of.result.2 in
     let below : c.layers.n < round.least = search rules in
     let within : round.least ≤ round.count = c.requires.round.within in
     record {
