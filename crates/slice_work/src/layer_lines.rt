@@ -98,7 +98,12 @@ fn send_outlines<D: Desk>(
     ensures kept { Keeps D.files D.view D.faults desk.old desk.new (stopped result) }
 {
     let mut text = Vec::new(alloc);
-    cli_text::write_layer(&mut text, rates.layer_height * (layer + 1), outlines.loops, outlines.hatches)?;
+    cli_text::write_layer(
+        &mut text,
+        rates.layer_height * (layer + 1),
+        outlines.loops,
+        outlines.hatches,
+    )?;
     send(desk, Out::Cli, &text)?;
     Ok(text.len())
 }

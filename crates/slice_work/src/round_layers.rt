@@ -24,7 +24,11 @@ pub fn layout_of(round: &Round, n: u32) -> (&[Loop], &[Path], u64)
             continue;
         }
         match &drawn.end {
-            LayerEnd::Made(loops, plan) => return (loops.as_slice(), plan.paths.as_slice(), plan.runs),
+            LayerEnd::Made(loops, plan) => return (
+                loops.as_slice(),
+                plan.paths.as_slice(),
+                plan.runs,
+            ),
             LayerEnd::Over(_) => {}
         }
     }
