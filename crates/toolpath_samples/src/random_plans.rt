@@ -48,7 +48,10 @@ fn number_of_seeds(alloc: Global, seeds: u64) -> Result<i64, Fail> {
         let settings = roll_settings(&mut dice);
         let layer = dice.roll(2);
         let made = plan(alloc, &outlines, layer, &settings)?;
-        number = check_number(number, &made.paths);
+        number = check_number(number, &made.paths)
+            .wrapping_mul(10_007)
+            .wrapping_add(made.runs as i64)
+            .rem_euclid(1_000_000_007);
     }
     Ok(number)
 }
