@@ -58,6 +58,6 @@ fn number_of_seeds(alloc: Global, seeds: u64) -> Result<i64, Fail> {
 
 #[test]
 fn random_outlines_have_these_plans(rt: HostRuntime) -> Result<(), Fail> {
-    assert_eq!(rt; number_of_seeds(rt.alloc(), 100)?, 890_902_530);
+    assert_eq!(rt; number_of_seeds(rt.alloc(), 100)?, 746_238_029);
     Ok(())
 }
