@@ -3,7 +3,6 @@ use Rattle.std.specs.Prelude.{◌≡◌, ℕ, ◌+◌, ◌*◌, ◌≤◌, true,
 use Rattle.std.specs.List.{range_with_len}
 use Rattle.scad_fault.specs.declared.budget.Budget.{Budget}
 use Rattle.scad_geom.specs.declared.point.Pt.{Pt}
-use Rattle.scad_geom.specs.declared.point.Edge.{Edge}
 use Rattle.scad_io.specs.Desk.{View}
 use Rattle.scad_io.specs.declared.desk.Out.TheVariants.{Cli, Gcode}
 use Rattle.scad_script.specs.Steps.{Step, Sends}
@@ -34,11 +33,6 @@ abbrev pub AreThere : Want → View → Type 0
 AreThere Outlines v = v.cli.created ≡ true
 AreThere Plan v = (v.cli.created ≡ true) × (v.gcode.created ≡ true)
 
--- the lines of a layer's outlines and of its hatches, under the height of its upper surface
-abbrev pub outline_lines : ℕ → ℕ → List (List Pt) → List Edge → List ℕ
-outline_lines height i outlines hatches =
-    cli.layer_text (record { z = height * (i + 1); loops = outlines; hatches = hatches })
-
 -- the lines of a layer's moves, behind moves of this volume
 abbrev pub move_lines : Rates → ℕ → ℕ → List (List Pt) → List ℕ
 move_lines rates volume i paths = gcode.layer_text rates volume i paths
@@ -46,9 +40,10 @@ move_lines rates volume i paths = gcode.layer_text rates volume i paths
 abbrev pub laid_out : List (List Pt) → List (List Pt) → ℕ → Layout
 laid_out outlines paths runs = record { outlines = outlines; paths = paths; runs = runs }
 
--- the lines of the outlines and hatches of a layer that is laid out so
+-- the lines of the outlines and hatches of a layer that is laid out so, under the height of its upper surface
 abbrev pub layout_lines : Rates → ℕ → Layout → List ℕ
-layout_lines rates i layout = outline_lines rates.layer_height i layout.outlines (hatches_of (Ok layout))
+layout_lines rates i layout = cli.layer_text
+    (record { z = rates.layer_height * (i + 1); loops = layout.outlines; hatches = hatches_of (Ok layout) })
 
 -- the steps that write a layer which is laid out so, behind moves of this volume: its outlines and hatches, and then its
 -- moves, where they are wanted
