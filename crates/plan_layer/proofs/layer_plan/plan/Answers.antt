@@ -1,11 +1,12 @@
-use Rattle.std.proofs.Common.{◌≡◌, ◌≤◌, ◌*◌, List, length, true, ◌++◌, ap, ◌∙◌, refl, arith}
+use Rattle.std.proofs.Common.{◌≡◌, ◌≤◌, ◌*◌, List, length, true, ◌++◌, ap, ◌∙◌, refl, arith, inr}
 use Rattle.std.specs.Prelude.{Result, Ok, Err, IfOk}
 use Rattle.std.specs.List.{sum_by}
-use Rattle.std.proofs.lemmas.Result.{IfOk-weaker}
+use Rattle.std.proofs.lemmas.Result.{IfOk-weaker, IfErr-weaker}
 use Rattle.scad_geom.specs.declared.point.Pt.{Pt}
 use Rattle.plan_layer.specs.Infill.{LineRuns, infill_paths}
 use Rattle.plan_layer.specs.Moves.{all_moves, move_limit}
 use Rattle.plan_layer.specs.Plan.{IsPlan}
+use Rattle.plan_layer.specs.Refusal.{IsManyMoves, IsRefusal}
 use Rattle.plan_layer.proofs.Points.{plan_ways, few_points}
 use Rattle.plan_layer.proofs.layer_plan.plan.Goals as goal
 
@@ -50,3 +51,16 @@ returns-clause-points c =
     (is_plan c p.paths.items kept)) in
     omega (arith, n, few))
     c.judged.ensures.kept c.judged.ensures.few
+
+pub returns-clause-refused : goal.returns-clause-refused
+returns-clause-refused c =
+    IfErr-weaker c.judged.result (IsManyMoves c.push_infill.new.paths.items)
+    (IsRefusal c.args.outlines.now c.args.layer c.args.settings.now)
+    (λ fault many. inr (record {
+      paths = c.push_infill.new.paths.items;
+      runs = length (infill_paths c.args.layer true c.in_ok-lines.lines.items);
+      plan = is_plan c c.push_infill.new.paths.items refl;
+      accepted = c.in_ok-paths.ensures.accepted;
+      many = many;
+    }))
+    c.judged.ensures.many
