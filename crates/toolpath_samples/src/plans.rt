@@ -97,7 +97,8 @@ fn is_way(path: &Path, from: Pt, to: Pt) -> bool {
 fn even_layers_have_rows(rt: HostRuntime) -> Result<(), Fail> {
     let alloc = rt.alloc();
     let LayerPlan { paths, runs } = plan(alloc, &cube(alloc)?, 0, &USUAL)?;
-    assert!(rt; paths.len() == 3 && runs == 1);
+    assert_eq!(rt; paths.len(), 3);
+    assert_eq!(rt; runs, 1);
     assert!(rt; is_round(&paths[0], 225, 2775));
     assert!(rt; is_round(&paths[1], 675, 2325));
     assert!(rt; is_way(&paths[2], at(900, 2000), at(2100, 2000)));
@@ -108,7 +109,8 @@ fn even_layers_have_rows(rt: HostRuntime) -> Result<(), Fail> {
 fn odd_layers_have_columns(rt: HostRuntime) -> Result<(), Fail> {
     let alloc = rt.alloc();
     let LayerPlan { paths, runs } = plan(alloc, &cube(alloc)?, 1, &USUAL)?;
-    assert!(rt; paths.len() == 3 && runs == 1);
+    assert_eq!(rt; paths.len(), 3);
+    assert_eq!(rt; runs, 1);
     assert!(rt; is_way(&paths[2], at(2000, 900), at(2000, 2100)));
     Ok(())
 }
@@ -122,7 +124,8 @@ fn holes_have_walls(rt: HostRuntime) -> Result<(), Fail> {
         ..USUAL
     };
     let LayerPlan { paths, runs } = plan(alloc, &frame(alloc)?, 0, &settings)?;
-    assert!(rt; paths.len() == 2 && runs == 0);
+    assert_eq!(rt; paths.len(), 2);
+    assert_eq!(rt; runs, 0);
     assert!(rt; is_round(&paths[0], 225, 9775));
     let round_hole = [
         at(3907, 3775),
@@ -144,7 +147,8 @@ fn lines_alternate(rt: HostRuntime) -> Result<(), Fail> {
     let alloc = rt.alloc();
     let settings = Settings { walls: 1, ..USUAL };
     let LayerPlan { paths, runs } = plan(alloc, &frame(alloc)?, 0, &settings)?;
-    assert!(rt; paths.len() == 8 && runs == 6);
+    assert_eq!(rt; paths.len(), 8);
+    assert_eq!(rt; runs, 6);
     assert!(rt; is_way(&paths[2], at(450, 2000), at(9550, 2000)));
     assert!(rt; is_way(&paths[3], at(9550, 4000), at(6450, 4000)));
     assert!(rt; is_way(&paths[4], at(3550, 4000), at(450, 4000)));

@@ -50,7 +50,7 @@ fn number_of_seeds(alloc: Global, seeds: u64) -> Result<i64, Fail> {
         let made = plan(alloc, &outlines, layer, &settings)?;
         number = check_number(number, &made.paths)
             .wrapping_mul(10_007)
-            .wrapping_add(made.runs as i64)
+            .wrapping_add((made.runs % 1_000_000_007) as i64)
             .rem_euclid(1_000_000_007);
     }
     Ok(number)
