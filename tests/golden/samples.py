@@ -44,6 +44,7 @@ def plans(oct):
         for path in [list(l)+[l[0]] for l in pl.loops]+[list(r) for r in pl.runs]:
             for x,y in path: n=nw(n,x*4000+y+1)
             n=(n+7)%1000000007
+        n=nw(n,len(pl.runs))
     return n
 if __name__=='__main__':
     for oct in (False,True):

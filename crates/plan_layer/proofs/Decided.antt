@@ -90,11 +90,11 @@ module _ (outlines : List (List Pt)) where
           fault = Moves (length (all_moves p.paths));
           refused = record {
             known = λ e. cc;
-            refusal = inr (record { paths = p.paths; plan = p.is_plan; accepted = walls; many = (refl, many) });
+            refusal = inr (record { paths = p.paths; runs = p.runs; plan = p.is_plan; accepted = walls; many = (refl, many) });
           };
         })
         judged p (inr few) = inl
-            (record { paths = p.paths; accepted = record { plan = p.is_plan; walls = walls; moves = few } })
+            (record { paths = p.paths; runs = p.runs; accepted = record { plan = p.is_plan; walls = walls; moves = few } })
 
         by_count : HasPlan outlines layer s → HasAccepted outlines layer s ⊎ HasRefusal outlines layer s
         by_count p = judged p (cases_lt move_limit (length (all_moves p.paths)))

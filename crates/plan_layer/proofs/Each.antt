@@ -81,8 +81,9 @@ module _ (P : Edge → Type 0) (outlines : List (List Pt)) (layer : ℕ) (s : Se
       (line_holds up l.at l.runs (recursion_from_All (IsLayerRun outlines layer s l.at) l.runs are.0.runs.each))
       (infill_holds (not up) ls are.1))
 
-  pub plan_holds : (paths : List (List Pt)) → IsPlan outlines layer s paths → All P (all_moves paths)
-  plan_holds paths p =
+  pub plan_holds : (paths : List (List Pt)) (runs : ℕ) → IsPlan outlines layer s paths runs
+      → All P (all_moves paths)
+  plan_holds paths runs p =
       let w = p.are_walls in
       subst (λ (ps : List (List Pt)). All P (all_moves ps))
       (sym (p.paths_are ∙ ap (λ (ps : List (List Pt)). ps ++ infill_paths layer true p.lines) w.paths_are))

@@ -119,11 +119,11 @@ module _ (outlines : List (List Pt)) (layer : ℕ) (s : Settings) (range : AreIn
       (whole (point_on (line_at layer z) r.from)) q on)
 
 pub plans_keep_clear : WallsKeepClear → PlansKeepClear
-plans_keep_clear law outlines layer s paths range p =
+plans_keep_clear law outlines layer s paths runs range p =
     plan_holds (KeepsClear outlines (s.line_width / 2)) outlines layer s
     (record {
       walls = walls_keep outlines layer s range law;
       there = forwards_keeps outlines layer s range;
       back = backwards_keeps outlines layer s range;
     })
-    paths p
+    paths runs p

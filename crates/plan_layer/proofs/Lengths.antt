@@ -15,7 +15,7 @@ some_width : (s : Settings) → AreInRange s → 1 ≤ s.line_width
 some_width s range = let least = range.line_width.least in omega (arith, least)
 
 pub plans_have_lengths : PlansHaveLengths
-plans_have_lengths outlines layer s paths range p =
+plans_have_lengths outlines layer s paths runs range p =
     plan_holds HasLength outlines layer s
     (record {
       walls = λ k loops are. walls_have_lengths (distance s.line_width k) outlines loops are;
@@ -23,4 +23,4 @@ plans_have_lengths outlines layer s paths range p =
       back = λ z r is same.
           runs_have_lengths outlines (depth s) (line_at layer z) s.line_width r (some_width s range) is (sym same);
     })
-    paths p
+    paths runs p

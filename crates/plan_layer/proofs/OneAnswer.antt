@@ -107,19 +107,20 @@ module _ (outlines : List (List Pt)) where
           let v = many_are h.paths a m h.many in
           let w = many_are k.paths b n k.many in
           let e : h.paths ≡ k.paths =
-          plans_are_one outlines within layer s range h.paths k.paths h.plan k.plan in
+          (plans_are_one outlines within layer s range h.paths k.paths h.runs k.runs h.plan k.plan).0 in
           v.0 ∙ ap (λ (paths : List (List Pt)). Moves (length (all_moves paths))) e ∙ sym w.0
 
-      not_both : (paths : List (List Pt)) (fault : PlanFault) → IsAccepted outlines layer s paths → fault ≢ Memory
+      not_both : (paths : List (List Pt)) (runs : ℕ) (fault : PlanFault) → IsAccepted outlines layer s paths runs
+          → fault ≢ Memory
           → IsRefusal outlines layer s fault → ⊥
-      not_both paths fault a n (inl h) =
+      not_both paths runs fault a n (inl h) =
           let v : IsByWall fault = by_wall fault n h in none_refused s v.of v.known a.walls v.refused
-      not_both paths fault a n (inr h) =
+      not_both paths runs fault a n (inr h) =
           let many = (many_are h.paths fault n h.many).1 in
           let few = a.moves in
           let e : length (all_moves paths) ≡ length (all_moves h.paths) =
           ap (λ (ps : List (List Pt)). length (all_moves ps))
-          (plans_are_one outlines within layer s range paths h.paths a.plan h.plan) in
+          (plans_are_one outlines within layer s range paths h.paths runs h.runs a.plan h.plan).0 in
           omega (arith, few, many, e)
 
 pub refusals_are_one : RefusalsAreOne
@@ -127,5 +128,5 @@ refusals_are_one outlines within layer s range a b h k =
     one_refusal outlines layer s within range a b h.known k.known h.refusal k.refusal
 
 pub accepted_is_not_refused : AcceptedIsNotRefused
-accepted_is_not_refused outlines within layer s range paths fault h k =
-    not_both outlines layer s within range paths fault h k.known k.refusal
+accepted_is_not_refused outlines within layer s range paths runs fault h k =
+    not_both outlines layer s within range paths runs fault h k.known k.refusal

@@ -124,7 +124,7 @@ module _ (outlines : List (List Pt)) (layer : ℕ) (s : Settings) where
       (in_other xs ys a b) (in_other ys xs b a)
 
 pub plans_are_one : PlansAreOne
-plans_are_one outlines within layer s range a b h k =
+plans_are_one outlines within layer s range a b m_runs n_runs h k =
     let v = h.are_walls in
     let w = k.are_walls in
     let width = range.line_width.most in
@@ -133,8 +133,12 @@ plans_are_one outlines within layer s range a b h k =
     let n = w.count in
     let walls = one_walls outlines within s.line_width 0 width v.walls w.walls (omega (arith, m, few)) (m ∙ sym n)
     v.are_walls w.are_walls in
-    let lines = one_lines outlines layer s h.lines k.lines h.are_filled k.are_filled in
-    h.paths_are
-    ∙ ap₂ (λ (ps : List (List Pt)) (ls : List LineRuns). ps ++ infill_paths layer true ls)
-    (v.paths_are ∙ ap wall_paths walls ∙ sym w.paths_are) lines
-    ∙ sym k.paths_are
+    let lines = one_lines outlines layer s h.lines k.lines h.are_filled k.are_filled in (
+      h.paths_are
+          ∙ ap₂ (λ (ps : List (List Pt)) (ls : List LineRuns). ps ++ infill_paths layer true ls)
+          (v.paths_are ∙ ap wall_paths walls ∙ sym w.paths_are) lines
+          ∙ sym k.paths_are,
+      h.runs_are
+          ∙ ap (λ (ls : List LineRuns). length (infill_paths layer true ls)) lines
+          ∙ sym k.runs_are,
+    )

@@ -66,9 +66,9 @@ infill_ways layer up (l ∷ ls) =
     (line_ways up (line_at layer l.at) l.runs) (infill_ways layer (not up) ls)
 
 -- ---- of a plan
-pub plan_ways : (outlines : List (List Pt)) (layer : ℕ) (s : Settings) (paths : List (List Pt))
-    → IsPlan outlines layer s paths → All (λ path. 2 ≤ length path) paths
-plan_ways outlines layer s paths p =
+pub plan_ways : (outlines : List (List Pt)) (layer : ℕ) (s : Settings) (paths : List (List Pt)) (runs : ℕ)
+    → IsPlan outlines layer s paths runs → All (λ path. 2 ≤ length path) paths
+plan_ways outlines layer s paths runs p =
     let w = p.are_walls in
     subst (λ (ps : List (List Pt)). All (λ path. 2 ≤ length path) ps) (sym p.paths_are)
     (All-append (λ path. 2 ≤ length path) p.walls (infill_paths layer true p.lines)

@@ -26,11 +26,13 @@ plans_are_there outlines layer s =
     let l : HasLines outlines layer s = some_lines outlines layer s in
     record {
       paths = wall_paths w.walls ++ infill_paths layer true l.lines;
+      runs = length (infill_paths layer true l.lines);
       is_plan = record {
         walls = wall_paths w.walls;
         lines = l.lines;
         are_walls = record { walls = w.walls; count = w.count; are_walls = w.are_walls; paths_are = refl };
         are_filled = l.are_filled;
         paths_are = refl;
+        runs_are = refl;
       };
     }

@@ -24,6 +24,6 @@ RunsKeepClear =
 -- Each point of each move of a plan keeps the clearance of half the width of a line.
 abbrev pub PlansKeepClear : Type 0
 PlansKeepClear =
-    (outlines : List (List Pt)) (layer : ℕ) (s : Settings) (paths : List (List Pt)) → AreInRange s → IsPlan outlines
-    layer s paths
+    (outlines : List (List Pt)) (layer : ℕ) (s : Settings) (paths : List (List Pt)) (runs : ℕ) → AreInRange s
+    → IsPlan outlines layer s paths runs
     → PathsKeepClear outlines (s.line_width / 2) paths

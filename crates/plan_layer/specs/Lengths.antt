@@ -11,6 +11,6 @@ use Rattle.plan_layer.specs.Plan.{IsPlan}
 -- Each move of a plan has a length.
 abbrev pub PlansHaveLengths : Type 0
 PlansHaveLengths =
-    (outlines : List (List Pt)) (layer : ℕ) (s : Settings) (paths : List (List Pt)) → AreInRange s → IsPlan outlines
-    layer s paths
+    (outlines : List (List Pt)) (layer : ℕ) (s : Settings) (paths : List (List Pt)) (runs : ℕ) → AreInRange s
+    → IsPlan outlines layer s paths runs
     → All HasLength (all_moves paths)

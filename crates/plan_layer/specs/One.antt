@@ -10,12 +10,12 @@ use Rattle.plan_layer.specs.Plan.{IsPlan}
 use Rattle.plan_layer.specs.Refusal.{IsAccepted, IsRefused}
 
 -- ---- the laws
--- A layer has one plan over its outlines.
+-- A layer has one plan over its outlines, with one number of runs.
 abbrev pub PlansAreOne : Type 0
 PlansAreOne =
     (outlines : List (List Pt)) → All (λ l. All (IsWithin point_limit) l) outlines → (layer : ℕ) (s : Settings)
     → AreInRange s
-    → (a b : List (List Pt)) → IsPlan outlines layer s a → IsPlan outlines layer s b → a ≡ b
+    → (a b : List (List Pt)) (m n : ℕ) → IsPlan outlines layer s a m → IsPlan outlines layer s b n → (a ≡ b) × (m ≡ n)
 
 -- It is refused by one fault.
 abbrev pub RefusalsAreOne : Type 0
@@ -29,5 +29,5 @@ abbrev pub AcceptedIsNotRefused : Type 0
 AcceptedIsNotRefused =
     (outlines : List (List Pt)) → All (λ l. All (IsWithin point_limit) l) outlines → (layer : ℕ) (s : Settings)
     → AreInRange s
-    → (paths : List (List Pt)) (fault : PlanFault) → IsAccepted outlines layer s paths
+    → (paths : List (List Pt)) (runs : ℕ) (fault : PlanFault) → IsAccepted outlines layer s paths runs
     → IsRefused outlines layer s fault → ⊥

@@ -31,10 +31,13 @@ pub record AreWallPaths (outlines : List (List Pt)) (s : Settings) (paths : List
   pub are_walls : AreWallsFrom s.line_width 0 outlines walls
   pub paths_are : paths ≡ wall_paths walls
 
--- the paths of a layer: the loops of its walls, from the outermost wall on, and then its infill, beginning upwards
-pub record IsPlan (outlines : List (List Pt)) (layer : ℕ) (s : Settings) (paths : List (List Pt)) : Type 0 where
-  pub walls : List (List Pt)
-  pub lines : List LineRuns
-  pub are_walls : AreWallPaths outlines s walls
-  pub are_filled : AreFilled outlines layer s lines
-  pub paths_are : paths ≡ walls ++ infill_paths layer true lines
+-- the paths of a layer: the loops of its walls, from the outermost wall on, and then its infill, beginning upwards; so
+-- many of them, the last ones, are runs of infill
+pub record IsPlan (outlines : List (List Pt)) (layer : ℕ) (s : Settings) (paths : List (List Pt)) (runs : ℕ) : Type 0
+  where
+    pub walls : List (List Pt)
+    pub lines : List LineRuns
+    pub are_walls : AreWallPaths outlines s walls
+    pub are_filled : AreFilled outlines layer s lines
+    pub paths_are : paths ≡ walls ++ infill_paths layer true lines
+    pub runs_are : runs ≡ length (infill_paths layer true lines)

@@ -55,7 +55,8 @@ IsManyMoves paths (Moves n) = (n ≡ length (all_moves paths)) × (move_limit < 
 -- the walls have no fault, but the plan has too many moves
 pub record HasManyMoves (outlines : List (List Pt)) (layer : ℕ) (s : Settings) (fault : PlanFault) : Type 0 where
   pub paths : List (List Pt)
-  pub plan : IsPlan outlines layer s paths
+  pub runs : ℕ
+  pub plan : IsPlan outlines layer s paths runs
   pub accepted : AreAccepted outlines s.line_width s.walls
   pub many : IsManyMoves paths fault
 
@@ -63,9 +64,10 @@ pub record HasManyMoves (outlines : List (List Pt)) (layer : ℕ) (s : Settings)
 abbrev pub IsRefusal : List (List Pt) → ℕ → Settings → PlanFault → Type 0
 IsRefusal outlines layer s fault = IsWallsRefusal outlines s fault ⊎ HasManyMoves outlines layer s fault
 
--- paths are a plan that passes no limit
-pub record IsAccepted (outlines : List (List Pt)) (layer : ℕ) (s : Settings) (paths : List (List Pt)) : Type 0 where
-  pub plan : IsPlan outlines layer s paths
+-- paths, of which so many are runs of infill, are a plan that passes no limit
+pub record IsAccepted (outlines : List (List Pt)) (layer : ℕ) (s : Settings) (paths : List (List Pt)) (runs : ℕ)
+    : Type 0 where
+  pub plan : IsPlan outlines layer s paths runs
   pub walls : AreAccepted outlines s.line_width s.walls
   pub moves : length (all_moves paths) ≤ move_limit
 

@@ -15,12 +15,14 @@ pub record HasWalls (c : ℕ) (outlines : List (List Pt)) : Type 0 where
 -- there is a plan of a layer, whatever its size
 pub record HasPlan (outlines : List (List Pt)) (layer : ℕ) (s : Settings) : Type 0 where
   pub paths : List (List Pt)
-  pub is_plan : IsPlan outlines layer s paths
+  pub runs : ℕ
+  pub is_plan : IsPlan outlines layer s paths runs
 
 -- there is a plan that passes no limit
 pub record HasAccepted (outlines : List (List Pt)) (layer : ℕ) (s : Settings) : Type 0 where
   pub paths : List (List Pt)
-  pub accepted : IsAccepted outlines layer s paths
+  pub runs : ℕ
+  pub accepted : IsAccepted outlines layer s paths runs
 
 -- there is a fault by which a layer is refused
 pub record HasRefusal (outlines : List (List Pt)) (layer : ℕ) (s : Settings) : Type 0 where

@@ -1,5 +1,5 @@
 //! The plan of a layer.
-ghost use Rattle.std.specs.Prelude.{◌≡◌, ◌*◌, ◌/◌, ◌≤◌, length, IfOk, IfErr, IfSome, All};
+ghost use Rattle.std.specs.Prelude.{◌≡◌, ◌*◌, ◌/◌, ◌-◌, ◌≤◌, length, IfOk, IfErr, IfSome, All};
 ghost use Rattle.std.specs.List.{sum_by};
 ghost use Rattle.scad_geom.specs.Limits.{point_limit};
 ghost use Rattle.scad_geom.specs.Within.{IsWithin};
@@ -21,10 +21,12 @@ use std::alloc::Global;
 /// The most extruding moves of a layer.
 pub const MOVE_LIMIT: u64 = 200_000;
 
-/// The paths of a layer, in the order in which they are printed. Each side of a path is one extruding move.
+/// The paths of a layer, in the order in which they are printed. Each side of a path is one extruding move. The last
+/// `runs` paths are the runs of infill, each from its first point to its last.
 #[derive(Debug, Drop)]
 pub struct LayerPlan {
     pub paths: Vec<Path>,
+    pub runs: u64,
 }
 
 /// The plan of a layer over its outlines: the loops of its walls, from the outermost on, each from its first vertex
@@ -46,7 +48,7 @@ pub fn plan(
 ) -> Result<LayerPlan, PlanFault>
     requires within { All (λ l. All (IsWithin point_limit) l) outlines.now }
     requires settings { AreInRange settings.now }
-    ensures plan { IfOk result (λ p. IsPlan outlines.now layer settings.now p.paths.items) }
+    ensures plan { IfOk result (λ p. IsPlan outlines.now layer settings.now p.paths.items p.runs) }
     ensures clear { IfOk result (λ p. PathsKeepClear outlines.now (settings.now.line_width / 2) p.paths.items) }
     ensures accepted { IfOk result (λ p. AreAccepted outlines.now settings.now.line_width settings.now.walls) }
     ensures moves { IfOk result (λ p. length (all_moves p.paths.items) ≤ move_limit) }
@@ -55,21 +57,27 @@ pub fn plan(
     ensures refused { IfErr result (IsRefusal outlines.now layer settings.now) }
 {
     let mut paths = wall_paths(alloc, outlines, settings)?;
+    let walls = paths.len();
     let lines = filled_lines(alloc, outlines, layer, settings)?;
     push_infill(alloc, &mut paths, layer, &lines)?;
     plans_keep_clear();
-    judged(paths)
+    judged(paths, walls)
 }
 
-// Paths with too many moves are refused.
-fn judged(paths: Vec<Path>) -> Result<LayerPlan, PlanFault>
+// Paths with too many moves are refused. Those behind so many are runs of infill.
+fn judged(paths: Vec<Path>, walls: usize) -> Result<LayerPlan, PlanFault>
+    requires walls { walls ≤ length paths.items }
     ensures kept { IfOk result (λ p. p.paths.items ≡ paths.items) }
+    ensures runs { IfOk result (λ p. p.runs ≡ length paths.items - walls) }
     ensures few { IfOk result (λ p. length (all_moves p.paths.items) ≤ move_limit) }
     ensures many { IfErr result (IsManyMoves paths.items) }
 {
     match count_of_moves(&paths) {
         Some(count) if count > MOVE_LIMIT => Err(PlanFault::Moves(count)),
-        Some(_) => Ok(LayerPlan { paths }),
+        Some(_) => {
+            let runs = (paths.len() - walls) as u64;
+            Ok(LayerPlan { paths, runs })
+        }
         None => Err(PlanFault::Memory),
     }
 }

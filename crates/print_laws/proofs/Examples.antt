@@ -10,13 +10,21 @@ at x y = record { x = pos x; y = pos y }
 
 -- two layers: a triangle with a path of two sides, and nothing but a path of one
 abbrev lower : Layout
-lower = record { outlines = (at 0 0 ∷ at 9 0 ∷ at 0 9 ∷ []) ∷ []; paths = (at 1 1 ∷ at 5 1 ∷ at 1 5 ∷ []) ∷ [] }
+lower = record {
+  outlines = (at 0 0 ∷ at 9 0 ∷ at 0 9 ∷ []) ∷ [];
+  paths = (at 1 1 ∷ at 5 1 ∷ at 1 5 ∷ []) ∷ [];
+  runs = 0;
+}
 
 abbrev upper : Layout
-upper = record { outlines = []; paths = (at 2 2 ∷ at 2 4 ∷ []) ∷ [] }
+upper = record { outlines = []; paths = (at 2 2 ∷ at 2 4 ∷ []) ∷ []; runs = 1 }
 
--- each is written with the height of its upper surface
-two_heights : written 200 (lower ∷ upper ∷ []) ≡ outlined 200 lower.outlines ∷ outlined 400 [] ∷ []
+-- each is written with the height of its upper surface, and its runs of infill as hatches
+two_heights : written 200 (lower ∷ upper ∷ []) ≡ outlined 200 lower.outlines ∷ record {
+  z = 400;
+  loops = [];
+  hatches = record { a = at 2 2; b = at 2 4 } ∷ [];
+} ∷ []
 two_heights = refl
 
 -- the sides, layer after layer

@@ -93,7 +93,7 @@ module _ (s : Settings) (outlines : List (List (List Pt))) where
         travels here up (filament (rates_of s) v),
         paths_inside i l.outlines there v up l.paths
             (recursion_from_All (KeepsClear l.outlines (s.line_width / 2)) (all_moves l.paths)
-            (law l.outlines i s l.paths range h.0.plan)),
+            (law l.outlines i s l.paths l.runs range h.0.plan)),
       )
       (layers_inside law range w (i + 1) next ls (λ k.
       let e : (i + 1) + k ≡ i + suc k = omega arith in ap (slice_get outlines) e ∙ are (suc k)) h.1)

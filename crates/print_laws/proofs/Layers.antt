@@ -31,14 +31,14 @@ use Rattle.print_laws.specs.Planned.{IsPlanned}
 -- ---- a layer that is laid out
 pub record IsLaid (s : Settings) (tree : Solid) (i : ℕ) (layer : Layout) : Type 0 where
   pub outlines : AreLayerOutlines i s.layer_height tree layer.outlines
-  pub accepted : IsAccepted layer.outlines i s layer.paths
+  pub accepted : IsAccepted layer.outlines i s layer.paths layer.runs
 
 laid_unless : (passed : Option Budget) (s : Settings) (tree : Solid) (i : ℕ) (layer : Layout)
     → IsLayerUnless passed WithPlan s tree i (Ok layer) → IsLaid s tree i layer
 laid_unless (Some budget) s tree i layer is = let never : ⊥ = cc in absurd never
 laid_unless None s tree i layer (outlines, are, (same, accepted)) = record {
   outlines = subst (AreLayerOutlines i s.layer_height tree) (sym same) are;
-  accepted = subst (λ (o : List (List Pt)). IsAccepted o i s layer.paths) (sym same) accepted;
+  accepted = subst (λ (o : List (List Pt)). IsAccepted o i s layer.paths layer.runs) (sym same) accepted;
 }
 
 pub laid : (s : Settings) (tree : Solid) (i : ℕ) (layer : Layout) → IsLayer WithPlan s tree i (Ok layer)

@@ -40,9 +40,9 @@ infill_no_points layer up (l ∷ ls) =
     All-append NoPoint (line_paths up (line_at layer l.at) l.runs) (infill_paths layer (not up) ls)
     (line_no_points up (line_at layer l.at) l.runs) (infill_no_points layer (not up) ls)
 
-no_points : (outlines : List (List Pt)) (layer : ℕ) (s : Settings) (paths : List (List Pt))
-    → IsPlan outlines layer s paths → All NoPoint paths
-no_points outlines layer s paths p =
+no_points : (outlines : List (List Pt)) (layer : ℕ) (s : Settings) (paths : List (List Pt)) (runs : ℕ)
+    → IsPlan outlines layer s paths runs → All NoPoint paths
+no_points outlines layer s paths runs p =
     let w = p.are_walls in
     subst (All NoPoint)
     (sym (p.paths_are ∙ ap (λ (ps : List (List Pt)). ps ++ infill_paths layer true p.lines) w.paths_are))
@@ -80,9 +80,9 @@ module _ (limit : ℕ) where
     paths_within paths n.1 (all_back (IsEdgeWithin limit) (moves path) (all_moves paths) h),
   )
 
-pub plan_within : (limit : ℕ) (outlines : List (List Pt)) (layer : ℕ) (s : Settings) (paths : List (List Pt))
-    → IsPlan outlines layer s paths → All (IsEdgeWithin limit) (all_moves paths)
+pub plan_within : (limit : ℕ) (outlines : List (List Pt)) (layer : ℕ) (s : Settings) (paths : List (List Pt)) (runs : ℕ)
+    → IsPlan outlines layer s paths runs → All (IsEdgeWithin limit) (all_moves paths)
     → AllByRecursion (λ path. AllByRecursion (IsWithin limit) path) paths
-plan_within limit outlines layer s paths p h =
-    paths_within limit paths (recursion_from_All NoPoint paths (no_points outlines layer s paths p))
+plan_within limit outlines layer s paths runs p h =
+    paths_within limit paths (recursion_from_All NoPoint paths (no_points outlines layer s paths runs p))
     (recursion_from_All (IsEdgeWithin limit) (all_moves paths) h)

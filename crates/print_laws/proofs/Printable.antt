@@ -42,15 +42,15 @@ abbrev layer_volume : ℕ
 layer_volume = 200000 * move_limit
 
 module _ (law : PlansKeepClear) (s : Settings) (range : AreInRange s) where
-  ends_within : (i : ℕ) (l : Layout) → IsPlanned s i l
+  pub ends_within : (i : ℕ) (l : Layout) → IsPlanned s i l
       → AllByRecursion (IsEdgeWithin point_limit) (all_moves l.paths)
   ends_within i l h =
       recursion_from_All (IsEdgeWithin point_limit) (all_moves l.paths)
-      (moves_within l.outlines h.within (s.line_width / 2) l.paths (law l.outlines i s l.paths range h.plan))
+      (moves_within l.outlines h.within (s.line_width / 2) l.paths (law l.outlines i s l.paths l.runs range h.plan))
 
   layer_short : (i : ℕ) (l : Layout) → IsPlanned s i l → AreShortPaths l.paths
   layer_short i l h =
-      paths_short l.paths (plan_within point_limit l.outlines i s l.paths h.plan
+      paths_short l.paths (plan_within point_limit l.outlines i s l.paths l.runs h.plan
       (All-from_recursion (IsEdgeWithin point_limit) (all_moves l.paths) (ends_within i l h)))
 
   layers_short : (i : ℕ) (layers : List Layout) → AreFrom (IsPlanned s) i layers

@@ -22,7 +22,7 @@ lengths_from : PlansHaveLengths → (s : Settings) → AreInRange s → (i : ℕ
     → AllByRecursion (λ paths. All HasLength (all_moves paths)) (all_paths layers)
 lengths_from law s range i [] h = tt
 lengths_from law s range i (l ∷ ls) h = (
-  law l.outlines i s l.paths range h.0.plan,
+  law l.outlines i s l.paths l.runs range h.0.plan,
   lengths_from law s range (i + 1) ls
       h.1,
 )

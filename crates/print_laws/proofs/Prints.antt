@@ -21,10 +21,12 @@ use Rattle.slice_work.specs.Part.{Layout}
 use Rattle.scad_slice.specs.Layer.{IsLayer}
 use Rattle.scad_slice.specs.Membership.{IsLayerOf, HoldTree}
 use Rattle.scad_slice.proofs.OneLayer.{layer_is_one}
+use Rattle.plan_layer.specs.Kept.{PlansKeepClear}
 use Rattle.print_laws.specs.Planned.{IsPlanned, ArePlanned}
 use Rattle.print_laws.specs.Print.{program_of, AreLayersOf, written_from, written}
 use Rattle.print_laws.specs.Laws.{PlansArePrinted, LayersArePrinted, PrintsAreOne}
 use Rattle.print_laws.proofs.Numbered.{AreFrom, from_first, first_each}
+use Rattle.print_laws.proofs.Hatched.{are_hatches}
 use Rattle.print_laws.proofs.Layers.{IsLaid, laid, is_planned, are_shapes}
 
 -- ---- layers by their numbers
@@ -82,24 +84,27 @@ module _ (s : Settings) (tree : Solid) (solids : AreSolids tree) (range : AreInR
   shapes_from i [] h = tt
   shapes_from i (l ∷ ls) h = (are_shapes s tree i l solids range h.0, shapes_from (i + 1) ls h.1)
 
-  no_hatches_from : (i : ℕ) (ls : List Layout)
+  hatches_from : PlansKeepClear → (i : ℕ) (ls : List Layout) → AreFrom (IsLaid s tree) i ls
       → AllByRecursion (λ (layer : Layer). AreHatches layer.hatches) (written_from height i ls)
-  no_hatches_from i [] = tt
-  no_hatches_from i (l ∷ ls) = (record { count = omega arith; near = tt }, no_hatches_from (i + 1) ls)
+  hatches_from law i [] h = tt
+  hatches_from law i (l ∷ ls) h = (
+    are_hatches law s range i l (is_planned s tree i l solids h.0),
+    hatches_from law (i + 1) ls h.1,
+  )
 
   number_from : (i : ℕ) (ls : List Layout) → length (written_from height i ls) ≡ length ls
   number_from i [] = refl
   number_from i (l ∷ ls) = ap suc (number_from (i + 1) ls)
 
-  readable : (layers : List Layout) → AreLayersOf s tree layers → IsReadable (written height layers)
-  readable layers are =
+  readable : PlansKeepClear → (layers : List Layout) → AreLayersOf s tree layers → IsReadable (written height layers)
+  readable law layers are =
       let few = are.few in
       let long = number_from 0 layers in
       record {
         above = above_from height 0 None layers some_height tt;
         heights = heights_from 0 layers (omega (arith, few));
         shapes = shapes_from 0 layers (all_laid s tree layers are);
-        hatches = no_hatches_from 0 layers;
+        hatches = hatches_from law 0 layers (all_laid s tree layers are);
         count = omega (arith, few, long);
       }
 
@@ -128,13 +133,13 @@ module _ (s : Settings) (tree : Solid) (solids : AreSolids tree) (range : AreInR
       }
 
 -- ---- the laws
-pub layers_are_printed : PlansArePrinted → WrittenTextsSayTheirLayers → LayersArePrinted
-layers_are_printed printed said s tree layers solids range are = record {
+pub layers_are_printed : PlansKeepClear → PlansArePrinted → WrittenTextsSayTheirLayers → LayersArePrinted
+layers_are_printed law printed said s tree layers solids range are = record {
   layers = layers;
   planned = are;
   outlines = record {
     text = refl;
-    read = said (written s.layer_height layers) (readable s tree solids range layers are);
+    read = said (written s.layer_height layers) (readable s tree solids range law layers are);
   };
   holds = holds s tree solids range layers are;
   program = printed s layers range (are_planned s tree layers solids are);

@@ -10,7 +10,7 @@ use Rattle.slice_work.specs.Part.{Layout, layer_limit}
 -- layer i: outlines within a metre, and a plan of them without too many moves
 pub record IsPlanned (s : Settings) (i : ℕ) (layer : Layout) : Type 0 where
   pub within : All (λ l. All (IsWithin point_limit) l) layer.outlines
-  pub plan : IsPlan layer.outlines i s layer.paths
+  pub plan : IsPlan layer.outlines i s layer.paths layer.runs
   pub moves : length (all_moves layer.paths) ≤ move_limit
 
 -- each of the layers, and not too many of them

@@ -9,7 +9,7 @@ use Rattle.scad_words.specs.declared.settings.Settings.{Settings}
 use Rattle.scad_tree.specs.Solid.{Solid}
 use Rattle.plan_walls.specs.Kept.{KeepsClear}
 use Rattle.plan_layer.specs.Moves.{all_moves}
-use Rattle.cli_text.specs.Cli.{Layer, outlined, cli as text_of_layers}
+use Rattle.cli_text.specs.Cli.{Layer, cli as text_of_layers}
 use Rattle.cli_read.specs.Form.{Reads}
 use Rattle.gcode_text.specs.declared.machine.Move.{Move}
 use Rattle.gcode_text.specs.declared.rates.Rates.{Rates}
@@ -18,7 +18,7 @@ use Rattle.gcode_text.specs.Gcode.{gcode}
 use Rattle.gcode_text.specs.Machine.{machine}
 use Rattle.gcode_text.specs.Moves.{at_height, program_moves}
 use Rattle.slice_work.specs.declared.want.Want.TheVariants.{Plan as WithPlan}
-use Rattle.slice_work.specs.Part.{Layout, layer_limit}
+use Rattle.slice_work.specs.Part.{Layout, hatches_of, layer_limit}
 use Rattle.slice_work.specs.Rates.{rates_of}
 use Rattle.scad_slice.specs.Budgets.{layer_count}
 use Rattle.scad_slice.specs.Layer.{IsLayer}
@@ -40,10 +40,12 @@ abbrev pub all_paths : List Layout → List (List (List Pt))
 all_paths layers = map (λ l. l.paths) layers
 
 -- ---- the outlines' file
--- layers of the height h as they are written, each with the height of its upper surface; the first has the number i
+-- layers of the height h as they are written, each with the height of its upper surface and its infill as hatches; the
+-- first has the number i
 abbrev pub written_from : ℕ → ℕ → List Layout → List Layer
 written_from h i [] = []
-written_from h i (l ∷ ls) = outlined (h * (i + 1)) l.outlines ∷ written_from h (i + 1) ls
+written_from h i (l ∷ ls) =
+    record { z = h * (i + 1); loops = l.outlines; hatches = hatches_of (Ok l) } ∷ written_from h (i + 1) ls
 
 abbrev pub written : ℕ → List Layout → List Layer
 written h layers = written_from h 0 layers

@@ -43,6 +43,7 @@ pub fn plans_are_printed()
 pub fn layers_are_printed()
     ensures { LayersArePrinted }
 {
+    plans_keep_clear();
     plans_are_printed();
     written_texts_say_their_layers();
 }

@@ -3,7 +3,7 @@ ghost use Rattle.std.specs.Prelude.{◌≡◌, ◌≤◌, Some, [], true, IfOk};
 ghost use Rattle.scad_io.specs.Desk.{unused};
 ghost use Rattle.scad_script.specs.Run.{Sound};
 
-use crate::texts::{CUBE_CLI, CUBE_GCODE, PLATE_CLI, PLATE_GCODE};
+use crate::texts::{CUBE_GCODE, CUBE_HATCHED, CUBE_OUTLINES, PLATE_CLI, PLATE_GCODE};
 use scad_fault::Text;
 use scad_geom::Pt3;
 use scad_io::{MemoryDesk, Open, Out};
@@ -147,13 +147,14 @@ fn expect(rt: &impl Abort, answer: &Answer, line: &str, cli: &str, gcode: &str) 
     assert!(rt; same, "files of {line}");
 }
 
-/// A tree, the last lines of its two commands, and its files.
+/// A tree, the last lines of its two commands, and their files.
 #[derive(Drop)]
 struct Sample<'a> {
     tree: &'a Tree,
     sliced: &'a str,
     planned: &'a str,
-    cli: &'a str,
+    outlines: &'a str,
+    hatched: &'a str,
     gcode: &'a str,
 }
 
@@ -167,9 +168,9 @@ fn expect_sample<R: Threads + Sync + Abort>(
     requires most { workers ≤ 64 }
 {
     let answer = sliced(rt, alloc, sample.tree, workers, &[])?;
-    expect(rt, &answer, sample.sliced, sample.cli, "");
+    expect(rt, &answer, sample.sliced, sample.outlines, "");
     let answer = planned(rt, alloc, sample.tree, workers, &[])?;
-    expect(rt, &answer, sample.planned, sample.cli, sample.gcode);
+    expect(rt, &answer, sample.planned, sample.hatched, sample.gcode);
     Ok(())
 }
 
@@ -181,14 +182,16 @@ fn trees_are_sliced_and_planned(rt: HostRuntime) -> Result<(), Fail> {
             tree: &cube(alloc)?,
             sliced: "done: 1 layers, 1 loops\n",
             planned: "done: 1 layers, 1 loops, 9 moves, E 0.67351\n",
-            cli: CUBE_CLI,
+            outlines: CUBE_OUTLINES,
+            hatched: CUBE_HATCHED,
             gcode: CUBE_GCODE,
         },
         Sample {
             tree: &plate(alloc)?,
             sliced: "done: 2 layers, 4 loops\n",
             planned: "done: 2 layers, 4 loops, 24 moves, E 1.77269\n",
-            cli: PLATE_CLI,
+            outlines: PLATE_CLI,
+            hatched: PLATE_CLI,
             gcode: PLATE_GCODE,
         },
     ];
@@ -223,9 +226,9 @@ fn files_are_as_long_as_is_told(rt: HostRuntime) -> Result<(), Fail> {
     let Ok(told) = told else {
         return Err(Fail::new("a cube is drawn"));
     };
-    let sizes = told.cli == CUBE_CLI.len() as u64 && told.gcode == CUBE_GCODE.len() as u64;
+    let sizes = told.cli == CUBE_HATCHED.len() as u64 && told.gcode == CUBE_GCODE.len() as u64;
     assert!(rt; sizes && told.summary.e == 67_351);
-    assert!(rt; desk.written(Out::Cli) == CUBE_CLI.as_bytes());
+    assert!(rt; desk.written(Out::Cli) == CUBE_HATCHED.as_bytes());
     Ok(())
 }
 

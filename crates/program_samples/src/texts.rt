@@ -1,7 +1,7 @@
 //! Files as another program writes them.
 
-/// The outlines of a cube of 3 mm by 3 mm, one layer high.
-pub const CUBE_CLI: &str = r#"$$HEADERSTART
+/// What `slice` writes of a cube of 3 mm by 3 mm, one layer high.
+pub const CUBE_OUTLINES: &str = r#"$$HEADERSTART
 $$ASCII
 $$UNITS/0.001
 $$VERSION/200
@@ -10,6 +10,20 @@ $$HEADEREND
 $$GEOMETRYSTART
 $$LAYER/200
 $$POLYLINE/1,1,5,0,0,3000,0,3000,3000,0,3000,0,0
+$$GEOMETRYEND
+"#;
+
+/// What `plan` writes of its outlines: with the infill as hatches.
+pub const CUBE_HATCHED: &str = r#"$$HEADERSTART
+$$ASCII
+$$UNITS/0.001
+$$VERSION/200
+$$LAYERS/1
+$$HEADEREND
+$$GEOMETRYSTART
+$$LAYER/200
+$$POLYLINE/1,1,5,0,0,3000,0,3000,3000,0,3000,0,0
+$$HATCHES/1,1,900,2000,2100,2000
 $$GEOMETRYEND
 "#;
 

@@ -40,7 +40,7 @@ impl LayerWork for Squares {
         let path = Path::from_vec(Vec::from_slice(alloc, &CORNERS[..3])?);
         let loops = vec![in alloc; square]?;
         let paths = vec![in alloc; path]?;
-        Ok(LayerEnd::Made(loops, LayerPlan { paths }))
+        Ok(LayerEnd::Made(loops, LayerPlan { paths, runs: 0 }))
     }
 }
 

@@ -26,6 +26,7 @@ $$HEADEREND
 $$GEOMETRYSTART
 $$LAYER/200
 $$POLYLINE/1,1,5,0,0,3000,0,3000,3000,0,3000,0,0
+$$HATCHES/1,1,900,2000,2100,2000
 $$GEOMETRYEND
 ";
 
@@ -166,7 +167,7 @@ fn the_least_layer_with_a_budget_is_answered(rt: HostRuntime) -> Result<(), Fail
 
 /// The last line of a sample that is the plate: its numbers, and the sizes of both files.
 const PLATE_SAMPLE: &str =
-    "sample 7: 1 layers, 1 loops, 9 moves, E 0.67351, 164 cli bytes, 481 gcode bytes\n";
+    "sample 7: 1 layers, 1 loops, 9 moves, E 0.67351, 197 cli bytes, 481 gcode bytes\n";
 
 /// The end of a sample, over the plate in the place of its own tree.
 pub fn sample_of_plate<R: Threads + Sync>(

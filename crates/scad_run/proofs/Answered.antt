@@ -34,7 +34,7 @@ use Rattle.scad_run.proofs.Heights.{found_in_range}
 -- There are parts.
 
 no_parts : Parts
-no_parts want settings i = Ok (record { outlines = []; paths = [] })
+no_parts want settings i = Ok (record { outlines = []; paths = []; runs = 0 })
 
 parts_of : (meaning : Outcome Solid) → ((tree : Solid) (s : State) → meaning ≡ gives tree s → AreSolids tree)
     → (parts : Parts) × ArePartsOf meaning parts

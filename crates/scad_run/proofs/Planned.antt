@@ -5,15 +5,16 @@ use Rattle.std.specs.List.{range_with_len}
 use Rattle.std.proofs.lemmas.List.FromFn.{length-map-range_with_len}
 use Rattle.scad_fault.specs.declared.budget.Budget.{Budget}
 use Rattle.scad_geom.specs.declared.point.Pt.{Pt}
+use Rattle.scad_geom.specs.declared.point.Edge.{Edge}
 use Rattle.scad_words.specs.declared.settings.Settings.{Settings as SettingsOfRun}
 use Rattle.scad_words.specs.Settings.{AreInRange}
 use Rattle.scad_tree.specs.Solid.{Solid}
 use Rattle.scad_tree.specs.Solids.{AreSolids}
-use Rattle.cli_text.specs.Cli.{Layer, outlined}
+use Rattle.cli_text.specs.Cli.{Layer}
 use Rattle.gcode_text.specs.Gcode.{gcode}
 use Rattle.slice_work.specs.declared.want.Want.{Want}
 use Rattle.slice_work.specs.declared.want.Want.TheVariants.{Plan as WithPlan}
-use Rattle.slice_work.specs.Part.{Layout, Part, outlines_of, paths_of, layer_limit}
+use Rattle.slice_work.specs.Part.{Layout, Part, outlines_of, hatches_of, paths_of, layer_limit}
 use Rattle.slice_work.specs.Rates.{rates_of}
 use Rattle.scad_slice.specs.Budgets.{layer_count}
 use Rattle.scad_slice.specs.Parts.{IsPart, AreMade, layer_at, layers_of, plans_of}
@@ -24,7 +25,7 @@ use Rattle.print_laws.proofs.ByNumber.{each_by_number}
 -- a layer that is laid out, none where it passes a budget
 abbrev whole_of : Result Layout Budget → Layout
 whole_of (Ok layout) = layout
-whole_of (Err budget) = record { outlines = []; paths = [] }
+whole_of (Err budget) = record { outlines = []; paths = []; runs = 0 }
 
 abbrev layout_at : Part → ℕ → Layout
 layout_at part i = whole_of (part i)
@@ -37,17 +38,19 @@ pub layouts_number : (part : Part) (n : ℕ) → length (layouts part n) ≡ n
 layouts_number part n = length-map-range_with_len (layout_at part) 0 n
 
 -- they are written as the layers of the part are
-outlines_whole : (r : Result Layout Budget) → (whole_of r).outlines ≡ outlines_of r
-outlines_whole (Ok layout) = refl
-outlines_whole (Err budget) = refl
+abbrev as_layer : ℕ → List (List Pt) → List Edge → Layer
+as_layer z loops hatches = record { z = z; loops = loops; hatches = hatches }
+
+layer_whole : (z : ℕ) (r : Result Layout Budget)
+    → as_layer z (whole_of r).outlines (hatches_of (Ok (whole_of r))) ≡ as_layer z (outlines_of r) (hatches_of r)
+layer_whole z (Ok layout) = refl
+layer_whole z (Err budget) = refl
 
 written_at : (h : ℕ) (part : Part) (i n : ℕ)
     → written_from h i (map (layout_at part) (range_with_len i n)) ≡ map (layer_at h part) (range_with_len i n)
 written_at h part i zero = refl
 written_at h part i (suc n) =
-    ap₂ (λ (loops : List (List Pt)) (ls : List Layer). outlined (h * (i + 1)) loops ∷ ls)
-    (outlines_whole (part i))
-    (written_at h part (i + 1) n)
+    ap₂ (λ (l : Layer) (ls : List Layer). l ∷ ls) (layer_whole (h * (i + 1)) (part i)) (written_at h part (i + 1) n)
 
 pub written_is : (h : ℕ) (part : Part) (n : ℕ) → layers_of h part n ≡ written h (layouts part n)
 written_is h part n = sym (written_at h part 0 n)

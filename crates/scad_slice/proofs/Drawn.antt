@@ -120,24 +120,24 @@ LaysOut want s i outlines end = (layout : Result Layout Budget) × IsLaidOut wan
 
 -- no plan is wanted
 pub lays_none : (want : Want) (s : Settings) (i : ℕ) (loops : Vec Loop Global) (plan : LayerPlan) → want ≡ Outlines
-    → plan.paths.items ≡ [] → LaysOut want s i loops.items (Made loops plan)
-lays_none want s i loops plan is none = (
-  Ok (laid_out loops.items []),
-  subst (λ (w : Want). IsLaidOut w s i loops.items (Ok (laid_out loops.items []))) (sym is) refl,
-  (refl, none),
+    → plan.paths.items ≡ [] → plan.runs ≡ 0 → LaysOut want s i loops.items (Made loops plan)
+lays_none want s i loops plan is none no_runs = (
+  Ok (laid_out loops.items [] 0),
+  subst (λ (w : Want). IsLaidOut w s i loops.items (Ok (laid_out loops.items [] 0))) (sym is) refl,
+  (refl, none, no_runs),
 )
 
 pub lays_plan : (s : Settings) (i : ℕ) (given : List (List Pt)) (loops : Vec Loop Global) (plan : LayerPlan)
-    → given ≡ loops.items → IsPlan given i s plan.paths.items → AreAccepted given s.line_width s.walls
+    → given ≡ loops.items → IsPlan given i s plan.paths.items plan.runs → AreAccepted given s.line_width s.walls
     → length (all_moves plan.paths.items) ≤ move_limit → LaysOut Plan s i loops.items (Made loops plan)
 lays_plan s i given loops plan same is_plan accepted few = (
-  Ok (laid_out loops.items plan.paths.items),
+  Ok (laid_out loops.items plan.paths.items plan.runs),
   (
     refl,
-    subst (λ (outlines : List (List Pt)). IsAccepted outlines i s plan.paths.items) same
+    subst (λ (outlines : List (List Pt)). IsAccepted outlines i s plan.paths.items plan.runs) same
         (record { plan = is_plan; walls = accepted; moves = few }),
   ),
-  (refl, refl),
+  (refl, refl, refl),
 )
 
 -- the plan is refused

@@ -31,12 +31,12 @@ laid_out_is_one : (want : Want) (s : Settings) (i : ℕ) (outlines : List (List 
 laid_out_is_one Outlines s i outlines within range a b is_a is_b = is_a ∙ sym is_b
 laid_out_is_one Plan s i outlines within range (Ok a) (Ok b) (of_a, plan_a) (of_b, plan_b) =
     let loops : a.outlines ≡ b.outlines = of_a ∙ sym of_b in
-    let paths : a.paths ≡ b.paths = plans_are_one outlines within i s range a.paths b.paths plan_a.plan plan_b.plan in
-    λ k. Ok (record { outlines = loops k; paths = paths k })
+    let plans = plans_are_one outlines within i s range a.paths b.paths a.runs b.runs plan_a.plan plan_b.plan in
+    λ k. Ok (record { outlines = loops k; paths = plans.0 k; runs = plans.1 k })
 laid_out_is_one Plan s i outlines within range (Ok a) (Err b) (of_a, plan_a) is_b =
-    absurd (accepted_is_not_refused outlines within i s range a.paths is_b.fault plan_a is_b.refused)
+    absurd (accepted_is_not_refused outlines within i s range a.paths a.runs is_b.fault plan_a is_b.refused)
 laid_out_is_one Plan s i outlines within range (Err a) (Ok b) is_a (of_b, plan_b) =
-    absurd (accepted_is_not_refused outlines within i s range b.paths is_a.fault plan_b is_a.refused)
+    absurd (accepted_is_not_refused outlines within i s range b.paths b.runs is_a.fault plan_b is_a.refused)
 laid_out_is_one Plan s i outlines within range (Err a) (Err b) is_a is_b =
     let fault : is_a.fault ≡ is_b.fault =
     refusals_are_one outlines within i s range is_a.fault is_b.fault is_a.refused is_b.refused in

@@ -113,12 +113,12 @@ refused_out s i outlines (Moves n) refused =
 
 planned_out : (s : Settings) (i : ℕ) (outlines : List (List Pt)) → HasAccepted outlines i s ⊎ HasRefusal outlines i s
     → (layer : Result Layout Budget) × IsLaidOut Plan s i outlines layer
-planned_out s i outlines (inl has) = (Ok (record { outlines = outlines; paths = has.paths }), (refl, has.accepted))
+planned_out s i outlines (inl has) = (Ok (record { outlines = outlines; paths = has.paths; runs = has.runs }), (refl, has.accepted))
 planned_out s i outlines (inr has) = refused_out s i outlines has.fault has.refused
 
 laid_out : (want : Want) (s : Settings) (i : ℕ) (outlines : List (List Pt)) → (layer : Result Layout Budget)
     × IsLaidOut want s i outlines layer
-laid_out Outlines s i outlines = (Ok (record { outlines = outlines; paths = [] }), refl)
+laid_out Outlines s i outlines = (Ok (record { outlines = outlines; paths = []; runs = 0 }), refl)
 laid_out Plan s i outlines = planned_out s i outlines (plans_are_decided outlines i s)
 
 layer_unless : (passed : Option Budget) (want : Want) (s : Settings) (tree : Solid) (i : ℕ) → AreSolids tree
@@ -136,7 +136,7 @@ some_layer want s tree solids i = layer_unless (layer_budget s.layer_height tree
 -- ---- a part
 
 no_layout : Layout
-no_layout = record { outlines = []; paths = [] }
+no_layout = record { outlines = []; paths = []; runs = 0 }
 
 part_by : (want : Want) (s : Settings) (tree : Solid) → AreSolids tree ⊎ (AreSolids tree → ⊥) → AreInRange s
     ⊎ (AreInRange s → ⊥) → (part : Part) × IsPart want s tree part

@@ -18,8 +18,8 @@ use Rattle.gcode_text.specs.Gcode as program
 use Rattle.gcode_text.specs.declared.rates.Rates.{Rates}
 use Rattle.slice_work.specs.declared.want.Want.{Want}
 use Rattle.slice_work.specs.declared.want.Want.TheVariants.{Outlines, Plan}
-use Rattle.slice_work.specs.Part.{Layout, Part, outlines_of, paths_of}
-use Rattle.slice_work.specs.Script.{written_unless, layer_steps, volume_below}
+use Rattle.slice_work.specs.Part.{Layout, Part, outlines_of, hatches_of, paths_of}
+use Rattle.slice_work.specs.Script.{layout_lines, written_unless, layer_steps, volume_below}
 use Rattle.slice_work.specs.Rates.{rates_of}
 use Rattle.scad_slice.specs.Budgets.{layer_count}
 use Rattle.scad_slice.specs.Parts.{layer_at, layers_of, plans_of}
@@ -53,11 +53,11 @@ made_here part i n made = let found = made 0 (omega arith) in (found.0, ap part 
 -- the lines of a layer
 outline_by : (want : Want) (rates : Rates) (volume i : ℕ) (layout : Layout)
     → text_of Cli (steps_of (written_unless want rates volume i (Ok layout)))
-    ≡ outline.layer_text (outline.outlined (rates.layer_height * (i + 1)) layout.outlines)
+    ≡ layout_lines rates i layout
 outline_by Outlines rates volume i layout =
-    append-nil (outline.layer_text (outline.outlined (rates.layer_height * (i + 1)) layout.outlines))
+    append-nil (layout_lines rates i layout)
 outline_by Plan rates volume i layout =
-    append-nil (outline.layer_text (outline.outlined (rates.layer_height * (i + 1)) layout.outlines))
+    append-nil (layout_lines rates i layout)
 
 module _ (want : Want) (s : Settings) (part : Part) where
   outline_here : (i : ℕ) (layout : Layout) → part i ≡ Ok layout
@@ -66,7 +66,8 @@ module _ (want : Want) (s : Settings) (part : Part) where
   outline_here i layout is =
       ap (λ l. text_of Cli (steps_of (written_unless want (rates_of s) (volume_below want (rates_of s) part i) i l))) is
       ∙ outline_by want (rates_of s) (volume_below want (rates_of s) part i) i layout
-      ∙ ap (λ l. outline.layer_text (outline.outlined (s.layer_height * (i + 1)) (outlines_of l))) (sym is)
+      ∙ ap (λ l. outline.layer_text (record { z = s.layer_height * (i + 1); loops = outlines_of l; hatches = hatches_of l }))
+      (sym is)
 
   outlines_written : (i n : ℕ) (rest : List Step) → AreMadeFrom part i n
       → text_of Cli (written_from want (rates_of s) part i n ++ rest)

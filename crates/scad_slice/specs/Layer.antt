@@ -21,8 +21,8 @@ pub record IsRefusedBy (outlines : List (List Pt)) (i : ℕ) (s : Settings) (bud
 
 -- what is wanted of layer i over its outlines
 abbrev pub IsLaidOut : Want → Settings → ℕ → List (List Pt) → Result Layout Budget → Type 0
-IsLaidOut Outlines s i outlines layer = layer ≡ Ok (record { outlines = outlines; paths = [] })
-IsLaidOut Plan s i outlines (Ok layout) = (layout.outlines ≡ outlines) × IsAccepted outlines i s layout.paths
+IsLaidOut Outlines s i outlines layer = layer ≡ Ok (record { outlines = outlines; paths = []; runs = 0 })
+IsLaidOut Plan s i outlines (Ok layout) = (layout.outlines ≡ outlines) × IsAccepted outlines i s layout.paths layout.runs
 IsLaidOut Plan s i outlines (Err budget) = IsRefusedBy outlines i s budget
 
 -- what is wanted of layer i of a tree, unless its outlines pass a budget

@@ -6,10 +6,10 @@ use Rattle.scad_tree.specs.Solid.{Solid}
 use Rattle.scad_tree.specs.Solids.{AreSolids}
 use Rattle.scad_words.specs.declared.settings.Settings.{Settings}
 use Rattle.scad_words.specs.Settings.{AreInRange}
-use Rattle.cli_text.specs.Cli.{Layer, outlined}
+use Rattle.cli_text.specs.Cli.{Layer}
 use Rattle.slice_work.specs.declared.want.Want.{Want}
 use Rattle.slice_work.specs.declared.want.Want.TheVariants.{Plan}
-use Rattle.slice_work.specs.Part.{Layout, Part, outlines_of, paths_of}
+use Rattle.slice_work.specs.Part.{Layout, Part, outlines_of, hatches_of, paths_of}
 use Rattle.scad_slice.specs.Layer.{IsLayer}
 
 -- Each layer is the tree's, where its leaves bound solids and the settings are in range. Then a tree has one part
@@ -21,9 +21,9 @@ IsPart want s tree part = AreSolids tree → AreInRange s → (i : ℕ) → IsLa
 abbrev pub AreMade : Part → ℕ → Type 0
 AreMade part n = (i : ℕ) → i < n → (layout : Layout) × (part i ≡ Ok layout)
 
--- a layer with the height of its upper surface in micrometres
+-- a layer with the height of its upper surface in micrometres, its outlines, and its infill as hatches
 abbrev pub layer_at : ℕ → Part → ℕ → Layer
-layer_at h part i = outlined (h * (i + 1)) (outlines_of (part i))
+layer_at h part i = record { z = h * (i + 1); loops = outlines_of (part i); hatches = hatches_of (part i) }
 
 -- the first n layers
 abbrev pub layers_of : ℕ → Part → ℕ → List Layer

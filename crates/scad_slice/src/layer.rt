@@ -87,6 +87,7 @@ fn lay_out(
             loops,
             LayerPlan {
                 paths: Vec::new(alloc),
+                runs: 0,
             },
         )),
         Want::Plan => plan_out(alloc, loops, settings, layer),

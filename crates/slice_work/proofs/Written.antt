@@ -12,7 +12,7 @@ use Rattle.slice_work.specs.declared.want.Want.{Want}
 use Rattle.slice_work.specs.declared.want.Want.TheVariants.{Outlines, Plan}
 use Rattle.slice_work.specs.declared.sums.Sums.{Sums}
 use Rattle.slice_work.specs.Part.{Layout}
-use Rattle.slice_work.specs.Script.{AreThere, outline_lines, move_lines, written}
+use Rattle.slice_work.specs.Script.{AreThere, layout_lines, move_lines, written}
 use Rattle.slice_work.specs.Sums.{with_layer}
 
 -- what comes behind a layer's outlines: its moves, where they are wanted, and then a script
@@ -22,7 +22,7 @@ behind Plan rates volume i layout rest = first (Sends Gcode (move_lines rates vo
 
 pub outlines_first : (want : Want) (rates : Rates) (volume i : ℕ) (layout : Layout) (rest : Script)
     → first (written want rates volume i layout) rest
-    ≡ first (Sends Cli (outline_lines rates.layer_height i layout.outlines) ∷ [])
+    ≡ first (Sends Cli (layout_lines rates i layout) ∷ [])
     (behind want rates volume i layout rest)
 outlines_first Outlines rates volume i layout rest = refl
 outlines_first Plan rates volume i layout rest = refl
@@ -42,12 +42,11 @@ pub counts_outlines : (rates : Rates) (i : ℕ) (layout : Layout) (s : Sums)
     → with_layer Outlines rates i layout s
     ≡ record s {
       loops = s.loops + length layout.outlines;
-      cli = s.cli + length
-          (outline_lines rates.layer_height i layout.outlines);
+      cli = s.cli + length (layout_lines rates i layout);
     }
 unfolding paths_volume
 counts_outlines rates i layout s =
-    let lines = outline_lines rates.layer_height i layout.outlines in
+    let lines = layout_lines rates i layout in
     ap (λ (m : ℕ). record {
       loops = s.loops + length layout.outlines;
       moves = m;

@@ -1,16 +1,23 @@
 -- What is drawn of a part, layer by layer.
-use Rattle.std.specs.Prelude.{◌≡◌, ℕ, ◌-◌, List, [], length, sum_by, Result, Ok, Err}
+use Rattle.std.specs.Prelude.{◌≡◌, ℕ, ◌-◌, List, [], drop, length, sum_by, Result, Ok, Err}
 use Rattle.scad_fault.specs.declared.budget.Budget.{Budget}
 use Rattle.scad_geom.specs.declared.point.Pt.{Pt}
+use Rattle.scad_geom.specs.declared.point.Edge.{Edge}
+use Rattle.plan_layer.specs.Moves.{all_moves}
 use Rattle.slice_work.specs.declared.want.Want.{Want}
 use Rattle.slice_work.specs.declared.want.Want.TheVariants.{Outlines, Plan}
 use Rattle.slice_work.specs.declared.layer.LayerEnd.{LayerEnd}
 use Rattle.slice_work.specs.declared.layer.LayerEnd.TheVariants.{Made, Over}
 
--- a layer: its outlines, and the paths along which it is printed
+-- a layer: its outlines, and the paths along which it is printed, the last so many of which are runs of infill
 pub record Layout : Type 0 where
   pub outlines : List (List Pt)
   pub paths : List (List Pt)
+  pub runs : ℕ
+
+-- the moves along the last so many of paths
+abbrev pub last_moves : List (List Pt) → ℕ → List Edge
+last_moves paths runs = all_moves (drop (length paths - runs) paths)
 
 -- each layer is laid out so, or passes this budget
 abbrev pub Part : Type 0
@@ -20,6 +27,12 @@ Part = ℕ → Result Layout Budget
 abbrev pub outlines_of : Result Layout Budget → List (List Pt)
 outlines_of (Ok layout) = layout.outlines
 outlines_of (Err budget) = []
+
+-- the hatches of a layer: the moves along its runs of infill, in their order and directions; none where it passes a
+-- budget
+abbrev pub hatches_of : Result Layout Budget → List Edge
+hatches_of (Ok layout) = last_moves layout.paths layout.runs
+hatches_of (Err budget) = []
 
 -- the paths of a layer, none where it passes a budget, and none where they aren't wanted
 abbrev pub paths_of : Want → Result Layout Budget → List (List Pt)
@@ -33,7 +46,8 @@ move_count paths = sum_by (λ path. length path - 1) paths
 
 -- the work on a layer ends so
 abbrev pub Ends : Result Layout Budget → LayerEnd → Type 0
-Ends (Ok layout) (Made loops plan) = (loops.items ≡ layout.outlines) × (plan.paths.items ≡ layout.paths)
+Ends (Ok layout) (Made loops plan) =
+    (loops.items ≡ layout.outlines) × (plan.paths.items ≡ layout.paths) × (plan.runs ≡ layout.runs)
 Ends (Ok layout) (Over passed) = ⊥
 Ends (Err budget) (Made loops plan) = ⊥
 Ends (Err budget) (Over passed) = passed ≡ budget

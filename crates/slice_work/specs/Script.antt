@@ -15,7 +15,7 @@ use Rattle.gcode_text.specs.Gcode as gcode
 use Rattle.slice_work.specs.declared.want.Want.{Want}
 use Rattle.slice_work.specs.declared.want.Want.TheVariants.{Outlines, Plan}
 use Rattle.slice_work.specs.declared.fault.WorkFault.{WorkFault}
-use Rattle.slice_work.specs.Part.{Layout, Part, paths_of}
+use Rattle.slice_work.specs.Part.{Layout, Part, paths_of, hatches_of}
 
 -- the volume of all moves of the first n layers
 abbrev pub volume_below : Want → Rates → Part → ℕ → ℕ
@@ -33,24 +33,24 @@ abbrev pub AreThere : Want → View → Type 0
 AreThere Outlines v = v.cli.created ≡ true
 AreThere Plan v = (v.cli.created ≡ true) × (v.gcode.created ≡ true)
 
--- the lines of a layer's outlines, under the height of its upper surface
-abbrev pub outline_lines : ℕ → ℕ → List (List Pt) → List ℕ
-outline_lines height i outlines = cli.layer_text (cli.outlined (height * (i + 1)) outlines)
-
 -- the lines of a layer's moves, behind moves of this volume
 abbrev pub move_lines : Rates → ℕ → ℕ → List (List Pt) → List ℕ
 move_lines rates volume i paths = gcode.layer_text rates volume i paths
 
-abbrev pub laid_out : List (List Pt) → List (List Pt) → Layout
-laid_out outlines paths = record { outlines = outlines; paths = paths }
+abbrev pub laid_out : List (List Pt) → List (List Pt) → ℕ → Layout
+laid_out outlines paths runs = record { outlines = outlines; paths = paths; runs = runs }
 
--- the steps that write a layer which is laid out so, behind moves of this volume: its outlines, and then its moves,
--- where they are wanted
+-- the lines of the outlines and hatches of a layer that is laid out so, under the height of its upper surface
+abbrev pub layout_lines : Rates → ℕ → Layout → List ℕ
+layout_lines rates i layout = cli.layer_text
+    (record { z = rates.layer_height * (i + 1); loops = layout.outlines; hatches = hatches_of (Ok layout) })
+
+-- the steps that write a layer which is laid out so, behind moves of this volume: its outlines and hatches, and then its
+-- moves, where they are wanted
 abbrev pub written : Want → Rates → ℕ → ℕ → Layout → List Step
-written Outlines rates volume i layout = Sends Cli (outline_lines rates.layer_height i layout.outlines) ∷ []
+written Outlines rates volume i layout = Sends Cli (layout_lines rates i layout) ∷ []
 written Plan rates volume i layout =
-    Sends Cli (outline_lines rates.layer_height i layout.outlines) ∷ Sends Gcode
-    (move_lines rates volume i layout.paths) ∷ []
+    Sends Cli (layout_lines rates i layout) ∷ Sends Gcode (move_lines rates volume i layout.paths) ∷ []
 
 abbrev pub written_unless : Want → Rates → ℕ → ℕ → Result Layout Budget → Result (List Step) Budget
 written_unless want rates volume i (Ok layout) = Ok (written want rates volume i layout)

@@ -9,31 +9,34 @@ ghost use Rattle.scad_script.specs.Run.{Sound};
 ghost use Rattle.scad_script.specs.Kept.{Keeps};
 ghost use Rattle.gcode_text.specs.Amount.{paths_volume};
 ghost use Rattle.slice_work.specs.Part.{layer_limit, move_count};
-ghost use Rattle.slice_work.specs.Script.{AreRates, AreThere, laid_out, outline_lines, move_lines, written, stopped};
+ghost use Rattle.slice_work.specs.Script.{AreRates, AreThere, laid_out, layout_lines, move_lines, written, stopped};
 ghost use Rattle.slice_work.specs.Sums.{with_layer};
 
 use crate::fault::WorkFault;
+use crate::hatches::last_moves;
 use crate::sums::{Sums, moves_of};
 use crate::want::Want;
 use gcode_text::{Rates, are_few};
 use scad_geom::{Loop, Path};
 use scad_io::{Desk, Failed, Out, write_all};
-use std::alloc::Global;
+use std::alloc::{AllocError, Global};
 
 /// The greatest volume of all moves so far behind which a layer is written, in cubic micrometres. It is more than
 /// 10^12 cubic metres.
 const VOLUME_LIMIT: u128 = 1_000_000_000_000_000_000_000_000_000_000;
 
-/// A layer as it is written: its number, its outlines, and the paths of its moves.
+/// A layer as it is written: its number, its outlines, and the paths of its moves, the last `runs` of which are runs of
+/// infill.
 #[derive(Clone, Copy, Debug)]
 pub struct LaidLayer<'a> {
     pub number: u32,
     pub loops: &'a [Loop],
     pub paths: &'a [Path],
+    pub runs: u64,
 }
 
-/// Writes a layer: the lines of its outlines, and then those of its moves, where they are wanted. What is counted of
-/// the layers so far then counts this one too.
+/// Writes a layer: the lines of its outlines and of its infill, and then those of its moves, where they are wanted. What
+/// is counted of the layers so far then counts this one too.
 pub fn send_layer<D: Desk>(
     alloc: Global,
     want: Want,
@@ -48,13 +51,13 @@ pub fn send_layer<D: Desk>(
     requires there { AreThere want (D.view desk.old) }
 
     ensures carries { Carries (first (written want rates.now sums.volume layer.now.number
-        (laid_out layer.now.loops.now layer.now.paths.now)))
+        (laid_out layer.now.loops.now layer.now.paths.now layer.now.runs)))
         (stopped result) (D.view desk.old) (D.view desk.new) }
     ensures sums { IfOk result (λ s. s ≡ with_layer want rates.now layer.now.number
-        (laid_out layer.now.loops.now layer.now.paths.now) sums) }
+        (laid_out layer.now.loops.now layer.now.paths.now layer.now.runs) sums) }
     ensures kept { Keeps D.files D.view D.faults desk.old desk.new (stopped result) }
 {
-    let cli = send_outlines(alloc, rates, layer.number, layer.loops, desk)?;
+    let cli = send_outlines(alloc, rates, layer, desk)?;
     let Some(sums) = sums.with_outlines(layer.loops.len(), cli) else {
         return Err(WorkFault::Memory);
     };
@@ -64,28 +67,43 @@ pub fn send_layer<D: Desk>(
     }
 }
 
-// Writes the lines of a layer's outlines: how long they are.
+// Writes the lines of a layer's outlines and hatches: how long they are.
 fn send_outlines<D: Desk>(
     alloc: Global,
     rates: &Rates,
-    layer: u32,
-    loops: &[Loop],
+    layer: &LaidLayer,
     desk: &mut D,
 ) -> Result<usize, WorkFault>
     requires rates { AreRates rates.now }
-    requires layer { layer < layer_limit }
+    requires layer { layer.now.number < layer_limit }
     requires sound { Sound (D.view desk.old) }
     requires made { (D.view desk.old).cli.created ≡ true }
 
-    ensures carries { Carries (first (Sends Out.Cli (outline_lines rates.now.layer_height layer loops.now) ∷ []))
+    ensures carries { Carries (first (Sends Out.Cli (layout_lines rates.now layer.now.number
+        (laid_out layer.now.loops.now layer.now.paths.now layer.now.runs)) ∷ []))
         (stopped result) (D.view desk.old) (D.view desk.new) }
-    ensures size { IfOk result (λ n. n ≡ length (outline_lines rates.now.layer_height layer loops.now)) }
+    ensures size { IfOk result (λ n. n ≡ length (layout_lines rates.now layer.now.number
+        (laid_out layer.now.loops.now layer.now.paths.now layer.now.runs))) }
     ensures kept { Keeps D.files D.view D.faults desk.old desk.new (stopped result) }
 {
-    let mut text = Vec::new(alloc);
-    cli_text::write_layer(&mut text, rates.layer_height * (layer + 1), loops, &[])?;
+    let text = outline_text(alloc, rates, layer)?;
     send(desk, Out::Cli, &text)?;
     Ok(text.len())
+}
+
+// The lines of a layer's outlines, and of its runs of infill as hatches.
+fn outline_text(alloc: Global, rates: &Rates, layer: &LaidLayer) -> Result<Vec<u8>, AllocError>
+    requires rates { AreRates rates.now }
+    requires layer { layer.now.number < layer_limit }
+
+    ensures { IfOk result (λ v. v.items ≡ layout_lines rates.now layer.now.number
+        (laid_out layer.now.loops.now layer.now.paths.now layer.now.runs)) }
+{
+    let hatches = last_moves(alloc, layer.paths, layer.runs)?;
+    let height = rates.layer_height * (layer.number + 1);
+    let mut text = Vec::new(alloc);
+    cli_text::write_layer(&mut text, height, layer.loops, &hatches)?;
+    Ok(text)
 }
 
 // Writes the lines of a layer's moves. No memory holds so many points, or is so far through a part, that they can't

@@ -5,6 +5,7 @@
 #![tactic(auto)]
 
 mod fault;
+mod hatches;
 mod layer;
 mod layer_lines;
 mod layer_work;

@@ -93,11 +93,12 @@ fn send_round<D: Desk>(
 {
     let mut sums = sums;
     'layers: for n in 0..round.least {
-        let (loops, paths) = layout_of(round, n);
+        let (loops, paths, runs) = layout_of(round, n);
         let layer = LaidLayer {
             number: round.first + n,
             loops,
             paths,
+            runs,
         };
         sums = send_layer(alloc, want, rates, &layer, sums, desk)?;
     }

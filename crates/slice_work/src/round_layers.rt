@@ -9,13 +9,14 @@ use crate::round::Round;
 use scad_fault::Budget;
 use scad_geom::{Loop, Path};
 
-/// The outlines and the paths of a layer below the least that passes a budget.
-pub fn layout_of(round: &Round, n: u32) -> (&[Loop], &[Path])
+/// The outlines and the paths of a layer below the least that passes a budget, and how many of the last paths are runs of
+/// infill.
+pub fn layout_of(round: &Round, n: u32) -> (&[Loop], &[Path], u64)
     requires whole { IsWhole round.now }
     requires made { n < round.now.least }
 
     ensures { (part : Part) → AreDrawnOf part round.now.done.items
-        → part (round.now.first + n) ≡ Ok (record { outlines = result.0.now; paths = result.1.now }) }
+        → part (round.now.first + n) ≡ Ok (record { outlines = result.0.now; paths = result.1.now; runs = result.2 }) }
 {
     let layer = round.first + n;
     'layers: for drawn in &round.done {
@@ -23,7 +24,11 @@ pub fn layout_of(round: &Round, n: u32) -> (&[Loop], &[Path])
             continue;
         }
         match &drawn.end {
-            LayerEnd::Made(loops, plan) => return (loops.as_slice(), plan.paths.as_slice()),
+            LayerEnd::Made(loops, plan) => return (
+                loops.as_slice(),
+                plan.paths.as_slice(),
+                plan.runs,
+            ),
             LayerEnd::Over(_) => {}
         }
     }

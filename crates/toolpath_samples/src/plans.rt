@@ -3,7 +3,7 @@ ghost use Rattle.std.specs.Prelude.{◌≤◌, IfOk, All};
 ghost use Rattle.scad_geom.specs.Limits.{point_limit};
 ghost use Rattle.scad_geom.specs.Within.{IsWithin};
 
-use plan_layer::plan;
+use plan_layer::{LayerPlan, plan};
 use scad_geom::{Loop, Path, Pt};
 use scad_words::Settings;
 use std::alloc::{AllocError, Global};
@@ -96,8 +96,9 @@ fn is_way(path: &Path, from: Pt, to: Pt) -> bool {
 #[test]
 fn even_layers_have_rows(rt: HostRuntime) -> Result<(), Fail> {
     let alloc = rt.alloc();
-    let paths = plan(alloc, &cube(alloc)?, 0, &USUAL)?.paths;
+    let LayerPlan { paths, runs } = plan(alloc, &cube(alloc)?, 0, &USUAL)?;
     assert_eq!(rt; paths.len(), 3);
+    assert_eq!(rt; runs, 1);
     assert!(rt; is_round(&paths[0], 225, 2775));
     assert!(rt; is_round(&paths[1], 675, 2325));
     assert!(rt; is_way(&paths[2], at(900, 2000), at(2100, 2000)));
@@ -107,8 +108,9 @@ fn even_layers_have_rows(rt: HostRuntime) -> Result<(), Fail> {
 #[test]
 fn odd_layers_have_columns(rt: HostRuntime) -> Result<(), Fail> {
     let alloc = rt.alloc();
-    let paths = plan(alloc, &cube(alloc)?, 1, &USUAL)?.paths;
+    let LayerPlan { paths, runs } = plan(alloc, &cube(alloc)?, 1, &USUAL)?;
     assert_eq!(rt; paths.len(), 3);
+    assert_eq!(rt; runs, 1);
     assert!(rt; is_way(&paths[2], at(2000, 900), at(2000, 2100)));
     Ok(())
 }
@@ -121,8 +123,9 @@ fn holes_have_walls(rt: HostRuntime) -> Result<(), Fail> {
         infill_spacing: 0,
         ..USUAL
     };
-    let paths = plan(alloc, &frame(alloc)?, 0, &settings)?.paths;
+    let LayerPlan { paths, runs } = plan(alloc, &frame(alloc)?, 0, &settings)?;
     assert_eq!(rt; paths.len(), 2);
+    assert_eq!(rt; runs, 0);
     assert!(rt; is_round(&paths[0], 225, 9775));
     let round_hole = [
         at(3907, 3775),
@@ -143,8 +146,9 @@ fn holes_have_walls(rt: HostRuntime) -> Result<(), Fail> {
 fn lines_alternate(rt: HostRuntime) -> Result<(), Fail> {
     let alloc = rt.alloc();
     let settings = Settings { walls: 1, ..USUAL };
-    let paths = plan(alloc, &frame(alloc)?, 0, &settings)?.paths;
+    let LayerPlan { paths, runs } = plan(alloc, &frame(alloc)?, 0, &settings)?;
     assert_eq!(rt; paths.len(), 8);
+    assert_eq!(rt; runs, 6);
     assert!(rt; is_way(&paths[2], at(450, 2000), at(9550, 2000)));
     assert!(rt; is_way(&paths[3], at(9550, 4000), at(6450, 4000)));
     assert!(rt; is_way(&paths[4], at(3550, 4000), at(450, 4000)));

@@ -48,13 +48,16 @@ fn number_of_seeds(alloc: Global, seeds: u64) -> Result<i64, Fail> {
         let settings = roll_settings(&mut dice);
         let layer = dice.roll(2);
         let made = plan(alloc, &outlines, layer, &settings)?;
-        number = check_number(number, &made.paths);
+        number = check_number(number, &made.paths)
+            .wrapping_mul(10_007)
+            .wrapping_add((made.runs % 1_000_000_007) as i64)
+            .rem_euclid(1_000_000_007);
     }
     Ok(number)
 }
 
 #[test]
 fn random_outlines_have_these_plans(rt: HostRuntime) -> Result<(), Fail> {
-    assert_eq!(rt; number_of_seeds(rt.alloc(), 100)?, 890_902_530);
+    assert_eq!(rt; number_of_seeds(rt.alloc(), 100)?, 746_238_029);
     Ok(())
 }

@@ -2,4 +2,5 @@ use Rattle.print_laws.proofs.Prints.{layers_are_printed}
 use Rattle.print_laws.proofs.laws.layers_are_printed.Goals as goal
 
 pub returns : goal.returns
-returns c = layers_are_printed c.plans_are_printed.ensures c.written_texts_say_their_layers.ensures
+returns c =
+    layers_are_printed c.plans_keep_clear.ensures c.plans_are_printed.ensures c.written_texts_say_their_layers.ensures
