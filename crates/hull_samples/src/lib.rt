@@ -3,3 +3,5 @@
 
 #[cfg(test)]
 mod rings;
+#[cfg(test)]
+mod solids;

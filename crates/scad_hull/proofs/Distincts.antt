@@ -20,7 +20,7 @@ module _ {X : Type 0} (c : X → X → Ordering) where
         | Greater ↦ (h.0, put_keeps P xs k h.1 p)
       ]
 
-  all_keeps : (P : X → Type 0) (ks ps : List X) → AllByRecursion P ks → AllByRecursion P ps
+  pub all_keeps : (P : X → Type 0) (ks ps : List X) → AllByRecursion P ks → AllByRecursion P ps
       → AllByRecursion P (with_all c ks ps)
   all_keeps P ks [] h g = h
   all_keeps P ks (p ∷ ps) h g = all_keeps P (insert_key c ks p) ps (put_keeps P ks p h g.0) g.1

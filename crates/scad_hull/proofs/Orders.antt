@@ -11,10 +11,14 @@ use Rattle.scad_hull.specs.Distinct.{distinct, with_all}
 use Rattle.scad_hull.specs.Flat.{flat_cmp}
 use Rattle.scad_hull.specs.Spot.{spot_of, pair_of}
 use Rattle.scad_hull.specs.declared.spot.Spot.{Spot}
+use Rattle.scad_geom.specs.declared.point3.Pt3.{Pt3}
+use Rattle.scad_hull.specs.declared.node.Node.{Node}
+use Rattle.scad_hull.specs.Node.{node_of, point_of}
+use Rattle.scad_hull.specs.Space.{space_cmp}
 
 module _ {X Y : Type 0} (f : X → Y) (c : X → X → Ordering) (d : Y → Y → Ordering)
     (same : (x y : X) → c x y ≡ d (f x) (f y)) where
-  put_same : (ks : List X) (k : X) → map f (insert_key c ks k) ≡ insert_key d (map f ks) (f k)
+  pub put_same : (ks : List X) (k : X) → map f (insert_key c ks k) ≡ insert_key d (map f ks) (f k)
   put_same [] k = refl
   put_same (x ∷ xs) k =
       elim (c k x) as (λ o. d (f k) (f x) ≡ o → map f
@@ -60,3 +64,17 @@ spots_same ps = distinct_same pair_of spot_cmp flat_cmp (λ x y. refl) (map spot
 
 pub spots_sorted : (ss : List Spot) → IsStrictlySortedBy spot_cmp ss → IsStrictlySortedBy flat_cmp (map pair_of ss)
 spots_sorted ss h = sorted_same pair_of spot_cmp flat_cmp (λ x y. refl) ss h
+
+-- ---- points of space
+abbrev pub node_cmp : Node → Node → Ordering
+node_cmp p q = ordering_then (int_cmp p.z q.z) (ordering_then (int_cmp p.y q.y) (int_cmp p.x q.x))
+
+pub points_again : (ps : List Pt3) → map point_of (map node_of ps) ≡ ps
+points_again [] = refl
+points_again (p ∷ ps) = ap (λ qs. p ∷ qs) (points_again ps)
+
+pub nodes_same : (ps : List Pt3) → map point_of (distinct node_cmp (map node_of ps)) ≡ distinct space_cmp ps
+nodes_same ps = distinct_same point_of node_cmp space_cmp (λ x y. refl) (map node_of ps) ∙ ap (distinct space_cmp) (points_again ps)
+
+pub nodes_sorted : (ns : List Node) → IsStrictlySortedBy node_cmp ns → IsStrictlySortedBy space_cmp (map point_of ns)
+nodes_sorted ns h = sorted_same point_of node_cmp space_cmp (λ x y. refl) ns h

@@ -4,4 +4,8 @@ pub mod Ring
 pub mod Distinct
 pub mod Spot
 pub mod Flat
+pub mod Node
+pub mod Space
+pub mod Faces
+pub mod Wrapping
 pub mod Laws

@@ -1,5 +1,5 @@
 //! Laws of the definitions, each carried by the contract of a function that does nothing.
-ghost use Rattle.scad_hull.specs.Laws.{RingsAreConvex, RingsAreOne, RingsHold};
+ghost use Rattle.scad_hull.specs.Laws.{FacesAreConvex, HullsClose, RingsAreConvex, RingsAreOne, RingsHold};
 
 /// The ring that points of the plane have as their hull is the convex ring round them: three or more
 /// of the points, each a corner, counter-clockwise from the lowest and then leftmost, with all points
@@ -21,4 +21,17 @@ pub fn rings_are_one()
 #[tactic(auto, using(crate::proofs::FlatHolds::rings_hold))]
 pub fn rings_hold()
     ensures { RingsHold }
+{}
+
+/// The listed faces of points of space are all the convex rings, clockwise as seen from outside, round all points of a
+/// plane that has no point outside of it, and nothing else.
+#[tactic(auto, using(crate::proofs::Listed::faces_are_convex))]
+pub fn faces_are_convex()
+    ensures { FacesAreConvex }
+{}
+
+/// The solid that points have as their hull is closed.
+#[tactic(auto, using(crate::proofs::Backs::hulls_close))]
+pub fn hulls_close()
+    ensures { HullsClose }
 {}

@@ -1,0 +1,22 @@
+-- The plane that turning finds is a face's, and the face has the side turned round.
+use Rattle.std.proofs.Common.{◌≡◌}
+use Rattle.scad_hull.specs.Faces.{IsFaceOf, GoesOn, face_in}
+use Rattle.scad_hull.proofs.Beyond.{both_ok, face_beyond}
+use Rattle.scad_hull.proofs.NextSides.{back_there}
+use Rattle.scad_hull.proofs.wrapping.face_beyond.Goals as goal
+
+pub returns-clause-face : goal.returns-clause-face
+returns-clause-face c =
+    both_ok (λ f. f.normal ≡ c.outermost-normal.result) (λ f. f.ring.items ≡ face_in c.args.points.now c.args.b c.outermost-normal.result)
+    (IsFaceOf c.args.points.now) c.face_in.result
+    (λ f. face_beyond c.args.points.now c.args.a c.args.b c.args.c c.requires.side c.outermost-normal.result f
+    c.outermost-normal.ensures.turned)
+    c.face_in.ensures.normal c.face_in.ensures.ring
+
+pub returns-clause-back : goal.returns-clause-back
+returns-clause-back c =
+    both_ok (λ f. f.normal ≡ c.outermost-normal.result) (λ f. f.ring.items ≡ face_in c.args.points.now c.args.b c.outermost-normal.result)
+    (λ f. GoesOn f.ring.items c.args.b c.args.a) c.face_in.result
+    (λ f e. back_there c.args.points.now c.requires.sorted c.args.a c.args.b c.args.c c.requires.side c.outermost-normal.result
+    c.outermost-normal.ensures.turned f)
+    c.face_in.ensures.normal c.face_in.ensures.ring
