@@ -10,7 +10,7 @@ pub returns-in-Some-clause-goes : goal.returns-in-Some-clause-goes
 returns-in-Some-clause-goes c = λ h s.
     let e = c.in-Some.ensures in
     c.child.ensures.goes h s _ (children-next h c.args.w.now (items c.args.scope.now.items) (left_in c.args.more)
-    (rest c.args.stack.now) (made_in c.args.stack.now) s e.0 _ (left_in c.in-Some.others) e.1.0 e.1.1)
+    (rest c.args.stack.now) (made_in c.args.stack.now) s e.0 _ (left_in c.in-Some.others) e.1 e.2)
 
 pub returns-in-None-clause-goes : goal.returns-in-None-clause-goes
 unfolding goes_on

@@ -17,7 +17,7 @@ returns c = λ o is.
 
 pub returns-in_err-over : goal.returns-in_err-over
 returns-in_err-over c =
-    let p = err_from_is_err_and c.from_residual-in_err-over.result c.from_residual-in_err-over.ensures.1 in
+    let p = err_from_is_err_and c.from_residual.result c.from_residual.ensures.1 in
     λ o is. rw (p.1, p.2) (λ some. is ∙ variable-stops c.args.variable c.args.w.now (rest c.args.stack.now)
     (made_in c.args.stack.now) (state_of c.args.m.now) (expression_of c.args.value.now) (held c.args.m.now) _
     (state_of c.eval.new.machine) (c.in_err-over.ensures.does some))

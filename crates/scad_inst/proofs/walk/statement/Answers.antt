@@ -22,7 +22,7 @@ returns c =
 
 pub returns-in_err-step : goal.returns-in_err-step
 returns-in_err-step c =
-    let p = err_from_is_err_and c.from_residual-in_err-step.result c.from_residual-in_err-step.ensures.1 in
+    let p = err_from_is_err_and c.from_residual.result c.from_residual.ensures.1 in
     rw (p.1, p.2) (λ some. statement-stops c.args.w.now (item_of c.args.item.now) (held c.args.m.now)
     (state_of c.args.m.now) (state_of c.go_deeper.new.m) (state_of c.step.new.self) _
     (rest c.args.stack.now (held c.args.m.now) (made_in c.args.stack.now))
