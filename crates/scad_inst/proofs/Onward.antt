@@ -1,14 +1,13 @@
 -- What is at work and what follows it, as the parts of a statement begin.
-use Rattle.std.proofs.Common.{◌≡◌, ◌≢◌, ℕ, ◌+◌, ◌-◌, ◌<◌, ◌≤◌, Bool, true, false, if◌then◌else◌, List, [], ◌∷◌, ◌++◌, length, get_or, drop, Option, Some, None, Vec, Global, refl, sym, ap, ap₂, ◌∙◌, arith}
+use Rattle.std.proofs.Common.{◌≡◌, ◌≢◌, ℕ, ◌+◌, ◌-◌, ◌<◌, ◌≤◌, Bool, true, false, if◌then◌else◌, List, [], ◌∷◌, ◌++◌, length, get_or, drop, Option, Some, None, Vec, Global, refl, sym, ap, ap₂, ◌∙◌}
 use Rattle.std.proofs.lemmas.List.{drop_all}
 use Rattle.std.specs.Borrow.{Bor}
 use Rattle.scad_fault.specs.declared.place.Place.{Place}
-use Rattle.scad_ast.specs.declared.expression.Arg.{Arg}
 use Rattle.scad_ast.specs.declared.statement.Item.{Item}
 use Rattle.scad_ast.specs.Scope.{item_of, items}
 use Rattle.scad_ast.specs.Tree.{Items, Arguments, no_arguments, argument, Expression}
 use Rattle.scad_ast.specs.Tree.{Item as TreeItem}
-use Rattle.scad_ast.specs.View.{arguments, expression_of}
+use Rattle.scad_ast.specs.View.{arguments}
 use Rattle.scad_value.specs.Datum.{Datum}
 use Rattle.scad_scope.specs.Env.{Env, children}
 use Rattle.scad_tree.specs.declared.node.Node.{Node}
@@ -39,17 +38,16 @@ use Rattle.scad_inst.specs.declared.work.Focus.TheVariants.{Members, Children, V
 use Rattle.scad_inst.specs.Chosen.{child_named}
 use Rattle.scad_inst.specs.Frames.{below_of, with_depth}
 use Rattle.scad_inst.specs.Made.{judged}
-use Rattle.scad_inst.specs.Meaning.{Below, statements_meaning, statement_layer, node, opened_scope, member, members_from, members, combined, called_own, run_children, chosen, children_by, child, turns, for_variables, program_of}
+use Rattle.scad_inst.specs.Meaning.{statements_meaning, statement_layer, node, opened_scope, member, members_from, members, combined, called_own, run_children, chosen, children_by, child, turns, for_variables, program_of}
 use Rattle.scad_inst.specs.Modules.{Found}
 use Rattle.scad_inst.specs.Near.{NameAlike}
 use Rattle.scad_inst.specs.Operation.{operated}
-use Rattle.scad_inst.specs.Opened.{names_opened}
 use Rattle.scad_inst.specs.Portions.{called_with, own_opened}
 use Rattle.scad_inst.specs.Scopes.{item_place, is_marked}
 use Rattle.scad_inst.specs.Where.{at_first}
 use Rattle.scad_inst.specs.Stack.{Rest, onto, rest_of, listed, ended, goes_on, with_member, left_in}
 use Rattle.scad_inst.proofs.Calls.{own-call}
-use Rattle.scad_inst.proofs.Levels.{expressions-are, statement-some, env_in-depth, along_in-depth}
+use Rattle.scad_inst.proofs.Levels.{expressions-are, statement-some}
 use Rattle.scad_inst.proofs.ScopeFrames.{depth-left}
 
 -- ---- the stack
@@ -412,5 +410,3 @@ module _ (scope : Bor (Vec Item Global)) (h : Held) (s : State) (env : env_in h 
       program-opens
       ∙ ap (λ (x : Outcome Opened). and_then (and_then x (λ o. members_from (statements_meaning depth_limit) at_first
       o.env o.along (items scope.now.items) [])) (λ ss. pure (united ss))) stopped
-
-pub ruleset programs = (program-begins, program-stops)

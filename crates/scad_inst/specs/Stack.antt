@@ -1,5 +1,5 @@
 -- What is left to do, on a stack of its own: what is at work, and the frames that wait for its tree.
-use Rattle.std.specs.Prelude.{◌≡◌, ◌≢◌, ℕ, List, [], ◌∷◌, ◌++◌, drop, Result, Ok, Err, Option, Some, None, Bool, if◌then◌else◌}
+use Rattle.std.specs.Prelude.{◌≡◌, ◌≢◌, List, [], ◌∷◌, ◌++◌, drop, Result, Ok, Err, Option, Some, None, Bool, if◌then◌else◌}
 use Rattle.scad_ast.specs.Scope.{item_of, items}
 use Rattle.scad_ast.specs.View.{arguments}
 use Rattle.scad_ast.specs.Tree.{Item, Items}

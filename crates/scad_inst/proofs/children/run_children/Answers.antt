@@ -1,5 +1,5 @@
 -- The frames of the children's scope are opened, and those that are chosen are at work.
-use Rattle.std.proofs.Common.{ap, sym, ◌∙◌}
+use Rattle.std.proofs.Common.{ap, ◌∙◌}
 use Rattle.scad_ast.specs.Scope.{items}
 use Rattle.scad_scope.specs.Stored.{env_at, envs}
 use Rattle.scad_tree.specs.View.{solids}
