@@ -24,4 +24,4 @@ pub mod Calls
 pub mod MadeTrees
 pub mod Fine
 pub mod NearRange
-pub mod Rounds
+pub mod Onward

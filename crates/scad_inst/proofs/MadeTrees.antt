@@ -19,5 +19,3 @@ opened-env h = refl
 pub opened-along : (h : Held) → (opened_in h).along ≡ along_in h
 unfolding opened_in
 opened-along h = refl
-
-pub ruleset opened_names = (opened-env, opened-along)

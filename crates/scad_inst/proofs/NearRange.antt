@@ -229,7 +229,3 @@ near-alike scope start step end first last some reached enough = record {
       ∙ skip below w env along scope reached.count start step end so_far s some reached.nobody
       ∙ ap (λ l. children_by below w env along scope l so_far s) (sym (items-range start step end));
 }
-
--- the range itself
-pub near-same : (scope : Items) (all : List Datum) → NameAlike scope all all
-near-same scope all = record { alike = λ below w env along so_far s. refl }

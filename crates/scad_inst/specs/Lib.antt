@@ -9,6 +9,7 @@ pub mod Operation
 pub mod Portions
 pub mod FirstFrames
 pub mod Scopes
+pub mod Stack
 pub mod View
 pub mod Where
 pub mod Model

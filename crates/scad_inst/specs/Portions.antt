@@ -5,8 +5,7 @@ use Rattle.scad_fault.specs.declared.fault.FaultKind.{FaultKind}
 use Rattle.scad_ast.specs.Tree.{Arguments, Items}
 use Rattle.scad_value.specs.Datum.{Datum}
 use Rattle.scad_scope.specs.Env.{Env}
-use Rattle.scad_expr.specs.State.{Action, pure, ◌>>=◌, ◌>>◌, step, fault_of}
-use Rattle.scad_expr.specs.Variables.{set, empty}
+use Rattle.scad_expr.specs.State.{Action, pure, ◌>>=◌, ◌>>◌, fault_of}
 use Rattle.scad_expr.specs.Meaning.{values, bound, Opened}
 use Rattle.scad_tree.specs.Solid.{Solid}
 use Rattle.scad_tree.specs.Normal.{subtracted}
@@ -19,15 +18,8 @@ use Rattle.scad_inst.specs.Meaning.{Below, called_own, called_known}
 use Rattle.scad_inst.specs.FlatLeaves.{flat_leaves}
 use Rattle.scad_inst.specs.Made.{leaf, argued, judge_solid, judge_flat, judged}
 use Rattle.scad_inst.specs.Modules.{Found}
-use Rattle.scad_inst.specs.Opened.{names_opened, call_opened, fineness}
+use Rattle.scad_inst.specs.Opened.{call_opened, fineness}
 use Rattle.scad_inst.specs.declared.space.Where.{Where}
-
--- one turn of a variable of a `for`: its step, and what runs inside with the name set
-unfoldable pub turn : Place → List ℕ → (Env → Env → List Solid → Action (List Solid)) → Env → Env → Datum → List Solid
-    → Action (List Solid)
-turn at name inner env along d so_far = do
-  step at
-  inner (names_opened env along (set name d empty)).env (names_opened env along (set name d empty)).along so_far
 
 -- a primitive by the values of its arguments
 unfoldable pub primitive_made : Shape → Place → List ℕ → Where → Env → Env → Arguments → List Datum → Action Solid

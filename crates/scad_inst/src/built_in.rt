@@ -3,17 +3,19 @@
 ghost use Rattle.std.specs.Prelude.{◌≡◌, OnOk};
 ghost use Rattle.scad_ast.specs.Scope.{items};
 ghost use Rattle.scad_ast.specs.View.{arguments};
+ghost use Rattle.scad_tree.specs.Solid.{Solid};
 ghost use Rattle.scad_tree.specs.View.{solid_of};
-ghost use Rattle.scad_value.specs.View.{datum_of, data_of};
+ghost use Rattle.scad_value.specs.View.{data_of};
 ghost use Rattle.scad_modules.specs.View.{fine_at};
 ghost use Rattle.scad_expr.specs.Answers.{Does, nothing};
 ghost use Rattle.scad_expr.specs.Machine.{held, env_in, along_in, state_of};
-ghost use Rattle.scad_expr.specs.State.{State, gives};
+ghost use Rattle.scad_expr.specs.State.{State, Outcome, gives};
 ghost use Rattle.scad_inst.specs.Frames.{below_of};
 ghost use Rattle.scad_inst.specs.Meaning.{built_in};
 ghost use Rattle.scad_inst.specs.Opened.{fineness};
 ghost use Rattle.scad_inst.specs.Made.{judge_solid, judge_flat};
 ghost use Rattle.scad_inst.specs.Portions.{primitive_made, flat_made};
+ghost use Rattle.scad_inst.specs.Stack.{Goes, onward};
 ghost use Rattle.scad_modules.specs.declared.module.Module.TheVariants.{Extrusion as IsExtrusion, Transform as IsTransform, Echo as IsEcho, Assert as IsAssert};
 ghost use Rattle.scad_modules.specs.declared.module.Extrusion.TheVariants.{Linear as IsLinear, Rotate as IsRotate};
 
@@ -24,65 +26,60 @@ use crate::children::children;
 use crate::flat::flat_leaves;
 use crate::leaves::leaf;
 use crate::members::combined;
+use crate::modules::Call;
 use crate::operation::Operation;
 use crate::refusals::fault;
 use crate::space::{Space, Where, inside_linear, turned_at};
+use crate::stack::Stack;
 use crate::trees::made;
-use scad_ast::{Args, Scope};
+use crate::work::Focus;
 use scad_expr::{EvalFault, Machine, asserted};
 use scad_fault::{FaultKind, Place};
 use scad_modules::{
     Extrusion, Fineness, Flat, Module, Shape, Transform, linear_by, matrix_of, outlines_of,
-    primitive_of, turned_by,
+    primitive_of, taken, turned_by,
 };
 use scad_tree::Tree;
 use scad_value::Value;
 use std::alloc::Global;
 
 /// A module of the language, inside its frames.
-#[cycle(run)]
-#[tactic(auto, unfolding(crate::specs::Meaning::built_in, crate::specs::Portions::primitive_made, crate::specs::Portions::flat_made))]
+#[tactic(auto, using(crate::proofs::Onward::nodes), unfolding(crate::specs::Meaning::built_in, crate::specs::Portions::primitive_made, crate::specs::Portions::flat_made, crate::specs::Stack::goes_on))]
 pub(crate) fn built_in<'p>(
-    alloc: Global,
     known: Module,
-    at: Place,
-    name: &'p [u8],
-    w: &Where,
-    args: &'p Args,
+    call: Call<'p>,
     found: &[Value],
-    all: &'p Scope,
+    w: &Where,
+    stack: &mut Stack<'p>,
     m: &mut Machine<'p>,
-) -> Result<Tree, EvalFault>
-    ensures does { Does solid_of (built_in (below_of (held m.old)) known at name.now w.now
-        (env_in (held m.old)) (along_in (held m.old)) (arguments args.now.items) (data_of found.now)
-        (items all.now.items) (state_of m.old)) result (state_of m.new) }
-    ensures kept { OnOk result (held m.new ≡ held m.old) }
+) -> Result<Focus<'p>, EvalFault>
+    ensures { (o : Outcome Solid) → o ≡ onward (built_in (below_of (held m.old)) known call.entry.at
+        call.entry.name.now w.now (env_in (held m.old)) (along_in (held m.old)) (arguments
+        call.entry.args.now.items) (data_of found.now) (items call.entry.all.now.items) (state_of
+        m.old)) stack.old m.old → Goes o result stack.new m.new }
 {
+    let alloc = stack.alloc;
     match known {
-        Module::Shape(shape) => primitive(alloc, shape, at, name, w, args, found, m),
-        Module::Flat(flat) => flat_shape(alloc, flat, at, name, w, args, found, m),
-        Module::Extrusion(Extrusion::Linear) => {
-            linear_extrude(alloc, at, name, w, args, found, all, m)
+        Module::Shape(shape) => Ok(Focus::Given(primitive(alloc, shape, call, found, w, m)?)),
+        Module::Flat(flat) => Ok(Focus::Given(flat_shape(alloc, flat, call, found, w, m)?)),
+        Module::Extrusion(Extrusion::Linear) => linear_extrude(call, found, w, stack, m),
+        Module::Extrusion(Extrusion::Rotate) => rotate_extrude(call, found, w, stack, m),
+        Module::Transform(transform) => transformed(transform, call, found, w, stack, m),
+        Module::Union => combined(Operation::Unite, call.at, call.all, w, stack, m),
+        Module::Difference => combined(Operation::Subtract, call.at, call.all, w, stack, m),
+        Module::Intersection => combined(Operation::Intersect, call.at, call.all, w, stack, m),
+        Module::Children => {
+            children(call.at, taken(Some(0), b"i", call.args, found), w, stack, m)
         }
-        Module::Extrusion(Extrusion::Rotate) => {
-            rotate_extrude(alloc, at, name, w, args, found, all, m)
-        }
-        Module::Transform(transform) => {
-            transformed(alloc, transform, at, name, w, args, found, all, m)
-        }
-        Module::Union => combined(alloc, Operation::Unite, at, w, all, m),
-        Module::Difference => combined(alloc, Operation::Subtract, at, w, all, m),
-        Module::Intersection => combined(alloc, Operation::Intersect, at, w, all, m),
-        Module::Children => children(alloc, at, w, args, found, m),
-        Module::Echo => echo(alloc, at, name, w, args, found, all, m),
-        Module::Assert => assert(alloc, at, name, w, args, found, all, m),
+        Module::Echo => echo(call, found, w, stack, m),
+        Module::Assert => assert(call, found, w, stack, m),
     }
 }
 
 /// `$fn`, `$fa` and `$fs`.
 fn fineness(alloc: Global, m: &Machine) -> Result<Fineness, EvalFault>
-    ensures { Does fine_at (gives (fineness (env_in (held m.now)) (along_in (held m.now))) (state_of m.now)) result
-        (state_of m.now) }
+    ensures { Does fine_at (gives (fineness (env_in (held m.now)) (along_in (held m.now))) (state_of
+        m.now)) result (state_of m.now) }
 {
     let fn_ = m.variable(alloc, b"$fn")?;
     let fa = m.variable(alloc, b"$fa")?;
@@ -119,27 +116,25 @@ fn judge_flat(alloc: Global, at: Place, space: Space) -> Result<(), EvalFault>
 fn primitive<'p>(
     alloc: Global,
     shape: Shape,
-    at: Place,
-    name: &[u8],
-    w: &Where,
-    args: &Args,
+    call: Call<'p>,
     found: &[Value],
+    w: &Where,
     m: &mut Machine<'p>,
 ) -> Result<Tree, EvalFault>
-    ensures does { Does solid_of (primitive_made shape at name.now w.now (env_in (held m.old))
-        (along_in (held m.old)) (arguments args.now.items) (data_of found.now) (state_of m.old)) result
-        (state_of m.new) }
+    ensures does { Does solid_of (primitive_made shape call.entry.at call.entry.name.now w.now
+        (env_in (held m.old)) (along_in (held m.old)) (arguments call.entry.args.now.items) (data_of
+        found.now) (state_of m.old)) result (state_of m.new) }
     ensures kept { OnOk result (held m.new ≡ held m.old) }
 {
-    judge_solid(alloc, at, w.space)?;
+    judge_solid(alloc, call.at, w.space)?;
     let fine = fineness(alloc, m)?;
     let primitive = primitive_argued(
         alloc,
-        at,
-        name,
-        primitive_of(alloc, shape, &fine, args, found),
+        call.at,
+        call.name,
+        primitive_of(alloc, shape, &fine, call.args, found),
     )?;
-    leaf(alloc, at, &primitive, &w.whole, m)
+    leaf(alloc, call.at, &primitive, &w.whole, m)
 }
 
 /// `square`, `circle` and `polygon`.
@@ -147,146 +142,127 @@ fn primitive<'p>(
 fn flat_shape<'p>(
     alloc: Global,
     flat: Flat,
-    at: Place,
-    name: &[u8],
-    w: &Where,
-    args: &Args,
+    call: Call<'p>,
     found: &[Value],
+    w: &Where,
     m: &mut Machine<'p>,
 ) -> Result<Tree, EvalFault>
-    ensures does { Does solid_of (flat_made flat at name.now w.now (env_in (held m.old))
-        (along_in (held m.old)) (arguments args.now.items) (data_of found.now) (state_of m.old)) result
-        (state_of m.new) }
+    ensures does { Does solid_of (flat_made flat call.entry.at call.entry.name.now w.now (env_in
+        (held m.old)) (along_in (held m.old)) (arguments call.entry.args.now.items) (data_of
+        found.now) (state_of m.old)) result (state_of m.new) }
     ensures kept { OnOk result (held m.new ≡ held m.old) }
 {
-    judge_flat(alloc, at, w.space)?;
+    judge_flat(alloc, call.at, w.space)?;
     let fine = fineness(alloc, m)?;
     let outlines = outlines_argued(
         alloc,
-        at,
-        name,
-        outlines_of(alloc, flat, &fine, args, found),
+        call.at,
+        call.name,
+        outlines_of(alloc, flat, &fine, call.args, found),
     )?;
-    let leaves = flat_leaves(alloc, at, name, w, &outlines, m)?;
-    made(alloc, Operation::Subtract, at, leaves)
+    let leaves = flat_leaves(alloc, call.at, call.name, w, &outlines, m)?;
+    made(alloc, Operation::Subtract, call.at, leaves)
 }
 
 /// `linear_extrude`.
-#[cycle(run)]
-#[tactic(auto, unfolding(crate::specs::Meaning::built_in))]
+#[tactic(auto, using(crate::proofs::Onward::nodes), unfolding(crate::specs::Meaning::built_in))]
 fn linear_extrude<'p>(
-    alloc: Global,
-    at: Place,
-    name: &'p [u8],
-    w: &Where,
-    args: &'p Args,
+    call: Call<'p>,
     found: &[Value],
-    all: &'p Scope,
+    w: &Where,
+    stack: &mut Stack<'p>,
     m: &mut Machine<'p>,
-) -> Result<Tree, EvalFault>
-    ensures does { Does solid_of (built_in (below_of (held m.old)) (IsExtrusion IsLinear) at name.now
-        w.now (env_in (held m.old)) (along_in (held m.old)) (arguments args.now.items)
-        (data_of found.now) (items all.now.items) (state_of m.old)) result (state_of m.new) }
-    ensures kept { OnOk result (held m.new ≡ held m.old) }
+) -> Result<Focus<'p>, EvalFault>
+    ensures { (o : Outcome Solid) → o ≡ onward (built_in (below_of (held m.old)) (IsExtrusion
+        IsLinear) call.entry.at call.entry.name.now w.now (env_in (held m.old)) (along_in (held
+        m.old)) (arguments call.entry.args.now.items) (data_of found.now) (items
+        call.entry.all.now.items) (state_of m.old)) stack.old m.old → Goes o result stack.new m.new }
 {
-    judge_solid(alloc, at, w.space)?;
-    let height = height_argued(alloc, at, name, linear_by(args, found))?;
+    judge_solid(stack.alloc, call.at, w.space)?;
+    let height = height_argued(stack.alloc, call.at, call.name, linear_by(call.args, found))?;
     let inner = inside_linear(&w.whole, height);
-    combined(alloc, Operation::Unite, at, &inner, all, m)
+    combined(Operation::Unite, call.at, call.all, &inner, stack, m)
 }
 
 /// `rotate_extrude`.
-#[cycle(run)]
-#[tactic(auto, unfolding(crate::specs::Meaning::built_in))]
+#[tactic(auto, using(crate::proofs::Onward::nodes), unfolding(crate::specs::Meaning::built_in))]
 fn rotate_extrude<'p>(
-    alloc: Global,
-    at: Place,
-    name: &'p [u8],
-    w: &Where,
-    args: &'p Args,
+    call: Call<'p>,
     found: &[Value],
-    all: &'p Scope,
+    w: &Where,
+    stack: &mut Stack<'p>,
     m: &mut Machine<'p>,
-) -> Result<Tree, EvalFault>
-    ensures does { Does solid_of (built_in (below_of (held m.old)) (IsExtrusion IsRotate) at name.now
-        w.now (env_in (held m.old)) (along_in (held m.old)) (arguments args.now.items)
-        (data_of found.now) (items all.now.items) (state_of m.old)) result (state_of m.new) }
-    ensures kept { OnOk result (held m.new ≡ held m.old) }
+) -> Result<Focus<'p>, EvalFault>
+    ensures { (o : Outcome Solid) → o ≡ onward (built_in (below_of (held m.old)) (IsExtrusion
+        IsRotate) call.entry.at call.entry.name.now w.now (env_in (held m.old)) (along_in (held
+        m.old)) (arguments call.entry.args.now.items) (data_of found.now) (items
+        call.entry.all.now.items) (state_of m.old)) stack.old m.old → Goes o result stack.new m.new }
 {
-    judge_solid(alloc, at, w.space)?;
+    let alloc = stack.alloc;
+    judge_solid(alloc, call.at, w.space)?;
     let fine = fineness(alloc, m)?;
-    let resolution = resolution_argued(alloc, at, name, turned_by(&fine, args, found))?;
+    let read = turned_by(&fine, call.args, found);
+    let resolution = resolution_argued(alloc, call.at, call.name, read)?;
     let inner = Where {
         whole: w.whole,
-        space: Space::Turned(turned_at(at, resolution)),
+        space: Space::Turned(turned_at(call.at, resolution)),
     };
-    combined(alloc, Operation::Unite, at, &inner, all, m)
+    combined(Operation::Unite, call.at, call.all, &inner, stack, m)
 }
 
 /// `translate`, `scale`, `rotate`, `mirror` and `multmatrix`.
-#[cycle(run)]
-#[tactic(auto, unfolding(crate::specs::Meaning::built_in))]
+#[tactic(auto, using(crate::proofs::Onward::nodes), unfolding(crate::specs::Meaning::built_in))]
 fn transformed<'p>(
-    alloc: Global,
     transform: Transform,
-    at: Place,
-    name: &'p [u8],
-    w: &Where,
-    args: &'p Args,
+    call: Call<'p>,
     found: &[Value],
-    all: &'p Scope,
+    w: &Where,
+    stack: &mut Stack<'p>,
     m: &mut Machine<'p>,
-) -> Result<Tree, EvalFault>
-    ensures does { Does solid_of (built_in (below_of (held m.old)) (IsTransform transform) at name.now
-        w.now (env_in (held m.old)) (along_in (held m.old)) (arguments args.now.items)
-        (data_of found.now) (items all.now.items) (state_of m.old)) result (state_of m.new) }
-    ensures kept { OnOk result (held m.new ≡ held m.old) }
+) -> Result<Focus<'p>, EvalFault>
+    ensures { (o : Outcome Solid) → o ≡ onward (built_in (below_of (held m.old)) (IsTransform
+        transform) call.entry.at call.entry.name.now w.now (env_in (held m.old)) (along_in (held
+        m.old)) (arguments call.entry.args.now.items) (data_of found.now) (items
+        call.entry.all.now.items) (state_of m.old)) stack.old m.old → Goes o result stack.new m.new }
 {
-    let by = matrix_argued(alloc, at, name, matrix_of(transform, args, found))?;
-    let inner = moved_by(alloc, at, w, &by)?;
-    combined(alloc, Operation::Unite, at, &inner, all, m)
+    let read = matrix_of(transform, call.args, found);
+    let by = matrix_argued(stack.alloc, call.at, call.name, read)?;
+    let inner = moved_by(stack.alloc, call.at, w, &by)?;
+    combined(Operation::Unite, call.at, call.all, &inner, stack, m)
 }
 
 /// `echo`.
-#[cycle(run)]
-#[tactic(auto, unfolding(crate::specs::Meaning::built_in))]
+#[tactic(auto, using(crate::proofs::Onward::nodes), unfolding(crate::specs::Meaning::built_in))]
 fn echo<'p>(
-    alloc: Global,
-    at: Place,
-    name: &'p [u8],
-    w: &Where,
-    args: &'p Args,
+    call: Call<'p>,
     found: &[Value],
-    all: &'p Scope,
+    w: &Where,
+    stack: &mut Stack<'p>,
     m: &mut Machine<'p>,
-) -> Result<Tree, EvalFault>
-    ensures does { Does solid_of (built_in (below_of (held m.old)) IsEcho at name.now w.now
-        (env_in (held m.old)) (along_in (held m.old)) (arguments args.now.items) (data_of found.now)
-        (items all.now.items) (state_of m.old)) result (state_of m.new) }
-    ensures kept { OnOk result (held m.new ≡ held m.old) }
+) -> Result<Focus<'p>, EvalFault>
+    ensures { (o : Outcome Solid) → o ≡ onward (built_in (below_of (held m.old)) IsEcho
+        call.entry.at call.entry.name.now w.now (env_in (held m.old)) (along_in (held m.old))
+        (arguments call.entry.args.now.items) (data_of found.now) (items call.entry.all.now.items)
+        (state_of m.old)) stack.old m.old → Goes o result stack.new m.new }
 {
-    m.echo(alloc, at, args, found)?;
-    combined(alloc, Operation::Unite, at, w, all, m)
+    m.echo(stack.alloc, call.at, call.args, found)?;
+    combined(Operation::Unite, call.at, call.all, w, stack, m)
 }
 
 /// `assert`.
-#[cycle(run)]
-#[tactic(auto, unfolding(crate::specs::Meaning::built_in))]
+#[tactic(auto, using(crate::proofs::Onward::nodes), unfolding(crate::specs::Meaning::built_in))]
 fn assert<'p>(
-    alloc: Global,
-    at: Place,
-    name: &'p [u8],
-    w: &Where,
-    args: &'p Args,
+    call: Call<'p>,
     found: &[Value],
-    all: &'p Scope,
+    w: &Where,
+    stack: &mut Stack<'p>,
     m: &mut Machine<'p>,
-) -> Result<Tree, EvalFault>
-    ensures does { Does solid_of (built_in (below_of (held m.old)) IsAssert at name.now w.now
-        (env_in (held m.old)) (along_in (held m.old)) (arguments args.now.items) (data_of found.now)
-        (items all.now.items) (state_of m.old)) result (state_of m.new) }
-    ensures kept { OnOk result (held m.new ≡ held m.old) }
+) -> Result<Focus<'p>, EvalFault>
+    ensures { (o : Outcome Solid) → o ≡ onward (built_in (below_of (held m.old)) IsAssert
+        call.entry.at call.entry.name.now w.now (env_in (held m.old)) (along_in (held m.old))
+        (arguments call.entry.args.now.items) (data_of found.now) (items call.entry.all.now.items)
+        (state_of m.old)) stack.old m.old → Goes o result stack.new m.new }
 {
-    asserted(alloc, at, args, found)?;
-    combined(alloc, Operation::Unite, at, w, all, m)
+    asserted(stack.alloc, call.at, call.args, found)?;
+    combined(Operation::Unite, call.at, call.all, w, stack, m)
 }

@@ -1,218 +1,133 @@
 //! `children`.
 
-ghost use Rattle.std.specs.Prelude.{◌≡◌, OnOk, Some, [], codes};
+ghost use Rattle.std.specs.Prelude.{◌≡◌, [], IfErr, option_map};
 ghost use Rattle.scad_ast.specs.Scope.{item_of, items};
-ghost use Rattle.scad_ast.specs.View.{arguments};
-ghost use Rattle.scad_tree.specs.View.{solid_of, solids};
+ghost use Rattle.scad_tree.specs.Solid.{Solid};
 ghost use Rattle.scad_scope.specs.Env.{children};
 ghost use Rattle.scad_scope.specs.Stored.{env_at, envs};
-ghost use Rattle.scad_value.specs.Datum.{range};
-ghost use Rattle.scad_value.specs.View.{datum_of, data_of};
-ghost use Rattle.scad_modules.specs.Arguments.{taken};
 ghost use Rattle.scad_modules.specs.View.{datum_in};
-ghost use Rattle.scad_expr.specs.Answers.{Does};
-ghost use Rattle.scad_expr.specs.Machine.{held, env_in, along_in, state_of};
-ghost use Rattle.scad_expr.specs.Runs.{items as run_over};
+ghost use Rattle.scad_expr.specs.declared.fault.EvalFault.TheVariants.{Memory};
+ghost use Rattle.scad_expr.specs.Machine.{Held, held, env_in, along_in, state_of};
+ghost use Rattle.scad_expr.specs.State.{State, Outcome, and_then};
 ghost use Rattle.scad_inst.specs.Frames.{below_of};
-ghost use Rattle.scad_inst.specs.Chosen.{child_named};
 ghost use Rattle.scad_inst.specs.Meaning.{child, children_by, chosen, run_children};
 ghost use Rattle.scad_inst.specs.Modules.{kept_children};
-ghost use Rattle.scad_inst.specs.View.{trees_in};
+ghost use Rattle.scad_inst.specs.Stack.{Goes, Starts, rest, made_in, left_in, listed, onward};
 
 use crate::call_children::kept_children;
-use crate::members::{member, members_from};
-use crate::near::near;
+use crate::members::member;
 use crate::operation::Operation;
+use crate::remainder::{Remainder, naming, next_child};
 use crate::scopes::open_scope;
-use crate::selection::child_named;
 use crate::space::Where;
-use crate::trees::made;
-use scad_ast::{Args, Item, Scope};
-use scad_expr::{EvalFault, Machine, next_number};
+use crate::stack::Stack;
+use crate::work::{Focus, Frame};
+use scad_ast::{Item, Scope};
+use scad_expr::{EvalFault, Machine};
 use scad_fault::Place;
-use scad_modules::taken;
-use scad_num::Num;
 use scad_scope::Kept;
 use scad_tree::Tree;
 use scad_value::Value;
-use std::alloc::Global;
 
 /// `children(i)`.
-#[cycle(run)]
-#[tactic(auto, unfolding(crate::specs::Meaning::run_children))]
+#[tactic(auto, using(crate::proofs::Onward::nodes), unfolding(crate::specs::Meaning::run_children, crate::specs::Stack::goes_on))]
 pub(crate) fn children<'p>(
-    alloc: Global,
     at: Place,
+    which: Option<&Value>,
     w: &Where,
-    args: &'p Args,
-    found: &[Value],
+    stack: &mut Stack<'p>,
     m: &mut Machine<'p>,
-) -> Result<Tree, EvalFault>
-    ensures does { Does solid_of (run_children (below_of (held m.old)) at w.now (along_in (held m.old))
-        (taken (Some 0) (codes "i") (arguments args.now.items) (data_of found.now))
-        (kept_children (env_in (held m.old))) (state_of m.old)) result (state_of m.new) }
-    ensures kept { OnOk result (held m.new ≡ held m.old) }
+) -> Result<Focus<'p>, EvalFault>
+    ensures { (o : Outcome Solid) → o ≡ onward (run_children (below_of (held m.old)) at w.now
+        (along_in (held m.old)) (datum_in which.entry) (kept_children (env_in (held m.old))) (state_of m.old))
+        stack.old m.old → Goes o result stack.new m.new }
 {
     match kept_children(m) {
-        Some(kept) => run_children(alloc, at, w, taken(Some(0), b"i", args, found), kept, m),
-        None => Ok(Tree::empty()),
+        Some(kept) => run_children(at, which, kept, w, stack, m),
+        None => Ok(Focus::Given(Tree::empty())),
     }
 }
 
-/// Runs children in their scope, whose assignments are evaluated anew.
-#[cycle(run)]
-#[tactic(auto, using(crate::proofs::MadeTrees::opened_names), unfolding(crate::specs::Meaning::run_children))]
+/// Children run in their scope, whose assignments are evaluated anew.
+#[tactic(auto, using(crate::proofs::Onward::nodes), unfolding(crate::specs::Meaning::run_children))]
 fn run_children<'p>(
-    alloc: Global,
     at: Place,
-    w: &Where,
     which: Option<&Value>,
     kept: Kept<'p>,
+    w: &Where,
+    stack: &mut Stack<'p>,
     m: &mut Machine<'p>,
-) -> Result<Tree, EvalFault>
-    ensures does { Does solid_of (run_children (below_of (held m.old)) at w.now (along_in (held m.old))
-        (datum_in which.entry) (children (items kept.entry.scope.now.items) (env_at (envs (held m.old).frames) kept.entry.home))
-        (state_of m.old)) result (state_of m.new) }
-    ensures kept { OnOk result (held m.new ≡ held m.old) }
+) -> Result<Focus<'p>, EvalFault>
+    ensures { (o : Outcome Solid) → o ≡ onward (run_children (below_of (held m.old)) at w.now
+        (along_in (held m.old)) (datum_in which.entry) (children (items kept.entry.scope.now.items)
+        (env_at (envs (held m.old).frames) kept.entry.home)) (state_of m.old)) stack.old m.old
+        → Goes o result stack.new m.new }
 {
-    let back = open_scope(alloc, kept.home, kept.scope, m)?;
-    let members = chosen(alloc, w, which, kept.scope, m)?;
-    m.leave(back);
-    made(alloc, Operation::Unite, at, members)
+    let back = open_scope(stack.alloc, kept.home, kept.scope, m)?;
+    let outer = stack.exchange(Vec::new(stack.alloc));
+    stack.push(Frame::Combine(Operation::Unite, at, outer))?;
+    stack.push(Frame::Leave(back))?;
+    Ok(chosen(which, kept.scope, w, stack)?)
 }
 
-/// The members of all children, or of those that a value names.
-#[cycle(run)]
-#[tactic(auto, unfolding(crate::specs::Meaning::chosen))]
+/// All children, or those that the items of a value name.
+#[tactic(auto, using(crate::proofs::Onward::chosen_children))]
 fn chosen<'p>(
-    alloc: Global,
-    w: &Where,
     which: Option<&Value>,
     scope: &'p Scope,
-    m: &mut Machine<'p>,
-) -> Result<Vec<Tree>, EvalFault>
-    ensures does { Does trees_in (chosen (below_of (held m.old)) w.now (env_in (held m.old))
-        (along_in (held m.old)) (items scope.now.items) (datum_in which.entry) (state_of m.old)) result
-        (state_of m.new) }
-    ensures kept { OnOk result (held m.new ≡ held m.old) }
+    w: &Where,
+    stack: &mut Stack<'p>,
+) -> Result<Focus<'p>, EvalFault>
+    requires { made_in stack.old ≡ [] }
+    ensures goes { (h : Held) (s : State) → Starts (and_then (chosen (below_of h) w.now (env_in h) (along_in h)
+        (items scope.now.items) (datum_in which.entry) s) (listed (rest stack.old) h)) result stack.new h s }
+    ensures memory { IfErr result (λ e. e ≡ Memory) }
 {
     match which {
-        Some(value) => chosen_by(alloc, w, value, scope, m),
-        None => members_from(alloc, w, scope, m),
-    }
-}
-
-/// The members of the children that a value's items name.
-#[cycle(run)]
-#[tactic(auto, using(crate::proofs::Rounds::kinds))]
-fn chosen_by<'p>(
-    alloc: Global,
-    w: &Where,
-    value: &Value,
-    scope: &'p Scope,
-    m: &mut Machine<'p>,
-) -> Result<Vec<Tree>, EvalFault>
-    ensures does { Does trees_in (children_by (below_of (held m.old)) w.now (env_in (held m.old))
-        (along_in (held m.old)) (items scope.now.items) (run_over (datum_of value.now)) [] (state_of m.old)) result
-        (state_of m.new) }
-    ensures kept { OnOk result (held m.new ≡ held m.old) }
-{
-    match value {
-        Value::Number(_) => child_by(alloc, w, value, scope, Vec::new(alloc), m),
-        Value::List(all) => children_by(alloc, w, all.as_slice(), scope, m),
-        Value::Range(start, step, end) => {
-            children_in_range(alloc, w, *start, *step, *end, scope, m)
+        Some(value) => {
+            let more = naming(stack.alloc, scope, value)?;
+            Ok(Focus::Children(scope, more, *w))
         }
-        Value::Undef => Ok(Vec::new(alloc)),
-        Value::Bool(_) => Ok(Vec::new(alloc)),
-        Value::Str(_) => Ok(Vec::new(alloc)),
+        None => Ok(Focus::Members(scope, 0, *w)),
     }
 }
 
-/// The members of the children that values name.
-#[cycle(run)]
-fn children_by<'p>(
-    alloc: Global,
-    w: &Where,
-    all: &[Value],
+/// The child that the next value names, and then those that further values name.
+#[tactic(auto, unfolding(crate::specs::Stack::goes_on))]
+pub(crate) fn children_by<'p>(
     scope: &'p Scope,
-    m: &mut Machine<'p>,
-) -> Result<Vec<Tree>, EvalFault>
-    ensures does { Does trees_in (children_by (below_of (held m.old)) w.now (env_in (held m.old))
-        (along_in (held m.old)) (items scope.now.items) (data_of all.now) [] (state_of m.old)) result
-        (state_of m.new) }
-    ensures kept { OnOk result (held m.new ≡ held m.old) }
+    more: Remainder,
+    w: &Where,
+    stack: &mut Stack<'p>,
+) -> Result<Focus<'p>, EvalFault>
+    ensures goes { (h : Held) (s : State) → Starts (and_then (children_by (below_of h) w.now (env_in h) (along_in h)
+        (items scope.now.items) (left_in more) (made_in stack.old) s) (listed (rest stack.old) h)) result stack.new h
+        s }
+    ensures memory { IfErr result (λ e. e ≡ Memory) }
 {
-    let mut so_far = Vec::new(alloc);
-    'values: for value in all {
-        so_far = child_by(alloc, w, value, scope, so_far, m)?;
+    match next_child(scope, more) {
+        Some((named, others)) => child(scope, named, others, w, stack),
+        None => Ok(Focus::Given(Tree::empty())),
     }
-    Ok(so_far)
 }
 
-/// The members of the children that the numbers of a range name, which are sought where children can be.
-#[cycle(run)]
-fn children_in_range<'p>(
-    alloc: Global,
-    w: &Where,
-    start: Num,
-    step: Num,
-    end: Num,
+/// A child that is named is run, and then those that further values name.
+#[tactic(auto, using(crate::proofs::Onward::nodes), unfolding(crate::specs::Meaning::child, crate::specs::Stack::goes_on))]
+fn child<'p>(
     scope: &'p Scope,
-    m: &mut Machine<'p>,
-) -> Result<Vec<Tree>, EvalFault>
-    ensures does { Does trees_in (children_by (below_of (held m.old)) w.now (env_in (held m.old))
-        (along_in (held m.old)) (items scope.now.items) (run_over (range start step end)) [] (state_of m.old)) result
-        (state_of m.new) }
-    ensures kept { OnOk result (held m.new ≡ held m.old) }
-{
-    let (first, last) = near(scope, start, step, end);
-    children_near(alloc, w, first, step, last, scope, m)
-}
-
-/// The members of the children that the numbers of a range name, one by one.
-#[cycle(run)]
-fn children_near<'p>(
-    alloc: Global,
+    named: Option<&'p Item>,
+    others: Remainder,
     w: &Where,
-    start: Num,
-    step: Num,
-    end: Num,
-    scope: &'p Scope,
-    m: &mut Machine<'p>,
-) -> Result<Vec<Tree>, EvalFault>
-    ensures does { Does trees_in (children_by (below_of (held m.old)) w.now (env_in (held m.old))
-        (along_in (held m.old)) (items scope.now.items) (run_over (range start step end)) [] (state_of m.old)) result
-        (state_of m.new) }
-    ensures kept { OnOk result (held m.new ≡ held m.old) }
+    stack: &mut Stack<'p>,
+) -> Result<Focus<'p>, EvalFault>
+    ensures goes { (h : Held) (s : State) (o : Outcome Solid) → o ≡ and_then (and_then (child (below_of h) w.now
+        (env_in h) (along_in h) (option_map (λ i. item_of i.now) named.entry) (made_in stack.old) s)
+        (children_by (below_of h) w.now (env_in h) (along_in h) (items scope.now.items) (left_in others)))
+        (listed (rest stack.old) h) → Starts o result stack.new h s }
+    ensures memory { IfErr result (λ e. e ≡ Memory) }
 {
-    let mut so_far = Vec::new(alloc);
-    let mut next = Some(start);
-    'numbers: while let Some((n, rest)) = next_number(next, step, end) {
-        so_far = child_by(alloc, w, &Value::Number(n), scope, so_far, m)?;
-        next = rest;
-    }
-    Ok(so_far)
-}
-
-/// The members so far, and behind them that of the child that a value names.
-#[cycle(run)]
-#[tactic(auto, unfolding(crate::specs::Meaning::child))]
-fn child_by<'p>(
-    alloc: Global,
-    w: &Where,
-    value: &Value,
-    scope: &'p Scope,
-    so_far: Vec<Tree>,
-    m: &mut Machine<'p>,
-) -> Result<Vec<Tree>, EvalFault>
-    ensures does { Does trees_in (child (below_of (held m.old)) w.now (env_in (held m.old))
-        (along_in (held m.old)) (child_named (items scope.now.items) (datum_of value.now)) (trees_in so_far)
-        (state_of m.old)) result (state_of m.new) }
-    ensures kept { OnOk result (held m.new ≡ held m.old) }
-{
-    match child_named(scope, value) {
-        Some(item) => member(alloc, w, item, so_far, m),
-        None => Ok(so_far),
+    match named {
+        Some(item) => member(item, Focus::Children(scope, others, *w), w, stack),
+        None => Ok(Focus::Children(scope, others, *w)),
     }
 }

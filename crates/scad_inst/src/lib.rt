@@ -19,12 +19,16 @@ mod near;
 mod operation;
 mod programs;
 mod refusals;
+mod remainder;
+mod run;
 mod scopes;
 mod selection;
 mod space;
+mod stack;
 mod trees;
 mod turn;
 mod walk;
+mod work;
 
 pub use answers::{Model, ModelEnd};
 pub use operation::Operation;

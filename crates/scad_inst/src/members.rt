@@ -1,13 +1,17 @@
-//! The trees of the statements of a scope.
+//! The statements of a scope, and the tree of an operation over them.
 
-ghost use Rattle.std.specs.Prelude.{◌≡◌, ◌∷◌, [], ◌++◌, OnOk, if◌then◌else◌};
+ghost use Rattle.std.specs.Prelude.{◌≡◌, true, drop, IfErr};
 ghost use Rattle.scad_ast.specs.Scope.{item_of, items};
-ghost use Rattle.scad_tree.specs.View.{solid_of, solids};
-ghost use Rattle.scad_expr.specs.Answers.{Does};
-ghost use Rattle.scad_expr.specs.Machine.{held, env_in, along_in, state_of};
-ghost use Rattle.scad_expr.specs.State.{State, gives};
+ghost use Rattle.scad_tree.specs.Solid.{Solid};
+ghost use Rattle.scad_expr.specs.declared.fault.EvalFault.TheVariants.{Memory};
+ghost use Rattle.scad_expr.specs.Arguments.{is_statement};
+ghost use Rattle.scad_expr.specs.Machine.{Held, held, env_in, along_in, state_of};
+ghost use Rattle.scad_expr.specs.State.{State, Outcome, and_then};
 ghost use Rattle.scad_inst.specs.Frames.{below_of};
-ghost use Rattle.scad_inst.specs.Meaning.{member, members_from, members, combined};
+ghost use Rattle.scad_inst.specs.Made.{judged};
+ghost use Rattle.scad_inst.specs.Meaning.{member, members_from, combined};
+ghost use Rattle.scad_inst.specs.Operation.{operated};
+ghost use Rattle.scad_inst.specs.Stack.{Goes, Starts, rest, made_in, goes_on, listed, onward};
 ghost use Rattle.scad_inst.specs.View.{trees_in};
 
 use crate::frames::here;
@@ -15,104 +19,104 @@ use crate::item::{is_marked, is_statement};
 use crate::operation::Operation;
 use crate::scopes::open_scope;
 use crate::space::Where;
+use crate::stack::Stack;
 use crate::trees::made;
-use crate::walk::statement;
+use crate::work::{Focus, Frame};
 use scad_ast::{Item, Scope};
 use scad_expr::{EvalFault, Machine};
 use scad_fault::Place;
 use scad_tree::Tree;
-use std::alloc::Global;
 
-/// The members so far, and the tree of a statement behind them unless it is marked `%`.
-#[cycle(run)]
-#[tactic(auto, unfolding(crate::specs::Meaning::member))]
+/// An item is run where it is a statement, and then what comes behind it.
 pub(crate) fn member<'p>(
-    alloc: Global,
-    w: &Where,
     item: &'p Item,
-    so_far: Vec<Tree>,
-    m: &mut Machine<'p>,
-) -> Result<Vec<Tree>, EvalFault>
-    ensures does { Does trees_in (member (below_of (held m.old)) w.now (env_in (held m.old))
-        (along_in (held m.old)) (item_of item.now) (trees_in so_far) (state_of m.old)) result (state_of m.new) }
-    ensures kept { OnOk result (held m.new ≡ held m.old) }
-{
-    if !is_statement(item) {
-        return Ok(so_far);
-    }
-    let tree = statement(alloc, w, item, m)?;
-    with_member(is_marked(item), so_far, tree)
-}
-
-/// The members so far, and a tree behind them unless its statement is marked `%`.
-#[tactic(auto, using(crate::proofs::MadeTrees::trees))]
-fn with_member(marked: bool, so_far: Vec<Tree>, tree: Tree) -> Result<Vec<Tree>, EvalFault>
-    ensures { (s : State) → Does trees_in (gives (if marked then trees_in so_far
-        else trees_in so_far ++ solid_of tree ∷ []) s) result s }
-{
-    if marked {
-        return Ok(so_far);
-    }
-    let mut members = so_far;
-    members.push(tree)?;
-    Ok(members)
-}
-
-/// The members that the statements of a scope give.
-#[cycle(run)]
-pub(crate) fn members_from<'p>(
-    alloc: Global,
+    behind: Focus<'p>,
     w: &Where,
-    scope: &'p [Item],
-    m: &mut Machine<'p>,
-) -> Result<Vec<Tree>, EvalFault>
-    ensures does { Does trees_in (members_from (below_of (held m.old)) w.now (env_in (held m.old))
-        (along_in (held m.old)) (items scope.now) [] (state_of m.old)) result (state_of m.new) }
-    ensures kept { OnOk result (held m.new ≡ held m.old) }
+    stack: &mut Stack<'p>,
+) -> Result<Focus<'p>, EvalFault>
+    ensures goes { (h : Held) (s : State) (o : Outcome Solid) → o ≡ and_then (member (below_of h) w.now (env_in h)
+        (along_in h) (item_of item.now) (made_in stack.old) s) (goes_on behind.entry (rest stack.old) h)
+        → Starts o result stack.new h s }
+    ensures memory { IfErr result (λ e. e ≡ Memory) }
 {
-    let mut so_far = Vec::new(alloc);
-    'items: for item in scope {
-        so_far = member(alloc, w, item, so_far, m)?;
+    if is_statement(item) {
+        run_item(item, behind, w, stack)
+    } else {
+        Ok(behind)
     }
-    Ok(so_far)
 }
 
-/// The members of a scope inside the frame from which names are sought.
-#[cycle(run)]
-#[tactic(auto, using(crate::proofs::MadeTrees::opened_names), unfolding(crate::specs::Meaning::members))]
+/// A statement is run, its tree is a member unless it is marked `%`, and then comes what is behind it.
+fn run_item<'p>(
+    item: &'p Item,
+    behind: Focus<'p>,
+    w: &Where,
+    stack: &mut Stack<'p>,
+) -> Result<Focus<'p>, EvalFault>
+    requires { is_statement (item_of item.now) ≡ true }
+    ensures goes { (h : Held) (s : State) (o : Outcome Solid) → o ≡ and_then (member (below_of h) w.now (env_in h)
+        (along_in h) (item_of item.now) (made_in stack.old) s) (goes_on behind.entry (rest stack.old) h)
+        → Starts o result stack.new h s }
+    ensures memory { IfErr result (λ e. e ≡ Memory) }
+{
+    stack.push(Frame::Then(behind))?;
+    stack.push(Frame::Member(is_marked(item)))?;
+    Ok(Focus::Statement(item, *w))
+}
+
+/// The items of a scope from a number on.
 pub(crate) fn members<'p>(
-    alloc: Global,
-    w: &Where,
     scope: &'p Scope,
-    m: &mut Machine<'p>,
-) -> Result<Vec<Tree>, EvalFault>
-    ensures does { Does trees_in (members (below_of (held m.old)) w.now (items scope.now.items)
-        (env_in (held m.old)) (along_in (held m.old)) (state_of m.old)) result (state_of m.new) }
-    ensures kept { OnOk result (held m.new ≡ held m.old) }
+    next: usize,
+    w: &Where,
+    stack: &mut Stack<'p>,
+) -> Result<Focus<'p>, EvalFault>
+    ensures goes { (h : Held) (s : State) → Starts (and_then (members_from (below_of h) w.now (env_in h)
+        (along_in h) (items (drop next scope.now.items)) (made_in stack.old) s) (listed (rest stack.old) h)) result
+        stack.new h s }
+    ensures memory { IfErr result (λ e. e ≡ Memory) }
 {
-    let home = here(m);
-    let back = open_scope(alloc, home, scope, m)?;
-    let members = members_from(alloc, w, scope, m)?;
-    m.leave(back);
-    Ok(members)
+    if next >= scope.len() {
+        return Ok(Focus::Given(Tree::empty()));
+    }
+    member(&scope[next], Focus::Members(scope, next + 1, *w), w, stack)
 }
 
-/// The tree of an operation over the statements of a scope.
-#[cycle(run)]
-#[tactic(auto, unfolding(crate::specs::Meaning::combined))]
+/// The tree of an operation over the statements of a scope, which is opened inside the frame from which names are
+/// sought.
+#[tactic(auto, using(crate::proofs::Onward::nodes), unfolding(crate::specs::Meaning::combined, crate::specs::Meaning::members))]
 pub(crate) fn combined<'p>(
-    alloc: Global,
     operation: Operation,
     at: Place,
-    w: &Where,
     scope: &'p Scope,
+    w: &Where,
+    stack: &mut Stack<'p>,
     m: &mut Machine<'p>,
-) -> Result<Tree, EvalFault>
-    ensures does { Does solid_of (combined (below_of (held m.old)) operation at w.now
-        (items scope.now.items) (env_in (held m.old)) (along_in (held m.old)) (state_of m.old)) result
-        (state_of m.new) }
-    ensures kept { OnOk result (held m.new ≡ held m.old) }
+) -> Result<Focus<'p>, EvalFault>
+    ensures { (o : Outcome Solid) → o ≡ onward (combined (below_of (held m.old)) operation at w.now
+        (items scope.now.items) (env_in (held m.old)) (along_in (held m.old)) (state_of m.old)) stack.old m.old
+        → Goes o result stack.new m.new }
 {
-    let members = members(alloc, w, scope, m)?;
-    made(alloc, operation, at, members)
+    let home = here(m);
+    let back = open_scope(stack.alloc, home, scope, m)?;
+    let outer = stack.exchange(Vec::new(stack.alloc));
+    stack.push(Frame::Combine(operation, at, outer))?;
+    stack.push(Frame::Leave(back))?;
+    Ok(Focus::Members(scope, 0, *w))
+}
+
+/// The members have their operation.
+#[tactic(auto, using(crate::proofs::Onward::nodes), unfolding(crate::specs::Stack::goes_on))]
+pub(crate) fn made_of<'p>(
+    operation: Operation,
+    at: Place,
+    outer: Vec<Tree>,
+    stack: &mut Stack<'p>,
+    m: &mut Machine<'p>,
+) -> Result<Focus<'p>, EvalFault>
+    ensures { Goes (and_then (judged at (operated operation (made_in stack.old)) (state_of m.old))
+        (rest stack.old (held m.old) (trees_in outer))) result stack.new m.new }
+{
+    let members = stack.exchange(outer);
+    Ok(Focus::Given(made(stack.alloc, operation, at, members)?))
 }

@@ -2,9 +2,9 @@
 
 ghost use Rattle.std.specs.Prelude.{◌≡◌, ◌≤◌, ◌∷◌, [], pos, false, unsigned_abs, codes, IfOk, IfErr};
 ghost use Rattle.scad_num.specs.Number.{most};
-ghost use Rattle.scad_ast.specs.Scope.{program_of};
+ghost use Rattle.scad_ast.specs.Scope.{items, program_of};
 ghost use Rattle.scad_tree.specs.Solid.{Solid};
-ghost use Rattle.scad_tree.specs.View.{solid_of, solids};
+ghost use Rattle.scad_tree.specs.View.{solid_of};
 ghost use Rattle.scad_expr.specs.Answers.{Does};
 ghost use Rattle.scad_inst.specs.Meaning.{means};
 ghost use Rattle.scad_inst.specs.Meaning.{program_of as outcome_of};
@@ -19,14 +19,18 @@ ghost use Rattle.scad_expr.specs.declared.fault.EvalFault.TheVariants.{Memory};
 ghost use Rattle.scad_inst.specs.FirstFrames.{outermost};
 
 use crate::answers::{Model, ModelEnd};
-use crate::members::members;
+use crate::frames::here;
+use crate::run::run;
+use crate::scopes::open_scope;
 use crate::space::at_first;
-use scad_ast::Program;
+use crate::stack::Stack;
+use crate::work::Focus;
+use scad_ast::{Program, Scope};
 use scad_expr::{DEPTH_LIMIT, EvalFault, Machine, STEP_LIMIT};
 use scad_fault::Text;
 use scad_num::Num;
 use scad_scope::Frames;
-use scad_tree::{Tree, unite};
+use scad_tree::Tree;
 use scad_value::Value;
 use std::alloc::Global;
 
@@ -100,16 +104,18 @@ pub(crate) fn first_machine<'p>(alloc: Global) -> Result<Machine<'p>, EvalFault>
     })
 }
 
-/// The tree of a program, in the frames before it.
-#[tactic(auto, unfolding(crate::specs::Meaning::program_of))]
-fn tree_of<'p>(alloc: Global, program: &'p Program, m: &mut Machine<'p>) -> Result<Tree, EvalFault>
+/// The tree of a program, in the frames before it: the frames of its scope are opened, and nothing waits for the
+/// trees of its statements.
+fn tree_of<'p>(alloc: Global, scope: &'p Scope, m: &mut Machine<'p>) -> Result<Tree, EvalFault>
     requires env { env_in (held m.old) ≡ first_env }
     requires along { along_in (held m.old) ≡ first_along }
     requires depth { (held m.old).depth ≡ depth_limit }
-    ensures { Does solid_of (outcome_of (program_of program.now) (state_of m.old)) result (state_of m.new) }
+    ensures { Does solid_of (outcome_of (items scope.now.items) (state_of m.old)) result (state_of m.new) }
 {
-    let members = members(alloc, &at_first(), &program.scope, m)?;
-    Ok(unite(alloc, members)?)
+    let home = here(m);
+    open_scope(alloc, home, scope, m)?;
+    let mut stack = Stack::new(alloc);
+    run(Focus::Members(scope, 0, at_first()), &mut stack, m)
 }
 
 /// What a machine gives that made a tree or not.
@@ -134,7 +140,7 @@ fn made_in<'p>(alloc: Global, program: &'p Program, m: Machine<'p>) -> Result<Mo
     ensures { Makes (means (program_of program.now)) result }
 {
     let mut machine = m;
-    let tree = tree_of(alloc, program, &mut machine);
+    let tree = tree_of(alloc, &program.scope, &mut machine);
     answer(tree, echoes_of(machine))
 }
 

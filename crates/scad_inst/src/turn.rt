@@ -1,234 +1,191 @@
 //! `for`, `intersection_for` and `let`.
 
-ghost use Rattle.std.specs.Prelude.{◌≡◌, OnOk, []};
+ghost use Rattle.std.specs.Prelude.{◌≡◌, ◌<◌, ◌+◌, ◌∷◌, Some, drop, length};
 ghost use Rattle.scad_ast.specs.Scope.{items};
-ghost use Rattle.scad_ast.specs.View.{arguments};
-ghost use Rattle.scad_tree.specs.View.{solid_of, solids};
-ghost use Rattle.scad_value.specs.Datum.{range};
-ghost use Rattle.scad_value.specs.View.{datum_of, data_in};
-ghost use Rattle.scad_expr.specs.Answers.{Does};
+ghost use Rattle.scad_ast.specs.Tree.{no_arguments, argument};
+ghost use Rattle.scad_ast.specs.View.{arguments, expression_of};
+ghost use Rattle.scad_value.specs.View.{datum_of};
+ghost use Rattle.scad_tree.specs.Solid.{Solid};
 ghost use Rattle.scad_expr.specs.Machine.{held, env_in, along_in, state_of};
-ghost use Rattle.scad_expr.specs.Runs.{items as run_over};
+ghost use Rattle.scad_expr.specs.State.{Outcome};
 ghost use Rattle.scad_inst.specs.Frames.{below_of};
 ghost use Rattle.scad_inst.specs.Meaning.{for_variables, let_in, looped, turns};
-ghost use Rattle.scad_inst.specs.Portions.{turn};
-ghost use Rattle.scad_inst.specs.View.{trees_in};
+ghost use Rattle.scad_inst.specs.Stack.{Goes, made_in, left_in, onward, onward_listed};
 
 use crate::frames::open_names;
 use crate::members::combined;
+use crate::modules::{Call, Variable};
 use crate::operation::Operation;
+use crate::remainder::{Remainder, next_value, run_over};
 use crate::space::Where;
-use crate::trees::made;
-use scad_ast::{Arg, Args, Scope};
-use scad_expr::{EvalFault, Machine, eval, items_of, judge_named, judge_variables, next_number};
-use scad_fault::Place;
-use scad_num::Num;
+use crate::stack::Stack;
+use crate::work::{Focus, Frame};
+use scad_ast::{Arg, Expr};
+use scad_expr::{EvalFault, Machine, eval, judge_named, judge_variables};
 use scad_tree::Tree;
 use scad_value::Value;
-use std::alloc::Global;
 
 /// `for` and `intersection_for`.
-#[cycle(run)]
-#[tactic(auto, unfolding(crate::specs::Meaning::looped))]
+#[tactic(auto, using(crate::proofs::Onward::nodes), unfolding(crate::specs::Meaning::looped, crate::specs::Stack::onto, crate::specs::Stack::goes_on))]
 pub(crate) fn looped<'p>(
-    alloc: Global,
     operation: Operation,
-    at: Place,
-    name: &'p [u8],
+    call: Call<'p>,
     w: &Where,
-    args: &'p Args,
-    all: &'p Scope,
+    stack: &mut Stack<'p>,
     m: &mut Machine<'p>,
-) -> Result<Tree, EvalFault>
-    ensures does { Does solid_of (looped (below_of (held m.old)) operation at name.now w.now
-        (env_in (held m.old)) (along_in (held m.old)) (arguments args.now.items) (items all.now.items)
-        (state_of m.old)) result (state_of m.new) }
-    ensures kept { OnOk result (held m.new ≡ held m.old) }
+) -> Result<Focus<'p>, EvalFault>
+    ensures { (o : Outcome Solid) → o ≡ onward (looped (below_of (held m.old)) operation
+        call.entry.at call.entry.name.now w.now (env_in (held m.old)) (along_in (held m.old))
+        (arguments call.entry.args.now.items) (items call.entry.all.now.items) (state_of m.old))
+        stack.old m.old → Goes o result stack.new m.new }
 {
-    judge_variables(alloc, at, name, args)?;
-    let turns = for_variables(alloc, at, w, args, all, Vec::new(alloc), m)?;
-    made(alloc, operation, at, turns)
+    judge_variables(stack.alloc, call.at, call.name, call.args)?;
+    let outer = stack.exchange(Vec::new(stack.alloc));
+    stack.push(Frame::Combine(operation, call.at, outer))?;
+    Ok(Focus::Variables(call, 0, *w))
 }
 
 /// `let`.
-#[cycle(run)]
-#[tactic(auto, using(crate::proofs::Levels::expressions), unfolding(crate::specs::Meaning::let_in))]
+#[tactic(auto, using(crate::proofs::Levels::expressions, crate::proofs::Onward::nodes), unfolding(crate::specs::Meaning::let_in, crate::specs::Stack::onto))]
 pub(crate) fn let_in<'p>(
-    alloc: Global,
-    at: Place,
+    call: Call<'p>,
     w: &Where,
-    args: &'p Args,
-    all: &'p Scope,
+    stack: &mut Stack<'p>,
     m: &mut Machine<'p>,
-) -> Result<Tree, EvalFault>
-    ensures does { Does solid_of (let_in (below_of (held m.old)) at w.now (env_in (held m.old))
-        (along_in (held m.old)) (arguments args.now.items) (items all.now.items) (state_of m.old)) result
-        (state_of m.new) }
-    ensures kept { OnOk result (held m.new ≡ held m.old) }
+) -> Result<Focus<'p>, EvalFault>
+    ensures { (o : Outcome Solid) → o ≡ onward (let_in (below_of (held m.old)) call.entry.at w.now
+        (env_in (held m.old)) (along_in (held m.old)) (arguments call.entry.args.now.items) (items
+        call.entry.all.now.items) (state_of m.old)) stack.old m.old → Goes o result stack.new m.new }
 {
-    judge_named(alloc, at, b"let", args)?;
-    let back = open_names(alloc, args, m)?;
-    let tree = combined(alloc, Operation::Unite, at, w, all, m)?;
-    m.leave(back);
-    Ok(tree)
+    judge_named(stack.alloc, call.at, b"let", call.args)?;
+    let back = open_names(stack.alloc, call.args, m)?;
+    stack.push(Frame::Leave(back))?;
+    combined(Operation::Unite, call.at, call.all, w, stack, m)
 }
 
-/// The trees of the turns of variables, the first of them the outermost.
-#[cycle(run)]
-#[tactic(auto, using(scad_value::proofs::Lists::lists, crate::proofs::Levels::expressions), unfolding(crate::specs::Meaning::for_variables))]
-fn for_variables<'p>(
-    alloc: Global,
-    at: Place,
+/// The variables of a `for` from that of a number on.
+#[tactic(auto, using(scad_value::proofs::Lists::lists))]
+pub(crate) fn variables<'p>(
+    call: Call<'p>,
+    next: usize,
     w: &Where,
-    args: &'p [Arg],
-    all: &'p Scope,
-    so_far: Vec<Tree>,
+    stack: &mut Stack<'p>,
     m: &mut Machine<'p>,
-) -> Result<Vec<Tree>, EvalFault>
-    ensures does { Does trees_in (for_variables (below_of (held m.old)) at w.now (arguments args.now)
-        (items all.now.items) (env_in (held m.old)) (along_in (held m.old)) (trees_in so_far) (state_of m.old))
-        result (state_of m.new) }
-    ensures kept { OnOk result (held m.new ≡ held m.old) }
+) -> Result<Focus<'p>, EvalFault>
+    ensures { Goes (onward_listed (for_variables (below_of (held m.old)) call.entry.at w.now
+        (arguments (drop next call.entry.args.now.items)) (items call.entry.all.now.items) (env_in
+        (held m.old)) (along_in (held m.old)) (made_in stack.old) (state_of m.old)) stack.old m.old)
+        result stack.new m.new }
 {
-    let [first, more @ ..] = args else {
-        return one_turn(alloc, at, w, all, so_far, m);
-    };
+    if next >= call.args.len() {
+        return innermost(call, w, stack, m);
+    }
+    variable(call, next, &call.args[next], w, stack, m)
+}
+
+/// In a turn of all variables the children are run as one scope, and their tree is a member.
+fn innermost<'p>(
+    call: Call<'p>,
+    w: &Where,
+    stack: &mut Stack<'p>,
+    m: &mut Machine<'p>,
+) -> Result<Focus<'p>, EvalFault>
+    ensures { (o : Outcome Solid) → o ≡ onward_listed (for_variables (below_of (held m.old))
+        call.entry.at w.now no_arguments (items call.entry.all.now.items) (env_in (held m.old))
+        (along_in (held m.old)) (made_in stack.old) (state_of m.old)) stack.old m.old → Goes o
+        result stack.new m.new }
+{
+    stack.push(Frame::Member(false))?;
+    combined(Operation::Unite, call.at, call.all, w, stack, m)
+}
+
+/// The variable that an argument names, which is outside of those behind it.
+fn variable<'p>(
+    call: Call<'p>,
+    at: usize,
+    first: &'p Arg,
+    w: &Where,
+    stack: &mut Stack<'p>,
+    m: &mut Machine<'p>,
+) -> Result<Focus<'p>, EvalFault>
+    requires { at < length call.args.now.items }
+    ensures { (o : Outcome Solid) → o ≡ onward_listed (for_variables (below_of (held m.old))
+        call.entry.at w.now (argument first.now.name (expression_of first.now.value) (arguments
+        (drop (at + 1) call.entry.args.now.items))) (items call.entry.all.now.items) (env_in (held
+        m.old)) (along_in (held m.old)) (made_in stack.old) (state_of m.old)) stack.old m.old → Goes
+        o result stack.new m.new }
+{
+    let next = at + 1;
     match &first.name {
         Some(name) => {
-            let over = eval(alloc, &first.value, m)?;
-            turns(alloc, at, name.as_slice(), over, w, more, all, so_far, m)
+            let name = name.as_slice();
+            named(Variable { call, name, next }, &first.value, w, stack, m)
         }
-        None => for_variables(alloc, at, w, more, all, so_far, m),
+        None => Ok(Focus::Variables(call, next, *w)),
     }
 }
 
-/// The tree of the children in a turn of all variables.
-#[cycle(run)]
-#[tactic(auto, using(crate::proofs::MadeTrees::trees), unfolding(crate::specs::Meaning::for_variables))]
-fn one_turn<'p>(
-    alloc: Global,
-    at: Place,
+/// What a variable runs over is evaluated.
+fn named<'p>(
+    variable: Variable<'p>,
+    value: &'p Expr,
     w: &Where,
-    all: &'p Scope,
-    so_far: Vec<Tree>,
+    stack: &mut Stack<'p>,
     m: &mut Machine<'p>,
-) -> Result<Vec<Tree>, EvalFault>
-    ensures does { Does trees_in (for_variables (below_of (held m.old)) at w.now (arguments [])
-        (items all.now.items) (env_in (held m.old)) (along_in (held m.old)) (trees_in so_far) (state_of m.old))
-        result (state_of m.new) }
-    ensures kept { OnOk result (held m.new ≡ held m.old) }
+) -> Result<Focus<'p>, EvalFault>
+    ensures { (o : Outcome Solid) → o ≡ onward_listed (for_variables (below_of (held m.old))
+        variable.entry.call.at w.now (argument (Some variable.entry.name.now) (expression_of
+        value.now) (arguments (drop variable.entry.next variable.entry.call.args.now.items))) (items
+        variable.entry.call.all.now.items) (env_in (held m.old)) (along_in (held m.old)) (made_in
+        stack.old) (state_of m.old)) stack.old m.old → Goes o result stack.new m.new }
 {
-    let tree = combined(alloc, Operation::Unite, at, w, all, m)?;
-    let mut trees = so_far;
-    trees.push(tree)?;
-    Ok(trees)
+    let over = eval(stack.alloc, value, m)?;
+    let more = run_over(stack.alloc, over)?;
+    Ok(Focus::Turns(variable, more, *w))
 }
 
-/// The turns of a variable over what a value runs over.
-#[cycle(run)]
-fn turns<'p>(
-    alloc: Global,
-    at: Place,
-    name: &'p [u8],
-    over: Value,
+/// The turns of a variable that are left.
+#[tactic(auto, using(crate::proofs::Onward::turned), unfolding(crate::specs::Stack::goes_on))]
+pub(crate) fn turns<'p>(
+    variable: Variable<'p>,
+    more: Remainder,
     w: &Where,
-    more: &'p [Arg],
-    all: &'p Scope,
-    so_far: Vec<Tree>,
+    stack: &mut Stack<'p>,
     m: &mut Machine<'p>,
-) -> Result<Vec<Tree>, EvalFault>
-    ensures does { Does trees_in (turns (below_of (held m.old)) at name.now (for_variables (below_of (held m.old)) at
-        w.now (arguments more.now) (items all.now.items)) (env_in (held m.old)) (along_in (held m.old))
-        (run_over (datum_of over)) (trees_in so_far) (state_of m.old)) result (state_of m.new) }
-    ensures kept { OnOk result (held m.new ≡ held m.old) }
+) -> Result<Focus<'p>, EvalFault>
+    ensures { Goes (onward_listed (turns (below_of (held m.old)) variable.entry.call.at
+        variable.entry.name.now (for_variables (below_of (held m.old)) variable.entry.call.at w.now
+        (arguments (drop variable.entry.next variable.entry.call.args.now.items)) (items
+        variable.entry.call.all.now.items)) (env_in (held m.old)) (along_in (held m.old)) (left_in
+        more) (made_in stack.old) (state_of m.old)) stack.old m.old) result stack.new m.new }
 {
-    match over {
-        Value::Range(start, step, end) => {
-            turns_in_range(alloc, at, name, start, step, end, w, more, all, so_far, m)
-        }
-        over => {
-            let values = items_of(alloc, over)?;
-            turns_over(alloc, at, name, values, w, more, all, so_far, m)
-        }
+    match next_value(stack.alloc, more)? {
+        Some((value, more)) => turn(variable, value, more, w, stack, m),
+        None => Ok(Focus::Given(Tree::empty())),
     }
 }
 
-/// The turns over the numbers of a range, which are made one by one.
-#[cycle(run)]
-fn turns_in_range<'p>(
-    alloc: Global,
-    at: Place,
-    name: &'p [u8],
-    start: Num,
-    step: Num,
-    end: Num,
-    w: &Where,
-    more: &'p [Arg],
-    all: &'p Scope,
-    before: Vec<Tree>,
-    m: &mut Machine<'p>,
-) -> Result<Vec<Tree>, EvalFault>
-    ensures does { Does trees_in (turns (below_of (held m.old)) at name.now (for_variables (below_of (held m.old)) at
-        w.now (arguments more.now) (items all.now.items)) (env_in (held m.old)) (along_in (held m.old))
-        (run_over (range start step end)) (trees_in before) (state_of m.old)) result (state_of m.new) }
-    ensures kept { OnOk result (held m.new ≡ held m.old) }
-{
-    let mut so_far = before;
-    let mut next = Some(start);
-    'numbers: while let Some((n, rest)) = next_number(next, step, end) {
-        so_far = turn(alloc, at, name, Value::Number(n), w, more, all, so_far, m)?;
-        next = rest;
-    }
-    Ok(so_far)
-}
-
-/// The turns over values.
-#[cycle(run)]
-fn turns_over<'p>(
-    alloc: Global,
-    at: Place,
-    name: &'p [u8],
-    values: Vec<Value>,
-    w: &Where,
-    more: &'p [Arg],
-    all: &'p Scope,
-    before: Vec<Tree>,
-    m: &mut Machine<'p>,
-) -> Result<Vec<Tree>, EvalFault>
-    ensures does { Does trees_in (turns (below_of (held m.old)) at name.now (for_variables (below_of (held m.old)) at
-        w.now (arguments more.now) (items all.now.items)) (env_in (held m.old)) (along_in (held m.old))
-        (data_in values) (trees_in before) (state_of m.old)) result (state_of m.new) }
-    ensures kept { OnOk result (held m.new ≡ held m.old) }
-{
-    let mut so_far = before;
-    'values: for value in values {
-        so_far = turn(alloc, at, name, value, w, more, all, so_far, m)?;
-    }
-    Ok(so_far)
-}
-
-/// A turn of a variable with one value.
-#[cycle(run)]
-#[tactic(auto, unfolding(crate::specs::Portions::turn))]
+/// A turn of a variable: a step at the `for`, and then the variables behind it, with the name set in a frame of its
+/// own.
+#[tactic(auto, using(crate::proofs::Onward::nodes))]
 fn turn<'p>(
-    alloc: Global,
-    at: Place,
-    name: &'p [u8],
+    variable: Variable<'p>,
     value: Value,
+    more: Remainder,
     w: &Where,
-    more: &'p [Arg],
-    all: &'p Scope,
-    so_far: Vec<Tree>,
+    stack: &mut Stack<'p>,
     m: &mut Machine<'p>,
-) -> Result<Vec<Tree>, EvalFault>
-    ensures does { Does trees_in (turn at name.now (for_variables (below_of (held m.old)) at w.now
-        (arguments more.now) (items all.now.items)) (env_in (held m.old)) (along_in (held m.old)) (datum_of value)
-        (trees_in so_far) (state_of m.old)) result (state_of m.new) }
-    ensures kept { OnOk result (held m.new ≡ held m.old) }
+) -> Result<Focus<'p>, EvalFault>
+    ensures { (o : Outcome Solid) → o ≡ onward_listed (turns (below_of (held m.old))
+        variable.entry.call.at variable.entry.name.now (for_variables (below_of (held m.old))
+        variable.entry.call.at w.now (arguments (drop variable.entry.next
+        variable.entry.call.args.now.items)) (items variable.entry.call.all.now.items)) (env_in
+        (held m.old)) (along_in (held m.old)) (datum_of value ∷ left_in more) (made_in stack.old)
+        (state_of m.old)) stack.old m.old → Goes o result stack.new m.new }
 {
-    m.step(at)?;
-    let back = m.open_with(name, value)?;
-    let now = for_variables(alloc, at, w, more, all, so_far, m)?;
-    m.leave(back);
-    Ok(now)
+    m.step(variable.call.at)?;
+    stack.push(Frame::Then(Focus::Turns(variable, more, *w)))?;
+    let back = m.open_with(variable.name, value)?;
+    stack.push(Frame::Leave(back))?;
+    Ok(Focus::Variables(variable.call, variable.next, *w))
 }

@@ -1,134 +1,154 @@
 //! Statements.
 
-ghost use Rattle.std.specs.Prelude.{◌≡◌, OnOk, if◌then◌else◌};
+ghost use Rattle.std.specs.Prelude.{◌≡◌, Bool, if◌then◌else◌};
 ghost use Rattle.scad_ast.specs.Scope.{item_of, body_of, items};
 ghost use Rattle.scad_ast.specs.Tree.{choice};
 ghost use Rattle.scad_ast.specs.View.{expression_of};
-ghost use Rattle.scad_tree.specs.Solid.{nothing};
+ghost use Rattle.scad_tree.specs.Solid.{Solid, nothing};
 ghost use Rattle.scad_tree.specs.View.{solid_of};
-ghost use Rattle.scad_expr.specs.Answers.{Does};
 ghost use Rattle.scad_expr.specs.Machine.{held, env_in, along_in, state_of};
+ghost use Rattle.scad_expr.specs.State.{Outcome};
 ghost use Rattle.scad_inst.specs.Frames.{below_of};
-ghost use Rattle.scad_inst.specs.Meaning.{node, statement_layer};
+ghost use Rattle.scad_inst.specs.Meaning.{node};
+ghost use Rattle.scad_inst.specs.Stack.{Goes, onward};
 
 use crate::call::call;
-use crate::frames::{depth, go_back, go_deeper};
+use crate::frames::{depth, go_deeper};
 use crate::item::{is_marked, item_place};
 use crate::members::combined;
+use crate::modules::Call;
 use crate::operation::Operation;
 use crate::refusals::over;
 use crate::space::Where;
+use crate::stack::Stack;
+use crate::work::{Focus, Frame};
 use scad_ast::{Expr, Item, Scope, Stmt, StmtBody};
 use scad_expr::{EvalFault, Machine, eval};
-use scad_fault::BudgetKind;
+use scad_fault::{BudgetKind, Place};
 use scad_tree::Tree;
 use scad_value::truth;
-use std::alloc::Global;
 
-/// The tree of a statement, with the levels of depth that the machine has left for it.
-#[cycle(run)]
-#[tactic(auto, using(crate::proofs::Levels::levels, crate::proofs::Levels::back), unfolding(scad_expr::specs::State::over))]
+/// A statement takes a step as it begins, with the levels of depth that the machine has left for it, and what it
+/// holds or calls stands one deeper.
+#[tactic(auto, using(crate::proofs::Levels::levels), unfolding(scad_expr::specs::State::over))]
 pub(crate) fn statement<'p>(
-    alloc: Global,
-    w: &Where,
     item: &'p Item,
+    w: &Where,
+    stack: &mut Stack<'p>,
     m: &mut Machine<'p>,
-) -> Result<Tree, EvalFault>
-    ensures does { Does solid_of ((below_of (held m.old)).statement w.now (env_in (held m.old))
-        (along_in (held m.old)) (item_of item.now) (state_of m.old)) result (state_of m.new) }
-    ensures kept { OnOk result (held m.new ≡ held m.old) }
+) -> Result<Focus<'p>, EvalFault>
+    ensures { Goes (onward ((below_of (held m.old)).statement w.now (env_in (held m.old)) (along_in
+        (held m.old)) (item_of item.now) (state_of m.old)) stack.old m.old) result stack.new m.new }
 {
+    let at = item_place(item);
     let depth = depth(m);
     if depth == 0 {
-        return Err(over(BudgetKind::Depth, item_place(item)));
+        return Err(over(BudgetKind::Depth, at));
     }
     go_deeper(m);
-    let tree = layer(alloc, w, item, m)?;
-    go_back(depth, m);
-    Ok(tree)
-}
-
-/// A statement takes a step as it begins; marked `%` it is evaluated and gives nothing.
-#[cycle(run)]
-#[tactic(auto, unfolding(crate::specs::Meaning::statement_layer))]
-fn layer<'p>(
-    alloc: Global,
-    w: &Where,
-    item: &'p Item,
-    m: &mut Machine<'p>,
-) -> Result<Tree, EvalFault>
-    ensures does { Does solid_of (statement_layer (below_of (held m.old)) w.now (env_in (held m.old))
-        (along_in (held m.old)) (item_of item.now) (state_of m.old)) result (state_of m.new) }
-    ensures kept { OnOk result (held m.new ≡ held m.old) }
-{
-    m.step(item_place(item))?;
-    let tree = node(alloc, w, item, m)?;
-    Ok(unless_marked(is_marked(item), tree))
+    m.step(at)?;
+    stack.push(Frame::Mark(is_marked(item), depth))?;
+    node(item, w, stack, m)
 }
 
 /// The tree, unless its statement is marked `%`.
-fn unless_marked(marked: bool, tree: Tree) -> Tree
+pub(crate) fn unless_marked(marked: bool, tree: Tree) -> Tree
     ensures { solid_of result ≡ (if marked then nothing else solid_of tree) }
 {
     if marked { Tree::empty() } else { tree }
 }
 
 /// Definitions and assignments aren't run.
-#[cycle(run)]
-#[tactic(auto, using(crate::proofs::Items::kinds), unfolding(crate::specs::Meaning::node))]
+#[tactic(auto, using(crate::proofs::Items::kinds), unfolding(crate::specs::Meaning::node, crate::specs::Stack::goes_on))]
 fn node<'p>(
-    alloc: Global,
-    w: &Where,
     item: &'p Item,
+    w: &Where,
+    stack: &mut Stack<'p>,
     m: &mut Machine<'p>,
-) -> Result<Tree, EvalFault>
-    ensures does { Does solid_of (node (below_of (held m.old)) w.now (env_in (held m.old))
-        (along_in (held m.old)) (item_of item.now) (state_of m.old)) result (state_of m.new) }
-    ensures kept { OnOk result (held m.new ≡ held m.old) }
+) -> Result<Focus<'p>, EvalFault>
+    ensures { (o : Outcome Solid) → o ≡ onward (node (below_of (held m.old)) w.now (env_in (held
+        m.old)) (along_in (held m.old)) (item_of item.now) (state_of m.old)) stack.old m.old → Goes
+        o result stack.new m.new }
 {
     match item {
-        Item::Run(stmt) => run(alloc, w, stmt, m),
-        Item::Assign(_, _, _) => Ok(Tree::empty()),
-        Item::Module(_, _, _, _) => Ok(Tree::empty()),
-        Item::Function(_, _, _, _) => Ok(Tree::empty()),
+        Item::Run(stmt) => run(stmt, w, stack, m),
+        Item::Assign(_, _, _) => Ok(Focus::Given(Tree::empty())),
+        Item::Module(_, _, _, _) => Ok(Focus::Given(Tree::empty())),
+        Item::Function(_, _, _, _) => Ok(Focus::Given(Tree::empty())),
     }
 }
 
 /// One arm for each kind of statement.
-#[cycle(run)]
-fn run<'p>(alloc: Global, w: &Where, stmt: &'p Stmt, m: &mut Machine<'p>) -> Result<Tree, EvalFault>
-    ensures does { Does solid_of (node (below_of (held m.old)) w.now (env_in (held m.old))
-        (along_in (held m.old)) (body_of stmt.now.at stmt.now.percent stmt.now.hash stmt.now.body)
-        (state_of m.old)) result (state_of m.new) }
-    ensures kept { OnOk result (held m.new ≡ held m.old) }
+fn run<'p>(
+    stmt: &'p Stmt,
+    w: &Where,
+    stack: &mut Stack<'p>,
+    m: &mut Machine<'p>,
+) -> Result<Focus<'p>, EvalFault>
+    ensures { (o : Outcome Solid) → o ≡ onward (node (below_of (held m.old)) w.now (env_in (held
+        m.old)) (along_in (held m.old)) (body_of stmt.now.at stmt.now.percent stmt.now.hash
+        stmt.now.body) (state_of m.old)) stack.old m.old → Goes o result stack.new m.new }
 {
     match &stmt.body {
-        StmtBody::Call(name, args, all) => call(alloc, stmt, name.as_slice(), w, args, all, m),
-        StmtBody::If(test, held, other) => choice(alloc, stmt, w, test, held, other, m),
+        StmtBody::Call(name, args, all) => {
+            let name = name.as_slice();
+            let at = stmt.at;
+            call(
+                Call {
+                    at,
+                    name,
+                    args,
+                    all,
+                },
+                w,
+                stack,
+                m,
+            )
+        }
+        StmtBody::If(test, held, other) => {
+            let at = stmt.at;
+            choose(
+                Choice {
+                    at,
+                    test,
+                    held,
+                    other,
+                },
+                w,
+                stack,
+                m,
+            )
+        }
     }
 }
 
 /// `if (test) held else other`
-#[cycle(run)]
-#[tactic(auto, using(crate::proofs::Levels::expressions), unfolding(crate::specs::Meaning::node))]
-fn choice<'p>(
-    alloc: Global,
-    stmt: &'p Stmt,
-    w: &Where,
+#[derive(Clone, Copy)]
+struct Choice<'p> {
+    at: Place,
     test: &'p Expr,
-    held_scope: &'p Scope,
+    held: &'p Scope,
     other: &'p Scope,
+}
+
+/// The test, and then the chosen statements as one scope.
+#[tactic(auto, using(crate::proofs::Levels::expressions, crate::proofs::Onward::nodes), unfolding(crate::specs::Meaning::node))]
+fn choose<'p>(
+    branch: Choice<'p>,
+    w: &Where,
+    stack: &mut Stack<'p>,
     m: &mut Machine<'p>,
-) -> Result<Tree, EvalFault>
-    ensures does { Does solid_of (node (below_of (held m.old)) w.now (env_in (held m.old))
-        (along_in (held m.old)) (choice stmt.now.at stmt.now.percent stmt.now.hash (expression_of test.now)
-        (items held_scope.now.items) (items other.now.items)) (state_of m.old)) result (state_of m.new) }
-    ensures kept { OnOk result (held m.new ≡ held m.old) }
+) -> Result<Focus<'p>, EvalFault>
+    ensures { (percent hash : Bool) (o : Outcome Solid) → o ≡ onward (node (below_of (held m.old))
+        w.now (env_in (held m.old)) (along_in (held m.old)) (choice branch.entry.at percent hash
+        (expression_of branch.entry.test.now) (items branch.entry.held.now.items) (items
+        branch.entry.other.now.items)) (state_of m.old)) stack.old m.old → Goes o result stack.new
+        m.new }
 {
-    let d = eval(alloc, test, m)?;
+    let d = eval(stack.alloc, branch.test, m)?;
     if truth(&d) {
-        combined(alloc, Operation::Unite, stmt.at, w, held_scope, m)
+        combined(Operation::Unite, branch.at, branch.held, w, stack, m)
     } else {
-        combined(alloc, Operation::Unite, stmt.at, w, other, m)
+        combined(Operation::Unite, branch.at, branch.other, w, stack, m)
     }
 }

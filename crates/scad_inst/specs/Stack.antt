@@ -1,0 +1,120 @@
+-- What is left to do, on a stack of its own: what is at work, and the frames that wait for its tree.
+use Rattle.std.specs.Prelude.{◌≡◌, ◌≢◌, List, [], ◌∷◌, ◌++◌, drop, Result, Ok, Err, Option, Some, None, Bool, if◌then◌else◌}
+use Rattle.scad_ast.specs.Scope.{item_of, items}
+use Rattle.scad_ast.specs.View.{arguments}
+use Rattle.scad_ast.specs.Tree.{Item, Items}
+use Rattle.scad_value.specs.Datum.{Datum}
+use Rattle.scad_value.specs.View.{data_of}
+use Rattle.scad_tree.specs.Normal.{united}
+use Rattle.scad_tree.specs.Solid.{Solid, nothing}
+use Rattle.scad_tree.specs.View.{solid_of, solids}
+use Rattle.scad_expr.specs.declared.fault.EvalFault.{EvalFault}
+use Rattle.scad_expr.specs.declared.fault.EvalFault.TheVariants.{Memory}
+use Rattle.scad_expr.specs.declared.machine.Machine.{Machine}
+use Rattle.scad_expr.specs.Machine.{Held, held, env_in, along_in, state_of}
+use Rattle.scad_expr.specs.Opened.{left}
+use Rattle.scad_expr.specs.Portions.{numbers_left}
+use Rattle.scad_expr.specs.State.{State, Outcome, gives, refuses, Action, pure, and_then, ◌>>=◌}
+use Rattle.scad_inst.specs.declared.remainder.Remainder.{Remainder}
+use Rattle.scad_inst.specs.declared.remainder.Remainder.TheVariants.{Values, Numbers}
+use Rattle.scad_inst.specs.declared.run.Next.{Next}
+use Rattle.scad_inst.specs.declared.run.Next.TheVariants.{More, End}
+use Rattle.scad_inst.specs.declared.stack.Stack.{Stack}
+use Rattle.scad_inst.specs.declared.work.Frame.{Frame}
+use Rattle.scad_inst.specs.declared.work.Frame.TheVariants.{Mark, Member, Then, Combine, Leave}
+use Rattle.scad_inst.specs.declared.work.Focus.{Focus}
+use Rattle.scad_inst.specs.declared.work.Focus.TheVariants.{Statement, Members, Children, Variables, Turns, Given}
+use Rattle.scad_inst.specs.Chosen.{child_named}
+use Rattle.scad_inst.specs.Frames.{below_of, with_depth}
+use Rattle.scad_inst.specs.Made.{judged}
+use Rattle.scad_inst.specs.Meaning.{members_from, for_variables, turns, children_by}
+use Rattle.scad_inst.specs.Operation.{operated}
+
+-- the values that are left
+unfoldable pub left_in : Remainder → List Datum
+left_in (Values all next) = data_of (drop next all.items)
+left_in (Numbers next step end) = numbers_left next step end
+
+-- what the next value names among children, with the values behind it, or none
+abbrev pub NamesNext : Items → List Datum → Option (Option Item × List Datum) → Type 0
+NamesNext all ds None = ds ≡ []
+NamesNext all ds (Some p) = (d : Datum) × (ds ≡ d ∷ p.1) × (p.0 ≡ child_named all d)
+
+-- what follows a tree: it takes what the machine holds, the members so far, and the tree
+abbrev pub Rest : Type 0
+Rest = Held → List Solid → Solid → Action Solid
+
+-- nothing waits: the members are those of the program, and are united
+abbrev pub ended : Rest
+ended h ss t = pure (united ss)
+
+-- members were added, and no tree
+abbrev pub listed : Rest → Held → List Solid → Action Solid
+listed k h ss = k h ss nothing
+
+-- the members so far, and a tree behind them unless its statement is marked `%`
+abbrev pub with_member : Bool → List Solid → Solid → List Solid
+with_member marked ss t = if marked then ss else ss ++ t ∷ []
+
+-- what is at work, and then what follows it
+unfoldable pub goes_on : Focus → Rest → Held → List Solid → Action Solid
+goes_on (Statement i w) k h ss s =
+    and_then ((below_of h).statement w (env_in h) (along_in h) (item_of i.now) s) (k h ss)
+goes_on (Members scope next w) k h ss s =
+    and_then (members_from (below_of h) w (env_in h) (along_in h) (items (drop next scope.now.items)) ss s) (listed k h)
+goes_on (Children scope more w) k h ss s =
+    and_then (children_by (below_of h) w (env_in h) (along_in h) (items scope.now.items) (left_in more) ss s)
+    (listed k h)
+goes_on (Variables c next w) k h ss s =
+    and_then (for_variables (below_of h) c.at w (arguments (drop next c.args.now.items)) (items c.all.now.items)
+    (env_in h) (along_in h) ss s) (listed k h)
+goes_on (Turns v more w) k h ss s =
+    and_then (turns (below_of h) v.call.at v.name.now (for_variables (below_of h) v.call.at w
+    (arguments (drop v.next v.call.args.now.items)) (items v.call.all.now.items)) (env_in h) (along_in h) (left_in more)
+    ss s) (listed k h)
+goes_on (Given t) k h ss s = k h ss (solid_of t) s
+
+-- a frame, and then what follows it
+unfoldable pub onto : Frame → Rest → Rest
+onto (Mark marked depth) k h ss t = k (with_depth depth h) ss (if marked then nothing else t)
+onto (Member marked) k h ss t = listed k h (with_member marked ss t)
+onto (Then f) k h ss t = goes_on f k h ss
+onto (Combine o at outer) k h ss t = judged at (operated o ss) >>= k h (solids outer.items)
+onto (Leave back) k h ss t = k (left back h) ss t
+
+-- the frame behind all others is the first that goes on
+abbrev pub rest_of : List Frame → Rest → Rest
+rest_of [] k = k
+rest_of (f ∷ more) k = rest_of more (onto f k)
+
+-- what the frames of a stack do
+unfoldable pub rest : Stack → Rest
+rest s = rest_of s.frames.items ended
+
+-- the members so far of the operation that is being made
+unfoldable pub made_in : Stack → List Solid
+made_in s = solids s.made.items
+
+-- a tree, and then what the frames of a stack do with it
+abbrev pub onward : Outcome Solid → Stack → Machine → Outcome Solid
+onward o stack m = and_then o (rest stack (held m) (made_in stack))
+
+-- members, and then what the frames of a stack do with them
+abbrev pub onward_listed : Outcome (List Solid) → Stack → Machine → Outcome Solid
+onward_listed o stack m = and_then o (listed (rest stack) (held m))
+
+-- the whole is what is at work now, and then what the frames do; or it is the refusal, unless there was no memory
+abbrev pub Goes : Outcome Solid → Result Focus EvalFault → Stack → Machine → Type 0
+Goes whole (Ok f) stack m = whole ≡ goes_on f (rest stack) (held m) (made_in stack) (state_of m)
+Goes whole (Err e) stack m = e ≢ Memory → whole ≡ refuses e (state_of m)
+
+-- likewise after one turn, where a tree may be the last one
+abbrev pub Ends : Outcome Solid → Result Next EvalFault → Stack → Machine → Type 0
+Ends whole (Ok (More f)) stack m = whole ≡ goes_on f (rest stack) (held m) (made_in stack) (state_of m)
+Ends whole (Ok (End t)) stack m = whole ≡ gives (solid_of t) (state_of m)
+Ends whole (Err e) stack m = e ≢ Memory → whole ≡ refuses e (state_of m)
+
+-- what is at work, whatever the machine holds and counted, is the whole
+abbrev pub Starts : Outcome Solid → Result Focus EvalFault → Stack → Held → State → Type 0
+Starts whole (Ok f) stack h s = whole ≡ goes_on f (rest stack) h (made_in stack) s
+Starts whole (Err e) stack h s = Unit {0}

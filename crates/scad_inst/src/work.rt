@@ -1,0 +1,42 @@
+//! What is at work, and what waits for it.
+
+use crate::modules::{Call, Variable};
+use crate::operation::Operation;
+use crate::remainder::Remainder;
+use crate::space::Where;
+use scad_ast::{Item, Scope};
+use scad_fault::Place;
+use scad_tree::Tree;
+
+/// What is at work.
+#[derive(Drop)]
+pub(crate) enum Focus<'p> {
+    /// A statement.
+    Statement(&'p Item, Where),
+    /// The items of a scope from a number on; the trees of its statements are members.
+    Members(&'p Scope, usize, Where),
+    /// The children that values name; their trees are members.
+    Children(&'p Scope, Remainder, Where),
+    /// The variables of a `for` from that of a number on, the first of them the outermost; the tree of each
+    /// turn of all of them is a member.
+    Variables(Call<'p>, usize, Where),
+    /// The turns of a variable that are left.
+    Turns(Variable<'p>, Remainder, Where),
+    /// A tree, for the frame on the top.
+    Given(Tree),
+}
+
+/// What waits for a tree.
+#[derive(Drop)]
+pub(crate) enum Frame<'p> {
+    /// The statement has its tree: whether it is marked `%`, and how many levels of depth were left outside of it.
+    Mark(bool, u32),
+    /// The tree is a member, unless its statement is marked `%`.
+    Member(bool),
+    /// Members were added, and more comes.
+    Then(Focus<'p>),
+    /// The members have their operation, made by the statement at a place; those of the operation round it.
+    Combine(Operation, Place, Vec<Tree>),
+    /// The last frames of the machine are left, and names are sought from another one.
+    Leave(u32),
+}
