@@ -23,5 +23,7 @@ pub mod Parts
 pub mod Rising
 pub mod RisingNodes
 pub mod RunsLeft
+pub mod StackBegins
+pub mod StackTurns
 pub mod Tested
 pub mod Turns
