@@ -16,7 +16,6 @@ pub mod Homes
 pub mod InPlace
 pub mod Lists
 pub mod Loops
-pub mod Nodes
 pub mod OnLiterals
 pub mod OpenFrames
 pub mod Parts
@@ -25,5 +24,6 @@ pub mod RisingNodes
 pub mod RunsLeft
 pub mod StackBegins
 pub mod StackTurns
+pub mod StepsAndTurns
 pub mod Tested
-pub mod Turns
+pub mod Views

@@ -70,7 +70,7 @@ pub(crate) fn element<'p>(
 }
 
 /// One arm for each kind of element.
-#[tactic(auto, using(crate::proofs::Nodes::element_views, crate::proofs::StackTurns::nodes), unfolding(crate::specs::Meaning::element_node, crate::specs::Stack::onto))]
+#[tactic(auto, using(crate::proofs::Views::element_views, crate::proofs::StackTurns::nodes), unfolding(crate::specs::Meaning::element_node, crate::specs::Stack::onto))]
 fn element_node<'p>(
     e: &'p Elem,
     depth: u32,
@@ -313,7 +313,7 @@ pub(crate) fn either<'p>(
 }
 
 /// Where an element stands.
-#[tactic(auto, using(crate::proofs::Nodes::places))]
+#[tactic(auto, using(crate::proofs::Views::places))]
 fn place_of(e: &Elem) -> Place
     ensures { result ≡ element_place (element_of e.now) }
 {

@@ -1,7 +1,7 @@
 use Rattle.std.proofs.Common.{refl, ◌∙◌}
 use Rattle.scad_expr.specs.Machine.{held, state_of}
 use Rattle.scad_expr.specs.Stack.{rest, made_in}
-use Rattle.scad_expr.proofs.Nodes.{for_node, loop_node, let_element_node}
+use Rattle.scad_expr.proofs.Views.{for_node, loop_node, let_element_node}
 use Rattle.scad_expr.proofs.StackBegins.{element-same, loop-same}
 use Rattle.scad_expr.proofs.elements.element_node.Goals as goal
 

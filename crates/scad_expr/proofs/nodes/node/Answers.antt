@@ -1,7 +1,7 @@
 use Rattle.std.proofs.Common.{◌∙◌}
 use Rattle.scad_expr.specs.Machine.{held, state_of}
 use Rattle.scad_expr.specs.Stack.{rest, made_in}
-use Rattle.scad_expr.proofs.Nodes.{list_node, call_node, let_node, assert_node, echo_node}
+use Rattle.scad_expr.proofs.Views.{list_node, call_node, let_node, assert_node, echo_node}
 use Rattle.scad_expr.proofs.StackBegins.{node-same}
 use Rattle.scad_expr.proofs.nodes.node.Goals as goal
 
