@@ -1,5 +1,5 @@
 -- Parts that begin on the stack, as the code has them.
-use Rattle.std.proofs.Common.{◌≡◌, ◌≢◌, ℕ, zero, suc, ◌-◌, ◌+◌, ◌<◌, ◌≤◌, Bool, true, false, List, [], ◌∷◌, ◌++◌, map, length, get_or, drop, Option, Some, None, option_map, Vec, Global, codes, refl, sym, ap, ap₂, ◌∙◌, arith}
+use Rattle.std.proofs.Common.{◌≡◌, ◌≢◌, ℕ, zero, suc, ◌-◌, ◌+◌, ◌<◌, ◌≤◌, Bool, true, false, if◌then◌else◌, List, [], ◌∷◌, ◌++◌, map, length, get_or, drop, Option, Some, None, option_map, Vec, Global, codes, refl, sym, ap, ap₂, ◌∙◌, arith}
 use Rattle.std.proofs.lemmas.List.{drop_more, drop_all}
 use Rattle.std.specs.Borrow.{Bor}
 use Rattle.std.specs.List.{flat_map}
@@ -12,11 +12,12 @@ use Rattle.scad_ast.specs.Tree.{Expression, Arguments, Element, Elements, Parame
 use Rattle.scad_ast.specs.View.{expression_of, element_of, arguments}
 use Rattle.scad_value.specs.Datum.{Datum, undef}
 use Rattle.scad_value.specs.Datum.{vector as vector_datum}
+use Rattle.scad_value.specs.Comparison.{truth}
 use Rattle.scad_scope.specs.Env.{Env}
 use Rattle.scad_scope.specs.Stored.{env_at, envs}
 use Rattle.scad_expr.specs.declared.part.Part.{Part}
 use Rattle.scad_expr.specs.declared.fault.EvalFault.{EvalFault}
-use Rattle.scad_expr.specs.declared.frame.Frame.TheVariants.{Vector, Each, Turns, Leave}
+use Rattle.scad_expr.specs.declared.frame.Frame.TheVariants.{Vector, Each, Turns, Leave, Body}
 use Rattle.scad_expr.specs.declared.frame.Inside.TheVariants.{Value as InsideValue, Element as InsideElement, Turns as InsideTurns}
 use Rattle.scad_expr.specs.declared.frame.Within.{Within}
 use Rattle.scad_expr.specs.declared.frame.Loop.{Loop}
@@ -35,7 +36,7 @@ use Rattle.scad_expr.specs.Meaning.{Below, meaning, value, node, element_node, d
 use Rattle.scad_expr.specs.Meaning.{elements as elements_given}
 use Rattle.scad_expr.specs.Opened.{opened, set_in_last, left, bound_in, outer, IsInner}
 use Rattle.scad_expr.specs.Portions.{defaulted, missing}
-use Rattle.scad_expr.specs.Stack.{Whole, Rest, added, onto, binds, fills, entered, filling, binding, inside_of, looped, loop_of, turns_of, course}
+use Rattle.scad_expr.specs.Stack.{Whole, Rest, added, onto, binds, fills, entered, filling, binding, inside_of, looped, loop_of, renewed, turned, turning, turns_of, course}
 use Rattle.scad_expr.specs.View.{function_of}
 use Rattle.scad_expr.proofs.Loops.{twice, same-then, call-begins}
 use Rattle.scad_expr.proofs.OpenFrames.{env_in-opened, along_in-opened, left-opened, gone-opened}
@@ -100,6 +101,23 @@ loop-begins depth back l args k h o made s i none out is =
     (λ b t. repeats-inner (meaning depth) l.at (expression_of l.test.now) (arguments l.steps.now) (element_of l.body.now) o
     (λ h2 now. added k (left back h2) now) (added k o)
     (λ c now u. ap (λ x. added k x now u) (left-inner back c o is)) l.turns b made t)
+
+-- a turn of a loop with start, test and step whose test holds
+pub test-holds : (l : Loop) (back depth : ℕ) (k k1 : Rest) (h h1 : Held) (made made1 : List Datum) (d : Datum) (s s1 : State)
+    → truth d ≡ true → step l.at s ≡ gives tt s1 → h1 ≡ h → made1 ≡ made → k1 ≡ onto (Body l back depth) k
+    → turning l back depth k h made d s
+    ≡ and_then ((meaning depth).element (env_in h1) (along_in h1) (element_of l.body.now) made1 s1) (added k1 h1)
+unfolding turned onto
+test-holds l back depth k k1 h h1 made made1 d s s1 yes stepped kept same is =
+    let body = element_of l.body.now in
+    let again : Held → List Datum → Action Whole = looped l l.turns back depth k in
+    let names : List Datum → Action Whole = λ now. renewed (meaning depth) (arguments l.steps.now) again now h in
+    let on : Action Whole = step l.at >>= λ _. (meaning depth).element (env_in h) (along_in h) body made >>= names in
+    ap (λ (b : Bool). (if b then on else added k (left back h) made) s) yes
+    ∙ ap (λ r. and_then r (λ _ t. and_then ((meaning depth).element (env_in h) (along_in h) body made t) names)) stepped
+    ∙ ap (λ (q : Rest). and_then ((meaning depth).element (env_in h) (along_in h) body made s1) (added q h)) (sym is)
+    ∙ ap₂ (λ (x : Held) m. and_then ((meaning depth).element (env_in x) (along_in x) body m s1) (added k1 x))
+    (sym kept) (sym same)
 
 -- ---- calls
 -- the function's expression, once its parameters are set
