@@ -8,7 +8,7 @@ use Rattle.scad_ast.specs.declared.expression.Expr.{Expr}
 use Rattle.scad_ast.specs.declared.expression.Elem.{Elem}
 use Rattle.scad_ast.specs.declared.statement.Param.{Param}
 use Rattle.scad_ast.specs.Scope.{parameter}
-use Rattle.scad_ast.specs.Tree.{Expression, Arguments, Element, Elements, Parameter, vector, each, for_loop, let_in, let_element}
+use Rattle.scad_ast.specs.Tree.{Expression, Arguments, Element, Elements, Parameter, vector, each, for_loop, let_in, let_element, if_element, if_else}
 use Rattle.scad_ast.specs.View.{expression_of, element_of, arguments}
 use Rattle.scad_value.specs.Datum.{Datum, undef}
 use Rattle.scad_value.specs.Datum.{vector as vector_datum}
@@ -17,7 +17,7 @@ use Rattle.scad_scope.specs.Env.{Env}
 use Rattle.scad_scope.specs.Stored.{env_at, envs}
 use Rattle.scad_expr.specs.declared.part.Part.{Part}
 use Rattle.scad_expr.specs.declared.fault.EvalFault.{EvalFault}
-use Rattle.scad_expr.specs.declared.frame.Frame.TheVariants.{Vector, Each, Turns, Leave, Body}
+use Rattle.scad_expr.specs.declared.frame.Frame.TheVariants.{Vector, Each, If, Either, Turns, Leave, Body}
 use Rattle.scad_expr.specs.declared.frame.Inside.TheVariants.{Value as InsideValue, Element as InsideElement, Turns as InsideTurns}
 use Rattle.scad_expr.specs.declared.frame.Within.{Within}
 use Rattle.scad_expr.specs.declared.frame.Loop.{Loop}
@@ -35,6 +35,7 @@ use Rattle.scad_expr.specs.Variables.{Bound, set, empty, within}
 use Rattle.scad_expr.specs.Meaning.{Below, meaning, value, node, element_node, default_value, bound, called_own, bound_in_order, loop_turns, turns, for_variables, judge_named}
 use Rattle.scad_expr.specs.Meaning.{elements as elements_given}
 use Rattle.scad_expr.specs.Opened.{opened, set_in_last, left, bound_in, outer, IsInner}
+use Rattle.scad_expr.specs.Pieces.{element_if, either_element}
 use Rattle.scad_expr.specs.Portions.{defaulted, missing}
 use Rattle.scad_expr.specs.Stack.{Whole, Rest, added, onto, binds, fills, entered, filling, binding, inside_of, looped, loop_of, renewed, turned, turning, turns_of, course}
 use Rattle.scad_expr.specs.View.{function_of}
@@ -272,6 +273,28 @@ each-node-begins below at e k k2 h h2 made none outer s s1 stepped kept same emp
     (λ found. pure (made ++ flat_map items found)))) (added k h)) stepped
     ∙ each-begins below e k k2 h made none outer s1 same empty is
     ∙ ap (λ (x : Held). and_then (below.element (env_in x) (along_in x) e none s1) (added k2 x)) (sym kept)
+
+-- a step, an action, and what follows both
+later-begins : {A B C D : Type 0} (o : Outcome A) (v : Action B) (f : B → Action C) (g : C → Action D)
+    → and_then (and_then o (λ _ t. and_then (v t) f)) g ≡ and_then (and_then o (λ _. v)) (λ d u. and_then (f d u) g)
+later-begins (gives a t) v f g = twice (v t) f g
+later-begins (refuses e t) v f g = refl
+
+pub if-begins : (depth : ℕ) (at : Place) (test : Expression) (e : Bor Elem) (h : Held) (k : Rest) (made : List Datum) (s : State)
+    → and_then (element_node (meaning depth) (env_in h) (along_in h) (if_element at test (element_of e.now)) made s) (added k h)
+    ≡ and_then (and_then (step at s) (λ _. value depth (env_in h) (along_in h) test)) (onto (If e depth) k h made)
+unfolding element_node onto element_if
+if-begins depth at test e h k made s =
+    later-begins (step at s) (value depth (env_in h) (along_in h) test)
+    (λ d. element_if (meaning depth) (env_in h) (along_in h) d (element_of e.now) made) (added k h)
+
+pub either-begins : (depth : ℕ) (at : Place) (test : Expression) (e other : Bor Elem) (h : Held) (k : Rest) (made : List Datum) (s : State)
+    → and_then (element_node (meaning depth) (env_in h) (along_in h) (if_else at test (element_of e.now) (element_of other.now)) made s) (added k h)
+    ≡ and_then (and_then (step at s) (λ _. value depth (env_in h) (along_in h) test)) (onto (Either e other depth) k h made)
+unfolding element_node onto either_element
+either-begins depth at test e other h k made s =
+    later-begins (step at s) (value depth (env_in h) (along_in h) test)
+    (λ d. either_element (meaning depth) (env_in h) (along_in h) d (element_of e.now) (element_of other.now) made) (added k h)
 
 -- ---- nodes and elements as the code reads them
 pub node-same : (depth : ℕ) (h : Held) (k : Rest) (made : List Datum) (s : State) (x y : Expression) → x ≡ y

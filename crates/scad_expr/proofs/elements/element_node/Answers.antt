@@ -1,4 +1,8 @@
 use Rattle.std.proofs.Common.{refl, ◌∙◌}
+use Rattle.std.specs.Borrow.{Bor}
+use Rattle.scad_ast.specs.declared.expression.Expr.{Expr}
+use Rattle.scad_ast.specs.View.{arguments}
+use Rattle.scad_expr.specs.declared.frame.Loop.{Loop}
 use Rattle.scad_expr.specs.Machine.{held, state_of}
 use Rattle.scad_expr.specs.Stack.{rest, made_in}
 use Rattle.scad_expr.proofs.Views.{for_node, loop_node, let_element_node}
@@ -21,8 +25,22 @@ returns-in-Let-clause-goes c = λ o is.
 
 pub returns-in-Loop-clause-goes : goal.returns-in-Loop-clause-goes
 returns-in-Loop-clause-goes c = λ o is.
-    c.loop_element.ensures.goes o (is ∙ loop-same c.args.depth _ _ (held c.args.m.now) (rest c.args.stack.now)
-    (made_in c.args.stack.now) (state_of c.args.m.now) _ refl
+    let test : Bor Expr = record { ref_ptr = (0, 0); now = c.in-Loop.test } in
+    let all : Loop = record {
+      at = c.in-Loop.at;
+      test = test;
+      steps = c.deref-in-Loop.result;
+      body = c.deref-in-Loop-2.result;
+      turns = 5000001;
+    } in
+    c.loop_element.ensures.goes o (is ∙ loop-same c.args.depth all (arguments c.deref-in-Loop-3.result.now)
+    (held c.args.m.now) (rest c.args.stack.now) (made_in c.args.stack.now) (state_of c.args.m.now) _ refl
     (loop_node c.args.e.now c.in-Loop.starts c.in-Loop.test c.in-Loop.steps c.in-Loop.e c.in-Loop.at
     c.deref-in-Loop-3.result.now c.deref-in-Loop.result.now c.deref-in-Loop-2.result.now c.in-Loop.is
     c.deref-in-Loop-3.ensures.value c.deref-in-Loop.ensures.value c.deref-in-Loop-2.ensures))
+
+pub returns-in-If-default-default-None-default-clause-goes : goal.returns-in-If-default-default-None-default-clause-goes
+returns-in-If-default-default-None-default-clause-goes c = ?
+
+pub returns-in-If-default-default-Some-default-clause-goes : goal.returns-in-If-default-default-Some-default-clause-goes
+returns-in-If-default-default-Some-default-clause-goes c = ?
