@@ -109,12 +109,12 @@ pub test-holds : (l : Loop) (back depth : ℕ) (k k1 : Rest) (h h1 : Held) (made
     → turning l back depth k h made d s
     ≡ and_then ((meaning depth).element (env_in h1) (along_in h1) (element_of l.body.now) made1 s1) (added k1 h1)
 unfolding turned onto
-test-holds l back depth k k1 h h1 made made1 d s s1 yes stepped kept same is =
+test-holds l back depth k k1 h h1 made made1 d s s1 holds stepped kept same is =
     let body = element_of l.body.now in
     let again : Held → List Datum → Action Whole = looped l l.turns back depth k in
     let names : List Datum → Action Whole = λ now. renewed (meaning depth) (arguments l.steps.now) again now h in
     let on : Action Whole = step l.at >>= λ _. (meaning depth).element (env_in h) (along_in h) body made >>= names in
-    ap (λ (b : Bool). (if b then on else added k (left back h) made) s) yes
+    ap (λ (b : Bool). (if b then on else added k (left back h) made) s) holds
     ∙ ap (λ r. and_then r (λ _ t. and_then ((meaning depth).element (env_in h) (along_in h) body made t) names)) stepped
     ∙ ap (λ (q : Rest). and_then ((meaning depth).element (env_in h) (along_in h) body made s1) (added q h)) (sym is)
     ∙ ap₂ (λ (x : Held) m. and_then ((meaning depth).element (env_in x) (along_in x) body m s1) (added k1 x))

@@ -43,7 +43,7 @@ pub(crate) fn part<'p>(
 }
 
 /// One arm for each kind of expression.
-#[tactic(auto, using(crate::proofs::Views::views, crate::proofs::StackTurns::nodes), unfolding(crate::specs::Meaning::node, crate::specs::Pieces::step_and_end, crate::specs::Stack::onto, crate::specs::Stack::goes_on))]
+#[tactic(auto, using(crate::proofs::Views::views, crate::proofs::StackTurns::nodes), unfolding(crate::specs::Meaning::node, crate::specs::Pieces::range_end, crate::specs::Pieces::stepped_end, crate::specs::Pieces::step_and_end, crate::specs::Pieces::side, crate::specs::Stack::onto, crate::specs::Stack::goes_on))]
 fn node<'p>(
     e: &'p Expr,
     depth: u32,
