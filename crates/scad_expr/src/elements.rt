@@ -2,7 +2,7 @@
 
 ghost use Rattle.std.specs.Prelude.{◌≡◌, ◌+◌, ◌<◌, ◌^◌, [], ◌++◌, ◌∷◌};
 ghost use Rattle.std.specs.List.{flat_map};
-ghost use Rattle.scad_ast.specs.Tree.{each, for_each, let_element};
+ghost use Rattle.scad_ast.specs.Tree.{each, for_each, let_element, if_element, if_else};
 ghost use Rattle.scad_ast.specs.View.{expression_of, arguments, element_of};
 ghost use Rattle.scad_ast.specs.View.{elements as tree_elements};
 ghost use Rattle.scad_value.specs.Datum.{vector};
@@ -97,15 +97,52 @@ fn element_node<'p>(
             loop_element(all, starts, depth, stack, m)
         }
         Elem::Let(args, e, at) => let_element(*at, args, e, depth, stack, m),
-        Elem::If(test, e, None, at) => {
-            let frame = Frame::If(e, depth);
-            later(*at, frame, test, depth, stack, m)
-        }
+        Elem::If(test, e, None, at) => if_node(*at, test, e, depth, stack, m),
         Elem::If(test, e, Some(other), at) => {
-            let frame = Frame::Either(e, other, depth);
-            later(*at, frame, test, depth, stack, m)
+            either_node(*at, test, Branches { e, other }, depth, stack, m)
         }
     }
+}
+
+/// `if (test) element`
+fn if_node<'p>(
+    at: Place,
+    test: &'p Expr,
+    e: &'p Elem,
+    depth: u32,
+    stack: &mut Stack<'p>,
+    m: &mut Machine<'p>,
+) -> Result<Focus<'p>, EvalFault>
+    ensures goes { Leads (followed_list (element_node (meaning depth) (env_in (held m.old)) (along_in (held m.old))
+        (if_element at (expression_of test.now) (element_of e.now)) (made_in stack.old)) stack.old m.old)
+        result stack.new m.new }
+    ensures less { Below_by 2 result stack.old m.old stack.new m.new }
+{
+    later(at, Frame::If(e, depth), test, depth, stack, m)
+}
+
+/// The elements of an `if` with `else`.
+#[derive(Clone, Copy)]
+struct Branches<'p> {
+    e: &'p Elem,
+    other: &'p Elem,
+}
+
+/// `if (test) element else element`
+fn either_node<'p>(
+    at: Place,
+    test: &'p Expr,
+    both: Branches<'p>,
+    depth: u32,
+    stack: &mut Stack<'p>,
+    m: &mut Machine<'p>,
+) -> Result<Focus<'p>, EvalFault>
+    ensures goes { Leads (followed_list (element_node (meaning depth) (env_in (held m.old)) (along_in (held m.old))
+        (if_else at (expression_of test.now) (element_of both.entry.e.now) (element_of both.entry.other.now))
+        (made_in stack.old)) stack.old m.old) result stack.new m.new }
+    ensures less { Below_by 2 result stack.old m.old stack.new m.new }
+{
+    later(at, Frame::Either(both.e, both.other, depth), test, depth, stack, m)
 }
 
 /// An expression behind a step.

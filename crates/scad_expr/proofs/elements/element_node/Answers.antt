@@ -1,15 +1,12 @@
-use Rattle.std.proofs.Common.{Option, Box, Global, refl, sym, ap, ap₂, ◌∙◌}
+use Rattle.std.proofs.Common.{refl, ◌∙◌}
 use Rattle.std.specs.Borrow.{Bor}
 use Rattle.scad_ast.specs.declared.expression.Expr.{Expr}
-use Rattle.scad_ast.specs.declared.expression.Elem.{Elem, If}
-use Rattle.scad_ast.specs.Tree.{if_element, if_else}
-use Rattle.scad_ast.specs.View.{expression_of, element_of, arguments}
-use Rattle.scad_ast.proofs.Operands.{if_else_view}
+use Rattle.scad_ast.specs.View.{arguments}
 use Rattle.scad_expr.specs.declared.frame.Loop.{Loop}
 use Rattle.scad_expr.specs.Machine.{held, state_of}
 use Rattle.scad_expr.specs.Stack.{rest, made_in}
 use Rattle.scad_expr.proofs.Views.{for_node, loop_node, let_element_node}
-use Rattle.scad_expr.proofs.StackBegins.{element-same, loop-same, if-begins, either-begins}
+use Rattle.scad_expr.proofs.StackBegins.{element-same, loop-same}
 use Rattle.scad_expr.proofs.elements.element_node.Goals as goal
 
 pub returns-in-For-clause-goes : goal.returns-in-For-clause-goes
@@ -41,30 +38,3 @@ returns-in-Loop-clause-goes c = λ o is.
     (loop_node c.args.e.now c.in-Loop.starts c.in-Loop.test c.in-Loop.steps c.in-Loop.e c.in-Loop.at
     c.deref-in-Loop-3.result.now c.deref-in-Loop.result.now c.deref-in-Loop-2.result.now c.in-Loop.is
     c.deref-in-Loop-3.ensures.value c.deref-in-Loop.ensures.value c.deref-in-Loop-2.ensures))
-
-pub returns-in-If-default-default-None-default-clause-goes : goal.returns-in-If-default-default-None-default-clause-goes
-returns-in-If-default-default-None-default-clause-goes c = λ o is.
-    let i = c.in-If-default-default-None-default in
-    let d = c.deref-in-If-default-default-None-default in
-    let h = held c.args.m.now in
-    c.later.ensures.goes o (is ∙ element-same c.args.depth h (rest c.args.stack.now) (made_in c.args.stack.now)
-    (state_of c.args.m.now) (if_element i.at (expression_of i.test) (element_of d.result.now)) (element_of c.args.e.now)
-    (ap (λ (x : Elem). if_element i.at (expression_of i.test) (element_of x)) d.ensures
-    ∙ sym (ap element_of i.is ∙ ap (λ (x : Option (Box Elem Global)). element_of (If i.test i.e x i.at)) i.field-2-is))
-    ∙ if-begins c.args.depth i.at (expression_of i.test) d.result h (rest c.args.stack.now) (made_in c.args.stack.now)
-    (state_of c.args.m.now))
-
-pub returns-in-If-default-default-Some-default-clause-goes : goal.returns-in-If-default-default-Some-default-clause-goes
-returns-in-If-default-default-Some-default-clause-goes c = λ o is.
-    let i = c.in-If-default-default-Some-default in
-    let d = c.deref-in-If-default-default-Some-default in
-    let d2 = c.deref-in-If-default-default-Some-default-2 in
-    let h = held c.args.m.now in
-    c.later-in-If-default-default-Some-default.ensures.goes o (is ∙ element-same c.args.depth h (rest c.args.stack.now)
-    (made_in c.args.stack.now) (state_of c.args.m.now)
-    (if_else i.at (expression_of i.test) (element_of d.result.now) (element_of d2.result.now)) (element_of c.args.e.now)
-    (ap₂ (λ (x y : Elem). if_else i.at (expression_of i.test) (element_of x) (element_of y)) d.ensures d2.ensures
-    ∙ sym (if_else_view i.test i.e i.other i.at)
-    ∙ sym (ap element_of i.is ∙ ap (λ (x : Option (Box Elem Global)). element_of (If i.test i.e x i.at)) i.field-2-is))
-    ∙ either-begins c.args.depth i.at (expression_of i.test) d.result d2.result h (rest c.args.stack.now)
-    (made_in c.args.stack.now) (state_of c.args.m.now))

@@ -1,5 +1,7 @@
-use Rattle.std.proofs.Common.{◌≡◌, Some, List, [], ◌∷◌, sym, ap, ◌∙◌}
+use Rattle.std.proofs.Common.{◌≡◌, ℕ, Some, List, [], ◌∷◌, sym, ap, ap₂, ◌∙◌}
 use Rattle.std.proofs.lemmas.Result.{err_from_is_err_and}
+use Rattle.std.specs.Borrow.{Bor}
+use Rattle.scad_fault.specs.declared.place.Place.{Place}
 use Rattle.scad_ast.specs.Tree.{name}
 use Rattle.scad_ast.specs.View.{arguments}
 use Rattle.scad_value.specs.Datum.{Datum}
@@ -21,7 +23,8 @@ returns-in_err-pass_name-in-Some-clause-goes c =
     let h = held c.args.m.now in
     let env = env_in h in
     let along = along_in h in
-    let alone : lone (arguments w.args.now) ≡ Some (name c.in-Some.at c.in-Some.word.now) = cc in
+    let alone : lone (arguments w.args.now) ≡ Some (name c.in-Some.at c.in-Some.word.now) =
+    c.in-Some.ensures ∙ ap₂ (λ (a : Place) (v : Bor (List ℕ)). Some (name a v.now)) c.in-Some.at-is c.in-Some.word-is in
     let call : Datum → Action Datum = λ (d : Datum). called (meaning c.args.depth) w.at w.word.now (function_named w.word.now env)
     along (arguments w.args.now) (d ∷ []) in
     is ∙ ap (λ (r : Outcome Datum). and_then r (rest c.args.stack.now h (made_in c.args.stack.now)))
@@ -36,7 +39,8 @@ returns-in_ok-pass_name-in-Some-clause-goes c = λ o is.
     let env = env_in h in
     let along = along_in h in
     let word = c.in-Some.word.now in
-    let alone : lone (arguments w.args.now) ≡ Some (name c.in-Some.at word) = cc in
+    let alone : lone (arguments w.args.now) ≡ Some (name c.in-Some.at word) =
+    c.in-Some.ensures ∙ ap₂ (λ (a : Place) (v : Bor (List ℕ)). Some (name a v.now)) c.in-Some.at-is c.in-Some.word-is in
     let call : Datum → Action Datum = λ (d : Datum). called (meaning c.args.depth) w.at w.word.now (function_named w.word.now env)
     along (arguments w.args.now) (d ∷ []) in
     c.call_of_name.ensures.goes o (is

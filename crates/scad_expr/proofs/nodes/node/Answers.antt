@@ -56,10 +56,10 @@ unfolding node goes_on
 returns-in_ok-variable-in-Name-clause-goes c = λ o is.
     let e = c.args.e.now in
     let h = held c.args.m.now in
-    let word = c.as_slice-in-Name.result.now in
+    let word = c.as_slice.result.now in
     let gives_it = c.in_ok-variable-in-Name.ensures (state_of c.args.m.now) in
     let same : variable word (env_in h) (along_in h) ≡ datum_of c.in_ok-variable-in-Name.field-0 = cc in
     is ∙ node-same c.args.depth h (rest c.args.stack.now) (made_in c.args.stack.now) (state_of c.args.m.now)
     (name e.at word) (expression_of e)
-    (ap (λ (w : List ℕ). name e.at w) c.as_slice-in-Name.ensures ∙ ap (expression_at e.at) (sym c.in-Name.is))
+    (ap (λ (w : List ℕ). name e.at w) c.as_slice.ensures ∙ ap (expression_at e.at) (sym c.in-Name.is))
     ∙ ap (λ (d : Datum). rest c.args.stack.now h (made_in c.args.stack.now) d (state_of c.args.m.now)) same
