@@ -142,7 +142,14 @@ fn either_node<'p>(
         (made_in stack.old)) stack.old m.old) result stack.new m.new }
     ensures less { Below_by 2 result stack.old m.old stack.new m.new }
 {
-    later(at, Frame::Either(both.e, both.other, depth), test, depth, stack, m)
+    later(
+        at,
+        Frame::Either(both.e, both.other, depth),
+        test,
+        depth,
+        stack,
+        m,
+    )
 }
 
 /// An expression behind a step.
