@@ -1,28 +1,25 @@
 -- Variables that are read where they stand.
-use Rattle.std.proofs.Common.{◌≡◌, ◌≢◌, ℕ, ℤ, pos, negsuc, Bool, true, false, List, [], ◌∷◌, Some, None, Err, Result, if◌then◌else◌, codes, refl, ap, ◌∙◌}
+use Rattle.std.proofs.Common.{◌≡◌, ◌≢◌, ℕ, ℤ, pos, negsuc, Bool, true, false, List, [], ◌∷◌, Some, Err, Result, if◌then◌else◌, codes, refl, ap, ◌∙◌}
 use Rattle.std.specs.Prelude.{int_div}
 use Rattle.scad_num.specs.Number.{one}
 use Rattle.scad_fault.specs.declared.place.Place.{Place}
 use Rattle.scad_fault.specs.declared.budget.BudgetKind.TheVariants.{Depth}
-use Rattle.scad_ast.specs.Tree.{Expression, Arguments, no_arguments, argument, name, call}
+use Rattle.scad_ast.specs.Tree.{Expression, Arguments, no_arguments, argument, name}
 use Rattle.scad_ast.specs.declared.expression.Arg.{Arg}
 use Rattle.scad_ast.specs.View.{expression_of, arguments}
-use Rattle.scad_builtin.specs.Builtin.{builtin}
 use Rattle.scad_builtin.specs.declared.fault.BuiltinFault.{BuiltinFault}
 use Rattle.scad_builtin.specs.declared.fault.BuiltinFault.TheVariants.{Memory}
 use Rattle.scad_builtin.specs.Answer.{Refuses}
-use Rattle.scad_value.specs.Datum.{Datum, undef, boolean, number, string, vector, range, element, no_elements}
+use Rattle.scad_value.specs.Datum.{Datum, undef, boolean, number, string, vector, range}
 use Rattle.scad_value.specs.Index.{at_whole, indexed}
 use Rattle.scad_scope.specs.Env.{Env}
 use Rattle.scad_scope.specs.Names.{is_same_name}
 use Rattle.scad_expr.specs.declared.fault.EvalFault.{EvalFault}
 use Rattle.scad_expr.specs.declared.fault.EvalFault.TheVariants.{Memory as NoMemory}
-use Rattle.scad_expr.specs.State.{State, Outcome, over, step, refuses, gives, and_then}
-use Rattle.scad_expr.specs.Functions.{Found, function_named}
-use Rattle.scad_expr.specs.Portions.{lone, called_of, call_own, call_known}
-use Rattle.scad_expr.specs.Runs.{as_elements}
+use Rattle.scad_expr.specs.State.{State, over, step, refuses, gives, and_then}
+use Rattle.scad_expr.specs.Portions.{lone}
 use Rattle.scad_expr.specs.Variables.{variable}
-use Rattle.scad_expr.specs.Meaning.{Below, value, value_layer, node, member_of, values, called, called_builtin}
+use Rattle.scad_expr.specs.Meaning.{Below, value, value_layer, node, member_of, values, called_builtin}
 use Rattle.scad_expr.proofs.DepthLeft.{value_none, value_more}
 
 -- ---- nothing stands in `undef`
@@ -77,38 +74,6 @@ unfolding values
 values-lone below env along no_arguments e s is = cc
 values-lone below env along (argument word f no_arguments) e s is = ap (λ x. and_then (below.value env along x s) (λ d. gives (d ∷ []))) (let same : f ≡ e = cc in same)
 values-lone below env along (argument word f (argument word2 f2 more)) e s is = cc
-
-pub known-lone : (below : Below) (env along : Env) (at : Place) (word : List ℕ) (args : Arguments) (e : Expression)
-    (s : State) → lone args ≡ Some e → call_known below at word env along args s ≡ called_of below at word env along e s
-unfolding call_known called_of
-known-lone below env along at word args e s is =
-    ap (λ o. and_then o (λ found. called_builtin at word (builtin word (as_elements found))))
-    (values-lone below env along args e s is)
-    ∙ by (below.value env along e s)
-  where
-    by : (o : Outcome Datum) → and_then (and_then o (λ d. gives (d ∷ []))) (λ found. called_builtin at word
-        (builtin word (as_elements found))) ≡ and_then o (λ d. called_builtin at word
-        (builtin word (element d no_elements)))
-    by (gives d t) = refl
-    by (refuses f t) = refl
-
-pub ruleset known = (known-lone)
-
--- ---- a call by what its name means
-pub node-own : (below : Below) (env along : Env) (at : Place) (word : List ℕ) (args : Arguments) (f : Found) (s : State)
-    → function_named word env ≡ Some f → node below env along (call at word args) s ≡ call_own below f env along args s
-unfolding node called call_own
-node-own below env along at word args f s is =
-    ap (λ o. and_then (values below env along args [] s) (λ found. called below at word o along args found)) is
-
-pub node-known : (below : Below) (env along : Env) (at : Place) (word : List ℕ) (args : Arguments) (s : State)
-    → function_named word env ≡ None → node below env along (call at word args) s
-    ≡ call_known below at word env along args s
-unfolding node called call_known
-node-known below env along at word args s is =
-    ap (λ o. and_then (values below env along args [] s) (λ found. called below at word o along args found)) is
-
-pub ruleset calls = (node-own, node-known)
 
 pub alone : (a : Arg) → lone (arguments (a ∷ [])) ≡ Some (expression_of a.value)
 alone a = refl

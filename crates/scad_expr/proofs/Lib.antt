@@ -16,12 +16,14 @@ pub mod Homes
 pub mod InPlace
 pub mod Lists
 pub mod Loops
-pub mod Nodes
 pub mod OnLiterals
 pub mod OpenFrames
 pub mod Parts
 pub mod Rising
 pub mod RisingNodes
 pub mod RunsLeft
+pub mod StackBegins
+pub mod StackTurns
+pub mod StepsAndTurns
 pub mod Tested
-pub mod Turns
+pub mod Views

@@ -1,32 +1,26 @@
 -- One more turn of a loop that goes over a list, and the end of it, in terms of what the whole list gives.
-use Rattle.std.proofs.Common.{◌≡◌, ℕ, suc, ◌+◌, ◌<◌, ◌≤◌, Bool, true, false, not, List, [], ◌∷◌, ◌++◌, length, get_or, drop, map, Option, Some, None, if◌then◌else◌, refl, sym, ap, ap₂, ◌∙◌, arith}
-use Rattle.std.proofs.lemmas.List.{drop_more, drop_all}
-use Rattle.scad_fault.specs.declared.budget.BudgetKind.TheVariants.{Steps}
-use Rattle.scad_fault.specs.declared.place.Place.{Place}
+use Rattle.std.proofs.Common.{◌≡◌, ℕ, ◌+◌, ◌<◌, ◌≤◌, Bool, true, false, not, List, [], ◌∷◌, ◌++◌, length, get_or, drop, map, Option, Some, None, if◌then◌else◌, refl, sym, ap, ap₂, ◌∙◌, arith}
 use Rattle.scad_ast.specs.declared.expression.Arg.{Arg}
-use Rattle.scad_ast.specs.declared.expression.Elem.{Elem}
-use Rattle.scad_ast.specs.Tree.{Expression, Arguments, argument, Element, no_elements, element, Parameter}
-use Rattle.scad_ast.specs.View.{expression_of, arguments, element_of, elements}
+use Rattle.scad_ast.specs.Tree.{Expression, Arguments, argument, Parameter}
+use Rattle.scad_ast.specs.View.{expression_of, arguments}
 use Rattle.scad_value.specs.Datum.{Datum}
-use Rattle.scad_value.specs.Comparison.{truth}
 use Rattle.scad_scope.specs.Names.{Names}
 use Rattle.scad_scope.specs.Env.{Env}
 use Rattle.scad_expr.specs.declared.fault.EvalFault.{EvalFault}
-use Rattle.scad_expr.specs.State.{State, Outcome, gives, refuses, Action, and_then, pure, ◌>>=◌, step, over}
+use Rattle.scad_expr.specs.State.{State, Outcome, gives, refuses, Action, and_then, pure, ◌>>=◌}
 use Rattle.scad_expr.specs.Variables.{Bound, set, empty, within}
 use Rattle.scad_expr.specs.Machine.{Held, env_in, along_in}
 use Rattle.scad_expr.specs.Arguments.{is_given, given, set_all}
-use Rattle.scad_expr.specs.Portions.{turn, bind_one, holds, turn_on, defaulted, missing}
-use Rattle.scad_expr.specs.Meaning.{Below, values, default_value, defaults, bound, bound_in_order, turns, loop_turns}
-use Rattle.scad_expr.specs.Meaning.{elements as elements_given}
+use Rattle.scad_expr.specs.Portions.{bind_one, defaulted, missing}
+use Rattle.scad_expr.specs.Meaning.{Below, values, default_value, defaults, bound, bound_in_order}
 use Rattle.scad_ast.specs.declared.statement.Param.{Param}
 use Rattle.scad_ast.specs.Scope.{parameter}
 use Rattle.scad_scope.specs.Stored.{StoredChildren, env_at, envs}
 use Rattle.scad_expr.specs.Given.{parameter_names}
-use Rattle.scad_expr.specs.Opened.{opened, set_in_last, bound_in, outer, IsInner}
+use Rattle.scad_expr.specs.Opened.{opened, set_in_last, bound_in}
 use Rattle.scad_value.proofs.Lists.{arguments-drop, arguments-drop_all}
 use Rattle.scad_expr.proofs.Giving.{names-parameters}
-use Rattle.scad_expr.proofs.OpenFrames.{inner-env, inner-along, call-home, call-along, call-set, opened-bound, opened-again}
+use Rattle.scad_expr.proofs.OpenFrames.{call-home, call-along, call-set, opened-bound, opened-again}
 
 pub nothing-left : {A : Type 0} (all : List A) → length all ≤ 0 → all ≡ []
 nothing-left [] none = refl
@@ -74,36 +68,6 @@ unfolding values
 values-end below env along all i so_far s past = ap (λ args. values below env along args so_far s)
     (arguments-drop_all all i past)
 
--- ---- elements
-element-drop : (all : List Elem) (i : ℕ) (e : Elem) → i < length all → e ≡ get_or all i e → elements (drop i all)
-    ≡ element (element_of e) (elements (drop (i + 1) all))
-element-drop all i e below is = ap elements (drop_more all i e below) ∙ ap
-    (λ x. element (element_of x) (elements (drop (i + 1) all))) (sym is)
-
-module _ (below : Below) (all : List Elem) (i : ℕ) (a : Elem) (there : i < length all) (is : a ≡ get_or all i a) (h h0 : Held) (same : h ≡ h0) (so_far : List Datum) (s : State) (w : Outcome (List Datum)) (left : elements_given below (env_in h0) (along_in h0) (elements (drop i all)) so_far s ≡ w) where
-  element-next : w ≡ and_then (below.element (env_in h) (along_in h) (element_of a) so_far s)
-      (λ now. elements_given below (env_in h0) (along_in h0) (elements (drop (i + 1) all)) now)
-  unfolding elements_given
-  element-next =
-      sym left ∙ ap (λ es. elements_given below (env_in h0) (along_in h0) es so_far s) (element-drop all i a there is)
-      ∙ ap (λ g. and_then (below.element (env_in g) (along_in g) (element_of a) so_far s)
-      (λ now. elements_given below (env_in h0) (along_in h0) (elements (drop (i + 1) all)) now)) (sym same)
-
-  pub element-goes : (now : List Datum) (s2 : State) → below.element (env_in h) (along_in h) (element_of a) so_far s
-      ≡ gives now s2 → elements_given below (env_in h0) (along_in h0) (elements (drop (i + 1) all)) now s2 ≡ w
-  element-goes now s2 e = sym (element-next ∙ goes _ _ now s2 e)
-
-  pub element-stops : (f : EvalFault) (s2 : State) → below.element (env_in h) (along_in h) (element_of a) so_far s
-      ≡ refuses f s2 → w ≡ refuses f s2
-  element-stops f s2 e = element-next ∙ stops _ _ f s2 e
-
-pub elements-end : (below : Below) (env along : Env) (all : List Elem) (i : ℕ) (so_far : List Datum) (s : State)
-    → length all ≤ i → elements_given below env along (elements (drop i all)) so_far s ≡ gives so_far s
-unfolding elements_given
-elements-end below env along all i so_far s past =
-    let none : elements (drop i all) ≡ no_elements = ap elements (drop_all {X = Elem} i all past) in
-    ap (λ es. elements_given below env along es so_far s) none
-
 -- ---- names
 bound-next : (below : Below) (env along : Env) (word : Option (List ℕ)) (e : Expression) (more : Arguments) (b : Bound)
     (s : State) → bound_in_order below env along (argument word e more) b s
@@ -136,40 +100,6 @@ pub names-end : (below : Below) (env along : Env) (all : List Arg) (i : ℕ) (b 
 unfolding bound_in_order
 names-end below env along all i b s past = ap (λ args. bound_in_order below env along args b s)
     (arguments-drop_all all i past)
-
--- ---- turns of a variable
-turn-next : (below : Below) (at : Place) (name : List ℕ) (inner : Env → Env → List Datum → Action (List Datum))
-    (env along : Env) (d : Datum) (more so_far : List Datum) (s : State) → turns below at name inner env along
-    (d ∷ more) so_far s ≡ and_then (turn at name inner env along d so_far s) (λ now. turns below at name inner env along
-    more now)
-unfolding turns turn
-turn-next below at name inner env along d more so_far s =
-    sym (twice (step at s) (λ _. inner (within env (set name d empty).names) (within along (set name d empty).dollars)
-    so_far) (λ now. turns below at name inner env along more now))
-
-module _ (below : Below) (at : Place) (name : List ℕ) (inner : Env → Env → List Datum → Action (List Datum)) (h h0 : Held) (same : h ≡ h0) (all more : List Datum) (d : Datum) (is : all ≡ d ∷ more) (so_far : List Datum) (s : State) (w : Outcome (List Datum)) (left : turns below at name inner (env_in h0) (along_in h0) all so_far s ≡ w) where
-  turned : w ≡ and_then (turn at name inner (env_in h) (along_in h) d so_far s) (λ now. turns below at name inner
-      (env_in h0) (along_in h0) more now)
-  turned =
-      sym left ∙ ap (λ l. turns below at name inner (env_in h0) (along_in h0) l so_far s) is
-      ∙ turn-next below at name inner (env_in h0) (along_in h0) d more so_far s
-      ∙ ap (λ g. and_then (turn at name inner (env_in g) (along_in g) d so_far s) (λ now. turns below at name inner
-      (env_in h0) (along_in h0) more now)) (sym same)
-
-  pub turn-goes : (now : List Datum) (s2 : State) → turn at name inner (env_in h) (along_in h) d so_far s ≡ gives now s2
-      → turns below at name inner (env_in h0) (along_in h0) more now s2 ≡ w
-  turn-goes now s2 e = sym (turned ∙ goes _ _ now s2 e)
-
-  pub turn-stops : (f : EvalFault) (s2 : State) → turn at name inner (env_in h) (along_in h) d so_far s ≡ refuses f s2
-      → w ≡ refuses f s2
-  turn-stops f s2 e = turned ∙ stops _ _ f s2 e
-
-pub turns-end : (below : Below) (at : Place) (name : List ℕ) (inner : Env → Env → List Datum → Action (List Datum))
-    (env along : Env) (all so_far : List Datum) (s : State) → all ≡ [] → turns below at name inner env along all so_far
-    s ≡ gives so_far s
-unfolding turns
-turns-end below at name inner env along all so_far s none = ap (λ l. turns below at name inner env along l so_far s)
-    none
 
 -- ---- defaults
 pub defaults-missing : (below : Below) (home along : Env) (got : Names) (all : List Parameter) (b : Bound) (s : State)
@@ -251,100 +181,3 @@ pub defaulted-end : (below : Below) (home along : Env) (all : List Parameter) (b
     → defaulted below home along all b s ≡ gives b s
 unfolding defaulted
 defaulted-end below home along all b s none = ap (λ l. defaulted below home along l b s) none
-
--- ---- turns of a loop with start, test and step
-module _ (below : Below) (at : Place) (test : Expression) (steps : Arguments) (body : Element) (env along : Env) (b : Bound) (so_far : List Datum) (n : ℕ) where
-  abbrev rest : Bound × List Datum → Action (List Datum)
-  rest p = loop_turns below n at test steps body env along p.0 p.1
-
-  abbrev bound_then : List Datum → Action (Bound × List Datum)
-  bound_then now = bound_in_order below env along steps b >>= λ next. pure (next, now)
-
-  abbrev element_then : Action (Bound × List Datum)
-  element_then = below.element (within env b.names) (within along b.dollars) body so_far >>= bound_then
-
-  after_names : (now : List Datum) (s : State) → and_then (bound_in_order below env along steps b s)
-      (λ next. loop_turns below n at test steps body env along next now) ≡ and_then (bound_then now s) rest
-  after_names now s = sym (twice (bound_in_order below env along steps b s) (λ next. pure (next, now)) rest)
-
-  after_element : (s : State) → and_then (below.element (within env b.names) (within along b.dollars) body so_far s)
-      (λ now. bound_in_order below env along steps b >>= λ next. loop_turns below n at test steps body env along next
-      now) ≡ and_then (element_then s) rest
-  after_element s =
-      same-then (below.element (within env b.names) (within along b.dollars) body so_far s) _ _
-      (λ now s2. after_names now s2)
-      ∙ sym (twice (below.element (within env b.names) (within along b.dollars) body so_far s) bound_then rest)
-
-  after_step : (s : State) → and_then (step at s) (λ _. below.element (within env b.names) (within along b.dollars) body
-      so_far >>= λ now. bound_in_order below env along steps b >>= λ next. loop_turns below n at test steps body env
-      along next now) ≡ and_then (turn_on below at steps body env along b so_far s) rest
-  unfolding turn_on
-  after_step s =
-      same-then (step at s) _ _ (λ u s2. after_element s2)
-      ∙ sym (twice (step at s) (λ u. element_then) rest)
-
-  abbrev on : Bool → Action (List Datum)
-  on c = if c then (turn_on below at steps body env along b so_far >>= rest) else pure so_far
-
-  loop-next : (s : State) → loop_turns below (suc n) at test steps body env along b so_far s
-      ≡ and_then (holds below (within env b.names) (within along b.dollars) test s) on
-  unfolding loop_turns holds
-  loop-next s =
-      same-then (below.value (within env b.names) (within along b.dollars) test s) _ _ (λ d s2. by (truth d) s2)
-      ∙ sym (twice (below.value (within env b.names) (within along b.dollars) test s) (λ d. pure (truth d)) on)
-    where
-      by : (c : Bool) (s2 : State)
-          → (if c then (step at >>= λ _. below.element (within env b.names) (within along b.dollars) body so_far >>=
-          λ now. bound_in_order below env along steps b >>= λ next. loop_turns below n at test steps body env along next
-          now) else pure so_far) s2 ≡ on c s2
-      by true s2 = after_step s2
-      by false s2 = refl
-
-module _ (below : Below) (at : Place) (test : Expression) (steps : Arguments) (body : Element) (h o : Held) (inside : IsInner h) (out : outer h ≡ o) (so_far : List Datum) (s : State) (n k : ℕ) (count : n ≡ suc k) (w : Outcome (List Datum)) (left : loop_turns below n at test steps body (env_in o) (along_in o) (bound_in h) so_far s ≡ w) where
-  abbrev going : Bool → Action (List Datum)
-  going = on below at test steps body (env_in o) (along_in o) (bound_in h) so_far k
-
-  looped : w ≡ and_then (holds below (env_in h) (along_in h) test s) going
-  looped =
-      sym left ∙ ap (λ m. loop_turns below m at test steps body (env_in o) (along_in o) (bound_in h) so_far s) count
-      ∙ loop-next below at test steps body (env_in o) (along_in o) (bound_in h) so_far k s
-      ∙ ap₂ (λ x y. and_then (holds below x y test s) going)
-      (sym (inner-env h inside ∙ ap (λ p. within (env_in p) (bound_in h).names) out))
-      (sym (inner-along h inside ∙ ap (λ p. within (along_in p) (bound_in h).dollars) out))
-
-  pub loop-stops : (f : EvalFault) (s2 : State) → holds below (env_in h) (along_in h) test s ≡ refuses f s2
-      → w ≡ refuses f s2
-  loop-stops f s2 e = looped ∙ stops _ _ f s2 e
-
-  pub loop-ends : (c : Bool) (s2 : State) → c ≡ false → holds below (env_in h) (along_in h) test s ≡ gives c s2
-      → w ≡ gives so_far s2
-  loop-ends c s2 ended e = looped ∙ goes _ _ c s2 e ∙ ap (λ b. going b s2) ended
-
-  module _ (h2 : Held) (same : h2 ≡ h) (c : Bool) (yes : c ≡ true) (s2 : State) (test_holds : holds below (env_in h) (along_in h) test s ≡ gives c s2) where
-    on_turn : w ≡ and_then (turn_on below at steps body (env_in (outer h2)) (along_in (outer h2)) (bound_in h2) so_far
-        s2) (rest below at test steps body (env_in o) (along_in o) (bound_in h) so_far k)
-    on_turn =
-        looped ∙ goes _ _ c s2 test_holds ∙ ap (λ b. going b s2) yes
-        ∙ ap (λ p. and_then (turn_on below at steps body (env_in p) (along_in p) (bound_in h) so_far s2)
-        (rest below at test steps body (env_in o) (along_in o) (bound_in h) so_far k)) (sym out)
-        ∙ ap (λ g. and_then (turn_on below at steps body (env_in (outer g)) (along_in (outer g)) (bound_in g) so_far s2)
-        (rest below at test steps body (env_in o) (along_in o) (bound_in h) so_far k)) (sym same)
-
-    pub on-stops : (f : EvalFault) (s3 : State) → turn_on below at steps body (env_in (outer h2)) (along_in (outer h2))
-        (bound_in h2) so_far s2 ≡ refuses f s3 → w ≡ refuses f s3
-    on-stops f s3 e = on_turn ∙ stops _ _ f s3 e
-
-    pub on-goes : (next : Bound) (now : List Datum) (s3 : State) → turn_on below at steps body (env_in (outer h2))
-        (along_in (outer h2)) (bound_in h2) so_far s2 ≡ gives (next, now) s3 → loop_turns below k at test steps body
-        (env_in o) (along_in o) next now s3 ≡ w
-    on-goes next now s3 e = sym (on_turn ∙ goes _ _ (next, now) s3 e)
-
-pub loop-over : (below : Below) (at : Place) (test : Expression) (steps : Arguments) (body : Element) (env along : Env)
-    (b : Bound) (so_far : List Datum) (s : State) (n : ℕ) → n ≡ 0 → loop_turns below n at test steps body env along b
-    so_far s ≡ over Steps at s
-unfolding loop_turns
-loop-over below at test steps body env along b so_far s n none = ap (λ m. loop_turns below m at test steps body env
-    along b so_far s) none
-
--- where the loops end
-pub ruleset loop_ends = (values-end, elements-end, names-end)

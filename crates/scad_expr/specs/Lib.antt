@@ -7,10 +7,12 @@ pub mod Machine
 pub mod Meaning
 pub mod Opened
 pub mod Parts
+pub mod Pieces
 pub mod Places
 pub mod Portions
 pub mod Printed
 pub mod Runs
+pub mod Stack
 pub mod State
 pub mod Tested
 pub mod Variables

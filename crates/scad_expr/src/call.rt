@@ -1,8 +1,7 @@
-//! Calls of functions, and the frames of a call.
+//! The values of arguments, and the frames of a call.
 
 ghost use Rattle.std.specs.Prelude.{◌≡◌, ◌∷◌, [], ◌<◌, length, map, option_map, IfOk, OnOk};
 ghost use Rattle.scad_ast.specs.Scope.{parameter};
-ghost use Rattle.scad_ast.specs.Tree.{call};
 ghost use Rattle.scad_ast.specs.View.{expression_of, arguments};
 ghost use Rattle.scad_value.specs.View.{datum_of, data_in};
 ghost use Rattle.scad_scope.specs.Env.{inside, frame};
@@ -10,20 +9,15 @@ ghost use Rattle.scad_scope.specs.Stored.{env_at, envs, children_in};
 ghost use Rattle.scad_scope.specs.View.{children_stored};
 ghost use Rattle.scad_expr.specs.Answers.{Does};
 ghost use Rattle.scad_expr.specs.Machine.{held, env_in, along_in, state_of};
-ghost use Rattle.scad_expr.specs.Meaning.{node, values, called_own, default_value, bound, bind, meaning};
+ghost use Rattle.scad_expr.specs.Meaning.{values, default_value, bound, bind, meaning};
 ghost use Rattle.scad_expr.specs.Opened.{opened, bound_in, left, opened_in};
-ghost use Rattle.scad_expr.specs.Portions.{call_own, call_known};
 ghost use Rattle.scad_expr.specs.Variables.{within};
-ghost use Rattle.scad_expr.specs.View.{found_at};
 
 use crate::fault::EvalFault;
-use crate::functions::DefinedAt;
-use crate::loans::lone_name;
 use crate::machine::Machine;
 use crate::opening::Call;
-use crate::walk::eval_at;
-use scad_ast::{Arg, Args, Expr, Param, Params};
-use scad_fault::Place;
+use crate::run::eval_at;
+use scad_ast::{Arg, Args, Param, Params};
 use scad_scope::Kept;
 use scad_value::Value;
 use std::alloc::Global;
@@ -71,71 +65,7 @@ pub fn bind<'p>(
     Ok(())
 }
 
-/// A call of a function by its name: the program's functions go before those of the language.
-#[cycle(eval)]
-#[tactic(auto, using(crate::proofs::InPlace::calls))]
-pub(crate) fn call_node<'p>(
-    alloc: Global,
-    at: Place,
-    word: &'p [u8],
-    args: &'p [Arg],
-    depth: u32,
-    m: &mut Machine<'p>,
-) -> Result<Value, EvalFault>
-    ensures does { Does datum_of (node (meaning depth) (env_in (held m.old)) (along_in (held m.old))
-        (call at word.now (arguments args.now)) (state_of m.old)) result (state_of m.new) }
-    ensures kept { OnOk result (held m.new ≡ held m.old) }
-{
-    match m.function(word)? {
-        Some(own) => call_own(alloc, own, args, depth, m),
-        None => call_known(alloc, at, word, args, depth, m),
-    }
-}
-
-/// A call of a function of the program.
-#[cycle(eval)]
-#[tactic(auto, unfolding(crate::specs::Portions::call_own))]
-fn call_own<'p>(
-    alloc: Global,
-    own: DefinedAt<'p>,
-    args: &'p [Arg],
-    depth: u32,
-    m: &mut Machine<'p>,
-) -> Result<Value, EvalFault>
-    requires { own.home < length (held m.old).frames }
-    ensures does { Does datum_of (call_own (meaning depth) (found_at (envs (held m.old).frames) own.entry)
-        (env_in (held m.old)) (along_in (held m.old)) (arguments args.now) (state_of m.old)) result
-        (state_of m.new) }
-    ensures kept { OnOk result (held m.new ≡ held m.old) }
-{
-    let found = values_at(alloc, args, depth, m)?;
-    called_own(alloc, own, args, found, depth, m)
-}
-
-/// A call of a function of the language. A variable that is its one argument is read where it stands.
-#[cycle(eval)]
-#[tactic(auto, using(crate::proofs::InPlace::known, crate::proofs::Lists::called_elements), unfolding(crate::specs::Portions::call_known))]
-fn call_known<'p>(
-    alloc: Global,
-    at: Place,
-    word: &'p [u8],
-    args: &'p [Arg],
-    depth: u32,
-    m: &mut Machine<'p>,
-) -> Result<Value, EvalFault>
-    ensures does { Does datum_of (call_known (meaning depth) at word.now (env_in (held m.old))
-        (along_in (held m.old)) (arguments args.now) (state_of m.old)) result (state_of m.new) }
-    ensures kept { OnOk result (held m.new ≡ held m.old) }
-{
-    if let Some((place, of)) = lone_name(args) {
-        return m.builtin_of(alloc, at, word, place, of, depth);
-    }
-    let found = values_at(alloc, args, depth, m)?;
-    m.builtin(alloc, at, word, &found)
-}
-
 /// The values of arguments, with so many levels of depth left.
-#[cycle(eval)]
 pub(crate) fn values_at<'p>(
     alloc: Global,
     args: &'p [Arg],
@@ -154,40 +84,7 @@ pub(crate) fn values_at<'p>(
     Ok(so_far)
 }
 
-/// A call of a function of the program with the values of its arguments.
-#[cycle(eval)]
-#[tactic(auto, unfolding(crate::specs::Meaning::called_own))]
-fn called_own<'p>(
-    alloc: Global,
-    own: DefinedAt<'p>,
-    args: &'p [Arg],
-    found: Vec<Value>,
-    depth: u32,
-    m: &mut Machine<'p>,
-) -> Result<Value, EvalFault>
-    requires { own.home < length (held m.old).frames }
-    ensures does { Does datum_of (called_own (meaning depth) (along_in (held m.old))
-        (found_at (envs (held m.old).frames) own.entry) (arguments args.now) (data_in found)
-        (state_of m.old)) result (state_of m.new) }
-    ensures kept { OnOk result (held m.new ≡ held m.old) }
-{
-    let back = bind_at(
-        alloc,
-        own.function.params,
-        args,
-        found,
-        own.home,
-        None,
-        depth,
-        m,
-    )?;
-    let value = eval_at(alloc, own.function.body, depth, m)?;
-    m.leave(back);
-    Ok(value)
-}
-
 /// Opens the frames of a call. Gives the number of the frame from which names were sought before.
-#[cycle(eval)]
 fn bind_at<'p>(
     alloc: Global,
     params: &'p [Param],
@@ -226,7 +123,6 @@ fn bind_at<'p>(
 }
 
 /// The default of a parameter, or `undef`.
-#[cycle(eval)]
 #[tactic(auto, unfolding(crate::specs::Meaning::default_value))]
 fn default_of<'p>(
     alloc: Global,

@@ -1,6 +1,6 @@
 //! Vectors and lines of `echo` that are made at a place.
 
-ghost use Rattle.std.specs.Prelude.{◌≡◌};
+ghost use Rattle.std.specs.Prelude.{◌≡◌, ◌≤◌, OnOk};
 ghost use Rattle.scad_ast.specs.View.{arguments};
 ghost use Rattle.scad_value.specs.Datum.{vector};
 ghost use Rattle.scad_value.specs.View.{datum_of, data_of};
@@ -32,6 +32,7 @@ impl<'p> Machine<'p> {
         ensures does { Does datum_of (make at (vector (as_elements (parts_in found))) (state_of self.old))
             result (state_of self.new) }
         ensures kept { held self.new ≡ held self.old }
+        ensures less { OnOk result (self.new.steps_left ≤ self.old.steps_left) }
     {
         let all = values_of(alloc, found)?;
         let value = Value::vector(alloc, all)?;
@@ -49,6 +50,7 @@ impl<'p> Machine<'p> {
         ensures does { Does nothing (say at (echo_line (arguments args.now) (data_of values.now))
             (state_of self.old)) result (state_of self.new) }
         ensures kept { held self.new ≡ held self.old }
+        ensures less { OnOk result (self.new.steps_left ≤ self.old.steps_left) }
     {
         let line = echo_line(alloc, args, values)?;
         self.say(alloc, at, &line)

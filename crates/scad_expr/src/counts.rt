@@ -1,6 +1,6 @@
 //! Steps, made values, lines and names of an evaluation.
 
-ghost use Rattle.std.specs.Prelude.{◌≡◌, Some};
+ghost use Rattle.std.specs.Prelude.{◌≡◌, ◌+◌, ◌≤◌, OnOk};
 ghost use Rattle.scad_value.specs.View.{datum_of};
 ghost use Rattle.scad_expr.specs.Answers.{Does, nothing};
 ghost use Rattle.scad_expr.specs.Machine.{held, env_in, along_in, state_of};
@@ -19,6 +19,7 @@ impl<'p> Machine<'p> {
     pub fn take(&mut self, count: u64, at: Place) -> Result<(), EvalFault>
         ensures does { Does nothing (take count at (state_of self.old)) result (state_of self.new) }
         ensures kept { held self.new ≡ held self.old }
+        ensures less { OnOk result (self.new.steps_left + count ≡ self.old.steps_left) }
     {
         if u64::from(self.steps_left) < count {
             return Err(EvalFault::Over(Budget::placed(BudgetKind::Steps, at)));
@@ -32,6 +33,7 @@ impl<'p> Machine<'p> {
     pub fn step(&mut self, at: Place) -> Result<(), EvalFault>
         ensures does { Does nothing (step at (state_of self.old)) result (state_of self.new) }
         ensures kept { held self.new ≡ held self.old }
+        ensures less { OnOk result (self.new.steps_left + 1 ≡ self.old.steps_left) }
     {
         self.take(1, at)
     }
@@ -41,6 +43,7 @@ impl<'p> Machine<'p> {
     pub fn make(&mut self, at: Place, value: Value) -> Result<Value, EvalFault>
         ensures does { Does datum_of (make at (datum_of value) (state_of self.old)) result (state_of self.new) }
         ensures kept { held self.new ≡ held self.old }
+        ensures less { OnOk result (self.new.steps_left ≤ self.old.steps_left) }
     {
         if nesting(&value) > 200 {
             return Err(EvalFault::Over(Budget::placed(BudgetKind::Depth, at)));
@@ -54,6 +57,7 @@ impl<'p> Machine<'p> {
     pub(crate) fn say(&mut self, alloc: Global, at: Place, line: &[char]) -> Result<(), EvalFault>
         ensures does { Does nothing (say at line.now (state_of self.old)) result (state_of self.new) }
         ensures kept { held self.new ≡ held self.old }
+        ensures less { OnOk result (self.new.steps_left ≤ self.old.steps_left) }
     {
         let text = encoded(alloc, line)?;
         self.echoes.push(text)?;

@@ -3,27 +3,34 @@
 //! lines of `echo` before it; only want of memory isn't promised away.
 #![tactic(auto)]
 
+mod answer;
 mod call;
+mod calls;
 mod construction;
 mod counts;
+mod defaults;
 mod echo_lines;
-mod element;
+mod elements;
 mod fault;
+mod frame;
 mod functions;
 pub mod laws;
 mod loans;
 mod lookup;
 mod machine;
+mod named;
 mod names;
+mod nodes;
 mod opening;
-mod operand;
 mod operations;
 mod parameters;
 mod part;
 mod pieces;
 mod requirements;
+mod run;
 mod sequence;
-mod turn;
+mod stack;
+mod turns;
 mod walk;
 mod within;
 

@@ -1,6 +1,6 @@
 //! Variables whose values are read where they stand, without a copy: `v[i]`, `v.x`, `len(v)`.
 
-ghost use Rattle.std.specs.Prelude.{◌≡◌, IfOk, IfErr, IfSome, OnOk, Ok, Some, option_map};
+ghost use Rattle.std.specs.Prelude.{◌≡◌, ◌+◌, ◌≤◌, IfOk, IfErr, IfSome, OnOk, Ok, Some, option_map};
 ghost use Rattle.scad_ast.specs.Tree.{name};
 ghost use Rattle.scad_ast.specs.View.{arguments};
 ghost use Rattle.scad_builtin.specs.Builtin.{builtin};
@@ -10,8 +10,8 @@ ghost use Rattle.scad_value.specs.Index.{indexed};
 ghost use Rattle.scad_value.specs.View.{datum_of};
 ghost use Rattle.scad_expr.specs.Answers.{Does};
 ghost use Rattle.scad_expr.specs.Machine.{held, env_in, along_in, state_of};
-ghost use Rattle.scad_expr.specs.Meaning.{meaning, member_of, value};
-ghost use Rattle.scad_expr.specs.Portions.{called_of, lone};
+ghost use Rattle.scad_expr.specs.Meaning.{called_builtin, member_of, value};
+ghost use Rattle.scad_expr.specs.Portions.{lone};
 ghost use Rattle.scad_expr.specs.Variables.{or_undef, variable};
 
 use crate::fault::EvalFault;
@@ -59,6 +59,7 @@ impl<'p> Machine<'p> {
             (value depth (env_in (held self.old)) (along_in (held self.old)) (name at word.now)
             (state_of self.old)) result (state_of self.new) }
         ensures kept { OnOk result (held self.new ≡ held self.old) }
+        ensures less { OnOk result (self.new.steps_left + 1 ≡ self.old.steps_left) }
     {
         let _bytes = word.len();
         if depth == 0 {
@@ -85,22 +86,21 @@ impl<'p> Machine<'p> {
         }
     }
 
-    /// A function of the language of one argument, a name that stands at a place.
-    #[tactic(auto, using(crate::proofs::InPlace::refused), unfolding(crate::specs::Portions::called_of, crate::specs::Meaning::called_builtin))]
-    pub(crate) fn builtin_of(
+    /// A function of the language of one argument, a variable.
+    #[tactic(auto, using(crate::proofs::InPlace::refused), unfolding(crate::specs::Meaning::called_builtin))]
+    pub(crate) fn builtin_on(
         &mut self,
         alloc: Global,
         at: Place,
         word: &[u8],
-        place: Place,
         of: &[u8],
-        depth: u32,
     ) -> Result<Value, EvalFault>
-        ensures does { Does datum_of (called_of (meaning depth) at word.now (env_in (held self.old))
-            (along_in (held self.old)) (name place of.now) (state_of self.old)) result (state_of self.new) }
+        ensures does { Does datum_of (called_builtin at word.now (builtin word.now (element (variable of.now
+            (env_in (held self.old)) (along_in (held self.old))) no_elements)) (state_of self.old)) result
+            (state_of self.new) }
         ensures kept { OnOk result (held self.new ≡ held self.old) }
+        ensures less { OnOk result (self.new.steps_left ≤ self.old.steps_left) }
     {
-        self.pass_name(place, of, depth)?;
         match self.of_variable(alloc, word, of) {
             Ok(value) => self.make(at, value),
             Err(e) => Err(refusal(alloc, at, word, e)),

@@ -85,6 +85,7 @@ impl<'p> Machine<'p> {
         ensures there { IfOk result (λ r. IfSome r (λ f. f.home < length (held self.old).frames)) }
         ensures kept { held self.new ≡ held self.old }
         ensures state { state_of self.new ≡ state_of self.old }
+        ensures same { self.new.steps_left ≡ self.old.steps_left }
     {
         function_from(&mut self.frames, self.here, name)
     }

@@ -55,6 +55,7 @@ impl<'p> Machine<'p> {
     #[tactic(auto, unfolding(crate::specs::Machine::held, crate::specs::Machine::state_of, crate::specs::Opened::opened))]
     fn enter(&mut self, home: u32, kept: Option<Kept<'p>>) -> Result<u32, EvalFault>
         ensures does { Does nothing (done_at (state_of self.old)) result (state_of self.new) }
+        ensures steps { OnOk result (self.new.steps_left ≡ self.old.steps_left) }
         ensures held { OnOk result (held self.new ≡ opened (option_map children_stored kept.entry)
             (length (held self.old).frames) home empty (held self.old)) }
         ensures back { IfOk result (λ back. back ≡ (held self.old).here) }
@@ -71,6 +72,7 @@ impl<'p> Machine<'p> {
     #[tactic(auto, using(crate::proofs::OpenFrames::opening))]
     pub fn open(&mut self) -> Result<u32, EvalFault>
         ensures does { Does nothing (done_at (state_of self.old)) result (state_of self.new) }
+        ensures steps { OnOk result (self.new.steps_left ≡ self.old.steps_left) }
         ensures inner { OnOk result (IsInner (held self.new)) }
         ensures bound { OnOk result (bound_in (held self.new) ≡ empty) }
         ensures outer { OnOk result (outer (held self.new) ≡ held self.old) }
@@ -92,6 +94,7 @@ impl<'p> Machine<'p> {
     #[tactic(auto, using(crate::proofs::OpenFrames::inner))]
     pub fn open_with(&mut self, name: &[u8], value: Value) -> Result<u32, EvalFault>
         ensures does { Does nothing (done_at (state_of self.old)) result (state_of self.new) }
+        ensures steps { OnOk result (self.new.steps_left ≡ self.old.steps_left) }
         ensures env { OnOk result (env_in (held self.new)
             ≡ within (env_in (held self.old)) (set_name name.now (datum_of value) empty).names) }
         ensures along { OnOk result (along_in (held self.new)
@@ -116,6 +119,7 @@ impl<'p> Machine<'p> {
         kept: Option<Kept<'p>>,
     ) -> Result<Call<'p>, EvalFault>
         ensures does { Does nothing (done_at (state_of self.old)) result (state_of self.new) }
+        ensures steps { OnOk result (self.new.steps_left ≡ self.old.steps_left) }
         ensures held { OnOk result (held self.new ≡ opened (option_map children_stored kept.entry)
             home home (set_all (given (parameter_names params.now) (arguments args.now)
             (data_in found)) empty) (held self.old)) }
@@ -140,6 +144,7 @@ impl<'p> Machine<'p> {
     /// Sets names in the last frames of their kinds.
     fn set_all(&mut self, all: Given<'p>) -> Result<(), EvalFault>
         ensures does { Does nothing (done_at (state_of self.old)) result (state_of self.new) }
+        ensures steps { OnOk result (self.new.steps_left ≡ self.old.steps_left) }
         ensures held { OnOk result (held self.new
             ≡ set_all_in_last (map shown all.entry.entries) (held self.old)) }
     {
@@ -153,6 +158,7 @@ impl<'p> Machine<'p> {
     #[tactic(auto, unfolding(crate::specs::Machine::held, crate::specs::Machine::state_of))]
     pub fn set(&mut self, name: &[u8], value: Value) -> Result<(), EvalFault>
         ensures does { Does nothing (done_at (state_of self.old)) result (state_of self.new) }
+        ensures steps { OnOk result (self.new.steps_left ≡ self.old.steps_left) }
         ensures held { OnOk result (held self.new
             ≡ set_in_last name.now (datum_of value) (held self.old)) }
     {
@@ -167,6 +173,7 @@ impl<'p> Machine<'p> {
     /// Where child statements are kept, sets `$children` to their number.
     pub(crate) fn count_children(&mut self, kept: Option<Kept<'p>>) -> Result<(), EvalFault>
         ensures does { Does nothing (done_at (state_of self.old)) result (state_of self.new) }
+        ensures steps { OnOk result (self.new.steps_left ≡ self.old.steps_left) }
         ensures held { OnOk result (held self.new
             ≡ with_count (option_map children_stored kept.entry) (held self.old)) }
     {
@@ -180,6 +187,7 @@ impl<'p> Machine<'p> {
     #[tactic(auto, unfolding(crate::specs::Machine::held, crate::specs::Machine::state_of))]
     pub fn go(&mut self, here: u32) -> u32
         ensures same { state_of self.new ≡ state_of self.old }
+        ensures steps { self.new.steps_left ≡ self.old.steps_left }
         ensures held { held self.new ≡ record (held self.old) { here = here } }
         ensures back { result ≡ (held self.old).here }
     {
@@ -192,6 +200,7 @@ impl<'p> Machine<'p> {
     #[tactic(auto, unfolding(crate::specs::Machine::held, crate::specs::Machine::state_of, crate::specs::Opened::left))]
     pub fn leave(&mut self, back: u32)
         ensures same { state_of self.new ≡ state_of self.old }
+        ensures steps { self.new.steps_left ≡ self.old.steps_left }
         ensures held { held self.new ≡ left back (held self.old) }
     {
         self.frames.pop();

@@ -1,6 +1,6 @@
 //! Values of operators and functions, and ranges, at a place in the source.
 
-ghost use Rattle.std.specs.Prelude.{◌≡◌, ◌≢◌, [], IfOk, Err};
+ghost use Rattle.std.specs.Prelude.{◌≡◌, ◌≢◌, ◌≤◌, [], IfOk, OnOk, Err};
 ghost use Rattle.scad_builtin.specs.Builtin.{builtin};
 ghost use Rattle.scad_value.specs.Datum.{number};
 ghost use Rattle.scad_value.specs.Operators.{op, unary_op};
@@ -56,6 +56,7 @@ impl<'p> Machine<'p> {
         ensures does { Does datum_of (operated at (op kind (datum_of a.now) (datum_of b.now))
             (state_of self.old)) result (state_of self.new) }
         ensures kept { held self.new ≡ held self.old }
+        ensures less { OnOk result (self.new.steps_left ≤ self.old.steps_left) }
     {
         match binary(alloc, kind, a, b) {
             Ok(value) => self.make(at, value),
@@ -76,6 +77,7 @@ impl<'p> Machine<'p> {
         ensures does { Does datum_of (make at (unary_op kind (datum_of a.now)) (state_of self.old))
             result (state_of self.new) }
         ensures kept { held self.new ≡ held self.old }
+        ensures less { OnOk result (self.new.steps_left ≤ self.old.steps_left) }
     {
         match unary(alloc, kind, a) {
             Ok(value) => self.make(at, value),
@@ -95,6 +97,7 @@ impl<'p> Machine<'p> {
         ensures does { Does datum_of (called_builtin at name.now (builtin name.now (elements args.now))
             (state_of self.old)) result (state_of self.new) }
         ensures kept { held self.new ≡ held self.old }
+        ensures less { OnOk result (self.new.steps_left ≤ self.old.steps_left) }
     {
         match call(alloc, name, args) {
             Ok(value) => self.make(at, value),

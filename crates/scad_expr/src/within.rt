@@ -1,24 +1,18 @@
-//! `let`, `assert` and `echo` before an expression, and names that are bound one behind another.
+//! Names that are bound one behind another.
 
 ghost use Rattle.std.specs.Prelude.{◌≡◌, IfOk, OnOk};
-ghost use Rattle.scad_ast.specs.Tree.{let_in, assert_in, echo_in};
 ghost use Rattle.scad_ast.specs.View.{expression_of, arguments};
-ghost use Rattle.scad_value.specs.View.{datum_of};
 ghost use Rattle.scad_expr.specs.Answers.{Does};
 ghost use Rattle.scad_expr.specs.Machine.{held, env_in, along_in, state_of};
-ghost use Rattle.scad_expr.specs.Meaning.{node, bound_in_order, meaning};
+ghost use Rattle.scad_expr.specs.Meaning.{bound_in_order, meaning};
 ghost use Rattle.scad_expr.specs.Opened.{bound_in, outer, left, IsInner};
 ghost use Rattle.scad_expr.specs.Portions.{bind_one};
 ghost use Rattle.scad_expr.specs.Variables.{empty, within};
 
-use crate::call::values_at;
 use crate::fault::EvalFault;
 use crate::machine::Machine;
-use crate::requirements::{asserted, judge_named};
-use crate::walk::eval_at;
-use scad_ast::{Arg, Args, Expr};
-use scad_fault::Place;
-use scad_value::Value;
+use crate::run::eval_at;
+use scad_ast::{Arg, Args};
 use std::alloc::Global;
 
 /// Opens frames for the names of a `let`, and binds them from left to right, each seeing those before it. Gives the number of
@@ -41,76 +35,10 @@ pub fn let_names<'p>(
     bind_names(alloc, args, depth, machine)
 }
 
-/// `let (names) body`
-#[cycle(eval)]
-#[tactic(auto, unfolding(crate::specs::Meaning::node))]
-pub(crate) fn let_node<'p>(
-    alloc: Global,
-    at: Place,
-    args: &'p [Arg],
-    body: &'p Expr,
-    depth: u32,
-    m: &mut Machine<'p>,
-) -> Result<Value, EvalFault>
-    ensures does { Does datum_of (node (meaning depth) (env_in (held m.old)) (along_in (held m.old))
-        (let_in at (arguments args.now) (expression_of body.now)) (state_of m.old))
-        result (state_of m.new) }
-    ensures kept { OnOk result (held m.new ≡ held m.old) }
-{
-    judge_named(alloc, at, b"let", args)?;
-    let back = bind_names(alloc, args, depth, m)?;
-    let value = eval_at(alloc, body, depth, m)?;
-    m.leave(back);
-    Ok(value)
-}
-
-/// `assert (arguments) body`
-#[cycle(eval)]
-#[tactic(auto, unfolding(crate::specs::Meaning::node))]
-pub(crate) fn assert_node<'p>(
-    alloc: Global,
-    at: Place,
-    args: &'p [Arg],
-    body: &'p Expr,
-    depth: u32,
-    m: &mut Machine<'p>,
-) -> Result<Value, EvalFault>
-    ensures does { Does datum_of (node (meaning depth) (env_in (held m.old)) (along_in (held m.old))
-        (assert_in at (arguments args.now) (expression_of body.now)) (state_of m.old))
-        result (state_of m.new) }
-    ensures kept { OnOk result (held m.new ≡ held m.old) }
-{
-    let found = values_at(alloc, args, depth, m)?;
-    asserted(alloc, at, args, &found)?;
-    eval_at(alloc, body, depth, m)
-}
-
-/// `echo (arguments) body`
-#[cycle(eval)]
-#[tactic(auto, unfolding(crate::specs::Meaning::node))]
-pub(crate) fn echo_node<'p>(
-    alloc: Global,
-    at: Place,
-    args: &'p [Arg],
-    body: &'p Expr,
-    depth: u32,
-    m: &mut Machine<'p>,
-) -> Result<Value, EvalFault>
-    ensures does { Does datum_of (node (meaning depth) (env_in (held m.old)) (along_in (held m.old))
-        (echo_in at (arguments args.now) (expression_of body.now)) (state_of m.old))
-        result (state_of m.new) }
-    ensures kept { OnOk result (held m.new ≡ held m.old) }
-{
-    let found = values_at(alloc, args, depth, m)?;
-    m.echo(alloc, at, args, &found)?;
-    eval_at(alloc, body, depth, m)
-}
-
 /// Opens frames for the names of a `let`, and binds them from left to right. Gives the number of the
 /// frame from which names were sought before.
-#[cycle(eval)]
 #[tactic(auto, using(crate::proofs::OpenFrames::inner))]
-pub(crate) fn bind_names<'p>(
+fn bind_names<'p>(
     alloc: Global,
     args: &'p [Arg],
     depth: u32,
@@ -133,8 +61,7 @@ pub(crate) fn bind_names<'p>(
 }
 
 /// Binds names from left to right in the last frames.
-#[cycle(eval)]
-pub(crate) fn set_names<'p>(
+fn set_names<'p>(
     alloc: Global,
     args: &'p [Arg],
     depth: u32,
@@ -154,7 +81,6 @@ pub(crate) fn set_names<'p>(
 }
 
 /// Binds a name in the last frames.
-#[cycle(eval)]
 #[tactic(auto, using(crate::proofs::OpenFrames::inner), unfolding(crate::specs::Portions::bind_one))]
 fn set_one<'p>(
     alloc: Global,

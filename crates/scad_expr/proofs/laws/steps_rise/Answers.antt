@@ -1,4 +1,4 @@
-use Rattle.scad_expr.proofs.Turns.{steps_rise}
+use Rattle.scad_expr.proofs.StepsAndTurns.{steps_rise}
 use Rattle.scad_expr.proofs.laws.steps_rise.Goals as goal
 
 pub returns : goal.returns

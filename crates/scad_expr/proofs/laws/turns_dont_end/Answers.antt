@@ -1,4 +1,4 @@
-use Rattle.scad_expr.proofs.Turns.{turns_dont_end}
+use Rattle.scad_expr.proofs.StepsAndTurns.{turns_dont_end}
 use Rattle.scad_expr.proofs.laws.turns_dont_end.Goals as goal
 
 pub returns : goal.returns

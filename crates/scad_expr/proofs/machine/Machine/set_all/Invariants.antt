@@ -8,4 +8,4 @@ abbrev pub invariant-names : goal.invariant-names
 invariant-names l =
     (set_all_in_last (map shown l.name-iterator) (held l.self) ≡ set_all_in_last (map shown l.fn.all.entries)
     (held l.fn.self))
-    × (state_of l.self ≡ state_of l.fn.self)
+    × (state_of l.self ≡ state_of l.fn.self) × (l.self.steps_left ≡ l.fn.self.steps_left)

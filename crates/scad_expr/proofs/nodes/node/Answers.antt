@@ -1,0 +1,65 @@
+use Rattle.std.proofs.Common.{◌≡◌, ℕ, List, sym, ap, ◌∙◌}
+use Rattle.std.proofs.lemmas.Result.{err_from_is_err_and}
+use Rattle.scad_ast.specs.Tree.{name}
+use Rattle.scad_ast.specs.View.{expression_at, expression_of}
+use Rattle.scad_value.specs.Datum.{Datum}
+use Rattle.scad_value.specs.View.{datum_of}
+use Rattle.scad_expr.specs.Machine.{held, env_in, along_in, state_of}
+use Rattle.scad_expr.specs.Meaning.{node}
+use Rattle.scad_expr.specs.Stack.{rest, made_in, goes_on}
+use Rattle.scad_expr.specs.Variables.{variable}
+use Rattle.scad_expr.proofs.Views.{list_node, call_node, let_node, assert_node, echo_node}
+use Rattle.scad_expr.proofs.StackBegins.{node-same}
+use Rattle.scad_expr.proofs.nodes.node.Goals as goal
+
+pub returns-in-List-clause-goes : goal.returns-in-List-clause-goes
+returns-in-List-clause-goes c = λ o is.
+    c.vector_node.ensures.goes o (is ∙ node-same c.args.depth (held c.args.m.now) (rest c.args.stack.now)
+    (made_in c.args.stack.now) (state_of c.args.m.now) _ _
+    (list_node c.args.e.now c.in-List.all c.deref.result.now c.in-List.is c.deref.ensures.value))
+
+pub returns-in-Call-clause-goes : goal.returns-in-Call-clause-goes
+returns-in-Call-clause-goes c = λ o is.
+    c.call_node.ensures.goes o (is ∙ node-same c.args.depth (held c.args.m.now) (rest c.args.stack.now)
+    (made_in c.args.stack.now) (state_of c.args.m.now) _ _
+    (call_node c.args.e.now c.in-Call.word c.in-Call.args c.as_slice-in-Call.result.now c.deref-in-Call.result.now
+    c.in-Call.is c.as_slice-in-Call.ensures c.deref-in-Call.ensures.value))
+
+pub returns-in-Let-clause-goes : goal.returns-in-Let-clause-goes
+returns-in-Let-clause-goes c = λ o is.
+    c.let_node.ensures.goes o (is ∙ node-same c.args.depth (held c.args.m.now) (rest c.args.stack.now)
+    (made_in c.args.stack.now) (state_of c.args.m.now) _ _
+    (let_node c.args.e.now c.in-Let.args c.in-Let.body c.deref-in-Let.result.now c.deref-in-Let-2.result.now
+    c.in-Let.is c.deref-in-Let.ensures.value c.deref-in-Let-2.ensures))
+
+pub returns-in-Assert-clause-goes : goal.returns-in-Assert-clause-goes
+returns-in-Assert-clause-goes c = λ o is.
+    c.assert_node.ensures.goes o (is ∙ node-same c.args.depth (held c.args.m.now) (rest c.args.stack.now)
+    (made_in c.args.stack.now) (state_of c.args.m.now) _ _
+    (assert_node c.args.e.now c.in-Assert.args c.in-Assert.body c.deref-in-Assert.result.now
+    c.deref-in-Assert-2.result.now c.in-Assert.is c.deref-in-Assert.ensures.value c.deref-in-Assert-2.ensures))
+
+pub returns-in-Echo-clause-goes : goal.returns-in-Echo-clause-goes
+returns-in-Echo-clause-goes c = λ o is.
+    c.echo_node.ensures.goes o (is ∙ node-same c.args.depth (held c.args.m.now) (rest c.args.stack.now)
+    (made_in c.args.stack.now) (state_of c.args.m.now) _ _
+    (echo_node c.args.e.now c.in-Echo.args c.in-Echo.body c.deref-in-Echo.result.now c.deref-in-Echo-2.result.now
+    c.in-Echo.is c.deref-in-Echo.ensures.value c.deref-in-Echo-2.ensures))
+
+pub returns-in_err-variable-in-Name-clause-goes : goal.returns-in_err-variable-in-Name-clause-goes
+returns-in_err-variable-in-Name-clause-goes c =
+    let p = err_from_is_err_and c.from_residual.result c.from_residual.ensures.1 in
+    rw (p.1, p.2) (λ o is some. let no = c.in_err-variable-in-Name.ensures (state_of c.args.m.now) some in (cc))
+
+pub returns-in_ok-variable-in-Name-clause-goes : goal.returns-in_ok-variable-in-Name-clause-goes
+unfolding node goes_on
+returns-in_ok-variable-in-Name-clause-goes c = λ o is.
+    let e = c.args.e.now in
+    let h = held c.args.m.now in
+    let word = c.as_slice.result.now in
+    let gives_it = c.in_ok-variable-in-Name.ensures (state_of c.args.m.now) in
+    let same : variable word (env_in h) (along_in h) ≡ datum_of c.in_ok-variable-in-Name.field-0 = cc in
+    is ∙ node-same c.args.depth h (rest c.args.stack.now) (made_in c.args.stack.now) (state_of c.args.m.now)
+    (name e.at word) (expression_of e)
+    (ap (λ (w : List ℕ). name e.at w) c.as_slice.ensures ∙ ap (expression_at e.at) (sym c.in-Name.is))
+    ∙ ap (λ (d : Datum). rest c.args.stack.now h (made_in c.args.stack.now) d (state_of c.args.m.now)) same

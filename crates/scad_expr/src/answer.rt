@@ -1,0 +1,171 @@
+//! What a frame does with a value.
+
+ghost use Rattle.scad_ast.specs.View.{expression_of};
+ghost use Rattle.scad_value.specs.View.{datum_of};
+ghost use Rattle.scad_expr.specs.Machine.{held, env_in, along_in, state_of};
+ghost use Rattle.scad_expr.specs.Meaning.{right_side, meaning};
+ghost use Rattle.scad_expr.specs.Opened.{left};
+ghost use Rattle.scad_expr.specs.Pieces.{side};
+ghost use Rattle.scad_expr.specs.Runs.{items};
+ghost use Rattle.scad_expr.specs.Stack.{Leads, Below_by, followed, followed_list, onto, rest, made_in, turns_of};
+
+use crate::calls::next_argument;
+use crate::defaults::next_parameter;
+use crate::elements::{add, either, if_element, make, more_elements, spread};
+use crate::fault::EvalFault;
+use crate::frame::{Focus, Frame, Variable};
+use crate::loans::index_in;
+use crate::machine::Machine;
+use crate::named::{bind_next, renew, tested};
+use crate::operations::{member, range, range_by_one};
+use crate::stack::Stack;
+use crate::turns::{course_of, turn};
+use scad_ast::{BinOp, Expr};
+use scad_fault::Place;
+use scad_value::{Value, index, truth};
+
+/// A frame goes on with a value.
+#[tactic(auto, using(crate::proofs::StackTurns::nodes), unfolding(crate::specs::Stack::onto, crate::specs::Stack::goes_on, crate::specs::Pieces::range_end, crate::specs::Pieces::stepped_end, crate::specs::Pieces::step_and_end, crate::specs::Pieces::index_of))]
+pub(crate) fn given<'p>(
+    frame: Frame<'p>,
+    v: Value,
+    stack: &mut Stack<'p>,
+    m: &mut Machine<'p>,
+) -> Result<Focus<'p>, EvalFault>
+    ensures goes { Leads (onto frame.entry (rest stack.old) (held m.old) (made_in stack.old) (datum_of v) (state_of m.old))
+        result stack.new m.new }
+    ensures less { Below_by 5 result stack.old m.old stack.new m.new }
+{
+    match frame {
+        Frame::RangeEnd(end, depth) => stack.wait(Frame::Ends(v), end, depth),
+        Frame::Ends(a) => Ok(Focus::Given(range_by_one(&a, &v))),
+        Frame::StepAndEnd(at, step, end, depth) => {
+            stack.wait(Frame::SteppedEnd(at, v, end, depth), step, depth)
+        }
+        Frame::SteppedEnd(at, a, end, depth) => stack.wait(Frame::Stepped(at, a, v), end, depth),
+        Frame::Stepped(at, a, s) => Ok(Focus::Given(range(stack.alloc(), at, &a, &s, &v)?)),
+        Frame::Unary(at, op) => Ok(Focus::Given(m.unary(stack.alloc(), at, op, &v)?)),
+        Frame::Right(at, op, b, depth) => {
+            let right = Right { at, op, b, depth };
+            right_side(right, v, stack, m)
+        }
+        Frame::Truth => Ok(Focus::Given(Value::Bool(truth(&v)))),
+        Frame::Operand(at, op, a) => { Ok(Focus::Given(m.binary(stack.alloc(), at, op, &a, &v)?)) }
+        Frame::Sides(a, b, depth) => side(&v, a, b, depth, stack, m),
+        Frame::IndexOf(i, depth) => stack.wait(Frame::Indexed(v), i, depth),
+        Frame::Indexed(a) => Ok(Focus::Given(index(stack.alloc(), &a, &v)?)),
+        Frame::IndexedName(word) => { Ok(Focus::Given(index_in(stack.alloc(), m.seek(word), &v)?)) }
+        Frame::Member(word) => Ok(Focus::Given(member(stack.alloc(), &v, word)?)),
+        Frame::Arguments(supply, more) => next_argument(supply, more, v, stack, m),
+        Frame::Default(name, opening) => next_parameter(name, opening, v, stack, m),
+        Frame::Leave(back) => leave(back, v, stack, m),
+        Frame::Bind(name, more, within) => bind_next(name, more, within, v, stack, m),
+        Frame::Vector(at, outer) => make(at, outer, stack, m),
+        Frame::Elements(more, depth) => more_elements(more, depth, stack, m),
+        Frame::Item => add(v, stack, m),
+        Frame::Each(outer) => spread(outer, stack, m),
+        Frame::If(e, depth) => if_element(&v, e, depth, stack, m),
+        Frame::Either(e, other, depth) => either(&v, e, other, depth, stack, m),
+        Frame::Over(variable) => over(variable, v, stack, m),
+        Frame::Turns(variable, left) => turn(variable, left, stack, m),
+        Frame::Test(all, back, depth) => tested(all, back, depth, &v, stack, m),
+        Frame::Body(all, back, depth) => renew(all, back, depth, stack, m),
+    }
+}
+
+/// An operator and its right side.
+#[derive(Clone, Copy)]
+struct Right<'p> {
+    at: Place,
+    op: BinOp,
+    b: &'p Expr,
+    depth: u32,
+}
+
+/// The right side of an operator whose left operand has its value.
+#[tactic(auto, using(crate::proofs::StackTurns::nodes), unfolding(crate::specs::Meaning::right_side, crate::specs::Meaning::truth_of, crate::specs::Stack::onto, crate::specs::Stack::goes_on))]
+fn right_side<'p>(
+    right: Right<'p>,
+    v: Value,
+    stack: &mut Stack<'p>,
+    m: &mut Machine<'p>,
+) -> Result<Focus<'p>, EvalFault>
+    ensures goes { Leads (followed (right_side (meaning right.entry.depth) (env_in (held m.old)) (along_in (held m.old))
+        right.entry.at right.entry.op (datum_of v) (expression_of right.entry.b.now)) stack.old m.old) result stack.new m.new }
+    ensures less { Below_by 4 result stack.old m.old stack.new m.new }
+{
+    let Right { at, op, b, depth } = right;
+    let _steps = m.steps_left;
+    match op {
+        BinOp::Or => {
+            if truth(&v) {
+                Ok(Focus::Given(Value::Bool(true)))
+            } else {
+                stack.wait(Frame::Truth, b, depth)
+            }
+        }
+        BinOp::And => {
+            if truth(&v) {
+                stack.wait(Frame::Truth, b, depth)
+            } else {
+                Ok(Focus::Given(Value::Bool(false)))
+            }
+        }
+        _ => stack.wait(Frame::Operand(at, op, v), b, depth),
+    }
+}
+
+/// The side of a choice whose test has its value.
+#[tactic(auto, unfolding(crate::specs::Pieces::side, crate::specs::Stack::onto, crate::specs::Stack::goes_on))]
+fn side<'p>(
+    v: &Value,
+    a: &'p Expr,
+    b: &'p Expr,
+    depth: u32,
+    stack: &mut Stack<'p>,
+    m: &mut Machine<'p>,
+) -> Result<Focus<'p>, EvalFault>
+    ensures goes { Leads (followed (side (meaning depth) (env_in (held m.old)) (along_in (held m.old)) (datum_of v.now)
+        (expression_of a.now) (expression_of b.now)) stack.old m.old) result stack.new m.new }
+    ensures less { Below_by 4 result stack.old m.old stack.new m.new }
+{
+    let _work = (stack.alloc(), m.steps_left);
+    if truth(v) {
+        Ok(Focus::Part(a, depth))
+    } else {
+        Ok(Focus::Part(b, depth))
+    }
+}
+
+/// Frames of names are left.
+#[tactic(auto, unfolding(crate::specs::Stack::goes_on))]
+fn leave<'p>(
+    back: u32,
+    v: Value,
+    stack: &mut Stack<'p>,
+    m: &mut Machine<'p>,
+) -> Result<Focus<'p>, EvalFault>
+    ensures goes { Leads (rest stack.old (left back (held m.old)) (made_in stack.old) (datum_of v) (state_of m.old))
+        result stack.new m.new }
+    ensures less { Below_by 4 result stack.old m.old stack.new m.new }
+{
+    let _alloc = stack.alloc();
+    m.leave(back);
+    Ok(Focus::Given(v))
+}
+
+/// A variable runs over the value.
+#[tactic(auto, using(crate::proofs::StackTurns::nodes))]
+fn over<'p>(
+    variable: Variable<'p>,
+    v: Value,
+    stack: &mut Stack<'p>,
+    m: &mut Machine<'p>,
+) -> Result<Focus<'p>, EvalFault>
+    ensures goes { Leads (followed_list (turns_of variable.entry (held m.old) (items (datum_of v)) (made_in stack.old))
+        stack.old m.old) result stack.new m.new }
+    ensures less { Below_by 4 result stack.old m.old stack.new m.new }
+{
+    let left = course_of(stack.alloc(), v)?;
+    turn(variable, left, stack, m)
+}

@@ -1,0 +1,233 @@
+//! Arguments one by one, and what is done once each has its value.
+
+ghost use Rattle.std.specs.Prelude.{◌<◌, ◌++◌, ◌∷◌, [], length};
+ghost use Rattle.scad_ast.specs.View.{arguments, expression_of};
+ghost use Rattle.scad_builtin.specs.Builtin.{builtin};
+ghost use Rattle.scad_value.specs.View.{datum_of, data_in, data_of};
+ghost use Rattle.scad_scope.specs.Stored.{envs};
+ghost use Rattle.scad_expr.specs.Machine.{held, env_in, along_in, state_of};
+ghost use Rattle.scad_expr.specs.Meaning.{called_builtin, called_own, meaning, value};
+ghost use Rattle.scad_expr.specs.Runs.{as_elements};
+ghost use Rattle.scad_expr.specs.Stack.{Leads, Below_by, followed, supplied, served_in, supplied_in, called_as};
+ghost use Rattle.scad_expr.specs.Variables.{variable};
+ghost use Rattle.scad_expr.specs.View.{found_at};
+
+use crate::defaults::fill;
+use crate::fault::EvalFault;
+use crate::frame::{Focus, Frame, Opening, Purpose, Supply, Written};
+use crate::functions::DefinedAt;
+use crate::machine::Machine;
+use crate::opening::Call;
+use crate::requirements::asserted;
+use crate::stack::Stack;
+use scad_ast::{Arg, Expr};
+use scad_fault::Place;
+use scad_value::Value;
+
+/// The next argument, or what is done with the values of all.
+#[tactic(auto, using(crate::proofs::StackTurns::calls), unfolding(crate::specs::Stack::onto))]
+pub(crate) fn arguments<'p>(
+    supply: Supply<'p>,
+    args: &'p [Arg],
+    stack: &mut Stack<'p>,
+    m: &mut Machine<'p>,
+) -> Result<Focus<'p>, EvalFault>
+    ensures goes { Leads (followed (supplied_in supply.entry (held m.old) (arguments args.now)) stack.old m.old)
+        result stack.new m.new }
+    ensures less { Below_by 4 result stack.old m.old stack.new m.new }
+{
+    match args {
+        [first, more @ ..] => {
+            let depth = supply.depth;
+            stack.wait(Frame::Arguments(supply, more), &first.value, depth)
+        }
+        [] => serve(supply, stack, m),
+    }
+}
+
+/// An argument has its value.
+#[tactic(auto, using(crate::proofs::StackTurns::calls, crate::proofs::RunsLeft::kinds))]
+pub(crate) fn next_argument<'p>(
+    supply: Supply<'p>,
+    more: &'p [Arg],
+    v: Value,
+    stack: &mut Stack<'p>,
+    m: &mut Machine<'p>,
+) -> Result<Focus<'p>, EvalFault>
+    ensures goes { Leads (followed (supplied (meaning supply.entry.depth) supply.entry.purpose (env_in (held m.old))
+        (along_in (held m.old)) (arguments more.now) (data_in supply.entry.so_far ++ datum_of v ∷ [])) stack.old m.old)
+        result stack.new m.new }
+    ensures less { Below_by 4 result stack.old m.old stack.new m.new }
+{
+    let Supply {
+        purpose,
+        so_far,
+        depth,
+    } = supply;
+    let mut all = so_far;
+    all.push(v)?;
+    let longer = Supply {
+        purpose,
+        so_far: all,
+        depth,
+    };
+    arguments(longer, more, stack, m)
+}
+
+/// What is done with the values of arguments.
+#[tactic(auto, using(crate::proofs::StackTurns::nodes), unfolding(crate::specs::Stack::served))]
+fn serve<'p>(
+    supply: Supply<'p>,
+    stack: &mut Stack<'p>,
+    m: &mut Machine<'p>,
+) -> Result<Focus<'p>, EvalFault>
+    ensures goes { Leads (followed (served_in supply.entry (held m.old)) stack.old m.old) result stack.new m.new }
+    ensures less { Below_by 4 result stack.old m.old stack.new m.new }
+{
+    let Supply {
+        purpose,
+        so_far,
+        depth,
+    } = supply;
+    match purpose {
+        Purpose::Call(written) => called(written, so_far, depth, stack, m),
+        Purpose::Assert(at, args, body) => {
+            asserted(stack.alloc(), at, args, &so_far)?;
+            begin(body, depth, stack, m)
+        }
+        Purpose::Echo(at, args, body) => {
+            m.echo(stack.alloc(), at, args, &so_far)?;
+            begin(body, depth, stack, m)
+        }
+    }
+}
+
+/// An expression for which no frame waits.
+#[tactic(auto, unfolding(crate::specs::Stack::goes_on))]
+fn begin<'p>(
+    e: &'p Expr,
+    depth: u32,
+    _stack: &mut Stack<'p>,
+    _m: &mut Machine<'p>,
+) -> Result<Focus<'p>, EvalFault>
+    ensures goes { Leads (followed (value depth (env_in (held _m.old)) (along_in (held _m.old)) (expression_of e.now))
+        _stack.old _m.old) result _stack.new _m.new }
+    ensures less { Below_by 0 result _stack.old _m.old _stack.new _m.new }
+{
+    Ok(Focus::Part(e, depth))
+}
+
+/// A call with the values of its arguments: the program's functions go before those of the language.
+#[tactic(auto, using(crate::proofs::StackTurns::calls))]
+fn called<'p>(
+    written: Written<'p>,
+    found: Vec<Value>,
+    depth: u32,
+    stack: &mut Stack<'p>,
+    m: &mut Machine<'p>,
+) -> Result<Focus<'p>, EvalFault>
+    ensures goes { Leads (followed (called_as written.entry depth (held m.old) (data_in found)) stack.old m.old)
+        result stack.new m.new }
+    ensures less { Below_by 4 result stack.old m.old stack.new m.new }
+{
+    match m.function(written.word)? {
+        Some(own) => call_own(own, written.args, found, depth, stack, m),
+        None => call_known(written.at, written.word, &found, stack, m),
+    }
+}
+
+/// A call of a function of the language.
+#[tactic(auto, using(crate::proofs::StackTurns::calls, crate::proofs::Lists::called_elements), unfolding(crate::specs::Stack::goes_on))]
+fn call_known<'p>(
+    at: Place,
+    word: &'p [u8],
+    found: &[Value],
+    stack: &mut Stack<'p>,
+    m: &mut Machine<'p>,
+) -> Result<Focus<'p>, EvalFault>
+    ensures goes { Leads (followed (called_builtin at word.now (builtin word.now (as_elements (data_of found.now))))
+        stack.old m.old) result stack.new m.new }
+    ensures less { Below_by 4 result stack.old m.old stack.new m.new }
+{
+    Ok(Focus::Given(m.builtin(stack.alloc(), at, word, found)?))
+}
+
+/// A call whose one argument is a variable, which a function of the language reads where it stands.
+#[tactic(auto, using(crate::proofs::StackTurns::calls), unfolding(crate::specs::Stack::goes_on))]
+pub(crate) fn call_of_name<'p>(
+    written: Written<'p>,
+    of: &'p [u8],
+    depth: u32,
+    stack: &mut Stack<'p>,
+    m: &mut Machine<'p>,
+) -> Result<Focus<'p>, EvalFault>
+    ensures goes { Leads (followed (called_as written.entry depth (held m.old) (variable of.now (env_in (held m.old))
+        (along_in (held m.old)) ∷ [])) stack.old m.old) result stack.new m.new }
+    ensures less { Below_by 4 result stack.old m.old stack.new m.new }
+{
+    match m.function(written.word)? {
+        Some(own) => own_of_name(own, written.args, of, depth, stack, m),
+        None => Ok(Focus::Given(m.builtin_on(stack.alloc(), written.at, written.word, of)?)),
+    }
+}
+
+/// A call of a function of the program whose one argument is a variable.
+#[tactic(auto, using(crate::proofs::StackTurns::calls))]
+fn own_of_name<'p>(
+    own: DefinedAt<'p>,
+    args: &'p [Arg],
+    of: &'p [u8],
+    depth: u32,
+    stack: &mut Stack<'p>,
+    m: &mut Machine<'p>,
+) -> Result<Focus<'p>, EvalFault>
+    requires { own.home < length (held m.old).frames }
+    ensures goes { Leads (followed (called_own (meaning depth) (along_in (held m.old))
+        (found_at (envs (held m.old).frames) own.entry) (arguments args.now) (variable of.now (env_in (held m.old))
+        (along_in (held m.old)) ∷ [])) stack.old m.old) result stack.new m.new }
+    ensures less { Below_by 4 result stack.old m.old stack.new m.new }
+{
+    let value = m.variable(stack.alloc(), of)?;
+    let mut found = Vec::new(stack.alloc());
+    found.push(value)?;
+    call_own(own, args, found, depth, stack, m)
+}
+
+/// A call of a function of the program.
+#[tactic(auto, using(crate::proofs::StackTurns::calls))]
+fn call_own<'p>(
+    own: DefinedAt<'p>,
+    args: &'p [Arg],
+    found: Vec<Value>,
+    depth: u32,
+    stack: &mut Stack<'p>,
+    m: &mut Machine<'p>,
+) -> Result<Focus<'p>, EvalFault>
+    requires { own.home < length (held m.old).frames }
+    ensures goes { Leads (followed (called_own (meaning depth) (along_in (held m.old))
+        (found_at (envs (held m.old).frames) own.entry) (arguments args.now) (data_in found)) stack.old m.old)
+        result stack.new m.new }
+    ensures less { Below_by 4 result stack.old m.old stack.new m.new }
+{
+    let Call {
+        missing,
+        inner,
+        back,
+    } = m.call(
+        stack.alloc(),
+        own.function.params,
+        args,
+        found,
+        own.home,
+        None,
+    )?;
+    let opening = Opening {
+        missing,
+        next: 0,
+        body: own.function.body,
+        inner,
+        back,
+        depth,
+    };
+    fill(opening, stack, m)
+}

@@ -1,0 +1,279 @@
+//! Expressions that begin.
+
+ghost use Rattle.std.specs.Prelude.{◌≡◌, ◌+◌, ◌≤◌, ◌*◌, IfOk};
+ghost use Rattle.scad_ast.specs.Tree.{name, vector, index, member, let_in, assert_in, echo_in};
+ghost use Rattle.scad_ast.specs.View.{expression_of, arguments};
+ghost use Rattle.scad_ast.specs.View.{elements as tree_elements};
+ghost use Rattle.scad_value.specs.Datum.{string};
+ghost use Rattle.scad_expr.specs.Machine.{Held, held, env_in, along_in, state_of};
+ghost use Rattle.scad_expr.specs.Meaning.{node, value, meaning};
+ghost use Rattle.scad_expr.specs.Stack.{Whole, Goes, Leads, Below_by, followed, written_node, rest, height, made_in, rank, size};
+ghost use Rattle.scad_expr.specs.State.{State, Outcome};
+
+use crate::calls::{arguments, call_of_name};
+use crate::elements::more_elements;
+use crate::fault::EvalFault;
+use crate::frame::{Focus, Frame, Inside, Name, Purpose, Supply, Within, Written};
+use crate::loans::{lone_name, member_in};
+use crate::machine::Machine;
+use crate::named::bind_more;
+use crate::requirements::judge_named;
+use crate::stack::Stack;
+use scad_ast::{Arg, Elem, Expr, Node};
+use scad_fault::{Budget, BudgetKind, Chars, Place};
+use scad_value::Value;
+
+/// An expression that begins, with so many levels of depth left.
+#[tactic(auto, using(crate::proofs::StackTurns::depths), unfolding(crate::specs::Meaning::value_layer, crate::specs::State::over))]
+pub(crate) fn part<'p>(
+    e: &'p Expr,
+    depth: u32,
+    stack: &mut Stack<'p>,
+    m: &mut Machine<'p>,
+) -> Result<Focus<'p>, EvalFault>
+    ensures goes { Leads (followed (value depth (env_in (held m.old)) (along_in (held m.old)) (expression_of e.now))
+        stack.old m.old) result stack.new m.new }
+    ensures less { IfOk result (λ f. size f stack.new m.new + 1 ≤ 2 * height stack.old + 16 * m.old.steps_left) }
+{
+    if depth == 0 {
+        return Err(EvalFault::Over(Budget::placed(BudgetKind::Depth, e.at)));
+    }
+    m.step(e.at)?;
+    node(e, depth - 1, stack, m)
+}
+
+/// One arm for each kind of expression.
+#[tactic(auto, using(crate::proofs::Views::views, crate::proofs::StackTurns::nodes), unfolding(crate::specs::Meaning::node, crate::specs::Pieces::range_end, crate::specs::Pieces::stepped_end, crate::specs::Pieces::step_and_end, crate::specs::Pieces::side, crate::specs::Stack::onto, crate::specs::Stack::goes_on))]
+fn node<'p>(
+    e: &'p Expr,
+    depth: u32,
+    stack: &mut Stack<'p>,
+    m: &mut Machine<'p>,
+) -> Result<Focus<'p>, EvalFault>
+    ensures goes { Leads (followed (node (meaning depth) (env_in (held m.old)) (along_in (held m.old))
+        (expression_of e.now)) stack.old m.old) result stack.new m.new }
+    ensures less { Below_by 9 result stack.old m.old stack.new m.new }
+{
+    match &e.node {
+        Node::Undef => Ok(Focus::Given(Value::Undef)),
+        Node::Bool(b) => Ok(Focus::Given(Value::Bool(*b))),
+        Node::Number(n) => Ok(Focus::Given(Value::Number(*n))),
+        Node::Str(chars) => string_node(chars, stack),
+        Node::Name(word) => Ok(Focus::Given(m.variable(stack.alloc(), word.as_slice())?)),
+        Node::List(all) => vector_node(e.at, all, depth, stack, m),
+        Node::Range(start, None, end) => stack.wait(Frame::RangeEnd(end, depth), start, depth),
+        Node::Range(start, Some(step), end) => {
+            stack.wait(Frame::StepAndEnd(e.at, step, end, depth), start, depth)
+        }
+        Node::Unary(op, a) => stack.wait(Frame::Unary(e.at, *op), a, depth),
+        Node::Binary(op, a, b) => stack.wait(Frame::Right(e.at, *op, b, depth), a, depth),
+        Node::Choose(test, a, b) => stack.wait(Frame::Sides(a, b, depth), test, depth),
+        Node::Index(a, i) => index_node(e.at, a, i, depth, stack, m),
+        Node::Member(a, word) => member_node(e.at, a, word.as_slice(), depth, stack, m),
+        Node::Call(word, args) => {
+            let written = Written {
+                at: e.at,
+                word: word.as_slice(),
+                args,
+            };
+            call_node(written, depth, stack, m)
+        }
+        Node::Let(args, body) => let_node(e.at, args, body, depth, stack, m),
+        Node::Assert(args, body) => assert_node(e.at, args, body, depth, stack, m),
+        Node::Echo(args, body) => echo_node(e.at, args, body, depth, stack, m),
+    }
+}
+
+/// A string.
+#[tactic(auto, unfolding(crate::specs::Stack::goes_on))]
+fn string_node<'p>(chars: &'p Chars, stack: &mut Stack<'p>) -> Result<Focus<'p>, EvalFault>
+    ensures goes { (h : Held) (s : State) (o : Outcome Whole) → o ≡ rest stack.old h (made_in stack.old) (string chars.now) s
+        → Goes o result (rest stack.new) h (made_in stack.new) s }
+    ensures less { IfOk result (λ f. rank f + 2 * height stack.new ≡ 2 * height stack.old + 4) }
+{
+    let copy = Chars::of(stack.alloc(), chars.as_slice())?;
+    Ok(Focus::Given(Value::string(stack.alloc(), copy)?))
+}
+
+/// The vector of these elements.
+#[tactic(auto, using(crate::proofs::StackTurns::nodes), unfolding(crate::specs::Meaning::node, crate::specs::Stack::onto, crate::specs::Stack::goes_on))]
+fn vector_node<'p>(
+    at: Place,
+    all: &'p [Elem],
+    depth: u32,
+    stack: &mut Stack<'p>,
+    m: &mut Machine<'p>,
+) -> Result<Focus<'p>, EvalFault>
+    ensures goes { Leads (followed (node (meaning depth) (env_in (held m.old)) (along_in (held m.old))
+        (vector at (tree_elements all.now))) stack.old m.old) result stack.new m.new }
+    ensures less { Below_by 9 result stack.old m.old stack.new m.new }
+{
+    let none = Vec::new(stack.alloc());
+    let outer = stack.exchange(none);
+    stack.push(Frame::Vector(at, outer))?;
+    more_elements(all, depth, stack, m)
+}
+
+/// A value that is indexed, and its index.
+#[tactic(auto, using(crate::proofs::StackTurns::nodes), unfolding(crate::specs::Meaning::node, crate::specs::Stack::onto, crate::specs::Pieces::index_of))]
+fn index_node<'p>(
+    at: Place,
+    a: &'p Expr,
+    i: &'p Expr,
+    depth: u32,
+    stack: &mut Stack<'p>,
+    m: &mut Machine<'p>,
+) -> Result<Focus<'p>, EvalFault>
+    ensures goes { Leads (followed (node (meaning depth) (env_in (held m.old)) (along_in (held m.old))
+        (index at (expression_of a.now) (expression_of i.now))) stack.old m.old) result stack.new m.new }
+    ensures less { Below_by 9 result stack.old m.old stack.new m.new }
+{
+    match &a.node {
+        Node::Name(word) => {
+            let name = Name {
+                at: a.at,
+                word: word.as_slice(),
+            };
+            index_of_name(at, name, i, depth, stack, m)
+        }
+        _ => stack.wait(Frame::IndexOf(i, depth), a, depth),
+    }
+}
+
+/// `name[i]`, where the variable's value isn't copied.
+#[tactic(auto, using(crate::proofs::StackTurns::nodes), unfolding(crate::specs::Meaning::node, crate::specs::Stack::onto))]
+fn index_of_name<'p>(
+    _at: Place,
+    of: Name<'p>,
+    i: &'p Expr,
+    depth: u32,
+    stack: &mut Stack<'p>,
+    m: &mut Machine<'p>,
+) -> Result<Focus<'p>, EvalFault>
+    ensures goes { Leads (followed (node (meaning depth) (env_in (held m.old)) (along_in (held m.old))
+        (index _at (name of.entry.at of.entry.word.now) (expression_of i.now))) stack.old m.old) result stack.new m.new }
+    ensures less { Below_by 9 result stack.old m.old stack.new m.new }
+{
+    m.pass_name(of.at, of.word, depth)?;
+    stack.wait(Frame::IndexedName(of.word), i, depth)
+}
+
+/// A member of a value; that of a variable is read where it stands.
+#[tactic(auto, using(crate::proofs::StackTurns::nodes), unfolding(crate::specs::Meaning::node, crate::specs::Stack::onto, crate::specs::Stack::goes_on))]
+fn member_node<'p>(
+    at: Place,
+    a: &'p Expr,
+    word: &'p [u8],
+    depth: u32,
+    stack: &mut Stack<'p>,
+    m: &mut Machine<'p>,
+) -> Result<Focus<'p>, EvalFault>
+    ensures goes { Leads (followed (node (meaning depth) (env_in (held m.old)) (along_in (held m.old))
+        (member at (expression_of a.now) word.now)) stack.old m.old) result stack.new m.new }
+    ensures less { Below_by 9 result stack.old m.old stack.new m.new }
+{
+    let _place = at;
+    match &a.node {
+        Node::Name(name) => {
+            m.pass_name(a.at, name.as_slice(), depth)?;
+            Ok(Focus::Given(member_in(stack.alloc(), m.seek(name.as_slice()), word)?))
+        }
+        _ => stack.wait(Frame::Member(word), a, depth),
+    }
+}
+
+/// A call.
+#[tactic(auto, using(crate::proofs::StackTurns::calls), unfolding(crate::specs::Meaning::node, crate::specs::Stack::supplied, crate::specs::Stack::served))]
+fn call_node<'p>(
+    written: Written<'p>,
+    depth: u32,
+    stack: &mut Stack<'p>,
+    m: &mut Machine<'p>,
+) -> Result<Focus<'p>, EvalFault>
+    ensures goes { Leads (followed (written_node written.entry depth (held m.old)) stack.old m.old)
+        result stack.new m.new }
+    ensures less { Below_by 9 result stack.old m.old stack.new m.new }
+{
+    match lone_name(written.args) {
+        Some((at, word)) => {
+            m.pass_name(at, word, depth)?;
+            call_of_name(written, word, depth, stack, m)
+        }
+        None => {
+            let supply = Supply {
+                purpose: Purpose::Call(written),
+                so_far: Vec::new(stack.alloc()),
+                depth,
+            };
+            arguments(supply, written.args, stack, m)
+        }
+    }
+}
+
+/// `let (names) body`
+#[tactic(auto, using(crate::proofs::StackTurns::names), unfolding(crate::specs::Meaning::node))]
+fn let_node<'p>(
+    at: Place,
+    args: &'p [Arg],
+    body: &'p Expr,
+    depth: u32,
+    stack: &mut Stack<'p>,
+    m: &mut Machine<'p>,
+) -> Result<Focus<'p>, EvalFault>
+    ensures goes { Leads (followed (node (meaning depth) (env_in (held m.old)) (along_in (held m.old))
+        (let_in at (arguments args.now) (expression_of body.now))) stack.old m.old) result stack.new m.new }
+    ensures less { Below_by 9 result stack.old m.old stack.new m.new }
+{
+    judge_named(stack.alloc(), at, b"let", args)?;
+    let back = m.open()?;
+    let within = Within {
+        inside: Inside::Value(body),
+        back,
+        depth,
+    };
+    bind_more(within, args, stack, m)
+}
+
+/// `assert (arguments) body`
+#[tactic(auto, using(crate::proofs::StackTurns::nodes), unfolding(crate::specs::Meaning::node, crate::specs::Stack::supplied, crate::specs::Stack::served))]
+fn assert_node<'p>(
+    at: Place,
+    args: &'p [Arg],
+    body: &'p Expr,
+    depth: u32,
+    stack: &mut Stack<'p>,
+    m: &mut Machine<'p>,
+) -> Result<Focus<'p>, EvalFault>
+    ensures goes { Leads (followed (node (meaning depth) (env_in (held m.old)) (along_in (held m.old))
+        (assert_in at (arguments args.now) (expression_of body.now))) stack.old m.old) result stack.new m.new }
+    ensures less { Below_by 9 result stack.old m.old stack.new m.new }
+{
+    let supply = Supply {
+        purpose: Purpose::Assert(at, args, body),
+        so_far: Vec::new(stack.alloc()),
+        depth,
+    };
+    arguments(supply, args, stack, m)
+}
+
+/// `echo (arguments) body`
+#[tactic(auto, using(crate::proofs::StackTurns::nodes), unfolding(crate::specs::Meaning::node, crate::specs::Stack::supplied, crate::specs::Stack::served))]
+fn echo_node<'p>(
+    at: Place,
+    args: &'p [Arg],
+    body: &'p Expr,
+    depth: u32,
+    stack: &mut Stack<'p>,
+    m: &mut Machine<'p>,
+) -> Result<Focus<'p>, EvalFault>
+    ensures goes { Leads (followed (node (meaning depth) (env_in (held m.old)) (along_in (held m.old))
+        (echo_in at (arguments args.now) (expression_of body.now))) stack.old m.old) result stack.new m.new }
+    ensures less { Below_by 9 result stack.old m.old stack.new m.new }
+{
+    let supply = Supply {
+        purpose: Purpose::Echo(at, args, body),
+        so_far: Vec::new(stack.alloc()),
+        depth,
+    };
+    arguments(supply, args, stack, m)
+}

@@ -1,0 +1,127 @@
+//! Turns of a `for` with variables in a vector.
+
+ghost use Rattle.std.specs.Prelude.{◌≡◌, ◌∷◌, [], IfOk, MatchOption};
+ghost use Rattle.scad_ast.specs.View.{arguments, element_of};
+ghost use Rattle.scad_value.specs.View.{datum_of};
+ghost use Rattle.scad_expr.specs.Machine.{held, env_in, along_in, state_of};
+ghost use Rattle.scad_expr.specs.Meaning.{for_variables, meaning};
+ghost use Rattle.scad_expr.specs.Runs.{items};
+ghost use Rattle.scad_expr.specs.Stack.{Leads, Below_by, followed_list, turns_of, course, rest, made_in};
+
+use crate::fault::EvalFault;
+use crate::frame::{Course, Focus, Frame, Variable};
+use crate::machine::Machine;
+use crate::named::named;
+use crate::sequence::{items_of, next_number};
+use crate::stack::Stack;
+use scad_ast::{Arg, Elem};
+use scad_fault::Place;
+use scad_value::{Value, copy};
+use std::alloc::{AllocError, Global};
+
+/// The variables of a `for` that follow, and the element inside them.
+#[tactic(auto, using(crate::proofs::StackTurns::variables), unfolding(crate::specs::Stack::onto, crate::specs::Stack::goes_on))]
+pub(crate) fn variables<'p>(
+    at: Place,
+    args: &'p [Arg],
+    body: &'p Elem,
+    depth: u32,
+    stack: &mut Stack<'p>,
+    m: &mut Machine<'p>,
+) -> Result<Focus<'p>, EvalFault>
+    ensures goes { Leads (followed_list (for_variables (meaning depth) at (arguments args.now) (element_of body.now)
+        (env_in (held m.old)) (along_in (held m.old)) (made_in stack.old)) stack.old m.old) result stack.new m.new }
+    ensures less { Below_by 3 result stack.old m.old stack.new m.new }
+{
+    let _steps = m.steps_left;
+    match named(args) {
+        Some(n) => {
+            let variable = Variable {
+                at,
+                name: n.name,
+                more: n.more,
+                body,
+                depth,
+            };
+            stack.wait(Frame::Over(variable), n.value, depth)
+        }
+        None => Ok(Focus::Element(body, depth)),
+    }
+}
+
+/// What a value is run over by.
+#[tactic(auto, using(crate::proofs::RunsLeft::kinds))]
+pub(crate) fn course_of(alloc: Global, value: Value) -> Result<Course, AllocError>
+    ensures { IfOk result (λ c. course c ≡ items (datum_of value)) }
+{
+    match value {
+        Value::Range(start, step, end) => Ok(Course::Numbers(Some(start), step, end)),
+        value => Ok(Course::Values(items_of(alloc, value)?, 0)),
+    }
+}
+
+/// The next value, and what comes behind it.
+#[tactic(auto, using(scad_value::proofs::Lists::lists))]
+fn next_of(alloc: Global, left: Course) -> Result<Option<(Value, Course)>, AllocError>
+    ensures { IfOk result (λ r. MatchOption r (course left ≡ [])
+        (λ p. course left ≡ datum_of p.0 ∷ course p.1)) }
+{
+    match left {
+        Course::Values(all, i) => {
+            if i >= all.len() {
+                return Ok(None);
+            }
+            let value = copy(alloc, &all[i])?;
+            Ok(Some((value, Course::Values(all, i + 1))))
+        }
+        Course::Numbers(next, step, end) => match next_number(next, step, end) {
+            Some((n, rest)) => Ok(Some((Value::Number(n), Course::Numbers(rest, step, end)))),
+            None => Ok(None),
+        },
+    }
+}
+
+/// The next turn of a variable, or none.
+#[tactic(auto, using(crate::proofs::StackTurns::turnings), unfolding(crate::specs::Stack::goes_on))]
+pub(crate) fn turn<'p>(
+    variable: Variable<'p>,
+    left: Course,
+    stack: &mut Stack<'p>,
+    m: &mut Machine<'p>,
+) -> Result<Focus<'p>, EvalFault>
+    ensures goes { Leads (followed_list (turns_of variable.entry (held m.old) (course left) (made_in stack.old))
+        stack.old m.old) result stack.new m.new }
+    ensures less { Below_by 4 result stack.old m.old stack.new m.new }
+{
+    match next_of(stack.alloc(), left)? {
+        Some((value, more)) => turn_on(variable, value, more, stack, m),
+        None => Ok(Focus::Given(Value::Undef)),
+    }
+}
+
+/// A turn of a variable with one value.
+#[tactic(auto, using(crate::proofs::StackTurns::turnings), unfolding(crate::specs::Stack::onto, crate::specs::Meaning::turns))]
+fn turn_on<'p>(
+    variable: Variable<'p>,
+    value: Value,
+    more: Course,
+    stack: &mut Stack<'p>,
+    m: &mut Machine<'p>,
+) -> Result<Focus<'p>, EvalFault>
+    ensures goes { Leads (followed_list (turns_of variable.entry (held m.old) (datum_of value ∷ course more)
+        (made_in stack.old)) stack.old m.old) result stack.new m.new }
+    ensures less { Below_by 4 result stack.old m.old stack.new m.new }
+{
+    m.step(variable.at)?;
+    stack.push(Frame::Turns(variable, more))?;
+    let back = m.open_with(variable.name, value)?;
+    stack.push(Frame::Leave(back))?;
+    variables(
+        variable.at,
+        variable.more,
+        variable.body,
+        variable.depth,
+        stack,
+        m,
+    )
+}
