@@ -11,7 +11,7 @@ use Rattle.slice_slab.specs.Bundles.{edge_at}
 use Rattle.slice_slab.specs.Touching.{touches}
 use Rattle.slice_slab.specs.Starts.{AreStarts, AreRising, numbers_of}
 
--- the numbers of the edges that meet the height it stands at, ascending
+-- the numbers of the edges that meet the height it stands at
 abbrev pub live_in : Active → List ℕ
 live_in a = a.live.items
 
