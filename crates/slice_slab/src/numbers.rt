@@ -1,6 +1,6 @@
 //! The numbers of a bundle.
 
-/// The numbers of a bundle's edges. One alone, as almost all bundles have, takes no memory of its own.
+/// The numbers of a bundle's edges. One alone takes no memory of its own.
 #[derive(Debug, Drop)]
 pub(crate) enum Numbers {
     One(u32),
