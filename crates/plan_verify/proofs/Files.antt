@@ -1,5 +1,5 @@
 -- The coordinates of files that are read, and of the sides of their layers.
-use Rattle.std.proofs.Common.{◌≡◌, ℕ, ◌≤◌, [], ◌∷◌, ◌++◌, List, map}
+use Rattle.std.proofs.Common.{◌≡◌, ℕ, ◌≤◌, [], ◌∷◌, ◌++◌, List, map, subst}
 use Rattle.std.specs.Prelude.{All, flat_map}
 use Rattle.std.specs.List.{AllByRecursion, AllZip}
 use Rattle.std.proofs.lemmas.List.Elements.{All-nil, All-cons, All-append}
@@ -11,7 +11,7 @@ use Rattle.scad_geom.specs.Loop.{path, sides}
 use Rattle.cli_text.specs.Cli.{Layer}
 use Rattle.cli_read.specs.declared.layers.CliLayer.{CliLayer}
 use Rattle.cli_read.specs.View.{seen}
-use Rattle.cli_read.specs.Form.{Reads, SaysLayer, IsOutline, IsWithinReach}
+use Rattle.cli_read.specs.Form.{Reads, SaysLayer, Drawn, Polyline, Hatching, IsDrawn, outlines_among, IsWithinReach}
 use Rattle.plan_verify.specs.Stays.{AreWithin}
 use Rattle.plan_verify.specs.Fields.{AreSidesWithin}
 use Rattle.plan_verify.specs.Laws.{FilesAreWithin}
@@ -21,18 +21,25 @@ points_within : (points : List Pt) → AllByRecursion IsWithinReach points → A
 points_within [] h = tt
 points_within (p ∷ ps) h = (record { x = h.0.0; y = h.0.1 }, points_within ps h.1)
 
-loops_within : (lines : List (List ℕ)) (loops : List (List Pt)) → AllZip IsOutline lines loops
-    → AllByRecursion (λ points. AllByRecursion (IsWithin coordinate_limit) points) loops
-loops_within [] [] h = tt
-loops_within [] (l ∷ loops) h = absurd h
-loops_within (x ∷ lines) [] h = absurd h
-loops_within (x ∷ lines) (l ∷ loops) h = (points_within l h.0.shape.near, loops_within lines loops h.1)
+abbrev AreLoopsWithin : List (List Pt) → Type 0
+AreLoopsWithin loops = AllByRecursion (λ points. AllByRecursion (IsWithin coordinate_limit) points) loops
+
+outlines_within : (lines : List (List ℕ)) (drawn : List Drawn) → AllZip IsDrawn lines drawn
+    → AreLoopsWithin (outlines_among drawn)
+outlines_within [] [] h = tt
+outlines_within [] (d ∷ drawn) h = absurd h
+outlines_within (x ∷ lines) [] h = absurd h
+outlines_within (x ∷ lines) (Polyline points ∷ drawn) h = (points_within points h.0.shape.near, outlines_within lines drawn h.1)
+outlines_within (x ∷ lines) (Hatching some ∷ drawn) h = outlines_within lines drawn h.1
 
 layers_within : (parts : List (List (List ℕ))) (layers : List Layer) → AllZip SaysLayer parts layers → AreWithin layers
 layers_within [] [] h = tt
 layers_within [] (l ∷ layers) h = absurd h
 layers_within (x ∷ parts) [] h = absurd h
-layers_within (x ∷ parts) (l ∷ layers) h = (loops_within h.0.outlines l.loops h.0.each, layers_within parts layers h.1)
+layers_within (x ∷ parts) (l ∷ layers) h = (
+  subst AreLoopsWithin h.0.outlines (outlines_within h.0.behind h.0.drawn h.0.each),
+  layers_within parts layers h.1,
+)
 
 pub files_are_within : FilesAreWithin
 files_are_within bytes layers reads = layers_within reads.parts layers reads.each

@@ -40,17 +40,17 @@ module _ (width : ℕ) (m : Move) where
 
 -- ---- some item of a list
 any_here : {X : Type 0} (P : X → Type 0) (x : X) (xs : List X) → P x → Any P (x ∷ xs)
-any_here P x xs p = (0, (x, (omega arith, (refl, p))))
+any_here P x xs p = (0, x, omega arith, refl, p)
 
 any_there : {X : Type 0} (P : X → Type 0) (x : X) (xs : List X) → Any P xs → Any P (x ∷ xs)
-any_there P x xs (k, y, l, e, p) = (suc k, (y, (omega (arith, l), (e, p))))
+any_there P x xs (k, y, l, e, p) = (suc k, y, omega (arith, l), e, p)
 
 any_cases : {X : Type 0} (P : X → Type 0) (x : X) (xs : List X) → Any P (x ∷ xs) → P x ⊎ Any P xs
 any_cases P x xs (zero, y, l, e, p) = inl (subst P (sym e) p)
-any_cases P x xs (suc k, y, l, e, p) = inr (k, (y, (omega (arith, l), (e, p))))
+any_cases P x xs (suc k, y, l, e, p) = inr (k, y, omega (arith, l), e, p)
 
 none_any : {X : Type 0} (P : X → Type 0) → Any P [] → ⊥
-none_any P (k, y, l, p) = absurd (omega (arith, l))
+none_any P (k, y, l, e, p) = absurd (omega (arith, l))
 
 module _ (width : ℕ) (m : Move) where
   any_layer : (layers : List CliLayer) (fields : List Field) → AllZip IsFieldOf layers fields → Any (IsInField width m) fields
@@ -92,7 +92,7 @@ module _ (S T : Move → Type 0) (to : (m : Move) → S m → T m) (from : (m : 
   }
 
   verdict_alike : (program : List ℕ) (r : Result Verdict VerifyFault) → IsVerdictBy S program r → IsVerdictBy T program r
-  verdict_alike program (Ok v) (moves, (e, j)) = (moves, (e, judged_alike (extruding moves) v j))
+  verdict_alike program (Ok v) (moves, e, j) = (moves, e, judged_alike (extruding moves) v j)
   verdict_alike program (Err fault) h = h
 
 pub verdict_of_layers : (layers : List CliLayer) (fields : List Field) (width : ℕ) (program : List ℕ)

@@ -1,3 +1,4 @@
+pub mod Rectangles
 pub mod Extents
 pub mod Windings
 pub mod Clearance
@@ -5,4 +6,6 @@ pub mod Axes
 pub mod Told
 pub mod Files
 pub mod Indexes
+pub mod Searches
+pub mod Sound
 pub mod Layers

@@ -205,8 +205,6 @@ module _ (Does : Move → Type 0) where
       → IsVerdictBy Does program (Ok (verdict_of j))
   read_all program s line j r = (
     r.moves,
-    (
-      r.told ∙ ap (prefix r.moves) (no_more s) ∙ ap Ok (append-nil r.moves),
-      judged_by (extruding r.moves) j.moves j.out r.judged.count r.judged.out,
-    ),
+    r.told ∙ ap (prefix r.moves) (no_more s) ∙ ap Ok (append-nil r.moves),
+    judged_by (extruding r.moves) j.moves j.out r.judged.count r.judged.out,
   )

@@ -19,7 +19,7 @@ AreSidesWithin layers = All (λ l. All (IsEdgeWithin coordinate_limit) (flat_map
 pub record IsSound (f : Field) : Type 0 where
   pub boxed : IsBoxed f.sides
   pub within : All (IsEdgeWithin coordinate_limit) (sides_in f.sides)
-  pub few : length (sides_in f.sides) < 2 ^ 62
+  pub few : length (sides_in f.sides) < 2 ^ 63
   pub outlines : List (List Pt)
   pub closed : sides_in f.sides ≡ flat_map sides outlines
 

@@ -86,7 +86,7 @@ pub fn turns(tree: &Tree, p: Pt) -> i64
     requires boxed { IsBoxed tree.now }
     requires sides { All (IsEdgeWithin coordinate_limit) (sides_in tree.now) }
     requires point { IsWithin coordinate_limit p }
-    requires few { length (sides_in tree.now) < 2 ^ 62 }
+    requires few { length (sides_in tree.now) < 2 ^ 63 }
     ensures value { result ≡ wind (meant Whole p) (segments (sides_in tree.now)) }
     ensures size { unsigned_abs result ≤ length (sides_in tree.now) }
 {

@@ -52,6 +52,7 @@ impl Trial {
         true
     }
 
+    #[tactic(auto, using(crate::proofs::Searches::one_apart))]
     fn is_near(&self, side: &Edge) -> bool
         requires trial { IsTrial self.now }
         requires side { IsEdgeWithin coordinate_limit side.now }

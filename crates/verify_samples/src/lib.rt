@@ -5,6 +5,8 @@
 #[cfg(test)]
 mod edges;
 #[cfg(test)]
+mod judging;
+#[cfg(test)]
 mod randoms;
 #[cfg(test)]
 mod verdicts;

@@ -1,9 +1,8 @@
 //! Random moves over random outlines: the index against all pairs of a move and a side.
-use cli_read::{Cli, read};
+use crate::judging::judged;
 use cli_text::{write_end, write_head, write_layer};
 use plan_sides::sides;
-use plan_verify::laws::files_are_within;
-use plan_verify::{Verdict, check};
+use plan_verify::Verdict;
 use sample_dice::{Dice, roll_outline};
 use scad_geom::{Edge, Half, Loop, Pt, winding};
 use scad_near::near;
@@ -23,10 +22,26 @@ fn roll_layer(alloc: Global, dice: &mut Dice) -> Result<Vec<Loop>, AllocError> {
     Ok(outlines)
 }
 
-fn text_of(alloc: Global, outlines: &[Loop]) -> Result<Vec<u8>, AllocError> {
+/// Hatches, which count for no outlines.
+fn roll_hatches(alloc: Global, dice: &mut Dice) -> Result<Vec<Edge>, AllocError> {
+    let mut hatches = Vec::new(alloc);
+    for _i in 0..4 {
+        hatches.push(Edge {
+            a: dice.roll_point(-5_000, 10_000),
+            b: dice.roll_point(-5_000, 10_000),
+        })?;
+    }
+    Ok(hatches)
+}
+
+fn text_of(
+    alloc: Global,
+    outlines: &[Loop],
+    hatches: &[Edge],
+) -> Result<Vec<u8>, AllocError> {
     let mut text = Vec::new(alloc);
     write_head(&mut text, 1)?;
-    write_layer(&mut text, 200, outlines)?;
+    write_layer(&mut text, 200, outlines, hatches)?;
     write_end(&mut text)?;
     Ok(text)
 }
@@ -79,14 +94,13 @@ fn verdict_of(edges: &[Edge], line: &Edge, line_width: u32) -> Verdict {
 #[test]
 fn random_moves(rt: HostRuntime) -> Result<(), Fail> {
     let alloc = rt.alloc();
-    files_are_within();
     let mut dice = Dice::of_seed(34);
     let mut inside = 0u32;
     for _layer in 0..20 {
         let outlines = roll_layer(alloc, &mut dice)?;
         let edges = sides(alloc, &outlines)?;
-        let text = text_of(alloc, &outlines)?;
-        let cli = read(alloc, &text).ok().unwrap();
+        let hatches = roll_hatches(alloc, &mut dice)?;
+        let text = text_of(alloc, &outlines, &hatches)?;
         for _move in 0..10 {
             let a = dice.roll_point(-5_000, 10_000);
             let b = Pt {
@@ -96,7 +110,7 @@ fn random_moves(rt: HostRuntime) -> Result<(), Fail> {
             let line = Edge { a, b };
             let wanted = verdict_of(&edges, &line, 100);
             let program = program_of(alloc, &line)?;
-            assert!(rt; check(alloc, &cli, program.as_bytes(), 100) == Ok(wanted));
+            assert!(rt; judged(alloc, &text, program.as_str(), 100) == Some(Ok(wanted)));
             if wanted == (Verdict::Inside { moves: 1 }) {
                 inside += 1;
             }

@@ -1,7 +1,6 @@
 //! Verdicts over the outlines of a plate with a square hole.
-use cli_read::{Cli, read};
-use plan_verify::laws::files_are_within;
-use plan_verify::{Verdict, VerifyFault, check};
+use crate::judging::judged;
+use plan_verify::{Verdict, VerifyFault};
 use std::test::Fail;
 
 /// A square of 10 mm with a square hole of 2 mm, 0.2 mm high.
@@ -16,6 +15,37 @@ $$GEOMETRYSTART\n\
 $$LAYER/200\n\
 $$POLYLINE/1,1,5,0,0,10000,0,10000,10000,0,10000,0,0\n\
 $$POLYLINE/1,0,5,4000,4000,4000,6000,6000,6000,6000,4000,4000,4000\n\
+$$GEOMETRYEND\n";
+
+/// The plate with hatches: one along its lower side, and four round a square to the right of it.
+const HATCHED: &str = "\
+$$HEADERSTART\n\
+$$ASCII\n\
+$$UNITS/0.001\n\
+$$VERSION/200\n\
+$$LAYERS/1\n\
+$$HEADEREND\n\
+$$GEOMETRYSTART\n\
+$$LAYER/200\n\
+$$POLYLINE/1,1,5,0,0,10000,0,10000,10000,0,10000,0,0\n\
+$$POLYLINE/1,0,5,4000,4000,4000,6000,6000,6000,6000,4000,4000,4000\n\
+$$HATCHES/1,4,0,225,10000,225,20000,0,30000,0,30000,0,30000,10000,30000,10000,20000,0\n\
+$$GEOMETRYEND\n";
+
+/// The plate, and the whole square on it.
+const STACKED: &str = "\
+$$HEADERSTART\n\
+$$ASCII\n\
+$$UNITS/0.001\n\
+$$VERSION/200\n\
+$$LAYERS/2\n\
+$$HEADEREND\n\
+$$GEOMETRYSTART\n\
+$$LAYER/200\n\
+$$POLYLINE/1,1,5,0,0,10000,0,10000,10000,0,10000,0,0\n\
+$$POLYLINE/1,0,5,4000,4000,4000,6000,6000,6000,6000,4000,4000,4000\n\
+$$LAYER/400\n\
+$$POLYLINE/1,1,5,0,0,10000,0,10000,10000,0,10000,0,0\n\
 $$GEOMETRYEND\n";
 
 /// Programs, and what is said of them for lines of 450 micrometres.
@@ -215,13 +245,60 @@ const ROWS: [(&str, Result<Verdict, VerifyFault>); 44] = [
     ),
 ];
 
+/// What is said where the outlines have hatches beside them, and where a layer lies on another.
+const MORE_ROWS: [(&str, &str, Verdict); 6] = [
+    // along a hatch
+    (
+        HATCHED,
+        "G28\nG92 E0\nG1 Z0.200 F7200\nG1 X0.225 Y0.225 F7200\nG1 X9.775 Y0.225 E1\n",
+        Verdict::Inside { moves: 1 },
+    ),
+    // inside four hatches, outside the outlines
+    (
+        HATCHED,
+        "G28\nG92 E0\nG1 Z0.200 F7200\nG1 X26.000 Y3.000 F7200\nG1 X26.500 Y3.000 E1\n",
+        Verdict::Outside { number: 1, line: 5 },
+    ),
+    // over the hole, at its own layer
+    (
+        STACKED,
+        "G28\nG92 E0\nG1 Z0.200 F7200\nG1 X1.000 Y5.000 F7200\nG1 X9.000 Y5.000 E1\n",
+        Verdict::Outside { number: 1, line: 5 },
+    ),
+    // over the hole, a layer higher
+    (
+        STACKED,
+        "G28\nG92 E0\nG1 Z0.400 F7200\nG1 X1.000 Y5.000 F7200\nG1 X9.000 Y5.000 E1\n",
+        Verdict::Inside { moves: 1 },
+    ),
+    // there, then over the hole at its own layer
+    (
+        STACKED,
+        "G28\nG92 E0\nG1 Z0.400 F7200\nG1 X1.000 Y5.000 F7200\nG1 X9.000 Y5.000 E1\nG1 Z0.2\nG1 X1 Y5 E2\n",
+        Verdict::Outside { number: 2, line: 7 },
+    ),
+    // a micrometre below the higher layer
+    (
+        STACKED,
+        "G28\nG92 E0\nG1 Z0.399 F7200\nG1 X1.000 Y5.000 F7200\nG1 X9.000 Y5.000 E1\n",
+        Verdict::Outside { number: 1, line: 5 },
+    ),
+];
+
 #[test]
 fn programs_over_a_plate(rt: HostRuntime) -> Result<(), Fail> {
     let alloc = rt.alloc();
-    files_are_within();
-    let cli = read(alloc, PLATE.as_bytes()).ok().unwrap();
     for (program, wanted) in ROWS {
-        assert!(rt; check(alloc, &cli, program.as_bytes(), 450) == wanted);
+        assert!(rt; judged(alloc, PLATE.as_bytes(), program, 450) == Some(wanted));
+    }
+    Ok(())
+}
+
+#[test]
+fn programs_over_more(rt: HostRuntime) -> Result<(), Fail> {
+    let alloc = rt.alloc();
+    for (outlines, program, wanted) in MORE_ROWS {
+        assert!(rt; judged(alloc, outlines.as_bytes(), program, 450) == Some(Ok(wanted)));
     }
     Ok(())
 }
