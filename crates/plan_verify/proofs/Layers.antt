@@ -1,7 +1,8 @@
 -- What is said of layers by their indexes is said of the layers.
-use Rattle.std.proofs.Common.{◌≡◌, ◌⊎◌, inl, inr, ℕ, zero, suc, ◌<◌, ◌/◌, arith, [], ◌∷◌, ◌++◌, List, length, map, refl, ap, sym, subst, ◌∙◌, Result, Ok, Err, pos}
+use Rattle.std.proofs.Common.{◌≡◌, ◌⊎◌, inl, inr, ℕ, zero, suc, ◌+◌, ◌<◌, ◌≤◌, ◌/◌, arith, [], ◌∷◌, ◌++◌, List, length, take, get_or, map, refl, ap, sym, subst, ◌∙◌, Result, Ok, Err, pos}
 use Rattle.std.specs.Prelude.{All, flat_map, slice_index_or}
 use Rattle.std.specs.List.{Any, AllZip}
+use Rattle.std.proofs.lemmas.List.{take_more, take_all}
 use Rattle.std.proofs.lemmas.List.Elements.{All-nil, All-cons, All-weaker}
 use Rattle.scad_geom.specs.declared.point.Edge.{Edge}
 use Rattle.scad_geom.specs.Loop.{sides}
@@ -25,6 +26,26 @@ sound_fields [] (f ∷ fields) h = absurd h
 sound_fields (l ∷ layers) [] h = absurd h
 sound_fields (l ∷ layers) (f ∷ fields) h = All-cons IsSound f fields h.0.sound (sound_fields layers fields h.1)
 
+-- ---- fields one by one
+zip_push : {A B : Type 0} (R : A → B → Type 0) (xs : List A) (ys : List B) (x : A) (y : B) → AllZip R xs ys → R x y
+    → AllZip R (xs ++ x ∷ []) (ys ++ y ∷ [])
+zip_push R [] [] x y h r = (r, tt)
+zip_push R [] (b ∷ ys) x y h r = absurd h
+zip_push R (a ∷ xs) [] x y h r = absurd h
+zip_push R (a ∷ xs) (b ∷ ys) x y h r = (h.0, zip_push R xs ys x y h.1 r)
+
+pub zip_more : (layers : List CliLayer) (fields : List Field) (k : ℕ) (l : CliLayer) (f : Field) → k < length layers
+    → l ≡ get_or layers k l → AllZip IsFieldOf (take k layers) fields → IsFieldOf l f
+    → AllZip IsFieldOf (take (k + 1) layers) (fields ++ f ∷ [])
+zip_more layers fields k l f more is zip field =
+    subst (λ (ls : List CliLayer). AllZip IsFieldOf ls (fields ++ f ∷ [])) (sym (take_more layers k l more))
+    (zip_push IsFieldOf (take k layers) fields (get_or layers k l) f zip (subst (λ (x : CliLayer). IsFieldOf x f) is field))
+
+pub zip_all : (layers : List CliLayer) (fields : List Field) (k : ℕ) → length layers ≤ k
+    → AllZip IsFieldOf (take k layers) fields → AllZip IsFieldOf layers fields
+zip_all layers fields k l zip = subst (λ (ls : List CliLayer). AllZip IsFieldOf ls fields) (take_all k layers l) zip
+
+-- ---- one layer
 module _ (width : ℕ) (m : Move) where
   in_layer : (l : CliLayer) (f : Field) → IsFieldOf l f → IsInField width m f → IsInLayer width m (layer_of l)
   in_layer l f o i = record {

@@ -4,6 +4,7 @@ pub mod Windings
 pub mod Clearance
 pub mod Axes
 pub mod Told
+pub mod Adding
 pub mod Files
 pub mod Indexes
 pub mod Searches

@@ -2,7 +2,7 @@
 use Rattle.std.proofs.Common.{◌≡◌, ◌≢◌, ℕ, ◌+◌, ◌<◌, ◌≤◌, Bool, true, false, [], ◌∷◌, ◌++◌, List, length, take, get_or, ap, ap₂, sym, subst, ◌∙◌, arith, ℤ, pos, ◌+ℤ◌}
 use Rattle.std.specs.Prelude.{All, unsigned_abs, slice_index_or}
 use Rattle.std.specs.List.{Any}
-use Rattle.std.proofs.lemmas.List.Elements.{All-weaker}
+use Rattle.std.proofs.lemmas.List.Elements.{All-weaker, All-more}
 use Rattle.scad_geom.specs.declared.point.Pt.{Pt}
 use Rattle.scad_geom.specs.declared.point.Edge.{Edge}
 use Rattle.scad_geom.specs.declared.half.Half.TheVariants.{Whole}
@@ -13,12 +13,19 @@ use Rattle.scad_geom.specs.Winding.{wind}
 use Rattle.plan_verify.specs.declared.extent.Extent.{Extent}
 use Rattle.plan_verify.specs.declared.index.Tree.{Tree}
 use Rattle.plan_verify.specs.declared.trial.Trial.{Trial}
-use Rattle.plan_verify.specs.Extent.{IsIn, is_beyond, is_off}
+use Rattle.plan_verify.specs.Extent.{IsIn, Covers, is_beyond, is_off}
 use Rattle.plan_verify.specs.Index.{sides_in, extent_in, IsBoxed}
 use Rattle.plan_verify.specs.Trial.{IsTrial, IsNear, IsApart}
-use Rattle.plan_verify.proofs.Extents.{beyond_apart, off_wind}
+use Rattle.plan_verify.proofs.Extents.{in_covered, beyond_apart, off_wind}
 use Rattle.plan_verify.proofs.Indexes.{root_holds}
 use Rattle.plan_verify.proofs.Windings.{wind_both, wind_size}
+
+-- ---- rectangles
+pub round_more : (x y z : Extent) (es : List Edge) (k : ℕ) (d : Edge) → k < length es → Covers z x → Covers z y
+    → IsIn y (get_or es k d) → All (IsIn x) (take k es) → All (IsIn z) (take (k + 1) es)
+round_more x y z es k d l before new inside all = All-more (IsIn z) es k d l
+    (All-weaker (IsIn x) (IsIn z) (λ e o. in_covered z x e before o) (take k es) all)
+    (in_covered z y (get_or es k d) new inside)
 
 -- ---- nearness
 pub one_apart : (t : Trial) (x : Extent) (e : Edge) (r : Bool) → IsTrial t → IsIn x e → r ≡ is_beyond x t.reach → r ≡ true

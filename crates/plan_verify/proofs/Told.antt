@@ -10,6 +10,7 @@ use Rattle.gcode_text.specs.Reading.{lines}
 use Rattle.gcode_text.specs.Machine.{State, After, start, limited, line_step, counting}
 use Rattle.plan_verify.specs.declared.judgement.Out.{Out}
 use Rattle.plan_verify.specs.declared.judgement.Judgement.{Judgement}
+use Rattle.plan_verify.specs.declared.verdict.Verdict.{Verdict}
 use Rattle.plan_verify.specs.declared.verdict.VerifyFault.{VerifyFault}
 use Rattle.plan_verify.specs.Verdict.{Told, onto, moves_told, program_moves, extruding, AllDo, IsFirstOut, IsJudgedBy, IsVerdictBy, refusal_of}
 use Rattle.plan_verify.specs.Limits.{IsPlaceWithin, IsMoveWithin}
@@ -142,7 +143,7 @@ module _ (Does : Move → Type 0) where
     pub moves : List Told
     pub told : program_moves program ≡ prefix moves (moves_told s rest)
     pub judged : IsJudged Does (extruding moves) j
-    pub line : line ≡ s.lines
+    pub counted : line ≡ s.lines
     pub within : IsPlaceWithin s.at
 
   pub read_nothing : (program : List ℕ) → IsRead program start (lines program) 0 (record { moves = 0; out = None })
@@ -150,9 +151,14 @@ module _ (Does : Move → Type 0) where
     moves = [];
     told = prefix_nothing (program_moves program);
     judged = record { count = refl; out = All-nil (λ told. Does told.move) };
-    line = refl;
+    counted = refl;
     within = start_within;
   }
+
+  pub read_first : (program : List ℕ) (s : State) (j : Judgement) → s ≡ start → j ≡ record { moves = 0; out = None }
+      → IsRead program s (lines program) 0 j
+  read_first program s j at none = subst (λ (t : State). IsRead program t (lines program) 0 j) (sym at)
+      (subst (λ (k : Judgement). IsRead program start (lines program) 0 k) (sym none) (read_nothing program))
 
   added_few : (j i : Judgement) (line : ℕ) (m : Move) → IsAdded Does j line m i → i.moves ≤ j.moves + 1
   added_few j i line m (passed n) = omega arith
@@ -177,7 +183,7 @@ module _ (Does : Move → Type 0) where
       → WithMove Does after.move next j i → IsRead program after.state left next i
   read_line program front rest left s after line next j i r split step number o =
       let at : next ≡ after.state.lines =
-          number ∙ ap (λ (n : ℕ). min (n + 1) (2 ^ 32 - 1)) r.line ∙ sym (step_lines s front after step) in
+          number ∙ ap (λ (n : ℕ). min (n + 1) (2 ^ 32 - 1)) r.counted ∙ sym (step_lines s front after step) in
       record {
         moves = r.moves ++ onto after.state.lines after.move [];
         told = r.told ∙ ap (λ (ls : List (List ℕ)). prefix r.moves (moves_told s ls)) split
@@ -185,7 +191,7 @@ module _ (Does : Move → Type 0) where
             ∙ prefix_on r.moves (onto after.state.lines after.move []) (moves_told after.state left);
         judged = subst (λ (n : ℕ). IsJudged Does (extruding (r.moves ++ onto n after.move [])) i) at
             (judged_with r.moves after.move next j i r.judged o);
-        line = at;
+        counted = at;
         within = (step_within s front after r.within step).place;
       }
 
@@ -195,6 +201,10 @@ module _ (Does : Move → Type 0) where
   read_refusal program front rest left s fault line j r split step =
       r.told ∙ ap (λ (ls : List (List ℕ)). prefix r.moves (moves_told s ls)) split
       ∙ ap (prefix r.moves) (line_refused s front left fault step)
+
+  pub refused_is : (program : List ℕ) (fault : GFault) (e : VerifyFault) → program_moves program ≡ Err fault
+      → e ≡ refusal_of fault → IsVerdictBy Does program (Err e)
+  refused_is program fault e told is known = (fault, told, is)
 
   judged_by : (moves : List Told) (count : ℕ) (out : Option Out) → count ≡ length moves → OutIs Does moves out
       → IsJudgedBy Does moves (verdict_of' count out)
@@ -208,3 +218,8 @@ module _ (Does : Move → Type 0) where
     r.told ∙ ap (prefix r.moves) (no_more s) ∙ ap Ok (append-nil r.moves),
     judged_by (extruding r.moves) j.moves j.out r.judged.count r.judged.out,
   )
+
+  pub read_end : (program : List ℕ) (s : State) (line : ℕ) (j : Judgement) (v : Verdict) → IsRead program s [] line j
+      → v ≡ verdict_of j → IsVerdictBy Does program (Ok v)
+  read_end program s line j v r is = subst (λ (u : Verdict). IsVerdictBy Does program (Ok u)) (sym is)
+      (read_all program s line j r)

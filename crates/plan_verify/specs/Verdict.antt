@@ -44,15 +44,15 @@ abbrev pub AllDo : (Move → Type 0) → List Told → Type 0
 AllDo Does moves = All (λ told. Does told.move) moves
 
 -- the move with this number, from 1, is the first that doesn't do what it should, and it stands in this line
-pub record IsFirstOut (Does : Move → Type 0) (moves : List Told) (number line : ℕ) : Type 0 where
+pub record IsFirstOut (Does : Move → Type 0) (moves : List Told) (n l : ℕ) : Type 0 where
   pub before : List Told
   pub out : Told
   pub behind : List Told
   pub are : moves ≡ before ++ out ∷ behind
   pub all : AllDo Does before
   pub fails : Does out.move → ⊥
-  pub number : number ≡ length before + 1
-  pub line : line ≡ out.line
+  pub number : n ≡ length before + 1
+  pub line : l ≡ out.line
 
 abbrev pub IsJudgedBy : (Move → Type 0) → List Told → Verdict → Type 0
 IsJudgedBy Does moves (Inside number) = AllDo Does moves × (number ≡ length moves)

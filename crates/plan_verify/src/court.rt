@@ -68,6 +68,7 @@ fn with_line(fields: &[Field], judgement: Judgement, done: &Option<Move>, line: 
 }
 
 // With a move that was read.
+#[tactic(auto, using(crate::proofs::Adding::add_passed, crate::proofs::Adding::add_late, crate::proofs::Adding::add_judged))]
 fn with_move(fields: &[Field], judgement: Judgement, m: &Move, line: u32, line_width: u32) -> Judgement
     requires fields { All IsSound fields.now }
     requires least { 100 ≤ line_width }
@@ -76,11 +77,13 @@ fn with_move(fields: &[Field], judgement: Judgement, m: &Move, line: u32, line_w
     requires few { judgement.moves < 2 ^ 64 - 1 }
     ensures { IsAdded (StaysInFields fields.now line_width) judgement line m.now result }
 {
-    if m.extruding {
-        judgement.with(judgement.out.is_some() || stays(fields, m, line_width), line)
-    } else {
-        judgement
+    if !m.extruding {
+        return judgement;
     }
+    if judgement.out.is_some() {
+        return judgement.with(true, line);
+    }
+    judgement.with(stays(fields, m, line_width), line)
 }
 
 fn said(judgement: Judgement) -> Verdict

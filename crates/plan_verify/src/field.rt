@@ -82,6 +82,7 @@ pub fn stays(fields: &[Field], m: &Move, line_width: u32) -> bool
     }
 }
 
+#[tactic(auto, using(crate::proofs::Searches::any_at, crate::proofs::Searches::none_any))]
 fn is_in_some(fields: &[Field], m: &Move, line_width: u32) -> bool
     requires fields { All IsSound fields.now }
     requires least { 100 ≤ line_width }

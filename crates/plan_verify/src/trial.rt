@@ -38,6 +38,7 @@ impl Trial {
     }
 
     /// Whether none of the sides is near to any point of the move.
+    #[tactic(auto, using(crate::proofs::Searches::any_at))]
     pub fn is_clear(&self, sides: &[Edge]) -> bool
         requires trial { IsTrial self.now }
         requires sides { All (IsEdgeWithin coordinate_limit) sides.now }
