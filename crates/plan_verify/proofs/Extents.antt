@@ -217,6 +217,9 @@ not_right : (p : Pt) (e : Edge) → e.a.x ≤ℤ p.x → e.b.x ≤ℤ p.x → tu
 unfolding is_beyond_number side_by
 not_right p e ha hb = by_heights (order e.a.y p.y) (order e.b.y p.y)
   where
+    not_above : (z : ℤ) → z ≤ℤ pos 0 → is_beyond_number true z ≡ false
+    not_above z h = sym (omega (arith, ints, h))
+
     by_heights : (e.a.y ≤ℤ p.y) ⊎ (p.y <ℤ e.a.y) → (e.b.y ≤ℤ p.y) ⊎ (p.y <ℤ e.b.y)
         → turn true true (meant Whole p) (whole e.a) (whole e.b) ≡ pos 0
     by_heights (inl a) (inl b) = flat_turn true true (meant Whole p) (whole e.a) (whole e.b)
@@ -229,7 +232,7 @@ not_right p e ha hb = by_heights (order e.a.y p.y) (order e.b.y p.y)
         let n = at_least_mul (e.b.y -ℤ p.y) (p.x -ℤ e.a.x) (omega (arith, ints, b)) (omega (arith, ints, ha)) in
         rising_turn true true (meant Whole p) (whole e.a) (whole e.b) (not_over p e.a a) (is_above p e.b b)
         ∙ ap (λ (t : Bool). if t then pos 1 else pos 0)
-        (none (side_by (meant Whole p) (whole e.a) (whole e.b)) (omega (arith, ints, i, m, n)))
+        (not_above (side_by (meant Whole p) (whole e.a) (whole e.b)) (omega (arith, ints, i, m, n)))
     by_heights (inr a) (inl b) =
         let i = side_is e.a.x e.a.y e.b.x e.b.y p.x p.y in
         let m = at_least_mul (p.x -ℤ e.b.x) (e.a.y -ℤ p.y) (omega (arith, ints, hb)) (omega (arith, ints, a)) in
@@ -238,10 +241,7 @@ not_right p e ha hb = by_heights (order e.a.y p.y) (order e.b.y p.y)
         let g = turned_second e.b.y p.y p.x e.a.x in
         falling_turn true true (meant Whole p) (whole e.a) (whole e.b) (is_above p e.a a) (not_over p e.b b)
         ∙ ap (λ (t : Bool). if t then negsuc 0 else pos 0)
-        (none (neg_ℤ (side_by (meant Whole p) (whole e.a) (whole e.b))) (omega (arith, ints, i, m, n, f, g)))
-
-    none : (z : ℤ) → z ≤ℤ pos 0 → is_beyond_number true z ≡ false
-    none z h = sym (omega (arith, ints, h))
+        (not_above (neg_ℤ (side_by (meant Whole p) (whole e.a) (whole e.b))) (omega (arith, ints, i, m, n, f, g)))
 
 off_turn : (x : Extent) (p : Pt) (e : Edge) → is_off x p ≡ true → IsIn x e
     → turn true true (meant Whole p) (whole e.a) (whole e.b) ≡ pos 0

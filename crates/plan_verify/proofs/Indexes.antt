@@ -90,6 +90,13 @@ pub boxed_second : (x : Extent) (b c : Box Tree Global) → IsBoxed (Many x b c)
 boxed_second x b c h = back_by_recursion IsNode (nodes_in b.value) (nodes_in c.value)
     (subst (λ (ns : List Node). AllByRecursion IsNode ns) (nodes_many x b c) h).1
 
+pub many_boxed : (x y z : Extent) (b c : Box Tree Global) (f s : Tree) → Covers x y → Covers x z → y ≡ extent_in f
+    → z ≡ extent_in s → b.value ≡ f → c.value ≡ s → IsBoxed f → IsBoxed s → IsBoxed (Many x b c)
+many_boxed x y z b c f s k l eb ec first second h i = boxed_many x b c
+    (subst (λ (e : Extent). Covers x e) (eb ∙ ap extent_in (sym first)) k)
+    (subst (λ (e : Extent). Covers x e) (ec ∙ ap extent_in (sym second)) l)
+    (subst (λ (y : Tree). IsBoxed y) (sym first) h) (subst (λ (y : Tree). IsBoxed y) (sym second) i)
+
 -- ---- the few sides of a tree
 pub sides_leaf : (t : Tree) (x : Extent) (v : Vec Edge Global) (es : List Edge) → t ≡ Few x v → es ≡ v.items → sides_in t ≡ es
 sides_leaf t x v es is same = ap sides_in is ∙ sym same

@@ -1,4 +1,4 @@
-pub mod Rectangles
+pub mod Lines
 pub mod Extents
 pub mod Windings
 pub mod Clearance

@@ -1,6 +1,6 @@
 -- What is known of the moves of the lines that were read, as one line more is read.
 use Rattle.std.proofs.Common.{◌≡◌, ℕ, ◌+◌, ◌≤◌, Bool, true, false, cond, [], ◌∷◌, ◌++◌, List, length, refl, ap, sym, subst, ◌∙◌, arith, append_assoc, Option, Some, None, Result, Ok, Err}
-use Rattle.std.specs.Prelude.{All, filter, is_some, min, ◌^◌, ◌-◌, if◌then◌else◌}
+use Rattle.std.specs.Prelude.{All, MatchOption, filter, is_some, min, ◌^◌, ◌-◌, if◌then◌else◌}
 use Rattle.std.proofs.lemmas.List.{append-nil, length-append}
 use Rattle.std.proofs.lemmas.List.Elements.{All-nil, All-cons, All-append, filter-append}
 use Rattle.scad_base.specs.Results.{and_then}
@@ -48,6 +48,13 @@ line_refused s text rest fault e = rw e refl
 no_more : (s : State) → moves_told s [] ≡ Ok []
 unfolding moves_told
 no_more s = refl
+
+-- what stands behind a line, where anything does
+pub some_left : {X : Type 0} (o : Option X) (view : X → List ℕ) (text front : List ℕ)
+    → MatchOption o (lines text ≡ front ∷ []) (λ rest. lines text ≡ front ∷ lines (view rest))
+    → (left : List (List ℕ)) × (lines text ≡ front ∷ left)
+some_left None view text front h = ([], h)
+some_left (Some rest) view text front h = (lines (view rest), h)
 
 -- ---- the judgement of moves
 abbrev pub OutIs : (Move → Type 0) → List Told → Option Out → Type 0

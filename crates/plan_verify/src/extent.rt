@@ -17,7 +17,6 @@ pub struct Extent {
 
 impl Extent {
     /// The rectangle round an edge.
-    #[tactic(auto, using(scad_geom::proofs::Casts::casts, crate::proofs::Rectangles::around_is))]
     pub fn around(e: &Edge) -> Extent
         ensures { IsIn result e.now }
     {
@@ -30,7 +29,6 @@ impl Extent {
     }
 
     /// The rectangle round two.
-    #[tactic(auto, using(scad_geom::proofs::Casts::casts, crate::proofs::Rectangles::covers_is))]
     pub fn round(a: Extent, b: Extent) -> Extent
         ensures first { Covers result a }
         ensures second { Covers result b }
@@ -44,7 +42,6 @@ impl Extent {
     }
 
     /// The rectangle round an edge, wider by `s` on each side.
-    #[tactic(auto, using(scad_geom::proofs::Casts::casts, crate::proofs::Rectangles::reached_is))]
     pub fn reached(e: &Edge, s: u32) -> Extent
         requires edge { IsEdgeWithin coordinate_limit e.now }
         requires few { s ≤ 2000 }

@@ -32,7 +32,8 @@ pub fn fields_of(alloc: Global, layers: &[CliLayer]) -> Result<Vec<Field>, Alloc
 {
     let mut fields = Vec::new(alloc);
     'layers: for layer in layers {
-        fields.push(field_of(alloc, layer)?)?;
+        let field = field_of(alloc, layer)?;
+        fields.push(field)?;
     }
     Ok(fields)
 }
@@ -42,10 +43,8 @@ fn field_of(alloc: Global, layer: &CliLayer) -> Result<Field, AllocError>
     ensures { IfOk result (λ f. IsFieldOf layer.now f) }
 {
     let edges = sides(alloc, layer.loops.as_slice())?;
-    Ok(Field {
-        z: layer.z,
-        sides: index_of(alloc, &edges)?,
-    })
+    let sides = index_of(alloc, &edges)?;
+    Ok(Field { z: layer.z, sides })
 }
 
 /// Whether a move along an edge keeps the clearance of half the width of a line from the sides, and they wind round it.
@@ -59,11 +58,13 @@ fn keeps_clear(field: &Field, line: Edge, line_width: u32) -> bool
 {
     let c = line_width / 2;
     let trial = Trial::of(line, c - 1, reach(c) - 2);
-    if is_clear(&field.sides, &trial) {
-        turns(&field.sides, line.a) != 0
-    } else {
-        false
+    if !is_clear(&field.sides, &trial) {
+        return false;
     }
+    if turns(&field.sides, line.a) == 0 {
+        return false;
+    }
+    true
 }
 
 /// Whether a move is level, and stays inside some of the layers at its height.
@@ -82,7 +83,6 @@ pub fn stays(fields: &[Field], m: &Move, line_width: u32) -> bool
     }
 }
 
-#[tactic(auto, using(crate::proofs::Searches::any_at, crate::proofs::Searches::none_any))]
 fn is_in_some(fields: &[Field], m: &Move, line_width: u32) -> bool
     requires fields { All IsSound fields.now }
     requires least { 100 ≤ line_width }

@@ -47,7 +47,6 @@ fn few(alloc: Global, sides: &[Edge]) -> Result<Tree, AllocError>
     Ok(Tree::Few(extent_round(sides), Vec::from_slice(alloc, sides)?))
 }
 
-#[tactic(auto, using(crate::proofs::Searches::round_more))]
 fn extent_round(sides: &[Edge]) -> Extent
     ensures { All (IsIn result) sides.now }
 {

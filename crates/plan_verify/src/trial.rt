@@ -38,7 +38,6 @@ impl Trial {
     }
 
     /// Whether none of the sides is near to any point of the move.
-    #[tactic(auto, using(crate::proofs::Searches::any_at))]
     pub fn is_clear(&self, sides: &[Edge]) -> bool
         requires trial { IsTrial self.now }
         requires sides { All (IsEdgeWithin coordinate_limit) sides.now }
@@ -53,7 +52,6 @@ impl Trial {
         true
     }
 
-    #[tactic(auto, using(crate::proofs::Searches::one_apart))]
     fn is_near(&self, side: &Edge) -> bool
         requires trial { IsTrial self.now }
         requires side { IsEdgeWithin coordinate_limit side.now }
@@ -61,9 +59,8 @@ impl Trial {
         ensures apart { result ≡ false → IsApart self.now side.now }
     {
         if Extent::around(side).is_beyond(self.reach) {
-            false
-        } else {
-            near(&self.line, side, self.s, self.u)
+            return false;
         }
+        near(&self.line, side, self.s, self.u)
     }
 }
