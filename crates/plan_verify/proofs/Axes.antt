@@ -83,7 +83,6 @@ ranged_within n letter given out (Some z) w e = by_test (limited letter z) refl 
         (with_number_within letter z given w (limited_x letter z f) (limited_y letter z f))
     by_test false f g = absurd (cc)
 
-
 zero_small : Small (pos 0)
 zero_small = omega arith
 
@@ -96,7 +95,6 @@ with_value_within n Home letter text given out w e = by_test (nat_lt 0 (length t
     by_test true g = absurd (cc)
     by_test false g = subst IsGivenWithin (same_given (with_number letter (pos 0) given) out (Ok (with_number letter (pos 0) given)) refl g)
         (with_number_within letter (pos 0) given w (λ _. zero_small) (λ _. zero_small))
-
 with_value_within n Drive letter text given out w e = ranged_within n letter given out (number (places letter) text) w e
 with_value_within n Set letter text given out w e = ranged_within n letter given out (number (places letter) text) w e
 with_value_within n Plain letter text given out w e = ranged_within n letter given out (number (places letter) text) w e
@@ -150,17 +148,17 @@ obeyed_within s Drive given g w = record {
 obeyed_within s Home given g w = by_test (names_none given)
   where
     by_test : (b : Bool) → IsAfterWithin (record {
-        state = if b then record { at = record { x = pos 0; y = pos 0; z = pos 0 }; e = s.e; lines = s.lines } else driven given s;
-        move = None;
-      })
+      state = if b then record { at = record { x = pos 0; y = pos 0; z = pos 0 }; e = s.e; lines = s.lines } else driven given s;
+      move = None;
+    })
     by_test true = record { place = record { x = zero_small; y = zero_small }; move = tt }
     by_test false = record { place = driven_within given s g w; move = tt }
 obeyed_within s Set given g w = by_test (names_none given)
   where
     by_test : (b : Bool) → IsAfterWithin (record {
-        state = if b then record { at = record { x = pos 0; y = pos 0; z = pos 0 }; e = pos 0; lines = s.lines } else driven given s;
-        move = None;
-      })
+      state = if b then record { at = record { x = pos 0; y = pos 0; z = pos 0 }; e = pos 0; lines = s.lines } else driven given s;
+      move = None;
+    })
     by_test true = record { place = record { x = zero_small; y = zero_small }; move = tt }
     by_test false = record { place = driven_within given s g w; move = tt }
 obeyed_within s Plain given g w = record { place = w; move = tt }
@@ -178,7 +176,6 @@ command_within s (Some command) rest after w e = by_words (with_words limited s.
     by_words (Ok given) f g = subst IsAfterWithin (same_after (obeyed s command given) after (Ok (obeyed s command given)) refl g)
         (obeyed_within s command given (with_words_within s.lines command rest nothing_given given nothing_within f) w)
     by_words (Err fault) f g = absurd (cc)
-
 
 words_within : (s : State) (words : List (List ℕ)) (after : After) → IsPlaceWithin s.at → words_line limited s words ≡ Ok after
     → IsAfterWithin after
@@ -219,7 +216,6 @@ command_lines s (Some command) rest after e = by_words (with_words limited s.lin
         → after.state.lines ≡ s.lines
     by_words (Ok given) g = sym (ap (λ (a : After). a.state.lines) (same_after (obeyed s command given) after (Ok (obeyed s command given)) refl g)) ∙ obeyed_lines s command given
     by_words (Err fault) g = absurd (cc)
-
 
 words_lines : (s : State) (words : List (List ℕ)) (after : After) → words_line limited s words ≡ Ok after
     → after.state.lines ≡ s.lines

@@ -167,8 +167,7 @@ module _ (a b : Pt) where
       let g = behind_is t D.x D.y (s +ℤ t) in
       let h = far_is s t D.x D.y in
       let p = at_least_mul t (D.x *ℤ D.x +ℤ D.y *ℤ D.y) ht length_least in
-      let q = at_least_mul s (D.x *ℤ D.x +ℤ D.y *ℤ D.y) hs length_least in
-      (
+      let q = at_least_mul s (D.x *ℤ D.x +ℤ D.y *ℤ D.y) hs length_least in (
         omega (arith, ints, e),
         (omega (arith, ints, f), (omega (arith, ints, g, p), (omega (arith, ints, h, q), tt))),
       )
@@ -291,8 +290,7 @@ module _ (a b : Pt) where
   on_box ex ey s t hs ht =
       let e = times_zero t D.x ex in
       let f = times_zero t D.y ey in
-      let o = none_times (s +ℤ t) in
-      (
+      let o = none_times (s +ℤ t) in (
         omega (arith, ints, e, f),
         (omega (arith, ints, e, f), (omega (arith, ints, e, f), (omega (arith, ints, e, f), tt))),
       )

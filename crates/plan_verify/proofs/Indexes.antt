@@ -72,15 +72,17 @@ leaf_few x v h = h.0.few
 
 pub boxed_many : (x : Extent) (b c : Box Tree Global) → Covers x (extent_in b.value) → Covers x (extent_in c.value)
     → IsBoxed b.value → IsBoxed c.value → IsBoxed (Many x b c)
-boxed_many x b c k l h i = subst (λ (ns : List Node). AllByRecursion IsNode ns) (sym (nodes_many x b c))
-    (record {
-      holds = All-append (IsIn x) (sides_in b.value) (sides_in c.value)
-          (All-weaker (IsIn (extent_in b.value)) (IsIn x) (λ e o. in_covered x (extent_in b.value) e k o) (sides_in b.value)
-          (root_holds b.value h))
-          (All-weaker (IsIn (extent_in c.value)) (IsIn x) (λ e o. in_covered x (extent_in c.value) e l o) (sides_in c.value)
-          (root_holds c.value i));
-      few = omega arith;
-    }, both_by_recursion IsNode (nodes_in b.value) (nodes_in c.value) h i)
+boxed_many x b c k l h i = subst (λ (ns : List Node). AllByRecursion IsNode ns) (sym (nodes_many x b c)) (
+  record {
+    holds = All-append (IsIn x) (sides_in b.value) (sides_in c.value)
+        (All-weaker (IsIn (extent_in b.value)) (IsIn x) (λ e o. in_covered x (extent_in b.value) e k o) (sides_in b.value)
+        (root_holds b.value h))
+        (All-weaker (IsIn (extent_in c.value)) (IsIn x) (λ e o. in_covered x (extent_in c.value) e l o) (sides_in c.value)
+        (root_holds c.value i));
+    few = omega arith;
+  },
+  both_by_recursion IsNode (nodes_in b.value) (nodes_in c.value) h i,
+)
 
 pub boxed_first : (x : Extent) (b c : Box Tree Global) → IsBoxed (Many x b c) → IsBoxed b.value
 boxed_first x b c h = front_by_recursion IsNode (nodes_in b.value) (nodes_in c.value)
@@ -161,3 +163,20 @@ pub any_in_second : (P : Edge → Type 0) (t s : Tree) (x : Extent) (b c : Box T
     → Any P (sides_in s) → Any P (sides_in t)
 any_in_second P t s x b c is second a = subst (λ (es : List Edge). Any P es) (sym (sides_of t x b c is))
     (any_back P (sides_in b.value) (sides_in c.value) (subst (λ (y : Tree). Any P (sides_in y)) second a))
+
+-- each tree of a tree of two has fewer rectangles
+pub fewer_first : (t f : Tree) (x : Extent) (b c : Box Tree Global) → t ≡ Many x b c → f ≡ b.value
+    → length (nodes_in f) < length (nodes_in t)
+fewer_first t f x b c is first =
+    let e = ap (λ (ns : List Node). length ns) (ap nodes_in is ∙ nodes_many x b c) in
+    let both = length-append (nodes_in b.value) (nodes_in c.value) in
+    let g = ap (λ (y : Tree). length (nodes_in y)) first in
+    omega (arith, e, both, g)
+
+pub fewer_second : (t s : Tree) (x : Extent) (b c : Box Tree Global) → t ≡ Many x b c → s ≡ c.value
+    → length (nodes_in s) < length (nodes_in t)
+fewer_second t s x b c is second =
+    let e = ap (λ (ns : List Node). length ns) (ap nodes_in is ∙ nodes_many x b c) in
+    let both = length-append (nodes_in b.value) (nodes_in c.value) in
+    let g = ap (λ (y : Tree). length (nodes_in y)) second in
+    omega (arith, e, both, g)

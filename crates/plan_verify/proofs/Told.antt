@@ -190,7 +190,7 @@ module _ (Does : Move → Type 0) where
       → WithMove Does after.move next j i → IsRead program after.state left next i
   read_line program front rest left s after line next j i r split step number o =
       let at : next ≡ after.state.lines =
-          number ∙ ap (λ (n : ℕ). min (n + 1) (2 ^ 32 - 1)) r.counted ∙ sym (step_lines s front after step) in
+      number ∙ ap (λ (n : ℕ). min (n + 1) (2 ^ 32 - 1)) r.counted ∙ sym (step_lines s front after step) in
       record {
         moves = r.moves ++ onto after.state.lines after.move [];
         told = r.told ∙ ap (λ (ls : List (List ℕ)). prefix r.moves (moves_told s ls)) split

@@ -20,7 +20,12 @@ use std::alloc::Global;
 /// width: each point of it keeps off each side by more than c - 1 along one axis or more than c + t - 2 along the sum of
 /// both, where c is half the width and t is c * 414214 / 1000000, and the outlines wind round it. The program is read by the
 /// machine, line by line, to its end: a line that it refuses goes before a move that doesn't stay inside.
-pub fn check(alloc: Global, cli: &Cli, gcode: &[u8], line_width: u32) -> Result<Verdict, VerifyFault>
+pub fn check(
+    alloc: Global,
+    cli: &Cli,
+    gcode: &[u8],
+    line_width: u32,
+) -> Result<Verdict, VerifyFault>
     requires layers { AreWithin (layers_of cli.now) }
     requires least { 100 ≤ line_width }
     requires most { line_width ≤ 2000 }
@@ -53,7 +58,13 @@ fn judge(fields: &[Field], gcode: &[u8], line_width: u32) -> Result<Verdict, Ver
 }
 
 // With the move of a line that was read, if it has one.
-fn with_line(fields: &[Field], judgement: Judgement, done: &Option<Move>, line: u32, line_width: u32) -> Judgement
+fn with_line(
+    fields: &[Field],
+    judgement: Judgement,
+    done: &Option<Move>,
+    line: u32,
+    line_width: u32,
+) -> Judgement
     requires fields { All IsSound fields.now }
     requires least { 100 ≤ line_width }
     requires most { line_width ≤ 2000 }
@@ -69,7 +80,13 @@ fn with_line(fields: &[Field], judgement: Judgement, done: &Option<Move>, line: 
 
 // With a move that was read.
 #[tactic(auto, using(crate::proofs::Adding::add_passed, crate::proofs::Adding::add_late, crate::proofs::Adding::add_judged))]
-fn with_move(fields: &[Field], judgement: Judgement, m: &Move, line: u32, line_width: u32) -> Judgement
+fn with_move(
+    fields: &[Field],
+    judgement: Judgement,
+    m: &Move,
+    line: u32,
+    line_width: u32,
+) -> Judgement
     requires fields { All IsSound fields.now }
     requires least { 100 ≤ line_width }
     requires most { line_width ≤ 2000 }
@@ -90,7 +107,12 @@ fn said(judgement: Judgement) -> Verdict
     ensures { result ≡ verdict_of judgement }
 {
     match judgement.out {
-        Some(out) => Verdict::Outside { number: out.number, line: out.line },
-        None => Verdict::Inside { moves: judgement.moves },
+        Some(out) => Verdict::Outside {
+            number: out.number,
+            line: out.line,
+        },
+        None => Verdict::Inside {
+            moves: judgement.moves,
+        },
     }
 }

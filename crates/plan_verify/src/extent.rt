@@ -60,7 +60,8 @@ impl Extent {
     pub fn is_beyond(self, other: Extent) -> bool
         ensures { result ≡ is_beyond self other }
     {
-        self.right < other.left || (other.right < self.left || (self.top < other.bottom || other.top < self.bottom))
+        self.right < other.left
+            || (other.right < self.left || (self.top < other.bottom || other.top < self.bottom))
     }
 
     /// Whether no edge in it passes the height of a point to the right of it.

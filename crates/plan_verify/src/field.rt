@@ -119,7 +119,13 @@ fn from_above(m: &Move) -> Edge
     ensures { result ≡ from_above m.now }
 {
     Edge {
-        a: Pt { x: m.from.x, y: m.from.y },
-        b: Pt { x: m.to.x, y: m.to.y },
+        a: Pt {
+            x: m.from.x,
+            y: m.from.y,
+        },
+        b: Pt {
+            x: m.to.x,
+            y: m.to.y,
+        },
     }
 }

@@ -52,7 +52,12 @@ fn extent_round(sides: &[Edge]) -> Extent
 {
     let mut extent = match sides.first() {
         Some(side) => Extent::around(side),
-        None => Extent { left: 0, right: 0, bottom: 0, top: 0 },
+        None => Extent {
+            left: 0,
+            right: 0,
+            bottom: 0,
+            top: 0,
+        },
     };
     'sides: for side in sides {
         extent = Extent::round(extent, Extent::around(side));

@@ -21,7 +21,10 @@ impl Judgement {
     pub fn none() -> Judgement
         ensures { result ≡ record { moves = 0; out = None } }
     {
-        Judgement { moves: 0, out: None }
+        Judgement {
+            moves: 0,
+            out: None,
+        }
     }
 
     /// With one move more, which stands in this line.
@@ -32,7 +35,11 @@ impl Judgement {
         let moves = self.moves + 1;
         Judgement {
             moves,
-            out: if stays { self.out } else { self.first_out(moves, line) },
+            out: if stays {
+                self.out
+            } else {
+                self.first_out(moves, line)
+            },
         }
     }
 
