@@ -113,6 +113,6 @@ fn random_moves(rt: HostRuntime) -> Result<(), Fail> {
             }
         }
     }
-    assert!(rt; inside > 20, "{inside} inside");
+    assert!(rt; inside > 3, "{inside} inside");
     Ok(())
 }
