@@ -1,0 +1,80 @@
+"""Checks that neither the depth nor the breadth of a source takes the machine's stack.
+
+Each form in which a source calls itself is run as deep as the limit of depth allows, and one level deeper;
+each list that a source may have is run with thousands of members. All under an ordinary stack, and under
+one of 1 MiB. The reports are those of the reference program.
+"""
+
+from check import Check, Each
+
+STACKS = (8192, 1024)
+
+TWELVE = ", ".join(f"{name} = [0]" for name in "abcdefghijkl")
+CALL = "m(n - 1); else cube(1); } m({n});"
+
+# name: (source, the deepest that it goes, what is reported there, where the budget comes one level deeper)
+FORMS = {
+    "a_function": ("function r(n) = n == 0 ? 0 : 1 + r(n - 1); echo(r({n}));", 665, "ECHO: 665", "1:38"),
+    "a_function_through_let":
+        ("function r(n) = n == 0 ? 0 : let(a = r(n - 1)) a + 1; echo(r({n}));", 665, "ECHO: 665", "1:42"),
+    "a_function_through_a_comprehension":
+        ("function r(n) = n == 0 ? [] : [for (i = [0], j = [0], k = [0]) each r(n - 1)]; echo(r({n}));",
+         399, "ECHO: []", "1:41"),
+    "a_function_through_a_loop_with_start_test_and_step":
+        ("function r(n) = n == 0 ? [] : [for (i = 0; i < 1; i = i + 1) each r(n - 1)]; echo(r({n}));",
+         399, "ECHO: []", "1:41"),
+    "a_function_through_its_default":
+        ("$n = {n}; function r(d = $n == 0 ? 0 : let($n = $n - 1) r()) = d; echo(r());", 665, "ECHO: 0", "1:49"),
+    "a_module": ("module m(n) { if (n > 0) " + CALL, 998, "", "1:28"),
+    "children_of_children":
+        ("module m(n) { if (n > 0) m(n - 1) children(); else children(); } m({n}) cube(1);", 665, "", "1:35"),
+    "a_module_through_for_of_twelve_variables":
+        ("module m(n) { if (n > 0) for (" + TWELVE + ") " + CALL, 665, "", "1:141"),
+    "a_module_through_intersection_for": ("module m(n) { if (n > 0) intersection_for (i = [0]) " + CALL, 665, "", "1:55"),
+    "a_module_through_let":
+        ("module m(n) { if (n > 0) let(a = n - 1) m(a); else cube(1); } m({n});", 665, "", "1:21"),
+    "a_module_through_union": ("module m(n) { if (n > 0) union() " + CALL, 665, "", "1:36"),
+}
+
+SOLID = "ok: 1 leaves, 12 triangles, 5 layers"
+NOTHING = "ok: 0 leaves, 0 triangles, 0 layers"
+
+
+def each_of(count, form):
+    return ", ".join(form.format(i=i) for i in range(count))
+
+
+# name: (source, report)
+LISTS = {
+    "variables_of_a_for": (lambda: f"for ({each_of(6000, 'v{i} = [0]')}) cube(1);", SOLID),
+    "variables_of_an_intersection_for":
+        (lambda: f"intersection_for ({each_of(6000, 'v{i} = [0]')}) cube(1);", SOLID),
+    "variables_of_a_comprehension":
+        (lambda: f"echo([for ({each_of(6000, 'v{i} = [{i}]')}) v5999]);", f"ECHO: [5999]\n{NOTHING}"),
+    "names_of_a_let": (lambda: f"echo(let({each_of(50000, 'v{i} = {i}')}) v49999);", f"ECHO: 49999\n{NOTHING}"),
+    "arguments": (lambda: f"echo(max({each_of(50000, '{i}')}));", f"ECHO: 49999\n{NOTHING}"),
+    "parameters": (lambda: f"function f({each_of(50000, 'v{i} = {i}')}) = v49999; echo(f());", f"ECHO: 49999\n{NOTHING}"),
+    "elements": (lambda: f"echo(len([{each_of(50000, '{i}')}]));", f"ECHO: 50000\n{NOTHING}"),
+    "statements_without_shapes": (lambda: "union();" * 50000, NOTHING),
+}
+
+
+def by_stacks(name, source, report, status=0):
+    """A check of a source under each size of the stack, each by what tells it apart."""
+    return {f"{name} with a stack of {size} KiB":
+            Check(name, [b"check", b"m.scad"], status, f"{report}\n".encode(), {"m.scad": source.encode()},
+                  shell=f'ulimit -s {size} && exec "$@"') for size in STACKS}
+
+
+def deep(name, form, deepest, told, place):
+    at = lambda n: form.replace("{n}", str(n))
+    done = f"{told}\n{NOTHING}" if told else SOLID
+    return Each(f"depth_of_{name}", {**by_stacks("the deepest", at(deepest), done),
+                                     **by_stacks("one deeper", at(deepest + 1), f"budget 3 Depth at {place}", 6)})
+
+
+def depth_checks():
+    return [
+        *(deep(name, *form) for name, form in FORMS.items()),
+        *(Each(f"many_{name}", by_stacks("all", source(), report)) for name, (source, report) in LISTS.items()),
+    ]
