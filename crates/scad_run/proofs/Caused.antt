@@ -16,7 +16,6 @@ use Rattle.scad_script.specs.Steps.{Step}
 use Rattle.scad_script.specs.Script.{Script, Ending, Finishes, Refuses, refused}
 use Rattle.scad_script.specs.Promises.{IsAnswered, Promised}
 use Rattle.scad_tree.specs.Solid.{Solid}
-use Rattle.scad_tree.specs.Solids.{AreSolids}
 use Rattle.slice_work.specs.declared.want.Want.{Want}
 use Rattle.slice_work.specs.declared.want.Want.TheVariants.{Outlines as OutlinesAlone, Plan as WithPlan}
 use Rattle.slice_work.specs.Part.{Part}
@@ -28,7 +27,7 @@ use Rattle.scad_run.specs.Answer.{Parts, follows, job_script, script_of, ArePart
 use Rattle.scad_run.specs.Inputs.{Inputs, source_in, IsRead}
 use Rattle.scad_run.specs.Causes.{HasManyLayers, PassesAtLayer, PassesDrawing, IsCause, HasNamedCause}
 use Rattle.scad_run.proofs.Working.{parts_meant}
-use Rattle.scad_run.proofs.Sources.{sources_mean_solids, as_part}
+use Rattle.scad_run.proofs.Sources.{as_part}
 use Rattle.scad_run.proofs.Heights.{found_in_range}
 use Rattle.scad_run.proofs.Answering.{other_refuses}
 use Rattle.scad_run.proofs.Reached.{EndsBefore, IsStopped, IsFollowed, reached}
@@ -36,7 +35,7 @@ use Rattle.scad_run.proofs.Ends.{PartPasses, IsDone, IsDrawnOver, IsOver, EndsBy
 
 -- ---- a budget that drawing passes
 
-module _ (settings : SettingsOfRun) (tree : Solid) (in_range : AreInRange settings) (solids : AreSolids tree) where
+module _ (settings : SettingsOfRun) (tree : Solid) (in_range : AreInRange settings) where
   layer_passes : (want : Want) (part : Part) (budget : Budget) → IsPart want settings tree part
       → PartPasses part (layer_count settings.layer_height tree) budget → PassesAtLayer want settings tree budget
   layer_passes want part budget is_part p =
@@ -46,8 +45,8 @@ module _ (settings : SettingsOfRun) (tree : Solid) (in_range : AreInRange settin
         there = p.there;
         below = λ i less.
             let made = p.below i less in
-            (made.0, subst (IsLayer want settings tree i) made.1 (is_part solids in_range i));
-        passes = subst (IsLayer want settings tree p.layer) p.passes (is_part solids in_range p.layer);
+            (made.0, subst (IsLayer want settings tree i) made.1 (is_part i));
+        passes = subst (IsLayer want settings tree p.layer) p.passes (is_part p.layer);
       }
 
   drawn_passes : (want : Want) (creates : List Step) (line : List ℕ) (part : Part) (budget : Budget)
@@ -65,12 +64,14 @@ module _ (settings : SettingsOfRun) (tree : Solid) (in_range : AreInRange settin
   passes_drawing (Tree model) parts budget of_tree over = over
   passes_drawing (Slice model cli) parts budget of_tree over =
       drawn_passes OutlinesAlone _ _ (parts OutlinesAlone settings) budget
-      (as_part tree parts of_tree OutlinesAlone settings)
+      (as_part tree parts of_tree OutlinesAlone settings in_range)
       over
   passes_drawing (Plan model cli gcode) parts budget of_tree over =
-      drawn_passes WithPlan _ _ (parts WithPlan settings) budget (as_part tree parts of_tree WithPlan settings) over
+      drawn_passes WithPlan _ _ (parts WithPlan settings) budget (as_part tree parts of_tree WithPlan settings in_range)
+      over
   passes_drawing (Sample n) parts budget of_tree over =
-      drawn_passes WithPlan _ _ (parts WithPlan settings) budget (as_part tree parts of_tree WithPlan settings) over
+      drawn_passes WithPlan _ _ (parts WithPlan settings) budget (as_part tree parts of_tree WithPlan settings in_range)
+      over
 
 -- ---- the cause of a refusal
 
@@ -95,7 +96,6 @@ cause_behind job inputs parts whole refusal f drawn (inl (line, is, done)) same 
 cause_behind job inputs parts whole refusal f drawn (inr (budget, is, over)) same =
     let of_source = subst (λ (i : Option Input). AreDrawn i parts) f.there drawn in
     let of_tree = parts_meant f.source f.tree parts (f.state, f.means) of_source in
-    let are_solids = sources_mean_solids f.source f.tree f.state f.means in
     let in_range = found_in_range job.settings inputs.settings f.settings f.found in
     let one : refusal ≡ Refusal.Over budget = ap (refusal_in (Refusal.Over budget)) (sym same ∙ f.ending ∙ is) in
     subst (λ (r : Refusal). IsCause (Some job) inputs (refused r)) (sym one) (
@@ -108,7 +108,7 @@ cause_behind job inputs parts whole refusal f drawn (inr (budget, is, over)) sam
         found = f.found;
         tree = f.tree;
         means = (f.state, f.means);
-        passes = passes_drawing f.settings f.tree in_range are_solids job.command parts budget of_tree over;
+        passes = passes_drawing f.settings f.tree in_range job.command parts budget of_tree over;
       })),
     )
   where

@@ -35,11 +35,11 @@ module _ (words : List (List ℕ)) (files : Files) (inputs : Inputs) (parts : Pa
       let f = words_finished words inputs parts status old new job drawn promised done form in
       let s = f.settings in
       let part = parts WithPlan s in
-      let is_part = as_part f.tree parts f.of_tree WithPlan s in
+      let is_part = as_part f.tree parts f.of_tree WithPlan s f.in_range in
       let n = layer_count s.layer_height f.tree in
       let layers = layouts part n in
       let print =
-      printed s f.tree layers f.solids f.in_range (are_layers s f.tree part f.solids f.in_range is_part f.done.few
+      printed s f.tree layers f.solids f.in_range (are_layers s f.tree part is_part f.done.few
       f.done.made)
       in
       record {
