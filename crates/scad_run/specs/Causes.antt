@@ -1,4 +1,4 @@
--- Every refusal has its named cause, over any meaning of sources (`Means`).
+-- Every refusal has its named cause. What a source means is a parameter, as in the headline.
 use Rattle.std.specs.Prelude.{◌≡◌, ◌⊎◌, ◌<◌, ◌≤◌, true, List, ℕ, Option, Some, None, Err}
 use Rattle.scad_fault.specs.declared.budget.Budget.{Budget}
 use Rattle.scad_fault.specs.declared.fault.Fault.{Fault}

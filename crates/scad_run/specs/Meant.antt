@@ -1,5 +1,4 @@
--- What a source can mean. The headline and the causes of refusals are said over any meaning of sources, a relation of
--- sources and these; the language's is `Means`.
+-- What a source can mean. A meaning of sources is a relation between sources and these.
 use Rattle.scad_fault.specs.declared.budget.Budget.{Budget}
 use Rattle.scad_fault.specs.declared.fault.Fault.{Fault}
 use Rattle.scad_tree.specs.Solid.{Solid}
