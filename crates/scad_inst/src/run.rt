@@ -9,7 +9,9 @@ ghost use Rattle.scad_inst.specs.Stack.{Goes, Ends, rest, made_in, goes_on, onto
 
 use crate::children::children_by;
 use crate::frames::go_back;
+use crate::hulls::hull_made;
 use crate::members::{made_of, members};
+use crate::profiles::with_its_profiles;
 use crate::stack::Stack;
 use crate::turn::{turns, variables};
 use crate::walk::{statement, unless_marked};
@@ -38,9 +40,11 @@ fn given<'p>(
         (state_of m.old)) result stack.new m.new }
 {
     match frame {
-        Frame::Mark(marked, depth) => {
+        Frame::Mark(marked, depth, from) => {
             go_back(depth, m);
-            Ok(Focus::Given(unless_marked(marked, tree)))
+            let tree = unless_marked(marked, tree);
+            with_its_profiles(from, &tree, m);
+            Ok(Focus::Given(tree))
         }
         Frame::Member(marked) => {
             stack.add(marked, tree)?;
@@ -48,6 +52,9 @@ fn given<'p>(
         }
         Frame::Then(behind) => Ok(behind),
         Frame::Combine(operation, at, outer) => made_of(operation, at, outer, stack, m),
+        Frame::Hull(call, w, from) => {
+            Ok(Focus::Given(hull_made(stack.alloc, call, &w, from, &tree, m)?))
+        }
         Frame::Leave(back) => {
             m.leave(back);
             Ok(Focus::Given(tree))

@@ -47,7 +47,7 @@ pub(crate) fn statement<'p>(
     }
     go_deeper(m);
     m.step(at)?;
-    stack.push(Frame::Mark(is_marked(item), depth))?;
+    stack.push(Frame::Mark(is_marked(item), depth, m.profiles.len()))?;
     node(item, w, stack, m)
 }
 
