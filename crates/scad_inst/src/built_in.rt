@@ -30,6 +30,7 @@ use crate::leaves::leaf;
 use crate::members::combined;
 use crate::modules::Call;
 use crate::operation::Operation;
+use crate::profiles::profile_count;
 use crate::refusals::fault;
 use crate::space::{Space, Where, inside_linear, turned_at};
 use crate::stack::Stack;
@@ -247,7 +248,8 @@ fn hull<'p>(
         (held m.old)) args found (items call.entry.all.now.items) (state_of m.old)) stack.old m.old → Goes o result
         stack.new m.new }
 {
-    stack.push(Frame::Hull(call, *w, m.profiles.len()))?;
+    let from = profile_count(m);
+    stack.push(Frame::Hull(call, *w, from))?;
     combined(Operation::Unite, call.at, call.all, w, stack, m)
 }
 

@@ -18,7 +18,8 @@ use crate::refusals::{named_fault, over};
 use crate::space::{Space, Turning, Where};
 use scad_expr::{EvalFault, Machine};
 use scad_fault::{BudgetKind, FaultKind, Place};
-use scad_hull::laws::{hulls_are_some, rings_are_convex};
+use hull_laws::hulls_are_solids;
+use scad_hull::laws::rings_are_convex;
 use scad_hull::{HullFault, Ring2, hull, ring_hull};
 use scad_matrix::Matrix;
 use scad_solid::Triangles;
@@ -38,6 +39,7 @@ fn judge_united(alloc: Global, at: Place, name: &[u8], tree: &Tree) -> Result<()
 }
 
 /// Why there is no hull.
+#[tactic(auto, unfolding(crate::specs::Hulls::hulled, scad_expr::specs::State::over))]
 fn refusal(at: Place, why: HullFault) -> EvalFault
     ensures { (s : State) → Does nothing (hulled at (Result.Err why) s) (Result.Err result) s }
 {
@@ -48,12 +50,12 @@ fn refusal(at: Place, why: HullFault) -> EvalFault
 }
 
 /// The solid round the corners of a tree's leaves.
-#[tactic(auto, unfolding(crate::specs::Hulls::hulled))]
+#[tactic(auto, using(crate::proofs::HullsMade::hulls), unfolding(crate::specs::Hulls::hulled))]
 fn solid_round(alloc: Global, at: Place, tree: &Tree) -> Result<Option<Triangles>, EvalFault>
     ensures does { (s : State) → Does (λ o. o) (hulled at (hull_of (points_of (solid_of tree.now))) s) result s }
     ensures some { IfOk result (λ o. IfSome o (λ t. 0 < length t)) }
 {
-    hulls_are_some();
+    hulls_are_solids();
     let points = tree.points(alloc)?;
     match hull(alloc, points.as_slice()) {
         Ok(found) => Ok(found),
@@ -96,7 +98,7 @@ fn solid_hull<'p>(
 }
 
 /// The ring round the points of profiles from a number on.
-#[tactic(auto, unfolding(crate::specs::Hulls::hulled))]
+#[tactic(auto, using(crate::proofs::HullsMade::hulls), unfolding(crate::specs::Hulls::hulled))]
 fn ring_round<'p>(
     alloc: Global,
     at: Place,

@@ -1,6 +1,6 @@
 //! The points of the profiles of leaves inside `rotate_extrude`.
 
-ghost use Rattle.std.specs.Prelude.{◌≡◌, drop};
+ghost use Rattle.std.specs.Prelude.{◌≡◌, drop, length};
 ghost use Rattle.scad_tree.specs.View.{solid_of};
 ghost use Rattle.scad_expr.specs.Answers.{Does, nothing};
 ghost use Rattle.scad_expr.specs.Machine.{held, state_of};
@@ -10,6 +10,14 @@ ghost use Rattle.scad_inst.specs.Profiles.{keep_profile, replace_profiles, with_
 use scad_expr::{EvalFault, Machine};
 use scad_num::Num;
 use scad_tree::Tree;
+
+/// How many points there are.
+#[tactic(auto, unfolding(scad_expr::specs::Machine::state_of))]
+pub(crate) fn profile_count(m: &Machine) -> usize
+    ensures { result ≡ length (state_of m.now).profiles }
+{
+    m.profiles.len()
+}
 
 /// Those from a number on.
 pub(crate) fn profiles_from<'a>(from: usize, m: &'a Machine) -> &'a [(Num, Num)]
