@@ -10,14 +10,16 @@ use Rattle.scad_fault.specs.declared.budget.BudgetKind.TheVariants.{HullPoints}
 use Rattle.scad_geom.specs.PointRange.{is_in_range}
 use Rattle.scad_geom.specs.declared.point3.Pt3.{Pt3}
 use Rattle.scad_solid.specs.Range.{is_triangle_in_range}
-use Rattle.scad_solid.specs.Solid.{IsSolid}
+use Rattle.scad_solid.specs.Solid.{IsSolid, fans}
 use Rattle.scad_solid.specs.declared.triangle.Triangle.{Triangle}
 use Rattle.scad_matrix.specs.declared.matrix.Matrix.{Matrix}
 use Rattle.scad_hull.specs.declared.fault.HullFault.{HullFault}
 use Rattle.scad_hull.specs.declared.fault.HullFault.TheVariants.{Points, Memory}
+use Rattle.scad_hull.specs.Chain.{ring_round}
 use Rattle.scad_hull.specs.Distinct.{distinct}
 use Rattle.scad_hull.specs.Faces.{are_flat, faces_of, hull_of}
 use Rattle.scad_hull.specs.Flat.{are_on_line, flat_cmp, flat_left, point_count_limit, ring_hull_of}
+use Rattle.scad_hull.specs.Space.{space_cmp}
 use Rattle.hull_laws.proofs.Solids.{hulls_are_solids}
 use Rattle.scad_modules.specs.Outline.{Pair}
 use Rattle.scad_tree.specs.Order.{surfaces}
@@ -74,12 +76,20 @@ GivesAny (Ok o) = Unit {0}
 GivesAny (Err (Points count)) = Unit {0}
 GivesAny (Err Memory) = ⊥
 
+limited : {A : Type 0} (b : Bool) (count : ℕ) (o : Option A) → GivesAny (if b then Err (Points count) else Ok o)
+limited true count o = tt
+limited false count o = tt
+
 hull-any : (points : List Pt3) → GivesAny (hull_of points)
-hull-any points = by (nat_lt point_count_limit (length (distinct _ points)))
-  where
-    by : (b : Bool) → GivesAny (if b then Err (Points (length (distinct _ points))) else Ok _)
-    by true = tt
-    by false = tt
+hull-any points =
+    let ps = distinct space_cmp points in
+    limited (nat_lt point_count_limit (length ps)) (length ps) (if are_flat ps then None else Some (fans (faces_of ps)))
+
+ring-any : (points : List Pair) → GivesAny (ring_hull_of points)
+ring-any points =
+    let ps = distinct flat_cmp points in
+    limited (nat_lt point_count_limit (length ps)) (length ps)
+    (if are_on_line ps then None else Some (ring_round flat_left ps))
 
 solid-given : (points : List Pt3) → list_all is_in_range points ≡ true → (r : Result (Option (List Triangle)) HullFault)
     → hull_of points ≡ r → GivesAny r → GivesSolid r
@@ -87,13 +97,6 @@ solid-given points range (Ok None) is any = tt
 solid-given points range (Ok (Some ts)) is any = hulls_are_solids.each points ts range is
 solid-given points range (Err (Points count)) is any = tt
 solid-given points range (Err Memory) is any = any
-
-ring-any : (points : List Pair) → GivesAny (ring_hull_of points)
-ring-any points = by (nat_lt point_count_limit (length (distinct flat_cmp points)))
-  where
-    by : (b : Bool) → GivesAny (if b then Err (Points (length (distinct flat_cmp points))) else Ok _)
-    by true = tt
-    by false = tt
 
 -- ---- the rules
 keeps-hulled : (at : Place) (r : Result (Option (List Triangle)) HullFault) → GivesSolid r
