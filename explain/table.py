@@ -136,7 +136,7 @@ MODULES = {
 }
 
 # Modules that take any arguments.
-FREE_MODULES = ["color", "render", "group", "union", "difference", "intersection", "children", "echo"]
+FREE_MODULES = ["color", "render", "group", "union", "difference", "intersection", "hull", "children", "echo"]
 
 # The functions, and what their arguments may be.
 FUNCTIONS = {
