@@ -27,7 +27,7 @@ impl Tree {
 
 // The corners of a node behind points in range.
 #[cycle(points)]
-#[tactic(auto, using(crate::proofs::Rows::at_operation))]
+#[tactic(auto, using(crate::proofs::Rows::at_operation, crate::proofs::TreePoints::by_parts))]
 fn push_node(out: &mut Vec<Pt3>, node: &Node) -> Result<(), AllocError>
     requires { list_all is_in_range out.old.items ≡ true }
     ensures all { OnOk result (out.new.items ≡ out.old.items ++ points_of (solid_of node.now)) }
@@ -46,7 +46,7 @@ fn push_node(out: &mut Vec<Pt3>, node: &Node) -> Result<(), AllocError>
 }
 
 #[cycle(points)]
-#[tactic(auto, using(crate::proofs::Rows::left))]
+#[tactic(auto, using(crate::proofs::TreePoints::nodes_left))]
 fn push_members(out: &mut Vec<Pt3>, nodes: &[Node]) -> Result<(), AllocError>
     requires { list_all is_in_range out.old.items ≡ true }
     ensures all { OnOk result (out.new.items ≡ out.old.items ++ all_points (members (solids nodes.now))) }
@@ -66,6 +66,7 @@ fn push_surface(out: &mut Vec<Pt3>, surface: &Triangles) -> Result<(), AllocErro
     push_corners(out, surface.as_slice())
 }
 
+#[tactic(auto, using(crate::proofs::TreePoints::triangles_left))]
 fn push_corners(out: &mut Vec<Pt3>, triangles: &[Triangle]) -> Result<(), AllocError>
     requires before { list_all is_in_range out.old.items ≡ true }
     requires triangles { list_all is_triangle_in_range triangles.now ≡ true }
@@ -73,9 +74,7 @@ fn push_corners(out: &mut Vec<Pt3>, triangles: &[Triangle]) -> Result<(), AllocE
     ensures range { OnOk result (list_all is_in_range out.new.items ≡ true) }
 {
     'triangles: for t in triangles {
-        out.push(t.a)?;
-        out.push(t.b)?;
-        out.push(t.c)?;
+        out.extend_from_slice(&[t.a, t.b, t.c])?;
     }
     Ok(())
 }
