@@ -1,6 +1,6 @@
 //! The points of the profiles of leaves inside `rotate_extrude`.
 
-ghost use Rattle.std.specs.Prelude.{◌≡◌, drop, length};
+ghost use Rattle.std.specs.Prelude.{◌≡◌, ◌++◌, OnOk, drop, length};
 ghost use Rattle.scad_tree.specs.View.{solid_of};
 ghost use Rattle.scad_expr.specs.Answers.{Does, nothing};
 ghost use Rattle.scad_expr.specs.Machine.{held, state_of};
@@ -10,6 +10,7 @@ ghost use Rattle.scad_inst.specs.Profiles.{keep_profile, replace_profiles, with_
 use scad_expr::{EvalFault, Machine};
 use scad_num::Num;
 use scad_tree::Tree;
+use std::alloc::AllocError;
 
 /// How many points there are.
 #[tactic(auto, unfolding(scad_expr::specs::Machine::state_of))]
@@ -30,13 +31,22 @@ pub(crate) fn profiles_from<'a>(from: usize, m: &'a Machine) -> &'a [(Num, Num)]
     &all[from..]
 }
 
+fn push_all(out: &mut Vec<(Num, Num)>, ring: &[(Num, Num)]) -> Result<(), AllocError>
+    ensures { OnOk result (out.new.items ≡ out.old.items ++ ring.now) }
+{
+    'points: for p in ring {
+        out.push(*p)?;
+    }
+    Ok(())
+}
+
 /// Keeps the points of a profile.
 #[tactic(auto, unfolding(scad_expr::specs::Machine::state_of, scad_expr::specs::Machine::held))]
 pub(crate) fn keep_profile<'p>(ring: &[(Num, Num)], m: &mut Machine<'p>) -> Result<(), EvalFault>
     ensures does { Does nothing (keep_profile ring.now (state_of m.old)) result (state_of m.new) }
     ensures kept { held m.new ≡ held m.old }
 {
-    m.profiles.extend_from_slice(ring)?;
+    push_all(&mut m.profiles, ring)?;
     Ok(())
 }
 
@@ -51,7 +61,7 @@ pub(crate) fn replace_profiles<'p>(
     ensures kept { held m.new ≡ held m.old }
 {
     m.profiles.truncate(from);
-    m.profiles.extend_from_slice(ring)?;
+    push_all(&mut m.profiles, ring)?;
     Ok(())
 }
 

@@ -60,6 +60,13 @@ pub corners-end : (all : List Triangle) (i : ℕ) (out whole : List Pt3) → len
 corners-end all i out whole past so_far =
     sym (append-nil out) ∙ ap (λ (ts : List Triangle). out ++ corners ts) (sym (drop_all all i past)) ∙ so_far
 
+-- its corners, one after another
+pub three-pushed : (old first second third : List Pt3) (t : Triangle) → first ≡ old ++ t.a ∷ []
+    → second ≡ first ++ t.b ∷ [] → third ≡ second ++ t.c ∷ [] → third ≡ old ++ corners_of t
+three-pushed old first second third t a b c =
+    c ∙ ap (λ (l : List Pt3). l ++ t.c ∷ []) (b ∙ ap (λ (l : List Pt3). l ++ t.b ∷ []) a
+    ∙ append_assoc old (t.a ∷ []) (t.b ∷ [])) ∙ append_assoc old (t.a ∷ t.b ∷ []) (t.c ∷ [])
+
 -- the corners of a triangle in range are in range
 pub corners-range : (t : Triangle) → is_triangle_in_range t ≡ true → list_all is_in_range (corners_of t) ≡ true
 corners-range t ranged =

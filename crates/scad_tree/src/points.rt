@@ -74,7 +74,9 @@ fn push_corners(out: &mut Vec<Pt3>, triangles: &[Triangle]) -> Result<(), AllocE
     ensures range { OnOk result (list_all is_in_range out.new.items ≡ true) }
 {
     'triangles: for t in triangles {
-        out.extend_from_slice(&[t.a, t.b, t.c])?;
+        out.push(t.a)?;
+        out.push(t.b)?;
+        out.push(t.c)?;
     }
     Ok(())
 }
