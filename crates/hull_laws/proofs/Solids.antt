@@ -1,5 +1,5 @@
 -- What points in range have as their hull is a solid with triangles.
-use Rattle.std.proofs.Common.{◌≡◌, ℕ, ◌+◌, ◌<◌, true, ◌&&◌, List, [], ◌∷◌, length, refl, ap, ap₂, subst, sym, arith}
+use Rattle.std.proofs.Common.{◌≡◌, ℕ, ◌+◌, ◌<◌, true, false, ◌&&◌, List, [], ◌∷◌, length, refl, ap, ap₂, subst, sym, arith}
 use lib.IntN.{pos}
 use Rattle.std.specs.Prelude.{IsTrue, Some, Ok, zero, suc}
 use Rattle.std.specs.List.{AllByRecursion, list_all}
@@ -55,11 +55,13 @@ faces_in_range ps sorted range =
 abbrev somewhere : Point
 somewhere = record { x = pos 0; y = pos 0; d = pos 1 }
 
+no_false : false ≡ true → ⊥
+no_false e = cc
+
 -- a hull without triangles would hold every point, and a surface without triangles holds none
 some_triangles : (points : List Pt3) (ts : List Triangle) → hull_of points ≡ Ok (Some ts) → 0 < length ts
 some_triangles points [] e =
-    let held = (hulls_hold.each points [] e 0 1 somewhere (omega ints) (All-nil _)).1 (All-nil _) in
-    absurd (let no : ⊥ = cc in no)
+    absurd (no_false ((hulls_hold.each points [] e 0 1 somewhere (omega ints) (All-nil _)).1 (All-nil _)))
 some_triangles points (t ∷ ts) e = omega arith
 
 pub hulls_are_solids : HullsAreSolids

@@ -195,6 +195,32 @@ statement-stops w i h s s1 s2 e g some same stopped =
     (λ a. with_its_profiles (length t.profiles) (if is_marked i then nothing else a)))) g)
     (ap (step (item_place i)) (sym same) ∙ stopped)
 
+-- ---- frames that have their tree
+pub mark-given : (marked : Bool) (depth from : ℕ) (k : Rest) (h h1 h2 : Held) (ss : List Solid) (t u : Solid)
+    (s s1 s2 : State) → with_its_profiles from (if marked then nothing else t) s1 ≡ gives u s2 → s1 ≡ s
+    → h1 ≡ with_depth depth h → h2 ≡ h1 → onto (Mark marked depth from) k h ss t s ≡ k h2 ss u s2
+unfolding onto
+mark-given marked depth from k h h1 h2 ss t u s s1 s2 does same deep kept =
+    ap (λ (x : State). and_then (with_its_profiles from (if marked then nothing else t) x) (k (with_depth depth h) ss))
+    (sym same)
+    ∙ ap (λ (o : Outcome Solid). and_then o (k (with_depth depth h) ss)) does
+    ∙ ap (λ (x : Held). k x ss u s2) (sym (kept ∙ deep))
+
+pub hull-given : (c : Call) (w : Where) (from : ℕ) (k : Rest) (h h2 : Held) (ss : List Solid) (t u : Solid)
+    (s s2 : State) → hull_made c.at c.name.now w from t s ≡ gives u s2 → h2 ≡ h
+    → onto (Hull c w from) k h ss t s ≡ k h2 ss u s2
+unfolding onto
+hull-given c w from k h h2 ss t u s s2 does kept =
+    ap (λ (o : Outcome Solid). and_then o (k h ss)) does ∙ ap (λ (x : Held). k x ss u s2) (sym kept)
+
+pub hull-refused : (c : Call) (w : Where) (from : ℕ) (k : Rest) (h : Held) (ss : List Solid) (t : Solid)
+    (e : EvalFault) (s s2 : State) → hull_made c.at c.name.now w from t s ≡ refuses e s2
+    → onto (Hull c w from) k h ss t s ≡ refuses e s2
+unfolding onto
+hull-refused c w from k h ss t e s s2 does = ap (λ (o : Outcome Solid). and_then o (k h ss)) does
+
+pub ruleset given_frames = (mark-given, hull-given, hull-refused)
+
 -- ---- a hull
 pub hull-begins : (c : Call) (w : Where) (from : ℕ) (h : Held) (k k2 : Rest) (ss ms : List Solid) (s : State)
     (run : Outcome Solid) → from ≡ length s.profiles → k2 ≡ onto (Hull c w from) k → ms ≡ ss
