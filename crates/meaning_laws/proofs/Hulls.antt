@@ -6,7 +6,6 @@ use Rattle.std.proofs.lemmas.Bool.{and_parts}
 use Rattle.std.proofs.lemmas.List.Elements.{All-head, All-tail}
 use Rattle.scad_fault.specs.declared.place.Place.{Place}
 use Rattle.scad_fault.specs.declared.fault.FaultKind.TheVariants.{LeftOut as IsLeftOut}
-use Rattle.scad_fault.specs.declared.budget.BudgetKind.TheVariants.{HullPoints}
 use Rattle.scad_geom.specs.PointRange.{is_in_range}
 use Rattle.scad_geom.specs.declared.point3.Pt3.{Pt3}
 use Rattle.scad_solid.specs.Range.{is_triangle_in_range}
@@ -31,7 +30,7 @@ use Rattle.scad_inst.specs.declared.space.Space.TheVariants.{Solid as Outside, L
 use Rattle.scad_inst.specs.declared.space.Turning.{Turning}
 use Rattle.scad_inst.specs.declared.space.Where.{Where}
 use Rattle.scad_inst.specs.Hulls.{judge_united, hulled, hull_leaf, solid_hull, hull_profile, turned_hull, hull_in, hull_made}
-use Rattle.meaning_laws.proofs.Keeping.{Any, Keeps, bind, either, keeps-pure, keeps-over, keeps-fault_of}
+use Rattle.meaning_laws.proofs.Keeping.{Any, Keeps, bind, either, keeps-pure, keeps-refuse, keeps-fault_of}
 use Rattle.meaning_laws.proofs.Keeping.{keeps-count_leaf, keeps-count_triangles}
 use Rattle.meaning_laws.proofs.Leaves.{keeps-judge_points, keeps-judge_sides, keeps-swept}
 use Rattle.meaning_laws.proofs.Profiles.{keeps-profiles_from, keeps-replace_profiles}
@@ -103,13 +102,13 @@ keeps-hulled : (at : Place) (r : Result (Option (List Triangle)) HullFault) → 
     → Keeps IsSolidHull (hulled at r)
 unfolding hulled
 keeps-hulled at (Ok o) given = keeps-pure o given
-keeps-hulled at (Err (Points count)) given = keeps-over HullPoints at
+keeps-hulled at (Err (Points count)) given = keeps-refuse _ tt
 keeps-hulled at (Err Memory) given = absurd given
 
 keeps-ring : (at : Place) (r : Result (Option (List Pair)) HullFault) → GivesAny r → Keeps Any (hulled at r)
 unfolding hulled
 keeps-ring at (Ok o) given = keeps-pure o tt
-keeps-ring at (Err (Points count)) given = keeps-over HullPoints at
+keeps-ring at (Err (Points count)) given = keeps-refuse _ tt
 keeps-ring at (Err Memory) given = absurd given
 
 keeps-hull_leaf : (at : Place) (o : Option (List Triangle)) → IsSolidHull o → Keeps AreSolids (hull_leaf at o)

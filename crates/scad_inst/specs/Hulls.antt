@@ -1,7 +1,7 @@
 -- Hulls of the trees of statements, with their budgets (OpenSCAD User Manual, "Transformations", "hull"). A hull takes
 -- the place of the leaves whose points it is made of; those stay counted. Inside `rotate_extrude` it is a profile
 -- round the points of theirs; anywhere else a solid round the corners of theirs.
-use Rattle.std.specs.Prelude.{ℕ, List, [], ◌++◌, length, take, drop, Option, Some, None, Result, Ok, Err, if◌then◌else◌}
+use Rattle.std.specs.Prelude.{ℕ, List, length, Option, Some, None, Result, Ok, Err, if◌then◌else◌}
 use Rattle.scad_fault.specs.declared.place.Place.{Place}
 use Rattle.scad_fault.specs.declared.fault.FaultKind.TheVariants.{LeftOut as IsLeftOut}
 use Rattle.scad_fault.specs.declared.budget.BudgetKind.TheVariants.{HullPoints}
@@ -12,11 +12,11 @@ use Rattle.scad_hull.specs.declared.fault.HullFault.TheVariants.{Points, Memory}
 use Rattle.scad_hull.specs.Faces.{hull_of}
 use Rattle.scad_hull.specs.Flat.{ring_hull_of}
 use Rattle.scad_modules.specs.Outline.{Pair}
-use Rattle.scad_tree.specs.Normal.{is_nothing}
 use Rattle.scad_tree.specs.Points.{is_united, points_of}
 use Rattle.scad_tree.specs.Solid.{Solid, nothing, surface}
-use Rattle.scad_expr.specs.declared.fault.EvalFault.TheVariants.{Memory as WantOfMemory}
-use Rattle.scad_expr.specs.State.{Action, pure, ◌>>=◌, ◌>>◌, refuse, fault_of, over}
+use Rattle.scad_expr.specs.declared.fault.EvalFault.{EvalFault}
+use Rattle.scad_expr.specs.declared.fault.EvalFault.TheVariants.{Over, Memory as WantOfMemory}
+use Rattle.scad_expr.specs.State.{Action, pure, ◌>>=◌, ◌>>◌, refuse, fault_of}
 use Rattle.scad_inst.specs.declared.space.Space.{Space}
 use Rattle.scad_inst.specs.declared.space.Space.TheVariants.{Solid as Outside, Linear, Turned}
 use Rattle.scad_inst.specs.declared.space.Turning.{Turning}
@@ -29,11 +29,15 @@ use Rattle.scad_inst.specs.Profiles.{profiles_from, replace_profiles}
 unfoldable pub judge_united : Place → List ℕ → Solid → Action (Unit {0})
 judge_united at name t = if is_united t then pure tt else fault_of IsLeftOut at name
 
--- the hull of points, none where they are flat; or more points than it may have
+-- why points have no hull: they are more than it may have
+abbrev pub hull_refusal : Place → HullFault → EvalFault
+hull_refusal at (Points count) = Over (record { kind = HullPoints; at = at; layer = 0; count = 0 })
+hull_refusal at Memory = WantOfMemory
+
+-- the hull of points, none where they are flat; or why there is none
 unfoldable pub hulled : {A : Type 0} → Place → Result (Option A) HullFault → Action (Option A)
 hulled at (Ok hull) = pure hull
-hulled at (Err (Points count)) = over HullPoints at
-hulled at (Err Memory) = refuse WantOfMemory
+hulled at (Err why) = refuse (hull_refusal at why)
 
 -- ---- outside of `rotate_extrude`
 -- the leaf of a hull is counted, and then its triangles; no hull is no leaf

@@ -1,6 +1,6 @@
 //! Hulls of the trees of statements, with their budgets.
 
-ghost use Rattle.std.specs.Prelude.{◌≡◌, ◌<◌, ◌≤◌, Result, IfOk, IfSome, drop, length};
+ghost use Rattle.std.specs.Prelude.{◌≡◌, ◌<◌, ◌≤◌, IfOk, IfSome, drop, length};
 ghost use Rattle.scad_hull.specs.Faces.{hull_of};
 ghost use Rattle.scad_hull.specs.Flat.{ring_hull_of};
 ghost use Rattle.scad_tree.specs.Points.{points_of};
@@ -8,7 +8,7 @@ ghost use Rattle.scad_tree.specs.View.{solid_of};
 ghost use Rattle.scad_expr.specs.Answers.{Does, nothing};
 ghost use Rattle.scad_expr.specs.Machine.{held, state_of};
 ghost use Rattle.scad_expr.specs.State.{State};
-ghost use Rattle.scad_inst.specs.Hulls.{judge_united, hulled, hull_leaf, solid_hull, hull_profile, turned_hull, hull_made};
+ghost use Rattle.scad_inst.specs.Hulls.{judge_united, hull_refusal, hulled, hull_leaf, solid_hull, hull_profile, turned_hull, hull_made};
 
 use crate::flat::{judge_points, judge_sides, swept};
 use crate::leaves::{count_leaf, count_triangles};
@@ -39,9 +39,8 @@ fn judge_united(alloc: Global, at: Place, name: &[u8], tree: &Tree) -> Result<()
 }
 
 /// Why there is no hull.
-#[tactic(auto, unfolding(crate::specs::Hulls::hulled, scad_expr::specs::State::over))]
 fn refusal(at: Place, why: HullFault) -> EvalFault
-    ensures { (s : State) → Does nothing (hulled at (Result.Err why) s) (Result.Err result) s }
+    ensures { result ≡ hull_refusal at why }
 {
     match why {
         HullFault::Points(_) => over(BudgetKind::HullPoints, at),
