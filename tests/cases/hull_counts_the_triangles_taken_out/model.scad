@@ -1,1 +1,1 @@
-hull() { rotate_extrude($fn=8000) translate([1, 0]) square(1); sphere(2, $fn=100); }
+hull() for(i=[0:221]) sphere(2, $fn=30);
