@@ -25,5 +25,6 @@ pub mod RunsLeft
 pub mod StackBegins
 pub mod StackTurns
 pub mod StepsAndTurns
+pub mod StepsLeft
 pub mod Tested
 pub mod Views

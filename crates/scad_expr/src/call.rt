@@ -1,6 +1,6 @@
 //! The values of arguments, and the frames of a call.
 
-ghost use Rattle.std.specs.Prelude.{◌≡◌, ◌∷◌, [], ◌<◌, length, map, option_map, IfOk, OnOk};
+ghost use Rattle.std.specs.Prelude.{◌≡◌, ◌∷◌, [], ◌<◌, ◌≤◌, length, map, option_map, IfOk, OnOk};
 ghost use Rattle.scad_ast.specs.Scope.{parameter};
 ghost use Rattle.scad_ast.specs.View.{expression_of, arguments};
 ghost use Rattle.scad_value.specs.View.{datum_of, data_in};
@@ -32,6 +32,7 @@ pub fn values<'p>(
         (env_in (held machine.old)) (along_in (held machine.old)) (arguments args.now.items) []
         (state_of machine.old)) result (state_of machine.new) }
     ensures kept { OnOk result (held machine.new ≡ held machine.old) }
+    ensures steps { OnOk result (machine.new.steps_left ≤ machine.old.steps_left) }
 {
     let depth = machine.depth();
     values_at(alloc, args, depth, machine)
@@ -58,6 +59,7 @@ pub fn bind<'p>(
         (state_of machine.old)) result (state_of machine.new) }
     ensures opened { OnOk result (held machine.new ≡ opened (option_map children_stored kept.entry)
         (length (held machine.old).frames) home (bound_in (held machine.new)) (held machine.old)) }
+    ensures steps { OnOk result (machine.new.steps_left ≤ machine.old.steps_left) }
 {
     let depth = machine.depth();
     let _back = bind_at(alloc, params, args, values, home, kept, depth, machine)?;
@@ -75,6 +77,7 @@ pub(crate) fn values_at<'p>(
     ensures does { Does data_in (values (meaning depth) (env_in (held m.old))
         (along_in (held m.old)) (arguments args.now) [] (state_of m.old)) result (state_of m.new) }
     ensures kept { OnOk result (held m.new ≡ held m.old) }
+    ensures steps { OnOk result (m.new.steps_left ≤ m.old.steps_left) }
 {
     let mut so_far = Vec::new(alloc);
     'arguments: for arg in args {
@@ -108,6 +111,7 @@ fn bind_at<'p>(
     ensures along { OnOk result (along_in (held m.new)
         ≡ within (along_in (held m.old)) (bound_in (held m.new)).dollars) }
     ensures back { IfOk result (λ back. left back (held m.new) ≡ held m.old) }
+    ensures steps { OnOk result (m.new.steps_left ≤ m.old.steps_left) }
 {
     let Call {
         missing,
@@ -134,6 +138,7 @@ fn default_of<'p>(
         (along_in (held m.old)) (option_map expression_of param.now.default) (state_of m.old))
         result (state_of m.new) }
     ensures kept { OnOk result (held m.new ≡ held m.old) }
+    ensures steps { OnOk result (m.new.steps_left ≤ m.old.steps_left) }
 {
     match &param.default {
         Some(e) => eval_at(alloc, e, depth, m),

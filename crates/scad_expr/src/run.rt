@@ -1,6 +1,6 @@
 //! Turns of the machine until nothing is left to do.
 
-ghost use Rattle.std.specs.Prelude.{◌≡◌, OnOk};
+ghost use Rattle.std.specs.Prelude.{◌≡◌, ◌≤◌, OnOk};
 ghost use Rattle.scad_ast.specs.View.{expression_of};
 ghost use Rattle.scad_value.specs.View.{datum_of};
 ghost use Rattle.scad_expr.specs.Answers.{Does};
@@ -66,7 +66,7 @@ fn turns<'p>(
 }
 
 /// The value of an expression, with so many levels of depth left.
-#[tactic(auto, using(crate::proofs::StackTurns::ends), unfolding(crate::specs::Stack::goes_on))]
+#[tactic(auto, using(crate::proofs::StackTurns::ends, crate::proofs::StepsLeft::steps), unfolding(crate::specs::Stack::goes_on))]
 pub(crate) fn eval_at<'p>(
     alloc: Global,
     e: &'p Expr,
@@ -76,6 +76,7 @@ pub(crate) fn eval_at<'p>(
     ensures does { Does datum_of (value depth (env_in (held m.old)) (along_in (held m.old))
         (expression_of e.now) (state_of m.old)) result (state_of m.new) }
     ensures kept { OnOk result (held m.new ≡ held m.old) }
+    ensures steps { OnOk result (m.new.steps_left ≤ m.old.steps_left) }
 {
     let mut stack = Stack::new(alloc);
     turns(Focus::Part(e, depth), &mut stack, m)

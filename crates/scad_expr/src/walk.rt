@@ -1,6 +1,6 @@
 //! Expressions to values.
 
-ghost use Rattle.std.specs.Prelude.{◌≡◌, OnOk};
+ghost use Rattle.std.specs.Prelude.{◌≡◌, ◌≤◌, OnOk};
 ghost use Rattle.scad_ast.specs.View.{expression_of};
 ghost use Rattle.scad_value.specs.View.{datum_of};
 ghost use Rattle.scad_expr.specs.Answers.{Does};
@@ -24,6 +24,7 @@ pub fn eval<'p>(
         (along_in (held machine.old)) (expression_of expr.now) (state_of machine.old))
         result (state_of machine.new) }
     ensures kept { OnOk result (held machine.new ≡ held machine.old) }
+    ensures steps { OnOk result (machine.new.steps_left ≤ machine.old.steps_left) }
 {
     let depth = machine.depth();
     eval_at(alloc, expr, depth, machine)

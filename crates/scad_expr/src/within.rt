@@ -1,6 +1,6 @@
 //! Names that are bound one behind another.
 
-ghost use Rattle.std.specs.Prelude.{◌≡◌, IfOk, OnOk};
+ghost use Rattle.std.specs.Prelude.{◌≡◌, ◌≤◌, IfOk, OnOk};
 ghost use Rattle.scad_ast.specs.View.{expression_of, arguments};
 ghost use Rattle.scad_expr.specs.Answers.{Does};
 ghost use Rattle.scad_expr.specs.Machine.{held, env_in, along_in, state_of};
@@ -30,6 +30,7 @@ pub fn let_names<'p>(
     ensures along { OnOk result (along_in (held machine.new)
         ≡ within (along_in (held machine.old)) (bound_in (held machine.new)).dollars) }
     ensures back { IfOk result (λ back. left back (held machine.new) ≡ held machine.old) }
+    ensures steps { OnOk result (machine.new.steps_left ≤ machine.old.steps_left) }
 {
     let depth = machine.depth();
     bind_names(alloc, args, depth, machine)
@@ -54,6 +55,7 @@ fn bind_names<'p>(
     ensures back { IfOk result (λ back. left back (held m.new) ≡ held m.old) }
     ensures inner { OnOk result (IsInner (held m.new)) }
     ensures outer { OnOk result (outer (held m.new) ≡ held m.old) }
+    ensures steps { OnOk result (m.new.steps_left ≤ m.old.steps_left) }
 {
     let back = m.open()?;
     set_names(alloc, args, depth, m)?;
@@ -73,6 +75,7 @@ fn set_names<'p>(
         (bound_in (held m.old)) (state_of m.old)) result (state_of m.new) }
     ensures inner { OnOk result (IsInner (held m.new)) }
     ensures outer { OnOk result (outer (held m.new) ≡ outer (held m.old)) }
+    ensures steps { OnOk result (m.new.steps_left ≤ m.old.steps_left) }
 {
     'names: for arg in args {
         set_one(alloc, arg, depth, m)?;
@@ -95,6 +98,7 @@ fn set_one<'p>(
         result (state_of m.new) }
     ensures inner { OnOk result (IsInner (held m.new)) }
     ensures outer { OnOk result (outer (held m.new) ≡ outer (held m.old)) }
+    ensures steps { OnOk result (m.new.steps_left ≤ m.old.steps_left) }
 {
     match &arg.name {
         Some(name) => {

@@ -1,4 +1,4 @@
-use Rattle.std.proofs.Common.{◌≡◌, ◌+◌, ◌-◌, ◌*◌, ◌^◌, map, option_map}
+use Rattle.std.proofs.Common.{◌≡◌, ◌+◌, ◌-◌, ◌*◌, ◌^◌, ◌≤◌, map, option_map}
 use Rattle.std.specs.Vec.Iter.{into_iter_items}
 use Rattle.scad_ast.specs.Scope.{parameter}
 use Rattle.scad_ast.specs.View.{arguments}
@@ -18,3 +18,4 @@ invariant-missing l =
     ≡ bound (meaning l.depth) (env_at (envs (held l.fn.m).frames) l.home) (along_in (held l.fn.m))
     (map parameter l.params) (arguments l.args) (data_in l.fn.found) (state_of l.fn.m))
     × (held l.m ≡ opened (option_map children_stored l.kept) l.home l.home (bound_in (held l.m)) (held l.fn.m))
+    × (l.m.steps_left ≤ l.fn.m.steps_left)

@@ -1,4 +1,4 @@
-use Rattle.std.proofs.Common.{◌+◌, ◌-◌, List, drop, sym, ap, ◌∙◌}
+use Rattle.std.proofs.Common.{◌+◌, ◌-◌, List, drop, sym, ap, ◌∙◌, arith}
 use Rattle.std.proofs.lemmas.Result.{err_from_is_err_and}
 use Rattle.scad_ast.specs.View.{arguments}
 use Rattle.scad_value.specs.Datum.{Datum}
@@ -18,6 +18,7 @@ arguments-preserved c = (
       c.arg-item.is (held c.arguments.m) (held c.args.m.now) c.arguments.invariant.1 (data_in c.arguments.so_far)
       (state_of c.arguments.m) _ c.arguments.invariant.0 _ _ c.in_ok-value.ensures.does,
   c.in_ok-value.ensures.kept ∙ c.arguments.invariant.1,
+  omega (arith, c.in_ok-value.ensures.steps, c.arguments.invariant.2),
 )
 
 pub returns-clause-does : goal.returns-clause-does

@@ -1,4 +1,4 @@
-use Rattle.std.proofs.Common.{◌≡◌, ◌+◌, ◌-◌, ◌*◌, ◌^◌, [], drop}
+use Rattle.std.proofs.Common.{◌≡◌, ◌+◌, ◌-◌, ◌*◌, ◌^◌, ◌≤◌, [], drop}
 use Rattle.scad_ast.specs.View.{arguments}
 use Rattle.scad_expr.specs.Machine.{held, env_in, along_in, state_of}
 use Rattle.scad_expr.specs.Meaning.{meaning, values}
@@ -10,4 +10,4 @@ invariant-arguments l =
     (values (meaning l.depth) (env_in (held l.fn.m)) (along_in (held l.fn.m)) (arguments (drop l.arg-index l.args))
     (data_in l.so_far) (state_of l.m)
     ≡ values (meaning l.depth) (env_in (held l.fn.m)) (along_in (held l.fn.m)) (arguments l.args) [] (state_of l.fn.m))
-    × (held l.m ≡ held l.fn.m)
+    × (held l.m ≡ held l.fn.m) × (l.m.steps_left ≤ l.fn.m.steps_left)

@@ -1,4 +1,4 @@
-use Rattle.std.proofs.Common.{◌+◌, ◌-◌, sym, ◌∙◌}
+use Rattle.std.proofs.Common.{◌+◌, ◌-◌, sym, ◌∙◌, arith}
 use Rattle.std.proofs.lemmas.Result.{err_from_is_err_and}
 use Rattle.scad_expr.specs.Machine.{held, env_in, along_in, state_of}
 use Rattle.scad_expr.specs.Meaning.{meaning}
@@ -13,6 +13,7 @@ names-preserved c = (
       (state_of c.names.m) _ c.names.invariant.0 _ _ c.in_ok-set_one.ensures.does,
   c.in_ok-set_one.ensures.inner,
   c.in_ok-set_one.ensures.outer ∙ c.names.invariant.2,
+  omega (arith, c.in_ok-set_one.ensures.steps, c.names.invariant.3),
 )
 
 pub returns-clause-does : goal.returns-clause-does

@@ -1,4 +1,4 @@
-use Rattle.std.proofs.Common.{◌≡◌, ◌+◌, ◌-◌, ◌*◌, ◌^◌, drop}
+use Rattle.std.proofs.Common.{◌≡◌, ◌+◌, ◌-◌, ◌*◌, ◌^◌, ◌≤◌, drop}
 use Rattle.scad_ast.specs.View.{arguments}
 use Rattle.scad_expr.specs.Machine.{held, env_in, along_in, state_of}
 use Rattle.scad_expr.specs.Meaning.{meaning, bound_in_order}
@@ -11,4 +11,4 @@ invariant-names l =
     (arguments (drop l.arg-index l.args)) (bound_in (held l.m)) (state_of l.m)
     ≡ bound_in_order (meaning l.depth) (env_in (outer (held l.fn.m))) (along_in (outer (held l.fn.m)))
     (arguments l.args) (bound_in (held l.fn.m)) (state_of l.fn.m))
-    × IsInner (held l.m) × (outer (held l.m) ≡ outer (held l.fn.m))
+    × IsInner (held l.m) × (outer (held l.m) ≡ outer (held l.fn.m)) × (l.m.steps_left ≤ l.fn.m.steps_left)
