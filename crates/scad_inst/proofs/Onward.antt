@@ -1,6 +1,6 @@
 -- What is at work and what follows it, as the parts of a statement begin.
 use Rattle.std.proofs.Common.{◌≡◌, ◌≢◌, ℕ, ◌+◌, ◌-◌, ◌<◌, ◌≤◌, Bool, true, false, if◌then◌else◌, List, [], ◌∷◌, ◌++◌, length, get_or, drop, Option, Some, None, Vec, Global, refl, sym, ap, ap₂, ◌∙◌}
-use Rattle.std.proofs.lemmas.List.{drop_all}
+use Rattle.std.proofs.lemmas.List.{length-append, drop_all}
 use Rattle.std.specs.Borrow.{Bor}
 use Rattle.scad_fault.specs.declared.place.Place.{Place}
 use Rattle.scad_ast.specs.declared.statement.Item.{Item}
@@ -32,7 +32,7 @@ use Rattle.scad_inst.specs.declared.modules.Variable.{Variable}
 use Rattle.scad_inst.specs.declared.remainder.Remainder.{Remainder}
 use Rattle.scad_inst.specs.declared.space.Where.{Where}
 use Rattle.scad_inst.specs.declared.work.Frame.{Frame}
-use Rattle.scad_inst.specs.declared.work.Frame.TheVariants.{Mark, Member, Then, Combine, Leave}
+use Rattle.scad_inst.specs.declared.work.Frame.TheVariants.{Mark, Member, Combine, Leave}
 use Rattle.scad_inst.specs.declared.work.Focus.{Focus}
 use Rattle.scad_inst.specs.declared.work.Focus.TheVariants.{Members, Children, Variables, Turns}
 use Rattle.scad_inst.specs.Chosen.{child_named}
@@ -45,7 +45,7 @@ use Rattle.scad_inst.specs.Operation.{operated}
 use Rattle.scad_inst.specs.Portions.{called_with, own_opened}
 use Rattle.scad_inst.specs.Scopes.{item_place, is_marked}
 use Rattle.scad_inst.specs.Where.{at_first}
-use Rattle.scad_inst.specs.Stack.{Rest, onto, rest_of, listed, ended, goes_on, with_member, left_in}
+use Rattle.scad_inst.specs.Stack.{Rest, onto, behind, rest_of, listed, ended, goes_on, with_member, left_in}
 use Rattle.scad_inst.proofs.Calls.{own-call}
 use Rattle.scad_inst.proofs.Levels.{expressions-are, statement-some}
 use Rattle.scad_inst.proofs.ScopeFrames.{depth-left}
@@ -55,7 +55,7 @@ pub rest-push : (all : List Frame) (f : Frame) (k : Rest) → rest_of (all ++ f 
 rest-push [] f k = refl
 rest-push (g ∷ all) f k = rest-push all f (onto g k)
 
-pub ruleset stacks = (rest-push)
+pub ruleset stacks = (rest-push, length-append)
 
 pub ruleset nodes = (twice)
 
@@ -63,7 +63,7 @@ pub ruleset nodes = (twice)
 module _ (h : Held) (w : Where) (i : Item) (f : Focus) (k : Rest) (ss : List Solid) (s : State) where
   -- a statement is run, and then what comes behind it
   pub item-runs : (marked : Bool) (k2 : Rest) (ms : List Solid) → is_statement (item_of i) ≡ true
-      → marked ≡ is_marked (item_of i) → k2 ≡ onto (Member marked) (onto (Then f) k) → ms ≡ ss
+      → marked ≡ is_marked (item_of i) → k2 ≡ onto (Member marked) (behind f k) → ms ≡ ss
       → and_then (member (below_of h) w (env_in h) (along_in h) (item_of i) ss s) (goes_on f k h)
       ≡ and_then ((below_of h).statement w (env_in h) (along_in h) (item_of i) s) (k2 h ms)
   unfolding member onto
@@ -74,7 +74,7 @@ module _ (h : Held) (w : Where) (i : Item) (f : Focus) (k : Rest) (ss : List Sol
       (λ t. pure (if is_marked (item_of i) then ss else ss ++ t ∷ []))) else pure ss) in
       ap (λ (b : Bool). and_then (one b s) (goes_on f k h)) is
       ∙ twice run (λ t. pure (with_member (is_marked (item_of i)) ss t)) (goes_on f k h)
-      ∙ ap₂ (λ (b : Bool) (l : List Solid). and_then run (onto (Member b) (onto (Then f) k) h l)) (sym mark) (sym made)
+      ∙ ap₂ (λ (b : Bool) (l : List Solid). and_then run (onto (Member b) (behind f k) h l)) (sym mark) (sym made)
       ∙ ap (λ (q : Rest). and_then run (q h ms)) (sym then_is)
 
   -- anything else is passed over
@@ -329,7 +329,7 @@ module _ (v : Variable) (w : Where) where
 
   pub turn-begins : (d : Datum) (ds : List Datum) (more : Remainder) (back : ℕ) (k k1 k2 : Rest) (h h1 h2 : Held)
       (ss ms : List Solid) (s s2 s3 : State) → ds ≡ d ∷ left_in more → step v.call.at s ≡ gives (tt {0}) s2 → h1 ≡ h
-      → k1 ≡ onto (Then (Turns v more w)) k → gives (tt {0}) s2 ≡ gives (tt {0}) s3
+      → k1 ≡ behind (Turns v more w) k → gives (tt {0}) s2 ≡ gives (tt {0}) s3
       → env_in h2 ≡ within (env_in h1) (set v.name.now d empty).names
       → along_in h2 ≡ within (along_in h1) (set v.name.now d empty).dollars → left back h2 ≡ h1
       → k2 ≡ onto (Leave back) k1 → ms ≡ ss

@@ -1,5 +1,5 @@
 -- What is left to do, on a stack of its own: what is at work, and the frames that wait for its tree.
-use Rattle.std.specs.Prelude.{◌≡◌, ◌≢◌, List, [], ◌∷◌, ◌++◌, drop, Result, Ok, Err, Option, Some, None, Bool, if◌then◌else◌}
+use Rattle.std.specs.Prelude.{◌≡◌, ◌≢◌, ℕ, ◌+◌, ◌*◌, ◌<◌, ◌≤◌, List, [], ◌∷◌, ◌++◌, drop, length, Result, Ok, Err, Option, Some, None, Bool, if◌then◌else◌, IfOk}
 use Rattle.scad_ast.specs.Scope.{item_of, items}
 use Rattle.scad_ast.specs.View.{arguments}
 use Rattle.scad_ast.specs.Tree.{Item, Items}
@@ -74,11 +74,15 @@ goes_on (Turns v more w) k h ss s =
     ss s) (listed k h)
 goes_on (Given t) k h ss s = k h ss (solid_of t) s
 
+-- what comes behind members that were added, whose frame doesn't read the tree
+abbrev pub behind : Focus → Rest → Rest
+behind f k h ss t = goes_on f k h ss
+
 -- a frame, and then what follows it
 unfoldable pub onto : Frame → Rest → Rest
 onto (Mark marked depth) k h ss t = k (with_depth depth h) ss (if marked then nothing else t)
 onto (Member marked) k h ss t = listed k h (with_member marked ss t)
-onto (Then f) k h ss t = goes_on f k h ss
+onto (Then f) k h ss t = behind f.value k h ss t
 onto (Combine o at outer) k h ss t = judged at (operated o ss) >>= k h (solids outer.items)
 onto (Leave back) k h ss t = k (left back h) ss t
 
@@ -90,6 +94,10 @@ rest_of (f ∷ more) k = rest_of more (onto f k)
 -- what the frames of a stack do
 unfoldable pub rest : Stack → Rest
 rest s = rest_of s.frames.items ended
+
+-- how many frames wait
+unfoldable pub height : Stack → ℕ
+height s = length s.frames.items
 
 -- the members so far of the operation that is being made
 unfoldable pub made_in : Stack → List Solid
@@ -118,3 +126,29 @@ Ends whole (Err e) stack m = e ≢ Memory → whole ≡ refuses e (state_of m)
 abbrev pub Starts : Outcome Solid → Result Focus EvalFault → Stack → Held → State → Type 0
 Starts whole (Ok f) stack h s = whole ≡ goes_on f (rest stack) h (made_in stack) s
 Starts whole (Err e) stack h s = Unit {0}
+
+-- ---- how much work is left at most
+abbrev pub rank : Focus → ℕ
+rank (Statement i w) = 0
+rank (Members scope next w) = 5
+rank (Children scope more w) = 5
+rank (Variables c next w) = 12
+rank (Turns v more w) = 5
+rank (Given t) = 4
+
+abbrev pub size : Focus → Stack → Machine → ℕ
+size f stack m = rank f + 2 * height stack + 20 * m.steps_left
+
+-- what is at work and waits now is at most so much above what waited before
+abbrev pub Below_by : ℕ → Result Focus EvalFault → Stack → Machine → Stack → Machine → Type 0
+Below_by n result stack m stack_new m_new = IfOk result (λ f. size f stack_new m_new ≤ 2 * height stack + 20 * m.steps_left + n)
+
+-- likewise where no step is taken
+abbrev pub Rises_by : ℕ → Result Focus EvalFault → Stack → Stack → Type 0
+Rises_by n result stack stack_new = IfOk result (λ f. rank f + 2 * height stack_new ≤ 2 * height stack + n)
+
+-- after one turn
+abbrev pub Less : ℕ → Result Next EvalFault → Stack → Machine → Type 0
+Less n (Ok (More f)) stack m = size f stack m < n
+Less n (Ok (End t)) stack m = Unit {0}
+Less n (Err e) stack m = Unit {0}

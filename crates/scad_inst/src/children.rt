@@ -1,21 +1,25 @@
 //! `children`.
 
-ghost use Rattle.std.specs.Prelude.{◌≡◌, [], IfErr, option_map};
+ghost use Rattle.std.specs.Prelude.{◌≡◌, List, [], true, IfErr, IfSome, MatchOption, option_map};
 ghost use Rattle.scad_ast.specs.Scope.{item_of, items};
+ghost use Rattle.scad_scope.specs.Env.{Env};
+ghost use Rattle.scad_expr.specs.Arguments.{is_statement};
 ghost use Rattle.scad_tree.specs.Solid.{Solid};
 ghost use Rattle.scad_scope.specs.Env.{children};
 ghost use Rattle.scad_scope.specs.Stored.{env_at, envs};
 ghost use Rattle.scad_modules.specs.View.{datum_in};
 ghost use Rattle.scad_expr.specs.declared.fault.EvalFault.TheVariants.{Memory};
 ghost use Rattle.scad_expr.specs.Machine.{Held, held, env_in, along_in, state_of};
-ghost use Rattle.scad_expr.specs.State.{State, Outcome, and_then};
+ghost use Rattle.scad_expr.specs.State.{State, Outcome, gives, and_then};
 ghost use Rattle.scad_inst.specs.Frames.{below_of};
-ghost use Rattle.scad_inst.specs.Meaning.{child, children_by, chosen, run_children};
+ghost use Rattle.scad_inst.specs.Meaning.{Below, member, children_by, chosen, run_children};
+ghost use Rattle.scad_inst.specs.declared.space.Where.{Where};
 ghost use Rattle.scad_inst.specs.Modules.{kept_children};
-ghost use Rattle.scad_inst.specs.Stack.{Goes, Starts, rest, made_in, left_in, listed, onward};
+ghost use Rattle.scad_inst.specs.Stack.{Goes, Starts, Below_by, Rises_by, rest, made_in, left_in, listed, onward};
 
 use crate::call_children::kept_children;
-use crate::members::member;
+use crate::item::is_statement;
+use crate::members::run_item;
 use crate::operation::Operation;
 use crate::remainder::{Remainder, naming, next_child};
 use crate::scopes::open_scope;
@@ -38,9 +42,10 @@ pub(crate) fn children<'p>(
     stack: &mut Stack<'p>,
     m: &mut Machine<'p>,
 ) -> Result<Focus<'p>, EvalFault>
-    ensures { (o : Outcome Solid) → o ≡ onward (run_children (below_of (held m.old)) at w.now
+    ensures goes { (o : Outcome Solid) → o ≡ onward (run_children (below_of (held m.old)) at w.now
         (along_in (held m.old)) (datum_in which.entry) (kept_children (env_in (held m.old))) (state_of m.old))
         stack.old m.old → Goes o result stack.new m.new }
+    ensures less { Below_by 9 result stack.old m.old stack.new m.new }
 {
     match kept_children(m) {
         Some(kept) => run_children(at, which, kept, w, stack, m),
@@ -58,10 +63,11 @@ fn run_children<'p>(
     stack: &mut Stack<'p>,
     m: &mut Machine<'p>,
 ) -> Result<Focus<'p>, EvalFault>
-    ensures { (o : Outcome Solid) → o ≡ onward (run_children (below_of (held m.old)) at w.now
+    ensures goes { (o : Outcome Solid) → o ≡ onward (run_children (below_of (held m.old)) at w.now
         (along_in (held m.old)) (datum_in which.entry) (children (items kept.entry.scope.now.items)
         (env_at (envs (held m.old).frames) kept.entry.home)) (state_of m.old)) stack.old m.old
         → Goes o result stack.new m.new }
+    ensures less { Below_by 9 result stack.old m.old stack.new m.new }
 {
     let back = open_scope(stack.alloc, kept.home, kept.scope, m)?;
     let outer = stack.exchange(Vec::new(stack.alloc));
@@ -82,6 +88,7 @@ fn chosen<'p>(
     ensures goes { (h : Held) (s : State) → Starts (and_then (chosen (below_of h) w.now (env_in h) (along_in h)
         (items scope.now.items) (datum_in which.entry) s) (listed (rest stack.old) h)) result stack.new h s }
     ensures memory { IfErr result (λ e. e ≡ Memory) }
+    ensures less { Rises_by 5 result stack.old stack.new }
 {
     match which {
         Some(value) => {
@@ -89,6 +96,28 @@ fn chosen<'p>(
             Ok(Focus::Children(scope, more, *w))
         }
         None => Ok(Focus::Members(scope, 0, *w)),
+    }
+}
+
+/// The first child that values name and that is a statement, with the values behind it.
+#[tactic(auto, using(crate::proofs::Passed::children), unfolding(crate::specs::Meaning::child))]
+fn first_child<'p>(scope: &'p Scope, more: Remainder) -> Option<(&'p Item, Remainder)>
+    ensures passed { (below : Below) (w : Where) (env along : Env) (ss : List Solid) (s : State) → MatchOption result
+        (children_by below w env along (items scope.now.items) (left_in more) ss s ≡ gives ss s)
+        (λ p. children_by below w env along (items scope.now.items) (left_in more) ss s
+        ≡ and_then (member below w env along (item_of p.0.now) ss s)
+        (children_by below w env along (items scope.now.items) (left_in p.1))) }
+    ensures run { IfSome result (λ p. is_statement (item_of p.0.now) ≡ true) }
+{
+    let mut left = more;
+    'values: loop {
+        let (named, others) = next_child(scope, left)?;
+        if let Some(item) = named {
+            if is_statement(item) {
+                return Some((item, others));
+            }
+        }
+        left = others;
     }
 }
 
@@ -104,30 +133,10 @@ pub(crate) fn children_by<'p>(
         (items scope.now.items) (left_in more) (made_in stack.old) s) (listed (rest stack.old) h)) result stack.new h
         s }
     ensures memory { IfErr result (λ e. e ≡ Memory) }
+    ensures less { Rises_by 4 result stack.old stack.new }
 {
-    match next_child(scope, more) {
-        Some((named, others)) => child(scope, named, others, w, stack),
+    match first_child(scope, more) {
+        Some((item, others)) => run_item(item, Focus::Children(scope, others, *w), w, stack),
         None => Ok(Focus::Given(Tree::empty())),
-    }
-}
-
-/// A child that is named is run, and then those that further values name.
-#[tactic(auto, using(crate::proofs::Onward::nodes), unfolding(crate::specs::Meaning::child, crate::specs::Stack::goes_on))]
-fn child<'p>(
-    scope: &'p Scope,
-    named: Option<&'p Item>,
-    others: Remainder,
-    w: &Where,
-    stack: &mut Stack<'p>,
-) -> Result<Focus<'p>, EvalFault>
-    ensures goes { (h : Held) (s : State) (o : Outcome Solid) → o ≡ and_then (and_then (child (below_of h) w.now
-        (env_in h) (along_in h) (option_map (λ i. item_of i.now) named.entry) (made_in stack.old) s)
-        (children_by (below_of h) w.now (env_in h) (along_in h) (items scope.now.items) (left_in others)))
-        (listed (rest stack.old) h) → Starts o result stack.new h s }
-    ensures memory { IfErr result (λ e. e ≡ Memory) }
-{
-    match named {
-        Some(item) => member(item, Focus::Children(scope, others, *w), w, stack),
-        None => Ok(Focus::Children(scope, others, *w)),
     }
 }

@@ -1,17 +1,19 @@
 //! The statements of a scope, and the tree of an operation over them.
 
-ghost use Rattle.std.specs.Prelude.{◌≡◌, true, drop, IfErr};
+ghost use Rattle.std.specs.Prelude.{◌≡◌, List, true, drop, IfErr, IfSome, MatchOption};
 ghost use Rattle.scad_ast.specs.Scope.{item_of, items};
 ghost use Rattle.scad_tree.specs.Solid.{Solid};
+ghost use Rattle.scad_scope.specs.Env.{Env};
 ghost use Rattle.scad_expr.specs.declared.fault.EvalFault.TheVariants.{Memory};
 ghost use Rattle.scad_expr.specs.Arguments.{is_statement};
 ghost use Rattle.scad_expr.specs.Machine.{Held, held, env_in, along_in, state_of};
-ghost use Rattle.scad_expr.specs.State.{State, Outcome, and_then};
+ghost use Rattle.scad_expr.specs.State.{State, Outcome, gives, and_then};
 ghost use Rattle.scad_inst.specs.Frames.{below_of};
 ghost use Rattle.scad_inst.specs.Made.{judged};
-ghost use Rattle.scad_inst.specs.Meaning.{member, members_from, combined};
+ghost use Rattle.scad_inst.specs.Meaning.{Below, member, members_from, combined};
 ghost use Rattle.scad_inst.specs.Operation.{operated};
-ghost use Rattle.scad_inst.specs.Stack.{Goes, Starts, rest, made_in, goes_on, listed, onward};
+ghost use Rattle.scad_inst.specs.Stack.{Goes, Starts, Below_by, Rises_by, rest, made_in, goes_on, listed, onward};
+ghost use Rattle.scad_inst.specs.declared.space.Where.{Where};
 ghost use Rattle.scad_inst.specs.View.{trees_in};
 
 use crate::frames::here;
@@ -27,27 +29,36 @@ use scad_expr::{EvalFault, Machine};
 use scad_fault::Place;
 use scad_tree::Tree;
 
-/// An item is run where it is a statement, and then what comes behind it.
-pub(crate) fn member<'p>(
+/// A statement of a scope, with the number of the item behind it.
+#[derive(Clone, Copy)]
+struct StatementAt<'p> {
     item: &'p Item,
-    behind: Focus<'p>,
-    w: &Where,
-    stack: &mut Stack<'p>,
-) -> Result<Focus<'p>, EvalFault>
-    ensures goes { (h : Held) (s : State) (o : Outcome Solid) → o ≡ and_then (member (below_of h) w.now (env_in h)
-        (along_in h) (item_of item.now) (made_in stack.old) s) (goes_on behind.entry (rest stack.old) h)
-        → Starts o result stack.new h s }
-    ensures memory { IfErr result (λ e. e ≡ Memory) }
+    next: usize,
+}
+
+/// The first statement of a scope from a number on. What stands before it isn't run.
+#[tactic(auto, using(crate::proofs::Passed::items))]
+fn first_statement<'p>(scope: &'p Scope, from: usize) -> Option<StatementAt<'p>>
+    ensures passed { (below : Below) (w : Where) (env along : Env) (ss : List Solid) (s : State) → MatchOption result
+        (members_from below w env along (items (drop from scope.now.items)) ss s ≡ gives ss s)
+        (λ i. members_from below w env along (items (drop from scope.now.items)) ss s
+        ≡ and_then (member below w env along (item_of i.item.now) ss s)
+        (members_from below w env along (items (drop i.next scope.now.items)))) }
+    ensures run { IfSome result (λ i. is_statement (item_of i.item.now) ≡ true) }
 {
-    if is_statement(item) {
-        run_item(item, behind, w, stack)
-    } else {
-        Ok(behind)
+    let mut next = from;
+    'items: while next < scope.len() {
+        let item = &scope[next];
+        next += 1;
+        if is_statement(item) {
+            return Some(StatementAt { item, next });
+        }
     }
+    None
 }
 
 /// A statement is run, its tree is a member unless it is marked `%`, and then comes what is behind it.
-fn run_item<'p>(
+pub(crate) fn run_item<'p>(
     item: &'p Item,
     behind: Focus<'p>,
     w: &Where,
@@ -58,8 +69,9 @@ fn run_item<'p>(
         (along_in h) (item_of item.now) (made_in stack.old) s) (goes_on behind.entry (rest stack.old) h)
         → Starts o result stack.new h s }
     ensures memory { IfErr result (λ e. e ≡ Memory) }
+    ensures less { Rises_by 4 result stack.old stack.new }
 {
-    stack.push(Frame::Then(behind))?;
+    stack.wait(behind)?;
     stack.push(Frame::Member(is_marked(item)))?;
     Ok(Focus::Statement(item, *w))
 }
@@ -75,11 +87,15 @@ pub(crate) fn members<'p>(
         (along_in h) (items (drop next scope.now.items)) (made_in stack.old) s) (listed (rest stack.old) h)) result
         stack.new h s }
     ensures memory { IfErr result (λ e. e ≡ Memory) }
+    ensures less { Rises_by 4 result stack.old stack.new }
 {
-    if next >= scope.len() {
-        return Ok(Focus::Given(Tree::empty()));
+    match first_statement(scope, next) {
+        Some(first) => {
+            let behind = Focus::Members(scope, first.next, *w);
+            run_item(first.item, behind, w, stack)
+        }
+        None => Ok(Focus::Given(Tree::empty())),
     }
-    member(&scope[next], Focus::Members(scope, next + 1, *w), w, stack)
 }
 
 /// The tree of an operation over the statements of a scope, which is opened inside the frame from which names are
@@ -93,9 +109,10 @@ pub(crate) fn combined<'p>(
     stack: &mut Stack<'p>,
     m: &mut Machine<'p>,
 ) -> Result<Focus<'p>, EvalFault>
-    ensures { (o : Outcome Solid) → o ≡ onward (combined (below_of (held m.old)) operation at w.now
+    ensures goes { (o : Outcome Solid) → o ≡ onward (combined (below_of (held m.old)) operation at w.now
         (items scope.now.items) (env_in (held m.old)) (along_in (held m.old)) (state_of m.old)) stack.old m.old
         → Goes o result stack.new m.new }
+    ensures less { Below_by 9 result stack.old m.old stack.new m.new }
 {
     let home = here(m);
     let back = open_scope(stack.alloc, home, scope, m)?;
@@ -114,8 +131,9 @@ pub(crate) fn made_of<'p>(
     stack: &mut Stack<'p>,
     m: &mut Machine<'p>,
 ) -> Result<Focus<'p>, EvalFault>
-    ensures { Goes (and_then (judged at (operated operation (made_in stack.old)) (state_of m.old))
+    ensures goes { Goes (and_then (judged at (operated operation (made_in stack.old)) (state_of m.old))
         (rest stack.old (held m.old) (trees_in outer))) result stack.new m.new }
+    ensures less { Below_by 4 result stack.old m.old stack.new m.new }
 {
     let members = stack.exchange(outer);
     Ok(Focus::Given(made(stack.alloc, operation, at, members)?))

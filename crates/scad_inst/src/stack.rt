@@ -1,6 +1,7 @@
 //! The stack of what waits.
 
-use crate::work::Frame;
+use crate::work::{Focus, Frame};
+use scad_expr::EvalFault;
 use scad_tree::Tree;
 use std::alloc::{AllocFailed, Global};
 use std::mem::replace;
@@ -14,16 +15,18 @@ pub(crate) struct Stack<'p> {
 }
 
 impl<'p> Stack<'p> {
-    ghost use Rattle.std.specs.Prelude.{◌≡◌, [], OnOk, MatchOption};
+    ghost use Rattle.std.specs.Prelude.{◌≡◌, ◌+◌, [], OnOk, IfErr, MatchOption};
     ghost use Rattle.scad_tree.specs.View.{solid_of};
     ghost use Rattle.scad_inst.specs.View.{trees_in};
-    ghost use Rattle.scad_inst.specs.Stack.{rest, ended, onto, made_in, with_member};
+    ghost use Rattle.scad_expr.specs.declared.fault.EvalFault.TheVariants.{Memory};
+    ghost use Rattle.scad_inst.specs.Stack.{rest, ended, onto, behind, made_in, height, with_member};
 
     /// No frame and no member.
-    #[tactic(auto, unfolding(crate::specs::Stack::rest, crate::specs::Stack::made_in))]
+    #[tactic(auto, unfolding(crate::specs::Stack::rest, crate::specs::Stack::made_in, crate::specs::Stack::height))]
     pub(crate) fn new(alloc: Global) -> Stack<'p>
         ensures rest { rest result ≡ ended }
         ensures made { made_in result ≡ [] }
+        ensures height { height result ≡ 0 }
     {
         Stack {
             alloc,
@@ -33,28 +36,44 @@ impl<'p> Stack<'p> {
     }
 
     /// A frame more.
-    #[tactic(auto, using(crate::proofs::Onward::stacks), unfolding(crate::specs::Stack::rest, crate::specs::Stack::made_in))]
+    #[tactic(auto, using(crate::proofs::Onward::stacks), unfolding(crate::specs::Stack::rest, crate::specs::Stack::made_in, crate::specs::Stack::height))]
     pub(crate) fn push(&mut self, frame: Frame<'p>) -> Result<(), AllocFailed<Frame<'p>>>
         ensures rest { OnOk result (rest self.new ≡ onto frame.entry (rest self.old)) }
         ensures made { made_in self.new ≡ made_in self.old }
+        ensures height { OnOk result (height self.new ≡ height self.old + 1) }
     {
         self.frames.push(frame)
     }
 
+    /// What comes behind the members that are added now.
+    #[tactic(auto, unfolding(crate::specs::Stack::onto))]
+    pub(crate) fn wait(&mut self, next: Focus<'p>) -> Result<(), EvalFault>
+        ensures rest { OnOk result (rest self.new ≡ behind next.entry (rest self.old)) }
+        ensures made { made_in self.new ≡ made_in self.old }
+        ensures height { OnOk result (height self.new ≡ height self.old + 1) }
+        ensures memory { IfErr result (λ e. e ≡ Memory) }
+    {
+        let next = Box::new(self.alloc, next)?;
+        self.push(Frame::Then(next))?;
+        Ok(())
+    }
+
     /// The frame on the top, where there is one.
-    #[tactic(auto, using(crate::proofs::Onward::stacks), unfolding(crate::specs::Stack::rest, crate::specs::Stack::made_in))]
+    #[tactic(auto, using(crate::proofs::Onward::stacks), unfolding(crate::specs::Stack::rest, crate::specs::Stack::made_in, crate::specs::Stack::height))]
     pub(crate) fn pop(&mut self) -> Option<Frame<'p>>
         ensures rest { MatchOption result (rest self.old ≡ ended) (λ f. rest self.old ≡ onto f (rest self.new)) }
         ensures made { made_in self.new ≡ made_in self.old }
+        ensures height { MatchOption result (height self.old ≡ 0) (λ f. height self.old ≡ height self.new + 1) }
     {
         self.frames.pop()
     }
 
     /// A tree is a member, unless its statement is marked `%`.
-    #[tactic(auto, using(crate::proofs::MadeTrees::trees), unfolding(crate::specs::Stack::rest, crate::specs::Stack::made_in))]
+    #[tactic(auto, using(crate::proofs::MadeTrees::trees), unfolding(crate::specs::Stack::rest, crate::specs::Stack::made_in, crate::specs::Stack::height))]
     pub(crate) fn add(&mut self, marked: bool, tree: Tree) -> Result<(), AllocFailed<Tree>>
         ensures made { OnOk result (made_in self.new ≡ with_member marked (made_in self.old) (solid_of tree)) }
         ensures rest { rest self.new ≡ rest self.old }
+        ensures height { height self.new ≡ height self.old }
     {
         if marked {
             return Ok(());
@@ -63,11 +82,12 @@ impl<'p> Stack<'p> {
     }
 
     /// Other members are made from now on. Gives those before.
-    #[tactic(auto, unfolding(crate::specs::Stack::rest, crate::specs::Stack::made_in))]
+    #[tactic(auto, unfolding(crate::specs::Stack::rest, crate::specs::Stack::made_in, crate::specs::Stack::height))]
     pub(crate) fn exchange(&mut self, other: Vec<Tree>) -> Vec<Tree>
         ensures made { made_in self.new ≡ trees_in other }
         ensures before { trees_in result ≡ made_in self.old }
         ensures rest { rest self.new ≡ rest self.old }
+        ensures height { height self.new ≡ height self.old }
     {
         replace(&mut self.made, other)
     }

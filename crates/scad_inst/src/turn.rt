@@ -1,16 +1,21 @@
 //! `for`, `intersection_for` and `let`.
 
-ghost use Rattle.std.specs.Prelude.{◌≡◌, ◌<◌, ◌+◌, ◌∷◌, Some, drop, length};
+ghost use Rattle.std.specs.Prelude.{◌≡◌, ◌∷◌, List, Some, drop, option_map};
 ghost use Rattle.scad_ast.specs.Scope.{items};
+ghost use Rattle.scad_ast.specs.Tree.{Items};
 ghost use Rattle.scad_ast.specs.Tree.{no_arguments, argument};
 ghost use Rattle.scad_ast.specs.View.{arguments, expression_of};
 ghost use Rattle.scad_value.specs.View.{datum_of};
 ghost use Rattle.scad_tree.specs.Solid.{Solid};
 ghost use Rattle.scad_expr.specs.Machine.{held, env_in, along_in, state_of};
-ghost use Rattle.scad_expr.specs.State.{Outcome};
+ghost use Rattle.scad_expr.specs.State.{State, Outcome};
+ghost use Rattle.scad_scope.specs.Env.{Env};
+ghost use Rattle.scad_fault.specs.declared.place.Place.{Place};
 ghost use Rattle.scad_inst.specs.Frames.{below_of};
-ghost use Rattle.scad_inst.specs.Meaning.{for_variables, let_in, looped, turns};
-ghost use Rattle.scad_inst.specs.Stack.{Goes, made_in, left_in, onward, onward_listed};
+ghost use Rattle.scad_inst.specs.Meaning.{Below, for_variables, let_in, looped, turns};
+ghost use Rattle.scad_inst.specs.Passed.{from_named, named_at};
+ghost use Rattle.scad_inst.specs.declared.space.Where.{Where};
+ghost use Rattle.scad_inst.specs.Stack.{Goes, Below_by, made_in, left_in, onward, onward_listed};
 
 use crate::frames::open_names;
 use crate::members::combined;
@@ -20,7 +25,7 @@ use crate::remainder::{Remainder, next_value, run_over};
 use crate::space::Where;
 use crate::stack::Stack;
 use crate::work::{Focus, Frame};
-use scad_ast::{Arg, Expr};
+use scad_ast::{Args, Expr};
 use scad_expr::{EvalFault, Machine, eval, judge_named, judge_variables};
 use scad_tree::Tree;
 use scad_value::Value;
@@ -34,10 +39,11 @@ pub(crate) fn looped<'p>(
     stack: &mut Stack<'p>,
     m: &mut Machine<'p>,
 ) -> Result<Focus<'p>, EvalFault>
-    ensures { (o : Outcome Solid) → o ≡ onward (looped (below_of (held m.old)) operation
+    ensures goes { (o : Outcome Solid) → o ≡ onward (looped (below_of (held m.old)) operation
         call.entry.at call.entry.name.now w.now (env_in (held m.old)) (along_in (held m.old))
         (arguments call.entry.args.now.items) (items call.entry.all.now.items) (state_of m.old))
         stack.old m.old → Goes o result stack.new m.new }
+    ensures less { Below_by 14 result stack.old m.old stack.new m.new }
 {
     judge_variables(stack.alloc, call.at, call.name, call.args)?;
     let outer = stack.exchange(Vec::new(stack.alloc));
@@ -53,9 +59,10 @@ pub(crate) fn let_in<'p>(
     stack: &mut Stack<'p>,
     m: &mut Machine<'p>,
 ) -> Result<Focus<'p>, EvalFault>
-    ensures { (o : Outcome Solid) → o ≡ onward (let_in (below_of (held m.old)) call.entry.at w.now
+    ensures goes { (o : Outcome Solid) → o ≡ onward (let_in (below_of (held m.old)) call.entry.at w.now
         (env_in (held m.old)) (along_in (held m.old)) (arguments call.entry.args.now.items) (items
         call.entry.all.now.items) (state_of m.old)) stack.old m.old → Goes o result stack.new m.new }
+    ensures less { Below_by 11 result stack.old m.old stack.new m.new }
 {
     judge_named(stack.alloc, call.at, b"let", call.args)?;
     let back = open_names(stack.alloc, call.args, m)?;
@@ -63,8 +70,35 @@ pub(crate) fn let_in<'p>(
     combined(Operation::Unite, call.at, call.all, w, stack, m)
 }
 
-/// The variables of a `for` from that of a number on.
-#[tactic(auto, using(scad_value::proofs::Lists::lists))]
+/// A variable as an argument gives it: its name, its expression, and the number of the argument behind it.
+#[derive(Clone, Copy)]
+struct NamedAt<'p> {
+    name: &'p [u8],
+    value: &'p Expr,
+    next: usize,
+}
+
+/// The first argument with a name from a number on. Those before it are passed over.
+#[tactic(auto, using(crate::proofs::Passed::arguments))]
+fn first_named<'p>(args: &'p Args, from: usize) -> Option<NamedAt<'p>>
+    ensures { (below : Below) (at : Place) (w : Where) (all : Items) (env along : Env) (ss : List Solid) (s : State)
+        → for_variables below at w (arguments (drop from args.now.items)) all env along ss s
+        ≡ for_variables below at w (from_named args.now.items (option_map named_at result)) all env along ss s }
+{
+    let mut next = from;
+    'arguments: while next < args.len() {
+        let arg = &args[next];
+        next += 1;
+        if let Some(name) = &arg.name {
+            let name = name.as_slice();
+            let value = &arg.value;
+            return Some(NamedAt { name, value, next });
+        }
+    }
+    None
+}
+
+/// The variables of a `for` from that of a number on: the next one is outside of those behind it.
 pub(crate) fn variables<'p>(
     call: Call<'p>,
     next: usize,
@@ -72,15 +106,20 @@ pub(crate) fn variables<'p>(
     stack: &mut Stack<'p>,
     m: &mut Machine<'p>,
 ) -> Result<Focus<'p>, EvalFault>
-    ensures { Goes (onward_listed (for_variables (below_of (held m.old)) call.entry.at w.now
+    ensures goes { Goes (onward_listed (for_variables (below_of (held m.old)) call.entry.at w.now
         (arguments (drop next call.entry.args.now.items)) (items call.entry.all.now.items) (env_in
         (held m.old)) (along_in (held m.old)) (made_in stack.old) (state_of m.old)) stack.old m.old)
         result stack.new m.new }
+    ensures less { Below_by 11 result stack.old m.old stack.new m.new }
 {
-    if next >= call.args.len() {
-        return innermost(call, w, stack, m);
+    match first_named(call.args, next) {
+        Some(first) => {
+            let name = first.name;
+            let next = first.next;
+            named(Variable { call, name, next }, first.value, w, stack, m)
+        }
+        None => innermost(call, w, stack, m),
     }
-    variable(call, next, &call.args[next], w, stack, m)
 }
 
 /// In a turn of all variables the children are run as one scope, and their tree is a member.
@@ -90,39 +129,14 @@ fn innermost<'p>(
     stack: &mut Stack<'p>,
     m: &mut Machine<'p>,
 ) -> Result<Focus<'p>, EvalFault>
-    ensures { (o : Outcome Solid) → o ≡ onward_listed (for_variables (below_of (held m.old))
+    ensures goes { (o : Outcome Solid) → o ≡ onward_listed (for_variables (below_of (held m.old))
         call.entry.at w.now no_arguments (items call.entry.all.now.items) (env_in (held m.old))
         (along_in (held m.old)) (made_in stack.old) (state_of m.old)) stack.old m.old → Goes o
         result stack.new m.new }
+    ensures less { Below_by 11 result stack.old m.old stack.new m.new }
 {
     stack.push(Frame::Member(false))?;
     combined(Operation::Unite, call.at, call.all, w, stack, m)
-}
-
-/// The variable that an argument names, which is outside of those behind it.
-fn variable<'p>(
-    call: Call<'p>,
-    at: usize,
-    first: &'p Arg,
-    w: &Where,
-    stack: &mut Stack<'p>,
-    m: &mut Machine<'p>,
-) -> Result<Focus<'p>, EvalFault>
-    requires { at < length call.args.now.items }
-    ensures { (o : Outcome Solid) → o ≡ onward_listed (for_variables (below_of (held m.old))
-        call.entry.at w.now (argument first.now.name (expression_of first.now.value) (arguments
-        (drop (at + 1) call.entry.args.now.items))) (items call.entry.all.now.items) (env_in (held
-        m.old)) (along_in (held m.old)) (made_in stack.old) (state_of m.old)) stack.old m.old → Goes
-        o result stack.new m.new }
-{
-    let next = at + 1;
-    match &first.name {
-        Some(name) => {
-            let name = name.as_slice();
-            named(Variable { call, name, next }, &first.value, w, stack, m)
-        }
-        None => Ok(Focus::Variables(call, next, *w)),
-    }
 }
 
 /// What a variable runs over is evaluated.
@@ -133,11 +147,12 @@ fn named<'p>(
     stack: &mut Stack<'p>,
     m: &mut Machine<'p>,
 ) -> Result<Focus<'p>, EvalFault>
-    ensures { (o : Outcome Solid) → o ≡ onward_listed (for_variables (below_of (held m.old))
+    ensures goes { (o : Outcome Solid) → o ≡ onward_listed (for_variables (below_of (held m.old))
         variable.entry.call.at w.now (argument (Some variable.entry.name.now) (expression_of
         value.now) (arguments (drop variable.entry.next variable.entry.call.args.now.items))) (items
         variable.entry.call.all.now.items) (env_in (held m.old)) (along_in (held m.old)) (made_in
         stack.old) (state_of m.old)) stack.old m.old → Goes o result stack.new m.new }
+    ensures less { Below_by 5 result stack.old m.old stack.new m.new }
 {
     let over = eval(stack.alloc, value, m)?;
     let more = run_over(stack.alloc, over)?;
@@ -153,11 +168,12 @@ pub(crate) fn turns<'p>(
     stack: &mut Stack<'p>,
     m: &mut Machine<'p>,
 ) -> Result<Focus<'p>, EvalFault>
-    ensures { Goes (onward_listed (turns (below_of (held m.old)) variable.entry.call.at
+    ensures goes { Goes (onward_listed (turns (below_of (held m.old)) variable.entry.call.at
         variable.entry.name.now (for_variables (below_of (held m.old)) variable.entry.call.at w.now
         (arguments (drop variable.entry.next variable.entry.call.args.now.items)) (items
         variable.entry.call.all.now.items)) (env_in (held m.old)) (along_in (held m.old)) (left_in
         more) (made_in stack.old) (state_of m.old)) stack.old m.old) result stack.new m.new }
+    ensures less { Below_by 4 result stack.old m.old stack.new m.new }
 {
     match next_value(stack.alloc, more)? {
         Some((value, more)) => turn(variable, value, more, w, stack, m),
@@ -176,15 +192,16 @@ fn turn<'p>(
     stack: &mut Stack<'p>,
     m: &mut Machine<'p>,
 ) -> Result<Focus<'p>, EvalFault>
-    ensures { (o : Outcome Solid) → o ≡ onward_listed (turns (below_of (held m.old))
+    ensures goes { (o : Outcome Solid) → o ≡ onward_listed (turns (below_of (held m.old))
         variable.entry.call.at variable.entry.name.now (for_variables (below_of (held m.old))
         variable.entry.call.at w.now (arguments (drop variable.entry.next
         variable.entry.call.args.now.items)) (items variable.entry.call.all.now.items)) (env_in
         (held m.old)) (along_in (held m.old)) (datum_of value ∷ left_in more) (made_in stack.old)
         (state_of m.old)) stack.old m.old → Goes o result stack.new m.new }
+    ensures less { Below_by 4 result stack.old m.old stack.new m.new }
 {
     m.step(variable.call.at)?;
-    stack.push(Frame::Then(Focus::Turns(variable, more, *w)))?;
+    stack.wait(Focus::Turns(variable, more, *w))?;
     let back = m.open_with(variable.name, value)?;
     stack.push(Frame::Leave(back))?;
     Ok(Focus::Variables(variable.call, variable.next, *w))

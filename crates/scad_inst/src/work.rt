@@ -33,8 +33,8 @@ pub(crate) enum Frame<'p> {
     Mark(bool, u32),
     /// The tree is a member, unless its statement is marked `%`.
     Member(bool),
-    /// Members were added, and more comes.
-    Then(Focus<'p>),
+    /// Members were added, and more comes. It lies apart, since it is far larger than any other frame.
+    Then(Box<Focus<'p>>),
     /// The members have their operation, made by the statement at a place; those of the operation round it.
     Combine(Operation, Place, Vec<Tree>),
     /// The last frames of the machine are left, and names are sought from another one.
