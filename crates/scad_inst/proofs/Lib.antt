@@ -25,3 +25,4 @@ pub mod MadeTrees
 pub mod Fine
 pub mod NearRange
 pub mod Onward
+pub mod Passed

@@ -1,6 +1,6 @@
 -- What is at work and what follows it, as the parts of a statement begin.
 use Rattle.std.proofs.Common.{◌≡◌, ◌≢◌, ℕ, ◌+◌, ◌-◌, ◌<◌, ◌≤◌, Bool, true, false, if◌then◌else◌, List, [], ◌∷◌, ◌++◌, length, get_or, drop, Option, Some, None, Vec, Global, refl, sym, ap, ap₂, ◌∙◌}
-use Rattle.std.proofs.lemmas.List.{length-append, drop_all}
+use Rattle.std.proofs.lemmas.List.{drop_all}
 use Rattle.std.specs.Borrow.{Bor}
 use Rattle.scad_fault.specs.declared.place.Place.{Place}
 use Rattle.scad_ast.specs.declared.statement.Item.{Item}
@@ -45,7 +45,7 @@ use Rattle.scad_inst.specs.Operation.{operated}
 use Rattle.scad_inst.specs.Portions.{called_with, own_opened}
 use Rattle.scad_inst.specs.Scopes.{item_place, is_marked}
 use Rattle.scad_inst.specs.Where.{at_first}
-use Rattle.scad_inst.specs.Stack.{Rest, onto, behind, rest_of, listed, ended, goes_on, with_member, left_in}
+use Rattle.scad_inst.specs.Stack.{Rest, weight, load_of, onto, behind, rest_of, listed, ended, goes_on, with_member, left_in}
 use Rattle.scad_inst.proofs.Calls.{own-call}
 use Rattle.scad_inst.proofs.Levels.{expressions-are, statement-some}
 use Rattle.scad_inst.proofs.ScopeFrames.{depth-left}
@@ -55,7 +55,12 @@ pub rest-push : (all : List Frame) (f : Frame) (k : Rest) → rest_of (all ++ f 
 rest-push [] f k = refl
 rest-push (g ∷ all) f k = rest-push all f (onto g k)
 
-pub ruleset stacks = (rest-push, length-append)
+-- a frame more weighs so much more
+pub load-push : (all : List Frame) (f : Frame) → load_of (all ++ f ∷ []) ≡ load_of all + weight f
+load-push [] f = omega arith
+load-push (g ∷ all) f = let more = load-push all f in omega (arith, more)
+
+pub ruleset stacks = (rest-push, load-push)
 
 pub ruleset nodes = (twice)
 
@@ -77,59 +82,42 @@ module _ (h : Held) (w : Where) (i : Item) (f : Focus) (k : Rest) (ss : List Sol
       ∙ ap₂ (λ (b : Bool) (l : List Solid). and_then run (onto (Member b) (behind f k) h l)) (sym mark) (sym made)
       ∙ ap (λ (q : Rest). and_then run (q h ms)) (sym then_is)
 
-  -- anything else is passed over
-  pub item-passes : is_statement (item_of i) ≡ false
-      → and_then (member (below_of h) w (env_in h) (along_in h) (item_of i) ss s) (goes_on f k h) ≡ goes_on f k h ss s
-  unfolding member
-  item-passes is =
-      let one : Bool → State → Outcome (List Solid) = λ b. (if b then
-      (λ (u : State). and_then ((below_of h).statement w (env_in h) (along_in h) (item_of i) u)
-      (λ t. pure (if is_marked (item_of i) then ss else ss ++ t ∷ []))) else pure ss) in
-      ap (λ (b : Bool). and_then (one b s) (goes_on f k h)) is
+-- a member, and then the members behind it
+module _ (h : Held) (w : Where) (k : Rest) (ss : List Solid) (s : State) where
+  pub members-behind : (scope : Bor (Vec Item Global)) (from next : ℕ) (i : Item)
+      → members_from (below_of h) w (env_in h) (along_in h) (items (drop from scope.now.items)) ss s
+      ≡ and_then (member (below_of h) w (env_in h) (along_in h) (item_of i) ss s)
+      (members_from (below_of h) w (env_in h) (along_in h) (items (drop next scope.now.items)))
+      → and_then (members_from (below_of h) w (env_in h) (along_in h) (items (drop from scope.now.items)) ss s)
+      (listed k h)
+      ≡ and_then (member (below_of h) w (env_in h) (along_in h) (item_of i) ss s) (goes_on (Members scope next w) k h)
+  unfolding goes_on
+  members-behind scope from next i is =
+      ap (λ (o : Outcome (List Solid)). and_then o (listed k h)) is
+      ∙ twice (member (below_of h) w (env_in h) (along_in h) (item_of i) ss s)
+      (members_from (below_of h) w (env_in h) (along_in h) (items (drop next scope.now.items))) (listed k h)
 
--- the item of a number, and those behind it
-module _ (h : Held) (w : Where) (scope : Bor (Vec Item Global)) (n : ℕ) (k : Rest) (ss : List Solid) (s : State) where
-  pub members-next : (i : Item) → n < length scope.now.items → i ≡ get_or scope.now.items n i
-      → and_then (members_from (below_of h) w (env_in h) (along_in h) (items (drop n scope.now.items)) ss s)
+  pub children-behind : (scope : Bor (Vec Item Global)) (more others : Remainder) (i : Item)
+      → children_by (below_of h) w (env_in h) (along_in h) (items scope.now.items) (left_in more) ss s
+      ≡ and_then (member (below_of h) w (env_in h) (along_in h) (item_of i) ss s)
+      (children_by (below_of h) w (env_in h) (along_in h) (items scope.now.items) (left_in others))
+      → and_then (children_by (below_of h) w (env_in h) (along_in h) (items scope.now.items) (left_in more) ss s)
       (listed k h)
       ≡ and_then (member (below_of h) w (env_in h) (along_in h) (item_of i) ss s)
-      (goes_on (Members scope (n + 1) w) k h)
-  unfolding members_from goes_on
-  members-next i there is =
-      ap (λ (l : Items). and_then (members_from (below_of h) w (env_in h) (along_in h) l ss s) (listed k h))
-      (items-drop scope.now.items n i there is)
+      (goes_on (Children scope others w) k h)
+  unfolding goes_on
+  children-behind scope more others i is =
+      ap (λ (o : Outcome (List Solid)). and_then o (listed k h)) is
       ∙ twice (member (below_of h) w (env_in h) (along_in h) (item_of i) ss s)
-      (members_from (below_of h) w (env_in h) (along_in h) (items (drop (n + 1) scope.now.items))) (listed k h)
+      (children_by (below_of h) w (env_in h) (along_in h) (items scope.now.items) (left_in others)) (listed k h)
 
-  pub members-end : length scope.now.items ≤ n
-      → and_then (members_from (below_of h) w (env_in h) (along_in h) (items (drop n scope.now.items)) ss s)
-      (listed k h) ≡ listed k h ss s
-  unfolding members_from
-  members-end past =
-      ap (λ (l : List Item). and_then (members_from (below_of h) w (env_in h) (along_in h) (items l) ss s)
-      (listed k h)) (drop_all {X = Item} n scope.now.items past)
+  -- none is left
+  pub list-given : (o : Outcome (List Solid)) (t : Solid) → o ≡ gives ss s → t ≡ nothing
+      → and_then o (listed k h) ≡ k h ss t s
+  list-given o t is none =
+      ap (λ (x : Outcome (List Solid)). and_then x (listed k h)) is ∙ ap (λ (u : Solid). k h ss u s) (sym none)
 
 -- ---- children that values name
-module _ (h : Held) (w : Where) (scope : Items) (ds : List Datum) (k : Rest) (ss : List Solid) (s : State) where
-  pub children-next : (d : Datum) (o : Option TreeItem) (others : List Datum) → ds ≡ d ∷ others
-      → o ≡ child_named scope d
-      → and_then (children_by (below_of h) w (env_in h) (along_in h) scope ds ss s) (listed k h)
-      ≡ and_then (and_then (child (below_of h) w (env_in h) (along_in h) o ss s)
-      (children_by (below_of h) w (env_in h) (along_in h) scope others)) (listed k h)
-  unfolding children_by
-  children-next d o others are named =
-      ap (λ (l : List Datum). and_then (children_by (below_of h) w (env_in h) (along_in h) scope l ss s) (listed k h))
-      are
-      ∙ ap (λ (x : Option TreeItem). and_then (and_then (child (below_of h) w (env_in h) (along_in h) x ss s)
-      (children_by (below_of h) w (env_in h) (along_in h) scope others)) (listed k h)) (sym named)
-
-  pub children-end : ds ≡ [] → and_then (children_by (below_of h) w (env_in h) (along_in h) scope ds ss s) (listed k h)
-      ≡ listed k h ss s
-  unfolding children_by
-  children-end are =
-      ap (λ (l : List Datum). and_then (children_by (below_of h) w (env_in h) (along_in h) scope l ss s) (listed k h))
-      are
-
 -- equal values name the same children
 pub same-alike : (scope : Items) (few all : List Datum) → few ≡ all → NameAlike scope few all
 same-alike scope few all same = record {
@@ -274,17 +262,12 @@ module _ (c : Call) (w : Where) (k : Rest) (ss : List Solid) (s : State) where
       twice run (λ t. pure (ss ++ t ∷ [])) (listed k h)
       ∙ ap₂ (λ (q : Rest) (l : List Solid). and_then run (q h l)) (sym is) (sym made)
 
-  -- one without a name is passed over
-  pub variable-passes : (word : Option (List ℕ)) (e : Expression) (n : ℕ) (h : Held) → word ≡ None
-      → loop h (argument word e (arguments (drop n c.args.now.items))) ≡ goes_on (Variables c n w) k h ss s
-  unfolding for_variables goes_on
-  variable-passes word e n h none =
-      ap (λ (o : Option (List ℕ)). loop h (argument o e (arguments (drop n c.args.now.items)))) none
-
-  pub variable-named : (word : Option (List ℕ)) (name known : List ℕ) (e : Expression) (more : Arguments) (h : Held)
-      → word ≡ Some known → name ≡ known → loop h (argument word e more) ≡ loop h (argument (Some name) e more)
-  variable-named word name known e more h is same =
-      ap (λ (o : Option (List ℕ)). loop h (argument o e more)) (is ∙ ap Some (sym same))
+  -- one is next
+  pub variable-next : (args known : Arguments) (h : Held)
+      → for_variables (below_of h) c.at w args (items c.all.now.items) (env_in h) (along_in h) ss s
+      ≡ for_variables (below_of h) c.at w known (items c.all.now.items) (env_in h) (along_in h) ss s
+      → loop h args ≡ loop h known
+  variable-next args known h same = ap (λ (o : Outcome (List Solid)). and_then o (listed k h)) same
 
 -- what a variable runs over
 module _ (v : Variable) (w : Where) (k : Rest) (ss : List Solid) (s : State) (e : Expression) (h : Held) where

@@ -6,6 +6,7 @@ pub mod Meaning
 pub mod Modules
 pub mod Opened
 pub mod Operation
+pub mod Passed
 pub mod Portions
 pub mod FirstFrames
 pub mod Scopes

@@ -1,5 +1,5 @@
 -- What is left to do, on a stack of its own: what is at work, and the frames that wait for its tree.
-use Rattle.std.specs.Prelude.{◌≡◌, ◌≢◌, ℕ, ◌+◌, ◌*◌, ◌<◌, ◌≤◌, List, [], ◌∷◌, ◌++◌, drop, length, Result, Ok, Err, Option, Some, None, Bool, if◌then◌else◌, IfOk}
+use Rattle.std.specs.Prelude.{◌≡◌, ◌≢◌, ℕ, ◌+◌, ◌-◌, ◌*◌, ◌<◌, ◌≤◌, List, [], ◌∷◌, ◌++◌, drop, Result, Ok, Err, Option, Some, None, Bool, if◌then◌else◌, IfOk}
 use Rattle.scad_ast.specs.Scope.{item_of, items}
 use Rattle.scad_ast.specs.View.{arguments}
 use Rattle.scad_ast.specs.Tree.{Item, Items}
@@ -95,10 +95,6 @@ rest_of (f ∷ more) k = rest_of more (onto f k)
 unfoldable pub rest : Stack → Rest
 rest s = rest_of s.frames.items ended
 
--- how many frames wait
-unfoldable pub height : Stack → ℕ
-height s = length s.frames.items
-
 -- the members so far of the operation that is being made
 unfoldable pub made_in : Stack → List Solid
 made_in s = solids s.made.items
@@ -136,16 +132,32 @@ rank (Variables c next w) = 12
 rank (Turns v more w) = 5
 rank (Given t) = 4
 
+-- a frame, so that what it goes on with is less than it and the tree for which it waits
+abbrev pub weight : Frame → ℕ
+weight (Mark marked depth) = 2
+weight (Member marked) = 2
+weight (Then f) = rank f.value - 3
+weight (Combine o at outer) = 2
+weight (Leave back) = 2
+
+abbrev pub load_of : List Frame → ℕ
+load_of [] = 0
+load_of (f ∷ more) = weight f + load_of more
+
+-- all that waits
+unfoldable pub load : Stack → ℕ
+load s = load_of s.frames.items
+
 abbrev pub size : Focus → Stack → Machine → ℕ
-size f stack m = rank f + 2 * height stack + 20 * m.steps_left
+size f stack m = rank f + load stack + 20 * m.steps_left
 
 -- what is at work and waits now is at most so much above what waited before
 abbrev pub Below_by : ℕ → Result Focus EvalFault → Stack → Machine → Stack → Machine → Type 0
-Below_by n result stack m stack_new m_new = IfOk result (λ f. size f stack_new m_new ≤ 2 * height stack + 20 * m.steps_left + n)
+Below_by n result stack m stack_new m_new = IfOk result (λ f. size f stack_new m_new ≤ load stack + 20 * m.steps_left + n)
 
 -- likewise where no step is taken
 abbrev pub Rises_by : ℕ → Result Focus EvalFault → Stack → Stack → Type 0
-Rises_by n result stack stack_new = IfOk result (λ f. rank f + 2 * height stack_new ≤ 2 * height stack + n)
+Rises_by n result stack stack_new = IfOk result (λ f. rank f + load stack_new ≤ load stack + n)
 
 -- after one turn
 abbrev pub Less : ℕ → Result Next EvalFault → Stack → Machine → Type 0

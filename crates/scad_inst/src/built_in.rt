@@ -1,6 +1,6 @@
 //! The modules of the language.
 
-ghost use Rattle.std.specs.Prelude.{◌≡◌, OnOk};
+ghost use Rattle.std.specs.Prelude.{◌≡◌, ◌≤◌, OnOk};
 ghost use Rattle.scad_ast.specs.Scope.{items};
 ghost use Rattle.scad_ast.specs.View.{arguments};
 ghost use Rattle.scad_tree.specs.Solid.{Solid};
@@ -15,7 +15,7 @@ ghost use Rattle.scad_inst.specs.Meaning.{built_in};
 ghost use Rattle.scad_inst.specs.Opened.{fineness};
 ghost use Rattle.scad_inst.specs.Made.{judge_solid, judge_flat};
 ghost use Rattle.scad_inst.specs.Portions.{primitive_made, flat_made};
-ghost use Rattle.scad_inst.specs.Stack.{Goes, onward};
+ghost use Rattle.scad_inst.specs.Stack.{Goes, Below_by, onward};
 ghost use Rattle.scad_modules.specs.declared.module.Module.TheVariants.{Extrusion as IsExtrusion, Transform as IsTransform, Echo as IsEcho, Assert as IsAssert};
 ghost use Rattle.scad_modules.specs.declared.module.Extrusion.TheVariants.{Linear as IsLinear, Rotate as IsRotate};
 
@@ -53,10 +53,11 @@ pub(crate) fn built_in<'p>(
     stack: &mut Stack<'p>,
     m: &mut Machine<'p>,
 ) -> Result<Focus<'p>, EvalFault>
-    ensures { (o : Outcome Solid) → o ≡ onward (built_in (below_of (held m.old)) known call.entry.at
+    ensures goes { (o : Outcome Solid) → o ≡ onward (built_in (below_of (held m.old)) known call.entry.at
         call.entry.name.now w.now (env_in (held m.old)) (along_in (held m.old)) (arguments
         call.entry.args.now.items) (data_of found.now) (items call.entry.all.now.items) (state_of
         m.old)) stack.old m.old → Goes o result stack.new m.new }
+    ensures less { Below_by 9 result stack.old m.old stack.new m.new }
 {
     let alloc = stack.alloc;
     match known {
@@ -125,6 +126,7 @@ fn primitive<'p>(
         (env_in (held m.old)) (along_in (held m.old)) (arguments call.entry.args.now.items) (data_of
         found.now) (state_of m.old)) result (state_of m.new) }
     ensures kept { OnOk result (held m.new ≡ held m.old) }
+    ensures steps { OnOk result (m.new.steps_left ≤ m.old.steps_left) }
 {
     judge_solid(alloc, call.at, w.space)?;
     let fine = fineness(alloc, m)?;
@@ -151,6 +153,7 @@ fn flat_shape<'p>(
         (held m.old)) (along_in (held m.old)) (arguments call.entry.args.now.items) (data_of
         found.now) (state_of m.old)) result (state_of m.new) }
     ensures kept { OnOk result (held m.new ≡ held m.old) }
+    ensures steps { OnOk result (m.new.steps_left ≤ m.old.steps_left) }
 {
     judge_flat(alloc, call.at, w.space)?;
     let fine = fineness(alloc, m)?;
@@ -173,10 +176,11 @@ fn linear_extrude<'p>(
     stack: &mut Stack<'p>,
     m: &mut Machine<'p>,
 ) -> Result<Focus<'p>, EvalFault>
-    ensures { (o : Outcome Solid) → o ≡ onward (built_in (below_of (held m.old)) (IsExtrusion
+    ensures goes { (o : Outcome Solid) → o ≡ onward (built_in (below_of (held m.old)) (IsExtrusion
         IsLinear) call.entry.at call.entry.name.now w.now (env_in (held m.old)) (along_in (held
         m.old)) (arguments call.entry.args.now.items) (data_of found.now) (items
         call.entry.all.now.items) (state_of m.old)) stack.old m.old → Goes o result stack.new m.new }
+    ensures less { Below_by 9 result stack.old m.old stack.new m.new }
 {
     judge_solid(stack.alloc, call.at, w.space)?;
     let height = height_argued(stack.alloc, call.at, call.name, linear_by(call.args, found))?;
@@ -193,10 +197,11 @@ fn rotate_extrude<'p>(
     stack: &mut Stack<'p>,
     m: &mut Machine<'p>,
 ) -> Result<Focus<'p>, EvalFault>
-    ensures { (o : Outcome Solid) → o ≡ onward (built_in (below_of (held m.old)) (IsExtrusion
+    ensures goes { (o : Outcome Solid) → o ≡ onward (built_in (below_of (held m.old)) (IsExtrusion
         IsRotate) call.entry.at call.entry.name.now w.now (env_in (held m.old)) (along_in (held
         m.old)) (arguments call.entry.args.now.items) (data_of found.now) (items
         call.entry.all.now.items) (state_of m.old)) stack.old m.old → Goes o result stack.new m.new }
+    ensures less { Below_by 9 result stack.old m.old stack.new m.new }
 {
     let alloc = stack.alloc;
     judge_solid(alloc, call.at, w.space)?;
@@ -220,10 +225,11 @@ fn transformed<'p>(
     stack: &mut Stack<'p>,
     m: &mut Machine<'p>,
 ) -> Result<Focus<'p>, EvalFault>
-    ensures { (o : Outcome Solid) → o ≡ onward (built_in (below_of (held m.old)) (IsTransform
+    ensures goes { (o : Outcome Solid) → o ≡ onward (built_in (below_of (held m.old)) (IsTransform
         transform) call.entry.at call.entry.name.now w.now (env_in (held m.old)) (along_in (held
         m.old)) (arguments call.entry.args.now.items) (data_of found.now) (items
         call.entry.all.now.items) (state_of m.old)) stack.old m.old → Goes o result stack.new m.new }
+    ensures less { Below_by 9 result stack.old m.old stack.new m.new }
 {
     let read = matrix_of(transform, call.args, found);
     let by = matrix_argued(stack.alloc, call.at, call.name, read)?;
@@ -240,10 +246,11 @@ fn echo<'p>(
     stack: &mut Stack<'p>,
     m: &mut Machine<'p>,
 ) -> Result<Focus<'p>, EvalFault>
-    ensures { (o : Outcome Solid) → o ≡ onward (built_in (below_of (held m.old)) IsEcho
+    ensures goes { (o : Outcome Solid) → o ≡ onward (built_in (below_of (held m.old)) IsEcho
         call.entry.at call.entry.name.now w.now (env_in (held m.old)) (along_in (held m.old))
         (arguments call.entry.args.now.items) (data_of found.now) (items call.entry.all.now.items)
         (state_of m.old)) stack.old m.old → Goes o result stack.new m.new }
+    ensures less { Below_by 9 result stack.old m.old stack.new m.new }
 {
     m.echo(stack.alloc, call.at, call.args, found)?;
     combined(Operation::Unite, call.at, call.all, w, stack, m)
@@ -258,10 +265,11 @@ fn assert<'p>(
     stack: &mut Stack<'p>,
     m: &mut Machine<'p>,
 ) -> Result<Focus<'p>, EvalFault>
-    ensures { (o : Outcome Solid) → o ≡ onward (built_in (below_of (held m.old)) IsAssert
+    ensures goes { (o : Outcome Solid) → o ≡ onward (built_in (below_of (held m.old)) IsAssert
         call.entry.at call.entry.name.now w.now (env_in (held m.old)) (along_in (held m.old))
         (arguments call.entry.args.now.items) (data_of found.now) (items call.entry.all.now.items)
         (state_of m.old)) stack.old m.old → Goes o result stack.new m.new }
+    ensures less { Below_by 9 result stack.old m.old stack.new m.new }
 {
     asserted(stack.alloc, call.at, call.args, found)?;
     combined(Operation::Unite, call.at, call.all, w, stack, m)

@@ -13,7 +13,7 @@ ghost use Rattle.scad_inst.specs.Frames.{below_of};
 ghost use Rattle.scad_inst.specs.Meaning.{node, called};
 ghost use Rattle.scad_inst.specs.Modules.{module_named};
 ghost use Rattle.scad_inst.specs.Portions.{called_with, known_with, refused_with};
-ghost use Rattle.scad_inst.specs.Stack.{Goes, onward};
+ghost use Rattle.scad_inst.specs.Stack.{Goes, Below_by, onward};
 ghost use Rattle.scad_inst.specs.View.{found_at};
 
 use crate::built_in::built_in;
@@ -39,10 +39,11 @@ pub(crate) fn call<'p>(
     stack: &mut Stack<'p>,
     m: &mut Machine<'p>,
 ) -> Result<Focus<'p>, EvalFault>
-    ensures { (percent hash : Bool) (o : Outcome Solid) → o ≡ onward (node (below_of (held m.old))
+    ensures goes { (percent hash : Bool) (o : Outcome Solid) → o ≡ onward (node (below_of (held m.old))
         w.now (env_in (held m.old)) (along_in (held m.old)) (call_of call.entry.at percent hash
         call.entry.name.now (arguments call.entry.args.now.items) (items call.entry.all.now.items))
         (state_of m.old)) stack.old m.old → Goes o result stack.new m.new }
+    ensures less { Below_by 14 result stack.old m.old stack.new m.new }
 {
     match meaning_of(call.name) {
         Name::For => looped(Operation::Unite, call, w, stack, m),
@@ -62,10 +63,11 @@ fn called<'p>(
 ) -> Result<Focus<'p>, EvalFault>
     requires for_ { meaning ≢ For }
     requires let_ { meaning ≢ Let }
-    ensures { (o : Outcome Solid) → o ≡ onward (called (below_of (held m.old)) meaning (module_named
+    ensures goes { (o : Outcome Solid) → o ≡ onward (called (below_of (held m.old)) meaning (module_named
         call.entry.name.now (env_in (held m.old))) call.entry.at call.entry.name.now w.now (env_in
         (held m.old)) (along_in (held m.old)) (arguments call.entry.args.now.items) (items
         call.entry.all.now.items) (state_of m.old)) stack.old m.old → Goes o result stack.new m.new }
+    ensures less { Below_by 14 result stack.old m.old stack.new m.new }
 {
     match module_named(m, call.name)? {
         Some(own) => called_own(own, call, w, stack, m),
@@ -83,10 +85,11 @@ fn called_own<'p>(
     m: &mut Machine<'p>,
 ) -> Result<Focus<'p>, EvalFault>
     requires { own.home < length (held m.old).frames }
-    ensures { (o : Outcome Solid) → o ≡ onward (called_with (below_of (held m.old)) call.entry.at
+    ensures goes { (o : Outcome Solid) → o ≡ onward (called_with (below_of (held m.old)) call.entry.at
         w.now (env_in (held m.old)) (along_in (held m.old)) (found_at (envs (held m.old).frames)
         own.entry) (arguments call.entry.args.now.items) (items call.entry.all.now.items) (state_of
         m.old)) stack.old m.old → Goes o result stack.new m.new }
+    ensures less { Below_by 11 result stack.old m.old stack.new m.new }
 {
     let found = values(stack.alloc, call.args, m)?;
     let back = open_own(stack.alloc, own, call.args, found, call.all, m)?;
@@ -103,10 +106,11 @@ fn called_by<'p>(
     stack: &mut Stack<'p>,
     m: &mut Machine<'p>,
 ) -> Result<Focus<'p>, EvalFault>
-    ensures { (o : Outcome Solid) → o ≡ onward (called (below_of (held m.old)) meaning None
+    ensures goes { (o : Outcome Solid) → o ≡ onward (called (below_of (held m.old)) meaning None
         call.entry.at call.entry.name.now w.now (env_in (held m.old)) (along_in (held m.old))
         (arguments call.entry.args.now.items) (items call.entry.all.now.items) (state_of m.old))
         stack.old m.old → Goes o result stack.new m.new }
+    ensures less { Below_by 14 result stack.old m.old stack.new m.new }
 {
     match meaning {
         Name::For => looped(Operation::Unite, call, w, stack, m),
@@ -126,9 +130,10 @@ fn refused<'p>(
     stack: &mut Stack<'p>,
     m: &mut Machine<'p>,
 ) -> Result<Focus<'p>, EvalFault>
-    ensures { (o : Outcome Solid) → o ≡ onward (refused_with (below_of (held m.old)) kind
+    ensures goes { (o : Outcome Solid) → o ≡ onward (refused_with (below_of (held m.old)) kind
         call.entry.at call.entry.name.now (env_in (held m.old)) (along_in (held m.old)) (arguments
         call.entry.args.now.items) (state_of m.old)) stack.old m.old → Goes o result stack.new m.new }
+    ensures less { Below_by 4 result stack.old m.old stack.new m.new }
 {
     let _found = values(stack.alloc, call.args, m)?;
     Err(named_fault(stack.alloc, kind, call.at, call.name))
@@ -143,10 +148,11 @@ fn called_known<'p>(
     stack: &mut Stack<'p>,
     m: &mut Machine<'p>,
 ) -> Result<Focus<'p>, EvalFault>
-    ensures { (o : Outcome Solid) → o ≡ onward (known_with (below_of (held m.old)) known
+    ensures goes { (o : Outcome Solid) → o ≡ onward (known_with (below_of (held m.old)) known
         call.entry.at call.entry.name.now w.now (env_in (held m.old)) (along_in (held m.old))
         (arguments call.entry.args.now.items) (items call.entry.all.now.items) (state_of m.old))
         stack.old m.old → Goes o result stack.new m.new }
+    ensures less { Below_by 11 result stack.old m.old stack.new m.new }
 {
     let found = values(stack.alloc, call.args, m)?;
     let back = open_known(stack.alloc, call.args, &found, m)?;

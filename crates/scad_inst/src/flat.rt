@@ -1,6 +1,6 @@
 //! Leaves inside extrusions.
 
-ghost use Rattle.std.specs.Prelude.{◌≡◌, ◌≤◌, ◌-◌, ◌*◌, [], true, length, IfOk};
+ghost use Rattle.std.specs.Prelude.{◌≡◌, ◌≤◌, ◌-◌, ◌*◌, [], true, length, IfOk, OnOk};
 ghost use Rattle.scad_shapes.specs.Limits.{triangle_limit};
 ghost use Rattle.std.specs.List.{list_all};
 ghost use Rattle.scad_extrude.specs.Count.{triangles_of as triangles_in};
@@ -36,6 +36,7 @@ fn count_prism<'p>(points: usize, at: Place, m: &mut Machine<'p>) -> Result<(), 
     ensures does { Does nothing (count_triangles (triangles_in (Prism points)) at (state_of m.old)) result
         (state_of m.new) }
     ensures kept { held m.new ≡ held m.old }
+    ensures steps { OnOk result (m.new.steps_left ≤ m.old.steps_left) }
 {
     if points > TRIANGLE_LIMIT as usize {
         return Err(over(BudgetKind::Triangles, at));
@@ -58,6 +59,7 @@ fn linear_leaf<'p>(
     ensures does { Does solid_of (linear_leaf at (outline shape.now) height center whole.now (state_of m.old)) result
         (state_of m.new) }
     ensures kept { held m.new ≡ held m.old }
+    ensures steps { OnOk result (m.new.steps_left ≤ m.old.steps_left) }
 {
     count_leaf(at, m)?;
     count_prism(points_in(shape), at, m)?;
@@ -103,6 +105,7 @@ fn count_sweep<'p>(
         (state_of m.new) }
     ensures kept { held m.new ≡ held m.old }
     ensures few { IfOk result (λ _. turns ≤ triangle_limit) }
+    ensures steps { OnOk result (m.new.steps_left ≤ m.old.steps_left) }
 {
     count_triangles(triangles_of(&FlatForm::Turned(points as u32, turns)), at, m)
 }
@@ -121,6 +124,7 @@ fn swept<'p>(
     requires few { length ring.now ≤ triangle_limit }
     ensures does { Does solid_of (swept at ring.now t.now whole.now (state_of m.old)) result (state_of m.new) }
     ensures kept { held m.new ≡ held m.old }
+    ensures steps { OnOk result (m.new.steps_left ≤ m.old.steps_left) }
 {
     let turns = turns_of(t.resolution, ring);
     count_sweep(ring.len(), turns, at, m)?;
@@ -143,6 +147,7 @@ fn turned_leaf<'p>(
     ensures does { Does solid_of (turned_leaf at name.now (outline shape.now) t.now whole.now (state_of m.old)) result
         (state_of m.new) }
     ensures kept { held m.new ≡ held m.old }
+    ensures steps { OnOk result (m.new.steps_left ≤ m.old.steps_left) }
 {
     count_leaf(at, m)?;
     judge_points(at, points_in(shape))?;
@@ -166,6 +171,7 @@ fn leaf_in<'p>(
     ensures does { Does solid_of (leaf_in at name.now (outline shape.now) w.now.whole w.now.space (state_of m.old))
         result (state_of m.new) }
     ensures kept { held m.new ≡ held m.old }
+    ensures steps { OnOk result (m.new.steps_left ≤ m.old.steps_left) }
 {
     match w.space {
         Space::Solid => Err(fault(alloc, FaultKind::MixedDimensions, at)),
@@ -190,6 +196,7 @@ pub(crate) fn flat_leaves<'p>(
     ensures does { Does trees_in (flat_leaves at name.now w.now (outlines shapes.now) [] (state_of m.old)) result
         (state_of m.new) }
     ensures kept { held m.new ≡ held m.old }
+    ensures steps { OnOk result (m.new.steps_left ≤ m.old.steps_left) }
 {
     let mut so_far = Vec::new(alloc);
     'outlines: for shape in shapes {

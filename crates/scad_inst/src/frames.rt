@@ -1,6 +1,6 @@
 //! Depth, and the frames of scopes and calls.
 
-ghost use Rattle.std.specs.Prelude.{◌≡◌, ◌≢◌, ◌<◌, ◌+◌, ◌-◌, ◌∷◌, [], length, IfOk, OnOk};
+ghost use Rattle.std.specs.Prelude.{◌≡◌, ◌≤◌, ◌≢◌, ◌<◌, ◌+◌, ◌-◌, ◌∷◌, [], length, IfOk, OnOk};
 ghost use Rattle.scad_ast.specs.Scope.{items};
 ghost use Rattle.scad_ast.specs.View.{arguments, expression_of};
 ghost use Rattle.scad_ast.specs.Tree.{argument, no_arguments};
@@ -37,6 +37,7 @@ pub(crate) fn go_deeper(m: &mut Machine)
     requires { (held m.old).depth ≢ 0 }
     ensures same { state_of m.new ≡ state_of m.old }
     ensures held { held m.new ≡ with_depth ((held m.old).depth - 1) (held m.old) }
+    ensures steps { m.new.steps_left ≡ m.old.steps_left }
 {
     m.depth_left -= 1;
 }
@@ -46,6 +47,7 @@ pub(crate) fn go_deeper(m: &mut Machine)
 pub(crate) fn go_back(depth: u32, m: &mut Machine)
     ensures same { state_of m.new ≡ state_of m.old }
     ensures held { held m.new ≡ with_depth depth (held m.old) }
+    ensures steps { m.new.steps_left ≡ m.old.steps_left }
 {
     m.depth_left = depth;
 }
@@ -79,6 +81,7 @@ pub(crate) fn enter_scope<'p>(
     ensures does { Does nothing (done_at (state_of m.old)) result (state_of m.new) }
     ensures held { OnOk result (held m.new ≡ scope_held (items scope.now.items) home empty (held m.old)) }
     ensures back { IfOk result (λ back. back ≡ (held m.old).here) }
+    ensures steps { OnOk result (m.new.steps_left ≤ m.old.steps_left) }
 {
     let parent = last_along(m);
     let number = m.frames.push(Some(home), Some(scope), None)?;
@@ -99,6 +102,7 @@ pub(crate) fn open_frames<'p>(
     ensures scope { IfOk result (λ back. IsScope (items scope.now.items) home back (held m.new)) }
     ensures bound { OnOk result (bound_in (held m.new) ≡ empty) }
     ensures left { IfOk result (λ back. left back (held m.new) ≡ held m.old) }
+    ensures steps { OnOk result (m.new.steps_left ≤ m.old.steps_left) }
 {
     enter_scope(home, scope, m)
 }
@@ -120,6 +124,7 @@ pub(crate) fn open_own<'p>(
         (data_in found) (items all.now.items) (state_of m.old)) result (state_of m.new) }
     ensures back { IfOk result (λ back. left back (held m.new) ≡ held m.old) }
     ensures depth { OnOk result ((held m.new).depth ≡ (held m.old).depth) }
+    ensures steps { OnOk result (m.new.steps_left ≤ m.old.steps_left) }
 {
     let back = here(m);
     let kept = Some(Kept {
@@ -155,6 +160,7 @@ fn set_dollar<'p>(
         (datum_of value.now ∷ []) (bound_in (held m.old))) }
     ensures inner { OnOk result (IsInner (held m.new)) }
     ensures outer { OnOk result (outer (held m.new) ≡ outer (held m.old)) }
+    ensures steps { OnOk result (m.new.steps_left ≤ m.old.steps_left) }
 {
     match &arg.name {
         Some(name) => {
@@ -182,6 +188,7 @@ fn set_dollars<'p>(
         ≡ dollars_of (arguments args.now) (data_of found.now) (bound_in (held m.old))) }
     ensures inner { OnOk result (IsInner (held m.new)) }
     ensures outer { OnOk result (outer (held m.new) ≡ outer (held m.old)) }
+    ensures steps { OnOk result (m.new.steps_left ≤ m.old.steps_left) }
 {
     let mut k = 0;
     'arguments: for arg in args {
@@ -210,6 +217,7 @@ pub(crate) fn open_known<'p>(
         (dollars_of (arguments args.now.items) (data_of found.now) empty).dollars) }
     ensures back { IfOk result (λ back. left back (held m.new) ≡ held m.old) }
     ensures depth { OnOk result ((held m.new).depth ≡ (held m.old).depth) }
+    ensures steps { OnOk result (m.new.steps_left ≤ m.old.steps_left) }
 {
     let back = m.open()?;
     set_dollars(alloc, args, found, m)?;
@@ -229,6 +237,7 @@ pub(crate) fn open_names<'p>(
         ≡ within (along_in (held m.old)) (bound_in (held m.new)).dollars) }
     ensures back { IfOk result (λ back. left back (held m.new) ≡ held m.old) }
     ensures depth { OnOk result ((held m.new).depth ≡ (held m.old).depth) }
+    ensures steps { OnOk result (m.new.steps_left ≤ m.old.steps_left) }
 {
     let back = let_names(alloc, args, m)?;
     Ok(back)

@@ -1,6 +1,6 @@
 //! Leaves, with their budgets.
 
-ghost use Rattle.std.specs.Prelude.{◌≡◌, ◌<◌, ◌≤◌, true, List, length, Result, IfOk};
+ghost use Rattle.std.specs.Prelude.{◌≡◌, ◌<◌, ◌≤◌, true, List, length, Result, IfOk, OnOk};
 ghost use Rattle.scad_shapes.specs.Limits.{triangle_limit};
 ghost use Rattle.scad_base.specs.Memory.{UnlessMemory};
 ghost use Rattle.scad_solid.specs.declared.triangle.Triangle.{Triangle};
@@ -34,6 +34,7 @@ pub(crate) const TRIANGLE_LIMIT: u64 = 200_000;
 pub(crate) fn count_leaf<'p>(at: Place, m: &mut Machine<'p>) -> Result<(), EvalFault>
     ensures does { Does nothing (count_leaf at (state_of m.old)) result (state_of m.new) }
     ensures kept { held m.new ≡ held m.old }
+    ensures steps { OnOk result (m.new.steps_left ≤ m.old.steps_left) }
 {
     if m.leaves >= LEAF_LIMIT {
         return Err(over(BudgetKind::Leaves, at));
@@ -52,6 +53,7 @@ pub(crate) fn count_triangles<'p>(
     ensures does { Does nothing (count_triangles count at (state_of m.old)) result (state_of m.new) }
     ensures kept { held m.new ≡ held m.old }
     ensures few { IfOk result (λ _. count ≤ triangle_limit) }
+    ensures steps { OnOk result (m.new.steps_left ≤ m.old.steps_left) }
 {
     if count > TRIANGLE_LIMIT || m.triangles > TRIANGLE_LIMIT - count {
         return Err(over(BudgetKind::Triangles, at));
@@ -68,6 +70,7 @@ fn count_primitive<'p>(p: &Primitive, at: Place, m: &mut Machine<'p>) -> Result<
         (state_of m.new) }
     ensures kept { held m.new ≡ held m.old }
     ensures few { IfOk result (λ _. triangles_in (primitive p.now) ≤ triangle_limit) }
+    ensures steps { OnOk result (m.new.steps_left ≤ m.old.steps_left) }
 {
     count_triangles(triangles_of(p), at, m)
 }
@@ -103,6 +106,7 @@ pub(crate) fn leaf<'p>(
     requires { is_primitive (primitive p.now) ≡ true }
     ensures does { Does solid_of (leaf at (primitive p.now) whole.now (state_of m.old)) result (state_of m.new) }
     ensures kept { held m.new ≡ held m.old }
+    ensures steps { OnOk result (m.new.steps_left ≤ m.old.steps_left) }
 {
     count_leaf(at, m)?;
     count_primitive(p, at, m)?;

@@ -1,6 +1,6 @@
 //! The statements of a scope, and the tree of an operation over them.
 
-ghost use Rattle.std.specs.Prelude.{◌≡◌, List, true, drop, IfErr, IfSome, MatchOption};
+ghost use Rattle.std.specs.Prelude.{◌≡◌, ◌+◌, ◌-◌, List, true, drop, IfErr, IfSome, MatchOption};
 ghost use Rattle.scad_ast.specs.Scope.{item_of, items};
 ghost use Rattle.scad_tree.specs.Solid.{Solid};
 ghost use Rattle.scad_scope.specs.Env.{Env};
@@ -12,7 +12,7 @@ ghost use Rattle.scad_inst.specs.Frames.{below_of};
 ghost use Rattle.scad_inst.specs.Made.{judged};
 ghost use Rattle.scad_inst.specs.Meaning.{Below, member, members_from, combined};
 ghost use Rattle.scad_inst.specs.Operation.{operated};
-ghost use Rattle.scad_inst.specs.Stack.{Goes, Starts, Below_by, Rises_by, rest, made_in, goes_on, listed, onward};
+ghost use Rattle.scad_inst.specs.Stack.{Goes, Starts, Below_by, Rises_by, rank, rest, made_in, goes_on, listed, onward};
 ghost use Rattle.scad_inst.specs.declared.space.Where.{Where};
 ghost use Rattle.scad_inst.specs.View.{trees_in};
 
@@ -31,9 +31,9 @@ use scad_tree::Tree;
 
 /// A statement of a scope, with the number of the item behind it.
 #[derive(Clone, Copy)]
-struct StatementAt<'p> {
-    item: &'p Item,
-    next: usize,
+pub(crate) struct StatementAt<'p> {
+    pub(crate) item: &'p Item,
+    pub(crate) next: usize,
 }
 
 /// The first statement of a scope from a number on. What stands before it isn't run.
@@ -69,7 +69,7 @@ pub(crate) fn run_item<'p>(
         (along_in h) (item_of item.now) (made_in stack.old) s) (goes_on behind.entry (rest stack.old) h)
         → Starts o result stack.new h s }
     ensures memory { IfErr result (λ e. e ≡ Memory) }
-    ensures less { Rises_by 4 result stack.old stack.new }
+    ensures less { Rises_by (2 + (rank behind.entry - 3)) result stack.old stack.new }
 {
     stack.wait(behind)?;
     stack.push(Frame::Member(is_marked(item)))?;

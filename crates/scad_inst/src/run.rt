@@ -5,7 +5,7 @@ ghost use Rattle.scad_tree.specs.Normal.{united};
 ghost use Rattle.scad_tree.specs.View.{solid_of};
 ghost use Rattle.scad_expr.specs.Answers.{Does};
 ghost use Rattle.scad_expr.specs.Machine.{held, state_of};
-ghost use Rattle.scad_inst.specs.Stack.{Goes, Ends, rest, made_in, goes_on, onto};
+ghost use Rattle.scad_inst.specs.Stack.{Goes, Ends, Below_by, Less, rest, made_in, goes_on, onto, size};
 
 use crate::children::children_by;
 use crate::frames::go_back;
@@ -34,8 +34,9 @@ fn given<'p>(
     stack: &mut Stack<'p>,
     m: &mut Machine<'p>,
 ) -> Result<Focus<'p>, EvalFault>
-    ensures { Goes (onto frame.entry (rest stack.old) (held m.old) (made_in stack.old) (solid_of tree)
+    ensures goes { Goes (onto frame.entry (rest stack.old) (held m.old) (made_in stack.old) (solid_of tree)
         (state_of m.old)) result stack.new m.new }
+    ensures less { Below_by 5 result stack.old m.old stack.new m.new }
 {
     match frame {
         Frame::Mark(marked, depth) => {
@@ -46,7 +47,7 @@ fn given<'p>(
             stack.add(marked, tree)?;
             Ok(Focus::Given(Tree::empty()))
         }
-        Frame::Then(behind) => Ok(behind),
+        Frame::Then(behind) => Ok(Box::into_inner(behind)),
         Frame::Combine(operation, at, outer) => made_of(operation, at, outer, stack, m),
         Frame::Leave(back) => {
             m.leave(back);
@@ -70,8 +71,9 @@ fn turn<'p>(
     stack: &mut Stack<'p>,
     m: &mut Machine<'p>,
 ) -> Result<Next<'p>, EvalFault>
-    ensures { Ends (goes_on focus.entry (rest stack.old) (held m.old) (made_in stack.old) (state_of m.old)) result
+    ensures goes { Ends (goes_on focus.entry (rest stack.old) (held m.old) (made_in stack.old) (state_of m.old)) result
         stack.new m.new }
+    ensures less { Less (size focus.entry stack.old m.old) result stack.new m.new }
 {
     match focus {
         Focus::Statement(item, w) => Ok(Next::More(statement(item, &w, stack, m)?)),
@@ -86,8 +88,7 @@ fn turn<'p>(
     }
 }
 
-/// The tree of a program, by turns. A program takes at most 5,000,000 steps, and the turns past those of its steps
-/// are one for each item, argument or value that is passed over: the loop counts far beyond them.
+/// The tree of a program, by turns.
 pub(crate) fn run<'p>(
     first: Focus<'p>,
     stack: &mut Stack<'p>,
@@ -97,11 +98,10 @@ pub(crate) fn run<'p>(
         result (state_of m.new) }
 {
     let mut focus = first;
-    'turns: for _turn in 0..u64::MAX {
+    'turns: loop {
         match turn(focus, stack, m)? {
             Next::More(next) => focus = next,
             Next::End(tree) => return Ok(tree),
         }
     }
-    Err(EvalFault::Memory)
 }

@@ -1,6 +1,6 @@
 //! The frames of scopes, with the names that their assignments give.
 
-ghost use Rattle.std.specs.Prelude.{◌≡◌, ◌∷◌, [], Some, IfOk, OnOk};
+ghost use Rattle.std.specs.Prelude.{◌≡◌, ◌≤◌, ◌∷◌, [], Some, IfOk, OnOk};
 ghost use Rattle.scad_ast.specs.Scope.{item_of, items};
 ghost use Rattle.scad_ast.specs.View.{expression_of};
 ghost use Rattle.scad_value.specs.View.{datum_of};
@@ -33,6 +33,7 @@ fn assignment<'p>(
     ensures does { Does datum_of ((below_of (held m.old)).assignment (env_in (held m.old)) (along_in (held m.old)) at
         (expression_of value.now) (state_of m.old)) result (state_of m.new) }
     ensures kept { OnOk result (held m.new ≡ held m.old) }
+    ensures steps { OnOk result (m.new.steps_left ≤ m.old.steps_left) }
 {
     let depth = depth(m);
     if depth == 0 {
@@ -56,6 +57,7 @@ fn assigned_value<'p>(
     ensures does { Does datum_of (assigned_value (below_of (held m.old)) (env_in (held m.old)) (along_in (held m.old))
         (item_at (items scope.now.items) place) (state_of m.old)) result (state_of m.new) }
     ensures kept { OnOk result (held m.new ≡ held m.old) }
+    ensures steps { OnOk result (m.new.steps_left ≤ m.old.steps_left) }
 {
     if place >= scope.len() {
         return Ok(Value::Undef);
@@ -68,6 +70,7 @@ fn value_of<'p>(alloc: Global, item: &'p Item, m: &mut Machine<'p>) -> Result<Va
     ensures does { Does datum_of (assigned_value (below_of (held m.old)) (env_in (held m.old)) (along_in (held m.old))
         (Some (item_of item.now)) (state_of m.old)) result (state_of m.new) }
     ensures kept { OnOk result (held m.new ≡ held m.old) }
+    ensures steps { OnOk result (m.new.steps_left ≤ m.old.steps_left) }
 {
     match item {
         Item::Assign(_, value, at) => assignment(alloc, *at, value, m),
@@ -93,6 +96,7 @@ fn assign_one<'p>(
         (binding.now ∷ []) (bound_in (held m.old)) (state_of m.old)) result (state_of m.new) }
     ensures scope { OnOk result (IsScope (items scope.now.items) home back (held m.new)) }
     ensures left { OnOk result (left back (held m.new) ≡ left back (held m.old)) }
+    ensures steps { OnOk result (m.new.steps_left ≤ m.old.steps_left) }
 {
     let value = assigned_value(alloc, scope, binding.item, m)?;
     m.set(binding.name.as_slice(), value)
@@ -114,6 +118,7 @@ fn assign<'p>(
         all.now (bound_in (held m.old)) (state_of m.old)) result (state_of m.new) }
     ensures scope { OnOk result (IsScope (items scope.now.items) home back (held m.new)) }
     ensures left { OnOk result (left back (held m.new) ≡ left back (held m.old)) }
+    ensures steps { OnOk result (m.new.steps_left ≤ m.old.steps_left) }
 {
     'names: for binding in all {
         assign_one(alloc, scope, home, back, binding, m)?;
@@ -134,6 +139,7 @@ pub(crate) fn open_scope<'p>(
         (env_at (envs (held m.old).frames) home) (along_in (held m.old)) (state_of m.old)) result (state_of m.new) }
     ensures back { IfOk result (λ back. left back (held m.new) ≡ held m.old) }
     ensures depth { OnOk result ((held m.new).depth ≡ (held m.old).depth) }
+    ensures steps { OnOk result (m.new.steps_left ≤ m.old.steps_left) }
 {
     let all = bindings(alloc, scope)?;
     let back = open_frames(home, scope, m)?;

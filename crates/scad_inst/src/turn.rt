@@ -1,6 +1,6 @@
 //! `for`, `intersection_for` and `let`.
 
-ghost use Rattle.std.specs.Prelude.{◌≡◌, ◌∷◌, List, Some, drop, option_map};
+ghost use Rattle.std.specs.Prelude.{◌≡◌, ◌∷◌, List, Some, drop};
 ghost use Rattle.scad_ast.specs.Scope.{items};
 ghost use Rattle.scad_ast.specs.Tree.{Items};
 ghost use Rattle.scad_ast.specs.Tree.{no_arguments, argument};
@@ -13,7 +13,7 @@ ghost use Rattle.scad_scope.specs.Env.{Env};
 ghost use Rattle.scad_fault.specs.declared.place.Place.{Place};
 ghost use Rattle.scad_inst.specs.Frames.{below_of};
 ghost use Rattle.scad_inst.specs.Meaning.{Below, for_variables, let_in, looped, turns};
-ghost use Rattle.scad_inst.specs.Passed.{from_named, named_at};
+ghost use Rattle.scad_inst.specs.Passed.{from_named};
 ghost use Rattle.scad_inst.specs.declared.space.Where.{Where};
 ghost use Rattle.scad_inst.specs.Stack.{Goes, Below_by, made_in, left_in, onward, onward_listed};
 
@@ -72,10 +72,10 @@ pub(crate) fn let_in<'p>(
 
 /// A variable as an argument gives it: its name, its expression, and the number of the argument behind it.
 #[derive(Clone, Copy)]
-struct NamedAt<'p> {
-    name: &'p [u8],
-    value: &'p Expr,
-    next: usize,
+pub(crate) struct NamedAt<'p> {
+    pub(crate) name: &'p [u8],
+    pub(crate) value: &'p Expr,
+    pub(crate) next: usize,
 }
 
 /// The first argument with a name from a number on. Those before it are passed over.
@@ -83,7 +83,7 @@ struct NamedAt<'p> {
 fn first_named<'p>(args: &'p Args, from: usize) -> Option<NamedAt<'p>>
     ensures { (below : Below) (at : Place) (w : Where) (all : Items) (env along : Env) (ss : List Solid) (s : State)
         → for_variables below at w (arguments (drop from args.now.items)) all env along ss s
-        ≡ for_variables below at w (from_named args.now.items (option_map named_at result)) all env along ss s }
+        ≡ for_variables below at w (from_named args.now.items result) all env along ss s }
 {
     let mut next = from;
     'arguments: while next < args.len() {

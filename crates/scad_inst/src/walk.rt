@@ -1,6 +1,6 @@
 //! Statements.
 
-ghost use Rattle.std.specs.Prelude.{◌≡◌, Bool, if◌then◌else◌};
+ghost use Rattle.std.specs.Prelude.{◌≡◌, ◌+◌, ◌*◌, ◌<◌, Bool, if◌then◌else◌, IfOk};
 ghost use Rattle.scad_ast.specs.Scope.{item_of, body_of, items};
 ghost use Rattle.scad_ast.specs.Tree.{choice};
 ghost use Rattle.scad_ast.specs.View.{expression_of};
@@ -10,7 +10,7 @@ ghost use Rattle.scad_expr.specs.Machine.{held, env_in, along_in, state_of};
 ghost use Rattle.scad_expr.specs.State.{Outcome};
 ghost use Rattle.scad_inst.specs.Frames.{below_of};
 ghost use Rattle.scad_inst.specs.Meaning.{node};
-ghost use Rattle.scad_inst.specs.Stack.{Goes, onward};
+ghost use Rattle.scad_inst.specs.Stack.{Goes, Below_by, load, size, onward};
 
 use crate::call::call;
 use crate::frames::{depth, go_deeper};
@@ -37,8 +37,9 @@ pub(crate) fn statement<'p>(
     stack: &mut Stack<'p>,
     m: &mut Machine<'p>,
 ) -> Result<Focus<'p>, EvalFault>
-    ensures { Goes (onward ((below_of (held m.old)).statement w.now (env_in (held m.old)) (along_in
+    ensures goes { Goes (onward ((below_of (held m.old)).statement w.now (env_in (held m.old)) (along_in
         (held m.old)) (item_of item.now) (state_of m.old)) stack.old m.old) result stack.new m.new }
+    ensures less { IfOk result (λ f. size f stack.new m.new < load stack.old + 20 * m.old.steps_left) }
 {
     let at = item_place(item);
     let depth = depth(m);
@@ -66,9 +67,10 @@ fn node<'p>(
     stack: &mut Stack<'p>,
     m: &mut Machine<'p>,
 ) -> Result<Focus<'p>, EvalFault>
-    ensures { (o : Outcome Solid) → o ≡ onward (node (below_of (held m.old)) w.now (env_in (held
+    ensures goes { (o : Outcome Solid) → o ≡ onward (node (below_of (held m.old)) w.now (env_in (held
         m.old)) (along_in (held m.old)) (item_of item.now) (state_of m.old)) stack.old m.old → Goes
         o result stack.new m.new }
+    ensures less { Below_by 14 result stack.old m.old stack.new m.new }
 {
     match item {
         Item::Run(stmt) => run(stmt, w, stack, m),
@@ -85,9 +87,10 @@ fn run<'p>(
     stack: &mut Stack<'p>,
     m: &mut Machine<'p>,
 ) -> Result<Focus<'p>, EvalFault>
-    ensures { (o : Outcome Solid) → o ≡ onward (node (below_of (held m.old)) w.now (env_in (held
+    ensures goes { (o : Outcome Solid) → o ≡ onward (node (below_of (held m.old)) w.now (env_in (held
         m.old)) (along_in (held m.old)) (body_of stmt.now.at stmt.now.percent stmt.now.hash
         stmt.now.body) (state_of m.old)) stack.old m.old → Goes o result stack.new m.new }
+    ensures less { Below_by 14 result stack.old m.old stack.new m.new }
 {
     match &stmt.body {
         StmtBody::Call(name, args, all) => {
@@ -139,11 +142,12 @@ fn choose<'p>(
     stack: &mut Stack<'p>,
     m: &mut Machine<'p>,
 ) -> Result<Focus<'p>, EvalFault>
-    ensures { (percent hash : Bool) (o : Outcome Solid) → o ≡ onward (node (below_of (held m.old))
+    ensures goes { (percent hash : Bool) (o : Outcome Solid) → o ≡ onward (node (below_of (held m.old))
         w.now (env_in (held m.old)) (along_in (held m.old)) (choice branch.entry.at percent hash
         (expression_of branch.entry.test.now) (items branch.entry.held.now.items) (items
         branch.entry.other.now.items)) (state_of m.old)) stack.old m.old → Goes o result stack.new
         m.new }
+    ensures less { Below_by 9 result stack.old m.old stack.new m.new }
 {
     let d = eval(stack.alloc, branch.test, m)?;
     if truth(&d) {

@@ -20,14 +20,14 @@ use Rattle.scad_inst.specs.Where.{inside_linear}
 use Rattle.scad_inst.proofs.Heights.{height-stops, height-goes}
 use Rattle.scad_inst.proofs.built_in.linear_extrude.Goals as goal
 
-pub returns : goal.returns
+pub returns-clause-goes : goal.returns-clause-goes
 unfolding built_in
-returns c =
+returns-clause-goes c =
     let s = state_of c.args.m.now in
     let said : c.linear_by.result ≡ linear_by (arguments c.args.call.args.now.items) (data_of c.args.found.now) =
     c.linear_by.ensures ∙ ap (λ (l : List Arg). linear_by (arguments l) (data_of c.args.found.now))
     c.deref.ensures.value in
-    λ o is. c.combined.ensures o (is ∙ ap (λ (x : Outcome Solid). onward x c.args.stack.now c.args.m.now)
+    λ o is. c.combined.ensures.goes o (is ∙ ap (λ (x : Outcome Solid). onward x c.args.stack.now c.args.m.now)
     (height-goes c.args.call.at c.args.w.now.space (argued c.args.call.at c.args.call.name.now
     (linear_by (arguments c.args.call.args.now.items) (data_of c.args.found.now)))
     (λ (h : ℤ × Bool). combined (below_of (held c.args.m.now)) Unite c.args.call.at
@@ -39,9 +39,9 @@ returns c =
     (items c.args.call.all.now.items) (env_in (held c.args.m.now)) (along_in (held c.args.m.now)) s)
     (sym c.inside_linear-inner.ensures)))
 
-pub returns-in_err-height : goal.returns-in_err-height
+pub returns-in_err-height-clause-goes : goal.returns-in_err-height-clause-goes
 unfolding built_in
-returns-in_err-height c =
+returns-in_err-height-clause-goes c =
     let s = state_of c.args.m.now in
     let said : c.linear_by.result ≡ linear_by (arguments c.args.call.args.now.items) (data_of c.args.found.now) =
     c.linear_by.ensures ∙ ap (λ (l : List Arg). linear_by (arguments l) (data_of c.args.found.now))

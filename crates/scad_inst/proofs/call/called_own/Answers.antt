@@ -12,9 +12,9 @@ use Rattle.scad_inst.specs.View.{found_at}
 use Rattle.scad_inst.proofs.Onward.{own-begins}
 use Rattle.scad_inst.proofs.call.called_own.Goals as goal
 
-pub returns : goal.returns
-returns c = λ o is.
-    c.combined.ensures o (is ∙ own-begins c.args.call.at c.args.w.now
+pub returns-clause-goes : goal.returns-clause-goes
+returns-clause-goes c = λ o is.
+    c.combined.ensures.goes o (is ∙ own-begins c.args.call.at c.args.w.now
     (found_at (envs (held c.args.m.now).frames) c.args.own) (arguments c.args.call.args.now.items)
     (data_in c.in_ok-found.found) (items c.args.call.all.now.items) c.in_ok-back.back (held c.args.m.now)
     (held c.values.new.machine) (held c.open_own.new.m) (rest c.args.stack.now) (rest c.push.new.self)

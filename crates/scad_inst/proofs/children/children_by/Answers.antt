@@ -1,20 +1,19 @@
--- The child that the next value names, or none is left.
-use Rattle.std.proofs.Common.{sym, ap, ◌∙◌}
-use Rattle.scad_ast.specs.Scope.{items}
-use Rattle.scad_tree.specs.Solid.{Solid}
-use Rattle.scad_inst.specs.Stack.{rest, made_in, left_in, goes_on}
-use Rattle.scad_inst.proofs.Onward.{children-next, children-end}
+-- The first child that is run, or none is left.
+use Rattle.scad_expr.specs.Machine.{env_in, along_in}
+use Rattle.scad_inst.specs.Frames.{below_of}
+use Rattle.scad_inst.specs.Stack.{rest, made_in, goes_on}
+use Rattle.scad_inst.proofs.Onward.{children-behind, list-given}
 use Rattle.scad_inst.proofs.children.children_by.Goals as goal
 
 pub returns-in-Some-clause-goes : goal.returns-in-Some-clause-goes
 returns-in-Some-clause-goes c = λ h s.
-    let e = c.in-Some.ensures in
-    c.child.ensures.goes h s _ (children-next h c.args.w.now (items c.args.scope.now.items) (left_in c.args.more)
-    (rest c.args.stack.now) (made_in c.args.stack.now) s e.0 _ (left_in c.in-Some.others) e.1 e.2)
+    c.run_item.ensures.goes h s _ (children-behind h c.args.w.now (rest c.args.stack.now) (made_in c.args.stack.now) s
+    c.args.scope c.args.more c.in-Some.others c.in-Some.item.now
+    (c.in-Some.ensures.passed (below_of h) c.args.w.now (env_in h) (along_in h) (made_in c.args.stack.now) s))
 
 pub returns-in-None-clause-goes : goal.returns-in-None-clause-goes
 unfolding goes_on
 returns-in-None-clause-goes c = λ h s.
-    children-end h c.args.w.now (items c.args.scope.now.items) (left_in c.args.more) (rest c.args.stack.now)
-    (made_in c.args.stack.now) s c.in-None.ensures
-    ∙ ap (λ (t : Solid). rest c.args.stack.now h (made_in c.args.stack.now) t s) (sym c.empty.ensures)
+    list-given h c.args.w.now (rest c.args.stack.now) (made_in c.args.stack.now) s _ _
+    (c.in-None.ensures.passed (below_of h) c.args.w.now (env_in h) (along_in h) (made_in c.args.stack.now) s)
+    c.empty.ensures

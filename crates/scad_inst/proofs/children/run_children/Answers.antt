@@ -15,8 +15,8 @@ pub chosen-requires : goal.chosen-requires
 chosen-requires c = c.in_ok-push-2.ensures.made ∙ c.in_ok-push.ensures.made ∙ c.exchange-outer.ensures.made
     ∙ ap solids c.new.ensures.items
 
-pub returns : goal.returns
-returns c = λ o is.
+pub returns-clause-goes : goal.returns-clause-goes
+returns-clause-goes c = λ o is.
     is ∙ children-begin c.args.at c.args.w.now (items c.args.kept.scope.now.items)
     (env_at (envs (held c.args.m.now).frames) c.args.kept.home) (datum_in c.args.which) c.exchange-outer.result
     c.in_ok-back.back (held c.args.m.now) (held c.open_scope.new.m) (rest c.args.stack.now) (rest c.push-2.new.self)

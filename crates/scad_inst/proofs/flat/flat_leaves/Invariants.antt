@@ -1,4 +1,4 @@
-use Rattle.std.proofs.Common.{◌≡◌, [], drop}
+use Rattle.std.proofs.Common.{◌≡◌, ◌≤◌, [], drop}
 use Rattle.scad_modules.specs.View.{outlines}
 use Rattle.scad_expr.specs.Machine.{held, state_of}
 use Rattle.scad_inst.specs.FlatLeaves.{flat_leaves}
@@ -11,4 +11,5 @@ invariant-outlines l = record {
   left : flat_leaves l.at l.name l.w (outlines (drop l.shape-index l.shapes)) (trees_in l.so_far) (state_of l.m)
       ≡ flat_leaves l.at l.name l.w (outlines l.shapes) [] (state_of l.fn.m);
   kept : held l.m ≡ held l.fn.m;
+  steps : l.m.steps_left ≤ l.fn.m.steps_left;
 }

@@ -1,4 +1,4 @@
-use Rattle.std.proofs.Common.{◌≡◌, drop}
+use Rattle.std.proofs.Common.{◌≡◌, ◌≤◌, drop}
 use Rattle.scad_ast.specs.View.{arguments}
 use Rattle.scad_expr.specs.Machine.{held, state_of}
 use Rattle.scad_expr.specs.Opened.{bound_in, outer, IsInner}
@@ -14,4 +14,5 @@ invariant-arguments l = record {
   inner : IsInner (held l.m);
   outer : outer (held l.m) ≡ outer (held l.fn.m);
   same : state_of l.m ≡ state_of l.fn.m;
+  steps : l.m.steps_left ≤ l.fn.m.steps_left;
 }

@@ -11,8 +11,8 @@ use Rattle.scad_inst.specs.Stack.{rest, made_in, onto}
 use Rattle.scad_inst.proofs.Onward.{scope-begins}
 use Rattle.scad_inst.proofs.members.combined.Goals as goal
 
-pub returns : goal.returns
-returns c = λ o is.
+pub returns-clause-goes : goal.returns-clause-goes
+returns-clause-goes c = λ o is.
     is ∙ scope-begins c.args.operation c.args.at c.args.w.now c.args.scope c.exchange-outer.result c.in_ok-back.back
     (held c.args.m.now) (held c.open_scope.new.m) (rest c.args.stack.now) (rest c.push-2.new.self)
     (made_in c.args.stack.now) (made_in c.push-2.new.self) (state_of c.args.m.now) (state_of c.open_scope.new.m)

@@ -1,17 +1,19 @@
--- The item of a number in a scope, or none is left.
-use Rattle.std.proofs.Common.{sym, ap, ◌∙◌, arith}
-use Rattle.scad_tree.specs.Solid.{Solid}
+-- The first statement that is left, or none is.
+use Rattle.scad_expr.specs.Machine.{env_in, along_in}
+use Rattle.scad_inst.specs.Frames.{below_of}
 use Rattle.scad_inst.specs.Stack.{rest, made_in, goes_on}
-use Rattle.scad_inst.proofs.Onward.{members-next, members-end}
+use Rattle.scad_inst.proofs.Onward.{members-behind, list-given}
 use Rattle.scad_inst.proofs.members.members.Goals as goal
 
-pub returns-clause-goes : goal.returns-clause-goes
-returns-clause-goes c = λ h s.
-    c.member.ensures.goes h s _ (members-next h c.args.w.now c.args.scope c.args.next (rest c.args.stack.now)
-    (made_in c.args.stack.now) s c.index.result.now (omega arith) c.index.ensures)
+pub returns-in-Some-clause-goes : goal.returns-in-Some-clause-goes
+returns-in-Some-clause-goes c = λ h s.
+    c.run_item.ensures.goes h s _ (members-behind h c.args.w.now (rest c.args.stack.now)
+    (made_in c.args.stack.now) s c.args.scope c.args.next c.in-Some.first.next c.in-Some.first.item.now
+    (c.in-Some.ensures.passed (below_of h) c.args.w.now (env_in h) (along_in h) (made_in c.args.stack.now) s))
 
-pub returns-then-next-len-clause-goes : goal.returns-then-next-len-clause-goes
+pub returns-in-None-clause-goes : goal.returns-in-None-clause-goes
 unfolding goes_on
-returns-then-next-len-clause-goes c = λ h s.
-    members-end h c.args.w.now c.args.scope c.args.next (rest c.args.stack.now) (made_in c.args.stack.now) s
-    (omega arith) ∙ ap (λ (t : Solid). rest c.args.stack.now h (made_in c.args.stack.now) t s) (sym c.empty.ensures)
+returns-in-None-clause-goes c = λ h s.
+    list-given h c.args.w.now (rest c.args.stack.now) (made_in c.args.stack.now) s _ _
+    (c.in-None.ensures.passed (below_of h) c.args.w.now (env_in h) (along_in h) (made_in c.args.stack.now) s)
+    c.empty.ensures

@@ -9,6 +9,6 @@ pub returns-clause-goes : goal.returns-clause-goes
 unfolding goes_on
 returns-clause-goes c = λ h s o is.
     is ∙ item-runs h c.args.w.now c.args.item.now c.args.behind (rest c.args.stack.now) (made_in c.args.stack.now) s
-    c.is_marked.result (rest c.push-2.new.self) (made_in c.push-2.new.self) c.requires c.is_marked.ensures
-    (c.in_ok-push-2.ensures.rest ∙ ap (onto (Member c.is_marked.result)) c.in_ok-push.ensures.rest)
-    (c.in_ok-push-2.ensures.made ∙ c.in_ok-push.ensures.made)
+    c.is_marked.result (rest c.push.new.self) (made_in c.push.new.self) c.requires c.is_marked.ensures
+    (c.in_ok-push.ensures.rest ∙ ap (onto (Member c.is_marked.result)) c.in_ok-wait.ensures.rest)
+    (c.in_ok-push.ensures.made ∙ c.in_ok-wait.ensures.made)

@@ -1,4 +1,4 @@
-use Rattle.std.proofs.Common.{◌≡◌, drop}
+use Rattle.std.proofs.Common.{◌≡◌, ◌≤◌, drop}
 use Rattle.scad_ast.specs.Scope.{items}
 use Rattle.scad_scope.specs.Stored.{env_at, envs}
 use Rattle.scad_expr.specs.Machine.{held, along_in, state_of}
@@ -17,4 +17,5 @@ invariant-names l = record {
       (along_in (left l.back (held l.fn.m))) l.all (bound_in (held l.fn.m)) (state_of l.fn.m);
   scope : IsScope (items l.scope.items) l.home l.back (held l.m);
   left : left l.back (held l.m) ≡ left l.back (held l.fn.m);
+  steps : l.m.steps_left ≤ l.fn.m.steps_left;
 }

@@ -5,8 +5,8 @@ use Rattle.scad_inst.specs.Stack.{rest, made_in}
 use Rattle.scad_inst.proofs.Onward.{variables-end}
 use Rattle.scad_inst.proofs.turn.innermost.Goals as goal
 
-pub returns : goal.returns
-returns c = λ o is.
-    c.combined.ensures o (is ∙ variables-end c.args.call c.args.w.now (rest c.args.stack.now)
+pub returns-clause-goes : goal.returns-clause-goes
+returns-clause-goes c = λ o is.
+    c.combined.ensures.goes o (is ∙ variables-end c.args.call c.args.w.now (rest c.args.stack.now)
     (made_in c.args.stack.now) (state_of c.args.m.now) (held c.args.m.now) (rest c.push.new.self)
     (made_in c.push.new.self) c.in_ok-push.ensures.rest c.in_ok-push.ensures.made)

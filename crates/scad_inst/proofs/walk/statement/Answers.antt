@@ -9,9 +9,9 @@ use Rattle.scad_inst.specs.Stack.{rest, made_in}
 use Rattle.scad_inst.proofs.Onward.{statement-begins, statement-stops}
 use Rattle.scad_inst.proofs.walk.statement.Goals as goal
 
-pub returns : goal.returns
-returns c =
-    c.node.ensures _ (statement-begins c.is_marked.result c.depth-depth.result c.args.w.now
+pub returns-clause-goes : goal.returns-clause-goes
+returns-clause-goes c =
+    c.node.ensures.goes _ (statement-begins c.is_marked.result c.depth-depth.result c.args.w.now
     (item_of c.args.item.now) (held c.args.m.now) (held c.go_deeper.new.m) (held c.step.new.self)
     (rest c.args.stack.now) (rest c.push.new.self) (made_in c.args.stack.now) (made_in c.push.new.self)
     (state_of c.args.m.now) (state_of c.go_deeper.new.m) (state_of c.step.new.self)
@@ -20,8 +20,8 @@ returns c =
     ∙ c.in_ok-step.ensures.does) c.in_ok-step.ensures.kept c.is_marked.ensures c.depth-depth.ensures
     c.in_ok-push.ensures.rest c.in_ok-push.ensures.made)
 
-pub returns-in_err-step : goal.returns-in_err-step
-returns-in_err-step c =
+pub returns-in_err-step-clause-goes : goal.returns-in_err-step-clause-goes
+returns-in_err-step-clause-goes c =
     let p = err_from_is_err_and c.from_residual.result c.from_residual.ensures.1 in
     rw (p.1, p.2) (λ some. statement-stops c.args.w.now (item_of c.args.item.now) (held c.args.m.now)
     (state_of c.args.m.now) (state_of c.go_deeper.new.m) (state_of c.step.new.self) _
