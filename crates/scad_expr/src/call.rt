@@ -15,10 +15,9 @@ ghost use Rattle.scad_expr.specs.Variables.{within};
 
 use crate::fault::EvalFault;
 use crate::machine::Machine;
-use crate::opening::Call;
+use crate::opening::{Call, Invocation};
 use crate::run::eval_at;
 use scad_ast::{Arg, Args, Param, Params};
-use scad_scope::Kept;
 use scad_value::Value;
 use std::alloc::Global;
 
@@ -38,7 +37,7 @@ pub fn values<'p>(
     values_at(alloc, args, depth, machine)
 }
 
-/// Opens the frames of a call of a function or module whose definition stands in the frame `home`: the
+/// Opens the frames of a call of a function or module whose definition stands in the frame `by.home`: the
 /// last frame of `frames`, from which names are then sought, and the last of `along`. Arguments with
 /// their values go to the parameters, missing ones take their defaults, and where child statements are
 /// kept `$children` is their number.
@@ -46,23 +45,22 @@ pub fn bind<'p>(
     alloc: Global,
     params: &'p Params,
     args: &'p Args,
-    values: Vec<Value>,
-    home: u32,
-    kept: Option<Kept<'p>>,
+    by: Invocation<'p>,
     machine: &mut Machine<'p>,
 ) -> Result<(), EvalFault>
-    requires { home < length (held machine.old).frames }
+    requires { by.home < length (held machine.old).frames }
     ensures does { Does (λ _. opened_in (held machine.new)) (bind (held machine.old).depth
-        (env_at (envs (held machine.old).frames) home) (along_in (held machine.old))
-        (map parameter params.now.items) (arguments args.now.items) (data_in values)
-        (children_in (envs (held machine.old).frames) (option_map children_stored kept.entry))
+        (env_at (envs (held machine.old).frames) by.entry.home) (along_in (held machine.old))
+        (map parameter params.now.items) (arguments args.now.items) (data_in by.entry.values)
+        (children_in (envs (held machine.old).frames) (option_map children_stored by.entry.kept))
         (state_of machine.old)) result (state_of machine.new) }
-    ensures opened { OnOk result (held machine.new ≡ opened (option_map children_stored kept.entry)
-        (length (held machine.old).frames) home (bound_in (held machine.new)) (held machine.old)) }
+    ensures opened { OnOk result (held machine.new ≡ opened (option_map children_stored by.entry.kept)
+        (length (held machine.old).frames) by.entry.home (bound_in (held machine.new)) (held machine.old)) }
     ensures steps { OnOk result (machine.new.steps_left ≤ machine.old.steps_left) }
 {
     let depth = machine.depth();
-    let _back = bind_at(alloc, params, args, values, home, kept, depth, machine)?;
+    let kept = by.kept;
+    let _back = bind_at(alloc, params, args, by, depth, machine)?;
     machine.count_children(kept)?;
     Ok(())
 }
@@ -92,22 +90,20 @@ fn bind_at<'p>(
     alloc: Global,
     params: &'p [Param],
     args: &'p [Arg],
-    found: Vec<Value>,
-    home: u32,
-    kept: Option<Kept<'p>>,
+    by: Invocation<'p>,
     depth: u32,
     m: &mut Machine<'p>,
 ) -> Result<u32, EvalFault>
-    requires { home < length (held m.old).frames }
+    requires { by.home < length (held m.old).frames }
     ensures does { Does (λ _. bound_in (held m.new)) (bound (meaning depth)
-        (env_at (envs (held m.old).frames) home) (along_in (held m.old))
-        (map parameter params.now) (arguments args.now) (data_in found)
+        (env_at (envs (held m.old).frames) by.entry.home) (along_in (held m.old))
+        (map parameter params.now) (arguments args.now) (data_in by.entry.values)
         (state_of m.old)) result (state_of m.new) }
-    ensures opened { OnOk result (held m.new ≡ opened (option_map children_stored kept.entry)
-        (length (held m.old).frames) home (bound_in (held m.new)) (held m.old)) }
+    ensures opened { OnOk result (held m.new ≡ opened (option_map children_stored by.entry.kept)
+        (length (held m.old).frames) by.entry.home (bound_in (held m.new)) (held m.old)) }
     ensures env { OnOk result (env_in (held m.new) ≡ inside (frame (bound_in (held m.new)).names None
-        (children_in (envs (held m.old).frames) (option_map children_stored kept.entry)))
-        (env_at (envs (held m.old).frames) home)) }
+        (children_in (envs (held m.old).frames) (option_map children_stored by.entry.kept)))
+        (env_at (envs (held m.old).frames) by.entry.home)) }
     ensures along { OnOk result (along_in (held m.new)
         ≡ within (along_in (held m.old)) (bound_in (held m.new)).dollars) }
     ensures back { IfOk result (λ back. left back (held m.new) ≡ held m.old) }
@@ -117,7 +113,7 @@ fn bind_at<'p>(
         missing,
         inner,
         back,
-    } = m.call(alloc, params, args, found, home, kept)?;
+    } = m.call(alloc, params, args, by)?;
     'missing: for param in missing {
         let value = default_of(alloc, param, depth, m)?;
         m.set(param.name.as_slice(), value)?;

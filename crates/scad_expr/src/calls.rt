@@ -17,7 +17,7 @@ use crate::fault::EvalFault;
 use crate::frame::{Focus, Frame, Opening, Purpose, Supply, Written};
 use crate::functions::DefinedAt;
 use crate::machine::Machine;
-use crate::opening::Call;
+use crate::opening::{Call, Invocation};
 use crate::requirements::asserted;
 use crate::stack::Stack;
 use scad_ast::{Arg, Expr};
@@ -209,18 +209,16 @@ fn call_own<'p>(
         result stack.new m.new }
     ensures less { Below_by 4 result stack.old m.old stack.new m.new }
 {
+    let by = Invocation {
+        values: found,
+        home: own.home,
+        kept: None,
+    };
     let Call {
         missing,
         inner,
         back,
-    } = m.call(
-        stack.alloc(),
-        own.function.params,
-        args,
-        found,
-        own.home,
-        None,
-    )?;
+    } = m.call(stack.alloc(), own.function.params, args, by)?;
     let opening = Opening {
         missing,
         next: 0,

@@ -37,6 +37,7 @@ mod within;
 pub use call::{bind, values};
 pub use fault::EvalFault;
 pub use machine::{DEPTH_LIMIT, Machine, STEP_LIMIT};
+pub use opening::Invocation;
 pub use requirements::{asserted, judge_named, judge_variables};
 pub use sequence::{items_of, next_number};
 pub use walk::eval;

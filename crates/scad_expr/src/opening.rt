@@ -23,6 +23,15 @@ use scad_scope::{Frames, Kept};
 use scad_value::Value;
 use std::alloc::Global;
 
+/// A call of a function or module: the values of its arguments, the number of the frame where the definition
+/// stands, and child statements that are kept.
+#[derive(Drop)]
+pub struct Invocation<'p> {
+    pub values: Vec<Value>,
+    pub home: u32,
+    pub kept: Option<Kept<'p>>,
+}
+
 /// The frames of a call before its defaults: the parameters that take one, the number of its frame, and
 /// of that from which names were sought before.
 #[derive(Drop)]
@@ -114,22 +123,25 @@ impl<'p> Machine<'p> {
         alloc: Global,
         params: &'p [Param],
         args: &'p [Arg],
-        found: Vec<Value>,
-        home: u32,
-        kept: Option<Kept<'p>>,
+        by: Invocation<'p>,
     ) -> Result<Call<'p>, EvalFault>
         ensures does { Does nothing (done_at (state_of self.old)) result (state_of self.new) }
         ensures steps { OnOk result (self.new.steps_left ≡ self.old.steps_left) }
-        ensures held { OnOk result (held self.new ≡ opened (option_map children_stored kept.entry)
-            home home (set_all (given (parameter_names params.now) (arguments args.now)
-            (data_in found)) empty) (held self.old)) }
+        ensures held { OnOk result (held self.new ≡ opened (option_map children_stored by.entry.kept)
+            by.entry.home by.entry.home (set_all (given (parameter_names params.now) (arguments args.now)
+            (data_in by.entry.values)) empty) (held self.old)) }
         ensures missing { IfOk result (λ c. map (λ p. parameter p.now) c.missing.items
-            ≡ missing (given (parameter_names params.now) (arguments args.now) (data_in found))
+            ≡ missing (given (parameter_names params.now) (arguments args.now) (data_in by.entry.values))
             (map parameter params.now)) }
         ensures inner { IfOk result (λ c. c.inner ≡ length (held self.old).frames) }
         ensures back { IfOk result (λ c. c.back ≡ (held self.old).here) }
     {
-        let got = given(alloc, params, args, found)?;
+        let Invocation {
+            values,
+            home,
+            kept,
+        } = by;
+        let got = given(alloc, params, args, values)?;
         let missing = missing(alloc, params, &got)?;
         let back = self.enter(home, kept)?;
         self.set_all(got)?;

@@ -50,13 +50,12 @@ fn linear_leaf<'p>(
     alloc: Global,
     at: Place,
     shape: &Outline,
-    height: Num,
-    center: bool,
+    by: (Num, bool),
     whole: &Matrix,
     m: &mut Machine<'p>,
 ) -> Result<Tree, EvalFault>
     requires { is_outline (outline shape.now) ≡ true }
-    ensures does { Does solid_of (linear_leaf at (outline shape.now) height center whole.now (state_of m.old)) result
+    ensures does { Does solid_of (linear_leaf at (outline shape.now) by.0 by.1 whole.now (state_of m.old)) result
         (state_of m.new) }
     ensures kept { held m.new ≡ held m.old }
     ensures steps { OnOk result (m.new.steps_left ≤ m.old.steps_left) }
@@ -64,6 +63,7 @@ fn linear_leaf<'p>(
     count_leaf(at, m)?;
     count_prism(points_in(shape), at, m)?;
     let ring = ring_of(alloc, shape)?;
+    let (height, center) = by;
     placed(alloc, at, linear(alloc, &ring, height, center, whole))
 }
 
@@ -139,16 +139,16 @@ fn turned_leaf<'p>(
     at: Place,
     name: &[u8],
     shape: &Outline,
-    t: &Turning,
-    whole: &Matrix,
+    place: (&Turning, &Matrix),
     m: &mut Machine<'p>,
 ) -> Result<Tree, EvalFault>
     requires { is_outline (outline shape.now) ≡ true }
-    ensures does { Does solid_of (turned_leaf at name.now (outline shape.now) t.now whole.now (state_of m.old)) result
+    ensures does { Does solid_of (turned_leaf at name.now (outline shape.now) place.entry.0.now place.entry.1.now (state_of m.old)) result
         (state_of m.new) }
     ensures kept { held m.new ≡ held m.old }
     ensures steps { OnOk result (m.new.steps_left ≤ m.old.steps_left) }
 {
+    let (t, whole) = place;
     count_leaf(at, m)?;
     judge_points(at, points_in(shape))?;
     let ring = ring_of(alloc, shape)?;
@@ -176,9 +176,9 @@ fn leaf_in<'p>(
     match w.space {
         Space::Solid => Err(fault(alloc, FaultKind::MixedDimensions, at)),
         Space::Linear(height, center) => {
-            linear_leaf(alloc, at, shape, height, center, &w.whole, m)
+            linear_leaf(alloc, at, shape, (height, center), &w.whole, m)
         }
-        Space::Turned(t) => turned_leaf(alloc, at, name, shape, &t, &w.whole, m),
+        Space::Turned(t) => turned_leaf(alloc, at, name, shape, (&t, &w.whole), m),
     }
 }
 

@@ -18,7 +18,7 @@ ghost use Rattle.scad_inst.specs.View.{found_at};
 
 use crate::modules::DefinedAt;
 use scad_ast::{Arg, Args, Scope};
-use scad_expr::{EvalFault, Machine, bind, let_names};
+use scad_expr::{EvalFault, Invocation, Machine, bind, let_names};
 use scad_scope::Kept;
 use scad_value::{Value, copy};
 use std::alloc::Global;
@@ -131,7 +131,12 @@ pub(crate) fn open_own<'p>(
         scope: all,
         home: back,
     });
-    bind(alloc, own.module.params, args, found, own.home, kept, m)?;
+    let by = Invocation {
+        values: found,
+        home: own.home,
+        kept,
+    };
+    bind(alloc, own.module.params, args, by, m)?;
     Ok(back)
 }
 

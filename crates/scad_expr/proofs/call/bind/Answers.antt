@@ -14,15 +14,15 @@ use Rattle.scad_expr.proofs.call.bind.Goals as goal
 pub returns-clause-does : goal.returns-clause-does
 returns-clause-does c =
     let o = held c.args.machine.now in
-    bind-gives (option_map children_stored c.args.kept) c.args.home (held c.bind_at.new.m)
+    bind-gives (option_map children_stored c.args.by.kept) c.args.by.home (held c.bind_at.new.m)
     (held c.count_children.new.self) o
     c.in_ok-_back.ensures.opened c.in_ok-count_children.ensures.held o.depth (map parameter c.args.params.now.items)
-    (arguments c.args.args.now.items) (data_in c.args.values) (state_of c.args.machine.now) (state_of c.bind_at.new.m)
+    (arguments c.args.args.now.items) (data_in c.args.by.values) (state_of c.args.machine.now) (state_of c.bind_at.new.m)
     (state_of c.count_children.new.self)
-    (bound-same o.depth c.depth-depth.result (env_at (envs o.frames) c.args.home) (along_in o)
+    (bound-same o.depth c.depth-depth.result (env_at (envs o.frames) c.args.by.home) (along_in o)
     (map parameter c.args.params.now.items) (map parameter c.deref.result.now) (arguments c.args.args.now.items)
     (arguments c.deref-2.result.now)
-    (data_in c.args.values) (state_of c.args.machine.now) c.depth-depth.ensures
+    (data_in c.args.by.values) (state_of c.args.machine.now) c.depth-depth.ensures
     (ap (λ (l : List Param). map parameter l) c.deref.ensures.value)
     (ap (λ (l : List Arg). arguments l) c.deref-2.ensures.value)
     ∙ c.in_ok-_back.ensures.does)
@@ -30,6 +30,6 @@ returns-clause-does c =
 
 pub returns-clause-opened : goal.returns-clause-opened
 returns-clause-opened c =
-    bind-opened (option_map children_stored c.args.kept) c.args.home (held c.bind_at.new.m)
+    bind-opened (option_map children_stored c.args.by.kept) c.args.by.home (held c.bind_at.new.m)
     (held c.count_children.new.self)
     (held c.args.machine.now) c.in_ok-_back.ensures.opened c.in_ok-count_children.ensures.held

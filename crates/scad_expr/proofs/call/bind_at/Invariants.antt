@@ -13,9 +13,9 @@ use Rattle.scad_expr.proofs.call.bind_at.Given as goal
 
 abbrev pub invariant-missing : goal.invariant-missing
 invariant-missing l =
-    (defaulted (meaning l.depth) (env_at (envs (held l.fn.m).frames) l.home) (along_in (held l.fn.m))
+    (defaulted (meaning l.depth) (env_at (envs (held l.fn.m).frames) l.fn.by.home) (along_in (held l.fn.m))
     (map (λ p. parameter p.now) (into_iter_items l.param-iterator)) (bound_in (held l.m)) (state_of l.m)
-    ≡ bound (meaning l.depth) (env_at (envs (held l.fn.m).frames) l.home) (along_in (held l.fn.m))
-    (map parameter l.params) (arguments l.args) (data_in l.fn.found) (state_of l.fn.m))
-    × (held l.m ≡ opened (option_map children_stored l.kept) l.home l.home (bound_in (held l.m)) (held l.fn.m))
+    ≡ bound (meaning l.depth) (env_at (envs (held l.fn.m).frames) l.fn.by.home) (along_in (held l.fn.m))
+    (map parameter l.params) (arguments l.args) (data_in l.fn.by.values) (state_of l.fn.m))
+    × (held l.m ≡ opened (option_map children_stored l.fn.by.kept) l.fn.by.home l.fn.by.home (bound_in (held l.m)) (held l.fn.m))
     × (l.m.steps_left ≤ l.fn.m.steps_left)

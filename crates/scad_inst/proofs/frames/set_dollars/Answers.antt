@@ -18,6 +18,7 @@ arguments-preserved c =
       inner = done.inner;
       outer = done.outer ∙ c.arguments.invariant.outer;
       same = sym (same-state _ _ _ _ done.does) ∙ c.arguments.invariant.same;
+      steps = omega (arith, done.steps, c.arguments.invariant.steps);
     }
 
 pub returns-clause-bound : goal.returns-clause-bound
