@@ -16,7 +16,7 @@ pub steps-left : (depth : ℕ) (env along : Env) (e : Expression) (d : Datum) (m
 unfolding state_of
 steps-left depth env along e d m n low least is =
     let risen = subst (λ (o : Outcome Datum). Within (step_limit - m.steps_left) o) is
-        (steps_rise depth env along e (state_of m) (omega arith)) in
+    (steps_rise depth env along e (state_of m) (omega arith)) in
     let rise = risen.0 in
     omega (arith, low, least, rise)
 

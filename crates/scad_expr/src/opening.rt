@@ -136,11 +136,7 @@ impl<'p> Machine<'p> {
         ensures inner { IfOk result (λ c. c.inner ≡ length (held self.old).frames) }
         ensures back { IfOk result (λ c. c.back ≡ (held self.old).here) }
     {
-        let Invocation {
-            values,
-            home,
-            kept,
-        } = by;
+        let Invocation { values, home, kept } = by;
         let got = given(alloc, params, args, values)?;
         let missing = missing(alloc, params, &got)?;
         let back = self.enter(home, kept)?;

@@ -47,7 +47,8 @@ missing-preserved c = (
       (ap (λ (l : List (Bor Param)). map (λ p. parameter p.now) l) c.in-Some.ensures.steps.0) (state_of c.missing.m) _
       c.missing.invariant.0 (datum_of c.in_ok-value.value) (state_of c.default_of.new.m) (state_of c.set.new.self)
       c.in_ok-value.ensures.does (held c.default_of.new.m) (held c.set.new.self) c.in_ok-value.ensures.kept
-      c.as_slice.result.now c.as_slice.ensures c.in_ok-set.ensures.held (same-state _ _ _ _ c.in_ok-set.ensures.does),  omega (arith, c.in_ok-value.ensures.steps, c.in_ok-set.ensures.steps, c.missing.invariant.2),
+      c.as_slice.result.now c.as_slice.ensures c.in_ok-set.ensures.held (same-state _ _ _ _ c.in_ok-set.ensures.does),
+  omega (arith, c.in_ok-value.ensures.steps, c.in_ok-set.ensures.steps, c.missing.invariant.2),
 )
 
 pub returns-clause-along : goal.returns-clause-along
