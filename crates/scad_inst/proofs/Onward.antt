@@ -1,6 +1,5 @@
 -- What is at work and what follows it, as the parts of a statement begin.
-use Rattle.std.proofs.Common.{◌≡◌, ◌≢◌, ℕ, ◌+◌, ◌-◌, ◌<◌, ◌≤◌, Bool, true, false, if◌then◌else◌, List, [], ◌∷◌, ◌++◌, length, get_or, drop, Option, Some, None, Vec, Global, refl, sym, ap, ap₂, ◌∙◌}
-use Rattle.std.proofs.lemmas.List.{drop_all}
+use Rattle.std.proofs.Common.{◌≡◌, ◌≢◌, ℕ, ◌+◌, ◌-◌, Bool, true, false, if◌then◌else◌, List, [], ◌∷◌, ◌++◌, drop, Option, Some, None, Vec, Global, refl, sym, ap, ap₂, ◌∙◌, arith}
 use Rattle.std.specs.Borrow.{Bor}
 use Rattle.scad_fault.specs.declared.place.Place.{Place}
 use Rattle.scad_ast.specs.declared.statement.Item.{Item}
@@ -23,7 +22,6 @@ use Rattle.scad_expr.specs.Opened.{left, opened_in}
 use Rattle.scad_expr.specs.Runs.{items as run_over}
 use Rattle.scad_expr.specs.State.{State, Outcome, gives, refuses, Action, and_then, pure, step, depth_limit}
 use Rattle.scad_expr.specs.Variables.{set, empty, within, first_env, first_along}
-use Rattle.scad_expr.proofs.Homes.{items-drop}
 use Rattle.scad_expr.proofs.Loops.{twice, same-state}
 use Rattle.scad_inst.specs.declared.operation.Operation.{Operation}
 use Rattle.scad_inst.specs.declared.operation.Operation.TheVariants.{Unite}
@@ -35,10 +33,9 @@ use Rattle.scad_inst.specs.declared.work.Frame.{Frame}
 use Rattle.scad_inst.specs.declared.work.Frame.TheVariants.{Mark, Member, Combine, Leave}
 use Rattle.scad_inst.specs.declared.work.Focus.{Focus}
 use Rattle.scad_inst.specs.declared.work.Focus.TheVariants.{Members, Children, Variables, Turns}
-use Rattle.scad_inst.specs.Chosen.{child_named}
 use Rattle.scad_inst.specs.Frames.{below_of, with_depth}
 use Rattle.scad_inst.specs.Made.{judged}
-use Rattle.scad_inst.specs.Meaning.{statements_meaning, statement_layer, node, opened_scope, member, members_from, members, combined, called_own, run_children, chosen, children_by, child, turns, for_variables, program_of}
+use Rattle.scad_inst.specs.Meaning.{statements_meaning, statement_layer, node, opened_scope, member, members_from, members, combined, called_own, run_children, chosen, children_by, turns, for_variables, program_of}
 use Rattle.scad_inst.specs.Modules.{Found}
 use Rattle.scad_inst.specs.Near.{NameAlike}
 use Rattle.scad_inst.specs.Operation.{operated}

@@ -5,7 +5,7 @@ use Rattle.scad_fault.specs.declared.place.Place.{Place}
 use Rattle.scad_ast.specs.declared.expression.Arg.{Arg}
 use Rattle.scad_ast.specs.declared.statement.Item.{Item}
 use Rattle.scad_ast.specs.Scope.{item_of, items}
-use Rattle.scad_ast.specs.Tree.{Items, Arguments, no_arguments, argument, Expression}
+use Rattle.scad_ast.specs.Tree.{Items, Arguments, no_arguments, argument}
 use Rattle.scad_ast.specs.Tree.{Item as TreeItem}
 use Rattle.scad_ast.specs.View.{arguments, expression_of}
 use Rattle.scad_value.specs.Datum.{Datum}
@@ -53,7 +53,7 @@ module _ (below : Below) (w : Where) (env along : Env) (ss : List Solid) (s : St
     no-items past =
         ap (λ (l : List Item). members_from below w env along (items l) ss s) (drop_all {X = Item} n all past)
 
-pub ruleset items = (first-item, passed-item, no-items)
+pub ruleset items_passed = (first-item, passed-item, no-items)
 
 -- ---- arguments
 module _ (below : Below) (at : Place) (w : Where) (all : Items) (env along : Env) (ss : List Solid) (s : State) where
@@ -79,7 +79,7 @@ module _ (below : Below) (at : Place) (w : Where) (all : Items) (env along : Env
     pub no-argument : length args ≤ n → loop (arguments (drop n args)) ≡ loop no_arguments
     no-argument past = ap loop (arguments-drop_all args n past)
 
-pub ruleset arguments = (passed-argument, named-argument, no-argument)
+pub ruleset arguments_passed = (passed-argument, named-argument, no-argument)
 
 -- ---- children that values name
 module _ (below : Below) (w : Where) (env along : Env) (scope : Items) (ss : List Solid) (s : State) where
@@ -106,4 +106,4 @@ module _ (below : Below) (w : Where) (env along : Env) (scope : Items) (ss : Lis
   unfolding children_by
   no-child ds none = ap named_by none
 
-pub ruleset children = (first-child, passed-child, no-child)
+pub ruleset children_passed = (first-child, passed-child, no-child)

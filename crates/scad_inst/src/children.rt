@@ -1,6 +1,6 @@
 //! `children`.
 
-ghost use Rattle.std.specs.Prelude.{◌≡◌, List, [], true, IfErr, IfSome, MatchOption, option_map};
+ghost use Rattle.std.specs.Prelude.{◌≡◌, List, [], true, IfErr, IfSome, MatchOption};
 ghost use Rattle.scad_ast.specs.Scope.{item_of, items};
 ghost use Rattle.scad_scope.specs.Env.{Env};
 ghost use Rattle.scad_expr.specs.Arguments.{is_statement};
@@ -100,7 +100,7 @@ fn chosen<'p>(
 }
 
 /// The first child that values name and that is a statement, with the values behind it.
-#[tactic(auto, using(crate::proofs::Passed::children), unfolding(crate::specs::Meaning::child))]
+#[tactic(auto, using(crate::proofs::Passed::children_passed), unfolding(crate::specs::Meaning::child))]
 fn first_child<'p>(scope: &'p Scope, more: Remainder) -> Option<(&'p Item, Remainder)>
     ensures passed { (below : Below) (w : Where) (env along : Env) (ss : List Solid) (s : State) → MatchOption result
         (children_by below w env along (items scope.now.items) (left_in more) ss s ≡ gives ss s)
@@ -111,13 +111,17 @@ fn first_child<'p>(scope: &'p Scope, more: Remainder) -> Option<(&'p Item, Remai
 {
     let mut left = more;
     'values: loop {
-        let (named, others) = next_child(scope, left)?;
-        if let Some(item) = named {
-            if is_statement(item) {
-                return Some((item, others));
+        match next_child(scope, left) {
+            None => return None,
+            Some((named, others)) => {
+                if let Some(item) = named {
+                    if is_statement(item) {
+                        return Some((item, others));
+                    }
+                }
+                left = others;
             }
         }
-        left = others;
     }
 }
 

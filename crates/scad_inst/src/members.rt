@@ -37,7 +37,7 @@ pub(crate) struct StatementAt<'p> {
 }
 
 /// The first statement of a scope from a number on. What stands before it isn't run.
-#[tactic(auto, using(crate::proofs::Passed::items))]
+#[tactic(auto, using(crate::proofs::Passed::items_passed))]
 fn first_statement<'p>(scope: &'p Scope, from: usize) -> Option<StatementAt<'p>>
     ensures passed { (below : Below) (w : Where) (env along : Env) (ss : List Solid) (s : State) → MatchOption result
         (members_from below w env along (items (drop from scope.now.items)) ss s ≡ gives ss s)

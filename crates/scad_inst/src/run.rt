@@ -1,11 +1,11 @@
 //! Turns of the machine until nothing is left to do.
 
-ghost use Rattle.std.specs.Prelude.{◌≡◌, IfOk};
+ghost use Rattle.std.specs.Prelude.{◌≡◌, ◌+◌, IfOk};
 ghost use Rattle.scad_tree.specs.Normal.{united};
 ghost use Rattle.scad_tree.specs.View.{solid_of};
 ghost use Rattle.scad_expr.specs.Answers.{Does};
 ghost use Rattle.scad_expr.specs.Machine.{held, state_of};
-ghost use Rattle.scad_inst.specs.Stack.{Goes, Ends, Below_by, Less, rest, made_in, goes_on, onto, size};
+ghost use Rattle.scad_inst.specs.Stack.{Goes, Ends, Below_by, Less, rest, made_in, goes_on, onto, size, weight};
 
 use crate::children::children_by;
 use crate::frames::go_back;
@@ -36,7 +36,7 @@ fn given<'p>(
 ) -> Result<Focus<'p>, EvalFault>
     ensures goes { Goes (onto frame.entry (rest stack.old) (held m.old) (made_in stack.old) (solid_of tree)
         (state_of m.old)) result stack.new m.new }
-    ensures less { Below_by 5 result stack.old m.old stack.new m.new }
+    ensures less { Below_by (3 + weight frame.entry) result stack.old m.old stack.new m.new }
 {
     match frame {
         Frame::Mark(marked, depth) => {

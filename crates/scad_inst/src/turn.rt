@@ -79,7 +79,7 @@ pub(crate) struct NamedAt<'p> {
 }
 
 /// The first argument with a name from a number on. Those before it are passed over.
-#[tactic(auto, using(crate::proofs::Passed::arguments))]
+#[tactic(auto, using(crate::proofs::Passed::arguments_passed))]
 fn first_named<'p>(args: &'p Args, from: usize) -> Option<NamedAt<'p>>
     ensures { (below : Below) (at : Place) (w : Where) (all : Items) (env along : Env) (ss : List Solid) (s : State)
         → for_variables below at w (arguments (drop from args.now.items)) all env along ss s

@@ -1,10 +1,7 @@
 -- Where a name stands among the few of a frame, and what it is to set it and to seek it there.
-use Rattle.std.proofs.Common.{◌≡◌, ℕ, ◌+◌, ◌<◌, suc, Bool, true, false, List, [], ◌∷◌, ◌++◌, map, length, drop, get_or, set, Option, Some, None, option_map, if◌then◌else◌, Vec, Global, refl, sym, ap, ◌∙◌, arith}
+use Rattle.std.proofs.Common.{◌≡◌, ℕ, ◌+◌, ◌<◌, suc, Bool, true, false, List, [], ◌∷◌, ◌++◌, length, get_or, set, Option, Some, None, option_map, if◌then◌else◌, refl, sym, ap, ◌∙◌, arith}
 use Rattle.scad_value.specs.Datum.{Datum}
-use Rattle.scad_value.specs.declared.value.Value.{Value}
-use Rattle.scad_value.specs.View.{datum_of}
 use Rattle.scad_scope.specs.Names.{Names, is_same_name, place_in, value_of_name, with_name}
-use Rattle.scad_scope.specs.View.{named}
 
 -- a place, counted from 1, or 0 for none
 count : Option ℕ → ℕ
