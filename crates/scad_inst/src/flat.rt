@@ -143,8 +143,8 @@ fn turned_leaf<'p>(
     m: &mut Machine<'p>,
 ) -> Result<Tree, EvalFault>
     requires { is_outline (outline shape.now) ≡ true }
-    ensures does { Does solid_of (turned_leaf at name.now (outline shape.now) place.entry.0.now place.entry.1.now (state_of m.old)) result
-        (state_of m.new) }
+    ensures does { Does solid_of (turned_leaf at name.now (outline shape.now) place.entry.0.now place.entry.1.now
+        (state_of m.old)) result (state_of m.new) }
     ensures kept { held m.new ≡ held m.old }
     ensures steps { OnOk result (m.new.steps_left ≤ m.old.steps_left) }
 {
