@@ -1,7 +1,15 @@
 -- Where a name stands among the few of a frame, and what it is to set it and to seek it there.
-use Rattle.std.proofs.Common.{◌≡◌, ℕ, ◌+◌, ◌<◌, suc, Bool, true, false, List, [], ◌∷◌, ◌++◌, length, get_or, set, Option, Some, None, option_map, if◌then◌else◌, refl, sym, ap, ◌∙◌, arith}
+use Rattle.std.proofs.Common.{◌≡◌, ℕ, ◌+◌, ◌<◌, ◌≤◌, suc, Bool, true, false, List, [], ◌∷◌, ◌++◌, map, length, drop, get_or, set, Option, Some, None, option_map, if◌then◌else◌, Vec, Global, refl, sym, ap, ◌∙◌, arith}
+use Rattle.std.specs.Prelude.{nat_eq}
+use Rattle.std.specs.Cmp.Lexicographic.{pointwise}
+use Rattle.std.proofs.lemmas.List.{map-append, map-set, get_or-map, append-nil, drop_more, drop_all}
+use Rattle.indexmap.specs.IndexMap.{insert_entry}
 use Rattle.scad_value.specs.Datum.{Datum}
+use Rattle.scad_value.specs.declared.value.Value.{Value}
+use Rattle.scad_value.specs.View.{datum_of}
 use Rattle.scad_scope.specs.Names.{Names, is_same_name, place_in, value_of_name, with_name}
+use Rattle.scad_scope.specs.View.{named}
+use Rattle.scad_scope.proofs.Outwards.{named-insert}
 
 -- a place, counted from 1, or 0 for none
 count : Option ℕ → ℕ
@@ -80,7 +88,41 @@ value-unplaced name (p ∷ xs) more is = by (is_same_name name p.0) (place_in na
     by false None there e = value-unplaced name xs more there
     by false (Some j) there e = absurd (some_place (suc j) e)
 
-pub ruleset places = (place-below, set-placed, value-placed, set-unplaced, value-unplaced)
+-- ---- entries in memory
+pub named-drop : (all : List (Vec ℕ Global × Value)) (i : ℕ) (e : Vec ℕ Global × Value) → i < length all
+    → e ≡ get_or all i e → map named (drop i all) ≡ named e ∷ map named (drop (i + 1) all)
+named-drop all i e below is =
+    ap (map named) (drop_more all i e below) ∙ ap (λ p. named p ∷ map named (drop (i + 1) all)) (sym is)
+
+pub named-drop_all : (all : List (Vec ℕ Global × Value)) (i : ℕ) → length all ≤ i → map named (drop i all) ≡ []
+named-drop_all all i past = ap (map named) (drop_all i all past)
+
+-- one is set
+pub few-set : (name : List ℕ) (all : List (Vec ℕ Global × Value)) (more : Names) (i : ℕ) (e : Vec ℕ Global × Value)
+    (v : Value) → i < length all → e ≡ get_or all i e → place_in name (map named all) ≡ Some i
+    → map named (set all i (e.0, v)) ++ more ≡ with_name name (datum_of v) (map named all ++ more)
+few-set name all more i e v below is there =
+    ap (λ l. l ++ more) (map-set named all i (e.0, v)
+    ∙ ap (λ p. set (map named all) i (p.0, datum_of v)) (ap named is ∙ sym (get_or-map named all i e (named e) below)))
+    ∙ set-placed name (datum_of v) (map named all) more i (named e) there
+
+-- one goes behind them
+pub few-push : (key : Vec ℕ Global) (v : Value) (all : List (Vec ℕ Global × Value))
+    → place_in key.items (map named all) ≡ None
+    → map named (all ++ (key, v) ∷ []) ++ [] ≡ with_name key.items (datum_of v) (map named all ++ [])
+few-push key v all none =
+    append-nil (map named (all ++ (key, v) ∷ [])) ∙ map-append named all ((key, v) ∷ [])
+    ∙ set-unplaced key.items (datum_of v) (map named all) [] none
+
+-- one goes into the map
+pub more-insert : (key : Vec ℕ Global) (v : Value) (xs : Names) (es : List (Vec ℕ Global × Value))
+    → place_in key.items xs ≡ None
+    → xs ++ map named (insert_entry (λ a b. pointwise nat_eq a.items b.items) es key v)
+    ≡ with_name key.items (datum_of v) (xs ++ map named es)
+more-insert key v xs es none =
+    ap (λ l. xs ++ l) (named-insert es key v) ∙ set-unplaced key.items (datum_of v) xs (map named es) none
+
+pub ruleset places = (place-below, few-set, few-push, more-insert, value-placed, value-unplaced)
 
 -- ---- the search: the place behind so many names that were passed over
 pub place_behind : ℕ → Option ℕ → Option ℕ
@@ -94,4 +136,4 @@ pub behind-none : (r : Option ℕ) → place_behind 0 r ≡ r
 behind-none None = refl
 behind-none (Some j) = refl
 
-pub ruleset sought_places = (behind-more, behind-none)
+pub ruleset sought_places = (behind-more, behind-none, named-drop, named-drop_all)
