@@ -95,7 +95,7 @@ def meaning(number, about, source, at):
     if number == 2:
         return syntax(source, at)
     if number == 4 and about in LEFT_OUT:
-        return [f"`{about}`: {LEFT_OUT[about] if about in MODULES else f'{FAULTS[4][1]}; {LEFT_OUT[about]}'}"]
+        return [f"`{about}`: {LEFT_OUT[about] if about in MODULES or about in FREE_MODULES else f'{FAULTS[4][1]}; {LEFT_OUT[about]}'}"]
     if number == 7 and (rule := {**FUNCTIONS, **MODULES}.get(about)):
         return [f"an argument is missing, of another kind, or out of its range: {rule}"]
     if number in (5, 6):

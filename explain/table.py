@@ -85,6 +85,7 @@ BUDGETS = {
     8: ("LayerCrossings", "more than 2,000,000 pairs of a layer's edges, or of a wall's, cross",
         "fewer parts that lie across one another; a smaller `line_width`, fewer `walls`"),
     9: ("LayerMoves", "a layer has more than 200,000 extruding moves", "a greater `infill_spacing`"),
+    10: ("HullPoints", "a hull has more than 20,000 distinct points", "a smaller `$fn` of what it is round"),
 }
 
 # The faults of settings: the name, and what it means.
@@ -135,7 +136,7 @@ MODULES = {
 }
 
 # Modules that take any arguments.
-FREE_MODULES = ["color", "render", "group", "union", "difference", "intersection", "children", "echo"]
+FREE_MODULES = ["color", "render", "group", "union", "difference", "intersection", "hull", "children", "echo"]
 
 # The functions, and what their arguments may be.
 FUNCTIONS = {
@@ -185,7 +186,8 @@ LEFT_OUT = {
     "version": "there is one version", "version_num": "there is one version",
     "assign": "write assignments into the block, or `let`",
     "child": "write `children(i)`",
-    "hull": _BY_SOLIDS, "minkowski": _BY_SOLIDS, "offset": "write the outline with its new size as a polygon",
+    "hull": "a hull of an intersection or a difference is left out: take away from the hull, or make hulls of the parts",
+    "minkowski": _BY_SOLIDS, "offset": "write the outline with its new size as a polygon",
     "projection": "write the outline as a polygon", "resize": "write `scale`",
     "import": "write the mesh as a `polyhedron`, the outline as a `polygon`",
     "surface": "write it as a `polyhedron`", "text": "write the letters as polygons",

@@ -93,7 +93,7 @@ def check_names(hold, rows_of, language, text_of):
     hold("modules of the program", explained, kept(modules))
     hold("functions of the program", table.FUNCTIONS.keys(), kept(functions))
     # (the grammar leaves out the first; the others are left out by a value of theirs)
-    parsed, partly = {"include", "use", "function", "!", "^"}, {"linear_extrude", "rotate_extrude", "rotate"}
+    parsed, partly = {"include", "use", "function", "!", "^"}, {"linear_extrude", "rotate_extrude", "rotate", "hull"}
     left_out = {it for names in (modules, functions) for it, id in names.items() if id == "LEFT_OUT"}
     hold("left-out names of the program", table.LEFT_OUT.keys(), left_out | parsed | partly)
     cells = lambda head: [row[head].partition("by name")[0] for row in rows_of(language, head)]

@@ -1,2 +1,3 @@
 pub mod Membership
 pub mod Holding
+pub mod Solids

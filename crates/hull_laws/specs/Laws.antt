@@ -1,9 +1,12 @@
 -- What hulls contain.
-use Rattle.std.specs.Prelude.{◌≡◌, ◌↔◌, ℕ, IsTrue, All, List, Some, Ok, ℤ, pos, ◌+ℤ◌, ◌-ℤ◌, ◌*ℤ◌, ◌<ℤ◌}
+use Rattle.std.specs.Prelude.{◌≡◌, ◌↔◌, ◌<◌, ℕ, IsTrue, All, List, length, Some, Ok, ℤ, pos, ◌+ℤ◌, ◌-ℤ◌, ◌*ℤ◌, ◌<ℤ◌}
+use Rattle.std.specs.List.{list_all}
 use Rattle.scad_geom.specs.declared.point3.Pt3.{Pt3}
 use Rattle.scad_geom.specs.Point.{Point}
+use Rattle.scad_geom.specs.PointRange.{is_in_range}
 use Rattle.scad_solid.specs.declared.triangle.Triangle.{Triangle}
 use Rattle.scad_solid.specs.Cut.{plane_of, contains}
+use Rattle.scad_solid.specs.Solid.{IsSolid}
 use Rattle.scad_hull.specs.declared.turning.Normal.{Normal}
 use Rattle.scad_hull.specs.Space.{normal_of}
 use Rattle.scad_hull.specs.Faces.{hull_of}
@@ -24,3 +27,8 @@ pub record HullsHold : Type 0 where
   pub each : (points : List Pt3) (ts : List Triangle) → hull_of points ≡ Ok (Some ts) → (layer h : ℕ) (q : Point) → pos 0 <ℤ q.d
       → All (λ t. inner_at (plane_of layer h) q t ≡ pos 0 → ⊥) ts
       → IsTrue (contains (plane_of layer h) ts q) ↔ All (λ t. pos 0 <ℤ inner_at (plane_of layer h) q t) ts
+
+-- what points in range have as their hull is a solid, and it has triangles
+pub record HullsAreSolids : Type 0 where
+  pub each : (points : List Pt3) (ts : List Triangle) → IsTrue (list_all is_in_range points) → hull_of points ≡ Ok (Some ts) → IsSolid ts
+  pub some : (points : List Pt3) (ts : List Triangle) → hull_of points ≡ Ok (Some ts) → 0 < length ts

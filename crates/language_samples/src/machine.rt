@@ -35,6 +35,7 @@ pub(crate) fn start<'p>(alloc: Global, scope: &'p Scope) -> Result<Machine<'p>, 
         depth_left: 1999,
         leaves: 0,
         triangles: 0,
+        profiles: Vec::new(alloc),
         echoes: Vec::new(alloc),
     })
 }

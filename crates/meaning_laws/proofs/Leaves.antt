@@ -42,6 +42,7 @@ use Rattle.meaning_laws.proofs.Surfaces.{IsSolidOr, solid-primitive, solid-linea
 use Rattle.meaning_laws.proofs.Trees.{AllSolids, solids-surface}
 use Rattle.meaning_laws.proofs.Keeping.{Any, Keeps, bind, either, keeps-pure, keeps-refuse, keeps-fault, keeps-fault_of}
 use Rattle.meaning_laws.proofs.Keeping.{keeps-over, keeps-count_leaf, keeps-count_triangles}
+use Rattle.meaning_laws.proofs.Profiles.{keeps-keep_profile}
 
 -- ---- judgements
 pub keeps-argued : {A : Type 0} (at : Place) (name : List ℕ) (r : Read A) → Reads r → Keeps Any (argued at name r)
@@ -73,11 +74,11 @@ pub keeps-judged : (at : Place) (s : Solid) → AreSolids s → Keeps AreSolids 
 unfolding judged
 keeps-judged at s solid = either (nat_lt tree_limit (nesting s)) (keeps-over Depth at) (keeps-pure s solid)
 
-keeps-judge_points : (at : Place) (count : ℕ) → Keeps Any (judge_points at count)
+pub keeps-judge_points : (at : Place) (count : ℕ) → Keeps Any (judge_points at count)
 unfolding judge_points
 keeps-judge_points at count = either (nat_lt triangle_limit count) (keeps-over Triangles at) (keeps-pure (tt {0}) tt)
 
-keeps-judge_sides : (word : Place) (ring : List Pair) → Keeps Any (judge_sides word ring)
+pub keeps-judge_sides : (word : Place) (ring : List Pair) → Keeps Any (judge_sides word ring)
 unfolding judge_sides
 keeps-judge_sides word ring =
     either (crosses_axis ring) (keeps-fault_of IsBad word (codes "rotate_extrude")) (keeps-pure (tt {0}) tt)
@@ -105,7 +106,7 @@ keeps-linear at o height center whole =
     keeps-placed at (solid_of_rings (linear_rings (ring_of o) height center whole))
     (solid-linear (ring_of o) height center whole)))
 
-keeps-swept : (at : Place) (ring : List Pair) (t : Turning) (whole : Matrix) → Keeps AreSolids (swept at ring t whole)
+pub keeps-swept : (at : Place) (ring : List Pair) (t : Turning) (whole : Matrix) → Keeps AreSolids (swept at ring t whole)
 unfolding swept
 keeps-swept at ring t whole =
     let turns = turns_of t.resolution ring in
@@ -118,7 +119,8 @@ unfolding turned_leaf
 keeps-turned at name o t whole =
     bind (keeps-count_leaf at) (λ _ _. bind (keeps-judge_points at (points_in o)) (λ _ _.
     bind (keeps-argued at name (profile_of t.profile (ring_of o)) (reads-profile t.profile (ring_of o))) (λ ring _.
-    bind (keeps-judge_sides t.word ring) (λ _ _. keeps-swept at ring t whole))))
+    bind (keeps-judge_sides t.word ring) (λ _ _. bind (keeps-keep_profile ring) (λ _ _.
+    keeps-swept at ring t whole)))))
 
 keeps-leaf_in : (at : Place) (name : List ℕ) (o : Outline) (whole : Matrix) (space : Space)
     → Keeps AreSolids (leaf_in at name o whole space)

@@ -6,10 +6,12 @@ pub mod ReadSolids
 pub mod ReadFlat
 pub mod ReadMatrices
 pub mod Keeping
+pub mod Profiles
 pub mod Results
 pub mod Expressions
 pub mod Surfaces
 pub mod Trees
 pub mod Leaves
+pub mod Hulls
 pub mod Statements
 pub mod Programs

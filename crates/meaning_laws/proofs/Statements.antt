@@ -22,7 +22,7 @@ use Rattle.scad_tree.specs.Solids.{AreSolids}
 use Rattle.scad_tree.specs.Normal.{united, subtracted}
 use Rattle.scad_modules.specs.declared.module.Module.{Module}
 use Rattle.scad_modules.specs.declared.module.Module.TheVariants.{Shape, Flat, Extrusion, Transform, Union, Difference}
-use Rattle.scad_modules.specs.declared.module.Module.TheVariants.{Intersection, Children as ChildrenOf, Echo, Assert}
+use Rattle.scad_modules.specs.declared.module.Module.TheVariants.{Intersection, Hull, Children as ChildrenOf, Echo, Assert}
 use Rattle.scad_modules.specs.declared.module.Extrusion.TheVariants.{Linear, Rotate}
 use Rattle.scad_modules.specs.declared.module.Name.{Name}
 use Rattle.scad_modules.specs.declared.module.Name.TheVariants.{Known, For, IntersectionFor, Let, LeftOut, Unknown}
@@ -54,6 +54,8 @@ use Rattle.meaning_laws.proofs.ReadFlat.{reads-outlines, reads-linear, reads-tur
 use Rattle.meaning_laws.proofs.ReadMatrices.{reads-matrix}
 use Rattle.meaning_laws.proofs.Leaves.{keeps-argued, keeps-placed_by, keeps-judge_solid, keeps-judge_flat, keeps-judged}
 use Rattle.meaning_laws.proofs.Leaves.{keeps-leaf, keeps-flat}
+use Rattle.meaning_laws.proofs.Profiles.{keeps-profile_count, keeps-with_its_profiles}
+use Rattle.meaning_laws.proofs.Hulls.{keeps-hull_made}
 use Rattle.meaning_laws.proofs.Trees.{AllSolids, solids-nothing, solids-if, solids-united, solids-subtracted}
 use Rattle.meaning_laws.proofs.Trees.{solids-operated}
 
@@ -229,6 +231,9 @@ module _ (below : Below) (all_give : AllGive below) where
   keeps-built_in Union at name w env along args found all = keeps-combined Unite at w all env along
   keeps-built_in Difference at name w env along args found all = keeps-combined Subtract at w all env along
   keeps-built_in Intersection at name w env along args found all = keeps-combined Intersect at w all env along
+  keeps-built_in Hull at name w env along args found all =
+      bind keeps-profile_count (λ from _. bind (keeps-combined Unite at w all env along) (λ t solid.
+      keeps-hull_made at name w from t solid))
   keeps-built_in ChildrenOf at name w env along args found all =
       keeps-children at w along (taken (Some 0) (codes "i") args found) (kept_children env)
   keeps-built_in Echo at name w env along args found all =
@@ -283,5 +288,6 @@ module _ (below : Below) (all_give : AllGive below) where
   pub keeps-layer : (w : Where) (env along : Env) (i : Item) → Keeps AreSolids (statement_layer below w env along i)
   unfolding statement_layer
   keeps-layer w env along i =
-      bind (keeps-step (item_place i)) (λ _ _. bind (keeps-node w env along i) (λ s solid.
-      keeps-pure _ (solids-if (is_marked i) nothing s solids-nothing solid)))
+      bind (keeps-step (item_place i)) (λ _ _. bind keeps-profile_count (λ from _.
+      bind (keeps-node w env along i) (λ s solid.
+      keeps-with_its_profiles from _ (solids-if (is_marked i) nothing s solids-nothing solid))))

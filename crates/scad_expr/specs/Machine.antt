@@ -25,4 +25,10 @@ unfoldable pub along_in : Held → Env
 along_in h = env_at (envs h.along) (length h.along - 1)
 
 unfoldable pub state_of : Machine → State
-state_of m = record { steps = step_limit - m.steps_left; leaves = m.leaves; triangles = m.triangles; echoes = m.echoes.items }
+state_of m = record {
+  steps = step_limit - m.steps_left;
+  leaves = m.leaves;
+  triangles = m.triangles;
+  profiles = m.profiles.items;
+  echoes = m.echoes.items;
+}

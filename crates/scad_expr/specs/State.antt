@@ -1,5 +1,5 @@
 -- What evaluation counts and writes as it goes: its state, and actions that take a state to another one.
-use Rattle.std.specs.Prelude.{ℕ, ◌+◌, ◌++◌, nat_lt, if◌then◌else◌, List, [], ◌∷◌, length, encode_utf8_all}
+use Rattle.std.specs.Prelude.{ℕ, ℤ, ◌+◌, ◌++◌, nat_lt, if◌then◌else◌, List, [], ◌∷◌, length, encode_utf8_all}
 use Rattle.scad_fault.specs.declared.place.Place.{Place}
 use Rattle.scad_fault.specs.declared.fault.FaultKind.{FaultKind}
 use Rattle.scad_fault.specs.declared.budget.BudgetKind.{BudgetKind}
@@ -9,16 +9,18 @@ use Rattle.scad_value.specs.Measures.{made, nesting}
 use Rattle.scad_expr.specs.declared.fault.EvalFault.{EvalFault}
 use Rattle.scad_expr.specs.declared.fault.EvalFault.TheVariants.{Fault, Over}
 
--- the steps that were taken, the leaves and the triangles that were made, and the lines of `echo`, each as its bytes
+-- the steps that were taken, the leaves and the triangles that were made, the points of the profiles of those leaves
+-- inside `rotate_extrude` that stand in trees, and the lines of `echo`, each as its bytes
 pub record State : Type 0 where
   pub steps : ℕ
   pub leaves : ℕ
   pub triangles : ℕ
+  pub profiles : List (ℤ × ℤ)
   pub echoes : List (List ℕ)
 
 -- nothing was done yet
 abbrev pub start : State
-start = record { steps = 0; leaves = 0; triangles = 0; echoes = [] }
+start = record { steps = 0; leaves = 0; triangles = 0; profiles = []; echoes = [] }
 
 -- a program takes at most so many steps
 abbrev pub step_limit : ℕ

@@ -4,6 +4,7 @@ ghost use Rattle.std.specs.Prelude.{◌≤◌};
 ghost use Rattle.scad_expr.specs.State.{step_limit};
 
 use scad_fault::Text;
+use scad_num::Num;
 use scad_scope::Frames;
 
 /// The most steps that a program takes.
@@ -25,6 +26,8 @@ pub struct Machine<'p> {
     pub depth_left: u32,
     pub leaves: u32,
     pub triangles: u64,
+    /// The points of the profiles of those leaves inside `rotate_extrude` that stand in trees.
+    pub profiles: Vec<(Num, Num)>,
     pub echoes: Vec<Text>,
     ghost within: { steps_left ≤ step_limit },
 }

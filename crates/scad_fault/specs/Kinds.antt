@@ -3,7 +3,7 @@ use Rattle.std.specs.Prelude.{ℕ, List, codes}
 use Rattle.scad_fault.specs.declared.fault.FaultKind.{FaultKind}
 use Rattle.scad_fault.specs.declared.fault.FaultKind.TheVariants.{BadText, Syntax, Nesting, LeftOut, UnknownModule, UnknownFunction, BadArgument, ZeroDivisor, NumberRange, AssertFailed, MixedDimensions, NotClosed, CoordinateRange, ZeroStep}
 use Rattle.scad_fault.specs.declared.budget.BudgetKind.{BudgetKind}
-use Rattle.scad_fault.specs.declared.budget.BudgetKind.TheVariants.{SourceLong, Steps, Depth, Leaves, Triangles, Layers, LayerEdges, LayerCrossings, LayerMoves}
+use Rattle.scad_fault.specs.declared.budget.BudgetKind.TheVariants.{SourceLong, Steps, Depth, Leaves, Triangles, Layers, LayerEdges, LayerCrossings, LayerMoves, HullPoints}
 use Rattle.scad_fault.specs.declared.settings.SetKind.{SetKind}
 use Rattle.scad_fault.specs.declared.settings.SetKind.TheVariants.{NotToml, UnknownKey, NotWhole, OutOfRange}
 
@@ -52,6 +52,7 @@ budget_number Layers = 6
 budget_number LayerEdges = 7
 budget_number LayerCrossings = 8
 budget_number LayerMoves = 9
+budget_number HullPoints = 10
 
 -- the name of a budget
 abbrev pub budget_name : BudgetKind → List ℕ
@@ -64,6 +65,7 @@ budget_name Layers = codes "Layers"
 budget_name LayerEdges = codes "LayerEdges"
 budget_name LayerCrossings = codes "LayerCrossings"
 budget_name LayerMoves = codes "LayerMoves"
+budget_name HullPoints = codes "HullPoints"
 
 -- the number of a settings fault
 abbrev pub set_number : SetKind → ℕ

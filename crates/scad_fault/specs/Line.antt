@@ -10,7 +10,7 @@ use Rattle.scad_fault.specs.declared.status.Status.TheVariants.{Done, Source, Us
 use Rattle.scad_fault.specs.declared.fault.FaultKind.{FaultKind}
 use Rattle.scad_fault.specs.declared.fault.FaultKind.TheVariants.{LeftOut, UnknownModule, UnknownFunction, BadArgument}
 use Rattle.scad_fault.specs.declared.budget.BudgetKind.{BudgetKind}
-use Rattle.scad_fault.specs.declared.budget.BudgetKind.TheVariants.{SourceLong, Steps, Depth, Leaves, Triangles, Layers, LayerEdges, LayerCrossings, LayerMoves}
+use Rattle.scad_fault.specs.declared.budget.BudgetKind.TheVariants.{SourceLong, Steps, Depth, Leaves, Triangles, Layers, LayerEdges, LayerCrossings, LayerMoves, HullPoints}
 use Rattle.scad_fault.specs.declared.settings.SetKind.{SetKind}
 use Rattle.scad_fault.specs.declared.settings.SetKind.TheVariants.{NotToml, UnknownKey, NotWhole, OutOfRange}
 use Rattle.scad_fault.specs.Kinds.{fault_number, fault_name, budget_number, budget_name, set_number, set_name}
@@ -73,6 +73,7 @@ passed_text Layers at layer count = count_text count
 passed_text LayerEdges at layer count = layer_text layer ++ count_text count
 passed_text LayerCrossings at layer count = layer_text layer ++ count_text count
 passed_text LayerMoves at layer count = layer_text layer ++ count_text count
+passed_text HullPoints at layer count = place_text at
 
 -- `budget N Name`, then where it was passed and by what count
 unfoldable pub budget_line : Budget → List ℕ

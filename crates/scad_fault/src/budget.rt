@@ -30,6 +30,8 @@ pub enum BudgetKind {
     LayerCrossings = 8,
     /// The extruding moves of a layer.
     LayerMoves = 9,
+    /// The distinct points of a hull.
+    HullPoints = 10,
 }
 
 impl BudgetKind {
@@ -52,11 +54,12 @@ impl BudgetKind {
             BudgetKind::LayerEdges => "LayerEdges",
             BudgetKind::LayerCrossings => "LayerCrossings",
             BudgetKind::LayerMoves => "LayerMoves",
+            BudgetKind::HullPoints => "HullPoints",
         }
     }
 }
 
-/// A budget that was passed: the place in the source for `Steps` to `Triangles`, the count for
+/// A budget that was passed: the place in the source for `Steps` to `Triangles` and `HullPoints`, the count for
 /// `Layers` to `LayerMoves`, the layer for `LayerEdges` to `LayerMoves`. The fields that a kind does
 /// not use are 0.
 #[derive(Clone, Copy, Debug, PartialEq, Eq)]
@@ -136,9 +139,11 @@ impl Budget {
     {
         match self.kind {
             BudgetKind::SourceLong => Ok(()),
-            BudgetKind::Steps | BudgetKind::Depth | BudgetKind::Leaves | BudgetKind::Triangles => {
-                line::push_place(text, self.at)
-            }
+            BudgetKind::Steps
+            | BudgetKind::Depth
+            | BudgetKind::Leaves
+            | BudgetKind::Triangles
+            | BudgetKind::HullPoints => line::push_place(text, self.at),
             BudgetKind::Layers => line::push_count(text, self.count),
             BudgetKind::LayerEdges | BudgetKind::LayerCrossings | BudgetKind::LayerMoves => {
                 line::push_layer(text, self.layer)?;

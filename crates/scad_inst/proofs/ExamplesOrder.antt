@@ -24,8 +24,8 @@ argument_before_unknown : shown (entry (call_of (at 1) false false (codes "foo")
 unfolding statements_on_literals
 argument_before_unknown = refl
 
--- hull(1/0);
-left_out_after_arguments : shown (entry (call_of (at 1) false false (codes "hull") (argument None
+-- text(1/0);
+left_out_after_arguments : shown (entry (call_of (at 1) false false (codes "text") (argument None
     (binary_at (at 7) Div (number_at (at 6) (pos 1000000)) (number_at (at 8) (pos 0))) no_arguments)
     no_items) no_items) ≡ faulted ZeroDivisor (at 7) [] []
 unfolding statements_on_literals

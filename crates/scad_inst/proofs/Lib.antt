@@ -13,6 +13,7 @@ pub mod FirstFrames
 pub mod FlatRounds
 pub mod Heights
 pub mod Homes
+pub mod HullsMade
 pub mod Items
 pub mod KeptRound
 pub mod Levels

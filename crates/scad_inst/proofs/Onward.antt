@@ -32,17 +32,19 @@ use Rattle.scad_inst.specs.declared.modules.Variable.{Variable}
 use Rattle.scad_inst.specs.declared.remainder.Remainder.{Remainder}
 use Rattle.scad_inst.specs.declared.space.Where.{Where}
 use Rattle.scad_inst.specs.declared.work.Frame.{Frame}
-use Rattle.scad_inst.specs.declared.work.Frame.TheVariants.{Mark, Member, Then, Combine, Leave}
+use Rattle.scad_inst.specs.declared.work.Frame.TheVariants.{Mark, Member, Then, Combine, Hull, Leave}
 use Rattle.scad_inst.specs.declared.work.Focus.{Focus}
 use Rattle.scad_inst.specs.declared.work.Focus.TheVariants.{Members, Children, Variables, Turns}
 use Rattle.scad_inst.specs.Chosen.{child_named}
 use Rattle.scad_inst.specs.Frames.{below_of, with_depth}
+use Rattle.scad_inst.specs.Hulls.{hull_made}
 use Rattle.scad_inst.specs.Made.{judged}
 use Rattle.scad_inst.specs.Meaning.{statements_meaning, statement_layer, node, opened_scope, member, members_from, members, combined, called_own, run_children, chosen, children_by, child, turns, for_variables, program_of}
 use Rattle.scad_inst.specs.Modules.{Found}
 use Rattle.scad_inst.specs.Near.{NameAlike}
 use Rattle.scad_inst.specs.Operation.{operated}
 use Rattle.scad_inst.specs.Portions.{called_with, own_opened}
+use Rattle.scad_inst.specs.Profiles.{with_its_profiles}
 use Rattle.scad_inst.specs.Scopes.{item_place, is_marked}
 use Rattle.scad_inst.specs.Where.{at_first}
 use Rattle.scad_inst.specs.Stack.{Rest, onto, rest_of, listed, ended, goes_on, with_member, left_in}
@@ -160,22 +162,24 @@ module _ (h : Held) (w : Where) (scope : Bor (Vec Item Global)) (k : Rest) (ss :
 pub ruleset chosen_children = (chosen-by, chosen-all)
 
 -- ---- a statement
-pub statement-begins : (marked : Bool) (depth : ℕ) (w : Where) (i : TreeItem) (h h1 h2 : Held) (k k2 : Rest)
+pub statement-begins : (marked : Bool) (depth from : ℕ) (w : Where) (i : TreeItem) (h h1 h2 : Held) (k k2 : Rest)
     (ss ms : List Solid) (s s1 s2 : State) → h.depth ≢ 0 → h1 ≡ with_depth (h.depth - 1) h → s1 ≡ s
     → step (item_place i) s1 ≡ gives (tt {0}) s2 → h2 ≡ h1 → marked ≡ is_marked i → depth ≡ h.depth
-    → k2 ≡ onto (Mark marked depth) k → ms ≡ ss
+    → from ≡ length s2.profiles → k2 ≡ onto (Mark marked depth from) k → ms ≡ ss
     → and_then ((below_of h).statement w (env_in h) (along_in h) i s) (k h ss)
     ≡ and_then (node (below_of h2) w (env_in h2) (along_in h2) i s2) (k2 h2 ms)
 unfolding statement_layer onto env_in along_in
-statement-begins marked depth w i h h1 h2 k k2 ss ms s s1 s2 some deeper same stepped kept mark deep is made =
+statement-begins marked depth from w i h h1 h2 k k2 ss ms s s1 s2 some deeper same stepped kept mark deep count is made =
     let g : Held = with_depth (h.depth - 1) h in
     let inner : State → Outcome Solid = node (below_of g) w (env_in g) (along_in g) i in
+    let ends : Bool → ℕ → Solid → Action Solid = λ b n a. with_its_profiles n (if b then nothing else a) in
     ap (λ (o : Outcome Solid). and_then o (k h ss)) (statement-some h.depth w (env_in h) (along_in h) i s some)
     ∙ ap (λ (o : Outcome (Unit {0})). and_then (and_then o (λ _ t. and_then (inner t)
-    (λ a. pure (if is_marked i then nothing else a)))) (k h ss)) (ap (step (item_place i)) (sym same) ∙ stepped)
-    ∙ twice (inner s2) (λ a. pure (if is_marked i then nothing else a)) (k h ss)
-    ∙ ap₂ (λ (b : Bool) (d : ℕ). and_then (inner s2) (λ a. k (with_depth d g) ss (if b then nothing else a)))
-    (sym mark) (sym deep)
+    (ends (is_marked i) (length t.profiles)))) (k h ss)) (ap (step (item_place i)) (sym same) ∙ stepped)
+    ∙ twice (inner s2) (ends (is_marked i) (length s2.profiles)) (k h ss)
+    ∙ ap₂ (λ (b : Bool) (d : ℕ). and_then (inner s2) (λ a u. and_then (ends b (length s2.profiles) a u)
+    (k (with_depth d g) ss))) (sym mark) (sym deep)
+    ∙ ap (λ (n : ℕ). and_then (inner s2) (λ a u. and_then (ends marked n a u) (k (with_depth depth g) ss))) (sym count)
     ∙ ap (λ (q : Rest). and_then (inner s2) (q g ss)) (sym is)
     ∙ ap (λ (x : Held). and_then (node (below_of x) w (env_in x) (along_in x) i s2) (k2 x ss)) (sym (kept ∙ deeper))
     ∙ ap (λ (l : List Solid). and_then (node (below_of h2) w (env_in h2) (along_in h2) i s2) (k2 h2 l)) (sym made)
@@ -188,7 +192,44 @@ statement-stops w i h s s1 s2 e g some same stopped =
     ap (λ (o : Outcome Solid). and_then o g) (statement-some h.depth w (env_in h) (along_in h) i s some)
     ∙ ap (λ (o : Outcome (Unit {0})). and_then (and_then o (λ _ t. and_then
     (node (statements_meaning (h.depth - 1)) w (env_in h) (along_in h) i t)
-    (λ a. pure (if is_marked i then nothing else a)))) g) (ap (step (item_place i)) (sym same) ∙ stopped)
+    (λ a. with_its_profiles (length t.profiles) (if is_marked i then nothing else a)))) g)
+    (ap (step (item_place i)) (sym same) ∙ stopped)
+
+-- ---- frames that have their tree
+pub mark-given : (marked : Bool) (depth from : ℕ) (k : Rest) (h h1 h2 : Held) (ss : List Solid) (t u : Solid)
+    (s s1 s2 : State) → with_its_profiles from (if marked then nothing else t) s1 ≡ gives u s2 → s1 ≡ s
+    → h1 ≡ with_depth depth h → h2 ≡ h1 → onto (Mark marked depth from) k h ss t s ≡ k h2 ss u s2
+unfolding onto
+mark-given marked depth from k h h1 h2 ss t u s s1 s2 does same deep kept =
+    ap (λ (x : State). and_then (with_its_profiles from (if marked then nothing else t) x) (k (with_depth depth h) ss))
+    (sym same)
+    ∙ ap (λ (o : Outcome Solid). and_then o (k (with_depth depth h) ss)) does
+    ∙ ap (λ (x : Held). k x ss u s2) (sym (kept ∙ deep))
+
+pub hull-given : (c : Call) (w : Where) (from : ℕ) (k : Rest) (h h2 : Held) (ss : List Solid) (t u : Solid)
+    (s s2 : State) → hull_made c.at c.name.now w from t s ≡ gives u s2 → h2 ≡ h
+    → onto (Hull c w from) k h ss t s ≡ k h2 ss u s2
+unfolding onto
+hull-given c w from k h h2 ss t u s s2 does kept =
+    ap (λ (o : Outcome Solid). and_then o (k h ss)) does ∙ ap (λ (x : Held). k x ss u s2) (sym kept)
+
+pub hull-refused : (c : Call) (w : Where) (from : ℕ) (k : Rest) (h : Held) (ss : List Solid) (t : Solid)
+    (e : EvalFault) (s s2 : State) → hull_made c.at c.name.now w from t s ≡ refuses e s2
+    → onto (Hull c w from) k h ss t s ≡ refuses e s2
+unfolding onto
+hull-refused c w from k h ss t e s s2 does = ap (λ (o : Outcome Solid). and_then o (k h ss)) does
+
+pub ruleset given_frames = (mark-given, hull-given, hull-refused)
+
+-- ---- a hull
+pub hull-begins : (c : Call) (w : Where) (from : ℕ) (h : Held) (k k2 : Rest) (ss ms : List Solid) (s : State)
+    (run : Outcome Solid) → from ≡ length s.profiles → k2 ≡ onto (Hull c w from) k → ms ≡ ss
+    → and_then (and_then run (hull_made c.at c.name.now w (length s.profiles))) (k h ss) ≡ and_then run (k2 h ms)
+unfolding onto
+hull-begins c w from h k k2 ss ms s run count is made =
+    twice run (hull_made c.at c.name.now w (length s.profiles)) (k h ss)
+    ∙ ap (λ (n : ℕ). and_then run (λ t u. and_then (hull_made c.at c.name.now w n t u) (k h ss))) (sym count)
+    ∙ ap₂ (λ (q : Rest) (l : List Solid). and_then run (q h l)) (sym is) (sym made)
 
 -- ---- scopes
 pub scope-begins : (o : Operation) (at : Place) (w : Where) (scope : Bor (Vec Item Global)) (outer : Vec Node Global)

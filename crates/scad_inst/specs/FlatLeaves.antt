@@ -19,6 +19,7 @@ use Rattle.scad_inst.specs.declared.space.Turning.{Turning}
 use Rattle.scad_inst.specs.declared.space.Where.{Where}
 use Rattle.scad_shapes.specs.Limits.{triangle_limit}
 use Rattle.scad_inst.specs.Made.{count_leaf, count_triangles, placed, argued}
+use Rattle.scad_inst.specs.Profiles.{keep_profile}
 
 -- ---- inside `linear_extrude`
 -- a leaf is counted, then its triangles, and then it is placed
@@ -44,13 +45,14 @@ swept at ring t whole = do
   placed at (turned_of ring (turns_of t.resolution ring) whole)
 
 -- a leaf is counted, then the points of its outline are judged; the outline is placed as a profile, which is judged
--- in its turn, and turned
+-- in its turn, kept for a hull and turned
 unfoldable pub turned_leaf : Place → List ℕ → Outline → Turning → Matrix → Action Solid
 turned_leaf at name o t whole = do
   count_leaf at
   judge_points at (points_in o)
   ring ← argued at name (profile_of t.profile (ring_of o))
   judge_sides t.word ring
+  keep_profile ring
   swept at ring t whole
 
 -- ---- inside either

@@ -1,12 +1,14 @@
 pub mod Chosen
 pub mod FlatLeaves
 pub mod Frames
+pub mod Hulls
 pub mod Made
 pub mod Meaning
 pub mod Modules
 pub mod Opened
 pub mod Operation
 pub mod Portions
+pub mod Profiles
 pub mod FirstFrames
 pub mod Scopes
 pub mod Stack

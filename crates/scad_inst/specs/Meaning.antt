@@ -23,7 +23,7 @@ use Rattle.scad_expr.specs.Meaning.{Below as Expressions}
 use Rattle.scad_tree.specs.Solid.{Solid, nothing}
 use Rattle.scad_tree.specs.Normal.{united, subtracted}
 use Rattle.scad_modules.specs.declared.module.Module.{Module}
-use Rattle.scad_modules.specs.declared.module.Module.TheVariants.{Shape, Flat, Extrusion, Transform, Union, Difference, Intersection, Children as ChildrenOf, Echo, Assert}
+use Rattle.scad_modules.specs.declared.module.Module.TheVariants.{Shape, Flat, Extrusion, Transform, Union, Difference, Intersection, Hull, Children as ChildrenOf, Echo, Assert}
 use Rattle.scad_modules.specs.declared.module.Extrusion.TheVariants.{Linear, Rotate}
 use Rattle.scad_modules.specs.declared.module.Name.{Name}
 use Rattle.scad_modules.specs.declared.module.Name.TheVariants.{Known, For, IntersectionFor, Let, LeftOut, Unknown}
@@ -39,8 +39,10 @@ use Rattle.scad_inst.specs.Chosen.{child_named}
 use Rattle.scad_inst.specs.Opened.{scope_opened, names_opened, call_opened, dollars_of, fineness}
 use Rattle.scad_inst.specs.Operation.{operated}
 use Rattle.scad_inst.specs.FlatLeaves.{flat_leaves}
+use Rattle.scad_inst.specs.Hulls.{hull_made}
 use Rattle.scad_inst.specs.Made.{leaf, argued, placed_by, judge_solid, judge_flat, judged}
 use Rattle.scad_inst.specs.Modules.{Found, module_named, kept_children}
+use Rattle.scad_inst.specs.Profiles.{profile_count, with_its_profiles}
 use Rattle.scad_inst.specs.Scopes.{item_place, is_marked, item_at}
 use Rattle.scad_inst.specs.declared.space.Space.TheVariants.{Turned as InTurned}
 use Rattle.scad_inst.specs.declared.space.Where.{Where}
@@ -213,6 +215,11 @@ module _ (below : Below) where
   -- the first child without the others, and what all have in common; a child marked `%` is left out
   built_in Difference at name w env along args found all = combined Subtract at w all env along
   built_in Intersection at name w env along args found all = combined Intersect at w all env along
+  -- the hull of the children united; it stands where they do
+  built_in Hull at name w env along args found all = do
+    from ← profile_count
+    t ← combined Unite at w all env along
+    hull_made at name w from t
   -- `children(i)`
   built_in ChildrenOf at name w env along args found all =
       run_children at w along (taken (Some 0) (codes "i") args found) (kept_children env)
@@ -264,12 +271,14 @@ module _ (below : Below) where
   -- definitions and assignments aren't run
   node w env along _ = pure nothing
 
-  -- a statement takes a step as it begins; marked `%` it is evaluated and gives nothing
+  -- a statement takes a step as it begins; marked `%` it is evaluated and gives nothing. Where it gives nothing, no
+  -- profile of its leaves stands
   unfoldable pub statement_layer : Where → Env → Env → Item → Action Solid
   statement_layer w env along i = do
     step (item_place i)
+    from ← profile_count
     s ← node w env along i
-    pure (if is_marked i then nothing else s)
+    with_its_profiles from (if is_marked i then nothing else s)
 
 -- past the limit of depth nothing is evaluated, and no step is taken
 abbrev pub too_deep : Below

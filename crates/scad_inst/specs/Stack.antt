@@ -21,14 +21,16 @@ use Rattle.scad_inst.specs.declared.run.Next.{Next}
 use Rattle.scad_inst.specs.declared.run.Next.TheVariants.{More, End}
 use Rattle.scad_inst.specs.declared.stack.Stack.{Stack}
 use Rattle.scad_inst.specs.declared.work.Frame.{Frame}
-use Rattle.scad_inst.specs.declared.work.Frame.TheVariants.{Mark, Member, Then, Combine, Leave}
+use Rattle.scad_inst.specs.declared.work.Frame.TheVariants.{Mark, Member, Then, Combine, Hull, Leave}
 use Rattle.scad_inst.specs.declared.work.Focus.{Focus}
 use Rattle.scad_inst.specs.declared.work.Focus.TheVariants.{Statement, Members, Children, Variables, Turns, Given}
 use Rattle.scad_inst.specs.Chosen.{child_named}
 use Rattle.scad_inst.specs.Frames.{below_of, with_depth}
+use Rattle.scad_inst.specs.Hulls.{hull_made}
 use Rattle.scad_inst.specs.Made.{judged}
 use Rattle.scad_inst.specs.Meaning.{members_from, for_variables, turns, children_by}
 use Rattle.scad_inst.specs.Operation.{operated}
+use Rattle.scad_inst.specs.Profiles.{with_its_profiles}
 
 -- the values that are left
 unfoldable pub left_in : Remainder → List Datum
@@ -76,10 +78,12 @@ goes_on (Given t) k h ss s = k h ss (solid_of t) s
 
 -- a frame, and then what follows it
 unfoldable pub onto : Frame → Rest → Rest
-onto (Mark marked depth) k h ss t = k (with_depth depth h) ss (if marked then nothing else t)
+onto (Mark marked depth from) k h ss t =
+    with_its_profiles from (if marked then nothing else t) >>= k (with_depth depth h) ss
 onto (Member marked) k h ss t = listed k h (with_member marked ss t)
 onto (Then f) k h ss t = goes_on f k h ss
 onto (Combine o at outer) k h ss t = judged at (operated o ss) >>= k h (solids outer.items)
+onto (Hull c w from) k h ss t = hull_made c.at c.name.now w from t >>= k h ss
 onto (Leave back) k h ss t = k (left back h) ss t
 
 -- the frame behind all others is the first that goes on

@@ -1,10 +1,12 @@
 //! The modules of the language.
 
-ghost use Rattle.std.specs.Prelude.{◌≡◌, OnOk};
+ghost use Rattle.std.specs.Prelude.{◌≡◌, List, OnOk};
 ghost use Rattle.scad_ast.specs.Scope.{items};
+ghost use Rattle.scad_ast.specs.Tree.{Arguments};
 ghost use Rattle.scad_ast.specs.View.{arguments};
 ghost use Rattle.scad_tree.specs.Solid.{Solid};
 ghost use Rattle.scad_tree.specs.View.{solid_of};
+ghost use Rattle.scad_value.specs.Datum.{Datum};
 ghost use Rattle.scad_value.specs.View.{data_of};
 ghost use Rattle.scad_modules.specs.View.{fine_at};
 ghost use Rattle.scad_expr.specs.Answers.{Does, nothing};
@@ -16,7 +18,7 @@ ghost use Rattle.scad_inst.specs.Opened.{fineness};
 ghost use Rattle.scad_inst.specs.Made.{judge_solid, judge_flat};
 ghost use Rattle.scad_inst.specs.Portions.{primitive_made, flat_made};
 ghost use Rattle.scad_inst.specs.Stack.{Goes, onward};
-ghost use Rattle.scad_modules.specs.declared.module.Module.TheVariants.{Extrusion as IsExtrusion, Transform as IsTransform, Echo as IsEcho, Assert as IsAssert};
+ghost use Rattle.scad_modules.specs.declared.module.Module.TheVariants.{Extrusion as IsExtrusion, Transform as IsTransform, Hull as IsHull, Echo as IsEcho, Assert as IsAssert};
 ghost use Rattle.scad_modules.specs.declared.module.Extrusion.TheVariants.{Linear as IsLinear, Rotate as IsRotate};
 
 use crate::arguments::{
@@ -28,11 +30,12 @@ use crate::leaves::leaf;
 use crate::members::combined;
 use crate::modules::Call;
 use crate::operation::Operation;
+use crate::profiles::profile_count;
 use crate::refusals::fault;
 use crate::space::{Space, Where, inside_linear, turned_at};
 use crate::stack::Stack;
 use crate::trees::made;
-use crate::work::Focus;
+use crate::work::{Focus, Frame};
 use scad_expr::{EvalFault, Machine, asserted};
 use scad_fault::{FaultKind, Place};
 use scad_modules::{
@@ -68,6 +71,7 @@ pub(crate) fn built_in<'p>(
         Module::Union => combined(Operation::Unite, call.at, call.all, w, stack, m),
         Module::Difference => combined(Operation::Subtract, call.at, call.all, w, stack, m),
         Module::Intersection => combined(Operation::Intersect, call.at, call.all, w, stack, m),
+        Module::Hull => hull(call, w, stack, m),
         Module::Children => {
             children(call.at, taken(Some(0), b"i", call.args, found), w, stack, m)
         }
@@ -229,6 +233,24 @@ fn transformed<'p>(
     let by = matrix_argued(stack.alloc, call.at, call.name, read)?;
     let inner = moved_by(stack.alloc, call.at, w, &by)?;
     combined(Operation::Unite, call.at, call.all, &inner, stack, m)
+}
+
+/// `hull`: its children are united, and then it is made of their tree.
+#[tactic(auto, using(crate::proofs::Onward::nodes), unfolding(crate::specs::Meaning::built_in))]
+fn hull<'p>(
+    call: Call<'p>,
+    w: &Where,
+    stack: &mut Stack<'p>,
+    m: &mut Machine<'p>,
+) -> Result<Focus<'p>, EvalFault>
+    ensures { (args : Arguments) (found : List Datum) (o : Outcome Solid) → o ≡ onward (built_in (below_of
+        (held m.old)) IsHull call.entry.at call.entry.name.now w.now (env_in (held m.old)) (along_in
+        (held m.old)) args found (items call.entry.all.now.items) (state_of m.old)) stack.old m.old → Goes o result
+        stack.new m.new }
+{
+    let from = profile_count(m);
+    stack.push(Frame::Hull(call, *w, from))?;
+    combined(Operation::Unite, call.at, call.all, w, stack, m)
 }
 
 /// `echo`.

@@ -18,6 +18,7 @@ ghost use Rattle.scad_inst.specs.View.{trees_in};
 
 use crate::arguments::profile_argued;
 use crate::leaves::{TRIANGLE_LIMIT, count_leaf, count_triangles, placed};
+use crate::profiles::keep_profile;
 use crate::refusals::{fault, named_fault, over};
 use crate::space::{Space, Turning, Where};
 use scad_expr::{EvalFault, Machine};
@@ -67,7 +68,7 @@ fn linear_leaf<'p>(
 
 /// The points of an outline are at most as many as all leaves have triangles.
 #[tactic(auto, unfolding(crate::specs::FlatLeaves::judge_points, scad_expr::specs::State::over))]
-fn judge_points(at: Place, points: usize) -> Result<(), EvalFault>
+pub(crate) fn judge_points(at: Place, points: usize) -> Result<(), EvalFault>
     ensures does { (s : State) → Does nothing (judge_points at points s) result s }
     ensures few { IfOk result (λ _. points ≤ triangle_limit) }
 {
@@ -79,7 +80,7 @@ fn judge_points(at: Place, points: usize) -> Result<(), EvalFault>
 
 /// A profile doesn't stand on both sides of the axis.
 #[tactic(auto, unfolding(crate::specs::FlatLeaves::judge_sides, scad_expr::specs::State::fault_of))]
-fn judge_sides(alloc: Global, word: Place, ring: &[(Num, Num)]) -> Result<(), EvalFault>
+pub(crate) fn judge_sides(alloc: Global, word: Place, ring: &[(Num, Num)]) -> Result<(), EvalFault>
     ensures { (s : State) → Does nothing (judge_sides word ring.now s) result s }
 {
     if crosses_axis(ring) {
@@ -109,7 +110,7 @@ fn count_sweep<'p>(
 
 /// A profile is turned: its triangles are counted, and then it is placed.
 #[tactic(auto, using(crate::proofs::Sweeps::bounds), unfolding(crate::specs::FlatLeaves::swept))]
-fn swept<'p>(
+pub(crate) fn swept<'p>(
     alloc: Global,
     at: Place,
     ring: &[(Num, Num)],
@@ -128,7 +129,7 @@ fn swept<'p>(
 }
 
 /// A leaf inside `rotate_extrude`: it is counted, then the points of its outline are judged; the outline is
-/// placed as a profile, which is judged in its turn, and turned.
+/// placed as a profile, which is judged in its turn, kept for a hull and turned.
 #[tactic(auto, unfolding(crate::specs::FlatLeaves::turned_leaf))]
 fn turned_leaf<'p>(
     alloc: Global,
@@ -149,6 +150,7 @@ fn turned_leaf<'p>(
     let ring = ring_of(alloc, shape)?;
     let profile = profile_argued(alloc, at, name, profile_of(alloc, &t.profile, &ring))?;
     judge_sides(alloc, t.word, &profile)?;
+    keep_profile(&profile, m)?;
     swept(alloc, at, &profile, t, whole, m)
 }
 

@@ -100,6 +100,7 @@ pub(crate) fn first_machine<'p>(alloc: Global) -> Result<Machine<'p>, EvalFault>
         depth_left: DEPTH_LIMIT,
         leaves: 0,
         triangles: 0,
+        profiles: Vec::new(alloc),
         echoes: Vec::new(alloc),
     })
 }

@@ -1,15 +1,20 @@
 //! Turns of the machine until nothing is left to do.
 
-ghost use Rattle.std.specs.Prelude.{◌≡◌, IfOk};
+ghost use Rattle.std.specs.Prelude.{◌≡◌, IfOk, if◌then◌else◌};
 ghost use Rattle.scad_tree.specs.Normal.{united};
+ghost use Rattle.scad_tree.specs.Solid.{nothing};
 ghost use Rattle.scad_tree.specs.View.{solid_of};
 ghost use Rattle.scad_expr.specs.Answers.{Does};
 ghost use Rattle.scad_expr.specs.Machine.{held, state_of};
+ghost use Rattle.scad_expr.specs.State.{gives};
+ghost use Rattle.scad_inst.specs.Profiles.{with_its_profiles};
 ghost use Rattle.scad_inst.specs.Stack.{Goes, Ends, rest, made_in, goes_on, onto};
 
 use crate::children::children_by;
 use crate::frames::go_back;
+use crate::hulls::hull_made;
 use crate::members::{made_of, members};
+use crate::profiles::with_its_profiles;
 use crate::stack::Stack;
 use crate::turn::{turns, variables};
 use crate::walk::{statement, unless_marked};
@@ -26,8 +31,19 @@ pub(crate) enum Next<'p> {
     End(Tree),
 }
 
+/// The tree of a statement, unless it is marked `%`; where it is empty, no points of its profiles are kept.
+fn statement_tree<'p>(marked: bool, from: usize, tree: Tree, m: &mut Machine<'p>) -> Tree
+    ensures does { with_its_profiles from (if marked then nothing else solid_of tree) (state_of m.old) ≡ gives
+        (solid_of result) (state_of m.new) }
+    ensures kept { held m.new ≡ held m.old }
+{
+    let given = unless_marked(marked, tree);
+    with_its_profiles(from, &given, m);
+    given
+}
+
 /// A frame has its tree.
-#[tactic(auto, using(crate::proofs::Onward::nodes), unfolding(crate::specs::Stack::onto, crate::specs::Stack::goes_on))]
+#[tactic(auto, using(crate::proofs::Onward::nodes, crate::proofs::Onward::given_frames), unfolding(crate::specs::Stack::onto, crate::specs::Stack::goes_on))]
 fn given<'p>(
     frame: Frame<'p>,
     tree: Tree,
@@ -38,9 +54,9 @@ fn given<'p>(
         (state_of m.old)) result stack.new m.new }
 {
     match frame {
-        Frame::Mark(marked, depth) => {
+        Frame::Mark(marked, depth, from) => {
             go_back(depth, m);
-            Ok(Focus::Given(unless_marked(marked, tree)))
+            Ok(Focus::Given(statement_tree(marked, from, tree, m)))
         }
         Frame::Member(marked) => {
             stack.add(marked, tree)?;
@@ -48,6 +64,9 @@ fn given<'p>(
         }
         Frame::Then(behind) => Ok(behind),
         Frame::Combine(operation, at, outer) => made_of(operation, at, outer, stack, m),
+        Frame::Hull(call, w, from) => {
+            Ok(Focus::Given(hull_made(stack.alloc, call, &w, from, &tree, m)?))
+        }
         Frame::Leave(back) => {
             m.leave(back);
             Ok(Focus::Given(tree))

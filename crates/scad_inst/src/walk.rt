@@ -18,6 +18,7 @@ use crate::item::{is_marked, item_place};
 use crate::members::combined;
 use crate::modules::Call;
 use crate::operation::Operation;
+use crate::profiles::profile_count;
 use crate::refusals::over;
 use crate::space::Where;
 use crate::stack::Stack;
@@ -47,7 +48,8 @@ pub(crate) fn statement<'p>(
     }
     go_deeper(m);
     m.step(at)?;
-    stack.push(Frame::Mark(is_marked(item), depth))?;
+    let from = profile_count(m);
+    stack.push(Frame::Mark(is_marked(item), depth, from))?;
     node(item, w, stack, m)
 }
 

@@ -29,14 +29,18 @@ pub(crate) enum Focus<'p> {
 /// What waits for a tree.
 #[derive(Drop)]
 pub(crate) enum Frame<'p> {
-    /// The statement has its tree: whether it is marked `%`, and how many levels of depth were left outside of it.
-    Mark(bool, u32),
+    /// The statement has its tree: whether it is marked `%`, how many levels of depth were left outside of it, and how
+    /// many points of profiles there were before it.
+    Mark(bool, u32, usize),
     /// The tree is a member, unless its statement is marked `%`.
     Member(bool),
     /// Members were added, and more comes.
     Then(Focus<'p>),
     /// The members have their operation, made by the statement at a place; those of the operation round it.
     Combine(Operation, Place, Vec<Tree>),
+    /// The children of a `hull` have their tree: where the hull stands, and how many points of profiles there were
+    /// before them.
+    Hull(Call<'p>, Where, usize),
     /// The last frames of the machine are left, and names are sought from another one.
     Leave(u32),
 }

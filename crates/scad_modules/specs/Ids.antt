@@ -4,10 +4,10 @@ use Rattle.scad_modules.specs.declared.module.Shape.TheVariants.{Cube, Sphere, C
 use Rattle.scad_modules.specs.declared.module.Flat.TheVariants.{Square, Circle, Polygon}
 use Rattle.scad_modules.specs.declared.module.Extrusion.TheVariants.{Linear, Rotate as RotateExtrude}
 use Rattle.scad_modules.specs.declared.module.Transform.TheVariants.{Translate, Scale, Rotate, Mirror, Multmatrix}
-use Rattle.scad_modules.specs.declared.module.Module.TheVariants.{Shape, Flat, Extrusion, Transform, Union, Difference, Intersection, Children, Echo, Assert}
+use Rattle.scad_modules.specs.declared.module.Module.TheVariants.{Shape, Flat, Extrusion, Transform, Union, Difference, Intersection, Hull, Children, Echo, Assert}
 use Rattle.scad_modules.specs.declared.module.Name.{Name}
 use Rattle.scad_modules.specs.declared.module.Name.TheVariants.{Known, For, IntersectionFor, Let, LeftOut, Unknown}
-use Rattle.scad_modules.specs.declared.id.TheConstants.{CUBE, SPHERE, CYLINDER, POLYHEDRON, SQUARE, CIRCLE, POLYGON, LINEAR_EXTRUDE, ROTATE_EXTRUDE, TRANSLATE, SCALE, ROTATE, MIRROR, MULTMATRIX, UNION, DIFFERENCE, INTERSECTION, FOR, INTERSECTION_FOR, LET, CHILDREN, ECHO, ASSERT, LEFT_OUT}
+use Rattle.scad_modules.specs.declared.id.TheConstants.{CUBE, SPHERE, CYLINDER, POLYHEDRON, SQUARE, CIRCLE, POLYGON, LINEAR_EXTRUDE, ROTATE_EXTRUDE, TRANSLATE, SCALE, ROTATE, MIRROR, MULTMATRIX, UNION, DIFFERENCE, INTERSECTION, FOR, INTERSECTION_FOR, LET, CHILDREN, ECHO, ASSERT, LEFT_OUT, HULL}
 
 -- each name with its id
 abbrev pub name_table : List (List ℕ × ℕ)
@@ -15,7 +15,7 @@ name_table =
     (codes "assert", ASSERT) ∷ (codes "assign", LEFT_OUT) ∷ (codes "child", LEFT_OUT)
     ∷ (codes "children", CHILDREN) ∷ (codes "circle", CIRCLE) ∷ (codes "color", UNION) ∷ (codes "cube", CUBE)
     ∷ (codes "cylinder", CYLINDER) ∷ (codes "difference", DIFFERENCE) ∷ (codes "echo", ECHO)
-    ∷ (codes "for", FOR) ∷ (codes "group", UNION) ∷ (codes "hull", LEFT_OUT) ∷ (codes "import", LEFT_OUT)
+    ∷ (codes "for", FOR) ∷ (codes "group", UNION) ∷ (codes "hull", HULL) ∷ (codes "import", LEFT_OUT)
     ∷ (codes "intersection", INTERSECTION) ∷ (codes "intersection_for", INTERSECTION_FOR)
     ∷ (codes "let", LET) ∷ (codes "linear_extrude", LINEAR_EXTRUDE) ∷ (codes "minkowski", LEFT_OUT)
     ∷ (codes "mirror", MIRROR) ∷ (codes "multmatrix", MULTMATRIX) ∷ (codes "offset", LEFT_OUT)
@@ -53,4 +53,5 @@ numbered_name n =
     else (if n == ECHO then Known Echo
     else (if n == ASSERT then Known Assert
     else (if n == LEFT_OUT then LeftOut
-    else Unknown)))))))))))))))))))))))
+    else (if n == HULL then Known Hull
+    else Unknown))))))))))))))))))))))))

@@ -7,7 +7,7 @@ use Rattle.scad_modules.specs.declared.module.Shape.TheVariants.{Cube, Sphere, C
 use Rattle.scad_modules.specs.declared.module.Flat.TheVariants.{Square, Circle, Polygon}
 use Rattle.scad_modules.specs.declared.module.Extrusion.TheVariants.{Linear, Rotate as RotateExtrude}
 use Rattle.scad_modules.specs.declared.module.Transform.TheVariants.{Translate, Scale, Rotate, Mirror, Multmatrix}
-use Rattle.scad_modules.specs.declared.module.Module.TheVariants.{Shape, Flat, Extrusion, Transform, Union, Difference, Intersection, Children, Echo, Assert}
+use Rattle.scad_modules.specs.declared.module.Module.TheVariants.{Shape, Flat, Extrusion, Transform, Union, Difference, Intersection, Hull, Children, Echo, Assert}
 use Rattle.scad_modules.specs.declared.module.Name.{Name}
 use Rattle.scad_modules.specs.declared.module.Name.TheVariants.{Known, For, IntersectionFor, Let, LeftOut, Unknown}
 
@@ -19,7 +19,7 @@ meanings =
     ∷ (codes "color", Known Union) ∷ (codes "cube", Known (Shape Cube))
     ∷ (codes "cylinder", Known (Shape Cylinder)) ∷ (codes "difference", Known Difference)
     ∷ (codes "echo", Known Echo) ∷ (codes "for", For) ∷ (codes "group", Known Union)
-    ∷ (codes "hull", LeftOut) ∷ (codes "import", LeftOut) ∷ (codes "intersection", Known Intersection)
+    ∷ (codes "hull", Known Hull) ∷ (codes "import", LeftOut) ∷ (codes "intersection", Known Intersection)
     ∷ (codes "intersection_for", IntersectionFor) ∷ (codes "let", Let)
     ∷ (codes "linear_extrude", Known (Extrusion Linear)) ∷ (codes "minkowski", LeftOut)
     ∷ (codes "mirror", Known (Transform Mirror)) ∷ (codes "multmatrix", Known (Transform Multmatrix))

@@ -47,3 +47,5 @@ pub(crate) const ECHO: u16 = 21;
 pub(crate) const ASSERT: u16 = 22;
 /// Of each name that the language leaves out.
 pub(crate) const LEFT_OUT: u16 = 23;
+
+pub(crate) const HULL: u16 = 24;

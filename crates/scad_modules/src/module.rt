@@ -47,6 +47,7 @@ pub enum Module {
     Union,
     Difference,
     Intersection,
+    Hull,
     Children,
     Echo,
     Assert,

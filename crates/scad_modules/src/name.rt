@@ -60,7 +60,7 @@ const NAMES: [Row; 36] = [
     },
     Row {
         name: "hull",
-        id: LEFT_OUT,
+        id: HULL,
     },
     Row {
         name: "import",
@@ -193,6 +193,7 @@ fn numbered_name(number: u16) -> Name
         ECHO => Name::Known(Module::Echo),
         ASSERT => Name::Known(Module::Assert),
         LEFT_OUT => Name::LeftOut,
+        HULL => Name::Known(Module::Hull),
         _ => Name::Unknown,
     }
 }

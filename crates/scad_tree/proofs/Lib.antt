@@ -8,3 +8,4 @@ pub mod LeafSections
 pub mod Numbering
 pub mod Above
 pub mod Surfaces
+pub mod TreePoints

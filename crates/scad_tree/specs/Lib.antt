@@ -6,6 +6,7 @@ pub mod Contained
 pub mod Nesting
 pub mod Height
 pub mod Order
+pub mod Points
 pub mod Solids
 pub mod Sizes
 pub mod Text

@@ -12,12 +12,14 @@ mod node;
 mod normal;
 mod number;
 mod operations;
+mod points;
 mod sections;
 mod shape;
 mod sizes;
 mod solids;
 mod text;
 mod tree;
+mod united;
 
 pub use node::Node;
 pub use operations::{intersect, subtract, unite};

@@ -45,7 +45,8 @@ fn names_have_meanings(rt: HostRuntime) {
         ("square", Name::Known(Module::Flat(Flat::Square))),
         ("render", Name::Known(Module::Union)),
         ("for", Name::For),
-        ("hull", Name::LeftOut),
+        ("hull", Name::Known(Module::Hull)),
+        ("minkowski", Name::LeftOut),
         ("Cube", Name::Unknown),
         ("", Name::Unknown),
     ] {

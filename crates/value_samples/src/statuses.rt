@@ -100,6 +100,10 @@ fn budgets_end_with_their_lines(rt: HostRuntime) {
         (edges, "budget 7 LayerEdges layer 4 count 20010\n"),
         (crossings, "budget 8 LayerCrossings layer 0 count 2000001\n"),
         (moves, most),
+        (
+            Budget::placed(Limit::HullPoints, at),
+            "budget 10 HullPoints at 1:27\n",
+        ),
     ] {
         assert!(rt;
             ends_with(rt.alloc(), &Status::Over(budget), line),

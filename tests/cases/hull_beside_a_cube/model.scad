@@ -1,0 +1,1 @@
+cube(1); hull() { translate([3, 0, 0]) cube(1); translate([5, 0, 0]) cube(1); }

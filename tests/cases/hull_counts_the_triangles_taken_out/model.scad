@@ -1,0 +1,1 @@
+hull() for(i=[0:221]) sphere(2, $fn=30);

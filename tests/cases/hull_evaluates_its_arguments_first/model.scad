@@ -1,0 +1,1 @@
+hull(1 / 0) { difference() { cube(2); cube(1); } }

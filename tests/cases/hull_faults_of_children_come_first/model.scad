@@ -1,0 +1,1 @@
+hull() { difference() { cube(2); cube(1); } sphere("a"); }

@@ -1,0 +1,1 @@
+hull($fn=5) { cylinder(h=1, r=2); }

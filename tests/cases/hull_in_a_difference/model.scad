@@ -1,0 +1,1 @@
+difference() { hull() { cube(4); translate([0, 0, 4]) cube(2); } translate([1, 1, 1]) cube(2); }

@@ -1,0 +1,1 @@
+linear_extrude(height=0) hull() { square(1); translate([3, 1]) square(1); }

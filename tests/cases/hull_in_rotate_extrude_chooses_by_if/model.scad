@@ -1,0 +1,1 @@
+rotate_extrude($fn=4) hull() { if (false) translate([9, 0]) square(1); else translate([3, 0]) square(1); translate([3, 2]) square(1); }

@@ -1,0 +1,1 @@
+rotate_extrude($fn=4) for(i=[0:2]) translate([4, 3 * i]) hull() { square(1); translate([i, 1]) square(1); }

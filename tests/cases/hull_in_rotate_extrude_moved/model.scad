@@ -1,0 +1,1 @@
+translate([0, 0, 3]) rotate_extrude($fn=8) rotate(45) translate([4, -4]) hull() { circle(1, $fn=6); translate([2, 1]) square(1); }

@@ -1,0 +1,1 @@
+rotate_extrude($fn=4) hull() { translate([2, 0]) square([0, 1]); translate([2, 4]) square([0, 1]); }

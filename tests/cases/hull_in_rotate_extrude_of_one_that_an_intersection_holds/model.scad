@@ -1,0 +1,1 @@
+rotate_extrude($fn=4) hull() intersection() { translate([3, 0]) square(2); }

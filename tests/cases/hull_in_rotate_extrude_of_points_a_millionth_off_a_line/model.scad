@@ -1,0 +1,1 @@
+rotate_extrude($fn=4) hull() polygon([[1, 0], [1, 5], [1.000001, 3]]);

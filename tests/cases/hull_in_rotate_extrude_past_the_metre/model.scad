@@ -1,0 +1,1 @@
+rotate_extrude($fn=4) hull() { translate([999, 0]) square(1); translate([3, 0]) square([998, 1]); }

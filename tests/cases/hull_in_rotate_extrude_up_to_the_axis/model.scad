@@ -1,0 +1,1 @@
+rotate_extrude($fn=4) hull() { square(1); translate([4, 0]) square(1); }

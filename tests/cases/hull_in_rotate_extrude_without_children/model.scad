@@ -1,0 +1,1 @@
+rotate_extrude($fn=4) hull();

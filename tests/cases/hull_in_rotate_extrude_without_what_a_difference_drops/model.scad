@@ -1,0 +1,1 @@
+rotate_extrude($fn=4) hull() { translate([3, 0]) square(1); difference() { group(); translate([9, 0]) square(1); } }

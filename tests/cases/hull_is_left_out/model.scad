@@ -1,1 +1,0 @@
-hull() { cube(1); cube(1); }

@@ -1,0 +1,1 @@
+mirror([1, 0, 0]) hull() { cube(1); translate([2, 0, 0]) cube([1, 2, 1]); }

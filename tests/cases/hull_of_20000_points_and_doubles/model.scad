@@ -1,0 +1,1 @@
+hull() { polyhedron(points=[for(i=[0:19999]) [i % 20, floor(i / 20) % 20, floor(i / 400)]], faces=[for(i=[0:19999]) [i, i, i]]); cube(5); }

@@ -1,0 +1,1 @@
+hull() { circle(1); }

@@ -1,0 +1,1 @@
+hull() { difference() { group(); cube(9); } cube(1); }

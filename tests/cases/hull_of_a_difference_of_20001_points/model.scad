@@ -1,0 +1,1 @@
+hull() difference() { polyhedron(points=[for(i=[0:20000]) [i % 20, floor(i / 20) % 20, floor(i / 400)]], faces=[for(i=[0:20000]) [i, i, i]]); cube(1); }

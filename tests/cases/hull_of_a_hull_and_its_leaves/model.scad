@@ -1,0 +1,1 @@
+hull() { hull() { cube(1); translate([3, 0, 0]) cube(1); } cube(1); translate([3, 0, 0]) cube(1); }

@@ -1,0 +1,1 @@
+linear_extrude(1) hull() polygon([for(i=[0:10000]) [i / 100, i % 2]]);

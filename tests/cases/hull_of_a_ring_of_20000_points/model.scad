@@ -1,0 +1,1 @@
+rotate_extrude($fn=3) hull() polygon([for(i=[0:19999]) [i % 100, floor(i / 100)]]);

@@ -1,0 +1,1 @@
+hull() { sphere(2, $fn=8); translate([5, 1, 3]) cylinder(h=2, r1=1, r2=0, $fn=7); }

@@ -1,0 +1,1 @@
+hull() rotate_extrude($fn=5) translate([2, 0]) square(1);

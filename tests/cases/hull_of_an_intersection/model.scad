@@ -1,0 +1,1 @@
+hull() { cube(1); intersection() { cube(2); cube(1); } }

@@ -1,0 +1,1 @@
+hull() for(x=[0:3], y=[0:2]) translate([x, y, x + y]) cube(1);

@@ -1,0 +1,1 @@
+hull() polyhedron(points=[[0, 0, 1], [3, 0, 1], [3, 3, 1], [0, 3, 1]], faces=[for(i=[0:3]) [i,i,i]]);

@@ -1,0 +1,1 @@
+hull() polyhedron(points=[[0, 0, 0], [3, 0, 3], [3, 3, 6], [0, 3, 3]], faces=[for(i=[0:3]) [i,i,i]]);

@@ -1,0 +1,1 @@
+hull() { cube(1); %translate([9, 0, 0]) cube(1); }

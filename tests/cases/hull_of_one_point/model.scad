@@ -1,0 +1,1 @@
+hull() polyhedron(points=[[1, 2, 3]], faces=[for(i=[0:0]) [i,i,i]]);

@@ -1,0 +1,1 @@
+hull() { cube(4); polyhedron(points=[[2, 2, 0], [2, 0, 0], [2, 2, 2], [4, 1, 3], [0, 0, 1]], faces=[for(i=[0:4]) [i,i,i]]); }

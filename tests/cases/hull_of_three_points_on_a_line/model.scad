@@ -1,0 +1,1 @@
+hull() polyhedron(points=[[0, 0, 0], [1, 1, 1], [2, 2, 2]], faces=[for(i=[0:2]) [i,i,i]]);

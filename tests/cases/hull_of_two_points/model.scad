@@ -1,0 +1,1 @@
+hull() polyhedron(points=[[1, 2, 3], [4, 5, 6]], faces=[for(i=[0:1]) [i,i,i]]);

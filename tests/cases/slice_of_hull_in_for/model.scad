@@ -1,0 +1,1 @@
+for(x=[0, 5]) translate([x, 0, 0]) hull() { cube(1); translate([0, 2, 2]) cube([3, 1, 1]); }

@@ -1,0 +1,1 @@
+linear_extrude(height=2, center=true) hull() { square(1); translate([3, 1]) circle(1, $fn=8); }

@@ -1,0 +1,1 @@
+rotate_extrude($fn=4) hull() { translate([3, 0]) hull() { square(1); translate([2, 2]) square(1); } translate([5, 5]) circle(1, $fn=5); }

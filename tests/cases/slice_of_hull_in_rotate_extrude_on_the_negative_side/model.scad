@@ -1,0 +1,1 @@
+rotate_extrude($fn=4) hull() { translate([-7, 0]) square(2); translate([-9, 5]) square(1); }

@@ -1,0 +1,1 @@
+rotate_extrude($fn=4) hull() { translate([5, 0]) square(2); translate([8, 5]) square(1); }

@@ -1,0 +1,1 @@
+rotate_extrude($fn=4) { intersection() { hull() { translate([9, 0]) square(1); } group(); } hull() { translate([3, 0]) square(1); } }

@@ -1,0 +1,1 @@
+rotate_extrude($fn=4) hull() { hull() { translate([9, 0]) square([0, 3]); } translate([3, 0]) square(1); }

@@ -1,0 +1,1 @@
+hull() { difference() { cube(2); group(); } translate([4, 0, 0]) cube(1); }

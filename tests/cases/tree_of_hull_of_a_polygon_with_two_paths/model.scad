@@ -1,0 +1,1 @@
+linear_extrude(1) hull() { polygon([[0, 0], [9, 0], [0, 9]]); polygon([[8, 8], [9, 9], [8, 9]]); }

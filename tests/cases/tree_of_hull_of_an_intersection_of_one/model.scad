@@ -1,0 +1,1 @@
+hull() { intersection() { cube(2); } translate([4, 0, 0]) cube(1); }

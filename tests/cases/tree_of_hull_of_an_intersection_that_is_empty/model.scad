@@ -1,0 +1,1 @@
+hull() { cube(1); intersection() { translate([9, 0, 0]) cube(2); cube([1, 1, 1]); group(); } }

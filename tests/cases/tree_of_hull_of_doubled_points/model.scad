@@ -1,0 +1,1 @@
+hull() { cube(2); cube(2); translate([0, 0, 0]) cube(2); }

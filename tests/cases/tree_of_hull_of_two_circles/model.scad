@@ -1,0 +1,1 @@
+linear_extrude(height=1) hull() { circle(r=1, $fn=4); translate([3, 0]) circle(r=1, $fn=4); }
