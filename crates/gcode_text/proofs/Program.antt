@@ -14,7 +14,8 @@ use Rattle.gcode_text.specs.Amount.{move_volume, moves_volume, path_volume, path
 use Rattle.gcode_text.specs.Gcode.{travel_line, print_line, height_line, number_line, moves_text, path_text, paths_text, layer_text, layers_text, head, end, gcode}
 use Rattle.gcode_text.specs.Reading.{without_return, without_comment, words}
 use Rattle.gcode_text.specs.Machine.{State, origin, start, moves_of_lines, line_step}
-use Rattle.gcode_text.specs.Moves.{at_height, travel, printing, printing_moves, end_of, path_moves, behind_path, paths_moves, behind_paths, raised, surface, layer_moves, layers_moves, program_moves, IsShort, IsShortPoint, AreShortPaths, ProgramsMakeTheirMoves}
+use Rattle.gcode_text.specs.Moves.{at_height, travel, printing, printing_moves, end_of, path_moves, behind_path, paths_moves, behind_paths, raised, surface, layer_moves, layers_moves, program_moves, IsShort, IsShortPoint, AreShortPaths}
+use Rattle.gcode_text.specs.Laws.{ProgramsMakeTheirMoves}
 use Rattle.gcode_text.proofs.Run.{Goes, standing, run, prefix, goes_head, goes_end, goes_nowhere, goes_on, goes_travel, goes_print, goes_height, goes_number}
 use Rattle.std.proofs.Common.{zero-add}
 

@@ -1,13 +1,12 @@
 -- The moves that the paths of layers are printed by.
-use Rattle.std.specs.Prelude.{◌≡◌, ℕ, ◌+◌, ◌*◌, ◌^◌, ◌<◌, ◌≤◌, false, not, List, [], ◌∷◌, ◌++◌, length, pos, unsigned_abs, Ok}
+use Rattle.std.specs.Prelude.{ℕ, ◌+◌, ◌*◌, ◌^◌, ◌<◌, ◌≤◌, false, not, List, [], ◌∷◌, ◌++◌, length, pos, unsigned_abs}
 use Rattle.std.specs.List.{AllByRecursion}
 use Rattle.scad_geom.specs.declared.point.Pt.{Pt}
 use Rattle.scad_geom.specs.declared.point3.Pt3.{Pt3}
 use Rattle.gcode_text.specs.declared.machine.Move.{Move}
 use Rattle.gcode_text.specs.declared.rates.Rates.{Rates}
 use Rattle.gcode_text.specs.Amount.{move_volume, path_volume, paths_volume, layers_volume, filament}
-use Rattle.gcode_text.specs.Gcode.{gcode}
-use Rattle.gcode_text.specs.Machine.{stays, origin, machine}
+use Rattle.gcode_text.specs.Machine.{stays, origin}
 
 -- a point at a height
 abbrev pub at_height : Pt → ℕ → Pt3
@@ -84,7 +83,7 @@ layers_moves rates volume layer here (paths ∷ layers) =
 abbrev pub program_moves : Rates → List (List (List Pt)) → List Move
 program_moves rates layers = layers_moves rates 0 0 origin layers
 
--- ---- the law
+-- ---- numbers that can be written
 
 -- below 10 ^ 64, as many digits as the library writes
 abbrev pub IsShort : ℕ → Type 0
@@ -106,8 +105,3 @@ pub record IsWritable (rates : Rates) (hot_end bed : ℕ) (layers : List (List (
   pub count : IsShort (length layers)
   pub height : IsShort (length layers * rates.layer_height)
   pub volume : IsShort (100 * layers_volume rates layers)
-
--- the machine makes exactly the moves of the paths along the program that is written of them
-abbrev pub ProgramsMakeTheirMoves : Type 0
-ProgramsMakeTheirMoves = (rates : Rates) (hot_end bed : ℕ) (layers : List (List (List Pt))) →
-    IsWritable rates hot_end bed layers → machine (gcode rates hot_end bed layers) ≡ Ok (program_moves rates layers)

@@ -17,7 +17,8 @@ use Rattle.scad_ring.specs.Nearness.{Closed, IsNear, IsClear}
 use Rattle.plan_infill.specs.declared.run.Run.{Run}
 use Rattle.plan_infill.specs.Runs.{point_on}
 use Rattle.plan_walls.specs.Walls.{AreWalls}
-use Rattle.plan_walls.specs.Kept.{clearance, KeepsWithin, WallsKeepClear, KeepsClear}
+use Rattle.plan_walls.specs.Kept.{clearance, KeepsWithin, KeepsClear}
+use Rattle.plan_walls.specs.Laws.{WallsKeepClear}
 use Rattle.scad_words.specs.declared.settings.Settings.{Settings}
 use Rattle.scad_words.specs.Settings.{AreInRange}
 use Rattle.plan_layer.specs.Plan.{distance}

@@ -11,7 +11,7 @@ use Rattle.scad_geom.specs.Sign.{is_zero}
 use Rattle.plan_sides.proofs.Closed.{sides_balanced}
 use Rattle.slice_bool.proofs.NearBorder.{outlines_are_near_border}
 use Rattle.plan_walls.specs.Walls.{with_rings}
-use Rattle.plan_walls.specs.Kept.{WallsStayApart, WallsKeepClear}
+use Rattle.plan_walls.specs.Laws.{WallsStayApart, WallsKeepClear}
 use Rattle.plan_walls.proofs.Off.{IsOff, held_off}
 use Rattle.plan_walls.proofs.Clear.{clear_of}
 use Rattle.plan_walls.proofs.Inside.{wound_alike}

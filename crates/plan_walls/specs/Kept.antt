@@ -1,5 +1,5 @@
 -- The clearance that walls keep from the outlines that they follow.
-use Rattle.std.specs.Prelude.{◌≢◌, ℕ, ◌≤◌, List, flat_map, pos, ◌-ℤ◌, ◌<ℤ◌, All}
+use Rattle.std.specs.Prelude.{◌≢◌, ℕ, List, flat_map, pos, ◌-ℤ◌, ◌<ℤ◌, All}
 use Rattle.scad_geom.specs.declared.point.Pt.{Pt}
 use Rattle.scad_geom.specs.declared.point.Edge.{Edge}
 use Rattle.scad_geom.specs.Point.{Point, whole}
@@ -10,7 +10,6 @@ use Rattle.winding_laws.specs.Region.{HalfPlane}
 use Rattle.winding_laws.specs.Points.{IsOn}
 use Rattle.scad_ring.specs.Octagon.{reach, octagon}
 use Rattle.scad_ring.specs.Nearness.{Closed, IsClear}
-use Rattle.plan_walls.specs.Walls.{AreWalls}
 
 -- the clearance of a distance c: the octagon of c, less one micrometre along each axis and two along the sum of both. It
 -- holds the differences (dx, dy) with |dx| and |dy| at most c - 1 and |dx| + |dy| at most reach c - 2
@@ -41,15 +40,3 @@ abbrev pub StayApart : List (List Pt) → ℕ → List (List Pt) → Type 0
 StayApart outlines c loops = All
     (λ e. (q : Point) → pos 0 <ℤ q.d → IsOn (whole e.a) (whole e.b) q → IsApart outlines c q)
     (flat_map sides loops)
-
--- ---- the laws
--- Each point of the walls at a distance c, from 1 micrometre on, keeps the clearance of c from each side of the outlines
--- (that of 1 micrometre has no point).
-abbrev pub WallsStayApart : Type 0
-WallsStayApart = (c : ℕ) (outlines loops : List (List Pt)) → 1 ≤ c → AreWalls c outlines loops
-    → StayApart outlines c loops
-
--- From 2 micrometres on each point of them also lies inside the outlines.
-abbrev pub WallsKeepClear : Type 0
-WallsKeepClear = (c : ℕ) (outlines loops : List (List Pt)) → 2 ≤ c → AreWalls c outlines loops
-    → KeepClear outlines c loops

@@ -3,3 +3,4 @@ pub mod Walls
 pub mod Kept
 pub mod Lengths
 pub mod Refusal
+pub mod Laws

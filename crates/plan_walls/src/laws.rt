@@ -1,6 +1,6 @@
 //! Laws of the definitions, each carried by the contract of a function that does nothing.
 ghost use Rattle.plan_walls.specs.Rings.{LeftIsWound};
-ghost use Rattle.plan_walls.specs.Kept.{WallsStayApart, WallsKeepClear};
+ghost use Rattle.plan_walls.specs.Laws.{WallsStayApart, WallsKeepClear};
 ghost use Rattle.plan_walls.specs.Lengths.{WallsHaveLengths};
 
 /// A closed way with a point to the left of each of its sides winds round the point counter-clockwise, hard by it on

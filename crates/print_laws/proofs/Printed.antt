@@ -8,7 +8,7 @@ use Rattle.scad_words.specs.declared.settings.Settings.{Settings}
 use Rattle.scad_words.specs.Settings.{AreInRange}
 use Rattle.plan_layer.specs.Moves.{all_moves}
 use Rattle.plan_layer.specs.Lengths.{PlansHaveLengths}
-use Rattle.gcode_text.specs.Moves.{ProgramsMakeTheirMoves}
+use Rattle.gcode_text.specs.Laws.{ProgramsMakeTheirMoves}
 use Rattle.slice_work.specs.Part.{Layout}
 use Rattle.slice_work.specs.Rates.{rates_of}
 use Rattle.print_laws.specs.Planned.{IsPlanned}

@@ -39,8 +39,8 @@ no_parts want settings i = Ok (record { outlines = []; paths = []; runs = 0 })
 parts_of : (meaning : Outcome Solid) → ((tree : Solid) (s : State) → meaning ≡ gives tree s → AreSolids tree)
     → (parts : Parts) × ArePartsOf meaning parts
 parts_of (gives tree s) solids = (
-  λ want settings. (parts_are_there want settings tree).0,
-  λ want settings in_range i. (parts_are_there want settings tree).1 (solids tree s refl) in_range i,
+  λ want settings. (parts_are_there want settings tree (solids tree s refl)).0,
+  λ want settings in_range i. (parts_are_there want settings tree (solids tree s refl)).1 i,
 )
 parts_of (refuses fault s) solids = (no_parts, tt)
 
@@ -58,16 +58,16 @@ follows_one (Check model) settings tree a b in_range solids of_a of_b = refl
 follows_one (Tree model) settings tree a b in_range solids of_a of_b = refl
 follows_one (Slice model cli) settings tree a b in_range solids of_a of_b =
     ap (λ part. slice_script settings cli part tree)
-    (parts_are_one OutlinesAlone settings tree _ _ solids in_range (as_part tree a of_a OutlinesAlone settings)
-    (as_part tree b of_b OutlinesAlone settings))
+    (parts_are_one OutlinesAlone settings tree _ _ solids in_range
+    (as_part tree a of_a OutlinesAlone settings in_range) (as_part tree b of_b OutlinesAlone settings in_range))
 follows_one (Plan model cli gcode) settings tree a b in_range solids of_a of_b =
     ap (λ part. plan_script settings cli gcode part tree)
-    (parts_are_one WithPlan settings tree _ _ solids in_range (as_part tree a of_a WithPlan settings)
-    (as_part tree b of_b WithPlan settings))
+    (parts_are_one WithPlan settings tree _ _ solids in_range
+    (as_part tree a of_a WithPlan settings in_range) (as_part tree b of_b WithPlan settings in_range))
 follows_one (Sample n) settings tree a b in_range solids of_a of_b =
     ap (λ part. sample_script n settings part tree)
-    (parts_are_one WithPlan settings tree _ _ solids in_range (as_part tree a of_a WithPlan settings)
-    (as_part tree b of_b WithPlan settings))
+    (parts_are_one WithPlan settings tree _ _ solids in_range
+    (as_part tree a of_a WithPlan settings in_range) (as_part tree b of_b WithPlan settings in_range))
 
 source_one : (command : Command) (settings : SettingsOfRun) (meaning : Outcome Solid) (a b : Parts)
     → AreInRange settings

@@ -16,7 +16,6 @@ use Rattle.scad_script.specs.Steps.{Step}
 use Rattle.scad_script.specs.Script.{Script, Ending, Finishes, Refuses, refused}
 use Rattle.scad_script.specs.Promises.{IsAnswered, Promised}
 use Rattle.scad_tree.specs.Solid.{Solid}
-use Rattle.scad_tree.specs.Solids.{AreSolids}
 use Rattle.slice_work.specs.declared.want.Want.{Want}
 use Rattle.slice_work.specs.declared.want.Want.TheVariants.{Outlines as OutlinesAlone, Plan as WithPlan}
 use Rattle.slice_work.specs.Part.{Part}
@@ -24,11 +23,12 @@ use Rattle.scad_slice.specs.Budgets.{layer_count}
 use Rattle.scad_slice.specs.Parts.{IsPart}
 use Rattle.scad_slice.specs.Layer.{IsLayer}
 use Rattle.scad_run.specs.Words.{given_by}
+use Rattle.scad_run.specs.Meaning.{Means}
 use Rattle.scad_run.specs.Answer.{Parts, follows, job_script, script_of, ArePartsOfTree, AreDrawn, AreParts}
 use Rattle.scad_run.specs.Inputs.{Inputs, source_in, IsRead}
 use Rattle.scad_run.specs.Causes.{HasManyLayers, PassesAtLayer, PassesDrawing, IsCause, HasNamedCause}
 use Rattle.scad_run.proofs.Working.{parts_meant}
-use Rattle.scad_run.proofs.Sources.{sources_mean_solids, as_part}
+use Rattle.scad_run.proofs.Sources.{as_part}
 use Rattle.scad_run.proofs.Heights.{found_in_range}
 use Rattle.scad_run.proofs.Answering.{other_refuses}
 use Rattle.scad_run.proofs.Reached.{EndsBefore, IsStopped, IsFollowed, reached}
@@ -36,7 +36,7 @@ use Rattle.scad_run.proofs.Ends.{PartPasses, IsDone, IsDrawnOver, IsOver, EndsBy
 
 -- ---- a budget that drawing passes
 
-module _ (settings : SettingsOfRun) (tree : Solid) (in_range : AreInRange settings) (solids : AreSolids tree) where
+module _ (settings : SettingsOfRun) (tree : Solid) (in_range : AreInRange settings) where
   layer_passes : (want : Want) (part : Part) (budget : Budget) → IsPart want settings tree part
       → PartPasses part (layer_count settings.layer_height tree) budget → PassesAtLayer want settings tree budget
   layer_passes want part budget is_part p =
@@ -46,8 +46,8 @@ module _ (settings : SettingsOfRun) (tree : Solid) (in_range : AreInRange settin
         there = p.there;
         below = λ i less.
             let made = p.below i less in
-            (made.0, subst (IsLayer want settings tree i) made.1 (is_part solids in_range i));
-        passes = subst (IsLayer want settings tree p.layer) p.passes (is_part solids in_range p.layer);
+            (made.0, subst (IsLayer want settings tree i) made.1 (is_part i));
+        passes = subst (IsLayer want settings tree p.layer) p.passes (is_part p.layer);
       }
 
   drawn_passes : (want : Want) (creates : List Step) (line : List ℕ) (part : Part) (budget : Budget)
@@ -65,18 +65,20 @@ module _ (settings : SettingsOfRun) (tree : Solid) (in_range : AreInRange settin
   passes_drawing (Tree model) parts budget of_tree over = over
   passes_drawing (Slice model cli) parts budget of_tree over =
       drawn_passes OutlinesAlone _ _ (parts OutlinesAlone settings) budget
-      (as_part tree parts of_tree OutlinesAlone settings)
+      (as_part tree parts of_tree OutlinesAlone settings in_range)
       over
   passes_drawing (Plan model cli gcode) parts budget of_tree over =
-      drawn_passes WithPlan _ _ (parts WithPlan settings) budget (as_part tree parts of_tree WithPlan settings) over
+      drawn_passes WithPlan _ _ (parts WithPlan settings) budget (as_part tree parts of_tree WithPlan settings in_range)
+      over
   passes_drawing (Sample n) parts budget of_tree over =
-      drawn_passes WithPlan _ _ (parts WithPlan settings) budget (as_part tree parts of_tree WithPlan settings) over
+      drawn_passes WithPlan _ _ (parts WithPlan settings) budget (as_part tree parts of_tree WithPlan settings in_range)
+      over
 
 -- ---- the cause of a refusal
 
 -- before the tree
 cause_before : (job : Job) (inputs : Inputs) (refusal : Refusal) → EndsBefore job inputs (Refuses refusal)
-    → IsCause (Some job) inputs (refused refusal)
+    → IsCause Means (Some job) inputs (refused refusal)
 cause_before job inputs (Refusal.Source fault) why = (job, refl, why)
 cause_before job inputs Refusal.Usage why = absurd why
 cause_before job inputs (Refusal.Settings fault) why = (job, refl, why)
@@ -89,16 +91,15 @@ cause_behind : (job : Job) (inputs : Inputs) (parts : Parts) (whole : Script) (r
     → AreDrawn (source_in (Some job) inputs) parts
     → EndsBy (IsDone job.command f.settings parts f.tree) (IsOver job.command f.settings parts f.tree)
     (follows job.command f.settings parts f.tree).ending
-    → whole.ending ≡ Refuses refusal → IsCause (Some job) inputs (refused refusal)
+    → whole.ending ≡ Refuses refusal → IsCause Means (Some job) inputs (refused refusal)
 cause_behind job inputs parts whole refusal f drawn (inl (line, is, done)) same =
     let other : Finishes line ≡ Refuses refusal = sym is ∙ sym f.ending ∙ same in let never : ⊥ = cc in absurd never
 cause_behind job inputs parts whole refusal f drawn (inr (budget, is, over)) same =
     let of_source = subst (λ (i : Option Input). AreDrawn i parts) f.there drawn in
     let of_tree = parts_meant f.source f.tree parts (f.state, f.means) of_source in
-    let are_solids = sources_mean_solids f.source f.tree f.state f.means in
     let in_range = found_in_range job.settings inputs.settings f.settings f.found in
     let one : refusal ≡ Refusal.Over budget = ap (refusal_in (Refusal.Over budget)) (sym same ∙ f.ending ∙ is) in
-    subst (λ (r : Refusal). IsCause (Some job) inputs (refused r)) (sym one) (
+    subst (λ (r : Refusal). IsCause Means (Some job) inputs (refused r)) (sym one) (
       job,
       refl,
       inr (inr (record {
@@ -108,7 +109,7 @@ cause_behind job inputs parts whole refusal f drawn (inr (budget, is, over)) sam
         found = f.found;
         tree = f.tree;
         means = (f.state, f.means);
-        passes = passes_drawing f.settings f.tree in_range are_solids job.command parts budget of_tree over;
+        passes = passes_drawing f.settings f.tree in_range job.command parts budget of_tree over;
       })),
     )
   where
@@ -119,7 +120,7 @@ cause_behind job inputs parts whole refusal f drawn (inr (budget, is, over)) sam
 job_cause : (job : Job) (inputs : Inputs) (parts : Parts) (whole : Script) (refusal : Refusal)
     → IsStopped job inputs whole ⊎ IsFollowed job inputs parts whole
     → AreDrawn (source_in (Some job) inputs) parts → whole.ending ≡ Refuses refusal
-    → IsCause (Some job) inputs (refused refusal)
+    → IsCause Means (Some job) inputs (refused refusal)
 job_cause job inputs parts whole refusal (inl stopped) drawn same =
     cause_before job inputs refusal (subst (EndsBefore job inputs) same stopped.why)
 job_cause job inputs parts whole refusal (inr f) drawn same =
@@ -127,7 +128,7 @@ job_cause job inputs parts whole refusal (inr f) drawn same =
 
 -- of words that are of no form the refusal is their usage
 usage_cause : (inputs : Inputs) (refusal : Refusal) → Refuses Refusal.Usage ≡ Refuses refusal
-    → IsCause None inputs (refused refusal)
+    → IsCause Means None inputs (refused refusal)
 usage_cause inputs (Refusal.Source fault) same = let never : ⊥ = cc in absurd never
 usage_cause inputs Refusal.Usage same = refl
 usage_cause inputs (Refusal.Settings fault) same = let never : ⊥ = cc in absurd never
@@ -135,7 +136,7 @@ usage_cause inputs (Refusal.Over budget) same = let never : ⊥ = cc in absurd n
 
 cause_of : (job : Option Job) (inputs : Inputs) (parts : Parts) (refusal : Refusal) → AreDrawn (source_in job inputs)
     parts
-    → (job_script job parts inputs).ending ≡ Refuses refusal → IsCause job inputs (refused refusal)
+    → (job_script job parts inputs).ending ≡ Refuses refusal → IsCause Means job inputs (refused refusal)
 cause_of None inputs parts refusal drawn same = usage_cause inputs refusal same
 cause_of (Some job) inputs parts refusal drawn same =
     job_cause job inputs parts (job_script (Some job) parts inputs) refusal (reached job inputs parts) drawn same
@@ -145,18 +146,18 @@ cause_of (Some job) inputs parts refusal drawn same =
 answered_cause : (words : List (List ℕ)) (inputs : Inputs) (parts : Parts) (status : Status) (old new : View)
     → AreParts words inputs parts
     → IsAnswered (script_of words parts inputs) status old new → status ≢ Done
-    → IsCause (job_of words) inputs status
+    → IsCause Means (job_of words) inputs status
 answered_cause words inputs parts status old new drawn answered other =
     let whole = script_of words parts inputs in
     let ends = other_refuses whole.steps whole.ending status old new answered other in
-    subst (IsCause (job_of words) inputs) ends.2 (cause_of (job_of words) inputs parts ends.0 drawn ends.1)
+    subst (IsCause Means (job_of words) inputs) ends.2 (cause_of (job_of words) inputs parts ends.0 drawn ends.1)
 
 pub has_cause : (words : List (List ℕ)) (files : Files) (inputs : Inputs) (parts : Parts) (status : Status)
     (old new : View) (before now : ℕ)
     → IsRead words files inputs → AreParts words inputs parts → Promised (given_by words) (script_of words parts inputs)
     status old new
     → (status ≡ Read → before < now) → (status ≡ Write → before < now)
-    → HasNamedCause words files status old new before now
+    → HasNamedCause Means words files status old new before now
 has_cause words files inputs parts Done old new before now is drawn promised read write = (inputs, is, tt)
 has_cause words files inputs parts (Source fault) old new before now is drawn promised read write =
     (inputs, is, answered_cause words inputs parts (Source fault) old new drawn promised (λ same. let never : ⊥ = cc in absurd never))

@@ -51,7 +51,7 @@ module _ (settings : SettingsOfRun) (tree : Solid) (in_range : AreInRange settin
       → part i ≡ Err budget → ⊥
   layer_made want part i budget is_part (layout, is) passes =
       let same : Ok layout ≡ Err budget = layer_is_one want settings tree i solids in_range (Ok layout) (part i) is
-      (is_part solids in_range i) ∙ passes in
+      (is_part i) ∙ passes in
       let never : ⊥ = cc in absurd never
 
   drawn_within : (want : Want) (creates : List Step) (line : List ℕ) (part : Part) (budget : Budget)
@@ -69,13 +69,13 @@ module _ (settings : SettingsOfRun) (tree : Solid) (in_range : AreInRange settin
   accepted_within (Tree model) parts budget of_tree accepts over = over
   accepted_within (Slice model cli) parts budget of_tree accepts over =
       drawn_within OutlinesAlone _ _ (parts OutlinesAlone settings) budget
-      (as_part tree parts of_tree OutlinesAlone settings)
+      (as_part tree parts of_tree OutlinesAlone settings in_range)
       accepts over
   accepted_within (Plan model cli gcode) parts budget of_tree accepts over =
-      drawn_within WithPlan _ _ (parts WithPlan settings) budget (as_part tree parts of_tree WithPlan settings)
+      drawn_within WithPlan _ _ (parts WithPlan settings) budget (as_part tree parts of_tree WithPlan settings in_range)
       accepts over
   accepted_within (Sample n) parts budget of_tree accepts over =
-      drawn_within WithPlan _ _ (parts WithPlan settings) budget (as_part tree parts of_tree WithPlan settings)
+      drawn_within WithPlan _ _ (parts WithPlan settings) budget (as_part tree parts of_tree WithPlan settings in_range)
       accepts over
 
 -- so what follows it ends with a last line

@@ -5,6 +5,7 @@ use Rattle.scad_io.specs.Desk.{Files, View}
 use Rattle.scad_words.specs.declared.job.Command.{Command}
 use Rattle.scad_words.specs.declared.job.Command.TheVariants.{Check, Tree, Slice, Plan, Sample}
 use Rattle.scad_words.specs.declared.settings.Settings.{Settings as SettingsOfRun}
+use Rattle.scad_words.specs.Settings.{AreInRange}
 use Rattle.scad_script.specs.declared.loading.Input.{Input}
 use Rattle.scad_script.specs.declared.stop.Stop.{Stop}
 use Rattle.scad_script.specs.Script.{input_of}
@@ -49,7 +50,8 @@ gets_model command model files (Ok input) named told =
 
 -- ---- the tree
 
-module _ (command : Command) (settings : SettingsOfRun) (tree : Solid) (result : Result (List ℕ) Stop) (old new : View) where
+module _ (command : Command) (settings : SettingsOfRun) (tree : Solid) (in_range : AreInRange settings)
+    (result : Result (List ℕ) Stop) (old new : View) where
   pub slice_finishes : (model cli : List ℕ) → command ≡ Slice model cli
       → ((part : Part) → IsPart OutlinesAlone settings tree part
       → Completes (slice_script settings cli part tree) result
@@ -57,7 +59,7 @@ module _ (command : Command) (settings : SettingsOfRun) (tree : Solid) (result :
       → PlaysOn command settings tree result old new
   slice_finishes model cli form plays parts of_tree =
       subst (λ (c : Command). Completes (follows c settings parts tree) result old new) (sym form)
-      (plays (parts OutlinesAlone settings) (as_part tree parts of_tree OutlinesAlone settings))
+      (plays (parts OutlinesAlone settings) (as_part tree parts of_tree OutlinesAlone settings in_range))
 
   pub plan_finishes : (model cli gcode : List ℕ) → command ≡ Plan model cli gcode
       → ((part : Part) → IsPart WithPlan settings tree part → Completes (plan_script settings cli gcode part tree)
@@ -66,14 +68,14 @@ module _ (command : Command) (settings : SettingsOfRun) (tree : Solid) (result :
       → PlaysOn command settings tree result old new
   plan_finishes model cli gcode form plays parts of_tree =
       subst (λ (c : Command). Completes (follows c settings parts tree) result old new) (sym form)
-      (plays (parts WithPlan settings) (as_part tree parts of_tree WithPlan settings))
+      (plays (parts WithPlan settings) (as_part tree parts of_tree WithPlan settings in_range))
 
-pub sample_finishes : (command : Command) (settings : SettingsOfRun) (tree : Solid) (result : Result (List ℕ) Stop)
-    (old : View) (n : ℕ)
+pub sample_finishes : (command : Command) (settings : SettingsOfRun) (tree : Solid) → AreInRange settings
+    → (result : Result (List ℕ) Stop) (old : View) (n : ℕ)
     → command ≡ Sample n → ((part : Part) → IsPart WithPlan settings tree part
     → IsEnd (sample_script n settings part tree) result)
     → PlaysOn command settings tree result old old
-sample_finishes command settings tree result old n form is parts of_tree =
+sample_finishes command settings tree in_range result old n form is parts of_tree =
     subst (λ (c : Command). Completes (follows c settings parts tree) result old old) (sym form)
     (λ whole start left. ended (sample_script n settings (parts WithPlan settings) tree) result whole start old
-    (is (parts WithPlan settings) (as_part tree parts of_tree WithPlan settings)) left)
+    (is (parts WithPlan settings) (as_part tree parts of_tree WithPlan settings in_range)) left)

@@ -7,9 +7,7 @@ use Rattle.scad_fault.specs.declared.budget.Budget.{Budget}
 use Rattle.scad_geom.specs.declared.point.Pt.{Pt}
 use Rattle.scad_geom.specs.declared.point.Edge.{Edge}
 use Rattle.scad_words.specs.declared.settings.Settings.{Settings as SettingsOfRun}
-use Rattle.scad_words.specs.Settings.{AreInRange}
 use Rattle.scad_tree.specs.Solid.{Solid}
-use Rattle.scad_tree.specs.Solids.{AreSolids}
 use Rattle.cli_text.specs.Cli.{Layer}
 use Rattle.gcode_text.specs.Gcode.{gcode}
 use Rattle.slice_work.specs.declared.want.Want.{Want}
@@ -73,25 +71,24 @@ pub program_is : (s : SettingsOfRun) (part : Part) (n : ℕ)
 program_is s part n = ap (λ paths. gcode (rates_of s) s.hot_end s.bed paths) (plans_are part n)
 
 -- each is the tree's
-pub layers_each : (want : Want) (s : SettingsOfRun) (tree : Solid) (part : Part) (n : ℕ) → AreSolids tree → AreInRange s
+pub layers_each : (want : Want) (s : SettingsOfRun) (tree : Solid) (part : Part) (n : ℕ)
     → IsPart want s tree part → AreMade part n → (i : ℕ) → i < length (layouts part n)
     → IsSomeAnd (slice_get (layouts part n) i) (λ l. IsLayer want s tree i (Ok l))
-layers_each want s tree part n solids in_range is_part made =
+layers_each want s tree part n is_part made =
     each_by_number (layout_at part) n (λ i l. IsLayer want s tree i (Ok l))
     (λ i within.
     let layout = made i within in
     subst (λ (r : Result Layout Budget). IsLayer want s tree i (Ok (whole_of r))) (sym layout.1)
-    (subst (IsLayer want s tree i) layout.1 (is_part solids in_range i)))
+    (subst (IsLayer want s tree i) layout.1 (is_part i)))
 
-pub are_layers : (s : SettingsOfRun) (tree : Solid) (part : Part) → AreSolids tree → AreInRange s
-    → IsPart WithPlan s tree part
+pub are_layers : (s : SettingsOfRun) (tree : Solid) (part : Part) → IsPart WithPlan s tree part
     → layer_count s.layer_height tree ≤ layer_limit → AreMade part (layer_count s.layer_height tree)
     → AreLayersOf s tree (layouts part (layer_count s.layer_height tree))
-are_layers s tree part solids in_range is_part few made =
+are_layers s tree part is_part few made =
     let n = layer_count s.layer_height tree in
     let number = layouts_number part n in
     record {
       number = number;
       few = omega (arith, number, few);
-      each = layers_each WithPlan s tree part n solids in_range is_part made;
+      each = layers_each WithPlan s tree part n is_part made;
     }

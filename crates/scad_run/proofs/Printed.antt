@@ -136,7 +136,7 @@ command_written (Slice m c) cli settings parts tree old new named in_range solid
       layers = layers_of settings.layer_height part (layer_count settings.layer_height tree);
       text = subst (λ (text : List ℕ). Adds text old.cli new.cli) (slices_are_whole settings c part tree whole) added;
       hold = parts_hold OutlinesAlone settings tree part solids in_range
-          (as_part tree parts of_tree OutlinesAlone settings)
+          (as_part tree parts of_tree OutlinesAlone settings in_range)
           whole.made;
     }
 command_written (Plan m c g) cli settings parts tree old new named in_range solids of_tree whole added =
@@ -144,8 +144,8 @@ command_written (Plan m c g) cli settings parts tree old new named in_range soli
     record {
       layers = layers_of settings.layer_height part (layer_count settings.layer_height tree);
       text = subst (λ (text : List ℕ). Adds text old.cli new.cli) (plans_are_whole settings c g part tree whole) added;
-      hold = parts_hold WithPlan settings tree part solids in_range (as_part tree parts of_tree WithPlan settings)
-          whole.made;
+      hold = parts_hold WithPlan settings tree part solids in_range (as_part tree parts of_tree WithPlan settings
+          in_range) whole.made;
     }
 command_written (Sample n) cli settings parts tree old new named in_range solids of_tree done added = let never : ⊥ = cc in absurd never
 

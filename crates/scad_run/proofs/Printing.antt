@@ -16,7 +16,7 @@ use Rattle.print_laws.specs.Laws.{LayersArePrinted, PrintsAreOne}
 use Rattle.scad_run.specs.Words.{given_by}
 use Rattle.scad_run.specs.Answer.{Parts, script_of, AreParts}
 use Rattle.scad_run.specs.Inputs.{Inputs, source_limit, IsRead, GoBy}
-use Rattle.scad_run.specs.Meaning.{MeansTree}
+use Rattle.scad_run.specs.Meaning.{MeansTree, Means}
 use Rattle.scad_run.specs.Printing.{PlanAddsPrint}
 use Rattle.scad_run.specs.Headline.{Prints, Headline}
 use Rattle.scad_run.proofs.Sources.{as_part}
@@ -35,11 +35,11 @@ module _ (words : List (List ℕ)) (files : Files) (inputs : Inputs) (parts : Pa
       let f = words_finished words inputs parts status old new job drawn promised done form in
       let s = f.settings in
       let part = parts WithPlan s in
-      let is_part = as_part f.tree parts f.of_tree WithPlan s in
+      let is_part = as_part f.tree parts f.of_tree WithPlan s f.in_range in
       let n = layer_count s.layer_height f.tree in
       let layers = layouts part n in
       let print =
-      printed s f.tree layers f.solids f.in_range (are_layers s f.tree part f.solids f.in_range is_part f.done.few
+      printed s f.tree layers f.solids f.in_range (are_layers s f.tree part is_part f.done.few
       f.done.made)
       in
       record {
@@ -69,7 +69,7 @@ held None P h = absurd h
 held (Some text) P h = (text, refl, h)
 
 prints : (words : List (List ℕ)) (files : Files) (old new : View) → PlanAddsPrint words files old new
-    → Prints words files old new
+    → Prints Means words files old new
 prints words files old new adds desk model cli gcode name workers form =
     let a = adds model cli gcode name workers form in
     let source =
@@ -100,7 +100,7 @@ pub headline : (words : List (List ℕ)) (files : Files) (inputs : Inputs) (part
     (old new : View)
     (before now : ℕ) → LayersArePrinted → PrintsAreOne → IsRead words files inputs → AreParts words inputs parts
     → Promised (given_by words) (script_of words parts inputs) status old new → (status ≡ Read → before < now)
-    → (status ≡ Write → before < now) → Headline words files status old new before now
+    → (status ≡ Write → before < now) → Headline Means words files status old new before now
 headline words files inputs parts status old new before now printed one is drawn promised read write =
     record {
       prints = λ done. prints words files old new (adds_print words files inputs parts status old new is drawn promised

@@ -13,7 +13,7 @@ use Rattle.scad_expr.specs.declared.fault.EvalFault.TheVariants.{Fault as IsFaul
 use Rattle.scad_expr.specs.State.{State, Outcome, gives, refuses}
 use Rattle.scad_tree.specs.Solid.{Solid}
 use Rattle.scad_run.specs.Words.{model_of}
-use Rattle.scad_run.specs.Meaning.{source_means}
+use Rattle.scad_run.specs.Meaning.{source_means, Means}
 use Rattle.scad_run.specs.Told.{told}
 use Rattle.scad_run.specs.Answer.{Parts, follows, input_script, model_read_first, model_script, job_script}
 use Rattle.scad_run.specs.Inputs.{Inputs, source_of, source_in, settings_found}
@@ -25,11 +25,11 @@ use Rattle.scad_run.proofs.Sources.{sources_want_no_memory}
 abbrev pub EndsBefore : Job → Inputs → Ending → Type 0
 EndsBefore job inputs (Finishes line) = ⊥
 EndsBefore job inputs Lacks = IsMissing job inputs
-EndsBefore job inputs (Refuses (Source fault)) = MeansFault job inputs fault
+EndsBefore job inputs (Refuses (Source fault)) = MeansFault Means job inputs fault
 EndsBefore job inputs (Refuses Usage) = ⊥
 EndsBefore job inputs (Refuses (Settings fault)) = SettingsHaveFault job inputs fault
 EndsBefore job inputs (Refuses (Over budget)) =
-    SourceIsLong job inputs budget ⊎ EvaluationPasses job inputs budget
+    SourceIsLong job inputs budget ⊎ EvaluationPasses Means job inputs budget
 
 -- it ends so, having written to nothing but the report
 pub record IsStopped (job : Job) (inputs : Inputs) (whole : Script) : Type 0 where
@@ -95,7 +95,7 @@ module _ (job : Job) (inputs : Inputs) (parts : Parts) where
         })
     told_reached source (refuses (IsFault fault) s) there is =
         inl (record {
-          why = record { source = source; whole = there; settings = settings; found = found; state = s; means = is };
+          why = record { source = source; whole = there; settings = settings; found = found; means = (s, is) };
           quiet = (omega arith, tt);
         })
     told_reached source (refuses (IsOver budget) s) there is =
@@ -105,9 +105,7 @@ module _ (job : Job) (inputs : Inputs) (parts : Parts) where
             whole = there;
             settings = settings;
             found = found;
-            state = s;
-            means =
-                is;
+            means = (s, is);
           });
           quiet = (omega arith, tt);
         })

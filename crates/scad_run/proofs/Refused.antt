@@ -26,7 +26,6 @@ use Rattle.scad_script.specs.Promises.{Adds, IsAnswered, Promised}
 use Rattle.scad_script.proofs.Fronts.{reports_only}
 use Rattle.scad_script.proofs.Quiet.{ends_quietly}
 use Rattle.scad_tree.specs.Solid.{Solid}
-use Rattle.scad_tree.specs.Solids.{AreSolids}
 use Rattle.slice_work.specs.declared.want.Want.{Want}
 use Rattle.slice_work.specs.declared.want.Want.TheVariants.{Outlines as OutlinesAlone, Plan as WithPlan}
 use Rattle.slice_work.specs.Part.{Part, paths_of, layer_limit}
@@ -42,7 +41,7 @@ use Rattle.scad_run.specs.Inputs.{Inputs, source_in}
 use Rattle.scad_run.specs.Promises.{IsReported, IsRefused, IsProgramFront, IsCutShort, Refuses, Leaves, LeavesOutputs}
 use Rattle.scad_run.specs.Causes.{HasManyLayers}
 use Rattle.scad_run.proofs.Working.{parts_meant}
-use Rattle.scad_run.proofs.Sources.{sources_mean_solids, as_part}
+use Rattle.scad_run.proofs.Sources.{as_part}
 use Rattle.scad_run.proofs.Heights.{found_in_range}
 use Rattle.scad_run.proofs.Reached.{IsStopped, IsFollowed, reached}
 use Rattle.scad_run.proofs.Ends.{Cuts, IsDone, IsOver, EndsBy, follows_end}
@@ -143,7 +142,7 @@ one_of : (want : Want) (kind : BudgetKind) → IsKind want kind → IsOne kind
 one_of OutlinesAlone kind is = ⊎_elim (λ edges. inl edges) (λ crossed. inr (inl crossed)) is
 one_of WithPlan kind is = is
 
-module _ (settings : SettingsOfRun) (tree : Solid) (in_range : AreInRange settings) (solids : AreSolids tree) where
+module _ (settings : SettingsOfRun) (tree : Solid) (in_range : AreInRange settings) where
   abbrev count : ℕ
   count = layer_count settings.layer_height tree
 
@@ -154,7 +153,7 @@ module _ (settings : SettingsOfRun) (tree : Solid) (in_range : AreInRange settin
       → cli ≡ head count ++ flat_map layer_text (layers_of settings.layer_height part c.cut.layer)
       → ((gcode ≡ []) ⊎ IsProgramFront c.cut.layer gcode) → IsCutAt count budget cli gcode
   cut_at want creates line part budget cli gcode is_part c outlines program =
-      let of_layer = budget_of_layer want settings tree part c.cut.layer budget solids in_range is_part
+      let of_layer = budget_of_layer want settings tree part c.cut.layer budget is_part
       (c.cut.passed ∙ ap Err c.this) in
       record {
         kind = one_of want budget.kind of_layer.kind;
@@ -182,13 +181,13 @@ module _ (settings : SettingsOfRun) (tree : Solid) (in_range : AreInRange settin
   behind (Slice model cli) parts budget of_tree (inl many) = inl (many_quiet budget _ _ _ refl many)
   behind (Slice model cli) parts budget of_tree (inr c) =
       let part = parts OutlinesAlone settings in
-      inr (cut_at OutlinesAlone _ _ part budget _ _ (as_part tree parts of_tree OutlinesAlone settings) c
+      inr (cut_at OutlinesAlone _ _ part budget _ _ (as_part tree parts of_tree OutlinesAlone settings in_range) c
       (slice_cut settings cli part tree c.cut)
       (inl (slice_is_silent settings cli part tree c.cut)))
   behind (Plan model cli gcode) parts budget of_tree (inl many) = inl (many_quiet budget _ _ _ refl many)
   behind (Plan model cli gcode) parts budget of_tree (inr c) =
       let part = parts WithPlan settings in
-      inr (cut_at WithPlan _ _ part budget _ _ (as_part tree parts of_tree WithPlan settings) c
+      inr (cut_at WithPlan _ _ part budget _ _ (as_part tree parts of_tree WithPlan settings in_range) c
       (plan_cut settings cli gcode part tree c.cut)
       (inr (record {
         settings = settings;
@@ -241,11 +240,10 @@ followed_refused job parts inputs whole status old new f drawn runs answered oth
 followed_refused job parts inputs whole status old new f drawn runs answered other (inr (budget, is, over)) =
     let of_source = subst (λ (i : Option Input). AreDrawn i parts) f.there drawn in
     let of_tree = parts_meant f.source f.tree parts (f.state, f.means) of_source in
-    let are_solids = sources_mean_solids f.source f.tree f.state f.means in
     let in_range = found_in_range job.settings inputs.settings f.settings f.found in
     cut_or_quiet whole status budget old new (layer_count f.settings.layer_height f.tree) _ _ (f.ending ∙ is) f.cli
     f.gcode runs answered other
-    (⊎_elim (λ quiet. inl (f.quiet quiet)) (λ cut. inr cut) (behind f.settings f.tree in_range are_solids job.command
+    (⊎_elim (λ quiet. inl (f.quiet quiet)) (λ cut. inr cut) (behind f.settings f.tree in_range job.command
     parts budget of_tree over))
 
 job_refused : (job : Job) (parts : Parts) (inputs : Inputs) (whole : Script) (status : Status) (old new : View)

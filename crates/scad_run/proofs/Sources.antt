@@ -2,6 +2,7 @@
 use Rattle.std.proofs.Common.{◌≡◌, Result, Ok, Err}
 use Rattle.scad_ast.specs.Tree.{Items}
 use Rattle.scad_words.specs.declared.settings.Settings.{Settings}
+use Rattle.scad_words.specs.Settings.{AreInRange}
 use Rattle.scad_grammar.specs.Machine.{Refusal, syntax_at, nesting_at, left_out_at, outcome_of}
 use Rattle.scad_lex.specs.declared.fault.LexFault.TheVariants.{BadText, Range, Memory}
 use Rattle.scad_lex.specs.Tokens.{Answer, tokens}
@@ -48,7 +49,7 @@ unfolding source_means
 sources_want_no_memory source s is = tokens_want (tokens source) s (of_text-tokens source) is
 
 -- ---- parts
--- each of a tree's parts is a part of it, whatever is asked of the tree
+-- by settings in range each of a tree's parts is a part of it
 pub as_part : (tree : Solid) (parts : Parts) → ArePartsOfTree tree parts → (want : Want) (settings : Settings)
-    → IsPart want settings tree (parts want settings)
-as_part tree parts of_tree want settings solids in_range i = of_tree want settings in_range i
+    → AreInRange settings → IsPart want settings tree (parts want settings)
+as_part tree parts of_tree want settings in_range i = of_tree want settings in_range i

@@ -5,7 +5,8 @@
 --   winding in the written outlines exactly when the source's tree contains it; each extruding move stays inside them
 --   by the clearance; every refusal has its named cause.
 --
--- What both files are is `IsPrintOf` of print_laws.
+-- What both files are is `IsPrintOf` of print_laws. What a source means is a parameter, so that this can be read without
+-- the language; the clause puts in what the language says, `Means` of `Meaning.antt`.
 use Rattle.std.specs.Prelude.{◌≡◌, ◌++◌, ◌≤◌, List, ℕ, Option, Some, length}
 use Rattle.scad_fault.specs.declared.status.Status.{Status}
 use Rattle.scad_fault.specs.declared.status.Status.TheVariants.{Done}
@@ -16,7 +17,7 @@ use Rattle.scad_words.specs.Job.{job_of}
 use Rattle.scad_tree.specs.Solid.{Solid}
 use Rattle.print_laws.specs.Print.{IsPrintOf}
 use Rattle.scad_run.specs.Inputs.{source_limit, GoBy}
-use Rattle.scad_run.specs.Meaning.{MeansTree}
+use Rattle.scad_run.specs.Meant.{Meant, meant_tree}
 use Rattle.scad_run.specs.Causes.{HasNamedCause}
 
 -- ---- the desk tells
@@ -32,8 +33,8 @@ pub record Tells (files : Files) (old : View) : Type 0 where
 -- ---- what `plan` accepts is printed
 -- The settings are those of the run, and the model is there and means a tree. What was added to both outputs is the
 -- print of the tree by the settings, and nothing else is one.
-pub record IsPrinted {files : Files} {old : View} (desk : Tells files old) (name : Option (List ℕ)) (model : List ℕ)
-    (new : View)
+pub record IsPrinted {files : Files} {old : View} (Means : List ℕ → Meant → Type 0) (desk : Tells files old)
+    (name : Option (List ℕ)) (model : List ℕ) (new : View)
     : Type 0 where
   pub settings : Settings
   pub accepted : GoBy desk.contents name settings
@@ -41,7 +42,7 @@ pub record IsPrinted {files : Files} {old : View} (desk : Tells files old) (name
   pub there : desk.contents model ≡ Some source
   pub within : length source ≤ source_limit
   pub tree : Solid
-  pub means : MeansTree tree source
+  pub means : Means source (meant_tree tree)
   pub outlines : List ℕ
   pub program : List ℕ
   pub outlines_added : new.cli.bytes ≡ Some (desk.outlines ++ outlines)
@@ -51,13 +52,15 @@ pub record IsPrinted {files : Files} {old : View} (desk : Tells files old) (name
       → (others ≡ outlines) × (other_program ≡ program)
 
 -- Status 0 of `plan`, by any number of workers, over a desk that tells.
-abbrev pub Prints : List (List ℕ) → Files → View → View → Type 0
-Prints words files old new =
+abbrev pub Prints : (List ℕ → Meant → Type 0) → List (List ℕ) → Files → View → View → Type 0
+Prints Means words files old new =
     (desk : Tells files old) (model cli gcode : List ℕ) (name : Option (List ℕ)) (workers : ℕ)
     → job_of words ≡ Some (record { command = Plan model cli gcode; settings = name; workers = workers })
-    → IsPrinted desk name model new
+    → IsPrinted Means desk name model new
 
 -- ---- the headline
-pub record Headline (words : List (List ℕ)) (files : Files) (status : Status) (old new : View) (before now : ℕ) : Type 0 where
-  pub prints : status ≡ Done → Prints words files old new
-  pub cause : HasNamedCause words files status old new before now
+pub record Headline (Means : List ℕ → Meant → Type 0) (words : List (List ℕ)) (files : Files) (status : Status)
+    (old new : View) (before now : ℕ)
+    : Type 0 where
+  pub prints : status ≡ Done → Prints Means words files old new
+  pub cause : HasNamedCause Means words files status old new before now

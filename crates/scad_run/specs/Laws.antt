@@ -1,7 +1,9 @@
 -- Laws of what sources mean, and that the answer is there and is one.
 use Rattle.std.specs.Prelude.{◌≡◌, ◌≢◌, List, ℕ, Option, Some, None}
 use Rattle.scad_words.specs.declared.job.Job.{Job}
+use Rattle.scad_words.specs.declared.settings.Settings.{Settings}
 use Rattle.scad_words.specs.Job.{job_of}
+use Rattle.scad_words.specs.Settings.{AreInRange}
 use Rattle.scad_script.specs.declared.loading.Input.{Input}
 use Rattle.scad_script.specs.Script.{answer_of}
 use Rattle.scad_expr.specs.declared.fault.EvalFault.TheVariants.{Memory}
@@ -10,7 +12,7 @@ use Rattle.scad_tree.specs.Solid.{Solid}
 use Rattle.scad_tree.specs.Solids.{AreSolids}
 use Rattle.scad_run.specs.Meaning.{source_means}
 use Rattle.scad_run.specs.Answer.{Parts, script_of, AreDrawn, AreParts}
-use Rattle.scad_run.specs.Inputs.{Inputs}
+use Rattle.scad_run.specs.Inputs.{Inputs, settings_found}
 use Rattle.scad_run.specs.Causes.{IsMissing}
 
 -- the tree that a source means is of solids
@@ -20,6 +22,11 @@ SourcesMeanSolids = (source : List ℕ) (tree : Solid) (s : State) → source_me
 -- no source means that memory is wanting: it means a tree, or a fault or a budget of its own
 abbrev pub SourcesWantNoMemory : Type 0
 SourcesWantNoMemory = (source : List ℕ) (s : State) → source_means source ≢ refuses Memory s
+
+-- the settings of a run are in their ranges, those that were read and the defaults
+abbrev pub SettingsAreInRange : Type 0
+SettingsAreInRange =
+    (name read : Option (List ℕ)) (settings : Settings) → settings_found name read ≡ Some settings → AreInRange settings
 
 -- there are parts of the tree that a source means
 abbrev pub AnswersAreThere : Type 0

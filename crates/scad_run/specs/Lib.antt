@@ -1,4 +1,5 @@
 pub mod Words
+pub mod Meant
 pub mod Meaning
 pub mod View
 pub mod Told

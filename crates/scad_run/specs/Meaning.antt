@@ -10,10 +10,11 @@ use Rattle.scad_lex.specs.Tokens.{Answer, tokens}
 use Rattle.scad_ast.specs.Tree.{Items}
 use Rattle.scad_grammar.specs.Machine.{Refusal, syntax_at, nesting_at, left_out_at, outcome_of}
 use Rattle.scad_expr.specs.declared.fault.EvalFault.{EvalFault}
-use Rattle.scad_expr.specs.declared.fault.EvalFault.TheVariants.{Fault, Memory as WantOfMemory}
+use Rattle.scad_expr.specs.declared.fault.EvalFault.TheVariants.{Fault, Over, Memory as WantOfMemory}
 use Rattle.scad_expr.specs.State.{Outcome, refuses, start, State, gives}
 use Rattle.scad_tree.specs.Solid.{Solid}
 use Rattle.scad_inst.specs.Meaning.{means}
+use Rattle.scad_run.specs.Meant.{Meant, meant_tree, meant_fault, meant_budget}
 
 -- a fault that is about no name
 abbrev pub fault_at : FaultKind → Place → EvalFault
@@ -47,3 +48,9 @@ source_means source = tokens_mean (tokens source)
 -- a source means this tree
 abbrev pub MeansTree : Solid → List ℕ → Type 0
 MeansTree tree source = (s : State) × (source_means source ≡ gives tree s)
+
+-- what it means: its tree, its first fault, or the first budget that its evaluation passes
+abbrev pub Means : List ℕ → Meant → Type 0
+Means source (meant_tree tree) = MeansTree tree source
+Means source (meant_fault fault) = (s : State) × (source_means source ≡ refuses (Fault fault) s)
+Means source (meant_budget budget) = (s : State) × (source_means source ≡ refuses (Over budget) s)

@@ -7,6 +7,7 @@ ghost use Rattle.scad_words.specs.Job.{job_of};
 ghost use Rattle.scad_run.specs.Words.{given_by};
 ghost use Rattle.scad_run.specs.Answer.{OnScript};
 ghost use Rattle.scad_run.specs.Headline.{Headline};
+ghost use Rattle.scad_run.specs.Meaning.{Means};
 ghost use Rattle.scad_run.specs.Printing.{PlanAddsPrint};
 ghost use Rattle.scad_run.specs.Cut.{CutsShort};
 ghost use Rattle.scad_run.specs.ByGrammar.{SourcesGoByGrammar};
@@ -36,9 +37,9 @@ pub fn run<R: Threads + Sync, D: Desk, G: Gate>(
 ) -> Status
     requires ready { IsReady (D.view desk.old) }
 
-    // The headline.
-    ensures headline { Headline (map string_bytes words.now) (D.files desk.old) result (D.view desk.old) (D.view desk.new)
-        (D.faults desk.old) (D.faults desk.new) }
+    // The headline, by what the language says that sources mean.
+    ensures headline { Headline Means (map string_bytes words.now) (D.files desk.old) result (D.view desk.old)
+        (D.view desk.new) (D.faults desk.old) (D.faults desk.new) }
 
     // The run plays the script of the words, of what was read of the settings and the model and of what is drawn of
     // its tree, to its end or until it stops, and then, unless the report has failed, tries the last line. It says what

@@ -158,4 +158,4 @@ pub ends_so : (want : Want) (s : Settings) (tree : Solid) (i : ℕ) (part : Part
     → AreInRange s → IsPart want s tree part → DrawsLayer want s tree i end → Ends (part i) end
 ends_so want s tree i part end solids range of_part (layout, layer, ends) =
     subst (λ (l : Result Layout Budget). Ends l end)
-    (layer_is_one want s tree i solids range layout (part i) layer (of_part solids range i)) ends
+    (layer_is_one want s tree i solids range layout (part i) layer (of_part i)) ends

@@ -48,21 +48,19 @@ outlines_by (Some budget) want s tree i layout same = let never : ⊥ = cc in ab
 outlines_by None want s tree i layout (outlines, of_tree, laid) =
     subst (AreLayerOutlines i s.layer_height tree) (sym (has_outlines want s i outlines layout laid)) of_tree
 
-layer_outlines : (want : Want) (s : Settings) (tree : Solid) (part : Part) (i : ℕ) (layout : Layout) → AreSolids tree
-    → AreInRange s → IsPart want s tree part → part i ≡ Ok layout
-    → AreLayerOutlines i s.layer_height tree (outlines_of (part i))
-layer_outlines want s tree part i layout solids range of_part is =
+layer_outlines : (want : Want) (s : Settings) (tree : Solid) (part : Part) (i : ℕ) (layout : Layout)
+    → IsPart want s tree part → part i ≡ Ok layout → AreLayerOutlines i s.layer_height tree (outlines_of (part i))
+layer_outlines want s tree part i layout of_part is =
     subst (λ (l : Result Layout Budget). AreLayerOutlines i s.layer_height tree (outlines_of l)) (sym is)
     (outlines_by (layer_budget s.layer_height tree i) want s tree i layout
-    (subst (λ (l : Result Layout Budget). IsLayer want s tree i l) is (of_part solids range i)))
+    (subst (λ (l : Result Layout Budget). IsLayer want s tree i l) is (of_part i)))
 
 layer_holds : (want : Want) (s : Settings) (tree : Solid) (part : Part) (i : ℕ) (layout : Layout) → AreSolids tree
-    → AreInRange s → IsPart want s tree part → part i ≡ Ok layout
-    → IsLayerOf s.layer_height tree i (layer_at s.layer_height part i)
-layer_holds want s tree part i layout solids range of_part is =
+    → IsPart want s tree part → part i ≡ Ok layout → IsLayerOf s.layer_height tree i (layer_at s.layer_height part i)
+layer_holds want s tree part i layout solids of_part is =
     let h = s.layer_height in
     let loops = outlines_of (part i) in
-    let are = layer_outlines want s tree part i layout solids range of_part is in
+    let are = layer_outlines want s tree part i layout of_part is in
     record {
       z = refl;
       centres = outlines_hold_centres i h tree loops (solids_closed tree solids) are;
@@ -83,7 +81,7 @@ parts_hold want s tree part solids range of_part made =
           let there : slice_get (layers_of h part n) i ≡ Some (layer_at h part i) =
           made_at (layer_at h part) 0 n i within ∙ ap (λ k. Some (layer_at h part k)) (omega arith) in
           subst (λ found. IsSomeAnd found (IsLayerOf h tree i)) (sym there)
-          (layer_holds want s tree part i found.0 solids range of_part found.1);
+          (layer_holds want s tree part i found.0 solids of_part found.1);
       above = λ i q more.
           let past : n ≤ i = omega (arith, more, number) in
           layers_hold.above tree h i q some past;

@@ -59,4 +59,4 @@ layer_is_one want s tree i solids range a b is_a is_b =
 
 pub parts_are_one : PartsAreOne
 parts_are_one want s tree a b solids range of_a of_b =
-    λ k i. layer_is_one want s tree i solids range (a i) (b i) (of_a solids range i) (of_b solids range i) k
+    λ k i. layer_is_one want s tree i solids range (a i) (b i) (of_a i) (of_b i) k

@@ -13,9 +13,7 @@ use Rattle.scad_script.specs.Steps.{Step, Makes}
 use Rattle.scad_script.specs.Script.{Script, Finishes, Refuses, first, ends, layers}
 use Rattle.scad_geom.specs.declared.point.Pt.{Pt}
 use Rattle.scad_tree.specs.Solid.{Solid}
-use Rattle.scad_tree.specs.Solids.{AreSolids}
 use Rattle.scad_words.specs.declared.settings.Settings.{Settings}
-use Rattle.scad_words.specs.Settings.{AreInRange}
 use Rattle.plan_layer.specs.declared.fault.PlanFault.{PlanFault}
 use Rattle.plan_layer.specs.declared.fault.PlanFault.TheVariants.{Memory, Edges, Crossings, Moves}
 use Rattle.slice_work.specs.declared.want.Want.{Want}
@@ -233,8 +231,8 @@ layer_by want s tree i budget (Some other) is same =
 layer_by want s tree i budget None is (outlines, of_tree, laid) = laid_out_by want s i outlines budget laid
 
 pub budget_of_layer : (want : Want) (s : Settings) (tree : Solid) (part : Part) (i : ℕ) (budget : Budget)
-    → AreSolids tree → AreInRange s → IsPart want s tree part → part i ≡ Err budget → IsOfLayer want i budget
-budget_of_layer want s tree part i budget solids range of_part passed =
+    → IsPart want s tree part → part i ≡ Err budget → IsOfLayer want i budget
+budget_of_layer want s tree part i budget of_part passed =
     layer_by want s tree i budget (layer_budget s.layer_height tree i) refl
     (subst (λ (l : Result Layout Budget). IsLayerUnless (layer_budget s.layer_height tree i) want s tree i l) passed
-    (of_part solids range i))
+    (of_part i))

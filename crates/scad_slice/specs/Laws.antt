@@ -16,11 +16,11 @@ use Rattle.scad_slice.specs.Parts.{IsPart, AreMade, layers_of, plans_of}
 use Rattle.scad_slice.specs.Script.{slice_script, plan_script}
 use Rattle.scad_slice.specs.Membership.{HoldTree}
 
--- every tree has a part, whatever is wanted and by whatever settings
+-- a tree of solids has a part, whatever is wanted and by whatever settings
 abbrev pub PartsAreThere : Type 0
-PartsAreThere = (want : Want) (s : Settings) (tree : Solid) → (part : Part) × IsPart want s tree part
+PartsAreThere = (want : Want) (s : Settings) (tree : Solid) → AreSolids tree → (part : Part) × IsPart want s tree part
 
--- a tree of solids has one by settings in range
+-- it has one by settings in range
 abbrev pub PartsAreOne : Type 0
 PartsAreOne =
     (want : Want) (s : Settings) (tree : Solid) (a b : Part) → AreSolids tree → AreInRange s

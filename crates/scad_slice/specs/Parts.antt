@@ -3,19 +3,16 @@ use Rattle.std.specs.Prelude.{◌≡◌, ◌<◌, ◌+◌, ◌*◌, ℕ, List, m
 use Rattle.std.specs.List.{range_with_len}
 use Rattle.scad_geom.specs.declared.point.Pt.{Pt}
 use Rattle.scad_tree.specs.Solid.{Solid}
-use Rattle.scad_tree.specs.Solids.{AreSolids}
 use Rattle.scad_words.specs.declared.settings.Settings.{Settings}
-use Rattle.scad_words.specs.Settings.{AreInRange}
 use Rattle.cli_text.specs.Cli.{Layer}
 use Rattle.slice_work.specs.declared.want.Want.{Want}
 use Rattle.slice_work.specs.declared.want.Want.TheVariants.{Plan}
 use Rattle.slice_work.specs.Part.{Layout, Part, outlines_of, hatches_of, paths_of}
 use Rattle.scad_slice.specs.Layer.{IsLayer}
 
--- Each layer is the tree's, where its leaves bound solids and the settings are in range. Then a tree has one part
--- (the laws).
+-- Each layer is the tree's. A tree of solids has a part, and by settings in range one (the laws).
 abbrev pub IsPart : Want → Settings → Solid → Part → Type 0
-IsPart want s tree part = AreSolids tree → AreInRange s → (i : ℕ) → IsLayer want s tree i (part i)
+IsPart want s tree part = (i : ℕ) → IsLayer want s tree i (part i)
 
 -- none of the first n layers passes a budget
 abbrev pub AreMade : Part → ℕ → Type 0

@@ -2,12 +2,12 @@
 ghost use Rattle.scad_slice.specs.Laws.{PartsAreThere, PartsAreOne, PartsHold};
 ghost use Rattle.scad_slice.specs.Laws.{SlicesAreWhole, PlansAreWhole, ProgramsAreWhole};
 
-/// Every tree has a part, whatever is wanted and by whatever settings.
+/// A tree of solids has a part, whatever is wanted and by whatever settings.
 pub fn parts_are_there()
     ensures { PartsAreThere }
 {}
 
-/// A tree of solids has one by settings in range.
+/// It has one by settings in range.
 pub fn parts_are_one()
     ensures { PartsAreOne }
 {}

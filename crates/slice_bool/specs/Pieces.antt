@@ -1,15 +1,13 @@
 -- The border between inside and outside of a shape over the leaves of an edge list, cut into directed pieces.
-use Rattle.std.specs.Prelude.{Bool, true, false, ◌&&◌, ◌||◌, if◌then◌else◌, List, [], ◌∷◌, ◌++◌, ℕ, Option, None, Some, ◌≡◌, ◌⊎◌, ⊤, ℤ, pos, ◌+ℤ◌, ◌*ℤ◌, int_lt, int_le, ◌<ℤ◌, unsigned_abs}
+use Rattle.std.specs.Prelude.{Bool, true, false, ◌&&◌, ◌||◌, if◌then◌else◌, List, [], ◌∷◌, ◌++◌, ℕ, Option, None, Some, ◌≡◌, ◌⊎◌, ⊤, ℤ, pos, ◌+ℤ◌, ◌*ℤ◌, int_lt, int_le, unsigned_abs}
 use Rattle.std.specs.List.{AllByRecursion, position}
 use Rattle.std.specs.Ordering.{int_eq}
 use Rattle.slice_snap.specs.Spots.{point_of}
-use Rattle.slice_snap.specs.Pieces.{wind_pieces}
 use Rattle.scad_geom.specs.declared.point.Edge.{Edge}
 use Rattle.scad_geom.specs.declared.level.Level.{Level}
 use Rattle.scad_geom.specs.declared.level.LeafEdge.{LeafEdge}
 use Rattle.scad_geom.specs.declared.shape.Shape.{Shape}
 use Rattle.scad_geom.specs.Line.{low, high, rise, x_at}
-use Rattle.scad_geom.specs.Winding.{counted}
 use Rattle.scad_geom.specs.Point.{Point}
 use Rattle.scad_geom.specs.Level.{IsLower, IsSameHeight}
 use Rattle.scad_geom.specs.Shape.{is_in_by}
@@ -132,11 +130,3 @@ pub record ArePieces (edges : List LeafEdge) (shape : Shape) (pieces : List Piec
   pub levels : List Level
   pub are_levels : AreLevels edges levels
   pub are_pieces : AreLevelPieces edges shape levels pieces
-
--- ---- the law
--- The pieces of a border wind once round each point that the shape holds, hard by the point on each side, and not at all round
--- any other point.
-abbrev pub PiecesWindOnce : Type 0
-PiecesWindOnce =
-    (es : List LeafEdge) (shape : Shape) (pieces : List Piece) → ArePieces es shape pieces → (above right : Bool) (p : Point)
-    → pos 0 <ℤ p.d → wind_pieces above right p pieces ≡ counted (is_in_by above right es shape p)

@@ -1,5 +1,5 @@
 //! Laws of the definitions, each carried by the contract of a function that does nothing.
-ghost use Rattle.slice_bool.specs.Pieces.{PiecesWindOnce};
+ghost use Rattle.slice_bool.specs.Laws.{PiecesWindOnce};
 ghost use Rattle.slice_bool.specs.Ends.{HeightsHaveOneLevel};
 ghost use Rattle.slice_bool.specs.Within.{SpotsAreWithin};
 ghost use Rattle.slice_bool.specs.Named.{PiecesAreNamed};

@@ -1,0 +1,10 @@
+-- What a source can mean. A meaning of sources is a relation between sources and these.
+use Rattle.scad_fault.specs.declared.budget.Budget.{Budget}
+use Rattle.scad_fault.specs.declared.fault.Fault.{Fault}
+use Rattle.scad_tree.specs.Solid.{Solid}
+
+-- a tree, a fault, or a budget that its evaluation passes
+pub data Meant : Type 0 where
+  meant_tree : Solid → Meant
+  meant_fault : Fault → Meant
+  meant_budget : Budget → Meant
