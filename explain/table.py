@@ -73,7 +73,7 @@ BUDGETS = {
     1: ("SourceLong", "the source has more than 4,194,304 bytes", "split the part"),
     2: ("Steps", "evaluation takes more than 5,000,000 steps",
         "fewer turns of `for`; compute once and keep it in a variable; look for a loop that never ends"),
-    3: ("Depth", "calls and expressions stand more than 2,000 deep in one another, or vectors or set operations "
+    3: ("Depth", "calls and expressions stand more than 100,000 deep in one another, or vectors or set operations "
                  "more than 200", "look for a call that never ends; use `for` in place of recursion; unite before "
                                   "taking away"),
     4: ("Leaves", "more than 4,096 primitives are made", "fewer, larger primitives"),

@@ -14,26 +14,26 @@ CALL = "m(n - 1); else cube(1); } m({n});"
 
 # name: (source, the deepest that it goes, what is reported there, where the budget comes one level deeper)
 FORMS = {
-    "a_function": ("function r(n) = n == 0 ? 0 : 1 + r(n - 1); echo(r({n}));", 665, "ECHO: 665", "1:38"),
+    "a_function": ("function r(n) = n == 0 ? 0 : 1 + r(n - 1); echo(r({n}));", 33331, "ECHO: 33331", "1:17"),
     "a_function_through_let":
-        ("function r(n) = n == 0 ? 0 : let(a = r(n - 1)) a + 1; echo(r({n}));", 665, "ECHO: 665", "1:42"),
+        ("function r(n) = n == 0 ? 0 : let(a = r(n - 1)) a + 1; echo(r({n}));", 33331, "ECHO: 33331", "1:17"),
     "a_function_through_a_comprehension":
         ("function r(n) = n == 0 ? [] : [for (i = [0], j = [0], k = [0]) each r(n - 1)]; echo(r({n}));",
-         399, "ECHO: []", "1:41"),
+         19999, "ECHO: []", "1:41"),
     "a_function_through_a_loop_with_start_test_and_step":
         ("function r(n) = n == 0 ? [] : [for (i = 0; i < 1; i = i + 1) each r(n - 1)]; echo(r({n}));",
-         399, "ECHO: []", "1:41"),
+         19999, "ECHO: []", "1:41"),
     "a_function_through_its_default":
-        ("$n = {n}; function r(d = $n == 0 ? 0 : let($n = $n - 1) r()) = d; echo(r());", 665, "ECHO: 0", "1:49"),
-    "a_module": ("module m(n) { if (n > 0) " + CALL, 998, "", "1:28"),
+        ("$n = {n}; function r(d = $n == 0 ? 0 : let($n = $n - 1) r()) = d; echo(r());", 33331, "ECHO: 0", "1:28"),
+    "a_module": ("module m(n) { if (n > 0) " + CALL, 49998, "", "1:28"),
     "children_of_children":
-        ("module m(n) { if (n > 0) m(n - 1) children(); else children(); } m({n}) cube(1);", 665, "", "1:35"),
+        ("module m(n) { if (n > 0) m(n - 1) children(); else children(); } m({n}) cube(1);", 33331, "", "1:80"),
     "a_module_through_for_of_twelve_variables":
-        ("module m(n) { if (n > 0) for (" + TWELVE + ") " + CALL, 665, "", "1:141"),
-    "a_module_through_intersection_for": ("module m(n) { if (n > 0) intersection_for (i = [0]) " + CALL, 665, "", "1:55"),
+        ("module m(n) { if (n > 0) for (" + TWELVE + ") " + CALL, 33332, "", "1:36"),
+    "a_module_through_intersection_for": ("module m(n) { if (n > 0) intersection_for (i = [0]) " + CALL, 33332, "", "1:49"),
     "a_module_through_let":
-        ("module m(n) { if (n > 0) let(a = n - 1) m(a); else cube(1); } m({n});", 665, "", "1:21"),
-    "a_module_through_union": ("module m(n) { if (n > 0) union() " + CALL, 665, "", "1:36"),
+        ("module m(n) { if (n > 0) let(a = n - 1) m(a); else cube(1); } m({n});", 33332, "", "1:34"),
+    "a_module_through_union": ("module m(n) { if (n > 0) union() " + CALL, 33332, "", "1:38"),
 }
 
 SOLID = "ok: 1 leaves, 12 triangles, 5 layers"

@@ -136,7 +136,7 @@ def budgets(told):
     thin = b"layer_height = 20\n"
     edges = ["LayerEdges: ", "here 20,002, in layer 1, 0.300 mm", "what helps"]
     return [
-        told("depth", 6, ["m.scad:1:12: Depth", "           ^\n", "2,000 deep", "what helps: "], ONE, source=deep),
+        told("depth", 6, ["m.scad:1:12: Depth", "           ^\n", "100,000 deep", "what helps: "], ONE, source=deep),
         told("leaves", 6, ["m.scad:1:20: Leaves", "4,096 primitives"], ONE, source=many),
         told("triangles", 6, ["Triangles", "200,000", "`$fn`"], ONE, source=b"sphere(9, $fn = 1000);"),
         told("a_long_source", 6, ["SourceLong", "4,194,304 bytes"], ONE, source=b" " * 4_194_305),

@@ -1,9 +1,11 @@
 //! The limits of steps, of depth and of nesting: at the limit, and one past it.
 
-/// 5,000,000 steps, 2000 levels of depth, of which the first is an assignment's, vectors 200 deep.
-pub(crate) const BUDGETS: &str = "function r(n)=n==0?0:1+r(n-1); x=r(5000); ~ budget 3 1:27
-function r(n)=n==0?0:r(n-1); x=r(998); ~ budget 3 1:15
-function r(n)=n==0?0:r(n-1); x=r(997); ~ 0 @7984
+/// 5,000,000 steps, 100,000 levels of depth, of which the first is an assignment's, vectors 200 deep.
+pub(crate) const BUDGETS: &str = "function r(n)=n==0?0:1+r(n-1); x=r(5000); ~ 5000 @50008
+function r(n)=n==0?0:1+r(n-1); x=r(33331); ~ 33331 @333318
+function r(n)=n==0?0:1+r(n-1); x=r(33332); ~ budget 3 1:15
+function r(n)=n==0?0:r(n-1); x=r(49998); ~ budget 3 1:15
+function r(n)=n==0?0:r(n-1); x=r(49997); ~ 0 @399984
 function r(n)=n==0?0:1+r(n-1); x=r(600); ~ 600 @6008
 function n(k)=k==0?[]:[n(k-1)]; x=len(n(199)); ~ 1 @21700
 function n(k)=k==0?[]:[n(k-1)]; x=len(n(200)); ~ budget 3 1:23

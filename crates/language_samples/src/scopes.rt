@@ -90,4 +90,6 @@ function f(x)=assert(x>0,\"positive\") x; x=f(2); ~ 2 @9
 function f(x)=echo(x=x) x; x=f(2)+f(3); ~ ECHO: x = 2|ECHO: x = 3|5 @34
 function f(x)=x; x=f(f)+1; ~ undef @6
 function f(a=echo(\"a\") 1,b=echo(\"b\") 2)=a+b; x=f(b=5); ~ ECHO: \"a\"|6 @18
-function f(a,$children)=$children; x=f(1); ~ undef @4";
+function f(a,$children)=$children; x=f(1); ~ undef @4
+x=let(a=1,b=2,c=3,d=4,e=5,f=6,g=7,h=8,i=9,j=10,i=11,b=12) [a,b,c,d,e,f,g,h,i,j]; ~ [1, 12, 3, 4, 5, 6, 7, 8, 11, 10] @35
+function f(a,b,c,d,e,f,g,h,i=9,j=10)=[a,b,h,i,j]; x=f(1,2,3,4,5,6,7,8,j=12); ~ [1, 2, 8, 9, 12] @23";

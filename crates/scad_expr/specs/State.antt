@@ -28,7 +28,7 @@ step_limit = 5000000
 
 -- a node stands at most at this depth
 abbrev pub depth_limit : ℕ
-depth_limit = 2000
+depth_limit = 100000
 
 -- vectors lie at most so deep in one another
 abbrev pub nesting_limit : ℕ

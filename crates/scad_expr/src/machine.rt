@@ -11,7 +11,7 @@ use scad_scope::Frames;
 pub const STEP_LIMIT: u32 = 5_000_000;
 
 /// The greatest depth of a node.
-pub const DEPTH_LIMIT: u32 = 2_000;
+pub const DEPTH_LIMIT: u32 = 100_000;
 
 /// The frames and counts of an evaluation, and the lines of `echo` so far.
 #[derive(Drop)]

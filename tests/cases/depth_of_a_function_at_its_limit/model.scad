@@ -1,2 +1,2 @@
 function r(n) = n == 0 ? 0 : r(n - 1);
-echo(r(997));
+echo(r(49997));

@@ -1,0 +1,1 @@
+function r(n)=n==0?0:1+r(n-1); echo(r(33332));
