@@ -40,7 +40,8 @@ use Rattle.hull_laws.proofs.Membership.{IsInside, IsBeyond, across, along, over,
 weak : (z : ℤ) → pos 0 <ℤ z → pos 0 ≤ℤ z
 weak z h = omega (arith, ints)
 
-joined : {X : Type 0} (P : X → Type 0) (xs ys : List X) → AllByRecursion P xs → AllByRecursion P ys → AllByRecursion P (xs ++ ys)
+joined : {X : Type 0} (P : X → Type 0) (xs ys : List X) → AllByRecursion P xs → AllByRecursion P ys
+    → AllByRecursion P (xs ++ ys)
 joined P [] ys h k = k
 joined P (x ∷ xs) ys h k = (h.0, joined P xs ys h.1 k)
 
@@ -71,7 +72,8 @@ module _ (ps : List Pt3) (sorted : IsStrictlySortedBy space_cmp ps) where
           in_a = ha.0;
           in_b = hb.0;
           in_c = hc.0;
-          inward = λ p i. up_on (square_of R.normal) d (depth_of (normal_of a b c) a p) (depth_of R.normal a p) R.plane.some (weak d up)
+          inward = λ p i. up_on (square_of R.normal) d (depth_of (normal_of a b c) a p) (depth_of R.normal a p)
+              R.plane.some (weak d up)
               (parallel R.normal a b c (flat_from a b ha hb) (flat_from a c ha hc) p)
               (subst (λ (z : ℤ). pos 0 ≤ℤ z) (as_from R.normal R.base a p ha.1)
               (All-contains (λ q. pos 0 ≤ℤ depth_of R.normal R.base q) ps p R.plane.inward i));
@@ -104,7 +106,8 @@ module _ (ps : List Pt3) (sorted : IsStrictlySortedBy space_cmp ps) where
   on_fans (r ∷ rs) h = joined IsOn (fan r) (fans rs) (all_on r h.0) (on_fans rs h.1)
 
   -- there is a triangle
-  some_triangle : (rings : List (List Pt3)) (r : List Pt3) → In r rings → 3 ≤ length r → (t : Triangle) × (us : List Triangle) × (fans rings ≡ t ∷ us)
+  some_triangle : (rings : List (List Pt3)) (r : List Pt3) → In r rings → 3 ≤ length r
+      → (t : Triangle) × (us : List Triangle) × (fans rings ≡ t ∷ us)
   some_triangle [] r i l = absurd i
   some_triangle ([] ∷ rs) r (inl e) l = let f = ap length e in absurd (omega arith)
   some_triangle ((a ∷ []) ∷ rs) r (inl e) l = let f = ap length e in absurd (omega arith)
@@ -115,7 +118,8 @@ module _ (ps : List Pt3) (sorted : IsStrictlySortedBy space_cmp ps) where
       let rest = some_triangle rs r i l in
       behind (fan q) rest.0 rest.1 (fans rs) rest.2
     where
-      behind : (xs : List Triangle) (t : Triangle) (us zs : List Triangle) → zs ≡ t ∷ us → (t : Triangle) × (us : List Triangle) × (xs ++ zs ≡ t ∷ us)
+      behind : (xs : List Triangle) (t : Triangle) (us zs : List Triangle) → zs ≡ t ∷ us
+          → (t : Triangle) × (us : List Triangle) × (xs ++ zs ≡ t ∷ us)
       behind [] t us zs e = (t, us, e)
       behind (x ∷ xs) t us zs e = (x, xs ++ zs, refl)
 
@@ -125,7 +129,8 @@ module _ (layer h : ℕ) (q : Point) (dq : pos 0 <ℤ q.d) where
   plane = plane_of layer h
 
   -- the volume by which the inner side was told
-  inside_by : (t : Triangle) → volume (along layer h q dq) (across layer h q dq) (over layer h q dq) t.a t.b t.c ≡ q.d *ℤ inner_at plane q t
+  inside_by : (t : Triangle) → volume (along layer h q dq) (across layer h q dq) (over layer h q dq) t.a t.b t.c
+      ≡ q.d *ℤ inner_at plane q t
   unfolding volume
   inside_by t =
       let a = t.a in
@@ -137,20 +142,26 @@ module _ (layer h : ℕ) (q : Point) (dq : pos 0 <ℤ q.d) where
       let mx = (var 4 ⊖ var 1) ⊗ (var 8 ⊖ var 2) ⊖ (var 5 ⊖ var 2) ⊗ (var 7 ⊖ var 1) in
       let my = (var 5 ⊖ var 2) ⊗ (var 6 ⊖ var 0) ⊖ (var 3 ⊖ var 0) ⊗ (var 8 ⊖ var 2) in
       let mz = (var 3 ⊖ var 0) ⊗ (var 7 ⊖ var 1) ⊖ (var 4 ⊖ var 1) ⊗ (var 6 ⊖ var 0) in
-      ring (a.x ∷ a.y ∷ a.z ∷ b.x ∷ b.y ∷ b.z ∷ c.x ∷ c.y ∷ c.z ∷ q.x ∷ q.y ∷ q.d ∷ plane ∷ [])
+      ring (a.x ∷ a.y ∷ a.z ∷ b.x ∷ b.y ∷ b.z ∷ c.x ∷ c.y ∷ c.z ∷ q.x ∷ q.y ∷ q.d ∷ plane
+          ∷ [])
       (O (var 2) ⊗ (L (var 4) ⊗ A (var 6) ⊖ A (var 3) ⊗ L (var 7))
-      ⊕ (O (var 5) ⊗ (L (var 7) ⊗ A (var 0) ⊖ A (var 6) ⊗ L (var 1)) ⊕ O (var 8) ⊗ (L (var 1) ⊗ A (var 3) ⊖ A (var 0) ⊗ L (var 4))))
+      ⊕ (O (var 5) ⊗ (L (var 7) ⊗ A (var 0) ⊖ A (var 6) ⊗ L (var 1)) ⊕ O (var 8)
+          ⊗ (L (var 1) ⊗ A (var 3) ⊖ A (var 0) ⊗ L (var 4))))
       (var 11 ⊗ (num (pos 2) ⊗ (mx ⊗ (var 9 ⊖ var 0 ⊗ var 11) ⊕ my ⊗ (var 10 ⊖ var 1 ⊗ var 11))
       ⊕ (mz ⊗ (var 12 ⊖ num (pos 2) ⊗ var 2)) ⊗ var 11)) refl
 
   -- a plane through the point, along a triangle
-  beyond_by : (m : Normal) (a p : Pt3) → (pos 2 *ℤ m.x) *ℤ across layer h q dq p +ℤ ((pos 2 *ℤ m.y) *ℤ along layer h q dq p +ℤ (q.d *ℤ m.z) *ℤ over layer h q dq p)
+  beyond_by : (m : Normal) (a p : Pt3) → (pos 2 *ℤ m.x) *ℤ across layer h q dq p +ℤ
+      ((pos 2 *ℤ m.y) *ℤ along layer h q dq p +ℤ (q.d *ℤ m.z) *ℤ over layer h q dq p)
       ≡ (pos 2 *ℤ q.d) *ℤ depth_of m a p -ℤ depth_at plane q a m
   beyond_by m a p =
-      ring (m.x ∷ m.y ∷ m.z ∷ a.x ∷ a.y ∷ a.z ∷ p.x ∷ p.y ∷ p.z ∷ q.x ∷ q.y ∷ q.d ∷ plane ∷ [])
-      ((num (pos 2) ⊗ var 0) ⊗ (var 6 ⊗ var 11 ⊖ var 9) ⊕ ((num (pos 2) ⊗ var 1) ⊗ (var 7 ⊗ var 11 ⊖ var 10)
+      ring (m.x ∷ m.y ∷ m.z ∷ a.x ∷ a.y ∷ a.z ∷ p.x ∷ p.y ∷ p.z ∷ q.x ∷ q.y ∷ q.d ∷ plane
+          ∷ [])
+      ((num (pos 2) ⊗ var 0) ⊗ (var 6 ⊗ var 11 ⊖ var 9)
+          ⊕ ((num (pos 2) ⊗ var 1) ⊗ (var 7 ⊗ var 11 ⊖ var 10)
       ⊕ (var 11 ⊗ var 2) ⊗ (num (pos 2) ⊗ var 8 ⊖ var 12)))
-      ((num (pos 2) ⊗ var 11) ⊗ (var 0 ⊗ (var 6 ⊖ var 3) ⊕ (var 1 ⊗ (var 7 ⊖ var 4) ⊕ var 2 ⊗ (var 8 ⊖ var 5)))
+      ((num (pos 2) ⊗ var 11) ⊗ (var 0 ⊗ (var 6 ⊖ var 3)
+          ⊕ (var 1 ⊗ (var 7 ⊖ var 4) ⊕ var 2 ⊗ (var 8 ⊖ var 5)))
       ⊖ (num (pos 2) ⊗ (var 0 ⊗ (var 9 ⊖ var 3 ⊗ var 11) ⊕ var 1 ⊗ (var 10 ⊖ var 4 ⊗ var 11))
       ⊕ (var 2 ⊗ (var 12 ⊖ num (pos 2) ⊗ var 5)) ⊗ var 11)) refl
 
@@ -158,7 +169,8 @@ module _ (layer h : ℕ) (q : Point) (dq : pos 0 <ℤ q.d) where
   IsInner t = pos 0 <ℤ inner_at plane q t
 
   inside_all : (ts : List Triangle) → AllByRecursion IsInner ts → AllByRecursion (IsInside layer h q dq) ts
-  inside_all ts k = all_changed (λ t i. subst (λ (z : ℤ). pos 0 <ℤ z) (sym (inside_by t)) (positive_product q.d (inner_at plane q t) dq i)) ts k
+  inside_all ts k = all_changed (λ t i. subst (λ (z : ℤ). pos 0 <ℤ z) (sym (inside_by t))
+      (positive_product q.d (inner_at plane q t) dq i)) ts k
 
   told_some : (z : ℤ) → z <ℤ pos 0 → not (is_zero z) ≡ true
   told_some (pos zero) k = absurd (none k)
@@ -169,15 +181,17 @@ module _ (layer h : ℕ) (q : Point) (dq : pos 0 <ℤ q.d) where
   told_some (negsuc n) k = refl
 
   -- on the inner side of all
-  contained : (t : Triangle) (us ts : List Triangle) → ts ≡ t ∷ us → is_closed ts ≡ true → AllByRecursion IsInner ts
-      → contains plane ts q ≡ true
+  contained : (t : Triangle) (us ts : List Triangle) → ts ≡ t ∷ us → is_closed ts ≡ true
+      → AllByRecursion IsInner ts → contains plane ts q ≡ true
   contained t us ts e shut k =
       told_some (wind q (cuts_of plane ts))
       (subst (λ xs. wind q (cuts_of plane xs) <ℤ pos 0) (sym e)
-      (inside_winds layer h q dq t us (subst (λ xs. is_closed xs ≡ true) e shut) (inside_all (t ∷ us) (subst (AllByRecursion IsInner) e k))))
+      (inside_winds layer h q dq t us (subst (λ xs. is_closed xs ≡ true) e shut)
+          (inside_all (t ∷ us) (subst (AllByRecursion IsInner) e k))))
 
   module _ (ps : List Pt3) (sorted : IsStrictlySortedBy space_cmp ps) where
-    ahead : (d x y : ℤ) → pos 0 <ℤ d → pos 0 ≤ℤ x → y <ℤ pos 0 → pos 0 <ℤ ((pos 2 *ℤ d) *ℤ x -ℤ y)
+    ahead : (d x y : ℤ) → pos 0 <ℤ d → pos 0 ≤ℤ x → y <ℤ pos 0
+        → pos 0 <ℤ ((pos 2 *ℤ d) *ℤ x -ℤ y)
     ahead d x y hd hx hy = more ((pos 2 *ℤ d) *ℤ x) y (at_least_mul (pos 2 *ℤ d) x (twice d hd) hx) hy
       where
         twice : (d : ℤ) → pos 0 <ℤ d → pos 0 ≤ℤ (pos 2 *ℤ d)
@@ -191,7 +205,8 @@ module _ (layer h : ℕ) (q : Point) (dq : pos 0 <ℤ q.d) where
       m = normal_of o.a o.b o.c
 
       corner_beyond : (p : Pt3) → Contains ps p
-          → pos 0 <ℤ ((pos 2 *ℤ m.x) *ℤ across layer h q dq p +ℤ ((pos 2 *ℤ m.y) *ℤ along layer h q dq p +ℤ (q.d *ℤ m.z) *ℤ over layer h q dq p))
+          → pos 0 <ℤ ((pos 2 *ℤ m.x) *ℤ across layer h q dq p +ℤ
+          ((pos 2 *ℤ m.y) *ℤ along layer h q dq p +ℤ (q.d *ℤ m.z) *ℤ over layer h q dq p))
       corner_beyond p i = subst (λ (z : ℤ). pos 0 <ℤ z) (sym (beyond_by m o.a p))
           (ahead q.d (depth_of m o.a p) (inner_at plane q o) dq (on.inward p i) out)
 
@@ -204,7 +219,8 @@ module _ (layer h : ℕ) (q : Point) (dq : pos 0 <ℤ q.d) where
       }) ts k
 
       -- outside of one
-      left_out : (ts : List Triangle) → is_closed ts ≡ true → AllByRecursion (IsOn ps sorted) ts → contains plane ts q ≡ true → ⊥
+      left_out : (ts : List Triangle) → is_closed ts ≡ true → AllByRecursion (IsOn ps sorted) ts
+          → contains plane ts q ≡ true → ⊥
       left_out ts shut k e =
           told_apart (sym e ∙ ap (λ (z : ℤ). not (is_zero z))
           (outside_unwound layer h q dq (pos 2 *ℤ m.x) (pos 2 *ℤ m.y) (q.d *ℤ m.z) ts shut (all_beyond ts k)))
@@ -212,9 +228,10 @@ module _ (layer h : ℕ) (q : Point) (dq : pos 0 <ℤ q.d) where
           told_apart : true ≡ false → ⊥
           told_apart f = cc
 
-    each_inner : (ts : List Triangle) → is_closed ts ≡ true → AllByRecursion (IsOn ps sorted) ts → contains plane ts q ≡ true
-        → (us : List Triangle) → AllByRecursion (IsOn ps sorted) us → AllByRecursion (λ t. inner_at plane q t ≡ pos 0 → ⊥) us
-        → AllByRecursion IsInner us
+    each_inner : (ts : List Triangle) → is_closed ts ≡ true → AllByRecursion (IsOn ps sorted) ts
+        → contains plane ts q ≡ true
+        → (us : List Triangle) → AllByRecursion (IsOn ps sorted) us
+        → AllByRecursion (λ t. inner_at plane q t ≡ pos 0 → ⊥) us → AllByRecursion IsInner us
     each_inner ts shut on e [] k off = tt
     each_inner ts shut on e (t ∷ us) k off = (
       by_lt_z (pos 0) (inner_at plane q t) (λ l. l)
@@ -231,8 +248,8 @@ module _ (layer h : ℕ) (q : Point) (dq : pos 0 <ℤ q.d) where
 pub hulls_hold : HullsHold
 hulls_hold = record { each = each }
   where
-    each : (points : List Pt3) (ts : List Triangle) → hull_of points ≡ Ok (Some ts) → (layer h : ℕ) (q : Point) → (dq : pos 0 <ℤ q.d)
-        → All (λ t. inner_at (plane_of layer h) q t ≡ pos 0 → ⊥) ts
+    each : (points : List Pt3) (ts : List Triangle) → hull_of points ≡ Ok (Some ts) → (layer h : ℕ) (q : Point)
+        → (dq : pos 0 <ℤ q.d) → All (λ t. inner_at (plane_of layer h) q t ≡ pos 0 → ⊥) ts
         → IsTrue (contains (plane_of layer h) ts q) ↔ All (λ t. pos 0 <ℤ inner_at (plane_of layer h) q t) ts
     each points ts e layer h q dq off =
         let ps = distinct space_cmp points in

@@ -29,11 +29,13 @@ use Rattle.plan_infill.proofs.Tested.{are_runs}
 over : ℤ → Pt → ℤ
 over y p = counted (is_over true (whole (point_on (Row y) (pos 0))) (whole p))
 
-passage_is : (y : ℤ) (e : Edge) → passage_by true (whole (point_on (Row y) (pos 0))) (whole e.a) (whole e.b) ≡ over y e.b -ℤ over y e.a
+passage_is : (y : ℤ) (e : Edge) → passage_by true (whole (point_on (Row y) (pos 0))) (whole e.a) (whole e.b)
+    ≡ over y e.b -ℤ over y e.a
 unfolding passage_by over
 passage_is y e = refl
 
-path_before : (y : ℤ) (from : Pt) (ps : List Pt) (last : Pt) (es : List Edge) → turns_before (Row y) (path from ps last ++ es) ≡ (over y last -ℤ over y from) +ℤ turns_before (Row y) es
+path_before : (y : ℤ) (from : Pt) (ps : List Pt) (last : Pt) (es : List Edge)
+    → turns_before (Row y) (path from ps last ++ es) ≡ (over y last -ℤ over y from) +ℤ turns_before (Row y) es
 path_before y from [] last es = let p = passage_is y (record { a = from; b = last }) in omega (arith, ints, p)
 path_before y from (q ∷ ps) last es = let p = passage_is y (record { a = from; b = q }) in let h = path_before y q ps last es in omega (arith, ints, p, h)
 
@@ -48,12 +50,14 @@ none_before (Column x) ls = by_edges (flat_map sides ls)
     by_edges (e ∷ es) = let h = by_edges es in omega (arith, ints, h)
 
 -- ---- sorted steps sum to the same
-as_sum : (f : Step → ℤ) (z : ℤ) (ss : List Step) → up_to f z ss ≡ sum_z (λ s. if int_le s.at z then f s else pos 0) ss
+as_sum : (f : Step → ℤ) (z : ℤ) (ss : List Step)
+    → up_to f z ss ≡ sum_z (λ s. if int_le s.at z then f s else pos 0) ss
 as_sum f z [] = refl
 as_sum f z (s ∷ ss) = ap (λ (x : ℤ). (if int_le s.at z then f s else pos 0) +ℤ x) (as_sum f z ss)
 
 same_up_to : (f : Step → ℤ) (z : ℤ) (xs ys : List Step) → IsPermutation xs ys → up_to f z ys ≡ up_to f z xs
-same_up_to f z xs ys p = as_sum f z ys ∙ sum_z-permutation (λ s. if int_le s.at z then f s else pos 0) xs ys p ∙ sym (as_sum f z xs)
+same_up_to f z xs ys p = as_sum f z ys ∙ sum_z-permutation (λ s. if int_le s.at z then f s else pos 0) xs ys p
+    ∙ sym (as_sum f z xs)
 
 all_as_sum : (f : Step → ℤ) (ss : List Step) → all_of f ss ≡ sum_z f ss
 all_as_sum f [] = refl
@@ -78,7 +82,8 @@ module _ (c : ℕ) (line : Line) (outlines : List (List Pt)) (steps sorted : Lis
   pub none_behind : all_of (λ s. s.turns) sorted ≡ pos 0
   none_behind = let a = same_all (λ s. s.turns) steps sorted p in let b = k.behind in let z = none_before line outlines in omega (arith, ints, a, b, z)
 
-  turns_at : (z : ℤ) → up_to (λ s. s.turns) z sorted ≡ wind (whole (point_on line z)) (segments (flat_map sides outlines))
+  turns_at : (z : ℤ) → up_to (λ s. s.turns) z sorted
+      ≡ wind (whole (point_on line z)) (segments (flat_map sides outlines))
   turns_at z = let a = same_up_to (λ s. s.turns) z steps sorted p in let b = k.turns z in let n = none_before line outlines in omega (arith, ints, a, b, n)
 
   deep_if : (z : ℤ) → is_deep_at sorted z ≡ true → IsDeep outlines c (point_on line z)
@@ -86,11 +91,14 @@ module _ (c : ℕ) (line : Line) (outlines : List (List Pt)) (steps sorted : Lis
       let q = and_parts (not (is_zero (up_to (λ s. s.turns) z sorted))) (is_zero (up_to (λ s. s.near) z sorted)) h in
       record {
         inside = λ e. not_zero (up_to (λ s. s.turns) z sorted) q.0 (turns_at z ∙ e);
-        apart = by_near (sym (same_up_to (λ s. s.near) z steps sorted p) ∙ zero_true (up_to (λ s. s.near) z sorted) q.1) (k.near z);
+        apart = by_near (sym (same_up_to (λ s. s.near) z steps sorted p)
+            ∙ zero_true (up_to (λ s. s.near) z sorted) q.1) (k.near z);
       }
     where
       by_near : up_to (λ s. s.near) z steps ≡ pos 0
-          → ((pos 0 <ℤ up_to (λ s. s.near) z steps) × (AllByRecursion (IsApart c line z) (flat_map sides outlines) → ⊥)) ⊎ ((up_to (λ s. s.near) z steps ≡ pos 0) × AllByRecursion (IsApart c line z) (flat_map sides outlines))
+          → ((pos 0 <ℤ up_to (λ s. s.near) z steps)
+          × (AllByRecursion (IsApart c line z) (flat_map sides outlines) → ⊥))
+          ⊎ ((up_to (λ s. s.near) z steps ≡ pos 0) × AllByRecursion (IsApart c line z) (flat_map sides outlines))
           → All (IsApart c line z) (flat_map sides outlines)
       by_near e (inl a) = absurd (let b = a.0 in omega (arith, ints, e, b))
       by_near e (inr a) = All-from_recursion (IsApart c line z) (flat_map sides outlines) a.1
@@ -101,10 +109,13 @@ module _ (c : ℕ) (line : Line) (outlines : List (List Pt)) (steps sorted : Lis
       let n : up_to (λ s. s.near) z sorted ≡ pos 0 = same_up_to (λ s. s.near) z steps sorted p ∙ by_near (k.near z) in
       rw (t, n) refl
     where
-      by_near : ((pos 0 <ℤ up_to (λ s. s.near) z steps) × (AllByRecursion (IsApart c line z) (flat_map sides outlines) → ⊥)) ⊎ ((up_to (λ s. s.near) z steps ≡ pos 0) × AllByRecursion (IsApart c line z) (flat_map sides outlines))
+      by_near : ((pos 0 <ℤ up_to (λ s. s.near) z steps)
+          × (AllByRecursion (IsApart c line z) (flat_map sides outlines) → ⊥))
+          ⊎ ((up_to (λ s. s.near) z steps ≡ pos 0) × AllByRecursion (IsApart c line z) (flat_map sides outlines))
           → up_to (λ s. s.near) z steps ≡ pos 0
       by_near (inl a) = absurd (a.1 (recursion_from_All (IsApart c line z) (flat_map sides outlines) d.apart))
       by_near (inr a) = a.0
 
-  pub all_runs : (least : ℕ) (rs : List Run) → AreStretches (is_deep_at sorted) least rs → AreRuns outlines c line least rs
+  pub all_runs : (least : ℕ) (rs : List Run) → AreStretches (is_deep_at sorted) least rs
+      → AreRuns outlines c line least rs
   all_runs least rs s = are_runs outlines c line (is_deep_at sorted) deep_if if_deep least rs s

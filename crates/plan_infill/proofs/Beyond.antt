@@ -36,7 +36,8 @@ no_turns p [] h = refl
 no_turns p (e ∷ es) h = let a = h.0 in let b = no_turns p es h.1 in omega (arith, ints, a, b)
 
 -- no edge of a kind turns round a point
-none_turn : (P : Edge → Type 0) (p : Point) → ((e : Edge) → P e → turn true true p (whole e.a) (whole e.b) ≡ pos 0)
+none_turn : (P : Edge → Type 0) (p : Point)
+    → ((e : Edge) → P e → turn true true p (whole e.a) (whole e.b) ≡ pos 0)
     → (es : List Edge) → All P es → wind p (segments es) ≡ pos 0
 none_turn P p f es h =
     no_turns p es (recursion_from_All (λ e. turn true true p (whole e.a) (whole e.b) ≡ pos 0) es
@@ -67,8 +68,8 @@ ends P e a b = by_test (int_lt e.b.y e.a.y)
     by_test false = (a, b)
 
 -- at a height of an edge the ends to the left of a point have the line to its left
-line_left : (x y : ℤ) (e : Edge) → (low e).x ≤ℤ x → (high e).x ≤ℤ x → (low e).y ≤ℤ y → y <ℤ (high e).y
-    → x_at e y (pos 1) ≤ℤ (x *ℤ rise e)
+line_left : (x y : ℤ) (e : Edge) → (low e).x ≤ℤ x → (high e).x ≤ℤ x → (low e).y ≤ℤ y
+    → y <ℤ (high e).y → x_at e y (pos 1) ≤ℤ (x *ℤ rise e)
 line_left x y e l h a b =
     let w = x_at_weights e y in
     let r = rise_is e in
@@ -78,8 +79,8 @@ line_left x y e l h a b =
     rw (w, r) (omega (arith, ints, p, q, u))
 
 -- and those to its right to its right
-line_right : (x y : ℤ) (e : Edge) → x <ℤ (low e).x → x <ℤ (high e).x → (low e).y ≤ℤ y → y <ℤ (high e).y
-    → (x *ℤ rise e) <ℤ x_at e y (pos 1)
+line_right : (x y : ℤ) (e : Edge) → x <ℤ (low e).x → x <ℤ (high e).x → (low e).y ≤ℤ y
+    → y <ℤ (high e).y → (x *ℤ rise e) <ℤ x_at e y (pos 1)
 line_right x y e l h a b =
     let w = x_at_weights e y in
     let r = rise_is e in
@@ -89,9 +90,11 @@ line_right x y e l h a b =
     rw (w, r) (omega (arith, ints, p, q, u))
   where
     after : (m a b y c d : ℤ)
-        → (a -ℤ m) *ℤ (d -ℤ y) +ℤ (c -ℤ m) *ℤ (y -ℤ b) ≡ (a *ℤ (d -ℤ y) +ℤ c *ℤ (y -ℤ b)) -ℤ m *ℤ (d -ℤ b)
+        → (a -ℤ m) *ℤ (d -ℤ y) +ℤ (c -ℤ m) *ℤ (y -ℤ b)
+        ≡ (a *ℤ (d -ℤ y) +ℤ c *ℤ (y -ℤ b)) -ℤ m *ℤ (d -ℤ b)
     after m a b y c d = ring (m ∷ a ∷ b ∷ y ∷ c ∷ d ∷ [])
-        ((v1 ⊖ v0) ⊗ (v5 ⊖ v3) ⊕ (v4 ⊖ v0) ⊗ (v3 ⊖ v2)) ((v1 ⊗ (v5 ⊖ v3) ⊕ v4 ⊗ (v3 ⊖ v2)) ⊖ v0 ⊗ (v5 ⊖ v2)) refl
+        ((v1 ⊖ v0) ⊗ (v5 ⊖ v3) ⊕ (v4 ⊖ v0) ⊗ (v3 ⊖ v2))
+            ((v1 ⊗ (v5 ⊖ v3) ⊕ v4 ⊗ (v3 ⊖ v2)) ⊖ v0 ⊗ (v5 ⊖ v2)) refl
 
 -- an edge to the left of a point doesn't turn round it
 left_turn : (x y : ℤ) (e : Edge) → (e.a.x ≤ℤ x) × (e.b.x ≤ℤ x) → turn_at x y e ≡ pos 0

@@ -105,7 +105,8 @@ all_apart c line z [] = inl tt
 all_apart c line z (e ∷ es) = by_cases (near_on c line z e) (all_apart c line z es)
   where
     by_cases : IsDecided (ComesNear c line z e)
-        → IsDecided (AllByRecursion (IsApart c line z) es) → IsDecided (AllByRecursion (IsApart c line z) (e ∷ es))
+        → IsDecided (AllByRecursion (IsApart c line z) es)
+        → IsDecided (AllByRecursion (IsApart c line z) (e ∷ es))
     by_cases (inl near) r = inr (λ h. not_near c line z e h.0 near)
     by_cases (inr apart) (inl r) = inl (apart_if c line z e apart, r)
     by_cases (inr apart) (inr n) = inr (λ h. n h.1)

@@ -14,7 +14,8 @@ use Rattle.plan_infill.specs.Runs.{point_on}
 use Rattle.plan_infill.specs.Steps.{up_to, all_of, ComesNear, IsApart, IsStep, AreTurnSteps, AreNearSteps, AreSteps}
 use Rattle.plan_infill.proofs.Reached.{not_near}
 
-up_to-append : (f : Step → ℤ) (z : ℤ) (xs ys : List Step) → up_to f z (xs ++ ys) ≡ up_to f z xs +ℤ up_to f z ys
+up_to-append : (f : Step → ℤ) (z : ℤ) (xs ys : List Step)
+    → up_to f z (xs ++ ys) ≡ up_to f z xs +ℤ up_to f z ys
 up_to-append f z [] ys = omega (arith, ints)
 up_to-append f z (s ∷ xs) ys = let h = up_to-append f z xs ys in omega (arith, ints, h)
 
@@ -22,7 +23,8 @@ all_of-append : (f : Step → ℤ) (xs ys : List Step) → all_of f (xs ++ ys) �
 all_of-append f [] ys = omega (arith, ints)
 all_of-append f (s ∷ xs) ys = let h = all_of-append f xs ys in omega (arith, ints, h)
 
-up_to-none : (f : Step → ℤ) (z : ℤ) (xs : List Step) → AllByRecursion (λ s. f s ≡ pos 0) xs → up_to f z xs ≡ pos 0
+up_to-none : (f : Step → ℤ) (z : ℤ) (xs : List Step) → AllByRecursion (λ s. f s ≡ pos 0) xs
+    → up_to f z xs ≡ pos 0
 up_to-none f z [] h = refl
 up_to-none f z (s ∷ xs) h =
     let r = up_to-none f z xs h.1 in
@@ -39,9 +41,11 @@ all_of-none f [] h = refl
 all_of-none f (s ∷ xs) h = let r = all_of-none f xs h.1 in let o = h.0 in omega (arith, ints, r, o)
 
 pub no_steps : (c : ℕ) (line : Line) → AreSteps c line [] []
-no_steps c line = record { turns = λ z. refl; behind = refl; near = λ z. inr (refl, tt); each = All-from_recursion IsStep [] tt }
+no_steps c line = record { turns = λ z. refl; behind = refl; near = λ z. inr (refl, tt); each
+    = All-from_recursion IsStep [] tt }
 
-pub more_steps : (c : ℕ) (line : Line) (e : Edge) (es : List Edge) (a b more : List Step) → AreTurnSteps line e a → AreNearSteps c line e b → AreSteps c line es more → AreSteps c line (e ∷ es) (a ++ (b ++ more))
+pub more_steps : (c : ℕ) (line : Line) (e : Edge) (es : List Edge) (a b more : List Step) → AreTurnSteps line e a
+    → AreNearSteps c line e b → AreSteps c line es more → AreSteps c line (e ∷ es) (a ++ (b ++ more))
 more_steps c line e es a b more t n r = record {
   turns = λ z.
       let p = t.give.each z in
@@ -64,7 +68,8 @@ more_steps c line e es a b more t n r = record {
       near z u v w (n.give z) (r.near z);
   each = All-from_recursion IsStep (a ++ (b ++ more))
       (AllByRecursion-append IsStep a (b ++ more) (recursion_from_All IsStep a t.each)
-      (AllByRecursion-append IsStep b more (recursion_from_All IsStep b n.each) (recursion_from_All IsStep more r.each)));
+      (AllByRecursion-append IsStep b more (recursion_from_All IsStep b n.each)
+          (recursion_from_All IsStep more r.each)));
 }
   where
     no_turns : AllByRecursion (λ s. s.turns ≡ pos 0) b
@@ -73,21 +78,28 @@ more_steps c line e es a b more t n r = record {
     no_near : AllByRecursion (λ s. s.near ≡ pos 0) a
     no_near = recursion_from_All (λ s. s.near ≡ pos 0) a t.other
 
-    near : (z : ℤ) → up_to (λ s. s.near) z (a ++ (b ++ more)) ≡ up_to (λ s. s.near) z a +ℤ up_to (λ s. s.near) z (b ++ more)
+    near : (z : ℤ) → up_to (λ s. s.near) z (a ++ (b ++ more))
+        ≡ up_to (λ s. s.near) z a +ℤ up_to (λ s. s.near) z (b ++ more)
         → up_to (λ s. s.near) z (b ++ more) ≡ up_to (λ s. s.near) z b +ℤ up_to (λ s. s.near) z more
         → up_to (λ s. s.near) z a ≡ pos 0
-        → ((up_to (λ s. s.near) z b ≡ pos 1) × ComesNear c line z e) ⊎ ((up_to (λ s. s.near) z b ≡ pos 0) × IsApart c line z e)
-        → ((pos 0 <ℤ up_to (λ s. s.near) z more) × (AllByRecursion (IsApart c line z) es → ⊥)) ⊎ ((up_to (λ s. s.near) z more ≡ pos 0) × AllByRecursion (IsApart c line z) es)
-        → ((pos 0 <ℤ up_to (λ s. s.near) z (a ++ (b ++ more))) × (AllByRecursion (IsApart c line z) (e ∷ es) → ⊥)) ⊎ ((up_to (λ s. s.near) z (a ++ (b ++ more)) ≡ pos 0) × AllByRecursion (IsApart c line z) (e ∷ es))
+        → ((up_to (λ s. s.near) z b ≡ pos 1) × ComesNear c line z e)
+        ⊎ ((up_to (λ s. s.near) z b ≡ pos 0) × IsApart c line z e)
+        → ((pos 0 <ℤ up_to (λ s. s.near) z more) × (AllByRecursion (IsApart c line z) es → ⊥))
+        ⊎ ((up_to (λ s. s.near) z more ≡ pos 0) × AllByRecursion (IsApart c line z) es)
+        → ((pos 0 <ℤ up_to (λ s. s.near) z (a ++ (b ++ more)))
+        × (AllByRecursion (IsApart c line z) (e ∷ es) → ⊥))
+        ⊎ ((up_to (λ s. s.near) z (a ++ (b ++ more)) ≡ pos 0) × AllByRecursion (IsApart c line z) (e ∷ es))
     near z u v w (inl p) (inl q) = let i = p.0 in let j = q.0 in inl (omega (arith, ints, u, v, w, i, j), λ k. not_near c line z e k.0 p.1)
     near z u v w (inl p) (inr q) = let i = p.0 in let j = q.0 in inl (omega (arith, ints, u, v, w, i, j), λ k. not_near c line z e k.0 p.1)
     near z u v w (inr p) (inl q) = let i = p.0 in let j = q.0 in inl (omega (arith, ints, u, v, w, i, j), λ k. q.1 k.1)
     near z u v w (inr p) (inr q) = let i = p.0 in let j = q.0 in inr (omega (arith, ints, u, v, w, i, j), (p.1, q.1))
 
 -- one more of a list of edges
-pub one_more : (c : ℕ) (line : Line) (sides : List Edge) (i : ℕ) (d : Edge) (steps s1 s2 a b : List Step) → i < length sides
+pub one_more : (c : ℕ) (line : Line) (sides : List Edge) (i : ℕ) (d : Edge) (steps s1 s2 a b : List Step)
+    → i < length sides
     → ((more : List Step) → AreSteps c line (drop i sides) more → AreSteps c line sides (steps ++ more))
-    → AreTurnSteps line (get_or sides i d) a → s1 ≡ steps ++ a → AreNearSteps c line (get_or sides i d) b → s2 ≡ s1 ++ b
+    → AreTurnSteps line (get_or sides i d) a → s1 ≡ steps ++ a → AreNearSteps c line (get_or sides i d) b
+    → s2 ≡ s1 ++ b
     → (more : List Step) → AreSteps c line (drop (i + 1) sides) more → AreSteps c line sides (s2 ++ more)
 one_more c line sides i d steps s1 s2 a b h all t p n q more k =
     let k' : AreSteps c line (drop (suc i) sides) more = rw add-one at k in

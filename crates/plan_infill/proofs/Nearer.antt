@@ -1,5 +1,6 @@
 -- Where a segment that doesn't fall comes within the octagon of the half width c and the half sum u round the origin,
--- without its border. Over K times the coordinates, with K great enough, it meets the closed octagon of K c - 1 and K u - 1.
+-- without its border. Over K times the coordinates, with K great enough, it meets the closed octagon of K c - 1 and K u
+-- - 1.
 use Rattle.std.proofs.Common.{◌≡◌, ◌⊎◌, inl, inr, Bool, true, false, [], ◌∷◌, refl, sym, ap, ap₂, ◌∙◌, arith, ℤ, pos, neg_ℤ, ◌+ℤ◌, ◌-ℤ◌, ◌*ℤ◌, ◌<ℤ◌}
 use lib.Signed.{◌≤ℤ◌}
 use Rattle.std.specs.Prelude.{if◌then◌else◌, int_le}
@@ -16,7 +17,8 @@ use Rattle.scad_ring.proofs.Meetings.{facts, tests, approach_if_passes, passes_i
 -- ---- without a border
 -- the mean of a and b by the weights s and t lies strictly in the half plane n x + m y < c
 abbrev pub LiesWithin : ℤ → ℤ → ℤ → ℤ → ℤ → ℤ → ℤ → ℤ → ℤ → Type 0
-LiesWithin n m c s t ax ay bx by = (n *ℤ (s *ℤ ax +ℤ t *ℤ bx) +ℤ m *ℤ (s *ℤ ay +ℤ t *ℤ by)) <ℤ (c *ℤ (s +ℤ t))
+LiesWithin n m c s t ax ay bx by = (n *ℤ (s *ℤ ax +ℤ t *ℤ bx) +ℤ m *ℤ (s *ℤ ay +ℤ t *ℤ by)) <ℤ
+    (c *ℤ (s +ℤ t))
 
 -- a mean of the ends lies in the octagon, and not on its border
 pub record Inside (c u ax ay bx by : ℤ) : Type 0 where
@@ -70,11 +72,12 @@ chosen s t x y p q r =
     else (if r then s *ℤ y +ℤ t *ℤ x
     else s *ℤ y -ℤ t *ℤ x))
 
-by_equal : (s t x y : ℤ) (a b c p q r : Bool) → a ≡ p → b ≡ q → c ≡ r → chosen s t x y a b c ≡ chosen s t x y p q r
+by_equal : (s t x y : ℤ) (a b c p q r : Bool) → a ≡ p → b ≡ q → c ≡ r
+    → chosen s t x y a b c ≡ chosen s t x y p q r
 by_equal s t x y a b c p q r e f g = rw (e, f, g) refl
 
-pub by_direction : (s t x y : ℤ) (p q r : Bool) → int_le y x ≡ p → int_le (x +ℤ y) (pos 0) ≡ q → int_le (pos 0) x ≡ r
-    → breadth s t x y ≡ chosen s t x y p q r
+pub by_direction : (s t x y : ℤ) (p q r : Bool) → int_le y x ≡ p → int_le (x +ℤ y) (pos 0) ≡ q
+    → int_le (pos 0) x ≡ r → breadth s t x y ≡ chosen s t x y p q r
 unfolding breadth
 by_direction s t x y p q r e f g =
     by_equal s t x y (int_le y x) (int_le (x +ℤ y) (pos 0)) (int_le (pos 0) x) p q r e f g
@@ -123,7 +126,8 @@ le_scaled k a b h = elim (order a b) [
     gap k a b = ring (k ∷ a ∷ b ∷ []) ((v2 ⊖ v1) ⊗ v0) (v0 ⊗ v2 ⊖ v0 ⊗ v1) refl
 
     gap_back : (k a b : ℤ) → ((a -ℤ b) -ℤ pos 1) *ℤ k ≡ (k *ℤ a -ℤ k *ℤ b) -ℤ k
-    gap_back k a b = ring (k ∷ a ∷ b ∷ []) (((v1 ⊖ v2) ⊖ num (pos 1)) ⊗ v0) ((v0 ⊗ v1 ⊖ v0 ⊗ v2) ⊖ v0) refl
+    gap_back k a b = ring (k ∷ a ∷ b ∷ []) (((v1 ⊖ v2) ⊖ num (pos 1)) ⊗ v0)
+        ((v0 ⊗ v1 ⊖ v0 ⊗ v2) ⊖ v0) refl
 
 same_scaled : (k c t x y : ℤ) (p q r : Bool)
     → chosen (k *ℤ c -ℤ pos 1) (k *ℤ t) (k *ℤ x) (k *ℤ y) p q r
@@ -154,21 +158,26 @@ right_scaled : (k x : ℤ) → pos 0 <ℤ k → int_le (pos 0) (k *ℤ x) ≡ in
 right_scaled k x h = ap (λ (a : ℤ). int_le a (k *ℤ x)) (no_times k) ∙ le_scaled k (pos 0) x h
 
 breadth_scaled : (k c t x y : ℤ) → pos 0 <ℤ k
-    → breadth (k *ℤ c -ℤ pos 1) (k *ℤ t) (k *ℤ x) (k *ℤ y) ≡ k *ℤ (k *ℤ breadth c t x y -ℤ length_of x y)
+    → breadth (k *ℤ c -ℤ pos 1) (k *ℤ t) (k *ℤ x) (k *ℤ y)
+    ≡ k *ℤ (k *ℤ breadth c t x y -ℤ length_of x y)
 breadth_scaled k c t x y h =
-    by_direction (k *ℤ c -ℤ pos 1) (k *ℤ t) (k *ℤ x) (k *ℤ y) (int_le y x) (int_le (x +ℤ y) (pos 0)) (int_le (pos 0) x)
+    by_direction (k *ℤ c -ℤ pos 1) (k *ℤ t) (k *ℤ x) (k *ℤ y) (int_le y x) (int_le (x +ℤ y) (pos 0))
+        (int_le (pos 0) x)
     (le_scaled k y x h) (rising_scaled k x y h) (right_scaled k x h)
     ∙ same_scaled k c t x y (int_le y x) (int_le (x +ℤ y) (pos 0)) (int_le (pos 0) x)
     ∙ ap₂ (λ (a b : ℤ). k *ℤ (k *ℤ a -ℤ b))
     (sym (by_direction c t x y (int_le y x) (int_le (x +ℤ y) (pos 0)) (int_le (pos 0) x) refl refl refl))
     (sym (by_direction (pos 1) (pos 0) x y (int_le y x) (int_le (x +ℤ y) (pos 0)) (int_le (pos 0) x) refl refl refl))
 
-cross_scaled : (k ax ay bx by : ℤ) → cross (k *ℤ ax) (k *ℤ ay) (k *ℤ bx) (k *ℤ by) ≡ k *ℤ (k *ℤ cross ax ay bx by)
-cross_scaled k ax ay bx by = ring (k ∷ ax ∷ ay ∷ bx ∷ by ∷ []) ((v0 ⊗ v1) ⊗ (v0 ⊗ v4) ⊖ (v0 ⊗ v2) ⊗ (v0 ⊗ v3))
+cross_scaled : (k ax ay bx by : ℤ) → cross (k *ℤ ax) (k *ℤ ay) (k *ℤ bx) (k *ℤ by)
+    ≡ k *ℤ (k *ℤ cross ax ay bx by)
+cross_scaled k ax ay bx by = ring (k ∷ ax ∷ ay ∷ bx ∷ by ∷ [])
+    ((v0 ⊗ v1) ⊗ (v0 ⊗ v4) ⊖ (v0 ⊗ v2) ⊗ (v0 ⊗ v3))
     (v0 ⊗ (v0 ⊗ (v1 ⊗ v4 ⊖ v2 ⊗ v3))) refl
 
 value_scaled : (k n m x y : ℤ) → n *ℤ (k *ℤ x) +ℤ m *ℤ (k *ℤ y) ≡ (n *ℤ x +ℤ m *ℤ y) *ℤ k
-value_scaled k n m x y = ring (k ∷ n ∷ m ∷ x ∷ y ∷ []) (v1 ⊗ (v0 ⊗ v3) ⊕ v2 ⊗ (v0 ⊗ v4)) ((v1 ⊗ v3 ⊕ v2 ⊗ v4) ⊗ v0) refl
+value_scaled k n m x y = ring (k ∷ n ∷ m ∷ x ∷ y ∷ []) (v1 ⊗ (v0 ⊗ v3) ⊕ v2 ⊗ (v0 ⊗ v4))
+    ((v1 ⊗ v3 ⊕ v2 ⊗ v4) ⊗ v0) refl
 
 mean_scaled : (k n m s t ax ay bx by : ℤ)
     → n *ℤ (s *ℤ (k *ℤ ax) +ℤ t *ℤ (k *ℤ bx)) +ℤ m *ℤ (s *ℤ (k *ℤ ay) +ℤ t *ℤ (k *ℤ by))
@@ -197,17 +206,20 @@ pub record Gaps (k c u ax ay bx by : ℤ) : Type 0 where
       length_of (bx -ℤ ax) (by -ℤ ay))
 
 parted : (k b x l : ℤ) → (k *ℤ (b -ℤ x) -ℤ l) *ℤ k ≡ k *ℤ (k *ℤ b -ℤ l) -ℤ k *ℤ (k *ℤ x)
-parted k b x l = ring (k ∷ b ∷ x ∷ l ∷ []) ((v0 ⊗ (v1 ⊖ v2) ⊖ v3) ⊗ v0) (v0 ⊗ (v0 ⊗ v1 ⊖ v3) ⊖ v0 ⊗ (v0 ⊗ v2)) refl
+parted k b x l = ring (k ∷ b ∷ x ∷ l ∷ []) ((v0 ⊗ (v1 ⊖ v2) ⊖ v3) ⊗ v0)
+    (v0 ⊗ (v0 ⊗ v1 ⊖ v3) ⊖ v0 ⊗ (v0 ⊗ v2)) refl
 
 parted_back : (k b x l : ℤ) → (k *ℤ (b +ℤ x) -ℤ l) *ℤ k ≡ k *ℤ (k *ℤ b -ℤ l) +ℤ k *ℤ (k *ℤ x)
-parted_back k b x l = ring (k ∷ b ∷ x ∷ l ∷ []) ((v0 ⊗ (v1 ⊕ v2) ⊖ v3) ⊗ v0) (v0 ⊗ (v0 ⊗ v1 ⊖ v3) ⊕ v0 ⊗ (v0 ⊗ v2)) refl
+parted_back k b x l = ring (k ∷ b ∷ x ∷ l ∷ []) ((v0 ⊗ (v1 ⊕ v2) ⊖ v3) ⊗ v0)
+    (v0 ⊗ (v0 ⊗ v1 ⊖ v3) ⊕ v0 ⊗ (v0 ⊗ v2)) refl
 
 module _ (k c u ax ay bx by : ℤ) (h : pos 0 <ℤ k) where
   abbrev pub ScaledEnd : ℤ → ℤ → ℤ → Type 0
   ScaledEnd n m w = End n m (k *ℤ w -ℤ pos 1) (k *ℤ ax) (k *ℤ ay) (k *ℤ bx) (k *ℤ by)
 
   -- ---- ends
-  value_up : (n m w x y : ℤ) → (n *ℤ x +ℤ m *ℤ y) <ℤ w → (n *ℤ (k *ℤ x) +ℤ m *ℤ (k *ℤ y)) ≤ℤ (k *ℤ w -ℤ pos 1)
+  value_up : (n m w x y : ℤ) → (n *ℤ x +ℤ m *ℤ y) <ℤ w
+      → (n *ℤ (k *ℤ x) +ℤ m *ℤ (k *ℤ y)) ≤ℤ (k *ℤ w -ℤ pos 1)
   value_up n m w x y l =
       let g = at_least_mul (w -ℤ (n *ℤ x +ℤ m *ℤ y) -ℤ pos 1) k (omega (arith, ints, l)) (omega (arith, ints, h)) in
       let e = gap_is w (n *ℤ x +ℤ m *ℤ y) k in
@@ -215,7 +227,8 @@ module _ (k c u ax ay bx by : ℤ) (h : pos 0 <ℤ k) where
       let f = factor_first k w in
       omega (arith, ints, g, e, v, f, h)
 
-  value_down : (n m w x y : ℤ) → (n *ℤ (k *ℤ x) +ℤ m *ℤ (k *ℤ y)) ≤ℤ (k *ℤ w -ℤ pos 1) → (n *ℤ x +ℤ m *ℤ y) <ℤ w
+  value_down : (n m w x y : ℤ) → (n *ℤ (k *ℤ x) +ℤ m *ℤ (k *ℤ y)) ≤ℤ (k *ℤ w -ℤ pos 1)
+      → (n *ℤ x +ℤ m *ℤ y) <ℤ w
   value_down n m w x y l =
       let e = difference_is w (n *ℤ x +ℤ m *ℤ y) k in
       let v = value_scaled k n m x y in
@@ -260,7 +273,8 @@ module _ (k c u ax ay bx by : ℤ) (h : pos 0 <ℤ k) where
 
   -- ---- the line
   abbrev ScaledLine : Type 0
-  ScaledLine = IsSize (breadth (k *ℤ c -ℤ pos 1) ((k *ℤ u -ℤ pos 1) -ℤ (k *ℤ c -ℤ pos 1)) (k *ℤ bx -ℤ k *ℤ ax)
+  ScaledLine = IsSize (breadth (k *ℤ c -ℤ pos 1) ((k *ℤ u -ℤ pos 1) -ℤ (k *ℤ c -ℤ pos 1))
+      (k *ℤ bx -ℤ k *ℤ ax)
       (k *ℤ by -ℤ k *ℤ ay)) (cross (k *ℤ ax) (k *ℤ ay) (k *ℤ bx) (k *ℤ by))
 
   line_is : breadth (k *ℤ c -ℤ pos 1) ((k *ℤ u -ℤ pos 1) -ℤ (k *ℤ c -ℤ pos 1)) (k *ℤ bx -ℤ k *ℤ ax)
@@ -303,7 +317,8 @@ module _ (k c u ax ay bx by : ℤ) (h : pos 0 <ℤ k) where
       }
 
   -- ---- means
-  within : (n m w s t : ℤ) → pos 0 <ℤ (s +ℤ t) → Lies n m (k *ℤ w -ℤ pos 1) s t (k *ℤ ax) (k *ℤ ay) (k *ℤ bx) (k *ℤ by)
+  within : (n m w s t : ℤ) → pos 0 <ℤ (s +ℤ t)
+      → Lies n m (k *ℤ w -ℤ pos 1) s t (k *ℤ ax) (k *ℤ ay) (k *ℤ bx) (k *ℤ by)
       → LiesWithin n m w s t ax ay bx by
   within n m w s t some l =
       let v : ℤ = n *ℤ (s *ℤ ax +ℤ t *ℤ bx) +ℤ m *ℤ (s *ℤ ay +ℤ t *ℤ by) in
@@ -361,15 +376,18 @@ module _ (k c u ax ay bx by : ℤ) (h : pos 0 <ℤ k) where
         omega (arith, ints, g, e, p, q)
 
     pub inside_if : EndsWithin c u ax ay bx by → Gaps k c u ax ay bx by → Inside c u ax ay bx by
-    inside_if e g = inside_of (approach_if_passes (k *ℤ c -ℤ pos 1) (k *ℤ u -ℤ pos 1) (k *ℤ ax) (k *ℤ ay) (k *ℤ bx)
+    inside_if e g = inside_of (approach_if_passes (k *ℤ c -ℤ pos 1) (k *ℤ u -ℤ pos 1) (k *ℤ ax) (k *ℤ ay)
+        (k *ℤ bx)
         (k *ℤ by) width wider narrow rises
-        (tests (k *ℤ c -ℤ pos 1) (k *ℤ u -ℤ pos 1) (k *ℤ ax) (k *ℤ ay) (k *ℤ bx) (k *ℤ by) (ends_up e) (line_up g)))
+        (tests (k *ℤ c -ℤ pos 1) (k *ℤ u -ℤ pos 1) (k *ℤ ax) (k *ℤ ay) (k *ℤ bx) (k *ℤ by) (ends_up e)
+            (line_up g)))
 
     pub told_if : Approach (k *ℤ c -ℤ pos 1) (k *ℤ u -ℤ pos 1) (k *ℤ ax) (k *ℤ ay) (k *ℤ bx) (k *ℤ by)
         → EndsWithin c u ax ay bx by × Gaps k c u ax ay bx by
     told_if a =
         let f = facts (k *ℤ c -ℤ pos 1) (k *ℤ u -ℤ pos 1) (k *ℤ ax) (k *ℤ ay) (k *ℤ bx) (k *ℤ by)
-        (passes_if_approach (k *ℤ c -ℤ pos 1) (k *ℤ u -ℤ pos 1) (k *ℤ ax) (k *ℤ ay) (k *ℤ bx) (k *ℤ by) width wider narrow
+        (passes_if_approach (k *ℤ c -ℤ pos 1) (k *ℤ u -ℤ pos 1) (k *ℤ ax) (k *ℤ ay) (k *ℤ bx) (k *ℤ by)
+            width wider narrow
         rises a) in
         (ends_down f.0, line_down f.1)
 

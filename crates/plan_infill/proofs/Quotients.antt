@@ -10,11 +10,14 @@ use Rattle.scad_geom.proofs.Ring.{ring, num, ◌⊕◌, ◌⊖◌, ◌⊗◌, v0
 use Rattle.plan_infill.specs.Quotient.{IsFloor, IsCeiling}
 
 pub floor_is : (n d q : ℤ) → pos 0 <ℤ d → q ≡ int_div_euclid n d → IsFloor n d q
-floor_is (pos a) (pos d) q h e = subst (IsFloor (pos a) (pos d)) (sym e) (record { least = omega (arith, ints); most = omega (arith, ints) })
-floor_is (negsuc a) (pos d) q h e = subst (IsFloor (negsuc a) (pos d)) (sym e) (record { least = omega (arith, ints); most = omega (arith, ints) })
+floor_is (pos a) (pos d) q h e = subst (IsFloor (pos a) (pos d)) (sym e)
+    (record { least = omega (arith, ints); most = omega (arith, ints) })
+floor_is (negsuc a) (pos d) q h e = subst (IsFloor (negsuc a) (pos d)) (sym e)
+    (record { least = omega (arith, ints); most = omega (arith, ints) })
 floor_is n (negsuc d) q h e = absurd (omega (arith, ints))
 
-pub ceiling_is : (n d q : ℤ) → pos 0 <ℤ d → q ≡ int_div_euclid (pos 0 -ℤ n) d → IsCeiling n d (pos 0 -ℤ q)
+pub ceiling_is : (n d q : ℤ) → pos 0 <ℤ d → q ≡ int_div_euclid (pos 0 -ℤ n) d
+    → IsCeiling n d (pos 0 -ℤ q)
 ceiling_is n d q h e =
     let f = floor_is (pos 0 -ℤ n) d q h e in
     let l = f.least in
@@ -26,7 +29,8 @@ split : (q d : ℤ) → q *ℤ (d -ℤ pos 1) ≡ q *ℤ d -ℤ q
 split q d = ring (q ∷ d ∷ []) (v0 ⊗ (v1 ⊖ num (pos 1))) (v0 ⊗ v1 ⊖ v0) refl
 
 split_below : (q d : ℤ) → (pos 0 -ℤ (q +ℤ pos 1)) *ℤ (d -ℤ pos 1) ≡ (q +ℤ pos 1) -ℤ (q *ℤ d +ℤ d)
-split_below q d = ring (q ∷ d ∷ []) ((num (pos 0) ⊖ (v0 ⊕ num (pos 1))) ⊗ (v1 ⊖ num (pos 1))) ((v0 ⊕ num (pos 1)) ⊖ (v0 ⊗ v1 ⊕ v1)) refl
+split_below q d = ring (q ∷ d ∷ []) ((num (pos 0) ⊖ (v0 ⊕ num (pos 1))) ⊗ (v1 ⊖ num (pos 1)))
+    ((v0 ⊕ num (pos 1)) ⊖ (v0 ⊗ v1 ⊕ v1)) refl
 
 -- a quotient isn't greater in size than what is divided
 pub floor_size : (n d q : ℤ) → pos 0 <ℤ d → IsFloor n d q → unsigned_abs q ≤ unsigned_abs n
@@ -52,7 +56,8 @@ after_floor n d r x h f k =
     let t = f.most in
     omega (arith, ints, m, e)
 
-pub after_quotient : (n d r x : ℤ) → pos 0 <ℤ d → IsFloor n d r → n <ℤ (x *ℤ d) → (r +ℤ pos 1) ≤ℤ x
+pub after_quotient : (n d r x : ℤ) → pos 0 <ℤ d → IsFloor n d r → n <ℤ (x *ℤ d)
+    → (r +ℤ pos 1) ≤ℤ x
 after_quotient n d r x h f k =
     let l = f.least in
     elim (order x r) [

@@ -46,12 +46,14 @@ place_is : (n m s t px py rx ry x y : ℤ)
     ((s *ℤ py +ℤ t *ℤ ry) *ℤ pos 1 -ℤ y *ℤ (s *ℤ pos 1 +ℤ t *ℤ pos 1))
     ≡ n *ℤ (s *ℤ (px -ℤ x) +ℤ t *ℤ (rx -ℤ x)) +ℤ m *ℤ (s *ℤ (py -ℤ y) +ℤ t *ℤ (ry -ℤ y))
 place_is n m s t px py rx ry x y = ring (n ∷ m ∷ s ∷ t ∷ px ∷ py ∷ rx ∷ ry ∷ x ∷ y ∷ [])
-    (v0 ⊗ ((v2 ⊗ v4 ⊕ v3 ⊗ v6) ⊗ num (pos 1) ⊖ v8 ⊗ (v2 ⊗ num (pos 1) ⊕ v3 ⊗ num (pos 1))) ⊕ v1 ⊗
+    (v0 ⊗ ((v2 ⊗ v4 ⊕ v3 ⊗ v6) ⊗ num (pos 1) ⊖ v8 ⊗ (v2 ⊗ num (pos 1) ⊕ v3 ⊗ num (pos 1))) ⊕ v1
+        ⊗
     ((v2 ⊗ v5 ⊕ v3 ⊗ v7) ⊗ num (pos 1) ⊖ v9 ⊗ (v2 ⊗ num (pos 1) ⊕ v3 ⊗ num (pos 1))))
     (v0 ⊗ (v2 ⊗ (v4 ⊖ v8) ⊕ v3 ⊗ (v6 ⊖ v8)) ⊕ v1 ⊗ (v2 ⊗ (v5 ⊖ v9) ⊕ v3 ⊗ (v7 ⊖ v9))) refl
 
 weight_is : (c s t : ℤ) → c *ℤ ((s *ℤ pos 1 +ℤ t *ℤ pos 1) *ℤ pos 1) ≡ c *ℤ (s +ℤ t)
-weight_is c s t = ring (c ∷ s ∷ t ∷ []) (v0 ⊗ ((v1 ⊗ num (pos 1) ⊕ v2 ⊗ num (pos 1)) ⊗ num (pos 1))) (v0 ⊗ (v1 ⊕ v2)) refl
+weight_is c s t = ring (c ∷ s ∷ t ∷ []) (v0 ⊗ ((v1 ⊗ num (pos 1) ⊕ v2 ⊗ num (pos 1)) ⊗ num (pos 1)))
+    (v0 ⊗ (v1 ⊕ v2)) refl
 
 module _ (x y : ℤ) (p r : Pt) where
   -- p and r, as the point (x, y) sees them
@@ -59,7 +61,8 @@ module _ (x y : ℤ) (p r : Pt) where
   InsideFrom c u = Inside c u (p.x -ℤ x) (p.y -ℤ y) (r.x -ℤ x) (r.y -ℤ y)
 
   abbrev Bound : ℤ → ℤ → ℤ → ℤ → ℤ → Type 0
-  Bound n m c s t = (n *ℤ ((s *ℤ p.x +ℤ t *ℤ r.x) *ℤ pos 1 -ℤ x *ℤ (s *ℤ pos 1 +ℤ t *ℤ pos 1)) +ℤ m *ℤ
+  Bound n m c s t = (n *ℤ ((s *ℤ p.x +ℤ t *ℤ r.x) *ℤ pos 1 -ℤ x *ℤ (s *ℤ pos 1 +ℤ t *ℤ pos 1)) +ℤ
+      m *ℤ
       ((s *ℤ p.y +ℤ t *ℤ r.y) *ℤ pos 1 -ℤ y *ℤ (s *ℤ pos 1 +ℤ t *ℤ pos 1))) <ℤ (c *ℤ
       ((s *ℤ pos 1 +ℤ t *ℤ pos 1) *ℤ pos 1))
 
@@ -177,8 +180,8 @@ end_most w a b z h = by_order (order a b)
     (λ o. let m = max_first a b o in by_order h (λ l. omega (arith, ints, l, m)) (λ l. omega (arith, ints, l, m, o)))
 
 -- what a half plane says of an end, by the value that it bounds
-end_by : (n m w ax ay bx by a b : ℤ) → n *ℤ ax +ℤ m *ℤ ay ≡ a → n *ℤ bx +ℤ m *ℤ by ≡ b → (a <ℤ w) ⊎ (b <ℤ w)
-    → EndWithin n m w ax ay bx by
+end_by : (n m w ax ay bx by a b : ℤ) → n *ℤ ax +ℤ m *ℤ ay ≡ a → n *ℤ bx +ℤ m *ℤ by ≡ b
+    → (a <ℤ w) ⊎ (b <ℤ w) → EndWithin n m w ax ay bx by
 end_by n m w ax ay bx by a b e f (inl h) = inl (omega (arith, ints, h, e))
 end_by n m w ax ay bx by a b e f (inr h) = inr (omega (arith, ints, h, f))
 
@@ -190,11 +193,13 @@ by_end n m w ax ay bx by a b e f (inr h) = inr (omega (arith, ints, h, f))
 -- ---- the line of an edge, as a point sees it
 cross_identity : (x y px py rx ry : ℤ) → (px -ℤ x) *ℤ (ry -ℤ y) -ℤ (py -ℤ y) *ℤ (rx -ℤ x)
     ≡ (px *ℤ (ry -ℤ y) +ℤ rx *ℤ (y -ℤ py)) -ℤ x *ℤ (ry -ℤ py)
-cross_identity x y px py rx ry = ring (x ∷ y ∷ px ∷ py ∷ rx ∷ ry ∷ []) ((v2 ⊖ v0) ⊗ (v5 ⊖ v1) ⊖ (v3 ⊖ v1) ⊗ (v4 ⊖ v0))
+cross_identity x y px py rx ry = ring (x ∷ y ∷ px ∷ py ∷ rx ∷ ry ∷ [])
+    ((v2 ⊖ v0) ⊗ (v5 ⊖ v1) ⊖ (v3 ⊖ v1) ⊗ (v4 ⊖ v0))
     ((v2 ⊗ (v5 ⊖ v1) ⊕ v4 ⊗ (v1 ⊖ v3)) ⊖ v0 ⊗ (v5 ⊖ v3)) refl
 
 cross_is : (x y : ℤ) (e : Edge)
-    → cross ((low e).x -ℤ x) ((low e).y -ℤ y) ((high e).x -ℤ x) ((high e).y -ℤ y) ≡ x_at e y (pos 1) -ℤ x *ℤ rise e
+    → cross ((low e).x -ℤ x) ((low e).y -ℤ y) ((high e).x -ℤ x) ((high e).y -ℤ y)
+    ≡ x_at e y (pos 1) -ℤ x *ℤ rise e
 unfolding rise
 cross_is x y e =
     let w = x_at_weights e y in cross_identity x y (low e).x (low e).y (high e).x (high e).y ∙ rw w refl
@@ -232,10 +237,12 @@ flat_line c t x h over under long = by_order (order (pos 0) x)
     record { from = omega (arith, ints, b, n, g); to = omega (arith, ints, b, m, e) })
   where
     right_less : (c t h x : ℤ) → (c -ℤ h) *ℤ x ≡ (c *ℤ x +ℤ t *ℤ pos 0) -ℤ h *ℤ x
-    right_less c t h x = ring (c ∷ t ∷ h ∷ x ∷ []) ((v0 ⊖ v2) ⊗ v3) ((v0 ⊗ v3 ⊕ v1 ⊗ num (pos 0)) ⊖ v2 ⊗ v3) refl
+    right_less c t h x = ring (c ∷ t ∷ h ∷ x ∷ []) ((v0 ⊖ v2) ⊗ v3)
+        ((v0 ⊗ v3 ⊕ v1 ⊗ num (pos 0)) ⊖ v2 ⊗ v3) refl
 
     right_more : (c t h x : ℤ) → (c +ℤ h) *ℤ x ≡ (c *ℤ x +ℤ t *ℤ pos 0) +ℤ h *ℤ x
-    right_more c t h x = ring (c ∷ t ∷ h ∷ x ∷ []) ((v0 ⊕ v2) ⊗ v3) ((v0 ⊗ v3 ⊕ v1 ⊗ num (pos 0)) ⊕ v2 ⊗ v3) refl
+    right_more c t h x = ring (c ∷ t ∷ h ∷ x ∷ []) ((v0 ⊕ v2) ⊗ v3)
+        ((v0 ⊗ v3 ⊕ v1 ⊗ num (pos 0)) ⊕ v2 ⊗ v3) refl
 
     left_less : (c t h x : ℤ) → (c -ℤ h) *ℤ (pos 0 -ℤ x) ≡ (t *ℤ pos 0 -ℤ c *ℤ x) +ℤ h *ℤ x
     left_less c t h x = ring (c ∷ t ∷ h ∷ x ∷ []) ((v0 ⊖ v2) ⊗ (num (pos 0) ⊖ v3))
@@ -319,15 +326,20 @@ module _ (c : ℕ) (x y : ℤ) (e : Edge) where
             (((high e).x +ℤ (high e).y) -ℤ (x +ℤ y)) (omega (arith, ints)) (omega (arith, ints))
             (least_end (pos (reach c)) ((low e).x +ℤ (low e).y) ((high e).x +ℤ (high e).y) (x +ℤ y) i.sum.from);
         below_right = end_by (pos 1) (neg_ℤ (pos 1)) (pos (reach c)) ax ay bx by
-            (((low e).x -ℤ (low e).y) -ℤ (x -ℤ y)) (((high e).x -ℤ (high e).y) -ℤ (x -ℤ y)) (omega (arith, ints))
+            (((low e).x -ℤ (low e).y) -ℤ (x -ℤ y)) (((high e).x -ℤ (high e).y) -ℤ (x -ℤ y))
+                (omega (arith, ints))
             (omega (arith, ints))
-            (least_end (pos (reach c)) ((low e).x -ℤ (low e).y) ((high e).x -ℤ (high e).y) (x -ℤ y) i.difference.from);
+            (least_end (pos (reach c)) ((low e).x -ℤ (low e).y) ((high e).x -ℤ (high e).y) (x -ℤ y)
+                i.difference.from);
         over_left = end_by (neg_ℤ (pos 1)) (pos 1) (pos (reach c)) ax ay bx by
-            ((x -ℤ y) -ℤ ((low e).x -ℤ (low e).y)) ((x -ℤ y) -ℤ ((high e).x -ℤ (high e).y)) (omega (arith, ints))
+            ((x -ℤ y) -ℤ ((low e).x -ℤ (low e).y)) ((x -ℤ y) -ℤ ((high e).x -ℤ (high e).y))
+                (omega (arith, ints))
             (omega (arith, ints))
-            (most_end (pos (reach c)) ((low e).x -ℤ (low e).y) ((high e).x -ℤ (high e).y) (x -ℤ y) i.difference.to);
+            (most_end (pos (reach c)) ((low e).x -ℤ (low e).y) ((high e).x -ℤ (high e).y) (x -ℤ y)
+                i.difference.to);
         below_left = end_by (neg_ℤ (pos 1)) (neg_ℤ (pos 1)) (pos (reach c)) ax ay bx by
-            ((x +ℤ y) -ℤ ((low e).x +ℤ (low e).y)) ((x +ℤ y) -ℤ ((high e).x +ℤ (high e).y)) (omega (arith, ints))
+            ((x +ℤ y) -ℤ ((low e).x +ℤ (low e).y)) ((x +ℤ y) -ℤ ((high e).x +ℤ (high e).y))
+                (omega (arith, ints))
             (omega (arith, ints))
             (most_end (pos (reach c)) ((low e).x +ℤ (low e).y) ((high e).x +ℤ (high e).y) (x +ℤ y) i.sum.to);
       }
@@ -370,7 +382,8 @@ module _ (c : ℕ) (x y : ℤ) (e : Edge) where
           (by_end (pos 1) (pos 0) (pos c) ax ay bx by ((low e).x -ℤ x) ((high e).x -ℤ x) (omega (arith, ints))
           (omega (arith, ints)) w.right);
       to = end_most (pos c) (low e).x (high e).x x
-          (by_end (neg_ℤ (pos 1)) (pos 0) (pos c) ax ay bx by (x -ℤ (low e).x) (x -ℤ (high e).x) (omega (arith, ints))
+          (by_end (neg_ℤ (pos 1)) (pos 0) (pos c) ax ay bx by (x -ℤ (low e).x) (x -ℤ (high e).x)
+              (omega (arith, ints))
           (omega (arith, ints)) w.left);
     };
     sum = record {
@@ -379,7 +392,8 @@ module _ (c : ℕ) (x y : ℤ) (e : Edge) where
           (((high e).x +ℤ (high e).y) -ℤ (x +ℤ y)) (omega (arith, ints)) (omega (arith, ints)) w.over_right);
       to = end_most (pos (reach c)) ((low e).x +ℤ (low e).y) ((high e).x +ℤ (high e).y) (x +ℤ y)
           (by_end (neg_ℤ (pos 1)) (neg_ℤ (pos 1)) (pos (reach c)) ax ay bx by
-          ((x +ℤ y) -ℤ ((low e).x +ℤ (low e).y)) ((x +ℤ y) -ℤ ((high e).x +ℤ (high e).y)) (omega (arith, ints))
+          ((x +ℤ y) -ℤ ((low e).x +ℤ (low e).y)) ((x +ℤ y) -ℤ ((high e).x +ℤ (high e).y))
+              (omega (arith, ints))
           (omega (arith, ints)) w.below_left);
     };
     difference = record {
@@ -428,11 +442,13 @@ pub record Told (c : ℕ) (x y : ℤ) (e : Edge) : Type 0 where
   pub reach : IsInReach c y e x
 
 -- ---- the steps
-pub comes : (c : ℕ) (x y : ℤ) (e : Edge) → is_beside c y e ≡ true → IsInReach c y e x → ComesNear c (Row y) x e
+pub comes : (c : ℕ) (x y : ℤ) (e : Edge) → is_beside c y e ≡ true → IsInReach c y e x
+    → ComesNear c (Row y) x e
 comes c x y e h i =
     let b = beside c y e h in
     of_ends c x y e (comes_if_inside x y (low e) (high e) (pos c) (pos (reach c))
-    (inside_if_passes (pos c) (pos (reach c)) ((low e).x -ℤ x) ((low e).y -ℤ y) ((high e).x -ℤ x) ((high e).y -ℤ y)
+    (inside_if_passes (pos c) (pos (reach c)) ((low e).x -ℤ x) ((low e).y -ℤ y) ((high e).x -ℤ x)
+        ((high e).y -ℤ y)
     (thin c b.some) (wide c) b.some (up c x y e) (ends_if c x y e b i.ends) (line_if c x y e b i)))
 
 pub told : (c : ℕ) (x y : ℤ) (e : Edge) → ComesNear c (Row y) x e → Told c x y e
@@ -516,7 +532,8 @@ exchange c x z e f = record {
       (divisor f.s f.t) f.near;
 }
 
-pub exchange_back : (c : ℕ) (x z : ℤ) (e : Edge) → ComesNear c (Column x) z e → ComesNear c (Row x) z (exchanged e)
+pub exchange_back : (c : ℕ) (x z : ℤ) (e : Edge) → ComesNear c (Column x) z e
+    → ComesNear c (Row x) z (exchanged e)
 exchange_back c x z e f = record {
   s = f.s;
   t = f.t;
@@ -532,7 +549,8 @@ pub exchanged_steps : (c : ℕ) (x : ℤ) (e : Edge) (steps : List Step) → Are
 exchanged_steps c x e steps k = record {
   give = λ z. elim (k.give z) [
     | inl p ↦ inl (p.0, exchange c x z e p.1)
-    | inr p ↦ inr (p.0, apart_if c (Column x) z e (λ f. not_near c (Row x) z (exchanged e) p.1 (exchange_back c x z e f)))
+    | inr p ↦ inr (p.0, apart_if c (Column x) z e
+        (λ f. not_near c (Row x) z (exchanged e) p.1 (exchange_back c x z e f)))
   ];
   each = k.each;
   other = k.other;
@@ -547,7 +565,8 @@ line_reached n m d f u x h k l = (
 )
 
 pub line_those : (c : ℕ) (y : ℤ) (e : Edge) (f u : ℤ) → pos 0 <ℤ rise e
-    → IsFloor (x_at e y (pos 1) -ℤ line_reach c e) (rise e) f → IsCeiling (x_at e y (pos 1) +ℤ line_reach c e) (rise e) u
+    → IsFloor (x_at e y (pos 1) -ℤ line_reach c e) (rise e) f
+    → IsCeiling (x_at e y (pos 1) +ℤ line_reach c e) (rise e) u
     → AreThose (IsBesideLine c y e) (record { from = f +ℤ pos 1; until = u })
 line_those c y e f u h k l x =
     let w = line_reached (x_at e y (pos 1) -ℤ line_reach c e) (x_at e y (pos 1) +ℤ line_reach c e) (rise e) f u x h k l in (
@@ -563,8 +582,8 @@ around_those w a b way x = (
 )
 
 -- what lies in two stretches
-pub both_those : (P Q : ℤ → Type 0) (s r b : Stretch) → AreThose P s → AreThose Q r → b.from ≡ int_max s.from r.from
-    → b.until ≡ int_min s.until r.until → AreThose (λ x. P x × Q x) b
+pub both_those : (P Q : ℤ → Type 0) (s r b : Stretch) → AreThose P s → AreThose Q r
+    → b.from ≡ int_max s.from r.from → b.until ≡ int_min s.until r.until → AreThose (λ x. P x × Q x) b
 both_those P Q s r b h k p q x = (
   (λ i.
       let f = max_at_most _ _ _ _ p i.0 in
@@ -608,7 +627,8 @@ ends_those c y e s h x = (
       record {
         across = moved (pos c) (low e).x (high e).x (x +ℤ pos 0) x (omega (arith, ints)) i.0;
         sum = i.1.0;
-        difference = moved (pos (reach c)) ((low e).x -ℤ (low e).y) ((high e).x -ℤ (high e).y) (x +ℤ (pos 0 -ℤ y))
+        difference = moved (pos (reach c)) ((low e).x -ℤ (low e).y) ((high e).x -ℤ (high e).y)
+            (x +ℤ (pos 0 -ℤ y))
             (x -ℤ y) (omega (arith, ints)) i.1.1;
       }),
   (λ i. (h x).1 (
@@ -622,7 +642,8 @@ ends_those c y e s h x = (
 )
 
 -- a stretch that begins and ends as another
-as_stretch : (P : ℤ → Type 0) (s t : Stretch) → AreThose P s → t.from ≡ s.from → t.until ≡ s.until → AreThose P t
+as_stretch : (P : ℤ → Type 0) (s t : Stretch) → AreThose P s → t.from ≡ s.from → t.until ≡ s.until
+    → AreThose P t
 as_stretch P s t h f u x = (
   (λ p. let a = p.0 in let b = p.1 in (h x).0 (omega (arith, ints, a, f), omega (arith, ints, b, u))),
   (λ i. let q = (h x).1 i in let a = q.0 in let b = q.1 in (omega (arith, ints, a, f), omega (arith, ints, b, u))),
@@ -655,14 +676,15 @@ by_stretches c y e a r f b s ha hr hf bf bu sf su =
     let t = round_those (pos (reach c)) ((low e).x -ℤ (low e).y) ((high e).x -ℤ (high e).y) (pos 0 -ℤ y) f hf in
     ends_those c y e s (both_those P (λ x. Q x × R x) a b s p (both_those Q R r f b q t bf bu) sf su)
 
-pub flat_reached : (c : ℕ) (y : ℤ) (e : Edge) (s : Stretch) → rise e ≤ℤ pos 0 → AreThose (IsBesideEnds c y e) s
-    → IsReached c y e s
+pub flat_reached : (c : ℕ) (y : ℤ) (e : Edge) (s : Stretch) → rise e ≤ℤ pos 0
+    → AreThose (IsBesideEnds c y e) s → IsReached c y e s
 flat_reached c y e s h k x = (
   (λ p. record { ends = (k x).0 p; line = λ o. absurd (omega (arith, ints, o, h)) }),
   (λ i. (k x).1 i.ends),
 )
 
-pub both_reached : (c : ℕ) (y : ℤ) (e : Edge) (s r b : Stretch) → pos 0 <ℤ rise e → AreThose (IsBesideEnds c y e) s
+pub both_reached : (c : ℕ) (y : ℤ) (e : Edge) (s r b : Stretch) → pos 0 <ℤ rise e
+    → AreThose (IsBesideEnds c y e) s
     → AreThose (IsBesideLine c y e) r → b.from ≡ int_max s.from r.from → b.until ≡ int_min s.until r.until
     → IsReached c y e b
 both_reached c y e s r b h k l p q x =
@@ -675,7 +697,8 @@ both_reached c y e s r b h k l p q x =
 abbrev pub near_at : ℤ → ℤ → Step
 near_at at near = record { at = at; turns = pos 0; near = near }
 
-pub counts : (s : Stretch) → s.from <ℤ s.until → Counts s (near_at s.from (pos 1) ∷ (near_at s.until (negsuc 0) ∷ []))
+pub counts : (s : Stretch) → s.from <ℤ s.until
+    → Counts s (near_at s.from (pos 1) ∷ (near_at s.until (negsuc 0) ∷ []))
 counts s h = record {
   inside = λ z a b.
       let p : int_le s.from z ≡ true = sym (omega (arith, ints, a)) in
@@ -683,11 +706,14 @@ counts s h = record {
       rw (p, q) refl;
   outside = λ z n. out z n (order s.from z) (order s.until z);
   each = All-from_recursion IsStep (near_at s.from (pos 1) ∷ (near_at s.until (negsuc 0) ∷ []))
-      (record { turns = omega arith; near = omega arith; place = inl refl }, (record { turns = omega arith; near = omega arith; place = inl refl }, tt));
-  other = All-from_recursion (λ t. t.turns ≡ pos 0) (near_at s.from (pos 1) ∷ (near_at s.until (negsuc 0) ∷ [])) (refl, (refl, tt));
+      (record { turns = omega arith; near = omega arith; place = inl refl },
+          (record { turns = omega arith; near = omega arith; place = inl refl }, tt));
+  other = All-from_recursion (λ t. t.turns ≡ pos 0) (near_at s.from (pos 1) ∷ (near_at s.until (negsuc 0) ∷ []))
+      (refl, (refl, tt));
 }
   where
-    out : (z : ℤ) → ((s.from ≤ℤ z) × (z <ℤ s.until) → ⊥) → (s.from ≤ℤ z) ⊎ (z <ℤ s.from) → (s.until ≤ℤ z) ⊎ (z <ℤ s.until)
+    out : (z : ℤ) → ((s.from ≤ℤ z) × (z <ℤ s.until) → ⊥) → (s.from ≤ℤ z) ⊎ (z <ℤ s.from)
+        → (s.until ≤ℤ z) ⊎ (z <ℤ s.until)
         → up_to (λ t. t.near) z (near_at s.from (pos 1) ∷ (near_at s.until (negsuc 0) ∷ [])) ≡ pos 0
     out z n (inl a) (inr b) = absurd (n (a, b))
     out z n (inl a) (inl b) =

@@ -46,7 +46,8 @@ module _ (test : ℤ → Bool) (least : ℕ) where
         let e : (low +ℤ pos n) +ℤ pos 1 ≡ low +ℤ pos (suc n) = omega (arith, ints) in
         subst AreSeen e (one_place_on (low +ℤ pos n) (seen n))
 
-    pub stretches_of : (n : ℕ) → ((z : ℤ) → ((low +ℤ pos n) -ℤ pos 1) ≤ℤ z → test z ≡ false) → HasStretches
+    pub stretches_of : (n : ℕ) → ((z : ℤ) → ((low +ℤ pos n) -ℤ pos 1) ≤ℤ z → test z ≡ false)
+        → HasStretches
     stretches_of n none_over =
         let s = seen n in
         record { runs = s.runs; are_stretches = all_ended test least (low +ℤ pos n) s.runs none_over s.before }

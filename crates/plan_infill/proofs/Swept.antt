@@ -18,25 +18,30 @@ use Rattle.plan_infill.proofs.Stretches.{none_before, none_open, goes_on}
 counted : (f : Step → ℤ) (z : ℤ) (s : Step) → s.at ≤ℤ z → (if int_le s.at z then f s else pos 0) ≡ f s
 counted f z s h = let t : int_le s.at z ≡ true = sym (omega (arith, ints, h)) in rw t refl
 
-not_counted : (f : Step → ℤ) (z : ℤ) (s : Step) → z <ℤ s.at → (if int_le s.at z then f s else pos 0) ≡ pos 0
+not_counted : (f : Step → ℤ) (z : ℤ) (s : Step) → z <ℤ s.at
+    → (if int_le s.at z then f s else pos 0) ≡ pos 0
 not_counted f z s h = let t : int_le s.at z ≡ false = sym (omega (arith, ints, h)) in rw t refl
 
 -- before all steps
-up_to-before : (f : Step → ℤ) (z : ℤ) (ss : List Step) → AllByRecursion (λ s. z <ℤ s.at) ss → up_to f z ss ≡ pos 0
+up_to-before : (f : Step → ℤ) (z : ℤ) (ss : List Step) → AllByRecursion (λ s. z <ℤ s.at) ss
+    → up_to f z ss ≡ pos 0
 up_to-before f z [] h = refl
 up_to-before f z (s ∷ ss) h = let a = not_counted f z s h.0 in let r = up_to-before f z ss h.1 in omega (arith, ints, a, r)
 
-all_after : (z : ℤ) (s : Step) (ss : List Step) → z <ℤ s.at → AllByRecursion (λ t. s.at ≤ℤ t.at) ss → AllByRecursion (λ t. z <ℤ t.at) ss
+all_after : (z : ℤ) (s : Step) (ss : List Step) → z <ℤ s.at → AllByRecursion (λ t. s.at ≤ℤ t.at) ss
+    → AllByRecursion (λ t. z <ℤ t.at) ss
 all_after z s [] h o = tt
 all_after z s (t ∷ ss) h o = (let a = o.0 in omega (arith, ints, a, h), all_after z s ss h o.1)
 
-reaches : (s : Step) (ss : List Step) (j : ℕ) (d : Step) → AllByRecursion (λ t. s.at ≤ℤ t.at) ss → j < length ss → s.at ≤ℤ (get_or ss j d).at
+reaches : (s : Step) (ss : List Step) (j : ℕ) (d : Step) → AllByRecursion (λ t. s.at ≤ℤ t.at) ss
+    → j < length ss → s.at ≤ℤ (get_or ss j d).at
 reaches s [] j d o h = absurd (omega arith)
 reaches s (t ∷ ss) zero d o h = o.0
 reaches s (t ∷ ss) (suc j) d o h = reaches s ss j d o.1 (omega arith)
 
 -- from a step on and before the next place the sum is that of the steps so far
-pub up_to-here : (f : Step → ℤ) (z : ℤ) (ss : List Step) (i : ℕ) (d : Step) → AreInOrder ss → i < length ss → (get_or ss i d).at ≤ℤ z → (suc i < length ss → z <ℤ (get_or ss (suc i) d).at)
+pub up_to-here : (f : Step → ℤ) (z : ℤ) (ss : List Step) (i : ℕ) (d : Step) → AreInOrder ss → i < length ss
+    → (get_or ss i d).at ≤ℤ z → (suc i < length ss → z <ℤ (get_or ss (suc i) d).at)
     → up_to f z ss ≡ all_of f (take (suc i) ss)
 up_to-here f z [] i d o h a b = absurd (omega arith)
 up_to-here f z (s ∷ []) zero d o h a b = let c = counted f z s a in omega (arith, ints, c)
@@ -53,11 +58,13 @@ up_to-here f z (s ∷ (t ∷ ss)) (suc i) d o h a b =
     omega (arith, ints, c, r)
 
 -- ---- how far
-low_sum : (z : ℤ) (ss : List Step) → z <ℤ (pos 0 -ℤ pos coordinate_limit) → AllByRecursion IsStep ss → up_to (λ s. s.turns) z ss ≡ pos 0
+low_sum : (z : ℤ) (ss : List Step) → z <ℤ (pos 0 -ℤ pos coordinate_limit) → AllByRecursion IsStep ss
+    → up_to (λ s. s.turns) z ss ≡ pos 0
 low_sum z [] h k = refl
 low_sum z (s ∷ ss) h k = let r = low_sum z ss h k.1 in let a = one k.0.place in omega (arith, ints, r, a)
   where
-    one : (s.turns ≡ pos 0) ⊎ (unsigned_abs s.at ≤ coordinate_limit) → (if int_le s.at z then s.turns else pos 0) ≡ pos 0
+    one : (s.turns ≡ pos 0) ⊎ (unsigned_abs s.at ≤ coordinate_limit)
+        → (if int_le s.at z then s.turns else pos 0) ≡ pos 0
     one (inl e) = by_test (int_le s.at z)
       where
         by_test : (t : Bool) → (if t then s.turns else pos 0) ≡ pos 0
@@ -65,11 +72,13 @@ low_sum z (s ∷ ss) h k = let r = low_sum z ss h k.1 in let a = one k.0.place i
         by_test false = refl
     one (inr w) = not_counted (λ s. s.turns) z s (omega (arith, ints, w, h))
 
-high_sum : (z : ℤ) (ss : List Step) → pos coordinate_limit ≤ℤ z → AllByRecursion IsStep ss → up_to (λ s. s.turns) z ss ≡ all_of (λ s. s.turns) ss
+high_sum : (z : ℤ) (ss : List Step) → pos coordinate_limit ≤ℤ z → AllByRecursion IsStep ss
+    → up_to (λ s. s.turns) z ss ≡ all_of (λ s. s.turns) ss
 high_sum z [] h k = refl
 high_sum z (s ∷ ss) h k = let r = high_sum z ss h k.1 in let a = one k.0.place in omega (arith, ints, r, a)
   where
-    one : (s.turns ≡ pos 0) ⊎ (unsigned_abs s.at ≤ coordinate_limit) → (if int_le s.at z then s.turns else pos 0) ≡ s.turns
+    one : (s.turns ≡ pos 0) ⊎ (unsigned_abs s.at ≤ coordinate_limit)
+        → (if int_le s.at z then s.turns else pos 0) ≡ s.turns
     one (inl e) = by_test (int_le s.at z)
       where
         by_test : (t : Bool) → (if t then s.turns else pos 0) ≡ s.turns
@@ -80,7 +89,8 @@ high_sum z (s ∷ ss) h k = let r = high_sum z ss h k.1 in let a = one k.0.place
 no_turns : (ss : List Step) (z : ℤ) → up_to (λ s. s.turns) z ss ≡ pos 0 → is_deep_at ss z ≡ false
 no_turns ss z e = rw e refl
 
-pub holds_within : (ss : List Step) → All IsStep ss → all_of (λ s. s.turns) ss ≡ pos 0 → HoldsWithin (is_deep_at ss)
+pub holds_within : (ss : List Step) → All IsStep ss → all_of (λ s. s.turns) ss ≡ pos 0
+    → HoldsWithin (is_deep_at ss)
 holds_within ss k e z h =
     let r = recursion_from_All IsStep ss k in
     by_order (order (pos 0 -ℤ pos coordinate_limit) z)
@@ -90,19 +100,22 @@ holds_within ss k e z h =
     (λ a. absurd (both_ways _ (no_turns ss z (low_sum z ss a r)) h))
 
 -- ---- the sums so far
-all_of-size : (f : Step → ℤ) → ((s : Step) → IsStep s → unsigned_abs (f s) ≤ 1) → (ss : List Step) (i : ℕ) → AllByRecursion IsStep ss → unsigned_abs (all_of f (take i ss)) ≤ i
+all_of-size : (f : Step → ℤ) → ((s : Step) → IsStep s → unsigned_abs (f s) ≤ 1)
+    → (ss : List Step) (i : ℕ) → AllByRecursion IsStep ss → unsigned_abs (all_of f (take i ss)) ≤ i
 all_of-size f g [] zero k = omega (arith, ints)
 all_of-size f g [] (suc i) k = omega (arith, ints)
 all_of-size f g (s ∷ ss) zero k = omega (arith, ints)
 all_of-size f g (s ∷ ss) (suc i) k = let r = all_of-size f g ss i k.1 in let a = g s k.0 in omega (arith, ints, r, a)
 
-pub turns-size : (ss : List Step) (i : ℕ) → All IsStep ss → unsigned_abs (all_of (λ s. s.turns) (take i ss)) ≤ i
+pub turns-size : (ss : List Step) (i : ℕ) → All IsStep ss
+    → unsigned_abs (all_of (λ s. s.turns) (take i ss)) ≤ i
 turns-size ss i k = all_of-size (λ s. s.turns) (λ s h. h.turns) ss i (recursion_from_All IsStep ss k)
 
 pub near-size : (ss : List Step) (i : ℕ) → All IsStep ss → unsigned_abs (all_of (λ s. s.near) (take i ss)) ≤ i
 near-size ss i k = all_of-size (λ s. s.near) (λ s h. h.near) ss i (recursion_from_All IsStep ss k)
 
-all_of-more : (f : Step → ℤ) (ss : List Step) (i : ℕ) (d : Step) → i < length ss → all_of f (take (suc i) ss) ≡ all_of f (take i ss) +ℤ f (get_or ss i d)
+all_of-more : (f : Step → ℤ) (ss : List Step) (i : ℕ) (d : Step) → i < length ss
+    → all_of f (take (suc i) ss) ≡ all_of f (take i ss) +ℤ f (get_or ss i d)
 all_of-more f [] i d h = absurd (omega arith)
 all_of-more f (s ∷ ss) zero d h = omega (arith, ints)
 all_of-more f (s ∷ ss) (suc i) d h = let r = all_of-more f ss i d (omega arith) in omega (arith, ints, r)
@@ -117,7 +130,9 @@ pub record Swept (ss : List Step) (least i : ℕ) (turns near : ℤ) (since : Op
   pub turns_so_far : turns ≡ all_of (λ s. s.turns) (take i ss)
   pub near_so_far : near ≡ all_of (λ s. s.near) (take i ss)
 
-first_place : (ss : List Step) → AreInOrder ss → (place : ℤ) → ((d : Step) → 0 < length ss → place ≡ (get_or ss 0 d).at) → (z : ℤ) → z <ℤ place → is_deep_at ss z ≡ false
+first_place : (ss : List Step) → AreInOrder ss → (place : ℤ)
+    → ((d : Step) → 0 < length ss → place ≡ (get_or ss 0 d).at) → (z : ℤ) → z <ℤ place
+    → is_deep_at ss z ≡ false
 first_place [] o place e z h = refl
 first_place (s ∷ ss) o place e z h =
     let n : z <ℤ s.at = (let a = e s (omega arith) in omega (arith, ints, a, h)) in
@@ -154,20 +169,24 @@ take_all [] (suc i) h = refl
 take_all (s ∷ ss) zero h = absurd (omega arith)
 take_all (s ∷ ss) (suc i) h = ap (λ (xs : List Step). s ∷ xs) (take_all ss i (omega arith))
 
-next_after : (ss : List Step) (i : ℕ) (d : Step) → AreInOrder ss → suc i < length ss → (get_or ss i d).at ≤ℤ (get_or ss (suc i) d).at
+next_after : (ss : List Step) (i : ℕ) (d : Step) → AreInOrder ss → suc i < length ss
+    → (get_or ss i d).at ≤ℤ (get_or ss (suc i) d).at
 next_after [] i d o h = absurd (omega arith)
 next_after (s ∷ []) i d o h = absurd (omega arith)
 next_after (s ∷ (t ∷ ss)) zero d o h = o.0.0
 next_after (s ∷ (t ∷ ss)) (suc i) d o h = next_after (t ∷ ss) i d o.1 (omega arith)
 
 -- the sums with one step more
-more_so_far : (f : Step → ℤ) (ss : List Step) (i : ℕ) (d : Step) (x y : ℤ) → i < length ss → y ≡ x +ℤ f (get_or ss i d) → x ≡ all_of f (take i ss) → y ≡ all_of f (take (suc i) ss)
+more_so_far : (f : Step → ℤ) (ss : List Step) (i : ℕ) (d : Step) (x y : ℤ) → i < length ss
+    → y ≡ x +ℤ f (get_or ss i d) → x ≡ all_of f (take i ss) → y ≡ all_of f (take (suc i) ss)
 more_so_far f ss i d x y h e k = let m = all_of-more f ss i d h in omega (arith, ints, e, k, m)
 
 -- at a place where more steps follow nothing is said yet
-swept_there : (ss : List Step) (least i : ℕ) (d : Step) (turns near t n : ℤ) (since : Option ℤ) (runs : List Run) → AreInOrder ss → i < length ss
+swept_there : (ss : List Step) (least i : ℕ) (d : Step) (turns near t n : ℤ) (since : Option ℤ) (runs : List Run)
+    → AreInOrder ss → i < length ss
     → ((d : Step) → (suc i < length ss) × ((get_or ss (suc i) d).at ≤ℤ (get_or ss i d).at))
-    → t ≡ turns +ℤ (get_or ss i d).turns → n ≡ near +ℤ (get_or ss i d).near → Swept ss least i turns near since runs → Swept ss least (suc i) t n since runs
+    → t ≡ turns +ℤ (get_or ss i d).turns → n ≡ near +ℤ (get_or ss i d).near
+    → Swept ss least i turns near since runs → Swept ss least (suc i) t n since runs
 swept_there ss least i d turns near t n since runs o h m p q k = record {
   place = k.place;
   next = λ d' h'.
@@ -182,25 +201,33 @@ swept_there ss least i d turns near t n since runs o h m p q k = record {
   near_so_far = more_so_far (λ s. s.near) ss i d near n h q k.near_so_far;
 }
 
-pub swept_more : (ss : List Step) (least i : ℕ) (d : Step) (turns near t n : ℤ) (since : Option ℤ) (runs : List Run) → AreInOrder ss → i < length ss
+pub swept_more : (ss : List Step) (least i : ℕ) (d : Step) (turns near t n : ℤ) (since : Option ℤ)
+    (runs : List Run) → AreInOrder ss → i < length ss
     → ((d : Step) → (i + 1 < length ss) × ((get_or ss (i + 1) d).at ≤ℤ (get_or ss i d).at))
-    → t ≡ turns +ℤ (get_or ss i d).turns → n ≡ near +ℤ (get_or ss i d).near → Swept ss least i turns near since runs → Swept ss least (i + 1) t n since runs
-swept_more ss least i d turns near t n since runs o h m p q k = rw add-one (swept_there ss least i d turns near t n since runs o h (rw add-one at m) p q k)
+    → t ≡ turns +ℤ (get_or ss i d).turns → n ≡ near +ℤ (get_or ss i d).near
+    → Swept ss least i turns near since runs → Swept ss least (i + 1) t n since runs
+swept_more ss least i d turns near t n since runs o h m p q k
+    = rw add-one (swept_there ss least i d turns near t n since runs o h (rw add-one at m) p q k)
 
 -- from the last step at a place on the points are deep or aren't, up to the next place
-value_here : (ss : List Step) (i : ℕ) (d : Step) (t n z : ℤ) → AreInOrder ss → i < length ss → t ≡ all_of (λ s. s.turns) (take (suc i) ss) → n ≡ all_of (λ s. s.near) (take (suc i) ss)
-    → (get_or ss i d).at ≤ℤ z → (suc i < length ss → z <ℤ (get_or ss (suc i) d).at) → is_deep_at ss z ≡ (not (is_zero t) && is_zero n)
+value_here : (ss : List Step) (i : ℕ) (d : Step) (t n z : ℤ) → AreInOrder ss → i < length ss
+    → t ≡ all_of (λ s. s.turns) (take (suc i) ss) → n ≡ all_of (λ s. s.near) (take (suc i) ss)
+    → (get_or ss i d).at ≤ℤ z → (suc i < length ss → z <ℤ (get_or ss (suc i) d).at)
+    → is_deep_at ss z ≡ (not (is_zero t) && is_zero n)
 value_here ss i d t n z o h p q a b =
     let u = up_to-here (λ s. s.turns) z ss i d o h a b ∙ sym p in
     let v = up_to-here (λ s. s.near) z ss i d o h a b ∙ sym q in
     ap₂ (λ (x y : ℤ). not (is_zero x) && is_zero y) u v
 
-pub swept_last : (ss : List Step) (least i : ℕ) (d : Step) (turns near t n : ℤ) (since since' : Option ℤ) (runs runs' : List Run) → AreInOrder ss → all_of (λ s. s.turns) ss ≡ pos 0 → i < length ss
+pub swept_last : (ss : List Step) (least i : ℕ) (d : Step) (turns near t n : ℤ) (since since' : Option ℤ)
+    (runs runs' : List Run) → AreInOrder ss → all_of (λ s. s.turns) ss ≡ pos 0 → i < length ss
     → ((d : Step) → i + 1 < length ss → (get_or ss i d).at <ℤ (get_or ss (i + 1) d).at)
     → t ≡ turns +ℤ (get_or ss i d).turns → n ≡ near +ℤ (get_or ss i d).near
-    → since' ≡ opened (not (is_zero t) && is_zero n) since (get_or ss i d).at → runs' ≡ runs ++ closed (not (is_zero t) && is_zero n) since (get_or ss i d).at least
+    → since' ≡ opened (not (is_zero t) && is_zero n) since (get_or ss i d).at
+    → runs' ≡ runs ++ closed (not (is_zero t) && is_zero n) since (get_or ss i d).at least
     → Swept ss least i turns near since runs → Swept ss least (i + 1) t n since' runs'
-swept_last ss least i d turns near t n since since' runs runs' o w h m p q es er k = rw add-one (by_cases (cases_lt (suc i) (length ss)))
+swept_last ss least i d turns near t n since since' runs runs' o w h m p q es er k
+    = rw add-one (by_cases (cases_lt (suc i) (length ss)))
   where
     t_is : t ≡ all_of (λ s. s.turns) (take (suc i) ss)
     t_is = more_so_far (λ s. s.turns) ss i d turns t h p k.turns_so_far
@@ -211,12 +238,16 @@ swept_last ss least i d turns near t n since since' runs runs' o w h m p q es er
     here : k.place ≡ (get_or ss i d).at
     here = k.next d h
 
-    gone_on : (until : ℤ) → k.place <ℤ until → (suc i < length ss → until ≤ℤ (get_or ss (suc i) d).at) → AreStretchesBefore (is_deep_at ss) least until runs' × IsOpen (is_deep_at ss) until since'
+    gone_on : (until : ℤ) → k.place <ℤ until → (suc i < length ss → until ≤ℤ (get_or ss (suc i) d).at)
+        → AreStretchesBefore (is_deep_at ss) least until runs' × IsOpen (is_deep_at ss) until since'
     gone_on until a b =
         let v : IsOneValue (is_deep_at ss) (not (is_zero t) && is_zero n) k.place until = λ z f g. value_here ss i d t n z o h t_is n_is (omega (arith, ints, here, f)) (λ l. let c = b l in omega (arith, ints, c, g)) in
         let r = goes_on (is_deep_at ss) least (not (is_zero t) && is_zero n) k.place until since runs a v k.open_there k.before in (
-          subst (AreStretchesBefore (is_deep_at ss) least until) (sym (er ∙ ap (λ (z : ℤ). runs ++ closed (not (is_zero t) && is_zero n) since z least) (sym here))) r.0,
-          subst (IsOpen (is_deep_at ss) until) (sym (es ∙ ap (λ (z : ℤ). opened (not (is_zero t) && is_zero n) since z) (sym here))) r.1,
+          subst (AreStretchesBefore (is_deep_at ss) least until)
+              (sym (er ∙ ap (λ (z : ℤ). runs ++ closed (not (is_zero t) && is_zero n) since z least) (sym here)))
+              r.0,
+          subst (IsOpen (is_deep_at ss) until)
+              (sym (es ∙ ap (λ (z : ℤ). opened (not (is_zero t) && is_zero n) since z) (sym here))) r.1,
         )
 
     by_cases : (suc i < length ss) ⊎ (length ss ≤ suc i) → Swept ss least (suc i) t n since' runs'
@@ -237,7 +268,8 @@ swept_last ss least i d turns near t n since since' runs runs' o w h m p q es er
         record {
           place = k.place +ℤ pos 1;
           next = λ d' h'. absurd (omega (arith, l, h'));
-          behind = λ h' z f. no_turns ss z (up_to-here (λ s. s.turns) z ss i d o h (omega (arith, ints, here, f)) (λ h'. absurd (omega (arith, l, h'))) ∙ ap (all_of (λ s. s.turns)) (take_all ss (suc i) l) ∙ w);
+          behind = λ h' z f. no_turns ss z (up_to-here (λ s. s.turns) z ss i d o h (omega (arith, ints, here, f))
+              (λ h'. absurd (omega (arith, l, h'))) ∙ ap (all_of (λ s. s.turns)) (take_all ss (suc i) l) ∙ w);
           before = g.0;
           open_there = g.1;
           turns_so_far = t_is;

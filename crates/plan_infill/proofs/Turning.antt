@@ -25,8 +25,10 @@ same_heading : (e : Edge) → turns.heading e ≡ heading e
 unfolding turns.heading
 same_heading e = refl
 
--- at the heights from the lower end on and before the upper one it turns by its heading, where the point lies to its left
-pub turn_between : (x y : ℤ) (e : Edge) → (low e).y ≤ℤ y → y <ℤ (high e).y → turn_at x y e ≡ (if int_lt (pos 0) (left_of e x y (pos 1)) then heading e else pos 0)
+-- at the heights from the lower end on and before the upper one it turns by its heading, where the point lies to its
+-- left
+pub turn_between : (x y : ℤ) (e : Edge) → (low e).y ≤ℤ y → y <ℤ (high e).y
+    → turn_at x y e ≡ (if int_lt (pos 0) (left_of e x y (pos 1)) then heading e else pos 0)
 unfolding rise
 turn_between x y e h k =
     let one : pos 0 <ℤ pos 1 = omega (arith, ints) in
@@ -55,30 +57,41 @@ turn_above x y e h = by_test (int_lt e.b.y e.a.y) refl h
 abbrev pub passage_at : ℤ → ℤ → Edge → ℤ
 passage_at x y e = passage_by true (whole (at x y)) (whole e.a) (whole e.b)
 
-passage_of : (x y : ℤ) (e : Edge) (a b : Bool) → is_over true (whole (at x y)) (whole e.a) ≡ a → is_over true (whole (at x y)) (whole e.b) ≡ b → passage_at x y e ≡ counted b -ℤ counted a
+passage_of : (x y : ℤ) (e : Edge) (a b : Bool) → is_over true (whole (at x y)) (whole e.a) ≡ a
+    → is_over true (whole (at x y)) (whole e.b) ≡ b → passage_at x y e ≡ counted b -ℤ counted a
 unfolding passage_by
 passage_of x y e a b p q = ap₂ (λ (m n : Bool). counted n -ℤ counted m) p q
 
-pub passage_between : (x y : ℤ) (e : Edge) → (low e).y ≤ℤ y → y <ℤ (high e).y → passage_at x y e ≡ heading e
+pub passage_between : (x y : ℤ) (e : Edge) → (low e).y ≤ℤ y → y <ℤ (high e).y
+    → passage_at x y e ≡ heading e
 unfolding low high
 passage_between x y e h k = by_test (int_lt e.b.y e.a.y) refl h k
   where
-    by_test : (t : Bool) → int_lt e.b.y e.a.y ≡ t → (cond t e.b e.a).y ≤ℤ y → y <ℤ (cond t e.a e.b).y → passage_at x y e ≡ (if t then negsuc 0 else pos 1)
-    by_test true q h k = passage_of x y e true false (over_true true (whole (at x y)) (whole e.a) (omega (arith, ints))) (over_false true (whole (at x y)) (whole e.b) (omega (arith, ints)))
-    by_test false q h k = passage_of x y e false true (over_false true (whole (at x y)) (whole e.a) (omega (arith, ints))) (over_true true (whole (at x y)) (whole e.b) (omega (arith, ints)))
+    by_test : (t : Bool) → int_lt e.b.y e.a.y ≡ t → (cond t e.b e.a).y ≤ℤ y → y <ℤ (cond t e.a e.b).y
+        → passage_at x y e ≡ (if t then negsuc 0 else pos 1)
+    by_test true q h k = passage_of x y e true false (over_true true (whole (at x y)) (whole e.a) (omega (arith, ints)))
+        (over_false true (whole (at x y)) (whole e.b) (omega (arith, ints)))
+    by_test false q h k = passage_of x y e false true
+        (over_false true (whole (at x y)) (whole e.a) (omega (arith, ints)))
+        (over_true true (whole (at x y)) (whole e.b) (omega (arith, ints)))
 
 pub passage_below : (x y : ℤ) (e : Edge) → y <ℤ (low e).y → passage_at x y e ≡ pos 0
 unfolding low
 passage_below x y e h = by_test (int_lt e.b.y e.a.y) refl h
   where
     by_test : (t : Bool) → int_lt e.b.y e.a.y ≡ t → y <ℤ (cond t e.b e.a).y → passage_at x y e ≡ pos 0
-    by_test true q h = passage_of x y e true true (over_true true (whole (at x y)) (whole e.a) (omega (arith, ints))) (over_true true (whole (at x y)) (whole e.b) (omega (arith, ints)))
-    by_test false q h = passage_of x y e true true (over_true true (whole (at x y)) (whole e.a) (omega (arith, ints))) (over_true true (whole (at x y)) (whole e.b) (omega (arith, ints)))
+    by_test true q h = passage_of x y e true true (over_true true (whole (at x y)) (whole e.a) (omega (arith, ints)))
+        (over_true true (whole (at x y)) (whole e.b) (omega (arith, ints)))
+    by_test false q h = passage_of x y e true true (over_true true (whole (at x y)) (whole e.a) (omega (arith, ints)))
+        (over_true true (whole (at x y)) (whole e.b) (omega (arith, ints)))
 
 pub passage_above : (x y : ℤ) (e : Edge) → (high e).y ≤ℤ y → passage_at x y e ≡ pos 0
 unfolding high
 passage_above x y e h = by_test (int_lt e.b.y e.a.y) refl h
   where
     by_test : (t : Bool) → int_lt e.b.y e.a.y ≡ t → (cond t e.a e.b).y ≤ℤ y → passage_at x y e ≡ pos 0
-    by_test true q h = passage_of x y e false false (over_false true (whole (at x y)) (whole e.a) (omega (arith, ints))) (over_false true (whole (at x y)) (whole e.b) (omega (arith, ints)))
-    by_test false q h = passage_of x y e false false (over_false true (whole (at x y)) (whole e.a) (omega (arith, ints))) (over_false true (whole (at x y)) (whole e.b) (omega (arith, ints)))
+    by_test true q h = passage_of x y e false false (over_false true (whole (at x y)) (whole e.a) (omega (arith, ints)))
+        (over_false true (whole (at x y)) (whole e.b) (omega (arith, ints)))
+    by_test false q h = passage_of x y e false false
+        (over_false true (whole (at x y)) (whole e.a) (omega (arith, ints)))
+        (over_false true (whole (at x y)) (whole e.b) (omega (arith, ints)))

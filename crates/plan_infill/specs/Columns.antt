@@ -30,7 +30,8 @@ has_place s z = int_le s.from z && int_lt z s.until
 -- the places z of a stretch where slope * z + start is above 0
 pub record IsPositivePart (of : Stretch) (slope start : ℤ) (part : Stretch) : Type 0 where
   pub part_of : IsPart of part
-  pub each : (z : ℤ) → of.from ≤ℤ z → z <ℤ of.until → has_place part z ≡ int_lt (pos 0) (slope *ℤ z +ℤ start)
+  pub each : (z : ℤ) → of.from ≤ℤ z → z <ℤ of.until
+      → has_place part z ≡ int_lt (pos 0) (slope *ℤ z +ℤ start)
 
 -- those from a place on
 pub record IsLastPart (of : Stretch) (from : ℤ) (part : Stretch) : Type 0 where
@@ -42,7 +43,8 @@ pub record IsFirstPart (of : Stretch) (until : ℤ) (part : Stretch) : Type 0 wh
   pub part_of : IsPart of part
   pub each : (z : ℤ) → of.from ≤ℤ z → z <ℤ of.until → has_place part z ≡ int_lt z until
 
--- r is a number between two others, or the nearer one of the two: the numbers from the first on and before the second come after
+-- r is a number between two others, or the nearer one of the two: the numbers from the first on and before the second
+-- come after
 -- both or before both
 pub record IsClamped (z low high r : ℤ) : Type 0 where
   pub from : low ≤ℤ r

@@ -9,5 +9,6 @@ use Rattle.plan_infill.specs.Runs.{point_on, IsRun}
 -- The ends of a run differ where it has to have some length.
 abbrev pub RunsHaveLengths : Type 0
 RunsHaveLengths =
-    (outlines : List (List Pt)) (c : ℕ) (line : Line) (least : ℕ) (r : Run) → 1 ≤ least → IsRun outlines c line least r
+    (outlines : List (List Pt)) (c : ℕ) (line : Line) (least : ℕ) (r : Run) → 1 ≤ least
+        → IsRun outlines c line least r
     → point_on line r.from ≢ point_on line r.to

@@ -1,4 +1,5 @@
--- Where a row lies near to an edge: where the edge comes within the octagon round a point of the row, without its border.
+-- Where a row lies near to an edge: where the edge comes within the octagon round a point of the row, without its
+-- border.
 use Rattle.std.specs.Prelude.{◌↔◌, Bool, ◌&&◌, int_lt, ℕ, ℤ, pos, ◌+ℤ◌, ◌-ℤ◌, ◌*ℤ◌, ◌<ℤ◌, ◌≤ℤ◌}
 use Rattle.std.specs.Int.{int_min, int_max}
 use Rattle.scad_geom.specs.declared.point.Edge.{Edge}

@@ -31,7 +31,8 @@ turn_before (Column x) e = pos 0
 
 -- from far before on, the steps give the turns of an edge round each whole point of a line, and far behind none
 pub record GiveTurns (line : Line) (e : Edge) (steps : List Step) : Type 0 where
-  pub each : (z : ℤ) → turn true true (whole (point_on line z)) (whole e.a) (whole e.b) ≡ turn_before line e +ℤ up_to (λ s. s.turns) z steps
+  pub each : (z : ℤ) → turn true true (whole (point_on line z)) (whole e.a) (whole e.b)
+      ≡ turn_before line e +ℤ up_to (λ s. s.turns) z steps
   pub behind : turn_before line e +ℤ all_of (λ s. s.turns) steps ≡ pos 0
 
 -- an edge comes within the octagon of c round the whole point of a line, without its border
@@ -61,7 +62,8 @@ Adds P old new = (more : List Step) × P more × (new ≡ old ++ more)
 -- the steps count 1 in a stretch and 0 outside of it
 pub record Counts (stretch : Stretch) (steps : List Step) : Type 0 where
   pub inside : (z : ℤ) → stretch.from ≤ℤ z → z <ℤ stretch.until → up_to (λ s. s.near) z steps ≡ pos 1
-  pub outside : (z : ℤ) → ((stretch.from ≤ℤ z) × (z <ℤ stretch.until) → ⊥) → up_to (λ s. s.near) z steps ≡ pos 0
+  pub outside : (z : ℤ) → ((stretch.from ≤ℤ z) × (z <ℤ stretch.until) → ⊥)
+      → up_to (λ s. s.near) z steps ≡ pos 0
   pub each : All IsStep steps
   pub other : All (λ s. s.turns ≡ pos 0) steps
 
@@ -95,7 +97,8 @@ AreInOrder (s ∷ ss) = AllByRecursion (λ t. s.at ≤ℤ t.at) ss × AreInOrder
 
 -- the steps of edges: they give the winding number round each whole point of a line, and count the edges near to it
 pub record AreSteps (c : ℕ) (line : Line) (es : List Edge) (steps : List Step) : Type 0 where
-  pub turns : (z : ℤ) → wind (whole (point_on line z)) (segments es) ≡ turns_before line es +ℤ up_to (λ s. s.turns) z steps
+  pub turns : (z : ℤ) → wind (whole (point_on line z)) (segments es)
+      ≡ turns_before line es +ℤ up_to (λ s. s.turns) z steps
   pub behind : turns_before line es +ℤ all_of (λ s. s.turns) steps ≡ pos 0
   pub near : (z : ℤ) →
       ((pos 0 <ℤ up_to (λ s. s.near) z steps) × (AllByRecursion (IsApart c line z) es → ⊥))

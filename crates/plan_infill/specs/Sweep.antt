@@ -35,7 +35,8 @@ pub record AreStretchesBefore (test : ℤ → Bool) (least : ℕ) (place : ℤ) 
 abbrev pub IsOpen : (ℤ → Bool) → ℤ → Option ℤ → Type 0
 IsOpen test place None = test (place -ℤ pos 1) ≡ false
 IsOpen test place (Some from) =
-    (from <ℤ place) × ((z : ℤ) → from ≤ℤ z → z <ℤ place → test z ≡ true) × (test (from -ℤ pos 1) ≡ false)
+    (from <ℤ place) × ((z : ℤ) → from ≤ℤ z → z <ℤ place → test z ≡ true)
+        × (test (from -ℤ pos 1) ≡ false)
 
 -- the same from the next place on, by whether its points are deep
 abbrev pub opened : Bool → Option ℤ → ℤ → Option ℤ
@@ -47,7 +48,8 @@ opened false since at = None
 abbrev pub closed : Bool → Option ℤ → ℤ → ℕ → List Run
 closed true since at least = []
 closed false None at least = []
-closed false (Some from) at least = if int_le (pos least) ((at -ℤ pos 1) -ℤ from) then record { from = from; to = at -ℤ pos 1 } ∷ [] else []
+closed false (Some from) at least = if int_le (pos least) ((at -ℤ pos 1) -ℤ from) then record
+    { from = from; to = at -ℤ pos 1 } ∷ [] else []
 
 -- where a stretch goes on, its start and the place before are within a limit
 abbrev pub IsOpenWithin : ℕ → Option ℤ → ℤ → Type 0

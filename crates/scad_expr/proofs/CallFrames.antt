@@ -14,7 +14,8 @@ use Rattle.scad_expr.specs.Variables.{Bound}
 use Rattle.scad_expr.proofs.OpenFrames.{opened-bound, opened-again, call-env, call-along, call-set}
 
 pub bound-same : (depth depth0 : ℕ) (home along : Env) (ps ps0 : List Parameter) (args args0 : Arguments)
-    (found : List Datum) (s : State) → depth0 ≡ depth → ps0 ≡ ps → args0 ≡ args → bound (meaning depth) home along ps
+    (found : List Datum) (s : State) → depth0 ≡ depth → ps0 ≡ ps → args0 ≡ args
+        → bound (meaning depth) home along ps
     args found s ≡ bound (meaning depth0) home along ps0 args0 found s
 bound-same depth depth0 home along ps ps0 args args0 found s d p a =
     ap (λ e. bound (meaning e) home along ps args found s) (sym d)
@@ -38,7 +39,8 @@ module _ (kept : Option StoredChildren) (home : ℕ) (h n o : Held) (was : h ≡
 
   pub bind-gives : (depth : ℕ) (ps : List Parameter) (args : Arguments) (found : List Datum) (s s2 s3 : State)
       → bound (meaning depth) (env_at (envs o.frames) home) (along_in o) ps args found s ≡ gives (bound_in h) s2
-      → s2 ≡ s3 → bind depth (env_at (envs o.frames) home) (along_in o) ps args found (children_in (envs o.frames) kept)
+      → s2 ≡ s3 → bind depth (env_at (envs o.frames) home) (along_in o) ps args found
+      (children_in (envs o.frames) kept)
       s ≡ gives (opened_in n) s3
   unfolding opened_in
   bind-gives depth ps args found s s2 s3 e done =

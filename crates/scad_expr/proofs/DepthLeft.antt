@@ -20,7 +20,8 @@ value_none zero env along e s none = refl
 value_none (suc d) env along e s none = absurd (let no : ⊥ = omega (arith, none) in no)
 
 -- one level deeper
-pub value_more : (d : ℕ) (env along : Env) (e : Expression) (s : State) → d ≢ 0 → value d env along e s ≡ value_layer
+pub value_more : (d : ℕ) (env along : Env) (e : Expression) (s : State) → d ≢ 0
+    → value d env along e s ≡ value_layer
     (meaning (d - 1)) env along e s
 unfolding meaning
 value_more zero env along e s some = absurd (some refl)

@@ -32,7 +32,8 @@ names-drop_all all i past = ap parameter_names (drop_all i all past)
 
 pub parameters-drop : (all : List Param) (i : ℕ) (p : Param) → i < length all → p ≡ get_or all i p
     → map parameter (drop i all) ≡ parameter p ∷ map parameter (drop (i + 1) all)
-parameters-drop all i p below is = ap (map parameter) (drop_more all i p below) ∙ ap (λ q. parameter q ∷ map parameter
+parameters-drop all i p below is = ap (map parameter) (drop_more all i p below)
+    ∙ ap (λ q. parameter q ∷ map parameter
     (drop (i + 1) all)) (sym is)
 
 pub parameters-drop_all : (all : List Param) (i : ℕ) → length all ≤ i → map parameter (drop i all) ≡ []
@@ -62,8 +63,10 @@ shown_insert key v (e ∷ es) = by (shown_insert key v es) (pointwise nat_eq key
   where
     by : map shown (insert_entry (λ a b. pointwise nat_eq a.now b.now) es key v) ≡ with_name key.now (datum_of v)
         (map shown es) → (b : Bool)
-        → map shown (if b then (e.0, v) ∷ es else e ∷ insert_entry (λ a b. pointwise nat_eq a.now b.now) es key v)
-        ≡ (if b then (e.0.now, datum_of v) ∷ map shown es else shown e ∷ with_name key.now (datum_of v) (map shown es))
+        → map shown (if b then (e.0, v) ∷ es else e
+        ∷ insert_entry (λ a b. pointwise nat_eq a.now b.now) es key v)
+        ≡ (if b then (e.0.now, datum_of v) ∷ map shown es else shown e
+        ∷ with_name key.now (datum_of v) (map shown es))
     by rest true = refl
     by rest false = ap (λ l. shown e ∷ l) rest
 
@@ -85,8 +88,10 @@ taken-argument : (names : List (List ℕ)) (i : ℕ) (word : Option (List ℕ)) 
 taken-argument names i None e more d values so_far = refl
 taken-argument names i (Some name) e more d values so_far = refl
 
-pub given-next : (names : List (List ℕ)) (i : ℕ) (all : List Arg) (at : ℕ) (a : Arg) (d : Datum) (values : List Datum)
-    (so_far : Names) → at < length all → a ≡ get_or all at a → given_from names i (arguments (drop at all)) (d ∷ values)
+pub given-next : (names : List (List ℕ)) (i : ℕ) (all : List Arg) (at : ℕ) (a : Arg) (d : Datum)
+    (values : List Datum)
+    (so_far : Names) → at < length all → a ≡ get_or all at a
+        → given_from names i (arguments (drop at all)) (d ∷ values)
     so_far ≡ given_from names (counted_on a.name i) (arguments (drop (at + 1) all)) values
     (taken names i a.name d so_far)
 given-next names i all at a d values so_far below is =
@@ -98,14 +103,15 @@ pub given-past : (names : List (List ℕ)) (i : ℕ) (all : List Arg) (at : ℕ)
 given-past names i all at values so_far past = ap (λ args. given_from names i args values so_far)
     (arguments-drop_all all at past)
 
-no_values : (names : List (List ℕ)) (i : ℕ) (args : Arguments) (so_far : Names) → given_from names i args [] so_far
-    ≡ so_far
+no_values : (names : List (List ℕ)) (i : ℕ) (args : Arguments) (so_far : Names)
+    → given_from names i args [] so_far ≡ so_far
 no_values names i no_arguments so_far = refl
 no_values names i (argument word e more) so_far = refl
 
-pub given-end : (names : List (List ℕ)) (i : ℕ) (args : Arguments) (values : List Datum) (so_far : Names) → values ≡ []
-    → given_from names i args values so_far ≡ so_far
-given-end names i args values so_far none = ap (λ vs. given_from names i args vs so_far) none ∙ no_values names i args
+pub given-end : (names : List (List ℕ)) (i : ℕ) (args : Arguments) (values : List Datum) (so_far : Names)
+    → values ≡ [] → given_from names i args values so_far ≡ so_far
+given-end names i args values so_far none = ap (λ vs. given_from names i args vs so_far) none
+    ∙ no_values names i args
     so_far
 
 -- ---- child statements that are left

@@ -71,8 +71,8 @@ table-none name scope is = sym (in_table name scope) ∙ ap (option_and_then fun
 pub ruleset tables = (table-some, table-none)
 
 -- ---- the items that are left in a loop
-pub items-drop : (all : List Item) (i : ℕ) (v : Item) → i < length all → v ≡ get_or all i v → items (drop i all)
-    ≡ entry (item_of v) (items (drop (i + 1) all))
+pub items-drop : (all : List Item) (i : ℕ) (v : Item) → i < length all → v ≡ get_or all i v
+    → items (drop i all) ≡ entry (item_of v) (items (drop (i + 1) all))
 items-drop all i v below is = ap items (drop_more all i v below) ∙ ap
     (λ w. entry (item_of w) (items (drop (i + 1) all))) (sym is)
 
@@ -104,7 +104,8 @@ module _ (all : List Stored) (n : ℕ) (below : n < length all) where
       ∙ ap (λ env. Some (found_in env f)) (sym at_number)
 
   -- it has none
-  round : (name : List ℕ) → defined_in name (stored_at all n).scope ≡ None → function_named name (env_at (envs all) n)
+  round : (name : List ℕ) → defined_in name (stored_at all n).scope ≡ None
+      → function_named name (env_at (envs all) n)
       ≡ function_named name (env_round (take n (envs all)) (stored_at all n).parent)
   unfolding function_named
   round name found =
@@ -113,7 +114,8 @@ module _ (all : List Stored) (n : ℕ) (below : n < length all) where
       (function_named name (env_round (take n (envs all)) (stored_at all n).parent))) found
 
   pub function-round : (name : List ℕ) (p : ℕ) → defined_in name (stored_at all n).scope ≡ None
-      → (stored_at all n).parent ≡ Some p → p < n → function_named name (env_at (envs all) n) ≡ function_named name
+      → (stored_at all n).parent ≡ Some p → p < n
+      → function_named name (env_at (envs all) n) ≡ function_named name
       (env_at (envs all) p)
   function-round name p found is less = round name found ∙ ap (function_named name)
       (round-before (envs all) (stored_at all n).parent n p is less)
@@ -124,10 +126,11 @@ module _ (all : List Stored) (n : ℕ) (below : n < length all) where
   function-round_past name p found is past = round name found ∙ ap (function_named name)
       (round-past (envs all) (stored_at all n).parent n p is past)
 
-  pub function-outermost : (name : List ℕ) → defined_in name (stored_at all n).scope ≡ None → (stored_at all n).parent
-      ≡ None → function_named name (env_at (envs all) n) ≡ None
+  pub function-outermost : (name : List ℕ) → defined_in name (stored_at all n).scope ≡ None
+      → (stored_at all n).parent ≡ None → function_named name (env_at (envs all) n) ≡ None
   unfolding function_named
-  function-outermost name found is = round name found ∙ ap (λ p. function_named name (env_round (take n (envs all)) p))
+  function-outermost name found is = round name found
+      ∙ ap (λ p. function_named name (env_round (take n (envs all)) p))
       is
 
 pub ruleset homes = (function-past, function-there, function-round, function-round_past, function-outermost)

@@ -39,7 +39,8 @@ pub member-undef : (word : List ℕ) → member_of word undef ≡ undef
 unfolding member_of
 member-undef word = by (is_same_name word (codes "x")) (is_same_name word (codes "y")) (is_same_name word (codes "z"))
   where
-    by : (x y z : Bool) → (if x then indexed undef (number (pos 0)) else (if y then indexed undef (number (pos 1000000))
+    by : (x y z : Bool) → (if x then indexed undef (number (pos 0)) else
+        (if y then indexed undef (number (pos 1000000))
         else (if z then indexed undef (number (pos 2000000)) else undef))) ≡ undef
     by true y z = indexed-undef (number (pos 0))
     by false true z = indexed-undef (number (pos 1000000))
@@ -62,13 +63,15 @@ pub ruleset names = (name-none, name-more)
 
 -- ---- a function of the language that refuses
 pub refused : (at : Place) (word : List ℕ) (answer : Result Datum BuiltinFault) (e : BuiltinFault) (f : EvalFault)
-    (s : State) → Refuses answer e → ((t : State) → f ≢ NoMemory → called_builtin at word (Err e) t ≡ refuses f t)
+    (s : State) → Refuses answer e → ((t : State) → f ≢ NoMemory
+        → called_builtin at word (Err e) t ≡ refuses f t)
     → (e ≡ Memory → f ≡ NoMemory) → f ≢ NoMemory → called_builtin at word answer s ≡ refuses f s
 refused at word answer e f s r told memory some =
     ap (λ a. called_builtin at word a s) (r (λ is. some (memory is))) ∙ told s some
 
 -- ---- a call of one argument
-pub values-lone : (below : Below) (env along : Env) (args : Arguments) (e : Expression) (s : State) → lone args ≡ Some e
+pub values-lone : (below : Below) (env along : Env) (args : Arguments) (e : Expression) (s : State)
+    → lone args ≡ Some e
     → values below env along args [] s ≡ and_then (below.value env along e s) (λ d. gives (d ∷ []))
 unfolding values
 values-lone below env along no_arguments e s is = cc

@@ -27,7 +27,8 @@ nothing-left [] none = refl
 nothing-left (a ∷ all) none = absurd (let no : ⊥ = omega arith in no)
 
 -- ---- what follows an outcome
-pub goes : {A B : Type 0} (o : Outcome A) (f : A → Action B) (a : A) (s : State) → o ≡ gives a s → and_then o f ≡ f a s
+pub goes : {A B : Type 0} (o : Outcome A) (f : A → Action B) (a : A) (s : State) → o ≡ gives a s
+    → and_then o f ≡ f a s
 goes o f a s e = ap (λ p. and_then p f) e
 
 pub stops : {A B : Type 0} (o : Outcome A) (f : A → Action B) (e : EvalFault) (s : State) → o ≡ refuses e s
@@ -54,7 +55,8 @@ module _ (below : Below) (all : List Arg) (i : ℕ) (a : Arg) (there : i < lengt
       ∙ ap (λ g. and_then (below.value (env_in g) (along_in g) (expression_of a.value) s)
       (λ d. values below (env_in h0) (along_in h0) (arguments (drop (i + 1) all)) (so_far ++ d ∷ []))) (sym same)
 
-  pub value-goes : (d : Datum) (s2 : State) → below.value (env_in h) (along_in h) (expression_of a.value) s ≡ gives d s2
+  pub value-goes : (d : Datum) (s2 : State) → below.value (env_in h) (along_in h) (expression_of a.value) s
+      ≡ gives d s2
       → values below (env_in h0) (along_in h0) (arguments (drop (i + 1) all)) (so_far ++ d ∷ []) s2 ≡ w
   value-goes d s2 e = sym (value-next ∙ goes _ _ d s2 e)
 
@@ -69,7 +71,8 @@ values-end below env along all i so_far s past = ap (λ args. values below env a
     (arguments-drop_all all i past)
 
 -- ---- names
-bound-next : (below : Below) (env along : Env) (word : Option (List ℕ)) (e : Expression) (more : Arguments) (b : Bound)
+bound-next : (below : Below) (env along : Env) (word : Option (List ℕ)) (e : Expression) (more : Arguments)
+    (b : Bound)
     (s : State) → bound_in_order below env along (argument word e more) b s
     ≡ and_then (bind_one below env along word e b s) (λ next. bound_in_order below env along more next)
 unfolding bound_in_order bind_one
@@ -82,21 +85,25 @@ module _ (below : Below) (all : List Arg) (i : ℕ) (a : Arg) (there : i < lengt
   name-next : w ≡ and_then (bind_one below (env_in o) (along_in o) a.name (expression_of a.value) b s)
       (λ next. bound_in_order below (env_in o0) (along_in o0) (arguments (drop (i + 1) all)) next)
   name-next =
-      sym left ∙ ap (λ args. bound_in_order below (env_in o0) (along_in o0) args b s) (arguments-drop all i a there is)
+      sym left ∙ ap (λ args. bound_in_order below (env_in o0) (along_in o0) args b s)
+          (arguments-drop all i a there is)
       ∙ bound-next below (env_in o0) (along_in o0) a.name (expression_of a.value) (arguments (drop (i + 1) all)) b s
       ∙ ap (λ g. and_then (bind_one below (env_in g) (along_in g) a.name (expression_of a.value) b s)
       (λ next. bound_in_order below (env_in o0) (along_in o0) (arguments (drop (i + 1) all)) next)) (sym same)
 
-  pub name-goes : (next : Bound) (s2 : State) → bind_one below (env_in o) (along_in o) a.name (expression_of a.value) b
-      s ≡ gives next s2 → bound_in_order below (env_in o0) (along_in o0) (arguments (drop (i + 1) all)) next s2 ≡ w
+  pub name-goes : (next : Bound) (s2 : State)
+      → bind_one below (env_in o) (along_in o) a.name (expression_of a.value) b
+      s ≡ gives next s2 → bound_in_order below (env_in o0) (along_in o0) (arguments (drop (i + 1) all)) next s2
+          ≡ w
   name-goes next s2 e = sym (name-next ∙ goes _ _ next s2 e)
 
-  pub name-stops : (f : EvalFault) (s2 : State) → bind_one below (env_in o) (along_in o) a.name (expression_of a.value)
+  pub name-stops : (f : EvalFault) (s2 : State)
+      → bind_one below (env_in o) (along_in o) a.name (expression_of a.value)
       b s ≡ refuses f s2 → w ≡ refuses f s2
   name-stops f s2 e = name-next ∙ stops _ _ f s2 e
 
-pub names-end : (below : Below) (env along : Env) (all : List Arg) (i : ℕ) (b : Bound) (s : State) → length all ≤ i
-    → bound_in_order below env along (arguments (drop i all)) b s ≡ gives b s
+pub names-end : (below : Below) (env along : Env) (all : List Arg) (i : ℕ) (b : Bound) (s : State)
+    → length all ≤ i → bound_in_order below env along (arguments (drop i all)) b s ≡ gives b s
 unfolding bound_in_order
 names-end below env along all i b s past = ap (λ args. bound_in_order below env along args b s)
     (arguments-drop_all all i past)
@@ -109,10 +116,12 @@ defaults-missing below home along got [] b s = refl
 defaults-missing below home along got (p ∷ all) b s = by (defaults-missing below home along got all)
     (is_given p.name got)
   where
-    by : ((c : Bound) (t : State) → defaults below home along got all c t ≡ defaulted below home along (missing got all)
+    by : ((c : Bound) (t : State) → defaults below home along got all c t
+        ≡ defaulted below home along (missing got all)
         c t) → (c : Bool) → (if c then defaults below home along got all b else
         (default_value below home (within along b.dollars) p.default >>= λ d. defaults below home along got all
-        (set p.name d b))) s ≡ defaulted below home along (if not c then p ∷ missing got all else missing got all) b s
+        (set p.name d b))) s ≡ defaulted below home along (if not c then p ∷ missing got all else missing got all) b
+            s
     by more true = more b s
     by more false = same-then (default_value below home (within along b.dollars) p.default s) _ _
         (λ d s2. more (set p.name d b) s2)
@@ -137,8 +146,8 @@ module _ (below : Below) (kept : Option StoredChildren) (home : ℕ) (o : Held) 
   there_default = ap₂ (λ x y. default_value below x y p.default s) (call-home kept home h o was there)
       (call-along kept home home h o was)
 
-  pub call-stops : (f : EvalFault) (s2 : State) → default_value below (env_in h) (along_in h) p.default s ≡ refuses f s2
-      → w ≡ refuses f s2
+  pub call-stops : (f : EvalFault) (s2 : State)
+      → default_value below (env_in h) (along_in h) p.default s ≡ refuses f s2 → w ≡ refuses f s2
   call-stops f s2 e = default-stops below (env_at (envs o.frames) home) (along_in o) p all more is (bound_in h) s w left
       f s2 (sym there_default ∙ e)
 
@@ -166,7 +175,8 @@ pub call-begins : (below : Below) (home along : Env) (params : List Param) (args
 unfolding bound
 call-begins below home along params args found rest b s t is names done =
     ap₂ (λ l c. defaulted below home along l c t) is names
-    ∙ ap (λ u. defaulted below home along (missing (given (parameter_names params) args found) (map parameter params))
+    ∙ ap (λ u. defaulted below home along
+    (missing (given (parameter_names params) args found) (map parameter params))
     (set_all (given (parameter_names params) args found) empty) u) (sym done)
     ∙ sym (defaults-missing below home along (given (parameter_names params) args found) (map parameter params)
     (set_all (given (parameter_names params) args found) empty) s)

@@ -27,7 +27,8 @@ last-some (f ∷ more) n is some = ap Some (omega (arith, is))
 pub ruleset lasts = (last-none, last-some)
 
 -- the environment of a frame that was pushed last
-pub env_at-last : (all : List Stored) (f : Stored) → env_at (envs (all ++ f ∷ [])) (length all) ≡ env_of (envs all) f
+pub env_at-last : (all : List Stored) (f : Stored)
+    → env_at (envs (all ++ f ∷ [])) (length all) ≡ env_of (envs all) f
 env_at-last all f =
     ap (λ l. get_or l (length all) outside) (envs-push all f)
     ∙ ap (λ n. get_or (envs all ++ env_of (envs all) f ∷ []) n outside) (sym (length-envs all))
@@ -38,7 +39,8 @@ less-one all f = let many = length-append all (f ∷ []) in omega (arith, many)
 
 -- names are sought in the new frame, and then where it stands
 pub env_in-opened : (kept : Option StoredChildren) (home : ℕ) (b : Bound) (h : Held)
-    → env_in (opened kept (length h.frames) home b h) ≡ inside (frame b.names None (children_in (envs h.frames) kept))
+    → env_in (opened kept (length h.frames) home b h)
+    ≡ inside (frame b.names None (children_in (envs h.frames) kept))
     (env_at (envs h.frames) home)
 unfolding env_in opened
 env_in-opened kept home b h = env_at-last h.frames (record {
@@ -78,8 +80,8 @@ pub set_at-end : (xs : List Stored) (x y : Stored) → set (xs ++ x ∷ []) (len
 set_at-end [] x y = refl
 set_at-end (z ∷ xs) x y = ap (λ l. z ∷ l) (set_at-end xs x y)
 
-pub last-named : (name : List ℕ) (d : Datum) (all : List Stored) (f : Stored) → with_name_in_last name d (all ++ f ∷ [])
-    ≡ all ++ with_name_in name d f ∷ []
+pub last-named : (name : List ℕ) (d : Datum) (all : List Stored) (f : Stored)
+    → with_name_in_last name d (all ++ f ∷ []) ≡ all ++ with_name_in name d f ∷ []
 last-named name d all f =
     ap (λ n. set (all ++ f ∷ []) n (with_name_in name d (get_or (all ++ f ∷ []) n (pushed None None None))))
     (less-one all f)
@@ -116,8 +118,8 @@ set_all_in_last-opened (p ∷ more) kept here home b h =
     ∙ set_all_in_last-opened more kept here home (set_name p.0 p.1 b) h
 
 -- once the frames are left, all is as it was
-pub left-opened : (back : ℕ) (kept : Option StoredChildren) (here home : ℕ) (b : Bound) (h : Held) → back ≡ h.here
-    → left back (opened kept here home b h) ≡ h
+pub left-opened : (back : ℕ) (kept : Option StoredChildren) (here home : ℕ) (b : Bound) (h : Held)
+    → back ≡ h.here → left back (opened kept here home b h) ≡ h
 unfolding left opened
 left-opened back kept here home b h is =
     let f : Stored = record { names = b.names; parent = Some home; scope = None; kept = kept } in
@@ -183,7 +185,8 @@ pub set-bound : (name : List ℕ) (d : Datum) (h n : Held) → IsInner h → n �
     → bound_in n ≡ set_name name d (bound_in h)
 set-bound name d h n i e = (inner-made n (outer h) _ (set-made name d h n i e)).1
 
-pub set-outer : (name : List ℕ) (d : Datum) (h n : Held) → IsInner h → n ≡ set_in_last name d h → outer n ≡ outer h
+pub set-outer : (name : List ℕ) (d : Datum) (h n : Held) → IsInner h → n ≡ set_in_last name d h
+    → outer n ≡ outer h
 set-outer name d h n i e = (inner-made n (outer h) _ (set-made name d h n i e)).2
 
 pub inner-env : (h : Held) → IsInner h → env_in h ≡ within (env_in (outer h)) (bound_in h).names
@@ -204,8 +207,8 @@ pub call-home : (kept : Option StoredChildren) (home : ℕ) (h o : Held) → h �
     → home < length o.frames → env_in h ≡ env_at (envs o.frames) home
 call-home kept home h o e there = ap env_in e ∙ env_in-before kept home (bound_in h) o there
 
-pub call-along : (kept : Option StoredChildren) (here home : ℕ) (h o : Held) → h ≡ opened kept here home (bound_in h) o
-    → along_in h ≡ within (along_in o) (bound_in h).dollars
+pub call-along : (kept : Option StoredChildren) (here home : ℕ) (h o : Held)
+    → h ≡ opened kept here home (bound_in h) o → along_in h ≡ within (along_in o) (bound_in h).dollars
 call-along kept here home h o e = ap along_in e ∙ along_in-opened kept here home (bound_in h) o
 
 pub call-env : (kept : Option StoredChildren) (home : ℕ) (h o : Held) → h ≡ opened kept (length o.frames) home
@@ -232,13 +235,14 @@ pub call-gone : (kept : Option StoredChildren) (here home inner : ℕ) (h n o : 
     → h ≡ opened kept here home (bound_in h) o → n ≡ record h { here = inner } → inner ≡ length o.frames
     → n ≡ opened kept (length o.frames) home (bound_in h) o
 call-gone kept here home inner h n o e gone is =
-    gone ∙ ap {B = Held} (λ (g : Held). record g { here = inner }) e ∙ gone-opened kept inner here home (bound_in h) o ∙
+    gone ∙ ap {B = Held} (λ (g : Held). record g { here = inner }) e
+        ∙ gone-opened kept inner here home (bound_in h) o ∙
     ap (λ i. opened kept i home (bound_in h) o) is
 
 -- the frames of a call once its defaults are set
 pub call-done : (kept : Option StoredChildren) (home inner back : ℕ) (h n o : Held)
-    → h ≡ opened kept home home (bound_in h) o → n ≡ record h { here = inner } → inner ≡ length o.frames → back ≡ o.here
-    → (bound_in h ≡ bound_in n) × (n ≡ opened kept (length o.frames) home (bound_in n) o)
+    → h ≡ opened kept home home (bound_in h) o → n ≡ record h { here = inner } → inner ≡ length o.frames
+    → back ≡ o.here → (bound_in h ≡ bound_in n) × (n ≡ opened kept (length o.frames) home (bound_in n) o)
     × (env_in n ≡ inside (frame (bound_in n).names None (children_in (envs o.frames) kept))
     (env_at (envs o.frames) home))
     × (along_in n ≡ within (along_in o) (bound_in n).dollars) × (left back n ≡ o)
@@ -253,7 +257,8 @@ call-done kept home inner back h n o e gone is was =
     )
 
 -- frames of a `let` whose names were set anew
-pub left-later : (back : ℕ) (h n o : Held) → left back h ≡ o → outer n ≡ outer h → outer h ≡ o → left back n ≡ o
+pub left-later : (back : ℕ) (h n o : Held) → left back h ≡ o → outer n ≡ outer h → outer h ≡ o
+    → left back n ≡ o
 unfolding left
 left-later back h n o was same out = left-outer back n o (same ∙ out) (ap (λ p. p.here) was)
 

@@ -23,9 +23,11 @@ use Rattle.scad_expr.specs.State.{State, make, take, over, step_limit, nesting_l
 pub parts-push : (all : List Part) (v : Value) → parts_of (all ++ One v ∷ []) ≡ parts_of all ++ datum_of v ∷ []
 parts-push all v = flat_map-append part_data all (One v ∷ [])
 
-pub parts-run : (all : List Part) (start step end : ℤ) → parts_of (all ++ Run start step end ∷ []) ≡ parts_of all ++
+pub parts-run : (all : List Part) (start step end : ℤ)
+    → parts_of (all ++ Run start step end ∷ []) ≡ parts_of all ++
     items (range start step end)
-parts-run all start step end = flat_map-append part_data all (Run start step end ∷ []) ∙ ap (λ l. parts_of all ++ l)
+parts-run all start step end = flat_map-append part_data all (Run start step end ∷ [])
+    ∙ ap (λ l. parts_of all ++ l)
     (append-nil (items (range start step end)))
 
 -- ---- what `each` makes of them
@@ -68,7 +70,8 @@ deepest-numbers : (n step : ℤ) (k : ℕ) (more : List Datum) → deepest (as_e
     ≡ deepest (as_elements more)
 deepest-numbers n step zero more = refl
 deepest-numbers n step (suc k) more =
-    none-deeper (deepest (as_elements (numbers_from (n +ℤ step) step k ++ more))) ∙ deepest-numbers (n +ℤ step) step k
+    none-deeper (deepest (as_elements (numbers_from (n +ℤ step) step k ++ more)))
+        ∙ deepest-numbers (n +ℤ step) step k
     more
 
 made-many : (d more : List Datum) → length d ≤ made_all (as_elements (d ++ more))
@@ -77,8 +80,8 @@ made-many (a ∷ d) more =
     let inside = made-many d more in
     omega (arith, inside)
 
-nested : (z : State) (at : Place) (d e : Datum) → nesting d ≡ nesting e → step_limit < made d → step_limit < made e
-    → make at d z ≡ make at e z
+nested : (z : State) (at : Place) (d e : Datum) → nesting d ≡ nesting e → step_limit < made d
+    → step_limit < made e → make at d z ≡ make at e z
 unfolding make take over
 nested z at d e same many also =
     ap (λ n. (if nat_lt nesting_limit n then over Depth at else (take (made d) at >> pure d)) z) same
@@ -159,7 +162,8 @@ count_left None step end = 0
 count_left (Some n) step end = count_of_range n step end
 
 -- numbers that are left are those from one on
-left-numbers : (next : Option ℤ) (step end : ℤ) → numbers_left next step end ≡ numbers_from (first_left next) step
+left-numbers : (next : Option ℤ) (step end : ℤ)
+    → numbers_left next step end ≡ numbers_from (first_left next) step
     (count_left next step end)
 left-numbers None step end = refl
 left-numbers (Some n) step end = refl

@@ -26,8 +26,8 @@ pub within-lower : {A : Type 0} (n k : ℕ) (o : Outcome A) → n ≤ k → With
 within-lower n k (gives a s) less w = let low = w.0 in (omega (arith, low, less), w.1)
 within-lower n k (refuses e s) less w = tt
 
-pub within-then : {A B : Type 0} (n : ℕ) (o : Outcome A) (f : A → Action B) → Within n o → ((a : A) → Rising (f a))
-    → Within n (and_then o f)
+pub within-then : {A B : Type 0} (n : ℕ) (o : Outcome A) (f : A → Action B) → Within n o
+    → ((a : A) → Rising (f a)) → Within n (and_then o f)
 within-then n (gives a s) f w r = within-lower n s.steps (f a s) w.0 (r a s w.1)
 within-then n (refuses e s) f w r = tt
 
@@ -93,7 +93,8 @@ rising-operated at (Err DividesByZero) = λ s low. tt
 rising-operated at (Err PassesRange) = λ s low. tt
 rising-operated at (Err NoMemory) = λ s low. tt
 
-pub rising-builtin : (at : Place) (name : List ℕ) (r : Result Datum BuiltinFault) → Rising (called_builtin at name r)
+pub rising-builtin : (at : Place) (name : List ℕ) (r : Result Datum BuiltinFault)
+    → Rising (called_builtin at name r)
 unfolding called_builtin fault fault_of
 rising-builtin at name (Ok d) = rising-make at d
 rising-builtin at name (Err UnknownFunction) = λ s low. tt
@@ -135,7 +136,8 @@ rising-tested at (Some (range a s b)) = rising-pure (tt {0})
 
 pub rising-asserted : (at : Place) (args : Arguments) (found : List Datum) → Rising (asserted at args found)
 unfolding asserted
-rising-asserted at args found = rising-tested at (value_of_name (codes "test") (given (codes "test" ∷ codes "text" ∷ [])
+rising-asserted at args found = rising-tested at
+    (value_of_name (codes "test") (given (codes "test" ∷ codes "text" ∷ [])
     args found))
 
 pub rising-judged : (at : Place) (word : List ℕ) (args : Arguments) → Rising (judge_named at word args)

@@ -52,7 +52,8 @@ module _ (below : Below) (v : (env along : Env) (e : Expression) → Rising (bel
       rising-defaults home along (given (map (λ p. p.name) parameters) args found) parameters
       (set_all (given (map (λ p. p.name) parameters) args found) empty)
 
-  rising-called : (at : Place) (name : List ℕ) (f : Option Found) (along : Env) (args : Arguments) (found : List Datum)
+  rising-called : (at : Place) (name : List ℕ) (f : Option Found) (along : Env) (args : Arguments)
+      (found : List Datum)
       → Rising (called below at name f along args found)
   unfolding called called_own
   rising-called at name None along args found = rising-builtin at name (builtin name (as_elements found))
@@ -159,13 +160,15 @@ module _ (below : Below) (v : (env along : Env) (e : Expression) → Rising (bel
       rising-then _ _ (rising-values env along args []) (λ found. rising-called at word (function_named word env) along
       args found)
   rising-node env along (let_in at args e) =
-      rising-then _ _ (rising-judged at (codes "let") args) (λ _. rising-then _ _ (rising-bound_in_order env along args empty)
+      rising-then _ _ (rising-judged at (codes "let") args)
+          (λ _. rising-then _ _ (rising-bound_in_order env along args empty)
       (λ b. v (within env b.names) (within along b.dollars) e))
   rising-node env along (assert_in at args e) =
       rising-then _ _ (rising-values env along args []) (λ found. rising-then _ _ (rising-asserted at args found)
       (λ _. v env along e))
   rising-node env along (echo_in at args e) =
-      rising-then _ _ (rising-values env along args []) (λ found. rising-then _ _ (rising-say at (echo_line args found))
+      rising-then _ _ (rising-values env along args [])
+          (λ found. rising-then _ _ (rising-say at (echo_line args found))
       (λ _. v env along e))
 
   pub rising-layer : (env along : Env) (e : Expression) → Rising (value_layer below env along e)
@@ -189,7 +192,8 @@ module _ (below : Below) (v : (env along : Env) (e : Expression) → Rising (bel
       (λ _. rising-then _ _ (rising-bound_in_order env along starts empty) (λ b. rising-loop (suc step_limit) at test
       steps e env along b so_far))))
   rising-element env along (let_element at args e) so_far =
-      rising-then _ _ (rising-step at) (λ _. rising-then _ _ (rising-judged at (codes "let") args) (λ _. rising-then _ _ (rising-bound_in_order env along args empty)
+      rising-then _ _ (rising-step at) (λ _. rising-then _ _ (rising-judged at (codes "let") args)
+          (λ _. rising-then _ _ (rising-bound_in_order env along args empty)
       (λ b. el (within env b.names) (within along b.dollars) e so_far)))
   rising-element env along (if_element at test e) so_far =
       rising-then _ _ (rising-step at) (λ _. rising-then _ _ (v env along test)

@@ -48,23 +48,25 @@ abs-quotient (negsuc a) (negsuc b) = refl
 count-past : (n s b : ℤ) → is_past n s b ≡ true → count_of_range n s b ≡ 0
 count-past n s b past = by (int_lt s (pos 0)) past
   where
-    by : (c : Bool) → (if c then int_lt n b else int_lt b n) ≡ true → (if c then count_down n s b else count_up n s b)
-        ≡ 0
+    by : (c : Bool) → (if c then int_lt n b else int_lt b n) ≡ true
+        → (if c then count_down n s b else count_up n s b) ≡ 0
     by true e = ap (λ t. if t then 0 else (1 + unsigned_abs (int_div (b -ℤ n) s))) e
     by false e = ap (λ t. if t then 0 else (1 + unsigned_abs (int_div (b -ℤ n) s))) e
 
-count-within : (n s b : ℤ) → is_past n s b ≡ false → count_of_range n s b ≡ 1 + unsigned_abs (b -ℤ n) / unsigned_abs s
+count-within : (n s b : ℤ) → is_past n s b ≡ false
+    → count_of_range n s b ≡ 1 + unsigned_abs (b -ℤ n) / unsigned_abs s
 count-within n s b within = by (int_lt s (pos 0)) within
   where
-    by : (c : Bool) → (if c then int_lt n b else int_lt b n) ≡ false → (if c then count_down n s b else count_up n s b)
-        ≡ 1 + unsigned_abs (b -ℤ n) / unsigned_abs s
+    by : (c : Bool) → (if c then int_lt n b else int_lt b n) ≡ false
+        → (if c then count_down n s b else count_up n s b) ≡ 1 + unsigned_abs (b -ℤ n) / unsigned_abs s
     by true e = ap (λ t. if t then 0 else (1 + unsigned_abs (int_div (b -ℤ n) s))) e ∙ ap (λ q. 1 + q)
         (abs-quotient (b -ℤ n) s)
     by false e = ap (λ t. if t then 0 else (1 + unsigned_abs (int_div (b -ℤ n) s))) e ∙ ap (λ q. 1 + q)
         (abs-quotient (b -ℤ n) s)
 
 -- a step on: past the end where less than a step is left, else a step nearer
-step-past : (n s b : ℤ) → is_past n s b ≡ false → unsigned_abs (b -ℤ n) < unsigned_abs s → is_past (n +ℤ s) s b ≡ true
+step-past : (n s b : ℤ) → is_past n s b ≡ false → unsigned_abs (b -ℤ n) < unsigned_abs s
+    → is_past (n +ℤ s) s b ≡ true
 step-past n s b within less = by (int_lt s (pos 0)) refl within
   where
     by : (c : Bool) → int_lt s (pos 0) ≡ c → (if c then int_lt n b else int_lt b n) ≡ false
@@ -72,8 +74,8 @@ step-past n s b within less = by (int_lt s (pos 0)) refl within
     by true e w = grind (arith, ints)
     by false e w = grind (arith, ints)
 
-step-within : (n s b : ℤ) → is_past n s b ≡ false → unsigned_abs s ≤ unsigned_abs (b -ℤ n) → is_past (n +ℤ s) s b
-    ≡ false
+step-within : (n s b : ℤ) → is_past n s b ≡ false → unsigned_abs s ≤ unsigned_abs (b -ℤ n)
+    → is_past (n +ℤ s) s b ≡ false
 step-within n s b within more = by (int_lt s (pos 0)) refl within
   where
     by : (c : Bool) → int_lt s (pos 0) ≡ c → (if c then int_lt n b else int_lt b n) ≡ false
@@ -122,7 +124,8 @@ pub left-past : (n s b : ℤ) → is_past n s b ≡ true → numbers_left (Some 
 left-past n s b past = ap (numbers_from n s) (count-past n s b past)
 
 -- a step on the same is left but for the first number
-pub left-next : (n s b : ℤ) → is_past n s b ≡ false → s ≢ pos 0 → numbers_left (Some n) s b ≡ number n ∷ numbers_left
+pub left-next : (n s b : ℤ) → is_past n s b ≡ false → s ≢ pos 0
+    → numbers_left (Some n) s b ≡ number n ∷ numbers_left
     (Some (n +ℤ s)) s b
 left-next n s b within some = from-count n s (count_of_range (n +ℤ s) s b) (count_of_range n s b)
     (count-within n s b within ∙ by (cases_lt (unsigned_abs (b -ℤ n)) (unsigned_abs s)))
@@ -142,9 +145,11 @@ left-next n s b within some = from-count n s (count_of_range (n +ℤ s) s b) (co
 -- it is the last one where a step on is past the end, or there is no step
 pub left-last : (n s b : ℤ) → is_past n s b ≡ false → is_past (n +ℤ s) s b ≡ true → s ≢ pos 0
     → numbers_left (Some n) s b ≡ number n ∷ []
-left-last n s b within past some = left-next n s b within some ∙ ap (λ l. number n ∷ l) (left-past (n +ℤ s) s b past)
+left-last n s b within past some = left-next n s b within some
+    ∙ ap (λ l. number n ∷ l) (left-past (n +ℤ s) s b past)
 
-pub left-alone : (n s b : ℤ) → is_past n s b ≡ false → s ≡ pos 0 → numbers_left (Some n) s b ≡ number n ∷ []
+pub left-alone : (n s b : ℤ) → is_past n s b ≡ false → s ≡ pos 0
+    → numbers_left (Some n) s b ≡ number n ∷ []
 left-alone n s b within none =
     let count : count_of_range n s b ≡ suc 0 = count-within n s b within ∙ ap (λ k. 1 + unsigned_abs (b -ℤ n) /
     unsigned_abs k) none ∙ ap (λ q. 1 + q) (div-zero (unsigned_abs (b -ℤ n))) in

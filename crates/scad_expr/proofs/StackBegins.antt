@@ -44,29 +44,35 @@ use Rattle.scad_expr.proofs.OpenFrames.{env_in-opened, along_in-opened, left-ope
 use Rattle.scad_expr.proofs.StackTurns.{inner, inner-value, inner-element, left-inner, binds-opened, repeats-inner, fills-opened}
 
 -- ---- vectors
-pub vector-begins : (below : Below) (at : Place) (es : Elements) (k k2 : Rest) (h : Held) (made none : List Datum) (outer : Vec Part Global) (s : State)
+pub vector-begins : (below : Below) (at : Place) (es : Elements) (k k2 : Rest) (h : Held) (made none : List Datum)
+    (outer : Vec Part Global) (s : State)
     → parts_in outer ≡ made → none ≡ [] → k2 ≡ onto (Vector at outer) k
     → and_then (node below (env_in h) (along_in h) (vector at es) s) (k h made)
     ≡ and_then (elements_given below (env_in h) (along_in h) es none s) (added k2 h)
 unfolding node onto
 vector-begins below at es k k2 h made none outer s same empty is =
-    twice (elements_given below (env_in h) (along_in h) es [] s) (λ found. make at (vector_datum (as_elements found))) (k h made)
+    twice (elements_given below (env_in h) (along_in h) es [] s) (λ found. make at (vector_datum (as_elements found)))
+        (k h made)
     ∙ ap (λ m. and_then (elements_given below (env_in h) (along_in h) es [] s)
     (λ found t. and_then (make at (vector_datum (as_elements found)) t) (k h m))) (sym same)
     ∙ ap₂ (λ m q. and_then (elements_given below (env_in h) (along_in h) es m s) (added q h)) (sym empty) (sym is)
 
-pub each-begins : (below : Below) (e : Element) (k k2 : Rest) (h : Held) (made none : List Datum) (outer : Vec Part Global) (s : State)
+pub each-begins : (below : Below) (e : Element) (k k2 : Rest) (h : Held) (made none : List Datum)
+    (outer : Vec Part Global) (s : State)
     → parts_in outer ≡ made → none ≡ [] → k2 ≡ onto (Each outer) k
-    → and_then (and_then (below.element (env_in h) (along_in h) e [] s) (λ found. pure (made ++ flat_map items found))) (added k h)
+    → and_then (and_then (below.element (env_in h) (along_in h) e [] s)
+    (λ found. pure (made ++ flat_map items found))) (added k h)
     ≡ and_then (below.element (env_in h) (along_in h) e none s) (added k2 h)
 unfolding onto
 each-begins below e k k2 h made none outer s same empty is =
     twice (below.element (env_in h) (along_in h) e [] s) (λ found. pure (made ++ flat_map items found)) (added k h)
-    ∙ ap (λ m. and_then (below.element (env_in h) (along_in h) e [] s) (λ found. added k h (m ++ flat_map items found))) (sym same)
+    ∙ ap (λ m. and_then (below.element (env_in h) (along_in h) e [] s)
+    (λ found. added k h (m ++ flat_map items found))) (sym same)
     ∙ ap₂ (λ m q. and_then (below.element (env_in h) (along_in h) e m s) (added q h)) (sym empty) (sym is)
 
 -- ---- names
-pub let-begins : (depth back : ℕ) (e : Bor Expr) (args : Arguments) (k : Rest) (h o : Held) (made : List Datum) (s : State)
+pub let-begins : (depth back : ℕ) (e : Bor Expr) (args : Arguments) (k : Rest) (h o : Held) (made : List Datum)
+    (s : State)
     → IsInner h → bound_in h ≡ empty → outer h ≡ o → back ≡ o.here
     → and_then (and_then (bound_in_order (meaning depth) (env_in o) (along_in o) args empty s)
     (λ b. value depth (within (env_in o) b.names) (within (along_in o) b.dollars) (expression_of e.now))) (k o made)
@@ -74,39 +80,50 @@ pub let-begins : (depth back : ℕ) (e : Bor Expr) (args : Arguments) (k : Rest)
 unfolding inside_of
 let-begins depth back e args k h o made s i none out is =
     binds-opened (meaning depth) args (inside_of (InsideValue e) back depth k made) h o
-    (λ b. value depth (within (env_in o) b.names) (within (along_in o) b.dollars) (expression_of e.now)) (k o made) s i none out
-    (λ b t. ap₂ (λ r x. and_then r (k x made)) (inner-value (meaning depth) (expression_of e.now) b o t) (left-inner back b o is))
+    (λ b. value depth (within (env_in o) b.names) (within (along_in o) b.dollars) (expression_of e.now)) (k o made) s i
+        none out
+    (λ b t. ap₂ (λ r x. and_then r (k x made)) (inner-value (meaning depth) (expression_of e.now) b o t)
+        (left-inner back b o is))
 
-pub let-element-begins : (depth back : ℕ) (e : Bor Elem) (args : Arguments) (k : Rest) (h o : Held) (made : List Datum) (s : State)
+pub let-element-begins : (depth back : ℕ) (e : Bor Elem) (args : Arguments) (k : Rest) (h o : Held)
+    (made : List Datum) (s : State)
     → IsInner h → bound_in h ≡ empty → outer h ≡ o → back ≡ o.here
     → and_then (and_then (bound_in_order (meaning depth) (env_in o) (along_in o) args empty s)
-    (λ b. (meaning depth).element (within (env_in o) b.names) (within (along_in o) b.dollars) (element_of e.now) made)) (added k o)
+    (λ b. (meaning depth).element (within (env_in o) b.names) (within (along_in o) b.dollars) (element_of e.now) made))
+        (added k o)
     ≡ binding (record { inside = InsideElement e; back = back; depth = depth }) args k made h s
 unfolding inside_of
 let-element-begins depth back e args k h o made s i none out is =
     binds-opened (meaning depth) args (inside_of (InsideElement e) back depth k made) h o
-    (λ b. (meaning depth).element (within (env_in o) b.names) (within (along_in o) b.dollars) (element_of e.now) made) (added k o) s i none out
-    (λ b t. ap₂ (λ r x. and_then r (added k x)) (inner-element (meaning depth) (element_of e.now) b o made t) (left-inner back b o is))
+    (λ b. (meaning depth).element (within (env_in o) b.names) (within (along_in o) b.dollars) (element_of e.now) made)
+        (added k o) s i none out
+    (λ b t. ap₂ (λ r x. and_then r (added k x)) (inner-element (meaning depth) (element_of e.now) b o made t)
+        (left-inner back b o is))
 
-pub loop-begins : (depth back : ℕ) (l : Loop) (args : Arguments) (k : Rest) (h o : Held) (made : List Datum) (s : State)
+pub loop-begins : (depth back : ℕ) (l : Loop) (args : Arguments) (k : Rest) (h o : Held) (made : List Datum)
+    (s : State)
     → IsInner h → bound_in h ≡ empty → outer h ≡ o → back ≡ o.here
     → and_then (and_then (bound_in_order (meaning depth) (env_in o) (along_in o) args empty s)
-    (λ b. loop_turns (meaning depth) l.turns l.at (expression_of l.test.now) (arguments l.steps.now) (element_of l.body.now)
+    (λ b. loop_turns (meaning depth) l.turns l.at (expression_of l.test.now) (arguments l.steps.now)
+        (element_of l.body.now)
     (env_in o) (along_in o) b made)) (added k o)
     ≡ binding (record { inside = InsideTurns l; back = back; depth = depth }) args k made h s
 unfolding inside_of
 loop-begins depth back l args k h o made s i none out is =
     binds-opened (meaning depth) args (inside_of (InsideTurns l) back depth k made) h o
-    (λ b. loop_turns (meaning depth) l.turns l.at (expression_of l.test.now) (arguments l.steps.now) (element_of l.body.now)
+    (λ b. loop_turns (meaning depth) l.turns l.at (expression_of l.test.now) (arguments l.steps.now)
+        (element_of l.body.now)
     (env_in o) (along_in o) b made) (added k o) s i none out
-    (λ b t. repeats-inner (meaning depth) l.at (expression_of l.test.now) (arguments l.steps.now) (element_of l.body.now) o
+    (λ b t. repeats-inner (meaning depth) l.at (expression_of l.test.now) (arguments l.steps.now)
+        (element_of l.body.now) o
     (λ h2 now. added k (left back h2) now) (added k o)
     (λ c now u. ap (λ x. added k x now u) (left-inner back c o is)) l.turns b made t)
 
 -- a turn of a loop with start, test and step whose test holds
-pub test-holds : (l : Loop) (back depth : ℕ) (k k1 : Rest) (h h1 : Held) (made made1 : List Datum) (d : Datum) (s s1 : State)
-    → truth d ≡ true → step l.at s ≡ gives tt s1 → h1 ≡ h → made1 ≡ made → k1 ≡ onto (Body l back depth) k
-    → turning l back depth k h made d s
+pub test-holds : (l : Loop) (back depth : ℕ) (k k1 : Rest) (h h1 : Held) (made made1 : List Datum) (d : Datum)
+    (s s1 : State)
+    → truth d ≡ true → step l.at s ≡ gives tt s1 → h1 ≡ h → made1 ≡ made
+    → k1 ≡ onto (Body l back depth) k → turning l back depth k h made d s
     ≡ and_then ((meaning depth).element (env_in h1) (along_in h1) (element_of l.body.now) made1 s1) (added k1 h1)
 unfolding turned onto
 test-holds l back depth k k1 h h1 made made1 d s s1 holds stepped kept same is =
@@ -115,7 +132,8 @@ test-holds l back depth k k1 h h1 made made1 d s s1 holds stepped kept same is =
     let names : List Datum → Action Whole = λ now. renewed (meaning depth) (arguments l.steps.now) again now h in
     let on : Action Whole = step l.at >>= λ _. (meaning depth).element (env_in h) (along_in h) body made >>= names in
     ap (λ (b : Bool). (if b then on else added k (left back h) made) s) holds
-    ∙ ap (λ r. and_then r (λ _ t. and_then ((meaning depth).element (env_in h) (along_in h) body made t) names)) stepped
+    ∙ ap (λ r. and_then r (λ _ t. and_then ((meaning depth).element (env_in h) (along_in h) body made t) names))
+    stepped
     ∙ ap (λ (q : Rest). and_then ((meaning depth).element (env_in h) (along_in h) body made s1) (added q h)) (sym is)
     ∙ ap₂ (λ (x : Held) m. and_then ((meaning depth).element (env_in x) (along_in x) body m s1) (added k1 x))
     (sym kept) (sym same)
@@ -125,7 +143,8 @@ test-holds l back depth k k1 h h1 made made1 d s s1 holds stepped kept same is =
 pub entered-opened : (opening : Opening) (k : Rest) (made : List Datum) (home : ℕ) (o : Held) (b : Bound) (t : State)
     → opening.inner ≡ length o.frames → opening.back ≡ o.here
     → entered opening k made (opened None home home b o) t
-    ≡ and_then (value opening.depth (within (env_at (envs o.frames) home) b.names) (within (along_in o) b.dollars) (expression_of opening.body.now) t) (k o made)
+    ≡ and_then (value opening.depth (within (env_at (envs o.frames) home) b.names) (within (along_in o) b.dollars)
+    (expression_of opening.body.now) t) (k o made)
 unfolding entered
 entered-opened opening k made home o b t is was =
     let d = opening.depth in
@@ -135,13 +154,16 @@ entered-opened opening k made home o b t is was =
     ∙ ap (λ i. at (opened None i home b o)) is
     ∙ ap₂ (λ x y. and_then (value d x y e t) (k (left opening.back (opened None (length o.frames) home b o)) made))
     (env_in-opened None home b o) (along_in-opened None (length o.frames) home b o)
-    ∙ ap (λ x. and_then (value d (within (env_at (envs o.frames) home) b.names) (within (along_in o) b.dollars) e t) (k x made))
+    ∙ ap (λ x. and_then (value d (within (env_at (envs o.frames) home) b.names) (within (along_in o) b.dollars) e t)
+    (k x made))
     (left-opened opening.back None (length o.frames) home b o was)
 
 -- a call whose frames are opened: its defaults, and the function's expression
-pub own-begins : (depth home : ℕ) (f : Found) (params : List Param) (args : Arguments) (found : List Datum) (opening : Opening) (k : Rest) (h o : Held) (made : List Datum) (s t : State) (ps : List Parameter)
+pub own-begins : (depth home : ℕ) (f : Found) (params : List Param) (args : Arguments) (found : List Datum)
+    (opening : Opening) (k : Rest) (h o : Held) (made : List Datum) (s t : State) (ps : List Parameter)
     → home < length o.frames
-    → f ≡ record { function = record { parameters = map parameter params; body = expression_of opening.body.now }; home = env_at (envs o.frames) home }
+    → f ≡ record { function = record { parameters = map parameter params; body = expression_of opening.body.now };
+    home = env_at (envs o.frames) home }
     → h ≡ opened None home home (set_all (given (parameter_names params) args found) empty) o
     → ps ≡ missing (given (parameter_names params) args found) (map parameter params)
     → opening.inner ≡ length o.frames → opening.back ≡ o.here → opening.depth ≡ depth → t ≡ s
@@ -160,7 +182,8 @@ own-begins depth home f params args found opening k h o made s t ps there is hel
     ∙ twice (bound below env along (map parameter params) args found s) body (k o made)
     ∙ ap (λ r. and_then r (λ b u. and_then (body b u) (k o made)))
     (sym (call-begins below env along params args found ps b0 s t others refl (sym same)))
-    ∙ sym (same-then (defaulted below env along ps b0 t) _ _ (λ b u. entered-opened opening k made home o b u inside was))
+    ∙ sym (same-then (defaulted below env along ps b0 t) _ _
+    (λ b u. entered-opened opening k made home o b u inside was))
     ∙ sym (fills-opened below home o there ps (entered opening k made) b0 t)
     ∙ ap (λ x. fills below ps (entered opening k made) x t) (sym held)
 
@@ -170,7 +193,8 @@ pub fills-past : (all : List (Bor Param)) (i : ℕ) (below : Below) (k : Held �
 unfolding fills
 fills-past all i below k h s past = ap (λ l. fills below (map (λ p. parameter p.now) l) k h s) (drop_all i all past)
 
-pub fills-next : (all : List (Bor Param)) (i : ℕ) (p : Bor Param) (below : Below) (k : Held → Action Whole) (h : Held) (s : State)
+pub fills-next : (all : List (Bor Param)) (i : ℕ) (p : Bor Param) (below : Below) (k : Held → Action Whole)
+    (h : Held) (s : State)
     → i < length all → p ≡ get_or all i p
     → fills below (map (λ p. parameter p.now) (drop i all)) k h s
     ≡ and_then (default_value below (env_in h) (along_in h) (parameter p.now).default s)
@@ -181,9 +205,11 @@ fills-next all i p below k h s there is =
     ∙ ap (λ (q : Bor Param). and_then (default_value below (env_in h) (along_in h) (parameter q.now).default s)
     (λ d. fills below (map (λ p. parameter p.now) (drop (i + 1) all)) k (set_in_last q.now.name d h))) (sym is)
 
-pub fills-undefined : (all : List (Bor Param)) (i : ℕ) (p : Bor Param) (below : Below) (k : Held → Action Whole) (h n : Held) (s : State)
+pub fills-undefined : (all : List (Bor Param)) (i : ℕ) (p : Bor Param) (below : Below) (k : Held → Action Whole)
+    (h n : Held) (s : State)
     → i < length all → p ≡ get_or all i p → p.now.default ≡ None → n ≡ set_in_last p.now.name undef h
-    → fills below (map (λ p. parameter p.now) (drop i all)) k h s ≡ fills below (map (λ p. parameter p.now) (drop (i + 1) all)) k n s
+    → fills below (map (λ p. parameter p.now) (drop i all)) k h s
+    ≡ fills below (map (λ p. parameter p.now) (drop (i + 1) all)) k n s
 unfolding default_value
 fills-undefined all i p below k h n s there is none made =
     fills-next all i p below k h s there is
@@ -191,7 +217,8 @@ fills-undefined all i p below k h n s there is none made =
     (λ d. fills below (map (λ p. parameter p.now) (drop (i + 1) all)) k (set_in_last p.now.name d h))) none
     ∙ ap (λ x. fills below (map (λ p. parameter p.now) (drop (i + 1) all)) k x s) (sym made)
 
-pub fills-defined : (all : List (Bor Param)) (i : ℕ) (p : Bor Param) (e : Expr) (below : Below) (k : Held → Action Whole) (h : Held) (s : State)
+pub fills-defined : (all : List (Bor Param)) (i : ℕ) (p : Bor Param) (e : Expr) (below : Below)
+    (k : Held → Action Whole) (h : Held) (s : State)
     → i < length all → p ≡ get_or all i p → p.now.default ≡ Some e
     → fills below (map (λ p. parameter p.now) (drop i all)) k h s
     ≡ and_then (below.value (env_in h) (along_in h) (expression_of e) s)
@@ -203,12 +230,15 @@ fills-defined all i p e below k h s there is some =
     (λ d. fills below (map (λ p. parameter p.now) (drop (i + 1) all)) k (set_in_last p.now.name d h))) some
 
 -- ---- a turn of a variable
-pub turn-begins : (v : Variable) (back : ℕ) (d : Datum) (more : Course) (k k1 k3 : Rest) (h h3 : Held) (made made3 : List Datum) (s s2 s3 : State)
+pub turn-begins : (v : Variable) (back : ℕ) (d : Datum) (more : Course) (k k1 k3 : Rest) (h h3 : Held)
+    (made made3 : List Datum) (s s2 s3 : State)
     → step v.at s ≡ gives tt s2 → k1 ≡ onto (Turns v more) k → k3 ≡ onto (Leave back) k1
-    → env_in h3 ≡ within (env_in h) (set v.name.now d empty).names → along_in h3 ≡ within (along_in h) (set v.name.now d empty).dollars
+    → env_in h3 ≡ within (env_in h) (set v.name.now d empty).names
+    → along_in h3 ≡ within (along_in h) (set v.name.now d empty).dollars
     → left back h3 ≡ h → made3 ≡ made → s3 ≡ s2
     → and_then (turns_of v h (d ∷ course more) made s) (added k h)
-    ≡ and_then (for_variables (meaning v.depth) v.at (arguments v.more.now) (element_of v.body.now) (env_in h3) (along_in h3) made3 s3) (added k3 h3)
+    ≡ and_then (for_variables (meaning v.depth) v.at (arguments v.more.now) (element_of v.body.now) (env_in h3)
+    (along_in h3) made3 s3) (added k3 h3)
 unfolding turns onto
 turn-begins v back d more k k1 k3 h h3 made made3 s s2 s3 stepped is1 is3 env_is along_is back_is made_is same =
     let into : Env → Env → List Datum → Action (List Datum) = for_variables (meaning v.depth) v.at (arguments v.more.now) (element_of v.body.now) in
@@ -217,38 +247,54 @@ turn-begins v back d more k k1 k3 h h3 made made3 s s2 s3 stepped is1 is3 env_is
     let a2 = within (along_in h) (set v.name.now d empty).dollars in
     ap (λ r. and_then (and_then r (λ _ t. and_then (into e2 a2 made t) rest_turns)) (added k h)) stepped
     ∙ twice (into e2 a2 made s2) rest_turns (added k h)
-    ∙ ap (λ (y : Held). and_then (into e2 a2 made s2) (λ now t. and_then (turns_of v y (course more) now t) (added k y))) (sym back_is)
-    ∙ ap₂ (λ x y. and_then (into x y made s2) (λ now t. and_then (turns_of v (left back h3) (course more) now t) (added k (left back h3)))) (sym env_is) (sym along_is)
-    ∙ ap₂ (λ m t. and_then (into (env_in h3) (along_in h3) m t) (λ now u. and_then (turns_of v (left back h3) (course more) now u) (added k (left back h3)))) (sym made_is) (sym same)
-    ∙ ap (λ (q : Rest). and_then (into (env_in h3) (along_in h3) made3 s3) (added q h3)) (sym (is3 ∙ ap (onto (Leave back)) is1))
+    ∙ ap (λ (y : Held). and_then (into e2 a2 made s2)
+    (λ now t. and_then (turns_of v y (course more) now t) (added k y))) (sym back_is)
+    ∙ ap₂ (λ x y. and_then (into x y made s2)
+    (λ now t. and_then (turns_of v (left back h3) (course more) now t) (added k (left back h3)))) (sym env_is)
+    (sym along_is)
+    ∙ ap₂ (λ m t. and_then (into (env_in h3) (along_in h3) m t)
+    (λ now u. and_then (turns_of v (left back h3) (course more) now u) (added k (left back h3)))) (sym made_is)
+    (sym same)
+    ∙ ap (λ (q : Rest). and_then (into (env_in h3) (along_in h3) made3 s3) (added q h3))
+    (sym (is3 ∙ ap (onto (Leave back)) is1))
 
 -- ---- nodes with names, as the code begins them
-pub let-node-begins : (depth back : ℕ) (at : Place) (e : Bor Expr) (args : Arguments) (k : Rest) (h o : Held) (made : List Datum) (s t : State)
-    → judge_named at (codes "let") args s ≡ gives tt s → IsInner h → bound_in h ≡ empty → outer h ≡ o → back ≡ o.here → t ≡ s
+pub let-node-begins : (depth back : ℕ) (at : Place) (e : Bor Expr) (args : Arguments) (k : Rest) (h o : Held)
+    (made : List Datum) (s t : State)
+    → judge_named at (codes "let") args s ≡ gives tt s → IsInner h → bound_in h ≡ empty → outer h ≡ o
+    → back ≡ o.here → t ≡ s
     → and_then (node (meaning depth) (env_in o) (along_in o) (let_in at args (expression_of e.now)) s) (k o made)
     ≡ binding (record { inside = InsideValue e; back = back; depth = depth }) args k made h t
 unfolding node
 let-node-begins depth back at e args k h o made s t judged i none out is same =
-    ap (λ r. and_then (and_then r (λ _ u. and_then (bound_in_order (meaning depth) (env_in o) (along_in o) args empty u)
-    (λ b. value depth (within (env_in o) b.names) (within (along_in o) b.dollars) (expression_of e.now)))) (k o made)) judged
+    ap (λ r. and_then (and_then r (λ _ u. and_then
+        (bound_in_order (meaning depth) (env_in o) (along_in o) args empty u)
+    (λ b. value depth (within (env_in o) b.names) (within (along_in o) b.dollars) (expression_of e.now)))) (k o made))
+        judged
     ∙ let-begins depth back e args k h o made s i none out is
     ∙ ap (λ u. binding (record { inside = InsideValue e; back = back; depth = depth }) args k made h u) (sym same)
 
-pub let-element-node-begins : (depth back : ℕ) (at : Place) (e : Bor Elem) (args : Arguments) (k : Rest) (h o : Held) (made : List Datum) (s s1 t : State)
-    → step at s ≡ gives tt s1 → judge_named at (codes "let") args s1 ≡ gives tt s1 → IsInner h → bound_in h ≡ empty → outer h ≡ o → back ≡ o.here → t ≡ s1
-    → and_then (element_node (meaning depth) (env_in o) (along_in o) (let_element at args (element_of e.now)) made s) (added k o)
+pub let-element-node-begins : (depth back : ℕ) (at : Place) (e : Bor Elem) (args : Arguments) (k : Rest) (h o : Held)
+    (made : List Datum) (s s1 t : State)
+    → step at s ≡ gives tt s1 → judge_named at (codes "let") args s1 ≡ gives tt s1 → IsInner h
+    → bound_in h ≡ empty → outer h ≡ o → back ≡ o.here → t ≡ s1
+    → and_then (element_node (meaning depth) (env_in o) (along_in o) (let_element at args (element_of e.now)) made s)
+    (added k o)
     ≡ binding (record { inside = InsideElement e; back = back; depth = depth }) args k made h t
 unfolding element_node
 let-element-node-begins depth back at e args k h o made s s1 t stepped judged i none out is same =
     let f : Bound → Action (List Datum) = λ b. (meaning depth).element (within (env_in o) b.names) (within (along_in o) b.dollars) (element_of e.now) made in
     let bounds : State → Outcome (List Datum) = λ u. and_then (bound_in_order (meaning depth) (env_in o) (along_in o) args empty u) f in
-    ap (λ r. and_then (and_then r (λ _ u. and_then (judge_named at (codes "let") args u) (λ _. bounds))) (added k o)) stepped
+    ap (λ r. and_then (and_then r (λ _ u. and_then (judge_named at (codes "let") args u) (λ _. bounds))) (added k o))
+        stepped
     ∙ ap (λ r. and_then (and_then r (λ _. bounds)) (added k o)) judged
     ∙ let-element-begins depth back e args k h o made s1 i none out is
     ∙ ap (λ u. binding (record { inside = InsideElement e; back = back; depth = depth }) args k made h u) (sym same)
 
-pub loop-node-begins : (depth back : ℕ) (l : Loop) (args : Arguments) (k : Rest) (h o : Held) (made : List Datum) (s s1 t : State)
-    → step l.at s ≡ gives tt s1 → judge_named l.at (codes "for") args s1 ≡ gives tt s1 → judge_named l.at (codes "for") (arguments l.steps.now) s1 ≡ gives tt s1
+pub loop-node-begins : (depth back : ℕ) (l : Loop) (args : Arguments) (k : Rest) (h o : Held) (made : List Datum)
+    (s s1 t : State)
+    → step l.at s ≡ gives tt s1 → judge_named l.at (codes "for") args s1 ≡ gives tt s1
+    → judge_named l.at (codes "for") (arguments l.steps.now) s1 ≡ gives tt s1
     → IsInner h → bound_in h ≡ empty → outer h ≡ o → back ≡ o.here → t ≡ s1
     → and_then (loop_of l depth args o made s) (added k o)
     ≡ binding (record { inside = InsideTurns l; back = back; depth = depth }) args k made h t
@@ -257,14 +303,17 @@ loop-node-begins depth back l args k h o made s s1 t stepped judged judged2 i no
     (element_of l.body.now) (env_in o) (along_in o) b made in
     let bounds : State → Outcome (List Datum) = λ u. and_then (bound_in_order (meaning depth) (env_in o) (along_in o) args empty u) f in
     let second : State → Outcome (List Datum) = λ u. and_then (judge_named l.at (codes "for") (arguments l.steps.now) u) (λ _. bounds) in
-    ap (λ r. and_then (and_then r (λ _ u. and_then (judge_named l.at (codes "for") args u) (λ _. second))) (added k o)) stepped
+    ap (λ r. and_then (and_then r (λ _ u. and_then (judge_named l.at (codes "for") args u) (λ _. second)))
+        (added k o)) stepped
     ∙ ap (λ r. and_then (and_then r (λ _. second)) (added k o)) judged
     ∙ ap (λ r. and_then (and_then r (λ _. bounds)) (added k o)) judged2
     ∙ loop-begins depth back l args k h o made s1 i none out is
     ∙ ap (λ u. binding (record { inside = InsideTurns l; back = back; depth = depth }) args k made h u) (sym same)
 
-pub each-node-begins : (below : Below) (at : Place) (e : Element) (k k2 : Rest) (h h2 : Held) (made none : List Datum) (outer : Vec Part Global) (s s1 : State)
-    → step at s ≡ gives tt s1 → h2 ≡ h → parts_in outer ≡ made → none ≡ [] → k2 ≡ onto (Each outer) k
+pub each-node-begins : (below : Below) (at : Place) (e : Element) (k k2 : Rest) (h h2 : Held) (made none : List Datum)
+    (outer : Vec Part Global) (s s1 : State)
+    → step at s ≡ gives tt s1 → h2 ≡ h → parts_in outer ≡ made → none ≡ []
+    → k2 ≡ onto (Each outer) k
     → and_then (element_node below (env_in h) (along_in h) (each at e) made s) (added k h)
     ≡ and_then (below.element (env_in h2) (along_in h2) e none s1) (added k2 h2)
 unfolding element_node
@@ -276,38 +325,52 @@ each-node-begins below at e k k2 h h2 made none outer s s1 stepped kept same emp
 
 -- a step, an action, and what follows both
 later-begins : {A B C D : Type 0} (o : Outcome A) (v : Action B) (f : B → Action C) (g : C → Action D)
-    → and_then (and_then o (λ _ t. and_then (v t) f)) g ≡ and_then (and_then o (λ _. v)) (λ d u. and_then (f d u) g)
+    → and_then (and_then o (λ _ t. and_then (v t) f)) g
+    ≡ and_then (and_then o (λ _. v)) (λ d u. and_then (f d u) g)
 later-begins (gives a t) v f g = twice (v t) f g
 later-begins (refuses e t) v f g = refl
 
-pub if-begins : (depth : ℕ) (at : Place) (test : Expression) (e : Bor Elem) (h : Held) (k : Rest) (made : List Datum) (s : State)
-    → and_then (element_node (meaning depth) (env_in h) (along_in h) (if_element at test (element_of e.now)) made s) (added k h)
+pub if-begins : (depth : ℕ) (at : Place) (test : Expression) (e : Bor Elem) (h : Held) (k : Rest) (made : List Datum)
+    (s : State)
+    → and_then (element_node (meaning depth) (env_in h) (along_in h) (if_element at test (element_of e.now)) made s)
+    (added k h)
     ≡ and_then (and_then (step at s) (λ _. value depth (env_in h) (along_in h) test)) (onto (If e depth) k h made)
 unfolding element_node onto element_if
 if-begins depth at test e h k made s =
     later-begins (step at s) (value depth (env_in h) (along_in h) test)
     (λ d. element_if (meaning depth) (env_in h) (along_in h) d (element_of e.now) made) (added k h)
 
-pub either-begins : (depth : ℕ) (at : Place) (test : Expression) (e other : Bor Elem) (h : Held) (k : Rest) (made : List Datum) (s : State)
-    → and_then (element_node (meaning depth) (env_in h) (along_in h) (if_else at test (element_of e.now) (element_of other.now)) made s) (added k h)
-    ≡ and_then (and_then (step at s) (λ _. value depth (env_in h) (along_in h) test)) (onto (Either e other depth) k h made)
+pub either-begins : (depth : ℕ) (at : Place) (test : Expression) (e other : Bor Elem) (h : Held) (k : Rest)
+    (made : List Datum) (s : State)
+    → and_then (element_node (meaning depth) (env_in h) (along_in h)
+    (if_else at test (element_of e.now) (element_of other.now)) made s) (added k h)
+    ≡ and_then (and_then (step at s) (λ _. value depth (env_in h) (along_in h) test))
+    (onto (Either e other depth) k h made)
 unfolding element_node onto either_element
 either-begins depth at test e other h k made s =
     later-begins (step at s) (value depth (env_in h) (along_in h) test)
-    (λ d. either_element (meaning depth) (env_in h) (along_in h) d (element_of e.now) (element_of other.now) made) (added k h)
+    (λ d. either_element (meaning depth) (env_in h) (along_in h) d (element_of e.now) (element_of other.now) made)
+        (added k h)
 
 -- ---- nodes and elements as the code reads them
 pub node-same : (depth : ℕ) (h : Held) (k : Rest) (made : List Datum) (s : State) (x y : Expression) → x ≡ y
-    → and_then (node (meaning depth) (env_in h) (along_in h) y s) (k h made) ≡ and_then (node (meaning depth) (env_in h) (along_in h) x s) (k h made)
-node-same depth h k made s x y is = ap (λ e. and_then (node (meaning depth) (env_in h) (along_in h) e s) (k h made)) (sym is)
+    → and_then (node (meaning depth) (env_in h) (along_in h) y s) (k h made)
+    ≡ and_then (node (meaning depth) (env_in h) (along_in h) x s) (k h made)
+node-same depth h k made s x y is = ap (λ e. and_then (node (meaning depth) (env_in h) (along_in h) e s) (k h made))
+    (sym is)
 
 pub element-same : (depth : ℕ) (h : Held) (k : Rest) (made : List Datum) (s : State) (x y : Element) → x ≡ y
-    → and_then (element_node (meaning depth) (env_in h) (along_in h) y made s) (added k h) ≡ and_then (element_node (meaning depth) (env_in h) (along_in h) x made s) (added k h)
-element-same depth h k made s x y is = ap (λ e. and_then (element_node (meaning depth) (env_in h) (along_in h) e made s) (added k h)) (sym is)
+    → and_then (element_node (meaning depth) (env_in h) (along_in h) y made s) (added k h)
+    ≡ and_then (element_node (meaning depth) (env_in h) (along_in h) x made s) (added k h)
+element-same depth h k made s x y is = ap (λ e. and_then
+    (element_node (meaning depth) (env_in h) (along_in h) e made s) (added k h)) (sym is)
 
-pub loop-same : (depth : ℕ) (l : Loop) (starts : Arguments) (h : Held) (k : Rest) (made : List Datum) (s : State) (y : Element)
-    → l.turns ≡ suc step_limit → for_loop l.at starts (expression_of l.test.now) (arguments l.steps.now) (element_of l.body.now) ≡ y
-    → and_then (element_node (meaning depth) (env_in h) (along_in h) y made s) (added k h) ≡ and_then (loop_of l depth starts h made s) (added k h)
+pub loop-same : (depth : ℕ) (l : Loop) (starts : Arguments) (h : Held) (k : Rest) (made : List Datum) (s : State)
+    (y : Element)
+    → l.turns ≡ suc step_limit → for_loop l.at starts (expression_of l.test.now) (arguments l.steps.now)
+    (element_of l.body.now) ≡ y
+    → and_then (element_node (meaning depth) (env_in h) (along_in h) y made s) (added k h)
+    ≡ and_then (loop_of l depth starts h made s) (added k h)
 unfolding element_node
 loop-same depth l starts h k made s y all is =
     element-same depth h k made s _ y is

@@ -47,14 +47,18 @@ pub ruleset element_depths = (element_none, element_more)
 pub ruleset nodes = (twice, value_layered)
 
 -- ---- arguments
-pub supplied-next : {C : Type 0} (below : Below) (p : Purpose) (env along : Env) (word : Option (List ℕ)) (e : Expression) (more : Arguments) (so_far : List Datum) (s : State) (g : Datum → Action C)
+pub supplied-next : {C : Type 0} (below : Below) (p : Purpose) (env along : Env) (word : Option (List ℕ))
+    (e : Expression) (more : Arguments) (so_far : List Datum) (s : State) (g : Datum → Action C)
     → and_then (supplied below p env along (argument word e more) so_far s) g
-    ≡ and_then (below.value env along e s) (λ d t. and_then (supplied below p env along more (so_far ++ d ∷ []) t) g)
+    ≡ and_then (below.value env along e s)
+    (λ d t. and_then (supplied below p env along more (so_far ++ d ∷ []) t) g)
 unfolding supplied values
 supplied-next below p env along word e more so_far s g = by (below.value env along e s)
   where
-    by : (o : Outcome Datum) → and_then (and_then (and_then o (λ d. values below env along more (so_far ++ d ∷ []))) (served below p env along)) g
-        ≡ and_then o (λ d t. and_then (and_then (values below env along more (so_far ++ d ∷ []) t) (served below p env along)) g)
+    by : (o : Outcome Datum) → and_then (and_then
+        (and_then o (λ d. values below env along more (so_far ++ d ∷ []))) (served below p env along)) g
+        ≡ and_then o (λ d t. and_then (and_then (values below env along more (so_far ++ d ∷ []) t)
+        (served below p env along)) g)
     by (gives d t) = refl
     by (refuses f t) = refl
 
@@ -63,25 +67,30 @@ pub supplied-end : (below : Below) (p : Purpose) (env along : Env) (so_far : Lis
 unfolding supplied values
 supplied-end below p env along so_far s = refl
 
-pub called-own : (below : Below) (at : Place) (word : List ℕ) (f : Option Found) (g : Found) (along : Env) (args : Arguments) (found : List Datum) (s : State)
+pub called-own : (below : Below) (at : Place) (word : List ℕ) (f : Option Found) (g : Found) (along : Env)
+    (args : Arguments) (found : List Datum) (s : State)
     → f ≡ Some g → called below at word f along args found s ≡ called_own below along g args found s
 unfolding called
 called-own below at word f g along args found s is = ap (λ o. called below at word o along args found s) is
 
-pub called-known : (below : Below) (at : Place) (word : List ℕ) (f : Option Found) (along : Env) (args : Arguments) (found : List Datum) (s : State)
-    → f ≡ None → called below at word f along args found s ≡ called_builtin at word (builtin word (as_elements found)) s
+pub called-known : (below : Below) (at : Place) (word : List ℕ) (f : Option Found) (along : Env) (args : Arguments)
+    (found : List Datum) (s : State)
+    → f ≡ None → called below at word f along args found s
+    ≡ called_builtin at word (builtin word (as_elements found)) s
 unfolding called
 called-known below at word f along args found s is = ap (λ o. called below at word o along args found s) is
 
 -- the one argument of a call
 pub node-lone : (below : Below) (env along : Env) (at : Place) (word : List ℕ) (args : Arguments) (e : Expression)
     (s : State) → lone args ≡ Some e → node below env along (call at word args) s
-    ≡ and_then (below.value env along e s) (λ d. called below at word (function_named word env) along args (d ∷ []))
+    ≡ and_then (below.value env along e s)
+    (λ d. called below at word (function_named word env) along args (d ∷ []))
 unfolding node
 node-lone below env along at word args e s is =
     ap (λ o. and_then o (called below at word (function_named word env) along args))
     (values-lone below env along args e s is)
-    ∙ twice (below.value env along e s) (λ d. gives (d ∷ [])) (called below at word (function_named word env) along args)
+    ∙ twice (below.value env along e s) (λ d. gives (d ∷ []))
+    (called below at word (function_named word env) along args)
 
 pub ruleset calls = (twice, supplied-next, supplied-end, called-own, called-known, node-lone)
 
@@ -93,14 +102,16 @@ binds-named below no_arguments k h s = refl
 binds-named below (argument None e more) k h s = binds-named below more k h s
 binds-named below (argument (Some name) e more) k h s = refl
 
-pub binds-some : (below : Below) (args more : Arguments) (name : List ℕ) (e : Expression) (k : Held → Action Whole) (h : Held) (s : State)
+pub binds-some : (below : Below) (args more : Arguments) (name : List ℕ) (e : Expression) (k : Held → Action Whole)
+    (h : Held) (s : State)
     → named_of args ≡ argument (Some name) e more
-    → binds below args k h s ≡ and_then (below.value (env_in h) (along_in h) e s) (λ d. binds below more k (set_in_last name d h))
+    → binds below args k h s ≡ and_then (below.value (env_in h) (along_in h) e s)
+    (λ d. binds below more k (set_in_last name d h))
 unfolding binds
 binds-some below args more name e k h s is = binds-named below args k h s ∙ ap (λ a. binds below a k h s) is
 
-pub binds-none : (below : Below) (args : Arguments) (k : Held → Action Whole) (h : Held) (s : State) → named_of args ≡ no_arguments
-    → binds below args k h s ≡ k h s
+pub binds-none : (below : Below) (args : Arguments) (k : Held → Action Whole) (h : Held) (s : State)
+    → named_of args ≡ no_arguments → binds below args k h s ≡ k h s
 unfolding binds
 binds-none below args k h s is = binds-named below args k h s ∙ ap (λ a. binds below a k h s) is
 
@@ -116,11 +127,13 @@ pub inner-along : (b : Bound) (o : Held) → along_in (inner b o) ≡ within (al
 inner-along b o = along_in-opened None (length o.frames) o.here b o
 
 pub inner-value : (below : Below) (e : Expression) (b : Bound) (o : Held) (s : State)
-    → below.value (env_in (inner b o)) (along_in (inner b o)) e s ≡ below.value (within (env_in o) b.names) (within (along_in o) b.dollars) e s
+    → below.value (env_in (inner b o)) (along_in (inner b o)) e s
+    ≡ below.value (within (env_in o) b.names) (within (along_in o) b.dollars) e s
 inner-value below e b o s = ap₂ (λ x y. below.value x y e s) (inner-env b o) (inner-along b o)
 
 pub inner-element : (below : Below) (e : Element) (b : Bound) (o : Held) (made : List Datum) (s : State)
-    → below.element (env_in (inner b o)) (along_in (inner b o)) e made s ≡ below.element (within (env_in o) b.names) (within (along_in o) b.dollars) e made s
+    → below.element (env_in (inner b o)) (along_in (inner b o)) e made s
+    ≡ below.element (within (env_in o) b.names) (within (along_in o) b.dollars) e made s
 inner-element below e b o made s = ap₂ (λ x y. below.element x y e made s) (inner-env b o) (inner-along b o)
 
 -- what is held between the names is what the definition binds
@@ -146,7 +159,8 @@ pub left-inner : (back : ℕ) (b : Bound) (o : Held) → back ≡ o.here → lef
 left-inner back b o is = left-opened back None (length o.frames) o.here b o is
 
 -- the names of a `let`, and what follows its frames, which is what follows an expression or an element inside
-pub binds-opened : {A : Type 0} (below : Below) (args : Arguments) (k : Held → Action Whole) (h o : Held) (f : Bound → Action A) (g : A → Action Whole) (s : State)
+pub binds-opened : {A : Type 0} (below : Below) (args : Arguments) (k : Held → Action Whole) (h o : Held)
+    (f : Bound → Action A) (g : A → Action Whole) (s : State)
     → IsInner h → bound_in h ≡ empty → outer h ≡ o
     → ((b : Bound) (t : State) → k (inner b o) t ≡ and_then (f b t) g)
     → and_then (and_then (bound_in_order below (env_in o) (along_in o) args empty s) f) g ≡ binds below args k h s
@@ -157,18 +171,22 @@ binds-opened below args k h o f g s i none out ends =
     ∙ ap (λ x. binds below args k x s) (sym (opened-inner h o i none out))
 
 -- ---- a loop with start, test and step
-pub repeats-none : (below : Below) (n : ℕ) (at : Place) (test : Expression) (steps : Arguments) (body : Element) (k : Held → List Datum → Action Whole) (h : Held) (made : List Datum) (s : State)
+pub repeats-none : (below : Below) (n : ℕ) (at : Place) (test : Expression) (steps : Arguments) (body : Element)
+    (k : Held → List Datum → Action Whole) (h : Held) (made : List Datum) (s : State)
     → n ≡ 0 → repeats below n at test steps body k h made s ≡ over Steps at s
 unfolding repeats
 repeats-none below n at test steps body k h made s none = ap (λ m. repeats below m at test steps body k h made s) none
 
-pub repeats-some : (below : Below) (n : ℕ) (at : Place) (test : Expression) (steps : Arguments) (body : Element) (k : Held → List Datum → Action Whole) (h : Held) (made : List Datum) (s : State)
+pub repeats-some : (below : Below) (n : ℕ) (at : Place) (test : Expression) (steps : Arguments) (body : Element)
+    (k : Held → List Datum → Action Whole) (h : Held) (made : List Datum) (s : State)
     → n ≢ 0 → repeats below n at test steps body k h made s
-    ≡ and_then (below.value (env_in h) (along_in h) test s) (turned below at steps body (repeats below (n - 1) at test steps body k) k h made)
+    ≡ and_then (below.value (env_in h) (along_in h) test s)
+    (turned below at steps body (repeats below (n - 1) at test steps body k) k h made)
 unfolding repeats
 repeats-some below zero at test steps body k h made s some = absurd (some refl)
 repeats-some below (suc n) at test steps body k h made s some =
-    ap (λ m. and_then (below.value (env_in h) (along_in h) test s) (turned below at steps body (repeats below m at test steps body k) k h made)) (omega arith)
+    ap (λ m. and_then (below.value (env_in h) (along_in h) test s)
+        (turned below at steps body (repeats below m at test steps body k) k h made)) (omega arith)
 
 pub ruleset loops = (twice, repeats-none, repeats-some)
 
@@ -201,8 +219,10 @@ module _ (below : Below) (at : Place) (test : Expression) (steps : Arguments) (b
     after_element t =
         ap (λ r. and_then r (λ now. binds below steps (λ h2. again n h2 now) (inner b o)))
         (inner-element below body b o made t)
-        ∙ same-then (below.element (within (env_in o) b.names) (within (along_in o) b.dollars) body made t) _ _ after_names
-        ∙ sym (twice (below.element (within (env_in o) b.names) (within (along_in o) b.dollars) body made t) names_then g)
+        ∙ same-then (below.element (within (env_in o) b.names) (within (along_in o) b.dollars) body made t) _ _
+        after_names
+        ∙ sym (twice (below.element (within (env_in o) b.names) (within (along_in o) b.dollars) body made t)
+        names_then g)
 
     after_test : (t : State) (c : Bool) → (if c then (step at >>= λ _. below.element (env_in (inner b o))
         (along_in (inner b o)) body made >>= λ now. binds below steps (λ h2. again n h2 now) (inner b o))
@@ -239,46 +259,60 @@ module _ (below : Below) (home : ℕ) (o : Held) (there : home < length o.frames
   unfolding fills defaulted
   fills-opened [] k b s = refl
   fills-opened (p ∷ more) k b s =
-      ap₂ (λ x y. and_then (default_value below x y p.default s) (λ d. fills below more k (set_in_last p.name d (opened_home b))))
+      ap₂ (λ x y. and_then (default_value below x y p.default s)
+          (λ d. fills below more k (set_in_last p.name d (opened_home b))))
       (env_in-before None home b o there) (along_in-opened None home home b o)
       ∙ same-then (default_value below (env_at (envs o.frames) home) (within (along_in o) b.dollars) p.default s) _ _
       (λ d t. ap (λ h. fills below more k h t) (set_in_last-opened p.name d None home home b o)
       ∙ fills-opened more k (set p.name d b) t)
       ∙ sym (twice (default_value below (env_at (envs o.frames) home) (within (along_in o) b.dollars) p.default s)
-      (λ d. defaulted below (env_at (envs o.frames) home) (along_in o) more (set p.name d b)) (λ c. k (opened_home c)))
+      (λ d. defaulted below (env_at (envs o.frames) home) (along_in o) more (set p.name d b))
+          (λ c. k (opened_home c)))
 
 -- ---- variables of a `for`
-pub variables-named : (below : Below) (at : Place) (args : Arguments) (body : Element) (env along : Env) (so_far : List Datum) (s : State)
-    → for_variables below at args body env along so_far s ≡ for_variables below at (named_of args) body env along so_far s
+pub variables-named : (below : Below) (at : Place) (args : Arguments) (body : Element) (env along : Env)
+    (so_far : List Datum) (s : State)
+    → for_variables below at args body env along so_far s
+    ≡ for_variables below at (named_of args) body env along so_far s
 unfolding for_variables
 variables-named below at no_arguments body env along so_far s = refl
-variables-named below at (argument None e more) body env along so_far s = variables-named below at more body env along so_far s
+variables-named below at (argument None e more) body env along so_far s
+    = variables-named below at more body env along so_far s
 variables-named below at (argument (Some name) e more) body env along so_far s = refl
 
-pub variables-some : {C : Type 0} (below : Below) (at : Place) (args more : Arguments) (name : List ℕ) (e : Expression) (body : Element) (env along : Env) (so_far : List Datum) (s : State) (g : List Datum → Action C)
+pub variables-some : {C : Type 0} (below : Below) (at : Place) (args more : Arguments) (name : List ℕ)
+    (e : Expression) (body : Element) (env along : Env) (so_far : List Datum) (s : State) (g : List Datum → Action C)
     → named_of args ≡ argument (Some name) e more
     → and_then (for_variables below at args body env along so_far s) g
-    ≡ and_then (below.value env along e s) (λ d t. and_then (turns below at name (for_variables below at more body) env along (items d) so_far t) g)
+    ≡ and_then (below.value env along e s)
+    (λ d t. and_then (turns below at name (for_variables below at more body) env along (items d) so_far t) g)
 unfolding for_variables
 variables-some below at args more name e body env along so_far s g is =
-    ap (λ r. and_then r g) (variables-named below at args body env along so_far s ∙ ap (λ a. for_variables below at a body env along so_far s) is)
-    ∙ twice (below.value env along e s) (λ d. turns below at name (for_variables below at more body) env along (items d) so_far) g
+    ap (λ r. and_then r g) (variables-named below at args body env along so_far s
+        ∙ ap (λ a. for_variables below at a body env along so_far s) is)
+    ∙ twice (below.value env along e s) (λ d. turns below at name (for_variables below at more body) env along
+    (items d) so_far) g
 
-pub variables-none : (below : Below) (at : Place) (args : Arguments) (body : Element) (env along : Env) (so_far : List Datum) (s : State)
-    → named_of args ≡ no_arguments → for_variables below at args body env along so_far s ≡ below.element env along body so_far s
+pub variables-none : (below : Below) (at : Place) (args : Arguments) (body : Element) (env along : Env)
+    (so_far : List Datum) (s : State)
+    → named_of args ≡ no_arguments → for_variables below at args body env along so_far s
+    ≡ below.element env along body so_far s
 unfolding for_variables
 variables-none below at args body env along so_far s is =
-    variables-named below at args body env along so_far s ∙ ap (λ a. for_variables below at a body env along so_far s) is
+    variables-named below at args body env along so_far s
+        ∙ ap (λ a. for_variables below at a body env along so_far s) is
 
 pub ruleset names = (twice, binds-some, binds-none)
 
 pub ruleset variables = (variables-some, variables-none)
 
 -- ---- turns of a variable
-pub turns-none : (below : Below) (at : Place) (name : List ℕ) (into : Env → Env → List Datum → Action (List Datum)) (env along : Env) (all so_far : List Datum) (s : State)
+pub turns-none : (below : Below) (at : Place) (name : List ℕ)
+    (into : Env → Env → List Datum → Action (List Datum)) (env along : Env) (all so_far : List Datum) (s : State)
     → all ≡ [] → turns below at name into env along all so_far s ≡ gives so_far s
 unfolding turns
-turns-none below at name into env along all so_far s none = ap (λ l. turns below at name into env along l so_far s) none
+turns-none below at name into env along all so_far s none
+    = ap (λ l. turns below at name into env along l so_far s) none
 
 pub ruleset turnings = (twice, turns-none)
 
@@ -302,13 +336,16 @@ pub held-paired : (o : Outcome Datum) (h : Held) → held_in h (and_then o (pair
 held-paired (gives a t) h = refl
 held-paired (refuses e t) h = refl
 
-pub end-value : (o : Outcome Datum) (h h2 : Held) (d : Datum) (s : State) → and_then o (paired h) ≡ gives (d, h2) s → o ≡ gives d s
+pub end-value : (o : Outcome Datum) (h h2 : Held) (d : Datum) (s : State) → and_then o (paired h) ≡ gives (d, h2) s
+    → o ≡ gives d s
 end-value o h h2 d s is = sym (state-paired o h) ∙ ap state_in is
 
-pub end-held : (o : Outcome Datum) (h h2 : Held) (d : Datum) (s : State) → and_then o (paired h) ≡ gives (d, h2) s → h2 ≡ h
+pub end-held : (o : Outcome Datum) (h h2 : Held) (d : Datum) (s : State) → and_then o (paired h) ≡ gives (d, h2) s
+    → h2 ≡ h
 end-held o h h2 d s is = sym (ap (held_in h) is) ∙ held-paired o h
 
-pub end-refused : (o : Outcome Datum) (h : Held) (e : EvalFault) (s : State) → and_then o (paired h) ≡ refuses e s → o ≡ refuses e s
+pub end-refused : (o : Outcome Datum) (h : Held) (e : EvalFault) (s : State) → and_then o (paired h) ≡ refuses e s
+    → o ≡ refuses e s
 end-refused o h e s is = sym (state-paired o h) ∙ ap state_in is
 
 pub ruleset ends = (end-value, end-held, end-refused)

@@ -31,7 +31,8 @@ steps_rise depth env along e s low = (rising depth).0 env along e s low
 
 -- what follows the same outcome is the same, where it is from each state that the outcome may have
 same-then : {A B : Type 0} (n : ℕ) (o : Outcome A) (f g : A → Action B) → Within n o
-    → ((a : A) (s : State) → n ≤ s.steps → s.steps ≤ step_limit → f a s ≡ g a s) → and_then o f ≡ and_then o g
+    → ((a : A) (s : State) → n ≤ s.steps → s.steps ≤ step_limit → f a s ≡ g a s)
+    → and_then o f ≡ and_then o g
 same-then n (gives a s) f g w h = h a s w.0 w.1
 same-then n (refuses e s) f g w h = refl
 

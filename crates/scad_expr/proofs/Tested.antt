@@ -24,16 +24,19 @@ value_of-with n m d (p ∷ more) = by (value_of-with n m d more) (is_same_name m
     apart : (c : Bool) → is_same_name n m ≡ c → is_same_name m p.0 ≡ false
         → (if is_same_name n p.0 then Some p.1 else (if c then Some d else value_of_name n more))
         ≡ (if c then Some d else (if is_same_name n p.0 then Some p.1 else value_of_name n more))
-    apart true f e = ap (λ b. if b then Some p.1 else Some d) (ap (λ k. is_same_name k p.0) ((bytes_decides n m).0 f) ∙
+    apart true f e = ap (λ b. if b then Some p.1 else Some d)
+        (ap (λ k. is_same_name k p.0) ((bytes_decides n m).0 f) ∙
         e)
     apart false f e = refl
 
-    by : value_of_name n (with_name m d more) ≡ (if is_same_name n m then Some d else value_of_name n more) → (b : Bool)
+    by : value_of_name n (with_name m d more) ≡ (if is_same_name n m then Some d else value_of_name n more)
+        → (b : Bool)
         → is_same_name m p.0 ≡ b → value_of_name n (if b then (p.0, d) ∷ more else p ∷ with_name m d more)
         ≡ (if is_same_name n m then Some d else (if is_same_name n p.0 then Some p.1 else value_of_name n more))
     by rest true e =
         chosen_twice (is_same_name n p.0) d p.1 (value_of_name n more)
-        ∙ ap (λ k. if is_same_name n k then Some d else (if is_same_name n p.0 then Some p.1 else value_of_name n more))
+        ∙ ap (λ k. if is_same_name n k then Some d else
+        (if is_same_name n p.0 then Some p.1 else value_of_name n more))
         (sym ((bytes_decides m p.0).0 e))
     by rest false e = ap (λ o. if is_same_name n p.0 then Some p.1 else o) rest ∙ apart (is_same_name n m) refl e
 
@@ -83,7 +86,8 @@ tested-from i (argument (Some name) e more) (d ∷ values) all =
     tested-from i more values (to_name names name d all) ∙ ap (test_from (is_zero i) more values) (named name d all)
 
 -- the test is the value that has the name `test`
-pub tested : (args : Arguments) (values : List Datum) → test_from true args values None ≡ value_of_name (codes "test")
+pub tested : (args : Arguments) (values : List Datum)
+    → test_from true args values None ≡ value_of_name (codes "test")
     (given (codes "test" ∷ codes "text" ∷ []) args values)
 unfolding given
 tested args values = sym (tested-from 0 args values [])

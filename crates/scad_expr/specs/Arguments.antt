@@ -1,4 +1,5 @@
--- Which parameter takes which argument (OpenSCAD User Manual, "Function Literals", "User-Defined Functions and Modules").
+-- Which parameter takes which argument (OpenSCAD User Manual, "Function Literals", "User-Defined Functions and
+-- Modules").
 use Rattle.std.specs.Prelude.{ℕ, ◌+◌, ◌*◌, ◌||◌, pos, Bool, true, false, min, List, [], ◌∷◌, Option, Some, None, slice_get, is_some, if◌then◌else◌, codes}
 use Rattle.scad_ast.specs.Tree.{Arguments, no_arguments, argument, Items, no_items, entry, Item, call_of, choice}
 use Rattle.scad_value.specs.Datum.{Datum, number}
@@ -17,7 +18,8 @@ to_parameter (Some name) d so_far = with_name name d so_far
 
 -- the value of a named argument goes to the parameter of its name; a `$` name is taken in any case
 abbrev pub to_name : List (List ℕ) → List ℕ → Datum → Names → Names
-to_name parameters name d so_far = if is_parameter name parameters || is_dollar name then with_name name d so_far else so_far
+to_name parameters name d so_far = if is_parameter name parameters
+    || is_dollar name then with_name name d so_far else so_far
 
 -- arguments with their values, before which so many unnamed ones stood: the later of two for one name wins, and surplus
 -- ones aren't used

@@ -15,10 +15,14 @@ Within n (refuses e s) = Unit {0}
 
 -- an expression takes steps back never, and never passes their limit
 abbrev pub StepsRise : Type 0
-StepsRise = (depth : ℕ) (env along : Env) (e : Expression) (s : State) → s.steps ≤ step_limit → Within s.steps (value depth env along e s)
+StepsRise = (depth : ℕ) (env along : Env) (e : Expression) (s : State) → s.steps ≤ step_limit
+    → Within s.steps (value depth env along e s)
 
--- in a loop with start, test and step any two counts of turns past the steps that are left give the same, so the count never ends
+-- in a loop with start, test and step any two counts of turns past the steps that are left give the same, so the count
+-- never ends
 abbrev pub TurnsDontEnd : Type 0
-TurnsDontEnd = (depth n m : ℕ) (at : Place) (test : Expression) (steps : Arguments) (body : Element) (env along : Env) (b : Bound) (so_far : List Datum) (s : State)
+TurnsDontEnd = (depth n m : ℕ) (at : Place) (test : Expression) (steps : Arguments) (body : Element) (env along : Env)
+    (b : Bound) (so_far : List Datum) (s : State)
     → s.steps ≤ step_limit → step_limit < s.steps + n → step_limit < s.steps + m
-    → loop_turns (meaning depth) n at test steps body env along b so_far s ≡ loop_turns (meaning depth) m at test steps body env along b so_far s
+    → loop_turns (meaning depth) n at test steps body env along b so_far s
+    ≡ loop_turns (meaning depth) m at test steps body env along b so_far s

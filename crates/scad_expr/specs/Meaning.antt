@@ -1,6 +1,9 @@
--- What an expression gives (OpenSCAD User Manual, "The OpenSCAD Language"): a value and a new state, or the first fault or
--- budget. One rule for each kind of node, in the order of the syntax tree. `env` are the frames of the place where the node
--- stands, `along` those of the `$` names along the calls. What a node holds stands one deeper than the node, and `below` says what is
+-- What an expression gives (OpenSCAD User Manual, "The OpenSCAD Language"): a value and a new state, or the first fault
+-- or
+-- budget. One rule for each kind of node, in the order of the syntax tree. `env` are the frames of the place where the
+-- node
+-- stands, `along` those of the `$` names along the calls. What a node holds stands one deeper than the node, and
+-- `below` says what is
 -- given there.
 use Rattle.std.specs.Prelude.{ℕ, zero, suc, pos, true, false, List, [], ◌∷◌, ◌++◌, Option, Some, None, Result, Ok, Err, map, if◌then◌else◌, codes}
 use Rattle.std.specs.List.{flat_map}
@@ -76,7 +79,8 @@ tested at (Some d) = if truth d then pure tt else fault AssertFailed at
 
 -- `assert` takes its arguments as a call with the parameters `test` and `text`
 unfoldable pub asserted : Place → Arguments → List Datum → Action (Unit {0})
-asserted at args values = tested at (value_of_name (codes "test") (given (codes "test" ∷ codes "text" ∷ []) args values))
+asserted at args values = tested at (value_of_name (codes "test")
+    (given (codes "test" ∷ codes "text" ∷ []) args values))
 
 -- in `let` and `for` every argument has a name
 unfoldable pub judge_named : Place → List ℕ → Arguments → Action (Unit {0})
@@ -102,7 +106,8 @@ module _ (below : Below) where
     d ← below.value env along e
     values env along more (so_far ++ d ∷ [])
 
-  -- a missing parameter takes its default, evaluated where the definition stands with the call's `$` names, else `undef`
+  -- a missing parameter takes its default, evaluated where the definition stands with the call's `$` names, else
+  -- `undef`
   unfoldable pub default_value : Env → Env → Option Expression → Action Datum
   default_value home along None = pure undef
   default_value home along (Some e) = below.value home along e
@@ -112,7 +117,8 @@ module _ (below : Below) where
   defaults home along given_names [] b = pure b
   defaults home along given_names (p ∷ more) b =
       if is_given p.name given_names then defaults home along given_names more b
-      else (default_value home (within along b.dollars) p.default >>= λ d. defaults home along given_names more (set p.name d b))
+      else (default_value home (within along b.dollars) p.default
+          >>= λ d. defaults home along given_names more (set p.name d b))
 
   -- the names of a call's parameters: first those that are given, then the others
   unfoldable pub bound : Env → Env → List Parameter → Arguments → List Datum → Action Bound
@@ -146,15 +152,18 @@ module _ (below : Below) where
     now ← below.element env along e so_far
     elements env along more now
 
-  -- one turn for each of some values: a step at the `for`, and then what runs inside with the name set in a frame of its own
-  unfoldable pub turns : Place → List ℕ → (Env → Env → List Datum → Action (List Datum)) → Env → Env → List Datum → List Datum → Action (List Datum)
+  -- one turn for each of some values: a step at the `for`, and then what runs inside with the name set in a frame of
+  -- its own
+  unfoldable pub turns : Place → List ℕ → (Env → Env → List Datum → Action (List Datum)) → Env → Env
+      → List Datum → List Datum → Action (List Datum)
   turns at name inner env along [] so_far = pure so_far
   turns at name inner env along (d ∷ more) so_far = do
     step at
     now ← inner (within env (set name d empty).names) (within along (set name d empty).dollars) so_far
     turns at name inner env along more now
 
-  -- the first variable is the outermost; the values of each are evaluated anew in each turn of those before it, and see them
+  -- the first variable is the outermost; the values of each are evaluated anew in each turn of those before it, and see
+  -- them
   unfoldable pub for_variables : Place → Arguments → Element → Env → Env → List Datum → Action (List Datum)
   for_variables at no_arguments body env along so_far = below.element env along body so_far
   for_variables at (argument None e more) body env along so_far = for_variables at more body env along so_far
@@ -162,9 +171,11 @@ module _ (below : Below) where
     d ← below.value env along e
     turns at name (for_variables at more body) env along (items d) so_far
 
-  -- `for (start; test; step)`: while the test holds, a step at the `for`, the element, and the step's names in the frame of
+  -- `for (start; test; step)`: while the test holds, a step at the `for`, the element, and the step's names in the
+  -- frame of
   -- the start's. Each turn takes a step, so the steps end before the turns do
-  unfoldable pub loop_turns : ℕ → Place → Expression → Arguments → Element → Env → Env → Bound → List Datum → Action (List Datum)
+  unfoldable pub loop_turns : ℕ → Place → Expression → Arguments → Element → Env → Env → Bound
+      → List Datum → Action (List Datum)
   loop_turns zero at test steps body env along b so_far = over Steps at
   loop_turns (suc n) at test steps body env along b so_far = do
     holds ← below.value (within env b.names) (within along b.dollars) test
@@ -182,7 +193,8 @@ module _ (below : Below) where
     d ← below.value env along e
     pure (boolean (truth d))
 
-  -- the right side of `||` isn't evaluated where the left is true, that of `&&` where it is false; any other operator takes
+  -- the right side of `||` isn't evaluated where the left is true, that of `&&` where it is false; any other operator
+  -- takes
   -- both operands
   unfoldable pub right_side : Env → Env → Place → BinOp → Datum → Expression → Action Datum
   right_side env along at Or d b = if truth d then pure (boolean true) else truth_of env along b
@@ -312,7 +324,8 @@ meaning (suc depth) = record { value = value_layer (meaning depth); element = el
 abbrev pub value : ℕ → Env → Env → Expression → Action Datum
 value depth = (meaning depth).value
 
--- what a call opens: the environment of its parameters, with its children where it keeps some, and that of its `$` names
+-- what a call opens: the environment of its parameters, with its children where it keeps some, and that of its `$`
+-- names
 pub record Opened : Type 0 where
   pub env : Env
   pub along : Env
@@ -320,7 +333,9 @@ pub record Opened : Type 0 where
 abbrev pub opened : Env → Env → Children → Bound → Opened
 opened home along kept b = record { env = inside (frame b.names None kept) home; along = within along b.dollars }
 
--- the frames of a call of a function or module that is defined in the environment `home`, by arguments with their values
+-- the frames of a call of a function or module that is defined in the environment `home`, by arguments with their
+-- values
 abbrev pub bind : ℕ → Env → Env → List Parameter → Arguments → List Datum → Children → Action Opened
 bind depth home along parameters args found kept =
-    bound (meaning depth) home along parameters args found >>= λ b. pure (opened home along kept (with_children kept b))
+    bound (meaning depth) home along parameters args found
+        >>= λ b. pure (opened home along kept (with_children kept b))

@@ -24,7 +24,8 @@ parts_in v = parts_of v.items
 
 -- a vector is made of the one list as of the other, whatever place it has and whatever steps were taken
 pub record MakeAlike (short whole : List Datum) : Type 0 where
-  pub alike : (at : Place) (s : State) → make at (vector (as_elements short)) s ≡ make at (vector (as_elements whole)) s
+  pub alike : (at : Place) (s : State) → make at (vector (as_elements short)) s
+      ≡ make at (vector (as_elements whole)) s
 
 -- and whatever comes behind it
 pub record MakeAlikeThen (short whole : List Datum) : Type 0 where

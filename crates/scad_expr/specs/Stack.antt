@@ -71,25 +71,30 @@ module _ (below : Below) where
   unfoldable pub binds : Arguments → (Held → Action Whole) → Held → Action Whole
   binds no_arguments k h = k h
   binds (argument None e more) k h = binds more k h
-  binds (argument (Some name) e more) k h = below.value (env_in h) (along_in h) e >>= λ d. binds more k (set_in_last name d h)
+  binds (argument (Some name) e more) k h = below.value (env_in h) (along_in h) e
+      >>= λ d. binds more k (set_in_last name d h)
 
   -- parameters that take their defaults, and then what follows
   unfoldable pub fills : List Parameter → (Held → Action Whole) → Held → Action Whole
   fills [] k h = k h
-  fills (p ∷ more) k h = default_value below (env_in h) (along_in h) p.default >>= λ d. fills more k (set_in_last p.name d h)
+  fills (p ∷ more) k h = default_value below (env_in h) (along_in h) p.default
+      >>= λ d. fills more k (set_in_last p.name d h)
 
   -- the names of the next turn of a loop with start, test and step, and then that turn
   unfoldable pub renewed : Arguments → (Held → List Datum → Action Whole) → List Datum → Held → Action Whole
   renewed steps again made h = binds steps (λ h2. again h2 made) h
 
   -- a turn of such a loop whose test has its value
-  unfoldable pub turned : Place → Arguments → Element → (Held → List Datum → Action Whole) → (Held → List Datum → Action Whole) → Held → List Datum → Datum → Action Whole
+  unfoldable pub turned : Place → Arguments → Element → (Held → List Datum → Action Whole)
+      → (Held → List Datum → Action Whole) → Held → List Datum → Datum → Action Whole
   turned at steps body again k h made d =
-      if truth d then (step at >>= λ _. below.element (env_in h) (along_in h) body made >>= λ now. renewed steps again now h)
+      if truth d then (step at >>= λ _. below.element (env_in h) (along_in h) body made
+          >>= λ now. renewed steps again now h)
       else k h made
 
   -- so many turns of it at most
-  unfoldable pub repeats : ℕ → Place → Expression → Arguments → Element → (Held → List Datum → Action Whole) → Held → List Datum → Action Whole
+  unfoldable pub repeats : ℕ → Place → Expression → Arguments → Element
+      → (Held → List Datum → Action Whole) → Held → List Datum → Action Whole
   repeats zero at test steps body k h made = over Steps at
   repeats (suc n) at test steps body k h made =
       below.value (env_in h) (along_in h) test >>= turned at steps body (repeats n at test steps body k) k h made
@@ -97,9 +102,12 @@ module _ (below : Below) where
 -- ---- what arguments are for
 -- what is done with their values
 unfoldable pub served : Below → Purpose → Env → Env → List Datum → Action Datum
-served below (Call c) env along found = called below c.at c.word.now (function_named c.word.now env) along (arguments c.args.now) found
-served below (Assert at args body) env along found = asserted at (arguments args.now) found >> below.value env along (expression_of body.now)
-served below (Echo at args body) env along found = say at (echo_line (arguments args.now) found) >> below.value env along (expression_of body.now)
+served below (Call c) env along found = called below c.at c.word.now (function_named c.word.now env) along
+    (arguments c.args.now) found
+served below (Assert at args body) env along found
+    = asserted at (arguments args.now) found >> below.value env along (expression_of body.now)
+served below (Echo at args body) env along found
+    = say at (echo_line (arguments args.now) found) >> below.value env along (expression_of body.now)
 
 -- the values of arguments, behind those so far, and what is done with them
 unfoldable pub supplied : Below → Purpose → Env → Env → Arguments → List Datum → Action Datum
@@ -114,7 +122,8 @@ supplied_in p h args = supplied (meaning p.depth) p.purpose (env_in h) (along_in
 -- a call as it is written, once its arguments have their values
 abbrev pub called_as : Written → ℕ → Held → List Datum → Action Datum
 called_as c depth h found =
-    called (meaning depth) c.at c.word.now (function_named c.word.now (env_in h)) (along_in h) (arguments c.args.now) found
+    called (meaning depth) c.at c.word.now (function_named c.word.now (env_in h)) (along_in h) (arguments c.args.now)
+        found
 
 abbrev pub written_node : Written → ℕ → Held → Action Datum
 written_node c depth h = node (meaning depth) (env_in h) (along_in h) (call_at c.at c.word.now (arguments c.args.now))
@@ -122,7 +131,8 @@ written_node c depth h = node (meaning depth) (env_in h) (along_in h) (call_at c
 -- the expression of a function, once its parameters are set
 unfoldable pub entered : Opening → Rest → List Datum → Held → Action Whole
 entered o k made h =
-    value o.depth (env_in (record h { here = o.inner })) (along_in (record h { here = o.inner })) (expression_of o.body.now)
+    value o.depth (env_in (record h { here = o.inner })) (along_in (record h { here = o.inner }))
+        (expression_of o.body.now)
     >>= k (left o.back (record h { here = o.inner })) made
 
 -- the parameters that are left
@@ -171,9 +181,11 @@ renewing l back depth k made h = renewed (meaning depth) (arguments l.steps.now)
 -- a `for` with start, test and step
 abbrev pub loop_of : Loop → ℕ → Arguments → Held → List Datum → Action (List Datum)
 loop_of l depth starts h so_far =
-    step l.at >>= λ _. judge_named l.at (codes "for") starts >>= λ _. judge_named l.at (codes "for") (arguments l.steps.now)
+    step l.at >>= λ _. judge_named l.at (codes "for") starts
+        >>= λ _. judge_named l.at (codes "for") (arguments l.steps.now)
     >>= λ _. bound_in_order (meaning depth) (env_in h) (along_in h) starts empty
-    >>= λ b. loop_turns (meaning depth) l.turns l.at (expression_of l.test.now) (arguments l.steps.now) (element_of l.body.now)
+    >>= λ b. loop_turns (meaning depth) l.turns l.at (expression_of l.test.now) (arguments l.steps.now)
+        (element_of l.body.now)
     (env_in h) (along_in h) b so_far
 
 -- what a variable still runs over
@@ -184,12 +196,14 @@ course (Numbers next step end) = numbers_left next step end
 -- the turns of a variable over some values
 abbrev pub turns_of : Variable → Held → List Datum → List Datum → Action (List Datum)
 turns_of v h all made =
-    turns (meaning v.depth) v.at v.name.now (for_variables (meaning v.depth) v.at (arguments v.more.now) (element_of v.body.now))
+    turns (meaning v.depth) v.at v.name.now (for_variables (meaning v.depth) v.at (arguments v.more.now)
+        (element_of v.body.now))
     (env_in h) (along_in h) all made
 
 -- ---- a frame, and then what follows it
 unfoldable pub onto : Frame → Rest → Rest
-onto (RangeEnd e depth) k h made d = range_end (meaning depth) (env_in h) (along_in h) d (expression_of e.now) >>= k h made
+onto (RangeEnd e depth) k h made d = range_end (meaning depth) (env_in h) (along_in h) d (expression_of e.now)
+    >>= k h made
 onto (Ends a) k h made d = k h made (ranged_by_one (datum_of a) d)
 onto (StepAndEnd at e end depth) k h made d =
     step_and_end (meaning depth) (env_in h) (along_in h) at d (expression_of e.now) (expression_of end.now) >>= k h made
@@ -197,17 +211,20 @@ onto (SteppedEnd at a end depth) k h made d =
     stepped_end (meaning depth) (env_in h) (along_in h) at (datum_of a) d (expression_of end.now) >>= k h made
 onto (Stepped at a s) k h made d = ranged at (datum_of a) (datum_of s) d >>= k h made
 onto (Unary at o) k h made d = make at (unary_op o d) >>= k h made
-onto (Right at o b depth) k h made d = right_side (meaning depth) (env_in h) (along_in h) at o d (expression_of b.now) >>= k h made
+onto (Right at o b depth) k h made d = right_side (meaning depth) (env_in h) (along_in h) at o d (expression_of b.now)
+    >>= k h made
 onto Truth k h made d = k h made (boolean (truth d))
 onto (Operand at o a) k h made d = operated at (op o (datum_of a) d) >>= k h made
 onto (Sides a b depth) k h made d =
     side (meaning depth) (env_in h) (along_in h) d (expression_of a.now) (expression_of b.now) >>= k h made
-onto (IndexOf i depth) k h made d = index_of (meaning depth) (env_in h) (along_in h) d (expression_of i.now) >>= k h made
+onto (IndexOf i depth) k h made d = index_of (meaning depth) (env_in h) (along_in h) d (expression_of i.now)
+    >>= k h made
 onto (Indexed a) k h made d = k h made (indexed (datum_of a) d)
 onto (IndexedName word) k h made d = k h made (indexed (variable word.now (env_in h) (along_in h)) d)
 onto (Member word) k h made d = k h made (member_of word.now d)
 onto (ArgumentsFrame p more) k h made d =
-    supplied (meaning p.depth) p.purpose (env_in h) (along_in h) (arguments more.now) (data_in p.so_far ++ d ∷ []) >>= k h made
+    supplied (meaning p.depth) p.purpose (env_in h) (along_in h) (arguments more.now) (data_in p.so_far ++ d ∷ [])
+        >>= k h made
 onto (Default name o) k h made d = filling o k made (set_in_last name.now d h)
 onto (Leave back) k h made d = k (left back h) made d
 onto (Bind name more w) k h made d = binding w (arguments more.now) k made (set_in_last name.now d h)
@@ -216,9 +233,11 @@ onto (Elements more depth) k h made d =
     elements_given (meaning depth) (env_in h) (along_in h) (elements more.now) made >>= added k h
 onto Item k h made d = added k h (made ++ d ∷ [])
 onto (Each outer) k h made d = added k h (parts_in outer ++ flat_map items made)
-onto (If e depth) k h made d = element_if (meaning depth) (env_in h) (along_in h) d (element_of e.now) made >>= added k h
+onto (If e depth) k h made d = element_if (meaning depth) (env_in h) (along_in h) d (element_of e.now) made
+    >>= added k h
 onto (Either e other depth) k h made d =
-    either_element (meaning depth) (env_in h) (along_in h) d (element_of e.now) (element_of other.now) made >>= added k h
+    either_element (meaning depth) (env_in h) (along_in h) d (element_of e.now) (element_of other.now) made
+        >>= added k h
 onto (Over v) k h made d = turns_of v h (items d) made >>= added k h
 onto (Turns v left_over) k h made d = turns_of v h (course left_over) made >>= added k h
 onto (Test l back depth) k h made d = turning l back depth k h made d
@@ -250,7 +269,8 @@ Goes whole (Err e) k h made s = e ≢ Memory → whole ≡ refuses e s
 
 -- where so much is left to do, it is what a stack and a machine then have left
 abbrev pub Leads : Outcome Whole → Result Focus EvalFault → Stack → Machine → Type 0
-Leads whole result stack m = (o : Outcome Whole) → o ≡ whole → Goes o result (rest stack) (held m) (made_in stack) (state_of m)
+Leads whole result stack m = (o : Outcome Whole) → o ≡ whole
+    → Goes o result (rest stack) (held m) (made_in stack) (state_of m)
 
 -- what follows a value
 abbrev pub followed : Action Datum → Stack → Machine → Outcome Whole
@@ -270,7 +290,8 @@ abbrev pub size : Focus → Stack → Machine → ℕ
 size f stack m = rank f + 2 * height stack + 16 * m.steps_left
 
 abbrev pub Below_by : ℕ → Result Focus EvalFault → Stack → Machine → Stack → Machine → Type 0
-Below_by n result stack m stack_new m_new = IfOk result (λ f. size f stack_new m_new ≤ 2 * height stack + 16 * m.steps_left + n)
+Below_by n result stack m stack_new m_new = IfOk result
+    (λ f. size f stack_new m_new ≤ 2 * height stack + 16 * m.steps_left + n)
 
 -- after one turn
 abbrev pub Ending : Outcome Whole → Result Next EvalFault → Rest → Held → List Datum → State → Type 0

@@ -18,4 +18,5 @@ test_by first (Some name) d found = if is_same_name (codes "test") name then Som
 abbrev pub test_from : Bool → Arguments → List Datum → Option Datum → Option Datum
 test_from first no_arguments values found = found
 test_from first (argument name e more) [] found = found
-test_from first (argument name e more) (d ∷ values) found = test_from (first_after first name) more values (test_by first name d found)
+test_from first (argument name e more) (d ∷ values) found
+    = test_from (first_after first name) more values (test_by first name d found)

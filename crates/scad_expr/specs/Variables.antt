@@ -12,7 +12,8 @@ abbrev pub or_undef : Option Datum → Datum
 or_undef (Some d) = d
 or_undef None = undef
 
--- a name that begins with `$` is looked up along the chain of calls, any other one from the innermost frame outwards; an
+-- a name that begins with `$` is looked up along the chain of calls, any other one from the innermost frame outwards;
+-- an
 -- unknown one is `undef`
 unfoldable pub variable : List ℕ → Env → Env → Datum
 variable name env along = or_undef (if is_dollar name then sought name along else sought name env)
@@ -28,7 +29,8 @@ empty = record { names = []; dollars = [] }
 
 unfoldable pub set : List ℕ → Datum → Bound → Bound
 set name d b =
-    if is_dollar name then record b { dollars = with_name name d b.dollars } else record b { names = with_name name d b.names }
+    if is_dollar name then record b { dollars = with_name name d b.dollars } else record b
+        { names = with_name name d b.names }
 
 -- names in a frame of their own, inside an environment
 abbrev pub within : Env → Names → Env
@@ -43,4 +45,5 @@ abbrev pub first_along : Env
 first_along =
     within outside
     ((codes "$fn", number (pos 0)) ∷ (codes "$fa", number (pos 12000000)) ∷ (codes "$fs", number (pos 2000000))
-    ∷ (codes "$children", number (pos 0)) ∷ (codes "$t", number (pos 0)) ∷ (codes "$preview", boolean false) ∷ [])
+    ∷ (codes "$children", number (pos 0)) ∷ (codes "$t", number (pos 0)) ∷ (codes "$preview", boolean false)
+        ∷ [])

@@ -1,4 +1,5 @@
--- Behind each side of the faces of points there is one of them, so that they are closed; and points that don't lie in one plane have a face.
+-- Behind each side of the faces of points there is one of them, so that they are closed; and points that don't lie in
+-- one plane have a face.
 use Rattle.std.proofs.Common.{◌≡◌, ◌⊎◌, inl, inr, ℕ, zero, suc, ◌+◌, ◌<◌, ◌≤◌, Bool, true, false, ◌&&◌, List, [], ◌∷◌, length, get_or, refl, sym, ap, ap₂, ◌∙◌, arith, subst, Option, Some, None, Result, Ok, Err}
 use lib.IntN.{pos}
 use Rattle.std.specs.Prelude.{int_lt, if◌then◌else◌, nat_lt}
@@ -36,7 +37,8 @@ use Rattle.scad_hull.proofs.SameLists.{in_of, differ}
 use Rattle.scad_hull.proofs.Turned.{more_at}
 
 -- a test holds for all, or there is one for which it doesn't
-search_for : {X : Type 0} (p : X → Bool) (xs : List X) → (list_all p xs ≡ true) ⊎ ((x : X) × Contains xs x × (p x ≡ false))
+search_for : {X : Type 0} (p : X → Bool) (xs : List X)
+    → (list_all p xs ≡ true) ⊎ ((x : X) × Contains xs x × (p x ≡ false))
 search_for p [] = inl refl
 search_for {X = X} p (x ∷ xs) = by_test (search_for p xs) (p x) refl
   where
@@ -48,7 +50,8 @@ search_for {X = X} p (x ∷ xs) = by_test (search_for p xs) (p x) refl
 
 module _ (ps : List Pt3) where
   -- turning past all points
-  turned_past : (a b : Pt3) (n : Normal) (i : ℕ) → i ≤ length ps → IsTurned a b ps n 0 → (m : Normal) × IsTurned a b ps m i
+  turned_past : (a b : Pt3) (n : Normal) (i : ℕ) → i ≤ length ps → IsTurned a b ps n 0
+      → (m : Normal) × IsTurned a b ps m i
   turned_past a b n zero h t = (n, t)
   turned_past a b n (suc i) h t =
       let before = turned_past a b n i (omega arith) t in
@@ -77,7 +80,8 @@ module _ (ps : List Pt3) where
 
     pub faces_close : is_closed (fans (faces_of ps)) ≡ true
     faces_close = closed ps sorted (faces_of ps) all_rings
-        (differ face_cmp faces_total (faces_of ps) (distinct_sorted face_cmp faces_total (filter_map (face_through ps) (triples ps))))
+        (differ face_cmp faces_total (faces_of ps)
+            (distinct_sorted face_cmp faces_total (filter_map (face_through ps) (triples ps))))
         faces_back
 
     -- ---- a first face
@@ -100,7 +104,8 @@ module _ (ps : List Pt3) where
         (id : Contains ps d) (hd : depth_of n a d ≡ pos 0) (off : is_none (normal_of a (beside a) d) ≡ false)
         (flat : (q : Pt3) → Contains (in_plane ps a n) q → depth_of n a q ≡ pos 0) where
       by_rest : (list_all (λ p. is_none (normal_of a d p)) (in_plane ps a n) ≡ true)
-          → (list_all (λ p. is_none (normal_of a d p)) ps ≡ true) ⊎ ((x : Pt3) × Contains ps x × (is_none (normal_of a d x) ≡ false))
+          → (list_all (λ p. is_none (normal_of a d p)) ps ≡ true)
+          ⊎ ((x : Pt3) × Contains ps x × (is_none (normal_of a d x) ≡ false))
           → (are_flat ps ≡ true) ⊎ HasPlane
       by_rest line (inl all) = inl (on_d_line ps n (some ps a n turned ia) a d hd off all)
       by_rest line (inr e) =
@@ -117,7 +122,8 @@ module _ (ps : List Pt3) where
     module _ (a : Pt3) (ia : Contains ps a) (lowest_a : (p : Pt3) → Contains ps p → IsNotLower a p) where
       flat_at : (n : Normal) (q : Pt3) → Contains (in_plane ps a n) q → depth_of n a q ≡ pos 0
       flat_at n q i =
-          zero_true (depth_of n a q) (All-contains (λ p. is_zero (depth_of n a p) ≡ true) (in_plane ps a n) q (passes n) i)
+          zero_true (depth_of n a q) (All-contains (λ p. is_zero (depth_of n a p) ≡ true) (in_plane ps a n) q
+              (passes n) i)
         where
           passes : (n : Normal) → All (λ p. is_zero (depth_of n a p) ≡ true) (in_plane ps a n)
           passes n = filter_passes (λ p. is_zero (depth_of n a p)) ps
@@ -132,7 +138,8 @@ module _ (ps : List Pt3) where
           (search_for (λ p. is_none (normal_of a d.0 p)) (in_plane ps a n))
 
       by_line : (list_all (λ p. is_none (normal_of a (beside a) p)) ps ≡ true)
-          ⊎ ((x : Pt3) × Contains ps x × (is_none (normal_of a (beside a) x) ≡ false)) → (are_flat ps ≡ true) ⊎ HasPlane
+          ⊎ ((x : Pt3) × Contains ps x × (is_none (normal_of a (beside a) x) ≡ false))
+              → (are_flat ps ≡ true) ⊎ HasPlane
       by_line (inl all) = inl (on_x_line ps a all)
       by_line (inr c) =
           let t = turned_at_least a ps (λ k d i. lowest_a (get_or ps k d) (All-contains_itself ps k d i)) c.0 c.1 (lowest_a c.0 c.1)
@@ -152,7 +159,8 @@ module _ (ps : List Pt3) where
     pub spread_of : are_flat ps ≡ false → IsSpread ps × HasPlane
     spread_of off = by_plane_there (first_of ps refl)
       where
-        by_inner : (h : HasPlane) → (b : Bool) → list_any (λ p. int_lt (pos 0) (depth_of h.1 h.0 p)) ps ≡ b → IsSpread ps × HasPlane
+        by_inner : (h : HasPlane) → (b : Bool) → list_any (λ p. int_lt (pos 0) (depth_of h.1 h.0 p)) ps ≡ b
+            → IsSpread ps × HasPlane
         by_inner h true e = (some_inner ps h.0 h.1 h.2 e, h)
         by_inner h false e = absurd (told_apart (sym (no_inner ps h.0 h.1 h.2 e) ∙ off))
 
@@ -194,7 +202,8 @@ module _ (points : List Pt3) (ts : List Triangle) where
   by_flat true g f = absurd (no_solid f)
   by_flat false g f = record { spread = g; are = sym (ap value f) }
 
-  by_count : (b : Bool) → (if b then Err (Points (length ps_of)) else Ok (told (are_flat ps_of))) ≡ Ok (Some ts) → IsHull points ts
+  by_count : (b : Bool) → (if b then Err (Points (length ps_of)) else Ok (told (are_flat ps_of))) ≡ Ok (Some ts)
+      → IsHull points ts
   by_count true f = absurd (refused (length ps_of) f)
   by_count false f = by_flat (are_flat ps_of) refl f
 

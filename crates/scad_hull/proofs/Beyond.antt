@@ -17,7 +17,8 @@ use Rattle.scad_hull.proofs.FoundPlanes.{way_square, plane_found}
 use Rattle.scad_hull.proofs.Seen.{seen}
 
 -- what two facts of a result that is there tell together
-pub both_ok : {X E : Type 0} (P Q R : X → Type 0) (r : Result X E) → ((x : X) → P x → Q x → R x) → IfOk r P → IfOk r Q → IfOk r R
+pub both_ok : {X E : Type 0} (P Q R : X → Type 0) (r : Result X E) → ((x : X) → P x → Q x → R x) → IfOk r P
+    → IfOk r Q → IfOk r R
 both_ok P Q R (Ok x) f h k = f x h k
 both_ok P Q R (Err e) f h k = tt
 
@@ -43,7 +44,8 @@ module _ (ps : List Pt3) (a b c : Pt3) (side : IsSideOf ps a b c) where
 
   -- a side has two ends
   pub apart : pos 0 <ℤ way_square b a
-  apart = by_lt_z (pos 0) (way_square b a) (λ h. h) (λ h. absurd (one_point (no_squares (a.x -ℤ b.x) (a.y -ℤ b.y) (a.z -ℤ b.z) h)))
+  apart = by_lt_z (pos 0) (way_square b a) (λ h. h)
+      (λ h. absurd (one_point (no_squares (a.x -ℤ b.x) (a.y -ℤ b.y) (a.z -ℤ b.z) h)))
     where
       one_point : (a.x -ℤ b.x ≡ pos 0) × (a.y -ℤ b.y ≡ pos 0) × (a.z -ℤ b.z ≡ pos 0) → ⊥
       one_point h =
@@ -56,16 +58,18 @@ module _ (ps : List Pt3) (a b c : Pt3) (side : IsSideOf ps a b c) where
           (nought_right (square_of n) (face_left n a b c)
           (sym (v.scaled a b c side.flat side.flat_c)
           ∙ (λ i. v.scale *ℤ (n.x *ℤ (y i *ℤ (c.z -ℤ a.z) -ℤ z i *ℤ (c.y -ℤ a.y))
-          +ℤ (n.y *ℤ (z i *ℤ (c.x -ℤ a.x) -ℤ x i *ℤ (c.z -ℤ a.z)) +ℤ n.z *ℤ (x i *ℤ (c.y -ℤ a.y) -ℤ y i *ℤ (c.x -ℤ a.x)))))
+          +ℤ (n.y *ℤ (z i *ℤ (c.x -ℤ a.x) -ℤ x i *ℤ (c.z -ℤ a.z)) +ℤ n.z *ℤ
+              (x i *ℤ (c.y -ℤ a.y) -ℤ y i *ℤ (c.x -ℤ a.x)))))
           ∙ ring (v.scale ∷ n.x ∷ n.y ∷ n.z ∷ (c.x -ℤ a.x) ∷ (c.y -ℤ a.y) ∷ (c.z -ℤ a.z) ∷ [])
           (var 0 ⊗ (var 1 ⊗ (num (pos 0) ⊗ var 6 ⊖ num (pos 0) ⊗ var 5)
-          ⊕ (var 2 ⊗ (num (pos 0) ⊗ var 4 ⊖ num (pos 0) ⊗ var 6) ⊕ var 3 ⊗ (num (pos 0) ⊗ var 5 ⊖ num (pos 0) ⊗ var 4))))
+          ⊕ (var 2 ⊗ (num (pos 0) ⊗ var 4 ⊖ num (pos 0) ⊗ var 6) ⊕ var 3
+              ⊗ (num (pos 0) ⊗ var 5 ⊖ num (pos 0) ⊗ var 4))))
           (num (pos 0)) refl)
           (λ e. nothing (square_of n) side.some e))
 
   -- the face that is found
-  pub face_beyond : (n : Normal) (f : Face) → IsTurned b a ps n (length ps) → f.normal ≡ n → f.ring.items ≡ face_in ps b n
-      → IsFaceOf ps f
+  pub face_beyond : (n : Normal) (f : Face) → IsTurned b a ps n (length ps) → f.normal ≡ n
+      → f.ring.items ≡ face_in ps b n → IsFaceOf ps f
   face_beyond n f turned e r = record {
     base = b;
     plane = subst (IsFacePlane ps b) (sym e) (plane_found ps b a n turned side.has_b side.has_a apart);

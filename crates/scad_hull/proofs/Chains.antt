@@ -15,14 +15,14 @@ pub record IsPlane {X : Type 0} (left : X → X → X → ℤ) (Before Same : X 
   pub either : (p q : X) → Before p q ⊎ (Same q p ⊎ Before q p)
   pub once : (p q : X) → Before p q → Before q p → ⊥
   pub later : (p q r : X) → Before p q → Before q r → Before p r
-  pub through : (t p q w : X) → Before t p → Before t q → Before t w → pos 0 ≤ℤ left t w q → pos 0 ≤ℤ left t p w
-      → pos 0 ≤ℤ left t p q
-  pub behind : (q t u p : X) → Before q t → Before u t → Before t p → pos 0 ≤ℤ left u t q → pos 0 <ℤ left u t p
-      → pos 0 ≤ℤ left t p q
-  pub onward : (a b c p : X) → Before a b → Before b c → Before c p → pos 0 <ℤ left a b c → pos 0 <ℤ left b c p
-      → pos 0 <ℤ left a b p
-  pub amid : (q t u p : X) → Before q t → Before t u → Before t p → pos 0 ≤ℤ left u t q → pos 0 ≤ℤ left t p q
-      → pos 0 ≤ℤ left t u p
+  pub through : (t p q w : X) → Before t p → Before t q → Before t w → pos 0 ≤ℤ left t w q
+      → pos 0 ≤ℤ left t p w → pos 0 ≤ℤ left t p q
+  pub behind : (q t u p : X) → Before q t → Before u t → Before t p → pos 0 ≤ℤ left u t q
+      → pos 0 <ℤ left u t p → pos 0 ≤ℤ left t p q
+  pub onward : (a b c p : X) → Before a b → Before b c → Before c p → pos 0 <ℤ left a b c
+      → pos 0 <ℤ left b c p → pos 0 <ℤ left a b p
+  pub amid : (q t u p : X) → Before q t → Before t u → Before t p → pos 0 ≤ℤ left u t q
+      → pos 0 ≤ℤ left t p q → pos 0 ≤ℤ left t u p
 
 -- ---- signs
 weak : (z : ℤ) → pos 0 <ℤ z → pos 0 ≤ℤ z
@@ -75,7 +75,8 @@ module _ {X : Type 0} (left : X → X → X → ℤ) (Before Same : X → X → 
     abbrev Low : List X → Type 0
     Low stack = AllByRecursion (λ s. Before s p) stack
 
-    turns_push : (b : X) (rest : List X) → Turns (b ∷ rest) → Low (b ∷ rest) → Turns (p ∷ bent left p (b ∷ rest))
+    turns_push : (b : X) (rest : List X) → Turns (b ∷ rest) → Low (b ∷ rest)
+        → Turns (p ∷ bent left p (b ∷ rest))
     turns_push b [] t low = low.0
     turns_push b (a ∷ rest) t low =
         elim (int_lt (pos 0) (left a b p)) as (λ test. int_lt (pos 0) (left a b p) ≡ test
@@ -114,8 +115,8 @@ module _ {X : Type 0} (left : X → X → X → ℤ) (Before Same : X → X → 
               (told_not (left a p b) (left a b p) (plane.turned a b p) e)))
         ] refl
 
-    kept : (b a : X) (rest : List X) → Turns (b ∷ (a ∷ rest)) → Low (b ∷ (a ∷ rest)) → pos 0 <ℤ left a b p
-        → Under p (b ∷ (a ∷ rest))
+    kept : (b a : X) (rest : List X) → Turns (b ∷ (a ∷ rest)) → Low (b ∷ (a ∷ rest))
+        → pos 0 <ℤ left a b p → Under p (b ∷ (a ∷ rest))
     kept b a [] t low h = (weak (left a b p) h, tt)
     kept b a (c ∷ rest) t low h = (
       weak (left a b p) h,
@@ -123,7 +124,8 @@ module _ {X : Type 0} (left : X → X → X → ℤ) (Before Same : X → X → 
           (plane.onward c a b p (in_order a c rest t.1.1) t.0 low.0 t.1.0 h),
     )
 
-    under_new : (b : X) (rest : List X) → Turns (b ∷ rest) → Low (b ∷ rest) → Under p (p ∷ bent left p (b ∷ rest))
+    under_new : (b : X) (rest : List X) → Turns (b ∷ rest) → Low (b ∷ rest)
+        → Under p (p ∷ bent left p (b ∷ rest))
     under_new b [] t low = (nought (left b p p) (plane.ends b p), tt)
     under_new b (a ∷ rest) t low =
         elim (int_lt (pos 0) (left a b p)) as (λ test. int_lt (pos 0) (left a b p) ≡ test

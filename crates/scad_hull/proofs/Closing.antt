@@ -69,7 +69,8 @@ at_most_one : (b : Bool) → cond {A = ℕ} b 1 0 ≤ 1
 at_most_one true = omega arith
 at_most_one false = omega arith
 
-once_path : (s : Side) (x : Pt3) (xs : List Pt3) (last : Pt3) → Differ (x ∷ xs) → occurrences s (path x xs last) ≤ 1
+once_path : (s : Side) (x : Pt3) (xs : List Pt3) (last : Pt3) → Differ (x ∷ xs)
+    → occurrences s (path x xs last) ≤ 1
 unfolding to
 once_path s x [] last d =
     let e = more s (to x last) [] in let f = at_most_one (same_side s (to x last)) in let g = no_more s in omega arith
@@ -99,7 +100,8 @@ begun (x ∷ xs) y z = (x, xs ++ (y ∷ (z ∷ [])), refl)
 
 -- three in turn in a way
 abbrev InTurn : List Pt3 → Pt3 → Pt3 → Type 0
-InTurn way a b = (c : Pt3) × (before : List Pt3) × (after : List Pt3) × (way ≡ before ++ (a ∷ (b ∷ (c ∷ after))))
+InTurn way a b = (c : Pt3) × (before : List Pt3) × (after : List Pt3)
+    × (way ≡ before ++ (a ∷ (b ∷ (c ∷ after))))
 
 in_path : (s : Side) (x : Pt3) (xs : List Pt3) (last z : Pt3) → 0 < occurrences s (path x xs last)
     → InTurn (x ∷ (xs ++ (last ∷ (z ∷ [])))) s.from s.to
@@ -118,7 +120,8 @@ in_path s x [] last z some = by_test (same_side s (to x last)) refl
 in_path s x (y ∷ ys) last z some = by_test (in_path s y ys last z) (same_side s (to x y)) refl
   where
     by_test : (0 < occurrences s (path y ys last) → InTurn (y ∷ (ys ++ (last ∷ (z ∷ [])))) s.from s.to)
-        → (b : Bool) → same_side s (to x y) ≡ b → InTurn (x ∷ (y ∷ (ys ++ (last ∷ (z ∷ []))))) s.from s.to
+        → (b : Bool) → same_side s (to x y) ≡ b
+        → InTurn (x ∷ (y ∷ (ys ++ (last ∷ (z ∷ []))))) s.from s.to
     by_test later true e =
         let is = (side_Decides s (to x y)).0 e in
         let next = begun ys last z in
@@ -139,7 +142,8 @@ in_ring s (p ∷ (q ∷ ps)) long some =
     (t.0, (t.1, t.2, t.3))
 
 -- ---- two in turn as a side
-too_short : (bs : List Pt3) (b a : Pt3) (after : List Pt3) (z : Pt3) → z ∷ [] ≡ bs ++ (b ∷ (a ∷ after)) → ⊥
+too_short : (bs : List Pt3) (b a : Pt3) (after : List Pt3) (z : Pt3) → z ∷ [] ≡ bs ++ (b ∷ (a ∷ after))
+    → ⊥
 too_short [] b a after z e = short (length after) (ap length e)
   where
     short : (n : ℕ) → 1 ≡ suc (suc n) → ⊥
@@ -206,8 +210,8 @@ at_ring s (r ∷ rs) some = elim (none_or_some (occurrences s (ring_sides r))) [
       (rest.0, inr rest.1, rest.2))
 ]
 
-some_all : (s : Side) (rings : List (List Pt3)) (ring : List Pt3) → In ring rings → 0 < occurrences s (ring_sides ring)
-    → 0 < occurrences s (all_sides rings)
+some_all : (s : Side) (rings : List (List Pt3)) (ring : List Pt3) → In ring rings
+    → 0 < occurrences s (ring_sides ring) → 0 < occurrences s (all_sides rings)
 some_all s [] ring i some = absurd i
 some_all s (r ∷ rs) ring (inl e) some =
     let f = joined s (ring_sides r) (all_sides rs) in
@@ -242,7 +246,8 @@ module _ (ps : List Pt3) (sorted : IsStrictlySortedBy space_cmp ps) where
         ]
       ]
     where
-      apart : 0 < occurrences s (ring_sides r) → (ring : List Pt3) × In ring rs × (0 < occurrences s (ring_sides ring)) → ⊥
+      apart : 0 < occurrences s (ring_sides r)
+          → (ring : List Pt3) × In ring rs × (0 < occurrences s (ring_sides ring)) → ⊥
       apart here (q, i, there) =
           let is = of_in (IsRing ps) rs q are.1 i in
           let one = in_ring s r (ring_facts ps sorted r are.0).0 here in
@@ -255,7 +260,8 @@ module _ (ps : List Pt3) (sorted : IsStrictlySortedBy space_cmp ps) where
         let (r, i, here) = at_ring s rings some in
         let (c, on) = in_ring s r (ring_facts ps sorted r (of_in (IsRing ps) rings r are i)).0 here in
         let (q, j, back) = backs r i s.from s.to c on in
-        some_all (reversed s) rings q j (there_ring q s.to s.from (ring_facts ps sorted q (of_in (IsRing ps) rings q are j)).0 back)
+        some_all (reversed s) rings q j (there_ring q s.to s.from
+            (ring_facts ps sorted q (of_in (IsRing ps) rings q are j)).0 back)
 
     as_often : (s : Side) → occurrences s (all_sides rings) ≡ occurrences (reversed s) (all_sides rings)
     as_often s =
@@ -280,11 +286,13 @@ module _ (ps : List Pt3) (sorted : IsStrictlySortedBy space_cmp ps) where
     pub closed : is_closed (fans rings) ≡ true
     closed =
         is_closed-IsClosed (fans rings) (record {
-          each = λ s. same (flow (turn_of s) (turn_of-reversed s) (sides (fans rings))) (flow (turn_of s) (turn_of-reversed s) (all_sides rings))
+          each = λ s. same (flow (turn_of s) (turn_of-reversed s) (sides (fans rings)))
+              (flow (turn_of s) (turn_of-reversed s) (all_sides rings))
               (occurrences s (sides (fans rings))) (occurrences (reversed s) (sides (fans rings)))
               (occurrences s (all_sides rings)) (occurrences (reversed s) (all_sides rings))
               (fans_flow s rings) (turn_of-flow s (sides (fans rings))) (turn_of-flow s (all_sides rings)) (as_often s);
         })
       where
-        same : (x y : ℤ) (m n k l : ℕ) → x ≡ y → x +ℤ pos n ≡ pos m → y +ℤ pos l ≡ pos k → k ≡ l → m ≡ n
+        same : (x y : ℤ) (m n k l : ℕ) → x ≡ y → x +ℤ pos n ≡ pos m → y +ℤ pos l ≡ pos k → k ≡ l
+            → m ≡ n
         same x y m n k l e f g h = omega (arith, ints)

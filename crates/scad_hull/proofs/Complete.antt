@@ -1,4 +1,5 @@
--- No face is missing among faces that are closed: from a point just outside of it, all of them would be seen from inside.
+-- No face is missing among faces that are closed: from a point just outside of it, all of them would be seen from
+-- inside.
 use Rattle.std.proofs.Common.{◌≡◌, ◌⊎◌, inl, inr, ℕ, suc, ◌≤◌, true, List, [], ◌∷◌, ◌++◌, length, refl, sym, ap, ap₂, ◌∙◌, arith, subst}
 use lib.IntN.{ℤ, pos, ◌+ℤ◌, ◌-ℤ◌, ◌*ℤ◌}
 use lib.Signed.{◌<ℤ◌, ◌≤ℤ◌}
@@ -50,11 +51,14 @@ no_times k z e = ap (λ (s : ℤ). k *ℤ s) e ∙ ring (k ∷ []) (var 0 ⊗ nu
 
 module _ (ps : List Pt3) where
   -- points in one plane
-  pub all_flat : (n : Normal) (a : Pt3) → pos 0 <ℤ square_of n → ((p : Pt3) → Contains ps p → depth_of n a p ≡ pos 0)
-      → (p q r s : Pt3) → Contains ps p → Contains ps q → Contains ps r → Contains ps s → inner p q r s ≡ pos 0
+  pub all_flat : (n : Normal) (a : Pt3) → pos 0 <ℤ square_of n
+      → ((p : Pt3) → Contains ps p → depth_of n a p ≡ pos 0)
+      → (p q r s : Pt3) → Contains ps p → Contains ps q → Contains ps r → Contains ps s
+      → inner p q r s ≡ pos 0
   all_flat n a some flat p q r s ip iq ir is =
       nought_right (square_of n) (inner p q r s)
-      (parallel n p q r (from q iq) (from r ir) s ∙ no_times (dot_of n (normal_of p q r)) (depth_of n p s) (from s is))
+      (parallel n p q r (from q iq) (from r ir) s
+          ∙ no_times (dot_of n (normal_of p q r)) (depth_of n p s) (from s is))
       (not_none (square_of n) some)
     where
       less : (u v w : ℤ) → u ≡ pos 0 → v ≡ pos 0 → w ≡ v -ℤ u → w ≡ pos 0
@@ -110,13 +114,16 @@ module _ (ps : List Pt3) where
       on_plane : (p : Pt3) → Contains ps p → pos 0 ≤ℤ depth_of f R.base p
       on_plane p i = All-contains (λ q. pos 0 ≤ℤ depth_of f R.base q) ps p R.plane.inward i
 
-      first_of : (x y z : ℤ) → pos 0 ≤ℤ x → pos 0 ≤ℤ y → pos 0 ≤ℤ z → (x +ℤ (y +ℤ z)) ≤ℤ pos 0 → x ≡ pos 0
+      first_of : (x y z : ℤ) → pos 0 ≤ℤ x → pos 0 ≤ℤ y → pos 0 ≤ℤ z
+          → (x +ℤ (y +ℤ z)) ≤ℤ pos 0 → x ≡ pos 0
       first_of x y z hx hy hz h = omega (arith, ints)
 
-      second_of : (x y z : ℤ) → pos 0 ≤ℤ x → pos 0 ≤ℤ y → pos 0 ≤ℤ z → (x +ℤ (y +ℤ z)) ≤ℤ pos 0 → y ≡ pos 0
+      second_of : (x y z : ℤ) → pos 0 ≤ℤ x → pos 0 ≤ℤ y → pos 0 ≤ℤ z
+          → (x +ℤ (y +ℤ z)) ≤ℤ pos 0 → y ≡ pos 0
       second_of x y z hx hy hz h = omega (arith, ints)
 
-      third_of : (x y z : ℤ) → pos 0 ≤ℤ x → pos 0 ≤ℤ y → pos 0 ≤ℤ z → (x +ℤ (y +ℤ z)) ≤ℤ pos 0 → z ≡ pos 0
+      third_of : (x y z : ℤ) → pos 0 ≤ℤ x → pos 0 ≤ℤ y → pos 0 ≤ℤ z
+          → (x +ℤ (y +ℤ z)) ≤ℤ pos 0 → z ≡ pos 0
       third_of x y z hx hy hz h = omega (arith, ints)
 
       module _ (e1 : depth_of f R.base g1 ≡ pos 0) (e2 : depth_of f R.base g2 ≡ pos 0) (e3 : depth_of f R.base g3 ≡ pos 0) where
@@ -132,7 +139,8 @@ module _ (ps : List Pt3) where
         -- the planes can't lie back to back, since then all points lie in them
         turned_off : dot_of f m ≤ℤ pos 0 → ⊥
         turned_off low =
-            spread.off (all_flat n g1 G.plane.some (λ p i. none p i) spread.first spread.second spread.third spread.fourth
+            spread.off (all_flat n g1 G.plane.some (λ p i. none p i) spread.first spread.second spread.third
+                spread.fourth
             spread.has_first spread.has_second spread.has_third spread.has_fourth)
           where
             gone : (z : ℤ) → pos 0 ≤ℤ z → pos 0 ≤ℤ (pos 0 -ℤ z) → z ≡ pos 0
@@ -155,12 +163,14 @@ module _ (ps : List Pt3) where
                 let k = up_on (square_of f) (pos 0 -ℤ dot_of f m) (pos 0 -ℤ d) (depth_of f g1 p) R.plane.some (rest (dot_of f m) low)
                 (opposite (square_of f) d (dot_of f m) (depth_of f g1 p) (parallel f g1 g2 g3 back_2 back_3 p)) (over p i) in
                 nought_right (dot_of n m) (depth_of n g1 p)
-                (sym (parallel n g1 g2 g3 flat_2 flat_3 p) ∙ no_times (square_of n) d (gone d h k)) (not_none (dot_of n m) G.plane.round)
+                (sym (parallel n g1 g2 g3 flat_2 flat_3 p) ∙ no_times (square_of n) d (gone d h k))
+                    (not_none (dot_of n m) G.plane.round)
 
         it_is : g ≡ r
         it_is = by_lt_z (pos 0) (dot_of f m)
             (λ h. G.is
-            ∙ one_face ps G.base n G.plane R.base f R.plane g1 g2 g3 G.plane.has_first G.plane.has_second G.plane.has_third
+            ∙ one_face ps G.base n G.plane R.base f R.plane g1 g2 g3 G.plane.has_first G.plane.has_second
+            G.plane.has_third
             G.plane.flat_first G.plane.flat_second G.plane.flat_third G.plane.round e1 e2 e3 h
             ∙ sym R.is)
             (λ h. absurd (turned_off h))
@@ -191,14 +201,16 @@ module _ (ps : List Pt3) where
       flat_from p q hp hq = sym (as_from R.normal R.base p q hp.1) ∙ hq.1
 
       sums_alike : (a b c : Pt3) → IsCorner a → IsCorner b → IsCorner c
-          → square_of R.normal *ℤ sum_at (normal_of a b c) a ≡ dot_of R.normal (normal_of a b c) *ℤ sum_at R.normal R.base
+          → square_of R.normal *ℤ sum_at (normal_of a b c) a
+          ≡ dot_of R.normal (normal_of a b c) *ℤ sum_at R.normal R.base
       sums_alike a b c ha hb hc =
           let k = R.normal in
           let w = normal_of a b c in
           let N = square_of k in
           let d = dot_of k w in
           let e = λ (p : Pt3). parallel k a b c (flat_from a b ha hb) (flat_from a c ha hc) p ∙ ap (λ (z : ℤ). d *ℤ z) (sym (as_from k R.base a p ha.1)) in
-          ring (N ∷ depth_of w a g1 ∷ depth_of w a g2 ∷ depth_of w a g3 ∷ []) (var 0 ⊗ (var 1 ⊕ (var 2 ⊕ var 3)))
+          ring (N ∷ depth_of w a g1 ∷ depth_of w a g2 ∷ depth_of w a g3 ∷ [])
+              (var 0 ⊗ (var 1 ⊕ (var 2 ⊕ var 3)))
           (var 0 ⊗ var 1 ⊕ (var 0 ⊗ var 2 ⊕ var 0 ⊗ var 3)) refl
           ∙ ap₂ (λ (x y : ℤ). x +ℤ y) (e g1) (ap₂ (λ (x y : ℤ). x +ℤ y) (e g2) (e g3))
           ∙ ring (d ∷ depth_of k R.base g1 ∷ depth_of k R.base g2 ∷ depth_of k R.base g3 ∷ [])
@@ -241,15 +253,18 @@ module _ (ps : List Pt3) where
       all_seen : AllByRecursion IsSeen (fan r)
       all_seen = seen_ring r (corners_of ps sorted r R) (ring_facts ps sorted r R).1
 
-    joined : {X : Type 0} (P : X → Type 0) (xs ys : List X) → AllByRecursion P xs → AllByRecursion P ys → AllByRecursion P (xs ++ ys)
+    joined : {X : Type 0} (P : X → Type 0) (xs ys : List X) → AllByRecursion P xs → AllByRecursion P ys
+        → AllByRecursion P (xs ++ ys)
     joined P [] ys h k = k
     joined P (x ∷ xs) ys h k = (h.0, joined P xs ys h.1 k)
 
-    there_or_seen : (rings : List (List Pt3)) → AllByRecursion (IsRing ps) rings → In g rings ⊎ AllByRecursion IsSeen (fans rings)
+    there_or_seen : (rings : List (List Pt3)) → AllByRecursion (IsRing ps) rings
+        → In g rings ⊎ AllByRecursion IsSeen (fans rings)
     there_or_seen [] are = inr tt
     there_or_seen (r ∷ rs) are = by_first (same_or_far r are.0) (there_or_seen rs are.1)
       where
-        by_first : (g ≡ r) ⊎ (pos 0 <ℤ sum_at are.0.normal are.0.base) → In g rs ⊎ AllByRecursion IsSeen (fans rs)
+        by_first : (g ≡ r) ⊎ (pos 0 <ℤ sum_at are.0.normal are.0.base)
+            → In g rs ⊎ AllByRecursion IsSeen (fans rs)
             → In g (r ∷ rs) ⊎ AllByRecursion IsSeen (fans (r ∷ rs))
         by_first (inl e) rest = inl (inl e)
         by_first (inr far) (inl i) = inl (inr i)
@@ -266,9 +281,11 @@ module _ (ps : List Pt3) where
     IsNear K t = (k : ℤ) → K ≤ℤ k → pos 0 <ℤ sum_of t → pos 0 <ℤ (k *ℤ sum_of t -ℤ aside t)
 
     step : (w K : ℤ) → (L : ℤ) × (K ≤ℤ L) × (w <ℤ L)
-    step w K = by_lt_z w K (λ h. (K, omega (arith, ints), h)) (λ h. (w +ℤ pos 1, omega (arith, ints), omega (arith, ints)))
+    step w K = by_lt_z w K (λ h. (K, omega (arith, ints), h))
+        (λ h. (w +ℤ pos 1, omega (arith, ints), omega (arith, ints)))
 
-    near_by : (s w L k : ℤ) → pos 0 <ℤ L → w <ℤ L → L ≤ℤ k → pos 0 <ℤ s → pos 0 <ℤ (k *ℤ s -ℤ w)
+    near_by : (s w L k : ℤ) → pos 0 <ℤ L → w <ℤ L → L ≤ℤ k → pos 0 <ℤ s
+        → pos 0 <ℤ (k *ℤ s -ℤ w)
     near_by s w L k hl hw hk hs =
         last (k *ℤ s) ((s -ℤ pos 1) *ℤ k) k w L
         (ring (s ∷ k ∷ []) ((var 0 ⊖ num (pos 1)) ⊗ var 1) (var 1 ⊗ var 0 ⊖ var 1) refl)
@@ -280,7 +297,8 @@ module _ (ps : List Pt3) where
         up : (L k : ℤ) → pos 0 <ℤ L → L ≤ℤ k → pos 0 ≤ℤ k
         up L k h l = omega (arith, ints)
 
-        last : (x y k w L : ℤ) → y ≡ x -ℤ k → pos 0 ≤ℤ y → w <ℤ L → L ≤ℤ k → pos 0 <ℤ (x -ℤ w)
+        last : (x y k w L : ℤ) → y ≡ x -ℤ k → pos 0 ≤ℤ y → w <ℤ L → L ≤ℤ k
+            → pos 0 <ℤ (x -ℤ w)
         last x y k w L e h hw hk = omega (arith, ints)
 
     bound : (ts : List Triangle) → (K : ℤ) × (pos 0 <ℤ K) × AllByRecursion (IsNear K) ts
@@ -322,10 +340,12 @@ module _ (ps : List Pt3) where
       further u v w s a b =
           ring (K ∷ u ∷ v ∷ w ∷ s ∷ a ∷ b ∷ [])
           (var 0 ⊗ ((var 6 ⊖ var 1) ⊕ ((var 6 ⊖ var 2) ⊕ (var 6 ⊖ var 3))) ⊕ var 4)
-          ((var 0 ⊗ ((var 5 ⊖ var 1) ⊕ ((var 5 ⊖ var 2) ⊕ (var 5 ⊖ var 3))) ⊕ var 4) ⊕ (num (pos 3) ⊗ var 0) ⊗ (var 6 ⊖ var 5)) refl
+          ((var 0 ⊗ ((var 5 ⊖ var 1) ⊕ ((var 5 ⊖ var 2) ⊕ (var 5 ⊖ var 3))) ⊕ var 4)
+              ⊕ (num (pos 3) ⊗ var 0) ⊗ (var 6 ⊖ var 5)) refl
 
       abbrev V : ℤ → ℤ → ℤ → ℤ → ℤ → ℤ → ℤ → ℤ → ℤ → ℤ
-      V xa ya za xb yb zb xc yc zc = za *ℤ (yb *ℤ xc -ℤ xb *ℤ yc) +ℤ (zb *ℤ (yc *ℤ xa -ℤ xc *ℤ ya) +ℤ zc *ℤ (ya *ℤ xb -ℤ xa *ℤ yb))
+      V xa ya za xb yb zb xc yc zc = za *ℤ (yb *ℤ xc -ℤ xb *ℤ yc) +ℤ
+          (zb *ℤ (yc *ℤ xa -ℤ xc *ℤ ya) +ℤ zc *ℤ (ya *ℤ xb -ℤ xa *ℤ yb))
 
       -- six times the volume that a triangle makes with it
       round_is : (a b c : Pt3) → volume Y X Z a b c
@@ -338,13 +358,16 @@ module _ (ps : List Pt3) where
           let my = var 6 ⊗ var 7 ⊖ var 4 ⊗ var 9 in
           let mz = var 4 ⊗ var 8 ⊖ var 5 ⊗ var 7 in
           (λ i. V (X a) (Y a) (Z a) (further g1.x g2.x g3.x n.x a.x b.x i) (further g1.y g2.y g3.y n.y a.y b.y i)
-          (further g1.z g2.z g3.z n.z a.z b.z i) (further g1.x g2.x g3.x n.x a.x c.x i) (further g1.y g2.y g3.y n.y a.y c.y i)
+          (further g1.z g2.z g3.z n.z a.z b.z i) (further g1.x g2.x g3.x n.x a.x c.x i)
+              (further g1.y g2.y g3.y n.y a.y c.y i)
           (further g1.z g2.z g3.z n.z a.z c.z i))
-          ∙ ring (X a ∷ Y a ∷ Z a ∷ K ∷ (b.x -ℤ a.x) ∷ (b.y -ℤ a.y) ∷ (b.z -ℤ a.z) ∷ (c.x -ℤ a.x) ∷ (c.y -ℤ a.y) ∷ (c.z -ℤ a.z) ∷ [])
+          ∙ ring (X a ∷ Y a ∷ Z a ∷ K ∷ (b.x -ℤ a.x) ∷ (b.y -ℤ a.y) ∷ (b.z -ℤ a.z)
+          ∷ (c.x -ℤ a.x) ∷ (c.y -ℤ a.y) ∷ (c.z -ℤ a.z) ∷ [])
           (var 2 ⊗ (B (var 1) (var 5) ⊗ B (var 0) (var 7) ⊖ B (var 0) (var 4) ⊗ B (var 1) (var 8))
           ⊕ (B (var 2) (var 6) ⊗ (B (var 1) (var 8) ⊗ var 0 ⊖ B (var 0) (var 7) ⊗ var 1)
           ⊕ B (var 2) (var 9) ⊗ (var 1 ⊗ B (var 0) (var 4) ⊖ var 0 ⊗ B (var 1) (var 5))))
-          ((num (pos 9) ⊗ (var 3 ⊗ var 3)) ⊗ (num (pos 0) ⊖ (mx ⊗ var 0 ⊕ (my ⊗ var 1 ⊕ mz ⊗ var 2)))) refl
+          ((num (pos 9) ⊗ (var 3 ⊗ var 3)) ⊗ (num (pos 0) ⊖ (mx ⊗ var 0 ⊕ (my ⊗ var 1 ⊕ mz ⊗ var 2))))
+              refl
           ∙ ap (λ (z : ℤ). (pos 9 *ℤ (K *ℤ K)) *ℤ z) (from_middle k.x k.y k.z a)
         where
           from_middle : (kx ky kz : ℤ) (a : Pt3) → pos 0 -ℤ (kx *ℤ X a +ℤ (ky *ℤ Y a +ℤ kz *ℤ Z a))
@@ -355,22 +378,26 @@ module _ (ps : List Pt3) where
           from_middle kx ky kz a =
               let D = λ (u v w : Term). var 0 ⊗ (u ⊖ var 4) ⊕ (var 1 ⊗ (v ⊖ var 5) ⊕ var 2 ⊗ (w ⊖ var 6)) in
               let S = λ (p u v w s : Term). var 3 ⊗ ((p ⊖ u) ⊕ ((p ⊖ v) ⊕ (p ⊖ w))) ⊕ s in
-              ring (kx ∷ ky ∷ kz ∷ K ∷ a.x ∷ a.y ∷ a.z ∷ g1.x ∷ g1.y ∷ g1.z ∷ g2.x ∷ g2.y ∷ g2.z ∷ g3.x ∷ g3.y ∷ g3.z ∷ n.x ∷ n.y ∷ n.z ∷ [])
+              ring (kx ∷ ky ∷ kz ∷ K ∷ a.x ∷ a.y ∷ a.z ∷ g1.x ∷ g1.y ∷ g1.z ∷ g2.x ∷ g2.y ∷ g2.z
+                  ∷ g3.x ∷ g3.y ∷ g3.z ∷ n.x ∷ n.y ∷ n.z ∷ [])
               (num (pos 0) ⊖ (var 0 ⊗ S (var 4) (var 7) (var 10) (var 13) (var 16)
-              ⊕ (var 1 ⊗ S (var 5) (var 8) (var 11) (var 14) (var 17) ⊕ var 2 ⊗ S (var 6) (var 9) (var 12) (var 15) (var 18))))
+              ⊕ (var 1 ⊗ S (var 5) (var 8) (var 11) (var 14) (var 17) ⊕ var 2
+                  ⊗ S (var 6) (var 9) (var 12) (var 15) (var 18))))
               (var 3 ⊗ (D (var 7) (var 8) (var 9) ⊕ (D (var 10) (var 11) (var 12) ⊕ D (var 13) (var 14) (var 15)))
               ⊖ (var 0 ⊗ var 16 ⊕ (var 1 ⊗ var 17 ⊕ var 2 ⊗ var 18))) refl
 
       -- all points lie ahead
       ahead : (p : Pt3) → Contains ps p → pos 0 <ℤ (n.y *ℤ Y p +ℤ (n.x *ℤ X p +ℤ n.z *ℤ Z p))
       ahead p i =
-          on (n.y *ℤ Y p +ℤ (n.x *ℤ X p +ℤ n.z *ℤ Z p)) (K *ℤ (depth_of n g1 p +ℤ (depth_of n g2 p +ℤ depth_of n g3 p))) (square_of n)
+          on (n.y *ℤ Y p +ℤ (n.x *ℤ X p +ℤ n.z *ℤ Z p))
+              (K *ℤ (depth_of n g1 p +ℤ (depth_of n g2 p +ℤ depth_of n g3 p))) (square_of n)
           as_depths
           (at_least_mul K (depth_of n g1 p +ℤ (depth_of n g2 p +ℤ depth_of n g3 p)) (weak K some_k)
           (sum (depth_of n g1 p) (depth_of n g2 p) (depth_of n g3 p) (inside_1 p i) (inside_2 p i) (inside_3 p i)))
           G.plane.some
         where
-          sum : (x y z : ℤ) → pos 0 ≤ℤ x → pos 0 ≤ℤ y → pos 0 ≤ℤ z → pos 0 ≤ℤ (x +ℤ (y +ℤ z))
+          sum : (x y z : ℤ) → pos 0 ≤ℤ x → pos 0 ≤ℤ y → pos 0 ≤ℤ z
+              → pos 0 ≤ℤ (x +ℤ (y +ℤ z))
           sum x y z hx hy hz = omega (arith, ints)
 
           on : (x y z : ℤ) → x ≡ y +ℤ z → pos 0 ≤ℤ y → pos 0 <ℤ z → pos 0 <ℤ x
@@ -381,9 +408,11 @@ module _ (ps : List Pt3) where
           as_depths =
               let D = λ (u v w : Term). var 0 ⊗ (var 4 ⊖ u) ⊕ (var 1 ⊗ (var 5 ⊖ v) ⊕ var 2 ⊗ (var 6 ⊖ w)) in
               let S = λ (q u v w s : Term). var 3 ⊗ ((q ⊖ u) ⊕ ((q ⊖ v) ⊕ (q ⊖ w))) ⊕ s in
-              ring (n.x ∷ n.y ∷ n.z ∷ K ∷ p.x ∷ p.y ∷ p.z ∷ g1.x ∷ g1.y ∷ g1.z ∷ g2.x ∷ g2.y ∷ g2.z ∷ g3.x ∷ g3.y ∷ g3.z ∷ [])
+              ring (n.x ∷ n.y ∷ n.z ∷ K ∷ p.x ∷ p.y ∷ p.z ∷ g1.x ∷ g1.y ∷ g1.z ∷ g2.x ∷ g2.y
+                  ∷ g2.z ∷ g3.x ∷ g3.y ∷ g3.z ∷ [])
               (var 1 ⊗ S (var 5) (var 8) (var 11) (var 14) (var 1)
-              ⊕ (var 0 ⊗ S (var 4) (var 7) (var 10) (var 13) (var 0) ⊕ var 2 ⊗ S (var 6) (var 9) (var 12) (var 15) (var 2)))
+              ⊕ (var 0 ⊗ S (var 4) (var 7) (var 10) (var 13) (var 0) ⊕ var 2
+                  ⊗ S (var 6) (var 9) (var 12) (var 15) (var 2)))
               (var 3 ⊗ (D (var 7) (var 8) (var 9) ⊕ (D (var 10) (var 11) (var 12) ⊕ D (var 13) (var 14) (var 15)))
               ⊕ (var 0 ⊗ var 0 ⊕ (var 1 ⊗ var 1 ⊕ var 2 ⊗ var 2))) refl
 
@@ -408,11 +437,13 @@ module _ (ps : List Pt3) where
               +ℤ n.z *ℤ (h.0 i *ℤ (g3.y -ℤ g1.y) -ℤ h.1 i *ℤ (g3.x -ℤ g1.x))))
               ∙ ring (n.x ∷ n.y ∷ n.z ∷ (g3.x -ℤ g1.x) ∷ (g3.y -ℤ g1.y) ∷ (g3.z -ℤ g1.z) ∷ [])
               (var 0 ⊗ (num (pos 0) ⊗ var 5 ⊖ num (pos 0) ⊗ var 4)
-              ⊕ (var 1 ⊗ (num (pos 0) ⊗ var 3 ⊖ num (pos 0) ⊗ var 5) ⊕ var 2 ⊗ (num (pos 0) ⊗ var 4 ⊖ num (pos 0) ⊗ var 3)))
+              ⊕ (var 1 ⊗ (num (pos 0) ⊗ var 3 ⊖ num (pos 0) ⊗ var 5) ⊕ var 2
+                  ⊗ (num (pos 0) ⊗ var 4 ⊖ num (pos 0) ⊗ var 3)))
               (num (pos 0)) refl)
 
       across : pos 0 <ℤ ((n.x *ℤ vz -ℤ n.z *ℤ vx) *ℤ (n.x *ℤ vz -ℤ n.z *ℤ vx)
-          +ℤ ((n.z *ℤ vy -ℤ n.y *ℤ vz) *ℤ (n.z *ℤ vy -ℤ n.y *ℤ vz) +ℤ (n.y *ℤ vx -ℤ n.x *ℤ vy) *ℤ (n.y *ℤ vx -ℤ n.x *ℤ vy)))
+          +ℤ ((n.z *ℤ vy -ℤ n.y *ℤ vz) *ℤ (n.z *ℤ vy -ℤ n.y *ℤ vz) +ℤ (n.y *ℤ vx -ℤ n.x *ℤ vy)
+              *ℤ (n.y *ℤ vx -ℤ n.x *ℤ vy)))
       across =
           let A = var 0 ⊗ var 5 ⊖ var 2 ⊗ var 3 in
           let B = var 2 ⊗ var 4 ⊖ var 1 ⊗ var 5 in
@@ -421,9 +452,11 @@ module _ (ps : List Pt3) where
           let W = var 3 ⊗ var 3 ⊕ (var 4 ⊗ var 4 ⊕ var 5 ⊗ var 5) in
           let U = var 0 ⊗ var 3 ⊕ (var 1 ⊗ var 4 ⊕ var 2 ⊗ var 5) in
           subst (λ (z : ℤ). pos 0 <ℤ z)
-          (sym (ring (n.x ∷ n.y ∷ n.z ∷ vx ∷ vy ∷ vz ∷ []) (A ⊗ A ⊕ (B ⊗ B ⊕ C ⊗ C)) (N ⊗ W ⊖ U ⊗ U) refl
+          (sym (ring (n.x ∷ n.y ∷ n.z ∷ vx ∷ vy ∷ vz ∷ []) (A ⊗ A ⊕ (B ⊗ B ⊕ C ⊗ C))
+              (N ⊗ W ⊖ U ⊗ U) refl
           ∙ ap (λ (z : ℤ). square_of n *ℤ way_square g1 g2 -ℤ z *ℤ z) flat_2
-          ∙ ring (square_of n ∷ way_square g1 g2 ∷ []) (var 0 ⊗ var 1 ⊖ num (pos 0) ⊗ num (pos 0)) (var 0 ⊗ var 1) refl))
+          ∙ ring (square_of n ∷ way_square g1 g2 ∷ []) (var 0 ⊗ var 1 ⊖ num (pos 0) ⊗ num (pos 0))
+          (var 0 ⊗ var 1) refl))
           (positive_product (square_of n) (way_square g1 g2) G.plane.some long)
 
       deep_one : (t : Triangle) → IsSeen t → IsNear K t → IsDeep Y X Z n.y n.x n.z vy vx vz t
@@ -447,7 +480,8 @@ module _ (ps : List Pt3) where
       deep_all [] h near = tt
       deep_all (t ∷ ts) h near = (deep_one t h.0 near.0, deep_all ts h.1 near.1)
 
-      none_at_all : (ts : List Triangle) → AllByRecursion IsSeen ts → AllByRecursion (IsNear K) ts → is_closed ts ≡ true → ts ≡ []
+      none_at_all : (ts : List Triangle) → AllByRecursion IsSeen ts → AllByRecursion (IsNear K) ts
+          → is_closed ts ≡ true → ts ≡ []
       none_at_all ts h near shut = surrounded Y X Z n.y n.x n.z vy vx vz across ts shut (deep_all ts h near)
 
     unseen : (ts : List Triangle) → AllByRecursion IsSeen ts → is_closed ts ≡ true → ts ≡ []
@@ -463,8 +497,8 @@ module _ (ps : List Pt3) where
         some k f = omega arith
 
     -- a face is one of those
-    pub there : (r : List Pt3) (rs : List (List Pt3)) → AllByRecursion (IsRing ps) (r ∷ rs) → Differ (r ∷ rs) → HasBacks (r ∷ rs)
-        → In g (r ∷ rs)
+    pub there : (r : List Pt3) (rs : List (List Pt3)) → AllByRecursion (IsRing ps) (r ∷ rs) → Differ (r ∷ rs)
+        → HasBacks (r ∷ rs) → In g (r ∷ rs)
     there r rs are d backs = by_case (there_or_seen (r ∷ rs) are)
       where
         by_case : In g (r ∷ rs) ⊎ AllByRecursion IsSeen (fans (r ∷ rs)) → In g (r ∷ rs)
@@ -477,10 +511,12 @@ module _ (ps : List Pt3) where
     pub ring_of : (face : List Pt3) → IsFace ps face → IsRing ps face
     ring_of face h =
         let plane = plane_of ps sorted h.base h.normal h.some h.inward face h.ring in
-        record { base = h.base; normal = h.normal; plane = plane; is = only_ring ps sorted h.base h.normal plane face h.ring }
+        record { base = h.base; normal = h.normal; plane = plane; is
+            = only_ring ps sorted h.base h.normal plane face h.ring }
 
     listed : (r : List Pt3) → IsRing ps r → In r (faces_of ps)
-    listed r R = in_of (faces_of ps) r (subst (Contains (faces_of ps)) (sym R.is) (ring_listed ps R.base R.normal R.plane))
+    listed r R = in_of (faces_of ps) r (subst (Contains (faces_of ps)) (sym R.is)
+        (ring_listed ps R.base R.normal R.plane))
 
     module _ (spread : IsSpread ps) (rings : List (List Pt3)) (are : AllByRecursion (IsRing ps) rings) (backs : HasBacks rings)
         (first : List Pt3) (has_first : In first rings) where
@@ -502,8 +538,8 @@ module _ (ps : List Pt3) where
       pub found_closed : is_closed (fans D) ≡ true
       found_closed = closed ps sorted D all_are differing backs_too
 
-      in_list : (ds : List (List Pt3)) → In first ds → AllByRecursion (IsRing ps) ds → Differ ds → HasBacks ds → (g : List Pt3) → IsRing ps g
-          → In g ds
+      in_list : (ds : List (List Pt3)) → In first ds → AllByRecursion (IsRing ps) ds → Differ ds → HasBacks ds
+          → (g : List Pt3) → IsRing ps g → In g ds
       in_list [] i h d b g G = absurd i
       in_list (r ∷ rs) i h d b g G = there sorted spread g G r rs h d b
 
@@ -512,7 +548,8 @@ module _ (ps : List Pt3) where
       found_all =
           same_lists face_cmp faces_total D (faces_of ps) (distinct_sorted face_cmp faces_total rings) (faces_sorted)
           (λ g i. listed g (of_in (IsRing ps) D g all_are i))
-          (λ g i. in_list D (to_distinct face_cmp faces_total faces_exact rings first has_first) all_are differing backs_too g
+          (λ g i. in_list D (to_distinct face_cmp faces_total faces_exact rings first has_first) all_are differing
+              backs_too g
           (ring_of g (of_in (IsFace ps) (faces_of ps) g (faces_are ps sorted) i)))
         where
           faces_sorted : IsStrictlySortedBy face_cmp (faces_of ps)

@@ -11,10 +11,12 @@ use Rattle.scad_hull.specs.Distinct.{distinct, with_all}
 
 module _ {X : Type 0} (c : X → X → Ordering) where
   -- ---- what holds of all
-  put_keeps : (P : X → Type 0) (ks : List X) (k : X) → AllByRecursion P ks → P k → AllByRecursion P (insert_key c ks k)
+  put_keeps : (P : X → Type 0) (ks : List X) (k : X) → AllByRecursion P ks → P k
+      → AllByRecursion P (insert_key c ks k)
   put_keeps P [] k h p = (p, tt)
   put_keeps P (x ∷ xs) k h p =
-      elim (c k x) as (λ o. AllByRecursion P (match_ordering o (k ∷ (x ∷ xs)) (x ∷ xs) (x ∷ insert_key c xs k))) [
+      elim (c k x) as (λ o. AllByRecursion P
+          (match_ordering o (k ∷ (x ∷ xs)) (x ∷ xs) (x ∷ insert_key c xs k))) [
         | Less ↦ (p, h)
         | Equal ↦ h
         | Greater ↦ (h.0, put_keeps P xs k h.1 p)
@@ -29,11 +31,13 @@ module _ {X : Type 0} (c : X → X → Ordering) where
   distinct_keeps P ps h = all_keeps P [] ps tt h
 
   module _ (exact : (x y : X) → c x y ≡ Equal → x ≡ y) where
-    put_had : (P : X → Type 0) (ks : List X) (k : X) → AllByRecursion P (insert_key c ks k) → P k × AllByRecursion P ks
+    put_had : (P : X → Type 0) (ks : List X) (k : X) → AllByRecursion P (insert_key c ks k)
+        → P k × AllByRecursion P ks
     put_had P [] k h = (h.0, tt)
     put_had P (x ∷ xs) k h =
         elim (c k x) as (λ o. c k x ≡ o → AllByRecursion P
-        (match_ordering o (k ∷ (x ∷ xs)) (x ∷ xs) (x ∷ insert_key c xs k)) → P k × AllByRecursion P (x ∷ xs)) [
+        (match_ordering o (k ∷ (x ∷ xs)) (x ∷ xs) (x ∷ insert_key c xs k))
+            → P k × AllByRecursion P (x ∷ xs)) [
           | Less ↦ (λ e g. (g.0, g.1))
           | Equal ↦ (λ e g. (subst P (sym (exact k x e)) g.0, g))
           | Greater ↦ (λ e g. let r = put_had P xs k g.1 in (r.0, (g.0, r.1)))

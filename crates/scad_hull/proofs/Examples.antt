@@ -16,7 +16,8 @@ ring-triangle : ring_hull_of (at (pos 3) (pos 7) ∷ at (pos 5) (negsuc 1) ∷ a
     ≡ Ok (Some (at (negsuc 4) (negsuc 1) ∷ at (pos 5) (negsuc 1) ∷ at (pos 3) (pos 7) ∷ []))
 ring-triangle = refl
 
-ring-line : ring_hull_of (at (pos 1) (pos 1) ∷ at (pos 3) (pos 3) ∷ at (pos 2) (pos 2) ∷ at (pos 1) (pos 1) ∷ [])
+ring-line : ring_hull_of (at (pos 1) (pos 1) ∷ at (pos 3) (pos 3) ∷ at (pos 2) (pos 2) ∷ at (pos 1) (pos 1)
+    ∷ [])
     ≡ Ok None
 ring-line = refl
 

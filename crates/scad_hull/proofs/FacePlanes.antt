@@ -32,7 +32,8 @@ use Rattle.scad_hull.proofs.Whole.{recursion_of}
 
 -- ---- the order of space
 pub space_total : IsTotalOrder space_cmp
-space_total = then_total (on_total z_of int_cmp_total) (then_total (on_total y_of int_cmp_total) (on_total x_of int_cmp_total))
+space_total = then_total (on_total z_of int_cmp_total)
+    (then_total (on_total y_of int_cmp_total) (on_total x_of int_cmp_total))
 
 pub space_exact : (p q : Pt3) → space_cmp p q ≡ Equal → p ≡ q
 space_exact p q e =
@@ -44,16 +45,18 @@ space_exact p q e =
     λ i. record { x = x i; y = y i; z = z i }
 
 -- ---- lists
-pub all_changed : {X : Type 0} {P Q : X → Type 0} → ((x : X) → P x → Q x) → (xs : List X) → AllByRecursion P xs → AllByRecursion Q xs
+pub all_changed : {X : Type 0} {P Q : X → Type 0} → ((x : X) → P x → Q x) → (xs : List X)
+    → AllByRecursion P xs → AllByRecursion Q xs
 all_changed f [] h = tt
 all_changed f (x ∷ xs) h = (f x h.0, all_changed f xs h.1)
 
-all_mapped : {X Y : Type 0} (P : Y → Type 0) (f : X → Y) (xs : List X) → AllByRecursion (λ x. P (f x)) xs → AllByRecursion P (map f xs)
+all_mapped : {X Y : Type 0} (P : Y → Type 0) (f : X → Y) (xs : List X) → AllByRecursion (λ x. P (f x)) xs
+    → AllByRecursion P (map f xs)
 all_mapped P f [] h = tt
 all_mapped P f (x ∷ xs) h = (h.0, all_mapped P f xs h.1)
 
-all_flat_mapped : {X Y : Type 0} (P : Y → Type 0) (f : X → List Y) (xs : List X) → AllByRecursion (λ x. AllByRecursion P (f x)) xs
-    → AllByRecursion P (flat_map f xs)
+all_flat_mapped : {X Y : Type 0} (P : Y → Type 0) (f : X → List Y) (xs : List X)
+    → AllByRecursion (λ x. AllByRecursion P (f x)) xs → AllByRecursion P (flat_map f xs)
 all_flat_mapped P f [] h = tt
 all_flat_mapped P f (x ∷ xs) h = all_joined P (f x) (flat_map f xs) h.0 (all_flat_mapped P f xs h.1)
 
@@ -82,13 +85,16 @@ all_triples ps =
 is_told : (z : ℤ) → z ≡ pos 0 → is_zero z ≡ true
 is_told z e = ap is_zero e
 
-first_square : (a b c : ℤ) → pos 0 ≤ℤ a → pos 0 ≤ℤ b → pos 0 ≤ℤ c → (a +ℤ (b +ℤ c)) ≤ℤ pos 0 → a ≡ pos 0
+first_square : (a b c : ℤ) → pos 0 ≤ℤ a → pos 0 ≤ℤ b → pos 0 ≤ℤ c
+    → (a +ℤ (b +ℤ c)) ≤ℤ pos 0 → a ≡ pos 0
 first_square a b c ha hb hc h = omega (arith, ints)
 
-second_square : (a b c : ℤ) → pos 0 ≤ℤ a → pos 0 ≤ℤ b → pos 0 ≤ℤ c → (a +ℤ (b +ℤ c)) ≤ℤ pos 0 → b ≡ pos 0
+second_square : (a b c : ℤ) → pos 0 ≤ℤ a → pos 0 ≤ℤ b → pos 0 ≤ℤ c
+    → (a +ℤ (b +ℤ c)) ≤ℤ pos 0 → b ≡ pos 0
 second_square a b c ha hb hc h = omega (arith, ints)
 
-third_square : (a b c : ℤ) → pos 0 ≤ℤ a → pos 0 ≤ℤ b → pos 0 ≤ℤ c → (a +ℤ (b +ℤ c)) ≤ℤ pos 0 → c ≡ pos 0
+third_square : (a b c : ℤ) → pos 0 ≤ℤ a → pos 0 ≤ℤ b → pos 0 ≤ℤ c
+    → (a +ℤ (b +ℤ c)) ≤ℤ pos 0 → c ≡ pos 0
 third_square a b c ha hb hc h = omega (arith, ints)
 
 root : (z : ℤ) → z *ℤ z ≡ pos 0 → z ≡ pos 0
@@ -105,7 +111,8 @@ root z h = by_lt_z (pos 0) z (λ k. nought_right z z h (λ f. up z k f))
     none z h k = omega (arith, ints)
 
 -- squares whose sum isn't above 0
-pub no_squares : (x y z : ℤ) → (x *ℤ x +ℤ (y *ℤ y +ℤ z *ℤ z)) ≤ℤ pos 0 → (x ≡ pos 0) × (y ≡ pos 0) × (z ≡ pos 0)
+pub no_squares : (x y z : ℤ) → (x *ℤ x +ℤ (y *ℤ y +ℤ z *ℤ z)) ≤ℤ pos 0
+    → (x ≡ pos 0) × (y ≡ pos 0) × (z ≡ pos 0)
 no_squares x y z h =
     let a = square_at_least x in
     let b = square_at_least y in
@@ -125,16 +132,19 @@ normal_some n e = by_lt_z (pos 0) (square_of n) (λ h. h) (λ h. absurd (clash (
     clash h = told_apart (sym (ap₂ (λ s t. s && t) (is_told n.x h.0)
         (ap₂ (λ s t. s && t) (is_told n.y h.1) (is_told n.z h.2))) ∙ e)
 
-pub all_inside : (n : Normal) (a : Pt3) (ps : List Pt3) → list_any (λ p. int_lt (depth_of n a p) (pos 0)) ps ≡ false
+pub all_inside : (n : Normal) (a : Pt3) (ps : List Pt3)
+    → list_any (λ p. int_lt (depth_of n a p) (pos 0)) ps ≡ false
     → AllByRecursion (λ p. pos 0 ≤ℤ depth_of n a p) ps
 all_inside n a [] e = tt
 all_inside n a (p ∷ ps) e =
-    by_tests (all_inside n a ps) (int_lt (depth_of n a p) (pos 0)) refl (list_any (λ q. int_lt (depth_of n a q) (pos 0)) ps) refl e
+    by_tests (all_inside n a ps) (int_lt (depth_of n a p) (pos 0)) refl
+        (list_any (λ q. int_lt (depth_of n a q) (pos 0)) ps) refl e
   where
     not_below : (z : ℤ) → int_lt z (pos 0) ≡ false → pos 0 ≤ℤ z
     not_below z h = omega (arith, ints)
 
-    by_tests : (list_any (λ q. int_lt (depth_of n a q) (pos 0)) ps ≡ false → AllByRecursion (λ q. pos 0 ≤ℤ depth_of n a q) ps)
+    by_tests : (list_any (λ q. int_lt (depth_of n a q) (pos 0)) ps ≡ false
+        → AllByRecursion (λ q. pos 0 ≤ℤ depth_of n a q) ps)
         → (b : Bool) → int_lt (depth_of n a p) (pos 0) ≡ b → (c : Bool)
         → list_any (λ q. int_lt (depth_of n a q) (pos 0)) ps ≡ c → (b || c) ≡ false
         → (pos 0 ≤ℤ depth_of n a p) × AllByRecursion (λ q. pos 0 ≤ℤ depth_of n a q) ps
@@ -148,14 +158,16 @@ second_in a b c =
     ring (a.x ∷ a.y ∷ a.z ∷ b.x ∷ b.y ∷ b.z ∷ c.x ∷ c.y ∷ c.z ∷ [])
     (((var 4 ⊖ var 1) ⊗ (var 8 ⊖ var 2) ⊖ (var 5 ⊖ var 2) ⊗ (var 7 ⊖ var 1)) ⊗ (var 3 ⊖ var 0)
     ⊕ (((var 5 ⊖ var 2) ⊗ (var 6 ⊖ var 0) ⊖ (var 3 ⊖ var 0) ⊗ (var 8 ⊖ var 2)) ⊗ (var 4 ⊖ var 1)
-    ⊕ ((var 3 ⊖ var 0) ⊗ (var 7 ⊖ var 1) ⊖ (var 4 ⊖ var 1) ⊗ (var 6 ⊖ var 0)) ⊗ (var 5 ⊖ var 2))) (num (pos 0)) refl
+    ⊕ ((var 3 ⊖ var 0) ⊗ (var 7 ⊖ var 1) ⊖ (var 4 ⊖ var 1) ⊗ (var 6 ⊖ var 0)) ⊗ (var 5 ⊖ var 2)))
+        (num (pos 0)) refl
 
 pub third_in : (a b c : Pt3) → depth_of (normal_of a b c) a c ≡ pos 0
 third_in a b c =
     ring (a.x ∷ a.y ∷ a.z ∷ b.x ∷ b.y ∷ b.z ∷ c.x ∷ c.y ∷ c.z ∷ [])
     (((var 4 ⊖ var 1) ⊗ (var 8 ⊖ var 2) ⊖ (var 5 ⊖ var 2) ⊗ (var 7 ⊖ var 1)) ⊗ (var 6 ⊖ var 0)
     ⊕ (((var 5 ⊖ var 2) ⊗ (var 6 ⊖ var 0) ⊖ (var 3 ⊖ var 0) ⊗ (var 8 ⊖ var 2)) ⊗ (var 7 ⊖ var 1)
-    ⊕ ((var 3 ⊖ var 0) ⊗ (var 7 ⊖ var 1) ⊖ (var 4 ⊖ var 1) ⊗ (var 6 ⊖ var 0)) ⊗ (var 8 ⊖ var 2))) (num (pos 0)) refl
+    ⊕ ((var 3 ⊖ var 0) ⊗ (var 7 ⊖ var 1) ⊖ (var 4 ⊖ var 1) ⊗ (var 6 ⊖ var 0)) ⊗ (var 8 ⊖ var 2)))
+        (num (pos 0)) refl
 
 abbrev inner_of : {X : Type 0} → X → Option X → X
 inner_of d None = d
@@ -178,10 +190,13 @@ module _ (ps : List Pt3) (sorted : IsStrictlySortedBy space_cmp ps) where
 
     pub ring_there : IsConvexRing (face_left n) Before Q (face_in ps a n)
     ring_there =
-        face_made ps sorted a n plane.some plane.first plane.second plane.third (in_q plane.first plane.has_first plane.flat_first)
-        (in_q plane.second plane.has_second plane.flat_second) (in_q plane.third plane.has_third plane.flat_third) plane.round
+        face_made ps sorted a n plane.some plane.first plane.second plane.third
+            (in_q plane.first plane.has_first plane.flat_first)
+        (in_q plane.second plane.has_second plane.flat_second) (in_q plane.third plane.has_third plane.flat_third)
+            plane.round
 
-    lower_of : (p q : Pt3) → depth_of n a p ≡ pos 0 → depth_of n a q ≡ pos 0 → Before p q → IsSpaceBefore p q
+    lower_of : (p q : Pt3) → depth_of n a p ≡ pos 0 → depth_of n a q ≡ pos 0 → Before p q
+        → IsSpaceBefore p q
     lower_of p q hp hq h = by_order (space_cmp p q) refl
       where
         back : (o : Ordering) → space_cmp p q ≡ o → space_cmp q p ≡ ordering_reverse o
@@ -195,8 +210,8 @@ module _ (ps : List Pt3) (sorted : IsStrictlySortedBy space_cmp ps) where
         by_order Greater e = absurd ((seen n plane.some).there.once p q h
             ((seen n plane.some).ordered q p (flat_between ps sorted a n plane.some q p hq hp) (back Greater e)))
 
-    first_before : (ring : List Pt3) → AllByRecursion (λ q. depth_of n a q ≡ pos 0) ring → StartsFirst (face_left n) Before ring
-        → StartsFirst (face_left n) IsSpaceBefore ring
+    first_before : (ring : List Pt3) → AllByRecursion (λ q. depth_of n a q ≡ pos 0) ring
+        → StartsFirst (face_left n) Before ring → StartsFirst (face_left n) IsSpaceBefore ring
     first_before [] flat h = h
     first_before (p ∷ ring) flat h =
         All-from_recursion (IsSpaceBefore p) ring (each ring flat.1 (recursion_of (Before p) ring h))
@@ -219,7 +234,8 @@ module _ (ps : List Pt3) (sorted : IsStrictlySortedBy space_cmp ps) where
         turns = ring_there.turns;
         starts = first_before (face_in ps a n)
             (all_changed (λ q i. All-contains (λ p. depth_of n a p ≡ pos 0) Q q
-            (All-from_recursion (λ p. depth_of n a p ≡ pos 0) Q (all_flat ps sorted a n plane.some)) i) (face_in ps a n)
+            (All-from_recursion (λ p. depth_of n a p ≡ pos 0) Q (all_flat ps sorted a n plane.some)) i)
+                (face_in ps a n)
             (recursion_of (Contains Q) (face_in ps a n) ring_there.corners)) ring_there.starts;
       };
     }
@@ -229,7 +245,8 @@ module _ (ps : List Pt3) (sorted : IsStrictlySortedBy space_cmp ps) where
     abbrev n : Normal
     n = normal_of a b c
 
-    by_tests : (s : Bool) → is_none n ≡ s → (o : Bool) → list_any (λ p. int_lt (depth_of n a p) (pos 0)) ps ≡ o
+    by_tests : (s : Bool) → is_none n ≡ s → (o : Bool)
+        → list_any (λ p. int_lt (depth_of n a p) (pos 0)) ps ≡ o
         → (if s || o then None else Some (face_in ps a n)) ≡ Some face → IsFace ps face
     by_tests true hs o ho e = absurd (refused face e)
     by_tests false hs true ho e = absurd (refused face e)

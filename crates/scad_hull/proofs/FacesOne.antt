@@ -23,11 +23,13 @@ use Rattle.scad_hull.proofs.Seen.{seen}
 use Rattle.scad_hull.proofs.Whole.{recursion_of}
 
 -- a way to whose left two points on a line lie, with the coordinates exchanged
-mirrored_ahead : (f g : Pt3 → ℤ) (m b o : Pt3) → IsBefore f g m b → IsBefore f g m o → left g f m b o ≡ pos 0
+mirrored_ahead : (f g : Pt3 → ℤ) (m b o : Pt3) → IsBefore f g m b → IsBefore f g m o
+    → left g f m b o ≡ pos 0
     → (zx : ℤ) × (zy : ℤ) × (pos 0 <ℤ far g f m zx zy b) × (pos 0 <ℤ far g f m zx zy o)
 mirrored_ahead f g m b o hb ho flat =
     let (zx, zy, kb, ko) = onward_ahead f g m b o hb ho (other_zero (left g f m b o) (left f g m b o) (exchanged f g m b o) flat) in
-    (pos 0 -ℤ zy, pos 0 -ℤ zx, subst (λ (z : ℤ). pos 0 <ℤ z) (same zx zy b) kb, subst (λ (z : ℤ). pos 0 <ℤ z) (same zx zy o) ko)
+    (pos 0 -ℤ zy, pos 0 -ℤ zx, subst (λ (z : ℤ). pos 0 <ℤ z) (same zx zy b) kb,
+        subst (λ (z : ℤ). pos 0 <ℤ z) (same zx zy o) ko)
   where
     same : (zx zy : ℤ) (p : Pt3) → far f g m zx zy p ≡ far g f m (pos 0 -ℤ zy) (pos 0 -ℤ zx) p
     same zx zy p =
@@ -49,8 +51,10 @@ module _ (ps : List Pt3) (sorted : IsStrictlySortedBy space_cmp ps) (a : Pt3) (n
   flat_at q i = All-contains (λ p. depth_of n a p ≡ pos 0) Q q
       (All-from_recursion (λ p. depth_of n a p ≡ pos 0) Q (all_flat ps sorted a n plane_is.some)) i
 
-  exact_at : (p q : Pt3) → Contains Q p → Contains Q q → Same (seen n plane_is.some).f (seen n plane_is.some).g p q → p ≡ q
-  exact_at p q i j s = (seen n plane_is.some).exact p q (flat_between ps sorted a n plane_is.some p q (flat_at p i) (flat_at q j)) s
+  exact_at : (p q : Pt3) → Contains Q p → Contains Q q
+      → Same (seen n plane_is.some).f (seen n plane_is.some).g p q → p ≡ q
+  exact_at p q i j s = (seen n plane_is.some).exact p q
+      (flat_between ps sorted a n plane_is.some p q (flat_at p i) (flat_at q j)) s
 
   abbrev Determined : (Pt3 → Pt3 → Pt3 → ℤ) → Type 0
   Determined turn = (r s : List Pt3) → IsConvexRing turn Before Q r → IsConvexRing turn Before Q s → r ≡ s
@@ -58,12 +62,15 @@ module _ (ps : List Pt3) (sorted : IsStrictlySortedBy space_cmp ps) (a : Pt3) (n
   by_order : (face_left n ≡ left (seen n plane_is.some).f (seen n plane_is.some).g)
       ⊎ (face_left n ≡ left (seen n plane_is.some).g (seen n plane_is.some).f) → Determined (face_left n)
   by_order (inl e) = subst Determined (sym e)
-      (one_ring (seen n plane_is.some).f (seen n plane_is.some).g Before (Same (seen n plane_is.some).f (seen n plane_is.some).g)
+      (one_ring (seen n plane_is.some).f (seen n plane_is.some).g Before
+          (Same (seen n plane_is.some).f (seen n plane_is.some).g)
       (plane (seen n plane_is.some).f (seen n plane_is.some).g) Q exact_at exact_at
       (onward_ahead (seen n plane_is.some).f (seen n plane_is.some).g))
   by_order (inr e) = subst Determined (sym e)
-      (one_ring (seen n plane_is.some).g (seen n plane_is.some).f Before (Same (seen n plane_is.some).f (seen n plane_is.some).g)
-      (mirrored (seen n plane_is.some).f (seen n plane_is.some).g) Q (λ p q i j s. exact_at p q i j (s.1, s.0)) exact_at
+      (one_ring (seen n plane_is.some).g (seen n plane_is.some).f Before
+          (Same (seen n plane_is.some).f (seen n plane_is.some).g)
+      (mirrored (seen n plane_is.some).f (seen n plane_is.some).g) Q (λ p q i j s. exact_at p q i j (s.1, s.0))
+          exact_at
       (mirrored_ahead (seen n plane_is.some).f (seen n plane_is.some).g))
 
   first_in : (ring : List Pt3) → AllByRecursion (Contains Q) ring → StartsFirst (face_left n) IsSpaceBefore ring
@@ -71,7 +78,8 @@ module _ (ps : List Pt3) (sorted : IsStrictlySortedBy space_cmp ps) (a : Pt3) (n
   first_in [] i h = h
   first_in (p ∷ ring) i h = All-from_recursion (Before p) ring (each ring i.1 (recursion_of (IsSpaceBefore p) ring h))
     where
-      each : (qs : List Pt3) → AllByRecursion (Contains Q) qs → AllByRecursion (IsSpaceBefore p) qs → AllByRecursion (Before p) qs
+      each : (qs : List Pt3) → AllByRecursion (Contains Q) qs → AllByRecursion (IsSpaceBefore p) qs
+          → AllByRecursion (Before p) qs
       each [] j k = tt
       each (q ∷ qs) j k = (
         (seen n plane_is.some).ordered p q
@@ -101,7 +109,8 @@ module _ (ps : List Pt3) (sorted : IsStrictlySortedBy space_cmp ps) where
     in_it q i = All-contains (λ p. depth_of n a p ≡ pos 0) (in_plane ps a n) q
         (All-from_recursion (λ p. depth_of n a p ≡ pos 0) (in_plane ps a n) (all_flat ps sorted a n some)) i
 
-    pub plane_of : (face : List Pt3) → IsConvexRing (face_left n) IsSpaceBefore (in_plane ps a n) face → IsFacePlane ps a n
+    pub plane_of : (face : List Pt3) → IsConvexRing (face_left n) IsSpaceBefore (in_plane ps a n) face
+        → IsFacePlane ps a n
     plane_of [] h = absurd h.starts
     plane_of (r0 ∷ []) h = let l = h.three in absurd (omega arith)
     plane_of (r0 ∷ (r1 ∷ [])) h = let l = h.three in absurd (omega arith)
@@ -124,6 +133,7 @@ module _ (ps : List Pt3) (sorted : IsStrictlySortedBy space_cmp ps) where
           flat_third = e2;
           round = climbs (seen n some).scale (square_of n) (dot_of n (normal_of r0 r1 r2)) (face_left n r0 r1 r2)
               (seen n some).positive some
-              ((seen n some).scaled r0 r1 r2 (flat_between ps sorted a n some r0 r1 e0 e1) (flat_between ps sorted a n some r0 r2 e0 e2))
+              ((seen n some).scaled r0 r1 r2 (flat_between ps sorted a n some r0 r1 e0 e1)
+                  (flat_between ps sorted a n some r0 r2 e0 e2))
               h.turns.0;
         }

@@ -16,7 +16,8 @@ use Rattle.scad_hull.proofs.Whole.{recursion_of}
 -- what turns round four and five points have to do with one another
 pub record HasSums {X : Type 0} (turn : X → X → X → ℤ) : Type 0 where
   pub whole : (t u a b : X) → turn u a b ≡ (turn t u a +ℤ turn t a b) -ℤ turn t u b
-  pub crossed : (t u a b w : X) → turn t u a *ℤ turn t b w ≡ turn t u b *ℤ turn t a w -ℤ turn t u w *ℤ turn t a b
+  pub crossed : (t u a b w : X) → turn t u a *ℤ turn t b w
+      ≡ turn t u b *ℤ turn t a w -ℤ turn t u w *ℤ turn t a b
 
 T : Term → Term → Term → Term → Term → Term → Term
 T pf pg qf qg rf rg = (qf ⊖ pf) ⊗ (rg ⊖ pg) ⊖ (qg ⊖ pg) ⊗ (rf ⊖ pf)
@@ -67,10 +68,12 @@ less_too : (s z v m : ℤ) → s ≡ (m +ℤ z) -ℤ v → m ≡ pos 0 → pos 0
 less_too s z v m e f h = omega (arith, ints)
 
 -- x above y above 0, and z above v and not below 0: the products differ
-clash : (x y z v : ℤ) → pos 0 <ℤ y → pos 0 <ℤ (x -ℤ y) → pos 0 ≤ℤ z → pos 0 <ℤ (z -ℤ v) → x *ℤ z ≡ y *ℤ v → ⊥
+clash : (x y z v : ℤ) → pos 0 <ℤ y → pos 0 <ℤ (x -ℤ y) → pos 0 ≤ℤ z → pos 0 <ℤ (z -ℤ v)
+    → x *ℤ z ≡ y *ℤ v → ⊥
 clash x y z v hy hx hz hv e =
     against ((x -ℤ y) *ℤ z) (y *ℤ (z -ℤ v)) (x *ℤ z) (y *ℤ v)
-    (ring (x ∷ y ∷ z ∷ v ∷ []) ((var 0 ⊖ var 1) ⊗ var 2 ⊕ var 1 ⊗ (var 2 ⊖ var 3)) (var 0 ⊗ var 2 ⊖ var 1 ⊗ var 3) refl)
+    (ring (x ∷ y ∷ z ∷ v ∷ []) ((var 0 ⊖ var 1) ⊗ var 2 ⊕ var 1 ⊗ (var 2 ⊖ var 3))
+        (var 0 ⊗ var 2 ⊖ var 1 ⊗ var 3) refl)
     (at_least_mul (x -ℤ y) z (weak (x -ℤ y) hx) hz) (positive_product y (z -ℤ v) hy hv) e
   where
     against : (s t p q : ℤ) → s +ℤ t ≡ p -ℤ q → pos 0 ≤ℤ s → pos 0 <ℤ t → p ≡ q → ⊥
@@ -90,8 +93,8 @@ module _ {X : Type 0} (turn : X → X → X → ℤ) (Before Same : X → X → 
         same x y z e f = omega (arith, ints)
 
     -- what lies to the left of what lies to the left
-    pub strict_through : (a b q : X) → Before t a → Before t b → Before t q → pos 0 <ℤ turn t a b → pos 0 <ℤ turn t b q
-        → pos 0 <ℤ turn t a q
+    pub strict_through : (a b q : X) → Before t a → Before t b → Before t q → pos 0 <ℤ turn t a b
+        → pos 0 <ℤ turn t b q → pos 0 <ℤ turn t a q
     strict_through a b q ha hb hq h k =
         by_lt_z (pos 0) (turn t a q) (λ l. l) (λ l. absurd (flat (level (turn t a q)
         (plane.through t a q b ha hq hb (weak (turn t b q) k) (weak (turn t a b) h)) l)))
@@ -99,10 +102,11 @@ module _ {X : Type 0} (turn : X → X → X → ℤ) (Before Same : X → X → 
         flat : turn t a q ≡ pos 0 → ⊥
         flat e =
             both_ways (turn t b a) (turn t a b) (plane.turned t a b)
-            (plane.through t b a q hb ha hq (back_nought (turn t q a) (turn t a q) (plane.turned t a q) e) (weak (turn t b q) k)) h
+            (plane.through t b a q hb ha hq (back_nought (turn t q a) (turn t a q) (plane.turned t a q) e)
+                (weak (turn t b q) k)) h
 
-    no_flat : (u a b w : X) → Before t u → Before t a → Before t b → pos 0 <ℤ turn t u a → pos 0 <ℤ turn u a b
-        → pos 0 <ℤ turn a b w → pos 0 ≤ℤ turn b w t → turn t a b ≡ pos 0 → ⊥
+    no_flat : (u a b w : X) → Before t u → Before t a → Before t b → pos 0 <ℤ turn t u a
+        → pos 0 <ℤ turn u a b → pos 0 <ℤ turn a b w → pos 0 ≤ℤ turn b w t → turn t a b ≡ pos 0 → ⊥
     no_flat u a b w hu ha hb x turn_a turn_b z e =
         clash (turn t u a) (turn t u b) (turn t b w) (turn t a w) ahead
         (less (turn u a b) (turn t u a) (turn t u b) (turn t a b) (sums.whole t u a b) e turn_a)
@@ -114,15 +118,16 @@ module _ {X : Type 0} (turn : X → X → X → ℤ) (Before Same : X → X → 
         flat : turn t u b ≡ pos 0 → ⊥
         flat f =
             both_ways (turn t a u) (turn t u a) (plane.turned t u a)
-            (plane.through t a u b ha hu hb (back_nought (turn t b u) (turn t u b) (plane.turned t u b) f) (nought (turn t a b) e)) x
+            (plane.through t a u b ha hu hb (back_nought (turn t b u) (turn t u b) (plane.turned t u b) f)
+                (nought (turn t a b) e)) x
 
         ahead : pos 0 <ℤ turn t u b
         ahead = by_lt_z (pos 0) (turn t u b) (λ l. l) (λ l. absurd (flat (level (turn t u b)
             (plane.through t u b a hu hb ha (nought (turn t a b) e) (weak (turn t u a) x)) l)))
 
     strict_fan : (s u a : X) (rs : List X) → Before t u → Before t a → AllByRecursion (Before t) rs
-        → AllTurnLeft turn (u ∷ (a ∷ (rs ++ (t ∷ (s ∷ []))))) → IsRightOfNone turn t (a ∷ (rs ++ (t ∷ (s ∷ []))))
-        → pos 0 <ℤ turn t u a → FanTurns a rs
+        → AllTurnLeft turn (u ∷ (a ∷ (rs ++ (t ∷ (s ∷ [])))))
+        → IsRightOfNone turn t (a ∷ (rs ++ (t ∷ (s ∷ [])))) → pos 0 <ℤ turn t u a → FanTurns a rs
     strict_fan s u a [] hu ha h l r k = tt
     strict_fan s u a (b ∷ []) hu ha h l r k = (subst (λ (z : ℤ). pos 0 <ℤ z) (round_back a b) l.1.0, tt)
     strict_fan s u a (b ∷ (w ∷ rs)) hu ha h l r k = (here, strict_fan s a b (w ∷ rs) ha h.0 h.1 l.1 r.1 here)
@@ -131,7 +136,8 @@ module _ {X : Type 0} (turn : X → X → X → ℤ) (Before Same : X → X → 
         here = by_lt_z (pos 0) (turn t a b) (λ m. m) (λ m. absurd (no_flat u a b w hu ha h.0 k l.0 l.1.0 r.1.0
             (level (turn t a b) (subst (λ (z : ℤ). pos 0 ≤ℤ z) (round_back a b) r.0) m)))
 
-    ahead_of : (a b : X) (qs : List X) → Before t a → Before t b → AllByRecursion (Before t) qs → pos 0 <ℤ turn t a b
+    ahead_of : (a b : X) (qs : List X) → Before t a → Before t b → AllByRecursion (Before t) qs
+        → pos 0 <ℤ turn t a b
         → AllByRecursion (λ q. pos 0 <ℤ turn t b q) qs → AllByRecursion (λ q. pos 0 <ℤ turn t a q) qs
     ahead_of a b [] ha hb h k l = tt
     ahead_of a b (q ∷ qs) ha hb h k l = (strict_through a b q ha hb h.0 k l.0, ahead_of a b qs ha hb h.1 k l.1)
@@ -144,11 +150,13 @@ module _ {X : Type 0} (turn : X → X → X → ℤ) (Before Same : X → X → 
     other : (a q : X) → pos 0 <ℤ turn t a q → a ≡ q → ⊥
     other a q h e = none (turn t a q) (ap (turn t a) (sym e) ∙ plane.ends t a) h
 
-    others : (a : X) (qs : List X) → AllByRecursion (λ q. pos 0 <ℤ turn t a q) qs → AllByRecursion (λ q. a ≡ q → ⊥) qs
+    others : (a : X) (qs : List X) → AllByRecursion (λ q. pos 0 <ℤ turn t a q) qs
+        → AllByRecursion (λ q. a ≡ q → ⊥) qs
     others a [] h = tt
     others a (q ∷ qs) h = (other a q h.0, others a qs h.1)
 
-    all_differ : (a : X) (rs : List X) → Before t a → AllByRecursion (Before t) rs → FanTurns a rs → Differ (a ∷ rs)
+    all_differ : (a : X) (rs : List X) → Before t a → AllByRecursion (Before t) rs → FanTurns a rs
+        → Differ (a ∷ rs)
     all_differ a [] ha h f = (tt, tt)
     all_differ a (b ∷ rs) ha h f = (others a (b ∷ rs) (all_ahead a (b ∷ rs) ha h f), all_differ b rs h.0 h.1 f.1)
 

@@ -37,11 +37,13 @@ no_times : (k z : ℤ) → z ≡ pos 0 → k *ℤ z ≡ pos 0
 no_times k z e = ap (λ (s : ℤ). k *ℤ s) e ∙ ring (k ∷ []) (var 0 ⊗ num (pos 0)) (num (pos 0)) refl
 
 -- ---- tests of all points
-pub told_all : {X : Type 0} (p : X → Bool) (xs : List X) → AllByRecursion (λ x. p x ≡ true) xs → list_all p xs ≡ true
+pub told_all : {X : Type 0} (p : X → Bool) (xs : List X) → AllByRecursion (λ x. p x ≡ true) xs
+    → list_all p xs ≡ true
 told_all p [] h = refl
 told_all p (x ∷ xs) h = ap₂ (λ a b. a && b) h.0 (told_all p xs h.1)
 
-none_of : {X : Type 0} (p : X → Bool) (xs : List X) → list_any p xs ≡ false → AllByRecursion (λ x. p x ≡ false) xs
+none_of : {X : Type 0} (p : X → Bool) (xs : List X) → list_any p xs ≡ false
+    → AllByRecursion (λ x. p x ≡ false) xs
 none_of p [] e = tt
 none_of {X = X} p (x ∷ xs) e = by_test (none_of p xs) (p x) refl
   where
@@ -50,7 +52,8 @@ none_of {X = X} p (x ∷ xs) e = by_test (none_of p xs) (p x) refl
     by_test later false f = (f, later (subst (λ b. (b || list_any p xs) ≡ false) f e))
     by_test later true f = absurd (told_apart (subst (λ b. (b || list_any p xs) ≡ false) f e))
 
-pub some_of : {X : Type 0} (p : X → Bool) (xs : List X) → list_any p xs ≡ true → (x : X) × Contains xs x × (p x ≡ true)
+pub some_of : {X : Type 0} (p : X → Bool) (xs : List X) → list_any p xs ≡ true
+    → (x : X) × Contains xs x × (p x ≡ true)
 some_of p [] e = absurd (told_apart (sym e))
 some_of {X = X} p (x ∷ xs) e = by_test (some_of p xs) (p x) refl
   where
@@ -67,10 +70,11 @@ module _ (ps : List Pt3) where
   members = recursion_of (Contains ps) ps (All-contains_itself ps)
 
   pub told_at : (p : Pt3 → Bool) → list_all p ps ≡ true → (x : Pt3) → Contains ps x → p x ≡ true
-  told_at p e x i = All-contains (λ y. p y ≡ true) ps x (All-from_recursion (λ y. p y ≡ true) ps (each_of p ps e)) i
+  told_at p e x i = All-contains (λ y. p y ≡ true) ps x (All-from_recursion (λ y. p y ≡ true) ps (each_of p ps e))
+      i
 
-  pub flat_told : ((p q r s : Pt3) → Contains ps p → Contains ps q → Contains ps r → Contains ps s → inner p q r s ≡ pos 0)
-      → are_flat ps ≡ true
+  pub flat_told : ((p q r s : Pt3) → Contains ps p → Contains ps q → Contains ps r → Contains ps s
+      → inner p q r s ≡ pos 0) → are_flat ps ≡ true
   flat_told h =
       told_all (λ a. list_all (λ b. list_all (λ c. list_all (λ d. is_zero (inner a b c d)) ps) ps) ps) ps
       (all_changed (λ a ia. told_all (λ b. list_all (λ c. list_all (λ d. is_zero (inner a b c d)) ps) ps) ps
@@ -90,9 +94,11 @@ module _ (ps : List Pt3) where
           let first = told_at (λ x. list_all (λ y. list_all (λ z. list_all (λ d. is_zero (inner x y z d)) ps) ps) ps) e a spread.has_first in
           let second = told_at (λ y. list_all (λ z. list_all (λ d. is_zero (inner a y z d)) ps) ps) first b spread.has_second in
           let third = told_at (λ z. list_all (λ d. is_zero (inner a b z d)) ps) second c spread.has_third in
-          absurd (spread.off (zero_true (inner a b c spread.fourth) (told_at (λ d. is_zero (inner a b c d)) third spread.fourth spread.has_fourth)))
+          absurd (spread.off (zero_true (inner a b c spread.fourth)
+              (told_at (λ d. is_zero (inner a b c d)) third spread.fourth spread.has_fourth)))
 
-  pub flat_in : (n : Normal) (a : Pt3) → pos 0 <ℤ square_of n → ((p : Pt3) → Contains ps p → depth_of n a p ≡ pos 0) → are_flat ps ≡ true
+  pub flat_in : (n : Normal) (a : Pt3) → pos 0 <ℤ square_of n
+      → ((p : Pt3) → Contains ps p → depth_of n a p ≡ pos 0) → are_flat ps ≡ true
   flat_in n a some_n flat = flat_told (all_flat ps n a some_n flat)
 
   -- ---- the plane of a face, and whether a point lies inside
@@ -101,7 +107,8 @@ module _ (ps : List Pt3) where
     no_inner e = flat_in n a plane.some (λ p i. level (depth_of n a p)
         (All-contains (λ q. pos 0 ≤ℤ depth_of n a q) ps p plane.inward i)
         (All-contains (λ q. int_lt (pos 0) (depth_of n a q) ≡ false) ps p
-        (All-from_recursion (λ q. int_lt (pos 0) (depth_of n a q) ≡ false) ps (none_of (λ q. int_lt (pos 0) (depth_of n a q)) ps e)) i))
+        (All-from_recursion (λ q. int_lt (pos 0) (depth_of n a q) ≡ false) ps
+            (none_of (λ q. int_lt (pos 0) (depth_of n a q)) ps e)) i))
       where
         level : (z : ℤ) → pos 0 ≤ℤ z → int_lt (pos 0) z ≡ false → z ≡ pos 0
         level z h k = omega (arith, ints)
@@ -120,7 +127,8 @@ module _ (ps : List Pt3) where
           has_fourth = found.1;
           off = λ f. not_none (depth_of n a found.0) (up (depth_of n a found.0) found.2)
               (as_from n a plane.first found.0 plane.flat_first
-              ∙ nought_right (dot_of n (normal_of plane.first plane.second plane.third)) (depth_of n plane.first found.0)
+              ∙ nought_right (dot_of n (normal_of plane.first plane.second plane.third))
+              (depth_of n plane.first found.0)
               (sym (parallel n plane.first plane.second plane.third
               (sym (as_from n a plane.first plane.second plane.flat_first) ∙ plane.flat_second)
               (sym (as_from n a plane.first plane.third plane.flat_first) ∙ plane.flat_third) found.0)
@@ -136,7 +144,8 @@ module _ (ps : List Pt3) where
   upwards = record { x = pos 0; y = pos 0; z = pos 1 }
 
   pub on_x_line : (a : Pt3) → list_all (λ p. is_none (normal_of a (beside a) p)) ps ≡ true → are_flat ps ≡ true
-  on_x_line a e = flat_in upwards a one (λ p i. flat p (line_by a (beside a) p (told_at (λ q. is_none (normal_of a (beside a) q)) e p i)))
+  on_x_line a e = flat_in upwards a one (λ p i. flat p
+      (line_by a (beside a) p (told_at (λ q. is_none (normal_of a (beside a) q)) e p i)))
     where
       one : pos 0 <ℤ (pos 0 *ℤ pos 0 +ℤ (pos 0 *ℤ pos 0 +ℤ pos 1 *ℤ pos 1))
       one = omega (arith, ints)
@@ -144,7 +153,8 @@ module _ (ps : List Pt3) where
       flat : (p : Pt3) → IsOnLine a (beside a) p → depth_of upwards a p ≡ pos 0
       flat p line =
           ring (a.x ∷ a.y ∷ a.z ∷ p.x ∷ p.y ∷ p.z ∷ [])
-          (num (pos 0) ⊗ (var 3 ⊖ var 0) ⊕ (num (pos 0) ⊗ (var 4 ⊖ var 1) ⊕ num (pos 1) ⊗ (var 5 ⊖ var 2)))
+          (num (pos 0) ⊗ (var 3 ⊖ var 0)
+              ⊕ (num (pos 0) ⊗ (var 4 ⊖ var 1) ⊕ num (pos 1) ⊗ (var 5 ⊖ var 2)))
           ((var 2 ⊖ var 2) ⊗ (var 3 ⊖ var 0) ⊖ ((var 0 ⊖ num (pos 1)) ⊖ var 0) ⊗ (var 5 ⊖ var 2)) refl
           ∙ line.y
 
@@ -156,7 +166,8 @@ module _ (ps : List Pt3) where
         (λ h. absurd (one (no_squares (d.x -ℤ a.x) (d.y -ℤ a.y) (d.z -ℤ a.z) h)))
       where
         flat : (u v r s : ℤ) → r ≡ pos 0 → s ≡ pos 0 → u *ℤ s -ℤ v *ℤ r ≡ pos 0
-        flat u v r s hr hs = (λ i. u *ℤ hs i -ℤ v *ℤ hr i) ∙ ring (u ∷ v ∷ []) (var 0 ⊗ num (pos 0) ⊖ var 1 ⊗ num (pos 0)) (num (pos 0)) refl
+        flat u v r s hr hs = (λ i. u *ℤ hs i -ℤ v *ℤ hr i)
+            ∙ ring (u ∷ v ∷ []) (var 0 ⊗ num (pos 0) ⊖ var 1 ⊗ num (pos 0)) (num (pos 0)) refl
 
         one : (d.x -ℤ a.x ≡ pos 0) × (d.y -ℤ a.y ≡ pos 0) × (d.z -ℤ a.z ≡ pos 0) → ⊥
         one h = told_apart (sym (none_by (normal_of a (beside a) d)
@@ -175,7 +186,8 @@ module _ (ps : List Pt3) where
             (ring (W ∷ n.x ∷ n.y ∷ n.z ∷ (p.x -ℤ a.x) ∷ (p.y -ℤ a.y) ∷ (p.z -ℤ a.z) ∷ [])
             (var 0 ⊗ (var 1 ⊗ var 4 ⊕ (var 2 ⊗ var 5 ⊕ var 3 ⊗ var 6)))
             (var 1 ⊗ (var 0 ⊗ var 4) ⊕ (var 2 ⊗ (var 0 ⊗ var 5) ⊕ var 3 ⊗ (var 0 ⊗ var 6))) refl
-            ∙ (λ j. n.x *ℤ along_x a d p line j +ℤ (n.y *ℤ along_y a d p line j +ℤ n.z *ℤ along_z a d p line j))
+            ∙ (λ j. n.x *ℤ along_x a d p line j +ℤ
+            (n.y *ℤ along_y a d p line j +ℤ n.z *ℤ along_z a d p line j))
             ∙ ring (t ∷ n.x ∷ n.y ∷ n.z ∷ (d.x -ℤ a.x) ∷ (d.y -ℤ a.y) ∷ (d.z -ℤ a.z) ∷ [])
             (var 1 ⊗ (var 0 ⊗ var 4) ⊕ (var 2 ⊗ (var 0 ⊗ var 5) ⊕ var 3 ⊗ (var 0 ⊗ var 6)))
             (var 0 ⊗ (var 1 ⊗ var 4 ⊕ (var 2 ⊗ var 5 ⊕ var 3 ⊗ var 6))) refl
@@ -185,8 +197,11 @@ module _ (ps : List Pt3) where
   pub met_off : (a : Pt3) (n : Normal) (turned : IsTurned a (beside a) ps n (length ps)) → Contains ps a
       → list_all (λ p. is_none (normal_of a (beside a) p)) (in_plane ps a n) ≡ true → ⊥
   met_off a n turned ia e =
-      not_none (square_of n) (some ps a n turned ia) (by_none (is_zero_all (All-contains (λ p. is_none (normal_of a (beside a) p) ≡ true) (in_plane ps a n) turned.met
-      (All-from_recursion (λ p. is_none (normal_of a (beside a) p) ≡ true) (in_plane ps a n) (each_of (λ p. is_none (normal_of a (beside a) p)) (in_plane ps a n) e))
+      not_none (square_of n) (some ps a n turned ia)
+          (by_none (is_zero_all (All-contains (λ p. is_none (normal_of a (beside a) p) ≡ true) (in_plane ps a n)
+          turned.met
+      (All-from_recursion (λ p. is_none (normal_of a (beside a) p) ≡ true) (in_plane ps a n)
+          (each_of (λ p. is_none (normal_of a (beside a) p)) (in_plane ps a n) e))
       (Contains-filter (λ q. is_zero (depth_of n a q)) ps turned.met turned.there
       (ap is_zero (ap (λ m. depth_of m a turned.met) turned.is ∙ third_in a (beside a) turned.met))))))
     where
@@ -198,7 +213,8 @@ module _ (ps : List Pt3) where
           let first = and_parts (is_zero n.x) (is_zero n.y && is_zero n.z) f in
           let rest = and_parts (is_zero n.y) (is_zero n.z) first.1 in
           λ i. zero_true n.x first.0 i *ℤ zero_true n.x first.0 i
-          +ℤ (zero_true n.y rest.0 i *ℤ zero_true n.y rest.0 i +ℤ zero_true n.z rest.1 i *ℤ zero_true n.z rest.1 i)
+          +ℤ (zero_true n.y rest.0 i *ℤ zero_true n.y rest.0 i +ℤ zero_true n.z rest.1 i *ℤ zero_true n.z rest.1
+              i)
 
   -- ---- the first point is the lowest
   not_lower : (a p : Pt3) → IsLower a p → IsNotLower a p
@@ -206,9 +222,11 @@ module _ (ps : List Pt3) where
   not_lower a p (inr (e, inl h)) = inr (e, inl h)
   not_lower a p (inr (e, inr h)) = inr (e, inr h.0)
 
-pub lowest : (ps : List Pt3) → IsStrictlySortedBy space_cmp ps → (a : Pt3) → 0 < length ps → a ≡ get_or ps 0 a → All (IsNotLower a) ps
+pub lowest : (ps : List Pt3) → IsStrictlySortedBy space_cmp ps → (a : Pt3) → 0 < length ps → a ≡ get_or ps 0 a
+    → All (IsNotLower a) ps
 unfolding IsStrictlySortedBy
 lowest [] sorted a l e = absurd (omega arith)
 lowest (p ∷ ps) sorted a l e =
     subst (λ q. All (IsNotLower q) (p ∷ ps)) (sym e)
-    (All-from_recursion (IsNotLower p) (p ∷ ps) (inr (refl, inr refl), all_changed (λ q h. not_lower ps p q (space_less p q h)) ps sorted.0))
+    (All-from_recursion (IsNotLower p) (p ∷ ps)
+        (inr (refl, inr refl), all_changed (λ q h. not_lower ps p q (space_less p q h)) ps sorted.0))

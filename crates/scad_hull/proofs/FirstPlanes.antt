@@ -1,4 +1,5 @@
--- The plane of the first face: found by turning once about the x direction, or once more about the line of what that met.
+-- The plane of the first face: found by turning once about the x direction, or once more about the line of what that
+-- met.
 use Rattle.std.proofs.Common.{◌≡◌, true, false, ◌&&◌, List, [], ◌∷◌, length, get_or, refl, sym, ap, ◌∙◌, arith, subst, All}
 use lib.IntN.{ℤ, pos, ◌-ℤ◌, ◌*ℤ◌}
 use lib.Signed.{◌<ℤ◌, ◌≤ℤ◌}
@@ -70,9 +71,12 @@ module _ (ps : List Pt3) (a : Pt3) (n : Normal) (turned : IsTurned a (beside a) 
     some_turn z =
         let m = normal_of a d e in
         told_apart (sym (none_by m
-        (nought_right (square_of n) m.x (sym (scaled_x n a d e hd he) ∙ ap (λ (t : ℤ). n.x *ℤ t) z ∙ no_times n.x) (not_none (square_of n) some))
-        (nought_right (square_of n) m.y (sym (scaled_y n a d e hd he) ∙ ap (λ (t : ℤ). n.y *ℤ t) z ∙ no_times n.y) (not_none (square_of n) some))
-        (nought_right (square_of n) m.z (sym (scaled_z n a d e hd he) ∙ ap (λ (t : ℤ). n.z *ℤ t) z ∙ no_times n.z) (not_none (square_of n) some)))
+        (nought_right (square_of n) m.x (sym (scaled_x n a d e hd he) ∙ ap (λ (t : ℤ). n.x *ℤ t) z
+            ∙ no_times n.x) (not_none (square_of n) some))
+        (nought_right (square_of n) m.y (sym (scaled_y n a d e hd he) ∙ ap (λ (t : ℤ). n.y *ℤ t) z
+            ∙ no_times n.y) (not_none (square_of n) some))
+        (nought_right (square_of n) m.z (sym (scaled_z n a d e hd he) ∙ ap (λ (t : ℤ). n.z *ℤ t) z
+            ∙ no_times n.z) (not_none (square_of n) some)))
         ∙ off)
       where
         no_times : (k : ℤ) → k *ℤ pos 0 ≡ pos 0
@@ -80,8 +84,10 @@ module _ (ps : List Pt3) (a : Pt3) (n : Normal) (turned : IsTurned a (beside a) 
 
     turned_round : dot_of n (normal_of a e d) ≡ pos 0 -ℤ dot_of n (normal_of a d e)
     turned_round =
-        ring (n.x ∷ n.y ∷ n.z ∷ (d.x -ℤ a.x) ∷ (d.y -ℤ a.y) ∷ (d.z -ℤ a.z) ∷ (e.x -ℤ a.x) ∷ (e.y -ℤ a.y) ∷ (e.z -ℤ a.z) ∷ [])
-        (var 0 ⊗ (var 7 ⊗ var 5 ⊖ var 8 ⊗ var 4) ⊕ (var 1 ⊗ (var 8 ⊗ var 3 ⊖ var 6 ⊗ var 5) ⊕ var 2 ⊗ (var 6 ⊗ var 4 ⊖ var 7 ⊗ var 3)))
+        ring (n.x ∷ n.y ∷ n.z ∷ (d.x -ℤ a.x) ∷ (d.y -ℤ a.y) ∷ (d.z -ℤ a.z) ∷ (e.x -ℤ a.x)
+            ∷ (e.y -ℤ a.y) ∷ (e.z -ℤ a.z) ∷ [])
+        (var 0 ⊗ (var 7 ⊗ var 5 ⊖ var 8 ⊗ var 4)
+            ⊕ (var 1 ⊗ (var 8 ⊗ var 3 ⊖ var 6 ⊗ var 5) ⊕ var 2 ⊗ (var 6 ⊗ var 4 ⊖ var 7 ⊗ var 3)))
         (num (pos 0) ⊖ (var 0 ⊗ (var 4 ⊗ var 8 ⊖ var 5 ⊗ var 7)
         ⊕ (var 1 ⊗ (var 5 ⊗ var 6 ⊖ var 3 ⊗ var 8) ⊕ var 2 ⊗ (var 3 ⊗ var 7 ⊖ var 4 ⊗ var 6)))) refl
 
@@ -126,15 +132,18 @@ module _ (ps : List Pt3) (a : Pt3) (n : Normal) (turned : IsTurned a (beside a) 
   module _ (d : Pt3) (hd : depth_of n a d ≡ pos 0) (line : list_all (λ p. is_none (normal_of a d p)) Q ≡ true) where
     on_line : (p : Pt3) → Contains ps p → depth_of n a p ≡ pos 0 → is_none (normal_of a d p) ≡ true
     on_line p i e = All-contains (λ q. is_none (normal_of a d q) ≡ true) Q p
-        (All-from_recursion (λ q. is_none (normal_of a d q) ≡ true) Q (each_of (λ q. is_none (normal_of a d q)) Q line)) (in_q p i e)
+        (All-from_recursion (λ q. is_none (normal_of a d q) ≡ true) Q
+            (each_of (λ q. is_none (normal_of a d q)) Q line)) (in_q p i e)
 
     -- with a point off that line one turns on
-    pub turned_again : (e : Pt3) → Contains ps e → is_none (normal_of a d e) ≡ false → IsTurned a d ps (normal_of a d e) 0
+    pub turned_again : (e : Pt3) → Contains ps e → is_none (normal_of a d e) ≡ false
+        → IsTurned a d ps (normal_of a d e) 0
     turned_again e ie off =
         turned_at_line n some a d hd ps inward
         (λ k f i h. line_by a d (get_or ps k f) (on_line (get_or ps k f) (All-contains_itself ps k f i) h)) e ie
         (by_lt_z (pos 0) (depth_of n a e) (λ h. h)
-        (λ h. absurd (told_apart (sym (on_line e ie (level (depth_of n a e) (All-contains (λ p. pos 0 ≤ℤ depth_of n a p) ps e inward ie) h)) ∙ off))))
+        (λ h. absurd (told_apart (sym (on_line e ie
+            (level (depth_of n a e) (All-contains (λ p. pos 0 ≤ℤ depth_of n a p) ps e inward ie) h)) ∙ off))))
 
 -- two points that make a turn with a third are two
 pub two_points : (a d e : Pt3) → is_none (normal_of a d e) ≡ false → pos 0 <ℤ way_square a d
@@ -142,8 +151,11 @@ two_points a d e off = by_lt_z (pos 0) (way_square a d) (λ h. h)
     (λ h. absurd (one (no_squares (d.x -ℤ a.x) (d.y -ℤ a.y) (d.z -ℤ a.z) h)))
   where
     flat : (u v r s : ℤ) → u ≡ pos 0 → v ≡ pos 0 → u *ℤ s -ℤ v *ℤ r ≡ pos 0
-    flat u v r s hu hv = (λ i. hu i *ℤ s -ℤ hv i *ℤ r) ∙ ring (r ∷ s ∷ []) (num (pos 0) ⊗ var 1 ⊖ num (pos 0) ⊗ var 0) (num (pos 0)) refl
+    flat u v r s hu hv = (λ i. hu i *ℤ s -ℤ hv i *ℤ r)
+        ∙ ring (r ∷ s ∷ []) (num (pos 0) ⊗ var 1 ⊖ num (pos 0) ⊗ var 0) (num (pos 0)) refl
 
     one : (d.x -ℤ a.x ≡ pos 0) × (d.y -ℤ a.y ≡ pos 0) × (d.z -ℤ a.z ≡ pos 0) → ⊥
-    one h = told_apart (sym (none_by (normal_of a d e) (flat (d.y -ℤ a.y) (d.z -ℤ a.z) (e.y -ℤ a.y) (e.z -ℤ a.z) h.1 h.2)
-        (flat (d.z -ℤ a.z) (d.x -ℤ a.x) (e.z -ℤ a.z) (e.x -ℤ a.x) h.2 h.0) (flat (d.x -ℤ a.x) (d.y -ℤ a.y) (e.x -ℤ a.x) (e.y -ℤ a.y) h.0 h.1)) ∙ off)
+    one h = told_apart (sym (none_by (normal_of a d e)
+        (flat (d.y -ℤ a.y) (d.z -ℤ a.z) (e.y -ℤ a.y) (e.z -ℤ a.z) h.1 h.2)
+        (flat (d.z -ℤ a.z) (d.x -ℤ a.x) (e.z -ℤ a.z) (e.x -ℤ a.x) h.2 h.0)
+            (flat (d.x -ℤ a.x) (d.y -ℤ a.y) (e.x -ℤ a.x) (e.y -ℤ a.y) h.0 h.1)) ∙ off)

@@ -30,13 +30,14 @@ pub first_has : (ps : List Pt3) (a : Pt3) → 0 < length ps → a ≡ get_or ps 
 first_has ps a l e = (0, l, sym e)
 
 module _ (ps : List Pt3) (a b : Pt3) (is : b ≡ beside a) where
-  pub turned_first : IsStrictlySortedBy space_cmp ps → 0 < length ps → a ≡ get_or ps 0 a → (c : Pt3) → Contains ps c
-      → is_none (normal_of a b c) ≡ false → IsTurned a b ps (normal_of a b c) 0
+  pub turned_first : IsStrictlySortedBy space_cmp ps → 0 < length ps → a ≡ get_or ps 0 a → (c : Pt3)
+      → Contains ps c → is_none (normal_of a b c) ≡ false → IsTurned a b ps (normal_of a b c) 0
   turned_first sorted l e c i off =
       let low = lowest ps sorted a l e in
       subst (λ x. IsTurned a x ps (normal_of a x c) 0) (sym is)
       (turned_at_least a ps low c i (All-contains (IsNotLower a) ps c low i)
-      (λ line. told_apart (sym (none_by (normal_of a (beside a) c) line.x line.y line.z) ∙ ap (λ x. is_none (normal_of a x c)) (sym is) ∙ off)))
+      (λ line. told_apart (sym (none_by (normal_of a (beside a) c) line.x line.y line.z)
+          ∙ ap (λ x. is_none (normal_of a x c)) (sym is) ∙ off)))
 
   pub turned_still : (n : Normal) → IsTurned a b ps n (length ps) → IsTurned a (beside a) ps n (length ps)
   turned_still n t = subst (λ x. IsTurned a x ps n (length ps)) is t
@@ -48,7 +49,8 @@ module _ (ps : List Pt3) (a b : Pt3) (is : b ≡ beside a) where
   module _ (n : Normal) (turned : IsTurned a (beside a) ps n (length ps)) (ia : Contains ps a) (qs : List Pt3) (met : qs ≡ in_plane ps a n) where
     pub some_met : list_all (λ p. is_none (normal_of a b p)) qs ≡ true → are_flat ps ≡ true
     some_met e =
-        absurd (met_off ps a n turned ia (ap (λ x. list_all (λ p. is_none (normal_of a x p)) (in_plane ps a n)) (sym is)
+        absurd (met_off ps a n turned ia (ap (λ x. list_all (λ p. is_none (normal_of a x p)) (in_plane ps a n))
+            (sym is)
         ∙ ap (λ xs. list_all (λ p. is_none (normal_of a b p)) xs) (sym met) ∙ e))
 
     in_met : (q : Pt3) → Contains qs q → Contains (in_plane ps a n) q
@@ -64,7 +66,8 @@ module _ (ps : List Pt3) (a b : Pt3) (is : b ≡ beside a) where
   module _ (n : Normal) (turned : IsTurned a (beside a) ps n (length ps)) (ia : Contains ps a) (qs : List Pt3) (met : qs ≡ in_plane ps a n)
       (d : Pt3) (id : Contains qs d) (off : is_none (normal_of a b d) ≡ false) where
     in_q : (q : Pt3) → Contains ps q → depth_of n a q ≡ pos 0 → Contains qs q
-    in_q q i e = subst (λ xs. Contains xs q) (sym met) (Contains-filter (λ p. is_zero (depth_of n a p)) ps q i (ap is_zero e))
+    in_q q i e = subst (λ xs. Contains xs q) (sym met)
+        (Contains-filter (λ p. is_zero (depth_of n a p)) ps q i (ap is_zero e))
 
     flat_q : (q : Pt3) → Contains qs q → depth_of n a q ≡ pos 0
     flat_q q i = zero_true (depth_of n a q) (All-contains (λ p. is_zero (depth_of n a p) ≡ true) (in_plane ps a n) q
@@ -72,7 +75,8 @@ module _ (ps : List Pt3) (a b : Pt3) (is : b ≡ beside a) where
 
     in_ps : (q : Pt3) → Contains qs q → Contains ps q
     in_ps q i = All-contains (Contains ps) (in_plane ps a n) q
-        (All-filter (λ p. is_zero (depth_of n a p)) (Contains ps) ps (All-contains_itself ps)) (subst (λ xs. Contains xs q) met i)
+        (All-filter (λ p. is_zero (depth_of n a p)) (Contains ps) ps (All-contains_itself ps))
+            (subst (λ xs. Contains xs q) met i)
 
     -- a third point that isn't on the line
     pub third_plane : (e : Pt3) → Contains qs e → is_none (normal_of a d e) ≡ false → IsFacePlane ps a n
@@ -86,20 +90,24 @@ module _ (ps : List Pt3) (a b : Pt3) (is : b ≡ beside a) where
       flat = flat_q d id;
       inward = λ k f i. turned.inward k f i;
       line = λ k f i h. All-contains (λ p. is_none (normal_of a d p) ≡ true) qs (get_or ps k f)
-          (All-from_recursion (λ p. is_none (normal_of a d p) ≡ true) qs (each_of (λ p. is_none (normal_of a d p)) qs e))
+          (All-from_recursion (λ p. is_none (normal_of a d p) ≡ true) qs
+              (each_of (λ p. is_none (normal_of a d p)) qs e))
           (in_q (get_or ps k f) (All-contains_itself ps k f i) h);
       apart = ap (λ x. is_none (normal_of a x d)) (sym is) ∙ off;
     }
 
 -- ---- about the line
 module _ (ps : List Pt3) (a d : Pt3) (edge : IsEdge ps a d) where
-  pub edge_turned : (e : Pt3) → Contains ps e → is_none (normal_of a d e) ≡ false → IsTurned a d ps (normal_of a d e) 0
+  pub edge_turned : (e : Pt3) → Contains ps e → is_none (normal_of a d e) ≡ false
+      → IsTurned a d ps (normal_of a d e) 0
   edge_turned e i off =
       turned_at_line edge.normal edge.some a d edge.flat ps edge.inward
       (λ k f j h. line_by a d (get_or ps k f) (edge.line k f j h)) e i
       (by_lt_z (pos 0) (depth_of edge.normal a e) (λ h. h)
-      (λ h. absurd (told_apart (sym (All-contains (λ p. depth_of edge.normal a p ≡ pos 0 → is_none (normal_of a d p) ≡ true) ps e edge.line i
-      (level (depth_of edge.normal a e) (All-contains (λ p. pos 0 ≤ℤ depth_of edge.normal a p) ps e edge.inward i) h)) ∙ off))))
+      (λ h. absurd (told_apart (sym (All-contains
+          (λ p. depth_of edge.normal a p ≡ pos 0 → is_none (normal_of a d p) ≡ true) ps e edge.line i
+      (level (depth_of edge.normal a e) (All-contains (λ p. pos 0 ≤ℤ depth_of edge.normal a p) ps e edge.inward i)
+          h)) ∙ off))))
     where
       level : (z : ℤ) → pos 0 ≤ℤ z → z ≤ℤ pos 0 → z ≡ pos 0
       level z h k = omega (arith, ints)
@@ -107,12 +115,13 @@ module _ (ps : List Pt3) (a d : Pt3) (edge : IsEdge ps a d) where
   pub edge_flat : list_all (λ p. is_none (normal_of a d p)) ps ≡ true → are_flat ps ≡ true
   edge_flat e = on_d_line ps edge.normal edge.some a d edge.flat edge.apart e
 
-  pub edge_plane : (n : Normal) (e : Pt3) → IsTurned a d ps n (length ps) → Contains ps a → Contains ps d → is_none (normal_of a d e) ≡ false
-      → IsFacePlane ps a n
+  pub edge_plane : (n : Normal) (e : Pt3) → IsTurned a d ps n (length ps) → Contains ps a → Contains ps d
+      → is_none (normal_of a d e) ≡ false → IsFacePlane ps a n
   edge_plane n e t ia id off = plane_found ps a d n t ia id (two_points a d e off)
 
 -- ---- a face in a plane
-pub face_of : (ps : List Pt3) (a : Pt3) (n : Normal) (f : Face) → IsFacePlane ps a n → f.normal ≡ n → f.ring.items ≡ face_in ps a n → IsFaceOf ps f
+pub face_of : (ps : List Pt3) (a : Pt3) (n : Normal) (f : Face) → IsFacePlane ps a n → f.normal ≡ n
+    → f.ring.items ≡ face_in ps a n → IsFaceOf ps f
 face_of ps a n f plane e r = record {
   base = a;
   plane = subst (IsFacePlane ps a) (sym e) plane;

@@ -55,7 +55,8 @@ transposed : {X Y : Type 0} (R : X → Y → Type 0) (xs : List X) (ys : List Y)
 transposed R xs [] h = tt
 transposed R xs (y ∷ ys) h = (firsts xs h, transposed R xs ys (rests xs h))
   where
-    firsts : (zs : List _) → AllByRecursion (λ x. R x y × AllByRecursion (R x) ys) zs → AllByRecursion (λ x. R x y) zs
+    firsts : (zs : List _) → AllByRecursion (λ x. R x y × AllByRecursion (R x) ys) zs
+        → AllByRecursion (λ x. R x y) zs
     firsts [] h = tt
     firsts (z ∷ zs) h = (h.0.0, firsts zs h.1)
 
@@ -90,8 +91,10 @@ side_seen : (q a b : Point) → side_by q a b *ℤ q.d ≡ cross (seen_from q a)
 unfolding side_by cross
 side_seen q a b =
     ring (a.x ∷ a.y ∷ a.d ∷ b.x ∷ b.y ∷ b.d ∷ q.x ∷ q.y ∷ q.d ∷ [])
-    (((v3 ⊗ v2 ⊖ v0 ⊗ v5) ⊗ (v7 ⊗ v2 ⊖ v1 ⊗ v8) ⊖ (v4 ⊗ v2 ⊖ v1 ⊗ v5) ⊗ (v6 ⊗ v2 ⊖ v0 ⊗ v8)) ⊗ v8)
-    (((v0 ⊗ v8 ⊖ v6 ⊗ v2) ⊗ (v4 ⊗ v8 ⊖ v7 ⊗ v5) ⊖ (v1 ⊗ v8 ⊖ v7 ⊗ v2) ⊗ (v3 ⊗ v8 ⊖ v6 ⊗ v5)) ⊗ v2) refl
+    (((v3 ⊗ v2 ⊖ v0 ⊗ v5) ⊗ (v7 ⊗ v2 ⊖ v1 ⊗ v8) ⊖ (v4 ⊗ v2 ⊖ v1 ⊗ v5)
+        ⊗ (v6 ⊗ v2 ⊖ v0 ⊗ v8)) ⊗ v8)
+    (((v0 ⊗ v8 ⊖ v6 ⊗ v2) ⊗ (v4 ⊗ v8 ⊖ v7 ⊗ v5) ⊖ (v1 ⊗ v8 ⊖ v7 ⊗ v2)
+        ⊗ (v3 ⊗ v8 ⊖ v6 ⊗ v5)) ⊗ v2) refl
 
 module _ (q : Point) (d : pos 0 <ℤ q.d) where
   one : pos 0 <ℤ pos 1
@@ -154,9 +157,8 @@ module _ (q : Point) (d : pos 0 <ℤ q.d) where
         more : (x y z : ℤ) → x ≡ y -ℤ z → pos 0 ≤ℤ y → z <ℤ pos 0 → pos 0 <ℤ x
         more x y z e h k = omega (arith, ints)
 
-    beside_path : (a : ℤ × ℤ) (ps : List (ℤ × ℤ)) (last : ℤ × ℤ) → IsOver a s → AllByRecursion (λ c. IsOver c s) ps
-        → IsOver last s
-        → AllByRecursion (IsBeside q d u v) (segments
+    beside_path : (a : ℤ × ℤ) (ps : List (ℤ × ℤ)) (last : ℤ × ℤ) → IsOver a s
+        → AllByRecursion (λ c. IsOver c s) ps → IsOver last s → AllByRecursion (IsBeside q d u v) (segments
         (path (outline_point a) (map outline_point ps) (outline_point last)))
     beside_path a [] last h k l = (
       record {
@@ -234,8 +236,8 @@ module _ (q : Point) (d : pos 0 <ℤ q.d) where
 too_few : {X : Type 0} (a : X) → 3 ≤ length (a ∷ []) → ⊥
 too_few a h = omega arith
 
-of_ring : (points ring : List (ℤ × ℤ)) → IsConvexRing flat_left IsFlatBefore points ring → (q : Point) → pos 0 <ℤ q.d
-    → All (λ s. IsOnLine q s → ⊥) (ring_sides ring)
+of_ring : (points ring : List (ℤ × ℤ)) → IsConvexRing flat_left IsFlatBefore points ring → (q : Point)
+    → pos 0 <ℤ q.d → All (λ s. IsOnLine q s → ⊥) (ring_sides ring)
     → (wind q (ring_sides ring) ≢ pos 0) ↔ All (IsLeftOf q) (ring_sides ring)
 of_ring points [] h q d off = absurd h.starts
 of_ring points (a ∷ []) h q d off = absurd (too_few a h.three)

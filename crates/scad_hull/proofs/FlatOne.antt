@@ -20,8 +20,8 @@ use Rattle.scad_hull.proofs.Whole.{recursion_of}
 use Rattle.scad_hull.proofs.OneRing.{one_ring, onward_ahead}
 use Rattle.scad_hull.proofs.Flats.{x_of, y_of, flat_exact, flat_total, sorted_ring, sorted, of_points, answer_by}
 
-on_line : (ps : List (ℤ × ℤ)) → are_on_line ps ≡ true → (p q r : ℤ × ℤ) → Contains ps p → Contains ps q
-    → Contains ps r → flat_left p q r ≡ pos 0
+on_line : (ps : List (ℤ × ℤ)) → are_on_line ps ≡ true → (p q r : ℤ × ℤ) → Contains ps p
+    → Contains ps q → Contains ps r → flat_left p q r ≡ pos 0
 on_line ps e p q r ip iq ir =
     let rows = All-contains (λ x. list_all (λ y. list_all (λ z. is_zero (flat_left x y z)) ps) ps ≡ true) ps p
     (All-from_recursion _ ps (each_of (λ x. list_all (λ y. list_all (λ z. is_zero (flat_left x y z)) ps) ps) ps
@@ -48,8 +48,8 @@ module _ (points : List (ℤ × ℤ)) where
   turned : (z : ℤ) → z ≡ pos 0 → pos 0 <ℤ z → ⊥
   turned z e h = omega (arith, ints)
 
-  not_on_line : (ring : List (ℤ × ℤ)) → IsConvexRing flat_left IsFlatBefore points ring → are_on_line (sorted points)
-      ≡ true → ⊥
+  not_on_line : (ring : List (ℤ × ℤ)) → IsConvexRing flat_left IsFlatBefore points ring
+      → are_on_line (sorted points) ≡ true → ⊥
   not_on_line [] h e = h.starts
   not_on_line (a ∷ []) h e = too_short a h.three
   not_on_line (a ∷ (b ∷ [])) h e = short_too a b h.three

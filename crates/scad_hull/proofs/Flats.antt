@@ -25,7 +25,8 @@ use Rattle.scad_hull.proofs.Distincts.{distinct_keeps, distinct_had, distinct_so
 
 -- ---- the order
 pub flat_total : IsTotalOrder flat_cmp
-flat_total = then_total (on_total (λ (p : ℤ × ℤ). p.1) int_cmp_total) (on_total (λ (p : ℤ × ℤ). p.0) int_cmp_total)
+flat_total = then_total (on_total (λ (p : ℤ × ℤ). p.1) int_cmp_total)
+    (on_total (λ (p : ℤ × ℤ). p.0) int_cmp_total)
 
 pub flat_exact : (p q : ℤ × ℤ) → flat_cmp p q ≡ Equal → p ≡ q
 flat_exact p q e =

@@ -46,12 +46,14 @@ in_either x (z ∷ zs) ys (inr i) = on (in_either x zs ys i)
     on (inl j) = inl (inr j)
     on (inr j) = inr j
 
-in_parts : {X Y : Type 0} (f : X → List Y) (y : Y) (x : X) (xs : List X) → In x xs → In y (f x) → In y (flat_map f xs)
+in_parts : {X Y : Type 0} (f : X → List Y) (y : Y) (x : X) (xs : List X) → In x xs → In y (f x)
+    → In y (flat_map f xs)
 in_parts f y x [] i j = absurd i
 in_parts f y x (z ∷ zs) (inl e) j = in_left y (f z) (flat_map f zs) (subst (λ w. In y (f w)) e j)
 in_parts f y x (z ∷ zs) (inr i) j = in_right y (f z) (flat_map f zs) (in_parts f y x zs i j)
 
-part_of : {X Y : Type 0} (f : X → List Y) (y : Y) (xs : List X) → In y (flat_map f xs) → (x : X) × In x xs × In y (f x)
+part_of : {X Y : Type 0} (f : X → List Y) (y : Y) (xs : List X) → In y (flat_map f xs)
+    → (x : X) × In x xs × In y (f x)
 part_of f y [] i = absurd i
 part_of {X = X} f y (x ∷ xs) i = on (part_of f y xs) (in_either y (f x) (flat_map f xs) i)
   where
@@ -74,9 +76,11 @@ place_in x (y ∷ ys) (inr i) = let r = place_in x ys i in let l = r.1 in (suc r
 -- three in turn are a bend, and the other way round
 bend_in : (way : List Pt3) (a b c : Pt3) (before after : List Pt3) → way ≡ before ++ (a ∷ (b ∷ (c ∷ after)))
     → In (record { from = a; at = b; to = c }) (bends_of way)
-bend_in way a b c before after e = subst (λ w. In (record { from = a; at = b; to = c }) (bends_of w)) (sym e) (there before)
+bend_in way a b c before after e = subst (λ w. In (record { from = a; at = b; to = c }) (bends_of w)) (sym e)
+    (there before)
   where
-    there : (before : List Pt3) → In (record { from = a; at = b; to = c }) (bends_of (before ++ (a ∷ (b ∷ (c ∷ after)))))
+    there : (before : List Pt3) → In (record { from = a; at = b; to = c })
+        (bends_of (before ++ (a ∷ (b ∷ (c ∷ after)))))
     there [] = inl refl
     there (x ∷ []) = inr (inl refl)
     there (x ∷ (y ∷ [])) = inr (inr (inl refl))
@@ -87,7 +91,8 @@ turn_in : (way : List Pt3) (d : Bend) → In d (bends_of way)
 turn_in [] d i = absurd i
 turn_in (a ∷ []) d i = absurd i
 turn_in (a ∷ (b ∷ [])) d i = absurd i
-turn_in (a ∷ (b ∷ (c ∷ way))) d (inl e) = ([], way, λ i. (sym e i).from ∷ ((sym e i).at ∷ ((sym e i).to ∷ way)))
+turn_in (a ∷ (b ∷ (c ∷ way))) d (inl e)
+    = ([], way, λ i. (sym e i).from ∷ ((sym e i).at ∷ ((sym e i).to ∷ way)))
 turn_in (a ∷ (b ∷ (c ∷ way))) d (inr i) =
     let r = turn_in (b ∷ (c ∷ way)) d i in
     (a ∷ r.0, r.1, ap (λ ws. a ∷ ws) r.2)
@@ -121,13 +126,14 @@ module _ (ps : List Pt3) where
   pub none_found : IsFound ps [] [] []
   none_found = record { faces = tt; bends = refl; sides = tt }
 
-  pub none_at : (fs : List Face) (bs : List Bend) (keys : List Side) → fs ≡ [] → bs ≡ [] → keys ≡ [] → IsFound ps (rings_of fs) bs keys
+  pub none_at : (fs : List Face) (bs : List Bend) (keys : List Side) → fs ≡ [] → bs ≡ [] → keys ≡ []
+      → IsFound ps (rings_of fs) bs keys
   none_at fs bs keys ef eb ek =
       subst (λ xs. IsFound ps (rings_of xs) bs keys) (sym ef)
       (subst (λ xs. IsFound ps [] xs keys) (sym eb) (subst (λ xs. IsFound ps [] [] xs) (sym ek) none_found))
 
-  pub one_found : (rings : List (List Pt3)) (bends : List Bend) (keys : List Side) (r : List Pt3) → IsFound ps rings bends keys
-      → IsRing ps r
+  pub one_found : (rings : List (List Pt3)) (bends : List Bend) (keys : List Side) (r : List Pt3)
+      → IsFound ps rings bends keys → IsRing ps r
       → IsFound ps (rings ++ (r ∷ [])) (bends ++ bends_of (round r)) (with_all side_cmp keys (ring_sides r))
   one_found rings bends keys r found is = record {
     faces = all_joined (IsRing ps) rings (r ∷ []) found.faces (is, tt);
@@ -143,15 +149,16 @@ module _ (ps : List Pt3) where
 
   module _ (sorted : IsStrictlySortedBy space_cmp ps) (rings : List (List Pt3)) (bends : List Bend) (keys : List Side)
       (found : IsFound ps rings bends keys) where
-    pub bend_side : (k : ℕ) (d : Bend) → k < length bends → d ≡ get_or bends k d → IsSideOf ps d.from d.at d.to
+    pub bend_side : (k : ℕ) (d : Bend) → k < length bends → d ≡ get_or bends k d
+        → IsSideOf ps d.from d.at d.to
     bend_side k d h e =
         let i : In d bends = subst (λ b. In b bends) (sym e) (at_place bends k d h) in
         let p = part_of (λ ring. bends_of (round ring)) d rings (subst (In d) found.bends i) in
         let t = turn_in (round p.0) d p.2 in
         (side_of ps sorted p.0 (of_in (IsRing ps) rings p.0 found.faces p.1) d.from d.at d.to t).side
 
-    pub wrapped : ((k : ℕ) (d : Bend) → k < length bends → HasBack rings (get_or bends k d)) → (first : List Pt3) → In first rings
-        → IsWrapped ps rings
+    pub wrapped : ((k : ℕ) (d : Bend) → k < length bends → HasBack rings (get_or bends k d))
+        → (first : List Pt3) → In first rings → IsWrapped ps rings
     wrapped all first i = record { faces = found.faces; backs = backs; first = first; has_first = i }
       where
         backs : HasBacks rings
@@ -168,25 +175,29 @@ is_equal Less e = cc
 is_equal Equal e = refl
 is_equal Greater e = cc
 
-pub key_had : (keys : List Side) (s : Side) (P : Side → Type 0) → AllByRecursion P keys → list_any (λ k. is_eq (side_cmp s k)) keys ≡ true → P s
+pub key_had : (keys : List Side) (s : Side) (P : Side → Type 0) → AllByRecursion P keys
+    → list_any (λ k. is_eq (side_cmp s k)) keys ≡ true → P s
 key_had keys s P h e =
     let found = some_of (λ k. is_eq (side_cmp s k)) keys e in
     subst P (sym (side_exact s found.0 (is_equal (side_cmp s found.0) found.2)))
     (All-contains P keys found.0 (All-from_recursion P keys h) found.1)
 
 module _ (ps : List Pt3) (fs gs : List Face) (bs ds : List Bend) (keys ks : List Side) (f : Face) where
-  pub added : IsFound ps (rings_of fs) bs keys → IsFaceOf ps f → gs ≡ fs ++ (f ∷ []) → ds ≡ bs ++ bends_of (round f.ring.items)
+  pub added : IsFound ps (rings_of fs) bs keys → IsFaceOf ps f → gs ≡ fs ++ (f ∷ [])
+      → ds ≡ bs ++ bends_of (round f.ring.items)
       → ks ≡ with_all side_cmp keys (ring_sides f.ring.items) → IsFound ps (rings_of gs) ds ks
   added found is eg ed ek =
       subst (λ rs. IsFound ps rs ds ks) (sym (ap rings_of eg ∙ rings_more fs (f ∷ [])))
       (subst (λ xs. IsFound ps (rings_of fs ++ (f.ring.items ∷ [])) xs ks) (sym ed)
-      (subst (λ xs. IsFound ps (rings_of fs ++ (f.ring.items ∷ [])) (bs ++ bends_of (round f.ring.items)) xs) (sym ek)
+      (subst (λ xs. IsFound ps (rings_of fs ++ (f.ring.items ∷ [])) (bs ++ bends_of (round f.ring.items)) xs)
+          (sym ek)
       (one_found ps (rings_of fs) bs keys f.ring.items found (ring_is ps f is))))
 
 pub extended : (fs gs : List Face) (f : Face) → gs ≡ fs ++ (f ∷ []) → Extends (rings_of fs) (rings_of gs)
 extended fs gs f e = (f.ring.items ∷ [], ap rings_of e ∙ rings_more fs (f ∷ []))
 
-pub back_added : (fs gs : List Face) (f : Face) (a b : Pt3) → gs ≡ fs ++ (f ∷ []) → GoesOn f.ring.items a b → HasSide (rings_of gs) a b
+pub back_added : (fs gs : List Face) (f : Face) (a b : Pt3) → gs ≡ fs ++ (f ∷ []) → GoesOn f.ring.items a b
+    → HasSide (rings_of gs) a b
 back_added fs gs f a b e on = (
   f.ring.items,
   subst (In f.ring.items) (sym (ap rings_of e ∙ rings_more fs (f ∷ [])))
@@ -198,10 +209,12 @@ pub extends_itself : {X : Type 0} (xs : List X) → Extends xs xs
 extends_itself xs = ([], sym (append-nil xs))
 
 -- what lies behind lies there still
-pub back_kept : (rings more : List (List Pt3)) (bend : Bend) → Extends rings more → HasBack rings bend → HasBack more bend
+pub back_kept : (rings more : List (List Pt3)) (bend : Bend) → Extends rings more → HasBack rings bend
+    → HasBack more bend
 back_kept rings more bend e h = (h.0, subst (In h.0) (sym e.1) (in_left h.0 rings e.0 h.1), h.2)
 
-place_kept : {X : Type 0} (xs ys : List X) (k : ℕ) (d : X) → k < length xs → get_or (xs ++ ys) k d ≡ get_or xs k d
+place_kept : {X : Type 0} (xs ys : List X) (k : ℕ) (d : X) → k < length xs
+    → get_or (xs ++ ys) k d ≡ get_or xs k d
 place_kept [] ys k d h = absurd (omega arith)
 place_kept (x ∷ xs) ys zero d h = refl
 place_kept (x ∷ xs) ys (suc k) d h = place_kept xs ys k d (omega arith)
@@ -221,7 +234,8 @@ same_or_before (suc k) (suc i) h = elim (same_or_before k i (omega arith)) [
 ]
 
 -- one more bend has its back
-pub more_backs : (rings more : List (List Pt3)) (bs ds : List Bend) (i : ℕ) (b : Bend) → Extends rings more → Extends bs ds → i < length bs
+pub more_backs : (rings more : List (List Pt3)) (bs ds : List Bend) (i : ℕ) (b : Bend) → Extends rings more
+    → Extends bs ds → i < length bs
     → b ≡ get_or bs i b → HasBack more b → ((k : ℕ) (d : Bend) → k < i → HasBack rings (get_or bs k d))
     → (k : ℕ) (d : Bend) → k < i + 1 → HasBack more (get_or ds k d)
 more_backs rings more bs ds i b er eb inside is back before k d h =
@@ -231,7 +245,8 @@ more_backs rings more bs ds i b er eb inside is back before k d h =
     by_place (inl l) = subst (HasBack more) (sym (place_kept bs eb.0 k d (omega arith)))
         (back_kept rings more (get_or bs k d) er (before k d l))
     by_place (inr e) = subst (HasBack more)
-        (is ∙ other_default bs i b d inside ∙ sym (place_kept bs eb.0 i d inside) ∙ ap (λ j. get_or (bs ++ eb.0) j d) (sym e)) back
+        (is ∙ other_default bs i b d inside ∙ sym (place_kept bs eb.0 i d inside)
+            ∙ ap (λ j. get_or (bs ++ eb.0) j d) (sym e)) back
 
 longer : {X : Type 0} (xs ys : List X) → length (xs ++ ys) ≡ length xs + length ys
 longer [] ys = omega arith
@@ -264,11 +279,13 @@ few_bends (p ∷ (q ∷ ps)) h = absurd (omega arith)
 pub no_bends : (bs : List Bend) (ring : List Pt3) → length ring < 2 → bs ≡ bs ++ bends_of (round ring)
 no_bends bs ring h = sym (ap (λ xs. bs ++ xs) (few_bends ring h) ∙ append-nil bs)
 
-pub no_sides : (keys : List Side) (ring : List Pt3) → length ring < 1 → keys ≡ with_all side_cmp keys (ring_sides ring)
+pub no_sides : (keys : List Side) (ring : List Pt3) → length ring < 1
+    → keys ≡ with_all side_cmp keys (ring_sides ring)
 no_sides keys [] h = refl
 no_sides keys (p ∷ ps) h = absurd (omega arith)
 
 -- what three facts of a result that is there tell together
-pub three_ok : {T E P Q S R : Type 0} (r : Result T E) → (P → Q → S → R) → OnOk r P → OnOk r Q → OnOk r S → OnOk r R
+pub three_ok : {T E P Q S R : Type 0} (r : Result T E) → (P → Q → S → R) → OnOk r P → OnOk r Q → OnOk r S
+    → OnOk r R
 three_ok (Ok x) f h k l = f h k l
 three_ok (Err e) f h k l = tt

@@ -18,7 +18,8 @@ use Rattle.scad_hull.proofs.FacePlanes.{normal_some, second_in, third_in}
 
 -- the square of the way from a to b
 abbrev pub way_square : Pt3 → Pt3 → ℤ
-way_square a b = (b.x -ℤ a.x) *ℤ (b.x -ℤ a.x) +ℤ ((b.y -ℤ a.y) *ℤ (b.y -ℤ a.y) +ℤ (b.z -ℤ a.z) *ℤ (b.z -ℤ a.z))
+way_square a b = (b.x -ℤ a.x) *ℤ (b.x -ℤ a.x) +ℤ
+    ((b.y -ℤ a.y) *ℤ (b.y -ℤ a.y) +ℤ (b.z -ℤ a.z) *ℤ (b.z -ℤ a.z))
 
 above : (z : ℤ) → pos 0 <ℤ z → z ≡ pos 0 → ⊥
 above z h e = omega (arith, ints)
@@ -28,7 +29,8 @@ module _ (n : Normal) (a b p : Pt3) (upright : depth_of n a b ≡ pos 0) (apart 
   m = normal_of a b p
 
   abbrev along : ℤ
-  along = (b.x -ℤ a.x) *ℤ (p.x -ℤ a.x) +ℤ ((b.y -ℤ a.y) *ℤ (p.y -ℤ a.y) +ℤ (b.z -ℤ a.z) *ℤ (p.z -ℤ a.z))
+  along = (b.x -ℤ a.x) *ℤ (p.x -ℤ a.x) +ℤ
+      ((b.y -ℤ a.y) *ℤ (p.y -ℤ a.y) +ℤ (b.z -ℤ a.z) *ℤ (p.z -ℤ a.z))
 
   pub height_by : way_square a b *ℤ depth_of n a p ≡ depth_of n a b *ℤ along
       -ℤ ((n.y *ℤ (b.z -ℤ a.z) -ℤ n.z *ℤ (b.y -ℤ a.y)) *ℤ m.x
@@ -37,17 +39,20 @@ module _ (n : Normal) (a b p : Pt3) (upright : depth_of n a b ≡ pos 0) (apart 
   height_by =
       let dot = λ (r s t u v w : Term). r ⊗ u ⊕ (s ⊗ v ⊕ t ⊗ w) in
       let W = λ (r s t u : Term). r ⊗ s ⊖ t ⊗ u in
-      ring (n.x ∷ n.y ∷ n.z ∷ (b.x -ℤ a.x) ∷ (b.y -ℤ a.y) ∷ (b.z -ℤ a.z) ∷ (p.x -ℤ a.x) ∷ (p.y -ℤ a.y) ∷ (p.z -ℤ a.z) ∷ [])
+      ring (n.x ∷ n.y ∷ n.z ∷ (b.x -ℤ a.x) ∷ (b.y -ℤ a.y) ∷ (b.z -ℤ a.z) ∷ (p.x -ℤ a.x)
+          ∷ (p.y -ℤ a.y) ∷ (p.z -ℤ a.z) ∷ [])
       (dot (var 3) (var 4) (var 5) (var 3) (var 4) (var 5) ⊗ dot (var 0) (var 1) (var 2) (var 6) (var 7) (var 8))
       (dot (var 0) (var 1) (var 2) (var 3) (var 4) (var 5) ⊗ dot (var 3) (var 4) (var 5) (var 6) (var 7) (var 8)
-      ⊖ dot (W (var 1) (var 5) (var 2) (var 4)) (W (var 2) (var 3) (var 0) (var 5)) (W (var 0) (var 4) (var 1) (var 3))
+      ⊖ dot (W (var 1) (var 5) (var 2) (var 4)) (W (var 2) (var 3) (var 0) (var 5))
+          (W (var 0) (var 4) (var 1) (var 3))
       (W (var 4) (var 8) (var 5) (var 7)) (W (var 5) (var 6) (var 3) (var 8)) (W (var 3) (var 7) (var 4) (var 6))) refl
 
   pub aside_by : (n.z *ℤ (b.y -ℤ a.y) -ℤ n.y *ℤ (b.z -ℤ a.z)) *ℤ (p.x -ℤ a.x)
       +ℤ ((n.x *ℤ (b.z -ℤ a.z) -ℤ n.z *ℤ (b.x -ℤ a.x)) *ℤ (p.y -ℤ a.y)
       +ℤ (n.y *ℤ (b.x -ℤ a.x) -ℤ n.x *ℤ (b.y -ℤ a.y)) *ℤ (p.z -ℤ a.z)) ≡ pos 0 -ℤ dot_of n m
   aside_by =
-      ring (n.x ∷ n.y ∷ n.z ∷ (b.x -ℤ a.x) ∷ (b.y -ℤ a.y) ∷ (b.z -ℤ a.z) ∷ (p.x -ℤ a.x) ∷ (p.y -ℤ a.y) ∷ (p.z -ℤ a.z) ∷ [])
+      ring (n.x ∷ n.y ∷ n.z ∷ (b.x -ℤ a.x) ∷ (b.y -ℤ a.y) ∷ (b.z -ℤ a.z) ∷ (p.x -ℤ a.x)
+          ∷ (p.y -ℤ a.y) ∷ (p.z -ℤ a.z) ∷ [])
       ((var 2 ⊗ var 4 ⊖ var 1 ⊗ var 5) ⊗ var 6
       ⊕ ((var 0 ⊗ var 5 ⊖ var 2 ⊗ var 3) ⊗ var 7 ⊕ (var 1 ⊗ var 3 ⊖ var 0 ⊗ var 4) ⊗ var 8))
       (num (pos 0) ⊖ (var 0 ⊗ (var 4 ⊗ var 8 ⊖ var 5 ⊗ var 7)
@@ -56,7 +61,8 @@ module _ (n : Normal) (a b p : Pt3) (upright : depth_of n a b ≡ pos 0) (apart 
   nothing : (h s t u v : ℤ) → h *ℤ s -ℤ (t *ℤ pos 0 +ℤ (u *ℤ pos 0 +ℤ v *ℤ pos 0)) ≡ h *ℤ s
   nothing h s t u v =
       ring (h ∷ s ∷ t ∷ u ∷ v ∷ [])
-      (var 0 ⊗ var 1 ⊖ (var 2 ⊗ num (pos 0) ⊕ (var 3 ⊗ num (pos 0) ⊕ var 4 ⊗ num (pos 0)))) (var 0 ⊗ var 1) refl
+      (var 0 ⊗ var 1 ⊖ (var 2 ⊗ num (pos 0) ⊕ (var 3 ⊗ num (pos 0) ⊕ var 4 ⊗ num (pos 0))))
+          (var 0 ⊗ var 1) refl
 
   on_no_side : IsInFront n a b p → m.x ≡ pos 0 → m.y ≡ pos 0 → m.z ≡ pos 0 → ⊥
   on_no_side front hx hy hz = by_front front
@@ -73,7 +79,8 @@ module _ (n : Normal) (a b p : Pt3) (upright : depth_of n a b ≡ pos 0) (apart 
 
       no_aside : dot_of n m ≡ pos 0
       no_aside = (λ i. n.x *ℤ hx i +ℤ (n.y *ℤ hy i +ℤ n.z *ℤ hz i))
-          ∙ ring (n.x ∷ n.y ∷ n.z ∷ []) (var 0 ⊗ num (pos 0) ⊕ (var 1 ⊗ num (pos 0) ⊕ var 2 ⊗ num (pos 0))) (num (pos 0)) refl
+          ∙ ring (n.x ∷ n.y ∷ n.z ∷ [])
+          (var 0 ⊗ num (pos 0) ⊕ (var 1 ⊗ num (pos 0) ⊕ var 2 ⊗ num (pos 0))) (num (pos 0)) refl
 
       turned_round : (s t : ℤ) → s ≡ pos 0 -ℤ t → t ≡ pos 0 → s ≡ pos 0
       turned_round s t e h = omega (arith, ints)

@@ -17,7 +17,8 @@ use Rattle.scad_hull.specs.Plane.{area, left, IsOnward, IsBefore}
 use Rattle.scad_hull.specs.Flat.{flat_cmp, flat_left, are_on_line}
 
 -- ---- the order
-pub onward_of : (a b c d : ℤ) → ordering_then (int_cmp b d) (int_cmp a c) ≡ Less → IsOnward (c -ℤ a) (d -ℤ b)
+pub onward_of : (a b c d : ℤ) → ordering_then (int_cmp b d) (int_cmp a c) ≡ Less
+    → IsOnward (c -ℤ a) (d -ℤ b)
 onward_of a b c d e = by_tests (int_lt b d) (int_lt d b) (int_lt a c) (int_lt c a) refl refl refl e
   where
     by_tests : (l m n o : Bool) → int_lt b d ≡ l → int_lt d b ≡ m → int_lt a c ≡ n
@@ -70,7 +71,8 @@ module _ {X : Type 0} (f g : X → ℤ) (a b : X) (apart : IsBefore f g a b) whe
   along p q =
       ring (f a ∷ g a ∷ f b ∷ g b ∷ f p ∷ g p ∷ f q ∷ g q ∷ [])
       ((v2 ⊖ v0) ⊗ (v7 ⊖ v5) ⊖ (v3 ⊖ v1) ⊗ (v6 ⊖ v4))
-      (((v2 ⊖ v0) ⊗ (v7 ⊖ v1) ⊖ (v3 ⊖ v1) ⊗ (v6 ⊖ v0)) ⊖ ((v2 ⊖ v0) ⊗ (v5 ⊖ v1) ⊖ (v3 ⊖ v1) ⊗ (v4 ⊖ v0))) refl
+      (((v2 ⊖ v0) ⊗ (v7 ⊖ v1) ⊖ (v3 ⊖ v1) ⊗ (v6 ⊖ v0))
+          ⊖ ((v2 ⊖ v0) ⊗ (v5 ⊖ v1) ⊖ (v3 ⊖ v1) ⊗ (v4 ⊖ v0))) refl
 
   across : (x y z w u v : ℤ) → u *ℤ area x y z w ≡ x *ℤ area u v z w -ℤ z *ℤ area u v x y
   across x y z w u v =
@@ -113,11 +115,13 @@ module _ {X : Type 0} (f g : X → ℤ) (a b : X) (apart : IsBefore f g a b) whe
         above z e h = omega (arith, ints)
 
 -- ---- the test
-all_of : {X : Type 0} (p : X → Bool) (xs : List X) → AllByRecursion (λ x. p x ≡ true) xs → list_all p xs ≡ true
+all_of : {X : Type 0} (p : X → Bool) (xs : List X) → AllByRecursion (λ x. p x ≡ true) xs
+    → list_all p xs ≡ true
 all_of p [] h = refl
 all_of p (x ∷ xs) h = ap₂ (λ a b. a && b) h.0 (all_of p xs h.1)
 
-pub each_of : {X : Type 0} (p : X → Bool) (xs : List X) → list_all p xs ≡ true → AllByRecursion (λ x. p x ≡ true) xs
+pub each_of : {X : Type 0} (p : X → Bool) (xs : List X) → list_all p xs ≡ true
+    → AllByRecursion (λ x. p x ≡ true) xs
 each_of p [] h = tt
 each_of p (x ∷ xs) h = let both = and_parts (p x) (list_all p xs) h in (both.0, each_of p xs both.1)
 
@@ -140,7 +144,8 @@ end_on a b = as_zero (flat_left a b b) (ring (a.0 ∷ a.1 ∷ b.0 ∷ b.1 ∷ []
 
 start_on : (a b : ℤ × ℤ) → is_zero (flat_left a b a) ≡ true
 start_on a b = as_zero (flat_left a b a)
-    (ring (a.0 ∷ a.1 ∷ b.0 ∷ b.1 ∷ []) ((v2 ⊖ v0) ⊗ (v1 ⊖ v1) ⊖ (v3 ⊖ v1) ⊗ (v0 ⊖ v0)) (num (pos 0)) refl)
+    (ring (a.0 ∷ a.1 ∷ b.0 ∷ b.1 ∷ []) ((v2 ⊖ v0) ⊗ (v1 ⊖ v1) ⊖ (v3 ⊖ v1) ⊗ (v0 ⊖ v0))
+        (num (pos 0)) refl)
 
 -- where all points lie on the line through two differing ones, any three lie on one line
 pub line_of : (a b : ℤ × ℤ) → IsBefore (λ s. s.0) (λ s. s.1) a b → (ps : List (ℤ × ℤ))
@@ -182,13 +187,14 @@ few_on [] h = refl
 few_on (a ∷ []) h = one_on a
 few_on (a ∷ (b ∷ ps)) h = absurd (omega arith)
 
-pub others_on : (ps : List (ℤ × ℤ)) (a b : ℤ × ℤ) → 2 ≤ length ps → a ≡ get_or ps 0 a → b ≡ get_or ps 1 b
-    → IsStrictlySortedBy flat_cmp ps
+pub others_on : (ps : List (ℤ × ℤ)) (a b : ℤ × ℤ) → 2 ≤ length ps → a ≡ get_or ps 0 a
+    → b ≡ get_or ps 1 b → IsStrictlySortedBy flat_cmp ps
     → list_all (λ p. is_zero (flat_left a b p)) ps ≡ are_on_line ps
 unfolding IsStrictlySortedBy
 others_on [] a b h e f s = absurd (omega arith)
 others_on (c ∷ []) a b h e f s = absurd (omega arith)
-others_on (c ∷ (d ∷ ps)) a b h e f s = ap₂ (λ u v. list_all (λ p. is_zero (flat_left u v p)) (c ∷ (d ∷ ps))) e f
+others_on (c ∷ (d ∷ ps)) a b h e f s = ap₂ (λ u v. list_all (λ p. is_zero (flat_left u v p)) (c ∷ (d ∷ ps)))
+    e f
     ∙ by_the_first c d ps s.0.0
 
 pub few_told : (qs : List (ℤ × ℤ)) → length qs < 2 → nat_lt (length qs) 2 ≡ are_on_line qs

@@ -27,11 +27,13 @@ faces_exact (x ∷ xs) (y ∷ ys) e =
     ap₂ (λ p ps. p ∷ ps) (space_exact x y both.0) (faces_exact xs ys both.1)
 
 -- ---- what holds of all of a list made of another
-parted : {X : Type 0} (P : X → Type 0) (xs ys : List X) → AllByRecursion P (xs ++ ys) → AllByRecursion P xs × AllByRecursion P ys
+parted : {X : Type 0} (P : X → Type 0) (xs ys : List X) → AllByRecursion P (xs ++ ys)
+    → AllByRecursion P xs × AllByRecursion P ys
 parted P [] ys h = (tt, h)
 parted P (x ∷ xs) ys h = let rest = parted P xs ys h.1 in ((h.0, rest.0), rest.1)
 
-of_mapped : {X Y : Type 0} (P : Y → Type 0) (f : X → Y) (xs : List X) → AllByRecursion P (map f xs) → AllByRecursion (λ x. P (f x)) xs
+of_mapped : {X Y : Type 0} (P : Y → Type 0) (f : X → Y) (xs : List X) → AllByRecursion P (map f xs)
+    → AllByRecursion (λ x. P (f x)) xs
 of_mapped P f [] h = tt
 of_mapped P f (x ∷ xs) h = (h.0, of_mapped P f xs h.1)
 
@@ -82,7 +84,8 @@ module _ (ps : List Pt3) (sorted : IsStrictlySortedBy space_cmp ps) where
   pub face_listed : (face : List Pt3) → IsFace ps face → Contains (faces_of ps) face
   face_listed face h =
       let plane = plane_of ps sorted h.base h.normal h.some h.inward face h.ring in
-      subst (Contains (faces_of ps)) (sym (only_ring ps sorted h.base h.normal plane face h.ring)) (ring_listed ps h.base h.normal plane)
+      subst (Contains (faces_of ps)) (sym (only_ring ps sorted h.base h.normal plane face h.ring))
+          (ring_listed ps h.base h.normal plane)
 
 pub faces_are_convex : FacesAreConvex
 faces_are_convex = record {

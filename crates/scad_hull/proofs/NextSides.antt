@@ -48,19 +48,23 @@ no_times : (k : ℤ) → k *ℤ pos 0 ≡ pos 0
 no_times k = ring (k ∷ []) (var 0 ⊗ num (pos 0)) (num (pos 0)) refl
 
 -- a sum by weights of a normal that is a multiple of another
-weighed : (s d kx ky kz nx ny nz mx my mz : ℤ) → nx *ℤ d ≡ s *ℤ mx → ny *ℤ d ≡ s *ℤ my → nz *ℤ d ≡ s *ℤ mz
-    → s *ℤ (pos 0 -ℤ (kx *ℤ mx +ℤ (ky *ℤ my +ℤ kz *ℤ mz))) ≡ d *ℤ (pos 0 -ℤ (kx *ℤ nx +ℤ (ky *ℤ ny +ℤ kz *ℤ nz)))
+weighed : (s d kx ky kz nx ny nz mx my mz : ℤ) → nx *ℤ d ≡ s *ℤ mx → ny *ℤ d ≡ s *ℤ my
+    → nz *ℤ d ≡ s *ℤ mz
+    → s *ℤ (pos 0 -ℤ (kx *ℤ mx +ℤ (ky *ℤ my +ℤ kz *ℤ mz)))
+    ≡ d *ℤ (pos 0 -ℤ (kx *ℤ nx +ℤ (ky *ℤ ny +ℤ kz *ℤ nz)))
 weighed s d kx ky kz nx ny nz mx my mz ex ey ez =
     ring (s ∷ kx ∷ ky ∷ kz ∷ mx ∷ my ∷ mz ∷ [])
     (var 0 ⊗ (num (pos 0) ⊖ (var 1 ⊗ var 4 ⊕ (var 2 ⊗ var 5 ⊕ var 3 ⊗ var 6))))
-    (num (pos 0) ⊖ (var 1 ⊗ (var 0 ⊗ var 4) ⊕ (var 2 ⊗ (var 0 ⊗ var 5) ⊕ var 3 ⊗ (var 0 ⊗ var 6)))) refl
+    (num (pos 0) ⊖ (var 1 ⊗ (var 0 ⊗ var 4) ⊕ (var 2 ⊗ (var 0 ⊗ var 5) ⊕ var 3 ⊗ (var 0 ⊗ var 6))))
+        refl
     ∙ (λ i. pos 0 -ℤ (kx *ℤ sym ex i +ℤ (ky *ℤ sym ey i +ℤ kz *ℤ sym ez i)))
     ∙ ring (d ∷ kx ∷ ky ∷ kz ∷ nx ∷ ny ∷ nz ∷ [])
     (num (pos 0) ⊖ (var 1 ⊗ (var 4 ⊗ var 0) ⊕ (var 2 ⊗ (var 5 ⊗ var 0) ⊕ var 3 ⊗ (var 6 ⊗ var 0))))
     (var 0 ⊗ (num (pos 0) ⊖ (var 1 ⊗ var 4 ⊕ (var 2 ⊗ var 5 ⊕ var 3 ⊗ var 6)))) refl
 
 -- of two ways onwards along one line each is a positive multiple of the other
-same_way : (s d ao ho aq hq : ℤ) → pos 0 <ℤ s → IsOnward ao ho → IsOnward aq hq → s *ℤ aq ≡ d *ℤ ao → s *ℤ hq ≡ d *ℤ ho → pos 0 ≤ℤ d
+same_way : (s d ao ho aq hq : ℤ) → pos 0 <ℤ s → IsOnward ao ho → IsOnward aq hq → s *ℤ aq ≡ d *ℤ ao
+    → s *ℤ hq ≡ d *ℤ ho → pos 0 ≤ℤ d
 same_way s d ao ho aq hq hs (inl up) q ea eh =
     at_least_left d ho up (subst (λ (z : ℤ). pos 0 ≤ℤ z) eh (at_least_mul s hq (weak s hs) (high aq hq q)))
 same_way s d ao ho aq hq hs (inr (flat, on)) (inl up) ea eh =
@@ -71,22 +75,26 @@ same_way s d ao ho aq hq hs (inr (flat, on)) (inr (level, too)) ea eh =
 -- ---- points of a line through a and b
 -- the square of the way from a to b, times how far q lies along it
 abbrev pub part : Pt3 → Pt3 → Pt3 → ℤ
-part a b q = (b.x -ℤ a.x) *ℤ (q.x -ℤ a.x) +ℤ ((b.y -ℤ a.y) *ℤ (q.y -ℤ a.y) +ℤ (b.z -ℤ a.z) *ℤ (q.z -ℤ a.z))
+part a b q = (b.x -ℤ a.x) *ℤ (q.x -ℤ a.x) +ℤ
+    ((b.y -ℤ a.y) *ℤ (q.y -ℤ a.y) +ℤ (b.z -ℤ a.z) *ℤ (q.z -ℤ a.z))
 
 module _ (a b q : Pt3) (line : IsOnLine a b q) where
   by_cross : (ux uy uz rx ry rz : ℤ) → uz *ℤ rx -ℤ ux *ℤ rz ≡ pos 0 → ux *ℤ ry -ℤ uy *ℤ rx ≡ pos 0
-      → (ux *ℤ ux +ℤ (uy *ℤ uy +ℤ uz *ℤ uz)) *ℤ rx ≡ (ux *ℤ rx +ℤ (uy *ℤ ry +ℤ uz *ℤ rz)) *ℤ ux
+      → (ux *ℤ ux +ℤ (uy *ℤ uy +ℤ uz *ℤ uz)) *ℤ rx
+      ≡ (ux *ℤ rx +ℤ (uy *ℤ ry +ℤ uz *ℤ rz)) *ℤ ux
   by_cross ux uy uz rx ry rz my mz =
       ring (ux ∷ uy ∷ uz ∷ rx ∷ ry ∷ rz ∷ [])
       ((var 0 ⊗ var 0 ⊕ (var 1 ⊗ var 1 ⊕ var 2 ⊗ var 2)) ⊗ var 3)
       ((var 0 ⊗ var 3 ⊕ (var 1 ⊗ var 4 ⊕ var 2 ⊗ var 5)) ⊗ var 0
       ⊕ (var 2 ⊗ (var 2 ⊗ var 3 ⊖ var 0 ⊗ var 5) ⊖ var 1 ⊗ (var 0 ⊗ var 4 ⊖ var 1 ⊗ var 3))) refl
-      ∙ ap₂ (λ (s t : ℤ). (ux *ℤ rx +ℤ (uy *ℤ ry +ℤ uz *ℤ rz)) *ℤ ux +ℤ (uz *ℤ s -ℤ uy *ℤ t)) my mz
+      ∙ ap₂ (λ (s t : ℤ). (ux *ℤ rx +ℤ (uy *ℤ ry +ℤ uz *ℤ rz)) *ℤ ux +ℤ (uz *ℤ s -ℤ uy *ℤ t))
+      my mz
       ∙ ring (((ux *ℤ rx +ℤ (uy *ℤ ry +ℤ uz *ℤ rz)) *ℤ ux) ∷ uy ∷ uz ∷ [])
       (var 0 ⊕ (var 2 ⊗ num (pos 0) ⊖ var 1 ⊗ num (pos 0))) (var 0) refl
 
   pub along_x : way_square a b *ℤ (q.x -ℤ a.x) ≡ part a b q *ℤ (b.x -ℤ a.x)
-  along_x = by_cross (b.x -ℤ a.x) (b.y -ℤ a.y) (b.z -ℤ a.z) (q.x -ℤ a.x) (q.y -ℤ a.y) (q.z -ℤ a.z) line.y line.z
+  along_x = by_cross (b.x -ℤ a.x) (b.y -ℤ a.y) (b.z -ℤ a.z) (q.x -ℤ a.x) (q.y -ℤ a.y) (q.z -ℤ a.z) line.y
+      line.z
 
   pub along_y : way_square a b *ℤ (q.y -ℤ a.y) ≡ part a b q *ℤ (b.y -ℤ a.y)
   along_y =
@@ -127,8 +135,8 @@ pub record IsAlong (turn : Pt3 → Pt3 → Pt3 → ℤ) (a b q : Pt3) (w t : ℤ
   pub past : (o : Pt3) → w *ℤ turn o b q ≡ (w -ℤ t) *ℤ turn b a o
   pub from_a : (o : Pt3) → w *ℤ turn a o q ≡ t *ℤ turn b a o
 
-along_by : (f g : Pt3 → ℤ) (a b q : Pt3) (w t : ℤ) → w *ℤ (f q -ℤ f a) ≡ t *ℤ (f b -ℤ f a) → w *ℤ (g q -ℤ g a) ≡ t *ℤ (g b -ℤ g a)
-    → IsAlong (left f g) a b q w t
+along_by : (f g : Pt3 → ℤ) (a b q : Pt3) (w t : ℤ) → w *ℤ (f q -ℤ f a) ≡ t *ℤ (f b -ℤ f a)
+    → w *ℤ (g q -ℤ g a) ≡ t *ℤ (g b -ℤ g a) → IsAlong (left f g) a b q w t
 along_by f g a b q w t ef eg = record {
   into = side_in f g a b q w t ef eg;
   onto = side_on f g a b q w t ef eg;
@@ -140,11 +148,15 @@ pub along_in : (n : Normal) (some : pos 0 <ℤ square_of n) (a b q : Pt3) → Is
     → IsAlong (face_left n) a b q (way_square a b) (part a b q)
 along_in n some a b q line =
     by_order (seen n some).straight
-    ((seen n some).along a b q (way_square a b) (part a b q) (along_x a b q line) (along_y a b q line) (along_z a b q line))
+    ((seen n some).along a b q (way_square a b) (part a b q) (along_x a b q line) (along_y a b q line)
+        (along_z a b q line))
   where
-    by_order : (face_left n ≡ left (seen n some).f (seen n some).g) ⊎ (face_left n ≡ left (seen n some).g (seen n some).f)
-        → (way_square a b *ℤ ((seen n some).f q -ℤ (seen n some).f a) ≡ part a b q *ℤ ((seen n some).f b -ℤ (seen n some).f a))
-        × (way_square a b *ℤ ((seen n some).g q -ℤ (seen n some).g a) ≡ part a b q *ℤ ((seen n some).g b -ℤ (seen n some).g a))
+    by_order : (face_left n ≡ left (seen n some).f (seen n some).g)
+        ⊎ (face_left n ≡ left (seen n some).g (seen n some).f)
+        → (way_square a b *ℤ ((seen n some).f q -ℤ (seen n some).f a)
+        ≡ part a b q *ℤ ((seen n some).f b -ℤ (seen n some).f a))
+        × (way_square a b *ℤ ((seen n some).g q -ℤ (seen n some).g a)
+            ≡ part a b q *ℤ ((seen n some).g b -ℤ (seen n some).g a))
         → IsAlong (face_left n) a b q (way_square a b) (part a b q)
     by_order (inl e) both = subst (λ turn. IsAlong turn a b q (way_square a b) (part a b q)) (sym e)
         (along_by (seen n some).f (seen n some).g a b q (way_square a b) (part a b q) both.0 both.1)
@@ -158,8 +170,10 @@ scaled_onward k a b h (inr (e, on)) = inr (ap (λ (z : ℤ). k *ℤ z) e ∙ no_
 way_turned : (a b : Pt3) → way_square a b ≡ way_square b a
 way_turned a b =
     ring (a.x ∷ a.y ∷ a.z ∷ b.x ∷ b.y ∷ b.z ∷ [])
-    ((var 3 ⊖ var 0) ⊗ (var 3 ⊖ var 0) ⊕ ((var 4 ⊖ var 1) ⊗ (var 4 ⊖ var 1) ⊕ (var 5 ⊖ var 2) ⊗ (var 5 ⊖ var 2)))
-    ((var 0 ⊖ var 3) ⊗ (var 0 ⊖ var 3) ⊕ ((var 1 ⊖ var 4) ⊗ (var 1 ⊖ var 4) ⊕ (var 2 ⊖ var 5) ⊗ (var 2 ⊖ var 5))) refl
+    ((var 3 ⊖ var 0) ⊗ (var 3 ⊖ var 0)
+        ⊕ ((var 4 ⊖ var 1) ⊗ (var 4 ⊖ var 1) ⊕ (var 5 ⊖ var 2) ⊗ (var 5 ⊖ var 2)))
+    ((var 0 ⊖ var 3) ⊗ (var 0 ⊖ var 3)
+        ⊕ ((var 1 ⊖ var 4) ⊗ (var 1 ⊖ var 4) ⊕ (var 2 ⊖ var 5) ⊗ (var 2 ⊖ var 5))) refl
 
 -- ---- the found face
 module _ (ps : List Pt3) (sorted : IsStrictlySortedBy space_cmp ps) (a b c : Pt3) (side : IsSideOf ps a b c) (n : Normal)
@@ -193,7 +207,8 @@ module _ (ps : List Pt3) (sorted : IsStrictlySortedBy space_cmp ps) (a b c : Pt3
 
   off : pos 0 <ℤ face_left N b a o
   off =
-      climbs (square_of N) (seen N some).scale (face_left N b a o) (dot_of N (normal_of b a o)) some (seen N some).positive
+      climbs (square_of N) (seen N some).scale (face_left N b a o) (dot_of N (normal_of b a o)) some
+          (seen N some).positive
       (sym ((seen N some).scaled b a o flat_a flat_o)) some
 
   module _ (q : Pt3) (e : depth_of N b q ≡ pos 0) where
@@ -209,7 +224,8 @@ module _ (ps : List Pt3) (sorted : IsStrictlySortedBy space_cmp ps) (a b c : Pt3
         (var 0 ⊗ (var 1 ⊗ num (pos 0) ⊕ (var 2 ⊗ num (pos 0) ⊕ var 3 ⊗ num (pos 0)))) (num (pos 0)) refl)
         (not_none (square_of N) some)
 
-    as_weighed : (kx ky kz : ℤ) → square_of N *ℤ (pos 0 -ℤ (kx *ℤ (normal_of b a q).x +ℤ (ky *ℤ (normal_of b a q).y +ℤ kz *ℤ (normal_of b a q).z)))
+    as_weighed : (kx ky kz : ℤ) → square_of N *ℤ
+        (pos 0 -ℤ (kx *ℤ (normal_of b a q).x +ℤ (ky *ℤ (normal_of b a q).y +ℤ kz *ℤ (normal_of b a q).z)))
         ≡ d *ℤ (pos 0 -ℤ (kx *ℤ N.x +ℤ (ky *ℤ N.y +ℤ kz *ℤ N.z)))
     as_weighed kx ky kz =
         weighed (square_of N) d kx ky kz N.x N.y N.z (normal_of b a q).x (normal_of b a q).y (normal_of b a q).z
@@ -242,9 +258,11 @@ module _ (ps : List Pt3) (sorted : IsStrictlySortedBy space_cmp ps) (a b c : Pt3
         height_by K b a r turned.facing.upright long ∙ ap (λ (z : ℤ). z *ℤ t -ℤ s) turned.facing.upright
         ∙ ring (t ∷ s ∷ []) (num (pos 0) ⊗ var 0 ⊖ var 1) (num (pos 0) ⊖ var 1) refl
 
-    heights_alike : square_of N *ℤ (way_square b a *ℤ depth_of K b q) ≡ d *ℤ (way_square b a *ℤ depth_of K b o)
+    heights_alike : square_of N *ℤ (way_square b a *ℤ depth_of K b q)
+        ≡ d *ℤ (way_square b a *ℤ depth_of K b o)
     heights_alike =
-        ap (λ (z : ℤ). square_of N *ℤ z) (heights_by q) ∙ as_weighed k0 k1 k2 ∙ ap (λ (z : ℤ). d *ℤ z) (sym (heights_by o))
+        ap (λ (z : ℤ). square_of N *ℤ z) (heights_by q) ∙ as_weighed k0 k1 k2
+            ∙ ap (λ (z : ℤ). d *ℤ z) (sym (heights_by o))
 
     in_front : IsInFront K b a q → pos 0 ≤ℤ face_left N b a q
     in_front front =
@@ -252,7 +270,8 @@ module _ (ps : List Pt3) (sorted : IsStrictlySortedBy space_cmp ps) (a b c : Pt3
         at_least_left (face_left N b a q) (square_of N) some
         (subst (λ (z : ℤ). pos 0 ≤ℤ z) (v.scaled b a q flat_a e ∙ flip (square_of N) (face_left N b a q))
         (at_least_mul v.scale d (weak v.scale v.positive)
-        (same_way (square_of N) d (side_of o) (way_square b a *ℤ depth_of K b o) (side_of q) (way_square b a *ℤ depth_of K b q) some
+        (same_way (square_of N) d (side_of o) (way_square b a *ℤ depth_of K b o) (side_of q)
+            (way_square b a *ℤ depth_of K b q) some
         (scaled_onward (way_square b a) (side_of o) (depth_of K b o) long turned.front)
         (scaled_onward (way_square b a) (side_of q) (depth_of K b q) long front) sides_alike heights_alike)))
 
@@ -281,7 +300,8 @@ module _ (ps : List Pt3) (sorted : IsStrictlySortedBy space_cmp ps) (a b c : Pt3
           (ring (W ∷ m.x ∷ m.y ∷ m.z ∷ (q.x -ℤ a.x) ∷ (q.y -ℤ a.y) ∷ (q.z -ℤ a.z) ∷ [])
           (var 0 ⊗ (var 1 ⊗ var 4 ⊕ (var 2 ⊗ var 5 ⊕ var 3 ⊗ var 6)))
           (var 1 ⊗ (var 0 ⊗ var 4) ⊕ (var 2 ⊗ (var 0 ⊗ var 5) ⊕ var 3 ⊗ (var 0 ⊗ var 6))) refl
-          ∙ (λ j. m.x *ℤ along_x a b q line j +ℤ (m.y *ℤ along_y a b q line j +ℤ m.z *ℤ along_z a b q line j))
+          ∙ (λ j. m.x *ℤ along_x a b q line j +ℤ
+          (m.y *ℤ along_y a b q line j +ℤ m.z *ℤ along_z a b q line j))
           ∙ ring (t ∷ m.x ∷ m.y ∷ m.z ∷ (b.x -ℤ a.x) ∷ (b.y -ℤ a.y) ∷ (b.z -ℤ a.z) ∷ [])
           (var 1 ⊗ (var 0 ⊗ var 4) ⊕ (var 2 ⊗ (var 0 ⊗ var 5) ⊕ var 3 ⊗ (var 0 ⊗ var 6)))
           (var 0 ⊗ (var 1 ⊗ var 4 ⊕ (var 2 ⊗ var 5 ⊕ var 3 ⊗ var 6))) refl
@@ -298,14 +318,16 @@ module _ (ps : List Pt3) (sorted : IsStrictlySortedBy space_cmp ps) (a b c : Pt3
           at_least_left t (face_left side.normal side.before a b) side.turns_before
           (subst (λ (z : ℤ). pos 0 ≤ℤ z) (old.into side.before)
           (at_least_mul W (face_left side.normal side.before a q) (weak W way)
-          (All-contains (λ p. depth_of side.normal a p ≡ pos 0 → pos 0 ≤ℤ face_left side.normal side.before a p) ps q side.left_before i in_old)))
+          (All-contains (λ p. depth_of side.normal a p ≡ pos 0
+              → pos 0 ≤ℤ face_left side.normal side.before a p) ps q side.left_before i in_old)))
 
       short_of_b : pos 0 ≤ℤ (W -ℤ t)
       short_of_b =
           at_least_left (W -ℤ t) (face_left side.normal a b c) side.turns
           (subst (λ (z : ℤ). pos 0 ≤ℤ z) (old.onto c)
           (at_least_mul W (face_left side.normal b c q) (weak W way)
-          (All-contains (λ p. depth_of side.normal a p ≡ pos 0 → pos 0 ≤ℤ face_left side.normal b c p) ps q side.left_behind i in_old)))
+          (All-contains (λ p. depth_of side.normal a p ≡ pos 0 → pos 0 ≤ℤ face_left side.normal b c p) ps q
+              side.left_behind i in_old)))
 
       not_past_b : pos 0 ≤ℤ face_left N o b q
       not_past_b =
@@ -327,7 +349,8 @@ module _ (ps : List Pt3) (sorted : IsStrictlySortedBy space_cmp ps) (a b c : Pt3
   Before = InPlaneOrder ps sorted b N some
 
   member : (q : Pt3) → Contains Q q → Contains ps q
-  member q i = All-contains (Contains ps) Q q (All-filter (λ p. is_zero (depth_of N b p)) (Contains ps) ps (All-contains_itself ps)) i
+  member q i = All-contains (Contains ps) Q q
+      (All-filter (λ p. is_zero (depth_of N b p)) (Contains ps) ps (All-contains_itself ps)) i
 
   flat_at : (q : Pt3) → Contains Q q → depth_of N b q ≡ pos 0
   flat_at q i = All-contains (λ p. depth_of N b p ≡ pos 0) Q q
@@ -346,8 +369,8 @@ module _ (ps : List Pt3) (sorted : IsStrictlySortedBy space_cmp ps) (a b c : Pt3
   HasSide R = (before : List Pt3) × (after : List Pt3) × (round R ≡ before ++ (b ∷ (a ∷ after)))
 
   -- by two coordinates
-  of_ring : (f g : Pt3 → ℤ) → ((p q : Pt3) → Contains Q p → Contains Q q → Same f g p q → p ≡ q) → (R : List Pt3)
-      → pos 0 <ℤ left f g b a o → ((q : Pt3) → Contains Q q → pos 0 ≤ℤ left f g b a q)
+  of_ring : (f g : Pt3 → ℤ) → ((p q : Pt3) → Contains Q p → Contains Q q → Same f g p q → p ≡ q)
+      → (R : List Pt3) → pos 0 <ℤ left f g b a o → ((q : Pt3) → Contains Q q → pos 0 ≤ℤ left f g b a q)
       → ((q : Pt3) → Contains Q q → left f g b a q ≡ pos 0 → pos 0 ≤ℤ left f g o b q)
       → ((q : Pt3) → Contains Q q → left f g b a q ≡ pos 0 → pos 0 ≤ℤ left f g a o q)
       → IsConvexRing (left f g) Before Q R → HasSide R
@@ -366,7 +389,8 @@ module _ (ps : List Pt3) (sorted : IsStrictlySortedBy space_cmp ps) (a b c : Pt3
   exact_at : (p q : Pt3) → Contains Q p → Contains Q q → Same (seen N some).f (seen N some).g p q → p ≡ q
   exact_at p q i j s = (seen N some).exact p q (flat_between ps sorted b N some p q (flat_at p i) (flat_at q j)) s
 
-  by_order : (R : List Pt3) → (face_left N ≡ left (seen N some).f (seen N some).g) ⊎ (face_left N ≡ left (seen N some).g (seen N some).f)
+  by_order : (R : List Pt3) → (face_left N ≡ left (seen N some).f (seen N some).g)
+      ⊎ (face_left N ≡ left (seen N some).g (seen N some).f)
       → Told R (face_left N)
   by_order R (inl e) = subst (Told R) (sym e) (of_ring (seen N some).f (seen N some).g exact_at R)
   by_order R (inr e) = subst (Told R) (sym e)

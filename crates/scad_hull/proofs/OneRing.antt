@@ -23,7 +23,8 @@ module _ {X : Type 0} (f g : X → ℤ) (a : X) (zx zy : ℤ) where
   far p = area zx zy (f p -ℤ f a) (g p -ℤ g a)
 
   beyond : (b c o : X) → far b *ℤ left f g b c o
-      ≡ (far b -ℤ far o) *ℤ left f g a b c -ℤ left f g a b o *ℤ ((f c -ℤ f b) *ℤ zy -ℤ (g c -ℤ g b) *ℤ zx)
+      ≡ (far b -ℤ far o) *ℤ left f g a b c -ℤ left f g a b o *ℤ
+      ((f c -ℤ f b) *ℤ zy -ℤ (g c -ℤ g b) *ℤ zx)
   beyond b c o =
       let A = λ (x y z w : Term). x ⊗ w ⊖ y ⊗ z in
       let far_b = A v8 v9 (v2 ⊖ v0) (v3 ⊖ v1) in
@@ -50,7 +51,8 @@ module _ {X : Type 0} (f g : X → ℤ) (a : X) (zx zy : ℤ) where
       at_most : (x y : ℤ) → pos 0 ≤ℤ (x -ℤ y) → y ≤ℤ x
       at_most x y h = omega (arith, ints)
 
-  apart_x : (b o : X) → far b *ℤ (f o -ℤ f b) ≡ (far o -ℤ far b) *ℤ (f b -ℤ f a) -ℤ left f g a b o *ℤ zx
+  apart_x : (b o : X) → far b *ℤ (f o -ℤ f b)
+      ≡ (far o -ℤ far b) *ℤ (f b -ℤ f a) -ℤ left f g a b o *ℤ zx
   apart_x b o =
       let A = λ (x y z w : Term). x ⊗ w ⊖ y ⊗ z in
       ring (f a ∷ g a ∷ f b ∷ g b ∷ f o ∷ g o ∷ zx ∷ zy ∷ [])
@@ -58,7 +60,8 @@ module _ {X : Type 0} (f g : X → ℤ) (a : X) (zx zy : ℤ) where
       ((A v6 v7 (v4 ⊖ v0) (v5 ⊖ v1) ⊖ A v6 v7 (v2 ⊖ v0) (v3 ⊖ v1)) ⊗ (v2 ⊖ v0)
       ⊖ A (v2 ⊖ v0) (v3 ⊖ v1) (v4 ⊖ v0) (v5 ⊖ v1) ⊗ v6) refl
 
-  apart_y : (b o : X) → far b *ℤ (g o -ℤ g b) ≡ (far o -ℤ far b) *ℤ (g b -ℤ g a) -ℤ left f g a b o *ℤ zy
+  apart_y : (b o : X) → far b *ℤ (g o -ℤ g b)
+      ≡ (far o -ℤ far b) *ℤ (g b -ℤ g a) -ℤ left f g a b o *ℤ zy
   apart_y b o =
       let A = λ (x y z w : Term). x ⊗ w ⊖ y ⊗ z in
       ring (f a ∷ g a ∷ f b ∷ g b ∷ f o ∷ g o ∷ zx ∷ zy ∷ [])
@@ -89,8 +92,8 @@ module _ {X : Type 0} (f g : X → ℤ) (a : X) (zx zy : ℤ) where
           ∙ ring (y ∷ d ∷ z ∷ []) ((v0 ⊖ v0) ⊗ v1 ⊖ num (pos 0) ⊗ v2) (num (pos 0)) refl
 
   -- the next corners of two rings, each of which has the other's on its line
-  pub same_next : (b c o e : X) → pos 0 <ℤ far b → pos 0 <ℤ far o → left f g a b o ≡ pos 0 → left f g a o b ≡ pos 0
-      → pos 0 <ℤ left f g a b c → pos 0 <ℤ left f g a o e
+  pub same_next : (b c o e : X) → pos 0 <ℤ far b → pos 0 <ℤ far o → left f g a b o ≡ pos 0
+      → left f g a o b ≡ pos 0 → pos 0 <ℤ left f g a b c → pos 0 <ℤ left f g a o e
       → pos 0 ≤ℤ left f g b c o → pos 0 ≤ℤ left f g o e b → Same f g b o
   same_next b c o e hb ho flat flat_too turn turn_too hold hold_too =
       as_far b o hb flat (both (far o) (far b) (not_beyond b c o hb flat turn hold)
@@ -117,9 +120,10 @@ module _ {X : Type 0} (f g : X → ℤ) (Before Alike : X → X → Type 0) (pla
   level : (x y : ℤ) → y ≡ pos 0 -ℤ x → pos 0 ≤ℤ x → pos 0 ≤ℤ y → x ≡ pos 0
   level x y e h k = omega (arith, ints)
 
-  step : (a : X) (zx zy : ℤ) (x c y e : X) → In x → In y → pos 0 <ℤ far f g a zx zy x → pos 0 <ℤ far f g a zx zy y
-      → pos 0 <ℤ left f g a x c → pos 0 <ℤ left f g a y e
-      → pos 0 ≤ℤ left f g a x y → pos 0 ≤ℤ left f g a y x → pos 0 ≤ℤ left f g x c y → pos 0 ≤ℤ left f g y e x → x ≡ y
+  step : (a : X) (zx zy : ℤ) (x c y e : X) → In x → In y → pos 0 <ℤ far f g a zx zy x
+      → pos 0 <ℤ far f g a zx zy y → pos 0 <ℤ left f g a x c → pos 0 <ℤ left f g a y e
+      → pos 0 ≤ℤ left f g a x y → pos 0 ≤ℤ left f g a y x → pos 0 ≤ℤ left f g x c y
+      → pos 0 ≤ℤ left f g y e x → x ≡ y
   step a zx zy x c y e ix iy fx fy tx ty h k over over_too =
       exact x y ix iy
       (same_next f g a zx zy x c y e fx fy (level (left f g a x y) (left f g a y x) (plane.turned a x y) h k)
@@ -131,9 +135,11 @@ module _ {X : Type 0} (f g : X → ℤ) (Before Alike : X → X → Type 0) (pla
     record After (a x : X) (rs : List X) : Type 0 where
       corner : X
       turn : pos 0 <ℤ left f g a x corner
-      over : (q : X) → IsRightOfNone (left f g) q (x ∷ (rs ++ (m ∷ (b ∷ [])))) → pos 0 ≤ℤ left f g x corner q
+      over : (q : X) → IsRightOfNone (left f g) q (x ∷ (rs ++ (m ∷ (b ∷ []))))
+          → pos 0 ≤ℤ left f g x corner q
 
-    after : (a x : X) (rs : List X) → AllTurnLeft (left f g) (a ∷ (x ∷ (rs ++ (m ∷ (b ∷ []))))) → After a x rs
+    after : (a x : X) (rs : List X) → AllTurnLeft (left f g) (a ∷ (x ∷ (rs ++ (m ∷ (b ∷ [])))))
+        → After a x rs
     after a x [] t = record { corner = m; turn = t.0; over = λ q r. r.0 }
     after a x (r ∷ rs) t = record { corner = r; turn = t.0; over = λ q h. h.0 }
 
@@ -147,8 +153,8 @@ module _ {X : Type 0} (f g : X → ℤ) (Before Alike : X → X → Type 0) (pla
         → AllTurnLeft (left f g) (z ∷ (a ∷ (ss ++ (m ∷ (b ∷ [])))))
         → ((q : X) → In q → IsRightOfNone (left f g) q (a ∷ (rs ++ (m ∷ (b ∷ [])))))
         → ((q : X) → In q → IsRightOfNone (left f g) q (a ∷ (ss ++ (m ∷ (b ∷ [])))))
-        → AllByRecursion In rs → AllByRecursion In ss → AllByRecursion (Before m) rs → AllByRecursion (Before m) ss
-        → rs ≡ ss
+        → AllByRecursion In rs → AllByRecursion In ss → AllByRecursion (Before m) rs
+        → AllByRecursion (Before m) ss → rs ≡ ss
     walk z a [] [] t u h k i j l n = refl
     walk z a [] (y ∷ ss) t u h k i j l n =
         let next = after a y ss u.1 in
@@ -256,7 +262,8 @@ module _ {X : Type 0} (f g : X → ℤ) (Before Alike : X → X → Type 0) (pla
               let two = after m o rm.0 sn.1.0 m o ss turns in
               let same : b ≡ o =
               step m zx zy b one.corner o two.corner rm.1.0 sn.1.0 hb ho one.turn two.turn
-              (holds (m ∷ (b ∷ rs)) h o sn.1.0).0 (over b rm.1.0).0 (one.over o (holds (m ∷ (b ∷ rs)) h o sn.1.0).1)
+              (holds (m ∷ (b ∷ rs)) h o sn.1.0).0 (over b rm.1.0).0
+                  (one.over o (holds (m ∷ (b ∷ rs)) h o sn.1.0).1)
               (two.over b (over b rm.1.0).1) in
               ap₂ (λ p ps. p ∷ ps) same
               (walk m b rm.0 rm.1.0 m b rs ss h.turns
@@ -285,14 +292,16 @@ module _ {X : Type 0} (f g : X → ℤ) where
   bent_too : (x y z w : ℤ) → area x y z w ≡ pos 0 → y ≡ pos 0 → pos 0 <ℤ x → pos 0 <ℤ w → ⊥
   bent_too x y z w e hy hx hw =
       clash (x *ℤ w) (positive_product x w hx hw)
-      (ring (x ∷ z ∷ w ∷ []) (v0 ⊗ v2) (v0 ⊗ v2 ⊖ num (pos 0) ⊗ v1) refl ∙ ap (λ (u : ℤ). x *ℤ w -ℤ u *ℤ z) (sym hy)
+      (ring (x ∷ z ∷ w ∷ []) (v0 ⊗ v2) (v0 ⊗ v2 ⊖ num (pos 0) ⊗ v1) refl
+          ∙ ap (λ (u : ℤ). x *ℤ w -ℤ u *ℤ z) (sym hy)
       ∙ e)
     where
       clash : (u : ℤ) → pos 0 <ℤ u → u ≡ pos 0 → ⊥
       clash u h e = omega (arith, ints)
 
   -- a way to whose left both points of a line lie
-  pub onward_ahead : (m b o : X) → IsBefore f g m b → IsBefore f g m o → left f g m b o ≡ pos 0 → (zx : ℤ) × (zy : ℤ)
+  pub onward_ahead : (m b o : X) → IsBefore f g m b → IsBefore f g m o → left f g m b o ≡ pos 0
+      → (zx : ℤ) × (zy : ℤ)
       × (pos 0 <ℤ far f g m zx zy b) × (pos 0 <ℤ far f g m zx zy o)
   onward_ahead m b o hb ho flat = elim hb [
     | inl up ↦ elim ho [
@@ -303,7 +312,8 @@ module _ {X : Type 0} (f g : X → ℤ) where
         as_above _ _
             (upright (f o -ℤ f m) (g o -ℤ g m)) too,
       )
-      | inr level ↦ absurd (bent_away (f b -ℤ f m) (g b -ℤ g m) (f o -ℤ f m) (g o -ℤ g m) flat up level.0 level.1)
+      | inr level ↦ absurd (bent_away (f b -ℤ f m) (g b -ℤ g m) (f o -ℤ f m) (g o -ℤ g m) flat up level.0
+          level.1)
     ]
     | inr right ↦ elim ho [
       | inl up ↦ absurd (bent_too (f b -ℤ f m) (g b -ℤ g m) (f o -ℤ f m) (g o -ℤ g m) flat right.0 right.1 up)

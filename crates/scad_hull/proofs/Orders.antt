@@ -22,7 +22,8 @@ module _ {X Y : Type 0} (f : X → Y) (c : X → X → Ordering) (d : Y → Y �
   put_same [] k = refl
   put_same (x ∷ xs) k =
       elim (c k x) as (λ o. d (f k) (f x) ≡ o → map f
-      (match_ordering o (k ∷ (x ∷ xs)) (x ∷ xs) (x ∷ insert_key c xs k)) ≡ insert_key d (f x ∷ map f xs) (f k)) [
+      (match_ordering o (k ∷ (x ∷ xs)) (x ∷ xs) (x ∷ insert_key c xs k))
+          ≡ insert_key d (f x ∷ map f xs) (f k)) [
         | Less ↦ (λ e. ap (λ o. match_ordering o (f k ∷ (f x ∷ map f xs)) (f x ∷ map f xs)
             (f x ∷ insert_key d (map f xs) (f k))) (sym e))
         | Equal ↦ (λ e. ap (λ o. match_ordering o (f k ∷ (f x ∷ map f xs)) (f x ∷ map f xs)
@@ -74,7 +75,9 @@ points_again [] = refl
 points_again (p ∷ ps) = ap (λ qs. p ∷ qs) (points_again ps)
 
 pub nodes_same : (ps : List Pt3) → map point_of (distinct node_cmp (map node_of ps)) ≡ distinct space_cmp ps
-nodes_same ps = distinct_same point_of node_cmp space_cmp (λ x y. refl) (map node_of ps) ∙ ap (distinct space_cmp) (points_again ps)
+nodes_same ps = distinct_same point_of node_cmp space_cmp (λ x y. refl) (map node_of ps)
+    ∙ ap (distinct space_cmp) (points_again ps)
 
-pub nodes_sorted : (ns : List Node) → IsStrictlySortedBy node_cmp ns → IsStrictlySortedBy space_cmp (map point_of ns)
+pub nodes_sorted : (ns : List Node) → IsStrictlySortedBy node_cmp ns
+    → IsStrictlySortedBy space_cmp (map point_of ns)
 nodes_sorted ns h = sorted_same point_of node_cmp space_cmp (λ x y. refl) ns h

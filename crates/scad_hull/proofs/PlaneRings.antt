@@ -33,13 +33,14 @@ pub told_of : {X : Type 0} (P : X → Type 0) (p : X → Bool) (xs : List X) →
 told_of P p [] h = tt
 told_of P p (x ∷ xs) h = by_test (told_of P p xs) (p x) refl h
   where
-    by_test : (AllByRecursion P (filter p xs) → AllByRecursion (λ y. p y ≡ true → P y) xs) → (b : Bool) → p x ≡ b
-        → AllByRecursion P (cond b (x ∷ filter p xs) (filter p xs))
+    by_test : (AllByRecursion P (filter p xs) → AllByRecursion (λ y. p y ≡ true → P y) xs) → (b : Bool)
+        → p x ≡ b → AllByRecursion P (cond b (x ∷ filter p xs) (filter p xs))
         → (p x ≡ true → P x) × AllByRecursion (λ y. p y ≡ true → P y) xs
     by_test rest true e h = (λ t. h.0, rest h.1)
     by_test rest false e h = (λ t. absurd (told_apart (sym t ∙ e)), rest h)
 
-pub Contains-filter : {X : Type 0} (p : X → Bool) (xs : List X) (x : X) → Contains xs x → p x ≡ true → Contains (filter p xs) x
+pub Contains-filter : {X : Type 0} (p : X → Bool) (xs : List X) (x : X) → Contains xs x → p x ≡ true
+    → Contains (filter p xs) x
 Contains-filter p xs x there passes =
     All-contains (λ y. p y ≡ true → Contains (filter p xs) y) xs x
     (All-from_recursion _ xs (told_of (Contains (filter p xs)) p xs
@@ -64,7 +65,8 @@ no_normal n m =
     ring (n.x ∷ n.y ∷ n.z ∷ m.x ∷ m.y ∷ m.z ∷ [])
     (var 0 ⊗ ((var 4 ⊖ var 4) ⊗ (var 5 ⊖ var 5) ⊖ (var 5 ⊖ var 5) ⊗ (var 4 ⊖ var 4))
     ⊕ (var 1 ⊗ ((var 5 ⊖ var 5) ⊗ (var 3 ⊖ var 3) ⊖ (var 3 ⊖ var 3) ⊗ (var 5 ⊖ var 5))
-    ⊕ var 2 ⊗ ((var 3 ⊖ var 3) ⊗ (var 4 ⊖ var 4) ⊖ (var 4 ⊖ var 4) ⊗ (var 3 ⊖ var 3)))) (num (pos 0)) refl
+    ⊕ var 2 ⊗ ((var 3 ⊖ var 3) ⊗ (var 4 ⊖ var 4) ⊖ (var 4 ⊖ var 4) ⊗ (var 3 ⊖ var 3)))) (num (pos 0))
+        refl
 
 pub exchanged : (f g : Pt3 → ℤ) (p q r : Pt3) → left f g p q r ≡ pos 0 -ℤ left g f p q r
 exchanged f g p q r =
@@ -96,13 +98,14 @@ module _ (ps : List Pt3) (sorted : IsStrictlySortedBy space_cmp ps) (a : Pt3) (n
   flat_by (q ∷ qs) h = (zero_true (depth_of n a q) h.0, flat_by qs h.1)
 
   pub all_flat : AllByRecursion IsIn Q
-  all_flat = flat_by Q (recursion_of (λ q. is_zero (depth_of n a q) ≡ true) Q (filter_passes (λ p. is_zero (depth_of n a p)) ps))
+  all_flat = flat_by Q (recursion_of (λ q. is_zero (depth_of n a q) ≡ true) Q
+      (filter_passes (λ p. is_zero (depth_of n a p)) ps))
 
   pub flat_between : (p q : Pt3) → IsIn p → IsIn q → depth_of n p q ≡ pos 0
   flat_between p q hp hq = different (depth_of n a p) (depth_of n a q) (depth_of n p q) hp hq (from_other n a p q)
 
-  all_after : (p : Pt3) (qs : List Pt3) → IsIn p → AllByRecursion IsIn qs → AllByRecursion (λ q. space_cmp p q ≡ Less) qs
-      → AllByRecursion (InPlaneOrder p) qs
+  all_after : (p : Pt3) (qs : List Pt3) → IsIn p → AllByRecursion IsIn qs
+      → AllByRecursion (λ q. space_cmp p q ≡ Less) qs → AllByRecursion (InPlaneOrder p) qs
   all_after p [] hp h k = tt
   all_after p (q ∷ qs) hp h k = ((seen n some).ordered p q (flat_between p q hp h.0) k.0, all_after p qs hp h.1 k.1)
 
@@ -116,15 +119,17 @@ module _ (ps : List Pt3) (sorted : IsStrictlySortedBy space_cmp ps) (a : Pt3) (n
   in_order = IsStrictlySortedBy-filter space_cmp (λ p. is_zero (depth_of n a p)) ps sorted
 
   -- no turn, by either of the two coordinates
-  by_coordinates : (p q r : Pt3) → (face_left n ≡ left f g) ⊎ (face_left n ≡ left g f) → face_left n p q r ≡ pos 0
-      → left f g p q r ≡ pos 0
+  by_coordinates : (p q r : Pt3) → (face_left n ≡ left f g) ⊎ (face_left n ≡ left g f)
+      → face_left n p q r ≡ pos 0 → left f g p q r ≡ pos 0
   by_coordinates p q r (inl e) h = ap (λ t. t p q r) (sym e) ∙ h
-  by_coordinates p q r (inr e) h = other_zero (left g f p q r) (left f g p q r) (exchanged f g p q r) (ap (λ t. t p q r) (sym e) ∙ h)
+  by_coordinates p q r (inr e) h = other_zero (left g f p q r) (left f g p q r) (exchanged f g p q r)
+      (ap (λ t. t p q r) (sym e) ∙ h)
 
   to_turn : (p q r : Pt3) → (face_left n ≡ left f g) ⊎ (face_left n ≡ left g f) → left f g p q r ≡ pos 0
       → face_left n p q r ≡ pos 0
   to_turn p q r (inl e) h = ap (λ t. t p q r) e ∙ h
-  to_turn p q r (inr e) h = ap (λ t. t p q r) e ∙ other_zero (left f g p q r) (left g f p q r) (exchanged g f p q r) h
+  to_turn p q r (inr e) h = ap (λ t. t p q r) e
+      ∙ other_zero (left f g p q r) (left g f p q r) (exchanged g f p q r) h
 
   -- three points of the plane that aren't on one line, in the sense of the normal
   module _ (t0 t1 t2 : Pt3) (i0 : Contains Q t0) (i1 : Contains Q t1) (i2 : Contains Q t2)
@@ -141,8 +146,10 @@ module _ (ps : List Pt3) (sorted : IsStrictlySortedBy space_cmp ps) (a : Pt3) (n
         let h0 = of_all IsIn t0 i0 all_flat in
         above (dot_of n (normal_of t0 t1 t2)) turns
         (nought_right v.scale (dot_of n (normal_of t0 t1 t2))
-        (v.scaled t0 t1 t2 (flat_between t0 t1 h0 (of_all IsIn t1 i1 all_flat)) (flat_between t0 t2 h0 (of_all IsIn t2 i2 all_flat))
-        ∙ ap (λ (z : ℤ). square_of n *ℤ z) flat ∙ ring (square_of n ∷ []) (var 0 ⊗ num (pos 0)) (num (pos 0)) refl)
+        (v.scaled t0 t1 t2 (flat_between t0 t1 h0 (of_all IsIn t1 i1 all_flat))
+            (flat_between t0 t2 h0 (of_all IsIn t2 i2 all_flat))
+        ∙ ap (λ (z : ℤ). square_of n *ℤ z) flat
+        ∙ ring (square_of n ∷ []) (var 0 ⊗ num (pos 0)) (num (pos 0)) refl)
         (above v.scale v.positive))
 
     nowhere : {A : Type 0} (t : Pt3) → Contains [] t → A

@@ -46,8 +46,10 @@ range_kept points qs h e =
     (told_all is_in_range (distinct space_cmp points)
     (distinct_keeps space_cmp (λ p. is_in_range p ≡ true) points (each_of is_in_range points h)))
 
-pub small_kept : (points qs : List Pt3) → IsTrue (list_all is_in_range points) → qs ≡ distinct space_cmp points → All IsSmall qs
+pub small_kept : (points qs : List Pt3) → IsTrue (list_all is_in_range points) → qs ≡ distinct space_cmp points
+    → All IsSmall qs
 small_kept points qs h e = small_all qs (range_kept points qs h e)
 
-pub room_kept : (points qs : List Pt3) → IsTrue (list_all is_in_range points) → qs ≡ distinct space_cmp points → All HasRoom qs
+pub room_kept : (points qs : List Pt3) → IsTrue (list_all is_in_range points) → qs ≡ distinct space_cmp points
+    → All HasRoom qs
 room_kept points qs h e = room_all qs (range_kept points qs h e)

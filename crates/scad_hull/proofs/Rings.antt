@@ -51,7 +51,8 @@ pub record EndSide {X : Type 0} (z : X) (stack : List X) : Type 0 where
   pub from : X
   pub is : stack ≡ behind ++ (from ∷ (z ∷ []))
 
-pub end_side : {X : Type 0} (z b a : X) (rest : List X) → EndsIn z (b ∷ (a ∷ rest)) → EndSide z (b ∷ (a ∷ rest))
+pub end_side : {X : Type 0} (z b a : X) (rest : List X) → EndsIn z (b ∷ (a ∷ rest))
+    → EndSide z (b ∷ (a ∷ rest))
 end_side z b a [] h = record { behind = []; from = b; is = ap (λ y. b ∷ (y ∷ [])) h }
 end_side z b a (c ∷ rest) h =
     let side = end_side z a c rest h in
@@ -76,8 +77,8 @@ module _ {X : Type 0} (left : X → X → X → ℤ) where
   turn_join (x ∷ (y ∷ [])) a b ys t u = (t.0, (t.1.0, u))
   turn_join (x ∷ (y ∷ (z ∷ xs))) a b ys t u = (t.0, turn_join (y ∷ (z ∷ xs)) a b ys t.1 u)
 
-  pub right_more : (q : X) (xs : List X) (a b : X) → IsRightOfNone left q (xs ++ (a ∷ [])) → pos 0 ≤ℤ left a b q
-      → IsRightOfNone left q (xs ++ (a ∷ (b ∷ [])))
+  pub right_more : (q : X) (xs : List X) (a b : X) → IsRightOfNone left q (xs ++ (a ∷ []))
+      → pos 0 ≤ℤ left a b q → IsRightOfNone left q (xs ++ (a ∷ (b ∷ [])))
   right_more q [] a b r h = (h, tt)
   right_more q (x ∷ []) a b r h = (r.0, (h, tt))
   right_more q (x ∷ (y ∷ xs)) a b r h = (r.0, right_more q (y ∷ xs) a b r.1 h)
@@ -102,12 +103,14 @@ module _ {X : Type 0} (left : X → X → X → ℤ) where
   onto_ends p z (b ∷ rest) h = h
   onto_ends p z [] h = absurd h
 
-  pub led_ends : (z : X) (ps : List X) (b : X) (rest : List X) → EndsIn z (b ∷ rest) → EndsIn z (led left (b ∷ rest) ps)
+  pub led_ends : (z : X) (ps : List X) (b : X) (rest : List X) → EndsIn z (b ∷ rest)
+      → EndsIn z (led left (b ∷ rest) ps)
   led_ends z [] b rest h = h
   led_ends z (p ∷ ps) b rest h = led_ends z ps p (bent left p (b ∷ rest))
       (onto_ends p z (bent left p (b ∷ rest)) (bent_ends p z b rest h))
 
-  pub led_top : (ps : List X) (b : X) (rest : List X) → (s : List X) × (led left (b ∷ rest) ps ≡ final b ps ∷ s)
+  pub led_top : (ps : List X) (b : X) (rest : List X)
+      → (s : List X) × (led left (b ∷ rest) ps ≡ final b ps ∷ s)
   led_top [] b rest = (rest, refl)
   led_top (p ∷ ps) b rest = led_top ps p (bent left p (b ∷ rest))
 
@@ -144,14 +147,15 @@ module _ {X : Type 0} (left : X → X → X → ℤ) where
         (right_more q (reverse rest) a b (subst (IsRightOfNone left q) (reverse_onto rest a [])
         (rights_reversed q a rest u.1)) u.0)
 
-    pub turns_end : (behind : List X) (w z : X) → Turns left Before Same plane (behind ++ (w ∷ (z ∷ []))) → Before z w
+    pub turns_end : (behind : List X) (w z : X) → Turns left Before Same plane (behind ++ (w ∷ (z ∷ [])))
+        → Before z w
     turns_end [] w z t = t
     turns_end (b ∷ []) w z t = t.1.1
     turns_end (b ∷ (a ∷ behind)) w z t = turns_end (a ∷ behind) w z
         (turns_on left Before Same plane b a (behind ++ (w ∷ (z ∷ []))) t)
 
-    pub under_end : (q : X) (behind : List X) (w z : X) → Under left Before Same plane q (behind ++ (w ∷ (z ∷ [])))
-        → pos 0 ≤ℤ left z w q
+    pub under_end : (q : X) (behind : List X) (w z : X)
+        → Under left Before Same plane q (behind ++ (w ∷ (z ∷ []))) → pos 0 ≤ℤ left z w q
     under_end q [] w z u = u.0
     under_end q (b ∷ []) w z u = u.1.0
     under_end q (b ∷ (a ∷ behind)) w z u = under_end q (a ∷ behind) w z u.1
@@ -169,7 +173,8 @@ module _ {X : Type 0} (left : X → X → X → ℤ) where
 
     -- the first comes before all others
     pub first_of : (z b : X) (rest : List X) → Turns left Before Same plane (b ∷ rest) → EndsIn z (b ∷ rest)
-        → (acc : List X) → AllByRecursion (Before z) acc → (ys : List X) × (reverse_aux (b ∷ rest) acc ≡ z ∷ ys)
+        → (acc : List X) → AllByRecursion (Before z) acc
+        → (ys : List X) × (reverse_aux (b ∷ rest) acc ≡ z ∷ ys)
         × AllByRecursion (Before z) ys
     first_of z b [] t e acc h = (acc, ap (λ x. x ∷ acc) e, h)
     first_of z b (a ∷ rest) t e acc h =

@@ -5,25 +5,28 @@ use lib.Signed.{◌<ℤ◌, ◌≤ℤ◌}
 use Rattle.std.proofs.lemmas.List.{get_or_append_left, get_or-append-add}
 use Rattle.scad_hull.specs.Ring.{round, IsRightOfNone, AllTurnLeft}
 
-round_is : {X : Type 0} (p q : X) (ps : List X) → round (p ∷ (q ∷ ps)) ≡ (p ∷ (q ∷ ps)) ++ (p ∷ (q ∷ []))
+round_is : {X : Type 0} (p q : X) (ps : List X)
+    → round (p ∷ (q ∷ ps)) ≡ (p ∷ (q ∷ ps)) ++ (p ∷ (q ∷ []))
 round_is p q ps = refl
 
 -- a corner by its place in the ring
-pub corner_there : {X : Type 0} (xs : List X) (j : ℕ) (r : X) → 2 ≤ length xs → j < length xs → r ≡ get_or xs j r → r ≡ get_or (round xs) j r
+pub corner_there : {X : Type 0} (xs : List X) (j : ℕ) (r : X) → 2 ≤ length xs → j < length xs
+    → r ≡ get_or xs j r → r ≡ get_or (round xs) j r
 corner_there [] j r l h e = absurd (omega arith)
 corner_there (p ∷ []) j r l h e = absurd (omega arith)
 corner_there (p ∷ (q ∷ ps)) j r l h e = e ∙ sym (get_or_append_left (p ∷ (q ∷ ps)) (p ∷ (q ∷ [])) r j h)
 
 -- the first two again
-pub corner_again : {X : Type 0} (xs : List X) (j : ℕ) (r : X) → 2 ≤ length xs → length xs ≤ j → j < length xs + 2
-    → r ≡ get_or xs (j - length xs) r → r ≡ get_or (round xs) j r
+pub corner_again : {X : Type 0} (xs : List X) (j : ℕ) (r : X) → 2 ≤ length xs → length xs ≤ j
+    → j < length xs + 2 → r ≡ get_or xs (j - length xs) r → r ≡ get_or (round xs) j r
 corner_again [] j r l m h e = absurd (omega arith)
 corner_again (p ∷ []) j r l m h e = absurd (omega arith)
 corner_again {X = X} (p ∷ (q ∷ ps)) j r l m h e =
     let n = length (p ∷ (q ∷ ps)) in
     let i = j - n in
     let back : n + i ≡ j = omega arith in
-    e ∙ first_two i (omega arith) ∙ sym (get_or-append-add (p ∷ (q ∷ ps)) (p ∷ (q ∷ [])) i r) ∙ ap (λ k. get_or (round (p ∷ (q ∷ ps))) k r) back
+    e ∙ first_two i (omega arith) ∙ sym (get_or-append-add (p ∷ (q ∷ ps)) (p ∷ (q ∷ [])) i r)
+        ∙ ap (λ k. get_or (round (p ∷ (q ∷ ps))) k r) back
   where
     first_two : (i : ℕ) → i < 2 → get_or (p ∷ (q ∷ ps)) i r ≡ get_or (p ∷ (q ∷ [])) i r
     first_two zero h = refl

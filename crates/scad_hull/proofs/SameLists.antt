@@ -33,7 +33,8 @@ module _ {X : Type 0} (c : X → X → Ordering) (total : IsTotalOrder c) where
       let k : c x x ≡ Less = subst (λ z. c x z ≡ Less) (sym e) h in
       both_less x x k k
 
-  apart : (x : X) (ys : List X) → AllByRecursion (λ y. c x y ≡ Less) ys → AllByRecursion (λ y. x ≡ y → ⊥) ys
+  apart : (x : X) (ys : List X) → AllByRecursion (λ y. c x y ≡ Less) ys
+      → AllByRecursion (λ y. x ≡ y → ⊥) ys
   apart x [] h = tt
   apart x (y ∷ ys) h = (λ e. not_less x y e h.0, apart x ys h.1)
 
@@ -50,15 +51,15 @@ module _ {X : Type 0} (c : X → X → Ordering) (total : IsTotalOrder c) where
       by_place (inr j) = j
       by_place (inl g) = absurd (not_less x z (e ∙ sym g) (of_in (λ w. c x w ≡ Less) xs z h i))
 
-  heads : (x y : X) (xs ys : List X) → AllByRecursion (λ z. c x z ≡ Less) xs → AllByRecursion (λ z. c y z ≡ Less) ys
-      → In x (y ∷ ys) → In y (x ∷ xs) → x ≡ y
+  heads : (x y : X) (xs ys : List X) → AllByRecursion (λ z. c x z ≡ Less) xs
+      → AllByRecursion (λ z. c y z ≡ Less) ys → In x (y ∷ ys) → In y (x ∷ xs) → x ≡ y
   heads x y xs ys h k (inl e) j = e
   heads x y xs ys h k (inr i) (inl e) = sym e
   heads x y xs ys h k (inr i) (inr j) =
       absurd (both_less x y (of_in (λ z. c x z ≡ Less) xs y h j) (of_in (λ z. c y z ≡ Less) ys x k i))
 
-  pub same_lists : (xs ys : List X) → IsStrictlySortedBy c xs → IsStrictlySortedBy c ys → ((z : X) → In z xs → In z ys)
-      → ((z : X) → In z ys → In z xs) → xs ≡ ys
+  pub same_lists : (xs ys : List X) → IsStrictlySortedBy c xs → IsStrictlySortedBy c ys
+      → ((z : X) → In z xs → In z ys) → ((z : X) → In z ys → In z xs) → xs ≡ ys
   unfolding IsStrictlySortedBy
   same_lists [] [] h k f g = refl
   same_lists [] (y ∷ ys) h k f g = absurd (g y (inl refl))
@@ -72,6 +73,8 @@ module _ {X : Type 0} (c : X → X → Ordering) (total : IsTotalOrder c) where
   pub from_distinct : (xs : List X) (z : X) → In z (distinct c xs) → In z xs
   from_distinct xs z i = of_in (λ y. In y xs) (distinct c xs) z (distinct_keeps c (λ y. In y xs) xs (all_in xs)) i
 
-  pub to_distinct : ((x y : X) → c x y ≡ Equal → x ≡ y) → (xs : List X) (z : X) → In z xs → In z (distinct c xs)
+  pub to_distinct : ((x y : X) → c x y ≡ Equal → x ≡ y) → (xs : List X) (z : X) → In z xs
+      → In z (distinct c xs)
   to_distinct exact xs z i =
-      of_in (λ y. In y (distinct c xs)) xs z (distinct_had c exact (λ y. In y (distinct c xs)) xs (all_in (distinct c xs))) i
+      of_in (λ y. In y (distinct c xs)) xs z
+          (distinct_had c exact (λ y. In y (distinct c xs)) xs (all_in (distinct c xs))) i

@@ -81,10 +81,12 @@ alike k l x y hk hl e = by_lt_z (pos 0) y
     zero_both f =
         let g : x ≡ y = nought_right k x (e ∙ ap (λ (z : ℤ). l *ℤ z) f ∙ ring (l ∷ []) (var 0 ⊗ num (pos 0)) (num (pos 0)) refl)
         (up_some k hk) ∙ sym f in
-        record { up = ap (λ (z : ℤ). int_lt (pos 0) z) g; low = ap (λ (z : ℤ). int_lt z (pos 0)) g; none = ap is_zero g }
+        record { up = ap (λ (z : ℤ). int_lt (pos 0) z) g; low = ap (λ (z : ℤ). int_lt z (pos 0)) g; none
+            = ap is_zero g }
 
 -- ---- one plane by two normals
-any_agree : {X : Type 0} (p q : X → Bool) → ((x : X) → p x ≡ q x) → (xs : List X) → list_any p xs ≡ list_any q xs
+any_agree : {X : Type 0} (p q : X → Bool) → ((x : X) → p x ≡ q x) → (xs : List X)
+    → list_any p xs ≡ list_any q xs
 any_agree p q same [] = refl
 any_agree p q same (x ∷ xs) = ap₂ (λ a b. a || b) (same x) (any_agree p q same xs)
 
@@ -130,10 +132,13 @@ module _ (n m : Normal) (a b : Pt3) (k l : ℤ) (hk : pos 0 <ℤ k) (hl : pos 0 
 
   module _ (ps : List Pt3) where
     same_points : in_plane ps a n ≡ in_plane ps b m
-    same_points = filter_agree (λ p. is_zero (depth_of n a p)) (λ p. is_zero (depth_of m b p)) (λ p. (depth_alike p).none) ps
+    same_points = filter_agree (λ p. is_zero (depth_of n a p)) (λ p. is_zero (depth_of m b p))
+        (λ p. (depth_alike p).none) ps
 
-    same_outside : list_any (λ p. int_lt (depth_of n a p) (pos 0)) ps ≡ list_any (λ p. int_lt (depth_of m b p) (pos 0)) ps
-    same_outside = any_agree (λ p. int_lt (depth_of n a p) (pos 0)) (λ p. int_lt (depth_of m b p) (pos 0)) (λ p. (depth_alike p).low) ps
+    same_outside : list_any (λ p. int_lt (depth_of n a p) (pos 0)) ps
+        ≡ list_any (λ p. int_lt (depth_of m b p) (pos 0)) ps
+    same_outside = any_agree (λ p. int_lt (depth_of n a p) (pos 0)) (λ p. int_lt (depth_of m b p) (pos 0))
+        (λ p. (depth_alike p).low) ps
 
     pub same_ring : face_in ps a n ≡ face_in ps b m
     same_ring = ap₂ ring_round same_turn same_points
@@ -153,7 +158,8 @@ some_normal n h = by_tests (is_zero n.x) (is_zero n.y) (is_zero n.z) refl refl r
     none : n.x ≡ pos 0 → n.y ≡ pos 0 → n.z ≡ pos 0 → ⊥
     none hx hy hz = up_some (square_of n) h (λ i. hx i *ℤ hx i +ℤ (hy i *ℤ hy i +ℤ hz i *ℤ hz i))
 
-    by_tests : (a b c : Bool) → is_zero n.x ≡ a → is_zero n.y ≡ b → is_zero n.z ≡ c → (a && (b && c)) ≡ false
+    by_tests : (a b c : Bool) → is_zero n.x ≡ a → is_zero n.y ≡ b → is_zero n.z ≡ c
+        → (a && (b && c)) ≡ false
     by_tests false b c ea eb ec = refl
     by_tests true false c ea eb ec = refl
     by_tests true true false ea eb ec = refl

@@ -1,4 +1,5 @@
--- A plane as seen along one coordinate: the other two tell its points apart, in the order of space, and the turns in it from the left ones.
+-- A plane as seen along one coordinate: the other two tell its points apart, in the order of space, and the turns in it
+-- from the left ones.
 use Rattle.std.proofs.Common.{◌≡◌, ◌⊎◌, inl, inr, Bool, true, false, cond, [], ◌∷◌, refl, sym, ap, ap₂, ◌∙◌, arith}
 use lib.IntN.{ℤ, pos, ◌+ℤ◌, ◌-ℤ◌, ◌*ℤ◌}
 use lib.Signed.{◌<ℤ◌}
@@ -28,32 +29,32 @@ z_of p = p.z
 -- ---- two ways in a plane with the normal (n0, n1, n2): their cross product is a multiple of it
 module _ (n0 n1 n2 u0 u1 u2 v0 v1 v2 : ℤ) (flat_u : n0 *ℤ u0 +ℤ (n1 *ℤ u1 +ℤ n2 *ℤ u2) ≡ pos 0)
     (flat_v : n0 *ℤ v0 +ℤ (n1 *ℤ v1 +ℤ n2 *ℤ v2) ≡ pos 0) where
-  abbrev w0 : ℤ
-  w0 = u1 *ℤ v2 -ℤ u2 *ℤ v1
+  abbrev cross_x : ℤ
+  cross_x = u1 *ℤ v2 -ℤ u2 *ℤ v1
 
-  abbrev w1 : ℤ
-  w1 = u2 *ℤ v0 -ℤ u0 *ℤ v2
+  abbrev cross_y : ℤ
+  cross_y = u2 *ℤ v0 -ℤ u0 *ℤ v2
 
-  abbrev w2 : ℤ
-  w2 = u0 *ℤ v1 -ℤ u1 *ℤ v0
+  abbrev cross_z : ℤ
+  cross_z = u0 *ℤ v1 -ℤ u1 *ℤ v0
 
   abbrev along : ℤ
-  along = n0 *ℤ w0 +ℤ (n1 *ℤ w1 +ℤ n2 *ℤ w2)
+  along = n0 *ℤ cross_x +ℤ (n1 *ℤ cross_y +ℤ n2 *ℤ cross_z)
 
   abbrev whole : ℤ
   whole = n0 *ℤ n0 +ℤ (n1 *ℤ n1 +ℤ n2 *ℤ n2)
 
-  abbrev W0 : Term
-  W0 = var 4 ⊗ var 8 ⊖ var 5 ⊗ var 7
+  abbrev CrossX : Term
+  CrossX = var 4 ⊗ var 8 ⊖ var 5 ⊗ var 7
 
-  abbrev W1 : Term
-  W1 = var 5 ⊗ var 6 ⊖ var 3 ⊗ var 8
+  abbrev CrossY : Term
+  CrossY = var 5 ⊗ var 6 ⊖ var 3 ⊗ var 8
 
-  abbrev W2 : Term
-  W2 = var 3 ⊗ var 7 ⊖ var 4 ⊗ var 6
+  abbrev CrossZ : Term
+  CrossZ = var 3 ⊗ var 7 ⊖ var 4 ⊗ var 6
 
   abbrev Along : Term
-  Along = var 0 ⊗ W0 ⊕ (var 1 ⊗ W1 ⊕ var 2 ⊗ W2)
+  Along = var 0 ⊗ CrossX ⊕ (var 1 ⊗ CrossY ⊕ var 2 ⊗ CrossZ)
 
   abbrev Whole : Term
   Whole = var 0 ⊗ var 0 ⊕ (var 1 ⊗ var 1 ⊕ var 2 ⊗ var 2)
@@ -64,35 +65,41 @@ module _ (n0 n1 n2 u0 u1 u2 v0 v1 v2 : ℤ) (flat_u : n0 *ℤ u0 +ℤ (n1 *ℤ u
   abbrev V : Term
   V = var 0 ⊗ var 6 ⊕ (var 1 ⊗ var 7 ⊕ var 2 ⊗ var 8)
 
-  nothing_more : (s k l a b c d : ℤ) → s +ℤ (k *ℤ (a *ℤ pos 0 -ℤ b *ℤ pos 0) -ℤ l *ℤ (c *ℤ pos 0 -ℤ d *ℤ pos 0)) ≡ s
+  nothing_more : (s k l a b c d : ℤ) → s +ℤ
+      (k *ℤ (a *ℤ pos 0 -ℤ b *ℤ pos 0) -ℤ l *ℤ (c *ℤ pos 0 -ℤ d *ℤ pos 0)) ≡ s
   nothing_more s k l a b c d =
       ring (s ∷ k ∷ l ∷ a ∷ b ∷ c ∷ d ∷ [])
-      (var 0 ⊕ (var 1 ⊗ (var 3 ⊗ num (pos 0) ⊖ var 4 ⊗ num (pos 0)) ⊖ var 2 ⊗ (var 5 ⊗ num (pos 0) ⊖ var 6 ⊗ num (pos 0))))
+      (var 0 ⊕ (var 1 ⊗ (var 3 ⊗ num (pos 0) ⊖ var 4 ⊗ num (pos 0)) ⊖ var 2
+          ⊗ (var 5 ⊗ num (pos 0) ⊖ var 6 ⊗ num (pos 0))))
       (var 0) refl
 
-  pub by_x : n0 *ℤ along ≡ whole *ℤ w0
+  pub by_x : n0 *ℤ along ≡ whole *ℤ cross_x
   by_x =
       ring (n0 ∷ n1 ∷ n2 ∷ u0 ∷ u1 ∷ u2 ∷ v0 ∷ v1 ∷ v2 ∷ []) (var 0 ⊗ Along)
-      (Whole ⊗ W0 ⊕ (var 1 ⊗ (var 5 ⊗ V ⊖ var 8 ⊗ U) ⊖ var 2 ⊗ (var 4 ⊗ V ⊖ var 7 ⊗ U))) refl
-      ∙ ap₂ (λ (s t : ℤ). whole *ℤ w0 +ℤ (n1 *ℤ (u2 *ℤ t -ℤ v2 *ℤ s) -ℤ n2 *ℤ (u1 *ℤ t -ℤ v1 *ℤ s))) flat_u flat_v
-      ∙ nothing_more (whole *ℤ w0) n1 n2 u2 v2 u1 v1
+      (Whole ⊗ CrossX ⊕ (var 1 ⊗ (var 5 ⊗ V ⊖ var 8 ⊗ U) ⊖ var 2 ⊗ (var 4 ⊗ V ⊖ var 7 ⊗ U))) refl
+      ∙ ap₂ (λ (s t : ℤ). whole *ℤ cross_x +ℤ
+      (n1 *ℤ (u2 *ℤ t -ℤ v2 *ℤ s) -ℤ n2 *ℤ (u1 *ℤ t -ℤ v1 *ℤ s))) flat_u flat_v
+      ∙ nothing_more (whole *ℤ cross_x) n1 n2 u2 v2 u1 v1
 
-  pub by_y : n1 *ℤ along ≡ whole *ℤ w1
+  pub by_y : n1 *ℤ along ≡ whole *ℤ cross_y
   by_y =
       ring (n0 ∷ n1 ∷ n2 ∷ u0 ∷ u1 ∷ u2 ∷ v0 ∷ v1 ∷ v2 ∷ []) (var 1 ⊗ Along)
-      (Whole ⊗ W1 ⊕ (var 2 ⊗ (var 3 ⊗ V ⊖ var 6 ⊗ U) ⊖ var 0 ⊗ (var 5 ⊗ V ⊖ var 8 ⊗ U))) refl
-      ∙ ap₂ (λ (s t : ℤ). whole *ℤ w1 +ℤ (n2 *ℤ (u0 *ℤ t -ℤ v0 *ℤ s) -ℤ n0 *ℤ (u2 *ℤ t -ℤ v2 *ℤ s))) flat_u flat_v
-      ∙ nothing_more (whole *ℤ w1) n2 n0 u0 v0 u2 v2
+      (Whole ⊗ CrossY ⊕ (var 2 ⊗ (var 3 ⊗ V ⊖ var 6 ⊗ U) ⊖ var 0 ⊗ (var 5 ⊗ V ⊖ var 8 ⊗ U))) refl
+      ∙ ap₂ (λ (s t : ℤ). whole *ℤ cross_y +ℤ
+      (n2 *ℤ (u0 *ℤ t -ℤ v0 *ℤ s) -ℤ n0 *ℤ (u2 *ℤ t -ℤ v2 *ℤ s))) flat_u flat_v
+      ∙ nothing_more (whole *ℤ cross_y) n2 n0 u0 v0 u2 v2
 
-  pub by_z : n2 *ℤ along ≡ whole *ℤ w2
+  pub by_z : n2 *ℤ along ≡ whole *ℤ cross_z
   by_z =
       ring (n0 ∷ n1 ∷ n2 ∷ u0 ∷ u1 ∷ u2 ∷ v0 ∷ v1 ∷ v2 ∷ []) (var 2 ⊗ Along)
-      (Whole ⊗ W2 ⊕ (var 0 ⊗ (var 4 ⊗ V ⊖ var 7 ⊗ U) ⊖ var 1 ⊗ (var 3 ⊗ V ⊖ var 6 ⊗ U))) refl
-      ∙ ap₂ (λ (s t : ℤ). whole *ℤ w2 +ℤ (n0 *ℤ (u1 *ℤ t -ℤ v1 *ℤ s) -ℤ n1 *ℤ (u0 *ℤ t -ℤ v0 *ℤ s))) flat_u flat_v
-      ∙ nothing_more (whole *ℤ w2) n0 n1 u1 v1 u0 v0
+      (Whole ⊗ CrossZ ⊕ (var 0 ⊗ (var 4 ⊗ V ⊖ var 7 ⊗ U) ⊖ var 1 ⊗ (var 3 ⊗ V ⊖ var 6 ⊗ U))) refl
+      ∙ ap₂ (λ (s t : ℤ). whole *ℤ cross_z +ℤ
+      (n0 *ℤ (u1 *ℤ t -ℤ v1 *ℤ s) -ℤ n1 *ℤ (u0 *ℤ t -ℤ v0 *ℤ s))) flat_u flat_v
+      ∙ nothing_more (whole *ℤ cross_z) n0 n1 u1 v1 u0 v0
 
 -- the same where the coordinate of the normal is below 0
-opposite : (n t s a b c d : ℤ) → n *ℤ t ≡ s *ℤ (a *ℤ b -ℤ c *ℤ d) → (pos 0 -ℤ n) *ℤ t ≡ s *ℤ (c *ℤ d -ℤ a *ℤ b)
+opposite : (n t s a b c d : ℤ) → n *ℤ t ≡ s *ℤ (a *ℤ b -ℤ c *ℤ d)
+    → (pos 0 -ℤ n) *ℤ t ≡ s *ℤ (c *ℤ d -ℤ a *ℤ b)
 opposite n t s a b c d e =
     ring (n ∷ t ∷ []) ((num (pos 0) ⊖ var 0) ⊗ var 1) (num (pos 0) ⊖ var 0 ⊗ var 1) refl
     ∙ ap (λ (z : ℤ). pos 0 -ℤ z) e
@@ -108,9 +115,8 @@ space_less p q e =
     by_tests (int_lt p.z q.z) (int_lt q.z p.z) (int_lt p.y q.y) (int_lt q.y p.y) (int_lt p.x q.x) (int_lt q.x p.x)
     refl refl refl refl refl e
   where
-    by_tests : (l m n o r s : Bool) → int_lt p.z q.z ≡ l → int_lt q.z p.z ≡ m → int_lt p.y q.y ≡ n → int_lt q.y p.y ≡ o
-        → int_lt p.x q.x ≡ r
-        → ordering_then (cond l Less (cond m Greater Equal))
+    by_tests : (l m n o r s : Bool) → int_lt p.z q.z ≡ l → int_lt q.z p.z ≡ m → int_lt p.y q.y ≡ n
+        → int_lt q.y p.y ≡ o → int_lt p.x q.x ≡ r → ordering_then (cond l Less (cond m Greater Equal))
         (ordering_then (cond n Less (cond o Greater Equal)) (cond r Less (cond s Greater Equal))) ≡ Less
         → IsLower p q
     by_tests true m n o r s a b c d f e = inl (omega (arith, ints))
@@ -132,19 +138,25 @@ rise : (a b : ℤ) → a <ℤ b → pos 0 <ℤ (b -ℤ a)
 rise a b h = omega (arith, ints)
 
 -- of a sum of three products one is left where the others are 0
-only_x : (n0 n1 n2 x y z : ℤ) → n0 *ℤ x +ℤ (n1 *ℤ y +ℤ n2 *ℤ z) ≡ pos 0 → y ≡ pos 0 → z ≡ pos 0 → n0 *ℤ x ≡ pos 0
+only_x : (n0 n1 n2 x y z : ℤ) → n0 *ℤ x +ℤ (n1 *ℤ y +ℤ n2 *ℤ z) ≡ pos 0 → y ≡ pos 0 → z ≡ pos 0
+    → n0 *ℤ x ≡ pos 0
 only_x n0 n1 n2 x y z e hy hz =
-    ring (n0 ∷ n1 ∷ n2 ∷ x ∷ []) (var 0 ⊗ var 3) (var 0 ⊗ var 3 ⊕ (var 1 ⊗ num (pos 0) ⊕ var 2 ⊗ num (pos 0))) refl
+    ring (n0 ∷ n1 ∷ n2 ∷ x ∷ []) (var 0 ⊗ var 3)
+        (var 0 ⊗ var 3 ⊕ (var 1 ⊗ num (pos 0) ⊕ var 2 ⊗ num (pos 0))) refl
     ∙ ap₂ (λ (s t : ℤ). n0 *ℤ x +ℤ (n1 *ℤ s +ℤ n2 *ℤ t)) (sym hy) (sym hz) ∙ e
 
-only_y : (n0 n1 n2 x y z : ℤ) → n0 *ℤ x +ℤ (n1 *ℤ y +ℤ n2 *ℤ z) ≡ pos 0 → n0 ≡ pos 0 → z ≡ pos 0 → n1 *ℤ y ≡ pos 0
+only_y : (n0 n1 n2 x y z : ℤ) → n0 *ℤ x +ℤ (n1 *ℤ y +ℤ n2 *ℤ z) ≡ pos 0 → n0 ≡ pos 0 → z ≡ pos 0
+    → n1 *ℤ y ≡ pos 0
 only_y n0 n1 n2 x y z e hx hz =
-    ring (n1 ∷ n2 ∷ x ∷ y ∷ []) (var 0 ⊗ var 3) (num (pos 0) ⊗ var 2 ⊕ (var 0 ⊗ var 3 ⊕ var 1 ⊗ num (pos 0))) refl
+    ring (n1 ∷ n2 ∷ x ∷ y ∷ []) (var 0 ⊗ var 3)
+        (num (pos 0) ⊗ var 2 ⊕ (var 0 ⊗ var 3 ⊕ var 1 ⊗ num (pos 0))) refl
     ∙ ap₂ (λ (s t : ℤ). s *ℤ x +ℤ (n1 *ℤ y +ℤ n2 *ℤ t)) (sym hx) (sym hz) ∙ e
 
-only_z : (n0 n1 n2 x y z : ℤ) → n0 *ℤ x +ℤ (n1 *ℤ y +ℤ n2 *ℤ z) ≡ pos 0 → n0 ≡ pos 0 → n1 ≡ pos 0 → n2 *ℤ z ≡ pos 0
+only_z : (n0 n1 n2 x y z : ℤ) → n0 *ℤ x +ℤ (n1 *ℤ y +ℤ n2 *ℤ z) ≡ pos 0 → n0 ≡ pos 0
+    → n1 ≡ pos 0 → n2 *ℤ z ≡ pos 0
 only_z n0 n1 n2 x y z e hx hy =
-    ring (n2 ∷ x ∷ y ∷ z ∷ []) (var 0 ⊗ var 3) (num (pos 0) ⊗ var 1 ⊕ (num (pos 0) ⊗ var 2 ⊕ var 0 ⊗ var 3)) refl
+    ring (n2 ∷ x ∷ y ∷ z ∷ []) (var 0 ⊗ var 3)
+        (num (pos 0) ⊗ var 1 ⊕ (num (pos 0) ⊗ var 2 ⊕ var 0 ⊗ var 3)) refl
     ∙ ap₂ (λ (s t : ℤ). s *ℤ x +ℤ (t *ℤ y +ℤ n2 *ℤ z)) (sym hx) (sym hy) ∙ e
 
 -- ---- a plane, and the turns in it
@@ -156,8 +168,8 @@ pub record IsSeenBy (n : Normal) (turn : Pt3 → Pt3 → Pt3 → ℤ) : Type 0 w
   pub back : IsPlane turn (IsAfter f g) (Same f g)
   pub ordered : (p q : Pt3) → depth_of n p q ≡ pos 0 → space_cmp p q ≡ Less → IsBefore f g p q
   pub exact : (p q : Pt3) → depth_of n p q ≡ pos 0 → Same f g p q → p ≡ q
-  pub along : (a b q : Pt3) (w t : ℤ) → w *ℤ (q.x -ℤ a.x) ≡ t *ℤ (b.x -ℤ a.x) → w *ℤ (q.y -ℤ a.y) ≡ t *ℤ (b.y -ℤ a.y)
-      → w *ℤ (q.z -ℤ a.z) ≡ t *ℤ (b.z -ℤ a.z)
+  pub along : (a b q : Pt3) (w t : ℤ) → w *ℤ (q.x -ℤ a.x) ≡ t *ℤ (b.x -ℤ a.x)
+      → w *ℤ (q.y -ℤ a.y) ≡ t *ℤ (b.y -ℤ a.y) → w *ℤ (q.z -ℤ a.z) ≡ t *ℤ (b.z -ℤ a.z)
       → (w *ℤ (f q -ℤ f a) ≡ t *ℤ (f b -ℤ f a)) × (w *ℤ (g q -ℤ g a) ≡ t *ℤ (g b -ℤ g a))
   pub scale : ℤ
   pub positive : pos 0 <ℤ scale
@@ -178,17 +190,19 @@ turn_by a b c d e =
     else left y_of x_of))))
 
 module _ (n : Normal) where
-  no_x : (n.x ≡ pos 0 → ⊥) → (p q : Pt3) → depth_of n p q ≡ pos 0 → space_cmp p q ≡ Less → IsBefore y_of z_of p q
+  no_x : (n.x ≡ pos 0 → ⊥) → (p q : Pt3) → depth_of n p q ≡ pos 0 → space_cmp p q ≡ Less
+      → IsBefore y_of z_of p q
   no_x some p q flat e = told_by (space_less p q e)
     where
       told_by : IsLower p q → IsBefore y_of z_of p q
       told_by (inl h) = inl (rise p.z q.z h)
       told_by (inr (ez, inl h)) = inr (gone p.z q.z ez, rise p.y q.y h)
       told_by (inr (ez, inr (ey, h))) = absurd (apart p.x q.x h (nought_right n.x (q.x -ℤ p.x)
-          (only_x n.x n.y n.z (q.x -ℤ p.x) (q.y -ℤ p.y) (q.z -ℤ p.z) flat (gone p.y q.y ey) (gone p.z q.z ez)) some))
+          (only_x n.x n.y n.z (q.x -ℤ p.x) (q.y -ℤ p.y) (q.z -ℤ p.z) flat (gone p.y q.y ey) (gone p.z q.z ez))
+              some))
 
-  no_y : n.x ≡ pos 0 → (n.y ≡ pos 0 → ⊥) → (p q : Pt3) → depth_of n p q ≡ pos 0 → space_cmp p q ≡ Less
-      → IsBefore x_of z_of p q
+  no_y : n.x ≡ pos 0 → (n.y ≡ pos 0 → ⊥) → (p q : Pt3) → depth_of n p q ≡ pos 0
+      → space_cmp p q ≡ Less → IsBefore x_of z_of p q
   no_y none some p q flat e = told_by (space_less p q e)
     where
       told_by : IsLower p q → IsBefore x_of z_of p q
@@ -197,8 +211,8 @@ module _ (n : Normal) where
           (only_y n.x n.y n.z (q.x -ℤ p.x) (q.y -ℤ p.y) (q.z -ℤ p.z) flat none (gone p.z q.z ez)) some))
       told_by (inr (ez, inr (ey, h))) = inr (gone p.z q.z ez, rise p.x q.x h)
 
-  no_z : n.x ≡ pos 0 → n.y ≡ pos 0 → (n.z ≡ pos 0 → ⊥) → (p q : Pt3) → depth_of n p q ≡ pos 0 → space_cmp p q ≡ Less
-      → IsBefore x_of y_of p q
+  no_z : n.x ≡ pos 0 → n.y ≡ pos 0 → (n.z ≡ pos 0 → ⊥) → (p q : Pt3) → depth_of n p q ≡ pos 0
+      → space_cmp p q ≡ Less → IsBefore x_of y_of p q
   no_z none nor some p q flat e = told_by (space_less p q e)
     where
       told_by : IsLower p q → IsBefore x_of y_of p q
@@ -216,7 +230,8 @@ module _ (n : Normal) where
       let z = s.1 in
       λ i. record { x = x i; y = y i; z = z i }
 
-  exact_y : n.x ≡ pos 0 → (n.y ≡ pos 0 → ⊥) → (p q : Pt3) → depth_of n p q ≡ pos 0 → Same x_of z_of p q → p ≡ q
+  exact_y : n.x ≡ pos 0 → (n.y ≡ pos 0 → ⊥) → (p q : Pt3) → depth_of n p q ≡ pos 0
+      → Same x_of z_of p q → p ≡ q
   exact_y none some p q flat s =
       let y = no_gap p.y q.y (nought_right n.y (q.y -ℤ p.y)
       (only_y n.x n.y n.z (q.x -ℤ p.x) (q.y -ℤ p.y) (q.z -ℤ p.z) flat none (gone p.z q.z s.1)) some) in
@@ -224,7 +239,8 @@ module _ (n : Normal) where
       let z = s.1 in
       λ i. record { x = x i; y = y i; z = z i }
 
-  exact_z : n.x ≡ pos 0 → n.y ≡ pos 0 → (n.z ≡ pos 0 → ⊥) → (p q : Pt3) → depth_of n p q ≡ pos 0 → Same x_of y_of p q → p ≡ q
+  exact_z : n.x ≡ pos 0 → n.y ≡ pos 0 → (n.z ≡ pos 0 → ⊥) → (p q : Pt3) → depth_of n p q ≡ pos 0
+      → Same x_of y_of p q → p ≡ q
   exact_z none nor some p q flat s =
       let z = no_gap p.z q.z (nought_right n.z (q.z -ℤ p.z)
       (only_z n.x n.y n.z (q.x -ℤ p.x) (q.y -ℤ p.y) (q.z -ℤ p.z) flat none nor) some) in
@@ -249,22 +265,28 @@ module _ (n : Normal) where
 
   module _ (p q r : Pt3) (hq : depth_of n p q ≡ pos 0) (hr : depth_of n p r ≡ pos 0) where
     pub scaled_x : n.x *ℤ dot_of n (normal_of p q r) ≡ square_of n *ℤ (normal_of p q r).x
-    scaled_x = by_x n.x n.y n.z (q.x -ℤ p.x) (q.y -ℤ p.y) (q.z -ℤ p.z) (r.x -ℤ p.x) (r.y -ℤ p.y) (r.z -ℤ p.z) hq hr
+    scaled_x = by_x n.x n.y n.z (q.x -ℤ p.x) (q.y -ℤ p.y) (q.z -ℤ p.z) (r.x -ℤ p.x) (r.y -ℤ p.y)
+        (r.z -ℤ p.z) hq hr
 
     pub scaled_y : n.y *ℤ dot_of n (normal_of p q r) ≡ square_of n *ℤ (normal_of p q r).y
-    scaled_y = by_y n.x n.y n.z (q.x -ℤ p.x) (q.y -ℤ p.y) (q.z -ℤ p.z) (r.x -ℤ p.x) (r.y -ℤ p.y) (r.z -ℤ p.z) hq hr
+    scaled_y = by_y n.x n.y n.z (q.x -ℤ p.x) (q.y -ℤ p.y) (q.z -ℤ p.z) (r.x -ℤ p.x) (r.y -ℤ p.y)
+        (r.z -ℤ p.z) hq hr
 
     pub scaled_z : n.z *ℤ dot_of n (normal_of p q r) ≡ square_of n *ℤ (normal_of p q r).z
-    scaled_z = by_z n.x n.y n.z (q.x -ℤ p.x) (q.y -ℤ p.y) (q.z -ℤ p.z) (r.x -ℤ p.x) (r.y -ℤ p.y) (r.z -ℤ p.z) hq hr
+    scaled_z = by_z n.x n.y n.z (q.x -ℤ p.x) (q.y -ℤ p.y) (q.z -ℤ p.z) (r.x -ℤ p.x) (r.y -ℤ p.y)
+        (r.z -ℤ p.z) hq hr
 
     scaled_off_x : (pos 0 -ℤ n.x) *ℤ dot_of n (normal_of p q r) ≡ square_of n *ℤ left z_of y_of p q r
-    scaled_off_x = opposite n.x (dot_of n (normal_of p q r)) (square_of n) (q.y -ℤ p.y) (r.z -ℤ p.z) (q.z -ℤ p.z) (r.y -ℤ p.y) scaled_x
+    scaled_off_x = opposite n.x (dot_of n (normal_of p q r)) (square_of n) (q.y -ℤ p.y) (r.z -ℤ p.z) (q.z -ℤ p.z)
+        (r.y -ℤ p.y) scaled_x
 
     scaled_off_y : (pos 0 -ℤ n.y) *ℤ dot_of n (normal_of p q r) ≡ square_of n *ℤ left x_of z_of p q r
-    scaled_off_y = opposite n.y (dot_of n (normal_of p q r)) (square_of n) (q.z -ℤ p.z) (r.x -ℤ p.x) (q.x -ℤ p.x) (r.z -ℤ p.z) scaled_y
+    scaled_off_y = opposite n.y (dot_of n (normal_of p q r)) (square_of n) (q.z -ℤ p.z) (r.x -ℤ p.x) (q.x -ℤ p.x)
+        (r.z -ℤ p.z) scaled_y
 
     scaled_off_z : (pos 0 -ℤ n.z) *ℤ dot_of n (normal_of p q r) ≡ square_of n *ℤ left y_of x_of p q r
-    scaled_off_z = opposite n.z (dot_of n (normal_of p q r)) (square_of n) (q.x -ℤ p.x) (r.y -ℤ p.y) (q.y -ℤ p.y) (r.x -ℤ p.x) scaled_z
+    scaled_off_z = opposite n.z (dot_of n (normal_of p q r)) (square_of n) (q.x -ℤ p.x) (r.y -ℤ p.y) (q.y -ℤ p.y)
+        (r.x -ℤ p.x) scaled_z
 
   seen_by : (a b c d e h : Bool) → int_lt (pos 0) n.x ≡ a → int_lt n.x (pos 0) ≡ b → int_lt (pos 0) n.y ≡ c
       → int_lt n.y (pos 0) ≡ d → int_lt (pos 0) n.z ≡ e → int_lt n.z (pos 0) ≡ h → pos 0 <ℤ square_of n
@@ -350,7 +372,8 @@ module _ (n : Normal) where
   seen_by false false false false false false ea eb ec ed ee eh some =
       absurd (none n.x n.y n.z (neither n.x ea eb) (neither n.y ec ed) (neither n.z ee eh) some)
     where
-      none : (x y z : ℤ) → x ≡ pos 0 → y ≡ pos 0 → z ≡ pos 0 → pos 0 <ℤ (x *ℤ x +ℤ (y *ℤ y +ℤ z *ℤ z)) → ⊥
+      none : (x y z : ℤ) → x ≡ pos 0 → y ≡ pos 0 → z ≡ pos 0
+          → pos 0 <ℤ (x *ℤ x +ℤ (y *ℤ y +ℤ z *ℤ z)) → ⊥
       none x y z hx hy hz h = nothing (x *ℤ x +ℤ (y *ℤ y +ℤ z *ℤ z))
           (λ i. hx i *ℤ hx i +ℤ (hy i *ℤ hy i +ℤ hz i *ℤ hz i)) h
         where
@@ -360,5 +383,6 @@ module _ (n : Normal) where
   -- a plane with a normal, and the turns in it as seen from outside
   pub seen : pos 0 <ℤ square_of n → IsSeenBy n (face_left n)
   seen some =
-      seen_by (int_lt (pos 0) n.x) (int_lt n.x (pos 0)) (int_lt (pos 0) n.y) (int_lt n.y (pos 0)) (int_lt (pos 0) n.z) (int_lt n.z (pos 0))
+      seen_by (int_lt (pos 0) n.x) (int_lt n.x (pos 0)) (int_lt (pos 0) n.y) (int_lt n.y (pos 0)) (int_lt (pos 0) n.z)
+          (int_lt n.z (pos 0))
       refl refl refl refl refl refl some

@@ -1,4 +1,5 @@
--- A convex ring has a side along each line that has two of its points on it, no point on its right and none beyond the two.
+-- A convex ring has a side along each line that has two of its points on it, no point on its right and none beyond the
+-- two.
 use Rattle.std.proofs.Common.{◌≡◌, ◌⊎◌, inl, inr, ℕ, suc, ◌≤◌, length, get_or, List, [], ◌∷◌, ◌++◌, refl, sym, ap, ap₂, ◌∙◌, arith, subst}
 use lib.IntN.{ℤ, pos, ◌+ℤ◌, ◌-ℤ◌, ◌*ℤ◌}
 use lib.Signed.{◌<ℤ◌, ◌≤ℤ◌}
@@ -95,7 +96,8 @@ module _ {X : Type 0} (h : X → ℤ) where
   low_corner m b c rs = by_lt_z (h m) (h b) (λ k. by_up (up m (b ∷ (c ∷ rs)) m b k))
       (λ k. by_down (down m b c (rs ++ (m ∷ (b ∷ []))) k))
     where
-      by_up : Low (round (m ∷ (b ∷ (c ∷ rs)))) ⊎ ((h m <ℤ h b) × (h m <ℤ h m)) → Low (round (m ∷ (b ∷ (c ∷ rs))))
+      by_up : Low (round (m ∷ (b ∷ (c ∷ rs)))) ⊎ ((h m <ℤ h b) × (h m <ℤ h m))
+          → Low (round (m ∷ (b ∷ (c ∷ rs))))
       by_up (inl l) = l
       by_up (inr l) = absurd (itself (h m) l.1)
 
@@ -110,11 +112,12 @@ module _ {X : Type 0} (left : X → X → X → ℤ) where
   turn_behind x y [] t = tt
   turn_behind x y (z ∷ zs) t = t.1
 
-  pub turn_at : (before : List X) (z m c : X) (after : List X) → AllTurnLeft left (before ++ (z ∷ (m ∷ (c ∷ after))))
-      → pos 0 <ℤ left z m c
+  pub turn_at : (before : List X) (z m c : X) (after : List X)
+      → AllTurnLeft left (before ++ (z ∷ (m ∷ (c ∷ after)))) → pos 0 <ℤ left z m c
   turn_at [] z m c after t = t.0
   turn_at (x ∷ []) z m c after t = t.1.0
-  turn_at (x ∷ (y ∷ bs)) z m c after t = turn_at (y ∷ bs) z m c after (turn_behind x y (bs ++ (z ∷ (m ∷ (c ∷ after)))) t)
+  turn_at (x ∷ (y ∷ bs)) z m c after t = turn_at (y ∷ bs) z m c after
+      (turn_behind x y (bs ++ (z ∷ (m ∷ (c ∷ after)))) t)
 
   pub first_at : (q : X) (before : List X) (z m c : X) (after : List X)
       → IsRightOfNone left q (before ++ (z ∷ (m ∷ (c ∷ after)))) → pos 0 ≤ℤ left z m q
@@ -132,7 +135,8 @@ module _ {X : Type 0} (left : X → X → X → ℤ) where
   abbrev pub AreInTurn : List X → X → X → X → Type 0
   AreInTurn way z m c = (before : List X) × (after : List X) × (way ≡ before ++ (z ∷ (m ∷ (c ∷ after))))
 
-pub all_behind : {X : Type 0} (P : X → Type 0) (xs ys : List X) → AllByRecursion P (xs ++ ys) → AllByRecursion P ys
+pub all_behind : {X : Type 0} (P : X → Type 0) (xs ys : List X) → AllByRecursion P (xs ++ ys)
+    → AllByRecursion P ys
 all_behind P [] ys h = h
 all_behind P (x ∷ xs) ys h = all_behind P xs ys h.1
 
@@ -145,14 +149,15 @@ three_long : {X : Type 0} (z m c : X) (ws : List X) → 3 ≤ length (ws ++ (z �
 three_long z m c [] = omega arith
 three_long z m c (w ∷ ws) = let l = three_long z m c ws in omega arith
 
-last_two : {X : Type 0} (before : List X) (z m c a b : X) (ws : List X) → ws ++ (a ∷ (b ∷ [])) ≡ before ++ (z ∷ (m ∷ (c ∷ [])))
-    → (a ≡ m) × (b ≡ c)
+last_two : {X : Type 0} (before : List X) (z m c a b : X) (ws : List X)
+    → ws ++ (a ∷ (b ∷ [])) ≡ before ++ (z ∷ (m ∷ (c ∷ []))) → (a ≡ m) × (b ≡ c)
 last_two [] z m c a b [] e = absurd (short (ap length e))
   where
     short : ◌≡◌ {A = ℕ} 2 3 → ⊥
     short e = omega arith
 last_two [] z m c a b (w ∷ []) e = (ap (λ l. get_or l 1 m) e, ap (λ l. get_or l 2 c) e)
-last_two [] z m c a b (w ∷ (v ∷ ws)) e = absurd (long (length (ws ++ (a ∷ (b ∷ [])))) (two_long a b ws) (ap length e))
+last_two [] z m c a b (w ∷ (v ∷ ws)) e = absurd
+    (long (length (ws ++ (a ∷ (b ∷ [])))) (two_long a b ws) (ap length e))
   where
     long : (n : ℕ) → 2 ≤ n → ◌≡◌ {A = ℕ} (suc (suc n)) 3 → ⊥
     long n l e = omega arith
@@ -179,7 +184,8 @@ module _ {X : Type 0} (left : X → X → X → ℤ) (r0 r1 r2 : X) (rs : List X
   pub follow : (z m c : X) → AreInTurn left way z m c → (d : X) × AreInTurn left way m c d
   follow z m c (before, [], e) =
       let same = last_two before z m c r0 r1 (r0 ∷ (r1 ∷ (r2 ∷ rs))) e in
-      (r2, ([], rs ++ (r0 ∷ (r1 ∷ [])), ap₂ (λ x y. x ∷ (y ∷ (r2 ∷ (rs ++ (r0 ∷ (r1 ∷ [])))))) same.0 same.1))
+      (r2, ([], rs ++ (r0 ∷ (r1 ∷ [])), ap₂ (λ x y. x ∷ (y ∷ (r2 ∷ (rs ++ (r0 ∷ (r1 ∷ [])))))) same.0
+          same.1))
   follow z m c (before, d ∷ after, e) =
       (d, (before ++ (z ∷ []), after, e ∙ sym (append_on before (z ∷ []) (m ∷ (c ∷ (d ∷ after))))))
 
@@ -192,7 +198,8 @@ module _ {X : Type 0} (left : X → X → X → ℤ) (r0 r1 r2 : X) (rs : List X
           [],
           ap (λ ys. r0 ∷ (ys ++ (r0 ∷ (r1 ∷ [])))) f
               ∙ ap (λ ys. r0 ∷ ys) (append_on front (final r1 (r2 ∷ rs) ∷ []) (r0 ∷ (r1 ∷ [])))
-              ∙ ap₂ (λ x y. r0 ∷ (front ++ (final r1 (r2 ∷ rs) ∷ (x ∷ (y ∷ []))))) (ap (λ l. get_or l 0 z) e) (ap (λ l. get_or l 1 m) e),
+              ∙ ap₂ (λ x y. r0 ∷ (front ++ (final r1 (r2 ∷ rs) ∷ (x ∷ (y ∷ [])))))
+              (ap (λ l. get_or l 0 z) e) (ap (λ l. get_or l 1 m) e),
         ),
       )
   precede z m c (x ∷ before, after, e) =
@@ -217,7 +224,8 @@ module _ {X : Type 0} (f g : X → ℤ) (b a o : X) (off : pos 0 <ℤ left f g b
   abbrev T : Term → Term → Term → Term → Term → Term → Term
   T pf pg qf qg rf rg = (qf ⊖ pf) ⊗ (rg ⊖ pg) ⊖ (qg ⊖ pg) ⊗ (rf ⊖ pf)
 
-  cramer : (z m c q : X) → L z m c *ℤ (h q -ℤ h m) ≡ L m c q *ℤ (h z -ℤ h m) +ℤ L z m q *ℤ (h c -ℤ h m)
+  cramer : (z m c q : X) → L z m c *ℤ (h q -ℤ h m)
+      ≡ L m c q *ℤ (h z -ℤ h m) +ℤ L z m q *ℤ (h c -ℤ h m)
   cramer z m c q =
       let H = λ (x y : Term). T (var 0) (var 1) (var 2) (var 3) x y in
       ring (f b ∷ g b ∷ f a ∷ g a ∷ f z ∷ g z ∷ f m ∷ g m ∷ f c ∷ g c ∷ f q ∷ g q ∷ [])
@@ -229,14 +237,15 @@ module _ {X : Type 0} (f g : X → ℤ) (b a o : X) (off : pos 0 <ℤ left f g b
   begin = ring (f b ∷ g b ∷ f a ∷ g a ∷ []) (T (var 0) (var 1) (var 2) (var 3) (var 0) (var 1)) (num (pos 0)) refl
 
   no_way : L b b o ≡ pos 0
-  no_way = ring (f b ∷ g b ∷ f o ∷ g o ∷ []) (T (var 0) (var 1) (var 0) (var 1) (var 2) (var 3)) (num (pos 0)) refl
+  no_way = ring (f b ∷ g b ∷ f o ∷ g o ∷ []) (T (var 0) (var 1) (var 0) (var 1) (var 2) (var 3)) (num (pos 0))
+      refl
 
   some : (z : ℤ) → pos 0 <ℤ z → z ≡ pos 0 → ⊥
   some z k e = omega (arith, ints)
 
   -- a low corner lies on the line
-  at_low : (z m c : X) → pos 0 <ℤ L z m c → pos 0 ≤ℤ L m c b → pos 0 ≤ℤ L z m b → h m ≤ℤ h z → h m ≤ℤ h c
-      → pos 0 ≤ℤ h m → h m ≡ pos 0
+  at_low : (z m c : X) → pos 0 <ℤ L z m c → pos 0 ≤ℤ L m c b → pos 0 ≤ℤ L z m b → h m ≤ℤ h z
+      → h m ≤ℤ h c → pos 0 ≤ℤ h m → h m ≡ pos 0
   at_low z m c turn second first low_z low_c inside =
       level (h b) (h m) begin inside (at_least_left (h b -ℤ h m) (L z m c) turn
       (subst (λ (x : ℤ). pos 0 ≤ℤ x) (sym (cramer z m c b) ∙ flip (L z m c) (h b -ℤ h m))
@@ -260,8 +269,10 @@ module _ {X : Type 0} (f g : X → ℤ) (b a o : X) (off : pos 0 <ℤ left f g b
   no_turn : (z m c : X) → h z ≡ pos 0 → h m ≡ pos 0 → h c ≡ pos 0 → pos 0 <ℤ L z m c → ⊥
   no_turn z m c ez em ec turn =
       some (h o) off (same (h o) (h m) em (nought_right (L z m c) (h o -ℤ h m)
-      (cramer z m c o ∙ ap₂ (λ (x y : ℤ). L m c o *ℤ x +ℤ L z m o *ℤ y) (gone (h z) (h m) ez em) (gone (h c) (h m) ec em)
-      ∙ ring (L m c o ∷ L z m o ∷ []) (var 0 ⊗ num (pos 0) ⊕ var 1 ⊗ num (pos 0)) (num (pos 0)) refl) (some (L z m c) turn)))
+      (cramer z m c o ∙ ap₂ (λ (x y : ℤ). L m c o *ℤ x +ℤ L z m o *ℤ y) (gone (h z) (h m) ez em)
+          (gone (h c) (h m) ec em)
+      ∙ ring (L m c o ∷ L z m o ∷ []) (var 0 ⊗ num (pos 0) ⊕ var 1 ⊗ num (pos 0)) (num (pos 0)) refl)
+      (some (L z m c) turn)))
     where
       gone : (x y : ℤ) → x ≡ pos 0 → y ≡ pos 0 → x -ℤ y ≡ pos 0
       gone x y e k = omega (arith, ints)
@@ -270,10 +281,13 @@ module _ {X : Type 0} (f g : X → ℤ) (b a o : X) (off : pos 0 <ℤ left f g b
       same x y e k = omega (arith, ints)
 
   -- the first of two ends: m on the line, not before b, with b on the left of the side into m
-  at_b : (z m : X) → h m ≡ pos 0 → pos 0 <ℤ h z → pos 0 ≤ℤ L z m b → pos 0 ≤ℤ L o b m → Same f g m b
+  at_b : (z m : X) → h m ≡ pos 0 → pos 0 <ℤ h z → pos 0 ≤ℤ L z m b → pos 0 ≤ℤ L o b m
+      → Same f g m b
   at_b z m em hz k l = (
-    equal (f m) (f b) (nought_right (h o) (f m -ℤ f b) (by_f ∙ both (L o b m) (h m) (f a -ℤ f b) (f o -ℤ f b) none em) (some (h o) off)),
-    equal (g m) (g b) (nought_right (h o) (g m -ℤ g b) (by_g ∙ both (L o b m) (h m) (g a -ℤ g b) (g o -ℤ g b) none em) (some (h o) off)),
+    equal (f m) (f b) (nought_right (h o) (f m -ℤ f b)
+        (by_f ∙ both (L o b m) (h m) (f a -ℤ f b) (f o -ℤ f b) none em) (some (h o) off)),
+    equal (g m) (g b) (nought_right (h o) (g m -ℤ g b)
+        (by_g ∙ both (L o b m) (h m) (g a -ℤ g b) (g o -ℤ g b) none em) (some (h o) off)),
   )
     where
       by_f : h o *ℤ (f m -ℤ f b) ≡ L o b m *ℤ (f a -ℤ f b) +ℤ h m *ℤ (f o -ℤ f b)
@@ -308,9 +322,11 @@ module _ {X : Type 0} (f g : X → ℤ) (b a o : X) (off : pos 0 <ℤ left f g b
       none : L o b m ≡ pos 0
       none =
           squeezed (L o b m) l (at_least_left (pos 0 -ℤ L o b m) (h z) hz
-          (subst (λ (x : ℤ). pos 0 ≤ℤ x) (ring (L o b m ∷ h z ∷ []) (num (pos 0) ⊖ var 0 ⊗ var 1) ((num (pos 0) ⊖ var 0) ⊗ var 1) refl)
+          (subst (λ (x : ℤ). pos 0 ≤ℤ x)
+              (ring (L o b m ∷ h z ∷ []) (num (pos 0) ⊖ var 0 ⊗ var 1) ((num (pos 0) ⊖ var 0) ⊗ var 1) refl)
           (rest (h o *ℤ L z m b) (L o b m *ℤ h z) (as_seen ∙ ap (λ (x : ℤ). x *ℤ L z o b) em
-          ∙ ring (L z o b ∷ []) (num (pos 0) ⊗ var 0) (num (pos 0)) refl) (at_least_mul (h o) (L z m b) (weak (pos 0) (h o) off) k))))
+          ∙ ring (L z o b ∷ []) (num (pos 0) ⊗ var 0) (num (pos 0)) refl)
+          (at_least_mul (h o) (L z m b) (weak (pos 0) (h o) off) k))))
         where
           squeezed : (x : ℤ) → pos 0 ≤ℤ x → pos 0 ≤ℤ (pos 0 -ℤ x) → x ≡ pos 0
           squeezed x p q = omega (arith, ints)
@@ -319,10 +335,13 @@ module _ {X : Type 0} (f g : X → ℤ) (b a o : X) (off : pos 0 <ℤ left f g b
           rest x y e p = omega (arith, ints)
 
   -- the second: c on the line, not beyond a, with a on the left of the side out of c
-  at_a : (c d : X) → h c ≡ pos 0 → pos 0 <ℤ h d → pos 0 ≤ℤ L c d a → pos 0 ≤ℤ L a o c → Same f g c a
+  at_a : (c d : X) → h c ≡ pos 0 → pos 0 <ℤ h d → pos 0 ≤ℤ L c d a → pos 0 ≤ℤ L a o c
+      → Same f g c a
   at_a c d ec hd k l = (
-    equal (f c) (f a) (nought_right (h o) (f c -ℤ f a) (by_f ∙ both (L a o c) (h c) (f b -ℤ f a) (f o -ℤ f a) none ec) (some (h o) off)),
-    equal (g c) (g a) (nought_right (h o) (g c -ℤ g a) (by_g ∙ both (L a o c) (h c) (g b -ℤ g a) (g o -ℤ g a) none ec) (some (h o) off)),
+    equal (f c) (f a) (nought_right (h o) (f c -ℤ f a)
+        (by_f ∙ both (L a o c) (h c) (f b -ℤ f a) (f o -ℤ f a) none ec) (some (h o) off)),
+    equal (g c) (g a) (nought_right (h o) (g c -ℤ g a)
+        (by_g ∙ both (L a o c) (h c) (g b -ℤ g a) (g o -ℤ g a) none ec) (some (h o) off)),
   )
     where
       by_f : h o *ℤ (f c -ℤ f a) ≡ L a o c *ℤ (f b -ℤ f a) +ℤ h c *ℤ (f o -ℤ f a)
@@ -356,9 +375,11 @@ module _ {X : Type 0} (f g : X → ℤ) (b a o : X) (off : pos 0 <ℤ left f g b
       none : L a o c ≡ pos 0
       none =
           squeezed (L a o c) l (at_least_left (pos 0 -ℤ L a o c) (h d) hd
-          (subst (λ (x : ℤ). pos 0 ≤ℤ x) (ring (L a o c ∷ h d ∷ []) (num (pos 0) ⊖ var 0 ⊗ var 1) ((num (pos 0) ⊖ var 0) ⊗ var 1) refl)
+          (subst (λ (x : ℤ). pos 0 ≤ℤ x)
+              (ring (L a o c ∷ h d ∷ []) (num (pos 0) ⊖ var 0 ⊗ var 1) ((num (pos 0) ⊖ var 0) ⊗ var 1) refl)
           (rest (h o *ℤ L c d a) (L a o c *ℤ h d) (as_seen ∙ ap (λ (x : ℤ). x *ℤ L o d a) ec
-          ∙ ring (L o d a ∷ []) (num (pos 0) ⊗ var 0) (num (pos 0)) refl) (at_least_mul (h o) (L c d a) (weak (pos 0) (h o) off) k))))
+          ∙ ring (L o d a ∷ []) (num (pos 0) ⊗ var 0) (num (pos 0)) refl)
+          (at_least_mul (h o) (L c d a) (weak (pos 0) (h o) off) k))))
         where
           squeezed : (x : ℤ) → pos 0 ≤ℤ x → pos 0 ≤ℤ (pos 0 -ℤ x) → x ≡ pos 0
           squeezed x p q = omega (arith, ints)

@@ -20,12 +20,14 @@ use Rattle.scad_hull.proofs.SharedSides.{AreInTurn, turn_at, first_at, second_at
 use Rattle.scad_hull.proofs.Whole.{recursion_of}
 
 -- ---- three by their place
-pub in_turn : {X : Type 0} (left : X → X → X → ℤ) (way : List X) (j : ℕ) (a b c : X) → suc (suc j) < length way → a ≡ get_or way j a
+pub in_turn : {X : Type 0} (left : X → X → X → ℤ) (way : List X) (j : ℕ) (a b c : X)
+    → suc (suc j) < length way → a ≡ get_or way j a
     → b ≡ get_or way (suc j) b → c ≡ get_or way (suc (suc j)) c → AreInTurn left way a b c
 in_turn left [] j a b c h ea eb ec = absurd (omega arith)
 in_turn left (x ∷ []) j a b c h ea eb ec = absurd (omega arith)
 in_turn left (x ∷ (y ∷ [])) j a b c h ea eb ec = absurd (omega arith)
-in_turn left (x ∷ (y ∷ (z ∷ way))) zero a b c h ea eb ec = ([], way, λ i. sym ea i ∷ (sym eb i ∷ (sym ec i ∷ way)))
+in_turn left (x ∷ (y ∷ (z ∷ way))) zero a b c h ea eb ec
+    = ([], way, λ i. sym ea i ∷ (sym eb i ∷ (sym ec i ∷ way)))
 in_turn left (x ∷ (y ∷ (z ∷ way))) (suc j) a b c h ea eb ec =
     let rest = in_turn left (y ∷ (z ∷ way)) j a b c (omega arith) ea eb ec in
     (x ∷ rest.0, rest.1, ap (λ ys. x ∷ ys) rest.2)
@@ -59,7 +61,8 @@ module _ (ps : List Pt3) (sorted : IsStrictlySortedBy space_cmp ps) (base : Pt3)
       (All-from_recursion (λ p. depth_of n base p ≡ pos 0) Q (all_flat ps sorted base n plane.some)) i
 
   pub member : (q : Pt3) → Contains Q q → Contains ps q
-  member q i = All-contains (Contains ps) Q q (All-filter (λ p. is_zero (depth_of n base p)) (Contains ps) ps (All-contains_itself ps)) i
+  member q i = All-contains (Contains ps) Q q
+      (All-filter (λ p. is_zero (depth_of n base p)) (Contains ps) ps (All-contains_itself ps)) i
 
   -- the depth as from a corner
   as_from : (a p : Pt3) → depth_of n base a ≡ pos 0 → depth_of n base p ≡ depth_of n a p
@@ -78,13 +81,16 @@ module _ (ps : List Pt3) (sorted : IsStrictlySortedBy space_cmp ps) (base : Pt3)
     in_a = (all_behind (Contains Q) t.0 (a ∷ (b ∷ (c ∷ t.1))) (subst (AllByRecursion (Contains Q)) t.2 all_in)).0
 
     in_b : Contains Q b
-    in_b = (all_behind (Contains Q) t.0 (a ∷ (b ∷ (c ∷ t.1))) (subst (AllByRecursion (Contains Q)) t.2 all_in)).1.0
+    in_b = (all_behind (Contains Q) t.0 (a ∷ (b ∷ (c ∷ t.1)))
+        (subst (AllByRecursion (Contains Q)) t.2 all_in)).1.0
 
     in_c : Contains Q c
-    in_c = (all_behind (Contains Q) t.0 (a ∷ (b ∷ (c ∷ t.1))) (subst (AllByRecursion (Contains Q)) t.2 all_in)).1.1.0
+    in_c = (all_behind (Contains Q) t.0 (a ∷ (b ∷ (c ∷ t.1)))
+        (subst (AllByRecursion (Contains Q)) t.2 all_in)).1.1.0
 
     in_it : (p : Pt3) → Contains ps p → depth_of n a p ≡ pos 0 → Contains Q p
-    in_it p i e = Contains-filter (λ q. is_zero (depth_of n base q)) ps p i (ap is_zero (as_from a p (flat_at a in_a) ∙ e))
+    in_it p i e = Contains-filter (λ q. is_zero (depth_of n base q)) ps p i
+        (ap is_zero (as_from a p (flat_at a in_a) ∙ e))
 
     there : (k : ℕ) (d : Pt3) → k < length ps → Contains ps (get_or ps k d)
     there k d i = All-contains_itself ps k d i
@@ -98,17 +104,21 @@ module _ (ps : List Pt3) (sorted : IsStrictlySortedBy space_cmp ps) (base : Pt3)
       side = record {
         normal = n;
         some = plane.some;
-        inward = λ k d i. subst (λ (z : ℤ). pos 0 ≤ℤ z) (as_from a (get_or ps k d) (flat_at a in_a)) (plane.inward k d i);
+        inward = λ k d i. subst (λ (z : ℤ). pos 0 ≤ℤ z) (as_from a (get_or ps k d) (flat_at a in_a))
+            (plane.inward k d i);
         left = λ k d i e. first_at (face_left n) (get_or ps k d) t.0 a b c t.1
-            (subst (IsRightOfNone (face_left n) (get_or ps k d)) t.2 (held (get_or ps k d) (in_it (get_or ps k d) (there k d i) e)));
+            (subst (IsRightOfNone (face_left n) (get_or ps k d)) t.2
+                (held (get_or ps k d) (in_it (get_or ps k d) (there k d i) e)));
         flat = flat_between ps sorted base n plane.some a b (flat_at a in_a) (flat_at b in_b);
         flat_c = flat_between ps sorted base n plane.some a c (flat_at a in_a) (flat_at c in_c);
         turns = turn_at (face_left n) t.0 a b c t.1 (subst (AllTurnLeft (face_left n)) t.2 convex.turns);
         left_behind = λ k d i e. second_at (face_left n) (get_or ps k d) t.0 a b c t.1
-            (subst (IsRightOfNone (face_left n) (get_or ps k d)) t.2 (held (get_or ps k d) (in_it (get_or ps k d) (there k d i) e)));
+            (subst (IsRightOfNone (face_left n) (get_or ps k d)) t.2
+                (held (get_or ps k d) (in_it (get_or ps k d) (there k d i) e)));
         before = w;
         left_before = λ k d i e. first_at (face_left n) (get_or ps k d) u.0 w a b u.1
-            (subst (IsRightOfNone (face_left n) (get_or ps k d)) u.2 (held (get_or ps k d) (in_it (get_or ps k d) (there k d i) e)));
+            (subst (IsRightOfNone (face_left n) (get_or ps k d)) u.2
+                (held (get_or ps k d) (in_it (get_or ps k d) (there k d i) e)));
         turns_before = turn_at (face_left n) u.0 w a b u.1 (subst (AllTurnLeft (face_left n)) u.2 convex.turns);
         has_a = member a in_a;
         has_b = member b in_b;
@@ -116,8 +126,8 @@ module _ (ps : List Pt3) (sorted : IsStrictlySortedBy space_cmp ps) (base : Pt3)
       };
     }
 
-  pub of_ring : (R : List Pt3) → IsConvexRing (face_left n) Before Q R → (a b c : Pt3) → AreInTurn (face_left n) (round R) a b c
-      → IsSideIn ps base n a b c
+  pub of_ring : (R : List Pt3) → IsConvexRing (face_left n) Before Q R → (a b c : Pt3)
+      → AreInTurn (face_left n) (round R) a b c → IsSideIn ps base n a b c
   of_ring [] convex a b c t = absurd convex.starts
   of_ring (r0 ∷ []) convex a b c t = let l = convex.three in absurd (omega arith)
   of_ring (r0 ∷ (r1 ∷ [])) convex a b c t = let l = convex.three in absurd (omega arith)
@@ -131,20 +141,23 @@ module _ (ps : List Pt3) (sorted : IsStrictlySortedBy space_cmp ps) (base : Pt3)
 module _ (ps : List Pt3) (sorted : IsStrictlySortedBy space_cmp ps) (f : Face) (face : IsFaceOf ps f) where
   convex : IsConvexRing (face_left f.normal) (InPlaneOrder ps sorted face.base f.normal face.plane.some)
       (in_plane ps face.base f.normal) f.ring.items
-  convex = subst (IsConvexRing (face_left f.normal) (InPlaneOrder ps sorted face.base f.normal face.plane.some) (in_plane ps face.base f.normal))
+  convex = subst (IsConvexRing (face_left f.normal) (InPlaneOrder ps sorted face.base f.normal face.plane.some)
+      (in_plane ps face.base f.normal))
       (sym face.ring) (ring_there ps sorted face.base f.normal face.plane)
 
   pub three_long : 3 ≤ length f.ring.items
   three_long = convex.three
 
   pub side_by_place : (j : ℕ) (a b c : Pt3) → j < length f.ring.items → a ≡ get_or (round f.ring.items) j a
-      → b ≡ get_or (round f.ring.items) (j + 1) b → c ≡ get_or (round f.ring.items) (j + 2) c → IsSideOf ps a b c
+      → b ≡ get_or (round f.ring.items) (j + 1) b → c ≡ get_or (round f.ring.items) (j + 2) c
+      → IsSideOf ps a b c
   side_by_place j a b c h ea eb ec =
       let three = convex.three in
       let long = round_long f.ring.items (omega arith) in
       (of_ring ps sorted face.base f.normal face.plane f.ring.items convex a b c
       (in_turn (face_left f.normal) (round f.ring.items) j a b c (omega arith) ea
-      (eb ∙ ap (λ k. get_or (round f.ring.items) k b) one_more) (ec ∙ ap (λ k. get_or (round f.ring.items) k c) two_further))).side
+      (eb ∙ ap (λ k. get_or (round f.ring.items) k b) one_more)
+          (ec ∙ ap (λ k. get_or (round f.ring.items) k c) two_further))).side
     where
       one_more : j + 1 ≡ suc j
       one_more = omega arith
@@ -159,8 +172,11 @@ module _ (ps : List Pt3) (sorted : IsStrictlySortedBy space_cmp ps) (f : Face) (
       fewer : (n : ℕ) → 3 ≤ n → 2 ≤ n
       fewer n h = omega arith
 
-  pub side_by_slice : (ring : List Pt3) → ring ≡ f.ring.items → (j : ℕ) (a b c : Pt3) → j < length f.ring.items
-      → a ≡ get_or (round ring) j a → b ≡ get_or (round ring) (j + 1) b → c ≡ get_or (round ring) (j + 2) c → IsSideOf ps a b c
+  pub side_by_slice : (ring : List Pt3) → ring ≡ f.ring.items → (j : ℕ) (a b c : Pt3)
+      → j < length f.ring.items
+      → a ≡ get_or (round ring) j a → b ≡ get_or (round ring) (j + 1) b → c ≡ get_or (round ring) (j + 2) c
+      → IsSideOf ps a b c
   side_by_slice ring is j a b c h ea eb ec =
-      side_by_place j a b c h (ea ∙ ap (λ xs. get_or (round xs) j a) is) (eb ∙ ap (λ xs. get_or (round xs) (j + 1) b) is)
+      side_by_place j a b c h (ea ∙ ap (λ xs. get_or (round xs) j a) is)
+          (eb ∙ ap (λ xs. get_or (round xs) (j + 1) b) is)
       (ec ∙ ap (λ xs. get_or (round xs) (j + 2) c) is)

@@ -32,7 +32,8 @@ use Rattle.scad_hull.proofs.Sorting.{points_in, fans_of}
 abbrev AreAll : (Pt3 → Type 0) → Triangle → Type 0
 AreAll P t = P t.a × P t.b × P t.c
 
-fan_all : (P : Pt3 → Type 0) (a b : Pt3) (rs : List Pt3) → P a → P b → AllByRecursion P rs → AllByRecursion (AreAll P) (fan_around a b rs)
+fan_all : (P : Pt3 → Type 0) (a b : Pt3) (rs : List Pt3) → P a → P b → AllByRecursion P rs
+    → AllByRecursion (AreAll P) (fan_around a b rs)
 fan_all P a b [] ha hb h = tt
 fan_all P a b (c ∷ rs) ha hb h = ((ha, hb, h.0), fan_all P a c rs ha h.0 h.1)
 
@@ -41,7 +42,8 @@ ring_all P [] h = tt
 ring_all P (a ∷ []) h = tt
 ring_all P (a ∷ (b ∷ rs)) h = fan_all P a b rs h.0 h.1.0 h.1.1
 
-fans_all : (P : Pt3 → Type 0) (rings : List (List Pt3)) → AllByRecursion (AllByRecursion P) rings → AllByRecursion (AreAll P) (fans rings)
+fans_all : (P : Pt3 → Type 0) (rings : List (List Pt3)) → AllByRecursion (AllByRecursion P) rings
+    → AllByRecursion (AreAll P) (fans rings)
 fans_all P [] h = tt
 fans_all P (r ∷ rs) h = all_joined (AreAll P) (fan r) (fans rs) (ring_all P r h.0) (fans_all P rs h.1)
 
@@ -51,7 +53,8 @@ module _ (ps : List Pt3) (sorted : IsStrictlySortedBy space_cmp ps) (range : IsT
       told_all is_triangle_in_range (fans (faces_of ps))
       (all_changed (λ t h. ap₂ (λ a b. a && b) h.0 (ap₂ (λ a b. a && b) h.1 h.2)) (fans (faces_of ps))
       (fans_all (λ q. is_in_range q ≡ true) (faces_of ps)
-      (all_changed (λ r R. all_changed (λ q i. told_at ps is_in_range range q i.0) r (corners_of ps sorted r R)) (faces_of ps)
+      (all_changed (λ r R. all_changed (λ q i. told_at ps is_in_range range q i.0) r (corners_of ps sorted r R))
+          (faces_of ps)
       (all_rings ps sorted))))
 
   module _ (spread : IsSpread ps) (faces : List (List Pt3)) (w : IsWrapped ps faces) (rings : List (Vec Node)) (ts : List Triangle)
@@ -64,7 +67,8 @@ module _ (ps : List Pt3) (sorted : IsStrictlySortedBy space_cmp ps) (range : IsT
 
     pub solid_there : IsSolid ts
     solid_there = record {
-      closed = ap is_closed (are ∙ fans_of rings ∙ ap fans order) ∙ found_closed ps sorted spread faces w.faces w.backs w.first w.has_first;
+      closed = ap is_closed (are ∙ fans_of rings ∙ ap fans order)
+          ∙ found_closed ps sorted spread faces w.faces w.backs w.first w.has_first;
       in_range = ap (λ us. list_all is_triangle_in_range us) solid_is ∙ faces_in_range;
     }
 
@@ -74,16 +78,20 @@ module _ (ps : List Pt3) (sorted : IsStrictlySortedBy space_cmp ps) (range : IsT
       ap Some e ∙ ap (λ (b : Bool). if b then None else Some (fans (faces_of ps))) (sym (spread_told ps spread))
 
 -- ---- as the code tells it
-pub none_told : (ps : List Pt3) → are_flat ps ≡ true → None ≡ (if are_flat ps then None else Some (fans (faces_of ps)))
+pub none_told : (ps : List Pt3) → are_flat ps ≡ true
+    → None ≡ (if are_flat ps then None else Some (fans (faces_of ps)))
 none_told ps e = sym (ap (λ (b : Bool). if b then None else Some (fans (faces_of ps))) e)
 
 past_none : (n : ℕ) → n ≤ 20000 → nat_lt point_count_limit n ≡ false
 past_none n h = grind (arith, nat_tests)
 
-pub hull_told : (points qs : List Pt3) (o : Option (List Triangle)) → qs ≡ distinct space_cmp points → length qs ≤ 20000
-    → o ≡ (if are_flat qs then None else Some (fans (faces_of qs))) → ◌≡◌ {A = Result (Option (List Triangle)) HullFault} (Ok o) (hull_of points)
+pub hull_told : (points qs : List Pt3) (o : Option (List Triangle)) → qs ≡ distinct space_cmp points
+    → length qs ≤ 20000
+    → o ≡ (if are_flat qs then None else Some (fans (faces_of qs)))
+    → ◌≡◌ {A = Result (Option (List Triangle)) HullFault} (Ok o) (hull_of points)
 hull_told points qs o e few is =
     ap Ok is
-    ∙ sym (ap (λ (b : Bool). if b then Err (Points (length qs)) else Ok (if are_flat qs then None else Some (fans (faces_of qs))))
+    ∙ sym (ap (λ (b : Bool). if b then Err (Points (length qs)) else Ok
+    (if are_flat qs then None else Some (fans (faces_of qs))))
     (past_none (length qs) few))
     ∙ ap solid_of_distinct e

@@ -33,7 +33,8 @@ cmp_same [] (y ∷ ys) = refl
 cmp_same (x ∷ xs) [] = refl
 cmp_same (x ∷ xs) (y ∷ ys) = ap (ordering_then (node_cmp x y)) (cmp_same xs ys)
 
-one_more : {X : Type 0} (xs : List X) (i : ℕ) (x : X) → i < length xs → x ≡ get_or xs i x → drop i xs ≡ x ∷ drop (i + 1) xs
+one_more : {X : Type 0} (xs : List X) (i : ℕ) (x : X) → i < length xs → x ≡ get_or xs i x
+    → drop i xs ≡ x ∷ drop (i + 1) xs
 one_more xs i x h e =
     drop-cons xs i x h ∙ ap₂ (λ y ys. y ∷ ys) (sym e) (ap (λ k. drop k xs) next)
   where
@@ -41,7 +42,8 @@ one_more xs i x h e =
     next = omega arith
 
 -- one more face put in order
-pub put_face : (faces : List Face) (i : ℕ) (f : Face) → i < length faces → f ≡ get_or faces i f → (keys new : List (Vec Node)) (k : Vec Node)
+pub put_face : (faces : List Face) (i : ℕ) (f : Face) → i < length faces → f ≡ get_or faces i f
+    → (keys new : List (Vec Node)) (k : Vec Node)
     → k.items ≡ map node_of f.ring.items → new ≡ insert_key ring_cmp keys k → (all : List (List Pt3))
     → with_all face_cmp (map points_in keys) (rings_of (drop i faces)) ≡ all
     → with_all face_cmp (map points_in new) (rings_of (drop (i + 1) faces)) ≡ all
@@ -52,17 +54,20 @@ put_face faces i f h e keys new k is en all before =
     ∙ ap (λ fs. with_all face_cmp (map points_in keys) (rings_of fs)) (sym (one_more faces i f h e)) ∙ before
 
 -- one more fan
-pub put_fan : (rings : List (Vec Node)) (i : ℕ) (r : Vec Node) → i < length rings → r ≡ get_or rings i r → (old new : List Triangle)
+pub put_fan : (rings : List (Vec Node)) (i : ℕ) (r : Vec Node) → i < length rings → r ≡ get_or rings i r
+    → (old new : List Triangle)
     (corners : List Pt3) → corners ≡ map point_of r.items → new ≡ old ++ fan corners → (all : List Triangle)
     → old ++ flat_map (λ x. fan (map point_of x.items)) (drop i rings) ≡ all
     → new ++ flat_map (λ x. fan (map point_of x.items)) (drop (i + 1) rings) ≡ all
 put_fan rings i r h e old new corners is en all before =
-    ap (λ ts. ts ++ flat_map (λ x. fan (map point_of x.items)) (drop (i + 1) rings)) (en ∙ ap (λ ps. old ++ fan ps) is)
+    ap (λ ts. ts ++ flat_map (λ x. fan (map point_of x.items)) (drop (i + 1) rings))
+        (en ∙ ap (λ ps. old ++ fan ps) is)
     ∙ append_assoc old (fan (map point_of r.items)) (flat_map (λ x. fan (map point_of x.items)) (drop (i + 1) rings))
     ∙ ap (λ rs. old ++ flat_map (λ x. fan (map point_of x.items)) rs) (sym (one_more rings i r h e)) ∙ before
 
 -- the fans of rings seen as points
-pub fans_of : (rings : List (Vec Node)) → flat_map (λ x. fan (map point_of x.items)) rings ≡ fans (map points_in rings)
+pub fans_of : (rings : List (Vec Node)) → flat_map (λ x. fan (map point_of x.items)) rings
+    ≡ fans (map points_in rings)
 fans_of [] = refl
 fans_of (r ∷ rs) = ap (λ ts. fan (map point_of r.items) ++ ts) (fans_of rs)
 

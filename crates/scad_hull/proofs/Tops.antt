@@ -31,7 +31,8 @@ module _ {X : Type 0} (left : X → X → X → ℤ) (p d : X) (xs : List X) (tw
       ∙ ap₂ (λ x ys. x ∷ reverse ys) (get_or-take (length xs - 1) xs (length xs - 2) d (omega arith))
       (take-take (length xs - 2) (length xs - 1) xs (omega arith))
     where
-      lengths : length (take (length xs - 1) xs) ≡ length xs - 1 → length xs - 2 + 1 ≡ length (take (length xs - 1) xs)
+      lengths : length (take (length xs - 1) xs) ≡ length xs - 1
+          → length xs - 2 + 1 ≡ length (take (length xs - 1) xs)
       lengths e = omega arith
 
   both : reverse xs ≡ top ∷ (next ∷ reverse (take (length xs - 2) xs))
@@ -45,8 +46,8 @@ module _ {X : Type 0} (left : X → X → X → ℤ) (p d : X) (xs : List X) (tw
       (next ∷ reverse (take (length xs - 2) xs))) e
       ∙ ap₂ (λ us vs. if t then us else bent left p vs) (sym both) (sym fewer)
 
-pub few : {X : Type 0} (left : X → X → X → ℤ) (p : X) (xs : List X) → length xs < 2 → bent left p (reverse xs)
-    ≡ reverse xs
+pub few : {X : Type 0} (left : X → X → X → ℤ) (p : X) (xs : List X) → length xs < 2
+    → bent left p (reverse xs) ≡ reverse xs
 few left p [] h = refl
 few left p (x ∷ []) h = refl
 few left p (x ∷ (y ∷ xs)) h = absurd (omega arith)
@@ -65,7 +66,8 @@ module _ {X : Type 0} (left : X → X → X → ℤ) (p a b : X) (xs : List X) (
       same n i e = omega arith
 
   next_at : get_or xs (length xs - 2) b ≡ a
-  next_at = ap (λ n. get_or xs n b) (same (length xs) j less) ∙ other xs j b a (inside (length xs) j less) ∙ sym next
+  next_at = ap (λ n. get_or xs n b) (same (length xs) j less) ∙ other xs j b a (inside (length xs) j less)
+      ∙ sym next
     where
       same : (n i : ℕ) → i + 2 ≡ n → n - 2 ≡ i
       same n i e = omega arith
@@ -79,8 +81,8 @@ module _ {X : Type 0} (left : X → X → X → ℤ) (p a b : X) (xs : List X) (
   pub stays : t ≡ true → bent left p (reverse xs) ≡ reverse xs
   stays test = tested left p b xs two true (told ∙ test)
 
-  pub goes : (ys : List X) (m : ℕ) → m ≡ length xs → ys ≡ take (m - 1) xs → t ≡ false → bent left p (reverse ys)
-      ≡ bent left p (reverse xs)
+  pub goes : (ys : List X) (m : ℕ) → m ≡ length xs → ys ≡ take (m - 1) xs → t ≡ false
+      → bent left p (reverse ys) ≡ bent left p (reverse xs)
   goes ys m e rest test =
       ap (λ zs. bent left p (reverse zs)) (rest ∙ ap (λ n. take (n - 1) xs) e)
       ∙ sym (tested left p b xs two false (told ∙ test))
@@ -90,8 +92,8 @@ take_none zero = refl
 take_none (suc n) = refl
 
 -- without the last, by the list turned round
-pub all_but_last : {X : Type 0} (xs ys zs : List X) (m : ℕ) → m ≡ length xs → ys ≡ take (m - 1) xs → reverse xs ≡ zs
-    → ys ≡ reverse (rest_of zs)
+pub all_but_last : {X : Type 0} (xs ys zs : List X) (m : ℕ) → m ≡ length xs → ys ≡ take (m - 1) xs
+    → reverse xs ≡ zs → ys ≡ reverse (rest_of zs)
 all_but_last [] ys zs m e rest is = rest ∙ take_none (m - 1) ∙ ap (λ ws. reverse (rest_of ws)) is
 all_but_last (x ∷ xs) ys zs m e rest is =
     rest ∙ ap (λ n. take (n - 1) (x ∷ xs)) e

@@ -24,17 +24,26 @@ module _ (a b : Pt3) where
   volume_on c r = depth_of (normal_of a b c) a r
 
   as_turn : (cx cy cz rx ry rz n0 n1 n2 : ℤ) (e : n0 *ℤ ux +ℤ (n1 *ℤ uy +ℤ n2 *ℤ uz) ≡ pos 0)
-      → (uy *ℤ cz -ℤ uz *ℤ cy) *ℤ rx +ℤ ((uz *ℤ cx -ℤ ux *ℤ cz) *ℤ ry +ℤ (ux *ℤ cy -ℤ uy *ℤ cx) *ℤ rz) ≡ turn3 n0 n1 n2 ux uy uz e cx cy cz rx ry rz
+      → (uy *ℤ cz -ℤ uz *ℤ cy) *ℤ rx +ℤ
+      ((uz *ℤ cx -ℤ ux *ℤ cz) *ℤ ry +ℤ (ux *ℤ cy -ℤ uy *ℤ cx) *ℤ rz)
+      ≡ turn3 n0 n1 n2 ux uy uz e cx cy cz rx ry rz
   as_turn cx cy cz rx ry rz n0 n1 n2 e =
       ring (ux ∷ uy ∷ uz ∷ cx ∷ cy ∷ cz ∷ rx ∷ ry ∷ rz ∷ [])
-      ((var 1 ⊗ var 5 ⊖ var 2 ⊗ var 4) ⊗ var 6 ⊕ ((var 2 ⊗ var 3 ⊖ var 0 ⊗ var 5) ⊗ var 7 ⊕ (var 0 ⊗ var 4 ⊖ var 1 ⊗ var 3) ⊗ var 8))
-      (var 2 ⊗ (var 3 ⊗ var 7 ⊖ var 4 ⊗ var 6) ⊕ (var 5 ⊗ (var 6 ⊗ var 1 ⊖ var 7 ⊗ var 0) ⊕ var 8 ⊗ (var 0 ⊗ var 4 ⊖ var 1 ⊗ var 3))) refl
+      ((var 1 ⊗ var 5 ⊖ var 2 ⊗ var 4) ⊗ var 6
+          ⊕ ((var 2 ⊗ var 3 ⊖ var 0 ⊗ var 5) ⊗ var 7 ⊕ (var 0 ⊗ var 4 ⊖ var 1 ⊗ var 3) ⊗ var 8))
+      (var 2 ⊗ (var 3 ⊗ var 7 ⊖ var 4 ⊗ var 6)
+          ⊕ (var 5 ⊗ (var 6 ⊗ var 1 ⊖ var 7 ⊗ var 0) ⊕ var 8 ⊗ (var 0 ⊗ var 4 ⊖ var 1 ⊗ var 3)))
+          refl
 
   exchanged : (c r : Pt3) → volume_on r c ≡ pos 0 -ℤ volume_on c r
   exchanged c r =
       ring (ux ∷ uy ∷ uz ∷ c.x ∷ c.y ∷ c.z ∷ r.x ∷ r.y ∷ r.z ∷ a.x ∷ a.y ∷ a.z ∷ [])
-      ((var 1 ⊗ (var 8 ⊖ var 11) ⊖ var 2 ⊗ (var 7 ⊖ var 10)) ⊗ (var 3 ⊖ var 9) ⊕ ((var 2 ⊗ (var 6 ⊖ var 9) ⊖ var 0 ⊗ (var 8 ⊖ var 11)) ⊗ (var 4 ⊖ var 10) ⊕ (var 0 ⊗ (var 7 ⊖ var 10) ⊖ var 1 ⊗ (var 6 ⊖ var 9)) ⊗ (var 5 ⊖ var 11)))
-      (num (pos 0) ⊖ ((var 1 ⊗ (var 5 ⊖ var 11) ⊖ var 2 ⊗ (var 4 ⊖ var 10)) ⊗ (var 6 ⊖ var 9) ⊕ ((var 2 ⊗ (var 3 ⊖ var 9) ⊖ var 0 ⊗ (var 5 ⊖ var 11)) ⊗ (var 7 ⊖ var 10) ⊕ (var 0 ⊗ (var 4 ⊖ var 10) ⊖ var 1 ⊗ (var 3 ⊖ var 9)) ⊗ (var 8 ⊖ var 11)))) refl
+      ((var 1 ⊗ (var 8 ⊖ var 11) ⊖ var 2 ⊗ (var 7 ⊖ var 10)) ⊗ (var 3 ⊖ var 9)
+          ⊕ ((var 2 ⊗ (var 6 ⊖ var 9) ⊖ var 0 ⊗ (var 8 ⊖ var 11)) ⊗ (var 4 ⊖ var 10)
+          ⊕ (var 0 ⊗ (var 7 ⊖ var 10) ⊖ var 1 ⊗ (var 6 ⊖ var 9)) ⊗ (var 5 ⊖ var 11)))
+      (num (pos 0) ⊖ ((var 1 ⊗ (var 5 ⊖ var 11) ⊖ var 2 ⊗ (var 4 ⊖ var 10)) ⊗ (var 6 ⊖ var 9)
+          ⊕ ((var 2 ⊗ (var 3 ⊖ var 9) ⊖ var 0 ⊗ (var 5 ⊖ var 11)) ⊗ (var 7 ⊖ var 10)
+          ⊕ (var 0 ⊗ (var 4 ⊖ var 10) ⊖ var 1 ⊗ (var 3 ⊖ var 9)) ⊗ (var 8 ⊖ var 11)))) refl
 
   on_line : (c r : Pt3) → IsOnLine a b r → volume_on c r ≡ pos 0
   on_line c r h = turn_round (volume_on c r) (volume_on r c) (exchanged c r) (flat (normal_of a b r) h.x h.y h.z)
@@ -45,7 +54,9 @@ module _ (a b : Pt3) where
       flat : (n : Normal) → n.x ≡ pos 0 → n.y ≡ pos 0 → n.z ≡ pos 0 → depth_of n a c ≡ pos 0
       flat n hx hy hz =
           (λ i. hx i *ℤ (c.x -ℤ a.x) +ℤ (hy i *ℤ (c.y -ℤ a.y) +ℤ hz i *ℤ (c.z -ℤ a.z)))
-          ∙ ring (c.x ∷ c.y ∷ c.z ∷ a.x ∷ a.y ∷ a.z ∷ []) (num (pos 0) ⊗ (var 0 ⊖ var 3) ⊕ (num (pos 0) ⊗ (var 1 ⊖ var 4) ⊕ num (pos 0) ⊗ (var 2 ⊖ var 5))) (num (pos 0)) refl
+          ∙ ring (c.x ∷ c.y ∷ c.z ∷ a.x ∷ a.y ∷ a.z ∷ [])
+          (num (pos 0) ⊗ (var 0 ⊖ var 3)
+          ⊕ (num (pos 0) ⊗ (var 1 ⊖ var 4) ⊕ num (pos 0) ⊗ (var 2 ⊖ var 5))) (num (pos 0)) refl
 
   nought : (z : ℤ) → z ≡ pos 0 → pos 0 ≤ℤ z
   nought z e = omega (arith, ints)
@@ -84,7 +95,8 @@ module _ (a b : Pt3) where
   ]
 
   module _ (ps : List Pt3) (i : ℕ) (inside : i < length ps) (p : Pt3) (is : (d : Pt3) → get_or ps i d ≡ p) where
-    pub kept_normal : (n : Normal) → IsTurned a b ps n i → int_lt (depth_of n a p) (pos 0) ≡ false → IsTurned a b ps n (i + 1)
+    pub kept_normal : (n : Normal) → IsTurned a b ps n i → int_lt (depth_of n a p) (pos 0) ≡ false
+        → IsTurned a b ps n (i + 1)
     kept_normal n t e = record {
       known = t.known;
       facing = t.facing;
@@ -93,10 +105,12 @@ module _ (a b : Pt3) where
       there = t.there;
       front = t.front;
       inward = λ k d h. last_or_before k i h (λ l. t.inward k d l)
-          (λ same. subst (λ r. pos 0 ≤ℤ depth_of n a r) (sym (ap (λ j. get_or ps j d) same ∙ is d)) (not_below (depth_of n a p) e));
+          (λ same. subst (λ r. pos 0 ≤ℤ depth_of n a r) (sym (ap (λ j. get_or ps j d) same ∙ is d))
+              (not_below (depth_of n a p) e));
     }
 
-    pub next_normal : (n : Normal) → IsTurned a b ps n i → int_lt (depth_of n a p) (pos 0) ≡ true → IsTurned a b ps (normal_of a b p) (i + 1)
+    pub next_normal : (n : Normal) → IsTurned a b ps n i → int_lt (depth_of n a p) (pos 0) ≡ true
+        → IsTurned a b ps (normal_of a b p) (i + 1)
     next_normal n t e = record {
       known = t.known;
       facing = t.facing;
@@ -120,10 +134,12 @@ module _ (a b : Pt3) where
         earlier : (k : ℕ) (d : Pt3) → k < i → pos 0 ≤ℤ volume_on p (get_or ps k d)
         earlier k d l = elim (t.facing.front k d (omega arith)) [
           | inl line ↦ nought (volume_on p (get_or ps k d)) (on_line p (get_or ps k d) line)
-          | inr front ↦ beyond (get_or ps k d) front (subst (λ m. pos 0 ≤ℤ depth_of m a (get_or ps k d)) t.is (t.inward k d l))
+          | inr front ↦ beyond (get_or ps k d) front
+              (subst (λ m. pos 0 ≤ℤ depth_of m a (get_or ps k d)) t.is (t.inward k d l))
         ]
           where
-            beyond : (r : Pt3) → IsInFront t.known a b r → pos 0 ≤ℤ volume_on t.met r → pos 0 ≤ℤ volume_on p r
+            beyond : (r : Pt3) → IsInFront t.known a b r → pos 0 ≤ℤ volume_on t.met r
+                → pos 0 ≤ℤ volume_on p r
             beyond r front h =
                 let n0 = t.known.x in
                 let n1 = t.known.y in
@@ -131,14 +147,20 @@ module _ (a b : Pt3) where
                 let up = t.facing.upright in
                 let turned = λ (c s : Pt3). as_turn (c.x -ℤ a.x) (c.y -ℤ a.y) (c.z -ℤ a.z) (s.x -ℤ a.x) (s.y -ℤ a.y) (s.z -ℤ a.z) n0 n1 n2 up in
                 subst (λ z. pos 0 ≤ℤ z) (sym (turned p r))
-                (still_outermost n0 n1 n2 ux uy uz up t.facing.some (p.x -ℤ a.x) (p.y -ℤ a.y) (p.z -ℤ a.z) (t.met.x -ℤ a.x) (t.met.y -ℤ a.y) (t.met.z -ℤ a.z) (r.x -ℤ a.x) (r.y -ℤ a.y) (r.z -ℤ a.z) ahead t.front front
-                (subst (λ z. pos 0 ≤ℤ z) (turned p t.met) (opposite (volume_on p t.met) (volume_on t.met p) (exchanged t.met p) further))
+                (still_outermost n0 n1 n2 ux uy uz up t.facing.some (p.x -ℤ a.x) (p.y -ℤ a.y) (p.z -ℤ a.z)
+                    (t.met.x -ℤ a.x) (t.met.y -ℤ a.y) (t.met.z -ℤ a.z) (r.x -ℤ a.x) (r.y -ℤ a.y)
+                    (r.z -ℤ a.z) ahead t.front front
+                (subst (λ z. pos 0 ≤ℤ z) (turned p t.met)
+                    (opposite (volume_on p t.met) (volume_on t.met p) (exchanged t.met p) further))
                 (subst (λ z. pos 0 ≤ℤ z) (turned t.met r) h))
 
-    pub more_normal : (n m : Normal) → IsTurned a b ps n i → m ≡ (if int_lt (depth_of n a p) (pos 0) then normal_of a b p else n) → IsTurned a b ps m (i + 1)
-    more_normal n m t e = subst (λ k. IsTurned a b ps k (i + 1)) (sym e) (by_test (int_lt (depth_of n a p) (pos 0)) refl)
+    pub more_normal : (n m : Normal) → IsTurned a b ps n i
+        → m ≡ (if int_lt (depth_of n a p) (pos 0) then normal_of a b p else n) → IsTurned a b ps m (i + 1)
+    more_normal n m t e = subst (λ k. IsTurned a b ps k (i + 1)) (sym e)
+        (by_test (int_lt (depth_of n a p) (pos 0)) refl)
       where
-        by_test : (c : Bool) → int_lt (depth_of n a p) (pos 0) ≡ c → IsTurned a b ps (if c then normal_of a b p else n) (i + 1)
+        by_test : (c : Bool) → int_lt (depth_of n a p) (pos 0) ≡ c
+            → IsTurned a b ps (if c then normal_of a b p else n) (i + 1)
         by_test true h = next_normal n t h
         by_test false h = kept_normal n t h
 
@@ -148,5 +170,7 @@ module _ (a b : Pt3) where
   default (q ∷ ps) (suc i) d e h = default ps i d e (omega arith)
 
   -- the same, as a loop tells it
-  pub more_at : (ps : List Pt3) (i : ℕ) (e : Pt3) (n m : Normal) → i < length ps → IsTurned a b ps n i → m ≡ (if int_lt (depth_of n a (get_or ps i e)) (pos 0) then normal_of a b (get_or ps i e) else n) → IsTurned a b ps m (i + 1)
+  pub more_at : (ps : List Pt3) (i : ℕ) (e : Pt3) (n m : Normal) → i < length ps → IsTurned a b ps n i
+      → m ≡ (if int_lt (depth_of n a (get_or ps i e)) (pos 0) then normal_of a b (get_or ps i e) else n)
+      → IsTurned a b ps m (i + 1)
   more_at ps i e n m inside t is = more_normal ps i inside (get_or ps i e) (λ d. default ps i d e inside) n m t is

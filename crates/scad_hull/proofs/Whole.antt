@@ -21,7 +21,8 @@ weakened : {X : Type 0} {P Q : X → Type 0} → ((x : X) → P x → Q x) → (
 weakened f [] h = tt
 weakened f (x ∷ xs) h = (f x h.0, weakened f xs h.1)
 
-end_all : {X : Type 0} (P : X → Type 0) (behind : List X) (w z : X) → AllByRecursion P (behind ++ (w ∷ (z ∷ []))) → P w
+end_all : {X : Type 0} (P : X → Type 0) (behind : List X) (w z : X)
+    → AllByRecursion P (behind ++ (w ∷ (z ∷ []))) → P w
 end_all P [] w z h = h.0
 end_all P (b ∷ behind) w z h = end_all P behind w z h.1
 
@@ -31,18 +32,21 @@ onto (x ∷ xs) acc = onto xs (x ∷ acc) ∙ sym (append_assoc (reverse xs) (x 
     ∙ ap (λ ys. ys ++ acc) (sym (onto xs (x ∷ [])))
 
 -- what two overlapping ways begin with
-two_first : {X : Type 0} (R : List X) (u M m w : X) (F T : List X) (v o : X) (G : List X) → R ++ (u ∷ (M ∷ [])) ≡ m
+two_first : {X : Type 0} (R : List X) (u M m w : X) (F T : List X) (v o : X) (G : List X)
+    → R ++ (u ∷ (M ∷ [])) ≡ m
     ∷ (w ∷ F) → T ++ (v ∷ (m ∷ [])) ≡ M ∷ (o ∷ G)
     → (ks : List X) × ((R ++ (u ∷ [])) ++ (T ++ (v ∷ [])) ≡ m ∷ (w ∷ ks))
 two_first [] u M m w F [] v o G e f =
-    ([], ap₂ (λ x y. x ∷ (y ∷ [])) (ap (λ l. get_or l 0 u) e) (ap (λ l. get_or l 0 v) f ∙ ap (λ l. get_or l 1 M) e))
+    ([], ap₂ (λ x y. x ∷ (y ∷ [])) (ap (λ l. get_or l 0 u) e)
+        (ap (λ l. get_or l 0 v) f ∙ ap (λ l. get_or l 1 M) e))
 two_first [] u M m w F (y ∷ T) v o G e f = (
   T ++ (v ∷ []),
   ap₂ (λ x z. x ∷ (z ∷ (T ++ (v ∷ [])))) (ap (λ l. get_or l 0 u) e)
       (ap (λ l. get_or l 0 y) f ∙ ap (λ l. get_or l 1 M) e),
 )
 two_first (x ∷ []) u M m w F T v o G e f =
-    (T ++ (v ∷ []), ap₂ (λ a b. a ∷ (b ∷ (T ++ (v ∷ [])))) (ap (λ l. get_or l 0 x) e) (ap (λ l. get_or l 1 u) e))
+    (T ++ (v ∷ []), ap₂ (λ a b. a ∷ (b ∷ (T ++ (v ∷ [])))) (ap (λ l. get_or l 0 x) e)
+        (ap (λ l. get_or l 1 u) e))
 two_first (x ∷ (y ∷ R)) u M m w F T v o G e f = (
   (R ++ (u ∷ [])) ++ (T ++ (v ∷ [])),
   ap₂ (λ a b. a ∷ (b ∷ ((R ++ (u ∷ [])) ++ (T ++ (v ∷ [])))))
@@ -59,15 +63,18 @@ module _ {X : Type 0} (left : X → X → X → ℤ) (Before Same : X → X → 
 
   -- between the side from a to c and that from c to b: straight only where all points lie on one line
   pub strict : (c a b : X) → Before c a → Before c b → (points : List X)
-      → AllByRecursion (λ q. (pos 0 ≤ℤ left a c q) × ((pos 0 ≤ℤ left c b q) × (Before c q ⊎ Same c q))) points
-      → (AllByRecursion (λ q. left c a q ≡ pos 0) points → ⊥) → pos 0 ≤ℤ left a c b → pos 0 <ℤ left a c b
+      → AllByRecursion (λ q. (pos 0 ≤ℤ left a c q) × ((pos 0 ≤ℤ left c b q) × (Before c q ⊎ Same c q)))
+      points
+      → (AllByRecursion (λ q. left c a q ≡ pos 0) points → ⊥) → pos 0 ≤ℤ left a c b
+      → pos 0 <ℤ left a c b
   strict c a b ca cb points each apart h =
       by_lt_z (pos 0) (left a c b) (λ k. k) (λ k. absurd (apart (weakened (on (level (left a c b) h k)) points each)))
     where
       level : (z : ℤ) → pos 0 ≤ℤ z → z ≤ℤ pos 0 → z ≡ pos 0
       level z h k = omega (arith, ints)
 
-      on : left a c b ≡ pos 0 → (q : X) → ((pos 0 ≤ℤ left a c q) × ((pos 0 ≤ℤ left c b q) × (Before c q ⊎ Same c q)))
+      on : left a c b ≡ pos 0 → (q : X) → ((pos 0 ≤ℤ left a c q)
+          × ((pos 0 ≤ℤ left c b q) × (Before c q ⊎ Same c q)))
           → left c a q ≡ pos 0
       on flat q (x, (y, inl z)) =
           squeezed (left a c q) (left c a q) (plane.swapped a c q) x
@@ -217,7 +224,8 @@ module _ {X : Type 0} (left : X → X → X → ℤ) (Before After Same : X → 
           (order_all left After Same back m (v ∷ t) turns_back) in
           let (ys, e, h) = first_of left Before Same plane m u s (turns_on left Before Same plane M u s turns) ends
           (reverse (v ∷ t)) (all_turned (Before m) (v ∷ t) [] later tt) in
-          subst (StartsFirst left Before) (sym e ∙ onto (u ∷ s) (reverse (v ∷ t))) (All-from_recursion (Before m) ys h)
+          subst (StartsFirst left Before) (sym e ∙ onto (u ∷ s) (reverse (v ∷ t)))
+              (All-from_recursion (Before m) ys h)
 
       three : 3 ≤ length ring
       three =
@@ -273,8 +281,8 @@ module _ {X : Type 0} (left : X → X → X → ℤ) (Before After Same : X → 
         let h : Before m m = subst (Before m) e (final_all (Before m) p ps ascends.0.0 ascends.0.1) in
         plane.once m m h h
 
-    built : (qs s t : List X) → reverse points ≡ M ∷ qs → EndsIn m (M ∷ qs) → led left (m ∷ []) (p ∷ ps) ≡ M ∷ s
-        → led left (M ∷ []) qs ≡ m ∷ t
+    built : (qs s t : List X) → reverse points ≡ M ∷ qs → EndsIn m (M ∷ qs)
+        → led left (m ∷ []) (p ∷ ps) ≡ M ∷ s → led left (M ∷ []) qs ≡ m ∷ t
         → IsConvexRing left Before points (ring_round left points)
     built qs [] t r e a b = absurd (different (subst (EndsIn m) a (led_ends left m (p ∷ ps) m [] refl)))
     built qs (u ∷ s) [] r e a b = absurd (different (sym (subst (EndsIn M) b (led_ends left M qs M [] refl))))

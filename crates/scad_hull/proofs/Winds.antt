@@ -83,8 +83,8 @@ sum_above s t u e h k = omega (arith, ints)
 sum_below : (s t u : ℤ) → s ≡ t +ℤ u → t <ℤ pos 0 → u ≤ℤ pos 0 → s <ℤ pos 0
 sum_below s t u e h k = omega (arith, ints)
 
-on_above : (d a b : Point) → pos 0 <ℤ d.y → pos 0 <ℤ a.y → pos 0 <ℤ b.y → pos 0 <ℤ cross a b → pos 0 <ℤ cross d a
-    → pos 0 <ℤ cross d b
+on_above : (d a b : Point) → pos 0 <ℤ d.y → pos 0 <ℤ a.y → pos 0 <ℤ b.y → pos 0 <ℤ cross a b
+    → pos 0 <ℤ cross d a → pos 0 <ℤ cross d b
 on_above d a b hd ha hb h k =
     pos_left (cross d b) a.y ha (subst (λ (z : ℤ). pos 0 <ℤ z) (flip a.y (cross d b))
     (sum_above (a.y *ℤ cross d b) (d.y *ℤ cross a b) (b.y *ℤ cross d a) (between d a b)
@@ -95,8 +95,8 @@ both_low y z h k = subst (λ (w : ℤ). pos 0 ≤ℤ w)
     (ring (y ∷ z ∷ []) ((num (pos 0) ⊖ v0) ⊗ (num (pos 0) ⊖ v1)) (v0 ⊗ v1) refl)
     (at_least_mul (pos 0 -ℤ y) (pos 0 -ℤ z) (omega (arith, ints)) (omega (arith, ints)))
 
-on_below : (d a b : Point) → d.y <ℤ pos 0 → a.y ≤ℤ pos 0 → b.y ≤ℤ pos 0 → pos 0 <ℤ cross a b → pos 0 <ℤ cross d a
-    → pos 0 <ℤ cross d b
+on_below : (d a b : Point) → d.y <ℤ pos 0 → a.y ≤ℤ pos 0 → b.y ≤ℤ pos 0 → pos 0 <ℤ cross a b
+    → pos 0 <ℤ cross d a → pos 0 <ℤ cross d b
 on_below d a b hd ha hb h k = by_lt_z (pos 0) (cross d b) (λ g. g)
     (λ g.
     let s = sum_below (a.y *ℤ cross d b) (d.y *ℤ cross a b) (b.y *ℤ cross d a) (between d a b)
@@ -120,7 +120,8 @@ no : (z : ℤ) → z ≤ℤ pos 0 → is_beyond true z ≡ false
 unfolding is_beyond
 no z h = let f : int_lt (pos 0) z ≡ false = sym (omega (arith, ints)) in f
 
-add_up : (s t u v w x : ℤ) → (s -ℤ t) ≤ℤ u → (v -ℤ w) ≤ℤ x → ((s +ℤ v) -ℤ (t +ℤ w)) ≤ℤ (u +ℤ x)
+add_up : (s t u v w x : ℤ) → (s -ℤ t) ≤ℤ u → (v -ℤ w) ≤ℤ x
+    → ((s +ℤ v) -ℤ (t +ℤ w)) ≤ℤ (u +ℤ x)
 add_up s t u v w x h k = omega (arith, ints)
 
 module _ (q : Point) (dq : IsPoint q) where
@@ -146,7 +147,8 @@ module _ (q : Point) (dq : IsPoint q) where
         let f = step s h in
         omega (arith, ints)
 
-    sums : (ss : List Segment) → AllByRecursion HasLeft ss → (sum_z g (ends ss) -ℤ sum_z g (starts ss)) ≤ℤ wind q ss
+    sums : (ss : List Segment) → AllByRecursion HasLeft ss
+        → (sum_z g (ends ss) -ℤ sum_z g (starts ss)) ≤ℤ wind q ss
     sums [] h = omega (arith, ints)
     sums (s ∷ ss) h =
         let e = turn_seen true true q s.from s.to dq h.0.proper.from in
@@ -165,7 +167,8 @@ module _ (q : Point) (dq : IsPoint q) where
         omega (arith, ints)
 
   -- ---- by a ray
-  beyond_same : (y z k l : ℤ) → pos 0 <ℤ k → pos 0 <ℤ l → y *ℤ k ≡ z *ℤ l → is_beyond true y ≡ is_beyond true z
+  beyond_same : (y z k l : ℤ) → pos 0 <ℤ k → pos 0 <ℤ l → y *ℤ k ≡ z *ℤ l
+      → is_beyond true y ≡ is_beyond true z
   beyond_same y z k l hk hl e = sym (beyond_mul true k y hk) ∙ ap (is_beyond true) e ∙ beyond_mul true l z hl
 
   module _ (d : Point) where
@@ -175,9 +178,11 @@ module _ (q : Point) (dq : IsPoint q) where
     cross_same : (a b : Point) (h : IsAlong a b) → cross d a *ℤ h.k ≡ cross d b *ℤ h.l
     unfolding cross
     cross_same a b h =
-        ring (d.x ∷ d.y ∷ a.x ∷ a.y ∷ h.k ∷ []) ((v0 ⊗ v3 ⊖ v1 ⊗ v2) ⊗ v4) (v0 ⊗ (v3 ⊗ v4) ⊖ v1 ⊗ (v2 ⊗ v4)) refl
+        ring (d.x ∷ d.y ∷ a.x ∷ a.y ∷ h.k ∷ []) ((v0 ⊗ v3 ⊖ v1 ⊗ v2) ⊗ v4)
+            (v0 ⊗ (v3 ⊗ v4) ⊖ v1 ⊗ (v2 ⊗ v4)) refl
         ∙ ap₂ (λ (y x : ℤ). d.x *ℤ y -ℤ d.y *ℤ x) h.y h.x
-        ∙ ring (d.x ∷ d.y ∷ b.x ∷ b.y ∷ h.l ∷ []) (v0 ⊗ (v3 ⊗ v4) ⊖ v1 ⊗ (v2 ⊗ v4)) ((v0 ⊗ v3 ⊖ v1 ⊗ v2) ⊗ v4) refl
+        ∙ ring (d.x ∷ d.y ∷ b.x ∷ b.y ∷ h.l ∷ []) (v0 ⊗ (v3 ⊗ v4) ⊖ v1 ⊗ (v2 ⊗ v4))
+        ((v0 ⊗ v3 ⊖ v1 ⊗ v2) ⊗ v4) refl
 
     over_same : (p r : Point) → IsPoint p → IsPoint r → is_same_point p r ≡ true → over p ≡ over r
     over_same p r dp dr e =
@@ -198,13 +203,15 @@ module _ (q : Point) (dq : IsPoint q) where
 
     upper_round : pos 0 <ℤ d.y → (s : Segment) (ss : List Segment) → AllByRecursion HasLeft (s ∷ ss)
         → IsBalanced (s ∷ ss)
-        → ahead s.from ≡ false → ahead s.to ≡ true → (over s.from ≡ false → over s.to ≡ true) → pos 1 ≤ℤ wind q (s ∷ ss)
+        → ahead s.from ≡ false → ahead s.to ≡ true → (over s.from ≡ false → over s.to ≡ true)
+        → pos 1 ≤ℤ wind q (s ∷ ss)
     unfolding swing
     upper_round hd s ss h balanced behind before o =
         once_round upper (λ p r dp dr e. ap₂ (λ a b. counted (a && not b)) (over_same p r dp dr e)
         (ahead_same p r dp dr e)) step s ss h balanced first
       where
-        step : (t : Segment) → HasLeft t → (upper t.to -ℤ upper t.from) ≤ℤ swing true true (seen_from q t.from)
+        step : (t : Segment) → HasLeft t → (upper t.to -ℤ upper t.from) ≤ℤ swing true true
+            (seen_from q t.from)
             (seen_from q t.to)
         step t k = upper_step (over t.from) (over t.to) (ahead t.from) (ahead t.to)
             (cross (seen_from q t.from) (seen_from q t.to)) k.left
@@ -212,22 +219,27 @@ module _ (q : Point) (dq : IsPoint q) where
             (on_above d (seen_from q t.from) (seen_from q t.to) hd (told (seen_from q t.from).y a)
             (told (seen_from q t.to).y b) k.left (told (cross d (seen_from q t.from)) l)))
 
-        first : (pos 1 +ℤ (upper s.to -ℤ upper s.from)) ≤ℤ swing true true (seen_from q s.from) (seen_from q s.to)
-        first = subst (λ b. (pos 1 +ℤ (counted (over s.to && not b) -ℤ upper s.from)) ≤ℤ swing_by true (over s.from)
+        first : (pos 1 +ℤ (upper s.to -ℤ upper s.from)) ≤ℤ swing true true (seen_from q s.from)
+            (seen_from q s.to)
+        first = subst (λ b. (pos 1 +ℤ (counted (over s.to && not b) -ℤ upper s.from)) ≤ℤ swing_by true
+            (over s.from)
             (over s.to) (cross (seen_from q s.from) (seen_from q s.to))) (sym before)
-            (subst (λ b. (pos 1 +ℤ (counted (over s.to && not true) -ℤ counted (over s.from && not b))) ≤ℤ swing_by
+            (subst (λ b. (pos 1 +ℤ (counted (over s.to && not true) -ℤ counted (over s.from && not b))) ≤ℤ
+                swing_by
             true (over s.from) (over s.to) (cross (seen_from q s.from) (seen_from q s.to))) (sym behind)
             (upper_first (over s.from) (over s.to) (cross (seen_from q s.from) (seen_from q s.to)) h.0.left o))
 
     lower_round : d.y <ℤ pos 0 → (s : Segment) (ss : List Segment) → AllByRecursion HasLeft (s ∷ ss)
         → IsBalanced (s ∷ ss)
-        → ahead s.from ≡ false → ahead s.to ≡ true → (over s.to ≡ true → over s.from ≡ false) → pos 1 ≤ℤ wind q (s ∷ ss)
+        → ahead s.from ≡ false → ahead s.to ≡ true → (over s.to ≡ true → over s.from ≡ false)
+        → pos 1 ≤ℤ wind q (s ∷ ss)
     unfolding swing
     lower_round hd s ss h balanced behind before o =
         once_round lower (λ p r dp dr e. ap₂ (λ a b. counted (a || not b)) (over_same p r dp dr e)
         (ahead_same p r dp dr e)) step s ss h balanced first
       where
-        step : (t : Segment) → HasLeft t → (lower t.to -ℤ lower t.from) ≤ℤ swing true true (seen_from q t.from)
+        step : (t : Segment) → HasLeft t → (lower t.to -ℤ lower t.from) ≤ℤ swing true true
+            (seen_from q t.from)
             (seen_from q t.to)
         step t k = lower_step (over t.from) (over t.to) (ahead t.from) (ahead t.to)
             (cross (seen_from q t.from) (seen_from q t.to)) k.left
@@ -235,10 +247,13 @@ module _ (q : Point) (dq : IsPoint q) where
             (on_below d (seen_from q t.from) (seen_from q t.to) hd (told_not (seen_from q t.from).y a)
             (told_not (seen_from q t.to).y b) k.left (told (cross d (seen_from q t.from)) l)))
 
-        first : (pos 1 +ℤ (lower s.to -ℤ lower s.from)) ≤ℤ swing true true (seen_from q s.from) (seen_from q s.to)
-        first = subst (λ b. (pos 1 +ℤ (counted (over s.to || not b) -ℤ lower s.from)) ≤ℤ swing_by true (over s.from)
+        first : (pos 1 +ℤ (lower s.to -ℤ lower s.from)) ≤ℤ swing true true (seen_from q s.from)
+            (seen_from q s.to)
+        first = subst (λ b. (pos 1 +ℤ (counted (over s.to || not b) -ℤ lower s.from)) ≤ℤ swing_by true
+            (over s.from)
             (over s.to) (cross (seen_from q s.from) (seen_from q s.to))) (sym before)
-            (subst (λ b. (pos 1 +ℤ (counted (over s.to || not true) -ℤ counted (over s.from || not b))) ≤ℤ swing_by
+            (subst (λ b. (pos 1 +ℤ (counted (over s.to || not true) -ℤ counted (over s.from || not b))) ≤ℤ
+                swing_by
             true (over s.from) (over s.to) (cross (seen_from q s.from) (seen_from q s.to))) (sym behind)
             (lower_first (over s.from) (over s.to) (cross (seen_from q s.from) (seen_from q s.to)) h.0.left o))
 
@@ -257,7 +272,8 @@ module _ (q : Point) (dq : IsPoint q) where
 
   mid_second : (a b : Point) → cross (mid a b) b ≡ cross a b
   unfolding cross mid
-  mid_second a b = ring (a.x ∷ a.y ∷ b.x ∷ b.y ∷ []) ((v0 ⊕ v2) ⊗ v3 ⊖ (v1 ⊕ v3) ⊗ v2) (v0 ⊗ v3 ⊖ v1 ⊗ v2) refl
+  mid_second a b = ring (a.x ∷ a.y ∷ b.x ∷ b.y ∷ []) ((v0 ⊕ v2) ⊗ v3 ⊖ (v1 ⊕ v3) ⊗ v2)
+      (v0 ⊗ v3 ⊖ v1 ⊗ v2) refl
 
   mid_low : (a b : Point) → a.y ≤ℤ pos 0 → b.y <ℤ pos 0 → (mid a b).y <ℤ pos 0
   unfolding mid
@@ -295,7 +311,8 @@ module _ (q : Point) (dq : IsPoint q) where
       let b = nought (starts ss) in
       omega (arith, ints)
     where
-      on : (s : Segment) → HasLeft s → (pos 0 -ℤ pos 0) ≤ℤ swing true true (seen_from q s.from) (seen_from q s.to)
+      on : (s : Segment) → HasLeft s → (pos 0 -ℤ pos 0) ≤ℤ swing true true (seen_from q s.from)
+          (seen_from q s.to)
       on s k = step_on (over s.from) (over s.to) (cross (seen_from q s.from) (seen_from q s.to))
           (weak (cross (seen_from q s.from) (seen_from q s.to)) k.left)
 
@@ -303,8 +320,8 @@ module _ (q : Point) (dq : IsPoint q) where
       nought [] = refl
       nought (p ∷ ps) = let r = nought ps in omega (arith, ints)
 
-  passes : (s : Segment) (ss : List Segment) → AllByRecursion HasLeft (s ∷ ss) → (seen_from q s.from).y ≤ℤ pos 0
-      → pos 0 <ℤ (seen_from q s.to).y → pos 1 ≤ℤ wind q (s ∷ ss)
+  passes : (s : Segment) (ss : List Segment) → AllByRecursion HasLeft (s ∷ ss)
+      → (seen_from q s.from).y ≤ℤ pos 0 → pos 0 <ℤ (seen_from q s.to).y → pos 1 ≤ℤ wind q (s ∷ ss)
   unfolding swing
   passes s ss h a b =
       let e = turn_seen true true q s.from s.to dq h.0.proper.from in
@@ -347,15 +364,18 @@ module _ (q : Point) (dq : IsPoint q) where
       pub from : pos 0 <ℤ along (seen_from q s.from)
       pub to : pos 0 <ℤ along (seen_from q s.to)
 
-    weighed : (a b c : Point) → cross b c *ℤ along a +ℤ (cross c a *ℤ along b +ℤ cross a b *ℤ along c) ≡ pos 0
+    weighed : (a b c : Point) → cross b c *ℤ along a +ℤ (cross c a *ℤ along b +ℤ cross a b *ℤ along c)
+        ≡ pos 0
     unfolding cross
     weighed a b c =
         let A = λ (x y : Term). (v6 ⊗ x ⊕ v7 ⊗ y) in
         ring (a.x ∷ a.y ∷ b.x ∷ b.y ∷ c.x ∷ c.y ∷ u ∷ v ∷ [])
-        ((v2 ⊗ v5 ⊖ v3 ⊗ v4) ⊗ A v0 v1 ⊕ ((v4 ⊗ v1 ⊖ v5 ⊗ v0) ⊗ A v2 v3 ⊕ (v0 ⊗ v3 ⊖ v1 ⊗ v2) ⊗ A v4 v5))
+        ((v2 ⊗ v5 ⊖ v3 ⊗ v4) ⊗ A v0 v1
+            ⊕ ((v4 ⊗ v1 ⊖ v5 ⊗ v0) ⊗ A v2 v3 ⊕ (v0 ⊗ v3 ⊖ v1 ⊗ v2) ⊗ A v4 v5))
         (num (pos 0)) refl
 
-    some_round : (r s t a b c : ℤ) → r *ℤ a +ℤ (s *ℤ b +ℤ t *ℤ c) ≡ pos 0 → pos 0 ≤ℤ r → pos 0 ≤ℤ s → pos 0 ≤ℤ t
+    some_round : (r s t a b c : ℤ) → r *ℤ a +ℤ (s *ℤ b +ℤ t *ℤ c) ≡ pos 0 → pos 0 ≤ℤ r
+        → pos 0 ≤ℤ s → pos 0 ≤ℤ t
         → pos 0 <ℤ (r +ℤ (s +ℤ t)) → pos 0 <ℤ a → pos 0 <ℤ b → pos 0 <ℤ c → ⊥
     some_round r s t a b c e hr hs ht o ha hb hc =
         let x = at_least_mul r a hr (weak a ha) in
@@ -365,7 +385,8 @@ module _ (q : Point) (dq : IsPoint q) where
         (λ g. by_lt_z (pos 0) s (λ k. let p = positive_product s b k hb in omega (arith, ints))
         (λ k. let m : pos 0 <ℤ t = omega (arith, ints) in let p = positive_product t c m hc in omega (arith, ints)))
 
-    not_round : (a b c : Point) → pos 0 <ℤ along a → pos 0 <ℤ along b → pos 0 <ℤ along c → ¬ IsRound a b c
+    not_round : (a b c : Point) → pos 0 <ℤ along a → pos 0 <ℤ along b → pos 0 <ℤ along c
+        → ¬ IsRound a b c
     not_round a b c ha hb hc h = some_round (cross b c) (cross c a) (cross a b) (along a) (along b) (along c)
         (weighed a b c) h.first h.second h.third h.some ha hb hc
 

@@ -1,4 +1,5 @@
--- The faces of the convex hull of points: the planes through three of the points that have none outside, each with the ring of the points in it.
+-- The faces of the convex hull of points: the planes through three of the points that have none outside, each with the
+-- ring of the points in it.
 use Rattle.std.specs.Prelude.{◌≡◌, ◌⊎◌, true, false, [], ◌<ℤ◌, ◌≤ℤ◌, All, List, ◌∷◌, ◌++◌, length, map, Bool, ◌||◌, Option, Some, None, Result, Ok, Err, if◌then◌else◌, nat_lt, int_lt, pos}
 use Rattle.std.specs.List.{Contains, list_all, list_any, filter, filter_map, flat_map}
 use Rattle.std.specs.Cmp.Lexicographic.{slice_cmp}
@@ -27,7 +28,8 @@ face_in ps a n = ring_round (face_left n) (in_plane ps a n)
 
 -- the face in the plane through a with this normal, unless a point lies outside of it
 abbrev pub face_by : List Pt3 → Pt3 → Normal → Option (List Pt3)
-face_by ps a n = if is_none n || list_any (λ p. int_lt (depth_of n a p) (pos 0)) ps then None else Some (face_in ps a n)
+face_by ps a n = if is_none n || list_any (λ p. int_lt (depth_of n a p) (pos 0)) ps then None else Some
+    (face_in ps a n)
 
 -- the face in the plane through three points
 abbrev pub face_through : List Pt3 → Pt3 × Pt3 × Pt3 → Option (List Pt3)
@@ -37,7 +39,8 @@ face_through ps t = face_by ps t.0 (normal_of t.0 t.1 t.2)
 abbrev pub triples : List Pt3 → List (Pt3 × Pt3 × Pt3)
 triples ps = flat_map (λ a. flat_map (λ b. map (λ c. (a, b, c)) ps) ps) ps
 
--- the plane through a with an inward normal is that of a face: three of the points in it don't lie on one line, and none of all lies outside of it
+-- the plane through a with an inward normal is that of a face: three of the points in it don't lie on one line, and
+-- none of all lies outside of it
 pub record IsFacePlane (ps : List Pt3) (a : Pt3) (n : Normal) : Type 0 where
   pub some : pos 0 <ℤ square_of n
   pub inward : All (λ p. pos 0 ≤ℤ depth_of n a p) ps
@@ -52,8 +55,10 @@ pub record IsFacePlane (ps : List Pt3) (a : Pt3) (n : Normal) : Type 0 where
   pub flat_third : depth_of n a third ≡ pos 0
   pub round : pos 0 <ℤ dot_of n (normal_of first second third)
 
--- a face of points: there is a plane with none of them outside, and the face is the convex ring round those in it. It has three or more of
--- them as its corners, holds all of them, goes clockwise as seen from outside, none of its corners lies on the line through its neighbours,
+-- a face of points: there is a plane with none of them outside, and the face is the convex ring round those in it. It
+-- has three or more of
+-- them as its corners, holds all of them, goes clockwise as seen from outside, none of its corners lies on the line
+-- through its neighbours,
 -- and it starts with its least corner by z, y, x.
 pub record IsFace (ps face : List Pt3) : Type 0 where
   pub base : Pt3

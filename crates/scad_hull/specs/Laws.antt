@@ -50,14 +50,15 @@ IsLeftOf q s = pos 0 <ℤ side_by q s.from s.to
 -- lies to the left of
 -- them all
 pub record RingsHold : Type 0 where
-  pub each : (points ring : List (ℤ × ℤ)) → ring_hull_of points ≡ Ok (Some ring) → (q : Point) → pos 0 <ℤ q.d
-      → All (λ s. IsOnLine q s → ⊥) (ring_sides ring)
+  pub each : (points ring : List (ℤ × ℤ)) → ring_hull_of points ≡ Ok (Some ring) → (q : Point)
+      → pos 0 <ℤ q.d → All (λ s. IsOnLine q s → ⊥) (ring_sides ring)
       → (wind q (ring_sides ring) ≢ pos 0) ↔ All (IsLeftOf q) (ring_sides ring)
 
 -- the faces that are listed of points of space are the faces of them, and all of these
 pub record FacesAreConvex : Type 0 where
   pub each : (points : List Pt3) → All (IsFace (distinct space_cmp points)) (faces_of (distinct space_cmp points))
-  pub all : (points face : List Pt3) → IsFace (distinct space_cmp points) face → Contains (faces_of (distinct space_cmp points)) face
+  pub all : (points face : List Pt3) → IsFace (distinct space_cmp points) face
+      → Contains (faces_of (distinct space_cmp points)) face
 
 -- the solid that points have as their hull is closed
 pub record HullsClose : Type 0 where

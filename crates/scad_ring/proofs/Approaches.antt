@@ -14,11 +14,13 @@ use Rattle.scad_ring.proofs.Octants.{Approach}
 place_is : (n m s t px py rx ry qx qy d : ℤ)
     → n *ℤ ((s *ℤ px +ℤ t *ℤ rx) *ℤ d -ℤ qx *ℤ (s *ℤ pos 1 +ℤ t *ℤ pos 1)) +ℤ m *ℤ
     ((s *ℤ py +ℤ t *ℤ ry) *ℤ d -ℤ qy *ℤ (s *ℤ pos 1 +ℤ t *ℤ pos 1))
-    ≡ n *ℤ (s *ℤ (px *ℤ d -ℤ qx) +ℤ t *ℤ (rx *ℤ d -ℤ qx)) +ℤ m *ℤ (s *ℤ (py *ℤ d -ℤ qy) +ℤ t *ℤ (ry *ℤ d -ℤ qy))
+    ≡ n *ℤ (s *ℤ (px *ℤ d -ℤ qx) +ℤ t *ℤ (rx *ℤ d -ℤ qx)) +ℤ m *ℤ
+    (s *ℤ (py *ℤ d -ℤ qy) +ℤ t *ℤ (ry *ℤ d -ℤ qy))
 place_is n m s t px py rx ry qx qy d = ring (n ∷ m ∷ s ∷ t ∷ px ∷ py ∷ rx ∷ ry ∷ qx ∷ qy ∷ d ∷ [])
     (v0 ⊗ ((v2 ⊗ v4 ⊕ v3 ⊗ v6) ⊗ v10 ⊖ v8 ⊗ (v2 ⊗ num (pos 1) ⊕ v3 ⊗ num (pos 1))) ⊕ v1 ⊗
     ((v2 ⊗ v5 ⊕ v3 ⊗ v7) ⊗ v10 ⊖ v9 ⊗ (v2 ⊗ num (pos 1) ⊕ v3 ⊗ num (pos 1))))
-    (v0 ⊗ (v2 ⊗ (v4 ⊗ v10 ⊖ v8) ⊕ v3 ⊗ (v6 ⊗ v10 ⊖ v8)) ⊕ v1 ⊗ (v2 ⊗ (v5 ⊗ v10 ⊖ v9) ⊕ v3 ⊗ (v7 ⊗ v10 ⊖ v9))) refl
+    (v0 ⊗ (v2 ⊗ (v4 ⊗ v10 ⊖ v8) ⊕ v3 ⊗ (v6 ⊗ v10 ⊖ v8)) ⊕ v1
+        ⊗ (v2 ⊗ (v5 ⊗ v10 ⊖ v9) ⊕ v3 ⊗ (v7 ⊗ v10 ⊖ v9))) refl
 
 weight_is : (c s t d : ℤ) → c *ℤ ((s *ℤ pos 1 +ℤ t *ℤ pos 1) *ℤ d) ≡ (c *ℤ d) *ℤ (s +ℤ t)
 weight_is c s t d = ring (c ∷ s ∷ t ∷ d ∷ []) (v0 ⊗ ((v1 ⊗ num (pos 1) ⊕ v2 ⊗ num (pos 1)) ⊗ v3))
@@ -26,12 +28,14 @@ weight_is c s t d = ring (c ∷ s ∷ t ∷ d ∷ []) (v0 ⊗ ((v1 ⊗ num (pos 
 
 -- the octagon's half planes as q sees them
 abbrev pub ApproachFrom : ℤ → ℤ → Point → Pt → Pt → Type 0
-ApproachFrom s u q p r = Approach (s *ℤ q.d) (u *ℤ q.d) (p.x *ℤ q.d -ℤ q.x) (p.y *ℤ q.d -ℤ q.y) (r.x *ℤ q.d -ℤ q.x)
+ApproachFrom s u q p r = Approach (s *ℤ q.d) (u *ℤ q.d) (p.x *ℤ q.d -ℤ q.x) (p.y *ℤ q.d -ℤ q.y)
+    (r.x *ℤ q.d -ℤ q.x)
     (r.y *ℤ q.d -ℤ q.y)
 
 module _ (q : Point) (p r : Pt) where
   abbrev Bound : ℤ → ℤ → ℤ → ℤ → ℤ → Type 0
-  Bound n m c s t = (n *ℤ ((s *ℤ p.x +ℤ t *ℤ r.x) *ℤ q.d -ℤ q.x *ℤ (s *ℤ pos 1 +ℤ t *ℤ pos 1)) +ℤ m *ℤ
+  Bound n m c s t = (n *ℤ ((s *ℤ p.x +ℤ t *ℤ r.x) *ℤ q.d -ℤ q.x *ℤ (s *ℤ pos 1 +ℤ t *ℤ pos 1)) +ℤ
+      m *ℤ
       ((s *ℤ p.y +ℤ t *ℤ r.y) *ℤ q.d -ℤ q.y *ℤ (s *ℤ pos 1 +ℤ t *ℤ pos 1))) ≤ℤ (c *ℤ
       ((s *ℤ pos 1 +ℤ t *ℤ pos 1) *ℤ q.d))
 

@@ -10,7 +10,8 @@ use Rattle.scad_geom.proofs.Ring.{ring, num, ◌⊕◌, ◌⊖◌, ◌⊗◌, v0
 
 -- the half plane n x + m y <= c holds the mean of a and b by the weights s and t
 abbrev pub Lies : ℤ → ℤ → ℤ → ℤ → ℤ → ℤ → ℤ → ℤ → ℤ → Type 0
-Lies n m c s t ax ay bx by = (n *ℤ (s *ℤ ax +ℤ t *ℤ bx) +ℤ m *ℤ (s *ℤ ay +ℤ t *ℤ by)) ≤ℤ (c *ℤ (s +ℤ t))
+Lies n m c s t ax ay bx by = (n *ℤ (s *ℤ ax +ℤ t *ℤ bx) +ℤ m *ℤ (s *ℤ ay +ℤ t *ℤ by)) ≤ℤ
+    (c *ℤ (s +ℤ t))
 
 -- the cross product of a and b
 abbrev pub cross : ℤ → ℤ → ℤ → ℤ → ℤ
@@ -41,10 +42,12 @@ crossing n m ax ay bx by vx vy = ring (n ∷ m ∷ ax ∷ ay ∷ bx ∷ by ∷ v
     ((v6 ⊗ v5 ⊖ v7 ⊗ v4) ⊗ v3 ⊕ (num (pos 0) ⊖ (v6 ⊗ v3 ⊖ v7 ⊗ v2)) ⊗ v5))
     ((v2 ⊗ v5 ⊖ v3 ⊗ v4) ⊗ (v0 ⊗ v6 ⊕ v1 ⊗ v7)) refl
 
-breadth : (ax ay bx by vx vy : ℤ) → cross vx vy bx by +ℤ (pos 0 -ℤ cross vx vy ax ay) ≡ cross vx vy (bx -ℤ ax)
+breadth : (ax ay bx by vx vy : ℤ) → cross vx vy bx by +ℤ (pos 0 -ℤ cross vx vy ax ay)
+    ≡ cross vx vy (bx -ℤ ax)
     (by -ℤ ay)
 breadth ax ay bx by vx vy = ring (ax ∷ ay ∷ bx ∷ by ∷ vx ∷ vy ∷ [])
-    ((v4 ⊗ v3 ⊖ v5 ⊗ v2) ⊕ (num (pos 0) ⊖ (v4 ⊗ v1 ⊖ v5 ⊗ v0))) (v4 ⊗ (v3 ⊖ v1) ⊖ v5 ⊗ (v2 ⊖ v0)) refl
+    ((v4 ⊗ v3 ⊖ v5 ⊗ v2) ⊕ (num (pos 0) ⊖ (v4 ⊗ v1 ⊖ v5 ⊗ v0)))
+        (v4 ⊗ (v3 ⊖ v1) ⊖ v5 ⊗ (v2 ⊖ v0)) refl
 
 -- an end beyond that line lies where the half plane's other end and the crossing put it
 first_by : (n m ax ay bx by vx vy : ℤ)
@@ -53,7 +56,8 @@ first_by : (n m ax ay bx by vx vy : ℤ)
     ((n *ℤ ax +ℤ m *ℤ ay) -ℤ (n *ℤ bx +ℤ m *ℤ by))
 first_by n m ax ay bx by vx vy = ring (n ∷ m ∷ ax ∷ ay ∷ bx ∷ by ∷ vx ∷ vy ∷ [])
     ((v0 ⊗ v2 ⊕ v1 ⊗ v3) ⊗ (v6 ⊗ (v5 ⊖ v3) ⊖ v7 ⊗ (v4 ⊖ v2)))
-    ((v2 ⊗ v5 ⊖ v3 ⊗ v4) ⊗ (v0 ⊗ v6 ⊕ v1 ⊗ v7) ⊖ (v6 ⊗ v3 ⊖ v7 ⊗ v2) ⊗ ((v0 ⊗ v2 ⊕ v1 ⊗ v3) ⊖ (v0 ⊗ v4 ⊕ v1 ⊗ v5)))
+    ((v2 ⊗ v5 ⊖ v3 ⊗ v4) ⊗ (v0 ⊗ v6 ⊕ v1 ⊗ v7) ⊖ (v6 ⊗ v3 ⊖ v7 ⊗ v2)
+        ⊗ ((v0 ⊗ v2 ⊕ v1 ⊗ v3) ⊖ (v0 ⊗ v4 ⊕ v1 ⊗ v5)))
     refl
 
 last_by : (n m ax ay bx by vx vy : ℤ)
@@ -71,8 +75,8 @@ gap_times c a w = ring (c ∷ a ∷ w ∷ []) ((v0 ⊖ v1) ⊗ v2) (v0 ⊗ v2 �
 -- a number times w above 0 is x less a product of k from 0 on and its excess over another: it is at most c where the
 -- other is,
 -- or x at most c times w
-at_most : (c w x k a b : ℤ) → pos 0 <ℤ w → pos 0 ≤ℤ k → a *ℤ w ≡ x -ℤ k *ℤ (a -ℤ b) → x ≤ℤ (c *ℤ w)
-    → (a ≤ℤ c) ⊎ (b ≤ℤ c) → a ≤ℤ c
+at_most : (c w x k a b : ℤ) → pos 0 <ℤ w → pos 0 ≤ℤ k → a *ℤ w ≡ x -ℤ k *ℤ (a -ℤ b)
+    → x ≤ℤ (c *ℤ w) → (a ≤ℤ c) ⊎ (b ≤ℤ c) → a ≤ℤ c
 at_most c w x k a b p h e i (inl j) = j
 at_most c w x k a b p h e i (inr j) = elim (order a b) [
   | inl l ↦ omega (arith, ints)
@@ -86,19 +90,23 @@ turned : {A B : Type 0} → A ⊎ B → B ⊎ A
 turned (inl a) = inr a
 turned (inr b) = inl b
 
-pub one_first : (n m c ax ay bx by : ℤ) → (n *ℤ ax +ℤ m *ℤ ay) ≤ℤ c → Lies n m c (pos 1) (pos 0) ax ay bx by
+pub one_first : (n m c ax ay bx by : ℤ) → (n *ℤ ax +ℤ m *ℤ ay) ≤ℤ c
+    → Lies n m c (pos 1) (pos 0) ax ay bx by
 one_first n m c ax ay bx by h =
     let e : n *ℤ (pos 1 *ℤ ax +ℤ pos 0 *ℤ bx) +ℤ m *ℤ (pos 1 *ℤ ay +ℤ pos 0 *ℤ by) ≡ n *ℤ ax +ℤ m *ℤ ay =
     ring (n ∷ m ∷ ax ∷ ay ∷ bx ∷ by ∷ [])
-    (v0 ⊗ (num (pos 1) ⊗ v2 ⊕ num (pos 0) ⊗ v4) ⊕ v1 ⊗ (num (pos 1) ⊗ v3 ⊕ num (pos 0) ⊗ v5)) (v0 ⊗ v2 ⊕ v1 ⊗ v3)
+    (v0 ⊗ (num (pos 1) ⊗ v2 ⊕ num (pos 0) ⊗ v4) ⊕ v1 ⊗ (num (pos 1) ⊗ v3 ⊕ num (pos 0) ⊗ v5))
+        (v0 ⊗ v2 ⊕ v1 ⊗ v3)
     refl in
     omega (arith, ints, e, h)
 
-pub one_last : (n m c ax ay bx by : ℤ) → (n *ℤ bx +ℤ m *ℤ by) ≤ℤ c → Lies n m c (pos 0) (pos 1) ax ay bx by
+pub one_last : (n m c ax ay bx by : ℤ) → (n *ℤ bx +ℤ m *ℤ by) ≤ℤ c
+    → Lies n m c (pos 0) (pos 1) ax ay bx by
 one_last n m c ax ay bx by h =
     let e : n *ℤ (pos 0 *ℤ ax +ℤ pos 1 *ℤ bx) +ℤ m *ℤ (pos 0 *ℤ ay +ℤ pos 1 *ℤ by) ≡ n *ℤ bx +ℤ m *ℤ by =
     ring (n ∷ m ∷ ax ∷ ay ∷ bx ∷ by ∷ [])
-    (v0 ⊗ (num (pos 0) ⊗ v2 ⊕ num (pos 1) ⊗ v4) ⊕ v1 ⊗ (num (pos 0) ⊗ v3 ⊕ num (pos 1) ⊗ v5)) (v0 ⊗ v4 ⊕ v1 ⊗ v5)
+    (v0 ⊗ (num (pos 0) ⊗ v2 ⊕ num (pos 1) ⊗ v4) ⊕ v1 ⊗ (num (pos 0) ⊗ v3 ⊕ num (pos 1) ⊗ v5))
+        (v0 ⊗ v4 ⊕ v1 ⊗ v5)
     refl in
     omega (arith, ints, e, h)
 
@@ -135,7 +143,8 @@ found ax ay bx by vx vy broad =
       }
     ]
   where
-    between : (n m c : ℤ) → (cross ax ay bx by *ℤ (n *ℤ vx +ℤ m *ℤ vy)) ≤ℤ (c *ℤ cross vx vy (bx -ℤ ax) (by -ℤ ay))
+    between : (n m c : ℤ) → (cross ax ay bx by *ℤ (n *ℤ vx +ℤ m *ℤ vy)) ≤ℤ
+        (c *ℤ cross vx vy (bx -ℤ ax) (by -ℤ ay))
         → Lies n m c (cross vx vy bx by) (pos 0 -ℤ cross vx vy ax ay) ax ay bx by
     between n m c h = rw (breadth ax ay bx by vx vy, crossing n m ax ay bx by vx vy) h
 
@@ -144,19 +153,22 @@ found ax ay bx by vx vy broad =
 means : (n m s t ax ay bx by : ℤ) → n *ℤ (s *ℤ ax +ℤ t *ℤ bx) +ℤ m *ℤ (s *ℤ ay +ℤ t *ℤ by)
     ≡ s *ℤ (n *ℤ ax +ℤ m *ℤ ay) +ℤ t *ℤ (n *ℤ bx +ℤ m *ℤ by)
 means n m s t ax ay bx by = ring (n ∷ m ∷ s ∷ t ∷ ax ∷ ay ∷ bx ∷ by ∷ [])
-    (v0 ⊗ (v2 ⊗ v4 ⊕ v3 ⊗ v6) ⊕ v1 ⊗ (v2 ⊗ v5 ⊕ v3 ⊗ v7)) (v2 ⊗ (v0 ⊗ v4 ⊕ v1 ⊗ v5) ⊕ v3 ⊗ (v0 ⊗ v6 ⊕ v1 ⊗ v7)) refl
+    (v0 ⊗ (v2 ⊗ v4 ⊕ v3 ⊗ v6) ⊕ v1 ⊗ (v2 ⊗ v5 ⊕ v3 ⊗ v7))
+        (v2 ⊗ (v0 ⊗ v4 ⊕ v1 ⊗ v5) ⊕ v3 ⊗ (v0 ⊗ v6 ⊕ v1 ⊗ v7)) refl
 
-first_gap : (c s t a b : ℤ) → (c -ℤ a) *ℤ (s +ℤ t) ≡ (c *ℤ (s +ℤ t) -ℤ (s *ℤ a +ℤ t *ℤ b)) +ℤ t *ℤ (b -ℤ a)
+first_gap : (c s t a b : ℤ) → (c -ℤ a) *ℤ (s +ℤ t)
+    ≡ (c *ℤ (s +ℤ t) -ℤ (s *ℤ a +ℤ t *ℤ b)) +ℤ t *ℤ (b -ℤ a)
 first_gap c s t a b = ring (c ∷ s ∷ t ∷ a ∷ b ∷ []) ((v0 ⊖ v3) ⊗ (v1 ⊕ v2))
     ((v0 ⊗ (v1 ⊕ v2) ⊖ (v1 ⊗ v3 ⊕ v2 ⊗ v4)) ⊕ v2 ⊗ (v4 ⊖ v3)) refl
 
-last_gap : (c s t a b : ℤ) → (c -ℤ b) *ℤ (s +ℤ t) ≡ (c *ℤ (s +ℤ t) -ℤ (s *ℤ a +ℤ t *ℤ b)) +ℤ s *ℤ (a -ℤ b)
+last_gap : (c s t a b : ℤ) → (c -ℤ b) *ℤ (s +ℤ t)
+    ≡ (c *ℤ (s +ℤ t) -ℤ (s *ℤ a +ℤ t *ℤ b)) +ℤ s *ℤ (a -ℤ b)
 last_gap c s t a b = ring (c ∷ s ∷ t ∷ a ∷ b ∷ []) ((v0 ⊖ v4) ⊗ (v1 ⊕ v2))
     ((v0 ⊗ (v1 ⊕ v2) ⊖ (v1 ⊗ v3 ⊕ v2 ⊗ v4)) ⊕ v1 ⊗ (v3 ⊖ v4)) refl
 
 module _ (s t : ℤ) (from : pos 0 ≤ℤ s) (to : pos 0 ≤ℤ t) (some : pos 0 <ℤ (s +ℤ t)) (ax ay bx by : ℤ) where
-  pub first_end : (n m c : ℤ) → (n *ℤ ax +ℤ m *ℤ ay) ≤ℤ (n *ℤ bx +ℤ m *ℤ by) → Lies n m c s t ax ay bx by
-      → (n *ℤ ax +ℤ m *ℤ ay) ≤ℤ c
+  pub first_end : (n m c : ℤ) → (n *ℤ ax +ℤ m *ℤ ay) ≤ℤ (n *ℤ bx +ℤ m *ℤ by)
+      → Lies n m c s t ax ay bx by → (n *ℤ ax +ℤ m *ℤ ay) ≤ℤ c
   first_end n m c h l =
       let p = at_least_mul t ((n *ℤ bx +ℤ m *ℤ by) -ℤ (n *ℤ ax +ℤ m *ℤ ay)) to (omega (arith, ints)) in
       let e = means n m s t ax ay bx by in
@@ -171,8 +183,8 @@ module _ (s t : ℤ) (from : pos 0 ≤ℤ s) (to : pos 0 ≤ℤ t) (some : pos 0
       )) in
       omega (arith, ints, g)
 
-  pub last_end : (n m c : ℤ) → (n *ℤ bx +ℤ m *ℤ by) ≤ℤ (n *ℤ ax +ℤ m *ℤ ay) → Lies n m c s t ax ay bx by
-      → (n *ℤ bx +ℤ m *ℤ by) ≤ℤ c
+  pub last_end : (n m c : ℤ) → (n *ℤ bx +ℤ m *ℤ by) ≤ℤ (n *ℤ ax +ℤ m *ℤ ay)
+      → Lies n m c s t ax ay bx by → (n *ℤ bx +ℤ m *ℤ by) ≤ℤ c
   last_end n m c h l =
       let p = at_least_mul s ((n *ℤ ax +ℤ m *ℤ ay) -ℤ (n *ℤ bx +ℤ m *ℤ by)) from (omega (arith, ints)) in
       let e = means n m s t ax ay bx by in
@@ -187,15 +199,18 @@ module _ (s t : ℤ) (from : pos 0 ≤ℤ s) (to : pos 0 ≤ℤ t) (some : pos 0
       )) in
       omega (arith, ints, g)
 
-  pub an_end : (n m c : ℤ) → Lies n m c s t ax ay bx by → ((n *ℤ ax +ℤ m *ℤ ay) ≤ℤ c) ⊎ ((n *ℤ bx +ℤ m *ℤ by) ≤ℤ c)
+  pub an_end : (n m c : ℤ) → Lies n m c s t ax ay bx by
+      → ((n *ℤ ax +ℤ m *ℤ ay) ≤ℤ c) ⊎ ((n *ℤ bx +ℤ m *ℤ by) ≤ℤ c)
   an_end n m c l = elim (order (n *ℤ ax +ℤ m *ℤ ay) (n *ℤ bx +ℤ m *ℤ by)) [
     | inl h ↦ inl (first_end n m c h l)
     | inr h ↦ inr (last_end n m c (omega (arith, ints)) l)
   ]
 
   -- two half planes between whose borders the segment runs bound how far its line lies to the side of the origin
-  bounded : (n m c k l d f g : ℤ) → pos 0 ≤ℤ f → pos 0 ≤ℤ g → Lies n m c s t ax ay bx by → Lies k l d s t ax ay bx by
-      → ((s *ℤ ax +ℤ t *ℤ bx) *ℤ (f *ℤ n +ℤ g *ℤ k) +ℤ (s *ℤ ay +ℤ t *ℤ by) *ℤ (f *ℤ m +ℤ g *ℤ l))
+  bounded : (n m c k l d f g : ℤ) → pos 0 ≤ℤ f → pos 0 ≤ℤ g → Lies n m c s t ax ay bx by
+      → Lies k l d s t ax ay bx by
+      → ((s *ℤ ax +ℤ t *ℤ bx) *ℤ (f *ℤ n +ℤ g *ℤ k) +ℤ (s *ℤ ay +ℤ t *ℤ by) *ℤ
+      (f *ℤ m +ℤ g *ℤ l))
       ≤ℤ ((f *ℤ c +ℤ g *ℤ d) *ℤ (s +ℤ t))
   bounded n m c k l d f g hf hg first last =
       let p = at_least_mul f (c *ℤ (s +ℤ t) -ℤ (n *ℤ (s *ℤ ax +ℤ t *ℤ bx) +ℤ m *ℤ (s *ℤ ay +ℤ t *ℤ by))) hf
@@ -207,15 +222,17 @@ module _ (s t : ℤ) (from : pos 0 ≤ℤ s) (to : pos 0 ≤ℤ t) (some : pos 0
     where
       sum_is : (x y w n m c k l d f g : ℤ)
           → f *ℤ (c *ℤ w -ℤ (n *ℤ x +ℤ m *ℤ y)) +ℤ g *ℤ (d *ℤ w -ℤ (k *ℤ x +ℤ l *ℤ y))
-          ≡ (f *ℤ c +ℤ g *ℤ d) *ℤ w -ℤ (x *ℤ (f *ℤ n +ℤ g *ℤ k) +ℤ y *ℤ (f *ℤ m +ℤ g *ℤ l))
+          ≡ (f *ℤ c +ℤ g *ℤ d) *ℤ w -ℤ
+          (x *ℤ (f *ℤ n +ℤ g *ℤ k) +ℤ y *ℤ (f *ℤ m +ℤ g *ℤ l))
       sum_is x y w n m c k l d f g = ring (x ∷ y ∷ w ∷ n ∷ m ∷ c ∷ k ∷ l ∷ d ∷ f ∷ g ∷ [])
           (v9 ⊗ (v5 ⊗ v2 ⊖ (v3 ⊗ v0 ⊕ v4 ⊗ v1)) ⊕ v10 ⊗ (v8 ⊗ v2 ⊖ (v6 ⊗ v0 ⊕ v7 ⊗ v1)))
-          ((v9 ⊗ v5 ⊕ v10 ⊗ v8) ⊗ v2 ⊖ (v0 ⊗ (v9 ⊗ v3 ⊕ v10 ⊗ v6) ⊕ v1 ⊗ (v9 ⊗ v4 ⊕ v10 ⊗ v7))) refl
+          ((v9 ⊗ v5 ⊕ v10 ⊗ v8) ⊗ v2
+              ⊖ (v0 ⊗ (v9 ⊗ v3 ⊕ v10 ⊗ v6) ⊕ v1 ⊗ (v9 ⊗ v4 ⊕ v10 ⊗ v7))) refl
 
   -- f and g are the parts of the segment's way along the two borders
   pub beside : (n m c k l d f g : ℤ) → pos 0 ≤ℤ f → pos 0 ≤ℤ g → f *ℤ n +ℤ g *ℤ k ≡ by -ℤ ay
-      → f *ℤ m +ℤ g *ℤ l ≡ pos 0 -ℤ (bx -ℤ ax) → Lies n m c s t ax ay bx by → Lies k l d s t ax ay bx by
-      → cross ax ay bx by ≤ℤ (f *ℤ c +ℤ g *ℤ d)
+      → f *ℤ m +ℤ g *ℤ l ≡ pos 0 -ℤ (bx -ℤ ax) → Lies n m c s t ax ay bx by
+      → Lies k l d s t ax ay bx by → cross ax ay bx by ≤ℤ (f *ℤ c +ℤ g *ℤ d)
   beside n m c k l d f g hf hg up left first last =
       let b = bounded n m c k l d f g hf hg first last in
       let u = ap₂ (λ (y x : ℤ). (s *ℤ ax +ℤ t *ℤ bx) *ℤ y +ℤ (s *ℤ ay +ℤ t *ℤ by) *ℤ x) up left in
@@ -229,14 +246,16 @@ module _ (s t : ℤ) (from : pos 0 ≤ℤ s) (to : pos 0 ≤ℤ t) (some : pos 0
       )) in
       omega (arith, ints, r)
     where
-      cross_is : (s *ℤ ax +ℤ t *ℤ bx) *ℤ (by -ℤ ay) +ℤ (s *ℤ ay +ℤ t *ℤ by) *ℤ (pos 0 -ℤ (bx -ℤ ax))
+      cross_is : (s *ℤ ax +ℤ t *ℤ bx) *ℤ (by -ℤ ay) +ℤ (s *ℤ ay +ℤ t *ℤ by) *ℤ
+          (pos 0 -ℤ (bx -ℤ ax))
           ≡ cross ax ay bx by *ℤ (s +ℤ t)
       cross_is = ring (s ∷ t ∷ ax ∷ ay ∷ bx ∷ by ∷ [])
           ((v0 ⊗ v2 ⊕ v1 ⊗ v4) ⊗ (v5 ⊖ v3) ⊕ (v0 ⊗ v3 ⊕ v1 ⊗ v5) ⊗ (num (pos 0) ⊖ (v4 ⊖ v2)))
           ((v2 ⊗ v5 ⊖ v3 ⊗ v4) ⊗ (v0 ⊕ v1)) refl
 
   -- the same on its other side
-  pub beside_back : (n m c k l d f g : ℤ) → pos 0 ≤ℤ f → pos 0 ≤ℤ g → f *ℤ n +ℤ g *ℤ k ≡ pos 0 -ℤ (by -ℤ ay)
+  pub beside_back : (n m c k l d f g : ℤ) → pos 0 ≤ℤ f → pos 0 ≤ℤ g
+      → f *ℤ n +ℤ g *ℤ k ≡ pos 0 -ℤ (by -ℤ ay)
       → f *ℤ m +ℤ g *ℤ l ≡ bx -ℤ ax → Lies n m c s t ax ay bx by → Lies k l d s t ax ay bx by
       → (pos 0 -ℤ cross ax ay bx by) ≤ℤ (f *ℤ c +ℤ g *ℤ d)
   beside_back n m c k l d f g hf hg up left first last =
@@ -252,14 +271,16 @@ module _ (s t : ℤ) (from : pos 0 ≤ℤ s) (to : pos 0 ≤ℤ t) (some : pos 0
       )) in
       omega (arith, ints, r)
     where
-      cross_is : (s *ℤ ax +ℤ t *ℤ bx) *ℤ (pos 0 -ℤ (by -ℤ ay)) +ℤ (s *ℤ ay +ℤ t *ℤ by) *ℤ (bx -ℤ ax)
+      cross_is : (s *ℤ ax +ℤ t *ℤ bx) *ℤ (pos 0 -ℤ (by -ℤ ay)) +ℤ (s *ℤ ay +ℤ t *ℤ by) *ℤ
+          (bx -ℤ ax)
           ≡ (pos 0 -ℤ cross ax ay bx by) *ℤ (s +ℤ t)
       cross_is = ring (s ∷ t ∷ ax ∷ ay ∷ bx ∷ by ∷ [])
           ((v0 ⊗ v2 ⊕ v1 ⊗ v4) ⊗ (num (pos 0) ⊖ (v5 ⊖ v3)) ⊕ (v0 ⊗ v3 ⊕ v1 ⊗ v5) ⊗ (v4 ⊖ v2))
           ((num (pos 0) ⊖ (v2 ⊗ v5 ⊖ v3 ⊗ v4)) ⊗ (v0 ⊕ v1)) refl
 
 -- of a segment that runs along a border, the half plane's test of an end bounds it
-pub along : (n m c f ax ay bx by : ℤ) → pos 0 ≤ℤ f → f *ℤ n ≡ by -ℤ ay → f *ℤ m ≡ pos 0 -ℤ (bx -ℤ ax)
+pub along : (n m c f ax ay bx by : ℤ) → pos 0 ≤ℤ f → f *ℤ n ≡ by -ℤ ay
+    → f *ℤ m ≡ pos 0 -ℤ (bx -ℤ ax)
     → (n *ℤ ax +ℤ m *ℤ ay) ≤ℤ c → cross ax ay bx by ≤ℤ (f *ℤ c)
 along n m c f ax ay bx by hf up left h =
     let p = at_least_mul f (c -ℤ (n *ℤ ax +ℤ m *ℤ ay)) hf (omega (arith, ints)) in
@@ -271,10 +292,12 @@ along n m c f ax ay bx by hf up left h =
         (v4 ⊗ (v3 ⊗ v0) ⊕ v5 ⊗ (v3 ⊗ v1))) refl
 
     cross_is : ax *ℤ (by -ℤ ay) +ℤ ay *ℤ (pos 0 -ℤ (bx -ℤ ax)) ≡ cross ax ay bx by
-    cross_is = ring (ax ∷ ay ∷ bx ∷ by ∷ []) (v0 ⊗ (v3 ⊖ v1) ⊕ v1 ⊗ (num (pos 0) ⊖ (v2 ⊖ v0))) (v0 ⊗ v3 ⊖ v1 ⊗ v2)
+    cross_is = ring (ax ∷ ay ∷ bx ∷ by ∷ []) (v0 ⊗ (v3 ⊖ v1) ⊕ v1 ⊗ (num (pos 0) ⊖ (v2 ⊖ v0)))
+        (v0 ⊗ v3 ⊖ v1 ⊗ v2)
         refl
 
-pub along_back : (n m c f ax ay bx by : ℤ) → pos 0 ≤ℤ f → f *ℤ n ≡ pos 0 -ℤ (by -ℤ ay) → f *ℤ m ≡ bx -ℤ ax
+pub along_back : (n m c f ax ay bx by : ℤ) → pos 0 ≤ℤ f → f *ℤ n ≡ pos 0 -ℤ (by -ℤ ay)
+    → f *ℤ m ≡ bx -ℤ ax
     → (n *ℤ ax +ℤ m *ℤ ay) ≤ℤ c → (pos 0 -ℤ cross ax ay bx by) ≤ℤ (f *ℤ c)
 along_back n m c f ax ay bx by hf up left h =
     let p = at_least_mul f (c -ℤ (n *ℤ ax +ℤ m *ℤ ay)) hf (omega (arith, ints)) in

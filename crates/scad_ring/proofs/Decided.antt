@@ -20,7 +20,8 @@ use Rattle.scad_ring.proofs.Meetings.{approach_if_passes, passes_if_approach, na
 
 -- ---- the points of a segment are those of the segment back
 pub mean_back : (s t : ℤ) (a b : Point) → mean s t a b ≡ mean t s b a
-mean_back s t a b = rw (turned (s *ℤ a.x) (t *ℤ b.x), turned (s *ℤ a.y) (t *ℤ b.y), turned (s *ℤ a.d) (t *ℤ b.d)) refl
+mean_back s t a b = rw (turned (s *ℤ a.x) (t *ℤ b.x), turned (s *ℤ a.y) (t *ℤ b.y),
+    turned (s *ℤ a.d) (t *ℤ b.d)) refl
   where
     turned : (x y : ℤ) → x +ℤ y ≡ y +ℤ x
     turned x y = omega (arith, ints)
@@ -48,7 +49,8 @@ doubled_is : (z : ℤ) → pos 2 *ℤ z ≡ z *ℤ pos 2
 doubled_is z = omega (arith, ints)
 
 abbrev pub SeenPasses : ℤ → ℤ → ℤ → ℤ → Pt → Pt → Bool
-SeenPasses S U x y p r = passes S U (pos 2 *ℤ p.x -ℤ x) (pos 2 *ℤ p.y -ℤ y) (pos 2 *ℤ r.x -ℤ x) (pos 2 *ℤ r.y -ℤ y)
+SeenPasses S U x y p r = passes S U (pos 2 *ℤ p.x -ℤ x) (pos 2 *ℤ p.y -ℤ y) (pos 2 *ℤ r.x -ℤ x)
+    (pos 2 *ℤ r.y -ℤ y)
 
 seen_is : (S U x y : ℤ) (p r : Pt) → SeenPasses S U x y p r
     ≡ passes S U (p.x *ℤ pos 2 -ℤ x) (p.y *ℤ pos 2 -ℤ y) (r.x *ℤ pos 2 -ℤ x) (r.y *ℤ pos 2 -ℤ y)
@@ -123,18 +125,22 @@ module _ (s u : ℕ) (S U : ℤ) (half : ((S ≡ pos (2 * s)) × (s ≤ u)) ⊎ 
 
   meets_if : (p r : Pt) → p.y ≤ℤ r.y → SeenPasses S U x y p r ≡ true
       → Meets Closed (octagon (pos s) (pos u)) (halves x y) (whole p) (whole r)
-  meets_if p r up h = meets_if_approach (halves x y) p r (pos s) (pos u) (widen (pos s *ℤ pos 2) (pos u *ℤ pos 2) S U
+  meets_if p r up h = meets_if_approach (halves x y) p r (pos s) (pos u)
+      (widen (pos s *ℤ pos 2) (pos u *ℤ pos 2) S U
       (p.x *ℤ pos 2 -ℤ x) (p.y *ℤ pos 2 -ℤ y) (r.x *ℤ pos 2 -ℤ x) (r.y *ℤ pos 2 -ℤ y) half_most sum_most
-      (approach_if_passes S U (p.x *ℤ pos 2 -ℤ x) (p.y *ℤ pos 2 -ℤ y) (r.x *ℤ pos 2 -ℤ x) (r.y *ℤ pos 2 -ℤ y) some
+      (approach_if_passes S U (p.x *ℤ pos 2 -ℤ x) (p.y *ℤ pos 2 -ℤ y) (r.x *ℤ pos 2 -ℤ x)
+          (r.y *ℤ pos 2 -ℤ y) some
       wide
       slim (rises p r up) (subst (λ (t : Bool). t ≡ true) (seen_is S U x y p r) h)))
 
   clear_if : (p r : Pt) → p.y ≤ℤ r.y → SeenPasses S U x y p r ≡ false
       → IsClear Closed (octagon (pos s) (pos u)) (halves x y) (whole p) (whole r)
   clear_if p r up h k t from to many n = both_ways _ (subst (λ (b : Bool). b ≡ false) (seen_is S U x y p r) h)
-      (passes_if_approach S U (p.x *ℤ pos 2 -ℤ x) (p.y *ℤ pos 2 -ℤ y) (r.x *ℤ pos 2 -ℤ x) (r.y *ℤ pos 2 -ℤ y) some
+      (passes_if_approach S U (p.x *ℤ pos 2 -ℤ x) (p.y *ℤ pos 2 -ℤ y) (r.x *ℤ pos 2 -ℤ x)
+          (r.y *ℤ pos 2 -ℤ y) some
       wide
-      slim (rises p r up) (narrow (pos s *ℤ pos 2) (pos u *ℤ pos 2) S U (p.x *ℤ pos 2 -ℤ x) (p.y *ℤ pos 2 -ℤ y)
+      slim (rises p r up) (narrow (pos s *ℤ pos 2) (pos u *ℤ pos 2) S U (p.x *ℤ pos 2 -ℤ x)
+          (p.y *ℤ pos 2 -ℤ y)
       (r.x *ℤ pos 2 -ℤ x) (r.y *ℤ pos 2 -ℤ y) half_is sum_is
       (approach_if_near (halves x y) p r (pos s) (pos u) k t from
       to many n)))
@@ -145,7 +151,8 @@ module _ (s u : ℕ) (S U : ℤ) (half : ((S ≡ pos (2 * s)) × (s ≤ u)) ⊎ 
   unfolding low high
   edge_meets e = by_order (int_lt e.b.y e.a.y) refl
     where
-      by_order : (t : Bool) → int_lt e.b.y e.a.y ≡ t → SeenPasses S U x y (cond t e.b e.a) (cond t e.a e.b) ≡ true
+      by_order : (t : Bool) → int_lt e.b.y e.a.y ≡ t
+          → SeenPasses S U x y (cond t e.b e.a) (cond t e.a e.b) ≡ true
           → Meets Closed (octagon (pos s) (pos u)) (halves x y) (whole e.a) (whole e.b)
       by_order true q h = meets_back Closed (octagon (pos s) (pos u)) (halves x y) (whole e.b) (whole e.a)
           (meets_if e.b e.a (omega (arith, ints)) h)
@@ -156,7 +163,8 @@ module _ (s u : ℕ) (S U : ℤ) (half : ((S ≡ pos (2 * s)) × (s ≤ u)) ⊎ 
   unfolding low high
   edge_is_clear e = by_order (int_lt e.b.y e.a.y) refl
     where
-      by_order : (t : Bool) → int_lt e.b.y e.a.y ≡ t → SeenPasses S U x y (cond t e.b e.a) (cond t e.a e.b) ≡ false
+      by_order : (t : Bool) → int_lt e.b.y e.a.y ≡ t
+          → SeenPasses S U x y (cond t e.b e.a) (cond t e.a e.b) ≡ false
           → IsClear Closed (octagon (pos s) (pos u)) (halves x y) (whole e.a) (whole e.b)
       by_order true q h = clear_back Closed (octagon (pos s) (pos u)) (halves x y) (whole e.b) (whole e.a)
           (clear_if e.b e.a (omega (arith, ints)) h)

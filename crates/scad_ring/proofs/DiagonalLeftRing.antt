@@ -59,10 +59,12 @@ module _ (c t u : ℤ) (sum : u ≡ c +ℤ t) (some : pos 0 <ℤ t) (less : t <�
         first_side (c *ℤ q.d) (u *ℤ q.d) q d p r a (pos 0) (pos 1) c (low_left c t p) (low_right c t p) s0
             (omega (arith, ints)) a.over,
         (
-          first_side (c *ℤ q.d) (u *ℤ q.d) q d p r a (neg_ℤ (pos 1)) (pos 1) u (low_right c t p) (right_low c t p) s1
+          first_side (c *ℤ q.d) (u *ℤ q.d) q d p r a (neg_ℤ (pos 1)) (pos 1) u (low_right c t p) (right_low c t p)
+              s1
               (omega (arith, ints)) a.over_left,
           (
-            first_side (c *ℤ q.d) (u *ℤ q.d) q d p r a (neg_ℤ (pos 1)) (pos 0) c (right_low c t p) (right_high c t p)
+            first_side (c *ℤ q.d) (u *ℤ q.d) q d p r a (neg_ℤ (pos 1)) (pos 0) c (right_low c t p)
+                (right_high c t p)
                 s2 (omega (arith, ints)) a.left,
             (
               first_side (c *ℤ q.d) (u *ℤ q.d) q d p r a (neg_ℤ (pos 1)) (neg_ℤ (pos 1)) u (right_high c t p)
@@ -74,7 +76,8 @@ module _ (c t u : ℤ) (sum : u ≡ c +ℤ t) (some : pos 0 <ℤ t) (less : t <�
                   last_side (c *ℤ q.d) (u *ℤ q.d) q d p r a (pos 1) (neg_ℤ (pos 1)) u (high_left c t r)
                       (left_high c t r) s5 (omega (arith, ints)) a.below_right,
                   (
-                    last_side (c *ℤ q.d) (u *ℤ q.d) q d p r a (pos 1) (pos 0) c (left_high c t r) (left_low c t r) s6
+                    last_side (c *ℤ q.d) (u *ℤ q.d) q d p r a (pos 1) (pos 0) c (left_high c t r) (left_low c t r)
+                        s6
                         (omega (arith, ints)) a.right,
                     (
                       first_side (c *ℤ q.d) (u *ℤ q.d) q d p r a (pos 1) (pos 1) u (left_low c t r) (low_left c t p)
@@ -89,8 +92,8 @@ module _ (c t u : ℤ) (sum : u ≡ c +ℤ t) (some : pos 0 <ℤ t) (less : t <�
         ),
       )
 
-  approach_if : (q : Point) → pos 0 <ℤ q.d → All (IsLeftOf q) (segments (sides (eight_sided c t p r DiagonalLeft)))
-      → ApproachFrom c u q p r
+  approach_if : (q : Point) → pos 0 <ℤ q.d
+      → All (IsLeftOf q) (segments (sides (eight_sided c t p r DiagonalLeft))) → ApproachFrom c u q p r
   approach_if q d h =
       let s = recursion_from_All (IsLeftOf q) (segments (sides (eight_sided c t p r DiagonalLeft))) h in
       let g0 = side_gap (pos 0) (pos 1) c q p (low_left c t p) (low_right c t p) s0 s.0 in
@@ -152,7 +155,8 @@ module _ (c t u : ℤ) (sum : u ≡ c +ℤ t) (some : pos 0 <ℤ t) (less : t <�
       turns (pos 1) (pos 0 -ℤ pos 0) (pos 1) (pos 0 -ℤ neg_ℤ (pos 1)) (low_left c t p) (low_right c t p)
           (right_low c t p) s0.step s1.step (omega (arith, ints)),
       (
-        turns (pos 1) (pos 0 -ℤ neg_ℤ (pos 1)) (pos 0) (pos 0 -ℤ neg_ℤ (pos 1)) (low_right c t p) (right_low c t p)
+        turns (pos 1) (pos 0 -ℤ neg_ℤ (pos 1)) (pos 0) (pos 0 -ℤ neg_ℤ (pos 1)) (low_right c t p)
+            (right_low c t p)
             (right_high c t p) s1.step s2.step (omega (arith, ints)),
         (
           turns (pos 0) (pos 0 -ℤ neg_ℤ (pos 1)) (neg_ℤ (pos 1)) (pos 0 -ℤ neg_ℤ (pos 1)) (right_low c t p)
@@ -164,7 +168,8 @@ module _ (c t u : ℤ) (sum : u ≡ c +ℤ t) (some : pos 0 <ℤ t) (less : t <�
               turns (neg_ℤ (pos 1)) (pos 0 -ℤ pos 0) (neg_ℤ (pos 1)) (pos 0 -ℤ pos 1) (high_right c t r)
                   (high_left c t r) (left_high c t r) s4.step s5.step (omega (arith, ints)),
               (
-                turns (neg_ℤ (pos 1)) (pos 0 -ℤ pos 1) (pos 0) (pos 0 -ℤ pos 1) (high_left c t r) (left_high c t r)
+                turns (neg_ℤ (pos 1)) (pos 0 -ℤ pos 1) (pos 0) (pos 0 -ℤ pos 1) (high_left c t r)
+                    (left_high c t r)
                     (left_low c t r) s5.step s6.step (omega (arith, ints)),
                 (
                   turns (pos 0) (pos 0 -ℤ pos 1) (pos 1) (pos 0 -ℤ pos 1) (left_high c t r) (left_low c t r)

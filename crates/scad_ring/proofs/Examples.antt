@@ -129,25 +129,29 @@ unfolding direction_of
 towards_east_by_south = refl
 
 left_side_of_a_hole : corners_of 225 (edge 4000 4000 4000 6000)
-    ≡ point 3907 3775 ∷ point 4093 3775 ∷ point 4225 3907 ∷ point 4225 6093 ∷ point 4093 6225 ∷ point 3907 6225
+    ≡ point 3907 3775 ∷ point 4093 3775 ∷ point 4225 3907 ∷ point 4225 6093 ∷ point 4093 6225
+    ∷ point 3907 6225
     ∷ point 3775 6093 ∷ point 3775 3907 ∷ []
 unfolding direction_of
 left_side_of_a_hole = refl
 
 upper_side_of_a_hole : corners_of 225 (edge 4000 6000 6000 6000)
-    ≡ point 3907 5775 ∷ point 6093 5775 ∷ point 6225 5907 ∷ point 6225 6093 ∷ point 6093 6225 ∷ point 3907 6225
+    ≡ point 3907 5775 ∷ point 6093 5775 ∷ point 6225 5907 ∷ point 6225 6093 ∷ point 6093 6225
+    ∷ point 3907 6225
     ∷ point 3775 6093 ∷ point 3775 5907 ∷ []
 unfolding direction_of
 upper_side_of_a_hole = refl
 
 right_side_of_a_hole : corners_of 225 (edge 6000 6000 6000 4000)
-    ≡ point 5907 3775 ∷ point 6093 3775 ∷ point 6225 3907 ∷ point 6225 6093 ∷ point 6093 6225 ∷ point 5907 6225
+    ≡ point 5907 3775 ∷ point 6093 3775 ∷ point 6225 3907 ∷ point 6225 6093 ∷ point 6093 6225
+    ∷ point 5907 6225
     ∷ point 5775 6093 ∷ point 5775 3907 ∷ []
 unfolding direction_of
 right_side_of_a_hole = refl
 
 lower_side_of_a_hole : corners_of 225 (edge 6000 4000 4000 4000)
-    ≡ point 3907 3775 ∷ point 6093 3775 ∷ point 6225 3907 ∷ point 6225 4093 ∷ point 6093 4225 ∷ point 3907 4225
+    ≡ point 3907 3775 ∷ point 6093 3775 ∷ point 6225 3907 ∷ point 6225 4093 ∷ point 6093 4225
+    ∷ point 3907 4225
     ∷ point 3775 4093 ∷ point 3775 3907 ∷ []
 unfolding direction_of
 lower_side_of_a_hole = refl

@@ -66,10 +66,12 @@ module _ (c t u : ℤ) (sum : u ≡ c +ℤ t) (some : pos 0 <ℤ t) (less : t <�
         first_side (c *ℤ q.d) (u *ℤ q.d) q d p r a (pos 0) (pos 1) c (low_left c t p) (low_right c t p) s0
             (omega (arith, ints)) a.over,
         (
-          first_side (c *ℤ q.d) (u *ℤ q.d) q d p r a (neg_ℤ (pos 1)) (pos 1) u (low_right c t p) (right_low c t p) s1
+          first_side (c *ℤ q.d) (u *ℤ q.d) q d p r a (neg_ℤ (pos 1)) (pos 1) u (low_right c t p) (right_low c t p)
+              s1
               (omega (arith, ints)) a.over_left,
           (
-            first_side (c *ℤ q.d) (u *ℤ q.d) q d p r a (neg_ℤ (pos 1)) (pos 0) c (right_low c t p) (right_high c t p)
+            first_side (c *ℤ q.d) (u *ℤ q.d) q d p r a (neg_ℤ (pos 1)) (pos 0) c (right_low c t p)
+                (right_high c t p)
                 s2 (omega (arith, ints)) a.left,
             (
               first_side (c *ℤ q.d) (u *ℤ q.d) q d p r a (neg_ℤ (pos 1)) (neg_ℤ (pos 1)) u (right_high c t p)
@@ -86,7 +88,8 @@ module _ (c t u : ℤ) (sum : u ≡ c +ℤ t) (some : pos 0 <ℤ t) (less : t <�
                       last_side (c *ℤ q.d) (u *ℤ q.d) q d p r a (pos 1) (pos 0) c (left_high c t r) (left_low c t r)
                           s7 (omega (arith, ints)) a.right,
                       (
-                        last_side (c *ℤ q.d) (u *ℤ q.d) q d p r a (pos 1) (pos 1) u (left_low c t r) (low_left c t r)
+                        last_side (c *ℤ q.d) (u *ℤ q.d) q d p r a (pos 1) (pos 1) u (left_low c t r)
+                            (low_left c t r)
                             s8 (omega (arith, ints)) a.over_right,
                         (
                           over p r q d t c (low_left c t r) (low_left c t p) s9 l,
@@ -172,7 +175,8 @@ module _ (c t u : ℤ) (sum : u ≡ c +ℤ t) (some : pos 0 <ℤ t) (less : t <�
       turns (pos 1) (pos 0 -ℤ pos 0) (pos 1) (pos 0 -ℤ neg_ℤ (pos 1)) (low_left c t p) (low_right c t p)
           (right_low c t p) s0.step s1.step (omega (arith, ints)),
       (
-        turns (pos 1) (pos 0 -ℤ neg_ℤ (pos 1)) (pos 0) (pos 0 -ℤ neg_ℤ (pos 1)) (low_right c t p) (right_low c t p)
+        turns (pos 1) (pos 0 -ℤ neg_ℤ (pos 1)) (pos 0) (pos 0 -ℤ neg_ℤ (pos 1)) (low_right c t p)
+            (right_low c t p)
             (right_high c t p) s1.step s2.step (omega (arith, ints)),
         (
           turns (pos 0) (pos 0 -ℤ neg_ℤ (pos 1)) (neg_ℤ (pos 1)) (pos 0 -ℤ neg_ℤ (pos 1)) (right_low c t p)
@@ -181,13 +185,15 @@ module _ (c t u : ℤ) (sum : u ≡ c +ℤ t) (some : pos 0 <ℤ t) (less : t <�
             turns (neg_ℤ (pos 1)) (pos 0 -ℤ neg_ℤ (pos 1)) (r.x -ℤ p.x) (r.y -ℤ p.y) (right_high c t p)
                 (high_right c t p) (high_right c t r) s3.step t4 (omega (arith, ints)),
             (
-              turns (r.x -ℤ p.x) (r.y -ℤ p.y) (neg_ℤ (pos 1)) (pos 0 -ℤ pos 0) (high_right c t p) (high_right c t r)
+              turns (r.x -ℤ p.x) (r.y -ℤ p.y) (neg_ℤ (pos 1)) (pos 0 -ℤ pos 0) (high_right c t p)
+                  (high_right c t r)
                   (high_left c t r) t4 s5.step (omega (arith, ints)),
               (
                 turns (neg_ℤ (pos 1)) (pos 0 -ℤ pos 0) (neg_ℤ (pos 1)) (pos 0 -ℤ pos 1) (high_right c t r)
                     (high_left c t r) (left_high c t r) s5.step s6.step (omega (arith, ints)),
                 (
-                  turns (neg_ℤ (pos 1)) (pos 0 -ℤ pos 1) (pos 0) (pos 0 -ℤ pos 1) (high_left c t r) (left_high c t r)
+                  turns (neg_ℤ (pos 1)) (pos 0 -ℤ pos 1) (pos 0) (pos 0 -ℤ pos 1) (high_left c t r)
+                      (left_high c t r)
                       (left_low c t r) s6.step s7.step (omega (arith, ints)),
                   (
                     turns (pos 0) (pos 0 -ℤ pos 1) (pos 1) (pos 0 -ℤ pos 1) (left_high c t r) (left_low c t r)
@@ -210,7 +216,8 @@ module _ (c t u : ℤ) (sum : u ≡ c +ℤ t) (some : pos 0 <ℤ t) (less : t <�
       ),
     );
     starts = All-from_recursion (IsBefore (low_left c t p))
-        ((low_right c t p) ∷ (right_low c t p) ∷ (right_high c t p) ∷ (high_right c t p) ∷ (high_right c t r) ∷
+        ((low_right c t p) ∷ (right_low c t p) ∷ (right_high c t p) ∷ (high_right c t p) ∷ (high_right c t r)
+            ∷
         (high_left c t r) ∷ (left_high c t r) ∷ (left_low c t r) ∷ (low_left c t r) ∷ []) (
           inr (refl, omega (arith, ints)),
           (

@@ -6,7 +6,8 @@ use Rattle.scad_geom.specs.Segment.{Segment}
 
 -- the cross product over a divisor that a side of whole ends has with a point
 abbrev pub cross_of : ℤ → ℤ → ℤ → ℤ → ℤ → ℤ → ℤ → ℤ
-cross_of ax ay bx by x y d = (bx *ℤ pos 1 -ℤ ax *ℤ pos 1) *ℤ (y *ℤ pos 1 -ℤ ay *ℤ d) -ℤ (by *ℤ pos 1 -ℤ ay *ℤ pos 1) *ℤ
+cross_of ax ay bx by x y d = (bx *ℤ pos 1 -ℤ ax *ℤ pos 1) *ℤ (y *ℤ pos 1 -ℤ ay *ℤ d) -ℤ
+    (by *ℤ pos 1 -ℤ ay *ℤ pos 1) *ℤ
     (x *ℤ pos 1 -ℤ ax *ℤ d)
 
 abbrev pub way : Pt → Pt → Segment

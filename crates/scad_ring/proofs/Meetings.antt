@@ -31,15 +31,16 @@ most_end n m w ax ay bx by a b e f h = elim (or_parts (int_le a w) (int_le b w) 
   | inr p ↦ inr (omega (arith, ints, p, f))
 ]
 
-least_end : (n m w ax ay bx by a b : ℤ) → n *ℤ ax +ℤ m *ℤ ay ≡ pos 0 -ℤ a → n *ℤ bx +ℤ m *ℤ by ≡ pos 0 -ℤ b
+least_end : (n m w ax ay bx by a b : ℤ) → n *ℤ ax +ℤ m *ℤ ay ≡ pos 0 -ℤ a
+    → n *ℤ bx +ℤ m *ℤ by ≡ pos 0 -ℤ b
     → (int_le (neg_ℤ w) a || int_le (neg_ℤ w) b) ≡ true → End n m w ax ay bx by
 least_end n m w ax ay bx by a b e f h = elim (or_parts (int_le (neg_ℤ w) a) (int_le (neg_ℤ w) b) h) [
   | inl p ↦ inl (omega (arith, ints, p, e))
   | inr p ↦ inr (omega (arith, ints, p, f))
 ]
 
-end_most : (n m w ax ay bx by a b : ℤ) → n *ℤ ax +ℤ m *ℤ ay ≡ a → n *ℤ bx +ℤ m *ℤ by ≡ b → End n m w ax ay bx by
-    → (int_le a w || int_le b w) ≡ true
+end_most : (n m w ax ay bx by a b : ℤ) → n *ℤ ax +ℤ m *ℤ ay ≡ a → n *ℤ bx +ℤ m *ℤ by ≡ b
+    → End n m w ax ay bx by → (int_le a w || int_le b w) ≡ true
 end_most n m w ax ay bx by a b e f (inl h) = one_of (int_le a w) (int_le b w) (inl (int_le-at_most a w (omega (
   arith,
   ints,
@@ -53,7 +54,8 @@ end_most n m w ax ay bx by a b e f (inr h) = one_of (int_le a w) (int_le b w) (i
   f,
 ))))
 
-end_least : (n m w ax ay bx by a b : ℤ) → n *ℤ ax +ℤ m *ℤ ay ≡ pos 0 -ℤ a → n *ℤ bx +ℤ m *ℤ by ≡ pos 0 -ℤ b
+end_least : (n m w ax ay bx by a b : ℤ) → n *ℤ ax +ℤ m *ℤ ay ≡ pos 0 -ℤ a
+    → n *ℤ bx +ℤ m *ℤ by ≡ pos 0 -ℤ b
     → End n m w ax ay bx by → (int_le (neg_ℤ w) a || int_le (neg_ℤ w) b) ≡ true
 end_least n m w ax ay bx by a b e f (inl h) = one_of (int_le (neg_ℤ w) a) (int_le (neg_ℤ w) b)
     (inl (int_le-at_most (neg_ℤ w) a (omega (arith, ints, h, e))))
@@ -68,8 +70,10 @@ module _ (S U ax ay bx by : ℤ) where
       by_parts
       (int_le ax S || int_le bx S) (int_le (neg_ℤ S) ax || int_le (neg_ℤ S) bx)
       (int_le ay S || int_le by S) (int_le (neg_ℤ S) ay || int_le (neg_ℤ S) by)
-      (int_le (ax +ℤ ay) U || int_le (bx +ℤ by) U) (int_le (neg_ℤ U) (ax +ℤ ay) || int_le (neg_ℤ U) (bx +ℤ by))
-      (int_le (ax -ℤ ay) U || int_le (bx -ℤ by) U) (int_le (neg_ℤ U) (ax -ℤ ay) || int_le (neg_ℤ U) (bx -ℤ by))
+      (int_le (ax +ℤ ay) U || int_le (bx +ℤ by) U)
+          (int_le (neg_ℤ U) (ax +ℤ ay) || int_le (neg_ℤ U) (bx +ℤ by))
+      (int_le (ax -ℤ ay) U || int_le (bx -ℤ by) U)
+          (int_le (neg_ℤ U) (ax -ℤ ay) || int_le (neg_ℤ U) (bx -ℤ by))
       (int_le (cross ax ay bx by) (breadth S (U -ℤ S) (bx -ℤ ax) (by -ℤ ay)))
       (int_le (neg_ℤ (breadth S (U -ℤ S) (bx -ℤ ax) (by -ℤ ay))) (cross ax ay bx by))
       h (λ p q r s t u v w m l. (
@@ -92,8 +96,8 @@ module _ (S U ax ay bx by : ℤ) where
     where
       by_parts : {P : Type 0} (a b c d e f g h i j : Bool)
           → ((a && b) && ((c && d) && ((e && f) && ((g && h) && (i && j))))) ≡ true
-          → (a ≡ true → b ≡ true → c ≡ true → d ≡ true → e ≡ true → f ≡ true → g ≡ true → h ≡ true → i ≡ true
-          → j ≡ true → P) → P
+          → (a ≡ true → b ≡ true → c ≡ true → d ≡ true → e ≡ true → f ≡ true → g ≡ true
+          → h ≡ true → i ≡ true → j ≡ true → P) → P
       by_parts a b c d e f g h i j all k =
           let p = and_parts (a && b) ((c && d) && ((e && f) && ((g && h) && (i && j)))) all in
           let q = and_parts (c && d) ((e && f) && ((g && h) && (i && j))) p.1 in
@@ -168,7 +172,8 @@ no_breadth x y = by_tests (int_le y x) (int_le (x +ℤ y) (pos 0)) (int_le (pos 
     by_tests false false true = omega (arith, ints)
     by_tests false false false = omega (arith, ints)
 
-on_line : (S U x y k : ℤ) → S ≡ pos 0 → U -ℤ S ≡ pos 0 → IsSize (breadth S (U -ℤ S) x y) k → k ≡ pos 0
+on_line : (S U x y k : ℤ) → S ≡ pos 0 → U -ℤ S ≡ pos 0 → IsSize (breadth S (U -ℤ S) x y) k
+    → k ≡ pos 0
 on_line S U x y k none slim l =
     let h : IsSize (breadth (pos 0) (pos 0) x y) k = subst (λ (t : ℤ). IsSize (breadth (pos 0) t x y) k) slim
     (subst (λ (s : ℤ). IsSize (breadth s (U -ℤ S) x y) k) none l) in
@@ -199,7 +204,8 @@ origin_found S U ax ay bx by none slim level long e =
           (test (neg_ℤ (pos 1)) (neg_ℤ (pos 1)) U slim e.below_left);
     }
   where
-    test : (n m c : ℤ) → c ≡ pos 0 → End n m c ax ay bx by → Test n m c ax ay bx by (by -ℤ ay) (pos 0 -ℤ (bx -ℤ ax))
+    test : (n m c : ℤ) → c ≡ pos 0 → End n m c ax ay bx by
+        → Test n m c ax ay bx by (by -ℤ ay) (pos 0 -ℤ (bx -ℤ ax))
     test n m c z h = record {
       end = h;
       corner =
@@ -256,17 +262,19 @@ module _ (S U ax ay bx by : ℤ) (some : pos 0 ≤ℤ S) (wide : S ≤ℤ U) (na
       (omega (arith, ints)) ax ay bx by (omega (arith, ints, r)) (omega (arith, ints, q, r)) l) e
 
   -- an octagon of no width is the origin
-  at_origin : S ≡ pos 0 → Ends S U ax ay bx by → IsSize (breadth S (U -ℤ S) (bx -ℤ ax) (by -ℤ ay)) (cross ax ay bx by)
-      → Approach S U ax ay bx by
+  at_origin : S ≡ pos 0 → Ends S U ax ay bx by
+      → IsSize (breadth S (U -ℤ S) (bx -ℤ ax) (by -ℤ ay)) (cross ax ay bx by) → Approach S U ax ay bx by
   at_origin none e l = by_way (order (by -ℤ ay) (pos 0)) (order (bx -ℤ ax) (pos 0)) (order (pos 0) (bx -ℤ ax))
     where
       level : cross ax ay bx by ≡ pos 0
       level = on_line S U (bx -ℤ ax) (by -ℤ ay) (cross ax ay bx by) none (omega (arith, ints)) l
 
-      by_square : pos 0 <ℤ ((by -ℤ ay) *ℤ (by -ℤ ay) +ℤ (bx -ℤ ax) *ℤ (bx -ℤ ax)) → Approach S U ax ay bx by
+      by_square : pos 0 <ℤ ((by -ℤ ay) *ℤ (by -ℤ ay) +ℤ (bx -ℤ ax) *ℤ (bx -ℤ ax))
+          → Approach S U ax ay bx by
       by_square p = origin_found S U ax ay bx by none (omega (arith, ints)) level p e
 
-      by_way : ((by -ℤ ay) ≤ℤ pos 0) ⊎ (pos 0 <ℤ (by -ℤ ay)) → ((bx -ℤ ax) ≤ℤ pos 0) ⊎ (pos 0 <ℤ (bx -ℤ ax))
+      by_way : ((by -ℤ ay) ≤ℤ pos 0) ⊎ (pos 0 <ℤ (by -ℤ ay))
+          → ((bx -ℤ ax) ≤ℤ pos 0) ⊎ (pos 0 <ℤ (bx -ℤ ax))
           → (pos 0 ≤ℤ (bx -ℤ ax)) ⊎ ((bx -ℤ ax) <ℤ pos 0) → Approach S U ax ay bx by
       by_way (inr h) k i =
           let p = positive_product (by -ℤ ay) (by -ℤ ay) h h in
@@ -322,8 +330,8 @@ module _ (S U ax ay bx by : ℤ) (some : pos 0 ≤ℤ S) (wide : S ≤ℤ U) (na
       (bx -ℤ ax)) (int_le ((bx -ℤ ax) +ℤ (by -ℤ ay)) (pos 0)) (int_le (pos 0) (bx -ℤ ax)) refl refl refl)
 
 -- ---- idle bounds
-pick : (n m c d k s t ax ay bx by : ℤ) → (k ≡ c) ⊎ (k ≡ d) → Lies n m c s t ax ay bx by → Lies n m d s t ax ay bx by
-    → Lies n m k s t ax ay bx by
+pick : (n m c d k s t ax ay bx by : ℤ) → (k ≡ c) ⊎ (k ≡ d) → Lies n m c s t ax ay bx by
+    → Lies n m d s t ax ay bx by → Lies n m k s t ax ay bx by
 pick n m c d k s t ax ay bx by (inl e) l o = subst (λ (z : ℤ). Lies n m z s t ax ay bx by) (sym e) l
 pick n m c d k s t ax ay bx by (inr e) l o = subst (λ (z : ℤ). Lies n m z s t ax ay bx by) (sym e) o
 
@@ -340,7 +348,8 @@ twice_times s w = ring (s ∷ w ∷ []) ((num (pos 2) ⊗ v0) ⊗ v1) (num (pos 
 module _ (S U K L ax ay bx by : ℤ) where
   -- the octagon of the half width K and the half sum L holds what one does of which they are the bounds that aren't
   -- idle
-  pub narrow : (K ≡ S) ⊎ (K ≡ U) → (L ≡ U) ⊎ (L ≡ pos 2 *ℤ S) → Approach S U ax ay bx by → Approach K L ax ay bx by
+  pub narrow : (K ≡ S) ⊎ (K ≡ U) → (L ≡ U) ⊎ (L ≡ pos 2 *ℤ S) → Approach S U ax ay bx by
+      → Approach K L ax ay bx by
   narrow h i a =
       let right = a.right in
       let left = a.left in

@@ -141,7 +141,8 @@ module _ (S U ax ay bx by : ℤ) where
     over = one_first (pos 0) (pos 1) S ax ay bx by (at_point (pos 0) (pos 1) S e.over);
     below = one_first (pos 0) (neg_ℤ (pos 1)) S ax ay bx by (at_point (pos 0) (neg_ℤ (pos 1)) S e.below);
     over_right = one_first (pos 1) (pos 1) U ax ay bx by (at_point (pos 1) (pos 1) U e.over_right);
-    below_right = one_first (pos 1) (neg_ℤ (pos 1)) U ax ay bx by (at_point (pos 1) (neg_ℤ (pos 1)) U e.below_right);
+    below_right = one_first (pos 1) (neg_ℤ (pos 1)) U ax ay bx by
+        (at_point (pos 1) (neg_ℤ (pos 1)) U e.below_right);
     over_left = one_first (neg_ℤ (pos 1)) (pos 1) U ax ay bx by (at_point (neg_ℤ (pos 1)) (pos 1) U e.over_left);
     below_left = one_first (neg_ℤ (pos 1)) (neg_ℤ (pos 1)) U ax ay bx by
         (at_point (neg_ℤ (pos 1)) (neg_ℤ (pos 1)) U e.below_left);
@@ -171,7 +172,8 @@ Passes vx vy ax ay bx by = IsSize (cross vx vy (bx -ℤ ax) (by -ℤ ay)) (cross
 
 module _ (S T U : ℤ) (sum : U ≡ S +ℤ T) (ax ay bx by : ℤ) (a : Approach S U ax ay bx by) where
   -- nearer to the right than upwards
-  pub right_line : pos 0 ≤ℤ (by -ℤ ay) → (by -ℤ ay) ≤ℤ (bx -ℤ ax) → Passes T (pos 0 -ℤ S) ax ay bx by
+  pub right_line : pos 0 ≤ℤ (by -ℤ ay) → (by -ℤ ay) ≤ℤ (bx -ℤ ax)
+      → Passes T (pos 0 -ℤ S) ax ay bx by
   right_line up flat =
       let m = beside a.s a.t a.from a.to a.some ax ay bx by (pos 0) (neg_ℤ (pos 1)) S (pos 1) (neg_ℤ (pos 1)) U
       ((bx -ℤ ax) -ℤ (by -ℤ ay)) (by -ℤ ay) (omega (arith, ints)) up (omega (arith, ints)) (omega (
@@ -193,13 +195,16 @@ module _ (S T U : ℤ) (sum : U ≡ S +ℤ T) (ax ay bx by : ℤ) (a : Approach 
           (v1 ⊗ v3 ⊖ (num (pos 0) ⊖ v0) ⊗ v2) refl)
 
   -- upwards and to the right
-  pub steep_right_line : pos 0 ≤ℤ (bx -ℤ ax) → (bx -ℤ ax) ≤ℤ (by -ℤ ay) → Passes S (pos 0 -ℤ T) ax ay bx by
+  pub steep_right_line : pos 0 ≤ℤ (bx -ℤ ax) → (bx -ℤ ax) ≤ℤ (by -ℤ ay)
+      → Passes S (pos 0 -ℤ T) ax ay bx by
   steep_right_line right steep =
       let m = beside a.s a.t a.from a.to a.some ax ay bx by (pos 1) (neg_ℤ (pos 1)) U (pos 1) (pos 0) S
-      (bx -ℤ ax) ((by -ℤ ay) -ℤ (bx -ℤ ax)) right (omega (arith, ints)) (omega (arith, ints)) (omega (arith, ints))
+      (bx -ℤ ax) ((by -ℤ ay) -ℤ (bx -ℤ ax)) right (omega (arith, ints)) (omega (arith, ints))
+          (omega (arith, ints))
       a.below_right a.right in
       let l = beside_back a.s a.t a.from a.to a.some ax ay bx by (neg_ℤ (pos 1)) (pos 1) U (neg_ℤ (pos 1)) (pos 0) S
-      (bx -ℤ ax) ((by -ℤ ay) -ℤ (bx -ℤ ax)) right (omega (arith, ints)) (omega (arith, ints)) (omega (arith, ints))
+      (bx -ℤ ax) ((by -ℤ ay) -ℤ (bx -ℤ ax)) right (omega (arith, ints)) (omega (arith, ints))
+          (omega (arith, ints))
       a.over_left a.left in
       let e = reach_is (bx -ℤ ax) (by -ℤ ay) in
       record { least = omega (arith, ints, l, e); most = omega (arith, ints, m, e) }
@@ -209,7 +214,8 @@ module _ (S T U : ℤ) (sum : U ≡ S +ℤ T) (ax ay bx by : ℤ) (a : Approach 
           (v0 ⊗ v3 ⊖ (num (pos 0) ⊖ v1) ⊗ v2) refl)
 
   -- upwards and to the left
-  pub steep_left_line : (bx -ℤ ax) ≤ℤ pos 0 → (pos 0 -ℤ (bx -ℤ ax)) ≤ℤ (by -ℤ ay) → Passes S T ax ay bx by
+  pub steep_left_line : (bx -ℤ ax) ≤ℤ pos 0 → (pos 0 -ℤ (bx -ℤ ax)) ≤ℤ (by -ℤ ay)
+      → Passes S T ax ay bx by
   steep_left_line left steep =
       let m = beside a.s a.t a.from a.to a.some ax ay bx by (pos 1) (pos 0) S (pos 1) (pos 1) U
       ((by -ℤ ay) +ℤ (bx -ℤ ax)) (pos 0 -ℤ (bx -ℤ ax)) (omega (arith, ints)) (omega (arith, ints)) (omega (
@@ -218,13 +224,15 @@ module _ (S T U : ℤ) (sum : U ≡ S +ℤ T) (ax ay bx by : ℤ) (a : Approach 
       ))
       (omega (arith, ints)) a.right a.over_right in
       let l = beside_back a.s a.t a.from a.to a.some ax ay bx by (neg_ℤ (pos 1)) (pos 0) S (neg_ℤ (pos 1))
-      (neg_ℤ (pos 1)) U ((by -ℤ ay) +ℤ (bx -ℤ ax)) (pos 0 -ℤ (bx -ℤ ax)) (omega (arith, ints)) (omega (arith, ints))
+      (neg_ℤ (pos 1)) U ((by -ℤ ay) +ℤ (bx -ℤ ax)) (pos 0 -ℤ (bx -ℤ ax)) (omega (arith, ints))
+          (omega (arith, ints))
       (omega (arith, ints)) (omega (arith, ints)) a.left a.below_left in
       let e = reach_is (bx -ℤ ax) (by -ℤ ay) in
       record { least = omega (arith, ints, l, e); most = omega (arith, ints, m, e) }
     where
       reach_is : (x y : ℤ) → (y +ℤ x) *ℤ S +ℤ (pos 0 -ℤ x) *ℤ U ≡ cross S T x y
-      reach_is x y = rw sum (ring (S ∷ T ∷ x ∷ y ∷ []) ((v3 ⊕ v2) ⊗ v0 ⊕ (num (pos 0) ⊖ v2) ⊗ (v0 ⊕ v1))
+      reach_is x y = rw sum (ring (S ∷ T ∷ x ∷ y ∷ [])
+          ((v3 ⊕ v2) ⊗ v0 ⊕ (num (pos 0) ⊖ v2) ⊗ (v0 ⊕ v1))
           (v0 ⊗ v3 ⊖ v1 ⊗ v2) refl)
 
   -- nearer to the left than upwards
@@ -243,7 +251,8 @@ module _ (S T U : ℤ) (sum : U ≡ S +ℤ T) (ax ay bx by : ℤ) (a : Approach 
       record { least = omega (arith, ints, l, e); most = omega (arith, ints, m, e) }
     where
       reach_is : (x y : ℤ) → y *ℤ U +ℤ ((pos 0 -ℤ x) -ℤ y) *ℤ S ≡ cross T S x y
-      reach_is x y = rw sum (ring (S ∷ T ∷ x ∷ y ∷ []) (v3 ⊗ (v0 ⊕ v1) ⊕ ((num (pos 0) ⊖ v2) ⊖ v3) ⊗ v0)
+      reach_is x y = rw sum (ring (S ∷ T ∷ x ∷ y ∷ [])
+          (v3 ⊗ (v0 ⊕ v1) ⊕ ((num (pos 0) ⊖ v2) ⊖ v3) ⊗ v0)
           (v1 ⊗ v3 ⊖ v0 ⊗ v2) refl)
 
 times_minus : (a b : ℤ) → a *ℤ (pos 0 -ℤ b) ≡ pos 0 -ℤ a *ℤ b
@@ -297,7 +306,8 @@ module _ (S T U : ℤ) (sum : U ≡ S +ℤ T) (positive : pos 0 <ℤ S) (slim : 
         difference = record { least = omega (arith, ints); most = omega (arith, ints) };
       }
 
-  pub left_corner : (bx -ℤ ax) <ℤ pos 0 → pos 0 ≤ℤ (by -ℤ ay) → Passes T S ax ay bx by → Corner S U T S ax ay bx by
+  pub left_corner : (bx -ℤ ax) <ℤ pos 0 → pos 0 ≤ℤ (by -ℤ ay) → Passes T S ax ay bx by
+      → Corner S U T S ax ay bx by
   left_corner x y l =
       let p = positive_product S (pos 0 -ℤ (bx -ℤ ax)) positive (omega (arith, ints)) in
       let q = at_least_mul T (by -ℤ ay) slim y in
@@ -407,8 +417,8 @@ module _ (S T U : ℤ) (sum : U ≡ S +ℤ T) (ax ay bx by : ℤ) where
       record { least = omega (arith, ints, l, e, k, w); most = omega (arith, ints, m, e, k, w) }
 
   pub diagonal_right_line : pos 0 ≤ℤ (bx -ℤ ax) → by -ℤ ay ≡ bx -ℤ ax
-      → (neg_ℤ (pos 1) *ℤ ax +ℤ pos 1 *ℤ ay) ≤ℤ U → (pos 1 *ℤ ax +ℤ neg_ℤ (pos 1) *ℤ ay) ≤ℤ U
-      → Passes T (pos 0 -ℤ S) ax ay bx by
+      → (neg_ℤ (pos 1) *ℤ ax +ℤ pos 1 *ℤ ay) ≤ℤ U
+      → (pos 1 *ℤ ax +ℤ neg_ℤ (pos 1) *ℤ ay) ≤ℤ U → Passes T (pos 0 -ℤ S) ax ay bx by
   diagonal_right_line x y g h =
       let m = along (pos 1) (neg_ℤ (pos 1)) U (bx -ℤ ax) ax ay bx by x (omega (arith, ints)) (omega (
         arith,
@@ -423,9 +433,11 @@ module _ (S T U : ℤ) (sum : U ≡ S +ℤ T) (ax ay bx by : ℤ) where
       record { least = omega (arith, ints, l, e); most = omega (arith, ints, m, e) }
     where
       reach_is : (x y : ℤ) → y ≡ x → x *ℤ U ≡ cross T (pos 0 -ℤ S) x y
-      reach_is x y e = rw (sum, e) (ring (S ∷ T ∷ x ∷ []) (v2 ⊗ (v0 ⊕ v1)) (v1 ⊗ v2 ⊖ (num (pos 0) ⊖ v0) ⊗ v2) refl)
+      reach_is x y e = rw (sum, e) (ring (S ∷ T ∷ x ∷ []) (v2 ⊗ (v0 ⊕ v1))
+          (v1 ⊗ v2 ⊖ (num (pos 0) ⊖ v0) ⊗ v2) refl)
 
-  pub upright_line : bx -ℤ ax ≡ pos 0 → pos 0 ≤ℤ (by -ℤ ay) → (neg_ℤ (pos 1) *ℤ ax +ℤ pos 0 *ℤ ay) ≤ℤ S
+  pub upright_line : bx -ℤ ax ≡ pos 0 → pos 0 ≤ℤ (by -ℤ ay)
+      → (neg_ℤ (pos 1) *ℤ ax +ℤ pos 0 *ℤ ay) ≤ℤ S
       → (pos 1 *ℤ ax +ℤ pos 0 *ℤ ay) ≤ℤ S → Passes S (pos 0 -ℤ T) ax ay bx by
   upright_line x y g h =
       let m = along (pos 1) (pos 0) S (by -ℤ ay) ax ay bx by y (omega (arith, ints)) (omega (arith, ints)) h in
@@ -439,8 +451,8 @@ module _ (S T U : ℤ) (sum : U ≡ S +ℤ T) (ax ay bx by : ℤ) where
       record { least = omega (arith, ints, l, e, w); most = omega (arith, ints, m, e, w) }
 
   pub diagonal_left_line : by -ℤ ay ≡ pos 0 -ℤ (bx -ℤ ax) → pos 0 ≤ℤ (by -ℤ ay)
-      → (neg_ℤ (pos 1) *ℤ ax +ℤ neg_ℤ (pos 1) *ℤ ay) ≤ℤ U → (pos 1 *ℤ ax +ℤ pos 1 *ℤ ay) ≤ℤ U
-      → Passes S T ax ay bx by
+      → (neg_ℤ (pos 1) *ℤ ax +ℤ neg_ℤ (pos 1) *ℤ ay) ≤ℤ U
+      → (pos 1 *ℤ ax +ℤ pos 1 *ℤ ay) ≤ℤ U → Passes S T ax ay bx by
   diagonal_left_line x y g h =
       let m = along (pos 1) (pos 1) U (by -ℤ ay) ax ay bx by y (omega (arith, ints)) (omega (arith, ints)) h in
       let l = along_back (neg_ℤ (pos 1)) (neg_ℤ (pos 1)) U (by -ℤ ay) ax ay bx by y (omega (arith, ints))
@@ -449,4 +461,5 @@ module _ (S T U : ℤ) (sum : U ≡ S +ℤ T) (ax ay bx by : ℤ) where
       record { least = omega (arith, ints, l, e); most = omega (arith, ints, m, e) }
     where
       reach_is : (x y : ℤ) → x ≡ pos 0 -ℤ y → y *ℤ U ≡ cross S T x y
-      reach_is x y e = rw (sum, e) (ring (S ∷ T ∷ y ∷ []) (v2 ⊗ (v0 ⊕ v1)) (v0 ⊗ v2 ⊖ v1 ⊗ (num (pos 0) ⊖ v2)) refl)
+      reach_is x y e = rw (sum, e) (ring (S ∷ T ∷ y ∷ []) (v2 ⊗ (v0 ⊕ v1))
+          (v0 ⊗ v2 ⊖ v1 ⊗ (num (pos 0) ⊖ v2)) refl)

@@ -61,11 +61,13 @@ near_first c u p r k o =
           (r.x *ℤ pos 1 -ℤ k.x) (r.y *ℤ pos 1 -ℤ k.y) (omega (arith, ints, bm));
       over_right = one_first (pos 1) (pos 1) (u *ℤ pos 1) (p.x *ℤ pos 1 -ℤ k.x) (p.y *ℤ pos 1 -ℤ k.y)
           (r.x *ℤ pos 1 -ℤ k.x) (r.y *ℤ pos 1 -ℤ k.y) (omega (arith, ints, sl));
-      below_right = one_first (pos 1) (neg_ℤ (pos 1)) (u *ℤ pos 1) (p.x *ℤ pos 1 -ℤ k.x) (p.y *ℤ pos 1 -ℤ k.y)
+      below_right = one_first (pos 1) (neg_ℤ (pos 1)) (u *ℤ pos 1) (p.x *ℤ pos 1 -ℤ k.x)
+          (p.y *ℤ pos 1 -ℤ k.y)
           (r.x *ℤ pos 1 -ℤ k.x) (r.y *ℤ pos 1 -ℤ k.y) (omega (arith, ints, fl));
       over_left = one_first (neg_ℤ (pos 1)) (pos 1) (u *ℤ pos 1) (p.x *ℤ pos 1 -ℤ k.x) (p.y *ℤ pos 1 -ℤ k.y)
           (r.x *ℤ pos 1 -ℤ k.x) (r.y *ℤ pos 1 -ℤ k.y) (omega (arith, ints, fm));
-      below_left = one_first (neg_ℤ (pos 1)) (neg_ℤ (pos 1)) (u *ℤ pos 1) (p.x *ℤ pos 1 -ℤ k.x) (p.y *ℤ pos 1 -ℤ k.y)
+      below_left = one_first (neg_ℤ (pos 1)) (neg_ℤ (pos 1)) (u *ℤ pos 1) (p.x *ℤ pos 1 -ℤ k.x)
+          (p.y *ℤ pos 1 -ℤ k.y)
           (r.x *ℤ pos 1 -ℤ k.x) (r.y *ℤ pos 1 -ℤ k.y) (omega (arith, ints, sm));
     })
 
@@ -95,11 +97,13 @@ near_last c u p r k o =
           (r.x *ℤ pos 1 -ℤ k.x) (r.y *ℤ pos 1 -ℤ k.y) (omega (arith, ints, bm));
       over_right = one_last (pos 1) (pos 1) (u *ℤ pos 1) (p.x *ℤ pos 1 -ℤ k.x) (p.y *ℤ pos 1 -ℤ k.y)
           (r.x *ℤ pos 1 -ℤ k.x) (r.y *ℤ pos 1 -ℤ k.y) (omega (arith, ints, sl));
-      below_right = one_last (pos 1) (neg_ℤ (pos 1)) (u *ℤ pos 1) (p.x *ℤ pos 1 -ℤ k.x) (p.y *ℤ pos 1 -ℤ k.y)
+      below_right = one_last (pos 1) (neg_ℤ (pos 1)) (u *ℤ pos 1) (p.x *ℤ pos 1 -ℤ k.x)
+          (p.y *ℤ pos 1 -ℤ k.y)
           (r.x *ℤ pos 1 -ℤ k.x) (r.y *ℤ pos 1 -ℤ k.y) (omega (arith, ints, fl));
       over_left = one_last (neg_ℤ (pos 1)) (pos 1) (u *ℤ pos 1) (p.x *ℤ pos 1 -ℤ k.x) (p.y *ℤ pos 1 -ℤ k.y)
           (r.x *ℤ pos 1 -ℤ k.x) (r.y *ℤ pos 1 -ℤ k.y) (omega (arith, ints, fm));
-      below_left = one_last (neg_ℤ (pos 1)) (neg_ℤ (pos 1)) (u *ℤ pos 1) (p.x *ℤ pos 1 -ℤ k.x) (p.y *ℤ pos 1 -ℤ k.y)
+      below_left = one_last (neg_ℤ (pos 1)) (neg_ℤ (pos 1)) (u *ℤ pos 1) (p.x *ℤ pos 1 -ℤ k.x)
+          (p.y *ℤ pos 1 -ℤ k.y)
           (r.x *ℤ pos 1 -ℤ k.x) (r.y *ℤ pos 1 -ℤ k.y) (omega (arith, ints, sm));
     })
 

@@ -27,7 +27,8 @@ pub record IsStep (x y : ℤ) : Type 0 where
 -- of one half plane: p near to q, moved in parts of both divisors
 by_step : (n m c px py d qx qy e x y : ℤ) → pos 0 ≤ℤ d → (pos 0 -ℤ (n *ℤ x +ℤ m *ℤ y)) ≤ℤ pos 1
     → (n *ℤ (px *ℤ e -ℤ qx *ℤ d) +ℤ m *ℤ (py *ℤ e -ℤ qy *ℤ d)) <ℤ (c *ℤ (d *ℤ e))
-    → (n *ℤ (px *ℤ (e *ℤ d) -ℤ (qx *ℤ d +ℤ x) *ℤ d) +ℤ m *ℤ (py *ℤ (e *ℤ d) -ℤ (qy *ℤ d +ℤ y) *ℤ d))
+    → (n *ℤ (px *ℤ (e *ℤ d) -ℤ (qx *ℤ d +ℤ x) *ℤ d) +ℤ m *ℤ
+    (py *ℤ (e *ℤ d) -ℤ (qy *ℤ d +ℤ y) *ℤ d))
     ≤ℤ (c *ℤ (d *ℤ (e *ℤ d)))
 by_step n m c px py d qx qy e x y some step near =
     let a = at_least_mul ((c *ℤ (d *ℤ e) -ℤ pos 1) -ℤ (n *ℤ (px *ℤ e -ℤ qx *ℤ d) +ℤ m *ℤ (py *ℤ e -ℤ qy *ℤ d))) d
@@ -35,12 +36,14 @@ by_step n m c px py d qx qy e x y some step near =
     let b = at_least_mul (pos 1 +ℤ (n *ℤ x +ℤ m *ℤ y)) d (omega (arith, ints, step)) some in
     omega (arith, ints, a, b, sum_is)
   where
-    sum_is : ((c *ℤ (d *ℤ e) -ℤ pos 1) -ℤ (n *ℤ (px *ℤ e -ℤ qx *ℤ d) +ℤ m *ℤ (py *ℤ e -ℤ qy *ℤ d))) *ℤ d +ℤ
+    sum_is : ((c *ℤ (d *ℤ e) -ℤ pos 1) -ℤ
+        (n *ℤ (px *ℤ e -ℤ qx *ℤ d) +ℤ m *ℤ (py *ℤ e -ℤ qy *ℤ d))) *ℤ d +ℤ
         (pos 1 +ℤ (n *ℤ x +ℤ m *ℤ y)) *ℤ d
         ≡ c *ℤ (d *ℤ (e *ℤ d)) -ℤ (n *ℤ (px *ℤ (e *ℤ d) -ℤ (qx *ℤ d +ℤ x) *ℤ d) +ℤ m *ℤ
         (py *ℤ (e *ℤ d) -ℤ (qy *ℤ d +ℤ y) *ℤ d))
     sum_is = ring (n ∷ m ∷ c ∷ px ∷ py ∷ d ∷ qx ∷ qy ∷ e ∷ x ∷ y ∷ [])
-        (((v2 ⊗ (v5 ⊗ v8) ⊖ num (pos 1)) ⊖ (v0 ⊗ (v3 ⊗ v8 ⊖ v6 ⊗ v5) ⊕ v1 ⊗ (v4 ⊗ v8 ⊖ v7 ⊗ v5))) ⊗ v5 ⊕
+        (((v2 ⊗ (v5 ⊗ v8) ⊖ num (pos 1))
+            ⊖ (v0 ⊗ (v3 ⊗ v8 ⊖ v6 ⊗ v5) ⊕ v1 ⊗ (v4 ⊗ v8 ⊖ v7 ⊗ v5))) ⊗ v5 ⊕
         (num (pos 1) ⊕ (v0 ⊗ v9 ⊕ v1 ⊗ v10)) ⊗ v5)
         (v2 ⊗ (v5 ⊗ (v8 ⊗ v5)) ⊖ (v0 ⊗ (v3 ⊗ (v8 ⊗ v5) ⊖ (v6 ⊗ v5 ⊕ v9) ⊗ v5) ⊕ v1 ⊗
         (v4 ⊗ (v8 ⊗ v5) ⊖ (v7 ⊗ v5 ⊕ v10) ⊗ v5))) refl
@@ -125,7 +128,8 @@ near_shifted c u x y q p some step h =
 by_one : (n m c e px py pd qx qy qd bx by bd : ℤ) → pos 0 <ℤ pd → pos 0 <ℤ qd → pos 0 <ℤ bd
     → (n *ℤ (px *ℤ qd -ℤ qx *ℤ pd) +ℤ m *ℤ (py *ℤ qd -ℤ qy *ℤ pd)) ≤ℤ (c *ℤ (pd *ℤ qd))
     → (n *ℤ (qx *ℤ bd -ℤ bx *ℤ qd) +ℤ m *ℤ (qy *ℤ bd -ℤ by *ℤ qd)) <ℤ (e *ℤ (qd *ℤ bd))
-    → (n *ℤ (px *ℤ bd -ℤ bx *ℤ pd) +ℤ m *ℤ (py *ℤ bd -ℤ by *ℤ pd)) <ℤ ((c +ℤ e) *ℤ (pd *ℤ bd))
+    → (n *ℤ (px *ℤ bd -ℤ bx *ℤ pd) +ℤ m *ℤ (py *ℤ bd -ℤ by *ℤ pd)) <ℤ
+    ((c +ℤ e) *ℤ (pd *ℤ bd))
 by_one n m c e px py pd qx qy qd bx by bd hp hq hb near one =
     let a = at_least_mul bd (c *ℤ (pd *ℤ qd) -ℤ (n *ℤ (px *ℤ qd -ℤ qx *ℤ pd) +ℤ m *ℤ (py *ℤ qd -ℤ qy *ℤ pd)))
     (omega (arith, ints, hb)) (omega (arith, ints, near)) in
@@ -135,19 +139,23 @@ by_one n m c e px py pd qx qy qd bx by bd hp hq hb near one =
     (omega (arith, ints, a, b, sum_is)) in
     omega (arith, ints, g)
   where
-    sum_is : ((c +ℤ e) *ℤ (pd *ℤ bd) -ℤ (n *ℤ (px *ℤ bd -ℤ bx *ℤ pd) +ℤ m *ℤ (py *ℤ bd -ℤ by *ℤ pd))) *ℤ qd
-        ≡ bd *ℤ (c *ℤ (pd *ℤ qd) -ℤ (n *ℤ (px *ℤ qd -ℤ qx *ℤ pd) +ℤ m *ℤ (py *ℤ qd -ℤ qy *ℤ pd))) +ℤ pd *ℤ
+    sum_is : ((c +ℤ e) *ℤ (pd *ℤ bd) -ℤ
+        (n *ℤ (px *ℤ bd -ℤ bx *ℤ pd) +ℤ m *ℤ (py *ℤ bd -ℤ by *ℤ pd))) *ℤ qd
+        ≡ bd *ℤ (c *ℤ (pd *ℤ qd) -ℤ
+        (n *ℤ (px *ℤ qd -ℤ qx *ℤ pd) +ℤ m *ℤ (py *ℤ qd -ℤ qy *ℤ pd))) +ℤ pd *ℤ
         (e *ℤ (qd *ℤ bd) -ℤ (n *ℤ (qx *ℤ bd -ℤ bx *ℤ qd) +ℤ m *ℤ (qy *ℤ bd -ℤ by *ℤ qd)))
     sum_is = ring (n ∷ m ∷ c ∷ e ∷ px ∷ py ∷ pd ∷ qx ∷ qy ∷ qd ∷ bx ∷ by ∷ bd ∷ [])
-        (((v2 ⊕ v3) ⊗ (v6 ⊗ v12) ⊖ (v0 ⊗ (v4 ⊗ v12 ⊖ v10 ⊗ v6) ⊕ v1 ⊗ (v5 ⊗ v12 ⊖ v11 ⊗ v6))) ⊗ v9)
-        (v12 ⊗ (v2 ⊗ (v6 ⊗ v9) ⊖ (v0 ⊗ (v4 ⊗ v9 ⊖ v7 ⊗ v6) ⊕ v1 ⊗ (v5 ⊗ v9 ⊖ v8 ⊗ v6))) ⊕ v6 ⊗
+        (((v2 ⊕ v3) ⊗ (v6 ⊗ v12) ⊖ (v0 ⊗ (v4 ⊗ v12 ⊖ v10 ⊗ v6) ⊕ v1 ⊗ (v5 ⊗ v12 ⊖ v11 ⊗ v6)))
+            ⊗ v9)
+        (v12 ⊗ (v2 ⊗ (v6 ⊗ v9) ⊖ (v0 ⊗ (v4 ⊗ v9 ⊖ v7 ⊗ v6) ⊕ v1 ⊗ (v5 ⊗ v9 ⊖ v8 ⊗ v6))) ⊕ v6
+            ⊗
         (v3 ⊗ (v9 ⊗ v12) ⊖ (v0 ⊗ (v7 ⊗ v12 ⊖ v10 ⊗ v9) ⊕ v1 ⊗ (v8 ⊗ v12 ⊖ v11 ⊗ v9)))) refl
 
 -- what is near to q by a closed octagon is near by the open one, greater by 1 and by 2 in sum, to each point b that q
 -- lies less
 -- than 1 away from along both axes
-pub near_by_one : (c u : ℤ) (b q p : Point) → pos 0 <ℤ b.d → pos 0 <ℤ q.d → pos 0 <ℤ p.d → IsWithinOne b q
-    → IsNear Closed (octagon c u) q p → IsNear Open (octagon (c +ℤ pos 1) (u +ℤ pos 2)) b p
+pub near_by_one : (c u : ℤ) (b q p : Point) → pos 0 <ℤ b.d → pos 0 <ℤ q.d → pos 0 <ℤ p.d
+    → IsWithinOne b q → IsNear Closed (octagon c u) q p → IsNear Open (octagon (c +ℤ pos 1) (u +ℤ pos 2)) b p
 near_by_one c u b q p hb hq hp w h =
     let r = w.right in
     let l = w.left in

@@ -68,7 +68,8 @@ module _ (c t u : ℤ) (sum : u ≡ c +ℤ t) (some : pos 0 <ℤ t) (less : t <�
         (
           under p r q d t (pos 0 -ℤ c) (low_right c t p) (low_right c t r) s1 l,
           (
-            last_side (c *ℤ q.d) (u *ℤ q.d) q d p r a (neg_ℤ (pos 1)) (pos 1) u (low_right c t r) (right_low c t r)
+            last_side (c *ℤ q.d) (u *ℤ q.d) q d p r a (neg_ℤ (pos 1)) (pos 1) u (low_right c t r)
+                (right_low c t r)
                 s2 (omega (arith, ints)) a.over_left,
             (
               last_side (c *ℤ q.d) (u *ℤ q.d) q d p r a (neg_ℤ (pos 1)) (pos 0) c (right_low c t r)
@@ -169,22 +170,26 @@ module _ (c t u : ℤ) (sum : u ≡ c +ℤ t) (some : pos 0 <ℤ t) (less : t <�
       ),
     );
     turns = (
-      turns (pos 1) (pos 0 -ℤ pos 0) (r.x -ℤ p.x) (r.y -ℤ p.y) (low_left c t p) (low_right c t p) (low_right c t r)
+      turns (pos 1) (pos 0 -ℤ pos 0) (r.x -ℤ p.x) (r.y -ℤ p.y) (low_left c t p) (low_right c t p)
+          (low_right c t r)
           s0.step t1 (omega (arith, ints)),
       (
         turns (r.x -ℤ p.x) (r.y -ℤ p.y) (pos 1) (pos 0 -ℤ neg_ℤ (pos 1)) (low_right c t p) (low_right c t r)
             (right_low c t r) t1 s2.step (omega (arith, ints)),
         (
-          turns (pos 1) (pos 0 -ℤ neg_ℤ (pos 1)) (pos 0) (pos 0 -ℤ neg_ℤ (pos 1)) (low_right c t r) (right_low c t r)
+          turns (pos 1) (pos 0 -ℤ neg_ℤ (pos 1)) (pos 0) (pos 0 -ℤ neg_ℤ (pos 1)) (low_right c t r)
+              (right_low c t r)
               (right_high c t r) s2.step s3.step (omega (arith, ints)),
           (
             turns (pos 0) (pos 0 -ℤ neg_ℤ (pos 1)) (neg_ℤ (pos 1)) (pos 0 -ℤ neg_ℤ (pos 1)) (right_low c t r)
                 (right_high c t r) (high_right c t r) s3.step s4.step (omega (arith, ints)),
             (
-              turns (neg_ℤ (pos 1)) (pos 0 -ℤ neg_ℤ (pos 1)) (neg_ℤ (pos 1)) (pos 0 -ℤ pos 0) (right_high c t r)
+              turns (neg_ℤ (pos 1)) (pos 0 -ℤ neg_ℤ (pos 1)) (neg_ℤ (pos 1)) (pos 0 -ℤ pos 0)
+                  (right_high c t r)
                   (high_right c t r) (high_left c t r) s4.step s5.step (omega (arith, ints)),
               (
-                turns (neg_ℤ (pos 1)) (pos 0 -ℤ pos 0) (p.x -ℤ r.x) (p.y -ℤ r.y) (high_right c t r) (high_left c t r)
+                turns (neg_ℤ (pos 1)) (pos 0 -ℤ pos 0) (p.x -ℤ r.x) (p.y -ℤ r.y) (high_right c t r)
+                    (high_left c t r)
                     (high_left c t p) s5.step t6 (omega (arith, ints)),
                 (
                   turns (p.x -ℤ r.x) (p.y -ℤ r.y) (neg_ℤ (pos 1)) (pos 0 -ℤ pos 1) (high_left c t r)

@@ -18,8 +18,8 @@ use Rattle.scad_ring.specs.Corners.{direction_of, runs_back, eight_sided, four_s
 pub by_shape : (P : List Pt → Type 0) (c : ℕ) (e : Edge)
     → ((w : Direction) → P (eight_sided (pos c) (pos (slant c)) e.a e.b w))
     → ((w : Direction) → P (eight_sided (pos c) (pos (slant c)) e.b e.a w))
-    → ((w : Direction) → P (four_sided (pos c) e.a e.b w)) → ((w : Direction) → P (four_sided (pos c) e.b e.a w))
-    → P (corners_of c e)
+    → ((w : Direction) → P (four_sided (pos c) e.a e.b w))
+    → ((w : Direction) → P (four_sided (pos c) e.b e.a w)) → P (corners_of c e)
 by_shape P c e eight eight_back four four_back = by_order (runs_back e)
   where
     by_slant : (p r : Pt) → ((w : Direction) → P (eight_sided (pos c) (pos (slant c)) p r w))

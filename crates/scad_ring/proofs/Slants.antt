@@ -15,9 +15,11 @@ use Rattle.scad_ring.proofs.Approaches.{ApproachFrom}
 use Rattle.scad_ring.proofs.Steps.{Beside, beside_holds, beside_gap}
 
 cross_back : (ax ay bx by : ℤ) → cross bx by ax ay ≡ pos 0 -ℤ cross ax ay bx by
-cross_back ax ay bx by = ring (ax ∷ ay ∷ bx ∷ by ∷ []) (v2 ⊗ v1 ⊖ v3 ⊗ v0) (num (pos 0) ⊖ (v0 ⊗ v3 ⊖ v1 ⊗ v2)) refl
+cross_back ax ay bx by = ring (ax ∷ ay ∷ bx ∷ by ∷ []) (v2 ⊗ v1 ⊖ v3 ⊗ v0)
+    (num (pos 0) ⊖ (v0 ⊗ v3 ⊖ v1 ⊗ v2)) refl
 
-reach_back : (x y ax ay bx by d : ℤ) → cross ((pos 0 -ℤ x) *ℤ d) ((pos 0 -ℤ y) *ℤ d) (ax -ℤ bx) (ay -ℤ by)
+reach_back : (x y ax ay bx by d : ℤ) → cross ((pos 0 -ℤ x) *ℤ d) ((pos 0 -ℤ y) *ℤ d) (ax -ℤ bx)
+    (ay -ℤ by)
     ≡ cross (x *ℤ d) (y *ℤ d) (bx -ℤ ax) (by -ℤ ay)
 reach_back x y ax ay bx by d = ring (x ∷ y ∷ ax ∷ ay ∷ bx ∷ by ∷ d ∷ [])
     (((num (pos 0) ⊖ v0) ⊗ v6) ⊗ (v3 ⊖ v5) ⊖ ((num (pos 0) ⊖ v1) ⊗ v6) ⊗ (v2 ⊖ v4))
@@ -25,7 +27,8 @@ reach_back x y ax ay bx by d = ring (x ∷ y ∷ ax ∷ ay ∷ bx ∷ by ∷ d �
 
 module _ (p r : Pt) (q : Point) (d : pos 0 <ℤ q.d) where
   abbrev pub PassesFrom : ℤ → ℤ → Type 0
-  PassesFrom x y = Passes (x *ℤ q.d) (y *ℤ q.d) (p.x *ℤ q.d -ℤ q.x) (p.y *ℤ q.d -ℤ q.y) (r.x *ℤ q.d -ℤ q.x)
+  PassesFrom x y = Passes (x *ℤ q.d) (y *ℤ q.d) (p.x *ℤ q.d -ℤ q.x) (p.y *ℤ q.d -ℤ q.y)
+      (r.x *ℤ q.d -ℤ q.x)
       (r.y *ℤ q.d -ℤ q.y)
 
   -- a half plane of the octagon holds the edge's first end
@@ -36,7 +39,8 @@ module _ (p r : Pt) (q : Point) (d : pos 0 <ℤ q.d) where
   pub under : (x y : ℤ) (P Q : Pt) → Beside x y p r P Q → PassesFrom x y → IsLeftOf q (way P Q)
   under x y P Q b l = let h = l.least in beside_holds x y q p r P Q b d h
 
-  pub over : (x y : ℤ) (P Q : Pt) → Beside (pos 0 -ℤ x) (pos 0 -ℤ y) r p P Q → PassesFrom x y → IsLeftOf q (way P Q)
+  pub over : (x y : ℤ) (P Q : Pt) → Beside (pos 0 -ℤ x) (pos 0 -ℤ y) r p P Q → PassesFrom x y
+      → IsLeftOf q (way P Q)
   over x y P Q b l =
       let h = l.most in
       let e = cross_back (p.x *ℤ q.d -ℤ q.x) (p.y *ℤ q.d -ℤ q.y) (r.x *ℤ q.d -ℤ q.x) (r.y *ℤ q.d -ℤ q.y) in
@@ -54,7 +58,8 @@ module _ (p r : Pt) (q : Point) (d : pos 0 <ℤ q.d) where
 
   -- ---- signs over the divisor
   gap_is : (a b x : ℤ) → (b *ℤ q.d -ℤ x) -ℤ (a *ℤ q.d -ℤ x) ≡ (b -ℤ a) *ℤ q.d
-  gap_is a b x = ring (a ∷ b ∷ x ∷ q.d ∷ []) ((v1 ⊗ v3 ⊖ v2) ⊖ (v0 ⊗ v3 ⊖ v2)) ((v1 ⊖ v0) ⊗ v3) refl
+  gap_is a b x = ring (a ∷ b ∷ x ∷ q.d ∷ []) ((v1 ⊗ v3 ⊖ v2) ⊖ (v0 ⊗ v3 ⊖ v2)) ((v1 ⊖ v0) ⊗ v3)
+      refl
 
   pub goes_up : (a b x : ℤ) → a ≤ℤ b → pos 0 ≤ℤ ((b *ℤ q.d -ℤ x) -ℤ (a *ℤ q.d -ℤ x))
   goes_up a b x h =
@@ -69,7 +74,8 @@ module _ (p r : Pt) (q : Point) (d : pos 0 <ℤ q.d) where
       omega (arith, ints, e, m)
 
   -- the difference of two gaps, and their sum
-  pub steeper : (a b c e x y : ℤ) → (b -ℤ a) ≤ℤ (e -ℤ c) → ((b *ℤ q.d -ℤ x) -ℤ (a *ℤ q.d -ℤ x)) ≤ℤ
+  pub steeper : (a b c e x y : ℤ) → (b -ℤ a) ≤ℤ (e -ℤ c)
+      → ((b *ℤ q.d -ℤ x) -ℤ (a *ℤ q.d -ℤ x)) ≤ℤ
       ((e *ℤ q.d -ℤ y) -ℤ (c *ℤ q.d -ℤ y))
   steeper a b c e x y h =
       let f = gap_is a b x in
@@ -97,7 +103,8 @@ module _ (p r : Pt) (q : Point) (d : pos 0 <ℤ q.d) where
         omega (arith, ints, m, e)
 
     abbrev pub CornerFrom : ℤ → ℤ → Type 0
-    CornerFrom x y = Corner (c *ℤ q.d) (u *ℤ q.d) (x *ℤ q.d) (y *ℤ q.d) (p.x *ℤ q.d -ℤ q.x) (p.y *ℤ q.d -ℤ q.y)
+    CornerFrom x y = Corner (c *ℤ q.d) (u *ℤ q.d) (x *ℤ q.d) (y *ℤ q.d) (p.x *ℤ q.d -ℤ q.x)
+        (p.y *ℤ q.d -ℤ q.y)
         (r.x *ℤ q.d -ℤ q.x) (r.y *ℤ q.d -ℤ q.y)
 
     -- ---- the corner of each octant
@@ -105,34 +112,41 @@ module _ (p r : Pt) (q : Point) (d : pos 0 <ℤ q.d) where
     right_by x y l = subst
         (λ (z : ℤ). Passes (t *ℤ q.d) z (p.x *ℤ q.d -ℤ q.x) (p.y *ℤ q.d -ℤ q.y) (r.x *ℤ q.d -ℤ q.x)
         (r.y *ℤ q.d -ℤ q.y)
-        → Corner (c *ℤ q.d) (u *ℤ q.d) (t *ℤ q.d) z (p.x *ℤ q.d -ℤ q.x) (p.y *ℤ q.d -ℤ q.y) (r.x *ℤ q.d -ℤ q.x)
+        → Corner (c *ℤ q.d) (u *ℤ q.d) (t *ℤ q.d) z (p.x *ℤ q.d -ℤ q.x) (p.y *ℤ q.d -ℤ q.y)
+        (r.x *ℤ q.d -ℤ q.x)
         (r.y *ℤ q.d -ℤ q.y)) (sym (minus_times c q.d))
         (right_corner (c *ℤ q.d) (t *ℤ q.d) (u *ℤ q.d) sum_is positive slim narrow (p.x *ℤ q.d -ℤ q.x)
-        (p.y *ℤ q.d -ℤ q.y) (r.x *ℤ q.d -ℤ q.x) (r.y *ℤ q.d -ℤ q.y) (rises p.x r.x q.x x) (goes_up p.y r.y q.y y)) l
+        (p.y *ℤ q.d -ℤ q.y) (r.x *ℤ q.d -ℤ q.x) (r.y *ℤ q.d -ℤ q.y) (rises p.x r.x q.x x)
+            (goes_up p.y r.y q.y y)) l
 
     pub steep_right_by : p.x ≤ℤ r.x → p.y <ℤ r.y → PassesFrom c (pos 0 -ℤ t) → CornerFrom c (pos 0 -ℤ t)
     steep_right_by x y l = subst
         (λ (z : ℤ). Passes (c *ℤ q.d) z (p.x *ℤ q.d -ℤ q.x) (p.y *ℤ q.d -ℤ q.y) (r.x *ℤ q.d -ℤ q.x)
         (r.y *ℤ q.d -ℤ q.y)
-        → Corner (c *ℤ q.d) (u *ℤ q.d) (c *ℤ q.d) z (p.x *ℤ q.d -ℤ q.x) (p.y *ℤ q.d -ℤ q.y) (r.x *ℤ q.d -ℤ q.x)
+        → Corner (c *ℤ q.d) (u *ℤ q.d) (c *ℤ q.d) z (p.x *ℤ q.d -ℤ q.x) (p.y *ℤ q.d -ℤ q.y)
+        (r.x *ℤ q.d -ℤ q.x)
         (r.y *ℤ q.d -ℤ q.y)) (sym (minus_times t q.d))
         (steep_right_corner (c *ℤ q.d) (t *ℤ q.d) (u *ℤ q.d) sum_is positive slim narrow (p.x *ℤ q.d -ℤ q.x)
-        (p.y *ℤ q.d -ℤ q.y) (r.x *ℤ q.d -ℤ q.x) (r.y *ℤ q.d -ℤ q.y) (goes_up p.x r.x q.x x) (rises p.y r.y q.y y)) l
+        (p.y *ℤ q.d -ℤ q.y) (r.x *ℤ q.d -ℤ q.x) (r.y *ℤ q.d -ℤ q.y) (goes_up p.x r.x q.x x)
+            (rises p.y r.y q.y y)) l
 
     pub steep_left_by : r.x ≤ℤ p.x → p.y <ℤ r.y → PassesFrom c t → CornerFrom c t
     steep_left_by x y l =
         let g = goes_up r.x p.x q.x x in
         steep_left_corner (c *ℤ q.d) (t *ℤ q.d) (u *ℤ q.d) sum_is positive slim narrow (p.x *ℤ q.d -ℤ q.x)
-        (p.y *ℤ q.d -ℤ q.y) (r.x *ℤ q.d -ℤ q.x) (r.y *ℤ q.d -ℤ q.y) (omega (arith, ints, g)) (rises p.y r.y q.y y) l
+        (p.y *ℤ q.d -ℤ q.y) (r.x *ℤ q.d -ℤ q.x) (r.y *ℤ q.d -ℤ q.y) (omega (arith, ints, g))
+            (rises p.y r.y q.y y) l
 
     pub left_by : r.x <ℤ p.x → p.y ≤ℤ r.y → PassesFrom t c → CornerFrom t c
     left_by x y l =
         let g = rises r.x p.x q.x x in
         left_corner (c *ℤ q.d) (t *ℤ q.d) (u *ℤ q.d) sum_is positive slim narrow (p.x *ℤ q.d -ℤ q.x)
-        (p.y *ℤ q.d -ℤ q.y) (r.x *ℤ q.d -ℤ q.x) (r.y *ℤ q.d -ℤ q.y) (omega (arith, ints, g)) (goes_up p.y r.y q.y y) l
+        (p.y *ℤ q.d -ℤ q.y) (r.x *ℤ q.d -ℤ q.x) (r.y *ℤ q.d -ℤ q.y) (omega (arith, ints, g))
+            (goes_up p.y r.y q.y y) l
 
     -- ---- the line from a mean
-    pub right_passes : p.y ≤ℤ r.y → (r.y -ℤ p.y) ≤ℤ (r.x -ℤ p.x) → ApproachFrom c u q p r → PassesFrom t (pos 0 -ℤ c)
+    pub right_passes : p.y ≤ℤ r.y → (r.y -ℤ p.y) ≤ℤ (r.x -ℤ p.x) → ApproachFrom c u q p r
+        → PassesFrom t (pos 0 -ℤ c)
     right_passes y x a = subst
         (λ (z : ℤ). Passes (t *ℤ q.d) z (p.x *ℤ q.d -ℤ q.x) (p.y *ℤ q.d -ℤ q.y) (r.x *ℤ q.d -ℤ q.x)
         (r.y *ℤ q.d -ℤ q.y)) (sym (minus_times c q.d))
@@ -148,28 +162,33 @@ module _ (p r : Pt) (q : Point) (d : pos 0 <ℤ q.d) where
         (steep_right_line (c *ℤ q.d) (t *ℤ q.d) (u *ℤ q.d) sum_is (p.x *ℤ q.d -ℤ q.x) (p.y *ℤ q.d -ℤ q.y)
         (r.x *ℤ q.d -ℤ q.x) (r.y *ℤ q.d -ℤ q.y) a (goes_up p.x r.x q.x x) (steeper p.x r.x p.y r.y q.x q.y y))
 
-    pub steep_left_passes : r.x ≤ℤ p.x → (p.x -ℤ r.x) ≤ℤ (r.y -ℤ p.y) → ApproachFrom c u q p r → PassesFrom c t
+    pub steep_left_passes : r.x ≤ℤ p.x → (p.x -ℤ r.x) ≤ℤ (r.y -ℤ p.y) → ApproachFrom c u q p r
+        → PassesFrom c t
     steep_left_passes x y a =
         let g = goes_up r.x p.x q.x x in
         let h = steeper r.x p.x p.y r.y q.x q.y y in
         steep_left_line (c *ℤ q.d) (t *ℤ q.d) (u *ℤ q.d) sum_is (p.x *ℤ q.d -ℤ q.x) (p.y *ℤ q.d -ℤ q.y)
         (r.x *ℤ q.d -ℤ q.x) (r.y *ℤ q.d -ℤ q.y) a (omega (arith, ints, g)) (omega (arith, ints, h))
 
-    pub left_passes : p.y ≤ℤ r.y → (r.y -ℤ p.y) ≤ℤ (p.x -ℤ r.x) → ApproachFrom c u q p r → PassesFrom t c
+    pub left_passes : p.y ≤ℤ r.y → (r.y -ℤ p.y) ≤ℤ (p.x -ℤ r.x) → ApproachFrom c u q p r
+        → PassesFrom t c
     left_passes y x a =
         let h = steeper p.y r.y r.x p.x q.y q.x x in
-        left_line (c *ℤ q.d) (t *ℤ q.d) (u *ℤ q.d) sum_is (p.x *ℤ q.d -ℤ q.x) (p.y *ℤ q.d -ℤ q.y) (r.x *ℤ q.d -ℤ q.x)
+        left_line (c *ℤ q.d) (t *ℤ q.d) (u *ℤ q.d) sum_is (p.x *ℤ q.d -ℤ q.x) (p.y *ℤ q.d -ℤ q.y)
+            (r.x *ℤ q.d -ℤ q.x)
         (r.y *ℤ q.d -ℤ q.y) a (goes_up p.y r.y q.y y) (omega (arith, ints, h))
 
     -- ---- the line from the half planes that an edge along the octagon's sides runs between
-    pub flat_passes : p.x ≤ℤ r.x → p.y ≡ r.y → FirstBy (pos 0) (pos 1) c → FirstBy (pos 0) (neg_ℤ (pos 1)) c
-        → PassesFrom t (pos 0 -ℤ c)
+    pub flat_passes : p.x ≤ℤ r.x → p.y ≡ r.y → FirstBy (pos 0) (pos 1) c
+        → FirstBy (pos 0) (neg_ℤ (pos 1)) c → PassesFrom t (pos 0 -ℤ c)
     flat_passes x y g h =
         let k = goes_up p.y r.y q.y (omega (arith, ints)) in
         let l = goes_up r.y p.y q.y (omega (arith, ints)) in
-        subst (λ (z : ℤ). Passes (t *ℤ q.d) z (p.x *ℤ q.d -ℤ q.x) (p.y *ℤ q.d -ℤ q.y) (r.x *ℤ q.d -ℤ q.x)
+        subst (λ (z : ℤ). Passes (t *ℤ q.d) z (p.x *ℤ q.d -ℤ q.x) (p.y *ℤ q.d -ℤ q.y)
+            (r.x *ℤ q.d -ℤ q.x)
         (r.y *ℤ q.d -ℤ q.y)) (sym (minus_times c q.d))
-        (flat_line (c *ℤ q.d) (t *ℤ q.d) (u *ℤ q.d) sum_is (p.x *ℤ q.d -ℤ q.x) (p.y *ℤ q.d -ℤ q.y) (r.x *ℤ q.d -ℤ q.x)
+        (flat_line (c *ℤ q.d) (t *ℤ q.d) (u *ℤ q.d) sum_is (p.x *ℤ q.d -ℤ q.x) (p.y *ℤ q.d -ℤ q.y)
+            (r.x *ℤ q.d -ℤ q.x)
         (r.y *ℤ q.d -ℤ q.y) (goes_up p.x r.x q.x x) (omega (arith, ints, k, l)) g h)
 
     pub diagonal_right_passes : p.x ≤ℤ r.x → r.y -ℤ p.y ≡ r.x -ℤ p.x → FirstBy (neg_ℤ (pos 1)) (pos 1) u
@@ -177,23 +196,26 @@ module _ (p r : Pt) (q : Point) (d : pos 0 <ℤ q.d) where
     diagonal_right_passes x y g h =
         let k = steeper p.x r.x p.y r.y q.x q.y (omega (arith, ints)) in
         let l = steeper p.y r.y p.x r.x q.y q.x (omega (arith, ints)) in
-        subst (λ (z : ℤ). Passes (t *ℤ q.d) z (p.x *ℤ q.d -ℤ q.x) (p.y *ℤ q.d -ℤ q.y) (r.x *ℤ q.d -ℤ q.x)
+        subst (λ (z : ℤ). Passes (t *ℤ q.d) z (p.x *ℤ q.d -ℤ q.x) (p.y *ℤ q.d -ℤ q.y)
+            (r.x *ℤ q.d -ℤ q.x)
         (r.y *ℤ q.d -ℤ q.y)) (sym (minus_times c q.d))
-        (diagonal_right_line (c *ℤ q.d) (t *ℤ q.d) (u *ℤ q.d) sum_is (p.x *ℤ q.d -ℤ q.x) (p.y *ℤ q.d -ℤ q.y)
+        (diagonal_right_line (c *ℤ q.d) (t *ℤ q.d) (u *ℤ q.d) sum_is (p.x *ℤ q.d -ℤ q.x)
+            (p.y *ℤ q.d -ℤ q.y)
         (r.x *ℤ q.d -ℤ q.x) (r.y *ℤ q.d -ℤ q.y) (goes_up p.x r.x q.x x) (omega (arith, ints, k, l)) g h)
 
-    pub upright_passes : p.x ≡ r.x → p.y ≤ℤ r.y → FirstBy (neg_ℤ (pos 1)) (pos 0) c → FirstBy (pos 1) (pos 0) c
-        → PassesFrom c (pos 0 -ℤ t)
+    pub upright_passes : p.x ≡ r.x → p.y ≤ℤ r.y → FirstBy (neg_ℤ (pos 1)) (pos 0) c
+        → FirstBy (pos 1) (pos 0) c → PassesFrom c (pos 0 -ℤ t)
     upright_passes x y g h =
         let k = goes_up p.x r.x q.x (omega (arith, ints)) in
         let l = goes_up r.x p.x q.x (omega (arith, ints)) in
-        subst (λ (z : ℤ). Passes (c *ℤ q.d) z (p.x *ℤ q.d -ℤ q.x) (p.y *ℤ q.d -ℤ q.y) (r.x *ℤ q.d -ℤ q.x)
+        subst (λ (z : ℤ). Passes (c *ℤ q.d) z (p.x *ℤ q.d -ℤ q.x) (p.y *ℤ q.d -ℤ q.y)
+            (r.x *ℤ q.d -ℤ q.x)
         (r.y *ℤ q.d -ℤ q.y)) (sym (minus_times t q.d))
         (upright_line (c *ℤ q.d) (t *ℤ q.d) (u *ℤ q.d) sum_is (p.x *ℤ q.d -ℤ q.x) (p.y *ℤ q.d -ℤ q.y)
         (r.x *ℤ q.d -ℤ q.x) (r.y *ℤ q.d -ℤ q.y) (omega (arith, ints, k, l)) (goes_up p.y r.y q.y y) g h)
 
-    pub diagonal_left_passes : r.y -ℤ p.y ≡ p.x -ℤ r.x → p.y ≤ℤ r.y → FirstBy (neg_ℤ (pos 1)) (neg_ℤ (pos 1)) u
-        → FirstBy (pos 1) (pos 1) u → PassesFrom c t
+    pub diagonal_left_passes : r.y -ℤ p.y ≡ p.x -ℤ r.x → p.y ≤ℤ r.y
+        → FirstBy (neg_ℤ (pos 1)) (neg_ℤ (pos 1)) u → FirstBy (pos 1) (pos 1) u → PassesFrom c t
     diagonal_left_passes x y g h =
         let k = steeper r.x p.x p.y r.y q.x q.y (omega (arith, ints)) in
         let l = steeper p.y r.y r.x p.x q.y q.x (omega (arith, ints)) in

@@ -116,7 +116,8 @@ module _ (c : ℤ) (less : pos 0 <ℤ c) (p r : Pt) (x : p.x <ℤ r.x) (y : r.y 
           turns (neg_ℤ (pos 1)) (pos 0 -ℤ pos 1) (pos 1) (pos 0 -ℤ pos 1) (high c r) (left c p) (low c p) s2.step
               s3.step (omega (arith, ints)),
           (
-            turns (pos 1) (pos 0 -ℤ pos 1) (pos 1) (pos 0 -ℤ neg_ℤ (pos 1)) (left c p) (low c p) (right c r) s3.step
+            turns (pos 1) (pos 0 -ℤ pos 1) (pos 1) (pos 0 -ℤ neg_ℤ (pos 1)) (left c p) (low c p) (right c r)
+                s3.step
                 s0.step (omega (arith, ints)),
             tt,
           ),

@@ -125,19 +125,22 @@ module _ (c : ℤ) (less : pos 0 <ℤ c) (p r : Pt) (y : p.y <ℤ r.y) (x : (r.y
       turns (pos 1) (pos 0 -ℤ neg_ℤ (pos 1)) (neg_ℤ (pos 1)) (pos 0 -ℤ neg_ℤ (pos 1)) (low c p) (right c p)
           (high c p) s0.step s1.step (omega (arith, ints)),
       (
-        turns (neg_ℤ (pos 1)) (pos 0 -ℤ neg_ℤ (pos 1)) (r.x -ℤ p.x) (r.y -ℤ p.y) (right c p) (high c p) (high c r)
+        turns (neg_ℤ (pos 1)) (pos 0 -ℤ neg_ℤ (pos 1)) (r.x -ℤ p.x) (r.y -ℤ p.y) (right c p) (high c p)
+            (high c r)
             s1.step t2 (omega (arith, ints)),
         (
           turns (r.x -ℤ p.x) (r.y -ℤ p.y) (neg_ℤ (pos 1)) (pos 0 -ℤ pos 1) (high c p) (high c r) (left c r) t2
               s3.step (omega (arith, ints)),
           (
-            turns (neg_ℤ (pos 1)) (pos 0 -ℤ pos 1) (pos 1) (pos 0 -ℤ pos 1) (high c r) (left c r) (low c r) s3.step
+            turns (neg_ℤ (pos 1)) (pos 0 -ℤ pos 1) (pos 1) (pos 0 -ℤ pos 1) (high c r) (left c r) (low c r)
+                s3.step
                 s4.step (omega (arith, ints)),
             (
               turns (pos 1) (pos 0 -ℤ pos 1) (p.x -ℤ r.x) (p.y -ℤ r.y) (left c r) (low c r) (low c p) s4.step t5
                   (omega (arith, ints)),
               (
-                turns (p.x -ℤ r.x) (p.y -ℤ r.y) (pos 1) (pos 0 -ℤ neg_ℤ (pos 1)) (low c r) (low c p) (right c p) t5
+                turns (p.x -ℤ r.x) (p.y -ℤ r.y) (pos 1) (pos 0 -ℤ neg_ℤ (pos 1)) (low c r) (low c p) (right c p)
+                    t5
                     s0.step (omega (arith, ints)),
                 tt,
               ),

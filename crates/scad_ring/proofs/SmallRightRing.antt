@@ -61,7 +61,8 @@ module _ (c : ℤ) (less : pos 0 <ℤ c) (p r : Pt) (y : p.y ≤ℤ r.y) (x : (r
             ints,
           )) a.over_left,
           (
-            last_side (c *ℤ q.d) (c *ℤ q.d) q d p r a (neg_ℤ (pos 1)) (neg_ℤ (pos 1)) c (right c r) (high c r) s2
+            last_side (c *ℤ q.d) (c *ℤ q.d) q d p r a (neg_ℤ (pos 1)) (neg_ℤ (pos 1)) c (right c r) (high c r)
+                s2
                 (omega (arith, ints)) a.below_left,
             (
               over p r q d (pos 0) (pos 0 -ℤ c) (high c r) (high c p) s3 l,
@@ -123,19 +124,22 @@ module _ (c : ℤ) (less : pos 0 <ℤ c) (p r : Pt) (y : p.y ≤ℤ r.y) (x : (r
       ),
     );
     turns = (
-      turns (r.x -ℤ p.x) (r.y -ℤ p.y) (pos 1) (pos 0 -ℤ neg_ℤ (pos 1)) (low c p) (low c r) (right c r) t0 s1.step
+      turns (r.x -ℤ p.x) (r.y -ℤ p.y) (pos 1) (pos 0 -ℤ neg_ℤ (pos 1)) (low c p) (low c r) (right c r) t0
+          s1.step
           (omega (arith, ints)),
       (
         turns (pos 1) (pos 0 -ℤ neg_ℤ (pos 1)) (neg_ℤ (pos 1)) (pos 0 -ℤ neg_ℤ (pos 1)) (low c r) (right c r)
             (high c r) s1.step s2.step (omega (arith, ints)),
         (
-          turns (neg_ℤ (pos 1)) (pos 0 -ℤ neg_ℤ (pos 1)) (p.x -ℤ r.x) (p.y -ℤ r.y) (right c r) (high c r) (high c p)
+          turns (neg_ℤ (pos 1)) (pos 0 -ℤ neg_ℤ (pos 1)) (p.x -ℤ r.x) (p.y -ℤ r.y) (right c r) (high c r)
+              (high c p)
               s2.step t3 (omega (arith, ints)),
           (
             turns (p.x -ℤ r.x) (p.y -ℤ r.y) (neg_ℤ (pos 1)) (pos 0 -ℤ pos 1) (high c r) (high c p) (left c p) t3
                 s4.step (omega (arith, ints)),
             (
-              turns (neg_ℤ (pos 1)) (pos 0 -ℤ pos 1) (pos 1) (pos 0 -ℤ pos 1) (high c p) (left c p) (low c p) s4.step
+              turns (neg_ℤ (pos 1)) (pos 0 -ℤ pos 1) (pos 1) (pos 0 -ℤ pos 1) (high c p) (left c p) (low c p)
+                  s4.step
                   s5.step (omega (arith, ints)),
               (
                 turns (pos 1) (pos 0 -ℤ pos 1) (r.x -ℤ p.x) (r.y -ℤ p.y) (left c p) (low c p) (low c r) s5.step t0

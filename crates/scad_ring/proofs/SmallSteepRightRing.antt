@@ -65,7 +65,8 @@ module _ (c : ℤ) (less : pos 0 <ℤ c) (p r : Pt) (x : (r.x -ℤ p.x) <ℤ (r.
           (
             under p r q d c (pos 0) (right c p) (right c r) s1 l,
             (
-              last_side (c *ℤ q.d) (c *ℤ q.d) q d p r a (neg_ℤ (pos 1)) (neg_ℤ (pos 1)) c (right c r) (high c r) s2
+              last_side (c *ℤ q.d) (c *ℤ q.d) q d p r a (neg_ℤ (pos 1)) (neg_ℤ (pos 1)) c (right c r) (high c r)
+                  s2
                   (omega (arith, ints)) a.below_left,
               (
                 last_side (c *ℤ q.d) (c *ℤ q.d) q d p r a (pos 1) (neg_ℤ (pos 1)) c (high c r) (left c r) s3
@@ -127,19 +128,24 @@ module _ (c : ℤ) (less : pos 0 <ℤ c) (p r : Pt) (x : (r.x -ℤ p.x) <ℤ (r.
         ),
       );
       turns = (
-        turns (pos 1) (pos 0 -ℤ neg_ℤ (pos 1)) (r.x -ℤ p.x) (r.y -ℤ p.y) (low c p) (right c p) (right c r) s0.step t1
+        turns (pos 1) (pos 0 -ℤ neg_ℤ (pos 1)) (r.x -ℤ p.x) (r.y -ℤ p.y) (low c p) (right c p) (right c r)
+            s0.step t1
             (omega (arith, ints)),
         (
-          turns (r.x -ℤ p.x) (r.y -ℤ p.y) (neg_ℤ (pos 1)) (pos 0 -ℤ neg_ℤ (pos 1)) (right c p) (right c r) (high c r)
+          turns (r.x -ℤ p.x) (r.y -ℤ p.y) (neg_ℤ (pos 1)) (pos 0 -ℤ neg_ℤ (pos 1)) (right c p) (right c r)
+              (high c r)
               t1 s2.step (omega (arith, ints)),
           (
-            turns (neg_ℤ (pos 1)) (pos 0 -ℤ neg_ℤ (pos 1)) (neg_ℤ (pos 1)) (pos 0 -ℤ pos 1) (right c r) (high c r)
+            turns (neg_ℤ (pos 1)) (pos 0 -ℤ neg_ℤ (pos 1)) (neg_ℤ (pos 1)) (pos 0 -ℤ pos 1) (right c r)
+                (high c r)
                 (left c r) s2.step s3.step (omega (arith, ints)),
             (
-              turns (neg_ℤ (pos 1)) (pos 0 -ℤ pos 1) (p.x -ℤ r.x) (p.y -ℤ r.y) (high c r) (left c r) (left c p) s3.step
+              turns (neg_ℤ (pos 1)) (pos 0 -ℤ pos 1) (p.x -ℤ r.x) (p.y -ℤ r.y) (high c r) (left c r) (left c p)
+                  s3.step
                   t4 (omega (arith, ints)),
               (
-                turns (p.x -ℤ r.x) (p.y -ℤ r.y) (pos 1) (pos 0 -ℤ pos 1) (left c r) (left c p) (low c p) t4 s5.step
+                turns (p.x -ℤ r.x) (p.y -ℤ r.y) (pos 1) (pos 0 -ℤ pos 1) (left c r) (left c p) (low c p) t4
+                    s5.step
                     (omega (arith, ints)),
                 (
                   turns (pos 1) (pos 0 -ℤ pos 1) (pos 1) (pos 0 -ℤ neg_ℤ (pos 1)) (left c p) (low c p) (right c p)

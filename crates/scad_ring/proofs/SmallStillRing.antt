@@ -76,7 +76,8 @@ module _ (c : ℤ) (less : pos 0 <ℤ c) (p r : Pt) (x : p.x ≡ r.x) (y : p.y �
       let g2 = side_gap (pos 1) (neg_ℤ (pos 1)) c q p (high c r) (left c p) s2 s.1.1.0 in
       let g3 = side_gap (pos 1) (pos 1) c q p (left c p) (low c p) s3 s.1.1.1.0 in
       approach_four_point (c *ℤ q.d) (p.x *ℤ q.d -ℤ q.x) (p.y *ℤ q.d -ℤ q.y) (r.x *ℤ q.d -ℤ q.x)
-      (r.y *ℤ q.d -ℤ q.y) (ap (λ (z : ℤ). z *ℤ q.d -ℤ q.x) x) (ap (λ (z : ℤ). z *ℤ q.d -ℤ q.y) y) (inl g3)
+      (r.y *ℤ q.d -ℤ q.y) (ap (λ (z : ℤ). z *ℤ q.d -ℤ q.x) x) (ap (λ (z : ℤ). z *ℤ q.d -ℤ q.y) y)
+          (inl g3)
       (inl g2) (inl g0) (inr g1)
 
   pub still_round : IsRingRound c c p r (four_sided c p r Still)
@@ -108,7 +109,8 @@ module _ (c : ℤ) (less : pos 0 <ℤ c) (p r : Pt) (x : p.x ≡ r.x) (y : p.y �
           turns (neg_ℤ (pos 1)) (pos 0 -ℤ pos 1) (pos 1) (pos 0 -ℤ pos 1) (high c r) (left c p) (low c p) s2.step
               s3.step (omega (arith, ints)),
           (
-            turns (pos 1) (pos 0 -ℤ pos 1) (pos 1) (pos 0 -ℤ neg_ℤ (pos 1)) (left c p) (low c p) (right c r) s3.step
+            turns (pos 1) (pos 0 -ℤ pos 1) (pos 1) (pos 0 -ℤ neg_ℤ (pos 1)) (left c p) (low c p) (right c r)
+                s3.step
                 s0.step (omega (arith, ints)),
             tt,
           ),

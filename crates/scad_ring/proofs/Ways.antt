@@ -46,7 +46,8 @@ module _ (p r : Pt) (forward : (p.y <ℤ r.y) ⊎ ((p.y ≡ r.y) × (p.x ≤ℤ 
       → F (direction_of (r.x -ℤ p.x) (r.y -ℤ p.y))
   unfolding direction_of
   by_direction F still flat right diagonal_right steep_right upright steep_left diagonal_left left =
-      by_y (int_lt (pos 0) (r.y -ℤ p.y)) (int_lt (pos 0) (r.x -ℤ p.x)) (int_lt (r.x -ℤ p.x) (pos 0)) refl refl refl
+      by_y (int_lt (pos 0) (r.y -ℤ p.y)) (int_lt (pos 0) (r.x -ℤ p.x)) (int_lt (r.x -ℤ p.x) (pos 0)) refl refl
+          refl
     where
       to_right : int_lt (pos 0) (r.x -ℤ p.x) ≡ true → int_lt (pos 0) (r.y -ℤ p.y) ≡ true → (t u : Bool)
           → int_lt (r.y -ℤ p.y) (r.x -ℤ p.x) ≡ t → int_lt (r.x -ℤ p.x) (r.y -ℤ p.y) ≡ u
@@ -56,7 +57,8 @@ module _ (p r : Pt) (forward : (p.y <ℤ r.y) ⊎ ((p.y ≡ r.y) × (p.x ≤ℤ 
       to_right x y false false q s = diagonal_right (omega (arith, ints)) (omega (arith, ints))
 
       to_left : int_lt (r.x -ℤ p.x) (pos 0) ≡ true → int_lt (pos 0) (r.y -ℤ p.y) ≡ true → (t u : Bool)
-          → int_lt (r.y -ℤ p.y) (neg_ℤ (r.x -ℤ p.x)) ≡ t → int_lt (neg_ℤ (r.x -ℤ p.x)) (r.y -ℤ p.y) ≡ u
+          → int_lt (r.y -ℤ p.y) (neg_ℤ (r.x -ℤ p.x)) ≡ t
+          → int_lt (neg_ℤ (r.x -ℤ p.x)) (r.y -ℤ p.y) ≡ u
           → F (if t then Left else (if u then SteepLeft else DiagonalLeft))
       to_left x y true u q s = left (omega (arith, ints)) (omega (arith, ints))
       to_left x y false true q s = steep_left (omega (arith, ints)) (omega (arith, ints))
@@ -80,7 +82,8 @@ module _ (p r : Pt) (forward : (p.y <ℤ r.y) ⊎ ((p.y ≡ r.y) × (p.x ≤ℤ 
           then SteepLeft else DiagonalLeft))
           else Upright))
           else (if u then Flat else Still))
-      by_y true true v y x z = to_right x y (int_lt (r.y -ℤ p.y) (r.x -ℤ p.x)) (int_lt (r.x -ℤ p.x) (r.y -ℤ p.y))
+      by_y true true v y x z = to_right x y (int_lt (r.y -ℤ p.y) (r.x -ℤ p.x))
+          (int_lt (r.x -ℤ p.x) (r.y -ℤ p.y))
           refl refl
       by_y true false true y x z = to_left z y (int_lt (r.y -ℤ p.y) (neg_ℤ (r.x -ℤ p.x)))
           (int_lt (neg_ℤ (r.x -ℤ p.x)) (r.y -ℤ p.y)) refl refl
@@ -96,7 +99,8 @@ module _ (p r : Pt) (forward : (p.y <ℤ r.y) ⊎ ((p.y ≡ r.y) × (p.x ≤ℤ 
       (upright_round c t u sum some less p r) (steep_left_round c t u sum some less p r)
       (diagonal_left_round c t u sum some less p r) (left_round c t u sum some less p r)
 
-  four : (c : ℤ) → pos 0 <ℤ c → IsRingRound c c p r (four_sided c p r (direction_of (r.x -ℤ p.x) (r.y -ℤ p.y)))
+  four : (c : ℤ) → pos 0 <ℤ c → IsRingRound c c p r
+      (four_sided c p r (direction_of (r.x -ℤ p.x) (r.y -ℤ p.y)))
   four c some = by_direction (λ w. IsRingRound c c p r (four_sided c p r w))
       (small_still.still_round c some p r)
       (λ x y. small_right.right_round c some p r (omega (arith, ints)) (omega (arith, ints)))

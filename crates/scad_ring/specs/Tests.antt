@@ -1,4 +1,5 @@
--- The tests by which `octagon_meets` decides, of a segment from a to b that doesn't fall, as the point sees it. Only the
+-- The tests by which `octagon_meets` decides, of a segment from a to b that doesn't fall, as the point sees it. Only
+-- the
 -- contracts of its parts cite them; what it promises is said in Nearness.
 use Rattle.std.specs.Prelude.{Bool, if◌then◌else◌, ◌&&◌, ◌||◌, ℤ, pos, neg_ℤ, ◌+ℤ◌, ◌-ℤ◌, ◌*ℤ◌, int_le}
 
@@ -22,5 +23,6 @@ breadth s t x y =
 -- none of the octagon's half planes leaves out both ends, and the segment's line passes between the octagon's corners
 abbrev pub passes : ℤ → ℤ → ℤ → ℤ → ℤ → ℤ → Bool
 passes s u ax ay bx by =
-    overlaps s ax bx && (overlaps s ay by && (overlaps u (ax +ℤ ay) (bx +ℤ by) && (overlaps u (ax -ℤ ay) (bx -ℤ by)
+    overlaps s ax bx && (overlaps s ay by &&
+        (overlaps u (ax +ℤ ay) (bx +ℤ by) && (overlaps u (ax -ℤ ay) (bx -ℤ by)
     && is_size (breadth s (u -ℤ s) (bx -ℤ ax) (by -ℤ ay)) (ax *ℤ by -ℤ ay *ℤ bx))))

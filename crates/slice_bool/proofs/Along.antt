@@ -39,7 +39,8 @@ runs_up : (n : ℕ) → 0 < n → pos 0 <ℤ pos n
 runs_up n h = omega (arith, ints)
 
 -- nor do they lie to the right of a spot further right
-not_right_on : (es : List LeafEdge) (s t : Spot) (b : List ℕ) → 0 < s.run → 0 < t.run → s.at ≡ t.at → IsLeft s t → RisesFirst es b
+not_right_on : (es : List LeafEdge) (s t : Spot) (b : List ℕ) → 0 < s.run → 0 < t.run → s.at ≡ t.at
+    → IsLeft s t → RisesFirst es b
     → is_right_of es (point_of s) b ≡ false → is_right_of es (point_of t) b ≡ false
 not_right_on es s t [] rs rt q o r h = refl
 not_right_on es s t (k ∷ ks) rs rt q o r h =
@@ -58,14 +59,14 @@ any_bundle [] k d e h = absurd (omega arith)
 any_bundle (b ∷ bs) zero d e h = refl
 any_bundle (b ∷ bs) (suc k) d e h = any_bundle bs k d e (omega arith)
 
-pub first_there : (es : List LeafEdge) (bs : List (List ℕ)) (k : ℕ) (d : List ℕ) → AllByRecursion (RisesFirst es) bs → k < length bs
-    → RisesFirst es (get_or bs k d)
+pub first_there : (es : List LeafEdge) (bs : List (List ℕ)) (k : ℕ) (d : List ℕ)
+    → AllByRecursion (RisesFirst es) bs → k < length bs → RisesFirst es (get_or bs k d)
 first_there es [] k d a h = absurd (omega arith)
 first_there es (b ∷ bs) zero d a h = a.0
 first_there es (b ∷ bs) (suc k) d a h = first_there es bs k d a.1 (omega arith)
 
-pub passed_more : (es : List LeafEdge) (p : Point) (bs : List (List ℕ)) (from k : ℕ) (b : List ℕ) → b ≡ get_or bs k b
-    → k < length bs → is_right_of es p b ≡ false
+pub passed_more : (es : List LeafEdge) (p : Point) (bs : List (List ℕ)) (from k : ℕ) (b : List ℕ)
+    → b ≡ get_or bs k b → k < length bs → is_right_of es p b ≡ false
     → ((j : ℕ) (d : List ℕ) → from ≤ j → j < k → is_right_of es p (get_or bs j d) ≡ false)
     → (j : ℕ) (d : List ℕ) → from ≤ j → j < k + 1 → is_right_of es p (get_or bs j d) ≡ false
 passed_more es p bs from k b q t h f j d o c = elim (cases_lt j k) [
@@ -84,7 +85,8 @@ skip_passed es p (b ∷ bs) (suc n) h = pass_on es p b bs (h 0 [] (omega arith))
     (λ j d o. h (suc j) d (omega arith))
 
 at_first : (es : List LeafEdge) (p : Point) (bs : List (List ℕ)) (n : ℕ) → n ≤ length bs
-    → ((d : List ℕ) → n < length bs → is_right_of es p (get_or bs n d) ≡ true) → passing es true p (drop n bs) ≡ drop n bs
+    → ((d : List ℕ) → n < length bs → is_right_of es p (get_or bs n d) ≡ true)
+    → passing es true p (drop n bs) ≡ drop n bs
 at_first es p [] zero b g = refl
 at_first es p [] (suc n) b g = absurd (omega arith)
 at_first es p (c ∷ bs) zero b g = pass_here es p c bs (g [] (omega arith))
@@ -92,7 +94,8 @@ at_first es p (c ∷ bs) (suc n) b g = at_first es p bs n (omega arith) (λ d o.
 
 pub from_first : (es : List LeafEdge) (p : Point) (bs : List (List ℕ)) (n : ℕ) → n ≤ length bs
     → ((j : ℕ) (d : List ℕ) → j < n → is_right_of es p (get_or bs j d) ≡ false)
-    → ((d : List ℕ) → n < length bs → is_right_of es p (get_or bs n d) ≡ true) → passing es true p bs ≡ drop n bs
+    → ((d : List ℕ) → n < length bs → is_right_of es p (get_or bs n d) ≡ true)
+    → passing es true p bs ≡ drop n bs
 from_first es p bs n b h g = skip_passed es p bs n h ∙ at_first es p bs n b g
 
 -- ---- from stop to stop
@@ -102,24 +105,27 @@ any_stop (s ∷ ss) zero d e h = refl
 any_stop (s ∷ ss) (suc i) d e h = any_stop ss i d e (omega arith)
 
 go_at : (ss : List Stop) (i : ℕ) (s t : Stop) → GoAlong (spots_in ss) → suc i < length ss
-    → ((get_or ss i s).spot.at ≡ (get_or ss (suc i) t).spot.at) × IsLeft (get_or ss i s).spot (get_or ss (suc i) t).spot
+    → ((get_or ss i s).spot.at ≡ (get_or ss (suc i) t).spot.at)
+    × IsLeft (get_or ss i s).spot (get_or ss (suc i) t).spot
 go_at [] i s t g h = absurd (omega arith)
 go_at (x ∷ []) i s t g h = absurd (omega arith)
 go_at (x ∷ (y ∷ ss)) zero s t g h = (g.0, g.1)
 go_at (x ∷ (y ∷ ss)) (suc i) s t g h = go_at (y ∷ ss) i s t g.2 (omega arith)
 
-pub passed_both : (es : List LeafEdge) (bs : List (List ℕ)) (ss : List Stop) (i from k : ℕ) (s : Stop) → s ≡ get_or ss i s
-    → i < length ss
-    → ((j : ℕ) (d : List ℕ) (e : Stop) → j < from → i < length ss → is_right_of es (point_of (get_or ss i e).spot) (get_or bs j d) ≡ false)
-    → ((j : ℕ) (d : List ℕ) → from ≤ j → j < k → is_right_of es (point_of s.spot) (get_or bs j d) ≡ false)
+pub passed_both : (es : List LeafEdge) (bs : List (List ℕ)) (ss : List Stop) (i from k : ℕ) (s : Stop)
+    → s ≡ get_or ss i s → i < length ss
+    → ((j : ℕ) (d : List ℕ) (e : Stop) → j < from → i < length ss
+    → is_right_of es (point_of (get_or ss i e).spot) (get_or bs j d) ≡ false)
+    → ((j : ℕ) (d : List ℕ) → from ≤ j → j < k
+    → is_right_of es (point_of s.spot) (get_or bs j d) ≡ false)
     → (j : ℕ) (d : List ℕ) → j < k → is_right_of es (point_of s.spot) (get_or bs j d) ≡ false
 passed_both es bs ss i from k s q h f g j d o = elim (cases_lt j from) [
   | inl a ↦ ap (λ (s : Stop). is_right_of es (point_of s.spot) (get_or bs j d)) q ∙ f j d s a h
   | inr a ↦ g j d a o
 ]
 
-pub passed_next : (es : List LeafEdge) (bs : List (List ℕ)) (ss : List Stop) (i k : ℕ) (s : Stop) → s ≡ get_or ss i s
-    → GoAlong (spots_in ss) → AllByRecursion (RisesFirst es) bs → k ≤ length bs
+pub passed_next : (es : List LeafEdge) (bs : List (List ℕ)) (ss : List Stop) (i k : ℕ) (s : Stop)
+    → s ≡ get_or ss i s → GoAlong (spots_in ss) → AllByRecursion (RisesFirst es) bs → k ≤ length bs
     → ((j : ℕ) (d : List ℕ) → j < k → is_right_of es (point_of s.spot) (get_or bs j d) ≡ false)
     → (j : ℕ) (d : List ℕ) (e : Stop) → j < k → i + 1 < length ss
     → is_right_of es (point_of (get_or ss (i + 1) e).spot) (get_or bs j d) ≡ false
@@ -130,10 +136,12 @@ passed_next es bs ss i k s q g a b f j d e o h =
     let at : s.spot.at ≡ t.spot.at = ap (λ (s : Stop). s.spot.at) q ∙ r.0 in
     let left : IsLeft s.spot t.spot = subst (λ (s : Stop). IsLeft s.spot t.spot) (sym q) r.1 in
     subst (λ (m : ℕ). is_right_of es (point_of (get_or ss m e).spot) (get_or bs j d) ≡ false) n
-    (not_right_on es s.spot t.spot (get_or bs j d) s.runs t.runs at left (first_there es bs j d a (omega arith)) (f j d o))
+    (not_right_on es s.spot t.spot (get_or bs j d) s.runs t.runs at left (first_there es bs j d a (omega arith))
+        (f j d o))
 
 pub value_more : (P : ℕ → Bool) (vs : List Bool) (v : Bool) (i : ℕ) → length vs ≡ i
-    → ((k : ℕ) → k < i → get_or vs k false ≡ P k) → v ≡ P i → (k : ℕ) → k < i + 1 → get_or (vs ++ (v ∷ [])) k false ≡ P k
+    → ((k : ℕ) → k < i → get_or vs k false ≡ P k) → v ≡ P i → (k : ℕ) → k < i + 1
+    → get_or (vs ++ (v ∷ [])) k false ≡ P k
 value_more P vs v i l h e k b = elim (cases_lt k i) [
   | inl q ↦ before vs k (omega arith) ∙ h k q
   | inr q ↦ let r : i ≡ k = omega arith in at_end vs k (l ∙ r) ∙ e ∙ ap P r
@@ -156,14 +164,15 @@ go_along at [] a g = tt
 go_along at (s ∷ []) a g = tt
 go_along at (s ∷ (t ∷ ss)) a g = (a.0.at ∙ sym a.1.0.at, g.0, go_along at (t ∷ ss) a.1 g.1)
 
-spot_at : (at : Level) (ss : List Stop) (k : ℕ) (d : Stop) → AllByRecursion (IsSpotAt at) (spots_in ss) → k < length ss
-    → (get_or ss k d).spot.at ≡ at
+spot_at : (at : Level) (ss : List Stop) (k : ℕ) (d : Stop) → AllByRecursion (IsSpotAt at) (spots_in ss)
+    → k < length ss → (get_or ss k d).spot.at ≡ at
 spot_at at [] k d a h = absurd (omega arith)
 spot_at at (s ∷ ss) zero d a h = a.0.at
 spot_at at (s ∷ ss) (suc k) d a h = spot_at at ss k d a.1 (omega arith)
 
 -- the values beside the bundles are what the shape holds
-pub along_beside : (above : Bool) (es : List LeafEdge) (shape : Shape) (at : Level) (bs : List (List ℕ)) (ss : List Stop) (vs : List Bool)
+pub along_beside : (above : Bool) (es : List LeafEdge) (shape : Shape) (at : Level) (bs : List (List ℕ))
+    (ss : List Stop) (vs : List Bool)
     → AllByRecursion (IsSpotAt at) (spots_in ss) → TellBeside above es shape at bs → AreBeside es shape bs ss vs
     → AreAlong above es shape ss vs
 along_beside above es shape at bs ss vs a tell b = record {
@@ -172,7 +181,8 @@ along_beside above es shape at bs ss vs a tell b = record {
 }
 
 -- the piece by the values
-pub covered_by : (es : List LeafEdge) (shape : Shape) (s t : Spot) (v w : Bool) → v ≡ is_in_by true true es shape (point_of s)
+pub covered_by : (es : List LeafEdge) (shape : Shape) (s t : Spot) (v w : Bool)
+    → v ≡ is_in_by true true es shape (point_of s)
     → w ≡ is_in_by false true es shape (point_of s) → (name : Option ℕ)
     → covered_piece v w s t name ≡ stretch_piece es shape s t name
 covered_by es shape s t v w a b None = refl

@@ -90,7 +90,8 @@ not_before_itself : (l : Level) (e : Edge) → IsBefore l e e → ⊥
 not_before_itself l e (inl h) = omega (arith, ints)
 not_before_itself l e (inr h) = let k = h.1 in omega (arith, ints)
 
-others_named : (k : ℕ) (v w : Bool) (s t : Spot) (name : ℕ) → (name ≡ k → ⊥) → AllByRecursion (λ r. r.edge ≡ k → ⊥)
+others_named : (k : ℕ) (v w : Bool) (s t : Spot) (name : ℕ) → (name ≡ k → ⊥)
+    → AllByRecursion (λ r. r.edge ≡ k → ⊥)
     (piece_between v w s t name)
 others_named k true true s t name h = tt
 others_named k true false s t name h = (h, tt)
@@ -120,18 +121,21 @@ module _ (es : List LeafEdge) (shape : Shape) where
   slab_inside l u n [] r ls = tt
   slab_inside l u n ([] ∷ bs) r ls = absurd r.0
   slab_inside l u n ((k ∷ ks) ∷ bs) r ls =
-      AllByRecursion-append (AllInside (Between l u)) (bundle_piece es shape l u (k ∷ ks)) (slab_pieces es shape l u bs)
+      AllByRecursion-append (AllInside (Between l u)) (bundle_piece es shape l u (k ∷ ks))
+          (slab_pieces es shape l u bs)
       (between_inside (Between l u) (is_in_by true false es shape (half_point es l u k))
       (is_in_by true true es shape (half_point es l u k)) (spot_on (edge_at es k) l) (spot_on (edge_at es k) u) k
       (high_divisor es shape l u n k ls.0) (λ p dp i. inside_slab es shape l u n k ls.0 p dp i))
       (slab_inside l u n bs r.2 (back (IsLive es l u) (k ∷ ks) (concat bs) ls))
 
-  later_named : (l u : Level) (k : ℕ) (ks : List ℕ) (bs : List (List ℕ)) → AllByRecursion (Precedes es l (k ∷ ks)) bs
+  later_named : (l u : Level) (k : ℕ) (ks : List ℕ) (bs : List (List ℕ))
+      → AllByRecursion (Precedes es l (k ∷ ks)) bs
       → AllByRecursion (λ r. r.edge ≡ k → ⊥) (slab_pieces es shape l u bs)
   later_named l u k ks [] h = tt
   later_named l u k ks ([] ∷ bs) h = absurd h.0
   later_named l u k ks ((j ∷ js) ∷ bs) h =
-      AllByRecursion-append (λ r. r.edge ≡ k → ⊥) (bundle_piece es shape l u (j ∷ js)) (slab_pieces es shape l u bs)
+      AllByRecursion-append (λ r. r.edge ≡ k → ⊥) (bundle_piece es shape l u (j ∷ js))
+          (slab_pieces es shape l u bs)
       (others_named k (is_in_by true false es shape (half_point es l u j))
       (is_in_by true true es shape (half_point es l u j)) (spot_on (edge_at es j) l) (spot_on (edge_at es j) u) j
       (λ e. not_before_itself l (edge_at es k) (subst (λ (i : ℕ). IsBefore l (edge_at es k) (edge_at es i)) e h.0)))
@@ -214,7 +218,8 @@ module _ (es : List LeafEdge) (shape : Shape) where
   abbrev Under : Level → Point → Type 0
   Under u p = IsLower (level_at p) u
 
-  from_all : (l : Level) (ls : List Level) (pieces : List Piece) → AllByRecursion (λ (l : Level). pos 0 <ℤ l.d) (l ∷ ls)
+  from_all : (l : Level) (ls : List Level) (pieces : List Piece)
+      → AllByRecursion (λ (l : Level). pos 0 <ℤ l.d) (l ∷ ls)
       → IsRising (l ∷ ls) → AllByRecursion (UpTo l ls) (heights es)
       → AreLevelPieces es shape (l ∷ ls) pieces → AllByRecursion (AllInside (From l)) pieces
   from_all l [] pieces d r h a = subst (AllByRecursion (AllInside (From l))) (sym a.2)
@@ -257,7 +262,8 @@ module _ (es : List LeafEdge) (shape : Shape) where
   by_levels : (ls : List Level) (pieces : List Piece) → AreLevels es ls → AreLevelPieces es shape ls pieces
       → AllPairs AreApartByName pieces
   by_levels [] pieces v a = subst (AllPairs AreApartByName) (sym a) tt
-  by_levels (l ∷ ls) pieces v a = levels_apart l ls pieces v.divisors v.rising (at_first l ls (heights es) v.complete) a
+  by_levels (l ∷ ls) pieces v a = levels_apart l ls pieces v.divisors v.rising (at_first l ls (heights es) v.complete)
+      a
 
 pub pieces_are_apart : (es : List LeafEdge) (shape : Shape) (pieces : List Piece) → ArePieces es shape pieces
     → AllPairs AreApartByName pieces

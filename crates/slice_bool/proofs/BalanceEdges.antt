@@ -46,39 +46,46 @@ total f (q ∷ qs) = f q +ℤ total f qs
 
 tally-starts : (p : Pt) (es : List Edge) → count_by (λ e. same_place p e.a) es ≡ tally p (starts es)
 tally-starts p [] = refl
-tally-starts p (e ∷ es) = sum_by-cons (λ x. once (same_place p x.a)) e es ∙ ap (λ (n : ℕ). once (same_place p e.a) + n)
+tally-starts p (e ∷ es) = sum_by-cons (λ x. once (same_place p x.a)) e es
+    ∙ ap (λ (n : ℕ). once (same_place p e.a) + n)
     (tally-starts p es)
 
 tally-ends : (p : Pt) (es : List Edge) → count_by (λ e. same_place p e.b) es ≡ tally p (ends es)
 tally-ends p [] = refl
-tally-ends p (e ∷ es) = sum_by-cons (λ x. once (same_place p x.b)) e es ∙ ap (λ (n : ℕ). once (same_place p e.b) + n)
+tally-ends p (e ∷ es) = sum_by-cons (λ x. once (same_place p x.b)) e es
+    ∙ ap (λ (n : ℕ). once (same_place p e.b) + n)
     (tally-ends p es)
 
 abbrev without : Pt → List Pt → List Pt
 without p [] = []
 without p (q ∷ qs) = cond (same_place p q) qs (q ∷ without p qs)
 
-tally-without : (x p : Pt) (qs : List Pt) → 1 ≤ tally x qs → tally p qs ≡ once (same_place p x) + tally p (without x qs)
+tally-without : (x p : Pt) (qs : List Pt) → 1 ≤ tally x qs
+    → tally p qs ≡ once (same_place p x) + tally p (without x qs)
 tally-without x p [] h = absurd (omega arith)
 tally-without x p (q ∷ qs) h = by_test (same_place x q) refl h (tally-without x p qs)
   where
     by_test : (t : Bool) → same_place x q ≡ t → 1 ≤ once t + tally x qs
-        → (1 ≤ tally x qs → tally p qs ≡ once (same_place p x) + tally p (without x qs)) → once (same_place p q) + tally
+        → (1 ≤ tally x qs → tally p qs ≡ once (same_place p x) + tally p (without x qs))
+        → once (same_place p q) + tally
         p qs ≡ once (same_place p x) + tally p (cond t qs (q ∷ without x qs))
     by_test true e h r = ap (λ (r : Pt). once (same_place p r) + tally p qs) (sym (same_place-is x q e))
     by_test false e h r = let s = r (omega arith) in omega arith
 
-total-without : (f : Pt → ℤ) (x : Pt) (qs : List Pt) → 1 ≤ tally x qs → total f qs ≡ f x +ℤ total f (without x qs)
+total-without : (f : Pt → ℤ) (x : Pt) (qs : List Pt) → 1 ≤ tally x qs
+    → total f qs ≡ f x +ℤ total f (without x qs)
 total-without f x [] h = absurd (omega arith)
 total-without f x (q ∷ qs) h = by_test (same_place x q) refl h (total-without f x qs)
   where
     by_test : (t : Bool) → same_place x q ≡ t → 1 ≤ once t + tally x qs
-        → (1 ≤ tally x qs → total f qs ≡ f x +ℤ total f (without x qs)) → f q +ℤ total f qs ≡ f x +ℤ total f
+        → (1 ≤ tally x qs → total f qs ≡ f x +ℤ total f (without x qs))
+        → f q +ℤ total f qs ≡ f x +ℤ total f
         (cond t qs (q ∷ without x qs))
     by_test true e h r = ap (λ (r : Pt). f r +ℤ total f qs) (sym (same_place-is x q e))
     by_test false e h r = sum_with (f q) (total f qs) (f x) (total f (without x qs)) (r (omega arith))
 
-total-same : (f : Pt → ℤ) (ps qs : List Pt) → ((p : Pt) → tally p ps ≡ tally p qs) → total f ps ≡ total f qs
+total-same : (f : Pt → ℤ) (ps qs : List Pt) → ((p : Pt) → tally p ps ≡ tally p qs)
+    → total f ps ≡ total f qs
 total-same f [] [] h = refl
 total-same f [] (q ∷ qs) h =
     let t = h q in
@@ -91,7 +98,8 @@ total-same f (p ∷ ps) qs h =
     ap (λ (z : ℤ). f p +ℤ z) (total-same f ps (without p qs) (λ q. let a = h q in let b = tally-without p q qs some in omega arith))
     ∙ sym (total-without f p qs some)
 
-balanced_totals : (f : Pt → ℤ) (es : List Edge) → IsBalanced (segments es) → total f (starts es) ≡ total f (ends es)
+balanced_totals : (f : Pt → ℤ) (es : List Edge) → IsBalanced (segments es)
+    → total f (starts es) ≡ total f (ends es)
 balanced_totals f es h = total-same f (starts es) (ends es) (λ p. sym (tally-starts p es) ∙ whole_balance es h p ∙
     tally-ends p es)
 
@@ -115,17 +123,21 @@ edge_step right p dp e h =
     none x y h = omega (arith, ints)
 
     flat : e.edge.a.y ≡ e.edge.b.y
-        → turn true right p (whole e.edge.a) (whole e.edge.b) -ℤ turn false right p (whole e.edge.a) (whole e.edge.b)
+        → turn true right p (whole e.edge.a) (whole e.edge.b) -ℤ turn false right p (whole e.edge.a)
+        (whole e.edge.b)
         ≡ ahead right p (whole e.edge.a) -ℤ ahead right p (whole e.edge.b)
-    flat level = ap₂ (λ (y z : ℤ). y -ℤ z) (level_turn true right p e.edge level) (level_turn false right p e.edge
+    flat level = ap₂ (λ (y z : ℤ). y -ℤ z) (level_turn true right p e.edge level)
+        (level_turn false right p e.edge
         level) ∙ none (ahead right p (whole e.edge.a)) (ahead right p (whole e.edge.b)) (h level)
 
-by_leaf : (t : Bool) (f : Pt → ℤ) (e : LeafEdge) (fs : List LeafEdge) (a b x y : ℤ) → a -ℤ b ≡ f e.edge.a -ℤ f e.edge.b
+by_leaf : (t : Bool) (f : Pt → ℤ) (e : LeafEdge) (fs : List LeafEdge) (a b x y : ℤ)
+    → a -ℤ b ≡ f e.edge.a -ℤ f e.edge.b
     → x -ℤ y ≡ total f (starts (map (λ d. d.edge) fs)) -ℤ total f (ends (map (λ d. d.edge) fs))
     → ((if t then a else pos 0) +ℤ x) -ℤ ((if t then b else pos 0) +ℤ y)
     ≡ total f (starts (map (λ d. d.edge) (cond t (e ∷ fs) fs))) -ℤ total f
     (ends (map (λ d. d.edge) (cond t (e ∷ fs) fs)))
-by_leaf true f e fs a b x y h k = sums_apart a b (f e.edge.a) (f e.edge.b) x y (total f (starts (map (λ d. d.edge) fs)))
+by_leaf true f e fs a b x y h k = sums_apart a b (f e.edge.a) (f e.edge.b) x y
+    (total f (starts (map (λ d. d.edge) fs)))
     (total f (ends (map (λ d. d.edge) fs))) h k
 by_leaf false f e fs a b x y h k = same x y (total f (starts (map (λ d. d.edge) fs)))
     (total f (ends (map (λ d. d.edge) fs))) k

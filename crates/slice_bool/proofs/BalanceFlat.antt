@@ -78,8 +78,8 @@ none_passes : (p : LeafEdge → Bool) (es : List LeafEdge) → nat_lt (position_
 none_passes p [] h = tt
 none_passes p (e ∷ es) h = by_test (p e) refl h (none_passes p es)
   where
-    by_test : (b : Bool) → p e ≡ b → nat_lt (cond (not b) (1 + position_or_len p es) 0) (length (e ∷ es)) ≡ false
-        → (nat_lt (position_or_len p es) (length es) ≡ false → AllByRecursion (λ e. p e ≡ false) es)
+    by_test : (b : Bool) → p e ≡ b → nat_lt (cond (not b) (1 + position_or_len p es) 0) (length (e ∷ es))
+        ≡ false → (nat_lt (position_or_len p es) (length es) ≡ false → AllByRecursion (λ e. p e ≡ false) es)
         → (p e ≡ false) × AllByRecursion (λ e. p e ≡ false) es
     by_test true q h r = absurd (first (length es) h)
       where
@@ -90,7 +90,8 @@ none_passes p (e ∷ es) h = by_test (p e) refl h (none_passes p es)
         less : (m n : ℕ) → nat_lt (1 + m) (suc n) ≡ false → nat_lt m n ≡ false
         less m n h = grind (arith, nat_tests)
 
-pub none_covers : (p : LeafEdge → Bool) (es : List LeafEdge) → position p es ≡ None → AllByRecursion (λ e. p e ≡ false)
+pub none_covers : (p : LeafEdge → Bool) (es : List LeafEdge) → position p es ≡ None
+    → AllByRecursion (λ e. p e ≡ false)
     es
 none_covers p es h = none_passes p es (by_test (nat_lt (position_or_len p es) (length es)) (position_or_len p es) h)
   where
@@ -107,10 +108,13 @@ spot_is_at l s h = subst (λ (m : Level). (m.n *ℤ pos s.run) *ℤ l.d ≡ l.n 
     (sym (mul_beside l.n l.d (pos s.run)))
 
 pub spot_divisor : (l : Level) (s : Spot) → pos 0 <ℤ l.d → IsSpotAt l s → pos 0 <ℤ (point_of s).d
-spot_divisor l s dl h = positive_product s.at.d (pos s.run) (subst (λ (m : Level). pos 0 <ℤ m.d) (sym h.at) dl) h.runs
+spot_divisor l s dl h = positive_product s.at.d (pos s.run) (subst (λ (m : Level). pos 0 <ℤ m.d) (sym h.at) dl)
+    h.runs
 
-spots_gap : (sx sr wx wr k : ℤ) → wx *ℤ (k *ℤ sr) -ℤ sx *ℤ (k *ℤ wr) ≡ (wx *ℤ sr -ℤ sx *ℤ wr) *ℤ k
-spots_gap sx sr wx wr k = ring (sx ∷ sr ∷ wx ∷ wr ∷ k ∷ []) (v2 ⊗ (v4 ⊗ v1) ⊖ v0 ⊗ (v4 ⊗ v3)) ((v2 ⊗ v1 ⊖ v0 ⊗ v3) ⊗ v4)
+spots_gap : (sx sr wx wr k : ℤ) → wx *ℤ (k *ℤ sr) -ℤ sx *ℤ (k *ℤ wr)
+    ≡ (wx *ℤ sr -ℤ sx *ℤ wr) *ℤ k
+spots_gap sx sr wx wr k = ring (sx ∷ sr ∷ wx ∷ wr ∷ k ∷ []) (v2 ⊗ (v4 ⊗ v1) ⊖ v0 ⊗ (v4 ⊗ v3))
+    ((v2 ⊗ v1 ⊖ v0 ⊗ v3) ⊗ v4)
     refl
 
 pub spot_gap : (l : Level) (s w : Spot) → IsSpotAt l s → IsSpotAt l w → gap (point_of s) (point_of w)
@@ -119,18 +123,20 @@ spot_gap l s w hs hw =
     ap₂ (λ (m n : Level). w.x *ℤ (m.d *ℤ pos s.run) -ℤ s.x *ℤ (n.d *ℤ pos w.run)) hs.at hw.at
     ∙ spots_gap s.x (pos s.run) w.x (pos w.run) l.d
 
-pub not_after : (l : Level) (s w : Spot) → pos 0 <ℤ l.d → IsSpotAt l s → IsSpotAt l w → IsAtMost (across w) (across s)
-    → is_right true (point_of s) (point_of w) ≡ false
+pub not_after : (l : Level) (s w : Spot) → pos 0 <ℤ l.d → IsSpotAt l s → IsSpotAt l w
+    → IsAtMost (across w) (across s) → is_right true (point_of s) (point_of w) ≡ false
 unfolding is_beyond
 not_after l s w dl hs hw h =
-    ap (is_beyond true) (spot_gap l s w hs hw) ∙ beyond_mul true l.d (w.x *ℤ pos s.run -ℤ s.x *ℤ pos w.run) dl ∙ sym
+    ap (is_beyond true) (spot_gap l s w hs hw) ∙ beyond_mul true l.d (w.x *ℤ pos s.run -ℤ s.x *ℤ pos w.run) dl
+        ∙ sym
     (omega (arith, ints))
 
-pub is_after : (l : Level) (s w : Spot) → pos 0 <ℤ l.d → IsSpotAt l s → IsSpotAt l w → IsLower (across s) (across w)
-    → is_right true (point_of s) (point_of w) ≡ true
+pub is_after : (l : Level) (s w : Spot) → pos 0 <ℤ l.d → IsSpotAt l s → IsSpotAt l w
+    → IsLower (across s) (across w) → is_right true (point_of s) (point_of w) ≡ true
 unfolding is_beyond
 is_after l s w dl hs hw h =
-    ap (is_beyond true) (spot_gap l s w hs hw) ∙ beyond_mul true l.d (w.x *ℤ pos s.run -ℤ s.x *ℤ pos w.run) dl ∙ sym
+    ap (is_beyond true) (spot_gap l s w hs hw) ∙ beyond_mul true l.d (w.x *ℤ pos s.run -ℤ s.x *ℤ pos w.run) dl
+        ∙ sym
     (omega (arith, ints))
 
 -- a point hard by which, on one side, lies the stretch between two neighbouring stops
@@ -177,13 +183,15 @@ module _ (l : Level) (dl : pos 0 <ℤ l.d) (right : Bool) (p : Point) (dp : pos 
 
 -- ---- the walk
 level_identity : (y d r n pd : ℤ) → y *ℤ d ≡ n *ℤ pd → y *ℤ (d *ℤ r) ≡ (n *ℤ r) *ℤ pd
-level_identity y d r n pd h = sym (mul_assoc y d r) ∙ ap (λ (z : ℤ). z *ℤ r) h ∙ ring (n ∷ pd ∷ r ∷ []) ((v0 ⊗ v1) ⊗ v2)
+level_identity y d r n pd h = sym (mul_assoc y d r) ∙ ap (λ (z : ℤ). z *ℤ r) h
+    ∙ ring (n ∷ pd ∷ r ∷ []) ((v0 ⊗ v1) ⊗ v2)
     ((v0 ⊗ v2) ⊗ v1) refl
 
 pub spot_ahead : (l : Level) (right : Bool) (p : Point) (w : Spot) → IsAt l p → IsSpotAt l w
     → ahead right p (point_of w) ≡ counted (is_right right p (point_of w))
 spot_ahead l right p w at h =
-    ahead_level right p (point_of w) (subst (λ (m : Level). p.y *ℤ (m.d *ℤ pos w.run) ≡ (m.n *ℤ pos w.run) *ℤ p.d)
+    ahead_level right p (point_of w) (subst (λ (m : Level). p.y *ℤ (m.d *ℤ pos w.run)
+        ≡ (m.n *ℤ pos w.run) *ℤ p.d)
     (sym h.at) (level_identity p.y l.d (pos w.run) l.n p.d at))
 
 all_ahead : (l : Level) (right : Bool) (p : Point) (b : Bool) (ws : List Spot) → IsAt l p
@@ -201,7 +209,8 @@ module _ (es : List LeafEdge) (shape : Shape) (balanced : AreLeavesBalanced es) 
   abbrev change : ℤ
   change = counted (is_in_by false right es shape p) -ℤ counted (is_in_by true right es shape p)
 
-  no_change : AllByRecursion (IsOneSided l right p) es → pos 0 ≡ counted (is_in_by false right es shape p) -ℤ counted
+  no_change : AllByRecursion (IsOneSided l right p) es
+      → pos 0 ≡ counted (is_in_by false right es shape p) -ℤ counted
       (is_in_by true right es shape p)
   no_change h = nothing (is_in_by true right es shape p) (is_in_by false right es shape p)
       (level_values right p dp es shape balanced (asides l dl right p dp at es h))
@@ -225,25 +234,30 @@ module _ (es : List LeafEdge) (shape : Shape) (balanced : AreLeavesBalanced es) 
       one w (inl e) = e
       one w (inr e) = absurd e
 
-  after_first : (s : Spot) (ss ws : List Spot) → AllByRecursion (IsSpotAt l) (s ∷ ss) → AllByRecursion (IsSpotAt l) ws
-      → GoRight (s ∷ ss) → AllByRecursion (HasSpot (s ∷ ss)) ws → AllByRecursion (λ w. IsAtMost (across s) (across w))
+  after_first : (s : Spot) (ss ws : List Spot) → AllByRecursion (IsSpotAt l) (s ∷ ss)
+      → AllByRecursion (IsSpotAt l) ws
+      → GoRight (s ∷ ss) → AllByRecursion (HasSpot (s ∷ ss)) ws
+      → AllByRecursion (λ w. IsAtMost (across s) (across w))
       ws
   after_first s ss [] hs hw r h = tt
   after_first s ss (w ∷ ws) hs hw r h = (from_stop s ss l w hs hw.0.runs r h.0, after_first s ss ws hs hw.1 r h.1)
 
   -- later stops lie further to the right
   all_right : (s : Spot) (ss : List Spot) → AllByRecursion (IsSpotAt l) (s ∷ ss) → GoRight (s ∷ ss)
-      → is_right right p (point_of s) ≡ true → AllByRecursion (λ w. is_right right p (point_of w) ≡ true) (s ∷ ss)
+      → is_right right p (point_of s) ≡ true
+      → AllByRecursion (λ w. is_right right p (point_of w) ≡ true) (s ∷ ss)
   all_right s [] hs r h = (h, tt)
   all_right s (t ∷ ss) hs r h =
       (h, all_right t ss hs.1 r.1 (further l right p dp s t hs.0 hs.1.0 (lower_weak (across s) (across t) r.0) h))
 
   none_counts : (s : Spot) (ss : List Spot) → AllByRecursion (IsSpotAt l) (s ∷ ss) → GoRight (s ∷ ss)
       → is_right right p (point_of s) ≡ true → aheads right p (flat_pieces es shape (s ∷ ss)) ≡ pos 0
-  none_counts s ss hs r h = flat_alike right p es shape (counted true) (s ∷ ss) (all_ahead l right p true (s ∷ ss) at hs
+  none_counts s ss hs r h = flat_alike right p es shape (counted true) (s ∷ ss)
+      (all_ahead l right p true (s ∷ ss) at hs
       (all_right s ss hs r h))
 
-  over_stretch : (s t : Spot) → IsSpotAt l s → IsSpotAt l t → IsLeft s t → AllByRecursion (IsBeside s t) (spots_at es l)
+  over_stretch : (s t : Spot) → IsSpotAt l s → IsSpotAt l t → IsLeft s t
+      → AllByRecursion (IsBeside s t) (spots_at es l)
       → is_right right p (point_of s) ≡ false → is_right right p (point_of t) ≡ true
       → (name : Option ℕ) → position (covers s t) es ≡ name → aheads right p (stretch_piece es shape s t name)
       ≡ counted (is_in_by false right es shape p) -ℤ counted (is_in_by true right es shape p)
@@ -283,7 +297,8 @@ module _ (es : List LeafEdge) (shape : Shape) (balanced : AreLeavesBalanced es) 
           (stretch_piece es shape s t (position (covers s t) es)) +ℤ aheads right p (flat_pieces es shape (t ∷ ss))
           → (is_right right p (point_of t) ≡ false → aheads right p (flat_pieces es shape (t ∷ ss))
           ≡ counted (is_in_by false right es shape p) -ℤ counted (is_in_by true right es shape p))
-          → aheads right p (flat_pieces es shape (s ∷ (t ∷ ss))) ≡ counted (is_in_by false right es shape p) -ℤ counted
+          → aheads right p (flat_pieces es shape (s ∷ (t ∷ ss)))
+          ≡ counted (is_in_by false right es shape p) -ℤ counted
           (is_in_by true right es shape p)
       by_test true beyond parts next =
           sum_left _ _ _ _ parts
@@ -314,7 +329,8 @@ module _ (es : List LeafEdge) (shape : Shape) (balanced : AreLeavesBalanced es) 
           none_counts s ss hs a.rightwards h
           ∙ unchanged true (all_further l right p dp s (spots_at es l) hs.0 (spots_are_at es l)
           (after_first s ss (spots_at es l) hs (spots_are_at es l) a.rightwards a.complete) h)
-      by_test false h = walk s ss (stops_at es l (s ∷ ss) a) a.rightwards (first_up_to s ss (spots_at es l) a.complete)
+      by_test false h = walk s ss (stops_at es l (s ∷ ss) a) a.rightwards
+          (first_up_to s ss (spots_at es l) a.complete)
           h
 
 -- the flat pieces of other levels don't count

@@ -46,7 +46,8 @@ use Rattle.slice_bool.proofs.BalanceFlat.{flat_change, flat_over, flat_under}
 abbrev steps : Bool → Point → List Piece → ℤ
 steps right p qs = wind_pieces true right p qs -ℤ wind_pieces false right p qs
 
-steps-append : (right : Bool) (p : Point) (qs rs : List Piece) → steps right p (qs ++ rs) ≡ steps right p qs +ℤ steps
+steps-append : (right : Bool) (p : Point) (qs rs : List Piece)
+    → steps right p (qs ++ rs) ≡ steps right p qs +ℤ steps
     right p rs
 steps-append right p qs rs =
     more (wind_pieces true right p (qs ++ rs)) (wind_pieces false right p (qs ++ rs)) (wind_pieces true right p qs)
@@ -120,8 +121,8 @@ abbrev IsElsewhere : Point → Level → Type 0
 IsElsewhere p l = IsLower (level_at p) l ⊎ IsLower l (level_at p)
 
 module _ (es : List LeafEdge) (shape : Shape) (balanced : AreLeavesBalanced es) (right : Bool) (p : Point) (dp : pos 0 <ℤ p.d) where
-  three : (f : List Piece → ℤ) → ((qs rs : List Piece) → f (qs ++ rs) ≡ f qs +ℤ f rs) → (pieces a b c : List Piece)
-      → pieces ≡ (a ++ b) ++ c → f pieces ≡ (f a +ℤ f b) +ℤ f c
+  three : (f : List Piece → ℤ) → ((qs rs : List Piece) → f (qs ++ rs) ≡ f qs +ℤ f rs)
+      → (pieces a b c : List Piece) → pieces ≡ (a ++ b) ++ c → f pieces ≡ (f a +ℤ f b) +ℤ f c
   three f add pieces a b c h = ap f h ∙ add (a ++ b) c ∙ ap (λ (z : ℤ). z +ℤ f c) (add a b)
 
   -- a slab with the level below it, and what comes above
@@ -139,13 +140,13 @@ module _ (es : List LeafEdge) (shape : Shape) (balanced : AreLeavesBalanced es) 
       hk (flat_steps es shape right p l stops st)
       (slab_steps es shape right p dp l u dl du o bundles b.ranked (live_bundles es l u bundles b)) hm
     where
-      total : (x y f g a c b d k m : ℤ) → x ≡ (f +ℤ a) +ℤ b → y ≡ (g +ℤ c) +ℤ d → f ≡ k → g ≡ pos 0 → a ≡ c → b ≡ d +ℤ m
-          → x ≡ y +ℤ (k +ℤ m)
+      total : (x y f g a c b d k m : ℤ) → x ≡ (f +ℤ a) +ℤ b → y ≡ (g +ℤ c) +ℤ d → f ≡ k
+          → g ≡ pos 0 → a ≡ c → b ≡ d +ℤ m → x ≡ y +ℤ (k +ℤ m)
       total x y f g a c b d k m hx hy hf hg ha hb = omega (arith, ints)
 
   last_level : (l : Level) (stops : List Spot) (pieces : List Piece) (k : ℤ) → AreStops es l stops
-      → pieces ≡ flat_pieces es shape stops → aheads right p (flat_pieces es shape stops) ≡ k → aheads right p pieces
-      ≡ steps right p pieces +ℤ k
+      → pieces ≡ flat_pieces es shape stops → aheads right p (flat_pieces es shape stops) ≡ k
+      → aheads right p pieces ≡ steps right p pieces +ℤ k
   last_level l stops pieces k st is hk =
       with_zero (aheads right p pieces) (steps right p pieces) k (ap (aheads right p) is ∙ hk)
       (ap (steps right p) is ∙ flat_steps es shape right p l stops st)
@@ -160,7 +161,8 @@ module _ (es : List LeafEdge) (shape : Shape) (balanced : AreLeavesBalanced es) 
   only_later x y k h = omega (arith, ints)
 
   -- where the point lies below all levels, none counts
-  below : (l : Level) (ls : List Level) (pieces : List Piece) → AllByRecursion (λ (l : Level). pos 0 <ℤ l.d) (l ∷ ls)
+  below : (l : Level) (ls : List Level) (pieces : List Piece)
+      → AllByRecursion (λ (l : Level). pos 0 <ℤ l.d) (l ∷ ls)
       → IsRising (l ∷ ls) → IsLower (level_at p) l → AreLevelPieces es shape (l ∷ ls) pieces
       → (aheads right p pieces ≡ steps right p pieces +ℤ pos 0) × AllByRecursion (IsElsewhere p) (l ∷ ls)
   below l [] pieces d r o a = (
@@ -185,8 +187,8 @@ module _ (es : List LeafEdge) (shape : Shape) (balanced : AreLeavesBalanced es) 
   three_ways : {P : Type 0} (a b : ℤ) → (a <ℤ b → P) → (a ≡ b → P) → (b <ℤ a → P) → P
   three_ways a b lt eq gt = by_lt_z a b lt (λ h. by_lt_z b a gt (λ k. eq (omega (arith, ints))))
 
-  by_levels : (ls : List Level) (pieces : List Piece) → AllByRecursion (λ (l : Level). pos 0 <ℤ l.d) ls → IsRising ls
-      → AreLevelPieces es shape ls pieces → Reached ls pieces
+  by_levels : (ls : List Level) (pieces : List Piece) → AllByRecursion (λ (l : Level). pos 0 <ℤ l.d) ls
+      → IsRising ls → AreLevelPieces es shape ls pieces → Reached ls pieces
   by_levels [] pieces d r a = inr (
     ap (aheads right p) a ∙ sym (ap (λ (qs : List Piece). steps right p qs +ℤ pos 0) a),
     tt,
@@ -272,7 +274,8 @@ counted-once : (b : Bool) → counted b ≡ pos (once b)
 counted-once true = refl
 counted-once false = refl
 
-at_point : (p : Point) (qs : List Piece) → aheads false p qs -ℤ aheads true p qs ≡ pos (starts_at p (ways_of qs)) -ℤ pos
+at_point : (p : Point) (qs : List Piece) → aheads false p qs -ℤ aheads true p qs
+    ≡ pos (starts_at p (ways_of qs)) -ℤ pos
     (ends_at p (ways_of qs))
 at_point p [] = refl
 at_point p (q ∷ qs) =
@@ -286,7 +289,8 @@ at_point p (q ∷ qs) =
     (starts-cons p (way_of q) (ways_of qs))
     (ends-cons p (way_of q) (ways_of qs))
   where
-    total : (a b c d x y : ℤ) (s e ss ee sa ea : ℕ) → a -ℤ b ≡ pos s → c -ℤ d ≡ pos e → x -ℤ y ≡ pos ss -ℤ pos ee
+    total : (a b c d x y : ℤ) (s e ss ee sa ea : ℕ) → a -ℤ b ≡ pos s → c -ℤ d ≡ pos e
+        → x -ℤ y ≡ pos ss -ℤ pos ee
         → sa ≡ s + ss → ea ≡ e + ee → ((a -ℤ c) +ℤ x) -ℤ ((b -ℤ d) +ℤ y) ≡ pos sa -ℤ pos ea
     total a b c d x y s e ss ee sa ea h k m n o = omega (arith, ints)
 

@@ -45,8 +45,8 @@ over_at : (above : Bool) (p l h : Level) → pos 0 <ℤ p.d → pos 0 <ℤ l.d �
 over_at true p l h dp dl dh e o = at_most_then_lower p l h dp dl dh (same_at_least p l e) o
 over_at false p l h dp dl dh e o = at_most_chain p l h dp dl dh (same_at_least p l e) o
 
-not_over_at : (above : Bool) (p l h : Level) → pos 0 <ℤ p.d → pos 0 <ℤ l.d → pos 0 <ℤ h.d → IsSameHeight p l
-    → NotOver above l h → NotOver above p h
+not_over_at : (above : Bool) (p l h : Level) → pos 0 <ℤ p.d → pos 0 <ℤ l.d → pos 0 <ℤ h.d
+    → IsSameHeight p l → NotOver above l h → NotOver above p h
 not_over_at true p l h dp dl dh e o = at_most_chain h l p dh dl dp o (same_at_most p l e)
 not_over_at false p l h dp dl dh e o = lower_then_at_most h l p dh dl dp o (same_at_most p l e)
 
@@ -64,9 +64,11 @@ apart_by true a l b da dl db h k = at_most_then_lower a l b da dl db h k
 apart_by false a l b da dl db h k = lower_then_at_most a l b da dl db h k
 
 -- ---- the line of an edge and its spot
-left_identity : (u c r x y d n k : ℤ) → (u *ℤ y +ℤ c *ℤ d -ℤ r *ℤ x) *ℤ k ≡ u *ℤ (y *ℤ k -ℤ n *ℤ d) +ℤ
+left_identity : (u c r x y d n k : ℤ) → (u *ℤ y +ℤ c *ℤ d -ℤ r *ℤ x) *ℤ k
+    ≡ u *ℤ (y *ℤ k -ℤ n *ℤ d) +ℤ
     ((u *ℤ n +ℤ c *ℤ k) *ℤ d -ℤ x *ℤ (k *ℤ r))
-left_identity u c r x y d n k = ring (u ∷ c ∷ r ∷ x ∷ y ∷ d ∷ n ∷ k ∷ []) ((v0 ⊗ v4 ⊕ v1 ⊗ v5 ⊖ v2 ⊗ v3) ⊗ v7)
+left_identity u c r x y d n k = ring (u ∷ c ∷ r ∷ x ∷ y ∷ d ∷ n ∷ k ∷ [])
+    ((v0 ⊗ v4 ⊕ v1 ⊗ v5 ⊖ v2 ⊗ v3) ⊗ v7)
     (v0 ⊗ (v4 ⊗ v7 ⊖ v6 ⊗ v5) ⊕ ((v0 ⊗ v6 ⊕ v1 ⊗ v7) ⊗ v5 ⊖ v3 ⊗ (v7 ⊗ v2))) refl
 
 left_is : (e : Edge) (l : Level) (p : Point) (r : ℤ) → r ≡ rise e → IsAt l p → left_of e p.x p.y p.d *ℤ l.d
@@ -74,7 +76,8 @@ left_is : (e : Edge) (l : Level) (p : Point) (r : ℤ) → r ≡ rise e → IsAt
 unfolding left_of x_at
 left_is e l p r q h =
     rw q (left_identity (run e) (offset e) (rise e) p.x p.y p.d l.n l.d
-    ∙ drop_zero (run e) (p.y *ℤ l.d -ℤ l.n *ℤ p.d) ((run e *ℤ l.n +ℤ offset e *ℤ l.d) *ℤ p.d -ℤ p.x *ℤ (l.d *ℤ rise e))
+    ∙ drop_zero (run e) (p.y *ℤ l.d -ℤ l.n *ℤ p.d)
+    ((run e *ℤ l.n +ℤ offset e *ℤ l.d) *ℤ p.d -ℤ p.x *ℤ (l.d *ℤ rise e))
     (no_gap (p.y *ℤ l.d) (l.n *ℤ p.d) h))
 
 beyond_left : (right : Bool) (e : Edge) (l : Level) (p : Point) → pos 0 <ℤ l.d → pos 0 <ℤ rise e → IsAt l p
@@ -94,15 +97,18 @@ upper_end e t h = sym (ap (λ (t : Bool). cond t e.a e.b) h)
 
 rises_by : (e : Edge) (a b : Pt) → a ≡ low e → b ≡ high e → a.y <ℤ b.y → pos 0 <ℤ rise e
 unfolding rise
-rises_by e a b lo hi o = subst (λ (q : Pt). pos 0 <ℤ (q.y -ℤ (low e).y)) hi (subst (λ (q : Pt). pos 0 <ℤ (b.y -ℤ q.y))
+rises_by e a b lo hi o = subst (λ (q : Pt). pos 0 <ℤ (q.y -ℤ (low e).y)) hi
+    (subst (λ (q : Pt). pos 0 <ℤ (b.y -ℤ q.y))
     lo (omega (arith, ints)))
 
 -- ---- an edge turns alike round all points of a height with its spot on the same side
 -- not at all, or by its heading where the spot lies to the right
 abbrev TurnsBySpot : Bool → Edge → Level → Type 0
 TurnsBySpot above e l =
-    ((right : Bool) (p : Point) → pos 0 <ℤ p.d → IsAt l p → turn above right p (whole e.a) (whole e.b) ≡ pos 0)
-    ⊎ ((passes_at e l ≡ true) × ((right : Bool) (p : Point) → pos 0 <ℤ p.d → IsAt l p → turn above right p (whole e.a)
+    ((right : Bool) (p : Point) → pos 0 <ℤ p.d → IsAt l p
+        → turn above right p (whole e.a) (whole e.b) ≡ pos 0)
+    ⊎ ((passes_at e l ≡ true) × ((right : Bool) (p : Point) → pos 0 <ℤ p.d → IsAt l p
+        → turn above right p (whole e.a)
     (whole e.b) ≡ (if is_right right p (point_of (spot_on e l)) then heading e else pos 0)))
 
 module _ (above : Bool) (e : Edge) (l : Level) (dl : pos 0 <ℤ l.d) where
@@ -141,7 +147,8 @@ module _ (above : Bool) (e : Edge) (l : Level) (dl : pos 0 <ℤ l.d) where
       let t : int_lt e.b.y e.a.y ≡ false = sym (omega (arith, ints)) in
       let lo : e.a ≡ low e = lower_end e false t in
       let hi : e.b ≡ high e = upper_end e false t in
-      by_heading (rises_by e e.a e.b lo hi (omega (arith, ints))) (subst (λ (q : Pt). NotOver above l (level_of q.y)) lo
+      by_heading (rises_by e e.a e.b lo hi (omega (arith, ints)))
+          (subst (λ (q : Pt). NotOver above l (level_of q.y)) lo
       h) (subst (λ (q : Pt). Over above l (level_of q.y)) hi k)
 
   downwards : NotOver above l (level_of e.b.y) → Over above l (level_of e.a.y) → TurnsBySpot above e l
@@ -150,7 +157,8 @@ module _ (above : Bool) (e : Edge) (l : Level) (dl : pos 0 <ℤ l.d) where
       let t : int_lt e.b.y e.a.y ≡ true = sym (omega (arith, ints)) in
       let lo : e.b ≡ low e = lower_end e true t in
       let hi : e.a ≡ high e = upper_end e true t in
-      by_heading (rises_by e e.b e.a lo hi (omega (arith, ints))) (subst (λ (q : Pt). NotOver above l (level_of q.y)) lo
+      by_heading (rises_by e e.b e.a lo hi (omega (arith, ints)))
+          (subst (λ (q : Pt). NotOver above l (level_of q.y)) lo
       h) (subst (λ (q : Pt). Over above l (level_of q.y)) hi k)
 
   pub turns_by_spot : TurnsBySpot above e l
@@ -162,14 +170,16 @@ module _ (above : Bool) (e : Edge) (l : Level) (dl : pos 0 <ℤ l.d) where
     ]
     | inr oa ↦ elim (either_over above l (level_of e.b.y)) [
       | inl ob ↦ upwards oa ob
-      | inr ob ↦ inl (λ right p dp at. under_turn above right p e (not_over_at above (level_at p) l (level_of e.a.y) dp
+      | inr ob ↦ inl (λ right p dp at. under_turn above right p e
+          (not_over_at above (level_at p) l (level_of e.a.y) dp
           dl one at oa) (not_over_at above (level_at p) l (level_of e.b.y) dp dl one at ob))
     ]
   ]
 
 -- ---- the spots of a height and the edges that they come from
 abbrev pub own_spots : LeafEdge → Level → List Spot
-own_spots e l = if is_flat_at e.edge l then whole_spot e.edge.a.x l ∷ (whole_spot e.edge.b.x l ∷ []) else if passes_at
+own_spots e l = if is_flat_at e.edge l then whole_spot e.edge.a.x l
+    ∷ (whole_spot e.edge.b.x l ∷ []) else if passes_at
     e.edge l then spot_on e.edge l ∷ [] else []
 
 not_zero : (z : ℤ) → int_lt (pos 0) z ≡ true → is_zero z ≡ false
@@ -190,8 +200,8 @@ passing_spot P e l h k =
     else if passes_at e.edge l then spot_on e.edge l ∷ [] else [])) f h in
     (subst (λ (t : Bool). AllByRecursion P (if t then spot_on e.edge l ∷ [] else [])) k h').0
 
-pub flat_spots : (P : Spot → Type 0) (e : LeafEdge) (l : Level) → AllByRecursion P (own_spots e l) → is_flat_at e.edge l
-    ≡ true → P (whole_spot e.edge.a.x l) × P (whole_spot e.edge.b.x l)
+pub flat_spots : (P : Spot → Type 0) (e : LeafEdge) (l : Level) → AllByRecursion P (own_spots e l)
+    → is_flat_at e.edge l ≡ true → P (whole_spot e.edge.a.x l) × P (whole_spot e.edge.b.x l)
 flat_spots P e l h k =
     let h' = subst (λ (t : Bool). AllByRecursion P (if t then whole_spot e.edge.a.x l ∷ (whole_spot e.edge.b.x l ∷ [])
     else if passes_at e.edge l then spot_on e.edge l ∷ [] else [])) k h in
@@ -206,7 +216,8 @@ module _ (l : Level) (dl : pos 0 <ℤ l.d) (r : Bool) (p : Point) (s : Bool) (q 
       → turn above r p (whole e.edge.a) (whole e.edge.b) ≡ turn above s q (whole e.edge.a) (whole e.edge.b)
   turn_alike above e h = elim (turns_by_spot above e.edge l dl) [
     | inl z ↦ z r p dp ap' ∙ sym (z s q dq aq)
-    | inr z ↦ z.1 r p dp ap' ∙ ap (λ (t : Bool). if t then heading e.edge else pos 0) (passing_spot (IsAlike r p s q) e
+    | inr z ↦ z.1 r p dp ap' ∙ ap (λ (t : Bool). if t then heading e.edge else pos 0)
+        (passing_spot (IsAlike r p s q) e
         l h z.0) ∙ sym (z.1 s q dq aq)
   ]
 
@@ -230,10 +241,12 @@ IsOneSided l right p e = is_flat_at e.edge l ≡ true → is_right right p (poin
     ≡ is_right right p (point_of (whole_spot e.edge.b.x l))
 
 whole_gap : (x px d k : ℤ) → (x *ℤ k) *ℤ d -ℤ px *ℤ (k *ℤ pos 1) ≡ (x *ℤ d -ℤ px *ℤ pos 1) *ℤ k
-whole_gap x px d k = two x px d k ∙ ap (λ (z : ℤ). z *ℤ k) (ap (λ (z : ℤ). x *ℤ d -ℤ z) (sym (mul-one px)))
+whole_gap x px d k = two x px d k ∙ ap (λ (z : ℤ). z *ℤ k)
+    (ap (λ (z : ℤ). x *ℤ d -ℤ z) (sym (mul-one px)))
   where
     two : (x px d k : ℤ) → (x *ℤ k) *ℤ d -ℤ px *ℤ (k *ℤ pos 1) ≡ (x *ℤ d -ℤ px) *ℤ k
-    two x px d k = ap (λ (z : ℤ). (x *ℤ k) *ℤ d -ℤ px *ℤ z) (mul-one k) ∙ ring (x ∷ px ∷ d ∷ k ∷ [])
+    two x px d k = ap (λ (z : ℤ). (x *ℤ k) *ℤ d -ℤ px *ℤ z) (mul-one k)
+        ∙ ring (x ∷ px ∷ d ∷ k ∷ [])
         ((v0 ⊗ v3) ⊗ v2 ⊖ v1 ⊗ v3) ((v0 ⊗ v2 ⊖ v1) ⊗ v3) refl
 
 whole_right : (right : Bool) (p : Point) (l : Level) (a : Pt) → pos 0 <ℤ l.d
@@ -248,8 +261,8 @@ is_zero-rise e h =
     let z : e.b.y -ℤ e.a.y ≡ pos 0 = omega (arith, ints) in
     ap is_zero (ap (λ (t : Bool). (cond t e.a e.b).y -ℤ (cond t e.b e.a).y) t ∙ z)
 
-one_sided : (l : Level) → pos 0 <ℤ l.d → (right : Bool) (p : Point) → pos 0 <ℤ p.d → IsAt l p → (e : LeafEdge)
-    → IsOneSided l right p e → IsAside right p e
+one_sided : (l : Level) → pos 0 <ℤ l.d → (right : Bool) (p : Point) → pos 0 <ℤ p.d → IsAt l p
+    → (e : LeafEdge) → IsOneSided l right p e → IsAside right p e
 one_sided l dl right p dp at e h flat =
     let one : pos 0 <ℤ pos 1 = omega (arith, ints) in
     by_lt_z (e.edge.a.y *ℤ l.d) l.n
@@ -278,14 +291,15 @@ one_sided l dl right p dp at e h flat =
     ∙ ap counted (sym (whole_right right p l e.edge.a dl) ∙ h k ∙ whole_right right p l e.edge.b dl)
     ∙ sym (ahead_level right p (whole e.edge.b) (subst (λ (y : ℤ). p.y *ℤ pos 1 ≡ y *ℤ p.d) flat here))))
 
-pub asides : (l : Level) → pos 0 <ℤ l.d → (right : Bool) (p : Point) → pos 0 <ℤ p.d → IsAt l p → (es : List LeafEdge)
-    → AllByRecursion (IsOneSided l right p) es → AllByRecursion (IsAside right p) es
+pub asides : (l : Level) → pos 0 <ℤ l.d → (right : Bool) (p : Point) → pos 0 <ℤ p.d → IsAt l p
+    → (es : List LeafEdge) → AllByRecursion (IsOneSided l right p) es → AllByRecursion (IsAside right p) es
 asides l dl right p dp at [] h = tt
 asides l dl right p dp at (e ∷ es) h = (one_sided l dl right p dp at e h.0, asides l dl right p dp at es h.1)
 
 -- all spots on one side
 pub all_one_sided : (l : Level) (right : Bool) (p : Point) (b : Bool) (es : List LeafEdge)
-    → AllByRecursion (λ w. is_right right p (point_of w) ≡ b) (spots_at es l) → AllByRecursion (IsOneSided l right p) es
+    → AllByRecursion (λ w. is_right right p (point_of w) ≡ b) (spots_at es l)
+    → AllByRecursion (IsOneSided l right p) es
 all_one_sided l right p b [] h = tt
 all_one_sided l right p b (e ∷ es) h = (
   λ k. let t = flat_spots (λ w. is_right right p (point_of w) ≡ b) e l (front (λ w. is_right right p (point_of w) ≡ b) (own_spots e l) (spots_at es l) h) k in t.0 ∙ sym t.1,

@@ -30,7 +30,8 @@ abbrev pub aheads : Bool → Point → List Piece → ℤ
 aheads right p [] = pos 0
 aheads right p (q ∷ qs) = (ahead right p (point_of q.from) -ℤ ahead right p (point_of q.to)) +ℤ aheads right p qs
 
-pub aheads-append : (right : Bool) (p : Point) (qs rs : List Piece) → aheads right p (qs ++ rs) ≡ aheads right p qs +ℤ
+pub aheads-append : (right : Bool) (p : Point) (qs rs : List Piece)
+    → aheads right p (qs ++ rs) ≡ aheads right p qs +ℤ
     aheads right p rs
 aheads-append right p [] rs = sym (+ℤ_idl (aheads right p rs))
 aheads-append right p (q ∷ qs) rs = more (ahead right p (point_of q.from)) (ahead right p (point_of q.to))
@@ -49,8 +50,8 @@ between_alike right p true false s t name h = cancels (ahead right p (point_of s
 between_alike right p false true s t name h = cancels (ahead right p (point_of t)) (ahead right p (point_of s)) (sym h)
 between_alike right p false false s t name h = refl
 
-pub between_apart : (right : Bool) (p : Point) (v w : Bool) (s t : Spot) (name : ℕ) → ahead right p (point_of s) ≡ pos 0
-    → ahead right p (point_of t) ≡ pos 1
+pub between_apart : (right : Bool) (p : Point) (v w : Bool) (s t : Spot) (name : ℕ)
+    → ahead right p (point_of s) ≡ pos 0 → ahead right p (point_of t) ≡ pos 1
     → aheads right p (piece_between v w s t name) ≡ counted w -ℤ counted v
 between_apart right p true true s t name h k = refl
 between_apart right p true false s t name h k = rw (h, k) refl
@@ -69,7 +70,8 @@ two_nothings x a b h k m = omega (arith, ints)
 
 -- where all stops lie alike, no flat piece counts
 pub flat_alike : (right : Bool) (p : Point) (es : List LeafEdge) (shape : Shape) (c : ℤ) (stops : List Spot)
-    → AllByRecursion (λ s. ahead right p (point_of s) ≡ c) stops → aheads right p (flat_pieces es shape stops) ≡ pos 0
+    → AllByRecursion (λ s. ahead right p (point_of s) ≡ c) stops
+    → aheads right p (flat_pieces es shape stops) ≡ pos 0
 flat_alike right p es shape c [] h = refl
 flat_alike right p es shape c (s ∷ []) h = refl
 flat_alike right p es shape c (s ∷ (t ∷ ss)) h =
@@ -129,9 +131,11 @@ beside l s t ss (w ∷ ws) at aw r h = (one w aw.0 h.0, beside l s t ss ws at aw
     one w aw (inr e) = inr (from_stop t ss l w at aw.runs r e)
 
 -- ---- a spot further to the right lies on the right where the first does
-further_identity : (sx sr wx wr px pd k : ℤ) → (wx *ℤ pd -ℤ px *ℤ (k *ℤ wr)) *ℤ sr ≡ (sx *ℤ pd -ℤ px *ℤ (k *ℤ sr)) *ℤ wr
+further_identity : (sx sr wx wr px pd k : ℤ)
+    → (wx *ℤ pd -ℤ px *ℤ (k *ℤ wr)) *ℤ sr ≡ (sx *ℤ pd -ℤ px *ℤ (k *ℤ sr)) *ℤ wr
     +ℤ (wx *ℤ sr -ℤ sx *ℤ wr) *ℤ pd
-further_identity sx sr wx wr px pd k = ring (sx ∷ sr ∷ wx ∷ wr ∷ px ∷ pd ∷ k ∷ []) ((v2 ⊗ v5 ⊖ v4 ⊗ (v6 ⊗ v3)) ⊗ v1)
+further_identity sx sr wx wr px pd k = ring (sx ∷ sr ∷ wx ∷ wr ∷ px ∷ pd ∷ k ∷ [])
+    ((v2 ⊗ v5 ⊖ v4 ⊗ (v6 ⊗ v3)) ⊗ v1)
     ((v0 ⊗ v5 ⊖ v4 ⊗ (v6 ⊗ v1)) ⊗ v3 ⊕ (v2 ⊗ v1 ⊖ v0 ⊗ v3) ⊗ v5) refl
 
 more_of : (a b c : ℤ) → a ≡ b +ℤ c → pos 0 ≤ℤ c → b ≤ℤ a

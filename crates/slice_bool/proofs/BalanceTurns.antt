@@ -48,42 +48,57 @@ ahead_level right p b h = ap (λ (t : Bool). counted (t && is_right right p b))
     ((signed_Decides (p.y *ℤ b.d) (b.y *ℤ p.d)).1 h)
 
 pub ahead_over : (right : Bool) (p b : Point) → IsLower (level_at p) (level_at b) → ahead right p b ≡ pos 0
-ahead_over right p b h = ap (λ (t : Bool). counted (t && is_right right p b)) (int_eq-less (p.y *ℤ b.d) (b.y *ℤ p.d) h)
+ahead_over right p b h = ap (λ (t : Bool). counted (t && is_right right p b))
+    (int_eq-less (p.y *ℤ b.d) (b.y *ℤ p.d) h)
 
 pub ahead_under : (right : Bool) (p b : Point) → IsLower (level_at b) (level_at p) → ahead right p b ≡ pos 0
-ahead_under right p b h = ap (λ (t : Bool). counted (t && is_right right p b)) (int_eq-more (p.y *ℤ b.d) (b.y *ℤ p.d) h)
+ahead_under right p b h = ap (λ (t : Bool). counted (t && is_right right p b))
+    (int_eq-more (p.y *ℤ b.d) (b.y *ℤ p.d) h)
 
 -- ---- the side of a segment that a point at the height of an end lies on
 pub drop_zero : (u w z : ℤ) → w ≡ pos 0 → u *ℤ w +ℤ z ≡ z
 drop_zero u w z h = let t : u *ℤ w ≡ pos 0 = rw h (omega (arith, ints)) in rw t (omega (arith, ints))
 
-from_start : (ax ay ad bx by bd x y d : ℤ) → (bx *ℤ ad -ℤ ax *ℤ bd) *ℤ (y *ℤ ad -ℤ ay *ℤ d) -ℤ (by *ℤ ad -ℤ ay *ℤ bd) *ℤ
-    (x *ℤ ad -ℤ ax *ℤ d) ≡ (bx *ℤ ad -ℤ ax *ℤ bd) *ℤ (y *ℤ ad -ℤ ay *ℤ d) +ℤ (ax *ℤ d -ℤ x *ℤ ad) *ℤ
+from_start : (ax ay ad bx by bd x y d : ℤ)
+    → (bx *ℤ ad -ℤ ax *ℤ bd) *ℤ (y *ℤ ad -ℤ ay *ℤ d) -ℤ (by *ℤ ad -ℤ ay *ℤ bd) *ℤ
+    (x *ℤ ad -ℤ ax *ℤ d) ≡ (bx *ℤ ad -ℤ ax *ℤ bd) *ℤ (y *ℤ ad -ℤ ay *ℤ d) +ℤ
+        (ax *ℤ d -ℤ x *ℤ ad) *ℤ
     (by *ℤ ad -ℤ ay *ℤ bd)
 from_start ax ay ad bx by bd x y d = ring (ax ∷ ay ∷ ad ∷ bx ∷ by ∷ bd ∷ x ∷ y ∷ d ∷ [])
-    ((v3 ⊗ v2 ⊖ v0 ⊗ v5) ⊗ (v7 ⊗ v2 ⊖ v1 ⊗ v8) ⊖ (v4 ⊗ v2 ⊖ v1 ⊗ v5) ⊗ (v6 ⊗ v2 ⊖ v0 ⊗ v8))
-    ((v3 ⊗ v2 ⊖ v0 ⊗ v5) ⊗ (v7 ⊗ v2 ⊖ v1 ⊗ v8) ⊕ (v0 ⊗ v8 ⊖ v6 ⊗ v2) ⊗ (v4 ⊗ v2 ⊖ v1 ⊗ v5)) refl
+    ((v3 ⊗ v2 ⊖ v0 ⊗ v5) ⊗ (v7 ⊗ v2 ⊖ v1 ⊗ v8) ⊖ (v4 ⊗ v2 ⊖ v1 ⊗ v5)
+        ⊗ (v6 ⊗ v2 ⊖ v0 ⊗ v8))
+    ((v3 ⊗ v2 ⊖ v0 ⊗ v5) ⊗ (v7 ⊗ v2 ⊖ v1 ⊗ v8) ⊕ (v0 ⊗ v8 ⊖ v6 ⊗ v2)
+        ⊗ (v4 ⊗ v2 ⊖ v1 ⊗ v5)) refl
 
-from_end : (ax ay ad bx by bd x y d : ℤ) → ((bx *ℤ ad -ℤ ax *ℤ bd) *ℤ (y *ℤ ad -ℤ ay *ℤ d) -ℤ (by *ℤ ad -ℤ ay *ℤ bd) *ℤ
-    (x *ℤ ad -ℤ ax *ℤ d)) *ℤ bd ≡ (ad *ℤ (bx *ℤ ad -ℤ ax *ℤ bd)) *ℤ (y *ℤ bd -ℤ by *ℤ d) +ℤ (bx *ℤ d -ℤ x *ℤ bd) *ℤ
+from_end : (ax ay ad bx by bd x y d : ℤ) → ((bx *ℤ ad -ℤ ax *ℤ bd) *ℤ (y *ℤ ad -ℤ ay *ℤ d) -ℤ
+    (by *ℤ ad -ℤ ay *ℤ bd) *ℤ
+    (x *ℤ ad -ℤ ax *ℤ d)) *ℤ bd ≡ (ad *ℤ (bx *ℤ ad -ℤ ax *ℤ bd)) *ℤ (y *ℤ bd -ℤ by *ℤ d) +ℤ
+        (bx *ℤ d -ℤ x *ℤ bd) *ℤ
     (ad *ℤ (by *ℤ ad -ℤ ay *ℤ bd))
 from_end ax ay ad bx by bd x y d = ring (ax ∷ ay ∷ ad ∷ bx ∷ by ∷ bd ∷ x ∷ y ∷ d ∷ [])
-    (((v3 ⊗ v2 ⊖ v0 ⊗ v5) ⊗ (v7 ⊗ v2 ⊖ v1 ⊗ v8) ⊖ (v4 ⊗ v2 ⊖ v1 ⊗ v5) ⊗ (v6 ⊗ v2 ⊖ v0 ⊗ v8)) ⊗ v5)
-    ((v2 ⊗ (v3 ⊗ v2 ⊖ v0 ⊗ v5)) ⊗ (v7 ⊗ v5 ⊖ v4 ⊗ v8) ⊕ (v3 ⊗ v8 ⊖ v6 ⊗ v5) ⊗ (v2 ⊗ (v4 ⊗ v2 ⊖ v1 ⊗ v5))) refl
+    (((v3 ⊗ v2 ⊖ v0 ⊗ v5) ⊗ (v7 ⊗ v2 ⊖ v1 ⊗ v8) ⊖ (v4 ⊗ v2 ⊖ v1 ⊗ v5)
+        ⊗ (v6 ⊗ v2 ⊖ v0 ⊗ v8)) ⊗ v5)
+    ((v2 ⊗ (v3 ⊗ v2 ⊖ v0 ⊗ v5)) ⊗ (v7 ⊗ v5 ⊖ v4 ⊗ v8) ⊕ (v3 ⊗ v8 ⊖ v6 ⊗ v5)
+        ⊗ (v2 ⊗ (v4 ⊗ v2 ⊖ v1 ⊗ v5))) refl
 
-turned_over : (ax ay ad bx by bd x y d : ℤ) → ((ax *ℤ bd -ℤ bx *ℤ ad) *ℤ (y *ℤ bd -ℤ by *ℤ d) -ℤ (ay *ℤ bd -ℤ by *ℤ ad)
-    *ℤ (x *ℤ bd -ℤ bx *ℤ d)) *ℤ ad ≡ pos 0 -ℤ ((bx *ℤ ad -ℤ ax *ℤ bd) *ℤ (y *ℤ ad -ℤ ay *ℤ d) -ℤ (by *ℤ ad -ℤ ay *ℤ bd)
+turned_over : (ax ay ad bx by bd x y d : ℤ)
+    → ((ax *ℤ bd -ℤ bx *ℤ ad) *ℤ (y *ℤ bd -ℤ by *ℤ d) -ℤ (ay *ℤ bd -ℤ by *ℤ ad)
+    *ℤ (x *ℤ bd -ℤ bx *ℤ d)) *ℤ ad
+        ≡ pos 0 -ℤ ((bx *ℤ ad -ℤ ax *ℤ bd) *ℤ (y *ℤ ad -ℤ ay *ℤ d) -ℤ (by *ℤ ad -ℤ ay *ℤ bd)
     *ℤ (x *ℤ ad -ℤ ax *ℤ d)) *ℤ bd
 turned_over ax ay ad bx by bd x y d = ring (ax ∷ ay ∷ ad ∷ bx ∷ by ∷ bd ∷ x ∷ y ∷ d ∷ [])
-    (((v0 ⊗ v5 ⊖ v3 ⊗ v2) ⊗ (v7 ⊗ v5 ⊖ v4 ⊗ v8) ⊖ (v1 ⊗ v5 ⊖ v4 ⊗ v2) ⊗ (v6 ⊗ v5 ⊖ v3 ⊗ v8)) ⊗ v2)
-    (num (pos 0) ⊖ ((v3 ⊗ v2 ⊖ v0 ⊗ v5) ⊗ (v7 ⊗ v2 ⊖ v1 ⊗ v8) ⊖ (v4 ⊗ v2 ⊖ v1 ⊗ v5) ⊗ (v6 ⊗ v2 ⊖ v0 ⊗ v8)) ⊗ v5) refl
+    (((v0 ⊗ v5 ⊖ v3 ⊗ v2) ⊗ (v7 ⊗ v5 ⊖ v4 ⊗ v8) ⊖ (v1 ⊗ v5 ⊖ v4 ⊗ v2)
+        ⊗ (v6 ⊗ v5 ⊖ v3 ⊗ v8)) ⊗ v2)
+    (num (pos 0) ⊖ ((v3 ⊗ v2 ⊖ v0 ⊗ v5) ⊗ (v7 ⊗ v2 ⊖ v1 ⊗ v8) ⊖ (v4 ⊗ v2 ⊖ v1 ⊗ v5)
+        ⊗ (v6 ⊗ v2 ⊖ v0 ⊗ v8)) ⊗ v5) refl
 
 start_side : (right : Bool) (p a b : Point) → IsLower (level_at a) (level_at b) → p.y *ℤ a.d ≡ a.y *ℤ p.d
     → is_beyond right (side_by p a b) ≡ is_right right p a
 unfolding side_by
 start_side right p a b o h =
     ap (is_beyond right) (from_start a.x a.y a.d b.x b.y b.d p.x p.y p.d ∙ drop_zero (b.x *ℤ a.d -ℤ a.x *ℤ b.d)
-    (p.y *ℤ a.d -ℤ a.y *ℤ p.d) (gap p a *ℤ (b.y *ℤ a.d -ℤ a.y *ℤ b.d)) (no_gap (p.y *ℤ a.d) (a.y *ℤ p.d) h))
+    (p.y *ℤ a.d -ℤ a.y *ℤ p.d) (gap p a *ℤ (b.y *ℤ a.d -ℤ a.y *ℤ b.d))
+        (no_gap (p.y *ℤ a.d) (a.y *ℤ p.d) h))
     ∙ beyond_mul right (b.y *ℤ a.d -ℤ a.y *ℤ b.d) (gap p a) (gap_of_less (a.y *ℤ b.d) (b.y *ℤ a.d) o)
 
 end_side : (right : Bool) (p a b : Point) → pos 0 <ℤ a.d → pos 0 <ℤ b.d → IsLower (level_at a) (level_at b)
@@ -91,10 +106,13 @@ end_side : (right : Bool) (p a b : Point) → pos 0 <ℤ a.d → pos 0 <ℤ b.d 
 unfolding side_by
 end_side right p a b da db o h =
     sym (beyond_mul right b.d (side_by p a b) db)
-    ∙ ap (is_beyond right) (from_end a.x a.y a.d b.x b.y b.d p.x p.y p.d ∙ drop_zero (a.d *ℤ (b.x *ℤ a.d -ℤ a.x *ℤ b.d))
-    (p.y *ℤ b.d -ℤ b.y *ℤ p.d) (gap p b *ℤ (a.d *ℤ (b.y *ℤ a.d -ℤ a.y *ℤ b.d))) (no_gap (p.y *ℤ b.d) (b.y *ℤ p.d)
+    ∙ ap (is_beyond right) (from_end a.x a.y a.d b.x b.y b.d p.x p.y p.d
+    ∙ drop_zero (a.d *ℤ (b.x *ℤ a.d -ℤ a.x *ℤ b.d))
+    (p.y *ℤ b.d -ℤ b.y *ℤ p.d) (gap p b *ℤ (a.d *ℤ (b.y *ℤ a.d -ℤ a.y *ℤ b.d)))
+        (no_gap (p.y *ℤ b.d) (b.y *ℤ p.d)
     h))
-    ∙ beyond_mul right (a.d *ℤ (b.y *ℤ a.d -ℤ a.y *ℤ b.d)) (gap p b) (positive_product a.d (b.y *ℤ a.d -ℤ a.y *ℤ b.d) da
+    ∙ beyond_mul right (a.d *ℤ (b.y *ℤ a.d -ℤ a.y *ℤ b.d)) (gap p b)
+    (positive_product a.d (b.y *ℤ a.d -ℤ a.y *ℤ b.d) da
     (gap_of_less (a.y *ℤ b.d) (b.y *ℤ a.d) o))
 
 -- ---- upwards
@@ -102,12 +120,14 @@ module _ (right : Bool) (p a b : Point) (dp : pos 0 <ℤ p.d) (da : pos 0 <ℤ a
   Steps : Type 0
   Steps = turn true right p a b -ℤ turn false right p a b ≡ ahead right p a -ℤ ahead right p b
 
-  from_parts : (t f x y : ℤ) → turn true right p a b ≡ t → turn false right p a b ≡ f → ahead right p a ≡ x
-      → ahead right p b ≡ y → t -ℤ f ≡ x -ℤ y → Steps
+  from_parts : (t f x y : ℤ) → turn true right p a b ≡ t → turn false right p a b ≡ f
+      → ahead right p a ≡ x → ahead right p b ≡ y → t -ℤ f ≡ x -ℤ y → Steps
   unfolding Steps
-  from_parts t f x y ht hf hx hy e = ap₂ (λ (y z : ℤ). y -ℤ z) ht hf ∙ e ∙ sym (ap₂ (λ (y z : ℤ). y -ℤ z) hx hy)
+  from_parts t f x y ht hf hx hy e = ap₂ (λ (y z : ℤ). y -ℤ z) ht hf ∙ e
+      ∙ sym (ap₂ (λ (y z : ℤ). y -ℤ z) hx hy)
 
-  flat_by : (above t : Bool) → is_over above p a ≡ t → is_over above p b ≡ t → turn above right p a b ≡ pos 0
+  flat_by : (above t : Bool) → is_over above p a ≡ t → is_over above p b ≡ t
+      → turn above right p a b ≡ pos 0
   flat_by above t h k = flat_turn above right p a b (h ∙ sym k)
 
   below_start : IsLower (level_at p) (level_at a) → Steps
@@ -164,7 +184,8 @@ module _ (right : Bool) (p a b : Point) (dp : pos 0 <ℤ p.d) (da : pos 0 <ℤ a
 
   pub step_up : turn true right p a b -ℤ turn false right p a b ≡ ahead right p a -ℤ ahead right p b
   unfolding Steps
-  step_up = three_ways (p.y *ℤ a.d) (a.y *ℤ p.d) below_start at_start (λ h. three_ways (p.y *ℤ b.d) (b.y *ℤ p.d)
+  step_up = three_ways (p.y *ℤ a.d) (a.y *ℤ p.d) below_start at_start
+      (λ h. three_ways (p.y *ℤ b.d) (b.y *ℤ p.d)
       (inside h) (at_end h) (above_end h))
 
 -- ---- downwards
@@ -183,7 +204,8 @@ side_turned p a b = turned_over a.x a.y a.d b.x b.y b.d p.x p.y p.d ∙ moved (s
     moved z d = rw neg_mul (omega (arith, ints))
 
 two_signs : (z s : ℤ) → neg_ℤ z *ℤ neg_ℤ s ≡ z *ℤ s
-two_signs z s = neg_mul z (neg_ℤ s) ∙ ap neg_ℤ (*ℤ_comm z (neg_ℤ s) ∙ neg_mul s z) ∙ neg_ℤ-neg_ℤ (s *ℤ z) ∙ *ℤ_comm s z
+two_signs z s = neg_mul z (neg_ℤ s) ∙ ap neg_ℤ (*ℤ_comm z (neg_ℤ s) ∙ neg_mul s z)
+    ∙ neg_ℤ-neg_ℤ (s *ℤ z) ∙ *ℤ_comm s z
 
 pub turn_turned : (above right : Bool) (p a b : Point) → pos 0 <ℤ a.d → pos 0 <ℤ b.d → turn above right p b a
     ≡ neg_ℤ (turn above right p a b)
@@ -193,8 +215,10 @@ turn_turned above right p a b da db =
     let s = side_turned p a b in
     let same : is_beyond right (neg_ℤ q *ℤ side_by p b a) ≡ is_beyond right (q *ℤ side_by p a b) =
     sym (beyond_mul right a.d (neg_ℤ q *ℤ side_by p b a) da)
-    ∙ ap (is_beyond right) (mul_assoc (neg_ℤ q) (side_by p b a) a.d ∙ ap (λ (z : ℤ). neg_ℤ q *ℤ z) s ∙ sym
-    (mul_assoc (neg_ℤ q) (neg_ℤ (side_by p a b)) b.d) ∙ ap (λ (z : ℤ). z *ℤ b.d) (two_signs q (side_by p a b)))
+    ∙ ap (is_beyond right) (mul_assoc (neg_ℤ q) (side_by p b a) a.d ∙ ap (λ (z : ℤ). neg_ℤ q *ℤ z) s
+    ∙ sym
+    (mul_assoc (neg_ℤ q) (neg_ℤ (side_by p a b)) b.d)
+        ∙ ap (λ (z : ℤ). z *ℤ b.d) (two_signs q (side_by p a b)))
     ∙ beyond_mul right b.d (q *ℤ side_by p a b) db in
     ap (λ (z : ℤ). if is_beyond right (z *ℤ side_by p b a) then z else pos 0) (passage_turned above p a b)
     ∙ ap (λ (t : Bool). if t then neg_ℤ q else pos 0) same
@@ -217,12 +241,14 @@ step_down right p a b dp da db o =
 
 -- ---- hard by a point on both sides
 -- what lies ahead hard by on the left and not on the right lies at the point
-pub ahead_both : (p b : Point) → ahead false p b -ℤ ahead true p b ≡ counted (is_level p b && int_eq (p.x *ℤ b.d)
+pub ahead_both : (p b : Point) → ahead false p b -ℤ ahead true p b
+    ≡ counted (is_level p b && int_eq (p.x *ℤ b.d)
     (b.x *ℤ p.d))
 unfolding is_beyond
 ahead_both p b = by_test (is_level p b) (three (p.x *ℤ b.d) (b.x *ℤ p.d))
   where
-    three : (x y : ℤ) → counted (int_le (pos 0) (y -ℤ x)) -ℤ counted (int_lt (pos 0) (y -ℤ x)) ≡ counted (int_eq x y)
+    three : (x y : ℤ) → counted (int_le (pos 0) (y -ℤ x)) -ℤ counted (int_lt (pos 0) (y -ℤ x))
+        ≡ counted (int_eq x y)
     three x y = by_lt_z x y
         (λ h.
         let p : int_le (pos 0) (y -ℤ x) ≡ true = sym (omega (arith, ints)) in

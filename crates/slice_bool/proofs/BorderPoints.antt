@@ -68,8 +68,8 @@ module _ (es : List LeafEdge) (shape : Shape) where
   AllBorder qs = AllByRecursion (λ q. Borders q.from q.to) qs
 
   -- a piece that runs between two spots, where the values on its sides differ
-  between_borders : (v w : Bool) (s t : Spot) (name : ℕ) → pos 0 <ℤ (point_of t).d → ((b c : Bool) → v ≡ b → w ≡ c
-      → b ≢ c → Borders s t) → AllBorder (piece_between v w s t name)
+  between_borders : (v w : Bool) (s t : Spot) (name : ℕ) → pos 0 <ℤ (point_of t).d
+      → ((b c : Bool) → v ≡ b → w ≡ c → b ≢ c → Borders s t) → AllBorder (piece_between v w s t name)
   between_borders true true s t name dt h = tt
   between_borders true false s t name dt h = (h true false refl refl (λ e. cc), tt)
   between_borders false true s t name dt h = (
@@ -79,8 +79,8 @@ module _ (es : List LeafEdge) (shape : Shape) where
   )
   between_borders false false s t name dt h = tt
 
-  differing : (p : Point) (a r a' r' b c : Bool) → is_in_by a r es shape p ≡ b → is_in_by a' r' es shape p ≡ c → b ≢ c
-      → IsBorderPoint es shape p
+  differing : (p : Point) (a r a' r' b c : Bool) → is_in_by a r es shape p ≡ b → is_in_by a' r' es shape p ≡ c
+      → b ≢ c → IsBorderPoint es shape p
   differing p a r a' r' true true h k n = absurd (n refl)
   differing p a r a' r' true false h k n = record {
     held_above = a;
@@ -106,8 +106,8 @@ module _ (es : List LeafEdge) (shape : Shape) where
   both_below : (a b : Point) → IsBelow a b → IsBelow b a → ⊥
   both_below a b h k = omega (arith, ints)
 
-  below_level : (a p b : Point) → pos 0 <ℤ a.d → pos 0 <ℤ p.d → pos 0 <ℤ b.d → IsBelow a b → AreLevel a p → AreLevel p b
-      → ⊥
+  below_level : (a p b : Point) → pos 0 <ℤ a.d → pos 0 <ℤ p.d → pos 0 <ℤ b.d → IsBelow a b
+      → AreLevel a p → AreLevel p b → ⊥
   below_level a p b da dp db o h k =
       let m : IsAtMost (level_at b) (level_at p) = omega (arith, ints) in
       let n = lower_then_at_most (level_at a) (level_at b) (level_at p) da db dp o m in
@@ -115,7 +115,8 @@ module _ (es : List LeafEdge) (shape : Shape) where
 
   module _ (l u : Level) (n : AreNeighbours es l u) (k : ℕ) (lk : IsLive es l u k) where
     run_positive : pos 0 <ℤ pos (unsigned_abs (rise (edge_at es k)))
-    run_positive = subst (λ (z : ℤ). pos 0 <ℤ z) (sym (size_of (rise (edge_at es k)) lk.reaches.rises)) lk.reaches.rises
+    run_positive = subst (λ (z : ℤ). pos 0 <ℤ z) (sym (size_of (rise (edge_at es k)) lk.reaches.rises))
+        lk.reaches.rises
 
     spot_there : (m : Level) → IsSpotAt m (spot_on (edge_at es k) m)
     spot_there m = record { at = refl; runs = run_positive }
@@ -137,19 +138,22 @@ module _ (es : List LeafEdge) (shape : Shape) where
         let factor : ℤ = (r *ℤ r) *ℤ (l.d *ℤ (u.n *ℤ l.d -ℤ l.n *ℤ u.d)) in
         let positive : pos 0 <ℤ factor = positive_product (r *ℤ r) (l.d *ℤ (u.n *ℤ l.d -ℤ l.n *ℤ u.d))
         (positive_product r r lk.reaches.rises lk.reaches.rises)
-        (positive_product l.d (u.n *ℤ l.d -ℤ l.n *ℤ u.d) n.lower_divisor (gap_of_less (l.n *ℤ u.d) (u.n *ℤ l.d)
+        (positive_product l.d (u.n *ℤ l.d -ℤ l.n *ℤ u.d) n.lower_divisor
+            (gap_of_less (l.n *ℤ u.d) (u.n *ℤ l.d)
         n.in_order)) in
         zero_factor (left_of (edge_at es k) p.x p.y p.d) factor positive
         (sym (side_up_is p (edge_at es k) l u (pos (unsigned_abs r)) (size_of r lk.reaches.rises)) ∙ h)
 
-    over_low : (p : Point) → pos 0 <ℤ p.d → IsBelow (point_of (spot_on (edge_at es k) l)) p → IsLower l (level_at p)
+    over_low : (p : Point) → pos 0 <ℤ p.d → IsBelow (point_of (spot_on (edge_at es k) l)) p
+        → IsLower l (level_at p)
     over_low p dp h =
         let same = same_at_most (level_at (point_of (spot_on (edge_at es k) l))) l
         (spot_is_at l (spot_on (edge_at es k) l) (spot_there l)) in
         at_most_then_lower l (level_at (point_of (spot_on (edge_at es k) l))) (level_at p) n.lower_divisor low_divisor
         dp same h
 
-    under_high : (p : Point) → pos 0 <ℤ p.d → IsBelow p (point_of (spot_on (edge_at es k) u)) → IsLower (level_at p) u
+    under_high : (p : Point) → pos 0 <ℤ p.d → IsBelow p (point_of (spot_on (edge_at es k) u))
+        → IsLower (level_at p) u
     under_high p dp h =
         let same = same_at_least (level_at (point_of (spot_on (edge_at es k) u))) u
         (spot_is_at u (spot_on (edge_at es k) u) (spot_there u)) in
@@ -170,8 +174,8 @@ module _ (es : List LeafEdge) (shape : Shape) where
           low_divisor dp high_divisor rises h.0 h.1)
     ]
 
-    bundle_borders : (ks : List ℕ) (before rest : List (List ℕ)) → AreBundles es l u (before ++ ((k ∷ ks) ∷ rest))
-        → AllBorder (bundle_piece es shape l u (k ∷ ks))
+    bundle_borders : (ks : List ℕ) (before rest : List (List ℕ))
+        → AreBundles es l u (before ++ ((k ∷ ks) ∷ rest)) → AllBorder (bundle_piece es shape l u (k ∷ ks))
     bundle_borders ks before rest b =
         between_borders (is_in_by true false es shape (half_point es l u k))
         (is_in_by true true es shape (half_point es l u k)) (spot_on (edge_at es k) l) (spot_on (edge_at es k) u) k
@@ -186,8 +190,8 @@ module _ (es : List LeafEdge) (shape : Shape) where
         before rest b) ∙ hw)
         apart)
 
-  slab_borders : (l u : Level) → AreNeighbours es l u → (before bs : List (List ℕ)) → AreBundles es l u (before ++ bs)
-      → AllBorder (slab_pieces es shape l u bs)
+  slab_borders : (l u : Level) → AreNeighbours es l u → (before bs : List (List ℕ))
+      → AreBundles es l u (before ++ bs) → AllBorder (slab_pieces es shape l u bs)
   slab_borders l u n before [] b = tt
   slab_borders l u n before ([] ∷ bs) b = absurd (later_ranked es l before ([] ∷ bs) b.ranked).0
   slab_borders l u n before ((k ∷ ks) ∷ bs) b =
@@ -210,8 +214,8 @@ module _ (es : List LeafEdge) (shape : Shape) where
   is_beyond_it p b h = sym (omega (arith, ints))
 
   -- no point lies between two spots of one height by its own
-  ends_level : (l : Level) → pos 0 <ℤ l.d → (s t : Spot) → IsSpotAt l s → IsSpotAt l t → (p : Point) → pos 0 <ℤ p.d
-      → IsBelow (point_of s) p → IsBelow p (point_of t) → ⊥
+  ends_level : (l : Level) → pos 0 <ℤ l.d → (s t : Spot) → IsSpotAt l s → IsSpotAt l t → (p : Point)
+      → pos 0 <ℤ p.d → IsBelow (point_of s) p → IsBelow p (point_of t) → ⊥
   ends_level l dl s t hs ht p dp h k =
       let from = same_at_most (level_at (point_of s)) l (spot_is_at l s hs) in
       let to = same_at_least (level_at (point_of t)) l (spot_is_at l t ht) in
@@ -255,8 +259,10 @@ module _ (es : List LeafEdge) (shape : Shape) where
         es shape alike) ∙ hw)
         apart)
 
-  walk_borders : (l : Level) → pos 0 <ℤ l.d → (s : Spot) (ss : List Spot) → AllByRecursion (IsSpotAt l) (s ∷ ss)
-      → GoRight (s ∷ ss) → AllByRecursion (IsUpTo s ss) (spots_at es l) → AllBorder (flat_pieces es shape (s ∷ ss))
+  walk_borders : (l : Level) → pos 0 <ℤ l.d → (s : Spot) (ss : List Spot)
+      → AllByRecursion (IsSpotAt l) (s ∷ ss)
+      → GoRight (s ∷ ss) → AllByRecursion (IsUpTo s ss) (spots_at es l)
+      → AllBorder (flat_pieces es shape (s ∷ ss))
   walk_borders l dl s [] hs r h = tt
   walk_borders l dl s (t ∷ ss) hs r h =
       AllByRecursion-append (λ q. Borders q.from q.to) (stretch_piece es shape s t (position (covers s t) es))
@@ -272,7 +278,8 @@ module _ (es : List LeafEdge) (shape : Shape) where
       (first_up_to s ss (spots_at es l) a.complete)
 
   -- ---- level by level
-  level_borders : (l : Level) (ls : List Level) (pieces : List Piece) → AllByRecursion (λ (l : Level). pos 0 <ℤ l.d)
+  level_borders : (l : Level) (ls : List Level) (pieces : List Piece)
+      → AllByRecursion (λ (l : Level). pos 0 <ℤ l.d)
       (l ∷ ls) → IsRising (l ∷ ls) → AllByRecursion (UpTo l ls) (heights es)
       → AreLevelPieces es shape (l ∷ ls) pieces → AllBorder pieces
   level_borders l [] pieces d r h a = subst AllBorder (sym a.2) (flat_borders l d.0 a.0 a.1)
@@ -286,7 +293,8 @@ module _ (es : List LeafEdge) (shape : Shape) where
   by_levels : (ls : List Level) (pieces : List Piece) → AreLevels es ls → AreLevelPieces es shape ls pieces
       → AllBorder pieces
   by_levels [] pieces v a = subst AllBorder (sym a) tt
-  by_levels (l ∷ ls) pieces v a = level_borders l ls pieces v.divisors v.rising (at_first l ls (heights es) v.complete)
+  by_levels (l ∷ ls) pieces v a = level_borders l ls pieces v.divisors v.rising
+      (at_first l ls (heights es) v.complete)
       a
 
   at_point : (p : Point) → pos 0 <ℤ p.d → (pieces : List Piece) → AllBorder pieces

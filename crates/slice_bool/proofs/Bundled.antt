@@ -32,18 +32,22 @@ use Rattle.std.proofs.Math.IntN.{+ℤ_comm}
 use Rattle.std.proofs.lemmas.Bool.{cases_lt}
 
 -- ---- sums of headings
-headings_are : (es : List LeafEdge) (leaf : ℕ) (ks : List ℕ) → headings es leaf ks ≡ sum_z (heading_for es leaf) ks
+headings_are : (es : List LeafEdge) (leaf : ℕ) (ks : List ℕ)
+    → headings es leaf ks ≡ sum_z (heading_for es leaf) ks
 unfolding heading
 headings_are es leaf [] = refl
 headings_are es leaf (k ∷ ks) =
-    ap (λ (z : ℤ). (if (get_or es k no_edge).leaf == leaf then heading_of (get_or es k no_edge).edge else pos 0) +ℤ z)
+    ap (λ (z : ℤ). (if (get_or es k no_edge).leaf == leaf then heading_of (get_or es k no_edge).edge else pos 0) +ℤ
+        z)
     (headings_are es leaf ks)
 
-pub left_is : (es : List LeafEdge) (shape : Shape) (bs : List (List ℕ)) → left_value es shape bs ≡ value_of es shape bs
+pub left_is : (es : List LeafEdge) (shape : Shape) (bs : List (List ℕ))
+    → left_value es shape bs ≡ value_of es shape bs
 left_is es shape bs = ap (λ (f : ℕ → Bool). shape_holds f shape)
     (fun_ext (λ leaf. ap (λ (z : ℤ). not (is_zero z)) (headings_are es leaf (concat bs))))
 
-headings-append : (es : List LeafEdge) (leaf : ℕ) (xs ys : List ℕ) → headings es leaf (xs ++ ys) ≡ headings es leaf xs
+headings-append : (es : List LeafEdge) (leaf : ℕ) (xs ys : List ℕ)
+    → headings es leaf (xs ++ ys) ≡ headings es leaf xs
     +ℤ headings es leaf ys
 headings-append es leaf [] ys = sym (+ℤ_idl (headings es leaf ys))
 headings-append es leaf (k ∷ ks) ys =
@@ -69,7 +73,8 @@ dropped_length [] (suc j) = omega arith
 dropped_length (b ∷ bs) zero = omega arith
 dropped_length (b ∷ bs) (suc j) = let r = dropped_length bs j in let l = length-append b (concat bs) in omega arith
 
-pub bundle_length : (bs : List (List ℕ)) (j : ℕ) (d : List ℕ) → j < length bs → length (get_or bs j d) ≤ length
+pub bundle_length : (bs : List (List ℕ)) (j : ℕ) (d : List ℕ) → j < length bs
+    → length (get_or bs j d) ≤ length
     (concat bs)
 bundle_length [] j d h = absurd (omega arith)
 bundle_length (b ∷ bs) zero d h = let l = length-append b (concat bs) in omega arith
@@ -81,12 +86,14 @@ all_of_bundle P [] j d h a = absurd (omega arith)
 all_of_bundle P (b ∷ bs) zero d h a = front P b (concat bs) a
 all_of_bundle P (b ∷ bs) (suc j) d h a = all_of_bundle P bs j d (omega arith) (back P b (concat bs) a)
 
-pub there_at : (es : List LeafEdge) (bs : List (List ℕ)) (j : ℕ) (d : List ℕ) → j < length bs → AreMembers es bs
-    → All (λ k. k < length es) (get_or bs j d)
-there_at es bs j d h m = All-from_recursion (λ k. k < length es) (get_or bs j d) (all_of_bundle (λ k. k < length es) bs
+pub there_at : (es : List LeafEdge) (bs : List (List ℕ)) (j : ℕ) (d : List ℕ) → j < length bs
+    → AreMembers es bs → All (λ k. k < length es) (get_or bs j d)
+there_at es bs j d h m = All-from_recursion (λ k. k < length es) (get_or bs j d)
+    (all_of_bundle (λ k. k < length es) bs
     j d h m.there)
 
-pub rises_first : (es : List LeafEdge) (l u : Level) (b : List ℕ) → AllByRecursion (IsLive es l u) b → RisesFirst es b
+pub rises_first : (es : List LeafEdge) (l u : Level) (b : List ℕ) → AllByRecursion (IsLive es l u) b
+    → RisesFirst es b
 rises_first es l u [] h = tt
 rises_first es l u (k ∷ ks) h = (h.0.there, h.0.reaches.rises)
 
@@ -104,7 +111,8 @@ reaching_length k (e ∷ es) l u = by_test (reaches e.edge l u) (reaching_length
     by_test true h = omega arith
     by_test false h = omega arith
 
-pub are_members : (es : List LeafEdge) (l u : Level) (bs : List (List ℕ)) → AreBundles es l u bs → AreMembers es bs
+pub are_members : (es : List LeafEdge) (l u : Level) (bs : List (List ℕ)) → AreBundles es l u bs
+    → AreMembers es bs
 are_members es l u bs b = record {
   there = weaker (concat bs) (live_bundles es l u bs b);
   few = let p = length_permutation (reaching 0 es l u) (concat bs) b.members in let r = reaching_length 0 es l u in omega arith;
@@ -115,7 +123,8 @@ are_members es l u bs b = record {
     weaker (k ∷ ks) h = (h.0.there, weaker ks h.1)
 
 -- ---- values from right to left
-pub few_to_left : (es : List LeafEdge) (bs : List (List ℕ)) (turns : List ℤ) (j most : ℕ) → length (concat bs) ≤ most
+pub few_to_left : (es : List LeafEdge) (bs : List (List ℕ)) (turns : List ℤ) (j most : ℕ)
+    → length (concat bs) ≤ most
     → IsTally turns (λ leaf. headings es leaf (concat (drop j bs))) → AreWithin most turns
 few_to_left es bs turns j most h t = λ leaf.
     let e = t leaf in
@@ -125,7 +134,8 @@ few_to_left es bs turns j most h t = λ leaf.
     rw e (omega arith)
 
 left_more : (es : List LeafEdge) (leaf : ℕ) (bs : List (List ℕ)) (i : ℕ) (d : List ℕ) → i < length bs
-    → headings es leaf (concat (drop (length bs - (i + 1)) bs)) ≡ headings es leaf (concat (drop (length bs - i) bs)) +ℤ
+    → headings es leaf (concat (drop (length bs - (i + 1)) bs))
+    ≡ headings es leaf (concat (drop (length bs - i) bs)) +ℤ
     headings es leaf (get_or bs (length bs - 1 - i) d)
 left_more es leaf bs i d h =
     let j : ℕ = length bs - 1 - i in
@@ -137,8 +147,8 @@ left_more es leaf bs i d h =
     ∙ +ℤ_comm (headings es leaf (get_or bs j d)) (headings es leaf (concat (drop (j + 1) bs)))
     ∙ ap (λ (k : ℕ). headings es leaf (concat (drop k bs)) +ℤ headings es leaf (get_or bs j d)) (sym q)
 
-pub tally_more : (es : List LeafEdge) (bs : List (List ℕ)) (i : ℕ) (d : List ℕ) (old new : List ℤ) → i < length bs
-    → IsTally old (λ leaf. headings es leaf (concat (drop (length bs - i) bs)))
+pub tally_more : (es : List LeafEdge) (bs : List (List ℕ)) (i : ℕ) (d : List ℕ) (old new : List ℤ)
+    → i < length bs → IsTally old (λ leaf. headings es leaf (concat (drop (length bs - i) bs)))
     → IsTally new (λ leaf. get_or old leaf (pos 0) +ℤ headings es leaf (get_or bs (length bs - 1 - i) d))
     → IsTally new (λ leaf. headings es leaf (concat (drop (length bs - (i + 1)) bs)))
 tally_more es bs i d old new h t s = λ leaf.
@@ -167,7 +177,8 @@ at_end [] v (suc k) l = absurd (omega arith)
 at_end (w ∷ vs) v zero l = absurd (omega arith)
 at_end (w ∷ vs) v (suc k) l = at_end vs v k (omega arith)
 
-before_end : (vs : List Bool) (v : Bool) (k : ℕ) → k < length vs → get_or (vs ++ (v ∷ [])) k false ≡ get_or vs k false
+before_end : (vs : List Bool) (v : Bool) (k : ℕ) → k < length vs
+    → get_or (vs ++ (v ∷ [])) k false ≡ get_or vs k false
 before_end [] v k l = absurd (omega arith)
 before_end (w ∷ vs) v zero l = refl
 before_end (w ∷ vs) v (suc k) l = before_end vs v k (omega arith)
@@ -181,7 +192,8 @@ one_more P vs v i l h e k b = elim (cases_lt i k) [
 ]
 
 -- ---- the pieces
-piece_is : (es : List LeafEdge) (shape : Shape) (l u : Level) → AreNeighbours es l u → (before rest : List (List ℕ))
+piece_is : (es : List LeafEdge) (shape : Shape) (l u : Level) → AreNeighbours es l u
+    → (before rest : List (List ℕ))
     (b : List ℕ) → AreBundles es l u (before ++ (b ∷ rest))
     → bundle_piece es shape l u b ≡ piece_of es l u (left_value es shape (b ∷ rest)) (left_value es shape rest) b
 piece_is es shape l u n before rest [] h = refl
@@ -223,7 +235,8 @@ no_bundle es shape l u (b ∷ bs) (suc i) h = no_bundle es shape l u bs i (omega
 
 -- the values on both sides of a bundle
 pub value_beside : (es : List LeafEdge) (shape : Shape) (bs : List (List ℕ)) (vs : List Bool) (i k : ℕ)
-    → AreLeftValues es shape bs vs → k ≤ length bs → length bs - k ≡ i → get_or vs k false ≡ left_value es shape
+    → AreLeftValues es shape bs vs → k ≤ length bs → length bs - k ≡ i
+    → get_or vs k false ≡ left_value es shape
     (drop i bs)
 value_beside es shape bs vs i k h b e = h.each k b ∙ ap (λ (j : ℕ). left_value es shape (drop j bs)) e
 
@@ -232,11 +245,12 @@ any_default [] k d e h = absurd (omega arith)
 any_default (v ∷ vs) zero d e h = refl
 any_default (v ∷ vs) (suc k) d e h = any_default vs k d e (omega arith)
 
-pub first_value : (es : List LeafEdge) (shape : Shape) (bs : List (List ℕ)) (vs : List Bool) (k : ℕ) → vs ≡ false ∷ []
-    → k ≤ 0 → get_or vs k false ≡ left_value es shape (drop (length bs - k) bs)
+pub first_value : (es : List LeafEdge) (shape : Shape) (bs : List (List ℕ)) (vs : List Bool) (k : ℕ)
+    → vs ≡ false ∷ [] → k ≤ 0 → get_or vs k false ≡ left_value es shape (drop (length bs - k) bs)
 first_value es shape bs vs zero e h = ap (λ (vs : List Bool). get_or vs zero false) e ∙ sym
     (ap (left_value es shape) (all_dropped bs) ∙ outside_right es shape)
 first_value es shape bs vs (suc k) e h = absurd (omega arith)
 
-pub length_more : (vs ws : List Bool) (v : Bool) (n : ℕ) → ws ≡ vs ++ (v ∷ []) → length vs ≡ n → length ws ≡ n + 1
+pub length_more : (vs ws : List Bool) (v : Bool) (n : ℕ) → ws ≡ vs ++ (v ∷ []) → length vs ≡ n
+    → length ws ≡ n + 1
 length_more vs ws v n e h = let l = length-append vs (v ∷ []) in let m = ap length e in omega arith

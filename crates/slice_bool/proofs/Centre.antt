@@ -14,12 +14,14 @@ use Rattle.scad_geom.specs.Half.{centre}
 use Rattle.slice_bool.specs.Centre.{holds_centre}
 use Rattle.slice_bool.proofs.Walk.{pieces_wind}
 
-pub centres_are_held : (es : List LeafEdge) (shape : Shape) (i j : ℤ) → is_in es shape (centre i j) ≡ holds_centre es
+pub centres_are_held : (es : List LeafEdge) (shape : Shape) (i j : ℤ)
+    → is_in es shape (centre i j) ≡ holds_centre es
     shape i j
 unfolding is_in is_in_by
 centres_are_held es shape i j = refl
 
-held_above : (es : List LeafEdge) (shape : Shape) (i j : ℤ) → is_in_by true true es shape (centre i j) ≡ holds_centre es
+held_above : (es : List LeafEdge) (shape : Shape) (i j : ℤ)
+    → is_in_by true true es shape (centre i j) ≡ holds_centre es
     shape i j
 unfolding is_in_by
 held_above es shape i j = refl

@@ -18,14 +18,15 @@ use Rattle.slice_bool.proofs.Walk.{UpTo, at_first, at_next, neighbours_next}
 -- ---- neighbouring levels
 from_level : (es : List LeafEdge) (ls : List Level) (l : Level) (i : ℕ) (d e : Level) → suc i < suc (length ls)
     → AllByRecursion (λ (l : Level). pos 0 <ℤ l.d) (l ∷ ls) → IsRising (l ∷ ls)
-    → AllByRecursion (UpTo l ls) (heights es) → AreNeighbours es (get_or (l ∷ ls) i d) (get_or (l ∷ ls) (suc i) e)
+    → AllByRecursion (UpTo l ls) (heights es)
+    → AreNeighbours es (get_or (l ∷ ls) i d) (get_or (l ∷ ls) (suc i) e)
 from_level es [] l i d e h p r t = absurd (omega arith)
 from_level es (u ∷ ls) l zero d e h p r t = neighbours_next es l u ls p r t
 from_level es (u ∷ ls) l (suc i) d e h p r t = from_level es ls u i d e (omega arith) p.1 r.1
     (at_next l u ls (heights es) p.0 p.1.0 (heights_positive es) r.0 t)
 
-pub neighbours_at : (es : List LeafEdge) (ls : List Level) (i : ℕ) (d e : Level) → i + 1 < length ls → AreLevels es ls
-    → AreNeighbours es (get_or ls i d) (get_or ls (i + 1) e)
+pub neighbours_at : (es : List LeafEdge) (ls : List Level) (i : ℕ) (d e : Level) → i + 1 < length ls
+    → AreLevels es ls → AreNeighbours es (get_or ls i d) (get_or ls (i + 1) e)
 neighbours_at es [] i d e h a = absurd (omega arith)
 neighbours_at es (l ∷ ls) i d e h a = rw add-one (from_level es ls l i d e (omega arith) a.divisors a.rising
     (at_first l ls (heights es) a.complete))
@@ -48,7 +49,8 @@ last_level es shape ls i d old new h k a =
     subst (λ (ls : List Level). Extends (AreUpToNext es shape ls) old new) (sym e) a
 
 -- on one with a next
-pub next_level : (es : List LeafEdge) (shape : Shape) (ls : List Level) (i : ℕ) (d e : Level) (old mid new : List Piece)
+pub next_level : (es : List LeafEdge) (shape : Shape) (ls : List Level) (i : ℕ) (d e : Level)
+    (old mid new : List Piece)
     → i + 1 < length ls
     → Extends (AreOnLevel es shape (get_or ls i d)) old mid
     → Extends (AreBetweenLevels es shape (get_or ls i d) (get_or ls (i + 1) e)) mid new
@@ -57,7 +59,8 @@ next_level es shape ls i d e old mid new h a b =
     let f : drop i ls ≡ get_or ls i d ∷ (get_or ls (i + 1) e ∷ drop (i + 1 + 1) ls) = drop_more ls i d (omega arith) ∙
     ap (λ (r : List Level). get_or ls i d ∷ r) (drop_more ls (i + 1) e h) in
     subst (λ (ls : List Level). Extends (AreUpToNext es shape ls) old new) (sym f)
-    (a.0 ++ b.0, (a.0, b.0, a.1, b.1, refl), b.2 ∙ ap (λ (qs : List Piece). qs ++ b.0) a.2 ∙ append_assoc old a.0 b.0)
+    (a.0 ++ b.0, (a.0, b.0, a.1, b.1, refl), b.2 ∙ ap (λ (qs : List Piece). qs ++ b.0) a.2
+        ∙ append_assoc old a.0 b.0)
 
 -- ---- all levels
 -- the pieces so far, with those of the levels to come, are those of all levels
@@ -70,7 +73,8 @@ starts es shape ls rest a = a
 
 one_level : (es : List LeafEdge) (shape : Shape) (l : Level) (next : List Level) (old new : List Piece)
     → Extends (AreUpToNext es shape (l ∷ next)) old new
-    → (rest : List Piece) → AreLevelPieces es shape next rest → (more : List Piece) × AreLevelPieces es shape (l ∷ next)
+    → (rest : List Piece) → AreLevelPieces es shape next rest
+    → (more : List Piece) × AreLevelPieces es shape (l ∷ next)
     more × (new ++ rest ≡ old ++ more)
 one_level es shape l [] old new a rest r = (a.0, a.1, ap (λ (qs : List Piece). new ++ qs) r ∙ append-nil new ∙ a.2)
 one_level es shape l (u ∷ next) old new a rest r =

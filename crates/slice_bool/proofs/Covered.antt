@@ -27,8 +27,8 @@ not_past : (s : Spot) → IsAtMost (across s) (across s)
 not_past s = omega (arith, ints)
 
 module _ (es : List LeafEdge) (shape : Shape) (balanced : AreLeavesBalanced es) (l : Level) (dl : pos 0 <ℤ l.d) where
-  one_stretch : (s t : Spot) → IsSpotAt l s → IsSpotAt l t → IsLeft s t → AllByRecursion (IsBeside s t) (spots_at es l)
-      → position (covers s t) es ≡ None
+  one_stretch : (s t : Spot) → IsSpotAt l s → IsSpotAt l t → IsLeft s t
+      → AllByRecursion (IsBeside s t) (spots_at es l) → position (covers s t) es ≡ None
       → is_in_by true true es shape (point_of s) ≡ is_in_by false true es shape (point_of s)
   one_stretch s t hs ht o h c =
       let dp = spot_divisor l s dl hs in

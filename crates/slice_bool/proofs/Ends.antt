@@ -73,7 +73,8 @@ module _ (P : Spot → Type 0) where
       (bundle_ends es shape l u b (front (AtBoth es l u) b (concat bs) h))
       (slab_ends es shape l u bs (back (AtBoth es l u) b (concat bs) h))
 
-pub each_of : (Q R : ℕ → Type 0) → ((k : ℕ) → Q k → R k) → (ks : List ℕ) → AllByRecursion Q ks → AllByRecursion R ks
+pub each_of : (Q R : ℕ → Type 0) → ((k : ℕ) → Q k → R k) → (ks : List ℕ) → AllByRecursion Q ks
+    → AllByRecursion R ks
 each_of Q R f [] h = tt
 each_of Q R f (k ∷ ks) h = (f k h.0, each_of Q R f ks h.1)
 
@@ -87,7 +88,8 @@ all_on all l [] a h = tt
 all_on all l (s ∷ ss) a h = (subst (IsAmong all) (sym h.0.at) a, all_on all l ss a h.1)
 
 level_ends : (es : List LeafEdge) (shape : Shape) (all ls : List Level) (pieces : List Piece)
-    → AllByRecursion (IsAmong all) ls → AreLevelPieces es shape ls pieces → AllByRecursion (IsOn all) (ends_of pieces)
+    → AllByRecursion (IsAmong all) ls → AreLevelPieces es shape ls pieces
+    → AllByRecursion (IsOn all) (ends_of pieces)
 level_ends es shape all [] pieces a h = subst (λ (qs : List Piece). AllByRecursion (IsOn all) (ends_of qs)) (sym h) tt
 level_ends es shape all (l ∷ []) pieces a h =
     subst (λ (qs : List Piece). AllByRecursion (IsOn all) (ends_of qs)) (sym h.2) (flat_ends (IsOn all) es shape h.0
@@ -101,7 +103,8 @@ level_ends es shape all (l ∷ (u ∷ ls)) pieces a h =
     (concat h.1) (live_bundles es l u h.1 h.4))))
     (level_ends es shape all (u ∷ ls) h.2 a.1 h.5))
 
-more_among : (k : Level) (all ls : List Level) → AllByRecursion (IsAmong all) ls → AllByRecursion (IsAmong (k ∷ all)) ls
+more_among : (k : Level) (all ls : List Level) → AllByRecursion (IsAmong all) ls
+    → AllByRecursion (IsAmong (k ∷ all)) ls
 more_among k all [] h = tt
 more_among k all (l ∷ ls) h = (inr h.0, more_among k all ls h.1)
 
@@ -164,6 +167,7 @@ pub heights_have_one_level : (es : List LeafEdge) (shape : Shape) (pieces : List
 heights_have_one_level es shape pieces h =
     let on = ends_on_levels es shape h.levels pieces h.are_pieces in
     record {
-      each = All-from_recursion (λ s. All (λ t. IsSameHeight s.at t.at → s.at ≡ t.at) (ends_of pieces)) (ends_of pieces)
+      each = All-from_recursion (λ s. All (λ t. IsSameHeight s.at t.at → s.at ≡ t.at) (ends_of pieces))
+          (ends_of pieces)
           (with_each h.levels h.are_levels.divisors h.are_levels.rising (ends_of pieces) (ends_of pieces) on on);
     }

@@ -38,5 +38,6 @@ holds_left : holds_centre square (Leaf 0) (negsuc 0) (pos 0) ≡ false
 unfolding is_over passage_by side_by is_beyond turn
 holds_left = refl
 
-one_edge : edges_of 1 square ≡ record { a = record { x = pos 5; y = pos 0 }; b = record { x = pos 5; y = pos 2 } } ∷ []
+one_edge : edges_of 1 square ≡ record { a = record { x = pos 5; y = pos 0 }; b = record { x = pos 5; y = pos 2 } }
+    ∷ []
 one_edge = refl

@@ -48,8 +48,8 @@ module _ (turns news : List ℤ) (leaf : ℕ) (by : ℤ)
       by_test true e = ap (in_by news) (same_leaf leaf k e)
       by_test false e = sym (elsewhere k e)
 
-  pub keeps_set : (h g : Held) (inside : Bool) → inside ≡ in_by news leaf → IsReady g → leaf_count g ≡ leaf_count h
-      → SetsLeaf leaf inside h g → KeepsUp turns news h g
+  pub keeps_set : (h g : Held) (inside : Bool) → inside ≡ in_by news leaf → IsReady g
+      → leaf_count g ≡ leaf_count h → SetsLeaf leaf inside h g → KeepsUp turns news h g
   keeps_set h g inside e r n s =
       record {
         ready = r;
@@ -69,15 +69,16 @@ module _ (turns news : List ℤ) (leaf : ℕ) (by : ℤ)
       }
     where
       by_test : (k : ℕ) (t : Bool) → (leaf == k) ≡ t → in_by turns k ≡ in_by news k
-      by_test k true q = ap (in_by turns) (sym (same_leaf leaf k q)) ∙ sym b ∙ sym (same_answer inside before e) ∙ i
-          ∙ ap (in_by news) (same_leaf leaf k q)
+      by_test k true q = ap (in_by turns) (sym (same_leaf leaf k q)) ∙ sym b ∙ sym (same_answer inside before e)
+          ∙ i ∙ ap (in_by news) (same_leaf leaf k q)
       by_test k false q = sym (elsewhere k q)
 
 -- all are out where all numbers are 0
 pub keeps_first : (turns : List ℤ) (shape : Shape) (h : Held) → IsTally turns (λ leaf. pos 0)
     → Shows shape (λ leaf. false) h → Shows shape (in_by turns) h
 keeps_first turns shape h z s =
-    subst (λ (f : ℕ → Bool). Shows shape f h) (fun_ext (λ leaf. sym (ap (λ (z : ℤ). not (is_zero z)) (z leaf)))) s
+    subst (λ (f : ℕ → Bool). Shows shape f h)
+        (fun_ext (λ leaf. sym (ap (λ (z : ℤ). not (is_zero z)) (z leaf)))) s
 
 pub heading_size : (e : Edge) → unsigned_abs (heading_of e) ≤ 1
 heading_size e = by_test (int_lt e.b.y e.a.y)
@@ -91,8 +92,8 @@ pub sum_on : (old new z : ℤ) (t : Bool) (rest before whole : ℤ) → new ≡ 
 sum_on old new z true rest before whole e f g = omega (arith, ints)
 sum_on old new z false rest before whole e f g = omega (arith, ints)
 
-pub size_on : (old new z : ℤ) (t : Bool) (most : ℕ) → new ≡ old +ℤ (if t then z else pos 0) → unsigned_abs z ≤ 1
-    → unsigned_abs old ≤ most → unsigned_abs new ≤ most + 1
+pub size_on : (old new z : ℤ) (t : Bool) (most : ℕ) → new ≡ old +ℤ (if t then z else pos 0)
+    → unsigned_abs z ≤ 1 → unsigned_abs old ≤ most → unsigned_abs new ≤ most + 1
 size_on old new z true most e h k = omega (arith, ints)
 size_on old new z false most e h k = omega (arith, ints)
 
@@ -109,15 +110,19 @@ module _ (turns news : List ℤ) (leaf : ℕ)
   put_answers k = by_test (leaf == k) refl
     where
       by_test : (t : Bool) → (leaf == k) ≡ t → (if t then false else in_by turns k) ≡ in_by news k
-      by_test true e = sym (ap (λ (z : ℤ). not (is_zero z)) (moved k ∙ ap (λ (t : Bool). if t then pos 0 else get_or turns k (pos 0)) e))
-      by_test false e = sym (ap (λ (z : ℤ). not (is_zero z)) (moved k ∙ ap (λ (t : Bool). if t then pos 0 else get_or turns k (pos 0)) e))
+      by_test true e = sym (ap (λ (z : ℤ). not (is_zero z))
+          (moved k ∙ ap (λ (t : Bool). if t then pos 0 else get_or turns k (pos 0)) e))
+      by_test false e = sym (ap (λ (z : ℤ). not (is_zero z))
+          (moved k ∙ ap (λ (t : Bool). if t then pos 0 else get_or turns k (pos 0)) e))
 
-  pub keeps_put : (h g : Held) → IsReady g → leaf_count g ≡ leaf_count h → SetsLeaf leaf false h g → KeepsUp turns news h g
+  pub keeps_put : (h g : Held) → IsReady g → leaf_count g ≡ leaf_count h → SetsLeaf leaf false h g
+      → KeepsUp turns news h g
   keeps_put h g r n s =
       record {
         ready = r;
         size = n;
-        shows = λ shape shown. subst (λ (f : ℕ → Bool). Shows shape f g) (fun_ext put_answers) (s shape (in_by turns) shown);
+        shows = λ shape shown. subst (λ (f : ℕ → Bool). Shows shape f g) (fun_ext put_answers)
+            (s shape (in_by turns) shown);
       }
 
 pub keeps_still : (turns : List ℤ) (h : Held) → IsReady h → KeepsUp turns turns h h
@@ -131,7 +136,8 @@ nothing_put turns leaf h k = by_test (leaf == k) refl
     is_true true e = refl
     is_true false e = absurd cc
 
-    by_test : (t : Bool) → (leaf == k) ≡ t → get_or turns k (pos 0) ≡ (if t then pos 0 else get_or turns k (pos 0))
+    by_test : (t : Bool) → (leaf == k) ≡ t
+        → get_or turns k (pos 0) ≡ (if t then pos 0 else get_or turns k (pos 0))
     by_test true e = ap (λ (j : ℕ). get_or turns j (pos 0)) (sym (same_leaf leaf k e))
         ∙ zero_true (get_or turns leaf (pos 0)) (is_true (is_zero (get_or turns leaf (pos 0))) h)
     by_test false e = refl
@@ -144,8 +150,10 @@ put_step false h true old new whole e n k = ap (λ (t : Bool). if t then pos 0 e
 put_step false h false old new whole e n k = n ∙ ap (λ (t : Bool). if t then pos 0 else old) (sym e) ∙ k
 
 -- where a leaf's number is 0 unless it is put back, all are 0 afterwards
-pub all_put : (mid news : List ℤ) (edges : List LeafEdge) → IsTally news (λ leaf. if has_leaf leaf edges then pos 0 else get_or mid leaf (pos 0))
-    → ((leaf : ℕ) → has_leaf leaf edges ≡ false → get_or mid leaf (pos 0) ≡ pos 0) → IsTally news (λ leaf. pos 0)
+pub all_put : (mid news : List ℤ) (edges : List LeafEdge)
+    → IsTally news (λ leaf. if has_leaf leaf edges then pos 0 else get_or mid leaf (pos 0))
+    → ((leaf : ℕ) → has_leaf leaf edges ≡ false → get_or mid leaf (pos 0) ≡ pos 0)
+    → IsTally news (λ leaf. pos 0)
 all_put mid news edges t z leaf = by_test (has_leaf leaf edges) refl
   where
     by_test : (b : Bool) → has_leaf leaf edges ≡ b → get_or news leaf (pos 0) ≡ pos 0

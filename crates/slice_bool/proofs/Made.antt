@@ -30,9 +30,11 @@ pub record IsPlaced (es : List LeafEdge) (q : Piece) : Type 0 where
 
 on_positive : (a b : Point) → a.d ≡ pos 1 → b.d ≡ pos 1 → (p : Point) → IsOn a b p → pos 0 <ℤ p.d
 on_positive a b ha hb p h = pos_left p.d h.k h.positive (positive h.k h.s h.t p.d h.some
-    (h.d ∙ ap (λ (z : ℤ). h.s *ℤ z +ℤ h.t *ℤ b.d) ha ∙ ap (λ (z : ℤ). h.s *ℤ pos 1 +ℤ h.t *ℤ z) hb))
+    (h.d ∙ ap (λ (z : ℤ). h.s *ℤ z +ℤ h.t *ℤ b.d) ha
+        ∙ ap (λ (z : ℤ). h.s *ℤ pos 1 +ℤ h.t *ℤ z) hb))
   where
-    positive : (k s t d : ℤ) → pos 0 <ℤ (s +ℤ t) → k *ℤ d ≡ s *ℤ pos 1 +ℤ t *ℤ pos 1 → pos 0 <ℤ (d *ℤ k)
+    positive : (k s t d : ℤ) → pos 0 <ℤ (s +ℤ t) → k *ℤ d ≡ s *ℤ pos 1 +ℤ t *ℤ pos 1
+        → pos 0 <ℤ (d *ℤ k)
     positive k s t d o e =
         let same : d *ℤ k ≡ k *ℤ d = ring (d ∷ k ∷ []) (v0 ⊗ v1) (v1 ⊗ v0) refl in
         omega (arith, ints)
@@ -80,7 +82,8 @@ module _ (es : List LeafEdge) where
         (placed_proper es second two) m.meet
         (three_on_line (whole e.a) (whole e.b) (point_of first.from) (point_of first.to) (point_of second.to)
         one.on.from one.on.to second_on.to) above right q d
-        ∙ order_keeps_winding (ways_of pieces) (ways_of (first ∷ (second ∷ others))) (IsPermutation-map way_of pieces
+        ∙ order_keeps_winding (ways_of pieces) (ways_of (first ∷ (second ∷ others)))
+        (IsPermutation-map way_of pieces
         (first ∷ (second ∷ others)) m.two) above right q
 
   pub merged_placed : (pieces merged : List Piece) → AreMerged pieces merged → ArePlaced pieces → ArePlaced merged
@@ -89,10 +92,12 @@ module _ (es : List LeafEdge) where
       merged rest (joined_placed pieces first second others m h)
 
   pub merged_wind : (above right : Bool) (q : Point) → pos 0 <ℤ q.d → (pieces merged : List Piece)
-      → AreMerged pieces merged → ArePlaced pieces → wind_pieces above right q merged ≡ wind_pieces above right q pieces
+      → AreMerged pieces merged → ArePlaced pieces
+      → wind_pieces above right q merged ≡ wind_pieces above right q pieces
   merged_wind above right q d pieces merged (all_joined none m) h = order_keeps_winding (ways_of pieces)
       (ways_of merged) (IsPermutation-map way_of pieces merged m) above right q
   merged_wind above right q d pieces merged (two_join first second others m rest) h =
-      merged_wind above right q d (joined first second ∷ others) merged rest (joined_placed pieces first second others m
+      merged_wind above right q d (joined first second ∷ others) merged rest
+          (joined_placed pieces first second others m
       h)
       ∙ joined_winds pieces first second others m h above right q d

@@ -65,7 +65,8 @@ ways_clear es q c ps h = All-map (IsClearSegment (pos 1) q) way_of ps (λ i d l.
 
 -- ---- each step keeps the winding number
 module _ (es : List LeafEdge) (shape : Shape) (b : AreLeavesBalanced es) (above right : Bool) (q : Point) (d : pos 0 <ℤ q.d) (c : IsClearByHalf es q) where
-  made_wind : (pieces : List Piece) (outlines : List (List Pt)) → ArePieces es shape pieces → AreMadeOf pieces outlines
+  made_wind : (pieces : List Piece) (outlines : List (List Pt)) → ArePieces es shape pieces
+      → AreMadeOf pieces outlines
       → wind_by above right q (segments (flat_map sides outlines)) ≡ wind_pieces above right q pieces
   made_wind pieces outlines h m =
       let placed = pieces_are_placed es shape pieces h in

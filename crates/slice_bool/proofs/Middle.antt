@@ -34,22 +34,28 @@ use Rattle.slice_bool.proofs.Passing.{IsLive, live_bundles, passing, Around}
 use Rattle.slice_bool.proofs.Values.{value_of, is_in_passing}
 use Rattle.winding_laws.proofs.Forms.{beyond_below, beyond_above}
 
-low_middle : (ln ld un ud : ℤ) → (ln *ℤ ud +ℤ un *ℤ ld) *ℤ ld -ℤ ln *ℤ (pos 2 *ℤ (ld *ℤ ud)) ≡ (un *ℤ ld -ℤ ln *ℤ ud) *ℤ
+low_middle : (ln ld un ud : ℤ) → (ln *ℤ ud +ℤ un *ℤ ld) *ℤ ld -ℤ ln *ℤ (pos 2 *ℤ (ld *ℤ ud))
+    ≡ (un *ℤ ld -ℤ ln *ℤ ud) *ℤ
     ld
-low_middle ln ld un ud = ring (ln ∷ ld ∷ un ∷ ud ∷ []) ((v0 ⊗ v3 ⊕ v2 ⊗ v1) ⊗ v1 ⊖ v0 ⊗ (num (pos 2) ⊗ (v1 ⊗ v3)))
+low_middle ln ld un ud = ring (ln ∷ ld ∷ un ∷ ud ∷ [])
+    ((v0 ⊗ v3 ⊕ v2 ⊗ v1) ⊗ v1 ⊖ v0 ⊗ (num (pos 2) ⊗ (v1 ⊗ v3)))
     ((v2 ⊗ v1 ⊖ v0 ⊗ v3) ⊗ v1) refl
 
-high_middle : (ln ld un ud : ℤ) → un *ℤ (pos 2 *ℤ (ld *ℤ ud)) -ℤ (ln *ℤ ud +ℤ un *ℤ ld) *ℤ ud ≡ (un *ℤ ld -ℤ ln *ℤ ud)
+high_middle : (ln ld un ud : ℤ) → un *ℤ (pos 2 *ℤ (ld *ℤ ud)) -ℤ (ln *ℤ ud +ℤ un *ℤ ld) *ℤ ud
+    ≡ (un *ℤ ld -ℤ ln *ℤ ud)
     *ℤ ud
-high_middle ln ld un ud = ring (ln ∷ ld ∷ un ∷ ud ∷ []) (v2 ⊗ (num (pos 2) ⊗ (v1 ⊗ v3)) ⊖ (v0 ⊗ v3 ⊕ v2 ⊗ v1) ⊗ v3)
+high_middle ln ld un ud = ring (ln ∷ ld ∷ un ∷ ud ∷ [])
+    (v2 ⊗ (num (pos 2) ⊗ (v1 ⊗ v3)) ⊖ (v0 ⊗ v3 ⊕ v2 ⊗ v1) ⊗ v3)
     ((v2 ⊗ v1 ⊖ v0 ⊗ v3) ⊗ v3) refl
 
 scaled_lower : (pn pd n d r : ℤ) → n *ℤ r *ℤ pd -ℤ pn *ℤ (d *ℤ r) ≡ (n *ℤ pd -ℤ pn *ℤ d) *ℤ r
-scaled_lower pn pd n d r = ring (pn ∷ pd ∷ n ∷ d ∷ r ∷ []) (v2 ⊗ v4 ⊗ v1 ⊖ v0 ⊗ (v3 ⊗ v4)) ((v2 ⊗ v1 ⊖ v0 ⊗ v3) ⊗ v4)
+scaled_lower pn pd n d r = ring (pn ∷ pd ∷ n ∷ d ∷ r ∷ []) (v2 ⊗ v4 ⊗ v1 ⊖ v0 ⊗ (v3 ⊗ v4))
+    ((v2 ⊗ v1 ⊖ v0 ⊗ v3) ⊗ v4)
     refl
 
 scaled_upper : (pn pd n d r : ℤ) → pn *ℤ (d *ℤ r) -ℤ n *ℤ r *ℤ pd ≡ (pn *ℤ d -ℤ n *ℤ pd) *ℤ r
-scaled_upper pn pd n d r = ring (pn ∷ pd ∷ n ∷ d ∷ r ∷ []) (v0 ⊗ (v3 ⊗ v4) ⊖ v2 ⊗ v4 ⊗ v1) ((v0 ⊗ v3 ⊖ v2 ⊗ v1) ⊗ v4)
+scaled_upper pn pd n d r = ring (pn ∷ pd ∷ n ∷ d ∷ r ∷ []) (v0 ⊗ (v3 ⊗ v4) ⊖ v2 ⊗ v4 ⊗ v1)
+    ((v0 ⊗ v3 ⊖ v2 ⊗ v1) ⊗ v4)
     refl
 
 -- the height of a spot's point is the spot's
@@ -69,7 +75,8 @@ pub scaled_at_most : (p h : Level) (r : ℤ) → pos 0 <ℤ r → IsAtMost h p �
 scaled_at_most p h r pr o = let m = at_least_mul (p.n *ℤ h.d -ℤ h.n *ℤ p.d) r (gap_of_at_most (h.n *ℤ p.d) (p.n *ℤ h.d) o) (at_most_of_less (pos 0) r pr) in at_most_of_gap ((h.n *ℤ r) *ℤ p.d) (p.n *ℤ (h.d *ℤ r)) (rw (scaled_upper p.n p.d h.n h.d r) m)
 
 pub middle_positive : (l u : Level) → pos 0 <ℤ l.d → pos 0 <ℤ u.d → pos 0 <ℤ (middle l u).d
-middle_positive l u dl du = positive_product (pos 2) (l.d *ℤ u.d) (omega (arith, ints)) (positive_product l.d u.d dl du)
+middle_positive l u dl du = positive_product (pos 2) (l.d *ℤ u.d) (omega (arith, ints))
+    (positive_product l.d u.d dl du)
 
 above_low : (l u : Level) → pos 0 <ℤ l.d → IsLower l u → IsLower l (middle l u)
 above_low l u dl o = let m = positive_product (u.n *ℤ l.d -ℤ l.n *ℤ u.d) l.d (gap_of_less (l.n *ℤ u.d) (u.n *ℤ l.d) o) dl in less_of_gap (l.n *ℤ (middle l u).d) ((middle l u).n *ℤ l.d) (rw (low_middle l.n l.d u.n u.d) m)
@@ -87,11 +94,13 @@ abbrev pub half_point : List LeafEdge → Level → Level → ℕ → Point
 half_point es l u k = point_of (spot_on (edge_at es k) (middle l u))
 
 on_line : (u c r n d : ℤ) → u *ℤ (n *ℤ r) +ℤ c *ℤ (d *ℤ r) -ℤ r *ℤ (u *ℤ n +ℤ c *ℤ d) ≡ pos 0
-on_line u c r n d = ring (u ∷ c ∷ r ∷ n ∷ d ∷ []) (v0 ⊗ (v3 ⊗ v2) ⊕ v1 ⊗ (v4 ⊗ v2) ⊖ v2 ⊗ (v0 ⊗ v3 ⊕ v1 ⊗ v4))
+on_line u c r n d = ring (u ∷ c ∷ r ∷ n ∷ d ∷ [])
+    (v0 ⊗ (v3 ⊗ v2) ⊕ v1 ⊗ (v4 ⊗ v2) ⊖ v2 ⊗ (v0 ⊗ v3 ⊕ v1 ⊗ v4))
     (num (pos 0)) refl
 
 -- a spot's point lies on the edge's line
-pub on_own : (e : Edge) (h : Level) (r : ℤ) → r ≡ rise e → left_of e (x_at e h.n h.d) (h.n *ℤ r) (h.d *ℤ r) ≡ pos 0
+pub on_own : (e : Edge) (h : Level) (r : ℤ) → r ≡ rise e
+    → left_of e (x_at e h.n h.d) (h.n *ℤ r) (h.d *ℤ r) ≡ pos 0
 unfolding left_of x_at
 on_own e h r q = rw q (on_line (run e) (offset e) (rise e) h.n h.d)
 
@@ -101,7 +110,8 @@ module _ (es : List LeafEdge) (l u : Level) (n : AreNeighbours es l u) (k : ℕ)
   around right = record { neighbours = n; divisor = dp; spans = (lower_weak l (level_at p) from, to) }
 
   -- an edge before it lies to the left, one after it to the right
-  left_before : (j : ℕ) → IsLive es l u j → IsBefore l (edge_at es j) (edge_at es k) → left_of (edge_at es j) p.x p.y
+  left_before : (j : ℕ) → IsLive es l u j → IsBefore l (edge_at es j) (edge_at es k)
+      → left_of (edge_at es j) p.x p.y
       p.d <ℤ pos 0
   left_before j lj o =
       let g = before_inside es l u n j k no_edge lj.there lk.there lj.reaches lk.reaches o (level_at p) dp from to in
@@ -109,13 +119,15 @@ module _ (es : List LeafEdge) (l u : Level) (n : AreNeighbours es l u) (k : ℕ)
       let z = on in
       below_from _ (rise (edge_at es k)) _ (rise (edge_at es j)) _ _ lk.reaches.rises t z g
     where
-      below_from : (a r b s x y : ℤ) → pos 0 <ℤ r → a *ℤ r ≡ b *ℤ s -ℤ (x -ℤ y) → b ≡ pos 0 → y <ℤ x → a <ℤ pos 0
+      below_from : (a r b s x y : ℤ) → pos 0 <ℤ r → a *ℤ r ≡ b *ℤ s -ℤ (x -ℤ y) → b ≡ pos 0
+          → y <ℤ x → a <ℤ pos 0
       below_from a r b s x y pr e z g =
           let w : b *ℤ s ≡ pos 0 = rw z (zero-*ℤ s) in
           let m : (a *ℤ r) <ℤ pos 0 = omega (arith, ints) in
           negative_factor a r pr m
 
-  right_after : (j : ℕ) → IsLive es l u j → IsBefore l (edge_at es k) (edge_at es j) → pos 0 <ℤ left_of (edge_at es j)
+  right_after : (j : ℕ) → IsLive es l u j → IsBefore l (edge_at es k) (edge_at es j)
+      → pos 0 <ℤ left_of (edge_at es j)
       p.x p.y p.d
   right_after j lj o =
       let g = before_inside es l u n k j no_edge lk.there lj.there lk.reaches lj.reaches o (level_at p) dp from to in
@@ -123,7 +135,8 @@ module _ (es : List LeafEdge) (l u : Level) (n : AreNeighbours es l u) (k : ℕ)
       let z = on in
       above_from _ (rise (edge_at es k)) _ (rise (edge_at es j)) _ _ lk.reaches.rises t z g
     where
-      above_from : (a r b s x y : ℤ) → pos 0 <ℤ r → a *ℤ r ≡ b *ℤ s -ℤ (x -ℤ y) → b ≡ pos 0 → x <ℤ y → pos 0 <ℤ a
+      above_from : (a r b s x y : ℤ) → pos 0 <ℤ r → a *ℤ r ≡ b *ℤ s -ℤ (x -ℤ y) → b ≡ pos 0
+          → x <ℤ y → pos 0 <ℤ a
       above_from a r b s x y pr e z g =
           let w : b *ℤ s ≡ pos 0 = rw z (zero-*ℤ s) in
           pos_left a r pr (omega (arith, ints))
@@ -134,7 +147,8 @@ module _ (es : List LeafEdge) (l u : Level) (n : AreNeighbours es l u) (k : ℕ)
   itself false z h = rw h refl
 
   -- the bundles before it don't lie to the right of its point
-  skipped : (right : Bool) (ks : List ℕ) (before rest : List (List ℕ)) → AreRanked es l (before ++ ((k ∷ ks) ∷ rest))
+  skipped : (right : Bool) (ks : List ℕ) (before rest : List (List ℕ))
+      → AreRanked es l (before ++ ((k ∷ ks) ∷ rest))
       → AllByRecursion (IsLive es l u) (concat (before ++ ((k ∷ ks) ∷ rest)))
       → passing es right p (before ++ ((k ∷ ks) ∷ rest)) ≡ passing es right p ((k ∷ ks) ∷ rest)
   skipped right ks [] rest r ls = refl
@@ -144,10 +158,12 @@ module _ (es : List LeafEdge) (l u : Level) (n : AreNeighbours es l u) (k : ℕ)
       in
       let f : lies_left es right p j ≡ false = beyond_below right (left_of (edge_at es j) p.x p.y p.d)
       (left_before j ls.0 o) in
-      rw f (skipped right ks before rest r.2 (back (IsLive es l u) (j ∷ js) (concat (before ++ ((k ∷ ks) ∷ rest))) ls))
+      rw f (skipped right ks before rest r.2
+          (back (IsLive es l u) (j ∷ js) (concat (before ++ ((k ∷ ks) ∷ rest))) ls))
 
   -- those after it do
-  after_pass : (right : Bool) (ks : List ℕ) (rest : List (List ℕ)) → AllByRecursion (Precedes es l (k ∷ ks)) rest
+  after_pass : (right : Bool) (ks : List ℕ) (rest : List (List ℕ))
+      → AllByRecursion (Precedes es l (k ∷ ks)) rest
       → AllByRecursion (IsLive es l u) (concat rest) → passing es right p rest ≡ rest
   after_pass right ks [] r ls = refl
   after_pass right ks ([] ∷ rest) r ls = absurd r.0
@@ -187,7 +203,8 @@ module _ (es : List LeafEdge) (l u : Level) (n : AreNeighbours es l u) (k : ℕ)
       → is_in_by true true es shape p ≡ value_of es shape rest
   value_right_at shape ks before rest b =
       is_in_passing es shape true true p l u (around true) (before ++ ((k ∷ ks) ∷ rest)) b
-      ∙ ap (value_of es shape) (passing_right ks before rest b.ranked (live_bundles es l u (before ++ ((k ∷ ks) ∷ rest))
+      ∙ ap (value_of es shape) (passing_right ks before rest b.ranked
+      (live_bundles es l u (before ++ ((k ∷ ks) ∷ rest))
       b))
 
   pub value_left_at : (shape : Shape) (ks : List ℕ) (before rest : List (List ℕ))
@@ -195,7 +212,8 @@ module _ (es : List LeafEdge) (l u : Level) (n : AreNeighbours es l u) (k : ℕ)
       → is_in_by true false es shape p ≡ value_of es shape ((k ∷ ks) ∷ rest)
   value_left_at shape ks before rest b =
       is_in_passing es shape true false p l u (around false) (before ++ ((k ∷ ks) ∷ rest)) b
-      ∙ ap (value_of es shape) (passing_left ks before rest b.ranked (live_bundles es l u (before ++ ((k ∷ ks) ∷ rest))
+      ∙ ap (value_of es shape) (passing_left ks before rest b.ranked
+      (live_bundles es l u (before ++ ((k ∷ ks) ∷ rest))
       b))
 
 -- the point at half height

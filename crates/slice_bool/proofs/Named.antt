@@ -50,13 +50,15 @@ less_not_equal x y h k = omega (arith, ints)
 below_differ : (p q : Point) → IsBelow p q → (is_same_point p q ≡ false) × (is_same_point q p ≡ false)
 below_differ p q h = (
   false_from_ne_true (is_same_point p q) (λ e. less_not_equal (p.y *ℤ q.d) (q.y *ℤ p.d) h (same_height p q e)),
-  false_from_ne_true (is_same_point q p) (λ e. less_not_equal (p.y *ℤ q.d) (q.y *ℤ p.d) h (sym (same_height q p e))),
+  false_from_ne_true (is_same_point q p) (λ e. less_not_equal (p.y *ℤ q.d) (q.y *ℤ p.d) h
+      (sym (same_height q p e))),
 )
 
 left_differ : (p q : Point) → IsLeftOf p q → (is_same_point p q ≡ false) × (is_same_point q p ≡ false)
 left_differ p q h = (
   false_from_ne_true (is_same_point p q) (λ e. less_not_equal (p.x *ℤ q.d) (q.x *ℤ p.d) h (same_across p q e)),
-  false_from_ne_true (is_same_point q p) (λ e. less_not_equal (p.x *ℤ q.d) (q.x *ℤ p.d) h (sym (same_across q p e))),
+  false_from_ne_true (is_same_point q p) (λ e. less_not_equal (p.x *ℤ q.d) (q.x *ℤ p.d) h
+      (sym (same_across q p e))),
 )
 
 -- ---- one piece
@@ -68,8 +70,8 @@ pub record IsPart (es : List LeafEdge) (q : Piece) : Type 0 where
 
 between_part : (es : List LeafEdge) (v w : Bool) (s t : Spot) (k : ℕ) → k < length es
     → is_same_point (point_of s) (point_of t) ≡ false → is_same_point (point_of t) (point_of s) ≡ false
-    → is_same_point (whole (edge_at es k).a) (whole (edge_at es k).b) ≡ false → IsOnLine (edge_at es k) (point_of s)
-    → IsOnLine (edge_at es k) (point_of t)
+    → is_same_point (whole (edge_at es k).a) (whole (edge_at es k).b) ≡ false
+    → IsOnLine (edge_at es k) (point_of s) → IsOnLine (edge_at es k) (point_of t)
     → AllByRecursion (IsPart es) (piece_between v w s t k)
 between_part es true true s t k o d d' e a b = tt
 between_part es true false s t k o d d' e a b =
@@ -143,26 +145,33 @@ flat_low e h = by_test (int_lt e.b.y e.a.y) h
     by_test false h = refl
 
 -- a flat edge's line at its height
-flat_line : (u y d x r s : ℤ) → u *ℤ ((y *ℤ d) *ℤ r) +ℤ (pos 0 *ℤ x -ℤ u *ℤ y) *ℤ (d *ℤ r) -ℤ pos 0 *ℤ s ≡ pos 0
-flat_line u y d x r s = ring (u ∷ y ∷ d ∷ x ∷ r ∷ s ∷ []) (v0 ⊗ ((v1 ⊗ v2) ⊗ v4) ⊕ (num (pos 0) ⊗ v3 ⊖ v0 ⊗ v1) ⊗
+flat_line : (u y d x r s : ℤ) → u *ℤ ((y *ℤ d) *ℤ r) +ℤ (pos 0 *ℤ x -ℤ u *ℤ y) *ℤ (d *ℤ r) -ℤ
+    pos 0 *ℤ s ≡ pos 0
+flat_line u y d x r s = ring (u ∷ y ∷ d ∷ x ∷ r ∷ s ∷ [])
+    (v0 ⊗ ((v1 ⊗ v2) ⊗ v4) ⊕ (num (pos 0) ⊗ v3 ⊖ v0 ⊗ v1) ⊗
     (v2 ⊗ v4) ⊖ num (pos 0) ⊗ v5) (num (pos 0)) refl
 
-flat_zero : (u q x y s n d r h : ℤ) → q ≡ pos 0 → y ≡ h → n ≡ h *ℤ d → u *ℤ (n *ℤ r) +ℤ (q *ℤ x -ℤ u *ℤ y) *ℤ (d *ℤ r)
+flat_zero : (u q x y s n d r h : ℤ) → q ≡ pos 0 → y ≡ h → n ≡ h *ℤ d
+    → u *ℤ (n *ℤ r) +ℤ (q *ℤ x -ℤ u *ℤ y) *ℤ (d *ℤ r)
     -ℤ q *ℤ s ≡ pos 0
 flat_zero u q x y s n d r h a b c = rw (a, b, c) (flat_line u h d x r s)
 
-on_flat : (e : Edge) (l : Level) (s : Spot) → s.at ≡ l → rise e ≡ pos 0 → e.a.y *ℤ l.d ≡ l.n → IsOnLine e (point_of s)
+on_flat : (e : Edge) (l : Level) (s : Spot) → s.at ≡ l → rise e ≡ pos 0 → e.a.y *ℤ l.d ≡ l.n
+    → IsOnLine e (point_of s)
 unfolding left_of x_at offset
 on_flat e l s q r h =
     let n : e.a.y *ℤ s.at.d ≡ s.at.n = subst (λ (m : Level). e.a.y *ℤ m.d ≡ m.n) (sym q) h in
     flat_zero (run e) (rise e) (low e).x (low e).y s.x s.at.n s.at.d (pos s.run) e.a.y r (flat_low e r) (sym n)
 
 -- an edge that covers a stretch is flat and spans it
-spanned : (sx sr tx tr z k : ℤ) → (sx -ℤ z *ℤ (k *ℤ sr)) *ℤ tr +ℤ (z *ℤ (k *ℤ tr) -ℤ tx) *ℤ sr ≡ sx *ℤ tr -ℤ tx *ℤ sr
-spanned sx sr tx tr z k = ring (sx ∷ sr ∷ tx ∷ tr ∷ z ∷ k ∷ []) ((v0 ⊖ v4 ⊗ (v5 ⊗ v1)) ⊗ v3 ⊕ (v4 ⊗ (v5 ⊗ v3) ⊖ v2) ⊗
+spanned : (sx sr tx tr z k : ℤ) → (sx -ℤ z *ℤ (k *ℤ sr)) *ℤ tr +ℤ (z *ℤ (k *ℤ tr) -ℤ tx) *ℤ sr
+    ≡ sx *ℤ tr -ℤ tx *ℤ sr
+spanned sx sr tx tr z k = ring (sx ∷ sr ∷ tx ∷ tr ∷ z ∷ k ∷ [])
+    ((v0 ⊖ v4 ⊗ (v5 ⊗ v1)) ⊗ v3 ⊕ (v4 ⊗ (v5 ⊗ v3) ⊖ v2) ⊗
     v1) (v0 ⊗ v3 ⊖ v2 ⊗ v1) refl
 
-no_room : (l : Level) (s t : Spot) (z : ℤ) → IsSpotAt l s → IsSpotAt l t → IsLeft s t → int_le (z *ℤ (l.d *ℤ pos s.run))
+no_room : (l : Level) (s t : Spot) (z : ℤ) → IsSpotAt l s → IsSpotAt l t → IsLeft s t
+    → int_le (z *ℤ (l.d *ℤ pos s.run))
     s.x ≡ true → int_le t.x (z *ℤ (l.d *ℤ pos t.run)) ≡ true → ⊥
 no_room l s t z hs ht o h k =
     let a = at_least_mul (s.x -ℤ z *ℤ (l.d *ℤ pos s.run)) (pos t.run) (gap_of_at_most (z *ℤ (l.d *ℤ pos s.run)) s.x
@@ -173,7 +182,8 @@ no_room l s t z hs ht o h k =
     omega (arith, ints)
 
 spans_apart : (l : Level) (s t : Spot) (x y : ℤ) → IsSpotAt l s → IsSpotAt l t → IsLeft s t
-    → (int_le (x *ℤ (s.at.d *ℤ pos s.run)) s.x && int_le t.x (y *ℤ (t.at.d *ℤ pos t.run))) ≡ true → x ≡ y → ⊥
+    → (int_le (x *ℤ (s.at.d *ℤ pos s.run)) s.x && int_le t.x (y *ℤ (t.at.d *ℤ pos t.run))) ≡ true
+    → x ≡ y → ⊥
 spans_apart l s t x y hs ht o h e =
     let a = (and_parts (int_le (x *ℤ (s.at.d *ℤ pos s.run)) s.x) _ h).0 in
     let b = (and_parts (int_le (x *ℤ (s.at.d *ℤ pos s.run)) s.x) (int_le t.x (y *ℤ (t.at.d *ℤ pos t.run))) h).1 in
@@ -188,7 +198,8 @@ covering_length l s t e hs ht o h = false_from_ne_true (is_same_point (whole e.e
     let x : e.edge.a.x ≡ e.edge.b.x = same_whole_height e.edge.a.x e.edge.b.x
     (same_across (whole e.edge.a) (whole e.edge.b) k) in
     by_ways _ _ (and_parts (is_flat_at e.edge s.at) _ h).1
-    (λ way. spans_apart l s t e.edge.a.x e.edge.b.x hs ht o way x) (λ way. spans_apart l s t e.edge.b.x e.edge.a.x hs ht
+    (λ way. spans_apart l s t e.edge.a.x e.edge.b.x hs ht o way x)
+        (λ way. spans_apart l s t e.edge.b.x e.edge.a.x hs ht
     o way (sym x)))
   where
     by_ways : (a b : Bool) → (a || b) ≡ true → (a ≡ true → ⊥) → (b ≡ true → ⊥) → ⊥
@@ -204,8 +215,8 @@ stop_left l s t dl hs ht o =
     less_of_gap (s.x *ℤ (t.at.d *ℤ pos t.run)) (t.x *ℤ (s.at.d *ℤ pos s.run)) g
 
 module _ (es : List LeafEdge) (shape : Shape) (l : Level) (dl : pos 0 <ℤ l.d) where
-  stretch_part : (s t : Spot) → IsSpotAt l s → IsSpotAt l t → IsLeft s t → (name : Option ℕ) → position (covers s t) es
-      ≡ name → AllByRecursion (IsPart es) (stretch_piece es shape s t name)
+  stretch_part : (s t : Spot) → IsSpotAt l s → IsSpotAt l t → IsLeft s t → (name : Option ℕ)
+      → position (covers s t) es ≡ name → AllByRecursion (IsPart es) (stretch_piece es shape s t name)
   stretch_part s t hs ht o None h = tt
   stretch_part s t hs ht o (Some k) h =
       let f = found (covers s t) es k h in
@@ -249,7 +260,8 @@ module _ (es : List LeafEdge) (shape : Shape) where
   by_levels : (ls : List Level) (pieces : List Piece) → AreLevels es ls → AreLevelPieces es shape ls pieces
       → AllByRecursion (IsPart es) pieces
   by_levels [] pieces v a = subst (AllByRecursion (IsPart es)) (sym a) tt
-  by_levels (l ∷ ls) pieces v a = level_parts l ls pieces v.divisors v.rising (at_first l ls (heights es) v.complete) a
+  by_levels (l ∷ ls) pieces v a = level_parts l ls pieces v.divisors v.rising (at_first l ls (heights es) v.complete)
+      a
 
 each_part : (es : List LeafEdge) (P : Piece → Type 0) → ((q : Piece) → IsPart es q → P q) → (qs : List Piece)
     → AllByRecursion (IsPart es) qs → AllByRecursion P qs

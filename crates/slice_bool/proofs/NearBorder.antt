@@ -56,24 +56,27 @@ pub record HasBorderBeside (es : List LeafEdge) (shape : Shape) (p : Point) : Ty
 less_than_one : (x y d : ℤ) → pos 0 <ℤ d → (pos 4 *ℤ x +ℤ pos 0 *ℤ y) ≤ℤ (pos 3 *ℤ d) → x <ℤ d
 less_than_one x y d h k = omega (arith, ints)
 
-less_turned : (s t y d : ℤ) → pos 0 <ℤ d → ((pos 0 -ℤ pos 4) *ℤ (s -ℤ t) +ℤ pos 0 *ℤ y) ≤ℤ (pos 3 *ℤ d) → (t -ℤ s) <ℤ d
+less_turned : (s t y d : ℤ) → pos 0 <ℤ d
+    → ((pos 0 -ℤ pos 4) *ℤ (s -ℤ t) +ℤ pos 0 *ℤ y) ≤ℤ (pos 3 *ℤ d) → (t -ℤ s) <ℤ d
 less_turned s t y d h k = omega (arith, ints)
 
 less_along : (x y d : ℤ) → pos 0 <ℤ d → (pos 0 *ℤ x +ℤ pos 4 *ℤ y) ≤ℤ (pos 3 *ℤ d) → y <ℤ d
 less_along x y d h k = omega (arith, ints)
 
-less_along_turned : (x s t d : ℤ) → pos 0 <ℤ d → (pos 0 *ℤ x +ℤ (pos 0 -ℤ pos 4) *ℤ (s -ℤ t)) ≤ℤ (pos 3 *ℤ d)
-    → (t -ℤ s) <ℤ d
+less_along_turned : (x s t d : ℤ) → pos 0 <ℤ d
+    → (pos 0 *ℤ x +ℤ (pos 0 -ℤ pos 4) *ℤ (s -ℤ t)) ≤ℤ (pos 3 *ℤ d) → (t -ℤ s) <ℤ d
 less_along_turned x s t d h k = omega (arith, ints)
 
-within_one : (p b : Point) → pos 0 <ℤ p.d → pos 0 <ℤ b.d → IsNear (box (pos 4) (pos 3)) p b → IsWithinOne p b
+within_one : (p b : Point) → pos 0 <ℤ p.d → pos 0 <ℤ b.d → IsNear (box (pos 4) (pos 3)) p b
+    → IsWithinOne p b
 within_one p b dp db n =
     let d : pos 0 <ℤ (b.d *ℤ p.d) = positive_product b.d p.d db dp in
     record {
       right = less_than_one (b.x *ℤ p.d -ℤ p.x *ℤ b.d) (b.y *ℤ p.d -ℤ p.y *ℤ b.d) (b.d *ℤ p.d) d n.0;
       left = less_turned (b.x *ℤ p.d) (p.x *ℤ b.d) (b.y *ℤ p.d -ℤ p.y *ℤ b.d) (b.d *ℤ p.d) d n.1.0;
       above = less_along (b.x *ℤ p.d -ℤ p.x *ℤ b.d) (b.y *ℤ p.d -ℤ p.y *ℤ b.d) (b.d *ℤ p.d) d n.1.1.0;
-      below = less_along_turned (b.x *ℤ p.d -ℤ p.x *ℤ b.d) (b.y *ℤ p.d) (p.y *ℤ b.d) (b.d *ℤ p.d) d n.1.1.1.0;
+      below = less_along_turned (b.x *ℤ p.d -ℤ p.x *ℤ b.d) (b.y *ℤ p.d) (p.y *ℤ b.d) (b.d *ℤ p.d) d
+          n.1.1.1.0;
     }
 
 module _ (es : List LeafEdge) (shape : Shape) where
@@ -101,7 +104,8 @@ module _ (es : List LeafEdge) (shape : Shape) where
   pieces_border pieces h =
       let placed = pieces_are_placed es shape pieces h in
       let named = pieces_are_named es shape pieces h in
-      λ i d l. piece_borders (get_or pieces i d) (placed i d l) (named.lengths i d l) (λ p dp inside. pieces_are_border
+      λ i d l. piece_borders (get_or pieces i d) (placed i d l) (named.lengths i d l)
+          (λ p dp inside. pieces_are_border
       es shape pieces h p dp i d l inside)
 
   -- ---- merged
@@ -118,12 +122,13 @@ module _ (es : List LeafEdge) (shape : Shape) where
       (three_on_line (whole e.a) (whole e.b) (point_of first.from) (point_of first.to) (point_of second.to) a.on.from
       a.on.to on.to) o) [
         | inl x ↦ f p dp x
-        | inr x ↦ s p dp (on_same (point_of first.to) (point_of second.from) (point_of second.to) p pa.to pb.from m.meet
+        | inr x ↦ s p dp (on_same (point_of first.to) (point_of second.from) (point_of second.to) p pa.to pb.from
+            m.meet
             x)
       ]
 
-  merged_border : (pieces merged : List Piece) → AreMerged pieces merged → All (IsPlaced es) pieces → All Borders pieces
-      → All Borders merged
+  merged_border : (pieces merged : List Piece) → AreMerged pieces merged → All (IsPlaced es) pieces
+      → All Borders pieces → All Borders merged
   merged_border pieces merged (all_joined none m) h b = All-permutation Borders pieces merged m b
   merged_border pieces merged (two_join first second others m rest) h b =
       let all = All-permutation Borders pieces (first ∷ (second ∷ others)) m.two b in

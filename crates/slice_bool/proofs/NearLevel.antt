@@ -32,7 +32,8 @@ flats_cover_from (suc n) es s t i h =
     rest : List ℕ
     rest = flats_from (i + 1) (drop (i + 1) es) s.at
 
-    by_tests : (f c : Bool) → is_flat_at e.edge s.at ≡ f → covers s t e ≡ c → first_cover es s t rest ≡ position_from
+    by_tests : (f c : Bool) → is_flat_at e.edge s.at ≡ f → covers s t e ≡ c
+        → first_cover es s t rest ≡ position_from
         (covers s t) (i + 1) (drop (i + 1) es)
         → first_cover es s t (if f then i ∷ rest else rest) ≡ position_from (covers s t) i (drop i es)
     by_tests true true q r k = ap (λ (b : Bool). if b then Some i else first_cover es s t rest) r ∙ sym
@@ -42,13 +43,14 @@ flats_cover_from (suc n) es s t i h =
     by_tests false c q r k = k ∙ sym (position_more (covers s t) es i no_edge (omega arith)
         (and_left (is_flat_at e.edge s.at) _ q))
 
-pub flats_cover : (es : List LeafEdge) (s t : Spot) → first_cover es s t (flats_from 0 es s.at) ≡ position (covers s t)
+pub flats_cover : (es : List LeafEdge) (s t : Spot)
+    → first_cover es s t (flats_from 0 es s.at) ≡ position (covers s t)
     es
 flats_cover es s t = flats_cover_from (length es) es s t 0 (omega arith) ∙ sym (position_from-zero (covers s t) es)
 
 -- ---- the stops of a level
-pub all_at : (P : Level → Type 0) (es : List LeafEdge) (at : Level) (stops : List Stop) → AreStops es at (spots_in stops)
-    → P at → All (λ s. P s.spot.at) stops
+pub all_at : (P : Level → Type 0) (es : List LeafEdge) (at : Level) (stops : List Stop)
+    → AreStops es at (spots_in stops) → P at → All (λ s. P s.spot.at) stops
 all_at P es at stops h n = All-from_recursion (λ s. P s.spot.at) stops (each stops (stops_at es at (spots_in stops) h))
   where
     each : (ss : List Stop) → AllByRecursion (IsSpotAt at) (spots_in ss) → AllByRecursion (λ s. P s.spot.at) ss

@@ -56,10 +56,12 @@ unfolding x_at run offset rise
 passing_x e l =
     one-mul _
     ∙ by_weights (low e).x (low e).y (high e).x (high e).y l.n l.d
-    ∙ ring ((low e).x ∷ ((high e).y *ℤ l.d -ℤ l.n) ∷ (high e).x ∷ (l.n -ℤ (low e).y *ℤ l.d) ∷ []) (v0 ⊗ v1 ⊕ v2 ⊗ v3)
+    ∙ ring ((low e).x ∷ ((high e).y *ℤ l.d -ℤ l.n) ∷ (high e).x ∷ (l.n -ℤ (low e).y *ℤ l.d) ∷ [])
+    (v0 ⊗ v1 ⊕ v2 ⊗ v3)
     (v1 ⊗ v0 ⊕ v3 ⊗ v2) refl
 
-passing_y : (e : Edge) (l : Level) (r : ℤ) → r ≡ rise e → pos 1 *ℤ (l.n *ℤ r) ≡ ((high e).y *ℤ l.d -ℤ l.n) *ℤ (low e).y
+passing_y : (e : Edge) (l : Level) (r : ℤ) → r ≡ rise e
+    → pos 1 *ℤ (l.n *ℤ r) ≡ ((high e).y *ℤ l.d -ℤ l.n) *ℤ (low e).y
     +ℤ (l.n -ℤ (low e).y *ℤ l.d) *ℤ (high e).y
 unfolding rise
 passing_y e l r h =
@@ -67,12 +69,14 @@ passing_y e l r h =
     ∙ ring (l.n ∷ l.d ∷ (low e).y ∷ (high e).y ∷ []) (num (pos 1) ⊗ (v0 ⊗ (v3 ⊖ v2)))
     ((v3 ⊗ v1 ⊖ v0) ⊗ v2 ⊕ (v0 ⊖ v2 ⊗ v1) ⊗ v3) refl
 
-passing_d : (e : Edge) (l : Level) (r : ℤ) → r ≡ rise e → pos 1 *ℤ (l.d *ℤ r) ≡ ((high e).y *ℤ l.d -ℤ l.n) *ℤ pos 1 +ℤ
+passing_d : (e : Edge) (l : Level) (r : ℤ) → r ≡ rise e
+    → pos 1 *ℤ (l.d *ℤ r) ≡ ((high e).y *ℤ l.d -ℤ l.n) *ℤ pos 1 +ℤ
     (l.n -ℤ (low e).y *ℤ l.d) *ℤ pos 1
 unfolding rise
 passing_d e l r h =
     ap (λ (z : ℤ). pos 1 *ℤ (l.d *ℤ z)) h
-    ∙ ring (l.n ∷ l.d ∷ (low e).y ∷ (high e).y ∷ []) (num (pos 1) ⊗ (v1 ⊗ (v3 ⊖ v2))) ((v3 ⊗ v1 ⊖ v0) ⊗ num (pos 1) ⊕
+    ∙ ring (l.n ∷ l.d ∷ (low e).y ∷ (high e).y ∷ []) (num (pos 1) ⊗ (v1 ⊗ (v3 ⊖ v2)))
+    ((v3 ⊗ v1 ⊖ v0) ⊗ num (pos 1) ⊕
     (v0 ⊖ v2 ⊗ v1) ⊗ num (pos 1)) refl
 
 from_low_to_high : (e : Edge) (p : Point) → IsOn (whole (low e)) (whole (high e)) p → IsOn (whole e.a) (whole e.b) p
@@ -109,8 +113,8 @@ level_times y l h = omega (arith, ints)
 times_level : (y : ℤ) (l : Level) → IsAtMost l (level_of y) → l.n ≤ℤ (y *ℤ l.d)
 times_level y l h = omega (arith, ints)
 
-between_lies : (es : List LeafEdge) (v w : Bool) (s t : Spot) (k : ℕ) → Lies (edge_at es k) s → Lies (edge_at es k) t
-    → AllByRecursion (LiesOnName es) (piece_between v w s t k)
+between_lies : (es : List LeafEdge) (v w : Bool) (s t : Spot) (k : ℕ) → Lies (edge_at es k) s
+    → Lies (edge_at es k) t → AllByRecursion (LiesOnName es) (piece_between v w s t k)
 between_lies es true true s t k a b = tt
 between_lies es true false s t k a b = (record { from = a; to = b }, tt)
 between_lies es false true s t k a b = (record { from = b; to = a }, tt)
@@ -154,19 +158,24 @@ module _ (e : Edge) (l : Level) (level : e.a.y ≡ e.b.y) (at : e.a.y *ℤ l.d �
         first = gap_of_at_most s.x (e.b.x *ℤ w) t;
         second = gap_of_at_most (e.a.x *ℤ w) s.x f;
         some = positive_as _ _ (sym (weights_add e.a.x e.b.x s.x w)) (positive_product (e.b.x -ℤ e.a.x) w long dp);
-        x = ring (e.a.x ∷ e.b.x ∷ w ∷ s.x ∷ []) ((v1 ⊖ v0) ⊗ v3) ((v1 ⊗ v2 ⊖ v3) ⊗ v0 ⊕ (v3 ⊖ v0 ⊗ v2) ⊗ v1) refl;
+        x = ring (e.a.x ∷ e.b.x ∷ w ∷ s.x ∷ []) ((v1 ⊖ v0) ⊗ v3)
+            ((v1 ⊗ v2 ⊖ v3) ⊗ v0 ⊕ (v3 ⊖ v0 ⊗ v2) ⊗ v1) refl;
         y = height (e.b.x -ℤ e.a.x) l.n l.d (pos s.run) e.a.y at ∙ heights e.a.x e.b.x w s.x e.a.y e.b.y level;
-        d = ring (e.a.x ∷ e.b.x ∷ w ∷ s.x ∷ []) ((v1 ⊖ v0) ⊗ v2) ((v1 ⊗ v2 ⊖ v3) ⊗ num (pos 1) ⊕ (v3 ⊖ v0 ⊗ v2) ⊗ num
+        d = ring (e.a.x ∷ e.b.x ∷ w ∷ s.x ∷ []) ((v1 ⊖ v0) ⊗ v2)
+            ((v1 ⊗ v2 ⊖ v3) ⊗ num (pos 1) ⊕ (v3 ⊖ v0 ⊗ v2) ⊗ num
             (pos 1)) refl;
       })
     where
       height : (k n d r y : ℤ) → y *ℤ d ≡ n → k *ℤ (n *ℤ r) ≡ (k *ℤ (d *ℤ r)) *ℤ y
-      height k n d r y h = ap (λ (z : ℤ). k *ℤ (z *ℤ r)) (sym h) ∙ ring (k ∷ y ∷ d ∷ r ∷ []) (v0 ⊗ ((v1 ⊗ v2) ⊗ v3))
+      height k n d r y h = ap (λ (z : ℤ). k *ℤ (z *ℤ r)) (sym h)
+          ∙ ring (k ∷ y ∷ d ∷ r ∷ []) (v0 ⊗ ((v1 ⊗ v2) ⊗ v3))
           ((v0 ⊗ (v2 ⊗ v3)) ⊗ v1) refl
 
-      heights : (a b w x y z : ℤ) → y ≡ z → ((b -ℤ a) *ℤ w) *ℤ y ≡ (b *ℤ w -ℤ x) *ℤ y +ℤ (x -ℤ a *ℤ w) *ℤ z
+      heights : (a b w x y z : ℤ) → y ≡ z
+          → ((b -ℤ a) *ℤ w) *ℤ y ≡ (b *ℤ w -ℤ x) *ℤ y +ℤ (x -ℤ a *ℤ w) *ℤ z
       heights a b w x y z h =
-          ring (a ∷ b ∷ w ∷ x ∷ y ∷ []) (((v1 ⊖ v0) ⊗ v2) ⊗ v4) ((v1 ⊗ v2 ⊖ v3) ⊗ v4 ⊕ (v3 ⊖ v0 ⊗ v2) ⊗ v4) refl
+          ring (a ∷ b ∷ w ∷ x ∷ y ∷ []) (((v1 ⊖ v0) ⊗ v2) ⊗ v4)
+              ((v1 ⊗ v2 ⊖ v3) ⊗ v4 ⊕ (v3 ⊖ v0 ⊗ v2) ⊗ v4) refl
           ∙ ap (λ (u : ℤ). (b *ℤ w -ℤ x) *ℤ y +ℤ (x -ℤ a *ℤ w) *ℤ u) h
 
 flat_ends : (e : Edge) → rise e ≡ pos 0 → e.a.y ≡ e.b.y
@@ -186,12 +195,15 @@ left_on l s t z hs ht o h =
     (positive_as _ _ (steps s.x (pos s.run) t.x (pos t.run) z l.d)
     (sum_above (t.x *ℤ pos s.run -ℤ s.x *ℤ pos t.run) ((z *ℤ (l.d *ℤ pos t.run) -ℤ t.x) *ℤ pos s.run)
     (gap_of_less (s.x *ℤ pos t.run) (t.x *ℤ pos s.run) o)
-    (at_least_mul (z *ℤ (l.d *ℤ pos t.run) -ℤ t.x) (pos s.run) (gap_of_at_most t.x (z *ℤ (l.d *ℤ pos t.run)) h)
+    (at_least_mul (z *ℤ (l.d *ℤ pos t.run) -ℤ t.x) (pos s.run)
+        (gap_of_at_most t.x (z *ℤ (l.d *ℤ pos t.run)) h)
     (at_most_of_less (pos 0) (pos s.run) hs)))))
   where
-    steps : (sx sr tx tr z d : ℤ) → (tx *ℤ sr -ℤ sx *ℤ tr) +ℤ (z *ℤ (d *ℤ tr) -ℤ tx) *ℤ sr ≡ (z *ℤ (d *ℤ sr) -ℤ sx) *ℤ
+    steps : (sx sr tx tr z d : ℤ) → (tx *ℤ sr -ℤ sx *ℤ tr) +ℤ (z *ℤ (d *ℤ tr) -ℤ tx) *ℤ sr
+        ≡ (z *ℤ (d *ℤ sr) -ℤ sx) *ℤ
         tr
-    steps sx sr tx tr z d = ring (sx ∷ sr ∷ tx ∷ tr ∷ z ∷ d ∷ []) ((v2 ⊗ v1 ⊖ v0 ⊗ v3) ⊕ (v4 ⊗ (v5 ⊗ v3) ⊖ v2) ⊗ v1)
+    steps sx sr tx tr z d = ring (sx ∷ sr ∷ tx ∷ tr ∷ z ∷ d ∷ [])
+        ((v2 ⊗ v1 ⊖ v0 ⊗ v3) ⊕ (v4 ⊗ (v5 ⊗ v3) ⊖ v2) ⊗ v1)
         ((v4 ⊗ (v5 ⊗ v1) ⊖ v0) ⊗ v3) refl
 
 -- where t lies right of s and s not left of z, t lies right of z
@@ -203,12 +215,15 @@ right_on l s t z hs ht o h =
     (positive_as _ _ (steps s.x (pos s.run) t.x (pos t.run) z l.d)
     (sum_above (t.x *ℤ pos s.run -ℤ s.x *ℤ pos t.run) ((s.x -ℤ z *ℤ (l.d *ℤ pos s.run)) *ℤ pos t.run)
     (gap_of_less (s.x *ℤ pos t.run) (t.x *ℤ pos s.run) o)
-    (at_least_mul (s.x -ℤ z *ℤ (l.d *ℤ pos s.run)) (pos t.run) (gap_of_at_most (z *ℤ (l.d *ℤ pos s.run)) s.x h)
+    (at_least_mul (s.x -ℤ z *ℤ (l.d *ℤ pos s.run)) (pos t.run)
+        (gap_of_at_most (z *ℤ (l.d *ℤ pos s.run)) s.x h)
     (at_most_of_less (pos 0) (pos t.run) ht)))))
   where
-    steps : (sx sr tx tr z d : ℤ) → (tx *ℤ sr -ℤ sx *ℤ tr) +ℤ (sx -ℤ z *ℤ (d *ℤ sr)) *ℤ tr ≡ (tx -ℤ z *ℤ (d *ℤ tr)) *ℤ
+    steps : (sx sr tx tr z d : ℤ) → (tx *ℤ sr -ℤ sx *ℤ tr) +ℤ (sx -ℤ z *ℤ (d *ℤ sr)) *ℤ tr
+        ≡ (tx -ℤ z *ℤ (d *ℤ tr)) *ℤ
         sr
-    steps sx sr tx tr z d = ring (sx ∷ sr ∷ tx ∷ tr ∷ z ∷ d ∷ []) ((v2 ⊗ v1 ⊖ v0 ⊗ v3) ⊕ (v0 ⊖ v4 ⊗ (v5 ⊗ v1)) ⊗ v3)
+    steps sx sr tx tr z d = ring (sx ∷ sr ∷ tx ∷ tr ∷ z ∷ d ∷ [])
+        ((v2 ⊗ v1 ⊖ v0 ⊗ v3) ⊕ (v0 ⊖ v4 ⊗ (v5 ⊗ v1)) ⊗ v3)
         ((v2 ⊖ v4 ⊗ (v5 ⊗ v3)) ⊗ v1) refl
 
 module _ (l : Level) (dl : pos 0 <ℤ l.d) (s t : Spot) (hs : IsSpotAt l s) (ht : IsSpotAt l t) (o : IsLeft s t) where
@@ -243,12 +258,15 @@ module _ (l : Level) (dl : pos 0 <ℤ l.d) (s t : Spot) (hs : IsSpotAt l s) (ht 
       at = subst (λ (m : Level). e.edge.a.y *ℤ m.d ≡ m.n) hs.at (int_eq-true (e.edge.a.y *ℤ s.at.d) s.at.n
           (and_parts (is_zero (rise e.edge)) (int_eq (e.edge.a.y *ℤ s.at.d) s.at.n) flat).1)
 
-      first : (x y : ℤ) → (int_le (x *ℤ (s.at.d *ℤ pos s.run)) s.x && int_le t.x (y *ℤ (t.at.d *ℤ pos t.run))) ≡ true
+      first : (x y : ℤ) → (int_le (x *ℤ (s.at.d *ℤ pos s.run)) s.x
+          && int_le t.x (y *ℤ (t.at.d *ℤ pos t.run))) ≡ true
           → (x *ℤ (l.d *ℤ pos s.run)) ≤ℤ s.x
       first x y w = subst (λ (m : Level). (x *ℤ (m.d *ℤ pos s.run)) ≤ℤ s.x) hs.at
-          (int_le-true (x *ℤ (s.at.d *ℤ pos s.run)) s.x (and_parts (int_le (x *ℤ (s.at.d *ℤ pos s.run)) s.x) _ w).0)
+          (int_le-true (x *ℤ (s.at.d *ℤ pos s.run)) s.x
+              (and_parts (int_le (x *ℤ (s.at.d *ℤ pos s.run)) s.x) _ w).0)
 
-      last : (x y : ℤ) → (int_le (x *ℤ (s.at.d *ℤ pos s.run)) s.x && int_le t.x (y *ℤ (t.at.d *ℤ pos t.run))) ≡ true
+      last : (x y : ℤ) → (int_le (x *ℤ (s.at.d *ℤ pos s.run)) s.x
+          && int_le t.x (y *ℤ (t.at.d *ℤ pos t.run))) ≡ true
           → t.x ≤ℤ (y *ℤ (l.d *ℤ pos t.run))
       last x y w = subst (λ (m : Level). t.x ≤ℤ (y *ℤ (m.d *ℤ pos t.run))) ht.at
           (int_le-true t.x (y *ℤ (t.at.d *ℤ pos t.run)) (and_parts (int_le (x *ℤ (s.at.d *ℤ pos s.run)) s.x)
@@ -258,7 +276,8 @@ module _ (l : Level) (dl : pos 0 <ℤ l.d) (s t : Spot) (hs : IsSpotAt l s) (ht 
           (e.edge.b.x *ℤ (t.at.d *ℤ pos t.run))) ≡ true → Lies e.edge s × Lies e.edge t
       rightwards w = spans e.edge level at (first e.edge.a.x e.edge.b.x w) (last e.edge.a.x e.edge.b.x w)
 
-      leftwards : (int_le (e.edge.b.x *ℤ (s.at.d *ℤ pos s.run)) s.x && int_le t.x (e.edge.a.x *ℤ (t.at.d *ℤ pos t.run)))
+      leftwards : (int_le (e.edge.b.x *ℤ (s.at.d *ℤ pos s.run)) s.x
+          && int_le t.x (e.edge.a.x *ℤ (t.at.d *ℤ pos t.run)))
           ≡ true → Lies e.edge s × Lies e.edge t
       leftwards w =
           let r = spans (record { a = e.edge.b; b = e.edge.a }) (sym level) (ap (λ (y : ℤ). y *ℤ l.d) (sym level) ∙ at)
@@ -269,15 +288,17 @@ module _ (l : Level) (dl : pos 0 <ℤ l.d) (s t : Spot) (hs : IsSpotAt l s) (ht 
           )
 
       by_ways : (a b : Bool) → (a || b) ≡ true
-          → a ≡ (int_le (e.edge.a.x *ℤ (s.at.d *ℤ pos s.run)) s.x && int_le t.x (e.edge.b.x *ℤ (t.at.d *ℤ pos t.run)))
-          → b ≡ (int_le (e.edge.b.x *ℤ (s.at.d *ℤ pos s.run)) s.x && int_le t.x (e.edge.a.x *ℤ (t.at.d *ℤ pos t.run)))
+          → a ≡ (int_le (e.edge.a.x *ℤ (s.at.d *ℤ pos s.run)) s.x
+          && int_le t.x (e.edge.b.x *ℤ (t.at.d *ℤ pos t.run)))
+          → b ≡ (int_le (e.edge.b.x *ℤ (s.at.d *ℤ pos s.run)) s.x
+          && int_le t.x (e.edge.a.x *ℤ (t.at.d *ℤ pos t.run)))
           → Lies e.edge s × Lies e.edge t
       by_ways true b h f g = rightwards (sym f)
       by_ways false b h f g = leftwards (sym g ∙ h)
 
 module _ (es : List LeafEdge) (shape : Shape) (l : Level) (dl : pos 0 <ℤ l.d) where
-  stretch_lies : (s t : Spot) → IsSpotAt l s → IsSpotAt l t → IsLeft s t → (name : Option ℕ) → position (covers s t) es
-      ≡ name → AllByRecursion (LiesOnName es) (stretch_piece es shape s t name)
+  stretch_lies : (s t : Spot) → IsSpotAt l s → IsSpotAt l t → IsLeft s t → (name : Option ℕ)
+      → position (covers s t) es ≡ name → AllByRecursion (LiesOnName es) (stretch_piece es shape s t name)
   stretch_lies s t hs ht o None h = tt
   stretch_lies s t hs ht o (Some k) h =
       let f = found (covers s t) es k h in

@@ -44,7 +44,8 @@ filter_permuted : (p : Edge → Bool) (es fs : List Edge) → IsPermutation es f
 filter_permuted p es fs m = from_times same_edge same_edge_itself same_edge_then_equal (filter p es) (filter p fs) alike
   where
     by_test : (e : Edge) (b : Bool) → p e ≡ b → many e (filter p es) ≡ many e (filter p fs)
-    by_test e true t = kept p e t es ∙ times_permuted same_edge same_edge_itself same_edge_then_equal e es fs m ∙ sym
+    by_test e true t = kept p e t es ∙ times_permuted same_edge same_edge_itself same_edge_then_equal e es fs m
+        ∙ sym
         (kept p e t fs)
     by_test e false t = dropped p e t es ∙ sym (dropped p e t fs)
 

@@ -22,8 +22,8 @@ pub use Rattle.slice_bool.specs.Beside.{passing}
 use Rattle.slice_bool.specs.Beside.{lies_left}
 
 -- ---- edges of one bundle lie on one side of a point; a later one lies to the right where an earlier one does
-pub same_side : (l : Level) → pos 0 <ℤ l.d → (right : Bool) (p : Point) (e f : Edge) → pos 0 <ℤ rise e → pos 0 <ℤ rise f
-    → AreAligned l e f
+pub same_side : (l : Level) → pos 0 <ℤ l.d → (right : Bool) (p : Point) (e f : Edge) → pos 0 <ℤ rise e
+    → pos 0 <ℤ rise f → AreAligned l e f
     → is_beyond right (left_of f p.x p.y p.d) ≡ is_beyond right (left_of e p.x p.y p.d)
 same_side l dl right p e f re rf a =
     let g = aligned_all l dl e f a p.y p.d in
@@ -32,14 +32,15 @@ same_side l dl right p e f re rf a =
     sym (beyond_mul right (rise e) (left_of f p.x p.y p.d) re) ∙ ap (is_beyond right) s ∙ beyond_mul right (rise f)
     (left_of e p.x p.y p.d) rf
 
-pub beyond_more : (right : Bool) (y z : ℤ) → y ≤ℤ z → is_beyond right y ≡ true → is_beyond right z ≡ true
+pub beyond_more : (right : Bool) (y z : ℤ) → y ≤ℤ z → is_beyond right y ≡ true
+    → is_beyond right z ≡ true
 unfolding is_beyond
 beyond_more true y z h k = sym (omega (arith, ints))
 beyond_more false y z h k = sym (omega (arith, ints))
 
 pub later_side : (right : Bool) (p : Point) (e f : Edge) → pos 0 <ℤ rise e → pos 0 <ℤ rise f
-    → (x_at e p.y p.d *ℤ rise f) ≤ℤ (x_at f p.y p.d *ℤ rise e) → is_beyond right (left_of e p.x p.y p.d) ≡ true
-    → is_beyond right (left_of f p.x p.y p.d) ≡ true
+    → (x_at e p.y p.d *ℤ rise f) ≤ℤ (x_at f p.y p.d *ℤ rise e)
+    → is_beyond right (left_of e p.x p.y p.d) ≡ true → is_beyond right (left_of f p.x p.y p.d) ≡ true
 later_side right p e f re rf g h =
     let t = left_of_by e f p.x p.y p.d in
     let s : (left_of e p.x p.y p.d *ℤ rise f) ≤ℤ (left_of f p.x p.y p.d *ℤ rise e) = omega (arith, ints) in

@@ -24,8 +24,8 @@ use Rattle.scad_geom.proofs.Sums.{sum_z}
 use Rattle.std.proofs.lemmas.Bool.{true≢false}
 use Rattle.scad_base.proofs.Tests.{cond_same}
 
-reaches_up : (e : Edge) (l u : Level) → pos 0 <ℤ l.d → pos 0 <ℤ u.d → IsLower l u → IsAtMost (level_of e.a.y) l
-    → IsAtMost u (level_of e.b.y) → reaches e l u ≡ true
+reaches_up : (e : Edge) (l u : Level) → pos 0 <ℤ l.d → pos 0 <ℤ u.d → IsLower l u
+    → IsAtMost (level_of e.a.y) l → IsAtMost u (level_of e.b.y) → reaches e l u ≡ true
 unfolding reaches low high rise
 reaches_up e l u dl du o a b =
     let one : pos 0 <ℤ pos 1 = omega (arith, ints) in
@@ -38,8 +38,8 @@ reaches_up e l u dl du o a b =
     let z : int_le u.n (e.b.y *ℤ u.d) ≡ true = sym (omega (arith, ints)) in
     rw (q, x, y, z)
 
-reaches_down : (e : Edge) (l u : Level) → pos 0 <ℤ l.d → pos 0 <ℤ u.d → IsLower l u → IsAtMost u (level_of e.a.y)
-    → IsAtMost (level_of e.b.y) l → reaches e l u ≡ true
+reaches_down : (e : Edge) (l u : Level) → pos 0 <ℤ l.d → pos 0 <ℤ u.d → IsLower l u
+    → IsAtMost u (level_of e.a.y) → IsAtMost (level_of e.b.y) l → reaches e l u ≡ true
 unfolding reaches low high rise
 reaches_down e l u dl du o a b =
     let one : pos 0 <ℤ pos 1 = omega (arith, ints) in
@@ -71,7 +71,8 @@ still_turn above right p es l u n dp s i d li r =
         | inr b ↦ absurd (true≢false (sym (reaches_up e l u n.lower_divisor n.upper_divisor n.in_order a b) ∙ r))
       ]
       | inr a ↦ elim ends.1 [
-        | inl b ↦ absurd (true≢false (sym (reaches_down e l u n.lower_divisor n.upper_divisor n.in_order a b) ∙ r))
+        | inl b ↦ absurd (true≢false (sym (reaches_down e l u n.lower_divisor n.upper_divisor n.in_order a b)
+            ∙ r))
         | inr b ↦ over_turn above right p e (top e.a.y a) (top e.b.y b)
       ]
     ]
@@ -100,8 +101,10 @@ reach_sum above right p leaf l u F k (e ∷ es) h z =
     (λ i o t. h (suc i) (omega arith) t ∙ ap F (omega arith)) (λ i o t. z (suc i) (omega arith) t) in
     by_test (reaches e.edge l u) refl r
   where
-    by_test : (t : Bool) → reaches e.edge l u ≡ t → wind_leaf above right p leaf es ≡ sum_z F (reaching (k + 1) es l u)
-        → share above right p leaf e +ℤ wind_leaf above right p leaf es ≡ sum_z F (if t then k ∷ reaching (k + 1) es l u
+    by_test : (t : Bool) → reaches e.edge l u ≡ t
+        → wind_leaf above right p leaf es ≡ sum_z F (reaching (k + 1) es l u)
+        → share above right p leaf e +ℤ wind_leaf above right p leaf es
+        ≡ sum_z F (if t then k ∷ reaching (k + 1) es l u
         else reaching (k + 1) es l u)
     by_test true q r = ap₂ (λ (x y : ℤ). x +ℤ y) (h zero (omega arith) q ∙ ap F (omega arith)) r
     by_test false q r = ap₂ (λ (x y : ℤ). x +ℤ y) (z zero (omega arith) q) r ∙ +ℤ_idl
@@ -109,11 +112,13 @@ reach_sum above right p leaf l u F k (e ∷ es) h z =
 
 pub wind_reaching : (above right : Bool) (p : Point) (leaf : ℕ) (es : List LeafEdge) (l u : Level)
     → AreNeighbours es l u → pos 0 <ℤ p.d → Spans above (level_at p) l u
-    → wind_leaf above right p leaf es ≡ sum_z (λ k. if lies_left es right p k then heading_for es leaf k else pos 0)
+    → wind_leaf above right p leaf es ≡ sum_z
+    (λ k. if lies_left es right p k then heading_for es leaf k else pos 0)
     (reaching 0 es l u)
 wind_reaching above right p leaf es l u n dp s =
     reach_sum above right p leaf l u (λ k. if lies_left es right p k then heading_for es leaf k else pos 0) 0 es
-    (λ i o t. given i (reaches_is _ l u t) ∙ ap (λ (k : ℕ). if lies_left es right p k then heading_for es leaf k else
+    (λ i o t. given i (reaches_is _ l u t) ∙ ap
+        (λ (k : ℕ). if lies_left es right p k then heading_for es leaf k else
     pos 0) (omega arith))
     (λ i o t. none i (still_turn above right p es l u n dp s i no_edge o t))
   where

@@ -17,13 +17,16 @@ less_by_gap a b = by_test (int_lt b a) refl
     by_test false e = omega (arith, ints)
 
 scaled_out : (u o n d r : ℤ) → u *ℤ (n *ℤ r) +ℤ o *ℤ (d *ℤ r) ≡ (u *ℤ n +ℤ o *ℤ d) *ℤ r
-scaled_out u o n d r = ring (u ∷ o ∷ n ∷ d ∷ r ∷ []) (v0 ⊗ (v2 ⊗ v4) ⊕ v1 ⊗ (v3 ⊗ v4)) ((v0 ⊗ v2 ⊕ v1 ⊗ v3) ⊗ v4) refl
+scaled_out u o n d r = ring (u ∷ o ∷ n ∷ d ∷ r ∷ []) (v0 ⊗ (v2 ⊗ v4) ⊕ v1 ⊗ (v3 ⊗ v4))
+    ((v0 ⊗ v2 ⊕ v1 ⊗ v3) ⊗ v4) refl
 
 turned : (s x : ℤ) → s *ℤ x ≡ x *ℤ s
 turned s x = ring (s ∷ x ∷ []) (v0 ⊗ v1) (v1 ⊗ v0) refl
 
-pub right_of : (e : Edge) (x n d r : ℤ) → int_lt (x *ℤ rise e) (x_at e n d *ℤ r) ≡ is_beyond true (left_of e x (n *ℤ r) (d *ℤ r))
+pub right_of : (e : Edge) (x n d r : ℤ) → int_lt (x *ℤ rise e) (x_at e n d *ℤ r)
+    ≡ is_beyond true (left_of e x (n *ℤ r) (d *ℤ r))
 unfolding is_beyond left_of x_at
 right_of e x n d r =
     less_by_gap ((run e *ℤ n +ℤ offset e *ℤ d) *ℤ r) (x *ℤ rise e)
-    ∙ ap₂ (λ (y z : ℤ). int_lt (pos 0) (y -ℤ z)) (sym (scaled_out (run e) (offset e) n d r)) (sym (turned (rise e) x))
+    ∙ ap₂ (λ (y z : ℤ). int_lt (pos 0) (y -ℤ z)) (sym (scaled_out (run e) (offset e) n d r))
+    (sym (turned (rise e) x))

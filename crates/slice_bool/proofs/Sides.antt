@@ -26,35 +26,41 @@ use Rattle.scad_base.proofs.Integers.{both_positive}
 
 -- ---- a vertex between its neighbours is a point of the way from one to the other
 -- the dot product of a way and the whole way, which is made of it and of the other
-part_of : (ux uy vx vy wx wy : ℤ) → wx ≡ ux +ℤ vx → wy ≡ uy +ℤ vy → pos 0 <ℤ (ux *ℤ vx +ℤ uy *ℤ vy)
-    → pos 0 <ℤ (ux *ℤ wx +ℤ uy *ℤ wy)
+part_of : (ux uy vx vy wx wy : ℤ) → wx ≡ ux +ℤ vx → wy ≡ uy +ℤ vy
+    → pos 0 <ℤ (ux *ℤ vx +ℤ uy *ℤ vy) → pos 0 <ℤ (ux *ℤ wx +ℤ uy *ℤ wy)
 part_of ux uy vx vy wx wy hx hy h =
     let a = square_at_least ux in
     let b = square_at_least uy in
     let same : ux *ℤ wx +ℤ uy *ℤ wy ≡ (ux *ℤ ux +ℤ uy *ℤ uy) +ℤ (ux *ℤ vx +ℤ uy *ℤ vy) =
-    ap₂ (λ (s t : ℤ). ux *ℤ s +ℤ uy *ℤ t) hx hy ∙ ring (ux ∷ uy ∷ vx ∷ vy ∷ []) (v0 ⊗ (v0 ⊕ v2) ⊕ v1 ⊗ (v1 ⊕ v3))
+    ap₂ (λ (s t : ℤ). ux *ℤ s +ℤ uy *ℤ t) hx hy
+        ∙ ring (ux ∷ uy ∷ vx ∷ vy ∷ []) (v0 ⊗ (v0 ⊕ v2) ⊕ v1 ⊗ (v1 ⊕ v3))
     ((v0 ⊗ v0 ⊕ v1 ⊗ v1) ⊕ (v0 ⊗ v2 ⊕ v1 ⊗ v3)) refl in
     omega (arith, ints)
 
-other_of : (ux uy vx vy wx wy : ℤ) → wx ≡ ux +ℤ vx → wy ≡ uy +ℤ vy → pos 0 <ℤ (ux *ℤ vx +ℤ uy *ℤ vy)
-    → pos 0 <ℤ (vx *ℤ wx +ℤ vy *ℤ wy)
+other_of : (ux uy vx vy wx wy : ℤ) → wx ≡ ux +ℤ vx → wy ≡ uy +ℤ vy
+    → pos 0 <ℤ (ux *ℤ vx +ℤ uy *ℤ vy) → pos 0 <ℤ (vx *ℤ wx +ℤ vy *ℤ wy)
 other_of ux uy vx vy wx wy hx hy h =
     let a = square_at_least vx in
     let b = square_at_least vy in
     let same : vx *ℤ wx +ℤ vy *ℤ wy ≡ (vx *ℤ vx +ℤ vy *ℤ vy) +ℤ (ux *ℤ vx +ℤ uy *ℤ vy) =
-    ap₂ (λ (s t : ℤ). vx *ℤ s +ℤ vy *ℤ t) hx hy ∙ ring (ux ∷ uy ∷ vx ∷ vy ∷ []) (v2 ⊗ (v0 ⊕ v2) ⊕ v3 ⊗ (v1 ⊕ v3))
+    ap₂ (λ (s t : ℤ). vx *ℤ s +ℤ vy *ℤ t) hx hy
+        ∙ ring (ux ∷ uy ∷ vx ∷ vy ∷ []) (v2 ⊗ (v0 ⊕ v2) ⊕ v3 ⊗ (v1 ⊕ v3))
     ((v2 ⊗ v2 ⊕ v3 ⊗ v3) ⊕ (v0 ⊗ v2 ⊕ v1 ⊗ v3)) refl in
     omega (arith, ints)
 
 place_x : (ax ay px py bx by : ℤ) → (px -ℤ ax) *ℤ (by -ℤ py) -ℤ (py -ℤ ay) *ℤ (bx -ℤ px) ≡ pos 0
-    → (((bx -ℤ px) *ℤ (bx -ℤ ax) +ℤ (by -ℤ py) *ℤ (by -ℤ ay)) +ℤ ((px -ℤ ax) *ℤ (bx -ℤ ax) +ℤ (py -ℤ ay) *ℤ (by -ℤ ay)))
+    → (((bx -ℤ px) *ℤ (bx -ℤ ax) +ℤ (by -ℤ py) *ℤ (by -ℤ ay)) +ℤ
+    ((px -ℤ ax) *ℤ (bx -ℤ ax) +ℤ (py -ℤ ay) *ℤ (by -ℤ ay)))
     *ℤ px
-    ≡ ((bx -ℤ px) *ℤ (bx -ℤ ax) +ℤ (by -ℤ py) *ℤ (by -ℤ ay)) *ℤ ax +ℤ ((px -ℤ ax) *ℤ (bx -ℤ ax) +ℤ (py -ℤ ay) *ℤ
+    ≡ ((bx -ℤ px) *ℤ (bx -ℤ ax) +ℤ (by -ℤ py) *ℤ (by -ℤ ay)) *ℤ ax +ℤ
+    ((px -ℤ ax) *ℤ (bx -ℤ ax) +ℤ (py -ℤ ay) *ℤ
     (by -ℤ ay)) *ℤ bx
 place_x ax ay px py bx by h =
     ring (ax ∷ ay ∷ px ∷ py ∷ bx ∷ by ∷ [])
-    ((((v4 ⊖ v2) ⊗ (v4 ⊖ v0) ⊕ (v5 ⊖ v3) ⊗ (v5 ⊖ v1)) ⊕ ((v2 ⊖ v0) ⊗ (v4 ⊖ v0) ⊕ (v3 ⊖ v1) ⊗ (v5 ⊖ v1))) ⊗ v2)
-    ((((v4 ⊖ v2) ⊗ (v4 ⊖ v0) ⊕ (v5 ⊖ v3) ⊗ (v5 ⊖ v1)) ⊗ v0 ⊕ ((v2 ⊖ v0) ⊗ (v4 ⊖ v0) ⊕ (v3 ⊖ v1) ⊗ (v5 ⊖ v1)) ⊗ v4) ⊕
+    ((((v4 ⊖ v2) ⊗ (v4 ⊖ v0) ⊕ (v5 ⊖ v3) ⊗ (v5 ⊖ v1))
+        ⊕ ((v2 ⊖ v0) ⊗ (v4 ⊖ v0) ⊕ (v3 ⊖ v1) ⊗ (v5 ⊖ v1))) ⊗ v2)
+    ((((v4 ⊖ v2) ⊗ (v4 ⊖ v0) ⊕ (v5 ⊖ v3) ⊗ (v5 ⊖ v1)) ⊗ v0
+        ⊕ ((v2 ⊖ v0) ⊗ (v4 ⊖ v0) ⊕ (v3 ⊖ v1) ⊗ (v5 ⊖ v1)) ⊗ v4) ⊕
     (v5 ⊖ v1) ⊗ ((v2 ⊖ v0) ⊗ (v5 ⊖ v3) ⊖ (v3 ⊖ v1) ⊗ (v4 ⊖ v2))) refl
     ∙ ap (λ (z : ℤ). (((bx -ℤ px) *ℤ (bx -ℤ ax) +ℤ (by -ℤ py) *ℤ (by -ℤ ay)) *ℤ ax +ℤ
     ((px -ℤ ax) *ℤ (bx -ℤ ax) +ℤ (py -ℤ ay) *ℤ (by -ℤ ay)) *ℤ bx) +ℤ (by -ℤ ay) *ℤ z) h
@@ -62,14 +68,18 @@ place_x ax ay px py bx by h =
     ((px -ℤ ax) *ℤ (bx -ℤ ax) +ℤ (py -ℤ ay) *ℤ (by -ℤ ay)) *ℤ bx) (by -ℤ ay)
 
 place_y : (ax ay px py bx by : ℤ) → (px -ℤ ax) *ℤ (by -ℤ py) -ℤ (py -ℤ ay) *ℤ (bx -ℤ px) ≡ pos 0
-    → (((bx -ℤ px) *ℤ (bx -ℤ ax) +ℤ (by -ℤ py) *ℤ (by -ℤ ay)) +ℤ ((px -ℤ ax) *ℤ (bx -ℤ ax) +ℤ (py -ℤ ay) *ℤ (by -ℤ ay)))
+    → (((bx -ℤ px) *ℤ (bx -ℤ ax) +ℤ (by -ℤ py) *ℤ (by -ℤ ay)) +ℤ
+    ((px -ℤ ax) *ℤ (bx -ℤ ax) +ℤ (py -ℤ ay) *ℤ (by -ℤ ay)))
     *ℤ py
-    ≡ ((bx -ℤ px) *ℤ (bx -ℤ ax) +ℤ (by -ℤ py) *ℤ (by -ℤ ay)) *ℤ ay +ℤ ((px -ℤ ax) *ℤ (bx -ℤ ax) +ℤ (py -ℤ ay) *ℤ
+    ≡ ((bx -ℤ px) *ℤ (bx -ℤ ax) +ℤ (by -ℤ py) *ℤ (by -ℤ ay)) *ℤ ay +ℤ
+    ((px -ℤ ax) *ℤ (bx -ℤ ax) +ℤ (py -ℤ ay) *ℤ
     (by -ℤ ay)) *ℤ by
 place_y ax ay px py bx by h =
     ring (ax ∷ ay ∷ px ∷ py ∷ bx ∷ by ∷ [])
-    ((((v4 ⊖ v2) ⊗ (v4 ⊖ v0) ⊕ (v5 ⊖ v3) ⊗ (v5 ⊖ v1)) ⊕ ((v2 ⊖ v0) ⊗ (v4 ⊖ v0) ⊕ (v3 ⊖ v1) ⊗ (v5 ⊖ v1))) ⊗ v3)
-    ((((v4 ⊖ v2) ⊗ (v4 ⊖ v0) ⊕ (v5 ⊖ v3) ⊗ (v5 ⊖ v1)) ⊗ v1 ⊕ ((v2 ⊖ v0) ⊗ (v4 ⊖ v0) ⊕ (v3 ⊖ v1) ⊗ (v5 ⊖ v1)) ⊗ v5) ⊖
+    ((((v4 ⊖ v2) ⊗ (v4 ⊖ v0) ⊕ (v5 ⊖ v3) ⊗ (v5 ⊖ v1))
+        ⊕ ((v2 ⊖ v0) ⊗ (v4 ⊖ v0) ⊕ (v3 ⊖ v1) ⊗ (v5 ⊖ v1))) ⊗ v3)
+    ((((v4 ⊖ v2) ⊗ (v4 ⊖ v0) ⊕ (v5 ⊖ v3) ⊗ (v5 ⊖ v1)) ⊗ v1
+        ⊕ ((v2 ⊖ v0) ⊗ (v4 ⊖ v0) ⊕ (v3 ⊖ v1) ⊗ (v5 ⊖ v1)) ⊗ v5) ⊖
     (v4 ⊖ v0) ⊗ ((v2 ⊖ v0) ⊗ (v5 ⊖ v3) ⊖ (v3 ⊖ v1) ⊗ (v4 ⊖ v2))) refl
     ∙ ap (λ (z : ℤ). (((bx -ℤ px) *ℤ (bx -ℤ ax) +ℤ (by -ℤ py) *ℤ (by -ℤ ay)) *ℤ ay +ℤ
     ((px -ℤ ax) *ℤ (bx -ℤ ax) +ℤ (py -ℤ ay) *ℤ (by -ℤ ay)) *ℤ by) -ℤ (bx -ℤ ax) *ℤ z) h
@@ -116,7 +126,8 @@ module _ (P : Point → Type 0) where
   abbrev edge : Pt → Pt → Edge
   edge a b = record { a = a; b = b }
 
-  over : (x p b : Pt) → is_between x p b ≡ true → OfPoints P (edge x p) → OfPoints P (edge p b) → OfPoints P (edge x b)
+  over : (x p b : Pt) → is_between x p b ≡ true → OfPoints P (edge x p) → OfPoints P (edge p b)
+      → OfPoints P (edge x b)
   over x p b t h g = λ q d o. elim (parts_are_all (whole x) (whole b) (whole p) q (between_on x p b t) o)
       [ inl f ↦ h q d f | inr f ↦ g q d f ]
 
@@ -127,7 +138,8 @@ module _ (P : Point → Type 0) where
       by_test : (t : Bool) → is_between before p after ≡ t → OfAllPoints P (path x (cond t [] (p ∷ [])) after)
       by_test true t = (over x p after (still_between x before p after a t) h.0 h.1.0, tt)
       by_test false t = h
-  corners_have x before p (n ∷ ns) after a h = by_test (is_between before p n) refl (λ k c. corners_have x p n ns after
+  corners_have x before p (n ∷ ns) after a h
+      = by_test (is_between before p n) refl (λ k c. corners_have x p n ns after
       k c) (corners_have p p n ns after (ahead_itself p n) h.1)
     where
       by_test : (t : Bool) → is_between before p n ≡ t

@@ -36,13 +36,16 @@ use Rattle.slice_bool.proofs.Values.{all_pass, value_of, is_in_passing}
 use Rattle.scad_base.proofs.Integers.{gap_of_less, zero_minus}
 use Rattle.slice_bool.proofs.Middle.{scaled, lower_scaled, at_most_scaled, scaled_below, scaled_at_most, size_of, half_point, value_right, value_left}
 
-side_up : (u c r x y d n1 d1 n2 d2 : ℤ) → ((u *ℤ n2 +ℤ c *ℤ d2) *ℤ (d1 *ℤ r) -ℤ (u *ℤ n1 +ℤ c *ℤ d1) *ℤ (d2 *ℤ r)) *ℤ
+side_up : (u c r x y d n1 d1 n2 d2 : ℤ) → ((u *ℤ n2 +ℤ c *ℤ d2) *ℤ (d1 *ℤ r) -ℤ
+    (u *ℤ n1 +ℤ c *ℤ d1) *ℤ (d2 *ℤ r)) *ℤ
     (y *ℤ (d1 *ℤ r) -ℤ n1 *ℤ r *ℤ d) -ℤ (n2 *ℤ r *ℤ (d1 *ℤ r) -ℤ n1 *ℤ r *ℤ (d2 *ℤ r)) *ℤ
     (x *ℤ (d1 *ℤ r) -ℤ (u *ℤ n1 +ℤ c *ℤ d1) *ℤ d) ≡ (u *ℤ y +ℤ c *ℤ d -ℤ r *ℤ x) *ℤ
     (r *ℤ r *ℤ (d1 *ℤ (n2 *ℤ d1 -ℤ n1 *ℤ d2)))
 side_up u c r x y d n1 d1 n2 d2 = ring (u ∷ c ∷ r ∷ x ∷ y ∷ d ∷ n1 ∷ d1 ∷ n2 ∷ d2 ∷ [])
-    (((v0 ⊗ v8 ⊕ v1 ⊗ v9) ⊗ (v7 ⊗ v2) ⊖ (v0 ⊗ v6 ⊕ v1 ⊗ v7) ⊗ (v9 ⊗ v2)) ⊗ (v4 ⊗ (v7 ⊗ v2) ⊖ v6 ⊗ v2 ⊗ v5) ⊖
-    (v8 ⊗ v2 ⊗ (v7 ⊗ v2) ⊖ v6 ⊗ v2 ⊗ (v9 ⊗ v2)) ⊗ (v3 ⊗ (v7 ⊗ v2) ⊖ (v0 ⊗ v6 ⊕ v1 ⊗ v7) ⊗ v5))
+    (((v0 ⊗ v8 ⊕ v1 ⊗ v9) ⊗ (v7 ⊗ v2) ⊖ (v0 ⊗ v6 ⊕ v1 ⊗ v7) ⊗ (v9 ⊗ v2))
+        ⊗ (v4 ⊗ (v7 ⊗ v2) ⊖ v6 ⊗ v2 ⊗ v5) ⊖
+    (v8 ⊗ v2 ⊗ (v7 ⊗ v2) ⊖ v6 ⊗ v2 ⊗ (v9 ⊗ v2))
+        ⊗ (v3 ⊗ (v7 ⊗ v2) ⊖ (v0 ⊗ v6 ⊕ v1 ⊗ v7) ⊗ v5))
     ((v0 ⊗ v4 ⊕ v1 ⊗ v5 ⊖ v2 ⊗ v3) ⊗ (v2 ⊗ v2 ⊗ (v7 ⊗ (v8 ⊗ v7 ⊖ v6 ⊗ v9)))) refl
 
 side_down : (u c r x y d n1 d1 n2 d2 : ℤ)
@@ -60,7 +63,8 @@ over_scaled : (above : Bool) (p h : Level) (r : ℤ) → pos 0 <ℤ r → Over a
 over_scaled true p h r pr o = lower_scaled p h r pr o
 over_scaled false p h r pr o = at_most_scaled p h r pr o
 
-not_over_scaled : (above : Bool) (p h : Level) (r : ℤ) → pos 0 <ℤ r → NotOver above p h → NotOver above p (scaled h r)
+not_over_scaled : (above : Bool) (p h : Level) (r : ℤ) → pos 0 <ℤ r → NotOver above p h
+    → NotOver above p (scaled h r)
 not_over_scaled true p h r pr o = scaled_at_most p h r pr o
 not_over_scaled false p h r pr o = scaled_below p h r pr o
 
@@ -86,13 +90,15 @@ side_down_is : (p : Point) (e : Edge) (l u : Level) (r : ℤ) → r ≡ rise e
     (record { x = x_at e l.n l.d; y = l.n *ℤ r; d = l.d *ℤ r }))
     ≡ left_of e p.x p.y p.d *ℤ ((rise e *ℤ rise e) *ℤ (u.d *ℤ (u.n *ℤ l.d -ℤ l.n *ℤ u.d)))
 unfolding side_by left_of x_at
-side_down_is p e l u r q = rw q (sym (zero_minus _) ∙ side_down (run e) (offset e) (rise e) p.x p.y p.d l.n l.d u.n u.d)
+side_down_is p e l u r q = rw q (sym (zero_minus _)
+    ∙ side_down (run e) (offset e) (rise e) p.x p.y p.d l.n l.d u.n u.d)
 
 module _ (above right : Bool) (p : Point) (e : Edge) (l u : Level) (re : pos 0 <ℤ rise e) (dl : pos 0 <ℤ l.d) (du : pos 0 <ℤ u.d) (o : IsLower l u) (s : Spans above (level_at p) l u) where
   run_positive : pos 0 <ℤ pos (unsigned_abs (rise e))
   run_positive = subst (λ (z : ℤ). pos 0 <ℤ z) (sym (size_of (rise e) re)) re
 
-  factor_positive : (d : ℤ) → pos 0 <ℤ d → pos 0 <ℤ ((rise e *ℤ rise e) *ℤ (d *ℤ (u.n *ℤ l.d -ℤ l.n *ℤ u.d)))
+  factor_positive : (d : ℤ) → pos 0 <ℤ d
+      → pos 0 <ℤ ((rise e *ℤ rise e) *ℤ (d *ℤ (u.n *ℤ l.d -ℤ l.n *ℤ u.d)))
   factor_positive d dd = positive_product (rise e *ℤ rise e) (d *ℤ (u.n *ℤ l.d -ℤ l.n *ℤ u.d))
       (positive_product (rise e) (rise e) re re) (positive_product d (u.n *ℤ l.d -ℤ l.n *ℤ u.d) dd
       (gap_of_less (l.n *ℤ u.d) (u.n *ℤ l.d) o))
@@ -104,7 +110,8 @@ module _ (above right : Bool) (p : Point) (e : Edge) (l u : Level) (re : pos 0 <
       run_positive s.0) (spot_over above p (spot_on e u) run_positive s.1)
       ∙ ap (λ (b : Bool). if b then pos 1 else pos 0)
       (ap (is_beyond right) (side_up_is p e l u (pos (unsigned_abs (rise e))) (size_of (rise e) re))
-      ∙ beyond_mul right ((rise e *ℤ rise e) *ℤ (l.d *ℤ (u.n *ℤ l.d -ℤ l.n *ℤ u.d))) (left_of e p.x p.y p.d)
+      ∙ beyond_mul right ((rise e *ℤ rise e) *ℤ (l.d *ℤ (u.n *ℤ l.d -ℤ l.n *ℤ u.d)))
+      (left_of e p.x p.y p.d)
       (factor_positive l.d dl))
 
   pub down_turn : turn above right p (point_of (spot_on e u)) (point_of (spot_on e l))
@@ -114,13 +121,15 @@ module _ (above right : Bool) (p : Point) (e : Edge) (l u : Level) (re : pos 0 <
       run_positive s.1) (spot_not_over above p (spot_on e l) run_positive s.0)
       ∙ ap (λ (b : Bool). if b then negsuc 0 else pos 0)
       (ap (is_beyond right) (side_down_is p e l u (pos (unsigned_abs (rise e))) (size_of (rise e) re))
-      ∙ beyond_mul right ((rise e *ℤ rise e) *ℤ (u.d *ℤ (u.n *ℤ l.d -ℤ l.n *ℤ u.d))) (left_of e p.x p.y p.d)
+      ∙ beyond_mul right ((rise e *ℤ rise e) *ℤ (u.d *ℤ (u.n *ℤ l.d -ℤ l.n *ℤ u.d)))
+      (left_of e p.x p.y p.d)
       (factor_positive u.d du))
 
 -- ---- pieces
 -- a piece winds by the difference of the values on its sides, where the point lies to its left
 pub wind_between : (above right : Bool) (p : Point) (b v w : Bool) (s t : Spot) (name : ℕ)
-    → turn above right p (point_of s) (point_of t) ≡ (if b then pos 1 else pos 0) → turn above right p (point_of t)
+    → turn above right p (point_of s) (point_of t) ≡ (if b then pos 1 else pos 0)
+    → turn above right p (point_of t)
     (point_of s) ≡ (if b then negsuc 0 else pos 0)
     → wind_pieces above right p (piece_between v w s t name) ≡ (if b then counted v -ℤ counted w else pos 0)
 wind_between above right p true true true s t name h k = refl
@@ -160,7 +169,8 @@ later_ranked es l (b ∷ before) bs h = later_ranked es l before bs h.2
 
 module _ (es : List LeafEdge) (shape : Shape) (above right : Bool) (p : Point) (l u : Level) (a : Around es above right p l u) where
   pub slab_wind : (before bs : List (List ℕ)) → AreBundles es l u (before ++ bs)
-      → wind_pieces above right p (slab_pieces es shape l u bs) ≡ counted (value_of es shape (passing es right p bs))
+      → wind_pieces above right p (slab_pieces es shape l u bs)
+      ≡ counted (value_of es shape (passing es right p bs))
   slab_wind before [] b = sym (ap counted (value_nothing es shape))
   slab_wind before ([] ∷ bs) b = absurd (later_ranked es l before ([] ∷ bs) b.ranked).0
   slab_wind before ((k ∷ ks) ∷ bs) b =
@@ -181,11 +191,13 @@ module _ (es : List LeafEdge) (shape : Shape) (above right : Bool) (p : Point) (
       let one' = one ∙ ap₂ (λ (v w : Bool). if lies_left es right p k then counted v -ℤ counted w else pos 0) vl vr in
       let split = wind_pieces-append above right p (bundle_piece es shape l u (k ∷ ks)) (slab_pieces es shape l u bs) in
       let ranked = later_ranked es l before ((k ∷ ks) ∷ bs) b.ranked in
-      split ∙ ap₂ (λ (y z : ℤ). y +ℤ z) one' r ∙ by_test (lies_left es right p k) (λ e. passing_all es right p bs
+      split ∙ ap₂ (λ (y z : ℤ). y +ℤ z) one' r
+          ∙ by_test (lies_left es right p k) (λ e. passing_all es right p bs
       (all_pass es above right p l u a k ks bs lk ranked.1 (back (IsLive es l u) (k ∷ ks) (concat bs) ls) e))
     where
       by_test : (t : Bool) → (t ≡ true → passing es right p bs ≡ bs)
-          → (if t then counted (value_of es shape ((k ∷ ks) ∷ bs)) -ℤ counted (value_of es shape bs) else pos 0) +ℤ
+          → (if t then counted (value_of es shape ((k ∷ ks) ∷ bs)) -ℤ counted (value_of es shape bs) else pos 0)
+          +ℤ
           counted (value_of es shape (passing es right p bs))
           ≡ counted (value_of es shape (if t then (k ∷ ks) ∷ bs else passing es right p bs))
       by_test true f = rw (f refl) (telescope (value_of es shape ((k ∷ ks) ∷ bs)) (value_of es shape bs))

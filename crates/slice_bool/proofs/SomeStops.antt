@@ -89,7 +89,8 @@ has_kept s (t ∷ ts) x h = by_tests (comes s t) (comes t s) (has_kept s ts x)
     ]
     by_tests false false k = h
 
-weaker : (P Q : Spot → Type 0) (xs : List Spot) → ((x : Spot) → P x → Q x) → AllByRecursion P xs → AllByRecursion Q xs
+weaker : (P Q : Spot → Type 0) (xs : List Spot) → ((x : Spot) → P x → Q x) → AllByRecursion P xs
+    → AllByRecursion Q xs
 weaker P Q [] f a = tt
 weaker P Q (x ∷ xs) f a = (f x a.0, weaker P Q xs f a.1)
 
@@ -135,8 +136,8 @@ none_covered es shape at h (s ∷ (t ∷ ss)) a =
     ap (λ (name : Option ℕ). stretch_piece es shape s t name ++ flat_pieces es shape (t ∷ ss)) none
     ∙ none_covered es shape at h (t ∷ ss) a.1
 
-pub without_flats : (es : List LeafEdge) (shape : Shape) (at : Level) (pieces : List Piece) → flats_from 0 es at ≡ []
-    → Extends (AreOnLevel es shape at) pieces pieces
+pub without_flats : (es : List LeafEdge) (shape : Shape) (at : Level) (pieces : List Piece)
+    → flats_from 0 es at ≡ [] → Extends (AreOnLevel es shape at) pieces pieces
 without_flats es shape at pieces h =
     let ss : List Spot = in_order (spots_at es at) in
     let stops : AreStops es at ss = some_stops es at in

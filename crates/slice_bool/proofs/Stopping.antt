@@ -53,7 +53,8 @@ pub sorted_from : (ss : List Stop) → IsSortedBy comes_left ss → AreSorted (s
 sorted_from ss h = sorted_by ss (λ k d b. let t : comes_left (get_or ss (k + 1) d) (get_or ss k d) ≡ false = h k d (omega arith) (omega arith) in rw add-one at t)
 
 -- ---- a sorted list without repeats
-left_then : (s t u : Spot) → Runs s → Runs t → Runs u → IsLeft s t → IsAtMost (across t) (across u) → IsLeft s u
+left_then : (s t u : Spot) → Runs s → Runs t → Runs u → IsLeft s t → IsAtMost (across t) (across u)
+    → IsLeft s u
 left_then s t u rs rt ru h k = lower_then_at_most (across s) (across t) (across u) rs rt ru h k
 
 first_left : (s t : Spot) (ss : List Spot) → IsLeft s t → AllByRecursion (λ (s : Spot). pos 0 <ℤ pos s.run)
@@ -63,7 +64,8 @@ first_left s t [] o d c r = (o, tt)
 first_left s t (x ∷ ss) o d c r = by_test (is_left t x) r
     (λ r'. first_left s x ss (left_then s t x d.0 d.1.0 d.1.1.0 o c.0) (d.0, d.1.1) c.1 r')
   where
-    by_test : (b : Bool) → GoRight (if b then t ∷ distinct_by is_left (x ∷ ss) else distinct_by is_left (x ∷ ss))
+    by_test : (b : Bool) → GoRight (if b then t
+        ∷ distinct_by is_left (x ∷ ss) else distinct_by is_left (x ∷ ss))
         → (GoRight (distinct_by is_left (x ∷ ss)) → GoRight (s ∷ distinct_by is_left (x ∷ ss)))
         → GoRight (s ∷ (if b then t ∷ distinct_by is_left (x ∷ ss) else distinct_by is_left (x ∷ ss)))
     by_test true r f = (o, r)
@@ -80,8 +82,8 @@ go_right (s ∷ (t ∷ ss)) d c = by_test (is_left s t) refl (go_right (t ∷ ss
     by_test true e r = first_left s t ss (omega (arith, ints)) d c.1 r
     by_test false e r = r
 
-same_then : (ts : List Spot) (s t : Spot) → Runs s → Runs t → AllByRecursion (λ (s : Spot). pos 0 <ℤ pos s.run) ts
-    → IsSameAcross s t → HasSpot ts s → HasSpot ts t
+same_then : (ts : List Spot) (s t : Spot) → Runs s → Runs t
+    → AllByRecursion (λ (s : Spot). pos 0 <ℤ pos s.run) ts → IsSameAcross s t → HasSpot ts s → HasSpot ts t
 same_then [] s t ds dt d e r = absurd r
 same_then (u ∷ ts) s t ds dt d e (inl q) =
     let a : IsAtMost (across u) (across t) = at_most_chain (across u) (across s) (across t) d.0 ds dt
@@ -103,7 +105,8 @@ all_there (s ∷ (t ∷ ss)) d c = by_test (is_left s t) refl (all_there (t ∷ 
     later (x ∷ xs) ts h = (inr h.0, later xs ts h.1)
 
     by_test : (b : Bool) → is_left s t ≡ b → AllByRecursion (HasSpot (distinct_by is_left (t ∷ ss))) (t ∷ ss)
-        → AllByRecursion (HasSpot (if b then s ∷ distinct_by is_left (t ∷ ss) else distinct_by is_left (t ∷ ss)))
+        → AllByRecursion (HasSpot (if b then s
+        ∷ distinct_by is_left (t ∷ ss) else distinct_by is_left (t ∷ ss)))
         (s ∷ (t ∷ ss))
     by_test true e r = (inl refl, later (t ∷ ss) (distinct_by is_left (t ∷ ss)) r)
     by_test false e r = let c0 = c.0 in (same_then (distinct_by is_left (t ∷ ss)) t s d.1.0 d.0 (distinct_all is_left (λ (s : Spot). pos 0 <ℤ pos s.run) (t ∷ ss) d.1) (omega (arith, ints)) r.0, r)
@@ -122,7 +125,8 @@ all_run [] = tt
 all_run (s ∷ ss) = (runs_of s, all_run ss)
 
 pub sorted_stops : (edges : List LeafEdge) (at : Level) (all sorted : List Stop) → spots_in all ≡ spots_at edges at
-    → IsPermutation all sorted → AreSorted (spots_in sorted) → AreStops edges at (distinct_by is_left (spots_in sorted))
+    → IsPermutation all sorted → AreSorted (spots_in sorted)
+    → AreStops edges at (distinct_by is_left (spots_in sorted))
 sorted_stops edges at all sorted e p c =
     let q : IsPermutation (spots_in all) (spots_in sorted) = IsPermutation-map (λ (s : Stop). s.spot) all sorted p in
     let P : Spot → Type 0 = IsOneOf (spots_in all) in

@@ -29,14 +29,16 @@ abbrev pub stretch : List LeafEdge → Shape → Spot → Spot → List Piece
 stretch es shape s t = stretch_piece es shape s t (position (covers s t) es)
 
 next : (es : List LeafEdge) (shape : Shape) (ss : List Stop) (j : ℕ) (d e : Stop) → suc j < length ss
-    → flat_pieces es shape (drop j (spots_in ss)) ≡ stretch es shape (get_or ss j d).spot (get_or ss (suc j) e).spot ++
+    → flat_pieces es shape (drop j (spots_in ss)) ≡ stretch es shape (get_or ss j d).spot (get_or ss (suc j) e).spot
+    ++
     flat_pieces es shape (drop (suc j) (spots_in ss))
 next es shape [] j d e h = absurd (omega arith)
 next es shape (x ∷ []) j d e h = absurd (omega arith)
 next es shape (x ∷ (y ∷ ss)) zero d e h = refl
 next es shape (x ∷ (y ∷ ss)) (suc j) d e h = next es shape (y ∷ ss) j d e (omega arith)
 
-pub stretch_at : (es : List LeafEdge) (shape : Shape) (ss : List Stop) (i : ℕ) (d e : Stop) → 0 < i → i < length ss
+pub stretch_at : (es : List LeafEdge) (shape : Shape) (ss : List Stop) (i : ℕ) (d e : Stop) → 0 < i
+    → i < length ss
     → flat_pieces es shape (drop (i - 1) (spots_in ss)) ≡ stretch es shape (get_or ss (i - 1) d).spot
     (get_or ss i e).spot ++ flat_pieces es shape (drop i (spots_in ss))
 stretch_at es shape ss zero d e p h = absurd (omega arith)

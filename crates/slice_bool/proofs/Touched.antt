@@ -50,10 +50,12 @@ flat_touches e at h = by_test (int_lt e.b.y e.a.y) refl h
 picked_from : (at : Level) (all : List LeafEdge) (k : ℕ) (es : List LeafEdge) → StandFrom all k es
     → picked all (touching k es at) ≡ touching_at es at
 picked_from at all k [] f = refl
-picked_from at all k (e ∷ es) f = by_test (touches e.edge at) (first_from all k e es f).1 (picked_from at all (k + 1) es (next_from all k e es f))
+picked_from at all k (e ∷ es) f = by_test (touches e.edge at) (first_from all k e es f).1
+    (picked_from at all (k + 1) es (next_from all k e es f))
   where
     by_test : (t : Bool) → get_or all k no_edge ≡ e → picked all (touching (k + 1) es at) ≡ touching_at es at
-        → picked all (if t then k ∷ touching (k + 1) es at else touching (k + 1) es at) ≡ (if t then e ∷ touching_at es at else touching_at es at)
+        → picked all (if t then k ∷ touching (k + 1) es at else touching (k + 1) es at)
+        ≡ (if t then e ∷ touching_at es at else touching_at es at)
     by_test true a r = ap₂ (λ (e : LeafEdge) (es : List LeafEdge). e ∷ es) a r
     by_test false a r = r
 
@@ -64,7 +66,8 @@ no_spots : (e : Edge) (at : Level) → touches e at ≡ false → edge_spots e a
 no_spots e at h = by_tests (is_flat_at e at) (passes_at e at) refl refl
   where
     by_tests : (f p : Bool) → is_flat_at e at ≡ f → passes_at e at ≡ p
-        → (if f then whole_spot e.a.x at ∷ (whole_spot e.b.x at ∷ []) else if p then spot_on e at ∷ [] else []) ≡ []
+        → (if f then whole_spot e.a.x at ∷ (whole_spot e.b.x at ∷ []) else if p then spot_on e at ∷ [] else [])
+        ≡ []
     by_tests true p a b = absurd (true≢false (sym (flat_touches e at a) ∙ h))
     by_tests false true a b = absurd (true≢false (sym (passes_touches e at b) ∙ h))
     by_tests false false a b = refl
@@ -74,12 +77,13 @@ spots_touching [] at = refl
 spots_touching (e ∷ es) at = by_test (touches e.edge at) refl (spots_touching es at)
   where
     by_test : (t : Bool) → touches e.edge at ≡ t → spots_at (touching_at es at) at ≡ spots_at es at
-        → spots_at (if t then e ∷ touching_at es at else touching_at es at) at ≡ edge_spots e.edge at ++ spots_at es at
+        → spots_at (if t then e ∷ touching_at es at else touching_at es at) at ≡ edge_spots e.edge at
+        ++ spots_at es at
     by_test true a r = ap (λ (ss : List Spot). edge_spots e.edge at ++ ss) r
     by_test false a r = r ∙ sym (ap (λ (ss : List Spot). ss ++ spots_at es at) (no_spots e.edge at a))
 
-pub stops_touching : (es now : List LeafEdge) (at : Level) (stops : List Spot) → now ≡ touching_at es at → AreStops now at stops
-    → AreStops es at stops
+pub stops_touching : (es now : List LeafEdge) (at : Level) (stops : List Spot) → now ≡ touching_at es at
+    → AreStops now at stops → AreStops es at stops
 stops_touching es now at stops q h =
     let e : spots_at now at ≡ spots_at es at = ap (λ (fs : List LeafEdge). spots_at fs at) q ∙ spots_touching es at in
     record {
@@ -89,20 +93,25 @@ stops_touching es now at stops q h =
     }
 
 -- ---- flat edges
-flats_are : (at : Level) (k : ℕ) (es : List LeafEdge) → flats_from k es at ≡ numbers_where (λ e. is_flat_at e at) k es
+flats_are : (at : Level) (k : ℕ) (es : List LeafEdge)
+    → flats_from k es at ≡ numbers_where (λ e. is_flat_at e at) k es
 flats_are at k [] = refl
-flats_are at k (e ∷ es) = ap (λ (ks : List ℕ). if is_flat_at e.edge at then k ∷ ks else ks) (flats_are at (k + 1) es)
+flats_are at k (e ∷ es) = ap (λ (ks : List ℕ). if is_flat_at e.edge at then k ∷ ks else ks)
+    (flats_are at (k + 1) es)
 
 pub flats_touching : (es : List LeafEdge) (at : Level)
     → filter (λ k. is_flat_at (edge_at es k) at) (touching 0 es at) ≡ flats_from 0 es at
 flats_touching es at =
     ap (filter (λ k. is_flat_at (edge_at es k) at)) (touching_is at 0 es)
-    ∙ filtered (λ e. is_flat_at e at) (λ e. touches e at) (λ e h. flat_touches e at h) es 0 es (stand_from_first es)
+    ∙ filtered (λ e. is_flat_at e at) (λ e. touches e at) (λ e h. flat_touches e at h) es 0 es
+    (stand_from_first es)
     ∙ sym (flats_are at 0 es)
 
 pub flats_there : (es : List LeafEdge) (at : Level) → All (λ k. k < length es) (flats_from 0 es at)
-flats_there es at = All-from_recursion (λ k. k < length es) (flats_from 0 es at) (subst (AllByRecursion (λ k. k < length es))
-    (sym (flats_are at 0 es)) (weaker (numbers_where (λ e. is_flat_at e at) 0 es) (all_where (λ e. is_flat_at e at) es 0 es (stand_from_first es))))
+flats_there es at = All-from_recursion (λ k. k < length es) (flats_from 0 es at)
+    (subst (AllByRecursion (λ k. k < length es))
+    (sym (flats_are at 0 es)) (weaker (numbers_where (λ e. is_flat_at e at) 0 es)
+        (all_where (λ e. is_flat_at e at) es 0 es (stand_from_first es))))
   where
     weaker : (ks : List ℕ) → AllByRecursion (λ k. (k < length es) × (is_flat_at (edge_at es k) at ≡ true)) ks
         → AllByRecursion (λ k. k < length es) ks
@@ -110,7 +119,8 @@ flats_there es at = All-from_recursion (λ k. k < length es) (flats_from 0 es at
     weaker (k ∷ ks) h = (h.0.0, weaker ks h.1)
 
 -- ---- what is true of all edges
-pub all_touching : (P : LeafEdge → Type 0) (es : List LeafEdge) (at : Level) → All P es → All P (touching_at es at)
+pub all_touching : (P : LeafEdge → Type 0) (es : List LeafEdge) (at : Level) → All P es
+    → All P (touching_at es at)
 all_touching P es at h = All-from_recursion P (touching_at es at) (each es (recursion_from_All P es h))
   where
     each : (es : List LeafEdge) → AllByRecursion P es → AllByRecursion P (touching_at es at)

@@ -26,8 +26,8 @@ abbrev pub heading_beyond : List LeafEdge → Bool → Point → ℕ → ℕ →
 heading_beyond es right p leaf j = if lies_left es right p j then heading_for es leaf j else pos 0
 
 -- all edges of one bundle lie on the side of its first
-bundle_side : (es : List LeafEdge) (l u : Level) → pos 0 <ℤ l.d → (right : Bool) (p : Point) (k : ℕ) (ks : List ℕ)
-    → IsLive es l u k → AllByRecursion (IsLive es l u) ks
+bundle_side : (es : List LeafEdge) (l u : Level) → pos 0 <ℤ l.d
+    → (right : Bool) (p : Point) (k : ℕ) (ks : List ℕ) → IsLive es l u k → AllByRecursion (IsLive es l u) ks
     → AllByRecursion (λ j. AreAligned l (edge_at es k) (edge_at es j)) ks
     → AllByRecursion (λ j. lies_left es right p j ≡ lies_left es right p k) ks
 bundle_side es l u dl right p k [] lk ls a = tt
@@ -47,9 +47,10 @@ counts es right p leaf true (k ∷ ks) h = rw (h.0, counts es right p leaf true 
 counts es right p leaf false (k ∷ ks) h = rw (h.0, counts es right p leaf false ks h.1)
 
 module _ (es : List LeafEdge) (above right : Bool) (p : Point) (l u : Level) (a : Around es above right p l u) where
-  head_counts : (leaf k : ℕ) (ks : List ℕ) (b : Bool) → IsBundle es l (k ∷ ks) → AllByRecursion (IsLive es l u) (k ∷ ks)
-      → lies_left es right p k ≡ b
-      → sum_z (heading_beyond es right p leaf) (k ∷ ks) ≡ (if b then sum_z (heading_for es leaf) (k ∷ ks) else pos 0)
+  head_counts : (leaf k : ℕ) (ks : List ℕ) (b : Bool) → IsBundle es l (k ∷ ks)
+      → AllByRecursion (IsLive es l u) (k ∷ ks) → lies_left es right p k ≡ b
+      → sum_z (heading_beyond es right p leaf) (k ∷ ks)
+      ≡ (if b then sum_z (heading_for es leaf) (k ∷ ks) else pos 0)
   head_counts leaf k ks b h ls e =
       counts es right p leaf b (k ∷ ks) (
         e,
@@ -63,7 +64,8 @@ module _ (es : List LeafEdge) (above right : Bool) (p : Point) (l u : Level) (a 
       moved (j ∷ js) h = (h.0 ∙ e, moved js h.1)
 
   -- where a bundle lies to the right of the point, so do those after it
-  pub all_pass : (k : ℕ) (ks : List ℕ) (bs : List (List ℕ)) → IsLive es l u k → AllByRecursion (Precedes es l (k ∷ ks))
+  pub all_pass : (k : ℕ) (ks : List ℕ) (bs : List (List ℕ)) → IsLive es l u k
+      → AllByRecursion (Precedes es l (k ∷ ks))
       bs → AllByRecursion (IsLive es l u) (concat bs)
       → lies_left es right p k ≡ true → AllByRecursion (HeadPasses es right p) bs
   all_pass k ks [] lk pr ls h = tt
@@ -83,11 +85,13 @@ module _ (es : List LeafEdge) (above right : Bool) (p : Point) (l u : Level) (a 
   all_count leaf ([] ∷ bs) r ls h = absurd r.0
   all_count leaf ((k ∷ ks) ∷ bs) r ls h =
       sum_z-append (heading_beyond es right p leaf) (k ∷ ks) (concat bs)
-      ∙ ap₂ (λ (y z : ℤ). y +ℤ z) (head_counts leaf k ks true r.0 (front (IsLive es l u) (k ∷ ks) (concat bs) ls) h.0)
+      ∙ ap₂ (λ (y z : ℤ). y +ℤ z) (head_counts leaf k ks true r.0
+      (front (IsLive es l u) (k ∷ ks) (concat bs) ls) h.0)
       (all_count leaf bs r.2 (back (IsLive es l u) (k ∷ ks) (concat bs) ls) h.1)
       ∙ sym (sum_z-append (heading_for es leaf) (k ∷ ks) (concat bs))
 
-  passing_count : (leaf : ℕ) (bs : List (List ℕ)) → AreRanked es l bs → AllByRecursion (IsLive es l u) (concat bs)
+  passing_count : (leaf : ℕ) (bs : List (List ℕ)) → AreRanked es l bs
+      → AllByRecursion (IsLive es l u) (concat bs)
       → sum_z (heading_beyond es right p leaf) (concat bs) ≡ sum_z (heading_for es leaf)
       (concat (passing es right p bs))
   passing_count leaf [] r ls = refl
@@ -104,7 +108,8 @@ module _ (es : List LeafEdge) (above right : Bool) (p : Point) (l u : Level) (a 
           (e, all_pass k ks bs ls.0 r.1 (back (IsLive es l u) (k ∷ ks) (concat bs) ls) e)
       by_test false e i =
           sum_z-append (heading_beyond es right p leaf) (k ∷ ks) (concat bs)
-          ∙ ap₂ (λ (y z : ℤ). y +ℤ z) (head_counts leaf k ks false r.0 (front (IsLive es l u) (k ∷ ks) (concat bs) ls)
+          ∙ ap₂ (λ (y z : ℤ). y +ℤ z)
+          (head_counts leaf k ks false r.0 (front (IsLive es l u) (k ∷ ks) (concat bs) ls)
           e) i
           ∙ +ℤ_idl (sum_z (heading_for es leaf) (concat (passing es right p bs)))
 

@@ -30,7 +30,8 @@ Positive : Level → Type 0
 Positive h = pos 0 <ℤ h.d
 
 -- what a rising list has lies at its first level or above it
-pub from_first : (l : Level) (ls : List Level) (h : Level) → AllByRecursion (λ (l : Level). pos 0 <ℤ l.d) (l ∷ ls)
+pub from_first : (l : Level) (ls : List Level) (h : Level)
+    → AllByRecursion (λ (l : Level). pos 0 <ℤ l.d) (l ∷ ls)
     → pos 0 <ℤ h.d → IsRising (l ∷ ls) → HasHeight (l ∷ ls) h → IsAtMost l h
 from_first l [] h dl dh r (inl e) = same_at_least l h e
 from_first l [] h dl dh r (inr e) = absurd e
@@ -42,7 +43,8 @@ from_first l (u ∷ ls) h dl dh r (inr e) = at_most_chain l u h dl.0 dl.1.0 dh (
 abbrev pub UpTo : Level → List Level → Level → Type 0
 UpTo l ls h = IsAtMost h l ⊎ HasHeight ls h
 
-pub at_first : (l : Level) (ls hs : List Level) → AllByRecursion (HasHeight (l ∷ ls)) hs → AllByRecursion (UpTo l ls) hs
+pub at_first : (l : Level) (ls hs : List Level) → AllByRecursion (HasHeight (l ∷ ls)) hs
+    → AllByRecursion (UpTo l ls) hs
 at_first l ls [] h = tt
 at_first l ls (g ∷ hs) h = (first g h.0, at_first l ls hs h.1)
   where
@@ -62,8 +64,8 @@ at_next l u ls (g ∷ hs) dl du dh o h = (next g dh.0 h.0, at_next l u ls hs dl 
     next g dg (inr (inr r)) = inr r
 
 between_next : (l u : Level) (ls hs : List Level) → AllByRecursion (λ (l : Level). pos 0 <ℤ l.d) (u ∷ ls)
-    → AllByRecursion (λ (h : Level). pos 0 <ℤ h.d) hs → IsRising (u ∷ ls) → AllByRecursion (UpTo l (u ∷ ls)) hs
-    → AllByRecursion (λ h. IsAtMost h l ⊎ IsAtMost u h) hs
+    → AllByRecursion (λ (h : Level). pos 0 <ℤ h.d) hs → IsRising (u ∷ ls)
+    → AllByRecursion (UpTo l (u ∷ ls)) hs → AllByRecursion (λ h. IsAtMost h l ⊎ IsAtMost u h) hs
 between_next l u ls [] du dh r h = tt
 between_next l u ls (g ∷ hs) du dh r h = (next g dh.0 h.0, between_next l u ls hs du dh.1 r h.1)
   where
@@ -99,7 +101,8 @@ module _ (es : List LeafEdge) (shape : Shape) (above right : Bool) (p : Point) (
       (below_all u ls a.2 d.1 r.1 ou a.5)
 
   pub ended : (l : Level) (hs : List Level) → pos 0 <ℤ l.d → AllByRecursion (λ (h : Level). pos 0 <ℤ h.d) hs
-      → NotOver above (level_at p) l → AllByRecursion (UpTo l []) hs → AllByRecursion (NotOver above (level_at p)) hs
+      → NotOver above (level_at p) l → AllByRecursion (UpTo l []) hs
+      → AllByRecursion (NotOver above (level_at p)) hs
   ended l [] dl dh o h = tt
   ended l (g ∷ hs) dl dh o h = (one h.0, ended l hs dl dh.1 o h.1)
     where
@@ -119,7 +122,8 @@ module _ (es : List LeafEdge) (shape : Shape) (above right : Bool) (p : Point) (
       ∙ wind_pieces-append above right p (flat_pieces es shape a.0 ++ slab_pieces es shape l u a.1) a.2
       ∙ ap (λ (z : ℤ). z +ℤ wind_pieces above right p a.2)
       (wind_pieces-append above right p (flat_pieces es shape a.0) (slab_pieces es shape l u a.1)
-      ∙ ap (λ (z : ℤ). z +ℤ wind_pieces above right p (slab_pieces es shape l u a.1)) (stops_still es shape above right
+      ∙ ap (λ (z : ℤ). z +ℤ wind_pieces above right p (slab_pieces es shape l u a.1))
+      (stops_still es shape above right
       p l a.0 a.3)
       ∙ +ℤ_idl (wind_pieces above right p (slab_pieces es shape l u a.1)))
       ∙ elim (either_over above (level_at p) u) [

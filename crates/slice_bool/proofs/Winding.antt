@@ -41,7 +41,8 @@ nothing_around : (above right : Bool) (p : Point) (leaf : ℕ) (es : List LeafEd
     (whole (get_or es i no_edge).edge.b) ≡ pos 0) → wind_leaf above right p leaf es ≡ pos 0
 nothing_around above right p leaf [] h = refl
 nothing_around above right p leaf (e ∷ es) h =
-    ap₂ (λ (y z : ℤ). y +ℤ z) (by_test (e.leaf == leaf) (h zero (omega arith))) (nothing_around above right p leaf es
+    ap₂ (λ (y z : ℤ). y +ℤ z) (by_test (e.leaf == leaf) (h zero (omega arith)))
+        (nothing_around above right p leaf es
     (λ i o. h (suc i) (omega arith)))
   where
     by_test : (t : Bool) → turn above right p (whole e.edge.a) (whole e.edge.b) ≡ pos 0
@@ -112,7 +113,8 @@ spots_are_at [] l = tt
 spots_are_at (e ∷ es) l = AllByRecursion-append (IsSpotAt l) _ (spots_at es l) (by_tests (is_flat_at e.edge l)
     (passes_at e.edge l) refl) (spots_are_at es l)
   where
-    by_tests : (f t : Bool) → passes_at e.edge l ≡ t → AllByRecursion (IsSpotAt l) (if f then whole_spot e.edge.a.x l
+    by_tests : (f t : Bool) → passes_at e.edge l ≡ t
+        → AllByRecursion (IsSpotAt l) (if f then whole_spot e.edge.a.x l
         ∷ (whole_spot e.edge.b.x l ∷ []) else if t then spot_on e.edge l ∷ [] else [])
     by_tests true t q = (
       record { at = refl; runs = omega (arith, ints) },
@@ -152,10 +154,11 @@ pub stops_still : (es : List LeafEdge) (shape : Shape) (above right : Bool) (p :
 stops_still es shape above right p l stops h = flat_still es shape above right p l stops (stops_at es l stops h)
 
 -- ---- a slab that lies above the point or below it
-bundles_still : (es : List LeafEdge) (shape : Shape) (above right : Bool) (p : Point) (l u : Level) (bs : List (List ℕ))
+bundles_still : (es : List LeafEdge) (shape : Shape) (above right : Bool) (p : Point) (l u : Level)
+    (bs : List (List ℕ))
     → AreRanked es l bs → AllByRecursion (IsLive es l u) (concat bs)
-    → ((s t : Spot) → s.at ≡ l → t.at ≡ u → pos 0 <ℤ pos s.run → pos 0 <ℤ pos t.run → IsStill above p s t)
-    → wind_pieces above right p (slab_pieces es shape l u bs) ≡ pos 0
+    → ((s t : Spot) → s.at ≡ l → t.at ≡ u → pos 0 <ℤ pos s.run → pos 0 <ℤ pos t.run
+    → IsStill above p s t) → wind_pieces above right p (slab_pieces es shape l u bs) ≡ pos 0
 bundles_still es shape above right p l u [] r ls h = refl
 bundles_still es shape above right p l u ([] ∷ bs) r ls h = absurd r.0
 bundles_still es shape above right p l u ((k ∷ ks) ∷ bs) r ls h =
@@ -169,7 +172,8 @@ bundles_still es shape above right p l u ((k ∷ ks) ∷ bs) r ls h =
     (h (spot_on (edge_at es k) l) (spot_on (edge_at es k) u) refl refl pr pr))
     (bundles_still es shape above right p l u bs r.2 (back (IsLive es l u) (k ∷ ks) (concat bs) ls) h)
 
-pub slab_over : (es : List LeafEdge) (shape : Shape) (above right : Bool) (p : Point) (l u : Level) (bs : List (List ℕ))
+pub slab_over : (es : List LeafEdge) (shape : Shape) (above right : Bool) (p : Point) (l u : Level)
+    (bs : List (List ℕ))
     → AreBundles es l u bs → Over above (level_at p) l → Over above (level_at p) u
     → wind_pieces above right p (slab_pieces es shape l u bs) ≡ pos 0
 slab_over es shape above right p l u bs b ol ou = bundles_still es shape above right p l u bs b.ranked

@@ -35,13 +35,16 @@ use Rattle.slice_snap.proofs.Ends.{joined}
 use Rattle.slice_bool.proofs.Ends.{flat_ends, slab_ends, AtBoth, each_of}
 
 -- ---- where an edge passes a height: between its ends
-pub by_weights : (x y g h n d : ℤ) → (g -ℤ x) *ℤ n +ℤ ((h -ℤ y) *ℤ x -ℤ (g -ℤ x) *ℤ y) *ℤ d ≡ x *ℤ (h *ℤ d -ℤ n) +ℤ g *ℤ
+pub by_weights : (x y g h n d : ℤ) → (g -ℤ x) *ℤ n +ℤ ((h -ℤ y) *ℤ x -ℤ (g -ℤ x) *ℤ y) *ℤ d
+    ≡ x *ℤ (h *ℤ d -ℤ n) +ℤ g *ℤ
     (n -ℤ y *ℤ d)
-by_weights x y g h n d = ring (x ∷ y ∷ g ∷ h ∷ n ∷ d ∷ []) ((v2 ⊖ v0) ⊗ v4 ⊕ ((v3 ⊖ v1) ⊗ v0 ⊖ (v2 ⊖ v0) ⊗ v1) ⊗ v5)
+by_weights x y g h n d = ring (x ∷ y ∷ g ∷ h ∷ n ∷ d ∷ [])
+    ((v2 ⊖ v0) ⊗ v4 ⊕ ((v3 ⊖ v1) ⊗ v0 ⊖ (v2 ⊖ v0) ⊗ v1) ⊗ v5)
     (v0 ⊗ (v3 ⊗ v5 ⊖ v4) ⊕ v2 ⊗ (v4 ⊖ v1 ⊗ v5)) refl
 
 pub weights_add : (y h n d : ℤ) → (h *ℤ d -ℤ n) +ℤ (n -ℤ y *ℤ d) ≡ (h -ℤ y) *ℤ d
-weights_add y h n d = ring (y ∷ h ∷ n ∷ d ∷ []) ((v1 ⊗ v3 ⊖ v2) ⊕ (v2 ⊖ v0 ⊗ v3)) ((v1 ⊖ v0) ⊗ v3) refl
+weights_add y h n d = ring (y ∷ h ∷ n ∷ d ∷ []) ((v1 ⊗ v3 ⊖ v2) ⊕ (v2 ⊖ v0 ⊗ v3)) ((v1 ⊖ v0) ⊗ v3)
+    refl
 
 -- the limit times a weight
 weighed : (limit : ℕ) (x w : ℤ) → unsigned_abs x ≤ limit → unsigned_abs (x *ℤ w) ≤ limit * unsigned_abs w
@@ -51,11 +54,12 @@ weighed limit x w h = rw (unsigned_abs-mul x w) (mul-le (unsigned_abs x) (unsign
 abs_sum : (x y : ℤ) → unsigned_abs (x +ℤ y) ≤ unsigned_abs x + unsigned_abs y
 abs_sum x y = omega (arith, ints)
 
-sum_abs : (v w : ℤ) → pos 0 ≤ℤ v → pos 0 ≤ℤ w → unsigned_abs (v +ℤ w) ≡ unsigned_abs v + unsigned_abs w
+sum_abs : (v w : ℤ) → pos 0 ≤ℤ v → pos 0 ≤ℤ w
+    → unsigned_abs (v +ℤ w) ≡ unsigned_abs v + unsigned_abs w
 sum_abs v w p q = omega (arith, ints)
 
-both_weighed : (limit : ℕ) (x g v w : ℤ) → unsigned_abs x ≤ limit → unsigned_abs g ≤ limit → pos 0 ≤ℤ v → pos 0 ≤ℤ w
-    → unsigned_abs (x *ℤ v +ℤ g *ℤ w) ≤ limit * unsigned_abs (v +ℤ w)
+both_weighed : (limit : ℕ) (x g v w : ℤ) → unsigned_abs x ≤ limit → unsigned_abs g ≤ limit
+    → pos 0 ≤ℤ v → pos 0 ≤ℤ w → unsigned_abs (x *ℤ v +ℤ g *ℤ w) ≤ limit * unsigned_abs (v +ℤ w)
 both_weighed limit x g v w hx hg pv pw =
     let s = abs_sum (x *ℤ v) (g *ℤ w) in
     let p = weighed limit x v hx in
@@ -69,7 +73,8 @@ unfolding x_at run offset rise
 x_within limit e l w h k =
     let p = low e in
     let q = high e in
-    rw (← (unsigned_abs-mul (q.y -ℤ p.y) l.d), ← (weights_add p.y q.y l.n l.d), by_weights p.x p.y q.x q.y l.n l.d)
+    rw (← (unsigned_abs-mul (q.y -ℤ p.y) l.d), ← (weights_add p.y q.y l.n l.d),
+        by_weights p.x p.y q.x q.y l.n l.d)
     (both_weighed limit p.x q.x (q.y *ℤ l.d -ℤ l.n) (l.n -ℤ p.y *ℤ l.d) (low_within limit e w).x
     (high_within limit e w).x
     (gap_of_at_most l.n (q.y *ℤ l.d) k) (gap_of_at_most (p.y *ℤ l.d) l.n h))
@@ -96,7 +101,8 @@ module _ (limit : ℕ) (lp : 0 < limit) where
         x_within limit e l w h k;
   }
 
-  end_spot : (x : ℤ) (l : Level) → unsigned_abs x ≤ limit → IsLevelWithin limit l → IsSpotWithin limit (whole_spot x l)
+  end_spot : (x : ℤ) (l : Level) → unsigned_abs x ≤ limit → IsLevelWithin limit l
+      → IsSpotWithin limit (whole_spot x l)
   end_spot x l h v =
       let b = weighed limit x l.d h in
       record { level = v; positive = omega arith; run = omega arith; size = omega (arith, b) }
@@ -118,13 +124,15 @@ module _ (limit : ℕ) (lp : 0 < limit) where
       (by_tests (is_flat_at e.edge l) (passes_at e.edge l) refl) (spots_within es l w.1 v)
     where
       by_tests : (f t : Bool) → passes_at e.edge l ≡ t
-          → AllByRecursion (IsSpotWithin limit) (if f then whole_spot e.edge.a.x l ∷ (whole_spot e.edge.b.x l ∷ []) else
+          → AllByRecursion (IsSpotWithin limit)
+          (if f then whole_spot e.edge.a.x l ∷ (whole_spot e.edge.b.x l ∷ []) else
           if t then spot_on e.edge l ∷ [] else [])
       by_tests true t q = (end_spot e.edge.a.x l w.0.a.x v, (end_spot e.edge.b.x l w.0.b.x v, tt))
       by_tests false true q = (met_spot e.edge l w.0 v q, tt)
       by_tests false false q = tt
 
-  stops_within : (es : List LeafEdge) (l : Level) (stops : List Spot) → AllByRecursion (λ e. IsEdgeWithin limit e.edge)
+  stops_within : (es : List LeafEdge) (l : Level) (stops : List Spot)
+      → AllByRecursion (λ e. IsEdgeWithin limit e.edge)
       es → IsLevelWithin limit l → AreStops es l stops
       → AllByRecursion (IsSpotWithin limit) stops
   stops_within es l stops w v h = of_stops (IsSpotWithin limit) (spots_at es l) stops (spots_within es l w v) h.sound
@@ -150,7 +158,8 @@ module _ (limit : ℕ) (lp : 0 < limit) where
             (omega (arith, ints)) (omega (arith, ints)),
       )
 
-  bundles_within : (es : List LeafEdge) (l u : Level) (ks : List ℕ) → AllByRecursion (λ e. IsEdgeWithin limit e.edge) es
+  bundles_within : (es : List LeafEdge) (l u : Level) (ks : List ℕ)
+      → AllByRecursion (λ e. IsEdgeWithin limit e.edge) es
       → IsLevelWithin limit l → IsLevelWithin limit u → IsLower l u
       → AllByRecursion (IsLive es l u) ks → AllByRecursion (AtBoth (IsSpotWithin limit) es l u) ks
   bundles_within es l u ks w vl vu o h =
@@ -161,7 +170,8 @@ module _ (limit : ℕ) (lp : 0 < limit) where
   ends_within : (es : List LeafEdge) (shape : Shape) (ls : List Level) (pieces : List Piece)
       → AllByRecursion (λ e. IsEdgeWithin limit e.edge) es → AllByRecursion (IsLevelWithin limit) ls
       → IsRising ls → AreLevelPieces es shape ls pieces → AllByRecursion (IsSpotWithin limit) (ends_of pieces)
-  ends_within es shape [] pieces w v r h = subst (λ (qs : List Piece). AllByRecursion (IsSpotWithin limit) (ends_of qs))
+  ends_within es shape [] pieces w v r h = subst
+      (λ (qs : List Piece). AllByRecursion (IsSpotWithin limit) (ends_of qs))
       (sym h) tt
   ends_within es shape (l ∷ []) pieces w v r h =
       subst (λ (qs : List Piece). AllByRecursion (IsSpotWithin limit) (ends_of qs)) (sym h.2)
@@ -180,6 +190,7 @@ module _ (limit : ℕ) (lp : 0 < limit) where
       → (h : ArePieces es shape pieces) → All (IsLevelWithin limit) h.levels → All (IsPieceWithin limit) pieces
   spots_are_within es w shape pieces h v =
       All-from_recursion (IsPieceWithin limit) pieces
-      (from_ends limit pieces (ends_within es shape h.levels pieces (recursion_from_All (λ e. IsEdgeWithin limit e.edge)
+      (from_ends limit pieces (ends_within es shape h.levels pieces
+          (recursion_from_All (λ e. IsEdgeWithin limit e.edge)
       es w) (recursion_from_All (IsLevelWithin limit) h.levels v)
       h.are_levels.rising h.are_pieces))

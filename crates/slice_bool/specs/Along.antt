@@ -20,7 +20,8 @@ GoAlong (s ∷ (t ∷ ss)) = (s.at ≡ t.at) × IsLeft s t × GoAlong (t ∷ ss)
 pub record AreBeside (edges : List LeafEdge) (shape : Shape) (bundles : List (List ℕ)) (stops : List Stop) (vs : List Bool) : Type 0 where
   pub size : length vs ≡ length stops
   pub each : (k : ℕ) (d : Stop) → k < length stops
-      → slice_index_or vs k false ≡ left_value edges shape (passing edges true (point_of (slice_index_or stops k d).spot) bundles)
+      → slice_index_or vs k false ≡ left_value edges shape
+      (passing edges true (point_of (slice_index_or stops k d).spot) bundles)
 
 -- what the shape holds hard by each stop to its right, just above the level or just below
 pub record AreAlong (above : Bool) (edges : List LeafEdge) (shape : Shape) (stops : List Stop) (vs : List Bool) : Type 0 where

@@ -11,4 +11,5 @@ use Rattle.slice_bool.specs.Pieces.{ArePieces}
 -- Where the edges of each leaf are balanced, so are the pieces of a border.
 abbrev pub BordersAreBalanced : Type 0
 BordersAreBalanced =
-    (es : List LeafEdge) (shape : Shape) (pieces : List Piece) → AreLeavesBalanced es → ArePieces es shape pieces → ArePiecesBalanced pieces
+    (es : List LeafEdge) (shape : Shape) (pieces : List Piece) → AreLeavesBalanced es → ArePieces es shape pieces
+        → ArePiecesBalanced pieces

@@ -24,7 +24,8 @@ pub record AreMembers (edges : List LeafEdge) (bundles : List (List ℕ)) : Type
 -- the shape's values to the left of the bundles, from right to left, and first of all that at the right end
 pub record AreLeftValues (edges : List LeafEdge) (shape : Shape) (bundles : List (List ℕ)) (values : List Bool) : Type 0 where
   pub size : length values ≡ length bundles + 1
-  pub each : (k : ℕ) → k ≤ length bundles → slice_index_or values k false ≡ left_value edges shape (drop (length bundles - k) bundles)
+  pub each : (k : ℕ) → k ≤ length bundles
+      → slice_index_or values k false ≡ left_value edges shape (drop (length bundles - k) bundles)
 
 -- whether the first of a bundle's edges is one of the list that isn't flat
 abbrev pub RisesFirst : List LeafEdge → List ℕ → Type 0
@@ -34,7 +35,8 @@ RisesFirst edges (k ∷ ks) = (k < length edges) × (pos 0 <ℤ rise (edge_at ed
 -- the piece of a bundle with these values to its left and to its right
 abbrev pub piece_of : List LeafEdge → Level → Level → Bool → Bool → List ℕ → List Piece
 piece_of edges l u left right [] = []
-piece_of edges l u left right (k ∷ ks) = piece_between left right (spot_on (edge_at edges k) l) (spot_on (edge_at edges k) u) k
+piece_of edges l u left right (k ∷ ks) = piece_between left right (spot_on (edge_at edges k) l)
+    (spot_on (edge_at edges k) u) k
 
 -- whether a point lies to the left of the edge of a number, hard by it on a side
 abbrev pub lies_left : List LeafEdge → Bool → Point → ℕ → Bool
@@ -44,7 +46,8 @@ lies_left edges right p k = is_beyond right (left_of (slice_index_or edges k no_
 abbrev pub passing : List LeafEdge → Bool → Point → List (List ℕ) → List (List ℕ)
 passing edges right p [] = []
 passing edges right p ([] ∷ bs) = passing edges right p bs
-passing edges right p ((k ∷ ks) ∷ bs) = if lies_left edges right p k then (k ∷ ks) ∷ bs else passing edges right p bs
+passing edges right p ((k ∷ ks) ∷ bs) = if lies_left edges right p k then (k ∷ ks)
+    ∷ bs else passing edges right p bs
 
 -- whether a bundle is the first of these
 abbrev pub is_right_of : List LeafEdge → Point → List ℕ → Bool

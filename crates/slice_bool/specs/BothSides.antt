@@ -15,7 +15,8 @@ use Rattle.slice_bool.specs.Beside.{AreLeftValues, RisesFirst, left_value, passi
 -- right of the spot
 abbrev pub TellBeside : Bool → List LeafEdge → Shape → Level → List (List ℕ) → Type 0
 TellBeside above edges shape at bundles = (s : Spot) → s.at ≡ at → 0 < s.run
-    → is_in_by above true edges shape (point_of s) ≡ left_value edges shape (passing edges true (point_of s) bundles)
+    → is_in_by above true edges shape (point_of s)
+    ≡ left_value edges shape (passing edges true (point_of s) bundles)
 
 -- bundles on one side of a level, with the values to their left
 pub record IsSide (above : Bool) (edges : List LeafEdge) (shape : Shape) (at : Level) (v : Valued) : Type 0 where

@@ -22,13 +22,16 @@ holds_centre edges shape i j = shape_holds (leaf_holds edges i j) shape
 
 -- round each cell centre that the shape holds the pieces wind once, and round no other
 abbrev pub AreCentresWound : List LeafEdge → Shape → List Piece → Type 0
-AreCentresWound edges shape pieces = (i j : ℤ) → wind_pieces true true (centre i j) pieces ≡ counted (holds_centre edges shape i j)
+AreCentresWound edges shape pieces = (i j : ℤ)
+    → wind_pieces true true (centre i j) pieces ≡ counted (holds_centre edges shape i j)
 
 -- ---- the laws
 -- Round each cell centre that the shape holds the pieces of its border wind once, and round no other.
 abbrev pub CentresAreWoundOnce : Type 0
-CentresAreWoundOnce = (es : List LeafEdge) (shape : Shape) (pieces : List Piece) → ArePieces es shape pieces → AreCentresWound es shape pieces
+CentresAreWoundOnce = (es : List LeafEdge) (shape : Shape) (pieces : List Piece) → ArePieces es shape pieces
+    → AreCentresWound es shape pieces
 
 -- At a cell centre membership by directions is that by plain winding numbers.
 abbrev pub CentresAreHeld : Type 0
-CentresAreHeld = (es : List LeafEdge) (shape : Shape) (i j : ℤ) → is_in es shape (centre i j) ≡ holds_centre es shape i j
+CentresAreHeld = (es : List LeafEdge) (shape : Shape) (i j : ℤ)
+    → is_in es shape (centre i j) ≡ holds_centre es shape i j

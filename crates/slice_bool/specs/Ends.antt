@@ -9,4 +9,5 @@ use Rattle.slice_bool.specs.Pieces.{ArePieces}
 -- ---- the law
 -- Ends of the pieces of a border that are equal in height have the same level.
 abbrev pub HeightsHaveOneLevel : Type 0
-HeightsHaveOneLevel = (es : List LeafEdge) (shape : Shape) (pieces : List Piece) → ArePieces es shape pieces → HaveOneLevel pieces
+HeightsHaveOneLevel = (es : List LeafEdge) (shape : Shape) (pieces : List Piece) → ArePieces es shape pieces
+    → HaveOneLevel pieces

@@ -27,7 +27,8 @@ flats_from k (e ∷ es) at = if is_flat_at e.edge at then k ∷ flats_from (k + 
 -- the first of these numbers whose edge covers the stretch between two spots
 abbrev pub first_cover : List LeafEdge → Spot → Spot → List ℕ → Option ℕ
 first_cover edges s t [] = None
-first_cover edges s t (k ∷ ks) = if covers s t (slice_index_or edges k no_edge) then Some k else first_cover edges s t ks
+first_cover edges s t (k ∷ ks) = if covers s t (slice_index_or edges k no_edge) then Some k else first_cover edges s t
+    ks
 
 -- these are the numbers of the flat edges that lie on a level
 pub record AreFlats (edges : List LeafEdge) (at : Level) (flats : List ℕ) : Type 0 where

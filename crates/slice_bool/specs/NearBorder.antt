@@ -19,7 +19,8 @@ pub record HasBorderNear (edges : List LeafEdge) (shape : Shape) (q : Point) : T
 
 -- each point of an edge has a border point within one of it
 abbrev pub IsNearBorder : List LeafEdge → Shape → Edge → Type 0
-IsNearBorder edges shape e = (p : Point) → pos 0 <ℤ p.d → IsOn (whole e.a) (whole e.b) p → HasBorderNear edges shape p
+IsNearBorder edges shape e = (p : Point) → pos 0 <ℤ p.d → IsOn (whole e.a) (whole e.b) p
+    → HasBorderNear edges shape p
 
 -- so it is of each side of outlines
 abbrev pub AreNearBorder : List LeafEdge → Shape → List (List Pt) → Type 0
@@ -28,4 +29,5 @@ AreNearBorder edges shape outlines = All (IsNearBorder edges shape) (flat_map si
 -- ---- the law
 -- Each point of each side of a shape's outlines lies less than one micrometre along both axes from a border point.
 abbrev pub OutlinesAreNearBorder : Type 0
-OutlinesAreNearBorder = (es : List LeafEdge) (shape : Shape) (outlines : List (List Pt)) → AreOutlinesOf es shape outlines → AreNearBorder es shape outlines
+OutlinesAreNearBorder = (es : List LeafEdge) (shape : Shape) (outlines : List (List Pt))
+    → AreOutlinesOf es shape outlines → AreNearBorder es shape outlines

@@ -19,4 +19,5 @@ pub record EndsLieOn (e : Edge) (q : Piece) : Type 0 where
 -- Both ends of each piece of a border are points of the edge of its name.
 abbrev pub PiecesLieOnEdges : Type 0
 PiecesLieOnEdges =
-    (es : List LeafEdge) (shape : Shape) (pieces : List Piece) → ArePieces es shape pieces → All (λ q. EndsLieOn (edge_at es q.edge) q) pieces
+    (es : List LeafEdge) (shape : Shape) (pieces : List Piece) → ArePieces es shape pieces
+        → All (λ q. EndsLieOn (edge_at es q.edge) q) pieces

@@ -11,5 +11,6 @@ use Rattle.slice_bool.specs.Outlines.{AreMadeOf}
 -- Named pieces that don't overlap make one list of outlines.
 abbrev pub MadeAreOne : Type 0
 MadeAreOne =
-    (limit count : ℕ) (edge : ℕ → Edge) (pieces : List Piece) (outlines more : List (List Pt)) → All (IsPieceWithin limit) pieces
+    (limit count : ℕ) (edge : ℕ → Edge) (pieces : List Piece) (outlines more : List (List Pt))
+        → All (IsPieceWithin limit) pieces
     → AreNamed count edge pieces → AreMadeOf pieces outlines → AreMadeOf pieces more → outlines ≡ more

@@ -1,4 +1,5 @@
--- The outlines of a shape over the leaves of an edge list: its border pieces, merged, rounded to edges that cancel, and joined.
+-- The outlines of a shape over the leaves of an edge list: its border pieces, merged, rounded to edges that cancel, and
+-- joined.
 use Rattle.std.specs.Prelude.{List}
 use Rattle.scad_geom.specs.declared.point.Pt.{Pt}
 use Rattle.scad_geom.specs.declared.point.Edge.{Edge}
@@ -11,7 +12,8 @@ use Rattle.slice_snap.specs.Cancelling.{AreCancelled}
 use Rattle.slice_loops.specs.Outlines.{AreOutlines}
 use Rattle.slice_bool.specs.Pieces.{ArePieces}
 
--- the outlines that pieces make: pieces of one name are merged where two alone meet, the ends are rounded, opposite edges cancel,
+-- the outlines that pieces make: pieces of one name are merged where two alone meet, the ends are rounded, opposite
+-- edges cancel,
 -- and those left are joined to closed outlines
 pub record AreMadeOf (pieces : List Piece) (outlines : List (List Pt)) : Type 0 where
   pub merged : List Piece

@@ -26,7 +26,8 @@ heading_of e = if int_lt e.b.y e.a.y then negsuc 0 else pos 1
 -- the headings of a leaf's edges among these numbers
 abbrev pub headings : List LeafEdge → ℕ → List ℕ → ℤ
 headings edges leaf [] = pos 0
-headings edges leaf (k ∷ ks) = (if (slice_index_or edges k no_edge).leaf == leaf then heading_of (slice_index_or edges k no_edge).edge else pos 0) +ℤ headings edges leaf ks
+headings edges leaf (k ∷ ks) = (if (slice_index_or edges k no_edge).leaf
+    == leaf then heading_of (slice_index_or edges k no_edge).edge else pos 0) +ℤ headings edges leaf ks
 
 -- whether one of the edges is of the leaf
 abbrev pub has_leaf : ℕ → List LeafEdge → Bool

@@ -12,5 +12,6 @@ use Rattle.slice_bool.specs.Pieces.{ArePieces}
 -- Where the edges of a border and its levels are within a limit above 0, so are the ends of its pieces.
 abbrev pub SpotsAreWithin : Type 0
 SpotsAreWithin =
-    (limit : ℕ) → 0 < limit → (es : List LeafEdge) → All (λ e. IsEdgeWithin limit e.edge) es → (shape : Shape) (pieces : List Piece)
+    (limit : ℕ) → 0 < limit → (es : List LeafEdge) → All (λ e. IsEdgeWithin limit e.edge) es
+        → (shape : Shape) (pieces : List Piece)
     → (h : ArePieces es shape pieces) → All (IsLevelWithin limit) h.levels → All (IsPieceWithin limit) pieces

@@ -50,14 +50,16 @@ int_eq-turned a b = by_test (int_eq a b) refl (int_eq b a) refl
     by_test false e false f = e ∙ sym f
 
 same_point-turned : (p q : Pt) → is_same_point (whole p) (whole q) ≡ is_same_point (whole q) (whole p)
-same_point-turned p q = ap₂ (λ (a b : Bool). a && b) (int_eq-turned (p.y *ℤ pos 1) (q.y *ℤ pos 1)) (int_eq-turned (p.x *ℤ pos 1) (q.x *ℤ pos 1))
+same_point-turned p q = ap₂ (λ (a b : Bool). a && b) (int_eq-turned (p.y *ℤ pos 1) (q.y *ℤ pos 1))
+    (int_eq-turned (p.x *ℤ pos 1) (q.x *ℤ pos 1))
 
 share_end-turned : (e f : Edge) → share_end e f ≡ share_end f e
 share_end-turned e f =
     ap₂ (λ (a b : Bool). a || b)
     (ap₂ (λ (a b : Bool). a || b) (same_point-turned e.a f.a) (same_point-turned e.a f.b))
     (ap₂ (λ (a b : Bool). a || b) (same_point-turned e.b f.a) (same_point-turned e.b f.b))
-    ∙ middle (is_same_point (whole f.a) (whole e.a)) (is_same_point (whole f.b) (whole e.a)) (is_same_point (whole f.a) (whole e.b)) (is_same_point (whole f.b) (whole e.b))
+    ∙ middle (is_same_point (whole f.a) (whole e.a)) (is_same_point (whole f.b) (whole e.a))
+    (is_same_point (whole f.a) (whole e.b)) (is_same_point (whole f.b) (whole e.b))
   where
     middle : (a b c d : Bool) → ((a || b) || (c || d)) ≡ ((a || c) || (b || d))
     middle true b c d = refl
@@ -73,7 +75,8 @@ kept-turned : (e f : Edge) → is_kept e f ≡ is_kept f e
 unfolding is_kept are_ends_beside
 kept-turned e f =
     ap₂ (λ (a b : Bool). a && b) (crosses-turned e f)
-    (ap₂ (λ (a b : Bool). a && b) (and_comm (is_rising e) (is_rising f)) (and_comm (is_beside e (low f) && is_beside e (high f)) (is_beside f (low e) && is_beside f (high e))))
+    (ap₂ (λ (a b : Bool). a && b) (and_comm (is_rising e) (is_rising f))
+        (and_comm (is_beside e (low f) && is_beside e (high f)) (is_beside f (low e) && is_beside f (high e))))
 
 meeting-turned : (e f : Edge) → meets e f ≡ true → meeting e f ≡ meeting f e
 meeting-turned e f m =
@@ -110,7 +113,8 @@ kept_near : (h : Level) (e f : Edge) → kept_at h e f ≡ true → boxes_meet e
 kept_near h e f k = boxes_of_crossing e f (kept_meets e f ((and_parts (is_kept e f) (has_height h (meeting e f)) k).0))
 
 -- ---- from stays to edges
-at_home-turned : (r : Edge → Edge → Bool) → ((e f : Edge) → r e f ≡ r f e) → (es : List Edge) (s t : Stay) → at_home r es s t ≡ at_home r es t s
+at_home-turned : (r : Edge → Edge → Bool) → ((e f : Edge) → r e f ≡ r f e) → (es : List Edge) (s t : Stay)
+    → at_home r es s t ≡ at_home r es t s
 at_home-turned r turned es s t =
     ap₂ (λ (a b : Bool). a && b)
     (ap₂ (λ (a b : Bool). a && b) (eqb-turned s.bucket t.bucket) (or_turned s.starts t.starts))
@@ -127,14 +131,16 @@ module _ (tall : ℕ) (positive : 0 < tall) (edges : List LeafEdge) (within : Al
   abbrev pub es : List Edge
   es = edges_of_leaves edges
 
-  in_pairs : (r : Edge → Edge → Bool) → ((e f : Edge) → r e f ≡ true → boxes_meet e f ≡ true) → ((e f : Edge) → r e f ≡ r f e) → pairs (at_home r es) stays ≡ pairs r es
+  in_pairs : (r : Edge → Edge → Bool) → ((e f : Edge) → r e f ≡ true → boxes_meet e f ≡ true)
+      → ((e f : Edge) → r e f ≡ r f e) → pairs (at_home r es) stays ≡ pairs r es
   in_pairs r near turned =
       sym (pairs-rearranged (at_home r es) (at_home-turned r turned es) (all_stays tall 0 es) stays arranged)
       ∙ pairs_at_home tall positive r near boxes-turned es es 0 refl within
 
   pub tests_are : (yield_among es stays).tests ≡ pairs boxes_meet es
   tests_are =
-      among_total (λ (y : Yield). y.tests) (λ y z. refl) refl es boxes_meet (λ e f h. h) (λ e f h. sym (ap once h)) stays
+      among_total (λ (y : Yield). y.tests) (λ y z. refl) refl es boxes_meet (λ e f h. h) (λ e f h. sym (ap once h))
+          stays
       ∙ in_pairs boxes_meet (λ e f h. h) boxes-turned
 
   pub count_is : (yield_among es stays).count ≡ pairs crosses es
@@ -151,17 +157,20 @@ module _ (tall : ℕ) (positive : 0 < tall) (edges : List LeafEdge) (within : Al
       plus_none : (n : ℕ) → n + 0 ≡ n
       plus_none n = omega arith
 
-      by_test : (t : Bool) → count_by (has_height h) (if t then meeting e f ∷ [] else []) ≡ once (t && has_height h (meeting e f))
+      by_test : (t : Bool) → count_by (has_height h) (if t then meeting e f ∷ [] else [])
+          ≡ once (t && has_height h (meeting e f))
       by_test true = count-cons (has_height h) (meeting e f) [] ∙ plus_none (once (has_height h (meeting e f)))
       by_test false = refl
 
   pub levels_are : (h : Level) → count_by (has_height h) (yield_among es stays).levels ≡ pairs (kept_at h) es
   levels_are h =
-      among_total (at_height h) (λ y z. count-append (has_height h) y.levels z.levels) refl es (kept_at h) (kept_near h) (λ e f b. one_kept h e f) stays
+      among_total (at_height h) (λ y z. count-append (has_height h) y.levels z.levels) refl es (kept_at h)
+          (kept_near h) (λ e f b. one_kept h e f) stays
       ∙ in_pairs (kept_at h) (kept_near h) (kept_at-turned h)
 
 -- ---- pairs of leaves' edges
-count_of_leaves : (p : Edge → Bool) (es : List LeafEdge) → count_by p (edges_of_leaves es) ≡ count_by (λ e. p e.edge) es
+count_of_leaves : (p : Edge → Bool) (es : List LeafEdge)
+    → count_by p (edges_of_leaves es) ≡ count_by (λ e. p e.edge) es
 count_of_leaves p [] = refl
 count_of_leaves p (e ∷ es) =
     count-cons p e.edge (edges_of_leaves es)
@@ -195,14 +204,18 @@ fewer_count b n h k = let l : 0 < once false + n = rw h at k in omega arith
 
 has_then_counts : (ls : List Level) (h : Level) → HasHeight ls h → 0 < count_by (has_height h) ls
 has_then_counts [] h k = absurd k
-has_then_counts (l ∷ ls) h (inl k) = subst (λ (n : ℕ). 0 < n) (sym (count-cons (has_height h) l ls)) (first_counts (has_height h l) (count_by (has_height h) ls) ((signed_Decides (l.n *ℤ h.d) (h.n *ℤ l.d)).1 k))
-has_then_counts (l ∷ ls) h (inr k) = subst (λ (n : ℕ). 0 < n) (sym (count-cons (has_height h) l ls)) (more_count (once (has_height h l)) (count_by (has_height h) ls) (has_then_counts ls h k))
+has_then_counts (l ∷ ls) h (inl k) = subst (λ (n : ℕ). 0 < n) (sym (count-cons (has_height h) l ls))
+    (first_counts (has_height h l) (count_by (has_height h) ls) ((signed_Decides (l.n *ℤ h.d) (h.n *ℤ l.d)).1 k))
+has_then_counts (l ∷ ls) h (inr k) = subst (λ (n : ℕ). 0 < n) (sym (count-cons (has_height h) l ls))
+    (more_count (once (has_height h l)) (count_by (has_height h) ls) (has_then_counts ls h k))
 
 counts_then_has : (ls : List Level) (h : Level) → 0 < count_by (has_height h) ls → HasHeight ls h
 counts_then_has [] h k = absurd (omega arith)
-counts_then_has (l ∷ ls) h k = by_test (has_height h l) refl (subst (λ (n : ℕ). 0 < n) (count-cons (has_height h) l ls) k) (counts_then_has ls h)
+counts_then_has (l ∷ ls) h k = by_test (has_height h l) refl
+    (subst (λ (n : ℕ). 0 < n) (count-cons (has_height h) l ls) k) (counts_then_has ls h)
   where
-    by_test : (t : Bool) → has_height h l ≡ t → 0 < once (has_height h l) + count_by (has_height h) ls → (0 < count_by (has_height h) ls → HasHeight ls h) → HasHeight (l ∷ ls) h
+    by_test : (t : Bool) → has_height h l ≡ t → 0 < once (has_height h l) + count_by (has_height h) ls
+        → (0 < count_by (has_height h) ls → HasHeight ls h) → HasHeight (l ∷ ls) h
     by_test true e k r = inl ((signed_Decides (l.n *ℤ h.d) (h.n *ℤ l.d)).0 e)
     by_test false e k r = inr (r (fewer_count (has_height h l) (count_by (has_height h) ls) e k))
 
@@ -214,39 +227,50 @@ all_itself (l ∷ ls) = (inl refl, later ls (all_itself ls))
     later [] h = tt
     later (x ∷ xs) h = (inr h.0, later xs h.1)
 
-pub all_as : (P Q : Level → Type 0) → ((l : Level) → P l → Q l) → (ls : List Level) → AllByRecursion P ls → AllByRecursion Q ls
+pub all_as : (P Q : Level → Type 0) → ((l : Level) → P l → Q l) → (ls : List Level) → AllByRecursion P ls
+    → AllByRecursion Q ls
 all_as P Q f [] h = tt
 all_as P Q f (l ∷ ls) h = (f l h.0, all_as P Q f ls h.1)
 
 -- ---- a kept height is that of a meeting
-kept_with : (h : Level) (e : Edge) (fs : List LeafEdge) → 0 < count_by (kept_at h e) (edges_of_leaves fs) → HasHeight (meetings e fs) h
+kept_with : (h : Level) (e : Edge) (fs : List LeafEdge) → 0 < count_by (kept_at h e) (edges_of_leaves fs)
+    → HasHeight (meetings e fs) h
 kept_with h e [] k = absurd (omega arith)
-kept_with h e (f ∷ fs) k = by_test (kept_at h e f.edge) refl (subst (λ (n : ℕ). 0 < n) (count-cons (kept_at h e) f.edge (edges_of_leaves fs)) k) (kept_with h e fs)
+kept_with h e (f ∷ fs) k = by_test (kept_at h e f.edge) refl
+    (subst (λ (n : ℕ). 0 < n) (count-cons (kept_at h e) f.edge (edges_of_leaves fs)) k) (kept_with h e fs)
   where
     met : meets e f.edge ≡ true → has_height h (meeting e f.edge) ≡ true → HasHeight (meetings e (f ∷ fs)) h
     met m s = rw m (inl ((signed_Decides ((meeting e f.edge).n *ℤ h.d) (h.n *ℤ (meeting e f.edge).d)).0 s))
 
-    further : (t : Bool) → HasHeight (meetings e fs) h → HasHeight (if t then meeting e f.edge ∷ meetings e fs else meetings e fs) h
+    further : (t : Bool) → HasHeight (meetings e fs) h
+        → HasHeight (if t then meeting e f.edge ∷ meetings e fs else meetings e fs) h
     further true r = inr r
     further false r = r
 
-    by_test : (t : Bool) → kept_at h e f.edge ≡ t → 0 < once (kept_at h e f.edge) + count_by (kept_at h e) (edges_of_leaves fs)
-        → (0 < count_by (kept_at h e) (edges_of_leaves fs) → HasHeight (meetings e fs) h) → HasHeight (meetings e (f ∷ fs)) h
+    by_test : (t : Bool) → kept_at h e f.edge ≡ t
+        → 0 < once (kept_at h e f.edge) + count_by (kept_at h e) (edges_of_leaves fs)
+        → (0 < count_by (kept_at h e) (edges_of_leaves fs) → HasHeight (meetings e fs) h)
+        → HasHeight (meetings e (f ∷ fs)) h
     by_test true q k r =
         let a = and_parts (is_kept e f.edge) (has_height h (meeting e f.edge)) q in
         met ((and_parts (meets e f.edge) (not (share_end e f.edge)) (kept_meets e f.edge a.0)).0) a.1
-    by_test false q k r = further (meets e f.edge) (r (fewer_count (kept_at h e f.edge) (count_by (kept_at h e) (edges_of_leaves fs)) q k))
+    by_test false q k r = further (meets e f.edge)
+        (r (fewer_count (kept_at h e f.edge) (count_by (kept_at h e) (edges_of_leaves fs)) q k))
 
 pos_part : (m n : ℕ) → 0 < m + n → (0 < m) ⊎ (0 < n)
 pos_part zero n h = inr (omega arith)
 pos_part (suc m) n h = inl (omega arith)
 
-kept_among : (h : Level) (es : List LeafEdge) → 0 < pairs (kept_at h) (edges_of_leaves es) → HasHeight (heights es) h
+kept_among : (h : Level) (es : List LeafEdge) → 0 < pairs (kept_at h) (edges_of_leaves es)
+    → HasHeight (heights es) h
 kept_among h [] k = absurd (omega arith)
 kept_among h (e ∷ es) k =
-    inr (inr (has_append (meetings e.edge es) (heights es) h (either (pos_part (count_by (kept_at h e.edge) (edges_of_leaves es)) (pairs (kept_at h) (edges_of_leaves es)) k) (kept_among h es))))
+    inr (inr (has_append (meetings e.edge es) (heights es) h
+        (either (pos_part (count_by (kept_at h e.edge) (edges_of_leaves es)) (pairs (kept_at h) (edges_of_leaves es)) k)
+        (kept_among h es))))
   where
-    either : (0 < count_by (kept_at h e.edge) (edges_of_leaves es)) ⊎ (0 < pairs (kept_at h) (edges_of_leaves es)) → (0 < pairs (kept_at h) (edges_of_leaves es) → HasHeight (heights es) h)
+    either : (0 < count_by (kept_at h e.edge) (edges_of_leaves es)) ⊎ (0 < pairs (kept_at h) (edges_of_leaves es))
+        → (0 < pairs (kept_at h) (edges_of_leaves es) → HasHeight (heights es) h)
         → HasHeight (meetings e.edge es) h ⊎ HasHeight (heights es) h
     either (inl p) r = inl (kept_with h e.edge es p)
     either (inr p) r = inr (r p)
@@ -260,23 +284,28 @@ KnownWith e fs h = (AtEnd e h ⊎ HasHeight (end_levels fs) h) ⊎ (0 < count_by
 
 known_with : (e : Edge) (fs : List LeafEdge) → AllByRecursion (KnownWith e fs) (meetings e fs)
 known_with e [] = tt
-known_with e (f ∷ fs) = by_test (meets e f.edge) refl (all_as (KnownWith e fs) (KnownWith e (f ∷ fs)) more (meetings e fs) (known_with e fs))
+known_with e (f ∷ fs) = by_test (meets e f.edge) refl
+    (all_as (KnownWith e fs) (KnownWith e (f ∷ fs)) more (meetings e fs) (known_with e fs))
   where
     more : (h : Level) → KnownWith e fs h → KnownWith e (f ∷ fs) h
     more h (inl (inl k)) = inl (inl k)
     more h (inl (inr k)) = inl (inr (inr (inr k)))
-    more h (inr k) = inr (subst (λ (n : ℕ). 0 < n) (sym (count-cons (kept_at h e) f.edge (edges_of_leaves fs))) (more_count (once (kept_at h e f.edge)) _ k))
+    more h (inr k) = inr (subst (λ (n : ℕ). 0 < n) (sym (count-cons (kept_at h e) f.edge (edges_of_leaves fs)))
+        (more_count (once (kept_at h e f.edge)) _ k))
 
-    one : (is_kept e f.edge ≡ true) ⊎ (AtEnd e (meeting e f.edge) ⊎ AtEnd f.edge (meeting e f.edge)) → KnownWith e (f ∷ fs) (meeting e f.edge)
+    one : (is_kept e f.edge ≡ true) ⊎ (AtEnd e (meeting e f.edge) ⊎ AtEnd f.edge (meeting e f.edge))
+        → KnownWith e (f ∷ fs) (meeting e f.edge)
     one (inl k) =
         let h : Level = meeting e f.edge in
         let s : kept_at h e f.edge ≡ true = ap₂ (λ (a b : Bool). a && b) k ((signed_Decides (h.n *ℤ h.d) (h.n *ℤ h.d)).1 refl) in
-        inr (subst (λ (n : ℕ). 0 < n) (sym (count-cons (kept_at h e) f.edge (edges_of_leaves fs))) (first_counts (kept_at h e f.edge) _ s))
+        inr (subst (λ (n : ℕ). 0 < n) (sym (count-cons (kept_at h e) f.edge (edges_of_leaves fs)))
+            (first_counts (kept_at h e f.edge) _ s))
     one (inr (inl k)) = inl (inl k)
     one (inr (inr (inl k))) = inl (inr (inl k))
     one (inr (inr (inr k))) = inl (inr (inr (inl k)))
 
-    by_test : (t : Bool) → meets e f.edge ≡ t → AllByRecursion (KnownWith e (f ∷ fs)) (meetings e fs) → AllByRecursion (KnownWith e (f ∷ fs)) (if t then meeting e f.edge ∷ meetings e fs else meetings e fs)
+    by_test : (t : Bool) → meets e f.edge ≡ t → AllByRecursion (KnownWith e (f ∷ fs)) (meetings e fs)
+        → AllByRecursion (KnownWith e (f ∷ fs)) (if t then meeting e f.edge ∷ meetings e fs else meetings e fs)
     by_test true m r = (one (kept_or_end e f.edge m), r)
     by_test false m r = r
 
@@ -298,18 +327,25 @@ known (e ∷ es) = (
     with_first h (inl (inr k)) = inl (inr (inr k))
     with_first h (inr k) = inr (either k)
       where
-        either : 0 < count_by (kept_at h e.edge) (edges_of_leaves es) → 0 < count_by (kept_at h e.edge) (edges_of_leaves es) + pairs (kept_at h) (edges_of_leaves es)
+        either : 0 < count_by (kept_at h e.edge) (edges_of_leaves es)
+            → 0 < count_by (kept_at h e.edge) (edges_of_leaves es) + pairs (kept_at h) (edges_of_leaves es)
         either k = omega arith
 
     further : (h : Level) → Known es h → Known (e ∷ es) h
     further h (inl k) = inl (inr (inr k))
-    further h (inr k) = inr (more_count (count_by (kept_at h e.edge) (edges_of_leaves es)) (pairs (kept_at h) (edges_of_leaves es)) k)
+    further h (inr k) = inr (more_count (count_by (kept_at h e.edge) (edges_of_leaves es))
+        (pairs (kept_at h) (edges_of_leaves es)) k)
 
 -- heights that are counted as often as pairs of edges are kept
-other_heights : (edges : List LeafEdge) (ls : List Level) → ((h : Level) → count_by (has_height h) ls ≡ pairs (kept_at h) (edges_of_leaves edges)) → AreOtherHeights edges ls
+other_heights : (edges : List LeafEdge) (ls : List Level)
+    → ((h : Level) → count_by (has_height h) ls ≡ pairs (kept_at h) (edges_of_leaves edges))
+    → AreOtherHeights edges ls
 other_heights edges ls counted = record {
-  sound = all_as (HasHeight ls) (HasHeight (heights edges)) (λ h k. kept_among h edges (subst (λ (n : ℕ). 0 < n) (counted h) (has_then_counts ls h k))) ls (all_itself ls);
-  complete = all_as (Known edges) (λ h. HasHeight (end_levels edges) h ⊎ HasHeight ls h) either (heights edges) (known edges);
+  sound = all_as (HasHeight ls) (HasHeight (heights edges))
+      (λ h k. kept_among h edges (subst (λ (n : ℕ). 0 < n) (counted h) (has_then_counts ls h k))) ls
+      (all_itself ls);
+  complete = all_as (Known edges) (λ h. HasHeight (end_levels edges) h ⊎ HasHeight ls h) either (heights edges)
+      (known edges);
 }
   where
     either : (h : Level) → Known edges h → HasHeight (end_levels edges) h ⊎ HasHeight ls h
@@ -322,21 +358,32 @@ room m n h k = omega arith
 
 module _ (tall : ℕ) (positive : 0 < tall) (edges : List LeafEdge) (within : AllByRecursion (IsEdgeWithin coordinate_limit) (edges_of_leaves edges)) (stays : List Stay)
     (arranged : IsPermutation (all_stays tall 0 (edges_of_leaves edges)) stays) where
-  pub has_room : (before : Found) → IsEmpty before → length (edges_of_leaves edges) < 2 ^ 32 → HasRoom before (yield_among (edges_of_leaves edges) stays)
+  pub has_room : (before : Found) → IsEmpty before → length (edges_of_leaves edges) < 2 ^ 32
+      → HasRoom before (yield_among (edges_of_leaves edges) stays)
   has_room before empty few = record {
-    tests = fits before.tests (yield_among (edges_of_leaves edges) stays).tests (pairs boxes_meet (edges_of_leaves edges)) empty.tests (tests_are tall positive edges within stays arranged) (pairs-few boxes_meet (2 ^ 32) (edges_of_leaves edges) (omega arith));
-    count = fits before.count (yield_among (edges_of_leaves edges) stays).count (pairs crosses (edges_of_leaves edges)) empty.count (count_is tall positive edges within stays arranged) (pairs-few crosses (2 ^ 32) (edges_of_leaves edges) (omega arith));
+    tests = fits before.tests (yield_among (edges_of_leaves edges) stays).tests
+        (pairs boxes_meet (edges_of_leaves edges)) empty.tests (tests_are tall positive edges within stays arranged)
+        (pairs-few boxes_meet (2 ^ 32) (edges_of_leaves edges) (omega arith));
+    count = fits before.count (yield_among (edges_of_leaves edges) stays).count (pairs crosses (edges_of_leaves edges))
+        empty.count (count_is tall positive edges within stays arranged)
+        (pairs-few crosses (2 ^ 32) (edges_of_leaves edges) (omega arith));
   }
     where
       fits : (a m n : ℕ) → a ≡ 0 → m ≡ n → n ≤ length (edges_of_leaves edges) * 2 ^ 32 → a + m < 2 ^ 64
       fits a m n h k l = omega arith
 
-  pub all_found : (before after : Found) → IsEmpty before → HasYielded before after (yield_among (edges_of_leaves edges) stays) → IsFoundOf edges after
+  pub all_found : (before after : Found) → IsEmpty before
+      → HasYielded before after (yield_among (edges_of_leaves edges) stays) → IsFoundOf edges after
   all_found before after empty y = record {
-    tests = y.tests ∙ none before.tests _ empty.tests ∙ tests_are tall positive edges within stays arranged ∙ comparisons_are edges;
-    count = y.count ∙ none before.count _ empty.count ∙ count_is tall positive edges within stays arranged ∙ crossings_are edges;
-    levels = λ few. subst (AreOtherHeights edges) (sym (y.levels few ∙ ap (λ (ls : List Level). ls ++ (yield_among (edges_of_leaves edges) stays).levels) empty.levels))
-        (other_heights edges (yield_among (edges_of_leaves edges) stays).levels (levels_are tall positive edges within stays arranged));
+    tests = y.tests ∙ none before.tests _ empty.tests ∙ tests_are tall positive edges within stays arranged
+        ∙ comparisons_are edges;
+    count = y.count ∙ none before.count _ empty.count ∙ count_is tall positive edges within stays arranged
+        ∙ crossings_are edges;
+    levels = λ few. subst (AreOtherHeights edges)
+        (sym (y.levels few ∙ ap (λ (ls : List Level). ls ++ (yield_among (edges_of_leaves edges) stays).levels)
+        empty.levels))
+        (other_heights edges (yield_among (edges_of_leaves edges) stays).levels
+            (levels_are tall positive edges within stays arranged));
   }
     where
       none : (m n : ℕ) → m ≡ 0 → m + n ≡ n

@@ -14,7 +14,8 @@ use Rattle.slice_events.proofs.Yields.{left_none, left_more, left_room, with_non
 
 module _ (es : List Edge) (s : Stay) (later : List Stay) (j : ℕ) (d : Stay) (before now : Found) (l : j < length later)
     (left : IsLeft before now (yield_with es s (drop j later)) (yield_with es s later)) where
-  rest_home : All (IsStayOf es) later → AreInOrder (s ∷ later) → IsPast es s (get_or later j d) → AllByRecursion (λ t. at_home boxes_meet es s t ≡ false) (drop j later)
+  rest_home : All (IsStayOf es) later → AreInOrder (s ∷ later) → IsPast es s (get_or later j d)
+      → AllByRecursion (λ t. at_home boxes_meet es s t ≡ false) (drop j later)
   rest_home stays order past =
       let here : drop j later ≡ get_or later j d ∷ drop (j + 1) later = drop_more later j d l in
       let after : AreInOrder (get_or later j d ∷ drop (j + 1) later) = subst AreInOrder here (in_order-drop later j order.1) in
@@ -24,16 +25,22 @@ module _ (es : List Edge) (s : Stay) (later : List Stay) (j : ℕ) (d : Stay) (b
       (stays j d l) after.0
       (recursion_from_All (IsStayOf es) (drop (j + 1) later) (All-drop (IsStayOf es) (j + 1) later stays)))
 
-  pub ends_early : All (IsStayOf es) later → AreInOrder (s ∷ later) → IsPast es s (get_or later j d) → HasYielded before now (yield_with es s later)
+  pub ends_early : All (IsStayOf es) later → AreInOrder (s ∷ later) → IsPast es s (get_or later j d)
+      → HasYielded before now (yield_with es s later)
   ends_early stays order past =
       left_none before now (yield_with es s later)
-      (subst (λ (y : Yield). IsLeft before now y (yield_with es s later)) (with_none es s (drop j later) (rest_home stays order past)) left)
+      (subst (λ (y : Yield). IsLeft before now y (yield_with es s later))
+          (with_none es s (drop j later) (rest_home stays order past)) left)
 
-  one_and_rest : IsLeft before now (and_then (yield_at es s (get_or later j d)) (yield_with es s (drop (j + 1) later))) (yield_with es s later)
+  one_and_rest : IsLeft before now (and_then (yield_at es s (get_or later j d)) (yield_with es s (drop (j + 1) later)))
+      (yield_with es s later)
   one_and_rest = subst (λ (y : Yield). IsLeft before now y (yield_with es s later)) (with_more es s later j d l) left
 
   pub room_for_one : HasRoom before (yield_with es s later) → HasRoom now (yield_at es s (get_or later j d))
-  room_for_one room = left_room before now (yield_at es s (get_or later j d)) (yield_with es s (drop (j + 1) later)) (yield_with es s later) room one_and_rest
+  room_for_one room = left_room before now (yield_at es s (get_or later j d)) (yield_with es s (drop (j + 1) later))
+      (yield_with es s later) room one_and_rest
 
-  pub one_more : (next : Found) → HasYielded now next (yield_at es s (get_or later j d)) → IsLeft before next (yield_with es s (drop (j + 1) later)) (yield_with es s later)
-  one_more next y = left_more before now next (yield_at es s (get_or later j d)) (yield_with es s (drop (j + 1) later)) (yield_with es s later) one_and_rest y
+  pub one_more : (next : Found) → HasYielded now next (yield_at es s (get_or later j d))
+      → IsLeft before next (yield_with es s (drop (j + 1) later)) (yield_with es s later)
+  one_more next y = left_more before now next (yield_at es s (get_or later j d)) (yield_with es s (drop (j + 1) later))
+      (yield_with es s later) one_and_rest y

@@ -71,7 +71,8 @@ plus_zero : (n : ℕ) → n + 0 ≡ n
 plus_zero n = omega arith
 
 -- one of a run's buckets, counted on its own
-counted_once : (p q u c : Bool) → (p ≡ true → q ≡ false) → once ((p && (u || false)) && c) + once ((q && u) && c) ≡ once (((p || q) && u) && c)
+counted_once : (p q u c : Bool) → (p ≡ true → q ≡ false)
+    → once ((p && (u || false)) && c) + once ((q && u) && c) ≡ once (((p || q) && u) && c)
 counted_once true true u c h = absurd (true≢false (h refl))
 counted_once true false true true h = refl
 counted_once true false true false h = refl
@@ -85,12 +86,17 @@ run_apart k b x e = below_run k (suc b) x (subst (λ (n : ℕ). x < suc n) (eqb-
 -- ---- the pairs of two edges' stays
 module _ (r : Edge → Edge → Bool) (es : List Edge) where
   -- a stay, and the later ones of an edge: at home where it starts, in their run
-  with_later : (s : Stay) (k b j : ℕ) (left : ℤ) → count_by (at_home r es s) (later_stays j left b k) ≡ once ((in_run b k s.bucket && s.starts) && r (edge_at es s.line) (edge_at es j))
+  with_later : (s : Stay) (k b j : ℕ) (left : ℤ)
+      → count_by (at_home r es s) (later_stays j left b k)
+      ≡ once ((in_run b k s.bucket && s.starts) && r (edge_at es s.line) (edge_at es j))
   with_later s zero b j left = refl
   with_later s (suc k) b j left =
-      count-cons (at_home r es s) (record { bucket = b; left = left; line = j; starts = false }) (later_stays j left (suc b) k)
-      ∙ ap (λ (n : ℕ). once (((s.bucket == b) && (s.starts || false)) && r (edge_at es s.line) (edge_at es j)) + n) (with_later s k (suc b) j left)
-      ∙ counted_once (s.bucket == b) (in_run (suc b) k s.bucket) s.starts (r (edge_at es s.line) (edge_at es j)) (run_apart k b s.bucket)
+      count-cons (at_home r es s) (record { bucket = b; left = left; line = j; starts = false })
+          (later_stays j left (suc b) k)
+      ∙ ap (λ (n : ℕ). once (((s.bucket == b) && (s.starts || false)) && r (edge_at es s.line) (edge_at es j)) + n)
+      (with_later s k (suc b) j left)
+      ∙ counted_once (s.bucket == b) (in_run (suc b) k s.bucket) s.starts (r (edge_at es s.line) (edge_at es j))
+      (run_apart k b s.bucket)
 
   no_start : (p c : Bool) → once ((p && false) && c) ≡ 0
   no_start true c = refl
@@ -102,15 +108,19 @@ module _ (r : Edge → Edge → Bool) (es : List Edge) where
   any_start false u c = refl
 
   -- all but the first stay of an edge, with all of another: at home where the other starts
-  later_rows : (k b i j first more : ℕ) (p q : ℤ) → across (at_home r es) (later_stays i p b k) (stays_from j q first more) ≡ once (in_run b k first && r (edge_at es i) (edge_at es j))
+  later_rows : (k b i j first more : ℕ) (p q : ℤ)
+      → across (at_home r es) (later_stays i p b k) (stays_from j q first more)
+      ≡ once (in_run b k first && r (edge_at es i) (edge_at es j))
   later_rows zero b i j first more p q = refl
   later_rows (suc k) b i j first more p q =
       let s : Stay = record { bucket = b; left = p; line = i; starts = false } in
       let c : Bool = r (edge_at es i) (edge_at es j) in
       across-cons (at_home r es) s (later_stays i p (suc b) k) (stays_from j q first more)
       ∙ ap₂ (λ (m n : ℕ). m + n)
-      (count-cons (at_home r es s) (record { bucket = first; left = q; line = j; starts = true }) (later_stays j q (suc first) more)
-      ∙ ap₂ (λ (m n : ℕ). m + n) (any_start (b == first) false c) (with_later s more (suc first) j q ∙ no_start (in_run (suc first) more b) c)
+      (count-cons (at_home r es s) (record { bucket = first; left = q; line = j; starts = true })
+          (later_stays j q (suc first) more)
+      ∙ ap₂ (λ (m n : ℕ). m + n) (any_start (b == first) false c)
+      (with_later s more (suc first) j q ∙ no_start (in_run (suc first) more b) c)
       ∙ plus_zero (once ((b == first) && c)) ∙ ap (λ (t : Bool). once (t && c)) (eqb-turned b first))
       (later_rows k (suc b) i j first more p q)
       ∙ step (first == b) (in_run (suc b) k first) c (run_apart k b first)
@@ -122,15 +132,21 @@ module _ (r : Edge → Edge → Bool) (es : List Edge) where
       step false q c h = zero_plus (once (q && c))
 
   -- all stays of an edge with all of another
-  rows : (i j first more other rest : ℕ) (p q : ℤ) → across (at_home r es) (stays_from i p first more) (stays_from j q other rest)
-      ≡ (once ((first == other) && r (edge_at es i) (edge_at es j)) + once (in_run (suc other) rest first && r (edge_at es i) (edge_at es j))) + once (in_run (suc first) more other && r (edge_at es i) (edge_at es j))
+  rows : (i j first more other rest : ℕ) (p q : ℤ)
+      → across (at_home r es) (stays_from i p first more) (stays_from j q other rest)
+      ≡ (once ((first == other) && r (edge_at es i) (edge_at es j))
+      + once (in_run (suc other) rest first && r (edge_at es i) (edge_at es j)))
+      + once (in_run (suc first) more other && r (edge_at es i) (edge_at es j))
   rows i j first more other rest p q =
       let s : Stay = record { bucket = first; left = p; line = i; starts = true } in
       let c : Bool = r (edge_at es i) (edge_at es j) in
       across-cons (at_home r es) s (later_stays i p (suc first) more) (stays_from j q other rest)
       ∙ ap₂ (λ (m n : ℕ). m + n)
-      (count-cons (at_home r es s) (record { bucket = other; left = q; line = j; starts = true }) (later_stays j q (suc other) rest)
-      ∙ ap₂ (λ (m n : ℕ). m + n) (any_start (first == other) true c) (with_later s rest (suc other) j q ∙ ap (λ (t : Bool). once (t && c)) (and_true (in_run (suc other) rest first))))
+      (count-cons (at_home r es s) (record { bucket = other; left = q; line = j; starts = true })
+          (later_stays j q (suc other) rest)
+      ∙ ap₂ (λ (m n : ℕ). m + n) (any_start (first == other) true c)
+      (with_later s rest (suc other) j q ∙ ap (λ (t : Bool). once (t && c))
+      (and_true (in_run (suc other) rest first))))
       (later_rows more (suc first) i j other rest p q)
     where
       and_true : (t : Bool) → (t && true) ≡ t
@@ -138,9 +154,12 @@ module _ (r : Edge → Edge → Bool) (es : List Edge) where
       and_true false = refl
 
   -- the buckets of two edges overlap where the edges are related: one pair of stays is at home
-  one_home : (i j first more other rest : ℕ) (p q : ℤ) → (r (edge_at es i) (edge_at es j) ≡ true → (first ≤ other + rest) × (other ≤ first + more))
-      → across (at_home r es) (stays_from i p first more) (stays_from j q other rest) ≡ once (r (edge_at es i) (edge_at es j))
-  one_home i j first more other rest p q over = rows i j first more other rest p q ∙ by_test (r (edge_at es i) (edge_at es j)) over
+  one_home : (i j first more other rest : ℕ) (p q : ℤ)
+      → (r (edge_at es i) (edge_at es j) ≡ true → (first ≤ other + rest) × (other ≤ first + more))
+      → across (at_home r es) (stays_from i p first more) (stays_from j q other rest)
+      ≡ once (r (edge_at es i) (edge_at es j))
+  one_home i j first more other rest p q over = rows i j first more other rest p q
+      ∙ by_test (r (edge_at es i) (edge_at es j)) over
     where
       none : (a b c : Bool) → (once (a && false) + once (b && false)) + once (c && false) ≡ 0
       none true true true = refl
@@ -152,7 +171,9 @@ module _ (r : Edge → Edge → Bool) (es : List Edge) where
       none false false true = refl
       none false false false = refl
 
-      one : (a b c d e f : Bool) → a ≡ d → b ≡ e → c ≡ f → (once (d && true) + once (e && true)) + once (f && true) ≡ 1 → (once (a && true) + once (b && true)) + once (c && true) ≡ 1
+      one : (a b c d e f : Bool) → a ≡ d → b ≡ e → c ≡ f
+          → (once (d && true) + once (e && true)) + once (f && true) ≡ 1
+          → (once (a && true) + once (b && true)) + once (c && true) ≡ 1
       one a b c d e f h k l m = rw (h, k, l) m
 
       order : {A : Type 0} (i j : ℕ) → (i < j → A) → (j < i → A) → (i ≡ j → A) → A
@@ -162,41 +183,52 @@ module _ (r : Edge → Edge → Bool) (es : List Edge) where
       order (suc i) (suc j) x y z = order i j (λ o. x (omega arith)) (λ o. y (omega arith)) (λ o. z (ap suc o))
 
       by_test : (t : Bool) → (t ≡ true → (first ≤ other + rest) × (other ≤ first + more))
-          → (once ((first == other) && t) + once (in_run (suc other) rest first && t)) + once (in_run (suc first) more other && t) ≡ once t
+          → (once ((first == other) && t) + once (in_run (suc other) rest first && t))
+          + once (in_run (suc first) more other && t) ≡ once t
       by_test false over = none (first == other) (in_run (suc other) rest first) (in_run (suc first) more other)
       by_test true over =
           let o = over refl in
           let o0 : first ≤ other + rest = o.0 in
           let o1 : other ≤ first + more = o.1 in
           order first other
-          (λ l. one _ _ _ false false true (differs first other l) (below_run rest (suc other) first (omega arith)) (within_run more (suc first) other l (omega arith)) refl)
-          (λ l. one _ _ _ false true false (differs_above first other l) (within_run rest (suc other) first l (omega arith)) (below_run more (suc first) other (omega arith)) refl)
-          (λ e. one _ _ _ true false false (eq-eqb first other e) (below_run rest (suc other) first (omega arith)) (below_run more (suc first) other (omega arith)) refl)
+          (λ l. one _ _ _ false false true (differs first other l) (below_run rest (suc other) first (omega arith))
+              (within_run more (suc first) other l (omega arith)) refl)
+          (λ l. one _ _ _ false true false (differs_above first other l)
+              (within_run rest (suc other) first l (omega arith)) (below_run more (suc first) other (omega arith)) refl)
+          (λ e. one _ _ _ true false false (eq-eqb first other e) (below_run rest (suc other) first (omega arith))
+              (below_run more (suc first) other (omega arith)) refl)
 
   -- no two stays of one edge share a bucket
-  alone : (s : Stay) (k b j : ℕ) (left : ℤ) → s.bucket < b → count_by (at_home r es s) (later_stays j left b k) ≡ 0
-  alone s k b j left l = with_later s k b j left ∙ ap (λ (t : Bool). once ((t && s.starts) && r (edge_at es s.line) (edge_at es j))) (below_run k b s.bucket l)
+  alone : (s : Stay) (k b j : ℕ) (left : ℤ) → s.bucket < b
+      → count_by (at_home r es s) (later_stays j left b k) ≡ 0
+  alone s k b j left l = with_later s k b j left
+      ∙ ap (λ (t : Bool). once ((t && s.starts) && r (edge_at es s.line) (edge_at es j))) (below_run k b s.bucket l)
 
   both_none : (m n : ℕ) → m ≡ 0 → n ≡ 0 → m + n ≡ 0
   both_none m n h k = omega arith
 
   later_alone : (k b i : ℕ) (p : ℤ) → pairs (at_home r es) (later_stays i p b k) ≡ 0
   later_alone zero b i p = refl
-  later_alone (suc k) b i p = both_none _ _ (alone (record { bucket = b; left = p; line = i; starts = false }) k (suc b) i p (omega arith)) (later_alone k (suc b) i p)
+  later_alone (suc k) b i p = both_none _ _ (alone (record { bucket = b; left = p; line = i; starts = false }) k (suc b)
+      i p (omega arith)) (later_alone k (suc b) i p)
 
   edge_alone : (i first more : ℕ) (p : ℤ) → pairs (at_home r es) (stays_from i p first more) ≡ 0
-  edge_alone i first more p = both_none _ _ (alone (record { bucket = first; left = p; line = i; starts = true }) more (suc first) i p (omega arith)) (later_alone more (suc first) i p)
+  edge_alone i first more p = both_none _ _ (alone (record { bucket = first; left = p; line = i; starts = true }) more
+      (suc first) i p (omega arith)) (later_alone more (suc first) i p)
 
 -- ---- the buckets of edges
-abs_in_order : (y z : ℤ) → unsigned_abs y ≤ coordinate_limit → unsigned_abs z ≤ coordinate_limit → y ≤ℤ z → unsigned_abs (y +ℤ pos coordinate_limit) ≤ unsigned_abs (z +ℤ pos coordinate_limit)
+abs_in_order : (y z : ℤ) → unsigned_abs y ≤ coordinate_limit → unsigned_abs z ≤ coordinate_limit
+    → y ≤ℤ z → unsigned_abs (y +ℤ pos coordinate_limit) ≤ unsigned_abs (z +ℤ pos coordinate_limit)
 abs_in_order y z h k l = omega (arith, ints)
 
 quotients : (t m n : ℕ) → 0 < t → m ≤ n → m / t ≤ n / t
 quotients t m n p l = let d : (m / t) * t ≤ m = div-mul-le_self m t in le-div (m / t) n t p (omega arith)
 
-bucket_in_order : (t : ℕ) (y z : ℤ) → 0 < t → unsigned_abs y ≤ coordinate_limit → unsigned_abs z ≤ coordinate_limit → y ≤ℤ z → bucket_of t y ≤ bucket_of t z
+bucket_in_order : (t : ℕ) (y z : ℤ) → 0 < t → unsigned_abs y ≤ coordinate_limit
+    → unsigned_abs z ≤ coordinate_limit → y ≤ℤ z → bucket_of t y ≤ bucket_of t z
 unfolding bucket_of
-bucket_in_order t y z p h k l = quotients t (unsigned_abs (y +ℤ pos coordinate_limit)) (unsigned_abs (z +ℤ pos coordinate_limit)) p (abs_in_order y z h k l)
+bucket_in_order t y z p h k l = quotients t (unsigned_abs (y +ℤ pos coordinate_limit))
+    (unsigned_abs (z +ℤ pos coordinate_limit)) p (abs_in_order y z h k l)
 
 record Overlap (e f : Edge) : Type 0 where
   first : (low e).y ≤ℤ (high f).y
@@ -217,30 +249,38 @@ reach : (a b c : ℕ) → a ≤ b → c ≤ b → a ≤ c + (b - c)
 reach a b c h k = omega arith
 
 module _ (tall : ℕ) (positive : 0 < tall) where
-  buckets_overlap : (e f : Edge) → IsEdgeWithin coordinate_limit e → IsEdgeWithin coordinate_limit f → boxes_meet e f ≡ true
+  buckets_overlap : (e f : Edge) → IsEdgeWithin coordinate_limit e → IsEdgeWithin coordinate_limit f
+      → boxes_meet e f ≡ true
       → bucket_of tall (low e).y ≤ bucket_of tall (low f).y + (bucket_of tall (high f).y - bucket_of tall (low f).y)
   buckets_overlap e f we wf h =
       let o = overlap e f h in
       reach (bucket_of tall (low e).y) (bucket_of tall (high f).y) (bucket_of tall (low f).y)
-      (bucket_in_order tall (low e).y (high f).y positive (low_within coordinate_limit e we).y (high_within coordinate_limit f wf).y o.first)
-      (bucket_in_order tall (low f).y (high f).y positive (low_within coordinate_limit f wf).y (high_within coordinate_limit f wf).y (rises f))
+      (bucket_in_order tall (low e).y (high f).y positive (low_within coordinate_limit e we).y
+          (high_within coordinate_limit f wf).y o.first)
+      (bucket_in_order tall (low f).y (high f).y positive (low_within coordinate_limit f wf).y
+          (high_within coordinate_limit f wf).y (rises f))
 
 module _ (tall : ℕ) (positive : 0 < tall) (r : Edge → Edge → Bool) (near : (e f : Edge) → r e f ≡ true → boxes_meet e f ≡ true) (turned : (e f : Edge) → boxes_meet e f ≡ boxes_meet f e) (es : List Edge) where
-  first_at : (es fs : List Edge) (e : Edge) (i : ℕ) → drop i es ≡ e ∷ fs → (edge_at es i ≡ e) × (drop (suc i) es ≡ fs)
+  first_at : (es fs : List Edge) (e : Edge) (i : ℕ) → drop i es ≡ e ∷ fs
+      → (edge_at es i ≡ e) × (drop (suc i) es ≡ fs)
   first_at [] fs e zero h = absurd (cc h)
   first_at [] fs e (suc i) h = absurd (cc h)
   first_at (x ∷ es) fs e zero h = (cc h, cc h)
   first_at (x ∷ es) fs e (suc i) h = first_at es fs e i h
 
   module _ (e : Edge) (i : ℕ) (at : edge_at es i ≡ e) (within : IsEdgeWithin coordinate_limit e) where
-    one_pair : (f : Edge) (j : ℕ) → edge_at es j ≡ f → IsEdgeWithin coordinate_limit f → across (at_home r es) (stays_of tall i e) (stays_of tall j f) ≡ once (r e f)
+    one_pair : (f : Edge) (j : ℕ) → edge_at es j ≡ f → IsEdgeWithin coordinate_limit f
+        → across (at_home r es) (stays_of tall i e) (stays_of tall j f) ≡ once (r e f)
     one_pair f j there wf =
-        one_home r es i j (bucket_of tall (low e).y) (bucket_of tall (high e).y - bucket_of tall (low e).y) (bucket_of tall (low f).y) (bucket_of tall (high f).y - bucket_of tall (low f).y) (left_end e) (left_end f)
+        one_home r es i j (bucket_of tall (low e).y) (bucket_of tall (high e).y - bucket_of tall (low e).y)
+            (bucket_of tall (low f).y) (bucket_of tall (high f).y - bucket_of tall (low f).y) (left_end e) (left_end f)
         (λ h. let m : boxes_meet e f ≡ true = near e f (sym (ap₂ r at there) ∙ h) in
-        (buckets_overlap tall positive e f within wf m, buckets_overlap tall positive f e wf within (sym (turned e f) ∙ m)))
+        (buckets_overlap tall positive e f within wf m,
+            buckets_overlap tall positive f e wf within (sym (turned e f) ∙ m)))
         ∙ ap once (ap₂ r at there)
 
-    one_row : (fs : List Edge) (j : ℕ) → drop j es ≡ fs → AllByRecursion (IsEdgeWithin coordinate_limit) fs → across (at_home r es) (stays_of tall i e) (all_stays tall j fs) ≡ count_by (r e) fs
+    one_row : (fs : List Edge) (j : ℕ) → drop j es ≡ fs → AllByRecursion (IsEdgeWithin coordinate_limit) fs
+        → across (at_home r es) (stays_of tall i e) (all_stays tall j fs) ≡ count_by (r e) fs
     one_row [] j h w = across-none (at_home r es) (stays_of tall i e)
     one_row (f ∷ fs) j h w =
         let a = first_at es fs f j h in
@@ -252,7 +292,9 @@ module _ (tall : ℕ) (positive : 0 < tall) (r : Edge → Edge → Bool) (near :
   whole m n k a b h i j = omega arith
 
   -- pairs of stays at home are pairs of edges
-  pub pairs_at_home : (fs : List Edge) (i : ℕ) → drop i es ≡ fs → AllByRecursion (IsEdgeWithin coordinate_limit) fs → pairs (at_home r es) (all_stays tall i fs) ≡ pairs r fs
+  pub pairs_at_home : (fs : List Edge) (i : ℕ) → drop i es ≡ fs
+      → AllByRecursion (IsEdgeWithin coordinate_limit) fs
+      → pairs (at_home r es) (all_stays tall i fs) ≡ pairs r fs
   pairs_at_home [] i h w = refl
   pairs_at_home (e ∷ fs) i h w =
       let a = first_at es fs e i h in

@@ -19,18 +19,23 @@ use Rattle.slice_events.specs.Boxes.{left_end, right_end, boxes_meet}
 use Rattle.slice_events.specs.Stays.{stay_cmp, comes_before, AreInOrder, edge_at, at_home, lies_past, IsStayOf}
 
 stay_total : IsTotalOrder stay_cmp
-stay_total = then_total (on_total (λ (s : Stay). s.bucket) nat_cmp_total) (on_total (λ (s : Stay). s.left) int_cmp_total)
+stay_total = then_total (on_total (λ (s : Stay). s.bucket) nat_cmp_total)
+    (on_total (λ (s : Stay). s.left) int_cmp_total)
 
 pub stay_order : IsStrictWeakOrder comes_before
 stay_order = ranks_by stay_total (λ (s : Stay). s)
 
-all_by : (P : Stay → Type 0) (ss : List Stay) → ((k : ℕ) (d : Stay) → k < length ss → P (get_or ss k d)) → AllByRecursion P ss
+all_by : (P : Stay → Type 0) (ss : List Stay) → ((k : ℕ) (d : Stay) → k < length ss → P (get_or ss k d))
+    → AllByRecursion P ss
 all_by P [] h = tt
 all_by P (s ∷ ss) h = (h zero s (omega arith), all_by P ss (λ k d l. h (suc k) d (omega arith)))
 
-in_order_from : (ss : List Stay) → ((i j : ℕ) (d : Stay) → i ≤ j → j < length ss → comes_before (get_or ss j d) (get_or ss i d) ≡ false) → AreInOrder ss
+in_order_from : (ss : List Stay) → ((i j : ℕ) (d : Stay) → i ≤ j → j < length ss
+    → comes_before (get_or ss j d) (get_or ss i d) ≡ false) → AreInOrder ss
 in_order_from [] h = tt
-in_order_from (s ∷ ss) h = (all_by (λ t. comes_before t s ≡ false) ss (λ k d l. h zero (suc k) d (omega arith) (omega arith)), in_order_from ss (λ i j d a b. h (suc i) (suc j) d (omega arith) (omega arith)))
+in_order_from (s ∷ ss) h = (all_by (λ t. comes_before t s ≡ false) ss
+    (λ k d l. h zero (suc k) d (omega arith) (omega arith)),
+    in_order_from ss (λ i j d a b. h (suc i) (suc j) d (omega arith) (omega arith)))
 
 pub in_order : (ss : List Stay) → IsSortedBy comes_before ss → AreInOrder ss
 in_order ss h = in_order_from ss (sorted_far comes_before stay_order ss h)
@@ -49,10 +54,13 @@ pub record After (s t : Stay) : Type 0 where
 after : (s t : Stay) → comes_before t s ≡ false → After s t
 after s t h = by_test (nat_lt t.bucket s.bucket) refl (t.bucket == s.bucket) refl h
   where
-    by_test : (a : Bool) → nat_lt t.bucket s.bucket ≡ a → (b : Bool) → (t.bucket == s.bucket) ≡ b → is_lt (ordering_then (cond a Less (cond b Equal Greater)) (int_cmp t.left s.left)) ≡ false → After s t
+    by_test : (a : Bool) → nat_lt t.bucket s.bucket ≡ a → (b : Bool) → (t.bucket == s.bucket) ≡ b
+        → is_lt (ordering_then (cond a Less (cond b Equal Greater)) (int_cmp t.left s.left)) ≡ false → After s t
     by_test true e b f h = absurd (true≢false h)
-    by_test false e true f h = record { bucket = ltb-false t.bucket s.bucket e; left = λ q. int_lt-false t.left s.left (sym (is_lt-int_cmp t.left s.left) ∙ h) }
-    by_test false e false f h = record { bucket = ltb-false t.bucket s.bucket e; left = λ q. absurd (true≢false (sym (eq-eqb t.bucket s.bucket (sym q)) ∙ f)) }
+    by_test false e true f h = record { bucket = ltb-false t.bucket s.bucket e; left
+        = λ q. int_lt-false t.left s.left (sym (is_lt-int_cmp t.left s.left) ∙ h) }
+    by_test false e false f h = record { bucket = ltb-false t.bucket s.bucket e; left
+        = λ q. absurd (true≢false (sym (eq-eqb t.bucket s.bucket (sym q)) ∙ f)) }
 
 after_itself : (s : Stay) → After s s
 after_itself s = record { bucket = omega arith; left = λ q. omega (arith, ints) }
@@ -68,10 +76,12 @@ apart_boxes e f h = let p : int_le (left_end f) (right_end e) ≡ false = not_at
     neither true b c h = rw h refl
     neither false b c h = refl
 
-other_bucket : (r : Edge → Edge → Bool) (es : List Edge) (s t : Stay) → (s.bucket == t.bucket) ≡ false → at_home r es s t ≡ false
+other_bucket : (r : Edge → Edge → Bool) (es : List Edge) (s t : Stay) → (s.bucket == t.bucket) ≡ false
+    → at_home r es s t ≡ false
 other_bucket r es s t h = rw h refl
 
-unrelated : (r : Edge → Edge → Bool) (es : List Edge) (s t : Stay) → r (edge_at es s.line) (edge_at es t.line) ≡ false → at_home r es s t ≡ false
+unrelated : (r : Edge → Edge → Bool) (es : List Edge) (s t : Stay)
+    → r (edge_at es s.line) (edge_at es t.line) ≡ false → at_home r es s t ≡ false
 unrelated r es s t h = none (s.bucket == t.bucket) (s.starts || t.starts) _ h
   where
     none : (a b c : Bool) → c ≡ false → ((a && b) && c) ≡ false
@@ -83,7 +93,8 @@ unrelated r es s t h = none (s.bucket == t.bucket) (s.starts || t.starts) _ h
 abbrev pub IsPast : List Edge → Stay → Stay → Type 0
 IsPast es s t = (s.bucket ≢ t.bucket) ⊎ (right_end (edge_at es s.line) <ℤ t.left)
 
-pub past_by : (es : List Edge) (s t : Stay) (right : ℤ) → lies_past right s t ≡ true → right ≡ right_end (edge_at es s.line) → IsPast es s t
+pub past_by : (es : List Edge) (s t : Stay) (right : ℤ) → lies_past right s t ≡ true
+    → right ≡ right_end (edge_at es s.line) → IsPast es s t
 past_by es s t right h e = by_test (s.bucket == t.bucket) refl h
   where
     differ : (m n : ℕ) → (m == n) ≡ false → m ≢ n
@@ -93,7 +104,8 @@ past_by es s t right h e = by_test (s.bucket == t.bucket) refl h
     by_test false q k = inl (differ s.bucket t.bucket q)
     by_test true q k = inr (subst (λ (z : ℤ). z <ℤ t.left) e (int_lt-true right t.left k))
 
-none_meets : (es : List Edge) (s t u : Stay) → IsPast es s t → After s t → After t u → IsStayOf es u → at_home boxes_meet es s u ≡ false
+none_meets : (es : List Edge) (s t u : Stay) → IsPast es s t → After s t → After t u → IsStayOf es u
+    → at_home boxes_meet es s u ≡ false
 none_meets es s t u past a b o = by_test (s.bucket == u.bucket) refl past
   where
     differ : (m n : ℕ) → m < n → (m == n) ≡ false
@@ -110,10 +122,12 @@ none_meets es s t u past a b o = by_test (s.bucket == u.bucket) refl past
         let w = o.1 in
         unrelated boxes_meet es s u (apart_boxes (edge_at es s.line) (edge_at es u.line) (omega (arith, ints)))
 
-pub none_past : (es : List Edge) (s t : Stay) (us : List Stay) → IsPast es s t → comes_before t s ≡ false → IsStayOf es t → AllByRecursion (λ u. comes_before u t ≡ false) us → AllByRecursion (IsStayOf es) us
+pub none_past : (es : List Edge) (s t : Stay) (us : List Stay) → IsPast es s t → comes_before t s ≡ false
+    → IsStayOf es t → AllByRecursion (λ u. comes_before u t ≡ false) us → AllByRecursion (IsStayOf es) us
     → AllByRecursion (λ u. at_home boxes_meet es s u ≡ false) (t ∷ us)
 none_past es s t us past a ot h o = (none_meets es s t t past (after s t a) (after_itself t) ot, rest us h o)
   where
-    rest : (us : List Stay) → AllByRecursion (λ u. comes_before u t ≡ false) us → AllByRecursion (IsStayOf es) us → AllByRecursion (λ u. at_home boxes_meet es s u ≡ false) us
+    rest : (us : List Stay) → AllByRecursion (λ u. comes_before u t ≡ false) us → AllByRecursion (IsStayOf es) us
+        → AllByRecursion (λ u. at_home boxes_meet es s u ≡ false) us
     rest [] h o = tt
     rest (u ∷ us) h o = (none_meets es s t u past (after s t a) (after t u h.0) o.0, rest us h.1 o.1)

@@ -1,4 +1,5 @@
--- Edges that meet have a common point in both boxes, and where they meet at an end or along a flat edge the height is that of
+-- Edges that meet have a common point in both boxes, and where they meet at an end or along a flat edge the height is
+-- that of
 -- an end.
 use Rattle.std.proofs.Common.{◌≡◌, ◌⊎◌, inl, inr, Bool, true, false, not, ◌&&◌, ◌||◌, [], ◌∷◌, refl, sym, ap₂, ◌∙◌, arith, subst}
 use Rattle.std.proofs.Math.Bool.{and_comm}
@@ -20,7 +21,8 @@ use Rattle.slice_events.specs.Levels.{share_end, crosses}
 use Rattle.slice_events.specs.Boxes.{left_end, right_end, boxes_meet}
 
 -- ---- a point between two others
-weighed : (a b u v l h p q x y : ℤ) → (u *ℤ (h -ℤ x) +ℤ v *ℤ (h -ℤ y)) +ℤ (a *ℤ (p -ℤ l) +ℤ b *ℤ (q -ℤ l))
+weighed : (a b u v l h p q x y : ℤ) → (u *ℤ (h -ℤ x) +ℤ v *ℤ (h -ℤ y)) +ℤ
+    (a *ℤ (p -ℤ l) +ℤ b *ℤ (q -ℤ l))
     ≡ (h *ℤ (u +ℤ v) -ℤ l *ℤ (a +ℤ b)) +ℤ ((a *ℤ p +ℤ b *ℤ q) -ℤ (u *ℤ x +ℤ v *ℤ y))
 weighed a b u v l h p q x y = ring (a ∷ b ∷ u ∷ v ∷ l ∷ h ∷ p ∷ q ∷ x ∷ y ∷ [])
     ((v2 ⊗ (v5 ⊖ v8) ⊕ v3 ⊗ (v5 ⊖ v9)) ⊕ (v0 ⊗ (v6 ⊖ v4) ⊕ v1 ⊗ (v7 ⊖ v4)))
@@ -29,15 +31,18 @@ weighed a b u v l h p q x y = ring (a ∷ b ∷ u ∷ v ∷ l ∷ h ∷ p ∷ q 
 sub_times : (h l k : ℤ) → h *ℤ k -ℤ l *ℤ k ≡ (h -ℤ l) *ℤ k
 sub_times h l k = ring (h ∷ l ∷ k ∷ []) (v0 ⊗ v2 ⊖ v1 ⊗ v2) ((v0 ⊖ v1) ⊗ v2) refl
 
-sum_of_four : (s t u v w : ℤ) → pos 0 ≤ℤ s → pos 0 ≤ℤ t → pos 0 ≤ℤ u → pos 0 ≤ℤ v → (s +ℤ t) +ℤ (u +ℤ v) ≡ w → pos 0 ≤ℤ w
+sum_of_four : (s t u v w : ℤ) → pos 0 ≤ℤ s → pos 0 ≤ℤ t → pos 0 ≤ℤ u → pos 0 ≤ℤ v
+    → (s +ℤ t) +ℤ (u +ℤ v) ≡ w → pos 0 ≤ℤ w
 sum_of_four s t u v w a b c d e = omega (arith, ints)
 
 plus_none : (z m n : ℤ) → m ≡ n → z +ℤ (m -ℤ n) ≡ z
 plus_none z m n e = omega (arith, ints)
 
 -- one point is a mean of two that aren't below l, and of two that aren't above h
-between : (k a b u v l h p q x y : ℤ) → pos 0 <ℤ k → pos 0 ≤ℤ a → pos 0 ≤ℤ b → pos 0 ≤ℤ u → pos 0 ≤ℤ v → a +ℤ b ≡ k → u +ℤ v ≡ k
-    → a *ℤ p +ℤ b *ℤ q ≡ u *ℤ x +ℤ v *ℤ y → l ≤ℤ p → l ≤ℤ q → x ≤ℤ h → y ≤ℤ h → l ≤ℤ h
+between : (k a b u v l h p q x y : ℤ) → pos 0 <ℤ k → pos 0 ≤ℤ a → pos 0 ≤ℤ b → pos 0 ≤ℤ u
+    → pos 0 ≤ℤ v → a +ℤ b ≡ k → u +ℤ v ≡ k
+    → a *ℤ p +ℤ b *ℤ q ≡ u *ℤ x +ℤ v *ℤ y → l ≤ℤ p → l ≤ℤ q → x ≤ℤ h → y ≤ℤ h
+    → l ≤ℤ h
 between k a b u v l h p q x y kp ap_ bp up vp e f g lp lq xh yh =
     let gap = weighed a b u v l h p q x y
     ∙ plus_none (h *ℤ (u +ℤ v) -ℤ l *ℤ (a +ℤ b)) (a *ℤ p +ℤ b *ℤ q) (u *ℤ x +ℤ v *ℤ y) g
@@ -53,32 +58,48 @@ between k a b u v l h p q x y kp ap_ bp up vp e f g lp lq xh yh =
 abbrev side : ℤ → ℤ → ℤ → ℤ → ℤ → ℤ → ℤ
 side a b c d x y = (c -ℤ a) *ℤ y +ℤ ((d -ℤ b) *ℤ a -ℤ (c -ℤ a) *ℤ b) *ℤ pos 1 -ℤ (d -ℤ b) *ℤ x
 
-gap_of_sides : (a b c d p q g h : ℤ) → side a b c d g h -ℤ side a b c d p q ≡ (c -ℤ a) *ℤ (h -ℤ q) -ℤ (g -ℤ p) *ℤ (d -ℤ b)
+gap_of_sides : (a b c d p q g h : ℤ) → side a b c d g h -ℤ side a b c d p q
+    ≡ (c -ℤ a) *ℤ (h -ℤ q) -ℤ (g -ℤ p) *ℤ (d -ℤ b)
 gap_of_sides a b c d p q g h = ring (a ∷ b ∷ c ∷ d ∷ p ∷ q ∷ g ∷ h ∷ [])
-    (((v2 ⊖ v0) ⊗ v7 ⊕ ((v3 ⊖ v1) ⊗ v0 ⊖ (v2 ⊖ v0) ⊗ v1) ⊗ num (pos 1) ⊖ (v3 ⊖ v1) ⊗ v6) ⊖ ((v2 ⊖ v0) ⊗ v5 ⊕ ((v3 ⊖ v1) ⊗ v0 ⊖ (v2 ⊖ v0) ⊗ v1) ⊗ num (pos 1) ⊖ (v3 ⊖ v1) ⊗ v4))
+    (((v2 ⊖ v0) ⊗ v7 ⊕ ((v3 ⊖ v1) ⊗ v0 ⊖ (v2 ⊖ v0) ⊗ v1) ⊗ num (pos 1) ⊖ (v3 ⊖ v1) ⊗ v6)
+        ⊖ ((v2 ⊖ v0) ⊗ v5 ⊕ ((v3 ⊖ v1) ⊗ v0 ⊖ (v2 ⊖ v0) ⊗ v1) ⊗ num (pos 1) ⊖ (v3 ⊖ v1) ⊗ v4))
     ((v2 ⊖ v0) ⊗ (v7 ⊖ v5) ⊖ (v6 ⊖ v4) ⊗ (v3 ⊖ v1)) refl
 
-same_y : (a b c d p q g h : ℤ) → side a b c d g h *ℤ q +ℤ (pos 0 -ℤ side a b c d p q) *ℤ h ≡ (pos 0 -ℤ side p q g h c d) *ℤ b +ℤ side p q g h a b *ℤ d
+same_y : (a b c d p q g h : ℤ) → side a b c d g h *ℤ q +ℤ (pos 0 -ℤ side a b c d p q) *ℤ h
+    ≡ (pos 0 -ℤ side p q g h c d) *ℤ b +ℤ side p q g h a b *ℤ d
 same_y a b c d p q g h = ring (a ∷ b ∷ c ∷ d ∷ p ∷ q ∷ g ∷ h ∷ [])
-    (((v2 ⊖ v0) ⊗ v7 ⊕ ((v3 ⊖ v1) ⊗ v0 ⊖ (v2 ⊖ v0) ⊗ v1) ⊗ num (pos 1) ⊖ (v3 ⊖ v1) ⊗ v6) ⊗ v5 ⊕ (num (pos 0) ⊖ ((v2 ⊖ v0) ⊗ v5 ⊕ ((v3 ⊖ v1) ⊗ v0 ⊖ (v2 ⊖ v0) ⊗ v1) ⊗ num (pos 1) ⊖ (v3 ⊖ v1) ⊗ v4)) ⊗ v7)
-    ((num (pos 0) ⊖ ((v6 ⊖ v4) ⊗ v3 ⊕ ((v7 ⊖ v5) ⊗ v4 ⊖ (v6 ⊖ v4) ⊗ v5) ⊗ num (pos 1) ⊖ (v7 ⊖ v5) ⊗ v2)) ⊗ v1 ⊕ ((v6 ⊖ v4) ⊗ v1 ⊕ ((v7 ⊖ v5) ⊗ v4 ⊖ (v6 ⊖ v4) ⊗ v5) ⊗ num (pos 1) ⊖ (v7 ⊖ v5) ⊗ v0) ⊗ v3) refl
+    (((v2 ⊖ v0) ⊗ v7 ⊕ ((v3 ⊖ v1) ⊗ v0 ⊖ (v2 ⊖ v0) ⊗ v1) ⊗ num (pos 1) ⊖ (v3 ⊖ v1) ⊗ v6) ⊗ v5
+        ⊕ (num (pos 0) ⊖ ((v2 ⊖ v0) ⊗ v5 ⊕ ((v3 ⊖ v1) ⊗ v0 ⊖ (v2 ⊖ v0) ⊗ v1) ⊗ num (pos 1)
+        ⊖ (v3 ⊖ v1) ⊗ v4)) ⊗ v7)
+    ((num (pos 0) ⊖ ((v6 ⊖ v4) ⊗ v3 ⊕ ((v7 ⊖ v5) ⊗ v4 ⊖ (v6 ⊖ v4) ⊗ v5) ⊗ num (pos 1)
+        ⊖ (v7 ⊖ v5) ⊗ v2)) ⊗ v1 ⊕ ((v6 ⊖ v4) ⊗ v1 ⊕ ((v7 ⊖ v5) ⊗ v4 ⊖ (v6 ⊖ v4) ⊗ v5)
+        ⊗ num (pos 1) ⊖ (v7 ⊖ v5) ⊗ v0) ⊗ v3) refl
 
-same_x : (a b c d p q g h : ℤ) → side a b c d g h *ℤ p +ℤ (pos 0 -ℤ side a b c d p q) *ℤ g ≡ (pos 0 -ℤ side p q g h c d) *ℤ a +ℤ side p q g h a b *ℤ c
+same_x : (a b c d p q g h : ℤ) → side a b c d g h *ℤ p +ℤ (pos 0 -ℤ side a b c d p q) *ℤ g
+    ≡ (pos 0 -ℤ side p q g h c d) *ℤ a +ℤ side p q g h a b *ℤ c
 same_x a b c d p q g h = ring (a ∷ b ∷ c ∷ d ∷ p ∷ q ∷ g ∷ h ∷ [])
-    (((v2 ⊖ v0) ⊗ v7 ⊕ ((v3 ⊖ v1) ⊗ v0 ⊖ (v2 ⊖ v0) ⊗ v1) ⊗ num (pos 1) ⊖ (v3 ⊖ v1) ⊗ v6) ⊗ v4 ⊕ (num (pos 0) ⊖ ((v2 ⊖ v0) ⊗ v5 ⊕ ((v3 ⊖ v1) ⊗ v0 ⊖ (v2 ⊖ v0) ⊗ v1) ⊗ num (pos 1) ⊖ (v3 ⊖ v1) ⊗ v4)) ⊗ v6)
-    ((num (pos 0) ⊖ ((v6 ⊖ v4) ⊗ v3 ⊕ ((v7 ⊖ v5) ⊗ v4 ⊖ (v6 ⊖ v4) ⊗ v5) ⊗ num (pos 1) ⊖ (v7 ⊖ v5) ⊗ v2)) ⊗ v0 ⊕ ((v6 ⊖ v4) ⊗ v1 ⊕ ((v7 ⊖ v5) ⊗ v4 ⊖ (v6 ⊖ v4) ⊗ v5) ⊗ num (pos 1) ⊖ (v7 ⊖ v5) ⊗ v0) ⊗ v2) refl
+    (((v2 ⊖ v0) ⊗ v7 ⊕ ((v3 ⊖ v1) ⊗ v0 ⊖ (v2 ⊖ v0) ⊗ v1) ⊗ num (pos 1) ⊖ (v3 ⊖ v1) ⊗ v6) ⊗ v4
+        ⊕ (num (pos 0) ⊖ ((v2 ⊖ v0) ⊗ v5 ⊕ ((v3 ⊖ v1) ⊗ v0 ⊖ (v2 ⊖ v0) ⊗ v1) ⊗ num (pos 1)
+        ⊖ (v3 ⊖ v1) ⊗ v4)) ⊗ v6)
+    ((num (pos 0) ⊖ ((v6 ⊖ v4) ⊗ v3 ⊕ ((v7 ⊖ v5) ⊗ v4 ⊖ (v6 ⊖ v4) ⊗ v5) ⊗ num (pos 1)
+        ⊖ (v7 ⊖ v5) ⊗ v2)) ⊗ v0 ⊕ ((v6 ⊖ v4) ⊗ v1 ⊕ ((v7 ⊖ v5) ⊗ v4 ⊖ (v6 ⊖ v4) ⊗ v5)
+        ⊗ num (pos 1) ⊖ (v7 ⊖ v5) ⊗ v0) ⊗ v2) refl
 
 sides : (e f : Edge) → left_of e (high f).x (high f).y (pos 1) -ℤ left_of e (low f).x (low f).y (pos 1) ≡ lean e f
 unfolding left_of x_at lean offset run rise
 sides e f = gap_of_sides (low e).x (low e).y (high e).x (high e).y (low f).x (low f).y (high f).x (high f).y
 
-common_y : (e f : Edge) → left_of e (high f).x (high f).y (pos 1) *ℤ (low f).y +ℤ (pos 0 -ℤ left_of e (low f).x (low f).y (pos 1)) *ℤ (high f).y
-    ≡ (pos 0 -ℤ left_of f (high e).x (high e).y (pos 1)) *ℤ (low e).y +ℤ left_of f (low e).x (low e).y (pos 1) *ℤ (high e).y
+common_y : (e f : Edge) → left_of e (high f).x (high f).y (pos 1) *ℤ (low f).y +ℤ
+    (pos 0 -ℤ left_of e (low f).x (low f).y (pos 1)) *ℤ (high f).y
+    ≡ (pos 0 -ℤ left_of f (high e).x (high e).y (pos 1)) *ℤ (low e).y +ℤ left_of f (low e).x (low e).y (pos 1)
+    *ℤ (high e).y
 unfolding left_of x_at offset run rise
 common_y e f = same_y (low e).x (low e).y (high e).x (high e).y (low f).x (low f).y (high f).x (high f).y
 
-common_x : (e f : Edge) → left_of e (high f).x (high f).y (pos 1) *ℤ (low f).x +ℤ (pos 0 -ℤ left_of e (low f).x (low f).y (pos 1)) *ℤ (high f).x
-    ≡ (pos 0 -ℤ left_of f (high e).x (high e).y (pos 1)) *ℤ (low e).x +ℤ left_of f (low e).x (low e).y (pos 1) *ℤ (high e).x
+common_x : (e f : Edge) → left_of e (high f).x (high f).y (pos 1) *ℤ (low f).x +ℤ
+    (pos 0 -ℤ left_of e (low f).x (low f).y (pos 1)) *ℤ (high f).x
+    ≡ (pos 0 -ℤ left_of f (high e).x (high e).y (pos 1)) *ℤ (low e).x +ℤ left_of f (low e).x (low e).y (pos 1)
+    *ℤ (high e).x
 unfolding left_of x_at offset run rise
 common_x e f = same_x (low e).x (low e).y (high e).x (high e).y (low f).x (low f).y (high f).x (high f).y
 
@@ -95,25 +116,36 @@ unfolding left_end right_end low high
 in_box e = by_test (int_lt e.b.x e.a.x) refl (int_lt e.b.y e.a.y) refl
   where
     by_test : (t : Bool) → int_lt e.b.x e.a.x ≡ t → (u : Bool) → int_lt e.b.y e.a.y ≡ u → InBox e
-    by_test true s true t = record { low_left = rw (s, t) (omega (arith, ints)); high_left = rw (s, t) (omega (arith, ints)); low_right = rw (s, t) (omega (arith, ints)); high_right = rw (s, t) (omega (arith, ints)); up = rw t (omega (arith, ints)) }
-    by_test true s false t = record { low_left = rw (s, t) (omega (arith, ints)); high_left = rw (s, t) (omega (arith, ints)); low_right = rw (s, t) (omega (arith, ints)); high_right = rw (s, t) (omega (arith, ints)); up = rw t (omega (arith, ints)) }
-    by_test false s true t = record { low_left = rw (s, t) (omega (arith, ints)); high_left = rw (s, t) (omega (arith, ints)); low_right = rw (s, t) (omega (arith, ints)); high_right = rw (s, t) (omega (arith, ints)); up = rw t (omega (arith, ints)) }
-    by_test false s false t = record { low_left = rw (s, t) (omega (arith, ints)); high_left = rw (s, t) (omega (arith, ints)); low_right = rw (s, t) (omega (arith, ints)); high_right = rw (s, t) (omega (arith, ints)); up = rw t (omega (arith, ints)) }
+    by_test true s true t = record { low_left = rw (s, t) (omega (arith, ints)); high_left
+        = rw (s, t) (omega (arith, ints)); low_right = rw (s, t) (omega (arith, ints)); high_right
+        = rw (s, t) (omega (arith, ints)); up = rw t (omega (arith, ints)) }
+    by_test true s false t = record { low_left = rw (s, t) (omega (arith, ints)); high_left
+        = rw (s, t) (omega (arith, ints)); low_right = rw (s, t) (omega (arith, ints)); high_right
+        = rw (s, t) (omega (arith, ints)); up = rw t (omega (arith, ints)) }
+    by_test false s true t = record { low_left = rw (s, t) (omega (arith, ints)); high_left
+        = rw (s, t) (omega (arith, ints)); low_right = rw (s, t) (omega (arith, ints)); high_right
+        = rw (s, t) (omega (arith, ints)); up = rw t (omega (arith, ints)) }
+    by_test false s false t = record { low_left = rw (s, t) (omega (arith, ints)); high_left
+        = rw (s, t) (omega (arith, ints)); low_right = rw (s, t) (omega (arith, ints)); high_right
+        = rw (s, t) (omega (arith, ints)); up = rw t (omega (arith, ints)) }
 
-one_is : (a b c d : Bool) → ((a && b) || (c && d)) ≡ true → ((a ≡ true) × (b ≡ true)) ⊎ ((c ≡ true) × (d ≡ true))
+one_is : (a b c d : Bool) → ((a && b) || (c && d)) ≡ true
+    → ((a ≡ true) × (b ≡ true)) ⊎ ((c ≡ true) × (d ≡ true))
 one_is true true c d h = inl (refl, refl)
 one_is true false c d h = inr (and_parts c d h)
 one_is false b c d h = inr (and_parts c d h)
 
 -- numbers on both sides of 0, the second greater
-apart_up : (s t k : ℤ) → ((int_le s (pos 0) && int_le (pos 0) t) || (int_le (pos 0) s && int_le t (pos 0))) ≡ true → t -ℤ s ≡ k → pos 0 <ℤ k → (pos 0 ≤ℤ t) × (pos 0 ≤ℤ (pos 0 -ℤ s))
+apart_up : (s t k : ℤ) → ((int_le s (pos 0) && int_le (pos 0) t) || (int_le (pos 0) s && int_le t (pos 0))) ≡ true
+    → t -ℤ s ≡ k → pos 0 <ℤ k → (pos 0 ≤ℤ t) × (pos 0 ≤ℤ (pos 0 -ℤ s))
 apart_up s t k h e p =
     elim (one_is (int_le s (pos 0)) (int_le (pos 0) t) (int_le (pos 0) s) (int_le t (pos 0)) h) [
       | inl c ↦ let a = int_le-true s (pos 0) c.0 in let b = int_le-true (pos 0) t c.1 in (b, omega (arith, ints))
       | inr c ↦ let a = int_le-true (pos 0) s c.0 in let b = int_le-true t (pos 0) c.1 in absurd (omega (arith, ints))
     ]
 
-apart_down : (s t k : ℤ) → ((int_le s (pos 0) && int_le (pos 0) t) || (int_le (pos 0) s && int_le t (pos 0))) ≡ true → t -ℤ s ≡ neg_ℤ k → pos 0 <ℤ k → (pos 0 ≤ℤ s) × (pos 0 ≤ℤ (pos 0 -ℤ t))
+apart_down : (s t k : ℤ) → ((int_le s (pos 0) && int_le (pos 0) t) || (int_le (pos 0) s && int_le t (pos 0)))
+    ≡ true → t -ℤ s ≡ neg_ℤ k → pos 0 <ℤ k → (pos 0 ≤ℤ s) × (pos 0 ≤ℤ (pos 0 -ℤ t))
 apart_down s t k h e p =
     elim (one_is (int_le s (pos 0)) (int_le (pos 0) t) (int_le (pos 0) s) (int_le t (pos 0)) h) [
       | inl c ↦ let a = int_le-true s (pos 0) c.0 in let b = int_le-true (pos 0) t c.1 in absurd (omega (arith, ints))
@@ -129,7 +161,8 @@ sum_as_turned s t k e = omega (arith, ints)
 four : (a b c d : Bool) → a ≡ true → b ≡ true → c ≡ true → d ≡ true → ((a && b) && (c && d)) ≡ true
 four a b c d h k l m = rw (h, k, l, m)
 
-boxes_of_straddling : (e f : Edge) → straddles e f ≡ true → straddles f e ≡ true → pos 0 <ℤ lean e f → boxes_meet e f ≡ true
+boxes_of_straddling : (e f : Edge) → straddles e f ≡ true → straddles f e ≡ true → pos 0 <ℤ lean e f
+    → boxes_meet e f ≡ true
 unfolding straddles boxes_meet
 boxes_of_straddling e f h k p =
     let s : ℤ = left_of e (low f).x (low f).y (pos 1) in
@@ -148,17 +181,26 @@ boxes_of_straddling e f h k p =
     let b : (pos 0 -ℤ v) +ℤ u ≡ lean e f = sum_as_turned u v (lean e f) g' in
     let self = λ (z : ℤ). le_self z in
     four _ _ _ _
-    (int_le-at_most (left_end e) (right_end f) (between (lean e f) (pos 0 -ℤ v) u t (pos 0 -ℤ s) (left_end e) (right_end f) (low e).x (high e).x (low f).x (high f).x p n.1 n.0 m.0 m.1 b a (sym x) i.low_left i.high_left j.low_right j.high_right))
-    (int_le-at_most (left_end f) (right_end e) (between (lean e f) t (pos 0 -ℤ s) (pos 0 -ℤ v) u (left_end f) (right_end e) (low f).x (high f).x (low e).x (high e).x p m.0 m.1 n.1 n.0 a b x j.low_left j.high_left i.low_right i.high_right))
-    (int_le-at_most (low e).y (high f).y (between (lean e f) (pos 0 -ℤ v) u t (pos 0 -ℤ s) (low e).y (high f).y (low e).y (high e).y (low f).y (high f).y p n.1 n.0 m.0 m.1 b a (sym y) (self (low e).y) i.up j.up (self (high f).y)))
-    (int_le-at_most (low f).y (high e).y (between (lean e f) t (pos 0 -ℤ s) (pos 0 -ℤ v) u (low f).y (high e).y (low f).y (high f).y (low e).y (high e).y p m.0 m.1 n.1 n.0 a b y (self (low f).y) j.up i.up (self (high e).y)))
+    (int_le-at_most (left_end e) (right_end f)
+        (between (lean e f) (pos 0 -ℤ v) u t (pos 0 -ℤ s) (left_end e) (right_end f) (low e).x (high e).x (low f).x
+        (high f).x p n.1 n.0 m.0 m.1 b a (sym x) i.low_left i.high_left j.low_right j.high_right))
+    (int_le-at_most (left_end f) (right_end e)
+        (between (lean e f) t (pos 0 -ℤ s) (pos 0 -ℤ v) u (left_end f) (right_end e) (low f).x (high f).x (low e).x
+        (high e).x p m.0 m.1 n.1 n.0 a b x j.low_left j.high_left i.low_right i.high_right))
+    (int_le-at_most (low e).y (high f).y (between (lean e f) (pos 0 -ℤ v) u t (pos 0 -ℤ s) (low e).y (high f).y
+        (low e).y (high e).y (low f).y (high f).y p n.1 n.0 m.0 m.1 b a (sym y) (self (low e).y) i.up j.up
+        (self (high f).y)))
+    (int_le-at_most (low f).y (high e).y (between (lean e f) t (pos 0 -ℤ s) (pos 0 -ℤ v) u (low f).y (high e).y
+        (low f).y (high f).y (low e).y (high e).y p m.0 m.1 n.1 n.0 a b y (self (low f).y) j.up i.up (self (high e).y)))
   where
     le_self : (z : ℤ) → z ≤ℤ z
     le_self z = omega (arith, ints)
 
 pub boxes-turned : (e f : Edge) → boxes_meet e f ≡ boxes_meet f e
 unfolding boxes_meet
-boxes-turned e f = ap₂ (λ (a b : Bool). a && b) (and_comm (int_le (left_end e) (right_end f)) (int_le (left_end f) (right_end e))) (and_comm (int_le (low e).y (high f).y) (int_le (low f).y (high e).y))
+boxes-turned e f = ap₂ (λ (a b : Bool). a && b)
+    (and_comm (int_le (left_end e) (right_end f)) (int_le (left_end f) (right_end e)))
+    (and_comm (int_le (low e).y (high f).y) (int_le (low f).y (high e).y))
 
 pub record Straddling (e f : Edge) : Type 0 where
   pub slanted : not (is_zero (lean e f)) ≡ true
@@ -180,7 +222,9 @@ pub boxes_of_meeting : (e f : Edge) → meets e f ≡ true → boxes_meet e f �
 boxes_of_meeting e f h =
     let s = straddling e f h in
     by_lt_z (pos 0) (lean e f) (λ p. boxes_of_straddling e f s.first s.second p) (λ n.
-    by_lt_z (lean e f) (pos 0) (λ m. boxes-turned e f ∙ boxes_of_straddling f e s.second s.first (subst (λ (z : ℤ). pos 0 <ℤ z) (sym (lean_turned e f)) (omega (arith, ints))))
+    by_lt_z (lean e f) (pos 0) (λ m. boxes-turned e f
+        ∙ boxes_of_straddling f e s.second s.first
+        (subst (λ (z : ℤ). pos 0 <ℤ z) (sym (lean_turned e f)) (omega (arith, ints))))
     (λ m. absurd (zero_not (lean e f) s.slanted (omega (arith, ints)))))
 
 pub boxes_of_crossing : (e f : Edge) → crosses e f ≡ true → boxes_meet e f ≡ true

@@ -10,31 +10,41 @@ use Rattle.slice_events.specs.Stays.{bucket_of, later_stays, stays_from, stays_o
 one_less : (b e : ℕ) → b < e → e - b ≡ suc (e - (b + 1))
 one_less b e l = omega arith
 
-later_step : (line b e : ℕ) (left : ℤ) → b < e → later_stays line left b (e - b) ≡ record { bucket = b; left = left; line = line; starts = false } ∷ later_stays line left (b + 1) (e - (b + 1))
+later_step : (line b e : ℕ) (left : ℤ) → b < e
+    → later_stays line left b (e - b) ≡ record { bucket = b; left = left; line = line; starts = false }
+    ∷ later_stays line left (b + 1) (e - (b + 1))
 later_step line b e left l =
     ap (λ (n : ℕ). later_stays line left b n) (one_less b e l)
-    ∙ ap (λ (n : ℕ). record { bucket = b; left = left; line = line; starts = false } ∷ later_stays line left n (e - (b + 1))) (plus_one b)
+    ∙ ap (λ (n : ℕ). record { bucket = b; left = left; line = line; starts = false }
+    ∷ later_stays line left n (e - (b + 1))) (plus_one b)
   where
     plus_one : (n : ℕ) → suc n ≡ n + 1
     plus_one n = omega arith
 
 -- a stay is pushed
-pub pushed_later : (stays new whole : List Stay) (line b e : ℕ) (left : ℤ) → b < e → new ≡ stays ++ (record { bucket = b; left = left; line = line; starts = false } ∷ [])
-    → stays ++ later_stays line left b (e - b) ≡ whole → new ++ later_stays line left (b + 1) (e - (b + 1)) ≡ whole
+pub pushed_later : (stays new whole : List Stay) (line b e : ℕ) (left : ℤ) → b < e
+    → new ≡ stays ++ (record { bucket = b; left = left; line = line; starts = false } ∷ [])
+    → stays ++ later_stays line left b (e - b) ≡ whole
+    → new ++ later_stays line left (b + 1) (e - (b + 1)) ≡ whole
 pushed_later stays new whole line b e left l h k =
     ap (λ (xs : List Stay). xs ++ later_stays line left (b + 1) (e - (b + 1))) h
-    ∙ append_assoc stays (record { bucket = b; left = left; line = line; starts = false } ∷ []) (later_stays line left (b + 1) (e - (b + 1)))
+    ∙ append_assoc stays (record { bucket = b; left = left; line = line; starts = false } ∷ [])
+    (later_stays line left (b + 1) (e - (b + 1)))
     ∙ ap (λ (xs : List Stay). stays ++ xs) (sym (later_step line b e left l))
     ∙ k
 
 -- the first of an edge and the later ones
-pub stays_made : (stays one new : List Stay) (tall line first last : ℕ) (left : ℤ) (e : Edge) → left ≡ left_end e → first ≡ bucket_of tall (low e).y → last ≡ bucket_of tall (high e).y
-    → one ≡ stays ++ (record { bucket = first; left = left; line = line; starts = true } ∷ []) → new ≡ one ++ later_stays line left (first + 1) (last - first) → new ≡ stays ++ stays_of tall line e
+pub stays_made : (stays one new : List Stay) (tall line first last : ℕ) (left : ℤ) (e : Edge)
+    → left ≡ left_end e → first ≡ bucket_of tall (low e).y → last ≡ bucket_of tall (high e).y
+    → one ≡ stays ++ (record { bucket = first; left = left; line = line; starts = true } ∷ [])
+    → new ≡ one ++ later_stays line left (first + 1) (last - first) → new ≡ stays ++ stays_of tall line e
 stays_made stays one new tall line first last left e hl hf hh p q =
     q
     ∙ ap (λ (xs : List Stay). xs ++ later_stays line left (first + 1) (last - first)) p
-    ∙ append_assoc stays (record { bucket = first; left = left; line = line; starts = true } ∷ []) (later_stays line left (first + 1) (last - first))
-    ∙ ap (λ (n : ℕ). stays ++ (record { bucket = first; left = left; line = line; starts = true } ∷ later_stays line left n (last - first))) (plus_one first)
+    ∙ append_assoc stays (record { bucket = first; left = left; line = line; starts = true } ∷ [])
+    (later_stays line left (first + 1) (last - first))
+    ∙ ap (λ (n : ℕ). stays ++ (record { bucket = first; left = left; line = line; starts = true }
+    ∷ later_stays line left n (last - first))) (plus_one first)
     ∙ (λ i. stays ++ stays_from line (hl i) (hf i) (hh i - hf i))
   where
     plus_one : (n : ℕ) → n + 1 ≡ suc n

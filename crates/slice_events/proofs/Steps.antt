@@ -6,12 +6,14 @@ use Rattle.scad_geom.specs.declared.level.Level.{Level}
 use Rattle.scad_geom.specs.declared.level.LeafEdge.{LeafEdge}
 use Rattle.slice_events.specs.Levels.{crosses, crossings}
 
-pub crossings_more : (es : List LeafEdge) (i : ℕ) (e : LeafEdge) → i < length es → e ≡ get_or es i e → crossings (drop i es) ≡ count_by (λ f. crosses e.edge f.edge) (drop (suc i) es) + crossings (drop (suc i) es)
+pub crossings_more : (es : List LeafEdge) (i : ℕ) (e : LeafEdge) → i < length es → e ≡ get_or es i e
+    → crossings (drop i es) ≡ count_by (λ f. crosses e.edge f.edge) (drop (suc i) es) + crossings (drop (suc i) es)
 crossings_more [] i e h q = absurd (omega arith)
 crossings_more (g ∷ es) zero e h q = rw q refl
 crossings_more (g ∷ es) (suc i) e h q = crossings_more es i e (omega arith) q
 
-pub pushed : (out rest whole : List Level) (l : Level) → out ++ (l ∷ rest) ≡ whole → (out ++ (l ∷ [])) ++ rest ≡ whole
+pub pushed : (out rest whole : List Level) (l : Level) → out ++ (l ∷ rest) ≡ whole
+    → (out ++ (l ∷ [])) ++ rest ≡ whole
 pushed out rest whole l h = append_assoc out (l ∷ []) rest ∙ h
 
 pub rest_is : {A : Type 0} (xs : List A) (i : ℕ) → take (length xs - i) (drop i xs) ≡ drop i xs

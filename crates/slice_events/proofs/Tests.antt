@@ -45,14 +45,16 @@ true_right true b h = refl
 true_right false b h = h
 
 -- ---- on both sides
-sides_by : (y z : ℤ) → ((int_le y (pos 0) && int_le (pos 0) z) || (int_le (pos 0) y && int_le z (pos 0))) ≡ true → AreOpposite y z
+sides_by : (y z : ℤ) → ((int_le y (pos 0) && int_le (pos 0) z) || (int_le (pos 0) y && int_le z (pos 0))) ≡ true
+    → AreOpposite y z
 sides_by y z h = of (either_true _ _ h)
   where
     of : ((int_le y (pos 0) && int_le (pos 0) z) ≡ true) ⊎ ((int_le (pos 0) y && int_le z (pos 0)) ≡ true) → AreOpposite y z
     of (inl k) = let p = and_parts (int_le y (pos 0)) (int_le (pos 0) z) k in inl (int_le-true y (pos 0) p.0, int_le-true (pos 0) z p.1)
     of (inr k) = let p = and_parts (int_le (pos 0) y) (int_le z (pos 0)) k in inr (int_le-true (pos 0) y p.0, int_le-true z (pos 0) p.1)
 
-by_sides : (y z : ℤ) → AreOpposite y z → ((int_le y (pos 0) && int_le (pos 0) z) || (int_le (pos 0) y && int_le z (pos 0))) ≡ true
+by_sides : (y z : ℤ) → AreOpposite y z → ((int_le y (pos 0) && int_le (pos 0) z)
+    || (int_le (pos 0) y && int_le z (pos 0))) ≡ true
 by_sides y z (inl h) =
     true_left _ _ (ap₂ (λ (s t : Bool). s && t) (int_le-at_most y (pos 0) h.0) (int_le-at_most (pos 0) z h.1))
 by_sides y z (inr h) =
@@ -136,7 +138,8 @@ no_gap y z h = omega (arith, ints)
 one_factor : (y z d : ℤ) → pos 0 <ℤ d → y *ℤ d ≡ z *ℤ d → y ≡ z
 one_factor y z d positive h =
     gap_none y z (zero_factor (y -ℤ z) d positive
-    (ring (y ∷ z ∷ d ∷ []) ((v0 ⊖ v1) ⊗ v2) (v0 ⊗ v2 ⊖ v1 ⊗ v2) refl ∙ no_gap (y *ℤ d) (z *ℤ d) h))
+    (ring (y ∷ z ∷ d ∷ []) ((v0 ⊖ v1) ⊗ v2) (v0 ⊗ v2 ⊖ v1 ⊗ v2) refl
+        ∙ no_gap (y *ℤ d) (z *ℤ d) h))
 
 -- what lies at one point
 at_both : (v w : Pt) (p : Point) → pos 0 <ℤ p.d → IsAt v p → IsAt w p → v ≡ w
@@ -149,7 +152,8 @@ at_both v w p positive h k =
 abbrev Share : Edge → Edge → Type 0
 Share e f = ((e.a ≡ f.a) ⊎ (e.a ≡ f.b)) ⊎ ((e.b ≡ f.a) ⊎ (e.b ≡ f.b))
 
-pair_share : (v w x : Pt) → (is_same_point (whole v) (whole w) || is_same_point (whole v) (whole x)) ≡ true → (v ≡ w) ⊎ (v ≡ x)
+pair_share : (v w x : Pt) → (is_same_point (whole v) (whole w) || is_same_point (whole v) (whole x)) ≡ true
+    → (v ≡ w) ⊎ (v ≡ x)
 pair_share v w x h = of (either_true _ _ h)
   where
     of : (is_same_point (whole v) (whole w) ≡ true) ⊎ (is_same_point (whole v) (whole x) ≡ true) → (v ≡ w) ⊎ (v ≡ x)
@@ -164,14 +168,16 @@ shares e f h = of (either_true _ _ h)
     of (inl k) = inl (pair_share e.a f.a f.b k)
     of (inr k) = inr (pair_share e.b f.a f.b k)
 
-share_pair : (v w x : Pt) → (v ≡ w) ⊎ (v ≡ x) → (is_same_point (whole v) (whole w) || is_same_point (whole v) (whole x)) ≡ true
+share_pair : (v w x : Pt) → (v ≡ w) ⊎ (v ≡ x)
+    → (is_same_point (whole v) (whole w) || is_same_point (whole v) (whole x)) ≡ true
 share_pair v w x (inl k) = true_left _ _ (same_true v w k)
 share_pair v w x (inr k) = true_right (is_same_point (whole v) (whole w)) _ (same_true v x k)
 
 shared : (e f : Edge) → Share e f → share_end e f ≡ true
 shared e f (inl h) = true_left _ _ (share_pair e.a f.a f.b h)
 shared e f (inr h) =
-    true_right (is_same_point (whole e.a) (whole f.a) || is_same_point (whole e.a) (whole f.b)) _ (share_pair e.b f.a f.b h)
+    true_right (is_same_point (whole e.a) (whole f.a) || is_same_point (whole e.a) (whole f.b)) _
+        (share_pair e.b f.a f.b h)
 
 ends_share : (e f : Edge) (p : Point) → pos 0 <ℤ p.d → IsEndOf e p → IsEndOf f p → Share e f
 ends_share e f p positive (inl h) (inl k) = inl (inl (at_both e.a f.a p positive h k))
@@ -187,8 +193,10 @@ start_between a b = record {
   first = omega (arith, ints);
   second = omega (arith, ints);
   some = omega (arith, ints);
-  x = ring (a.x ∷ b.x ∷ []) ((num (pos 1) ⊕ num (pos 0)) ⊗ v0) ((num (pos 1) ⊗ v0 ⊕ num (pos 0) ⊗ v1) ⊗ num (pos 1)) refl;
-  y = ring (a.y ∷ b.y ∷ []) ((num (pos 1) ⊕ num (pos 0)) ⊗ v0) ((num (pos 1) ⊗ v0 ⊕ num (pos 0) ⊗ v1) ⊗ num (pos 1)) refl;
+  x = ring (a.x ∷ b.x ∷ []) ((num (pos 1) ⊕ num (pos 0)) ⊗ v0)
+      ((num (pos 1) ⊗ v0 ⊕ num (pos 0) ⊗ v1) ⊗ num (pos 1)) refl;
+  y = ring (a.y ∷ b.y ∷ []) ((num (pos 1) ⊕ num (pos 0)) ⊗ v0)
+      ((num (pos 1) ⊗ v0 ⊕ num (pos 0) ⊗ v1) ⊗ num (pos 1)) refl;
 }
 
 end_between : (a b : Pt) → IsBetween a b (whole b)
@@ -198,8 +206,10 @@ end_between a b = record {
   first = omega (arith, ints);
   second = omega (arith, ints);
   some = omega (arith, ints);
-  x = ring (a.x ∷ b.x ∷ []) ((num (pos 0) ⊕ num (pos 1)) ⊗ v1) ((num (pos 0) ⊗ v0 ⊕ num (pos 1) ⊗ v1) ⊗ num (pos 1)) refl;
-  y = ring (a.y ∷ b.y ∷ []) ((num (pos 0) ⊕ num (pos 1)) ⊗ v1) ((num (pos 0) ⊗ v0 ⊕ num (pos 1) ⊗ v1) ⊗ num (pos 1)) refl;
+  x = ring (a.x ∷ b.x ∷ []) ((num (pos 0) ⊕ num (pos 1)) ⊗ v1)
+      ((num (pos 0) ⊗ v0 ⊕ num (pos 1) ⊗ v1) ⊗ num (pos 1)) refl;
+  y = ring (a.y ∷ b.y ∷ []) ((num (pos 0) ⊕ num (pos 1)) ⊗ v1)
+      ((num (pos 0) ⊗ v0 ⊕ num (pos 1) ⊗ v1) ⊗ num (pos 1)) refl;
 }
 
 -- ---- crossing
@@ -249,7 +259,8 @@ module _ (e f : Edge) (c : Cross e f) where
 
   crossed : crosses e f ≡ true
   crossed =
-      ap₂ (λ (s t : Bool). s && t) (met e f (record { slanted = c.slanted; point = c.point; common = c.common })) none_said
+      ap₂ (λ (s t : Bool). s && t) (met e f (record { slanted = c.slanted; point = c.point; common = c.common }))
+          none_said
 
 pub crosses_says_cross : CrossesSaysCross
 crosses_says_cross e f = (cross e f, crossed e f)

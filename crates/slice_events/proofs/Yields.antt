@@ -31,14 +31,16 @@ left_more b n m y r w l h =
       count = omega arith;
       levels = λ few.
           let k : n.count ≤ crossing_limit = omega arith in
-          ap (λ (xs : List Level). xs ++ r.levels) (h.levels few) ∙ append_assoc (levels_in n.heights.items) y.levels r.levels ∙ l.levels k;
+          ap (λ (xs : List Level). xs ++ r.levels) (h.levels few)
+              ∙ append_assoc (levels_in n.heights.items) y.levels r.levels ∙ l.levels k;
     }
 
 pub left_none : (b n : Found) (w : Yield) → IsLeft b n nothing w → HasYielded b n w
 left_none b n w l =
     let lt = l.tests in
     let lc = l.count in
-    record { tests = omega arith; count = omega arith; levels = λ few. sym (append-nil (levels_in n.heights.items)) ∙ l.levels few }
+    record { tests = omega arith; count = omega arith; levels = λ few. sym (append-nil (levels_in n.heights.items))
+        ∙ l.levels few }
 
 pub left_room : (b n : Found) (y r w : Yield) → HasRoom b w → IsLeft b n (and_then y r) w → HasRoom n y
 left_room b n y r w h l =
@@ -50,17 +52,21 @@ left_room b n y r w h l =
 
 -- nothing is added
 pub yields_none : (b : Found) → HasYielded b b nothing
-yields_none b = record { tests = omega arith; count = omega arith; levels = λ few. sym (append-nil (levels_in b.heights.items)) }
+yields_none b = record { tests = omega arith; count = omega arith; levels
+    = λ few. sym (append-nil (levels_in b.heights.items)) }
 
 -- ---- what is still to come, a step on
-pub with_more : (es : List Edge) (s : Stay) (ts : List Stay) (i : ℕ) (t : Stay) → i < length ts → yield_with es s (drop i ts) ≡ and_then (yield_at es s (get_or ts i t)) (yield_with es s (drop (i + 1) ts))
+pub with_more : (es : List Edge) (s : Stay) (ts : List Stay) (i : ℕ) (t : Stay) → i < length ts
+    → yield_with es s (drop i ts) ≡ and_then (yield_at es s (get_or ts i t)) (yield_with es s (drop (i + 1) ts))
 with_more es s ts i t l = at_drop_more (yield_with es s) ts i t l
 
-pub among_more : (es : List Edge) (ss : List Stay) (i : ℕ) → i < length ss → yield_among es (drop i ss) ≡ and_then (yield_of_first es (drop i ss)) (yield_among es (drop (i + 1) ss))
+pub among_more : (es : List Edge) (ss : List Stay) (i : ℕ) → i < length ss
+    → yield_among es (drop i ss) ≡ and_then (yield_of_first es (drop i ss)) (yield_among es (drop (i + 1) ss))
 among_more es [] i l = absurd (omega arith)
 among_more es (s ∷ ss) i l =
     at_drop_more (yield_among es) (s ∷ ss) i s l
-    ∙ ap (λ (y : Yield). and_then y (yield_among es (drop (i + 1) (s ∷ ss)))) (sym (at_drop_more (yield_of_first es) (s ∷ ss) i s l))
+    ∙ ap (λ (y : Yield). and_then y (yield_among es (drop (i + 1) (s ∷ ss))))
+    (sym (at_drop_more (yield_of_first es) (s ∷ ss) i s l))
 
 none_and : (y : Yield) → and_then nothing y ≡ y
 none_and y = λ i. record { tests = zero_plus y.tests i; count = zero_plus y.count i; levels = y.levels }
@@ -72,14 +78,16 @@ at_none : (es : List Edge) (s t : Stay) → at_home boxes_meet es s t ≡ false 
 at_none es s t h = rw h refl
 
 -- nothing comes where none is at home
-pub with_none : (es : List Edge) (s : Stay) (ts : List Stay) → AllByRecursion (λ t. at_home boxes_meet es s t ≡ false) ts → yield_with es s ts ≡ nothing
+pub with_none : (es : List Edge) (s : Stay) (ts : List Stay)
+    → AllByRecursion (λ t. at_home boxes_meet es s t ≡ false) ts → yield_with es s ts ≡ nothing
 with_none es s [] h = refl
 with_none es s (t ∷ ts) h = ap₂ and_then (at_none es s t h.0) (with_none es s ts h.1) ∙ none_and nothing
 
 -- ---- sums over all pairs
 module _ (w : Yield → ℕ) (additive : (y z : Yield) → w (and_then y z) ≡ w y + w z) (none : w nothing ≡ 0) (es : List Edge) (r : Edge → Edge → Bool)
     (near : (e f : Edge) → r e f ≡ true → boxes_meet e f ≡ true) (one : (e f : Edge) → boxes_meet e f ≡ true → w (yield_of e f) ≡ once (r e f)) where
-  by_test : (y : Yield) (h b c : Bool) → (c ≡ true → b ≡ true) → (b ≡ true → w y ≡ once c) → w (if (h && b) then y else nothing) ≡ once (h && c)
+  by_test : (y : Yield) (h b c : Bool) → (c ≡ true → b ≡ true) → (b ≡ true → w y ≡ once c)
+      → w (if (h && b) then y else nothing) ≡ once (h && c)
   by_test y true true c k e = e refl
   by_test y true false true k e = absurd (true≢false (sym (k refl)))
   by_test y true false false k e = none
@@ -100,4 +108,5 @@ module _ (w : Yield → ℕ) (additive : (y z : Yield) → w (and_then y z) ≡ 
 
   pub among_total : (ss : List Stay) → w (yield_among es ss) ≡ pairs (at_home r es) ss
   among_total [] = none
-  among_total (s ∷ ss) = additive (yield_with es s ss) (yield_among es ss) ∙ ap₂ (λ (m n : ℕ). m + n) (with_total s ss) (among_total ss)
+  among_total (s ∷ ss) = additive (yield_with es s ss) (yield_among es ss)
+      ∙ ap₂ (λ (m n : ℕ). m + n) (with_total s ss) (among_total ss)

@@ -14,7 +14,8 @@ right_end e = cond (int_lt e.b.x e.a.x) e.a.x e.b.x
 
 -- whether the boxes of two edges, borders included, have a common point
 unfoldable pub boxes_meet : Edge → Edge → Bool
-boxes_meet e f = (int_le (left_end e) (right_end f) && int_le (left_end f) (right_end e)) && (int_le (low e).y (high f).y && int_le (low f).y (high e).y)
+boxes_meet e f = (int_le (left_end e) (right_end f) && int_le (left_end f) (right_end e))
+    && (int_le (low e).y (high f).y && int_le (low f).y (high e).y)
 
 -- how many pairs of edges have such boxes
 abbrev pub comparisons : List LeafEdge → ℕ

@@ -29,7 +29,8 @@ pub record AreLevels (edges : List LeafEdge) (levels : List Level) : Type 0 wher
 
 -- whether an end of one edge is an end of the other
 abbrev pub share_end : Edge → Edge → Bool
-share_end e f = (is_same_point (whole e.a) (whole f.a) || is_same_point (whole e.a) (whole f.b)) || (is_same_point (whole e.b) (whole f.a) || is_same_point (whole e.b) (whole f.b))
+share_end e f = (is_same_point (whole e.a) (whole f.a) || is_same_point (whole e.a) (whole f.b))
+    || (is_same_point (whole e.b) (whole f.a) || is_same_point (whole e.b) (whole f.b))
 
 -- whether two edges that aren't parallel have a common point that isn't an end of both
 abbrev pub crosses : Edge → Edge → Bool

@@ -1,4 +1,5 @@
--- Edges in buckets of heights: one stay for each bucket that an edge reaches, and the pairs of stays that share a bucket
+-- Edges in buckets of heights: one stay for each bucket that an edge reaches, and the pairs of stays that share a
+-- bucket
 -- in which one of the two edges starts.
 use Rattle.std.specs.Prelude.{◌≡◌, ◌<◌, length, Bool, true, false, ◌&&◌, ◌||◌, ◌==◌, List, [], ◌∷◌, ◌++◌, ℕ, zero, suc, ◌-◌, ◌/◌, ℤ, pos, ◌+ℤ◌, unsigned_abs, slice_index_or, ⊤, not, int_lt}
 use Rattle.std.specs.List.{AllByRecursion}
@@ -17,14 +18,17 @@ bucket_of tall y = unsigned_abs (y +ℤ pos coordinate_limit) / tall
 -- the stays of an edge after its first, in this many buckets from the given one upwards
 abbrev pub later_stays : ℕ → ℤ → ℕ → ℕ → List Stay
 later_stays line left bucket zero = []
-later_stays line left bucket (suc more) = record { bucket = bucket; left = left; line = line; starts = false } ∷ later_stays line left (suc bucket) more
+later_stays line left bucket (suc more) = record { bucket = bucket; left = left; line = line; starts = false }
+    ∷ later_stays line left (suc bucket) more
 
 -- the stays of an edge that starts in a bucket and goes on into this many
 abbrev pub stays_from : ℕ → ℤ → ℕ → ℕ → List Stay
-stays_from line left bucket more = record { bucket = bucket; left = left; line = line; starts = true } ∷ later_stays line left (suc bucket) more
+stays_from line left bucket more = record { bucket = bucket; left = left; line = line; starts = true }
+    ∷ later_stays line left (suc bucket) more
 
 abbrev pub stays_of : ℕ → ℕ → Edge → List Stay
-stays_of tall line e = stays_from line (left_end e) (bucket_of tall (low e).y) (bucket_of tall (high e).y - bucket_of tall (low e).y)
+stays_of tall line e = stays_from line (left_end e) (bucket_of tall (low e).y)
+    (bucket_of tall (high e).y - bucket_of tall (low e).y)
 
 -- those of edges numbered from a number on
 abbrev pub all_stays : ℕ → ℕ → List Edge → List Stay

@@ -25,7 +25,8 @@ and_then y z = record { tests = y.tests + z.tests; count = y.count + z.count; le
 
 -- of one comparison
 abbrev pub yield_of : Edge → Edge → Yield
-yield_of e f = record { tests = 1; count = cond (crosses e f) 1 0; levels = if is_kept e f then meeting e f ∷ [] else [] }
+yield_of e f = record { tests = 1; count = cond (crosses e f) 1 0; levels
+    = if is_kept e f then meeting e f ∷ [] else [] }
 
 -- of two stays: the edges are compared where the two are at home and the boxes meet
 abbrev pub yield_at : List Edge → Stay → Stay → Yield
@@ -55,10 +56,12 @@ pub record HasRoom (found : Found) (y : Yield) : Type 0 where
 pub record HasYielded (before after : Found) (y : Yield) : Type 0 where
   pub tests : after.tests ≡ before.tests + y.tests
   pub count : after.count ≡ before.count + y.count
-  pub levels : after.count ≤ crossing_limit → levels_in after.heights.items ≡ levels_in before.heights.items ++ y.levels
+  pub levels : after.count ≤ crossing_limit
+      → levels_in after.heights.items ≡ levels_in before.heights.items ++ y.levels
 
 -- what is still to come makes up the whole
 pub record IsLeft (before after : Found) (rest whole : Yield) : Type 0 where
   pub tests : after.tests + rest.tests ≡ before.tests + whole.tests
   pub count : after.count + rest.count ≡ before.count + whole.count
-  pub levels : after.count ≤ crossing_limit → levels_in after.heights.items ++ rest.levels ≡ levels_in before.heights.items ++ whole.levels
+  pub levels : after.count ≤ crossing_limit
+      → levels_in after.heights.items ++ rest.levels ≡ levels_in before.heights.items ++ whole.levels

@@ -25,7 +25,9 @@ use Rattle.scad_geom.proofs.Signs.{no_gap, falls, climbs}
 abbrev pub IsAtLeast : Pt → Pt → Type 0
 IsAtLeast p v = (p.y <ℤ v.y) ⊎ ((p.y ≡ v.y) × (p.x ≤ℤ v.x))
 
-at_least_by : (p v : Pt) (r s : Ordering) → MatchOrdering r (v.y <ℤ p.y) (v.y ≡ p.y) (p.y <ℤ v.y) → MatchOrdering s (v.x <ℤ p.x) (v.x ≡ p.x) (p.x <ℤ v.x) → is_lt (ordering_then r s) ≡ false → IsAtLeast p v
+at_least_by : (p v : Pt) (r s : Ordering) → MatchOrdering r (v.y <ℤ p.y) (v.y ≡ p.y) (p.y <ℤ v.y)
+    → MatchOrdering s (v.x <ℤ p.x) (v.x ≡ p.x) (p.x <ℤ v.x) → is_lt (ordering_then r s) ≡ false
+    → IsAtLeast p v
 at_least_by p v Less s h k e = absurd (cc)
 at_least_by p v Equal Less h k e = absurd (cc)
 at_least_by p v Equal Equal h k e = let same : v.x ≡ p.x = k in inr (sym h, omega (arith, ints))
@@ -46,7 +48,8 @@ start_at_least e f h = at_least e.a f.a (first_part (point_cmp f.a e.a) (point_c
 -- ---- between two that aren't less there isn't the least
 
 -- where the way goes on upwards from p to b, it comes from below
-from_below : (k l m n a p b : ℤ) → pos 0 <ℤ k → pos 0 <ℤ l → pos 0 <ℤ m → pos 0 <ℤ n → k *ℤ (b -ℤ a) ≡ l *ℤ (b -ℤ p) → m *ℤ (a -ℤ b) ≡ n *ℤ (a -ℤ p) → p <ℤ b → a <ℤ p
+from_below : (k l m n a p b : ℤ) → pos 0 <ℤ k → pos 0 <ℤ l → pos 0 <ℤ m → pos 0 <ℤ n
+    → k *ℤ (b -ℤ a) ≡ l *ℤ (b -ℤ p) → m *ℤ (a -ℤ b) ≡ n *ℤ (a -ℤ p) → p <ℤ b → a <ℤ p
 from_below k l m n a p b kp lp mp np h e r =
     let up : pos 0 <ℤ (b -ℤ a) = climbs k l (b -ℤ a) (b -ℤ p) kp lp h (gap_of_less p b r) in
     less_of_fall a p (falls n m (a -ℤ p) (a -ℤ b) np mp (sym e) (flipped b a up))
@@ -86,10 +89,12 @@ least_between a p b ha hb t = by_height hb
     back = ahead_on b b p a (ahead_itself b p) (between_turned a p b t)
 
     below : p.y <ℤ b.y → a.y <ℤ p.y
-    below r = from_below on.far on.near back.far back.near a.y p.y b.y on.far_positive on.near_positive back.far_positive back.near_positive on.along back.along r
+    below r = from_below on.far on.near back.far back.near a.y p.y b.y on.far_positive on.near_positive
+        back.far_positive back.near_positive on.along back.along r
 
     left : p.x <ℤ b.x → a.x <ℤ p.x
-    left r = from_below on.far on.near back.far back.near a.x p.x b.x on.far_positive on.near_positive back.far_positive back.near_positive on.across back.across r
+    left r = from_below on.far on.near back.far back.near a.x p.x b.x on.far_positive on.near_positive back.far_positive
+        back.near_positive on.across back.across r
 
     rises : p.y <ℤ b.y → IsAtLeast p a → ⊥
     rises r (inl h) = not_both a.y p.y (below r) h
@@ -97,7 +102,9 @@ least_between a p b ha hb t = by_height hb
 
     -- a to the left of p at the height of b is at the height of p
     runs : p.y ≡ b.y → p.x <ℤ b.x → IsAtLeast p a → ⊥
-    runs e r (inl h) = not_less_equal b.y p.y (from_below back.far back.near on.far on.near b.y p.y a.y back.far_positive back.near_positive on.far_positive on.near_positive back.along on.along h) e
+    runs e r (inl h) = not_less_equal b.y p.y
+        (from_below back.far back.near on.far on.near b.y p.y a.y back.far_positive back.near_positive on.far_positive
+        on.near_positive back.along on.along h) e
     runs e r (inr h) = not_less_most a.x p.x (left r) h.1
 
     by_place : p.y ≡ b.y → (p.x <ℤ b.x) ⊎ (p.x ≡ b.x) → ⊥
@@ -112,7 +119,8 @@ pub least_is_corner : (a p b : Pt) → IsAtLeast p a → IsAtLeast p b → is_be
 least_is_corner a p b ha hb = false_from_ne_true (is_between a p b) (least_between a p b ha hb)
 
 -- ---- the vertices of a loop
-way_at_least : (e : Edge) (start : Pt) (vs : List Pt) (p : Pt) (es left : List Edge) → All (λ f. is_less f e ≡ false) es → LeadsBack start vs p es left → AllByRecursion (IsAtLeast e.a) vs
+way_at_least : (e : Edge) (start : Pt) (vs : List Pt) (p : Pt) (es left : List Edge)
+    → All (λ f. is_less f e ≡ false) es → LeadsBack start vs p es left → AllByRecursion (IsAtLeast e.a) vs
 way_at_least e start [] p es left a h = tt
 way_at_least e start (v ∷ vs) p es left a h =
     let f : Edge = h.2.0 in
@@ -124,12 +132,14 @@ way_at_least e start (v ∷ vs) p es left a h =
       way_at_least e start vs f.b others left (All-tail (λ (f : Edge). is_less f e ≡ false) f others all) h.2.3,
     )
 
-pub loop_at_least : (es : List Edge) (l : List Pt) (left : List Edge) (h : IsLoop es l left) → AllByRecursion (IsAtLeast h.first.a) h.way
+pub loop_at_least : (es : List Edge) (l : List Pt) (left : List Edge) (h : IsLoop es l left)
+    → AllByRecursion (IsAtLeast h.first.a) h.way
 loop_at_least es l left h = way_at_least h.first h.first.a h.way h.first.b h.others left h.least.least h.back
 
 pub itself_at_least : (p : Pt) → IsAtLeast p p
 itself_at_least p = inr (refl, omega (arith, ints))
 
-pub last_at_least : (p q : Pt) (qs : List Pt) → IsAtLeast p q → AllByRecursion (IsAtLeast p) qs → IsAtLeast p (last q qs)
+pub last_at_least : (p q : Pt) (qs : List Pt) → IsAtLeast p q → AllByRecursion (IsAtLeast p) qs
+    → IsAtLeast p (last q qs)
 last_at_least p q [] h a = h
 last_at_least p q (r ∷ rs) h a = last_at_least p r rs a.0 a.1

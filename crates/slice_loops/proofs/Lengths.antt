@@ -47,12 +47,14 @@ ends_differ : (a p b : Pt) → is_between a p b ≡ true → a ≡ b → ⊥
 ends_differ a p b t same = not_back a p (subst (λ (q : Pt). is_between a p q ≡ true) (sym same) t)
 
 -- a point that lies ahead of another isn't this one, where the way to it has a length
-gap_of_ahead : (far near x a p : ℤ) → pos 0 <ℤ near → far *ℤ (p -ℤ x) ≡ near *ℤ (p -ℤ a) → x ≡ p → a ≡ p
+gap_of_ahead : (far near x a p : ℤ) → pos 0 <ℤ near → far *ℤ (p -ℤ x) ≡ near *ℤ (p -ℤ a) → x ≡ p
+    → a ≡ p
 gap_of_ahead far near x a p positive h same =
     let none : near *ℤ (p -ℤ a) ≡ pos 0 =
     sym h ∙ ap (λ (z : ℤ). far *ℤ (p -ℤ z)) same ∙ ring (far ∷ p ∷ []) (v0 ⊗ (v1 ⊖ v1)) (num (pos 0)) refl in
     sym (equal_of_gap p a
-    (zero_factor (p -ℤ a) near positive (ring (p ∷ a ∷ near ∷ []) ((v0 ⊖ v1) ⊗ v2) (v2 ⊗ (v0 ⊖ v1)) refl ∙ none)))
+    (zero_factor (p -ℤ a) near positive (ring (p ∷ a ∷ near ∷ []) ((v0 ⊖ v1) ⊗ v2) (v2 ⊗ (v0 ⊖ v1)) refl
+        ∙ none)))
 
 ahead_differs : (x a p : Pt) → IsAhead x a p → (a ≡ p → ⊥) → x ≡ p → ⊥
 ahead_differs x a p h differ same =
@@ -62,10 +64,12 @@ ahead_differs x a p h differ same =
 
 -- ---- the vertices that are no corners are left out
 corners_lengths : (x before p : Pt) (ps : List Pt) (after : Pt) → IsAhead x before p → (before ≡ p → ⊥)
-    → AllByRecursion HasLength (path p ps after) → AllByRecursion HasLength (path x (corners_between before p ps after) after)
+    → AllByRecursion HasLength (path p ps after)
+    → AllByRecursion HasLength (path x (corners_between before p ps after) after)
 corners_lengths x before p [] after h differ each = by_test (is_between before p after) refl
   where
-    by_test : (t : Bool) → is_between before p after ≡ t → AllByRecursion HasLength (path x (cond t [] (p ∷ [])) after)
+    by_test : (t : Bool) → is_between before p after ≡ t
+        → AllByRecursion HasLength (path x (cond t [] (p ∷ [])) after)
     by_test true t = (ends_differ x p after (still_between x before p after h t), tt)
     by_test false t = (ahead_differs x before p h differ, each)
 corners_lengths x before p (n ∷ ns) after h differ each =
@@ -75,7 +79,8 @@ corners_lengths x before p (n ∷ ns) after h differ each =
     by_test : (t : Bool) → is_between before p n ≡ t
         → (IsAhead x p n → AllByRecursion HasLength (path x (corners_between p n ns after) after))
         → AllByRecursion HasLength (path p (corners_between p n ns after) after)
-        → AllByRecursion HasLength (path x (cond t (corners_between p n ns after) (p ∷ corners_between p n ns after)) after)
+        → AllByRecursion HasLength (path x
+        (cond t (corners_between p n ns after) (p ∷ corners_between p n ns after)) after)
     by_test true t on stay = on (ahead_on x before p n h t)
     by_test false t on stay = (ahead_differs x before p h differ, stay)
 
@@ -84,14 +89,16 @@ from_least : (p : Pt) (ps : List Pt) → AllByRecursion (IsAtLeast p) ps → All
     → AllByRecursion HasLength (sides (corners (p ∷ ps)))
 from_least p [] a each = absurd (each.0 refl)
 from_least p (n ∷ ns) a each =
-    subst (λ (b : Bool). AllByRecursion HasLength (sides (cond b (corners_between p n ns p) (p ∷ corners_between p n ns p))))
+    subst (λ (b : Bool). AllByRecursion HasLength
+        (sides (cond b (corners_between p n ns p) (p ∷ corners_between p n ns p))))
     (sym (least_is_corner (last n ns) p n (last_at_least p n ns a.0 a.1) a.0))
     (corners_lengths p p n ns p (ahead_itself p n) each.0 each.1)
 
-loop_lengths : (es : List Edge) (l : List Pt) (left : List Edge) → IsLoop es l left → AllByRecursion HasLength (sides l)
-    → AllByRecursion HasLength (sides (corners l))
+loop_lengths : (es : List Edge) (l : List Pt) (left : List Edge) → IsLoop es l left
+    → AllByRecursion HasLength (sides l) → AllByRecursion HasLength (sides (corners l))
 loop_lengths es l left h =
-    subst (λ (v : List Pt). AllByRecursion HasLength (sides v) → AllByRecursion HasLength (sides (corners v))) (sym h.vertices)
+    subst (λ (v : List Pt). AllByRecursion HasLength (sides v) → AllByRecursion HasLength (sides (corners v)))
+        (sym h.vertices)
     (from_least h.first.a h.way (loop_at_least es l left h))
 
 -- ---- all loops
@@ -103,16 +110,18 @@ behind : (es fs : List Edge) → AllByRecursion HasLength (es ++ fs) → AllByRe
 behind [] fs h = h
 behind (e ∷ es) fs h = behind es fs h.1
 
-loops_lengths : (es : List Edge) (ls : List (List Pt)) → AreDrawn es ls → AllByRecursion HasLength (flat_map sides ls)
-    → AllByRecursion HasLength (flat_map sides (outlines_of ls))
+loops_lengths : (es : List Edge) (ls : List (List Pt)) → AreDrawn es ls
+    → AllByRecursion HasLength (flat_map sides ls) → AllByRecursion HasLength (flat_map sides (outlines_of ls))
 loops_lengths es [] h each = tt
 loops_lengths es (l ∷ ls) h each =
     by_test (nat_le 3 (length (corners l))) (loop_lengths es l h.0 h.1 (front (sides l) (flat_map sides ls) each))
     (loops_lengths h.0 ls h.2 (behind (sides l) (flat_map sides ls) each))
   where
-    by_test : (t : Bool) → AllByRecursion HasLength (sides (corners l)) → AllByRecursion HasLength (flat_map sides (outlines_of ls))
+    by_test : (t : Bool) → AllByRecursion HasLength (sides (corners l))
+        → AllByRecursion HasLength (flat_map sides (outlines_of ls))
         → AllByRecursion HasLength (flat_map sides (cond t (corners l ∷ outlines_of ls) (outlines_of ls)))
-    by_test true one more = AllByRecursion-append HasLength (sides (corners l)) (flat_map sides (outlines_of ls)) one more
+    by_test true one more = AllByRecursion-append HasLength (sides (corners l)) (flat_map sides (outlines_of ls)) one
+        more
     by_test false one more = more
 
 pub sides_have_lengths : SidesHaveLengths

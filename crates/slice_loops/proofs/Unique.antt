@@ -82,13 +82,16 @@ there : (e : Edge) (es : List Edge) → 0 < often e (e ∷ es)
 there e es = let n : often e (e ∷ es) ≡ 1 + often e es = often-cons e e es ∙ ap (λ (b : Bool). once b + often e es) (same_edge_itself e) in omega arith
 
 -- ---- one edge is the least of those that pass a test
-least_of : (Q : Edge → Type 0) (es : List Edge) (e : Edge) (others : List Edge) (f : Edge) → HaveSame es (e ∷ others) → All (λ x. Q x → is_less x e ≡ false) others → 0 < often f es → Q f → is_less f e ≡ false
+least_of : (Q : Edge → Type 0) (es : List Edge) (e : Edge) (others : List Edge) (f : Edge)
+    → HaveSame es (e ∷ others) → All (λ x. Q x → is_less x e ≡ false) others → 0 < often f es → Q f
+    → is_less f e ≡ false
 least_of Q es e others f m a h q =
     let s = m f in
-    holds_of (λ x. Q x → is_less x e ≡ false) f (e ∷ others) (All-cons (λ x. Q x → is_less x e ≡ false) e others (λ t. not_less_itself e) a) (omega arith) q
+    holds_of (λ x. Q x → is_less x e ≡ false) f (e ∷ others)
+        (All-cons (λ x. Q x → is_less x e ≡ false) e others (λ t. not_less_itself e) a) (omega arith) q
 
-one_least : (Q : Edge → Type 0) (es : List Edge) (e : Edge) (others fs : List Edge) (f : Edge) (rest : List Edge) → HaveSame es fs
-    → HaveSame es (e ∷ others) → All (λ x. Q x → is_less x e ≡ false) others → Q e
+one_least : (Q : Edge → Type 0) (es : List Edge) (e : Edge) (others fs : List Edge) (f : Edge) (rest : List Edge)
+    → HaveSame es fs → HaveSame es (e ∷ others) → All (λ x. Q x → is_less x e ≡ false) others → Q e
     → HaveSame fs (f ∷ rest) → All (λ x. Q x → is_less x f ≡ false) rest → Q f → e ≡ f
 one_least Q es e others fs f rest m me ae qe mf af qf =
     let f_there = there f rest in
@@ -99,7 +102,8 @@ one_least Q es e others fs f rest m me ae qe mf af qf =
     let e_both = m e in
     neither_less e f (least_of Q fs f rest e mf af (omega arith) qe) (least_of Q es e others f me ae (omega arith) qf)
 
-same_rest : (es : List Edge) (e : Edge) (others fs : List Edge) (f : Edge) (rest : List Edge) → HaveSame es fs → HaveSame es (e ∷ others) → HaveSame fs (f ∷ rest) → e ≡ f → HaveSame others rest
+same_rest : (es : List Edge) (e : Edge) (others fs : List Edge) (f : Edge) (rest : List Edge) → HaveSame es fs
+    → HaveSame es (e ∷ others) → HaveSame fs (f ∷ rest) → e ≡ f → HaveSame others rest
 same_rest es e others fs f rest m me mf h x =
     let a = m x in
     let b = me x in
@@ -110,7 +114,8 @@ same_rest es e others fs f rest m me mf h x =
     omega arith
 
 -- ---- one way, one loop, one list of loops
-one_way : (start : Pt) (vs ws : List Pt) (p : Pt) (es fs left over : List Edge) → HaveSame es fs → LeadsBack start vs p es left → LeadsBack start ws p fs over → (vs ≡ ws) × HaveSame left over
+one_way : (start : Pt) (vs ws : List Pt) (p : Pt) (es fs left over : List Edge) → HaveSame es fs
+    → LeadsBack start vs p es left → LeadsBack start ws p fs over → (vs ≡ ws) × HaveSame left over
 one_way start [] [] p es fs left over m h k = (refl, λ x. ap (often x) (sym h.1) ∙ m x ∙ ap (often x) k.1)
 one_way start [] (w ∷ ws) p es fs left over m h k = absurd (k.1 h.0)
 one_way start (v ∷ vs) [] p es fs left over m h k = absurd (h.1 k.0)
@@ -128,7 +133,8 @@ one_way start (v ∷ vs) (w ∷ ws) p es fs left over m h k =
     let on = one_way start vs ws e.b others rest left over (same_rest es e others fs f rest m me mf one) h.2.3 back in
     (ap₂ (λ (x : Pt) (xs : List Pt). x ∷ xs) (h.0 ∙ sym k.0) on.0, on.1)
 
-one_loop : (es fs : List Edge) (l n : List Pt) (left over : List Edge) → HaveSame es fs → IsLoop es l left → IsLoop fs n over → (l ≡ n) × HaveSame left over
+one_loop : (es fs : List Edge) (l n : List Pt) (left over : List Edge) → HaveSame es fs → IsLoop es l left
+    → IsLoop fs n over → (l ≡ n) × HaveSame left over
 one_loop es fs l n left over m h k =
     let e : Edge = h.first in
     let f : Edge = k.first in
@@ -147,7 +153,8 @@ some_left es l left m h =
     let d = none h.first in
     omega arith
 
-one_drawing : (es fs : List Edge) (ls ns : List (List Pt)) → HaveSame es fs → AreDrawn es ls → AreDrawn fs ns → ls ≡ ns
+one_drawing : (es fs : List Edge) (ls ns : List (List Pt)) → HaveSame es fs → AreDrawn es ls → AreDrawn fs ns
+    → ls ≡ ns
 one_drawing es fs [] [] m h k = refl
 one_drawing es fs [] (n ∷ ns) m h k = absurd (some_left fs n k.0 (λ x. sym (m x) ∙ ap (often x) h) k.1)
 one_drawing es fs (l ∷ ls) [] m h k = absurd (some_left es l h.0 (λ x. m x ∙ ap (often x) k) h.1)
@@ -159,4 +166,5 @@ pub loops_are_one : LoopsAreOne
 loops_are_one es fs ls ns m h k = one_drawing es fs ls ns (permuted es fs m) h k
 
 pub outlines_are_one : OutlinesAreOne
-outlines_are_one es fs ls ns m h k = h.kept ∙ ap outlines_of (loops_are_one es fs h.loops k.loops m h.drawn k.drawn) ∙ sym k.kept
+outlines_are_one es fs ls ns m h k = h.kept ∙ ap outlines_of (loops_are_one es fs h.loops k.loops m h.drawn k.drawn)
+    ∙ sym k.kept

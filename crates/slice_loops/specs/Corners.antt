@@ -23,7 +23,8 @@ last p (q ∷ qs) = last q qs
 -- the corners among a vertex and those that follow it, between a vertex before and one after them
 abbrev pub corners_between : Pt → Pt → List Pt → Pt → List Pt
 corners_between before p [] after = cond (is_between before p after) [] (p ∷ [])
-corners_between before p (q ∷ qs) after = cond (is_between before p q) (corners_between p q qs after) (p ∷ corners_between p q qs after)
+corners_between before p (q ∷ qs) after = cond (is_between before p q) (corners_between p q qs after)
+    (p ∷ corners_between p q qs after)
 
 -- the corners of a closed outline, in order: the last vertex comes before the first
 abbrev pub corners : List Pt → List Pt

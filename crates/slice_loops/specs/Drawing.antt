@@ -16,7 +16,8 @@ pub record TakesLeastFrom (p : Pt) (edges : List Edge) (e : Edge) (others : List
   pub taken : IsPermutation edges (e ∷ others)
   pub least : All (λ f. f.a ≡ p → is_less f e ≡ false) others
 
--- a way through these vertices from a point to the start of its loop: at each point, until it is the start, the least edge
+-- a way through these vertices from a point to the start of its loop: at each point, until it is the start, the least
+-- edge
 -- that starts there is taken from the remaining edges, and leads to the next point. At last `left` remain
 abbrev pub LeadsBack : Pt → List Pt → Pt → List Edge → List Edge → Type 0
 LeadsBack start [] p edges left = (p ≡ start) × (edges ≡ left)

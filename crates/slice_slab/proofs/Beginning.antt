@@ -27,8 +27,8 @@ start_order = record {
   chain = λ s t u h k. sym (omega (arith, ints));
 }
 
-rising_by : (ss : List Start) → ((k : ℕ) (d : Start) → suc k < length ss → starts_first (get_or ss (suc k) d) (get_or ss k d) ≡ false)
-    → AreRising ss
+rising_by : (ss : List Start) → ((k : ℕ) (d : Start) → suc k < length ss
+    → starts_first (get_or ss (suc k) d) (get_or ss k d) ≡ false) → AreRising ss
 rising_by [] h = tt
 rising_by (s ∷ []) h = tt
 rising_by (s ∷ (t ∷ ss)) h =
@@ -54,7 +54,8 @@ module _ (at : Level) where
   parted (s ∷ ss) = by_test (is_begun at s) (parted ss)
     where
       by_test : (t : Bool) → numbers_of ss ≡ numbers_of (begun_at at ss) ++ numbers_of (pending_at at ss)
-          → numbers_of (s ∷ ss) ≡ numbers_of (if t then s ∷ begun_at at ss else []) ++ numbers_of (if t then pending_at at ss else s ∷ ss)
+          → numbers_of (s ∷ ss) ≡ numbers_of (if t then s ∷ begun_at at ss else [])
+          ++ numbers_of (if t then pending_at at ss else s ∷ ss)
       by_test true h = ap (λ (ks : List ℕ). s.number ∷ ks) h
       by_test false h = refl
 
@@ -63,15 +64,18 @@ module _ (at : Level) where
   begun_too P [] h = tt
   begun_too P (s ∷ ss) h = by_test (is_begun at s) (begun_too P ss h.1)
     where
-      by_test : (t : Bool) → AllByRecursion P (begun_at at ss) → AllByRecursion P (if t then s ∷ begun_at at ss else [])
+      by_test : (t : Bool) → AllByRecursion P (begun_at at ss)
+          → AllByRecursion P (if t then s ∷ begun_at at ss else [])
       by_test true r = (h.0, r)
       by_test false r = tt
 
-  pub pending_too : (P : Start → Type 0) (ss : List Start) → AllByRecursion P ss → AllByRecursion P (pending_at at ss)
+  pub pending_too : (P : Start → Type 0) (ss : List Start) → AllByRecursion P ss
+      → AllByRecursion P (pending_at at ss)
   pending_too P [] h = tt
   pending_too P (s ∷ ss) h = by_test (is_begun at s) (pending_too P ss h.1)
     where
-      by_test : (t : Bool) → AllByRecursion P (pending_at at ss) → AllByRecursion P (if t then pending_at at ss else s ∷ ss)
+      by_test : (t : Bool) → AllByRecursion P (pending_at at ss)
+          → AllByRecursion P (if t then pending_at at ss else s ∷ ss)
       by_test true r = r
       by_test false r = h
 
@@ -84,7 +88,8 @@ module _ (at : Level) where
       by_test true e r = (e, r)
       by_test false e r = tt
 
-  next_waits : pos 0 <ℤ at.d → (s t : Start) → s.y ≤ℤ t.y → is_begun at s ≡ false → is_begun at t ≡ false
+  next_waits : pos 0 <ℤ at.d → (s t : Start) → s.y ≤ℤ t.y → is_begun at s ≡ false
+      → is_begun at t ≡ false
   next_waits d s t h e =
       let one : pos 0 <ℤ pos 1 = omega (arith, ints) in
       let a : IsLower at (level_of s.y) = omega (arith, ints) in
@@ -97,7 +102,8 @@ module _ (at : Level) where
   wait_from d s [] e r = (e, tt)
   wait_from d s (t ∷ ss) e r = (e, wait_from d t ss (next_waits d s t r.0 e) r.1)
 
-  pub all_pending : pos 0 <ℤ at.d → (ss : List Start) → AreRising ss → AllByRecursion (λ s. is_begun at s ≡ false) (pending_at at ss)
+  pub all_pending : pos 0 <ℤ at.d → (ss : List Start) → AreRising ss
+      → AllByRecursion (λ s. is_begun at s ≡ false) (pending_at at ss)
   all_pending d [] r = tt
   all_pending d (s ∷ ss) r = by_test (is_begun at s) refl (all_pending d ss (rising_rest s ss r))
     where
@@ -107,9 +113,10 @@ module _ (at : Level) where
       by_test false e q = wait_from d s ss e r
 
 -- a test of starts that is a test of edges, and what is true of these edges' numbers
-pub of_numbers : (edges : List LeafEdge) (at : Level) (t : Bool) (ss : List Start) → AllByRecursion (IsStartOf edges) ss
-    → AllByRecursion (λ s. is_begun at s ≡ t) ss
-    → AllByRecursion (λ k. (k < length edges) × (int_le ((low (edge_at edges k)).y *ℤ at.d) at.n ≡ t)) (numbers_of ss)
+pub of_numbers : (edges : List LeafEdge) (at : Level) (t : Bool) (ss : List Start)
+    → AllByRecursion (IsStartOf edges) ss → AllByRecursion (λ s. is_begun at s ≡ t) ss
+    → AllByRecursion (λ k. (k < length edges) × (int_le ((low (edge_at edges k)).y *ℤ at.d) at.n ≡ t))
+    (numbers_of ss)
 of_numbers edges at t [] h e = tt
 of_numbers edges at t (s ∷ ss) h e = (
   (h.0.there, ap (λ (y : ℤ). int_le (y *ℤ at.d) at.n) (sym h.0.y) ∙ e.0),

@@ -63,7 +63,8 @@ module _ (at : Level) (e f g : Edge) (de : pos 0 <ℤ rise e) (df : pos 0 <ℤ r
 -- ---- neighbours of a sorted list of passages
 -- what a passage says of its edge
 same_edge : (es : List LeafEdge) (at : Level) (p q : Passage) → IsPassageOf es at p → IsPassageOf es at q
-    → p.x *ℤ q.rise ≡ q.x *ℤ p.rise → p.run *ℤ q.rise ≡ q.run *ℤ p.rise → AreAligned at (edge_at es p.number)
+    → p.x *ℤ q.rise ≡ q.x *ℤ p.rise → p.run *ℤ q.rise ≡ q.run *ℤ p.rise
+    → AreAligned at (edge_at es p.number)
     (edge_at es q.number)
 same_edge es at p q hp hq h k =
     let a = rw (hp.x, hq.x, hp.rise, hq.rise) at h in
@@ -79,7 +80,8 @@ before_edge es at p q hp hq (inr h) = let h0 = h.0 in let h1 = h.1 in inr (rw (h
 
 -- one of two neighbours doesn't come after the other
 apart_parts : (a b c d e : Bool) → (a || (not b && (c || (not d && e)))) ≡ false
-    → (a ≡ false) × ((b ≡ true) ⊎ ((b ≡ false) × (c ≡ false) × ((d ≡ true) ⊎ ((d ≡ false) × (e ≡ false)))))
+    → (a ≡ false) × ((b ≡ true) ⊎ ((b ≡ false) × (c ≡ false)
+    × ((d ≡ true) ⊎ ((d ≡ false) × (e ≡ false)))))
 apart_parts true b c d e h = cc
 apart_parts false true c d e h = (refl, inl refl)
 apart_parts false false true d e h = cc
@@ -137,8 +139,8 @@ rises_of : (es : List LeafEdge) (at : Level) (p : Passage) → IsPassageOf es at
 rises_of es at p h = subst (λ (z : ℤ). pos 0 <ℤ z) h.rise p.rises
 
 module _ (es : List LeafEdge) (at : Level) (p q : Passage) (hp : Rises es p.number) (hq : Rises es q.number) where
-  all_aligned : AreAligned at (edge_at es p.number) (edge_at es q.number) → (ks : List ℕ) → AllByRecursion (Rises es) ks
-      → AllByRecursion (λ j. AreAligned at (edge_at es q.number) (edge_at es j)) ks
+  all_aligned : AreAligned at (edge_at es p.number) (edge_at es q.number) → (ks : List ℕ)
+      → AllByRecursion (Rises es) ks → AllByRecursion (λ j. AreAligned at (edge_at es q.number) (edge_at es j)) ks
       → AllByRecursion (λ j. AreAligned at (edge_at es p.number) (edge_at es j)) ks
   all_aligned a [] r h = tt
   all_aligned a (j ∷ ks) r h = (
@@ -198,7 +200,8 @@ bundled es at p (q ∷ ps) h s =
     by_test : (t : Bool) → is_aligned p q ≡ t → (r : Bundled es at q ps)
         → (((p.x *ℤ q.rise) <ℤ (q.x *ℤ p.rise)) ⊎ ((p.x *ℤ q.rise ≡ q.x *ℤ p.rise)
         × ((p.run *ℤ q.rise) <ℤ (q.run *ℤ p.rise))))
-        ⊎ ((p.x *ℤ q.rise ≡ q.x *ℤ p.rise) × (p.run *ℤ q.rise ≡ q.run *ℤ p.rise) × (p.number ≤ q.number))
+        ⊎ ((p.x *ℤ q.rise ≡ q.x *ℤ p.rise) × (p.run *ℤ q.rise ≡ q.run *ℤ p.rise)
+            × (p.number ≤ q.number))
         → Rises es p.number → Rises es q.number → Bundled es at p (q ∷ ps)
     by_test true e r (inr n) hp hq =
         let a = same_edge es at p q h.0 h.1.0 n.0 n.1 in

@@ -16,13 +16,17 @@ abbrev pub numbers_where : (Edge → Bool) → ℕ → List LeafEdge → List �
 numbers_where p k [] = []
 numbers_where p k (e ∷ es) = if p e.edge then k ∷ numbers_where p (k + 1) es else numbers_where p (k + 1) es
 
-pub touching_is : (at : Level) (k : ℕ) (es : List LeafEdge) → touching k es at ≡ numbers_where (λ e. touches e at) k es
+pub touching_is : (at : Level) (k : ℕ) (es : List LeafEdge)
+    → touching k es at ≡ numbers_where (λ e. touches e at) k es
 touching_is at k [] = refl
-touching_is at k (e ∷ es) = ap (λ (ks : List ℕ). if touches e.edge at then k ∷ ks else ks) (touching_is at (k + 1) es)
+touching_is at k (e ∷ es) = ap (λ (ks : List ℕ). if touches e.edge at then k ∷ ks else ks)
+    (touching_is at (k + 1) es)
 
-pub reaching_is : (l u : Level) (k : ℕ) (es : List LeafEdge) → reaching k es l u ≡ numbers_where (λ e. reaches e l u) k es
+pub reaching_is : (l u : Level) (k : ℕ) (es : List LeafEdge)
+    → reaching k es l u ≡ numbers_where (λ e. reaches e l u) k es
 reaching_is l u k [] = refl
-reaching_is l u k (e ∷ es) = ap (λ (ks : List ℕ). if reaches e.edge l u then k ∷ ks else ks) (reaching_is l u (k + 1) es)
+reaching_is l u k (e ∷ es) = ap (λ (ks : List ℕ). if reaches e.edge l u then k ∷ ks else ks)
+    (reaching_is l u (k + 1) es)
 
 pub numbers_are : (k : ℕ) (es : List LeafEdge) → numbers_from k es ≡ numbers_where (λ e. true) k es
 numbers_are k [] = refl
@@ -30,12 +34,14 @@ numbers_are k (e ∷ es) = ap (λ (ks : List ℕ). k ∷ ks) (numbers_are (k + 1
 
 -- edges that stand in a list from a number on
 abbrev pub StandFrom : List LeafEdge → ℕ → List LeafEdge → Type 0
-StandFrom all k es = (i : ℕ) → i < length es → (k + i < length all) × (get_or all (k + i) no_edge ≡ get_or es i no_edge)
+StandFrom all k es = (i : ℕ) → i < length es
+    → (k + i < length all) × (get_or all (k + i) no_edge ≡ get_or es i no_edge)
 
 pub stand_from_first : (es : List LeafEdge) → StandFrom es 0 es
 stand_from_first es i h = let z : 0 + i ≡ i = omega arith in rw z (h, refl)
 
-pub next_from : (all : List LeafEdge) (k : ℕ) (e : LeafEdge) (es : List LeafEdge) → StandFrom all k (e ∷ es) → StandFrom all (k + 1) es
+pub next_from : (all : List LeafEdge) (k : ℕ) (e : LeafEdge) (es : List LeafEdge) → StandFrom all k (e ∷ es)
+    → StandFrom all (k + 1) es
 next_from all k e es h i o = let t = h (suc i) (omega arith) in let q : k + suc i ≡ k + 1 + i = omega arith in rw q at t
 
 pub first_from : (all : List LeafEdge) (k : ℕ) (e : LeafEdge) (es : List LeafEdge) → StandFrom all k (e ∷ es)
@@ -43,7 +49,8 @@ pub first_from : (all : List LeafEdge) (k : ℕ) (e : LeafEdge) (es : List LeafE
 first_from all k e es h = let t = h zero (omega arith) in let z : k + zero ≡ k = omega arith in rw z at t
 
 -- of the numbers that pass a weaker test those that pass this one
-pub filtered : (p q : Edge → Bool) → ((e : Edge) → p e ≡ true → q e ≡ true) → (all : List LeafEdge) (k : ℕ)
+pub filtered : (p q : Edge → Bool) → ((e : Edge) → p e ≡ true → q e ≡ true)
+    → (all : List LeafEdge) (k : ℕ)
     (es : List LeafEdge) → StandFrom all k es
     → filter (λ j. p (edge_at all j)) (numbers_where q k es) ≡ numbers_where p k es
 filtered p q h all k [] f = refl
@@ -56,9 +63,11 @@ filtered p q h all k (e ∷ es) f =
 
     by_tests : (s t : Bool) → p e.edge ≡ s → q e.edge ≡ t → p (edge_at all k) ≡ p e.edge
         → filter (λ j. p (edge_at all j)) (numbers_where q (k + 1) es) ≡ numbers_where p (k + 1) es
-        → filter (λ j. p (edge_at all j)) (if t then k ∷ numbers_where q (k + 1) es else numbers_where q (k + 1) es)
+        → filter (λ j. p (edge_at all j))
+        (if t then k ∷ numbers_where q (k + 1) es else numbers_where q (k + 1) es)
         ≡ (if s then k ∷ numbers_where p (k + 1) es else numbers_where p (k + 1) es)
-    by_tests true true a b c i = ap (λ (t : Bool). cond t (k ∷ more) more) (c ∙ a) ∙ ap (λ (ks : List ℕ). k ∷ ks) i
+    by_tests true true a b c i = ap (λ (t : Bool). cond t (k ∷ more) more) (c ∙ a)
+        ∙ ap (λ (ks : List ℕ). k ∷ ks) i
     by_tests true false a b c i = absurd (true≢false (sym (h e.edge a) ∙ b))
     by_tests false true a b c i = ap (λ (t : Bool). cond t (k ∷ more) more) (c ∙ a) ∙ i
     by_tests false false a b c i = i
@@ -67,7 +76,8 @@ filtered p q h all k (e ∷ es) f =
 pub all_where : (p : Edge → Bool) (all : List LeafEdge) (k : ℕ) (es : List LeafEdge) → StandFrom all k es
     → AllByRecursion (λ j. (j < length all) × (p (edge_at all j) ≡ true)) (numbers_where p k es)
 all_where p all k [] f = tt
-all_where p all k (e ∷ es) f = by_test (p e.edge) refl (first_from all k e es f) (all_where p all (k + 1) es (next_from all k e es f))
+all_where p all k (e ∷ es) f = by_test (p e.edge) refl (first_from all k e es f)
+    (all_where p all (k + 1) es (next_from all k e es f))
   where
     by_test : (t : Bool) → p e.edge ≡ t → (k < length all) × (get_or all k no_edge ≡ e)
         → AllByRecursion (λ j. (j < length all) × (p (edge_at all j) ≡ true)) (numbers_where p (k + 1) es)
@@ -77,7 +87,8 @@ all_where p all k (e ∷ es) f = by_test (p e.edge) refl (first_from all k e es 
     by_test false a c r = r
 
 -- they rise
-pub from_number : (p : Edge → Bool) (n k : ℕ) (es : List LeafEdge) → n < k → AllByRecursion (λ j. n < j) (numbers_where p k es)
+pub from_number : (p : Edge → Bool) (n k : ℕ) (es : List LeafEdge) → n < k
+    → AllByRecursion (λ j. n < j) (numbers_where p k es)
 from_number p n k [] h = tt
 from_number p n k (e ∷ es) h = by_test (p e.edge) (from_number p n (k + 1) es (omega arith))
   where
@@ -114,15 +125,16 @@ once_from p k (e ∷ es) (suc i) h a =
   where
     by_test : (t : Bool) → times (k + 1 + i) (numbers_where p (k + 1) es) ≡ 1
         → times (k + 1 + i) (if t then k ∷ numbers_where p (k + 1) es else numbers_where p (k + 1) es) ≡ 1
-    by_test true r = times_other (k + 1 + i) k (numbers_where p (k + 1) es) (other_number k (k + 1 + i) (λ q. omega arith)) ∙ r
+    by_test true r = times_other (k + 1 + i) k (numbers_where p (k + 1) es)
+        (other_number k (k + 1 + i) (λ q. omega arith)) ∙ r
     by_test false r = r
 
 pub once_where : (p : Edge → Bool) (es : List LeafEdge) (n : ℕ) → n < length es → p (edge_at es n) ≡ true
     → times n (numbers_where p 0 es) ≡ 1
 once_where p es n h a = let z : 0 + n ≡ n = omega arith in let r = once_from p 0 es n h a in rw z at r
 
-pub none_where : (p : Edge → Bool) (es : List LeafEdge) (n : ℕ) → ((n < length es) → p (edge_at es n) ≡ true → ⊥)
-    → times n (numbers_where p 0 es) ≡ 0
+pub none_where : (p : Edge → Bool) (es : List LeafEdge) (n : ℕ)
+    → ((n < length es) → p (edge_at es n) ≡ true → ⊥) → times n (numbers_where p 0 es) ≡ 0
 none_where p es n h = by_count (times n (numbers_where p 0 es)) refl
   where
     by_count : (m : ℕ) → times n (numbers_where p 0 es) ≡ m → m ≡ 0

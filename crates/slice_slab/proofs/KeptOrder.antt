@@ -24,7 +24,8 @@ place at e = record { n = x_at e at.n at.d; d = rise e }
 -- what holds of two edges holds of edges at the same places
 abbrev Moves : Level → (Edge → Edge → Type 0) → Type 0
 Moves at R =
-    (m k j i : Edge) → pos 0 <ℤ rise m → pos 0 <ℤ rise k → pos 0 <ℤ rise j → pos 0 <ℤ rise i → IsSamePlaceAt at m k
+    (m k j i : Edge) → pos 0 <ℤ rise m → pos 0 <ℤ rise k → pos 0 <ℤ rise j → pos 0 <ℤ rise i
+        → IsSamePlaceAt at m k
     → R k j → IsSamePlaceAt at j i → R m i
 
 moves_left : (at : Level) → Moves at (IsLeftAt at)
@@ -48,7 +49,8 @@ moves_same at m k j i pm pk pj pi e h f =
 module _ (es : List LeafEdge) (l u : Level) (n : AreNeighbours es l u) where
   -- ---- from the first edges of bundles to all
   -- each edge of a bundle lies where its first does
-  same_as_first : (at : Level) (k : ℕ) (ks : List ℕ) → AllByRecursion (λ j. AreAligned l (edge_at es k) (edge_at es j))
+  same_as_first : (at : Level) (k : ℕ) (ks : List ℕ)
+      → AllByRecursion (λ j. AreAligned l (edge_at es k) (edge_at es j))
       ks → AllByRecursion (λ j. IsSamePlaceAt at (edge_at es k) (edge_at es j)) ks
   same_as_first at k [] a = tt
   same_as_first at k (j ∷ js) a = (
@@ -81,7 +83,8 @@ module _ (es : List LeafEdge) (l u : Level) (n : AreNeighbours es l u) where
           lk lj ls e.1 h f,
     )
 
-    bundles_stand : (k : ℕ) (ks : List ℕ) (j : ℕ) (js : List ℕ) → IsBundle es l (k ∷ ks) → IsBundle es l (j ∷ js)
+    bundles_stand : (k : ℕ) (ks : List ℕ) (j : ℕ) (js : List ℕ) → IsBundle es l (k ∷ ks)
+        → IsBundle es l (j ∷ js)
         → AllByRecursion (IsLive es l u) (k ∷ ks) → AllByRecursion (IsLive es l u) (j ∷ js)
         → R (edge_at es k) (edge_at es j) → AllStand R es (k ∷ ks) (j ∷ js)
     bundles_stand k ks j js bk bj lk lj h = all_stand (k ∷ ks) k j (j ∷ js) lk lk.0 lj.0 lj
@@ -89,8 +92,8 @@ module _ (es : List LeafEdge) (l u : Level) (n : AreNeighbours es l u) where
 
     module _ (heads : (k j : ℕ) → IsLive es l u k → IsLive es l u j → Precedes es l (k ∷ []) (j ∷ []) → R (edge_at es k) (edge_at es j)) where
       before_later : (k : ℕ) (ks : List ℕ) (bs : List (List ℕ)) → IsBundle es l (k ∷ ks)
-          → AllByRecursion (IsLive es l u) (k ∷ ks) → AllByRecursion (Precedes es l (k ∷ ks)) bs → AreRanked es l bs
-          → AllByRecursion (IsLive es l u) (concat bs)
+          → AllByRecursion (IsLive es l u) (k ∷ ks) → AllByRecursion (Precedes es l (k ∷ ks)) bs
+          → AreRanked es l bs → AllByRecursion (IsLive es l u) (concat bs)
           → AllByRecursion (AllStand R es (k ∷ ks)) bs
       before_later k ks [] bk lk o r ls = tt
       before_later k ks ([] ∷ bs) bk lk o r ls = absurd r.0
@@ -112,8 +115,8 @@ module _ (es : List LeafEdge) (l u : Level) (n : AreNeighbours es l u) where
                 rest,
           )
 
-  all_together : (at : Level) (bs : List (List ℕ)) → AreRanked es l bs → AllByRecursion (IsLive es l u) (concat bs)
-      → AllByRecursion (λ b. AllStand (IsSamePlaceAt at) es b b) bs
+  all_together : (at : Level) (bs : List (List ℕ)) → AreRanked es l bs
+      → AllByRecursion (IsLive es l u) (concat bs) → AllByRecursion (λ b. AllStand (IsSamePlaceAt at) es b b) bs
   all_together at [] r ls = tt
   all_together at ([] ∷ bs) r ls = absurd r.0
   all_together at ((k ∷ ks) ∷ bs) r ls =

@@ -20,8 +20,8 @@ lexicographic lt mt a b = record {
       (a.chain x y z) (a.chain z x y) (a.chain y z x) (b.chain x y z) h k;
 }
   where
-    one : (s t u v : Bool) → (s ≡ true → t ≡ false) → (u ≡ true → v ≡ false) → (s || (not t && u)) ≡ true
-        → (t || (not s && v)) ≡ false
+    one : (s t u v : Bool) → (s ≡ true → t ≡ false) → (u ≡ true → v ≡ false)
+        → (s || (not t && u)) ≡ true → (t || (not s && v)) ≡ false
     one true true u v p q h = let e = p refl in cc
     one true false u v p q h = refl
     one false true u v p q h = cc

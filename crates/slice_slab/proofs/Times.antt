@@ -30,7 +30,8 @@ times_other n k ks e = ap (λ (b : Bool). (if b then 1 else 0) + times n ks) e �
 
 pub times-append : (n : ℕ) (xs ys : List ℕ) → times n (xs ++ ys) ≡ times n xs + times n ys
 times-append n [] ys = sym (zero-add (times n ys))
-times-append n (k ∷ ks) ys = added (if k == n then 1 else 0) (times n (ks ++ ys)) (times n ks) (times n ys) (times-append n ks ys)
+times-append n (k ∷ ks) ys = added (if k == n then 1 else 0) (times n (ks ++ ys)) (times n ks) (times n ys)
+    (times-append n ks ys)
   where
     added : (a b c d : ℕ) → b ≡ c + d → a + b ≡ a + c + d
     added a b c d h = omega arith
@@ -46,7 +47,8 @@ times_permuted n xs ys h =
     times_sum n ys ∙ sum_by-IsPermutation (λ (k : ℕ). if k == n then 1 else 0) xs ys h ∙ sym (times_sum n xs)
 
 -- a test that a number passes loses none of it, and one that it doesn't pass all
-pub times_kept : (p : ℕ → Bool) (n : ℕ) → p n ≡ true → (xs : List ℕ) → times n (filter p xs) ≡ times n xs
+pub times_kept : (p : ℕ → Bool) (n : ℕ) → p n ≡ true → (xs : List ℕ)
+    → times n (filter p xs) ≡ times n xs
 times_kept p n t [] = refl
 times_kept p n t (k ∷ ks) = by_tests (times_kept p n t ks) (p k) (k == n) refl refl
   where
@@ -83,7 +85,8 @@ AreStrict (k ∷ ks) = AllByRecursion (λ j. k < j) ks × AreStrict ks
 none_stands : (n m : ℕ) → 0 ≡ m → m ≡ 1 + n → ⊥
 none_stands n m h k = omega arith
 
-pub same_counts : (xs ys : List ℕ) → AreStrict xs → Ascends ys → ((n : ℕ) → times n xs ≡ times n ys) → ys ≡ xs
+pub same_counts : (xs ys : List ℕ) → AreStrict xs → Ascends ys → ((n : ℕ) → times n xs ≡ times n ys)
+    → ys ≡ xs
 same_counts [] [] s a h = refl
 same_counts [] (y ∷ ys) s a h = absurd (none_stands (times y ys) (times y (y ∷ ys)) (h y) (times_here y ys))
 same_counts (x ∷ xs) [] s a h = absurd (none_stands (times x xs) (times x (x ∷ xs)) (sym (h x)) (times_here x xs))
@@ -101,7 +104,8 @@ same_counts (x ∷ xs) (y ∷ ys) s a h =
     at_least k m l p q = omega arith
 
     not_above : y ≤ x
-    not_above = standing (λ j. y ≤ j) x (y ∷ ys) (omega arith, a.0) (at_least (times x (x ∷ xs)) (times x (y ∷ ys))
+    not_above = standing (λ j. y ≤ j) x (y ∷ ys) (omega arith, a.0)
+        (at_least (times x (x ∷ xs)) (times x (y ∷ ys))
         (times x xs) (times_here x xs) (sym (h x)))
 
     not_below : x ≤ y

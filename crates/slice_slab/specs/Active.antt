@@ -29,7 +29,8 @@ times n (k ∷ ks) = (if k == n then 1 else 0) + times n ks
 pub record CoverHeight (edges : List LeafEdge) (at : Level) (live : List ℕ) (pending : List Start) : Type 0 where
   pub begun : AllByRecursion (λ k. int_le ((low (edge_at edges k)).y *ℤ at.d) at.n ≡ true) live
   pub once : (k : ℕ) → times k (live ++ numbers_of pending) ≤ 1
-  pub all : (k : ℕ) → k < length edges → touches (edge_at edges k) at ≡ true → times k (live ++ numbers_of pending) ≡ 1
+  pub all : (k : ℕ) → k < length edges → touches (edge_at edges k) at ≡ true
+      → times k (live ++ numbers_of pending) ≡ 1
 
 -- it can be lifted to a height, and to those above it
 pub record IsReadyFor (edges : List LeafEdge) (at : Level) (a : Active) : Type 0 where
@@ -37,7 +38,8 @@ pub record IsReadyFor (edges : List LeafEdge) (at : Level) (a : Active) : Type 0
   pub rising : AreRising a.starts.items
   pub begun : a.begun ≤ length a.starts.items
   pub there : All (λ k. k < length edges) a.live.items
-  pub later : (h : Level) → pos 0 <ℤ h.d → IsAtMost at h → CoverHeight edges h a.live.items (drop a.begun a.starts.items)
+  pub later : (h : Level) → pos 0 <ℤ h.d → IsAtMost at h
+      → CoverHeight edges h a.live.items (drop a.begun a.starts.items)
 
 -- it can be lifted on from a height
 abbrev pub StandsAt : List LeafEdge → Level → Active → Type 0

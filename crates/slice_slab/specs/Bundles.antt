@@ -10,7 +10,8 @@ use Rattle.scad_geom.specs.EdgeOrder.{IsBefore, AreAligned}
 
 -- what stands for an edge past the end of a list
 abbrev pub no_edge : LeafEdge
-no_edge = record { leaf = 0; edge = record { a = record { x = pos 0; y = pos 0 }; b = record { x = pos 0; y = pos 0 } } }
+no_edge = record { leaf = 0; edge = record { a = record { x = pos 0; y = pos 0 }; b = record { x = pos 0; y = pos 0 } }
+    }
 
 -- the edge of a number
 abbrev pub edge_at : List LeafEdge → ℕ → Edge
@@ -18,12 +19,14 @@ edge_at edges k = (slice_index_or edges k no_edge).edge
 
 -- whether an edge isn't flat and reaches both heights
 unfoldable pub reaches : Edge → Level → Level → Bool
-reaches e lower upper = int_lt (pos 0) (rise e) && (int_le ((low e).y *ℤ lower.d) lower.n && int_le upper.n ((high e).y *ℤ upper.d))
+reaches e lower upper = int_lt (pos 0) (rise e)
+    && (int_le ((low e).y *ℤ lower.d) lower.n && int_le upper.n ((high e).y *ℤ upper.d))
 
 -- the numbers of the edges that reach both heights, counted from the first number on
 abbrev pub reaching : ℕ → List LeafEdge → Level → Level → List ℕ
 reaching k [] lower upper = []
-reaching k (e ∷ es) lower upper = if reaches e.edge lower upper then k ∷ reaching (k + 1) es lower upper else reaching (k + 1) es lower upper
+reaching k (e ∷ es) lower upper = if reaches e.edge lower upper then k
+    ∷ reaching (k + 1) es lower upper else reaching (k + 1) es lower upper
 
 -- numbers none of which is greater than a later one
 abbrev pub Ascends : List ℕ → Type 0
@@ -33,7 +36,8 @@ Ascends (k ∷ ks) = AllByRecursion (λ j. k ≤ j) ks × Ascends ks
 -- the numbers, ascending, of edges that coincide above a height
 abbrev pub IsBundle : List LeafEdge → Level → List ℕ → Type 0
 IsBundle edges at [] = ⊥
-IsBundle edges at (k ∷ ks) = Ascends (k ∷ ks) × AllByRecursion (λ j. AreAligned at (edge_at edges k) (edge_at edges j)) ks
+IsBundle edges at (k ∷ ks) = Ascends (k ∷ ks)
+    × AllByRecursion (λ j. AreAligned at (edge_at edges k) (edge_at edges j)) ks
 
 -- the edges of one bundle lie before those of another, by the first of each
 abbrev pub Precedes : List LeafEdge → Level → List ℕ → List ℕ → Type 0

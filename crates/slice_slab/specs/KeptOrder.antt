@@ -28,16 +28,20 @@ abbrev pub AllStandInOrder : (Edge → Edge → Type 0) → List LeafEdge → Li
 AllStandInOrder R edges [] = ⊤
 AllStandInOrder R edges (b ∷ bs) = AllByRecursion (AllStand R edges b) bs × AllStandInOrder R edges bs
 
--- from the lower height to the upper one no bundle comes to the right of a later one; strictly between them each lies to the
+-- from the lower height to the upper one no bundle comes to the right of a later one; strictly between them each lies
+-- to the
 -- left of the later ones. The edges of one bundle lie at one place at every height
 pub record KeepOrder (edges : List LeafEdge) (lower upper : Level) (bundles : List (List ℕ)) : Type 0 where
-  pub throughout : (at : Level) → pos 0 <ℤ at.d → IsAtMost lower at → IsAtMost at upper → AllStandInOrder (IsNotRightAt at) edges bundles
-  pub between : (at : Level) → pos 0 <ℤ at.d → IsLower lower at → IsLower at upper → AllStandInOrder (IsLeftAt at) edges bundles
+  pub throughout : (at : Level) → pos 0 <ℤ at.d → IsAtMost lower at → IsAtMost at upper
+      → AllStandInOrder (IsNotRightAt at) edges bundles
+  pub between : (at : Level) → pos 0 <ℤ at.d → IsLower lower at → IsLower at upper
+      → AllStandInOrder (IsLeftAt at) edges bundles
   pub together : (at : Level) → AllByRecursion (λ b. AllStand (IsSamePlaceAt at) edges b b) bundles
 
 -- ---- the law
 -- The bundles between two neighbouring heights, ordered at the lower one, keep their order up to the upper one.
 abbrev pub BundlesKeepOrder : Type 0
 BundlesKeepOrder =
-    (edges : List LeafEdge) (lower upper : Level) (bundles : List (List ℕ)) → AreNeighbours edges lower upper → AreBundles edges lower upper bundles
+    (edges : List LeafEdge) (lower upper : Level) (bundles : List (List ℕ)) → AreNeighbours edges lower upper
+        → AreBundles edges lower upper bundles
     → KeepOrder edges lower upper bundles

@@ -42,7 +42,8 @@ joined k (b ∷ bs) = (k ∷ b) ∷ bs
 abbrev pub bundles_of : List Passage → List (List ℕ)
 bundles_of [] = []
 bundles_of (p ∷ []) = (p.number ∷ []) ∷ []
-bundles_of (p ∷ (q ∷ ps)) = if is_aligned p q then joined p.number (bundles_of (q ∷ ps)) else (p.number ∷ []) ∷ bundles_of (q ∷ ps)
+bundles_of (p ∷ (q ∷ ps)) = if is_aligned p q then joined p.number (bundles_of (q ∷ ps)) else (p.number ∷ [])
+    ∷ bundles_of (q ∷ ps)
 
 -- the first bundle with these numbers before its own
 abbrev pub prefixed : List ℕ → List (List ℕ) → List (List ℕ)

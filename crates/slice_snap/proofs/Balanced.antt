@@ -24,8 +24,10 @@ pub proper_within : (limit : ℕ) (q : Piece) → IsPieceWithin limit q → IsPr
 proper_within limit q w = record { from = divisor_above limit q.from w.from; to = divisor_above limit q.to w.to }
 
 -- ---- merging
-pub merged_balanced : (qs rs : List Piece) → AreMerged qs rs → All (λ q. IsProper (way_of q)) qs → ArePiecesBalanced qs → ArePiecesBalanced rs
-merged_balanced qs rs (all_joined none m) proper b = order_keeps_balance (ways_of qs) (ways_of rs) (IsPermutation-map way_of qs rs m) b
+pub merged_balanced : (qs rs : List Piece) → AreMerged qs rs → All (λ q. IsProper (way_of q)) qs
+    → ArePiecesBalanced qs → ArePiecesBalanced rs
+merged_balanced qs rs (all_joined none m) proper b
+    = order_keeps_balance (ways_of qs) (ways_of rs) (IsPermutation-map way_of qs rs m) b
 merged_balanced qs rs (two_join f s others m a) proper b =
     let P : Piece → Type 0 = λ q. IsProper (way_of q) in
     let all : All P (f ∷ (s ∷ others)) = All-permutation P qs (f ∷ (s ∷ others)) m.two proper in
@@ -37,15 +39,21 @@ merged_balanced qs rs (two_join f s others m a) proper b =
     (All-cons P (joined f s) others (record { from = one.from; to = two.to }) rest)
     (joining_keeps_balance (way_of f) (way_of s) (ways_of others) one two m.meet apart)
 
-pub merging_keeps_balance : (limit : ℕ) (qs rs : List Piece) → All (IsPieceWithin limit) qs → AreMerged qs rs → ArePiecesBalanced qs → ArePiecesBalanced rs
-merging_keeps_balance limit qs rs within a b = merged_balanced qs rs a (All-weaker (IsPieceWithin limit) (λ q. IsProper (way_of q)) (proper_within limit) qs within) b
+pub merging_keeps_balance : (limit : ℕ) (qs rs : List Piece) → All (IsPieceWithin limit) qs → AreMerged qs rs
+    → ArePiecesBalanced qs → ArePiecesBalanced rs
+merging_keeps_balance limit qs rs within a b
+    = merged_balanced qs rs a (All-weaker (IsPieceWithin limit) (λ q. IsProper (way_of q)) (proper_within limit) qs
+    within) b
 
 -- ---- rounding
-pub edges_balanced : (limit : ℕ) (qs : List Piece) (es : List Edge) → All (IsPieceWithin limit) qs → es ≡ rounded_edges qs → ArePiecesBalanced qs → IsBalanced (segments es)
+pub edges_balanced : (limit : ℕ) (qs : List Piece) (es : List Edge) → All (IsPieceWithin limit) qs
+    → es ≡ rounded_edges qs → ArePiecesBalanced qs → IsBalanced (segments es)
 edges_balanced limit qs es within e b =
     let proper : All IsProper (ways_of qs) = All-map IsProper way_of qs (All-weaker (IsPieceWithin limit) (λ q. IsProper (way_of q)) (proper_within limit) qs within) in
-    subst (λ (fs : List Edge). IsBalanced (segments fs)) (sym e) (lengths_keep_balance (map rounded_edge (ways_of qs)) (rounding_keeps_balance (ways_of qs) proper b))
+    subst (λ (fs : List Edge). IsBalanced (segments fs)) (sym e)
+        (lengths_keep_balance (map rounded_edge (ways_of qs)) (rounding_keeps_balance (ways_of qs) proper b))
 
 -- ---- cancelling
-pub left_balanced : (es left : List Edge) → AreCancelled es left → IsBalanced (segments es) → IsBalanced (segments left)
+pub left_balanced : (es left : List Edge) → AreCancelled es left → IsBalanced (segments es)
+    → IsBalanced (segments left)
 left_balanced es left c b = cancelling_keeps_balance es left c.pairs c.taken b

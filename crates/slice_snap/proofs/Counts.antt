@@ -36,7 +36,8 @@ module _ {X : Type 0} (same : X → X → Bool) (itself : (x : X) → same x x �
   times_none x [] h = refl
   times_none x (y ∷ ys) h =
       times-cons x y ys
-      ∙ ap₂ (λ (b : Bool) (n : ℕ). once b + n) (apart (same x y) refl) (times_none x ys (All-tail (λ z. z ≡ x → ⊥) y ys h))
+      ∙ ap₂ (λ (b : Bool) (n : ℕ). once b + n) (apart (same x y) refl)
+      (times_none x ys (All-tail (λ z. z ≡ x → ⊥) y ys h))
     where
       apart : (b : Bool) → same x y ≡ b → b ≡ false
       apart false e = refl
@@ -47,11 +48,14 @@ module _ {X : Type 0} (same : X → X → Bool) (itself : (x : X) → same x x �
   take_out x [] h = absurd (omega arith)
   take_out x (y ∷ ys) h = by_test (take_out x ys) (same x y) refl
     where
-      by_test : (1 ≤ times x ys → (rest : List X) × IsPermutation ys (x ∷ rest)) → (b : Bool) → same x y ≡ b → (rest : List X) × IsPermutation (y ∷ ys) (x ∷ rest)
-      by_test more true e = (ys, subst (λ (z : X). IsPermutation (y ∷ ys) (z ∷ ys)) (sym (one x y e)) (IsPermutation-refl (y ∷ ys)))
+      by_test : (1 ≤ times x ys → (rest : List X) × IsPermutation ys (x ∷ rest)) → (b : Bool)
+          → same x y ≡ b → (rest : List X) × IsPermutation (y ∷ ys) (x ∷ rest)
+      by_test more true e = (ys, subst (λ (z : X). IsPermutation (y ∷ ys) (z ∷ ys)) (sym (one x y e))
+          (IsPermutation-refl (y ∷ ys)))
       by_test more false e =
           let r = more (some_more (times x (y ∷ ys)) (times x ys) h (times-cons x y ys ∙ ap (λ (b : Bool). once b + times x ys) e)) in
-          (y ∷ r.0, IsPermutation-trans (y ∷ ys) (y ∷ (x ∷ r.0)) (x ∷ (y ∷ r.0)) (IsPermutation-cons y ys (x ∷ r.0) r.1) (IsPermutation-middle (y ∷ []) x r.0))
+          (y ∷ r.0, IsPermutation-trans (y ∷ ys) (y ∷ (x ∷ r.0)) (x ∷ (y ∷ r.0))
+              (IsPermutation-cons y ys (x ∷ r.0) r.1) (IsPermutation-middle (y ∷ []) x r.0))
 
   pub from_times : (xs ys : List X) → ((x : X) → times x xs ≡ times x ys) → IsPermutation xs ys
   from_times [] [] h = IsPermutation-refl []
@@ -60,12 +64,14 @@ module _ {X : Type 0} (same : X → X → Bool) (itself : (x : X) → same x x �
       let f = take_out x ys (at_least_one (times x ys) (times x xs) (times x (x ∷ xs)) (times_first x xs) (h x)) in
       IsPermutation-trans (x ∷ xs) (x ∷ f.0) ys
       (IsPermutation-cons x xs f.0 (from_times xs f.0
-      (λ z. same_rest (once (same z x)) (times z xs) (times z f.0) (times z (x ∷ xs)) (times z (x ∷ f.0)) (times-cons z x xs) (times-cons z x f.0)
+      (λ z. same_rest (once (same z x)) (times z xs) (times z f.0) (times z (x ∷ xs)) (times z (x ∷ f.0))
+          (times-cons z x xs) (times-cons z x f.0)
       (h z ∙ times_permuted z ys (x ∷ f.0) f.1))))
       (IsPermutation-sym ys (x ∷ f.0) f.1)
 
   pub without_first : (x : X) (xs ys : List X) → IsPermutation (x ∷ xs) (x ∷ ys) → IsPermutation xs ys
   without_first x xs ys m =
       from_times xs ys
-      (λ z. same_rest (once (same z x)) (times z xs) (times z ys) (times z (x ∷ xs)) (times z (x ∷ ys)) (times-cons z x xs) (times-cons z x ys)
+      (λ z. same_rest (once (same z x)) (times z xs) (times z ys) (times z (x ∷ xs)) (times z (x ∷ ys))
+          (times-cons z x xs) (times-cons z x ys)
       (times_permuted z (x ∷ xs) (x ∷ ys) m))

@@ -39,15 +39,18 @@ module _ (a b c : Point) (da : pos 0 <ℤ a.d) (db : pos 0 <ℤ b.d) (dc : pos 0
   before_through (inl h) (inl k) = inl (lower_chain (height a) (height b) (height c) da db dc h k)
   before_through (inl h) (inr k) = inl (lower_same (height a) (height b) (height c) da db dc h k.0)
   before_through (inr h) (inl k) = inl (same_lower (height a) (height b) (height c) da db dc h.0 k)
-  before_through (inr h) (inr k) = inr (same_chain (height a) (height b) (height c) da db dc h.0 k.0, lower_chain (across a) (across b) (across c) da db dc h.1 k.1)
+  before_through (inr h) (inr k) = inr (same_chain (height a) (height b) (height c) da db dc h.0 k.0,
+      lower_chain (across a) (across b) (across c) da db dc h.1 k.1)
 
   before_same : IsBefore a b → is_same_point b c ≡ true → IsBefore a c
   before_same (inl h) e = inl (lower_same (height a) (height b) (height c) da db dc h (same_height b c e))
-  before_same (inr h) e = inr (same_chain (height a) (height b) (height c) da db dc h.0 (same_height b c e), lower_same (across a) (across b) (across c) da db dc h.1 (same_across b c e))
+  before_same (inr h) e = inr (same_chain (height a) (height b) (height c) da db dc h.0 (same_height b c e),
+      lower_same (across a) (across b) (across c) da db dc h.1 (same_across b c e))
 
   same_before : is_same_point a b ≡ true → IsBefore b c → IsBefore a c
   same_before e (inl k) = inl (same_lower (height a) (height b) (height c) da db dc (same_height a b e) k)
-  same_before e (inr k) = inr (same_chain (height a) (height b) (height c) da db dc (same_height a b e) k.0, same_lower (across a) (across b) (across c) da db dc (same_across a b e) k.1)
+  same_before e (inr k) = inr (same_chain (height a) (height b) (height c) da db dc (same_height a b e) k.0,
+      same_lower (across a) (across b) (across c) da db dc (same_across a b e) k.1)
 
 not_itself : (a : Point) → IsBefore a a → ⊥
 not_itself a (inl h) = omega (arith, ints)
@@ -62,7 +65,8 @@ Runs true q = IsBefore (point_of q.from) (point_of q.to)
 Runs false q = IsBefore (point_of q.to) (point_of q.from)
 
 both_ways : (q : Piece) → IsProper (way_of q) → Runs true q → Runs false q → ⊥
-both_ways q p h k = not_itself (point_of q.from) (before_through (point_of q.from) (point_of q.to) (point_of q.from) p.from p.to p.from h k)
+both_ways q p h k = not_itself (point_of q.from)
+    (before_through (point_of q.from) (point_of q.to) (point_of q.from) p.from p.to p.from h k)
 
 one_way : (b c : Bool) (q : Piece) → IsProper (way_of q) → Runs b q → Runs c q → b ≡ c
 one_way true true q p h k = refl
@@ -70,16 +74,22 @@ one_way true false q p h k = absurd (both_ways q p h k)
 one_way false true q p h k = absurd (both_ways q p k h)
 one_way false false q p h k = refl
 
-joined_runs : (b : Bool) (f s : Piece) → IsProper (way_of f) → IsProper (way_of s) → is_same_spot f.to s.from ≡ true → Runs b f → Runs b s → Runs b (joined f s)
+joined_runs : (b : Bool) (f s : Piece) → IsProper (way_of f) → IsProper (way_of s)
+    → is_same_spot f.to s.from ≡ true → Runs b f → Runs b s → Runs b (joined f s)
 joined_runs true f s p r m h k =
-    before_through (point_of f.from) (point_of f.to) (point_of s.to) p.from p.to r.to h (same_before (point_of f.to) (point_of s.from) (point_of s.to) p.to r.from r.to m k)
+    before_through (point_of f.from) (point_of f.to) (point_of s.to) p.from p.to r.to h
+        (same_before (point_of f.to) (point_of s.from) (point_of s.to) p.to r.from r.to m k)
 joined_runs false f s p r m h k =
     before_through (point_of s.to) (point_of s.from) (point_of f.from) r.to r.from p.from k
-    (same_before (point_of s.from) (point_of f.to) (point_of f.from) r.from p.to p.from (turn_same (point_of f.to) (point_of s.from) m) h)
+    (same_before (point_of s.from) (point_of f.to) (point_of f.from) r.from p.to p.from
+        (turn_same (point_of f.to) (point_of s.from) m) h)
 
 no_round : (b : Bool) (q : Piece) → IsProper (way_of q) → is_same_spot q.to q.from ≡ true → Runs b q → ⊥
-no_round true q p e h = not_itself (point_of q.from) (before_same (point_of q.from) (point_of q.to) (point_of q.from) p.from p.to p.from h e)
-no_round false q p e h = not_itself (point_of q.to) (before_same (point_of q.to) (point_of q.from) (point_of q.to) p.to p.from p.to h (turn_same (point_of q.to) (point_of q.from) e))
+no_round true q p e h = not_itself (point_of q.from)
+    (before_same (point_of q.from) (point_of q.to) (point_of q.from) p.from p.to p.from h e)
+no_round false q p e h = not_itself (point_of q.to)
+    (before_same (point_of q.to) (point_of q.from) (point_of q.to) p.to p.from p.to h
+    (turn_same (point_of q.to) (point_of q.from) e))
 
 -- ---- members of a list
 pub is_first : (x : Piece) (xs : List Piece) → Contains (x ∷ xs) x
@@ -101,7 +111,8 @@ OneCourse q r = (b : Bool) × Runs b q × Runs b r
 
 pub record KeepCourse (pieces : List Piece) : Type 0 where
   pub proper : (q : Piece) → Contains pieces q → IsProper (way_of q)
-  pub course : (q r : Piece) → Contains pieces q → Contains pieces r → q.edge ≡ r.edge → is_same_spot q.to r.from ≡ true → OneCourse q r
+  pub course : (q r : Piece) → Contains pieces q → Contains pieces r → q.edge ≡ r.edge
+      → is_same_spot q.to r.from ≡ true → OneCourse q r
 
 module _ (old : List Piece) (f s : Piece) (others : List Piece) (m : MeetAlone old f s others) (h : KeepCourse old) where
   abbrev two : List Piece
@@ -130,7 +141,8 @@ module _ (old : List Piece) (f s : Piece) (others : List Piece) (m : MeetAlone o
 
   -- they don't come back to the start
   pub no_way_back : is_same_spot s.to f.from ≡ true → ⊥
-  no_way_back e = no_round own.0 (joined f s) (record { from = pf.from; to = ps.to }) e (joined_runs own.0 f s pf ps m.meet own.1 own.2)
+  no_way_back e = no_round own.0 (joined f s) (record { from = pf.from; to = ps.to }) e
+      (joined_runs own.0 f s pf ps m.meet own.1 own.2)
 
   kept_proper : (q : Piece) → Contains (joined f s ∷ others) q → IsProper (way_of q)
   kept_proper q c = by_case (first_or_later (joined f s) q others c)
@@ -139,52 +151,64 @@ module _ (old : List Piece) (f s : Piece) (others : List Piece) (m : MeetAlone o
       by_case (inl e) = subst (λ (x : Piece). IsProper (way_of x)) e (record { from = pf.from; to = ps.to })
       by_case (inr k) = h.proper q (has_other q k)
 
-  from_joined : (r : Piece) → Contains others r → f.edge ≡ r.edge → is_same_spot s.to r.from ≡ true → OneCourse (joined f s) r
+  from_joined : (r : Piece) → Contains others r → f.edge ≡ r.edge → is_same_spot s.to r.from ≡ true
+      → OneCourse (joined f s) r
   from_joined r c n e =
       let on = h.course s r has_s (has_other r c) (sym m.name ∙ n) e in
       let same = one_way own.0 on.0 s ps own.2 on.1 in
       (own.0, joined_runs own.0 f s pf ps m.meet own.1 own.2, subst (λ (b : Bool). Runs b r) (sym same) on.2)
 
-  to_joined : (q : Piece) → Contains others q → q.edge ≡ f.edge → is_same_spot q.to f.from ≡ true → OneCourse q (joined f s)
+  to_joined : (q : Piece) → Contains others q → q.edge ≡ f.edge → is_same_spot q.to f.from ≡ true
+      → OneCourse q (joined f s)
   to_joined q c n e =
       let on = h.course q f (has_other q c) has_f n e in
       let same = one_way own.0 on.0 f pf own.1 on.2 in
       (own.0, subst (λ (b : Bool). Runs b q) (sym same) on.1, joined_runs own.0 f s pf ps m.meet own.1 own.2)
 
-  kept_course : (q r : Piece) → Contains (joined f s ∷ others) q → Contains (joined f s ∷ others) r → q.edge ≡ r.edge → is_same_spot q.to r.from ≡ true → OneCourse q r
+  kept_course : (q r : Piece) → Contains (joined f s ∷ others) q → Contains (joined f s ∷ others) r
+      → q.edge ≡ r.edge → is_same_spot q.to r.from ≡ true → OneCourse q r
   kept_course q r c d n e = by_cases (first_or_later (joined f s) q others c) (first_or_later (joined f s) r others d)
     where
       by_cases : (joined f s ≡ q) ⊎ Contains others q → (joined f s ≡ r) ⊎ Contains others r → OneCourse q r
-      by_cases (inl x) (inl y) = absurd (no_way_back (subst (λ (p : Piece). is_same_spot s.to p.from ≡ true) (sym y) (subst (λ (p : Piece). is_same_spot p.to r.from ≡ true) (sym x) e)))
+      by_cases (inl x) (inl y) = absurd (no_way_back
+          (subst (λ (p : Piece). is_same_spot s.to p.from ≡ true) (sym y)
+          (subst (λ (p : Piece). is_same_spot p.to r.from ≡ true) (sym x) e)))
       by_cases (inl x) (inr l) =
           subst (λ (p : Piece). OneCourse p r) x
-          (from_joined r l (subst (λ (p : Piece). p.edge ≡ r.edge) (sym x) n) (subst (λ (p : Piece). is_same_spot p.to r.from ≡ true) (sym x) e))
+          (from_joined r l (subst (λ (p : Piece). p.edge ≡ r.edge) (sym x) n)
+              (subst (λ (p : Piece). is_same_spot p.to r.from ≡ true) (sym x) e))
       by_cases (inr k) (inl y) =
           subst (λ (p : Piece). OneCourse q p) y
-          (to_joined q k (subst (λ (p : Piece). q.edge ≡ p.edge) (sym y) n) (subst (λ (p : Piece). is_same_spot q.to p.from ≡ true) (sym y) e))
+          (to_joined q k (subst (λ (p : Piece). q.edge ≡ p.edge) (sym y) n)
+              (subst (λ (p : Piece). is_same_spot q.to p.from ≡ true) (sym y) e))
       by_cases (inr k) (inr l) = h.course q r (has_other q k) (has_other r l) n e
 
   pub kept : KeepCourse (joined f s ∷ others)
   kept = record { proper = kept_proper; course = kept_course }
 
 -- ---- named pieces do
-pair_at : (R : Piece → Piece → Type 0) (qs : List Piece) (k m : ℕ) (d : Piece) → AllPairs R qs → k < m → m < length qs → R (get_or qs k d) (get_or qs m d)
+pair_at : (R : Piece → Piece → Type 0) (qs : List Piece) (k m : ℕ) (d : Piece) → AllPairs R qs → k < m
+    → m < length qs → R (get_or qs k d) (get_or qs m d)
 pair_at R [] k m d h l n = absurd (omega arith)
 pair_at R (q ∷ qs) zero zero d h l n = absurd (omega arith)
 pair_at R (q ∷ qs) zero (suc m) d h l n = All-get_or (R q) qs m d (omega arith) (All-from_recursion (R q) qs h.0)
 pair_at R (q ∷ qs) (suc k) zero d h l n = absurd (omega arith)
 pair_at R (q ∷ qs) (suc k) (suc m) d h l n = pair_at R qs k m d h.1 (omega arith) (omega arith)
 
-course_inside : (q r : Piece) → IsProper (way_of q) → IsProper (way_of r) → is_same_spot q.to r.from ≡ true → IsInside (point_of q.from) (point_of r.to) (point_of q.to) → OneCourse q r
+course_inside : (q r : Piece) → IsProper (way_of q) → IsProper (way_of r) → is_same_spot q.to r.from ≡ true
+    → IsInside (point_of q.from) (point_of r.to) (point_of q.to) → OneCourse q r
 course_inside q r p t e i = by_case i.between
   where
     on : IsBefore (point_of q.from) (point_of q.to) → IsBefore (point_of q.to) (point_of r.to) → OneCourse q r
-    on h k = (true, h, same_before (point_of r.from) (point_of q.to) (point_of r.to) t.from p.to t.to (turn_same (point_of q.to) (point_of r.from) e) k)
+    on h k = (true, h, same_before (point_of r.from) (point_of q.to) (point_of r.to) t.from p.to t.to
+        (turn_same (point_of q.to) (point_of r.from) e) k)
 
     back : IsBefore (point_of r.to) (point_of q.to) → IsBefore (point_of q.to) (point_of q.from) → OneCourse q r
     back h k = (false, k, before_same (point_of r.to) (point_of q.to) (point_of r.from) t.to p.to t.from h e)
 
-    by_case : IsBetween IsBelow (point_of q.from) (point_of q.to) (point_of r.to) ⊎ (AreLevel (point_of q.from) (point_of q.to) × AreLevel (point_of q.to) (point_of r.to) × IsBetween IsLeftOf (point_of q.from) (point_of q.to) (point_of r.to))
+    by_case : IsBetween IsBelow (point_of q.from) (point_of q.to) (point_of r.to)
+        ⊎ (AreLevel (point_of q.from) (point_of q.to) × AreLevel (point_of q.to) (point_of r.to)
+        × IsBetween IsLeftOf (point_of q.from) (point_of q.to) (point_of r.to))
         → OneCourse q r
     by_case (inl (inl h)) = on (inl h.0) (inl h.1)
     by_case (inl (inr h)) = back (inl h.0) (inl h.1)
@@ -193,7 +217,8 @@ course_inside q r p t e i = by_case i.between
       | inr k ↦ back (inr (sym h.1, k.0)) (inr (sym h.0, k.1))
     ]
 
-pub named_keep_course : (limit count : ℕ) (edge : ℕ → Edge) (pieces : List Piece) → All (IsPieceWithin limit) pieces → AreNamed count edge pieces → KeepCourse pieces
+pub named_keep_course : (limit count : ℕ) (edge : ℕ → Edge) (pieces : List Piece)
+    → All (IsPieceWithin limit) pieces → AreNamed count edge pieces → KeepCourse pieces
 named_keep_course limit count edge pieces within named = record {
   proper = λ q c. proper_within limit q (All-contains (IsPieceWithin limit) pieces q within c);
   course = λ q r c d n e.
@@ -208,7 +233,8 @@ named_keep_course limit count edge pieces within named = record {
 }
   where
     itself : (q r : Piece) → HasLength q → q ≡ r → is_same_spot q.to r.from ≡ true → ⊥
-    itself q r l x e = true≢false (sym (turn_same (point_of q.to) (point_of q.from) (subst (λ (p : Piece). is_same_spot q.to p.from ≡ true) (sym x) e)) ∙ l)
+    itself q r l x e = true≢false (sym (turn_same (point_of q.to) (point_of q.from)
+        (subst (λ (p : Piece). is_same_spot q.to p.from ≡ true) (sym x) e)) ∙ l)
 
     by_places : (q r : Piece) (c : Contains pieces q) (d : Contains pieces r) → c.0 < d.0 → AreApartByName q r
     by_places q r c d l =
@@ -216,7 +242,8 @@ named_keep_course limit count edge pieces within named = record {
         subst (λ (p : Piece). AreApartByName p r) c.2
         (subst (AreApartByName (get_or pieces c.0 q)) there (pair_at AreApartByName pieces c.0 d.0 q named.apart l d.1))
 
-    apart : (q r : Piece) → Contains pieces q → Contains pieces r → q.edge ≡ r.edge → is_same_spot q.to r.from ≡ true → HasLength q → AreApart q r
+    apart : (q r : Piece) → Contains pieces q → Contains pieces r → q.edge ≡ r.edge
+        → is_same_spot q.to r.from ≡ true → HasLength q → AreApart q r
     apart q r c d n e l = elim (cases_lt c.0 d.0) as (λ _. AreApart q r) [
       | inl x ↦ by_places q r c d x n
       | inr x ↦ elim (cases_lt d.0 c.0) as (λ _. AreApart q r) [

@@ -63,25 +63,33 @@ across_total : IsTotalOrder across_cmp
 across_total = record {
   antisymm = λ x y. turned (x.spot.x *ℤ pos y.spot.run) (y.spot.x *ℤ pos x.spot.run);
   trans = λ x y z p q.
-      to_less _ _ (lower_chain (across x) (across y) (across z) (runs x) (runs y) (runs z) (from_less _ _ p) (from_less _ _ q));
+      to_less _ _ (lower_chain (across x) (across y) (across z) (runs x) (runs y) (runs z) (from_less _ _ p)
+          (from_less _ _ q));
   congr = λ x y z p. by_case x y z (from_equal _ _ p) (across_cmp y z) refl;
 }
   where
-    by_case : (x y z : End) → IsSameHeight (across x) (across y) → (r : Ordering) → across_cmp y z ≡ r → across_cmp x z ≡ r
-    by_case x y z e Less h = to_less _ _ (same_lower (across x) (across y) (across z) (runs x) (runs y) (runs z) e (from_less _ _ h))
-    by_case x y z e Equal h = to_equal _ _ (same_chain (across x) (across y) (across z) (runs x) (runs y) (runs z) e (from_equal _ _ h))
+    by_case : (x y z : End) → IsSameHeight (across x) (across y) → (r : Ordering) → across_cmp y z ≡ r
+        → across_cmp x z ≡ r
+    by_case x y z e Less h = to_less _ _ (same_lower (across x) (across y) (across z) (runs x) (runs y) (runs z) e
+        (from_less _ _ h))
+    by_case x y z e Equal h = to_equal _ _ (same_chain (across x) (across y) (across z) (runs x) (runs y) (runs z) e
+        (from_equal _ _ h))
     by_case x y z e Greater h =
         let back : across_cmp z y ≡ Less = turned (z.spot.x *ℤ pos y.spot.run) (y.spot.x *ℤ pos z.spot.run) ∙ ap ordering_reverse h in
         let lower : IsLower (across z) (across x) = lower_same (across z) (across y) (across x) (runs z) (runs y) (runs x) (from_less _ _ back) (sym e) in
-        turned (x.spot.x *ℤ pos z.spot.run) (z.spot.x *ℤ pos x.spot.run) ∙ ap ordering_reverse (to_less (z.spot.x *ℤ pos x.spot.run) (x.spot.x *ℤ pos z.spot.run) lower)
+        turned (x.spot.x *ℤ pos z.spot.run) (z.spot.x *ℤ pos x.spot.run)
+            ∙ ap ordering_reverse (to_less (z.spot.x *ℤ pos x.spot.run) (x.spot.x *ℤ pos z.spot.run) lower)
 
 pub end_total : IsTotalOrder end_cmp
-end_total = then_total (then_total (on_total (λ (e : End). e.spot.at.n) int_cmp_total) (on_total (λ (e : End). e.spot.at.d) int_cmp_total)) across_total
+end_total = then_total (then_total (on_total (λ (e : End). e.spot.at.n) int_cmp_total)
+    (on_total (λ (e : End). e.spot.at.d) int_cmp_total)) across_total
 
-pub in_order : (start : Bool) (pieces : List Piece) (es fs : List End) → AreEndsOf start pieces es → IsPermutation es fs → IsSorted end_cmp fs → AreInOrder start pieces fs
+pub in_order : (start : Bool) (pieces : List Piece) (es fs : List End) → AreEndsOf start pieces es
+    → IsPermutation es fs → IsSorted end_cmp fs → AreInOrder start pieces fs
 in_order start pieces es fs of m up = record {
   of = record {
-    all = IsPermutation-trans (map (end_of start) pieces) (spots_in es) (spots_in fs) of.all (IsPermutation-map (λ (e : End). e.spot) es fs m);
+    all = IsPermutation-trans (map (end_of start) pieces) (spots_in es) (spots_in fs) of.all
+        (IsPermutation-map (λ (e : End). e.spot) es fs m);
     each = All-permutation (IsEndOf start pieces) es fs m of.each;
   };
   sorted = up;
@@ -93,10 +101,12 @@ both Less s = refl
 both Equal s = refl
 both Greater s = refl
 
-pub tied_is : (at : End) (t : Spot) → IsSpotWithin coordinate_limit t → AreOfOneLevel at.spot t → is_eq (spot_cmp at.spot t) ≡ is_same_spot at.spot t
+pub tied_is : (at : End) (t : Spot) → IsSpotWithin coordinate_limit t → AreOfOneLevel at.spot t
+    → is_eq (spot_cmp at.spot t) ≡ is_same_spot at.spot t
 tied_is at t w one =
     let s : Spot = at.spot in
-    both (ordering_then (int_cmp s.at.n t.at.n) (int_cmp s.at.d t.at.d)) (int_cmp (s.x *ℤ pos t.run) (t.x *ℤ pos s.run))
+    both (ordering_then (int_cmp s.at.n t.at.n) (int_cmp s.at.d t.at.d))
+        (int_cmp (s.x *ℤ pos t.run) (t.x *ℤ pos s.run))
     ∙ ap (λ (b : Bool). b && places_equal s t) (both (int_cmp s.at.n t.at.n) (int_cmp s.at.d t.at.d))
     ∙ same_by_parts s t at.within.level.positive at.within.positive w.level.positive w.positive one
 
@@ -111,14 +121,16 @@ module _ (at : End) where
       sum_by-cons (λ (f : End). once (ties at f)) e es ∙ ap (λ (n : ℕ). once (ties at e) + n) (over_spots es)
       ∙ sym (sum_by-cons (λ (s : Spot). once (tied s)) e.spot (spots_in es))
 
-  over_starts : (qs : List Piece) → AllByRecursion (IsComparable at.spot) qs → count_by tied (map (end_of true) qs) ≡ starts_at (point_of at.spot) (ways_of qs)
+  over_starts : (qs : List Piece) → AllByRecursion (IsComparable at.spot) qs
+      → count_by tied (map (end_of true) qs) ≡ starts_at (point_of at.spot) (ways_of qs)
   over_starts [] h = refl
   over_starts (q ∷ qs) h =
       sum_by-cons (λ (s : Spot). once (tied s)) q.from (map (end_of true) qs)
       ∙ ap₂ (λ (b : Bool) (n : ℕ). once b + n) (tied_is at q.from h.0.within.from h.0.from) (over_starts qs h.1)
       ∙ sym (starts-cons (point_of at.spot) (way_of q) (ways_of qs))
 
-  over_ends : (qs : List Piece) → AllByRecursion (IsComparable at.spot) qs → count_by tied (map (end_of false) qs) ≡ ends_at (point_of at.spot) (ways_of qs)
+  over_ends : (qs : List Piece) → AllByRecursion (IsComparable at.spot) qs
+      → count_by tied (map (end_of false) qs) ≡ ends_at (point_of at.spot) (ways_of qs)
   over_ends [] h = refl
   over_ends (q ∷ qs) h =
       sum_by-cons (λ (s : Spot). once (tied s)) q.to (map (end_of false) qs)
@@ -131,8 +143,10 @@ module _ (at : End) where
 
     pub starts_counted : AreEndsOf true pieces es → times_at at es ≡ starts_at (point_of at.spot) (ways_of pieces)
     starts_counted of =
-        over_spots es ∙ sum_by-IsPermutation (λ (s : Spot). once (tied s)) (map (end_of true) pieces) (spots_in es) of.all ∙ over_starts pieces each
+        over_spots es ∙ sum_by-IsPermutation (λ (s : Spot). once (tied s)) (map (end_of true) pieces) (spots_in es)
+            of.all ∙ over_starts pieces each
 
     pub ends_counted : AreEndsOf false pieces es → times_at at es ≡ ends_at (point_of at.spot) (ways_of pieces)
     ends_counted of =
-        over_spots es ∙ sum_by-IsPermutation (λ (s : Spot). once (tied s)) (map (end_of false) pieces) (spots_in es) of.all ∙ over_ends pieces each
+        over_spots es ∙ sum_by-IsPermutation (λ (s : Spot). once (tied s)) (map (end_of false) pieces) (spots_in es)
+            of.all ∙ over_ends pieces each

@@ -31,10 +31,13 @@ module _ (p : Point) where
   first_then n m true e h = omega arith
   first_then n m false e h = absurd (true≢false (sym h))
 
-  some_start : (qs : List Piece) (i : ℕ) → i < length qs → is_same_point p (point_of (piece_at qs i).from) ≡ true → 1 ≤ starts_at p (ways_of qs)
+  some_start : (qs : List Piece) (i : ℕ) → i < length qs
+      → is_same_point p (point_of (piece_at qs i).from) ≡ true → 1 ≤ starts_at p (ways_of qs)
   some_start [] i l h = absurd (omega arith)
-  some_start (q ∷ qs) zero l h = first_then _ (starts_at p (ways_of qs)) (is_same_point p (point_of q.from)) (starts-cons p (way_of q) (ways_of qs)) h
-  some_start (q ∷ qs) (suc i) l h = more_then _ (starts_at p (ways_of qs)) (is_same_point p (point_of q.from)) (starts-cons p (way_of q) (ways_of qs)) (some_start qs i (omega arith) h)
+  some_start (q ∷ qs) zero l h = first_then _ (starts_at p (ways_of qs)) (is_same_point p (point_of q.from))
+      (starts-cons p (way_of q) (ways_of qs)) h
+  some_start (q ∷ qs) (suc i) l h = more_then _ (starts_at p (ways_of qs)) (is_same_point p (point_of q.from))
+      (starts-cons p (way_of q) (ways_of qs)) (some_start qs i (omega arith) h)
 
   two : (n m : ℕ) (b : Bool) → n ≡ once b + m → b ≡ true → 1 ≤ m → n ≡ 1 → ⊥
   two n m true e h k o = omega arith
@@ -45,16 +48,20 @@ module _ (p : Point) where
   rest n m false e k o = omega arith
 
   pub one_place : (qs : List Piece) (i j : ℕ) → starts_at p (ways_of qs) ≡ 1 → i < length qs → j < length qs
-      → is_same_point p (point_of (piece_at qs i).from) ≡ true → is_same_point p (point_of (piece_at qs j).from) ≡ true → i ≡ j
+      → is_same_point p (point_of (piece_at qs i).from) ≡ true
+      → is_same_point p (point_of (piece_at qs j).from) ≡ true → i ≡ j
   one_place [] i j o l m h k = absurd (omega arith)
   one_place (q ∷ qs) zero zero o l m h k = refl
   one_place (q ∷ qs) zero (suc j) o l m h k =
-      absurd (two _ (starts_at p (ways_of qs)) (is_same_point p (point_of q.from)) (starts-cons p (way_of q) (ways_of qs)) h (some_start qs j (omega arith) k) o)
+      absurd (two _ (starts_at p (ways_of qs)) (is_same_point p (point_of q.from))
+          (starts-cons p (way_of q) (ways_of qs)) h (some_start qs j (omega arith) k) o)
   one_place (q ∷ qs) (suc i) zero o l m h k =
-      absurd (two _ (starts_at p (ways_of qs)) (is_same_point p (point_of q.from)) (starts-cons p (way_of q) (ways_of qs)) k (some_start qs i (omega arith) h) o)
+      absurd (two _ (starts_at p (ways_of qs)) (is_same_point p (point_of q.from))
+          (starts-cons p (way_of q) (ways_of qs)) k (some_start qs i (omega arith) h) o)
   one_place (q ∷ qs) (suc i) (suc j) o l m h k =
       ap suc (one_place qs i j
-      (rest _ (starts_at p (ways_of qs)) (is_same_point p (point_of q.from)) (starts-cons p (way_of q) (ways_of qs)) (some_start qs i (omega arith) h) o)
+      (rest _ (starts_at p (ways_of qs)) (is_same_point p (point_of q.from)) (starts-cons p (way_of q) (ways_of qs))
+          (some_start qs i (omega arith) h) o)
       (omega arith) (omega arith) h k)
 
 -- ---- the joint at the end of a piece
@@ -70,7 +77,8 @@ module _ (pieces : List Piece) (place : ℕ) (at : End) (to : at.spot ≡ (piece
   ends_there = ends_counted at pieces fits ends e.of ∙ ap (λ (t : Spot). ends_at (point_of t) (ways_of pieces)) to
 
   starts_there : times_at at starts ≡ starts_at (point_of q.to) (ways_of pieces)
-  starts_there = starts_counted at pieces fits starts s.of ∙ ap (λ (t : Spot). starts_at (point_of t) (ways_of pieces)) to
+  starts_there = starts_counted at pieces fits starts s.of
+      ∙ ap (λ (t : Spot). starts_at (point_of t) (ways_of pieces)) to
 
   pub no_end : (times_at at ends ≡ 1 → ⊥) → IsStuck pieces q
   no_end none passed = absurd (none (ends_there ∙ passed.one_ends))
@@ -106,4 +114,5 @@ module _ (pieces : List Piece) (place : ℕ) (at : End) (to : at.spot ≡ (piece
         off (subst (λ (n : ℕ). GoesOn q (piece_at pieces n)) same on)
 
     pub goes_next : GoesOn q (piece_at pieces next) → IsNext q pieces next
-    goes_next on = record { there = inside; on = λ d. subst (GoesOn q) (get_or_default pieces next no_piece d inside) on }
+    goes_next on = record { there = inside; on
+        = λ d. subst (GoesOn q) (get_or_default pieces next no_piece d inside) on }

@@ -27,11 +27,13 @@ use Rattle.slice_snap.proofs.Pairs.{kept_within, permuted_merged}
 use Rattle.slice_snap.proofs.TwoPairs.{two_starts}
 
 -- ---- the pieces that aren't gone
-all_kept : (P : Piece → Type 0) (gs : List Bool) (qs : List Piece) → ((k : ℕ) → k < length qs → gone_at gs k ≡ false → P (piece_at qs k)) → All P (kept gs qs)
+all_kept : (P : Piece → Type 0) (gs : List Bool) (qs : List Piece)
+    → ((k : ℕ) → k < length qs → gone_at gs k ≡ false → P (piece_at qs k)) → All P (kept gs qs)
 all_kept P [] qs h = All-from_get_or P qs no_piece (λ k l. h k l refl)
 all_kept P (g ∷ gs) [] h = All-nil P
 all_kept P (true ∷ gs) (q ∷ qs) h = all_kept P gs qs (λ k l f. h (suc k) (omega arith) f)
-all_kept P (false ∷ gs) (q ∷ qs) h = All-cons P q (kept gs qs) (h zero (omega arith) refl) (all_kept P gs qs (λ k l f. h (suc k) (omega arith) f))
+all_kept P (false ∷ gs) (q ∷ qs) h = All-cons P q (kept gs qs) (h zero (omega arith) refl)
+    (all_kept P gs qs (λ k l f. h (suc k) (omega arith) f))
 
 none_gone : (gs : List Bool) (qs : List Piece) → ((k : ℕ) → gone_at gs k ≡ false) → kept gs qs ≡ qs
 none_gone [] qs h = refl
@@ -39,7 +41,8 @@ none_gone (g ∷ gs) [] h = refl
 none_gone (true ∷ gs) (q ∷ qs) h = absurd (true≢false (h zero))
 none_gone (false ∷ gs) (q ∷ qs) h = ap (λ (rs : List Piece). q ∷ rs) (none_gone gs qs (λ k. h (suc k)))
 
-one_out : (gs : List Bool) (qs : List Piece) (k : ℕ) → k < length gs → k < length qs → gone_at gs k ≡ false → IsPermutation (kept gs qs) (piece_at qs k ∷ kept (set gs k true) qs)
+one_out : (gs : List Bool) (qs : List Piece) (k : ℕ) → k < length gs → k < length qs → gone_at gs k ≡ false
+    → IsPermutation (kept gs qs) (piece_at qs k ∷ kept (set gs k true) qs)
 one_out [] qs k l m f = absurd (omega arith)
 one_out (g ∷ gs) [] k l m f = absurd (omega arith)
 one_out (true ∷ gs) (q ∷ qs) zero l m f = absurd (true≢false f)
@@ -53,7 +56,8 @@ one_out (false ∷ gs) (q ∷ qs) (suc k) l m f =
     (IsPermutation-middle (q ∷ []) r rest)
 
 -- it doesn't matter what stands where a piece is gone
-kept_set : (gs : List Bool) (qs : List Piece) (k : ℕ) (x : Piece) → gone_at gs k ≡ true → kept gs (set qs k x) ≡ kept gs qs
+kept_set : (gs : List Bool) (qs : List Piece) (k : ℕ) (x : Piece) → gone_at gs k ≡ true
+    → kept gs (set qs k x) ≡ kept gs qs
 kept_set [] qs k x f = absurd (true≢false (sym f))
 kept_set (g ∷ gs) [] k x f = refl
 kept_set (true ∷ gs) (q ∷ qs) zero x f = refl
@@ -74,7 +78,8 @@ still_fewer : (m n k : ℕ) (b : Bool) → m ≡ once b + n → m ≤ k → n �
 still_fewer m n k true h l = omega arith
 still_fewer m n k false h l = omega arith
 
-starts_alike : (p q : Point) → pos 0 <ℤ p.d → pos 0 <ℤ q.d → is_same_point p q ≡ true → (ss : List Segment) → starts_at p ss ≡ starts_at q ss
+starts_alike : (p q : Point) → pos 0 <ℤ p.d → pos 0 <ℤ q.d → is_same_point p q ≡ true
+    → (ss : List Segment) → starts_at p ss ≡ starts_at q ss
 starts_alike p q dp dq h [] = refl
 starts_alike p q dp dq h (x ∷ ss) =
     starts-cons p x ss
@@ -82,7 +87,8 @@ starts_alike p q dp dq h (x ∷ ss) =
     ∙ sym (starts-cons q x ss)
 
 -- where a piece goes on depends on its end and its name
-stuck_alike : (left : List Piece) (q r : Piece) → q.to ≡ r.to → q.edge ≡ r.edge → IsStuck left q → IsStuck left r
+stuck_alike : (left : List Piece) (q r : Piece) → q.to ≡ r.to → q.edge ≡ r.edge → IsStuck left q
+    → IsStuck left r
 stuck_alike left q r end name h once_passed =
     let back : IsPassedOnce left q.to = subst (IsPassedOnce left) (sym end) once_passed in
     λ k d l g. h back k d l (record {
@@ -114,7 +120,8 @@ same_or_not m n = by_place (cases_lt m n) (cases_lt n m)
     by_place (inr l) (inr o) = inl (omega arith)
 
 -- ---- at first
-pub alone : (pieces : List Piece) (c : Chains) → All (IsPieceWithin coordinate_limit) pieces → AreAlone pieces c → AreChained pieces c 0
+pub alone : (pieces : List Piece) (c : Chains) → All (IsPieceWithin coordinate_limit) pieces → AreAlone pieces c
+    → AreChained pieces c 0
 alone pieces c within h =
     let same : wholes_of c ≡ pieces = none_gone c.gone.items c.wholes.items h.kept ∙ h.wholes in
     record {
@@ -122,9 +129,11 @@ alone pieces c within h =
       chains = λ k l f. record {
         there = subst (λ (n : ℕ). n < length pieces) (sym (h.last k l)) l;
         from = ap (λ (qs : List Piece). (piece_at qs k).from) h.wholes;
-        to = ap (λ (qs : List Piece). (piece_at qs k).to) h.wholes ∙ ap (λ (n : ℕ). (piece_at pieces n).to) (sym (h.last k l));
+        to = ap (λ (qs : List Piece). (piece_at qs k).to) h.wholes
+            ∙ ap (λ (n : ℕ). (piece_at pieces n).to) (sym (h.last k l));
         first_name = ap (λ (qs : List Piece). (piece_at qs k).edge) h.wholes;
-        last_name = ap (λ (qs : List Piece). (piece_at qs k).edge) h.wholes ∙ ap (λ (n : ℕ). (piece_at pieces n).edge) (sym (h.last k l));
+        last_name = ap (λ (qs : List Piece). (piece_at qs k).edge) h.wholes
+            ∙ ap (λ (n : ℕ). (piece_at pieces n).edge) (sym (h.last k l));
       };
       lasts = λ t a l. record {
         there = subst (λ (n : ℕ). n < length pieces) (sym (h.first t l)) l;
@@ -187,7 +196,8 @@ module _ (pieces : List Piece) (c : Chains) (i : ℕ) (d : AreChained pieces c i
 
     -- the one that goes on was joined to another
     pub when_gone : gone_at c.gone.items next ≡ true → AreChained pieces c (i + 1)
-    when_gone f = passed_by (not_started left q (starts_alike (point_of q.to) (point_of r.from) dq dr on.meet (ways_of left) ∙ d.gone next there f))
+    when_gone f = passed_by (not_started left q
+        (starts_alike (point_of q.to) (point_of r.from) dq dr on.meet (ways_of left) ∙ d.gone next there f))
 
     module _ (free : gone_at c.gone.items next ≡ false) where
       ends_chain : IsLast (length pieces) c i
@@ -224,7 +234,8 @@ module _ (pieces : List Piece) (c : Chains) (i : ℕ) (d : AreChained pieces c i
       rest = kept (set c.gone.items next true) c.wholes.items
 
       next_out : IsPermutation left (s ∷ rest)
-      next_out = one_out c.gone.items c.wholes.items next (omega (arith, d.lengths.gone)) (omega (arith, d.lengths.wholes)) free
+      next_out = one_out c.gone.items c.wholes.items next (omega (arith, d.lengths.gone))
+          (omega (arith, d.lengths.wholes)) free
 
       starts_there : is_same_point (point_of q.to) (point_of s.from) ≡ true
       starts_there = ap (λ (t : Spot). is_same_point (point_of q.to) (point_of t)) more.from ∙ on.meet
@@ -249,9 +260,11 @@ module _ (pieces : List Piece) (c : Chains) (i : ℕ) (d : AreChained pieces c i
           one = sym (starts_permuted (point_of q.to) left (s ∷ rest) next_out) ∙ one_starts
 
           stuck : IsStuck left q
-          stuck h = All-permutation (λ p. GoesOn q p → ⊥) (s ∷ rest) left (IsPermutation-sym left (s ∷ rest) next_out)
+          stuck h = All-permutation (λ p. GoesOn q p → ⊥) (s ∷ rest) left
+              (IsPermutation-sym left (s ∷ rest) next_out)
               (All-cons (λ p. GoesOn q p → ⊥) s rest not_it
-              (λ k e l g. two_starts (point_of q.to) s (get_or rest k e) rest one starts_there (All-contains_itself rest k e l) g.meet))
+              (λ k e l g. two_starts (point_of q.to) s (get_or rest k e) rest one starts_there
+                  (All-contains_itself rest k e l) g.meet))
 
       -- ---- the two chains become one
       module _ (apart : first ≡ next → ⊥) (new : Chains) (l : IsLinked c first next new) where
@@ -263,13 +276,15 @@ module _ (pieces : List Piece) (c : Chains) (i : ℕ) (d : AreChained pieces c i
 
         first_out : IsPermutation rest (f ∷ others)
         first_out =
-            one_out (set c.gone.items next true) c.wholes.items first (omega (arith, d.lengths.gone, length-set c.gone.items next true, first_there))
+            one_out (set c.gone.items next true) c.wholes.items first
+                (omega (arith, d.lengths.gone, length-set c.gone.items next true, first_there))
             (omega (arith, d.lengths.wholes, first_there)) still_free
 
         two : IsPermutation left (f ∷ (s ∷ others))
         two =
             IsPermutation-trans left (s ∷ (f ∷ others)) (f ∷ (s ∷ others))
-            (IsPermutation-trans left (s ∷ rest) (s ∷ (f ∷ others)) next_out (IsPermutation-cons s rest (f ∷ others) first_out))
+            (IsPermutation-trans left (s ∷ rest) (s ∷ (f ∷ others)) next_out
+                (IsPermutation-cons s rest (f ∷ others) first_out))
             (IsPermutation-middle (s ∷ []) f others)
 
         one_ends : ends_at (point_of q.to) (ways_of left) ≡ 1
@@ -303,7 +318,8 @@ module _ (pieces : List Piece) (c : Chains) (i : ℕ) (d : AreChained pieces c i
             get_or-set_same gs first true false (omega (arith, d.lengths.gone, length-set c.gone.items next true, first_there)) in
             subst (λ (hs : List Bool). IsPermutation (kept hs new.wholes.items) (joined f s ∷ others)) (sym l.gone)
             (subst (λ (ps : List Piece). IsPermutation (kept gs ps) (joined f s ∷ others)) (sym l.wholes)
-            (subst (λ (ps : List Piece). IsPermutation (kept gs qs) (joined f s ∷ ps)) (kept_set (set gs first true) c.wholes.items first (joined f s) marked)
+            (subst (λ (ps : List Piece). IsPermutation (kept gs qs) (joined f s ∷ ps))
+                (kept_set (set gs first true) c.wholes.items first (joined f s) marked)
             (subst (λ (p : Piece). IsPermutation (kept gs qs) (p ∷ kept (set gs first true) qs)) whole out)))
 
         df : pos 0 <ℤ (point_of f.to).d
@@ -312,21 +328,27 @@ module _ (pieces : List Piece) (c : Chains) (i : ℕ) (d : AreChained pieces c i
         ds : pos 0 <ℤ (point_of s.from).d
         ds = subst (λ (t : Spot). pos 0 <ℤ (point_of t).d) (sym more.from) dr
 
-        starts_fewer : (p : Point) → starts_at p (ways_of left) ≡ once (is_same_point p (point_of s.from)) + starts_at p (ways_of now)
+        starts_fewer : (p : Point) → starts_at p (ways_of left) ≡ once (is_same_point p (point_of s.from))
+            + starts_at p (ways_of now)
         starts_fewer p = fewer_starts left now f s others meet replaced p
 
-        ends_fewer : (p : Point) → ends_at p (ways_of left) ≡ once (is_same_point p (point_of f.to)) + ends_at p (ways_of now)
+        ends_fewer : (p : Point) → ends_at p (ways_of left) ≡ once (is_same_point p (point_of f.to))
+            + ends_at p (ways_of now)
         ends_fewer p = fewer_ends left now f s others meet replaced p
 
         still_stuck : (t : Piece) → IsSpotWithin coordinate_limit t.to → IsStuck left t → IsStuck now t
-        still_stuck t w h = stays_stuck left now f s others meet replaced t (divisor_above coordinate_limit t.to w) df ds h
+        still_stuck t w h = stays_stuck left now f s others meet replaced t (divisor_above coordinate_limit t.to w) df
+            ds h
 
         now_joined : AreJoined pieces now
         now_joined = record {
-          on = λ merged a. d.joined.on merged (two_join f s others meet (permuted_merged now (joined f s ∷ others) merged replaced a));
+          on = λ merged a. d.joined.on merged
+              (two_join f s others meet (permuted_merged now (joined f s ∷ others) merged replaced a));
           within = kept_within left now f s others meet replaced d.joined.within;
-          starts = λ p. still_fewer (starts_at p (ways_of left)) (starts_at p (ways_of now)) (starts_at p (ways_of pieces)) (is_same_point p (point_of s.from)) (starts_fewer p) (d.joined.starts p);
-          ends = λ p. still_fewer (ends_at p (ways_of left)) (ends_at p (ways_of now)) (ends_at p (ways_of pieces)) (is_same_point p (point_of f.to)) (ends_fewer p) (d.joined.ends p);
+          starts = λ p. still_fewer (starts_at p (ways_of left)) (starts_at p (ways_of now))
+              (starts_at p (ways_of pieces)) (is_same_point p (point_of s.from)) (starts_fewer p) (d.joined.starts p);
+          ends = λ p. still_fewer (ends_at p (ways_of left)) (ends_at p (ways_of now)) (ends_at p (ways_of pieces))
+              (is_same_point p (point_of f.to)) (ends_fewer p) (d.joined.ends p);
           stuck = λ t w h. still_stuck t w (d.joined.stuck t w h);
         }
 
@@ -334,23 +356,31 @@ module _ (pieces : List Piece) (c : Chains) (i : ℕ) (d : AreChained pieces c i
         abbrev last : ℕ
         last = place_at c.last.items next
 
-        whole_elsewhere : (h : ℕ) → (first ≡ h → ⊥) → piece_at new.wholes.items h ≡ piece_at c.wholes.items h
-        whole_elsewhere h away = ap (λ (ps : List Piece). piece_at ps h) l.wholes ∙ get_or-set_other c.wholes.items first h (joined f s) no_piece (λ e. away (sym e))
+        whole_elsewhere : (h : ℕ) → (first ≡ h → ⊥)
+            → piece_at new.wholes.items h ≡ piece_at c.wholes.items h
+        whole_elsewhere h away = ap (λ (ps : List Piece). piece_at ps h) l.wholes
+            ∙ get_or-set_other c.wholes.items first h (joined f s) no_piece (λ e. away (sym e))
 
         whole_here : piece_at new.wholes.items first ≡ joined f s
-        whole_here = ap (λ (ps : List Piece). piece_at ps first) l.wholes ∙ get_or-set_same c.wholes.items first (joined f s) no_piece (omega (arith, d.lengths.wholes, first_there))
+        whole_here = ap (λ (ps : List Piece). piece_at ps first) l.wholes
+            ∙ get_or-set_same c.wholes.items first (joined f s) no_piece
+            (omega (arith, d.lengths.wholes, first_there))
 
         last_elsewhere : (h : ℕ) → (first ≡ h → ⊥) → place_at new.last.items h ≡ place_at c.last.items h
-        last_elsewhere h away = ap (λ (ns : List ℕ). place_at ns h) l.last ∙ get_or-set_other c.last.items first h last 0 (λ e. away (sym e))
+        last_elsewhere h away = ap (λ (ns : List ℕ). place_at ns h) l.last
+            ∙ get_or-set_other c.last.items first h last 0 (λ e. away (sym e))
 
         last_here : place_at new.last.items first ≡ last
-        last_here = ap (λ (ns : List ℕ). place_at ns first) l.last ∙ get_or-set_same c.last.items first last 0 (omega (arith, d.lengths.last, first_there))
+        last_here = ap (λ (ns : List ℕ). place_at ns first) l.last
+            ∙ get_or-set_same c.last.items first last 0 (omega (arith, d.lengths.last, first_there))
 
         first_elsewhere : (t : ℕ) → (last ≡ t → ⊥) → place_at new.first.items t ≡ place_at c.first.items t
-        first_elsewhere t away = ap (λ (ns : List ℕ). place_at ns t) l.first ∙ get_or-set_other c.first.items last t first 0 (λ e. away (sym e))
+        first_elsewhere t away = ap (λ (ns : List ℕ). place_at ns t) l.first
+            ∙ get_or-set_other c.first.items last t first 0 (λ e. away (sym e))
 
         first_here : place_at new.first.items last ≡ first
-        first_here = ap (λ (ns : List ℕ). place_at ns last) l.first ∙ get_or-set_same c.first.items last first 0 (omega (arith, d.lengths.first, more.there))
+        first_here = ap (λ (ns : List ℕ). place_at ns last) l.first
+            ∙ get_or-set_same c.first.items last first 0 (omega (arith, d.lengths.first, more.there))
 
         gone_now : (h : ℕ) → gone_at new.gone.items h ≡ gone_at (set c.gone.items next true) h
         gone_now h = ap (λ (gs : List Bool). gone_at gs h) l.gone
@@ -365,9 +395,11 @@ module _ (pieces : List Piece) (c : Chains) (i : ℕ) (d : AreChained pieces c i
             here = record {
               there = subst (λ (n : ℕ). n < length pieces) (sym last_here) more.there;
               from = ap (λ (p : Piece). p.from) whole_here ∙ chain.from;
-              to = ap (λ (p : Piece). p.to) whole_here ∙ more.to ∙ ap (λ (n : ℕ). (piece_at pieces n).to) (sym last_here);
+              to = ap (λ (p : Piece). p.to) whole_here ∙ more.to
+                  ∙ ap (λ (n : ℕ). (piece_at pieces n).to) (sym last_here);
               first_name = ap (λ (p : Piece). p.edge) whole_here ∙ chain.first_name;
-              last_name = ap (λ (p : Piece). p.edge) whole_here ∙ (named_as ∙ on.name ∙ sym more.first_name) ∙ more.last_name ∙ ap (λ (n : ℕ). (piece_at pieces n).edge) (sym last_here);
+              last_name = ap (λ (p : Piece). p.edge) whole_here ∙ (named_as ∙ on.name ∙ sym more.first_name)
+                  ∙ more.last_name ∙ ap (λ (n : ℕ). (piece_at pieces n).edge) (sym last_here);
             }
 
             by_place : (first ≡ h) ⊎ (first ≡ h → ⊥) → IsChain pieces new h
@@ -375,9 +407,11 @@ module _ (pieces : List Piece) (c : Chains) (i : ℕ) (d : AreChained pieces c i
             by_place (inr away) = record {
               there = subst (λ (n : ℕ). n < length pieces) (sym (last_elsewhere h away)) old.there;
               from = ap (λ (p : Piece). p.from) (whole_elsewhere h away) ∙ old.from;
-              to = ap (λ (p : Piece). p.to) (whole_elsewhere h away) ∙ old.to ∙ ap (λ (n : ℕ). (piece_at pieces n).to) (sym (last_elsewhere h away));
+              to = ap (λ (p : Piece). p.to) (whole_elsewhere h away) ∙ old.to
+                  ∙ ap (λ (n : ℕ). (piece_at pieces n).to) (sym (last_elsewhere h away));
               first_name = ap (λ (p : Piece). p.edge) (whole_elsewhere h away) ∙ old.first_name;
-              last_name = ap (λ (p : Piece). p.edge) (whole_elsewhere h away) ∙ old.last_name ∙ ap (λ (n : ℕ). (piece_at pieces n).edge) (sym (last_elsewhere h away));
+              last_name = ap (λ (p : Piece). p.edge) (whole_elsewhere h away) ∙ old.last_name
+                  ∙ ap (λ (n : ℕ). (piece_at pieces n).edge) (sym (last_elsewhere h away));
             }
 
         now_last : (t : ℕ) → i + 1 ≤ t → t < length pieces → IsLast (length pieces) new t
@@ -401,17 +435,24 @@ module _ (pieces : List Piece) (c : Chains) (i : ℕ) (d : AreChained pieces c i
                 let not_first : first ≡ place_at c.first.items t → ⊥ = λ e. let u : i ≡ t = sym last_is ∙ ap (place_at c.last.items) e ∙ old.back in omega arith in
                 record {
                   there = subst (λ (n : ℕ). n < length pieces) (sym same) old.there;
-                  kept = ap (gone_at new.gone.items) same ∙ gone_now (place_at c.first.items t) ∙ get_or-set_other c.gone.items next (place_at c.first.items t) true false not_next ∙ old.kept;
-                  back = ap (place_at new.last.items) same ∙ last_elsewhere (place_at c.first.items t) not_first ∙ old.back;
+                  kept = ap (gone_at new.gone.items) same ∙ gone_now (place_at c.first.items t)
+                      ∙ get_or-set_other c.gone.items next (place_at c.first.items t) true false not_next
+                      ∙ old.kept;
+                  back = ap (place_at new.last.items) same ∙ last_elsewhere (place_at c.first.items t) not_first
+                      ∙ old.back;
                 }
 
-        now_gone : (j : ℕ) → j < length pieces → gone_at new.gone.items j ≡ true → starts_at (point_of (piece_at pieces j).from) (ways_of now) ≡ 0
+        now_gone : (j : ℕ) → j < length pieces → gone_at new.gone.items j ≡ true
+            → starts_at (point_of (piece_at pieces j).from) (ways_of now) ≡ 0
         now_gone j m f_now = by_place (same_or_not next j)
           where
             here : starts_at (point_of r.from) (ways_of now) ≡ 0
             here =
-                none_left (starts_at (point_of r.from) (ways_of left)) (starts_at (point_of r.from) (ways_of now)) (is_same_point (point_of r.from) (point_of s.from))
-                (starts_fewer (point_of r.from)) (ap (λ (t : Spot). is_same_point (point_of r.from) (point_of t)) more.from ∙ same_itself (point_of r.from))
+                none_left (starts_at (point_of r.from) (ways_of left)) (starts_at (point_of r.from) (ways_of now))
+                    (is_same_point (point_of r.from) (point_of s.from))
+                (starts_fewer (point_of r.from))
+                    (ap (λ (t : Spot). is_same_point (point_of r.from) (point_of t)) more.from
+                    ∙ same_itself (point_of r.from))
                 (sym (starts_alike (point_of q.to) (point_of r.from) dq dr on.meet (ways_of left)) ∙ one_starts)
 
             elsewhere : (next ≡ j → ⊥) → starts_at (point_of (piece_at pieces j).from) (ways_of now) ≡ 0
@@ -423,8 +464,10 @@ module _ (pieces : List Piece) (c : Chains) (i : ℕ) (d : AreChained pieces c i
                 still_fewer (starts_at p (ways_of left)) (starts_at p (ways_of now)) 0 (is_same_point p (point_of s.from)) (starts_fewer p) (omega arith) in
                 omega arith
 
-            by_place : (next ≡ j) ⊎ (next ≡ j → ⊥) → starts_at (point_of (piece_at pieces j).from) (ways_of now) ≡ 0
-            by_place (inl e) = subst (λ (n : ℕ). starts_at (point_of (piece_at pieces n).from) (ways_of now) ≡ 0) e here
+            by_place : (next ≡ j) ⊎ (next ≡ j → ⊥)
+                → starts_at (point_of (piece_at pieces j).from) (ways_of now) ≡ 0
+            by_place (inl e) = subst (λ (n : ℕ). starts_at (point_of (piece_at pieces n).from) (ways_of now) ≡ 0) e
+                here
             by_place (inr away) = elsewhere away
 
         now_stuck : (k : ℕ) → k < i + 1 → IsStuck now (piece_at pieces k)
@@ -433,8 +476,11 @@ module _ (pieces : List Piece) (c : Chains) (i : ℕ) (d : AreChained pieces c i
             here : IsStuck now q
             here =
                 not_passed now q
-                (none_left (ends_at (point_of q.to) (ways_of left)) (ends_at (point_of q.to) (ways_of now)) (is_same_point (point_of q.to) (point_of f.to))
-                (ends_fewer (point_of q.to)) (ap (λ (t : Spot). is_same_point (point_of q.to) (point_of t)) ends_as ∙ same_itself (point_of q.to)) one_ends)
+                (none_left (ends_at (point_of q.to) (ways_of left)) (ends_at (point_of q.to) (ways_of now))
+                    (is_same_point (point_of q.to) (point_of f.to))
+                (ends_fewer (point_of q.to))
+                    (ap (λ (t : Spot). is_same_point (point_of q.to) (point_of t)) ends_as
+                    ∙ same_itself (point_of q.to)) one_ends)
 
             by_place : (k < i) ⊎ (i ≤ k) → IsStuck now (piece_at pieces k)
             by_place (inl b) =
@@ -445,9 +491,11 @@ module _ (pieces : List Piece) (c : Chains) (i : ℕ) (d : AreChained pieces c i
         pub linked : AreChained pieces new (i + 1)
         linked = record {
           lengths = record {
-            wholes = ap (λ (ps : List Piece). length ps) l.wholes ∙ length-set c.wholes.items first (joined f s) ∙ d.lengths.wholes;
+            wholes = ap (λ (ps : List Piece). length ps) l.wholes ∙ length-set c.wholes.items first (joined f s)
+                ∙ d.lengths.wholes;
             gone = ap (λ (gs : List Bool). length gs) l.gone ∙ length-set c.gone.items next true ∙ d.lengths.gone;
-            first = ap (λ (ns : List ℕ). length ns) l.first ∙ length-set c.first.items last first ∙ d.lengths.first;
+            first = ap (λ (ns : List ℕ). length ns) l.first ∙ length-set c.first.items last first
+                ∙ d.lengths.first;
             last = ap (λ (ns : List ℕ). length ns) l.last ∙ length-set c.last.items first last ∙ d.lengths.last;
           };
           chains = now_chain;
@@ -463,7 +511,8 @@ module _ (pieces : List Piece) (c : Chains) (i : ℕ) (d : AreChained pieces c i
         round_by (ap (gone_at c.gone.items) (sym same ∙ begins) ∙ of.kept) same
 
 -- ---- at last
-pub all_merged : (pieces : List Piece) (c : Chains) (i : ℕ) → AreChained pieces c i → length pieces ≤ i → AreMerged pieces (wholes_of c)
+pub all_merged : (pieces : List Piece) (c : Chains) (i : ℕ) → AreChained pieces c i → length pieces ≤ i
+    → AreMerged pieces (wholes_of c)
 all_merged pieces c i d all =
     let left : List Piece = wholes_of c in
     let stuck : All (IsStuck left) left =
@@ -475,28 +524,36 @@ all_merged pieces c i d all =
     d.joined.on left (all_joined (none_meet_alone left stuck) (IsPermutation-refl left))
 
 -- ---- the wholes one after another
-pub one_more : (gs : List Bool) (qs : List Piece) (k : ℕ) → k < length gs → k < length qs → kept (take (k + 1) gs) (take (k + 1) qs) ≡ kept (take k gs) (take k qs) ++ cond (gone_at gs k) [] (piece_at qs k ∷ [])
+pub one_more : (gs : List Bool) (qs : List Piece) (k : ℕ) → k < length gs → k < length qs
+    → kept (take (k + 1) gs) (take (k + 1) qs) ≡ kept (take k gs) (take k qs)
+    ++ cond (gone_at gs k) [] (piece_at qs k ∷ [])
 one_more gs qs k l m =
     ap₂ kept (take_more gs k false l) (take_more qs k no_piece m)
-    ∙ kept_append (take k gs) (take k qs) (gone_at gs k) (piece_at qs k) (length-take-le k gs (omega arith) ∙ sym (length-take-le k qs (omega arith)))
+    ∙ kept_append (take k gs) (take k qs) (gone_at gs k) (piece_at qs k)
+    (length-take-le k gs (omega arith) ∙ sym (length-take-le k qs (omega arith)))
   where
-    kept_append : (hs : List Bool) (ps : List Piece) (g : Bool) (q : Piece) → length hs ≡ length ps → kept (hs ++ (g ∷ [])) (ps ++ (q ∷ [])) ≡ kept hs ps ++ cond g [] (q ∷ [])
+    kept_append : (hs : List Bool) (ps : List Piece) (g : Bool) (q : Piece) → length hs ≡ length ps
+        → kept (hs ++ (g ∷ [])) (ps ++ (q ∷ [])) ≡ kept hs ps ++ cond g [] (q ∷ [])
     kept_append [] [] true q h = refl
     kept_append [] [] false q h = refl
     kept_append [] (p ∷ ps) g q h = absurd (omega arith)
     kept_append (x ∷ hs) [] g q h = absurd (omega arith)
     kept_append (true ∷ hs) (p ∷ ps) g q h = kept_append hs ps g q (omega arith)
-    kept_append (false ∷ hs) (p ∷ ps) g q h = ap (λ (rs : List Piece). p ∷ rs) (kept_append hs ps g q (omega arith))
+    kept_append (false ∷ hs) (p ∷ ps) g q h
+        = ap (λ (rs : List Piece). p ∷ rs) (kept_append hs ps g q (omega arith))
 
-pub one_pushed : (gs : List Bool) (qs so_far new : List Piece) (k : ℕ) (q : Piece) → k < length gs → k < length qs → so_far ≡ kept (take k gs) (take k qs)
-    → gone_at gs k ≡ false → q ≡ get_or qs k q → new ≡ so_far ++ (q ∷ []) → new ≡ kept (take (k + 1) gs) (take (k + 1) qs)
+pub one_pushed : (gs : List Bool) (qs so_far new : List Piece) (k : ℕ) (q : Piece) → k < length gs → k < length qs
+    → so_far ≡ kept (take k gs) (take k qs)
+    → gone_at gs k ≡ false → q ≡ get_or qs k q → new ≡ so_far ++ (q ∷ [])
+    → new ≡ kept (take (k + 1) gs) (take (k + 1) qs)
 one_pushed gs qs so_far new k q l m before free here pushed =
     pushed
     ∙ ap₂ (λ (ps : List Piece) (p : Piece). ps ++ (p ∷ [])) before (here ∙ get_or_default qs k q no_piece m)
     ∙ ap (λ (b : Bool). kept (take k gs) (take k qs) ++ cond b [] (piece_at qs k ∷ [])) (sym free)
     ∙ sym (one_more gs qs k l m)
 
-pub none_pushed : (gs : List Bool) (qs so_far new : List Piece) (k : ℕ) → k < length gs → k < length qs → so_far ≡ kept (take k gs) (take k qs)
+pub none_pushed : (gs : List Bool) (qs so_far new : List Piece) (k : ℕ) → k < length gs → k < length qs
+    → so_far ≡ kept (take k gs) (take k qs)
     → gone_at gs k ≡ true → new ≡ so_far → new ≡ kept (take (k + 1) gs) (take (k + 1) qs)
 none_pushed gs qs so_far new k l m before gone same =
     same ∙ before

@@ -24,7 +24,8 @@ many_turned : (e : Edge) (fs : List Edge) → many e (map turned fs) ≡ many (t
 many_turned e [] = refl
 many_turned e (f ∷ fs) =
     many-cons e (turned f) (map turned fs)
-    ∙ ap₂ (λ (b : Bool) (n : ℕ). once b + n) (and_comm (same_place e.a f.b) (same_place e.b f.a)) (many_turned e fs)
+    ∙ ap₂ (λ (b : Bool) (n : ℕ). once b + n) (and_comm (same_place e.a f.b) (same_place e.b f.a))
+    (many_turned e fs)
     ∙ sym (many-cons (turned e) f fs)
 
 none_of : (e : Edge) (fs : List Edge) → All (λ f. f ≡ e → ⊥) fs → many e fs ≡ 0
@@ -38,20 +39,24 @@ not_same e f h = by_test (same_edge e f) refl
     by_test true k = absurd (h (sym (same_edge_then_equal e f k)))
 
 -- of an edge and its opposite, where they differ, at most one is left
-one_side : (e : Edge) → (e ≡ turned e → ⊥) → (fs : List Edge) → NoneOpposite fs → (many e fs ≡ 0) ⊎ (many (turned e) fs ≡ 0)
+one_side : (e : Edge) → (e ≡ turned e → ⊥) → (fs : List Edge) → NoneOpposite fs
+    → (many e fs ≡ 0) ⊎ (many (turned e) fs ≡ 0)
 one_side e apart [] h = inl refl
 one_side e apart (f ∷ fs) h = by_tests (one_side e apart fs h.1) (same_edge e f) (same_edge (turned e) f) refl refl
   where
     here : (t : Edge) → (f ≡ t → ⊥) → many t fs ≡ 0 → many t (f ∷ fs) ≡ 0
     here t away none = many-cons t f fs ∙ ap₂ (λ (b : Bool) (n : ℕ). once b + n) (not_same t f away) none
 
-    by_tests : (many e fs ≡ 0) ⊎ (many (turned e) fs ≡ 0) → (b c : Bool) → same_edge e f ≡ b → same_edge (turned e) f ≡ c → (many e (f ∷ fs) ≡ 0) ⊎ (many (turned e) (f ∷ fs) ≡ 0)
+    by_tests : (many e fs ≡ 0) ⊎ (many (turned e) fs ≡ 0) → (b c : Bool) → same_edge e f ≡ b
+        → same_edge (turned e) f ≡ c → (many e (f ∷ fs) ≡ 0) ⊎ (many (turned e) (f ∷ fs) ≡ 0)
     by_tests o true c k l =
         let is : e ≡ f = same_edge_then_equal e f k in
-        inr (here (turned e) (λ s. apart (is ∙ s)) (none_of (turned e) fs (subst (λ (g : Edge). All (λ x. x ≡ turned g → ⊥) fs) (sym is) h.0)))
+        inr (here (turned e) (λ s. apart (is ∙ s))
+            (none_of (turned e) fs (subst (λ (g : Edge). All (λ x. x ≡ turned g → ⊥) fs) (sym is) h.0)))
     by_tests o false true k l =
         let is : turned e ≡ f = same_edge_then_equal (turned e) f l in
-        inl (here e (λ s. apart (sym (is ∙ s))) (none_of e fs (subst (λ (g : Edge). All (λ x. x ≡ turned g → ⊥) fs) (sym is) h.0)))
+        inl (here e (λ s. apart (sym (is ∙ s)))
+            (none_of e fs (subst (λ (g : Edge). All (λ x. x ≡ turned g → ⊥) fs) (sym is) h.0)))
     by_tests o false false k l =
         elim o as (λ _. (many e (f ∷ fs) ≡ 0) ⊎ (many (turned e) (f ∷ fs) ≡ 0)) [
           | inl n ↦ inl (many-cons e f fs ∙ ap₂ (λ (b : Bool) (m : ℕ). once b + m) k n)
@@ -75,26 +80,33 @@ at_most_once e own (f ∷ fs) h = by_test (at_most_once e own fs h.1) (same_edge
         let opposite : turned f ≡ e = ap turned (sym is) ∙ sym own in
         one_only (many e (f ∷ fs)) (many e fs) (many-cons e f fs ∙ ap (λ (b : Bool). once b + many e fs) k)
         (none_of e fs (subst (λ (g : Edge). All (λ x. x ≡ g → ⊥) fs) opposite h.0))
-    by_test o false k = as_before (many e (f ∷ fs)) (many e fs) (many-cons e f fs ∙ ap (λ (b : Bool). once b + many e fs) k) o
+    by_test o false k = as_before (many e (f ∷ fs)) (many e fs)
+        (many-cons e f fs ∙ ap (λ (b : Bool). once b + many e fs) k) o
 
 -- ---- how many are left
-parts : (es left : List Edge) (c : AreCancelled es left) (e : Edge) → many e es ≡ many e left + (many e c.pairs + many (turned e) c.pairs)
+parts : (es left : List Edge) (c : AreCancelled es left) (e : Edge)
+    → many e es ≡ many e left + (many e c.pairs + many (turned e) c.pairs)
 parts es left c e =
-    times_permuted same_edge same_edge_itself same_edge_then_equal e es (left ++ (c.pairs ++ map turned c.pairs)) c.taken
+    times_permuted same_edge same_edge_itself same_edge_then_equal e es (left ++ (c.pairs ++ map turned c.pairs))
+        c.taken
     ∙ many-append e left (c.pairs ++ map turned c.pairs)
-    ∙ ap (λ (n : ℕ). many e left + n) (many-append e c.pairs (map turned c.pairs) ∙ ap (λ (n : ℕ). many e c.pairs + n) (many_turned e c.pairs))
+    ∙ ap (λ (n : ℕ). many e left + n) (many-append e c.pairs (map turned c.pairs)
+    ∙ ap (λ (n : ℕ). many e c.pairs + n) (many_turned e c.pairs))
 
-apart_alike : (n m l k p q v w r s : ℕ) → n ≡ l + (p + q) → m ≡ k + (q + p) → n ≡ v + (r + s) → m ≡ w + (s + r) → (l ≡ 0) ⊎ (k ≡ 0) → (v ≡ 0) ⊎ (w ≡ 0) → l ≡ v
+apart_alike : (n m l k p q v w r s : ℕ) → n ≡ l + (p + q) → m ≡ k + (q + p) → n ≡ v + (r + s)
+    → m ≡ w + (s + r) → (l ≡ 0) ⊎ (k ≡ 0) → (v ≡ 0) ⊎ (w ≡ 0) → l ≡ v
 apart_alike n m l k p q v w r s a b c d (inl x) (inl y) = omega arith
 apart_alike n m l k p q v w r s a b c d (inl x) (inr y) = omega arith
 apart_alike n m l k p q v w r s a b c d (inr x) (inl y) = omega arith
 apart_alike n m l k p q v w r s a b c d (inr x) (inr y) = omega arith
 
-own_alike : (n l p q v r s : ℕ) → n ≡ l + (p + q) → n ≡ v + (r + s) → p ≡ q → r ≡ s → l ≤ 1 → v ≤ 1 → l ≡ v
+own_alike : (n l p q v r s : ℕ) → n ≡ l + (p + q) → n ≡ v + (r + s) → p ≡ q → r ≡ s → l ≤ 1
+    → v ≤ 1 → l ≡ v
 own_alike n l p q v r s a b c d e f = omega arith
 
 pub cancelled_are_one : CancelledAreOne
-cancelled_are_one es fs left more m c d = from_times same_edge same_edge_itself same_edge_then_equal left more left_alike
+cancelled_are_one es fs left more m c d = from_times same_edge same_edge_itself same_edge_then_equal left more
+    left_alike
   where
     others : (e : Edge) → many e es ≡ many e more + (many e d.pairs + many (turned e) d.pairs)
     others e = times_permuted same_edge same_edge_itself same_edge_then_equal e es fs m ∙ parts fs more d e
@@ -105,12 +117,15 @@ cancelled_are_one es fs left more m c d = from_times same_edge same_edge_itself 
         by_test : (b : Bool) → same_edge e (turned e) ≡ b → many e left ≡ many e more
         by_test true k =
             let own : e ≡ turned e = same_edge_then_equal e (turned e) k in
-            own_alike (many e es) (many e left) (many e c.pairs) (many (turned e) c.pairs) (many e more) (many e d.pairs) (many (turned e) d.pairs)
-            (parts es left c e) (others e) (ap (λ (x : Edge). many x c.pairs) own) (ap (λ (x : Edge). many x d.pairs) own)
+            own_alike (many e es) (many e left) (many e c.pairs) (many (turned e) c.pairs) (many e more)
+                (many e d.pairs) (many (turned e) d.pairs)
+            (parts es left c e) (others e) (ap (λ (x : Edge). many x c.pairs) own)
+                (ap (λ (x : Edge). many x d.pairs) own)
             (at_most_once e own left c.none) (at_most_once e own more d.none)
         by_test false k =
             let apart : e ≡ turned e → ⊥ = λ s. true≢false (sym (same_edge_itself e) ∙ ap (same_edge e) s ∙ k) in
-            apart_alike (many e es) (many (turned e) es) (many e left) (many (turned e) left) (many e c.pairs) (many (turned e) c.pairs)
+            apart_alike (many e es) (many (turned e) es) (many e left) (many (turned e) left) (many e c.pairs)
+                (many (turned e) c.pairs)
             (many e more) (many (turned e) more) (many e d.pairs) (many (turned e) d.pairs)
             (parts es left c e) (parts es left c (turned e)) (others e) (others (turned e))
             (one_side e apart left c.none) (one_side e apart more d.none)

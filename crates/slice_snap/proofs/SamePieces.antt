@@ -34,7 +34,8 @@ end_is s t h =
     λ i. record { at = at i; x = x i; run = run i }
 
 end_itself : (s : Spot) → same_end s s ≡ true
-end_itself s = ap₂ (λ (a b : Bool). a && b) (level_itself s.at) (ap₂ (λ (a b : Bool). a && b) ((signed_Decides s.x s.x).1 refl) ((unsigned_Decides s.run s.run).1 refl))
+end_itself s = ap₂ (λ (a b : Bool). a && b) (level_itself s.at)
+    (ap₂ (λ (a b : Bool). a && b) ((signed_Decides s.x s.x).1 refl) ((unsigned_Decides s.run s.run).1 refl))
 
 abbrev pub same_piece : Piece → Piece → Bool
 same_piece q r = same_end q.from r.from && (same_end q.to r.to && (q.edge == r.edge))
@@ -49,4 +50,5 @@ piece_is q r h =
     λ i. record { from = from i; to = to i; edge = edge i }
 
 pub piece_itself : (q : Piece) → same_piece q q ≡ true
-piece_itself q = ap₂ (λ (a b : Bool). a && b) (end_itself q.from) (ap₂ (λ (a b : Bool). a && b) (end_itself q.to) ((unsigned_Decides q.edge q.edge).1 refl))
+piece_itself q = ap₂ (λ (a b : Bool). a && b) (end_itself q.from)
+    (ap₂ (λ (a b : Bool). a && b) (end_itself q.to) ((unsigned_Decides q.edge q.edge).1 refl))

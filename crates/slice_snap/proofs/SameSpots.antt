@@ -25,7 +25,8 @@ abbrev pub places_equal : Spot → Spot → Bool
 places_equal s t = int_eq (s.x *ℤ pos t.run) (t.x *ℤ pos s.run)
 
 pub crossed_back : (a b r s : ℤ) → (a *ℤ s) *ℤ (b *ℤ r) ≡ (a *ℤ b) *ℤ (r *ℤ s)
-crossed_back a b r s = ring (a ∷ b ∷ r ∷ s ∷ []) ((v0 ⊗ v3) ⊗ (v1 ⊗ v2)) ((v0 ⊗ v1) ⊗ (v2 ⊗ v3)) refl
+crossed_back a b r s = ring (a ∷ b ∷ r ∷ s ∷ []) ((v0 ⊗ v3) ⊗ (v1 ⊗ v2)) ((v0 ⊗ v1) ⊗ (v2 ⊗ v3))
+    refl
 
 pub mul_beside : (x d r : ℤ) → x *ℤ (d *ℤ r) ≡ (x *ℤ r) *ℤ d
 mul_beside x d r = ring (x ∷ d ∷ r ∷ []) (v0 ⊗ (v1 ⊗ v2)) ((v0 ⊗ v2) ⊗ v1) refl
@@ -52,7 +53,8 @@ module _ (s t : Spot) (ds : pos 0 <ℤ s.at.d) (rs : 0 < s.run) (dt : pos 0 <ℤ
       sym (mul_beside s.x t.at.d b) ∙ int_eq-true _ _ parts.1 ∙ mul_beside t.x s.at.d a
       ∙ ap (λ (e : ℤ). (t.x *ℤ a) *ℤ e) d in
       and_from (levels_equal s t) (places_equal s t)
-      (and_from (int_eq s.at.n t.at.n) (int_eq s.at.d t.at.d) (to_eq s.at.n t.at.n (ap (λ (l : Level). l.n) at)) (to_eq s.at.d t.at.d d))
+      (and_from (int_eq s.at.n t.at.n) (int_eq s.at.d t.at.d) (to_eq s.at.n t.at.n (ap (λ (l : Level). l.n) at))
+          (to_eq s.at.d t.at.d d))
       (to_eq (s.x *ℤ b) (t.x *ℤ a) (cancel_mul (s.x *ℤ b) (t.x *ℤ a) t.at.d dt across))
 
   from_parts : (levels_equal s t && places_equal s t) ≡ true → is_same_spot s t ≡ true
@@ -64,9 +66,11 @@ module _ (s t : Spot) (ds : pos 0 <ℤ s.at.d) (rs : 0 < s.run) (dt : pos 0 <ℤ
       let n = int_eq-true s.at.n t.at.n level.0 in
       let d = int_eq-true s.at.d t.at.d level.1 in
       let x = int_eq-true (s.x *ℤ b) (t.x *ℤ a) both.1 in
-      and_from (int_eq ((s.at.n *ℤ a) *ℤ (t.at.d *ℤ b)) ((t.at.n *ℤ b) *ℤ (s.at.d *ℤ a))) (int_eq (s.x *ℤ (t.at.d *ℤ b)) (t.x *ℤ (s.at.d *ℤ a)))
+      and_from (int_eq ((s.at.n *ℤ a) *ℤ (t.at.d *ℤ b)) ((t.at.n *ℤ b) *ℤ (s.at.d *ℤ a)))
+          (int_eq (s.x *ℤ (t.at.d *ℤ b)) (t.x *ℤ (s.at.d *ℤ a)))
       (to_eq ((s.at.n *ℤ a) *ℤ (t.at.d *ℤ b)) ((t.at.n *ℤ b) *ℤ (s.at.d *ℤ a))
-      (crossed s.at.n a t.at.d b ∙ ap₂ (λ (p q : ℤ). (p *ℤ q) *ℤ (a *ℤ b)) n (sym d) ∙ sym (crossed_back t.at.n s.at.d a b)))
+      (crossed s.at.n a t.at.d b ∙ ap₂ (λ (p q : ℤ). (p *ℤ q) *ℤ (a *ℤ b)) n (sym d)
+          ∙ sym (crossed_back t.at.n s.at.d a b)))
       (to_eq (s.x *ℤ (t.at.d *ℤ b)) (t.x *ℤ (s.at.d *ℤ a))
       (mul_beside s.x t.at.d b ∙ ap₂ (λ (p q : ℤ). p *ℤ q) x (sym d) ∙ sym (mul_beside t.x s.at.d a)))
 

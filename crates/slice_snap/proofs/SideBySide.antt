@@ -1,4 +1,5 @@
--- Edges of one span stand side by side in ascending order, so if the last edge of a list isn't opposite to a greater one, none is.
+-- Edges of one span stand side by side in ascending order, so if the last edge of a list isn't opposite to a greater
+-- one, none is.
 use Rattle.std.proofs.Common.{◌≡◌, ◌⊎◌, inl, inr, ℕ, zero, suc, ◌+◌, ◌<◌, ◌≤◌, ◌-◌, Bool, true, false, true≢false, cond, List, [], ◌∷◌, ◌++◌, length, get_or, take, drop, map, All, refl, sym, ap, ap₂, ◌∙◌, subst, add-one, append-nil, arith}
 use Rattle.std.specs.Prelude.{IsSortedBy, IsPermutation, remove}
 use Rattle.std.specs.Ordering.{int_cmp, ordering_then, ordering_reverse, is_lt}
@@ -28,9 +29,11 @@ span_total = then_total (on_total lesser point_total) (on_total greater point_to
 pub less_order : IsStrictWeakOrder is_less
 less_order = ranks_by span_total (λ (e : Edge). e)
 
-ascending_from : (es : List Edge) → ((i j : ℕ) (d : Edge) → i ≤ j → j < length es → is_less (get_or es j d) (get_or es i d) ≡ false) → IsAscending es
+ascending_from : (es : List Edge) → ((i j : ℕ) (d : Edge) → i ≤ j → j < length es
+    → is_less (get_or es j d) (get_or es i d) ≡ false) → IsAscending es
 ascending_from [] h = tt
-ascending_from (e ∷ es) h = (λ k d l. h zero (suc k) d (omega arith) (omega arith), ascending_from es (λ i j d a b. h (suc i) (suc j) d (omega arith) (omega arith)))
+ascending_from (e ∷ es) h = (λ k d l. h zero (suc k) d (omega arith) (omega arith),
+    ascending_from es (λ i j d a b. h (suc i) (suc j) d (omega arith) (omega arith)))
 
 pub ascending_sorted : (es : List Edge) → IsSortedBy is_less es → IsAscending es
 ascending_sorted es h = ascending_from es (sorted_far is_less less_order es h)
@@ -81,14 +84,16 @@ edge_is e f a b = λ i. record { a = a i; b = b i }
 same_span : (e f : Edge) → lesser e ≡ lesser f → greater e ≡ greater f → (e ≡ f) ⊎ (e ≡ turned f)
 same_span e f low high = by_tests (is_lt (point_cmp e.b e.a)) (is_lt (point_cmp f.b f.a)) low high
   where
-    by_tests : (s t : Bool) → cond s e.b e.a ≡ cond t f.b f.a → cond s e.a e.b ≡ cond t f.a f.b → (e ≡ f) ⊎ (e ≡ turned f)
+    by_tests : (s t : Bool) → cond s e.b e.a ≡ cond t f.b f.a → cond s e.a e.b ≡ cond t f.a f.b
+        → (e ≡ f) ⊎ (e ≡ turned f)
     by_tests true true l h = inl (edge_is e f h l)
     by_tests true false l h = inr (edge_is e (turned f) h l)
     by_tests false true l h = inr (edge_is e (turned f) l h)
     by_tests false false l h = inl (edge_is e f l h)
 
 -- between an edge and its turned one stand no others
-between : (f g e : Edge) → is_less g f ≡ false → is_less e g ≡ false → f ≡ turned e → (g ≡ e) ⊎ (g ≡ turned e)
+between : (f g e : Edge) → is_less g f ≡ false → is_less e g ≡ false → f ≡ turned e
+    → (g ≡ e) ⊎ (g ≡ turned e)
 between f g e low high opposite =
     let span : span_cmp g f ≡ span_cmp g e =
     ap (span_cmp g) opposite
@@ -102,34 +107,41 @@ behind_all : (P : Edge → Type 0) (xs ys : List Edge) → All P (xs ++ ys) → 
 behind_all P [] ys h = h
 behind_all P (x ∷ xs) ys h = behind_all P xs ys (All-tail P x (xs ++ ys) h)
 
-without_all : (P : Edge → Type 0) (xs : List Edge) (y : Edge) (ys : List Edge) → All P (xs ++ (y ∷ ys)) → All P (xs ++ ys)
+without_all : (P : Edge → Type 0) (xs : List Edge) (y : Edge) (ys : List Edge) → All P (xs ++ (y ∷ ys))
+    → All P (xs ++ ys)
 without_all P [] y ys h = All-tail P y ys h
 without_all P (x ∷ xs) y ys h =
-    All-cons P x (xs ++ ys) (All-head P x (xs ++ (y ∷ ys)) h) (without_all P xs y ys (All-tail P x (xs ++ (y ∷ ys)) h))
+    All-cons P x (xs ++ ys) (All-head P x (xs ++ (y ∷ ys)) h)
+        (without_all P xs y ys (All-tail P x (xs ++ (y ∷ ys)) h))
 
 without : (xs : List Edge) (y : Edge) (ys : List Edge) → IsAscending (xs ++ (y ∷ ys)) → IsAscending (xs ++ ys)
 without [] y ys up = up.1
 without (x ∷ xs) y ys up = (without_all (λ f. is_less f x ≡ false) xs y ys up.0, without xs y ys up.1)
 
 -- ---- where the last edge of a list isn't opposite to one that follows in order, none is
-last_of_more : (f g : Edge) (gs : List Edge) (e : Edge) → IsOppositeAt e (g ∷ gs) (length (g ∷ gs) - 1) → IsOppositeAt e (f ∷ (g ∷ gs)) (length (f ∷ (g ∷ gs)) - 1)
+last_of_more : (f g : Edge) (gs : List Edge) (e : Edge) → IsOppositeAt e (g ∷ gs) (length (g ∷ gs) - 1)
+    → IsOppositeAt e (f ∷ (g ∷ gs)) (length (f ∷ (g ∷ gs)) - 1)
 last_of_more f g gs e h =
     let at : suc (length (g ∷ gs) - 1) ≡ length (f ∷ (g ∷ gs)) - 1 = omega arith in
     subst (IsOppositeAt e (f ∷ (g ∷ gs))) at (record { there = omega (arith, h.there); opposite = h.opposite })
 
-none_opposite : (left : List Edge) (e : Edge) (rest : List Edge) → IsAscending (left ++ (e ∷ rest)) → NoneOpposite left
+none_opposite : (left : List Edge) (e : Edge) (rest : List Edge) → IsAscending (left ++ (e ∷ rest))
+    → NoneOpposite left
     → (IsOppositeAt e left (length left - 1) → ⊥) → All (λ f. f ≡ turned e → ⊥) left
 none_opposite [] e rest up none last = All-nil (λ f. f ≡ turned e → ⊥)
 none_opposite (f ∷ []) e rest up none last =
-    All-cons (λ g. g ≡ turned e → ⊥) f [] (λ h. last (record { there = omega arith; opposite = λ d. h })) (All-nil (λ g. g ≡ turned e → ⊥))
+    All-cons (λ g. g ≡ turned e → ⊥) f [] (λ h. last (record { there = omega arith; opposite = λ d. h }))
+        (All-nil (λ g. g ≡ turned e → ⊥))
 none_opposite (f ∷ (g ∷ gs)) e rest up none last =
     let P : Edge → Type 0 = λ h. h ≡ turned e → ⊥ in
     let behind : All P (g ∷ gs) = none_opposite (g ∷ gs) e rest up.1 none.1 (λ h. last (last_of_more f g gs e h)) in
     let low : is_less g f ≡ false = All-head (λ h. is_less h f ≡ false) g (gs ++ (e ∷ rest)) up.0 in
     let high : is_less e g ≡ false = All-head (λ h. is_less h g ≡ false) e rest (behind_all (λ h. is_less h g ≡ false) gs (e ∷ rest) up.1.0) in
-    All-cons P f (g ∷ gs) (λ opposite. by_span opposite (All-head P g gs behind) (All-head (λ h. h ≡ turned f → ⊥) g gs none.0) (between f g e low high opposite)) behind
+    All-cons P f (g ∷ gs) (λ opposite. by_span opposite (All-head P g gs behind)
+        (All-head (λ h. h ≡ turned f → ⊥) g gs none.0) (between f g e low high opposite)) behind
   where
-    by_span : f ≡ turned e → (g ≡ turned e → ⊥) → (g ≡ turned f → ⊥) → (g ≡ e) ⊎ (g ≡ turned e) → ⊥
+    by_span : f ≡ turned e → (g ≡ turned e → ⊥) → (g ≡ turned f → ⊥)
+        → (g ≡ e) ⊎ (g ≡ turned e) → ⊥
     by_span opposite away apart (inl same) = apart (same ∙ ap turned (sym opposite))
     by_span opposite away apart (inr same) = away same
 
@@ -146,8 +158,10 @@ none_left es left e up =
 ahead : (es : List Edge) (i : ℕ) (d : Edge) → i < length es → drop i es ≡ get_or es i d ∷ drop (i + 1) es
 ahead es i d l = drop-cons es i d l ∙ ap (λ (n : ℕ). get_or es i d ∷ drop n es) (sym (add-one i))
 
-pub goes : (es : List Edge) (i : ℕ) (d : Edge) (left seen new : List Edge) (count : ℕ) → i < length es → Left es i left → seen ≡ left
-    → IsOppositeAt (get_or es i d) seen (length seen - 1) → count ≡ length left → new ≡ take (count - 1) left → Left es (i + 1) new
+pub goes : (es : List Edge) (i : ℕ) (d : Edge) (left seen new : List Edge) (count : ℕ) → i < length es
+    → Left es i left → seen ≡ left
+    → IsOppositeAt (get_or es i d) seen (length seen - 1) → count ≡ length left → new ≡ take (count - 1) left
+    → Left es (i + 1) new
 goes es i d left seen new count l h same at counted front_by_count =
     let e : Edge = get_or es i d in
     let last : ℕ = length left - 1 in
@@ -169,8 +183,10 @@ goes es i d left seen new count l h same at counted front_by_count =
       ascending = without new e rest (without new t (e ∷ rest) (subst IsAscending whole h.ascending));
     }
 
-pub stays : (es : List Edge) (i : ℕ) (d : Edge) (left seen new : List Edge) → i < length es → Left es i left → seen ≡ left
-    → (IsOppositeAt (get_or es i d) seen (length seen - 1) → ⊥) → new ≡ left ++ (get_or es i d ∷ []) → Left es (i + 1) new
+pub stays : (es : List Edge) (i : ℕ) (d : Edge) (left seen new : List Edge) → i < length es → Left es i left
+    → seen ≡ left
+    → (IsOppositeAt (get_or es i d) seen (length seen - 1) → ⊥) → new ≡ left ++ (get_or es i d ∷ [])
+    → Left es (i + 1) new
 stays es i d left seen new l h same last more =
     let e : Edge = get_or es i d in
     let rest : List Edge = drop (i + 1) es in
@@ -178,7 +194,8 @@ stays es i d left seen new l h same last more =
     let away : IsOppositeAt e left (length left - 1) → ⊥ = subst (λ (ss : List Edge). IsOppositeAt e ss (length ss - 1) → ⊥) same last in
     let whole : left ++ (e ∷ rest) ≡ new ++ rest = sym (append_assoc left (e ∷ []) rest) ∙ ap (λ (fs : List Edge). fs ++ rest) (sym more) in
     record {
-      cancelled = one_stays es i d left left new l h.cancelled refl (none_opposite left e rest here h.cancelled.none away) more;
+      cancelled = one_stays es i d left left new l h.cancelled refl
+          (none_opposite left e rest here h.cancelled.none away) more;
       ascending = subst IsAscending whole here;
     }
 
@@ -186,7 +203,8 @@ pub all_left : (es left : List Edge) (i : ℕ) → Left es i left → length es 
 all_left es left i h l = subst (λ (fs : List Edge). AreCancelled fs left) (take_all i es l) h.cancelled
 
 -- ---- the edges in another order
-pub left_in_order : (es sorted seen left : List Edge) → IsPermutation es sorted → seen ≡ sorted → AreCancelled seen left → AreCancelled es left
+pub left_in_order : (es sorted seen left : List Edge) → IsPermutation es sorted → seen ≡ sorted
+    → AreCancelled seen left → AreCancelled es left
 left_in_order es sorted seen left m same h = record {
   pairs = h.pairs;
   taken = IsPermutation-trans es sorted (left ++ (h.pairs ++ map turned h.pairs)) m

@@ -49,10 +49,12 @@ module _ {X : Type 0} (t : X → Bool) where
   one_more x xs h = counted x xs ∙ ap (λ (c : Bool). once c + count_by t xs) h
 
   later : (x : X) (xs : List X) (k : ℕ) → IsBlock (x ∷ xs) (suc k) → IsBlock xs k
-  later x xs k b = record { before = λ i l. b.before (suc i) (omega arith); from = λ i j l m h. b.from (suc i) (suc j) (omega arith) (omega arith) h }
+  later x xs k b = record { before = λ i l. b.before (suc i) (omega arith); from
+      = λ i j l m h. b.from (suc i) (suc j) (omega arith) (omega arith) h }
 
   rest : (x : X) (xs : List X) → IsBlock (x ∷ xs) 0 → IsBlock xs 0
-  rest x xs b = record { before = λ i l. absurd (omega arith); from = λ i j l m h. b.from (suc i) (suc j) (omega arith) (omega arith) h }
+  rest x xs b = record { before = λ i l. absurd (omega arith); from
+      = λ i j l m h. b.from (suc i) (suc j) (omega arith) (omega arith) h }
 
   none : (xs : List X) → IsBlock xs 0 → holds_at t xs 0 ≡ false → count_by t xs ≡ 0
   none [] b h = refl
@@ -63,7 +65,8 @@ module _ {X : Type 0} (t : X → Bool) where
       next true e = absurd (true≢false (sym (b.from 0 1 (omega arith) (omega arith) e) ∙ h))
 
   -- it holds once where it holds at the place and not at the next
-  pub once_here : (xs : List X) (k : ℕ) → IsBlock xs k → holds_at t xs k ≡ true → holds_at t xs (suc k) ≡ false → count_by t xs ≡ 1
+  pub once_here : (xs : List X) (k : ℕ) → IsBlock xs k → holds_at t xs k ≡ true
+      → holds_at t xs (suc k) ≡ false → count_by t xs ≡ 1
   once_here [] k b h g = absurd (true≢false (sym h))
   once_here (x ∷ xs) zero b h g = one_more x xs h ∙ ap (λ (n : ℕ). 1 + n) (none xs (rest x xs b) g)
   once_here (x ∷ xs) (suc k) b h g = skipped x xs (b.before 0 (omega arith)) ∙ once_here xs k (later x xs k b) h g
@@ -74,9 +77,11 @@ module _ {X : Type 0} (t : X → Bool) where
   two_once : (n m : ℕ) → n ≡ 1 + (1 + m) → n ≡ 1 → ⊥
   two_once n m h k = omega arith
 
-  pub not_once : (xs : List X) (k : ℕ) → IsBlock xs k → (holds_at t xs k && not (holds_at t xs (suc k))) ≡ false → count_by t xs ≡ 1 → ⊥
+  pub not_once : (xs : List X) (k : ℕ) → IsBlock xs k → (holds_at t xs k && not (holds_at t xs (suc k))) ≡ false
+      → count_by t xs ≡ 1 → ⊥
   not_once [] k b h o = none_once 0 refl o
-  not_once (x ∷ xs) (suc k) b h o = not_once xs k (later x xs k b) h (sym (skipped x xs (b.before 0 (omega arith))) ∙ o)
+  not_once (x ∷ xs) (suc k) b h o = not_once xs k (later x xs k b) h
+      (sym (skipped x xs (b.before 0 (omega arith))) ∙ o)
   not_once (x ∷ []) zero b h o = by_test (t x) refl
     where
       by_test : (c : Bool) → t x ≡ c → ⊥
@@ -91,17 +96,20 @@ module _ {X : Type 0} (t : X → Bool) where
           two_once (count_by t (x ∷ (y ∷ ys))) (count_by t ys)
           (one_more x (y ∷ ys) p ∙ ap (λ (n : ℕ). 1 + n) (one_more y ys q)) o
 
-  pub one_here : (xs : List X) (k : ℕ) → IsBlock xs k → holds_at t xs k ≡ true → holds_at t xs (k + 1) ≡ false → count_by t xs ≡ 1
+  pub one_here : (xs : List X) (k : ℕ) → IsBlock xs k → holds_at t xs k ≡ true
+      → holds_at t xs (k + 1) ≡ false → count_by t xs ≡ 1
   one_here xs k b h g = let next : k + 1 ≡ suc k = omega arith in once_here xs k b h (subst (λ (n : ℕ). holds_at t xs n ≡ false) next g)
 
   pub none_here : (xs : List X) (k : ℕ) → IsBlock xs k → holds_at t xs k ≡ false → count_by t xs ≡ 1 → ⊥
   none_here xs k b h = not_once xs k b (ap (λ (c : Bool). c && not (holds_at t xs (suc k))) h)
 
-  pub more_here : (xs : List X) (k : ℕ) → IsBlock xs k → holds_at t xs k ≡ true → holds_at t xs (k + 1) ≡ true → count_by t xs ≡ 1 → ⊥
+  pub more_here : (xs : List X) (k : ℕ) → IsBlock xs k → holds_at t xs k ≡ true
+      → holds_at t xs (k + 1) ≡ true → count_by t xs ≡ 1 → ⊥
   more_here xs k b h g =
       let next : k + 1 ≡ suc k = omega arith in
       not_once xs k b
-      (ap (λ (c : Bool). c && not (holds_at t xs (suc k))) h ∙ ap not (subst (λ (n : ℕ). holds_at t xs n ≡ true) next g))
+      (ap (λ (c : Bool). c && not (holds_at t xs (suc k))) h
+          ∙ ap not (subst (λ (n : ℕ). holds_at t xs n ≡ true) next g))
 
 -- ---- the elements of an ordered list that tie with one
 module _ {X : Type 0} (R : X → X → Ordering) (o : IsTotalOrder R) (x : X) where
@@ -119,7 +127,9 @@ module _ {X : Type 0} (R : X → X → Ordering) (o : IsTotalOrder R) (x : X) wh
 
       by_test : (b : Bool) → comes_before (get_or xs i d) ≡ b → b ≡ true
       by_test true e = refl
-      by_test false e = absurd (true≢false (sym h ∙ order.chain (get_or xs j d) (get_or xs i d) x (sorted_far (λ y z. is_lt (R y z)) order xs up i j d l m) e))
+      by_test false e = absurd (true≢false
+          (sym h ∙ order.chain (get_or xs j d) (get_or xs i d) x
+          (sorted_far (λ y z. is_lt (R y z)) order xs up i j d l m) e))
 
   before_apart : (r : Ordering) → is_lt (ordering_reverse r) ≡ true → is_eq r ≡ false
   before_apart Less h = refl
@@ -140,17 +150,23 @@ module _ {X : Type 0} (R : X → X → Ordering) (o : IsTotalOrder R) (x : X) wh
   apart_before y h = before_apart (R x y) (ap is_lt (sym (o.antisymm y x)) ∙ h)
 
   tied_too : (y z : X) → comes_before y ≡ false → is_lt (R z y) ≡ false → ties z ≡ true → ties y ≡ true
-  tied_too y z h s t = neither (R x y) (ap is_lt (o.congr x z y (equal_by (R x z) t)) ∙ s) (ap is_lt (sym (o.antisymm y x)) ∙ h)
+  tied_too y z h s t = neither (R x y) (ap is_lt (o.congr x z y (equal_by (R x z) t)) ∙ s)
+      (ap is_lt (sym (o.antisymm y x)) ∙ h)
 
-  pub tied_block : (xs : List X) (k : ℕ) (d : X) → IsSorted R xs → IsPartitionPoint (λ y. comes_before y ≡ true) (λ y. comes_before y ≡ false) xs k → IsBlock ties xs k
-  tied_block xs k d up point = record { before = λ i l. fails i l (cases_lt i (length xs)); from = λ i j l m h. holds i j l m h (cases_lt j (length xs)) }
+  pub tied_block : (xs : List X) (k : ℕ) (d : X) → IsSorted R xs
+      → IsPartitionPoint (λ y. comes_before y ≡ true) (λ y. comes_before y ≡ false) xs k → IsBlock ties xs k
+  tied_block xs k d up point = record { before = λ i l. fails i l (cases_lt i (length xs)); from
+      = λ i j l m h. holds i j l m h (cases_lt j (length xs)) }
     where
       fails : (i : ℕ) → i < k → (i < length xs) ⊎ (length xs ≤ i) → holds_at ties xs i ≡ false
       fails i l (inl a) = holds_there ties xs i d a ∙ apart_before (get_or xs i d) (point.0 i d (omega arith) l)
       fails i l (inr a) = holds_past ties xs i a
 
-      holds : (i j : ℕ) → k ≤ i → i ≤ j → holds_at ties xs j ≡ true → (j < length xs) ⊎ (length xs ≤ j) → holds_at ties xs i ≡ true
+      holds : (i j : ℕ) → k ≤ i → i ≤ j → holds_at ties xs j ≡ true
+          → (j < length xs) ⊎ (length xs ≤ j) → holds_at ties xs i ≡ true
       holds i j l m h (inr a) = absurd (true≢false (sym h ∙ holds_past ties xs j a))
       holds i j l m h (inl a) =
           holds_there ties xs i d (omega arith)
-          ∙ tied_too (get_or xs i d) (get_or xs j d) (point.1 i d l (omega arith)) (sorted_far (λ y z. is_lt (R y z)) (ranks_by o (λ y. y)) xs up i j d m a) (sym (holds_there ties xs j d a) ∙ h)
+          ∙ tied_too (get_or xs i d) (get_or xs j d) (point.1 i d l (omega arith))
+          (sorted_far (λ y z. is_lt (R y z)) (ranks_by o (λ y. y)) xs up i j d m a)
+          (sym (holds_there ties xs j d a) ∙ h)

@@ -71,12 +71,14 @@ pub record AreChained (pieces : List Piece) (c : Chains) (i : ℕ) : Type 0 wher
   pub chains : (h : ℕ) → h < length pieces → gone_at c.gone.items h ≡ false → IsChain pieces c h
   pub lasts : (t : ℕ) → i ≤ t → t < length pieces → IsLast (length pieces) c t
   pub joined : AreJoined pieces (wholes_of c)
-  pub gone : (j : ℕ) → j < length pieces → gone_at c.gone.items j ≡ true → starts_at (point_of (piece_at pieces j).from) (ways_of (wholes_of c)) ≡ 0
+  pub gone : (j : ℕ) → j < length pieces → gone_at c.gone.items j ≡ true
+      → starts_at (point_of (piece_at pieces j).from) (ways_of (wholes_of c)) ≡ 0
   pub stuck : (k : ℕ) → k < i → IsStuck (wholes_of c) (piece_at pieces k)
 
 -- the chain that begins at one place goes on with that which begins at another
 pub record IsLinked (old : Chains) (start next : ℕ) (new : Chains) : Type 0 where
-  pub wholes : new.wholes.items ≡ slice_set old.wholes.items start (joined (piece_at old.wholes.items start) (piece_at old.wholes.items next))
+  pub wholes : new.wholes.items ≡ slice_set old.wholes.items start
+      (joined (piece_at old.wholes.items start) (piece_at old.wholes.items next))
   pub gone : new.gone.items ≡ slice_set old.gone.items next true
   pub first : new.first.items ≡ slice_set old.first.items (place_at old.last.items next) start
   pub last : new.last.items ≡ slice_set old.last.items start (place_at old.last.items next)

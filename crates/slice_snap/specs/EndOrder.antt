@@ -11,7 +11,8 @@ use Rattle.slice_snap.specs.Chains.{piece_at}
 -- ---- the order
 -- spots by their levels' numbers, then from left to right
 abbrev pub spot_cmp : Spot → Spot → Ordering
-spot_cmp s t = ordering_then (ordering_then (int_cmp s.at.n t.at.n) (int_cmp s.at.d t.at.d)) (int_cmp (s.x *ℤ pos t.run) (t.x *ℤ pos s.run))
+spot_cmp s t = ordering_then (ordering_then (int_cmp s.at.n t.at.n) (int_cmp s.at.d t.at.d))
+    (int_cmp (s.x *ℤ pos t.run) (t.x *ℤ pos s.run))
 
 abbrev pub end_cmp : End → End → Ordering
 end_cmp e f = spot_cmp e.spot f.spot

@@ -6,7 +6,8 @@ use Rattle.slice_snap.specs.declared.piece.Piece.{Piece}
 use Rattle.slice_snap.specs.Spots.{point_of, is_same_spot}
 use Rattle.slice_snap.specs.Pieces.{ways_of}
 
--- two pieces of a list, besides the others: they have one name, the first ends where the second starts, and at that point no
+-- two pieces of a list, besides the others: they have one name, the first ends where the second starts, and at that
+-- point no
 -- other piece ends and no other starts
 pub record MeetAlone (pieces : List Piece) (first second : Piece) (others : List Piece) : Type 0 where
   pub two : IsPermutation pieces (first ∷ (second ∷ others))
@@ -25,6 +26,8 @@ NoneMeetAlone pieces = (first second : Piece) (others : List Piece) → MeetAlon
 
 -- merged pieces, in any order: two that meet alone become one, as long as there are any
 pub data AreMerged : List Piece → List Piece → Type 0 where
-  all_joined : {pieces merged : List Piece} → NoneMeetAlone pieces → IsPermutation pieces merged → AreMerged pieces merged
-  two_join : {pieces merged : List Piece} (first second : Piece) (others : List Piece) → MeetAlone pieces first second others
+  all_joined : {pieces merged : List Piece} → NoneMeetAlone pieces → IsPermutation pieces merged
+      → AreMerged pieces merged
+  two_join : {pieces merged : List Piece} (first second : Piece) (others : List Piece)
+      → MeetAlone pieces first second others
       → AreMerged (joined first second ∷ others) merged → AreMerged pieces merged

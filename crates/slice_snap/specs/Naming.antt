@@ -1,4 +1,5 @@
--- What the names of pieces say: pieces of one name are parts of one line, and no two of them overlap. Merging goes by it.
+-- What the names of pieces say: pieces of one name are parts of one line, and no two of them overlap. Merging goes by
+-- it.
 use Rattle.std.specs.Prelude.{List, [], ◌∷◌, ℕ, ◌<◌, ⊤, ◌≡◌, true, false, pos, ◌<ℤ◌, All}
 use Rattle.std.specs.List.{AllByRecursion}
 use Rattle.scad_geom.specs.declared.point.Edge.{Edge}
@@ -25,7 +26,8 @@ HasLength q = is_same_spot q.from q.to ≡ false
 
 -- two pieces don't overlap: no point lies inside both
 abbrev pub AreApart : Piece → Piece → Type 0
-AreApart q r = (p : Point) → pos 0 <ℤ p.d → IsInside (point_of q.from) (point_of q.to) p → IsInside (point_of r.from) (point_of r.to) p → ⊥
+AreApart q r = (p : Point) → pos 0 <ℤ p.d → IsInside (point_of q.from) (point_of q.to) p
+    → IsInside (point_of r.from) (point_of r.to) p → ⊥
 
 -- pieces of one name don't overlap
 abbrev pub AreApartByName : Piece → Piece → Type 0
@@ -36,7 +38,8 @@ abbrev pub AllPairs : (Piece → Piece → Type 0) → List Piece → Type 0
 AllPairs R [] = ⊤
 AllPairs R (q ∷ qs) = AllByRecursion (R q) qs × AllPairs R qs
 
--- pieces named by the numbers of edges, of which there are so many: each has a length and lies along the edge of its name,
+-- pieces named by the numbers of edges, of which there are so many: each has a length and lies along the edge of its
+-- name,
 -- and those of one name don't overlap
 pub record AreNamed (count : ℕ) (edge : ℕ → Edge) (pieces : List Piece) : Type 0 where
   pub there : All (λ q. q.edge < count) pieces
@@ -45,9 +48,12 @@ pub record AreNamed (count : ℕ) (edge : ℕ → Edge) (pieces : List Piece) : 
   pub apart : AllPairs AreApartByName pieces
 
 -- ---- the law
--- Two pieces along one edge that don't overlap, the first ending where the second starts, go on in one direction: their common
+-- Two pieces along one edge that don't overlap, the first ending where the second starts, go on in one direction: their
+-- common
 -- end lies inside the way from the first one's start to the second one's end.
 abbrev pub PiecesGoOn : Type 0
 PiecesGoOn =
-    (limit : ℕ) (e : Edge) (q r : Piece) → IsPieceWithin limit q → IsPieceWithin limit r → LiesAlong e q → LiesAlong e r → HasLength q → HasLength r
-    → AreApart q r → is_same_spot q.to r.from ≡ true → IsInside (point_of q.from) (point_of r.to) (point_of q.to)
+    (limit : ℕ) (e : Edge) (q r : Piece) → IsPieceWithin limit q → IsPieceWithin limit r → LiesAlong e q
+        → LiesAlong e r → HasLength q → HasLength r
+    → AreApart q r → is_same_spot q.to r.from ≡ true
+    → IsInside (point_of q.from) (point_of r.to) (point_of q.to)

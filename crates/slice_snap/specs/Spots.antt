@@ -12,7 +12,8 @@ point_of s = record { x = s.x; y = s.at.n *ℤ pos s.run; d = s.at.d *ℤ pos s.
 abbrev pub is_same_spot : Spot → Spot → Bool
 is_same_spot s t = is_same_point (point_of s) (point_of t)
 
--- a spot on a level within the limit, whose x isn't greater in size than the limit, over a run from 1 to twice the limit
+-- a spot on a level within the limit, whose x isn't greater in size than the limit, over a run from 1 to twice the
+-- limit
 pub record IsSpotWithin (limit : ℕ) (s : Spot) : Type 0 where
   pub level : IsLevelWithin limit s.at
   pub positive : 0 < s.run

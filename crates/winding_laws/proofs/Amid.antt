@@ -19,25 +19,32 @@ use Rattle.std.proofs.lemmas.Bool.{both_ways}
 -- ---- a point amid a segment lies between the ends
 rise_first : (a b p : Point) (o : IsOn a b p) → o.k *ℤ rise a p ≡ o.t *ℤ rise a b
 rise_first a b p o =
-    ring (o.k ∷ p.y ∷ a.d ∷ a.y ∷ p.d ∷ []) (v0 ⊗ (v1 ⊗ v2 ⊖ v3 ⊗ v4)) ((v0 ⊗ v1) ⊗ v2 ⊖ v3 ⊗ (v0 ⊗ v4)) refl
+    ring (o.k ∷ p.y ∷ a.d ∷ a.y ∷ p.d ∷ []) (v0 ⊗ (v1 ⊗ v2 ⊖ v3 ⊗ v4))
+        ((v0 ⊗ v1) ⊗ v2 ⊖ v3 ⊗ (v0 ⊗ v4)) refl
     ∙ ap₂ (λ (y z : ℤ). y *ℤ a.d -ℤ a.y *ℤ z) o.y o.d
-    ∙ ring (o.s ∷ o.t ∷ a.y ∷ a.d ∷ b.y ∷ b.d ∷ []) ((v0 ⊗ v2 ⊕ v1 ⊗ v4) ⊗ v3 ⊖ v2 ⊗ (v0 ⊗ v3 ⊕ v1 ⊗ v5))
+    ∙ ring (o.s ∷ o.t ∷ a.y ∷ a.d ∷ b.y ∷ b.d ∷ [])
+    ((v0 ⊗ v2 ⊕ v1 ⊗ v4) ⊗ v3 ⊖ v2 ⊗ (v0 ⊗ v3 ⊕ v1 ⊗ v5))
     (v1 ⊗ (v4 ⊗ v3 ⊖ v2 ⊗ v5)) refl
 
 rise_second : (a b p : Point) (o : IsOn a b p) → o.k *ℤ rise p b ≡ o.s *ℤ rise a b
 rise_second a b p o =
-    ring (o.k ∷ p.y ∷ b.d ∷ b.y ∷ p.d ∷ []) (v0 ⊗ (v3 ⊗ v4 ⊖ v1 ⊗ v2)) (v3 ⊗ (v0 ⊗ v4) ⊖ (v0 ⊗ v1) ⊗ v2) refl
+    ring (o.k ∷ p.y ∷ b.d ∷ b.y ∷ p.d ∷ []) (v0 ⊗ (v3 ⊗ v4 ⊖ v1 ⊗ v2))
+        (v3 ⊗ (v0 ⊗ v4) ⊖ (v0 ⊗ v1) ⊗ v2) refl
     ∙ ap₂ (λ (y z : ℤ). b.y *ℤ z -ℤ y *ℤ b.d) o.y o.d
-    ∙ ring (o.s ∷ o.t ∷ a.y ∷ a.d ∷ b.y ∷ b.d ∷ []) (v4 ⊗ (v0 ⊗ v3 ⊕ v1 ⊗ v5) ⊖ (v0 ⊗ v2 ⊕ v1 ⊗ v4) ⊗ v5)
+    ∙ ring (o.s ∷ o.t ∷ a.y ∷ a.d ∷ b.y ∷ b.d ∷ [])
+    (v4 ⊗ (v0 ⊗ v3 ⊕ v1 ⊗ v5) ⊖ (v0 ⊗ v2 ⊕ v1 ⊗ v4) ⊗ v5)
     (v0 ⊗ (v4 ⊗ v3 ⊖ v2 ⊗ v5)) refl
 
 bend_none : (a b p : Point) (o : IsOn a b p) → bend a b p *ℤ o.k ≡ pos 0
 bend_none a b p o =
-    ring (rise p b ∷ a.x ∷ rise a p ∷ b.x ∷ rise a b ∷ p.x ∷ o.k ∷ []) ((v0 ⊗ v1 ⊕ v2 ⊗ v3 ⊖ v4 ⊗ v5) ⊗ v6)
+    ring (rise p b ∷ a.x ∷ rise a p ∷ b.x ∷ rise a b ∷ p.x ∷ o.k ∷ [])
+        ((v0 ⊗ v1 ⊕ v2 ⊗ v3 ⊖ v4 ⊗ v5) ⊗ v6)
     ((v6 ⊗ v0) ⊗ v1 ⊕ (v6 ⊗ v2) ⊗ v3 ⊖ v4 ⊗ (v6 ⊗ v5)) refl
-    ∙ ap₂ (λ (y z : ℤ). y *ℤ a.x +ℤ z *ℤ b.x -ℤ rise a b *ℤ (o.k *ℤ p.x)) (rise_second a b p o) (rise_first a b p o)
+    ∙ ap₂ (λ (y z : ℤ). y *ℤ a.x +ℤ z *ℤ b.x -ℤ rise a b *ℤ (o.k *ℤ p.x)) (rise_second a b p o)
+    (rise_first a b p o)
     ∙ ap (λ (y : ℤ). (o.s *ℤ rise a b) *ℤ a.x +ℤ (o.t *ℤ rise a b) *ℤ b.x -ℤ rise a b *ℤ y) o.x
-    ∙ ring (o.s ∷ o.t ∷ rise a b ∷ a.x ∷ b.x ∷ []) ((v0 ⊗ v2) ⊗ v3 ⊕ (v1 ⊗ v2) ⊗ v4 ⊖ v2 ⊗ (v0 ⊗ v3 ⊕ v1 ⊗ v4))
+    ∙ ring (o.s ∷ o.t ∷ rise a b ∷ a.x ∷ b.x ∷ [])
+    ((v0 ⊗ v2) ⊗ v3 ⊕ (v1 ⊗ v2) ⊗ v4 ⊖ v2 ⊗ (v0 ⊗ v3 ⊕ v1 ⊗ v4))
     (num (pos 0)) refl
 
 pub on_line : (a b p : Point) → IsPoint a → IsOn a b p → side_by p a b ≡ pos 0
@@ -47,11 +54,13 @@ on_line a b p da o =
     ∙ ring (a.d ∷ []) (num (pos 0) ⊗ v0) (num (pos 0)) refl
 
 stays : (k r t z : ℤ) → pos 0 <ℤ k → k *ℤ r ≡ t *ℤ z → z ≡ pos 0 → r ≡ pos 0
-stays k r t z kp e h = zero_factor r k kp (*ℤ_comm r k ∙ e ∙ ap (λ (y : ℤ). t *ℤ y) h ∙ ring (t ∷ []) (v0 ⊗ num (pos 0))
+stays k r t z kp e h = zero_factor r k kp (*ℤ_comm r k ∙ e ∙ ap (λ (y : ℤ). t *ℤ y) h
+    ∙ ring (t ∷ []) (v0 ⊗ num (pos 0))
     (num (pos 0)) refl)
 
 -- by height, where the ends differ in height
-by_height : {A : Type 0} (a b p : Point) → IsAmid a b p → (IsBetween (λ q. q.y) a p b → A) → (rise a b ≡ pos 0 → A) → A
+by_height : {A : Type 0} (a b p : Point) → IsAmid a b p → (IsBetween (λ q. q.y) a p b → A)
+    → (rise a b ≡ pos 0 → A) → A
 by_height {A = A} a b p h found level =
     let o = h.on in
     by_lt_z (pos 0) (rise a b)
@@ -116,23 +125,30 @@ turn_of px py pd qx qy qd rx ry rd = (ry *ℤ qd -ℤ qy *ℤ rd) *ℤ px +ℤ (
     (ry *ℤ pd -ℤ py *ℤ rd) *ℤ qx
 
 scaled_turn : (k l m px py pd qx qy qd rx ry rd : ℤ) → turn_of px py pd qx qy qd rx ry rd *ℤ (k *ℤ (l *ℤ m))
-    ≡ turn_of (k *ℤ px) (k *ℤ py) (k *ℤ pd) (l *ℤ qx) (l *ℤ qy) (l *ℤ qd) (m *ℤ rx) (m *ℤ ry) (m *ℤ rd)
+    ≡ turn_of (k *ℤ px) (k *ℤ py) (k *ℤ pd) (l *ℤ qx) (l *ℤ qy) (l *ℤ qd) (m *ℤ rx) (m *ℤ ry)
+    (m *ℤ rd)
 scaled_turn k l m px py pd qx qy qd rx ry rd =
     ring (k ∷ l ∷ m ∷ px ∷ py ∷ pd ∷ qx ∷ qy ∷ qd ∷ rx ∷ ry ∷ rd ∷ [])
-    (((v10 ⊗ v8 ⊖ v7 ⊗ v11) ⊗ v3 ⊕ (v7 ⊗ v5 ⊖ v4 ⊗ v8) ⊗ v9 ⊖ (v10 ⊗ v5 ⊖ v4 ⊗ v11) ⊗ v6) ⊗ (v0 ⊗ (v1 ⊗ v2)))
-    (((v2 ⊗ v10) ⊗ (v1 ⊗ v8) ⊖ (v1 ⊗ v7) ⊗ (v2 ⊗ v11)) ⊗ (v0 ⊗ v3) ⊕ ((v1 ⊗ v7) ⊗ (v0 ⊗ v5) ⊖ (v0 ⊗ v4) ⊗ (v1 ⊗ v8)) ⊗
+    (((v10 ⊗ v8 ⊖ v7 ⊗ v11) ⊗ v3 ⊕ (v7 ⊗ v5 ⊖ v4 ⊗ v8) ⊗ v9 ⊖ (v10 ⊗ v5 ⊖ v4 ⊗ v11) ⊗ v6)
+        ⊗ (v0 ⊗ (v1 ⊗ v2)))
+    (((v2 ⊗ v10) ⊗ (v1 ⊗ v8) ⊖ (v1 ⊗ v7) ⊗ (v2 ⊗ v11)) ⊗ (v0 ⊗ v3)
+        ⊕ ((v1 ⊗ v7) ⊗ (v0 ⊗ v5) ⊖ (v0 ⊗ v4) ⊗ (v1 ⊗ v8)) ⊗
     (v2 ⊗ v9)
     ⊖ ((v2 ⊗ v10) ⊗ (v0 ⊗ v5) ⊖ (v0 ⊗ v4) ⊗ (v2 ⊗ v11)) ⊗ (v1 ⊗ v6)) refl
 
 -- by weights of two points
-no_turn : (s t f g h w ax ay ad bx by bd : ℤ) → turn_of (s *ℤ ax +ℤ t *ℤ bx) (s *ℤ ay +ℤ t *ℤ by) (s *ℤ ad +ℤ t *ℤ bd)
+no_turn : (s t f g h w ax ay ad bx by bd : ℤ)
+    → turn_of (s *ℤ ax +ℤ t *ℤ bx) (s *ℤ ay +ℤ t *ℤ by) (s *ℤ ad +ℤ t *ℤ bd)
     (f *ℤ ax +ℤ g *ℤ bx) (f *ℤ ay +ℤ g *ℤ by) (f *ℤ ad +ℤ g *ℤ bd)
     (h *ℤ ax +ℤ w *ℤ bx) (h *ℤ ay +ℤ w *ℤ by) (h *ℤ ad +ℤ w *ℤ bd) ≡ pos 0
 no_turn s t f g h w ax ay ad bx by bd =
     ring (s ∷ t ∷ f ∷ g ∷ h ∷ w ∷ ax ∷ ay ∷ ad ∷ bx ∷ by ∷ bd ∷ [])
-    (((v4 ⊗ v7 ⊕ v5 ⊗ v10) ⊗ (v2 ⊗ v8 ⊕ v3 ⊗ v11) ⊖ (v2 ⊗ v7 ⊕ v3 ⊗ v10) ⊗ (v4 ⊗ v8 ⊕ v5 ⊗ v11)) ⊗ (v0 ⊗ v6 ⊕ v1 ⊗ v9)
-    ⊕ ((v2 ⊗ v7 ⊕ v3 ⊗ v10) ⊗ (v0 ⊗ v8 ⊕ v1 ⊗ v11) ⊖ (v0 ⊗ v7 ⊕ v1 ⊗ v10) ⊗ (v2 ⊗ v8 ⊕ v3 ⊗ v11)) ⊗ (v4 ⊗ v6 ⊕ v5 ⊗ v9)
-    ⊖ ((v4 ⊗ v7 ⊕ v5 ⊗ v10) ⊗ (v0 ⊗ v8 ⊕ v1 ⊗ v11) ⊖ (v0 ⊗ v7 ⊕ v1 ⊗ v10) ⊗ (v4 ⊗ v8 ⊕ v5 ⊗ v11)) ⊗ (v2 ⊗ v6 ⊕ v3 ⊗ v9))
+    (((v4 ⊗ v7 ⊕ v5 ⊗ v10) ⊗ (v2 ⊗ v8 ⊕ v3 ⊗ v11) ⊖ (v2 ⊗ v7 ⊕ v3 ⊗ v10)
+        ⊗ (v4 ⊗ v8 ⊕ v5 ⊗ v11)) ⊗ (v0 ⊗ v6 ⊕ v1 ⊗ v9)
+    ⊕ ((v2 ⊗ v7 ⊕ v3 ⊗ v10) ⊗ (v0 ⊗ v8 ⊕ v1 ⊗ v11) ⊖ (v0 ⊗ v7 ⊕ v1 ⊗ v10)
+        ⊗ (v2 ⊗ v8 ⊕ v3 ⊗ v11)) ⊗ (v4 ⊗ v6 ⊕ v5 ⊗ v9)
+    ⊖ ((v4 ⊗ v7 ⊕ v5 ⊗ v10) ⊗ (v0 ⊗ v8 ⊕ v1 ⊗ v11) ⊖ (v0 ⊗ v7 ⊕ v1 ⊗ v10)
+        ⊗ (v4 ⊗ v8 ⊕ v5 ⊗ v11)) ⊗ (v2 ⊗ v6 ⊕ v3 ⊗ v9))
     (num (pos 0)) refl
 
 pub three_on_line : (a b p q r : Point) → IsOn a b p → IsOn a b q → IsOn a b r → side_by q p r ≡ pos 0
@@ -145,6 +161,7 @@ three_on_line a b p q r hp hq hr =
     rw (hp.x, hp.y, hp.d, hq.x, hq.y, hq.d, hr.x, hr.y, hr.d) (no_turn hp.s hp.t hq.s hq.t hr.s hr.t a.x a.y a.d b.x b.y
     b.d) in
     sym (bend_side p r q)
-    ∙ ap (λ (z : ℤ). z *ℤ p.d) (zero_factor (bend p r q) k more (scaled_turn hp.k hq.k hr.k p.x p.y p.d q.x q.y q.d r.x
+    ∙ ap (λ (z : ℤ). z *ℤ p.d) (zero_factor (bend p r q) k more
+    (scaled_turn hp.k hq.k hr.k p.x p.y p.d q.x q.y q.d r.x
     r.y r.d ∙ none))
     ∙ ring (p.d ∷ []) (num (pos 0) ⊗ v0) (num (pos 0)) refl

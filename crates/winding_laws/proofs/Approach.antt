@@ -20,13 +20,15 @@ across_is : (n x y : ℤ) → n *ℤ x +ℤ pos 0 *ℤ y ≡ n *ℤ x
 across_is n x y = ring (n ∷ x ∷ y ∷ []) (v0 ⊗ v1 ⊕ num (pos 0) ⊗ v2) (v0 ⊗ v1) refl
 
 across_back : (n x y : ℤ) → (pos 0 -ℤ n) *ℤ x +ℤ pos 0 *ℤ y ≡ n *ℤ (pos 0 -ℤ x)
-across_back n x y = ring (n ∷ x ∷ y ∷ []) ((num (pos 0) ⊖ v0) ⊗ v1 ⊕ num (pos 0) ⊗ v2) (v0 ⊗ (num (pos 0) ⊖ v1)) refl
+across_back n x y = ring (n ∷ x ∷ y ∷ []) ((num (pos 0) ⊖ v0) ⊗ v1 ⊕ num (pos 0) ⊗ v2)
+    (v0 ⊗ (num (pos 0) ⊖ v1)) refl
 
 along_is : (n x y : ℤ) → pos 0 *ℤ x +ℤ n *ℤ y ≡ n *ℤ y
 along_is n x y = ring (n ∷ x ∷ y ∷ []) (num (pos 0) ⊗ v1 ⊕ v0 ⊗ v2) (v0 ⊗ v2) refl
 
 along_back : (n x y : ℤ) → pos 0 *ℤ x +ℤ (pos 0 -ℤ n) *ℤ y ≡ n *ℤ (pos 0 -ℤ y)
-along_back n x y = ring (n ∷ x ∷ y ∷ []) (num (pos 0) ⊗ v1 ⊕ (num (pos 0) ⊖ v0) ⊗ v2) (v0 ⊗ (num (pos 0) ⊖ v2)) refl
+along_back n x y = ring (n ∷ x ∷ y ∷ []) (num (pos 0) ⊗ v1 ⊕ (num (pos 0) ⊖ v0) ⊗ v2)
+    (v0 ⊗ (num (pos 0) ⊖ v2)) refl
 
 pub at_most_as : (s t u : ℤ) → s ≡ u → u ≤ℤ t → s ≤ℤ t
 at_most_as s t u e h = omega (arith, ints)
@@ -89,7 +91,8 @@ module _ (n : ℤ) (np : pos 0 <ℤ n) (a b p : Point) (da : IsPoint a) (db : Is
   amid_positive : pos 0 <ℤ amid.d
   amid_positive = let s = at_least_mul weight p.d weight_least (at_most_of_less (pos 0) p.d dp) in let t = middle_positive in omega (arith, ints)
 
-  gap_same : (w p d m e : ℤ) → (w *ℤ p +ℤ pos 1 *ℤ m) *ℤ d -ℤ p *ℤ (w *ℤ d +ℤ pos 1 *ℤ e) ≡ m *ℤ d -ℤ p *ℤ e
+  gap_same : (w p d m e : ℤ) → (w *ℤ p +ℤ pos 1 *ℤ m) *ℤ d -ℤ p *ℤ (w *ℤ d +ℤ pos 1 *ℤ e)
+      ≡ m *ℤ d -ℤ p *ℤ e
   gap_same w p d m e = ring (w ∷ p ∷ d ∷ m ∷ e ∷ []) ((v0 ⊗ v1 ⊕ num (pos 1) ⊗ v3) ⊗ v2 ⊖ v1 ⊗
       (v0 ⊗ v2 ⊕ num (pos 1) ⊗ v4)) (v3 ⊗ v2 ⊖ v1 ⊗ v4) refl
 
@@ -128,22 +131,27 @@ module _ (n : ℤ) (np : pos 0 <ℤ n) (a b p : Point) (da : IsPoint a) (db : Is
       holds_as (box n (pos 1)) (record { x = x_gap; y = y_gap; d = amid.d *ℤ p.d }) (seen_from p amid)
       (sym (gap_same weight p.x p.d middle.x middle.d)) (sym (gap_same weight p.y p.d middle.y middle.d)) refl
       (in_box n (pos 1) (record { x = x_gap; y = y_gap; d = amid.d *ℤ p.d })
-      (most _ _ _ (below x_gap (x_gap *ℤ x_gap) (y_gap *ℤ y_gap) (at_most_square x_gap) (square_at_least y_gap)) room)
+      (most _ _ _ (below x_gap (x_gap *ℤ x_gap) (y_gap *ℤ y_gap) (at_most_square x_gap) (square_at_least y_gap))
+          room)
       (most _ _ _ (below (pos 0 -ℤ x_gap) (x_gap *ℤ x_gap) (y_gap *ℤ y_gap) (at_most_turned x_gap)
       (square_at_least y_gap)) room)
-      (most _ _ _ (below_second y_gap (x_gap *ℤ x_gap) (y_gap *ℤ y_gap) (at_most_square y_gap) (square_at_least x_gap))
+      (most _ _ _ (below_second y_gap (x_gap *ℤ x_gap) (y_gap *ℤ y_gap) (at_most_square y_gap)
+          (square_at_least x_gap))
       room)
       (most _ _ _ (below_second (pos 0 -ℤ y_gap) (x_gap *ℤ x_gap) (y_gap *ℤ y_gap) (at_most_turned y_gap)
       (square_at_least x_gap)) room))
 
   -- its weights
-  one_number : (w k s t e f p x y : ℤ) → k *ℤ p ≡ s *ℤ x +ℤ t *ℤ y → k *ℤ (w *ℤ p +ℤ pos 1 *ℤ (f *ℤ x +ℤ e *ℤ y))
+  one_number : (w k s t e f p x y : ℤ) → k *ℤ p ≡ s *ℤ x +ℤ t *ℤ y
+      → k *ℤ (w *ℤ p +ℤ pos 1 *ℤ (f *ℤ x +ℤ e *ℤ y))
       ≡ (w *ℤ s +ℤ k *ℤ f) *ℤ x +ℤ (w *ℤ t +ℤ k *ℤ e) *ℤ y
   one_number w k s t e f p x y h =
-      ring (w ∷ k ∷ e ∷ f ∷ p ∷ x ∷ y ∷ []) (v1 ⊗ (v0 ⊗ v4 ⊕ num (pos 1) ⊗ (v3 ⊗ v5 ⊕ v2 ⊗ v6)))
+      ring (w ∷ k ∷ e ∷ f ∷ p ∷ x ∷ y ∷ [])
+          (v1 ⊗ (v0 ⊗ v4 ⊕ num (pos 1) ⊗ (v3 ⊗ v5 ⊕ v2 ⊗ v6)))
       (v0 ⊗ (v1 ⊗ v4) ⊕ v1 ⊗ (v3 ⊗ v5 ⊕ v2 ⊗ v6)) refl
       ∙ ap (λ (z : ℤ). w *ℤ z +ℤ k *ℤ (f *ℤ x +ℤ e *ℤ y)) h
-      ∙ ring (w ∷ k ∷ s ∷ t ∷ e ∷ f ∷ x ∷ y ∷ []) (v0 ⊗ (v2 ⊗ v6 ⊕ v3 ⊗ v7) ⊕ v1 ⊗ (v5 ⊗ v6 ⊕ v4 ⊗ v7))
+      ∙ ring (w ∷ k ∷ s ∷ t ∷ e ∷ f ∷ x ∷ y ∷ [])
+      (v0 ⊗ (v2 ⊗ v6 ⊕ v3 ⊗ v7) ⊕ v1 ⊗ (v5 ⊗ v6 ⊕ v4 ⊗ v7))
       ((v0 ⊗ v2 ⊕ v1 ⊗ v5) ⊗ v6 ⊕ (v0 ⊗ v3 ⊕ v1 ⊗ v4) ⊗ v7) refl
 
   above : (s e : ℤ) → pos 0 ≤ℤ s → pos 0 <ℤ e → pos 0 <ℤ (weight *ℤ s +ℤ o.k *ℤ e)

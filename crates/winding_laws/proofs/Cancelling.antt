@@ -66,7 +66,8 @@ module _ (p : Point) where
       ap (starts_at p) (parts left pairs)
       ∙ starts-append (segments left) (segments pairs ++ segments (map turned pairs))
       ∙ ap (λ (n : ℕ). starts_at p (segments left) + n)
-      (starts-append (segments pairs) (segments (map turned pairs)) ∙ ap (λ (n : ℕ). starts_at p (segments pairs) + n)
+      (starts-append (segments pairs) (segments (map turned pairs))
+          ∙ ap (λ (n : ℕ). starts_at p (segments pairs) + n)
       (starts-turned pairs))
 
   all_ends : (left pairs : List Edge) → ends_at p (segments (left ++ (pairs ++ map turned pairs)))
@@ -125,7 +126,8 @@ module _ (above right : Bool) (q : Point) (d : pos 0 <ℤ q.d) where
       (winding (left ++ (pairs ++ map turned pairs)))
       (ap (wind_by above right q) (parts left pairs)
       ∙ wind-append above right q (segments left) (segments pairs ++ segments (map turned pairs))
-      ∙ ap (λ (z : ℤ). winding left +ℤ z) (wind-append above right q (segments pairs) (segments (map turned pairs))))
+      ∙ ap (λ (z : ℤ). winding left +ℤ z)
+      (wind-append above right q (segments pairs) (segments (map turned pairs))))
       (wind-turned pairs)
 
 pub cancelling_keeps_winding : CancellingKeepsWinding

@@ -21,7 +21,8 @@ use Rattle.std.proofs.Math.IntN.{+ℤ_comm}
 
 -- no point of the segment from a to b is one of the region's
 abbrev pub IsAway : List HalfPlane → Point → Point → Type 0
-IsAway region a b = (s t : ℤ) → pos 0 ≤ℤ s → pos 0 ≤ℤ t → pos 0 <ℤ (s +ℤ t) → Holds region (mean s t a b) → ⊥
+IsAway region a b = (s t : ℤ) → pos 0 ≤ℤ s → pos 0 ≤ℤ t → pos 0 <ℤ (s +ℤ t)
+    → Holds region (mean s t a b) → ⊥
 
 -- turned round
 pub away_turned : (region : List HalfPlane) (a b : Point) → IsAway region a b → IsAway region b a
@@ -37,17 +38,21 @@ module _ (region : List HalfPlane) (a b p q r : Point) (da : pos 0 <ℤ a.d) (db
     (dq : pos 0 <ℤ q.d) (dr : pos 0 <ℤ r.d)
     (np : IsNear region p a) (nq : IsNear region q b) (nr : IsNear region r b) where
   one_axis : (u v w x y z f g h c e d k : ℤ) → u *ℤ x +ℤ (v *ℤ y +ℤ w *ℤ z) ≡ pos 0
-      → (c *ℤ f -ℤ x *ℤ e) *ℤ (u *ℤ k) +ℤ ((d *ℤ g -ℤ y *ℤ k) *ℤ (v *ℤ e) +ℤ (d *ℤ h -ℤ z *ℤ k) *ℤ (w *ℤ e))
+      → (c *ℤ f -ℤ x *ℤ e) *ℤ (u *ℤ k) +ℤ
+      ((d *ℤ g -ℤ y *ℤ k) *ℤ (v *ℤ e) +ℤ (d *ℤ h -ℤ z *ℤ k) *ℤ (w *ℤ e))
       ≡ (u *ℤ (f *ℤ k)) *ℤ c +ℤ (v *ℤ (g *ℤ e) +ℤ w *ℤ (h *ℤ e)) *ℤ d
   one_axis u v w x y z f g h c e d k o =
       ring (u ∷ v ∷ w ∷ x ∷ y ∷ z ∷ f ∷ g ∷ h ∷ c ∷ e ∷ d ∷ k ∷ [])
-      ((v9 ⊗ v6 ⊖ v3 ⊗ v10) ⊗ (v0 ⊗ v12) ⊕ ((v11 ⊗ v7 ⊖ v4 ⊗ v12) ⊗ (v1 ⊗ v10) ⊕ (v11 ⊗ v8 ⊖ v5 ⊗ v12) ⊗ (v2 ⊗ v10)))
+      ((v9 ⊗ v6 ⊖ v3 ⊗ v10) ⊗ (v0 ⊗ v12)
+          ⊕ ((v11 ⊗ v7 ⊖ v4 ⊗ v12) ⊗ (v1 ⊗ v10) ⊕ (v11 ⊗ v8 ⊖ v5 ⊗ v12) ⊗ (v2 ⊗ v10)))
       (((v0 ⊗ (v6 ⊗ v12)) ⊗ v9 ⊕ (v1 ⊗ (v7 ⊗ v10) ⊕ v2 ⊗ (v8 ⊗ v10)) ⊗ v11) ⊖ (v10 ⊗ v12) ⊗
       (v0 ⊗ v3 ⊕ (v1 ⊗ v4 ⊕ v2 ⊗ v5))) refl
-      ∙ ap (λ (s : ℤ). ((u *ℤ (f *ℤ k)) *ℤ c +ℤ (v *ℤ (g *ℤ e) +ℤ w *ℤ (h *ℤ e)) *ℤ d) -ℤ (e *ℤ k) *ℤ s) o
+      ∙ ap (λ (s : ℤ). ((u *ℤ (f *ℤ k)) *ℤ c +ℤ (v *ℤ (g *ℤ e) +ℤ w *ℤ (h *ℤ e)) *ℤ d) -ℤ
+      (e *ℤ k) *ℤ s) o
       ∙ sub_times_zero ((u *ℤ (f *ℤ k)) *ℤ c +ℤ (v *ℤ (g *ℤ e) +ℤ w *ℤ (h *ℤ e)) *ℤ d) (e *ℤ k)
 
-  weights : (u v w f g h e k : ℤ) → (e *ℤ f) *ℤ (u *ℤ k) +ℤ ((k *ℤ g) *ℤ (v *ℤ e) +ℤ (k *ℤ h) *ℤ (w *ℤ e))
+  weights : (u v w f g h e k : ℤ) → (e *ℤ f) *ℤ (u *ℤ k) +ℤ
+      ((k *ℤ g) *ℤ (v *ℤ e) +ℤ (k *ℤ h) *ℤ (w *ℤ e))
       ≡ (u *ℤ (f *ℤ k)) *ℤ e +ℤ (v *ℤ (g *ℤ e) +ℤ w *ℤ (h *ℤ e)) *ℤ k
   weights u v w f g h e k =
       ring (u ∷ v ∷ w ∷ f ∷ g ∷ h ∷ e ∷ k ∷ [])
@@ -57,12 +62,14 @@ module _ (region : List HalfPlane) (a b p q r : Point) (da : pos 0 <ℤ a.d) (db
   origin_x : cross q r *ℤ p.x +ℤ (cross r p *ℤ q.x +ℤ cross p q *ℤ r.x) ≡ pos 0
   unfolding cross
   origin_x = ring (p.x ∷ p.y ∷ q.x ∷ q.y ∷ r.x ∷ r.y ∷ [])
-      ((v2 ⊗ v5 ⊖ v3 ⊗ v4) ⊗ v0 ⊕ ((v4 ⊗ v1 ⊖ v5 ⊗ v0) ⊗ v2 ⊕ (v0 ⊗ v3 ⊖ v1 ⊗ v2) ⊗ v4)) (num (pos 0)) refl
+      ((v2 ⊗ v5 ⊖ v3 ⊗ v4) ⊗ v0 ⊕ ((v4 ⊗ v1 ⊖ v5 ⊗ v0) ⊗ v2 ⊕ (v0 ⊗ v3 ⊖ v1 ⊗ v2) ⊗ v4))
+          (num (pos 0)) refl
 
   origin_y : cross q r *ℤ p.y +ℤ (cross r p *ℤ q.y +ℤ cross p q *ℤ r.y) ≡ pos 0
   unfolding cross
   origin_y = ring (p.x ∷ p.y ∷ q.x ∷ q.y ∷ r.x ∷ r.y ∷ [])
-      ((v2 ⊗ v5 ⊖ v3 ⊗ v4) ⊗ v1 ⊕ ((v4 ⊗ v1 ⊖ v5 ⊗ v0) ⊗ v3 ⊕ (v0 ⊗ v3 ⊖ v1 ⊗ v2) ⊗ v5)) (num (pos 0)) refl
+      ((v2 ⊗ v5 ⊖ v3 ⊗ v4) ⊗ v1 ⊕ ((v4 ⊗ v1 ⊖ v5 ⊗ v0) ⊗ v3 ⊕ (v0 ⊗ v3 ⊖ v1 ⊗ v2) ⊗ v5))
+          (num (pos 0)) refl
 
   pub not_round : IsAway region a b → ¬ IsRound p q r
   not_round away = λ round.

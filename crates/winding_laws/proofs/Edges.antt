@@ -27,8 +27,8 @@ pub far_proper : (region : List HalfPlane) (q : Point) (ss : List Segment)
 far_proper region q [] h = tt
 far_proper region q (s ∷ ss) h = (h.0.proper, far_proper region q ss h.1)
 
-by_triangles : (ab bc ca cd da ad dc : ℤ) → ab +ℤ (bc +ℤ ca) ≡ pos 0 → dc +ℤ (da +ℤ ad) ≡ pos 0 → ca ≡ pos 0 -ℤ ad
-    → dc ≡ pos 0 -ℤ cd → cd ≡ ab +ℤ (bc +ℤ da)
+by_triangles : (ab bc ca cd da ad dc : ℤ) → ab +ℤ (bc +ℤ ca) ≡ pos 0 → dc +ℤ (da +ℤ ad) ≡ pos 0
+    → ca ≡ pos 0 -ℤ ad → dc ≡ pos 0 -ℤ cd → cd ≡ ab +ℤ (bc +ℤ da)
 by_triangles ab bc ca cd da ad dc h k e f = omega (arith, ints)
 
 turned_back : (ab bd ca ac : ℤ) → ca ≡ pos 0 -ℤ ac → ab +ℤ (bd +ℤ ca) ≡ ab +ℤ (bd -ℤ ac)
@@ -51,9 +51,8 @@ module _ (region : List HalfPlane) (above right : Bool) where
       ∙ turned_back (swing above right a b) (swing above right b d) (swing above right c a) (swing above right a c)
       (swing_turned above right a c)
 
-  pub moved_turn : HoldsOrigin region → (q a b c d : Point) → pos 0 <ℤ q.d → pos 0 <ℤ a.d → pos 0 <ℤ b.d → pos 0 <ℤ c.d
-      → pos 0 <ℤ d.d
-      → IsFar region q a b → IsNear region c a → IsNear region d b
+  pub moved_turn : HoldsOrigin region → (q a b c d : Point) → pos 0 <ℤ q.d → pos 0 <ℤ a.d → pos 0 <ℤ b.d
+      → pos 0 <ℤ c.d → pos 0 <ℤ d.d → IsFar region q a b → IsNear region c a → IsNear region d b
       → turn above right q c d ≡ turn above right q a b +ℤ (turn above right q b d -ℤ turn above right q a c)
   moved_turn o q a b c d dq da db dc dd clear nc nd =
       let least = square_at_least q.d in

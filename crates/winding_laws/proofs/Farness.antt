@@ -28,17 +28,21 @@ on_near region q a b p h n =
     h.y h.d) (weights h.k (h.s *ℤ a.d +ℤ h.t *ℤ b.d) p.d q.d h.d)
     (holds_scaled region (seen_from q p) h.k (at_most_of_less (pos 0) h.k h.positive) n)
   where
-    one_axis : (k s t x d y e z f w g : ℤ) → k *ℤ x ≡ s *ℤ y +ℤ t *ℤ z → k *ℤ d ≡ s *ℤ e +ℤ t *ℤ f
+    one_axis : (k s t x d y e z f w g : ℤ) → k *ℤ x ≡ s *ℤ y +ℤ t *ℤ z
+        → k *ℤ d ≡ s *ℤ e +ℤ t *ℤ f
         → (x *ℤ g -ℤ w *ℤ d) *ℤ k ≡ (s *ℤ y +ℤ t *ℤ z) *ℤ g -ℤ w *ℤ (s *ℤ e +ℤ t *ℤ f)
     one_axis k s t x d y e z f w g hx hd =
-        ring (k ∷ x ∷ d ∷ w ∷ g ∷ []) ((v1 ⊗ v4 ⊖ v3 ⊗ v2) ⊗ v0) ((v0 ⊗ v1) ⊗ v4 ⊖ v3 ⊗ (v0 ⊗ v2)) refl
+        ring (k ∷ x ∷ d ∷ w ∷ g ∷ []) ((v1 ⊗ v4 ⊖ v3 ⊗ v2) ⊗ v0)
+            ((v0 ⊗ v1) ⊗ v4 ⊖ v3 ⊗ (v0 ⊗ v2)) refl
         ∙ ap₂ (λ (y z : ℤ). y *ℤ g -ℤ w *ℤ z) hx hd
 
     weights : (k m d g : ℤ) → k *ℤ d ≡ m → (d *ℤ g) *ℤ k ≡ m *ℤ g
-    weights k m d g h = ring (k ∷ d ∷ g ∷ []) ((v1 ⊗ v2) ⊗ v0) ((v0 ⊗ v1) ⊗ v2) refl ∙ ap (λ (z : ℤ). z *ℤ g) h
+    weights k m d g h = ring (k ∷ d ∷ g ∷ []) ((v1 ⊗ v2) ⊗ v0) ((v0 ⊗ v1) ⊗ v2) refl
+        ∙ ap (λ (z : ℤ). z *ℤ g) h
 
 -- what is far from a segment is near to none of its points
-pub far_from : (region : List HalfPlane) (q a b p : Point) → IsFar region q a b → IsOn a b p → ¬ IsNear region q p
+pub far_from : (region : List HalfPlane) (q a b p : Point) → IsFar region q a b → IsOn a b p
+    → ¬ IsNear region q p
 far_from region q a b p f h = λ n. f h.s h.t h.first h.second h.some (on_near region q a b p h n)
 
 far_part : (region : List HalfPlane) (q a b c d : Point) → IsOn a b c → IsOn a b d → IsFar region q a b
@@ -80,24 +84,32 @@ module _ (q a b c d : Point) (u v : ℤ) where
   abbrev view : Point
   view = scaled (seen_from q (mean u v c d)) (a.d *ℤ b.d)
 
-  one_axis : (u v x e y f z g w h p k : ℤ) → ((u *ℤ z +ℤ v *ℤ w) *ℤ k -ℤ p *ℤ (u *ℤ g +ℤ v *ℤ h)) *ℤ (e *ℤ f) +ℤ
+  one_axis : (u v x e y f z g w h p k : ℤ)
+      → ((u *ℤ z +ℤ v *ℤ w) *ℤ k -ℤ p *ℤ (u *ℤ g +ℤ v *ℤ h)) *ℤ (e *ℤ f) +ℤ
       ((x *ℤ g -ℤ z *ℤ e) *ℤ (u *ℤ f) +ℤ (y *ℤ h -ℤ w *ℤ f) *ℤ (v *ℤ e)) *ℤ k
-      ≡ ((u *ℤ (g *ℤ f)) *ℤ x +ℤ (v *ℤ (h *ℤ e)) *ℤ y) *ℤ k -ℤ p *ℤ ((u *ℤ (g *ℤ f)) *ℤ e +ℤ (v *ℤ (h *ℤ e)) *ℤ f)
+      ≡ ((u *ℤ (g *ℤ f)) *ℤ x +ℤ (v *ℤ (h *ℤ e)) *ℤ y) *ℤ k -ℤ p *ℤ
+      ((u *ℤ (g *ℤ f)) *ℤ e +ℤ (v *ℤ (h *ℤ e)) *ℤ f)
   one_axis u v x e y f z g w h p k =
       ring (u ∷ v ∷ x ∷ e ∷ y ∷ f ∷ z ∷ g ∷ w ∷ h ∷ p ∷ k ∷ [])
-      (((v0 ⊗ v6 ⊕ v1 ⊗ v8) ⊗ v11 ⊖ v10 ⊗ (v0 ⊗ v7 ⊕ v1 ⊗ v9)) ⊗ (v3 ⊗ v5) ⊕ ((v2 ⊗ v7 ⊖ v6 ⊗ v3) ⊗ (v0 ⊗ v5) ⊕
+      (((v0 ⊗ v6 ⊕ v1 ⊗ v8) ⊗ v11 ⊖ v10 ⊗ (v0 ⊗ v7 ⊕ v1 ⊗ v9)) ⊗ (v3 ⊗ v5)
+          ⊕ ((v2 ⊗ v7 ⊖ v6 ⊗ v3) ⊗ (v0 ⊗ v5) ⊕
       (v4 ⊗ v9 ⊖ v8 ⊗ v5) ⊗ (v1 ⊗ v3)) ⊗ v11)
-      (((v0 ⊗ (v7 ⊗ v5)) ⊗ v2 ⊕ (v1 ⊗ (v9 ⊗ v3)) ⊗ v4) ⊗ v11 ⊖ v10 ⊗ ((v0 ⊗ (v7 ⊗ v5)) ⊗ v3 ⊕ (v1 ⊗ (v9 ⊗ v3)) ⊗ v5))
+      (((v0 ⊗ (v7 ⊗ v5)) ⊗ v2 ⊕ (v1 ⊗ (v9 ⊗ v3)) ⊗ v4) ⊗ v11 ⊖ v10
+          ⊗ ((v0 ⊗ (v7 ⊗ v5)) ⊗ v3 ⊕ (v1 ⊗ (v9 ⊗ v3)) ⊗ v5))
       refl
 
-  drift_weight : (u v e f g h k : ℤ) → ((e *ℤ g) *ℤ (u *ℤ f) +ℤ (f *ℤ h) *ℤ (v *ℤ e)) *ℤ k ≡ ((u *ℤ g +ℤ v *ℤ h) *ℤ k)
+  drift_weight : (u v e f g h k : ℤ) → ((e *ℤ g) *ℤ (u *ℤ f) +ℤ (f *ℤ h) *ℤ (v *ℤ e)) *ℤ k
+      ≡ ((u *ℤ g +ℤ v *ℤ h) *ℤ k)
       *ℤ (e *ℤ f)
-  drift_weight u v e f g h k = ring (u ∷ v ∷ e ∷ f ∷ g ∷ h ∷ k ∷ []) (((v2 ⊗ v4) ⊗ (v0 ⊗ v3) ⊕ (v3 ⊗ v5) ⊗ (v1 ⊗ v2)) ⊗
+  drift_weight u v e f g h k = ring (u ∷ v ∷ e ∷ f ∷ g ∷ h ∷ k ∷ [])
+      (((v2 ⊗ v4) ⊗ (v0 ⊗ v3) ⊕ (v3 ⊗ v5) ⊗ (v1 ⊗ v2)) ⊗
       v6) (((v0 ⊗ v4 ⊕ v1 ⊗ v5) ⊗ v6) ⊗ (v2 ⊗ v3)) refl
 
-  all_weight : (u v e f g h k : ℤ) → ((u *ℤ g +ℤ v *ℤ h) *ℤ k) *ℤ (e *ℤ f) ≡ ((u *ℤ (g *ℤ f)) *ℤ e +ℤ (v *ℤ (h *ℤ e)) *ℤ
+  all_weight : (u v e f g h k : ℤ) → ((u *ℤ g +ℤ v *ℤ h) *ℤ k) *ℤ (e *ℤ f)
+      ≡ ((u *ℤ (g *ℤ f)) *ℤ e +ℤ (v *ℤ (h *ℤ e)) *ℤ
       f) *ℤ k
-  all_weight u v e f g h k = ring (u ∷ v ∷ e ∷ f ∷ g ∷ h ∷ k ∷ []) (((v0 ⊗ v4 ⊕ v1 ⊗ v5) ⊗ v6) ⊗ (v2 ⊗ v3))
+  all_weight u v e f g h k = ring (u ∷ v ∷ e ∷ f ∷ g ∷ h ∷ k ∷ [])
+      (((v0 ⊗ v4 ⊕ v1 ⊗ v5) ⊗ v6) ⊗ (v2 ⊗ v3))
       (((v0 ⊗ (v4 ⊗ v3)) ⊗ v2 ⊕ (v1 ⊗ (v5 ⊗ v2)) ⊗ v3) ⊗ v6) refl
 
   module _ (r s t : List HalfPlane) (sum : AddUp r s t) (dq : pos 0 <ℤ q.d) (da : pos 0 <ℤ a.d) (db : pos 0 <ℤ b.d) (hu : pos 0 ≤ℤ u) (hv : pos 0 ≤ℤ v) where
@@ -126,7 +138,8 @@ pub moves_stay_far : MovesStayFar
 moves_stay_far r s t sum q a b c d dq da db dc dd f n m u v hu hv o near =
     let cb : pos 0 <ℤ (c.d *ℤ b.d) = positive_product c.d b.d dc db in
     let de : pos 0 <ℤ (d.d *ℤ a.d) = positive_product d.d a.d dd da in
-    f (u *ℤ (c.d *ℤ b.d)) (v *ℤ (d.d *ℤ a.d)) (at_least_mul u (c.d *ℤ b.d) hu (at_most_of_less (pos 0) (c.d *ℤ b.d) cb))
+    f (u *ℤ (c.d *ℤ b.d)) (v *ℤ (d.d *ℤ a.d))
+        (at_least_mul u (c.d *ℤ b.d) hu (at_most_of_less (pos 0) (c.d *ℤ b.d) cb))
     (at_least_mul v (d.d *ℤ a.d) hv (at_most_of_less (pos 0) (d.d *ℤ a.d) de))
     (some_weight u v (c.d *ℤ b.d) (d.d *ℤ a.d) hu hv o cb de)
     (moved_near q a b c d u v r s t sum dq da db hu hv n m near)

@@ -39,38 +39,49 @@ module _ (region : List HalfPlane) (a b c d p : Point) (da : IsPoint a) (db : Is
   abbrev drift : Point
   drift = added (scaled (seen_from c a) (o.s *ℤ b.d)) (scaled (seen_from d b) (o.t *ℤ a.d))
 
-  one_axis : (k u v x e y f z g w h p q : ℤ) → k *ℤ p ≡ u *ℤ z +ℤ v *ℤ w → k *ℤ q ≡ u *ℤ g +ℤ v *ℤ h
+  one_axis : (k u v x e y f z g w h p q : ℤ) → k *ℤ p ≡ u *ℤ z +ℤ v *ℤ w
+      → k *ℤ q ≡ u *ℤ g +ℤ v *ℤ h
       → ((x *ℤ g -ℤ z *ℤ e) *ℤ (u *ℤ f) +ℤ (y *ℤ h -ℤ w *ℤ f) *ℤ (v *ℤ e)) *ℤ q
-      ≡ ((u *ℤ (g *ℤ f)) *ℤ x +ℤ (v *ℤ (h *ℤ e)) *ℤ y) *ℤ q -ℤ p *ℤ ((u *ℤ (g *ℤ f)) *ℤ e +ℤ (v *ℤ (h *ℤ e)) *ℤ f)
+      ≡ ((u *ℤ (g *ℤ f)) *ℤ x +ℤ (v *ℤ (h *ℤ e)) *ℤ y) *ℤ q -ℤ p *ℤ
+      ((u *ℤ (g *ℤ f)) *ℤ e +ℤ (v *ℤ (h *ℤ e)) *ℤ f)
   one_axis k u v x e y f z g w h p q hp hq =
       split x e y f z g w h u v q
-      ∙ ap (λ (s : ℤ). ((u *ℤ (g *ℤ f)) *ℤ x +ℤ (v *ℤ (h *ℤ e)) *ℤ y) *ℤ q -ℤ (e *ℤ f) *ℤ (s *ℤ q)) (sym hp)
+      ∙ ap (λ (s : ℤ). ((u *ℤ (g *ℤ f)) *ℤ x +ℤ (v *ℤ (h *ℤ e)) *ℤ y) *ℤ q -ℤ (e *ℤ f) *ℤ
+      (s *ℤ q)) (sym hp)
       ∙ swap e f k p q (((u *ℤ (g *ℤ f)) *ℤ x +ℤ (v *ℤ (h *ℤ e)) *ℤ y) *ℤ q)
-      ∙ ap (λ (s : ℤ). ((u *ℤ (g *ℤ f)) *ℤ x +ℤ (v *ℤ (h *ℤ e)) *ℤ y) *ℤ q -ℤ (e *ℤ f) *ℤ (s *ℤ p)) hq
+      ∙ ap (λ (s : ℤ). ((u *ℤ (g *ℤ f)) *ℤ x +ℤ (v *ℤ (h *ℤ e)) *ℤ y) *ℤ q -ℤ (e *ℤ f) *ℤ
+      (s *ℤ p)) hq
       ∙ join e f g h u v p (((u *ℤ (g *ℤ f)) *ℤ x +ℤ (v *ℤ (h *ℤ e)) *ℤ y) *ℤ q)
     where
-      split : (x e y f z g w h u v q : ℤ) → ((x *ℤ g -ℤ z *ℤ e) *ℤ (u *ℤ f) +ℤ (y *ℤ h -ℤ w *ℤ f) *ℤ (v *ℤ e)) *ℤ q
-          ≡ ((u *ℤ (g *ℤ f)) *ℤ x +ℤ (v *ℤ (h *ℤ e)) *ℤ y) *ℤ q -ℤ (e *ℤ f) *ℤ ((u *ℤ z +ℤ v *ℤ w) *ℤ q)
+      split : (x e y f z g w h u v q : ℤ) → ((x *ℤ g -ℤ z *ℤ e) *ℤ (u *ℤ f) +ℤ (y *ℤ h -ℤ w *ℤ f)
+          *ℤ (v *ℤ e)) *ℤ q
+          ≡ ((u *ℤ (g *ℤ f)) *ℤ x +ℤ (v *ℤ (h *ℤ e)) *ℤ y) *ℤ q -ℤ (e *ℤ f) *ℤ
+          ((u *ℤ z +ℤ v *ℤ w) *ℤ q)
       split x e y f z g w h u v q =
           ap (λ (s : ℤ). s *ℤ q)
           (ring (x ∷ e ∷ y ∷ f ∷ z ∷ g ∷ w ∷ h ∷ u ∷ v ∷ [])
           ((v0 ⊗ v5 ⊖ v4 ⊗ v1) ⊗ (v8 ⊗ v3) ⊕ (v2 ⊗ v7 ⊖ v6 ⊗ v3) ⊗ (v9 ⊗ v1))
-          (((v8 ⊗ (v5 ⊗ v3)) ⊗ v0 ⊕ (v9 ⊗ (v7 ⊗ v1)) ⊗ v2) ⊖ (v1 ⊗ v3) ⊗ (v8 ⊗ v4 ⊕ v9 ⊗ v6)) refl)
-          ∙ ring (((u *ℤ (g *ℤ f)) *ℤ x +ℤ (v *ℤ (h *ℤ e)) *ℤ y) ∷ (e *ℤ f) ∷ (u *ℤ z +ℤ v *ℤ w) ∷ q ∷ [])
+          (((v8 ⊗ (v5 ⊗ v3)) ⊗ v0 ⊕ (v9 ⊗ (v7 ⊗ v1)) ⊗ v2) ⊖ (v1 ⊗ v3) ⊗ (v8 ⊗ v4 ⊕ v9 ⊗ v6))
+              refl)
+          ∙ ring (((u *ℤ (g *ℤ f)) *ℤ x +ℤ (v *ℤ (h *ℤ e)) *ℤ y) ∷ (e *ℤ f)
+          ∷ (u *ℤ z +ℤ v *ℤ w) ∷ q ∷ [])
           ((v0 ⊖ v1 ⊗ v2) ⊗ v3) (v0 ⊗ v3 ⊖ v1 ⊗ (v2 ⊗ v3)) refl
 
-      swap : (e f k p q r : ℤ) → r -ℤ (e *ℤ f) *ℤ ((k *ℤ p) *ℤ q) ≡ r -ℤ (e *ℤ f) *ℤ ((k *ℤ q) *ℤ p)
+      swap : (e f k p q r : ℤ) → r -ℤ (e *ℤ f) *ℤ ((k *ℤ p) *ℤ q)
+          ≡ r -ℤ (e *ℤ f) *ℤ ((k *ℤ q) *ℤ p)
       swap e f k p q r = ring (e ∷ f ∷ k ∷ p ∷ q ∷ r ∷ []) (v5 ⊖ (v0 ⊗ v1) ⊗ ((v2 ⊗ v3) ⊗ v4))
           (v5 ⊖ (v0 ⊗ v1) ⊗ ((v2 ⊗ v4) ⊗ v3)) refl
 
       join : (e f g h u v p r : ℤ) → r -ℤ (e *ℤ f) *ℤ ((u *ℤ g +ℤ v *ℤ h) *ℤ p)
           ≡ r -ℤ p *ℤ ((u *ℤ (g *ℤ f)) *ℤ e +ℤ (v *ℤ (h *ℤ e)) *ℤ f)
-      join e f g h u v p r = ring (e ∷ f ∷ g ∷ h ∷ u ∷ v ∷ p ∷ r ∷ []) (v7 ⊖ (v0 ⊗ v1) ⊗ ((v4 ⊗ v2 ⊕ v5 ⊗ v3) ⊗ v6))
+      join e f g h u v p r = ring (e ∷ f ∷ g ∷ h ∷ u ∷ v ∷ p ∷ r ∷ [])
+          (v7 ⊖ (v0 ⊗ v1) ⊗ ((v4 ⊗ v2 ⊕ v5 ⊗ v3) ⊗ v6))
           (v7 ⊖ v6 ⊗ ((v4 ⊗ (v2 ⊗ v1)) ⊗ v0 ⊕ (v5 ⊗ (v3 ⊗ v0)) ⊗ v1)) refl
 
   weights : (u v e f g h q : ℤ) → ((e *ℤ g) *ℤ (u *ℤ f) +ℤ (f *ℤ h) *ℤ (v *ℤ e)) *ℤ q
       ≡ ((u *ℤ (g *ℤ f)) *ℤ e +ℤ (v *ℤ (h *ℤ e)) *ℤ f) *ℤ q
-  weights u v e f g h q = ring (u ∷ v ∷ e ∷ f ∷ g ∷ h ∷ q ∷ []) (((v2 ⊗ v4) ⊗ (v0 ⊗ v3) ⊕ (v3 ⊗ v5) ⊗ (v1 ⊗ v2)) ⊗ v6)
+  weights u v e f g h q = ring (u ∷ v ∷ e ∷ f ∷ g ∷ h ∷ q ∷ [])
+      (((v2 ⊗ v4) ⊗ (v0 ⊗ v3) ⊕ (v3 ⊗ v5) ⊗ (v1 ⊗ v2)) ⊗ v6)
       (((v0 ⊗ (v4 ⊗ v3)) ⊗ v2 ⊕ (v1 ⊗ (v5 ⊗ v2)) ⊗ v3) ⊗ v6) refl
 
   follows : HasNear region a b p

@@ -32,8 +32,8 @@ use Rattle.scad_geom.proofs.Signs.{one-mul}
 use Rattle.std.specs.Cmp.{both_ways}
 
 -- ---- no mean of the ends lies at the origin
-not_through : (region : List HalfPlane) → HoldsOrigin region → (a b : Point) → IsPoint a → IsPoint b → IsAway region a b
-    → (s t : ℤ) → pos 0 ≤ℤ s → pos 0 ≤ℤ t → pos 0 <ℤ (s +ℤ t)
+not_through : (region : List HalfPlane) → HoldsOrigin region → (a b : Point) → IsPoint a → IsPoint b
+    → IsAway region a b → (s t : ℤ) → pos 0 ≤ℤ s → pos 0 ≤ℤ t → pos 0 <ℤ (s +ℤ t)
     → s *ℤ a.x +ℤ t *ℤ b.x ≡ pos 0 → s *ℤ a.y +ℤ t *ℤ b.y ≡ pos 0 → ⊥
 not_through region o a b da db away s t hs ht more x y =
     let w : ℤ = s *ℤ a.d +ℤ t *ℤ b.d in
@@ -88,7 +88,8 @@ unfolding is_beyond
 most_of true z h = let t : int_lt (pos 0) z ≡ false = h in omega (arith, ints)
 most_of false z h = let t : int_le (pos 0) z ≡ false = h in omega (arith, ints)
 
-apart : (above : Bool) (y z : ℤ) → is_beyond above y ≡ false → is_beyond above z ≡ true → pos 0 <ℤ (z -ℤ y)
+apart : (above : Bool) (y z : ℤ) → is_beyond above y ≡ false → is_beyond above z ≡ true
+    → pos 0 <ℤ (z -ℤ y)
 unfolding is_beyond
 apart true y z h k =
     let s : int_lt (pos 0) y ≡ false = h in
@@ -104,24 +105,27 @@ by_sign z neg zero more = by_lt_z z (pos 0) neg (λ h. by_lt_z (pos 0) z more (�
 
 module _ (region : List HalfPlane) (o : HoldsOrigin region) where
   -- ---- right and left: a segment off the origin that passes its height passes it on one side
-  crossing : (above : Bool) (a b : Point) → IsPoint a → IsPoint b → IsAway region a b → is_beyond above a.y ≡ false
-      → is_beyond above b.y ≡ true → cross a b ≡ pos 0 → ⊥
+  crossing : (above : Bool) (a b : Point) → IsPoint a → IsPoint b → IsAway region a b
+      → is_beyond above a.y ≡ false → is_beyond above b.y ≡ true → cross a b ≡ pos 0 → ⊥
   unfolding cross
   crossing above a b da db away ha hb e =
       let low = most_of above a.y ha in
       let high = least_of above b.y hb in
       let more = apart above a.y b.y ha hb in
       not_through region o a b da db away b.y (pos 0 -ℤ a.y) high (omega (arith, ints)) (omega (arith, ints))
-      (ring (a.x ∷ a.y ∷ b.x ∷ b.y ∷ []) (v3 ⊗ v0 ⊕ (num (pos 0) ⊖ v1) ⊗ v2) (v0 ⊗ v3 ⊖ v1 ⊗ v2) refl ∙ e)
+      (ring (a.x ∷ a.y ∷ b.x ∷ b.y ∷ []) (v3 ⊗ v0 ⊕ (num (pos 0) ⊖ v1) ⊗ v2) (v0 ⊗ v3 ⊖ v1 ⊗ v2)
+          refl ∙ e)
       (ring (a.y ∷ b.y ∷ []) (v1 ⊗ v0 ⊕ (num (pos 0) ⊖ v0) ⊗ v1) (num (pos 0)) refl)
 
-  rising : (above right : Bool) (a b : Point) → IsPoint a → IsPoint b → IsAway region a b → is_beyond above a.y ≡ false
+  rising : (above right : Bool) (a b : Point) → IsPoint a → IsPoint b → IsAway region a b
+      → is_beyond above a.y ≡ false
       → is_beyond above b.y ≡ true → swing above right a b ≡ swing above true a b
   unfolding swing
   rising above right a b da db away ha hb =
       rw (ha, hb)
       (ap (λ (u : Bool). if u then pos 1 else pos 0)
-      (ap (is_beyond right) (one-mul (cross a b)) ∙ beyond_forms right (cross a b) (crossing above a b da db away ha hb)
+      (ap (is_beyond right) (one-mul (cross a b))
+          ∙ beyond_forms right (cross a b) (crossing above a b da db away ha hb)
       ∙ sym (ap (is_beyond true) (one-mul (cross a b)))))
 
   level : (above right : Bool) (a b : Point) (s : Bool) → is_beyond above a.y ≡ s → is_beyond above b.y ≡ s
@@ -129,11 +133,12 @@ module _ (region : List HalfPlane) (o : HoldsOrigin region) where
   unfolding swing
   level above right a b s ha hb = rw (ha, hb) (flat right s (cross a b))
 
-  sideways : (above right : Bool) (a b : Point) → IsPoint a → IsPoint b → IsAway region a b → swing above right a b
-      ≡ swing above true a b
+  sideways : (above right : Bool) (a b : Point) → IsPoint a → IsPoint b → IsAway region a b
+      → swing above right a b ≡ swing above true a b
   sideways above right a b da db away = by_tests (is_beyond above a.y) (is_beyond above b.y) refl refl
     where
-      by_tests : (s t : Bool) → is_beyond above a.y ≡ s → is_beyond above b.y ≡ t → swing above right a b ≡ swing above
+      by_tests : (s t : Bool) → is_beyond above a.y ≡ s → is_beyond above b.y ≡ t
+          → swing above right a b ≡ swing above
           true a b
       by_tests true true ha hb = level above right a b true ha hb ∙ sym (level above true a b true ha hb)
       by_tests false false ha hb = level above right a b false ha hb ∙ sym (level above true a b false ha hb)
@@ -168,7 +173,8 @@ module _ (region : List HalfPlane) (o : HoldsOrigin region) where
   abbrev Steps : Point → Point → Type 0
   Steps a b = swing true true a b -ℤ swing false true a b ≡ ahead a -ℤ ahead b
 
-  from_parts : (t f x y u v w z : ℤ) → t ≡ u → f ≡ v → x ≡ w → y ≡ z → u -ℤ v ≡ w -ℤ z → t -ℤ f ≡ x -ℤ y
+  from_parts : (t f x y u v w z : ℤ) → t ≡ u → f ≡ v → x ≡ w → y ≡ z → u -ℤ v ≡ w -ℤ z
+      → t -ℤ f ≡ x -ℤ y
   from_parts t f x y u v w z ht hf hx hy h = omega (arith, ints)
 
   itself : (z : ℤ) → z -ℤ z ≡ pos 0 -ℤ pos 0
@@ -232,7 +238,8 @@ module _ (region : List HalfPlane) (o : HoldsOrigin region) where
         (ap₂ (λ (y z : ℤ). (pos 0 -ℤ b.x) *ℤ y +ℤ a.x *ℤ z) ha hb ∙ ring (a.x ∷ b.x ∷ [])
         ((num (pos 0) ⊖ v1) ⊗ num (pos 0) ⊕ v0 ⊗ num (pos 0)) (num (pos 0)) refl)))
 
-  both_level : (a b : Point) → IsPoint a → IsPoint b → IsAway region a b → a.y ≡ pos 0 → b.y ≡ pos 0 → Steps a b
+  both_level : (a b : Point) → IsPoint a → IsPoint b → IsAway region a b → a.y ≡ pos 0 → b.y ≡ pos 0
+      → Steps a b
   both_level a b da db away ha hb =
       let same : is_beyond true a.x ≡ is_beyond true b.x =
       both_ways (is_beyond true a.x) (is_beyond true b.x) (one_side a b da db away ha hb)
@@ -247,7 +254,8 @@ module _ (region : List HalfPlane) (o : HoldsOrigin region) where
       turned_steps (swing true true a b) (swing false true a b) (swing true true b a) (swing false true b a) (ahead a)
       (ahead b) (swing_turned true true b a) (swing_turned false true b a) h
     where
-      turned_steps : (t f u v x y : ℤ) → t ≡ pos 0 -ℤ u → f ≡ pos 0 -ℤ v → u -ℤ v ≡ y -ℤ x → t -ℤ f ≡ x -ℤ y
+      turned_steps : (t f u v x y : ℤ) → t ≡ pos 0 -ℤ u → f ≡ pos 0 -ℤ v → u -ℤ v ≡ y -ℤ x
+          → t -ℤ f ≡ x -ℤ y
       turned_steps t f u v x y h k e = omega (arith, ints)
 
   steps : (a b : Point) → IsPoint a → IsPoint b → IsAway region a b → Steps a b
@@ -264,9 +272,10 @@ module _ (region : List HalfPlane) (o : HoldsOrigin region) where
     abbrev ahead_of : Point → ℤ
     ahead_of p = ahead (seen_from q p)
 
-    beyond_along : (above : Bool) (x y k l : ℤ) → pos 0 <ℤ k → pos 0 <ℤ l → x *ℤ k ≡ y *ℤ l → is_beyond above x
-        ≡ is_beyond above y
-    beyond_along above x y k l hk hl e = sym (beyond_mul above k x hk) ∙ ap (is_beyond above) e ∙ beyond_mul above l y
+    beyond_along : (above : Bool) (x y k l : ℤ) → pos 0 <ℤ k → pos 0 <ℤ l → x *ℤ k ≡ y *ℤ l
+        → is_beyond above x ≡ is_beyond above y
+    beyond_along above x y k l hk hl e = sym (beyond_mul above k x hk) ∙ ap (is_beyond above) e
+        ∙ beyond_mul above l y
         hl
 
     ahead_same : (p r : Point) → IsPoint p → IsPoint r → is_same_point p r ≡ true → ahead_of p ≡ ahead_of r
@@ -284,7 +293,8 @@ module _ (region : List HalfPlane) (o : HoldsOrigin region) where
         ≡ turn above true q s.from s.to
     edge_sideways above right s h =
         turn_seen above right q s.from s.to dq h.proper.from
-        ∙ sideways above right (seen_from q s.from) (seen_from q s.to) (positive_product s.from.d q.d h.proper.from dq)
+        ∙ sideways above right (seen_from q s.from) (seen_from q s.to)
+        (positive_product s.from.d q.d h.proper.from dq)
         (positive_product s.to.d q.d h.proper.to dq) (clear_seen region q s.from s.to h.far)
         ∙ sym (turn_seen above true q s.from s.to dq h.proper.from)
 
@@ -294,15 +304,16 @@ module _ (region : List HalfPlane) (o : HoldsOrigin region) where
     list_sideways above right (s ∷ ss) h = ap₂ (λ (y z : ℤ). y +ℤ z) (edge_sideways above right s h.0)
         (list_sideways above right ss h.1)
 
-    edge_steps : (s : Segment) → IsFarSegment region q s → turn true true q s.from s.to -ℤ turn false true q s.from s.to
-        ≡ ahead_of s.from -ℤ ahead_of s.to
+    edge_steps : (s : Segment) → IsFarSegment region q s
+        → turn true true q s.from s.to -ℤ turn false true q s.from s.to ≡ ahead_of s.from -ℤ ahead_of s.to
     edge_steps s h =
         ap₂ (λ (y z : ℤ). y -ℤ z) (turn_seen true true q s.from s.to dq h.proper.from)
         (turn_seen false true q s.from s.to dq h.proper.from)
         ∙ steps (seen_from q s.from) (seen_from q s.to) (positive_product s.from.d q.d h.proper.from dq)
         (positive_product s.to.d q.d h.proper.to dq) (clear_seen region q s.from s.to h.far)
 
-    list_steps : (ss : List Segment) → AllByRecursion (IsFarSegment region q) ss → wind_by true true q ss -ℤ wind_by
+    list_steps : (ss : List Segment) → AllByRecursion (IsFarSegment region q) ss
+        → wind_by true true q ss -ℤ wind_by
         false true q ss ≡ sum_z ahead_of (starts ss) -ℤ sum_z ahead_of (ends ss)
     list_steps [] h = refl
     list_steps (s ∷ ss) h =

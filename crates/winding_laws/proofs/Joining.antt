@@ -36,8 +36,8 @@ joining_keeps_balance s t ss ps pt h b = record {
 }
 
 -- ---- a flat triangle goes round nothing
-no_room : (u v w k l m : ℤ) → pos 0 ≤ℤ u → pos 0 ≤ℤ v → pos 0 ≤ℤ w → pos 0 <ℤ (u +ℤ (v +ℤ w)) → pos 0 <ℤ k → pos 0 <ℤ l
-    → pos 0 <ℤ m
+no_room : (u v w k l m : ℤ) → pos 0 ≤ℤ u → pos 0 ≤ℤ v → pos 0 ≤ℤ w
+    → pos 0 <ℤ (u +ℤ (v +ℤ w)) → pos 0 <ℤ k → pos 0 <ℤ l → pos 0 <ℤ m
     → u *ℤ k +ℤ (v *ℤ l +ℤ w *ℤ m) ≡ pos 0 → ⊥
 no_room u v w k l m hu hv hw o kp lp mp e = let more = some_of_three u v w k l m hu hv hw o kp lp mp in omega (arith, ints)
 
@@ -54,10 +54,14 @@ area_seen : (q a m b : Point) → (cross (seen_from q m) (seen_from q b) *ℤ (s
 unfolding cross side_by
 area_seen q a m b =
     ring (a.x ∷ a.y ∷ a.d ∷ m.x ∷ m.y ∷ m.d ∷ b.x ∷ b.y ∷ b.d ∷ q.x ∷ q.y ∷ q.d ∷ [])
-    ((((v3 ⊗ v11 ⊖ v9 ⊗ v5) ⊗ (v7 ⊗ v11 ⊖ v10 ⊗ v8) ⊖ (v4 ⊗ v11 ⊖ v10 ⊗ v5) ⊗ (v6 ⊗ v11 ⊖ v9 ⊗ v8)) ⊗ (v2 ⊗ v11)
-    ⊕ (((v6 ⊗ v11 ⊖ v9 ⊗ v8) ⊗ (v1 ⊗ v11 ⊖ v10 ⊗ v2) ⊖ (v7 ⊗ v11 ⊖ v10 ⊗ v8) ⊗ (v0 ⊗ v11 ⊖ v9 ⊗ v2)) ⊗ (v5 ⊗ v11)
-    ⊕ ((v0 ⊗ v11 ⊖ v9 ⊗ v2) ⊗ (v4 ⊗ v11 ⊖ v10 ⊗ v5) ⊖ (v1 ⊗ v11 ⊖ v10 ⊗ v2) ⊗ (v3 ⊗ v11 ⊖ v9 ⊗ v5)) ⊗ (v8 ⊗ v11))) ⊗ v2)
-    (((v6 ⊗ v2 ⊖ v0 ⊗ v8) ⊗ (v4 ⊗ v2 ⊖ v1 ⊗ v5) ⊖ (v7 ⊗ v2 ⊖ v1 ⊗ v8) ⊗ (v3 ⊗ v2 ⊖ v0 ⊗ v5)) ⊗
+    ((((v3 ⊗ v11 ⊖ v9 ⊗ v5) ⊗ (v7 ⊗ v11 ⊖ v10 ⊗ v8) ⊖ (v4 ⊗ v11 ⊖ v10 ⊗ v5)
+        ⊗ (v6 ⊗ v11 ⊖ v9 ⊗ v8)) ⊗ (v2 ⊗ v11)
+    ⊕ (((v6 ⊗ v11 ⊖ v9 ⊗ v8) ⊗ (v1 ⊗ v11 ⊖ v10 ⊗ v2) ⊖ (v7 ⊗ v11 ⊖ v10 ⊗ v8)
+        ⊗ (v0 ⊗ v11 ⊖ v9 ⊗ v2)) ⊗ (v5 ⊗ v11)
+    ⊕ ((v0 ⊗ v11 ⊖ v9 ⊗ v2) ⊗ (v4 ⊗ v11 ⊖ v10 ⊗ v5) ⊖ (v1 ⊗ v11 ⊖ v10 ⊗ v2)
+        ⊗ (v3 ⊗ v11 ⊖ v9 ⊗ v5)) ⊗ (v8 ⊗ v11))) ⊗ v2)
+    (((v6 ⊗ v2 ⊖ v0 ⊗ v8) ⊗ (v4 ⊗ v2 ⊖ v1 ⊗ v5) ⊖ (v7 ⊗ v2 ⊖ v1 ⊗ v8)
+        ⊗ (v3 ⊗ v2 ⊖ v0 ⊗ v5)) ⊗
     (num (pos 0) ⊖ v11 ⊗ (v11 ⊗ v11))) refl
 
 by_triangle : (am mb ba ab : ℤ) → am +ℤ (mb +ℤ ba) ≡ pos 0 → ba ≡ pos 0 -ℤ ab → am +ℤ mb ≡ ab
@@ -69,12 +73,13 @@ unfolding cross
 turned_area a b c h =
     ring (a.x ∷ a.y ∷ a.d ∷ b.x ∷ b.y ∷ b.d ∷ c.x ∷ c.y ∷ c.d ∷ [])
     ((v6 ⊗ v4 ⊖ v7 ⊗ v3) ⊗ v2 ⊕ ((v3 ⊗ v1 ⊖ v4 ⊗ v0) ⊗ v8 ⊕ (v0 ⊗ v7 ⊖ v1 ⊗ v6) ⊗ v5))
-    (num (pos 0) ⊖ ((v3 ⊗ v7 ⊖ v4 ⊗ v6) ⊗ v2 ⊕ ((v6 ⊗ v1 ⊖ v7 ⊗ v0) ⊗ v5 ⊕ (v0 ⊗ v4 ⊖ v1 ⊗ v3) ⊗ v8))) refl
+    (num (pos 0) ⊖ ((v3 ⊗ v7 ⊖ v4 ⊗ v6) ⊗ v2
+        ⊕ ((v6 ⊗ v1 ⊖ v7 ⊗ v0) ⊗ v5 ⊕ (v0 ⊗ v4 ⊖ v1 ⊗ v3) ⊗ v8))) refl
     ∙ ap (λ (s : ℤ). pos 0 -ℤ s) h
 
 -- three points on one line, in whatever order
-pub line_turn : (above right : Bool) (q a m b : Point) → pos 0 <ℤ q.d → pos 0 <ℤ a.d → pos 0 <ℤ m.d → pos 0 <ℤ b.d
-    → side_by m a b ≡ pos 0
+pub line_turn : (above right : Bool) (q a m b : Point) → pos 0 <ℤ q.d → pos 0 <ℤ a.d → pos 0 <ℤ m.d
+    → pos 0 <ℤ b.d → side_by m a b ≡ pos 0
     → turn above right q a m +ℤ turn above right q m b ≡ turn above right q a b
 line_turn above right q a m b dq da dm db h =
     let sa : Point = seen_from q a in
@@ -85,7 +90,8 @@ line_turn above right q a m b dq da dm db h =
     let eb : pos 0 <ℤ sb.d = positive_product b.d q.d db dq in
     let none : cross sm sb *ℤ sa.d +ℤ (cross sb sa *ℤ sm.d +ℤ cross sa sm *ℤ sb.d) ≡ pos 0 =
     zero_factor (cross sm sb *ℤ sa.d +ℤ (cross sb sa *ℤ sm.d +ℤ cross sa sm *ℤ sb.d)) a.d da
-    (area_seen q a m b ∙ ap (λ (s : ℤ). s *ℤ (pos 0 -ℤ q.d *ℤ (q.d *ℤ q.d))) h ∙ zero-*ℤ (pos 0 -ℤ q.d *ℤ (q.d *ℤ q.d)))
+    (area_seen q a m b ∙ ap (λ (s : ℤ). s *ℤ (pos 0 -ℤ q.d *ℤ (q.d *ℤ q.d))) h
+        ∙ zero-*ℤ (pos 0 -ℤ q.d *ℤ (q.d *ℤ q.d)))
     in
     ap₂ (λ (s t : ℤ). s +ℤ t) (turn_seen above right q a m dq da) (turn_seen above right q m b dq dm)
     ∙ by_triangle (swing above right sa sm) (swing above right sm sb) (swing above right sb sa)
@@ -99,6 +105,7 @@ pub joining_keeps_winding : JoiningKeepsWinding
 joining_keeps_winding s t ss ps pt h l above right q d =
     ap (λ (z : ℤ). z +ℤ wind_by above right q ss)
     (sym (line_turn above right q s.from s.to t.to d ps.from ps.to pt.to l)
-    ∙ ap (λ (z : ℤ). turn above right q s.from s.to +ℤ z) (turn_same above right q s.to t.to t.from t.to d ps.to pt.to
+    ∙ ap (λ (z : ℤ). turn above right q s.from s.to +ℤ z)
+    (turn_same above right q s.to t.to t.from t.to d ps.to pt.to
     pt.from pt.to h (same_itself t.to)))
     ∙ +ℤ_assoc (turn above right q s.from s.to) (turn above right q t.from t.to) (wind_by above right q ss)

@@ -37,7 +37,8 @@ module _ (p : Point) (d : pos 0 <ℤ p.d) where
   lengths [] m n h = h
   lengths (e ∷ es) m n h = by_test (is_same_point (whole e.a) (whole e.b)) refl (λ k l g. lengths es k l g)
     where
-      by_test : (t : Bool) → is_same_point (whole e.a) (whole e.b) ≡ t → ((k l : ℕ) → k + started es ≡ l + ended es
+      by_test : (t : Bool) → is_same_point (whole e.a) (whole e.b) ≡ t
+          → ((k l : ℕ) → k + started es ≡ l + ended es
           → k + started (filter has_length es) ≡ l + ended (filter has_length es))
           → m + started (cond (not t) (e ∷ filter has_length es) (filter has_length es))
           ≡ n + ended (cond (not t) (e ∷ filter has_length es) (filter has_length es))
@@ -72,8 +73,8 @@ lengths_keep_balance es b = record {
 
 -- ---- winding
 -- a segment from a point to itself doesn't turn
-pub empty_turn : (above right : Bool) (q a b : Point) → pos 0 <ℤ q.d → pos 0 <ℤ a.d → pos 0 <ℤ b.d → is_same_point a b
-    ≡ true → turn above right q a b ≡ pos 0
+pub empty_turn : (above right : Bool) (q a b : Point) → pos 0 <ℤ q.d → pos 0 <ℤ a.d → pos 0 <ℤ b.d
+    → is_same_point a b ≡ true → turn above right q a b ≡ pos 0
 empty_turn above right q a b dq da db h = sym (turn_same above right q a a a b dq da da da db (same_itself a) h) ∙
     flat_turn above right q a a refl
 

@@ -45,15 +45,20 @@ abbrev Either : Point → Point → Point → Point → Type 0
 Either a m b p = IsOn a m p ⊎ IsOn m b p
 
 -- one number of three points on one line, with one of them alone
-alone_last : (u v w x y z : ℤ) → u *ℤ x +ℤ v *ℤ y -ℤ w *ℤ z ≡ pos 0 → v *ℤ y ≡ (pos 0 -ℤ u) *ℤ x +ℤ w *ℤ z
-alone_last u v w x y z h = equal_of_gap (v *ℤ y) ((pos 0 -ℤ u) *ℤ x +ℤ w *ℤ z) (ring (u ∷ v ∷ w ∷ x ∷ y ∷ z ∷ [])
+alone_last : (u v w x y z : ℤ) → u *ℤ x +ℤ v *ℤ y -ℤ w *ℤ z ≡ pos 0
+    → v *ℤ y ≡ (pos 0 -ℤ u) *ℤ x +ℤ w *ℤ z
+alone_last u v w x y z h = equal_of_gap (v *ℤ y) ((pos 0 -ℤ u) *ℤ x +ℤ w *ℤ z)
+    (ring (u ∷ v ∷ w ∷ x ∷ y ∷ z ∷ [])
     (v1 ⊗ v4 ⊖ ((num (pos 0) ⊖ v0) ⊗ v3 ⊕ v2 ⊗ v5)) (v0 ⊗ v3 ⊕ v1 ⊗ v4 ⊖ v2 ⊗ v5) refl ∙ h)
 
-alone_first : (u v w x y z : ℤ) → u *ℤ x +ℤ v *ℤ y -ℤ w *ℤ z ≡ pos 0 → u *ℤ x ≡ w *ℤ z +ℤ (pos 0 -ℤ v) *ℤ y
-alone_first u v w x y z h = equal_of_gap (u *ℤ x) (w *ℤ z +ℤ (pos 0 -ℤ v) *ℤ y) (ring (u ∷ v ∷ w ∷ x ∷ y ∷ z ∷ [])
+alone_first : (u v w x y z : ℤ) → u *ℤ x +ℤ v *ℤ y -ℤ w *ℤ z ≡ pos 0
+    → u *ℤ x ≡ w *ℤ z +ℤ (pos 0 -ℤ v) *ℤ y
+alone_first u v w x y z h = equal_of_gap (u *ℤ x) (w *ℤ z +ℤ (pos 0 -ℤ v) *ℤ y)
+    (ring (u ∷ v ∷ w ∷ x ∷ y ∷ z ∷ [])
     (v0 ⊗ v3 ⊖ (v2 ⊗ v5 ⊕ (num (pos 0) ⊖ v1) ⊗ v4)) (v0 ⊗ v3 ⊕ v1 ⊗ v4 ⊖ v2 ⊗ v5) refl ∙ h)
 
-alone_middle : (u v w x y z : ℤ) → u *ℤ x +ℤ v *ℤ y -ℤ w *ℤ z ≡ pos 0 → w *ℤ z ≡ u *ℤ x +ℤ v *ℤ y
+alone_middle : (u v w x y z : ℤ) → u *ℤ x +ℤ v *ℤ y -ℤ w *ℤ z ≡ pos 0
+    → w *ℤ z ≡ u *ℤ x +ℤ v *ℤ y
 alone_middle u v w x y z h = omega (arith, ints)
 
 no_rest : (u v w x y z : ℤ) → w *ℤ z ≡ u *ℤ x +ℤ v *ℤ y → u *ℤ x +ℤ v *ℤ y -ℤ w *ℤ z ≡ pos 0
@@ -148,7 +153,8 @@ either_turned : (a m b p : Point) → Either b m a p → Either a m b p
 either_turned a m b p (inl h) = inr (on_turned b m p h)
 either_turned a m b p (inr h) = inl (on_turned m a p h)
 
-either_exchanged : (a m b p : Point) → Either (exchanged a) (exchanged m) (exchanged b) (exchanged p) → Either a m b p
+either_exchanged : (a m b p : Point) → Either (exchanged a) (exchanged m) (exchanged b) (exchanged p)
+    → Either a m b p
 either_exchanged a m b p (inl h) = inl (on_exchanged a m p h)
 either_exchanged a m b p (inr h) = inr (on_exchanged m b p h)
 
@@ -164,8 +170,8 @@ tilted a m b p da dm db e o other =
     (λ k. other (omega (arith, ints))))
 
 -- where they are one point
-at_one : (a m b p : Point) → IsPoint a → IsPoint b → rise a b ≡ pos 0 → rise (exchanged a) (exchanged b) ≡ pos 0
-    → (o : IsOn a b p) → IsOn a m p
+at_one : (a m b p : Point) → IsPoint a → IsPoint b → rise a b ≡ pos 0
+    → rise (exchanged a) (exchanged b) ≡ pos 0 → (o : IsOn a b p) → IsOn a m p
 at_one a m b p da db h g o =
     let more : pos 0 <ℤ (o.s *ℤ a.d +ℤ o.t *ℤ b.d) = some_weight o.s o.t a.d b.d o.first o.second o.some da db in
     record {
@@ -189,9 +195,11 @@ at_one a m b p da db h g o =
     one_number k s t d e x y p m h q =
         ring (d ∷ k ∷ p ∷ []) ((v0 ⊗ v1) ⊗ v2) (v0 ⊗ (v1 ⊗ v2)) refl
         ∙ ap (λ (z : ℤ). d *ℤ z) q
-        ∙ ring (d ∷ s ∷ x ∷ t ∷ y ∷ []) (v0 ⊗ (v1 ⊗ v2 ⊕ v3 ⊗ v4)) ((v1 ⊗ v0) ⊗ v2 ⊕ v3 ⊗ (v4 ⊗ v0)) refl
+        ∙ ring (d ∷ s ∷ x ∷ t ∷ y ∷ []) (v0 ⊗ (v1 ⊗ v2 ⊕ v3 ⊗ v4))
+        ((v1 ⊗ v0) ⊗ v2 ⊕ v3 ⊗ (v4 ⊗ v0)) refl
         ∙ ap (λ (z : ℤ). (s *ℤ d) *ℤ x +ℤ t *ℤ z) (equal_of_gap (y *ℤ d) (x *ℤ e) h)
-        ∙ ring (s ∷ d ∷ x ∷ t ∷ e ∷ m ∷ []) ((v0 ⊗ v1) ⊗ v2 ⊕ v3 ⊗ (v2 ⊗ v4)) ((v0 ⊗ v1 ⊕ v3 ⊗ v4) ⊗ v2 ⊕ num (pos 0) ⊗
+        ∙ ring (s ∷ d ∷ x ∷ t ∷ e ∷ m ∷ []) ((v0 ⊗ v1) ⊗ v2 ⊕ v3 ⊗ (v2 ⊗ v4))
+        ((v0 ⊗ v1 ⊕ v3 ⊗ v4) ⊗ v2 ⊕ num (pos 0) ⊗
         v5) refl
 
 pub lines_are_all : LinesAreAll
@@ -199,5 +207,6 @@ lines_are_all a m b p da dm db e o =
     tilted a m b p da dm db e o
     (λ level. either_exchanged a m b p
     (tilted (exchanged a) (exchanged m) (exchanged b) (exchanged p) da dm db
-    (side_exchanged a b m ∙ ap (λ (z : ℤ). pos 0 -ℤ z) e) (on_exchanged (exchanged a) (exchanged b) (exchanged p) o)
+    (side_exchanged a b m ∙ ap (λ (z : ℤ). pos 0 -ℤ z) e)
+        (on_exchanged (exchanged a) (exchanged b) (exchanged p) o)
     (λ same. inl (on_exchanged (exchanged a) (exchanged m) (exchanged p) (at_one a m b p da db level same o)))))

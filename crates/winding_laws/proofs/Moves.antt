@@ -72,7 +72,8 @@ module _ (region : List HalfPlane) (o : HoldsOrigin region) (above right : Bool)
   abbrev IsFarHere : Segment → Type 0
   IsFarHere s = IsFarSegment region q s
 
-  wind-moved : (ss : List Segment) → AllByRecursion IsFarHere ss → wind_by above right q (map (moved r) ss) +ℤ sum_z way
+  wind-moved : (ss : List Segment) → AllByRecursion IsFarHere ss
+      → wind_by above right q (map (moved r) ss) +ℤ sum_z way
       (starts ss) ≡ wind_by above right q ss +ℤ sum_z way (ends ss)
   wind-moved [] h = refl
   wind-moved (s ∷ ss) h =

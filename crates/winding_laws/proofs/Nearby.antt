@@ -24,12 +24,15 @@ near_on r s t sum p m b dp dm db h g =
     let c : Holds s (record second { d = first.d }) = holds_as s second (record second { d = first.d }) refl refl
     (weight b.d m.d p.d) (holds_scaled s (seen_from m b) p.d (at_most_of_less (pos 0) p.d dp) g) in
     holds_left t (seen_from p b) m.d dm
-    (holds_as t (record { x = first.x +ℤ second.x; y = first.y +ℤ second.y; d = first.d }) (scaled (seen_from p b) m.d)
+    (holds_as t (record { x = first.x +ℤ second.x; y = first.y +ℤ second.y; d = first.d })
+        (scaled (seen_from p b) m.d)
     (one_axis p.x p.d m.x m.d b.x b.d) (one_axis p.y p.d m.y m.d b.y b.d) (all_weight b.d m.d p.d)
     (sum.each first.x first.y second.x second.y first.d a c))
   where
-    one_axis : (x d y e z f : ℤ) → (y *ℤ d -ℤ x *ℤ e) *ℤ f +ℤ (z *ℤ e -ℤ y *ℤ f) *ℤ d ≡ (z *ℤ d -ℤ x *ℤ f) *ℤ e
-    one_axis x d y e z f = ring (x ∷ d ∷ y ∷ e ∷ z ∷ f ∷ []) ((v2 ⊗ v1 ⊖ v0 ⊗ v3) ⊗ v5 ⊕ (v4 ⊗ v3 ⊖ v2 ⊗ v5) ⊗ v1)
+    one_axis : (x d y e z f : ℤ) → (y *ℤ d -ℤ x *ℤ e) *ℤ f +ℤ (z *ℤ e -ℤ y *ℤ f) *ℤ d
+        ≡ (z *ℤ d -ℤ x *ℤ f) *ℤ e
+    one_axis x d y e z f = ring (x ∷ d ∷ y ∷ e ∷ z ∷ f ∷ [])
+        ((v2 ⊗ v1 ⊖ v0 ⊗ v3) ⊗ v5 ⊕ (v4 ⊗ v3 ⊖ v2 ⊗ v5) ⊗ v1)
         ((v4 ⊗ v1 ⊖ v0 ⊗ v5) ⊗ v3) refl
 
     weight : (f e d : ℤ) → (f *ℤ e) *ℤ d ≡ (e *ℤ d) *ℤ f
@@ -70,11 +73,14 @@ on_same m n b p dm dn e o =
       d = one_number o.k o.s o.t m.d n.d m.d n.d b.d p.d (ring (m.d ∷ n.d ∷ []) (v0 ⊗ v1) (v1 ⊗ v0) refl) o.d;
     }
   where
-    one_number : (k s t d e x y z p : ℤ) → x *ℤ e ≡ y *ℤ d → k *ℤ p ≡ s *ℤ x +ℤ t *ℤ z → (k *ℤ e) *ℤ p ≡ (s *ℤ d) *ℤ y
+    one_number : (k s t d e x y z p : ℤ) → x *ℤ e ≡ y *ℤ d → k *ℤ p ≡ s *ℤ x +ℤ t *ℤ z
+        → (k *ℤ e) *ℤ p ≡ (s *ℤ d) *ℤ y
         +ℤ (t *ℤ e) *ℤ z
     one_number k s t d e x y z p h g =
         ring (k ∷ e ∷ p ∷ []) ((v0 ⊗ v1) ⊗ v2) ((v0 ⊗ v2) ⊗ v1) refl
         ∙ ap (λ (u : ℤ). u *ℤ e) g
-        ∙ ring (s ∷ x ∷ t ∷ z ∷ e ∷ []) ((v0 ⊗ v1 ⊕ v2 ⊗ v3) ⊗ v4) (v0 ⊗ (v1 ⊗ v4) ⊕ (v2 ⊗ v4) ⊗ v3) refl
+        ∙ ring (s ∷ x ∷ t ∷ z ∷ e ∷ []) ((v0 ⊗ v1 ⊕ v2 ⊗ v3) ⊗ v4)
+        (v0 ⊗ (v1 ⊗ v4) ⊕ (v2 ⊗ v4) ⊗ v3) refl
         ∙ ap (λ (u : ℤ). s *ℤ u +ℤ (t *ℤ e) *ℤ z) h
-        ∙ ring (s ∷ d ∷ y ∷ t ∷ z ∷ e ∷ []) (v0 ⊗ (v2 ⊗ v1) ⊕ (v3 ⊗ v5) ⊗ v4) ((v0 ⊗ v1) ⊗ v2 ⊕ (v3 ⊗ v5) ⊗ v4) refl
+        ∙ ring (s ∷ d ∷ y ∷ t ∷ z ∷ e ∷ []) (v0 ⊗ (v2 ⊗ v1) ⊕ (v3 ⊗ v5) ⊗ v4)
+        ((v0 ⊗ v1) ⊗ v2 ⊕ (v3 ⊗ v5) ⊗ v4) refl

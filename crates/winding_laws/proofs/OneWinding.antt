@@ -59,13 +59,16 @@ module _ (region : List HalfPlane) (above right : Bool) (c q p : Point) (dc : po
         k_positive = qq;
         l_positive = omega (arith, ints);
         x = axis_seen x.x x.d p.x p.d q.x q.d ∙ sym
-            (mul-one ((x.x *ℤ q.d -ℤ q.x *ℤ x.d) *ℤ (p.d *ℤ q.d) -ℤ (p.x *ℤ q.d -ℤ q.x *ℤ p.d) *ℤ (x.d *ℤ q.d)));
+            (mul-one ((x.x *ℤ q.d -ℤ q.x *ℤ x.d) *ℤ (p.d *ℤ q.d) -ℤ (p.x *ℤ q.d -ℤ q.x *ℤ p.d) *ℤ
+                (x.d *ℤ q.d)));
         y = axis_seen x.y x.d p.y p.d q.y q.d ∙ sym
-            (mul-one ((x.y *ℤ q.d -ℤ q.y *ℤ x.d) *ℤ (p.d *ℤ q.d) -ℤ (p.y *ℤ q.d -ℤ q.y *ℤ p.d) *ℤ (x.d *ℤ q.d)));
+            (mul-one ((x.y *ℤ q.d -ℤ q.y *ℤ x.d) *ℤ (p.d *ℤ q.d) -ℤ (p.y *ℤ q.d -ℤ q.y *ℤ p.d) *ℤ
+                (x.d *ℤ q.d)));
       }
 
   -- ---- where they are two points
-  away : pos 0 <ℤ length far → (a b : Point) → IsFar region c a b → IsAway (way far) (seen_from q a) (seen_from q b)
+  away : pos 0 <ℤ length far → (a b : Point) → IsFar region c a b
+      → IsAway (way far) (seen_from q a) (seen_from q b)
   away more a b f s t hs ht o h =
       f s t hs ht o
       (near_unseen region q c (mean s t a b) qq
@@ -108,11 +111,14 @@ module _ (region : List HalfPlane) (above right : Bool) (c q p : Point) (dc : po
     y = one_axis x.y x.d p.y p.d q.y q.d hy;
   }
     where
-      one_axis : (x d y e z f : ℤ) → y *ℤ f -ℤ z *ℤ e ≡ pos 0 → (x *ℤ e -ℤ y *ℤ d) *ℤ f ≡ (x *ℤ f -ℤ z *ℤ d) *ℤ e
+      one_axis : (x d y e z f : ℤ) → y *ℤ f -ℤ z *ℤ e ≡ pos 0
+          → (x *ℤ e -ℤ y *ℤ d) *ℤ f ≡ (x *ℤ f -ℤ z *ℤ d) *ℤ e
       one_axis x d y e z f h =
-          ring (x ∷ d ∷ y ∷ e ∷ f ∷ []) ((v0 ⊗ v3 ⊖ v2 ⊗ v1) ⊗ v4) ((v0 ⊗ v4) ⊗ v3 ⊖ (v2 ⊗ v4) ⊗ v1) refl
+          ring (x ∷ d ∷ y ∷ e ∷ f ∷ []) ((v0 ⊗ v3 ⊖ v2 ⊗ v1) ⊗ v4)
+              ((v0 ⊗ v4) ⊗ v3 ⊖ (v2 ⊗ v4) ⊗ v1) refl
           ∙ ap (λ (u : ℤ). (x *ℤ f) *ℤ e -ℤ u *ℤ d) (equal_of_gap (y *ℤ f) (z *ℤ e) h)
-          ∙ ring (x ∷ d ∷ e ∷ z ∷ f ∷ []) ((v0 ⊗ v4) ⊗ v2 ⊖ (v3 ⊗ v2) ⊗ v1) ((v0 ⊗ v4 ⊖ v3 ⊗ v1) ⊗ v2) refl
+          ∙ ring (x ∷ d ∷ e ∷ z ∷ f ∷ []) ((v0 ⊗ v4) ⊗ v2 ⊖ (v3 ⊗ v2) ⊗ v1)
+          ((v0 ⊗ v4 ⊖ v3 ⊗ v1) ⊗ v2) refl
 
   no_swing : (x : Point) → swing above right x x ≡ pos 0
   no_swing x = none (swing above right x x) (swing_turned above right x x)
@@ -121,11 +127,12 @@ module _ (region : List HalfPlane) (above right : Bool) (c q p : Point) (dc : po
       none z h = omega (arith, ints)
 
   no_change : far.x ≡ pos 0 → far.y ≡ pos 0 → (x : Point) → change x ≡ pos 0
-  no_change hx hy x = swing_to_along above right (seen_from q x) (seen_from p x) (seen_from q x) (same_along hx hy x) ∙
+  no_change hx hy x = swing_to_along above right (seen_from q x) (seen_from p x) (seen_from q x) (same_along hx hy x)
+      ∙
       no_swing (seen_from q x)
 
-  one_point : far.x ≡ pos 0 → far.y ≡ pos 0 → (a b : Point) → pos 0 <ℤ a.d → pos 0 <ℤ b.d → turn above right p a b
-      ≡ turn above right q a b +ℤ (change b -ℤ change a)
+  one_point : far.x ≡ pos 0 → far.y ≡ pos 0 → (a b : Point) → pos 0 <ℤ a.d → pos 0 <ℤ b.d
+      → turn above right p a b ≡ turn above right q a b +ℤ (change b -ℤ change a)
   one_point hx hy a b da db =
       turn_seen above right p a b dp da
       ∙ swing_along above right (seen_from p a) (seen_from q a) (seen_from p b) (same_along hx hy a)
@@ -142,7 +149,8 @@ module _ (region : List HalfPlane) (above right : Bool) (c q p : Point) (dc : po
 
   -- ---- of a list
 
-  wind_changed : (ss : List Segment) → AllByRecursion (IsFarSegment region c) ss → wind_by above right p ss +ℤ sum_z
+  wind_changed : (ss : List Segment) → AllByRecursion (IsFarSegment region c) ss
+      → wind_by above right p ss +ℤ sum_z
       change (starts ss) ≡ wind_by above right q ss +ℤ sum_z change (ends ss)
   wind_changed [] h = refl
   wind_changed (s ∷ ss) h =

@@ -27,11 +27,14 @@ module _ (above right : Bool) (q : Point) where
   wind_turns [] = refl
   wind_turns (s ∷ ss) = ap (λ (z : ℤ). turn above right q s.from s.to +ℤ z) (wind_turns ss)
 
-  pub wind-permuted : (ss ts : List Segment) → IsPermutation ss ts → wind_by above right q ts ≡ wind_by above right q ss
-  wind-permuted ss ts m = wind_turns ts ∙ sum_z-permutation (λ (s : Segment). turn above right q s.from s.to) ss ts m ∙
+  pub wind-permuted : (ss ts : List Segment) → IsPermutation ss ts
+      → wind_by above right q ts ≡ wind_by above right q ss
+  wind-permuted ss ts m = wind_turns ts ∙ sum_z-permutation (λ (s : Segment). turn above right q s.from s.to) ss ts m
+      ∙
       sym (wind_turns ss)
 
-  pub wind-append : (ss ts : List Segment) → wind_by above right q (ss ++ ts) ≡ wind_by above right q ss +ℤ wind_by
+  pub wind-append : (ss ts : List Segment) → wind_by above right q (ss ++ ts)
+      ≡ wind_by above right q ss +ℤ wind_by
       above right q ts
   wind-append ss ts =
       wind_turns (ss ++ ts)

@@ -14,7 +14,8 @@ use Rattle.scad_base.proofs.Integers.{at_most_of_less, zero_between}
 use Rattle.std.proofs.Math.IntN.{+ℤ_comm}
 
 -- a mean is a point of the segment
-pub mean_on : (s t : ℤ) → pos 0 ≤ℤ s → pos 0 ≤ℤ t → pos 0 <ℤ (s +ℤ t) → (a b : Point) → IsOn a b (mean s t a b)
+pub mean_on : (s t : ℤ) → pos 0 ≤ℤ s → pos 0 ≤ℤ t → pos 0 <ℤ (s +ℤ t) → (a b : Point)
+    → IsOn a b (mean s t a b)
 mean_on s t hs ht o a b =
     record {
       k = pos 1;
@@ -48,27 +49,31 @@ on_turned a b p h =
 
 -- ---- of a part
 -- one number of a point by weights of points that are means by weights themselves
-through : (k l m u v s t f g x y p q r : ℤ) → k *ℤ p ≡ s *ℤ x +ℤ t *ℤ y → l *ℤ q ≡ f *ℤ x +ℤ g *ℤ y
-    → m *ℤ r ≡ u *ℤ p +ℤ v *ℤ q
-    → ((k *ℤ l) *ℤ m) *ℤ r ≡ (s *ℤ (l *ℤ u) +ℤ f *ℤ (k *ℤ v)) *ℤ x +ℤ (t *ℤ (l *ℤ u) +ℤ g *ℤ (k *ℤ v)) *ℤ y
+through : (k l m u v s t f g x y p q r : ℤ) → k *ℤ p ≡ s *ℤ x +ℤ t *ℤ y
+    → l *ℤ q ≡ f *ℤ x +ℤ g *ℤ y → m *ℤ r ≡ u *ℤ p +ℤ v *ℤ q
+    → ((k *ℤ l) *ℤ m) *ℤ r ≡ (s *ℤ (l *ℤ u) +ℤ f *ℤ (k *ℤ v)) *ℤ x +ℤ
+    (t *ℤ (l *ℤ u) +ℤ g *ℤ (k *ℤ v)) *ℤ y
 through k l m u v s t f g x y p q r hp hq hr =
     ring (k ∷ l ∷ m ∷ r ∷ []) (((v0 ⊗ v1) ⊗ v2) ⊗ v3) ((v0 ⊗ v1) ⊗ (v2 ⊗ v3)) refl
     ∙ ap (λ (z : ℤ). (k *ℤ l) *ℤ z) hr
-    ∙ ring (k ∷ l ∷ u ∷ v ∷ p ∷ q ∷ []) ((v0 ⊗ v1) ⊗ (v2 ⊗ v4 ⊕ v3 ⊗ v5)) ((v1 ⊗ v2) ⊗ (v0 ⊗ v4) ⊕ (v0 ⊗ v3) ⊗
+    ∙ ring (k ∷ l ∷ u ∷ v ∷ p ∷ q ∷ []) ((v0 ⊗ v1) ⊗ (v2 ⊗ v4 ⊕ v3 ⊗ v5))
+    ((v1 ⊗ v2) ⊗ (v0 ⊗ v4) ⊕ (v0 ⊗ v3) ⊗
     (v1 ⊗ v5)) refl
     ∙ ap₂ (λ (y z : ℤ). (l *ℤ u) *ℤ y +ℤ (k *ℤ v) *ℤ z) hp hq
     ∙ ring (k ∷ l ∷ u ∷ v ∷ s ∷ t ∷ f ∷ g ∷ x ∷ y ∷ [])
-    ((v1 ⊗ v2) ⊗ (v4 ⊗ v8 ⊕ v5 ⊗ v9) ⊕ (v0 ⊗ v3) ⊗ (v6 ⊗ v8 ⊕ v7 ⊗ v9)) ((v4 ⊗ (v1 ⊗ v2) ⊕ v6 ⊗ (v0 ⊗ v3)) ⊗ v8 ⊕
+    ((v1 ⊗ v2) ⊗ (v4 ⊗ v8 ⊕ v5 ⊗ v9) ⊕ (v0 ⊗ v3) ⊗ (v6 ⊗ v8 ⊕ v7 ⊗ v9))
+        ((v4 ⊗ (v1 ⊗ v2) ⊕ v6 ⊗ (v0 ⊗ v3)) ⊗ v8 ⊕
     (v5 ⊗ (v1 ⊗ v2) ⊕ v7 ⊗ (v0 ⊗ v3)) ⊗ v9) refl
 
 -- their weights have a sum above 0
-some_through : (k l u v s t f g : ℤ) → pos 0 <ℤ k → pos 0 <ℤ l → pos 0 ≤ℤ u → pos 0 ≤ℤ v → pos 0 <ℤ (u +ℤ v)
-    → pos 0 <ℤ (s +ℤ t) → pos 0 <ℤ (f +ℤ g)
+some_through : (k l u v s t f g : ℤ) → pos 0 <ℤ k → pos 0 <ℤ l → pos 0 ≤ℤ u → pos 0 ≤ℤ v
+    → pos 0 <ℤ (u +ℤ v) → pos 0 <ℤ (s +ℤ t) → pos 0 <ℤ (f +ℤ g)
     → pos 0 <ℤ ((s *ℤ (l *ℤ u) +ℤ f *ℤ (k *ℤ v)) +ℤ (t *ℤ (l *ℤ u) +ℤ g *ℤ (k *ℤ v)))
 some_through k l u v s t f g kp lp hu hv o st fg =
     let same : (s *ℤ (l *ℤ u) +ℤ f *ℤ (k *ℤ v)) +ℤ (t *ℤ (l *ℤ u) +ℤ g *ℤ (k *ℤ v)) ≡ ((s +ℤ t) *ℤ l) *ℤ u +ℤ
     ((f +ℤ g) *ℤ k) *ℤ v =
-    ring (k ∷ l ∷ u ∷ v ∷ s ∷ t ∷ f ∷ g ∷ []) ((v4 ⊗ (v1 ⊗ v2) ⊕ v6 ⊗ (v0 ⊗ v3)) ⊕ (v5 ⊗ (v1 ⊗ v2) ⊕ v7 ⊗ (v0 ⊗ v3)))
+    ring (k ∷ l ∷ u ∷ v ∷ s ∷ t ∷ f ∷ g ∷ [])
+        ((v4 ⊗ (v1 ⊗ v2) ⊕ v6 ⊗ (v0 ⊗ v3)) ⊕ (v5 ⊗ (v1 ⊗ v2) ⊕ v7 ⊗ (v0 ⊗ v3)))
     (((v4 ⊕ v5) ⊗ v1) ⊗ v2 ⊕ ((v6 ⊕ v7) ⊗ v0) ⊗ v3) refl in
     let m : pos 0 <ℤ ((s +ℤ t) *ℤ l) = positive_product (s +ℤ t) l st lp in
     let n : pos 0 <ℤ ((f +ℤ g) *ℤ k) = positive_product (f +ℤ g) k fg kp in
@@ -92,19 +97,22 @@ parts_are_on a b c d p h g o =
       d = through h.k g.k o.k o.s o.t h.s h.t g.s g.t a.d b.d c.d d.d p.d h.d g.d o.d;
     }
   where
-    weight : (s f : ℤ) → pos 0 ≤ℤ s → pos 0 ≤ℤ f → pos 0 ≤ℤ (s *ℤ (g.k *ℤ o.s) +ℤ f *ℤ (h.k *ℤ o.t))
+    weight : (s f : ℤ) → pos 0 ≤ℤ s → pos 0 ≤ℤ f
+        → pos 0 ≤ℤ (s *ℤ (g.k *ℤ o.s) +ℤ f *ℤ (h.k *ℤ o.t))
     weight s f hs hf =
         sum_at_least (s *ℤ (g.k *ℤ o.s)) (f *ℤ (h.k *ℤ o.t))
         (at_least_mul s (g.k *ℤ o.s) hs (at_least_mul g.k o.s (at_most_of_less (pos 0) g.k g.positive) o.first))
         (at_least_mul f (h.k *ℤ o.t) hf (at_least_mul h.k o.t (at_most_of_less (pos 0) h.k h.positive) o.second))
 
 -- ---- of the first or of the second part
-nearer_start : (k s t l f g x y m p : ℤ) → k *ℤ m ≡ s *ℤ x +ℤ t *ℤ y → l *ℤ p ≡ f *ℤ x +ℤ g *ℤ y
+nearer_start : (k s t l f g x y m p : ℤ) → k *ℤ m ≡ s *ℤ x +ℤ t *ℤ y
+    → l *ℤ p ≡ f *ℤ x +ℤ g *ℤ y
     → (t *ℤ l) *ℤ p ≡ (f *ℤ t -ℤ s *ℤ g) *ℤ x +ℤ (g *ℤ k) *ℤ m
 nearer_start k s t l f g x y m p hm hp =
     ring (t ∷ l ∷ p ∷ []) ((v0 ⊗ v1) ⊗ v2) (v0 ⊗ (v1 ⊗ v2)) refl
     ∙ ap (λ (z : ℤ). t *ℤ z) hp
-    ∙ ring (t ∷ f ∷ x ∷ g ∷ y ∷ s ∷ []) (v0 ⊗ (v1 ⊗ v2 ⊕ v3 ⊗ v4)) ((v1 ⊗ v0 ⊖ v5 ⊗ v3) ⊗ v2 ⊕ v3 ⊗ (v5 ⊗ v2 ⊕ v0 ⊗ v4))
+    ∙ ring (t ∷ f ∷ x ∷ g ∷ y ∷ s ∷ []) (v0 ⊗ (v1 ⊗ v2 ⊕ v3 ⊗ v4))
+    ((v1 ⊗ v0 ⊖ v5 ⊗ v3) ⊗ v2 ⊕ v3 ⊗ (v5 ⊗ v2 ⊕ v0 ⊗ v4))
     refl
     ∙ ap (λ (z : ℤ). (f *ℤ t -ℤ s *ℤ g) *ℤ x +ℤ g *ℤ z) (sym hm)
     ∙ ring (f ∷ t ∷ s ∷ g ∷ x ∷ k ∷ m ∷ []) ((v0 ⊗ v1 ⊖ v2 ⊗ v3) ⊗ v4 ⊕ v3 ⊗ (v5 ⊗ v6))
@@ -115,13 +123,15 @@ nearer_end : (k s t l f g x y m p : ℤ) → k *ℤ m ≡ s *ℤ x +ℤ t *ℤ y
 nearer_end k s t l f g x y m p hm hp =
     ring (s ∷ l ∷ p ∷ []) ((v0 ⊗ v1) ⊗ v2) (v0 ⊗ (v1 ⊗ v2)) refl
     ∙ ap (λ (z : ℤ). s *ℤ z) hp
-    ∙ ring (s ∷ f ∷ x ∷ g ∷ y ∷ t ∷ []) (v0 ⊗ (v1 ⊗ v2 ⊕ v3 ⊗ v4)) (v1 ⊗ (v0 ⊗ v2 ⊕ v5 ⊗ v4) ⊕ (v0 ⊗ v3 ⊖ v1 ⊗ v5) ⊗ v4)
+    ∙ ring (s ∷ f ∷ x ∷ g ∷ y ∷ t ∷ []) (v0 ⊗ (v1 ⊗ v2 ⊕ v3 ⊗ v4))
+    (v1 ⊗ (v0 ⊗ v2 ⊕ v5 ⊗ v4) ⊕ (v0 ⊗ v3 ⊖ v1 ⊗ v5) ⊗ v4)
     refl
     ∙ ap (λ (z : ℤ). f *ℤ z +ℤ (s *ℤ g -ℤ f *ℤ t) *ℤ y) (sym hm)
     ∙ ring (f ∷ k ∷ m ∷ s ∷ g ∷ t ∷ y ∷ []) (v0 ⊗ (v1 ⊗ v2) ⊕ (v3 ⊗ v4 ⊖ v0 ⊗ v5) ⊗ v6)
     ((v0 ⊗ v1) ⊗ v2 ⊕ (v3 ⊗ v4 ⊖ v0 ⊗ v5) ⊗ v6) refl
 
-at_start : (l f g x y p m : ℤ) → g ≡ pos 0 → l *ℤ p ≡ f *ℤ x +ℤ g *ℤ y → l *ℤ p ≡ f *ℤ x +ℤ pos 0 *ℤ m
+at_start : (l f g x y p m : ℤ) → g ≡ pos 0 → l *ℤ p ≡ f *ℤ x +ℤ g *ℤ y
+    → l *ℤ p ≡ f *ℤ x +ℤ pos 0 *ℤ m
 at_start l f g x y p m h e = e ∙ ap (λ (z : ℤ). f *ℤ x +ℤ z *ℤ y) h ∙ nothing (f *ℤ x) y m
   where
     nothing : (z y m : ℤ) → z +ℤ pos 0 *ℤ y ≡ z +ℤ pos 0 *ℤ m

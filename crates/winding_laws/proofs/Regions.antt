@@ -25,10 +25,12 @@ same_point p q x y d = λ i. record { x = x i; y = y i; d = d i }
 -- ---- of one half plane
 slack_scaled : (a b c x y d k : ℤ) → (c *ℤ d -ℤ (a *ℤ x +ℤ b *ℤ y)) *ℤ k ≡ c *ℤ (d *ℤ k) -ℤ
     (a *ℤ (x *ℤ k) +ℤ b *ℤ (y *ℤ k))
-slack_scaled a b c x y d k = ring (a ∷ b ∷ c ∷ x ∷ y ∷ d ∷ k ∷ []) ((v2 ⊗ v5 ⊖ (v0 ⊗ v3 ⊕ v1 ⊗ v4)) ⊗ v6)
+slack_scaled a b c x y d k = ring (a ∷ b ∷ c ∷ x ∷ y ∷ d ∷ k ∷ [])
+    ((v2 ⊗ v5 ⊖ (v0 ⊗ v3 ⊕ v1 ⊗ v4)) ⊗ v6)
     (v2 ⊗ (v5 ⊗ v6) ⊖ (v0 ⊗ (v3 ⊗ v6) ⊕ v1 ⊗ (v4 ⊗ v6))) refl
 
-slack_added : (a b c x y d z w e : ℤ) → (c *ℤ d -ℤ (a *ℤ x +ℤ b *ℤ y)) +ℤ (c *ℤ e -ℤ (a *ℤ z +ℤ b *ℤ w)) ≡ c *ℤ (d +ℤ e)
+slack_added : (a b c x y d z w e : ℤ) → (c *ℤ d -ℤ (a *ℤ x +ℤ b *ℤ y)) +ℤ
+    (c *ℤ e -ℤ (a *ℤ z +ℤ b *ℤ w)) ≡ c *ℤ (d +ℤ e)
     -ℤ (a *ℤ (x +ℤ z) +ℤ b *ℤ (y +ℤ w))
 slack_added a b c x y d z w e =
     ring (a ∷ b ∷ c ∷ x ∷ y ∷ d ∷ z ∷ w ∷ e ∷ [])
@@ -38,7 +40,8 @@ slack_added a b c x y d z w e =
 slack : (p : Point) (h : HalfPlane) → Bounds p h → pos 0 ≤ℤ (h.c *ℤ p.d -ℤ (h.a *ℤ p.x +ℤ h.b *ℤ p.y))
 slack p h b = gap_of_at_most (h.a *ℤ p.x +ℤ h.b *ℤ p.y) (h.c *ℤ p.d) b
 
-bounds : (p : Point) (h : HalfPlane) → pos 0 ≤ℤ (h.c *ℤ p.d -ℤ (h.a *ℤ p.x +ℤ h.b *ℤ p.y)) → Bounds p h
+bounds : (p : Point) (h : HalfPlane) → pos 0 ≤ℤ (h.c *ℤ p.d -ℤ (h.a *ℤ p.x +ℤ h.b *ℤ p.y))
+    → Bounds p h
 bounds p h s = at_most_of_gap (h.a *ℤ p.x +ℤ h.b *ℤ p.y) (h.c *ℤ p.d) s
 
 at_least_as : (s t : ℤ) → s ≡ t → pos 0 ≤ℤ s → pos 0 ≤ℤ t
@@ -63,17 +66,19 @@ pub holds_scaled : (region : List HalfPlane) (p : Point) (k : ℤ) → pos 0 ≤
 holds_scaled [] p k least h = tt
 holds_scaled (b ∷ bs) p k least h = (bounds_scaled p k least b h.0, holds_scaled bs p k least h.1)
 
-pub holds_left : (region : List HalfPlane) (p : Point) (k : ℤ) → pos 0 <ℤ k → Holds region (scaled p k) → Holds region p
+pub holds_left : (region : List HalfPlane) (p : Point) (k : ℤ) → pos 0 <ℤ k → Holds region (scaled p k)
+    → Holds region p
 holds_left [] p k more h = tt
 holds_left (b ∷ bs) p k more h = (bounds_left p k more b h.0, holds_left bs p k more h.1)
 
-pub holds_added : (region : List HalfPlane) (p q : Point) → Holds region p → Holds region q → Holds region (added p q)
+pub holds_added : (region : List HalfPlane) (p q : Point) → Holds region p → Holds region q
+    → Holds region (added p q)
 holds_added [] p q h g = tt
 holds_added (b ∷ bs) p q h g = (bounds_added p q b h.0 g.0, holds_added bs p q h.1 g.1)
 
 -- the same place, over any divisors
-pub holds_as : (region : List HalfPlane) (p q : Point) → p.x ≡ q.x → p.y ≡ q.y → p.d ≡ q.d → Holds region p
-    → Holds region q
+pub holds_as : (region : List HalfPlane) (p q : Point) → p.x ≡ q.x → p.y ≡ q.y → p.d ≡ q.d
+    → Holds region p → Holds region q
 holds_as region p q x y d h = subst (Holds region) (same_point p q x y d) h
 
 -- a point is near to itself where the region holds the origin
@@ -87,7 +92,8 @@ near_itself region o p least =
 
 -- ---- seen from a third point
 -- q's view of p, as a third point z sees both, is q's view times the square of the third divisor
-pub axis_seen : (x d y e z f : ℤ) → (x *ℤ e -ℤ y *ℤ d) *ℤ (f *ℤ f) ≡ (x *ℤ f -ℤ z *ℤ d) *ℤ (e *ℤ f) -ℤ
+pub axis_seen : (x d y e z f : ℤ) → (x *ℤ e -ℤ y *ℤ d) *ℤ (f *ℤ f)
+    ≡ (x *ℤ f -ℤ z *ℤ d) *ℤ (e *ℤ f) -ℤ
     (y *ℤ f -ℤ z *ℤ e) *ℤ (d *ℤ f)
 axis_seen x d y e z f = ring (x ∷ d ∷ y ∷ e ∷ z ∷ f ∷ []) ((v0 ⊗ v3 ⊖ v2 ⊗ v1) ⊗ (v5 ⊗ v5))
     ((v0 ⊗ v5 ⊖ v4 ⊗ v1) ⊗ (v3 ⊗ v5) ⊖ (v2 ⊗ v5 ⊖ v4 ⊗ v3) ⊗ (v1 ⊗ v5)) refl
@@ -103,7 +109,8 @@ near_seen region z q p least h =
     (holds_scaled region (seen_from q p) (z.d *ℤ z.d) least h)
 
 -- and back
-pub near_unseen : (region : List HalfPlane) (z q p : Point) → pos 0 <ℤ (z.d *ℤ z.d) → IsNear region (seen_from z q)
+pub near_unseen : (region : List HalfPlane) (z q p : Point) → pos 0 <ℤ (z.d *ℤ z.d)
+    → IsNear region (seen_from z q)
     (seen_from z p) → IsNear region q p
 near_unseen region z q p more h =
     holds_left region (seen_from q p) (z.d *ℤ z.d) more
@@ -117,11 +124,14 @@ mean_seen q a b s t =
     same_point (mean s t (seen_from q a) (seen_from q b)) (seen_from q (mean s t a b))
     (one_axis s t a.x a.d b.x b.d q.x q.d) (one_axis s t a.y a.d b.y b.d q.y q.d) (weights s t a.d b.d q.d)
   where
-    one_axis : (s t x d y e z f : ℤ) → s *ℤ (x *ℤ f -ℤ z *ℤ d) +ℤ t *ℤ (y *ℤ f -ℤ z *ℤ e) ≡ (s *ℤ x +ℤ t *ℤ y) *ℤ f -ℤ z
+    one_axis : (s t x d y e z f : ℤ) → s *ℤ (x *ℤ f -ℤ z *ℤ d) +ℤ t *ℤ (y *ℤ f -ℤ z *ℤ e)
+        ≡ (s *ℤ x +ℤ t *ℤ y) *ℤ f -ℤ z
         *ℤ (s *ℤ d +ℤ t *ℤ e)
     one_axis s t x d y e z f =
-        ring (s ∷ t ∷ x ∷ d ∷ y ∷ e ∷ z ∷ f ∷ []) (v0 ⊗ (v2 ⊗ v7 ⊖ v6 ⊗ v3) ⊕ v1 ⊗ (v4 ⊗ v7 ⊖ v6 ⊗ v5))
+        ring (s ∷ t ∷ x ∷ d ∷ y ∷ e ∷ z ∷ f ∷ [])
+            (v0 ⊗ (v2 ⊗ v7 ⊖ v6 ⊗ v3) ⊕ v1 ⊗ (v4 ⊗ v7 ⊖ v6 ⊗ v5))
         ((v0 ⊗ v2 ⊕ v1 ⊗ v4) ⊗ v7 ⊖ v6 ⊗ (v0 ⊗ v3 ⊕ v1 ⊗ v5)) refl
 
     weights : (s t d e f : ℤ) → s *ℤ (d *ℤ f) +ℤ t *ℤ (e *ℤ f) ≡ (s *ℤ d +ℤ t *ℤ e) *ℤ f
-    weights s t d e f = ring (s ∷ t ∷ d ∷ e ∷ f ∷ []) (v0 ⊗ (v2 ⊗ v4) ⊕ v1 ⊗ (v3 ⊗ v4)) ((v0 ⊗ v2 ⊕ v1 ⊗ v3) ⊗ v4) refl
+    weights s t d e f = ring (s ∷ t ∷ d ∷ e ∷ f ∷ []) (v0 ⊗ (v2 ⊗ v4) ⊕ v1 ⊗ (v3 ⊗ v4))
+        ((v0 ⊗ v2 ⊕ v1 ⊗ v3) ⊗ v4) refl

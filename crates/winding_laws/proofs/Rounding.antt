@@ -46,21 +46,27 @@ rounded_close p h = record {
 
 -- ---- a point to one point
 -- of two nearest numbers to one quotient neither is the greater
-first_scaled : (n d r e : ℤ) → (pos 2 *ℤ n +ℤ d -ℤ pos 2 *ℤ d *ℤ r) *ℤ e ≡ pos 2 *ℤ (n *ℤ e) +ℤ d *ℤ e -ℤ pos 2 *ℤ
+first_scaled : (n d r e : ℤ) → (pos 2 *ℤ n +ℤ d -ℤ pos 2 *ℤ d *ℤ r) *ℤ e
+    ≡ pos 2 *ℤ (n *ℤ e) +ℤ d *ℤ e -ℤ pos 2 *ℤ
     (d *ℤ e) *ℤ r
-first_scaled n d r e = ring (n ∷ d ∷ r ∷ e ∷ []) ((num (pos 2) ⊗ v0 ⊕ v1 ⊖ num (pos 2) ⊗ v1 ⊗ v2) ⊗ v3)
+first_scaled n d r e = ring (n ∷ d ∷ r ∷ e ∷ [])
+    ((num (pos 2) ⊗ v0 ⊕ v1 ⊖ num (pos 2) ⊗ v1 ⊗ v2) ⊗ v3)
     (num (pos 2) ⊗ (v0 ⊗ v3) ⊕ v1 ⊗ v3 ⊖ num (pos 2) ⊗ (v1 ⊗ v3) ⊗ v2) refl
 
-second_scaled : (n d r e : ℤ) → (pos 2 *ℤ d *ℤ r -ℤ (pos 2 *ℤ n -ℤ d)) *ℤ e ≡ pos 2 *ℤ (e *ℤ d) *ℤ r -ℤ
+second_scaled : (n d r e : ℤ) → (pos 2 *ℤ d *ℤ r -ℤ (pos 2 *ℤ n -ℤ d)) *ℤ e
+    ≡ pos 2 *ℤ (e *ℤ d) *ℤ r -ℤ
     (pos 2 *ℤ (n *ℤ e) -ℤ e *ℤ d)
-second_scaled n d r e = ring (n ∷ d ∷ r ∷ e ∷ []) ((num (pos 2) ⊗ v1 ⊗ v2 ⊖ (num (pos 2) ⊗ v0 ⊖ v1)) ⊗ v3)
+second_scaled n d r e = ring (n ∷ d ∷ r ∷ e ∷ [])
+    ((num (pos 2) ⊗ v1 ⊗ v2 ⊖ (num (pos 2) ⊗ v0 ⊖ v1)) ⊗ v3)
     (num (pos 2) ⊗ (v3 ⊗ v1) ⊗ v2 ⊖ (num (pos 2) ⊗ (v0 ⊗ v3) ⊖ v3 ⊗ v1)) refl
 
-gap_sum : (n w r s : ℤ) → (pos 2 *ℤ n +ℤ w -ℤ pos 2 *ℤ w *ℤ r) +ℤ (pos 2 *ℤ w *ℤ s -ℤ (pos 2 *ℤ n -ℤ w))
+gap_sum : (n w r s : ℤ) → (pos 2 *ℤ n +ℤ w -ℤ pos 2 *ℤ w *ℤ r) +ℤ
+    (pos 2 *ℤ w *ℤ s -ℤ (pos 2 *ℤ n -ℤ w))
     ≡ (s -ℤ r +ℤ pos 1) *ℤ (pos 2 *ℤ w)
 gap_sum n w r s =
     ring (n ∷ w ∷ r ∷ s ∷ []) ((num (pos 2) ⊗ v0 ⊕ v1 ⊖ num (pos 2) ⊗ v1 ⊗ v2) ⊕
-    (num (pos 2) ⊗ v1 ⊗ v3 ⊖ (num (pos 2) ⊗ v0 ⊖ v1))) ((v3 ⊖ v2 ⊕ num (pos 1)) ⊗ (num (pos 2) ⊗ v1)) refl
+    (num (pos 2) ⊗ v1 ⊗ v3 ⊖ (num (pos 2) ⊗ v0 ⊖ v1))) ((v3 ⊖ v2 ⊕ num (pos 1)) ⊗ (num (pos 2) ⊗ v1))
+        refl
 
 double : (z : ℤ) → pos 0 <ℤ z → pos 0 <ℤ (pos 2 *ℤ z)
 double z h = omega (arith, ints)
@@ -71,28 +77,32 @@ sum_positive s t u h k e = omega (arith, ints)
 at_most_by : (r s : ℤ) → pos 0 <ℤ (s -ℤ r +ℤ pos 1) → r ≤ℤ s
 at_most_by r s h = omega (arith, ints)
 
-nearest_order : (n d r m e s : ℤ) → pos 0 <ℤ d → pos 0 <ℤ e → n *ℤ e ≡ m *ℤ d → IsNearest n d r → IsNearest m e s
-    → r ≤ℤ s
+nearest_order : (n d r m e s : ℤ) → pos 0 <ℤ d → pos 0 <ℤ e → n *ℤ e ≡ m *ℤ d → IsNearest n d r
+    → IsNearest m e s → r ≤ℤ s
 nearest_order n d r m e s dp ep h a b =
     let below : pos 0 <ℤ (pos 2 *ℤ n +ℤ d -ℤ pos 2 *ℤ d *ℤ r) = gap_of_less (pos 2 *ℤ d *ℤ r) (pos 2 *ℤ n +ℤ d) a.below
     in
     let above : pos 0 ≤ℤ (pos 2 *ℤ e *ℤ s -ℤ (pos 2 *ℤ m -ℤ e)) = gap_of_at_most (pos 2 *ℤ m -ℤ e) (pos 2 *ℤ e *ℤ s)
     b.above in
     let f : pos 0 <ℤ (pos 2 *ℤ (n *ℤ e) +ℤ d *ℤ e -ℤ pos 2 *ℤ (d *ℤ e) *ℤ r) =
-    subst (λ (z : ℤ). pos 0 <ℤ z) (first_scaled n d r e) (positive_product (pos 2 *ℤ n +ℤ d -ℤ pos 2 *ℤ d *ℤ r) e below
+    subst (λ (z : ℤ). pos 0 <ℤ z) (first_scaled n d r e)
+        (positive_product (pos 2 *ℤ n +ℤ d -ℤ pos 2 *ℤ d *ℤ r) e below
     ep) in
     let g : pos 0 ≤ℤ (pos 2 *ℤ (d *ℤ e) *ℤ s -ℤ (pos 2 *ℤ (m *ℤ d) -ℤ d *ℤ e)) =
-    subst (λ (z : ℤ). pos 0 ≤ℤ z) (second_scaled m e s d) (at_least_mul (pos 2 *ℤ e *ℤ s -ℤ (pos 2 *ℤ m -ℤ e)) d above
+    subst (λ (z : ℤ). pos 0 ≤ℤ z) (second_scaled m e s d)
+        (at_least_mul (pos 2 *ℤ e *ℤ s -ℤ (pos 2 *ℤ m -ℤ e)) d above
     (at_most_of_less (pos 0) d dp)) in
     let k : pos 0 ≤ℤ (pos 2 *ℤ (d *ℤ e) *ℤ s -ℤ (pos 2 *ℤ (n *ℤ e) -ℤ d *ℤ e)) =
     subst (λ (z : ℤ). pos 0 ≤ℤ (pos 2 *ℤ (d *ℤ e) *ℤ s -ℤ (pos 2 *ℤ z -ℤ d *ℤ e))) (sym h) g in
     at_most_by r s
     (pos_left (s -ℤ r +ℤ pos 1) (pos 2 *ℤ (d *ℤ e)) (double (d *ℤ e) (positive_product d e dp ep))
     (sum_positive (pos 2 *ℤ (n *ℤ e) +ℤ d *ℤ e -ℤ pos 2 *ℤ (d *ℤ e) *ℤ r)
-    (pos 2 *ℤ (d *ℤ e) *ℤ s -ℤ (pos 2 *ℤ (n *ℤ e) -ℤ d *ℤ e)) ((s -ℤ r +ℤ pos 1) *ℤ (pos 2 *ℤ (d *ℤ e)))
+    (pos 2 *ℤ (d *ℤ e) *ℤ s -ℤ (pos 2 *ℤ (n *ℤ e) -ℤ d *ℤ e))
+        ((s -ℤ r +ℤ pos 1) *ℤ (pos 2 *ℤ (d *ℤ e)))
     f k (gap_sum (n *ℤ e) (d *ℤ e) r s)))
 
-one_nearest : (n d m e : ℤ) → pos 0 <ℤ d → pos 0 <ℤ e → n *ℤ e ≡ m *ℤ d → half_down n d ≡ half_down m e
+one_nearest : (n d m e : ℤ) → pos 0 <ℤ d → pos 0 <ℤ e → n *ℤ e ≡ m *ℤ d
+    → half_down n d ≡ half_down m e
 one_nearest n d m e dp ep h =
     let a = nearest n d dp in
     let b = nearest m e ep in

@@ -34,7 +34,8 @@ cancel_mul a b k h e =
     omega (arith, ints)
 
 -- one coordinate over three divisors
-chain : (x d y e z f : ℤ) → pos 0 <ℤ e → x *ℤ e ≡ y *ℤ d → y *ℤ f ≡ z *ℤ e → x *ℤ f ≡ z *ℤ d
+chain : (x d y e z f : ℤ) → pos 0 <ℤ e → x *ℤ e ≡ y *ℤ d → y *ℤ f ≡ z *ℤ e
+    → x *ℤ f ≡ z *ℤ d
 chain x d y e z f h k l =
     cancel_mul (x *ℤ f) (z *ℤ d) e h
     (ring (x ∷ f ∷ e ∷ []) ((v0 ⊗ v1) ⊗ v2) ((v0 ⊗ v2) ⊗ v1) refl
@@ -60,8 +61,8 @@ pub same_itself : (p : Point) → is_same_point p p ≡ true
 same_itself p = same_by p p (are_same_itself p)
 
 -- the same points are the same as any third
-pub same_through : (p q r : Point) → pos 0 <ℤ q.d → pos 0 <ℤ r.d → is_same_point q r ≡ true → is_same_point p q
-    ≡ is_same_point p r
+pub same_through : (p q r : Point) → pos 0 <ℤ q.d → pos 0 <ℤ r.d → is_same_point q r ≡ true
+    → is_same_point p q ≡ is_same_point p r
 same_through p q r dq dr h =
     let s = are_same q r h in
     both_ways (is_same_point p q) (is_same_point p r)
@@ -69,13 +70,17 @@ same_through p q r dq dr h =
     (λ k. same_by p q (are_same_on p r q dr (are_same p r k) (are_same_turned q r s)))
 
 -- ---- the same points turn alike
-pub one_axis : (x d y e z f : ℤ) → x *ℤ e ≡ y *ℤ d → (x *ℤ f -ℤ z *ℤ d) *ℤ e ≡ (y *ℤ f -ℤ z *ℤ e) *ℤ d
+pub one_axis : (x d y e z f : ℤ) → x *ℤ e ≡ y *ℤ d
+    → (x *ℤ f -ℤ z *ℤ d) *ℤ e ≡ (y *ℤ f -ℤ z *ℤ e) *ℤ d
 one_axis x d y e z f h =
-    ring (x ∷ d ∷ e ∷ z ∷ f ∷ []) ((v0 ⊗ v4 ⊖ v3 ⊗ v1) ⊗ v2) ((v0 ⊗ v2) ⊗ v4 ⊖ (v3 ⊗ v1) ⊗ v2) refl
+    ring (x ∷ d ∷ e ∷ z ∷ f ∷ []) ((v0 ⊗ v4 ⊖ v3 ⊗ v1) ⊗ v2)
+        ((v0 ⊗ v2) ⊗ v4 ⊖ (v3 ⊗ v1) ⊗ v2) refl
     ∙ ap (λ (s : ℤ). s *ℤ f -ℤ (z *ℤ d) *ℤ e) h
-    ∙ ring (y ∷ d ∷ e ∷ z ∷ f ∷ []) ((v0 ⊗ v1) ⊗ v4 ⊖ (v3 ⊗ v1) ⊗ v2) ((v0 ⊗ v4 ⊖ v3 ⊗ v2) ⊗ v1) refl
+    ∙ ring (y ∷ d ∷ e ∷ z ∷ f ∷ []) ((v0 ⊗ v1) ⊗ v4 ⊖ (v3 ⊗ v1) ⊗ v2)
+    ((v0 ⊗ v4 ⊖ v3 ⊗ v2) ⊗ v1) refl
 
-pub along_seen : (q a b : Point) → pos 0 <ℤ a.d → pos 0 <ℤ b.d → AreSame a b → IsAlong (seen_from q a) (seen_from q b)
+pub along_seen : (q a b : Point) → pos 0 <ℤ a.d → pos 0 <ℤ b.d → AreSame a b
+    → IsAlong (seen_from q a) (seen_from q b)
 along_seen q a b da db h =
     record {
       k = b.d;
@@ -87,12 +92,13 @@ along_seen q a b da db h =
           one_axis a.y a.d b.y b.d q.y q.d h.y;
     }
 
-pub turn_same : (above right : Bool) (q a b c e : Point) → pos 0 <ℤ q.d → pos 0 <ℤ a.d → pos 0 <ℤ b.d → pos 0 <ℤ c.d
-    → pos 0 <ℤ e.d
+pub turn_same : (above right : Bool) (q a b c e : Point) → pos 0 <ℤ q.d → pos 0 <ℤ a.d → pos 0 <ℤ b.d
+    → pos 0 <ℤ c.d → pos 0 <ℤ e.d
     → is_same_point a c ≡ true → is_same_point b e ≡ true → turn above right q a b ≡ turn above right q c e
 turn_same above right q a b c e dq da db dc de h k =
     turn_seen above right q a b dq da
-    ∙ swing_along above right (seen_from q a) (seen_from q c) (seen_from q b) (along_seen q a c da dc (are_same a c h))
+    ∙ swing_along above right (seen_from q a) (seen_from q c) (seen_from q b)
+    (along_seen q a c da dc (are_same a c h))
     ∙ swing_to_along above right (seen_from q c) (seen_from q b) (seen_from q e)
     (along_seen q b e db de (are_same b e k))
     ∙ sym (turn_seen above right q c e dq dc)

@@ -23,7 +23,8 @@ ends (s ∷ ss) = s.to ∷ ends ss
 pub sum_with : (a b c d : ℤ) → b ≡ c +ℤ d → a +ℤ b ≡ c +ℤ (a +ℤ d)
 sum_with a b c d h = omega (arith, ints)
 
-pub sums_apart : (a b c d w x y z : ℤ) → a -ℤ b ≡ c -ℤ d → w -ℤ x ≡ y -ℤ z → (a +ℤ w) -ℤ (b +ℤ x) ≡ (c +ℤ y) -ℤ (d +ℤ z)
+pub sums_apart : (a b c d w x y z : ℤ) → a -ℤ b ≡ c -ℤ d → w -ℤ x ≡ y -ℤ z
+    → (a +ℤ w) -ℤ (b +ℤ x) ≡ (c +ℤ y) -ℤ (d +ℤ z)
 sums_apart a b c d w x y z h k = omega (arith, ints)
 
 pub equal_by_gaps : (a b c d : ℤ) → a -ℤ b ≡ c -ℤ d → c ≡ d → a ≡ b
@@ -44,7 +45,8 @@ tally p (q ∷ qs) = once (is_same_point p q) + tally p qs
 
 tally-starts : (p : Point) (ss : List Segment) → starts_at p ss ≡ tally p (starts ss)
 tally-starts p [] = refl
-tally-starts p (s ∷ ss) = starts-cons p s ss ∙ ap (λ (n : ℕ). once (is_same_point p s.from) + n) (tally-starts p ss)
+tally-starts p (s ∷ ss) = starts-cons p s ss
+    ∙ ap (λ (n : ℕ). once (is_same_point p s.from) + n) (tally-starts p ss)
 
 tally-ends : (p : Point) (ss : List Segment) → ends_at p ss ≡ tally p (ends ss)
 tally-ends p [] = refl
@@ -59,7 +61,8 @@ points-without : (p : Point) (qs : List Point) → AllByRecursion IsPoint qs →
 points-without p [] h = tt
 points-without p (q ∷ qs) h = by_test (is_same_point p q) (points-without p qs h.1)
   where
-    by_test : (t : Bool) → AllByRecursion IsPoint (without p qs) → AllByRecursion IsPoint (cond t qs (q ∷ without p qs))
+    by_test : (t : Bool) → AllByRecursion IsPoint (without p qs)
+        → AllByRecursion IsPoint (cond t qs (q ∷ without p qs))
     by_test true r = h.1
     by_test false r = (h.0, r)
 
@@ -70,7 +73,8 @@ tally-without x p dx (q ∷ qs) d h = by_test (is_same_point x q) refl h (tally-
   where
     by_test : (t : Bool) → is_same_point x q ≡ t → 1 ≤ once t + tally x qs
         → (1 ≤ tally x qs → tally p qs ≡ once (is_same_point p x) + tally p (without x qs))
-        → once (is_same_point p q) + tally p qs ≡ once (is_same_point p x) + tally p (cond t qs (q ∷ without x qs))
+        → once (is_same_point p q) + tally p qs ≡ once (is_same_point p x)
+        + tally p (cond t qs (q ∷ without x qs))
     by_test true e h r = ap (λ (b : Bool). once b + tally p qs) (sym (same_through p x q dx d.0 e))
     by_test false e h r = let s = r (omega arith) in omega arith
 

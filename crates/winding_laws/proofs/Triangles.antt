@@ -39,8 +39,8 @@ factor x p h k = by_lt_z x (pos 0) (λ n. let m = at_most_mul x p (weak n) h in 
     weak n = omega (arith, ints)
 
 module _ (x p q r : ℤ) where
-  third : (y z : ℤ) → pos 0 ≤ℤ y → pos 0 ≤ℤ z → pos 0 <ℤ (y +ℤ z) → Apart p q r → x *ℤ p +ℤ (q *ℤ y +ℤ r *ℤ z) ≡ pos 0
-      → pos 0 ≤ℤ x
+  third : (y z : ℤ) → pos 0 ≤ℤ y → pos 0 ≤ℤ z → pos 0 <ℤ (y +ℤ z) → Apart p q r
+      → x *ℤ p +ℤ (q *ℤ y +ℤ r *ℤ z) ≡ pos 0 → pos 0 ≤ℤ x
   third y z hy hz o (inl a) e =
       let m = at_most_mul q y a.1 hy in
       let n = at_most_mul r z a.2 hz in
@@ -65,18 +65,21 @@ module _ (x p q r : ℤ) where
 heights_turned : (x p q r y z : ℤ) → x *ℤ p +ℤ (q *ℤ y +ℤ r *ℤ z) ≡ pos 0
     → x *ℤ (pos 0 -ℤ p) +ℤ ((pos 0 -ℤ q) *ℤ y +ℤ (pos 0 -ℤ r) *ℤ z) ≡ pos 0
 heights_turned x p q r y z e =
-    ring (x ∷ p ∷ q ∷ r ∷ y ∷ z ∷ []) (v0 ⊗ (num (pos 0) ⊖ v1) ⊕ ((num (pos 0) ⊖ v2) ⊗ v4 ⊕ (num (pos 0) ⊖ v3) ⊗ v5))
+    ring (x ∷ p ∷ q ∷ r ∷ y ∷ z ∷ [])
+        (v0 ⊗ (num (pos 0) ⊖ v1) ⊕ ((num (pos 0) ⊖ v2) ⊗ v4 ⊕ (num (pos 0) ⊖ v3) ⊗ v5))
     (num (pos 0) ⊖ (v0 ⊗ v1 ⊕ (v2 ⊗ v4 ⊕ v3 ⊗ v5))) refl
     ∙ ap (λ (s : ℤ). pos 0 -ℤ s) e
 
 crosses_turned : (x p q r y z : ℤ) → x *ℤ p +ℤ (q *ℤ y +ℤ r *ℤ z) ≡ pos 0
     → (pos 0 -ℤ x) *ℤ p +ℤ (q *ℤ (pos 0 -ℤ y) +ℤ r *ℤ (pos 0 -ℤ z)) ≡ pos 0
 crosses_turned x p q r y z e =
-    ring (x ∷ p ∷ q ∷ r ∷ y ∷ z ∷ []) ((num (pos 0) ⊖ v0) ⊗ v1 ⊕ (v2 ⊗ (num (pos 0) ⊖ v4) ⊕ v3 ⊗ (num (pos 0) ⊖ v5)))
+    ring (x ∷ p ∷ q ∷ r ∷ y ∷ z ∷ [])
+        ((num (pos 0) ⊖ v0) ⊗ v1 ⊕ (v2 ⊗ (num (pos 0) ⊖ v4) ⊕ v3 ⊗ (num (pos 0) ⊖ v5)))
     (num (pos 0) ⊖ (v0 ⊗ v1 ⊕ (v2 ⊗ v4 ⊕ v3 ⊗ v5))) refl
     ∙ ap (λ (s : ℤ). pos 0 -ℤ s) e
 
-third_either : (x y z p q r : ℤ) → pos 0 ≤ℤ y → pos 0 ≤ℤ z → pos 0 <ℤ (y +ℤ z) → Apart p q r ⊎ Apart (pos 0 -ℤ p)
+third_either : (x y z p q r : ℤ) → pos 0 ≤ℤ y → pos 0 ≤ℤ z → pos 0 <ℤ (y +ℤ z)
+    → Apart p q r ⊎ Apart (pos 0 -ℤ p)
     (pos 0 -ℤ q) (pos 0 -ℤ r) → x *ℤ p +ℤ (q *ℤ y +ℤ r *ℤ z) ≡ pos 0 → pos 0 ≤ℤ x
 third_either x y z p q r hy hz o (inl a) e = third x p q r y z hy hz o a e
 third_either x y z p q r hy hz o (inr a) e = third x (pos 0 -ℤ p) (pos 0 -ℤ q) (pos 0 -ℤ r) y z hy hz o a
@@ -145,7 +148,8 @@ under_alone : (right : Bool) (x y z : ℤ) → is_beyond right z ≡ is_beyond r
 under_alone right x y z h =
     ap₂ (λ (s t : ℤ). s +ℤ t) (ap (λ (w : ℤ). if is_beyond right w then pos 1 else pos 0) (one-mul z) ∙ ap
     (λ (b : Bool). if b then pos 1 else pos 0) h)
-    (ap₂ (λ (s t : ℤ). s +ℤ t) (flat right true x) (ap (λ (w : ℤ). if is_beyond right w then negsuc 0 else pos 0)
+    (ap₂ (λ (s t : ℤ). s +ℤ t) (flat right true x)
+        (ap (λ (w : ℤ). if is_beyond right w then negsuc 0 else pos 0)
     (minus_mul y)))
     ∙ up_and_down (is_beyond right (pos 0 -ℤ y))
 
@@ -153,12 +157,13 @@ over_alone : (right : Bool) (x y z : ℤ) → is_beyond right y ≡ is_beyond ri
     → swing_by right true false z +ℤ (swing_by right false false x +ℤ swing_by right false true y) ≡ pos 0
 over_alone right x y z h =
     ap₂ (λ (s t : ℤ). s +ℤ t) (ap (λ (w : ℤ). if is_beyond right w then negsuc 0 else pos 0) (minus_mul z))
-    (ap₂ (λ (s t : ℤ). s +ℤ t) (flat right false x) (ap (λ (w : ℤ). if is_beyond right w then pos 1 else pos 0)
+    (ap₂ (λ (s t : ℤ). s +ℤ t) (flat right false x)
+        (ap (λ (w : ℤ). if is_beyond right w then pos 1 else pos 0)
     (one-mul y) ∙ ap (λ (b : Bool). if b then pos 1 else pos 0) h))
     ∙ down_and_up (is_beyond right (pos 0 -ℤ z))
 
-apart_over : (above : Bool) (p q r : ℤ) → is_beyond above p ≡ true → is_beyond above q ≡ false → is_beyond above r
-    ≡ false → Apart p q r
+apart_over : (above : Bool) (p q r : ℤ) → is_beyond above p ≡ true → is_beyond above q ≡ false
+    → is_beyond above r ≡ false → Apart p q r
 unfolding is_beyond
 apart_over true p q r hp hq hr =
     let f : int_lt (pos 0) p ≡ true = hp in
@@ -171,8 +176,8 @@ apart_over false p q r hp hq hr =
     let t : int_le (pos 0) r ≡ false = hr in
     inr (omega (arith, ints), omega (arith, ints), omega (arith, ints))
 
-apart_under : (above : Bool) (p q r : ℤ) → is_beyond above p ≡ false → is_beyond above q ≡ true → is_beyond above r
-    ≡ true → Apart (pos 0 -ℤ p) (pos 0 -ℤ q) (pos 0 -ℤ r)
+apart_under : (above : Bool) (p q r : ℤ) → is_beyond above p ≡ false → is_beyond above q ≡ true
+    → is_beyond above r ≡ true → Apart (pos 0 -ℤ p) (pos 0 -ℤ q) (pos 0 -ℤ r)
 unfolding is_beyond
 apart_under true p q r hp hq hr =
     let f : int_lt (pos 0) p ≡ false = hp in
@@ -190,11 +195,12 @@ corners_sum : (a b c : Point) → cross b c *ℤ a.y +ℤ (b.y *ℤ cross c a +�
 unfolding cross
 corners_sum a b c =
     ring (a.x ∷ a.y ∷ b.x ∷ b.y ∷ c.x ∷ c.y ∷ [])
-    ((v2 ⊗ v5 ⊖ v3 ⊗ v4) ⊗ v1 ⊕ (v3 ⊗ (v4 ⊗ v1 ⊖ v5 ⊗ v0) ⊕ v5 ⊗ (v0 ⊗ v3 ⊖ v1 ⊗ v2))) (num (pos 0)) refl
+    ((v2 ⊗ v5 ⊖ v3 ⊗ v4) ⊗ v1 ⊕ (v3 ⊗ (v4 ⊗ v1 ⊖ v5 ⊗ v0) ⊕ v5 ⊗ (v0 ⊗ v3 ⊖ v1 ⊗ v2)))
+        (num (pos 0)) refl
 
 -- the corners read the other way round
-not_turned : (a b c : Point) → ¬ IsRound a c b → cross b c ≤ℤ pos 0 → cross c a ≤ℤ pos 0 → cross a b ≤ℤ pos 0
-    → (cross b c +ℤ (cross c a +ℤ cross a b)) <ℤ pos 0 → ⊥
+not_turned : (a b c : Point) → ¬ IsRound a c b → cross b c ≤ℤ pos 0 → cross c a ≤ℤ pos 0
+    → cross a b ≤ℤ pos 0 → (cross b c +ℤ (cross c a +ℤ cross a b)) <ℤ pos 0 → ⊥
 not_turned a b c n x y z o =
     let f = cross_turned b c in
     let s = cross_turned a b in
@@ -207,7 +213,8 @@ not_turned a b c n x y z o =
           omega (arith, ints);
     })
 
-swap_heights : (x p q r y z : ℤ) → x *ℤ p +ℤ (q *ℤ y +ℤ r *ℤ z) ≡ pos 0 → x *ℤ p +ℤ (r *ℤ z +ℤ q *ℤ y) ≡ pos 0
+swap_heights : (x p q r y z : ℤ) → x *ℤ p +ℤ (q *ℤ y +ℤ r *ℤ z) ≡ pos 0
+    → x *ℤ p +ℤ (r *ℤ z +ℤ q *ℤ y) ≡ pos 0
 swap_heights x p q r y z e = omega (arith, ints)
 
 apart_swapped : (p q r : ℤ) → Apart p q r → Apart p r q
@@ -227,8 +234,8 @@ negative_as : (s t : ℤ) → s ≡ t → s <ℤ pos 0 → t <ℤ pos 0
 negative_as s t e h = omega (arith, ints)
 
 over_first : (above right : Bool) (a b c : Point) → ¬ IsRound a b c → ¬ IsRound a c b
-    → is_beyond above a.y ≡ true → is_beyond above b.y ≡ false → is_beyond above c.y ≡ false → Sum above right a b c
-    ≡ pos 0
+    → is_beyond above a.y ≡ true → is_beyond above b.y ≡ false → is_beyond above c.y ≡ false
+    → Sum above right a b c ≡ pos 0
 unfolding swing
 over_first above right a b c n m ha hb hc =
     rw (ha, hb, hc)
@@ -238,8 +245,8 @@ over_first above right a b c n m ha hb hc =
     (inl (apart_over above a.y b.y c.y ha hb hc)) (corners_sum a b c) right))
 
 under_first : (above right : Bool) (a b c : Point) → ¬ IsRound a b c → ¬ IsRound a c b
-    → is_beyond above a.y ≡ false → is_beyond above b.y ≡ true → is_beyond above c.y ≡ true → Sum above right a b c
-    ≡ pos 0
+    → is_beyond above a.y ≡ false → is_beyond above b.y ≡ true → is_beyond above c.y ≡ true
+    → Sum above right a b c ≡ pos 0
 unfolding swing
 under_first above right a b c n m ha hb hc =
     let x = cross b c in
@@ -255,12 +262,14 @@ under_first above right a b c n m ha hb hc =
       some = positive_as (x +ℤ (z +ℤ y)) (x +ℤ (y +ℤ z))
           (sum_swapped x y z) o;
     }))
-    (λ hx hz hy o. not_turned a b c m hx hy hz (negative_as (x +ℤ (z +ℤ y)) (x +ℤ (y +ℤ z)) (sum_swapped x y z) o))
+    (λ hx hz hy o. not_turned a b c m hx hy hz
+        (negative_as (x +ℤ (z +ℤ y)) (x +ℤ (y +ℤ z)) (sum_swapped x y z) o))
     (inr (apart_swapped (pos 0 -ℤ a.y) (pos 0 -ℤ b.y) (pos 0 -ℤ c.y) (apart_under above a.y b.y c.y ha hb hc)))
     (swap_heights x a.y b.y c.y y z (corners_sum a b c)) right))
 
 alone : (above right : Bool) (a b c : Point) → ¬ IsRound a b c → ¬ IsRound a c b → (s t : Bool)
-    → is_beyond above a.y ≡ s → is_beyond above b.y ≡ t → is_beyond above c.y ≡ t → Sum above right a b c ≡ pos 0
+    → is_beyond above a.y ≡ s → is_beyond above b.y ≡ t → is_beyond above c.y ≡ t
+    → Sum above right a b c ≡ pos 0
 unfolding swing
 alone above right a b c n m true true ha hb hc =
     rw (ha, hb, hc) (ap₂ (λ (s t : ℤ). s +ℤ t) (flat right true (cross a b))

@@ -52,12 +52,14 @@ side_seen : (q a b : Point) → side_by q a b *ℤ q.d ≡ cross (seen_from q a)
 unfolding side_by cross
 side_seen q a b =
     ring (a.x ∷ a.y ∷ a.d ∷ b.x ∷ b.y ∷ b.d ∷ q.x ∷ q.y ∷ q.d ∷ [])
-    (((v3 ⊗ v2 ⊖ v0 ⊗ v5) ⊗ (v7 ⊗ v2 ⊖ v1 ⊗ v8) ⊖ (v4 ⊗ v2 ⊖ v1 ⊗ v5) ⊗ (v6 ⊗ v2 ⊖ v0 ⊗ v8)) ⊗ v8)
-    (((v0 ⊗ v8 ⊖ v6 ⊗ v2) ⊗ (v4 ⊗ v8 ⊖ v7 ⊗ v5) ⊖ (v1 ⊗ v8 ⊖ v7 ⊗ v2) ⊗ (v3 ⊗ v8 ⊖ v6 ⊗ v5)) ⊗ v2) refl
+    (((v3 ⊗ v2 ⊖ v0 ⊗ v5) ⊗ (v7 ⊗ v2 ⊖ v1 ⊗ v8) ⊖ (v4 ⊗ v2 ⊖ v1 ⊗ v5)
+        ⊗ (v6 ⊗ v2 ⊖ v0 ⊗ v8)) ⊗ v8)
+    (((v0 ⊗ v8 ⊖ v6 ⊗ v2) ⊗ (v4 ⊗ v8 ⊖ v7 ⊗ v5) ⊖ (v1 ⊗ v8 ⊖ v7 ⊗ v2)
+        ⊗ (v3 ⊗ v8 ⊖ v6 ⊗ v5)) ⊗ v2) refl
 
 -- tests of a product, where both its second factors have one sign
-pub same_sign : (right : Bool) (p x y k l : ℤ) → pos 0 <ℤ k → pos 0 <ℤ l → x *ℤ k ≡ y *ℤ l → is_beyond right (p *ℤ x)
-    ≡ is_beyond right (p *ℤ y)
+pub same_sign : (right : Bool) (p x y k l : ℤ) → pos 0 <ℤ k → pos 0 <ℤ l → x *ℤ k ≡ y *ℤ l
+    → is_beyond right (p *ℤ x) ≡ is_beyond right (p *ℤ y)
 same_sign right p x y k l kp lp e =
     sym (beyond_mul right k (p *ℤ x) kp)
     ∙ ap (is_beyond right) (mul_assoc p x k ∙ ap (λ (z : ℤ). p *ℤ z) e ∙ sym (mul_assoc p y l))
@@ -78,18 +80,21 @@ turn_seen above right q a b dq da =
 -- ---- backwards
 pub cross_turned : (a b : Point) → cross b a ≡ pos 0 -ℤ cross a b
 unfolding cross
-cross_turned a b = ring (a.x ∷ a.y ∷ b.x ∷ b.y ∷ []) (v2 ⊗ v1 ⊖ v3 ⊗ v0) (num (pos 0) ⊖ (v0 ⊗ v3 ⊖ v1 ⊗ v2)) refl
+cross_turned a b = ring (a.x ∷ a.y ∷ b.x ∷ b.y ∷ []) (v2 ⊗ v1 ⊖ v3 ⊗ v0)
+    (num (pos 0) ⊖ (v0 ⊗ v3 ⊖ v1 ⊗ v2)) refl
 
 both_turned : (c d z : ℤ) → (d -ℤ c) *ℤ (pos 0 -ℤ z) ≡ (c -ℤ d) *ℤ z
 both_turned c d z = ring (c ∷ d ∷ z ∷ []) ((v1 ⊖ v0) ⊗ (num (pos 0) ⊖ v2)) ((v0 ⊖ v1) ⊗ v2) refl
 
-choice_turned : (b : Bool) (c d : ℤ) → (if b then d -ℤ c else pos 0) ≡ pos 0 -ℤ (if b then c -ℤ d else pos 0)
+choice_turned : (b : Bool) (c d : ℤ) → (if b then d -ℤ c else pos 0)
+    ≡ pos 0 -ℤ (if b then c -ℤ d else pos 0)
 choice_turned true c d = omega (arith, ints)
 choice_turned false c d = refl
 
 swing_by-turned : (right s t : Bool) (z : ℤ) → swing_by right t s (pos 0 -ℤ z) ≡ pos 0 -ℤ swing_by right s t z
 swing_by-turned right s t z =
-    ap (λ (y : ℤ). if is_beyond right y then counted s -ℤ counted t else pos 0) (both_turned (counted t) (counted s) z)
+    ap (λ (y : ℤ). if is_beyond right y then counted s -ℤ counted t else pos 0)
+        (both_turned (counted t) (counted s) z)
     ∙ choice_turned (is_beyond right ((counted t -ℤ counted s) *ℤ z)) (counted t) (counted s)
 
 pub swing_turned : (above right : Bool) (a b : Point) → swing above right b a ≡ pos 0 -ℤ swing above right a b
@@ -109,17 +114,21 @@ pub record IsAlong (a b : Point) : Type 0 where
   pub y : a.y *ℤ k ≡ b.y *ℤ l
 
 beyond_along : (above : Bool) (a b : Point) → IsAlong a b → is_beyond above a.y ≡ is_beyond above b.y
-beyond_along above a b h = sym (beyond_mul above h.k a.y h.k_positive) ∙ ap (is_beyond above) h.y ∙ beyond_mul above h.l
+beyond_along above a b h = sym (beyond_mul above h.k a.y h.k_positive) ∙ ap (is_beyond above) h.y
+    ∙ beyond_mul above h.l
     b.y h.l_positive
 
 cross_along : (a b c : Point) (h : IsAlong a b) → cross a c *ℤ h.k ≡ cross b c *ℤ h.l
 unfolding cross
 cross_along a b c h =
-    ring (a.x ∷ a.y ∷ c.x ∷ c.y ∷ h.k ∷ []) ((v0 ⊗ v3 ⊖ v1 ⊗ v2) ⊗ v4) ((v0 ⊗ v4) ⊗ v3 ⊖ (v1 ⊗ v4) ⊗ v2) refl
+    ring (a.x ∷ a.y ∷ c.x ∷ c.y ∷ h.k ∷ []) ((v0 ⊗ v3 ⊖ v1 ⊗ v2) ⊗ v4)
+        ((v0 ⊗ v4) ⊗ v3 ⊖ (v1 ⊗ v4) ⊗ v2) refl
     ∙ ap₂ (λ (y z : ℤ). y *ℤ c.y -ℤ z *ℤ c.x) h.x h.y
-    ∙ ring (b.x ∷ b.y ∷ c.x ∷ c.y ∷ h.l ∷ []) ((v0 ⊗ v4) ⊗ v3 ⊖ (v1 ⊗ v4) ⊗ v2) ((v0 ⊗ v3 ⊖ v1 ⊗ v2) ⊗ v4) refl
+    ∙ ring (b.x ∷ b.y ∷ c.x ∷ c.y ∷ h.l ∷ []) ((v0 ⊗ v4) ⊗ v3 ⊖ (v1 ⊗ v4) ⊗ v2)
+    ((v0 ⊗ v3 ⊖ v1 ⊗ v2) ⊗ v4) refl
 
-pub swing_along : (above right : Bool) (a b c : Point) → IsAlong a b → swing above right a c ≡ swing above right b c
+pub swing_along : (above right : Bool) (a b c : Point) → IsAlong a b
+    → swing above right a c ≡ swing above right b c
 unfolding swing
 swing_along above right a b c h =
     ap (λ (s : Bool). swing_by right s (is_beyond above c.y) (cross a c)) (beyond_along above a b h)
@@ -127,6 +136,7 @@ swing_along above right a b c h =
     (same_sign right (counted (is_beyond above c.y) -ℤ counted (is_beyond above b.y)) (cross a c) (cross b c) h.k h.l
     h.k_positive h.l_positive (cross_along a b c h))
 
-pub swing_to_along : (above right : Bool) (c a b : Point) → IsAlong a b → swing above right c a ≡ swing above right c b
+pub swing_to_along : (above right : Bool) (c a b : Point) → IsAlong a b
+    → swing above right c a ≡ swing above right c b
 swing_to_along above right c a b h = swing_turned above right a c ∙ ap (λ (z : ℤ). pos 0 -ℤ z)
     (swing_along above right a b c h) ∙ sym (swing_turned above right b c)

@@ -39,10 +39,12 @@ way d =
 
 -- ---- what its half planes say
 left_is : (x y u v : ℤ) → v *ℤ x +ℤ (pos 0 -ℤ u) *ℤ y ≡ x *ℤ v -ℤ y *ℤ u
-left_is x y u v = ring (x ∷ y ∷ u ∷ v ∷ []) (v3 ⊗ v0 ⊕ (num (pos 0) ⊖ v2) ⊗ v1) (v0 ⊗ v3 ⊖ v1 ⊗ v2) refl
+left_is x y u v = ring (x ∷ y ∷ u ∷ v ∷ []) (v3 ⊗ v0 ⊕ (num (pos 0) ⊖ v2) ⊗ v1)
+    (v0 ⊗ v3 ⊖ v1 ⊗ v2) refl
 
 right_is : (x y u v : ℤ) → (pos 0 -ℤ v) *ℤ x +ℤ u *ℤ y ≡ pos 0 -ℤ (x *ℤ v -ℤ y *ℤ u)
-right_is x y u v = ring (x ∷ y ∷ u ∷ v ∷ []) ((num (pos 0) ⊖ v3) ⊗ v0 ⊕ v2 ⊗ v1) (num (pos 0) ⊖ (v0 ⊗ v3 ⊖ v1 ⊗ v2))
+right_is x y u v = ring (x ∷ y ∷ u ∷ v ∷ []) ((num (pos 0) ⊖ v3) ⊗ v0 ⊕ v2 ⊗ v1)
+    (num (pos 0) ⊖ (v0 ⊗ v3 ⊖ v1 ⊗ v2))
     refl
 
 back_is : (x y u v : ℤ) → (pos 0 -ℤ u) *ℤ x +ℤ (pos 0 -ℤ v) *ℤ y ≡ pos 0 -ℤ (x *ℤ u +ℤ y *ℤ v)
@@ -50,7 +52,8 @@ back_is x y u v = ring (x ∷ y ∷ u ∷ v ∷ []) ((num (pos 0) ⊖ v2) ⊗ v0
     (num (pos 0) ⊖ (v0 ⊗ v2 ⊕ v1 ⊗ v3)) refl
 
 far_is : (x y u v w : ℤ) → (u *ℤ w) *ℤ x +ℤ (v *ℤ w) *ℤ y ≡ (x *ℤ u +ℤ y *ℤ v) *ℤ w
-far_is x y u v w = ring (x ∷ y ∷ u ∷ v ∷ w ∷ []) ((v2 ⊗ v4) ⊗ v0 ⊕ (v3 ⊗ v4) ⊗ v1) ((v0 ⊗ v2 ⊕ v1 ⊗ v3) ⊗ v4) refl
+far_is x y u v w = ring (x ∷ y ∷ u ∷ v ∷ w ∷ []) ((v2 ⊗ v4) ⊗ v0 ⊕ (v3 ⊗ v4) ⊗ v1)
+    ((v0 ⊗ v2 ⊕ v1 ⊗ v3) ⊗ v4) refl
 
 at_most_as : (s t u v : ℤ) → s ≡ u → t ≡ v → u ≤ℤ v → s ≤ℤ t
 at_most_as s t u v e f h = omega (arith, ints)
@@ -64,8 +67,8 @@ turned_at_most z h = omega (arith, ints)
 behind_at_most : (z : ℤ) → pos 0 ≤ℤ z → (pos 0 -ℤ z) ≤ℤ pos 0
 behind_at_most z h = omega (arith, ints)
 
-on_way : (d p : Point) → off d p ≡ pos 0 → pos 0 ≤ℤ along d p → (along d p *ℤ d.d) ≤ℤ (length d *ℤ p.d)
-    → Holds (way d) p
+on_way : (d p : Point) → off d p ≡ pos 0 → pos 0 ≤ℤ along d p
+    → (along d p *ℤ d.d) ≤ℤ (length d *ℤ p.d) → Holds (way d) p
 on_way d p o a f = (
   at_most_as _ _ _ _ (left_is p.x p.y d.x d.y) (zero-*ℤ p.d) (zero_at_most (off d p) o),
   (
@@ -107,11 +110,13 @@ way_holds_origin d =
     (ring (d.x ∷ d.y ∷ []) (num (pos 0) ⊗ v1 ⊖ num (pos 0) ⊗ v0) (num (pos 0)) refl)
     (at_most_as _ _ _ _ refl (ring (d.x ∷ d.y ∷ []) (num (pos 0) ⊗ v0 ⊕ num (pos 0) ⊗ v1) (num (pos 0)) refl)
     (omega (arith, ints)))
-    (at_most_as _ _ _ _ (ring (d.x ∷ d.y ∷ d.d ∷ []) ((num (pos 0) ⊗ v0 ⊕ num (pos 0) ⊗ v1) ⊗ v2) (num (pos 0)) refl)
+    (at_most_as _ _ _ _ (ring (d.x ∷ d.y ∷ d.d ∷ []) ((num (pos 0) ⊗ v0 ⊕ num (pos 0) ⊗ v1) ⊗ v2)
+        (num (pos 0)) refl)
     (mul-one (length d)) (length_at_least d))
 
 way_holds_end : (d : Point) → Holds (way d) d
-way_holds_end d = on_way d d (no_gap (d.x *ℤ d.y) (d.y *ℤ d.x) (ring (d.x ∷ d.y ∷ []) (v0 ⊗ v1) (v1 ⊗ v0) refl))
+way_holds_end d = on_way d d (no_gap (d.x *ℤ d.y) (d.y *ℤ d.x)
+    (ring (d.x ∷ d.y ∷ []) (v0 ⊗ v1) (v1 ⊗ v0) refl))
     (length_at_least d) (at_most_itself (length d *ℤ d.d))
   where
     at_most_itself : (z : ℤ) → z ≤ℤ z
@@ -125,7 +130,8 @@ near_moved_back d p least =
     (holds_scaled (way d) d (p.d *ℤ p.d) least (way_holds_end d))
   where
     one_axis : (z e x d : ℤ) → z *ℤ (d *ℤ d) ≡ x *ℤ (d *ℤ e) -ℤ (x *ℤ e -ℤ z *ℤ d) *ℤ d
-    one_axis z e x d = ring (z ∷ e ∷ x ∷ d ∷ []) (v0 ⊗ (v3 ⊗ v3)) (v2 ⊗ (v3 ⊗ v1) ⊖ (v2 ⊗ v1 ⊖ v0 ⊗ v3) ⊗ v3) refl
+    one_axis z e x d = ring (z ∷ e ∷ x ∷ d ∷ []) (v0 ⊗ (v3 ⊗ v3))
+        (v2 ⊗ (v3 ⊗ v1) ⊖ (v2 ⊗ v1 ⊖ v0 ⊗ v3) ⊗ v3) refl
 
     weight : (e d : ℤ) → e *ℤ (d *ℤ d) ≡ d *ℤ (d *ℤ e)
     weight e d = ring (e ∷ d ∷ []) (v0 ⊗ (v1 ⊗ v1)) (v1 ⊗ (v1 ⊗ v0)) refl
@@ -136,30 +142,37 @@ module _ (region : List HalfPlane) (c d o : Point) (ox : o.x ≡ pos 0) (oy : o.
     (no : IsNear region c o) (nd : IsNear region c d) where
   place_x : (d p : Point) → off d p ≡ pos 0 → length d *ℤ p.x ≡ along d p *ℤ d.x
   place_x d p h =
-      ring (d.x ∷ d.y ∷ p.x ∷ p.y ∷ []) ((v0 ⊗ v0 ⊕ v1 ⊗ v1) ⊗ v2) ((v2 ⊗ v0 ⊕ v3 ⊗ v1) ⊗ v0 ⊕ v1 ⊗ (v2 ⊗ v1 ⊖ v3 ⊗ v0))
+      ring (d.x ∷ d.y ∷ p.x ∷ p.y ∷ []) ((v0 ⊗ v0 ⊕ v1 ⊗ v1) ⊗ v2)
+          ((v2 ⊗ v0 ⊕ v3 ⊗ v1) ⊗ v0 ⊕ v1 ⊗ (v2 ⊗ v1 ⊖ v3 ⊗ v0))
       refl
       ∙ ap (λ (z : ℤ). along d p *ℤ d.x +ℤ d.y *ℤ z) h
       ∙ ring ((along d p *ℤ d.x) ∷ d.y ∷ []) (v0 ⊕ v1 ⊗ num (pos 0)) v0 refl
 
   place_y : (d p : Point) → off d p ≡ pos 0 → length d *ℤ p.y ≡ along d p *ℤ d.y
   place_y d p h =
-      ring (d.x ∷ d.y ∷ p.x ∷ p.y ∷ []) ((v0 ⊗ v0 ⊕ v1 ⊗ v1) ⊗ v3) ((v2 ⊗ v0 ⊕ v3 ⊗ v1) ⊗ v1 ⊖ v0 ⊗ (v2 ⊗ v1 ⊖ v3 ⊗ v0))
+      ring (d.x ∷ d.y ∷ p.x ∷ p.y ∷ []) ((v0 ⊗ v0 ⊕ v1 ⊗ v1) ⊗ v3)
+          ((v2 ⊗ v0 ⊕ v3 ⊗ v1) ⊗ v1 ⊖ v0 ⊗ (v2 ⊗ v1 ⊖ v3 ⊗ v0))
       refl
       ∙ ap (λ (z : ℤ). along d p *ℤ d.y -ℤ d.x *ℤ z) h
       ∙ ring ((along d p *ℤ d.y) ∷ d.x ∷ []) (v0 ⊖ v1 ⊗ num (pos 0)) v0 refl
 
   one_axis : (n m g e k z w x y f : ℤ) → z ≡ pos 0 → n *ℤ x ≡ g *ℤ y
-      → (z *ℤ k -ℤ w *ℤ f) *ℤ (n *ℤ m -ℤ g *ℤ e) +ℤ (y *ℤ k -ℤ w *ℤ e) *ℤ (g *ℤ f) ≡ (x *ℤ k -ℤ w *ℤ m) *ℤ (f *ℤ n)
+      → (z *ℤ k -ℤ w *ℤ f) *ℤ (n *ℤ m -ℤ g *ℤ e) +ℤ (y *ℤ k -ℤ w *ℤ e) *ℤ (g *ℤ f)
+      ≡ (x *ℤ k -ℤ w *ℤ m) *ℤ (f *ℤ n)
   one_axis n m g e k z w x y f hz hx =
-      ap (λ (u : ℤ). (u *ℤ k -ℤ w *ℤ f) *ℤ (n *ℤ m -ℤ g *ℤ e) +ℤ (y *ℤ k -ℤ w *ℤ e) *ℤ (g *ℤ f)) hz
-      ∙ ring (n ∷ m ∷ g ∷ e ∷ k ∷ w ∷ y ∷ f ∷ []) ((num (pos 0) ⊗ v4 ⊖ v5 ⊗ v7) ⊗ (v0 ⊗ v1 ⊖ v2 ⊗ v3) ⊕
+      ap (λ (u : ℤ). (u *ℤ k -ℤ w *ℤ f) *ℤ (n *ℤ m -ℤ g *ℤ e) +ℤ (y *ℤ k -ℤ w *ℤ e) *ℤ
+          (g *ℤ f)) hz
+      ∙ ring (n ∷ m ∷ g ∷ e ∷ k ∷ w ∷ y ∷ f ∷ [])
+      ((num (pos 0) ⊗ v4 ⊖ v5 ⊗ v7) ⊗ (v0 ⊗ v1 ⊖ v2 ⊗ v3) ⊕
       (v6 ⊗ v4 ⊖ v5 ⊗ v3) ⊗ (v2 ⊗ v7)) ((v2 ⊗ v6) ⊗ (v4 ⊗ v7) ⊖ (v5 ⊗ v1) ⊗ (v7 ⊗ v0)) refl
       ∙ ap (λ (u : ℤ). u *ℤ (k *ℤ f) -ℤ (w *ℤ m) *ℤ (f *ℤ n)) (sym hx)
       ∙ ring (n ∷ m ∷ k ∷ w ∷ x ∷ f ∷ []) ((v0 ⊗ v4) ⊗ (v2 ⊗ v5) ⊖ (v3 ⊗ v1) ⊗ (v5 ⊗ v0))
       ((v4 ⊗ v2 ⊖ v3 ⊗ v1) ⊗ (v5 ⊗ v0)) refl
 
-  weights : (n m g e k f : ℤ) → (f *ℤ k) *ℤ (n *ℤ m -ℤ g *ℤ e) +ℤ (e *ℤ k) *ℤ (g *ℤ f) ≡ (m *ℤ k) *ℤ (f *ℤ n)
-  weights n m g e k f = ring (n ∷ m ∷ g ∷ e ∷ k ∷ f ∷ []) ((v5 ⊗ v4) ⊗ (v0 ⊗ v1 ⊖ v2 ⊗ v3) ⊕ (v3 ⊗ v4) ⊗ (v2 ⊗ v5))
+  weights : (n m g e k f : ℤ) → (f *ℤ k) *ℤ (n *ℤ m -ℤ g *ℤ e) +ℤ (e *ℤ k) *ℤ (g *ℤ f)
+      ≡ (m *ℤ k) *ℤ (f *ℤ n)
+  weights n m g e k f = ring (n ∷ m ∷ g ∷ e ∷ k ∷ f ∷ [])
+      ((v5 ⊗ v4) ⊗ (v0 ⊗ v1 ⊖ v2 ⊗ v3) ⊕ (v3 ⊗ v4) ⊗ (v2 ⊗ v5))
       ((v1 ⊗ v4) ⊗ (v5 ⊗ v0)) refl
 
   pub way_near : (p : Point) → Holds (way d) p → IsNear region c p
@@ -188,7 +201,8 @@ positive_square z n = by_lt_z (pos 0) z (λ h. positive_product z z h h)
     subst (λ (y : ℤ). pos 0 <ℤ y) turned (positive_product (pos 0 -ℤ z) (pos 0 -ℤ z) above above))
     (λ k. absurd (n (zero_between z k h))))
 
-pub by_length : {A : Type 0} (d : Point) → (pos 0 <ℤ length d → A) → (d.x ≡ pos 0 → d.y ≡ pos 0 → A) → A
+pub by_length : {A : Type 0} (d : Point) → (pos 0 <ℤ length d → A) → (d.x ≡ pos 0 → d.y ≡ pos 0 → A)
+    → A
 by_length {A = A} d f g =
     by_zero d.x (λ x. by_zero d.y (λ y. g x y)
     (λ n. f (more (d.x *ℤ d.x) (d.y *ℤ d.y) (square_at_least d.x) (positive_square d.y n))))

@@ -31,23 +31,29 @@ pub record HasAmid (n : ℤ) (a b p : Point) : Type 0 where
   pub near : IsNear (box n (pos 1)) p point
 
 -- ---- the laws
--- Where the ends of a segment are moved within a region, each of its points is near to a point of the segment as it was.
+-- Where the ends of a segment are moved within a region, each of its points is near to a point of the segment as it
+-- was.
 abbrev pub PointsFollow : Type 0
 PointsFollow =
-    (region : List HalfPlane) (a b c d p : Point) → IsPoint a → IsPoint b → IsPoint c → IsPoint d → IsPoint p → IsNear region c a → IsNear region d b
+    (region : List HalfPlane) (a b c d p : Point) → IsPoint a → IsPoint b → IsPoint c → IsPoint d → IsPoint p
+        → IsNear region c a → IsNear region d b
     → IsOn c d p → HasNear region a b p
 
--- Of three points on one line, in whatever order, each point between the first and the last lies between the first and the
+-- Of three points on one line, in whatever order, each point between the first and the last lies between the first and
+-- the
 -- middle one or between that and the last.
 abbrev pub LinesAreAll : Type 0
-LinesAreAll = (a m b p : Point) → IsPoint a → IsPoint m → IsPoint b → side_by m a b ≡ pos 0 → IsOn a b p → IsOn a m p ⊎ IsOn m b p
+LinesAreAll = (a m b p : Point) → IsPoint a → IsPoint m → IsPoint b → side_by m a b ≡ pos 0 → IsOn a b p
+    → IsOn a m p ⊎ IsOn m b p
 
 -- As near as wanted to each point of a segment with a length lies one that isn't an end.
 abbrev pub AmidIsAnywhere : Type 0
-AmidIsAnywhere = (n : ℤ) → pos 0 <ℤ n → (a b p : Point) → IsPoint a → IsPoint b → IsPoint p → IsOn a b p → HasAmid n a b p
+AmidIsAnywhere = (n : ℤ) → pos 0 <ℤ n → (a b p : Point) → IsPoint a → IsPoint b → IsPoint p → IsOn a b p
+    → HasAmid n a b p
 
 -- A point amid a segment with a length lies on its line, strictly between the ends.
 abbrev pub AmidIsBetween : Type 0
 AmidIsBetween =
     (a b p : Point) → IsPoint a → IsPoint b → is_same_point a b ≡ false → IsAmid a b p
-    → (side_by p a b ≡ pos 0) × (IsBetween (λ q. q.y) a p b ⊎ (AreLevel a p × AreLevel p b × IsBetween (λ q. q.x) a p b))
+    → (side_by p a b ≡ pos 0) × (IsBetween (λ q. q.y) a p b
+    ⊎ (AreLevel a p × AreLevel p b × IsBetween (λ q. q.x) a p b))

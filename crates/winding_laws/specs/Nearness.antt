@@ -15,7 +15,8 @@ IsNear region q p = Holds region (seen_from q p)
 
 -- no point of the segment from a to b is near to q
 abbrev pub IsFar : List HalfPlane → Point → Point → Point → Type 0
-IsFar region q a b = (s t : ℤ) → pos 0 ≤ℤ s → pos 0 ≤ℤ t → pos 0 <ℤ (s +ℤ t) → IsNear region q (mean s t a b) → ⊥
+IsFar region q a b = (s t : ℤ) → pos 0 ≤ℤ s → pos 0 ≤ℤ t → pos 0 <ℤ (s +ℤ t)
+    → IsNear region q (mean s t a b) → ⊥
 
 -- a point's divisor is above 0
 abbrev pub IsPoint : Point → Type 0

@@ -26,7 +26,8 @@ half_plane a b c = record { a = a; b = b; c = c }
 
 -- the square of the points at most h / n from the origin along both axes
 abbrev pub box : ℤ → ℤ → List HalfPlane
-box n h = half_plane n (pos 0) h ∷ half_plane (pos 0 -ℤ n) (pos 0) h ∷ half_plane (pos 0) n h ∷ half_plane (pos 0) (pos 0 -ℤ n) h ∷ []
+box n h = half_plane n (pos 0) h ∷ half_plane (pos 0 -ℤ n) (pos 0) h ∷ half_plane (pos 0) n h
+    ∷ half_plane (pos 0) (pos 0 -ℤ n) h ∷ []
 
 -- the same counted in halves
 abbrev pub square : ℤ → List HalfPlane

@@ -18,12 +18,14 @@ pub record RoundingMovesByHalves : Type 0 where
 
 -- Rounding the ends of a balanced list gives a balanced list of edges.
 abbrev pub RoundingKeepsBalance : Type 0
-RoundingKeepsBalance = (ss : List Segment) → All IsProper ss → IsBalanced ss → IsBalanced (segments (map rounded_edge ss))
+RoundingKeepsBalance = (ss : List Segment) → All IsProper ss → IsBalanced ss
+    → IsBalanced (segments (map rounded_edge ss))
 
 -- It keeps the winding hard by each point of which no point of a segment lies within one half along both axes.
 abbrev pub RoundingKeepsWinding : Type 0
 RoundingKeepsWinding =
-    (above right : Bool) (q : Point) → IsPoint q → (ss : List Segment) → IsBalanced ss → All (IsClearSegment (pos 1) q) ss
+    (above right : Bool) (q : Point) → IsPoint q → (ss : List Segment) → IsBalanced ss
+        → All (IsClearSegment (pos 1) q) ss
     → wind_by above right q (segments (map rounded_edge ss)) ≡ wind_by above right q ss
 
 -- Edges whose ends coincide may be left out.

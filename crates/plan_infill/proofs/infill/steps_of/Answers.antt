@@ -8,13 +8,15 @@ use Rattle.plan_infill.proofs.Edges.{no_steps, one_more}
 use Rattle.plan_infill.proofs.infill.steps_of.Goals as goal
 
 pub sides-init : goal.sides-init
-sides-init c more k = subst (λ (xs : List Step). AreSteps c.args.c c.args.line c.args.sides.now (xs ++ more)) (sym c.new-steps.ensures.items) k
+sides-init c more k = subst (λ (xs : List Step). AreSteps c.args.c c.args.line c.args.sides.now (xs ++ more))
+    (sym c.new-steps.ensures.items) k
 
 pub sides-preserved : goal.sides-preserved
 sides-preserved c more k =
     let t = c.in_ok-push_turn_steps.ensures in
     let n = c.in_ok-push_near_steps.ensures in
-    one_more c.args.c c.args.line c.args.sides.now c.sides.side-index _ c.sides.steps.items c.push_turn_steps.new.steps.items c.push_near_steps.new.steps.items t.0 n.0
+    one_more c.args.c c.args.line c.args.sides.now c.sides.side-index _ c.sides.steps.items
+        c.push_turn_steps.new.steps.items c.push_near_steps.new.steps.items t.0 n.0
     c.sides-test.true c.sides.invariant t.1 t.2 n.1 n.2 more k
 
 pub returns : goal.returns

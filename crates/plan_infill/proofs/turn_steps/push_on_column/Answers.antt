@@ -12,12 +12,14 @@ first c = step_of c.right_part-part.result.from (heading c.args.e.now)
 second : (c : goal.In_ok-push-2) → Step
 second c = step_of c.right_part-part.result.until (pos 0 -ℤ heading c.args.e.now)
 
-grown : (c : goal.In_ok-push-2) → c.push-2.new.self.items ≡ c.args.steps.now.items ++ (first c ∷ (second c ∷ []))
+grown : (c : goal.In_ok-push-2) → c.push-2.new.self.items ≡ c.args.steps.now.items
+    ++ (first c ∷ (second c ∷ []))
 unfolding first second
 grown c =
     let a : c.push.new.self.items ≡ c.args.steps.now.items ++ (first c ∷ []) = search (rules, casts) in
     let b : c.push-2.new.self.items ≡ c.push.new.self.items ++ (second c ∷ []) = search (rules, casts) in
-    b ∙ ap (λ (xs : List Step). xs ++ (second c ∷ [])) a ∙ append_assoc c.args.steps.now.items (first c ∷ []) (second c ∷ [])
+    b ∙ ap (λ (xs : List Step). xs ++ (second c ∷ [])) a
+        ∙ append_assoc c.args.steps.now.items (first c ∷ []) (second c ∷ [])
 
 pub returns : goal.returns
 unfolding first second

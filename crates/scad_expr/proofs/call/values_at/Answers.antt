@@ -14,7 +14,8 @@ arguments-preserved c = (
   ap (λ (l : List Datum). values (meaning c.args.depth) (env_in (held c.args.m.now)) (along_in (held c.args.m.now))
       (arguments (drop (c.arguments.arg-index + 1) c.args.args.now)) l (state_of c.eval_at.new.m))
       (ap data_of c.in_ok-push.ensures.items ∙ data-push c.arguments.so_far.items c.in_ok-value.value)
-      ∙ value-goes (meaning c.args.depth) c.args.args.now c.arguments.arg-index c.arg-item.result c.arguments-test.true
+      ∙ value-goes (meaning c.args.depth) c.args.args.now c.arguments.arg-index c.arg-item.result
+      c.arguments-test.true
       c.arg-item.is (held c.arguments.m) (held c.args.m.now) c.arguments.invariant.1 (data_in c.arguments.so_far)
       (state_of c.arguments.m) _ c.arguments.invariant.0 _ _ c.in_ok-value.ensures.does,
   c.in_ok-value.ensures.kept ∙ c.arguments.invariant.1,

@@ -9,5 +9,6 @@ abbrev pub invariant-arguments : goal.invariant-arguments
 invariant-arguments l =
     (values (meaning l.depth) (env_in (held l.fn.m)) (along_in (held l.fn.m)) (arguments (drop l.arg-index l.args))
     (data_in l.so_far) (state_of l.m)
-    ≡ values (meaning l.depth) (env_in (held l.fn.m)) (along_in (held l.fn.m)) (arguments l.args) [] (state_of l.fn.m))
+    ≡ values (meaning l.depth) (env_in (held l.fn.m)) (along_in (held l.fn.m)) (arguments l.args) []
+    (state_of l.fn.m))
     × (held l.m ≡ held l.fn.m)

@@ -4,4 +4,5 @@ use Rattle.scad_expr.proofs.Giving.{shown_insert}
 use Rattle.scad_expr.proofs.parameters.put.Goals as goal
 
 pub returns : goal.returns
-returns c = ap (map shown) c.in_ok-insert.ensures.entries ∙ shown_insert c.args.name c.args.value c.args.got.now.entries
+returns c = ap (map shown) c.in_ok-insert.ensures.entries
+    ∙ shown_insert c.args.name c.args.value c.args.got.now.entries

@@ -6,5 +6,6 @@ use Rattle.scad_expr.specs.Runs.{items}
 use Rattle.scad_expr.proofs.pieces.add_parts.Given as goal
 
 abbrev pub invariant-parts : goal.invariant-parts
-invariant-parts l = parts_in l.out ++ flat_map items (parts_of (into_iter_items l.part-iterator)) ≡ parts_in l.fn.before
+invariant-parts l = parts_in l.out ++ flat_map items (parts_of (into_iter_items l.part-iterator))
+    ≡ parts_in l.fn.before
     ++ flat_map items (parts_in l.fn.found)

@@ -17,7 +17,8 @@ pub returns-in_default : goal.returns-in_default
 returns-in_default c = record {
   some = tt;
   spread = tt;
-  none = at_none (are_flat c.args.points.now ≡ true) c.in_ok-normal.field-0 (λ x e. c.in_default.not-Some x e) c.in_ok-normal.ensures.none;
+  none = at_none (are_flat c.args.points.now ≡ true) c.in_ok-normal.field-0 (λ x e. c.in_default.not-Some x e)
+      c.in_ok-normal.ensures.none;
 }
 
 pub has_inner-requires-clause-normal : goal.has_inner-requires-clause-normal
@@ -33,17 +34,20 @@ returns-then-not-has_inner c = record {
   some = tt;
   spread = tt;
   none = no_inner c.args.points.now _ c.in-Some.normal
-      (at_some (IsFacePlane c.args.points.now _) c.in_ok-normal.field-0 c.in-Some.normal c.in-Some.is c.in_ok-normal.ensures.plane)
+      (at_some (IsFacePlane c.args.points.now _) c.in_ok-normal.field-0 c.in-Some.normal c.in-Some.is
+          c.in_ok-normal.ensures.plane)
       (sym c.has_inner.ensures ∙ c.if-not-has_inner.true);
 }
 
 pub returns : goal.returns
 returns c = record {
   some = face_of c.args.points.now _ c.in-Some.normal c.in_ok-face.face
-      (at_some (IsFacePlane c.args.points.now _) c.in_ok-normal.field-0 c.in-Some.normal c.in-Some.is c.in_ok-normal.ensures.plane)
+      (at_some (IsFacePlane c.args.points.now _) c.in_ok-normal.field-0 c.in-Some.normal c.in-Some.is
+          c.in_ok-normal.ensures.plane)
       c.in_ok-face.ensures.normal c.in_ok-face.ensures.ring;
   spread = some_inner c.args.points.now _ c.in-Some.normal
-      (at_some (IsFacePlane c.args.points.now _) c.in_ok-normal.field-0 c.in-Some.normal c.in-Some.is c.in_ok-normal.ensures.plane)
+      (at_some (IsFacePlane c.args.points.now _) c.in_ok-normal.field-0 c.in-Some.normal c.in-Some.is
+          c.in_ok-normal.ensures.plane)
       (sym c.has_inner.ensures ∙ c.if-not-has_inner.false);
   none = tt;
 }

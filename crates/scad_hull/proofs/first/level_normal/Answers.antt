@@ -4,13 +4,15 @@ use Rattle.scad_hull.proofs.FirstSteps.{small_in, turned_first, turned_still, fl
 use Rattle.scad_hull.proofs.first.level_normal.Goals as goal
 
 pub outermost-normal-requires-clause-first : goal.outermost-normal-requires-clause-first
-outermost-normal-requires-clause-first c = small_in c.args.points.now c.in-Some.c c.requires.points c.in-Some.ensures.some
+outermost-normal-requires-clause-first c = small_in c.args.points.now c.in-Some.c c.requires.points
+    c.in-Some.ensures.some
 
 pub outermost-normal-requires-clause-turned : goal.outermost-normal-requires-clause-turned
 outermost-normal-requires-clause-turned c =
     let there = c.requires.has.1 in
     let some : 0 < length c.args.points.now = omega arith in
-    turned_first c.args.points.now c.args.a c.beside-b.result c.beside-b.ensures.value c.requires.sorted some c.requires.first
+    turned_first c.args.points.now c.args.a c.beside-b.result c.beside-b.ensures.value c.requires.sorted some
+        c.requires.first
     c.in-Some.c c.in-Some.ensures.some c.in-Some.ensures.off
 
 pub returns-in_default : goal.returns-in_default

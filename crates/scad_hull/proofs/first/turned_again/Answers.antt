@@ -14,7 +14,8 @@ outermost-further-requires c = record {
   a = small_in c.args.points.now c.args.a c.requires.points c.requires.has_a;
   b = small_in c.args.points.now c.args.d c.requires.points c.requires.has_d;
   first = small_in c.args.points.now c.in-Some.e c.requires.points c.in-Some.ensures.some;
-  turned = edge_turned c.args.points.now c.args.a c.args.d c.requires.edge c.in-Some.e c.in-Some.ensures.some c.in-Some.ensures.off;
+  turned = edge_turned c.args.points.now c.args.a c.args.d c.requires.edge c.in-Some.e c.in-Some.ensures.some
+      c.in-Some.ensures.off;
 }
 
 pub returns-in_default : goal.returns-in_default

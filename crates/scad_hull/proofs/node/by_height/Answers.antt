@@ -10,9 +10,10 @@ use Rattle.scad_hull.proofs.node.by_height.Goals as goal
 pub returns-clause-value : goal.returns-clause-value
 returns-clause-value c =
     c.in_ok-all.ensures
-    ∙ ap (map point_of) (c.as_slice-2.ensures.value ∙ c.in_ok-sorted.ensures.value ∙ ap (distinct node_cmp) (c.as_slice.ensures.value ∙ c.in_ok-nodes.ensures))
-    ∙ nodes_same c.args.points.now
+    ∙ ap (map point_of) (c.as_slice-2.ensures.value ∙ c.in_ok-sorted.ensures.value
+    ∙ ap (distinct node_cmp) (c.as_slice.ensures.value ∙ c.in_ok-nodes.ensures)) ∙ nodes_same c.args.points.now
 
 pub returns-clause-ordered : goal.returns-clause-ordered
 returns-clause-ordered c =
-    subst (IsStrictlySortedBy space_cmp) (ap (map point_of) (sym c.as_slice-2.ensures.value) ∙ sym c.in_ok-all.ensures) (nodes_sorted c.in_ok-sorted.sorted.items c.in_ok-sorted.ensures.ordered)
+    subst (IsStrictlySortedBy space_cmp) (ap (map point_of) (sym c.as_slice-2.ensures.value)
+        ∙ sym c.in_ok-all.ensures) (nodes_sorted c.in_ok-sorted.sorted.items c.in_ok-sorted.ensures.ordered)

@@ -8,9 +8,12 @@ use Rattle.scad_hull.proofs.solid.hull.Goals as goal
 
 pub solid-requires : goal.solid-requires
 solid-requires c = record {
-  points = small_kept c.args.points.now c.as_slice.result.now c.requires (c.as_slice.ensures.value ∙ c.in-Ok.ensures.value);
-  room = room_kept c.args.points.now c.as_slice.result.now c.requires (c.as_slice.ensures.value ∙ c.in-Ok.ensures.value);
-  range = range_kept c.args.points.now c.as_slice.result.now c.requires (c.as_slice.ensures.value ∙ c.in-Ok.ensures.value);
+  points = small_kept c.args.points.now c.as_slice.result.now c.requires
+      (c.as_slice.ensures.value ∙ c.in-Ok.ensures.value);
+  room = room_kept c.args.points.now c.as_slice.result.now c.requires
+      (c.as_slice.ensures.value ∙ c.in-Ok.ensures.value);
+  range = range_kept c.args.points.now c.as_slice.result.now c.requires
+      (c.as_slice.ensures.value ∙ c.in-Ok.ensures.value);
   sorted = subst (IsStrictlySortedBy space_cmp) (sym c.as_slice.ensures.value) c.in-Ok.ensures.ordered;
 }
 
@@ -18,5 +21,6 @@ pub returns-in-Ok-solid : goal.returns-in-Ok-solid
 returns-in-Ok-solid c =
     let same = ap length c.as_slice.ensures.value in
     let few : length c.as_slice.result.now ≤ 20000 = omega arith in
-    hull_told c.args.points.now c.as_slice.result.now c.in-Ok-solid.solid (c.as_slice.ensures.value ∙ c.in-Ok.ensures.value) few
+    hull_told c.args.points.now c.as_slice.result.now c.in-Ok-solid.solid
+        (c.as_slice.ensures.value ∙ c.in-Ok.ensures.value) few
     c.in-Ok-solid.ensures

@@ -7,5 +7,6 @@ use Rattle.scad_hull.specs.Wrapping.{rings_of}
 use Rattle.scad_hull.proofs.solid.in_order.Given as goal
 
 abbrev pub invariant-faces : goal.invariant-faces
-invariant-faces l = with_all face_cmp (map (λ r. map point_of r.items) l.rings.keys) (rings_of (drop l.face-index l.faces))
+invariant-faces l = with_all face_cmp (map (λ r. map point_of r.items) l.rings.keys)
+    (rings_of (drop l.face-index l.faces))
     ≡ distinct face_cmp (rings_of l.fn.faces)

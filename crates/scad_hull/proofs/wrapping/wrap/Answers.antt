@@ -6,7 +6,8 @@ use Rattle.scad_hull.proofs.wrapping.wrap.Goals as goal
 
 pub bends-init : goal.bends-init
 bends-init c = record {
-  found = added c.args.points.now c.new-faces.result.items c.add.new.faces.items c.new-bends.result.items c.add.new.bends.items
+  found = added c.args.points.now c.new-faces.result.items c.add.new.faces.items c.new-bends.result.items
+      c.add.new.bends.items
       c.new-sides.result.keys c.add.new.sides.keys c.args.first
       (none_at c.args.points.now c.new-faces.result.items c.new-bends.result.items c.new-sides.result.keys
       c.new-faces.ensures.items c.new-bends.ensures.items c.new-sides.ensures.empty)
@@ -26,10 +27,13 @@ bends-preserved c =
     let inside : c.bends.i < length c.bends.bends.items = omega arith in
     record {
       found = c.in_ok-close.ensures.found;
-      first = still_some c.bends.faces.items c.close.new.faces.items c.in_ok-close.ensures.faces c.bends.invariant.first;
+      first = still_some c.bends.faces.items c.close.new.faces.items c.in_ok-close.ensures.faces
+          c.bends.invariant.first;
       upto = still_upto c.bends.bends.items c.close.new.bends.items c.bends.i c.in_ok-close.ensures.bends inside;
-      backs = more_backs (rings_of c.bends.faces.items) (rings_of c.close.new.faces.items) c.bends.bends.items c.close.new.bends.items
-          c.bends.i c.index-bend.result.now c.in_ok-close.ensures.faces c.in_ok-close.ensures.bends inside c.index-bend.ensures
+      backs = more_backs (rings_of c.bends.faces.items) (rings_of c.close.new.faces.items) c.bends.bends.items
+          c.close.new.bends.items
+          c.bends.i c.index-bend.result.now c.in_ok-close.ensures.faces c.in_ok-close.ensures.bends inside
+              c.index-bend.ensures
           c.in_ok-close.ensures.back c.bends.invariant.backs;
     }
 

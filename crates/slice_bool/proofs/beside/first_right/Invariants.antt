@@ -7,7 +7,8 @@ abbrev pub invariant-bundles : goal.invariant-bundles
 invariant-bundles l = record {
   there : l.k ≤ length l.bundles;
   after : l.from ≤ l.k;
-  passed : (j : ℕ) (d : List ℕ) → l.from ≤ j → j < l.k → is_right_of l.edges (point_of l.s.spot) (get_or l.bundles j d) ≡ false;
+  passed : (j : ℕ) (d : List ℕ) → l.from ≤ j → j < l.k
+      → is_right_of l.edges (point_of l.s.spot) (get_or l.bundles j d) ≡ false;
 }
 
 abbrev pub decreases-bundles : goal.decreases-bundles

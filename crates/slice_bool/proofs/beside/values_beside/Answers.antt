@@ -32,7 +32,8 @@ stops-preserved c =
     let there : k ≤ length bs = subst (λ (bs : List (List ℕ)). k ≤ length bs) are c.first_right-from.ensures.there in
     let gone : (j : ℕ) (d : List ℕ) → j < k → is_right_of es p (get_or bs j d) ≡ false =
     passed_both es bs ss i c.stops.from k s c.s-item.is c.stops-test.true c.stops.invariant.passed
-    (subst (λ (bs : List (List ℕ)). (j : ℕ) (d : List ℕ) → c.stops.from ≤ j → j < k → is_right_of es p (get_or bs j d) ≡ false)
+    (subst (λ (bs : List (List ℕ)). (j : ℕ) (d : List ℕ) → c.stops.from ≤ j → j < k
+        → is_right_of es p (get_or bs j d) ≡ false)
     are c.first_right-from.ensures.passed) in
     let next : (d : List ℕ) → k < length bs → is_right_of es p (get_or bs k d) ≡ true =
     subst (λ (bs : List (List ℕ)). (d : List ℕ) → k < length bs → is_right_of es p (get_or bs k d) ≡ true)
@@ -52,7 +53,8 @@ stops-preserved c =
       passed = passed_next es bs ss i k s c.s-item.is c.requires.stops c.requires.firsts there gone;
       size = length_more c.stops.values.items c.push.new.self.items v i items c.stops.invariant.size;
       each = λ k d h. ap (λ (vs : List Bool). get_or vs k false) items
-          ∙ value_more (λ k. left_value es shape (passing es true (point_of (get_or ss k d).spot) bs)) c.stops.values.items
+          ∙ value_more (λ k. left_value es shape (passing es true (point_of (get_or ss k d).spot) bs))
+          c.stops.values.items
           v i c.stops.invariant.size (λ k h. c.stops.invariant.each k d h)
           (value ∙ ap (λ (s : Stop). left_value es shape (passing es true (point_of s.spot) bs))
           (c.s-item.is ∙ any_stop ss i s d c.stops-test.true)) k h;

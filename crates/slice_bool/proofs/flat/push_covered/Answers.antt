@@ -18,7 +18,8 @@ use Rattle.slice_bool.proofs.flat.push_covered.Goals as goal
 
 pub stops-requires-clause-within : goal.stops-requires-clause-within
 stops-requires-clause-within c =
-    subst (All (λ e. IsEdgeWithin coordinate_limit e.edge)) (sym c.deref.ensures.value) (c.requires.near.within c.requires.flats)
+    subst (All (λ e. IsEdgeWithin coordinate_limit e.edge)) (sym c.deref.ensures.value)
+        (c.requires.near.within c.requires.flats)
 
 pub values_beside-requires-clause-stops : goal.values_beside-requires-clause-stops
 values_beside-requires-clause-stops c =
@@ -97,6 +98,7 @@ returns c =
     (λ e. (
       flat_pieces es shape spots,
       (spots, are, refl),
-      e ∙ ap (λ (ss : List Stop). c.args.out.now.items ++ flat_pieces es shape (spots_in ss)) c.deref-5.ensures.value,
+      e ∙ ap (λ (ss : List Stop). c.args.out.now.items ++ flat_pieces es shape (spots_in ss))
+          c.deref-5.ensures.value,
     ))
     c.push_stretches.ensures

@@ -33,7 +33,8 @@ stops-preserved c =
     ∙ ap (stretch_piece es shape s.spot t.spot) c.covering_edge-name.ensures in
     let piece = ap₂ (λ (s t : Stop). stretch es shape s.spot t.spot) c.index-stops-i.is c.index-stops-i-in-stops.is in
     ap (λ (k : ℕ). c.push_covering.new.out.items ++ flat_pieces es shape (drop k (spots_in ss))) q
-    ∙ more_pieces c.stops.out.items c.push_covering.new.out.items (covered_piece v w s.spot t.spot c.covering_edge-name.result)
+    ∙ more_pieces c.stops.out.items c.push_covering.new.out.items
+    (covered_piece v w s.spot t.spot c.covering_edge-name.result)
     (flat_pieces es shape (drop i (spots_in ss))) _
     c.in_ok-push_covering.ensures
     (ap (λ (ps : List Piece). c.stops.out.items ++ ps)
@@ -44,5 +45,6 @@ pub returns : goal.returns
 returns c =
     sym (append-nil c.stops.out.items)
     ∙ ap (λ (ps : List Piece). c.stops.out.items ++ ps)
-    (sym (no_stretch c.args.sweep.now.edges.now c.args.sweep.now.shape.now c.args.stops.now c.stops.i c.stops-test.false))
+    (sym (no_stretch c.args.sweep.now.edges.now c.args.sweep.now.shape.now c.args.stops.now c.stops.i
+        c.stops-test.false))
     ∙ c.stops.invariant

@@ -22,7 +22,8 @@ bundles-init c =
     let items : c.push.new.self.items ≡ false ∷ [] = c.in_ok-push.ensures.items ∙ ap
     (λ (vs : List Bool). vs ++ (false ∷ [])) c.new-values.ensures.items in
     record {
-      turns = λ leaf. c.requires.tallies.rest.zeros leaf ∙ sym (ap (λ (bs : List (List ℕ)). headings es leaf (concat bs))
+      turns = λ leaf. c.requires.tallies.rest.zeros leaf
+          ∙ sym (ap (λ (bs : List (List ℕ)). headings es leaf (concat bs))
           (all_dropped bs));
       leaves = c.requires.tallies.leaves;
       len = refl;
@@ -62,13 +63,15 @@ bundles-preserved c =
     c.in_ok-push-2.ensures.items in
     let turns : IsTally new (λ leaf. headings es leaf (concat (drop (length bs - (i + 1)) bs))) =
     tally_more es bs i b old new c.bundles-test.true c.bundles.invariant.turns
-    (λ leaf. c.add_bundle.ensures.turns leaf ∙ ap (λ (b : List ℕ). get_or old leaf (pos 0) +ℤ headings es leaf b)
+    (λ leaf. c.add_bundle.ensures.turns leaf
+        ∙ ap (λ (b : List ℕ). get_or old leaf (pos 0) +ℤ headings es leaf b)
     (c.as_slice.ensures ∙ c.index-bundles-bundles.is)) in
     let value : c.value.result ≡ left_value es shape (drop (length bs - (i + 1)) bs) =
     c.value.ensures shape (in_by new) shows ∙ held_left es shape (drop (length bs - (i + 1)) bs) new turns in
     record {
       turns = turns;
-      leaves = subst (λ (n : ℕ). All (λ e. e.leaf < n) es) (sym c.add_bundle.ensures.len) c.bundles.invariant.leaves;
+      leaves = subst (λ (n : ℕ). All (λ e. e.leaf < n) es) (sym c.add_bundle.ensures.len)
+          c.bundles.invariant.leaves;
       len = c.add_bundle.ensures.len ∙ c.bundles.invariant.len;
       ready = c.add_bundle.ensures.held.ready;
       room = c.add_bundle.ensures.held.size ∙ c.bundles.invariant.room ∙ sym c.add_bundle.ensures.len;
@@ -99,7 +102,8 @@ returns-clause-tallies c =
         size = c.put_all_back.ensures.held.size ∙ c.bundles.invariant.room ∙ sym c.put_all_back.ensures.len;
         zeros = zeros;
       };
-      leaves = subst (λ (n : ℕ). All (λ e. e.leaf < n) es) (sym c.put_all_back.ensures.len) c.bundles.invariant.leaves;
+      leaves = subst (λ (n : ℕ). All (λ e. e.leaf < n) es) (sym c.put_all_back.ensures.len)
+          c.bundles.invariant.leaves;
       shows = keeps_last news shape c.put_all_back.new.held zeros
           (c.put_all_back.ensures.held.shows shape c.bundles.invariant.shows);
     }

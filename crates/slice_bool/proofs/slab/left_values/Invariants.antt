@@ -8,7 +8,8 @@ use Rattle.slice_bool.proofs.slab.left_values.Given as goal
 
 abbrev pub invariant-bundles : goal.invariant-bundles
 invariant-bundles l = record {
-  turns : IsTally l.tallies.turns.items (λ leaf. headings l.sweep.edges.now leaf (concat (drop (length l.bundles - l.i) l.bundles)));
+  turns : IsTally l.tallies.turns.items (λ leaf. headings l.sweep.edges.now leaf
+      (concat (drop (length l.bundles - l.i) l.bundles)));
   leaves : All (λ e. e.leaf < vec_len l.tallies.turns) l.sweep.edges.now;
   len : vec_len l.tallies.turns ≡ vec_len l.fn.tallies.turns;
   ready : IsReady l.tallies.held;

@@ -18,7 +18,8 @@ stops-preserved c = elim c.if-stays.branch [
       let step = distinct_kept is_left (λ (s : Stop). s.spot) c.args.stops.now c.stops.i d c.stops-test.true
       (sym c.stays.ensures ∙ w.if-stays.true) ∙ ap (λ (s : Stop). s.spot ∷ rest) (sym w.index-stops-i.is) in
       ap (λ (xs : List Stop). spots_in xs ++ rest) items
-      ∙ kept_step c.stops.out.items d rest _ (ap (λ (xs : List Spot). spots_in c.stops.out.items ++ xs) (sym step) ∙
+      ∙ kept_step c.stops.out.items d rest _
+      (ap (λ (xs : List Spot). spots_in c.stops.out.items ++ xs) (sym step) ∙
       c.stops.invariant)
   | else-stays w ↦
       let rest : List Spot = distinct_by is_left (drop (c.stops.i + 1) (spots_in c.args.stops.now)) in

@@ -20,7 +20,8 @@ returns-in_ok-push c =
           (c.in_ok-push.ensures.ok ∙ ap (λ (t : Spot). old ++ (t ∷ [])) c.whole_spot.ensures)
           c.whole_spot-then-is_flat_at.ensures
           ∙ append_assoc old (whole_spot e.a.x at ∷ []) (whole_spot e.b.x at ∷ [])
-          ∙ ap (λ (b : Bool). old ++ (if b then whole_spot e.a.x at ∷ (whole_spot e.b.x at ∷ []) else if passes_at e at
+          ∙ ap (λ (b : Bool). old ++ (if b then whole_spot e.a.x at
+          ∷ (whole_spot e.b.x at ∷ []) else if passes_at e at
           then spot_on e at ∷ [] else [])) (sym flat))
           c.push-then-is_flat_at.ensures.ok;
     }

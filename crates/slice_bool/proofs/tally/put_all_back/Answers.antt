@@ -36,13 +36,15 @@ bundles-preserved c =
     let i : ℕ = c.bundles.i in
     let b : List ℕ = c.index-bundles-i.result in
     record {
-      turns = λ leaf. put_step (has_leaf leaf (picked es (get_or bs i b))) (has_leaf leaf (picked es (concat (drop i bs))))
+      turns = λ leaf. put_step (has_leaf leaf (picked es (get_or bs i b)))
+          (has_leaf leaf (picked es (concat (drop i bs))))
           (has_leaf leaf (picked es (concat (drop (i + 1) bs))))
           (get_or c.bundles.turns.items leaf (pos 0)) (get_or c.put_back.new.turns.items leaf (pos 0)) _
           (at_drop_more (λ (bs : List (List ℕ)). has_leaf leaf (picked es (concat bs))) bs i b c.bundles-test.true
           ∙ leaves_append es leaf (get_or bs i b) (concat (drop (i + 1) bs)))
           (c.put_back.ensures.turns leaf
-          ∙ ap (λ (ks : List ℕ). if has_leaf leaf (picked es ks) then pos 0 else get_or c.bundles.turns.items leaf (pos 0))
+          ∙ ap (λ (ks : List ℕ). if has_leaf leaf (picked es ks) then pos 0 else get_or c.bundles.turns.items leaf
+          (pos 0))
           (c.as_slice.ensures ∙ c.index-bundles-i.is))
           (c.bundles.invariant.turns leaf);
       len = c.put_back.ensures.len ∙ c.bundles.invariant.len;

@@ -8,7 +8,8 @@ use Rattle.slice_bool.proofs.tally.put_all_back.Given as goal
 
 abbrev pub invariant-bundles : goal.invariant-bundles
 invariant-bundles l = record {
-  turns : (leaf : ℕ) → (if has_leaf leaf (picked l.edges (concat (drop l.i l.bundles))) then pos 0 else get_or l.turns.items leaf (pos 0))
+  turns : (leaf : ℕ) → (if has_leaf leaf (picked l.edges (concat (drop l.i l.bundles))) then pos 0 else get_or
+      l.turns.items leaf (pos 0))
       ≡ (if has_leaf leaf (picked l.edges (concat l.bundles)) then pos 0 else get_or l.fn.turns.items leaf (pos 0));
   len : vec_len l.turns ≡ vec_len l.fn.turns;
   held : KeepsUp l.fn.turns.items l.turns.items l.fn.held l.held;

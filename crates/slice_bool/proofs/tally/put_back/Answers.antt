@@ -23,7 +23,8 @@ numbers-preserved c =
     let i : ℕ = c.numbers.k-index in
     let e : LeafEdge = get_or es (get_or ks i 0) no_edge in
     record {
-      turns = λ leaf. put_step (e.leaf == leaf) (has_leaf leaf (picked es (drop i ks))) (has_leaf leaf (picked es (drop (i + 1) ks)))
+      turns = λ leaf. put_step (e.leaf == leaf) (has_leaf leaf (picked es (drop i ks)))
+          (has_leaf leaf (picked es (drop (i + 1) ks)))
           (get_or c.numbers.turns.items leaf (pos 0)) (get_or c.put_edge_back.new.turns.items leaf (pos 0)) _
           (at_drop_more (λ (ks : List ℕ). has_leaf leaf (picked es ks)) ks i 0 c.numbers-test.true)
           (c.put_edge_back.ensures.turns leaf) (c.numbers.invariant.turns leaf);
@@ -34,5 +35,6 @@ numbers-preserved c =
 
 pub returns-clause-turns : goal.returns-clause-turns
 returns-clause-turns c = λ leaf.
-    sym (ap (λ (ks : List ℕ). if has_leaf leaf (picked c.args.edges.now ks) then pos 0 else get_or c.numbers.turns.items leaf (pos 0))
+    sym (ap (λ (ks : List ℕ). if has_leaf leaf (picked c.args.edges.now ks) then pos 0 else get_or
+        c.numbers.turns.items leaf (pos 0))
     (drop_all c.numbers.k-index c.args.numbers.now c.numbers-test.false)) ∙ c.numbers.invariant.turns leaf

@@ -21,15 +21,22 @@ heights-preserved c = elim c.if-stays.branch [
       let items = ap (λ v. v.items) w.out-is ∙ w.in_ok-push.ensures.items in
       let step = distinct_kept is_lower (λ (h : Height). h.level) c.args.heights.now c.heights.i d c.heights-test.true (sym c.stays.ensures ∙ w.if-stays.true) in
       record {
-        kept = ap (λ (xs : List Level). xs ++ distinct_by is_lower (drop (c.heights.i + 1) (levels_in c.args.heights.now))) items
-            ∙ pushed c.heights.out.items (distinct_by is_lower (drop (c.heights.i + 1) (levels_in c.args.heights.now))) _ l (ap (λ (xs : List Level). c.heights.out.items ++ xs) (sym step) ∙ c.heights.invariant.kept);
-        within = subst (All (IsLevelWithin coordinate_limit)) (sym items) (All-push (IsLevelWithin coordinate_limit) c.heights.out.items l c.heights.invariant.within (get_or c.args.heights.now c.heights.i d).within);
+        kept = ap (λ (xs : List Level). xs ++ distinct_by is_lower
+            (drop (c.heights.i + 1) (levels_in c.args.heights.now))) items
+            ∙ pushed c.heights.out.items (distinct_by is_lower
+            (drop (c.heights.i + 1) (levels_in c.args.heights.now))) _ l
+            (ap (λ (xs : List Level). c.heights.out.items ++ xs) (sym step) ∙ c.heights.invariant.kept);
+        within = subst (All (IsLevelWithin coordinate_limit)) (sym items)
+            (All-push (IsLevelWithin coordinate_limit) c.heights.out.items l c.heights.invariant.within
+            (get_or c.args.heights.now c.heights.i d).within);
       }
   | else-stays w ↦
       let items = ap (λ v. v.items) w.out-is in
       let step = distinct_left is_lower (λ (h : Height). h.level) c.args.heights.now c.heights.i c.heights-test.true (sym c.stays.ensures ∙ w.if-stays.false) in
       record {
-        kept = ap (λ (xs : List Level). xs ++ distinct_by is_lower (drop (c.heights.i + 1) (levels_in c.args.heights.now))) items ∙ ap (λ (xs : List Level). c.heights.out.items ++ xs) (sym step) ∙ c.heights.invariant.kept;
+        kept = ap (λ (xs : List Level). xs ++ distinct_by is_lower
+            (drop (c.heights.i + 1) (levels_in c.args.heights.now))) items
+            ∙ ap (λ (xs : List Level). c.heights.out.items ++ xs) (sym step) ∙ c.heights.invariant.kept;
         within = subst (All (IsLevelWithin coordinate_limit)) (sym items) c.heights.invariant.within;
       }
 ]

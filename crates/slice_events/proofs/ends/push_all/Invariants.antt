@@ -4,4 +4,5 @@ use Rattle.slice_events.specs.Collected.{levels_in}
 use Rattle.slice_events.proofs.ends.push_all.Given as goal
 
 abbrev pub invariant-ys : goal.invariant-ys
-invariant-ys l = levels_in l.out.items ++ map level_of (drop l.y-index l.ys) ≡ levels_in l.fn.out.items ++ map level_of l.ys
+invariant-ys l = levels_in l.out.items ++ map level_of (drop l.y-index l.ys) ≡ levels_in l.fn.out.items
+    ++ map level_of l.ys

@@ -24,7 +24,8 @@ way-init c =
       order = in_order old c.args.place e new c.requires.order c.requires.there c.take-first.ensures;
       balanced = balanced_permuted (remaining old) (e ∷ remaining new) t.taken c.requires.balanced;
       taken = still old c.args.place e new c.requires.order c.requires.there c.take-first.ensures;
-      least = taken_so_far old c.args.place e new c.requires.order c.requires.there c.take-first.ensures c.requires.least;
+      least = taken_so_far old c.args.place e new c.requires.order c.requires.there c.take-first.ensures
+          c.requires.least;
     }
 
 pub take_from-next-requires-clause-there : goal.take_from-next-requires-clause-there
@@ -41,20 +42,24 @@ way-preserved c =
     record {
       leads = subst (λ (vs : List Pt). Leads (remaining c.args.left.now) start vs next.b (remaining new))
           (sym c.in_ok-push-2.ensures.items)
-          (leads_on (remaining c.args.left.now) start c.way.vertices.items c.way.at (remaining old) next (remaining new) c.way.invariant.leads
+          (leads_on (remaining c.args.left.now) start c.way.vertices.items c.way.at (remaining old) next (remaining new)
+              c.way.invariant.leads
           (differ_by c.way.at start c.ne.result c.ne.ensures c.way-test.true) c.take_from-next.ensures.least);
       order = c.take_from-next.ensures.order;
-      balanced = goes_on start c.way.at (remaining old) next (remaining new) c.way.invariant.balanced c.take_from-next.ensures.least;
+      balanced = goes_on start c.way.at (remaining old) next (remaining new) c.way.invariant.balanced
+          c.take_from-next.ensures.least;
       taken = still_twice c.args.left.now old new c.way.invariant.taken c.take_from-next.ensures.taken;
       least = λ k l. c.take_from-next.ensures.taken.taken k (c.way.invariant.least k l);
     }
 
 pub way-smaller : goal.way-smaller
-way-smaller c = fewer_left (remaining c.way.left) c.take_from-next.result (remaining c.take_from-next.new.self) c.take_from-next.ensures.least.taken
+way-smaller c = fewer_left (remaining c.way.left) c.take_from-next.result (remaining c.take_from-next.new.self)
+    c.take_from-next.ensures.least.taken
 
 pub returns-clause-drawn : goal.returns-clause-drawn
 returns-clause-drawn c =
-    leads_back (remaining c.args.left.now) c.take-first.result.a c.way.vertices.items c.way.at (remaining c.way.left) c.way.invariant.leads
+    leads_back (remaining c.args.left.now) c.take-first.result.a c.way.vertices.items c.way.at (remaining c.way.left)
+        c.way.invariant.leads
     (equal_by c.way.at c.take-first.result.a c.ne.result c.ne.ensures c.way-test.false)
 
 pub returns-clause-balanced : goal.returns-clause-balanced

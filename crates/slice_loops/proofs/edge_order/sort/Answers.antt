@@ -7,4 +7,5 @@ use Rattle.slice_loops.proofs.Taken.{ascending_sorted}
 use Rattle.slice_loops.proofs.edge_order.sort.Goals as goal
 
 pub returns-clause-ascending : goal.returns-clause-ascending
-returns-clause-ascending c = ascending_sorted c.sort_unstable_by.new.self.items (c.sort_unstable_by.ensures.sorted is_less less_order (answers_always _ _ _ (λ f a r g h. search rules)))
+returns-clause-ascending c = ascending_sorted c.sort_unstable_by.new.self.items
+    (c.sort_unstable_by.ensures.sorted is_less less_order (answers_always _ _ _ (λ f a r g h. search rules)))

@@ -6,7 +6,8 @@ use Rattle.slice_slab.proofs.collect.passages_among.Given as goal
 
 abbrev pub invariant-numbers : goal.invariant-numbers
 invariant-numbers l = record {
-  numbers : numbers_of l.out.items ++ filter (λ k. reaches (edge_at l.edges k) l.lower l.upper) (drop l.k-index l.numbers)
+  numbers : numbers_of l.out.items ++ filter (λ k. reaches (edge_at l.edges k) l.lower l.upper)
+      (drop l.k-index l.numbers)
       ≡ filter (λ k. reaches (edge_at l.edges k) l.lower l.upper) l.numbers;
   passages : All (IsPassageOf l.edges l.lower) l.out.items;
 }

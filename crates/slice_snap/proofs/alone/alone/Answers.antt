@@ -9,10 +9,12 @@ use Rattle.slice_snap.proofs.alone.alone.Goals as goal
 use Rattle.slice_snap.proofs.alone.alone.Goals.{else-ties_at-via-then-ties_at+else-not-ties_at, else-ties_at-via-else-ties_at}
 
 pub bounds-ends-first : goal.bounds-ends-first
-bounds-ends-first c = holds_inside (ties c.args.at.now) c.args.ends.now c.first_from-first.result (sym c.ties_at.ensures ∙ c.if-ties_at.true)
+bounds-ends-first c = holds_inside (ties c.args.at.now) c.args.ends.now c.first_from-first.result
+    (sym c.ties_at.ensures ∙ c.if-ties_at.true)
 
 pub bounds-ends-first-then-not-ties_at : goal.bounds-ends-first-then-not-ties_at
-bounds-ends-first-then-not-ties_at c d = holds_inside (ties c.args.at.now) c.args.ends.now c.first_from-first.result (sym c.ties_at.ensures ∙ c.if-ties_at.true)
+bounds-ends-first-then-not-ties_at c d = holds_inside (ties c.args.at.now) c.args.ends.now c.first_from-first.result
+    (sym c.ties_at.ensures ∙ c.if-ties_at.true)
 
 pub returns-then-not-ties_at-clause-some : goal.returns-then-not-ties_at-clause-some
 returns-then-not-ties_at-clause-some c =
@@ -39,6 +41,8 @@ returns-else-ties_at-clause-none c =
     let block : IsBlock (ties at) ends k = tied_block end_cmp end_total at ends k at c.requires c.first_from-first.ensures.point in
     elim c.else-ties_at.branch [
       | else-ties_at-via-then-ties_at+else-not-ties_at w ↦
-          more_here (ties at) ends k block (sym c.ties_at.ensures ∙ w.if-ties_at.true) (sym w.ties_at-then-ties_at.ensures ∙ w.if-not-ties_at.false)
-      | else-ties_at-via-else-ties_at w ↦ none_here (ties at) ends k block (sym c.ties_at.ensures ∙ w.if-ties_at.false)
+          more_here (ties at) ends k block (sym c.ties_at.ensures ∙ w.if-ties_at.true)
+              (sym w.ties_at-then-ties_at.ensures ∙ w.if-not-ties_at.false)
+      | else-ties_at-via-else-ties_at w ↦ none_here (ties at) ends k block
+          (sym c.ties_at.ensures ∙ w.if-ties_at.false)
     ]
