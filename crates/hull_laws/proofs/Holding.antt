@@ -143,10 +143,10 @@ module _ (layer h : ℕ) (q : Point) (dq : pos 0 <ℤ q.d) where
       let my = (var 5 ⊖ var 2) ⊗ (var 6 ⊖ var 0) ⊖ (var 3 ⊖ var 0) ⊗ (var 8 ⊖ var 2) in
       let mz = (var 3 ⊖ var 0) ⊗ (var 7 ⊖ var 1) ⊖ (var 4 ⊖ var 1) ⊗ (var 6 ⊖ var 0) in
       ring (a.x ∷ a.y ∷ a.z ∷ b.x ∷ b.y ∷ b.z ∷ c.x ∷ c.y ∷ c.z ∷ q.x ∷ q.y ∷ q.d ∷ plane
-          ∷ [])
+      ∷ [])
       (O (var 2) ⊗ (L (var 4) ⊗ A (var 6) ⊖ A (var 3) ⊗ L (var 7))
       ⊕ (O (var 5) ⊗ (L (var 7) ⊗ A (var 0) ⊖ A (var 6) ⊗ L (var 1)) ⊕ O (var 8)
-          ⊗ (L (var 1) ⊗ A (var 3) ⊖ A (var 0) ⊗ L (var 4))))
+      ⊗ (L (var 1) ⊗ A (var 3) ⊖ A (var 0) ⊗ L (var 4))))
       (var 11 ⊗ (num (pos 2) ⊗ (mx ⊗ (var 9 ⊖ var 0 ⊗ var 11) ⊕ my ⊗ (var 10 ⊖ var 1 ⊗ var 11))
       ⊕ (mz ⊗ (var 12 ⊖ num (pos 2) ⊗ var 2)) ⊗ var 11)) refl
 
@@ -156,12 +156,12 @@ module _ (layer h : ℕ) (q : Point) (dq : pos 0 <ℤ q.d) where
       ≡ (pos 2 *ℤ q.d) *ℤ depth_of m a p -ℤ depth_at plane q a m
   beyond_by m a p =
       ring (m.x ∷ m.y ∷ m.z ∷ a.x ∷ a.y ∷ a.z ∷ p.x ∷ p.y ∷ p.z ∷ q.x ∷ q.y ∷ q.d ∷ plane
-          ∷ [])
+      ∷ [])
       ((num (pos 2) ⊗ var 0) ⊗ (var 6 ⊗ var 11 ⊖ var 9)
-          ⊕ ((num (pos 2) ⊗ var 1) ⊗ (var 7 ⊗ var 11 ⊖ var 10)
+      ⊕ ((num (pos 2) ⊗ var 1) ⊗ (var 7 ⊗ var 11 ⊖ var 10)
       ⊕ (var 11 ⊗ var 2) ⊗ (num (pos 2) ⊗ var 8 ⊖ var 12)))
       ((num (pos 2) ⊗ var 11) ⊗ (var 0 ⊗ (var 6 ⊖ var 3)
-          ⊕ (var 1 ⊗ (var 7 ⊖ var 4) ⊕ var 2 ⊗ (var 8 ⊖ var 5)))
+      ⊕ (var 1 ⊗ (var 7 ⊖ var 4) ⊕ var 2 ⊗ (var 8 ⊖ var 5)))
       ⊖ (num (pos 2) ⊗ (var 0 ⊗ (var 9 ⊖ var 3 ⊗ var 11) ⊕ var 1 ⊗ (var 10 ⊖ var 4 ⊗ var 11))
       ⊕ (var 2 ⊗ (var 12 ⊖ num (pos 2) ⊗ var 5)) ⊗ var 11)) refl
 
@@ -187,7 +187,7 @@ module _ (layer h : ℕ) (q : Point) (dq : pos 0 <ℤ q.d) where
       told_some (wind q (cuts_of plane ts))
       (subst (λ xs. wind q (cuts_of plane xs) <ℤ pos 0) (sym e)
       (inside_winds layer h q dq t us (subst (λ xs. is_closed xs ≡ true) e shut)
-          (inside_all (t ∷ us) (subst (AllByRecursion IsInner) e k))))
+      (inside_all (t ∷ us) (subst (AllByRecursion IsInner) e k))))
 
   module _ (ps : List Pt3) (sorted : IsStrictlySortedBy space_cmp ps) where
     ahead : (d x y : ℤ) → pos 0 <ℤ d → pos 0 ≤ℤ x → y <ℤ pos 0

@@ -51,7 +51,7 @@ back_wind q dq [] h = refl
 back_wind q dq (s ∷ ss) h =
     two_turned (turn true true q s.to s.from) (wind q (map back ss)) (turn true true q s.from s.to) (wind q ss)
     (turn_seen true true q s.to s.from dq h.0.proper.from
-        ∙ swing_turned true true (seen_from q s.from) (seen_from q s.to)
+    ∙ swing_turned true true (seen_from q s.from) (seen_from q s.to)
     ∙ ap (λ (z : ℤ). pos 0 -ℤ z) (sym (turn_seen true true q s.from s.to dq h.0.proper.to)))
     (back_wind q dq ss h.1)
 
@@ -106,36 +106,36 @@ module _ (layer h : ℕ) (q : Point) (dq : IsPoint q) where
   unfolding volume
   turned_volume a b c =
       ring (along a ∷ across a ∷ over a ∷ along b ∷ across b ∷ over b ∷ along c ∷ across c ∷ over c
-          ∷ [])
+      ∷ [])
       (v5 ⊗ (v6 ⊗ v1 ⊖ v7 ⊗ v0) ⊕ (v8 ⊗ (v0 ⊗ v4 ⊖ v1 ⊗ v3) ⊕ v2 ⊗ (v3 ⊗ v7 ⊖ v4 ⊗ v6)))
       (v2 ⊗ (v3 ⊗ v7 ⊖ v4 ⊗ v6) ⊕ (v5 ⊗ (v6 ⊗ v1 ⊖ v7 ⊗ v0) ⊕ v8 ⊗ (v0 ⊗ v4 ⊖ v1 ⊗ v3)))
-          refl
+      refl
 
   under_volume : (a b c : Pt3) → volume across along under a b c ≡ volume along across over a b c
   unfolding volume
   under_volume a b c =
       ring (along a ∷ across a ∷ a.z ∷ along b ∷ across b ∷ b.z ∷ along c ∷ across c ∷ c.z ∷ plane
-          ∷ [])
+      ∷ [])
       ((v9 ⊖ num (pos 2) ⊗ v2) ⊗ (v4 ⊗ v6 ⊖ v3 ⊗ v7)
-          ⊕ ((v9 ⊖ num (pos 2) ⊗ v5) ⊗ (v7 ⊗ v0 ⊖ v6 ⊗ v1) ⊕ (v9 ⊖ num (pos 2) ⊗ v8)
-          ⊗ (v1 ⊗ v3 ⊖ v0 ⊗ v4)))
+      ⊕ ((v9 ⊖ num (pos 2) ⊗ v5) ⊗ (v7 ⊗ v0 ⊖ v6 ⊗ v1) ⊕ (v9 ⊖ num (pos 2) ⊗ v8)
+      ⊗ (v1 ⊗ v3 ⊖ v0 ⊗ v4)))
       ((num (pos 2) ⊗ v2 ⊖ v9) ⊗ (v3 ⊗ v7 ⊖ v4 ⊗ v6)
-          ⊕ ((num (pos 2) ⊗ v5 ⊖ v9) ⊗ (v6 ⊗ v1 ⊖ v7 ⊗ v0) ⊕ (num (pos 2) ⊗ v8 ⊖ v9)
-          ⊗ (v0 ⊗ v4 ⊖ v1 ⊗ v3))) refl
+      ⊕ ((num (pos 2) ⊗ v5 ⊖ v9) ⊗ (v6 ⊗ v1 ⊖ v7 ⊗ v0) ⊕ (num (pos 2) ⊗ v8 ⊖ v9)
+      ⊗ (v0 ⊗ v4 ⊖ v1 ⊗ v3))) refl
 
   -- ---- the point where a side meets the plane, as the point sees it
   seen_x : (l u : Pt3) → (seen_from q (point_between l u plane)).x ≡ across l *ℤ over u -ℤ across u *ℤ over l
   seen_x l u =
       ring (l.x ∷ u.x ∷ l.z ∷ u.z ∷ plane ∷ q.x ∷ q.d ∷ [])
       ((v0 ⊗ (num (pos 2) ⊗ v3 ⊖ v4) ⊕ v1 ⊗ (v4 ⊖ num (pos 2) ⊗ v2)) ⊗ v6 ⊖ v5
-          ⊗ (num (pos 2) ⊗ v3 ⊖ num (pos 2) ⊗ v2))
+      ⊗ (num (pos 2) ⊗ v3 ⊖ num (pos 2) ⊗ v2))
       ((v0 ⊗ v6 ⊖ v5) ⊗ (num (pos 2) ⊗ v3 ⊖ v4) ⊖ (v1 ⊗ v6 ⊖ v5) ⊗ (num (pos 2) ⊗ v2 ⊖ v4)) refl
 
   seen_y : (l u : Pt3) → (seen_from q (point_between l u plane)).y ≡ along l *ℤ over u -ℤ along u *ℤ over l
   seen_y l u =
       ring (l.y ∷ u.y ∷ l.z ∷ u.z ∷ plane ∷ q.y ∷ q.d ∷ [])
       ((v0 ⊗ (num (pos 2) ⊗ v3 ⊖ v4) ⊕ v1 ⊗ (v4 ⊖ num (pos 2) ⊗ v2)) ⊗ v6 ⊖ v5
-          ⊗ (num (pos 2) ⊗ v3 ⊖ num (pos 2) ⊗ v2))
+      ⊗ (num (pos 2) ⊗ v3 ⊖ num (pos 2) ⊗ v2))
       ((v0 ⊗ v6 ⊖ v5) ⊗ (num (pos 2) ⊗ v3 ⊖ v4) ⊖ (v1 ⊗ v6 ⊖ v5) ⊗ (num (pos 2) ⊗ v2 ⊖ v4)) refl
 
   seen_cross : (l u m v : Pt3) → cross (seen_from q (point_between l u plane)) (seen_from q (point_between m v plane))
@@ -150,11 +150,11 @@ module _ (layer h : ℕ) (q : Point) (dq : IsPoint q) where
   unfolding volume
   cross_above u l m = seen_cross m u l u ∙
       ring (along u ∷ across u ∷ over u ∷ along l ∷ across l ∷ over l ∷ along m ∷ across m ∷ over m
-          ∷ [])
+      ∷ [])
       ((v7 ⊗ v2 ⊖ v1 ⊗ v8) ⊗ (v3 ⊗ v2 ⊖ v0 ⊗ v5) ⊖ (v6 ⊗ v2 ⊖ v0 ⊗ v8)
-          ⊗ (v4 ⊗ v2 ⊖ v1 ⊗ v5))
+      ⊗ (v4 ⊗ v2 ⊖ v1 ⊗ v5))
       (v2 ⊗ (v2 ⊗ (v3 ⊗ v7 ⊖ v4 ⊗ v6)
-          ⊕ (v5 ⊗ (v6 ⊗ v1 ⊖ v7 ⊗ v0) ⊕ v8 ⊗ (v0 ⊗ v4 ⊖ v1 ⊗ v3)))) refl
+      ⊕ (v5 ⊗ (v6 ⊗ v1 ⊖ v7 ⊗ v0) ⊕ v8 ⊗ (v0 ⊗ v4 ⊖ v1 ⊗ v3)))) refl
 
   -- l alone lies below
   cross_below : (l u v : Pt3) → cross (seen_from q (point_between l u plane)) (seen_from q (point_between l v plane))
@@ -162,12 +162,12 @@ module _ (layer h : ℕ) (q : Point) (dq : IsPoint q) where
   unfolding volume
   cross_below l u v = seen_cross l u l v ∙
       ring (along l ∷ across l ∷ l.z ∷ along u ∷ across u ∷ u.z ∷ along v ∷ across v ∷ v.z ∷ plane
-          ∷ [])
+      ∷ [])
       (let A = num (pos 2) ⊗ v2 ⊖ v9 in let B = num (pos 2) ⊗ v5 ⊖ v9 in let C = num (pos 2) ⊗ v8 ⊖ v9 in
       (v1 ⊗ B ⊖ v4 ⊗ A) ⊗ (v0 ⊗ C ⊖ v6 ⊗ A) ⊖ (v0 ⊗ B ⊖ v3 ⊗ A) ⊗ (v1 ⊗ C ⊖ v7 ⊗ A))
       (let A = num (pos 2) ⊗ v2 ⊖ v9 in let B = num (pos 2) ⊗ v5 ⊖ v9 in let C = num (pos 2) ⊗ v8 ⊖ v9 in
       (v9 ⊖ num (pos 2) ⊗ v2) ⊗ (A ⊗ (v3 ⊗ v7 ⊖ v4 ⊗ v6)
-          ⊕ (B ⊗ (v6 ⊗ v1 ⊖ v7 ⊗ v0) ⊕ C ⊗ (v0 ⊗ v4 ⊖ v1 ⊗ v3)))) refl
+      ⊕ (B ⊗ (v6 ⊗ v1 ⊖ v7 ⊗ v0) ⊕ C ⊗ (v0 ⊗ v4 ⊖ v1 ⊗ v3)))) refl
 
   abbrev way : Pt3 → Pt3 → Pt3 → Pt3 → Segment
   way l u m v = record { from = point_between l u plane; to = point_between m v plane }
@@ -234,17 +234,17 @@ module _ (layer h : ℕ) (q : Point) (dq : IsPoint q) where
   left_told t i true false false ha hb hc = left_above t.a t.b t.c ha (down t.b hb) (down t.c hc) i
   left_told t i false true false ha hb hc =
       left_above t.b t.c t.a hb (down t.c hc) (down t.a ha)
-          (subst (λ (z : ℤ). pos 0 <ℤ z) (sym (turned_volume t.a t.b t.c)) i)
+      (subst (λ (z : ℤ). pos 0 <ℤ z) (sym (turned_volume t.a t.b t.c)) i)
   left_told t i false false true ha hb hc =
       left_above t.c t.a t.b hc (down t.a ha) (down t.b hb)
-          (subst (λ (z : ℤ). pos 0 <ℤ z) (sym (turned_volume t.a t.b t.c) ∙ sym (turned_volume t.b t.c t.a)) i)
+      (subst (λ (z : ℤ). pos 0 <ℤ z) (sym (turned_volume t.a t.b t.c) ∙ sym (turned_volume t.b t.c t.a)) i)
   left_told t i false true true ha hb hc = left_below t.a t.b t.c (down t.a ha) hb hc i
   left_told t i true false true ha hb hc =
       left_below t.b t.c t.a (down t.b hb) hc ha
-          (subst (λ (z : ℤ). pos 0 <ℤ z) (sym (turned_volume t.a t.b t.c)) i)
+      (subst (λ (z : ℤ). pos 0 <ℤ z) (sym (turned_volume t.a t.b t.c)) i)
   left_told t i true true false ha hb hc =
       left_below t.c t.a t.b (down t.c hc) ha hb
-          (subst (λ (z : ℤ). pos 0 <ℤ z) (sym (turned_volume t.a t.b t.c) ∙ sym (turned_volume t.b t.c t.a)) i)
+      (subst (λ (z : ℤ). pos 0 <ℤ z) (sym (turned_volume t.a t.b t.c) ∙ sym (turned_volume t.b t.c t.a)) i)
 
   left_cut : (t : Triangle) → IsInside t → LeftOf (cut_of plane t)
   left_cut t i = subst LeftOf (sym (as_told t))
@@ -285,8 +285,13 @@ module _ (layer h : ℕ) (q : Point) (dq : IsPoint q) where
 
   all_up : (t : Triangle) → IsInside t → is_above plane t.a.z ≡ true → is_above plane t.b.z ≡ true
       → is_above plane t.c.z ≡ true → IsToward along across over t
-  all_up t i a b c = record { first = above_up plane t.a.z a; second = above_up plane t.b.z b; third
-      = above_up plane t.c.z c; round = i }
+  all_up t i a b c = record {
+    first = above_up plane t.a.z a;
+    second = above_up plane t.b.z b;
+    third
+        = above_up plane t.c.z c;
+    round = i;
+  }
 
   all_down : (t : Triangle) → IsInside t → is_above plane t.a.z ≡ false → is_above plane t.b.z ≡ false
       → is_above plane t.c.z ≡ false → IsToward across along under t
@@ -302,29 +307,41 @@ module _ (layer h : ℕ) (q : Point) (dq : IsPoint q) where
     where
       by_test : (b : Bool) → is_above plane t.a.z ≡ b → IsSided along across over t
       by_test true a = inl (all_up t i a (sym (uncut t e).0 ∙ a) (sym (uncut t e).1 ∙ a))
-      by_test false a = inr (record { first = above_low plane t.a.z a; second
-          = above_low plane t.b.z (sym (uncut t e).0 ∙ a); third = above_low plane t.c.z (sym (uncut t e).1 ∙ a) })
+      by_test false a = inr (record {
+        first = above_low plane t.a.z a;
+        second
+            = above_low plane t.b.z (sym (uncut t e).0 ∙ a);
+        third = above_low plane t.c.z (sym (uncut t e).1 ∙ a);
+      })
 
   under_sided : (t : Triangle) → IsInside t → cut_of plane t ≡ None → IsSided across along under t
   under_sided t i e = by_test (is_above plane t.a.z) refl
     where
       by_test : (b : Bool) → is_above plane t.a.z ≡ b → IsSided across along under t
-      by_test true a = inr (record { first = above_under plane t.a.z a; second
-          = above_under plane t.b.z (sym (uncut t e).0 ∙ a); third
-          = above_under plane t.c.z (sym (uncut t e).1 ∙ a) })
+      by_test true a = inr (record {
+        first = above_under plane t.a.z a;
+        second
+            = above_under plane t.b.z (sym (uncut t e).0 ∙ a);
+        third
+            = above_under plane t.c.z (sym (uncut t e).1 ∙ a);
+      })
       by_test false a = inl (all_down t i a (sym (uncut t e).0 ∙ a) (sym (uncut t e).1 ∙ a))
 
   overs : (ts : List Triangle) → AllByRecursion IsInside ts → cuts_of plane ts ≡ []
       → AllByRecursion (IsSided along across over) ts
   overs [] i e = tt
-  overs (t ∷ ts) i e = (over_sided t i.0 (none_first (cut_of plane t) (cuts_of plane ts) e),
-      overs ts i.1 (none_rest (cut_of plane t) (cuts_of plane ts) e))
+  overs (t ∷ ts) i e = (
+    over_sided t i.0 (none_first (cut_of plane t) (cuts_of plane ts) e),
+    overs ts i.1 (none_rest (cut_of plane t) (cuts_of plane ts) e),
+  )
 
   unders : (ts : List Triangle) → AllByRecursion IsInside ts → cuts_of plane ts ≡ []
       → AllByRecursion (IsSided across along under) ts
   unders [] i e = tt
-  unders (t ∷ ts) i e = (under_sided t i.0 (none_first (cut_of plane t) (cuts_of plane ts) e),
-      unders ts i.1 (none_rest (cut_of plane t) (cuts_of plane ts) e))
+  unders (t ∷ ts) i e = (
+    under_sided t i.0 (none_first (cut_of plane t) (cuts_of plane ts) e),
+    unders ts i.1 (none_rest (cut_of plane t) (cuts_of plane ts) e),
+  )
 
   some_cut : (t : Triangle) (ts : List Triangle) → is_closed (t ∷ ts) ≡ true
       → AllByRecursion IsInside (t ∷ ts) → cuts_of plane (t ∷ ts) ≡ [] → ⊥
@@ -348,14 +365,14 @@ module _ (layer h : ℕ) (q : Point) (dq : IsPoint q) where
   wound [] n h b = absurd (n refl)
   wound (s ∷ ss) n h b =
       below_zero (wind q (map back (s ∷ ss))) (wind q (s ∷ ss))
-          (winds q dq (back s) (map back ss) h (back_balanced (s ∷ ss) b)) (back_wind q dq (s ∷ ss) h)
+      (winds q dq (back s) (map back ss) h (back_balanced (s ∷ ss) b)) (back_wind q dq (s ∷ ss) h)
 
   -- a closed surface of which the point lies on the inner side of each triangle winds round it, clockwise
   pub inside_winds : (t : Triangle) (ts : List Triangle) → is_closed (t ∷ ts) ≡ true
       → AllByRecursion IsInside (t ∷ ts) → wind q (cuts_of plane (t ∷ ts)) <ℤ pos 0
   inside_winds t ts closed i =
       wound (cuts_of plane (t ∷ ts)) (some_cut t ts closed i) (left_cuts (t ∷ ts) i)
-          (cuts_balanced layer h (t ∷ ts) closed)
+      (cuts_balanced layer h (t ∷ ts) closed)
 
   -- a plane through the point that has all corners on one side
   module _ (u v k : ℤ) where
@@ -374,7 +391,7 @@ module _ (layer h : ℕ) (q : Point) (dq : IsPoint q) where
         (let A = num (pos 2) ⊗ v2 ⊖ v6 in let B = num (pos 2) ⊗ v5 ⊖ v6 in v7 ⊗ (v0 ⊗ B ⊖ v3 ⊗ A) ⊕ v8 ⊗ (v1 ⊗ B ⊖ v4 ⊗ A))
         (let A = num (pos 2) ⊗ v2 ⊖ v6 in let B = num (pos 2) ⊗ v5 ⊖ v6 in
         (v7 ⊗ v0 ⊕ (v8 ⊗ v1 ⊕ v9 ⊗ A)) ⊗ B ⊕ (v7 ⊗ v3 ⊕ (v8 ⊗ v4 ⊕ v9 ⊗ B))
-            ⊗ (v6 ⊖ num (pos 2) ⊗ v2)) refl
+        ⊗ (v6 ⊖ num (pos 2) ⊗ v2)) refl
 
     sum_beyond : (z s r : ℤ) → z ≡ s +ℤ r → pos 0 <ℤ s → pos 0 <ℤ r → pos 0 <ℤ z
     sum_beyond z s r e h g = omega (arith, ints)
@@ -384,15 +401,19 @@ module _ (layer h : ℕ) (q : Point) (dq : IsPoint q) where
         (seen_from q (point_between l w plane)).y)
     met_beyond l w hl hw bl bw =
         sum_beyond (u *ℤ (seen_from q (point_between l w plane)).x +ℤ v *ℤ
-            (seen_from q (point_between l w plane)).y) (beyond l *ℤ over w) (beyond w *ℤ under l) (met l w)
+        (seen_from q (point_between l w plane)).y) (beyond l *ℤ over w) (beyond w *ℤ under l) (met l w)
         (positive_product (beyond l) (over w) bl (above_up plane w.z hw))
-            (positive_product (beyond w) (under l) bw (below_up plane l.z hl))
+        (positive_product (beyond w) (under l) bw (below_up plane l.z hl))
 
     beside_way : (l w m r : Pt3) → IsDown l → IsUp w → IsDown m → IsUp r → pos 0 <ℤ beyond l
         → pos 0 <ℤ beyond w → pos 0 <ℤ beyond m → pos 0 <ℤ beyond r → IsBeside q dq u v (way l w m r)
     beside_way l w m r hl hw hm hr bl bw bm br
-        = record { proper = proper_way l w m r hl hw hm hr; from = met_beyond l w hl hw bl bw; to
-        = met_beyond m r hm hr bm br }
+        = record {
+          proper = proper_way l w m r hl hw hm hr;
+          from = met_beyond l w hl hw bl bw;
+          to
+              = met_beyond m r hm hr bm br;
+        }
 
     abbrev BesideOf : Option Segment → Type 0
     BesideOf None = ⊤
@@ -426,7 +447,7 @@ module _ (layer h : ℕ) (q : Point) (dq : IsPoint q) where
     beside_cuts (t ∷ ts) i =
         beside_more (cut_of plane t) (cuts_of plane ts)
         (subst BesideOf (sym (as_told t)) (beside_told t i.0 (is_above plane t.a.z) (is_above plane t.b.z)
-            (is_above plane t.c.z) refl refl refl)) (beside_cuts ts i.1)
+        (is_above plane t.c.z) refl refl refl)) (beside_cuts ts i.1)
 
     -- a closed surface beyond a plane through the point doesn't wind round it
     pub outside_unwound : (ts : List Triangle) → is_closed ts ≡ true → AllByRecursion IsBeyond ts

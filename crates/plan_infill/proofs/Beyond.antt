@@ -94,7 +94,7 @@ line_right x y e l h a b =
         ≡ (a *ℤ (d -ℤ y) +ℤ c *ℤ (y -ℤ b)) -ℤ m *ℤ (d -ℤ b)
     after m a b y c d = ring (m ∷ a ∷ b ∷ y ∷ c ∷ d ∷ [])
         ((v1 ⊖ v0) ⊗ (v5 ⊖ v3) ⊕ (v4 ⊖ v0) ⊗ (v3 ⊖ v2))
-            ((v1 ⊗ (v5 ⊖ v3) ⊕ v4 ⊗ (v3 ⊖ v2)) ⊖ v0 ⊗ (v5 ⊖ v2)) refl
+        ((v1 ⊗ (v5 ⊖ v3) ⊕ v4 ⊗ (v3 ⊖ v2)) ⊖ v0 ⊗ (v5 ⊖ v2)) refl
 
 -- an edge to the left of a point doesn't turn round it
 left_turn : (x y : ℤ) (e : Edge) → (e.a.x ≤ℤ x) × (e.b.x ≤ℤ x) → turn_at x y e ≡ pos 0

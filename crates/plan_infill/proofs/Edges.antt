@@ -41,8 +41,13 @@ all_of-none f [] h = refl
 all_of-none f (s ∷ xs) h = let r = all_of-none f xs h.1 in let o = h.0 in omega (arith, ints, r, o)
 
 pub no_steps : (c : ℕ) (line : Line) → AreSteps c line [] []
-no_steps c line = record { turns = λ z. refl; behind = refl; near = λ z. inr (refl, tt); each
-    = All-from_recursion IsStep [] tt }
+no_steps c line = record {
+  turns = λ z. refl;
+  behind = refl;
+  near = λ z. inr (refl, tt);
+  each
+      = All-from_recursion IsStep [] tt;
+}
 
 pub more_steps : (c : ℕ) (line : Line) (e : Edge) (es : List Edge) (a b more : List Step) → AreTurnSteps line e a
     → AreNearSteps c line e b → AreSteps c line es more → AreSteps c line (e ∷ es) (a ++ (b ++ more))
@@ -69,7 +74,7 @@ more_steps c line e es a b more t n r = record {
   each = All-from_recursion IsStep (a ++ (b ++ more))
       (AllByRecursion-append IsStep a (b ++ more) (recursion_from_All IsStep a t.each)
       (AllByRecursion-append IsStep b more (recursion_from_All IsStep b n.each)
-          (recursion_from_All IsStep more r.each)));
+      (recursion_from_All IsStep more r.each)));
 }
   where
     no_turns : AllByRecursion (λ s. s.turns ≡ pos 0) b

@@ -162,7 +162,7 @@ breadth_scaled : (k c t x y : ℤ) → pos 0 <ℤ k
     ≡ k *ℤ (k *ℤ breadth c t x y -ℤ length_of x y)
 breadth_scaled k c t x y h =
     by_direction (k *ℤ c -ℤ pos 1) (k *ℤ t) (k *ℤ x) (k *ℤ y) (int_le y x) (int_le (x +ℤ y) (pos 0))
-        (int_le (pos 0) x)
+    (int_le (pos 0) x)
     (le_scaled k y x h) (rising_scaled k x y h) (right_scaled k x h)
     ∙ same_scaled k c t x y (int_le y x) (int_le (x +ℤ y) (pos 0)) (int_le (pos 0) x)
     ∙ ap₂ (λ (a b : ℤ). k *ℤ (k *ℤ a -ℤ b))
@@ -380,14 +380,14 @@ module _ (k c u ax ay bx by : ℤ) (h : pos 0 <ℤ k) where
         (k *ℤ bx)
         (k *ℤ by) width wider narrow rises
         (tests (k *ℤ c -ℤ pos 1) (k *ℤ u -ℤ pos 1) (k *ℤ ax) (k *ℤ ay) (k *ℤ bx) (k *ℤ by) (ends_up e)
-            (line_up g)))
+        (line_up g)))
 
     pub told_if : Approach (k *ℤ c -ℤ pos 1) (k *ℤ u -ℤ pos 1) (k *ℤ ax) (k *ℤ ay) (k *ℤ bx) (k *ℤ by)
         → EndsWithin c u ax ay bx by × Gaps k c u ax ay bx by
     told_if a =
         let f = facts (k *ℤ c -ℤ pos 1) (k *ℤ u -ℤ pos 1) (k *ℤ ax) (k *ℤ ay) (k *ℤ bx) (k *ℤ by)
         (passes_if_approach (k *ℤ c -ℤ pos 1) (k *ℤ u -ℤ pos 1) (k *ℤ ax) (k *ℤ ay) (k *ℤ bx) (k *ℤ by)
-            width wider narrow
+        width wider narrow
         rises a) in
         (ends_down f.0, line_down f.1)
 

@@ -26,8 +26,10 @@ after s (t ∷ ss) h = (let a = h 0 t (omega arith) in omega (arith, ints, a), a
 by_pairs : (ss : List Step) → ((i j : ℕ) (d : Step) → i ≤ j → j < length ss
     → int_lt (get_or ss j d).at (get_or ss i d).at ≡ false) → AreInOrder ss
 by_pairs [] h = tt
-by_pairs (s ∷ ss) h = (after s ss (λ j d l. h 0 (suc j) d (omega arith) (omega arith)),
-    by_pairs ss (λ i j d o l. h (suc i) (suc j) d (omega arith) (omega arith)))
+by_pairs (s ∷ ss) h = (
+  after s ss (λ j d l. h 0 (suc j) d (omega arith) (omega arith)),
+  by_pairs ss (λ i j d o l. h (suc i) (suc j) d (omega arith) (omega arith)),
+)
 
 pub in_order : (ss : List Step) → IsSortedBy comes_before ss → AreInOrder ss
 in_order ss h = by_pairs ss (λ i j d o l. sorted_far comes_before place_order ss h i j d o l)

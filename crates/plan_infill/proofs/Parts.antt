@@ -84,5 +84,5 @@ no_part of part slope start e h l = record {
   each = λ z a b.
       let f = flat slope z e in
       l.each z a b ∙ less_alike z of.from (pos 0) (slope *ℤ z +ℤ start) (λ k. absurd (omega (arith, ints, k, a)))
-          (λ k. absurd (omega (arith, ints, f, k, h)));
+      (λ k. absurd (omega (arith, ints, f, k, h)));
 }

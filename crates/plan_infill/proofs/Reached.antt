@@ -47,7 +47,7 @@ place_is : (n m s t px py rx ry x y : ℤ)
     ≡ n *ℤ (s *ℤ (px -ℤ x) +ℤ t *ℤ (rx -ℤ x)) +ℤ m *ℤ (s *ℤ (py -ℤ y) +ℤ t *ℤ (ry -ℤ y))
 place_is n m s t px py rx ry x y = ring (n ∷ m ∷ s ∷ t ∷ px ∷ py ∷ rx ∷ ry ∷ x ∷ y ∷ [])
     (v0 ⊗ ((v2 ⊗ v4 ⊕ v3 ⊗ v6) ⊗ num (pos 1) ⊖ v8 ⊗ (v2 ⊗ num (pos 1) ⊕ v3 ⊗ num (pos 1))) ⊕ v1
-        ⊗
+    ⊗
     ((v2 ⊗ v5 ⊕ v3 ⊗ v7) ⊗ num (pos 1) ⊖ v9 ⊗ (v2 ⊗ num (pos 1) ⊕ v3 ⊗ num (pos 1))))
     (v0 ⊗ (v2 ⊗ (v4 ⊖ v8) ⊕ v3 ⊗ (v6 ⊖ v8)) ⊕ v1 ⊗ (v2 ⊗ (v5 ⊖ v9) ⊕ v3 ⊗ (v7 ⊖ v9))) refl
 
@@ -327,19 +327,19 @@ module _ (c : ℕ) (x y : ℤ) (e : Edge) where
             (least_end (pos (reach c)) ((low e).x +ℤ (low e).y) ((high e).x +ℤ (high e).y) (x +ℤ y) i.sum.from);
         below_right = end_by (pos 1) (neg_ℤ (pos 1)) (pos (reach c)) ax ay bx by
             (((low e).x -ℤ (low e).y) -ℤ (x -ℤ y)) (((high e).x -ℤ (high e).y) -ℤ (x -ℤ y))
-                (omega (arith, ints))
+            (omega (arith, ints))
             (omega (arith, ints))
             (least_end (pos (reach c)) ((low e).x -ℤ (low e).y) ((high e).x -ℤ (high e).y) (x -ℤ y)
-                i.difference.from);
+            i.difference.from);
         over_left = end_by (neg_ℤ (pos 1)) (pos 1) (pos (reach c)) ax ay bx by
             ((x -ℤ y) -ℤ ((low e).x -ℤ (low e).y)) ((x -ℤ y) -ℤ ((high e).x -ℤ (high e).y))
-                (omega (arith, ints))
+            (omega (arith, ints))
             (omega (arith, ints))
             (most_end (pos (reach c)) ((low e).x -ℤ (low e).y) ((high e).x -ℤ (high e).y) (x -ℤ y)
-                i.difference.to);
+            i.difference.to);
         below_left = end_by (neg_ℤ (pos 1)) (neg_ℤ (pos 1)) (pos (reach c)) ax ay bx by
             ((x +ℤ y) -ℤ ((low e).x +ℤ (low e).y)) ((x +ℤ y) -ℤ ((high e).x +ℤ (high e).y))
-                (omega (arith, ints))
+            (omega (arith, ints))
             (omega (arith, ints))
             (most_end (pos (reach c)) ((low e).x +ℤ (low e).y) ((high e).x +ℤ (high e).y) (x +ℤ y) i.sum.to);
       }
@@ -383,7 +383,7 @@ module _ (c : ℕ) (x y : ℤ) (e : Edge) where
           (omega (arith, ints)) w.right);
       to = end_most (pos c) (low e).x (high e).x x
           (by_end (neg_ℤ (pos 1)) (pos 0) (pos c) ax ay bx by (x -ℤ (low e).x) (x -ℤ (high e).x)
-              (omega (arith, ints))
+          (omega (arith, ints))
           (omega (arith, ints)) w.left);
     };
     sum = record {
@@ -393,7 +393,7 @@ module _ (c : ℕ) (x y : ℤ) (e : Edge) where
       to = end_most (pos (reach c)) ((low e).x +ℤ (low e).y) ((high e).x +ℤ (high e).y) (x +ℤ y)
           (by_end (neg_ℤ (pos 1)) (neg_ℤ (pos 1)) (pos (reach c)) ax ay bx by
           ((x +ℤ y) -ℤ ((low e).x +ℤ (low e).y)) ((x +ℤ y) -ℤ ((high e).x +ℤ (high e).y))
-              (omega (arith, ints))
+          (omega (arith, ints))
           (omega (arith, ints)) w.below_left);
     };
     difference = record {
@@ -448,7 +448,7 @@ comes c x y e h i =
     let b = beside c y e h in
     of_ends c x y e (comes_if_inside x y (low e) (high e) (pos c) (pos (reach c))
     (inside_if_passes (pos c) (pos (reach c)) ((low e).x -ℤ x) ((low e).y -ℤ y) ((high e).x -ℤ x)
-        ((high e).y -ℤ y)
+    ((high e).y -ℤ y)
     (thin c b.some) (wide c) b.some (up c x y e) (ends_if c x y e b i.ends) (line_if c x y e b i)))
 
 pub told : (c : ℕ) (x y : ℤ) (e : Edge) → ComesNear c (Row y) x e → Told c x y e
@@ -549,8 +549,11 @@ pub exchanged_steps : (c : ℕ) (x : ℤ) (e : Edge) (steps : List Step) → Are
 exchanged_steps c x e steps k = record {
   give = λ z. elim (k.give z) [
     | inl p ↦ inl (p.0, exchange c x z e p.1)
-    | inr p ↦ inr (p.0, apart_if c (Column x) z e
-        (λ f. not_near c (Row x) z (exchanged e) p.1 (exchange_back c x z e f)))
+    | inr p ↦ inr (
+      p.0,
+      apart_if c (Column x) z e
+          (λ f. not_near c (Row x) z (exchanged e) p.1 (exchange_back c x z e f)),
+    )
   ];
   each = k.each;
   other = k.other;
@@ -705,9 +708,10 @@ counts s h = record {
       let q : int_le s.until z ≡ false = sym (omega (arith, ints, b)) in
       rw (p, q) refl;
   outside = λ z n. out z n (order s.from z) (order s.until z);
-  each = All-from_recursion IsStep (near_at s.from (pos 1) ∷ (near_at s.until (negsuc 0) ∷ []))
-      (record { turns = omega arith; near = omega arith; place = inl refl },
-          (record { turns = omega arith; near = omega arith; place = inl refl }, tt));
+  each = All-from_recursion IsStep (near_at s.from (pos 1) ∷ (near_at s.until (negsuc 0) ∷ [])) (
+    record { turns = omega arith; near = omega arith; place = inl refl },
+    (record { turns = omega arith; near = omega arith; place = inl refl }, tt),
+  );
   other = All-from_recursion (λ t. t.turns ≡ pos 0) (near_at s.from (pos 1) ∷ (near_at s.until (negsuc 0) ∷ []))
       (refl, (refl, tt));
 }

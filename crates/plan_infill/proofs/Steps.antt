@@ -87,8 +87,12 @@ row_turns e y at a b k w =
     }
 
 none : (line : Line) (e : Edge) → GiveTurns line e [] → AreTurnSteps line e []
-none line e g = record { give = g; each = All-from_recursion IsStep [] tt; other
-    = All-from_recursion (λ t. t.near ≡ pos 0) [] tt }
+none line e g = record {
+  give = g;
+  each = All-from_recursion IsStep [] tt;
+  other
+      = All-from_recursion (λ t. t.near ≡ pos 0) [] tt;
+}
 
 pub row_below : (e : Edge) (y : ℤ) → y <ℤ (low e).y → AreTurnSteps (Row y) e []
 row_below e y h = let p = passage_below (pos 0) y e h in none (Row y) e (record { each = λ z. turn_below z y e h ∙ sym (rw p refl); behind = rw p refl })
@@ -132,7 +136,7 @@ column_turn e x z part k =
     (λ a. by_order (order (high e).y z)
     (λ b. turn_above x z e b ∙ sym (rw (no_place_above part z (omega (arith, ints))) refl))
     (λ b. turn_between x z e a b ∙ ap (λ (t : Bool). if t then heading e else pos 0)
-        (ap (int_lt (pos 0)) (line_at e x z) ∙ sym (k.each z a b))))
+    (ap (int_lt (pos 0)) (line_at e x z) ∙ sym (k.each z a b))))
     (λ a. turn_below x z e a ∙ sym (rw (no_place_below part z (omega (arith, ints))) refl))
 
 pub column_turns : (e : Edge) (x : ℤ) (part : Stretch) → IsEdgeWithin coordinate_limit e
@@ -153,9 +157,9 @@ column_turns e x part w k =
       };
       each = All-from_recursion IsStep (step_of part.from (heading e)
           ∷ (step_of part.until (pos 0 -ℤ heading e) ∷ [])) (
-        record { turns = s; near = omega arith; place = inr (omega (arith, ints)) },
-        (record { turns = omega (arith, ints, s); near = omega arith; place = inr (omega (arith, ints)) }, tt),
-      );
+            record { turns = s; near = omega arith; place = inr (omega (arith, ints)) },
+            (record { turns = omega (arith, ints, s); near = omega arith; place = inr (omega (arith, ints)) }, tt),
+          );
       other = All-from_recursion (λ t. t.near ≡ pos 0)
           (step_of part.from (heading e) ∷ (step_of part.until (pos 0 -ℤ heading e) ∷ [])) (refl, (refl, tt));
     }

@@ -69,7 +69,7 @@ module _ (test : ℤ → Bool) (least : ℕ) where
     all = λ r s e. by_order (order place (r.to +ℤ pos 1))
         (λ o. by_order (order place r.to)
         (λ k. absurd (both_ways _ (v r.to k (omega (arith, ints, e)))
-            (s.holds r.to (in_order r s) (omega (arith, ints)))))
+        (s.holds r.to (in_order r s) (omega (arith, ints)))))
         (λ k. absurd (both_ways _ n (s.holds (place -ℤ pos 1) (let i = in_order r s in omega (arith, ints, i, o, k)) (omega (arith, ints, o, k))))))
         (λ o. b.all r s o);
   }
@@ -98,7 +98,7 @@ module _ (test : ℤ → Bool) (least : ℕ) where
         (λ k. by_order (order from r.from)
         (λ m. omega (arith, ints, k, m))
         (λ m. absurd (both_ways _ o.2 (s.holds (from -ℤ pos 1) (omega (arith, ints, m))
-            (omega (arith, ints, to, a))))))
+        (omega (arith, ints, to, a))))))
         (λ k. absurd (both_ways _ s.before
         (o.1 (r.from -ℤ pos 1) (omega (arith, ints, k)) (omega (arith, ints, i, to))))) in
         λ j. record { from = start j; to = to j }
@@ -113,8 +113,11 @@ module _ (test : ℤ → Bool) (least : ℕ) where
 
     up_to_last : (rs : List Run) → GoUp rs → All (λ r. r.to <ℤ from) rs → GoUp (rs ++ (ended_run ∷ []))
     up_to_last [] u e = (All-nil (λ s. ended_run.to <ℤ s.from), tt)
-    up_to_last (r ∷ rs) u e = (All-push (λ s. r.to <ℤ s.from) rs ended_run u.0
-        (All-head (λ r. r.to <ℤ from) r rs e), up_to_last rs u.1 (All-tail (λ r. r.to <ℤ from) r rs e))
+    up_to_last (r ∷ rs) u e = (
+      All-push (λ s. r.to <ℤ s.from) rs ended_run u.0
+          (All-head (λ r. r.to <ℤ from) r rs e),
+      up_to_last rs u.1 (All-tail (λ r. r.to <ℤ from) r rs e),
+    )
 
     all_before : All (λ r. r.to <ℤ from) rs
     all_before = All-weaker (λ r. IsStretch test least r × ((r.to +ℤ pos 1) <ℤ place)) (λ r. r.to <ℤ from)
@@ -155,10 +158,16 @@ module _ (test : ℤ → Bool) (least : ℕ) where
       → IsOneValue test value place until → IsOpen test place since → AreStretchesBefore test least place rs
       → AreStretchesBefore test least until (rs ++ closed value since place least)
       × IsOpen test until (opened value since place)
-  goes_on true place until since rs h v o b = (subst (AreStretchesBefore test least until) (sym (append-nil rs))
-      (deep_before place until rs h v b), deep_open place until since h v o)
-  goes_on false place until None rs h v o b = (subst (AreStretchesBefore test least until) (sym (append-nil rs))
-      (still_before place until rs h v o b), v (until -ℤ pos 1) (omega (arith, ints, h)) (omega (arith, ints)))
+  goes_on true place until since rs h v o b = (
+    subst (AreStretchesBefore test least until) (sym (append-nil rs))
+        (deep_before place until rs h v b),
+    deep_open place until since h v o,
+  )
+  goes_on false place until None rs h v o b = (
+    subst (AreStretchesBefore test least until) (sym (append-nil rs))
+        (still_before place until rs h v o b),
+    v (until -ℤ pos 1) (omega (arith, ints, h)) (omega (arith, ints)),
+  )
   goes_on false place until (Some from) rs h v o b = (
     ended_before place until from rs h v o b (int_le (pos least) ((place -ℤ pos 1) -ℤ from)) refl,
     v (until -ℤ pos 1) (omega (arith, ints, h)) (omega (arith, ints)),
@@ -179,6 +188,7 @@ module _ (test : ℤ → Bool) (least : ℕ) where
       → IsOpenWithin coordinate_limit since place
   open_within place None w o = tt
   open_within place (Some from) w o =
-      let a = o.0 in
-      (w from (o.1 from (omega (arith, ints)) a),
-          w (place -ℤ pos 1) (o.1 (place -ℤ pos 1) (omega (arith, ints, a)) (omega (arith, ints))))
+      let a = o.0 in (
+        w from (o.1 from (omega (arith, ints)) a),
+        w (place -ℤ pos 1) (o.1 (place -ℤ pos 1) (omega (arith, ints, a)) (omega (arith, ints))),
+      )

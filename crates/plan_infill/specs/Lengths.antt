@@ -10,5 +10,5 @@ use Rattle.plan_infill.specs.Runs.{point_on, IsRun}
 abbrev pub RunsHaveLengths : Type 0
 RunsHaveLengths =
     (outlines : List (List Pt)) (c : ℕ) (line : Line) (least : ℕ) (r : Run) → 1 ≤ least
-        → IsRun outlines c line least r
+    → IsRun outlines c line least r
     → point_on line r.from ≢ point_on line r.to

@@ -36,7 +36,7 @@ abbrev pub IsOpen : (ℤ → Bool) → ℤ → Option ℤ → Type 0
 IsOpen test place None = test (place -ℤ pos 1) ≡ false
 IsOpen test place (Some from) =
     (from <ℤ place) × ((z : ℤ) → from ≤ℤ z → z <ℤ place → test z ≡ true)
-        × (test (from -ℤ pos 1) ≡ false)
+    × (test (from -ℤ pos 1) ≡ false)
 
 -- the same from the next place on, by whether its points are deep
 abbrev pub opened : Bool → Option ℤ → ℤ → Option ℤ

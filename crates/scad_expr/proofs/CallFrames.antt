@@ -15,7 +15,7 @@ use Rattle.scad_expr.proofs.OpenFrames.{opened-bound, opened-again, call-env, ca
 
 pub bound-same : (depth depth0 : ℕ) (home along : Env) (ps ps0 : List Parameter) (args args0 : Arguments)
     (found : List Datum) (s : State) → depth0 ≡ depth → ps0 ≡ ps → args0 ≡ args
-        → bound (meaning depth) home along ps
+    → bound (meaning depth) home along ps
     args found s ≡ bound (meaning depth0) home along ps0 args0 found s
 bound-same depth depth0 home along ps ps0 args args0 found s d p a =
     ap (λ e. bound (meaning e) home along ps args found s) (sym d)

@@ -25,8 +25,14 @@ quote = 34
 
 -- so many steps were taken and these lines written
 abbrev pub after : ℕ → List (List ℕ) → State
-after steps lines = record { steps = steps; leaves = 0; triangles = 0; profiles = []; echoes
-    = map encode_utf8_all lines }
+after steps lines = record {
+  steps = steps;
+  leaves = 0;
+  triangles = 0;
+  profiles = [];
+  echoes
+      = map encode_utf8_all lines;
+}
 
 abbrev pub faulted : FaultKind → Place → List ℕ → EvalFault
 faulted kind place name = Fault (record { kind = kind; at = place; name = name })

@@ -91,7 +91,7 @@ taken-argument names i (Some name) e more d values so_far = refl
 pub given-next : (names : List (List ℕ)) (i : ℕ) (all : List Arg) (at : ℕ) (a : Arg) (d : Datum)
     (values : List Datum)
     (so_far : Names) → at < length all → a ≡ get_or all at a
-        → given_from names i (arguments (drop at all)) (d ∷ values)
+    → given_from names i (arguments (drop at all)) (d ∷ values)
     so_far ≡ given_from names (counted_on a.name i) (arguments (drop (at + 1) all)) values
     (taken names i a.name d so_far)
 given-next names i all at a d values so_far below is =

@@ -64,7 +64,7 @@ pub ruleset names = (name-none, name-more)
 -- ---- a function of the language that refuses
 pub refused : (at : Place) (word : List ℕ) (answer : Result Datum BuiltinFault) (e : BuiltinFault) (f : EvalFault)
     (s : State) → Refuses answer e → ((t : State) → f ≢ NoMemory
-        → called_builtin at word (Err e) t ≡ refuses f t)
+    → called_builtin at word (Err e) t ≡ refuses f t)
     → (e ≡ Memory → f ≡ NoMemory) → f ≢ NoMemory → called_builtin at word answer s ≡ refuses f s
 refused at word answer e f s r told memory some =
     ap (λ a. called_builtin at word a s) (r (λ is. some (memory is))) ∙ told s some

@@ -86,7 +86,7 @@ module _ (below : Below) (all : List Arg) (i : ℕ) (a : Arg) (there : i < lengt
       (λ next. bound_in_order below (env_in o0) (along_in o0) (arguments (drop (i + 1) all)) next)
   name-next =
       sym left ∙ ap (λ args. bound_in_order below (env_in o0) (along_in o0) args b s)
-          (arguments-drop all i a there is)
+      (arguments-drop all i a there is)
       ∙ bound-next below (env_in o0) (along_in o0) a.name (expression_of a.value) (arguments (drop (i + 1) all)) b s
       ∙ ap (λ g. and_then (bind_one below (env_in g) (along_in g) a.name (expression_of a.value) b s)
       (λ next. bound_in_order below (env_in o0) (along_in o0) (arguments (drop (i + 1) all)) next)) (sym same)
@@ -94,7 +94,7 @@ module _ (below : Below) (all : List Arg) (i : ℕ) (a : Arg) (there : i < lengt
   pub name-goes : (next : Bound) (s2 : State)
       → bind_one below (env_in o) (along_in o) a.name (expression_of a.value) b
       s ≡ gives next s2 → bound_in_order below (env_in o0) (along_in o0) (arguments (drop (i + 1) all)) next s2
-          ≡ w
+      ≡ w
   name-goes next s2 e = sym (name-next ∙ goes _ _ next s2 e)
 
   pub name-stops : (f : EvalFault) (s2 : State)
@@ -121,7 +121,7 @@ defaults-missing below home along got (p ∷ all) b s = by (defaults-missing bel
         c t) → (c : Bool) → (if c then defaults below home along got all b else
         (default_value below home (within along b.dollars) p.default >>= λ d. defaults below home along got all
         (set p.name d b))) s ≡ defaulted below home along (if not c then p ∷ missing got all else missing got all) b
-            s
+        s
     by more true = more b s
     by more false = same-then (default_value below home (within along b.dollars) p.default s) _ _
         (λ d s2. more (set p.name d b) s2)

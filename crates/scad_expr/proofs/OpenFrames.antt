@@ -236,7 +236,7 @@ pub call-gone : (kept : Option StoredChildren) (here home inner : ℕ) (h n o : 
     → n ≡ opened kept (length o.frames) home (bound_in h) o
 call-gone kept here home inner h n o e gone is =
     gone ∙ ap {B = Held} (λ (g : Held). record g { here = inner }) e
-        ∙ gone-opened kept inner here home (bound_in h) o ∙
+    ∙ gone-opened kept inner here home (bound_in h) o ∙
     ap (λ i. opened kept i home (bound_in h) o) is
 
 -- the frames of a call once its defaults are set

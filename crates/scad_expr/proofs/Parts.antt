@@ -71,7 +71,7 @@ deepest-numbers : (n step : ℤ) (k : ℕ) (more : List Datum) → deepest (as_e
 deepest-numbers n step zero more = refl
 deepest-numbers n step (suc k) more =
     none-deeper (deepest (as_elements (numbers_from (n +ℤ step) step k ++ more)))
-        ∙ deepest-numbers (n +ℤ step) step k
+    ∙ deepest-numbers (n +ℤ step) step k
     more
 
 made-many : (d more : List Datum) → length d ≤ made_all (as_elements (d ++ more))

@@ -161,14 +161,14 @@ module _ (below : Below) (v : (env along : Env) (e : Expression) → Rising (bel
       args found)
   rising-node env along (let_in at args e) =
       rising-then _ _ (rising-judged at (codes "let") args)
-          (λ _. rising-then _ _ (rising-bound_in_order env along args empty)
+      (λ _. rising-then _ _ (rising-bound_in_order env along args empty)
       (λ b. v (within env b.names) (within along b.dollars) e))
   rising-node env along (assert_in at args e) =
       rising-then _ _ (rising-values env along args []) (λ found. rising-then _ _ (rising-asserted at args found)
       (λ _. v env along e))
   rising-node env along (echo_in at args e) =
       rising-then _ _ (rising-values env along args [])
-          (λ found. rising-then _ _ (rising-say at (echo_line args found))
+      (λ found. rising-then _ _ (rising-say at (echo_line args found))
       (λ _. v env along e))
 
   pub rising-layer : (env along : Env) (e : Expression) → Rising (value_layer below env along e)
@@ -193,7 +193,7 @@ module _ (below : Below) (v : (env along : Env) (e : Expression) → Rising (bel
       steps e env along b so_far))))
   rising-element env along (let_element at args e) so_far =
       rising-then _ _ (rising-step at) (λ _. rising-then _ _ (rising-judged at (codes "let") args)
-          (λ _. rising-then _ _ (rising-bound_in_order env along args empty)
+      (λ _. rising-then _ _ (rising-bound_in_order env along args empty)
       (λ b. el (within env b.names) (within along b.dollars) e so_far)))
   rising-element env along (if_element at test e) so_far =
       rising-then _ _ (rising-step at) (λ _. rising-then _ _ (v env along test)

@@ -52,7 +52,7 @@ pub vector-begins : (below : Below) (at : Place) (es : Elements) (k k2 : Rest) (
 unfolding node onto
 vector-begins below at es k k2 h made none outer s same empty is =
     twice (elements_given below (env_in h) (along_in h) es [] s) (λ found. make at (vector_datum (as_elements found)))
-        (k h made)
+    (k h made)
     ∙ ap (λ m. and_then (elements_given below (env_in h) (along_in h) es [] s)
     (λ found t. and_then (make at (vector_datum (as_elements found)) t) (k h m))) (sym same)
     ∙ ap₂ (λ m q. and_then (elements_given below (env_in h) (along_in h) es m s) (added q h)) (sym empty) (sym is)
@@ -81,41 +81,41 @@ unfolding inside_of
 let-begins depth back e args k h o made s i none out is =
     binds-opened (meaning depth) args (inside_of (InsideValue e) back depth k made) h o
     (λ b. value depth (within (env_in o) b.names) (within (along_in o) b.dollars) (expression_of e.now)) (k o made) s i
-        none out
+    none out
     (λ b t. ap₂ (λ r x. and_then r (k x made)) (inner-value (meaning depth) (expression_of e.now) b o t)
-        (left-inner back b o is))
+    (left-inner back b o is))
 
 pub let-element-begins : (depth back : ℕ) (e : Bor Elem) (args : Arguments) (k : Rest) (h o : Held)
     (made : List Datum) (s : State)
     → IsInner h → bound_in h ≡ empty → outer h ≡ o → back ≡ o.here
     → and_then (and_then (bound_in_order (meaning depth) (env_in o) (along_in o) args empty s)
     (λ b. (meaning depth).element (within (env_in o) b.names) (within (along_in o) b.dollars) (element_of e.now) made))
-        (added k o)
+    (added k o)
     ≡ binding (record { inside = InsideElement e; back = back; depth = depth }) args k made h s
 unfolding inside_of
 let-element-begins depth back e args k h o made s i none out is =
     binds-opened (meaning depth) args (inside_of (InsideElement e) back depth k made) h o
     (λ b. (meaning depth).element (within (env_in o) b.names) (within (along_in o) b.dollars) (element_of e.now) made)
-        (added k o) s i none out
+    (added k o) s i none out
     (λ b t. ap₂ (λ r x. and_then r (added k x)) (inner-element (meaning depth) (element_of e.now) b o made t)
-        (left-inner back b o is))
+    (left-inner back b o is))
 
 pub loop-begins : (depth back : ℕ) (l : Loop) (args : Arguments) (k : Rest) (h o : Held) (made : List Datum)
     (s : State)
     → IsInner h → bound_in h ≡ empty → outer h ≡ o → back ≡ o.here
     → and_then (and_then (bound_in_order (meaning depth) (env_in o) (along_in o) args empty s)
     (λ b. loop_turns (meaning depth) l.turns l.at (expression_of l.test.now) (arguments l.steps.now)
-        (element_of l.body.now)
+    (element_of l.body.now)
     (env_in o) (along_in o) b made)) (added k o)
     ≡ binding (record { inside = InsideTurns l; back = back; depth = depth }) args k made h s
 unfolding inside_of
 loop-begins depth back l args k h o made s i none out is =
     binds-opened (meaning depth) args (inside_of (InsideTurns l) back depth k made) h o
     (λ b. loop_turns (meaning depth) l.turns l.at (expression_of l.test.now) (arguments l.steps.now)
-        (element_of l.body.now)
+    (element_of l.body.now)
     (env_in o) (along_in o) b made) (added k o) s i none out
     (λ b t. repeats-inner (meaning depth) l.at (expression_of l.test.now) (arguments l.steps.now)
-        (element_of l.body.now) o
+    (element_of l.body.now) o
     (λ h2 now. added k (left back h2) now) (added k o)
     (λ c now u. ap (λ x. added k x now u) (left-inner back c o is)) l.turns b made t)
 
@@ -162,8 +162,10 @@ entered-opened opening k made home o b t is was =
 pub own-begins : (depth home : ℕ) (f : Found) (params : List Param) (args : Arguments) (found : List Datum)
     (opening : Opening) (k : Rest) (h o : Held) (made : List Datum) (s t : State) (ps : List Parameter)
     → home < length o.frames
-    → f ≡ record { function = record { parameters = map parameter params; body = expression_of opening.body.now };
-    home = env_at (envs o.frames) home }
+    → f ≡ record {
+      function = record { parameters = map parameter params; body = expression_of opening.body.now };
+      home = env_at (envs o.frames) home;
+    }
     → h ≡ opened None home home (set_all (given (parameter_names params) args found) empty) o
     → ps ≡ missing (given (parameter_names params) args found) (map parameter params)
     → opening.inner ≡ length o.frames → opening.back ≡ o.here → opening.depth ≡ depth → t ≡ s
@@ -268,9 +270,9 @@ pub let-node-begins : (depth back : ℕ) (at : Place) (e : Bor Expr) (args : Arg
 unfolding node
 let-node-begins depth back at e args k h o made s t judged i none out is same =
     ap (λ r. and_then (and_then r (λ _ u. and_then
-        (bound_in_order (meaning depth) (env_in o) (along_in o) args empty u)
+    (bound_in_order (meaning depth) (env_in o) (along_in o) args empty u)
     (λ b. value depth (within (env_in o) b.names) (within (along_in o) b.dollars) (expression_of e.now)))) (k o made))
-        judged
+    judged
     ∙ let-begins depth back e args k h o made s i none out is
     ∙ ap (λ u. binding (record { inside = InsideValue e; back = back; depth = depth }) args k made h u) (sym same)
 
@@ -286,7 +288,7 @@ let-element-node-begins depth back at e args k h o made s s1 t stepped judged i 
     let f : Bound → Action (List Datum) = λ b. (meaning depth).element (within (env_in o) b.names) (within (along_in o) b.dollars) (element_of e.now) made in
     let bounds : State → Outcome (List Datum) = λ u. and_then (bound_in_order (meaning depth) (env_in o) (along_in o) args empty u) f in
     ap (λ r. and_then (and_then r (λ _ u. and_then (judge_named at (codes "let") args u) (λ _. bounds))) (added k o))
-        stepped
+    stepped
     ∙ ap (λ r. and_then (and_then r (λ _. bounds)) (added k o)) judged
     ∙ let-element-begins depth back e args k h o made s1 i none out is
     ∙ ap (λ u. binding (record { inside = InsideElement e; back = back; depth = depth }) args k made h u) (sym same)
@@ -304,7 +306,7 @@ loop-node-begins depth back l args k h o made s s1 t stepped judged judged2 i no
     let bounds : State → Outcome (List Datum) = λ u. and_then (bound_in_order (meaning depth) (env_in o) (along_in o) args empty u) f in
     let second : State → Outcome (List Datum) = λ u. and_then (judge_named l.at (codes "for") (arguments l.steps.now) u) (λ _. bounds) in
     ap (λ r. and_then (and_then r (λ _ u. and_then (judge_named l.at (codes "for") args u) (λ _. second)))
-        (added k o)) stepped
+    (added k o)) stepped
     ∙ ap (λ r. and_then (and_then r (λ _. second)) (added k o)) judged
     ∙ ap (λ r. and_then (and_then r (λ _. bounds)) (added k o)) judged2
     ∙ loop-begins depth back l args k h o made s1 i none out is
@@ -350,7 +352,7 @@ unfolding element_node onto either_element
 either-begins depth at test e other h k made s =
     later-begins (step at s) (value depth (env_in h) (along_in h) test)
     (λ d. either_element (meaning depth) (env_in h) (along_in h) d (element_of e.now) (element_of other.now) made)
-        (added k h)
+    (added k h)
 
 -- ---- nodes and elements as the code reads them
 pub node-same : (depth : ℕ) (h : Held) (k : Rest) (made : List Datum) (s : State) (x y : Expression) → x ≡ y

@@ -186,7 +186,7 @@ unfolding repeats
 repeats-some below zero at test steps body k h made s some = absurd (some refl)
 repeats-some below (suc n) at test steps body k h made s some =
     ap (λ m. and_then (below.value (env_in h) (along_in h) test s)
-        (turned below at steps body (repeats below m at test steps body k) k h made)) (omega arith)
+    (turned below at steps body (repeats below m at test steps body k) k h made)) (omega arith)
 
 pub ruleset loops = (twice, repeats-none, repeats-some)
 
@@ -260,14 +260,14 @@ module _ (below : Below) (home : ℕ) (o : Held) (there : home < length o.frames
   fills-opened [] k b s = refl
   fills-opened (p ∷ more) k b s =
       ap₂ (λ x y. and_then (default_value below x y p.default s)
-          (λ d. fills below more k (set_in_last p.name d (opened_home b))))
+      (λ d. fills below more k (set_in_last p.name d (opened_home b))))
       (env_in-before None home b o there) (along_in-opened None home home b o)
       ∙ same-then (default_value below (env_at (envs o.frames) home) (within (along_in o) b.dollars) p.default s) _ _
       (λ d t. ap (λ h. fills below more k h t) (set_in_last-opened p.name d None home home b o)
       ∙ fills-opened more k (set p.name d b) t)
       ∙ sym (twice (default_value below (env_at (envs o.frames) home) (within (along_in o) b.dollars) p.default s)
       (λ d. defaulted below (env_at (envs o.frames) home) (along_in o) more (set p.name d b))
-          (λ c. k (opened_home c)))
+      (λ c. k (opened_home c)))
 
 -- ---- variables of a `for`
 pub variables-named : (below : Below) (at : Place) (args : Arguments) (body : Element) (env along : Env)
@@ -289,7 +289,7 @@ pub variables-some : {C : Type 0} (below : Below) (at : Place) (args more : Argu
 unfolding for_variables
 variables-some below at args more name e body env along so_far s g is =
     ap (λ r. and_then r g) (variables-named below at args body env along so_far s
-        ∙ ap (λ a. for_variables below at a body env along so_far s) is)
+    ∙ ap (λ a. for_variables below at a body env along so_far s) is)
     ∙ twice (below.value env along e s) (λ d. turns below at name (for_variables below at more body) env along
     (items d) so_far) g
 
@@ -300,7 +300,7 @@ pub variables-none : (below : Below) (at : Place) (args : Arguments) (body : Ele
 unfolding for_variables
 variables-none below at args body env along so_far s is =
     variables-named below at args body env along so_far s
-        ∙ ap (λ a. for_variables below at a body env along so_far s) is
+    ∙ ap (λ a. for_variables below at a body env along so_far s) is
 
 pub ruleset names = (twice, binds-some, binds-none)
 

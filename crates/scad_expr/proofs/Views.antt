@@ -39,7 +39,7 @@ pub assert_node : (e : Expr) (args : Vec Arg Global) (body : Box Expr Global) (n
     → assert_in e.at (arguments now) (expression_of b) ≡ expression_of e
 assert_node e args body now b is same inner =
     ap₂ (λ l x. assert_in e.at (arguments l) (expression_of x)) same inner ∙ sym (assert_view e.at args body)
-        ∙ ap
+    ∙ ap
     (expression_at e.at) (sym is)
 
 pub echo_node : (e : Expr) (args : Vec Arg Global) (body : Box Expr Global) (now : List Arg) (b : Expr)
@@ -54,16 +54,16 @@ pub for_node : (e : Elem) (args : Vec Arg Global) (body : Box Elem Global) (at :
     → for_each at (arguments now) (element_of b) ≡ element_of e
 for_node e args body at now b is same inner =
     ap₂ (λ l x. for_each at (arguments l) (element_of x)) same inner ∙ sym (for_view args body at)
-        ∙ ap element_of
+    ∙ ap element_of
     (sym is)
 
 pub let_element_node : (e : Elem) (args : Vec Arg Global) (body : Box Elem Global) (at : Place) (now : List Arg)
     (b : Elem) → e ≡ ElemLet args body at → now ≡ args.items → b ≡ body.value
-        → let_element at (arguments now)
+    → let_element at (arguments now)
     (element_of b) ≡ element_of e
 let_element_node e args body at now b is same inner =
     ap₂ (λ l x. let_element at (arguments l) (element_of x)) same inner ∙ sym (let_element_view args body at)
-        ∙ ap
+    ∙ ap
     element_of (sym is)
 
 pub loop_node : (e : Elem) (starts : Vec Arg Global) (test : Expr) (steps : Vec Arg Global) (body : Box Elem Global)

@@ -118,7 +118,7 @@ module _ (below : Below) where
   defaults home along given_names (p ∷ more) b =
       if is_given p.name given_names then defaults home along given_names more b
       else (default_value home (within along b.dollars) p.default
-          >>= λ d. defaults home along given_names more (set p.name d b))
+      >>= λ d. defaults home along given_names more (set p.name d b))
 
   -- the names of a call's parameters: first those that are given, then the others
   unfoldable pub bound : Env → Env → List Parameter → Arguments → List Datum → Action Bound
@@ -338,4 +338,4 @@ opened home along kept b = record { env = inside (frame b.names None kept) home;
 abbrev pub bind : ℕ → Env → Env → List Parameter → Arguments → List Datum → Children → Action Opened
 bind depth home along parameters args found kept =
     bound (meaning depth) home along parameters args found
-        >>= λ b. pure (opened home along kept (with_children kept b))
+    >>= λ b. pure (opened home along kept (with_children kept b))

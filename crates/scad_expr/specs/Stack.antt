@@ -89,7 +89,7 @@ module _ (below : Below) where
       → (Held → List Datum → Action Whole) → Held → List Datum → Datum → Action Whole
   turned at steps body again k h made d =
       if truth d then (step at >>= λ _. below.element (env_in h) (along_in h) body made
-          >>= λ now. renewed steps again now h)
+      >>= λ now. renewed steps again now h)
       else k h made
 
   -- so many turns of it at most
@@ -123,7 +123,7 @@ supplied_in p h args = supplied (meaning p.depth) p.purpose (env_in h) (along_in
 abbrev pub called_as : Written → ℕ → Held → List Datum → Action Datum
 called_as c depth h found =
     called (meaning depth) c.at c.word.now (function_named c.word.now (env_in h)) (along_in h) (arguments c.args.now)
-        found
+    found
 
 abbrev pub written_node : Written → ℕ → Held → Action Datum
 written_node c depth h = node (meaning depth) (env_in h) (along_in h) (call_at c.at c.word.now (arguments c.args.now))
@@ -132,7 +132,7 @@ written_node c depth h = node (meaning depth) (env_in h) (along_in h) (call_at c
 unfoldable pub entered : Opening → Rest → List Datum → Held → Action Whole
 entered o k made h =
     value o.depth (env_in (record h { here = o.inner })) (along_in (record h { here = o.inner }))
-        (expression_of o.body.now)
+    (expression_of o.body.now)
     >>= k (left o.back (record h { here = o.inner })) made
 
 -- the parameters that are left
@@ -182,10 +182,10 @@ renewing l back depth k made h = renewed (meaning depth) (arguments l.steps.now)
 abbrev pub loop_of : Loop → ℕ → Arguments → Held → List Datum → Action (List Datum)
 loop_of l depth starts h so_far =
     step l.at >>= λ _. judge_named l.at (codes "for") starts
-        >>= λ _. judge_named l.at (codes "for") (arguments l.steps.now)
+    >>= λ _. judge_named l.at (codes "for") (arguments l.steps.now)
     >>= λ _. bound_in_order (meaning depth) (env_in h) (along_in h) starts empty
     >>= λ b. loop_turns (meaning depth) l.turns l.at (expression_of l.test.now) (arguments l.steps.now)
-        (element_of l.body.now)
+    (element_of l.body.now)
     (env_in h) (along_in h) b so_far
 
 -- what a variable still runs over
@@ -197,7 +197,7 @@ course (Numbers next step end) = numbers_left next step end
 abbrev pub turns_of : Variable → Held → List Datum → List Datum → Action (List Datum)
 turns_of v h all made =
     turns (meaning v.depth) v.at v.name.now (for_variables (meaning v.depth) v.at (arguments v.more.now)
-        (element_of v.body.now))
+    (element_of v.body.now))
     (env_in h) (along_in h) all made
 
 -- ---- a frame, and then what follows it
@@ -224,7 +224,7 @@ onto (IndexedName word) k h made d = k h made (indexed (variable word.now (env_i
 onto (Member word) k h made d = k h made (member_of word.now d)
 onto (ArgumentsFrame p more) k h made d =
     supplied (meaning p.depth) p.purpose (env_in h) (along_in h) (arguments more.now) (data_in p.so_far ++ d ∷ [])
-        >>= k h made
+    >>= k h made
 onto (Default name o) k h made d = filling o k made (set_in_last name.now d h)
 onto (Leave back) k h made d = k (left back h) made d
 onto (Bind name more w) k h made d = binding w (arguments more.now) k made (set_in_last name.now d h)
@@ -237,7 +237,7 @@ onto (If e depth) k h made d = element_if (meaning depth) (env_in h) (along_in h
     >>= added k h
 onto (Either e other depth) k h made d =
     either_element (meaning depth) (env_in h) (along_in h) d (element_of e.now) (element_of other.now) made
-        >>= added k h
+    >>= added k h
 onto (Over v) k h made d = turns_of v h (items d) made >>= added k h
 onto (Turns v left_over) k h made d = turns_of v h (course left_over) made >>= added k h
 onto (Test l back depth) k h made d = turning l back depth k h made d

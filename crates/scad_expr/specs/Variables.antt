@@ -30,7 +30,7 @@ empty = record { names = []; dollars = [] }
 unfoldable pub set : List ℕ → Datum → Bound → Bound
 set name d b =
     if is_dollar name then record b { dollars = with_name name d b.dollars } else record b
-        { names = with_name name d b.names }
+    { names = with_name name d b.names }
 
 -- names in a frame of their own, inside an environment
 abbrev pub within : Env → Names → Env
@@ -46,4 +46,4 @@ first_along =
     within outside
     ((codes "$fn", number (pos 0)) ∷ (codes "$fa", number (pos 12000000)) ∷ (codes "$fs", number (pos 2000000))
     ∷ (codes "$children", number (pos 0)) ∷ (codes "$t", number (pos 0)) ∷ (codes "$preview", boolean false)
-        ∷ [])
+    ∷ [])

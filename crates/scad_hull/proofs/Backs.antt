@@ -81,7 +81,7 @@ module _ (ps : List Pt3) where
     pub faces_close : is_closed (fans (faces_of ps)) ≡ true
     faces_close = closed ps sorted (faces_of ps) all_rings
         (differ face_cmp faces_total (faces_of ps)
-            (distinct_sorted face_cmp faces_total (filter_map (face_through ps) (triples ps))))
+        (distinct_sorted face_cmp faces_total (filter_map (face_through ps) (triples ps))))
         faces_back
 
     -- ---- a first face
@@ -123,7 +123,7 @@ module _ (ps : List Pt3) where
       flat_at : (n : Normal) (q : Pt3) → Contains (in_plane ps a n) q → depth_of n a q ≡ pos 0
       flat_at n q i =
           zero_true (depth_of n a q) (All-contains (λ p. is_zero (depth_of n a p) ≡ true) (in_plane ps a n) q
-              (passes n) i)
+          (passes n) i)
         where
           passes : (n : Normal) → All (λ p. is_zero (depth_of n a p) ≡ true) (in_plane ps a n)
           passes n = filter_passes (λ p. is_zero (depth_of n a p)) ps
@@ -139,7 +139,7 @@ module _ (ps : List Pt3) where
 
       by_line : (list_all (λ p. is_none (normal_of a (beside a) p)) ps ≡ true)
           ⊎ ((x : Pt3) × Contains ps x × (is_none (normal_of a (beside a) x) ≡ false))
-              → (are_flat ps ≡ true) ⊎ HasPlane
+          → (are_flat ps ≡ true) ⊎ HasPlane
       by_line (inl all) = inl (on_x_line ps a all)
       by_line (inr c) =
           let t = turned_at_least a ps (λ k d i. lowest_a (get_or ps k d) (All-contains_itself ps k d i)) c.0 c.1 (lowest_a c.0 c.1)

@@ -59,11 +59,11 @@ module _ (ps : List Pt3) (a b c : Pt3) (side : IsSideOf ps a b c) where
           (sym (v.scaled a b c side.flat side.flat_c)
           ∙ (λ i. v.scale *ℤ (n.x *ℤ (y i *ℤ (c.z -ℤ a.z) -ℤ z i *ℤ (c.y -ℤ a.y))
           +ℤ (n.y *ℤ (z i *ℤ (c.x -ℤ a.x) -ℤ x i *ℤ (c.z -ℤ a.z)) +ℤ n.z *ℤ
-              (x i *ℤ (c.y -ℤ a.y) -ℤ y i *ℤ (c.x -ℤ a.x)))))
+          (x i *ℤ (c.y -ℤ a.y) -ℤ y i *ℤ (c.x -ℤ a.x)))))
           ∙ ring (v.scale ∷ n.x ∷ n.y ∷ n.z ∷ (c.x -ℤ a.x) ∷ (c.y -ℤ a.y) ∷ (c.z -ℤ a.z) ∷ [])
           (var 0 ⊗ (var 1 ⊗ (num (pos 0) ⊗ var 6 ⊖ num (pos 0) ⊗ var 5)
           ⊕ (var 2 ⊗ (num (pos 0) ⊗ var 4 ⊖ num (pos 0) ⊗ var 6) ⊕ var 3
-              ⊗ (num (pos 0) ⊗ var 5 ⊖ num (pos 0) ⊗ var 4))))
+          ⊗ (num (pos 0) ⊗ var 5 ⊖ num (pos 0) ⊗ var 4))))
           (num (pos 0)) refl)
           (λ e. nothing (square_of n) side.some e))
 

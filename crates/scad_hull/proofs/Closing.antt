@@ -261,7 +261,7 @@ module _ (ps : List Pt3) (sorted : IsStrictlySortedBy space_cmp ps) where
         let (c, on) = in_ring s r (ring_facts ps sorted r (of_in (IsRing ps) rings r are i)).0 here in
         let (q, j, back) = backs r i s.from s.to c on in
         some_all (reversed s) rings q j (there_ring q s.to s.from
-            (ring_facts ps sorted q (of_in (IsRing ps) rings q are j)).0 back)
+        (ring_facts ps sorted q (of_in (IsRing ps) rings q are j)).0 back)
 
     as_often : (s : Side) → occurrences s (all_sides rings) ≡ occurrences (reversed s) (all_sides rings)
     as_often s =

@@ -58,7 +58,7 @@ module _ (ps : List Pt3) where
   all_flat n a some flat p q r s ip iq ir is =
       nought_right (square_of n) (inner p q r s)
       (parallel n p q r (from q iq) (from r ir) s
-          ∙ no_times (dot_of n (normal_of p q r)) (depth_of n p s) (from s is))
+      ∙ no_times (dot_of n (normal_of p q r)) (depth_of n p s) (from s is))
       (not_none (square_of n) some)
     where
       less : (u v w : ℤ) → u ≡ pos 0 → v ≡ pos 0 → w ≡ v -ℤ u → w ≡ pos 0
@@ -140,7 +140,7 @@ module _ (ps : List Pt3) where
         turned_off : dot_of f m ≤ℤ pos 0 → ⊥
         turned_off low =
             spread.off (all_flat n g1 G.plane.some (λ p i. none p i) spread.first spread.second spread.third
-                spread.fourth
+            spread.fourth
             spread.has_first spread.has_second spread.has_third spread.has_fourth)
           where
             gone : (z : ℤ) → pos 0 ≤ℤ z → pos 0 ≤ℤ (pos 0 -ℤ z) → z ≡ pos 0
@@ -164,7 +164,7 @@ module _ (ps : List Pt3) where
                 (opposite (square_of f) d (dot_of f m) (depth_of f g1 p) (parallel f g1 g2 g3 back_2 back_3 p)) (over p i) in
                 nought_right (dot_of n m) (depth_of n g1 p)
                 (sym (parallel n g1 g2 g3 flat_2 flat_3 p) ∙ no_times (square_of n) d (gone d h k))
-                    (not_none (dot_of n m) G.plane.round)
+                (not_none (dot_of n m) G.plane.round)
 
         it_is : g ≡ r
         it_is = by_lt_z (pos 0) (dot_of f m)
@@ -210,7 +210,7 @@ module _ (ps : List Pt3) where
           let d = dot_of k w in
           let e = λ (p : Pt3). parallel k a b c (flat_from a b ha hb) (flat_from a c ha hc) p ∙ ap (λ (z : ℤ). d *ℤ z) (sym (as_from k R.base a p ha.1)) in
           ring (N ∷ depth_of w a g1 ∷ depth_of w a g2 ∷ depth_of w a g3 ∷ [])
-              (var 0 ⊗ (var 1 ⊕ (var 2 ⊕ var 3)))
+          (var 0 ⊗ (var 1 ⊕ (var 2 ⊕ var 3)))
           (var 0 ⊗ var 1 ⊕ (var 0 ⊗ var 2 ⊕ var 0 ⊗ var 3)) refl
           ∙ ap₂ (λ (x y : ℤ). x +ℤ y) (e g1) (ap₂ (λ (x y : ℤ). x +ℤ y) (e g2) (e g3))
           ∙ ring (d ∷ depth_of k R.base g1 ∷ depth_of k R.base g2 ∷ depth_of k R.base g3 ∷ [])
@@ -341,7 +341,7 @@ module _ (ps : List Pt3) where
           ring (K ∷ u ∷ v ∷ w ∷ s ∷ a ∷ b ∷ [])
           (var 0 ⊗ ((var 6 ⊖ var 1) ⊕ ((var 6 ⊖ var 2) ⊕ (var 6 ⊖ var 3))) ⊕ var 4)
           ((var 0 ⊗ ((var 5 ⊖ var 1) ⊕ ((var 5 ⊖ var 2) ⊕ (var 5 ⊖ var 3))) ⊕ var 4)
-              ⊕ (num (pos 3) ⊗ var 0) ⊗ (var 6 ⊖ var 5)) refl
+          ⊕ (num (pos 3) ⊗ var 0) ⊗ (var 6 ⊖ var 5)) refl
 
       abbrev V : ℤ → ℤ → ℤ → ℤ → ℤ → ℤ → ℤ → ℤ → ℤ → ℤ
       V xa ya za xb yb zb xc yc zc = za *ℤ (yb *ℤ xc -ℤ xb *ℤ yc) +ℤ
@@ -359,7 +359,7 @@ module _ (ps : List Pt3) where
           let mz = var 4 ⊗ var 8 ⊖ var 5 ⊗ var 7 in
           (λ i. V (X a) (Y a) (Z a) (further g1.x g2.x g3.x n.x a.x b.x i) (further g1.y g2.y g3.y n.y a.y b.y i)
           (further g1.z g2.z g3.z n.z a.z b.z i) (further g1.x g2.x g3.x n.x a.x c.x i)
-              (further g1.y g2.y g3.y n.y a.y c.y i)
+          (further g1.y g2.y g3.y n.y a.y c.y i)
           (further g1.z g2.z g3.z n.z a.z c.z i))
           ∙ ring (X a ∷ Y a ∷ Z a ∷ K ∷ (b.x -ℤ a.x) ∷ (b.y -ℤ a.y) ∷ (b.z -ℤ a.z)
           ∷ (c.x -ℤ a.x) ∷ (c.y -ℤ a.y) ∷ (c.z -ℤ a.z) ∷ [])
@@ -367,7 +367,7 @@ module _ (ps : List Pt3) where
           ⊕ (B (var 2) (var 6) ⊗ (B (var 1) (var 8) ⊗ var 0 ⊖ B (var 0) (var 7) ⊗ var 1)
           ⊕ B (var 2) (var 9) ⊗ (var 1 ⊗ B (var 0) (var 4) ⊖ var 0 ⊗ B (var 1) (var 5))))
           ((num (pos 9) ⊗ (var 3 ⊗ var 3)) ⊗ (num (pos 0) ⊖ (mx ⊗ var 0 ⊕ (my ⊗ var 1 ⊕ mz ⊗ var 2))))
-              refl
+          refl
           ∙ ap (λ (z : ℤ). (pos 9 *ℤ (K *ℤ K)) *ℤ z) (from_middle k.x k.y k.z a)
         where
           from_middle : (kx ky kz : ℤ) (a : Pt3) → pos 0 -ℤ (kx *ℤ X a +ℤ (ky *ℤ Y a +ℤ kz *ℤ Z a))
@@ -379,10 +379,10 @@ module _ (ps : List Pt3) where
               let D = λ (u v w : Term). var 0 ⊗ (u ⊖ var 4) ⊕ (var 1 ⊗ (v ⊖ var 5) ⊕ var 2 ⊗ (w ⊖ var 6)) in
               let S = λ (p u v w s : Term). var 3 ⊗ ((p ⊖ u) ⊕ ((p ⊖ v) ⊕ (p ⊖ w))) ⊕ s in
               ring (kx ∷ ky ∷ kz ∷ K ∷ a.x ∷ a.y ∷ a.z ∷ g1.x ∷ g1.y ∷ g1.z ∷ g2.x ∷ g2.y ∷ g2.z
-                  ∷ g3.x ∷ g3.y ∷ g3.z ∷ n.x ∷ n.y ∷ n.z ∷ [])
+              ∷ g3.x ∷ g3.y ∷ g3.z ∷ n.x ∷ n.y ∷ n.z ∷ [])
               (num (pos 0) ⊖ (var 0 ⊗ S (var 4) (var 7) (var 10) (var 13) (var 16)
               ⊕ (var 1 ⊗ S (var 5) (var 8) (var 11) (var 14) (var 17) ⊕ var 2
-                  ⊗ S (var 6) (var 9) (var 12) (var 15) (var 18))))
+              ⊗ S (var 6) (var 9) (var 12) (var 15) (var 18))))
               (var 3 ⊗ (D (var 7) (var 8) (var 9) ⊕ (D (var 10) (var 11) (var 12) ⊕ D (var 13) (var 14) (var 15)))
               ⊖ (var 0 ⊗ var 16 ⊕ (var 1 ⊗ var 17 ⊕ var 2 ⊗ var 18))) refl
 
@@ -390,7 +390,7 @@ module _ (ps : List Pt3) where
       ahead : (p : Pt3) → Contains ps p → pos 0 <ℤ (n.y *ℤ Y p +ℤ (n.x *ℤ X p +ℤ n.z *ℤ Z p))
       ahead p i =
           on (n.y *ℤ Y p +ℤ (n.x *ℤ X p +ℤ n.z *ℤ Z p))
-              (K *ℤ (depth_of n g1 p +ℤ (depth_of n g2 p +ℤ depth_of n g3 p))) (square_of n)
+          (K *ℤ (depth_of n g1 p +ℤ (depth_of n g2 p +ℤ depth_of n g3 p))) (square_of n)
           as_depths
           (at_least_mul K (depth_of n g1 p +ℤ (depth_of n g2 p +ℤ depth_of n g3 p)) (weak K some_k)
           (sum (depth_of n g1 p) (depth_of n g2 p) (depth_of n g3 p) (inside_1 p i) (inside_2 p i) (inside_3 p i)))
@@ -409,10 +409,10 @@ module _ (ps : List Pt3) where
               let D = λ (u v w : Term). var 0 ⊗ (var 4 ⊖ u) ⊕ (var 1 ⊗ (var 5 ⊖ v) ⊕ var 2 ⊗ (var 6 ⊖ w)) in
               let S = λ (q u v w s : Term). var 3 ⊗ ((q ⊖ u) ⊕ ((q ⊖ v) ⊕ (q ⊖ w))) ⊕ s in
               ring (n.x ∷ n.y ∷ n.z ∷ K ∷ p.x ∷ p.y ∷ p.z ∷ g1.x ∷ g1.y ∷ g1.z ∷ g2.x ∷ g2.y
-                  ∷ g2.z ∷ g3.x ∷ g3.y ∷ g3.z ∷ [])
+              ∷ g2.z ∷ g3.x ∷ g3.y ∷ g3.z ∷ [])
               (var 1 ⊗ S (var 5) (var 8) (var 11) (var 14) (var 1)
               ⊕ (var 0 ⊗ S (var 4) (var 7) (var 10) (var 13) (var 0) ⊕ var 2
-                  ⊗ S (var 6) (var 9) (var 12) (var 15) (var 2)))
+              ⊗ S (var 6) (var 9) (var 12) (var 15) (var 2)))
               (var 3 ⊗ (D (var 7) (var 8) (var 9) ⊕ (D (var 10) (var 11) (var 12) ⊕ D (var 13) (var 14) (var 15)))
               ⊕ (var 0 ⊗ var 0 ⊕ (var 1 ⊗ var 1 ⊕ var 2 ⊗ var 2))) refl
 
@@ -438,12 +438,12 @@ module _ (ps : List Pt3) where
               ∙ ring (n.x ∷ n.y ∷ n.z ∷ (g3.x -ℤ g1.x) ∷ (g3.y -ℤ g1.y) ∷ (g3.z -ℤ g1.z) ∷ [])
               (var 0 ⊗ (num (pos 0) ⊗ var 5 ⊖ num (pos 0) ⊗ var 4)
               ⊕ (var 1 ⊗ (num (pos 0) ⊗ var 3 ⊖ num (pos 0) ⊗ var 5) ⊕ var 2
-                  ⊗ (num (pos 0) ⊗ var 4 ⊖ num (pos 0) ⊗ var 3)))
+              ⊗ (num (pos 0) ⊗ var 4 ⊖ num (pos 0) ⊗ var 3)))
               (num (pos 0)) refl)
 
       across : pos 0 <ℤ ((n.x *ℤ vz -ℤ n.z *ℤ vx) *ℤ (n.x *ℤ vz -ℤ n.z *ℤ vx)
           +ℤ ((n.z *ℤ vy -ℤ n.y *ℤ vz) *ℤ (n.z *ℤ vy -ℤ n.y *ℤ vz) +ℤ (n.y *ℤ vx -ℤ n.x *ℤ vy)
-              *ℤ (n.y *ℤ vx -ℤ n.x *ℤ vy)))
+          *ℤ (n.y *ℤ vx -ℤ n.x *ℤ vy)))
       across =
           let A = var 0 ⊗ var 5 ⊖ var 2 ⊗ var 3 in
           let B = var 2 ⊗ var 4 ⊖ var 1 ⊗ var 5 in
@@ -453,7 +453,7 @@ module _ (ps : List Pt3) where
           let U = var 0 ⊗ var 3 ⊕ (var 1 ⊗ var 4 ⊕ var 2 ⊗ var 5) in
           subst (λ (z : ℤ). pos 0 <ℤ z)
           (sym (ring (n.x ∷ n.y ∷ n.z ∷ vx ∷ vy ∷ vz ∷ []) (A ⊗ A ⊕ (B ⊗ B ⊕ C ⊗ C))
-              (N ⊗ W ⊖ U ⊗ U) refl
+          (N ⊗ W ⊖ U ⊗ U) refl
           ∙ ap (λ (z : ℤ). square_of n *ℤ way_square g1 g2 -ℤ z *ℤ z) flat_2
           ∙ ring (square_of n ∷ way_square g1 g2 ∷ []) (var 0 ⊗ var 1 ⊖ num (pos 0) ⊗ num (pos 0))
           (var 0 ⊗ var 1) refl))
@@ -511,8 +511,13 @@ module _ (ps : List Pt3) where
     pub ring_of : (face : List Pt3) → IsFace ps face → IsRing ps face
     ring_of face h =
         let plane = plane_of ps sorted h.base h.normal h.some h.inward face h.ring in
-        record { base = h.base; normal = h.normal; plane = plane; is
-            = only_ring ps sorted h.base h.normal plane face h.ring }
+        record {
+          base = h.base;
+          normal = h.normal;
+          plane = plane;
+          is
+              = only_ring ps sorted h.base h.normal plane face h.ring;
+        }
 
     listed : (r : List Pt3) → IsRing ps r → In r (faces_of ps)
     listed r R = in_of (faces_of ps) r (subst (Contains (faces_of ps)) (sym R.is)
@@ -549,7 +554,7 @@ module _ (ps : List Pt3) where
           same_lists face_cmp faces_total D (faces_of ps) (distinct_sorted face_cmp faces_total rings) (faces_sorted)
           (λ g i. listed g (of_in (IsRing ps) D g all_are i))
           (λ g i. in_list D (to_distinct face_cmp faces_total faces_exact rings first has_first) all_are differing
-              backs_too g
+          backs_too g
           (ring_of g (of_in (IsFace ps) (faces_of ps) g (faces_are ps sorted) i)))
         where
           faces_sorted : IsStrictlySortedBy face_cmp (faces_of ps)

@@ -16,7 +16,7 @@ module _ {X : Type 0} (c : X → X → Ordering) where
   put_keeps P [] k h p = (p, tt)
   put_keeps P (x ∷ xs) k h p =
       elim (c k x) as (λ o. AllByRecursion P
-          (match_ordering o (k ∷ (x ∷ xs)) (x ∷ xs) (x ∷ insert_key c xs k))) [
+      (match_ordering o (k ∷ (x ∷ xs)) (x ∷ xs) (x ∷ insert_key c xs k))) [
         | Less ↦ (p, h)
         | Equal ↦ h
         | Greater ↦ (h.0, put_keeps P xs k h.1 p)
@@ -37,7 +37,7 @@ module _ {X : Type 0} (c : X → X → Ordering) where
     put_had P (x ∷ xs) k h =
         elim (c k x) as (λ o. c k x ≡ o → AllByRecursion P
         (match_ordering o (k ∷ (x ∷ xs)) (x ∷ xs) (x ∷ insert_key c xs k))
-            → P k × AllByRecursion P (x ∷ xs)) [
+        → P k × AllByRecursion P (x ∷ xs)) [
           | Less ↦ (λ e g. (g.0, g.1))
           | Equal ↦ (λ e g. (subst P (sym (exact k x e)) g.0, g))
           | Greater ↦ (λ e g. let r = put_had P xs k g.1 in (r.0, (g.0, r.1)))

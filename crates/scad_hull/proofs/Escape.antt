@@ -128,7 +128,7 @@ module _ (x y w : Pt3 → ℤ) where
     turns : (s : Side) → T (reversed s) ≡ neg_ℤ (T s)
     turns s =
         ap (λ (b : Bool). if b then swing true true (spot s.to) (spot s.from) else pos 0)
-            (and_comm (int_lt (pos 0) (w s.to)) (int_lt (pos 0) (w s.from)))
+        (and_comm (int_lt (pos 0) (w s.to)) (int_lt (pos 0) (w s.from)))
         ∙ turned_by (is_ahead s) (swing true true (spot s.to) (spot s.from))
         (swing true true (spot s.from) (spot s.to)) (swing_turned true true (spot s.from) (spot s.to))
 
@@ -168,10 +168,10 @@ module _ (x y w : Pt3 → ℤ) where
         let Y = λ (u v : Term). (v11 ⊗ u ⊖ v10 ⊗ v) in
         ring (x a ∷ y a ∷ w a ∷ x b ∷ y b ∷ w b ∷ x c ∷ y c ∷ w c ∷ kx ∷ ky ∷ kw ∷ [])
         (v2 ⊗ (X v3 v5 ⊗ Y v7 v8 ⊖ Y v4 v5 ⊗ X v6 v8)
-            ⊕ (v5 ⊗ (X v6 v8 ⊗ Y v1 v2 ⊖ Y v7 v8 ⊗ X v0 v2) ⊕ v8
-            ⊗ (X v0 v2 ⊗ Y v4 v5 ⊖ Y v1 v2 ⊗ X v3 v5)))
+        ⊕ (v5 ⊗ (X v6 v8 ⊗ Y v1 v2 ⊖ Y v7 v8 ⊗ X v0 v2) ⊕ v8
+        ⊗ (X v0 v2 ⊗ Y v4 v5 ⊖ Y v1 v2 ⊗ X v3 v5)))
         ((v11 ⊗ v11) ⊗ (v2 ⊗ (v3 ⊗ v7 ⊖ v4 ⊗ v6)
-            ⊕ (v5 ⊗ (v6 ⊗ v1 ⊖ v7 ⊗ v0) ⊕ v8 ⊗ (v0 ⊗ v4 ⊖ v1 ⊗ v3)))) refl
+        ⊕ (v5 ⊗ (v6 ⊗ v1 ⊖ v7 ⊗ v0) ⊕ v8 ⊗ (v0 ⊗ v4 ⊖ v1 ⊗ v3)))) refl
 
     swing_on : (a b : Point) → pos 0 ≤ℤ cross a b → pos 0 ≤ℤ swing true true a b
     unfolding swing
@@ -191,16 +191,16 @@ module _ (x y w : Pt3 → ℤ) where
         let o = h.third in
         let p = positive_product (kw *ℤ kw) (volume t.a t.b t.c) (positive_product kw kw ahead ahead) h.round in
         sum_up (w t.a *ℤ cross (spot t.b) (spot t.c)) (w t.b *ℤ cross (spot t.c) (spot t.a))
-            (w t.c *ℤ cross (spot t.a) (spot t.b)) ((kw *ℤ kw) *ℤ volume t.a t.b t.c) (weighed t.a t.b t.c)
+        (w t.c *ℤ cross (spot t.a) (spot t.b)) ((kw *ℤ kw) *ℤ volume t.a t.b t.c) (weighed t.a t.b t.c)
         (mul_low (w t.a) (cross (spot t.b) (spot t.c)) f
-            (opposite (cross (spot t.c) (spot t.b)) (cross (spot t.b) (spot t.c)) (cross_turned (spot t.b) (spot t.c))
-            r.first))
+        (opposite (cross (spot t.c) (spot t.b)) (cross (spot t.b) (spot t.c)) (cross_turned (spot t.b) (spot t.c))
+        r.first))
         (mul_low (w t.b) (cross (spot t.c) (spot t.a)) s
-            (opposite (cross (spot t.a) (spot t.c)) (cross (spot t.c) (spot t.a)) (cross_turned (spot t.c) (spot t.a))
-            r.third))
+        (opposite (cross (spot t.a) (spot t.c)) (cross (spot t.c) (spot t.a)) (cross_turned (spot t.c) (spot t.a))
+        r.third))
         (mul_low (w t.c) (cross (spot t.a) (spot t.b)) o
-            (opposite (cross (spot t.b) (spot t.a)) (cross (spot t.a) (spot t.b)) (cross_turned (spot t.a) (spot t.b))
-            r.second))
+        (opposite (cross (spot t.b) (spot t.a)) (cross (spot t.a) (spot t.b)) (cross_turned (spot t.a) (spot t.b))
+        r.second))
         p
 
     at_rest : (z : ℤ) → z ≡ pos 0 → pos 0 ≤ℤ z
@@ -216,13 +216,13 @@ module _ (x y w : Pt3 → ℤ) where
     each_plain t h =
         let none = λ (n : ¬ IsRound (spot t.a) (spot t.b) (spot t.c)). at_rest (plain_round t) (triangle true true (spot t.a) (spot t.b) (spot t.c) n (not_back t h)) in
         by_lt_z (cross (spot t.b) (spot t.c)) (pos 0)
-            (λ l. none (λ r. both_signs (cross (spot t.b) (spot t.c)) l r.first))
+        (λ l. none (λ r. both_signs (cross (spot t.b) (spot t.c)) l r.first))
         (λ f. by_lt_z (cross (spot t.c) (spot t.a)) (pos 0)
-            (λ l. none (λ r. both_signs (cross (spot t.c) (spot t.a)) l r.second))
+        (λ l. none (λ r. both_signs (cross (spot t.c) (spot t.a)) l r.second))
         (λ s. by_lt_z (cross (spot t.a) (spot t.b)) (pos 0)
-            (λ l. none (λ r. both_signs (cross (spot t.a) (spot t.b)) l r.third))
+        (λ l. none (λ r. both_signs (cross (spot t.a) (spot t.b)) l r.third))
         (λ o. sum_on (swing true true (spot t.a) (spot t.b)) (swing true true (spot t.b) (spot t.c))
-            (swing true true (spot t.c) (spot t.a))
+        (swing true true (spot t.c) (spot t.a))
         (swing_on (spot t.a) (spot t.b) o) (swing_on (spot t.b) (spot t.c) f) (swing_on (spot t.c) (spot t.a) s))))
 
     each_on : (t : Triangle) → IsSided t → pos 0 ≤ℤ round_of t
@@ -233,7 +233,7 @@ module _ (x y w : Pt3 → ℤ) where
     each_on t (inr h) =
         let a = unseen t.a t.b h.first in let b = unseen t.b t.c h.second in let c = unseen t.c t.a h.third in
         none (T (record { from = t.a; to = t.b })) (T (record { from = t.b; to = t.c }))
-            (T (record { from = t.c; to = t.a })) a b c
+        (T (record { from = t.c; to = t.a })) a b c
       where
         none : (x y z : ℤ) → x ≡ pos 0 → y ≡ pos 0 → z ≡ pos 0 → pos 0 ≤ℤ (x +ℤ (y +ℤ z))
         none x y z a b c = omega (arith, ints)
@@ -280,7 +280,7 @@ module _ (x y w : Pt3 → ℤ) where
         ring (x t.a ∷ y t.a ∷ w t.a ∷ x t.b ∷ y t.b ∷ w t.b ∷ x t.c ∷ y t.c ∷ w t.c ∷ [])
         ((C ⊗ v0 ⊖ A ⊗ v2) ⊗ (C ⊗ v4 ⊖ B ⊗ v5) ⊖ (C ⊗ v1 ⊖ B ⊗ v2) ⊗ (C ⊗ v3 ⊖ A ⊗ v5))
         (C ⊗ (v2 ⊗ (v3 ⊗ v7 ⊖ v4 ⊗ v6)
-            ⊕ (v5 ⊗ (v6 ⊗ v1 ⊖ v7 ⊗ v0) ⊕ v8 ⊗ (v0 ⊗ v4 ⊖ v1 ⊗ v3)))) refl
+        ⊕ (v5 ⊗ (v6 ⊗ v1 ⊖ v7 ⊗ v0) ⊕ v8 ⊗ (v0 ⊗ v4 ⊖ v1 ⊗ v3)))) refl
 
     inside_second : cross (seen t.b) (seen t.c) ≡ kw *ℤ volume t.a t.b t.c
     unfolding volume cross
@@ -291,7 +291,7 @@ module _ (x y w : Pt3 → ℤ) where
         ring (x t.a ∷ y t.a ∷ w t.a ∷ x t.b ∷ y t.b ∷ w t.b ∷ x t.c ∷ y t.c ∷ w t.c ∷ [])
         ((C ⊗ v3 ⊖ A ⊗ v5) ⊗ (C ⊗ v7 ⊖ B ⊗ v8) ⊖ (C ⊗ v4 ⊖ B ⊗ v5) ⊗ (C ⊗ v6 ⊖ A ⊗ v8))
         (C ⊗ (v2 ⊗ (v3 ⊗ v7 ⊖ v4 ⊗ v6)
-            ⊕ (v5 ⊗ (v6 ⊗ v1 ⊖ v7 ⊗ v0) ⊕ v8 ⊗ (v0 ⊗ v4 ⊖ v1 ⊗ v3)))) refl
+        ⊕ (v5 ⊗ (v6 ⊗ v1 ⊖ v7 ⊗ v0) ⊕ v8 ⊗ (v0 ⊗ v4 ⊖ v1 ⊗ v3)))) refl
 
     inside_third : cross (seen t.c) (seen t.a) ≡ kw *ℤ volume t.a t.b t.c
     unfolding volume cross
@@ -302,7 +302,7 @@ module _ (x y w : Pt3 → ℤ) where
         ring (x t.a ∷ y t.a ∷ w t.a ∷ x t.b ∷ y t.b ∷ w t.b ∷ x t.c ∷ y t.c ∷ w t.c ∷ [])
         ((C ⊗ v6 ⊖ A ⊗ v8) ⊗ (C ⊗ v1 ⊖ B ⊗ v2) ⊖ (C ⊗ v7 ⊖ B ⊗ v8) ⊗ (C ⊗ v0 ⊖ A ⊗ v2))
         (C ⊗ (v2 ⊗ (v3 ⊗ v7 ⊖ v4 ⊗ v6)
-            ⊕ (v5 ⊗ (v6 ⊗ v1 ⊖ v7 ⊗ v0) ⊕ v8 ⊗ (v0 ⊗ v4 ⊖ v1 ⊗ v3)))) refl
+        ⊕ (v5 ⊗ (v6 ⊗ v1 ⊖ v7 ⊗ v0) ⊕ v8 ⊗ (v0 ⊗ v4 ⊖ v1 ⊗ v3)))) refl
 
     heights : (seen t.a).y +ℤ ((seen t.b).y +ℤ (seen t.c).y) ≡ pos 0
     heights =
@@ -344,15 +344,15 @@ module _ (x y w : Pt3 → ℤ) where
     not_alike false a b c =
         nothing (cross (seen t.a) (seen t.b)) (positive_by (cross (seen t.a) (seen t.b)) inside)
         (flat_cross (seen t.a) (seen t.b) (all_flat (seen t.a).y (seen t.b).y (seen t.c).y heights a b c)
-            (flat_second (seen t.a).y (seen t.b).y (seen t.c).y heights a b c))
+        (flat_second (seen t.a).y (seen t.b).y (seen t.c).y heights a b c))
 
     goes_round : pos 1 ≤ℤ plain_round kx ky kw middle_ahead t
     unfolding swing
     goes_round =
         round_up (is_beyond true (seen t.a).y) (is_beyond true (seen t.b).y) (is_beyond true (seen t.c).y)
-            (cross (seen t.a) (seen t.b)) (cross (seen t.b) (seen t.c)) (cross (seen t.c) (seen t.a))
+        (cross (seen t.a) (seen t.b)) (cross (seen t.b) (seen t.c)) (cross (seen t.c) (seen t.a))
         (positive_by (cross (seen t.a) (seen t.b)) inside) (positive_by (cross (seen t.b) (seen t.c)) inside_second)
-            (positive_by (cross (seen t.c) (seen t.a)) inside_third)
+        (positive_by (cross (seen t.c) (seen t.a)) inside_third)
         (λ e f. not_alike (is_beyond true (seen t.a).y) refl (sym e) (sym f ∙ sym e))
 
     too_much : (s r u p : ℤ) → s ≡ pos 0 → s ≡ r +ℤ u → r ≡ p → pos 1 ≤ℤ p → pos 0 ≤ℤ u
@@ -364,8 +364,8 @@ module _ (x y w : Pt3 → ℤ) where
     pub one_open : (ts : List Triangle) → AllByRecursion IsSided ts → is_closed (t ∷ ts) ≡ true → ⊥
     one_open ts all closed =
         too_much (flow (T kx ky kw middle_ahead) (turns kx ky kw middle_ahead) (sides (t ∷ ts)))
-            (round_of kx ky kw middle_ahead t) (flow (T kx ky kw middle_ahead) (turns kx ky kw middle_ahead) (sides ts))
-            (plain_round kx ky kw middle_ahead t)
+        (round_of kx ky kw middle_ahead t) (flow (T kx ky kw middle_ahead) (turns kx ky kw middle_ahead) (sides ts))
+        (plain_round kx ky kw middle_ahead t)
         (closed_flow (T kx ky kw middle_ahead) (turns kx ky kw middle_ahead) (t ∷ ts) closed)
         (flow_on kx ky kw middle_ahead t ts) (round_plain kx ky kw middle_ahead t h) goes_round
-            (all_on kx ky kw middle_ahead ts all)
+        (all_on kx ky kw middle_ahead ts all)

@@ -138,7 +138,7 @@ pub all_inside : (n : Normal) (a : Pt3) (ps : List Pt3)
 all_inside n a [] e = tt
 all_inside n a (p ∷ ps) e =
     by_tests (all_inside n a ps) (int_lt (depth_of n a p) (pos 0)) refl
-        (list_any (λ q. int_lt (depth_of n a q) (pos 0)) ps) refl e
+    (list_any (λ q. int_lt (depth_of n a q) (pos 0)) ps) refl e
   where
     not_below : (z : ℤ) → int_lt z (pos 0) ≡ false → pos 0 ≤ℤ z
     not_below z h = omega (arith, ints)
@@ -159,7 +159,7 @@ second_in a b c =
     (((var 4 ⊖ var 1) ⊗ (var 8 ⊖ var 2) ⊖ (var 5 ⊖ var 2) ⊗ (var 7 ⊖ var 1)) ⊗ (var 3 ⊖ var 0)
     ⊕ (((var 5 ⊖ var 2) ⊗ (var 6 ⊖ var 0) ⊖ (var 3 ⊖ var 0) ⊗ (var 8 ⊖ var 2)) ⊗ (var 4 ⊖ var 1)
     ⊕ ((var 3 ⊖ var 0) ⊗ (var 7 ⊖ var 1) ⊖ (var 4 ⊖ var 1) ⊗ (var 6 ⊖ var 0)) ⊗ (var 5 ⊖ var 2)))
-        (num (pos 0)) refl
+    (num (pos 0)) refl
 
 pub third_in : (a b c : Pt3) → depth_of (normal_of a b c) a c ≡ pos 0
 third_in a b c =
@@ -167,7 +167,7 @@ third_in a b c =
     (((var 4 ⊖ var 1) ⊗ (var 8 ⊖ var 2) ⊖ (var 5 ⊖ var 2) ⊗ (var 7 ⊖ var 1)) ⊗ (var 6 ⊖ var 0)
     ⊕ (((var 5 ⊖ var 2) ⊗ (var 6 ⊖ var 0) ⊖ (var 3 ⊖ var 0) ⊗ (var 8 ⊖ var 2)) ⊗ (var 7 ⊖ var 1)
     ⊕ ((var 3 ⊖ var 0) ⊗ (var 7 ⊖ var 1) ⊖ (var 4 ⊖ var 1) ⊗ (var 6 ⊖ var 0)) ⊗ (var 8 ⊖ var 2)))
-        (num (pos 0)) refl
+    (num (pos 0)) refl
 
 abbrev inner_of : {X : Type 0} → X → Option X → X
 inner_of d None = d
@@ -191,9 +191,9 @@ module _ (ps : List Pt3) (sorted : IsStrictlySortedBy space_cmp ps) where
     pub ring_there : IsConvexRing (face_left n) Before Q (face_in ps a n)
     ring_there =
         face_made ps sorted a n plane.some plane.first plane.second plane.third
-            (in_q plane.first plane.has_first plane.flat_first)
+        (in_q plane.first plane.has_first plane.flat_first)
         (in_q plane.second plane.has_second plane.flat_second) (in_q plane.third plane.has_third plane.flat_third)
-            plane.round
+        plane.round
 
     lower_of : (p q : Pt3) → depth_of n a p ≡ pos 0 → depth_of n a q ≡ pos 0 → Before p q
         → IsSpaceBefore p q
@@ -235,7 +235,7 @@ module _ (ps : List Pt3) (sorted : IsStrictlySortedBy space_cmp ps) where
         starts = first_before (face_in ps a n)
             (all_changed (λ q i. All-contains (λ p. depth_of n a p ≡ pos 0) Q q
             (All-from_recursion (λ p. depth_of n a p ≡ pos 0) Q (all_flat ps sorted a n plane.some)) i)
-                (face_in ps a n)
+            (face_in ps a n)
             (recursion_of (Contains Q) (face_in ps a n) ring_there.corners)) ring_there.starts;
       };
     }

@@ -27,9 +27,12 @@ mirrored_ahead : (f g : Pt3 → ℤ) (m b o : Pt3) → IsBefore f g m b → IsBe
     → left g f m b o ≡ pos 0
     → (zx : ℤ) × (zy : ℤ) × (pos 0 <ℤ far g f m zx zy b) × (pos 0 <ℤ far g f m zx zy o)
 mirrored_ahead f g m b o hb ho flat =
-    let (zx, zy, kb, ko) = onward_ahead f g m b o hb ho (other_zero (left g f m b o) (left f g m b o) (exchanged f g m b o) flat) in
-    (pos 0 -ℤ zy, pos 0 -ℤ zx, subst (λ (z : ℤ). pos 0 <ℤ z) (same zx zy b) kb,
-        subst (λ (z : ℤ). pos 0 <ℤ z) (same zx zy o) ko)
+    let (zx, zy, kb, ko) = onward_ahead f g m b o hb ho (other_zero (left g f m b o) (left f g m b o) (exchanged f g m b o) flat) in (
+      pos 0 -ℤ zy,
+      pos 0 -ℤ zx,
+      subst (λ (z : ℤ). pos 0 <ℤ z) (same zx zy b) kb,
+      subst (λ (z : ℤ). pos 0 <ℤ z) (same zx zy o) ko,
+    )
   where
     same : (zx zy : ℤ) (p : Pt3) → far f g m zx zy p ≡ far g f m (pos 0 -ℤ zy) (pos 0 -ℤ zx) p
     same zx zy p =
@@ -63,14 +66,14 @@ module _ (ps : List Pt3) (sorted : IsStrictlySortedBy space_cmp ps) (a : Pt3) (n
       ⊎ (face_left n ≡ left (seen n plane_is.some).g (seen n plane_is.some).f) → Determined (face_left n)
   by_order (inl e) = subst Determined (sym e)
       (one_ring (seen n plane_is.some).f (seen n plane_is.some).g Before
-          (Same (seen n plane_is.some).f (seen n plane_is.some).g)
+      (Same (seen n plane_is.some).f (seen n plane_is.some).g)
       (plane (seen n plane_is.some).f (seen n plane_is.some).g) Q exact_at exact_at
       (onward_ahead (seen n plane_is.some).f (seen n plane_is.some).g))
   by_order (inr e) = subst Determined (sym e)
       (one_ring (seen n plane_is.some).g (seen n plane_is.some).f Before
-          (Same (seen n plane_is.some).f (seen n plane_is.some).g)
+      (Same (seen n plane_is.some).f (seen n plane_is.some).g)
       (mirrored (seen n plane_is.some).f (seen n plane_is.some).g) Q (λ p q i j s. exact_at p q i j (s.1, s.0))
-          exact_at
+      exact_at
       (mirrored_ahead (seen n plane_is.some).f (seen n plane_is.some).g))
 
   first_in : (ring : List Pt3) → AllByRecursion (Contains Q) ring → StartsFirst (face_left n) IsSpaceBefore ring
@@ -134,6 +137,6 @@ module _ (ps : List Pt3) (sorted : IsStrictlySortedBy space_cmp ps) where
           round = climbs (seen n some).scale (square_of n) (dot_of n (normal_of r0 r1 r2)) (face_left n r0 r1 r2)
               (seen n some).positive some
               ((seen n some).scaled r0 r1 r2 (flat_between ps sorted a n some r0 r1 e0 e1)
-                  (flat_between ps sorted a n some r0 r2 e0 e2))
+              (flat_between ps sorted a n some r0 r2 e0 e2))
               h.turns.0;
         }

@@ -73,7 +73,7 @@ clash : (x y z v : ℤ) → pos 0 <ℤ y → pos 0 <ℤ (x -ℤ y) → pos 0 ≤
 clash x y z v hy hx hz hv e =
     against ((x -ℤ y) *ℤ z) (y *ℤ (z -ℤ v)) (x *ℤ z) (y *ℤ v)
     (ring (x ∷ y ∷ z ∷ v ∷ []) ((var 0 ⊖ var 1) ⊗ var 2 ⊕ var 1 ⊗ (var 2 ⊖ var 3))
-        (var 0 ⊗ var 2 ⊖ var 1 ⊗ var 3) refl)
+    (var 0 ⊗ var 2 ⊖ var 1 ⊗ var 3) refl)
     (at_least_mul (x -ℤ y) z (weak (x -ℤ y) hx) hz) (positive_product y (z -ℤ v) hy hv) e
   where
     against : (s t p q : ℤ) → s +ℤ t ≡ p -ℤ q → pos 0 ≤ℤ s → pos 0 <ℤ t → p ≡ q → ⊥
@@ -103,7 +103,7 @@ module _ {X : Type 0} (turn : X → X → X → ℤ) (Before Same : X → X → 
         flat e =
             both_ways (turn t b a) (turn t a b) (plane.turned t a b)
             (plane.through t b a q hb ha hq (back_nought (turn t q a) (turn t a q) (plane.turned t a q) e)
-                (weak (turn t b q) k)) h
+            (weak (turn t b q) k)) h
 
     no_flat : (u a b w : X) → Before t u → Before t a → Before t b → pos 0 <ℤ turn t u a
         → pos 0 <ℤ turn u a b → pos 0 <ℤ turn a b w → pos 0 ≤ℤ turn b w t → turn t a b ≡ pos 0 → ⊥
@@ -119,7 +119,7 @@ module _ {X : Type 0} (turn : X → X → X → ℤ) (Before Same : X → X → 
         flat f =
             both_ways (turn t a u) (turn t u a) (plane.turned t u a)
             (plane.through t a u b ha hu hb (back_nought (turn t b u) (turn t u b) (plane.turned t u b) f)
-                (nought (turn t a b) e)) x
+            (nought (turn t a b) e)) x
 
         ahead : pos 0 <ℤ turn t u b
         ahead = by_lt_z (pos 0) (turn t u b) (λ l. l) (λ l. absurd (flat (level (turn t u b)

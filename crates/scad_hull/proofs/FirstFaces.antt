@@ -95,7 +95,7 @@ module _ (ps : List Pt3) where
           let second = told_at (λ y. list_all (λ z. list_all (λ d. is_zero (inner a y z d)) ps) ps) first b spread.has_second in
           let third = told_at (λ z. list_all (λ d. is_zero (inner a b z d)) ps) second c spread.has_third in
           absurd (spread.off (zero_true (inner a b c spread.fourth)
-              (told_at (λ d. is_zero (inner a b c d)) third spread.fourth spread.has_fourth)))
+          (told_at (λ d. is_zero (inner a b c d)) third spread.fourth spread.has_fourth)))
 
   pub flat_in : (n : Normal) (a : Pt3) → pos 0 <ℤ square_of n
       → ((p : Pt3) → Contains ps p → depth_of n a p ≡ pos 0) → are_flat ps ≡ true
@@ -108,7 +108,7 @@ module _ (ps : List Pt3) where
         (All-contains (λ q. pos 0 ≤ℤ depth_of n a q) ps p plane.inward i)
         (All-contains (λ q. int_lt (pos 0) (depth_of n a q) ≡ false) ps p
         (All-from_recursion (λ q. int_lt (pos 0) (depth_of n a q) ≡ false) ps
-            (none_of (λ q. int_lt (pos 0) (depth_of n a q)) ps e)) i))
+        (none_of (λ q. int_lt (pos 0) (depth_of n a q)) ps e)) i))
       where
         level : (z : ℤ) → pos 0 ≤ℤ z → int_lt (pos 0) z ≡ false → z ≡ pos 0
         level z h k = omega (arith, ints)
@@ -154,7 +154,7 @@ module _ (ps : List Pt3) where
       flat p line =
           ring (a.x ∷ a.y ∷ a.z ∷ p.x ∷ p.y ∷ p.z ∷ [])
           (num (pos 0) ⊗ (var 3 ⊖ var 0)
-              ⊕ (num (pos 0) ⊗ (var 4 ⊖ var 1) ⊕ num (pos 1) ⊗ (var 5 ⊖ var 2)))
+          ⊕ (num (pos 0) ⊗ (var 4 ⊖ var 1) ⊕ num (pos 1) ⊗ (var 5 ⊖ var 2)))
           ((var 2 ⊖ var 2) ⊗ (var 3 ⊖ var 0) ⊖ ((var 0 ⊖ num (pos 1)) ⊖ var 0) ⊗ (var 5 ⊖ var 2)) refl
           ∙ line.y
 
@@ -198,10 +198,10 @@ module _ (ps : List Pt3) where
       → list_all (λ p. is_none (normal_of a (beside a) p)) (in_plane ps a n) ≡ true → ⊥
   met_off a n turned ia e =
       not_none (square_of n) (some ps a n turned ia)
-          (by_none (is_zero_all (All-contains (λ p. is_none (normal_of a (beside a) p) ≡ true) (in_plane ps a n)
-          turned.met
+      (by_none (is_zero_all (All-contains (λ p. is_none (normal_of a (beside a) p) ≡ true) (in_plane ps a n)
+      turned.met
       (All-from_recursion (λ p. is_none (normal_of a (beside a) p) ≡ true) (in_plane ps a n)
-          (each_of (λ p. is_none (normal_of a (beside a) p)) (in_plane ps a n) e))
+      (each_of (λ p. is_none (normal_of a (beside a) p)) (in_plane ps a n) e))
       (Contains-filter (λ q. is_zero (depth_of n a q)) ps turned.met turned.there
       (ap is_zero (ap (λ m. depth_of m a turned.met) turned.is ∙ third_in a (beside a) turned.met))))))
     where
@@ -214,7 +214,7 @@ module _ (ps : List Pt3) where
           let rest = and_parts (is_zero n.y) (is_zero n.z) first.1 in
           λ i. zero_true n.x first.0 i *ℤ zero_true n.x first.0 i
           +ℤ (zero_true n.y rest.0 i *ℤ zero_true n.y rest.0 i +ℤ zero_true n.z rest.1 i *ℤ zero_true n.z rest.1
-              i)
+          i)
 
   -- ---- the first point is the lowest
   not_lower : (a p : Pt3) → IsLower a p → IsNotLower a p
@@ -229,4 +229,4 @@ lowest [] sorted a l e = absurd (omega arith)
 lowest (p ∷ ps) sorted a l e =
     subst (λ q. All (IsNotLower q) (p ∷ ps)) (sym e)
     (All-from_recursion (IsNotLower p) (p ∷ ps)
-        (inr (refl, inr refl), all_changed (λ q h. not_lower ps p q (space_less p q h)) ps sorted.0))
+    (inr (refl, inr refl), all_changed (λ q h. not_lower ps p q (space_less p q h)) ps sorted.0))

@@ -72,11 +72,11 @@ module _ (ps : List Pt3) (a : Pt3) (n : Normal) (turned : IsTurned a (beside a) 
         let m = normal_of a d e in
         told_apart (sym (none_by m
         (nought_right (square_of n) m.x (sym (scaled_x n a d e hd he) ∙ ap (λ (t : ℤ). n.x *ℤ t) z
-            ∙ no_times n.x) (not_none (square_of n) some))
+        ∙ no_times n.x) (not_none (square_of n) some))
         (nought_right (square_of n) m.y (sym (scaled_y n a d e hd he) ∙ ap (λ (t : ℤ). n.y *ℤ t) z
-            ∙ no_times n.y) (not_none (square_of n) some))
+        ∙ no_times n.y) (not_none (square_of n) some))
         (nought_right (square_of n) m.z (sym (scaled_z n a d e hd he) ∙ ap (λ (t : ℤ). n.z *ℤ t) z
-            ∙ no_times n.z) (not_none (square_of n) some)))
+        ∙ no_times n.z) (not_none (square_of n) some)))
         ∙ off)
       where
         no_times : (k : ℤ) → k *ℤ pos 0 ≡ pos 0
@@ -85,9 +85,9 @@ module _ (ps : List Pt3) (a : Pt3) (n : Normal) (turned : IsTurned a (beside a) 
     turned_round : dot_of n (normal_of a e d) ≡ pos 0 -ℤ dot_of n (normal_of a d e)
     turned_round =
         ring (n.x ∷ n.y ∷ n.z ∷ (d.x -ℤ a.x) ∷ (d.y -ℤ a.y) ∷ (d.z -ℤ a.z) ∷ (e.x -ℤ a.x)
-            ∷ (e.y -ℤ a.y) ∷ (e.z -ℤ a.z) ∷ [])
+        ∷ (e.y -ℤ a.y) ∷ (e.z -ℤ a.z) ∷ [])
         (var 0 ⊗ (var 7 ⊗ var 5 ⊖ var 8 ⊗ var 4)
-            ⊕ (var 1 ⊗ (var 8 ⊗ var 3 ⊖ var 6 ⊗ var 5) ⊕ var 2 ⊗ (var 6 ⊗ var 4 ⊖ var 7 ⊗ var 3)))
+        ⊕ (var 1 ⊗ (var 8 ⊗ var 3 ⊖ var 6 ⊗ var 5) ⊕ var 2 ⊗ (var 6 ⊗ var 4 ⊖ var 7 ⊗ var 3)))
         (num (pos 0) ⊖ (var 0 ⊗ (var 4 ⊗ var 8 ⊖ var 5 ⊗ var 7)
         ⊕ (var 1 ⊗ (var 5 ⊗ var 6 ⊖ var 3 ⊗ var 8) ⊕ var 2 ⊗ (var 3 ⊗ var 7 ⊖ var 4 ⊗ var 6)))) refl
 
@@ -133,7 +133,7 @@ module _ (ps : List Pt3) (a : Pt3) (n : Normal) (turned : IsTurned a (beside a) 
     on_line : (p : Pt3) → Contains ps p → depth_of n a p ≡ pos 0 → is_none (normal_of a d p) ≡ true
     on_line p i e = All-contains (λ q. is_none (normal_of a d q) ≡ true) Q p
         (All-from_recursion (λ q. is_none (normal_of a d q) ≡ true) Q
-            (each_of (λ q. is_none (normal_of a d q)) Q line)) (in_q p i e)
+        (each_of (λ q. is_none (normal_of a d q)) Q line)) (in_q p i e)
 
     -- with a point off that line one turns on
     pub turned_again : (e : Pt3) → Contains ps e → is_none (normal_of a d e) ≡ false
@@ -143,7 +143,7 @@ module _ (ps : List Pt3) (a : Pt3) (n : Normal) (turned : IsTurned a (beside a) 
         (λ k f i h. line_by a d (get_or ps k f) (on_line (get_or ps k f) (All-contains_itself ps k f i) h)) e ie
         (by_lt_z (pos 0) (depth_of n a e) (λ h. h)
         (λ h. absurd (told_apart (sym (on_line e ie
-            (level (depth_of n a e) (All-contains (λ p. pos 0 ≤ℤ depth_of n a p) ps e inward ie) h)) ∙ off))))
+        (level (depth_of n a e) (All-contains (λ p. pos 0 ≤ℤ depth_of n a p) ps e inward ie) h)) ∙ off))))
 
 -- two points that make a turn with a third are two
 pub two_points : (a d e : Pt3) → is_none (normal_of a d e) ≡ false → pos 0 <ℤ way_square a d
@@ -158,4 +158,4 @@ two_points a d e off = by_lt_z (pos 0) (way_square a d) (λ h. h)
     one h = told_apart (sym (none_by (normal_of a d e)
         (flat (d.y -ℤ a.y) (d.z -ℤ a.z) (e.y -ℤ a.y) (e.z -ℤ a.z) h.1 h.2)
         (flat (d.z -ℤ a.z) (d.x -ℤ a.x) (e.z -ℤ a.z) (e.x -ℤ a.x) h.2 h.0)
-            (flat (d.x -ℤ a.x) (d.y -ℤ a.y) (e.x -ℤ a.x) (e.y -ℤ a.y) h.0 h.1)) ∙ off)
+        (flat (d.x -ℤ a.x) (d.y -ℤ a.y) (e.x -ℤ a.x) (e.y -ℤ a.y) h.0 h.1)) ∙ off)

@@ -37,7 +37,7 @@ module _ (ps : List Pt3) (a b : Pt3) (is : b ≡ beside a) where
       subst (λ x. IsTurned a x ps (normal_of a x c) 0) (sym is)
       (turned_at_least a ps low c i (All-contains (IsNotLower a) ps c low i)
       (λ line. told_apart (sym (none_by (normal_of a (beside a) c) line.x line.y line.z)
-          ∙ ap (λ x. is_none (normal_of a x c)) (sym is) ∙ off)))
+      ∙ ap (λ x. is_none (normal_of a x c)) (sym is) ∙ off)))
 
   pub turned_still : (n : Normal) → IsTurned a b ps n (length ps) → IsTurned a (beside a) ps n (length ps)
   turned_still n t = subst (λ x. IsTurned a x ps n (length ps)) is t
@@ -50,7 +50,7 @@ module _ (ps : List Pt3) (a b : Pt3) (is : b ≡ beside a) where
     pub some_met : list_all (λ p. is_none (normal_of a b p)) qs ≡ true → are_flat ps ≡ true
     some_met e =
         absurd (met_off ps a n turned ia (ap (λ x. list_all (λ p. is_none (normal_of a x p)) (in_plane ps a n))
-            (sym is)
+        (sym is)
         ∙ ap (λ xs. list_all (λ p. is_none (normal_of a b p)) xs) (sym met) ∙ e))
 
     in_met : (q : Pt3) → Contains qs q → Contains (in_plane ps a n) q
@@ -76,7 +76,7 @@ module _ (ps : List Pt3) (a b : Pt3) (is : b ≡ beside a) where
     in_ps : (q : Pt3) → Contains qs q → Contains ps q
     in_ps q i = All-contains (Contains ps) (in_plane ps a n) q
         (All-filter (λ p. is_zero (depth_of n a p)) (Contains ps) ps (All-contains_itself ps))
-            (subst (λ xs. Contains xs q) met i)
+        (subst (λ xs. Contains xs q) met i)
 
     -- a third point that isn't on the line
     pub third_plane : (e : Pt3) → Contains qs e → is_none (normal_of a d e) ≡ false → IsFacePlane ps a n
@@ -91,7 +91,7 @@ module _ (ps : List Pt3) (a b : Pt3) (is : b ≡ beside a) where
       inward = λ k f i. turned.inward k f i;
       line = λ k f i h. All-contains (λ p. is_none (normal_of a d p) ≡ true) qs (get_or ps k f)
           (All-from_recursion (λ p. is_none (normal_of a d p) ≡ true) qs
-              (each_of (λ p. is_none (normal_of a d p)) qs e))
+          (each_of (λ p. is_none (normal_of a d p)) qs e))
           (in_q (get_or ps k f) (All-contains_itself ps k f i) h);
       apart = ap (λ x. is_none (normal_of a x d)) (sym is) ∙ off;
     }
@@ -105,9 +105,9 @@ module _ (ps : List Pt3) (a d : Pt3) (edge : IsEdge ps a d) where
       (λ k f j h. line_by a d (get_or ps k f) (edge.line k f j h)) e i
       (by_lt_z (pos 0) (depth_of edge.normal a e) (λ h. h)
       (λ h. absurd (told_apart (sym (All-contains
-          (λ p. depth_of edge.normal a p ≡ pos 0 → is_none (normal_of a d p) ≡ true) ps e edge.line i
+      (λ p. depth_of edge.normal a p ≡ pos 0 → is_none (normal_of a d p) ≡ true) ps e edge.line i
       (level (depth_of edge.normal a e) (All-contains (λ p. pos 0 ≤ℤ depth_of edge.normal a p) ps e edge.inward i)
-          h)) ∙ off))))
+      h)) ∙ off))))
     where
       level : (z : ℤ) → pos 0 ≤ℤ z → z ≤ℤ pos 0 → z ≡ pos 0
       level z h k = omega (arith, ints)

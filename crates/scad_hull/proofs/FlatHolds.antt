@@ -92,9 +92,9 @@ unfolding side_by cross
 side_seen q a b =
     ring (a.x ∷ a.y ∷ a.d ∷ b.x ∷ b.y ∷ b.d ∷ q.x ∷ q.y ∷ q.d ∷ [])
     (((v3 ⊗ v2 ⊖ v0 ⊗ v5) ⊗ (v7 ⊗ v2 ⊖ v1 ⊗ v8) ⊖ (v4 ⊗ v2 ⊖ v1 ⊗ v5)
-        ⊗ (v6 ⊗ v2 ⊖ v0 ⊗ v8)) ⊗ v8)
+    ⊗ (v6 ⊗ v2 ⊖ v0 ⊗ v8)) ⊗ v8)
     (((v0 ⊗ v8 ⊖ v6 ⊗ v2) ⊗ (v4 ⊗ v8 ⊖ v7 ⊗ v5) ⊖ (v1 ⊗ v8 ⊖ v7 ⊗ v2)
-        ⊗ (v3 ⊗ v8 ⊖ v6 ⊗ v5)) ⊗ v2) refl
+    ⊗ (v3 ⊗ v8 ⊖ v6 ⊗ v5)) ⊗ v2) refl
 
 module _ (q : Point) (d : pos 0 <ℤ q.d) where
   one : pos 0 <ℤ pos 1

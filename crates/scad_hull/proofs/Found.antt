@@ -190,7 +190,7 @@ module _ (ps : List Pt3) (fs gs : List Face) (bs ds : List Bend) (keys ks : List
       subst (λ rs. IsFound ps rs ds ks) (sym (ap rings_of eg ∙ rings_more fs (f ∷ [])))
       (subst (λ xs. IsFound ps (rings_of fs ++ (f.ring.items ∷ [])) xs ks) (sym ed)
       (subst (λ xs. IsFound ps (rings_of fs ++ (f.ring.items ∷ [])) (bs ++ bends_of (round f.ring.items)) xs)
-          (sym ek)
+      (sym ek)
       (one_found ps (rings_of fs) bs keys f.ring.items found (ring_is ps f is))))
 
 pub extended : (fs gs : List Face) (f : Face) → gs ≡ fs ++ (f ∷ []) → Extends (rings_of fs) (rings_of gs)
@@ -246,7 +246,7 @@ more_backs rings more bs ds i b er eb inside is back before k d h =
         (back_kept rings more (get_or bs k d) er (before k d l))
     by_place (inr e) = subst (HasBack more)
         (is ∙ other_default bs i b d inside ∙ sym (place_kept bs eb.0 i d inside)
-            ∙ ap (λ j. get_or (bs ++ eb.0) j d) (sym e)) back
+        ∙ ap (λ j. get_or (bs ++ eb.0) j d) (sym e)) back
 
 longer : {X : Type 0} (xs ys : List X) → length (xs ++ ys) ≡ length xs + length ys
 longer [] ys = omega arith

@@ -40,11 +40,11 @@ module _ (n : Normal) (a b p : Pt3) (upright : depth_of n a b ≡ pos 0) (apart 
       let dot = λ (r s t u v w : Term). r ⊗ u ⊕ (s ⊗ v ⊕ t ⊗ w) in
       let W = λ (r s t u : Term). r ⊗ s ⊖ t ⊗ u in
       ring (n.x ∷ n.y ∷ n.z ∷ (b.x -ℤ a.x) ∷ (b.y -ℤ a.y) ∷ (b.z -ℤ a.z) ∷ (p.x -ℤ a.x)
-          ∷ (p.y -ℤ a.y) ∷ (p.z -ℤ a.z) ∷ [])
+      ∷ (p.y -ℤ a.y) ∷ (p.z -ℤ a.z) ∷ [])
       (dot (var 3) (var 4) (var 5) (var 3) (var 4) (var 5) ⊗ dot (var 0) (var 1) (var 2) (var 6) (var 7) (var 8))
       (dot (var 0) (var 1) (var 2) (var 3) (var 4) (var 5) ⊗ dot (var 3) (var 4) (var 5) (var 6) (var 7) (var 8)
       ⊖ dot (W (var 1) (var 5) (var 2) (var 4)) (W (var 2) (var 3) (var 0) (var 5))
-          (W (var 0) (var 4) (var 1) (var 3))
+      (W (var 0) (var 4) (var 1) (var 3))
       (W (var 4) (var 8) (var 5) (var 7)) (W (var 5) (var 6) (var 3) (var 8)) (W (var 3) (var 7) (var 4) (var 6))) refl
 
   pub aside_by : (n.z *ℤ (b.y -ℤ a.y) -ℤ n.y *ℤ (b.z -ℤ a.z)) *ℤ (p.x -ℤ a.x)
@@ -52,7 +52,7 @@ module _ (n : Normal) (a b p : Pt3) (upright : depth_of n a b ≡ pos 0) (apart 
       +ℤ (n.y *ℤ (b.x -ℤ a.x) -ℤ n.x *ℤ (b.y -ℤ a.y)) *ℤ (p.z -ℤ a.z)) ≡ pos 0 -ℤ dot_of n m
   aside_by =
       ring (n.x ∷ n.y ∷ n.z ∷ (b.x -ℤ a.x) ∷ (b.y -ℤ a.y) ∷ (b.z -ℤ a.z) ∷ (p.x -ℤ a.x)
-          ∷ (p.y -ℤ a.y) ∷ (p.z -ℤ a.z) ∷ [])
+      ∷ (p.y -ℤ a.y) ∷ (p.z -ℤ a.z) ∷ [])
       ((var 2 ⊗ var 4 ⊖ var 1 ⊗ var 5) ⊗ var 6
       ⊕ ((var 0 ⊗ var 5 ⊖ var 2 ⊗ var 3) ⊗ var 7 ⊕ (var 1 ⊗ var 3 ⊖ var 0 ⊗ var 4) ⊗ var 8))
       (num (pos 0) ⊖ (var 0 ⊗ (var 4 ⊗ var 8 ⊖ var 5 ⊗ var 7)
@@ -62,7 +62,7 @@ module _ (n : Normal) (a b p : Pt3) (upright : depth_of n a b ≡ pos 0) (apart 
   nothing h s t u v =
       ring (h ∷ s ∷ t ∷ u ∷ v ∷ [])
       (var 0 ⊗ var 1 ⊖ (var 2 ⊗ num (pos 0) ⊕ (var 3 ⊗ num (pos 0) ⊕ var 4 ⊗ num (pos 0))))
-          (var 0 ⊗ var 1) refl
+      (var 0 ⊗ var 1) refl
 
   on_no_side : IsInFront n a b p → m.x ≡ pos 0 → m.y ≡ pos 0 → m.z ≡ pos 0 → ⊥
   on_no_side front hx hy hz = by_front front

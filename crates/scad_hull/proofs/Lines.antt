@@ -72,7 +72,7 @@ module _ {X : Type 0} (f g : X → ℤ) (a b : X) (apart : IsBefore f g a b) whe
       ring (f a ∷ g a ∷ f b ∷ g b ∷ f p ∷ g p ∷ f q ∷ g q ∷ [])
       ((v2 ⊖ v0) ⊗ (v7 ⊖ v5) ⊖ (v3 ⊖ v1) ⊗ (v6 ⊖ v4))
       (((v2 ⊖ v0) ⊗ (v7 ⊖ v1) ⊖ (v3 ⊖ v1) ⊗ (v6 ⊖ v0))
-          ⊖ ((v2 ⊖ v0) ⊗ (v5 ⊖ v1) ⊖ (v3 ⊖ v1) ⊗ (v4 ⊖ v0))) refl
+      ⊖ ((v2 ⊖ v0) ⊗ (v5 ⊖ v1) ⊖ (v3 ⊖ v1) ⊗ (v4 ⊖ v0))) refl
 
   across : (x y z w u v : ℤ) → u *ℤ area x y z w ≡ x *ℤ area u v z w -ℤ z *ℤ area u v x y
   across x y z w u v =
@@ -145,7 +145,7 @@ end_on a b = as_zero (flat_left a b b) (ring (a.0 ∷ a.1 ∷ b.0 ∷ b.1 ∷ []
 start_on : (a b : ℤ × ℤ) → is_zero (flat_left a b a) ≡ true
 start_on a b = as_zero (flat_left a b a)
     (ring (a.0 ∷ a.1 ∷ b.0 ∷ b.1 ∷ []) ((v2 ⊖ v0) ⊗ (v1 ⊖ v1) ⊖ (v3 ⊖ v1) ⊗ (v0 ⊖ v0))
-        (num (pos 0)) refl)
+    (num (pos 0)) refl)
 
 -- where all points lie on the line through two differing ones, any three lie on one line
 pub line_of : (a b : ℤ × ℤ) → IsBefore (λ s. s.0) (λ s. s.1) a b → (ps : List (ℤ × ℤ))

@@ -85,7 +85,7 @@ module _ (ps : List Pt3) (sorted : IsStrictlySortedBy space_cmp ps) where
   face_listed face h =
       let plane = plane_of ps sorted h.base h.normal h.some h.inward face h.ring in
       subst (Contains (faces_of ps)) (sym (only_ring ps sorted h.base h.normal plane face h.ring))
-          (ring_listed ps h.base h.normal plane)
+      (ring_listed ps h.base h.normal plane)
 
 pub faces_are_convex : FacesAreConvex
 faces_are_convex = record {

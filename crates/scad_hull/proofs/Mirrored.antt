@@ -50,7 +50,7 @@ module _ {X : Type 0} (f g : X → ℤ) where
       ring (f a ∷ g a ∷ f b ∷ g b ∷ f c ∷ g c ∷ f p ∷ g p ∷ [])
       ((v3 ⊖ v1) ⊗ (v6 ⊖ v0) ⊖ (v2 ⊖ v0) ⊗ (v7 ⊖ v1))
       (((v3 ⊖ v1) ⊗ (v4 ⊖ v0) ⊖ (v2 ⊖ v0) ⊗ (v5 ⊖ v1))
-          ⊕ ((v6 ⊖ v4) ⊗ (v3 ⊖ v1) ⊖ (v7 ⊖ v5) ⊗ (v2 ⊖ v0))) refl
+      ⊕ ((v6 ⊖ v4) ⊗ (v3 ⊖ v1) ⊖ (v7 ⊖ v5) ⊗ (v2 ⊖ v0))) refl
 
   at : (t u p : X) → area (f p -ℤ f t) (g p -ℤ g t) (f u -ℤ f t) (g u -ℤ g t) ≡ left g f t u p
   at t u p =
@@ -89,7 +89,7 @@ module _ {X : Type 0} (f g : X → ℤ) where
             (area_on (f p -ℤ f t) (g p -ℤ g t) (f t -ℤ f u) (g t -ℤ g u) (f t -ℤ f q) (g t -ℤ g q) bp bu bq
             (weaker (left g f u t p) (area (f p -ℤ f t) (g p -ℤ g t) (f t -ℤ f u) (g t -ℤ g u)) (on u t p) k)
             (equal_sign (left g f u t q) (area (f t -ℤ f u) (g t -ℤ g u) (f t -ℤ f q) (g t -ℤ g q)) (to u t q)
-                h));
+            h));
         onward = λ a b c p ab bc cp h k.
             added (left g f a b p) (left g f a b c) (area (f p -ℤ f c) (g p -ℤ g c) (f b -ℤ f a) (g b -ℤ g a))
             (sum a b c p) h
@@ -100,9 +100,9 @@ module _ {X : Type 0} (f g : X → ℤ) where
             equal_sign (area (f p -ℤ f t) (g p -ℤ g t) (f u -ℤ f t) (g u -ℤ g t)) (left g f t u p) (at t u p)
             (area_on (f p -ℤ f t) (g p -ℤ g t) (f t -ℤ f q) (g t -ℤ g q) (f u -ℤ f t) (g u -ℤ g t) bp bq bu
             (equal_sign (left g f t p q) (area (f p -ℤ f t) (g p -ℤ g t) (f t -ℤ f q) (g t -ℤ g q))
-                (sym (from q t p)) k)
+            (sym (from q t p)) k)
             (equal_sign (left g f u t q) (area (f t -ℤ f q) (g t -ℤ g q) (f u -ℤ f t) (g u -ℤ g t))
-                (amid_to u t q) h));
+            (amid_to u t q) h));
       }
 
   -- ---- the same turned by half a turn
@@ -130,7 +130,7 @@ module _ {X : Type 0} (f g : X → ℤ) where
       ring (f a ∷ g a ∷ f b ∷ g b ∷ f c ∷ g c ∷ f p ∷ g p ∷ [])
       ((v3 ⊖ v1) ⊗ (v6 ⊖ v0) ⊖ (v2 ⊖ v0) ⊗ (v7 ⊖ v1))
       (((v3 ⊖ v1) ⊗ (v4 ⊖ v0) ⊖ (v2 ⊖ v0) ⊗ (v5 ⊖ v1))
-          ⊕ ((v4 ⊖ v6) ⊗ (v1 ⊖ v3) ⊖ (v5 ⊖ v7) ⊗ (v0 ⊖ v2))) refl
+      ⊕ ((v4 ⊖ v6) ⊗ (v1 ⊖ v3) ⊖ (v5 ⊖ v7) ⊗ (v0 ⊖ v2))) refl
 
   back_at : (t u p : X) → area (f t -ℤ f p) (g t -ℤ g p) (f t -ℤ f u) (g t -ℤ g u) ≡ left g f t u p
   back_at t u p =
@@ -163,26 +163,26 @@ module _ {X : Type 0} (f g : X → ℤ) where
             (equal_sign (left g f t w q) (left f g t q w) (flipped t w q) h));
         behind = λ q t u p bq bu bp h k.
             equal_sign (area (f t -ℤ f p) (g t -ℤ g p) (f q -ℤ f t) (g q -ℤ g t)) (left g f t p q)
-                (back_from q t p)
+            (back_from q t p)
             (area_on (f t -ℤ f p) (g t -ℤ g p) (f u -ℤ f t) (g u -ℤ g t) (f q -ℤ f t) (g q -ℤ g t) bp bu bq
             (weaker (left g f u t p) (area (f t -ℤ f p) (g t -ℤ g p) (f u -ℤ f t) (g u -ℤ g t)) (back_on u t p)
-                k)
+            k)
             (equal_sign (left g f u t q) (area (f u -ℤ f t) (g u -ℤ g t) (f q -ℤ f t) (g q -ℤ g t))
-                (back_to u t q) h));
+            (back_to u t q) h));
         onward = λ a b c p ab bc cp h k.
             added (left g f a b p) (left g f a b c) (area (f c -ℤ f p) (g c -ℤ g p) (f a -ℤ f b) (g a -ℤ g b))
             (back_sum a b c p) h
             (area_on (f c -ℤ f p) (g c -ℤ g p) (f b -ℤ f c) (g b -ℤ g c) (f a -ℤ f b) (g a -ℤ g b) cp bc ab
             (weaker (left g f b c p) (area (f c -ℤ f p) (g c -ℤ g p) (f b -ℤ f c) (g b -ℤ g c)) (back_on b c p)
-                k)
+            k)
             (weaker (left g f a b c) (area (f b -ℤ f c) (g b -ℤ g c) (f a -ℤ f b) (g a -ℤ g b)) (back_on a b c)
-                h));
+            h));
         amid = λ q t u p bq bu bp h k.
             equal_sign (area (f t -ℤ f p) (g t -ℤ g p) (f t -ℤ f u) (g t -ℤ g u)) (left g f t u p)
-                (back_at t u p)
+            (back_at t u p)
             (area_on (f t -ℤ f p) (g t -ℤ g p) (f q -ℤ f t) (g q -ℤ g t) (f t -ℤ f u) (g t -ℤ g u) bp bq bu
             (equal_sign (left g f t p q) (area (f t -ℤ f p) (g t -ℤ g p) (f q -ℤ f t) (g q -ℤ g t))
-                (sym (back_from q t p)) k)
+            (sym (back_from q t p)) k)
             (equal_sign (left g f u t q) (area (f q -ℤ f t) (g q -ℤ g t) (f t -ℤ f u) (g t -ℤ g u))
-                (amid_back u t q) h));
+            (amid_back u t q) h));
       }

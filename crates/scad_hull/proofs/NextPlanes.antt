@@ -76,17 +76,17 @@ module _ (n : Normal) (some : pos 0 <ℤ square_of n) (a b : Pt3) (flat : depth_
         x = negated (normal_of b a p).x (normal_of a b p).x (cross_back a.y a.z b.y b.z p.y p.z)
             (nought_right (square_of n) (normal_of a b p).x
             (no_product n.x (square_of n *ℤ (normal_of a b p).x) (dot_of n (normal_of a b p)) none
-                (scaled_x n a b p flat e))
+            (scaled_x n a b p flat e))
             (not_none (square_of n) some));
         y = negated (normal_of b a p).y (normal_of a b p).y (cross_back a.z a.x b.z b.x p.z p.x)
             (nought_right (square_of n) (normal_of a b p).y
             (no_product n.y (square_of n *ℤ (normal_of a b p).y) (dot_of n (normal_of a b p)) none
-                (scaled_y n a b p flat e))
+            (scaled_y n a b p flat e))
             (not_none (square_of n) some));
         z = negated (normal_of b a p).z (normal_of a b p).z (cross_back a.x a.y b.x b.y p.x p.y)
             (nought_right (square_of n) (normal_of a b p).z
             (no_product n.z (square_of n *ℤ (normal_of a b p).z) (dot_of n (normal_of a b p)) none
-                (scaled_z n a b p flat e))
+            (scaled_z n a b p flat e))
             (not_none (square_of n) some));
       }
 
@@ -97,7 +97,7 @@ module _ (n : Normal) (some : pos 0 <ℤ square_of n) (a b : Pt3) (flat : depth_
         moved p ∙ e,
         subst (λ (z : ℤ). pos 0 <ℤ z) (sym (aside_is p))
             (climbs v.scale (square_of n) (dot_of n (normal_of a b p)) (face_left n a b p) v.positive some
-                (v.scaled a b p flat e) h),
+            (v.scaled a b p flat e) h),
       )
 
   in_plane : (p : Pt3) → depth_of n a p ≡ pos 0 → pos 0 ≤ℤ face_left n a b p
@@ -162,7 +162,7 @@ module _ (a : Pt3) where
   height_is p =
       ring (a.x ∷ a.y ∷ a.z ∷ p.x ∷ p.y ∷ p.z ∷ [])
       (num (pos 0) ⊗ (var 3 ⊖ var 0) ⊕ (num (pos 0) ⊗ (var 4 ⊖ var 1) ⊕ num (pos 1) ⊗ (var 5 ⊖ var 2)))
-          (var 5 ⊖ var 2) refl
+      (var 5 ⊖ var 2) refl
 
   behind_is : (p : Pt3) → (pos 1 *ℤ (a.y -ℤ a.y) -ℤ pos 0 *ℤ (a.z -ℤ a.z)) *ℤ (p.x -ℤ a.x)
       +ℤ ((pos 0 *ℤ (a.z -ℤ a.z) -ℤ pos 1 *ℤ ((a.x -ℤ pos 1) -ℤ a.x)) *ℤ (p.y -ℤ a.y)
@@ -171,9 +171,9 @@ module _ (a : Pt3) where
       ring (a.x ∷ a.y ∷ a.z ∷ p.x ∷ p.y ∷ p.z ∷ [])
       ((num (pos 1) ⊗ (var 1 ⊖ var 1) ⊖ num (pos 0) ⊗ (var 2 ⊖ var 2)) ⊗ (var 3 ⊖ var 0)
       ⊕ ((num (pos 0) ⊗ (var 2 ⊖ var 2) ⊖ num (pos 1) ⊗ ((var 0 ⊖ num (pos 1)) ⊖ var 0))
-          ⊗ (var 4 ⊖ var 1)
+      ⊗ (var 4 ⊖ var 1)
       ⊕ (num (pos 0) ⊗ ((var 0 ⊖ num (pos 1)) ⊖ var 0) ⊖ num (pos 0) ⊗ (var 1 ⊖ var 1))
-          ⊗ (var 5 ⊖ var 2)))
+      ⊗ (var 5 ⊖ var 2)))
       (var 4 ⊖ var 1) refl
 
   rising : (s t : ℤ) → s <ℤ t → pos 0 <ℤ (t -ℤ s)
@@ -188,11 +188,11 @@ module _ (a : Pt3) where
         ((var 0 ⊖ var 0) ⊗ (var 3 ⊖ var 1) ⊖ (var 1 ⊖ var 1) ⊗ (var 2 ⊖ var 0)) (num (pos 0)) refl;
     y = ring (a.x ∷ a.z ∷ p.x ∷ p.z ∷ [])
         ((var 1 ⊖ var 1) ⊗ (var 2 ⊖ var 0) ⊖ ((var 0 ⊖ num (pos 1)) ⊖ var 0) ⊗ (var 3 ⊖ var 1))
-            (var 3 ⊖ var 1) refl
+        (var 3 ⊖ var 1) refl
         ∙ same_height a.z p.z ez;
     z = ring (a.x ∷ a.y ∷ p.x ∷ p.y ∷ [])
         (((var 0 ⊖ num (pos 1)) ⊖ var 0) ⊗ (var 3 ⊖ var 1) ⊖ (var 1 ⊖ var 1) ⊗ (var 2 ⊖ var 0))
-            (num (pos 0) ⊖ (var 3 ⊖ var 1)) refl
+        (num (pos 0) ⊖ (var 3 ⊖ var 1)) refl
         ∙ ap (λ (s : ℤ). pos 0 -ℤ s) (same_height a.y p.y ey);
   }
 

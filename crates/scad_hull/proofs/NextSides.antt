@@ -56,7 +56,7 @@ weighed s d kx ky kz nx ny nz mx my mz ex ey ez =
     ring (s ∷ kx ∷ ky ∷ kz ∷ mx ∷ my ∷ mz ∷ [])
     (var 0 ⊗ (num (pos 0) ⊖ (var 1 ⊗ var 4 ⊕ (var 2 ⊗ var 5 ⊕ var 3 ⊗ var 6))))
     (num (pos 0) ⊖ (var 1 ⊗ (var 0 ⊗ var 4) ⊕ (var 2 ⊗ (var 0 ⊗ var 5) ⊕ var 3 ⊗ (var 0 ⊗ var 6))))
-        refl
+    refl
     ∙ (λ i. pos 0 -ℤ (kx *ℤ sym ex i +ℤ (ky *ℤ sym ey i +ℤ kz *ℤ sym ez i)))
     ∙ ring (d ∷ kx ∷ ky ∷ kz ∷ nx ∷ ny ∷ nz ∷ [])
     (num (pos 0) ⊖ (var 1 ⊗ (var 4 ⊗ var 0) ⊕ (var 2 ⊗ (var 5 ⊗ var 0) ⊕ var 3 ⊗ (var 6 ⊗ var 0))))
@@ -149,14 +149,14 @@ pub along_in : (n : Normal) (some : pos 0 <ℤ square_of n) (a b q : Pt3) → Is
 along_in n some a b q line =
     by_order (seen n some).straight
     ((seen n some).along a b q (way_square a b) (part a b q) (along_x a b q line) (along_y a b q line)
-        (along_z a b q line))
+    (along_z a b q line))
   where
     by_order : (face_left n ≡ left (seen n some).f (seen n some).g)
         ⊎ (face_left n ≡ left (seen n some).g (seen n some).f)
         → (way_square a b *ℤ ((seen n some).f q -ℤ (seen n some).f a)
         ≡ part a b q *ℤ ((seen n some).f b -ℤ (seen n some).f a))
         × (way_square a b *ℤ ((seen n some).g q -ℤ (seen n some).g a)
-            ≡ part a b q *ℤ ((seen n some).g b -ℤ (seen n some).g a))
+        ≡ part a b q *ℤ ((seen n some).g b -ℤ (seen n some).g a))
         → IsAlong (face_left n) a b q (way_square a b) (part a b q)
     by_order (inl e) both = subst (λ turn. IsAlong turn a b q (way_square a b) (part a b q)) (sym e)
         (along_by (seen n some).f (seen n some).g a b q (way_square a b) (part a b q) both.0 both.1)
@@ -171,9 +171,9 @@ way_turned : (a b : Pt3) → way_square a b ≡ way_square b a
 way_turned a b =
     ring (a.x ∷ a.y ∷ a.z ∷ b.x ∷ b.y ∷ b.z ∷ [])
     ((var 3 ⊖ var 0) ⊗ (var 3 ⊖ var 0)
-        ⊕ ((var 4 ⊖ var 1) ⊗ (var 4 ⊖ var 1) ⊕ (var 5 ⊖ var 2) ⊗ (var 5 ⊖ var 2)))
+    ⊕ ((var 4 ⊖ var 1) ⊗ (var 4 ⊖ var 1) ⊕ (var 5 ⊖ var 2) ⊗ (var 5 ⊖ var 2)))
     ((var 0 ⊖ var 3) ⊗ (var 0 ⊖ var 3)
-        ⊕ ((var 1 ⊖ var 4) ⊗ (var 1 ⊖ var 4) ⊕ (var 2 ⊖ var 5) ⊗ (var 2 ⊖ var 5))) refl
+    ⊕ ((var 1 ⊖ var 4) ⊗ (var 1 ⊖ var 4) ⊕ (var 2 ⊖ var 5) ⊗ (var 2 ⊖ var 5))) refl
 
 -- ---- the found face
 module _ (ps : List Pt3) (sorted : IsStrictlySortedBy space_cmp ps) (a b c : Pt3) (side : IsSideOf ps a b c) (n : Normal)
@@ -208,7 +208,7 @@ module _ (ps : List Pt3) (sorted : IsStrictlySortedBy space_cmp ps) (a b c : Pt3
   off : pos 0 <ℤ face_left N b a o
   off =
       climbs (square_of N) (seen N some).scale (face_left N b a o) (dot_of N (normal_of b a o)) some
-          (seen N some).positive
+      (seen N some).positive
       (sym ((seen N some).scaled b a o flat_a flat_o)) some
 
   module _ (q : Pt3) (e : depth_of N b q ≡ pos 0) where
@@ -262,7 +262,7 @@ module _ (ps : List Pt3) (sorted : IsStrictlySortedBy space_cmp ps) (a b c : Pt3
         ≡ d *ℤ (way_square b a *ℤ depth_of K b o)
     heights_alike =
         ap (λ (z : ℤ). square_of N *ℤ z) (heights_by q) ∙ as_weighed k0 k1 k2
-            ∙ ap (λ (z : ℤ). d *ℤ z) (sym (heights_by o))
+        ∙ ap (λ (z : ℤ). d *ℤ z) (sym (heights_by o))
 
     in_front : IsInFront K b a q → pos 0 ≤ℤ face_left N b a q
     in_front front =
@@ -271,7 +271,7 @@ module _ (ps : List Pt3) (sorted : IsStrictlySortedBy space_cmp ps) (a b c : Pt3
         (subst (λ (z : ℤ). pos 0 ≤ℤ z) (v.scaled b a q flat_a e ∙ flip (square_of N) (face_left N b a q))
         (at_least_mul v.scale d (weak v.scale v.positive)
         (same_way (square_of N) d (side_of o) (way_square b a *ℤ depth_of K b o) (side_of q)
-            (way_square b a *ℤ depth_of K b q) some
+        (way_square b a *ℤ depth_of K b q) some
         (scaled_onward (way_square b a) (side_of o) (depth_of K b o) long turned.front)
         (scaled_onward (way_square b a) (side_of q) (depth_of K b q) long front) sides_alike heights_alike)))
 
@@ -319,7 +319,7 @@ module _ (ps : List Pt3) (sorted : IsStrictlySortedBy space_cmp ps) (a b c : Pt3
           (subst (λ (z : ℤ). pos 0 ≤ℤ z) (old.into side.before)
           (at_least_mul W (face_left side.normal side.before a q) (weak W way)
           (All-contains (λ p. depth_of side.normal a p ≡ pos 0
-              → pos 0 ≤ℤ face_left side.normal side.before a p) ps q side.left_before i in_old)))
+          → pos 0 ≤ℤ face_left side.normal side.before a p) ps q side.left_before i in_old)))
 
       short_of_b : pos 0 ≤ℤ (W -ℤ t)
       short_of_b =
@@ -327,7 +327,7 @@ module _ (ps : List Pt3) (sorted : IsStrictlySortedBy space_cmp ps) (a b c : Pt3
           (subst (λ (z : ℤ). pos 0 ≤ℤ z) (old.onto c)
           (at_least_mul W (face_left side.normal b c q) (weak W way)
           (All-contains (λ p. depth_of side.normal a p ≡ pos 0 → pos 0 ≤ℤ face_left side.normal b c p) ps q
-              side.left_behind i in_old)))
+          side.left_behind i in_old)))
 
       not_past_b : pos 0 ≤ℤ face_left N o b q
       not_past_b =

@@ -263,7 +263,7 @@ module _ {X : Type 0} (f g : X → ℤ) (Before Alike : X → X → Type 0) (pla
               let same : b ≡ o =
               step m zx zy b one.corner o two.corner rm.1.0 sn.1.0 hb ho one.turn two.turn
               (holds (m ∷ (b ∷ rs)) h o sn.1.0).0 (over b rm.1.0).0
-                  (one.over o (holds (m ∷ (b ∷ rs)) h o sn.1.0).1)
+              (one.over o (holds (m ∷ (b ∷ rs)) h o sn.1.0).1)
               (two.over b (over b rm.1.0).1) in
               ap₂ (λ p ps. p ∷ ps) same
               (walk m b rm.0 rm.1.0 m b rs ss h.turns
@@ -293,7 +293,7 @@ module _ {X : Type 0} (f g : X → ℤ) where
   bent_too x y z w e hy hx hw =
       clash (x *ℤ w) (positive_product x w hx hw)
       (ring (x ∷ z ∷ w ∷ []) (v0 ⊗ v2) (v0 ⊗ v2 ⊖ num (pos 0) ⊗ v1) refl
-          ∙ ap (λ (u : ℤ). x *ℤ w -ℤ u *ℤ z) (sym hy)
+      ∙ ap (λ (u : ℤ). x *ℤ w -ℤ u *ℤ z) (sym hy)
       ∙ e)
     where
       clash : (u : ℤ) → pos 0 <ℤ u → u ≡ pos 0 → ⊥

@@ -23,7 +23,7 @@ module _ {X Y : Type 0} (f : X → Y) (c : X → X → Ordering) (d : Y → Y �
   put_same (x ∷ xs) k =
       elim (c k x) as (λ o. d (f k) (f x) ≡ o → map f
       (match_ordering o (k ∷ (x ∷ xs)) (x ∷ xs) (x ∷ insert_key c xs k))
-          ≡ insert_key d (f x ∷ map f xs) (f k)) [
+      ≡ insert_key d (f x ∷ map f xs) (f k)) [
         | Less ↦ (λ e. ap (λ o. match_ordering o (f k ∷ (f x ∷ map f xs)) (f x ∷ map f xs)
             (f x ∷ insert_key d (map f xs) (f k))) (sym e))
         | Equal ↦ (λ e. ap (λ o. match_ordering o (f k ∷ (f x ∷ map f xs)) (f x ∷ map f xs)

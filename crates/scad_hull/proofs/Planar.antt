@@ -68,13 +68,13 @@ module _ {X : Type 0} (f g : X → ℤ) where
   turned : (a b c : X) → left f g a c b ≡ pos 0 -ℤ left f g a b c
   turned a b c =
       ring (f a ∷ g a ∷ f b ∷ g b ∷ f c ∷ g c ∷ [])
-          ((v4 ⊖ v0) ⊗ (v3 ⊖ v1) ⊖ (v5 ⊖ v1) ⊗ (v2 ⊖ v0))
+      ((v4 ⊖ v0) ⊗ (v3 ⊖ v1) ⊖ (v5 ⊖ v1) ⊗ (v2 ⊖ v0))
       (num (pos 0) ⊖ ((v2 ⊖ v0) ⊗ (v5 ⊖ v1) ⊖ (v3 ⊖ v1) ⊗ (v4 ⊖ v0))) refl
 
   swapped : (a b c : X) → left f g b a c ≡ pos 0 -ℤ left f g a b c
   swapped a b c =
       ring (f a ∷ g a ∷ f b ∷ g b ∷ f c ∷ g c ∷ [])
-          ((v0 ⊖ v2) ⊗ (v5 ⊖ v3) ⊖ (v1 ⊖ v3) ⊗ (v4 ⊖ v2))
+      ((v0 ⊖ v2) ⊗ (v5 ⊖ v3) ⊖ (v1 ⊖ v3) ⊗ (v4 ⊖ v2))
       (num (pos 0) ⊖ ((v2 ⊖ v0) ⊗ (v5 ⊖ v1) ⊖ (v3 ⊖ v1) ⊗ (v4 ⊖ v0))) refl
 
   ends : (a b : X) → left f g a b b ≡ pos 0
@@ -118,7 +118,7 @@ module _ {X : Type 0} (f g : X → ℤ) where
       ring (f a ∷ g a ∷ f b ∷ g b ∷ f c ∷ g c ∷ f p ∷ g p ∷ [])
       ((v2 ⊖ v0) ⊗ (v7 ⊖ v1) ⊖ (v3 ⊖ v1) ⊗ (v6 ⊖ v0))
       (((v2 ⊖ v0) ⊗ (v5 ⊖ v1) ⊖ (v3 ⊖ v1) ⊗ (v4 ⊖ v0))
-          ⊕ ((v2 ⊖ v0) ⊗ (v7 ⊖ v5) ⊖ (v3 ⊖ v1) ⊗ (v6 ⊖ v4))) refl
+      ⊕ ((v2 ⊖ v0) ⊗ (v7 ⊖ v5) ⊖ (v3 ⊖ v1) ⊗ (v6 ⊖ v4))) refl
 
   pub left_on : (a b c : X) → left f g a b c ≡ area (f b -ℤ f a) (g b -ℤ g a) (f c -ℤ f b) (g c -ℤ g b)
   left_on a b c =
@@ -153,25 +153,25 @@ module _ {X : Type 0} (f g : X → ℤ) where
   amid_from : (u t q : X) → left f g u t q ≡ area (f u -ℤ f t) (g u -ℤ g t) (f t -ℤ f q) (g t -ℤ g q)
   amid_from u t q =
       ring (f u ∷ g u ∷ f t ∷ g t ∷ f q ∷ g q ∷ [])
-          ((v2 ⊖ v0) ⊗ (v5 ⊖ v1) ⊖ (v3 ⊖ v1) ⊗ (v4 ⊖ v0))
+      ((v2 ⊖ v0) ⊗ (v5 ⊖ v1) ⊖ (v3 ⊖ v1) ⊗ (v4 ⊖ v0))
       ((v0 ⊖ v2) ⊗ (v3 ⊖ v5) ⊖ (v1 ⊖ v3) ⊗ (v2 ⊖ v4)) refl
 
   amid_to : (q t p : X) → left f g t p q ≡ area (f t -ℤ f q) (g t -ℤ g q) (f p -ℤ f t) (g p -ℤ g t)
   amid_to q t p =
       ring (f q ∷ g q ∷ f t ∷ g t ∷ f p ∷ g p ∷ [])
-          ((v4 ⊖ v2) ⊗ (v1 ⊖ v3) ⊖ (v5 ⊖ v3) ⊗ (v0 ⊖ v2))
+      ((v4 ⊖ v2) ⊗ (v1 ⊖ v3) ⊖ (v5 ⊖ v3) ⊗ (v0 ⊖ v2))
       ((v2 ⊖ v0) ⊗ (v5 ⊖ v3) ⊖ (v3 ⊖ v1) ⊗ (v4 ⊖ v2)) refl
 
   amid_back_from : (u t q : X) → left f g u t q ≡ area (f t -ℤ f u) (g t -ℤ g u) (f q -ℤ f t) (g q -ℤ g t)
   amid_back_from u t q =
       ring (f u ∷ g u ∷ f t ∷ g t ∷ f q ∷ g q ∷ [])
-          ((v2 ⊖ v0) ⊗ (v5 ⊖ v1) ⊖ (v3 ⊖ v1) ⊗ (v4 ⊖ v0))
+      ((v2 ⊖ v0) ⊗ (v5 ⊖ v1) ⊖ (v3 ⊖ v1) ⊗ (v4 ⊖ v0))
       ((v2 ⊖ v0) ⊗ (v5 ⊖ v3) ⊖ (v3 ⊖ v1) ⊗ (v4 ⊖ v2)) refl
 
   amid_back_to : (q t p : X) → left f g t p q ≡ area (f q -ℤ f t) (g q -ℤ g t) (f t -ℤ f p) (g t -ℤ g p)
   amid_back_to q t p =
       ring (f q ∷ g q ∷ f t ∷ g t ∷ f p ∷ g p ∷ [])
-          ((v4 ⊖ v2) ⊗ (v1 ⊖ v3) ⊖ (v5 ⊖ v3) ⊗ (v0 ⊖ v2))
+      ((v4 ⊖ v2) ⊗ (v1 ⊖ v3) ⊖ (v5 ⊖ v3) ⊗ (v0 ⊖ v2))
       ((v0 ⊖ v2) ⊗ (v3 ⊖ v5) ⊖ (v1 ⊖ v3) ⊗ (v2 ⊖ v4)) refl
 
   pub plane : IsPlane (left f g) (IsBefore f g) Same
@@ -189,7 +189,7 @@ module _ {X : Type 0} (f g : X → ℤ) where
         same_sign (area (f t -ℤ f q) (g t -ℤ g q) (f p -ℤ f t) (g p -ℤ g t)) (left f g t p q) (left_from q t p)
         (area_on (f t -ℤ f q) (g t -ℤ g q) (f t -ℤ f u) (g t -ℤ g u) (f p -ℤ f t) (g p -ℤ g t) bq bu bp
         (same_sign (left f g u t q) (area (f t -ℤ f q) (g t -ℤ g q) (f t -ℤ f u) (g t -ℤ g u)) (left_to u t q)
-            h)
+        h)
         (weak (left f g u t p) (area (f t -ℤ f u) (g t -ℤ g u) (f p -ℤ f t) (g p -ℤ g t)) (left_on u t p) k));
     onward = λ a b c p ab bc cp h k.
         more (left f g a b p) (left f g a b c) (area (f b -ℤ f a) (g b -ℤ g a) (f p -ℤ f c) (g p -ℤ g c))
@@ -200,9 +200,9 @@ module _ {X : Type 0} (f g : X → ℤ) where
     amid = λ q t u p bq bu bp h k.
         area_on (f u -ℤ f t) (g u -ℤ g t) (f t -ℤ f q) (g t -ℤ g q) (f p -ℤ f t) (g p -ℤ g t) bu bq bp
         (same_sign (left f g u t q) (area (f u -ℤ f t) (g u -ℤ g t) (f t -ℤ f q) (g t -ℤ g q)) (amid_from u t q)
-            h)
+        h)
         (same_sign (left f g t p q) (area (f t -ℤ f q) (g t -ℤ g q) (f p -ℤ f t) (g p -ℤ g t)) (amid_to q t p)
-            k);
+        k);
   }
 
   -- the same turned by half a turn
@@ -236,7 +236,7 @@ module _ {X : Type 0} (f g : X → ℤ) where
       ring (f a ∷ g a ∷ f b ∷ g b ∷ f c ∷ g c ∷ f p ∷ g p ∷ [])
       ((v2 ⊖ v0) ⊗ (v7 ⊖ v1) ⊖ (v3 ⊖ v1) ⊗ (v6 ⊖ v0))
       (((v2 ⊖ v0) ⊗ (v5 ⊖ v1) ⊖ (v3 ⊖ v1) ⊗ (v4 ⊖ v0))
-          ⊕ ((v0 ⊖ v2) ⊗ (v5 ⊖ v7) ⊖ (v1 ⊖ v3) ⊗ (v4 ⊖ v6))) refl
+      ⊕ ((v0 ⊖ v2) ⊗ (v5 ⊖ v7) ⊖ (v1 ⊖ v3) ⊗ (v4 ⊖ v6))) refl
 
   back_either : (p q : X) → IsAfter p q ⊎ (Same q p ⊎ IsAfter q p)
   back_either p q = elim (either p q) [
@@ -256,17 +256,17 @@ module _ {X : Type 0} (f g : X → ℤ) where
     later = λ p q r h k. later r q p k h;
     through = λ t p q w bp bq bw h k.
         same_sign (area (f t -ℤ f p) (g t -ℤ g p) (f t -ℤ f q) (g t -ℤ g q)) (left f g t p q)
-            (sym (back_area t p q))
+        (sym (back_area t p q))
         (area_on (f t -ℤ f p) (g t -ℤ g p) (f t -ℤ f w) (g t -ℤ g w) (f t -ℤ f q) (g t -ℤ g q) bp bw bq
         (same_sign (left f g t p w) (area (f t -ℤ f p) (g t -ℤ g p) (f t -ℤ f w) (g t -ℤ g w)) (back_area t p w)
-            k)
+        k)
         (same_sign (left f g t w q) (area (f t -ℤ f w) (g t -ℤ g w) (f t -ℤ f q) (g t -ℤ g q)) (back_area t w q)
-            h));
+        h));
     behind = λ q t u p bq bu bp h k.
         same_sign (area (f q -ℤ f t) (g q -ℤ g t) (f t -ℤ f p) (g t -ℤ g p)) (left f g t p q) (back_from q t p)
         (area_on (f q -ℤ f t) (g q -ℤ g t) (f u -ℤ f t) (g u -ℤ g t) (f t -ℤ f p) (g t -ℤ g p) bq bu bp
         (same_sign (left f g u t q) (area (f q -ℤ f t) (g q -ℤ g t) (f u -ℤ f t) (g u -ℤ g t)) (back_to u t q)
-            h)
+        h)
         (weak (left f g u t p) (area (f u -ℤ f t) (g u -ℤ g t) (f t -ℤ f p) (g t -ℤ g p)) (back_on u t p) k));
     onward = λ a b c p ab bc cp h k.
         more (left f g a b p) (left f g a b c) (area (f a -ℤ f b) (g a -ℤ g b) (f c -ℤ f p) (g c -ℤ g p))
@@ -276,10 +276,10 @@ module _ {X : Type 0} (f g : X → ℤ) where
         (weak (left f g b c p) (area (f b -ℤ f c) (g b -ℤ g c) (f c -ℤ f p) (g c -ℤ g p)) (back_on b c p) k));
     amid = λ q t u p bq bu bp h k.
         same_sign (area (f t -ℤ f u) (g t -ℤ g u) (f t -ℤ f p) (g t -ℤ g p)) (left f g t u p)
-            (sym (back_area t u p))
+        (sym (back_area t u p))
         (area_on (f t -ℤ f u) (g t -ℤ g u) (f q -ℤ f t) (g q -ℤ g t) (f t -ℤ f p) (g t -ℤ g p) bu bq bp
         (same_sign (left f g u t q) (area (f t -ℤ f u) (g t -ℤ g u) (f q -ℤ f t) (g q -ℤ g t))
-            (amid_back_from u t q) h)
+        (amid_back_from u t q) h)
         (same_sign (left f g t p q) (area (f q -ℤ f t) (g q -ℤ g t) (f t -ℤ f p) (g t -ℤ g p))
-            (amid_back_to q t p) k));
+        (amid_back_to q t p) k));
   }

@@ -66,7 +66,7 @@ no_normal n m =
     (var 0 ⊗ ((var 4 ⊖ var 4) ⊗ (var 5 ⊖ var 5) ⊖ (var 5 ⊖ var 5) ⊗ (var 4 ⊖ var 4))
     ⊕ (var 1 ⊗ ((var 5 ⊖ var 5) ⊗ (var 3 ⊖ var 3) ⊖ (var 3 ⊖ var 3) ⊗ (var 5 ⊖ var 5))
     ⊕ var 2 ⊗ ((var 3 ⊖ var 3) ⊗ (var 4 ⊖ var 4) ⊖ (var 4 ⊖ var 4) ⊗ (var 3 ⊖ var 3)))) (num (pos 0))
-        refl
+    refl
 
 pub exchanged : (f g : Pt3 → ℤ) (p q r : Pt3) → left f g p q r ≡ pos 0 -ℤ left g f p q r
 exchanged f g p q r =
@@ -147,7 +147,7 @@ module _ (ps : List Pt3) (sorted : IsStrictlySortedBy space_cmp ps) (a : Pt3) (n
         above (dot_of n (normal_of t0 t1 t2)) turns
         (nought_right v.scale (dot_of n (normal_of t0 t1 t2))
         (v.scaled t0 t1 t2 (flat_between t0 t1 h0 (of_all IsIn t1 i1 all_flat))
-            (flat_between t0 t2 h0 (of_all IsIn t2 i2 all_flat))
+        (flat_between t0 t2 h0 (of_all IsIn t2 i2 all_flat))
         ∙ ap (λ (z : ℤ). square_of n *ℤ z) flat
         ∙ ring (square_of n ∷ []) (var 0 ⊗ num (pos 0)) (num (pos 0)) refl)
         (above v.scale v.positive))

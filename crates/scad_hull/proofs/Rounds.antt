@@ -26,7 +26,7 @@ corner_again {X = X} (p ∷ (q ∷ ps)) j r l m h e =
     let i = j - n in
     let back : n + i ≡ j = omega arith in
     e ∙ first_two i (omega arith) ∙ sym (get_or-append-add (p ∷ (q ∷ ps)) (p ∷ (q ∷ [])) i r)
-        ∙ ap (λ k. get_or (round (p ∷ (q ∷ ps))) k r) back
+    ∙ ap (λ k. get_or (round (p ∷ (q ∷ ps))) k r) back
   where
     first_two : (i : ℕ) → i < 2 → get_or (p ∷ (q ∷ ps)) i r ≡ get_or (p ∷ (q ∷ [])) i r
     first_two zero h = refl

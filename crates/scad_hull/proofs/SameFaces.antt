@@ -83,11 +83,11 @@ module _ (n : Normal) (p q r : Pt3) (hq : depth_of n p q ≡ pos 0) (hr : depth_
 pub exchanged : (a b c r : Pt3) → depth_of (normal_of a b r) a c ≡ pos 0 -ℤ depth_of (normal_of a b c) a r
 exchanged a b c r =
     ring ((b.x -ℤ a.x) ∷ (b.y -ℤ a.y) ∷ (b.z -ℤ a.z) ∷ (c.x -ℤ a.x) ∷ (c.y -ℤ a.y) ∷ (c.z -ℤ a.z)
-        ∷ (r.x -ℤ a.x) ∷ (r.y -ℤ a.y) ∷ (r.z -ℤ a.z) ∷ [])
+    ∷ (r.x -ℤ a.x) ∷ (r.y -ℤ a.y) ∷ (r.z -ℤ a.z) ∷ [])
     ((var 1 ⊗ var 8 ⊖ var 2 ⊗ var 7) ⊗ var 3
-        ⊕ ((var 2 ⊗ var 6 ⊖ var 0 ⊗ var 8) ⊗ var 4 ⊕ (var 0 ⊗ var 7 ⊖ var 1 ⊗ var 6) ⊗ var 5))
+    ⊕ ((var 2 ⊗ var 6 ⊖ var 0 ⊗ var 8) ⊗ var 4 ⊕ (var 0 ⊗ var 7 ⊖ var 1 ⊗ var 6) ⊗ var 5))
     (num (pos 0) ⊖ ((var 1 ⊗ var 5 ⊖ var 2 ⊗ var 4) ⊗ var 6
-        ⊕ ((var 2 ⊗ var 3 ⊖ var 0 ⊗ var 5) ⊗ var 7 ⊕ (var 0 ⊗ var 4 ⊖ var 1 ⊗ var 3) ⊗ var 8))) refl
+    ⊕ ((var 2 ⊗ var 3 ⊖ var 0 ⊗ var 5) ⊗ var 7 ⊕ (var 0 ⊗ var 4 ⊖ var 1 ⊗ var 3) ⊗ var 8))) refl
 
 some_is : (x y : List Pt3) → Some x ≡ Some y → x ≡ y
 some_is x y e = ap value e
@@ -140,21 +140,21 @@ module _ (ps : List Pt3) where
         → pos 0 <ℤ dot_of m (normal_of p q r) → face_in ps a n ≡ face_in ps b m
     one_face np nq nr nd mp mq mr md =
         some_is (face_in ps a n) (face_in ps b m)
-            (sym (through a n plane np nq nr nd) ∙ through b m other mp mq mr md)
+        (sym (through a n plane np nq nr nd) ∙ through b m other mp mq mr md)
 
   -- ---- a side in common
   turns_up : (a b c : Pt3) (side : IsSideOf ps a b c) → pos 0 <ℤ dot_of side.normal (normal_of a b c)
   turns_up a b c side =
       let v = seen side.normal side.some in
       climbs v.scale (square_of side.normal) (dot_of side.normal (normal_of a b c)) (face_left side.normal a b c)
-          v.positive side.some
+      v.positive side.some
       (v.scaled a b c side.flat side.flat_c) side.turns
 
   -- the third point of the other lies inside
   inside : (a b c d : Pt3) (side : IsSideOf ps a b c) → Contains ps d → pos 0 ≤ℤ depth_of (normal_of a b c) a d
   inside a b c d side i =
       up_on (square_of side.normal) (dot_of side.normal (normal_of a b c)) (depth_of (normal_of a b c) a d)
-          (depth_of side.normal a d)
+      (depth_of side.normal a d)
       side.some (weak (dot_of side.normal (normal_of a b c)) (turns_up a b c side))
       (parallel side.normal a b c side.flat side.flat_c d)
       (All-contains (λ p. pos 0 ≤ℤ depth_of side.normal a p) ps d side.inward i)
@@ -186,10 +186,10 @@ module _ (ps : List Pt3) where
         not_below =
             let v = seen n first.some in
             up_on v.scale (square_of n) (dot_of n (normal_of a b d)) (face_left n a b d) v.positive
-                (weak (square_of n) first.some)
+            (weak (square_of n) first.some)
             (v.scaled a b d first.flat third_flat)
             (All-contains (λ p. depth_of n a p ≡ pos 0 → pos 0 ≤ℤ face_left n a b p) ps d first.left
-                second.has_c third_flat)
+            second.has_c third_flat)
 
         none : dot_of n (normal_of a b d) ≡ pos 0 → ⊥
         none e =
@@ -213,7 +213,7 @@ module _ (ps : List Pt3) where
         → (3 ≤ length r) × RingTurns (face_left is.normal)
         (IsBefore (seen is.normal is.plane.some).f (seen is.normal is.plane.some).g)
         (Same (seen is.normal is.plane.some).f (seen is.normal is.plane.some).g) (seen is.normal is.plane.some).there
-            (sums_in is.normal is.plane.some) r × Differ r
+        (sums_in is.normal is.plane.some) r × Differ r
     ring_facts r is =
         let convex = convex_of r is in
         let v = seen is.normal is.plane.some in
@@ -223,8 +223,10 @@ module _ (ps : List Pt3) where
     -- its corners are points of its plane
     pub corners_of : (r : List Pt3) (is : IsRing ps r)
         → AllByRecursion (λ q. Contains ps q × (depth_of is.normal is.base q ≡ pos 0)) r
-    corners_of r is = all_changed (λ q i. (member ps sorted is.base is.normal is.plane q i,
-        flat_at ps sorted is.base is.normal is.plane q i)) r
+    corners_of r is = all_changed (λ q i. (
+      member ps sorted is.base is.normal is.plane q i,
+      flat_at ps sorted is.base is.normal is.plane q i,
+    )) r
         (recursion_of (Contains (in_plane ps is.base is.normal)) r (convex_of r is).corners)
 
     pub side_of : (r : List Pt3) (is : IsRing ps r) (a b c : Pt3) → AreInTurn (face_left is.normal) (round r) a b c
@@ -242,7 +244,7 @@ module _ (ps : List Pt3) where
         g.side.has_c
         f.flat_a f.flat_b
         (as_from is.normal is.base a d f.flat_a
-            ∙ subst (λ k. depth_of k a d ≡ pos 0) f.same (third_flat a b c d f.side g.side))
+        ∙ subst (λ k. depth_of k a d ≡ pos 0) f.same (third_flat a b c d f.side g.side))
         (subst (λ k. pos 0 <ℤ dot_of k (normal_of a b d)) f.same (third_up a b c d f.side g.side))
         g.flat_a g.flat_b g.flat_c
         (subst (λ k. pos 0 <ℤ dot_of k (normal_of a b d)) g.same (turns_up a b d g.side))

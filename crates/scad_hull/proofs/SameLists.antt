@@ -77,4 +77,4 @@ module _ {X : Type 0} (c : X → X → Ordering) (total : IsTotalOrder c) where
       → In z (distinct c xs)
   to_distinct exact xs z i =
       of_in (λ y. In y (distinct c xs)) xs z
-          (distinct_had c exact (λ y. In y (distinct c xs)) xs (all_in (distinct c xs))) i
+      (distinct_had c exact (λ y. In y (distinct c xs)) xs (all_in (distinct c xs))) i

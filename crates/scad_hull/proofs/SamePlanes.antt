@@ -81,8 +81,12 @@ alike k l x y hk hl e = by_lt_z (pos 0) y
     zero_both f =
         let g : x ≡ y = nought_right k x (e ∙ ap (λ (z : ℤ). l *ℤ z) f ∙ ring (l ∷ []) (var 0 ⊗ num (pos 0)) (num (pos 0)) refl)
         (up_some k hk) ∙ sym f in
-        record { up = ap (λ (z : ℤ). int_lt (pos 0) z) g; low = ap (λ (z : ℤ). int_lt z (pos 0)) g; none
-            = ap is_zero g }
+        record {
+          up = ap (λ (z : ℤ). int_lt (pos 0) z) g;
+          low = ap (λ (z : ℤ). int_lt z (pos 0)) g;
+          none
+              = ap is_zero g;
+        }
 
 -- ---- one plane by two normals
 any_agree : {X : Type 0} (p q : X → Bool) → ((x : X) → p x ≡ q x) → (xs : List X)

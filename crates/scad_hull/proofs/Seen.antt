@@ -70,7 +70,7 @@ module _ (n0 n1 n2 u0 u1 u2 v0 v1 v2 : ℤ) (flat_u : n0 *ℤ u0 +ℤ (n1 *ℤ u
   nothing_more s k l a b c d =
       ring (s ∷ k ∷ l ∷ a ∷ b ∷ c ∷ d ∷ [])
       (var 0 ⊕ (var 1 ⊗ (var 3 ⊗ num (pos 0) ⊖ var 4 ⊗ num (pos 0)) ⊖ var 2
-          ⊗ (var 5 ⊗ num (pos 0) ⊖ var 6 ⊗ num (pos 0))))
+      ⊗ (var 5 ⊗ num (pos 0) ⊖ var 6 ⊗ num (pos 0))))
       (var 0) refl
 
   pub by_x : n0 *ℤ along ≡ whole *ℤ cross_x
@@ -142,21 +142,21 @@ only_x : (n0 n1 n2 x y z : ℤ) → n0 *ℤ x +ℤ (n1 *ℤ y +ℤ n2 *ℤ z) �
     → n0 *ℤ x ≡ pos 0
 only_x n0 n1 n2 x y z e hy hz =
     ring (n0 ∷ n1 ∷ n2 ∷ x ∷ []) (var 0 ⊗ var 3)
-        (var 0 ⊗ var 3 ⊕ (var 1 ⊗ num (pos 0) ⊕ var 2 ⊗ num (pos 0))) refl
+    (var 0 ⊗ var 3 ⊕ (var 1 ⊗ num (pos 0) ⊕ var 2 ⊗ num (pos 0))) refl
     ∙ ap₂ (λ (s t : ℤ). n0 *ℤ x +ℤ (n1 *ℤ s +ℤ n2 *ℤ t)) (sym hy) (sym hz) ∙ e
 
 only_y : (n0 n1 n2 x y z : ℤ) → n0 *ℤ x +ℤ (n1 *ℤ y +ℤ n2 *ℤ z) ≡ pos 0 → n0 ≡ pos 0 → z ≡ pos 0
     → n1 *ℤ y ≡ pos 0
 only_y n0 n1 n2 x y z e hx hz =
     ring (n1 ∷ n2 ∷ x ∷ y ∷ []) (var 0 ⊗ var 3)
-        (num (pos 0) ⊗ var 2 ⊕ (var 0 ⊗ var 3 ⊕ var 1 ⊗ num (pos 0))) refl
+    (num (pos 0) ⊗ var 2 ⊕ (var 0 ⊗ var 3 ⊕ var 1 ⊗ num (pos 0))) refl
     ∙ ap₂ (λ (s t : ℤ). s *ℤ x +ℤ (n1 *ℤ y +ℤ n2 *ℤ t)) (sym hx) (sym hz) ∙ e
 
 only_z : (n0 n1 n2 x y z : ℤ) → n0 *ℤ x +ℤ (n1 *ℤ y +ℤ n2 *ℤ z) ≡ pos 0 → n0 ≡ pos 0
     → n1 ≡ pos 0 → n2 *ℤ z ≡ pos 0
 only_z n0 n1 n2 x y z e hx hy =
     ring (n2 ∷ x ∷ y ∷ z ∷ []) (var 0 ⊗ var 3)
-        (num (pos 0) ⊗ var 1 ⊕ (num (pos 0) ⊗ var 2 ⊕ var 0 ⊗ var 3)) refl
+    (num (pos 0) ⊗ var 1 ⊕ (num (pos 0) ⊗ var 2 ⊕ var 0 ⊗ var 3)) refl
     ∙ ap₂ (λ (s t : ℤ). s *ℤ x +ℤ (t *ℤ y +ℤ n2 *ℤ z)) (sym hx) (sym hy) ∙ e
 
 -- ---- a plane, and the turns in it
@@ -199,7 +199,7 @@ module _ (n : Normal) where
       told_by (inr (ez, inl h)) = inr (gone p.z q.z ez, rise p.y q.y h)
       told_by (inr (ez, inr (ey, h))) = absurd (apart p.x q.x h (nought_right n.x (q.x -ℤ p.x)
           (only_x n.x n.y n.z (q.x -ℤ p.x) (q.y -ℤ p.y) (q.z -ℤ p.z) flat (gone p.y q.y ey) (gone p.z q.z ez))
-              some))
+          some))
 
   no_y : n.x ≡ pos 0 → (n.y ≡ pos 0 → ⊥) → (p q : Pt3) → depth_of n p q ≡ pos 0
       → space_cmp p q ≡ Less → IsBefore x_of z_of p q
@@ -384,5 +384,5 @@ module _ (n : Normal) where
   pub seen : pos 0 <ℤ square_of n → IsSeenBy n (face_left n)
   seen some =
       seen_by (int_lt (pos 0) n.x) (int_lt n.x (pos 0)) (int_lt (pos 0) n.y) (int_lt n.y (pos 0)) (int_lt (pos 0) n.z)
-          (int_lt n.z (pos 0))
+      (int_lt n.z (pos 0))
       refl refl refl refl refl refl some

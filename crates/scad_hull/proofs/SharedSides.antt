@@ -183,9 +183,15 @@ module _ {X : Type 0} (left : X → X → X → ℤ) (r0 r1 r2 : X) (rs : List X
 
   pub follow : (z m c : X) → AreInTurn left way z m c → (d : X) × AreInTurn left way m c d
   follow z m c (before, [], e) =
-      let same = last_two before z m c r0 r1 (r0 ∷ (r1 ∷ (r2 ∷ rs))) e in
-      (r2, ([], rs ++ (r0 ∷ (r1 ∷ [])), ap₂ (λ x y. x ∷ (y ∷ (r2 ∷ (rs ++ (r0 ∷ (r1 ∷ [])))))) same.0
-          same.1))
+      let same = last_two before z m c r0 r1 (r0 ∷ (r1 ∷ (r2 ∷ rs))) e in (
+        r2,
+        (
+          [],
+          rs ++ (r0 ∷ (r1 ∷ [])),
+          ap₂ (λ x y. x ∷ (y ∷ (r2 ∷ (rs ++ (r0 ∷ (r1 ∷ [])))))) same.0
+              same.1,
+        ),
+      )
   follow z m c (before, d ∷ after, e) =
       (d, (before ++ (z ∷ []), after, e ∙ sym (append_on before (z ∷ []) (m ∷ (c ∷ (d ∷ after))))))
 
@@ -270,7 +276,7 @@ module _ {X : Type 0} (f g : X → ℤ) (b a o : X) (off : pos 0 <ℤ left f g b
   no_turn z m c ez em ec turn =
       some (h o) off (same (h o) (h m) em (nought_right (L z m c) (h o -ℤ h m)
       (cramer z m c o ∙ ap₂ (λ (x y : ℤ). L m c o *ℤ x +ℤ L z m o *ℤ y) (gone (h z) (h m) ez em)
-          (gone (h c) (h m) ec em)
+      (gone (h c) (h m) ec em)
       ∙ ring (L m c o ∷ L z m o ∷ []) (var 0 ⊗ num (pos 0) ⊕ var 1 ⊗ num (pos 0)) (num (pos 0)) refl)
       (some (L z m c) turn)))
     where
@@ -323,7 +329,7 @@ module _ {X : Type 0} (f g : X → ℤ) (b a o : X) (off : pos 0 <ℤ left f g b
       none =
           squeezed (L o b m) l (at_least_left (pos 0 -ℤ L o b m) (h z) hz
           (subst (λ (x : ℤ). pos 0 ≤ℤ x)
-              (ring (L o b m ∷ h z ∷ []) (num (pos 0) ⊖ var 0 ⊗ var 1) ((num (pos 0) ⊖ var 0) ⊗ var 1) refl)
+          (ring (L o b m ∷ h z ∷ []) (num (pos 0) ⊖ var 0 ⊗ var 1) ((num (pos 0) ⊖ var 0) ⊗ var 1) refl)
           (rest (h o *ℤ L z m b) (L o b m *ℤ h z) (as_seen ∙ ap (λ (x : ℤ). x *ℤ L z o b) em
           ∙ ring (L z o b ∷ []) (num (pos 0) ⊗ var 0) (num (pos 0)) refl)
           (at_least_mul (h o) (L z m b) (weak (pos 0) (h o) off) k))))
@@ -376,7 +382,7 @@ module _ {X : Type 0} (f g : X → ℤ) (b a o : X) (off : pos 0 <ℤ left f g b
       none =
           squeezed (L a o c) l (at_least_left (pos 0 -ℤ L a o c) (h d) hd
           (subst (λ (x : ℤ). pos 0 ≤ℤ x)
-              (ring (L a o c ∷ h d ∷ []) (num (pos 0) ⊖ var 0 ⊗ var 1) ((num (pos 0) ⊖ var 0) ⊗ var 1) refl)
+          (ring (L a o c ∷ h d ∷ []) (num (pos 0) ⊖ var 0 ⊗ var 1) ((num (pos 0) ⊖ var 0) ⊗ var 1) refl)
           (rest (h o *ℤ L c d a) (L a o c *ℤ h d) (as_seen ∙ ap (λ (x : ℤ). x *ℤ L o d a) ec
           ∙ ring (L o d a ∷ []) (num (pos 0) ⊗ var 0) (num (pos 0)) refl)
           (at_least_mul (h o) (L c d a) (weak (pos 0) (h o) off) k))))

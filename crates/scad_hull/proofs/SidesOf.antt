@@ -108,17 +108,17 @@ module _ (ps : List Pt3) (sorted : IsStrictlySortedBy space_cmp ps) (base : Pt3)
             (plane.inward k d i);
         left = λ k d i e. first_at (face_left n) (get_or ps k d) t.0 a b c t.1
             (subst (IsRightOfNone (face_left n) (get_or ps k d)) t.2
-                (held (get_or ps k d) (in_it (get_or ps k d) (there k d i) e)));
+            (held (get_or ps k d) (in_it (get_or ps k d) (there k d i) e)));
         flat = flat_between ps sorted base n plane.some a b (flat_at a in_a) (flat_at b in_b);
         flat_c = flat_between ps sorted base n plane.some a c (flat_at a in_a) (flat_at c in_c);
         turns = turn_at (face_left n) t.0 a b c t.1 (subst (AllTurnLeft (face_left n)) t.2 convex.turns);
         left_behind = λ k d i e. second_at (face_left n) (get_or ps k d) t.0 a b c t.1
             (subst (IsRightOfNone (face_left n) (get_or ps k d)) t.2
-                (held (get_or ps k d) (in_it (get_or ps k d) (there k d i) e)));
+            (held (get_or ps k d) (in_it (get_or ps k d) (there k d i) e)));
         before = w;
         left_before = λ k d i e. first_at (face_left n) (get_or ps k d) u.0 w a b u.1
             (subst (IsRightOfNone (face_left n) (get_or ps k d)) u.2
-                (held (get_or ps k d) (in_it (get_or ps k d) (there k d i) e)));
+            (held (get_or ps k d) (in_it (get_or ps k d) (there k d i) e)));
         turns_before = turn_at (face_left n) u.0 w a b u.1 (subst (AllTurnLeft (face_left n)) u.2 convex.turns);
         has_a = member a in_a;
         has_b = member b in_b;
@@ -157,7 +157,7 @@ module _ (ps : List Pt3) (sorted : IsStrictlySortedBy space_cmp ps) (f : Face) (
       (of_ring ps sorted face.base f.normal face.plane f.ring.items convex a b c
       (in_turn (face_left f.normal) (round f.ring.items) j a b c (omega arith) ea
       (eb ∙ ap (λ k. get_or (round f.ring.items) k b) one_more)
-          (ec ∙ ap (λ k. get_or (round f.ring.items) k c) two_further))).side
+      (ec ∙ ap (λ k. get_or (round f.ring.items) k c) two_further))).side
     where
       one_more : j + 1 ≡ suc j
       one_more = omega arith
@@ -178,5 +178,5 @@ module _ (ps : List Pt3) (sorted : IsStrictlySortedBy space_cmp ps) (f : Face) (
       → IsSideOf ps a b c
   side_by_slice ring is j a b c h ea eb ec =
       side_by_place j a b c h (ea ∙ ap (λ xs. get_or (round xs) j a) is)
-          (eb ∙ ap (λ xs. get_or (round xs) (j + 1) b) is)
+      (eb ∙ ap (λ xs. get_or (round xs) (j + 1) b) is)
       (ec ∙ ap (λ xs. get_or (round xs) (j + 2) c) is)

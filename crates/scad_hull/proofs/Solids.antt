@@ -54,7 +54,7 @@ module _ (ps : List Pt3) (sorted : IsStrictlySortedBy space_cmp ps) (range : IsT
       (all_changed (λ t h. ap₂ (λ a b. a && b) h.0 (ap₂ (λ a b. a && b) h.1 h.2)) (fans (faces_of ps))
       (fans_all (λ q. is_in_range q ≡ true) (faces_of ps)
       (all_changed (λ r R. all_changed (λ q i. told_at ps is_in_range range q i.0) r (corners_of ps sorted r R))
-          (faces_of ps)
+      (faces_of ps)
       (all_rings ps sorted))))
 
   module _ (spread : IsSpread ps) (faces : List (List Pt3)) (w : IsWrapped ps faces) (rings : List (Vec Node)) (ts : List Triangle)

@@ -61,7 +61,7 @@ pub put_fan : (rings : List (Vec Node)) (i : ℕ) (r : Vec Node) → i < length 
     → new ++ flat_map (λ x. fan (map point_of x.items)) (drop (i + 1) rings) ≡ all
 put_fan rings i r h e old new corners is en all before =
     ap (λ ts. ts ++ flat_map (λ x. fan (map point_of x.items)) (drop (i + 1) rings))
-        (en ∙ ap (λ ps. old ++ fan ps) is)
+    (en ∙ ap (λ ps. old ++ fan ps) is)
     ∙ append_assoc old (fan (map point_of r.items)) (flat_map (λ x. fan (map point_of x.items)) (drop (i + 1) rings))
     ∙ ap (λ rs. old ++ flat_map (λ x. fan (map point_of x.items)) rs) (sym (one_more rings i r h e)) ∙ before
 

@@ -42,12 +42,12 @@ module _ (x y z : Pt3 → ℤ) (k0 k1 k2 l0 l1 l2 m0 m1 m2 : ℤ) where
       let G : Term → Term → Term → Term = s (var 12) (var 13) (var 14) in
       let H : Term → Term → Term → Term = s (var 15) (var 16) (var 17) in
       ring (x a ∷ y a ∷ z a ∷ x b ∷ y b ∷ z b ∷ x c ∷ y c ∷ z c ∷ k0 ∷ k1 ∷ k2 ∷ l0 ∷ l1
-          ∷ l2 ∷ m0 ∷ m1 ∷ m2 ∷ [])
+      ∷ l2 ∷ m0 ∷ m1 ∷ m2 ∷ [])
       (det_term (F (var 0) (var 1) (var 2)) (G (var 0) (var 1) (var 2)) (H (var 0) (var 1) (var 2))
-          (F (var 3) (var 4) (var 5)) (G (var 3) (var 4) (var 5)) (H (var 3) (var 4) (var 5))
-          (F (var 6) (var 7) (var 8)) (G (var 6) (var 7) (var 8)) (H (var 6) (var 7) (var 8)))
+      (F (var 3) (var 4) (var 5)) (G (var 3) (var 4) (var 5)) (H (var 3) (var 4) (var 5))
+      (F (var 6) (var 7) (var 8)) (G (var 6) (var 7) (var 8)) (H (var 6) (var 7) (var 8)))
       (det_term (var 9) (var 12) (var 15) (var 10) (var 13) (var 16) (var 11) (var 14) (var 17)
-          ⊗ det_term (var 0) (var 1) (var 2) (var 3) (var 4) (var 5) (var 6) (var 7) (var 8)) refl
+      ⊗ det_term (var 0) (var 1) (var 2) (var 3) (var 4) (var 5) (var 6) (var 7) (var 8)) refl
 
 positive_as : (s k v : ℤ) → s ≡ k *ℤ v → pos 0 <ℤ k → pos 0 <ℤ v → pos 0 <ℤ s
 positive_as s k v e a b = let p = positive_product k v a b in omega (arith, ints)
@@ -126,7 +126,7 @@ module _ (n0 n1 n2 u0 u1 u2 : ℤ) (upright : n0 *ℤ u0 +ℤ (n1 *ℤ u1 +ℤ n
   unfolding det_term
   in_plane rx ry rz sx sy sz =
       ring (n0 ∷ n1 ∷ n2 ∷ u0 ∷ u1 ∷ u2 ∷ rx ∷ ry ∷ rz ∷ sx ∷ sy ∷ sz ∷ []) left_side
-          (square ⊗ whole ⊖ (var 0 ⊗ var 3 ⊕ (var 1 ⊗ var 4 ⊕ var 2 ⊗ var 5)) ⊗ rest) refl
+      (square ⊗ whole ⊖ (var 0 ⊗ var 3 ⊕ (var 1 ⊗ var 4 ⊕ var 2 ⊗ var 5)) ⊗ rest) refl
       ∙ ap (λ (w : ℤ). (n0 *ℤ n0 +ℤ (n1 *ℤ n1 +ℤ n2 *ℤ n2)) *ℤ turn3 sx sy sz rx ry rz -ℤ w *ℤ det
       n0 n1 n2 sx sy sz rx ry rz) upright
       ∙ nothing_less ((n0 *ℤ n0 +ℤ (n1 *ℤ n1 +ℤ n2 *ℤ n2)) *ℤ turn3 sx sy sz rx ry rz)
@@ -181,8 +181,8 @@ module _ (n0 n1 n2 u0 u1 u2 : ℤ) (upright : n0 *ℤ u0 +ℤ (n1 *ℤ u1 +ℤ n
       factor_out k (turn3 px py pz rx ry rz) some
       (subst (λ (w : ℤ). pos 0 ≤ℤ w) (in_plane rx ry rz px py pz)
       (area_on (aside rx ry rz) (height rx ry rz) (aside cx cy cz) (height cx cy cz) (aside px py pz) (height px py pz)
-          hr hc hp
+      hr hc hp
       (subst (λ (w : ℤ). pos 0 ≤ℤ w) (sym (in_plane rx ry rz cx cy cz))
-          (factor_in k (turn3 cx cy cz rx ry rz) some second))
+      (factor_in k (turn3 cx cy cz rx ry rz) some second))
       (subst (λ (w : ℤ). pos 0 ≤ℤ w) (sym (in_plane cx cy cz px py pz))
-          (factor_in k (turn3 px py pz cx cy cz) some first))))
+      (factor_in k (turn3 px py pz cx cy cz) some first))))

@@ -30,20 +30,20 @@ module _ (a b : Pt3) where
   as_turn cx cy cz rx ry rz n0 n1 n2 e =
       ring (ux ∷ uy ∷ uz ∷ cx ∷ cy ∷ cz ∷ rx ∷ ry ∷ rz ∷ [])
       ((var 1 ⊗ var 5 ⊖ var 2 ⊗ var 4) ⊗ var 6
-          ⊕ ((var 2 ⊗ var 3 ⊖ var 0 ⊗ var 5) ⊗ var 7 ⊕ (var 0 ⊗ var 4 ⊖ var 1 ⊗ var 3) ⊗ var 8))
+      ⊕ ((var 2 ⊗ var 3 ⊖ var 0 ⊗ var 5) ⊗ var 7 ⊕ (var 0 ⊗ var 4 ⊖ var 1 ⊗ var 3) ⊗ var 8))
       (var 2 ⊗ (var 3 ⊗ var 7 ⊖ var 4 ⊗ var 6)
-          ⊕ (var 5 ⊗ (var 6 ⊗ var 1 ⊖ var 7 ⊗ var 0) ⊕ var 8 ⊗ (var 0 ⊗ var 4 ⊖ var 1 ⊗ var 3)))
-          refl
+      ⊕ (var 5 ⊗ (var 6 ⊗ var 1 ⊖ var 7 ⊗ var 0) ⊕ var 8 ⊗ (var 0 ⊗ var 4 ⊖ var 1 ⊗ var 3)))
+      refl
 
   exchanged : (c r : Pt3) → volume_on r c ≡ pos 0 -ℤ volume_on c r
   exchanged c r =
       ring (ux ∷ uy ∷ uz ∷ c.x ∷ c.y ∷ c.z ∷ r.x ∷ r.y ∷ r.z ∷ a.x ∷ a.y ∷ a.z ∷ [])
       ((var 1 ⊗ (var 8 ⊖ var 11) ⊖ var 2 ⊗ (var 7 ⊖ var 10)) ⊗ (var 3 ⊖ var 9)
-          ⊕ ((var 2 ⊗ (var 6 ⊖ var 9) ⊖ var 0 ⊗ (var 8 ⊖ var 11)) ⊗ (var 4 ⊖ var 10)
-          ⊕ (var 0 ⊗ (var 7 ⊖ var 10) ⊖ var 1 ⊗ (var 6 ⊖ var 9)) ⊗ (var 5 ⊖ var 11)))
+      ⊕ ((var 2 ⊗ (var 6 ⊖ var 9) ⊖ var 0 ⊗ (var 8 ⊖ var 11)) ⊗ (var 4 ⊖ var 10)
+      ⊕ (var 0 ⊗ (var 7 ⊖ var 10) ⊖ var 1 ⊗ (var 6 ⊖ var 9)) ⊗ (var 5 ⊖ var 11)))
       (num (pos 0) ⊖ ((var 1 ⊗ (var 5 ⊖ var 11) ⊖ var 2 ⊗ (var 4 ⊖ var 10)) ⊗ (var 6 ⊖ var 9)
-          ⊕ ((var 2 ⊗ (var 3 ⊖ var 9) ⊖ var 0 ⊗ (var 5 ⊖ var 11)) ⊗ (var 7 ⊖ var 10)
-          ⊕ (var 0 ⊗ (var 4 ⊖ var 10) ⊖ var 1 ⊗ (var 3 ⊖ var 9)) ⊗ (var 8 ⊖ var 11)))) refl
+      ⊕ ((var 2 ⊗ (var 3 ⊖ var 9) ⊖ var 0 ⊗ (var 5 ⊖ var 11)) ⊗ (var 7 ⊖ var 10)
+      ⊕ (var 0 ⊗ (var 4 ⊖ var 10) ⊖ var 1 ⊗ (var 3 ⊖ var 9)) ⊗ (var 8 ⊖ var 11)))) refl
 
   on_line : (c r : Pt3) → IsOnLine a b r → volume_on c r ≡ pos 0
   on_line c r h = turn_round (volume_on c r) (volume_on r c) (exchanged c r) (flat (normal_of a b r) h.x h.y h.z)
@@ -106,7 +106,7 @@ module _ (a b : Pt3) where
       front = t.front;
       inward = λ k d h. last_or_before k i h (λ l. t.inward k d l)
           (λ same. subst (λ r. pos 0 ≤ℤ depth_of n a r) (sym (ap (λ j. get_or ps j d) same ∙ is d))
-              (not_below (depth_of n a p) e));
+          (not_below (depth_of n a p) e));
     }
 
     pub next_normal : (n : Normal) → IsTurned a b ps n i → int_lt (depth_of n a p) (pos 0) ≡ true
@@ -148,10 +148,10 @@ module _ (a b : Pt3) where
                 let turned = λ (c s : Pt3). as_turn (c.x -ℤ a.x) (c.y -ℤ a.y) (c.z -ℤ a.z) (s.x -ℤ a.x) (s.y -ℤ a.y) (s.z -ℤ a.z) n0 n1 n2 up in
                 subst (λ z. pos 0 ≤ℤ z) (sym (turned p r))
                 (still_outermost n0 n1 n2 ux uy uz up t.facing.some (p.x -ℤ a.x) (p.y -ℤ a.y) (p.z -ℤ a.z)
-                    (t.met.x -ℤ a.x) (t.met.y -ℤ a.y) (t.met.z -ℤ a.z) (r.x -ℤ a.x) (r.y -ℤ a.y)
-                    (r.z -ℤ a.z) ahead t.front front
+                (t.met.x -ℤ a.x) (t.met.y -ℤ a.y) (t.met.z -ℤ a.z) (r.x -ℤ a.x) (r.y -ℤ a.y)
+                (r.z -ℤ a.z) ahead t.front front
                 (subst (λ z. pos 0 ≤ℤ z) (turned p t.met)
-                    (opposite (volume_on p t.met) (volume_on t.met p) (exchanged t.met p) further))
+                (opposite (volume_on p t.met) (volume_on t.met p) (exchanged t.met p) further))
                 (subst (λ z. pos 0 ≤ℤ z) (turned t.met r) h))
 
     pub more_normal : (n m : Normal) → IsTurned a b ps n i

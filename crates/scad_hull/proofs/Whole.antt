@@ -36,17 +36,21 @@ two_first : {X : Type 0} (R : List X) (u M m w : X) (F T : List X) (v o : X) (G 
     → R ++ (u ∷ (M ∷ [])) ≡ m
     ∷ (w ∷ F) → T ++ (v ∷ (m ∷ [])) ≡ M ∷ (o ∷ G)
     → (ks : List X) × ((R ++ (u ∷ [])) ++ (T ++ (v ∷ [])) ≡ m ∷ (w ∷ ks))
-two_first [] u M m w F [] v o G e f =
-    ([], ap₂ (λ x y. x ∷ (y ∷ [])) (ap (λ l. get_or l 0 u) e)
-        (ap (λ l. get_or l 0 v) f ∙ ap (λ l. get_or l 1 M) e))
+two_first [] u M m w F [] v o G e f = (
+  [],
+  ap₂ (λ x y. x ∷ (y ∷ [])) (ap (λ l. get_or l 0 u) e)
+      (ap (λ l. get_or l 0 v) f ∙ ap (λ l. get_or l 1 M) e),
+)
 two_first [] u M m w F (y ∷ T) v o G e f = (
   T ++ (v ∷ []),
   ap₂ (λ x z. x ∷ (z ∷ (T ++ (v ∷ [])))) (ap (λ l. get_or l 0 u) e)
       (ap (λ l. get_or l 0 y) f ∙ ap (λ l. get_or l 1 M) e),
 )
-two_first (x ∷ []) u M m w F T v o G e f =
-    (T ++ (v ∷ []), ap₂ (λ a b. a ∷ (b ∷ (T ++ (v ∷ [])))) (ap (λ l. get_or l 0 x) e)
-        (ap (λ l. get_or l 1 u) e))
+two_first (x ∷ []) u M m w F T v o G e f = (
+  T ++ (v ∷ []),
+  ap₂ (λ a b. a ∷ (b ∷ (T ++ (v ∷ [])))) (ap (λ l. get_or l 0 x) e)
+      (ap (λ l. get_or l 1 u) e),
+)
 two_first (x ∷ (y ∷ R)) u M m w F T v o G e f = (
   (R ++ (u ∷ [])) ++ (T ++ (v ∷ [])),
   ap₂ (λ a b. a ∷ (b ∷ ((R ++ (u ∷ [])) ++ (T ++ (v ∷ [])))))
@@ -225,7 +229,7 @@ module _ {X : Type 0} (left : X → X → X → ℤ) (Before After Same : X → 
           let (ys, e, h) = first_of left Before Same plane m u s (turns_on left Before Same plane M u s turns) ends
           (reverse (v ∷ t)) (all_turned (Before m) (v ∷ t) [] later tt) in
           subst (StartsFirst left Before) (sym e ∙ onto (u ∷ s) (reverse (v ∷ t)))
-              (All-from_recursion (Before m) ys h)
+          (All-from_recursion (Before m) ys h)
 
       three : 3 ≤ length ring
       three =

@@ -179,7 +179,7 @@ module _ (q : Point) (dq : IsPoint q) where
     unfolding cross
     cross_same a b h =
         ring (d.x ∷ d.y ∷ a.x ∷ a.y ∷ h.k ∷ []) ((v0 ⊗ v3 ⊖ v1 ⊗ v2) ⊗ v4)
-            (v0 ⊗ (v3 ⊗ v4) ⊖ v1 ⊗ (v2 ⊗ v4)) refl
+        (v0 ⊗ (v3 ⊗ v4) ⊖ v1 ⊗ (v2 ⊗ v4)) refl
         ∙ ap₂ (λ (y x : ℤ). d.x *ℤ y -ℤ d.y *ℤ x) h.y h.x
         ∙ ring (d.x ∷ d.y ∷ b.x ∷ b.y ∷ h.l ∷ []) (v0 ⊗ (v3 ⊗ v4) ⊖ v1 ⊗ (v2 ⊗ v4))
         ((v0 ⊗ v3 ⊖ v1 ⊗ v2) ⊗ v4) refl
@@ -225,7 +225,7 @@ module _ (q : Point) (dq : IsPoint q) where
             (over s.from)
             (over s.to) (cross (seen_from q s.from) (seen_from q s.to))) (sym before)
             (subst (λ b. (pos 1 +ℤ (counted (over s.to && not true) -ℤ counted (over s.from && not b))) ≤ℤ
-                swing_by
+            swing_by
             true (over s.from) (over s.to) (cross (seen_from q s.from) (seen_from q s.to))) (sym behind)
             (upper_first (over s.from) (over s.to) (cross (seen_from q s.from) (seen_from q s.to)) h.0.left o))
 
@@ -253,7 +253,7 @@ module _ (q : Point) (dq : IsPoint q) where
             (over s.from)
             (over s.to) (cross (seen_from q s.from) (seen_from q s.to))) (sym before)
             (subst (λ b. (pos 1 +ℤ (counted (over s.to || not true) -ℤ counted (over s.from || not b))) ≤ℤ
-                swing_by
+            swing_by
             true (over s.from) (over s.to) (cross (seen_from q s.from) (seen_from q s.to))) (sym behind)
             (lower_first (over s.from) (over s.to) (cross (seen_from q s.from) (seen_from q s.to)) h.0.left o))
 
@@ -371,7 +371,7 @@ module _ (q : Point) (dq : IsPoint q) where
         let A = λ (x y : Term). (v6 ⊗ x ⊕ v7 ⊗ y) in
         ring (a.x ∷ a.y ∷ b.x ∷ b.y ∷ c.x ∷ c.y ∷ u ∷ v ∷ [])
         ((v2 ⊗ v5 ⊖ v3 ⊗ v4) ⊗ A v0 v1
-            ⊕ ((v4 ⊗ v1 ⊖ v5 ⊗ v0) ⊗ A v2 v3 ⊕ (v0 ⊗ v3 ⊖ v1 ⊗ v2) ⊗ A v4 v5))
+        ⊕ ((v4 ⊗ v1 ⊖ v5 ⊗ v0) ⊗ A v2 v3 ⊕ (v0 ⊗ v3 ⊖ v1 ⊗ v2) ⊗ A v4 v5))
         (num (pos 0)) refl
 
     some_round : (r s t a b c : ℤ) → r *ℤ a +ℤ (s *ℤ b +ℤ t *ℤ c) ≡ pos 0 → pos 0 ≤ℤ r

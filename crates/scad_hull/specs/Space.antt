@@ -100,8 +100,8 @@ pub record IsOnLine (a b p : Pt3) : Type 0 where
 abbrev pub IsInFront : Normal → Pt3 → Pt3 → Pt3 → Type 0
 IsInFront n a b p = IsOnward
     ((n.z *ℤ (b.y -ℤ a.y) -ℤ n.y *ℤ (b.z -ℤ a.z)) *ℤ (p.x -ℤ a.x) +ℤ
-        ((n.x *ℤ (b.z -ℤ a.z) -ℤ n.z *ℤ (b.x -ℤ a.x)) *ℤ (p.y -ℤ a.y) +ℤ
-        (n.y *ℤ (b.x -ℤ a.x) -ℤ n.x *ℤ (b.y -ℤ a.y)) *ℤ (p.z -ℤ a.z)))
+    ((n.x *ℤ (b.z -ℤ a.z) -ℤ n.z *ℤ (b.x -ℤ a.x)) *ℤ (p.y -ℤ a.y) +ℤ
+    (n.y *ℤ (b.x -ℤ a.x) -ℤ n.x *ℤ (b.y -ℤ a.y)) *ℤ (p.z -ℤ a.z)))
     (depth_of n a p)
 
 -- the known plane has all points of a list in front or on the line

@@ -20,7 +20,7 @@ place_is n m s t px py rx ry qx qy d = ring (n ∷ m ∷ s ∷ t ∷ px ∷ py �
     (v0 ⊗ ((v2 ⊗ v4 ⊕ v3 ⊗ v6) ⊗ v10 ⊖ v8 ⊗ (v2 ⊗ num (pos 1) ⊕ v3 ⊗ num (pos 1))) ⊕ v1 ⊗
     ((v2 ⊗ v5 ⊕ v3 ⊗ v7) ⊗ v10 ⊖ v9 ⊗ (v2 ⊗ num (pos 1) ⊕ v3 ⊗ num (pos 1))))
     (v0 ⊗ (v2 ⊗ (v4 ⊗ v10 ⊖ v8) ⊕ v3 ⊗ (v6 ⊗ v10 ⊖ v8)) ⊕ v1
-        ⊗ (v2 ⊗ (v5 ⊗ v10 ⊖ v9) ⊕ v3 ⊗ (v7 ⊗ v10 ⊖ v9))) refl
+    ⊗ (v2 ⊗ (v5 ⊗ v10 ⊖ v9) ⊕ v3 ⊗ (v7 ⊗ v10 ⊖ v9))) refl
 
 weight_is : (c s t d : ℤ) → c *ℤ ((s *ℤ pos 1 +ℤ t *ℤ pos 1) *ℤ d) ≡ (c *ℤ d) *ℤ (s +ℤ t)
 weight_is c s t d = ring (c ∷ s ∷ t ∷ d ∷ []) (v0 ⊗ ((v1 ⊗ num (pos 1) ⊕ v2 ⊗ num (pos 1)) ⊗ v3))

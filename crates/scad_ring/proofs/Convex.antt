@@ -47,7 +47,7 @@ breadth : (ax ay bx by vx vy : ℤ) → cross vx vy bx by +ℤ (pos 0 -ℤ cross
     (by -ℤ ay)
 breadth ax ay bx by vx vy = ring (ax ∷ ay ∷ bx ∷ by ∷ vx ∷ vy ∷ [])
     ((v4 ⊗ v3 ⊖ v5 ⊗ v2) ⊕ (num (pos 0) ⊖ (v4 ⊗ v1 ⊖ v5 ⊗ v0)))
-        (v4 ⊗ (v3 ⊖ v1) ⊖ v5 ⊗ (v2 ⊖ v0)) refl
+    (v4 ⊗ (v3 ⊖ v1) ⊖ v5 ⊗ (v2 ⊖ v0)) refl
 
 -- an end beyond that line lies where the half plane's other end and the crossing put it
 first_by : (n m ax ay bx by vx vy : ℤ)
@@ -57,7 +57,7 @@ first_by : (n m ax ay bx by vx vy : ℤ)
 first_by n m ax ay bx by vx vy = ring (n ∷ m ∷ ax ∷ ay ∷ bx ∷ by ∷ vx ∷ vy ∷ [])
     ((v0 ⊗ v2 ⊕ v1 ⊗ v3) ⊗ (v6 ⊗ (v5 ⊖ v3) ⊖ v7 ⊗ (v4 ⊖ v2)))
     ((v2 ⊗ v5 ⊖ v3 ⊗ v4) ⊗ (v0 ⊗ v6 ⊕ v1 ⊗ v7) ⊖ (v6 ⊗ v3 ⊖ v7 ⊗ v2)
-        ⊗ ((v0 ⊗ v2 ⊕ v1 ⊗ v3) ⊖ (v0 ⊗ v4 ⊕ v1 ⊗ v5)))
+    ⊗ ((v0 ⊗ v2 ⊕ v1 ⊗ v3) ⊖ (v0 ⊗ v4 ⊕ v1 ⊗ v5)))
     refl
 
 last_by : (n m ax ay bx by vx vy : ℤ)
@@ -96,7 +96,7 @@ one_first n m c ax ay bx by h =
     let e : n *ℤ (pos 1 *ℤ ax +ℤ pos 0 *ℤ bx) +ℤ m *ℤ (pos 1 *ℤ ay +ℤ pos 0 *ℤ by) ≡ n *ℤ ax +ℤ m *ℤ ay =
     ring (n ∷ m ∷ ax ∷ ay ∷ bx ∷ by ∷ [])
     (v0 ⊗ (num (pos 1) ⊗ v2 ⊕ num (pos 0) ⊗ v4) ⊕ v1 ⊗ (num (pos 1) ⊗ v3 ⊕ num (pos 0) ⊗ v5))
-        (v0 ⊗ v2 ⊕ v1 ⊗ v3)
+    (v0 ⊗ v2 ⊕ v1 ⊗ v3)
     refl in
     omega (arith, ints, e, h)
 
@@ -106,7 +106,7 @@ one_last n m c ax ay bx by h =
     let e : n *ℤ (pos 0 *ℤ ax +ℤ pos 1 *ℤ bx) +ℤ m *ℤ (pos 0 *ℤ ay +ℤ pos 1 *ℤ by) ≡ n *ℤ bx +ℤ m *ℤ by =
     ring (n ∷ m ∷ ax ∷ ay ∷ bx ∷ by ∷ [])
     (v0 ⊗ (num (pos 0) ⊗ v2 ⊕ num (pos 1) ⊗ v4) ⊕ v1 ⊗ (num (pos 0) ⊗ v3 ⊕ num (pos 1) ⊗ v5))
-        (v0 ⊗ v4 ⊕ v1 ⊗ v5)
+    (v0 ⊗ v4 ⊕ v1 ⊗ v5)
     refl in
     omega (arith, ints, e, h)
 
@@ -154,7 +154,7 @@ means : (n m s t ax ay bx by : ℤ) → n *ℤ (s *ℤ ax +ℤ t *ℤ bx) +ℤ m
     ≡ s *ℤ (n *ℤ ax +ℤ m *ℤ ay) +ℤ t *ℤ (n *ℤ bx +ℤ m *ℤ by)
 means n m s t ax ay bx by = ring (n ∷ m ∷ s ∷ t ∷ ax ∷ ay ∷ bx ∷ by ∷ [])
     (v0 ⊗ (v2 ⊗ v4 ⊕ v3 ⊗ v6) ⊕ v1 ⊗ (v2 ⊗ v5 ⊕ v3 ⊗ v7))
-        (v2 ⊗ (v0 ⊗ v4 ⊕ v1 ⊗ v5) ⊕ v3 ⊗ (v0 ⊗ v6 ⊕ v1 ⊗ v7)) refl
+    (v2 ⊗ (v0 ⊗ v4 ⊕ v1 ⊗ v5) ⊕ v3 ⊗ (v0 ⊗ v6 ⊕ v1 ⊗ v7)) refl
 
 first_gap : (c s t a b : ℤ) → (c -ℤ a) *ℤ (s +ℤ t)
     ≡ (c *ℤ (s +ℤ t) -ℤ (s *ℤ a +ℤ t *ℤ b)) +ℤ t *ℤ (b -ℤ a)
@@ -227,7 +227,7 @@ module _ (s t : ℤ) (from : pos 0 ≤ℤ s) (to : pos 0 ≤ℤ t) (some : pos 0
       sum_is x y w n m c k l d f g = ring (x ∷ y ∷ w ∷ n ∷ m ∷ c ∷ k ∷ l ∷ d ∷ f ∷ g ∷ [])
           (v9 ⊗ (v5 ⊗ v2 ⊖ (v3 ⊗ v0 ⊕ v4 ⊗ v1)) ⊕ v10 ⊗ (v8 ⊗ v2 ⊖ (v6 ⊗ v0 ⊕ v7 ⊗ v1)))
           ((v9 ⊗ v5 ⊕ v10 ⊗ v8) ⊗ v2
-              ⊖ (v0 ⊗ (v9 ⊗ v3 ⊕ v10 ⊗ v6) ⊕ v1 ⊗ (v9 ⊗ v4 ⊕ v10 ⊗ v7))) refl
+          ⊖ (v0 ⊗ (v9 ⊗ v3 ⊕ v10 ⊗ v6) ⊕ v1 ⊗ (v9 ⊗ v4 ⊕ v10 ⊗ v7))) refl
 
   -- f and g are the parts of the segment's way along the two borders
   pub beside : (n m c k l d f g : ℤ) → pos 0 ≤ℤ f → pos 0 ≤ℤ g → f *ℤ n +ℤ g *ℤ k ≡ by -ℤ ay

@@ -20,8 +20,11 @@ use Rattle.scad_ring.proofs.Meetings.{approach_if_passes, passes_if_approach, na
 
 -- ---- the points of a segment are those of the segment back
 pub mean_back : (s t : ℤ) (a b : Point) → mean s t a b ≡ mean t s b a
-mean_back s t a b = rw (turned (s *ℤ a.x) (t *ℤ b.x), turned (s *ℤ a.y) (t *ℤ b.y),
-    turned (s *ℤ a.d) (t *ℤ b.d)) refl
+mean_back s t a b = rw (
+  turned (s *ℤ a.x) (t *ℤ b.x),
+  turned (s *ℤ a.y) (t *ℤ b.y),
+  turned (s *ℤ a.d) (t *ℤ b.d),
+) refl
   where
     turned : (x y : ℤ) → x +ℤ y ≡ y +ℤ x
     turned x y = omega (arith, ints)
@@ -129,7 +132,7 @@ module _ (s u : ℕ) (S U : ℤ) (half : ((S ≡ pos (2 * s)) × (s ≤ u)) ⊎ 
       (widen (pos s *ℤ pos 2) (pos u *ℤ pos 2) S U
       (p.x *ℤ pos 2 -ℤ x) (p.y *ℤ pos 2 -ℤ y) (r.x *ℤ pos 2 -ℤ x) (r.y *ℤ pos 2 -ℤ y) half_most sum_most
       (approach_if_passes S U (p.x *ℤ pos 2 -ℤ x) (p.y *ℤ pos 2 -ℤ y) (r.x *ℤ pos 2 -ℤ x)
-          (r.y *ℤ pos 2 -ℤ y) some
+      (r.y *ℤ pos 2 -ℤ y) some
       wide
       slim (rises p r up) (subst (λ (t : Bool). t ≡ true) (seen_is S U x y p r) h)))
 
@@ -137,10 +140,10 @@ module _ (s u : ℕ) (S U : ℤ) (half : ((S ≡ pos (2 * s)) × (s ≤ u)) ⊎ 
       → IsClear Closed (octagon (pos s) (pos u)) (halves x y) (whole p) (whole r)
   clear_if p r up h k t from to many n = both_ways _ (subst (λ (b : Bool). b ≡ false) (seen_is S U x y p r) h)
       (passes_if_approach S U (p.x *ℤ pos 2 -ℤ x) (p.y *ℤ pos 2 -ℤ y) (r.x *ℤ pos 2 -ℤ x)
-          (r.y *ℤ pos 2 -ℤ y) some
+      (r.y *ℤ pos 2 -ℤ y) some
       wide
       slim (rises p r up) (narrow (pos s *ℤ pos 2) (pos u *ℤ pos 2) S U (p.x *ℤ pos 2 -ℤ x)
-          (p.y *ℤ pos 2 -ℤ y)
+      (p.y *ℤ pos 2 -ℤ y)
       (r.x *ℤ pos 2 -ℤ x) (r.y *ℤ pos 2 -ℤ y) half_is sum_is
       (approach_if_near (halves x y) p r (pos s) (pos u) k t from
       to many n)))

@@ -71,9 +71,9 @@ module _ (S U ax ay bx by : ℤ) where
       (int_le ax S || int_le bx S) (int_le (neg_ℤ S) ax || int_le (neg_ℤ S) bx)
       (int_le ay S || int_le by S) (int_le (neg_ℤ S) ay || int_le (neg_ℤ S) by)
       (int_le (ax +ℤ ay) U || int_le (bx +ℤ by) U)
-          (int_le (neg_ℤ U) (ax +ℤ ay) || int_le (neg_ℤ U) (bx +ℤ by))
+      (int_le (neg_ℤ U) (ax +ℤ ay) || int_le (neg_ℤ U) (bx +ℤ by))
       (int_le (ax -ℤ ay) U || int_le (bx -ℤ by) U)
-          (int_le (neg_ℤ U) (ax -ℤ ay) || int_le (neg_ℤ U) (bx -ℤ by))
+      (int_le (neg_ℤ U) (ax -ℤ ay) || int_le (neg_ℤ U) (bx -ℤ by))
       (int_le (cross ax ay bx by) (breadth S (U -ℤ S) (bx -ℤ ax) (by -ℤ ay)))
       (int_le (neg_ℤ (breadth S (U -ℤ S) (bx -ℤ ax) (by -ℤ ay))) (cross ax ay bx by))
       h (λ p q r s t u v w m l. (

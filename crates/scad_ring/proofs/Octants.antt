@@ -200,11 +200,11 @@ module _ (S T U : ℤ) (sum : U ≡ S +ℤ T) (ax ay bx by : ℤ) (a : Approach 
   steep_right_line right steep =
       let m = beside a.s a.t a.from a.to a.some ax ay bx by (pos 1) (neg_ℤ (pos 1)) U (pos 1) (pos 0) S
       (bx -ℤ ax) ((by -ℤ ay) -ℤ (bx -ℤ ax)) right (omega (arith, ints)) (omega (arith, ints))
-          (omega (arith, ints))
+      (omega (arith, ints))
       a.below_right a.right in
       let l = beside_back a.s a.t a.from a.to a.some ax ay bx by (neg_ℤ (pos 1)) (pos 1) U (neg_ℤ (pos 1)) (pos 0) S
       (bx -ℤ ax) ((by -ℤ ay) -ℤ (bx -ℤ ax)) right (omega (arith, ints)) (omega (arith, ints))
-          (omega (arith, ints))
+      (omega (arith, ints))
       a.over_left a.left in
       let e = reach_is (bx -ℤ ax) (by -ℤ ay) in
       record { least = omega (arith, ints, l, e); most = omega (arith, ints, m, e) }
@@ -225,7 +225,7 @@ module _ (S T U : ℤ) (sum : U ≡ S +ℤ T) (ax ay bx by : ℤ) (a : Approach 
       (omega (arith, ints)) a.right a.over_right in
       let l = beside_back a.s a.t a.from a.to a.some ax ay bx by (neg_ℤ (pos 1)) (pos 0) S (neg_ℤ (pos 1))
       (neg_ℤ (pos 1)) U ((by -ℤ ay) +ℤ (bx -ℤ ax)) (pos 0 -ℤ (bx -ℤ ax)) (omega (arith, ints))
-          (omega (arith, ints))
+      (omega (arith, ints))
       (omega (arith, ints)) (omega (arith, ints)) a.left a.below_left in
       let e = reach_is (bx -ℤ ax) (by -ℤ ay) in
       record { least = omega (arith, ints, l, e); most = omega (arith, ints, m, e) }

@@ -43,7 +43,7 @@ by_step n m c px py d qx qy e x y some step near =
         (py *ℤ (e *ℤ d) -ℤ (qy *ℤ d +ℤ y) *ℤ d))
     sum_is = ring (n ∷ m ∷ c ∷ px ∷ py ∷ d ∷ qx ∷ qy ∷ e ∷ x ∷ y ∷ [])
         (((v2 ⊗ (v5 ⊗ v8) ⊖ num (pos 1))
-            ⊖ (v0 ⊗ (v3 ⊗ v8 ⊖ v6 ⊗ v5) ⊕ v1 ⊗ (v4 ⊗ v8 ⊖ v7 ⊗ v5))) ⊗ v5 ⊕
+        ⊖ (v0 ⊗ (v3 ⊗ v8 ⊖ v6 ⊗ v5) ⊕ v1 ⊗ (v4 ⊗ v8 ⊖ v7 ⊗ v5))) ⊗ v5 ⊕
         (num (pos 1) ⊕ (v0 ⊗ v9 ⊕ v1 ⊗ v10)) ⊗ v5)
         (v2 ⊗ (v5 ⊗ (v8 ⊗ v5)) ⊖ (v0 ⊗ (v3 ⊗ (v8 ⊗ v5) ⊖ (v6 ⊗ v5 ⊕ v9) ⊗ v5) ⊕ v1 ⊗
         (v4 ⊗ (v8 ⊗ v5) ⊖ (v7 ⊗ v5 ⊕ v10) ⊗ v5))) refl
@@ -146,9 +146,9 @@ by_one n m c e px py pd qx qy qd bx by bd hp hq hb near one =
         (e *ℤ (qd *ℤ bd) -ℤ (n *ℤ (qx *ℤ bd -ℤ bx *ℤ qd) +ℤ m *ℤ (qy *ℤ bd -ℤ by *ℤ qd)))
     sum_is = ring (n ∷ m ∷ c ∷ e ∷ px ∷ py ∷ pd ∷ qx ∷ qy ∷ qd ∷ bx ∷ by ∷ bd ∷ [])
         (((v2 ⊕ v3) ⊗ (v6 ⊗ v12) ⊖ (v0 ⊗ (v4 ⊗ v12 ⊖ v10 ⊗ v6) ⊕ v1 ⊗ (v5 ⊗ v12 ⊖ v11 ⊗ v6)))
-            ⊗ v9)
+        ⊗ v9)
         (v12 ⊗ (v2 ⊗ (v6 ⊗ v9) ⊖ (v0 ⊗ (v4 ⊗ v9 ⊖ v7 ⊗ v6) ⊕ v1 ⊗ (v5 ⊗ v9 ⊖ v8 ⊗ v6))) ⊕ v6
-            ⊗
+        ⊗
         (v3 ⊗ (v9 ⊗ v12) ⊖ (v0 ⊗ (v7 ⊗ v12 ⊖ v10 ⊗ v9) ⊕ v1 ⊗ (v8 ⊗ v12 ⊖ v11 ⊗ v9)))) refl
 
 -- what is near to q by a closed octagon is near by the open one, greater by 1 and by 2 in sum, to each point b that q

@@ -117,7 +117,7 @@ module _ (p r : Pt) (q : Point) (d : pos 0 <ℤ q.d) where
         (r.y *ℤ q.d -ℤ q.y)) (sym (minus_times c q.d))
         (right_corner (c *ℤ q.d) (t *ℤ q.d) (u *ℤ q.d) sum_is positive slim narrow (p.x *ℤ q.d -ℤ q.x)
         (p.y *ℤ q.d -ℤ q.y) (r.x *ℤ q.d -ℤ q.x) (r.y *ℤ q.d -ℤ q.y) (rises p.x r.x q.x x)
-            (goes_up p.y r.y q.y y)) l
+        (goes_up p.y r.y q.y y)) l
 
     pub steep_right_by : p.x ≤ℤ r.x → p.y <ℤ r.y → PassesFrom c (pos 0 -ℤ t) → CornerFrom c (pos 0 -ℤ t)
     steep_right_by x y l = subst
@@ -128,21 +128,21 @@ module _ (p r : Pt) (q : Point) (d : pos 0 <ℤ q.d) where
         (r.y *ℤ q.d -ℤ q.y)) (sym (minus_times t q.d))
         (steep_right_corner (c *ℤ q.d) (t *ℤ q.d) (u *ℤ q.d) sum_is positive slim narrow (p.x *ℤ q.d -ℤ q.x)
         (p.y *ℤ q.d -ℤ q.y) (r.x *ℤ q.d -ℤ q.x) (r.y *ℤ q.d -ℤ q.y) (goes_up p.x r.x q.x x)
-            (rises p.y r.y q.y y)) l
+        (rises p.y r.y q.y y)) l
 
     pub steep_left_by : r.x ≤ℤ p.x → p.y <ℤ r.y → PassesFrom c t → CornerFrom c t
     steep_left_by x y l =
         let g = goes_up r.x p.x q.x x in
         steep_left_corner (c *ℤ q.d) (t *ℤ q.d) (u *ℤ q.d) sum_is positive slim narrow (p.x *ℤ q.d -ℤ q.x)
         (p.y *ℤ q.d -ℤ q.y) (r.x *ℤ q.d -ℤ q.x) (r.y *ℤ q.d -ℤ q.y) (omega (arith, ints, g))
-            (rises p.y r.y q.y y) l
+        (rises p.y r.y q.y y) l
 
     pub left_by : r.x <ℤ p.x → p.y ≤ℤ r.y → PassesFrom t c → CornerFrom t c
     left_by x y l =
         let g = rises r.x p.x q.x x in
         left_corner (c *ℤ q.d) (t *ℤ q.d) (u *ℤ q.d) sum_is positive slim narrow (p.x *ℤ q.d -ℤ q.x)
         (p.y *ℤ q.d -ℤ q.y) (r.x *ℤ q.d -ℤ q.x) (r.y *ℤ q.d -ℤ q.y) (omega (arith, ints, g))
-            (goes_up p.y r.y q.y y) l
+        (goes_up p.y r.y q.y y) l
 
     -- ---- the line from a mean
     pub right_passes : p.y ≤ℤ r.y → (r.y -ℤ p.y) ≤ℤ (r.x -ℤ p.x) → ApproachFrom c u q p r
@@ -175,7 +175,7 @@ module _ (p r : Pt) (q : Point) (d : pos 0 <ℤ q.d) where
     left_passes y x a =
         let h = steeper p.y r.y r.x p.x q.y q.x x in
         left_line (c *ℤ q.d) (t *ℤ q.d) (u *ℤ q.d) sum_is (p.x *ℤ q.d -ℤ q.x) (p.y *ℤ q.d -ℤ q.y)
-            (r.x *ℤ q.d -ℤ q.x)
+        (r.x *ℤ q.d -ℤ q.x)
         (r.y *ℤ q.d -ℤ q.y) a (goes_up p.y r.y q.y y) (omega (arith, ints, h))
 
     -- ---- the line from the half planes that an edge along the octagon's sides runs between
@@ -185,10 +185,10 @@ module _ (p r : Pt) (q : Point) (d : pos 0 <ℤ q.d) where
         let k = goes_up p.y r.y q.y (omega (arith, ints)) in
         let l = goes_up r.y p.y q.y (omega (arith, ints)) in
         subst (λ (z : ℤ). Passes (t *ℤ q.d) z (p.x *ℤ q.d -ℤ q.x) (p.y *ℤ q.d -ℤ q.y)
-            (r.x *ℤ q.d -ℤ q.x)
+        (r.x *ℤ q.d -ℤ q.x)
         (r.y *ℤ q.d -ℤ q.y)) (sym (minus_times c q.d))
         (flat_line (c *ℤ q.d) (t *ℤ q.d) (u *ℤ q.d) sum_is (p.x *ℤ q.d -ℤ q.x) (p.y *ℤ q.d -ℤ q.y)
-            (r.x *ℤ q.d -ℤ q.x)
+        (r.x *ℤ q.d -ℤ q.x)
         (r.y *ℤ q.d -ℤ q.y) (goes_up p.x r.x q.x x) (omega (arith, ints, k, l)) g h)
 
     pub diagonal_right_passes : p.x ≤ℤ r.x → r.y -ℤ p.y ≡ r.x -ℤ p.x → FirstBy (neg_ℤ (pos 1)) (pos 1) u
@@ -197,10 +197,10 @@ module _ (p r : Pt) (q : Point) (d : pos 0 <ℤ q.d) where
         let k = steeper p.x r.x p.y r.y q.x q.y (omega (arith, ints)) in
         let l = steeper p.y r.y p.x r.x q.y q.x (omega (arith, ints)) in
         subst (λ (z : ℤ). Passes (t *ℤ q.d) z (p.x *ℤ q.d -ℤ q.x) (p.y *ℤ q.d -ℤ q.y)
-            (r.x *ℤ q.d -ℤ q.x)
+        (r.x *ℤ q.d -ℤ q.x)
         (r.y *ℤ q.d -ℤ q.y)) (sym (minus_times c q.d))
         (diagonal_right_line (c *ℤ q.d) (t *ℤ q.d) (u *ℤ q.d) sum_is (p.x *ℤ q.d -ℤ q.x)
-            (p.y *ℤ q.d -ℤ q.y)
+        (p.y *ℤ q.d -ℤ q.y)
         (r.x *ℤ q.d -ℤ q.x) (r.y *ℤ q.d -ℤ q.y) (goes_up p.x r.x q.x x) (omega (arith, ints, k, l)) g h)
 
     pub upright_passes : p.x ≡ r.x → p.y ≤ℤ r.y → FirstBy (neg_ℤ (pos 1)) (pos 0) c
@@ -209,7 +209,7 @@ module _ (p r : Pt) (q : Point) (d : pos 0 <ℤ q.d) where
         let k = goes_up p.x r.x q.x (omega (arith, ints)) in
         let l = goes_up r.x p.x q.x (omega (arith, ints)) in
         subst (λ (z : ℤ). Passes (c *ℤ q.d) z (p.x *ℤ q.d -ℤ q.x) (p.y *ℤ q.d -ℤ q.y)
-            (r.x *ℤ q.d -ℤ q.x)
+        (r.x *ℤ q.d -ℤ q.x)
         (r.y *ℤ q.d -ℤ q.y)) (sym (minus_times t q.d))
         (upright_line (c *ℤ q.d) (t *ℤ q.d) (u *ℤ q.d) sum_is (p.x *ℤ q.d -ℤ q.x) (p.y *ℤ q.d -ℤ q.y)
         (r.x *ℤ q.d -ℤ q.x) (r.y *ℤ q.d -ℤ q.y) (omega (arith, ints, k, l)) (goes_up p.y r.y q.y y) g h)

@@ -77,7 +77,7 @@ module _ (c : ℤ) (less : pos 0 <ℤ c) (p r : Pt) (x : p.x ≡ r.x) (y : p.y �
       let g3 = side_gap (pos 1) (pos 1) c q p (left c p) (low c p) s3 s.1.1.1.0 in
       approach_four_point (c *ℤ q.d) (p.x *ℤ q.d -ℤ q.x) (p.y *ℤ q.d -ℤ q.y) (r.x *ℤ q.d -ℤ q.x)
       (r.y *ℤ q.d -ℤ q.y) (ap (λ (z : ℤ). z *ℤ q.d -ℤ q.x) x) (ap (λ (z : ℤ). z *ℤ q.d -ℤ q.y) y)
-          (inl g3)
+      (inl g3)
       (inl g2) (inl g0) (inr g1)
 
   pub still_round : IsRingRound c c p r (four_sided c p r Still)

@@ -216,7 +216,7 @@ module _ (c t u : ℤ) (sum : u ≡ c +ℤ t) (some : pos 0 <ℤ t) (less : t <�
     );
     starts = All-from_recursion (IsBefore (low_left c t p))
         ((low_right c t p) ∷ (right_low c t p) ∷ (right_high c t p) ∷ (right_high c t r) ∷ (high_right c t r)
-            ∷
+        ∷
         (high_left c t r) ∷ (left_high c t r) ∷ (left_low c t r) ∷ (left_low c t p) ∷ []) (
           inr (refl, omega (arith, ints)),
           (

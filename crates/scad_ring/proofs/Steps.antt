@@ -87,7 +87,7 @@ module _ (n m k : ℤ) (q : Point) (p P Q : Pt) where
       seen l ax ay px py x y d = ring (l ∷ ax ∷ ay ∷ px ∷ py ∷ x ∷ y ∷ d ∷ n ∷ m ∷ [])
           ((v0 ⊗ v9) ⊗ (v6 ⊖ v2 ⊗ v7) ⊖ (v0 ⊗ (num (pos 0) ⊖ v8)) ⊗ (v5 ⊖ v1 ⊗ v7))
           (((v8 ⊗ (v3 ⊖ v1) ⊕ v9 ⊗ (v4 ⊖ v2)) ⊗ v7
-              ⊖ (v8 ⊗ (v3 ⊗ v7 ⊖ v5) ⊕ v9 ⊗ (v4 ⊗ v7 ⊖ v6))) ⊗ v0) refl
+          ⊖ (v8 ⊗ (v3 ⊗ v7 ⊖ v5) ⊕ v9 ⊗ (v4 ⊗ v7 ⊖ v6))) ⊗ v0) refl
 
   side_holds : Side n m k p P Q → (n *ℤ (p.x *ℤ q.d -ℤ q.x) +ℤ m *ℤ (p.y *ℤ q.d -ℤ q.y)) ≤ℤ
       (k *ℤ q.d)
@@ -116,7 +116,7 @@ scaled n m px py rx ry x y d h p =
     let g = at_least_mul (n *ℤ (rx -ℤ px) +ℤ m *ℤ (ry -ℤ py)) d h (omega (arith, ints)) in
     let e : (n *ℤ (rx -ℤ px) +ℤ m *ℤ (ry -ℤ py)) *ℤ d ≡ (n *ℤ (rx *ℤ d -ℤ x) +ℤ m *ℤ (ry *ℤ d -ℤ y)) -ℤ
     (n *ℤ (px *ℤ d -ℤ x) +ℤ m *ℤ (py *ℤ d -ℤ y))
-        = ring (n ∷ m ∷ px ∷ py ∷ rx ∷ ry ∷ x ∷ y ∷ d ∷ [])
+    = ring (n ∷ m ∷ px ∷ py ∷ rx ∷ ry ∷ x ∷ y ∷ d ∷ [])
     ((v0 ⊗ (v4 ⊖ v2) ⊕ v1 ⊗ (v5 ⊖ v3)) ⊗ v8)
     ((v0 ⊗ (v4 ⊗ v8 ⊖ v6) ⊕ v1 ⊗ (v5 ⊗ v8 ⊖ v7)) ⊖ (v0 ⊗ (v2 ⊗ v8 ⊖ v6) ⊕ v1 ⊗ (v3 ⊗ v8 ⊖ v7))) refl in
     omega (arith, ints, g, e)
@@ -169,12 +169,12 @@ module _ (vx vy : ℤ) (q : Point) (p r P Q : Pt) where
           ((bx *ℤ d -ℤ x) -ℤ (ax *ℤ d -ℤ x)) ((by *ℤ d -ℤ y) -ℤ (ay *ℤ d -ℤ y))
       plain ax ay bx by x y d = ring (ax ∷ ay ∷ bx ∷ by ∷ x ∷ y ∷ d ∷ vx ∷ vy ∷ [])
           ((((v2 ⊕ v7) ⊗ num (pos 1) ⊖ (v0 ⊕ v7) ⊗ num (pos 1))
-              ⊗ (v5 ⊗ num (pos 1) ⊖ (v1 ⊕ v8) ⊗ v6) ⊖
+          ⊗ (v5 ⊗ num (pos 1) ⊖ (v1 ⊕ v8) ⊗ v6) ⊖
           ((v3 ⊕ v8) ⊗ num (pos 1) ⊖ (v1 ⊕ v8) ⊗ num (pos 1)) ⊗ (v4 ⊗ num (pos 1) ⊖ (v0 ⊕ v7) ⊗ v6))
-              ⊗ v6)
+          ⊗ v6)
           (((v0 ⊗ v6 ⊖ v4) ⊗ (v3 ⊗ v6 ⊖ v5) ⊖ (v1 ⊗ v6 ⊖ v5) ⊗ (v2 ⊗ v6 ⊖ v4)) ⊕
           ((v7 ⊗ v6) ⊗ ((v3 ⊗ v6 ⊖ v5) ⊖ (v1 ⊗ v6 ⊖ v5)) ⊖ (v8 ⊗ v6)
-              ⊗ ((v2 ⊗ v6 ⊖ v4) ⊖ (v0 ⊗ v6 ⊖ v4)))) refl
+          ⊗ ((v2 ⊗ v6 ⊖ v4) ⊖ (v0 ⊗ v6 ⊖ v4)))) refl
 
   pub beside_holds : Beside vx vy p r P Q → pos 0 <ℤ q.d
       → (pos 0 -ℤ cross (vx *ℤ q.d) (vy *ℤ q.d) ((r.x *ℤ q.d -ℤ q.x) -ℤ (p.x *ℤ q.d -ℤ q.x))

@@ -47,7 +47,7 @@ module _ (p r : Pt) (forward : (p.y <ℤ r.y) ⊎ ((p.y ≡ r.y) × (p.x ≤ℤ 
   unfolding direction_of
   by_direction F still flat right diagonal_right steep_right upright steep_left diagonal_left left =
       by_y (int_lt (pos 0) (r.y -ℤ p.y)) (int_lt (pos 0) (r.x -ℤ p.x)) (int_lt (r.x -ℤ p.x) (pos 0)) refl refl
-          refl
+      refl
     where
       to_right : int_lt (pos 0) (r.x -ℤ p.x) ≡ true → int_lt (pos 0) (r.y -ℤ p.y) ≡ true → (t u : Bool)
           → int_lt (r.y -ℤ p.y) (r.x -ℤ p.x) ≡ t → int_lt (r.x -ℤ p.x) (r.y -ℤ p.y) ≡ u

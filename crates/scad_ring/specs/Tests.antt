@@ -24,5 +24,5 @@ breadth s t x y =
 abbrev pub passes : ℤ → ℤ → ℤ → ℤ → ℤ → ℤ → Bool
 passes s u ax ay bx by =
     overlaps s ax bx && (overlaps s ay by &&
-        (overlaps u (ax +ℤ ay) (bx +ℤ by) && (overlaps u (ax -ℤ ay) (bx -ℤ by)
+    (overlaps u (ax +ℤ ay) (bx +ℤ by) && (overlaps u (ax -ℤ ay) (bx -ℤ by)
     && is_size (breadth s (u -ℤ s) (bx -ℤ ax) (by -ℤ ay)) (ax *ℤ by -ℤ ay *ℤ bx))))

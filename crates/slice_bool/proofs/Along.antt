@@ -137,7 +137,7 @@ passed_next es bs ss i k s q g a b f j d e o h =
     let left : IsLeft s.spot t.spot = subst (λ (s : Stop). IsLeft s.spot t.spot) (sym q) r.1 in
     subst (λ (m : ℕ). is_right_of es (point_of (get_or ss m e).spot) (get_or bs j d) ≡ false) n
     (not_right_on es s.spot t.spot (get_or bs j d) s.runs t.runs at left (first_there es bs j d a (omega arith))
-        (f j d o))
+    (f j d o))
 
 pub value_more : (P : ℕ → Bool) (vs : List Bool) (v : Bool) (i : ℕ) → length vs ≡ i
     → ((k : ℕ) → k < i → get_or vs k false ≡ P k) → v ≡ P i → (k : ℕ) → k < i + 1

@@ -122,7 +122,7 @@ module _ (es : List LeafEdge) (shape : Shape) where
   slab_inside l u n ([] ∷ bs) r ls = absurd r.0
   slab_inside l u n ((k ∷ ks) ∷ bs) r ls =
       AllByRecursion-append (AllInside (Between l u)) (bundle_piece es shape l u (k ∷ ks))
-          (slab_pieces es shape l u bs)
+      (slab_pieces es shape l u bs)
       (between_inside (Between l u) (is_in_by true false es shape (half_point es l u k))
       (is_in_by true true es shape (half_point es l u k)) (spot_on (edge_at es k) l) (spot_on (edge_at es k) u) k
       (high_divisor es shape l u n k ls.0) (λ p dp i. inside_slab es shape l u n k ls.0 p dp i))
@@ -135,7 +135,7 @@ module _ (es : List LeafEdge) (shape : Shape) where
   later_named l u k ks ([] ∷ bs) h = absurd h.0
   later_named l u k ks ((j ∷ js) ∷ bs) h =
       AllByRecursion-append (λ r. r.edge ≡ k → ⊥) (bundle_piece es shape l u (j ∷ js))
-          (slab_pieces es shape l u bs)
+      (slab_pieces es shape l u bs)
       (others_named k (is_in_by true false es shape (half_point es l u j))
       (is_in_by true true es shape (half_point es l u j)) (spot_on (edge_at es j) l) (spot_on (edge_at es j) u) j
       (λ e. not_before_itself l (edge_at es k) (subst (λ (i : ℕ). IsBefore l (edge_at es k) (edge_at es i)) e h.0)))

@@ -128,7 +128,7 @@ pub not_after : (l : Level) (s w : Spot) → pos 0 <ℤ l.d → IsSpotAt l s →
 unfolding is_beyond
 not_after l s w dl hs hw h =
     ap (is_beyond true) (spot_gap l s w hs hw) ∙ beyond_mul true l.d (w.x *ℤ pos s.run -ℤ s.x *ℤ pos w.run) dl
-        ∙ sym
+    ∙ sym
     (omega (arith, ints))
 
 pub is_after : (l : Level) (s w : Spot) → pos 0 <ℤ l.d → IsSpotAt l s → IsSpotAt l w
@@ -136,7 +136,7 @@ pub is_after : (l : Level) (s w : Spot) → pos 0 <ℤ l.d → IsSpotAt l s → 
 unfolding is_beyond
 is_after l s w dl hs hw h =
     ap (is_beyond true) (spot_gap l s w hs hw) ∙ beyond_mul true l.d (w.x *ℤ pos s.run -ℤ s.x *ℤ pos w.run) dl
-        ∙ sym
+    ∙ sym
     (omega (arith, ints))
 
 -- a point hard by which, on one side, lies the stretch between two neighbouring stops
@@ -191,7 +191,7 @@ pub spot_ahead : (l : Level) (right : Bool) (p : Point) (w : Spot) → IsAt l p 
     → ahead right p (point_of w) ≡ counted (is_right right p (point_of w))
 spot_ahead l right p w at h =
     ahead_level right p (point_of w) (subst (λ (m : Level). p.y *ℤ (m.d *ℤ pos w.run)
-        ≡ (m.n *ℤ pos w.run) *ℤ p.d)
+    ≡ (m.n *ℤ pos w.run) *ℤ p.d)
     (sym h.at) (level_identity p.y l.d (pos w.run) l.n p.d at))
 
 all_ahead : (l : Level) (right : Bool) (p : Point) (b : Bool) (ws : List Spot) → IsAt l p

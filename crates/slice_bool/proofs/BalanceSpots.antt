@@ -106,9 +106,9 @@ rises_by e a b lo hi o = subst (λ (q : Pt). pos 0 <ℤ (q.y -ℤ (low e).y)) hi
 abbrev TurnsBySpot : Bool → Edge → Level → Type 0
 TurnsBySpot above e l =
     ((right : Bool) (p : Point) → pos 0 <ℤ p.d → IsAt l p
-        → turn above right p (whole e.a) (whole e.b) ≡ pos 0)
+    → turn above right p (whole e.a) (whole e.b) ≡ pos 0)
     ⊎ ((passes_at e l ≡ true) × ((right : Bool) (p : Point) → pos 0 <ℤ p.d → IsAt l p
-        → turn above right p (whole e.a)
+    → turn above right p (whole e.a)
     (whole e.b) ≡ (if is_right right p (point_of (spot_on e l)) then heading e else pos 0)))
 
 module _ (above : Bool) (e : Edge) (l : Level) (dl : pos 0 <ℤ l.d) where
@@ -148,7 +148,7 @@ module _ (above : Bool) (e : Edge) (l : Level) (dl : pos 0 <ℤ l.d) where
       let lo : e.a ≡ low e = lower_end e false t in
       let hi : e.b ≡ high e = upper_end e false t in
       by_heading (rises_by e e.a e.b lo hi (omega (arith, ints)))
-          (subst (λ (q : Pt). NotOver above l (level_of q.y)) lo
+      (subst (λ (q : Pt). NotOver above l (level_of q.y)) lo
       h) (subst (λ (q : Pt). Over above l (level_of q.y)) hi k)
 
   downwards : NotOver above l (level_of e.b.y) → Over above l (level_of e.a.y) → TurnsBySpot above e l
@@ -158,7 +158,7 @@ module _ (above : Bool) (e : Edge) (l : Level) (dl : pos 0 <ℤ l.d) where
       let lo : e.b ≡ low e = lower_end e true t in
       let hi : e.a ≡ high e = upper_end e true t in
       by_heading (rises_by e e.b e.a lo hi (omega (arith, ints)))
-          (subst (λ (q : Pt). NotOver above l (level_of q.y)) lo
+      (subst (λ (q : Pt). NotOver above l (level_of q.y)) lo
       h) (subst (λ (q : Pt). Over above l (level_of q.y)) hi k)
 
   pub turns_by_spot : TurnsBySpot above e l

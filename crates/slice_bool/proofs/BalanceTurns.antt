@@ -62,35 +62,35 @@ drop_zero u w z h = let t : u *ℤ w ≡ pos 0 = rw h (omega (arith, ints)) in r
 from_start : (ax ay ad bx by bd x y d : ℤ)
     → (bx *ℤ ad -ℤ ax *ℤ bd) *ℤ (y *ℤ ad -ℤ ay *ℤ d) -ℤ (by *ℤ ad -ℤ ay *ℤ bd) *ℤ
     (x *ℤ ad -ℤ ax *ℤ d) ≡ (bx *ℤ ad -ℤ ax *ℤ bd) *ℤ (y *ℤ ad -ℤ ay *ℤ d) +ℤ
-        (ax *ℤ d -ℤ x *ℤ ad) *ℤ
+    (ax *ℤ d -ℤ x *ℤ ad) *ℤ
     (by *ℤ ad -ℤ ay *ℤ bd)
 from_start ax ay ad bx by bd x y d = ring (ax ∷ ay ∷ ad ∷ bx ∷ by ∷ bd ∷ x ∷ y ∷ d ∷ [])
     ((v3 ⊗ v2 ⊖ v0 ⊗ v5) ⊗ (v7 ⊗ v2 ⊖ v1 ⊗ v8) ⊖ (v4 ⊗ v2 ⊖ v1 ⊗ v5)
-        ⊗ (v6 ⊗ v2 ⊖ v0 ⊗ v8))
+    ⊗ (v6 ⊗ v2 ⊖ v0 ⊗ v8))
     ((v3 ⊗ v2 ⊖ v0 ⊗ v5) ⊗ (v7 ⊗ v2 ⊖ v1 ⊗ v8) ⊕ (v0 ⊗ v8 ⊖ v6 ⊗ v2)
-        ⊗ (v4 ⊗ v2 ⊖ v1 ⊗ v5)) refl
+    ⊗ (v4 ⊗ v2 ⊖ v1 ⊗ v5)) refl
 
 from_end : (ax ay ad bx by bd x y d : ℤ) → ((bx *ℤ ad -ℤ ax *ℤ bd) *ℤ (y *ℤ ad -ℤ ay *ℤ d) -ℤ
     (by *ℤ ad -ℤ ay *ℤ bd) *ℤ
     (x *ℤ ad -ℤ ax *ℤ d)) *ℤ bd ≡ (ad *ℤ (bx *ℤ ad -ℤ ax *ℤ bd)) *ℤ (y *ℤ bd -ℤ by *ℤ d) +ℤ
-        (bx *ℤ d -ℤ x *ℤ bd) *ℤ
+    (bx *ℤ d -ℤ x *ℤ bd) *ℤ
     (ad *ℤ (by *ℤ ad -ℤ ay *ℤ bd))
 from_end ax ay ad bx by bd x y d = ring (ax ∷ ay ∷ ad ∷ bx ∷ by ∷ bd ∷ x ∷ y ∷ d ∷ [])
     (((v3 ⊗ v2 ⊖ v0 ⊗ v5) ⊗ (v7 ⊗ v2 ⊖ v1 ⊗ v8) ⊖ (v4 ⊗ v2 ⊖ v1 ⊗ v5)
-        ⊗ (v6 ⊗ v2 ⊖ v0 ⊗ v8)) ⊗ v5)
+    ⊗ (v6 ⊗ v2 ⊖ v0 ⊗ v8)) ⊗ v5)
     ((v2 ⊗ (v3 ⊗ v2 ⊖ v0 ⊗ v5)) ⊗ (v7 ⊗ v5 ⊖ v4 ⊗ v8) ⊕ (v3 ⊗ v8 ⊖ v6 ⊗ v5)
-        ⊗ (v2 ⊗ (v4 ⊗ v2 ⊖ v1 ⊗ v5))) refl
+    ⊗ (v2 ⊗ (v4 ⊗ v2 ⊖ v1 ⊗ v5))) refl
 
 turned_over : (ax ay ad bx by bd x y d : ℤ)
     → ((ax *ℤ bd -ℤ bx *ℤ ad) *ℤ (y *ℤ bd -ℤ by *ℤ d) -ℤ (ay *ℤ bd -ℤ by *ℤ ad)
     *ℤ (x *ℤ bd -ℤ bx *ℤ d)) *ℤ ad
-        ≡ pos 0 -ℤ ((bx *ℤ ad -ℤ ax *ℤ bd) *ℤ (y *ℤ ad -ℤ ay *ℤ d) -ℤ (by *ℤ ad -ℤ ay *ℤ bd)
+    ≡ pos 0 -ℤ ((bx *ℤ ad -ℤ ax *ℤ bd) *ℤ (y *ℤ ad -ℤ ay *ℤ d) -ℤ (by *ℤ ad -ℤ ay *ℤ bd)
     *ℤ (x *ℤ ad -ℤ ax *ℤ d)) *ℤ bd
 turned_over ax ay ad bx by bd x y d = ring (ax ∷ ay ∷ ad ∷ bx ∷ by ∷ bd ∷ x ∷ y ∷ d ∷ [])
     (((v0 ⊗ v5 ⊖ v3 ⊗ v2) ⊗ (v7 ⊗ v5 ⊖ v4 ⊗ v8) ⊖ (v1 ⊗ v5 ⊖ v4 ⊗ v2)
-        ⊗ (v6 ⊗ v5 ⊖ v3 ⊗ v8)) ⊗ v2)
+    ⊗ (v6 ⊗ v5 ⊖ v3 ⊗ v8)) ⊗ v2)
     (num (pos 0) ⊖ ((v3 ⊗ v2 ⊖ v0 ⊗ v5) ⊗ (v7 ⊗ v2 ⊖ v1 ⊗ v8) ⊖ (v4 ⊗ v2 ⊖ v1 ⊗ v5)
-        ⊗ (v6 ⊗ v2 ⊖ v0 ⊗ v8)) ⊗ v5) refl
+    ⊗ (v6 ⊗ v2 ⊖ v0 ⊗ v8)) ⊗ v5) refl
 
 start_side : (right : Bool) (p a b : Point) → IsLower (level_at a) (level_at b) → p.y *ℤ a.d ≡ a.y *ℤ p.d
     → is_beyond right (side_by p a b) ≡ is_right right p a
@@ -98,7 +98,7 @@ unfolding side_by
 start_side right p a b o h =
     ap (is_beyond right) (from_start a.x a.y a.d b.x b.y b.d p.x p.y p.d ∙ drop_zero (b.x *ℤ a.d -ℤ a.x *ℤ b.d)
     (p.y *ℤ a.d -ℤ a.y *ℤ p.d) (gap p a *ℤ (b.y *ℤ a.d -ℤ a.y *ℤ b.d))
-        (no_gap (p.y *ℤ a.d) (a.y *ℤ p.d) h))
+    (no_gap (p.y *ℤ a.d) (a.y *ℤ p.d) h))
     ∙ beyond_mul right (b.y *ℤ a.d -ℤ a.y *ℤ b.d) (gap p a) (gap_of_less (a.y *ℤ b.d) (b.y *ℤ a.d) o)
 
 end_side : (right : Bool) (p a b : Point) → pos 0 <ℤ a.d → pos 0 <ℤ b.d → IsLower (level_at a) (level_at b)
@@ -109,7 +109,7 @@ end_side right p a b da db o h =
     ∙ ap (is_beyond right) (from_end a.x a.y a.d b.x b.y b.d p.x p.y p.d
     ∙ drop_zero (a.d *ℤ (b.x *ℤ a.d -ℤ a.x *ℤ b.d))
     (p.y *ℤ b.d -ℤ b.y *ℤ p.d) (gap p b *ℤ (a.d *ℤ (b.y *ℤ a.d -ℤ a.y *ℤ b.d)))
-        (no_gap (p.y *ℤ b.d) (b.y *ℤ p.d)
+    (no_gap (p.y *ℤ b.d) (b.y *ℤ p.d)
     h))
     ∙ beyond_mul right (a.d *ℤ (b.y *ℤ a.d -ℤ a.y *ℤ b.d)) (gap p b)
     (positive_product a.d (b.y *ℤ a.d -ℤ a.y *ℤ b.d) da
@@ -218,7 +218,7 @@ turn_turned above right p a b da db =
     ∙ ap (is_beyond right) (mul_assoc (neg_ℤ q) (side_by p b a) a.d ∙ ap (λ (z : ℤ). neg_ℤ q *ℤ z) s
     ∙ sym
     (mul_assoc (neg_ℤ q) (neg_ℤ (side_by p a b)) b.d)
-        ∙ ap (λ (z : ℤ). z *ℤ b.d) (two_signs q (side_by p a b)))
+    ∙ ap (λ (z : ℤ). z *ℤ b.d) (two_signs q (side_by p a b)))
     ∙ beyond_mul right b.d (q *ℤ side_by p a b) db in
     ap (λ (z : ℤ). if is_beyond right (z *ℤ side_by p b a) then z else pos 0) (passage_turned above p a b)
     ∙ ap (λ (t : Bool). if t then neg_ℤ q else pos 0) same

@@ -139,7 +139,7 @@ module _ (es : List LeafEdge) (shape : Shape) where
         let positive : pos 0 <ℤ factor = positive_product (r *ℤ r) (l.d *ℤ (u.n *ℤ l.d -ℤ l.n *ℤ u.d))
         (positive_product r r lk.reaches.rises lk.reaches.rises)
         (positive_product l.d (u.n *ℤ l.d -ℤ l.n *ℤ u.d) n.lower_divisor
-            (gap_of_less (l.n *ℤ u.d) (u.n *ℤ l.d)
+        (gap_of_less (l.n *ℤ u.d) (u.n *ℤ l.d)
         n.in_order)) in
         zero_factor (left_of (edge_at es k) p.x p.y p.d) factor positive
         (sym (side_up_is p (edge_at es k) l u (pos (unsigned_abs r)) (size_of r lk.reaches.rises)) ∙ h)

@@ -38,7 +38,7 @@ unfolding heading
 headings_are es leaf [] = refl
 headings_are es leaf (k ∷ ks) =
     ap (λ (z : ℤ). (if (get_or es k no_edge).leaf == leaf then heading_of (get_or es k no_edge).edge else pos 0) +ℤ
-        z)
+    z)
     (headings_are es leaf ks)
 
 pub left_is : (es : List LeafEdge) (shape : Shape) (bs : List (List ℕ))

@@ -58,9 +58,12 @@ pub next_level : (es : List LeafEdge) (shape : Shape) (ls : List Level) (i : ℕ
 next_level es shape ls i d e old mid new h a b =
     let f : drop i ls ≡ get_or ls i d ∷ (get_or ls (i + 1) e ∷ drop (i + 1 + 1) ls) = drop_more ls i d (omega arith) ∙
     ap (λ (r : List Level). get_or ls i d ∷ r) (drop_more ls (i + 1) e h) in
-    subst (λ (ls : List Level). Extends (AreUpToNext es shape ls) old new) (sym f)
-    (a.0 ++ b.0, (a.0, b.0, a.1, b.1, refl), b.2 ∙ ap (λ (qs : List Piece). qs ++ b.0) a.2
-        ∙ append_assoc old a.0 b.0)
+    subst (λ (ls : List Level). Extends (AreUpToNext es shape ls) old new) (sym f) (
+      a.0 ++ b.0,
+      (a.0, b.0, a.1, b.1, refl),
+      b.2 ∙ ap (λ (qs : List Piece). qs ++ b.0) a.2
+          ∙ append_assoc old a.0 b.0,
+    )
 
 -- ---- all levels
 -- the pieces so far, with those of the levels to come, are those of all levels

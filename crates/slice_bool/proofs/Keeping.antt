@@ -78,7 +78,7 @@ pub keeps_first : (turns : List ℤ) (shape : Shape) (h : Held) → IsTally turn
     → Shows shape (λ leaf. false) h → Shows shape (in_by turns) h
 keeps_first turns shape h z s =
     subst (λ (f : ℕ → Bool). Shows shape f h)
-        (fun_ext (λ leaf. sym (ap (λ (z : ℤ). not (is_zero z)) (z leaf)))) s
+    (fun_ext (λ leaf. sym (ap (λ (z : ℤ). not (is_zero z)) (z leaf)))) s
 
 pub heading_size : (e : Edge) → unsigned_abs (heading_of e) ≤ 1
 heading_size e = by_test (int_lt e.b.y e.a.y)

@@ -31,7 +31,7 @@ pub record IsPlaced (es : List LeafEdge) (q : Piece) : Type 0 where
 on_positive : (a b : Point) → a.d ≡ pos 1 → b.d ≡ pos 1 → (p : Point) → IsOn a b p → pos 0 <ℤ p.d
 on_positive a b ha hb p h = pos_left p.d h.k h.positive (positive h.k h.s h.t p.d h.some
     (h.d ∙ ap (λ (z : ℤ). h.s *ℤ z +ℤ h.t *ℤ b.d) ha
-        ∙ ap (λ (z : ℤ). h.s *ℤ pos 1 +ℤ h.t *ℤ z) hb))
+    ∙ ap (λ (z : ℤ). h.s *ℤ pos 1 +ℤ h.t *ℤ z) hb))
   where
     positive : (k s t d : ℤ) → pos 0 <ℤ (s +ℤ t) → k *ℤ d ≡ s *ℤ pos 1 +ℤ t *ℤ pos 1
         → pos 0 <ℤ (d *ℤ k)
@@ -98,6 +98,6 @@ module _ (es : List LeafEdge) where
       (ways_of merged) (IsPermutation-map way_of pieces merged m) above right q
   merged_wind above right q d pieces merged (two_join first second others m rest) h =
       merged_wind above right q d (joined first second ∷ others) merged rest
-          (joined_placed pieces first second others m
+      (joined_placed pieces first second others m
       h)
       ∙ joined_winds pieces first second others m h above right q d

@@ -159,7 +159,7 @@ module _ (es : List LeafEdge) (l u : Level) (n : AreNeighbours es l u) (k : ℕ)
       let f : lies_left es right p j ≡ false = beyond_below right (left_of (edge_at es j) p.x p.y p.d)
       (left_before j ls.0 o) in
       rw f (skipped right ks before rest r.2
-          (back (IsLive es l u) (j ∷ js) (concat (before ++ ((k ∷ ks) ∷ rest))) ls))
+      (back (IsLive es l u) (j ∷ js) (concat (before ++ ((k ∷ ks) ∷ rest))) ls))
 
   -- those after it do
   after_pass : (right : Bool) (ks : List ℕ) (rest : List (List ℕ))

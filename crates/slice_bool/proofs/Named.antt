@@ -199,7 +199,7 @@ covering_length l s t e hs ht o h = false_from_ne_true (is_same_point (whole e.e
     (same_across (whole e.edge.a) (whole e.edge.b) k) in
     by_ways _ _ (and_parts (is_flat_at e.edge s.at) _ h).1
     (λ way. spans_apart l s t e.edge.a.x e.edge.b.x hs ht o way x)
-        (λ way. spans_apart l s t e.edge.b.x e.edge.a.x hs ht
+    (λ way. spans_apart l s t e.edge.b.x e.edge.a.x hs ht
     o way (sym x)))
   where
     by_ways : (a b : Bool) → (a || b) ≡ true → (a ≡ true → ⊥) → (b ≡ true → ⊥) → ⊥

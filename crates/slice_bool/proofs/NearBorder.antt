@@ -105,7 +105,7 @@ module _ (es : List LeafEdge) (shape : Shape) where
       let placed = pieces_are_placed es shape pieces h in
       let named = pieces_are_named es shape pieces h in
       λ i d l. piece_borders (get_or pieces i d) (placed i d l) (named.lengths i d l)
-          (λ p dp inside. pieces_are_border
+      (λ p dp inside. pieces_are_border
       es shape pieces h p dp i d l inside)
 
   -- ---- merged

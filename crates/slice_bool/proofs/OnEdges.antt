@@ -175,7 +175,7 @@ module _ (e : Edge) (l : Level) (level : e.a.y ≡ e.b.y) (at : e.a.y *ℤ l.d �
           → ((b -ℤ a) *ℤ w) *ℤ y ≡ (b *ℤ w -ℤ x) *ℤ y +ℤ (x -ℤ a *ℤ w) *ℤ z
       heights a b w x y z h =
           ring (a ∷ b ∷ w ∷ x ∷ y ∷ []) (((v1 ⊖ v0) ⊗ v2) ⊗ v4)
-              ((v1 ⊗ v2 ⊖ v3) ⊗ v4 ⊕ (v3 ⊖ v0 ⊗ v2) ⊗ v4) refl
+          ((v1 ⊗ v2 ⊖ v3) ⊗ v4 ⊕ (v3 ⊖ v0 ⊗ v2) ⊗ v4) refl
           ∙ ap (λ (u : ℤ). (b *ℤ w -ℤ x) *ℤ y +ℤ (x -ℤ a *ℤ w) *ℤ u) h
 
 flat_ends : (e : Edge) → rise e ≡ pos 0 → e.a.y ≡ e.b.y
@@ -196,7 +196,7 @@ left_on l s t z hs ht o h =
     (sum_above (t.x *ℤ pos s.run -ℤ s.x *ℤ pos t.run) ((z *ℤ (l.d *ℤ pos t.run) -ℤ t.x) *ℤ pos s.run)
     (gap_of_less (s.x *ℤ pos t.run) (t.x *ℤ pos s.run) o)
     (at_least_mul (z *ℤ (l.d *ℤ pos t.run) -ℤ t.x) (pos s.run)
-        (gap_of_at_most t.x (z *ℤ (l.d *ℤ pos t.run)) h)
+    (gap_of_at_most t.x (z *ℤ (l.d *ℤ pos t.run)) h)
     (at_most_of_less (pos 0) (pos s.run) hs)))))
   where
     steps : (sx sr tx tr z d : ℤ) → (tx *ℤ sr -ℤ sx *ℤ tr) +ℤ (z *ℤ (d *ℤ tr) -ℤ tx) *ℤ sr
@@ -216,7 +216,7 @@ right_on l s t z hs ht o h =
     (sum_above (t.x *ℤ pos s.run -ℤ s.x *ℤ pos t.run) ((s.x -ℤ z *ℤ (l.d *ℤ pos s.run)) *ℤ pos t.run)
     (gap_of_less (s.x *ℤ pos t.run) (t.x *ℤ pos s.run) o)
     (at_least_mul (s.x -ℤ z *ℤ (l.d *ℤ pos s.run)) (pos t.run)
-        (gap_of_at_most (z *ℤ (l.d *ℤ pos s.run)) s.x h)
+    (gap_of_at_most (z *ℤ (l.d *ℤ pos s.run)) s.x h)
     (at_most_of_less (pos 0) (pos t.run) ht)))))
   where
     steps : (sx sr tx tr z d : ℤ) → (tx *ℤ sr -ℤ sx *ℤ tr) +ℤ (sx -ℤ z *ℤ (d *ℤ sr)) *ℤ tr
@@ -263,7 +263,7 @@ module _ (l : Level) (dl : pos 0 <ℤ l.d) (s t : Spot) (hs : IsSpotAt l s) (ht 
           → (x *ℤ (l.d *ℤ pos s.run)) ≤ℤ s.x
       first x y w = subst (λ (m : Level). (x *ℤ (m.d *ℤ pos s.run)) ≤ℤ s.x) hs.at
           (int_le-true (x *ℤ (s.at.d *ℤ pos s.run)) s.x
-              (and_parts (int_le (x *ℤ (s.at.d *ℤ pos s.run)) s.x) _ w).0)
+          (and_parts (int_le (x *ℤ (s.at.d *ℤ pos s.run)) s.x) _ w).0)
 
       last : (x y : ℤ) → (int_le (x *ℤ (s.at.d *ℤ pos s.run)) s.x
           && int_le t.x (y *ℤ (t.at.d *ℤ pos t.run))) ≡ true

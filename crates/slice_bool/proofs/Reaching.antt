@@ -118,7 +118,7 @@ pub wind_reaching : (above right : Bool) (p : Point) (leaf : ℕ) (es : List Lea
 wind_reaching above right p leaf es l u n dp s =
     reach_sum above right p leaf l u (λ k. if lies_left es right p k then heading_for es leaf k else pos 0) 0 es
     (λ i o t. given i (reaches_is _ l u t) ∙ ap
-        (λ (k : ℕ). if lies_left es right p k then heading_for es leaf k else
+    (λ (k : ℕ). if lies_left es right p k then heading_for es leaf k else
     pos 0) (omega arith))
     (λ i o t. none i (still_turn above right p es l u n dp s i no_edge o t))
   where

@@ -33,7 +33,7 @@ part_of ux uy vx vy wx wy hx hy h =
     let b = square_at_least uy in
     let same : ux *ℤ wx +ℤ uy *ℤ wy ≡ (ux *ℤ ux +ℤ uy *ℤ uy) +ℤ (ux *ℤ vx +ℤ uy *ℤ vy) =
     ap₂ (λ (s t : ℤ). ux *ℤ s +ℤ uy *ℤ t) hx hy
-        ∙ ring (ux ∷ uy ∷ vx ∷ vy ∷ []) (v0 ⊗ (v0 ⊕ v2) ⊕ v1 ⊗ (v1 ⊕ v3))
+    ∙ ring (ux ∷ uy ∷ vx ∷ vy ∷ []) (v0 ⊗ (v0 ⊕ v2) ⊕ v1 ⊗ (v1 ⊕ v3))
     ((v0 ⊗ v0 ⊕ v1 ⊗ v1) ⊕ (v0 ⊗ v2 ⊕ v1 ⊗ v3)) refl in
     omega (arith, ints)
 
@@ -44,7 +44,7 @@ other_of ux uy vx vy wx wy hx hy h =
     let b = square_at_least vy in
     let same : vx *ℤ wx +ℤ vy *ℤ wy ≡ (vx *ℤ vx +ℤ vy *ℤ vy) +ℤ (ux *ℤ vx +ℤ uy *ℤ vy) =
     ap₂ (λ (s t : ℤ). vx *ℤ s +ℤ vy *ℤ t) hx hy
-        ∙ ring (ux ∷ uy ∷ vx ∷ vy ∷ []) (v2 ⊗ (v0 ⊕ v2) ⊕ v3 ⊗ (v1 ⊕ v3))
+    ∙ ring (ux ∷ uy ∷ vx ∷ vy ∷ []) (v2 ⊗ (v0 ⊕ v2) ⊕ v3 ⊗ (v1 ⊕ v3))
     ((v2 ⊗ v2 ⊕ v3 ⊗ v3) ⊕ (v0 ⊗ v2 ⊕ v1 ⊗ v3)) refl in
     omega (arith, ints)
 
@@ -58,9 +58,9 @@ place_x : (ax ay px py bx by : ℤ) → (px -ℤ ax) *ℤ (by -ℤ py) -ℤ (py 
 place_x ax ay px py bx by h =
     ring (ax ∷ ay ∷ px ∷ py ∷ bx ∷ by ∷ [])
     ((((v4 ⊖ v2) ⊗ (v4 ⊖ v0) ⊕ (v5 ⊖ v3) ⊗ (v5 ⊖ v1))
-        ⊕ ((v2 ⊖ v0) ⊗ (v4 ⊖ v0) ⊕ (v3 ⊖ v1) ⊗ (v5 ⊖ v1))) ⊗ v2)
+    ⊕ ((v2 ⊖ v0) ⊗ (v4 ⊖ v0) ⊕ (v3 ⊖ v1) ⊗ (v5 ⊖ v1))) ⊗ v2)
     ((((v4 ⊖ v2) ⊗ (v4 ⊖ v0) ⊕ (v5 ⊖ v3) ⊗ (v5 ⊖ v1)) ⊗ v0
-        ⊕ ((v2 ⊖ v0) ⊗ (v4 ⊖ v0) ⊕ (v3 ⊖ v1) ⊗ (v5 ⊖ v1)) ⊗ v4) ⊕
+    ⊕ ((v2 ⊖ v0) ⊗ (v4 ⊖ v0) ⊕ (v3 ⊖ v1) ⊗ (v5 ⊖ v1)) ⊗ v4) ⊕
     (v5 ⊖ v1) ⊗ ((v2 ⊖ v0) ⊗ (v5 ⊖ v3) ⊖ (v3 ⊖ v1) ⊗ (v4 ⊖ v2))) refl
     ∙ ap (λ (z : ℤ). (((bx -ℤ px) *ℤ (bx -ℤ ax) +ℤ (by -ℤ py) *ℤ (by -ℤ ay)) *ℤ ax +ℤ
     ((px -ℤ ax) *ℤ (bx -ℤ ax) +ℤ (py -ℤ ay) *ℤ (by -ℤ ay)) *ℤ bx) +ℤ (by -ℤ ay) *ℤ z) h
@@ -77,9 +77,9 @@ place_y : (ax ay px py bx by : ℤ) → (px -ℤ ax) *ℤ (by -ℤ py) -ℤ (py 
 place_y ax ay px py bx by h =
     ring (ax ∷ ay ∷ px ∷ py ∷ bx ∷ by ∷ [])
     ((((v4 ⊖ v2) ⊗ (v4 ⊖ v0) ⊕ (v5 ⊖ v3) ⊗ (v5 ⊖ v1))
-        ⊕ ((v2 ⊖ v0) ⊗ (v4 ⊖ v0) ⊕ (v3 ⊖ v1) ⊗ (v5 ⊖ v1))) ⊗ v3)
+    ⊕ ((v2 ⊖ v0) ⊗ (v4 ⊖ v0) ⊕ (v3 ⊖ v1) ⊗ (v5 ⊖ v1))) ⊗ v3)
     ((((v4 ⊖ v2) ⊗ (v4 ⊖ v0) ⊕ (v5 ⊖ v3) ⊗ (v5 ⊖ v1)) ⊗ v1
-        ⊕ ((v2 ⊖ v0) ⊗ (v4 ⊖ v0) ⊕ (v3 ⊖ v1) ⊗ (v5 ⊖ v1)) ⊗ v5) ⊖
+    ⊕ ((v2 ⊖ v0) ⊗ (v4 ⊖ v0) ⊕ (v3 ⊖ v1) ⊗ (v5 ⊖ v1)) ⊗ v5) ⊖
     (v4 ⊖ v0) ⊗ ((v2 ⊖ v0) ⊗ (v5 ⊖ v3) ⊖ (v3 ⊖ v1) ⊗ (v4 ⊖ v2))) refl
     ∙ ap (λ (z : ℤ). (((bx -ℤ px) *ℤ (bx -ℤ ax) +ℤ (by -ℤ py) *ℤ (by -ℤ ay)) *ℤ ay +ℤ
     ((px -ℤ ax) *ℤ (bx -ℤ ax) +ℤ (py -ℤ ay) *ℤ (by -ℤ ay)) *ℤ by) -ℤ (bx -ℤ ax) *ℤ z) h

@@ -43,9 +43,9 @@ side_up : (u c r x y d n1 d1 n2 d2 : ℤ) → ((u *ℤ n2 +ℤ c *ℤ d2) *ℤ (
     (r *ℤ r *ℤ (d1 *ℤ (n2 *ℤ d1 -ℤ n1 *ℤ d2)))
 side_up u c r x y d n1 d1 n2 d2 = ring (u ∷ c ∷ r ∷ x ∷ y ∷ d ∷ n1 ∷ d1 ∷ n2 ∷ d2 ∷ [])
     (((v0 ⊗ v8 ⊕ v1 ⊗ v9) ⊗ (v7 ⊗ v2) ⊖ (v0 ⊗ v6 ⊕ v1 ⊗ v7) ⊗ (v9 ⊗ v2))
-        ⊗ (v4 ⊗ (v7 ⊗ v2) ⊖ v6 ⊗ v2 ⊗ v5) ⊖
+    ⊗ (v4 ⊗ (v7 ⊗ v2) ⊖ v6 ⊗ v2 ⊗ v5) ⊖
     (v8 ⊗ v2 ⊗ (v7 ⊗ v2) ⊖ v6 ⊗ v2 ⊗ (v9 ⊗ v2))
-        ⊗ (v3 ⊗ (v7 ⊗ v2) ⊖ (v0 ⊗ v6 ⊕ v1 ⊗ v7) ⊗ v5))
+    ⊗ (v3 ⊗ (v7 ⊗ v2) ⊖ (v0 ⊗ v6 ⊕ v1 ⊗ v7) ⊗ v5))
     ((v0 ⊗ v4 ⊕ v1 ⊗ v5 ⊖ v2 ⊗ v3) ⊗ (v2 ⊗ v2 ⊗ (v7 ⊗ (v8 ⊗ v7 ⊖ v6 ⊗ v9)))) refl
 
 side_down : (u c r x y d n1 d1 n2 d2 : ℤ)
@@ -192,7 +192,7 @@ module _ (es : List LeafEdge) (shape : Shape) (above right : Bool) (p : Point) (
       let split = wind_pieces-append above right p (bundle_piece es shape l u (k ∷ ks)) (slab_pieces es shape l u bs) in
       let ranked = later_ranked es l before ((k ∷ ks) ∷ bs) b.ranked in
       split ∙ ap₂ (λ (y z : ℤ). y +ℤ z) one' r
-          ∙ by_test (lies_left es right p k) (λ e. passing_all es right p bs
+      ∙ by_test (lies_left es right p k) (λ e. passing_all es right p bs
       (all_pass es above right p l u a k ks bs lk ranked.1 (back (IsLive es l u) (k ∷ ks) (concat bs) ls) e))
     where
       by_test : (t : Bool) → (t ≡ true → passing es right p bs ≡ bs)

@@ -49,7 +49,7 @@ tell_above es shape l u bs n b s e r =
     (scaled_below u l (pos s.run) (runs_up s.run r) n.in_order) in
     let a : Around es true true (point_of s) l u = record { neighbours = n; divisor = divides s l e r n.lower_divisor; spans = (from, to) } in
     is_in_passing es shape true true (point_of s) l u a bs b
-        ∙ sym (left_is es shape (passing es true (point_of s) bs))
+    ∙ sym (left_is es shape (passing es true (point_of s) bs))
 
 pub tell_below : (es : List LeafEdge) (shape : Shape) (l u : Level) (bs : List (List ℕ)) → AreNeighbours es l u
     → AreBundles es l u bs → TellBeside false es shape u bs
@@ -60,7 +60,7 @@ tell_below es shape l u bs n b s e r =
     (scaled_at_most u u (pos s.run) (runs_up s.run r) (itself u)) in
     let a : Around es false true (point_of s) l u = record { neighbours = n; divisor = divides s u e r n.upper_divisor; spans = (from, to) } in
     is_in_passing es shape false true (point_of s) l u a bs b
-        ∙ sym (left_is es shape (passing es true (point_of s) bs))
+    ∙ sym (left_is es shape (passing es true (point_of s) bs))
 
 -- ---- nothing lies below the first level and above the last
 none : Level
@@ -74,7 +74,7 @@ tell_first es shape (l ∷ ls) d v h s e r =
     (scaled_at_most l l (pos s.run) (runs_up s.run r) (itself l)) in
     let p : Point = point_of s in
     outside_below es shape false true p (over_all es shape false true p (divides s l e r v.divisors.0) l ls (heights es)
-        v.divisors
+    v.divisors
     (heights_positive es) v.rising o v.complete)
     ∙ sym (outside_right es shape)
 

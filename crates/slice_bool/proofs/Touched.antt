@@ -111,7 +111,7 @@ pub flats_there : (es : List LeafEdge) (at : Level) → All (λ k. k < length es
 flats_there es at = All-from_recursion (λ k. k < length es) (flats_from 0 es at)
     (subst (AllByRecursion (λ k. k < length es))
     (sym (flats_are at 0 es)) (weaker (numbers_where (λ e. is_flat_at e at) 0 es)
-        (all_where (λ e. is_flat_at e at) es 0 es (stand_from_first es))))
+    (all_where (λ e. is_flat_at e at) es 0 es (stand_from_first es))))
   where
     weaker : (ks : List ℕ) → AllByRecursion (λ k. (k < length es) × (is_flat_at (edge_at es k) at ≡ true)) ks
         → AllByRecursion (λ k. k < length es) ks

@@ -42,7 +42,7 @@ nothing_around : (above right : Bool) (p : Point) (leaf : ℕ) (es : List LeafEd
 nothing_around above right p leaf [] h = refl
 nothing_around above right p leaf (e ∷ es) h =
     ap₂ (λ (y z : ℤ). y +ℤ z) (by_test (e.leaf == leaf) (h zero (omega arith)))
-        (nothing_around above right p leaf es
+    (nothing_around above right p leaf es
     (λ i o. h (suc i) (omega arith)))
   where
     by_test : (t : Bool) → turn above right p (whole e.edge.a) (whole e.edge.b) ≡ pos 0

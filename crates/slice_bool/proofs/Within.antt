@@ -73,8 +73,11 @@ unfolding x_at run offset rise
 x_within limit e l w h k =
     let p = low e in
     let q = high e in
-    rw (← (unsigned_abs-mul (q.y -ℤ p.y) l.d), ← (weights_add p.y q.y l.n l.d),
-        by_weights p.x p.y q.x q.y l.n l.d)
+    rw (
+      ← (unsigned_abs-mul (q.y -ℤ p.y) l.d),
+      ← (weights_add p.y q.y l.n l.d),
+      by_weights p.x p.y q.x q.y l.n l.d,
+    )
     (both_weighed limit p.x q.x (q.y *ℤ l.d -ℤ l.n) (l.n -ℤ p.y *ℤ l.d) (low_within limit e w).x
     (high_within limit e w).x
     (gap_of_at_most l.n (q.y *ℤ l.d) k) (gap_of_at_most (p.y *ℤ l.d) l.n h))
@@ -191,6 +194,6 @@ module _ (limit : ℕ) (lp : 0 < limit) where
   spots_are_within es w shape pieces h v =
       All-from_recursion (IsPieceWithin limit) pieces
       (from_ends limit pieces (ends_within es shape h.levels pieces
-          (recursion_from_All (λ e. IsEdgeWithin limit e.edge)
+      (recursion_from_All (λ e. IsEdgeWithin limit e.edge)
       es w) (recursion_from_All (IsLevelWithin limit) h.levels v)
       h.are_levels.rising h.are_pieces))

@@ -12,4 +12,4 @@ use Rattle.slice_bool.specs.Pieces.{ArePieces}
 abbrev pub BordersAreBalanced : Type 0
 BordersAreBalanced =
     (es : List LeafEdge) (shape : Shape) (pieces : List Piece) → AreLeavesBalanced es → ArePieces es shape pieces
-        → ArePiecesBalanced pieces
+    → ArePiecesBalanced pieces

@@ -23,5 +23,5 @@ pub record IsBorderPoint (edges : List LeafEdge) (shape : Shape) (p : Point) : T
 abbrev pub PiecesAreBorder : Type 0
 PiecesAreBorder =
     (es : List LeafEdge) (shape : Shape) (pieces : List Piece) → ArePieces es shape pieces → (p : Point)
-        → pos 0 <ℤ p.d
+    → pos 0 <ℤ p.d
     → All (λ q. IsInside (point_of q.from) (point_of q.to) p → IsBorderPoint es shape p) pieces

@@ -18,7 +18,7 @@ AreChangesCovered edges shape [] = ⊤
 AreChangesCovered edges shape (s ∷ []) = ⊤
 AreChangesCovered edges shape (s ∷ (t ∷ ss)) =
     (position (covers s t) edges ≡ None → is_in_by true true edges shape (point_of s)
-        ≡ is_in_by false true edges shape (point_of s)) × AreChangesCovered edges shape (t ∷ ss)
+    ≡ is_in_by false true edges shape (point_of s)) × AreChangesCovered edges shape (t ∷ ss)
 
 -- ---- the law
 -- Where the edges of each leaf are balanced, the values just above and just below a stretch between neighbouring stops
@@ -27,4 +27,4 @@ AreChangesCovered edges shape (s ∷ (t ∷ ss)) =
 abbrev pub StretchesAreCovered : Type 0
 StretchesAreCovered =
     (es : List LeafEdge) (shape : Shape) → AreLeavesBalanced es → (l : Level) → pos 0 <ℤ l.d
-        → (stops : List Spot) → AreStops es l stops → AreChangesCovered es shape stops
+    → (stops : List Spot) → AreStops es l stops → AreChangesCovered es shape stops

@@ -22,7 +22,7 @@ IsClearByHalf edges q = All (λ e. IsClear (pos 1) q (whole e.edge.a) (whole e.e
 abbrev pub HoldCentres : List LeafEdge → Shape → List (List Pt) → Type 0
 HoldCentres edges shape outlines =
     (i j : ℤ) → IsClearByHalf edges (centre i j)
-        → wind (centre i j) (segments (flat_map sides outlines)) ≡ counted (holds_centre edges shape i j)
+    → wind (centre i j) (segments (flat_map sides outlines)) ≡ counted (holds_centre edges shape i j)
 
 -- ---- the laws
 -- Where the edges of each leaf are balanced, the outlines of a shape wind once round each point that is clear of the
@@ -31,12 +31,12 @@ HoldCentres edges shape outlines =
 abbrev pub OutlinesHoldPoints : Type 0
 OutlinesHoldPoints =
     (es : List LeafEdge) (shape : Shape) (outlines : List (List Pt)) → AreLeavesBalanced es
-        → AreOutlinesOf es shape outlines → (above right : Bool)
+    → AreOutlinesOf es shape outlines → (above right : Bool)
     (q : Point) → pos 0 <ℤ q.d → IsClearByHalf es q
-        → wind_by above right q (segments (flat_map sides outlines)) ≡ counted (is_in_by above right es shape q)
+    → wind_by above right q (segments (flat_map sides outlines)) ≡ counted (is_in_by above right es shape q)
 
 -- So it is at cell centres, where what the shape holds is said by the winding numbers of its leaves.
 abbrev pub OutlinesHoldCentres : Type 0
 OutlinesHoldCentres =
     (es : List LeafEdge) (shape : Shape) (outlines : List (List Pt)) → AreLeavesBalanced es
-        → AreOutlinesOf es shape outlines → HoldCentres es shape outlines
+    → AreOutlinesOf es shape outlines → HoldCentres es shape outlines

@@ -20,4 +20,4 @@ pub record EndsLieOn (e : Edge) (q : Piece) : Type 0 where
 abbrev pub PiecesLieOnEdges : Type 0
 PiecesLieOnEdges =
     (es : List LeafEdge) (shape : Shape) (pieces : List Piece) → ArePieces es shape pieces
-        → All (λ q. EndsLieOn (edge_at es q.edge) q) pieces
+    → All (λ q. EndsLieOn (edge_at es q.edge) q) pieces

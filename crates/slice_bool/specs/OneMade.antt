@@ -12,5 +12,5 @@ use Rattle.slice_bool.specs.Outlines.{AreMadeOf}
 abbrev pub MadeAreOne : Type 0
 MadeAreOne =
     (limit count : ℕ) (edge : ℕ → Edge) (pieces : List Piece) (outlines more : List (List Pt))
-        → All (IsPieceWithin limit) pieces
+    → All (IsPieceWithin limit) pieces
     → AreNamed count edge pieces → AreMadeOf pieces outlines → AreMadeOf pieces more → outlines ≡ more

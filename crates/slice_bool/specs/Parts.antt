@@ -28,7 +28,7 @@ AreUpToNext edges shape [] pieces = ⊥
 AreUpToNext edges shape (l ∷ []) pieces = AreOnLevel edges shape l pieces
 AreUpToNext edges shape (l ∷ (u ∷ ls)) pieces =
     (flats : List Piece) × (slabs : List Piece) × AreOnLevel edges shape l flats
-        × AreBetweenLevels edges shape l u slabs × (pieces ≡ flats ++ slabs)
+    × AreBetweenLevels edges shape l u slabs × (pieces ≡ flats ++ slabs)
 
 -- a list with such pieces behind it
 abbrev pub Extends : (List Piece → Type 0) → List Piece → List Piece → Type 0

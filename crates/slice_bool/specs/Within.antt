@@ -13,5 +13,5 @@ use Rattle.slice_bool.specs.Pieces.{ArePieces}
 abbrev pub SpotsAreWithin : Type 0
 SpotsAreWithin =
     (limit : ℕ) → 0 < limit → (es : List LeafEdge) → All (λ e. IsEdgeWithin limit e.edge) es
-        → (shape : Shape) (pieces : List Piece)
+    → (shape : Shape) (pieces : List Piece)
     → (h : ArePieces es shape pieces) → All (IsLevelWithin limit) h.levels → All (IsPieceWithin limit) pieces

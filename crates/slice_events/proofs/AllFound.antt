@@ -76,7 +76,7 @@ unfolding is_kept are_ends_beside
 kept-turned e f =
     ap₂ (λ (a b : Bool). a && b) (crosses-turned e f)
     (ap₂ (λ (a b : Bool). a && b) (and_comm (is_rising e) (is_rising f))
-        (and_comm (is_beside e (low f) && is_beside e (high f)) (is_beside f (low e) && is_beside f (high e))))
+    (and_comm (is_beside e (low f) && is_beside e (high f)) (is_beside f (low e) && is_beside f (high e))))
 
 meeting-turned : (e f : Edge) → meets e f ≡ true → meeting e f ≡ meeting f e
 meeting-turned e f m =
@@ -140,7 +140,7 @@ module _ (tall : ℕ) (positive : 0 < tall) (edges : List LeafEdge) (within : Al
   pub tests_are : (yield_among es stays).tests ≡ pairs boxes_meet es
   tests_are =
       among_total (λ (y : Yield). y.tests) (λ y z. refl) refl es boxes_meet (λ e f h. h) (λ e f h. sym (ap once h))
-          stays
+      stays
       ∙ in_pairs boxes_meet (λ e f h. h) boxes-turned
 
   pub count_is : (yield_among es stays).count ≡ pairs crosses es
@@ -165,7 +165,7 @@ module _ (tall : ℕ) (positive : 0 < tall) (edges : List LeafEdge) (within : Al
   pub levels_are : (h : Level) → count_by (has_height h) (yield_among es stays).levels ≡ pairs (kept_at h) es
   levels_are h =
       among_total (at_height h) (λ y z. count-append (has_height h) y.levels z.levels) refl es (kept_at h)
-          (kept_near h) (λ e f b. one_kept h e f) stays
+      (kept_near h) (λ e f b. one_kept h e f) stays
       ∙ in_pairs (kept_at h) (kept_near h) (kept_at-turned h)
 
 -- ---- pairs of leaves' edges
@@ -266,8 +266,8 @@ kept_among : (h : Level) (es : List LeafEdge) → 0 < pairs (kept_at h) (edges_o
 kept_among h [] k = absurd (omega arith)
 kept_among h (e ∷ es) k =
     inr (inr (has_append (meetings e.edge es) (heights es) h
-        (either (pos_part (count_by (kept_at h e.edge) (edges_of_leaves es)) (pairs (kept_at h) (edges_of_leaves es)) k)
-        (kept_among h es))))
+    (either (pos_part (count_by (kept_at h e.edge) (edges_of_leaves es)) (pairs (kept_at h) (edges_of_leaves es)) k)
+    (kept_among h es))))
   where
     either : (0 < count_by (kept_at h e.edge) (edges_of_leaves es)) ⊎ (0 < pairs (kept_at h) (edges_of_leaves es))
         → (0 < pairs (kept_at h) (edges_of_leaves es) → HasHeight (heights es) h)
@@ -299,7 +299,7 @@ known_with e (f ∷ fs) = by_test (meets e f.edge) refl
         let h : Level = meeting e f.edge in
         let s : kept_at h e f.edge ≡ true = ap₂ (λ (a b : Bool). a && b) k ((signed_Decides (h.n *ℤ h.d) (h.n *ℤ h.d)).1 refl) in
         inr (subst (λ (n : ℕ). 0 < n) (sym (count-cons (kept_at h e) f.edge (edges_of_leaves fs)))
-            (first_counts (kept_at h e f.edge) _ s))
+        (first_counts (kept_at h e f.edge) _ s))
     one (inr (inl k)) = inl (inl k)
     one (inr (inr (inl k))) = inl (inr (inl k))
     one (inr (inr (inr k))) = inl (inr (inr (inl k)))
@@ -383,7 +383,7 @@ module _ (tall : ℕ) (positive : 0 < tall) (edges : List LeafEdge) (within : Al
         (sym (y.levels few ∙ ap (λ (ls : List Level). ls ++ (yield_among (edges_of_leaves edges) stays).levels)
         empty.levels))
         (other_heights edges (yield_among (edges_of_leaves edges) stays).levels
-            (levels_are tall positive edges within stays arranged));
+        (levels_are tall positive edges within stays arranged));
   }
     where
       none : (m n : ℕ) → m ≡ 0 → m + n ≡ n

@@ -194,10 +194,10 @@ sorted_levels edges all sorted sound complete p c =
       rising = distinct_rises (levels_in sorted) ds c;
       sound = all_over (levels_in all) (heights edges) (distinct_by is_lower (levels_in sorted)) sound da dh dd
           (over (levels_in sorted) (levels_in all) (distinct_by is_lower (levels_in sorted))
-              (IsPermutation-sym (levels_in all) (levels_in sorted) q) da ds dd (distinct_sound (levels_in sorted)));
+          (IsPermutation-sym (levels_in all) (levels_in sorted) q) da ds dd (distinct_sound (levels_in sorted)));
       complete = all_over (levels_in all) (distinct_by is_lower (levels_in sorted)) (heights edges)
           (carry (HasHeight (distinct_by is_lower (levels_in sorted))) (levels_in all) (levels_in sorted)
-              (IsPermutation-sym (levels_in all) (levels_in sorted) q) (distinct_complete (levels_in sorted) ds c))
+          (IsPermutation-sym (levels_in all) (levels_in sorted) q) (distinct_complete (levels_in sorted) ds c))
           da dd dh complete;
     }
 
@@ -250,4 +250,4 @@ arranged_complete es ls all o p =
     let here : AllByRecursion (HasHeight (levels_in all)) mixed = carry (HasHeight (levels_in all)) mixed (levels_in all) (IsPermutation-sym mixed (levels_in all) p) (each_there (levels_in all)) in
     let positive : AllByRecursion (λ (l : Level). pos 0 <ℤ l.d) mixed = carry (λ (l : Level). pos 0 <ℤ l.d) mixed (levels_in all) (IsPermutation-sym mixed (levels_in all) p) (all_positive all) in
     all_over mixed (levels_in all) (heights es) here positive (all_positive all) (heights_positive es)
-        (with_ends_complete es ls o)
+    (with_ends_complete es ls o)

@@ -24,8 +24,8 @@ gap_at : (u c r v b s x y : ℤ) → (u *ℤ s -ℤ v *ℤ r) *ℤ y +ℤ (c *�
     ≡ s *ℤ (u *ℤ y +ℤ c *ℤ pos 1 -ℤ r *ℤ x) -ℤ r *ℤ (v *ℤ y +ℤ b *ℤ pos 1 -ℤ s *ℤ x)
 gap_at u c r v b s x y = ring (u ∷ c ∷ r ∷ v ∷ b ∷ s ∷ x ∷ y ∷ [])
     ((v0 ⊗ v5 ⊖ v3 ⊗ v2) ⊗ v7 ⊕ (v1 ⊗ v5 ⊖ v4 ⊗ v2))
-        (v5 ⊗ (v0 ⊗ v7 ⊕ v1 ⊗ num (pos 1) ⊖ v2 ⊗ v6) ⊖ v2
-        ⊗ (v3 ⊗ v7 ⊕ v4 ⊗ num (pos 1) ⊖ v5 ⊗ v6)) refl
+    (v5 ⊗ (v0 ⊗ v7 ⊕ v1 ⊗ num (pos 1) ⊖ v2 ⊗ v6) ⊖ v2
+    ⊗ (v3 ⊗ v7 ⊕ v4 ⊗ num (pos 1) ⊖ v5 ⊗ v6)) refl
 
 gap_of : (e f : Edge) (x y : ℤ) → lean e f *ℤ y +ℤ apart e f
     ≡ rise f *ℤ left_of e x y (pos 1) -ℤ rise e *ℤ left_of f x y (pos 1)
@@ -131,18 +131,18 @@ both_on : (e f : Edge) (p : Pt) → left_of e p.x p.y (pos 1) ≡ pos 0 → left
     → IsSameHeight (level_of p.y) (meeting e f)
 both_on e f p h k =
     without_gap e f p.y (no_gap _ _ _ (gap_of e f p.x p.y) (times_none (rise f) (left_of e p.x p.y (pos 1)) h)
-        (times_none (rise e) (left_of f p.x p.y (pos 1)) k))
+    (times_none (rise e) (left_of f p.x p.y (pos 1)) k))
 
 -- along a flat edge
 first_flat : (e f : Edge) → rise e ≡ pos 0 → IsSameHeight (level_of (low e).y) (meeting e f)
 first_flat e f h =
     without_gap e f (low e).y (no_gap _ _ _ (gap_of e f (low e).x (low e).y) (times_none (rise f) _ (low_on e))
-        (none_times (rise e) (left_of f (low e).x (low e).y (pos 1)) h))
+    (none_times (rise e) (left_of f (low e).x (low e).y (pos 1)) h))
 
 second_flat : (e f : Edge) → rise f ≡ pos 0 → IsSameHeight (level_of (low f).y) (meeting e f)
 second_flat e f h =
     without_gap e f (low f).y (no_gap _ _ _ (gap_of e f (low f).x (low f).y)
-        (none_times (rise f) (left_of e (low f).x (low f).y (pos 1)) h) (times_none (rise e) _ (low_on f)))
+    (none_times (rise f) (left_of e (low f).x (low f).y (pos 1)) h) (times_none (rise e) _ (low_on f)))
 
 -- ---- of the tests
 not_not : (z : ℤ) → not (is_zero z) ≡ false → z ≡ pos 0

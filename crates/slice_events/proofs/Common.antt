@@ -99,7 +99,7 @@ pub parallel_flat : (e f : Edge) → AreParallel e f → lean e f ≡ pos 0
 unfolding lean run rise
 parallel_flat e f h =
     up_zero (turn_of (low e) (high e) (low f) (high f)) (turn_of e.a e.b (low f) (high f))
-        (first_way e (low f) (high f))
+    (first_way e (low f) (high f))
     (up_zero (turn_of e.a e.b (low f) (high f)) (turn_of e.a e.b f.a f.b) (second_way f e.a e.b)
     (exchanged (e.b.x -ℤ e.a.x) (f.b.y -ℤ f.a.y) (f.b.x -ℤ f.a.x) (e.b.y -ℤ e.a.y) ∙ no_gap _ _ h))
 
@@ -110,7 +110,7 @@ flat_parallel e f h =
     (sym (exchanged (e.b.x -ℤ e.a.x) (f.b.y -ℤ f.a.y) (f.b.x -ℤ f.a.x) (e.b.y -ℤ e.a.y))
     ∙ zero_up (turn_of e.a e.b (low f) (high f)) (turn_of e.a e.b f.a f.b) (second_way f e.a e.b)
     (zero_up (turn_of (low e) (high e) (low f) (high f)) (turn_of e.a e.b (low f) (high f))
-        (first_way e (low f) (high f)) h))
+    (first_way e (low f) (high f)) h))
 
 -- ---- a point and a line
 -- above 0 where a point lies to the left of the line from l to h
@@ -126,34 +126,34 @@ mean_by : (u c r s t mx my nx ny px py d : ℤ) → (s +ℤ t) *ℤ px ≡ (s *�
     ((u *ℤ ny +ℤ c *ℤ pos 1) -ℤ r *ℤ nx)) *ℤ d
 mean_by u c r s t mx my nx ny px py d hx hy =
     ring (u ∷ c ∷ r ∷ s ∷ t ∷ px ∷ py ∷ d ∷ [])
-        (((v0 ⊗ v6 ⊕ v1 ⊗ v7) ⊖ v2 ⊗ v5) ⊗ (v3 ⊕ v4))
+    (((v0 ⊗ v6 ⊕ v1 ⊗ v7) ⊖ v2 ⊗ v5) ⊗ (v3 ⊕ v4))
     ((v0 ⊗ ((v3 ⊕ v4) ⊗ v6) ⊕ (v1 ⊗ v7) ⊗ (v3 ⊕ v4)) ⊖ v2 ⊗ ((v3 ⊕ v4) ⊗ v5)) refl
     ∙ ap₂ (λ (y z : ℤ). (u *ℤ y +ℤ (c *ℤ d) *ℤ (s +ℤ t)) -ℤ r *ℤ z) hy hx
     ∙ ring (u ∷ c ∷ r ∷ s ∷ t ∷ mx ∷ my ∷ nx ∷ ny ∷ d ∷ [])
     ((v0 ⊗ ((v3 ⊗ v6 ⊕ v4 ⊗ v8) ⊗ v9) ⊕ (v1 ⊗ v9) ⊗ (v3 ⊕ v4)) ⊖ v2
-        ⊗ ((v3 ⊗ v5 ⊕ v4 ⊗ v7) ⊗ v9))
+    ⊗ ((v3 ⊗ v5 ⊕ v4 ⊗ v7) ⊗ v9))
     ((v3 ⊗ ((v0 ⊗ v6 ⊕ v1 ⊗ num (pos 1)) ⊖ v2 ⊗ v5) ⊕ v4
-        ⊗ ((v0 ⊗ v8 ⊕ v1 ⊗ num (pos 1)) ⊖ v2 ⊗ v7)) ⊗ v9) refl
+    ⊗ ((v0 ⊗ v8 ⊕ v1 ⊗ num (pos 1)) ⊖ v2 ⊗ v7)) ⊗ v9) refl
 
 pub mean_left : (l h m n : Pt) (p : Point) (w : IsBetween m n p)
     → left_by l h p *ℤ (w.s +ℤ w.t) ≡ (w.s *ℤ left_by l h (whole m) +ℤ w.t *ℤ left_by l h (whole n)) *ℤ
     p.d
 mean_left l h m n p w =
     mean_by (h.x -ℤ l.x) ((h.y -ℤ l.y) *ℤ l.x -ℤ (h.x -ℤ l.x) *ℤ l.y) (h.y -ℤ l.y) w.s w.t m.x m.y n.x n.y
-        p.x p.y p.d w.x w.y
+    p.x p.y p.d w.x w.y
 
 -- the ends lie on their line, and so does each point between them
 start_on : (l h : Pt) → left_by l h (whole l) ≡ pos 0
 start_on l h =
     ring (l.x ∷ l.y ∷ h.x ∷ h.y ∷ [])
     (((v2 ⊖ v0) ⊗ v1 ⊕ ((v3 ⊖ v1) ⊗ v0 ⊖ (v2 ⊖ v0) ⊗ v1) ⊗ num (pos 1)) ⊖ (v3 ⊖ v1) ⊗ v0)
-        (num (pos 0)) refl
+    (num (pos 0)) refl
 
 end_on : (l h : Pt) → left_by l h (whole h) ≡ pos 0
 end_on l h =
     ring (l.x ∷ l.y ∷ h.x ∷ h.y ∷ [])
     (((v2 ⊖ v0) ⊗ v3 ⊕ ((v3 ⊖ v1) ⊗ v0 ⊖ (v2 ⊖ v0) ⊗ v1) ⊗ num (pos 1)) ⊖ (v3 ⊖ v1) ⊗ v2)
-        (num (pos 0)) refl
+    (num (pos 0)) refl
 
 no_mean : (s t d : ℤ) → (s *ℤ pos 0 +ℤ t *ℤ pos 0) *ℤ d ≡ pos 0
 no_mean s t d = ring (s ∷ t ∷ d ∷ []) ((v0 ⊗ num (pos 0) ⊕ v1 ⊗ num (pos 0)) ⊗ v2) (num (pos 0)) refl
@@ -182,7 +182,7 @@ both_above s t y z hs ht some hy hz e =
 negated : (s t y z : ℤ) → s *ℤ (pos 0 -ℤ y) +ℤ t *ℤ (pos 0 -ℤ z) ≡ pos 0 -ℤ (s *ℤ y +ℤ t *ℤ z)
 negated s t y z =
     ring (s ∷ t ∷ y ∷ z ∷ []) (v0 ⊗ (num (pos 0) ⊖ v2) ⊕ v1 ⊗ (num (pos 0) ⊖ v3))
-        (num (pos 0) ⊖ (v0 ⊗ v2 ⊕ v1 ⊗ v3)) refl
+    (num (pos 0) ⊖ (v0 ⊗ v2 ⊕ v1 ⊗ v3)) refl
 
 both_below : (s t y z : ℤ) → pos 0 ≤ℤ s → pos 0 ≤ℤ t → pos 0 <ℤ (s +ℤ t) → y <ℤ pos 0
     → z <ℤ pos 0 → s *ℤ y +ℤ t *ℤ z ≡ pos 0 → ⊥
@@ -210,7 +210,7 @@ ends_opposite l h m n p positive of_line w =
     opposite_by w.s w.t (left_by l h (whole m)) (left_by l h (whole n)) w.first w.second w.some
     (zero_factor (w.s *ℤ left_by l h (whole m) +ℤ w.t *ℤ left_by l h (whole n)) p.d positive
     (sym (mean_left l h m n p w) ∙ ap (λ (z : ℤ). z *ℤ (w.s +ℤ w.t)) (on_line l h p of_line)
-        ∙ none (w.s +ℤ w.t)))
+    ∙ none (w.s +ℤ w.t)))
   where
     none : (z : ℤ) → pos 0 *ℤ z ≡ pos 0
     none z = ring (z ∷ []) (num (pos 0) ⊗ v0) (num (pos 0)) refl
@@ -220,7 +220,7 @@ weighted : (s t a b d : ℤ) → d ≡ t -ℤ s
     → (t +ℤ (pos 0 -ℤ s)) *ℤ (t *ℤ a -ℤ s *ℤ b) ≡ (t *ℤ a +ℤ (pos 0 -ℤ s) *ℤ b) *ℤ d
 weighted s t a b d h =
     ring (s ∷ t ∷ a ∷ b ∷ []) ((v1 ⊕ (num (pos 0) ⊖ v0)) ⊗ (v1 ⊗ v2 ⊖ v0 ⊗ v3))
-        ((v1 ⊗ v2 ⊕ (num (pos 0) ⊖ v0) ⊗ v3) ⊗ (v1 ⊖ v0)) refl
+    ((v1 ⊗ v2 ⊕ (num (pos 0) ⊖ v0) ⊗ v3) ⊗ (v1 ⊖ v0)) refl
     ∙ ap (λ (z : ℤ). (t *ℤ a +ℤ (pos 0 -ℤ s) *ℤ b) *ℤ z) (sym h)
 
 other_weighted : (s t a b p d : ℤ) → d ≡ s -ℤ t → p ≡ s *ℤ b -ℤ t *ℤ a
@@ -235,15 +235,15 @@ other_weighted s t a b p d h e =
 gap_is : (l h m n : Pt) → turn_of l h m n ≡ left_by l h (whole n) -ℤ left_by l h (whole m)
 gap_is l h m n =
     ring (l.x ∷ l.y ∷ h.x ∷ h.y ∷ m.x ∷ m.y ∷ n.x ∷ n.y ∷ [])
-        ((v2 ⊖ v0) ⊗ (v7 ⊖ v5) ⊖ (v6 ⊖ v4) ⊗ (v3 ⊖ v1))
+    ((v2 ⊖ v0) ⊗ (v7 ⊖ v5) ⊖ (v6 ⊖ v4) ⊗ (v3 ⊖ v1))
     ((((v2 ⊖ v0) ⊗ v7 ⊕ ((v3 ⊖ v1) ⊗ v0 ⊖ (v2 ⊖ v0) ⊗ v1) ⊗ num (pos 1)) ⊖ (v3 ⊖ v1) ⊗ v6)
     ⊖ (((v2 ⊖ v0) ⊗ v5 ⊕ ((v3 ⊖ v1) ⊗ v0 ⊖ (v2 ⊖ v0) ⊗ v1) ⊗ num (pos 1)) ⊖ (v3 ⊖ v1) ⊗ v4))
-        refl
+    refl
 
 turn_exchanged : (l h m n : Pt) → turn_of m n l h ≡ pos 0 -ℤ turn_of l h m n
 turn_exchanged l h m n =
     ring (l.x ∷ l.y ∷ h.x ∷ h.y ∷ m.x ∷ m.y ∷ n.x ∷ n.y ∷ [])
-        ((v6 ⊖ v4) ⊗ (v3 ⊖ v1) ⊖ (v2 ⊖ v0) ⊗ (v7 ⊖ v5))
+    ((v6 ⊖ v4) ⊗ (v3 ⊖ v1) ⊖ (v2 ⊖ v0) ⊗ (v7 ⊖ v5))
     (num (pos 0) ⊖ ((v2 ⊖ v0) ⊗ (v7 ⊖ v5) ⊖ (v6 ⊖ v4) ⊗ (v3 ⊖ v1))) refl
 
 same_x : (l h m n : Pt) → left_by l h (whole n) *ℤ m.x -ℤ left_by l h (whole m) *ℤ n.x
@@ -251,26 +251,26 @@ same_x : (l h m n : Pt) → left_by l h (whole n) *ℤ m.x -ℤ left_by l h (who
 same_x l h m n =
     ring (l.x ∷ l.y ∷ h.x ∷ h.y ∷ m.x ∷ m.y ∷ n.x ∷ n.y ∷ [])
     ((((v2 ⊖ v0) ⊗ v7 ⊕ ((v3 ⊖ v1) ⊗ v0 ⊖ (v2 ⊖ v0) ⊗ v1) ⊗ num (pos 1)) ⊖ (v3 ⊖ v1) ⊗ v6)
-        ⊗ v4
+    ⊗ v4
     ⊖ (((v2 ⊖ v0) ⊗ v5 ⊕ ((v3 ⊖ v1) ⊗ v0 ⊖ (v2 ⊖ v0) ⊗ v1) ⊗ num (pos 1)) ⊖ (v3 ⊖ v1) ⊗ v4)
-        ⊗ v6)
+    ⊗ v6)
     ((((v6 ⊖ v4) ⊗ v1 ⊕ ((v7 ⊖ v5) ⊗ v4 ⊖ (v6 ⊖ v4) ⊗ v5) ⊗ num (pos 1)) ⊖ (v7 ⊖ v5) ⊗ v0)
-        ⊗ v2
+    ⊗ v2
     ⊖ (((v6 ⊖ v4) ⊗ v3 ⊕ ((v7 ⊖ v5) ⊗ v4 ⊖ (v6 ⊖ v4) ⊗ v5) ⊗ num (pos 1)) ⊖ (v7 ⊖ v5) ⊗ v2)
-        ⊗ v0) refl
+    ⊗ v0) refl
 
 same_y : (l h m n : Pt) → left_by l h (whole n) *ℤ m.y -ℤ left_by l h (whole m) *ℤ n.y
     ≡ left_by m n (whole l) *ℤ h.y -ℤ left_by m n (whole h) *ℤ l.y
 same_y l h m n =
     ring (l.x ∷ l.y ∷ h.x ∷ h.y ∷ m.x ∷ m.y ∷ n.x ∷ n.y ∷ [])
     ((((v2 ⊖ v0) ⊗ v7 ⊕ ((v3 ⊖ v1) ⊗ v0 ⊖ (v2 ⊖ v0) ⊗ v1) ⊗ num (pos 1)) ⊖ (v3 ⊖ v1) ⊗ v6)
-        ⊗ v5
+    ⊗ v5
     ⊖ (((v2 ⊖ v0) ⊗ v5 ⊕ ((v3 ⊖ v1) ⊗ v0 ⊖ (v2 ⊖ v0) ⊗ v1) ⊗ num (pos 1)) ⊖ (v3 ⊖ v1) ⊗ v4)
-        ⊗ v7)
+    ⊗ v7)
     ((((v6 ⊖ v4) ⊗ v1 ⊕ ((v7 ⊖ v5) ⊗ v4 ⊖ (v6 ⊖ v4) ⊗ v5) ⊗ num (pos 1)) ⊖ (v7 ⊖ v5) ⊗ v0)
-        ⊗ v3
+    ⊗ v3
     ⊖ (((v6 ⊖ v4) ⊗ v3 ⊕ ((v7 ⊖ v5) ⊗ v4 ⊖ (v6 ⊖ v4) ⊗ v5) ⊗ num (pos 1)) ⊖ (v7 ⊖ v5) ⊗ v2)
-        ⊗ v1) refl
+    ⊗ v1) refl
 
 -- a point of both ways
 pub record HaveCommon (l h m n : Pt) : Type 0 where
@@ -363,7 +363,7 @@ across re ge oe rf gf of px py d vx vy =
     ring (re ∷ ge ∷ oe ∷ rf ∷ gf ∷ of ∷ px ∷ py ∷ d ∷ vx ∷ vy ∷ []) ((v0 ⊗ v4 ⊖ v3 ⊗ v1) ⊗ (v6 ⊖ v9 ⊗ v8))
     (v3 ⊗ (((v0 ⊗ v7 ⊕ v2 ⊗ v8) ⊖ v1 ⊗ v6) ⊖ v8 ⊗ ((v0 ⊗ v10 ⊕ v2 ⊗ num (pos 1)) ⊖ v1 ⊗ v9))
     ⊖ v0 ⊗ (((v3 ⊗ v7 ⊕ v5 ⊗ v8) ⊖ v4 ⊗ v6) ⊖ v8
-        ⊗ ((v3 ⊗ v10 ⊕ v5 ⊗ num (pos 1)) ⊖ v4 ⊗ v9))) refl
+    ⊗ ((v3 ⊗ v10 ⊕ v5 ⊗ num (pos 1)) ⊖ v4 ⊗ v9))) refl
 
 along : (re ge oe rf gf of px py d vx vy : ℤ)
     → (re *ℤ gf -ℤ rf *ℤ ge) *ℤ (py -ℤ vy *ℤ d)
@@ -374,12 +374,12 @@ along re ge oe rf gf of px py d vx vy =
     ring (re ∷ ge ∷ oe ∷ rf ∷ gf ∷ of ∷ px ∷ py ∷ d ∷ vx ∷ vy ∷ []) ((v0 ⊗ v4 ⊖ v3 ⊗ v1) ⊗ (v7 ⊖ v10 ⊗ v8))
     (v4 ⊗ (((v0 ⊗ v7 ⊕ v2 ⊗ v8) ⊖ v1 ⊗ v6) ⊖ v8 ⊗ ((v0 ⊗ v10 ⊕ v2 ⊗ num (pos 1)) ⊖ v1 ⊗ v9))
     ⊖ v1 ⊗ (((v3 ⊗ v7 ⊕ v5 ⊗ v8) ⊖ v4 ⊗ v6) ⊖ v8
-        ⊗ ((v3 ⊗ v10 ⊕ v5 ⊗ num (pos 1)) ⊖ v4 ⊗ v9))) refl
+    ⊗ ((v3 ⊗ v10 ⊕ v5 ⊗ num (pos 1)) ⊖ v4 ⊗ v9))) refl
 
 vanishes : (y z d : ℤ) → y *ℤ (pos 0 -ℤ d *ℤ pos 0) -ℤ z *ℤ (pos 0 -ℤ d *ℤ pos 0) ≡ pos 0
 vanishes y z d =
     ring (y ∷ z ∷ d ∷ []) (v0 ⊗ (num (pos 0) ⊖ v2 ⊗ num (pos 0)) ⊖ v1
-        ⊗ (num (pos 0) ⊖ v2 ⊗ num (pos 0))) (num (pos 0)) refl
+    ⊗ (num (pos 0) ⊖ v2 ⊗ num (pos 0))) (num (pos 0)) refl
 
 either_factor : (k z : ℤ) → (k ≡ pos 0 → ⊥) → k *ℤ z ≡ pos 0 → z ≡ pos 0
 either_factor k z some h =
@@ -388,7 +388,7 @@ either_factor k z some h =
     (λ most. by_lt_z k (pos 0)
     (λ below. zero_factor z (pos 0 -ℤ k) (omega (arith, ints))
     (ring (k ∷ z ∷ []) (v1 ⊗ (num (pos 0) ⊖ v0)) (num (pos 0) ⊖ v0 ⊗ v1) refl
-        ∙ ap (λ (w : ℤ). pos 0 -ℤ w) h))
+    ∙ ap (λ (w : ℤ). pos 0 -ℤ w) h))
     (λ least. absurd (some (omega (arith, ints)))))
 
 pub one_point : (l h m n v : Pt) (p : Point) → (turn_of l h m n ≡ pos 0 → ⊥) → left_by l h p ≡ pos 0
@@ -403,7 +403,7 @@ one_point l h m n v p slanted a b c e =
     let both : (y z : ℤ) → y *ℤ (left_by l h p -ℤ p.d *ℤ left_by l h (whole v)) -ℤ z *ℤ (left_by m n p -ℤ p.d *ℤ left_by m n (whole v)) ≡ pos 0 =
     λ y z.
     ap₂ (λ (i j : ℤ). y *ℤ (i -ℤ p.d *ℤ j) -ℤ z *ℤ (left_by m n p -ℤ p.d *ℤ left_by m n (whole v))) a
-        c
+    c
     ∙ ap₂ (λ (i j : ℤ). y *ℤ (pos 0 -ℤ p.d *ℤ pos 0) -ℤ z *ℤ (i -ℤ p.d *ℤ j)) b e
     ∙ vanishes y z p.d
     in (

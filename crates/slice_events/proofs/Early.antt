@@ -30,7 +30,7 @@ module _ (es : List Edge) (s : Stay) (later : List Stay) (j : ℕ) (d : Stay) (b
   ends_early stays order past =
       left_none before now (yield_with es s later)
       (subst (λ (y : Yield). IsLeft before now y (yield_with es s later))
-          (with_none es s (drop j later) (rest_home stays order past)) left)
+      (with_none es s (drop j later) (rest_home stays order past)) left)
 
   one_and_rest : IsLeft before now (and_then (yield_at es s (get_or later j d)) (yield_with es s (drop (j + 1) later)))
       (yield_with es s later)

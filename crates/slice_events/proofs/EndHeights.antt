@@ -23,7 +23,7 @@ ends_rearranged es ys before after p h =
     subst (λ (ls : List Level). IsPermutation (before ++ end_levels es) ls) (sym h)
     (subst (λ (ls : List Level). IsPermutation (before ++ ls) (before ++ map level_of ys)) (of_ys es)
     (IsPermutation-append_right before (map level_of (end_ys es)) (map level_of ys)
-        (IsPermutation-map level_of (end_ys es) ys p)))
+    (IsPermutation-map level_of (end_ys es) ys p)))
 
 each_within : (es : List LeafEdge) → AllByRecursion (λ e. IsEdgeWithin coordinate_limit e.edge) es
     → AllByRecursion (λ y. unsigned_abs y ≤ coordinate_limit) (end_ys es)
@@ -35,4 +35,4 @@ pub ends_within : (es : List LeafEdge) (ys : List ℤ) → All (λ e. IsEdgeWith
 ends_within es ys h p =
     All-permutation (λ y. unsigned_abs y ≤ coordinate_limit) (end_ys es) ys p
     (All-from_recursion (λ y. unsigned_abs y ≤ coordinate_limit) (end_ys es)
-        (each_within es (recursion_from_All (λ (e : LeafEdge). IsEdgeWithin coordinate_limit e.edge) es h)))
+    (each_within es (recursion_from_All (λ (e : LeafEdge). IsEdgeWithin coordinate_limit e.edge) es h)))

@@ -6,8 +6,11 @@ use Rattle.scad_geom.specs.Line.{low, high, rise, run, offset, x_at, left_of, le
 use Rattle.slice_events.specs.Levels.{crossings}
 
 abbrev from_to : ℕ → ℕ → ℕ → ℕ → LeafEdge
-from_to x y x' y' = record { leaf = 0; edge = record
-    { a = record { x = pos x; y = pos y }; b = record { x = pos x'; y = pos y' } } }
+from_to x y x' y' = record {
+  leaf = 0;
+  edge = record
+      { a = record { x = pos x; y = pos y }; b = record { x = pos x'; y = pos y' } };
+}
 
 -- ---- a doubled edge, one that crosses it at (1000.5, 1000.5), and a flat one
 abbrev doubled : LeafEdge

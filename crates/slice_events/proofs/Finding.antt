@@ -40,9 +40,11 @@ module _ (es : List Edge) (tall : ℕ) where
   all_right (e ∷ fs) i h =
       let t = there es fs e i h in
       let left : left_end e ≡ left_end (edge_at es i) = ap left_end (sym t.1.0) in
-      AllByRecursion-append (IsStayOf es) (stays_of tall i e) (all_stays tall (suc i) fs)
-      ((t.0, left), later_right i (suc (bucket_of tall (low e).y))
-          (bucket_of tall (high e).y - bucket_of tall (low e).y) (left_end e) t.0 left)
+      AllByRecursion-append (IsStayOf es) (stays_of tall i e) (all_stays tall (suc i) fs) (
+        (t.0, left),
+        later_right i (suc (bucket_of tall (low e).y))
+            (bucket_of tall (high e).y - bucket_of tall (low e).y) (left_end e) t.0 left,
+      )
       (all_right fs (suc i) t.1.1)
 
 pub stays_right : (es : List Edge) (tall : ℕ) (stays : List Stay) → IsPermutation (all_stays tall 0 es) stays
@@ -73,7 +75,7 @@ module _ (edges : List LeafEdge) (lines : List Line) (tall : ℕ) (stays : List 
   room_for_all =
       subst (λ (es : List Edge). HasRoom before (yield_among es stays)) (sym same)
       (has_room tall positive edges inside stays placed before empty
-          (subst (λ (n : ℕ). n < 2 ^ 32) (sym (edges_few edges)) few))
+      (subst (λ (n : ℕ). n < 2 ^ 32) (sym (edges_few edges)) few))
 
   pub found_all : (after : Found) → HasYielded before after (yield_among (edges_in lines) stays)
       → IsFoundOf edges after

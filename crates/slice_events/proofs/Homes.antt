@@ -92,7 +92,7 @@ module _ (r : Edge → Edge → Bool) (es : List Edge) where
   with_later s zero b j left = refl
   with_later s (suc k) b j left =
       count-cons (at_home r es s) (record { bucket = b; left = left; line = j; starts = false })
-          (later_stays j left (suc b) k)
+      (later_stays j left (suc b) k)
       ∙ ap (λ (n : ℕ). once (((s.bucket == b) && (s.starts || false)) && r (edge_at es s.line) (edge_at es j)) + n)
       (with_later s k (suc b) j left)
       ∙ counted_once (s.bucket == b) (in_run (suc b) k s.bucket) s.starts (r (edge_at es s.line) (edge_at es j))
@@ -118,7 +118,7 @@ module _ (r : Edge → Edge → Bool) (es : List Edge) where
       across-cons (at_home r es) s (later_stays i p (suc b) k) (stays_from j q first more)
       ∙ ap₂ (λ (m n : ℕ). m + n)
       (count-cons (at_home r es s) (record { bucket = first; left = q; line = j; starts = true })
-          (later_stays j q (suc first) more)
+      (later_stays j q (suc first) more)
       ∙ ap₂ (λ (m n : ℕ). m + n) (any_start (b == first) false c)
       (with_later s more (suc first) j q ∙ no_start (in_run (suc first) more b) c)
       ∙ plus_zero (once ((b == first) && c)) ∙ ap (λ (t : Bool). once (t && c)) (eqb-turned b first))
@@ -143,7 +143,7 @@ module _ (r : Edge → Edge → Bool) (es : List Edge) where
       across-cons (at_home r es) s (later_stays i p (suc first) more) (stays_from j q other rest)
       ∙ ap₂ (λ (m n : ℕ). m + n)
       (count-cons (at_home r es s) (record { bucket = other; left = q; line = j; starts = true })
-          (later_stays j q (suc other) rest)
+      (later_stays j q (suc other) rest)
       ∙ ap₂ (λ (m n : ℕ). m + n) (any_start (first == other) true c)
       (with_later s rest (suc other) j q ∙ ap (λ (t : Bool). once (t && c))
       (and_true (in_run (suc other) rest first))))
@@ -192,11 +192,11 @@ module _ (r : Edge → Edge → Bool) (es : List Edge) where
           let o1 : other ≤ first + more = o.1 in
           order first other
           (λ l. one _ _ _ false false true (differs first other l) (below_run rest (suc other) first (omega arith))
-              (within_run more (suc first) other l (omega arith)) refl)
+          (within_run more (suc first) other l (omega arith)) refl)
           (λ l. one _ _ _ false true false (differs_above first other l)
-              (within_run rest (suc other) first l (omega arith)) (below_run more (suc first) other (omega arith)) refl)
+          (within_run rest (suc other) first l (omega arith)) (below_run more (suc first) other (omega arith)) refl)
           (λ e. one _ _ _ true false false (eq-eqb first other e) (below_run rest (suc other) first (omega arith))
-              (below_run more (suc first) other (omega arith)) refl)
+          (below_run more (suc first) other (omega arith)) refl)
 
   -- no two stays of one edge share a bucket
   alone : (s : Stay) (k b j : ℕ) (left : ℤ) → s.bucket < b
@@ -256,9 +256,9 @@ module _ (tall : ℕ) (positive : 0 < tall) where
       let o = overlap e f h in
       reach (bucket_of tall (low e).y) (bucket_of tall (high f).y) (bucket_of tall (low f).y)
       (bucket_in_order tall (low e).y (high f).y positive (low_within coordinate_limit e we).y
-          (high_within coordinate_limit f wf).y o.first)
+      (high_within coordinate_limit f wf).y o.first)
       (bucket_in_order tall (low f).y (high f).y positive (low_within coordinate_limit f wf).y
-          (high_within coordinate_limit f wf).y (rises f))
+      (high_within coordinate_limit f wf).y (rises f))
 
 module _ (tall : ℕ) (positive : 0 < tall) (r : Edge → Edge → Bool) (near : (e f : Edge) → r e f ≡ true → boxes_meet e f ≡ true) (turned : (e f : Edge) → boxes_meet e f ≡ boxes_meet f e) (es : List Edge) where
   first_at : (es fs : List Edge) (e : Edge) (i : ℕ) → drop i es ≡ e ∷ fs
@@ -273,10 +273,11 @@ module _ (tall : ℕ) (positive : 0 < tall) (r : Edge → Edge → Bool) (near :
         → across (at_home r es) (stays_of tall i e) (stays_of tall j f) ≡ once (r e f)
     one_pair f j there wf =
         one_home r es i j (bucket_of tall (low e).y) (bucket_of tall (high e).y - bucket_of tall (low e).y)
-            (bucket_of tall (low f).y) (bucket_of tall (high f).y - bucket_of tall (low f).y) (left_end e) (left_end f)
-        (λ h. let m : boxes_meet e f ≡ true = near e f (sym (ap₂ r at there) ∙ h) in
-        (buckets_overlap tall positive e f within wf m,
-            buckets_overlap tall positive f e wf within (sym (turned e f) ∙ m)))
+        (bucket_of tall (low f).y) (bucket_of tall (high f).y - bucket_of tall (low f).y) (left_end e) (left_end f)
+        (λ h. let m : boxes_meet e f ≡ true = near e f (sym (ap₂ r at there) ∙ h) in (
+          buckets_overlap tall positive e f within wf m,
+          buckets_overlap tall positive f e wf within (sym (turned e f) ∙ m),
+        ))
         ∙ ap once (ap₂ r at there)
 
     one_row : (fs : List Edge) (j : ℕ) → drop j es ≡ fs → AllByRecursion (IsEdgeWithin coordinate_limit) fs

@@ -33,9 +33,11 @@ all_by P (s ∷ ss) h = (h zero s (omega arith), all_by P ss (λ k d l. h (suc k
 in_order_from : (ss : List Stay) → ((i j : ℕ) (d : Stay) → i ≤ j → j < length ss
     → comes_before (get_or ss j d) (get_or ss i d) ≡ false) → AreInOrder ss
 in_order_from [] h = tt
-in_order_from (s ∷ ss) h = (all_by (λ t. comes_before t s ≡ false) ss
-    (λ k d l. h zero (suc k) d (omega arith) (omega arith)),
-    in_order_from ss (λ i j d a b. h (suc i) (suc j) d (omega arith) (omega arith)))
+in_order_from (s ∷ ss) h = (
+  all_by (λ t. comes_before t s ≡ false) ss
+      (λ k d l. h zero (suc k) d (omega arith) (omega arith)),
+  in_order_from ss (λ i j d a b. h (suc i) (suc j) d (omega arith) (omega arith)),
+)
 
 pub in_order : (ss : List Stay) → IsSortedBy comes_before ss → AreInOrder ss
 in_order ss h = in_order_from ss (sorted_far comes_before stay_order ss h)
@@ -57,10 +59,16 @@ after s t h = by_test (nat_lt t.bucket s.bucket) refl (t.bucket == s.bucket) ref
     by_test : (a : Bool) → nat_lt t.bucket s.bucket ≡ a → (b : Bool) → (t.bucket == s.bucket) ≡ b
         → is_lt (ordering_then (cond a Less (cond b Equal Greater)) (int_cmp t.left s.left)) ≡ false → After s t
     by_test true e b f h = absurd (true≢false h)
-    by_test false e true f h = record { bucket = ltb-false t.bucket s.bucket e; left
-        = λ q. int_lt-false t.left s.left (sym (is_lt-int_cmp t.left s.left) ∙ h) }
-    by_test false e false f h = record { bucket = ltb-false t.bucket s.bucket e; left
-        = λ q. absurd (true≢false (sym (eq-eqb t.bucket s.bucket (sym q)) ∙ f)) }
+    by_test false e true f h = record {
+      bucket = ltb-false t.bucket s.bucket e;
+      left
+          = λ q. int_lt-false t.left s.left (sym (is_lt-int_cmp t.left s.left) ∙ h);
+    }
+    by_test false e false f h = record {
+      bucket = ltb-false t.bucket s.bucket e;
+      left
+          = λ q. absurd (true≢false (sym (eq-eqb t.bucket s.bucket (sym q)) ∙ f));
+    }
 
 after_itself : (s : Stay) → After s s
 after_itself s = record { bucket = omega arith; left = λ q. omega (arith, ints) }

@@ -62,28 +62,28 @@ gap_of_sides : (a b c d p q g h : ℤ) → side a b c d g h -ℤ side a b c d p 
     ≡ (c -ℤ a) *ℤ (h -ℤ q) -ℤ (g -ℤ p) *ℤ (d -ℤ b)
 gap_of_sides a b c d p q g h = ring (a ∷ b ∷ c ∷ d ∷ p ∷ q ∷ g ∷ h ∷ [])
     (((v2 ⊖ v0) ⊗ v7 ⊕ ((v3 ⊖ v1) ⊗ v0 ⊖ (v2 ⊖ v0) ⊗ v1) ⊗ num (pos 1) ⊖ (v3 ⊖ v1) ⊗ v6)
-        ⊖ ((v2 ⊖ v0) ⊗ v5 ⊕ ((v3 ⊖ v1) ⊗ v0 ⊖ (v2 ⊖ v0) ⊗ v1) ⊗ num (pos 1) ⊖ (v3 ⊖ v1) ⊗ v4))
+    ⊖ ((v2 ⊖ v0) ⊗ v5 ⊕ ((v3 ⊖ v1) ⊗ v0 ⊖ (v2 ⊖ v0) ⊗ v1) ⊗ num (pos 1) ⊖ (v3 ⊖ v1) ⊗ v4))
     ((v2 ⊖ v0) ⊗ (v7 ⊖ v5) ⊖ (v6 ⊖ v4) ⊗ (v3 ⊖ v1)) refl
 
 same_y : (a b c d p q g h : ℤ) → side a b c d g h *ℤ q +ℤ (pos 0 -ℤ side a b c d p q) *ℤ h
     ≡ (pos 0 -ℤ side p q g h c d) *ℤ b +ℤ side p q g h a b *ℤ d
 same_y a b c d p q g h = ring (a ∷ b ∷ c ∷ d ∷ p ∷ q ∷ g ∷ h ∷ [])
     (((v2 ⊖ v0) ⊗ v7 ⊕ ((v3 ⊖ v1) ⊗ v0 ⊖ (v2 ⊖ v0) ⊗ v1) ⊗ num (pos 1) ⊖ (v3 ⊖ v1) ⊗ v6) ⊗ v5
-        ⊕ (num (pos 0) ⊖ ((v2 ⊖ v0) ⊗ v5 ⊕ ((v3 ⊖ v1) ⊗ v0 ⊖ (v2 ⊖ v0) ⊗ v1) ⊗ num (pos 1)
-        ⊖ (v3 ⊖ v1) ⊗ v4)) ⊗ v7)
+    ⊕ (num (pos 0) ⊖ ((v2 ⊖ v0) ⊗ v5 ⊕ ((v3 ⊖ v1) ⊗ v0 ⊖ (v2 ⊖ v0) ⊗ v1) ⊗ num (pos 1)
+    ⊖ (v3 ⊖ v1) ⊗ v4)) ⊗ v7)
     ((num (pos 0) ⊖ ((v6 ⊖ v4) ⊗ v3 ⊕ ((v7 ⊖ v5) ⊗ v4 ⊖ (v6 ⊖ v4) ⊗ v5) ⊗ num (pos 1)
-        ⊖ (v7 ⊖ v5) ⊗ v2)) ⊗ v1 ⊕ ((v6 ⊖ v4) ⊗ v1 ⊕ ((v7 ⊖ v5) ⊗ v4 ⊖ (v6 ⊖ v4) ⊗ v5)
-        ⊗ num (pos 1) ⊖ (v7 ⊖ v5) ⊗ v0) ⊗ v3) refl
+    ⊖ (v7 ⊖ v5) ⊗ v2)) ⊗ v1 ⊕ ((v6 ⊖ v4) ⊗ v1 ⊕ ((v7 ⊖ v5) ⊗ v4 ⊖ (v6 ⊖ v4) ⊗ v5)
+    ⊗ num (pos 1) ⊖ (v7 ⊖ v5) ⊗ v0) ⊗ v3) refl
 
 same_x : (a b c d p q g h : ℤ) → side a b c d g h *ℤ p +ℤ (pos 0 -ℤ side a b c d p q) *ℤ g
     ≡ (pos 0 -ℤ side p q g h c d) *ℤ a +ℤ side p q g h a b *ℤ c
 same_x a b c d p q g h = ring (a ∷ b ∷ c ∷ d ∷ p ∷ q ∷ g ∷ h ∷ [])
     (((v2 ⊖ v0) ⊗ v7 ⊕ ((v3 ⊖ v1) ⊗ v0 ⊖ (v2 ⊖ v0) ⊗ v1) ⊗ num (pos 1) ⊖ (v3 ⊖ v1) ⊗ v6) ⊗ v4
-        ⊕ (num (pos 0) ⊖ ((v2 ⊖ v0) ⊗ v5 ⊕ ((v3 ⊖ v1) ⊗ v0 ⊖ (v2 ⊖ v0) ⊗ v1) ⊗ num (pos 1)
-        ⊖ (v3 ⊖ v1) ⊗ v4)) ⊗ v6)
+    ⊕ (num (pos 0) ⊖ ((v2 ⊖ v0) ⊗ v5 ⊕ ((v3 ⊖ v1) ⊗ v0 ⊖ (v2 ⊖ v0) ⊗ v1) ⊗ num (pos 1)
+    ⊖ (v3 ⊖ v1) ⊗ v4)) ⊗ v6)
     ((num (pos 0) ⊖ ((v6 ⊖ v4) ⊗ v3 ⊕ ((v7 ⊖ v5) ⊗ v4 ⊖ (v6 ⊖ v4) ⊗ v5) ⊗ num (pos 1)
-        ⊖ (v7 ⊖ v5) ⊗ v2)) ⊗ v0 ⊕ ((v6 ⊖ v4) ⊗ v1 ⊕ ((v7 ⊖ v5) ⊗ v4 ⊖ (v6 ⊖ v4) ⊗ v5)
-        ⊗ num (pos 1) ⊖ (v7 ⊖ v5) ⊗ v0) ⊗ v2) refl
+    ⊖ (v7 ⊖ v5) ⊗ v2)) ⊗ v0 ⊕ ((v6 ⊖ v4) ⊗ v1 ⊕ ((v7 ⊖ v5) ⊗ v4 ⊖ (v6 ⊖ v4) ⊗ v5)
+    ⊗ num (pos 1) ⊖ (v7 ⊖ v5) ⊗ v0) ⊗ v2) refl
 
 sides : (e f : Edge) → left_of e (high f).x (high f).y (pos 1) -ℤ left_of e (low f).x (low f).y (pos 1) ≡ lean e f
 unfolding left_of x_at lean offset run rise
@@ -116,18 +116,42 @@ unfolding left_end right_end low high
 in_box e = by_test (int_lt e.b.x e.a.x) refl (int_lt e.b.y e.a.y) refl
   where
     by_test : (t : Bool) → int_lt e.b.x e.a.x ≡ t → (u : Bool) → int_lt e.b.y e.a.y ≡ u → InBox e
-    by_test true s true t = record { low_left = rw (s, t) (omega (arith, ints)); high_left
-        = rw (s, t) (omega (arith, ints)); low_right = rw (s, t) (omega (arith, ints)); high_right
-        = rw (s, t) (omega (arith, ints)); up = rw t (omega (arith, ints)) }
-    by_test true s false t = record { low_left = rw (s, t) (omega (arith, ints)); high_left
-        = rw (s, t) (omega (arith, ints)); low_right = rw (s, t) (omega (arith, ints)); high_right
-        = rw (s, t) (omega (arith, ints)); up = rw t (omega (arith, ints)) }
-    by_test false s true t = record { low_left = rw (s, t) (omega (arith, ints)); high_left
-        = rw (s, t) (omega (arith, ints)); low_right = rw (s, t) (omega (arith, ints)); high_right
-        = rw (s, t) (omega (arith, ints)); up = rw t (omega (arith, ints)) }
-    by_test false s false t = record { low_left = rw (s, t) (omega (arith, ints)); high_left
-        = rw (s, t) (omega (arith, ints)); low_right = rw (s, t) (omega (arith, ints)); high_right
-        = rw (s, t) (omega (arith, ints)); up = rw t (omega (arith, ints)) }
+    by_test true s true t = record {
+      low_left = rw (s, t) (omega (arith, ints));
+      high_left
+          = rw (s, t) (omega (arith, ints));
+      low_right = rw (s, t) (omega (arith, ints));
+      high_right
+          = rw (s, t) (omega (arith, ints));
+      up = rw t (omega (arith, ints));
+    }
+    by_test true s false t = record {
+      low_left = rw (s, t) (omega (arith, ints));
+      high_left
+          = rw (s, t) (omega (arith, ints));
+      low_right = rw (s, t) (omega (arith, ints));
+      high_right
+          = rw (s, t) (omega (arith, ints));
+      up = rw t (omega (arith, ints));
+    }
+    by_test false s true t = record {
+      low_left = rw (s, t) (omega (arith, ints));
+      high_left
+          = rw (s, t) (omega (arith, ints));
+      low_right = rw (s, t) (omega (arith, ints));
+      high_right
+          = rw (s, t) (omega (arith, ints));
+      up = rw t (omega (arith, ints));
+    }
+    by_test false s false t = record {
+      low_left = rw (s, t) (omega (arith, ints));
+      high_left
+          = rw (s, t) (omega (arith, ints));
+      low_right = rw (s, t) (omega (arith, ints));
+      high_right
+          = rw (s, t) (omega (arith, ints));
+      up = rw t (omega (arith, ints));
+    }
 
 one_is : (a b c d : Bool) → ((a && b) || (c && d)) ≡ true
     → ((a ≡ true) × (b ≡ true)) ⊎ ((c ≡ true) × (d ≡ true))
@@ -182,16 +206,16 @@ boxes_of_straddling e f h k p =
     let self = λ (z : ℤ). le_self z in
     four _ _ _ _
     (int_le-at_most (left_end e) (right_end f)
-        (between (lean e f) (pos 0 -ℤ v) u t (pos 0 -ℤ s) (left_end e) (right_end f) (low e).x (high e).x (low f).x
-        (high f).x p n.1 n.0 m.0 m.1 b a (sym x) i.low_left i.high_left j.low_right j.high_right))
+    (between (lean e f) (pos 0 -ℤ v) u t (pos 0 -ℤ s) (left_end e) (right_end f) (low e).x (high e).x (low f).x
+    (high f).x p n.1 n.0 m.0 m.1 b a (sym x) i.low_left i.high_left j.low_right j.high_right))
     (int_le-at_most (left_end f) (right_end e)
-        (between (lean e f) t (pos 0 -ℤ s) (pos 0 -ℤ v) u (left_end f) (right_end e) (low f).x (high f).x (low e).x
-        (high e).x p m.0 m.1 n.1 n.0 a b x j.low_left j.high_left i.low_right i.high_right))
+    (between (lean e f) t (pos 0 -ℤ s) (pos 0 -ℤ v) u (left_end f) (right_end e) (low f).x (high f).x (low e).x
+    (high e).x p m.0 m.1 n.1 n.0 a b x j.low_left j.high_left i.low_right i.high_right))
     (int_le-at_most (low e).y (high f).y (between (lean e f) (pos 0 -ℤ v) u t (pos 0 -ℤ s) (low e).y (high f).y
-        (low e).y (high e).y (low f).y (high f).y p n.1 n.0 m.0 m.1 b a (sym y) (self (low e).y) i.up j.up
-        (self (high f).y)))
+    (low e).y (high e).y (low f).y (high f).y p n.1 n.0 m.0 m.1 b a (sym y) (self (low e).y) i.up j.up
+    (self (high f).y)))
     (int_le-at_most (low f).y (high e).y (between (lean e f) t (pos 0 -ℤ s) (pos 0 -ℤ v) u (low f).y (high e).y
-        (low f).y (high f).y (low e).y (high e).y p m.0 m.1 n.1 n.0 a b y (self (low f).y) j.up i.up (self (high e).y)))
+    (low f).y (high f).y (low e).y (high e).y p m.0 m.1 n.1 n.0 a b y (self (low f).y) j.up i.up (self (high e).y)))
   where
     le_self : (z : ℤ) → z ≤ℤ z
     le_self z = omega (arith, ints)
@@ -223,8 +247,8 @@ boxes_of_meeting e f h =
     let s = straddling e f h in
     by_lt_z (pos 0) (lean e f) (λ p. boxes_of_straddling e f s.first s.second p) (λ n.
     by_lt_z (lean e f) (pos 0) (λ m. boxes-turned e f
-        ∙ boxes_of_straddling f e s.second s.first
-        (subst (λ (z : ℤ). pos 0 <ℤ z) (sym (lean_turned e f)) (omega (arith, ints))))
+    ∙ boxes_of_straddling f e s.second s.first
+    (subst (λ (z : ℤ). pos 0 <ℤ z) (sym (lean_turned e f)) (omega (arith, ints))))
     (λ m. absurd (zero_not (lean e f) s.slanted (omega (arith, ints)))))
 
 pub boxes_of_crossing : (e f : Edge) → crosses e f ≡ true → boxes_meet e f ≡ true

@@ -42,7 +42,7 @@ module _ {X : Type 0} (r : X → X → Bool) where
   across-append [] ys zs = refl
   across-append (x ∷ xs) ys zs =
       spread (count_by (r x) ys) (count_by (r x) zs) (across xs ys) (across xs zs) (count_by (r x) (ys ++ zs))
-          (across xs (ys ++ zs)) (across (x ∷ xs) (ys ++ zs))
+      (across xs (ys ++ zs)) (across (x ∷ xs) (ys ++ zs))
       (count-append (r x) ys zs) (across-append xs ys zs) (across-cons x xs (ys ++ zs))
       ∙ sym (ap₂ (λ (j k : ℕ). j + k) (across-cons x xs ys) (across-cons x xs zs))
 
@@ -56,7 +56,7 @@ module _ {X : Type 0} (r : X → X → Bool) where
   pairs-append [] ys = none_first (pairs r ys)
   pairs-append (x ∷ xs) ys =
       joined (count_by (r x) xs) (count_by (r x) ys) (pairs r xs) (pairs r ys) (across xs ys)
-          (count_by (r x) (xs ++ ys)) (pairs r (xs ++ ys))
+      (count_by (r x) (xs ++ ys)) (pairs r (xs ++ ys))
       (count-append (r x) xs ys) (pairs-append xs ys)
       ∙ ap (λ (k : ℕ). (count_by (r x) xs + pairs r xs) + (k + pairs r ys)) (sym (across-cons x xs ys))
 
@@ -112,5 +112,5 @@ module _ {X : Type 0} (r : X → X → Bool) (symmetric : (x y : X) → r x y �
   pub pairs-rearranged : (xs ys : List X) → IsPermutation xs ys → pairs r xs ≡ pairs r ys
   pairs-rearranged xs ys m =
       halved (across r xs xs) (across r ys ys) (pairs r xs) (pairs r ys) (selves xs) (selves ys) (twice xs) (twice ys)
-          (met_rearranged xs ys m)
+      (met_rearranged xs ys m)
       (sym (sum_by-IsPermutation (λ x. once (r x x)) xs ys m))

@@ -139,7 +139,7 @@ one_factor : (y z d : ℤ) → pos 0 <ℤ d → y *ℤ d ≡ z *ℤ d → y ≡ 
 one_factor y z d positive h =
     gap_none y z (zero_factor (y -ℤ z) d positive
     (ring (y ∷ z ∷ d ∷ []) ((v0 ⊖ v1) ⊗ v2) (v0 ⊗ v2 ⊖ v1 ⊗ v2) refl
-        ∙ no_gap (y *ℤ d) (z *ℤ d) h))
+    ∙ no_gap (y *ℤ d) (z *ℤ d) h))
 
 -- what lies at one point
 at_both : (v w : Pt) (p : Point) → pos 0 <ℤ p.d → IsAt v p → IsAt w p → v ≡ w
@@ -177,7 +177,7 @@ shared : (e f : Edge) → Share e f → share_end e f ≡ true
 shared e f (inl h) = true_left _ _ (share_pair e.a f.a f.b h)
 shared e f (inr h) =
     true_right (is_same_point (whole e.a) (whole f.a) || is_same_point (whole e.a) (whole f.b)) _
-        (share_pair e.b f.a f.b h)
+    (share_pair e.b f.a f.b h)
 
 ends_share : (e f : Edge) (p : Point) → pos 0 <ℤ p.d → IsEndOf e p → IsEndOf f p → Share e f
 ends_share e f p positive (inl h) (inl k) = inl (inl (at_both e.a f.a p positive h k))
@@ -260,7 +260,7 @@ module _ (e f : Edge) (c : Cross e f) where
   crossed : crosses e f ≡ true
   crossed =
       ap₂ (λ (s t : Bool). s && t) (met e f (record { slanted = c.slanted; point = c.point; common = c.common }))
-          none_said
+      none_said
 
 pub crosses_says_cross : CrossesSaysCross
 crosses_says_cross e f = (cross e f, crossed e f)

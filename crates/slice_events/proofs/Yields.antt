@@ -32,15 +32,19 @@ left_more b n m y r w l h =
       levels = λ few.
           let k : n.count ≤ crossing_limit = omega arith in
           ap (λ (xs : List Level). xs ++ r.levels) (h.levels few)
-              ∙ append_assoc (levels_in n.heights.items) y.levels r.levels ∙ l.levels k;
+          ∙ append_assoc (levels_in n.heights.items) y.levels r.levels ∙ l.levels k;
     }
 
 pub left_none : (b n : Found) (w : Yield) → IsLeft b n nothing w → HasYielded b n w
 left_none b n w l =
     let lt = l.tests in
     let lc = l.count in
-    record { tests = omega arith; count = omega arith; levels = λ few. sym (append-nil (levels_in n.heights.items))
-        ∙ l.levels few }
+    record {
+      tests = omega arith;
+      count = omega arith;
+      levels = λ few. sym (append-nil (levels_in n.heights.items))
+          ∙ l.levels few;
+    }
 
 pub left_room : (b n : Found) (y r w : Yield) → HasRoom b w → IsLeft b n (and_then y r) w → HasRoom n y
 left_room b n y r w h l =
@@ -52,8 +56,12 @@ left_room b n y r w h l =
 
 -- nothing is added
 pub yields_none : (b : Found) → HasYielded b b nothing
-yields_none b = record { tests = omega arith; count = omega arith; levels
-    = λ few. sym (append-nil (levels_in b.heights.items)) }
+yields_none b = record {
+  tests = omega arith;
+  count = omega arith;
+  levels
+      = λ few. sym (append-nil (levels_in b.heights.items));
+}
 
 -- ---- what is still to come, a step on
 pub with_more : (es : List Edge) (s : Stay) (ts : List Stay) (i : ℕ) (t : Stay) → i < length ts

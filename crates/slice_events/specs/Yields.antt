@@ -25,8 +25,12 @@ and_then y z = record { tests = y.tests + z.tests; count = y.count + z.count; le
 
 -- of one comparison
 abbrev pub yield_of : Edge → Edge → Yield
-yield_of e f = record { tests = 1; count = cond (crosses e f) 1 0; levels
-    = if is_kept e f then meeting e f ∷ [] else [] }
+yield_of e f = record {
+  tests = 1;
+  count = cond (crosses e f) 1 0;
+  levels
+      = if is_kept e f then meeting e f ∷ [] else [];
+}
 
 -- of two stays: the edges are compared where the two are at home and the boxes meet
 abbrev pub yield_at : List Edge → Stay → Stay → Yield

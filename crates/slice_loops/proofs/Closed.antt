@@ -48,7 +48,7 @@ goes_on start at left e others b t = record {
       (once (is_same_point p (whole e.a))) (once (is_same_point p (whole e.b)))
       (starts_at p (segments others)) (ends_at p (segments others))
       (starts_at p (segments (edge start at ∷ (e ∷ others))))
-          (ends_at p (segments (edge start at ∷ (e ∷ others))))
+      (ends_at p (segments (edge start at ∷ (e ∷ others))))
       from to (all.each p d) (ap (λ (q : Pt). once (is_same_point p (whole q))) t.starts)
       ∙ sym (ends-cons p (segment_of (edge start e.b)) (segments others));
 }
@@ -59,10 +59,10 @@ pub comes_back : (start at : Pt) (left : List Edge) → at ≡ start → IsBalan
 comes_back start at left h b = record {
   each = λ p d.
       ended (once (is_same_point p (whole start))) (once (is_same_point p (whole at))) (starts_at p (segments left))
-          (ends_at p (segments left))
+      (ends_at p (segments left))
       (starts_at p (segments (edge start at ∷ left))) (ends_at p (segments (edge start at ∷ left)))
       (starts-cons p (segment_of (edge start at)) (segments left))
-          (ends-cons p (segment_of (edge start at)) (segments left)) (b.each p d)
+      (ends-cons p (segment_of (edge start at)) (segments left)) (b.each p d)
       (ap (λ (q : Pt). once (is_same_point p (whole q))) (sym h));
 }
 
@@ -82,10 +82,10 @@ pub one_starts : (start at : Pt) (left : List Edge) → IsBalanced (segments (ed
     → (at ≡ start → ⊥) → NoneStarts at left → ⊥
 one_starts start at left b away none =
     too_few (once (same_place at start)) (once (same_place at at)) (count_by (λ e. same_place at e.a) left)
-        (count_by (λ e. same_place at e.b) left)
+    (count_by (λ e. same_place at e.b) left)
     (count_by (λ e. same_place at e.a) (edge start at ∷ left))
-        (count_by (λ e. same_place at e.b) (edge start at ∷ left))
+    (count_by (λ e. same_place at e.b) (edge start at ∷ left))
     (sum_by-cons (λ (x : Edge). once (same_place at x.a)) (edge start at) left)
-        (sum_by-cons (λ (x : Edge). once (same_place at x.b)) (edge start at) left)
+    (sum_by-cons (λ (x : Edge). once (same_place at x.b)) (edge start at) left)
     (whole_balance (edge start at ∷ left) b at)
     (ap once (differ at start away)) (count_none at left none) (ap once (same_place-itself at))

@@ -116,10 +116,19 @@ in_order_noted : (mid new : Remaining) (group place : ℕ) → IsInOrder mid →
     → ((k : ℕ) → group ≤ k → k < place → taken_at mid.taken.items k ≡ true) → IsInOrder new
 in_order_noted mid new group place order l edges taken notes so = record {
   ascending = subst IsAscending (sym edges) order.ascending;
-  marks = omega (arith, order.marks, ap (λ (ts : List Bool). length ts) taken,
-      ap (λ (fs : List Edge). length fs) edges);
-  notes = omega (arith, order.notes, ap (λ (ns : List ℕ). length ns) notes, length-set mid.passed.items group place,
-      ap (λ (fs : List Edge). length fs) edges);
+  marks = omega (
+    arith,
+    order.marks,
+    ap (λ (ts : List Bool). length ts) taken,
+    ap (λ (fs : List Edge). length fs) edges,
+  );
+  notes = omega (
+    arith,
+    order.notes,
+    ap (λ (ns : List ℕ). length ns) notes,
+    length-set mid.passed.items group place,
+    ap (λ (fs : List Edge). length fs) edges,
+  );
   passed = λ g k a b.
       subst (λ (ts : List Bool). taken_at ts k ≡ true) (sym taken)
       (by_place g k a (subst (λ (ns : List ℕ). k < get_or ns g 0) notes b) (cases_lt g group) (cases_lt group g));
@@ -217,7 +226,7 @@ module _ (r : Remaining) (p : Pt) (group from place : ℕ) (f : Finds r p group 
           (f.point.1 place d (omega (arith, f.later, f.first.after)) there)
           (subst (λ (q : Pt). comes_before q (get_or es place d).a ≡ false) s
           (subst (λ (e : Edge). comes_before (get_or es k c).a e.a ≡ false) (get_or_default es place c d there)
-              (starts_later es place k c f.order.ascending l m)))
+          (starts_later es place k c f.order.ascending l m)))
 
       or_here : (k : ℕ) (c : Edge) → (place < k) ⊎ (k ≤ place) → place ≤ k → k < length es
           → (get_or es k c).a ≡ p → (get_or es place d).a ≡ p
@@ -225,7 +234,7 @@ module _ (r : Remaining) (p : Pt) (group from place : ℕ) (f : Finds r p group 
       or_here k c (inr l) a m s =
           let same : k ≡ place = omega arith in
           ap (λ (e : Edge). e.a) (get_or_default es place d c there)
-              ∙ subst (λ (n : ℕ). (get_or es n c).a ≡ p) same s
+          ∙ subst (λ (n : ℕ). (get_or es n c).a ≡ p) same s
 
       by_test : (b : Bool) → same_place (get_or es place d).a p ≡ b → (get_or es place d).a ≡ p
       by_test true t = same_place-is (get_or es place d).a p t
@@ -250,7 +259,7 @@ module _ (r : Remaining) (p : Pt) (group from place : ℕ) (f : Finds r p group 
         by_place k d l other free s (inr a) =
             let later : place < k = grind arith in
             subst (λ (g : Edge). is_less (get_or es k d) g ≡ false)
-                (get_or_default es place d e there ∙ sym t.edge)
+            (get_or_default es place d e there ∙ sym t.edge)
             (not_less_later es place k d f.order.ascending later l)
 
     -- the note at the group's first place may now say so
@@ -267,4 +276,4 @@ module _ (r : Remaining) (p : Pt) (group from place : ℕ) (f : Finds r p group 
     noted last edges taken notes =
         in_order_noted new last group (place + 1) (in_order r place e new f.order is_untaken t)
         (omega (arith, group_inside r p group f.point f.some, ap (λ (fs : List Edge). length fs) t.edges)) edges taken
-            notes passed_to
+        notes passed_to

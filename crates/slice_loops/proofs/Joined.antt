@@ -34,8 +34,11 @@ drawn_permuted es fs m (l ∷ ls) d =
         first = loop.first;
         others = loop.others;
         way = loop.way;
-        least = record { taken = IsPermutation-trans es fs (loop.first ∷ loop.others) m loop.least.taken; least
-            = loop.least.least };
+        least = record {
+          taken = IsPermutation-trans es fs (loop.first ∷ loop.others) m loop.least.taken;
+          least
+              = loop.least.least;
+        };
         back = loop.back;
         vertices = loop.vertices;
       },
@@ -43,8 +46,12 @@ drawn_permuted es fs m (l ∷ ls) d =
     )
 
 pub makes_none : (es fs : List Edge) → IsPermutation es fs → Makes es [] fs
-makes_none es fs m = λ more a. record { loops = a.loops; drawn = drawn_permuted es fs m a.loops a.drawn; kept
-    = a.kept }
+makes_none es fs m = λ more a. record {
+  loops = a.loops;
+  drawn = drawn_permuted es fs m a.loops a.drawn;
+  kept
+      = a.kept;
+}
 
 -- ---- one more loop
 one_more : (es : List Edge) (v : List Pt) (left : List Edge) (c : List Pt) (is : Bool) → IsLoop es v left
@@ -71,7 +78,7 @@ makes_added edges outlines es left now made h =
     let c : List Pt = corners h.vertices in
     let is : Bool = nat_le 3 (length c) in
     λ more a. subst (AreOutlines edges) (sym
-        (ap (λ (os : List (List Pt)). os ++ more) h.added ∙ joined_on is c outlines more))
+    (ap (λ (os : List (List Pt)). os ++ more) h.added ∙ joined_on is c outlines more))
     (made (cond is (c ∷ more) more) (one_more es h.vertices left c is h.drawn refl refl more a))
 
 pub adds_one : (es : List Edge) (v : List Pt) (left : List Edge) (c k : List Pt) (outlines now : List (List Pt))
@@ -158,4 +165,4 @@ pub all_drawn : (edges : List Edge) (left : Remaining) (outlines : List (List Pt
     → Drawn edges left outlines place end → end ≤ place → AreOutlines edges outlines
 all_drawn edges left outlines place end d h =
     makes_all edges outlines (remaining left)
-        (all_taken left.taken.items left.edges.items (λ k l. d.taken k (omega (arith, d.count)))) d.made
+    (all_taken left.taken.items left.edges.items (λ k l. d.taken k (omega (arith, d.count)))) d.made

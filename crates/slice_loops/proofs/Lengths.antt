@@ -54,7 +54,7 @@ gap_of_ahead far near x a p positive h same =
     sym h ∙ ap (λ (z : ℤ). far *ℤ (p -ℤ z)) same ∙ ring (far ∷ p ∷ []) (v0 ⊗ (v1 ⊖ v1)) (num (pos 0)) refl in
     sym (equal_of_gap p a
     (zero_factor (p -ℤ a) near positive (ring (p ∷ a ∷ near ∷ []) ((v0 ⊖ v1) ⊗ v2) (v2 ⊗ (v0 ⊖ v1)) refl
-        ∙ none)))
+    ∙ none)))
 
 ahead_differs : (x a p : Pt) → IsAhead x a p → (a ≡ p → ⊥) → x ≡ p → ⊥
 ahead_differs x a p h differ same =
@@ -90,7 +90,7 @@ from_least : (p : Pt) (ps : List Pt) → AllByRecursion (IsAtLeast p) ps → All
 from_least p [] a each = absurd (each.0 refl)
 from_least p (n ∷ ns) a each =
     subst (λ (b : Bool). AllByRecursion HasLength
-        (sides (cond b (corners_between p n ns p) (p ∷ corners_between p n ns p))))
+    (sides (cond b (corners_between p n ns p) (p ∷ corners_between p n ns p))))
     (sym (least_is_corner (last n ns) p n (last_at_least p n ns a.0 a.1) a.0))
     (corners_lengths p p n ns p (ahead_itself p n) each.0 each.1)
 
@@ -98,7 +98,7 @@ loop_lengths : (es : List Edge) (l : List Pt) (left : List Edge) → IsLoop es l
     → AllByRecursion HasLength (sides l) → AllByRecursion HasLength (sides (corners l))
 loop_lengths es l left h =
     subst (λ (v : List Pt). AllByRecursion HasLength (sides v) → AllByRecursion HasLength (sides (corners v)))
-        (sym h.vertices)
+    (sym h.vertices)
     (from_least h.first.a h.way (loop_at_least es l left h))
 
 -- ---- all loops

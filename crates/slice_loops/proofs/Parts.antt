@@ -140,7 +140,7 @@ parts_turn above right q d a m b t = by_tests (is_over above q (whole a)) (is_ov
     with_end h =
         ap₂ (λ (s t : ℤ). s +ℤ t)
         (sym (alike above right q a b a m back.far back.near back.far_positive back.near_positive refl (sym h)
-            (first_side q a m b back)))
+        (first_side q a m b back)))
         (flat_turn above right q (whole m) (whole b) h)
         ∙ +ℤ_idr (turn above right q (whole a) (whole b))
 
@@ -151,7 +151,7 @@ parts_turn above right q d a m b t = by_tests (is_over above q (whole a)) (is_ov
         ap₂ (λ (s t : ℤ). s +ℤ t)
         (flat_turn above right q (whole a) (whole m) h)
         (sym (alike above right q a b m b on.far on.near on.far_positive on.near_positive h refl
-            (last_side q a m b on)))
+        (last_side q a m b on)))
         ∙ +ℤ_idl (turn above right q (whole a) (whole b))
 
     by_tests : (r s t : Bool) → is_over above q (whole a) ≡ r → is_over above q (whole m) ≡ s
@@ -196,8 +196,8 @@ there_and_back above right q a b ha hb =
     ap₂ (λ (s t : ℤ). s +ℤ t)
     (rising_turn above right q (whole a) (whole b) ha hb)
     (falling_turn above right q (whole b) (whole a) hb ha
-        ∙ ap (λ (z : ℤ). if is_beyond right z then negsuc 0 else pos 0)
-        (ap neg_ℤ (side_turned q a b) ∙ no_minus (side_by q (whole a) (whole b))))
+    ∙ ap (λ (z : ℤ). if is_beyond right z then negsuc 0 else pos 0)
+    (ap neg_ℤ (side_turned q a b) ∙ no_minus (side_by q (whole a) (whole b))))
     ∙ opposite (is_beyond right (side_by q (whole a) (whole b)))
 
 pub opposites_cancel : (above right : Bool) (q : Point) (a b : Pt)

@@ -15,7 +15,7 @@ way_sides : (start : Pt) (vs : List Pt) (p q : Pt) (es left : List Edge) → Lea
 way_sides start [] p q es left h =
     subst (λ (s : Pt). IsPermutation (edge p q ∷ es) (edge p s ∷ left)) h.0
     (subst (λ (l : List Edge). IsPermutation (edge p q ∷ es) (edge p q ∷ l)) h.1
-        (IsPermutation-refl (edge p q ∷ es)))
+    (IsPermutation-refl (edge p q ∷ es)))
 way_sides start (v ∷ vs) p q es left h =
     let e : Edge = h.2.0 in
     let others : List Edge = h.2.1 in
@@ -26,7 +26,7 @@ way_sides start (v ∷ vs) p q es left h =
     let at_v : IsPermutation (e ∷ others) (path v vs start ++ left) = subst (λ (a : Pt). IsPermutation (e ∷ others) (path a vs start ++ left)) here on in
     subst (λ (b : Pt). IsPermutation (edge p q ∷ es) (edge p b ∷ (path v vs start ++ left))) (sym h.0)
     (IsPermutation-cons (edge p q) es (path v vs start ++ left)
-        (IsPermutation-trans es (e ∷ others) (path v vs start ++ left) t.taken at_v))
+    (IsPermutation-trans es (e ∷ others) (path v vs start ++ left) t.taken at_v))
 
 loop_sides : (es : List Edge) (l : List Pt) (left : List Edge) → IsLoop es l left
     → IsPermutation es (sides l ++ left)
@@ -34,11 +34,11 @@ loop_sides es l left h =
     let e : Edge = h.first in
     subst (λ (v : List Pt). IsPermutation es (sides v ++ left)) (sym h.vertices)
     (IsPermutation-trans es (e ∷ h.others) (path e.a h.way e.a ++ left) h.least.taken
-        (way_sides e.a h.way e.a e.b h.others left h.back))
+    (way_sides e.a h.way e.a e.b h.others left h.back))
 
 pub sides_are_edges : SidesAreEdges
 sides_are_edges es [] d = subst (λ (l : List Edge). IsPermutation es l) d (IsPermutation-refl es)
 sides_are_edges es (l ∷ ls) d =
     let left : List Edge = d.0 in
     IsPermutation-trans es (sides l ++ left) (sides l ++ flat_map sides ls) (loop_sides es l left d.1)
-        (IsPermutation-append_right (sides l) left (flat_map sides ls) (sides_are_edges left ls d.2))
+    (IsPermutation-append_right (sides l) left (flat_map sides ls) (sides_are_edges left ls d.2))

@@ -27,8 +27,15 @@ pub record IsAhead (x a p : Pt) : Type 0 where
   pub along : far *ℤ (p.y -ℤ x.y) ≡ near *ℤ (p.y -ℤ a.y)
 
 pub ahead_itself : (a p : Pt) → IsAhead a a p
-ahead_itself a p = record { far = pos 1; near = pos 1; far_positive = omega (arith, ints); near_positive
-    = omega (arith, ints); across = refl; along = refl }
+ahead_itself a p = record {
+  far = pos 1;
+  near = pos 1;
+  far_positive = omega (arith, ints);
+  near_positive
+      = omega (arith, ints);
+  across = refl;
+  along = refl;
+}
 
 -- ---- what the test says
 pub straight : (a p b : Pt) → is_between a p b ≡ true → (bend a p b ≡ pos 0) × (pos 0 <ℤ advance a p b)
@@ -48,7 +55,7 @@ pub scaled_bend : (k l wx wy ux uy vx vy : ℤ) → k *ℤ wx ≡ l *ℤ ux → 
     → (wx *ℤ vy -ℤ wy *ℤ vx) *ℤ k ≡ (ux *ℤ vy -ℤ uy *ℤ vx) *ℤ l
 scaled_bend k l wx wy ux uy vx vy h e =
     ring (k ∷ wx ∷ wy ∷ vx ∷ vy ∷ []) ((v1 ⊗ v4 ⊖ v2 ⊗ v3) ⊗ v0)
-        ((v0 ⊗ v1) ⊗ v4 ⊖ (v0 ⊗ v2) ⊗ v3) refl
+    ((v0 ⊗ v1) ⊗ v4 ⊖ (v0 ⊗ v2) ⊗ v3) refl
     ∙ ap₂ (λ (s t : ℤ). s *ℤ vy -ℤ t *ℤ vx) h e
     ∙ ring (l ∷ ux ∷ uy ∷ vx ∷ vy ∷ []) ((v0 ⊗ v1) ⊗ v4 ⊖ (v0 ⊗ v2) ⊗ v3)
     ((v1 ⊗ v4 ⊖ v2 ⊗ v3) ⊗ v0) refl
@@ -57,7 +64,7 @@ scaled_advance : (k l wx wy ux uy vx vy : ℤ) → k *ℤ wx ≡ l *ℤ ux → k
     → (wx *ℤ vx +ℤ wy *ℤ vy) *ℤ k ≡ (ux *ℤ vx +ℤ uy *ℤ vy) *ℤ l
 scaled_advance k l wx wy ux uy vx vy h e =
     ring (k ∷ wx ∷ wy ∷ vx ∷ vy ∷ []) ((v1 ⊗ v3 ⊕ v2 ⊗ v4) ⊗ v0)
-        ((v0 ⊗ v1) ⊗ v3 ⊕ (v0 ⊗ v2) ⊗ v4) refl
+    ((v0 ⊗ v1) ⊗ v3 ⊕ (v0 ⊗ v2) ⊗ v4) refl
     ∙ ap₂ (λ (s t : ℤ). s *ℤ vx +ℤ t *ℤ vy) h e
     ∙ ring (l ∷ ux ∷ uy ∷ vx ∷ vy ∷ []) ((v0 ⊗ v1) ⊗ v3 ⊕ (v0 ⊗ v2) ⊗ v4)
     ((v1 ⊗ v3 ⊕ v2 ⊗ v4) ⊗ v0) refl
@@ -67,12 +74,12 @@ further_across : (k l w ux uy vx vy : ℤ) → k *ℤ w ≡ l *ℤ ux → ux *�
     ≡ (k *ℤ (ux *ℤ vx +ℤ uy *ℤ vy) +ℤ l *ℤ (ux *ℤ ux +ℤ uy *ℤ uy)) *ℤ vx
 further_across k l w ux uy vx vy h e =
     ring (k ∷ l ∷ w ∷ ux ∷ uy ∷ vx ∷ vy ∷ []) (((v3 ⊗ v5 ⊕ v4 ⊗ v6) ⊗ v0) ⊗ (v5 ⊕ v2))
-        ((v3 ⊗ v5 ⊕ v4 ⊗ v6) ⊗ (v0 ⊗ v5) ⊕ (v3 ⊗ v5 ⊕ v4 ⊗ v6) ⊗ (v0 ⊗ v2)) refl
+    ((v3 ⊗ v5 ⊕ v4 ⊗ v6) ⊗ (v0 ⊗ v5) ⊕ (v3 ⊗ v5 ⊕ v4 ⊗ v6) ⊗ (v0 ⊗ v2)) refl
     ∙ ap (λ (z : ℤ). (ux *ℤ vx +ℤ uy *ℤ vy) *ℤ (k *ℤ vx) +ℤ (ux *ℤ vx +ℤ uy *ℤ vy) *ℤ z) h
     ∙ ring (k ∷ l ∷ w ∷ ux ∷ uy ∷ vx ∷ vy ∷ [])
     ((v3 ⊗ v5 ⊕ v4 ⊗ v6) ⊗ (v0 ⊗ v5) ⊕ (v3 ⊗ v5 ⊕ v4 ⊗ v6) ⊗ (v1 ⊗ v3))
     ((v0 ⊗ (v3 ⊗ v5 ⊕ v4 ⊗ v6) ⊕ v1 ⊗ (v3 ⊗ v3 ⊕ v4 ⊗ v4)) ⊗ v5 ⊕ (v1 ⊗ v4)
-        ⊗ (v3 ⊗ v6 ⊖ v4 ⊗ v5)) refl
+    ⊗ (v3 ⊗ v6 ⊖ v4 ⊗ v5)) refl
     ∙ ap (λ (z : ℤ). (k *ℤ (ux *ℤ vx +ℤ uy *ℤ vy) +ℤ l *ℤ (ux *ℤ ux +ℤ uy *ℤ uy)) *ℤ vx +ℤ
     (l *ℤ uy) *ℤ z) e
     ∙ add_times_zero ((k *ℤ (ux *ℤ vx +ℤ uy *ℤ vy) +ℤ l *ℤ (ux *ℤ ux +ℤ uy *ℤ uy)) *ℤ vx)
@@ -83,12 +90,12 @@ further_along : (k l w ux uy vx vy : ℤ) → k *ℤ w ≡ l *ℤ uy → ux *ℤ
     ≡ (k *ℤ (ux *ℤ vx +ℤ uy *ℤ vy) +ℤ l *ℤ (ux *ℤ ux +ℤ uy *ℤ uy)) *ℤ vy
 further_along k l w ux uy vx vy h e =
     ring (k ∷ l ∷ w ∷ ux ∷ uy ∷ vx ∷ vy ∷ []) (((v3 ⊗ v5 ⊕ v4 ⊗ v6) ⊗ v0) ⊗ (v6 ⊕ v2))
-        ((v3 ⊗ v5 ⊕ v4 ⊗ v6) ⊗ (v0 ⊗ v6) ⊕ (v3 ⊗ v5 ⊕ v4 ⊗ v6) ⊗ (v0 ⊗ v2)) refl
+    ((v3 ⊗ v5 ⊕ v4 ⊗ v6) ⊗ (v0 ⊗ v6) ⊕ (v3 ⊗ v5 ⊕ v4 ⊗ v6) ⊗ (v0 ⊗ v2)) refl
     ∙ ap (λ (z : ℤ). (ux *ℤ vx +ℤ uy *ℤ vy) *ℤ (k *ℤ vy) +ℤ (ux *ℤ vx +ℤ uy *ℤ vy) *ℤ z) h
     ∙ ring (k ∷ l ∷ w ∷ ux ∷ uy ∷ vx ∷ vy ∷ [])
     ((v3 ⊗ v5 ⊕ v4 ⊗ v6) ⊗ (v0 ⊗ v6) ⊕ (v3 ⊗ v5 ⊕ v4 ⊗ v6) ⊗ (v1 ⊗ v4))
     ((v0 ⊗ (v3 ⊗ v5 ⊕ v4 ⊗ v6) ⊕ v1 ⊗ (v3 ⊗ v3 ⊕ v4 ⊗ v4)) ⊗ v6 ⊖ (v1 ⊗ v3)
-        ⊗ (v3 ⊗ v6 ⊖ v4 ⊗ v5)) refl
+    ⊗ (v3 ⊗ v6 ⊖ v4 ⊗ v5)) refl
     ∙ ap (λ (z : ℤ). (k *ℤ (ux *ℤ vx +ℤ uy *ℤ vy) +ℤ l *ℤ (ux *ℤ ux +ℤ uy *ℤ uy)) *ℤ vy -ℤ
     (l *ℤ ux) *ℤ z) e
     ∙ sub_times_zero ((k *ℤ (ux *ℤ vx +ℤ uy *ℤ vy) +ℤ l *ℤ (ux *ℤ ux +ℤ uy *ℤ uy)) *ℤ vy)
@@ -111,7 +118,7 @@ still_between x a p b h t =
     let flat : (wx *ℤ vy -ℤ wy *ℤ vx) *ℤ h.far ≡ pos 0 = scaled_bend h.far h.near wx wy ux uy vx vy h.across h.along ∙ ap (λ (z : ℤ). z *ℤ h.near) s.0 ∙ zero-*ℤ h.near in
     let on : pos 0 <ℤ ((wx *ℤ vx +ℤ wy *ℤ vy) *ℤ h.far) = subst (λ (z : ℤ). pos 0 <ℤ z) (sym (scaled_advance h.far h.near wx wy ux uy vx vy h.across h.along)) (positive_product (ux *ℤ vx +ℤ uy *ℤ vy) h.near s.1 h.near_positive) in
     between_by x p b (zero_factor (wx *ℤ vy -ℤ wy *ℤ vx) h.far h.far_positive flat)
-        (pos_left (wx *ℤ vx +ℤ wy *ℤ vy) h.far h.far_positive on)
+    (pos_left (wx *ℤ vx +ℤ wy *ℤ vy) h.far h.far_positive on)
 
 pub ahead_on : (x a p b : Pt) → IsAhead x a p → is_between a p b ≡ true → IsAhead x p b
 unfolding bend advance
@@ -132,7 +139,7 @@ ahead_on x a p b h t =
       near_positive = sum_above (h.far *ℤ (ux *ℤ vx +ℤ uy *ℤ vy)) (h.near *ℤ (ux *ℤ ux +ℤ uy *ℤ uy))
           (positive_product h.far (ux *ℤ vx +ℤ uy *ℤ vy) h.far_positive s.1)
           (at_least_mul h.near (ux *ℤ ux +ℤ uy *ℤ uy) (at_most_of_less (pos 0) h.near h.near_positive)
-              (sum_at_least (ux *ℤ ux) (uy *ℤ uy) (square_at_least ux) (square_at_least uy)));
+          (sum_at_least (ux *ℤ ux) (uy *ℤ uy) (square_at_least ux) (square_at_least uy)));
       across = ap (λ (z : ℤ). far *ℤ z) (sym (way b.x p.x x.x))
           ∙ further_across h.far h.near wx ux uy vx vy h.across s.0;
       along = ap (λ (z : ℤ). far *ℤ z) (sym (way b.y p.y x.y))

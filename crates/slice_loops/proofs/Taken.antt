@@ -17,8 +17,10 @@ use Rattle.slice_loops.proofs.Points.{less_order}
 ascending_from : (es : List Edge) → ((i j : ℕ) (d : Edge) → i ≤ j → j < length es
     → is_less (get_or es j d) (get_or es i d) ≡ false) → IsAscending es
 ascending_from [] h = tt
-ascending_from (e ∷ es) h = (λ k d l. h zero (suc k) d (omega arith) (omega arith),
-    ascending_from es (λ i j d a b. h (suc i) (suc j) d (omega arith) (omega arith)))
+ascending_from (e ∷ es) h = (
+  λ k d l. h zero (suc k) d (omega arith) (omega arith),
+  ascending_from es (λ i j d a b. h (suc i) (suc j) d (omega arith) (omega arith)),
+)
 
 pub ascending_sorted : (es : List Edge) → IsSortedBy is_less es → IsAscending es
 ascending_sorted es h = ascending_from es (sorted_far is_less less_order es h)
@@ -97,8 +99,10 @@ module _ (old : Remaining) (place : ℕ) (e : Edge) (new : Remaining) (order : I
 
   pub others_as_before : (k : ℕ) → taken_at new.taken.items k ≡ false
       → (k ≡ place → ⊥) × (taken_at old.taken.items k ≡ false)
-  others_as_before k h = (λ same. true≢false (sym now_taken ∙ ap (taken_at new.taken.items) (sym same) ∙ h),
-      by_test (taken_at old.taken.items k) refl)
+  others_as_before k h = (
+    λ same. true≢false (sym now_taken ∙ ap (taken_at new.taken.items) (sym same) ∙ h),
+    by_test (taken_at old.taken.items k) refl,
+  )
     where
       by_test : (b : Bool) → taken_at old.taken.items k ≡ b → taken_at old.taken.items k ≡ false
       by_test false s = s
@@ -109,17 +113,26 @@ module _ (old : Remaining) (place : ℕ) (e : Edge) (new : Remaining) (order : I
       let one = one_out old.taken.items old.edges.items place e here free.there free.free in
       subst (λ (f : Edge). IsPermutation (remaining old) (f ∷ remaining new)) (sym t.edge)
       (subst (λ (fs : List Edge). IsPermutation (remaining old)
-          (get_or old.edges.items place e ∷ untaken new.taken.items fs)) (sym t.edges)
+      (get_or old.edges.items place e ∷ untaken new.taken.items fs)) (sym t.edges)
       (subst (λ (ts : List Bool). IsPermutation (remaining old)
-          (get_or old.edges.items place e ∷ untaken ts old.edges.items)) (sym t.taken) one))
+      (get_or old.edges.items place e ∷ untaken ts old.edges.items)) (sym t.taken) one))
 
   pub in_order : IsInOrder new
   in_order = record {
     ascending = subst IsAscending (sym t.edges) order.ascending;
-    marks = omega (arith, order.marks, ap (λ (ts : List Bool). length ts) t.taken,
-        length-set old.taken.items place true, ap (λ (fs : List Edge). length fs) t.edges);
-    notes = omega (arith, order.notes, ap (λ (ns : List ℕ). length ns) t.notes,
-        ap (λ (fs : List Edge). length fs) t.edges);
+    marks = omega (
+      arith,
+      order.marks,
+      ap (λ (ts : List Bool). length ts) t.taken,
+      length-set old.taken.items place true,
+      ap (λ (fs : List Edge). length fs) t.edges,
+    );
+    notes = omega (
+      arith,
+      order.notes,
+      ap (λ (ns : List ℕ). length ns) t.notes,
+      ap (λ (fs : List Edge). length fs) t.edges,
+    );
     passed = λ g k l m. still.taken k (order.passed g k l (subst (λ (ns : List ℕ). k < get_or ns g 0) t.notes m));
   }
 
@@ -143,7 +156,7 @@ module _ (old : Remaining) (place : ℕ) (e : Edge) (new : Remaining) (order : I
       by_place k d l other f (inr a) =
           let later : place < k = grind arith in
           subst (λ (g : Edge). is_less (get_or old.edges.items k d) g ≡ false)
-              (get_or_default old.edges.items place d e free.there ∙ sym t.edge)
+          (get_or_default old.edges.items place d e free.there ∙ sym t.edge)
           (not_less_later old.edges.items place k d order.ascending later l)
 
   pub taken_so_far : AllTakenTo old place → AllTakenTo new (place + 1)

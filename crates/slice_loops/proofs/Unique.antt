@@ -88,7 +88,7 @@ least_of : (Q : Edge → Type 0) (es : List Edge) (e : Edge) (others : List Edge
 least_of Q es e others f m a h q =
     let s = m f in
     holds_of (λ x. Q x → is_less x e ≡ false) f (e ∷ others)
-        (All-cons (λ x. Q x → is_less x e ≡ false) e others (λ t. not_less_itself e) a) (omega arith) q
+    (All-cons (λ x. Q x → is_less x e ≡ false) e others (λ t. not_less_itself e) a) (omega arith) q
 
 one_least : (Q : Edge → Type 0) (es : List Edge) (e : Edge) (others fs : List Edge) (f : Edge) (rest : List Edge)
     → HaveSame es fs → HaveSame es (e ∷ others) → All (λ x. Q x → is_less x e ≡ false) others → Q e

@@ -20,7 +20,7 @@ pub leads_on : (edges : List Edge) (start : Pt) (vertices : List Pt) (at : Pt) (
     → Leads edges start (vertices ++ (at ∷ [])) e.b others
 leads_on edges start vertices at left e others lead away t =
     λ way rest b. subst (λ (l : List Pt). IsLoop edges l rest) (sym (append_assoc vertices (at ∷ []) way))
-        (lead (at ∷ way) rest (refl, away, (e, others, t, b)))
+    (lead (at ∷ way) rest (refl, away, (e, others, t, b)))
 
 pub leads_back : (edges : List Edge) (start : Pt) (vertices : List Pt) (at : Pt) (left : List Edge)
     → Leads edges start vertices at left → at ≡ start → IsLoop edges vertices left

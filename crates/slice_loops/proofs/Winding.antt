@@ -81,7 +81,7 @@ module _ (above right : Bool) (q : Point) where
         (least_is_corner p p p (itself_at_least p) (itself_at_least p))
     from_least p (n ∷ ns) a =
         ap (λ (b : Bool). winding (sides (cond b (corners_between p n ns p) (p ∷ corners_between p n ns p))))
-            (least_is_corner (last n ns) p n (last_at_least p n ns a.0 a.1) a.0)
+        (least_is_corner (last n ns) p n (last_at_least p n ns a.0 a.1) a.0)
         ∙ corners_wind p p n ns p (ahead_itself p n)
 
     loop_winds : (es : List Edge) (l : List Pt) (left : List Edge) → IsLoop es l left

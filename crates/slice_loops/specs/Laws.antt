@@ -19,18 +19,18 @@ SidesAreEdges = (edges : List Edge) (loops : List (List Pt)) → AreDrawn edges 
 abbrev pub LoopsAreOne : Type 0
 LoopsAreOne =
     (edges others : List Edge) (loops more : List (List Pt)) → IsPermutation edges others → AreDrawn edges loops
-        → AreDrawn others more → loops ≡ more
+    → AreDrawn others more → loops ≡ more
 
 -- and the same outlines are made
 abbrev pub OutlinesAreOne : Type 0
 OutlinesAreOne =
     (edges others : List Edge) (outlines more : List (List Pt)) → IsPermutation edges others
-        → AreOutlines edges outlines → AreOutlines others more
+    → AreOutlines edges outlines → AreOutlines others more
     → outlines ≡ more
 
 -- outlines wind round each point, and hard by it above or below and right or left, as the edges that they are made of
 abbrev pub OutlinesKeepWinding : Type 0
 OutlinesKeepWinding =
     (edges : List Edge) (outlines : List (List Pt)) → AreOutlines edges outlines → (above right : Bool) (q : Point)
-        → pos 0 <ℤ q.d
+    → pos 0 <ℤ q.d
     → wind_by above right q (segments (flat_map sides outlines)) ≡ wind_by above right q (segments edges)

@@ -201,7 +201,7 @@ bundled es at p (q ∷ ps) h s =
         → (((p.x *ℤ q.rise) <ℤ (q.x *ℤ p.rise)) ⊎ ((p.x *ℤ q.rise ≡ q.x *ℤ p.rise)
         × ((p.run *ℤ q.rise) <ℤ (q.run *ℤ p.rise))))
         ⊎ ((p.x *ℤ q.rise ≡ q.x *ℤ p.rise) × (p.run *ℤ q.rise ≡ q.run *ℤ p.rise)
-            × (p.number ≤ q.number))
+        × (p.number ≤ q.number))
         → Rises es p.number → Rises es q.number → Bundled es at p (q ∷ ps)
     by_test true e r (inr n) hp hq =
         let a = same_edge es at p q h.0 h.1.0 n.0 n.1 in

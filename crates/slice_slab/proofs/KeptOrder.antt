@@ -25,7 +25,7 @@ place at e = record { n = x_at e at.n at.d; d = rise e }
 abbrev Moves : Level → (Edge → Edge → Type 0) → Type 0
 Moves at R =
     (m k j i : Edge) → pos 0 <ℤ rise m → pos 0 <ℤ rise k → pos 0 <ℤ rise j → pos 0 <ℤ rise i
-        → IsSamePlaceAt at m k
+    → IsSamePlaceAt at m k
     → R k j → IsSamePlaceAt at j i → R m i
 
 moves_left : (at : Level) → Moves at (IsLeftAt at)

@@ -92,7 +92,7 @@ both P (x ∷ xs) ys a b = (a.0, both P xs ys a.1 b)
 pub all_there : (es : List LeafEdge) (at : Level) → All (λ k. k < length es) (touching 0 es at)
 all_there es at =
     All-from_recursion (λ k. k < length es) (touching 0 es at)
-        (weaker (λ k. (k < length es) × (touches (edge_at es k) at ≡ true))
+    (weaker (λ k. (k < length es) × (touches (edge_at es k) at ≡ true))
     (λ k. k < length es) (λ k h. h.0) (touching 0 es at) (touching_there es at))
 
 -- so are those that were live and those that have begun
@@ -103,7 +103,7 @@ pub all_more : (es : List LeafEdge) (at : Level) (ss : List Start) (live more : 
 all_more es at ss live more l s e =
     All-from_recursion (λ k. k < length es) more (subst (AllByRecursion (λ k. k < length es)) (sym e)
     (both (λ k. k < length es) live (numbers_of (begun_at at ss)) l
-        (numbers_there (begun_at at ss) (begun_too at (IsStartOf es) ss s))))
+    (numbers_there (begun_at at ss) (begun_too at (IsStartOf es) ss s))))
   where
     numbers_there : (ss : List Start) → AllByRecursion (IsStartOf es) ss
         → AllByRecursion (λ k. k < length es) (numbers_of ss)
@@ -133,16 +133,16 @@ none_live es at starts m = record {
         let s = standing (λ j. (j < length es) × (true ≡ true)) k (numbers_where (λ e. true) 0 es)
         (all_where (λ e. true) es 0 es (stand_from_first es)) (subst (λ (z : ℕ). 1 ≤ z) (sym (ap (times k) (sym (numbers_are 0 es)) ∙ e)) (omega arith)) in
         fit k (times k (all_numbers es)) (times k (numbers_of starts))
-            (times_permuted k (all_numbers es) (numbers_of starts) m)
+        (times_permuted k (all_numbers es) (numbers_of starts) m)
         (ap (times k) (numbers_are 0 es) ∙ once_where (λ e. true) es k s.0 refl)
 
 -- ---- a step
 module _ (es : List LeafEdge) (at : Level) (d : pos 0 <ℤ at.d) (ss : List Start) (live more kept sorted : List ℕ)
     (there : AllByRecursion (λ k. k < length es) live) (starts : AllByRecursion (IsStartOf es) ss)
-        (rising : AreRising ss)
+    (rising : AreRising ss)
     (later : (h : Level) → pos 0 <ℤ h.d → IsAtMost at h → CoverHeight es h live ss)
     (more-is : more ≡ live ++ numbers_of (begun_at at ss))
-        (kept-is : kept ≡ filter (λ k. touches (edge_at es k) at) more)
+    (kept-is : kept ≡ filter (λ k. touches (edge_at es k) at) more)
     (same : IsPermutation kept sorted) (ascends : Ascends sorted) where
   abbrev IsBegun : ℕ → Type 0
   IsBegun k = (k < length es) × (begins (edge_at es k) at ≡ true)
@@ -208,11 +208,11 @@ module _ (es : List LeafEdge) (at : Level) (d : pos 0 <ℤ at.d) (ss : List Star
           → times n (touching 0 es at) ≡ times n sorted
       by_test false t m e =
           ap (times n) (touching_is at 0 es)
-              ∙ none_where (λ e. touches e at) es n (λ h s. true≢false (sym s ∙ t)) ∙ sym (lost_by n t)
+          ∙ none_where (λ e. touches e at) es n (λ h s. true≢false (sym s ∙ t)) ∙ sym (lost_by n t)
       by_test true t zero e =
           ap (times n) (touching_is at 0 es) ∙ none_where (λ e. touches e at) es n
           (λ h s. not_none (alone (times n (live ++ numbers_of ss)) (times n more)
-              (times n (numbers_of (pending_at at ss))) (counted n)
+          (times n (numbers_of (pending_at at ss))) (counted n)
           (waits_not n t) ((later at d at_itself).all n h t)))
           ∙ sym (kept_by n t ∙ e)
         where
@@ -235,7 +235,7 @@ module _ (es : List LeafEdge) (at : Level) (d : pos 0 <ℤ at.d) (ss : List Star
         (λ k. begins (edge_at es k) h ≡ true)
         (λ k t. begins_later (edge_at es k) at h d dh o (touch_parts (edge_at es k) at t.1).0) sorted
         (subst (AllByRecursion (λ k. (k < length es) × (touches (edge_at es k) at ≡ true))) (sym live_touches)
-            (touching_there es at));
+        (touching_there es at));
     once = λ n. at_most n (touches (edge_at es n) at) refl;
     all = λ n k t. whole n k t (times n more) refl;
   }
@@ -279,5 +279,5 @@ module _ (es : List LeafEdge) (at : Level) (d : pos 0 <ℤ at.d) (ss : List Star
           let here : touches (edge_at es n) at ≡ true = touch_both (edge_at es n) at b.1
           (goes_on_before (edge_at es n) at h d dh o (touch_parts (edge_at es n) h t).1) in
           equal (times n (live ++ numbers_of ss)) (times n more) (times n (numbers_of (pending_at at ss))) _
-              (times n sorted)
+          (times n sorted)
           (counted n) (both_times n) ((later h dh o).all n k t) (kept_by n here)

@@ -53,7 +53,7 @@ has_first p (q ∷ ps) = by_test (is_aligned p q) (has_first q ps)
     by_test : (t : Bool) → ((b : List ℕ) × (bs : List (List ℕ)) × (bundles_of (q ∷ ps) ≡ b ∷ bs))
         → (b : List ℕ) × (bs : List (List ℕ))
         × ((if t then joined p.number (bundles_of (q ∷ ps)) else (p.number ∷ []) ∷ bundles_of (q ∷ ps)) ≡ b
-            ∷ bs)
+        ∷ bs)
     by_test true r = (p.number ∷ r.0, r.1, ap (joined p.number) r.2)
     by_test false r = (p.number ∷ [], bundles_of (q ∷ ps), refl)
 

@@ -10,8 +10,10 @@ use Rattle.scad_geom.specs.EdgeOrder.{IsBefore, AreAligned}
 
 -- what stands for an edge past the end of a list
 abbrev pub no_edge : LeafEdge
-no_edge = record { leaf = 0; edge = record { a = record { x = pos 0; y = pos 0 }; b = record { x = pos 0; y = pos 0 } }
-    }
+no_edge = record {
+  leaf = 0;
+  edge = record { a = record { x = pos 0; y = pos 0 }; b = record { x = pos 0; y = pos 0 } };
+}
 
 -- the edge of a number
 abbrev pub edge_at : List LeafEdge → ℕ → Edge

@@ -43,5 +43,5 @@ pub record KeepOrder (edges : List LeafEdge) (lower upper : Level) (bundles : Li
 abbrev pub BundlesKeepOrder : Type 0
 BundlesKeepOrder =
     (edges : List LeafEdge) (lower upper : Level) (bundles : List (List ℕ)) → AreNeighbours edges lower upper
-        → AreBundles edges lower upper bundles
+    → AreBundles edges lower upper bundles
     → KeepOrder edges lower upper bundles

@@ -51,7 +51,7 @@ pub edges_balanced : (limit : ℕ) (qs : List Piece) (es : List Edge) → All (I
 edges_balanced limit qs es within e b =
     let proper : All IsProper (ways_of qs) = All-map IsProper way_of qs (All-weaker (IsPieceWithin limit) (λ q. IsProper (way_of q)) (proper_within limit) qs within) in
     subst (λ (fs : List Edge). IsBalanced (segments fs)) (sym e)
-        (lengths_keep_balance (map rounded_edge (ways_of qs)) (rounding_keeps_balance (ways_of qs) proper b))
+    (lengths_keep_balance (map rounded_edge (ways_of qs)) (rounding_keeps_balance (ways_of qs) proper b))
 
 -- ---- cancelling
 pub left_balanced : (es left : List Edge) → AreCancelled es left → IsBalanced (segments es)

@@ -50,12 +50,17 @@ module _ {X : Type 0} (same : X → X → Bool) (itself : (x : X) → same x x �
     where
       by_test : (1 ≤ times x ys → (rest : List X) × IsPermutation ys (x ∷ rest)) → (b : Bool)
           → same x y ≡ b → (rest : List X) × IsPermutation (y ∷ ys) (x ∷ rest)
-      by_test more true e = (ys, subst (λ (z : X). IsPermutation (y ∷ ys) (z ∷ ys)) (sym (one x y e))
-          (IsPermutation-refl (y ∷ ys)))
+      by_test more true e = (
+        ys,
+        subst (λ (z : X). IsPermutation (y ∷ ys) (z ∷ ys)) (sym (one x y e))
+            (IsPermutation-refl (y ∷ ys)),
+      )
       by_test more false e =
-          let r = more (some_more (times x (y ∷ ys)) (times x ys) h (times-cons x y ys ∙ ap (λ (b : Bool). once b + times x ys) e)) in
-          (y ∷ r.0, IsPermutation-trans (y ∷ ys) (y ∷ (x ∷ r.0)) (x ∷ (y ∷ r.0))
-              (IsPermutation-cons y ys (x ∷ r.0) r.1) (IsPermutation-middle (y ∷ []) x r.0))
+          let r = more (some_more (times x (y ∷ ys)) (times x ys) h (times-cons x y ys ∙ ap (λ (b : Bool). once b + times x ys) e)) in (
+            y ∷ r.0,
+            IsPermutation-trans (y ∷ ys) (y ∷ (x ∷ r.0)) (x ∷ (y ∷ r.0))
+                (IsPermutation-cons y ys (x ∷ r.0) r.1) (IsPermutation-middle (y ∷ []) x r.0),
+          )
 
   pub from_times : (xs ys : List X) → ((x : X) → times x xs ≡ times x ys) → IsPermutation xs ys
   from_times [] [] h = IsPermutation-refl []
@@ -65,7 +70,7 @@ module _ {X : Type 0} (same : X → X → Bool) (itself : (x : X) → same x x �
       IsPermutation-trans (x ∷ xs) (x ∷ f.0) ys
       (IsPermutation-cons x xs f.0 (from_times xs f.0
       (λ z. same_rest (once (same z x)) (times z xs) (times z f.0) (times z (x ∷ xs)) (times z (x ∷ f.0))
-          (times-cons z x xs) (times-cons z x f.0)
+      (times-cons z x xs) (times-cons z x f.0)
       (h z ∙ times_permuted z ys (x ∷ f.0) f.1))))
       (IsPermutation-sym ys (x ∷ f.0) f.1)
 
@@ -73,5 +78,5 @@ module _ {X : Type 0} (same : X → X → Bool) (itself : (x : X) → same x x �
   without_first x xs ys m =
       from_times xs ys
       (λ z. same_rest (once (same z x)) (times z xs) (times z ys) (times z (x ∷ xs)) (times z (x ∷ ys))
-          (times-cons z x xs) (times-cons z x ys)
+      (times-cons z x xs) (times-cons z x ys)
       (times_permuted z (x ∷ xs) (x ∷ ys) m))

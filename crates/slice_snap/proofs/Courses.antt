@@ -39,18 +39,24 @@ module _ (a b c : Point) (da : pos 0 <ℤ a.d) (db : pos 0 <ℤ b.d) (dc : pos 0
   before_through (inl h) (inl k) = inl (lower_chain (height a) (height b) (height c) da db dc h k)
   before_through (inl h) (inr k) = inl (lower_same (height a) (height b) (height c) da db dc h k.0)
   before_through (inr h) (inl k) = inl (same_lower (height a) (height b) (height c) da db dc h.0 k)
-  before_through (inr h) (inr k) = inr (same_chain (height a) (height b) (height c) da db dc h.0 k.0,
-      lower_chain (across a) (across b) (across c) da db dc h.1 k.1)
+  before_through (inr h) (inr k) = inr (
+    same_chain (height a) (height b) (height c) da db dc h.0 k.0,
+    lower_chain (across a) (across b) (across c) da db dc h.1 k.1,
+  )
 
   before_same : IsBefore a b → is_same_point b c ≡ true → IsBefore a c
   before_same (inl h) e = inl (lower_same (height a) (height b) (height c) da db dc h (same_height b c e))
-  before_same (inr h) e = inr (same_chain (height a) (height b) (height c) da db dc h.0 (same_height b c e),
-      lower_same (across a) (across b) (across c) da db dc h.1 (same_across b c e))
+  before_same (inr h) e = inr (
+    same_chain (height a) (height b) (height c) da db dc h.0 (same_height b c e),
+    lower_same (across a) (across b) (across c) da db dc h.1 (same_across b c e),
+  )
 
   same_before : is_same_point a b ≡ true → IsBefore b c → IsBefore a c
   same_before e (inl k) = inl (same_lower (height a) (height b) (height c) da db dc (same_height a b e) k)
-  same_before e (inr k) = inr (same_chain (height a) (height b) (height c) da db dc (same_height a b e) k.0,
-      same_lower (across a) (across b) (across c) da db dc (same_across a b e) k.1)
+  same_before e (inr k) = inr (
+    same_chain (height a) (height b) (height c) da db dc (same_height a b e) k.0,
+    same_lower (across a) (across b) (across c) da db dc (same_across a b e) k.1,
+  )
 
 not_itself : (a : Point) → IsBefore a a → ⊥
 not_itself a (inl h) = omega (arith, ints)
@@ -78,11 +84,11 @@ joined_runs : (b : Bool) (f s : Piece) → IsProper (way_of f) → IsProper (way
     → is_same_spot f.to s.from ≡ true → Runs b f → Runs b s → Runs b (joined f s)
 joined_runs true f s p r m h k =
     before_through (point_of f.from) (point_of f.to) (point_of s.to) p.from p.to r.to h
-        (same_before (point_of f.to) (point_of s.from) (point_of s.to) p.to r.from r.to m k)
+    (same_before (point_of f.to) (point_of s.from) (point_of s.to) p.to r.from r.to m k)
 joined_runs false f s p r m h k =
     before_through (point_of s.to) (point_of s.from) (point_of f.from) r.to r.from p.from k
     (same_before (point_of s.from) (point_of f.to) (point_of f.from) r.from p.to p.from
-        (turn_same (point_of f.to) (point_of s.from) m) h)
+    (turn_same (point_of f.to) (point_of s.from) m) h)
 
 no_round : (b : Bool) (q : Piece) → IsProper (way_of q) → is_same_spot q.to q.from ≡ true → Runs b q → ⊥
 no_round true q p e h = not_itself (point_of q.from)
@@ -176,11 +182,11 @@ module _ (old : List Piece) (f s : Piece) (others : List Piece) (m : MeetAlone o
       by_cases (inl x) (inr l) =
           subst (λ (p : Piece). OneCourse p r) x
           (from_joined r l (subst (λ (p : Piece). p.edge ≡ r.edge) (sym x) n)
-              (subst (λ (p : Piece). is_same_spot p.to r.from ≡ true) (sym x) e))
+          (subst (λ (p : Piece). is_same_spot p.to r.from ≡ true) (sym x) e))
       by_cases (inr k) (inl y) =
           subst (λ (p : Piece). OneCourse q p) y
           (to_joined q k (subst (λ (p : Piece). q.edge ≡ p.edge) (sym y) n)
-              (subst (λ (p : Piece). is_same_spot q.to p.from ≡ true) (sym y) e))
+          (subst (λ (p : Piece). is_same_spot q.to p.from ≡ true) (sym y) e))
       by_cases (inr k) (inr l) = h.course q r (has_other q k) (has_other r l) n e
 
   pub kept : KeepCourse (joined f s ∷ others)
@@ -200,8 +206,12 @@ course_inside : (q r : Piece) → IsProper (way_of q) → IsProper (way_of r) �
 course_inside q r p t e i = by_case i.between
   where
     on : IsBefore (point_of q.from) (point_of q.to) → IsBefore (point_of q.to) (point_of r.to) → OneCourse q r
-    on h k = (true, h, same_before (point_of r.from) (point_of q.to) (point_of r.to) t.from p.to t.to
-        (turn_same (point_of q.to) (point_of r.from) e) k)
+    on h k = (
+      true,
+      h,
+      same_before (point_of r.from) (point_of q.to) (point_of r.to) t.from p.to t.to
+          (turn_same (point_of q.to) (point_of r.from) e) k,
+    )
 
     back : IsBefore (point_of r.to) (point_of q.to) → IsBefore (point_of q.to) (point_of q.from) → OneCourse q r
     back h k = (false, k, before_same (point_of r.to) (point_of q.to) (point_of r.from) t.to p.to t.from h e)

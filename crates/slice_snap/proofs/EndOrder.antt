@@ -64,7 +64,7 @@ across_total = record {
   antisymm = λ x y. turned (x.spot.x *ℤ pos y.spot.run) (y.spot.x *ℤ pos x.spot.run);
   trans = λ x y z p q.
       to_less _ _ (lower_chain (across x) (across y) (across z) (runs x) (runs y) (runs z) (from_less _ _ p)
-          (from_less _ _ q));
+      (from_less _ _ q));
   congr = λ x y z p. by_case x y z (from_equal _ _ p) (across_cmp y z) refl;
 }
   where
@@ -78,7 +78,7 @@ across_total = record {
         let back : across_cmp z y ≡ Less = turned (z.spot.x *ℤ pos y.spot.run) (y.spot.x *ℤ pos z.spot.run) ∙ ap ordering_reverse h in
         let lower : IsLower (across z) (across x) = lower_same (across z) (across y) (across x) (runs z) (runs y) (runs x) (from_less _ _ back) (sym e) in
         turned (x.spot.x *ℤ pos z.spot.run) (z.spot.x *ℤ pos x.spot.run)
-            ∙ ap ordering_reverse (to_less (z.spot.x *ℤ pos x.spot.run) (x.spot.x *ℤ pos z.spot.run) lower)
+        ∙ ap ordering_reverse (to_less (z.spot.x *ℤ pos x.spot.run) (x.spot.x *ℤ pos z.spot.run) lower)
 
 pub end_total : IsTotalOrder end_cmp
 end_total = then_total (then_total (on_total (λ (e : End). e.spot.at.n) int_cmp_total)
@@ -106,7 +106,7 @@ pub tied_is : (at : End) (t : Spot) → IsSpotWithin coordinate_limit t → AreO
 tied_is at t w one =
     let s : Spot = at.spot in
     both (ordering_then (int_cmp s.at.n t.at.n) (int_cmp s.at.d t.at.d))
-        (int_cmp (s.x *ℤ pos t.run) (t.x *ℤ pos s.run))
+    (int_cmp (s.x *ℤ pos t.run) (t.x *ℤ pos s.run))
     ∙ ap (λ (b : Bool). b && places_equal s t) (both (int_cmp s.at.n t.at.n) (int_cmp s.at.d t.at.d))
     ∙ same_by_parts s t at.within.level.positive at.within.positive w.level.positive w.positive one
 
@@ -144,9 +144,9 @@ module _ (at : End) where
     pub starts_counted : AreEndsOf true pieces es → times_at at es ≡ starts_at (point_of at.spot) (ways_of pieces)
     starts_counted of =
         over_spots es ∙ sum_by-IsPermutation (λ (s : Spot). once (tied s)) (map (end_of true) pieces) (spots_in es)
-            of.all ∙ over_starts pieces each
+        of.all ∙ over_starts pieces each
 
     pub ends_counted : AreEndsOf false pieces es → times_at at es ≡ ends_at (point_of at.spot) (ways_of pieces)
     ends_counted of =
         over_spots es ∙ sum_by-IsPermutation (λ (s : Spot). once (tied s)) (map (end_of false) pieces) (spots_in es)
-            of.all ∙ over_ends pieces each
+        of.all ∙ over_ends pieces each

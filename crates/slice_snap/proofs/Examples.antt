@@ -58,6 +58,10 @@ from_start : IsOnLine slope (point_of (spot (pos 0) (pos 0)))
 unfolding low high rise run offset x_at left_of
 from_start = refl
 
-along_slope : LiesAlong slope (record { from = spot (pos 0) (pos 0); to
-    = record { at = level (pos 3) (pos 1); x = pos 3; run = 2 }; edge = 0 })
+along_slope : LiesAlong slope (record {
+  from = spot (pos 0) (pos 0);
+  to
+      = record { at = level (pos 3) (pos 1); x = pos 3; run = 2 };
+  edge = 0;
+})
 along_slope = record { length = refl; from = from_start; to = on_slope }

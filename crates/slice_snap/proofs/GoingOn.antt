@@ -42,7 +42,7 @@ below_second p q h = less_of_gap ((p.n +ℤ q.n) *ℤ q.d) (q.n *ℤ (p.d +ℤ q
 module _ (On : Point → Type 0) (k : Point → ℤ)
     (same : (p q : Point) → On p → On q → k p *ℤ q.d ≡ k q *ℤ p.d → is_same_point p q ≡ true)
     (inside : (a p b : Point) → On a → On p → On b
-        → IsBetween (λ p q. (k p *ℤ q.d) <ℤ (k q *ℤ p.d)) a p b → IsInside a b p)
+    → IsBetween (λ p q. (k p *ℤ q.d) <ℤ (k q *ℤ p.d)) a p b → IsInside a b p)
     (on_mean : (p q : Point) → On p → On q → On (mean p q)) (sums : (p q : Point) → k (mean p q) ≡ k p +ℤ k q) where
   abbrev along : Point → Level
   along p = record { n = k p; d = p.d }
@@ -74,10 +74,12 @@ module _ (On : Point → Type 0) (k : Point → ℤ)
         let bp = after_first b m bm in
         let pm = before_second b m bm in
         no p dp (inside a p m oa (on_mean b m ob om) om
-            (inl (lower_then_at_most (along a) (along b) (along p) da db dp ab (lower_weak (along b) (along p) bp),
-            pm)))
+        (inl (
+          lower_then_at_most (along a) (along b) (along p) da db dp ab (lower_weak (along b) (along p) bp),
+          pm,
+        )))
         (inside n p b on (on_mean b m ob om) ob
-            (inr (bp, lower_then_at_most (along p) (along m) (along n) dp dm dn pm mn))))
+        (inr (bp, lower_then_at_most (along p) (along m) (along n) dp dm dn pm mn))))
         (λ ba.
         let p : Point = mean a m in
         let dp : pos 0 <ℤ p.d = both_positive a.d m.d da dm in
@@ -85,8 +87,10 @@ module _ (On : Point → Type 0) (k : Point → ℤ)
         let pm = before_second a m am in
         no p dp (inside a p m oa (on_mean a m oa om) om (inl (ap, pm)))
         (inside n p b on (on_mean a m oa om) ob
-            (inr (at_most_then_lower (along b) (along a) (along p) db da dp ba ap,
-            lower_then_at_most (along p) (along m) (along n) dp dm dn pm mn))))
+        (inr (
+          at_most_then_lower (along b) (along a) (along p) db da dp ba ap,
+          lower_then_at_most (along p) (along m) (along n) dp dm dn pm mn,
+        ))))
 
     -- both after it
     valley : IsLower (along m) (along a) → IsLower (along n) (along b) → ⊥
@@ -100,17 +104,19 @@ module _ (On : Point → Type 0) (k : Point → ℤ)
         let pa = before_second m a ma in
         no p dp (inside a p m oa (on_mean m a om oa) om (inr (mp, pa)))
         (inside n p b on (on_mean m a om oa) ob
-            (inl (at_most_then_lower (along n) (along m) (along p) dn dm dp nm mp,
-            lower_then_at_most (along p) (along a) (along b) dp da db pa (lower_weak (along a) (along b) ab)))))
+        (inl (
+          at_most_then_lower (along n) (along m) (along p) dn dm dp nm mp,
+          lower_then_at_most (along p) (along a) (along b) dp da db pa (lower_weak (along a) (along b) ab),
+        ))))
         (λ ba.
         let p : Point = mean m b in
         let dp : pos 0 <ℤ p.d = both_positive m.d b.d dm db in
         let mp = after_first m b mb in
         let pb = before_second m b mb in
         no p dp (inside a p m oa (on_mean m b om ob) om
-            (inr (mp, lower_then_at_most (along p) (along b) (along a) dp db da pb ba)))
+        (inr (mp, lower_then_at_most (along p) (along b) (along a) dp db da pb ba)))
         (inside n p b on (on_mean m b om ob) ob
-            (inl (at_most_then_lower (along n) (along m) (along p) dn dm dp nm mp, pb))))
+        (inl (at_most_then_lower (along n) (along m) (along p) dn dm dp nm mp, pb))))
 
     go_on : is_same_point a m ≡ false → is_same_point n b ≡ false → IsInside a b m
     go_on u v =
@@ -135,14 +141,17 @@ pieces_go_on limit e q r wq wr lq lr hq hr apart joint =
     let b : Point = point_of r.to in
     by_rise e lq.length
     (λ up. go_on (IsOnLine e) (λ p. p.y) (same_rising e up)
-        (λ x p y hx hp hy h. record { on_line = side_rising e up p x y hp hx hy; between = inl h }) (mean_on e)
-        (λ p q. refl)
+    (λ x p y hx hp hy h. record { on_line = side_rising e up p x y hp hx hy; between = inl h }) (mean_on e)
+    (λ p q. refl)
     a m n b (divisor_above limit q.from wq.from) (divisor_above limit q.to wq.to) (divisor_above limit r.from wr.from)
-        (divisor_above limit r.to wr.to) lq.from lq.to lr.from lr.to
+    (divisor_above limit r.to wr.to) lq.from lq.to lr.from lr.to
     (same_height m n joint) apart hq hr)
     (λ flat long. go_on (IsOnLine e) (λ p. p.x) (same_flat e flat long)
-    (λ x p y hx hp hy h. record { on_line = side_flat e flat long p x y hp hx hy; between
-        = inr (all_level e flat long x p hx hp, all_level e flat long p y hp hy, h) }) (mean_on e) (λ p q. refl)
+    (λ x p y hx hp hy h. record {
+      on_line = side_flat e flat long p x y hp hx hy;
+      between
+          = inr (all_level e flat long x p hx hp, all_level e flat long p y hp hy, h);
+    }) (mean_on e) (λ p q. refl)
     a m n b (divisor_above limit q.from wq.from) (divisor_above limit q.to wq.to) (divisor_above limit r.from wr.from)
-        (divisor_above limit r.to wr.to) lq.from lq.to lr.from lr.to
+    (divisor_above limit r.to wr.to) lq.from lq.to lr.from lr.to
     (same_across m n joint) apart hq hr)

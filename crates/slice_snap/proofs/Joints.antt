@@ -54,14 +54,14 @@ module _ (p : Point) where
   one_place (q ∷ qs) zero zero o l m h k = refl
   one_place (q ∷ qs) zero (suc j) o l m h k =
       absurd (two _ (starts_at p (ways_of qs)) (is_same_point p (point_of q.from))
-          (starts-cons p (way_of q) (ways_of qs)) h (some_start qs j (omega arith) k) o)
+      (starts-cons p (way_of q) (ways_of qs)) h (some_start qs j (omega arith) k) o)
   one_place (q ∷ qs) (suc i) zero o l m h k =
       absurd (two _ (starts_at p (ways_of qs)) (is_same_point p (point_of q.from))
-          (starts-cons p (way_of q) (ways_of qs)) k (some_start qs i (omega arith) h) o)
+      (starts-cons p (way_of q) (ways_of qs)) k (some_start qs i (omega arith) h) o)
   one_place (q ∷ qs) (suc i) (suc j) o l m h k =
       ap suc (one_place qs i j
       (rest _ (starts_at p (ways_of qs)) (is_same_point p (point_of q.from)) (starts-cons p (way_of q) (ways_of qs))
-          (some_start qs i (omega arith) h) o)
+      (some_start qs i (omega arith) h) o)
       (omega arith) (omega arith) h k)
 
 -- ---- the joint at the end of a piece
@@ -114,5 +114,8 @@ module _ (pieces : List Piece) (place : ℕ) (at : End) (to : at.spot ≡ (piece
         off (subst (λ (n : ℕ). GoesOn q (piece_at pieces n)) same on)
 
     pub goes_next : GoesOn q (piece_at pieces next) → IsNext q pieces next
-    goes_next on = record { there = inside; on
-        = λ d. subst (GoesOn q) (get_or_default pieces next no_piece d inside) on }
+    goes_next on = record {
+      there = inside;
+      on
+          = λ d. subst (GoesOn q) (get_or_default pieces next no_piece d inside) on;
+    }

@@ -264,7 +264,7 @@ module _ (pieces : List Piece) (c : Chains) (i : ℕ) (d : AreChained pieces c i
               (IsPermutation-sym left (s ∷ rest) next_out)
               (All-cons (λ p. GoesOn q p → ⊥) s rest not_it
               (λ k e l g. two_starts (point_of q.to) s (get_or rest k e) rest one starts_there
-                  (All-contains_itself rest k e l) g.meet))
+              (All-contains_itself rest k e l) g.meet))
 
       -- ---- the two chains become one
       module _ (apart : first ≡ next → ⊥) (new : Chains) (l : IsLinked c first next new) where
@@ -277,14 +277,14 @@ module _ (pieces : List Piece) (c : Chains) (i : ℕ) (d : AreChained pieces c i
         first_out : IsPermutation rest (f ∷ others)
         first_out =
             one_out (set c.gone.items next true) c.wholes.items first
-                (omega (arith, d.lengths.gone, length-set c.gone.items next true, first_there))
+            (omega (arith, d.lengths.gone, length-set c.gone.items next true, first_there))
             (omega (arith, d.lengths.wholes, first_there)) still_free
 
         two : IsPermutation left (f ∷ (s ∷ others))
         two =
             IsPermutation-trans left (s ∷ (f ∷ others)) (f ∷ (s ∷ others))
             (IsPermutation-trans left (s ∷ rest) (s ∷ (f ∷ others)) next_out
-                (IsPermutation-cons s rest (f ∷ others) first_out))
+            (IsPermutation-cons s rest (f ∷ others) first_out))
             (IsPermutation-middle (s ∷ []) f others)
 
         one_ends : ends_at (point_of q.to) (ways_of left) ≡ 1
@@ -319,7 +319,7 @@ module _ (pieces : List Piece) (c : Chains) (i : ℕ) (d : AreChained pieces c i
             subst (λ (hs : List Bool). IsPermutation (kept hs new.wholes.items) (joined f s ∷ others)) (sym l.gone)
             (subst (λ (ps : List Piece). IsPermutation (kept gs ps) (joined f s ∷ others)) (sym l.wholes)
             (subst (λ (ps : List Piece). IsPermutation (kept gs qs) (joined f s ∷ ps))
-                (kept_set (set gs first true) c.wholes.items first (joined f s) marked)
+            (kept_set (set gs first true) c.wholes.items first (joined f s) marked)
             (subst (λ (p : Piece). IsPermutation (kept gs qs) (p ∷ kept (set gs first true) qs)) whole out)))
 
         df : pos 0 <ℤ (point_of f.to).d
@@ -449,10 +449,10 @@ module _ (pieces : List Piece) (c : Chains) (i : ℕ) (d : AreChained pieces c i
             here : starts_at (point_of r.from) (ways_of now) ≡ 0
             here =
                 none_left (starts_at (point_of r.from) (ways_of left)) (starts_at (point_of r.from) (ways_of now))
-                    (is_same_point (point_of r.from) (point_of s.from))
+                (is_same_point (point_of r.from) (point_of s.from))
                 (starts_fewer (point_of r.from))
-                    (ap (λ (t : Spot). is_same_point (point_of r.from) (point_of t)) more.from
-                    ∙ same_itself (point_of r.from))
+                (ap (λ (t : Spot). is_same_point (point_of r.from) (point_of t)) more.from
+                ∙ same_itself (point_of r.from))
                 (sym (starts_alike (point_of q.to) (point_of r.from) dq dr on.meet (ways_of left)) ∙ one_starts)
 
             elsewhere : (next ≡ j → ⊥) → starts_at (point_of (piece_at pieces j).from) (ways_of now) ≡ 0
@@ -477,10 +477,10 @@ module _ (pieces : List Piece) (c : Chains) (i : ℕ) (d : AreChained pieces c i
             here =
                 not_passed now q
                 (none_left (ends_at (point_of q.to) (ways_of left)) (ends_at (point_of q.to) (ways_of now))
-                    (is_same_point (point_of q.to) (point_of f.to))
+                (is_same_point (point_of q.to) (point_of f.to))
                 (ends_fewer (point_of q.to))
-                    (ap (λ (t : Spot). is_same_point (point_of q.to) (point_of t)) ends_as
-                    ∙ same_itself (point_of q.to)) one_ends)
+                (ap (λ (t : Spot). is_same_point (point_of q.to) (point_of t)) ends_as
+                ∙ same_itself (point_of q.to)) one_ends)
 
             by_place : (k < i) ⊎ (i ≤ k) → IsStuck now (piece_at pieces k)
             by_place (inl b) =

@@ -52,11 +52,11 @@ one_side e apart (f ∷ fs) h = by_tests (one_side e apart fs h.1) (same_edge e 
     by_tests o true c k l =
         let is : e ≡ f = same_edge_then_equal e f k in
         inr (here (turned e) (λ s. apart (is ∙ s))
-            (none_of (turned e) fs (subst (λ (g : Edge). All (λ x. x ≡ turned g → ⊥) fs) (sym is) h.0)))
+        (none_of (turned e) fs (subst (λ (g : Edge). All (λ x. x ≡ turned g → ⊥) fs) (sym is) h.0)))
     by_tests o false true k l =
         let is : turned e ≡ f = same_edge_then_equal (turned e) f l in
         inl (here e (λ s. apart (sym (is ∙ s)))
-            (none_of e fs (subst (λ (g : Edge). All (λ x. x ≡ turned g → ⊥) fs) (sym is) h.0)))
+        (none_of e fs (subst (λ (g : Edge). All (λ x. x ≡ turned g → ⊥) fs) (sym is) h.0)))
     by_tests o false false k l =
         elim o as (λ _. (many e (f ∷ fs) ≡ 0) ⊎ (many (turned e) (f ∷ fs) ≡ 0)) [
           | inl n ↦ inl (many-cons e f fs ∙ ap₂ (λ (b : Bool) (m : ℕ). once b + m) k n)
@@ -88,7 +88,7 @@ parts : (es left : List Edge) (c : AreCancelled es left) (e : Edge)
     → many e es ≡ many e left + (many e c.pairs + many (turned e) c.pairs)
 parts es left c e =
     times_permuted same_edge same_edge_itself same_edge_then_equal e es (left ++ (c.pairs ++ map turned c.pairs))
-        c.taken
+    c.taken
     ∙ many-append e left (c.pairs ++ map turned c.pairs)
     ∙ ap (λ (n : ℕ). many e left + n) (many-append e c.pairs (map turned c.pairs)
     ∙ ap (λ (n : ℕ). many e c.pairs + n) (many_turned e c.pairs))
@@ -118,14 +118,14 @@ cancelled_are_one es fs left more m c d = from_times same_edge same_edge_itself 
         by_test true k =
             let own : e ≡ turned e = same_edge_then_equal e (turned e) k in
             own_alike (many e es) (many e left) (many e c.pairs) (many (turned e) c.pairs) (many e more)
-                (many e d.pairs) (many (turned e) d.pairs)
+            (many e d.pairs) (many (turned e) d.pairs)
             (parts es left c e) (others e) (ap (λ (x : Edge). many x c.pairs) own)
-                (ap (λ (x : Edge). many x d.pairs) own)
+            (ap (λ (x : Edge). many x d.pairs) own)
             (at_most_once e own left c.none) (at_most_once e own more d.none)
         by_test false k =
             let apart : e ≡ turned e → ⊥ = λ s. true≢false (sym (same_edge_itself e) ∙ ap (same_edge e) s ∙ k) in
             apart_alike (many e es) (many (turned e) es) (many e left) (many (turned e) left) (many e c.pairs)
-                (many (turned e) c.pairs)
+            (many (turned e) c.pairs)
             (many e more) (many (turned e) more) (many e d.pairs) (many (turned e) d.pairs)
             (parts es left c e) (parts es left c (turned e)) (others e) (others (turned e))
             (one_side e apart left c.none) (one_side e apart more d.none)

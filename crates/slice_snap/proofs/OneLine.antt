@@ -32,7 +32,7 @@ across_gap r u o x y d x' y' d' h k =
 cancel_any : (a r : ℤ) → (r ≡ pos 0 → ⊥) → a *ℤ r ≡ pos 0 → a ≡ pos 0
 cancel_any a r n h = by_lt_z (pos 0) r (λ p. zero_factor a r p h)
     (λ p. by_lt_z r (pos 0) (λ q. zero_factor a (pos 0 -ℤ r) (turned r q) (turned_mul a r h))
-        (λ q. absurd (n (zero_between r q p))))
+    (λ q. absurd (n (zero_between r q p))))
   where
     turned : (r : ℤ) → r <ℤ pos 0 → pos 0 <ℤ (pos 0 -ℤ r)
     turned r h = omega (arith, ints)
@@ -52,7 +52,7 @@ products : (r u X Y x y : ℤ) → r *ℤ X ≡ u *ℤ Y → r *ℤ x ≡ u *ℤ
     → (X *ℤ y -ℤ Y *ℤ x) *ℤ r ≡ pos 0
 products r u X Y x y h k =
     ring (r ∷ X ∷ Y ∷ x ∷ y ∷ []) ((v1 ⊗ v4 ⊖ v2 ⊗ v3) ⊗ v0)
-        ((v0 ⊗ v1) ⊗ v4 ⊖ v2 ⊗ (v0 ⊗ v3)) refl
+    ((v0 ⊗ v1) ⊗ v4 ⊖ v2 ⊗ (v0 ⊗ v3)) refl
     ∙ ap₂ (λ (s t : ℤ). s *ℤ y -ℤ Y *ℤ t) h k
     ∙ ring (u ∷ Y ∷ y ∷ []) ((v0 ⊗ v1) ⊗ v2 ⊖ v1 ⊗ (v0 ⊗ v2)) (num (pos 0)) refl
 
@@ -71,7 +71,7 @@ module _ (e : Edge) where
   mean_on p q h k =
       ring (rise e ∷ run e ∷ offset e ∷ p.x ∷ p.y ∷ p.d ∷ q.x ∷ q.y ∷ q.d ∷ [])
       (v1 ⊗ (v4 ⊕ v7) ⊕ v2 ⊗ (v5 ⊕ v8) ⊖ v0 ⊗ (v3 ⊕ v6))
-          ((v1 ⊗ v4 ⊕ v2 ⊗ v5 ⊖ v0 ⊗ v3) ⊕ (v1 ⊗ v7 ⊕ v2 ⊗ v8 ⊖ v0 ⊗ v6)) refl
+      ((v1 ⊗ v4 ⊕ v2 ⊗ v5 ⊖ v0 ⊗ v3) ⊕ (v1 ⊗ v7 ⊕ v2 ⊗ v8 ⊖ v0 ⊗ v6)) refl
       ∙ ap₂ (λ (s t : ℤ). s +ℤ t) h k
 
   -- ---- where the edge rises
@@ -80,8 +80,8 @@ module _ (e : Edge) where
   unfolding side_by
   side_rising r p a b hp ha hb =
       zero_factor _ (rise e) r (products (rise e) (run e) (b.x *ℤ a.d -ℤ a.x *ℤ b.d)
-          (b.y *ℤ a.d -ℤ a.y *ℤ b.d) (p.x *ℤ a.d -ℤ a.x *ℤ p.d) (p.y *ℤ a.d -ℤ a.y *ℤ p.d)
-          (gaps a b ha hb) (gaps a p ha hp))
+      (b.y *ℤ a.d -ℤ a.y *ℤ b.d) (p.x *ℤ a.d -ℤ a.x *ℤ p.d) (p.y *ℤ a.d -ℤ a.y *ℤ p.d)
+      (gaps a b ha hb) (gaps a p ha hp))
 
   pub same_rising : pos 0 <ℤ rise e → (p q : Point) → IsOnLine e p → IsOnLine e q
       → p.y *ℤ q.d ≡ q.y *ℤ p.d → is_same_point p q ≡ true
@@ -101,7 +101,7 @@ module _ (e : Edge) where
         subst (λ (r : ℤ). run e *ℤ p.y +ℤ (r *ℤ (low e).x -ℤ run e *ℤ (low e).y) *ℤ p.d -ℤ r *ℤ p.x ≡ pos 0) flat h in
         equal_of_gap p.y ((low e).y *ℤ p.d) (cancel_any (p.y -ℤ (low e).y *ℤ p.d) (run e) long
         (ring (run e ∷ p.y ∷ (low e).x ∷ (low e).y ∷ p.d ∷ p.x ∷ []) ((v1 ⊖ v3 ⊗ v4) ⊗ v0)
-            (v0 ⊗ v1 ⊕ (num (pos 0) ⊗ v2 ⊖ v0 ⊗ v3) ⊗ v4 ⊖ num (pos 0) ⊗ v5) refl ∙ own))
+        (v0 ⊗ v1 ⊕ (num (pos 0) ⊗ v2 ⊖ v0 ⊗ v3) ⊗ v4 ⊖ num (pos 0) ⊗ v5) refl ∙ own))
 
     pub all_level : (p q : Point) → IsOnLine e p → IsOnLine e q → p.y *ℤ q.d ≡ q.y *ℤ p.d
     all_level p q hp hq =
@@ -113,8 +113,8 @@ module _ (e : Edge) where
     unfolding side_by
     side_flat p a b hp ha hb =
         ap₂ (λ (s t : ℤ). (b.x *ℤ a.d -ℤ a.x *ℤ b.d) *ℤ s -ℤ t *ℤ (p.x *ℤ a.d -ℤ a.x *ℤ p.d))
-            (no_gap (p.y *ℤ a.d) (a.y *ℤ p.d) (all_level p a hp ha))
-            (no_gap (b.y *ℤ a.d) (a.y *ℤ b.d) (all_level b a hb ha))
+        (no_gap (p.y *ℤ a.d) (a.y *ℤ p.d) (all_level p a hp ha))
+        (no_gap (b.y *ℤ a.d) (a.y *ℤ b.d) (all_level b a hb ha))
         ∙ ring ((b.x *ℤ a.d -ℤ a.x *ℤ b.d) ∷ (p.x *ℤ a.d -ℤ a.x *ℤ p.d) ∷ [])
         (v0 ⊗ num (pos 0) ⊖ num (pos 0) ⊗ v1) (num (pos 0)) refl
 

@@ -65,7 +65,7 @@ commute old merged (two_join g t more n a) course f s others m =
         IsPermutation-trans (s ∷ (t ∷ more)) (f ∷ (s ∷ others)) (s ∷ (t ∷ (f ∷ rest)))
         (subst (λ (p : Piece). Perm (p ∷ (t ∷ more)) (f ∷ (s ∷ others))) e pair)
         (IsPermutation-trans (f ∷ (s ∷ others)) (s ∷ (f ∷ others)) (s ∷ (t ∷ (f ∷ rest)))
-            (swap f s others)
+        (swap f s others)
         (IsPermutation-cons s (f ∷ others) (t ∷ (f ∷ rest))
         (IsPermutation-trans (f ∷ others) (f ∷ (t ∷ rest)) (t ∷ (f ∷ rest)) (IsPermutation-cons f others (t ∷ rest) o) (swap f t rest)))) in
         let left : Perm more (f ∷ rest) = rest_of t more (f ∷ rest) (rest_of s (t ∷ more) (t ∷ (f ∷ rest)) front) in
@@ -96,11 +96,11 @@ commute old merged (two_join g t more n a) course f s others m =
         let front : Perm (g ∷ (t ∷ more)) (g ∷ (t ∷ (f ∷ (s ∷ rest)))) =
         IsPermutation-trans (g ∷ (t ∷ more)) (f ∷ (s ∷ others)) (g ∷ (t ∷ (f ∷ (s ∷ rest)))) pair
         (IsPermutation-trans (f ∷ (s ∷ others)) (f ∷ (s ∷ (g ∷ (t ∷ rest))))
-            (g ∷ (t ∷ (f ∷ (s ∷ rest))))
+        (g ∷ (t ∷ (f ∷ (s ∷ rest))))
         (IsPermutation-cons f (s ∷ others) (s ∷ (g ∷ (t ∷ rest)))
-            (IsPermutation-cons s others (g ∷ (t ∷ rest)) o))
+        (IsPermutation-cons s others (g ∷ (t ∷ rest)) o))
         (IsPermutation-trans (f ∷ (s ∷ (g ∷ (t ∷ rest)))) (g ∷ (f ∷ (s ∷ (t ∷ rest))))
-            (g ∷ (t ∷ (f ∷ (s ∷ rest)))) (third f s g (t ∷ rest))
+        (g ∷ (t ∷ (f ∷ (s ∷ rest)))) (third f s g (t ∷ rest))
         (IsPermutation-cons g (f ∷ (s ∷ (t ∷ rest))) (t ∷ (f ∷ (s ∷ rest))) (third f s t rest)))) in
         let left : Perm more (f ∷ (s ∷ rest)) = rest_of t more (f ∷ (s ∷ rest)) (rest_of g (t ∷ more) (t ∷ (f ∷ (s ∷ rest))) front) in
         let now : MeetAlone (joined g t ∷ more) f s (joined g t ∷ rest) = record {
@@ -108,7 +108,7 @@ commute old merged (two_join g t more n a) course f s others m =
               (f ∷ (s ∷ (joined g t ∷ rest)))
               (IsPermutation-cons (joined g t) more (f ∷ (s ∷ rest)) left)
               (IsPermutation-sym (f ∷ (s ∷ (joined g t ∷ rest))) (joined g t ∷ (f ∷ (s ∷ rest)))
-                  (third f s (joined g t) rest));
+              (third f s (joined g t) rest));
           name = m.name;
           meet = m.meet;
           one_ends = ends_f old course f s others m g t more n apart;
@@ -120,14 +120,14 @@ commute old merged (two_join g t more n a) course f s others m =
               (g ∷ (t ∷ (joined f s ∷ rest)))
               (IsPermutation-cons (joined f s) others (g ∷ (t ∷ rest)) o)
               (IsPermutation-sym (g ∷ (t ∷ (joined f s ∷ rest))) (joined f s ∷ (g ∷ (t ∷ rest)))
-                  (third g t (joined f s) rest));
+              (third g t (joined f s) rest));
           name = n.name;
           meet = n.meet;
           one_ends = ends_g old course f s others m g t more n apart;
           one_starts = starts_g old course f s others m g t more n apart;
         })
         (permuted_merged (joined f s ∷ (joined g t ∷ rest)) (joined g t ∷ (joined f s ∷ rest)) merged
-            (swap (joined f s) (joined g t) rest) (later f s (joined g t ∷ rest) now))
+        (swap (joined f s) (joined g t) rest) (later f s (joined g t ∷ rest) now))
 
     -- g is another than f and s: where is t
     by_t : Later → (apart : is_same_spot f.to g.to ≡ false) (rest : List Piece) → Perm others (g ∷ rest)
@@ -140,7 +140,7 @@ commute old merged (two_join g t more n a) course f s others m =
             (IsPermutation-trans (g ∷ (t ∷ more)) (f ∷ (s ∷ others)) (g ∷ (f ∷ (s ∷ rest))) pair
             (IsPermutation-trans (f ∷ (s ∷ others)) (f ∷ (s ∷ (g ∷ rest))) (g ∷ (f ∷ (s ∷ rest)))
             (IsPermutation-cons f (s ∷ others) (s ∷ (g ∷ rest)) (IsPermutation-cons s others (g ∷ rest) o))
-                (third f s g rest)))
+            (third f s g rest)))
 
         not_s : s ≡ t → ⊥
         not_s e = true≢false (sym (subst (λ (p : Piece). is_same_spot f.to p.from ≡ true) e m.meet)
@@ -151,7 +151,7 @@ commute old merged (two_join g t more n a) course f s others m =
         within (inr c) =
             let r = out t rest c in
             two_pairs later apart r.0 (IsPermutation-trans others (g ∷ rest) (g ∷ (t ∷ r.0)) o
-                (IsPermutation-cons g rest (t ∷ r.0) r.1))
+            (IsPermutation-cons g rest (t ∷ r.0) r.1))
 
         at : (f ≡ t) ⊎ Contains (s ∷ rest) t → AreMerged (joined f s ∷ others) merged
         at (inl e) = row_before later apart rest o (sym e)
@@ -165,13 +165,13 @@ commute old merged (two_join g t more n a) course f s others m =
         behind : Perm (t ∷ more) (f ∷ others)
         behind = rest_of s (t ∷ more) (f ∷ others)
             (IsPermutation-trans (s ∷ (t ∷ more)) (f ∷ (s ∷ others)) (s ∷ (f ∷ others))
-                (subst (λ (p : Piece). Perm (p ∷ (t ∷ more)) (f ∷ (s ∷ others))) e pair) (swap f s others))
+            (subst (λ (p : Piece). Perm (p ∷ (t ∷ more)) (f ∷ (s ∷ others))) e pair) (swap f s others))
 
         at : (f ≡ t) ⊎ Contains others t → AreMerged (joined f s ∷ others) merged
         at (inl x) =
             absurd (no_way_back old f s others m course
             (subst (λ (p : Piece). is_same_spot s.to p.from ≡ true) (sym x)
-                (subst (λ (p : Piece). is_same_spot p.to t.from ≡ true) e n.meet)))
+            (subst (λ (p : Piece). is_same_spot p.to t.from ≡ true) e n.meet)))
         at (inr c) = let r = out t others c in row_behind later apart r.0 r.1 e
 
     by_g : Later → (apart : is_same_spot f.to g.to ≡ false) → (g ≡ f) ⊎ ((g ≡ s) ⊎ Contains others g)
@@ -193,9 +193,9 @@ one_merging pieces merged (all_joined none p) course other (all_joined bare q)
 one_merging pieces merged (all_joined none p) course other (two_join f s others m a) = absurd (none f s others m)
 one_merging pieces merged (two_join f s others m a) course other b =
     one_merging (joined f s ∷ others) merged a (kept pieces f s others m course) other
-        (commute pieces other b course f s others m)
+    (commute pieces other b course f s others m)
 
 pub merged_are_one : MergedAreOne
 merged_are_one limit count edge pieces others merged more within named p a b =
     one_merging pieces merged a (named_keep_course limit count edge pieces within named) more
-        (permuted_merged others pieces more (IsPermutation-sym pieces others p) b)
+    (permuted_merged others pieces more (IsPermutation-sym pieces others p) b)

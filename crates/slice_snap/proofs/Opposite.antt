@@ -34,14 +34,14 @@ two_to_back es left rest pairs e taken apart =
     let four : IsPermutation (rest ++ (e ∷ (pairs ++ (turned e ∷ back)))) (e ∷ (rest ++ (pairs ++ (turned e ∷ back)))) = IsPermutation-middle rest e (pairs ++ (turned e ∷ back)) in
     let five : IsPermutation (rest ++ (pairs ++ (turned e ∷ back))) (turned e ∷ (rest ++ both)) =
     IsPermutation-trans (rest ++ (pairs ++ (turned e ∷ back))) (rest ++ (turned e ∷ both))
-        (turned e ∷ (rest ++ both))
+    (turned e ∷ (rest ++ both))
     (IsPermutation-append_right rest (pairs ++ (turned e ∷ back)) (turned e ∷ both) inner) (IsPermutation-middle rest (turned e) both) in
     let six : IsPermutation (rest ++ (e ∷ (pairs ++ (turned e ∷ back)))) (e ∷ (turned e ∷ (rest ++ both))) =
     IsPermutation-trans (rest ++ (e ∷ (pairs ++ (turned e ∷ back))))
-        (e ∷ (rest ++ (pairs ++ (turned e ∷ back)))) (e ∷ (turned e ∷ (rest ++ both))) four
+    (e ∷ (rest ++ (pairs ++ (turned e ∷ back)))) (e ∷ (turned e ∷ (rest ++ both))) four
     (IsPermutation-cons e (rest ++ (pairs ++ (turned e ∷ back))) (turned e ∷ (rest ++ both)) five) in
     IsPermutation-trans (es ++ (e ∷ [])) (e ∷ (turned e ∷ (rest ++ both)))
-        (rest ++ (e ∷ (pairs ++ (turned e ∷ back))))
+    (rest ++ (e ∷ (pairs ++ (turned e ∷ back))))
     (IsPermutation-trans (es ++ (e ∷ [])) (e ∷ es) (e ∷ (turned e ∷ (rest ++ both))) one
     (IsPermutation-trans (e ∷ es) (e ∷ (left ++ both)) (e ∷ (turned e ∷ (rest ++ both))) two three))
     (IsPermutation-sym (rest ++ (e ∷ (pairs ++ (turned e ∷ back)))) (e ∷ (turned e ∷ (rest ++ both))) six)
@@ -65,8 +65,8 @@ none_added [] e h none = (All-nil (λ f. f ≡ turned e → ⊥), tt)
 none_added (f ∷ es) e h none = (
   All-append (λ g. g ≡ turned f → ⊥) es (e ∷ []) h.0
       (All-cons (λ g. g ≡ turned f → ⊥) e []
-          (λ s. All-head (λ g. g ≡ turned e → ⊥) f es none (turned_twice f e s))
-          (All-nil (λ g. g ≡ turned f → ⊥))),
+      (λ s. All-head (λ g. g ≡ turned e → ⊥) f es none (turned_twice f e s))
+      (All-nil (λ g. g ≡ turned f → ⊥))),
   none_added es e h.1 (All-tail (λ g. g ≡ turned e → ⊥) f es none),
 )
 
@@ -78,9 +78,9 @@ leaves_one_more es left e h none =
       pairs = h.pairs;
       taken = IsPermutation-trans (es ++ (e ∷ [])) (e ∷ (left ++ both)) ((left ++ (e ∷ [])) ++ both)
           (IsPermutation-trans (es ++ (e ∷ [])) (e ∷ es) (e ∷ (left ++ both)) (IsPermutation-to_front es e)
-              (IsPermutation-cons e es (left ++ both) h.taken))
+          (IsPermutation-cons e es (left ++ both) h.taken))
           (IsPermutation-sym ((left ++ (e ∷ [])) ++ both) (e ∷ (left ++ both))
-              (IsPermutation-append_left both (left ++ (e ∷ [])) (e ∷ left) (IsPermutation-to_front left e)));
+          (IsPermutation-append_left both (left ++ (e ∷ [])) (e ∷ left) (IsPermutation-to_front left e)));
       none = none_added left e h.none none;
     }
 

@@ -48,9 +48,11 @@ comparable pieces i d l within levels =
 module _ (old new : List Piece) (f s : Piece) (others : List Piece) (m : MeetAlone old f s others) (r : IsPermutation new (joined f s ∷ others)) where
   kept : (P : Piece → Type 0) → All P old → P f × P s × All P others
   kept P h =
-      let all : All P (f ∷ (s ∷ others)) = All-permutation P old (f ∷ (s ∷ others)) m.two h in
-      (All-head P f (s ∷ others) all, All-head P s others (All-tail P f (s ∷ others) all),
-          All-tail P s others (All-tail P f (s ∷ others) all))
+      let all : All P (f ∷ (s ∷ others)) = All-permutation P old (f ∷ (s ∷ others)) m.two h in (
+        All-head P f (s ∷ others) all,
+        All-head P s others (All-tail P f (s ∷ others) all),
+        All-tail P s others (All-tail P f (s ∷ others) all),
+      )
 
   renewed : (P : Piece → Type 0) → P (joined f s) → All P others → All P new
   renewed P one rest = All-permutation P (joined f s ∷ others) new (IsPermutation-sym new (joined f s ∷ others) r)
@@ -96,7 +98,7 @@ pub permuted_merged : (qs rs merged : List Piece) → IsPermutation qs rs → Ar
     → AreMerged rs merged
 permuted_merged qs rs merged p (all_joined none m) =
     all_joined (λ f s others t. none f s others (meet_permuted qs rs f s others p t))
-        (IsPermutation-trans rs qs merged (IsPermutation-sym qs rs p) m)
+    (IsPermutation-trans rs qs merged (IsPermutation-sym qs rs p) m)
 permuted_merged qs rs merged p (two_join f s others m a)
     = two_join f s others (meet_permuted rs qs f s others (IsPermutation-sym qs rs p) m) a
 

@@ -54,7 +54,7 @@ module _ (s t : Spot) (ds : pos 0 <ℤ s.at.d) (rs : 0 < s.run) (dt : pos 0 <ℤ
       ∙ ap (λ (e : ℤ). (t.x *ℤ a) *ℤ e) d in
       and_from (levels_equal s t) (places_equal s t)
       (and_from (int_eq s.at.n t.at.n) (int_eq s.at.d t.at.d) (to_eq s.at.n t.at.n (ap (λ (l : Level). l.n) at))
-          (to_eq s.at.d t.at.d d))
+      (to_eq s.at.d t.at.d d))
       (to_eq (s.x *ℤ b) (t.x *ℤ a) (cancel_mul (s.x *ℤ b) (t.x *ℤ a) t.at.d dt across))
 
   from_parts : (levels_equal s t && places_equal s t) ≡ true → is_same_spot s t ≡ true
@@ -67,10 +67,10 @@ module _ (s t : Spot) (ds : pos 0 <ℤ s.at.d) (rs : 0 < s.run) (dt : pos 0 <ℤ
       let d = int_eq-true s.at.d t.at.d level.1 in
       let x = int_eq-true (s.x *ℤ b) (t.x *ℤ a) both.1 in
       and_from (int_eq ((s.at.n *ℤ a) *ℤ (t.at.d *ℤ b)) ((t.at.n *ℤ b) *ℤ (s.at.d *ℤ a)))
-          (int_eq (s.x *ℤ (t.at.d *ℤ b)) (t.x *ℤ (s.at.d *ℤ a)))
+      (int_eq (s.x *ℤ (t.at.d *ℤ b)) (t.x *ℤ (s.at.d *ℤ a)))
       (to_eq ((s.at.n *ℤ a) *ℤ (t.at.d *ℤ b)) ((t.at.n *ℤ b) *ℤ (s.at.d *ℤ a))
       (crossed s.at.n a t.at.d b ∙ ap₂ (λ (p q : ℤ). (p *ℤ q) *ℤ (a *ℤ b)) n (sym d)
-          ∙ sym (crossed_back t.at.n s.at.d a b)))
+      ∙ sym (crossed_back t.at.n s.at.d a b)))
       (to_eq (s.x *ℤ (t.at.d *ℤ b)) (t.x *ℤ (s.at.d *ℤ a))
       (mul_beside s.x t.at.d b ∙ ap₂ (λ (p q : ℤ). p *ℤ q) x (sym d) ∙ sym (mul_beside t.x s.at.d a)))
 

@@ -32,8 +32,10 @@ less_order = ranks_by span_total (λ (e : Edge). e)
 ascending_from : (es : List Edge) → ((i j : ℕ) (d : Edge) → i ≤ j → j < length es
     → is_less (get_or es j d) (get_or es i d) ≡ false) → IsAscending es
 ascending_from [] h = tt
-ascending_from (e ∷ es) h = (λ k d l. h zero (suc k) d (omega arith) (omega arith),
-    ascending_from es (λ i j d a b. h (suc i) (suc j) d (omega arith) (omega arith)))
+ascending_from (e ∷ es) h = (
+  λ k d l. h zero (suc k) d (omega arith) (omega arith),
+  ascending_from es (λ i j d a b. h (suc i) (suc j) d (omega arith) (omega arith)),
+)
 
 pub ascending_sorted : (es : List Edge) → IsSortedBy is_less es → IsAscending es
 ascending_sorted es h = ascending_from es (sorted_far is_less less_order es h)
@@ -112,7 +114,7 @@ without_all : (P : Edge → Type 0) (xs : List Edge) (y : Edge) (ys : List Edge)
 without_all P [] y ys h = All-tail P y ys h
 without_all P (x ∷ xs) y ys h =
     All-cons P x (xs ++ ys) (All-head P x (xs ++ (y ∷ ys)) h)
-        (without_all P xs y ys (All-tail P x (xs ++ (y ∷ ys)) h))
+    (without_all P xs y ys (All-tail P x (xs ++ (y ∷ ys)) h))
 
 without : (xs : List Edge) (y : Edge) (ys : List Edge) → IsAscending (xs ++ (y ∷ ys)) → IsAscending (xs ++ ys)
 without [] y ys up = up.1
@@ -131,14 +133,14 @@ none_opposite : (left : List Edge) (e : Edge) (rest : List Edge) → IsAscending
 none_opposite [] e rest up none last = All-nil (λ f. f ≡ turned e → ⊥)
 none_opposite (f ∷ []) e rest up none last =
     All-cons (λ g. g ≡ turned e → ⊥) f [] (λ h. last (record { there = omega arith; opposite = λ d. h }))
-        (All-nil (λ g. g ≡ turned e → ⊥))
+    (All-nil (λ g. g ≡ turned e → ⊥))
 none_opposite (f ∷ (g ∷ gs)) e rest up none last =
     let P : Edge → Type 0 = λ h. h ≡ turned e → ⊥ in
     let behind : All P (g ∷ gs) = none_opposite (g ∷ gs) e rest up.1 none.1 (λ h. last (last_of_more f g gs e h)) in
     let low : is_less g f ≡ false = All-head (λ h. is_less h f ≡ false) g (gs ++ (e ∷ rest)) up.0 in
     let high : is_less e g ≡ false = All-head (λ h. is_less h g ≡ false) e rest (behind_all (λ h. is_less h g ≡ false) gs (e ∷ rest) up.1.0) in
     All-cons P f (g ∷ gs) (λ opposite. by_span opposite (All-head P g gs behind)
-        (All-head (λ h. h ≡ turned f → ⊥) g gs none.0) (between f g e low high opposite)) behind
+    (All-head (λ h. h ≡ turned f → ⊥) g gs none.0) (between f g e low high opposite)) behind
   where
     by_span : f ≡ turned e → (g ≡ turned e → ⊥) → (g ≡ turned f → ⊥)
         → (g ≡ e) ⊎ (g ≡ turned e) → ⊥

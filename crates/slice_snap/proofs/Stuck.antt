@@ -99,7 +99,7 @@ module _ (old new : List Piece) (f s : Piece) (others : List Piece) (m : MeetAlo
           absurd (twice (ends_at (point_of q.to) (ways_of old)) (ends_at (point_of q.to) (ways_of new))
           (ends_alike (point_of q.to) (point_of f.to) dq df h (ways_of old) ∙ m.one_ends) once_more.one_ends
           (fewer_ends old new f s others m r (point_of q.to)
-              ∙ ap (λ (b : Bool). once b + ends_at (point_of q.to) (ways_of new)) h))
+          ∙ ap (λ (b : Bool). once b + ends_at (point_of q.to) (ways_of new)) h))
 
   not_started : is_same_spot q.to f.to ≡ false → is_same_spot q.to s.from ≡ false
   not_started away = sym (same_through (point_of q.to) (point_of f.to) (point_of s.from) df ds m.meet) ∙ away
@@ -123,9 +123,9 @@ module _ (old new : List Piece) (f s : Piece) (others : List Piece) (m : MeetAlo
       let none : All (λ p. GoesOn q p → ⊥) (f ∷ (s ∷ others)) = All-permutation (λ p. GoesOn q p → ⊥) old (f ∷ (s ∷ others)) m.two (stuck (passed_before away h)) in
       let rest : All (λ p. GoesOn q p → ⊥) others = All-tail (λ p. GoesOn q p → ⊥) s others (All-tail (λ p. GoesOn q p → ⊥) f (s ∷ others) none) in
       All-permutation (λ p. GoesOn q p → ⊥) (joined f s ∷ others) new
-          (IsPermutation-sym new (joined f s ∷ others) r)
+      (IsPermutation-sym new (joined f s ∷ others) r)
       (All-cons (λ p. GoesOn q p → ⊥) (joined f s) others
-          (λ g. All-head (λ p. GoesOn q p → ⊥) f (s ∷ others) none (from_first away g)) rest)
+      (λ g. All-head (λ p. GoesOn q p → ⊥) f (s ∷ others) none (from_first away g)) rest)
 
 -- ---- where all are stuck, no two meet alone
 away_by_count : (n : ℕ) (b c : Bool) (k : ℕ) → n ≡ once b + (once c + k) → b ≡ true → n ≡ 1
@@ -141,7 +141,7 @@ goes_on pieces q r others m = record {
   away = away_by_count (ends_at (point_of q.to) (ways_of pieces)) (is_same_spot q.to q.to) (is_same_spot q.to r.to)
       (ends_at (point_of q.to) (ways_of others))
       (ends_permuted (point_of q.to) pieces (q ∷ (r ∷ others)) m.two ∙ ends_two (point_of q.to) q r others)
-          (same_itself (point_of q.to)) m.one_ends;
+      (same_itself (point_of q.to)) m.one_ends;
 }
 
 pub none_meet_alone : (pieces : List Piece) → All (IsStuck pieces) pieces → NoneMeetAlone pieces
@@ -149,4 +149,4 @@ none_meet_alone pieces all q r others m =
     let stuck : IsStuck pieces q = All-head (IsStuck pieces) q (r ∷ others) (All-permutation (IsStuck pieces) pieces (q ∷ (r ∷ others)) m.two all) in
     let none : All (λ p. GoesOn q p → ⊥) (q ∷ (r ∷ others)) = All-permutation (λ p. GoesOn q p → ⊥) pieces (q ∷ (r ∷ others)) m.two (stuck (record { one_ends = m.one_ends; one_starts = m.one_starts })) in
     All-head (λ p. GoesOn q p → ⊥) r others (All-tail (λ p. GoesOn q p → ⊥) q (r ∷ others) none)
-        (goes_on pieces q r others m)
+    (goes_on pieces q r others m)

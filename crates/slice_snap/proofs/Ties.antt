@@ -49,12 +49,18 @@ module _ {X : Type 0} (t : X → Bool) where
   one_more x xs h = counted x xs ∙ ap (λ (c : Bool). once c + count_by t xs) h
 
   later : (x : X) (xs : List X) (k : ℕ) → IsBlock (x ∷ xs) (suc k) → IsBlock xs k
-  later x xs k b = record { before = λ i l. b.before (suc i) (omega arith); from
-      = λ i j l m h. b.from (suc i) (suc j) (omega arith) (omega arith) h }
+  later x xs k b = record {
+    before = λ i l. b.before (suc i) (omega arith);
+    from
+        = λ i j l m h. b.from (suc i) (suc j) (omega arith) (omega arith) h;
+  }
 
   rest : (x : X) (xs : List X) → IsBlock (x ∷ xs) 0 → IsBlock xs 0
-  rest x xs b = record { before = λ i l. absurd (omega arith); from
-      = λ i j l m h. b.from (suc i) (suc j) (omega arith) (omega arith) h }
+  rest x xs b = record {
+    before = λ i l. absurd (omega arith);
+    from
+        = λ i j l m h. b.from (suc i) (suc j) (omega arith) (omega arith) h;
+  }
 
   none : (xs : List X) → IsBlock xs 0 → holds_at t xs 0 ≡ false → count_by t xs ≡ 0
   none [] b h = refl
@@ -109,7 +115,7 @@ module _ {X : Type 0} (t : X → Bool) where
       let next : k + 1 ≡ suc k = omega arith in
       not_once xs k b
       (ap (λ (c : Bool). c && not (holds_at t xs (suc k))) h
-          ∙ ap not (subst (λ (n : ℕ). holds_at t xs n ≡ true) next g))
+      ∙ ap not (subst (λ (n : ℕ). holds_at t xs n ≡ true) next g))
 
 -- ---- the elements of an ordered list that tie with one
 module _ {X : Type 0} (R : X → X → Ordering) (o : IsTotalOrder R) (x : X) where
@@ -155,8 +161,11 @@ module _ {X : Type 0} (R : X → X → Ordering) (o : IsTotalOrder R) (x : X) wh
 
   pub tied_block : (xs : List X) (k : ℕ) (d : X) → IsSorted R xs
       → IsPartitionPoint (λ y. comes_before y ≡ true) (λ y. comes_before y ≡ false) xs k → IsBlock ties xs k
-  tied_block xs k d up point = record { before = λ i l. fails i l (cases_lt i (length xs)); from
-      = λ i j l m h. holds i j l m h (cases_lt j (length xs)) }
+  tied_block xs k d up point = record {
+    before = λ i l. fails i l (cases_lt i (length xs));
+    from
+        = λ i j l m h. holds i j l m h (cases_lt j (length xs));
+  }
     where
       fails : (i : ℕ) → i < k → (i < length xs) ⊎ (length xs ≤ i) → holds_at ties xs i ≡ false
       fails i l (inl a) = holds_there ties xs i d a ∙ apart_before (get_or xs i d) (point.0 i d (omega arith) l)

@@ -96,8 +96,8 @@ module _ (old : List Piece) (course : KeepCourse old) (f s : Piece) (others : Li
       by_case (inl x) = sym x
       by_case (inr c) =
           absurd (two_ends (point_of f.to) f g (s ∷ others)
-              (sym (ends_permuted (point_of f.to) old (f ∷ (s ∷ others)) m.two) ∙ m.one_ends)
-              (same_itself (point_of f.to)) c e)
+          (sym (ends_permuted (point_of f.to) old (f ∷ (s ∷ others)) m.two) ∙ m.one_ends)
+          (same_itself (point_of f.to)) c e)
 
   same_second : is_same_spot f.to g.to ≡ true → t ≡ s
   same_second e = by_case (first_or_later s t (f ∷ others)
@@ -118,8 +118,8 @@ module _ (old : List Piece) (course : KeepCourse old) (f s : Piece) (others : Li
       by_case (inl x) = sym x
       by_case (inr c) =
           absurd (two_starts (point_of f.to) s t (f ∷ others)
-              (sym (starts_permuted (point_of f.to) old (s ∷ (f ∷ others)) from_old) ∙ m.one_starts) m.meet c
-              starts_there)
+          (sym (starts_permuted (point_of f.to) old (s ∷ (f ∷ others)) from_old) ∙ m.one_starts) m.meet c
+          starts_there)
 
   pub one_pair : is_same_spot f.to g.to ≡ true → Perm (joined g t ∷ more) (joined f s ∷ others)
   one_pair e =
@@ -128,7 +128,7 @@ module _ (old : List Piece) (course : KeepCourse old) (f s : Piece) (others : Li
       let front : Perm (f ∷ (s ∷ more)) (f ∷ (s ∷ others)) = subst (λ (p : Piece). Perm (f ∷ (p ∷ more)) (f ∷ (s ∷ others))) y (subst (λ (p : Piece). Perm (p ∷ (t ∷ more)) (f ∷ (s ∷ others))) x two) in
       let rest : Perm more others = rest_of s more others (rest_of f (s ∷ more) (s ∷ others) front) in
       subst (λ (p : Piece). Perm (p ∷ more) (joined f s ∷ others)) (sym (ap₂ joined x y))
-          (IsPermutation-cons (joined f s) more others rest)
+      (IsPermutation-cons (joined f s) more others rest)
 
   -- ---- at two points each stays where the other was joined
   module _ (apart : is_same_spot f.to g.to ≡ false) where
@@ -155,22 +155,22 @@ module _ (old : List Piece) (course : KeepCourse old) (f s : Piece) (others : Li
     ends_f = same_but (ends_at (point_of f.to) (ways_of old)) (ends_at (point_of f.to) (ways_of (joined g t ∷ more)))
         (is_same_spot f.to g.to)
         (fewer_ends old (joined g t ∷ more) g t more n (IsPermutation-refl (joined g t ∷ more)) (point_of f.to))
-            apart m.one_ends
+        apart m.one_ends
 
     pub starts_f : starts_at (point_of f.to) (ways_of (joined g t ∷ more)) ≡ 1
     starts_f = same_but (starts_at (point_of f.to) (ways_of old))
         (starts_at (point_of f.to) (ways_of (joined g t ∷ more))) (is_same_spot f.to t.from)
         (fewer_starts old (joined g t ∷ more) g t more n (IsPermutation-refl (joined g t ∷ more)) (point_of f.to))
-            not_second m.one_starts
+        not_second m.one_starts
 
     pub ends_g : ends_at (point_of g.to) (ways_of (joined f s ∷ others)) ≡ 1
     ends_g = same_but (ends_at (point_of g.to) (ways_of old))
         (ends_at (point_of g.to) (ways_of (joined f s ∷ others))) (is_same_spot g.to f.to)
         (fewer_ends old (joined f s ∷ others) f s others m (IsPermutation-refl (joined f s ∷ others))
-            (point_of g.to)) apart_back n.one_ends
+        (point_of g.to)) apart_back n.one_ends
 
     pub starts_g : starts_at (point_of g.to) (ways_of (joined f s ∷ others)) ≡ 1
     starts_g = same_but (starts_at (point_of g.to) (ways_of old))
         (starts_at (point_of g.to) (ways_of (joined f s ∷ others))) (is_same_spot g.to s.from)
         (fewer_starts old (joined f s ∷ others) f s others m (IsPermutation-refl (joined f s ∷ others))
-            (point_of g.to)) not_second_back n.one_starts
+        (point_of g.to)) not_second_back n.one_starts

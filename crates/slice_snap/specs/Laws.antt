@@ -17,5 +17,5 @@ CancelledAreOne = (edges others left more : List Edge) → IsPermutation edges o
 abbrev pub MergedAreOne : Type 0
 MergedAreOne =
     (limit count : ℕ) (edge : ℕ → Edge) (pieces others merged more : List Piece)
-        → All (IsPieceWithin limit) pieces → AreNamed count edge pieces
+    → All (IsPieceWithin limit) pieces → AreNamed count edge pieces
     → IsPermutation pieces others → AreMerged pieces merged → AreMerged others more → IsPermutation merged more

@@ -54,6 +54,6 @@ pub record AreNamed (count : ℕ) (edge : ℕ → Edge) (pieces : List Piece) : 
 abbrev pub PiecesGoOn : Type 0
 PiecesGoOn =
     (limit : ℕ) (e : Edge) (q r : Piece) → IsPieceWithin limit q → IsPieceWithin limit r → LiesAlong e q
-        → LiesAlong e r → HasLength q → HasLength r
+    → LiesAlong e r → HasLength q → HasLength r
     → AreApart q r → is_same_spot q.to r.from ≡ true
     → IsInside (point_of q.from) (point_of r.to) (point_of q.to)

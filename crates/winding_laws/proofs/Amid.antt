@@ -20,7 +20,7 @@ use Rattle.std.proofs.lemmas.Bool.{both_ways}
 rise_first : (a b p : Point) (o : IsOn a b p) → o.k *ℤ rise a p ≡ o.t *ℤ rise a b
 rise_first a b p o =
     ring (o.k ∷ p.y ∷ a.d ∷ a.y ∷ p.d ∷ []) (v0 ⊗ (v1 ⊗ v2 ⊖ v3 ⊗ v4))
-        ((v0 ⊗ v1) ⊗ v2 ⊖ v3 ⊗ (v0 ⊗ v4)) refl
+    ((v0 ⊗ v1) ⊗ v2 ⊖ v3 ⊗ (v0 ⊗ v4)) refl
     ∙ ap₂ (λ (y z : ℤ). y *ℤ a.d -ℤ a.y *ℤ z) o.y o.d
     ∙ ring (o.s ∷ o.t ∷ a.y ∷ a.d ∷ b.y ∷ b.d ∷ [])
     ((v0 ⊗ v2 ⊕ v1 ⊗ v4) ⊗ v3 ⊖ v2 ⊗ (v0 ⊗ v3 ⊕ v1 ⊗ v5))
@@ -29,7 +29,7 @@ rise_first a b p o =
 rise_second : (a b p : Point) (o : IsOn a b p) → o.k *ℤ rise p b ≡ o.s *ℤ rise a b
 rise_second a b p o =
     ring (o.k ∷ p.y ∷ b.d ∷ b.y ∷ p.d ∷ []) (v0 ⊗ (v3 ⊗ v4 ⊖ v1 ⊗ v2))
-        (v3 ⊗ (v0 ⊗ v4) ⊖ (v0 ⊗ v1) ⊗ v2) refl
+    (v3 ⊗ (v0 ⊗ v4) ⊖ (v0 ⊗ v1) ⊗ v2) refl
     ∙ ap₂ (λ (y z : ℤ). b.y *ℤ z -ℤ y *ℤ b.d) o.y o.d
     ∙ ring (o.s ∷ o.t ∷ a.y ∷ a.d ∷ b.y ∷ b.d ∷ [])
     (v4 ⊗ (v0 ⊗ v3 ⊕ v1 ⊗ v5) ⊖ (v0 ⊗ v2 ⊕ v1 ⊗ v4) ⊗ v5)
@@ -38,7 +38,7 @@ rise_second a b p o =
 bend_none : (a b p : Point) (o : IsOn a b p) → bend a b p *ℤ o.k ≡ pos 0
 bend_none a b p o =
     ring (rise p b ∷ a.x ∷ rise a p ∷ b.x ∷ rise a b ∷ p.x ∷ o.k ∷ [])
-        ((v0 ⊗ v1 ⊕ v2 ⊗ v3 ⊖ v4 ⊗ v5) ⊗ v6)
+    ((v0 ⊗ v1 ⊕ v2 ⊗ v3 ⊖ v4 ⊗ v5) ⊗ v6)
     ((v6 ⊗ v0) ⊗ v1 ⊕ (v6 ⊗ v2) ⊗ v3 ⊖ v4 ⊗ (v6 ⊗ v5)) refl
     ∙ ap₂ (λ (y z : ℤ). y *ℤ a.x +ℤ z *ℤ b.x -ℤ rise a b *ℤ (o.k *ℤ p.x)) (rise_second a b p o)
     (rise_first a b p o)
@@ -130,9 +130,9 @@ scaled_turn : (k l m px py pd qx qy qd rx ry rd : ℤ) → turn_of px py pd qx q
 scaled_turn k l m px py pd qx qy qd rx ry rd =
     ring (k ∷ l ∷ m ∷ px ∷ py ∷ pd ∷ qx ∷ qy ∷ qd ∷ rx ∷ ry ∷ rd ∷ [])
     (((v10 ⊗ v8 ⊖ v7 ⊗ v11) ⊗ v3 ⊕ (v7 ⊗ v5 ⊖ v4 ⊗ v8) ⊗ v9 ⊖ (v10 ⊗ v5 ⊖ v4 ⊗ v11) ⊗ v6)
-        ⊗ (v0 ⊗ (v1 ⊗ v2)))
+    ⊗ (v0 ⊗ (v1 ⊗ v2)))
     (((v2 ⊗ v10) ⊗ (v1 ⊗ v8) ⊖ (v1 ⊗ v7) ⊗ (v2 ⊗ v11)) ⊗ (v0 ⊗ v3)
-        ⊕ ((v1 ⊗ v7) ⊗ (v0 ⊗ v5) ⊖ (v0 ⊗ v4) ⊗ (v1 ⊗ v8)) ⊗
+    ⊕ ((v1 ⊗ v7) ⊗ (v0 ⊗ v5) ⊖ (v0 ⊗ v4) ⊗ (v1 ⊗ v8)) ⊗
     (v2 ⊗ v9)
     ⊖ ((v2 ⊗ v10) ⊗ (v0 ⊗ v5) ⊖ (v0 ⊗ v4) ⊗ (v2 ⊗ v11)) ⊗ (v1 ⊗ v6)) refl
 
@@ -144,11 +144,11 @@ no_turn : (s t f g h w ax ay ad bx by bd : ℤ)
 no_turn s t f g h w ax ay ad bx by bd =
     ring (s ∷ t ∷ f ∷ g ∷ h ∷ w ∷ ax ∷ ay ∷ ad ∷ bx ∷ by ∷ bd ∷ [])
     (((v4 ⊗ v7 ⊕ v5 ⊗ v10) ⊗ (v2 ⊗ v8 ⊕ v3 ⊗ v11) ⊖ (v2 ⊗ v7 ⊕ v3 ⊗ v10)
-        ⊗ (v4 ⊗ v8 ⊕ v5 ⊗ v11)) ⊗ (v0 ⊗ v6 ⊕ v1 ⊗ v9)
+    ⊗ (v4 ⊗ v8 ⊕ v5 ⊗ v11)) ⊗ (v0 ⊗ v6 ⊕ v1 ⊗ v9)
     ⊕ ((v2 ⊗ v7 ⊕ v3 ⊗ v10) ⊗ (v0 ⊗ v8 ⊕ v1 ⊗ v11) ⊖ (v0 ⊗ v7 ⊕ v1 ⊗ v10)
-        ⊗ (v2 ⊗ v8 ⊕ v3 ⊗ v11)) ⊗ (v4 ⊗ v6 ⊕ v5 ⊗ v9)
+    ⊗ (v2 ⊗ v8 ⊕ v3 ⊗ v11)) ⊗ (v4 ⊗ v6 ⊕ v5 ⊗ v9)
     ⊖ ((v4 ⊗ v7 ⊕ v5 ⊗ v10) ⊗ (v0 ⊗ v8 ⊕ v1 ⊗ v11) ⊖ (v0 ⊗ v7 ⊕ v1 ⊗ v10)
-        ⊗ (v4 ⊗ v8 ⊕ v5 ⊗ v11)) ⊗ (v2 ⊗ v6 ⊕ v3 ⊗ v9))
+    ⊗ (v4 ⊗ v8 ⊕ v5 ⊗ v11)) ⊗ (v2 ⊗ v6 ⊕ v3 ⊗ v9))
     (num (pos 0)) refl
 
 pub three_on_line : (a b p q r : Point) → IsOn a b p → IsOn a b q → IsOn a b r → side_by q p r ≡ pos 0

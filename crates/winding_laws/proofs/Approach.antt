@@ -132,11 +132,11 @@ module _ (n : ℤ) (np : pos 0 <ℤ n) (a b p : Point) (da : IsPoint a) (db : Is
       (sym (gap_same weight p.x p.d middle.x middle.d)) (sym (gap_same weight p.y p.d middle.y middle.d)) refl
       (in_box n (pos 1) (record { x = x_gap; y = y_gap; d = amid.d *ℤ p.d })
       (most _ _ _ (below x_gap (x_gap *ℤ x_gap) (y_gap *ℤ y_gap) (at_most_square x_gap) (square_at_least y_gap))
-          room)
+      room)
       (most _ _ _ (below (pos 0 -ℤ x_gap) (x_gap *ℤ x_gap) (y_gap *ℤ y_gap) (at_most_turned x_gap)
       (square_at_least y_gap)) room)
       (most _ _ _ (below_second y_gap (x_gap *ℤ x_gap) (y_gap *ℤ y_gap) (at_most_square y_gap)
-          (square_at_least x_gap))
+      (square_at_least x_gap))
       room)
       (most _ _ _ (below_second (pos 0 -ℤ y_gap) (x_gap *ℤ x_gap) (y_gap *ℤ y_gap) (at_most_turned y_gap)
       (square_at_least x_gap)) room))
@@ -147,7 +147,7 @@ module _ (n : ℤ) (np : pos 0 <ℤ n) (a b p : Point) (da : IsPoint a) (db : Is
       ≡ (w *ℤ s +ℤ k *ℤ f) *ℤ x +ℤ (w *ℤ t +ℤ k *ℤ e) *ℤ y
   one_number w k s t e f p x y h =
       ring (w ∷ k ∷ e ∷ f ∷ p ∷ x ∷ y ∷ [])
-          (v1 ⊗ (v0 ⊗ v4 ⊕ num (pos 1) ⊗ (v3 ⊗ v5 ⊕ v2 ⊗ v6)))
+      (v1 ⊗ (v0 ⊗ v4 ⊕ num (pos 1) ⊗ (v3 ⊗ v5 ⊕ v2 ⊗ v6)))
       (v0 ⊗ (v1 ⊗ v4) ⊕ v1 ⊗ (v3 ⊗ v5 ⊕ v2 ⊗ v6)) refl
       ∙ ap (λ (z : ℤ). w *ℤ z +ℤ k *ℤ (f *ℤ x +ℤ e *ℤ y)) h
       ∙ ring (w ∷ k ∷ s ∷ t ∷ e ∷ f ∷ x ∷ y ∷ [])

@@ -25,16 +25,16 @@ unfolding side_by
 bend_side a b p =
     ring (a.x ∷ a.y ∷ a.d ∷ b.x ∷ b.y ∷ b.d ∷ p.x ∷ p.y ∷ p.d ∷ [])
     (((v4 ⊗ v8 ⊖ v7 ⊗ v5) ⊗ v0 ⊕ (v7 ⊗ v2 ⊖ v1 ⊗ v8) ⊗ v3 ⊖ (v4 ⊗ v2 ⊖ v1 ⊗ v5) ⊗ v6)
-        ⊗ v2)
+    ⊗ v2)
     ((v3 ⊗ v2 ⊖ v0 ⊗ v5) ⊗ (v7 ⊗ v2 ⊖ v1 ⊗ v8) ⊖ (v4 ⊗ v2 ⊖ v1 ⊗ v5)
-        ⊗ (v6 ⊗ v2 ⊖ v0 ⊗ v8)) refl
+    ⊗ (v6 ⊗ v2 ⊖ v0 ⊗ v8)) refl
 
 pub bend_turned : (a b p : Point) → bend b a p ≡ pos 0 -ℤ bend a b p
 bend_turned a b p =
     ring (a.x ∷ a.y ∷ a.d ∷ b.x ∷ b.y ∷ b.d ∷ p.x ∷ p.y ∷ p.d ∷ [])
     ((v1 ⊗ v8 ⊖ v7 ⊗ v2) ⊗ v3 ⊕ (v7 ⊗ v5 ⊖ v4 ⊗ v8) ⊗ v0 ⊖ (v1 ⊗ v5 ⊖ v4 ⊗ v2) ⊗ v6)
     (num (pos 0) ⊖ ((v4 ⊗ v8 ⊖ v7 ⊗ v5) ⊗ v0 ⊕ (v7 ⊗ v2 ⊖ v1 ⊗ v8) ⊗ v3
-        ⊖ (v4 ⊗ v2 ⊖ v1 ⊗ v5) ⊗ v6)) refl
+    ⊖ (v4 ⊗ v2 ⊖ v1 ⊗ v5) ⊗ v6)) refl
 
 pub rises : (a b p : Point) → rise a b *ℤ p.d ≡ rise p b *ℤ a.d +ℤ rise a p *ℤ b.d
 rises a b p = ring (a.y ∷ a.d ∷ b.y ∷ b.d ∷ p.y ∷ p.d ∷ []) ((v2 ⊗ v1 ⊖ v0 ⊗ v3) ⊗ v5)
@@ -81,9 +81,9 @@ unfolding side_by
 side_exchanged a b p =
     ring (a.x ∷ a.y ∷ a.d ∷ b.x ∷ b.y ∷ b.d ∷ p.x ∷ p.y ∷ p.d ∷ [])
     ((v4 ⊗ v2 ⊖ v1 ⊗ v5) ⊗ (v6 ⊗ v2 ⊖ v0 ⊗ v8) ⊖ (v3 ⊗ v2 ⊖ v0 ⊗ v5)
-        ⊗ (v7 ⊗ v2 ⊖ v1 ⊗ v8))
+    ⊗ (v7 ⊗ v2 ⊖ v1 ⊗ v8))
     (num (pos 0) ⊖ ((v3 ⊗ v2 ⊖ v0 ⊗ v5) ⊗ (v7 ⊗ v2 ⊖ v1 ⊗ v8) ⊖ (v4 ⊗ v2 ⊖ v1 ⊗ v5)
-        ⊗ (v6 ⊗ v2 ⊖ v0 ⊗ v8))) refl
+    ⊗ (v6 ⊗ v2 ⊖ v0 ⊗ v8))) refl
 
 pub on_exchanged : (a b p : Point) → IsOn (exchanged a) (exchanged b) (exchanged p) → IsOn a b p
 on_exchanged a b p h = record {

@@ -67,7 +67,7 @@ module _ (p : Point) where
       ∙ starts-append (segments left) (segments pairs ++ segments (map turned pairs))
       ∙ ap (λ (n : ℕ). starts_at p (segments left) + n)
       (starts-append (segments pairs) (segments (map turned pairs))
-          ∙ ap (λ (n : ℕ). starts_at p (segments pairs) + n)
+      ∙ ap (λ (n : ℕ). starts_at p (segments pairs) + n)
       (starts-turned pairs))
 
   all_ends : (left pairs : List Edge) → ends_at p (segments (left ++ (pairs ++ map turned pairs)))

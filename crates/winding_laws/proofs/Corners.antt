@@ -44,7 +44,7 @@ module _ (region : List HalfPlane) (a b p q r : Point) (da : pos 0 <ℤ a.d) (db
   one_axis u v w x y z f g h c e d k o =
       ring (u ∷ v ∷ w ∷ x ∷ y ∷ z ∷ f ∷ g ∷ h ∷ c ∷ e ∷ d ∷ k ∷ [])
       ((v9 ⊗ v6 ⊖ v3 ⊗ v10) ⊗ (v0 ⊗ v12)
-          ⊕ ((v11 ⊗ v7 ⊖ v4 ⊗ v12) ⊗ (v1 ⊗ v10) ⊕ (v11 ⊗ v8 ⊖ v5 ⊗ v12) ⊗ (v2 ⊗ v10)))
+      ⊕ ((v11 ⊗ v7 ⊖ v4 ⊗ v12) ⊗ (v1 ⊗ v10) ⊕ (v11 ⊗ v8 ⊖ v5 ⊗ v12) ⊗ (v2 ⊗ v10)))
       (((v0 ⊗ (v6 ⊗ v12)) ⊗ v9 ⊕ (v1 ⊗ (v7 ⊗ v10) ⊕ v2 ⊗ (v8 ⊗ v10)) ⊗ v11) ⊖ (v10 ⊗ v12) ⊗
       (v0 ⊗ v3 ⊕ (v1 ⊗ v4 ⊕ v2 ⊗ v5))) refl
       ∙ ap (λ (s : ℤ). ((u *ℤ (f *ℤ k)) *ℤ c +ℤ (v *ℤ (g *ℤ e) +ℤ w *ℤ (h *ℤ e)) *ℤ d) -ℤ
@@ -63,13 +63,13 @@ module _ (region : List HalfPlane) (a b p q r : Point) (da : pos 0 <ℤ a.d) (db
   unfolding cross
   origin_x = ring (p.x ∷ p.y ∷ q.x ∷ q.y ∷ r.x ∷ r.y ∷ [])
       ((v2 ⊗ v5 ⊖ v3 ⊗ v4) ⊗ v0 ⊕ ((v4 ⊗ v1 ⊖ v5 ⊗ v0) ⊗ v2 ⊕ (v0 ⊗ v3 ⊖ v1 ⊗ v2) ⊗ v4))
-          (num (pos 0)) refl
+      (num (pos 0)) refl
 
   origin_y : cross q r *ℤ p.y +ℤ (cross r p *ℤ q.y +ℤ cross p q *ℤ r.y) ≡ pos 0
   unfolding cross
   origin_y = ring (p.x ∷ p.y ∷ q.x ∷ q.y ∷ r.x ∷ r.y ∷ [])
       ((v2 ⊗ v5 ⊖ v3 ⊗ v4) ⊗ v1 ⊕ ((v4 ⊗ v1 ⊖ v5 ⊗ v0) ⊗ v3 ⊕ (v0 ⊗ v3 ⊖ v1 ⊗ v2) ⊗ v5))
-          (num (pos 0)) refl
+      (num (pos 0)) refl
 
   pub not_round : IsAway region a b → ¬ IsRound p q r
   not_round away = λ round.

@@ -33,7 +33,7 @@ on_near region q a b p h n =
         → (x *ℤ g -ℤ w *ℤ d) *ℤ k ≡ (s *ℤ y +ℤ t *ℤ z) *ℤ g -ℤ w *ℤ (s *ℤ e +ℤ t *ℤ f)
     one_axis k s t x d y e z f w g hx hd =
         ring (k ∷ x ∷ d ∷ w ∷ g ∷ []) ((v1 ⊗ v4 ⊖ v3 ⊗ v2) ⊗ v0)
-            ((v0 ⊗ v1) ⊗ v4 ⊖ v3 ⊗ (v0 ⊗ v2)) refl
+        ((v0 ⊗ v1) ⊗ v4 ⊖ v3 ⊗ (v0 ⊗ v2)) refl
         ∙ ap₂ (λ (y z : ℤ). y *ℤ g -ℤ w *ℤ z) hx hd
 
     weights : (k m d g : ℤ) → k *ℤ d ≡ m → (d *ℤ g) *ℤ k ≡ m *ℤ g
@@ -92,10 +92,10 @@ module _ (q a b c d : Point) (u v : ℤ) where
   one_axis u v x e y f z g w h p k =
       ring (u ∷ v ∷ x ∷ e ∷ y ∷ f ∷ z ∷ g ∷ w ∷ h ∷ p ∷ k ∷ [])
       (((v0 ⊗ v6 ⊕ v1 ⊗ v8) ⊗ v11 ⊖ v10 ⊗ (v0 ⊗ v7 ⊕ v1 ⊗ v9)) ⊗ (v3 ⊗ v5)
-          ⊕ ((v2 ⊗ v7 ⊖ v6 ⊗ v3) ⊗ (v0 ⊗ v5) ⊕
+      ⊕ ((v2 ⊗ v7 ⊖ v6 ⊗ v3) ⊗ (v0 ⊗ v5) ⊕
       (v4 ⊗ v9 ⊖ v8 ⊗ v5) ⊗ (v1 ⊗ v3)) ⊗ v11)
       (((v0 ⊗ (v7 ⊗ v5)) ⊗ v2 ⊕ (v1 ⊗ (v9 ⊗ v3)) ⊗ v4) ⊗ v11 ⊖ v10
-          ⊗ ((v0 ⊗ (v7 ⊗ v5)) ⊗ v3 ⊕ (v1 ⊗ (v9 ⊗ v3)) ⊗ v5))
+      ⊗ ((v0 ⊗ (v7 ⊗ v5)) ⊗ v3 ⊕ (v1 ⊗ (v9 ⊗ v3)) ⊗ v5))
       refl
 
   drift_weight : (u v e f g h k : ℤ) → ((e *ℤ g) *ℤ (u *ℤ f) +ℤ (f *ℤ h) *ℤ (v *ℤ e)) *ℤ k
@@ -139,7 +139,7 @@ moves_stay_far r s t sum q a b c d dq da db dc dd f n m u v hu hv o near =
     let cb : pos 0 <ℤ (c.d *ℤ b.d) = positive_product c.d b.d dc db in
     let de : pos 0 <ℤ (d.d *ℤ a.d) = positive_product d.d a.d dd da in
     f (u *ℤ (c.d *ℤ b.d)) (v *ℤ (d.d *ℤ a.d))
-        (at_least_mul u (c.d *ℤ b.d) hu (at_most_of_less (pos 0) (c.d *ℤ b.d) cb))
+    (at_least_mul u (c.d *ℤ b.d) hu (at_most_of_less (pos 0) (c.d *ℤ b.d) cb))
     (at_least_mul v (d.d *ℤ a.d) hv (at_most_of_less (pos 0) (d.d *ℤ a.d) de))
     (some_weight u v (c.d *ℤ b.d) (d.d *ℤ a.d) hu hv o cb de)
     (moved_near q a b c d u v r s t sum dq da db hu hv n m near)

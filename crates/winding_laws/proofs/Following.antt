@@ -62,7 +62,7 @@ module _ (region : List HalfPlane) (a b c d p : Point) (da : IsPoint a) (db : Is
           (ring (x ∷ e ∷ y ∷ f ∷ z ∷ g ∷ w ∷ h ∷ u ∷ v ∷ [])
           ((v0 ⊗ v5 ⊖ v4 ⊗ v1) ⊗ (v8 ⊗ v3) ⊕ (v2 ⊗ v7 ⊖ v6 ⊗ v3) ⊗ (v9 ⊗ v1))
           (((v8 ⊗ (v5 ⊗ v3)) ⊗ v0 ⊕ (v9 ⊗ (v7 ⊗ v1)) ⊗ v2) ⊖ (v1 ⊗ v3) ⊗ (v8 ⊗ v4 ⊕ v9 ⊗ v6))
-              refl)
+          refl)
           ∙ ring (((u *ℤ (g *ℤ f)) *ℤ x +ℤ (v *ℤ (h *ℤ e)) *ℤ y) ∷ (e *ℤ f)
           ∷ (u *ℤ z +ℤ v *ℤ w) ∷ q ∷ [])
           ((v0 ⊖ v1 ⊗ v2) ⊗ v3) (v0 ⊗ v3 ⊖ v1 ⊗ (v2 ⊗ v3)) refl

@@ -114,7 +114,7 @@ module _ (region : List HalfPlane) (o : HoldsOrigin region) where
       let more = apart above a.y b.y ha hb in
       not_through region o a b da db away b.y (pos 0 -ℤ a.y) high (omega (arith, ints)) (omega (arith, ints))
       (ring (a.x ∷ a.y ∷ b.x ∷ b.y ∷ []) (v3 ⊗ v0 ⊕ (num (pos 0) ⊖ v1) ⊗ v2) (v0 ⊗ v3 ⊖ v1 ⊗ v2)
-          refl ∙ e)
+      refl ∙ e)
       (ring (a.y ∷ b.y ∷ []) (v1 ⊗ v0 ⊕ (num (pos 0) ⊖ v0) ⊗ v1) (num (pos 0)) refl)
 
   rising : (above right : Bool) (a b : Point) → IsPoint a → IsPoint b → IsAway region a b
@@ -125,7 +125,7 @@ module _ (region : List HalfPlane) (o : HoldsOrigin region) where
       rw (ha, hb)
       (ap (λ (u : Bool). if u then pos 1 else pos 0)
       (ap (is_beyond right) (one-mul (cross a b))
-          ∙ beyond_forms right (cross a b) (crossing above a b da db away ha hb)
+      ∙ beyond_forms right (cross a b) (crossing above a b da db away ha hb)
       ∙ sym (ap (is_beyond true) (one-mul (cross a b)))))
 
   level : (above right : Bool) (a b : Point) (s : Bool) → is_beyond above a.y ≡ s → is_beyond above b.y ≡ s

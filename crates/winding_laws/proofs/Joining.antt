@@ -55,13 +55,13 @@ unfolding cross side_by
 area_seen q a m b =
     ring (a.x ∷ a.y ∷ a.d ∷ m.x ∷ m.y ∷ m.d ∷ b.x ∷ b.y ∷ b.d ∷ q.x ∷ q.y ∷ q.d ∷ [])
     ((((v3 ⊗ v11 ⊖ v9 ⊗ v5) ⊗ (v7 ⊗ v11 ⊖ v10 ⊗ v8) ⊖ (v4 ⊗ v11 ⊖ v10 ⊗ v5)
-        ⊗ (v6 ⊗ v11 ⊖ v9 ⊗ v8)) ⊗ (v2 ⊗ v11)
+    ⊗ (v6 ⊗ v11 ⊖ v9 ⊗ v8)) ⊗ (v2 ⊗ v11)
     ⊕ (((v6 ⊗ v11 ⊖ v9 ⊗ v8) ⊗ (v1 ⊗ v11 ⊖ v10 ⊗ v2) ⊖ (v7 ⊗ v11 ⊖ v10 ⊗ v8)
-        ⊗ (v0 ⊗ v11 ⊖ v9 ⊗ v2)) ⊗ (v5 ⊗ v11)
+    ⊗ (v0 ⊗ v11 ⊖ v9 ⊗ v2)) ⊗ (v5 ⊗ v11)
     ⊕ ((v0 ⊗ v11 ⊖ v9 ⊗ v2) ⊗ (v4 ⊗ v11 ⊖ v10 ⊗ v5) ⊖ (v1 ⊗ v11 ⊖ v10 ⊗ v2)
-        ⊗ (v3 ⊗ v11 ⊖ v9 ⊗ v5)) ⊗ (v8 ⊗ v11))) ⊗ v2)
+    ⊗ (v3 ⊗ v11 ⊖ v9 ⊗ v5)) ⊗ (v8 ⊗ v11))) ⊗ v2)
     (((v6 ⊗ v2 ⊖ v0 ⊗ v8) ⊗ (v4 ⊗ v2 ⊖ v1 ⊗ v5) ⊖ (v7 ⊗ v2 ⊖ v1 ⊗ v8)
-        ⊗ (v3 ⊗ v2 ⊖ v0 ⊗ v5)) ⊗
+    ⊗ (v3 ⊗ v2 ⊖ v0 ⊗ v5)) ⊗
     (num (pos 0) ⊖ v11 ⊗ (v11 ⊗ v11))) refl
 
 by_triangle : (am mb ba ab : ℤ) → am +ℤ (mb +ℤ ba) ≡ pos 0 → ba ≡ pos 0 -ℤ ab → am +ℤ mb ≡ ab
@@ -74,7 +74,7 @@ turned_area a b c h =
     ring (a.x ∷ a.y ∷ a.d ∷ b.x ∷ b.y ∷ b.d ∷ c.x ∷ c.y ∷ c.d ∷ [])
     ((v6 ⊗ v4 ⊖ v7 ⊗ v3) ⊗ v2 ⊕ ((v3 ⊗ v1 ⊖ v4 ⊗ v0) ⊗ v8 ⊕ (v0 ⊗ v7 ⊖ v1 ⊗ v6) ⊗ v5))
     (num (pos 0) ⊖ ((v3 ⊗ v7 ⊖ v4 ⊗ v6) ⊗ v2
-        ⊕ ((v6 ⊗ v1 ⊖ v7 ⊗ v0) ⊗ v5 ⊕ (v0 ⊗ v4 ⊖ v1 ⊗ v3) ⊗ v8))) refl
+    ⊕ ((v6 ⊗ v1 ⊖ v7 ⊗ v0) ⊗ v5 ⊕ (v0 ⊗ v4 ⊖ v1 ⊗ v3) ⊗ v8))) refl
     ∙ ap (λ (s : ℤ). pos 0 -ℤ s) h
 
 -- three points on one line, in whatever order
@@ -91,7 +91,7 @@ line_turn above right q a m b dq da dm db h =
     let none : cross sm sb *ℤ sa.d +ℤ (cross sb sa *ℤ sm.d +ℤ cross sa sm *ℤ sb.d) ≡ pos 0 =
     zero_factor (cross sm sb *ℤ sa.d +ℤ (cross sb sa *ℤ sm.d +ℤ cross sa sm *ℤ sb.d)) a.d da
     (area_seen q a m b ∙ ap (λ (s : ℤ). s *ℤ (pos 0 -ℤ q.d *ℤ (q.d *ℤ q.d))) h
-        ∙ zero-*ℤ (pos 0 -ℤ q.d *ℤ (q.d *ℤ q.d)))
+    ∙ zero-*ℤ (pos 0 -ℤ q.d *ℤ (q.d *ℤ q.d)))
     in
     ap₂ (λ (s t : ℤ). s +ℤ t) (turn_seen above right q a m dq da) (turn_seen above right q m b dq dm)
     ∙ by_triangle (swing above right sa sm) (swing above right sm sb) (swing above right sb sa)

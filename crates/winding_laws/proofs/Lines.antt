@@ -208,5 +208,5 @@ lines_are_all a m b p da dm db e o =
     (λ level. either_exchanged a m b p
     (tilted (exchanged a) (exchanged m) (exchanged b) (exchanged p) da dm db
     (side_exchanged a b m ∙ ap (λ (z : ℤ). pos 0 -ℤ z) e)
-        (on_exchanged (exchanged a) (exchanged b) (exchanged p) o)
+    (on_exchanged (exchanged a) (exchanged b) (exchanged p) o)
     (λ same. inl (on_exchanged (exchanged a) (exchanged m) (exchanged p) (at_one a m b p da db level same o)))))

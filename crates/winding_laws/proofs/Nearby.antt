@@ -25,7 +25,7 @@ near_on r s t sum p m b dp dm db h g =
     (weight b.d m.d p.d) (holds_scaled s (seen_from m b) p.d (at_most_of_less (pos 0) p.d dp) g) in
     holds_left t (seen_from p b) m.d dm
     (holds_as t (record { x = first.x +ℤ second.x; y = first.y +ℤ second.y; d = first.d })
-        (scaled (seen_from p b) m.d)
+    (scaled (seen_from p b) m.d)
     (one_axis p.x p.d m.x m.d b.x b.d) (one_axis p.y p.d m.y m.d b.y b.d) (all_weight b.d m.d p.d)
     (sum.each first.x first.y second.x second.y first.d a c))
   where

@@ -60,10 +60,10 @@ module _ (region : List HalfPlane) (above right : Bool) (c q p : Point) (dc : po
         l_positive = omega (arith, ints);
         x = axis_seen x.x x.d p.x p.d q.x q.d ∙ sym
             (mul-one ((x.x *ℤ q.d -ℤ q.x *ℤ x.d) *ℤ (p.d *ℤ q.d) -ℤ (p.x *ℤ q.d -ℤ q.x *ℤ p.d) *ℤ
-                (x.d *ℤ q.d)));
+            (x.d *ℤ q.d)));
         y = axis_seen x.y x.d p.y p.d q.y q.d ∙ sym
             (mul-one ((x.y *ℤ q.d -ℤ q.y *ℤ x.d) *ℤ (p.d *ℤ q.d) -ℤ (p.y *ℤ q.d -ℤ q.y *ℤ p.d) *ℤ
-                (x.d *ℤ q.d)));
+            (x.d *ℤ q.d)));
       }
 
   -- ---- where they are two points
@@ -115,7 +115,7 @@ module _ (region : List HalfPlane) (above right : Bool) (c q p : Point) (dc : po
           → (x *ℤ e -ℤ y *ℤ d) *ℤ f ≡ (x *ℤ f -ℤ z *ℤ d) *ℤ e
       one_axis x d y e z f h =
           ring (x ∷ d ∷ y ∷ e ∷ f ∷ []) ((v0 ⊗ v3 ⊖ v2 ⊗ v1) ⊗ v4)
-              ((v0 ⊗ v4) ⊗ v3 ⊖ (v2 ⊗ v4) ⊗ v1) refl
+          ((v0 ⊗ v4) ⊗ v3 ⊖ (v2 ⊗ v4) ⊗ v1) refl
           ∙ ap (λ (u : ℤ). (x *ℤ f) *ℤ e -ℤ u *ℤ d) (equal_of_gap (y *ℤ f) (z *ℤ e) h)
           ∙ ring (x ∷ d ∷ e ∷ z ∷ f ∷ []) ((v0 ⊗ v4) ⊗ v2 ⊖ (v3 ⊗ v2) ⊗ v1)
           ((v0 ⊗ v4 ⊖ v3 ⊗ v1) ⊗ v2) refl

@@ -62,7 +62,7 @@ through k l m u v s t f g x y p q r hp hq hr =
     ∙ ap₂ (λ (y z : ℤ). (l *ℤ u) *ℤ y +ℤ (k *ℤ v) *ℤ z) hp hq
     ∙ ring (k ∷ l ∷ u ∷ v ∷ s ∷ t ∷ f ∷ g ∷ x ∷ y ∷ [])
     ((v1 ⊗ v2) ⊗ (v4 ⊗ v8 ⊕ v5 ⊗ v9) ⊕ (v0 ⊗ v3) ⊗ (v6 ⊗ v8 ⊕ v7 ⊗ v9))
-        ((v4 ⊗ (v1 ⊗ v2) ⊕ v6 ⊗ (v0 ⊗ v3)) ⊗ v8 ⊕
+    ((v4 ⊗ (v1 ⊗ v2) ⊕ v6 ⊗ (v0 ⊗ v3)) ⊗ v8 ⊕
     (v5 ⊗ (v1 ⊗ v2) ⊕ v7 ⊗ (v0 ⊗ v3)) ⊗ v9) refl
 
 -- their weights have a sum above 0
@@ -73,7 +73,7 @@ some_through k l u v s t f g kp lp hu hv o st fg =
     let same : (s *ℤ (l *ℤ u) +ℤ f *ℤ (k *ℤ v)) +ℤ (t *ℤ (l *ℤ u) +ℤ g *ℤ (k *ℤ v)) ≡ ((s +ℤ t) *ℤ l) *ℤ u +ℤ
     ((f +ℤ g) *ℤ k) *ℤ v =
     ring (k ∷ l ∷ u ∷ v ∷ s ∷ t ∷ f ∷ g ∷ [])
-        ((v4 ⊗ (v1 ⊗ v2) ⊕ v6 ⊗ (v0 ⊗ v3)) ⊕ (v5 ⊗ (v1 ⊗ v2) ⊕ v7 ⊗ (v0 ⊗ v3)))
+    ((v4 ⊗ (v1 ⊗ v2) ⊕ v6 ⊗ (v0 ⊗ v3)) ⊕ (v5 ⊗ (v1 ⊗ v2) ⊕ v7 ⊗ (v0 ⊗ v3)))
     (((v4 ⊕ v5) ⊗ v1) ⊗ v2 ⊕ ((v6 ⊕ v7) ⊗ v0) ⊗ v3) refl in
     let m : pos 0 <ℤ ((s +ℤ t) *ℤ l) = positive_product (s +ℤ t) l st lp in
     let n : pos 0 <ℤ ((f +ℤ g) *ℤ k) = positive_product (f +ℤ g) k fg kp in

@@ -129,7 +129,7 @@ mean_seen q a b s t =
         *ℤ (s *ℤ d +ℤ t *ℤ e)
     one_axis s t x d y e z f =
         ring (s ∷ t ∷ x ∷ d ∷ y ∷ e ∷ z ∷ f ∷ [])
-            (v0 ⊗ (v2 ⊗ v7 ⊖ v6 ⊗ v3) ⊕ v1 ⊗ (v4 ⊗ v7 ⊖ v6 ⊗ v5))
+        (v0 ⊗ (v2 ⊗ v7 ⊖ v6 ⊗ v3) ⊕ v1 ⊗ (v4 ⊗ v7 ⊖ v6 ⊗ v5))
         ((v0 ⊗ v2 ⊕ v1 ⊗ v4) ⊗ v7 ⊖ v6 ⊗ (v0 ⊗ v3 ⊕ v1 ⊗ v5)) refl
 
     weights : (s t d e f : ℤ) → s *ℤ (d *ℤ f) +ℤ t *ℤ (e *ℤ f) ≡ (s *ℤ d +ℤ t *ℤ e) *ℤ f

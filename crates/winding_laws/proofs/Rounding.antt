@@ -66,7 +66,7 @@ gap_sum : (n w r s : ℤ) → (pos 2 *ℤ n +ℤ w -ℤ pos 2 *ℤ w *ℤ r) +�
 gap_sum n w r s =
     ring (n ∷ w ∷ r ∷ s ∷ []) ((num (pos 2) ⊗ v0 ⊕ v1 ⊖ num (pos 2) ⊗ v1 ⊗ v2) ⊕
     (num (pos 2) ⊗ v1 ⊗ v3 ⊖ (num (pos 2) ⊗ v0 ⊖ v1))) ((v3 ⊖ v2 ⊕ num (pos 1)) ⊗ (num (pos 2) ⊗ v1))
-        refl
+    refl
 
 double : (z : ℤ) → pos 0 <ℤ z → pos 0 <ℤ (pos 2 *ℤ z)
 double z h = omega (arith, ints)
@@ -86,11 +86,11 @@ nearest_order n d r m e s dp ep h a b =
     b.above in
     let f : pos 0 <ℤ (pos 2 *ℤ (n *ℤ e) +ℤ d *ℤ e -ℤ pos 2 *ℤ (d *ℤ e) *ℤ r) =
     subst (λ (z : ℤ). pos 0 <ℤ z) (first_scaled n d r e)
-        (positive_product (pos 2 *ℤ n +ℤ d -ℤ pos 2 *ℤ d *ℤ r) e below
+    (positive_product (pos 2 *ℤ n +ℤ d -ℤ pos 2 *ℤ d *ℤ r) e below
     ep) in
     let g : pos 0 ≤ℤ (pos 2 *ℤ (d *ℤ e) *ℤ s -ℤ (pos 2 *ℤ (m *ℤ d) -ℤ d *ℤ e)) =
     subst (λ (z : ℤ). pos 0 ≤ℤ z) (second_scaled m e s d)
-        (at_least_mul (pos 2 *ℤ e *ℤ s -ℤ (pos 2 *ℤ m -ℤ e)) d above
+    (at_least_mul (pos 2 *ℤ e *ℤ s -ℤ (pos 2 *ℤ m -ℤ e)) d above
     (at_most_of_less (pos 0) d dp)) in
     let k : pos 0 ≤ℤ (pos 2 *ℤ (d *ℤ e) *ℤ s -ℤ (pos 2 *ℤ (n *ℤ e) -ℤ d *ℤ e)) =
     subst (λ (z : ℤ). pos 0 ≤ℤ (pos 2 *ℤ (d *ℤ e) *ℤ s -ℤ (pos 2 *ℤ z -ℤ d *ℤ e))) (sym h) g in
@@ -98,7 +98,7 @@ nearest_order n d r m e s dp ep h a b =
     (pos_left (s -ℤ r +ℤ pos 1) (pos 2 *ℤ (d *ℤ e)) (double (d *ℤ e) (positive_product d e dp ep))
     (sum_positive (pos 2 *ℤ (n *ℤ e) +ℤ d *ℤ e -ℤ pos 2 *ℤ (d *ℤ e) *ℤ r)
     (pos 2 *ℤ (d *ℤ e) *ℤ s -ℤ (pos 2 *ℤ (n *ℤ e) -ℤ d *ℤ e))
-        ((s -ℤ r +ℤ pos 1) *ℤ (pos 2 *ℤ (d *ℤ e)))
+    ((s -ℤ r +ℤ pos 1) *ℤ (pos 2 *ℤ (d *ℤ e)))
     f k (gap_sum (n *ℤ e) (d *ℤ e) r s)))
 
 one_nearest : (n d m e : ℤ) → pos 0 <ℤ d → pos 0 <ℤ e → n *ℤ e ≡ m *ℤ d

@@ -74,7 +74,7 @@ pub one_axis : (x d y e z f : ℤ) → x *ℤ e ≡ y *ℤ d
     → (x *ℤ f -ℤ z *ℤ d) *ℤ e ≡ (y *ℤ f -ℤ z *ℤ e) *ℤ d
 one_axis x d y e z f h =
     ring (x ∷ d ∷ e ∷ z ∷ f ∷ []) ((v0 ⊗ v4 ⊖ v3 ⊗ v1) ⊗ v2)
-        ((v0 ⊗ v2) ⊗ v4 ⊖ (v3 ⊗ v1) ⊗ v2) refl
+    ((v0 ⊗ v2) ⊗ v4 ⊖ (v3 ⊗ v1) ⊗ v2) refl
     ∙ ap (λ (s : ℤ). s *ℤ f -ℤ (z *ℤ d) *ℤ e) h
     ∙ ring (y ∷ d ∷ e ∷ z ∷ f ∷ []) ((v0 ⊗ v1) ⊗ v4 ⊖ (v3 ⊗ v1) ⊗ v2)
     ((v0 ⊗ v4 ⊖ v3 ⊗ v2) ⊗ v1) refl

@@ -66,7 +66,7 @@ heights_turned : (x p q r y z : ℤ) → x *ℤ p +ℤ (q *ℤ y +ℤ r *ℤ z) 
     → x *ℤ (pos 0 -ℤ p) +ℤ ((pos 0 -ℤ q) *ℤ y +ℤ (pos 0 -ℤ r) *ℤ z) ≡ pos 0
 heights_turned x p q r y z e =
     ring (x ∷ p ∷ q ∷ r ∷ y ∷ z ∷ [])
-        (v0 ⊗ (num (pos 0) ⊖ v1) ⊕ ((num (pos 0) ⊖ v2) ⊗ v4 ⊕ (num (pos 0) ⊖ v3) ⊗ v5))
+    (v0 ⊗ (num (pos 0) ⊖ v1) ⊕ ((num (pos 0) ⊖ v2) ⊗ v4 ⊕ (num (pos 0) ⊖ v3) ⊗ v5))
     (num (pos 0) ⊖ (v0 ⊗ v1 ⊕ (v2 ⊗ v4 ⊕ v3 ⊗ v5))) refl
     ∙ ap (λ (s : ℤ). pos 0 -ℤ s) e
 
@@ -74,7 +74,7 @@ crosses_turned : (x p q r y z : ℤ) → x *ℤ p +ℤ (q *ℤ y +ℤ r *ℤ z) 
     → (pos 0 -ℤ x) *ℤ p +ℤ (q *ℤ (pos 0 -ℤ y) +ℤ r *ℤ (pos 0 -ℤ z)) ≡ pos 0
 crosses_turned x p q r y z e =
     ring (x ∷ p ∷ q ∷ r ∷ y ∷ z ∷ [])
-        ((num (pos 0) ⊖ v0) ⊗ v1 ⊕ (v2 ⊗ (num (pos 0) ⊖ v4) ⊕ v3 ⊗ (num (pos 0) ⊖ v5)))
+    ((num (pos 0) ⊖ v0) ⊗ v1 ⊕ (v2 ⊗ (num (pos 0) ⊖ v4) ⊕ v3 ⊗ (num (pos 0) ⊖ v5)))
     (num (pos 0) ⊖ (v0 ⊗ v1 ⊕ (v2 ⊗ v4 ⊕ v3 ⊗ v5))) refl
     ∙ ap (λ (s : ℤ). pos 0 -ℤ s) e
 
@@ -149,7 +149,7 @@ under_alone right x y z h =
     ap₂ (λ (s t : ℤ). s +ℤ t) (ap (λ (w : ℤ). if is_beyond right w then pos 1 else pos 0) (one-mul z) ∙ ap
     (λ (b : Bool). if b then pos 1 else pos 0) h)
     (ap₂ (λ (s t : ℤ). s +ℤ t) (flat right true x)
-        (ap (λ (w : ℤ). if is_beyond right w then negsuc 0 else pos 0)
+    (ap (λ (w : ℤ). if is_beyond right w then negsuc 0 else pos 0)
     (minus_mul y)))
     ∙ up_and_down (is_beyond right (pos 0 -ℤ y))
 
@@ -158,7 +158,7 @@ over_alone : (right : Bool) (x y z : ℤ) → is_beyond right y ≡ is_beyond ri
 over_alone right x y z h =
     ap₂ (λ (s t : ℤ). s +ℤ t) (ap (λ (w : ℤ). if is_beyond right w then negsuc 0 else pos 0) (minus_mul z))
     (ap₂ (λ (s t : ℤ). s +ℤ t) (flat right false x)
-        (ap (λ (w : ℤ). if is_beyond right w then pos 1 else pos 0)
+    (ap (λ (w : ℤ). if is_beyond right w then pos 1 else pos 0)
     (one-mul y) ∙ ap (λ (b : Bool). if b then pos 1 else pos 0) h))
     ∙ down_and_up (is_beyond right (pos 0 -ℤ z))
 
@@ -196,7 +196,7 @@ unfolding cross
 corners_sum a b c =
     ring (a.x ∷ a.y ∷ b.x ∷ b.y ∷ c.x ∷ c.y ∷ [])
     ((v2 ⊗ v5 ⊖ v3 ⊗ v4) ⊗ v1 ⊕ (v3 ⊗ (v4 ⊗ v1 ⊖ v5 ⊗ v0) ⊕ v5 ⊗ (v0 ⊗ v3 ⊖ v1 ⊗ v2)))
-        (num (pos 0)) refl
+    (num (pos 0)) refl
 
 -- the corners read the other way round
 not_turned : (a b c : Point) → ¬ IsRound a c b → cross b c ≤ℤ pos 0 → cross c a ≤ℤ pos 0
@@ -263,7 +263,7 @@ under_first above right a b c n m ha hb hc =
           (sum_swapped x y z) o;
     }))
     (λ hx hz hy o. not_turned a b c m hx hy hz
-        (negative_as (x +ℤ (z +ℤ y)) (x +ℤ (y +ℤ z)) (sum_swapped x y z) o))
+    (negative_as (x +ℤ (z +ℤ y)) (x +ℤ (y +ℤ z)) (sum_swapped x y z) o))
     (inr (apart_swapped (pos 0 -ℤ a.y) (pos 0 -ℤ b.y) (pos 0 -ℤ c.y) (apart_under above a.y b.y c.y ha hb hc)))
     (swap_heights x a.y b.y c.y y z (corners_sum a b c)) right))
 

@@ -53,9 +53,9 @@ unfolding side_by cross
 side_seen q a b =
     ring (a.x ∷ a.y ∷ a.d ∷ b.x ∷ b.y ∷ b.d ∷ q.x ∷ q.y ∷ q.d ∷ [])
     (((v3 ⊗ v2 ⊖ v0 ⊗ v5) ⊗ (v7 ⊗ v2 ⊖ v1 ⊗ v8) ⊖ (v4 ⊗ v2 ⊖ v1 ⊗ v5)
-        ⊗ (v6 ⊗ v2 ⊖ v0 ⊗ v8)) ⊗ v8)
+    ⊗ (v6 ⊗ v2 ⊖ v0 ⊗ v8)) ⊗ v8)
     (((v0 ⊗ v8 ⊖ v6 ⊗ v2) ⊗ (v4 ⊗ v8 ⊖ v7 ⊗ v5) ⊖ (v1 ⊗ v8 ⊖ v7 ⊗ v2)
-        ⊗ (v3 ⊗ v8 ⊖ v6 ⊗ v5)) ⊗ v2) refl
+    ⊗ (v3 ⊗ v8 ⊖ v6 ⊗ v5)) ⊗ v2) refl
 
 -- tests of a product, where both its second factors have one sign
 pub same_sign : (right : Bool) (p x y k l : ℤ) → pos 0 <ℤ k → pos 0 <ℤ l → x *ℤ k ≡ y *ℤ l
@@ -94,7 +94,7 @@ choice_turned false c d = refl
 swing_by-turned : (right s t : Bool) (z : ℤ) → swing_by right t s (pos 0 -ℤ z) ≡ pos 0 -ℤ swing_by right s t z
 swing_by-turned right s t z =
     ap (λ (y : ℤ). if is_beyond right y then counted s -ℤ counted t else pos 0)
-        (both_turned (counted t) (counted s) z)
+    (both_turned (counted t) (counted s) z)
     ∙ choice_turned (is_beyond right ((counted t -ℤ counted s) *ℤ z)) (counted t) (counted s)
 
 pub swing_turned : (above right : Bool) (a b : Point) → swing above right b a ≡ pos 0 -ℤ swing above right a b
@@ -122,7 +122,7 @@ cross_along : (a b c : Point) (h : IsAlong a b) → cross a c *ℤ h.k ≡ cross
 unfolding cross
 cross_along a b c h =
     ring (a.x ∷ a.y ∷ c.x ∷ c.y ∷ h.k ∷ []) ((v0 ⊗ v3 ⊖ v1 ⊗ v2) ⊗ v4)
-        ((v0 ⊗ v4) ⊗ v3 ⊖ (v1 ⊗ v4) ⊗ v2) refl
+    ((v0 ⊗ v4) ⊗ v3 ⊖ (v1 ⊗ v4) ⊗ v2) refl
     ∙ ap₂ (λ (y z : ℤ). y *ℤ c.y -ℤ z *ℤ c.x) h.x h.y
     ∙ ring (b.x ∷ b.y ∷ c.x ∷ c.y ∷ h.l ∷ []) ((v0 ⊗ v4) ⊗ v3 ⊖ (v1 ⊗ v4) ⊗ v2)
     ((v0 ⊗ v3 ⊖ v1 ⊗ v2) ⊗ v4) refl

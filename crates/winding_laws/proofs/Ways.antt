@@ -111,7 +111,7 @@ way_holds_origin d =
     (at_most_as _ _ _ _ refl (ring (d.x ∷ d.y ∷ []) (num (pos 0) ⊗ v0 ⊕ num (pos 0) ⊗ v1) (num (pos 0)) refl)
     (omega (arith, ints)))
     (at_most_as _ _ _ _ (ring (d.x ∷ d.y ∷ d.d ∷ []) ((num (pos 0) ⊗ v0 ⊕ num (pos 0) ⊗ v1) ⊗ v2)
-        (num (pos 0)) refl)
+    (num (pos 0)) refl)
     (mul-one (length d)) (length_at_least d))
 
 way_holds_end : (d : Point) → Holds (way d) d
@@ -143,7 +143,7 @@ module _ (region : List HalfPlane) (c d o : Point) (ox : o.x ≡ pos 0) (oy : o.
   place_x : (d p : Point) → off d p ≡ pos 0 → length d *ℤ p.x ≡ along d p *ℤ d.x
   place_x d p h =
       ring (d.x ∷ d.y ∷ p.x ∷ p.y ∷ []) ((v0 ⊗ v0 ⊕ v1 ⊗ v1) ⊗ v2)
-          ((v2 ⊗ v0 ⊕ v3 ⊗ v1) ⊗ v0 ⊕ v1 ⊗ (v2 ⊗ v1 ⊖ v3 ⊗ v0))
+      ((v2 ⊗ v0 ⊕ v3 ⊗ v1) ⊗ v0 ⊕ v1 ⊗ (v2 ⊗ v1 ⊖ v3 ⊗ v0))
       refl
       ∙ ap (λ (z : ℤ). along d p *ℤ d.x +ℤ d.y *ℤ z) h
       ∙ ring ((along d p *ℤ d.x) ∷ d.y ∷ []) (v0 ⊕ v1 ⊗ num (pos 0)) v0 refl
@@ -151,7 +151,7 @@ module _ (region : List HalfPlane) (c d o : Point) (ox : o.x ≡ pos 0) (oy : o.
   place_y : (d p : Point) → off d p ≡ pos 0 → length d *ℤ p.y ≡ along d p *ℤ d.y
   place_y d p h =
       ring (d.x ∷ d.y ∷ p.x ∷ p.y ∷ []) ((v0 ⊗ v0 ⊕ v1 ⊗ v1) ⊗ v3)
-          ((v2 ⊗ v0 ⊕ v3 ⊗ v1) ⊗ v1 ⊖ v0 ⊗ (v2 ⊗ v1 ⊖ v3 ⊗ v0))
+      ((v2 ⊗ v0 ⊕ v3 ⊗ v1) ⊗ v1 ⊖ v0 ⊗ (v2 ⊗ v1 ⊖ v3 ⊗ v0))
       refl
       ∙ ap (λ (z : ℤ). along d p *ℤ d.y -ℤ d.x *ℤ z) h
       ∙ ring ((along d p *ℤ d.y) ∷ d.x ∷ []) (v0 ⊖ v1 ⊗ num (pos 0)) v0 refl
@@ -161,7 +161,7 @@ module _ (region : List HalfPlane) (c d o : Point) (ox : o.x ≡ pos 0) (oy : o.
       ≡ (x *ℤ k -ℤ w *ℤ m) *ℤ (f *ℤ n)
   one_axis n m g e k z w x y f hz hx =
       ap (λ (u : ℤ). (u *ℤ k -ℤ w *ℤ f) *ℤ (n *ℤ m -ℤ g *ℤ e) +ℤ (y *ℤ k -ℤ w *ℤ e) *ℤ
-          (g *ℤ f)) hz
+      (g *ℤ f)) hz
       ∙ ring (n ∷ m ∷ g ∷ e ∷ k ∷ w ∷ y ∷ f ∷ [])
       ((num (pos 0) ⊗ v4 ⊖ v5 ⊗ v7) ⊗ (v0 ⊗ v1 ⊖ v2 ⊗ v3) ⊕
       (v6 ⊗ v4 ⊖ v5 ⊗ v3) ⊗ (v2 ⊗ v7)) ((v2 ⊗ v6) ⊗ (v4 ⊗ v7) ⊖ (v5 ⊗ v1) ⊗ (v7 ⊗ v0)) refl

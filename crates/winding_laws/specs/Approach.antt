@@ -36,7 +36,7 @@ pub record HasAmid (n : ℤ) (a b p : Point) : Type 0 where
 abbrev pub PointsFollow : Type 0
 PointsFollow =
     (region : List HalfPlane) (a b c d p : Point) → IsPoint a → IsPoint b → IsPoint c → IsPoint d → IsPoint p
-        → IsNear region c a → IsNear region d b
+    → IsNear region c a → IsNear region d b
     → IsOn c d p → HasNear region a b p
 
 -- Of three points on one line, in whatever order, each point between the first and the last lies between the first and

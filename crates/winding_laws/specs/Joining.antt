@@ -22,13 +22,13 @@ OrderKeepsWinding = (ss ts : List Segment) → IsPermutation ss ts → (above ri
 abbrev pub JoiningKeepsBalance : Type 0
 JoiningKeepsBalance =
     (s t : Segment) (ss : List Segment) → IsProper s → IsProper t → is_same_point s.to t.from ≡ true
-        → IsBalanced (s ∷ (t ∷ ss)) → IsBalanced (joined s t ∷ ss)
+    → IsBalanced (s ∷ (t ∷ ss)) → IsBalanced (joined s t ∷ ss)
 
 -- Where they lie on one line it winds as the two, hard by each point.
 abbrev pub JoiningKeepsWinding : Type 0
 JoiningKeepsWinding =
     (s t : Segment) (ss : List Segment) → IsProper s → IsProper t → is_same_point s.to t.from ≡ true
-        → side_by s.to s.from t.to ≡ pos 0
+    → side_by s.to s.from t.to ≡ pos 0
     → (above right : Bool) (q : Point) → IsPoint q
     → wind_by above right q (joined s t ∷ ss) ≡ wind_by above right q (s ∷ (t ∷ ss))
 
@@ -36,10 +36,10 @@ JoiningKeepsWinding =
 abbrev pub CancellingKeepsBalance : Type 0
 CancellingKeepsBalance =
     (edges left pairs : List Edge) → IsPermutation edges (left ++ (pairs ++ map turned pairs))
-        → IsBalanced (segments edges) → IsBalanced (segments left)
+    → IsBalanced (segments edges) → IsBalanced (segments left)
 
 abbrev pub CancellingKeepsWinding : Type 0
 CancellingKeepsWinding =
     (edges left pairs : List Edge) → IsPermutation edges (left ++ (pairs ++ map turned pairs))
-        → (above right : Bool) (q : Point) → IsPoint q
+    → (above right : Bool) (q : Point) → IsPoint q
     → wind_by above right q (segments left) ≡ wind_by above right q (segments edges)

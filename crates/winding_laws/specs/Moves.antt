@@ -34,6 +34,6 @@ MovesKeepBalance = (r : Point → Point) → IsMove r → (ss : List Segment) �
 abbrev pub MovesKeepWinding : Type 0
 MovesKeepWinding =
     (region : List HalfPlane) → HoldsOrigin region → (above right : Bool) (q : Point) → IsPoint q
-        → (r : Point → Point) → MovesWithin region r
+    → (r : Point → Point) → MovesWithin region r
     → (ss : List Segment) → IsBalanced ss → All (IsFarSegment region q) ss
     → wind_by above right q (map (moved r) ss) ≡ wind_by above right q ss

@@ -13,7 +13,7 @@ use Rattle.winding_laws.specs.Nearness.{IsPoint, IsNear, IsFarSegment, IsClearSe
 abbrev pub RegionsHaveOneWinding : Type 0
 RegionsHaveOneWinding =
     (region : List HalfPlane) (above right : Bool) (c q p : Point) → IsPoint c → IsPoint q → IsPoint p
-        → IsNear region c q → IsNear region c p
+    → IsNear region c q → IsNear region c p
     → (ss : List Segment) → IsBalanced ss → All (IsFarSegment region c) ss
     → wind_by above right p ss ≡ wind_by above right q ss
 
@@ -21,7 +21,7 @@ RegionsHaveOneWinding =
 abbrev pub SquaresHaveOneWinding : Type 0
 SquaresHaveOneWinding =
     (h : ℤ) (above right : Bool) (c q p : Point) → IsPoint c → IsPoint q → IsPoint p → IsClose h c q
-        → IsClose h c p
+    → IsClose h c p
     → (ss : List Segment) → IsBalanced ss → All (IsClearSegment h c) ss
     → wind_by above right p ss ≡ wind_by above right q ss
 
@@ -29,5 +29,5 @@ SquaresHaveOneWinding =
 abbrev pub FormsWindAlike : Type 0
 FormsWindAlike =
     (region : List HalfPlane) → HoldsOrigin region → (above right : Bool) (q : Point) → IsPoint q
-        → (ss : List Segment) → IsBalanced ss → All (IsFarSegment region q) ss
+    → (ss : List Segment) → IsBalanced ss → All (IsFarSegment region q) ss
     → wind_by above right q ss ≡ wind q ss

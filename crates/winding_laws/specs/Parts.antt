@@ -42,12 +42,12 @@ pub record PartsAreClear : Type 0 where
 abbrev pub MovesStayFar : Type 0
 MovesStayFar =
     (r s t : List HalfPlane) → AddUp r s t → (q a b c d : Point) → IsPoint q → IsPoint a → IsPoint b
-        → IsPoint c → IsPoint d
+    → IsPoint c → IsPoint d
     → IsFar t q a b → IsNear s c a → IsNear s d b → IsFar r q c d
 
 -- Where they are moved by at most k halves along each axis, what was clear of it by h + k halves stays clear by h.
 abbrev pub MovesStayClear : Type 0
 MovesStayClear =
     (h k : ℤ) (q a b c d : Point) → IsPoint q → IsPoint a → IsPoint b → IsPoint c → IsPoint d
-        → IsClear (h +ℤ k) q a b
+    → IsClear (h +ℤ k) q a b
     → IsClose k c a → IsClose k d b → IsClear h q c d

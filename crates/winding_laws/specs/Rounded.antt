@@ -25,7 +25,7 @@ RoundingKeepsBalance = (ss : List Segment) → All IsProper ss → IsBalanced ss
 abbrev pub RoundingKeepsWinding : Type 0
 RoundingKeepsWinding =
     (above right : Bool) (q : Point) → IsPoint q → (ss : List Segment) → IsBalanced ss
-        → All (IsClearSegment (pos 1) q) ss
+    → All (IsClearSegment (pos 1) q) ss
     → wind_by above right q (segments (map rounded_edge ss)) ≡ wind_by above right q ss
 
 -- Edges whose ends coincide may be left out.

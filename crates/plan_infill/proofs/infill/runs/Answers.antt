@@ -15,8 +15,8 @@ use Rattle.plan_infill.proofs.infill.runs.Goals as goal
 pub steps_of-requires-clause-edges : goal.steps_of-requires-clause-edges
 steps_of-requires-clause-edges c =
     subst (λ (es : List Edge). All (IsEdgeWithin coordinate_limit) es)
-        (sym (c.deref.ensures.value ∙ c.in_ok-sides.ensures))
-        (outlines_within coordinate_limit c.args.outlines.now c.requires.within)
+    (sym (c.deref.ensures.value ∙ c.in_ok-sides.ensures))
+    (outlines_within coordinate_limit c.args.outlines.now c.requires.within)
 
 steps_are : (c : goal.After-deref-2) → AreSteps c.args.c c.args.line (flat_map sides c.args.outlines.now)
     c.in_ok-steps.steps.items
@@ -43,5 +43,5 @@ returns c =
     subst (λ (ss : List Step). IsPermutation c.in_ok-steps.steps.items ss) (sym c.deref-2.ensures.value) c.in_ok-sort.ensures.permutation in
     IfOk-weaker c.stretches.result _ _
     (λ v s. all_runs c.args.c c.args.line c.args.outlines.now c.in_ok-steps.steps.items c.deref-2.result.now k p
-        c.args.least v.items s)
+    c.args.least v.items s)
     c.stretches.ensures

@@ -9,5 +9,5 @@ use Rattle.plan_infill.proofs.infill.sort.Goals as goal
 pub returns-clause-order : goal.returns-clause-order
 returns-clause-order c = on_ok_weaker c.sort_by.result
     (λ s. in_order c.sort_by.new.self.items
-        (s comes_before place_order (answers_always _ _ _ (λ f a r g h. search (rules, is_lt-int_cmp)))))
+    (s comes_before place_order (answers_always _ _ _ (λ f a r g h. search (rules, is_lt-int_cmp)))))
     c.sort_by.ensures.sorted

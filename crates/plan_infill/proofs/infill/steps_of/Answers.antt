@@ -16,7 +16,7 @@ sides-preserved c more k =
     let t = c.in_ok-push_turn_steps.ensures in
     let n = c.in_ok-push_near_steps.ensures in
     one_more c.args.c c.args.line c.args.sides.now c.sides.side-index _ c.sides.steps.items
-        c.push_turn_steps.new.steps.items c.push_near_steps.new.steps.items t.0 n.0
+    c.push_turn_steps.new.steps.items c.push_near_steps.new.steps.items t.0 n.0
     c.sides-test.true c.sides.invariant t.1 t.2 n.1 n.2 more k
 
 pub returns : goal.returns

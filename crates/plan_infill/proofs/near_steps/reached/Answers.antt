@@ -19,7 +19,7 @@ returns-then-rise-gt0 c =
     let l = subst (λ (y : ℤ). AreThose (IsBesideLine c.args.c y c.args.e.now) c.reached_by_line.result)
     (to_z-of_z w32 c.args.y c.ranges.y) c.reached_by_line.ensures in
     both_reached c.args.c c.args.y c.args.e.now c.reached_by_ends-by_ends.result c.reached_by_line.result c.both.result
-        h
+    h
     e l p q
 
 pub returns-else-rise-gt0 : goal.returns-else-rise-gt0

@@ -22,7 +22,7 @@ returns c x =
     let w = line_those c.args.c c.args.y c.args.e.now c.floor.result c.ceiling.result c.requires.rises f u x in
     let v : ((c.plus.result ≤ℤ x) × (x <ℤ c.ceiling.result)) ↔ IsBesideLine c.args.c c.args.y c.args.e.now x
     = subst (λ (z : ℤ). ((z ≤ℤ x) × (x <ℤ c.ceiling.result))
-        ↔ IsBesideLine c.args.c c.args.y c.args.e.now x)
+    ↔ IsBesideLine c.args.c c.args.y c.args.e.now x)
     (sym (next c)) w in
     let p_fits : FitsSigned w128 c.plus.result = record { sfits = c.plus.type_inv } in
     let c_fits : FitsSigned w128 c.ceiling.result = record { sfits = c.ceiling.type_inv } in

@@ -10,4 +10,4 @@ returns-clause-value c =
     let d_fits = c.ranges.d in
     let q_fits : FitsSigned w128 c.div_euclid.result = record { sfits = c.div_euclid.type_inv } in
     simp to_z-of_z (floor_is c.args.n c.args.d c.div_euclid.result c.requires.divisor
-        (simp to_z-of_z at c.div_euclid.ensures))
+    (simp to_z-of_z at c.div_euclid.ensures))

@@ -51,21 +51,21 @@ steps-preserved c =
           let k = swept_last steps c.args.least c.steps.i no_step c.steps.sums.turns c.steps.sums.near sums.turns sums.near c.steps.since w.in_ok-since.since c.steps.out.items w.go_on.new.out.items
           c.requires.sorted c.requires.behind c.steps-test.true (c.is_last_there.ensures.last w.if-is_last_there.true) c.with_step-sums.ensures.turns c.with_step-sums.ensures.near es er c.steps.invariant in
           subst (λ (s : Option ℤ). Swept steps c.args.least (c.steps.i + 1) sums.turns sums.near s
-              c.if-is_last_there.out.items) (sym w.since-is)
+          c.if-is_last_there.out.items) (sym w.since-is)
           (subst (λ (rs : List Run). Swept steps c.args.least (c.steps.i + 1) sums.turns sums.near w.in_ok-since.since
-              rs) (sym (ap (λ v. v.items) w.out-is)) k)
+          rs) (sym (ap (λ v. v.items) w.out-is)) k)
       | else-is_last_there w ↦
           let sums = c.with_step-sums.result in
           let k = swept_more steps c.args.least c.steps.i no_step c.steps.sums.turns c.steps.sums.near c.with_step-sums.result.turns c.with_step-sums.result.near c.steps.since c.steps.out.items
           c.requires.sorted c.steps-test.true (c.is_last_there.ensures.more w.if-is_last_there.false) c.with_step-sums.ensures.turns c.with_step-sums.ensures.near c.steps.invariant in
           subst (λ (s : Option ℤ). Swept steps c.args.least (c.steps.i + 1) sums.turns sums.near s
-              c.if-is_last_there.out.items) (sym w.since-is)
+          c.if-is_last_there.out.items) (sym w.since-is)
           (subst (λ (rs : List Run). Swept steps c.args.least (c.steps.i + 1) sums.turns sums.near c.steps.since rs)
-              (sym (ap (λ v. v.items) w.out-is)) k)
+          (sym (ap (λ v. v.items) w.out-is)) k)
     ]
 
 pub returns : goal.returns
 returns c =
     let k = c.steps.invariant in
     all_ended (is_deep_at c.args.steps.now) c.args.least k.place c.steps.out.items (k.behind c.steps-test.false)
-        k.before
+    k.before

@@ -19,7 +19,7 @@ grown c =
     let a : c.push.new.self.items ≡ c.args.steps.now.items ++ (first c ∷ []) = search (rules, casts) in
     let b : c.push-2.new.self.items ≡ c.push.new.self.items ++ (second c ∷ []) = search (rules, casts) in
     b ∙ ap (λ (xs : List Step). xs ++ (second c ∷ [])) a
-        ∙ append_assoc c.args.steps.now.items (first c ∷ []) (second c ∷ [])
+    ∙ append_assoc c.args.steps.now.items (first c ∷ []) (second c ∷ [])
 
 pub returns : goal.returns
 unfolding first second

@@ -21,10 +21,10 @@ missing-init c = (
   call-begins (meaning c.args.depth) (env_at (envs (held c.args.m.now).frames) c.args.home)
       (along_in (held c.args.m.now)) c.args.params.now (arguments c.args.args.now) (data_in c.args.found)
       (map (λ p. parameter p.now) (into_iter_items c.into_iter-param-iterator.result))
-          (bound_in (held c.call.new.self))
+      (bound_in (held c.call.new.self))
       (state_of c.args.m.now) (state_of c.call.new.self)
       (ap (λ (l : List (Bor Param)). map (λ p. parameter p.now) l)
-          c.into_iter-param-iterator.ensures.into_iter_gives.0
+      c.into_iter-param-iterator.ensures.into_iter_gives.0
       ∙ c.in_ok-missing.ensures.missing)
       (opened-bound _ _ _ _ _ _ c.in_ok-missing.ensures.held)
       (same-state _ _ _ _ c.in_ok-missing.ensures.does),

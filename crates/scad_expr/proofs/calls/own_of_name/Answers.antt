@@ -28,6 +28,6 @@ returns-clause-goes c = λ o is.
     let items : c.push.new.self.items ≡ v ∷ [] =
     c.in_ok-push.ensures.items ∙ ap (λ (l : List Value). l ++ v ∷ []) c.new-found.ensures.items in
     c.call_own.ensures.goes o (is ∙ ap (λ (found : List Datum). and_then
-        (called_own (meaning c.args.depth) (along_in h)
+    (called_own (meaning c.args.depth) (along_in h)
     (found_at (envs h.frames) c.args.own) (arguments c.args.args.now) found s)
     (rest c.args.stack.now h (made_in c.args.stack.now))) (ap (λ d. d ∷ []) same ∙ sym (ap data_of items)))

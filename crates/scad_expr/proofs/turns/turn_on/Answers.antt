@@ -13,7 +13,7 @@ returns-clause-goes c = λ o is.
     let d = datum_of c.args.value in
     let names = set c.args.variable.name.now d empty in
     c.variables.ensures.goes o (is ∙ turn-begins c.args.variable c.in_ok-back.back d c.args.more
-        (rest c.args.stack.now)
+    (rest c.args.stack.now)
     (rest c.push.new.self) (rest c.push-2.new.self) (held c.args.m.now) (held c.open_with.new.self)
     (made_in c.args.stack.now) (made_in c.push-2.new.self) (state_of c.args.m.now) (state_of c.step.new.self)
     (state_of c.open_with.new.self) c.in_ok-step.ensures.does c.in_ok-push.ensures.rest c.in_ok-push-2.ensures.rest

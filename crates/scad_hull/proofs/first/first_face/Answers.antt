@@ -35,7 +35,7 @@ returns-then-not-has_inner c = record {
   spread = tt;
   none = no_inner c.args.points.now _ c.in-Some.normal
       (at_some (IsFacePlane c.args.points.now _) c.in_ok-normal.field-0 c.in-Some.normal c.in-Some.is
-          c.in_ok-normal.ensures.plane)
+      c.in_ok-normal.ensures.plane)
       (sym c.has_inner.ensures ∙ c.if-not-has_inner.true);
 }
 
@@ -43,11 +43,11 @@ pub returns : goal.returns
 returns c = record {
   some = face_of c.args.points.now _ c.in-Some.normal c.in_ok-face.face
       (at_some (IsFacePlane c.args.points.now _) c.in_ok-normal.field-0 c.in-Some.normal c.in-Some.is
-          c.in_ok-normal.ensures.plane)
+      c.in_ok-normal.ensures.plane)
       c.in_ok-face.ensures.normal c.in_ok-face.ensures.ring;
   spread = some_inner c.args.points.now _ c.in-Some.normal
       (at_some (IsFacePlane c.args.points.now _) c.in_ok-normal.field-0 c.in-Some.normal c.in-Some.is
-          c.in_ok-normal.ensures.plane)
+      c.in_ok-normal.ensures.plane)
       (sym c.has_inner.ensures ∙ c.if-not-has_inner.false);
   none = tt;
 }

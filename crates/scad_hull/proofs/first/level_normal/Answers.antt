@@ -12,7 +12,7 @@ outermost-normal-requires-clause-turned c =
     let there = c.requires.has.1 in
     let some : 0 < length c.args.points.now = omega arith in
     turned_first c.args.points.now c.args.a c.beside-b.result c.beside-b.ensures.value c.requires.sorted some
-        c.requires.first
+    c.requires.first
     c.in-Some.c c.in-Some.ensures.some c.in-Some.ensures.off
 
 pub returns-in_default : goal.returns-in_default

@@ -7,7 +7,7 @@ use Rattle.scad_hull.proofs.first.turned_on.Goals as goal
 pub off-requires-clause-points : goal.off-requires-clause-points
 off-requires-clause-points c =
     met_small c.args.points.now c.args.a c.beside-b.result c.beside-b.ensures.value c.args.normal c.requires.turned
-        c.requires.has
+    c.requires.has
     c.as_slice.result.now (c.as_slice.ensures.value ∙ c.in_ok-met.ensures) c.requires.points
 
 pub returns-in_default : goal.returns-in_default
@@ -22,14 +22,14 @@ returns-in_default c = record {
 pub off-requires-2-clause-points : goal.off-requires-2-clause-points
 off-requires-2-clause-points c =
     met_small c.args.points.now c.args.a c.beside-b.result c.beside-b.ensures.value c.args.normal c.requires.turned
-        c.requires.has
+    c.requires.has
     c.as_slice-2.result.now (c.as_slice-2.ensures.value ∙ c.in_ok-met.ensures) c.requires.points
 
 pub off-requires-2-clause-b : goal.off-requires-2-clause-b
 off-requires-2-clause-b c =
     small_in c.args.points.now c.in-Some.d c.requires.points
     (met_points c.args.points.now c.args.a c.beside-b.result c.beside-b.ensures.value c.args.normal c.requires.turned
-        c.requires.has
+    c.requires.has
     c.as_slice.result.now (c.as_slice.ensures.value ∙ c.in_ok-met.ensures) c.in-Some.d c.in-Some.ensures.some)
 
 pub returns-in-Some-off : goal.returns-in-Some-off
@@ -39,7 +39,7 @@ returns-in-Some-off c = record {
       c.requires.turned c.requires.has
       c.as_slice-2.result.now (c.as_slice-2.ensures.value ∙ c.in_ok-met.ensures) c.in-Some.d
       (subst (λ xs. Contains xs c.in-Some.d) (c.as_slice.ensures.value ∙ sym c.as_slice-2.ensures.value)
-          c.in-Some.ensures.some)
+      c.in-Some.ensures.some)
       c.in-Some.ensures.off c.in-Some-off.field-0 c.in-Some-off.ensures.some c.in-Some-off.ensures.off;
   none = tt;
 }
@@ -55,7 +55,7 @@ turned_again-requires c = record {
       c.requires.turned c.requires.has
       c.as_slice-2.result.now (c.as_slice-2.ensures.value ∙ c.in_ok-met.ensures) c.in-Some.d
       (subst (λ xs. Contains xs c.in-Some.d) (c.as_slice.ensures.value ∙ sym c.as_slice-2.ensures.value)
-          c.in-Some.ensures.some)
+      c.in-Some.ensures.some)
       c.in-Some.ensures.off c.in-None.ensures.none;
 }
 

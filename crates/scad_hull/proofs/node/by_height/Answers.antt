@@ -16,4 +16,4 @@ returns-clause-value c =
 pub returns-clause-ordered : goal.returns-clause-ordered
 returns-clause-ordered c =
     subst (IsStrictlySortedBy space_cmp) (ap (map point_of) (sym c.as_slice-2.ensures.value)
-        ∙ sym c.in_ok-all.ensures) (nodes_sorted c.in_ok-sorted.sorted.items c.in_ok-sorted.ensures.ordered)
+    ∙ sym c.in_ok-all.ensures) (nodes_sorted c.in_ok-sorted.sorted.items c.in_ok-sorted.ensures.ordered)

@@ -22,5 +22,5 @@ returns-in-Ok-solid c =
     let same = ap length c.as_slice.ensures.value in
     let few : length c.as_slice.result.now ≤ 20000 = omega arith in
     hull_told c.args.points.now c.as_slice.result.now c.in-Ok-solid.solid
-        (c.as_slice.ensures.value ∙ c.in-Ok.ensures.value) few
+    (c.as_slice.ensures.value ∙ c.in-Ok.ensures.value) few
     c.in-Ok-solid.ensures

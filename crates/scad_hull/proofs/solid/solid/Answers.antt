@@ -14,7 +14,7 @@ pub returns-in_default : goal.returns-in_default
 returns-in_default c =
     none_told c.args.points.now
     (at_none (are_flat c.args.points.now ≡ true) c.in_ok-first.field-0 (λ x e. c.in_default.not-Some x e)
-        c.in_ok-first.ensures.none)
+    c.in_ok-first.ensures.none)
 
 pub wrap-requires-clause-face : goal.wrap-requires-clause-face
 wrap-requires-clause-face c =
@@ -24,12 +24,12 @@ pub from_closed-requires : goal.from_closed-requires
 from_closed-requires c =
     solid_there c.args.points.now c.requires.sorted c.requires.range
     (at_some (λ f. IsSpread c.args.points.now) c.in_ok-first.field-0 c.in-Some.first c.in-Some.is
-        c.in_ok-first.ensures.spread)
+    c.in_ok-first.ensures.spread)
     (rings_of c.in_ok-faces.faces.items) c.in_ok-faces.ensures c.in_ok-rings.rings.items
-        c.in_ok-triangles.triangles.items
+    c.in_ok-triangles.triangles.items
     (c.in_ok-rings.ensures ∙ ap (λ fs. distinct face_cmp (rings_of fs)) c.as_slice.ensures.value)
     (c.in_ok-triangles.ensures ∙ ap (λ rs. flat_map (λ r. fan (map point_of r.items)) rs)
-        c.as_slice-2.ensures.value)
+    c.as_slice-2.ensures.value)
 
 pub returns : goal.returns
 returns c =
@@ -37,7 +37,7 @@ returns c =
     solid_told c.args.points.now c.requires.sorted c.requires.range spread c.from_closed.result
     (c.from_closed.ensures ∙ solid_is c.args.points.now c.requires.sorted c.requires.range spread
     (rings_of c.in_ok-faces.faces.items) c.in_ok-faces.ensures c.in_ok-rings.rings.items
-        c.in_ok-triangles.triangles.items
+    c.in_ok-triangles.triangles.items
     (c.in_ok-rings.ensures ∙ ap (λ fs. distinct face_cmp (rings_of fs)) c.as_slice.ensures.value)
     (c.in_ok-triangles.ensures ∙ ap (λ rs. flat_map (λ r. fan (map point_of r.items)) rs)
-        c.as_slice-2.ensures.value))
+    c.as_slice-2.ensures.value))

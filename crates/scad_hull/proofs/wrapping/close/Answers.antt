@@ -12,14 +12,14 @@ returns-then-contains c = record {
   bends = extends_itself c.args.bends.now.items;
   back = key_had c.args.sides.now.keys (record { from = c.args.bend.at; to = c.args.bend.from })
       (λ s. HasSide (rings_of c.args.faces.now.items) s.from s.to) c.requires.found.sides
-          (sym c.contains.ensures ∙ c.if-contains.true);
+      (sym c.contains.ensures ∙ c.if-contains.true);
 }
 
 pub returns : goal.returns
 returns c = record {
   found = three_ok c.add.result
       (λ f b s. added c.args.points.now c.args.faces.now.items c.add.new.faces.items c.args.bends.now.items
-          c.add.new.bends.items
+      c.add.new.bends.items
       c.args.sides.now.keys c.add.new.sides.keys c.in_ok-face.face c.requires.found c.in_ok-face.ensures.face f b s)
       c.add.ensures.faces c.add.ensures.bends c.add.ensures.sides;
   faces = on_ok_weaker c.add.result (λ e. extended c.args.faces.now.items c.add.new.faces.items c.in_ok-face.face e)

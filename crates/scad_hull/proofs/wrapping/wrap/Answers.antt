@@ -33,7 +33,7 @@ bends-preserved c =
       backs = more_backs (rings_of c.bends.faces.items) (rings_of c.close.new.faces.items) c.bends.bends.items
           c.close.new.bends.items
           c.bends.i c.index-bend.result.now c.in_ok-close.ensures.faces c.in_ok-close.ensures.bends inside
-              c.index-bend.ensures
+          c.index-bend.ensures
           c.in_ok-close.ensures.back c.bends.invariant.backs;
     }
 

@@ -33,7 +33,7 @@ stops-preserved c =
     let gone : (j : ℕ) (d : List ℕ) → j < k → is_right_of es p (get_or bs j d) ≡ false =
     passed_both es bs ss i c.stops.from k s c.s-item.is c.stops-test.true c.stops.invariant.passed
     (subst (λ (bs : List (List ℕ)). (j : ℕ) (d : List ℕ) → c.stops.from ≤ j → j < k
-        → is_right_of es p (get_or bs j d) ≡ false)
+    → is_right_of es p (get_or bs j d) ≡ false)
     are c.first_right-from.ensures.passed) in
     let next : (d : List ℕ) → k < length bs → is_right_of es p (get_or bs k d) ≡ true =
     subst (λ (bs : List (List ℕ)). (d : List ℕ) → k < length bs → is_right_of es p (get_or bs k d) ≡ true)

@@ -33,7 +33,7 @@ levels-preserved c =
       active = λ h.
           let n = neighbours_at es ls i none none h c.requires.levels in
           c.in_ok-push_level.ensures.active (level_at ls (i + 1)) n.upper_divisor
-              (lower_weak (level_at ls i) (level_at ls (i + 1)) n.in_order);
+          (lower_weak (level_at ls i) (level_at ls (i + 1)) n.in_order);
       tallies = c.in_ok-push_level.ensures.tallies;
       below = c.in_ok-push_level.ensures.below;
     }

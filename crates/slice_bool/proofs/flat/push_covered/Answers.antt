@@ -19,7 +19,7 @@ use Rattle.slice_bool.proofs.flat.push_covered.Goals as goal
 pub stops-requires-clause-within : goal.stops-requires-clause-within
 stops-requires-clause-within c =
     subst (All (λ e. IsEdgeWithin coordinate_limit e.edge)) (sym c.deref.ensures.value)
-        (c.requires.near.within c.requires.flats)
+    (c.requires.near.within c.requires.flats)
 
 pub values_beside-requires-clause-stops : goal.values_beside-requires-clause-stops
 values_beside-requires-clause-stops c =

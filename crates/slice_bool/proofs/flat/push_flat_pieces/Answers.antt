@@ -8,7 +8,7 @@ use Rattle.slice_bool.proofs.flat.push_flat_pieces.Goals as goal
 pub push_covered-requires-clause-flats : goal.push_covered-requires-clause-flats
 push_covered-requires-clause-flats c =
     subst (λ (n : ℕ). 0 < n) c.args.near.now.flats.ok.0
-        (some_number _ (sym c.is_empty.ensures ∙ c.if-is_empty.false))
+    (some_number _ (sym c.is_empty.ensures ∙ c.if-is_empty.false))
 
 pub returns-then-is_empty : goal.returns-then-is_empty
 returns-then-is_empty c =

@@ -46,5 +46,5 @@ returns c =
     sym (append-nil c.stops.out.items)
     ∙ ap (λ (ps : List Piece). c.stops.out.items ++ ps)
     (sym (no_stretch c.args.sweep.now.edges.now c.args.sweep.now.shape.now c.args.stops.now c.stops.i
-        c.stops-test.false))
+    c.stops-test.false))
     ∙ c.stops.invariant

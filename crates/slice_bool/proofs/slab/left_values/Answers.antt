@@ -64,7 +64,7 @@ bundles-preserved c =
     let turns : IsTally new (λ leaf. headings es leaf (concat (drop (length bs - (i + 1)) bs))) =
     tally_more es bs i b old new c.bundles-test.true c.bundles.invariant.turns
     (λ leaf. c.add_bundle.ensures.turns leaf
-        ∙ ap (λ (b : List ℕ). get_or old leaf (pos 0) +ℤ headings es leaf b)
+    ∙ ap (λ (b : List ℕ). get_or old leaf (pos 0) +ℤ headings es leaf b)
     (c.as_slice.ensures ∙ c.index-bundles-bundles.is)) in
     let value : c.value.result ≡ left_value es shape (drop (length bs - (i + 1)) bs) =
     c.value.ensures shape (in_by new) shows ∙ held_left es shape (drop (length bs - (i + 1)) bs) new turns in

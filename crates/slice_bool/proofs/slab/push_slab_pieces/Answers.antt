@@ -34,12 +34,12 @@ bundles-preserved c =
     let rest : List Piece = slab_pieces es shape l u (drop (i + 1) bs) in
     let left : c.index-left.result.now ≡ left_value es shape (drop i bs) =
     c.index-left.ensures ∙ ap (λ (m : ℕ). get_or vs (m - i) c.index-left.result.now) counted
-        ∙ any_default vs (n - i) c.index-left.result.now false
+    ∙ any_default vs (n - i) c.index-left.result.now false
     (omega (arith, test, size))
     ∙ value_beside es shape bs vs i (n - i) c.requires.values (omega arith) (omega (arith, test)) in
     let right : c.index-right.result.now ≡ left_value es shape (drop (i + 1) bs) =
     c.index-right.ensures ∙ ap (λ (m : ℕ). get_or vs (m - i - 1) c.index-right.result.now) counted
-        ∙ any_default vs (n - i - 1) c.index-right.result.now false
+    ∙ any_default vs (n - i - 1) c.index-right.result.now false
     (omega (arith, test, size))
     ∙ value_beside es shape bs vs (i + 1) (n - i - 1) c.requires.values (omega arith)
     (omega (arith, test)) in

@@ -36,5 +36,5 @@ numbers-preserved c =
 pub returns-clause-turns : goal.returns-clause-turns
 returns-clause-turns c = λ leaf.
     sym (ap (λ (ks : List ℕ). if has_leaf leaf (picked c.args.edges.now ks) then pos 0 else get_or
-        c.numbers.turns.items leaf (pos 0))
+    c.numbers.turns.items leaf (pos 0))
     (drop_all c.numbers.k-index c.args.numbers.now c.numbers-test.false)) ∙ c.numbers.invariant.turns leaf

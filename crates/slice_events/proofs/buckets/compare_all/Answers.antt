@@ -21,7 +21,7 @@ stays-preserved c =
     let i = c.stays.i in
     let first = subst (λ (rest : List Stay). HasYielded c.stays.found c.compare_first.new.found (yield_of_first es rest)) (rest_is ss i) c.in_ok-compare_first.ensures in
     left_more c.args.found.now c.stays.found c.compare_first.new.found (yield_of_first es (drop i ss))
-        (yield_among es (drop (i + 1) ss)) (yield_among es ss)
+    (yield_among es (drop (i + 1) ss)) (yield_among es ss)
     (subst (λ (y : Yield). IsLeft c.args.found.now c.stays.found y (yield_among es ss))
-        (among_more es ss i c.stays-test.true) c.stays.invariant)
+    (among_more es ss i c.stays-test.true) c.stays.invariant)
     first

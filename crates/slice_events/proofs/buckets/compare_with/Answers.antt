@@ -13,22 +13,22 @@ returns-then-lies_past c =
     let t : Stay = get_or c.args.later.now c.later.t-index (record { bucket = 0; left = pos 0; line = 0; starts = false }) in
     let right : to_z w32 (of_z w32 c.right_end-right.result) ≡ c.right_end-right.result = search rules in
     ends_early es c.args.s.now c.args.later.now c.later.t-index
-        (record { bucket = 0; left = pos 0; line = 0; starts = false }) c.args.found.now c.later.found c.later-test.true
-        c.later.invariant
+    (record { bucket = 0; left = pos 0; line = 0; starts = false }) c.args.found.now c.later.found c.later-test.true
+    c.later.invariant
     c.requires.stays c.requires.order
     (past_by es c.args.s.now t (to_z w32 (of_z w32 c.right_end-right.result))
-        (sym c.lies_past.ensures ∙ c.if-lies_past.true)
+    (sym c.lies_past.ensures ∙ c.if-lies_past.true)
     (right ∙ c.right_end-right.ensures ∙ ap right_end c.line_at.ensures))
 
 pub compare_stays-requires-clause-room : goal.compare_stays-requires-clause-room
 compare_stays-requires-clause-room c =
     room_for_one (edges_in c.args.lines.now) c.args.s.now c.args.later.now c.later.t-index
-        (record { bucket = 0; left = pos 0; line = 0; starts = false }) c.args.found.now c.later.found c.later-test.true
-        c.later.invariant c.requires.room
+    (record { bucket = 0; left = pos 0; line = 0; starts = false }) c.args.found.now c.later.found c.later-test.true
+    c.later.invariant c.requires.room
 
 pub later-preserved : goal.later-preserved
 later-preserved c =
     one_more (edges_in c.args.lines.now) c.args.s.now c.args.later.now c.later.t-index
-        (record { bucket = 0; left = pos 0; line = 0; starts = false }) c.args.found.now c.later.found c.later-test.true
-        c.later.invariant
+    (record { bucket = 0; left = pos 0; line = 0; starts = false }) c.args.found.now c.later.found c.later-test.true
+    c.later.invariant
     c.compare_stays.new.found c.in_ok-compare_stays.ensures

@@ -7,5 +7,8 @@ use Rattle.slice_events.specs.Distinct.{distinct_by}
 use Rattle.slice_events.proofs.distinct.distinct.Given as goal
 
 abbrev pub invariant-heights : goal.invariant-heights
-invariant-heights l = record { kept : l.out.items ++ distinct_by is_lower (drop l.i (levels_in l.heights))
-    ≡ distinct_by is_lower (levels_in l.heights); within : All (IsLevelWithin coordinate_limit) l.out.items }
+invariant-heights l = record {
+  kept : l.out.items ++ distinct_by is_lower (drop l.i (levels_in l.heights))
+      ≡ distinct_by is_lower (levels_in l.heights);
+  within : All (IsLevelWithin coordinate_limit) l.out.items;
+}

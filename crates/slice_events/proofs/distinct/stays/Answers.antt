@@ -20,4 +20,4 @@ returns-else-i-heights c =
     let there : suc c.args.i < length c.args.heights.now = omega (arith, c.requires) in
     let s = rw (← add-one) at (stays_next is_lower (λ (h : Height). h.level) c.args.heights.now c.args.i c.index-heights-i.result c.index-heights-i-else-i-heights.result there) in
     c.is_lt.ensures ∙ ap is_lt c.cmp_level.ensures
-        ∙ is_lt-int_cmp (p.level.n *ℤ q.level.d) (q.level.n *ℤ p.level.d) ∙ sym s
+    ∙ is_lt-int_cmp (p.level.n *ℤ q.level.d) (q.level.n *ℤ p.level.d) ∙ sym s

@@ -14,7 +14,7 @@ push_all-requires c =
     let ys : List ℤ = c.sort_unstable.new.self.items in
     let arranged = subst (λ (xs : List ℤ). IsPermutation xs ys) c.in_ok-ends.ensures c.sort_unstable.ensures.permutation in
     subst (All (λ y. unsigned_abs y ≤ coordinate_limit)) (sym c.deref.ensures.value)
-        (ends_within c.args.edges.now ys c.requires arranged)
+    (ends_within c.args.edges.now ys c.requires arranged)
 
 pub returns : goal.returns
 returns c =
@@ -24,6 +24,6 @@ returns c =
     record {
       ok = on_ok_weaker c.push_all.result
           (λ h. ends_rearranged c.args.edges.now ys before (levels_in c.push_all.new.out.items) arranged
-              (h ∙ ap (λ (xs : List ℤ). before ++ map level_of xs) c.deref.ensures.value))
+          (h ∙ ap (λ (xs : List ℤ). before ++ map level_of xs) c.deref.ensures.value))
           c.push_all.ensures.ok;
     }

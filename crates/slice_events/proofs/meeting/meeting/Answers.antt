@@ -9,4 +9,4 @@ use Rattle.slice_events.proofs.meeting.meeting.Goals as goal
 pub returns-clause-within : goal.returns-clause-within
 returns-clause-within c = subst (λ (h : Level). IsLevelWithin coordinate_limit h) (sym c.level_of_lines.ensures.value)
     (meeting_within coordinate_limit c.args.e.now.edge c.args.f.now.edge c.args.f.now.within
-        c.level_of_lines.ensures.divisor c.requires.meets)
+    c.level_of_lines.ensures.divisor c.requires.meets)

@@ -17,6 +17,6 @@ returns c =
     let last : c.bucket_of-last.result ≡ bucket_of c.args.tall (high e).y = c.bucket_of-last.ensures.value ∙ ap (bucket_of c.args.tall) to in
     on_ok_weaker c.push_later.result
     (λ h. stays_made c.args.stays.now.items c.push.new.self.items c.push_later.new.stays.items c.args.tall c.args.line
-        c.bucket_of-first.result c.bucket_of-last.result
+    c.bucket_of-first.result c.bucket_of-last.result
     (to_z w32 (of_z w32 c.left_end-left.result)) e left first last c.in_ok-push.ensures.items h)
     c.push_later.ensures

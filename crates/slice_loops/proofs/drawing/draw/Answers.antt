@@ -43,7 +43,7 @@ way-preserved c =
       leads = subst (λ (vs : List Pt). Leads (remaining c.args.left.now) start vs next.b (remaining new))
           (sym c.in_ok-push-2.ensures.items)
           (leads_on (remaining c.args.left.now) start c.way.vertices.items c.way.at (remaining old) next (remaining new)
-              c.way.invariant.leads
+          c.way.invariant.leads
           (differ_by c.way.at start c.ne.result c.ne.ensures c.way-test.true) c.take_from-next.ensures.least);
       order = c.take_from-next.ensures.order;
       balanced = goes_on start c.way.at (remaining old) next (remaining new) c.way.invariant.balanced
@@ -59,7 +59,7 @@ way-smaller c = fewer_left (remaining c.way.left) c.take_from-next.result (remai
 pub returns-clause-drawn : goal.returns-clause-drawn
 returns-clause-drawn c =
     leads_back (remaining c.args.left.now) c.take-first.result.a c.way.vertices.items c.way.at (remaining c.way.left)
-        c.way.invariant.leads
+    c.way.invariant.leads
     (equal_by c.way.at c.take-first.result.a c.ne.result c.ne.ensures c.way-test.false)
 
 pub returns-clause-balanced : goal.returns-clause-balanced

@@ -10,7 +10,7 @@ use Rattle.slice_loops.proofs.joining.join.Goals.{then-not-is_taken+in_ok-push_o
 pub places-init : goal.places-init
 places-init c =
     none_drawn c.args.edges.now c.in_ok-left.left c.new-outlines.result.items c.len-place-end.result
-        c.new-outlines.ensures.items
+    c.new-outlines.ensures.items
     c.in_ok-left.ensures.order c.in_ok-left.ensures.all c.requires.balanced c.len-place-end.ensures
 
 pub places-preserved : goal.places-preserved
@@ -25,14 +25,14 @@ places-preserved c =
           subst (λ (r : Remaining). Now r outlines) (sym w.left-is)
           (subst (Now w.push_outline.new.left) (sym (ap (λ v. v.items) w.outlines-is))
           (one_drawn edges c.places.left w.push_outline.new.left c.places.outlines.items
-              w.push_outline.new.outlines.items place end c.places.invariant
+          w.push_outline.new.outlines.items place end c.places.invariant
           w.in_ok-push_outline.ensures.added w.in_ok-push_outline.ensures.order w.in_ok-push_outline.ensures.balanced
           w.in_ok-push_outline.ensures.taken w.in_ok-push_outline.ensures.least))
       | else-not-is_taken w ↦
           subst (λ (r : Remaining). Now r outlines) (sym w.left-is)
           (subst (Now c.places.left) (sym (ap (λ v. v.items) w.outlines-is))
           (passed_by edges c.places.left c.places.outlines.items place end c.places.invariant
-              (sym c.is_taken.ensures ∙ w.if-not-is_taken.false)))
+          (sym c.is_taken.ensures ∙ w.if-not-is_taken.false)))
     ]
 
 pub returns : goal.returns

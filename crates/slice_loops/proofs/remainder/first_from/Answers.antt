@@ -8,5 +8,5 @@ use Rattle.slice_loops.proofs.remainder.first_from.Goals as goal
 pub returns : goal.returns
 returns c =
     IsPartitionPoint-from_clause (starts_before c.args.at) c.args.edges.now c.partition_point.result
-        c.partition_point.ensures.partitioned
+    c.partition_point.ensures.partitioned
     (parted c.args.at c.args.edges.now c.requires) (λ a r q k. search rules)

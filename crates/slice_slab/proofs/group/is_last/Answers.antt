@@ -15,4 +15,4 @@ returns-else-i-passages c =
     let s = rw (← add-one) at (next_ends c.args.passages.now c.args.i c.index-passages-i.result
     c.index-passages-i-else-i-passages.result there) in
     ap not (c.are_aligned.ensures ∙ ap₂ is_aligned c.index-passages-i.is c.index-passages-i-else-i-passages.is)
-        ∙ sym s
+    ∙ sym s

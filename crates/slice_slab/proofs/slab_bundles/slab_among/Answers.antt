@@ -10,7 +10,7 @@ use Rattle.slice_slab.proofs.slab_bundles.slab_among.Goals as goal
 pub passages_among-requires-clause-there : goal.passages_among-requires-clause-there
 passages_among-requires-clause-there c =
     subst (All (λ k. k < length c.args.edges.now)) (sym c.requires.numbers)
-        (all_there c.args.edges.now c.args.lower.now)
+    (all_there c.args.edges.now c.args.lower.now)
 
 pub returns : goal.returns
 returns c =

@@ -42,7 +42,7 @@ returns-else-ties_at-clause-none c =
     elim c.else-ties_at.branch [
       | else-ties_at-via-then-ties_at+else-not-ties_at w ↦
           more_here (ties at) ends k block (sym c.ties_at.ensures ∙ w.if-ties_at.true)
-              (sym w.ties_at-then-ties_at.ensures ∙ w.if-not-ties_at.false)
+          (sym w.ties_at-then-ties_at.ensures ∙ w.if-not-ties_at.false)
       | else-ties_at-via-else-ties_at w ↦ none_here (ties at) ends k block
           (sym c.ties_at.ensures ∙ w.if-ties_at.false)
     ]

@@ -9,5 +9,5 @@ use Rattle.slice_snap.proofs.alone.first_from.Goals as goal
 pub returns-clause-point : goal.returns-clause-point
 returns-clause-point c =
     IsPartitionPoint-from_clause (comes_before end_cmp end_total c.args.at.now) c.args.ends.now c.partition_point.result
-        c.partition_point.ensures.partitioned
+    c.partition_point.ensures.partitioned
     (parted end_cmp end_total c.args.at.now c.args.ends.now c.requires) (λ a r q k. search rules)

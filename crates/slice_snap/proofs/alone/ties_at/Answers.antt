@@ -13,7 +13,7 @@ returns-then-place-ends c =
     let e : End = c.index-ends-place.result in
     let there : c.args.place < length c.args.ends.now = c.if-place-ends.true in
     c.is_eq.ensures ∙ ap is_eq c.compare.ensures ∙ ap (ties at) c.index-ends-place.is
-        ∙ sym (holds_there (ties at) c.args.ends.now c.args.place e there)
+    ∙ sym (holds_there (ties at) c.args.ends.now c.args.place e there)
 
 pub returns-else-place-ends : goal.returns-else-place-ends
 returns-else-place-ends c =

@@ -22,5 +22,5 @@ pub returns-clause-balanced : goal.returns-clause-balanced
 returns-clause-balanced c =
     let es : List Edge = c.args.edges.now in
     IfOk-weaker c.cancel_sorted.result (λ v. AreCancelled es v.items)
-        (λ v. IsBalanced (segments es) → IsBalanced (segments v.items))
+    (λ v. IsBalanced (segments es) → IsBalanced (segments v.items))
     (λ v h. left_balanced es v.items h) (returns-clause-left c)

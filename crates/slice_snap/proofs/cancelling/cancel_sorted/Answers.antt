@@ -16,14 +16,14 @@ edges-preserved c =
     elim c.if-ends_in_opposite.branch [
       | then-ends_in_opposite w ↦
           goes es i _ left.items seen c.if-ends_in_opposite.left.items left.len c.edges-test.true c.edges.invariant
-              c.deref.ensures.value
+          c.deref.ensures.value
           (c.ends_in_opposite.ensures.0 w.if-ends_in_opposite.true) (omega (arith, c.edges.left.ok.0))
-              (ap (λ v. v.items) w.left-is ∙ w.pop.ensures.rest)
+          (ap (λ v. v.items) w.left-is ∙ w.pop.ensures.rest)
       | else-ends_in_opposite+in_ok-push w ↦
           stays es i _ left.items seen c.if-ends_in_opposite.left.items c.edges-test.true c.edges.invariant
-              c.deref.ensures.value
+          c.deref.ensures.value
           (λ h. true≢false (sym (c.ends_in_opposite.ensures.1 h) ∙ w.if-ends_in_opposite.false))
-              (ap (λ v. v.items) w.left-is ∙ w.in_ok-push.ensures.items)
+          (ap (λ v. v.items) w.left-is ∙ w.in_ok-push.ensures.items)
     ]
 
 pub returns : goal.returns

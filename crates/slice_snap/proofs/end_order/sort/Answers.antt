@@ -10,4 +10,4 @@ use Rattle.slice_snap.proofs.end_order.sort.Goals as goal
 pub returns-clause-sorted : goal.returns-clause-sorted
 returns-clause-sorted c =
     c.sort_unstable_by.ensures.sorted (λ (e f : End). is_lt (end_cmp e f)) (ranks_by end_total (λ (e : End). e))
-        (answers_always _ _ _ (λ f a r g h. search rules))
+    (answers_always _ _ _ (λ f a r g h. search rules))

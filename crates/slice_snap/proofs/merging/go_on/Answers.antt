@@ -14,7 +14,7 @@ pub returns-then-not-is_gone : goal.returns-then-not-is_gone
 returns-then-not-is_gone c =
     linked c.args.pieces.now c.args.chains.now c.args.place c.requires.so_far c.requires.inside
     c.first_of-first.result c.in-Some.next c.first_of-first.ensures c.in-Some.ensures.some.there
-        (c.in-Some.ensures.some.on no_piece) c.in-Some.ensures.passed c.requires.within
+    (c.in-Some.ensures.some.on no_piece) c.in-Some.ensures.passed c.requires.within
     (sym c.is_gone.ensures ∙ c.if-not-is_gone.true) c.if-first-next.true c.link.new.self c.link.ensures
 
 pub returns-else-first-next : goal.returns-else-first-next
@@ -23,12 +23,12 @@ returns-else-first-next c =
       | else-first-next-via-then-first-next+else-not-is_gone w ↦
           when_gone c.args.pieces.now c.args.chains.now c.args.place c.requires.so_far c.requires.inside
           c.first_of-first.result c.in-Some.next c.first_of-first.ensures c.in-Some.ensures.some.there
-              (c.in-Some.ensures.some.on no_piece) c.in-Some.ensures.passed c.requires.within
+          (c.in-Some.ensures.some.on no_piece) c.in-Some.ensures.passed c.requires.within
           (sym w.is_gone.ensures ∙ w.if-not-is_gone.false)
       | else-first-next-via-else-first-next w ↦
           when_round c.args.pieces.now c.args.chains.now c.args.place c.requires.so_far c.requires.inside
           c.first_of-first.result c.in-Some.next c.first_of-first.ensures c.in-Some.ensures.some.there
-              (c.in-Some.ensures.some.on no_piece) c.in-Some.ensures.passed c.requires.within
+          (c.in-Some.ensures.some.on no_piece) c.in-Some.ensures.passed c.requires.within
           w.if-first-next.false
     ]
 

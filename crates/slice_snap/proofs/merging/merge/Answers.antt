@@ -29,6 +29,6 @@ returns-clause-within c =
 pub returns-clause-balanced : goal.returns-clause-balanced
 returns-clause-balanced c =
     IfOk-weaker c.wholes.result (λ v. AreMerged c.args.pieces.now v.items)
-        (λ v. ArePiecesBalanced c.args.pieces.now → ArePiecesBalanced v.items)
+    (λ v. ArePiecesBalanced c.args.pieces.now → ArePiecesBalanced v.items)
     (λ v h. merging_keeps_balance coordinate_limit c.args.pieces.now v.items c.requires.within h)
-        (returns-clause-merged c)
+    (returns-clause-merged c)

@@ -13,4 +13,4 @@ returns-clause-size c =
     let f : FitsSigned w128 c.times.result = record { sfits = c.times.type_inv } in
     let value : c.times.result ≡ s.at.n *ℤ pos s.run = search (rules, casts) in
     rw (to_z-of_z w128 c.times.result f) (scaled_value coordinate_limit s.at.n s.at.d s.run c.times.result value
-        c.requires.level.size)
+    c.requires.level.size)

@@ -21,13 +21,13 @@ touching_among-requires-clause-there c =
     let ss : List Start = drop a.begun a.starts.items in
     let more-is : c.begin.new.live.items ≡ a.live.items ++ numbers_of (begun_at c.args.at.now ss) =
     c.in_ok-self.ensures.begun ∙ ap (λ (xs : List Start). a.live.items
-        ++ numbers_of (begun_at c.args.at.now (drop a.begun xs)))
+    ++ numbers_of (begun_at c.args.at.now (drop a.begun xs)))
     c.deref.ensures.value in
     subst (All (λ k. k < length es)) (sym c.deref-2.ensures.value)
     (all_more es c.args.at.now ss a.live.items c.begin.new.live.items
     (recursion_from_All (λ k. k < length es) a.live.items c.requires.ready.there)
     (recursion_from_All (IsStartOf es) ss (All-drop (IsStartOf es) a.begun a.starts.items c.requires.ready.starts))
-        more-is)
+    more-is)
 
 pub returns-clause-live : goal.returns-clause-live
 returns-clause-live c =
@@ -44,7 +44,7 @@ returns-clause-live c =
     (recursion_from_All (IsStartOf es) ss (All-drop (IsStartOf es) a.begun a.starts.items c.requires.ready.starts))
     (rising_drop a.begun a.starts.items c.requires.ready.rising) c.requires.ready.later more-is
     (c.in_ok-live.ensures ∙ ap (λ (ks : List ℕ). filter (λ k. touches (edge_at es k) at) ks)
-        c.deref-2.ensures.value)
+    c.deref-2.ensures.value)
     c.sort_unstable.ensures.permutation
     (ascends_from c.sort_unstable.new.self.items (IsNonDecreasingBy-from_sort (λ x. x) c.sort_unstable.new.self.items
     c.sort_unstable.ensures.sorted))
@@ -67,7 +67,7 @@ returns-clause-stands c =
     (recursion_from_All (IsStartOf es) ss (All-drop (IsStartOf es) a.begun a.starts.items c.requires.ready.starts))
     (rising_drop a.begun a.starts.items c.requires.ready.rising) c.requires.ready.later more-is
     (c.in_ok-live.ensures ∙ ap (λ (ks : List ℕ). filter (λ k. touches (edge_at es k) at) ks)
-        c.deref-2.ensures.value)
+    c.deref-2.ensures.value)
     c.sort_unstable.ensures.permutation
     (ascends_from c.sort_unstable.new.self.items (IsNonDecreasingBy-from_sort (λ x. x) c.sort_unstable.new.self.items
     c.sort_unstable.ensures.sorted)) in

@@ -12,13 +12,13 @@ places-preserved c =
     elim c.if-not-index.branch [
       | then-not-index+in_ok-push w ↦
           one_pushed gs qs c.places.wholes.items c.if-not-index.wholes.items c.places.place
-              w.index-then-not-index.result.now
+          w.index-then-not-index.result.now
           (omega (arith, c.places-test.true, c.len-place-end.ensures, c.requires.gone, c.args.self.now.wholes.ok.0))
           (omega (arith, c.places-test.true, c.len-place-end.ensures, c.args.self.now.wholes.ok.0))
           c.places.invariant
           (gone_read gs c.places.place c.index.result.now
-              (omega (arith, c.places-test.true, c.len-place-end.ensures, c.requires.gone, c.args.self.now.wholes.ok.0))
-              c.index.ensures ∙ w.if-not-index.true)
+          (omega (arith, c.places-test.true, c.len-place-end.ensures, c.requires.gone, c.args.self.now.wholes.ok.0))
+          c.index.ensures ∙ w.if-not-index.true)
           w.index-then-not-index.ensures (ap (λ v. v.items) w.wholes-is ∙ w.in_ok-push.ensures.items)
       | else-not-index w ↦
           none_pushed gs qs c.places.wholes.items c.if-not-index.wholes.items c.places.place
@@ -26,7 +26,7 @@ places-preserved c =
           (omega (arith, c.places-test.true, c.len-place-end.ensures, c.args.self.now.wholes.ok.0))
           c.places.invariant
           (gone_read gs c.places.place c.index.result.now
-              (omega (arith, c.places-test.true, c.len-place-end.ensures, c.requires.gone, c.args.self.now.wholes.ok.0))
-              c.index.ensures ∙ w.if-not-index.false)
+          (omega (arith, c.places-test.true, c.len-place-end.ensures, c.requires.gone, c.args.self.now.wholes.ok.0))
+          c.index.ensures ∙ w.if-not-index.false)
           (ap (λ v. v.items) w.wholes-is)
     ]
