@@ -1,0 +1,2 @@
+// a part
+echo(PI,![]);hull(){cylinder(h=1.29,d1=3,center=undef,$fn=7);}difference(){$fn=5;rotate(90)sphere(d=1,$fa=90,$fs=0.5);}union(){echo(((17.)*0.5),9<16e-2);%cube([1.4,2.00,0.561],center=undef);}module m1(p2,p3=sqrt(abs(.9730051)),p4,){function f5(p6,p7,p8=-4.9e-7%01)=(assert(1<2)((p6>p3||PI>1)?PI:p8));echo(p4,p3,p2,f5(PI,sqrt(abs(9)),p8=p4));}sphere(r=1.074,$fn=5);function f9()=(let()33.)/4;

@@ -1,0 +1,2 @@
+v1=.8902250-9.1E-1+9.3E4-0;assert("a"){translate([(len([0,10376]))%3]){{}echo(7,([2,7,9.458]==0),3.0E+2);}linear_extrude(1.30,scale=[1,1],convexity=3){echo("s",+5+-PI,"a",[(6)%6,PI]);intersection(){v2=(0)/(1+abs(1.414));polygon([for(i=[0:4]) [1.5*cos(i*45),sin(i*72)]]);}}echo(nowhere,(let()8.895),(v1)*0.5);echo(v1);}difference(){cylinder(h=1.3,d=2.7,$fn=6.9);#union(){assert([1:0]){v3=2.603;}assert([0], text=1);}echo(v1);}linear_extrude(0.97)square([0.989,1],center=false);
+echo(v1);

@@ -1,0 +1,2 @@
+if(true)cube([3,2,0.76]); else {assert([0], text=1);difference(){translate([1.0])translate([-1.90,(8-75e2)%3]){sphere(d=0.401,$fs=0);cylinder(h=0.479,r=0.90,d2=1,$fn=-1);v1=[0,.2813486,PI];}%#rotate_extrude($fn=3) square([1,0.6]);v2=len(concat(12.966,"s"));}if(true)cube([0.66,2.8,0.921],center=undef);}echo(nowhere);hull(){rotate([-61,-6,-40]) sphere(d=0.80,$fa=60); cube([1.4,1,0.839]); rotate(156,[0,-2,0]) cube([2.1,2.838,0.8]);}rotate_extrude($fn=3) hull(){square([0.4,1.3]); square([1.1,0.698]);}if(false){};;
+echo($fn);
