@@ -1,0 +1,2 @@
+echo(9.646/6*9>=(echo(undef).2833908),"s",);union(){v1=chr(8364);scale([1,1,0])hull(){cube([1,2.38,1.39], center = 1); cylinder(h=0.734,d1=0.771,d2=2.75,center=false,$fn=3);}x_1=1.98;}cylinder(h=0.9,r=1.2,$fs=0);a=[11.807,0e99999];mirror([1]){echo(a=(a)[len(a)]){let(l3=[8.755,PI,5].y)intersection_for(i4=[3:0.7:4])*cube([0.953,0.12,1.0],center=true);rotate([-53,-81,-82]){cube([1.615,2,0.757]);cube([3.0,2.249,0.184]);if(![1:0].w)cube(); else cube([1,2,0.6], center = 1);}}v5=a;cube([2,1.15,1.400]);}echo(1+8,!true);
+echo(a);

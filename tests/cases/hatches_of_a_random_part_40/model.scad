@@ -1,0 +1,2 @@
+rotate_extrude($fn=5) polygon([[0,0],[0.2,0],[1,0.878],[0,0.777]]);let(cube=(50.)){translate([-0.62,-1.7869])cube(size=0.6,convexity=3);scale([-1,1,1])assert([1:0]){echo();}}function size(n)=n<=0?[6,21.,20.403].z:1+size(n-1);module m3(p4,p5,p6=4){%rotate_extrude($fn=4) hull(){square([0.2,1.04]); square([0.392,0.433]);}for(c=[0:$children-1]) translate([c*0.4,0,0]) children(c);echo(b=65e-6);echo(p6,p4,p5,size(19),$fn,);}
+echo(size(19),);
