@@ -123,3 +123,32 @@ fn names_are_sought_outwards(rt: HostRuntime) -> Result<(), Fail> {
     assert!(rt; frames.len() == 2 && frames.get(2, b"a").is_none());
     Ok(())
 }
+
+/// Sets each of the names to a number.
+fn set_all(frames: &mut Frames, names: &[&[u8]], z: i64) -> Result<(), AllocError> {
+    'names: for name in names {
+        frames.set(name, number(z))?;
+    }
+    Ok(())
+}
+
+#[test]
+fn further_names_are_found_and_set(rt: HostRuntime) -> Result<(), Fail> {
+    let alloc = rt.alloc();
+    let mut frames = Frames::new(alloc);
+    assert_eq!(rt; frames.push(None, None, None)?, 0);
+    // eight names lie in a list, two more in a map
+    set_all(
+        &mut frames,
+        &[b"a", b"b", b"c", b"d", b"e", b"f", b"g", b"h", b"i", b"j"],
+        1,
+    )?;
+    assert!(rt; has(&frames, 0, b"a", 1) && has(&frames, 0, b"h", 1) && has(&frames, 0, b"i", 1));
+    assert!(rt; has(&frames, 0, b"j", 1) && frames.get(0, b"k").is_none());
+    // one of each is set again, and none beside it
+    frames.set(b"h", number(2))?;
+    frames.set(b"i", number(3))?;
+    assert!(rt; has(&frames, 0, b"h", 2) && has(&frames, 0, b"i", 3) && has(&frames, 0, b"j", 1));
+    assert!(rt; has(&frames, 0, b"a", 1) && has(&frames, 0, b"g", 1));
+    Ok(())
+}

@@ -1,3 +1,4 @@
+pub mod Few
 pub mod Noted
 pub mod Outwards
 pub mod Rows

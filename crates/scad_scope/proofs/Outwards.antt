@@ -16,7 +16,7 @@ use Rattle.scad_scope.specs.Stored.{Stored, pushed, stored_at, with_name_in, wit
 use Rattle.scad_scope.specs.View.{named, frame_stored}
 
 -- ---- names in memory
-abbrev same_key : Vec ℕ Global → Vec ℕ Global → Bool
+abbrev pub same_key : Vec ℕ Global → Vec ℕ Global → Bool
 same_key a b = pointwise nat_eq a.items b.items
 
 pub named-insert : (es : List (Vec ℕ Global × Value)) (key : Vec ℕ Global) (v : Value)

@@ -1,5 +1,5 @@
 -- Names with their values: the values of variables in one frame.
-use Rattle.std.specs.Prelude.{ℕ, Bool, List, [], ◌∷◌, Option, Some, None, if◌then◌else◌, nat_eq}
+use Rattle.std.specs.Prelude.{ℕ, suc, Bool, List, [], ◌∷◌, Option, Some, None, if◌then◌else◌, nat_eq}
 use Rattle.std.specs.Cmp.Lexicographic.{pointwise}
 use Rattle.scad_value.specs.Datum.{Datum}
 
@@ -10,6 +10,11 @@ is_same_name a b = pointwise nat_eq a b
 -- each name with its value, in the order in which the names were first set
 abbrev pub Names : Type 0
 Names = List (List ℕ × Datum)
+
+-- how many names stand before a name in a list: all of them where it isn't there
+abbrev pub place_in : List ℕ → Names → ℕ
+place_in name [] = 0
+place_in name (p ∷ more) = if is_same_name name p.0 then 0 else suc (place_in name more)
 
 -- the value of a name
 abbrev pub value_of_name : List ℕ → Names → Option Datum

@@ -3,7 +3,7 @@
 use crate::home::Home;
 use crate::kept::Kept;
 use crate::kind::Kind;
-use indexmap::IndexMap;
+use crate::names::Names;
 use scad_ast::Item;
 use scad_value::Value;
 use std::alloc::{AllocError, Global};
@@ -11,7 +11,7 @@ use std::alloc::{AllocError, Global};
 /// A frame of a scope or a call. Its parent is the number of the frame round it.
 #[derive(Drop)]
 pub struct Frame<'p> {
-    pub names: IndexMap<Vec<u8>, Value>,
+    pub names: Names,
     pub parent: Option<u32>,
     pub home: Home<'p>,
     pub kept: Option<Kept<'p>>,
@@ -28,22 +28,24 @@ impl<'p> Frame<'p> {
     ghost use Rattle.scad_scope.specs.View.{frame_stored};
 
     /// Sets the name.
-    pub fn set(&mut self, name: Vec<u8>, value: Value) -> Result<(), AllocError>
+    #[tactic(auto, unfolding(crate::specs::View::frame_stored))]
+    pub fn set(&mut self, alloc: Global, name: Vec<u8>, value: Value) -> Result<(), AllocError>
         ensures named { OnOk result (frame_stored self.new
             ≡ with_name_in name.items (datum_of value) (frame_stored self.old)) }
         ensures refused { OnErr result (frame_stored self.new ≡ frame_stored self.old) }
     {
-        self.names.insert(name, value)?;
-        Ok(())
+        self.names.set(alloc, name, value)
     }
 
     /// The value of the name.
+    #[tactic(auto, unfolding(crate::specs::View::frame_stored))]
     pub fn get(&self, name: &[u8]) -> Option<&Value>
         ensures { option_map (λ v. datum_of v.now) result
             ≡ value_of_name name.now (frame_stored self.now).names }
     {
         self.names.get(name)
     }
+
     /// The item of its scope that a name means.
     #[tactic(auto, unfolding(crate::specs::View::frame_stored))]
     pub fn item(

@@ -6,7 +6,7 @@ use crate::frame::Frame;
 use crate::home::Home;
 use crate::kept::Kept;
 use crate::kind::Kind;
-use indexmap::IndexMap;
+use crate::names::Names;
 use scad_ast::{Item, Scope};
 use scad_value::Value;
 use std::alloc::{AllocError, Global};
@@ -60,7 +60,7 @@ impl<'p> Frames<'p> {
         if number >= u32::MAX as usize {
             return Err(AllocError);
         }
-        let names = IndexMap::new(self.alloc);
+        let names = Names::new(self.alloc);
         self.frames.push(Frame {
             names,
             parent,
@@ -82,7 +82,7 @@ impl<'p> Frames<'p> {
             return Ok(());
         }
         let key = Vec::from_slice(self.alloc, name)?;
-        self.frames[count - 1].set(key, value)
+        self.frames[count - 1].set(self.alloc, key, value)
     }
 
     /// Takes the last frame away, where there is one.

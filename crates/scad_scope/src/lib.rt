@@ -10,6 +10,7 @@ mod frames;
 mod home;
 mod kept;
 mod kind;
+mod names;
 mod table;
 mod variables;
 

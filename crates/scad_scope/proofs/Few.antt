@@ -1,0 +1,130 @@
+-- Where a name stands among the few of a frame, and what it is to set it and to seek it there.
+use Rattle.std.proofs.Common.{◌≡◌, ℕ, ◌+◌, ◌<◌, ◌≤◌, suc, Bool, true, false, List, [], ◌∷◌, ◌++◌, map, length, drop, get_or, set, Some, if◌then◌else◌, Vec, Global, refl, sym, ap, ◌∙◌, arith}
+use Rattle.std.proofs.lemmas.List.{map-append, map-set, get_or-map, length-map, append-nil, drop_more, drop_all}
+use Rattle.indexmap.specs.IndexMap.{insert_entry}
+use Rattle.scad_value.specs.Datum.{Datum}
+use Rattle.scad_value.specs.declared.value.Value.{Value}
+use Rattle.scad_value.specs.View.{datum_of}
+use Rattle.scad_scope.specs.Names.{Names, is_same_name, place_in, value_of_name, with_name}
+use Rattle.scad_scope.specs.View.{named}
+use Rattle.scad_scope.proofs.Outwards.{same_key, named-insert}
+
+-- ---- a name that stands there
+set-placed : (name : List ℕ) (d : Datum) (xs more : Names) (q : List ℕ × Datum) → place_in name xs < length xs
+    → set xs (place_in name xs) ((get_or xs (place_in name xs) q).0, d) ++ more ≡ with_name name d (xs ++ more)
+set-placed name d [] more q low = absurd (omega (arith, low))
+set-placed name d (p ∷ xs) more q low = by (set-placed name d xs more q) (is_same_name name p.0) low
+  where
+    by : (place_in name xs < length xs → set xs (place_in name xs) ((get_or xs (place_in name xs) q).0, d) ++ more
+        ≡ with_name name d (xs ++ more)) → (b : Bool)
+        → (if b then 0 else suc (place_in name xs)) < length (p ∷ xs)
+        → set (p ∷ xs) (if b then 0 else suc (place_in name xs))
+        ((get_or (p ∷ xs) (if b then 0 else suc (place_in name xs)) q).0, d) ++ more
+        ≡ (if b then (p.0, d) ∷ xs ++ more else p ∷ with_name name d (xs ++ more))
+    by rest true low = refl
+    by rest false low = ap (λ l. p ∷ l) (rest (omega (arith, low)))
+
+value-placed : (name : List ℕ) (xs more : Names) (q : List ℕ × Datum) → place_in name xs < length xs
+    → Some (get_or xs (place_in name xs) q).1 ≡ value_of_name name (xs ++ more)
+value-placed name [] more q low = absurd (omega (arith, low))
+value-placed name (p ∷ xs) more q low = by (value-placed name xs more q) (is_same_name name p.0) low
+  where
+    by : (place_in name xs < length xs → Some (get_or xs (place_in name xs) q).1 ≡ value_of_name name (xs ++ more))
+        → (b : Bool) → (if b then 0 else suc (place_in name xs)) < length (p ∷ xs)
+        → Some (get_or (p ∷ xs) (if b then 0 else suc (place_in name xs)) q).1
+        ≡ (if b then Some p.1 else value_of_name name (xs ++ more))
+    by rest true low = refl
+    by rest false low = rest (omega (arith, low))
+
+-- ---- a name that doesn't stand there
+pub set-unplaced : (name : List ℕ) (d : Datum) (xs more : Names) → length xs ≤ place_in name xs
+    → xs ++ with_name name d more ≡ with_name name d (xs ++ more)
+set-unplaced name d [] more past = refl
+set-unplaced name d (p ∷ xs) more past = by (set-unplaced name d xs more) (is_same_name name p.0) past
+  where
+    by : (length xs ≤ place_in name xs → xs ++ with_name name d more ≡ with_name name d (xs ++ more))
+        → (b : Bool) → length (p ∷ xs) ≤ (if b then 0 else suc (place_in name xs))
+        → p ∷ xs ++ with_name name d more
+        ≡ (if b then (p.0, d) ∷ xs ++ more else p ∷ with_name name d (xs ++ more))
+    by rest true past = absurd (omega (arith, past))
+    by rest false past = ap (λ l. p ∷ l) (rest (omega (arith, past)))
+
+pub value-unplaced : (name : List ℕ) (xs more : Names) → length xs ≤ place_in name xs
+    → value_of_name name more ≡ value_of_name name (xs ++ more)
+value-unplaced name [] more past = refl
+value-unplaced name (p ∷ xs) more past = by (value-unplaced name xs more) (is_same_name name p.0) past
+  where
+    by : (length xs ≤ place_in name xs → value_of_name name more ≡ value_of_name name (xs ++ more)) → (b : Bool)
+        → length (p ∷ xs) ≤ (if b then 0 else suc (place_in name xs))
+        → value_of_name name more ≡ (if b then Some p.1 else value_of_name name (xs ++ more))
+    by rest true past = absurd (omega (arith, past))
+    by rest false past = rest (omega (arith, past))
+
+-- ---- entries in memory
+-- one is set
+pub few-set : (name : List ℕ) (all : List (Vec ℕ Global × Value)) (more : Names) (i : ℕ)
+    (e : Vec ℕ Global × Value)
+    (v : Value) → i ≡ place_in name (map named all) → i < length all → e ≡ get_or all i e
+    → map named (set all i (e.0, v)) ++ more ≡ with_name name (datum_of v) (map named all ++ more)
+few-set name all more i e v at low is =
+    let many = length-map all named in
+    ap (λ l. l ++ more) (map-set named all i (e.0, v)
+    ∙ ap (λ p. set (map named all) i (p.0, datum_of v))
+    (ap named is ∙ sym (get_or-map named all i e (named e) low)))
+    ∙ ap (λ j. set (map named all) j ((get_or (map named all) j (named e)).0, datum_of v) ++ more) at
+    ∙ set-placed name (datum_of v) (map named all) more (named e) (omega (arith, many, at, low))
+
+-- one is sought
+pub few-value : (name : List ℕ) (all : List (Vec ℕ Global × Value)) (more : Names) (i : ℕ)
+    (e : Vec ℕ Global × Value)
+    → i ≡ place_in name (map named all) → i < length all → e ≡ get_or all i e
+    → Some (datum_of e.1) ≡ value_of_name name (map named all ++ more)
+few-value name all more i e at low is =
+    let many = length-map all named in
+    ap (λ p. Some p.1) (ap named is ∙ sym (get_or-map named all i e (named e) low))
+    ∙ ap (λ j. Some (get_or (map named all) j (named e)).1) at
+    ∙ value-placed name (map named all) more (named e) (omega (arith, many, at, low))
+
+-- one goes behind them
+pub few-push : (key : Vec ℕ Global) (v : Value) (all : List (Vec ℕ Global × Value)) (more : Names)
+    → length (map named all) ≤ place_in key.items (map named all) → more ≡ []
+    → map named (all ++ (key, v) ∷ []) ++ more ≡ with_name key.items (datum_of v) (map named all ++ more)
+few-push key v all more past none =
+    ap (λ m. map named (all ++ (key, v) ∷ []) ++ m) none
+    ∙ append-nil (map named (all ++ (key, v) ∷ [])) ∙ map-append named all ((key, v) ∷ [])
+    ∙ set-unplaced key.items (datum_of v) (map named all) [] past
+    ∙ ap (λ m. with_name key.items (datum_of v) (map named all ++ m)) (sym none)
+
+-- one goes into the map
+pub more-insert : (key : Vec ℕ Global) (v : Value) (xs : Names) (es : List (Vec ℕ Global × Value))
+    → length xs ≤ place_in key.items xs
+    → xs ++ map named (insert_entry same_key es key v)
+    ≡ with_name key.items (datum_of v) (xs ++ map named es)
+more-insert key v xs es past =
+    ap (λ l. xs ++ l) (named-insert es key v) ∙ set-unplaced key.items (datum_of v) xs (map named es) past
+
+-- ---- the search
+next : (name : List ℕ) (all : List (Vec ℕ Global × Value)) (i : ℕ) (e : Vec ℕ Global × Value)
+    → i < length all → e ≡ get_or all i e → place_in name (map named (drop i all))
+    ≡ (if is_same_name name e.0.items then 0 else suc (place_in name (map named (drop (i + 1) all))))
+next name all i e below is =
+    ap (λ l. place_in name (map named l)) (drop_more all i e below)
+    ∙ ap (λ p. place_in name (named p ∷ map named (drop (i + 1) all))) (sym is)
+
+pub place-here : (name : List ℕ) (all : List (Vec ℕ Global × Value)) (i : ℕ) (e : Vec ℕ Global × Value)
+    → i < length all → e ≡ get_or all i e → is_same_name name e.0.items ≡ true
+    → place_in name (map named (drop i all)) ≡ 0
+place-here name all i e below is same =
+    next name all i e below is
+    ∙ ap (λ b. if b then 0 else suc (place_in name (map named (drop (i + 1) all)))) same
+
+pub place-past : (name : List ℕ) (all : List (Vec ℕ Global × Value)) (i : ℕ) (e : Vec ℕ Global × Value)
+    → i < length all → e ≡ get_or all i e → is_same_name name e.0.items ≡ false
+    → place_in name (map named (drop i all)) ≡ suc (place_in name (map named (drop (i + 1) all)))
+place-past name all i e below is other =
+    next name all i e below is
+    ∙ ap (λ b. if b then 0 else suc (place_in name (map named (drop (i + 1) all)))) other
+
+pub place-none : (name : List ℕ) (all : List (Vec ℕ Global × Value)) (i : ℕ) → length all ≤ i
+    → place_in name (map named (drop i all)) ≡ 0
+place-none name all i past = ap (λ l. place_in name (map named l)) (drop_all i all past)

@@ -1,0 +1,12 @@
+use Rattle.std.proofs.Common.{ap, ◌∙◌, [], ◌∷◌, ◌++◌, map}
+use Rattle.scad_scope.specs.View.{named, more_in, names_in}
+use Rattle.scad_scope.proofs.Few.{few-push}
+use Rattle.scad_scope.proofs.names.Names.append.Goals as goal
+
+pub returns-clause-named : goal.returns-clause-named
+unfolding names_in
+returns-clause-named c =
+    ap (λ l. map named l ++ more_in c.args.self.now)
+    (c.in_ok-push.ensures.items ∙ ap (λ l. l ++ (c.args.name, c.args.value) ∷ []) c.make_room.ensures)
+    ∙ few-push c.args.name c.args.value c.args.self.now.few.items (more_in c.args.self.now) c.requires.absent
+    c.requires.last
