@@ -1,7 +1,7 @@
 -- What points in range have as their hull is a solid with triangles.
-use Rattle.std.proofs.Common.{◌≡◌, ℕ, ◌+◌, ◌<◌, true, false, ◌&&◌, List, [], ◌∷◌, length, refl, ap, ap₂, subst, sym, arith}
+use Rattle.std.proofs.Common.{◌≡◌, ◌<◌, true, false, ◌&&◌, List, [], ◌∷◌, length, refl, ap₂, subst, sym, arith}
 use lib.IntN.{pos}
-use Rattle.std.specs.Prelude.{IsTrue, Some, Ok, zero, suc}
+use Rattle.std.specs.Prelude.{IsTrue, Some, Ok}
 use Rattle.std.specs.List.{AllByRecursion, list_all}
 use Rattle.std.specs.List.Sorted.{IsStrictlySortedBy}
 use Rattle.std.proofs.lemmas.Int.{ints}
@@ -10,7 +10,7 @@ use Rattle.scad_geom.specs.Point.{Point}
 use Rattle.scad_geom.specs.PointRange.{is_in_range}
 use Rattle.scad_geom.specs.declared.point3.Pt3.{Pt3}
 use Rattle.scad_solid.specs.Range.{is_triangle_in_range}
-use Rattle.scad_solid.specs.Solid.{fan, fan_around, fans, IsSolid}
+use Rattle.scad_solid.specs.Solid.{fan, fan_around, fans}
 use Rattle.scad_solid.specs.declared.triangle.Triangle.{Triangle}
 use Rattle.scad_hull.specs.Distinct.{distinct}
 use Rattle.scad_hull.specs.Faces.{faces_of, hull_of}
@@ -22,7 +22,7 @@ use Rattle.scad_hull.proofs.FirstFaces.{told_all, told_at}
 use Rattle.scad_hull.proofs.Ranges.{range_kept}
 use Rattle.scad_hull.proofs.Rings.{all_joined}
 use Rattle.scad_hull.proofs.SameFaces.{corners_of}
-use Rattle.hull_laws.specs.Laws.{HullsHold, HullsAreSolids}
+use Rattle.hull_laws.specs.Laws.{HullsAreSolids}
 use Rattle.hull_laws.proofs.Holding.{hulls_hold}
 
 -- ---- the corners of fans
@@ -61,7 +61,7 @@ no_false e = cc
 -- a hull without triangles would hold every point, and a surface without triangles holds none
 some_triangles : (points : List Pt3) (ts : List Triangle) → hull_of points ≡ Ok (Some ts) → 0 < length ts
 some_triangles points [] e =
-    absurd (no_false ((hulls_hold.each points [] e 0 1 somewhere (omega ints) (All-nil _)).1 (All-nil _)))
+    absurd (no_false ((hulls_hold.each points [] e 0 1 somewhere (omega (arith, ints)) (All-nil _)).1 (All-nil _)))
 some_triangles points (t ∷ ts) e = omega arith
 
 pub hulls_are_solids : HullsAreSolids

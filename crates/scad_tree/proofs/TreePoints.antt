@@ -1,6 +1,7 @@
 -- The points of a tree by its parts, and that they are in range where those of its parts are.
-use Rattle.std.proofs.Common.{◌≡◌, ℕ, zero, suc, arith, ◌+◌, ◌<◌, ◌≤◌, true, Bool, ◌&&◌, List, [], ◌∷◌, ◌++◌, length, get_or, drop, refl, sym, ap, ap₂, ◌∙◌, append_assoc}
-use Rattle.std.specs.List.{flat_map, list_all}
+use Rattle.std.proofs.Common.{◌≡◌, ℕ, zero, suc, arith, ◌+◌, ◌<◌, ◌≤◌, true, ◌&&◌, List, [], ◌∷◌, ◌++◌, length, get_or, drop, refl, sym, ap, ap₂, ◌∙◌, append_assoc}
+use lib.IntN.{pos}
+use Rattle.std.specs.List.{list_all}
 use Rattle.std.proofs.lemmas.Bool.{and_parts}
 use Rattle.std.proofs.lemmas.Grind.{flat_map-append}
 use Rattle.std.proofs.lemmas.List.{append-nil, drop_more, drop_all}
@@ -12,7 +13,7 @@ use Rattle.scad_solid.specs.declared.triangle.Triangle.{Triangle}
 use Rattle.scad_tree.specs.declared.node.Node.{Node}
 use Rattle.scad_tree.specs.Order.{surfaces, all_surfaces}
 use Rattle.scad_tree.specs.Points.{corners_of, corners, points_of, all_points}
-use Rattle.scad_tree.specs.Solid.{Solid, Solids, surface, difference, none, member, members}
+use Rattle.scad_tree.specs.Solid.{Solid, Solids, surface, difference, member, members}
 use Rattle.scad_tree.specs.View.{solid_of, solids}
 use Rattle.scad_tree.proofs.Rows.{left-more, left-none}
 
@@ -46,19 +47,19 @@ points-end all i out whole past so_far =
 
 -- ---- of triangles
 -- one more
-pub corners-more : (all : List Triangle) (i : ℕ) (t : Triangle) (old new whole : List Pt3) → i < length all
-    → t ≡ get_or all i t → new ≡ old ++ corners_of t → old ++ corners (drop i all) ≡ whole
+pub corners-more : (all : List Triangle) (i : ℕ) (d : Triangle) (old new whole : List Pt3) → i < length all
+    → new ≡ old ++ corners_of (get_or all i d) → old ++ corners (drop i all) ≡ whole
     → new ++ corners (drop (i + 1) all) ≡ whole
-corners-more all i t old new whole below is pushed so_far =
+corners-more all i d old new whole below pushed so_far =
+    let here = corners_of (get_or all i d) in
     let rest = corners (drop (i + 1) all) in
-    ap (λ (l : List Pt3). l ++ rest) pushed ∙ append_assoc old (corners_of t) rest
-    ∙ ap (λ (u : Triangle). old ++ (corners_of u ++ rest)) is
-    ∙ ap (λ (ts : List Triangle). old ++ corners ts) (sym (drop_more all i t below is)) ∙ so_far
+    ap (λ (l : List Pt3). l ++ rest) pushed ∙ append_assoc old here rest
+    ∙ ap (λ (ts : List Triangle). old ++ corners ts) (sym (drop_more all i d below)) ∙ so_far
 
 pub corners-end : (all : List Triangle) (i : ℕ) (out whole : List Pt3) → length all ≤ i
     → out ++ corners (drop i all) ≡ whole → out ≡ whole
 corners-end all i out whole past so_far =
-    sym (append-nil out) ∙ ap (λ (ts : List Triangle). out ++ corners ts) (sym (drop_all all i past)) ∙ so_far
+    sym (append-nil out) ∙ ap (λ (ts : List Triangle). out ++ corners ts) (sym (drop_all i all past)) ∙ so_far
 
 -- its corners, one after another
 pub three-pushed : (old first second third : List Pt3) (t : Triangle) → first ≡ old ++ t.a ∷ []
@@ -79,14 +80,21 @@ pub range-both : (ps qs : List Pt3) → list_all is_in_range ps ≡ true → lis
 range-both ps qs first rest = list_all-append is_in_range ps qs ∙ ap₂ (λ x y. x && y) first rest
 
 -- one triangle of those in range
-pub triangle-at : (all : List Triangle) (i : ℕ) (t : Triangle) → list_all is_triangle_in_range all ≡ true
-    → i < length all → t ≡ get_or all i t → is_triangle_in_range t ≡ true
-triangle-at [] i t ranged below is = absurd (omega (arith, below))
-triangle-at (u ∷ all) zero t ranged below is =
-    ap is_triangle_in_range is ∙ (and_parts (is_triangle_in_range u) (list_all is_triangle_in_range all) ranged).0
-triangle-at (u ∷ all) (suc i) t ranged below is =
-    triangle-at all i t (and_parts (is_triangle_in_range u) (list_all is_triangle_in_range all) ranged).1
-    (omega (arith, below)) is
+pub triangle-at : (all : List Triangle) (i : ℕ) (d : Triangle) → list_all is_triangle_in_range all ≡ true
+    → i < length all → is_triangle_in_range (get_or all i d) ≡ true
+triangle-at [] i d ranged below = absurd (omega (arith, below))
+triangle-at (t ∷ all) zero d ranged below =
+    (and_parts (is_triangle_in_range t) (list_all is_triangle_in_range all) ranged).0
+triangle-at (t ∷ all) (suc i) d ranged below =
+    triangle-at all i d (and_parts (is_triangle_in_range t) (list_all is_triangle_in_range all) ranged).1
+    (omega (arith, below))
+
+-- what a loop over triangles gives past their end
+abbrev no_point : Pt3
+no_point = record { x = pos 0; y = pos 0; z = pos 0 }
+
+abbrev pub no_triangle : Triangle
+no_triangle = record { a = no_point; b = no_point; c = no_point }
 
 pub ruleset nodes_left = (points-more, points-end)
 

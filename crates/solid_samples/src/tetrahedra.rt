@@ -95,3 +95,24 @@ fn numbers_its_leaves(rt: HostRuntime) -> Result<(), Fail> {
     assert_eq!(rt; matches!(Tree::empty().shape(alloc)?, Shape::Empty), true);
     Ok(())
 }
+
+#[test]
+fn tells_its_points_and_whether_it_is_united(rt: HostRuntime) -> Result<(), Fail> {
+    let alloc = rt.alloc();
+    let mut corners = Vec::new(alloc);
+    for p in carved(alloc)?.points(alloc)? {
+        corners.push((p.x, p.y, p.z))?;
+    }
+    assert_eq!(rt; corners.len(), 48);
+    let first = [(0, 0, 0), (1000, 0, 0), (0, 1000, 0), (0, 0, 0), (0, 0, 1000), (1000, 0, 0)];
+    assert_eq!(rt; corners.as_slice().get(..6), Some(first.as_slice()));
+    assert_eq!(rt; carved(alloc)?.is_united(), false);
+    let both = unite(alloc, trees(alloc, &[400, 300])?)?;
+    assert_eq!(rt; (both.is_united(), both.is_empty()), (true, false));
+    let shared = intersect(alloc, trees(alloc, &[400, 300])?)?;
+    assert_eq!(rt; (shared.is_united(), shared.is_empty()), (false, false));
+    let none = Tree::empty();
+    assert_eq!(rt; (none.is_united(), none.is_empty()), (true, true));
+    assert_eq!(rt; none.points(alloc)?.len(), 0);
+    Ok(())
+}
