@@ -19,7 +19,7 @@ use Rattle.scad_run.specs.Inputs.{Inputs, source_limit, IsRead, GoBy}
 use Rattle.scad_run.specs.Meaning.{MeansTree, Means}
 use Rattle.scad_run.specs.Printing.{PlanAddsPrint}
 use Rattle.scad_run.specs.Headline.{Prints, Headline}
-use Rattle.scad_run.proofs.Sources.{as_part}
+use Rattle.scad_run.proofs.Sources.{as_part, sources_mean_one}
 use Rattle.scad_run.proofs.Told.{source_is, settings_are}
 use Rattle.scad_run.proofs.Planned.{layouts, written_is, program_is, are_layers}
 use Rattle.scad_run.proofs.Printed.{words_finished}
@@ -103,6 +103,7 @@ pub headline : (words : List (List ℕ)) (files : Files) (inputs : Inputs) (part
     → (status ≡ Write → before < now) → Headline Means words files status old new before now
 headline words files inputs parts status old new before now printed one is drawn promised read write =
     record {
+      meaning = sources_mean_one;
       prints = λ done. prints words files old new (adds_print words files inputs parts status old new is drawn promised
           printed one done);
       cause = has_cause words files inputs parts status old new before now is drawn promised read write;

@@ -1,5 +1,5 @@
 -- What sources mean: trees of solids, and no want of memory; parts of their trees.
-use Rattle.std.proofs.Common.{◌≡◌, Result, Ok, Err}
+use Rattle.std.proofs.Common.{◌≡◌, List, ℕ, Result, Ok, Err, refl, sym, ap, ◌∙◌}
 use Rattle.scad_ast.specs.Tree.{Items}
 use Rattle.scad_words.specs.declared.settings.Settings.{Settings}
 use Rattle.scad_words.specs.Settings.{AreInRange}
@@ -7,16 +7,17 @@ use Rattle.scad_grammar.specs.Machine.{Refusal, syntax_at, nesting_at, left_out_
 use Rattle.scad_lex.specs.declared.fault.LexFault.TheVariants.{BadText, Range, Memory}
 use Rattle.scad_lex.specs.Tokens.{Answer, tokens}
 use Rattle.scad_lex.proofs.Refusals.{IsOfText, of_text-tokens}
-use Rattle.scad_expr.specs.declared.fault.EvalFault.TheVariants.{Memory as WantOfMemory}
-use Rattle.scad_expr.specs.State.{State, gives, refuses}
+use Rattle.scad_expr.specs.declared.fault.EvalFault.TheVariants.{Fault, Over, Memory as WantOfMemory}
+use Rattle.scad_expr.specs.State.{State, Outcome, gives, refuses}
 use Rattle.scad_tree.specs.Solid.{Solid}
 use Rattle.scad_tree.specs.Solids.{AreSolids}
 use Rattle.meaning_laws.proofs.Programs.{programs_mean_solids, programs_want_no_memory}
 use Rattle.slice_work.specs.declared.want.Want.{Want}
 use Rattle.scad_slice.specs.Parts.{IsPart}
 use Rattle.scad_run.specs.Answer.{Parts, ArePartsOfTree}
-use Rattle.scad_run.specs.Meaning.{program_means, tokens_mean, source_means}
-use Rattle.scad_run.specs.Laws.{SourcesMeanSolids, SourcesWantNoMemory}
+use Rattle.scad_run.specs.Meant.{Meant, meant_tree, meant_fault, meant_budget}
+use Rattle.scad_run.specs.Meaning.{program_means, tokens_mean, source_means, Means}
+use Rattle.scad_run.specs.Laws.{SourcesMeanSolids, SourcesWantNoMemory, SourcesMeanOne}
 
 -- ---- solids
 program_solids : (r : Result Items Refusal) (tree : Solid) (s : State) → program_means r ≡ gives tree s → AreSolids tree
@@ -47,6 +48,34 @@ tokens_want (Err Memory) s of_text is = of_text
 pub sources_want_no_memory : SourcesWantNoMemory
 unfolding source_means
 sources_want_no_memory source s is = tokens_want (tokens source) s (of_text-tokens source) is
+
+-- ---- one meaning
+meaning_there : (source : List ℕ) (outcome : Outcome Solid) → source_means source ≡ outcome
+    → (meant : Meant) × Means source meant
+meaning_there source (gives tree s) is = (meant_tree tree, (s, is))
+meaning_there source (refuses (Fault fault) s) is = (meant_fault fault, (s, is))
+meaning_there source (refuses (Over budget) s) is = (meant_budget budget, (s, is))
+meaning_there source (refuses WantOfMemory s) is = absurd (sources_want_no_memory source s is)
+
+-- what an outcome means; of want of memory nothing is asked
+abbrev meant_by : Meant → Outcome Solid → Meant
+meant_by other (gives tree s) = meant_tree tree
+meant_by other (refuses (Fault fault) s) = meant_fault fault
+meant_by other (refuses (Over budget) s) = meant_budget budget
+meant_by other (refuses WantOfMemory s) = other
+
+meant_is : (source : List ℕ) (meant other : Meant) → Means source meant → meant_by other (source_means source) ≡ meant
+meant_is source (meant_tree tree) other (s, is) = ap (meant_by other) is
+meant_is source (meant_fault fault) other (s, is) = ap (meant_by other) is
+meant_is source (meant_budget budget) other (s, is) = ap (meant_by other) is
+
+pub sources_mean_one : SourcesMeanOne
+sources_mean_one source =
+    let there = meaning_there source (source_means source) refl in (
+      there.0,
+      there.1,
+      λ other is. sym (meant_is source other other is) ∙ meant_is source there.0 other there.1,
+    )
 
 -- ---- parts
 -- by settings in range each of a tree's parts is a part of it

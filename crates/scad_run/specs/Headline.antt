@@ -17,7 +17,7 @@ use Rattle.scad_words.specs.Job.{job_of}
 use Rattle.scad_tree.specs.Solid.{Solid}
 use Rattle.print_laws.specs.Print.{IsPrintOf}
 use Rattle.scad_run.specs.Inputs.{source_limit, GoBy}
-use Rattle.scad_run.specs.Meant.{Meant, meant_tree}
+use Rattle.scad_run.specs.Meant.{Meant, meant_tree, EachMeansOne}
 use Rattle.scad_run.specs.Causes.{HasNamedCause}
 
 -- ---- the desk tells
@@ -59,8 +59,11 @@ Prints Means words files old new =
     → IsPrinted Means desk name model new
 
 -- ---- the headline
+-- Since a source means one thing and a tree has one print by settings, both files' bytes are one function of source and
+-- settings.
 pub record Headline (Means : List ℕ → Meant → Type 0) (words : List (List ℕ)) (files : Files) (status : Status)
     (old new : View) (before now : ℕ)
     : Type 0 where
+  pub meaning : EachMeansOne Means
   pub prints : status ≡ Done → Prints Means words files old new
   pub cause : HasNamedCause Means words files status old new before now

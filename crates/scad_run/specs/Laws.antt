@@ -10,7 +10,8 @@ use Rattle.scad_expr.specs.declared.fault.EvalFault.TheVariants.{Memory}
 use Rattle.scad_expr.specs.State.{State, gives, refuses}
 use Rattle.scad_tree.specs.Solid.{Solid}
 use Rattle.scad_tree.specs.Solids.{AreSolids}
-use Rattle.scad_run.specs.Meaning.{source_means}
+use Rattle.scad_run.specs.Meant.{EachMeansOne}
+use Rattle.scad_run.specs.Meaning.{source_means, Means}
 use Rattle.scad_run.specs.Answer.{Parts, script_of, AreDrawn, AreParts}
 use Rattle.scad_run.specs.Inputs.{Inputs, settings_found}
 use Rattle.scad_run.specs.Causes.{IsMissing}
@@ -22,6 +23,10 @@ SourcesMeanSolids = (source : List ℕ) (tree : Solid) (s : State) → source_me
 -- no source means that memory is wanting: it means a tree, or a fault or a budget of its own
 abbrev pub SourcesWantNoMemory : Type 0
 SourcesWantNoMemory = (source : List ℕ) (s : State) → source_means source ≢ refuses Memory s
+
+-- so it means a tree, a fault or a budget, and one of them alone
+abbrev pub SourcesMeanOne : Type 0
+SourcesMeanOne = EachMeansOne Means
 
 -- the settings of a run are in their ranges, those that were read and the defaults
 abbrev pub SettingsAreInRange : Type 0

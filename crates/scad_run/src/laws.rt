@@ -1,11 +1,16 @@
 //! Laws of what sources mean and of the answer, each carried by the contract of a function that does nothing.
-ghost use Rattle.scad_run.specs.Laws.{SourcesMeanSolids, SourcesWantNoMemory, SettingsAreInRange};
-ghost use Rattle.scad_run.specs.Laws.{AnswersAreThere, AnswersAreOne, AnswersLackFiles};
+ghost use Rattle.scad_run.specs.Laws.{SourcesMeanSolids, SourcesWantNoMemory, SourcesMeanOne};
+ghost use Rattle.scad_run.specs.Laws.{SettingsAreInRange, AnswersAreThere, AnswersAreOne, AnswersLackFiles};
 
 /// The tree that a source means is of solids; no source means that memory is wanting.
 pub fn sources_mean_solids()
     ensures solids { SourcesMeanSolids }
     ensures no_want { SourcesWantNoMemory }
+{}
+
+/// A source means a tree, a fault or a budget, and one of them alone.
+pub fn sources_mean_one()
+    ensures { SourcesMeanOne }
 {}
 
 /// The settings that a run goes by are in their ranges.
