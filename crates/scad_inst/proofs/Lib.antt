@@ -4,6 +4,7 @@ pub mod ExampleWords
 pub mod ExamplesCalls
 pub mod ExamplesExtruded
 pub mod ExamplesFlatRefused
+pub mod ExamplesHulls
 pub mod ExamplesOrder
 pub mod ExamplesPlaced
 pub mod ExamplesRefused

@@ -131,13 +131,12 @@ fn hull_profile<'p>(
     let Some(ring) = found else {
         return Ok(Tree::empty());
     };
-    let at = stand.at;
     let points = ring.as_slice();
-    count_leaf(at, m)?;
-    judge_points(at, points.len())?;
+    count_leaf(stand.at, m)?;
+    judge_points(stand.at, points.len())?;
     judge_sides(alloc, t.word, points)?;
     replace_profiles(stand.from, points, m)?;
-    swept(alloc, at, points, t, &stand.whole, m)
+    swept(alloc, stand.at, points, t, &stand.whole, m)
 }
 
 /// Where a hull inside `rotate_extrude` stands, and the number from which on the points of profiles are its own.
