@@ -16,6 +16,7 @@ pub mod Heights
 pub mod Homes
 pub mod HullsMade
 pub mod Items
+pub mod KeptPoints
 pub mod KeptRound
 pub mod Levels
 pub mod OnLiterals

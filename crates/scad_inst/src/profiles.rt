@@ -21,6 +21,7 @@ pub(crate) fn profile_count(m: &Machine) -> usize
 }
 
 /// Those from a number on.
+#[tactic(auto, using(crate::proofs::KeptPoints::points))]
 pub(crate) fn profiles_from<'a>(from: usize, m: &'a Machine) -> &'a [(Num, Num)]
     ensures { result.now ≡ drop from m.now.profiles.items }
 {
