@@ -16,5 +16,5 @@ returns c = λ args found o is.
     (rest c.args.stack.now) (rest c.push.new.self) (made_in c.args.stack.now) (made_in c.push.new.self)
     (state_of c.args.m.now) (combined (below_of (held c.args.m.now)) Unite c.args.call.at c.args.w.now
     (items c.args.call.all.now.items) (env_in (held c.args.m.now)) (along_in (held c.args.m.now))
-        (state_of c.args.m.now))
+    (state_of c.args.m.now))
     c.profile_count-from.ensures c.in_ok-push.ensures.rest c.in_ok-push.ensures.made)
