@@ -44,8 +44,7 @@ pub record IsFirstPart (of : Stretch) (until : ℤ) (part : Stretch) : Type 0 wh
   pub each : (z : ℤ) → of.from ≤ℤ z → z <ℤ of.until → has_place part z ≡ int_lt z until
 
 -- r is a number between two others, or the nearer one of the two: the numbers from the first on and before the second
--- come after
--- both or before both
+-- come after both or before both
 pub record IsClamped (z low high r : ℤ) : Type 0 where
   pub from : low ≤ℤ r
   pub to : r ≤ℤ high

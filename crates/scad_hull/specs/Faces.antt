@@ -56,10 +56,8 @@ pub record IsFacePlane (ps : List Pt3) (a : Pt3) (n : Normal) : Type 0 where
   pub round : pos 0 <ℤ dot_of n (normal_of first second third)
 
 -- a face of points: there is a plane with none of them outside, and the face is the convex ring round those in it. It
--- has three or more of
--- them as its corners, holds all of them, goes clockwise as seen from outside, none of its corners lies on the line
--- through its neighbours,
--- and it starts with its least corner by z, y, x.
+-- has three or more of them as its corners, holds all of them, goes clockwise as seen from outside, none of its corners
+-- lies on the line through its neighbours, and it starts with its least corner by z, y, x.
 pub record IsFace (ps face : List Pt3) : Type 0 where
   pub base : Pt3
   pub normal : Normal

@@ -30,8 +30,7 @@ module _ {X : Type 0} (left : X → X → X → ℤ) where
     StartsFirst (p ∷ ps) = All (Before p) ps
 
     -- the ring's corners are three or more of the points, each a corner; it has all points on its left; and it starts
-    -- with its first
-    -- corner, which comes once, so that it goes round once
+    -- with its first corner, which comes once, so that it goes round once
     pub record IsConvexRing (points ring : List X) : Type 0 where
       pub three : 3 ≤ length ring
       pub corners : All (Contains points) ring

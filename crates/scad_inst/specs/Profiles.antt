@@ -1,9 +1,7 @@
 -- The points of the profiles inside `rotate_extrude` whose leaves stand in trees. A tree tells nothing of the profile
--- that
--- a leaf was turned from; so they are kept beside it, in the order in which the leaves were made. A statement whose
--- tree
--- is empty keeps none of its own: operations drop leaves only by making an empty tree, so a tree that is made by union
--- alone has exactly the leaves whose points its statement kept.
+-- that a leaf was turned from; so they are kept beside it, in the order in which the leaves were made. A statement
+-- whose tree is empty keeps none of its own: operations drop leaves only by making an empty tree, so a tree that is
+-- made by union alone has exactly the leaves whose points its statement kept.
 use Rattle.std.specs.Prelude.{ℕ, ◌++◌, List, length, take, drop, if◌then◌else◌}
 use Rattle.scad_modules.specs.Outline.{Pair}
 use Rattle.scad_tree.specs.Normal.{is_nothing}

@@ -1,6 +1,5 @@
 -- Where a segment meets a convex region round the origin. It does where its line crosses a way through the origin
--- between two
--- points of the region, v and its mirror image, and no half plane of the region leaves out both its ends.
+-- between two points of the region, v and its mirror image, and no half plane of the region leaves out both its ends.
 use Rattle.std.proofs.Common.{◌≡◌, ◌⊎◌, inl, inr, [], ◌∷◌, refl, ap₂, arith, ℤ, pos, ◌+ℤ◌, ◌-ℤ◌, ◌*ℤ◌, ◌<ℤ◌}
 use lib.Signed.{◌≤ℤ◌}
 use Rattle.std.proofs.lemmas.Int.{ints}
@@ -73,8 +72,7 @@ pub gap_times : (c a w : ℤ) → (c -ℤ a) *ℤ w ≡ c *ℤ w -ℤ a *ℤ w
 gap_times c a w = ring (c ∷ a ∷ w ∷ []) ((v0 ⊖ v1) ⊗ v2) (v0 ⊗ v2 ⊖ v1 ⊗ v2) refl
 
 -- a number times w above 0 is x less a product of k from 0 on and its excess over another: it is at most c where the
--- other is,
--- or x at most c times w
+-- other is, or x at most c times w
 at_most : (c w x k a b : ℤ) → pos 0 <ℤ w → pos 0 ≤ℤ k → a *ℤ w ≡ x -ℤ k *ℤ (a -ℤ b)
     → x ≤ℤ (c *ℤ w) → (a ≤ℤ c) ⊎ (b ≤ℤ c) → a ≤ℤ c
 at_most c w x k a b p h e i (inl j) = j

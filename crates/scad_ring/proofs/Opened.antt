@@ -1,8 +1,6 @@
--- Where nearness is open. A point that comes near without the octagon's border stays near with it where the other
--- point is moved
--- a little along an axis; and what is near by a closed octagon is near by an open one, greater by 1 along each axis,
--- to what lies
--- less than 1 away.
+-- Where nearness is open. A point that comes near without the octagon's border stays near with it where the other point
+-- is moved a little along an axis; and what is near by a closed octagon is near by an open one, greater by 1 along each
+-- axis, to what lies less than 1 away.
 use Rattle.std.proofs.Common.{◌≡◌, [], ◌∷◌, refl, arith, ℤ, pos, neg_ℤ, ◌+ℤ◌, ◌-ℤ◌, ◌*ℤ◌, ◌<ℤ◌}
 use lib.Signed.{◌≤ℤ◌}
 use Rattle.std.proofs.lemmas.Int.{ints}
@@ -152,8 +150,7 @@ by_one n m c e px py pd qx qy qd bx by bd hp hq hb near one =
         (v3 ⊗ (v9 ⊗ v12) ⊖ (v0 ⊗ (v7 ⊗ v12 ⊖ v10 ⊗ v9) ⊕ v1 ⊗ (v8 ⊗ v12 ⊖ v11 ⊗ v9)))) refl
 
 -- what is near to q by a closed octagon is near by the open one, greater by 1 and by 2 in sum, to each point b that q
--- lies less
--- than 1 away from along both axes
+-- lies less than 1 away from along both axes
 pub near_by_one : (c u : ℤ) (b q p : Point) → pos 0 <ℤ b.d → pos 0 <ℤ q.d → pos 0 <ℤ p.d
     → IsWithinOne b q → IsNear Closed (octagon c u) q p → IsNear Open (octagon (c +ℤ pos 1) (u +ℤ pos 2)) b p
 near_by_one c u b q p hb hq hp w h =

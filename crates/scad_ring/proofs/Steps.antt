@@ -1,6 +1,5 @@
 -- The sides of a ring by an octagon: ways along the octagon's own sides, and along the edge. On which side of them a
--- point lies
--- is what the octagon's half planes say of the edge's ends, and how far its line lies from the point.
+-- point lies is what the octagon's half planes say of the edge's ends, and how far its line lies from the point.
 use Rattle.std.proofs.Common.{◌≡◌, [], ◌∷◌, refl, ap₂, ap, arith, ℤ, pos, ◌+ℤ◌, ◌-ℤ◌, ◌*ℤ◌, ◌<ℤ◌}
 use lib.Signed.{◌≤ℤ◌}
 use Rattle.std.proofs.lemmas.Int.{ints}

@@ -1,6 +1,5 @@
 -- The corners of the ring by an octagon, by the direction of the edge. The octagon has the half width c, and its
--- corners
--- are (c, t), (t, c) and their mirror images.
+-- corners are (c, t), (t, c) and their mirror images.
 use Rattle.std.specs.Prelude.{ℕ, if◌then◌else◌, cond, ◌&&◌, ◌||◌, Bool, List, [], ◌∷◌, ℤ, pos, ◌+ℤ◌, ◌-ℤ◌, neg_ℤ, int_lt, int_le}
 use Rattle.scad_geom.specs.declared.point.Pt.{Pt}
 use Rattle.scad_geom.specs.declared.point.Edge.{Edge}
@@ -68,8 +67,7 @@ left c p = at (p.x -ℤ c) p.y
 
 -- ---- the ring
 -- round the edge from p to r, of an octagon with eight corners: ten corners, and eight where the edge is a point or
--- runs
--- along the octagon's sides
+-- runs along the octagon's sides
 abbrev pub eight_sided : ℤ → ℤ → Pt → Pt → Direction → List Pt
 eight_sided c t p r Still =
     low_left c t p ∷ low_right c t r ∷ right_low c t r ∷ right_high c t r

@@ -1,6 +1,5 @@
 -- The convex ring of an edge widened by an octagon: the outline of the points that differ from some point of the edge
--- by
--- a point of the octagon.
+-- by a point of the octagon.
 use Rattle.std.specs.Prelude.{◌≡◌, ◌↔◌, ◌⊎◌, ℕ, List, [], ◌∷◌, ◌++◌, pos, ◌<ℤ◌, ◌≤ℤ◌, All}
 use Rattle.scad_geom.specs.declared.point.Pt.{Pt}
 use Rattle.scad_geom.specs.declared.point.Edge.{Edge}

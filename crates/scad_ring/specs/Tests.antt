@@ -1,6 +1,5 @@
 -- The tests by which `octagon_meets` decides, of a segment from a to b that doesn't fall, as the point sees it. Only
--- the
--- contracts of its parts cite them; what it promises is said in Nearness.
+-- the contracts of its parts cite them; what it promises is said in Nearness.
 use Rattle.std.specs.Prelude.{Bool, if◌then◌else◌, ◌&&◌, ◌||◌, ℤ, pos, neg_ℤ, ◌+ℤ◌, ◌-ℤ◌, ◌*ℤ◌, int_le}
 
 -- two numbers aren't both above w, nor both below -w

@@ -1,6 +1,5 @@
 -- No two pieces of one name overlap: pieces of different heights and of different stretches lie apart, and those
--- between two
--- heights have different names.
+-- between two heights have different names.
 use Rattle.std.proofs.Common.{◌≡◌, ℕ, inl, inr, Bool, true, false, List, [], ◌∷◌, ◌++◌, sym, arith, subst}
 use lib.IntN.{pos}
 use lib.Signed.{◌<ℤ◌}

@@ -1,6 +1,5 @@
 -- Round a closed list of edges: where flat edges lie on one side of a point, a leaf's winding numbers hard above the
--- point
--- and hard below it are one.
+-- point and hard below it are one.
 use Rattle.std.proofs.Common.{◌≡◌, ℕ, ◌+◌, ◌≤◌, Bool, true, false, cond, List, [], ◌∷◌, refl, sym, ap, ap₂, ◌∙◌, arith}
 use lib.IntN.{ℤ, pos, ◌+ℤ◌, ◌-ℤ◌}
 use lib.Signed.{◌<ℤ◌}

@@ -1,6 +1,5 @@
 -- Each point of each side of a shape's outlines lies less than one from a border point: rounding moves a point by at
--- most one
--- half, and beside each point of a piece lies a border point within a quarter.
+-- most one half, and beside each point of a piece lies a border point within a quarter.
 use Rattle.std.proofs.Common.{Bool, true, false, cond, inl, inr, List, [], ◌∷◌, ◌++◌, get_or, map, filter, flat_map, arith}
 use lib.IntN.{ℤ, pos, ◌+ℤ◌, ◌-ℤ◌, ◌*ℤ◌}
 use lib.Signed.{◌<ℤ◌, ◌≤ℤ◌}

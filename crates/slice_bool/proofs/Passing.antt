@@ -1,6 +1,5 @@
 -- Between two neighbouring heights: the bundles that lie to the right of a point are the last ones, and a leaf's
--- winding
--- number round the point is the sum of the headings of its edges in them.
+-- winding number round the point is the sum of the headings of its edges in them.
 use Rattle.std.proofs.Common.{◌≡◌, ℕ, Bool, true, false, List, [], ◌∷◌, sym, ap, ◌∙◌, arith}
 use lib.IntN.{ℤ, pos, ◌*ℤ◌}
 use lib.Signed.{◌<ℤ◌, ◌≤ℤ◌}

@@ -22,8 +22,7 @@ AreChangesCovered edges shape (s ∷ (t ∷ ss)) =
 
 -- ---- the law
 -- Where the edges of each leaf are balanced, the values just above and just below a stretch between neighbouring stops
--- of a
--- level differ only where a flat edge covers it.
+-- of a level differ only where a flat edge covers it.
 abbrev pub StretchesAreCovered : Type 0
 StretchesAreCovered =
     (es : List LeafEdge) (shape : Shape) → AreLeavesBalanced es → (l : Level) → pos 0 <ℤ l.d

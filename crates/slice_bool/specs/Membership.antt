@@ -26,8 +26,7 @@ HoldCentres edges shape outlines =
 
 -- ---- the laws
 -- Where the edges of each leaf are balanced, the outlines of a shape wind once round each point that is clear of the
--- edges by
--- one half and that the shape holds, hard by it on each side, and not at all round any other such point.
+-- edges by one half and that the shape holds, hard by it on each side, and not at all round any other such point.
 abbrev pub OutlinesHoldPoints : Type 0
 OutlinesHoldPoints =
     (es : List LeafEdge) (shape : Shape) (outlines : List (List Pt)) → AreLeavesBalanced es

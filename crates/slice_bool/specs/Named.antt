@@ -9,8 +9,7 @@ use Rattle.slice_bool.specs.Pieces.{ArePieces}
 
 -- ---- the law
 -- The pieces of a border are named by the numbers of its edges: none is empty, each lies along the edge of its name,
--- and those
--- of one name don't overlap.
+-- and those of one name don't overlap.
 abbrev pub PiecesAreNamed : Type 0
 PiecesAreNamed = (es : List LeafEdge) (shape : Shape) (pieces : List Piece) → ArePieces es shape pieces
     → AreNamed (length es) (edge_at es) pieces

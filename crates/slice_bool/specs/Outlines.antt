@@ -13,8 +13,7 @@ use Rattle.slice_loops.specs.Outlines.{AreOutlines}
 use Rattle.slice_bool.specs.Pieces.{ArePieces}
 
 -- the outlines that pieces make: pieces of one name are merged where two alone meet, the ends are rounded, opposite
--- edges cancel,
--- and those left are joined to closed outlines
+-- edges cancel, and those left are joined to closed outlines
 pub record AreMadeOf (pieces : List Piece) (outlines : List (List Pt)) : Type 0 where
   pub merged : List Piece
   pub left : List Edge
