@@ -15,6 +15,9 @@ pub mod FlatHolds
 pub mod Escape
 pub mod Surrounds
 pub mod Turned
+pub mod Boxes
+pub mod Blocked
+pub mod Skipped
 pub mod Mirrored
 pub mod Seen
 pub mod NextPlanes

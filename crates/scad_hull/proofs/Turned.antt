@@ -1,5 +1,5 @@
 -- One more point for the outermost plane.
-use Rattle.std.proofs.Common.{◌≡◌, ◌⊎◌, inl, inr, ℕ, zero, suc, ◌+◌, ◌<◌, Bool, true, false, List, [], ◌∷◌, length, get_or, refl, sym, ap, ◌∙◌, arith, subst}
+use Rattle.std.proofs.Common.{◌≡◌, ◌⊎◌, inl, inr, ℕ, zero, suc, ◌+◌, ◌<◌, ◌≤◌, Bool, true, false, List, [], ◌∷◌, length, get_or, refl, sym, ap, ◌∙◌, arith, subst}
 use lib.IntN.{ℤ, pos, ◌+ℤ◌, ◌-ℤ◌, ◌*ℤ◌}
 use lib.Signed.{◌<ℤ◌, ◌≤ℤ◌}
 use Rattle.std.specs.Prelude.{int_lt, if◌then◌else◌}
@@ -109,6 +109,41 @@ module _ (a b : Pt3) where
           (not_below (depth_of n a p) e));
     }
 
+    -- a point outside of the plane so far lies beyond it, in front of the known plane
+    beyond_it : (n : Normal) (j : ℕ) (t : IsTurned a b ps n j) → int_lt (depth_of n a p) (pos 0) ≡ true
+        → volume_on t.met p <ℤ pos 0
+    beyond_it n j t e = subst (λ m. depth_of m a p <ℤ pos 0) t.is (below (depth_of n a p) e)
+
+    in_front : (n : Normal) (j : ℕ) (t : IsTurned a b ps n j) → int_lt (depth_of n a p) (pos 0) ≡ true
+        → IsInFront t.known a b p
+    in_front n j t e = elim (subst (λ r. IsOnLine a b r ⊎ IsInFront t.known a b r) (is p)
+        (t.facing.front i p inside)) [
+      | inl line ↦ absurd (clash (volume_on t.met p) (on_line t.met p line) (beyond_it n j t e))
+      | inr front ↦ front
+    ]
+
+    -- the plane through it, before the points are looked at one after another
+    glance : (n : Normal) → IsTurned a b ps n 0 → int_lt (depth_of n a p) (pos 0) ≡ true
+        → IsTurned a b ps (normal_of a b p) 0
+    glance n t e = record {
+      known = t.known;
+      facing = t.facing;
+      met = p;
+      is = refl;
+      there = (i, inside, is p);
+      front = in_front n 0 t e;
+      inward = λ k d h. absurd (omega arith);
+    }
+
+    pub glance_normal : (n m : Normal) → IsTurned a b ps n 0
+        → m ≡ (if int_lt (depth_of n a p) (pos 0) then normal_of a b p else n) → IsTurned a b ps m 0
+    glance_normal n m t e = subst (λ k. IsTurned a b ps k 0) (sym e) (by_test (int_lt (depth_of n a p) (pos 0)) refl)
+      where
+        by_test : (c : Bool) → int_lt (depth_of n a p) (pos 0) ≡ c
+            → IsTurned a b ps (if c then normal_of a b p else n) 0
+        by_test true h = glance n t h
+        by_test false h = t
+
     pub next_normal : (n : Normal) → IsTurned a b ps n i → int_lt (depth_of n a p) (pos 0) ≡ true
         → IsTurned a b ps (normal_of a b p) (i + 1)
     next_normal n t e = record {
@@ -123,13 +158,10 @@ module _ (a b : Pt3) where
     }
       where
         further : volume_on t.met p <ℤ pos 0
-        further = subst (λ m. depth_of m a p <ℤ pos 0) t.is (below (depth_of n a p) e)
+        further = beyond_it n i t e
 
         ahead : IsInFront t.known a b p
-        ahead = elim (subst (λ r. IsOnLine a b r ⊎ IsInFront t.known a b r) (is p) (t.facing.front i p inside)) [
-          | inl line ↦ absurd (clash (volume_on t.met p) (on_line t.met p line) further)
-          | inr front ↦ front
-        ]
+        ahead = in_front n i t e
 
         earlier : (k : ℕ) (d : Pt3) → k < i → pos 0 ≤ℤ volume_on p (get_or ps k d)
         earlier k d l = elim (t.facing.front k d (omega arith)) [
@@ -174,3 +206,31 @@ module _ (a b : Pt3) where
       → m ≡ (if int_lt (depth_of n a (get_or ps i e)) (pos 0) then normal_of a b (get_or ps i e) else n)
       → IsTurned a b ps m (i + 1)
   more_at ps i e n m inside t is = more_normal ps i inside (get_or ps i e) (λ d. default ps i d e inside) n m t is
+
+  -- the same for a first look
+  pub glance_at : (ps : List Pt3) (i : ℕ) (e : Pt3) (n m : Normal) → i < length ps → IsTurned a b ps n 0
+      → m ≡ (if int_lt (depth_of n a (get_or ps i e)) (pos 0) then normal_of a b (get_or ps i e) else n)
+      → IsTurned a b ps m 0
+  glance_at ps i e n m inside t is = glance_normal ps i inside (get_or ps i e) (λ d. default ps i d e inside) n m t is
+
+  deep : (z : ℤ) → pos 0 <ℤ z → pos 0 ≤ℤ z
+  deep z h = omega (arith, ints)
+
+  earlier_or_on : {P : Type 0} (k i : ℕ) → (k < i → P) → (i ≤ k → P) → P
+  earlier_or_on k zero f g = g (omega arith)
+  earlier_or_on zero (suc i) f g = f (omega arith)
+  earlier_or_on (suc k) (suc i) f g = earlier_or_on k i (λ h. f (omega arith)) (λ h. g (omega arith))
+
+  -- points that lie deep inside are passed over
+  pub passed : (ps : List Pt3) (n : Normal) (i j : ℕ) → IsTurned a b ps n i
+      → ((k : ℕ) (d : Pt3) → i ≤ k → k < j → pos 0 <ℤ depth_of n a (get_or ps k d))
+      → IsTurned a b ps n j
+  passed ps n i j t h = record {
+    known = t.known;
+    facing = t.facing;
+    met = t.met;
+    is = t.is;
+    there = t.there;
+    front = t.front;
+    inward = λ k d l. earlier_or_on k i (λ e. t.inward k d e) (λ o. deep (depth_of n a (get_or ps k d)) (h k d o l));
+  }

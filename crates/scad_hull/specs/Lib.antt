@@ -6,6 +6,7 @@ pub mod Spot
 pub mod Flat
 pub mod Node
 pub mod Space
+pub mod Blocks
 pub mod Faces
 pub mod Wrapping
 pub mod Laws

@@ -5,69 +5,70 @@ ghost use Rattle.std.specs.List.Sorted.{IsStrictlySortedBy};
 ghost use Rattle.scad_hull.specs.Space.{space_cmp, beside, IsSmall, HasRoom, IsNarrow, IsTurned, depth_of, normal_of, is_none};
 ghost use Rattle.scad_hull.specs.Faces.{are_flat, IsEdge, IsFaceOf, IsFacePlane, IsSpread};
 
+use crate::cloud::Cloud;
 use crate::faces::{Face, face_in, in_plane, is_off};
-use crate::turning::{Normal, depth, outermost};
+use crate::turning::{Normal, is_inside, outermost};
 use scad_geom::Pt3;
 use std::alloc::{AllocError, Global};
 
 /// A face of points in order, or None where all lie in one plane.
-pub(crate) fn first_face(alloc: Global, points: &[Pt3]) -> Result<Option<Face>, AllocError>
-    requires points { All IsSmall points.now }
-    requires room { All HasRoom points.now }
-    requires sorted { IsStrictlySortedBy space_cmp points.now }
-    ensures some { IfOk result (λ o. IfSome o (IsFaceOf points.now)) }
-    ensures spread { IfOk result (λ o. IfSome o (λ f. IsSpread points.now)) }
-    ensures none { IfOk result (λ o. IfNone o (are_flat points.now ≡ true)) }
+pub(crate) fn first_face(alloc: Global, cloud: &Cloud<'_>) -> Result<Option<Face>, AllocError>
+    requires points { All IsSmall cloud.now.points.now }
+    requires room { All HasRoom cloud.now.points.now }
+    requires sorted { IsStrictlySortedBy space_cmp cloud.now.points.now }
+    ensures some { IfOk result (λ o. IfSome o (IsFaceOf cloud.now.points.now)) }
+    ensures spread { IfOk result (λ o. IfSome o (λ f. IsSpread cloud.now.points.now)) }
+    ensures none { IfOk result (λ o. IfNone o (are_flat cloud.now.points.now ≡ true)) }
 {
-    if points.is_empty() {
+    if cloud.points.is_empty() {
         return Ok(None);
     }
-    let a = points[0];
-    let Some(normal) = first_normal(alloc, points, a)? else {
+    let a = cloud.points[0];
+    let Some(normal) = first_normal(alloc, cloud, a)? else {
         return Ok(None);
     };
-    if !has_inner(points, a, &normal) {
+    if !has_inner(cloud.points, a, &normal) {
         return Ok(None);
     }
-    let face = face_in(alloc, points, a, normal)?;
+    let face = face_in(alloc, cloud, a, normal)?;
     Ok(Some(face))
 }
 
 // The normal of a face's plane through the least point, or None where all points lie in one plane.
-fn first_normal(alloc: Global, points: &[Pt3], a: Pt3) -> Result<Option<Normal>, AllocError>
-    requires points { All IsSmall points.now }
+fn first_normal(alloc: Global, cloud: &Cloud<'_>, a: Pt3) -> Result<Option<Normal>, AllocError>
+    requires points { All IsSmall cloud.now.points.now }
     requires small { IsSmall a }
     requires room { HasRoom a }
-    requires sorted { IsStrictlySortedBy space_cmp points.now }
-    requires has { Contains points.now a }
-    requires first { a ≡ slice_index_or points.now 0 a }
+    requires sorted { IsStrictlySortedBy space_cmp cloud.now.points.now }
+    requires has { Contains cloud.now.points.now a }
+    requires first { a ≡ slice_index_or cloud.now.points.now 0 a }
     ensures narrow { IfOk result (λ o. IfSome o IsNarrow) }
-    ensures plane { IfOk result (λ o. IfSome o (IsFacePlane points.now a)) }
-    ensures none { IfOk result (λ o. IfNone o (are_flat points.now ≡ true)) }
+    ensures plane { IfOk result (λ o. IfSome o (IsFacePlane cloud.now.points.now a)) }
+    ensures none { IfOk result (λ o. IfNone o (are_flat cloud.now.points.now ≡ true)) }
 {
-    let Some(normal) = level_normal(points, a) else {
+    let Some(normal) = level_normal(cloud, a) else {
         return Ok(None);
     };
-    turned_on(alloc, points, a, normal)
+    turned_on(alloc, cloud, a, normal)
 }
 
 // The plane is turned about the x direction through the least point.
-fn level_normal(points: &[Pt3], a: Pt3) -> Option<Normal>
-    requires points { All IsSmall points.now }
+fn level_normal(cloud: &Cloud<'_>, a: Pt3) -> Option<Normal>
+    requires points { All IsSmall cloud.now.points.now }
     requires small { IsSmall a }
     requires room { HasRoom a }
-    requires sorted { IsStrictlySortedBy space_cmp points.now }
-    requires has { Contains points.now a }
-    requires first { a ≡ slice_index_or points.now 0 a }
+    requires sorted { IsStrictlySortedBy space_cmp cloud.now.points.now }
+    requires has { Contains cloud.now.points.now a }
+    requires first { a ≡ slice_index_or cloud.now.points.now 0 a }
     ensures narrow { IfSome result IsNarrow }
-    ensures turned { IfSome result (λ n. IsTurned a (beside a) points.now n (length points.now)) }
-    ensures none { IfNone result (are_flat points.now ≡ true) }
+    ensures turned { IfSome result (λ n. IsTurned a (beside a) cloud.now.points.now n (length cloud.now.points.now)) }
+    ensures none { IfNone result (are_flat cloud.now.points.now ≡ true) }
 {
     let b = beside(a);
-    let Some(c) = off(points, a, b) else {
+    let Some(c) = off(cloud.points, a, b) else {
         return None;
     };
-    let normal = outermost(points, a, b, c);
+    let normal = outermost(cloud, a, b, c);
     Some(normal)
 }
 
@@ -88,45 +89,45 @@ fn beside(a: Pt3) -> Pt3
 // Where what it meets lies on one line, the plane is turned about that line too.
 fn turned_on(
     alloc: Global,
-    points: &[Pt3],
+    cloud: &Cloud<'_>,
     a: Pt3,
     normal: Normal,
 ) -> Result<Option<Normal>, AllocError>
-    requires points { All IsSmall points.now }
+    requires points { All IsSmall cloud.now.points.now }
     requires small { IsSmall a }
     requires room { HasRoom a }
-    requires has { Contains points.now a }
+    requires has { Contains cloud.now.points.now a }
     requires narrow { IsNarrow normal }
-    requires turned { IsTurned a (beside a) points.now normal (length points.now) }
+    requires turned { IsTurned a (beside a) cloud.now.points.now normal (length cloud.now.points.now) }
     ensures narrow { IfOk result (λ o. IfSome o IsNarrow) }
-    ensures plane { IfOk result (λ o. IfSome o (IsFacePlane points.now a)) }
-    ensures none { IfOk result (λ o. IfNone o (are_flat points.now ≡ true)) }
+    ensures plane { IfOk result (λ o. IfSome o (IsFacePlane cloud.now.points.now a)) }
+    ensures none { IfOk result (λ o. IfNone o (are_flat cloud.now.points.now ≡ true)) }
 {
-    let met = in_plane(alloc, points, a, &normal)?;
+    let met = in_plane(alloc, cloud, a, &normal)?;
     let b = beside(a);
     let Some(d) = off(met.as_slice(), a, b) else {
         return Ok(None);
     };
     match off(met.as_slice(), a, d) {
         Some(_) => Ok(Some(normal)),
-        None => Ok(turned_again(points, a, d)),
+        None => Ok(turned_again(cloud, a, d)),
     }
 }
 
 // The plane is turned about the line of what it meets.
-fn turned_again(points: &[Pt3], a: Pt3, d: Pt3) -> Option<Normal>
-    requires points { All IsSmall points.now }
-    requires has_a { Contains points.now a }
-    requires has_d { Contains points.now d }
-    requires edge { IsEdge points.now a d }
+fn turned_again(cloud: &Cloud<'_>, a: Pt3, d: Pt3) -> Option<Normal>
+    requires points { All IsSmall cloud.now.points.now }
+    requires has_a { Contains cloud.now.points.now a }
+    requires has_d { Contains cloud.now.points.now d }
+    requires edge { IsEdge cloud.now.points.now a d }
     ensures narrow { IfSome result IsNarrow }
-    ensures plane { IfSome result (IsFacePlane points.now a) }
-    ensures none { IfNone result (are_flat points.now ≡ true) }
+    ensures plane { IfSome result (IsFacePlane cloud.now.points.now a) }
+    ensures none { IfNone result (are_flat cloud.now.points.now ≡ true) }
 {
-    let Some(e) = off(points, a, d) else {
+    let Some(e) = off(cloud.points, a, d) else {
         return None;
     };
-    let further = outermost(points, a, d, e);
+    let further = outermost(cloud, a, d, e);
     Some(further)
 }
 
@@ -160,14 +161,4 @@ fn has_inner(points: &[Pt3], a: Pt3, normal: &Normal) -> bool
         }
     }
     false
-}
-
-#[tactic(auto, using(scad_geom::proofs::Casts::casts))]
-fn is_inside(normal: &Normal, a: Pt3, p: Pt3) -> bool
-    requires normal { IsNarrow normal.now }
-    requires a { IsSmall a }
-    requires p { IsSmall p }
-    ensures { result ≡ int_lt (pos 0) (depth_of normal.now a p) }
-{
-    depth(normal, a, p) > 0
 }

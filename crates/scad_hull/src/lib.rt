@@ -4,7 +4,9 @@
 #![tactic(auto)]
 
 mod axis;
+mod block;
 mod chain;
+mod cloud;
 mod distinct;
 mod faces;
 mod fault;

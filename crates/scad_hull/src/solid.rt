@@ -12,6 +12,8 @@ ghost use Rattle.scad_hull.specs.Space.{space_cmp, IsSmall, HasRoom};
 ghost use Rattle.scad_hull.specs.Faces.{are_flat, face_cmp, faces_of, hull_of};
 ghost use Rattle.scad_hull.specs.Wrapping.{rings_of};
 
+use crate::block::blocks_of;
+use crate::cloud::Cloud;
 use crate::faces::Face;
 use crate::fault::HullFault;
 use crate::first::first_face;
@@ -47,10 +49,15 @@ fn solid(alloc: Global, points: &[Pt3]) -> Result<Option<Triangles>, AllocError>
     requires sorted { IsStrictlySortedBy space_cmp points.now }
     ensures { IfOk result (λ o. o ≡ (if are_flat points.now then None else Some (fans (faces_of points.now)))) }
 {
-    let Some(first) = first_face(alloc, points)? else {
+    let blocks = blocks_of(alloc, points)?;
+    let cloud = Cloud {
+        points,
+        blocks: blocks.as_slice(),
+    };
+    let Some(first) = first_face(alloc, &cloud)? else {
         return Ok(None);
     };
-    let faces = wrap(alloc, points, first)?;
+    let faces = wrap(alloc, &cloud, first)?;
     let rings = in_order(alloc, faces.as_slice())?;
     let triangles = fans(alloc, rings.as_slice())?;
     Ok(Some(Triangles::from_closed(triangles)))

@@ -3,6 +3,8 @@
 ghost use Rattle.std.specs.Prelude.{◌≡◌, ◌^◌, ◌≤◌, ◌+ℤ◌, ◌-ℤ◌, ◌*ℤ◌, pos, int_lt, unsigned_abs, All, length, if◌then◌else◌};
 ghost use Rattle.scad_hull.specs.Space.{normal_of, depth_of, IsSmall, IsNarrow, IsTurned};
 
+use crate::block::block_end;
+use crate::cloud::{Cloud, inner_end};
 use scad_geom::Pt3;
 use scad_geom::wide::{minus, plus, span, times};
 
@@ -15,18 +17,44 @@ pub struct Normal {
 }
 
 /// The normal of the outermost of the planes through `a`, `b` and one of the points, as one turns from the first.
-pub(crate) fn outermost(points: &[Pt3], a: Pt3, b: Pt3, first: Pt3) -> Normal
+pub(crate) fn outermost(cloud: &Cloud<'_>, a: Pt3, b: Pt3, first: Pt3) -> Normal
+    requires points { All IsSmall cloud.now.points.now }
+    requires a { IsSmall a }
+    requires b { IsSmall b }
+    requires first { IsSmall first }
+    requires turned { IsTurned a b cloud.now.points.now (normal_of a b first) 0 }
+    ensures narrow { IsNarrow result }
+    ensures turned { IsTurned a b cloud.now.points.now result (length cloud.now.points.now) }
+{
+    let mut normal = glanced(cloud.points, a, b, first);
+    let mut i = 0;
+    'points: while i < cloud.points.len() {
+        let end = inner_end(cloud, &normal, a, i);
+        if end > i {
+            i = end;
+        } else {
+            normal = further(normal, a, b, &cloud.points[i]);
+            i += 1;
+        }
+    }
+    normal
+}
+
+// The outermost of the planes through the first point of each block: most of the way.
+fn glanced(points: &[Pt3], a: Pt3, b: Pt3, first: Pt3) -> Normal
     requires points { All IsSmall points.now }
     requires a { IsSmall a }
     requires b { IsSmall b }
     requires first { IsSmall first }
     requires turned { IsTurned a b points.now (normal_of a b first) 0 }
     ensures narrow { IsNarrow result }
-    ensures turned { IsTurned a b points.now result (length points.now) }
+    ensures turned { IsTurned a b points.now result 0 }
 {
     let mut normal = normal_of(a, b, first);
-    'points: for p in points {
-        normal = further(normal, a, b, p);
+    let mut i = 0;
+    'starts: while i < points.len() {
+        normal = further(normal, a, b, &points[i]);
+        i = block_end(points, i);
     }
     normal
 }
@@ -55,6 +83,17 @@ fn is_outside(normal: &Normal, a: Pt3, p: Pt3) -> bool
     ensures { result ≡ int_lt (depth_of normal.now a p) (pos 0) }
 {
     depth(normal, a, p) < 0
+}
+
+/// Whether the point lies on the inner side of the plane.
+#[tactic(auto, using(scad_geom::proofs::Casts::casts))]
+pub(crate) fn is_inside(normal: &Normal, a: Pt3, p: Pt3) -> bool
+    requires normal { IsNarrow normal.now }
+    requires a { IsSmall a }
+    requires p { IsSmall p }
+    ensures { result ≡ int_lt (pos 0) (depth_of normal.now a p) }
+{
+    depth(normal, a, p) > 0
 }
 
 #[tactic(auto, using(scad_geom::proofs::Casts::casts))]

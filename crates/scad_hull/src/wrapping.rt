@@ -9,6 +9,7 @@ ghost use Rattle.scad_hull.specs.Space.{IsSmall, space_cmp};
 ghost use Rattle.scad_hull.specs.Faces.{IsSideOf, IsFaceOf, GoesOn};
 ghost use Rattle.scad_hull.specs.Wrapping.{bends_of, rings_of, side_cmp, IsFound, IsWrapped, Extends, HasBack};
 
+use crate::cloud::Cloud;
 use crate::faces::{Face, face_in};
 use crate::turning::outermost;
 use scad_geom::Pt3;
@@ -25,11 +26,11 @@ pub(crate) struct Bend {
 }
 
 /// All faces of points in order that don't lie in one plane, from the first on.
-pub(crate) fn wrap(alloc: Global, points: &[Pt3], first: Face) -> Result<Vec<Face>, AllocError>
-    requires points { All IsSmall points.now }
-    requires sorted { IsStrictlySortedBy space_cmp points.now }
-    requires face { IsFaceOf points.now first }
-    ensures { IfOk result (λ v. IsWrapped points.now (rings_of v.items)) }
+pub(crate) fn wrap(alloc: Global, cloud: &Cloud<'_>, first: Face) -> Result<Vec<Face>, AllocError>
+    requires points { All IsSmall cloud.now.points.now }
+    requires sorted { IsStrictlySortedBy space_cmp cloud.now.points.now }
+    requires face { IsFaceOf cloud.now.points.now first }
+    ensures { IfOk result (λ v. IsWrapped cloud.now.points.now (rings_of v.items)) }
 {
     let mut faces = Vec::new(alloc);
     let mut bends = Vec::new(alloc);
@@ -38,7 +39,7 @@ pub(crate) fn wrap(alloc: Global, points: &[Pt3], first: Face) -> Result<Vec<Fac
     let mut i = 0;
     'bends: while i < bends.len() {
         let bend = bends[i];
-        close(alloc, points, &mut faces, &mut bends, &mut sides, bend)?;
+        close(alloc, cloud, &mut faces, &mut bends, &mut sides, bend)?;
         i += 1;
     }
     Ok(faces)
@@ -47,17 +48,17 @@ pub(crate) fn wrap(alloc: Global, points: &[Pt3], first: Face) -> Result<Vec<Fac
 // Finds the face behind the side from a bend's first corner to its middle one, unless it is there.
 fn close(
     alloc: Global,
-    points: &[Pt3],
+    cloud: &Cloud<'_>,
     faces: &mut Vec<Face>,
     bends: &mut Vec<Bend>,
     sides: &mut BTreeSet<Side>,
     bend: Bend,
 ) -> Result<(), AllocError>
-    requires points { All IsSmall points.now }
-    requires sorted { IsStrictlySortedBy space_cmp points.now }
-    requires found { IsFound points.now (rings_of faces.old.items) bends.old.items sides.old.keys }
-    requires side { IsSideOf points.now bend.from bend.at bend.to }
-    ensures found { OnOk result (IsFound points.now (rings_of faces.new.items) bends.new.items sides.new.keys) }
+    requires points { All IsSmall cloud.now.points.now }
+    requires sorted { IsStrictlySortedBy space_cmp cloud.now.points.now }
+    requires found { IsFound cloud.now.points.now (rings_of faces.old.items) bends.old.items sides.old.keys }
+    requires side { IsSideOf cloud.now.points.now bend.from bend.at bend.to }
+    ensures found { OnOk result (IsFound cloud.now.points.now (rings_of faces.new.items) bends.new.items sides.new.keys) }
     ensures faces { OnOk result (Extends (rings_of faces.old.items) (rings_of faces.new.items)) }
     ensures bends { OnOk result (Extends bends.old.items bends.new.items) }
     ensures back { OnOk result (HasBack (rings_of faces.new.items) bend) }
@@ -69,21 +70,21 @@ fn close(
     if sides.contains(&back) {
         return Ok(());
     }
-    let face = face_beyond(alloc, points, bend.from, bend.at, bend.to)?;
+    let face = face_beyond(alloc, cloud, bend.from, bend.at, bend.to)?;
     add(faces, bends, sides, face)
 }
 
 // The face beyond the side from `a` to `b` of a face with the corner `c`.
 #[tactic(auto, using(crate::proofs::Beyond::beyond))]
-fn face_beyond(alloc: Global, points: &[Pt3], a: Pt3, b: Pt3, c: Pt3) -> Result<Face, AllocError>
-    requires points { All IsSmall points.now }
-    requires sorted { IsStrictlySortedBy space_cmp points.now }
-    requires side { IsSideOf points.now a b c }
-    ensures face { IfOk result (IsFaceOf points.now) }
+fn face_beyond(alloc: Global, cloud: &Cloud<'_>, a: Pt3, b: Pt3, c: Pt3) -> Result<Face, AllocError>
+    requires points { All IsSmall cloud.now.points.now }
+    requires sorted { IsStrictlySortedBy space_cmp cloud.now.points.now }
+    requires side { IsSideOf cloud.now.points.now a b c }
+    ensures face { IfOk result (IsFaceOf cloud.now.points.now) }
     ensures back { IfOk result (λ f. GoesOn f.ring.items b a) }
 {
-    let normal = outermost(points, b, a, c);
-    face_in(alloc, points, b, normal)
+    let normal = outermost(cloud, b, a, c);
+    face_in(alloc, cloud, b, normal)
 }
 
 fn add(

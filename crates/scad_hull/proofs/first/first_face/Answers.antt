@@ -10,14 +10,15 @@ use Rattle.scad_hull.proofs.first.first_face.Goals as goal
 
 pub returns-then-is_empty : goal.returns-then-is_empty
 returns-then-is_empty c =
-    let none : length c.args.points.now ≡ 0 = grind (arith, nat_tests) in
-    record { some = tt; spread = tt; none = none_flat c.args.points.now none }
+    let none : length c.args.cloud.now.points.now ≡ 0 = grind (arith, nat_tests) in
+    record { some = tt; spread = tt; none = none_flat c.args.cloud.now.points.now none }
 
 pub returns-in_default : goal.returns-in_default
 returns-in_default c = record {
   some = tt;
   spread = tt;
-  none = at_none (are_flat c.args.points.now ≡ true) c.in_ok-normal.field-0 (λ x e. c.in_default.not-Some x e)
+  none = at_none (are_flat c.args.cloud.now.points.now ≡ true) c.in_ok-normal.field-0
+      (λ x e. c.in_default.not-Some x e)
       c.in_ok-normal.ensures.none;
 }
 
@@ -33,20 +34,20 @@ pub returns-then-not-has_inner : goal.returns-then-not-has_inner
 returns-then-not-has_inner c = record {
   some = tt;
   spread = tt;
-  none = no_inner c.args.points.now _ c.in-Some.normal
-      (at_some (IsFacePlane c.args.points.now _) c.in_ok-normal.field-0 c.in-Some.normal c.in-Some.is
+  none = no_inner c.args.cloud.now.points.now _ c.in-Some.normal
+      (at_some (IsFacePlane c.args.cloud.now.points.now _) c.in_ok-normal.field-0 c.in-Some.normal c.in-Some.is
       c.in_ok-normal.ensures.plane)
       (sym c.has_inner.ensures ∙ c.if-not-has_inner.true);
 }
 
 pub returns : goal.returns
 returns c = record {
-  some = face_of c.args.points.now _ c.in-Some.normal c.in_ok-face.face
-      (at_some (IsFacePlane c.args.points.now _) c.in_ok-normal.field-0 c.in-Some.normal c.in-Some.is
+  some = face_of c.args.cloud.now.points.now _ c.in-Some.normal c.in_ok-face.face
+      (at_some (IsFacePlane c.args.cloud.now.points.now _) c.in_ok-normal.field-0 c.in-Some.normal c.in-Some.is
       c.in_ok-normal.ensures.plane)
       c.in_ok-face.ensures.normal c.in_ok-face.ensures.ring;
-  spread = some_inner c.args.points.now _ c.in-Some.normal
-      (at_some (IsFacePlane c.args.points.now _) c.in_ok-normal.field-0 c.in-Some.normal c.in-Some.is
+  spread = some_inner c.args.cloud.now.points.now _ c.in-Some.normal
+      (at_some (IsFacePlane c.args.cloud.now.points.now _) c.in_ok-normal.field-0 c.in-Some.normal c.in-Some.is
       c.in_ok-normal.ensures.plane)
       (sym c.has_inner.ensures ∙ c.if-not-has_inner.false);
   none = tt;

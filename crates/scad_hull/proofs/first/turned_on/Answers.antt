@@ -6,7 +6,8 @@ use Rattle.scad_hull.proofs.first.turned_on.Goals as goal
 
 pub off-requires-clause-points : goal.off-requires-clause-points
 off-requires-clause-points c =
-    met_small c.args.points.now c.args.a c.beside-b.result c.beside-b.ensures.value c.args.normal c.requires.turned
+    met_small c.args.cloud.now.points.now c.args.a c.beside-b.result c.beside-b.ensures.value c.args.normal
+        c.requires.turned
     c.requires.has
     c.as_slice.result.now (c.as_slice.ensures.value ∙ c.in_ok-met.ensures) c.requires.points
 
@@ -14,28 +15,31 @@ pub returns-in_default : goal.returns-in_default
 returns-in_default c = record {
   narrow = tt;
   plane = tt;
-  none = some_met c.args.points.now c.args.a c.beside-b.result c.beside-b.ensures.value c.args.normal c.requires.turned
+  none = some_met c.args.cloud.now.points.now c.args.a c.beside-b.result c.beside-b.ensures.value c.args.normal
+      c.requires.turned
       c.requires.has
       c.as_slice.result.now (c.as_slice.ensures.value ∙ c.in_ok-met.ensures) c.in_default.ensures.none;
 }
 
 pub off-requires-2-clause-points : goal.off-requires-2-clause-points
 off-requires-2-clause-points c =
-    met_small c.args.points.now c.args.a c.beside-b.result c.beside-b.ensures.value c.args.normal c.requires.turned
+    met_small c.args.cloud.now.points.now c.args.a c.beside-b.result c.beside-b.ensures.value c.args.normal
+        c.requires.turned
     c.requires.has
     c.as_slice-2.result.now (c.as_slice-2.ensures.value ∙ c.in_ok-met.ensures) c.requires.points
 
 pub off-requires-2-clause-b : goal.off-requires-2-clause-b
 off-requires-2-clause-b c =
-    small_in c.args.points.now c.in-Some.d c.requires.points
-    (met_points c.args.points.now c.args.a c.beside-b.result c.beside-b.ensures.value c.args.normal c.requires.turned
+    small_in c.args.cloud.now.points.now c.in-Some.d c.requires.points
+    (met_points c.args.cloud.now.points.now c.args.a c.beside-b.result c.beside-b.ensures.value c.args.normal
+        c.requires.turned
     c.requires.has
     c.as_slice.result.now (c.as_slice.ensures.value ∙ c.in_ok-met.ensures) c.in-Some.d c.in-Some.ensures.some)
 
 pub returns-in-Some-off : goal.returns-in-Some-off
 returns-in-Some-off c = record {
   narrow = c.requires.narrow;
-  plane = third_plane c.args.points.now c.args.a c.beside-b.result c.beside-b.ensures.value c.args.normal
+  plane = third_plane c.args.cloud.now.points.now c.args.a c.beside-b.result c.beside-b.ensures.value c.args.normal
       c.requires.turned c.requires.has
       c.as_slice-2.result.now (c.as_slice-2.ensures.value ∙ c.in_ok-met.ensures) c.in-Some.d
       (subst (λ xs. Contains xs c.in-Some.d) (c.as_slice.ensures.value ∙ sym c.as_slice-2.ensures.value)
@@ -48,10 +52,10 @@ pub turned_again-requires : goal.turned_again-requires
 turned_again-requires c = record {
   points = c.requires.points;
   has_a = c.requires.has;
-  has_d = met_points c.args.points.now c.args.a c.beside-b.result c.beside-b.ensures.value c.args.normal
+  has_d = met_points c.args.cloud.now.points.now c.args.a c.beside-b.result c.beside-b.ensures.value c.args.normal
       c.requires.turned c.requires.has
       c.as_slice.result.now (c.as_slice.ensures.value ∙ c.in_ok-met.ensures) c.in-Some.d c.in-Some.ensures.some;
-  edge = edge_there c.args.points.now c.args.a c.beside-b.result c.beside-b.ensures.value c.args.normal
+  edge = edge_there c.args.cloud.now.points.now c.args.a c.beside-b.result c.beside-b.ensures.value c.args.normal
       c.requires.turned c.requires.has
       c.as_slice-2.result.now (c.as_slice-2.ensures.value ∙ c.in_ok-met.ensures) c.in-Some.d
       (subst (λ xs. Contains xs c.in-Some.d) (c.as_slice.ensures.value ∙ sym c.as_slice-2.ensures.value)

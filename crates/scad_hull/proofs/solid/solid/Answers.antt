@@ -27,9 +27,9 @@ from_closed-requires c =
     c.in_ok-first.ensures.spread)
     (rings_of c.in_ok-faces.faces.items) c.in_ok-faces.ensures c.in_ok-rings.rings.items
     c.in_ok-triangles.triangles.items
-    (c.in_ok-rings.ensures ∙ ap (λ fs. distinct face_cmp (rings_of fs)) c.as_slice.ensures.value)
+    (c.in_ok-rings.ensures ∙ ap (λ fs. distinct face_cmp (rings_of fs)) c.as_slice-2.ensures.value)
     (c.in_ok-triangles.ensures ∙ ap (λ rs. flat_map (λ r. fan (map point_of r.items)) rs)
-    c.as_slice-2.ensures.value)
+    c.as_slice-3.ensures.value)
 
 pub returns : goal.returns
 returns c =
@@ -38,6 +38,6 @@ returns c =
     (c.from_closed.ensures ∙ solid_is c.args.points.now c.requires.sorted c.requires.range spread
     (rings_of c.in_ok-faces.faces.items) c.in_ok-faces.ensures c.in_ok-rings.rings.items
     c.in_ok-triangles.triangles.items
-    (c.in_ok-rings.ensures ∙ ap (λ fs. distinct face_cmp (rings_of fs)) c.as_slice.ensures.value)
+    (c.in_ok-rings.ensures ∙ ap (λ fs. distinct face_cmp (rings_of fs)) c.as_slice-2.ensures.value)
     (c.in_ok-triangles.ensures ∙ ap (λ rs. flat_map (λ r. fan (map point_of r.items)) rs)
-    c.as_slice-2.ensures.value))
+    c.as_slice-3.ensures.value))

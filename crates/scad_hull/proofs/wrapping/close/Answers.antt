@@ -18,7 +18,7 @@ returns-then-contains c = record {
 pub returns : goal.returns
 returns c = record {
   found = three_ok c.add.result
-      (λ f b s. added c.args.points.now c.args.faces.now.items c.add.new.faces.items c.args.bends.now.items
+      (λ f b s. added c.args.cloud.now.points.now c.args.faces.now.items c.add.new.faces.items c.args.bends.now.items
       c.add.new.bends.items
       c.args.sides.now.keys c.add.new.sides.keys c.in_ok-face.face c.requires.found c.in_ok-face.ensures.face f b s)
       c.add.ensures.faces c.add.ensures.bends c.add.ensures.sides;

@@ -8,18 +8,19 @@ use Rattle.scad_hull.proofs.wrapping.face_beyond.Goals as goal
 pub returns-clause-face : goal.returns-clause-face
 returns-clause-face c =
     both_ok (λ f. f.normal ≡ c.outermost-normal.result)
-    (λ f. f.ring.items ≡ face_in c.args.points.now c.args.b c.outermost-normal.result)
-    (IsFaceOf c.args.points.now) c.face_in.result
-    (λ f. face_beyond c.args.points.now c.args.a c.args.b c.args.c c.requires.side c.outermost-normal.result f
+    (λ f. f.ring.items ≡ face_in c.args.cloud.now.points.now c.args.b c.outermost-normal.result)
+    (IsFaceOf c.args.cloud.now.points.now) c.face_in.result
+    (λ f. face_beyond c.args.cloud.now.points.now c.args.a c.args.b c.args.c c.requires.side c.outermost-normal.result
+        f
     c.outermost-normal.ensures.turned)
     c.face_in.ensures.normal c.face_in.ensures.ring
 
 pub returns-clause-back : goal.returns-clause-back
 returns-clause-back c =
     both_ok (λ f. f.normal ≡ c.outermost-normal.result)
-    (λ f. f.ring.items ≡ face_in c.args.points.now c.args.b c.outermost-normal.result)
+    (λ f. f.ring.items ≡ face_in c.args.cloud.now.points.now c.args.b c.outermost-normal.result)
     (λ f. GoesOn f.ring.items c.args.b c.args.a) c.face_in.result
-    (λ f e. back_there c.args.points.now c.requires.sorted c.args.a c.args.b c.args.c c.requires.side
+    (λ f e. back_there c.args.cloud.now.points.now c.requires.sorted c.args.a c.args.b c.args.c c.requires.side
     c.outermost-normal.result
     c.outermost-normal.ensures.turned f)
     c.face_in.ensures.normal c.face_in.ensures.ring

@@ -6,10 +6,10 @@ use Rattle.scad_hull.proofs.wrapping.wrap.Goals as goal
 
 pub bends-init : goal.bends-init
 bends-init c = record {
-  found = added c.args.points.now c.new-faces.result.items c.add.new.faces.items c.new-bends.result.items
+  found = added c.args.cloud.now.points.now c.new-faces.result.items c.add.new.faces.items c.new-bends.result.items
       c.add.new.bends.items
       c.new-sides.result.keys c.add.new.sides.keys c.args.first
-      (none_at c.args.points.now c.new-faces.result.items c.new-bends.result.items c.new-sides.result.keys
+      (none_at c.args.cloud.now.points.now c.new-faces.result.items c.new-bends.result.items c.new-sides.result.keys
       c.new-faces.ensures.items c.new-bends.ensures.items c.new-sides.ensures.empty)
       c.requires.face c.in_ok-add.ensures.faces c.in_ok-add.ensures.bends c.in_ok-add.ensures.sides;
   first = one_there c.new-faces.result.items c.add.new.faces.items c.args.first c.in_ok-add.ensures.faces;
@@ -19,7 +19,8 @@ bends-init c = record {
 
 pub close-requires-clause-side : goal.close-requires-clause-side
 close-requires-clause-side c =
-    bend_side c.args.points.now c.requires.sorted (rings_of c.bends.faces.items) c.bends.bends.items c.bends.sides.keys
+    bend_side c.args.cloud.now.points.now c.requires.sorted (rings_of c.bends.faces.items) c.bends.bends.items
+        c.bends.sides.keys
     c.bends.invariant.found c.bends.i c.index-bend.result.now (omega arith) c.index-bend.ensures
 
 pub bends-preserved : goal.bends-preserved
@@ -40,5 +41,6 @@ bends-preserved c =
 pub returns : goal.returns
 returns c =
     let first = first_in c.bends.faces.items c.bends.invariant.first in
-    wrapped c.args.points.now c.requires.sorted (rings_of c.bends.faces.items) c.bends.bends.items c.bends.sides.keys
+    wrapped c.args.cloud.now.points.now c.requires.sorted (rings_of c.bends.faces.items) c.bends.bends.items
+        c.bends.sides.keys
     c.bends.invariant.found (λ k d h. c.bends.invariant.backs k d (omega arith)) first.0 first.1

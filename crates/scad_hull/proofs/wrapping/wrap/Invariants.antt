@@ -6,7 +6,7 @@ use Rattle.scad_hull.proofs.wrapping.wrap.Given as goal
 
 abbrev pub invariant-bends : goal.invariant-bends
 invariant-bends l = record {
-  found : IsFound l.fn.points (rings_of l.faces.items) l.bends.items l.sides.keys;
+  found : IsFound l.fn.cloud.points.now (rings_of l.faces.items) l.bends.items l.sides.keys;
   first : 0 < length l.faces.items;
   upto : l.i ≤ length l.bends.items;
   backs : (k : ℕ) (d : Bend) → k < l.i → HasBack (rings_of l.faces.items) (get_or l.bends.items k d);
