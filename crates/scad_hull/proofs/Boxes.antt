@@ -51,7 +51,7 @@ pub inside_box : (n : Normal) (a : Pt3) (b : Block) → pos 0 <ℤ depth_of n a 
 inside_box n a b h p w =
     summed (n.x *ℤ (least_of n.x b.low.x b.high.x -ℤ a.x)) (n.y *ℤ (least_of n.y b.low.y b.high.y -ℤ a.y))
     (n.z *ℤ (least_of n.z b.low.z b.high.z -ℤ a.z)) (n.x *ℤ (p.x -ℤ a.x)) (n.y *ℤ (p.y -ℤ a.y))
-        (n.z *ℤ (p.z -ℤ a.z))
+    (n.z *ℤ (p.z -ℤ a.z))
     (least_product n.x b.low.x b.high.x p.x a.x w.low_x w.high_x)
     (least_product n.y b.low.y b.high.y p.y a.y w.low_y w.high_y)
     (least_product n.z b.low.z b.high.z p.z a.z w.low_z w.high_z) h

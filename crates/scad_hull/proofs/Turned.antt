@@ -118,9 +118,9 @@ module _ (a b : Pt3) where
         → IsInFront t.known a b p
     in_front n j t e = elim (subst (λ r. IsOnLine a b r ⊎ IsInFront t.known a b r) (is p)
         (t.facing.front i p inside)) [
-      | inl line ↦ absurd (clash (volume_on t.met p) (on_line t.met p line) (beyond_it n j t e))
-      | inr front ↦ front
-    ]
+          | inl line ↦ absurd (clash (volume_on t.met p) (on_line t.met p line) (beyond_it n j t e))
+          | inr front ↦ front
+        ]
 
     -- the plane through it, before the points are looked at one after another
     glance : (n : Normal) → IsTurned a b ps n 0 → int_lt (depth_of n a p) (pos 0) ≡ true

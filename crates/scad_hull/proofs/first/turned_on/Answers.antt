@@ -7,7 +7,7 @@ use Rattle.scad_hull.proofs.first.turned_on.Goals as goal
 pub off-requires-clause-points : goal.off-requires-clause-points
 off-requires-clause-points c =
     met_small c.args.cloud.now.points.now c.args.a c.beside-b.result c.beside-b.ensures.value c.args.normal
-        c.requires.turned
+    c.requires.turned
     c.requires.has
     c.as_slice.result.now (c.as_slice.ensures.value ∙ c.in_ok-met.ensures) c.requires.points
 
@@ -24,7 +24,7 @@ returns-in_default c = record {
 pub off-requires-2-clause-points : goal.off-requires-2-clause-points
 off-requires-2-clause-points c =
     met_small c.args.cloud.now.points.now c.args.a c.beside-b.result c.beside-b.ensures.value c.args.normal
-        c.requires.turned
+    c.requires.turned
     c.requires.has
     c.as_slice-2.result.now (c.as_slice-2.ensures.value ∙ c.in_ok-met.ensures) c.requires.points
 
@@ -32,7 +32,7 @@ pub off-requires-2-clause-b : goal.off-requires-2-clause-b
 off-requires-2-clause-b c =
     small_in c.args.cloud.now.points.now c.in-Some.d c.requires.points
     (met_points c.args.cloud.now.points.now c.args.a c.beside-b.result c.beside-b.ensures.value c.args.normal
-        c.requires.turned
+    c.requires.turned
     c.requires.has
     c.as_slice.result.now (c.as_slice.ensures.value ∙ c.in_ok-met.ensures) c.in-Some.d c.in-Some.ensures.some)
 

@@ -11,7 +11,7 @@ returns-clause-face c =
     (λ f. f.ring.items ≡ face_in c.args.cloud.now.points.now c.args.b c.outermost-normal.result)
     (IsFaceOf c.args.cloud.now.points.now) c.face_in.result
     (λ f. face_beyond c.args.cloud.now.points.now c.args.a c.args.b c.args.c c.requires.side c.outermost-normal.result
-        f
+    f
     c.outermost-normal.ensures.turned)
     c.face_in.ensures.normal c.face_in.ensures.ring
 

@@ -20,7 +20,7 @@ bends-init c = record {
 pub close-requires-clause-side : goal.close-requires-clause-side
 close-requires-clause-side c =
     bend_side c.args.cloud.now.points.now c.requires.sorted (rings_of c.bends.faces.items) c.bends.bends.items
-        c.bends.sides.keys
+    c.bends.sides.keys
     c.bends.invariant.found c.bends.i c.index-bend.result.now (omega arith) c.index-bend.ensures
 
 pub bends-preserved : goal.bends-preserved
@@ -42,5 +42,5 @@ pub returns : goal.returns
 returns c =
     let first = first_in c.bends.faces.items c.bends.invariant.first in
     wrapped c.args.cloud.now.points.now c.requires.sorted (rings_of c.bends.faces.items) c.bends.bends.items
-        c.bends.sides.keys
+    c.bends.sides.keys
     c.bends.invariant.found (λ k d h. c.bends.invariant.backs k d (omega arith)) first.0 first.1
