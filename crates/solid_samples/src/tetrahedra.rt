@@ -104,7 +104,14 @@ fn tells_its_points_and_whether_it_is_united(rt: HostRuntime) -> Result<(), Fail
         corners.push((p.x, p.y, p.z))?;
     }
     assert_eq!(rt; corners.len(), 48);
-    let first = [(0, 0, 0), (1000, 0, 0), (0, 1000, 0), (0, 0, 0), (0, 0, 1000), (1000, 0, 0)];
+    let first = [
+        (0, 0, 0),
+        (1000, 0, 0),
+        (0, 1000, 0),
+        (0, 0, 0),
+        (0, 0, 1000),
+        (1000, 0, 0),
+    ];
     assert_eq!(rt; corners.as_slice().get(..6), Some(first.as_slice()));
     assert_eq!(rt; carved(alloc)?.is_united(), false);
     let both = unite(alloc, trees(alloc, &[400, 300])?)?;

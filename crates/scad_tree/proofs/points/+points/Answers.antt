@@ -28,9 +28,9 @@ push_node-returns-in_ok-push_node-in-Diff-clause-all t c =
     let tail = all_points (members (solids c.deref-in-Diff-2.result.now)) in
     let whole = points_of (solid_of c.args.node.now) in
     let parts : whole ≡ head ++ tail =
-        ap points_of (at_diff c.args.node.now c.in-Diff.first c.in-Diff.rest c.in-Diff.is) ∙ points-difference first rest
-        ∙ ap₂ (λ n ns. points_of (solid_of n) ++ all_points (members (solids ns))) (sym c.deref-in-Diff.ensures)
-        (sym c.deref-in-Diff-2.ensures.value) in
+    ap points_of (at_diff c.args.node.now c.in-Diff.first c.in-Diff.rest c.in-Diff.is) ∙ points-difference first rest
+    ∙ ap₂ (λ n ns. points_of (solid_of n) ++ all_points (members (solids ns))) (sym c.deref-in-Diff.ensures)
+    (sym c.deref-in-Diff-2.ensures.value) in
     on_ok_weaker c.push_members-in-Diff.result
     (λ pushed. pieces old mid new head tail whole c.in_ok-push_node-in-Diff.ensures.all pushed parts)
     c.push_members-in-Diff.ensures.all
