@@ -1,13 +1,13 @@
 -- The points of profiles are no count.
-use Rattle.std.proofs.Common.{ℕ, ℤ, Bool, true, false, List, ◌++◌, take, drop, length, if◌then◌else◌, arith}
+use Rattle.std.proofs.Common.{ℕ, ℤ, Bool, true, false, List, ◌++◌, take, if◌then◌else◌, arith}
 use Rattle.scad_modules.specs.Outline.{Pair}
 use Rattle.scad_tree.specs.Normal.{is_nothing}
 use Rattle.scad_tree.specs.Solid.{Solid}
 use Rattle.scad_tree.specs.Solids.{AreSolids}
-use Rattle.scad_expr.specs.State.{State, gives}
+use Rattle.scad_expr.specs.State.{State}
 use Rattle.scad_inst.specs.Profiles.{profile_count, profiles_from, keep_profile, replace_profiles, with_its_profiles}
 use Rattle.meaning_laws.specs.Counts.{Rises}
-use Rattle.meaning_laws.proofs.Keeping.{Any, Kept, Keeps}
+use Rattle.meaning_laws.proofs.Keeping.{Any, Keeps}
 
 abbrev with_profiles : State → List (ℤ × ℤ) → State
 with_profiles s ps = record s { profiles = ps }

@@ -290,4 +290,5 @@ module _ (below : Below) (all_give : AllGive below) where
   keeps-layer w env along i =
       bind (keeps-step (item_place i)) (λ _ _. bind keeps-profile_count (λ from _.
       bind (keeps-node w env along i) (λ s solid.
-      keeps-with_its_profiles from _ (solids-if (is_marked i) nothing s solids-nothing solid))))
+      keeps-with_its_profiles from (if is_marked i then nothing else s)
+      (solids-if (is_marked i) nothing s solids-nothing solid))))
