@@ -2,13 +2,12 @@
 use Rattle.std.proofs.Common.{◌≡◌, pos, true, false, [], ◌∷◌, Some, None, refl}
 use Rattle.std.specs.Prelude.{codes}
 use Rattle.scad_fault.specs.declared.fault.FaultKind.TheVariants.{LeftOut, UnknownModule, UnknownFunction, BadArgument, ZeroDivisor, AssertFailed, ZeroStep}
-use Rattle.scad_fault.specs.declared.budget.BudgetKind.TheVariants.{Depth}
 use Rattle.scad_ast.specs.declared.operator.UnOp.TheVariants.{Minus}
 use Rattle.scad_ast.specs.declared.operator.BinOp.TheVariants.{Div}
 use Rattle.scad_ast.specs.Tree.{no_arguments, argument, no_elements, element, item, no_items, entry, assignment, module_of, call_of}
 use Rattle.scad_ast.specs.Tree.{number as number_at, string as string_at, name as name_at, vector as vector_at, stepped as stepped_at, unary as unary_at, binary as binary_at, call as call_at}
 use Rattle.scad_inst.proofs.OnLiterals.{statements_on_literals}
-use Rattle.scad_inst.proofs.ExampleWords.{at, parameter, point, Empty, Leaf, made, faulted, passed, shown}
+use Rattle.scad_inst.proofs.ExampleWords.{at, parameter, point, Empty, Leaf, made, faulted, shown}
 
 -- cube(1); foo();
 fault_of_second_statement : shown (entry (call_of (at 1) false false (codes "cube") (argument None
@@ -151,13 +150,6 @@ zero_step : shown (entry (call_of (at 1) false false (codes "for") (argument (So
     (at 7) [] []
 unfolding statements_on_literals
 zero_step = refl
-
--- module m(){m();} m();
-too_deep : shown (entry (module_of (at 1) (codes "m") [] (entry (call_of (at 12) false false (codes "m")
-    no_arguments no_items) no_items)) (entry (call_of (at 18) false false (codes "m") no_arguments
-    no_items) no_items)) ≡ passed Depth (at 12) []
-unfolding statements_on_literals
-too_deep = refl
 
 -- multmatrix([[1,0,0,0],[0,1,0,0]]) cube(1);
 three_matrix_rows : shown (entry (call_of (at 1) false false (codes "multmatrix") (argument None
