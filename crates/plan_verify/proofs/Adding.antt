@@ -17,10 +17,12 @@ module _ (Does : Move → Type 0) (j : Judgement) (line : ℕ) (m : Move) where
   pub add_passed : m.extruding ≡ false → IsAdded Does j line m j
   add_passed e = passed (not_extruding m.extruding e)
 
-  pub add_late : (i : Judgement) → m.extruding ≡ true → is_some j.out ≡ true → i ≡ added j true line → IsAdded Does j line m i
+  pub add_late : (i : Judgement) → m.extruding ≡ true → is_some j.out ≡ true → i ≡ added j true line
+      → IsAdded Does j line m i
   add_late i e s is = subst (λ (k : Judgement). IsAdded Does j line m k) (sym is) (late e s)
 
-  pub add_judged : (b : Bool) (i : Judgement) → m.extruding ≡ true → is_some j.out ≡ false → (b ≡ true → Does m)
+  pub add_judged : (b : Bool) (i : Judgement) → m.extruding ≡ true → is_some j.out ≡ false
+      → (b ≡ true → Does m)
       → (b ≡ false → Does m → ⊥) → i ≡ added j b line → IsAdded Does j line m i
   add_judged true i e n d f is = subst (λ (k : Judgement). IsAdded Does j line m k) (sym is)
       (did e (none_of j.out n) (d refl))

@@ -54,20 +54,26 @@ in_covered x y e c i =
 
 -- ---- rectangles that a move doesn't come to
 -- a mean of numbers from l on is from l on
-gap_is : (k l r z m : ℤ) → k *ℤ (r -ℤ m) +ℤ l *ℤ (z -ℤ m) ≡ (k *ℤ r +ℤ l *ℤ z) -ℤ (k +ℤ l) *ℤ m
-gap_is k l r z m = ring (k ∷ l ∷ r ∷ z ∷ m ∷ []) (v0 ⊗ (v2 ⊖ v4) ⊕ v1 ⊗ (v3 ⊖ v4)) ((v0 ⊗ v2 ⊕ v1 ⊗ v3) ⊖ (v0 ⊕ v1) ⊗ v4) refl
+gap_is : (k l r z m : ℤ) → k *ℤ (r -ℤ m) +ℤ l *ℤ (z -ℤ m)
+    ≡ (k *ℤ r +ℤ l *ℤ z) -ℤ (k +ℤ l) *ℤ m
+gap_is k l r z m = ring (k ∷ l ∷ r ∷ z ∷ m ∷ []) (v0 ⊗ (v2 ⊖ v4) ⊕ v1 ⊗ (v3 ⊖ v4))
+    ((v0 ⊗ v2 ⊕ v1 ⊗ v3) ⊖ (v0 ⊕ v1) ⊗ v4) refl
 
-from_least : (k l r z m : ℤ) → pos 0 ≤ℤ k → pos 0 ≤ℤ l → m ≤ℤ r → m ≤ℤ z → ((k +ℤ l) *ℤ m) ≤ℤ (k *ℤ r +ℤ l *ℤ z)
+from_least : (k l r z m : ℤ) → pos 0 ≤ℤ k → pos 0 ≤ℤ l → m ≤ℤ r → m ≤ℤ z
+    → ((k +ℤ l) *ℤ m) ≤ℤ (k *ℤ r +ℤ l *ℤ z)
 from_least k l r z m hk hl hr hz =
     let p = at_least_mul k (r -ℤ m) hk (omega (arith, ints, hr)) in
     let q = at_least_mul l (z -ℤ m) hl (omega (arith, ints, hz)) in
     let e = gap_is k l r z m in
     omega (arith, ints, p, q, e)
 
-below_is : (k l r z m : ℤ) → k *ℤ (m -ℤ r) +ℤ l *ℤ (m -ℤ z) ≡ (k +ℤ l) *ℤ m -ℤ (k *ℤ r +ℤ l *ℤ z)
-below_is k l r z m = ring (k ∷ l ∷ r ∷ z ∷ m ∷ []) (v0 ⊗ (v4 ⊖ v2) ⊕ v1 ⊗ (v4 ⊖ v3)) ((v0 ⊕ v1) ⊗ v4 ⊖ (v0 ⊗ v2 ⊕ v1 ⊗ v3)) refl
+below_is : (k l r z m : ℤ) → k *ℤ (m -ℤ r) +ℤ l *ℤ (m -ℤ z)
+    ≡ (k +ℤ l) *ℤ m -ℤ (k *ℤ r +ℤ l *ℤ z)
+below_is k l r z m = ring (k ∷ l ∷ r ∷ z ∷ m ∷ []) (v0 ⊗ (v4 ⊖ v2) ⊕ v1 ⊗ (v4 ⊖ v3))
+    ((v0 ⊕ v1) ⊗ v4 ⊖ (v0 ⊗ v2 ⊕ v1 ⊗ v3)) refl
 
-to_most : (k l r z m : ℤ) → pos 0 ≤ℤ k → pos 0 ≤ℤ l → r ≤ℤ m → z ≤ℤ m → (k *ℤ r +ℤ l *ℤ z) ≤ℤ ((k +ℤ l) *ℤ m)
+to_most : (k l r z m : ℤ) → pos 0 ≤ℤ k → pos 0 ≤ℤ l → r ≤ℤ m → z ≤ℤ m
+    → (k *ℤ r +ℤ l *ℤ z) ≤ℤ ((k +ℤ l) *ℤ m)
 to_most k l r z m hk hl hr hz =
     let p = at_least_mul k (m -ℤ r) hk (omega (arith, ints, hr)) in
     let q = at_least_mul l (m -ℤ z) hl (omega (arith, ints, hz)) in
@@ -76,7 +82,8 @@ to_most k l r z m hk hl hr hz =
 
 -- numbers at most m, with means that are more than s below those of numbers from n on
 apart_is : (w m n s : ℤ) → w *ℤ (n -ℤ (m +ℤ s)) ≡ w *ℤ n -ℤ (w *ℤ m +ℤ s *ℤ w)
-apart_is w m n s = ring (w ∷ m ∷ n ∷ s ∷ []) (v0 ⊗ (v2 ⊖ (v1 ⊕ v3))) (v0 ⊗ v2 ⊖ (v0 ⊗ v1 ⊕ v3 ⊗ v0)) refl
+apart_is w m n s = ring (w ∷ m ∷ n ∷ s ∷ []) (v0 ⊗ (v2 ⊖ (v1 ⊕ v3)))
+    (v0 ⊗ v2 ⊖ (v0 ⊗ v1 ⊕ v3 ⊗ v0)) refl
 
 strictly : (w m n s : ℤ) → pos 0 <ℤ w → (m +ℤ s) <ℤ n → (w *ℤ m +ℤ s *ℤ w) <ℤ (w *ℤ n)
 strictly w m n s hw less =
@@ -92,7 +99,8 @@ same_times : (v w m : ℤ) → v ≡ w → v *ℤ m ≡ w *ℤ m
 same_times v w m e = ap (λ (z : ℤ). z *ℤ m) e
 
 -- r and z lie at most at m, p and q from n on, and m + s is below n
-past_right : (s t k l p q r z m n b : ℤ) → pos 0 ≤ℤ s → pos 0 ≤ℤ t → pos 0 ≤ℤ k → pos 0 ≤ℤ l → s +ℤ t ≡ k +ℤ l
+past_right : (s t k l p q r z m n b : ℤ) → pos 0 ≤ℤ s → pos 0 ≤ℤ t → pos 0 ≤ℤ k → pos 0 ≤ℤ l
+    → s +ℤ t ≡ k +ℤ l
     → pos 0 <ℤ (s +ℤ t) → r ≤ℤ m → z ≤ℤ m → n ≤ℤ p → n ≤ℤ q → (m +ℤ b) <ℤ n
     → (b *ℤ (s +ℤ t)) <ℤ (pos 0 -ℤ spread s t k l p q r z)
 past_right s t k l p q r z m n b hs ht hk hl same some hr hz hp hq less =
@@ -102,7 +110,8 @@ past_right s t k l p q r z m n b hs ht hk hl same some hr hz hp hq less =
     let e = same_times (s +ℤ t) (k +ℤ l) m same in
     omega (arith, ints, u, v, w, e)
 
-past_left : (s t k l p q r z m n b : ℤ) → pos 0 ≤ℤ s → pos 0 ≤ℤ t → pos 0 ≤ℤ k → pos 0 ≤ℤ l → s +ℤ t ≡ k +ℤ l
+past_left : (s t k l p q r z m n b : ℤ) → pos 0 ≤ℤ s → pos 0 ≤ℤ t → pos 0 ≤ℤ k → pos 0 ≤ℤ l
+    → s +ℤ t ≡ k +ℤ l
     → pos 0 <ℤ (s +ℤ t) → n ≤ℤ r → n ≤ℤ z → p ≤ℤ m → q ≤ℤ m → (m +ℤ b) <ℤ n
     → (b *ℤ (s +ℤ t)) <ℤ spread s t k l p q r z
 past_left s t k l p q r z m n b hs ht hk hl same some hr hz hp hq less =
@@ -116,11 +125,12 @@ past_left s t k l p q r z m n b hs ht hk hl same some hr hz hp hq less =
 beyond_parts : (x y : Extent) → is_beyond x y ≡ true
     → (x.right <ℤ y.left) ⊎ ((y.right <ℤ x.left) ⊎ ((x.top <ℤ y.bottom) ⊎ (y.top <ℤ x.bottom)))
 unfolding is_beyond
-beyond_parts x y h = by_tests (int_lt x.right y.left) (int_lt y.right x.left) (int_lt x.top y.bottom) (int_lt y.top x.bottom)
+beyond_parts x y h = by_tests (int_lt x.right y.left) (int_lt y.right x.left) (int_lt x.top y.bottom)
+    (int_lt y.top x.bottom)
     refl refl refl refl h
   where
-    by_tests : (a b c d : Bool) → int_lt x.right y.left ≡ a → int_lt y.right x.left ≡ b → int_lt x.top y.bottom ≡ c
-        → int_lt y.top x.bottom ≡ d → (a || (b || (c || d))) ≡ true
+    by_tests : (a b c d : Bool) → int_lt x.right y.left ≡ a → int_lt y.right x.left ≡ b
+        → int_lt x.top y.bottom ≡ c → int_lt y.top x.bottom ≡ d → (a || (b || (c || d))) ≡ true
         → (x.right <ℤ y.left) ⊎ ((y.right <ℤ x.left) ⊎ ((x.top <ℤ y.bottom) ⊎ (y.top <ℤ x.bottom)))
     by_tests true b c d e f g i o = inl (int_lt-true x.right y.left e)
     by_tests false true c d e f g i o = inr (inl (int_lt-true y.right x.left f))
@@ -178,7 +188,8 @@ module _ (s u : ℕ) (r : Extent) (line : Edge) (reach : Reaches (pos s) r line)
       (weights_if_near (pos s) (pos u) line.a line.b e.a e.b m n k l hm hn some hk hl more near)
 
 -- ---- rectangles off a point
-off_parts : (x : Extent) (p : Pt) → is_off x p ≡ true → (x.top ≤ℤ p.y) ⊎ ((p.y <ℤ x.bottom) ⊎ (x.right ≤ℤ p.x))
+off_parts : (x : Extent) (p : Pt) → is_off x p ≡ true
+    → (x.top ≤ℤ p.y) ⊎ ((p.y <ℤ x.bottom) ⊎ (x.right ≤ℤ p.x))
 unfolding is_off
 off_parts x p h = by_tests (int_le x.top p.y) (int_lt p.y x.bottom) (int_le x.right p.x) refl refl refl h
   where
@@ -202,18 +213,23 @@ side_is : (ax ay bx by px py : ℤ)
     (by *ℤ pos 1 -ℤ ay *ℤ pos 1) *ℤ ((pos 2 *ℤ px) *ℤ pos 1 -ℤ ax *ℤ pos 2))
     ≡ pos 0 -ℤ (pos 4 *ℤ ((px -ℤ bx) *ℤ (py -ℤ ay)) +ℤ pos 4 *ℤ ((by -ℤ py) *ℤ (px -ℤ ax)))
 side_is ax ay bx by px py = ring (ax ∷ ay ∷ bx ∷ by ∷ px ∷ py ∷ [])
-    (num (pos 2) ⊗ ((v2 ⊗ num (pos 1) ⊖ v0 ⊗ num (pos 1)) ⊗ ((num (pos 2) ⊗ v5) ⊗ num (pos 1) ⊖ v1 ⊗ num (pos 2)) ⊖
+    (num (pos 2) ⊗ ((v2 ⊗ num (pos 1) ⊖ v0 ⊗ num (pos 1))
+        ⊗ ((num (pos 2) ⊗ v5) ⊗ num (pos 1) ⊖ v1 ⊗ num (pos 2)) ⊖
     (v3 ⊗ num (pos 1) ⊖ v1 ⊗ num (pos 1)) ⊗ ((num (pos 2) ⊗ v4) ⊗ num (pos 1) ⊖ v0 ⊗ num (pos 2))))
-    (num (pos 0) ⊖ (num (pos 4) ⊗ ((v4 ⊖ v2) ⊗ (v5 ⊖ v1)) ⊕ num (pos 4) ⊗ ((v3 ⊖ v5) ⊗ (v4 ⊖ v0)))) refl
+    (num (pos 0) ⊖ (num (pos 4) ⊗ ((v4 ⊖ v2) ⊗ (v5 ⊖ v1)) ⊕ num (pos 4) ⊗ ((v3 ⊖ v5) ⊗ (v4 ⊖ v0))))
+        refl
 
 turned_is : (px bx py ay : ℤ) → (px -ℤ bx) *ℤ (py -ℤ ay) ≡ pos 0 -ℤ (px -ℤ bx) *ℤ (ay -ℤ py)
-turned_is px bx py ay = ring (px ∷ bx ∷ py ∷ ay ∷ []) ((v0 ⊖ v1) ⊗ (v2 ⊖ v3)) (num (pos 0) ⊖ (v0 ⊖ v1) ⊗ (v3 ⊖ v2)) refl
+turned_is px bx py ay = ring (px ∷ bx ∷ py ∷ ay ∷ []) ((v0 ⊖ v1) ⊗ (v2 ⊖ v3))
+    (num (pos 0) ⊖ (v0 ⊖ v1) ⊗ (v3 ⊖ v2)) refl
 
 turned_second : (by py px ax : ℤ) → (by -ℤ py) *ℤ (px -ℤ ax) ≡ pos 0 -ℤ (py -ℤ by) *ℤ (px -ℤ ax)
-turned_second by py px ax = ring (by ∷ py ∷ px ∷ ax ∷ []) ((v0 ⊖ v1) ⊗ (v2 ⊖ v3)) (num (pos 0) ⊖ (v1 ⊖ v0) ⊗ (v2 ⊖ v3)) refl
+turned_second by py px ax = ring (by ∷ py ∷ px ∷ ax ∷ []) ((v0 ⊖ v1) ⊗ (v2 ⊖ v3))
+    (num (pos 0) ⊖ (v1 ⊖ v0) ⊗ (v2 ⊖ v3)) refl
 
 -- an edge that isn't to the right of a point doesn't turn round it
-not_right : (p : Pt) (e : Edge) → e.a.x ≤ℤ p.x → e.b.x ≤ℤ p.x → turn true true (meant Whole p) (whole e.a) (whole e.b) ≡ pos 0
+not_right : (p : Pt) (e : Edge) → e.a.x ≤ℤ p.x → e.b.x ≤ℤ p.x
+    → turn true true (meant Whole p) (whole e.a) (whole e.b) ≡ pos 0
 unfolding is_beyond_number side_by
 not_right p e ha hb = by_heights (order e.a.y p.y) (order e.b.y p.y)
   where

@@ -17,7 +17,8 @@ use Rattle.plan_verify.specs.Fields.{AreSidesWithin}
 use Rattle.plan_verify.specs.Laws.{FilesAreWithin}
 
 -- ---- files that are read
-points_within : (points : List Pt) → AllByRecursion IsWithinReach points → AllByRecursion (IsWithin coordinate_limit) points
+points_within : (points : List Pt) → AllByRecursion IsWithinReach points
+    → AllByRecursion (IsWithin coordinate_limit) points
 points_within [] h = tt
 points_within (p ∷ ps) h = (record { x = h.0.0; y = h.0.1 }, points_within ps h.1)
 
@@ -29,10 +30,12 @@ outlines_within : (lines : List (List ℕ)) (drawn : List Drawn) → AllZip IsDr
 outlines_within [] [] h = tt
 outlines_within [] (d ∷ drawn) h = absurd h
 outlines_within (x ∷ lines) [] h = absurd h
-outlines_within (x ∷ lines) (Polyline points ∷ drawn) h = (points_within points h.0.shape.near, outlines_within lines drawn h.1)
+outlines_within (x ∷ lines) (Polyline points ∷ drawn) h
+    = (points_within points h.0.shape.near, outlines_within lines drawn h.1)
 outlines_within (x ∷ lines) (Hatching some ∷ drawn) h = outlines_within lines drawn h.1
 
-layers_within : (parts : List (List (List ℕ))) (layers : List Layer) → AllZip SaysLayer parts layers → AreWithin layers
+layers_within : (parts : List (List (List ℕ))) (layers : List Layer) → AllZip SaysLayer parts layers
+    → AreWithin layers
 layers_within [] [] h = tt
 layers_within [] (l ∷ layers) h = absurd h
 layers_within (x ∷ parts) [] h = absurd h
@@ -45,11 +48,13 @@ pub files_are_within : FilesAreWithin
 files_are_within bytes layers reads = layers_within reads.parts layers reads.each
 
 -- ---- the sides of layers
-path_within : (from : Pt) (ps : List Pt) (last : Pt) → IsWithin coordinate_limit from → IsWithin coordinate_limit last
+path_within : (from : Pt) (ps : List Pt) (last : Pt) → IsWithin coordinate_limit from
+    → IsWithin coordinate_limit last
     → AllByRecursion (IsWithin coordinate_limit) ps → All (IsEdgeWithin coordinate_limit) (path from ps last)
 path_within from [] last f l h = All-cons (IsEdgeWithin coordinate_limit) (record { a = from; b = last }) []
     (record { a = f; b = l }) (All-nil (IsEdgeWithin coordinate_limit))
-path_within from (p ∷ ps) last f l h = All-cons (IsEdgeWithin coordinate_limit) (record { a = from; b = p }) (path p ps last)
+path_within from (p ∷ ps) last f l h = All-cons (IsEdgeWithin coordinate_limit) (record { a = from; b = p })
+    (path p ps last)
     (record { a = f; b = h.0 }) (path_within p ps last h.0 l h.1)
 
 sides_within : (points : List Pt) → AllByRecursion (IsWithin coordinate_limit) points
@@ -57,13 +62,16 @@ sides_within : (points : List Pt) → AllByRecursion (IsWithin coordinate_limit)
 sides_within [] h = All-nil (IsEdgeWithin coordinate_limit)
 sides_within (p ∷ ps) h = path_within p ps p h.0 h.0 h.1
 
-all_within : (loops : List (List Pt)) → AllByRecursion (λ points. AllByRecursion (IsWithin coordinate_limit) points) loops
+all_within : (loops : List (List Pt)) → AllByRecursion (λ points. AllByRecursion (IsWithin coordinate_limit) points)
+    loops
     → All (IsEdgeWithin coordinate_limit) (flat_map sides loops)
 all_within [] h = All-nil (IsEdgeWithin coordinate_limit)
-all_within (l ∷ loops) h = All-append (IsEdgeWithin coordinate_limit) (sides l) (flat_map sides loops) (sides_within l h.0)
+all_within (l ∷ loops) h = All-append (IsEdgeWithin coordinate_limit) (sides l) (flat_map sides loops)
+    (sides_within l h.0)
     (all_within loops h.1)
 
 pub are_sides_within : (layers : List CliLayer) → AreWithin (seen layers) → AreSidesWithin layers
 are_sides_within [] h = All-nil (λ l. All (IsEdgeWithin coordinate_limit) (flat_map sides l.loops))
-are_sides_within (l ∷ layers) h = All-cons (λ l. All (IsEdgeWithin coordinate_limit) (flat_map sides l.loops)) l layers
+are_sides_within (l ∷ layers) h = All-cons (λ l. All (IsEdgeWithin coordinate_limit) (flat_map sides l.loops)) l
+    layers
     (all_within l.loops h.0) (are_sides_within layers h.1)

@@ -20,15 +20,16 @@ use Rattle.plan_verify.specs.Stays.{KeepsClear, from_above, IsInLayer, Stays}
 use Rattle.plan_verify.specs.Fields.{IsSound, IsFieldOf, IsInField, StaysInFields}
 use Rattle.plan_verify.specs.Verdict.{Told, AllDo, IsFirstOut, IsJudgedBy, IsVerdictBy, extruding}
 
-pub sound_fields : (layers : List CliLayer) (fields : List Field) → AllZip IsFieldOf layers fields → All IsSound fields
+pub sound_fields : (layers : List CliLayer) (fields : List Field) → AllZip IsFieldOf layers fields
+    → All IsSound fields
 sound_fields [] [] h = All-nil IsSound
 sound_fields [] (f ∷ fields) h = absurd h
 sound_fields (l ∷ layers) [] h = absurd h
 sound_fields (l ∷ layers) (f ∷ fields) h = All-cons IsSound f fields h.0.sound (sound_fields layers fields h.1)
 
 -- ---- fields one by one
-zip_push : {A B : Type 0} (R : A → B → Type 0) (xs : List A) (ys : List B) (x : A) (y : B) → AllZip R xs ys → R x y
-    → AllZip R (xs ++ x ∷ []) (ys ++ y ∷ [])
+zip_push : {A B : Type 0} (R : A → B → Type 0) (xs : List A) (ys : List B) (x : A) (y : B) → AllZip R xs ys
+    → R x y → AllZip R (xs ++ x ∷ []) (ys ++ y ∷ [])
 zip_push R [] [] x y h r = (r, tt)
 zip_push R [] (b ∷ ys) x y h r = absurd h
 zip_push R (a ∷ xs) [] x y h r = absurd h
@@ -39,7 +40,8 @@ pub zip_more : (layers : List CliLayer) (fields : List Field) (k : ℕ) (l : Cli
     → AllZip IsFieldOf (take (k + 1) layers) (fields ++ f ∷ [])
 zip_more layers fields k l f more is zip field =
     subst (λ (ls : List CliLayer). AllZip IsFieldOf ls (fields ++ f ∷ [])) (sym (take_more layers k l more))
-    (zip_push IsFieldOf (take k layers) fields (get_or layers k l) f zip (subst (λ (x : CliLayer). IsFieldOf x f) is field))
+    (zip_push IsFieldOf (take k layers) fields (get_or layers k l) f zip
+        (subst (λ (x : CliLayer). IsFieldOf x f) is field))
 
 pub zip_all : (layers : List CliLayer) (fields : List Field) (k : ℕ) → length layers ≤ k
     → AllZip IsFieldOf (take k layers) fields → AllZip IsFieldOf layers fields
@@ -74,8 +76,8 @@ none_any : {X : Type 0} (P : X → Type 0) → Any P [] → ⊥
 none_any P (k, y, l, e, p) = absurd (omega (arith, l))
 
 module _ (width : ℕ) (m : Move) where
-  any_layer : (layers : List CliLayer) (fields : List Field) → AllZip IsFieldOf layers fields → Any (IsInField width m) fields
-      → Any (IsInLayer width m) (seen layers)
+  any_layer : (layers : List CliLayer) (fields : List Field) → AllZip IsFieldOf layers fields
+      → Any (IsInField width m) fields → Any (IsInLayer width m) (seen layers)
   any_layer [] [] h a = absurd (none_any (IsInField width m) a)
   any_layer [] (f ∷ fields) h a = absurd h
   any_layer (l ∷ layers) [] h a = absurd h
@@ -112,7 +114,8 @@ module _ (S T : Move → Type 0) (to : (m : Move) → S m → T m) (from : (m : 
     line = f.line;
   }
 
-  verdict_alike : (program : List ℕ) (r : Result Verdict VerifyFault) → IsVerdictBy S program r → IsVerdictBy T program r
+  verdict_alike : (program : List ℕ) (r : Result Verdict VerifyFault) → IsVerdictBy S program r
+      → IsVerdictBy T program r
   verdict_alike program (Ok v) (moves, e, j) = (moves, e, judged_alike (extruding moves) v j)
   verdict_alike program (Err fault) h = h
 

@@ -2,7 +2,6 @@ pub mod Lines
 pub mod Extents
 pub mod Windings
 pub mod Clearance
-pub mod Axes
 pub mod Told
 pub mod Adding
 pub mod Files

@@ -29,19 +29,20 @@ round_more x y z es k d l before new inside all = All-more (IsIn z) es k d l
     (in_covered z y (get_or es k d) new inside)
 
 -- ---- nearness
-pub one_apart : (t : Trial) (x : Extent) (e : Edge) (r : Bool) → IsTrial t → IsIn x e → r ≡ is_beyond x t.reach → r ≡ true
-    → IsApart t e
+pub one_apart : (t : Trial) (x : Extent) (e : Edge) (r : Bool) → IsTrial t → IsIn x e → r ≡ is_beyond x t.reach
+    → r ≡ true → IsApart t e
 one_apart t x e r sound inside is sure = beyond_apart t.s t.u t.reach t.line sound.reach x e inside (sym is ∙ sure)
 
-pub all_apart : (tree : Tree) (t : Trial) (x : Extent) (r : Bool) → IsBoxed tree → IsTrial t → x ≡ extent_in tree
-    → r ≡ is_beyond x t.reach → r ≡ true → All (IsApart t) (sides_in tree)
+pub all_apart : (tree : Tree) (t : Trial) (x : Extent) (r : Bool) → IsBoxed tree → IsTrial t
+    → x ≡ extent_in tree → r ≡ is_beyond x t.reach → r ≡ true → All (IsApart t) (sides_in tree)
 all_apart tree t x r boxed sound same is sure = All-weaker (IsIn (extent_in tree)) (IsApart t)
-    (λ e inside. one_apart t (extent_in tree) e r sound inside (is ∙ ap (λ (y : Extent). is_beyond y t.reach) same) sure)
+    (λ e inside. one_apart t (extent_in tree) e r sound inside (is ∙ ap (λ (y : Extent). is_beyond y t.reach) same)
+        sure)
     (sides_in tree) (root_holds tree boxed)
 
 -- ---- winding numbers
-pub off_tree : (tree : Tree) (p : Pt) (x : Extent) (r : Bool) → IsBoxed tree → x ≡ extent_in tree → r ≡ is_off x p → r ≡ true
-    → wind (meant Whole p) (segments (sides_in tree)) ≡ pos 0
+pub off_tree : (tree : Tree) (p : Pt) (x : Extent) (r : Bool) → IsBoxed tree → x ≡ extent_in tree
+    → r ≡ is_off x p → r ≡ true → wind (meant Whole p) (segments (sides_in tree)) ≡ pos 0
 off_tree tree p x r boxed same is sure = off_wind (extent_in tree) p (sides_in tree)
     (ap (λ (y : Extent). is_off y p) (sym same) ∙ sym is ∙ sure) (root_holds tree boxed)
 
@@ -60,14 +61,17 @@ item_same [] k d e l = absurd (omega (arith, l))
 item_same (x ∷ xs) zero d e l = refl
 item_same (x ∷ xs) (suc k) d e l = item_same xs k d e (omega (arith, l))
 
-pub any_item : {X : Type 0} (P : X → Type 0) (xs : List X) (k : ℕ) (d : X) → k < length xs → P (get_or xs k d) → Any P xs
+pub any_item : {X : Type 0} (P : X → Type 0) (xs : List X) (k : ℕ) (d : X) → k < length xs → P (get_or xs k d)
+    → Any P xs
 any_item P xs k d l p = (k, get_or xs k d, l, item_same xs k (get_or xs k d) d l, p)
 
-pub any_at : {X : Type 0} (P : X → Type 0) (xs : List X) (k : ℕ) (x : X) → k < length xs → x ≡ get_or xs k x → P x → Any P xs
+pub any_at : {X : Type 0} (P : X → Type 0) (xs : List X) (k : ℕ) (x : X) → k < length xs → x ≡ get_or xs k x
+    → P x → Any P xs
 any_at P xs k x l e p = (k, x, l, sym e, p)
 
 pub none_any : {X : Type 0} (P : X → Type 0) (xs : List X) → All (λ x. P x → ⊥) xs → Any P xs → ⊥
 none_any P xs all (k, x, l, e, p) = all k x l (subst P (sym e) p)
 
-pub all_taken : {X : Type 0} (P : X → Type 0) (xs : List X) (k : ℕ) → length xs ≤ k → All P (take k xs) → All P xs
+pub all_taken : {X : Type 0} (P : X → Type 0) (xs : List X) (k : ℕ) → length xs ≤ k → All P (take k xs)
+    → All P xs
 all_taken {X = X} P xs k l all = subst (λ (ys : List X). All P ys) (take_all k xs l) all

@@ -23,8 +23,8 @@ use Rattle.plan_verify.specs.Fields.{IsSound, IsFieldOf}
 use Rattle.plan_verify.proofs.Clearance.{kept_if, not_kept_near, not_kept_out}
 
 pub field_is : (layer : CliLayer) (f : Field) (es : List Edge) → f.z ≡ layer.z → sides_in f.sides ≡ es
-    → es ≡ flat_map sides layer.loops → IsBoxed f.sides → All (IsEdgeWithin coordinate_limit) (flat_map sides layer.loops)
-    → length es < 2 ^ 63 → IsFieldOf layer f
+    → es ≡ flat_map sides layer.loops → IsBoxed f.sides
+    → All (IsEdgeWithin coordinate_limit) (flat_map sides layer.loops) → length es < 2 ^ 63 → IsFieldOf layer f
 field_is layer f es height are all boxed within few =
     let same = are ∙ all in
     let count = ap (λ (fs : List Edge). length fs) are in
@@ -41,14 +41,16 @@ field_is layer f es height are all boxed within few =
     }
 
 balanced : (f : Field) → IsSound f → IsBalanced (segments (sides_in f.sides))
-balanced f sound = subst (λ (es : List Edge). IsBalanced (segments es)) (sym sound.closed) (sides_balanced sound.outlines)
+balanced f sound = subst (λ (es : List Edge). IsBalanced (segments es)) (sym sound.closed)
+    (sides_balanced sound.outlines)
 
 reach_two : (c : ℕ) → 2 ≤ c → 2 ≤ reach c
 reach_two c h = omega (arith, h)
 
 module _ (f : Field) (line : Edge) (width : ℕ) (t : Trial) (sound : IsSound f) (least : 100 ≤ width) (is_line : t.line ≡ line)
     (s : t.s ≡ width / 2 - 1) (u : t.u ≡ reach (width / 2) - 2) where
-  winds_alike : wind (meant Whole t.line.a) (segments (sides_in f.sides)) ≡ wind (meant Whole line.a) (segments (sides_in f.sides))
+  winds_alike : wind (meant Whole t.line.a) (segments (sides_in f.sides))
+      ≡ wind (meant Whole line.a) (segments (sides_in f.sides))
   winds_alike = ap (λ (l : Edge). wind (meant Whole l.a) (segments (sides_in f.sides))) is_line
 
   pub keeps_where : (z : ℤ) → All (IsApart t) (sides_in f.sides)
@@ -64,6 +66,6 @@ module _ (f : Field) (line : Edge) (width : ℕ) (t : Trial) (sound : IsSound f)
       (reach_two (width / 2) (omega (arith, least))) s u near
       (subst (λ (l : Edge). KeepsClear (sides_in f.sides) (width / 2) l) (sym is_line) keeps)
 
-pub out_fails : (es : List Edge) (line : Edge) (c : ℕ) (z : ℤ) → z ≡ wind (meant Whole line.a) (segments es) → z ≡ pos 0
-    → KeepsClear es c line → ⊥
+pub out_fails : (es : List Edge) (line : Edge) (c : ℕ) (z : ℤ) → z ≡ wind (meant Whole line.a) (segments es)
+    → z ≡ pos 0 → KeepsClear es c line → ⊥
 out_fails es line c z is none keeps = not_kept_out es c line (sym is ∙ none) keeps

@@ -13,9 +13,9 @@ use Rattle.plan_verify.specs.declared.judgement.Judgement.{Judgement}
 use Rattle.plan_verify.specs.declared.verdict.Verdict.{Verdict}
 use Rattle.plan_verify.specs.declared.verdict.VerifyFault.{VerifyFault}
 use Rattle.plan_verify.specs.Verdict.{Told, onto, moves_told, program_moves, extruding, AllDo, IsFirstOut, IsJudgedBy, IsVerdictBy, refusal_of}
-use Rattle.plan_verify.specs.Limits.{IsPlaceWithin, IsMoveWithin}
+use Rattle.plan_verify.specs.Limits.{IsMoveWithin}
 use Rattle.plan_verify.specs.Judged.{first_out, added, verdict_of, verdict_of', IsAdded, WithMove, passed, late, did, failed}
-use Rattle.plan_verify.proofs.Axes.{IsAfterWithin, step_within, step_lines, start_within}
+use Rattle.gcode_text.proofs.Axes.{IsPlaceWithin, IsAfterWithin, step_within, step_lines, start_within}
 
 abbrev pub prefix : List Told → Result (List Told) GFault → Result (List Told) GFault
 prefix moves rest = and_then rest (λ more. Ok (moves ++ more))
@@ -35,15 +35,21 @@ onto_prefix line None (Err fault) = refl
 onto_prefix line (Some move) (Ok moves) = refl
 onto_prefix line (Some move) (Err fault) = refl
 
-line_more : (s : State) (text : List ℕ) (rest : List (List ℕ)) (after : After) → line_step limited s text ≡ Ok after
+-- the moves of a line and of what stands behind it
+abbrev then_told : List (List ℕ) → After → Result (List Told) GFault
+then_told rest after = and_then (moves_told after.state rest) (λ moves. Ok (onto after.state.lines after.move moves))
+
+line_more : (s : State) (text : List ℕ) (rest : List (List ℕ)) (after : After)
+    → line_step limited s text ≡ Ok after
     → moves_told s (text ∷ rest) ≡ prefix (onto after.state.lines after.move []) (moves_told after.state rest)
 unfolding moves_told
-line_more s text rest after e = rw e (onto_prefix after.state.lines after.move (moves_told after.state rest))
+line_more s text rest after e = ap (λ (r : Result After GFault). and_then r (then_told rest)) e
+    ∙ onto_prefix after.state.lines after.move (moves_told after.state rest)
 
-line_refused : (s : State) (text : List ℕ) (rest : List (List ℕ)) (fault : GFault) → line_step limited s text ≡ Err fault
-    → moves_told s (text ∷ rest) ≡ Err fault
+line_refused : (s : State) (text : List ℕ) (rest : List (List ℕ)) (fault : GFault)
+    → line_step limited s text ≡ Err fault → moves_told s (text ∷ rest) ≡ Err fault
 unfolding moves_told
-line_refused s text rest fault e = rw e refl
+line_refused s text rest fault e = ap (λ (r : Result After GFault). and_then r (then_told rest)) e
 
 no_more : (s : State) → moves_told s [] ≡ Ok []
 unfolding moves_told
@@ -93,8 +99,10 @@ module _ (Does : Move → Type 0) where
       (All-cons (λ told. Does told.move) t [] d (All-nil (λ told. Does told.move)))
   did_is moves t (Some out) e d o = absurd (cc)
 
-  failed_is : (moves : List Told) (t : Told) (out : Option Out) (count : ℕ) → count ≡ length moves → out ≡ None
-      → (Does t.move → ⊥) → OutIs Does moves out → OutIs Does (moves ++ t ∷ []) (first_out out (count + 1) t.line)
+  failed_is : (moves : List Told) (t : Told) (out : Option Out) (count : ℕ) → count ≡ length moves
+      → out ≡ None
+      → (Does t.move → ⊥) → OutIs Does moves out
+      → OutIs Does (moves ++ t ∷ []) (first_out out (count + 1) t.line)
   failed_is moves t None count c e d o = record {
     before = moves;
     out = t;
@@ -111,7 +119,8 @@ module _ (Does : Move → Type 0) where
   abbrev with_told : List Told → Told → List Told
   with_told moves t = extruding (moves ++ t ∷ [])
 
-  told_extrudes : (moves : List Told) (t : Told) → t.move.extruding ≡ true → with_told moves t ≡ extruding moves ++ t ∷ []
+  told_extrudes : (moves : List Told) (t : Told) → t.move.extruding ≡ true
+      → with_told moves t ≡ extruding moves ++ t ∷ []
   told_extrudes moves t e =
       filter-append (λ told. told.move.extruding) moves (t ∷ [])
       ∙ ap (λ (b : Bool). extruding moves ++ cond b (t ∷ []) []) e
@@ -162,8 +171,8 @@ module _ (Does : Move → Type 0) where
     within = start_within;
   }
 
-  pub read_first : (program : List ℕ) (s : State) (j : Judgement) → s ≡ start → j ≡ record { moves = 0; out = None }
-      → IsRead program s (lines program) 0 j
+  pub read_first : (program : List ℕ) (s : State) (j : Judgement) → s ≡ start
+      → j ≡ record { moves = 0; out = None } → IsRead program s (lines program) 0 j
   read_first program s j at none = subst (λ (t : State). IsRead program t (lines program) 0 j) (sym at)
       (subst (λ (k : Judgement). IsRead program start (lines program) 0 k) (sym none) (read_nothing program))
 
@@ -173,11 +182,13 @@ module _ (Does : Move → Type 0) where
   added_few j i line m (did e s d) = omega arith
   added_few j i line m (failed e s d) = omega arith
 
-  pub with_few : (move : Option Move) (line : ℕ) (j i : Judgement) → WithMove Does move line j i → i.moves ≤ j.moves + 1
+  pub with_few : (move : Option Move) (line : ℕ) (j i : Judgement) → WithMove Does move line j i
+      → i.moves ≤ j.moves + 1
   with_few None line j i e = let f = ap (λ (k : Judgement). k.moves) e in omega (arith, f)
   with_few (Some m) line j i o = added_few j i line m o
 
-  judged_with : (moves : List Told) (move : Option Move) (line : ℕ) (j i : Judgement) → IsJudged Does (extruding moves) j
+  judged_with : (moves : List Told) (move : Option Move) (line : ℕ) (j i : Judgement)
+      → IsJudged Does (extruding moves) j
       → WithMove Does move line j i → IsJudged Does (extruding (moves ++ onto line move [])) i
   judged_with moves None line j i o e =
       subst (λ (ms : List Told). IsJudged Does (extruding ms) i) (sym (append-nil moves))
@@ -226,7 +237,7 @@ module _ (Does : Move → Type 0) where
     judged_by (extruding r.moves) j.moves j.out r.judged.count r.judged.out,
   )
 
-  pub read_end : (program : List ℕ) (s : State) (line : ℕ) (j : Judgement) (v : Verdict) → IsRead program s [] line j
-      → v ≡ verdict_of j → IsVerdictBy Does program (Ok v)
+  pub read_end : (program : List ℕ) (s : State) (line : ℕ) (j : Judgement) (v : Verdict)
+      → IsRead program s [] line j → v ≡ verdict_of j → IsVerdictBy Does program (Ok v)
   read_end program s line j v r is = subst (λ (u : Verdict). IsVerdictBy Does program (Ok u)) (sym is)
       (read_all program s line j r)

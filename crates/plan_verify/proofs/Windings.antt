@@ -8,9 +8,11 @@ use Rattle.scad_geom.specs.Point.{Point, whole}
 use Rattle.scad_geom.specs.Segment.{segments}
 use Rattle.scad_geom.specs.Winding.{counted, is_over, is_beyond, passage_by, side_by, turn, wind}
 
-pub wind_both : (p : Point) (es fs : List Edge) → wind p (segments (es ++ fs)) ≡ wind p (segments es) +ℤ wind p (segments fs)
+pub wind_both : (p : Point) (es fs : List Edge)
+    → wind p (segments (es ++ fs)) ≡ wind p (segments es) +ℤ wind p (segments fs)
 wind_both p [] fs = sym (+ℤ_idl (wind p (segments fs)))
-wind_both p (e ∷ es) fs = ap (λ (z : ℤ). turn true true p (whole e.a) (whole e.b) +ℤ z) (wind_both p es fs) ∙ sym
+wind_both p (e ∷ es) fs = ap (λ (z : ℤ). turn true true p (whole e.a) (whole e.b) +ℤ z) (wind_both p es fs)
+    ∙ sym
     (+ℤ_assoc (turn true true p (whole e.a) (whole e.b)) (wind p (segments es)) (wind p (segments fs)))
 
 turn_size : (p a b : Point) → unsigned_abs (turn true true p a b) ≤ 1

@@ -1,14 +1,9 @@
 -- Moves within the limit of coordinates.
-use Rattle.std.specs.Prelude.{◌≤◌, unsigned_abs}
-use Rattle.scad_geom.specs.declared.point3.Pt3.{Pt3}
 use Rattle.scad_geom.specs.Limits.{coordinate_limit}
+use Rattle.scad_geom.specs.Within.{IsEdgeWithin}
 use Rattle.gcode_text.specs.declared.machine.Move.{Move}
+use Rattle.plan_verify.specs.Stays.{from_above}
 
--- the axes are within it
-pub record IsPlaceWithin (p : Pt3) : Type 0 where
-  pub x : unsigned_abs p.x ≤ coordinate_limit
-  pub y : unsigned_abs p.y ≤ coordinate_limit
-
-pub record IsMoveWithin (m : Move) : Type 0 where
-  pub from : IsPlaceWithin m.from
-  pub to : IsPlaceWithin m.to
+-- as it is seen from above
+abbrev pub IsMoveWithin : Move → Type 0
+IsMoveWithin m = IsEdgeWithin coordinate_limit (from_above m)

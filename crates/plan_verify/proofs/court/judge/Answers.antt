@@ -3,7 +3,7 @@ use Rattle.std.proofs.Common.{◌≡◌, ◌+◌, ◌<◌, ◌≤◌, length, ar
 use Rattle.std.proofs.lemmas.Result.{err_from_is_err_and}
 use Rattle.gcode_text.specs.Reading.{lines}
 use Rattle.plan_verify.specs.Fields.{StaysInFields}
-use Rattle.plan_verify.proofs.Axes.{step_within}
+use Rattle.gcode_text.proofs.Axes.{step_within}
 use Rattle.plan_verify.proofs.Told.{read_first, read_line, read_refusal, refused_is, some_left, with_few, read_end}
 use Rattle.plan_verify.proofs.court.judge.Goals as goal
 
@@ -48,7 +48,8 @@ pub returns-in-None : goal.returns-in-None
 returns-in-None c =
     let does = StaysInFields c.args.fields.now c.args.line_width in
     let split = rw c.in-None.is at c.first_line.ensures.line in
-    read_end does c.args.gcode.now c.step.new.self c.saturating_add-line.result c.with_line-judgement.result c.said.result
+    read_end does c.args.gcode.now c.step.new.self c.saturating_add-line.result c.with_line-judgement.result
+        c.said.result
     (read_line does c.args.gcode.now c.first_line.result.0.now (lines c.lines.rest) [] c.lines.machine
     (record { state = c.step.new.self; move = c.in_ok-done.done }) c.lines.line c.saturating_add-line.result
     c.lines.judgement c.with_line-judgement.result c.lines.invariant.read split c.in_ok-done.ensures.accepted

@@ -6,7 +6,8 @@ use Rattle.plan_verify.proofs.Searches.{any_at, none_any, all_taken}
 use Rattle.plan_verify.proofs.field.is_in_some.Goals as goal
 
 pub fields-preserved : goal.fields-preserved
-fields-preserved c = All-more (λ f. IsInField c.args.line_width c.args.m.now f → ⊥) c.args.fields.now c.fields.field-index
+fields-preserved c = All-more (λ f. IsInField c.args.line_width c.args.m.now f → ⊥) c.args.fields.now
+    c.fields.field-index
     c.field-item.result c.fields-test.true c.fields.invariant
     (subst (λ (f : Field). IsInField c.args.line_width c.args.m.now f → ⊥) c.field-item.is
     (c.is_in.ensures.fails c.if-is_in.false))

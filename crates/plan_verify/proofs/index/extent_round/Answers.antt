@@ -3,7 +3,8 @@ use Rattle.plan_verify.proofs.Searches.{round_more, all_taken}
 use Rattle.plan_verify.proofs.index.extent_round.Goals as goal
 
 pub sides-preserved : goal.sides-preserved
-sides-preserved c = round_more c.sides.extent c.around.result c.round-extent.result c.args.sides.now c.sides.side-index _
+sides-preserved c = round_more c.sides.extent c.around.result c.round-extent.result c.args.sides.now c.sides.side-index
+    _
     c.sides-test.true c.round-extent.ensures.first c.round-extent.ensures.second c.around.ensures c.sides.invariant
 
 pub returns : goal.returns

@@ -12,5 +12,6 @@ returns-then-is_near-clause-near c = λ _. any_item (IsNear c.args.self.now) c.a
     c.sides-test.true (c.is_near.ensures.near c.if-is_near.true)
 
 pub returns-clause-clear : goal.returns-clause-clear
-returns-clause-clear c = λ _. all_taken (IsApart c.args.self.now) c.args.sides.now c.sides.side-index c.sides-test.false
+returns-clause-clear c = λ _. all_taken (IsApart c.args.self.now) c.args.sides.now c.sides.side-index
+    c.sides-test.false
     c.sides.invariant
