@@ -116,7 +116,7 @@ pub fn is_clear(tree: &Tree, trial: &Trial) -> bool
         return true;
     }
     match tree {
-        Tree::Few(_, sides) => trial.is_clear(sides),
+        Tree::Few(_, sides) => trial.is_clear_of(sides),
         Tree::Many(_, first, second) => {
             if is_clear(first, trial) {
                 is_clear(second, trial)

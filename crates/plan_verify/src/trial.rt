@@ -38,7 +38,7 @@ impl Trial {
     }
 
     /// Whether none of the sides is near to any point of the move.
-    pub fn is_clear(&self, sides: &[Edge]) -> bool
+    pub fn is_clear_of(&self, sides: &[Edge]) -> bool
         requires trial { IsTrial self.now }
         requires sides { All (IsEdgeWithin coordinate_limit) sides.now }
         ensures clear { result ≡ true → All (IsApart self.now) sides.now }

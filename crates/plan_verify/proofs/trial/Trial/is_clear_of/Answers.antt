@@ -1,7 +1,7 @@
 use Rattle.std.proofs.lemmas.List.Elements.{All-more}
 use Rattle.plan_verify.specs.Trial.{IsApart, IsNear}
 use Rattle.plan_verify.proofs.Searches.{any_item, all_taken}
-use Rattle.plan_verify.proofs.trial.Trial.is_clear.Goals as goal
+use Rattle.plan_verify.proofs.trial.Trial.is_clear_of.Goals as goal
 
 pub sides-preserved : goal.sides-preserved
 sides-preserved c = All-more (IsApart c.args.self.now) c.args.sides.now c.sides.side-index _ c.sides-test.true
