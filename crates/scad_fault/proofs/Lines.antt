@@ -2,10 +2,11 @@
 use Rattle.std.proofs.Common.{◌≡◌, [], codes, refl, pos, negsuc}
 use Rattle.std.specs.Fmt.{digits}
 use Rattle.scad_fault.specs.declared.fault.FaultKind.TheVariants.{LeftOut, NotClosed}
-use Rattle.scad_fault.specs.declared.budget.BudgetKind.TheVariants.{SourceLong, Depth, Layers, LayerEdges}
+use Rattle.scad_fault.specs.declared.budget.BudgetKind.TheVariants.{SourceLong, Depth, Layers, LayerEdges, SupportRuns, FileLong}
 use Rattle.scad_fault.specs.declared.settings.SetKind.TheVariants.{NotToml, OutOfRange}
+use Rattle.scad_fault.specs.declared.verdict.BadKind.TheVariants.{CliLine, CliCount, GNumber}
 use Rattle.scad_fault.specs.Place.{no_place, first_place}
-use Rattle.scad_fault.specs.Line.{fault_line, settings_line, budget_line}
+use Rattle.scad_fault.specs.Line.{fault_line, settings_line, budget_line, outside_line, bad_line}
 
 pub source_long_line :
     budget_line (record { kind = SourceLong; at = no_place; layer = 0; count = 0 }) ≡ codes "budget 1 SourceLong\n"
@@ -57,3 +58,30 @@ layer_edges_line :
     ≡ codes "budget 7 LayerEdges layer 4 count 20010\n"
 unfolding budget_line digits
 layer_edges_line = refl
+
+support_runs_line :
+    budget_line (record { kind = SupportRuns; at = no_place; layer = 0; count = 10000001 })
+    ≡ codes "budget 11 SupportRuns count 10000001\n"
+unfolding budget_line digits
+support_runs_line = refl
+
+pub file_long_line :
+    budget_line (record { kind = FileLong; at = no_place; layer = 0; count = 0 }) ≡ codes "budget 12 FileLong\n"
+unfolding budget_line digits
+file_long_line = refl
+
+first_move_line : outside_line 1 15 ≡ codes "outside: move 1 line 15\n"
+unfolding outside_line digits
+first_move_line = refl
+
+bad_outlines_line : bad_line CliLine 1 0 ≡ codes "cli 1 BadLine 1\n"
+unfolding bad_line digits
+bad_outlines_line = refl
+
+count_line : bad_line CliCount 3 2 ≡ codes "cli 2 CountDiffers 3 2\n"
+unfolding bad_line digits
+count_line = refl
+
+bad_number_line : bad_line GNumber 7 0 ≡ codes "gcode 2 BadNumber 7\n"
+unfolding bad_line digits
+bad_number_line = refl

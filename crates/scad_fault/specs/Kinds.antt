@@ -1,9 +1,11 @@
--- The number and the name of each kind of fault, of budget and of settings fault.
+-- The number and the name of each kind of fault, of budget, of settings fault and of why a file is not of the form.
 use Rattle.std.specs.Prelude.{ℕ, List, codes}
 use Rattle.scad_fault.specs.declared.fault.FaultKind.{FaultKind}
 use Rattle.scad_fault.specs.declared.fault.FaultKind.TheVariants.{BadText, Syntax, Nesting, LeftOut, UnknownModule, UnknownFunction, BadArgument, ZeroDivisor, NumberRange, AssertFailed, MixedDimensions, NotClosed, CoordinateRange, ZeroStep}
 use Rattle.scad_fault.specs.declared.budget.BudgetKind.{BudgetKind}
-use Rattle.scad_fault.specs.declared.budget.BudgetKind.TheVariants.{SourceLong, Steps, Depth, Leaves, Triangles, Layers, LayerEdges, LayerCrossings, LayerMoves, HullPoints}
+use Rattle.scad_fault.specs.declared.budget.BudgetKind.TheVariants.{SourceLong, Steps, Depth, Leaves, Triangles, Layers, LayerEdges, LayerCrossings, LayerMoves, HullPoints, SupportRuns, FileLong}
+use Rattle.scad_fault.specs.declared.verdict.BadKind.{BadKind}
+use Rattle.scad_fault.specs.declared.verdict.BadKind.TheVariants.{CliLine, CliCount, CliOpen, GWord, GNumber}
 use Rattle.scad_fault.specs.declared.settings.SetKind.{SetKind}
 use Rattle.scad_fault.specs.declared.settings.SetKind.TheVariants.{NotToml, UnknownKey, NotWhole, OutOfRange}
 
@@ -53,6 +55,8 @@ budget_number LayerEdges = 7
 budget_number LayerCrossings = 8
 budget_number LayerMoves = 9
 budget_number HullPoints = 10
+budget_number SupportRuns = 11
+budget_number FileLong = 12
 
 -- the name of a budget
 abbrev pub budget_name : BudgetKind → List ℕ
@@ -66,6 +70,8 @@ budget_name LayerEdges = codes "LayerEdges"
 budget_name LayerCrossings = codes "LayerCrossings"
 budget_name LayerMoves = codes "LayerMoves"
 budget_name HullPoints = codes "HullPoints"
+budget_name SupportRuns = codes "SupportRuns"
+budget_name FileLong = codes "FileLong"
 
 -- the number of a settings fault
 abbrev pub set_number : SetKind → ℕ
@@ -80,3 +86,27 @@ set_name NotToml = codes "NotToml"
 set_name UnknownKey = codes "UnknownKey"
 set_name NotWhole = codes "NotWhole"
 set_name OutOfRange = codes "OutOfRange"
+
+-- the file that is not of the form
+abbrev pub bad_file : BadKind → List ℕ
+bad_file CliLine = codes "cli"
+bad_file CliCount = codes "cli"
+bad_file CliOpen = codes "cli"
+bad_file GWord = codes "gcode"
+bad_file GNumber = codes "gcode"
+
+-- the number of why a file is not of the form, among those of its file
+abbrev pub bad_number : BadKind → ℕ
+bad_number CliLine = 1
+bad_number CliCount = 2
+bad_number CliOpen = 3
+bad_number GWord = 1
+bad_number GNumber = 2
+
+-- the name of why a file is not of the form
+abbrev pub bad_name : BadKind → List ℕ
+bad_name CliLine = codes "BadLine"
+bad_name CliCount = codes "CountDiffers"
+bad_name CliOpen = codes "OpenLoop"
+bad_name GWord = codes "UnknownWord"
+bad_name GNumber = codes "BadNumber"

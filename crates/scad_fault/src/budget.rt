@@ -32,6 +32,10 @@ pub enum BudgetKind {
     LayerMoves = 9,
     /// The distinct points of a hull.
     HullPoints = 10,
+    /// The stretches below what overhangs, along all lines of support of all layers.
+    SupportRuns = 11,
+    /// The bytes of a file that is to be judged.
+    FileLong = 12,
 }
 
 impl BudgetKind {
@@ -55,12 +59,14 @@ impl BudgetKind {
             BudgetKind::LayerCrossings => "LayerCrossings",
             BudgetKind::LayerMoves => "LayerMoves",
             BudgetKind::HullPoints => "HullPoints",
+            BudgetKind::SupportRuns => "SupportRuns",
+            BudgetKind::FileLong => "FileLong",
         }
     }
 }
 
 /// A budget that was passed: the place in the source for `Steps` to `Triangles` and `HullPoints`, the count for
-/// `Layers` to `LayerMoves`, the layer for `LayerEdges` to `LayerMoves`. The fields that a kind does
+/// `Layers` to `LayerMoves` and `SupportRuns`, the layer for `LayerEdges` to `LayerMoves`. The fields that a kind does
 /// not use are 0.
 #[derive(Clone, Copy, Debug, PartialEq, Eq)]
 pub struct Budget {
@@ -78,6 +84,19 @@ impl Budget {
     {
         Budget {
             kind: BudgetKind::SourceLong,
+            at: Place::NONE,
+            layer: 0,
+            count: 0,
+        }
+    }
+
+    /// A file with more bytes than the limit.
+    pub fn file_long() -> Budget
+        ensures { result ≡
+            record { kind = BudgetKind.FileLong; at = no_place; layer = 0; count = 0 } }
+    {
+        Budget {
+            kind: BudgetKind::FileLong,
             at: Place::NONE,
             layer: 0,
             count: 0,
@@ -103,6 +122,19 @@ impl Budget {
     {
         Budget {
             kind: BudgetKind::Layers,
+            at: Place::NONE,
+            layer: 0,
+            count,
+        }
+    }
+
+    /// More stretches to be supported than the limit.
+    pub fn support_runs(count: u64) -> Budget
+        ensures { result ≡
+            record { kind = BudgetKind.SupportRuns; at = no_place; layer = 0; count = count } }
+    {
+        Budget {
+            kind: BudgetKind::SupportRuns,
             at: Place::NONE,
             layer: 0,
             count,
@@ -138,13 +170,13 @@ impl Budget {
             ++ passed_text self.now.kind self.now.at self.now.layer self.now.count) }
     {
         match self.kind {
-            BudgetKind::SourceLong => Ok(()),
+            BudgetKind::SourceLong | BudgetKind::FileLong => Ok(()),
             BudgetKind::Steps
             | BudgetKind::Depth
             | BudgetKind::Leaves
             | BudgetKind::Triangles
             | BudgetKind::HullPoints => line::push_place(text, self.at),
-            BudgetKind::Layers => line::push_count(text, self.count),
+            BudgetKind::Layers | BudgetKind::SupportRuns => line::push_count(text, self.count),
             BudgetKind::LayerEdges | BudgetKind::LayerCrossings | BudgetKind::LayerMoves => {
                 line::push_layer(text, self.layer)?;
                 line::push_count(text, self.count)

@@ -11,6 +11,7 @@ mod place;
 mod settings;
 mod status;
 mod text;
+mod verdict;
 
 pub use budget::{Budget, BudgetKind};
 pub use chars::Chars;
@@ -20,3 +21,4 @@ pub use place::{Place, constant_places};
 pub use settings::{SetFault, SetKind};
 pub use status::{OUT_OF_MEMORY, READ_FAULT, Status, WRITE_FAULT, constant_lines};
 pub use text::Text;
+pub use verdict::BadKind;

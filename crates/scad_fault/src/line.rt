@@ -1,5 +1,5 @@
 //! The parts of the report's lines, each added to the end of a text.
-ghost use Rattle.std.specs.Prelude.{◌≡◌, ◌++◌, OnOk};
+ghost use Rattle.std.specs.Prelude.{◌≡◌, ◌++◌, OnOk, decimal};
 ghost use Rattle.std.specs.Fmt.{signed_decimal};
 ghost use Rattle.scad_fault.specs.Line.{kind_text, place_text, count_text, layer_text, word_text};
 
@@ -25,6 +25,13 @@ pub(crate) fn push_value(text: &mut Vec<u8>, value: i64) -> Result<(), AllocErro
 {
     text.push(b' ')?;
     push_number(text, value)
+}
+
+pub(crate) fn push_whole(text: &mut Vec<u8>, count: u64) -> Result<(), AllocError>
+    ensures { OnOk result (text.new.items ≡ text.old.items ++ word_text (decimal count)) }
+{
+    text.push(b' ')?;
+    push_number(text, count)
 }
 
 pub(crate) fn push_kind(text: &mut Vec<u8>, number: u8, name: &str) -> Result<(), AllocError>

@@ -7,6 +7,7 @@ use crate::budget::Budget;
 use crate::fault::Fault;
 use crate::settings::SetFault;
 use crate::text::Text;
+use crate::verdict::{self, BadKind};
 use std::alloc::{AllocError, Global};
 
 /// The report's last line after `Status::Read`. Like the next two it takes no memory.
@@ -37,6 +38,19 @@ pub enum Status {
     Over(Budget),
     /// There was too little memory.
     Memory,
+    /// The extruding move with this number, counted from 1, in the line with this number, counted from 1, is the first that
+    /// leaves its outlines.
+    Outside {
+        number: u64,
+        line: u32,
+    },
+    /// A file that was to be judged is not of the form: why, and the numbers that its line tells. The second is 0 but for
+    /// `BadKind::CliCount`.
+    BadFile {
+        kind: BadKind,
+        first: u64,
+        second: u64,
+    },
 }
 
 impl Status {
@@ -53,6 +67,8 @@ impl Status {
             Status::Write => 5,
             Status::Over(_) => 6,
             Status::Memory => 7,
+            Status::Outside { .. } => 8,
+            Status::BadFile { .. } => 9,
         }
     }
 
@@ -70,6 +86,12 @@ impl Status {
             Status::Write => Text::of(alloc, WRITE_FAULT),
             Status::Over(budget) => budget.line(alloc),
             Status::Memory => Text::of(alloc, OUT_OF_MEMORY),
+            Status::Outside { number, line } => verdict::outside_line(alloc, *number, *line),
+            Status::BadFile {
+                kind,
+                first,
+                second,
+            } => kind.line(alloc, *first, *second),
         }
     }
 }

@@ -3,8 +3,8 @@
 ghost use Rattle.std.specs.Prelude.{◌≢◌};
 
 use scad_fault::{
-    Budget, BudgetKind as Limit, Fault, FaultKind as Kind, OUT_OF_MEMORY, Place, READ_FAULT,
-    SetFault, SetKind, Status, Text, WRITE_FAULT, constant_lines,
+    BadKind, Budget, BudgetKind as Limit, Fault, FaultKind as Kind, OUT_OF_MEMORY, Place,
+    READ_FAULT, SetFault, SetKind, Status, Text, WRITE_FAULT, constant_lines,
 };
 use std::alloc::Global;
 
@@ -104,6 +104,11 @@ fn budgets_end_with_their_lines(rt: HostRuntime) {
             Budget::placed(Limit::HullPoints, at),
             "budget 10 HullPoints at 1:27\n",
         ),
+        (
+            Budget::support_runs(10000001),
+            "budget 11 SupportRuns count 10000001\n",
+        ),
+        (Budget::file_long(), "budget 12 FileLong\n"),
     ] {
         assert!(rt;
             ends_with(rt.alloc(), &Status::Over(budget), line),
@@ -111,6 +116,14 @@ fn budgets_end_with_their_lines(rt: HostRuntime) {
         );
     }
 }
+
+const BAD_FILES: [(BadKind, u64, u64, &str); 5] = [
+    (BadKind::CliLine, 1, 0, "cli 1 BadLine 1\n"),
+    (BadKind::CliCount, 3, 2, "cli 2 CountDiffers 3 2\n"),
+    (BadKind::CliOpen, 12, 0, "cli 3 OpenLoop 12\n"),
+    (BadKind::GWord, 15, 0, "gcode 1 UnknownWord 15\n"),
+    (BadKind::GNumber, 7, 0, "gcode 2 BadNumber 7\n"),
+];
 
 const SETTINGS: [(SetKind, &str, i64, &str); 5] = [
     (SetKind::NotToml, "", 0, "settings 1 NotToml\n"),
@@ -157,6 +170,24 @@ fn settings_faults_end_with_their_lines(rt: HostRuntime) {
 }
 
 #[test]
+fn judged_files_end_with_their_lines(rt: HostRuntime) {
+    let alloc = rt.alloc();
+    let outside = Status::Outside {
+        number: 1,
+        line: 15,
+    };
+    assert!(rt; ends_with(alloc, &outside, "outside: move 1 line 15\n"));
+    for (kind, first, second, line) in BAD_FILES {
+        let bad = Status::BadFile {
+            kind,
+            first,
+            second,
+        };
+        assert!(rt; ends_with(alloc, &bad, line), "{line}");
+    }
+}
+
+#[test]
 fn other_statuses_end_with_their_lines(rt: HostRuntime) {
     let alloc = rt.alloc();
     assert!(rt; ends_with(alloc, &Status::Usage, "usage: scadslice COMMAND\n"));
@@ -187,6 +218,13 @@ fn each_status_has_its_number(rt: HostRuntime) {
         Status::Write.code(),
         Status::Over(Budget::source_long()).code(),
         Status::Memory.code(),
+        Status::Outside { number: 1, line: 1 }.code(),
+        Status::BadFile {
+            kind: BadKind::GWord,
+            first: 1,
+            second: 0,
+        }
+        .code(),
     ];
-    assert!(rt; codes == [0, 1, 2, 3, 4, 5, 6, 7]);
+    assert!(rt; codes == [0, 1, 2, 3, 4, 5, 6, 7, 8, 9]);
 }
