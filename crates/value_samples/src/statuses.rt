@@ -104,10 +104,6 @@ fn budgets_end_with_their_lines(rt: HostRuntime) {
             Budget::placed(Limit::HullPoints, at),
             "budget 10 HullPoints at 1:27\n",
         ),
-        (
-            Budget::support_runs(10000001),
-            "budget 11 SupportRuns count 10000001\n",
-        ),
         (Budget::file_long(), "budget 12 FileLong\n"),
     ] {
         assert!(rt;
