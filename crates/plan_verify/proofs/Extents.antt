@@ -214,10 +214,10 @@ side_is : (ax ay bx by px py : ℤ)
     ≡ pos 0 -ℤ (pos 4 *ℤ ((px -ℤ bx) *ℤ (py -ℤ ay)) +ℤ pos 4 *ℤ ((by -ℤ py) *ℤ (px -ℤ ax)))
 side_is ax ay bx by px py = ring (ax ∷ ay ∷ bx ∷ by ∷ px ∷ py ∷ [])
     (num (pos 2) ⊗ ((v2 ⊗ num (pos 1) ⊖ v0 ⊗ num (pos 1))
-        ⊗ ((num (pos 2) ⊗ v5) ⊗ num (pos 1) ⊖ v1 ⊗ num (pos 2)) ⊖
+    ⊗ ((num (pos 2) ⊗ v5) ⊗ num (pos 1) ⊖ v1 ⊗ num (pos 2)) ⊖
     (v3 ⊗ num (pos 1) ⊖ v1 ⊗ num (pos 1)) ⊗ ((num (pos 2) ⊗ v4) ⊗ num (pos 1) ⊖ v0 ⊗ num (pos 2))))
     (num (pos 0) ⊖ (num (pos 4) ⊗ ((v4 ⊖ v2) ⊗ (v5 ⊖ v1)) ⊕ num (pos 4) ⊗ ((v3 ⊖ v5) ⊗ (v4 ⊖ v0))))
-        refl
+    refl
 
 turned_is : (px bx py ay : ℤ) → (px -ℤ bx) *ℤ (py -ℤ ay) ≡ pos 0 -ℤ (px -ℤ bx) *ℤ (ay -ℤ py)
 turned_is px bx py ay = ring (px ∷ bx ∷ py ∷ ay ∷ []) ((v0 ⊖ v1) ⊗ (v2 ⊖ v3))

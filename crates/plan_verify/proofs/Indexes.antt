@@ -80,10 +80,10 @@ boxed_many x b c k l h i = subst (λ (ns : List Node). AllByRecursion IsNode ns)
   record {
     holds = All-append (IsIn x) (sides_in b.value) (sides_in c.value)
         (All-weaker (IsIn (extent_in b.value)) (IsIn x) (λ e o. in_covered x (extent_in b.value) e k o)
-            (sides_in b.value)
+        (sides_in b.value)
         (root_holds b.value h))
         (All-weaker (IsIn (extent_in c.value)) (IsIn x) (λ e o. in_covered x (extent_in c.value) e l o)
-            (sides_in c.value)
+        (sides_in c.value)
         (root_holds c.value i));
     few = omega arith;
   },

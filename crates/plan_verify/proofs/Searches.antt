@@ -37,7 +37,7 @@ pub all_apart : (tree : Tree) (t : Trial) (x : Extent) (r : Bool) → IsBoxed tr
     → x ≡ extent_in tree → r ≡ is_beyond x t.reach → r ≡ true → All (IsApart t) (sides_in tree)
 all_apart tree t x r boxed sound same is sure = All-weaker (IsIn (extent_in tree)) (IsApart t)
     (λ e inside. one_apart t (extent_in tree) e r sound inside (is ∙ ap (λ (y : Extent). is_beyond y t.reach) same)
-        sure)
+    sure)
     (sides_in tree) (root_holds tree boxed)
 
 -- ---- winding numbers
