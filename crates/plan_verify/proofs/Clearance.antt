@@ -1,7 +1,7 @@
 -- A move stays clear of sides that are apart from it, and these wind round all its points as round its start.
-use Rattle.std.proofs.Common.{◌≡◌, ◌≢◌, ℕ, ◌+◌, ◌-◌, ◌<◌, ◌≤◌, true, [], ◌∷◌, List, length, refl, ap, ap₂, sym, subst, ◌∙◌, arith, ℤ, pos, ◌+ℤ◌, ◌-ℤ◌, ◌*ℤ◌, ◌<ℤ◌}
+use Rattle.std.proofs.Common.{◌≡◌, ◌≢◌, ℕ, ◌-◌, ◌<◌, ◌≤◌, true, [], ◌∷◌, List, length, refl, ap, ap₂, sym, subst, ◌∙◌, arith, ℤ, pos, ◌+ℤ◌, ◌-ℤ◌, ◌*ℤ◌, ◌<ℤ◌}
 use lib.Signed.{◌≤ℤ◌}
-use Rattle.std.specs.Prelude.{All, flat_map, slice_index_or}
+use Rattle.std.specs.Prelude.{All, slice_index_or}
 use Rattle.std.specs.List.{Any}
 use Rattle.std.proofs.lemmas.Int.{ints}
 use Rattle.std.proofs.lemmas.List.Elements.{All-map, All-weaker}
@@ -16,12 +16,12 @@ use Rattle.scad_geom.specs.Segment.{segment_of, segments}
 use Rattle.scad_geom.specs.Winding.{wind}
 use Rattle.scad_geom.specs.Balance.{IsBalanced}
 use Rattle.scad_geom.proofs.Signs.{at_least_mul, square_at_least}
-use Rattle.scad_geom.proofs.Ring.{ring, num, ◌⊕◌, ◌⊖◌, ◌⊗◌, v0, v1, v2, v3, v4, v5, v6}
+use Rattle.scad_geom.proofs.Ring.{ring, num, ◌⊕◌, ◌⊖◌, ◌⊗◌, v0, v1, v2, v3, v4, v5}
 use Rattle.winding_laws.specs.Region.{HalfPlane, HoldsOrigin, box}
 use Rattle.winding_laws.specs.Nearness.{seen_from, IsNear as IsNearBy, IsFarSegment}
 use Rattle.winding_laws.specs.Points.{IsOn}
 use Rattle.winding_laws.proofs.OneWinding.{regions_have_one_winding}
-use Rattle.winding_laws.proofs.Ways.{way, length as length_of, by_length}
+use Rattle.winding_laws.proofs.Ways.{way, by_length}
 use Rattle.scad_ring.specs.Octagon.{reach, octagon}
 use Rattle.scad_ring.specs.Nearness.{Closed, IsNear, IsClear}
 use Rattle.plan_verify.specs.Stays.{clearance, KeepsClear}

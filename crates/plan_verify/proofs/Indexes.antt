@@ -1,6 +1,6 @@
 -- Trees of sides from their parts.
-use Rattle.std.proofs.Common.{◌≡◌, ◌⊎◌, inl, inr, ℕ, ◌+◌, ◌<◌, ◌≤◌, zero, suc, [], ◌∷◌, ◌++◌, List, length, refl, ap, ap₂, sym, subst, ◌∙◌, arith, rules}
-use Rattle.std.specs.Prelude.{All, Vec, slice_index_or}
+use Rattle.std.proofs.Common.{◌≡◌, ℕ, ◌<◌, ◌≤◌, zero, suc, [], ◌∷◌, ◌++◌, List, length, ap, ap₂, sym, subst, ◌∙◌, arith, rules}
+use Rattle.std.specs.Prelude.{All, Vec}
 use Rattle.std.specs.List.{Any, AllByRecursion}
 use Rattle.std.specs.declared.boxed.Box.{Box}
 use Rattle.std.specs.Global.{Global}

@@ -1,4 +1,4 @@
-use Rattle.std.proofs.Common.{◌≡◌, List, ap, sym, ◌∙◌, arith, rules, ◌+ℤ◌, w64, FitsSigned}
+use Rattle.std.proofs.Common.{List, ap, sym, ◌∙◌, arith, rules, w64, FitsSigned}
 use Rattle.std.proofs.lemmas.Int.{to_z-of_z}
 use Rattle.scad_geom.specs.declared.point.Edge.{Edge}
 use Rattle.scad_geom.specs.declared.half.Half.TheVariants.{Whole}
