@@ -7,10 +7,9 @@ use Rattle.scad_base.specs.Results.{and_then}
 use Rattle.scad_geom.specs.declared.point.Pt.{Pt}
 use Rattle.scad_geom.specs.declared.point3.Pt3.{Pt3}
 use Rattle.scad_geom.specs.Limits.{coordinate_limit}
-use Rattle.scad_geom.specs.Within.{IsWithin, IsEdgeWithin}
+use Rattle.scad_geom.specs.Within.{IsWithin}
 use Rattle.gcode_text.specs.declared.fault.GFault.{GFault}
 use Rattle.gcode_text.specs.declared.fault.GFault.TheVariants.{UnknownWord, BadNumber}
-use Rattle.gcode_text.specs.declared.machine.Move.{Move}
 use Rattle.gcode_text.specs.declared.command.Command.{Command}
 use Rattle.gcode_text.specs.declared.command.Command.TheVariants.{Drive, Home, Set, Plain}
 use Rattle.gcode_text.specs.declared.letters.Given.{Given}
@@ -19,16 +18,14 @@ use Rattle.gcode_text.specs.Machine.{State, After, start, origin, limited, upper
 use Rattle.gcode_text.specs.Machine.{with_number, with_value, ranged, with_word, with_words, nothing_given, places, takes}
 use Rattle.gcode_text.specs.Machine.{was_given, command_of, command_line, words_line, line_step, obeyed, driven}
 use Rattle.gcode_text.specs.Machine.{names_none, or_kept, counting}
+use Rattle.plan_verify.specs.Limits.{IsMoveWithin}
 
--- a place as it is seen from above, and a place and a move within the limit
+-- a place as it is seen from above, and one within the limit
 abbrev pub above : Pt3 → Pt
 above p = record { x = p.x; y = p.y }
 
 abbrev pub IsPlaceWithin : Pt3 → Type 0
 IsPlaceWithin p = IsWithin coordinate_limit (above p)
-
-abbrev pub IsMoveWithin : Move → Type 0
-IsMoveWithin m = IsEdgeWithin coordinate_limit (record { a = above m.from; b = above m.to })
 
 -- a state and a move within the limit
 pub record IsAfterWithin (after : After) : Type 0 where
