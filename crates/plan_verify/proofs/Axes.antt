@@ -99,7 +99,7 @@ limited_x letter z h e = by_test (letter == upper_x) e h
     by_test : (a : Bool) → a ≡ true → (if a || letter == upper_y || letter
         == upper_z then nat_le (unsigned_abs z) 1100000
         else (if letter == amount_letter then nat_le (unsigned_abs z) 2000000000000000000 else true)) ≡ true
-            → Small z
+        → Small z
     by_test true f g = small_test z g
     by_test false f g = absurd (cc)
 
@@ -109,7 +109,7 @@ limited_y letter z h e = by_test (letter == upper_x) (letter == upper_y) e h
   where
     by_test : (a b : Bool) → b ≡ true → (if a || b || letter == upper_z then nat_le (unsigned_abs z) 1100000
         else (if letter == amount_letter then nat_le (unsigned_abs z) 2000000000000000000 else true)) ≡ true
-            → Small z
+        → Small z
     by_test true true f g = small_test z g
     by_test false true f g = small_test z g
     by_test a false f g = absurd (cc)
@@ -256,7 +256,7 @@ unfolding with_words
 with_words_within n command [] given out k w e = given_is given out e w
 with_words_within n command (word ∷ rest) given out k w e =
     by_first (λ next v g. with_words_within n command rest next out k v g) (with_word limited n command word given) refl
-        e
+    e
   where
     by_first : ((next : Given) → IsGivenWithin next → with_words limited n command rest next ≡ Ok out
         → IsGivenWithin out) → (r : Result Given GFault) → with_word limited n command word given ≡ r

@@ -41,7 +41,7 @@ pub zip_more : (layers : List CliLayer) (fields : List Field) (k : ℕ) (l : Cli
 zip_more layers fields k l f more is zip field =
     subst (λ (ls : List CliLayer). AllZip IsFieldOf ls (fields ++ f ∷ [])) (sym (take_more layers k l more))
     (zip_push IsFieldOf (take k layers) fields (get_or layers k l) f zip
-        (subst (λ (x : CliLayer). IsFieldOf x f) is field))
+    (subst (λ (x : CliLayer). IsFieldOf x f) is field))
 
 pub zip_all : (layers : List CliLayer) (fields : List Field) (k : ℕ) → length layers ≤ k
     → AllZip IsFieldOf (take k layers) fields → AllZip IsFieldOf layers fields

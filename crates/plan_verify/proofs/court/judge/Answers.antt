@@ -49,7 +49,7 @@ returns-in-None c =
     let does = StaysInFields c.args.fields.now c.args.line_width in
     let split = rw c.in-None.is at c.first_line.ensures.line in
     read_end does c.args.gcode.now c.step.new.self c.saturating_add-line.result c.with_line-judgement.result
-        c.said.result
+    c.said.result
     (read_line does c.args.gcode.now c.first_line.result.0.now (lines c.lines.rest.now) [] c.lines.machine
     (record { state = c.step.new.self; move = c.in_ok-done.done }) c.lines.line c.saturating_add-line.result
     c.lines.judgement c.with_line-judgement.result c.lines.invariant.read split c.in_ok-done.ensures.accepted
