@@ -1,7 +1,7 @@
 -- A move stays clear of sides that are apart from it, and these wind round all its points as round its start.
-use Rattle.std.proofs.Common.{◌≡◌, ◌≢◌, ℕ, ◌+◌, ◌-◌, ◌<◌, ◌≤◌, true, [], ◌∷◌, List, length, refl, ap, ap₂, sym, subst, ◌∙◌, arith, ℤ, pos, ◌+ℤ◌, ◌-ℤ◌, ◌*ℤ◌, ◌<ℤ◌}
+use Rattle.std.proofs.Common.{◌≡◌, ◌≢◌, ℕ, ◌-◌, ◌<◌, ◌≤◌, true, [], ◌∷◌, List, length, refl, ap, ap₂, sym, subst, ◌∙◌, arith, ℤ, pos, ◌+ℤ◌, ◌-ℤ◌, ◌*ℤ◌, ◌<ℤ◌}
 use lib.Signed.{◌≤ℤ◌}
-use Rattle.std.specs.Prelude.{All, flat_map, slice_index_or}
+use Rattle.std.specs.Prelude.{All, slice_index_or}
 use Rattle.std.specs.List.{Any}
 use Rattle.std.proofs.lemmas.Int.{ints}
 use Rattle.std.proofs.lemmas.List.Elements.{All-map, All-weaker}
@@ -16,12 +16,12 @@ use Rattle.scad_geom.specs.Segment.{segment_of, segments}
 use Rattle.scad_geom.specs.Winding.{wind}
 use Rattle.scad_geom.specs.Balance.{IsBalanced}
 use Rattle.scad_geom.proofs.Signs.{at_least_mul, square_at_least}
-use Rattle.scad_geom.proofs.Ring.{ring, num, ◌⊕◌, ◌⊖◌, ◌⊗◌, v0, v1, v2, v3, v4, v5, v6}
+use Rattle.scad_geom.proofs.Ring.{ring, num, ◌⊕◌, ◌⊖◌, ◌⊗◌, v0, v1, v2, v3, v4, v5}
 use Rattle.winding_laws.specs.Region.{HalfPlane, HoldsOrigin, box}
 use Rattle.winding_laws.specs.Nearness.{seen_from, IsNear as IsNearBy, IsFarSegment}
 use Rattle.winding_laws.specs.Points.{IsOn}
 use Rattle.winding_laws.proofs.OneWinding.{regions_have_one_winding}
-use Rattle.winding_laws.proofs.Ways.{way, length as length_of, by_length}
+use Rattle.winding_laws.proofs.Ways.{way, by_length}
 use Rattle.scad_ring.specs.Octagon.{reach, octagon}
 use Rattle.scad_ring.specs.Nearness.{Closed, IsNear, IsClear}
 use Rattle.plan_verify.specs.Stays.{clearance, KeepsClear}
@@ -33,7 +33,7 @@ axis_is : (k z e x d y f : ℤ) → k *ℤ z ≡ y → k *ℤ e ≡ f
     → k *ℤ (x *ℤ e -ℤ z *ℤ d) ≡ x *ℤ f -ℤ y *ℤ d
 axis_is k z e x d y f g h =
     ring (k ∷ z ∷ e ∷ x ∷ d ∷ []) (v0 ⊗ (v3 ⊗ v2 ⊖ v1 ⊗ v4))
-        (v3 ⊗ (v0 ⊗ v2) ⊖ (v0 ⊗ v1) ⊗ v4) refl
+    (v3 ⊗ (v0 ⊗ v2) ⊖ (v0 ⊗ v1) ⊗ v4) refl
     ∙ ap₂ (λ (u w : ℤ). x *ℤ u -ℤ w *ℤ d) h g
 
 divisor_is : (k e d f : ℤ) → k *ℤ e ≡ f → k *ℤ (d *ℤ e) ≡ d *ℤ f
@@ -52,7 +52,7 @@ near_mean h u a b q m on near =
     (subst (λ (y : ℤ). Held (octagon h u) (k *ℤ (m.x *ℤ q.d -ℤ q.x *ℤ m.d)) y (m.d *ℤ w.d))
     (axis_is k q.y q.d m.y m.d w.y w.d on.y on.d)
     (subst (λ (d : ℤ). Held (octagon h u) (k *ℤ (m.x *ℤ q.d -ℤ q.x *ℤ m.d))
-        (k *ℤ (m.y *ℤ q.d -ℤ q.y *ℤ m.d)) d)
+    (k *ℤ (m.y *ℤ q.d -ℤ q.y *ℤ m.d)) d)
     (divisor_is k q.d m.d w.d on.d)
     (held_times (octagon h u) (m.x *ℤ q.d -ℤ q.x *ℤ m.d) (m.y *ℤ q.d -ℤ q.y *ℤ m.d) (m.d *ℤ q.d) k
     (omega (arith, ints, positive)) near)))
@@ -139,7 +139,7 @@ module _ (a b : Pt) where
       → (q : Point) → IsOn A B q → IsNearBy region A q
   near_on region held q on =
       held_part region (q.x *ℤ pos 1 -ℤ a.x *ℤ q.d) (q.y *ℤ pos 1 -ℤ a.y *ℤ q.d) (q.d *ℤ pos 1) on.k
-          on.positive
+      on.positive
       (subst (λ (x : ℤ). Held region x (on.k *ℤ (q.y *ℤ pos 1 -ℤ a.y *ℤ q.d)) (on.k *ℤ (q.d *ℤ pos 1)))
       (along_axis on.k q.x q.d on.s on.t a.x b.x on.x on.d)
       (subst (λ (y : ℤ). Held region (on.t *ℤ D.x) y (on.k *ℤ (q.d *ℤ pos 1)))
@@ -202,7 +202,7 @@ module _ (a b : Pt) where
       ≡ d *ℤ (l *ℤ (x *ℤ pos 1 -ℤ p *ℤ d) -ℤ g *ℤ (q *ℤ pos 1 -ℤ p *ℤ pos 1))
   place_is x d p q l g = ring (x ∷ d ∷ p ∷ q ∷ l ∷ g ∷ [])
       (v0 ⊗ ((v4 ⊗ v1 ⊖ v5) ⊗ num (pos 1) ⊕ v5 ⊗ num (pos 1)) ⊖ ((v4 ⊗ v1 ⊖ v5) ⊗ v2 ⊕ v5 ⊗ v3)
-          ⊗ v1)
+      ⊗ v1)
       (v1 ⊗ (v4 ⊗ (v0 ⊗ num (pos 1) ⊖ v2 ⊗ v1) ⊖ v5 ⊗ (v3 ⊗ num (pos 1) ⊖ v2 ⊗ num (pos 1)))) refl
 
   side_is : (x y z w : ℤ) → y *ℤ z +ℤ (pos 0 -ℤ x) *ℤ w ≡ z *ℤ y -ℤ w *ℤ x
@@ -323,7 +323,7 @@ module _ (a b : Pt) where
       → wind q (segments es) ≡ wind (meant Whole a) (segments es)
   one_wind h u origin es balanced all q hq on = by_length D
       (λ more. regions_have_one_winding (way D) true true A (meant Whole a) q (omega (arith, ints))
-          (omega (arith, ints)) hq
+      (omega (arith, ints)) hq
       (near_on (way D) on_way (meant Whole a) (on_start a b)) (near_on (way D) on_way q on) (segments es) balanced
       (far_way h u origin more es all))
       (λ ex ey. regions_have_one_winding (box (pos 1) (pos 0)) true true A (meant Whole a) q (omega (arith, ints))
@@ -352,7 +352,7 @@ kept_if es c h u line lc lr eh eu balanced apart some q hq on =
           (whole e.b))
           (λ e. IsClear Closed (clearance c) q (whole e.a) (whole e.b))
           (λ e o. subst (λ (r : List HalfPlane). IsClear Closed r q (whole e.a) (whole e.b))
-              (clearance_is c h u lc lr eh eu)
+          (clearance_is c h u lc lr eh eu)
           (clear_on (pos h) (pos u) (whole line.a) (whole line.b) (whole e.a) (whole e.b) q o on)) es apart;
       inside = λ e. some (sym (one_wind line.a line.b (pos h) (pos u) origin es balanced apart q hq on) ∙ e);
     }
@@ -363,7 +363,7 @@ pub apart_if_kept : (es : List Edge) (c : ℕ) (line : Edge) → KeepsClear es c
     (whole (slice_index_or es k d).b)
 apart_if_kept es c line keeps k d l s t hs ht some =
     (keeps (mean s t (whole line.a) (whole line.b)) (omega (arith, ints, some))
-        (on_mean (whole line.a) (whole line.b) s t hs ht some)).clear k d l
+    (on_mean (whole line.a) (whole line.b) s t hs ht some)).clear k d l
 
 pub not_kept_near : (es : List Edge) (c h u : ℕ) (line : Edge) → 1 ≤ c → 2 ≤ reach c → h ≡ c - 1
     → u ≡ reach c - 2
@@ -376,7 +376,7 @@ not_kept_near es c h u line lc lr eh eu (k, e, l, same, near) keeps =
     subst (λ (r : List HalfPlane). AreApart Closed r (whole line.a) (whole line.b) (whole e.a) (whole e.b))
     (sym (clearance_is c h u lc lr eh eu)) at in
     o near.s near.t near.from near.to near.some near.meets.s near.meets.t near.meets.from near.meets.to near.meets.some
-        near.meets.near
+    near.meets.near
 
 pub not_kept_out : (es : List Edge) (c : ℕ) (line : Edge) → wind (meant Whole line.a) (segments es) ≡ pos 0
     → KeepsClear es c line → ⊥

@@ -1,5 +1,5 @@
 -- What lies in a rectangle that a move doesn't come to, and in one off a point.
-use Rattle.std.proofs.Common.{◌≡◌, ◌⊎◌, inl, inr, ℕ, ◌+◌, ◌≤◌, Bool, true, false, [], ◌∷◌, ◌++◌, List, length, refl, ap, ap₂, sym, subst, ◌∙◌, arith, ℤ, pos, negsuc, neg_ℤ, ◌+ℤ◌, ◌-ℤ◌, ◌*ℤ◌, ◌<ℤ◌}
+use Rattle.std.proofs.Common.{◌≡◌, ◌⊎◌, inl, inr, ℕ, Bool, true, false, [], ◌∷◌, List, refl, ap, ap₂, sym, ◌∙◌, arith, ℤ, pos, negsuc, neg_ℤ, ◌+ℤ◌, ◌-ℤ◌, ◌*ℤ◌, ◌<ℤ◌}
 use lib.Signed.{◌≤ℤ◌}
 use Rattle.std.specs.Prelude.{◌||◌, int_lt, int_le, All, if◌then◌else◌}
 use Rattle.std.proofs.lemmas.Int.{ints}
@@ -9,7 +9,7 @@ use Rattle.scad_geom.specs.declared.point.Pt.{Pt}
 use Rattle.scad_geom.specs.declared.point.Edge.{Edge}
 use Rattle.scad_geom.specs.declared.half.Half.TheVariants.{Whole}
 use Rattle.scad_geom.specs.Half.{meant}
-use Rattle.scad_geom.specs.Point.{Point, whole}
+use Rattle.scad_geom.specs.Point.{whole}
 use Rattle.scad_geom.specs.Segment.{segments}
 use Rattle.scad_geom.specs.Winding.{is_over, is_beyond as is_beyond_number, side_by, turn, wind}
 use Rattle.scad_geom.proofs.Rising.{order}
@@ -21,7 +21,7 @@ use Rattle.scad_ring.specs.Nearness.{Closed}
 use Rattle.scad_near.specs.Edges.{AreApart}
 use Rattle.scad_near.proofs.Spread.{Weights, spread, weights_if_near}
 use Rattle.plan_verify.specs.declared.extent.Extent.{Extent}
-use Rattle.plan_verify.specs.Extent.{HasPoint, IsIn, Covers, HasRound, Reaches, is_beyond, is_off}
+use Rattle.plan_verify.specs.Extent.{IsIn, Covers, Reaches, is_beyond, is_off}
 
 pub in_covered : (x y : Extent) (e : Edge) → Covers x y → IsIn y e → IsIn x e
 in_covered x y e c i =
@@ -214,10 +214,10 @@ side_is : (ax ay bx by px py : ℤ)
     ≡ pos 0 -ℤ (pos 4 *ℤ ((px -ℤ bx) *ℤ (py -ℤ ay)) +ℤ pos 4 *ℤ ((by -ℤ py) *ℤ (px -ℤ ax)))
 side_is ax ay bx by px py = ring (ax ∷ ay ∷ bx ∷ by ∷ px ∷ py ∷ [])
     (num (pos 2) ⊗ ((v2 ⊗ num (pos 1) ⊖ v0 ⊗ num (pos 1))
-        ⊗ ((num (pos 2) ⊗ v5) ⊗ num (pos 1) ⊖ v1 ⊗ num (pos 2)) ⊖
+    ⊗ ((num (pos 2) ⊗ v5) ⊗ num (pos 1) ⊖ v1 ⊗ num (pos 2)) ⊖
     (v3 ⊗ num (pos 1) ⊖ v1 ⊗ num (pos 1)) ⊗ ((num (pos 2) ⊗ v4) ⊗ num (pos 1) ⊖ v0 ⊗ num (pos 2))))
     (num (pos 0) ⊖ (num (pos 4) ⊗ ((v4 ⊖ v2) ⊗ (v5 ⊖ v1)) ⊕ num (pos 4) ⊗ ((v3 ⊖ v5) ⊗ (v4 ⊖ v0))))
-        refl
+    refl
 
 turned_is : (px bx py ay : ℤ) → (px -ℤ bx) *ℤ (py -ℤ ay) ≡ pos 0 -ℤ (px -ℤ bx) *ℤ (ay -ℤ py)
 turned_is px bx py ay = ring (px ∷ bx ∷ py ∷ ay ∷ []) ((v0 ⊖ v1) ⊗ (v2 ⊖ v3))

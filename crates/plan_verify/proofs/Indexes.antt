@@ -1,6 +1,6 @@
 -- Trees of sides from their parts.
-use Rattle.std.proofs.Common.{◌≡◌, ◌⊎◌, inl, inr, ℕ, ◌+◌, ◌<◌, ◌≤◌, zero, suc, [], ◌∷◌, ◌++◌, List, length, refl, ap, ap₂, sym, subst, ◌∙◌, arith, rules}
-use Rattle.std.specs.Prelude.{All, Vec, slice_index_or}
+use Rattle.std.proofs.Common.{◌≡◌, ℕ, ◌<◌, ◌≤◌, zero, suc, [], ◌∷◌, ◌++◌, List, length, ap, ap₂, sym, subst, ◌∙◌, arith, rules}
+use Rattle.std.specs.Prelude.{All, Vec}
 use Rattle.std.specs.List.{Any, AllByRecursion}
 use Rattle.std.specs.declared.boxed.Box.{Box}
 use Rattle.std.specs.Global.{Global}
@@ -80,10 +80,10 @@ boxed_many x b c k l h i = subst (λ (ns : List Node). AllByRecursion IsNode ns)
   record {
     holds = All-append (IsIn x) (sides_in b.value) (sides_in c.value)
         (All-weaker (IsIn (extent_in b.value)) (IsIn x) (λ e o. in_covered x (extent_in b.value) e k o)
-            (sides_in b.value)
+        (sides_in b.value)
         (root_holds b.value h))
         (All-weaker (IsIn (extent_in c.value)) (IsIn x) (λ e o. in_covered x (extent_in c.value) e l o)
-            (sides_in c.value)
+        (sides_in c.value)
         (root_holds c.value i));
     few = omega arith;
   },

@@ -1,6 +1,6 @@
 -- What the search of an index finds.
-use Rattle.std.proofs.Common.{◌≡◌, ◌≢◌, ℕ, zero, suc, ◌+◌, ◌<◌, ◌≤◌, Bool, true, false, [], ◌∷◌, ◌++◌, List, length, take, get_or, refl, ap, ap₂, sym, subst, ◌∙◌, arith, ℤ, pos, ◌+ℤ◌}
-use Rattle.std.specs.Prelude.{All, unsigned_abs, slice_index_or}
+use Rattle.std.proofs.Common.{◌≡◌, ℕ, zero, suc, ◌+◌, ◌<◌, ◌≤◌, Bool, true, [], ◌∷◌, ◌++◌, List, length, take, get_or, refl, ap, ap₂, sym, subst, ◌∙◌, arith, ℤ, pos, ◌+ℤ◌}
+use Rattle.std.specs.Prelude.{All, unsigned_abs}
 use Rattle.std.specs.List.{Any}
 use Rattle.std.proofs.lemmas.List.{take_all}
 use Rattle.std.proofs.lemmas.List.Elements.{All-weaker, All-more}
@@ -16,7 +16,7 @@ use Rattle.plan_verify.specs.declared.index.Tree.{Tree}
 use Rattle.plan_verify.specs.declared.trial.Trial.{Trial}
 use Rattle.plan_verify.specs.Extent.{IsIn, Covers, is_beyond, is_off}
 use Rattle.plan_verify.specs.Index.{sides_in, extent_in, IsBoxed}
-use Rattle.plan_verify.specs.Trial.{IsTrial, IsNear, IsApart}
+use Rattle.plan_verify.specs.Trial.{IsTrial, IsApart}
 use Rattle.plan_verify.proofs.Extents.{in_covered, beyond_apart, off_wind}
 use Rattle.plan_verify.proofs.Indexes.{root_holds}
 use Rattle.plan_verify.proofs.Windings.{wind_both, wind_size}
@@ -37,7 +37,7 @@ pub all_apart : (tree : Tree) (t : Trial) (x : Extent) (r : Bool) → IsBoxed tr
     → x ≡ extent_in tree → r ≡ is_beyond x t.reach → r ≡ true → All (IsApart t) (sides_in tree)
 all_apart tree t x r boxed sound same is sure = All-weaker (IsIn (extent_in tree)) (IsApart t)
     (λ e inside. one_apart t (extent_in tree) e r sound inside (is ∙ ap (λ (y : Extent). is_beyond y t.reach) same)
-        sure)
+    sure)
     (sides_in tree) (root_holds tree boxed)
 
 -- ---- winding numbers

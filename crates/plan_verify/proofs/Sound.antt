@@ -1,5 +1,5 @@
 -- What the index of a layer decides of a move.
-use Rattle.std.proofs.Common.{◌≡◌, ◌≢◌, ℕ, ◌+◌, ◌-◌, ◌*◌, ◌/◌, ◌^◌, ◌<◌, ◌≤◌, [], ◌∷◌, ◌++◌, List, length, ap, sym, subst, ◌∙◌, arith, ℤ, pos}
+use Rattle.std.proofs.Common.{◌≡◌, ℕ, ◌-◌, ◌/◌, ◌^◌, ◌<◌, ◌≤◌, List, length, ap, sym, subst, ◌∙◌, arith, ℤ, pos}
 use Rattle.std.specs.Prelude.{All, flat_map}
 use Rattle.std.specs.List.{Any}
 use Rattle.scad_geom.specs.declared.point.Edge.{Edge}

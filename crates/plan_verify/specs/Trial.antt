@@ -1,5 +1,5 @@
 -- Sides near to a move, and apart from it.
-use Rattle.std.specs.Prelude.{◌≤◌, pos}
+use Rattle.std.specs.Prelude.{pos}
 use Rattle.scad_geom.specs.declared.point.Edge.{Edge}
 use Rattle.scad_geom.specs.Limits.{coordinate_limit}
 use Rattle.scad_geom.specs.Within.{IsEdgeWithin}

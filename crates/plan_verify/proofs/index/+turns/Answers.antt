@@ -1,4 +1,4 @@
-use Rattle.std.proofs.Common.{◌≡◌, List, ap, sym, ◌∙◌, arith, rules, ◌+ℤ◌, w64, FitsSigned}
+use Rattle.std.proofs.Common.{List, ap, sym, ◌∙◌, arith, rules, w64, FitsSigned}
 use Rattle.std.proofs.lemmas.Int.{to_z-of_z}
 use Rattle.scad_geom.specs.declared.point.Edge.{Edge}
 use Rattle.scad_geom.specs.declared.half.Half.TheVariants.{Whole}
@@ -53,11 +53,10 @@ turns-requires-in-Many t c =
 pub returns-in-Few-clause-size : goal.returns-in-Few-clause-size
 returns-in-Few-clause-size t c =
     let fits : FitsSigned w64 c.winding.result = search rules in
-    let value = simp to_z-of_z at c.winding.ensures in
     let sides = sides_leaf c.args.tree.now c.in-Few.field-0 c.in-Few.sides c.deref.result.now c.in-Few.is
     c.deref.ensures.value in
     simp to_z-of_z (sized c.winding.result (meant Whole c.args.p) (sides_in c.args.tree.now)
-    (value ∙ ap (λ (es : List Edge). wind (meant Whole c.args.p) (segments es)) (sym sides)))
+    (c.winding.ensures ∙ ap (λ (es : List Edge). wind (meant Whole c.args.p) (segments es)) (sym sides)))
 
 pub returns-in-Many-clause-value : goal.returns-in-Many-clause-value
 returns-in-Many-clause-value t c =
@@ -69,5 +68,4 @@ returns-in-Many-clause-value t c =
     (sides_in c.deref-in-Many.result.now) (sides_in c.deref-in-Many-2.result.now) (sides_in c.args.tree.now)
     (sides_both c.args.tree.now c.deref-in-Many.result.now c.deref-in-Many-2.result.now m.field-0 m.first m.second m.is
     c.deref-in-Many.ensures c.deref-in-Many-2.ensures)
-    (simp to_z-of_z at c.turns.ensures.value) (simp to_z-of_z at c.turns-in-Many.ensures.value)
-    (simp to_z-of_z at c.plus.ensures.sum))
+    c.turns.ensures.value c.turns-in-Many.ensures.value (simp to_z-of_z at c.plus.ensures.sum))
