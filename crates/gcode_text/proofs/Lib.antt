@@ -1,4 +1,3 @@
-pub mod Axes
 pub mod Lines
 pub mod Numbers
 pub mod Printed

@@ -1,5 +1,5 @@
 -- What is said of layers by their indexes is said of the layers.
-use Rattle.std.proofs.Common.{◌≡◌, ◌⊎◌, inl, inr, ℕ, zero, suc, ◌+◌, ◌<◌, ◌≤◌, ◌/◌, arith, [], ◌∷◌, ◌++◌, List, length, take, get_or, map, refl, ap, sym, subst, ◌∙◌, Result, Ok, Err, pos}
+use Rattle.std.proofs.Common.{◌≡◌, ◌⊎◌, inl, inr, ℕ, zero, suc, ◌+◌, ◌<◌, ◌≤◌, ◌/◌, arith, [], ◌∷◌, ◌++◌, List, length, take, drop, get_or, map, refl, ap, sym, subst, ◌∙◌, Result, Ok, Err, pos}
 use Rattle.std.specs.Prelude.{All, flat_map, slice_index_or}
 use Rattle.std.specs.List.{Any, AllZip}
 use Rattle.std.proofs.lemmas.List.{take_more, take_all}
@@ -41,7 +41,7 @@ pub zip_more : (layers : List CliLayer) (fields : List Field) (k : ℕ) (l : Cli
 zip_more layers fields k l f more is zip field =
     subst (λ (ls : List CliLayer). AllZip IsFieldOf ls (fields ++ f ∷ [])) (sym (take_more layers k l more))
     (zip_push IsFieldOf (take k layers) fields (get_or layers k l) f zip
-        (subst (λ (x : CliLayer). IsFieldOf x f) is field))
+    (subst (λ (x : CliLayer). IsFieldOf x f) is field))
 
 pub zip_all : (layers : List CliLayer) (fields : List Field) (k : ℕ) → length layers ≤ k
     → AllZip IsFieldOf (take k layers) fields → AllZip IsFieldOf layers fields
@@ -74,6 +74,27 @@ any_cases P x xs (suc k, y, l, e, p) = inr (k, y, omega (arith, l), e, p)
 
 none_any : {X : Type 0} (P : X → Type 0) → Any P [] → ⊥
 none_any P (k, y, l, e, p) = absurd (omega (arith, l))
+
+-- an item of a part is one of the whole
+any_dropped : {X : Type 0} (P : X → Type 0) (n : ℕ) (xs : List X) → Any P (drop n xs) → Any P xs
+any_dropped P zero xs a = a
+any_dropped P (suc n) [] a = a
+any_dropped P (suc n) (x ∷ xs) a = any_there P x xs (any_dropped P n xs a)
+
+any_taken : {X : Type 0} (P : X → Type 0) (n : ℕ) (xs : List X) → Any P (take n xs) → Any P xs
+any_taken P zero xs a = absurd (none_any P a)
+any_taken P (suc n) [] a = a
+any_taken P (suc n) (x ∷ xs) a = elim (any_cases P x (take n xs) a) [
+  | inl p ↦ any_here P x xs p
+  | inr q ↦ any_there P x xs (any_taken P n xs q)
+]
+
+pub stays_behind : (fields : List Field) (at n width : ℕ) (m : Move)
+    → StaysInFields (take n (drop at fields)) width m → StaysInFields fields width m
+stays_behind fields at n width m s = record {
+  level = s.level;
+  field = any_dropped (IsInField width m) at fields (any_taken (IsInField width m) n (drop at fields) s.field);
+}
 
 module _ (width : ℕ) (m : Move) where
   any_layer : (layers : List CliLayer) (fields : List Field) → AllZip IsFieldOf layers fields

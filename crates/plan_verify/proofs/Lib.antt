@@ -1,3 +1,4 @@
+pub mod Axes
 pub mod Lines
 pub mod Extents
 pub mod Windings

@@ -15,7 +15,7 @@ use Rattle.plan_verify.specs.declared.verdict.VerifyFault.{VerifyFault}
 use Rattle.plan_verify.specs.Verdict.{Told, onto, moves_told, program_moves, extruding, AllDo, IsFirstOut, IsJudgedBy, IsVerdictBy, refusal_of}
 use Rattle.plan_verify.specs.Limits.{IsMoveWithin}
 use Rattle.plan_verify.specs.Judged.{first_out, added, verdict_of, verdict_of', IsAdded, WithMove, passed, late, did, failed}
-use Rattle.gcode_text.proofs.Axes.{IsPlaceWithin, IsAfterWithin, step_within, step_lines, start_within}
+use Rattle.plan_verify.proofs.Axes.{IsPlaceWithin, IsAfterWithin, step_within, step_lines, start_within}
 
 abbrev pub prefix : List Told → Result (List Told) GFault → Result (List Told) GFault
 prefix moves rest = and_then rest (λ more. Ok (moves ++ more))

@@ -7,7 +7,8 @@ ghost use Rattle.plan_verify.specs.Fields.{IsSound, StaysInFields};
 ghost use Rattle.plan_verify.specs.Judged.{verdict_of, IsAdded, WithMove};
 ghost use Rattle.plan_verify.specs.Limits.{IsMoveWithin};
 
-use crate::field::{Field, fields_of, stays};
+use crate::field::{Field, fields_of};
+use crate::height::stays_by_height;
 use crate::judgement::{Judgement, Out};
 use crate::line::first_line;
 use crate::verdict::{Verdict, VerifyFault};
@@ -100,7 +101,7 @@ fn with_move(
     if judgement.out.is_some() {
         return judgement.with(true, line);
     }
-    judgement.with(stays(fields, m, line_width), line)
+    judgement.with(stays_by_height(fields, m, line_width), line)
 }
 
 fn said(judgement: Judgement) -> Verdict

@@ -7,6 +7,7 @@
 mod court;
 mod extent;
 mod field;
+mod height;
 mod index;
 mod judgement;
 pub mod laws;

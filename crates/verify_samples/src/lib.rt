@@ -9,4 +9,6 @@ mod judging;
 #[cfg(test)]
 mod randoms;
 #[cfg(test)]
+mod thin_plate;
+#[cfg(test)]
 mod verdicts;

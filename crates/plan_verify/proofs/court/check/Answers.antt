@@ -27,5 +27,5 @@ pub returns : goal.returns
 returns c = verdict_of_layers c.args.cli.now.layers c.deref.result.now c.args.line_width c.args.gcode.now c.judge.result
     (subst (λ (ls : List CliLayer). AllZip IsFieldOf ls c.deref.result.now) c.as_slice.ensures
     (subst (λ (fs : List Field). AllZip IsFieldOf c.as_slice.result.now fs) (sym c.deref.ensures.value)
-        c.in_ok-fields.ensures))
+    c.in_ok-fields.ensures))
     c.judge.ensures
