@@ -1,0 +1,12 @@
+pub mod Axes
+pub mod Lines
+pub mod Extents
+pub mod Windings
+pub mod Clearance
+pub mod Told
+pub mod Adding
+pub mod Files
+pub mod Indexes
+pub mod Searches
+pub mod Sound
+pub mod Layers

@@ -1,0 +1,9 @@
+pub mod Extent
+pub mod Index
+pub mod Trial
+pub mod Stays
+pub mod Verdict
+pub mod Fields
+pub mod Judged
+pub mod Limits
+pub mod Laws
