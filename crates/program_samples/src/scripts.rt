@@ -3,7 +3,7 @@ ghost use Rattle.std.specs.Prelude.{◌≡◌, Some, [], IfOk, true, OnOk};
 ghost use Rattle.scad_io.specs.Desk.{unused};
 ghost use Rattle.scad_script.specs.Run.{IsReady, Sound};
 
-use scad_fault::{Budget, BudgetKind, Status, Text};
+use scad_fault::{BadKind, Budget, BudgetKind, Status, Text};
 use scad_io::{Desk, MemoryDesk, Out};
 use scad_script::{Input, Refusal, Stop, load, make, report, send};
 use std::alloc::{AllocError, Global};
@@ -137,6 +137,30 @@ fn the_second_of_two_outputs_fails(rt: HostRuntime) -> Result<(), Fail> {
     let mut desk = desk_with(alloc, [7].to_vec(alloc)?, ROOM)?;
     assert!(rt; matches!(draw(alloc, &mut desk), Err(Stop::Write)));
     expect(&rt, &desk, "ECHO: 1\n", "LAYER", "");
+    Ok(())
+}
+
+#[test]
+fn a_move_outside_and_a_bad_file_are_reported(rt: HostRuntime) -> Result<(), Fail> {
+    let alloc = rt.alloc();
+    let mut desk = desk_with(alloc, Vec::new(alloc), ROOM)?;
+    let outside = Refusal::Outside {
+        number: 3,
+        line: 17,
+    };
+    let status = report(alloc, Err(Stop::Ends(outside)), &mut desk);
+    assert!(rt; status.code() == 8);
+    expect(&rt, &desk, "outside: move 3 line 17\n", "", "");
+
+    let mut desk = desk_with(alloc, Vec::new(alloc), ROOM)?;
+    let bad = Refusal::BadFile {
+        kind: BadKind::CliCount,
+        first: 2,
+        second: 1,
+    };
+    let status = report(alloc, Err(Stop::Ends(bad)), &mut desk);
+    assert!(rt; status.code() == 9);
+    expect(&rt, &desk, "cli 2 CountDiffers 2 1\n", "", "");
     Ok(())
 }
 

@@ -58,7 +58,7 @@ pub cut_line : (whole : Script) (n : ℕ) (line : List ℕ) (old mid new : View)
 cut_line whole n line old mid new fault had partly =
     cut whole (take n (expected_echoes whole)) line old mid new (inr (n, line, fault, refl)) had.part partly
 
--- Statuses 0, 1, 2, 3 and 6.
+-- Every status but Read, Write and Memory.
 
 -- where nothing is left, all steps were taken
 all_went : {whole : Script} {ending : Ending} {old now : View} (left : Left whole (ends ending) old now)
@@ -115,3 +115,5 @@ promised_answer given whole (Refusal.Source fault) old new answered = answered
 promised_answer given whole Refusal.Usage old new answered = answered
 promised_answer given whole (Refusal.Settings fault) old new answered = answered
 promised_answer given whole (Refusal.Over budget) old new answered = answered
+promised_answer given whole (Refusal.Outside number line) old new answered = answered
+promised_answer given whole (Refusal.BadFile kind first second) old new answered = answered

@@ -114,6 +114,8 @@ at_refusal (Refusal.Source fault) old new both = both
 at_refusal Refusal.Usage old new both = both
 at_refusal (Refusal.Settings fault) old new both = both
 at_refusal (Refusal.Over budget) old new both = both
+at_refusal (Refusal.Outside number line) old new both = both
+at_refusal (Refusal.BadFile kind first second) old new both = both
 
 tells_filled : (line : List ℕ) (is status : Status) (old mid new : View) → CreatesForBytes is old new
     → Tells line is status mid new → CreatesForBytes status old new

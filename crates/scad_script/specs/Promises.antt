@@ -12,7 +12,7 @@ use Rattle.scad_script.specs.Names.{Given, name_for, IsAmong}
 abbrev pub Adds : List ℕ → Side → Side → Type 0
 Adds bytes old new = new.bytes ≡ option_map (λ before. before ++ bytes) old.bytes
 
--- Statuses 0, 1, 2, 3 and 6: there is a whole answer, and the run gave its status and all its bytes.
+-- Every status but Read, Write and Memory: there is a whole answer, and the run gave its status and all its bytes.
 abbrev pub IsAnswered : Script → Status → View → View → Type 0
 IsAnswered whole status old new =
     IsSomeAnd (answer_of whole) (λ answer.
@@ -104,7 +104,7 @@ pub record HandsIn (given : Given) (old new : View) : Type 0 where
 abbrev pub HasBytes : Side → Side → Type 0
 HasBytes old new = new.created ≡ true → (bytes : List ℕ) × (bytes ≢ []) × Adds bytes old new
 
--- Statuses 0 to 4 and 6: an output is created only where it gets bytes.
+-- Every status but Write and Memory: an output is created only where it gets bytes.
 abbrev pub CreatesForBytes : Status → View → View → Type 0
 CreatesForBytes Write old new = Unit {0}
 CreatesForBytes Memory old new = Unit {0}

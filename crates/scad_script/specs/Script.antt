@@ -7,7 +7,7 @@ use Rattle.scad_fault.specs.declared.status.Status.TheVariants.{Done}
 use Rattle.scad_fault.specs.Line.{line_of}
 use Rattle.scad_io.specs.declared.desk.Out.TheVariants.{Report, Cli, Gcode}
 use Rattle.scad_script.specs.declared.refusal.Refusal.{Refusal}
-use Rattle.scad_script.specs.declared.refusal.Refusal.TheVariants.{Source, Usage, Settings, Over}
+use Rattle.scad_script.specs.declared.refusal.Refusal.TheVariants.{Source, Usage, Settings, Over, Outside, BadFile}
 use Rattle.scad_script.specs.declared.loading.Input.{Input}
 use Rattle.scad_script.specs.declared.loading.Input.TheVariants.{Whole, Long}
 use Rattle.scad_script.specs.Steps.{Step, text_of}
@@ -60,6 +60,8 @@ refused (Source fault) = Status.Source fault
 refused Usage = Status.Usage
 refused (Settings fault) = Status.Settings fault
 refused (Over budget) = Status.Over budget
+refused (Outside number line) = Status.Outside number line
+refused (BadFile kind first second) = Status.BadFile kind first second
 
 -- A whole answer: the status, the report as its echo lines and its last line, and what goes to the other outputs.
 pub record Answer : Type 0 where

@@ -18,7 +18,7 @@ pub fn names_are_given()
     ensures { NamesAreGiven }
 {}
 
-/// An output is created only where it gets bytes, at the statuses 0 to 4 and 6.
+/// An output is created only where it gets bytes, at every status but Write and Memory.
 pub fn created_for_bytes()
     ensures { CreatedForBytes }
 {}

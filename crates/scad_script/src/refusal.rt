@@ -2,7 +2,7 @@
 ghost use Rattle.std.specs.Prelude.{◌≡◌};
 ghost use Rattle.scad_script.specs.Script.{refused};
 
-use scad_fault::{Budget, Fault, SetFault, Status};
+use scad_fault::{BadKind, Budget, Fault, SetFault, Status};
 
 /// A command that ends before all is done, though nothing failed.
 #[derive(Debug, Drop)]
@@ -15,6 +15,17 @@ pub enum Refusal {
     Settings(SetFault),
     /// A budget was passed.
     Over(Budget),
+    /// A move leaves the outlines that it is judged by: its number among those that extrude, and its line's.
+    Outside {
+        number: u64,
+        line: u32,
+    },
+    /// A file that is to be judged is not of the form: why, and the numbers that its line tells.
+    BadFile {
+        kind: BadKind,
+        first: u64,
+        second: u64,
+    },
 }
 
 impl Refusal {
@@ -27,6 +38,16 @@ impl Refusal {
             Refusal::Usage => Status::Usage,
             Refusal::Settings(fault) => Status::Settings(fault),
             Refusal::Over(budget) => Status::Over(budget),
+            Refusal::Outside { number, line } => Status::Outside { number, line },
+            Refusal::BadFile {
+                kind,
+                first,
+                second,
+            } => Status::BadFile {
+                kind,
+                first,
+                second,
+            },
         }
     }
 }

@@ -34,6 +34,11 @@ plan_app = with_options (with_rule (with_rule (with_rule (new_app (codes "plan")
 abbrev pub sample_app : App
 sample_app = with_options (with_rule (new_app (codes "sample")) (positional (codes "number")))
 
+-- `verify CLI GCODE`
+abbrev pub verify_app : App
+verify_app = with_options (with_rule (with_rule (new_app (codes "verify")) (positional (codes "cli")))
+    (positional (codes "gcode")))
+
 -- the program without its commands
 abbrev pub program : App
 program = on_top (λ s. record s {
@@ -48,5 +53,9 @@ program = on_top (λ s. record s {
 abbrev pub reading_set : App
 reading_set = with_subcommand (with_subcommand program (model_app (codes "check")).top) (model_app (codes "tree")).top
 
+-- those that write outlines too
+abbrev pub drawing_set : App
+drawing_set = with_subcommand (with_subcommand reading_set slice_app.top) plan_app.top
+
 abbrev pub command_set : App
-command_set = with_subcommand (with_subcommand (with_subcommand reading_set slice_app.top) plan_app.top) sample_app.top
+command_set = with_subcommand (with_subcommand drawing_set sample_app.top) verify_app.top

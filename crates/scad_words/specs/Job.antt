@@ -8,7 +8,7 @@ use Rattle.clap.specs.Faults.{fault_of}
 use Rattle.scad_words.specs.CommandSet.{command_set}
 use Rattle.scad_words.specs.Numbers.{workers_of, sample_of}
 use Rattle.scad_words.specs.declared.job.Command.{Command}
-use Rattle.scad_words.specs.declared.job.Command.TheVariants.{Check, Tree, Slice, Plan, Sample}
+use Rattle.scad_words.specs.declared.job.Command.TheVariants.{Check, Tree, Slice, Plan, Sample, Verify}
 use Rattle.scad_words.specs.declared.job.Job.{Job}
 
 abbrev pub are_none : Kinds → Bool
@@ -40,6 +40,9 @@ plan_in given = option_and_then (λ model. option_and_then (λ cli. option_map (
 abbrev pub sample_in : List Row → Option Command
 sample_in given = option_map (λ n. Sample n) (option_and_then sample_of (first_of (codes "number") given))
 
+abbrev pub verify_in : List Row → Option Command
+verify_in given = option_and_then (λ cli. option_map (λ gcode. Verify cli gcode) (gcode_in given)) (cli_in given)
+
 -- the command of this name, if there is one
 abbrev pub command_of : Text → List Row → Option Command
 command_of name given =
@@ -48,7 +51,8 @@ command_of name given =
     else (if bytes_eq name (codes "slice") then slice_in given
     else (if bytes_eq name (codes "plan") then plan_in given
     else (if bytes_eq name (codes "sample") then sample_in given
-    else None))))
+    else (if bytes_eq name (codes "verify") then verify_in given
+    else None)))))
 
 -- The options of every command.
 
@@ -72,6 +76,7 @@ files_of (Tree model) = model ∷ []
 files_of (Slice model cli) = model ∷ cli ∷ []
 files_of (Plan model cli gcode) = model ∷ cli ∷ gcode ∷ []
 files_of (Sample n) = []
+files_of (Verify cli gcode) = cli ∷ gcode ∷ []
 
 abbrev pub named : Option Text → List Text
 named None = []

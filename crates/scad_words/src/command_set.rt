@@ -3,7 +3,7 @@ ghost use Rattle.std.specs.Prelude.{◌≡◌, false, IfOk};
 ghost use Rattle.clap.specs.Simple.{app_of};
 ghost use Rattle.clap.specs.Walk.{rule_of};
 ghost use Rattle.clap.specs.declared.builder.command.Command.TheViews.{out-Command};
-ghost use Rattle.scad_words.specs.CommandSet.{program, positional, option, with_options, model_app, slice_app, plan_app, sample_app, command_set};
+ghost use Rattle.scad_words.specs.CommandSet.{program, positional, option, with_options, model_app, slice_app, plan_app, sample_app, verify_app, command_set};
 
 use clap::{Arg, Command};
 use std::alloc::{AllocError, Global};
@@ -17,12 +17,14 @@ pub(crate) fn command_set<'a>(alloc: Global) -> Result<Command<'a>, AllocError>
     let slice = slice_command(alloc)?;
     let plan = plan_command(alloc)?;
     let sample = sample_command(alloc)?;
+    let verify = verify_command(alloc)?;
     program(alloc)
         .subcommand(check)?
         .subcommand(tree)?
         .subcommand(slice)?
         .subcommand(plan)?
-        .subcommand(sample)
+        .subcommand(sample)?
+        .subcommand(verify)
 }
 
 // The program without its commands.
@@ -72,6 +74,16 @@ fn sample_command<'a>(alloc: Global) -> Result<Command<'a>, AllocError>
     ensures local { IfOk result (λ c. (out-Command c).has_globals ≡ false) }
 {
     let command = Command::new(alloc, "sample").arg(positional(alloc, "number"))?;
+    with_options(alloc, command)
+}
+
+fn verify_command<'a>(alloc: Global) -> Result<Command<'a>, AllocError>
+    ensures app { IfOk result (λ c. app_of c ≡ verify_app) }
+    ensures local { IfOk result (λ c. (out-Command c).has_globals ≡ false) }
+{
+    let command = Command::new(alloc, "verify")
+        .arg(positional(alloc, "cli"))?
+        .arg(positional(alloc, "gcode"))?;
     with_options(alloc, command)
 }
 

@@ -16,6 +16,8 @@ pub enum Command {
     Plan(FileName, FileName, FileName),
     /// Plans the sample of this number.
     Sample(u32),
+    /// Reads outlines, the first, and a printing program, the second, and judges the moves of this one by them.
+    Verify(FileName, FileName),
 }
 
 /// A command, the file of its settings, where one is named, and how many workers share the layers.

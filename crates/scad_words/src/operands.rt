@@ -2,7 +2,7 @@
 ghost use Rattle.std.specs.Prelude.{◌≡◌, ◌≢◌, ◌≤◌, Some, None, IfSome, IfOk, IfErr, Err, option_map};
 ghost use Rattle.clap.specs.Matches.{found_of};
 ghost use Rattle.clap.specs.Walk.{rows_of, first_of};
-ghost use Rattle.scad_words.specs.Job.{slice_in, plan_in, sample_in, command_of, settings_in, workers_in};
+ghost use Rattle.scad_words.specs.Job.{slice_in, plan_in, sample_in, verify_in, command_of, settings_in, workers_in};
 
 use crate::job::{Command, WordFault};
 use crate::number::{sample_of, workers_of};
@@ -29,6 +29,8 @@ pub(crate) fn command_of(
         plan(alloc, given)
     } else if name == "sample" {
         sample(given)
+    } else if name == "verify" {
+        verify(alloc, given)
     } else {
         Err(WordFault::Usage)
     }
@@ -65,6 +67,15 @@ fn sample(given: &ArgMatches<'_>) -> Result<Command, WordFault>
         Some(number) => Ok(Command::Sample(number)),
         None => Err(WordFault::Usage),
     }
+}
+
+fn verify(alloc: Global, given: &ArgMatches<'_>) -> Result<Command, WordFault>
+    ensures command { IfOk result (λ c. verify_in (rows_of (found_of given.now)) ≡ Some c) }
+    ensures usage { (result ≡ Err WordFault.Usage) → (verify_in (rows_of (found_of given.now)) ≡ None) }
+{
+    let cli = file(alloc, given, "cli")?;
+    let gcode = file(alloc, given, "gcode")?;
+    Ok(Command::Verify(cli, gcode))
 }
 
 /// The file of the settings, where one is named.

@@ -17,10 +17,11 @@ use std::alloc::{AllocError, Global};
 
 /// The job that the words behind the program's name ask for.
 ///
-/// They are `check MODEL`, `tree MODEL`, `slice MODEL CLI`, `plan MODEL CLI GCODE` or `sample N`, with `--settings FILE`
-/// and `--workers W` each at most once before, between or after these, also as `--settings=FILE`; after `--` each word
-/// is a name. N is below 2^31 in at most ten digits, W from 1 to 64 in at most nine, and 1 where it isn't given. No two
-/// of the named files may have equal names. Where the words are of no such form the answer is `Usage`.
+/// They are `check MODEL`, `tree MODEL`, `slice MODEL CLI`, `plan MODEL CLI GCODE`, `sample N` or `verify CLI GCODE`,
+/// with `--settings FILE` and `--workers W` each at most once before, between or after these, also as
+/// `--settings=FILE`; after `--` each word is a name. N is below 2^31 in at most ten digits, W from 1 to 64 in at most
+/// nine, and 1 where it isn't given. No two of the named files may have equal names. Where the words are of no such form
+/// the answer is `Usage`.
 pub fn read_words(alloc: Global, words: &[String]) -> Result<Job, WordFault>
     ensures job { IfOk result (λ job. job_of (map string_bytes words.now) ≡ Some job) }
     ensures workers { IfOk result (λ job. (1 ≤ job.workers) × (job.workers ≤ 64)) }
@@ -107,6 +108,7 @@ fn differ(command: &Command, settings: &Option<FileName>) -> bool
                 && two_differ(cli, gcode, settings)
         }
         Command::Sample(_) => true,
+        Command::Verify(cli, gcode) => two_differ(cli, gcode, settings),
     }
 }
 

@@ -41,6 +41,11 @@ fn told(alloc: Global, job: &Result<Job, WordFault>) -> Result<String, Fail> {
             )?
         }
         Command::Sample(number) => format!(in alloc; "sample {number}")?,
+        Command::Verify(cli, gcode) => format!(in alloc;
+            "verify {} {}",
+            cli.as_str(),
+            gcode.as_str()
+        )?,
     };
     Ok(format!(in alloc; "{command} by {settings} with {}", job.workers)?)
 }
@@ -77,6 +82,24 @@ fn words_of_the_form_give_a_job(rt: HostRuntime) -> Result<(), Fail> {
         ("check 7", "check 7 by  with 1"),
         ("plan -- a --workers 2", "plan a --workers 2 by  with 1"),
         ("sample -- 12", "sample 12 by  with 1"),
+        ("verify a b", "verify a b by  with 1"),
+        ("verify b a", "verify b a by  with 1"),
+        ("verify a b --settings s", "verify a b by s with 1"),
+        ("verify --settings=s a b", "verify a b by s with 1"),
+        ("verify a --workers 3 b", "verify a b by  with 3"),
+        (
+            "verify --workers=64 --settings s -- a -b",
+            "verify a -b by s with 64",
+        ),
+        (
+            "verify -- --settings --workers",
+            "verify --settings --workers by  with 1",
+        ),
+        ("verify - a", "verify - a by  with 1"),
+        (
+            "verify a b --settings verify",
+            "verify a b by verify with 1",
+        ),
     ] {
         let words = split(rt.alloc(), line)?;
         let job = told(rt.alloc(), &read_words(rt.alloc(), &words))?;
@@ -147,7 +170,23 @@ fn other_words_are_a_usage_fault(rt: HostRuntime) -> Result<(), Fail> {
         "sample 7 --workers 0",
         "sample 7 --settings s --settings s",
         "sample --number 7",
-        "verify a b",
+        "verify",
+        "verify a",
+        "verify a b c",
+        "verify a a",
+        "verify -- - -",
+        "verify a b --settings a",
+        "verify a b --settings=b",
+        "verify a b --workers 0",
+        "verify a b --workers 65",
+        "verify a b --settings s --settings t",
+        "verify a b --cli c",
+        "verify a -b",
+        "verify a b --help",
+        "--settings s verify a b",
+        "-- verify a b",
+        "Verify a b",
+        "verifys a b",
         "plan a --gcode c b",
     ] {
         let words = split(rt.alloc(), line)?;

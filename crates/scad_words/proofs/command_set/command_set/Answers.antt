@@ -13,5 +13,7 @@ returns c =
     ∙ ap₂ with_subcommand two (ap (λ (a : App). a.top) c.in_ok-slice.ensures.app) in
     let four = c.in_ok-subcommand-4.ensures.shape c.in_ok-plan.ensures.local
     ∙ ap₂ with_subcommand three (ap (λ (a : App). a.top) c.in_ok-plan.ensures.app) in
-    IfOk-weaker c.subcommand-5.result _ _ (λ r h. h.shape c.in_ok-sample.ensures.local
-    ∙ ap₂ with_subcommand four (ap (λ (a : App). a.top) c.in_ok-sample.ensures.app)) c.subcommand-5.ensures
+    let five = c.in_ok-subcommand-5.ensures.shape c.in_ok-sample.ensures.local
+    ∙ ap₂ with_subcommand four (ap (λ (a : App). a.top) c.in_ok-sample.ensures.app) in
+    IfOk-weaker c.subcommand-6.result _ _ (λ r h. h.shape c.in_ok-verify.ensures.local
+    ∙ ap₂ with_subcommand five (ap (λ (a : App). a.top) c.in_ok-verify.ensures.app)) c.subcommand-6.ensures
