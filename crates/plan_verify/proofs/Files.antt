@@ -1,17 +1,16 @@
 -- The coordinates of files that are read, and of the sides of their layers.
-use Rattle.std.proofs.Common.{◌≡◌, ℕ, ◌≤◌, [], ◌∷◌, ◌++◌, List, map, subst}
+use Rattle.std.proofs.Common.{ℕ, [], ◌∷◌, List, subst}
 use Rattle.std.specs.Prelude.{All, flat_map}
 use Rattle.std.specs.List.{AllByRecursion, AllZip}
 use Rattle.std.proofs.lemmas.List.Elements.{All-nil, All-cons, All-append}
 use Rattle.scad_geom.specs.declared.point.Pt.{Pt}
-use Rattle.scad_geom.specs.declared.point.Edge.{Edge}
 use Rattle.scad_geom.specs.Limits.{coordinate_limit}
 use Rattle.scad_geom.specs.Within.{IsWithin, IsEdgeWithin}
 use Rattle.scad_geom.specs.Loop.{path, sides}
 use Rattle.cli_text.specs.Cli.{Layer}
 use Rattle.cli_read.specs.declared.layers.CliLayer.{CliLayer}
 use Rattle.cli_read.specs.View.{seen}
-use Rattle.cli_read.specs.Form.{Reads, SaysLayer, Drawn, Polyline, Hatching, IsDrawn, outlines_among, IsWithinReach}
+use Rattle.cli_read.specs.Form.{SaysLayer, Drawn, Polyline, Hatching, IsDrawn, outlines_among, IsWithinReach}
 use Rattle.plan_verify.specs.Stays.{AreWithin}
 use Rattle.plan_verify.specs.Fields.{AreSidesWithin}
 use Rattle.plan_verify.specs.Laws.{FilesAreWithin}

@@ -1,24 +1,20 @@
 -- What is said of layers by their indexes is said of the layers.
-use Rattle.std.proofs.Common.{◌≡◌, ◌⊎◌, inl, inr, ℕ, zero, suc, ◌+◌, ◌<◌, ◌≤◌, ◌/◌, arith, [], ◌∷◌, ◌++◌, List, length, take, drop, get_or, map, refl, ap, sym, subst, ◌∙◌, Result, Ok, Err, pos}
-use Rattle.std.specs.Prelude.{All, flat_map, slice_index_or}
+use Rattle.std.proofs.Common.{◌≡◌, ◌⊎◌, inl, inr, ℕ, zero, suc, ◌+◌, ◌<◌, ◌≤◌, ◌/◌, arith, [], ◌∷◌, ◌++◌, List, length, take, drop, get_or, refl, ap, sym, subst, ◌∙◌, Result, Ok, Err, pos}
+use Rattle.std.specs.Prelude.{All}
 use Rattle.std.specs.List.{Any, AllZip}
 use Rattle.std.proofs.lemmas.List.{take_more, take_all}
 use Rattle.std.proofs.lemmas.List.Elements.{All-nil, All-cons, All-weaker}
 use Rattle.scad_geom.specs.declared.point.Edge.{Edge}
-use Rattle.scad_geom.specs.Loop.{sides}
 use Rattle.gcode_text.specs.declared.machine.Move.{Move}
-use Rattle.gcode_text.specs.declared.fault.GFault.{GFault}
-use Rattle.cli_text.specs.Cli.{Layer}
 use Rattle.cli_read.specs.declared.layers.CliLayer.{CliLayer}
 use Rattle.cli_read.specs.View.{seen, layer_of}
 use Rattle.plan_verify.specs.declared.field.Field.{Field}
 use Rattle.plan_verify.specs.declared.verdict.Verdict.{Verdict}
 use Rattle.plan_verify.specs.declared.verdict.Verdict.TheVariants.{Inside, Outside}
 use Rattle.plan_verify.specs.declared.verdict.VerifyFault.{VerifyFault}
-use Rattle.plan_verify.specs.Index.{sides_in}
 use Rattle.plan_verify.specs.Stays.{KeepsClear, from_above, IsInLayer, Stays}
 use Rattle.plan_verify.specs.Fields.{IsSound, IsFieldOf, IsInField, StaysInFields}
-use Rattle.plan_verify.specs.Verdict.{Told, AllDo, IsFirstOut, IsJudgedBy, IsVerdictBy, extruding}
+use Rattle.plan_verify.specs.Verdict.{Told, AllDo, IsJudgedBy, IsVerdictBy, extruding}
 
 pub sound_fields : (layers : List CliLayer) (fields : List Field) → AllZip IsFieldOf layers fields
     → All IsSound fields

@@ -1,21 +1,20 @@
 -- What is known of the moves of the lines that were read, as one line more is read.
 use Rattle.std.proofs.Common.{◌≡◌, ℕ, ◌+◌, ◌≤◌, Bool, true, false, cond, [], ◌∷◌, ◌++◌, List, length, refl, ap, sym, subst, ◌∙◌, arith, append_assoc, Option, Some, None, Result, Ok, Err}
-use Rattle.std.specs.Prelude.{All, MatchOption, filter, is_some, min, ◌^◌, ◌-◌, if◌then◌else◌}
+use Rattle.std.specs.Prelude.{MatchOption, is_some, min, ◌^◌, ◌-◌}
 use Rattle.std.proofs.lemmas.List.{append-nil, length-append}
 use Rattle.std.proofs.lemmas.List.Elements.{All-nil, All-cons, All-append, filter-append}
 use Rattle.scad_base.specs.Results.{and_then}
 use Rattle.gcode_text.specs.declared.fault.GFault.{GFault}
 use Rattle.gcode_text.specs.declared.machine.Move.{Move}
 use Rattle.gcode_text.specs.Reading.{lines}
-use Rattle.gcode_text.specs.Machine.{State, After, start, limited, line_step, counting}
+use Rattle.gcode_text.specs.Machine.{State, After, start, limited, line_step}
 use Rattle.plan_verify.specs.declared.judgement.Out.{Out}
 use Rattle.plan_verify.specs.declared.judgement.Judgement.{Judgement}
 use Rattle.plan_verify.specs.declared.verdict.Verdict.{Verdict}
 use Rattle.plan_verify.specs.declared.verdict.VerifyFault.{VerifyFault}
 use Rattle.plan_verify.specs.Verdict.{Told, onto, moves_told, program_moves, extruding, AllDo, IsFirstOut, IsJudgedBy, IsVerdictBy, refusal_of}
-use Rattle.plan_verify.specs.Limits.{IsMoveWithin}
 use Rattle.plan_verify.specs.Judged.{first_out, added, verdict_of, verdict_of', IsAdded, WithMove, passed, late, did, failed}
-use Rattle.plan_verify.proofs.Axes.{IsPlaceWithin, IsAfterWithin, step_within, step_lines, start_within}
+use Rattle.plan_verify.proofs.Axes.{IsPlaceWithin, step_within, step_lines, start_within}
 
 abbrev pub prefix : List Told → Result (List Told) GFault → Result (List Told) GFault
 prefix moves rest = and_then rest (λ more. Ok (moves ++ more))

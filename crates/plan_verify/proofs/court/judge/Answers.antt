@@ -1,5 +1,5 @@
 -- One line more of a program, and its end.
-use Rattle.std.proofs.Common.{◌≡◌, ◌+◌, ◌<◌, ◌≤◌, length, arith, [], refl, ap}
+use Rattle.std.proofs.Common.{arith, [], refl, ap}
 use Rattle.std.proofs.lemmas.Result.{err_from_is_err_and}
 use Rattle.gcode_text.specs.Reading.{lines}
 use Rattle.plan_verify.specs.Fields.{StaysInFields}
