@@ -58,7 +58,17 @@ def check_numbers(hold, rows_of, text_of, language, formats):
     hold("statuses of docs/formats.md", names(table.STATUSES), told)
     codes = re.findall(r"Status::(\w+)(?:\(_\)| \{ \.\. \})? => (\d+),", text_of("crates/scad_fault/src/status.rt"))
     hold("statuses of the program", names(table.STATUSES), {int(number): it for it, number in codes})
+    check_bad_files(hold, rows_of(formats, "Ends with"), text_of("crates/scad_fault/src/verdict.rt"))
     check_limits(hold, rows_of, language, formats)
+
+
+def check_bad_files(hold, rows, code):
+    """The refusals of files that are judged, by the two words with which their lines begin."""
+    names = {key: it[0] for key, it in table.BAD_FILES.items()}
+    said = {found[1]: found[2] for row in rows if (found := re.match(r"`((?:cli|gcode) \d) (\w+)", row["Last line"]))}
+    hold("refused files of docs/formats.md", names, said)
+    named = re.search(r"(?ms)fn name\(self\).*?^    \}$", code)
+    hold("refused files of the program", names.values(), re.findall(r'=> "(\w+)"', named[0] if named else ""))
 
 
 def check_limits(hold, rows_of, language, formats):
