@@ -35,7 +35,8 @@ def beside(name):
         wanted, folder = os.path.basename(name), os.path.dirname(name)
         stem = lambda it: os.path.splitext(it)[0].lower()
         there = sorted(it for it in os.listdir(folder or ".") if it != wanted)
-        near = [it for it in there if wanted and stem(it) == stem(wanted)]
+        alike = lambda it: difflib.SequenceMatcher(None, it.lower(), wanted.lower()).ratio()
+        near = sorted((it for it in there if wanted and stem(it) == stem(wanted)), key=alike, reverse=True)
         near = near or difflib.get_close_matches(wanted, there, 1, 0.7)
         return f"; beside it is `{shown(os.path.join(folder, near[0]))}`" if near else ""
     except OSError:
