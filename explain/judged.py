@@ -44,10 +44,10 @@ def why_outside(start, end, outlines, settings):
         return [*told, f"`{shown(outlines)}` has no layer at this height{nearest(heights, end['Z'])}: the files are of "
                        "two parts, or of two layer heights"]
     width = value_of(settings, "line_width")
-    said = f"`line_width` = {width}: half a line, {width / 2000:.4f} mm, less some micrometres" if width else "`line_width`"
-    return [*told, f"there it leaves the outlines, or comes nearer to one than the clearance by {said}",
-            f"are the outlines in `{shown(outlines)}` those that the program was made for, in the same place, and is "
-            "`line_width` (--settings FILE) the width of its lines?"]
+    said = f" = {width}, {width / 2000:.4f} mm" if width else ""
+    return [*told, f"it leaves the outlines, or comes nearer to one than half of `line_width`{said}, less some micrometres",
+            "are these the outlines of the program, in the same place, and is `line_width` (--settings FILE) the width of "
+            "its lines?"]
 
 
 def nearest(heights, z):

@@ -231,13 +231,13 @@ def outside(told):
         f"a_move_{name}", 8, [*wanted, "docs/formats.md"], words, files={"o.cli": outlines, "o.gcode": program}, **more)
     above = PROGRAM + b"G1 Z0.4\nG1 X1 E2\n"
     move = ["o.gcode:4: Outside\n    4 | G1 X5 E1\n", "extruding move 1 of", "from (0.500, 0.500) to (5.000, 0.500) at z = 0.200",
-            "`line_width` = 2000: half a line, 1.0000 mm", "--settings FILE"]
+            "half of `line_width` = 2000, 1.0000 mm", "--settings FILE"]
     wide = {"words": [*VERIFY, *SET], "settings": b"line_width = 2000\n"}
     files = {"o.cli": OUTLINES.replace(b"9000", b"900"), "o.gcode": PROGRAM, "n.gcode": PROGRAM}
     return [
         of("by_wide_lines", move, PROGRAM, **wide),
         of("by_a_report_in_a_file", move, PROGRAM, shell='"$@" >report', **wide),
-        of("past_its_outlines", ["`line_width` = 450", "those that the program was made for"], PROGRAM,
+        of("past_its_outlines", ["`line_width` = 450", "are these the outlines of the program"], PROGRAM,
            OUTLINES.replace(b"9000", b"900")),
         of("without_a_layer", ["o.gcode:6: Outside", "move 2", "at z = 0.400", "`o.cli` has no layer at this height",
                                "(the next are 0.200 mm)"], above),

@@ -22,6 +22,8 @@ def check_explanations(checks, text_of, tables, differs):
     check_settings(hold, rows_of(formats, "Key"), text_of("crates/scad_words/src/rows.rt"))
     check_names(hold, rows_of, language, text_of)
     check_commands(hold, rows_of, formats)
+    still = re.search(r'split\("([^"]*)"', text_of("examples/still.awk"))
+    hold("commands of examples/still.awk", table.STILL_COMMANDS, still[1].split() if still else [])
     heads = set(re.findall(r"(?m)^## (.*)", language))
     lost = [it for _, _, it in table.FAULTS.values() if it not in heads]
     checks.hold("explain/table.py, the chapters", lost and f"{', '.join(lost)} isn't in docs/language.md")
