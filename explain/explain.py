@@ -8,10 +8,11 @@ import re
 import sys
 
 import files
+import judged
 import settings
 import source
 import written
-from run import last_line_of, last_line_of_layers, last_line_written
+from run import last_line_judged, last_line_of, last_line_of_layers, last_line_written
 from table import BUDGETS, SIGNALS, STATUSES
 from words import Slip, job_of, usage_lines
 
@@ -37,6 +38,8 @@ def told_after(status, program, words):
         return headed("", files.read_fault(job))
     if status == 5:
         return headed("", files.write_fault(job))
+    if job.command == "verify" and status in judged.FORMS:
+        return judged.told_of(status, [last_line_written(), last_line_judged(job, program)], job)
     if status in (1, 3, 6):
         return on_line(status, job, program)
     if status > 128:
@@ -52,7 +55,8 @@ def on_line(status, job, program):
     """Lines on a fault or a budget, by the report's last line."""
     forms = {1: source.FAULT, 3: settings.FAULT, 6: source.BUDGET}
     fits = lambda line: re.fullmatch(forms[status], line) if line else None
-    last = fits(last_line_written()) or fits(last_line_of(job, program))
+    asked_again = last_line_judged if job.command == "verify" else last_line_of
+    last = fits(last_line_written()) or fits(asked_again(job, program))
     if not last and status == 6 and job.command != "check":
         last = fits(last_line_of_layers(job, program))
     model = job.names.get("MODEL", "")
@@ -69,7 +73,7 @@ def on_line(status, job, program):
 def layer_budgets():
     """What helps against each budget of one layer; the report's last line names the one that was passed."""
     told = [f"{name}: {limit}; what helps: {helps}"
-            for number, (name, limit, helps) in BUDGETS.items() if number > 6]
+            for number, (name, limit, helps) in BUDGETS.items() if 6 < number < 10]
     return ["scadslice: the report's last line names the limit, and its layer:", *told]
 
 

@@ -13,11 +13,16 @@ from look import is_full_device, shown, why_unreadable, why_unwritable
 def read_fault(job):
     """Lines on the files that can't be read."""
     given = [("settings", job.settings)] * (job.settings is not None)
-    given += [("source", job.names["MODEL"])] * ("MODEL" in job.names)
+    given += [(f"file {it}" if it != "MODEL" else "source", job.names[it]) for it in inputs_of(job)]
     told = [f"the {what} {named(name)}: {why}{beside(name)}"
             for what, name in given if (why := why_unreadable(name))]
     return told or [f"{' and '.join(named(name) for _, name in given)} can be read now: a device failed, "
                     "or a file has changed since"]
+
+
+def inputs_of(job):
+    """The words of the names that a command reads."""
+    return [it for it in job.names if it != "N" and (it == "MODEL" or job.command == "verify")]
 
 
 def named(name):
@@ -30,7 +35,8 @@ def beside(name):
         wanted, folder = os.path.basename(name), os.path.dirname(name)
         stem = lambda it: os.path.splitext(it)[0].lower()
         there = sorted(it for it in os.listdir(folder or ".") if it != wanted)
-        near = [it for it in there if wanted and stem(it) == stem(wanted)]
+        alike = lambda it: difflib.SequenceMatcher(None, it.lower(), wanted.lower()).ratio()
+        near = sorted((it for it in there if wanted and stem(it) == stem(wanted)), key=alike, reverse=True)
         near = near or difflib.get_close_matches(wanted, there, 1, 0.7)
         return f"; beside it is `{shown(os.path.join(folder, near[0]))}`" if near else ""
     except OSError:
@@ -39,9 +45,9 @@ def beside(name):
 
 def write_fault(job):
     """Lines on the outputs that can't be made or written."""
-    inputs = {it: job.names[it] for it in ("MODEL",) if it in job.names}
+    inputs = {it: job.names[it] for it in inputs_of(job)}
+    outputs = {it: name for it, name in job.names.items() if it not in (*inputs, "N")}
     inputs |= {"FILE": job.settings} if job.settings is not None else {}
-    outputs = {it: job.names[it] for it in ("CLI", "GCODE") if it in job.names}
     told = []
     for what, name in outputs.items():
         why = why_same(name, inputs) or why_unwritable(name)

@@ -17,21 +17,25 @@ NOWHERE = ["/dev/null", "/dev/./null"]
 
 def last_line_of(job, program, settings=None):
     """The last line of `check` over the job's source, without its end, or None."""
-    return asked(job, program, ["check"], [], settings or job.settings)
+    return asked(program, ["check"], [job.names.get("MODEL")], [], settings or job.settings)
 
 
 def last_line_of_layers(job, program):
     """The same of the job's own command, with outputs that keep nothing."""
     outputs = NOWHERE[:len(job.names) - 1]
-    return asked(job, program, [job.command, "--workers", job.workers], outputs, job.settings)
+    return asked(program, [job.command, "--workers", job.workers], [job.names.get("MODEL")], outputs, job.settings)
 
 
-def asked(job, program, command, outputs, settings):
-    """The last line of the report of a command, where source and settings are files that can be read again."""
-    model = job.names.get("MODEL")
-    if not is_regular(model) or (settings is not None and not is_regular(settings)):
+def last_line_judged(job, program):
+    """The same of `verify` over both files of the job."""
+    return asked(program, ["verify"], list(job.names.values()), [], job.settings)
+
+
+def asked(program, command, inputs, outputs, settings):
+    """The last line of the report of a command, where inputs and settings are files that can be read again."""
+    if not all(map(is_regular, inputs)) or (settings is not None and not is_regular(settings)):
         return None
-    words = [program, *command, *([f"--settings={settings}"] if settings is not None else []), "--", model]
+    words = [program, *command, *([f"--settings={settings}"] if settings is not None else []), "--", *inputs]
     try:
         ended = subprocess.run([*words, *outputs], stdin=subprocess.DEVNULL, stdout=subprocess.PIPE,
                                stderr=subprocess.DEVNULL, timeout=TIME_LIMIT)

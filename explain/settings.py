@@ -32,13 +32,18 @@ def of_fault(last, name):
 
 def layer_height(name):
     """The layers' height in micrometres by a settings file or its default; None where it can't be told."""
+    return value_of(name, "layer_height")
+
+
+def value_of(name, key):
+    """The value of a setting by a settings file or its default; None where it can't be told."""
     if name is None:
-        return SETTINGS["layer_height"][3]
+        return SETTINGS[key][3]
     text = content(name)
-    found = re.search(rb"(?m)^\s*layer_height\s*=\s*(\d[\d_]*)\s*(?:#.*)?$", text or b"")
+    found = re.search(rb"(?m)^\s*%s\s*=\s*(\d[\d_]*)\s*(?:#.*)?$" % key.encode(), text or b"")
     if found:
         return int(found[1])
-    return None if text is None else SETTINGS["layer_height"][3]
+    return None if text is None else SETTINGS[key][3]
 
 
 def rule(key, row):

@@ -10,6 +10,7 @@ COMMANDS = {
     "slice": (["MODEL", "CLI"], "writes the outlines of its layers to the file CLI"),
     "plan": (["MODEL", "CLI", "GCODE"], "writes the printing program too, to the file GCODE"),
     "sample": (["N"], "plans a plate with 36 holes that the number N gives, and writes no file"),
+    "verify": (["CLI", "GCODE"], "judges whether each extruding move of GCODE stays inside the outlines of CLI"),
 }
 
 # The options of every command.
@@ -29,6 +30,8 @@ STATUSES = {
     6: ("Over", "a limit was passed"),
     7: ("Memory", "there was too little memory: close other programs, take fewer --workers, or split the part; "
                   "files that were begun are not whole"),
+    8: ("Outside", "an extruding move doesn't stay inside the outlines of its layer by the clearance"),
+    9: ("BadFile", "a file that is to be judged isn't of the form"),
 }
 
 # Signals that end the program, and why they most likely came.
@@ -86,7 +89,35 @@ BUDGETS = {
         "fewer parts that lie across one another; a smaller `line_width`, fewer `walls`"),
     9: ("LayerMoves", "a layer has more than 200,000 extruding moves", "a greater `infill_spacing`"),
     10: ("HullPoints", "a hull has more than 20,000 distinct points", "a smaller `$fn` of what it is round"),
+    12: ("FileLong", "one of the two files has more than 268,435,456 bytes",
+         "judge the parts of a plate one by one, each with its own outlines"),
 }
+
+# Why a file that is to be judged is refused, by the report's two first words: the name, and what it means.
+BAD_FILES = {
+    "cli 1": ("BadLine", "this line isn't of the form, or isn't in its place"),
+    "cli 2": ("CountDiffers", "a number that is said isn't the number that is there"),
+    "cli 3": ("OpenLoop", "an outline ends where it began, so it has four points at least, the last as the first"),
+    "gcode 1": ("UnknownWord", "this command or this letter isn't read, or a letter stands twice"),
+    "gcode 2": ("BadNumber", "a number isn't of the form or out of its range, or is missing behind its letter"),
+}
+
+# Commands of other tools' programs that aren't read, and what to do about them.
+OTHER_COMMANDS = {
+    "G2": "arcs aren't read: let the tool write straight moves, without arc fitting",
+    "G10": "let the tool write retractions as moves of E",
+    "G17": "arcs aren't read, so their plane isn't either: take the line out where there are none",
+    "G20": "lengths are read in millimetres: let the tool write these",
+    "G29": "it moves the head to level the bed: take the line out where the program homes and places the head behind it",
+    "G91": "coordinates are read as absolute ones: let the tool write these",
+    "M83": "amounts are read as absolute ones (`M82`): let the tool write these",
+    "T0": "one tool is read: take the line out where there is no other",
+}
+OTHER_COMMANDS |= {"G3": OTHER_COMMANDS["G2"], "G5": OTHER_COMMANDS["G2"], "G11": OTHER_COMMANDS["G10"]}
+
+# Commands that move nothing, so that their lines may be taken out before a program is judged.
+STILL_COMMANDS = ["G4", "M17", "M18", "M73", "M105", "M110", "M115", "M117", "M118", "M141", "M191", "M201", "M203",
+                  "M204", "M205", "M220", "M221", "M300", "M400", "M420", "M572", "M862.3", "M900"]
 
 # The faults of settings: the name, and what it means.
 SETTINGS_FAULTS = {

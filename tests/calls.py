@@ -13,6 +13,7 @@ from check import Check, Exactly, compared, run
 from plans import DONE as PLANNED
 from plans import KEPT, WRITTEN, printed
 from streams import DONE, READ_FAULT, SOURCE_LIMIT, SOURCE_LONG, USAGE, WRITE_FAULT, outlines, told
+from verdicts import FILE_LIMIT, FILE_LONG
 
 SETTINGS = b"layer_height = 200\n"
 SOURCE = b'echo(1); cube(1); echo("b");'
@@ -20,6 +21,7 @@ LINES = told([b"1", b'"b"'])
 FAULT = b"echo(1); cube("
 GIVEN = {**KEPT, "m.scad": SOURCE, "s.toml": SETTINGS}
 PLAN = [b"plan", b"m.scad", b"o.cli", b"o.gcode"]
+VERIFY = [b"verify", b"o.cli", b"o.gcode"]
 BY_SETTINGS = [b"--settings", b"s.toml"]
 # A golden case that ends soon.
 SAMPLE = os.path.join(FOLDER, "sample_1_with_settings_by_several_workers")
@@ -163,7 +165,16 @@ def done():
               left={"o.cli": outlines(1)}),
         reads("check", b"ok: 1 leaves, 12 triangles, 5 layers\n"),
         reads("tree", b"leaf 0: 12 triangles\n"),
+        judged("verify", [*VERIFY, *BY_SETTINGS], 0, b"inside: 5 layers, 20 moves\n", opened("s.toml", SETTINGS)),
+        judged("verify_with_workers", [*VERIFY, b"--workers=3"], 0, b"inside: 5 layers, 20 moves\n"),
     ]
+
+
+def judged(name, words, status, report, before=(), **changed):
+    """Both files are read to their ends before one of them is judged; none is created."""
+    given = {**GIVEN, **WRITTEN, **{file.replace("_", "."): it for file, it in changed.items()}}
+    events = [*before, *opened("o.cli", given["o.cli"]), *opened("o.gcode", given["o.gcode"]), *written("report", report)]
+    return Calls(name, words, events, status=status, report=report, given=given)
 
 
 def refused():
@@ -182,6 +193,13 @@ def refused():
              [("open", "/dev/zero"), ("read", "/dev/zero", SOURCE_LIMIT + 1)]),
         ends("a_model_that_is_not_there", [b"plan", b"n.scad", *PLAN[2:]], 4, [READ_FAULT], [("open", "n.scad")]),
         ends("settings_that_are_not_there", [*PLAN, b"--settings=n.toml"], 4, [READ_FAULT], [("open", "n.toml")]),
+        judged("bad_outlines", VERIFY, 9, b"cli 1 BadLine 1\n", o_cli=b"kept\n"),
+        judged("a_bad_program", VERIFY, 9, b"gcode 1 UnknownWord 1\n", o_gcode=b"kept\n"),
+        ends("outlines_that_are_not_there", [b"verify", b"n.cli", b"o.gcode"], 4, [READ_FAULT], [("open", "n.cli")]),
+        ends("a_program_that_is_not_there", [*VERIFY[:2], b"n.gcode"], 4, [READ_FAULT],
+             [*opened("o.cli", GIVEN["o.cli"]), ("open", "n.gcode")]),
+        ends("outlines_without_end", [b"verify", b"/dev/zero", b"o.gcode"], 6, [FILE_LONG],
+             [("open", "/dev/zero"), ("read", "/dev/zero", FILE_LIMIT + 1)]),
     ]
 
 

@@ -2,6 +2,8 @@
 
     words                the words behind the program's name, one a line
     model.scad           the source, where there is one
+    given.cli            the outlines that are judged by, where there are some
+    given.gcode          the printing program that is judged, where there is one
     settings.toml        the settings, where there are some
     workers              numbers of workers, one a line, where there are some: with each of them, by the
                          option behind the words, the same must come
@@ -22,7 +24,7 @@ from check import Check, Checksum, Each, Exactly
 TESTS = os.path.dirname(os.path.realpath(__file__))
 FOLDER = os.path.join(TESTS, "cases")
 EXAMPLES = os.path.join(os.path.dirname(TESTS), "examples")
-GIVEN = ("model.scad", "settings.toml")
+GIVEN = ("model.scad", "settings.toml", "given.cli", "given.gcode")
 WRITTEN = ("outlines.cli", "print.gcode")
 KNOWN = {"words", "report", "status", "workers", *GIVEN, *WRITTEN, *(f"{name}.sha256" for name in WRITTEN)}
 

@@ -23,15 +23,16 @@ ONE = [b"check", b"m.scad"]
 SLICE = [b"slice", b"m.scad", b"o.cli"]
 PLAN = [b"plan", b"m.scad", b"o.cli", b"o.gcode"]
 SET = [b"--settings", b"s.toml"]
+VERIFY = [b"verify", b"o.cli", b"o.gcode"]
 
 
 class Explained:
     """What the launcher says of a run: `wanted` are texts of standard error in their order."""
 
-    def __init__(self, name, status, wanted, words, launcher, source=CUBE, settings=None, shell=PLAIN):
+    def __init__(self, name, status, wanted, words, launcher, source=CUBE, settings=None, shell=PLAIN, files=None):
         self.name, self.status, self.wanted = f"explained_{name}", status, wanted
         self.words, self.launcher, self.shell = words, launcher, shell
-        self.given = {} if source is None else {"m.scad": source}
+        self.given = dict(files or {}) if source is None or files else {"m.scad": source}
         self.given |= {} if settings is None else {"s.toml": settings}
 
     def tried(self, program):
@@ -64,7 +65,7 @@ class Explained:
 
 def explained_checks(launcher):
     told = lambda name, status, wanted, words, **more: Explained(name, status, wanted, words, launcher, **more)
-    checks = [usage, faults, budgets, refused_settings, unread, unwritten, warned]
+    checks = [usage, faults, budgets, refused_settings, unread, unwritten, warned, outside, bad_outlines, bad_programs]
     workshops = [WithoutProgram, Building, Builders, NotBuilt, Signals]
     others = [WordsOfCases(), *(workshop(launcher) for workshop in workshops)]
     return [it for of in checks for it in of(told)] + others
@@ -72,7 +73,7 @@ def explained_checks(launcher):
 
 def usage(told):
     commands = [f"scadslice {it} " for it in ("check MODEL", "tree MODEL", "slice MODEL CLI", "plan MODEL CLI GCODE")]
-    lists = [*commands, "scadslice sample N", "--settings FILE", "--workers W"]
+    lists = [*commands, "scadslice sample N", "scadslice verify CLI GCODE ", "--settings FILE", "--workers W"]
     nearest = {
         "no_word": (["no command is given", *lists], []),
         "help": (lists, [b"--help"]),
@@ -83,7 +84,9 @@ def usage(told):
                               [*ONE, b"--setings", b"s.toml"]),
         "a_name_too_few": (["`plan` takes MODEL, CLI and GCODE; given is `m.scad`, `o.cli`"], PLAN[:3]),
         "a_name_too_many": (["`check` takes MODEL; given is `m.scad`, `o.cli`"], [*ONE, b"o.cli"]),
-        "a_name_twice": (["CLI and GCODE are both `o.cli`"], [*PLAN[:3], b"o.cli"]),
+        "a_name_twice": (["CLI and GCODE are both `o.cli`, and would overwrite"], [*PLAN[:3], b"o.cli"]),
+        "one_name_of_two_files": (["CLI and GCODE are both `o.cli`, and have to be two"], [*VERIFY[:2], b"o.cli"]),
+        "a_name_too_few_to_judge": (["`verify` takes CLI and GCODE; given is `o.cli`"], VERIFY[:2]),
         "a_name_that_is_no_utf8": (["isn't UTF-8"], [b"check", b"\xff.scad"]),
         "workers_past_their_greatest": (["workers is 1 to 64, not `65`"], [*ONE, b"--workers=65"]),
         "a_number_of_a_sample": (["N is a whole number below 2147483648"], [b"sample", b"x"]),
@@ -206,6 +209,87 @@ def warned(told):
              source=of(-0.5, 0, 1, 1)),
         told("walls_thinner_than_a_line", 0, ["no extruding move", ": 0 to 4; a smaller `line_width`"], PLAN,
              source=of(0, 0, 0.3, 1)),
+    ]
+
+
+OUTLINES = b"""$$HEADERSTART
+$$ASCII
+$$UNITS/0.001
+$$VERSION/200
+$$LAYERS/1
+$$HEADEREND
+$$GEOMETRYSTART
+$$LAYER/200
+$$POLYLINE/1,1,5,0,0,9000,0,9000,9000,0,9000,0,0
+$$GEOMETRYEND
+"""
+PROGRAM = b"G28\nG1 Z0.2\nG1 X0.5 Y0.5\nG1 X5 E1\n"
+
+
+def outside(told):
+    of = lambda name, wanted, program, outlines=OUTLINES, words=VERIFY, **more: told(
+        f"a_move_{name}", 8, [*wanted, "docs/formats.md"], words, files={"o.cli": outlines, "o.gcode": program}, **more)
+    above = PROGRAM + b"G1 Z0.4\nG1 X1 E2\n"
+    move = ["o.gcode:4: Outside\n    4 | G1 X5 E1\n", "extruding move 1 of", "from (0.500, 0.500) to (5.000, 0.500) at z = 0.200",
+            "half of `line_width` = 2000, 1.0000 mm", "--settings FILE"]
+    wide = {"words": [*VERIFY, *SET], "settings": b"line_width = 2000\n"}
+    files = {"o.cli": OUTLINES.replace(b"9000", b"900"), "o.gcode": PROGRAM, "n.gcode": PROGRAM}
+    return [
+        of("by_wide_lines", move, PROGRAM, **wide),
+        of("by_a_report_in_a_file", move, PROGRAM, shell='"$@" >report', **wide),
+        of("past_its_outlines", ["`line_width` = 450", "are these the outlines of the program"], PROGRAM,
+           OUTLINES.replace(b"9000", b"900")),
+        of("without_a_layer", ["o.gcode:6: Outside", "move 2", "at z = 0.400", "`o.cli` has no layer at this height",
+                               "(the next are 0.200 mm)"], above),
+        of("that_rises", ["z = 0.200 mm to 0.400, and an extruding move has to keep"], PROGRAM + b"G1 X1 Z0.4 E2\n"),
+        of("behind_a_place_that_was_set", ["from (0.000, 0.000) to (-1.000, 0.000) at z = 0.200"],
+           PROGRAM + b"G92 X0 Y0\nG1 X-1 E2\n"),
+        told("a_move_of_a_program_from_a_pipe", 8, ["an extruding move doesn't stay inside"],
+             [*VERIFY[:2], b"/dev/stdin"], files=files, shell='cat n.gcode | "$@"'),
+        told("nothing_of_moves_that_stay", 0, [], VERIFY, files={"o.cli": OUTLINES, "o.gcode": PROGRAM}),
+    ]
+
+
+def bad_outlines(told):
+    of = lambda name, wanted, old, new, count=1: told(
+        f"outlines_{name}", 9, wanted, VERIFY, files={"o.cli": OUTLINES.replace(old, new, count), "o.gcode": PROGRAM})
+    last = b"$$GEOMETRYEND\n"
+    return [
+        of("of_nothing", ["o.cli:1: BadLine\n", "line 1 has to be `$$HEADERSTART`", "docs/formats.md"], OUTLINES, b""),
+        of("in_other_units", ["o.cli:3: BadLine\n    3 | $$UNITS/1\n", "has to be `$$UNITS/0.001`"], b"0.001", b"1"),
+        of("without_their_end", ["o.cli:10: BadLine\n", "the file ends before `$$GEOMETRYEND`"], last, b""),
+        of("with_more_behind", ["o.cli:11: BadLine\n   11 |\n", "nothing may stand behind"], last, last + b"\n"),
+        of("with_a_comment", ["    8 | // x\n", "comments aren't read"], b"$$LAYER/", b"// x\n$$LAYER/"),
+        of("in_broken_numbers", ["o.cli:9: BadLine", "whole micrometres"], b"9000", b"9.0"),
+        of("with_a_broken_height", ["o.cli:8: BadLine", "whole"], b"R/200", b"R/0.2"),
+        of("with_a_height_twice", ["o.cli:9: BadLine", "heights are whole and ascend"], b"$$LAYER/200\n", b"$$LAYER/200\n" * 2),
+        of("with_another_number_of_points", ["o.cli:9: CountDiffers\n    9 | $$POLYLINE/1,1,6,", ": said is 6, there are 5"],
+           b"1,1,5,", b"1,1,6,"),
+        of("with_another_number_of_hatches", ["o.cli:10: CountDiffers\n   10 | $$HATCHES/1,2,", ": said is 2, there are 1"],
+           last, b"$$HATCHES/1,2,0,0,1,1\n" + last),
+        of("with_another_number_of_layers", ["o.cli:5: CountDiffers\n    5 | $$LAYERS/2", ": said is 2, there are 1"],
+           b"LAYERS/1", b"LAYERS/2"),
+        of("that_are_open", ["o.cli:9: OpenLoop\n    9 | $$POLYLINE", "four points at least"], b",0,0\n", b",0,1\n"),
+        told("outlines_that_are_not_there", 4, ["the file CLI `O.cli`: there is no such file; beside it is `o.cli`"],
+             [b"verify", b"O.cli", b"o.gcode"], files={"o.cli": OUTLINES, "o.gcode": PROGRAM}),
+        told("a_program_that_is_not_there", 4, ["the file GCODE `o.gcod`: there is no such file; beside it is `o.gcode`"],
+             [*VERIFY[:2], b"o.gcod"], files={"o.cli": OUTLINES, "o.gcode": PROGRAM}),
+        told("a_program_without_end", 6, ["FileLong: one of the two files has more than 268,435,456 bytes", "what helps"],
+             [*VERIFY[:2], b"/dev/zero"], files={"o.cli": OUTLINES}, shell='"$@" >report'),
+    ]
+
+
+def bad_programs(told):
+    of = lambda name, wanted, line: told(f"a_program_{name}", 9, [*wanted, "docs/formats.md"], VERIFY,
+                                         files={"o.cli": OUTLINES, "o.gcode": b"G28 ; home\n" + line + b"\n"})
+    unknown = "o.gcode:2: UnknownWord\n    2 | "
+    return [
+        of("with_progress", [f"{unknown}M73 P1\n", "`M73` moves nothing, so its lines may be taken out"], b"M73 P1"),
+        of("with_arcs", [f"{unknown}G2 X1\n", "`G2`: arcs aren't read"], b"G2 X1"),
+        of("with_relative_amounts", [f"{unknown}M83 ; x\n", "amounts are read as absolute ones"], b"M83 ; x"),
+        of("with_an_unknown_command", [f"{unknown}START\n", "isn't read"], b"START"),
+        of("with_a_tab", [unknown, "parted by spaces alone"], b"G1\tX1"),
+        of("with_four_decimals", ["o.gcode:2: BadNumber\n    2 | G1 X1.0001\n", "out of its range"], b"G1 X1.0001"),
     ]
 
 

@@ -22,6 +22,8 @@ def check_explanations(checks, text_of, tables, differs):
     check_settings(hold, rows_of(formats, "Key"), text_of("crates/scad_words/src/rows.rt"))
     check_names(hold, rows_of, language, text_of)
     check_commands(hold, rows_of, formats)
+    still = re.search(r'split\("([^"]*)"', text_of("examples/still.awk"))
+    hold("commands of examples/still.awk", table.STILL_COMMANDS, still[1].split() if still else [])
     heads = set(re.findall(r"(?m)^## (.*)", language))
     lost = [it for _, _, it in table.FAULTS.values() if it not in heads]
     checks.hold("explain/table.py, the chapters", lost and f"{', '.join(lost)} isn't in docs/language.md")
@@ -56,9 +58,19 @@ def check_numbers(hold, rows_of, text_of, language, formats):
     hold("faults of settings of the program", names(table.SETTINGS_FAULTS), rust("settings", "SetKind"))
     told = {int(row["Status"]): row["Name"] for row in rows_of(formats, "Status")}
     hold("statuses of docs/formats.md", names(table.STATUSES), told)
-    codes = re.findall(r"Status::(\w+)\S* => (\d+),", text_of("crates/scad_fault/src/status.rt"))
+    codes = re.findall(r"Status::(\w+)(?:\(_\)| \{ \.\. \})? => (\d+),", text_of("crates/scad_fault/src/status.rt"))
     hold("statuses of the program", names(table.STATUSES), {int(number): it for it, number in codes})
+    check_bad_files(hold, rows_of(formats, "Ends with"), text_of("crates/scad_fault/src/verdict.rt"))
     check_limits(hold, rows_of, language, formats)
+
+
+def check_bad_files(hold, rows, code):
+    """The refusals of files that are judged, by the two words with which their lines begin."""
+    names = {key: it[0] for key, it in table.BAD_FILES.items()}
+    said = {found[1]: found[2] for row in rows if (found := re.match(r"`((?:cli|gcode) \d) (\w+)", row["Last line"]))}
+    hold("refused files of docs/formats.md", names, said)
+    named = re.search(r"(?ms)fn name\(self\).*?^    \}$", code)
+    hold("refused files of the program", names.values(), re.findall(r'=> "(\w+)"', named[0] if named else ""))
 
 
 def check_limits(hold, rows_of, language, formats):

@@ -1,0 +1,2 @@
+(a program of a mill)
+G21
