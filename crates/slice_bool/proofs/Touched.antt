@@ -13,15 +13,15 @@ use Rattle.scad_geom.specs.declared.level.Level.{Level}
 use Rattle.scad_geom.specs.declared.level.LeafEdge.{LeafEdge}
 use Rattle.scad_geom.specs.Line.{low, high, rise}
 use Rattle.scad_geom.proofs.Signs.{zero_true}
-use Rattle.slice_slab.specs.Bundles.{no_edge, edge_at}
+use Rattle.slice_slab.specs.Bundles.{no_edge, edge_at, Ascends}
 use Rattle.slice_slab.specs.Touching.{touches, touching}
-use Rattle.slice_slab.specs.Bundles.{Ascends}
 use Rattle.slice_slab.proofs.Times.{AreStrict, same_counts, times_permuted, filter_permuted}
 use Rattle.slice_slab.proofs.Chosen.{numbers_where, touching_is, StandFrom, stand_from_first, next_from, first_from, filtered, all_where, strict_where}
 use Rattle.slice_slab.proofs.Standing.{touch_both}
 use Rattle.slice_snap.specs.declared.piece.Spot.{Spot}
 use Rattle.slice_bool.specs.Pieces.{is_flat_at, passes_at, edge_spots, spots_at, AreStops, IsOneOf, HasSpot, whole_spot, spot_on}
 use Rattle.slice_bool.specs.Near.{picked, touching_at, flats_from}
+use Rattle.slice_bool.proofs.SomeStops.{empty_list}
 
 -- ---- edges that don't meet a level are neither flat on it nor pass it
 passes_touches : (e : Edge) (at : Level) → passes_at e at ≡ true → touches e at ≡ true
@@ -155,4 +155,7 @@ no_flats es at numbers m e =
     ∙ ap (λ (ks : List ℕ). length ks) e)
 
 pub none_stands : (ks : List ℕ) → ks ≡ [] → 0 < length ks → ⊥
-none_stands ks e h = let none : 0 < length [] = subst (λ (js : List ℕ). 0 < length js) e h in omega arith
+none_stands ks e h = none (length ks) (ap (λ (js : List ℕ). length js) e) h
+  where
+    none : (n : ℕ) → n ≡ 0 → 0 < n → ⊥
+    none n p q = omega arith
