@@ -1,5 +1,5 @@
 -- The edges that meet the level say all of it.
-use Rattle.std.proofs.Common.{◌≡◌, ◌<◌, ◌∙◌, ℕ, List, All, sym, ap, subst, length, filter}
+use Rattle.std.proofs.Common.{◌≡◌, ◌<◌, ◌∙◌, All, sym, ap, subst, length, filter}
 use Rattle.scad_geom.specs.Limits.{coordinate_limit}
 use Rattle.scad_geom.specs.Within.{IsEdgeWithin}
 use Rattle.slice_slab.specs.Bundles.{edge_at}
