@@ -47,7 +47,7 @@ const EDGES: [LeafEdge; 4] = [
     },
 ];
 
-// The edges that meet a height, after one that isn't above it.
+// The numbers of the edges that meet a height, after one that isn't above it, as they ascend.
 fn live_after(
     alloc: Global,
     edges: &[LeafEdge],
@@ -63,7 +63,9 @@ fn live_after(
     let mut active = Active::new(alloc, edges)?;
     active.lift(edges, first)?;
     active.lift(edges, at)?;
-    Vec::from_slice(alloc, active.touching())
+    let mut live = Vec::from_slice(alloc, active.touching())?;
+    live.sort_unstable();
+    Ok(live)
 }
 
 #[test]

@@ -68,9 +68,9 @@ fn bundles_go_by_x_and_then_by_slope(rt: HostRuntime) -> Result<(), Fail> {
 }
 
 #[test]
-fn numbers_of_bundles_come_back(rt: HostRuntime) -> Result<(), Fail> {
-    let bundle = Bundle::from_vec(Vec::from_slice(rt.alloc(), &[1, 3])?);
-    assert_eq!(rt; bundle.as_slice(), [1, 3].as_slice());
-    assert_eq!(rt; bundle.into_vec().as_slice(), [1, 3].as_slice());
+fn bundles_lend_their_numbers(rt: HostRuntime) -> Result<(), Fail> {
+    let some = Bundle::from_vec(Vec::from_slice(rt.alloc(), &[1, 3])?);
+    assert_eq!(rt; some.as_slice(), [1, 3].as_slice());
+    assert_eq!(rt; Bundle::of_one(7).as_slice(), [7].as_slice());
     Ok(())
 }

@@ -1,5 +1,5 @@
 -- The edges that meet a level say all of it that all edges say.
-use Rattle.std.proofs.Common.{◌≡◌, ℕ, ◌+◌, ◌<◌, Bool, true, false, List, [], ◌∷◌, ◌++◌, length, get_or, filter, refl, sym, ap, ap₂, ◌∙◌, arith, subst, true≢false}
+use Rattle.std.proofs.Common.{◌≡◌, ℕ, ◌+◌, ◌<◌, Bool, true, false, List, [], ◌∷◌, ◌++◌, length, get_or, filter, refl, sym, ap, ap₂, ◌∙◌, arith, subst, true≢false, IsPermutation}
 use lib.IntN.{ℤ, pos, ◌*ℤ◌, ◌-ℤ◌}
 use Rattle.std.specs.Prelude.{int_lt, int_le, ◌&&◌, if◌then◌else◌}
 use Rattle.std.specs.Cmp.{signed_Decides}
@@ -7,18 +7,21 @@ use Rattle.std.specs.List.{AllByRecursion, All}
 use Rattle.std.proofs.lemmas.Bool.{and_parts}
 use Rattle.std.proofs.lemmas.Int.{ints}
 use Rattle.std.proofs.lemmas.List.Elements.{recursion_from_All, All-from_recursion}
+use Rattle.std.proofs.lemmas.List.Sorted.{length_permutation}
 use Rattle.scad_geom.specs.declared.point.Edge.{Edge}
 use Rattle.scad_geom.specs.declared.level.Level.{Level}
 use Rattle.scad_geom.specs.declared.level.LeafEdge.{LeafEdge}
 use Rattle.scad_geom.specs.Line.{low, high, rise}
 use Rattle.scad_geom.proofs.Signs.{zero_true}
-use Rattle.slice_slab.specs.Bundles.{no_edge, edge_at}
+use Rattle.slice_slab.specs.Bundles.{no_edge, edge_at, Ascends}
 use Rattle.slice_slab.specs.Touching.{touches, touching}
-use Rattle.slice_slab.proofs.Chosen.{numbers_where, touching_is, StandFrom, stand_from_first, next_from, first_from, filtered, all_where}
+use Rattle.slice_slab.proofs.Times.{AreStrict, same_counts, times_permuted, filter_permuted}
+use Rattle.slice_slab.proofs.Chosen.{numbers_where, touching_is, StandFrom, stand_from_first, next_from, first_from, filtered, all_where, strict_where}
 use Rattle.slice_slab.proofs.Standing.{touch_both}
 use Rattle.slice_snap.specs.declared.piece.Spot.{Spot}
 use Rattle.slice_bool.specs.Pieces.{is_flat_at, passes_at, edge_spots, spots_at, AreStops, IsOneOf, HasSpot, whole_spot, spot_on}
 use Rattle.slice_bool.specs.Near.{picked, touching_at, flats_from}
+use Rattle.slice_bool.proofs.SomeStops.{empty_list}
 
 -- ---- edges that don't meet a level are neither flat on it nor pass it
 passes_touches : (e : Edge) (at : Level) → passes_at e at ≡ true → touches e at ≡ true
@@ -131,3 +134,28 @@ all_touching P es at h = All-from_recursion P (touching_at es at) (each es (recu
             → AllByRecursion P (if t then e ∷ touching_at es at else touching_at es at)
         by_test true p r = (p, r)
         by_test false p r = r
+
+-- ---- the numbers in another order
+-- as they ascend they stand as in the list
+pub in_ascending : (es : List LeafEdge) (at : Level) (numbers news : List ℕ) → IsPermutation (touching 0 es at) numbers
+    → IsPermutation numbers news → Ascends news → news ≡ touching 0 es at
+in_ascending es at numbers news m n a =
+    same_counts (touching 0 es at) news
+    (subst AreStrict (sym (touching_is at 0 es)) (strict_where (λ e. touches e at) 0 es)) a
+    (λ k. sym (times_permuted k (touching 0 es at) numbers m) ∙ sym (times_permuted k numbers news n))
+
+-- where none of them is flat, none is
+pub no_flats : (es : List LeafEdge) (at : Level) (numbers : List ℕ) → IsPermutation (touching 0 es at) numbers
+    → filter (λ k. is_flat_at (edge_at es k) at) numbers ≡ [] → flats_from 0 es at ≡ []
+no_flats es at numbers m e =
+    let p : ℕ → Bool = λ k. is_flat_at (edge_at es k) at in
+    sym (flats_touching es at) ∙ empty_list (filter p (touching 0 es at))
+    (sym (length_permutation (filter p (touching 0 es at)) (filter p numbers)
+    (filter_permuted p (touching 0 es at) numbers m))
+    ∙ ap (λ (ks : List ℕ). length ks) e)
+
+pub none_stands : (ks : List ℕ) → ks ≡ [] → 0 < length ks → ⊥
+none_stands ks e h = none (length ks) (ap (λ (js : List ℕ). length js) e) h
+  where
+    none : (n : ℕ) → n ≡ 0 → 0 < n → ⊥
+    none n p q = omega arith

@@ -1,5 +1,6 @@
 //! All pieces of a border.
 ghost use Rattle.std.specs.Prelude.{◌≡◌, ◌<◌, ◌≤◌, ◌+◌, ◌^◌, length, drop, true, false, OnOk, IfOk, IfErr, All};
+ghost use Rattle.std.specs.List.Sorted.{IsPermutation};
 ghost use Rattle.scad_geom.specs.Limits.{coordinate_limit};
 ghost use Rattle.scad_geom.specs.Within.{IsEdgeWithin};
 ghost use Rattle.scad_geom.specs.Level.{IsLevelWithin};
@@ -195,7 +196,8 @@ fn rise(
     requires levels { AreLevels sweep.now.edges.now levels.now }
     requires there { i < length levels.now }
     requires active { IsReadyFor sweep.now.edges.now (level_at levels.now i) active.old }
-    ensures live { OnOk result (live_in active.new ≡ touching 0 sweep.now.edges.now (level_at levels.now i)) }
+    ensures live { OnOk result
+        (IsPermutation (touching 0 sweep.now.edges.now (level_at levels.now i)) (live_in active.new)) }
     ensures bundles { OnOk result (i + 1 < length levels.now
         → AreBundles sweep.now.edges.now (level_at levels.now i) (level_at levels.now (i + 1)) (bundles_in active.new)) }
     ensures stands { OnOk result (StandsAt sweep.now.edges.now (level_at levels.now i) active.new) }

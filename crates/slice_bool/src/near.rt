@@ -1,5 +1,6 @@
 //! What of an edge list matters on a level.
 ghost use Rattle.std.specs.Prelude.{◌≡◌, ◌<◌, length, filter, IfOk, All};
+ghost use Rattle.std.specs.List.Sorted.{IsPermutation};
 ghost use Rattle.scad_geom.specs.Limits.{coordinate_limit};
 ghost use Rattle.scad_geom.specs.Within.{IsEdgeWithin};
 ghost use Rattle.scad_geom.specs.Level.{IsLevelWithin};
@@ -28,28 +29,36 @@ pub(crate) fn edges_near(
 ) -> Result<Near, AllocError>
     requires within { All (λ e. IsEdgeWithin coordinate_limit e.edge) edges.now }
     requires at { IsLevelWithin coordinate_limit at.now }
+    requires numbers { IsPermutation (touching 0 edges.now at.now) numbers.now }
+    ensures { IfOk result (IsNear edges.now at.now) }
+{
+    let flats = flats(alloc, edges, numbers, at)?;
+    if flats.is_empty() {
+        return Ok(Near {
+            touching: Vec::new(alloc),
+            flats,
+        });
+    }
+    let mut ascending = Vec::from_slice(alloc, numbers)?;
+    ascending.sort_unstable();
+    near_ascending(alloc, edges, &ascending, at)
+}
+
+// The same, from the numbers as they ascend.
+fn near_ascending(
+    alloc: Global,
+    edges: &[LeafEdge],
+    numbers: &[u32],
+    at: &Level,
+) -> Result<Near, AllocError>
+    requires within { All (λ e. IsEdgeWithin coordinate_limit e.edge) edges.now }
+    requires at { IsLevelWithin coordinate_limit at.now }
     requires numbers { numbers.now ≡ touching 0 edges.now at.now }
     ensures { IfOk result (IsNear edges.now at.now) }
 {
     let flats = flats(alloc, edges, numbers, at)?;
-    let touching = edges_beside(alloc, edges, numbers, &flats)?;
+    let touching = edges_of(alloc, edges, numbers)?;
     Ok(Near { touching, flats })
-}
-
-// The edges of these numbers, where there are flat ones.
-fn edges_beside(
-    alloc: Global,
-    edges: &[LeafEdge],
-    numbers: &[u32],
-    flats: &[u32],
-) -> Result<Vec<LeafEdge>, AllocError>
-    requires there { All (λ k. k < length edges.now) numbers.now }
-    ensures { IfOk result (λ v. 0 < length flats.now → v.items ≡ picked edges.now numbers.now) }
-{
-    if flats.is_empty() {
-        return Ok(Vec::new(alloc));
-    }
-    edges_of(alloc, edges, numbers)
 }
 
 // The edges of these numbers.

@@ -1,5 +1,5 @@
 -- Which edges have begun at a height, by the starts of all.
-use Rattle.std.proofs.Common.{◌≡◌, ℕ, zero, suc, ◌+◌, ◌<◌, ◌≤◌, Bool, true, false, List, [], ◌∷◌, ◌++◌, length, get_or, drop, refl, sym, ap, ◌∙◌, arith, subst}
+use Rattle.std.proofs.Common.{◌≡◌, ℕ, zero, suc, ◌+◌, ◌<◌, Bool, true, false, List, [], ◌∷◌, ◌++◌, length, get_or, drop, refl, sym, ap, ◌∙◌, arith}
 use lib.IntN.{ℤ, pos, ◌*ℤ◌}
 use lib.Signed.{◌<ℤ◌, ◌≤ℤ◌}
 use Rattle.std.specs.Prelude.{int_lt, int_le, if◌then◌else◌}
@@ -11,7 +11,7 @@ use Rattle.scad_geom.specs.declared.level.Level.{Level}
 use Rattle.scad_geom.specs.declared.level.LeafEdge.{LeafEdge}
 use Rattle.scad_geom.specs.Line.{low}
 use Rattle.scad_geom.specs.Level.{level_of, IsLower, IsAtMost}
-use Rattle.scad_geom.proofs.Heights.{lower_then_at_most, at_most_chain}
+use Rattle.scad_geom.proofs.Heights.{lower_then_at_most}
 use Rattle.slice_slab.specs.declared.start.Start.{Start}
 use Rattle.slice_slab.specs.Bundles.{edge_at}
 use Rattle.slice_slab.specs.Starts.{numbers_of, IsStartOf, AreRising, is_begun, begun_at, pending_at}

@@ -1,17 +1,16 @@
 -- Sorted passages give the bundles.
-use Rattle.std.proofs.Common.{◌≡◌, ℕ, zero, suc, ◌+◌, ◌<◌, ◌≤◌, ◌⊎◌, inl, inr, Bool, true, false, not, ◌&&◌, ◌||◌, cond, List, [], ◌∷◌, length, get_or, refl, sym, ap, ◌∙◌, arith, subst, add-one}
+use Rattle.std.proofs.Common.{◌≡◌, ℕ, zero, suc, ◌+◌, ◌<◌, ◌≤◌, ◌⊎◌, inl, inr, Bool, true, false, not, ◌&&◌, ◌||◌, List, [], ◌∷◌, length, get_or, refl, sym, ap, ◌∙◌, arith, subst, add-one}
 use Rattle.std.proofs.lemmas.Bool.{and_parts, true≢false}
 use lib.IntN.{ℤ, pos, ◌*ℤ◌}
 use lib.Signed.{◌<ℤ◌}
-use Rattle.std.specs.Prelude.{int_lt, nat_lt, if◌then◌else◌}
+use Rattle.std.specs.Prelude.{nat_lt, if◌then◌else◌}
 use lib.Dec.{T, nltb→le}
-use Rattle.std.specs.Ordering.{int_eq, is_eq}
-use Rattle.std.specs.declared.cmp.Ordering.TheVariants.{Less, Equal, Greater}
+use Rattle.std.specs.Ordering.{int_eq}
 use Rattle.std.specs.List.{AllByRecursion, concat}
 use Rattle.std.specs.List.{All}
 use Rattle.std.specs.List.Sorted.{IsSortedBy, IsPermutation}
 use Rattle.std.proofs.lemmas.List.Elements.{recursion_from_All}
-use Rattle.std.proofs.lemmas.List.Sorted.{All-permutation, IsPermutation-map}
+use Rattle.std.proofs.lemmas.List.Sorted.{All-permutation, IsPermutation-map, IsPermutation-trans}
 use Rattle.std.proofs.lemmas.Int.{ints}
 use Rattle.scad_geom.specs.declared.level.Level.{Level}
 use Rattle.scad_geom.specs.declared.level.LeafEdge.{LeafEdge}
@@ -256,14 +255,15 @@ concat-bundles (p ∷ (q ∷ ps)) = by_test (is_aligned p q) (concat-bundles (q 
     by_test false r = ap (λ (xs : List ℕ). p.number ∷ xs) r
 
 -- sorted passages of the edges that reach both heights give these bundles
-pub bundles_made : (es : List LeafEdge) (l u : Level) (old new : List Passage) → numbers_of old ≡ reaching 0 es l u
+pub bundles_made : (es : List LeafEdge) (l u : Level) (old new : List Passage)
+    → IsPermutation (reaching 0 es l u) (numbers_of old)
     → All (IsPassageOf es l) old → IsPermutation old new → AreSorted new → AreBundles es l u (bundles_of new)
 bundles_made es l u old new numbers passages same sorted =
     let P : Passage → Type 0 = IsPassageOf es l in
     let all : AllByRecursion P new = recursion_from_All P new (All-permutation P old new same passages) in
     let moved : IsPermutation (numbers_of old) (numbers_of new) = IsPermutation-map (λ (p : Passage). p.number) old new same in
     record {
-      members = subst (λ (xs : List ℕ). IsPermutation xs (concat (bundles_of new))) numbers
-          (subst (IsPermutation (numbers_of old)) (sym (concat-bundles new)) moved);
+      members = subst (IsPermutation (reaching 0 es l u)) (sym (concat-bundles new))
+          (IsPermutation-trans (reaching 0 es l u) (numbers_of old) (numbers_of new) numbers moved);
       ranked = ranked_bundles es l new all sorted;
     }

@@ -1,12 +1,13 @@
 -- Lifting the height leaves exactly the edges that meet it.
-use Rattle.std.proofs.Common.{◌≡◌, ℕ, zero, suc, ◌+◌, ◌<◌, ◌≤◌, Bool, true, false, List, [], ◌∷◌, ◌++◌, length, get_or, drop, filter, refl, sym, ap, ◌∙◌, arith, subst, true≢false, append_assoc, IsPermutation, All}
-use lib.IntN.{ℤ, pos, ◌*ℤ◌}
+use Rattle.std.proofs.Common.{◌≡◌, ℕ, zero, suc, ◌+◌, ◌<◌, ◌≤◌, Bool, true, false, List, [], ◌∷◌, ◌++◌, length, filter, refl, sym, ap, ◌∙◌, arith, subst, true≢false, append_assoc, IsPermutation, All}
+use lib.IntN.{pos, ◌*ℤ◌}
 use lib.Signed.{◌<ℤ◌}
 use Rattle.std.specs.Prelude.{int_lt, int_le, ◌&&◌}
 use Rattle.std.specs.List.{AllByRecursion}
 use Rattle.std.proofs.lemmas.Bool.{and_parts}
 use Rattle.std.proofs.lemmas.Int.{ints}
-use Rattle.std.proofs.lemmas.List.Elements.{recursion_from_All, All-from_recursion, All-drop}
+use Rattle.std.proofs.lemmas.List.Elements.{recursion_from_All, All-from_recursion}
+use Rattle.std.proofs.lemmas.List.Sorted.{All-permutation, IsPermutation-append_left}
 use Rattle.scad_geom.specs.declared.point.Edge.{Edge}
 use Rattle.scad_geom.specs.declared.level.Level.{Level}
 use Rattle.scad_geom.specs.declared.level.LeafEdge.{LeafEdge}
@@ -14,13 +15,13 @@ use Rattle.scad_geom.specs.Line.{low, high, rise}
 use Rattle.scad_geom.specs.Level.{level_of, IsLower, IsAtMost}
 use Rattle.scad_geom.proofs.Heights.{at_most_chain, lower_weak}
 use Rattle.slice_slab.specs.declared.start.Start.{Start}
-use Rattle.slice_slab.specs.Bundles.{edge_at, Ascends, reaches, reaching}
+use Rattle.slice_slab.specs.Bundles.{edge_at, reaches, reaching}
 use Rattle.slice_slab.specs.Touching.{touches, touching}
-use Rattle.slice_slab.specs.Starts.{AreStarts, AreRising, IsStartOf, numbers_of, all_numbers, begun_at, pending_at}
+use Rattle.slice_slab.specs.Starts.{AreRising, IsStartOf, numbers_of, all_numbers, begun_at, pending_at}
 use Rattle.slice_slab.specs.Active.{times, CoverHeight}
-use Rattle.slice_slab.proofs.Times.{times-append, times_permuted, times_kept, times_lost, standing, AreStrict, same_counts}
-use Rattle.slice_slab.proofs.Chosen.{numbers_where, touching_is, reaching_is, numbers_are, stand_from_first, filtered, all_where, strict_where, once_where, none_where}
-use Rattle.slice_slab.proofs.Beginning.{rising_drop, parted, begun_too, pending_too, all_begun, all_pending, of_numbers}
+use Rattle.slice_slab.proofs.Times.{times-append, times_permuted, times_kept, times_lost, standing, from_times}
+use Rattle.slice_slab.proofs.Chosen.{numbers_where, touching_is, reaching_is, numbers_are, stand_from_first, filtered, all_where, once_where, none_where}
+use Rattle.slice_slab.proofs.Beginning.{parted, begun_too, pending_too, all_begun, all_pending, of_numbers}
 
 -- ---- edges and heights
 abbrev begins : Edge → Level → Bool
@@ -136,14 +137,29 @@ none_live es at starts m = record {
         (times_permuted k (all_numbers es) (numbers_of starts) m)
         (ap (times k) (numbers_are 0 es) ∙ once_where (λ e. true) es k s.0 refl)
 
+-- ---- the order of the numbers doesn't matter
+all_permuted : (P : ℕ → Type 0) (xs ys : List ℕ) → IsPermutation xs ys → AllByRecursion P xs → AllByRecursion P ys
+all_permuted P xs ys m h = recursion_from_All P ys (All-permutation P xs ys m (All-from_recursion P xs h))
+
+pub cover_permuted : (es : List LeafEdge) (at : Level) (live news : List ℕ) (ss : List Start) → IsPermutation live news
+    → CoverHeight es at live ss → CoverHeight es at news ss
+cover_permuted es at live news ss m h = record {
+  begun = all_permuted (λ k. begins (edge_at es k) at ≡ true) live news m h.begun;
+  once = λ k. subst (λ (n : ℕ). n ≤ 1) (same k) (h.once k);
+  all = λ k t e. sym (same k) ∙ h.all k t e;
+}
+  where
+    same : (k : ℕ) → times k (live ++ numbers_of ss) ≡ times k (news ++ numbers_of ss)
+    same k = sym (times_permuted k (live ++ numbers_of ss) (news ++ numbers_of ss)
+        (IsPermutation-append_left (numbers_of ss) live news m))
+
 -- ---- a step
-module _ (es : List LeafEdge) (at : Level) (d : pos 0 <ℤ at.d) (ss : List Start) (live more kept sorted : List ℕ)
+module _ (es : List LeafEdge) (at : Level) (d : pos 0 <ℤ at.d) (ss : List Start) (live more kept : List ℕ)
     (there : AllByRecursion (λ k. k < length es) live) (starts : AllByRecursion (IsStartOf es) ss)
     (rising : AreRising ss)
     (later : (h : Level) → pos 0 <ℤ h.d → IsAtMost at h → CoverHeight es h live ss)
     (more-is : more ≡ live ++ numbers_of (begun_at at ss))
-    (kept-is : kept ≡ filter (λ k. touches (edge_at es k) at) more)
-    (same : IsPermutation kept sorted) (ascends : Ascends sorted) where
+    (kept-is : kept ≡ filter (λ k. touches (edge_at es k) at) more) where
   abbrev IsBegun : ℕ → Type 0
   IsBegun k = (k < length es) × (begins (edge_at es k) at ≡ true)
 
@@ -173,13 +189,11 @@ module _ (es : List LeafEdge) (at : Level) (d : pos 0 <ℤ at.d) (ss : List Star
       ∙ ap (λ (ks : List ℕ). ks ++ numbers_of (pending_at at ss)) (sym more-is))
       ∙ times-append n more (numbers_of (pending_at at ss))
 
-  kept_by : (n : ℕ) → touches (edge_at es n) at ≡ true → times n sorted ≡ times n more
-  kept_by n t = times_permuted n kept sorted same ∙ ap (times n) kept-is
-      ∙ times_kept (λ k. touches (edge_at es k) at) n t more
+  kept_by : (n : ℕ) → touches (edge_at es n) at ≡ true → times n kept ≡ times n more
+  kept_by n t = ap (times n) kept-is ∙ times_kept (λ k. touches (edge_at es k) at) n t more
 
-  lost_by : (n : ℕ) → touches (edge_at es n) at ≡ false → times n sorted ≡ 0
-  lost_by n t = times_permuted n kept sorted same ∙ ap (times n) kept-is
-      ∙ times_lost (λ k. touches (edge_at es k) at) n t more
+  lost_by : (n : ℕ) → touches (edge_at es n) at ≡ false → times n kept ≡ 0
+  lost_by n t = ap (times n) kept-is ∙ times_lost (λ k. touches (edge_at es k) at) n t more
 
   some : (m n : ℕ) → n ≡ suc m → 1 ≤ n
   some m n e = omega arith
@@ -195,7 +209,7 @@ module _ (es : List LeafEdge) (at : Level) (d : pos 0 <ℤ at.d) (ss : List Star
           each_waits (some m (times n (numbers_of (pending_at at ss))) e) in
           absurd (true≢false (sym (touch_parts (edge_at es n) at t).0 ∙ s.1))
 
-  same_times : (n : ℕ) → times n (touching 0 es at) ≡ times n sorted
+  same_times : (n : ℕ) → times n (touching 0 es at) ≡ times n kept
   same_times n = by_test (touches (edge_at es n) at) refl (times n more) refl
     where
       outside : (m : ℕ) → times n more ≡ suc m → n < length es
@@ -205,7 +219,7 @@ module _ (es : List LeafEdge) (at : Level) (d : pos 0 <ℤ at.d) (ss : List Star
       alone a b c p q r = omega arith
 
       by_test : (t : Bool) → touches (edge_at es n) at ≡ t → (m : ℕ) → times n more ≡ m
-          → times n (touching 0 es at) ≡ times n sorted
+          → times n (touching 0 es at) ≡ times n kept
       by_test false t m e =
           ap (times n) (touching_is at 0 es)
           ∙ none_where (λ e. touches e at) es n (λ h s. true≢false (sym s ∙ t)) ∙ sym (lost_by n t)
@@ -225,24 +239,22 @@ module _ (es : List LeafEdge) (at : Level) (d : pos 0 <ℤ at.d) (ss : List Star
           (times n (numbers_of (pending_at at ss))) (counted n)
           (waits_not n t) ((later at d at_itself).all n h t))
 
-  pub live_touches : sorted ≡ touching 0 es at
-  live_touches = same_counts (touching 0 es at) sorted
-      (subst AreStrict (sym (touching_is at 0 es)) (strict_where (λ e. touches e at) 0 es)) ascends same_times
+  pub live_touches : IsPermutation (touching 0 es at) kept
+  live_touches = from_times (touching 0 es at) kept same_times
 
-  pub stands : (h : Level) → pos 0 <ℤ h.d → IsAtMost at h → CoverHeight es h sorted (pending_at at ss)
+  pub stands : (h : Level) → pos 0 <ℤ h.d → IsAtMost at h → CoverHeight es h kept (pending_at at ss)
   stands h dh o = record {
-    begun = weaker (λ k. (k < length es) × (touches (edge_at es k) at ≡ true))
-        (λ k. begins (edge_at es k) h ≡ true)
-        (λ k t. begins_later (edge_at es k) at h d dh o (touch_parts (edge_at es k) at t.1).0) sorted
-        (subst (AllByRecursion (λ k. (k < length es) × (touches (edge_at es k) at ≡ true))) (sym live_touches)
+    begun = weaker (λ k. (k < length es) × (touches (edge_at es k) at ≡ true)) (λ k. begins (edge_at es k) h ≡ true)
+        (λ k t. begins_later (edge_at es k) at h d dh o (touch_parts (edge_at es k) at t.1).0) kept
+        (all_permuted (λ k. (k < length es) × (touches (edge_at es k) at ≡ true)) (touching 0 es at) kept live_touches
         (touching_there es at));
     once = λ n. at_most n (touches (edge_at es n) at) refl;
     all = λ n k t. whole n k t (times n more) refl;
   }
     where
-      both_times : (n : ℕ) → times n (sorted ++ numbers_of (pending_at at ss)) ≡ times n sorted
+      both_times : (n : ℕ) → times n (kept ++ numbers_of (pending_at at ss)) ≡ times n kept
           + times n (numbers_of (pending_at at ss))
-      both_times n = times-append n sorted (numbers_of (pending_at at ss))
+      both_times n = times-append n kept (numbers_of (pending_at at ss))
 
       less : (a b c e f : ℕ) → a ≡ b + c → e ≡ f + c → a ≤ 1 → f ≡ b → e ≤ 1
       less a b c e f p q r s = omega arith
@@ -250,13 +262,12 @@ module _ (es : List LeafEdge) (at : Level) (d : pos 0 <ℤ at.d) (ss : List Star
       less_none : (a b c e f : ℕ) → a ≡ b + c → e ≡ f + c → a ≤ 1 → f ≡ 0 → e ≤ 1
       less_none a b c e f p q r s = omega arith
 
-      at_most : (n : ℕ) (t : Bool) → touches (edge_at es n) at ≡ t
-          → times n (sorted ++ numbers_of (pending_at at ss)) ≤ 1
+      at_most : (n : ℕ) (t : Bool) → touches (edge_at es n) at ≡ t → times n (kept ++ numbers_of (pending_at at ss)) ≤ 1
       at_most n true t = less (times n (live ++ numbers_of ss)) (times n more) (times n (numbers_of (pending_at at ss)))
-          _ (times n sorted)
+          _ (times n kept)
           (counted n) (both_times n) ((later at d at_itself).once n) (kept_by n t)
       at_most n false t = less_none (times n (live ++ numbers_of ss)) (times n more)
-          (times n (numbers_of (pending_at at ss))) _ (times n sorted)
+          (times n (numbers_of (pending_at at ss))) _ (times n kept)
           (counted n) (both_times n) ((later at d at_itself).once n) (lost_by n t)
 
       equal : (a b c e f : ℕ) → a ≡ b + c → e ≡ f + c → a ≡ 1 → f ≡ b → e ≡ 1
@@ -265,19 +276,19 @@ module _ (es : List LeafEdge) (at : Level) (d : pos 0 <ℤ at.d) (ss : List Star
       none_of : (a b c e f : ℕ) → a ≡ b + c → e ≡ f + c → a ≡ 1 → b ≡ 0 → f ≤ b → e ≡ 1
       none_of a b c e f p q r s t = omega arith
 
-      no_more : (n : ℕ) (t : Bool) → touches (edge_at es n) at ≡ t → times n sorted ≤ times n more
+      no_more : (n : ℕ) (t : Bool) → touches (edge_at es n) at ≡ t → times n kept ≤ times n more
       no_more n true t = let e = kept_by n t in omega arith
       no_more n false t = let e = lost_by n t in omega arith
 
       whole : (n : ℕ) → n < length es → touches (edge_at es n) h ≡ true → (m : ℕ) → times n more ≡ m
-          → times n (sorted ++ numbers_of (pending_at at ss)) ≡ 1
+          → times n (kept ++ numbers_of (pending_at at ss)) ≡ 1
       whole n k t zero e = none_of (times n (live ++ numbers_of ss)) (times n more)
-          (times n (numbers_of (pending_at at ss))) _ (times n sorted)
+          (times n (numbers_of (pending_at at ss))) _ (times n kept)
           (counted n) (both_times n) ((later h dh o).all n k t) e (no_more n (touches (edge_at es n) at) refl)
       whole n k t (suc m) e =
           let b = standing IsBegun n more each_begun (some m (times n more) e) in
           let here : touches (edge_at es n) at ≡ true = touch_both (edge_at es n) at b.1
           (goes_on_before (edge_at es n) at h d dh o (touch_parts (edge_at es n) h t).1) in
           equal (times n (live ++ numbers_of ss)) (times n more) (times n (numbers_of (pending_at at ss))) _
-          (times n sorted)
+          (times n kept)
           (counted n) (both_times n) ((later h dh o).all n k t) (kept_by n here)

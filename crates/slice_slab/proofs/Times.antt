@@ -1,10 +1,10 @@
 -- How often a number stands in a list.
-use Rattle.std.proofs.Common.{◌≡◌, ℕ, ◌+◌, ◌<◌, ◌≤◌, suc, Bool, true, false, cond, List, [], ◌∷◌, ◌++◌, length, get_or, filter, refl, sym, ap, ap₂, ◌∙◌, arith, subst, zero-add, true≢false, IsPermutation}
+use Rattle.std.proofs.Common.{◌≡◌, ℕ, ◌+◌, ◌<◌, ◌≤◌, suc, Bool, true, false, cond, List, [], ◌∷◌, ◌++◌, filter, refl, sym, ap, ap₂, ◌∙◌, arith, subst, zero-add, true≢false, IsPermutation}
 use Rattle.std.specs.Prelude.{◌==◌, if◌then◌else◌, sum_by}
 use Rattle.std.specs.List.{AllByRecursion}
 use Rattle.std.specs.List.Sorted.{IsNonDecreasingBy}
 use Rattle.std.proofs.lemmas.List.Sums.{sum_by-cons}
-use Rattle.std.proofs.lemmas.List.Sorted.{sum_by-IsPermutation}
+use Rattle.std.proofs.lemmas.List.Sorted.{sum_by-IsPermutation, IsPermutation-refl, IsPermutation-sym, IsPermutation-trans, IsPermutation-cons, IsPermutation-middle}
 use Rattle.std.proofs.lemmas.List.Elements.{recursion_from_All}
 use Rattle.slice_slab.specs.Bundles.{Ascends}
 use Rattle.slice_slab.specs.Active.{times}
@@ -121,3 +121,48 @@ ascends_from (x ∷ xs) h = (
   recursion_from_All (λ j. x ≤ j) xs (λ k d o. h 0 (suc k) d (omega arith) (omega arith)),
   ascends_from xs (λ i j d o q. h (suc i) (suc j) d (omega arith) (omega arith)),
 )
+
+-- ---- lists with the same numbers, each as often
+-- a number that stands in a list can be taken out
+take_out : (n : ℕ) (xs : List ℕ) → 1 ≤ times n xs → (rest : List ℕ) × IsPermutation xs (n ∷ rest)
+take_out n [] h = absurd (omega arith)
+take_out n (k ∷ ks) h = by_test (k == n) refl (take_out n ks)
+  where
+    by_test : (t : Bool) → (k == n) ≡ t → (1 ≤ times n ks → (rest : List ℕ) × IsPermutation ks (n ∷ rest))
+        → (rest : List ℕ) × IsPermutation (k ∷ ks) (n ∷ rest)
+    by_test true e r = (
+      ks,
+      subst (λ (z : ℕ). IsPermutation (k ∷ ks) (z ∷ ks)) (same_number k n e) (IsPermutation-refl (k ∷ ks)),
+    )
+    by_test false e r =
+        let t = r (subst (λ (m : ℕ). 1 ≤ m) (times_other n k ks e) h) in (
+          k ∷ t.0,
+          IsPermutation-trans (k ∷ ks) (k ∷ (n ∷ t.0)) (n ∷ (k ∷ t.0)) (IsPermutation-cons k ks (n ∷ t.0) t.1)
+              (IsPermutation-middle (k ∷ []) n t.0),
+        )
+
+-- are rearrangements of one another
+pub from_times : (xs ys : List ℕ) → ((n : ℕ) → times n xs ≡ times n ys) → IsPermutation xs ys
+from_times [] [] h = IsPermutation-refl []
+from_times [] (y ∷ ys) h = absurd (none_stands (times y ys) (times y (y ∷ ys)) (h y) (times_here y ys))
+from_times (x ∷ xs) ys h =
+    let t = take_out x ys (at_least (times x ys) (times x (x ∷ xs)) (times x xs) (h x) (times_here x xs)) in
+    IsPermutation-trans (x ∷ xs) (x ∷ t.0) ys
+    (IsPermutation-cons x xs t.0 (from_times xs t.0
+    (λ n. rest (if x == n then 1 else 0) (times n xs) (times n t.0) (times n ys) (h n)
+    (times_permuted n ys (x ∷ t.0) t.1))))
+    (IsPermutation-sym ys (x ∷ t.0) t.1)
+  where
+    at_least : (m k l : ℕ) → k ≡ m → k ≡ 1 + l → 1 ≤ m
+    at_least m k l p q = omega arith
+
+    rest : (a b c m : ℕ) → a + b ≡ m → a + c ≡ m → b ≡ c
+    rest a b c m p q = omega arith
+
+-- so are what a test leaves of them
+pub filter_permuted : (p : ℕ → Bool) (xs ys : List ℕ) → IsPermutation xs ys → IsPermutation (filter p xs) (filter p ys)
+filter_permuted p xs ys m = from_times (filter p xs) (filter p ys) (λ n. by_test n (p n) refl)
+  where
+    by_test : (n : ℕ) (t : Bool) → p n ≡ t → times n (filter p xs) ≡ times n (filter p ys)
+    by_test n true e = times_kept p n e xs ∙ sym (times_permuted n xs ys m) ∙ sym (times_kept p n e ys)
+    by_test n false e = times_lost p n e xs ∙ sym (times_lost p n e ys)

@@ -1,5 +1,5 @@
 -- The edges that meet a height, as it rises.
-use Rattle.std.specs.Prelude.{Bool, true, if◌then◌else◌, List, [], ◌∷◌, ◌++◌, drop, ℕ, ◌+◌, ◌==◌, ◌<◌, ◌≤◌, ◌≡◌, length, pos, ◌*ℤ◌, ◌<ℤ◌, int_le, All}
+use Rattle.std.specs.Prelude.{true, if◌then◌else◌, List, [], ◌∷◌, ◌++◌, drop, ℕ, ◌+◌, ◌==◌, ◌<◌, ◌≤◌, ◌≡◌, length, pos, ◌*ℤ◌, ◌<ℤ◌, int_le, All}
 use Rattle.std.specs.List.{AllByRecursion}
 use Rattle.scad_geom.specs.declared.level.Level.{Level}
 use Rattle.scad_geom.specs.declared.level.LeafEdge.{LeafEdge}
@@ -11,7 +11,7 @@ use Rattle.slice_slab.specs.Bundles.{edge_at}
 use Rattle.slice_slab.specs.Touching.{touches}
 use Rattle.slice_slab.specs.Starts.{AreStarts, AreRising, numbers_of}
 
--- the numbers of the edges that meet the height it stands at, ascending
+-- the numbers of the edges that meet the height it stands at
 abbrev pub live_in : Active → List ℕ
 live_in a = a.live.items
 

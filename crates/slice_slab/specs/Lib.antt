@@ -1,3 +1,4 @@
+pub mod Numbers
 pub mod Bundles
 pub mod Passages
 pub mod KeptOrder

@@ -1,5 +1,5 @@
 //! The passages of the edges that reach two heights.
-ghost use Rattle.std.specs.Prelude.{◌≡◌, ◌<◌, ◌^◌, ◌*ℤ◌, ◌<ℤ◌, pos, int_le, true, length, filter, IfOk, All};
+ghost use Rattle.std.specs.Prelude.{◌≡◌, ◌<◌, ◌^◌, ◌++◌, ◌*ℤ◌, ◌<ℤ◌, pos, int_le, true, not, length, filter, IfOk, OnOk, All};
 ghost use Rattle.scad_geom.specs.Limits.{coordinate_limit};
 ghost use Rattle.scad_geom.specs.Line.{low, high, rise};
 ghost use Rattle.scad_geom.specs.Within.{IsEdgeWithin};
@@ -35,13 +35,14 @@ pub(crate) fn passages(
     Ok(out)
 }
 
-/// The same, of the edges with these numbers.
+/// The same, of the edges with these numbers. The numbers of the others are added to a list.
 pub(crate) fn passages_among(
     alloc: Global,
     edges: &[LeafEdge],
     numbers: &[u32],
     lower: &Level,
     upper: &Level,
+    others: &mut Vec<u32>,
 ) -> Result<Vec<Passage>, AllocError>
     requires within { All (λ e. IsEdgeWithin coordinate_limit e.edge) edges.now }
     requires few { length edges.now < 2 ^ 32 }
@@ -51,11 +52,15 @@ pub(crate) fn passages_among(
     ensures numbers { IfOk result (λ v. numbers_of v.items
         ≡ filter (λ k. reaches (edge_at edges.now k) lower.now upper.now) numbers.now) }
     ensures passages { IfOk result (λ v. All (IsPassageOf edges.now lower.now) v.items) }
+    ensures others { OnOk result (others.new.items ≡ others.old.items
+        ++ filter (λ k. not (reaches (edge_at edges.now k) lower.now upper.now)) numbers.now) }
 {
     let mut out = Vec::new(alloc);
     'numbers: for k in numbers {
         if reaches_at(edges, *k as usize, lower, upper) {
             out.push(passage(edges, *k as usize, lower))?;
+        } else {
+            others.push(*k)?;
         }
     }
     Ok(out)

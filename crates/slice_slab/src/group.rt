@@ -1,5 +1,5 @@
 //! Neighbouring passages that coincide, in bundles.
-ghost use Rattle.std.specs.Prelude.{◌≡◌, ◌<◌, ◌∷◌, [], ◌++◌, length, IfOk, OnOk};
+ghost use Rattle.std.specs.Prelude.{◌≡◌, ◌<◌, ◌∷◌, [], ◌++◌, length, IfOk, OnOk, IfSome};
 ghost use Rattle.slice_slab.specs.Passages.{bundles_of, is_aligned, ends_bundle};
 
 use crate::bundle::Bundle;
@@ -28,9 +28,32 @@ fn close(alloc: Global, out: &mut Vec<Bundle>, current: &mut Vec<u32>) -> Result
     ensures out { OnOk result (out.new.items ≡ out.old.items ++ current.old.items ∷ []) }
     ensures current { OnOk result (current.new.items ≡ []) }
 {
-    let numbers = mem::replace(current, Vec::new(alloc));
-    out.push(Bundle::from_vec(numbers))?;
+    out.push(taken(alloc, current))?;
     Ok(())
+}
+
+// Takes the numbers out. One alone leaves the memory to those of the next bundle.
+fn taken(alloc: Global, current: &mut Vec<u32>) -> Bundle
+    ensures bundle { result ≡ current.old.items }
+    ensures current { current.new.items ≡ [] }
+{
+    match alone(current.as_slice()) {
+        Some(edge) => {
+            current.clear();
+            Bundle::of_one(edge)
+        }
+        None => Bundle::from_vec(mem::replace(current, Vec::new(alloc))),
+    }
+}
+
+// The number of a list that has one alone.
+fn alone(numbers: &[u32]) -> Option<u32>
+    ensures { IfSome result (λ k. numbers.now ≡ k ∷ []) }
+{
+    match numbers {
+        [edge] => Some(*edge),
+        _ => None,
+    }
 }
 
 // Whether the passage doesn't coincide with the next, or is the last.

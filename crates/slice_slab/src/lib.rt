@@ -10,6 +10,7 @@ mod group;
 pub mod laws;
 mod lifting;
 mod lower_ends;
+mod numbers;
 mod order;
 mod passage;
 mod rising_edges;

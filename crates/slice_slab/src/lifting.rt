@@ -1,5 +1,6 @@
 //! The calls that lift the edges' height.
 ghost use Rattle.std.specs.Prelude.{◌≡◌, ◌<◌, ◌^◌, List, length, IfOk, OnOk, All};
+ghost use Rattle.std.specs.List.Sorted.{IsPermutation};
 ghost use Rattle.scad_geom.specs.declared.level.Level.{Level};
 ghost use Rattle.scad_geom.specs.declared.level.LeafEdge.{LeafEdge};
 ghost use Rattle.scad_geom.specs.Limits.{coordinate_limit};
@@ -41,12 +42,11 @@ impl Active {
         requires few { length edges.now < 2 ^ 32 }
         requires at { IsLevelWithin coordinate_limit at.now }
         requires ready { IsReadyFor edges.now at.now self.old }
-        ensures live { OnOk result (live_in self.new ≡ touching 0 edges.now at.now) }
+        ensures live { OnOk result (IsPermutation (touching 0 edges.now at.now) (live_in self.new)) }
         ensures stands { OnOk result (StandsAt edges.now at.now self.new) }
     {
         self.begun = begin(&mut self.live, &self.starts, self.begun, at)?;
-        let mut live = touching_among(self.alloc, edges, &self.live, at)?;
-        live.sort_unstable();
+        let live = touching_among(self.alloc, edges, &self.live, at)?;
         self.live = live;
         Ok(())
     }
@@ -64,16 +64,18 @@ impl Active {
         requires upper { IsLevelWithin coordinate_limit upper.now }
         requires neighbours { AreNeighbours edges.now lower.now upper.now }
         requires ready { IsReadyFor edges.now lower.now self.old }
-        ensures live { OnOk result (live_in self.new ≡ touching 0 edges.now lower.now) }
+        ensures live { OnOk result (IsPermutation (touching 0 edges.now lower.now) (live_in self.new)) }
         ensures bundles { OnOk result (AreBundles edges.now lower.now upper.now (bundles_in self.new)) }
         ensures stands { OnOk result (StandsAt edges.now lower.now self.new) }
     {
         self.lift(edges, lower)?;
-        self.bundles = slab_among(self.alloc, edges, &self.live, lower, upper)?;
+        let bundles = slab_among(self.alloc, edges, &mut self.live, lower, upper)?;
+        self.bundles = bundles;
         Ok(())
     }
 
-    /// The numbers, ascending, of the edges that meet the height where it stands, flat ones among them.
+    /// The numbers of the edges that meet the height where it stands, flat ones among them: after `advance` those in
+    /// the bundles from left to right, then the others, so that the next sort finds them almost in order.
     pub fn touching(&self) -> &[u32]
         ensures { result.now ≡ live_in self.now }
     {

@@ -1,12 +1,12 @@
 //! The bundles between two neighbouring heights.
-ghost use Rattle.std.specs.Prelude.{◌≡◌, ◌<◌, ◌^◌, length, OnOk, IfOk, All};
+ghost use Rattle.std.specs.Prelude.{◌≡◌, ◌<◌, ◌^◌, ◌++◌, length, OnOk, IfOk, All};
 ghost use Rattle.std.specs.List.Sorted.{IsPermutation};
 ghost use Rattle.scad_geom.specs.Limits.{coordinate_limit};
 ghost use Rattle.scad_geom.specs.Within.{IsEdgeWithin};
 ghost use Rattle.scad_geom.specs.Level.{IsLevelWithin};
 ghost use Rattle.scad_geom.specs.Heights.{AreNeighbours};
 ghost use Rattle.slice_slab.specs.Bundles.{AreBundles};
-ghost use Rattle.slice_slab.specs.Passages.{AreSorted};
+ghost use Rattle.slice_slab.specs.Passages.{AreSorted, numbers_of};
 ghost use Rattle.slice_slab.specs.Touching.{touching};
 
 use crate::bundle::Bundle;
@@ -37,11 +37,12 @@ pub fn slab(
     group(alloc, &passages)
 }
 
-/// The same, from the numbers of the edges that meet the lower level.
+/// The same, from the numbers of the edges that meet the lower level. These are put in order: first those in the
+/// bundles, from left to right.
 pub(crate) fn slab_among(
     alloc: Global,
     edges: &[LeafEdge],
-    numbers: &[u32],
+    numbers: &mut Vec<u32>,
     lower: &Level,
     upper: &Level,
 ) -> Result<Vec<Bundle>, AllocError>
@@ -50,12 +51,31 @@ pub(crate) fn slab_among(
     requires lower { IsLevelWithin coordinate_limit lower.now }
     requires upper { IsLevelWithin coordinate_limit upper.now }
     requires neighbours { AreNeighbours edges.now lower.now upper.now }
-    requires numbers { numbers.now ≡ touching 0 edges.now lower.now }
-    ensures { IfOk result (λ v. AreBundles edges.now lower.now upper.now v.items) }
+    requires numbers { IsPermutation (touching 0 edges.now lower.now) numbers.old.items }
+    ensures bundles { IfOk result (λ v. AreBundles edges.now lower.now upper.now v.items) }
+    ensures numbers { OnOk result (IsPermutation numbers.old.items numbers.new.items) }
 {
-    let mut passages = passages_among(alloc, edges, numbers, lower, upper)?;
+    let mut others = Vec::new(alloc);
+    let mut passages = passages_among(alloc, edges, numbers.as_slice(), lower, upper, &mut others)?;
     sort(&mut passages)?;
+    put_in_order(numbers, &passages, &others)?;
     group(alloc, &passages)
+}
+
+// The numbers of passages in their order, then others.
+fn put_in_order(
+    numbers: &mut Vec<u32>,
+    passages: &[Passage],
+    others: &[u32],
+) -> Result<(), AllocError>
+    ensures { OnOk result (numbers.new.items ≡ numbers_of passages.now ++ others.now) }
+{
+    numbers.clear();
+    'passages: for p in passages {
+        numbers.push(p.number)?;
+    }
+    numbers.extend_from_slice(others)?;
+    Ok(())
 }
 
 fn sort(passages: &mut Vec<Passage>) -> Result<(), AllocError>

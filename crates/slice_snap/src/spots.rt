@@ -27,7 +27,10 @@ pub(crate) fn compare_spots(s: &Spot, t: &Spot) -> Ordering
     requires t { IsSpotWithin coordinate_limit t.now }
     ensures { result ≡ spot_cmp s.now t.now }
 {
-    compare_levels(&s.at, &t.at).then(x_times_run(s, t).cmp(&x_times_run(t, s)))
+    match compare_levels(&s.at, &t.at) {
+        Ordering::Equal => x_times_run(s, t).cmp(&x_times_run(t, s)),
+        unequal => unequal,
+    }
 }
 
 fn compare_levels(p: &Level, q: &Level) -> Ordering

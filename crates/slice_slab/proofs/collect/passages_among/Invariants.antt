@@ -1,4 +1,4 @@
-use Rattle.std.proofs.Common.{◌≡◌, ◌++◌, drop, filter}
+use Rattle.std.proofs.Common.{◌≡◌, ◌++◌, drop, filter, not}
 use Rattle.std.specs.List.{All}
 use Rattle.slice_slab.specs.Bundles.{edge_at, reaches}
 use Rattle.slice_slab.specs.Passages.{numbers_of, IsPassageOf}
@@ -10,4 +10,6 @@ invariant-numbers l = record {
       (drop l.k-index l.numbers)
       ≡ filter (λ k. reaches (edge_at l.edges k) l.lower l.upper) l.numbers;
   passages : All (IsPassageOf l.edges l.lower) l.out.items;
+  others : l.others.items ++ filter (λ k. not (reaches (edge_at l.edges k) l.lower l.upper)) (drop l.k-index l.numbers)
+      ≡ l.fn.others.items ++ filter (λ k. not (reaches (edge_at l.edges k) l.lower l.upper)) l.numbers;
 }

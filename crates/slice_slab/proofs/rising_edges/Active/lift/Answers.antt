@@ -1,15 +1,13 @@
--- Those that have begun, without those that ended, in order, are the edges that meet the height.
+-- Those that have begun, without those that ended, are the edges that meet the height.
 use Rattle.std.proofs.Common.{◌≡◌, ◌<◌, ◌≤◌, ◌++◌, sym, ap, ◌∙◌, subst, drop, filter, List, ℕ, length, All}
-use Rattle.std.specs.List.{AllByRecursion}
-use Rattle.std.proofs.lemmas.List.Elements.{recursion_from_All, All-from_recursion, All-drop}
-use Rattle.std.proofs.lemmas.List.Sorted.{IsNonDecreasingBy-from_sort}
+use Rattle.std.proofs.lemmas.List.Elements.{recursion_from_All, All-drop}
+use Rattle.std.proofs.lemmas.List.Sorted.{All-permutation}
 use Rattle.scad_geom.proofs.Heights.{at_most_chain}
 use Rattle.slice_slab.specs.declared.start.Start.{Start}
 use Rattle.slice_slab.specs.Bundles.{edge_at}
 use Rattle.slice_slab.specs.Touching.{touches, touching}
 use Rattle.slice_slab.specs.Starts.{IsStartOf, numbers_of, begun_at, pending_at}
 use Rattle.slice_slab.specs.Active.{CoverHeight}
-use Rattle.slice_slab.proofs.Times.{ascends_from}
 use Rattle.slice_slab.proofs.Beginning.{rising_drop}
 use Rattle.slice_slab.proofs.Standing.{all_more, all_there, live_touches, stands}
 use Rattle.slice_slab.proofs.rising_edges.Active.lift.Goals as goal
@@ -39,15 +37,10 @@ returns-clause-live c =
     c.in_ok-self.ensures.begun ∙ ap (λ (xs : List Start). a.live.items ++ numbers_of (begun_at at (drop a.begun xs)))
     c.deref.ensures.value in
     live_touches es at c.requires.at.positive ss a.live.items c.begin.new.live.items c.in_ok-live.live.items
-    c.sort_unstable.new.self.items
     (recursion_from_All (λ k. k < length es) a.live.items c.requires.ready.there)
     (recursion_from_All (IsStartOf es) ss (All-drop (IsStartOf es) a.begun a.starts.items c.requires.ready.starts))
     (rising_drop a.begun a.starts.items c.requires.ready.rising) c.requires.ready.later more-is
-    (c.in_ok-live.ensures ∙ ap (λ (ks : List ℕ). filter (λ k. touches (edge_at es k) at) ks)
-    c.deref-2.ensures.value)
-    c.sort_unstable.ensures.permutation
-    (ascends_from c.sort_unstable.new.self.items (IsNonDecreasingBy-from_sort (λ x. x) c.sort_unstable.new.self.items
-    c.sort_unstable.ensures.sorted))
+    (c.in_ok-live.ensures ∙ ap (λ (ks : List ℕ). filter (λ k. touches (edge_at es k) at) ks) c.deref-2.ensures.value)
 
 pub returns-clause-stands : goal.returns-clause-stands
 returns-clause-stands c =
@@ -62,21 +55,17 @@ returns-clause-stands c =
     subst (λ (xs : List Start). drop c.in_ok-self.field-0 xs ≡ pending_at at (drop a.begun xs)) c.deref.ensures.value
     c.in_ok-self.ensures.pending in
     let stand = stands es at c.requires.at.positive ss a.live.items c.begin.new.live.items c.in_ok-live.live.items
-    c.sort_unstable.new.self.items
     (recursion_from_All (λ k. k < length es) a.live.items c.requires.ready.there)
     (recursion_from_All (IsStartOf es) ss (All-drop (IsStartOf es) a.begun a.starts.items c.requires.ready.starts))
     (rising_drop a.begun a.starts.items c.requires.ready.rising) c.requires.ready.later more-is
-    (c.in_ok-live.ensures ∙ ap (λ (ks : List ℕ). filter (λ k. touches (edge_at es k) at) ks)
-    c.deref-2.ensures.value)
-    c.sort_unstable.ensures.permutation
-    (ascends_from c.sort_unstable.new.self.items (IsNonDecreasingBy-from_sort (λ x. x) c.sort_unstable.new.self.items
-    c.sort_unstable.ensures.sorted)) in
+    (c.in_ok-live.ensures ∙ ap (λ (ks : List ℕ). filter (λ k. touches (edge_at es k) at) ks) c.deref-2.ensures.value) in
     λ h d o. record {
       starts = c.requires.ready.starts;
       rising = c.requires.ready.rising;
       begun = subst (λ (xs : List Start). c.in_ok-self.field-0 ≤ length xs) c.deref.ensures.value
           c.in_ok-self.ensures.within;
-      there = subst (All (λ k. k < length es)) (sym (returns-clause-live c)) (all_there es at);
-      later = λ g dg og. subst (CoverHeight es g c.sort_unstable.new.self.items) (sym pending)
+      there = All-permutation (λ k. k < length es) (touching 0 es at) c.in_ok-live.live.items
+          (returns-clause-live c) (all_there es at);
+      later = λ g dg og. subst (CoverHeight es g c.in_ok-live.live.items) (sym pending)
           (stand g dg (at_most_chain at h g c.requires.at.positive d dg o og));
     }
