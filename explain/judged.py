@@ -142,6 +142,8 @@ def why_no_outlines(name, line):
     row, before = row_of(name, line), row_of(name, line - 1)
     if line <= len(HEAD):
         return f": line {line} has to be `{HEAD[line - 1]}`"
+    if not is_regular(name):
+        return ""
     if row is None:
         return f": the file ends before `{END.decode()}`"
     if before == END:

@@ -269,6 +269,8 @@ def bad_outlines(told):
            last, b"$$HATCHES/1,2,0,0,1,1\n" + last),
         of("with_another_number_of_layers", ["o.cli:5: CountDiffers\n    5 | $$LAYERS/2", ": said is 2, there are 1"],
            b"LAYERS/1", b"LAYERS/2"),
+        told("outlines_from_a_pipe", 9, ["/dev/stdin:10: BadLine\n", "in its place\n"], [b"verify", b"/dev/stdin", b"o.gcode"],
+             files={"n.cli": OUTLINES.replace(last, b""), "o.gcode": PROGRAM}, shell='cat n.cli | "$@" >report'),
         of("that_are_open", ["o.cli:9: OpenLoop\n    9 | $$POLYLINE", "four points at least"], b",0,0\n", b",0,1\n"),
         told("outlines_that_are_not_there", 4, ["the file CLI `O.cli`: there is no such file; beside it is `o.cli`"],
              [b"verify", b"O.cli", b"o.gcode"], files={"o.cli": OUTLINES, "o.gcode": PROGRAM}),

@@ -129,7 +129,7 @@ def random_pairs():
 # Streams, names and limits
 
 def files():
-    """A pair that is inside: outlines without layers, and a program without moves."""
+    """A pair that is inside: outlines without layers, and a program that extrudes nothing."""
     head = b"$$HEADERSTART\n$$ASCII\n$$UNITS/0.001\n$$VERSION/200\n$$LAYERS/0\n$$HEADEREND\n$$GEOMETRYSTART\n"
     return head + b"$$GEOMETRYEND\n", b"G28\nG1 X5\n"
 
@@ -200,7 +200,6 @@ def long():
 
 def memory():
     """A program of many comments, which are no move."""
-    asked = lambda status=0, report=INSIDE, given=None, left=None, **more: judged(
-        "", files(), status, report, **more, **({"given": given, "left": left} if given else {}))
+    asked = lambda status=0, report=INSIDE, **more: judged("", files(), status, report, **more)
     given = dict(zip(NAMES, (files()[0], b"; a comment\n" * 1_000_000)))
     return MemoryCheck("verify_of_a_program_that_memory_cannot_hold", given, asked)
