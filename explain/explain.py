@@ -37,6 +37,8 @@ def told_after(status, program, words):
         return headed("", files.read_fault(job))
     if status == 5:
         return headed("", files.write_fault(job))
+    if status == 6 and job.command == "verify":
+        return headed("", ["; ".join(BUDGETS[12][1:])])
     if status in (1, 3, 6):
         return on_line(status, job, program)
     if status > 128:
@@ -69,7 +71,7 @@ def on_line(status, job, program):
 def layer_budgets():
     """What helps against each budget of one layer; the report's last line names the one that was passed."""
     told = [f"{name}: {limit}; what helps: {helps}"
-            for number, (name, limit, helps) in BUDGETS.items() if number > 6]
+            for number, (name, limit, helps) in BUDGETS.items() if 6 < number < 10]
     return ["scadslice: the report's last line names the limit, and its layer:", *told]
 
 

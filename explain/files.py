@@ -14,6 +14,8 @@ def read_fault(job):
     """Lines on the files that can't be read."""
     given = [("settings", job.settings)] * (job.settings is not None)
     given += [("source", job.names["MODEL"])] * ("MODEL" in job.names)
+    if job.command == "verify":
+        given += [("outlines", job.names["CLI"]), ("printing program", job.names["GCODE"])]
     told = [f"the {what} {named(name)}: {why}{beside(name)}"
             for what, name in given if (why := why_unreadable(name))]
     return told or [f"{' and '.join(named(name) for _, name in given)} can be read now: a device failed, "
@@ -41,7 +43,7 @@ def write_fault(job):
     """Lines on the outputs that can't be made or written."""
     inputs = {it: job.names[it] for it in ("MODEL",) if it in job.names}
     inputs |= {"FILE": job.settings} if job.settings is not None else {}
-    outputs = {it: job.names[it] for it in ("CLI", "GCODE") if it in job.names}
+    outputs = {it: job.names[it] for it in ("CLI", "GCODE") if it in job.names and job.command != "verify"}
     told = []
     for what, name in outputs.items():
         why = why_same(name, inputs) or why_unwritable(name)

@@ -10,6 +10,7 @@ COMMANDS = {
     "slice": (["MODEL", "CLI"], "writes the outlines of its layers to the file CLI"),
     "plan": (["MODEL", "CLI", "GCODE"], "writes the printing program too, to the file GCODE"),
     "sample": (["N"], "plans a plate with 36 holes that the number N gives, and writes no file"),
+    "verify": (["CLI", "GCODE"], "judges whether the moves of a printing program stay inside outlines"),
 }
 
 # The options of every command.
@@ -29,6 +30,9 @@ STATUSES = {
     6: ("Over", "a limit was passed"),
     7: ("Memory", "there was too little memory: close other programs, take fewer --workers, or split the part; "
                   "files that were begun are not whole"),
+    8: ("Outside", "a move leaves the outlines of its layer, or comes nearer to them than half of `line_width`: "
+                   "docs/formats.md, \"The verdict\""),
+    9: ("BadFile", "the outlines or the printing program aren't of the form: docs/formats.md, \"The verdict\""),
 }
 
 # Signals that end the program, and why they most likely came.
@@ -86,6 +90,7 @@ BUDGETS = {
         "fewer parts that lie across one another; a smaller `line_width`, fewer `walls`"),
     9: ("LayerMoves", "a layer has more than 200,000 extruding moves", "a greater `infill_spacing`"),
     10: ("HullPoints", "a hull has more than 20,000 distinct points", "a smaller `$fn` of what it is round"),
+    12: ("FileLong", "the outlines or the printing program have more than 268,435,456 bytes", "judge a print in parts"),
 }
 
 # The faults of settings: the name, and what it means.

@@ -142,7 +142,8 @@ def same_slip(job):
     for word, name in given.items():
         for other in given:
             if word != other and name == given[other]:
-                return f"{word} and {other} are both `{name}`, and would overwrite one another"
+                behind = "" if job.command == "verify" else ", and would overwrite one another"
+                return f"{word} and {other} are both `{name}`{behind}"
     return ""
 
 

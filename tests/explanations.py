@@ -56,7 +56,7 @@ def check_numbers(hold, rows_of, text_of, language, formats):
     hold("faults of settings of the program", names(table.SETTINGS_FAULTS), rust("settings", "SetKind"))
     told = {int(row["Status"]): row["Name"] for row in rows_of(formats, "Status")}
     hold("statuses of docs/formats.md", names(table.STATUSES), told)
-    codes = re.findall(r"Status::(\w+)\S* => (\d+),", text_of("crates/scad_fault/src/status.rt"))
+    codes = re.findall(r"Status::(\w+)[^=\n]* => (\d+),", text_of("crates/scad_fault/src/status.rt"))
     hold("statuses of the program", names(table.STATUSES), {int(number): it for it, number in codes})
     check_limits(hold, rows_of, language, formats)
 
