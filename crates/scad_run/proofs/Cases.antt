@@ -8,7 +8,7 @@ use Rattle.scad_script.specs.declared.refusal.Refusal.{Refusal}
 use Rattle.scad_script.specs.declared.stop.Stop.{Stop}
 use Rattle.scad_script.specs.Steps.{Step, Reads}
 use Rattle.scad_script.specs.Script.{Script, Refuses, first, ends, input_of}
-use Rattle.scad_script.specs.Played.{Left, Stops, EndsIn, Completes}
+use Rattle.scad_script.specs.Played.{Left, Stops, EndsIn, Completes, HasRisen}
 use Rattle.scad_script.proofs.Layers.{as_left}
 use Rattle.cli_text.specs.Cli.{Layer}
 use Rattle.cli_read.specs.declared.fault.CliFault.{CliFault}
@@ -189,3 +189,13 @@ opinion_ends opinions width count program layers verdict result right is_width i
     let opinion = opinions layers width program in
     subst (λ (n : ℕ). IsEnd (ends (opinion_end n opinion)) result) same
     (told opinion (answers_opinion layers width program verdict opinion is (right layers width program is_width)))
+
+-- an end is no fault
+pub no_rise : (script : Script) (result : Result (List ℕ) Stop) (before now : ℕ) → IsEnd script result
+    → HasRisen result before now
+no_rise script (Ok line) before now is = tt
+no_rise script (Err (Stop.Ends refusal)) before now is = λ same. let never : ⊥ = cc in absurd never
+no_rise script (Err Stop.Memory) before now is = λ same. let never : ⊥ = cc in absurd never
+no_rise script (Err Stop.Read) before now is = absurd is
+no_rise script (Err Stop.Write) before now is = absurd is
+no_rise script (Err Stop.Silent) before now is = absurd is

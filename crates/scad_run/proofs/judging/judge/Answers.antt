@@ -1,5 +1,8 @@
 use Rattle.std.proofs.Common.{rules}
-use Rattle.scad_run.proofs.Cases.{stops_at_outlines, stops_at_program, judges_both}
+use Rattle.scad_script.specs.Script.{ends}
+use Rattle.verdict_laws.proofs.Deciding.{opinions_are_there}
+use Rattle.scad_run.specs.Judging.{judgement}
+use Rattle.scad_run.proofs.Cases.{stops_at_outlines, stops_at_program, judges_both, no_rise}
 use Rattle.scad_run.proofs.judging.judge.Goals as goal
 
 pub returns-in_err-outlines-clause-judges : goal.returns-in_err-outlines-clause-judges
@@ -22,3 +25,8 @@ returns-clause-judges g c =
     (g.D.Desk.view c.args.desk.now) (g.D.Desk.view c.load_whole.new.desk) (g.D.Desk.view c.load_whole-2.new.desk)
     c.load_whole.ensures.files c.in_ok-outlines.ensures.loads c.in_ok-program.program c.as_slice.result.now
     c.as_slice-2.result.now c.in_ok-program.ensures.loads c.as_slice.ensures c.as_slice-2.ensures c.judged.ensures
+
+pub returns-clause-cause : goal.returns-clause-cause
+returns-clause-cause g c =
+    no_rise (ends (judgement opinions_are_there.0 c.args.line_width c.as_slice.result.now c.as_slice-2.result.now))
+    c.judged.result _ _ (c.judged.ensures opinions_are_there.0 opinions_are_there.1)
