@@ -15,4 +15,6 @@ mod slices;
 #[cfg(test)]
 mod sources;
 #[cfg(test)]
+mod verdicts;
+#[cfg(test)]
 mod workers;

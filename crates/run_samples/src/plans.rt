@@ -17,7 +17,7 @@ use std::thread::Threads;
 /// A plate of three millimetres, one layer thick.
 const PLATE: &str = "cube([3,3,0.2]);";
 
-const PLATE_OUTLINES: &str = "$$HEADERSTART
+pub const PLATE_OUTLINES: &str = "$$HEADERSTART
 $$ASCII
 $$UNITS/0.001
 $$VERSION/200
@@ -30,7 +30,7 @@ $$HATCHES/1,1,900,2000,2100,2000
 $$GEOMETRYEND
 ";
 
-const PLATE_PROGRAM: &str = "; scadslice
+pub const PLATE_PROGRAM: &str = "; scadslice
 G21
 G90
 M82

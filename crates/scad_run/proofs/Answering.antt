@@ -17,6 +17,8 @@ done_finishes steps (Refuses (Refusal.Source fault)) old new answered = let same
 done_finishes steps (Refuses Refusal.Usage) old new answered = let same = answered.0 in let never : ⊥ = cc in absurd never
 done_finishes steps (Refuses (Refusal.Settings fault)) old new answered = let same = answered.0 in let never : ⊥ = cc in absurd never
 done_finishes steps (Refuses (Refusal.Over budget)) old new answered = let same = answered.0 in let never : ⊥ = cc in absurd never
+done_finishes steps (Refuses (Refusal.Outside number line)) old new answered = let same = answered.0 in let never : ⊥ = cc in absurd never
+done_finishes steps (Refuses (Refusal.BadFile kind first second)) old new answered = let same = answered.0 in let never : ⊥ = cc in absurd never
 done_finishes steps Lacks old new answered = absurd answered
 
 -- with another it is refused, by a refusal of this status

@@ -2,10 +2,10 @@
 use Rattle.std.proofs.Common.{◌≡◌, ◌⊎◌, ◌<◌, ◌≤◌, List, ℕ, Option, Some, None, Ok, Err, inl, inr, refl, sym, ap, ◌∙◌, subst, arith}
 use Rattle.scad_fault.specs.declared.budget.Budget.{Budget}
 use Rattle.scad_fault.specs.declared.status.Status.{Status}
-use Rattle.scad_fault.specs.declared.status.Status.TheVariants.{Done, Source, Usage, Settings, Read, Write, Over, Memory}
+use Rattle.scad_fault.specs.declared.status.Status.TheVariants.{Done, Source, Usage, Settings, Read, Write, Over, Memory, Outside, BadFile}
 use Rattle.scad_io.specs.Desk.{Files, View}
 use Rattle.scad_words.specs.declared.job.Command.{Command}
-use Rattle.scad_words.specs.declared.job.Command.TheVariants.{Check, Tree, Slice, Plan, Sample}
+use Rattle.scad_words.specs.declared.job.Command.TheVariants.{Check, Tree, Slice, Plan, Sample, Verify}
 use Rattle.scad_words.specs.declared.job.Job.{Job}
 use Rattle.scad_words.specs.declared.settings.Settings.{Settings as SettingsOfRun}
 use Rattle.scad_words.specs.Settings.{AreInRange}
@@ -24,11 +24,11 @@ use Rattle.slice_work.specs.Part.{Part, layer_limit}
 use Rattle.scad_slice.specs.Budgets.{layer_count}
 use Rattle.scad_slice.specs.Parts.{IsPart}
 use Rattle.scad_slice.proofs.OneLayer.{layer_is_one}
-use Rattle.scad_run.specs.Words.{model_of, given_by}
+use Rattle.scad_run.specs.Words.{model_of, case_of, given_by}
 use Rattle.scad_run.specs.Told.{told}
-use Rattle.scad_run.specs.Answer.{Parts, follows, input_script, model_read_first, model_script, job_script, script_of}
+use Rattle.scad_run.specs.Answer.{Parts, Findings, follows, input_script, model_read_first, model_script, case_or, after_settings, job_script, script_of}
 use Rattle.scad_run.specs.Inputs.{Inputs, source_of, source_in, text_read, IsRead, settings_found, GoBy}
-use Rattle.scad_run.specs.Answer.{ArePartsOfTree, AreDrawn, AreParts}
+use Rattle.scad_run.specs.Answer.{ArePartsOfTree, AreDrawn, AreFoundBy, AreFound}
 use Rattle.scad_run.specs.Promises.{CanBeDrawn, Accepts, IsAccepted, IsComplete}
 use Rattle.scad_slice.specs.Layer.{IsWithinLimits}
 use Rattle.scad_run.specs.Causes.{HasManyLayers}
@@ -74,6 +74,7 @@ module _ (settings : SettingsOfRun) (tree : Solid) (in_range : AreInRange settin
   accepted_within (Plan model cli gcode) parts budget of_tree accepts over =
       drawn_within WithPlan _ _ (parts WithPlan settings) budget (as_part tree parts of_tree WithPlan settings in_range)
       accepts over
+  accepted_within (Verify outlines program) parts budget of_tree accepts over = over
   accepted_within (Sample n) parts budget of_tree accepts over =
       drawn_within WithPlan _ _ (parts WithPlan settings) budget (as_part tree parts of_tree WithPlan settings in_range)
       accepts over
@@ -112,17 +113,33 @@ done_by given whole Write old new finishes promised read write = absurd (write r
 done_by given whole (Over budget) old new (line, is) promised read write = inl (done_of whole line (Over budget) old new
     is promised)
 done_by given whole Memory old new finishes promised read write = inr refl
+done_by given whole (Outside number at) old new (line, is) promised read write =
+    inl (done_of whole line (Outside number at) old new is promised)
+done_by given whole (BadFile kind first second) old new (line, is) promised read write =
+    inl (done_of whole line (BadFile kind first second) old new is promised)
 
 -- no fault rose where the count stands
 no_rise : (before now : ℕ) → now ≡ before → before < now → ⊥
 no_rise before now same rises = omega (arith, same, rises)
 
+-- a command that has a source judges no files
+source_alone : (command : Command) (read : Option Input) (input : Input) → source_of command read ≡ Some input
+    → case_of command ≡ None
+source_alone (Check m) read input there = refl
+source_alone (Tree m) read input there = refl
+source_alone (Slice m cli) read input there = refl
+source_alone (Plan m cli gcode) read input there = refl
+source_alone (Sample n) read input there = refl
+source_alone (Verify outlines program) read input there = let never : ⊥ = cc in absurd never
+
 -- the script of a job whose source is accepted
-job_ends : (job : Job) (parts : Parts) (inputs : Inputs) (settings : SettingsOfRun) (source : List ℕ)
+job_ends : (job : Job) (findings : Findings) (inputs : Inputs) (settings : SettingsOfRun) (source : List ℕ)
     → settings_found job.settings inputs.settings ≡ Some settings → source_in (Some job) inputs ≡ Some (Whole source)
-    → IsAccepted job.command settings source → AreDrawn (source_in (Some job) inputs) parts
-    → (line : List ℕ) × ((job_script (Some job) parts inputs).ending ≡ Finishes line)
-job_ends job parts inputs settings source found there (tree, (s, is), accepts) drawn =
+    → IsAccepted job.command settings source → AreDrawn (source_in (Some job) inputs) findings.parts
+    → (line : List ℕ) × ((job_script (Some job) findings inputs).ending ≡ Finishes line)
+job_ends job findings inputs settings source found there (tree, (s, is), accepts) drawn =
+    let parts = findings.parts in
+    let alone = source_alone job.command inputs.model (Whole source) there in
     let of_source = subst (λ (i : Option Input). AreDrawn i parts) there drawn in
     let of_tree = parts_meant source tree parts (s, is) of_source in
     let are_solids = sources_mean_solids source tree s is in
@@ -130,7 +147,9 @@ job_ends job parts inputs settings source found there (tree, (s, is), accepts) d
     let ends = accepted_ends job.command settings parts tree in_range are_solids of_tree accepts
     (follows_end job.command settings parts tree) in (
       ends.0,
-      settings_end job.settings inputs.settings (model_script job.command parts inputs.model) settings found
+      settings_end job.settings inputs.settings (after_settings job.command findings inputs) settings found
+          ∙ ap (λ c. (case_or c findings inputs settings (model_script job.command parts inputs.model settings)).ending)
+          alone
           ∙ model_ends (model_of job.command) (input_script job.command settings parts
           (source_of job.command inputs.model))
           ∙ ap (λ i. (input_script job.command settings parts i).ending) there
@@ -143,32 +162,32 @@ job_ends job parts inputs settings source found there (tree, (s, is), accepts) d
     model_ends (Some model) rest = refl
 
 -- the script of the words, by what was read
-script_ends : (words : List (List ℕ)) (contents : List ℕ → Option (List ℕ)) (parts : Parts) (inputs : Inputs)
+script_ends : (words : List (List ℕ)) (contents : List ℕ → Option (List ℕ)) (findings : Findings) (inputs : Inputs)
     (job : Job)
     (settings : SettingsOfRun) (source : List ℕ) → IsRead words (Some contents) inputs → job_of words ≡ Some job
     → GoBy contents job.settings settings
     → source_of job.command (text_read (model_of job.command) contents) ≡ Some (Whole source)
     → IsAccepted job.command settings source
-    → AreParts words inputs parts
-    → (line : List ℕ) × ((script_of words parts inputs).ending ≡ Finishes line)
-script_ends words contents parts inputs job settings source is form go there accepted drawn =
+    → AreFound words inputs findings
+    → (line : List ℕ) × ((script_of words findings inputs).ending ≡ Finishes line)
+script_ends words contents findings inputs job settings source is form go there accepted drawn =
     let model = ap (λ i. i.model) is ∙ model_read_as words contents job form in
     let text = ap (λ i. i.settings) is ∙ settings_read_as words contents job form in
     let found : settings_found job.settings inputs.settings ≡ Some settings = ap (settings_found job.settings) text ∙ go
     in
     let whole : source_of job.command inputs.model ≡ Some (Whole source) = ap (source_of job.command) model ∙ there in
-    let of_job = subst (λ (j : Option Job). AreDrawn (source_in j inputs) parts) form drawn in
-    let ends = job_ends job parts inputs settings source found whole accepted of_job in
-    (ends.0, ap (λ j. (job_script j parts inputs).ending) form ∙ ends.1)
+    let of_job = subst (λ (j : Option Job). AreFoundBy (source_in j inputs) findings) form drawn in
+    let ends = job_ends job findings inputs settings source found whole accepted of_job.drawn in
+    (ends.0, ap (λ j. (job_script j findings inputs).ending) form ∙ ends.1)
 
-pub completes : (words : List (List ℕ)) (files : Files) (parts : Parts) (inputs : Inputs) (status : Status)
+pub completes : (words : List (List ℕ)) (files : Files) (findings : Findings) (inputs : Inputs) (status : Status)
     (old new : View) (before now : ℕ)
-    → IsRead words files inputs → AreParts words inputs parts → Promised (given_by words) (script_of words parts inputs)
+    → IsRead words files inputs → AreFound words inputs findings → Promised (given_by words) (script_of words findings inputs)
     status old new
     → (status ≡ Read → before < now) → (status ≡ Write → before < now) → IsComplete words files status before now
-completes words None parts inputs status old new before now is drawn promised read write = tt
-completes words (Some contents) parts inputs status old new before now is drawn promised read write =
+completes words None findings inputs status old new before now is drawn promised read write = tt
+completes words (Some contents) findings inputs status old new before now is drawn promised read write =
     λ job settings source form go there accepted same.
-    done_by (given_by words) (script_of words parts inputs) status old new
-    (script_ends words contents parts inputs job settings source is form go there accepted drawn)
+    done_by (given_by words) (script_of words findings inputs) status old new
+    (script_ends words contents findings inputs job settings source is form go there accepted drawn)
     promised (λ r. no_rise before now same (read r)) (λ w. no_rise before now same (write w))

@@ -6,7 +6,7 @@ use Rattle.scad_fault.specs.declared.status.Status.TheVariants.{Done, Source, Us
 use Rattle.scad_io.specs.Desk.{Files, View}
 use Rattle.scad_io.specs.declared.desk.Out.TheVariants.{Cli, Gcode}
 use Rattle.scad_words.specs.declared.job.Command.{Command}
-use Rattle.scad_words.specs.declared.job.Command.TheVariants.{Check, Tree, Slice, Plan, Sample}
+use Rattle.scad_words.specs.declared.job.Command.TheVariants.{Check, Tree, Slice, Plan, Sample, Verify}
 use Rattle.scad_words.specs.declared.job.Job.{Job}
 use Rattle.scad_words.specs.declared.settings.Settings.{Settings as SettingsOfRun}
 use Rattle.scad_words.specs.Settings.{AreInRange}
@@ -30,7 +30,7 @@ use Rattle.scad_slice.specs.Layer.{IsLayer}
 use Rattle.scad_slice.proofs.Parted.{budget_of_layer, slice_creates, plan_creates, slice_line, line_of_plan}
 use Rattle.scad_slice.proofs.Texts.{slice_cut, plan_cut, program_cut}
 use Rattle.scad_run.specs.Words.{given_by}
-use Rattle.scad_run.specs.Answer.{Parts, follows, job_script, script_of, ArePartsOfTree, AreDrawn, AreParts}
+use Rattle.scad_run.specs.Answer.{Parts, Findings, follows, job_script, script_of, ArePartsOfTree, AreDrawn, AreFoundBy, AreFound}
 use Rattle.scad_run.specs.Inputs.{Inputs, source_in, IsRead}
 use Rattle.scad_run.specs.Cut.{program_front, AreCut, IsCutBy, CutsFiles, FilesStand, CutsShort}
 use Rattle.scad_run.proofs.Working.{parts_meant}
@@ -38,7 +38,7 @@ use Rattle.scad_run.proofs.Sources.{as_part}
 use Rattle.scad_run.proofs.Heights.{found_in_range}
 use Rattle.scad_run.proofs.Silent.{slice_is_silent}
 use Rattle.scad_run.proofs.Planned.{layouts, layouts_number, written_is, plans_are, layers_each}
-use Rattle.scad_run.proofs.Reached.{IsStopped, IsFollowed, reached}
+use Rattle.scad_run.proofs.Reached.{IsFollowed, Reaches, reached}
 use Rattle.scad_run.proofs.Ends.{Cuts, IsDone, IsOver, EndsBy, follows_end}
 use Rattle.scad_run.proofs.Refused.{files_stand, many_quiet, sample_quiet}
 
@@ -100,9 +100,13 @@ module _ (s : SettingsOfRun) (tree : Solid) (in_range : AreInRange s) (budget : 
       ∙ ap (λ paths. program_head s.hot_end s.bed ++ layers_text (rates_of s) 0 0 paths) (plans_are part c.cut.layer))
       added.1))
   cut_by (Sample n) parts of_tree over added = inl (sample_quiet n s parts tree)
+  cut_by (Verify outlines program) parts of_tree over added = inl tt
 
 -- ---- a run
-module _ (parts : Parts) (inputs : Inputs) (budget : Budget) (old new : View) where
+module _ (found : Findings) (inputs : Inputs) (budget : Budget) (old new : View) where
+  abbrev parts : Parts
+  parts = found.parts
+
   abbrev Outcome : Option Job → Type 0
   Outcome job = FilesStand old new ⊎ ((given : Job) × (job ≡ Some given) × CutsFiles given inputs budget old new)
 
@@ -149,31 +153,33 @@ module _ (parts : Parts) (inputs : Inputs) (budget : Budget) (old new : View) wh
       budget_in other (Over passed) = passed
       budget_in other status = other
 
-  job_cut : (job : Job) (whole : Script) → IsStopped job inputs whole ⊎ IsFollowed job inputs parts whole
+  job_cut : (job : Job) (whole : Script) → Reaches job inputs found whole
       → AreDrawn (source_in (Some job) inputs) parts
       → RunsTo whole (Over budget) old new → IsAnswered whole (Over budget) old new → Outcome (Some job)
   job_cut job whole (inl stopped) drawn runs answered = inl (files_stand whole (Over budget) old new stopped.quiet runs)
   job_cut job whole (inr f) drawn runs answered =
       followed job whole f drawn runs answered (follows_end job.command f.settings parts f.tree)
 
-  cut_of : (job : Option Job) → RunsTo (job_script job parts inputs) (Over budget) old new
-      → IsAnswered (job_script job parts inputs) (Over budget) old new → AreDrawn (source_in job inputs) parts
+  cut_of : (job : Option Job) → RunsTo (job_script job found inputs) (Over budget) old new
+      → IsAnswered (job_script job found inputs) (Over budget) old new → AreFoundBy (source_in job inputs) found
       → Outcome job
-  cut_of None runs answered drawn = inl (files_stand _ (Over budget) old new tt runs)
-  cut_of (Some job) runs answered drawn =
-      job_cut job (job_script (Some job) parts inputs) (reached job inputs parts) drawn runs answered
+  cut_of None runs answered of_all = inl (files_stand _ (Over budget) old new tt runs)
+  cut_of (Some job) runs answered of_all =
+      job_cut job (job_script (Some job) found inputs) (reached job inputs found) of_all.drawn runs answered
 
-pub cuts_short : (words : List (List ℕ)) (files : Files) (parts : Parts) (inputs : Inputs) (status : Status)
+pub cuts_short : (words : List (List ℕ)) (files : Files) (found : Findings) (inputs : Inputs) (status : Status)
     (old new : View)
-    → IsRead words files inputs → RunsTo (script_of words parts inputs) status old new
-    → Promised (given_by words) (script_of words parts inputs) status old new → AreParts words inputs parts
+    → IsRead words files inputs → RunsTo (script_of words found inputs) status old new
+    → Promised (given_by words) (script_of words found inputs) status old new → AreFound words inputs found
     → CutsShort words files status old new
-cuts_short words files parts inputs Done old new is runs promised drawn = tt
-cuts_short words files parts inputs (Source fault) old new is runs promised drawn = tt
-cuts_short words files parts inputs Usage old new is runs promised drawn = tt
-cuts_short words files parts inputs (Settings fault) old new is runs promised drawn = tt
-cuts_short words files parts inputs Read old new is runs promised drawn = tt
-cuts_short words files parts inputs Write old new is runs promised drawn = tt
-cuts_short words files parts inputs (Over budget) old new is runs promised drawn =
-    (inputs, is, cut_of parts inputs budget old new (job_of words) runs promised drawn)
-cuts_short words files parts inputs Memory old new is runs promised drawn = tt
+cuts_short words files found inputs Done old new is runs promised drawn = tt
+cuts_short words files found inputs (Source fault) old new is runs promised drawn = tt
+cuts_short words files found inputs Usage old new is runs promised drawn = tt
+cuts_short words files found inputs (Settings fault) old new is runs promised drawn = tt
+cuts_short words files found inputs Read old new is runs promised drawn = tt
+cuts_short words files found inputs Write old new is runs promised drawn = tt
+cuts_short words files found inputs (Over budget) old new is runs promised drawn =
+    (inputs, is, cut_of found inputs budget old new (job_of words) runs promised drawn)
+cuts_short words files found inputs Memory old new is runs promised drawn = tt
+cuts_short words files found inputs (Outside number line) old new is runs promised drawn = tt
+cuts_short words files found inputs (BadFile kind first second) old new is runs promised drawn = tt

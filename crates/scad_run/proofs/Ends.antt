@@ -3,7 +3,7 @@ use Rattle.std.proofs.Common.{◌≡◌, ◌⊎◌, ◌<◌, ◌≤◌, List, []
 use Rattle.std.specs.Prelude.{if◌then◌else◌}
 use Rattle.scad_fault.specs.declared.budget.Budget.{Budget}
 use Rattle.scad_words.specs.declared.job.Command.{Command}
-use Rattle.scad_words.specs.declared.job.Command.TheVariants.{Check, Tree, Slice, Plan, Sample}
+use Rattle.scad_words.specs.declared.job.Command.TheVariants.{Check, Tree, Slice, Plan, Sample, Verify}
 use Rattle.scad_words.specs.declared.settings.Settings.{Settings as SettingsOfRun}
 use Rattle.scad_script.specs.declared.refusal.Refusal.TheVariants.{Over}
 use Rattle.scad_script.specs.Steps.{Step}
@@ -69,6 +69,7 @@ IsDone (Tree model) settings parts tree = Unit {0}
 IsDone (Slice model cli) settings parts tree = IsWhole settings (parts OutlinesAlone settings) tree
 IsDone (Plan model cli gcode) settings parts tree = IsWhole settings (parts WithPlan settings) tree
 IsDone (Sample n) settings parts tree = IsWhole settings (parts WithPlan settings) tree
+IsDone (Verify outlines program) settings parts tree = Unit {0}
 
 -- too many layers, or one that cuts the files short
 abbrev pub IsDrawnOver : Want → SettingsOfRun → List Step → List ℕ → Part → Solid → Budget → Type 0
@@ -89,6 +90,7 @@ IsOver (Sample n) settings parts tree budget =
     IsDrawnOver WithPlan settings [] (line_of_sample n settings (parts WithPlan settings) tree)
     (parts WithPlan settings) tree
     budget
+IsOver (Verify outlines program) settings parts tree budget = ⊥
 
 -- it ends with a line or by a budget
 abbrev pub EndsBy : Type 0 → (Budget → Type 0) → Ending → Type 0
@@ -140,6 +142,7 @@ follows_end (Plan model cli gcode) settings parts tree =
     let part = parts WithPlan settings in
     drawn_ends WithPlan settings (plan_creates cli gcode) (line_of_plan settings part tree) part tree
     (script_goes WithPlan settings (plan_creates cli gcode) (line_of_plan settings part tree) part tree)
+follows_end (Verify outlines program) settings parts tree = inl ([], refl, tt)
 follows_end (Sample n) settings parts tree =
     let part = parts WithPlan settings in
     subst (EndsBy (IsWhole settings part tree) (IsDrawnOver WithPlan settings [] (line_of_sample n settings part tree)

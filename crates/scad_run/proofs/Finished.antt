@@ -3,7 +3,7 @@ use Rattle.std.proofs.Common.{◌≡◌, List, ℕ, Some, None, Result, Ok, Err,
 use Rattle.std.specs.Prelude.{IfSome, IfOk, option_map}
 use Rattle.scad_io.specs.Desk.{Files, View}
 use Rattle.scad_words.specs.declared.job.Command.{Command}
-use Rattle.scad_words.specs.declared.job.Command.TheVariants.{Check, Tree, Slice, Plan, Sample}
+use Rattle.scad_words.specs.declared.job.Command.TheVariants.{Check, Tree, Slice, Plan, Sample, Verify}
 use Rattle.scad_words.specs.declared.settings.Settings.{Settings as SettingsOfRun}
 use Rattle.scad_words.specs.Settings.{AreInRange}
 use Rattle.scad_script.specs.declared.loading.Input.{Input}
@@ -47,6 +47,7 @@ gets_model command model files (Ok input) named told =
     whole (Slice m cli) is = refl
     whole (Plan m cli gcode) is = refl
     whole (Sample n) is = let never : ⊥ = cc in absurd never
+    whole (Verify outlines program) is = let never : ⊥ = cc in absurd never
 
 -- ---- the tree
 

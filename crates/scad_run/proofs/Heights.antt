@@ -6,6 +6,7 @@ use Rattle.scad_words.specs.declared.settings.Settings.{Settings}
 use Rattle.scad_words.specs.Settings.{settings_of, default_settings, AreInRange}
 use Rattle.scad_words.proofs.Ranges.{defaults_in_range, text_in_range}
 use Rattle.scad_run.specs.Inputs.{accepted, settings_found}
+use Rattle.verdict_laws.specs.Opinion.{IsWidth}
 
 accepted_is : (meant : Result Settings SetFault) (settings : Settings) → accepted meant ≡ Some settings
     → meant ≡ Ok settings
@@ -19,3 +20,7 @@ found_in_range None read settings is = subst AreInRange (ap (λ (o : Option Sett
 found_in_range (Some file) None settings is = let never : ⊥ = cc in absurd never
 found_in_range (Some file) (Some text) settings is = text_in_range text settings (accepted_is (settings_of text)
     settings is)
+
+-- so is the width of a line
+pub width_in_range : (settings : Settings) → AreInRange settings → IsWidth settings.line_width
+width_in_range settings in_range = (in_range.line_width.least, in_range.line_width.most)

@@ -6,12 +6,12 @@ use Rattle.scad_words.specs.Job.{job_of}
 use Rattle.scad_script.specs.declared.refusal.Refusal.TheVariants.{Over}
 use Rattle.scad_script.specs.Steps.{Step}
 use Rattle.scad_script.specs.Script.{Script, Ending, Finishes, Refuses, Lacks, answer_of}
-use Rattle.scad_run.specs.Answer.{Parts, follows, job_script, script_of}
+use Rattle.scad_run.specs.Answer.{Findings, follows, job_script, script_of}
 use Rattle.scad_run.specs.Inputs.{Inputs}
 use Rattle.scad_run.specs.Causes.{IsMissing}
 use Rattle.scad_run.specs.Laws.{AnswersLackFiles}
 use Rattle.scad_run.proofs.Ends.{IsDone, IsOver, EndsBy, follows_end}
-use Rattle.scad_run.proofs.Reached.{EndsBefore, IsStopped, IsFollowed, reached}
+use Rattle.scad_run.proofs.Reached.{EndsBefore, Reaches, reached}
 
 lacks : (steps : List Step) (ending : Ending) → answer_of (record { steps = steps; ending = ending }) ≡ None
     → ending ≡ Lacks
@@ -27,21 +27,22 @@ never_behind Done Passes ending (inl (line, is, done)) none =
 never_behind Done Passes ending (inr (budget, is, over)) none =
     let same : Refuses (Over budget) ≡ Lacks = sym is ∙ none in let never : ⊥ = cc in never
 
-missing : (job : Job) (inputs : Inputs) (parts : Parts) (whole : Script)
-    → IsStopped job inputs whole ⊎ IsFollowed job inputs parts whole → whole.ending ≡ Lacks → IsMissing job inputs
-missing job inputs parts whole (inl stopped) none = subst (EndsBefore job inputs) none stopped.why
-missing job inputs parts whole (inr f) none =
+missing : (job : Job) (inputs : Inputs) (found : Findings) (whole : Script) → Reaches job inputs found whole
+    → whole.ending ≡ Lacks → IsMissing job inputs
+missing job inputs found whole (inl stopped) none = subst (EndsBefore job inputs found.opinions) none stopped.why
+missing job inputs found whole (inr f) none =
+    let parts = found.parts in
     absurd (never_behind (IsDone job.command f.settings parts f.tree) (IsOver job.command f.settings parts f.tree)
     (follows job.command f.settings parts f.tree).ending (follows_end job.command f.settings parts f.tree)
     (sym f.ending ∙ none))
 
-job_lacks : (job : Option Job) (inputs : Inputs) (parts : Parts) → (job_script job parts inputs).ending ≡ Lacks
+job_lacks : (job : Option Job) (inputs : Inputs) (found : Findings) → (job_script job found inputs).ending ≡ Lacks
     → (asked : Job) × (job ≡ Some asked) × IsMissing asked inputs
-job_lacks None inputs parts none = let never : ⊥ = cc in absurd never
-job_lacks (Some job) inputs parts none =
-    (job, refl, missing job inputs parts (job_script (Some job) parts inputs) (reached job inputs parts) none)
+job_lacks None inputs found none = let never : ⊥ = cc in absurd never
+job_lacks (Some job) inputs found none =
+    (job, refl, missing job inputs found (job_script (Some job) found inputs) (reached job inputs found) none)
 
 pub answers_lack_files : AnswersLackFiles
-answers_lack_files words inputs parts none =
-    let whole = script_of words parts inputs in
-    job_lacks (job_of words) inputs parts (lacks whole.steps whole.ending none)
+answers_lack_files words inputs found none =
+    let whole = script_of words found inputs in
+    job_lacks (job_of words) inputs found (lacks whole.steps whole.ending none)

@@ -23,3 +23,5 @@ mod SampleEnds
 mod Finished
 mod Refused
 mod Cutting
+mod Cases
+mod Verified

@@ -1,10 +1,10 @@
 -- The script of all words, every source and all parts is orderly.
-use Rattle.std.proofs.Common.{◌≡◌, ◌≢◌, List, [], ◌∷◌, ℕ, Bool, true, false, Option, Some, None, inl, inr, refl, sym, ◌∙◌, subst, arith, nat_lt}
+use Rattle.std.proofs.Common.{◌≡◌, ◌≢◌, ◌++◌, List, [], ◌∷◌, ℕ, Bool, true, false, Option, Some, None, inl, inr, refl, sym, ◌∙◌, subst, arith, nat_lt}
 use Rattle.std.specs.Prelude.{if◌then◌else◌}
 use Rattle.scad_fault.specs.declared.budget.Budget.{Budget}
 use Rattle.scad_io.specs.declared.desk.Out.TheVariants.{Report}
 use Rattle.scad_words.specs.declared.job.Command.{Command}
-use Rattle.scad_words.specs.declared.job.Command.TheVariants.{Check, Tree, Slice, Plan, Sample}
+use Rattle.scad_words.specs.declared.job.Command.TheVariants.{Check, Tree, Slice, Plan, Sample, Verify}
 use Rattle.scad_words.specs.declared.job.Job.{Job}
 use Rattle.scad_words.specs.declared.settings.Settings.{Settings as SettingsOfRun}
 use Rattle.scad_words.specs.Job.{job_of, named}
@@ -26,10 +26,11 @@ use Rattle.slice_work.specs.declared.want.Want.TheVariants.{Outlines as Outlines
 use Rattle.slice_work.specs.Part.{layer_limit}
 use Rattle.scad_slice.specs.Budgets.{layer_count, layers_passed}
 use Rattle.scad_slice.proofs.Orderly.{DrawsInOrder, slice_draws, plan_draws}
-use Rattle.scad_run.specs.Words.{model_of, given_names, given_of, given_by}
+use Rattle.scad_run.specs.Words.{Case, model_of, case_of, both_named, given_names, given_of, given_by}
 use Rattle.scad_run.specs.Meaning.{source_means}
 use Rattle.scad_run.specs.Told.{echo_text, echoed, ok_line, check_end, told}
-use Rattle.scad_run.specs.Answer.{Parts, follows, input_script, model_read_first, model_script, job_script, script_of}
+use Rattle.scad_run.specs.Judging.{judgement, whole_then}
+use Rattle.scad_run.specs.Answer.{Parts, Findings, follows, input_script, model_read_first, model_script, case_or, after_settings, job_script, script_of}
 use Rattle.scad_run.specs.Inputs.{Inputs, source_of}
 use Rattle.scad_run.proofs.Following.{settings_have}
 use Rattle.scad_run.proofs.Ends.{IsDone, IsOver as IsOverBy, EndsBy, follows_end}
@@ -92,6 +93,8 @@ follows_draws (Slice model cli) name settings parts tree =
     slice_draws settings (given_names (Slice model cli) name) cli (parts OutlinesAlone settings) tree refl
 follows_draws (Plan model cli gcode) name settings parts tree =
     plan_draws settings (given_names (Plan model cli gcode) name) cli gcode (parts WithPlan settings) tree refl refl
+follows_draws (Verify outlines program) name settings parts tree =
+    ends_in_order _ (Finishes []) (λ same. let never : ⊥ = cc in absurd never)
 follows_draws (Sample n) name settings parts tree =
     ends_if (given_names (Sample n) name) (nat_lt layer_limit (layer_count settings.layer_height tree)) _ _
     (ends_there (IsDone (Sample n) settings parts tree) (IsOverBy (Sample n) settings parts tree)
@@ -125,9 +128,22 @@ reads_first given name rest named behind =
 -- the model and the settings are among the names that the words give
 model_given : (command : Command) (name : Option (List ℕ)) (model : List ℕ) → model_of command ≡ Some model
     → UsesGiven (given_names command name) (Reads model)
-model_given command None model is = subst (λ (m : Option (List ℕ)). IsAmong model (named m)) (sym is) (inl refl)
-model_given command (Some file) model is = inr (subst (λ (m : Option (List ℕ)). IsAmong model (named m)) (sym is)
-    (inl refl))
+model_given command None model is =
+    subst (λ (m : Option (List ℕ)). IsAmong model (named m ++ both_named (case_of command))) (sym is) (inl refl)
+model_given command (Some file) model is =
+    inr (subst (λ (m : Option (List ℕ)). IsAmong model (named m ++ both_named (case_of command))) (sym is) (inl refl))
+
+-- so are both files that are judged
+among_behind : (name : List ℕ) (before behind : List (List ℕ)) → IsAmong name behind → IsAmong name (before ++ behind)
+among_behind name [] behind among = among
+among_behind name (b ∷ before) behind among = inr (among_behind name before behind among)
+
+case_given : (command : Command) (name : Option (List ℕ)) (case : Case) (file : List ℕ) → case_of command ≡ Some case
+    → IsAmong file (both_named (Some case)) → UsesGiven (given_names command name) (Reads file)
+case_given command name case file is among =
+    among_behind file (named name) (named (model_of command) ++ both_named (case_of command))
+    (among_behind file (named (model_of command)) (both_named (case_of command))
+    (subst (λ (c : Option Case). IsAmong file (both_named c)) (sym is) among))
 
 settings_given : (command : Command) (name : Option (List ℕ)) (file : List ℕ) → name ≡ Some file
     → UsesGiven (given_names command name) (Reads file)
@@ -141,18 +157,44 @@ model_first command name None rest is behind = behind
 model_first command name (Some model) rest is behind =
     reads_first (given_names command name) model rest (model_given command name model is) behind
 
-job_orderly : (job : Option Job) (parts : Parts) (inputs : Inputs)
-    → IsOrderly (given_of job) (job_script job parts inputs)
-job_orderly None parts inputs = record { steps = tt; lacks = tt }
-job_orderly (Some job) parts inputs =
+-- both files that are judged are read, and then there is an end
+whole_orderly : (given : Given) (read : Option Input) (follows : List ℕ → Script)
+    → ((text : List ℕ) → IsOrderly given (follows text)) → IsOrderly given (whole_then read follows)
+whole_orderly given None follows behind = record { steps = tt; lacks = tt }
+whole_orderly given (Some Long) follows behind = record { steps = tt; lacks = tt }
+whole_orderly given (Some (Whole text)) follows behind = behind text
+
+end_orderly : (given : Given) (ending : Ending) → IsOrderly given (ends ending)
+end_orderly given (Finishes line) = record { steps = tt; lacks = tt }
+end_orderly given (Refuses refusal) = record { steps = tt; lacks = tt }
+end_orderly given Lacks = record { steps = tt; lacks = tt }
+
+after_orderly : (job : Job) (found : Findings) (inputs : Inputs) (settings : SettingsOfRun) (case : Option Case)
+    → case_of job.command ≡ case
+    → IsOrderly (given_names job.command job.settings)
+    (case_or case found inputs settings (model_script job.command found.parts inputs.model settings))
+after_orderly job found inputs settings None is =
+    model_first job.command job.settings (model_of job.command) _ refl
+    (input_orderly job.command job.settings settings found.parts (source_of job.command inputs.model))
+after_orderly job found inputs settings (Some case) is =
     let given = given_names job.command job.settings in
-    settings_have (IsOrderly given) job.settings inputs.settings (model_script job.command parts inputs.model)
-    (λ settings found. model_first job.command job.settings (model_of job.command) _ refl
-    (input_orderly job.command job.settings settings parts (source_of job.command inputs.model)))
+    let judge = judgement found.opinions settings.line_width in
+    reads_first given case.outlines _ (case_given job.command job.settings case case.outlines is (inl refl))
+    (whole_orderly given inputs.outlines _
+    (λ text. reads_first given case.program _ (case_given job.command job.settings case case.program is (inr (inl refl)))
+    (whole_orderly given inputs.program _ (λ other. end_orderly given (judge text other)))))
+
+job_orderly : (job : Option Job) (found : Findings) (inputs : Inputs)
+    → IsOrderly (given_of job) (job_script job found inputs)
+job_orderly None found inputs = record { steps = tt; lacks = tt }
+job_orderly (Some job) findings inputs =
+    let given = given_names job.command job.settings in
+    settings_have (IsOrderly given) job.settings inputs.settings (after_settings job.command findings inputs)
+    (λ settings found. after_orderly job findings inputs settings (case_of job.command) refl)
     (λ file rest is behind. reads_first given file rest (settings_given job.command job.settings file is) behind)
     (λ file named missing. record { steps = tt; lacks = tt })
     (λ file text fault named there is. record { steps = tt; lacks = tt })
 
-pub orderly : (words : List (List ℕ)) (parts : Parts) (inputs : Inputs)
-    → IsOrderly (given_by words) (script_of words parts inputs)
-orderly words parts inputs = job_orderly (job_of words) parts inputs
+pub orderly : (words : List (List ℕ)) (found : Findings) (inputs : Inputs)
+    → IsOrderly (given_by words) (script_of words found inputs)
+orderly words found inputs = job_orderly (job_of words) found inputs

@@ -1,11 +1,11 @@
 -- What `slice` and `plan` wrote where all is done.
-use Rattle.std.proofs.Common.{◌≡◌, ◌⊎◌, List, ℕ, Option, Some, inl, inr, refl, sym, ◌∙◌, subst}
+use Rattle.std.proofs.Common.{◌≡◌, ◌⊎◌, List, ℕ, Option, Some, None, inl, inr, refl, sym, ◌∙◌, subst}
 use Rattle.scad_fault.specs.declared.status.Status.{Status}
 use Rattle.scad_fault.specs.declared.status.Status.TheVariants.{Done}
 use Rattle.scad_io.specs.Desk.{Files, View}
 use Rattle.scad_io.specs.declared.desk.Out.TheVariants.{Cli, Gcode}
 use Rattle.scad_words.specs.declared.job.Command.{Command}
-use Rattle.scad_words.specs.declared.job.Command.TheVariants.{Check, Tree, Slice, Plan, Sample}
+use Rattle.scad_words.specs.declared.job.Command.TheVariants.{Check, Tree, Slice, Plan, Sample, Verify}
 use Rattle.scad_words.specs.declared.job.Job.{Job}
 use Rattle.scad_words.specs.declared.settings.Settings.{Settings as SettingsOfRun}
 use Rattle.scad_words.specs.Settings.{AreInRange}
@@ -25,17 +25,18 @@ use Rattle.scad_slice.specs.Parts.{layers_of}
 use Rattle.scad_slice.specs.Membership.{HoldTree}
 use Rattle.scad_slice.proofs.Holding.{parts_hold}
 use Rattle.scad_slice.proofs.Texts.{slices_are_whole, plans_are_whole}
-use Rattle.scad_run.specs.Words.{model_of, cli_of, given_by}
-use Rattle.scad_run.specs.Answer.{Parts, follows, job_script, script_of, ArePartsOfTree, AreDrawn, AreParts}
+use Rattle.scad_run.specs.Words.{model_of, cli_of, case_of, given_by}
+use Rattle.scad_run.specs.Answer.{Parts, Findings, follows, job_script, script_of, ArePartsOfTree, AreDrawn, AreFoundBy, AreFound}
 use Rattle.scad_run.specs.Inputs.{Inputs, source_of, source_in, IsRead, settings_found}
 use Rattle.scad_run.specs.Promises.{OutlinesHoldTree}
+use Rattle.scad_run.specs.Causes.{AreJudged}
 use Rattle.scad_run.specs.Meaning.{MeansTree}
 use Rattle.scad_run.proofs.Working.{parts_meant}
 use Rattle.scad_run.proofs.Sources.{sources_mean_solids, as_part}
 use Rattle.scad_run.proofs.Heights.{found_in_range}
 use Rattle.scad_run.proofs.Told.{source_is, settings_are}
 use Rattle.scad_run.proofs.Answering.{done_finishes}
-use Rattle.scad_run.proofs.Reached.{EndsBefore, IsStopped, IsFollowed, reached}
+use Rattle.scad_run.proofs.Reached.{EndsBefore, IsFollowed, Reaches, reached}
 use Rattle.scad_run.proofs.Ends.{IsDone, IsOver, EndsBy, follows_end}
 
 -- ---- a job that is done
@@ -85,26 +86,36 @@ finished_by job inputs parts whole old new f drawn answered (inl (line, is, done
       gcode = subst (λ (text : List ℕ). Adds text old.gcode new.gcode) f.gcode texts.3;
     }
 
-job_finished : (job : Job) (inputs : Inputs) (parts : Parts) (whole : Script) (old new : View)
-    → IsStopped job inputs whole ⊎ IsFollowed job inputs parts whole
-    → AreDrawn (source_in (Some job) inputs) parts → IsAnswered whole Done old new → IsFinished job inputs parts old new
-job_finished job inputs parts whole old new (inl stopped) drawn answered =
-    absurd (subst (EndsBefore job inputs) (done_finishes whole.steps whole.ending old new answered).1 stopped.why)
-job_finished job inputs parts whole old new (inr f) drawn answered =
-    finished_by job inputs parts whole old new f drawn answered (follows_end job.command f.settings parts f.tree)
+-- a job that judges no files
+none_judged : (job : Job) (inputs : Inputs) → case_of job.command ≡ None → AreJudged job inputs → ⊥
+none_judged job inputs none judged =
+    let other : None ≡ Some judged.case = sym none ∙ judged.named in let never : ⊥ = cc in never
+
+job_finished : (job : Job) (inputs : Inputs) (found : Findings) (whole : Script) (old new : View)
+    → case_of job.command ≡ None → Reaches job inputs found whole
+    → AreFoundBy (source_in (Some job) inputs) found → IsAnswered whole Done old new
+    → IsFinished job inputs found.parts old new
+job_finished job inputs found whole old new none (inl stopped) of_all answered =
+    let inside = subst (EndsBefore job inputs found.opinions)
+    (done_finishes whole.steps whole.ending old new answered).1 stopped.why in
+    absurd (none_judged job inputs none inside.1.judged)
+job_finished job inputs found whole old new none (inr f) of_all answered =
+    finished_by job inputs found.parts whole old new f of_all.drawn answered
+    (follows_end job.command f.settings found.parts f.tree)
 
 -- the job of the words
-pub words_finished : (words : List (List ℕ)) (inputs : Inputs) (parts : Parts) (status : Status) (old new : View)
-    (job : Job) → AreParts words inputs parts
-    → Promised (given_by words) (script_of words parts inputs) status old new
-    → status ≡ Done → job_of words ≡ Some job → IsFinished job inputs parts old new
-words_finished words inputs parts status old new job drawn promised done form =
-    let answered : IsAnswered (script_of words parts inputs) Done old new =
-    subst (λ (s : Status). Promised (given_by words) (script_of words parts inputs) s old new) done promised
+pub words_finished : (words : List (List ℕ)) (inputs : Inputs) (found : Findings) (status : Status) (old new : View)
+    (job : Job) → AreFound words inputs found
+    → Promised (given_by words) (script_of words found inputs) status old new
+    → status ≡ Done → job_of words ≡ Some job → case_of job.command ≡ None
+    → IsFinished job inputs found.parts old new
+words_finished words inputs found status old new job of_all promised done form none =
+    let answered : IsAnswered (script_of words found inputs) Done old new =
+    subst (λ (s : Status). Promised (given_by words) (script_of words found inputs) s old new) done promised
     in
-    job_finished job inputs parts (job_script (Some job) parts inputs) old new (reached job inputs parts)
-    (subst (λ (j : Option Job). AreDrawn (source_in j inputs) parts) form drawn)
-    (subst (λ (j : Option Job). IsAnswered (job_script j parts inputs) Done old new) form answered)
+    job_finished job inputs found (job_script (Some job) found inputs) old new none (reached job inputs found)
+    (subst (λ (j : Option Job). AreFoundBy (source_in j inputs) found) form of_all)
+    (subst (λ (j : Option Job). IsAnswered (job_script j found inputs) Done old new) form answered)
 
 -- ---- the outlines
 
@@ -116,6 +127,7 @@ read_is (Tree m) model read named = refl
 read_is (Slice m cli) model read named = refl
 read_is (Plan m cli gcode) model read named = refl
 read_is (Sample n) model read named = let never : ⊥ = cc in absurd never
+read_is (Verify outlines program) model read named = let never : ⊥ = cc in absurd never
 
 -- the layers that were written
 pub record AreWritten (settings : SettingsOfRun) (tree : Solid) (old new : View) : Type 0 where
@@ -148,15 +160,26 @@ command_written (Plan m c g) cli settings parts tree old new named in_range soli
           in_range) whole.made;
     }
 command_written (Sample n) cli settings parts tree old new named in_range solids of_tree done added = let never : ⊥ = cc in absurd never
+command_written (Verify outlines program) cli settings parts tree old new named in_range solids of_tree done added = let never : ⊥ = cc in absurd never
 
-pub holds_tree : (words : List (List ℕ)) (files : Files) (inputs : Inputs) (parts : Parts) (status : Status)
+-- a command that reads a model judges no files
+model_alone : (command : Command) (model : List ℕ) → model_of command ≡ Some model → case_of command ≡ None
+model_alone (Check m) model named = refl
+model_alone (Tree m) model named = refl
+model_alone (Slice m cli) model named = refl
+model_alone (Plan m cli gcode) model named = refl
+model_alone (Sample n) model named = refl
+model_alone (Verify outlines program) model named = let never : ⊥ = cc in absurd never
+
+pub holds_tree : (words : List (List ℕ)) (files : Files) (inputs : Inputs) (found : Findings) (status : Status)
     (old new : View)
-    → IsRead words files inputs → AreParts words inputs parts → Promised (given_by words) (script_of words parts inputs)
+    → IsRead words files inputs → AreFound words inputs found → Promised (given_by words) (script_of words found inputs)
     status old new
     → status ≡ Done → OutlinesHoldTree words files old new
-holds_tree words files inputs parts status old new is drawn promised done job model cli form named file =
-    let f = words_finished words inputs parts status old new job drawn promised done form in
-    let w = command_written job.command cli f.settings parts f.tree old new file f.in_range f.solids f.of_tree f.done
+holds_tree words files inputs found status old new is of_all promised done job model cli form named file =
+    let f = words_finished words inputs found status old new job of_all promised done form
+    (model_alone job.command model named) in
+    let w = command_written job.command cli f.settings found.parts f.tree old new file f.in_range f.solids f.of_tree f.done
     f.cli in (
       f.settings,
       f.tree,

@@ -14,7 +14,7 @@ use Rattle.scad_slice.proofs.Texts.{plans_are_whole, programs_are_whole}
 use Rattle.print_laws.specs.Print.{program_of, written}
 use Rattle.print_laws.specs.Laws.{LayersArePrinted, PrintsAreOne}
 use Rattle.scad_run.specs.Words.{given_by}
-use Rattle.scad_run.specs.Answer.{Parts, script_of, AreParts}
+use Rattle.scad_run.specs.Answer.{Findings, script_of, AreFound}
 use Rattle.scad_run.specs.Inputs.{Inputs, source_limit, IsRead, GoBy}
 use Rattle.scad_run.specs.Meaning.{MeansTree, Means}
 use Rattle.scad_run.specs.Printing.{PlanAddsPrint}
@@ -25,17 +25,17 @@ use Rattle.scad_run.proofs.Planned.{layouts, written_is, program_is, are_layers}
 use Rattle.scad_run.proofs.Printed.{words_finished}
 use Rattle.scad_run.proofs.Caused.{has_cause}
 
-module _ (words : List (List ℕ)) (files : Files) (inputs : Inputs) (parts : Parts) (status : Status) (old new : View)
-    (is : IsRead words files inputs) (drawn : AreParts words inputs parts)
-    (promised : Promised (given_by words) (script_of words parts inputs) status old new) where
+module _ (words : List (List ℕ)) (files : Files) (inputs : Inputs) (found : Findings) (status : Status) (old new : View)
+    (is : IsRead words files inputs) (of_all : AreFound words inputs found)
+    (promised : Promised (given_by words) (script_of words found inputs) status old new) where
   -- over every desk
   pub adds_print : LayersArePrinted → PrintsAreOne → status ≡ Done → PlanAddsPrint words files old new
   adds_print printed one done model cli gcode name workers form =
       let job : Job = record { command = Plan model cli gcode; settings = name; workers = workers } in
-      let f = words_finished words inputs parts status old new job drawn promised done form in
+      let f = words_finished words inputs found status old new job of_all promised done form refl in
       let s = f.settings in
-      let part = parts WithPlan s in
-      let is_part = as_part f.tree parts f.of_tree WithPlan s f.in_range in
+      let part = found.parts WithPlan s in
+      let is_part = as_part f.tree found.parts f.of_tree WithPlan s f.in_range in
       let n = layer_count s.layer_height f.tree in
       let layers = layouts part n in
       let print =
@@ -96,15 +96,15 @@ prints words files old new adds desk model cli gcode name workers form =
       one = a.is.one;
     }
 
-pub headline : (words : List (List ℕ)) (files : Files) (inputs : Inputs) (parts : Parts) (status : Status)
+pub headline : (words : List (List ℕ)) (files : Files) (inputs : Inputs) (found : Findings) (status : Status)
     (old new : View)
-    (before now : ℕ) → LayersArePrinted → PrintsAreOne → IsRead words files inputs → AreParts words inputs parts
-    → Promised (given_by words) (script_of words parts inputs) status old new → (status ≡ Read → before < now)
+    (before now : ℕ) → LayersArePrinted → PrintsAreOne → IsRead words files inputs → AreFound words inputs found
+    → Promised (given_by words) (script_of words found inputs) status old new → (status ≡ Read → before < now)
     → (status ≡ Write → before < now) → Headline Means words files status old new before now
-headline words files inputs parts status old new before now printed one is drawn promised read write =
+headline words files inputs found status old new before now printed one is drawn promised read write =
     record {
       meaning = sources_mean_one;
-      prints = λ done. prints words files old new (adds_print words files inputs parts status old new is drawn promised
+      prints = λ done. prints words files old new (adds_print words files inputs found status old new is drawn promised
           printed one done);
-      cause = has_cause words files inputs parts status old new before now is drawn promised read write;
+      cause = has_cause words files inputs found status old new before now is drawn promised read write;
     }

@@ -6,12 +6,12 @@ use Rattle.scad_fault.specs.declared.budget.Budget.{Budget}
 use Rattle.scad_fault.specs.declared.budget.BudgetKind.{BudgetKind}
 use Rattle.scad_fault.specs.declared.budget.BudgetKind.TheVariants.{LayerEdges, LayerCrossings, LayerMoves}
 use Rattle.scad_fault.specs.declared.status.Status.{Status}
-use Rattle.scad_fault.specs.declared.status.Status.TheVariants.{Done, Source, Usage, Settings, Read, Write, Over, Memory}
+use Rattle.scad_fault.specs.declared.status.Status.TheVariants.{Done, Source, Usage, Settings, Read, Write, Over, Memory, Outside, BadFile}
 use Rattle.scad_fault.specs.Line.{line_of}
 use Rattle.scad_io.specs.Desk.{View}
 use Rattle.scad_io.specs.declared.desk.Out.TheVariants.{Report, Cli, Gcode}
 use Rattle.scad_words.specs.declared.job.Command.{Command}
-use Rattle.scad_words.specs.declared.job.Command.TheVariants.{Check, Tree, Slice, Plan, Sample}
+use Rattle.scad_words.specs.declared.job.Command.TheVariants.{Check, Tree, Slice, Plan, Sample, Verify}
 use Rattle.scad_words.specs.declared.job.Job.{Job}
 use Rattle.scad_words.specs.declared.settings.Settings.{Settings as SettingsOfRun}
 use Rattle.scad_words.specs.Settings.{AreInRange}
@@ -36,14 +36,14 @@ use Rattle.scad_slice.proofs.Parted.{IsKind, budget_of_layer}
 use Rattle.scad_slice.proofs.Texts.{slice_cut, plan_cut, program_cut}
 use Rattle.scad_run.proofs.Silent.{slice_is_silent}
 use Rattle.scad_run.specs.Words.{given_by}
-use Rattle.scad_run.specs.Answer.{Parts, follows, job_script, script_of, ArePartsOfTree, AreDrawn, AreParts}
+use Rattle.scad_run.specs.Answer.{Parts, Findings, follows, job_script, script_of, ArePartsOfTree, AreDrawn, AreFoundBy, AreFound}
 use Rattle.scad_run.specs.Inputs.{Inputs, source_in}
 use Rattle.scad_run.specs.Promises.{IsReported, IsRefused, IsProgramFront, IsCutShort, Refuses, Leaves, LeavesOutputs}
 use Rattle.scad_run.specs.Causes.{HasManyLayers}
 use Rattle.scad_run.proofs.Working.{parts_meant}
 use Rattle.scad_run.proofs.Sources.{as_part}
 use Rattle.scad_run.proofs.Heights.{found_in_range}
-use Rattle.scad_run.proofs.Reached.{IsStopped, IsFollowed, reached}
+use Rattle.scad_run.proofs.Reached.{IsFollowed, Reaches, reached}
 use Rattle.scad_run.proofs.Ends.{Cuts, IsDone, IsOver, EndsBy, follows_end}
 
 -- Commands that only read and report.
@@ -65,10 +65,10 @@ abbrev IsQuiet : Command → Type 0
 IsQuiet command = (settings : SettingsOfRun) (parts : Parts) (tree : Solid)
     → AllUpTo echoing (follows command settings parts tree).steps
 
-job_quiet : (job : Job) (parts : Parts) (inputs : Inputs) (whole : Script) → IsQuiet job.command
-    → IsStopped job inputs whole ⊎ IsFollowed job inputs parts whole → AllUpTo echoing whole.steps
-job_quiet job parts inputs whole quiet (inl stopped) = stopped.quiet
-job_quiet job parts inputs whole quiet (inr f) = f.quiet (quiet f.settings parts f.tree)
+job_quiet : (job : Job) (found : Findings) (inputs : Inputs) (whole : Script) → IsQuiet job.command
+    → Reaches job inputs found whole → AllUpTo echoing whole.steps
+job_quiet job found inputs whole quiet (inl stopped) = stopped.quiet
+job_quiet job found inputs whole quiet (inr f) = f.quiet (quiet f.settings found.parts f.tree)
 
 ends_quiet_if : (b : Bool) (x y : Ending) → AllUpTo echoing (if b then ends x else ends y).steps
 ends_quiet_if true x y = tt
@@ -77,30 +77,33 @@ ends_quiet_if false x y = tt
 pub sample_quiet : (n : ℕ) → IsQuiet (Sample n)
 sample_quiet n settings parts tree = ends_quiet_if (nat_lt layer_limit (layer_count settings.layer_height tree)) _ _
 
-command_leaves : (job : Job) (command : Command) (parts : Parts) (inputs : Inputs) (status : Status) (old new : View)
+command_leaves : (job : Job) (command : Command) (found : Findings) (inputs : Inputs) (status : Status) (old new : View)
     → job.command ≡ command
-    → RunsTo (job_script (Some job) parts inputs) status old new → Leaves command old new
-command_leaves job (Check model) parts inputs status old new is runs =
-    files_stand _ status old new (job_quiet job parts inputs _ (subst IsQuiet (sym is) (λ settings ps tree. tt))
-    (reached job inputs parts)) runs
-command_leaves job (Tree model) parts inputs status old new is runs =
-    files_stand _ status old new (job_quiet job parts inputs _ (subst IsQuiet (sym is) (λ settings ps tree. tt))
-    (reached job inputs parts)) runs
-command_leaves job (Slice model cli) parts inputs status old new is runs = tt
-command_leaves job (Plan model cli gcode) parts inputs status old new is runs = tt
-command_leaves job (Sample n) parts inputs status old new is runs =
-    files_stand _ status old new (job_quiet job parts inputs _ (subst IsQuiet (sym is) (sample_quiet n))
-    (reached job inputs parts)) runs
+    → RunsTo (job_script (Some job) found inputs) status old new → Leaves command old new
+command_leaves job (Check model) found inputs status old new is runs =
+    files_stand _ status old new (job_quiet job found inputs _ (subst IsQuiet (sym is) (λ settings ps tree. tt))
+    (reached job inputs found)) runs
+command_leaves job (Tree model) found inputs status old new is runs =
+    files_stand _ status old new (job_quiet job found inputs _ (subst IsQuiet (sym is) (λ settings ps tree. tt))
+    (reached job inputs found)) runs
+command_leaves job (Slice model cli) found inputs status old new is runs = tt
+command_leaves job (Plan model cli gcode) found inputs status old new is runs = tt
+command_leaves job (Verify outlines program) found inputs status old new is runs =
+    files_stand _ status old new (job_quiet job found inputs _ (subst IsQuiet (sym is) (λ settings ps tree. tt))
+    (reached job inputs found)) runs
+command_leaves job (Sample n) found inputs status old new is runs =
+    files_stand _ status old new (job_quiet job found inputs _ (subst IsQuiet (sym is) (sample_quiet n))
+    (reached job inputs found)) runs
 
-job_leaves : (job : Option Job) (parts : Parts) (inputs : Inputs) (status : Status) (old new : View)
-    → RunsTo (job_script job parts inputs) status old new → LeavesOutputs job old new
-job_leaves None parts inputs status old new runs = tt
-job_leaves (Some job) parts inputs status old new runs = command_leaves job job.command parts inputs status old new refl
+job_leaves : (job : Option Job) (found : Findings) (inputs : Inputs) (status : Status) (old new : View)
+    → RunsTo (job_script job found inputs) status old new → LeavesOutputs job old new
+job_leaves None found inputs status old new runs = tt
+job_leaves (Some job) found inputs status old new runs = command_leaves job job.command found inputs status old new refl
     runs
 
-pub leaves : (words : List (List ℕ)) (parts : Parts) (inputs : Inputs) (status : Status) (old new : View)
-    → RunsTo (script_of words parts inputs) status old new → LeavesOutputs (job_of words) old new
-leaves words parts inputs status old new runs = job_leaves (job_of words) parts inputs status old new runs
+pub leaves : (words : List (List ℕ)) (found : Findings) (inputs : Inputs) (status : Status) (old new : View)
+    → RunsTo (script_of words found inputs) status old new → LeavesOutputs (job_of words) old new
+leaves words found inputs status old new runs = job_leaves (job_of words) found inputs status old new runs
 
 -- Refusals.
 
@@ -196,6 +199,7 @@ module _ (settings : SettingsOfRun) (tree : Solid) (in_range : AreInRange settin
         is = program_cut settings cli gcode part tree c.cut;
       })))
   behind (Sample n) parts budget of_tree over = inl (sample_quiet n settings parts tree)
+  behind (Verify outlines program) parts budget of_tree over = inl tt
 
 -- ---- a refused run
 
@@ -246,22 +250,22 @@ followed_refused job parts inputs whole status old new f drawn runs answered oth
     (⊎_elim (λ quiet. inl (f.quiet quiet)) (λ cut. inr cut) (behind f.settings f.tree in_range job.command
     parts budget of_tree over))
 
-job_refused : (job : Job) (parts : Parts) (inputs : Inputs) (whole : Script) (status : Status) (old new : View)
-    → IsStopped job inputs whole ⊎ IsFollowed job inputs parts whole → AreDrawn (source_in (Some job) inputs) parts
+job_refused : (job : Job) (found : Findings) (inputs : Inputs) (whole : Script) (status : Status) (old new : View)
+    → Reaches job inputs found whole → AreFoundBy (source_in (Some job) inputs) found
     → RunsTo whole status old new → IsAnswered whole status old new → status ≢ Done → RefusedOrCut whole status old new
-job_refused job parts inputs whole status old new (inl stopped) drawn runs answered other =
+job_refused job found inputs whole status old new (inl stopped) of_all runs answered other =
     quiet_refused whole status old new stopped.quiet runs answered other
-job_refused job parts inputs whole status old new (inr f) drawn runs answered other =
-    followed_refused job parts inputs whole status old new f drawn runs answered other
-    (follows_end job.command f.settings parts f.tree)
+job_refused job found inputs whole status old new (inr f) of_all runs answered other =
+    followed_refused job found.parts inputs whole status old new f of_all.drawn runs answered other
+    (follows_end job.command f.settings found.parts f.tree)
 
-refused_by : (job : Option Job) (parts : Parts) (inputs : Inputs) (status : Status) (old new : View)
-    → RunsTo (job_script job parts inputs) status old new → IsAnswered (job_script job parts inputs) status old new
-    → AreDrawn (source_in job inputs) parts → status ≢ Done → RefusedOrCut (job_script job parts inputs) status old new
-refused_by None parts inputs status old new runs answered drawn other = quiet_refused _ status old new tt runs answered
+refused_by : (job : Option Job) (found : Findings) (inputs : Inputs) (status : Status) (old new : View)
+    → RunsTo (job_script job found inputs) status old new → IsAnswered (job_script job found inputs) status old new
+    → AreFoundBy (source_in job inputs) found → status ≢ Done → RefusedOrCut (job_script job found inputs) status old new
+refused_by None found inputs status old new runs answered drawn other = quiet_refused _ status old new tt runs answered
     other
-refused_by (Some job) parts inputs status old new runs answered drawn other =
-    job_refused job parts inputs (job_script (Some job) parts inputs) status old new (reached job inputs parts) drawn
+refused_by (Some job) found inputs status old new runs answered drawn other =
+    job_refused job found inputs (job_script (Some job) found inputs) status old new (reached job inputs found) drawn
     runs answered other
 
 -- a status other than a budget's is no budget's
@@ -281,24 +285,30 @@ this_budget whole budget old new (inl refused) = inl refused
 this_budget whole budget old new (inr (passed, same, cut)) =
     inr (subst (λ (b : Budget). IsCutShort whole b old new) (sym (ap (budget_in budget) same)) cut)
 
-pub refuses_so : (words : List (List ℕ)) (parts : Parts) (inputs : Inputs) (status : Status) (old new : View)
-    → RunsTo (script_of words parts inputs) status old new → Promised (given_by words) (script_of words parts inputs)
+pub refuses_so : (words : List (List ℕ)) (found : Findings) (inputs : Inputs) (status : Status) (old new : View)
+    → RunsTo (script_of words found inputs) status old new → Promised (given_by words) (script_of words found inputs)
     status old new
-    → AreParts words inputs parts
-    → Refuses (script_of words parts inputs) status old new
-refuses_so words parts inputs Done old new runs promised drawn = tt
-refuses_so words parts inputs (Source fault) old new runs promised drawn =
+    → AreFound words inputs found
+    → Refuses (script_of words found inputs) status old new
+refuses_so words found inputs Done old new runs promised drawn = tt
+refuses_so words found inputs (Source fault) old new runs promised drawn =
     no_budget _ (Source fault) old new (λ budget same. let never : ⊥ = cc in absurd never)
-    (refused_by (job_of words) parts inputs (Source fault) old new runs promised drawn (λ same. let never : ⊥ = cc in absurd never))
-refuses_so words parts inputs Usage old new runs promised drawn =
+    (refused_by (job_of words) found inputs (Source fault) old new runs promised drawn (λ same. let never : ⊥ = cc in absurd never))
+refuses_so words found inputs Usage old new runs promised drawn =
     no_budget _ Usage old new (λ budget same. let never : ⊥ = cc in absurd never)
-    (refused_by (job_of words) parts inputs Usage old new runs promised drawn (λ same. let never : ⊥ = cc in absurd never))
-refuses_so words parts inputs (Settings fault) old new runs promised drawn =
+    (refused_by (job_of words) found inputs Usage old new runs promised drawn (λ same. let never : ⊥ = cc in absurd never))
+refuses_so words found inputs (Settings fault) old new runs promised drawn =
     no_budget _ (Settings fault) old new (λ budget same. let never : ⊥ = cc in absurd never)
-    (refused_by (job_of words) parts inputs (Settings fault) old new runs promised drawn (λ same. let never : ⊥ = cc in absurd never))
-refuses_so words parts inputs Read old new runs promised drawn = tt
-refuses_so words parts inputs Write old new runs promised drawn = tt
-refuses_so words parts inputs (Over budget) old new runs promised drawn =
+    (refused_by (job_of words) found inputs (Settings fault) old new runs promised drawn (λ same. let never : ⊥ = cc in absurd never))
+refuses_so words found inputs Read old new runs promised drawn = tt
+refuses_so words found inputs Write old new runs promised drawn = tt
+refuses_so words found inputs (Over budget) old new runs promised drawn =
     this_budget _ budget old new
-    (refused_by (job_of words) parts inputs (Over budget) old new runs promised drawn (λ same. let never : ⊥ = cc in absurd never))
-refuses_so words parts inputs Memory old new runs promised drawn = tt
+    (refused_by (job_of words) found inputs (Over budget) old new runs promised drawn (λ same. let never : ⊥ = cc in absurd never))
+refuses_so words found inputs Memory old new runs promised drawn = tt
+refuses_so words found inputs (Outside number line) old new runs promised drawn =
+    no_budget _ (Outside number line) old new (λ budget same. let never : ⊥ = cc in absurd never)
+    (refused_by (job_of words) found inputs (Outside number line) old new runs promised drawn (λ same. let never : ⊥ = cc in absurd never))
+refuses_so words found inputs (BadFile kind first second) old new runs promised drawn =
+    no_budget _ (BadFile kind first second) old new (λ budget same. let never : ⊥ = cc in absurd never)
+    (refused_by (job_of words) found inputs (BadFile kind first second) old new runs promised drawn (λ same. let never : ⊥ = cc in absurd never))

@@ -5,7 +5,7 @@ use Rattle.scad_fault.specs.declared.status.Status.{Status}
 use Rattle.scad_fault.specs.declared.status.Status.TheVariants.{Over}
 use Rattle.scad_io.specs.Desk.{Files, View}
 use Rattle.scad_words.specs.declared.job.Command.{Command}
-use Rattle.scad_words.specs.declared.job.Command.TheVariants.{Check, Tree, Slice, Plan, Sample}
+use Rattle.scad_words.specs.declared.job.Command.TheVariants.{Check, Tree, Slice, Plan, Sample, Verify}
 use Rattle.scad_words.specs.declared.job.Job.{Job}
 use Rattle.scad_words.specs.declared.settings.Settings.{Settings}
 use Rattle.scad_words.specs.Job.{job_of}
@@ -49,6 +49,7 @@ IsCutBy (Tree model) s tree budget old new = ⊥
 IsCutBy (Slice model cli) s tree budget old new = AreCut OutlinesAlone s tree budget old new
 IsCutBy (Plan model cli gcode) s tree budget old new = AreCut WithPlan s tree budget old new
 IsCutBy (Sample n) s tree budget old new = ⊥
+IsCutBy (Verify outlines program) s tree budget old new = ⊥
 
 -- the files of the job's tree, by its settings, are cut so
 pub record CutsFiles (job : Job) (inputs : Inputs) (budget : Budget) (old new : View) : Type 0 where

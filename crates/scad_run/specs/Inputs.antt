@@ -1,13 +1,13 @@
--- What a run reads: the source and the settings, of the words and of what the files contain.
+-- What a run reads: the settings, the source, and the files that are judged, of the words and of what the files contain.
 use Rattle.std.specs.Prelude.{◌≡◌, List, ℕ, Option, Some, None, IfSome, option_map, Result, Ok, Err}
 use Rattle.std.specs.Option.{option_and_then}
 use Rattle.scad_fault.specs.declared.budget.Budget.{Budget}
-use Rattle.scad_fault.specs.declared.budget.BudgetKind.TheVariants.{SourceLong}
+use Rattle.scad_fault.specs.declared.budget.BudgetKind.TheVariants.{SourceLong, FileLong}
 use Rattle.scad_fault.specs.declared.settings.SetFault.{SetFault}
 use Rattle.scad_fault.specs.Place.{no_place}
 use Rattle.scad_io.specs.Desk.{Files}
 use Rattle.scad_words.specs.declared.job.Command.{Command}
-use Rattle.scad_words.specs.declared.job.Command.TheVariants.{Check, Tree, Slice, Plan, Sample}
+use Rattle.scad_words.specs.declared.job.Command.TheVariants.{Check, Tree, Slice, Plan, Sample, Verify}
 use Rattle.scad_words.specs.declared.job.Job.{Job}
 use Rattle.scad_words.specs.declared.settings.Settings.{Settings}
 use Rattle.scad_words.specs.Job.{job_of}
@@ -16,7 +16,7 @@ use Rattle.scad_script.specs.declared.loading.Input.{Input}
 use Rattle.scad_script.specs.declared.loading.Input.TheVariants.{Whole}
 use Rattle.scad_script.specs.Script.{input_of}
 use Rattle.scad_sample.specs.Sample.{sample_text}
-use Rattle.scad_run.specs.Words.{model_of}
+use Rattle.scad_run.specs.Words.{Case, model_of, case_of}
 
 -- the most bytes that a source may have
 abbrev pub source_limit : ℕ
@@ -26,18 +26,30 @@ source_limit = 4194304
 abbrev pub source_long : Budget
 source_long = record { kind = SourceLong; at = no_place; layer = 0; count = 0 }
 
--- what was read of the files that are named: of the settings, and of the model
+-- the most bytes that a file may have that is judged
+abbrev pub file_limit : ℕ
+file_limit = 268435456
+
+-- a file that is too long to be judged
+abbrev pub file_long : Budget
+file_long = record { kind = FileLong; at = no_place; layer = 0; count = 0 }
+
+-- what was read of the files that are named: of the settings, of the model, and of the outlines and the printing program
+-- that is judged by them
 pub record Inputs : Type 0 where
   pub settings : Option (List ℕ)
   pub model : Option Input
+  pub outlines : Option Input
+  pub program : Option Input
 
--- the source of a command: what was read of its model; that of `sample` is made from its number
+-- the source of a command: what was read of its model; that of `sample` is made from its number; `verify` has none
 abbrev pub source_of : Command → Option Input → Option Input
 source_of (Check model) read = read
 source_of (Tree model) read = read
 source_of (Slice model cli) read = read
 source_of (Plan model cli gcode) read = read
 source_of (Sample n) read = Some (Whole (sample_text n))
+source_of (Verify outlines program) read = None
 
 -- what is read of the settings that a job names
 abbrev pub settings_read : Option Job → (List ℕ → Option (List ℕ)) → Option (List ℕ)
@@ -51,10 +63,33 @@ text_read name contents = option_map (input_of (Some source_limit)) (option_and_
 abbrev pub model_read : Option Job → (List ℕ → Option (List ℕ)) → Option Input
 model_read job contents = option_and_then (λ job. text_read (model_of job.command) contents) job
 
+-- what is read of a file that is judged, where one is named
+abbrev pub file_read : Option (List ℕ) → (List ℕ → Option (List ℕ)) → Option Input
+file_read name contents = option_map (input_of (Some file_limit)) (option_and_then contents name)
+
+-- the names of both files of a case, where there is one
+abbrev pub outlines_named : Option Case → Option (List ℕ)
+outlines_named case = option_map (λ case. case.outlines) case
+
+abbrev pub program_named : Option Case → Option (List ℕ)
+program_named case = option_map (λ case. case.program) case
+
+-- what is read of both files that a job judges
+abbrev pub outlines_read : Option Job → (List ℕ → Option (List ℕ)) → Option Input
+outlines_read job contents = option_and_then (λ job. file_read (outlines_named (case_of job.command)) contents) job
+
+abbrev pub program_read : Option Job → (List ℕ → Option (List ℕ)) → Option Input
+program_read job contents = option_and_then (λ job. file_read (program_named (case_of job.command)) contents) job
+
 -- what is read of the files that the words name
 abbrev pub read_of : List (List ℕ) → (List ℕ → Option (List ℕ)) → Inputs
 read_of words contents =
-    record { settings = settings_read (job_of words) contents; model = model_read (job_of words) contents }
+    record {
+      settings = settings_read (job_of words) contents;
+      model = model_read (job_of words) contents;
+      outlines = outlines_read (job_of words) contents;
+      program = program_read (job_of words) contents;
+    }
 
 -- this was read, where the contents are told
 abbrev pub IsRead : List (List ℕ) → Files → Inputs → Type 0

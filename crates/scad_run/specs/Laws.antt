@@ -1,4 +1,4 @@
--- Laws of what sources mean, and that the answer is there and is one.
+-- Laws of what sources mean, of opinions, and that the answer is there and is one.
 use Rattle.std.specs.Prelude.{◌≡◌, ◌≢◌, List, ℕ, Option, Some, None}
 use Rattle.scad_words.specs.declared.job.Job.{Job}
 use Rattle.scad_words.specs.declared.settings.Settings.{Settings}
@@ -12,7 +12,7 @@ use Rattle.scad_tree.specs.Solid.{Solid}
 use Rattle.scad_tree.specs.Solids.{AreSolids}
 use Rattle.scad_run.specs.Meant.{EachMeansOne}
 use Rattle.scad_run.specs.Meaning.{source_means, Means}
-use Rattle.scad_run.specs.Answer.{Parts, script_of, AreDrawn, AreParts}
+use Rattle.scad_run.specs.Answer.{Findings, script_of, AreFoundBy, AreFound}
 use Rattle.scad_run.specs.Inputs.{Inputs, settings_found}
 use Rattle.scad_run.specs.Causes.{IsMissing}
 
@@ -33,19 +33,19 @@ abbrev pub SettingsAreInRange : Type 0
 SettingsAreInRange =
     (name read : Option (List ℕ)) (settings : Settings) → settings_found name read ≡ Some settings → AreInRange settings
 
--- there are parts of the tree that a source means
+-- there are parts of the tree that a source means, and right opinions
 abbrev pub AnswersAreThere : Type 0
-AnswersAreThere = (input : Option Input) → (parts : Parts) × AreDrawn input parts
+AnswersAreThere = (input : Option Input) → (found : Findings) × AreFoundBy input found
 
--- all parts give one script, and so one answer
+-- all parts and all right opinions give one script, and so one answer
 abbrev pub AnswersAreOne : Type 0
 AnswersAreOne =
-    (words : List (List ℕ)) (inputs : Inputs) (a b : Parts) → AreParts words inputs a → AreParts words inputs b
+    (words : List (List ℕ)) (inputs : Inputs) (a b : Findings) → AreFound words inputs a → AreFound words inputs b
     → script_of words a inputs ≡ script_of words b inputs
 
 -- there is no answer only where a file that is to be read is missing: a source that is there and within its limit has
--- one
+-- one, and so have two files that are judged
 abbrev pub AnswersLackFiles : Type 0
 AnswersLackFiles =
-    (words : List (List ℕ)) (inputs : Inputs) (parts : Parts) → answer_of (script_of words parts inputs) ≡ None
+    (words : List (List ℕ)) (inputs : Inputs) (found : Findings) → answer_of (script_of words found inputs) ≡ None
     → (job : Job) × (job_of words ≡ Some job) × IsMissing job inputs

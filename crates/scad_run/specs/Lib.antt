@@ -4,11 +4,13 @@ pub mod Meaning
 pub mod View
 pub mod Told
 pub mod Inputs
+pub mod Judging
 pub mod Answer
 pub mod Playing
 pub mod Promises
 pub mod Causes
 pub mod Printing
+pub mod Verified
 pub mod Cut
 pub mod ByGrammar
 pub mod Headline

@@ -10,15 +10,19 @@ use Rattle.scad_script.specs.declared.loading.Input.{Input}
 use Rattle.scad_script.specs.declared.refusal.Refusal.TheVariants.{Usage, Settings as IsSettings}
 use Rattle.scad_script.specs.declared.stop.Stop.{Stop}
 use Rattle.scad_script.specs.Script.{Script, Finishes, Refuses, ends}
-use Rattle.scad_script.specs.Played.{Left, Stops, EndsIn}
+use Rattle.scad_script.specs.Played.{Left, Stops, EndsIn, Completes}
 use Rattle.scad_expr.specs.State.{Outcome}
+use Rattle.cli_read.specs.declared.fault.CliFault.{CliFault}
+use Rattle.cli_read.specs.declared.fault.CliFault.TheVariants.{Memory}
 use Rattle.scad_tree.specs.declared.tree.Tree.{Tree as TreeInMemory}
 use Rattle.scad_tree.specs.Solid.{Solid}
 use Rattle.scad_tree.specs.View.{solid_of}
 use Rattle.scad_run.specs.Told.{told}
-use Rattle.scad_run.specs.Words.{model_of}
-use Rattle.scad_run.specs.Answer.{Parts, settings_script, script_of, AreParts}
-use Rattle.scad_run.specs.Inputs.{Inputs, source_of, text_read, IsRead}
+use Rattle.scad_run.specs.Words.{Case, model_of}
+use Rattle.verdict_laws.specs.Opinion.{Opinions, AreRight}
+use Rattle.scad_run.specs.Judging.{outlines_refused, judgement, file_then, case_script}
+use Rattle.scad_run.specs.Answer.{Parts, model_script, Findings, settings_script, script_of, AreDrawn, AreFound}
+use Rattle.scad_run.specs.Inputs.{Inputs, source_of, text_read, file_read, IsRead}
 
 -- what follows the tree is left, or the script stopped
 abbrev pub Brings : (Solid → Script) → Script → Result TreeInMemory Stop → View → View → Type 0
@@ -70,8 +74,46 @@ pub record Gets (command : Command) (files : Files) (input : Input) : Type 0 whe
   pub told : IfSome files (λ contents. read ≡ text_read (model_of command) contents)
   pub gives : source_of command read ≡ Some input
 
--- with all parts of the source's tree, the script of the words and of what was read was played
+-- this was read of the model of a command, where it has one, and with all parts of the source's tree what follows the
+-- settings was played
+pub record Draws (command : Command) (settings : Settings) (files : Files) (result : Result (List ℕ) Stop)
+    (old new : View)
+    : Type 0 where
+  pub read : Option Input
+  pub told : IfSome files (λ contents. read ≡ text_read (model_of command) contents)
+  pub goes : (parts : Parts) → AreDrawn (source_of command read) parts
+      → Completes (model_script command parts read settings) result old new
+
+-- after a file that is judged what follows it comes next, or the script stopped
+abbrev pub Follows : (List ℕ → Script) → Script → Result (List ℕ) Stop → View → View → Type 0
+Follows follows whole (Ok text) old new = Left whole (follows text) old new
+Follows follows whole (Err stop) old new = Stops whole stop old new
+
+-- this was read of a file that is judged, in every script in which it comes next
+pub record LoadsWhole (name : List ℕ) (files : Files) (result : Result (List ℕ) Stop) (old new : View) : Type 0 where
+  pub read : Option Input
+  pub told : IfSome files (λ contents. read ≡ file_read (Some name) contents)
+  pub goes : (follows : List ℕ → Script) (whole : Script) (start : View)
+      → Left whole (file_then name read follows) start old → Follows follows whole result start new
+
+-- outlines with this fault are refused, or memory was wanting
+abbrev pub IsRefusedBy : CliFault → Stop → Type 0
+IsRefusedBy fault (Stop.Ends refusal) = outlines_refused fault ≡ Refuses refusal
+IsRefusedBy fault Stop.Memory = fault ≡ Memory
+IsRefusedBy fault stop = ⊥
+
+-- these were read of both files of a case, and with all right opinions what follows the settings was played
+pub record Judges (case : Case) (width : ℕ) (files : Files) (result : Result (List ℕ) Stop) (old new : View)
+    : Type 0 where
+  pub outlines : Option Input
+  pub program : Option Input
+  pub told : IfSome files (λ contents.
+      (outlines ≡ file_read (Some case.outlines) contents) × (program ≡ file_read (Some case.program) contents))
+  pub goes : (opinions : Opinions) → AreRight opinions
+      → Completes (case_script case outlines program (judgement opinions width)) result old new
+
+-- with all parts of the source's tree and all right opinions, the script of the words and of what was read was played
 pub record Works (words : List (List ℕ)) (files : Files) (result : Result (List ℕ) Stop) (old new : View) : Type 0 where
   pub inputs : Inputs
   pub read : IsRead words files inputs
-  pub plays : (parts : Parts) → AreParts words inputs parts → EndsIn (script_of words parts inputs) result old new
+  pub plays : (found : Findings) → AreFound words inputs found → EndsIn (script_of words found inputs) result old new

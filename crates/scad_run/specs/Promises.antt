@@ -4,11 +4,11 @@ use Rattle.std.specs.List.{flat_map}
 use Rattle.scad_fault.specs.declared.budget.Budget.{Budget}
 use Rattle.scad_fault.specs.declared.budget.BudgetKind.TheVariants.{LayerEdges, LayerCrossings, LayerMoves}
 use Rattle.scad_fault.specs.declared.status.Status.{Status}
-use Rattle.scad_fault.specs.declared.status.Status.TheVariants.{Done, Source, Usage, Settings, Read, Write, Over, Memory}
+use Rattle.scad_fault.specs.declared.status.Status.TheVariants.{Done, Source, Usage, Settings, Read, Write, Over, Memory, Outside, BadFile}
 use Rattle.scad_fault.specs.Line.{line_of}
 use Rattle.scad_io.specs.Desk.{Files, View}
 use Rattle.scad_words.specs.declared.job.Command.{Command}
-use Rattle.scad_words.specs.declared.job.Command.TheVariants.{Check, Tree, Slice, Plan, Sample}
+use Rattle.scad_words.specs.declared.job.Command.TheVariants.{Check, Tree, Slice, Plan, Sample, Verify}
 use Rattle.scad_words.specs.declared.job.Job.{Job}
 use Rattle.scad_words.specs.declared.settings.Settings.{Settings as SettingsOfRun}
 use Rattle.scad_words.specs.Job.{job_of}
@@ -27,7 +27,7 @@ use Rattle.scad_slice.specs.Budgets.{layer_count}
 use Rattle.scad_slice.specs.Layer.{IsWithinLimits}
 use Rattle.scad_slice.specs.Membership.{HoldTree}
 use Rattle.scad_run.specs.Words.{model_of, cli_of}
-use Rattle.scad_run.specs.Answer.{Parts, AreParts, answer}
+use Rattle.scad_run.specs.Answer.{Findings, AreFound, answer}
 use Rattle.scad_run.specs.Inputs.{source_limit, source_of, text_read, read_of, GoBy}
 use Rattle.scad_run.specs.Meaning.{MeansTree}
 
@@ -39,12 +39,12 @@ Contains files name P = IfSome files (λ contents. IsSomeAnd (contents name) P)
 abbrev pub IsTreeOf : Files → List ℕ → Solid → Type 0
 IsTreeOf files model tree = Contains files model (λ source. (length source ≤ source_limit) × MeansTree tree source)
 
--- Statuses 0, 1, 2, 3 and 6: the status and the bytes of all outputs are the answer for the words and the files, with
--- all parts of the source's tree.
+-- Every status but Read, Write and Memory: the status and the bytes of all outputs are the answer for the words and the
+-- files, with all parts of the source's tree and all right opinions.
 abbrev pub IsWholeAnswer : List (List ℕ) → Files → Status → View → View → Type 0
 IsWholeAnswer words files status old new =
-    IfSome files (λ contents. (parts : Parts) → AreParts words (read_of words contents) parts
-    → IsSomeAnd (answer words contents parts) (λ whole.
+    IfSome files (λ contents. (found : Findings) → AreFound words (read_of words contents) found
+    → IsSomeAnd (answer words contents found) (λ whole.
     (whole.status ≡ status) × Adds (whole.echoes ++ whole.line) old.report new.report
     × Adds whole.cli old.cli new.cli × Adds whole.gcode old.gcode new.gcode))
 
@@ -92,16 +92,18 @@ pub record IsCutShort (whole : Script) (budget : Budget) (old new : View) : Type
   pub outlines : Adds (head count ++ flat_map layer_text before) old.cli new.cli
   pub program : (text : List ℕ) × ((text ≡ []) ⊎ IsProgramFront budget.layer text) × Adds text old.gcode new.gcode
 
--- Statuses 1, 2, 3 and 6: the report is the lines of `echo` and the status's line, and no output is created, unless a
--- layer passed a budget.
+-- Each refusal: the report is the lines of `echo` and the status's line, and no output is created, unless a layer passed a
+-- budget.
 abbrev pub Refuses : Script → Status → View → View → Type 0
 Refuses whole (Source fault) old new = IsRefused whole (Source fault) old new
 Refuses whole Usage old new = IsRefused whole Usage old new
 Refuses whole (Settings fault) old new = IsRefused whole (Settings fault) old new
 Refuses whole (Over budget) old new = IsRefused whole (Over budget) old new ⊎ IsCutShort whole budget old new
+Refuses whole (Outside number line) old new = IsRefused whole (Outside number line) old new
+Refuses whole (BadFile kind first second) old new = IsRefused whole (BadFile kind first second) old new
 Refuses whole status old new = Unit {0}
 
--- `check`, `tree` and `sample` leave the outputs but the report as they were, at every status
+-- `check`, `tree`, `sample` and `verify` leave the outputs but the report as they were, at every status
 abbrev pub Leaves : Command → View → View → Type 0
 Leaves (Slice model cli) old new = Unit {0}
 Leaves (Plan model cli gcode) old new = Unit {0}
@@ -128,13 +130,14 @@ CanBeDrawn want settings tree =
     × ((i : ℕ) → i < layer_count settings.layer_height tree → IsWithinLimits want settings tree i)
 
 -- what a command asks of its source: that it means a tree; `check` and those that draw, that this has no more layers
--- than the limit; those that draw, that none of them passes a budget
+-- than the limit; those that draw, that none of them passes a budget; `verify` has no source
 abbrev pub Accepts : Command → SettingsOfRun → Solid → Type 0
 Accepts (Check model) settings tree = layer_count settings.layer_height tree ≤ layer_limit
 Accepts (Tree model) settings tree = Unit {0}
 Accepts (Slice model cli) settings tree = CanBeDrawn OutlinesAlone settings tree
 Accepts (Plan model cli gcode) settings tree = CanBeDrawn WithPlan settings tree
 Accepts (Sample n) settings tree = CanBeDrawn WithPlan settings tree
+Accepts (Verify outlines program) settings tree = ⊥
 
 abbrev pub IsAccepted : Command → SettingsOfRun → List ℕ → Type 0
 IsAccepted command settings source = (tree : Solid) × MeansTree tree source × Accepts command settings tree

@@ -1,9 +1,10 @@
 //! What a command does with a source's tree.
-ghost use Rattle.std.specs.Prelude.{◌≡◌, ◌<◌, ◌≤◌, false};
+ghost use Rattle.std.specs.Prelude.{◌≡◌, ◌<◌, ◌≤◌, false, None};
 ghost use Rattle.scad_script.specs.Played.{Completes, HasRisen};
 ghost use Rattle.scad_script.specs.Run.{Sound};
 ghost use Rattle.scad_tree.specs.View.{solid_of};
 ghost use Rattle.scad_tree.specs.Solids.{AreSolids};
+ghost use Rattle.scad_run.specs.Words.{case_of};
 ghost use Rattle.scad_run.specs.Answer.{follows, ArePartsOfTree};
 
 use crate::check::{checked, shown};
@@ -28,6 +29,7 @@ pub fn finish<R: Threads + Sync, D: Desk, G: Gate>(
     gate: &G,
 ) -> Result<Text, Stop>
     requires solids { AreSolids (solid_of tree.now) }
+    requires source { case_of order.now.command.now ≡ None }
     requires sound { Sound (D.view desk.old) }
     requires no_cli { (D.view desk.old).cli.created ≡ false }
     requires no_gcode { (D.view desk.old).gcode.created ≡ false }
@@ -58,5 +60,6 @@ pub fn finish<R: Threads + Sync, D: Desk, G: Gate>(
             desk,
         ),
         Command::Sample(n) => sampled(rt, alloc, *n, &workpiece),
+        Command::Verify(_, _) => unreachable!(),
     }
 }

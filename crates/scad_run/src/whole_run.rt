@@ -9,6 +9,7 @@ ghost use Rattle.scad_run.specs.Answer.{OnScript};
 ghost use Rattle.scad_run.specs.Headline.{Headline};
 ghost use Rattle.scad_run.specs.Meaning.{Means};
 ghost use Rattle.scad_run.specs.Printing.{PlanAddsPrint};
+ghost use Rattle.scad_run.specs.Verified.{VerifiesMoves};
 ghost use Rattle.scad_run.specs.Cut.{CutsShort};
 ghost use Rattle.scad_run.specs.ByGrammar.{SourcesGoByGrammar};
 ghost use Rattle.scad_run.specs.Promises.{Answers, OutlinesHoldTree, Refuses, LeavesOutputs, JudgesWords, IsComplete};
@@ -26,7 +27,7 @@ use std::thread::Threads;
 /// as many workers as the words say; the runtime gives them threads where it can, and else works them one after another.
 ///
 /// What is said of bytes and names holds where the desk tells them. A desk that doesn't tell what the files contain leaves
-/// open which of the statuses Done, Source, Over and, where settings are named, Settings comes. Want of memory may come at
+/// open which of the statuses Done, Source, Over, Outside, BadFile and, where settings are named, Settings comes. Want of memory may come at
 /// any point that takes memory; every other status has a clause that says when it comes.
 pub fn run<R: Threads + Sync, D: Desk, G: Gate>(
     rt: &R,
@@ -41,8 +42,8 @@ pub fn run<R: Threads + Sync, D: Desk, G: Gate>(
     ensures headline { Headline Means (map string_bytes words.now) (D.files desk.old) result (D.view desk.old)
         (D.view desk.new) (D.faults desk.old) (D.faults desk.new) }
 
-    // The run plays the script of the words, of what was read of the settings and the model and of what is drawn of
-    // its tree, to its end or until it stops, and then, unless the report has failed, tries the last line. It says what
+    // The run plays the script of the words, of what was read of the named files, of what is drawn of the source's tree
+    // and of what a program is found to be, to its end or until it stops, and then, unless the report has failed, tries the last line. It says what
     // the desk shows, not how many calls were made.
     ensures runs { OnScript (map string_bytes words.now) (D.files desk.old)
         (λ whole. RunsTo whole result (D.view desk.old) (D.view desk.new)) }
@@ -61,6 +62,9 @@ pub fn run<R: Threads + Sync, D: Desk, G: Gate>(
     ensures outlines { result ≡ Status.Done
         → OutlinesHoldTree (map string_bytes words.now) (D.files desk.old) (D.view desk.old) (D.view desk.new) }
 
+    // Where `verify` answers Done each extruding move of the program stays inside the outlines by the clearance.
+    ensures verified { result ≡ Status.Done → VerifiesMoves (map string_bytes words.now) (D.files desk.old) }
+
     // When each other status comes, and how the files then stand.
     ensures words { JudgesWords (map string_bytes words.now) result }
     ensures refusal { OnScript (map string_bytes words.now) (D.files desk.old)
@@ -77,13 +81,13 @@ pub fn run<R: Threads + Sync, D: Desk, G: Gate>(
     ensures failed_report { FailedReportIsWrite result (D.view desk.new) }
     ensures complete { IsComplete (map string_bytes words.now) (D.files desk.old) result (D.faults desk.old) (D.faults desk.new) }
 
-    // Both files are fronts of the answer's bytes, at every status; at the statuses 0 to 4 and 6 none is
-    // created that gets no bytes.
+    // Both files are fronts of the answer's bytes, at every status; but for Write and Memory none is created that gets no
+    // bytes.
     ensures front { OnScript (map string_bytes words.now) (D.files desk.old)
         (λ whole. AreFronts whole (D.view desk.old) (D.view desk.new)) }
     ensures created { CreatesForBytes result (D.view desk.old) (D.view desk.new) }
 
-    // `check`, `tree` and `sample` write to nothing but the report.
+    // `check`, `tree`, `sample` and `verify` write to nothing but the report.
     ensures leaves { LeavesOutputs (job_of (map string_bytes words.now)) (D.view desk.old) (D.view desk.new) }
 
     // At every status.

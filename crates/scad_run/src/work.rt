@@ -1,16 +1,17 @@
 //! The work of a command, up to the report's last line.
-ghost use Rattle.std.specs.Prelude.{◌≡◌, ◌<◌, ◌≤◌, ◌-◌, ◌^◌, false, Some, length, map, string_bytes, IfOk, IfErr, OnOk};
+ghost use Rattle.std.specs.Prelude.{◌≡◌, ◌<◌, ◌≤◌, ◌-◌, ◌^◌, false, Some, None, option_map, length, map, string_bytes, IfOk, IfErr, OnOk};
 ghost use Rattle.scad_script.specs.Script.{IsWithin};
 ghost use Rattle.scad_script.specs.Played.{Carries, Completes, HasRisen};
 ghost use Rattle.scad_script.specs.Run.{Sound, CreatesNone};
 ghost use Rattle.scad_words.specs.Job.{job_of};
-ghost use Rattle.scad_run.specs.Words.{model_of};
+ghost use Rattle.scad_run.specs.Words.{model_of, case_of};
 ghost use Rattle.scad_run.specs.Answer.{model_read_first, input_script, AreDrawn};
 ghost use Rattle.scad_run.specs.Inputs.{source_limit};
-ghost use Rattle.scad_run.specs.Playing.{Gets, Works, AsksNothing};
+ghost use Rattle.scad_run.specs.Playing.{Gets, Draws, Works, AsksNothing};
 
 use crate::evaluation::evaluate;
 use crate::finish::finish;
+use crate::judging::judge;
 use crate::order::Order;
 use crate::settings::settle;
 use scad_fault::{Budget, Text};
@@ -43,13 +44,53 @@ pub fn work<R: Threads + Sync, D: Desk, G: Gate>(
 {
     let job = asked(alloc, words)?;
     let settings = settle(alloc, &job.settings, desk)?;
-    let input = source(alloc, &job.command, desk)?;
     let order = Order {
         command: &job.command,
         settings,
         workers: job.workers,
     };
-    follow(rt, alloc, &order, input, desk, gate)
+    match case_of(&job.command) {
+        Some((outlines, program)) => {
+            judge(alloc, outlines, program, order.settings.line_width, desk)
+        },
+        None => draw(rt, alloc, &order, desk, gate),
+    }
+}
+
+/// The names of the outlines and of the printing program that a command judges.
+fn case_of(command: &Command) -> Option<(&str, &str)>
+    ensures { option_map (λ names. record { outlines = names.0.now; program = names.1.now }) result ≡ case_of command.now }
+{
+    match command {
+        Command::Verify(outlines, program) => Some((outlines.as_str(), program.as_str())),
+        Command::Check(_)
+        | Command::Tree(_)
+        | Command::Slice(_, _)
+        | Command::Plan(_, _, _)
+        | Command::Sample(_) => None,
+    }
+}
+
+/// Gets the source of a command, and does with it what the command says.
+fn draw<R: Threads + Sync, D: Desk, G: Gate>(
+    rt: &R,
+    alloc: Global,
+    order: &Order,
+    desk: &mut D,
+    gate: &G,
+) -> Result<Text, Stop>
+    requires source { case_of order.now.command.now ≡ None }
+    requires sound { Sound (D.view desk.old) }
+    requires no_cli { (D.view desk.old).cli.created ≡ false }
+    requires no_gcode { (D.view desk.old).gcode.created ≡ false }
+
+    ensures draws { Draws order.now.command.now order.now.settings (D.files desk.old) result (D.view desk.old) (D.view desk.new) }
+    ensures files { D.files desk.new ≡ D.files desk.old }
+    ensures later { D.faults desk.old ≤ D.faults desk.new }
+    ensures cause { HasRisen result (D.faults desk.old) (D.faults desk.new) }
+{
+    let input = source(alloc, order.command, desk)?;
+    follow(rt, alloc, order, input, desk, gate)
 }
 
 /// The job that the words ask for.
@@ -67,6 +108,7 @@ fn asked(alloc: Global, words: &[String]) -> Result<Job, Stop>
 
 /// The source of a command: its model is read, that of `sample` is made.
 fn source<D: Desk>(alloc: Global, command: &Command, desk: &mut D) -> Result<Input, Stop>
+    requires source { case_of command.now ≡ None }
     requires sound { Sound (D.view desk.old) }
 
     ensures carries { Carries (model_read_first (model_of command.now)) result (D.view desk.old) (D.view desk.new) }
@@ -84,6 +126,7 @@ fn source<D: Desk>(alloc: Global, command: &Command, desk: &mut D) -> Result<Inp
         Command::Slice(model, _) => load(alloc, model.as_str(), Some(SOURCE_LIMIT), desk),
         Command::Plan(model, _, _) => load(alloc, model.as_str(), Some(SOURCE_LIMIT), desk),
         Command::Sample(n) => Ok(Input::Whole(sample_source(alloc, *n)?)),
+        Command::Verify(_, _) => unreachable!(),
     }
 }
 
@@ -97,6 +140,7 @@ fn follow<R: Threads + Sync, D: Desk, G: Gate>(
     gate: &G,
 ) -> Result<Text, Stop>
     requires within { IsWithin (Some source_limit) input }
+    requires source { case_of order.now.command.now ≡ None }
     requires sound { Sound (D.view desk.old) }
     requires no_cli { (D.view desk.old).cli.created ≡ false }
     requires no_gcode { (D.view desk.old).gcode.created ≡ false }

@@ -11,7 +11,7 @@ use Rattle.scad_script.proofs.Handed.{names_are_given}
 use Rattle.scad_script.proofs.Created.{created_for_bytes}
 use Rattle.scad_run.specs.Words.{given_by}
 use Rattle.scad_words.specs.Job.{job_of}
-use Rattle.scad_run.specs.Answer.{Parts, script_of, AreParts, OnScript}
+use Rattle.scad_run.specs.Answer.{Findings, script_of, AreFound, OnScript}
 use Rattle.scad_run.specs.Inputs.{Inputs, source_in}
 use Rattle.scad_run.specs.Playing.{Works}
 use Rattle.scad_run.specs.Promises.{Refuses}
@@ -20,6 +20,7 @@ use Rattle.scad_run.proofs.Answered.{answers_are_there, answers_are_one, Promise
 use Rattle.scad_run.proofs.Judged.{judges, read_fault, write_fault, memory_line}
 use Rattle.scad_run.proofs.Printed.{holds_tree}
 use Rattle.scad_run.proofs.Printing.{adds_print, headline}
+use Rattle.scad_run.proofs.Verified.{verifies_moves}
 use Rattle.scad_run.proofs.Cutting.{cuts_short}
 use Rattle.scad_run.proofs.ByGrammar.{sources_go_by_grammar}
 use Rattle.scad_run.proofs.Refused.{leaves, refuses_so}
@@ -48,19 +49,19 @@ played g c = c.work-ended.ensures.works
 abbrev inputs : (g : Over) → goal.After-report g → Inputs
 inputs g c = (played g c).inputs
 
--- parts of the source's tree
-abbrev parts : (g : Over) → goal.After-report g → Parts
-parts g c = (answers_are_there (source_in (job_of (words g c)) (inputs g c))).0
+-- parts of the source's tree, and right opinions
+abbrev found : (g : Over) → goal.After-report g → Findings
+found g c = (answers_are_there (source_in (job_of (words g c)) (inputs g c))).0
 
-are_parts : (g : Over) (c : goal.After-report g) → AreParts (words g c) (inputs g c) (parts g c)
-are_parts g c = (answers_are_there (source_in (job_of (words g c)) (inputs g c))).1
+are_found : (g : Over) (c : goal.After-report g) → AreFound (words g c) (inputs g c) (found g c)
+are_found g c = (answers_are_there (source_in (job_of (words g c)) (inputs g c))).1
 
 -- the script of the run
 abbrev whole : (g : Over) → goal.After-report g → Script
-whole g c = script_of (words g c) (parts g c) (inputs g c)
+whole g c = script_of (words g c) (found g c) (inputs g c)
 
 -- with all parts: the work, then the report
-runs_on : (g : Over) (c : goal.After-report g) (d : Parts) → AreParts (words g c) (inputs g c) d
+runs_on : (g : Over) (c : goal.After-report g) (d : Findings) → AreFound (words g c) (inputs g c) d
     → RunsTo (script_of (words g c) d (inputs g c)) c.report.result (before g c) (after g c)
 runs_on g c d is = (
   c.work-ended.result,
@@ -77,14 +78,14 @@ promised_on g c d is =
     (orderly (words g c) d (inputs g c)) c.requires.ready (runs_on g c d is)
 
 runs : (g : Over) (c : goal.After-report g) → RunsTo (whole g c) c.report.result (before g c) (after g c)
-runs g c = runs_on g c (parts g c) (are_parts g c)
+runs g c = runs_on g c (found g c) (are_found g c)
 
 promised : (g : Over) (c : goal.After-report g) → Promised (given_by (words g c)) (whole g c) c.report.result
     (before g c) (after g c)
-promised g c = promised_on g c (parts g c) (are_parts g c)
+promised g c = promised_on g c (found g c) (are_found g c)
 
 in_order : (g : Over) (c : goal.After-report g) → IsOrderly (given_by (words g c)) (whole g c)
-in_order g c = orderly (words g c) (parts g c) (inputs g c)
+in_order g c = orderly (words g c) (found g c) (inputs g c)
 
 -- a property of the run's script
 on_script : (g : Over) (c : goal.After-report g) (Holds : Script → Type 0) → Holds (whole g c)
@@ -93,9 +94,9 @@ on_script g c Holds holds =
     record {
       inputs = inputs g c;
       read = (played g c).read;
-      parts = parts g c;
-      drawn = are_parts g c;
-      holds = λ others drawn. subst Holds (answers_are_one (words g c) (inputs g c) (parts g c) others (are_parts g c)
+      findings = found g c;
+      found = are_found g c;
+      holds = λ others drawn. subst Holds (answers_are_one (words g c) (inputs g c) (found g c) others (are_found g c)
           drawn) holds;
     }
 
@@ -120,22 +121,27 @@ returns-clause-answer g c = answers (words g c) (files g c) (inputs g c) c.repor
 
 pub returns-clause-outlines : goal.returns-clause-outlines
 returns-clause-outlines g c =
-    holds_tree (words g c) (files g c) (inputs g c) (parts g c) c.report.result (before g c) (after g c)
-    (played g c).read (are_parts g c)
+    holds_tree (words g c) (files g c) (inputs g c) (found g c) c.report.result (before g c) (after g c)
+    (played g c).read (are_found g c)
     (promised g c)
 
 pub returns-clause-print : goal.returns-clause-print
 returns-clause-print g c =
-    adds_print (words g c) (files g c) (inputs g c) (parts g c) c.report.result (before g c) (after g c)
-    (played g c).read (are_parts g c)
+    adds_print (words g c) (files g c) (inputs g c) (found g c) c.report.result (before g c) (after g c)
+    (played g c).read (are_found g c)
     (promised g c) c.layers_are_printed.ensures c.prints_are_one.ensures
+
+pub returns-clause-verified : goal.returns-clause-verified
+returns-clause-verified g c =
+    verifies_moves (words g c) (files g c) (inputs g c) (found g c) c.report.result (before g c) (after g c)
+    (played g c).read (are_found g c) (promised g c)
 
 pub returns-clause-headline : goal.returns-clause-headline
 returns-clause-headline g c =
-    headline (words g c) (files g c) (inputs g c) (parts g c) c.report.result (before g c) (after g c)
+    headline (words g c) (files g c) (inputs g c) (found g c) c.report.result (before g c) (after g c)
     (g.D.Desk.faults c.args.desk.now)
     (g.D.Desk.faults c.report.new.desk) c.layers_are_printed.ensures c.prints_are_one.ensures (played g c).read
-    (are_parts g c)
+    (are_found g c)
     (promised g c) (search rules) (search rules)
 
 pub returns-clause-grammar : goal.returns-clause-grammar
@@ -143,22 +149,22 @@ returns-clause-grammar g c = sources_go_by_grammar c.judges_as_the_grammar.ensur
 
 pub returns-clause-cut : goal.returns-clause-cut
 returns-clause-cut g c =
-    cuts_short (words g c) (files g c) (parts g c) (inputs g c) c.report.result (before g c) (after g c)
+    cuts_short (words g c) (files g c) (found g c) (inputs g c) c.report.result (before g c) (after g c)
     (played g c).read (runs g c)
-    (promised g c) (are_parts g c)
+    (promised g c) (are_found g c)
 
 pub returns-clause-words : goal.returns-clause-words
-returns-clause-words g c = judges (words g c) (parts g c) (inputs g c) c.report.result (before g c) (after g c)
+returns-clause-words g c = judges (words g c) (found g c) (inputs g c) c.report.result (before g c) (after g c)
     (promised g c)
 
 pub returns-clause-refusal : goal.returns-clause-refusal
 returns-clause-refusal g c =
     on_script g c (λ s. Refuses s c.report.result (before g c) (after g c))
-    (refuses_so (words g c) (parts g c) (inputs g c) c.report.result (before g c) (after g c) (runs g c) (promised g c)
-    (are_parts g c))
+    (refuses_so (words g c) (found g c) (inputs g c) c.report.result (before g c) (after g c) (runs g c) (promised g c)
+    (are_found g c))
 
 pub returns-clause-leaves : goal.returns-clause-leaves
-returns-clause-leaves g c = leaves (words g c) (parts g c) (inputs g c) c.report.result (before g c) (after g c)
+returns-clause-leaves g c = leaves (words g c) (found g c) (inputs g c) c.report.result (before g c) (after g c)
     (runs g c)
 
 pub returns-clause-read_fault : goal.returns-clause-read_fault
@@ -177,9 +183,9 @@ returns-clause-memory g c same =
 
 pub returns-clause-complete : goal.returns-clause-complete
 returns-clause-complete g c =
-    completes (words g c) (files g c) (parts g c) (inputs g c) c.report.result (before g c) (after g c)
+    completes (words g c) (files g c) (found g c) (inputs g c) c.report.result (before g c) (after g c)
     (g.D.Desk.faults c.args.desk.now)
-    (g.D.Desk.faults c.report.new.desk) (played g c).read (are_parts g c) (promised g c) (search rules) (search rules)
+    (g.D.Desk.faults c.report.new.desk) (played g c).read (are_found g c) (promised g c) (search rules) (search rules)
 
 pub returns-clause-front : goal.returns-clause-front
 returns-clause-front g c =

@@ -1,0 +1,2 @@
+pub mod Opinion
+pub mod Laws
